@@ -1,0 +1,59 @@
+//! A list, seen by contracts as its items.
+
+ghost use Rattle.std.specs.Prelude.{◌≡◌, ◌↔◌, length, IsTrue, []};
+
+use std::marker::Model;
+
+/// A list that is made of a `Vec` and gives it back, both without taking memory.
+#[derive(Debug, Drop)]
+pub struct ListOf<T> {
+    items: Vec<T>,
+}
+
+impl<T> Model for ListOf<T> {
+    ghost use Rattle.std.specs.Prelude.{List};
+    ghost use Rattle.std.specs.Coded.{coded_list};
+
+    ghost Value = { List T };
+
+    ghost coded = { coded_list T.code };
+
+    ghost view = { λ l. l.items.items };
+}
+
+impl<T> ListOf<T> {
+    /// The list of these items.
+    pub fn new(items: Vec<T>) -> ListOf<T>
+        ensures { result ≡ items.items }
+    {
+        ListOf { items }
+    }
+
+    /// The items, in order.
+    pub fn as_slice(&self) -> &[T]
+        ensures { result.now ≡ self.now }
+    {
+        self.items.as_slice()
+    }
+
+    /// The number of items.
+    pub fn len(&self) -> usize
+        ensures { result ≡ length self.now }
+    {
+        self.items.len()
+    }
+
+    /// Whether the list has no item.
+    pub fn is_empty(&self) -> bool
+        ensures { IsTrue result ↔ (self.now ≡ []) }
+    {
+        self.items.is_empty()
+    }
+
+    /// The items, in order.
+    pub fn into_vec(self) -> Vec<T>
+        ensures { result.items ≡ self }
+    {
+        self.items
+    }
+}

@@ -1,0 +1,28 @@
+//! What is counted of bounce zones.
+
+use crate::address::Pa;
+use crate::name::ZoneId;
+
+/// What the making of a tag or a map added to its zone.
+///
+/// `made` is false exactly where fewer pages came than were wanted, and the answer is ENOMEM.
+#[derive(Clone, Copy, Debug, PartialEq, Eq)]
+pub struct Grown {
+    pub zone: ZoneId,
+    pub added: u32,
+    pub made: bool,
+}
+
+/// The counts of a zone, after the sysctl values under `hw.busdma` of the x86 bounce code: pages,
+/// and how many syncs copied and how many loads were deferred so far.
+#[derive(Clone, Copy, Debug, PartialEq, Eq)]
+pub struct ZoneCounts {
+    pub total: u32,
+    pub free: u32,
+    pub reserved: u32,
+    pub active: u32,
+    pub bounced: u64,
+    pub deferred: u64,
+    pub lowaddr: Pa,
+    pub alignment: u64,
+}
