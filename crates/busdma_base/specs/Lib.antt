@@ -1,0 +1,11 @@
+pub mod Account
+pub mod Each
+pub mod Framed
+pub mod Frames
+pub mod Judging
+pub mod Names
+pub mod Opening
+pub mod Pages
+pub mod Runs
+pub mod Script
+pub mod Valid

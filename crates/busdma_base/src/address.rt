@@ -22,3 +22,10 @@ pub struct Segment {
     pub addr: Pa,
     pub len: u64,
 }
+
+/// `len` bytes from a virtual address on: an element of a vector.
+#[derive(Clone, Copy, Debug, PartialEq, Eq)]
+pub struct Span {
+    pub va: Va,
+    pub len: u64,
+}

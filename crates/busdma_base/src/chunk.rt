@@ -26,3 +26,19 @@ pub struct Chunk {
     pub bounced: bool,
     pub page: Option<Pa>,
 }
+
+/// One item of the stream of a load's bytes.
+///
+/// The first extent of a stream `opens`. The extents from one that opens up to the next are the
+/// parts of one entry. After `Unmapped` a stream ends.
+#[derive(Clone, Copy, Debug, PartialEq, Eq)]
+pub enum Part {
+    /// The next bytes, which lie in one frame.
+    Of {
+        extent: Extent,
+        opens: bool,
+        rounded: bool,
+    },
+    /// The byte at this offset of the load cannot be reached.
+    Unmapped(u64),
+}

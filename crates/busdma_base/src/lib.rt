@@ -9,24 +9,26 @@ mod hold;
 mod journal;
 mod list;
 mod name;
+mod page;
 mod report;
 mod scenario;
 mod script;
 mod tag;
 mod zone;
 
-pub use address::{Extent, Pa, Segment, Va};
+pub use address::{Extent, Pa, Segment, Span, Va};
 pub use answer::Answer;
-pub use chunk::{Chunk, Entry};
+pub use chunk::{Chunk, Entry, Part};
 pub use hold::{HoldEntry, HubCall, HubReply};
 pub use journal::{Actor, Did, End, Journal, JournalEntry, Side};
 pub use list::ListOf;
 pub use name::{LaneId, MapId, Name, ZoneId};
-pub use report::{Errno, Report, ReportName};
+pub use page::Page;
+pub use report::{Errno, Judged, Report, ReportName};
 pub use scenario::{Driver, FrameRun, PageRun, Scenario};
-pub use script::{Item, Op, Place};
+pub use script::{Bytes, Item, Op, Place};
 pub use tag::TagLimits;
-pub use zone::{Grown, ZoneCounts};
+pub use zone::{Grown, Waiter, ZoneCounts};
 
 /// Addresses, in order.
 pub type PaList = ListOf<Pa>;

@@ -2,6 +2,7 @@
 
 ghost use Rattle.std.specs.Prelude.{◌≡◌, ◌↔◌, length, IsTrue, []};
 
+use std::alloc::AllocError;
 use std::marker::Model;
 
 /// A list that is made of a `Vec` and gives it back, both without taking memory.
@@ -55,5 +56,17 @@ impl<T> ListOf<T> {
         ensures { result.items ≡ self }
     {
         self.items
+    }
+}
+
+impl<T: Clone> Clone for ListOf<T> {
+    ghost use Rattle.std.specs.List.{AllZip};
+
+    ghost is_clone = { λ a b. AllZip T.is_clone a b };
+
+    fn clone(&self) -> Result<ListOf<T>, AllocError> {
+        Ok(ListOf {
+            items: self.items.clone()?,
+        })
     }
 }

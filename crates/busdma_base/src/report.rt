@@ -53,3 +53,10 @@ pub struct Report {
     pub name: ReportName,
     pub at: u64,
 }
+
+/// Whether an access or a sync may be done; a refusal says what stands in the way, and where first.
+#[derive(Clone, Copy, Debug, PartialEq, Eq)]
+pub enum Judged {
+    Fine,
+    Refused(Report),
+}

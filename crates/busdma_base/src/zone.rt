@@ -1,7 +1,7 @@
 //! What is counted of bounce zones.
 
 use crate::address::Pa;
-use crate::name::ZoneId;
+use crate::name::{MapId, ZoneId};
 
 /// What the making of a tag or a map added to its zone.
 ///
@@ -25,4 +25,14 @@ pub struct ZoneCounts {
     pub deferred: u64,
     pub lowaddr: Pa,
     pub alignment: u64,
+}
+
+/// A map that waits for pages of its zone, or whose load is complete and awaits its callback: it
+/// has `have` of the `need` pages.
+#[derive(Clone, Copy, Debug, PartialEq, Eq)]
+pub struct Waiter {
+    pub map: MapId,
+    pub zone: ZoneId,
+    pub need: u32,
+    pub have: u32,
 }
