@@ -8,4 +8,6 @@ pub mod Opening
 pub mod Pages
 pub mod Runs
 pub mod Script
+pub mod Tag
+pub mod TagFlags
 pub mod Valid

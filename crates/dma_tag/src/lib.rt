@@ -1,0 +1,12 @@
+//! Tags of bus_dma(9), and the sets of flags that its calls take.
+#![tactic(auto)]
+
+mod load_flags;
+mod mem_flags;
+mod sync_ops;
+mod tag_flags;
+
+pub use load_flags::LoadFlags;
+pub use mem_flags::MemFlags;
+pub use sync_ops::SyncOps;
+pub use tag_flags::TagFlags;
