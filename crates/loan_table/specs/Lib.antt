@@ -1,0 +1,4 @@
+pub mod Access
+pub mod Lending
+pub mod Loans
+pub mod Table

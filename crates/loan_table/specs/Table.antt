@@ -1,0 +1,46 @@
+-- A table of Known marks and loans, and what its calls make of it.
+use Rattle.std.specs.Prelude.{◌≡◌, ℕ, ◌+◌, Bool, false, List, [], ◌∷◌, ◌==◌, if◌then◌else◌, unwrap_or, IsSome}
+use Rattle.std.specs.Ordering.{nat_cmp}
+use Rattle.std.specs.FinMap.{FinMap, get, insert, remove}
+use Rattle.loan_table.specs.Loans.{Loans}
+
+-- the driver's bytes by physical address, each Known or not; the loans of its loaded maps; and for
+-- how many extents there is room to change
+pub record Table : Type 0 where
+  pub bytes : FinMap nat_cmp Bool
+  pub loans : Loans
+  pub spare : ℕ
+
+-- the byte at an address is Known
+abbrev pub is_known : Table → ℕ → Bool
+is_known t a = unwrap_or (get t.bytes a) false
+
+-- each of these bytes is in the table
+abbrev pub AreIn : FinMap nat_cmp Bool → List ℕ → Type 0
+AreIn bytes [] = Unit {0}
+AreIn bytes (a ∷ rest) = IsSome (get bytes a) × AreIn bytes rest
+
+-- the bytes at these addresses marked
+abbrev pub set_all : FinMap nat_cmp Bool → List ℕ → Bool → FinMap nat_cmp Bool
+set_all bytes [] known = bytes
+set_all bytes (a ∷ rest) known = set_all (insert bytes a known) rest known
+
+-- the bytes at these addresses gone
+abbrev pub without : FinMap nat_cmp Bool → List ℕ → FinMap nat_cmp Bool
+without bytes [] = bytes
+without bytes (a ∷ rest) = without (remove bytes a) rest
+
+-- two tables are alike but for their room
+pub record IsSame (t u : Table) : Type 0 where
+  pub bytes : u.bytes ≡ t.bytes
+  pub loans : u.loans ≡ t.loans
+
+-- how many runs of addresses that rise by one a list has, behind an address
+abbrev pub more_runs : ℕ → List ℕ → ℕ
+more_runs before [] = 0
+more_runs before (a ∷ rest) = (if a == before + 1 then 0 else 1) + more_runs a rest
+
+-- how many extents at the most hold bytes: their runs of addresses that rise by one
+abbrev pub extent_count : List ℕ → ℕ
+extent_count [] = 0
+extent_count (a ∷ rest) = 1 + more_runs a rest

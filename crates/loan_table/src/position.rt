@@ -1,0 +1,10 @@
+//! A position of a loaded map's buffer.
+
+/// A position of a loaded map's buffer: its byte, by its physical address, and whether the map
+/// lends that byte to the device to read, and to write.
+#[derive(Clone, Copy, Debug, PartialEq, Eq)]
+pub struct Position {
+    pub pa: u64,
+    pub to_read: bool,
+    pub to_write: bool,
+}
