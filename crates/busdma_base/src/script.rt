@@ -7,7 +7,7 @@ use crate::address::Va;
 use crate::list::ListOf;
 use crate::name::Name;
 use crate::tag::TagLimits;
-use std::alloc::AllocError;
+use std::alloc::{AllocError, Global};
 
 /// Where the driver's bytes begin that an operation works on.
 #[derive(Clone, Copy, Debug, PartialEq, Eq)]
@@ -115,6 +115,21 @@ pub enum Item {
         off: u64,
         bytes: Bytes,
     },
+}
+
+impl Bytes {
+    ghost use Rattle.std.specs.Prelude.{◌≡◌, IfOk};
+    ghost use Rattle.busdma_base.specs.Script.{bytes_of};
+
+    /// The bytes, in order.
+    pub fn to_vec(&self, alloc: Global) -> Result<Vec<u8>, AllocError>
+        ensures { IfOk result (λ v. v.items ≡ bytes_of self.now) }
+    {
+        match self {
+            Bytes::Listed(bytes) => Vec::from_slice(alloc, bytes.as_slice()),
+            Bytes::Filled { byte, len } => vec![in alloc; *byte; *len as usize],
+        }
+    }
 }
 
 impl Clone for Bytes {
