@@ -1,0 +1,29 @@
+use Rattle.std.proofs.Common.{rules, ◌∙◌, ap, sym, arith, subst, ◌<◌, ◌+◌, ◌-◌}
+use Rattle.turnstile.specs.Rule.{IsIdle, Knows}
+use Rattle.turnstile.proofs.Keeps.{splits_keep, names_keep, backs_keep}
+use Rattle.turnstile.proofs.Holding.{some_of, called_pass, missed_pass}
+use Rattle.turnstile.proofs.lock.Turnstile.split.Goals as goal
+
+pub split_seat-seat-requires : goal.split_seat-seat-requires
+split_seat-seat-requires g c = (search rules, omega (arith, c.self.invariant.0), splits_keep _ _ _ _ _ _ _)
+
+pub swap-found-requires : goal.swap-found-requires
+swap-found-requires g c = let is = c.split_seat-seat.ensures.4 in let inv = c.self.invariant in let low : c.args.name < c.self.inside.names = search rules in
+    (search rules, omega (arith, inv.0, low), names_keep _ _ _ _ _ _ _ _ _ (ap (λ m. m.0.named) is) (ap (λ m. m.0.turn) is) (omega (arith, inv.1, low)))
+
+pub join_seat-requires : goal.join_seat-requires
+join_seat-requires g c = let made = c.split_seat-seat.ensures.4 in let after = c.swap-found.ensures.2.1 c.if-found-eq0.false in
+    let kept = c.split_seat-seat.ensures.2 in
+    (search rules, search rules, ap (λ m. m.1) after ∙ ap (λ m. m.1) made, search rules, backs_keep _ _ _ _ _ _ _ _ _ (ap (λ m. m.0.turn) kept ∙ c.pass.invariant.0.2) (ap (λ m. m.0.turn) after))
+
+pub invariant_of-result : goal.invariant_of-result
+invariant_of-result g c = let t = g.H.TurnObject in let b = some_of c.pass.inside.seat.me.0.base c.pass.invariant.0.4 in let after = c.swap-found.ensures.2.0 (search rules) in
+    called_pass t.history t.fixed t.legal t.fits t.may t.answers c.args.name ((c.args.name + 2) - 2) c.pass.inside.seat.me.0 b.0 c.split_seat-seat.result.me _ (omega arith) b.1 c.split_seat-seat.ensures.4 after.0 after.1
+
+pub invariant_of-pass : goal.invariant_of-pass
+invariant_of-pass g c = let t = g.H.TurnObject in subst (λ m. IsIdle c.pass.inside.name m × ((b : _) × Knows t.legal t.fits b m.0)) (sym c.split_seat-seat.ensures.2) c.pass.invariant
+
+pub invariant_of-pass-2 : goal.invariant_of-pass-2
+invariant_of-pass-2 g c = let t = g.H.TurnObject in
+    missed_pass t.history t.fixed t.legal t.fits t.may t.answers c.pass.inside.name c.swap-found.new.seat.me.0 c.split_seat-seat.new.seat.me _ c.join_seat.ensures.2
+    (subst (λ m. IsIdle c.pass.inside.name m × ((b : _) × Knows t.legal t.fits b m.0)) (sym c.split_seat-seat.ensures.2) c.pass.invariant)
