@@ -1,7 +1,8 @@
 use Rattle.std.proofs.Common.{rules, ◌∙◌, ap, sym, arith, subst, ◌<◌, ◌+◌, ◌-◌}
-use Rattle.turnstile.specs.Rule.{IsIdle, Knows}
-use Rattle.turnstile.proofs.Keeps.{splits_keep, names_keep, backs_keep}
-use Rattle.turnstile.proofs.Holding.{some_of, called_pass, missed_pass}
+use Rattle.turnstile.specs.Steps.{IsIdle, Knows}
+use Rattle.turnstile.proofs.PassSteps.{splits_keep, names_keep, backs_keep}
+use Rattle.turnstile.proofs.Turn.{some_of}
+use Rattle.turnstile.proofs.Passes.{called_pass, missed_pass, sound_pass}
 use Rattle.turnstile.proofs.lock.Turnstile.split.Goals as goal
 
 pub split_seat-seat-requires : goal.split_seat-seat-requires
@@ -17,13 +18,22 @@ join_seat-requires g c = let made = c.split_seat-seat.ensures.4 in let after = c
     (search rules, search rules, ap (λ m. m.1) after ∙ ap (λ m. m.1) made, search rules, backs_keep _ _ _ _ _ _ _ _ _ (ap (λ m. m.0.turn) kept ∙ c.pass.invariant.0.2) (ap (λ m. m.0.turn) after))
 
 pub invariant_of-result : goal.invariant_of-result
-invariant_of-result g c = let t = g.H.TurnObject in let b = some_of c.pass.inside.seat.me.0.base c.pass.invariant.0.4 in let after = c.swap-found.ensures.2.0 (search rules) in
-    called_pass t.history t.fixed t.legal t.fits t.may t.answers c.args.name ((c.args.name + 2) - 2) c.pass.inside.seat.me.0 b.0 c.split_seat-seat.result.me _ (omega arith) b.1 c.split_seat-seat.ensures.4 after.0 after.1
+invariant_of-result g c = let t = g.H.TurnObject in let b = some_of c.pass.inside.seat.me.0.start c.pass.invariant.0.4 in let after = c.swap-found.ensures.2.0 (search rules) in
+    called_pass t.legal t.fits c.args.name ((c.args.name + 2) - 2) c.pass.inside.seat.me.0 b.0 c.split_seat-seat.result.me _ (omega arith) b.1 c.split_seat-seat.ensures.4 after.0 after.1
 
 pub invariant_of-pass : goal.invariant_of-pass
 invariant_of-pass g c = let t = g.H.TurnObject in subst (λ m. IsIdle c.pass.inside.name m × ((b : _) × Knows t.legal t.fits b m.0)) (sym c.split_seat-seat.ensures.2) c.pass.invariant
 
 pub invariant_of-pass-2 : goal.invariant_of-pass-2
 invariant_of-pass-2 g c = let t = g.H.TurnObject in
-    missed_pass t.history t.fixed t.legal t.fits t.may t.answers c.pass.inside.name c.swap-found.new.seat.me.0 c.split_seat-seat.new.seat.me _ c.join_seat.ensures.2
+    missed_pass t.legal t.fits c.pass.inside.name c.swap-found.new.seat.me.0 c.split_seat-seat.new.seat.me _ c.join_seat.ensures.2
     (subst (λ m. IsIdle c.pass.inside.name m × ((b : _) × Knows t.legal t.fits b m.0)) (sym c.split_seat-seat.ensures.2) c.pass.invariant)
+
+pub returns-then-found-eq0-clause-new_sound : goal.returns-then-found-eq0-clause-new_sound
+returns-then-found-eq0-clause-new_sound g c = let t = g.H.TurnObject in let known = invariant_of-result g c in sound_pass t.legal t.fits _ _ known.0.0 known.1
+
+pub returns-then-found-eq0-clause-sound : goal.returns-then-found-eq0-clause-sound
+returns-then-found-eq0-clause-sound g c = let t = g.H.TurnObject in let known = invariant_of-pass g c in sound_pass t.legal t.fits _ _ known.0.0 known.1
+
+pub returns-clause-sound : goal.returns-clause-sound
+returns-clause-sound g c = let t = g.H.TurnObject in let known = invariant_of-pass-2 g c in sound_pass t.legal t.fits _ _ known.0.0 known.1

@@ -1,0 +1,76 @@
+-- What a pass knows after each call.
+use Rattle.std.proofs.Common.{◌≡◌, ◌≢◌, ℕ, ◌<◌, true, List, [], ◌∷◌, ◌++◌, length, get_or, All, Option, Some, None, refl, sym, ap, ◌∙◌, subst, inl, inr, ⊎_elim, arith, append_assoc, append-nil, true≢false}
+use mathlib.Core.List.{IsPrefix}
+use Rattle.std.proofs.lemmas.List.Elements.{All-head, All-tail}
+use Rattle.std.proofs.lemmas.Option.{same_Some}
+use Rattle.std.proofs.Common.{is_some, if◌then◌else◌}
+use Rattle.atomic_table.specs.Seated.{TableId}
+use Rattle.turnstile.specs.TurnHistory.{calls_of, turns_of, IsOfOthers}
+use Rattle.turnstile.specs.TurnObject.{Grows, IsGain, OutlastsOthers}
+use Rattle.turnstile.specs.Start.{history_after, IsSound}
+use Rattle.turnstile.specs.Pass.{PassView, own_calls, HasTurn, IsSoundPass, SplitsOff, TakesIn}
+use Rattle.turnstile.specs.View.{pass_view, first_view, named_view, nameless_view, returned_view, joined_view, ended_with, ticket_view, served_view, view_after}
+use Rattle.turnstile.specs.Rule.{IsAt}
+use Rattle.turnstile.specs.Steps.{Held, IsIdle, Knows, Sees, Carries, HasActed, added_since}
+use Rattle.turnstile.specs.declared.view.Start.{Start}
+use Rattle.turnstile.specs.declared.view.View.{View}
+use Rattle.turnstile.proofs.Logs.{nil_of-append, prefix_self, calls_of-append, calls_of-own, calls_of-others}
+use Rattle.turnstile.proofs.Turn.{some_of}
+
+module _ {E F : Type 0} (legal : F → List E → Type 0) (fits : ℕ → E → Type 0) where
+  -- a pass whose view is known to be true
+  pub sound_pass : (t : TableId) (v : View E F) → v.named ≡ true → (a : Start E F) × Knows legal fits a v → IsSoundPass legal fits (pass_view t v)
+  sound_pass t v named (a, knows) = record { start = a; started = knows.started; front = knows.sound; name = (knows.own named).0; ended = knows.ended }
+
+  -- the new pass has no calls yet
+  pub splits_off : (t : TableId) (n : ℕ) (v w : View E F) (a : Start E F) → w ≡ named_view n (nameless_view v) → Knows legal fits a w → SplitsOff n (pass_view t v) (pass_view t w)
+  splits_off t n v w a is knows = record {
+    is = ap (pass_view t) is;
+    calls = (λ i. calls_of (sym is i).name (sym is i).front) ∙ ((knows.own (ap (λ (z : View E F). z.named) is)).1 ∙ ap (λ (z : View E F). z.own) is);
+  }
+
+  -- a pass takes another in
+  pub takes_in : (t : TableId) (v w u : View E F) (a c : Start E F) → u ≡ joined_view v w → v.named ≡ true → w.named ≡ true → Knows legal fits a v → Knows legal fits c w → ((d : Start E F) → u.start ≡ Some d → Knows legal fits d u) → All (λ xs. IsPrefix xs u.front) u.below
+      → TakesIn (pass_view t v) (pass_view t w) (pass_view t u)
+  takes_in t v w u a c is named named' knows knows' told below =
+      let truth = told a (ap (λ (z : View E F). z.start) is ∙ knows.started) in
+      let begins : All (λ xs. IsPrefix xs u.front) (v.front ∷ w.front ∷ []) = subst (All (λ xs. IsPrefix xs u.front)) (ap (λ (z : View E F). z.below) is) below in
+      let name : u.name ≡ v.name = ap (λ (z : View E F). z.name) is in
+      let own : calls_of u.name u.front ≡ v.own = (truth.own (ap (λ (z : View E F). z.named) is ∙ named)).1 ∙ ap (λ (z : View E F). z.own) is in
+      let last : ended_with w ≡ (w.name, calls_of w.name w.front) ∷ w.ended = (λ i. if named' i then (w.name, w.own) ∷ w.ended else w.ended) ∙ ap (λ l. (w.name, l) ∷ w.ended) (sym (knows'.own named').1) in
+      record {
+        is = ap (pass_view t) is ∙ ap (λ (l : List (ℕ × List E)). record (pass_view t (joined_view v w)) { ended = v.ended ++ l }) last;
+        begins = All-head (λ xs. IsPrefix xs u.front) v.front (w.front ∷ []) begins;
+        begins_other = All-head (λ xs. IsPrefix xs u.front) w.front [] (All-tail (λ xs. IsPrefix xs u.front) v.front (w.front ∷ []) begins);
+        own = own ∙ sym (knows.own named).1;
+      }
+
+  module _ {O : Type 0} where
+    pub opened_pass : (b : Start E F) (m : Held O E F) → m ≡ (first_view b, []) → 0 < b.names → legal b.fixed b.opening → IsIdle 0 m × ((a : Start E F) × Knows legal fits a m.0)
+    opened_pass b m e some lawful = subst (λ (z : Held O E F). IsIdle 0 z × ((a : Start E F) × Knows legal fits a z.0)) (sym e) (
+      (refl, refl, refl, refl, refl),
+      (
+        b,
+        record {
+          started = refl;
+          sound = record { pairs = λ k z l. absurd (omega arith); lawful = λ xs p. subst (λ l. legal b.fixed (history_after b l)) (sym (nil_of-append xs p.0 p.1)) (subst (legal b.fixed) (sym (append-nil b.opening)) lawful) };
+          own = λ _. (some, refl);
+          ended = λ k z l. absurd (omega arith);
+        },
+      ),
+    )
+
+    pub called_pass : (n k : ℕ) (v : View E F) (a : Start E F) (m m' : Held O E F) → k ≡ n → v.start ≡ Some a → m ≡ (nameless_view v, []) → m' ≡ (named_view k m.0, m.1) → ((b : Start E F) → m.0.start ≡ Some b → Knows legal fits b m'.0) → IsIdle n m' × ((b : Start E F) × Knows legal fits b m'.0)
+    called_pass n k v a m m' same is e e' tells = let whole : m' ≡ (named_view k (nameless_view v), []) = e' ∙ (λ i. (named_view k (e i).0, (e i).1)) in
+        (subst (IsIdle n) (sym whole) (refl, same, refl, refl, ap is_some is), (a, tells a (ap (λ (z : Held O E F). z.0.start) e ∙ is)))
+
+    pub missed_pass : (n : ℕ) (w : View E F) (m m' : Held O E F) → m' ≡ (returned_view m.0 w, m.1) → IsIdle n m × ((b : Start E F) × Knows legal fits b m.0) → IsIdle n m' × ((b : Start E F) × Knows legal fits b m'.0)
+    missed_pass n w m m' e (i, (b, k)) = subst (λ (z : Held O E F). IsIdle n z × ((a : Start E F) × Knows legal fits a z.0)) (sym e) ((i.0, i.1, refl, i.3, i.4), (b, record { started = k.started; sound = k.sound; own = k.own; ended = k.ended }))
+
+    pub joined_pass : (n : ℕ) (w : View E F) (m m' m'' : Held O E F) → m' ≡ (joined_view m.0 w, m.1) → m'' ≡ m' → IsIdle n m → ((b : Start E F) → m'.0.start ≡ Some b → Knows legal fits b m'.0) → IsIdle n m'' × ((b : Start E F) × Knows legal fits b m''.0)
+    joined_pass n w m m' m'' e e' i tells = let b = some_of m.0.start i.4 in subst (λ (z : Held O E F). IsIdle n z × ((a : Start E F) × Knows legal fits a z.0)) (sym e')
+        (subst (IsIdle n) (sym e) (i.0, i.1, refl, i.3, i.4), (b.0, tells b.0 (ap (λ (z : Held O E F). z.0.start) e ∙ b.1)))
+
+    -- what the first pass knows
+    pub first_sound : (t : TableId) (b : Start E F) (m : Held O E F) → m ≡ (first_view b, []) → 0 < b.names → legal b.fixed b.opening → IsSoundPass legal fits (pass_view t m.0)
+    first_sound t b m e some lawful = let known = opened_pass b m e some lawful in sound_pass t m.0 known.0.0 known.1
