@@ -22,29 +22,6 @@ module _ {E F : Type 0} (legal : F → List E → Type 0) (fits : ℕ → E → 
   pub sound_pass : (t : TableId) (v : View E F) → v.named ≡ true → (a : Start E F) × Knows legal fits a v → IsSoundPass legal fits (pass_view t v)
   sound_pass t v named (a, knows) = record { start = a; started = knows.started; front = knows.sound; name = (knows.own named).0; ended = knows.ended }
 
-  -- the new pass has no calls yet
-  pub splits_off : (t : TableId) (n : ℕ) (v w : View E F) (a : Start E F) → w ≡ named_view n (nameless_view v) → Knows legal fits a w → SplitsOff n (pass_view t v) (pass_view t w)
-  splits_off t n v w a is knows = record {
-    is = ap (pass_view t) is;
-    calls = (λ i. calls_of (sym is i).name (sym is i).front) ∙ ((knows.own (ap (λ (z : View E F). z.named) is)).1 ∙ ap (λ (z : View E F). z.own) is);
-  }
-
-  -- a pass takes another in
-  pub takes_in : (t : TableId) (v w u : View E F) (a c : Start E F) → u ≡ joined_view v w → v.named ≡ true → w.named ≡ true → Knows legal fits a v → Knows legal fits c w → ((d : Start E F) → u.start ≡ Some d → Knows legal fits d u) → All (λ xs. IsPrefix xs u.front) u.below
-      → TakesIn (pass_view t v) (pass_view t w) (pass_view t u)
-  takes_in t v w u a c is named named' knows knows' told below =
-      let truth = told a (ap (λ (z : View E F). z.start) is ∙ knows.started) in
-      let begins : All (λ xs. IsPrefix xs u.front) (v.front ∷ w.front ∷ []) = subst (All (λ xs. IsPrefix xs u.front)) (ap (λ (z : View E F). z.below) is) below in
-      let name : u.name ≡ v.name = ap (λ (z : View E F). z.name) is in
-      let own : calls_of u.name u.front ≡ v.own = (truth.own (ap (λ (z : View E F). z.named) is ∙ named)).1 ∙ ap (λ (z : View E F). z.own) is in
-      let last : ended_with w ≡ (w.name, calls_of w.name w.front) ∷ w.ended = (λ i. if named' i then (w.name, w.own) ∷ w.ended else w.ended) ∙ ap (λ l. (w.name, l) ∷ w.ended) (sym (knows'.own named').1) in
-      record {
-        is = ap (pass_view t) is ∙ ap (λ (l : List (ℕ × List E)). record (pass_view t (joined_view v w)) { ended = v.ended ++ l }) last;
-        begins = All-head (λ xs. IsPrefix xs u.front) v.front (w.front ∷ []) begins;
-        begins_other = All-head (λ xs. IsPrefix xs u.front) w.front [] (All-tail (λ xs. IsPrefix xs u.front) v.front (w.front ∷ []) begins);
-        own = own ∙ sym (knows.own named).1;
-      }
-
   module _ {O : Type 0} where
     pub opened_pass : (b : Start E F) (m : Held O E F) → m ≡ (first_view b, []) → 0 < b.names → legal b.fixed b.opening → IsIdle 0 m × ((a : Start E F) × Knows legal fits a m.0)
     opened_pass b m e some lawful = subst (λ (z : Held O E F). IsIdle 0 z × ((a : Start E F) × Knows legal fits a z.0)) (sym e) (

@@ -37,11 +37,7 @@ impl<H: TurnObject> Model for Turnstile<H> {
 impl<H: TurnObject> Turnstile<H> {
     /// A turnstile round the object, with this many names, and its first pass, which has the name 0. Where there is no
     /// memory the object is dropped.
-    pub fn new(
-        alloc: Global,
-        object: H,
-        names: u32,
-    ) -> Result<(Turnstile<H>, Pass<H>), AllocError>
+    pub fn new(alloc: Global, object: H, names: u32) -> Result<(Turnstile<H>, Pass<H>), AllocError>
         requires names { 1 ≤ names }
         requires legal { H.legal (H.fixed object) (H.history object) }
         ensures names { IfOk result (λ r. r.0.names ≡ names) }

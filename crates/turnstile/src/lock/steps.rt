@@ -65,12 +65,7 @@ impl<H: TurnObject> Turnstile<H> {
     }
 
     // The object comes out to the seat.
-    fn await_turn<R: Wait>(
-        &self,
-        rt: &R,
-        seat: &mut Seat<H, View<H::Entry, H::Fixed>>,
-        ticket: u64,
-    )
+    fn await_turn<R: Wait>(&self, rt: &R, seat: &mut Seat<H, View<H::Entry, H::Fixed>>, ticket: u64)
         requires table { seat.old.table_id ≡ self.now.id }
         requires start { is_some seat.old.me.0.start ≡ true }
         requires ticket { (seat.old.me.0.waits ≡ true) × (seat.old.me.0.turn ≡ false) × (seat.old.me.0.ticket ≡ ticket) }
