@@ -1,5 +1,5 @@
 -- The steps that cut, name and join passes keep the rule, and a new table meets it.
-use Rattle.std.proofs.Common.{◌≡◌, ◌≢◌, ◌⊎◌, ℕ, zero, suc, ◌+◌, ◌-◌, ◌<◌, ◌≤◌, eqb, Bool, true, false, List, [], ◌∷◌, ◌++◌, length, drop, get_or, set, All, Some, None, refl, sym, ap, ◌∙◌, subst, inl, inr, ⊎_elim, arith, append_assoc, append-nil, true≢false, le_refl, replicate, length-set, get_or-set_same, get_or-set_other, if◌then◌else◌}
+use Rattle.std.proofs.Common.{◌≡◌, ◌≢◌, ◌⊎◌, ℕ, zero, suc, ◌+◌, ◌-◌, ◌<◌, ◌≤◌, eqb, Bool, true, false, List, [], ◌∷◌, ◌++◌, map, length, drop, get_or, set, All, Some, None, refl, sym, ap, ◌∙◌, subst, inl, inr, ⊎_elim, arith, append_assoc, append-nil, true≢false, le_refl, replicate, length-set, get_or-set_same, get_or-set_other, if◌then◌else◌}
 use mathlib.Core.Option as maybe
 use mathlib.Core.Option.{some, none, some-injective, some-ne-none}
 use mathlib.Core.List.{IsPrefix}
@@ -13,11 +13,11 @@ use Rattle.atomic_table.specs.Table.{State, Me, Act, Valid, carried_after, step,
 use Rattle.atomic_table.proofs.Lists.{at_set, set_else, set_again, at_snoc, at_longer, exchanged}
 use Rattle.std.proofs.lemmas.Option.{none-some, same_Some}
 use Rattle.std.proofs.lemmas.Bool.{cases_Bool, cases_lt, lt-ltb, le-ltb}
-use Rattle.std.proofs.lemmas.List.Elements.{All-nil, All-cons, All-push, All-append}
+use Rattle.std.proofs.lemmas.List.Elements.{All-nil, All-cons, All-push, All-append, All-map, All-head}
 use Rattle.turnstile.specs.TurnHistory.{entries, calls_of, turns_of, longer}
 use Rattle.turnstile.specs.TurnObject.{IsGain}
 use Rattle.turnstile.specs.Start.{history_after, IsSound}
-use Rattle.turnstile.specs.View.{pass_view, first_view, ticket_view, served_view, view_after, named_view, refused_view, nameless_view, ended_with, joined_view, returned_view, spent_view}
+use Rattle.turnstile.specs.View.{pass_view, first_view, ticket_view, served_view, view_after, named_view, refused_view, nameless_view, ended_with, joined_view, returned_view, spent_view, names_seen, first_of}
 use Rattle.turnstile.specs.Rule.{Fits, IsAt, IsHome, IsAway, IsRuled}
 use Rattle.turnstile.specs.Steps.{Knows, DrawsTicket, TakesName, LearnsTruth, added_since, EndsTurn, Sees, SeesTurn, SeesLastTurn, Carries, HasActed}
 use Rattle.turnstile.proofs.Views.{false≢true, set_at, set_swap, longer_begins, All_with_name, OneTicket, OneName, Over, Alike, Back, back_set, one_name_back, over_back, each_set, one_ticket_set, one_name_set, Unlike, over_set, refit, refit_same}
@@ -25,6 +25,10 @@ use Rattle.turnstile.proofs.Ruled.{same_state, knows_of, object_stays}
 use Rattle.turnstile.specs.declared.view.Start.{Start}
 use Rattle.turnstile.specs.declared.view.View.{View}
 use Rattle.turnstile.proofs.Logs.{nil_of-append, prefix_self, prefix_then, prefix_snoc, prefix_shorter, All_prefix, calls_of-append, calls_of-own, calls_of-other, silent, between, within, entries-append, entries-own}
+
+All-first_of : (P : ℕ → Type 0) (ns : List ℕ) → All P ns → All P (first_of ns)
+All-first_of P [] all = All-nil P
+All-first_of P (n ∷ ns) all = All-cons P n [] (All-head P n ns all) (All-nil P)
 
 module _ {O E F : Type 0} (history : O → List E) (fixed : O → F) (legal : F → List E → Type 0) (fits : ℕ → E → Type 0) (b : Start E F) where
   abbrev V : Type 0
@@ -75,7 +79,7 @@ module _ {O E F : Type 0} (history : O → List E) (fixed : O → F) (legal : F 
 
   -- K7
   views_more : (s : St) (r : Rule s) (id : ℕ) (v : V) → get_elem? s.views id ≡ some v → Rule record { words = s.words; homes = s.homes; views = s.views ++ nameless_view v ∷ [] }
-  views_more s r id v at = let f = r.each id v at in let w : V = nameless_view v in let new : (j : ℕ) (d : V) → get_elem? (s.views ++ w ∷ []) j ≡ some d → (get_elem? s.views j ≡ some d) ⊎ (w ≡ d) = (λ j d p. at_snoc s.views w d j p) in record {
+  views_more s r id v at = let f = r.each id v at in let w : V = nameless_view v in let new : (j : ℕ) (d : V) → get_elem? (s.views ++ w ∷ []) j ≡ some d → (get_elem? s.views j ≡ some d) ⊎ (w ≡ d) = (λ j d p. at_snoc s.views w d j p) in let Marked : ℕ → Type 0 = (λ n. get_or r.marks n 0 ≢ 0) in record {
     log = r.log;
     ticket = r.ticket;
     serving = r.serving;
@@ -92,7 +96,7 @@ module _ {O E F : Type 0} (history : O → List E) (fixed : O → F) (legal : F 
       named = λ e. absurd (false≢true e);
       unnamed = λ _. refl;
       ended = λ k z l. absurd (omega arith);
-      taken = λ k z l. absurd (omega arith);
+      taken = All-append Marked (map (λ x. x.0) (ended_with v)) v.taken (All-map Marked (λ x. x.0) (ended_with v) (All_with_name (λ x. Marked x.0) v (λ e. (f.named e).0) (λ k z l. (f.ended k z l).0))) f.taken;
       below = λ k z l. absurd (omega arith);
     }) (new j d p);
     one_ticket = λ i j c d p q cw dw e. ⊎_elim (λ (pi : get_elem? s.views i ≡ some c). ⊎_elim (λ (qj : get_elem? s.views j ≡ some d). r.one_ticket i j c d pi qj cw dw e) (λ (y : w ≡ d). absurd (false≢true (ap (λ (x : V). x.waits) y ∙ dw))) (new j d q))
@@ -186,7 +190,7 @@ module _ {O E F : Type 0} (history : O → List E) (fixed : O → F) (legal : F 
             (one_name_set s.views id w r.one_name (λ j d _ p _ e same. ((r.each j d p).named e).0 (ap (λ k. get_or r.marks k 0) (sym same) ∙ free)))
             (over_set s.views id w r.over (λ _ i z l e. (f.ended i z l).0 (ap (λ k. get_or r.marks k 0) e ∙ free))
             (λ j d _ p. ((λ _ i z l e. ((r.each j d p).ended i z l).0 (ap (λ k. get_or r.marks k 0) e ∙ free)), λ e. r.over j id d v p at e)))),
-        ((λ _. (refl, λ c is. subst (λ k. Knows legal fits c (named_view k v)) (sym back) (knows_of history fixed legal fits b s r (marks' s r n small) w c (length-set r.marks n 1 ∙ r.wide) mine is))), λ miss. absurd (miss hit)),
+        ((λ _. (refl, subst (λ k. All (λ m. m ≢ k) v.taken) (sym back) (λ i z l same. f.taken i z l (ap (λ m. get_or r.marks m 0) same ∙ free)), λ c is. subst (λ k. Knows legal fits c (named_view k v)) (sym back) (knows_of history fixed legal fits b s r (marks' s r n small) w c (length-set r.marks n 1 ∙ r.wide) mine is))), λ miss. absurd (miss hit)),
       ))
       (λ miss. let w : V = refused_view n v in (
         refused_view ((n + 2) - 2) v,
@@ -318,7 +322,7 @@ module _ {O E F : Type 0} (history : O → List E) (fixed : O → F) (legal : F 
           named = f.named;
           unnamed = f.unnamed;
           ended = f.ended;
-          taken = All-append (λ n. get_or r.marks n 0 ≢ 0) v.taken w.taken f.taken g.taken;
+          taken = All-append (λ n. get_or r.marks n 0 ≢ 0) (first_of w.taken) v.taken (All-first_of (λ n. get_or r.marks n 0 ≢ 0) w.taken g.taken) f.taken;
           below = λ i z l. absurd (omega arith);
         } (λ j d _ p. rs.each j d p);
         one_ticket = one_ticket_set vs id u rs.one_ticket (λ j d _ _ e. absurd (false≢true e));

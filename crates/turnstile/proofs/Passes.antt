@@ -1,5 +1,5 @@
 -- What a pass knows after each call.
-use Rattle.std.proofs.Common.{◌≡◌, ◌≢◌, ℕ, ◌<◌, true, List, [], ◌∷◌, ◌++◌, length, get_or, All, Option, Some, None, refl, sym, ap, ◌∙◌, subst, inl, inr, ⊎_elim, arith, append_assoc, append-nil, true≢false}
+use Rattle.std.proofs.Common.{◌≡◌, ◌≢◌, ℕ, ◌<◌, true, List, [], ◌∷◌, ◌++◌, map, length, get_or, All, Option, Some, None, refl, sym, ap, ◌∙◌, subst, inl, inr, ⊎_elim, arith, append_assoc, append-nil, true≢false}
 use mathlib.Core.List.{IsPrefix}
 use Rattle.std.proofs.lemmas.List.Elements.{All-head, All-tail}
 use Rattle.std.proofs.lemmas.Option.{same_Some}
@@ -8,8 +8,8 @@ use Rattle.atomic_table.specs.Seated.{TableId}
 use Rattle.turnstile.specs.TurnHistory.{calls_of, turns_of, IsOfOthers}
 use Rattle.turnstile.specs.TurnObject.{Grows, IsGain, OutlastsOthers}
 use Rattle.turnstile.specs.Start.{history_after, IsSound}
-use Rattle.turnstile.specs.Pass.{PassView, own_calls, HasTurn, IsSoundPass, SplitsOff, TakesIn}
-use Rattle.turnstile.specs.View.{pass_view, first_view, named_view, nameless_view, returned_view, joined_view, ended_with, ticket_view, served_view, view_after}
+use Rattle.turnstile.specs.Pass.{PassView, IsSoundPass, SplitsOff, known_names}
+use Rattle.turnstile.specs.View.{pass_view, first_view, named_view, nameless_view, returned_view, joined_view, ended_with, names_seen, ticket_view, served_view, view_after}
 use Rattle.turnstile.specs.Rule.{IsAt}
 use Rattle.turnstile.specs.Steps.{Held, IsIdle, Knows, Sees, Carries, HasActed, added_since}
 use Rattle.turnstile.specs.declared.view.Start.{Start}
@@ -21,6 +21,16 @@ module _ {E F : Type 0} (legal : F → List E → Type 0) (fits : ℕ → E → 
   -- a pass whose view is known to be true
   pub sound_pass : (t : TableId) (v : View E F) → v.named ≡ true → (a : Start E F) × Knows legal fits a v → IsSoundPass legal fits (pass_view t v)
   sound_pass t v named (a, knows) = record { start = a; started = knows.started; front = knows.sound; name = (knows.own named).0; ended = knows.ended }
+
+  -- a new pass is cut off
+  pub splits_off : (t u : TableId) (n k : ℕ) (v w : View E F) (a : Start E F) → u ≡ t → k ≡ n → v.named ≡ true → w ≡ named_view k (nameless_view v) → All (λ m. m ≢ k) (names_seen v) → Knows legal fits a w → SplitsOff n (pass_view t v) (pass_view u w)
+  splits_off t u n k v w a here same named is free knows =
+      let seen : names_seen v ≡ known_names (pass_view t v) = (λ i. map (λ (x : ℕ × List E). x.0) (if named i then (v.name, v.own) ∷ v.ended else v.ended) ++ v.taken) in
+      record {
+        is = ap (pass_view u) is ∙ (λ i. record (pass_view (here i) v) { name = same i; ended = []; taken = seen i });
+        calls = ap (λ m. calls_of m v.front) (sym same) ∙ ((λ i. calls_of (sym is i).name (sym is i).front) ∙ ((knows.own (ap (λ (z : View E F). z.named) is)).1 ∙ ap (λ (z : View E F). z.own) is));
+        free = subst (λ (z : ℕ × List ℕ). All (λ m. m ≢ z.0) z.1) (λ i. (same i, seen i)) free;
+      }
 
   module _ {O : Type 0} where
     pub opened_pass : (b : Start E F) (m : Held O E F) → m ≡ (first_view b, []) → 0 < b.names → legal b.fixed b.opening → IsIdle 0 m × ((a : Start E F) × Knows legal fits a m.0)

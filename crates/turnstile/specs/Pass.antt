@@ -1,5 +1,5 @@
 -- What contracts see of a pass, and what each call does to it.
-use Rattle.std.specs.Prelude.{◌≡◌, ℕ, ◌<◌, List, [], ◌∷◌, ◌++◌, All, Option, Some, IfSome}
+use Rattle.std.specs.Prelude.{◌≡◌, ◌≢◌, map, ℕ, ◌<◌, List, [], ◌∷◌, ◌++◌, All, Option, Some, IfSome}
 use mathlib.Core.List.{IsPrefix}
 use Rattle.atomic_table.specs.Seated.{TableId}
 use Rattle.turnstile.specs.TurnHistory.{calls_of, turns_of, IsOfOthers, longer}
@@ -7,7 +7,7 @@ use Rattle.turnstile.specs.TurnObject.{IsGain}
 use Rattle.turnstile.specs.Start.{history_after, IsSound}
 use Rattle.turnstile.specs.declared.view.Start.{Start}
 
--- which turnstile it is of, how that started, its name, its front (the turn history as far as it knows it), the names that it knows to have ended, each with its calls, and the names that it found taken
+-- which turnstile it is of, how that started, its name, its front (the turn history as far as it knows it), the names that it knows to have ended, each with its calls, and the further names that it knows to be taken
 pub record PassView (E F : Type 0) : Type 0 where
   pub turnstile : TableId
   pub start : Option (Start E F)
@@ -25,14 +25,19 @@ module _ {E F : Type 0} where
   abbrev pub first_pass : TableId → Start E F → PassView E F
   first_pass turnstile start = record { turnstile = turnstile; start = Some start; name = 0; front = []; ended = []; taken = [] }
 
-  -- a new pass under this name is what `old` was, but has seen no name end or taken; it has no calls yet
+  -- the names that it knows to be taken: its own, those that ended in it, and further ones
+  abbrev pub known_names : PassView E F → List ℕ
+  known_names pass = pass.name ∷ (map (λ other. other.0) pass.ended ++ pass.taken)
+
+  -- a new pass has this name, of which the old pass knew no call and did not know that it was taken; it knows the same turns, and saw no name end
   pub record SplitsOff (name : ℕ) (old pass : PassView E F) : Type 0 where
-    pub is : pass ≡ record old { name = name; ended = []; taken = [] }
+    pub is : pass ≡ record old { name = name; ended = []; taken = known_names old }
     pub calls : calls_of name old.front ≡ []
+    pub free : All (λ other. other ≢ name) (known_names old)
 
   -- a pass found this name taken, and is else as it was
   abbrev pub finds_taken : ℕ → PassView E F → PassView E F
-  finds_taken name old = record old { taken = old.taken ++ name ∷ [] }
+  finds_taken name old = record old { taken = name ∷ old.taken }
 
   -- a pass took another in: it has the longer front, and knows that the other's name ended with its calls
   pub record TakesIn (old other new : PassView E F) : Type 0 where

@@ -40,9 +40,9 @@ module _ {E F : Type 0} (legal : F → List E → Type 0) (fits : ℕ → E → 
     pub ended : All (λ x. calls_of x.0 v.front ≡ x.1) v.ended
 
   module _ {O : Type 0} where
-    -- the name is the seat's where its word was 0
+    -- the name is the seat's where its word was 0, and is then none of those that the seat knew to be taken
     abbrev pub TakesName : Step O → Held O E F → ℕ → Held O E F → Type 0
-    TakesName st m r m' = (r ≡ 0 → (m' ≡ (named_view (st.word - 2) m.0, m.1)) × ((start : Start E F) → m.0.start ≡ Some start → Knows start m'.0)) × (r ≢ 0 → m' ≡ (refused_view (st.word - 2) m.0, m.1))
+    TakesName st m r m' = (r ≡ 0 → (m' ≡ (named_view (st.word - 2) m.0, m.1)) × All (λ n. n ≢ st.word - 2) m.0.taken × ((start : Start E F) → m.0.start ≡ Some start → Knows start m'.0)) × (r ≢ 0 → m' ≡ (refused_view (st.word - 2) m.0, m.1))
 
     -- a look that changes nothing, and tells that what the view says is true
     abbrev pub LearnsTruth : Step O → Held O E F → ℕ → Held O E F → Type 0

@@ -1,10 +1,15 @@
 -- The views of a turnstile's table, and what each step makes of them. No program has one.
-use Rattle.std.specs.Prelude.{◌≡◌, if◌then◌else◌, ℕ, Bool, true, false, List, [], ◌∷◌, ◌++◌, Option, Some, None}
+use Rattle.std.specs.Prelude.{◌≡◌, if◌then◌else◌, ℕ, Bool, true, false, List, [], ◌∷◌, ◌++◌, map, Option, Some, None}
 use Rattle.atomic_table.specs.Seated.{TableId}
 use Rattle.turnstile.specs.TurnHistory.{turns_of, longer}
 use Rattle.turnstile.specs.Pass.{PassView}
 use Rattle.turnstile.specs.declared.view.Start.{Start}
 use Rattle.turnstile.specs.declared.view.View.{View}
+
+-- the first of the names, where there is one
+abbrev pub first_of : List ℕ → List ℕ
+first_of [] = []
+first_of (n ∷ ns) = n ∷ []
 
 module _ {E F : Type 0} where
   -- what a pass with this view shows
@@ -38,9 +43,17 @@ module _ {E F : Type 0} where
   abbrev pub view_after : List E → View E F → View E F
   view_after added v = resting_view v.start v.named v.name (v.front ++ turns_of v.name added) (v.own ++ added) v.ended v.taken
 
+  -- the names that have ended once this view is spent, each with its calls
+  abbrev pub ended_with : View E F → List (ℕ × List E)
+  ended_with w = if w.named then (w.name, w.own) ∷ w.ended else w.ended
+
+  -- the names that this view knows to be taken
+  abbrev pub names_seen : View E F → List ℕ
+  names_seen v = map (λ x. x.0) (ended_with v) ++ v.taken
+
   -- a new view beside another, with no name yet
   abbrev pub nameless_view : View E F → View E F
-  nameless_view v = resting_view v.start false 0 v.front [] [] []
+  nameless_view v = resting_view v.start false 0 v.front [] [] (names_seen v)
 
   -- the view that took this name
   abbrev pub named_view : ℕ → View E F → View E F
@@ -50,13 +63,9 @@ module _ {E F : Type 0} where
   abbrev pub refused_view : ℕ → View E F → View E F
   refused_view name v = resting_view v.start v.named v.name v.front v.own v.ended (name ∷ v.taken)
 
-  -- the view, where the second went back to it with no name
+  -- the view, where the second went back to it after it found a name taken
   abbrev pub returned_view : View E F → View E F → View E F
-  returned_view v w = resting_view v.start v.named v.name v.front v.own v.ended (v.taken ++ w.taken)
-
-  -- the names that have ended once this view is spent
-  abbrev pub ended_with : View E F → List (ℕ × List E)
-  ended_with w = if w.named then (w.name, w.own) ∷ w.ended else w.ended
+  returned_view v w = resting_view v.start v.named v.name v.front v.own v.ended (first_of w.taken ++ v.taken)
 
   -- the first view, which took the second in
   abbrev pub joined_view : View E F → View E F → View E F
