@@ -1,30 +1,24 @@
 -- The steps that cut, name and join passes keep the rule, and a new table meets it.
-use Rattle.std.proofs.Common.{◌≡◌, ◌≢◌, ◌⊎◌, ℕ, zero, suc, ◌+◌, ◌-◌, ◌<◌, ◌≤◌, eqb, Bool, true, false, List, [], ◌∷◌, ◌++◌, map, length, drop, get_or, set, All, Some, None, refl, sym, ap, ◌∙◌, subst, inl, inr, ⊎_elim, arith, append_assoc, append-nil, true≢false, le_refl, replicate, length-set, get_or-set_same, get_or-set_other, if◌then◌else◌}
-use mathlib.Core.Option as maybe
+use Rattle.std.proofs.Common.{◌≡◌, ◌≢◌, ◌⊎◌, ℕ, zero, suc, ◌+◌, ◌-◌, ◌<◌, ◌≤◌, true, false, List, [], ◌∷◌, ◌++◌, map, length, get_or, set, All, refl, sym, ap, ◌∙◌, subst, inl, inr, ⊎_elim, arith, append-nil, true≢false, le_refl, replicate, length-set, get_or-set_same, get_or-set_other}
 use mathlib.Core.Option.{some, none, some-injective, some-ne-none}
 use mathlib.Core.List.{IsPrefix}
 use mathlib.Core.Logic.{dite}
 use native.Mathlib.Decide.{ℕ_discrete}
 use lib.ListN.{get_elem?}
-use lib.Seq.{set-get_or, drop_at}
 use lib.ListN.{length-replicate}
-use prog.Atomic.{either}
-use Rattle.atomic_table.specs.Table.{State, Me, Act, Valid, carried_after, step, keeps, takes, gives, stepped, Allows, Splits, Joins, Final, Seen, rest, opening}
-use Rattle.atomic_table.proofs.Lists.{at_set, set_else, set_again, at_snoc, at_longer, exchanged}
-use Rattle.std.proofs.lemmas.Option.{none-some, same_Some}
-use Rattle.std.proofs.lemmas.Bool.{cases_Bool, cases_lt, lt-ltb, le-ltb}
-use Rattle.std.proofs.lemmas.List.Elements.{All-nil, All-cons, All-push, All-append, All-map, All-head}
-use Rattle.turnstile.specs.TurnHistory.{entries, calls_of, turns_of, longer}
-use Rattle.turnstile.specs.TurnObject.{IsGain}
-use Rattle.turnstile.specs.Start.{history_after, IsSound}
-use Rattle.turnstile.specs.View.{pass_view, first_view, ticket_view, served_view, view_after, named_view, refused_view, nameless_view, ended_with, joined_view, returned_view, spent_view, names_seen, first_of}
-use Rattle.turnstile.specs.Rule.{Fits, IsAt, IsHome, IsAway, IsRuled}
-use Rattle.turnstile.specs.Steps.{Knows, DrawsTicket, TakesName, LearnsTruth, added_since, EndsTurn, Sees, SeesTurn, SeesLastTurn, Carries, HasActed}
-use Rattle.turnstile.proofs.Views.{false≢true, set_at, set_swap, longer_begins, All_with_name, OneTicket, OneName, Over, Alike, Back, back_set, one_name_back, over_back, each_set, one_ticket_set, one_name_set, Unlike, over_set, refit, refit_same}
+use Rattle.atomic_table.specs.Table.{State, Me, step, keeps, stepped, Allows, Splits, Joins, opening}
+use Rattle.atomic_table.proofs.Lists.{at_set, set_else, set_again, at_snoc, at_longer}
+use Rattle.std.proofs.lemmas.List.Elements.{All-nil, All-cons, All-append, All-map, All-head}
+use Rattle.turnstile.specs.TurnHistory.{calls_of}
+use Rattle.turnstile.specs.Start.{history_after}
+use Rattle.turnstile.specs.View.{first_view, named_view, refused_view, nameless_view, ended_with, joined_view, returned_view, spent_view, first_of}
+use Rattle.turnstile.specs.Rule.{Fits, IsHome, IsAway, IsRuled}
+use Rattle.turnstile.specs.Steps.{Knows, TakesName, LearnsTruth}
+use Rattle.turnstile.proofs.Views.{false≢true, set_swap, longer_begins, All_with_name, OneName, Over, back_set, one_name_back, over_back, each_set, one_ticket_set, one_name_set, Unlike, over_set, refit_same}
 use Rattle.turnstile.proofs.Ruled.{same_state, knows_of, object_stays}
 use Rattle.turnstile.specs.declared.view.Start.{Start}
 use Rattle.turnstile.specs.declared.view.View.{View}
-use Rattle.turnstile.proofs.Logs.{nil_of-append, prefix_self, prefix_then, prefix_snoc, prefix_shorter, All_prefix, calls_of-append, calls_of-own, calls_of-other, silent, between, within, entries-append, entries-own}
+use Rattle.turnstile.proofs.Logs.{nil_of-append, calls_of-append, within}
 
 All-first_of : (P : ℕ → Type 0) (ns : List ℕ) → All P ns → All P (first_of ns)
 All-first_of P [] all = All-nil P
@@ -77,7 +71,7 @@ module _ {O E F : Type 0} (history : O → List E) (fixed : O → F) (legal : F 
     object = inl (x, refl, (same_fixed, same ∙ sym (append-nil b.opening)), λ j v p. subst (λ (z : V). z.turn ≡ false) (only (first_view b) j v p).1 refl);
   }
 
-  -- K7
+  -- a nameless view comes beside another
   views_more : (s : St) (r : Rule s) (id : ℕ) (v : V) → get_elem? s.views id ≡ some v → Rule record { words = s.words; homes = s.homes; views = s.views ++ nameless_view v ∷ [] }
   views_more s r id v at = let f = r.each id v at in let w : V = nameless_view v in let new : (j : ℕ) (d : V) → get_elem? (s.views ++ w ∷ []) j ≡ some d → (get_elem? s.views j ≡ some d) ⊎ (w ≡ d) = (λ j d p. at_snoc s.views w d j p) in let Marked : ℕ → Type 0 = (λ n. get_or r.marks n 0 ≢ 0) in record {
     log = r.log;
@@ -114,11 +108,11 @@ module _ {O E F : Type 0} (history : O → List E) (fixed : O → F) (legal : F 
   pub splits_keep : (id : ℕ) (v : V) → Splits Rule id v v (nameless_view v)
   splits_keep id v s r at = subst (λ vs. Rule record { words = s.words; homes = s.homes; views = vs ++ nameless_view v ∷ [] }) (sym (set_again s.views id v at)) (views_more s r id v at)
 
-  -- a look that changes nothing
+  -- a look that changes nothing may tell what the view knows
   pub tells_keep : (slots id : ℕ) (me : Me O V) → Allows Rule slots id me 0 (λ n. n) (LearnsTruth legal fits (step slots 0 0 0 none) me)
   tells_keep slots id me s r _ at _ = let f = r.each id me.0 at in (me.0, keeps, tt, same_state history fixed legal fits b s r 0 id me.1 me.0 at, (refl, (λ c is. knows_of history fixed legal fits b s r r.marks me.0 c r.wide f is), f.below))
 
-  -- the mark of n is set
+  -- the marks once that of n is set
   module _ (s : St) (r : Rule s) (n : ℕ) (small : n < b.names) where
     abbrev marks' : List ℕ
     marks' = set r.marks n 1
@@ -166,7 +160,7 @@ module _ {O E F : Type 0} (history : O → List E) (fixed : O → F) (legal : F 
       object = object_stays history fixed legal fits b s r id v w at turn turn';
     }
 
-  -- K9
+  -- the mark of a name is set by a seat that has none
   pub names_keep : (slots id n : ℕ) (me : Me O V) → me.0.named ≡ false → me.0.turn ≡ false → n < b.names → Allows Rule slots id me (n + 2) (λ _. 1) (TakesName legal fits (step slots (n + 2) 1 0 none) me)
   names_keep slots id n me unnamed turn small s r _ at _ = let v = me.0 in let f = r.each id v at in let back : (n + 2) - 2 ≡ n = omega arith in dite (ℕ_discrete (get_or s.words (n + 2) 0) 0)
       (λ hit. let free : get_or r.marks n 0 ≡ 0 = sym (word_is s r n small) ∙ hit in let w : V = named_view n v in let silent_log = r.unmarked n free in let own0 = f.unnamed unnamed in
@@ -214,7 +208,7 @@ module _ {O E F : Type 0} (history : O → List E) (fixed : O → F) (legal : F 
         ((λ hit. absurd (miss hit)), λ _. refl),
       ))
 
-  -- a view is spent_view
+  -- a view is spent
   spends : (s : St) (r : Rule s) (id : ℕ) (v : V) → get_elem? s.views id ≡ some v → v.turn ≡ false → Rule record { words = s.words; homes = s.homes; views = set s.views id spent_view }
   spends s r id v at turn = let w : V = spent_view in record {
     log = r.log;
@@ -244,7 +238,7 @@ module _ {O E F : Type 0} (history : O → List E) (fixed : O → F) (legal : F 
     object = object_stays history fixed legal fits b s r id v w at turn refl;
   }
 
-  -- K8
+  -- a view takes another in
   pub joins_keep : (id : ℕ) (v : V) (other : ℕ) (w : V) → v.turn ≡ false → w.turn ≡ false → Joins Rule id v other w (joined_view v w) spent_view
   unfolding spends
   joins_keep id v other w turn turn' s r at apart there' =

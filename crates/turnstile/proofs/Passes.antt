@@ -1,20 +1,15 @@
 -- What a pass knows after each call.
-use Rattle.std.proofs.Common.{◌≡◌, ◌≢◌, ℕ, ◌<◌, true, List, [], ◌∷◌, ◌++◌, map, length, get_or, All, Option, Some, None, refl, sym, ap, ◌∙◌, subst, inl, inr, ⊎_elim, arith, append_assoc, append-nil, true≢false}
-use mathlib.Core.List.{IsPrefix}
-use Rattle.std.proofs.lemmas.List.Elements.{All-head, All-tail}
-use Rattle.std.proofs.lemmas.Option.{same_Some}
+use Rattle.std.proofs.Common.{◌≡◌, ◌≢◌, ℕ, ◌<◌, true, List, [], ◌∷◌, ◌++◌, map, All, Some, refl, sym, ap, ◌∙◌, subst, arith, append-nil}
 use Rattle.std.proofs.Common.{is_some, if◌then◌else◌}
 use Rattle.atomic_table.specs.Seated.{TableId}
-use Rattle.turnstile.specs.TurnHistory.{calls_of, turns_of, IsOfOthers}
-use Rattle.turnstile.specs.TurnObject.{Grows, IsGain, OutlastsOthers}
-use Rattle.turnstile.specs.Start.{history_after, IsSound}
-use Rattle.turnstile.specs.Pass.{PassView, IsSoundPass, SplitsOff, known_names}
-use Rattle.turnstile.specs.View.{pass_view, first_view, named_view, nameless_view, returned_view, joined_view, ended_with, names_seen, ticket_view, served_view, view_after}
-use Rattle.turnstile.specs.Rule.{IsAt}
-use Rattle.turnstile.specs.Steps.{Held, IsIdle, Knows, Sees, Carries, HasActed, added_since}
+use Rattle.turnstile.specs.TurnHistory.{calls_of}
+use Rattle.turnstile.specs.Start.{history_after}
+use Rattle.turnstile.specs.Pass.{IsSoundPass, SplitsOff, known_names}
+use Rattle.turnstile.specs.View.{pass_view, first_view, named_view, nameless_view, returned_view, joined_view, names_seen}
+use Rattle.turnstile.specs.Steps.{Held, IsIdle, Knows}
 use Rattle.turnstile.specs.declared.view.Start.{Start}
 use Rattle.turnstile.specs.declared.view.View.{View}
-use Rattle.turnstile.proofs.Logs.{nil_of-append, prefix_self, calls_of-append, calls_of-own, calls_of-others}
+use Rattle.turnstile.proofs.Logs.{nil_of-append}
 use Rattle.turnstile.proofs.Turn.{some_of}
 
 module _ {E F : Type 0} (legal : F → List E → Type 0) (fits : ℕ → E → Type 0) where
@@ -33,8 +28,8 @@ module _ {E F : Type 0} (legal : F → List E → Type 0) (fits : ℕ → E → 
       }
 
   module _ {O : Type 0} where
-    pub opened_pass : (b : Start E F) (m : Held O E F) → m ≡ (first_view b, []) → 0 < b.names → legal b.fixed b.opening → IsIdle 0 m × ((a : Start E F) × Knows legal fits a m.0)
-    opened_pass b m e some lawful = subst (λ (z : Held O E F). IsIdle 0 z × ((a : Start E F) × Knows legal fits a z.0)) (sym e) (
+    pub first_pass_knows : (b : Start E F) (m : Held O E F) → m ≡ (first_view b, []) → 0 < b.names → legal b.fixed b.opening → IsIdle 0 m × ((a : Start E F) × Knows legal fits a m.0)
+    first_pass_knows b m e some lawful = subst (λ (z : Held O E F). IsIdle 0 z × ((a : Start E F) × Knows legal fits a z.0)) (sym e) (
       (refl, refl, refl, refl, refl),
       (
         b,
@@ -47,17 +42,17 @@ module _ {E F : Type 0} (legal : F → List E → Type 0) (fits : ℕ → E → 
       ),
     )
 
-    pub called_pass : (n k : ℕ) (v : View E F) (a : Start E F) (m m' : Held O E F) → k ≡ n → v.start ≡ Some a → m ≡ (nameless_view v, []) → m' ≡ (named_view k m.0, m.1) → ((b : Start E F) → m.0.start ≡ Some b → Knows legal fits b m'.0) → IsIdle n m' × ((b : Start E F) × Knows legal fits b m'.0)
-    called_pass n k v a m m' same is e e' tells = let whole : m' ≡ (named_view k (nameless_view v), []) = e' ∙ (λ i. (named_view k (e i).0, (e i).1)) in
+    pub named_pass_knows : (n k : ℕ) (v : View E F) (a : Start E F) (m m' : Held O E F) → k ≡ n → v.start ≡ Some a → m ≡ (nameless_view v, []) → m' ≡ (named_view k m.0, m.1) → ((b : Start E F) → m.0.start ≡ Some b → Knows legal fits b m'.0) → IsIdle n m' × ((b : Start E F) × Knows legal fits b m'.0)
+    named_pass_knows n k v a m m' same is e e' tells = let whole : m' ≡ (named_view k (nameless_view v), []) = e' ∙ (λ i. (named_view k (e i).0, (e i).1)) in
         (subst (IsIdle n) (sym whole) (refl, same, refl, refl, ap is_some is), (a, tells a (ap (λ (z : Held O E F). z.0.start) e ∙ is)))
 
-    pub missed_pass : (n : ℕ) (w : View E F) (m m' : Held O E F) → m' ≡ (returned_view m.0 w, m.1) → IsIdle n m × ((b : Start E F) × Knows legal fits b m.0) → IsIdle n m' × ((b : Start E F) × Knows legal fits b m'.0)
-    missed_pass n w m m' e (i, (b, k)) = subst (λ (z : Held O E F). IsIdle n z × ((a : Start E F) × Knows legal fits a z.0)) (sym e) ((i.0, i.1, refl, i.3, i.4), (b, record { started = k.started; sound = k.sound; own = k.own; ended = k.ended }))
+    pub returned_pass_knows : (n : ℕ) (w : View E F) (m m' : Held O E F) → m' ≡ (returned_view m.0 w, m.1) → IsIdle n m × ((b : Start E F) × Knows legal fits b m.0) → IsIdle n m' × ((b : Start E F) × Knows legal fits b m'.0)
+    returned_pass_knows n w m m' e (i, (b, k)) = subst (λ (z : Held O E F). IsIdle n z × ((a : Start E F) × Knows legal fits a z.0)) (sym e) ((i.0, i.1, refl, i.3, i.4), (b, record { started = k.started; sound = k.sound; own = k.own; ended = k.ended }))
 
-    pub joined_pass : (n : ℕ) (w : View E F) (m m' m'' : Held O E F) → m' ≡ (joined_view m.0 w, m.1) → m'' ≡ m' → IsIdle n m → ((b : Start E F) → m'.0.start ≡ Some b → Knows legal fits b m'.0) → IsIdle n m'' × ((b : Start E F) × Knows legal fits b m''.0)
-    joined_pass n w m m' m'' e e' i tells = let b = some_of m.0.start i.4 in subst (λ (z : Held O E F). IsIdle n z × ((a : Start E F) × Knows legal fits a z.0)) (sym e')
+    pub joined_pass_knows : (n : ℕ) (w : View E F) (m m' m'' : Held O E F) → m' ≡ (joined_view m.0 w, m.1) → m'' ≡ m' → IsIdle n m → ((b : Start E F) → m'.0.start ≡ Some b → Knows legal fits b m'.0) → IsIdle n m'' × ((b : Start E F) × Knows legal fits b m''.0)
+    joined_pass_knows n w m m' m'' e e' i tells = let b = some_of m.0.start i.4 in subst (λ (z : Held O E F). IsIdle n z × ((a : Start E F) × Knows legal fits a z.0)) (sym e')
         (subst (IsIdle n) (sym e) (i.0, i.1, refl, i.3, i.4), (b.0, tells b.0 (ap (λ (z : Held O E F). z.0.start) e ∙ b.1)))
 
     -- what the first pass knows
     pub first_sound : (t : TableId) (b : Start E F) (m : Held O E F) → m ≡ (first_view b, []) → 0 < b.names → legal b.fixed b.opening → IsSoundPass legal fits (pass_view t m.0)
-    first_sound t b m e some lawful = let known = opened_pass b m e some lawful in sound_pass t m.0 known.0.0 known.1
+    first_sound t b m e some lawful = let known = first_pass_knows b m e some lawful in sound_pass t m.0 known.0.0 known.1

@@ -1,29 +1,17 @@
 -- What the rule gives at any step.
-use Rattle.std.proofs.Common.{◌≡◌, ◌≢◌, ◌⊎◌, ℕ, zero, suc, ◌+◌, ◌-◌, ◌<◌, ◌≤◌, eqb, Bool, true, false, List, [], ◌∷◌, ◌++◌, length, drop, get_or, set, All, Some, None, refl, sym, ap, ◌∙◌, subst, inl, inr, ⊎_elim, arith, append_assoc, append-nil, true≢false, le_refl, replicate, length-set, get_or-set_same, get_or-set_other, if◌then◌else◌}
-use mathlib.Core.Option as maybe
-use mathlib.Core.Option.{some, none, some-injective, some-ne-none}
-use mathlib.Core.List.{IsPrefix}
-use mathlib.Core.Logic.{dite}
-use native.Mathlib.Decide.{ℕ_discrete}
+use Rattle.std.proofs.Common.{◌≡◌, ◌≢◌, ◌⊎◌, ℕ, ◌<◌, false, List, length, get_or, set, Some, None, sym, ap, ◌∙◌, subst, inl, inr, ⊎_elim, arith, true≢false}
+use mathlib.Core.Option.{some, some-injective}
 use lib.ListN.{get_elem?}
-use lib.Seq.{set-get_or, drop_at}
-use lib.ListN.{length-replicate}
-use prog.Atomic.{either}
-use Rattle.atomic_table.specs.Table.{State, Me, Act, Valid, carried_after, step, keeps, takes, gives, stepped, Allows, Splits, Joins, Final, Seen, rest, opening}
-use Rattle.atomic_table.proofs.Lists.{at_set, set_else, set_again, at_snoc, at_longer, exchanged}
+use lib.Seq.{set-get_or}
+use Rattle.atomic_table.specs.Table.{State, keeps, stepped}
+use Rattle.atomic_table.proofs.Lists.{set_else, set_again}
 use Rattle.std.proofs.lemmas.Option.{none-some, same_Some}
-use Rattle.std.proofs.lemmas.Bool.{cases_Bool, cases_lt, lt-ltb, le-ltb}
-use Rattle.std.proofs.lemmas.List.Elements.{All-nil, All-cons, All-push, All-append}
-use Rattle.turnstile.specs.TurnHistory.{entries, calls_of, turns_of, longer}
-use Rattle.turnstile.specs.TurnObject.{IsGain}
-use Rattle.turnstile.specs.Start.{history_after, IsSound}
-use Rattle.turnstile.specs.View.{pass_view, first_view, ticket_view, served_view, view_after, named_view, refused_view, nameless_view, ended_with, joined_view, returned_view, spent_view}
-use Rattle.turnstile.specs.Rule.{Fits, IsAt, IsHome, IsAway, IsRuled}
-use Rattle.turnstile.specs.Steps.{Knows, DrawsTicket, TakesName, LearnsTruth, added_since, EndsTurn, Sees, SeesTurn, SeesLastTurn, Carries, HasActed}
-use Rattle.turnstile.proofs.Views.{false≢true, set_at, set_swap, longer_begins, All_with_name, OneTicket, OneName, Over, Alike, Back, back_set, one_name_back, over_back, each_set, one_ticket_set, one_name_set, Unlike, over_set, refit, refit_same}
+use Rattle.turnstile.specs.Rule.{Fits, IsHome, IsAway, IsRuled}
+use Rattle.turnstile.specs.Steps.{Knows}
+use Rattle.turnstile.proofs.Views.{each_set}
 use Rattle.turnstile.specs.declared.view.Start.{Start}
 use Rattle.turnstile.specs.declared.view.View.{View}
-use Rattle.turnstile.proofs.Logs.{nil_of-append, prefix_self, prefix_then, prefix_snoc, prefix_shorter, All_prefix, calls_of-append, calls_of-own, calls_of-other, silent, between, within, entries-append, entries-own}
+use Rattle.turnstile.proofs.Logs.{prefix_then, All_prefix}
 
 module _ {O E F : Type 0} (history : O → List E) (fixed : O → F) (legal : F → List E → Type 0) (fits : ℕ → E → Type 0) (b : Start E F) where
   abbrev V : Type 0

@@ -3,18 +3,18 @@ use Rattle.std.proofs.Common.{◌≡◌, ◌≢◌, ℕ, ◌<◌, true, List, []
 use mathlib.Core.List.{IsPrefix}
 use Rattle.std.proofs.lemmas.List.Elements.{All-head, All-tail}
 use Rattle.std.proofs.lemmas.Option.{same_Some}
-use Rattle.std.proofs.Common.{is_some, if◌then◌else◌, IfSome}
+use Rattle.std.proofs.Common.{is_some, IfSome}
 use Rattle.atomic_table.specs.Seated.{TableId}
 use Rattle.turnstile.specs.TurnHistory.{calls_of, turns_of, IsOfOthers}
-use Rattle.turnstile.specs.TurnObject.{Grows, IsGain, OutlastsOthers}
+use Rattle.turnstile.specs.TurnObject.{Grows, IsGain, OutlastsOthers, IsActed}
 use Rattle.turnstile.specs.Start.{history_after, IsSound}
-use Rattle.turnstile.specs.Pass.{PassView, own_calls, HasTurn, IsSoundPass, SplitsOff, TakesIn}
-use Rattle.turnstile.specs.View.{pass_view, first_view, named_view, nameless_view, returned_view, joined_view, ended_with, ticket_view, served_view, view_after}
+use Rattle.turnstile.specs.Pass.{HasTurn}
+use Rattle.turnstile.specs.View.{pass_view, ticket_view, served_view, view_after}
 use Rattle.turnstile.specs.Rule.{IsAt}
-use Rattle.turnstile.specs.Steps.{Held, IsIdle, Knows, Sees, Carries, HasActed, added_since}
+use Rattle.turnstile.specs.Steps.{Held, Sees, Carries, HasActed, added_since}
 use Rattle.turnstile.specs.declared.view.Start.{Start}
 use Rattle.turnstile.specs.declared.view.View.{View}
-use Rattle.turnstile.proofs.Logs.{nil_of-append, prefix_self, calls_of-append, calls_of-own, calls_of-others}
+use Rattle.turnstile.proofs.Logs.{prefix_self, calls_of-append, calls_of-own, calls_of-others}
 use Rattle.turnstile.proofs.TurnSteps.{history_after_turn, added_is}
 
 pub none_there : {A : Type 0} (xs : List A) → length xs ≡ 0 → xs ≡ []
@@ -33,7 +33,7 @@ pub grown : {E : Type 0} (fits : ℕ → E → Type 0) (n : ℕ) (h h' : List E)
 grown {E} fits n h h' g = ⊎_elim (λ (e : h' ≡ h). ([], inl refl, e ∙ sym (append-nil h))) (λ (t : (e : E) × fits n e × (h' ≡ h ++ e ∷ [])). (t.0 ∷ [], inr (t.0, t.1, refl), t.2)) g
 
 module _ {O C Q E F : Type 0} (history : O → List E) (fixed : O → F) (legal : F → List E → Type 0) (fits : ℕ → E → Type 0) (may : F → List E → ℕ → C → Type 0) (answers : F → List E → ℕ → C → Q → List E → Type 0) where
-  -- what may be named_view stays so where others act
+  -- what may be called may still be called after turns of others
   abbrev pub Stays : Type 0
   Stays = (f : F) (h : List E) (n m : ℕ) (c : C) (e : E) → may f h n c → m ≢ n → fits m e → legal f (h ++ e ∷ []) → may f (h ++ e ∷ []) n c
 
@@ -43,7 +43,7 @@ module _ {O C Q E F : Type 0} (history : O → List E) (fixed : O → F) (legal 
 
   -- the object that is out made a call
   abbrev pub Acts : ℕ → C → Q → Held O E F → Held O E F → Type 0
-  Acts name call reply m2 m3 = Carries m2.1 (λ x. Carries m3.1 (λ y. (fixed y ≡ fixed x) × legal (fixed y) (history y) × Grows (fits name) (history x) (history y) × answers (fixed x) (history x) name call reply (history y)))
+  Acts name call reply m2 m3 = Carries m2.1 (λ x. Carries m3.1 (IsActed history fixed legal fits answers name call reply x))
 
   may_stays : (b : Start E F) → OutlastsOthers legal fits may → (n : ℕ) (c : C) (front between : List (ℕ × E)) → may b.fixed (history_after b front) n c → IsOfOthers n between → All (λ p. (p.0 < b.names) × fits p.0 p.1) between
       → ((xs : List (ℕ × E)) → IsPrefix xs (front ++ between) → legal b.fixed (history_after b xs)) → may b.fixed (history_after b (front ++ between)) n c
@@ -56,7 +56,7 @@ module _ {O C Q E F : Type 0} (history : O → List E) (fixed : O → F) (legal 
       subst (λ l. may b.fixed (history_after b l) n c) whole (may_stays b stays n c (front ++ p ∷ []) ps (subst (λ h. may b.fixed h n c) one next) (All-tail (λ (q : ℕ × E). q.0 ≢ n) p ps others) (All-tail (λ (q : ℕ × E). (q.0 < b.names) × fits q.0 q.1) p ps fit)
       (λ xs q. lawful xs (subst (IsPrefix xs) whole q)))
 
-  -- the base that the seat was refused_view of is that of the turnstile
+  -- a view that goes on keeps its start
   same_start : (b b' : Start E F) (v w : View E F) → v.start ≡ Some b → w.start ≡ Some b' → w.start ≡ v.start → b' ≡ b
   same_start b b' v w p q e = same_Some b' b (sym q ∙ (e ∙ p))
 
@@ -78,23 +78,23 @@ module _ {O C Q E F : Type 0} (history : O → List E) (fixed : O → F) (legal 
       → SeesFrom (ticket_view k v, c1) m2 → m3.0 ≡ m2.0
       → Acts v.name call reply m2 m3
       → (a : Start E F) × (m3.0.start ≡ Some a) × Carries m3.1 (λ y. HasActed history fixed legal fits a m3.0 y)
-  acted_from b v c1 k m2 m3 call reply is named none (b', log, between, x, e, joins, others, at, knows) kept (x', ex, (y, ey, (fx, lawful, grows, answered))) =
+  acted_from b v c1 k m2 m3 call reply is named none (b', log, between, x, e, joins, others, at, knows) kept (x', ex, (y, ey, did)) =
       let same : b' ≡ b = same_start b b' v m2.0 is knows.started (ap (λ (z : Held O E F). z.0.start) e) in
       let at' : IsAt history fixed b log x = subst (λ z. IsAt history fixed z log x) same at in
       let first : List (ℕ × O) → O = (λ c. (get_or c 0 (0, x)).1) in
       let xx : x' ≡ x = ap first (sym ex ∙ ap (λ (z : Held O E F). z.1) e) in
       let w : View E F = served_view true log (ticket_view k v) in
       let here : m3.0 ≡ w = kept ∙ ap (λ (z : Held O E F). z.0) e in
-      let gr = grown fits v.name (history x') (history y) grows in
-      let fixed' : fixed y ≡ b.fixed = fx ∙ (ap fixed xx ∙ at'.0) in
-      (b, ap (λ (z : View E F). z.start) here ∙ is, (y, ey, subst (λ z. HasActed history fixed legal fits b z y) (sym here) (fixed', subst (λ z. legal z (history y)) fixed' lawful, (gr.0, gr.1, gr.2 ∙ ap (λ h. h ++ gr.0) (ap history xx ∙ at'.1)))))
+      let gr = grown fits v.name (history x') (history y) did.grows in
+      let fixed' : fixed y ≡ b.fixed = did.same_fixed ∙ (ap fixed xx ∙ at'.0) in
+      (b, ap (λ (z : View E F). z.start) here ∙ is, (y, ey, subst (λ z. HasActed history fixed legal fits b z y) (sym here) (fixed', subst (λ z. legal z (history y)) fixed' did.lawful, (gr.0, gr.1, gr.2 ∙ ap (λ h. h ++ gr.0) (ap history xx ∙ at'.1)))))
 
   ends_from : (t : TableId) (b : Start E F) (v : View E F) (c1 : List (ℕ × O)) (k : ℕ) (m2 m3 m4 : Held O E F) (call : C) (reply : Q) → v.start ≡ Some b → v.named ≡ true → length c1 ≡ 0
       → SeesFrom (ticket_view k v, c1) m2 → m3.0 ≡ m2.0
       → Acts v.name call reply m2 m3
       → Carries m3.1 (λ y. m4 ≡ (view_after (added_since history m3.0.start m3.0.front y) m3.0, []))
       → HasTurn fits answers (pass_view t v) call reply (pass_view t m4.0)
-  ends_from t b v c1 k m2 m3 m4 call reply is named none (b', log, between, x, e, joins, others, at, knows) kept (x', ex, (y, ey, (fx, lawful, grows, answered))) (y', ey', e4) =
+  ends_from t b v c1 k m2 m3 m4 call reply is named none (b', log, between, x, e, joins, others, at, knows) kept (x', ex, (y, ey, did)) (y', ey', e4) =
       let same : b' ≡ b = same_start b b' v m2.0 is knows.started (ap (λ (z : Held O E F). z.0.start) e) in
       let at' : IsAt history fixed b log x = subst (λ z. IsAt history fixed z log x) same at in
       let first : List (ℕ × O) → O = (λ c. (get_or c 0 (0, x)).1) in
@@ -102,7 +102,7 @@ module _ {O C Q E F : Type 0} (history : O → List E) (fixed : O → F) (legal 
       let yy : y' ≡ y = ap first (sym ey' ∙ ey) in
       let w : View E F = served_view true log (ticket_view k v) in
       let here : m3.0 ≡ w = kept ∙ ap (λ (z : Held O E F). z.0) e in
-      let gr = grown fits v.name (history x') (history y) grows in let es : List E = gr.0 in
+      let gr = grown fits v.name (history x') (history y) did.grows in let es : List E = gr.0 in
       let before : history x' ≡ history_after b log = ap history xx ∙ at'.1 in
       let after : history y ≡ history_after b log ++ es = gr.2 ∙ ap (λ h. h ++ es) before in
       let gain : added_since history w.start w.front y ≡ es = added_is history fixed legal fits b w y es is after in
@@ -119,7 +119,7 @@ module _ {O C Q E F : Type 0} (history : O → List E) (fixed : O → F) (legal 
         rest = refl;
         own = calls_of-append v.name log (turns_of v.name es) ∙ (λ i. silent i ++ calls_of-own v.name es i);
         history = sym (history_after_turn history fixed legal fits b log v.name es) ∙ ap (λ l. history_after b l ++ es) (sym joins);
-        answered = subst (λ (z : F × List E × List E). answers z.0 z.1 v.name call reply z.2) (λ i. ((ap fixed xx ∙ at'.0) i, (before ∙ ap (history_after b) (sym joins)) i, (after ∙ history_after_turn history fixed legal fits b log v.name es) i)) answered;
+        answered = subst (λ (z : F × List E × List E). answers z.0 z.1 v.name call reply z.2) (λ i. ((ap fixed xx ∙ at'.0) i, (before ∙ ap (history_after b) (sym joins)) i, (after ∙ history_after_turn history fixed legal fits b log v.name es) i)) did.answered;
       }
 
   module _ (b : Start E F) (v : View E F) (c1 : List (ℕ × O)) (k n : ℕ) (m1 m2 : Held O E F) (call : C) (is : v.start ≡ Some b) (named : v.named ≡ true) (called : v.name ≡ n) (none : length c1 ≡ 0) (drawn : m1 ≡ (ticket_view k v, c1)) (sees : SeesFrom m1 m2) where

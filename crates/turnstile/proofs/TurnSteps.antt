@@ -1,5 +1,5 @@
 -- The steps of a turn keep the rule.
-use Rattle.std.proofs.Common.{◌≡◌, ◌≢◌, ◌⊎◌, ℕ, zero, suc, ◌+◌, ◌-◌, ◌<◌, ◌≤◌, eqb, Bool, true, false, List, [], ◌∷◌, ◌++◌, length, drop, get_or, set, All, Some, None, refl, sym, ap, ◌∙◌, subst, inl, inr, ⊎_elim, arith, append_assoc, append-nil, true≢false, le_refl, replicate, length-set, get_or-set_same, get_or-set_other, if◌then◌else◌}
+use Rattle.std.proofs.Common.{◌≡◌, ◌≢◌, ℕ, ◌+◌, ◌<◌, eqb, Bool, true, false, List, [], ◌∷◌, ◌++◌, length, drop, get_or, set, Some, None, refl, sym, ap, ◌∙◌, subst, inl, inr, ⊎_elim, arith, append_assoc, append-nil, true≢false, le_refl}
 use mathlib.Core.Option as maybe
 use mathlib.Core.Option.{some, none, some-injective, some-ne-none}
 use mathlib.Core.List.{IsPrefix}
@@ -7,26 +7,25 @@ use mathlib.Core.Logic.{dite}
 use native.Mathlib.Decide.{ℕ_discrete}
 use lib.ListN.{get_elem?}
 use lib.Seq.{set-get_or, drop_at}
-use lib.ListN.{length-replicate}
 use prog.Atomic.{either}
-use Rattle.atomic_table.specs.Table.{State, Me, Act, Valid, carried_after, step, keeps, takes, gives, stepped, Allows, Splits, Joins, Final, Seen, rest, opening}
-use Rattle.atomic_table.proofs.Lists.{at_set, set_else, set_again, at_snoc, at_longer, exchanged}
+use Rattle.atomic_table.specs.Table.{State, Me, Act, Valid, carried_after, step, keeps, takes, gives, stepped, Allows, Final, Seen}
+use Rattle.atomic_table.proofs.Lists.{set_else, exchanged}
 use Rattle.std.proofs.lemmas.Option.{none-some, same_Some}
-use Rattle.std.proofs.lemmas.Bool.{cases_Bool, cases_lt, lt-ltb, le-ltb}
-use Rattle.std.proofs.lemmas.List.Elements.{All-nil, All-cons, All-push, All-append}
-use Rattle.turnstile.specs.TurnHistory.{entries, calls_of, turns_of, longer}
+use Rattle.std.proofs.lemmas.Bool.{cases_Bool}
+use Rattle.std.proofs.lemmas.List.Elements.{All-push}
+use Rattle.turnstile.specs.TurnHistory.{entries, calls_of, turns_of}
 use Rattle.turnstile.specs.TurnObject.{IsGain}
 use Rattle.turnstile.specs.Start.{history_after, IsSound}
-use Rattle.turnstile.specs.View.{pass_view, first_view, ticket_view, served_view, view_after, named_view, refused_view, nameless_view, ended_with, joined_view, returned_view, spent_view}
+use Rattle.turnstile.specs.View.{pass_view, ticket_view, served_view, view_after}
 use Rattle.turnstile.specs.Rule.{Fits, IsAt, IsHome, IsAway, IsRuled}
-use Rattle.turnstile.specs.Steps.{Knows, DrawsTicket, TakesName, LearnsTruth, added_since, EndsTurn, Sees, SeesTurn, SeesLastTurn, Carries, HasActed}
-use Rattle.turnstile.proofs.Views.{false≢true, set_at, set_swap, longer_begins, All_with_name, OneTicket, OneName, Over, Alike, Back, back_set, one_name_back, over_back, each_set, one_ticket_set, one_name_set, Unlike, over_set, refit, refit_same}
-use Rattle.turnstile.proofs.Ruled.{same_state, knows_of, object_stays}
+use Rattle.turnstile.specs.Steps.{Knows, DrawsTicket, added_since, EndsTurn, Sees, SeesTurn, SeesLastTurn, Carries, HasActed}
+use Rattle.turnstile.proofs.Views.{false≢true, set_at, back_set, one_name_back, over_back, each_set, one_ticket_set, refit, refit_same}
+use Rattle.turnstile.proofs.Ruled.{same_state, object_stays}
 use Rattle.turnstile.specs.Pass.{Closes}
 use Rattle.atomic_table.specs.Seated.{TableId}
 use Rattle.turnstile.specs.declared.view.Start.{Start}
 use Rattle.turnstile.specs.declared.view.View.{View}
-use Rattle.turnstile.proofs.Logs.{nil_of-append, prefix_self, prefix_then, prefix_snoc, prefix_shorter, All_prefix, calls_of-append, calls_of-own, calls_of-other, silent, between, within, entries-append, entries-own}
+use Rattle.turnstile.proofs.Logs.{prefix_self, prefix_snoc, calls_of-append, calls_of-own, calls_of-other, silent, between, entries-append, entries-own}
 
 module _ {O E F : Type 0} (history : O → List E) (fixed : O → F) (legal : F → List E → Type 0) (fits : ℕ → E → Type 0) (b : Start E F) where
   abbrev V : Type 0
@@ -38,7 +37,7 @@ module _ {O E F : Type 0} (history : O → List E) (fixed : O → F) (legal : F 
   abbrev Rule : St → Type 0
   Rule = IsRuled history fixed legal fits b
 
-  -- who has the ticket that is served_view, and has not the object out
+  -- where a view has the ticket that is served and is not on turn, the object is home
   home_of : (s : St) (r : Rule s) (id : ℕ) (v : V) → get_elem? s.views id ≡ some v → v.waits ≡ true → v.turn ≡ false → v.ticket ≡ r.serving → IsHome history fixed b r.log s.homes s.views
   home_of s r id v at waits turn mine = ⊎_elim (λ (h : IsHome history fixed b r.log s.homes s.views). h)
       (λ (a : IsAway s.homes s.views). let j = a.1.0 in let w = a.1.1 in let f = r.each j w a.1.2 in let k = f.whole (f.turn a.1.3) in
@@ -52,7 +51,7 @@ module _ {O E F : Type 0} (history : O → List E) (fixed : O → F) (legal : F 
   at_serving : (s : St) (r : Rule s) → get_or s.words 1 0 ≡ r.serving
   at_serving s r = ap (λ (ws : List ℕ). get_or ws 1 0) r.words
 
-  -- K1
+  -- a ticket is drawn
   pub draws_keep : (slots id old : ℕ) (me : Me O V) → me.0.turn ≡ false → Allows Rule slots id me 0 (λ n. either (eqb n old) (old + 1) n) (DrawsTicket (step slots 0 old (old + 1) none) me)
   draws_keep slots id old me turn s r _ at _ = exchanged (get_or s.words 0 0) old (old + 1)
       (λ n. (w : V) × (a : Act O) × Valid s.homes me.1 a × Rule (stepped s 0 n id me.1 w a) × DrawsTicket (step slots 0 old (old + 1) none) me (get_or s.words 0 0) (w, carried_after me.1 a))
@@ -93,7 +92,7 @@ module _ {O E F : Type 0} (history : O → List E) (fixed : O → F) (legal : F 
       ))
       (λ miss. (me.0, keeps, tt, same_state history fixed legal fits b s r 0 id me.1 me.0 at, ((λ hit. absurd (miss hit)), λ _. refl)))
 
-  -- what the view knows whose ticket is served_view
+  -- the view whose ticket is served fits, and what it says is true
   served_fits : (s : St) (r : Rule s) (turn : Bool) (v : V) → Fits b r.log r.ticket r.serving r.marks v → v.waits ≡ true → v.ticket ≡ r.serving → Fits b r.log r.ticket r.serving r.marks (served_view turn r.log v)
   served_fits s r turn v f waits mine = record {
     started = f.started;
@@ -116,7 +115,7 @@ module _ {O E F : Type 0} (history : O → List E) (fixed : O → F) (legal : F 
     ended = λ k z l. (f.ended k z l).2;
   }
 
-  -- K2, where the ticket is served_view
+  -- the object comes out to the seat whose ticket is served
   sees_keep : (s : St) (r : Rule s) (id : ℕ) (me : Me O V) (c : Start E F) → get_elem? s.views id ≡ some me.0 → me.0.start ≡ Some c → me.0.waits ≡ true → me.0.turn ≡ false → me.0.ticket ≡ r.serving
       → (w : V) × (a : Act O) × Valid s.homes me.1 a × Rule (stepped s 1 (get_or s.words 1 0) id me.1 w a) × Sees history fixed legal fits (λ x. (0, x) ∷ me.1) me (w, carried_after me.1 a)
   sees_keep s r id me c at is waits turn mine = let h = home_of s r id me.0 at waits turn mine in let x = h.0 in let w : V = served_view true r.log me.0 in let f = r.each id me.0 at in (
@@ -171,7 +170,7 @@ module _ {O E F : Type 0} (history : O → List E) (fixed : O → F) (legal : F 
   homes_home s r x = ⊎_elim (λ (h : IsHome history fixed b r.log s.homes s.views). ap (λ (hs : List (maybe.Option O)). set hs 0 (some x)) h.1)
       (λ (a : IsAway s.homes s.views). ap (λ (hs : List (maybe.Option O)). set hs 0 (some x)) a.0) r.object
 
-  -- K5 and K6
+  -- the object goes home with one entry more or none, and the next ticket is served
   pub ends_keep : (slots id : ℕ) (v : V) (x : O) (es : List E) (new : ℕ) → v.start ≡ Some b → v.turn ≡ true → v.named ≡ true → new ≡ v.ticket + 1
       → fixed x ≡ b.fixed → history x ≡ history_after b (v.front ++ turns_of v.name es) → added_since history v.start v.front x ≡ es → IsGain fits v.name es → legal b.fixed (history_after b (v.front ++ turns_of v.name es))
       → Allows Rule slots id (v, (0, x) ∷ []) 1 (λ _. new) (λ _. EndsTurn history legal fits (step slots 1 new 0 none) (v, (0, x) ∷ []) new)
@@ -236,7 +235,7 @@ module _ {O E F : Type 0} (history : O → List E) (fixed : O → F) (legal : F 
       subst (λ c. Allows Rule slots id (v, c) 1 (λ _. new) (λ _. EndsTurn history legal fits (step slots 1 new 0 none) (v, c) new)) (sym e)
       (ends_keep slots id v x es new is turn named next same after (added_is v x es is grown) adds (subst (legal b.fixed) after lawful))
 
-  -- the base that a view knows is that of the table
+  -- the start that a view knows is that of the table
   start_is : (s : St) (r : Rule s) (id : ℕ) (v : V) (c : Start E F) → get_elem? s.views id ≡ some v → v.start ≡ Some c → c ≡ b
   start_is s r id v c at is = ⊎_elim (λ (e : v.start ≡ None). absurd (none-some c (sym e ∙ is))) (λ (e : v.start ≡ Some b). same_Some c b (sym is ∙ e)) (r.each id v at).started
 
@@ -245,7 +244,7 @@ module _ {O E F : Type 0} (history : O → List E) (fixed : O → F) (legal : F 
   after_keeps slots id v c new a is turn named next carries s r long at small = let same = start_is s r id v a at is in
       after_here slots id v c new (subst (λ z. v.start ≡ Some z) same is) turn named next (subst (λ z. Carries c (λ y. HasActed history fixed legal fits z v y)) same carries) s r long at small
 
-  -- the last turn, in which the object stays at home
+  -- the look of the last turn, in which the object stays home
   pub closes_keep : (slots id : ℕ) (me : Me O V) → me.0.waits ≡ true → me.0.turn ≡ false → Allows Rule slots id me 1 (λ n. n) (SeesLastTurn (step slots 1 0 0 none) me)
   closes_keep slots id me waits turn s r _ at _ = dite (ℕ_discrete (get_or s.words 1 0) me.0.ticket)
       (λ hit. let w : V = served_view false r.log me.0 in let f = r.each id me.0 at in let mine : me.0.ticket ≡ r.serving = sym hit ∙ at_serving s r in (

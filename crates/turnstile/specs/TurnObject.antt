@@ -14,3 +14,10 @@ abbrev pub OutlastsOthers : {C E F : Type 0} → (F → List E → Type 0) → (
 OutlastsOthers {C} {E} {F} legal fits may =
     (fixed : F) (history : List E) (name other : ℕ) (call : C) (entry : E)
     → may fixed history name call → other ≢ name → fits other entry → legal fixed (history ++ entry ∷ []) → may fixed (history ++ entry ∷ []) name call
+
+-- the object was `before`, and is `after` since this call under this name: its fixed part is the same, its history is legal, grew by one entry or none, and the reply answers the call
+pub record IsActed {O C R E F : Type 0} (history : O → List E) (fixed : O → F) (legal : F → List E → Type 0) (fits : ℕ → E → Type 0) (answers : F → List E → ℕ → C → R → List E → Type 0) (name : ℕ) (call : C) (reply : R) (before after : O) : Type 0 where
+  pub same_fixed : fixed after ≡ fixed before
+  pub lawful : legal (fixed after) (history after)
+  pub grows : Grows (fits name) (history before) (history after)
+  pub answered : answers (fixed before) (history before) name call reply (history after)

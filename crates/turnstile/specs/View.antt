@@ -1,5 +1,5 @@
 -- The views of a turnstile's table, and what each step makes of them. No program has one.
-use Rattle.std.specs.Prelude.{◌≡◌, if◌then◌else◌, ℕ, Bool, true, false, List, [], ◌∷◌, ◌++◌, map, Option, Some, None}
+use Rattle.std.specs.Prelude.{if◌then◌else◌, ℕ, Bool, true, false, List, [], ◌∷◌, ◌++◌, map, Option, Some, None}
 use Rattle.atomic_table.specs.Seated.{TableId}
 use Rattle.turnstile.specs.TurnHistory.{turns_of, longer}
 use Rattle.turnstile.specs.Pass.{PassView}

@@ -1,7 +1,7 @@
 //! The steps of a turn, each one atomic step on a word or work on the object while it is out.
 ghost use Rattle.std.specs.Prelude.{◌≡◌, ◌+◌, ◌<◌, ◌^◌, ◌∷◌, [], true, false, Some, is_some};
 ghost use mathlib.Core.List.{IsPrefix};
-ghost use Rattle.turnstile.specs.TurnObject.{Grows};
+ghost use Rattle.turnstile.specs.TurnObject.{IsActed};
 ghost use Rattle.turnstile.specs.View.{pass_view, ticket_view, served_view, view_after};
 ghost use Rattle.turnstile.specs.Steps.{Carries, HasActed, IsIdle, Knows, Sees, added_since};
 ghost use Rattle.turnstile.specs.Pass.{MayCall, HasTurn};
@@ -92,7 +92,7 @@ impl<H: TurnObject> Turnstile<H> {
         requires table { seat.old.table_id ≡ self.now.id }
         requires may { Carries seat.old.me.1 (λ x. H.legal (H.fixed x) (H.history x) × H.may (H.fixed x) (H.history x) name call) }
         ensures table { (seat.new.table_id ≡ seat.old.table_id) × (seat.new.id ≡ seat.old.id) × (seat.new.me.0 ≡ seat.old.me.0) }
-        ensures acts { Carries seat.old.me.1 (λ x. Carries seat.new.me.1 (λ y. (H.fixed y ≡ H.fixed x) × H.legal (H.fixed y) (H.history y) × Grows (H.fits name) (H.history x) (H.history y) × H.answers (H.fixed x) (H.history x) name call result (H.history y))) }
+        ensures acts { Carries seat.old.me.1 (λ before. Carries seat.new.me.1 (IsActed H.history H.fixed H.legal H.fits H.answers name call result before)) }
     {
         let object = seat.slot_mut(&self.table.shared, 0);
         object.act(name, call)

@@ -1,4 +1,4 @@
-use Rattle.std.proofs.Common.{rules, ℕ, ◌≡◌, All, subst, ap, ◌∙◌}
+use Rattle.std.proofs.Common.{rules, ℕ, ◌≡◌, All, subst}
 use Rattle.std.proofs.lemmas.List.Elements.{All-tail}
 use Rattle.turnstile.specs.Pass.{PassView}
 use Rattle.turnstile.proofs.tests.join_all.Goals as goal

@@ -4,7 +4,7 @@ use Rattle.turnstile.specs.Rule.{IsRuled}
 use Rattle.turnstile.specs.View.{first_view}
 use Rattle.turnstile.specs.Key.{start_for}
 use Rattle.turnstile.proofs.PassSteps.{opens, first_words}
-use Rattle.turnstile.proofs.Passes.{opened_pass, first_sound}
+use Rattle.turnstile.proofs.Passes.{first_pass_knows, first_sound}
 use Rattle.turnstile.proofs.lock.Turnstile.new.Goals as goal
 
 pub new-requires : goal.new-requires
@@ -18,7 +18,7 @@ new-requires g c = let t = g.H.TurnObject in let b = start_for t.history t.fixed
 
 pub invariant_of-result-in-Ok : goal.invariant_of-result-in-Ok
 invariant_of-result-in-Ok g c = let t = g.H.TurnObject in let b = start_for t.history t.fixed (record { names = c.args.names; object = c.of.result }) in let same : c.of.result.value ≡ c.args.object = search rules in
-    opened_pass t.legal t.fits b c.in-Ok.seat.me (search rules) (omega (arith, c.requires.names)) (subst (λ x. t.legal (t.fixed x) (t.history x)) (sym same) c.requires.legal)
+    first_pass_knows t.legal t.fits b c.in-Ok.seat.me (search rules) (omega (arith, c.requires.names)) (subst (λ x. t.legal (t.fixed x) (t.history x)) (sym same) c.requires.legal)
 
 pub returns-in-Ok-clause-sound : goal.returns-in-Ok-clause-sound
 returns-in-Ok-clause-sound g c = let t = g.H.TurnObject in let b = start_for t.history t.fixed (record { names = c.args.names; object = c.of.result }) in let same : c.of.result.value ≡ c.args.object = search rules in
