@@ -1,0 +1,26 @@
+use Rattle.std.proofs.Common.{rules, ◌≡◌, ℕ, ◌<◌, List, [], ap, ◌∙◌, take, drop, length, length-drop, refl, arith, zero, suc}
+use Rattle.std.specs.Io.KnownBytes.{append_known}
+use Rattle.io_edge.specs.declared.sink.Put.TheVariants.{Took}
+use Rattle.io_edge.proofs.Pieces.{append_known-take}
+use Rattle.io_edge.proofs.sink.write_all.Goals as goal
+
+-- a count is not 0 where 0 would mean an empty piece
+is_some : (n : ℕ) (piece : List ℕ) → 0 < length piece → (n ≡ 0 → piece ≡ []) → 0 < n
+is_some zero piece any none = absurd (omega (arith, ap length (none refl)))
+is_some (suc n) piece any none = omega arith
+
+pub loop-done-preserved : goal.loop-done-preserved
+loop-done-preserved g c =
+    let wrote = c.in-Took.ensures in
+    let done = c.loop-done.done in
+    let n = c.in-Took.n in
+    let text = c.args.text.now in
+    let rest : c.split_at.result.1.now ≡ drop done text = search rules in
+    let left : length c.split_at.result.1.now ≡ length (drop done text) = ap length rest in
+    let some : 0 < n = is_some n c.split_at.result.1.now (omega (arith, length-drop done text)) (λ none. wrote.some (ap Took none)) in
+    record {
+      within = omega (arith, wrote.fits, length-drop done text);
+      held = wrote.held ∙ ap (λ r. append_known (g.K.Sink.held c.loop-done.sink) (take n r)) rest ∙ ap (λ h. append_known h (take n (drop done text))) c.loop-done.invariant.held ∙ append_known-take (g.K.Sink.held c.args.sink.now) done n text;
+      count = omega (arith, wrote.count);
+      untouched = λ none. absurd (omega arith);
+    }

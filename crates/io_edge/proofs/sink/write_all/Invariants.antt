@@ -1,0 +1,15 @@
+use Rattle.std.proofs.Common.{◌≡◌, ◌≤◌, ◌-◌, length, take}
+use Rattle.std.specs.Io.KnownBytes.{append_known}
+use Rattle.io_edge.proofs.sink.write_all.Given as goal
+
+abbrev pub invariant-loop-done : goal.invariant-loop-done
+invariant-loop-done g l = record {
+  within : l.done ≤ length l.text;
+  held : g.K.Sink.held l.sink ≡ append_known (g.K.Sink.held l.initial.sink) (take l.done l.text);
+  count : g.K.Sink.faults l.initial.sink ≤ g.K.Sink.faults l.sink;
+  untouched : l.done ≡ 0 → l.sink ≡ l.initial.sink;
+}
+
+-- each turn gives a byte at least
+abbrev pub decreases-loop-done : goal.decreases-loop-done
+decreases-loop-done g l = length l.text - l.done

@@ -1,0 +1,57 @@
+//! Writing a whole text to a sink.
+
+ghost use Rattle.std.specs.Prelude.{◌≡◌, ℕ, ◌<◌, ◌≤◌, List, [], length, take, Option, OnOk, OnErr};
+ghost use Rattle.std.specs.Io.KnownBytes.{append_known};
+ghost use Rattle.io_edge.specs.Faults.{Rose};
+ghost use Rattle.io_edge.specs.Writing.{taken_count, WritesPart};
+
+/// What one call of [`Sink::write`] did.
+#[derive(Clone, Copy, Debug, PartialEq, Eq)]
+pub enum Put {
+    /// It took so many bytes, from the front of the piece.
+    Took(usize),
+    /// It took nothing, because of a fault.
+    Failed,
+}
+
+/// Takes bytes in order, a piece at a time, as `std::io::Write` does.
+pub trait Sink {
+    /// The bytes that it holds, in the order in which they came, where the sink tells them.
+    ghost held: { Self → Option (List ℕ) };
+
+    /// How often it has failed. A count at the end of a `u64` stays there.
+    ghost faults: { Self → ℕ };
+
+    /// Takes a front of the piece, and some of it where the piece has any byte. A sink that can take
+    /// nothing of it fails.
+    fn write(&mut self, piece: &[u8]) -> Put
+        ensures fits { taken_count result ≤ length piece.now }
+        ensures some { result ≡ Put.Took 0 → piece.now ≡ [] }
+        ensures held { held self.new ≡ append_known (held self.old) (take (taken_count result) piece.now) }
+        ensures failed { result ≡ Put.Failed → Rose (faults self.old) (faults self.new) }
+        ensures count { faults self.old ≤ faults self.new };
+}
+
+/// The sink failed before it had taken the last byte.
+#[derive(Clone, Copy, Debug, PartialEq, Eq)]
+pub struct Unwritten;
+
+/// Writes all of the text, in as many calls as the sink wants. After `Unwritten` the sink holds a
+/// front of it. An empty text is written without a call.
+pub fn write_all<K: Sink>(sink: &mut K, text: &[u8]) -> Result<(), Unwritten>
+    ensures written { OnOk result (K.held sink.new ≡ append_known (K.held sink.old) text.now) }
+    ensures unwritten { OnErr result (WritesPart text.now (K.held sink.old) (K.held sink.new)) }
+    ensures failed { OnErr result (Rose (K.faults sink.old) (K.faults sink.new)) }
+    ensures count { K.faults sink.old ≤ K.faults sink.new }
+    ensures empty { text.now ≡ [] → sink.new ≡ sink.old }
+{
+    let mut done = 0;
+    while done < text.len() {
+        let (_, rest) = text.split_at(done);
+        match sink.write(rest) {
+            Put::Took(n) => done += n,
+            Put::Failed => return Err(Unwritten),
+        }
+    }
+    Ok(())
+}

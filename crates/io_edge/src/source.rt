@@ -1,0 +1,80 @@
+//! Reading a source to its end.
+
+ghost use Rattle.std.specs.Prelude.{◌≡◌, ℕ, ◌+◌, ◌≤◌, List, length, take, Option, OnErr};
+ghost use Rattle.std.specs.Io.KnownBytes.{prepend_known, IsAtEnd};
+ghost use Rattle.io_edge.specs.Faults.{Rose};
+ghost use Rattle.io_edge.specs.Reading.{given_count, SaysEnd, Takes, TakesAtMost, TakesAll, IfWhole};
+
+use std::alloc::{AllocError, Global};
+
+/// What one call of [`Source::read`] gave.
+#[derive(Clone, Copy, Debug, PartialEq, Eq)]
+pub enum Got {
+    /// So many bytes, at the front of the buffer. None in a buffer that has room means the end.
+    Bytes(usize),
+    /// Nothing, as nothing is left.
+    End,
+    /// Nothing, because of a fault.
+    Failed,
+}
+
+/// Gives bytes in order, a piece at a time, as `std::io::Read` does.
+pub trait Source {
+    /// The bytes that are left, where the source tells them.
+    ghost left: { Self → Option (List ℕ) };
+
+    /// How often it has failed. A count at the end of a `u64` stays there.
+    ghost faults: { Self → ℕ };
+
+    /// Moves the next bytes that are left to the front of the buffer.
+    fn read(&mut self, buffer: &mut [u8]) -> Got
+        ensures fits { given_count result ≤ length buffer.new }
+        ensures given { left self.old ≡ prepend_known (take (given_count result) buffer.new) (left self.new) }
+        ensures end { SaysEnd result (length buffer.new) → IsAtEnd (left self.new) }
+        ensures failed { result ≡ Got.Failed → Rose (faults self.old) (faults self.new) }
+        ensures count { faults self.old ≤ faults self.new };
+}
+
+/// What [`read_up_to`] read.
+#[derive(Debug, Drop)]
+pub enum Input {
+    /// All there was, up to the end.
+    Whole(Vec<u8>),
+    /// There was more than the caller wanted.
+    TooLong,
+    /// The source failed before its end.
+    Failed,
+}
+
+/// The room that one call of [`Source::read`] is given, in bytes.
+const PIECE: usize = 4096;
+
+/// Reads until the source ends, fails, or has given `most + 1` bytes, which is one too many. The one
+/// error is want of memory.
+pub fn read_up_to<S: Source>(
+    alloc: Global,
+    source: &mut S,
+    most: usize,
+) -> Result<Input, AllocError>
+    ensures whole { IfWhole result (λ bytes. TakesAll bytes (S.left source.old) (S.left source.new)) }
+    ensures short { IfWhole result (λ bytes. length bytes ≤ most) }
+    ensures too_long { result ≡ Ok Input.TooLong → Takes (most + 1) (S.left source.old) (S.left source.new) }
+
+    ensures failed { result ≡ Ok Input.Failed → Rose (S.faults source.old) (S.faults source.new) }
+    ensures taken_before { result ≡ Ok Input.Failed → TakesAtMost most (S.left source.old) (S.left source.new) }
+    ensures count { S.faults source.old ≤ S.faults source.new }
+
+    ensures memory { OnErr result (TakesAtMost (most + 1) (S.left source.old) (S.left source.new)) }
+{
+    let mut bytes = Vec::new(alloc);
+    let mut piece = [0; PIECE];
+    while bytes.len() <= most {
+        let room = (most - bytes.len()).min(PIECE - 1) + 1;
+        match source.read(&mut piece[..room]) {
+            Got::End | Got::Bytes(0) => return Ok(Input::Whole(bytes)),
+            Got::Bytes(n) => bytes.extend_from_slice(&piece[..n])?,
+            Got::Failed => return Ok(Input::Failed),
+        }
+    }
+    Ok(Input::TooLong)
+}
