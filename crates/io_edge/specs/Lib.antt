@@ -1,4 +1,6 @@
 pub mod Faults
 pub mod Reading
 pub mod Writing
-pub mod Memory
+pub mod Calls
+pub mod MemSource
+pub mod MemSink

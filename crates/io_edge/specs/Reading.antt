@@ -1,6 +1,5 @@
 -- What reading takes from a source that tells what it has left.
-use Rattle.std.specs.Prelude.{◌≡◌, ℕ, ◌≤◌, ◌<◌, ⊤, List, [], length, take, Option, Some, None, Result, Ok, Err, alloc_error}
-use Rattle.std.specs.Io.KnownBytes.{prepend_known}
+use Rattle.std.specs.Prelude.{◌≡◌, ℕ, ◌≤◌, ◌<◌, ⊤, List, [], length, drop, Option, Some, None, IfSome, option_map, Result, Ok, Err}
 use Rattle.std.specs.declared.alloc.AllocError.{AllocError}
 use Rattle.io_edge.specs.declared.source.Got.{Got}
 use Rattle.io_edge.specs.declared.source.Got.TheVariants.{Bytes, End, Failed}
@@ -19,13 +18,13 @@ SaysEnd (Bytes n) room = (n ≡ 0) × (0 < room)
 SaysEnd End room = ⊤
 SaysEnd Failed room = ⊥
 
--- exactly so many bytes were taken from the front of what was left
+-- the first so many bytes of what was left were taken
 abbrev pub Takes : ℕ → Option (List ℕ) → Option (List ℕ) → Type 0
-Takes count before after = (taken : List ℕ) × (length taken ≡ count) × (before ≡ prepend_known taken after)
+Takes count before after = IfSome before (λ left. count ≤ length left) × (after ≡ option_map (drop count) before)
 
--- so many bytes or fewer were taken from the front of what was left
+-- the same of so many bytes or fewer
 abbrev pub TakesAtMost : ℕ → Option (List ℕ) → Option (List ℕ) → Type 0
-TakesAtMost limit before after = (taken : List ℕ) × (length taken ≤ limit) × (before ≡ prepend_known taken after)
+TakesAtMost limit before after = (count : ℕ) × (count ≤ limit) × Takes count before after
 
 -- these bytes were all that was left, and nothing is left now
 abbrev pub TakesAll : List ℕ → Option (List ℕ) → Option (List ℕ) → Type 0

@@ -2,8 +2,20 @@
 //! end, and a loop that writes a whole text to a sink.
 #![tactic(auto)]
 
+mod failing_calls;
+mod mem_sink;
+mod mem_source;
 mod sink;
 mod source;
+mod std_sink;
+mod std_source;
 
+pub use mem_sink::MemSink;
+pub use mem_source::MemSource;
 pub use sink::{Put, Sink, Unwritten, write_all};
 pub use source::{Got, Input, Source, read_up_to};
+pub use std_sink::StdSink;
+pub use std_source::StdSource;
+
+#[cfg(test)]
+mod tests;

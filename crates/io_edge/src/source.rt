@@ -36,7 +36,7 @@ pub trait Source {
 }
 
 /// What [`read_up_to`] read.
-#[derive(Debug, Drop)]
+#[derive(Debug, PartialEq, Eq, Drop)]
 pub enum Input {
     /// All there was, up to the end.
     Whole(Vec<u8>),

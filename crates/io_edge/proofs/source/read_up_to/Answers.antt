@@ -1,6 +1,6 @@
-use Rattle.std.proofs.Common.{rules, ◌≡◌, ◌++◌, ◌+◌, ◌-◌, ◌≤◌, ◌∙◌, ap, take, length, length-append, length-take, length-take-le, arith}
+use Rattle.std.proofs.Common.{rules, ◌≡◌, ◌++◌, ◌+◌, ◌-◌, ◌≤◌, take, length, length-append, length-take, length-take-le, arith}
 use Rattle.std.proofs.lemmas.Result.{err_from_is_err_and}
-use Rattle.io_edge.proofs.Pieces.{takes_more}
+use Rattle.io_edge.proofs.Pieces.{takes_more, takes_front}
 use Rattle.io_edge.proofs.source.read_up_to.Goals as goal
 
 pub returns-in_err-extend_from_slice-in-Bytes-clause-memory :
@@ -12,7 +12,7 @@ returns-in_err-extend_from_slice-in-Bytes-clause-memory g c =
     let fits : c.in-Bytes.n ≤ length c.read.new.buffer = c.in-Bytes.ensures.fits in
     let room : length c.read.new.buffer ≤ c.args.most - length bytes + 1 = omega (arith, c.read.auto.buffer, length-take (c.min-room.result + 1) c.loop-piece.piece, c.loop-piece.bytes.ok.0) in
     rw p.1 (
-      bytes ++ piece,
+      length (bytes ++ piece),
       omega (arith, length-append bytes piece, length-take-le c.in-Bytes.n c.read.new.buffer fits, c.loop-piece.bytes.ok.0),
-      takes_more bytes piece _ _ _ c.loop-piece.invariant.taken c.in-Bytes.ensures.given,
+      takes_front (bytes ++ piece) _ _ (takes_more bytes piece _ _ _ c.loop-piece.invariant.taken c.in-Bytes.ensures.given),
     )

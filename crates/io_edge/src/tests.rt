@@ -1,0 +1,150 @@
+ghost use Rattle.std.specs.Prelude.{◌≤◌};
+
+use super::*;
+use std::alloc::{AllocError, Global};
+use std::io;
+use std::io::{Cursor, ErrorKind, Read, Write};
+use std::test::Fail;
+
+fn source(
+    alloc: Global,
+    text: &[u8],
+    piece: usize,
+    failing: &[u64],
+) -> Result<MemSource, AllocError>
+    requires { 1 ≤ piece }
+{
+    let bytes = text.to_vec(alloc)?;
+    Ok(MemSource::new(bytes, piece, failing.to_vec(alloc)?))
+}
+
+fn sink(alloc: Global, piece: usize, failing: &[u64]) -> Result<MemSink, AllocError>
+    requires { 1 ≤ piece }
+{
+    Ok(MemSink::new(alloc, piece, failing.to_vec(alloc)?))
+}
+
+#[test]
+fn reads_what_there_is(rt: HostRuntime) -> Result<(), Fail> {
+    let alloc = rt.alloc();
+    for (text, most) in [(b"".as_slice(), 0), (b"", 9), (b"abc", 3), (b"abc", 9)] {
+        for piece in 1..5 {
+            let mut from = source(alloc, text, piece, &[])?;
+            let input = read_up_to(alloc, &mut from, most)?;
+            assert_eq!(rt;
+                input,
+                Input::Whole(text.to_vec(alloc)?),
+                "in pieces of {piece}"
+            );
+        }
+    }
+    Ok(())
+}
+
+#[test]
+fn takes_one_byte_too_many(rt: HostRuntime) -> Result<(), Fail> {
+    let alloc = rt.alloc();
+    for piece in 1..7 {
+        let mut from = source(alloc, b"abcdef", piece, &[])?;
+        assert_eq!(rt;
+            read_up_to(alloc, &mut from, 3)?,
+            Input::TooLong,
+            "in pieces of {piece}"
+        );
+        let rest = read_up_to(alloc, &mut from, 3)?;
+        assert_eq!(rt;
+            rest,
+            Input::Whole(b"ef".to_vec(alloc)?),
+            "in pieces of {piece}"
+        );
+    }
+    Ok(())
+}
+
+#[test]
+fn reads_more_than_one_buffer(rt: HostRuntime) -> Result<(), Fail> {
+    let alloc = rt.alloc();
+    let text = vec![in alloc; b'x'; 10_000]?;
+    let mut from = source(alloc, &text, 100_000, &[])?;
+    assert_eq!(rt; read_up_to(alloc, &mut from, 10_000)?, Input::Whole(text));
+    Ok(())
+}
+
+/// Three reads give a byte each, and the fourth sees the end.
+#[test]
+fn fails_with_the_read(rt: HostRuntime) -> Result<(), Fail> {
+    let alloc = rt.alloc();
+    for (call, want) in [(0, true), (1, true), (2, true), (3, true), (4, false)] {
+        let mut from = source(alloc, b"abc", 1, &[call])?;
+        let input = read_up_to(alloc, &mut from, 9)?;
+        assert_eq!(rt; input == Input::Failed, want, "call {call}");
+    }
+    let mut from = source(alloc, b"abc", 1, &[3])?;
+    assert_eq!(rt; read_up_to(alloc, &mut from, 2)?, Input::TooLong);
+    Ok(())
+}
+
+#[test]
+fn writes_all(rt: HostRuntime) -> Result<(), Fail> {
+    let alloc = rt.alloc();
+    for piece in 1..6 {
+        let mut to = sink(alloc, piece, &[])?;
+        assert_eq!(rt; write_all(&mut to, b"abcd"), Ok(()), "in pieces of {piece}");
+        assert_eq!(rt; write_all(&mut to, b"ef"), Ok(()), "in pieces of {piece}");
+        assert_eq!(rt; to.held(), b"abcdef".as_slice(), "in pieces of {piece}");
+    }
+    Ok(())
+}
+
+#[test]
+fn writes_a_front_where_a_write_fails(rt: HostRuntime) -> Result<(), Fail> {
+    let alloc = rt.alloc();
+    for (call, front) in [(0, b"".as_slice()), (1, b"ab"), (2, b"abcd")] {
+        let mut to = sink(alloc, 2, &[call])?;
+        assert_eq!(rt; write_all(&mut to, b"abcde"), Err(Unwritten), "call {call}");
+        assert_eq!(rt; to.held(), front, "call {call}");
+    }
+    let mut to = sink(alloc, 2, &[3])?;
+    assert_eq!(rt; write_all(&mut to, b"abcde"), Ok(()));
+    let mut untouched = sink(alloc, 2, &[0])?;
+    assert_eq!(rt; write_all(&mut untouched, b""), Ok(()));
+    Ok(())
+}
+
+/// A reader and a writer that always fail.
+#[derive(Drop)]
+struct Broken;
+
+impl Read for Broken {
+    fn read(&mut self, _: &mut [u8]) -> io::Result<usize> {
+        Err(io::Error::from(ErrorKind::Interrupted))
+    }
+}
+
+impl Write for Broken {
+    fn write(&mut self, _: &[u8]) -> io::Result<usize> {
+        Err(io::Error::from(ErrorKind::BrokenPipe))
+    }
+
+    fn flush(&mut self) -> io::Result<()> {
+        Ok(())
+    }
+}
+
+#[test]
+fn adapts_readers_and_writers(rt: HostRuntime) -> Result<(), Fail> {
+    let alloc = rt.alloc();
+    let mut from = StdSource::new(Cursor::new(b"abc".to_vec(alloc)?));
+    let input = read_up_to(alloc, &mut from, 9)?;
+    assert_eq!(rt; input, Input::Whole(b"abc".to_vec(alloc)?));
+    let mut broken = StdSource::new(Broken);
+    assert_eq!(rt; read_up_to(alloc, &mut broken, 9)?, Input::Failed);
+
+    let mut to = StdSink::new(io::writer(&rt));
+    assert_eq!(rt; write_all(&mut to, b"written\n"), Ok(()));
+    let mut full = StdSink::new(Cursor::new([0; 2]));
+    assert_eq!(rt; write_all(&mut full, b"abc"), Err(Unwritten));
+    let mut broken = StdSink::new(Broken);
+    assert_eq!(rt; write_all(&mut broken, b"abc"), Err(Unwritten));
+    Ok(())
+}
