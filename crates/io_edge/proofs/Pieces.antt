@@ -1,32 +1,29 @@
 -- A text that comes or goes in pieces.
-use Rattle.std.proofs.Common.{◌≡◌, ℕ, ◌+◌, ◌≤◌, List, [], ◌++◌, length, take, drop, length-append, Option, Some, None, refl, sym, ap, ◌∙◌, append_assoc, arith}
+use Rattle.std.proofs.Common.{ℕ, ◌+◌, List, ◌++◌, length, take, drop, length-append, Option, Some, None, refl, sym, ap, ◌∙◌, append_assoc, arith}
 use Rattle.std.proofs.Math.Seq.{take-add}
-use Rattle.std.proofs.lemmas.List.{append-nil, drop_at}
-use Rattle.std.proofs.lemmas.Option.{same_Some}
-use Rattle.std.specs.Io.KnownBytes.{prepend_known, append_known, IsAtEnd}
-use Rattle.io_edge.specs.Reading.{Takes, TakesAll}
+use Rattle.std.proofs.lemmas.List.{drop_at}
+use Rattle.std.specs.Io.KnownBytes.{Consumes, Appends}
+use Rattle.io_edge.specs.Reading.{Takes}
 
 -- two pieces that were taken one after the other are one
-prepend_known-append : (first second : List ℕ) (left : Option (List ℕ)) → prepend_known first (prepend_known second left) ≡ prepend_known (first ++ second) left
-prepend_known-append first second None = refl
-prepend_known-append first second (Some rest) = ap Some (sym (append_assoc first second rest))
-
--- what was taken before a read, and then by it
-pub takes_more : (first second : List ℕ) (before between after : Option (List ℕ)) → before ≡ prepend_known first between → between ≡ prepend_known second after → before ≡ prepend_known (first ++ second) after
-takes_more first second before between after was more =
-    was ∙ ap (prepend_known first) more ∙ prepend_known-append first second after
+pub takes_more : (first second : List ℕ) (before between after : Option (List ℕ)) → Consumes before between first → Consumes between after second → Consumes before after (first ++ second)
+takes_more first second None between after was more = tt
+takes_more first second (Some left) None after was more = absurd was
+takes_more first second (Some left) (Some rest) None was more = absurd more
+takes_more first second (Some left) (Some rest) (Some end) was more =
+    was ∙ ap (λ r. first ++ r) more ∙ sym (append_assoc first second end)
 
 -- what was taken is a front of what was left
-pub takes_front : (bytes : List ℕ) (before after : Option (List ℕ)) → before ≡ prepend_known bytes after → Takes (length bytes) before after
-takes_front bytes None None was = (tt, refl)
-takes_front bytes None (Some rest) was = cc
-takes_front bytes (Some left) None was = cc
+pub takes_front : (bytes : List ℕ) (before after : Option (List ℕ)) → Consumes before after bytes → Takes (length bytes) before after
+takes_front bytes None after was = tt
+takes_front bytes (Some left) None was = absurd was
 takes_front bytes (Some left) (Some rest) was =
-    let front : left ≡ bytes ++ rest = same_Some left (bytes ++ rest) was in
-    rw front (omega (arith, length-append bytes rest), ap Some (sym (drop_at bytes rest (length bytes) refl)))
+    rw was (omega (arith, length-append bytes rest), ap Some (sym (drop_at bytes rest (length bytes) refl)))
 
--- what a sink held, with a front of the text and then with the next piece of it
-pub append_known-take : (held : Option (List ℕ)) (done n : ℕ) (text : List ℕ) → append_known (append_known held (take done text)) (take n (drop done text)) ≡ append_known held (take (done + n) text)
-append_known-take None done n text = refl
-append_known-take (Some h) done n text =
-    ap Some (append_assoc h (take done text) (take n (drop done text)) ∙ ap (λ front. h ++ front) (sym (take-add done n text)))
+-- a front of a text and then the next piece of it are a longer front
+pub appends_more : (done n : ℕ) (text : List ℕ) (before between after : Option (List ℕ)) → Appends before between (take done text) → Appends between after (take n (drop done text)) → Appends before after (take (done + n) text)
+appends_more done n text None between after was more = tt
+appends_more done n text (Some held) None after was more = absurd was
+appends_more done n text (Some held) (Some mid) None was more = absurd more
+appends_more done n text (Some held) (Some mid) (Some end) was more =
+    more ∙ ap (λ h. h ++ take n (drop done text)) was ∙ append_assoc held (take done text) (take n (drop done text)) ∙ ap (λ front. held ++ front) (sym (take-add done n text))

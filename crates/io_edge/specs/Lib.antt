@@ -4,3 +4,4 @@ pub mod Writing
 pub mod Calls
 pub mod MemSource
 pub mod MemSink
+pub mod Stream

@@ -1,5 +1,5 @@
 -- A sink in memory, as its callers see it.
-use Rattle.std.specs.Prelude.{ℕ, min, List, ◌++◌, length, take, if◌then◌else◌}
+use Rattle.std.specs.Prelude.{ℕ, min, List, ◌++◌, take, if◌then◌else◌}
 use Rattle.io_edge.specs.Calls.{Calls, next_fails, one_more, one_fault}
 use Rattle.io_edge.specs.declared.sink.Put.{Put}
 use Rattle.io_edge.specs.declared.sink.Put.TheVariants.{Took, Failed}

@@ -1,5 +1,5 @@
--- What reading takes from a source that tells what it has left.
-use Rattle.std.specs.Prelude.{◌≡◌, ℕ, ◌≤◌, ◌<◌, ⊤, List, [], length, drop, Option, Some, None, IfSome, option_map, Result, Ok, Err}
+-- What reading takes from a source. Where the source does not tell what it has left, nothing is said of bytes.
+use Rattle.std.specs.Prelude.{◌≡◌, ℕ, ◌≤◌, ◌<◌, ⊤, List, [], length, drop, Option, Some, IfSome, Result, Ok, Err}
 use Rattle.std.specs.declared.alloc.AllocError.{AllocError}
 use Rattle.io_edge.specs.declared.source.Got.{Got}
 use Rattle.io_edge.specs.declared.source.Got.TheVariants.{Bytes, End, Failed}
@@ -20,7 +20,7 @@ SaysEnd Failed room = ⊥
 
 -- the first so many bytes of what was left were taken
 abbrev pub Takes : ℕ → Option (List ℕ) → Option (List ℕ) → Type 0
-Takes count before after = IfSome before (λ left. count ≤ length left) × (after ≡ option_map (drop count) before)
+Takes count before after = IfSome before (λ left. (count ≤ length left) × (after ≡ Some (drop count left)))
 
 -- the same of so many bytes or fewer
 abbrev pub TakesAtMost : ℕ → Option (List ℕ) → Option (List ℕ) → Type 0
@@ -28,8 +28,7 @@ TakesAtMost limit before after = (count : ℕ) × (count ≤ limit) × Takes cou
 
 -- these bytes were all that was left, and nothing is left now
 abbrev pub TakesAll : List ℕ → Option (List ℕ) → Option (List ℕ) → Type 0
-TakesAll bytes None after = after ≡ None
-TakesAll bytes (Some left) after = (left ≡ bytes) × (after ≡ Some [])
+TakesAll bytes before after = IfSome before (λ left. (left ≡ bytes) × (after ≡ Some []))
 
 -- if reading gave the whole input, P holds of its bytes
 abbrev pub IfWhole : Result Input AllocError → (List ℕ → Type 0) → Type 0

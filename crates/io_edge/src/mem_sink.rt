@@ -58,12 +58,14 @@ impl Sink for MemSink {
     ghost faults = { λ k. k.calls.faults };
 
     fn write(&mut self, piece: &[u8]) -> Put
+        // What every sink promises.
         ensures fits { taken_count result ≤ length piece.now }
         ensures some { result ≡ Put.Took 0 → piece.now ≡ [] }
         ensures held { self.new.held ≡ self.old.held ++ take (taken_count result) piece.now }
         ensures failed { result ≡ Put.Failed → Rose self.old.calls.faults self.new.calls.faults }
         ensures count { self.old.calls.faults ≤ self.new.calls.faults }
 
+        // What this one does: a call that is not to fail takes as much as it may, if memory suffices.
         ensures answer { (result ≡ write_answer self.old (length piece.now)) ⊎ (result ≡ Put.Failed) }
         ensures after { self.new ≡ after_write self.old piece.now result }
     {

@@ -51,12 +51,14 @@ impl Source for MemSource {
     ghost faults = { λ s. s.calls.faults };
 
     fn read(&mut self, buffer: &mut [u8]) -> Got
+        // What every source promises.
         ensures fits { given_count result ≤ length buffer.new }
         ensures given { self.old.left ≡ take (given_count result) buffer.new ++ self.new.left }
         ensures end { SaysEnd result (length buffer.new) → self.new.left ≡ [] }
         ensures failed { result ≡ Got.Failed → Rose self.old.calls.faults self.new.calls.faults }
         ensures count { self.old.calls.faults ≤ self.new.calls.faults }
 
+        // What this one does: a call that is not to fail gives as much as it may.
         ensures answer { result ≡ read_answer self.old (length buffer.old) }
         ensures after { self.new ≡ after_read self.old result }
     {

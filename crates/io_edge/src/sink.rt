@@ -1,7 +1,7 @@
 //! Writing a whole text to a sink.
 
 ghost use Rattle.std.specs.Prelude.{◌≡◌, ℕ, ◌<◌, ◌≤◌, List, [], length, take, Option, OnOk, OnErr};
-ghost use Rattle.std.specs.Io.KnownBytes.{append_known};
+ghost use Rattle.std.specs.Io.KnownBytes.{Appends};
 ghost use Rattle.io_edge.specs.Faults.{Rose};
 ghost use Rattle.io_edge.specs.Writing.{taken_count, WritesPart};
 
@@ -27,7 +27,7 @@ pub trait Sink {
     fn write(&mut self, piece: &[u8]) -> Put
         ensures fits { taken_count result ≤ length piece.now }
         ensures some { result ≡ Put.Took 0 → piece.now ≡ [] }
-        ensures held { held self.new ≡ append_known (held self.old) (take (taken_count result) piece.now) }
+        ensures held { Appends (held self.old) (held self.new) (take (taken_count result) piece.now) }
         ensures failed { result ≡ Put.Failed → Rose (faults self.old) (faults self.new) }
         ensures count { faults self.old ≤ faults self.new };
 }
@@ -39,7 +39,7 @@ pub struct Unwritten;
 /// Writes all of the text, in as many calls as the sink wants. After `Unwritten` the sink holds a
 /// front of it. An empty text is written without a call.
 pub fn write_all<K: Sink>(sink: &mut K, text: &[u8]) -> Result<(), Unwritten>
-    ensures written { OnOk result (K.held sink.new ≡ append_known (K.held sink.old) text.now) }
+    ensures written { OnOk result (Appends (K.held sink.old) (K.held sink.new) text.now) }
     ensures unwritten { OnErr result (WritesPart text.now (K.held sink.old) (K.held sink.new)) }
     ensures failed { OnErr result (Rose (K.faults sink.old) (K.faults sink.new)) }
     ensures count { K.faults sink.old ≤ K.faults sink.new }

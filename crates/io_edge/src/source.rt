@@ -1,7 +1,7 @@
 //! Reading a source to its end.
 
 ghost use Rattle.std.specs.Prelude.{◌≡◌, ℕ, ◌+◌, ◌≤◌, List, length, take, Option, OnErr};
-ghost use Rattle.std.specs.Io.KnownBytes.{prepend_known, IsAtEnd};
+ghost use Rattle.std.specs.Io.KnownBytes.{Consumes, IsAtEnd};
 ghost use Rattle.io_edge.specs.Faults.{Rose};
 ghost use Rattle.io_edge.specs.Reading.{given_count, SaysEnd, Takes, TakesAtMost, TakesAll, IfWhole};
 
@@ -29,7 +29,7 @@ pub trait Source {
     /// Moves the next bytes that are left to the front of the buffer.
     fn read(&mut self, buffer: &mut [u8]) -> Got
         ensures fits { given_count result ≤ length buffer.new }
-        ensures given { left self.old ≡ prepend_known (take (given_count result) buffer.new) (left self.new) }
+        ensures given { Consumes (left self.old) (left self.new) (take (given_count result) buffer.new) }
         ensures end { SaysEnd result (length buffer.new) → IsAtEnd (left self.new) }
         ensures failed { result ≡ Got.Failed → Rose (faults self.old) (faults self.new) }
         ensures count { faults self.old ≤ faults self.new };
@@ -56,14 +56,17 @@ pub fn read_up_to<S: Source>(
     source: &mut S,
     most: usize,
 ) -> Result<Input, AllocError>
+    // All that was left.
     ensures whole { IfWhole result (λ bytes. TakesAll bytes (S.left source.old) (S.left source.new)) }
     ensures short { IfWhole result (λ bytes. length bytes ≤ most) }
     ensures too_long { result ≡ Ok Input.TooLong → Takes (most + 1) (S.left source.old) (S.left source.new) }
 
+    // A fault is told only where one came, and before the byte that is too many.
     ensures failed { result ≡ Ok Input.Failed → Rose (S.faults source.old) (S.faults source.new) }
     ensures taken_before { result ≡ Ok Input.Failed → TakesAtMost most (S.left source.old) (S.left source.new) }
     ensures count { S.faults source.old ≤ S.faults source.new }
 
+    // Want of memory comes at any time, and no further byte is taken.
     ensures memory { OnErr result (TakesAtMost (most + 1) (S.left source.old) (S.left source.new)) }
 {
     let mut bytes = Vec::new(alloc);

@@ -1,13 +1,14 @@
 //! Standard input as a source.
 
-ghost use Rattle.std.specs.Prelude.{◌≡◌, None};
+ghost use Rattle.std.specs.Prelude.{◌≡◌};
+ghost use Rattle.io_edge.specs.Stream.{StreamState};
 
 use crate::source::{Got, Source};
 use std::io::Read;
 use std::marker::Model;
 
-/// Standard input, or another reader of std, as a source. It tells nothing of what is left. Contracts
-/// see the count of its faults.
+/// Standard input, or another reader of std, as a source. It tells of what is left what its reader
+/// tells, which is nothing at standard input.
 #[derive(Drop)]
 pub struct StdSource<R: Read> {
     reader: R,
@@ -15,26 +16,25 @@ pub struct StdSource<R: Read> {
 }
 
 impl<R: Read> Model for StdSource<R> {
-    ghost use Rattle.std.specs.Prelude.{ℕ};
+    ghost Value = { StreamState };
 
-    ghost Value = { ℕ };
-
-    ghost view = { λ s. s.faults };
+    ghost view = { λ s. record { bytes = R.remaining s.reader; faults = s.faults } };
 }
 
 impl<R: Read> StdSource<R> {
     /// At standard input the reader is `rt.reader()`.
     pub fn new(reader: R) -> StdSource<R>
-        ensures { result ≡ 0 }
+        ensures bytes { result.bytes ≡ R.remaining reader }
+        ensures faults { result.faults ≡ 0 }
     {
         StdSource { reader, faults: 0 }
     }
 }
 
 impl<R: Read> Source for StdSource<R> {
-    ghost left = { λ _. None };
+    ghost left = { λ s. s.bytes };
 
-    ghost faults = { λ faults. faults };
+    ghost faults = { λ s. s.faults };
 
     fn read(&mut self, buffer: &mut [u8]) -> Got {
         match self.reader.read(buffer) {

@@ -111,7 +111,7 @@ fn writes_a_front_where_a_write_fails(rt: HostRuntime) -> Result<(), Fail> {
     Ok(())
 }
 
-/// A reader and a writer that always fail.
+/// A reader and a writer that always fail, the writer only at the flush.
 #[derive(Drop)]
 struct Broken;
 
@@ -122,29 +122,32 @@ impl Read for Broken {
 }
 
 impl Write for Broken {
-    fn write(&mut self, _: &[u8]) -> io::Result<usize> {
-        Err(io::Error::from(ErrorKind::BrokenPipe))
+    fn write(&mut self, piece: &[u8]) -> io::Result<usize> {
+        Ok(piece.len())
     }
 
     fn flush(&mut self) -> io::Result<()> {
-        Ok(())
+        Err(io::Error::from(ErrorKind::BrokenPipe))
     }
 }
 
 #[test]
-fn adapts_readers_and_writers(rt: HostRuntime) -> Result<(), Fail> {
+fn reads_by_std(rt: HostRuntime) -> Result<(), Fail> {
     let alloc = rt.alloc();
     let mut from = StdSource::new(Cursor::new(b"abc".to_vec(alloc)?));
     let input = read_up_to(alloc, &mut from, 9)?;
     assert_eq!(rt; input, Input::Whole(b"abc".to_vec(alloc)?));
     let mut broken = StdSource::new(Broken);
     assert_eq!(rt; read_up_to(alloc, &mut broken, 9)?, Input::Failed);
+    Ok(())
+}
 
+#[test]
+fn writes_by_std(rt: HostRuntime) {
     let mut to = StdSink::new(io::writer(&rt));
     assert_eq!(rt; write_all(&mut to, b"written\n"), Ok(()));
     let mut full = StdSink::new(Cursor::new([0; 2]));
     assert_eq!(rt; write_all(&mut full, b"abc"), Err(Unwritten));
     let mut broken = StdSink::new(Broken);
     assert_eq!(rt; write_all(&mut broken, b"abc"), Err(Unwritten));
-    Ok(())
 }

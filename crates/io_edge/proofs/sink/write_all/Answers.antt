@@ -1,7 +1,6 @@
-use Rattle.std.proofs.Common.{rules, ◌≡◌, ℕ, ◌<◌, List, [], ap, ◌∙◌, take, drop, length, length-drop, refl, arith, zero, suc}
-use Rattle.std.specs.Io.KnownBytes.{append_known}
+use Rattle.std.proofs.Common.{rules, ◌≡◌, ℕ, ◌<◌, List, [], ap, drop, length, length-drop, refl, arith, zero, suc}
 use Rattle.io_edge.specs.declared.sink.Put.TheVariants.{Took}
-use Rattle.io_edge.proofs.Pieces.{append_known-take}
+use Rattle.io_edge.proofs.Pieces.{appends_more}
 use Rattle.io_edge.proofs.sink.write_all.Goals as goal
 
 -- a count is not 0 where 0 would mean an empty piece
@@ -20,7 +19,7 @@ loop-done-preserved g c =
     let some : 0 < n = is_some n c.split_at.result.1.now (omega (arith, length-drop done text)) (λ none. wrote.some (ap Took none)) in
     record {
       within = omega (arith, wrote.fits, length-drop done text);
-      held = wrote.held ∙ ap (λ r. append_known (g.K.Sink.held c.loop-done.sink) (take n r)) rest ∙ ap (λ h. append_known h (take n (drop done text))) c.loop-done.invariant.held ∙ append_known-take (g.K.Sink.held c.args.sink.now) done n text;
+      held = appends_more done n text _ _ _ c.loop-done.invariant.held (rw (← rest) wrote.held);
       count = omega (arith, wrote.count);
       untouched = λ none. absurd (omega arith);
     }

@@ -1,11 +1,11 @@
 use Rattle.std.proofs.Common.{◌≡◌, ◌≤◌, ◌-◌, length, take}
-use Rattle.std.specs.Io.KnownBytes.{append_known}
+use Rattle.std.specs.Io.KnownBytes.{Appends}
 use Rattle.io_edge.proofs.sink.write_all.Given as goal
 
 abbrev pub invariant-loop-done : goal.invariant-loop-done
 invariant-loop-done g l = record {
   within : l.done ≤ length l.text;
-  held : g.K.Sink.held l.sink ≡ append_known (g.K.Sink.held l.initial.sink) (take l.done l.text);
+  held : Appends (g.K.Sink.held l.initial.sink) (g.K.Sink.held l.sink) (take l.done l.text);
   count : g.K.Sink.faults l.initial.sink ≤ g.K.Sink.faults l.sink;
   untouched : l.done ≡ 0 → l.sink ≡ l.initial.sink;
 }
