@@ -16,5 +16,6 @@ write_answer sink size = if next_fails sink.calls then Failed else Took (min sin
 
 -- the sink after a call that was given these bytes and gave this answer
 abbrev pub after_write : SinkState → List ℕ → Put → SinkState
-after_write sink bytes (Took count) = record sink { held = sink.held ++ take count bytes; calls = one_more sink.calls }
+after_write sink bytes (Took count) =
+    record sink { held = sink.held ++ take count bytes; calls = one_more sink.calls }
 after_write sink bytes Failed = record sink { calls = one_fault (one_more sink.calls) }

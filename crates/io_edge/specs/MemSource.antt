@@ -13,10 +13,12 @@ pub record SourceState : Type 0 where
 -- what the next call answers to a caller with so much room
 abbrev pub read_answer : SourceState → ℕ → Got
 read_answer source room =
-    if next_fails source.calls then Failed else Bytes (min source.piece (min room (length source.left)))
+    if next_fails source.calls then Failed
+    else Bytes (min source.piece (min room (length source.left)))
 
 -- the source after a call that gave this answer
 abbrev pub after_read : SourceState → Got → SourceState
-after_read source (Bytes count) = record source { left = drop count source.left; calls = one_more source.calls }
+after_read source (Bytes count) =
+    record source { left = drop count source.left; calls = one_more source.calls }
 after_read source End = record source { calls = one_more source.calls }
 after_read source Failed = record source { calls = one_fault (one_more source.calls) }

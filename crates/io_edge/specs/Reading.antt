@@ -1,4 +1,4 @@
--- What reading takes from a source. Where the source does not tell what it has left, nothing is said of bytes.
+-- What reading takes from a source. Nothing is said of bytes where the source does not tell what is left.
 use Rattle.std.specs.Prelude.{◌≡◌, ℕ, ◌≤◌, ◌<◌, ⊤, List, [], length, drop, Option, Some, IfSome, Result, Ok, Err}
 use Rattle.std.specs.declared.alloc.AllocError.{AllocError}
 use Rattle.io_edge.specs.declared.source.Got.{Got}
@@ -20,7 +20,8 @@ SaysEnd Failed room = ⊥
 
 -- the first so many bytes of what was left were taken
 abbrev pub Takes : ℕ → Option (List ℕ) → Option (List ℕ) → Type 0
-Takes count before after = IfSome before (λ left. (count ≤ length left) × (after ≡ Some (drop count left)))
+Takes count before after =
+    IfSome before (λ left. (count ≤ length left) × (after ≡ Some (drop count left)))
 
 -- the same of so many bytes or fewer
 abbrev pub TakesAtMost : ℕ → Option (List ℕ) → Option (List ℕ) → Type 0

@@ -1,7 +1,7 @@
 -- A reader or a writer of std that is a source or a sink, as its callers see it.
 use Rattle.std.specs.Prelude.{ℕ, ◌-◌, List, Option, option_map, length, take}
 
--- the bytes that are left in the reader or held by the sink, where they are known, and how often it failed
+-- the bytes that are left or held, where they are known, and how often it failed
 pub record StreamState : Type 0 where
   pub bytes : Option (List ℕ)
   pub faults : ℕ

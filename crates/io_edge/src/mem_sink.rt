@@ -11,8 +11,8 @@ use crate::sink::{Put, Sink};
 use std::alloc::Global;
 use std::marker::Model;
 
-/// Keeps the bytes that it takes, a piece at a time, and fails where it was told to and where memory
-/// runs out.
+/// Keeps the bytes that it takes, a piece at a time, and fails where it was told to and where
+/// memory runs out.
 #[derive(Debug, Drop)]
 pub struct MemSink {
     held: Vec<u8>,
@@ -29,8 +29,8 @@ impl Model for MemSink {
 }
 
 impl MemSink {
-    /// A call takes `piece` bytes at most. `failing` has the numbers of the calls that fail, counted
-    /// from 0.
+    /// A call takes `piece` bytes at most. `failing` has the numbers of the calls that fail,
+    /// counted from 0.
     pub fn new(alloc: Global, piece: usize, failing: Vec<u64>) -> MemSink
         requires { 1 ≤ piece }
         ensures held { result.held ≡ [] }
@@ -65,8 +65,9 @@ impl Sink for MemSink {
         ensures failed { result ≡ Put.Failed → Rose self.old.calls.faults self.new.calls.faults }
         ensures count { self.old.calls.faults ≤ self.new.calls.faults }
 
-        // What this one does: a call that is not to fail takes as much as it may, if memory suffices.
-        ensures answer { (result ≡ write_answer self.old (length piece.now)) ⊎ (result ≡ Put.Failed) }
+        // What this one does. A call that is not to fail may still find no memory.
+        ensures answer { (result ≡ write_answer self.old (length piece.now))
+            ⊎ (result ≡ Put.Failed) }
         ensures after { self.new ≡ after_write self.old piece.now result }
     {
         let n = self.piece.min(piece.len());

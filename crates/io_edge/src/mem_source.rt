@@ -22,14 +22,18 @@ pub struct MemSource {
 impl Model for MemSource {
     ghost Value = { SourceState };
 
-    ghost view = { λ s. record { left = drop s.at s.bytes.items; piece = s.piece; calls = s.calls } };
+    ghost view = { λ s. record {
+      left = drop s.at s.bytes.items;
+      piece = s.piece;
+      calls = s.calls;
+    } };
 
     ghost invariant = { λ s. (s.at ≤ length s.bytes.items) × (1 ≤ s.piece) };
 }
 
 impl MemSource {
-    /// A call gives `piece` bytes at most. `failing` has the numbers of the calls that fail, counted
-    /// from 0.
+    /// A call gives `piece` bytes at most. `failing` has the numbers of the calls that fail,
+    /// counted from 0.
     pub fn new(bytes: Vec<u8>, piece: usize, failing: Vec<u64>) -> MemSource
         requires { 1 ≤ piece }
         ensures left { result.left ≡ bytes.items }
@@ -58,7 +62,7 @@ impl Source for MemSource {
         ensures failed { result ≡ Got.Failed → Rose self.old.calls.faults self.new.calls.faults }
         ensures count { self.old.calls.faults ≤ self.new.calls.faults }
 
-        // What this one does: a call that is not to fail gives as much as it may.
+        // What this one does.
         ensures answer { result ≡ read_answer self.old (length buffer.old) }
         ensures after { self.new ≡ after_read self.old result }
     {

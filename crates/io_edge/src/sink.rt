@@ -22,12 +22,12 @@ pub trait Sink {
     /// How often it has failed. A count at the end of a `u64` stays there.
     ghost faults: { Self → ℕ };
 
-    /// Takes a front of the piece, and some of it where the piece has any byte. A sink that can take
-    /// nothing of it fails.
+    /// Takes a front of the piece. Where the piece has any byte, it takes some of it or fails.
     fn write(&mut self, piece: &[u8]) -> Put
         ensures fits { taken_count result ≤ length piece.now }
         ensures some { result ≡ Put.Took 0 → piece.now ≡ [] }
-        ensures held { Appends (held self.old) (held self.new) (take (taken_count result) piece.now) }
+        ensures held { Appends (held self.old) (held self.new)
+            (take (taken_count result) piece.now) }
         ensures failed { result ≡ Put.Failed → Rose (faults self.old) (faults self.new) }
         ensures count { faults self.old ≤ faults self.new };
 }

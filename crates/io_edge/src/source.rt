@@ -29,7 +29,8 @@ pub trait Source {
     /// Moves the next bytes that are left to the front of the buffer.
     fn read(&mut self, buffer: &mut [u8]) -> Got
         ensures fits { given_count result ≤ length buffer.new }
-        ensures given { Consumes (left self.old) (left self.new) (take (given_count result) buffer.new) }
+        ensures given { Consumes (left self.old) (left self.new)
+            (take (given_count result) buffer.new) }
         ensures end { SaysEnd result (length buffer.new) → IsAtEnd (left self.new) }
         ensures failed { result ≡ Got.Failed → Rose (faults self.old) (faults self.new) }
         ensures count { faults self.old ≤ faults self.new };
@@ -49,24 +50,27 @@ pub enum Input {
 /// The room that one call of [`Source::read`] is given, in bytes.
 const PIECE: usize = 4096;
 
-/// Reads until the source ends, fails, or has given `most + 1` bytes, which is one too many. The one
-/// error is want of memory.
+/// Reads until the source ends, fails, or has given `most + 1` bytes, which is one too many. The
+/// only error is want of memory.
 pub fn read_up_to<S: Source>(
     alloc: Global,
     source: &mut S,
     most: usize,
 ) -> Result<Input, AllocError>
     // All that was left.
-    ensures whole { IfWhole result (λ bytes. TakesAll bytes (S.left source.old) (S.left source.new)) }
+    ensures whole { IfWhole result (λ bytes.
+        TakesAll bytes (S.left source.old) (S.left source.new)) }
     ensures short { IfWhole result (λ bytes. length bytes ≤ most) }
-    ensures too_long { result ≡ Ok Input.TooLong → Takes (most + 1) (S.left source.old) (S.left source.new) }
+    ensures too_long { result ≡ Ok Input.TooLong →
+        Takes (most + 1) (S.left source.old) (S.left source.new) }
 
     // A fault is told only where one came, and before the byte that is too many.
     ensures failed { result ≡ Ok Input.Failed → Rose (S.faults source.old) (S.faults source.new) }
-    ensures taken_before { result ≡ Ok Input.Failed → TakesAtMost most (S.left source.old) (S.left source.new) }
+    ensures taken_before { result ≡ Ok Input.Failed →
+        TakesAtMost most (S.left source.old) (S.left source.new) }
     ensures count { S.faults source.old ≤ S.faults source.new }
 
-    // Want of memory comes at any time, and no further byte is taken.
+    // Before memory ran out, the byte that is too many may have been taken.
     ensures memory { OnErr result (TakesAtMost (most + 1) (S.left source.old) (S.left source.new)) }
 {
     let mut bytes = Vec::new(alloc);

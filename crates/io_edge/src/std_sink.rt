@@ -21,7 +21,10 @@ pub struct StdSink<W: Write> {
 impl<W: Write> Model for StdSink<W> {
     ghost Value = { StreamState };
 
-    ghost view = { λ k. record { bytes = flushed_bytes k.unflushed (W.contents k.writer); faults = k.faults } };
+    ghost view = { λ k. record {
+      bytes = flushed_bytes k.unflushed (W.contents k.writer);
+      faults = k.faults;
+    } };
 }
 
 impl<W: Write> StdSink<W> {
@@ -41,7 +44,8 @@ impl<W: Write> StdSink<W> {
     fn write_through(&mut self, piece: &[u8]) -> Option<usize>
         ensures fits { IfSome result (λ n. n ≤ length piece.now) }
         ensures some { IfSome result (λ n. n ≡ 0 → piece.now ≡ []) }
-        ensures written { IfSome result (λ n. Appends self.old.bytes self.new.bytes (take n piece.now)) }
+        ensures written { IfSome result (λ n.
+            Appends self.old.bytes self.new.bytes (take n piece.now)) }
         ensures failed { IfNone result (Keeps self.old.bytes self.new.bytes) }
         ensures faults { self.new.faults ≡ self.old.faults }
     {

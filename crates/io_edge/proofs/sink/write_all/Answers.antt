@@ -16,7 +16,8 @@ loop-done-preserved g c =
     let text = c.args.text.now in
     let rest : c.split_at.result.1.now ≡ drop done text = search rules in
     let left : length c.split_at.result.1.now ≡ length (drop done text) = ap length rest in
-    let some : 0 < n = is_some n c.split_at.result.1.now (omega (arith, length-drop done text)) (λ none. wrote.some (ap Took none)) in
+    let some : 0 < n =
+    is_some n _ (omega (arith, length-drop done text)) (λ none. wrote.some (ap Took none)) in
     record {
       within = omega (arith, wrote.fits, length-drop done text);
       held = appends_more done n text _ _ _ c.loop-done.invariant.held (rw (← rest) wrote.held);

@@ -10,9 +10,12 @@ returns-in_err-extend_from_slice-in-Bytes-clause-memory g c =
     let bytes = c.loop-piece.bytes.items in
     let piece = take c.in-Bytes.n c.read.new.buffer in
     let fits : c.in-Bytes.n ≤ length c.read.new.buffer = c.in-Bytes.ensures.fits in
-    let room : length c.read.new.buffer ≤ c.args.most - length bytes + 1 = omega (arith, c.read.auto.buffer, length-take (c.min-room.result + 1) c.loop-piece.piece, c.loop-piece.bytes.ok.0) in
+    let len = c.loop-piece.bytes.ok.0 in
+    let room : length c.read.new.buffer ≤ c.args.most - length bytes + 1 =
+    omega (arith, c.read.auto.buffer, length-take (c.min-room.result + 1) c.loop-piece.piece) in
     rw p.1 (
       length (bytes ++ piece),
-      omega (arith, length-append bytes piece, length-take-le c.in-Bytes.n c.read.new.buffer fits, c.loop-piece.bytes.ok.0),
-      takes_front (bytes ++ piece) _ _ (takes_more bytes piece _ _ _ c.loop-piece.invariant.taken c.in-Bytes.ensures.given),
+      omega (arith, length-append bytes piece, length-take-le c.in-Bytes.n c.read.new.buffer fits),
+      takes_front (bytes ++ piece) _ _
+          (takes_more bytes piece _ _ _ c.loop-piece.invariant.taken c.in-Bytes.ensures.given),
     )
