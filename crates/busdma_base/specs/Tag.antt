@@ -1,8 +1,12 @@
 -- The effective tag of a tag's limits and its parent, and the addresses that need a bounce page:
 -- after the arguments of bus_dma_tag_create(9) and the x86 bounce code. The formulas are this project's own.
-use Rattle.std.specs.Prelude.{◌≡◌, ◌==◌, ◌&&◌, ◌||◌, ◌⊎◌, ◌+◌, ◌*◌, ◌/◌, ◌%◌, ◌≤◌, ℕ, Bool, not, nat_lt, nat_le, min, max, Option, Some, None, option_map, if◌then◌else◌}
-use Rattle.std.specs.Int.{is_power_of_two, IsPowerOfTwo}
+use Rattle.std.specs.Prelude.{◌≡◌, ◌≢◌, ◌==◌, ◌&&◌, ◌||◌, ◌+◌, ◌*◌, ◌/◌, ◌%◌, ◌^◌, ◌≤◌, ℕ, Bool, not, nat_lt, nat_le, min, max, Option, Some, None, option_map, if◌then◌else◌}
+use Rattle.std.specs.Int.{IsPowerOfTwo}
 use Rattle.busdma_base.specs.declared.tag.TagLimits.{TagLimits}
+
+-- A number below 2 ^ 64 is a power of two where it divides 2 ^ 64.
+abbrev pub is_power_of_two : ℕ → Bool
+is_power_of_two n = nat_lt 0 n && 2 ^ 64 % n == 0
 
 -- An alignment is a power of two from 1 to 4096, the bytes of a frame.
 abbrev pub is_alignment : ℕ → Bool
@@ -28,10 +32,13 @@ rounded t = record t {
   maxsegsz = segment_limit t;
 }
 
--- The limits of a tag without parent, or none where its arguments are refused.
+-- The limits are not refused: alignment and boundary are right, and some byte fits into a segment.
+abbrev pub is_accepted : TagLimits → Bool
+is_accepted t = is_alignment t.alignment && is_boundary t.boundary && not (segment_limit t == 0)
+
+-- The limits of a tag without parent, or none where they are refused.
 abbrev pub normal : TagLimits → Option TagLimits
-normal t =
-    if is_alignment t.alignment && is_boundary t.boundary && not (segment_limit t == 0) then Some (rounded t) else None
+normal t = if is_accepted t then Some (rounded t) else None
 
 -- The smaller of two boundaries, where 0 is none.
 abbrev pub least_boundary : ℕ → ℕ → ℕ
@@ -51,12 +58,21 @@ abbrev pub effective : Option TagLimits → TagLimits → Option TagLimits
 effective None spec = normal spec
 effective (Some parent) spec = option_map (inherit parent) (normal spec)
 
+-- The limits that are not refused, by what their alignment, boundary and maxsegsz are.
+pub record IsAccepted (spec : TagLimits) : Type 0 where
+  pub alignment_power : IsPowerOfTwo spec.alignment
+  pub alignment_high : spec.alignment ≤ 4096
+  pub boundary_power : spec.boundary ≢ 0 → IsPowerOfTwo spec.boundary
+  pub boundary_low : spec.boundary ≢ 0 → 16 ≤ spec.boundary
+  pub maxsegsz : 1 ≤ spec.maxsegsz
+
 -- What holds of every effective tag.
 pub record IsEffective (t : TagLimits) : Type 0 where
   pub alignment_power : IsPowerOfTwo t.alignment
   pub alignment_low : 1 ≤ t.alignment
   pub alignment_high : t.alignment ≤ 4096
-  pub boundary : (t.boundary ≡ 0) ⊎ (IsPowerOfTwo t.boundary × (16 ≤ t.boundary))
+  pub boundary_power : t.boundary ≢ 0 → IsPowerOfTwo t.boundary
+  pub boundary_low : t.boundary ≢ 0 → 16 ≤ t.boundary
   pub maxsegsz : 1 ≤ t.maxsegsz
   pub lowaddr : t.lowaddr.0 % 4096 ≡ 4095
   pub highaddr : t.highaddr.0 % 4096 ≡ 4095

@@ -1,0 +1,8 @@
+use Rattle.std.proofs.Common.{◌≡◌, subst, rules, sym}
+use Rattle.busdma_base.specs.Tag.{IsEffective}
+use Rattle.dma_tag.proofs.Effective.{IsEffective-inherit}
+use Rattle.dma_tag.proofs.limits.inherit.Goals as goal
+
+pub returns-clause-effective : goal.returns-clause-effective
+returns-clause-effective c =
+    subst IsEffective (search rules) (IsEffective-inherit c.args.parent.now c.args.child.now c.requires.parent c.requires.child)
