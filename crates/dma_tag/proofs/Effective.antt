@@ -1,12 +1,13 @@
 -- What holds of every effective tag.
-use Rattle.std.proofs.Common.{◌≡◌, ◌≢◌, ℕ, ◌+◌, ◌*◌, ◌/◌, ◌%◌, ◌^◌, ◌<◌, ◌≤◌, ◌⊎◌, Bool, true, false, not, ◌&&◌, ◌||◌, ◌==◌, nat_lt, nat_le, min, max, refl, sym, ap, subst, inl, inr, arith, rules}
-use Rattle.std.proofs.lemmas.Bool.{and_parts, or_cases, and_from, le-leb, eqb-true, leb-true, cases_eq, cases_lt}
+use Rattle.std.proofs.Common.{◌≡◌, ◌≢◌, ℕ, ◌%◌, ◌^◌, ◌<◌, ◌≤◌, Bool, true, not, ◌&&◌, ◌||◌, ◌==◌, nat_le, inl, inr, arith}
+use Rattle.std.proofs.lemmas.Bool.{and_parts, or_cases, and_from, le-leb, eqb-true, leb-true, cases_eq}
 use Rattle.std.proofs.lemmas.Bool.Decides.{nat_tests}
 use Rattle.std.proofs.lemmas.Nat.{pow_pos}
 use Rattle.std.specs.Bool.{Decides}
 use Rattle.std.specs.Int.{IsPowerOfTwo}
 use Rattle.busdma_base.specs.declared.tag.TagLimits.{TagLimits}
-use Rattle.busdma_base.specs.Tag.{IsAccepted, IsEffective, is_accepted, is_power_of_two, is_alignment, is_boundary, segment_limit, rounded, frame_end, inherit, least_boundary}
+use Rattle.busdma_base.specs.Tag.{IsAccepted, IsEffective, is_accepted, is_power_of_two, is_alignment, is_boundary, segment_limit, rounded, inherit}
+use Rattle.dma_tag.proofs.Choices.{either_max, either_min, either_boundary}
 use Rattle.dma_tag.proofs.Powers.{is_power_of_two_decides}
 
 IsAccepted-tested : (t : TagLimits) → t.alignment < 2 ^ 64 → t.boundary < 2 ^ 64 → is_accepted t ≡ true → IsAccepted t
@@ -82,35 +83,6 @@ IsEffective-rounded t a = record {
   where
     power_low : (n : ℕ) → IsPowerOfTwo n → 1 ≤ n
     power_low n (k, e) = omega (arith, pow_pos k)
-
-either_max : (P : ℕ → Type 0) (a b : ℕ) → P a → P b → P (max a b)
-either_max P a b p q =
-    elim (cases_lt a b) [
-      | inl above ↦ let same : max a b ≡ b = omega arith in subst P (sym same) q
-      | inr below ↦ let same : max a b ≡ a = omega arith in subst P (sym same) p
-    ]
-
-either_min : (P : ℕ → Type 0) (a b : ℕ) → P a → P b → P (min a b)
-either_min P a b p q =
-    elim (cases_lt a b) [
-      | inl above ↦ let same : min a b ≡ a = omega arith in subst P (sym same) p
-      | inr below ↦ let same : min a b ≡ b = omega arith in subst P (sym same) q
-    ]
-
-either_boundary : (P : ℕ → Type 0) (a b : ℕ) → (a ≢ 0 → P a) → (b ≢ 0 → P b) → least_boundary a b ≢ 0 → P (least_boundary a b)
-either_boundary P a b p q some =
-    elim (cases_eq a 0) [
-      | inl none ↦
-          let same : least_boundary a b ≡ b = grind (arith, nat_tests) in
-          subst P (sym same) (q (λ e. some (grind (arith, nat_tests))))
-      | inr a_some ↦
-          elim (cases_eq b 0) [
-            | inl none ↦ let same : least_boundary a b ≡ a = grind (arith, nat_tests) in subst P (sym same) (p a_some)
-            | inr b_some ↦
-                let same : least_boundary a b ≡ min a b = grind (arith, nat_tests) in
-                subst P (sym same) (either_min P a b (p a_some) (q b_some))
-          ]
-    ]
 
 -- what is inherited is effective
 pub IsEffective-inherit : (parent child : TagLimits) → IsEffective parent → IsEffective child → IsEffective (inherit parent child)

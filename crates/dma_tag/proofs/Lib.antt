@@ -1,2 +1,4 @@
+pub mod Chain
+pub mod Choices
 pub mod Effective
 pub mod Powers

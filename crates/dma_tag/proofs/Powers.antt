@@ -1,7 +1,7 @@
 -- Powers of two: by their set bits, by what they divide, and as powers.
-use Rattle.std.proofs.Common.{◌≡◌, ℕ, zero, suc, ◌+◌, ◌-◌, ◌*◌, ◌/◌, ◌%◌, ◌^◌, ◌<◌, ◌≤◌, ◌⊎◌, Bool, nat_lt, ◌==◌, refl, sym, ap, ◌∙◌, subst, inl, inr, arith}
+use Rattle.std.proofs.Common.{◌≡◌, ℕ, zero, suc, ◌+◌, ◌-◌, ◌*◌, ◌/◌, ◌%◌, ◌^◌, ◌<◌, ◌≤◌, nat_lt, ◌==◌, refl, ap, ◌∙◌, inl, inr, arith}
 use Rattle.std.proofs.Math.Nat.{mul-mod_left, pow-suc, mul_comm}
-use Rattle.std.proofs.lemmas.Nat.{zero_from_ones, ones_le_self, ones_cat, pow-add, pow_pos, pow_below, div-add-mod'}
+use Rattle.std.proofs.lemmas.Nat.{zero_from_ones, ones_le_self, pow-add, pow_pos, pow_below, div-add-mod'}
 use Rattle.std.proofs.lemmas.Bool.{cases_eq, cases_lt}
 use Rattle.std.proofs.lemmas.Bool.Decides.{Decides-like, Decides-and, Decides-ltb, Decides-eqb, same_from_decides}
 use Rattle.std.specs.Bool.{Decides}

@@ -1,3 +1,4 @@
+pub mod Chain
 pub mod LoadFlags
 pub mod MemFlags
 pub mod SyncOps

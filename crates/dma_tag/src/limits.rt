@@ -1,7 +1,7 @@
 //! How the limits of a tag are rounded, and narrowed by those of its parent.
 
 ghost use Rattle.std.specs.Prelude.{◌≡◌, ◌↔◌, IfSome, IsSome};
-ghost use Rattle.busdma_base.specs.Tag as effective;
+ghost use Rattle.busdma_base.specs.Tag as tag;
 ghost use Rattle.busdma_base.specs.Tag.{IsAccepted, IsEffective};
 
 use busdma_base::{Pa, TagLimits};
@@ -14,7 +14,7 @@ const LEAST_BOUNDARY: u64 = 16;
 
 /// The limits of a tag without parent, or none where they are refused.
 pub(crate) fn normal(spec: TagLimits) -> Option<TagLimits>
-    ensures normal { result ≡ effective.normal spec }
+    ensures normal { result ≡ tag.normal spec }
     ensures effective { IfSome result IsEffective }
     ensures accepted { IsSome result ↔ IsAccepted spec }
 {
@@ -33,7 +33,7 @@ pub(crate) fn normal(spec: TagLimits) -> Option<TagLimits>
 pub(crate) fn inherit(parent: &TagLimits, child: &TagLimits) -> TagLimits
     requires parent { IsEffective parent.now }
     requires child { IsEffective child.now }
-    ensures inherited { result ≡ effective.inherit parent.now child.now }
+    ensures inherited { result ≡ tag.inherit parent.now child.now }
     ensures effective { IsEffective result }
 {
     TagLimits {
@@ -46,31 +46,31 @@ pub(crate) fn inherit(parent: &TagLimits, child: &TagLimits) -> TagLimits
 }
 
 fn is_accepted(spec: &TagLimits) -> bool
-    ensures { result ≡ effective.is_accepted spec.now }
+    ensures { result ≡ tag.is_accepted spec.now }
 {
     is_alignment(spec.alignment) && is_boundary(spec.boundary) && segment_limit(spec) != 0
 }
 
 fn is_alignment(bytes: u64) -> bool
-    ensures { result ≡ effective.is_alignment bytes }
+    ensures { result ≡ tag.is_alignment bytes }
 {
     is_power_of_two(bytes) && bytes <= FRAME
 }
 
 fn is_boundary(bytes: u64) -> bool
-    ensures { result ≡ effective.is_boundary bytes }
+    ensures { result ≡ tag.is_boundary bytes }
 {
     bytes == 0 || is_power_of_two(bytes) && bytes >= LEAST_BOUNDARY
 }
 
 fn is_power_of_two(bytes: u64) -> bool
-    ensures { result ≡ effective.is_power_of_two bytes }
+    ensures { result ≡ tag.is_power_of_two bytes }
 {
     bytes.is_power_of_two()
 }
 
 fn segment_limit(spec: &TagLimits) -> u64
-    ensures { result ≡ effective.segment_limit spec.now }
+    ensures { result ≡ tag.segment_limit spec.now }
 {
     if spec.boundary == 0 {
         spec.maxsegsz
@@ -80,13 +80,13 @@ fn segment_limit(spec: &TagLimits) -> u64
 }
 
 fn frame_end(pa: Pa) -> Pa
-    ensures { result.0 ≡ effective.frame_end pa.0 }
+    ensures { result.0 ≡ tag.frame_end pa.0 }
 {
     Pa(pa.0 / FRAME * FRAME + (FRAME - 1))
 }
 
 fn least_boundary(parent: u64, child: u64) -> u64
-    ensures { result ≡ effective.least_boundary parent child }
+    ensures { result ≡ tag.least_boundary parent child }
 {
     match (parent, child) {
         (0, _) => child,

@@ -1,8 +1,9 @@
 //! Tags: what a device asks of the addresses that it is given.
 
-ghost use Rattle.std.specs.Prelude.{◌≡◌, ◌↔◌, IsErr, IsOk, IsNone, IfOk, Some};
+ghost use Rattle.std.specs.Prelude.{◌≡◌, ◌↔◌, ◌∷◌, All, IsErr, IsOk, IsNone, IfOk, Some};
 ghost use Rattle.std.specs.Option.{option_copied};
 ghost use Rattle.busdma_base.specs.Tag.{IsAccepted, IsEffective, effective, excluded, could_bounce, needs_bounce};
+ghost use Rattle.dma_tag.specs.Chain.{IsNarrowest, IsOwn, last_of};
 
 use crate::einval::Einval;
 use crate::limits::{FRAME, inherit, normal};
@@ -29,7 +30,11 @@ impl Model for Tag {
 
 impl Tag {
     /// Makes a tag of these limits, below a parent where there is one, after
-    /// bus_dma_tag_create(9).
+    /// bus_dma_tag_create(9). It takes no memory, and what becomes of the parent does not bear on
+    /// it.
+    ///
+    /// It is refused where the alignment is no power of two from 1 to 4096, where the boundary is
+    /// neither 0 nor a power of two of at least 16, and where `maxsegsz` is 0.
     pub fn create(parent: Option<&Tag>, spec: &TagLimits) -> Result<Tag, Einval>
         ensures made { IfOk result (λ t. effective (option_copied parent.entry) spec.now ≡ Some t) }
         ensures effective { IfOk result IsEffective }
@@ -44,7 +49,22 @@ impl Tag {
         Ok(Tag { limits })
     }
 
-    /// The tag's effective limits.
+    /// Makes the last tag of a chain, in which each is the child of the one before it. It is
+    /// refused where one of them is.
+    pub fn create_chain(first: &TagLimits, rest: &[TagLimits]) -> Result<Tag, Einval>
+        ensures narrowest { IfOk result (IsNarrowest (first.now ∷ rest.now)) }
+        ensures own { IfOk result (IsOwn (last_of first.now rest.now)) }
+        ensures accepted { IsOk result ↔ All IsAccepted (first.now ∷ rest.now) }
+    {
+        let mut tag = Tag::create(None, first)?;
+        for spec in rest {
+            tag = Tag::create(Some(&tag), spec)?;
+        }
+        Ok(tag)
+    }
+
+    /// The tag's effective limits, in which `lowaddr` and `highaddr` are each the last byte of a
+    /// frame.
     pub fn limits(&self) -> &TagLimits
         ensures limits { result.now ≡ self.now }
         ensures effective { IsEffective self.now }
@@ -52,7 +72,8 @@ impl Tag {
         &self.limits
     }
 
-    /// Whether the device cannot reach the address.
+    /// Whether the bus address lies in the window that the device cannot reach: above `lowaddr`, up
+    /// to `highaddr`.
     pub fn excluded(&self, pa: Pa) -> bool
         ensures { result ≡ excluded self.now pa.0 }
     {

@@ -1,4 +1,4 @@
-use Rattle.std.proofs.Common.{◌≡◌, subst, rules, sym}
+use Rattle.std.proofs.Common.{subst, rules}
 use Rattle.busdma_base.specs.Tag.{IsEffective}
 use Rattle.dma_tag.proofs.Effective.{IsEffective-inherit}
 use Rattle.dma_tag.proofs.limits.inherit.Goals as goal

@@ -1,4 +1,4 @@
-use Rattle.std.proofs.Common.{◌≡◌, ◌∙◌, sym, subst, rules, arith, refl}
+use Rattle.std.proofs.Common.{◌∙◌, sym, subst, rules, arith, refl}
 use Rattle.std.proofs.lemmas.Bool.{false≢true}
 use Rattle.busdma_base.specs.Tag.{IsEffective}
 use Rattle.dma_tag.proofs.Effective.{IsEffective-rounded, is_accepted_decides}
