@@ -24,7 +24,7 @@ segment_limit t = if t.boundary == 0 then t.maxsegsz else min t.boundary t.maxse
 abbrev pub frame_end : ℕ → ℕ
 frame_end a = a / 4096 * 4096 + 4095
 
--- The limits with whole frames below and above the excluded window, and no segment longer than a boundary.
+-- The limits with lowaddr and highaddr at the last byte of their frame, and maxsegsz cut to the boundary.
 abbrev pub rounded : TagLimits → TagLimits
 rounded t = record t {
   lowaddr = record { 0 = frame_end t.lowaddr.0 };
@@ -32,7 +32,7 @@ rounded t = record t {
   maxsegsz = segment_limit t;
 }
 
--- The limits are not refused: alignment and boundary are right, and some byte fits into a segment.
+-- The limits are not refused: alignment and boundary are right, and a segment can have a byte.
 abbrev pub is_accepted : TagLimits → Bool
 is_accepted t = is_alignment t.alignment && is_boundary t.boundary && not (segment_limit t == 0)
 
@@ -44,7 +44,7 @@ normal t = if is_accepted t then Some (rounded t) else None
 abbrev pub least_boundary : ℕ → ℕ → ℕ
 least_boundary a b = if a == 0 then b else if b == 0 then a else min a b
 
--- A child's limits, narrowed by its parent's: neither the sizes nor the flags of the parent count.
+-- A child's limits, narrowed by its parent's. Sizes, the number of segments and flags are the child's own.
 abbrev pub inherit : TagLimits → TagLimits → TagLimits
 inherit parent child = record child {
   alignment = max parent.alignment child.alignment;
@@ -77,14 +77,14 @@ pub record IsEffective (t : TagLimits) : Type 0 where
   pub lowaddr : t.lowaddr.0 % 4096 ≡ 4095
   pub highaddr : t.highaddr.0 % 4096 ≡ 4095
 
--- The device cannot reach the address.
+-- The device cannot reach the address: it lies above lowaddr, and not above highaddr.
 abbrev pub excluded : TagLimits → ℕ → Bool
 excluded t a = nat_lt t.lowaddr.0 a && nat_le a t.highaddr.0
 
--- Some address of a machine of `maxmem` frames could need a bounce page.
+-- Some address could need a bounce page, where frame numbers are below maxmem.
 abbrev pub could_bounce : TagLimits → ℕ → Bool
 could_bounce t maxmem = nat_lt t.lowaddr.0 (4096 * maxmem) || nat_lt 1 t.alignment
 
--- The address needs a bounce page, in a machine of `maxmem` frames.
+-- The address needs a bounce page, where frame numbers are below maxmem.
 abbrev pub needs_bounce : TagLimits → ℕ → ℕ → Bool
 needs_bounce t maxmem a = could_bounce t maxmem && (excluded t a || not (a % t.alignment == 0))

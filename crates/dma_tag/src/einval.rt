@@ -1,5 +1,7 @@
 //! The one refusal of a tag's making.
 
+ghost use Rattle.std.specs.Prelude.{Some, codes};
+
 use std::error::Error;
 use std::fmt;
 
@@ -8,6 +10,8 @@ use std::fmt;
 pub struct Einval;
 
 impl fmt::Display for Einval {
+    ghost output = { λ _. Some (codes "invalid alignment, boundary or maxsegsz") };
+
     fn fmt<W: fmt::Write>(&self, f: &mut fmt::Formatter<W>) -> fmt::Result {
         write!(f, "invalid alignment, boundary or maxsegsz")
     }
