@@ -1,0 +1,96 @@
+//! Values by the place in the script of the operation that made them.
+
+ghost use Rattle.std.specs.Prelude.{◌≡◌, ◌+◌, ◌-◌, ◌<◌, ◌≤◌, None, IfOk, IfNone, OnOk, OnSome, option_copied, slice_index_or};
+ghost use Rattle.std.specs.FinMap as map;
+
+use slab::Slab;
+use std::alloc::{AllocError, Global};
+use std::marker::Model;
+
+/// A table of values by script place.
+///
+/// Its index has room for all places from the start; `spare` is how many values may still be put
+/// without memory.
+#[derive(Drop)]
+pub struct PlaceTable<T> {
+    keys: Vec<Option<usize>>,
+    values: Slab<T>,
+}
+
+impl<T> Model for PlaceTable<T> {
+    ghost use Rattle.std.specs.Prelude.{◌-◌, length};
+    ghost use Rattle.slab.specs.Slab.{slab_len};
+    ghost use Rattle.lane_tables.specs.Places.{Places, places_code};
+
+    ghost Value = { Places T };
+
+    ghost coded = { places_code T.code };
+
+    ghost use Rattle.lane_tables.specs.Slots.{by_place, IsKept};
+
+    ghost view = { λ t. record {
+      map = by_place t.keys.items t.values;
+      places = length t.keys.items;
+      spare = t.values.capacity - slab_len t.values;
+    } };
+
+    ghost invariant = { λ t. IsKept t.keys.items t.values };
+}
+
+// The key that stands at a place.
+fn key_at(keys: &[Option<usize>], place: u32) -> Option<usize>
+    ensures { result ≡ slice_index_or keys.now place None }
+{
+    *keys.get(place as usize)?
+}
+
+impl<T> PlaceTable<T> {
+    /// An empty table for the places below `places`.
+    pub fn new(alloc: Global, places: u32) -> Result<PlaceTable<T>, AllocError>
+        ensures { IfOk result (λ t. t ≡ record { map = map.empty; places = places; spare = 0 }) }
+    {
+        Ok(PlaceTable {
+            keys: vec![in alloc; None; places as usize]?,
+            values: Slab::new(alloc),
+        })
+    }
+
+    /// Makes room for one more value, where there is none.
+    pub fn reserve(&mut self, _alloc: Global) -> Result<(), AllocError>
+        ensures room { OnOk result (1 ≤ self.new.spare) }
+        ensures kept { self.new ≡ record self.old { spare = self.new.spare } }
+        ensures spare { self.old.spare ≤ self.new.spare }
+    {
+        self.values.reserve(1)
+    }
+
+    /// Puts a value at a place, which uses one of the spare room.
+    pub fn put(&mut self, place: u32, value: T)
+        requires room { 1 ≤ self.old.spare }
+        requires in_script { place < self.old.places }
+        requires vacant { map.get self.old.map place ≡ None }
+        ensures { self.new ≡ record self.old { map = map.insert self.old.map place value; spare = self.old.spare - 1 } }
+    {
+        self.keys[place as usize] = Some(self.values.insert_reserved(value));
+    }
+
+    /// The value at a place, or None where it holds nothing.
+    pub fn get(&self, place: u32) -> Option<&T>
+        ensures { option_copied result ≡ map.get self.now.map place }
+    {
+        let key = key_at(&self.keys, place)?;
+        self.values.get(key)
+    }
+
+    /// Takes the value at a place out, or answers None where it holds nothing. Its room is spare
+    /// again.
+    pub fn take(&mut self, place: u32) -> Option<T>
+        ensures value { result ≡ map.get self.old.map place }
+        ensures taken { OnSome result (self.new ≡ record self.old { map = map.remove self.old.map place; spare = self.old.spare + 1 }) }
+        ensures none { IfNone result (self.new ≡ self.old) }
+    {
+        let key = key_at(&self.keys, place)?;
+        self.keys[place as usize] = None;
+        Some(self.values.remove(key))
+    }
+}
