@@ -1,2 +1,4 @@
 pub mod Places
+pub mod Queues
+pub mod Schedule
 pub mod Slots

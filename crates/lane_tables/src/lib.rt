@@ -2,6 +2,10 @@
 //! queues of its work.
 #![tactic(auto)]
 
+mod agenda;
 mod place_table;
+mod queued;
 
+pub use agenda::Agenda;
 pub use place_table::PlaceTable;
+pub use queued::{QueuedItem, QueuedPage, Returned};

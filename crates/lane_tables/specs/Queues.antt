@@ -1,0 +1,48 @@
+-- What stands in a driver's queues.
+use Rattle.std.specs.Prelude.{ℕ, ◌+◌, Bool, ◌&&◌, ◌==◌, List, [], ◌∷◌, length, map, sum_by}
+use Rattle.std.specs.List.{list_any}
+use Rattle.busdma_base.specs.declared.name.MapId.{MapId}
+use Rattle.busdma_base.specs.declared.name.ZoneId.{ZoneId}
+use Rattle.busdma_base.specs.declared.script.Op.{Op}
+use Rattle.busdma_base.specs.declared.script.Item.{Item}
+use Rattle.busdma_base.specs.declared.script.Item.TheVariants as item
+use Rattle.busdma_base.specs.Framed.{Framed}
+use Rattle.busdma_base.specs.Script.{items_of}
+use Rattle.lane_tables.specs.declared.queued.QueuedItem.{QueuedItem}
+use Rattle.lane_tables.specs.declared.queued.QueuedPage.{QueuedPage}
+
+-- how many items a script has
+abbrev pub item_count : List Op → ℕ
+item_count script = sum_by (λ o. length (items_of o)) script
+
+-- items of a load, in order, the first of which has a place among the load's items
+abbrev pub queued_from : ℕ → ℕ → List Item → List QueuedItem
+queued_from load_at place [] = []
+queued_from load_at place (i ∷ items) = record { load_at = load_at; place = place; item = i } ∷ queued_from load_at (place + 1) items
+
+-- all items of a load, in order
+abbrev pub queued : ℕ → List Item → List QueuedItem
+queued load_at items = queued_from load_at 0 items
+
+-- an item names the map that was made at a place
+abbrev pub item_names : ℕ → Item → Bool
+item_names made_at (item.Sync map ops) = map == made_at
+item_names made_at (item.SyncRange map off len ops) = map == made_at
+item_names made_at (item.DevRead map off len) = map == made_at
+item_names made_at (item.DevWrite map off bytes) = map == made_at
+
+-- an item of the queue names it
+abbrev pub queue_names : ℕ → List QueuedItem → Bool
+queue_names made_at queue = list_any (λ q. item_names made_at q.item) queue
+
+-- pages of a map, in order
+abbrev pub queued_pages : MapId → ZoneId → List Framed → List QueuedPage
+queued_pages m zone pages = map (λ page. record { map = m; zone = zone; page = page }) pages
+
+-- a page of the queue is the map's
+abbrev pub is_of : MapId → QueuedPage → Bool
+is_of m page = (page.map.lane.0 == m.lane.0) && (page.map.made_at == m.made_at)
+
+-- some page of the queue is the map's
+abbrev pub has_page : MapId → List QueuedPage → Bool
+has_page m queue = list_any (is_of m) queue

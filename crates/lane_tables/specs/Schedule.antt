@@ -1,0 +1,14 @@
+-- What contracts see of a driver's agenda.
+use Rattle.std.specs.Prelude.{ℕ, List}
+use Rattle.lane_tables.specs.declared.queued.QueuedItem.{QueuedItem}
+use Rattle.lane_tables.specs.declared.queued.QueuedPage.{QueuedPage}
+
+-- the place of the next operation, the length of the script, the transfer queue and the return
+-- queue, how many items may still be pushed, and how many pages are promised a place
+pub record Schedule : Type 0 where
+  pub place : ℕ
+  pub length : ℕ
+  pub queue : List QueuedItem
+  pub returns : List QueuedPage
+  pub room : ℕ
+  pub promised : ℕ

@@ -1,0 +1,236 @@
+//! A driver's place in its script, its transfer queue and its return queue.
+
+ghost use Rattle.std.specs.Prelude.{◌≡◌, ◌+◌, ◌-◌, ◌^◌, ◌<◌, ◌≤◌, [], ◌∷◌, ◌++◌, length, not, slice_get, IfNone, IfOk, IfSome, OnErr, OnOk, OnSome, option_copied};
+ghost use Rattle.std.specs.Option.{SomeIff};
+ghost use Rattle.std.specs.VecDeque.{deque_capacity};
+ghost use Rattle.busdma_base.specs.Script.{items_of};
+ghost use Rattle.lane_tables.specs.Queues.{item_count, queued, queue_names, queued_pages, has_page};
+
+use crate::queued::{QueuedItem, QueuedPage, Returned, item_names};
+use busdma_base::{Driver, ItemList, ListOf, MapId, Op, Page, ZoneId};
+use std::alloc::{AllocError, Global};
+use std::collections::VecDeque;
+use std::marker::Model;
+
+/// What a driver has yet to do: the place of its next operation, the items that its device has to
+/// transfer, and the pages that its maps give back.
+///
+/// The transfer queue has room for all items of the script from the start. The return queue has
+/// room for the pages that are promised a place.
+#[derive(Drop)]
+pub struct Agenda {
+    place: u32,
+    script_len: u32,
+    queue: VecDeque<QueuedItem>,
+    returns: VecDeque<QueuedPage>,
+    promised: u32,
+}
+
+impl Model for Agenda {
+    ghost use Rattle.std.specs.Prelude.{◌+◌, ◌-◌, ◌^◌, ◌<◌, ◌≤◌, length};
+    ghost use Rattle.std.specs.VecDeque.{deque_capacity};
+    ghost use Rattle.lane_tables.specs.Schedule.{Schedule};
+
+    ghost Value = { Schedule };
+
+    ghost view = { λ a. record {
+      place = a.place;
+      length = a.script_len;
+      queue = a.queue.items;
+      returns = a.returns.items;
+      room = deque_capacity a.queue - length a.queue.items;
+      promised = a.promised;
+    } };
+
+    ghost invariant = { λ a.
+        (a.place ≤ a.script_len) × (deque_capacity a.queue < 2 ^ 32)
+        × (length a.returns.items + a.promised ≤ deque_capacity a.returns) };
+}
+
+// How many items an operation has.
+fn item_len(op: &Op) -> usize
+    ensures { result ≡ length (items_of op.now) }
+{
+    match op {
+        Op::Load { then, .. } => then.len(),
+        _ => 0,
+    }
+}
+
+// How many items a script has, where they can be counted.
+fn item_count(script: &[Op]) -> Option<u32>
+    ensures { SomeIff result (item_count script.now < 2 ^ 32) (item_count script.now) }
+{
+    let mut count = 0usize;
+    for op in script {
+        count = count.checked_add(item_len(op))?;
+    }
+    u32::try_from(count).ok()
+}
+
+// Appends the items of a load, in order.
+fn push_all(queue: &mut VecDeque<QueuedItem>, load_at: u32, items: ItemList)
+    requires room { length queue.old.items + length items ≤ deque_capacity queue.old }
+    requires few { deque_capacity queue.old < 2 ^ 32 }
+    ensures items { queue.new.items ≡ queue.old.items ++ queued load_at items }
+    ensures capacity { deque_capacity queue.new ≡ deque_capacity queue.old }
+{
+    let mut place = 0;
+    for item in items.into_vec() {
+        queue.push_back_reserved(QueuedItem {
+            load_at,
+            place,
+            item,
+        });
+        place += 1;
+    }
+}
+
+// Appends the pages of a map, in order.
+fn push_pages(queue: &mut VecDeque<QueuedPage>, map: MapId, zone: ZoneId, pages: ListOf<Page>)
+    requires { length queue.old.items + length pages ≤ deque_capacity queue.old }
+    ensures items { queue.new.items ≡ queue.old.items ++ queued_pages map zone pages }
+    ensures capacity { deque_capacity queue.new ≡ deque_capacity queue.old }
+{
+    for page in pages.into_vec() {
+        queue.push_back_reserved(QueuedPage { map, zone, page });
+    }
+}
+
+// Whether some page of the queue is the map's.
+fn has_page(queue: &VecDeque<QueuedPage>, map: MapId) -> bool
+    ensures { result ≡ has_page map queue.now.items }
+{
+    queue.iter().any(|queued| queued.map == map)
+}
+
+impl Agenda {
+    /// The agenda of a driver that has done nothing. A script or its items that cannot be counted
+    /// in 32 bits are want of memory.
+    pub fn new(alloc: Global, driver: &Driver) -> Result<Agenda, AllocError>
+        ensures { IfOk result (λ a. a ≡ record {
+          place = 0;
+          length = length driver.now.script;
+          queue = [];
+          returns = [];
+          room = item_count driver.now.script;
+          promised = 0;
+        }) }
+    {
+        let script = driver.script.as_slice();
+        let script_len = u32::try_from(script.len()).map_err(|_| AllocError)?;
+        let room = item_count(script).ok_or(AllocError)?;
+        Ok(Agenda {
+            place: 0,
+            script_len,
+            queue: VecDeque::with_capacity(alloc, room as usize)?,
+            returns: VecDeque::new(alloc),
+            promised: 0,
+        })
+    }
+
+    /// The place in the script of the next operation.
+    pub fn place(&self) -> u32
+        ensures { result ≡ self.now.place }
+    {
+        self.place
+    }
+
+    /// Goes on to the next operation.
+    pub fn advance(&mut self)
+        requires { self.old.place < self.old.length }
+        ensures { self.new ≡ record self.old { place = self.old.place + 1 } }
+    {
+        self.place += 1;
+    }
+
+    /// Appends the items of the load at a place to the transfer queue, in order; they use the room.
+    pub fn push_items(&mut self, load_at: u32, items: ItemList)
+        requires { length items ≤ self.old.room }
+        ensures { self.new ≡ record self.old {
+          queue = self.old.queue ++ queued load_at items;
+          room = self.old.room - length items;
+        } }
+    {
+        push_all(&mut self.queue, load_at, items);
+    }
+
+    /// The first item of the transfer queue, or None where it is empty.
+    pub fn first(&self) -> Option<&QueuedItem>
+        ensures { option_copied result ≡ slice_get self.now.queue 0 }
+    {
+        self.queue.front()
+    }
+
+    /// Takes the first item out of the transfer queue, or answers None where it is empty. The room
+    /// of the item is there again.
+    pub fn pop(&mut self) -> Option<QueuedItem>
+        ensures item { IfSome result (λ item. self.old.queue ≡ item ∷ self.new.queue) }
+        ensures rest { OnSome result (self.new ≡ record self.old { queue = self.new.queue; room = self.old.room + 1 }) }
+        ensures empty { IfNone result (self.old.queue ≡ []) }
+        ensures none { IfNone result (self.new ≡ self.old) }
+    {
+        self.queue.pop_front()
+    }
+
+    /// Whether an item of the transfer queue names the map that was made at a place.
+    pub fn names(&self, made_at: u32) -> bool
+        ensures { result ≡ queue_names made_at self.now.queue }
+    {
+        self.queue
+            .iter()
+            .any(|queued| item_names(&queued.item, made_at))
+    }
+
+    /// Promises so many further pages a place in the return queue.
+    pub fn promise(&mut self, _alloc: Global, pages: u32) -> Result<(), AllocError>
+        requires { self.old.promised + pages < 2 ^ 32 }
+        ensures ok { OnOk result (self.new ≡ record self.old { promised = self.old.promised + pages }) }
+        ensures err { OnErr result (self.new ≡ self.old) }
+    {
+        let promised = self.promised + pages;
+        self.returns.reserve(promised as usize)?;
+        self.promised = promised;
+        Ok(())
+    }
+
+    /// Takes the promise of so many pages back.
+    pub fn unpromise(&mut self, pages: u32)
+        requires { pages ≤ self.old.promised }
+        ensures { self.new ≡ record self.old { promised = self.old.promised - pages } }
+    {
+        self.promised -= pages;
+    }
+
+    /// Appends the pages of a map to the return queue, in order; they use as many promises.
+    pub fn push_returns(&mut self, map: MapId, zone: ZoneId, pages: ListOf<Page>)
+        requires { length pages ≤ self.old.promised }
+        ensures { self.new ≡ record self.old {
+          returns = self.old.returns ++ queued_pages map zone pages;
+          promised = self.old.promised - length pages;
+        } }
+    {
+        let promised = self.promised as usize - pages.len();
+        self.promised = promised as u32;
+        push_pages(&mut self.returns, map, zone, pages);
+    }
+
+    /// Takes the first page out of the return queue, or answers None where it is empty.
+    pub fn pop_return(&mut self) -> Option<Returned>
+        ensures page { IfSome result (λ r.
+            self.old.returns ≡ record { map = r.map; zone = r.zone; page = r.page } ∷ self.new.returns) }
+        ensures last { IfSome result (λ r. r.last ≡ not (has_page r.map self.new.returns)) }
+        ensures rest { OnSome result (self.new ≡ record self.old { returns = self.new.returns }) }
+        ensures empty { IfNone result (self.old.returns ≡ []) }
+        ensures none { IfNone result (self.new ≡ self.old) }
+    {
+        let QueuedPage { map, zone, page } = self.returns.pop_front()?;
+        let last = !has_page(&self.returns, map);
+        Some(Returned {
+            map,
+            zone,
+            page,
+            last,
+        })
+    }
+}

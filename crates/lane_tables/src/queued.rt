@@ -1,0 +1,44 @@
+//! What stands in a driver's queues.
+
+ghost use Rattle.std.specs.Prelude.{◌≡◌};
+ghost use Rattle.lane_tables.specs.Queues.{item_names};
+
+use busdma_base::{Item, MapId, Page, ZoneId};
+
+/// An item of the transfer queue: `load_at` is the place in the script of the load that brought it,
+/// `place` its place among that load's items.
+#[derive(Debug, Drop)]
+pub struct QueuedItem {
+    pub load_at: u32,
+    pub place: u32,
+    pub item: Item,
+}
+
+/// A page of the return queue, which its map held and its zone gets back.
+#[derive(Debug, Drop)]
+pub struct QueuedPage {
+    pub map: MapId,
+    pub zone: ZoneId,
+    pub page: Page,
+}
+
+/// A page that left the return queue; `last` tells that no further page of its map is there.
+#[derive(Debug, Drop)]
+pub struct Returned {
+    pub map: MapId,
+    pub zone: ZoneId,
+    pub page: Page,
+    pub last: bool,
+}
+
+// Whether an item names the map that was made at a place.
+pub(crate) fn item_names(item: &Item, made_at: u32) -> bool
+    ensures { result ≡ item_names made_at item.now }
+{
+    match item {
+        Item::Sync { map, .. }
+        | Item::SyncRange { map, .. }
+        | Item::DevRead { map, .. }
+        | Item::DevWrite { map, .. } => *map == made_at,
+    }
+}
