@@ -2,6 +2,7 @@
 use Rattle.std.specs.Prelude.{ℕ, refl}
 use Rattle.std.specs.Ordering.{nat_cmp}
 use Rattle.std.specs.FinMap as map
+use Rattle.std.specs.Borrow.{Bor}
 use Rattle.std.specs.Coded.{Coded, code_by, coded×, coded_ℕ}
 
 -- the value at each place that has one, how many places there are, and how many values may still be put
@@ -19,3 +20,7 @@ places_code {T} code =
     (λ t. (t.map, (t.places, t.spare)))
     (λ p. record { map = p.0; places = p.1.0; spare = p.1.1 })
     (λ _. refl)
+
+-- a place and the value behind a reference
+abbrev pub shown : {T : Type 0} → ℕ × Bor T → ℕ × T
+shown p = (p.0, p.1.now)

@@ -5,7 +5,9 @@
 mod agenda;
 mod place_table;
 mod queued;
+#[cfg(test)]
+mod tests;
 
 pub use agenda::Agenda;
-pub use place_table::PlaceTable;
+pub use place_table::{Iter, PlaceTable};
 pub use queued::{QueuedItem, QueuedPage, Returned};

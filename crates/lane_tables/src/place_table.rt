@@ -1,7 +1,11 @@
 //! Values by the place in the script of the operation that made them.
 
-ghost use Rattle.std.specs.Prelude.{◌≡◌, ◌+◌, ◌-◌, ◌<◌, ◌≤◌, None, IfOk, IfNone, OnOk, OnSome, option_copied, slice_index_or};
+ghost use Rattle.std.specs.Prelude.{◌≡◌, ◌+◌, ◌-◌, ◌<◌, ◌≤◌, length, None, IfOk, IfNone, OnOk, OnSome, option_copied, slice_index_or};
 ghost use Rattle.std.specs.FinMap as map;
+ghost use Rattle.std.specs.Iterator.{at_most};
+ghost use Rattle.std.specs.Map.Iter.{TakesFirst, ShowsInOrder};
+ghost use Rattle.lane_tables.specs.Places.{shown};
+ghost use Rattle.lane_tables.specs.Slots.{value_under};
 
 use slab::Slab;
 use std::alloc::{AllocError, Global};
@@ -44,6 +48,13 @@ fn key_at(keys: &[Option<usize>], place: u32) -> Option<usize>
     *keys.get(place as usize)?
 }
 
+// The value under a key, where there is one.
+fn value_under<T>(values: &Slab<T>, key: Option<usize>) -> Option<&T>
+    ensures { option_copied result ≡ value_under values.now key }
+{
+    values.get(key?)
+}
+
 impl<T> PlaceTable<T> {
     /// An empty table for the places below `places`.
     pub fn new(alloc: Global, places: u32) -> Result<PlaceTable<T>, AllocError>
@@ -78,8 +89,19 @@ impl<T> PlaceTable<T> {
     pub fn get(&self, place: u32) -> Option<&T>
         ensures { option_copied result ≡ map.get self.now.map place }
     {
-        let key = key_at(&self.keys, place)?;
-        self.values.get(key)
+        value_under(&self.values, key_at(&self.keys, place))
+    }
+
+    /// The places that hold a value, each with its value, in the order of places.
+    pub fn iter(&self) -> Iter<'_, T>
+        ensures rest { result ≡ map.entries self.now.map }
+        ensures runs { ShowsInOrder (shown {T = T}) }
+    {
+        Iter {
+            keys: self.keys.as_slice(),
+            place: 0,
+            values: &self.values,
+        }
     }
 
     /// Takes the value at a place out, or answers None where it holds nothing. Its room is spare
@@ -92,5 +114,47 @@ impl<T> PlaceTable<T> {
         let key = key_at(&self.keys, place)?;
         self.keys[place as usize] = None;
         Some(self.values.remove(key))
+    }
+}
+
+/// The places that hold a value, each with its value, seen as the list of those that are left.
+#[derive(Drop)]
+pub struct Iter<'a, T> {
+    keys: &'a [Option<usize>],
+    // The place of the first of `keys`.
+    place: u32,
+    values: &'a Slab<T>,
+}
+
+impl<'a, T> Model for Iter<'a, T> {
+    ghost use Rattle.std.specs.Prelude.{ℕ, ◌+◌, ◌^◌, ◌<◌, List, length};
+    ghost use Rattle.slab.specs.Slab.{entries_from};
+
+    ghost Value = { List (ℕ × T) };
+
+    ghost use Rattle.lane_tables.specs.Slots.{slots};
+
+    ghost view = { λ it. entries_from it.place (slots it.keys.now it.values.now) };
+
+    ghost invariant = { λ it. it.place + length it.keys.now < 2 ^ 32 };
+}
+
+impl<'a, T> Iterator for Iter<'a, T> {
+    type Item = (u32, &'a T);
+
+    ghost next_gives = { TakesFirst shown };
+
+    ghost remaining = { λ it. at_most (length it) };
+
+    fn next(&mut self) -> Option<(u32, &'a T)> {
+        while let Some((key, rest)) = self.keys.split_first() {
+            let place = self.place;
+            self.keys = rest;
+            self.place += 1;
+            if let Some(value) = value_under(self.values, *key) {
+                return Some((place, value));
+            }
+        }
+        None
     }
 }

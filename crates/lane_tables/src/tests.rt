@@ -1,0 +1,108 @@
+ghost use Rattle.std.specs.Prelude.{◌≡◌, ◌^◌, ◌<◌, length, IfOk};
+
+use crate::{Agenda, PlaceTable};
+use busdma_base::{Driver, Item, LaneId, ListOf, MapId, Op, Page, Place, Va, ZoneId};
+use std::alloc::{AllocError, Global};
+use std::test::Fail;
+
+#[test]
+fn values_stand_at_their_places(rt: HostRuntime) -> Result<(), Fail> {
+    let mut table = PlaceTable::new(rt.alloc(), 4)?;
+    table.reserve(rt.alloc())?;
+    assert!(rt; table.get(2).is_none());
+    table.put(2, 'c');
+    table.reserve(rt.alloc())?;
+    assert!(rt; table.get(0).is_none());
+    table.put(0, 'a');
+    assert_eq!(rt; table.take(2), Some('c'));
+    assert_eq!(rt; table.take(2), None);
+    assert_eq!(rt; table.take(4_000_000_000), None);
+    table.reserve(rt.alloc())?;
+    assert!(rt; table.get(3).is_none());
+    table.put(3, 'd');
+    assert_eq!(rt; table.get(0).copied(), Some('a'));
+    assert_eq!(rt; table.get(2).copied(), None);
+    let values: Vec<(u32, char)> = table
+        .iter()
+        .map(|(place, value)| (place, *value))
+        .collect(rt.alloc())?;
+    assert_eq!(rt; values.as_slice(), [(0, 'a'), (3, 'd')].as_slice());
+    Ok(())
+}
+
+fn read(map: u32) -> Item {
+    Item::DevRead {
+        map,
+        off: 0,
+        len: 1,
+    }
+}
+
+fn load(map: u32, then: ListOf<Item>) -> Op {
+    Op::Load {
+        map,
+        place: Place::At(Va(0)),
+        len: 4,
+        flags: 0,
+        then,
+    }
+}
+
+#[test]
+fn items_leave_in_the_order_of_their_loads(rt: HostRuntime) -> Result<(), Fail> {
+    let alloc = rt.alloc();
+    let driver = Driver {
+        pages: ListOf::new(Vec::new(alloc)),
+        script: ListOf::new(vec![in alloc;
+            load(0, ListOf::new(vec![in alloc; read(0), read(0)]?)),
+            load(1, ListOf::new(vec![in alloc; read(1)]?))
+        ]?),
+    };
+    let mut agenda = Agenda::new(alloc, &driver)?;
+    assert_eq!(rt; agenda.place(), 0);
+    agenda.push_items(0, ListOf::new(vec![in alloc; read(0), read(0)]?));
+    agenda.advance();
+    agenda.push_items(1, ListOf::new(vec![in alloc; read(1)]?));
+    assert_eq!(rt; agenda.place(), 1);
+    assert!(rt; agenda.names(0) && agenda.names(1) && !agenda.names(2));
+    assert_eq!(rt; agenda.first().map(|queued| queued.load_at), Some(0));
+    for (load_at, place) in [(0, 0), (0, 1), (1, 0)] {
+        let queued = agenda.pop().ok_or("no item")?;
+        assert_eq!(rt; (queued.load_at, queued.place), (load_at, place));
+    }
+    assert!(rt; agenda.pop().is_none() && !agenda.names(1));
+    Ok(())
+}
+
+fn page(alloc: Global, frame: u64) -> Result<ListOf<Page>, AllocError>
+    requires { frame < 2 ^ 30 }
+    ensures { IfOk result (λ pages. length pages ≡ 1) }
+{
+    Ok(ListOf::new(vec![in alloc; Page::new(alloc, frame, 0)?]?))
+}
+
+#[test]
+fn the_last_page_of_each_map_is_told(rt: HostRuntime) -> Result<(), Fail> {
+    let alloc = rt.alloc();
+    let driver = Driver {
+        pages: ListOf::new(Vec::new(alloc)),
+        script: ListOf::new(Vec::new(alloc)),
+    };
+    let mut agenda = Agenda::new(alloc, &driver)?;
+    agenda.promise(alloc, 3)?;
+    agenda.promise(alloc, 2)?;
+    agenda.unpromise(2);
+    let [first, second] = [1, 2].map(|made_at| MapId {
+        lane: LaneId(0),
+        made_at,
+    });
+    agenda.push_returns(first, ZoneId(0), page(alloc, 7)?);
+    agenda.push_returns(second, ZoneId(0), page(alloc, 8)?);
+    agenda.push_returns(first, ZoneId(0), page(alloc, 9)?);
+    for (map, frame, last) in [(first, 7, false), (second, 8, true), (first, 9, true)] {
+        let returned = agenda.pop_return().ok_or("no page")?;
+        assert_eq!(rt; (returned.map, returned.page.frame(), returned.last), (map, frame, last));
+    }
+    assert!(rt; agenda.pop_return().is_none());
+    Ok(())
+}
