@@ -1,4 +1,5 @@
 ghost use Rattle.std.specs.Prelude.{◌≡◌, ◌^◌, ◌<◌, length, IfOk};
+ghost use Rattle.busdma_base.specs.Script.{items_of};
 
 use crate::{Agenda, PlaceTable};
 use busdma_base::{Driver, Item, LaneId, ListOf, MapId, Op, Page, Place, Va, ZoneId};
@@ -38,7 +39,9 @@ fn read(map: u32) -> Item {
     }
 }
 
-fn load(map: u32, then: ListOf<Item>) -> Op {
+fn load(map: u32, then: ListOf<Item>) -> Op
+    ensures { items_of result ≡ then }
+{
     Op::Load {
         map,
         place: Place::At(Va(0)),
@@ -55,7 +58,7 @@ fn items_leave_in_the_order_of_their_loads(rt: HostRuntime) -> Result<(), Fail> 
         pages: ListOf::new(Vec::new(alloc)),
         script: ListOf::new(vec![in alloc;
             load(0, ListOf::new(vec![in alloc; read(0), read(0)]?)),
-            load(1, ListOf::new(vec![in alloc; read(1)]?))
+            load(1, ListOf::new(vec![in alloc; read(1)]?)),
         ]?),
     };
     let mut agenda = Agenda::new(alloc, &driver)?;
@@ -101,7 +104,10 @@ fn the_last_page_of_each_map_is_told(rt: HostRuntime) -> Result<(), Fail> {
     agenda.push_returns(first, ZoneId(0), page(alloc, 9)?);
     for (map, frame, last) in [(first, 7, false), (second, 8, true), (first, 9, true)] {
         let returned = agenda.pop_return().ok_or("no page")?;
-        assert_eq!(rt; (returned.map, returned.page.frame(), returned.last), (map, frame, last));
+        assert_eq!(rt;
+            (returned.map, returned.page.frame(), returned.last),
+            (map, frame, last)
+        );
     }
     assert!(rt; agenda.pop_return().is_none());
     Ok(())
