@@ -42,9 +42,11 @@ impl Model for Agenda {
       promised = a.promised;
     } };
 
-    ghost invariant = { λ a.
-        (a.place ≤ a.script_len) × (deque_capacity a.queue < 2 ^ 32)
-        × (length a.returns.items + a.promised ≤ deque_capacity a.returns) };
+    ghost invariant = { λ a. record {
+      in_script : a.place ≤ a.script_len;
+      few : deque_capacity a.queue < 2 ^ 32;
+      reserved : length a.returns.items + a.promised ≤ deque_capacity a.returns;
+    } };
 }
 
 // How many items an operation has.
