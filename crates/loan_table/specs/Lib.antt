@@ -1,4 +1,7 @@
 pub mod Access
+pub mod Kinds
+pub mod Kept
 pub mod Lending
 pub mod Loans
 pub mod Table
+pub mod Trees

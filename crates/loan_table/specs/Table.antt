@@ -1,8 +1,12 @@
 -- A table of Known marks and loans, and what its calls make of it.
-use Rattle.std.specs.Prelude.{◌≡◌, ℕ, ◌+◌, Bool, false, List, [], ◌∷◌, ◌==◌, if◌then◌else◌, unwrap_or, IsSome}
+use Rattle.std.specs.Prelude.{◌≡◌, ℕ, ◌+◌, Bool, false, List, [], ◌∷◌, ◌==◌, if◌then◌else◌, unwrap_or, IsSome, IsNone, ⊤}
 use Rattle.std.specs.Ordering.{nat_cmp}
 use Rattle.std.specs.FinMap.{FinMap, get, insert, remove}
-use Rattle.loan_table.specs.Loans.{Loans}
+use Rattle.busdma_base.specs.declared.report.Judged.{Judged}
+use Rattle.busdma_base.specs.declared.report.Judged.TheVariants.{Fine, Refused}
+use Rattle.loan_table.specs.declared.position.Position.{Position}
+use Rattle.loan_table.specs.Loans.{Loans, loan_of}
+use Rattle.loan_table.specs.Lending.{synced, lost}
 
 -- the driver's bytes by physical address, each Known or not; the loans of its loaded maps; and for
 -- how many extents there is room to change
@@ -11,14 +15,31 @@ pub record Table : Type 0 where
   pub loans : Loans
   pub spare : ℕ
 
+-- the byte at an address has the mark of a Known one
+abbrev pub is_marked : FinMap nat_cmp Bool → ℕ → Bool
+is_marked bytes a = unwrap_or (get bytes a) false
+
 -- the byte at an address is Known
 abbrev pub is_known : Table → ℕ → Bool
-is_known t a = unwrap_or (get t.bytes a) false
+is_known t a = is_marked t.bytes a
+
+-- the map is in the table
+abbrev pub HasMap : Table → ℕ → Type 0
+HasMap t m = IsSome (get t.loans m)
+
+-- the positions of a map's buffer
+abbrev pub buffer_of : Table → ℕ → List Position
+buffer_of t m = (loan_of t.loans m).positions
 
 -- each of these bytes is in the table
 abbrev pub AreIn : FinMap nat_cmp Bool → List ℕ → Type 0
 AreIn bytes [] = Unit {0}
 AreIn bytes (a ∷ rest) = IsSome (get bytes a) × AreIn bytes rest
+
+-- none of these bytes is in the table
+abbrev pub AreNew : FinMap nat_cmp Bool → List ℕ → Type 0
+AreNew bytes [] = Unit {0}
+AreNew bytes (a ∷ rest) = IsNone (get bytes a) × AreNew bytes rest
 
 -- the bytes at these addresses marked
 abbrev pub set_all : FinMap nat_cmp Bool → List ℕ → Bool → FinMap nat_cmp Bool
@@ -34,6 +55,21 @@ without bytes (a ∷ rest) = without (remove bytes a) rest
 pub record IsSame (t u : Table) : Type 0 where
   pub bytes : u.bytes ≡ t.bytes
   pub loans : u.loans ≡ t.loans
+
+-- the table after a sync of a range of a map's buffer that is done
+pub record IsSynced (t u : Table) (m off len ops : ℕ) : Type 0 where
+  pub bytes : u.bytes ≡ set_all t.bytes (lost t.loans m off len ops) false
+  pub loans : u.loans ≡ synced t.loans m off len ops
+
+-- a fact for the answer Fine
+abbrev pub OnFine : Judged → Type 0 → Type 0
+OnFine Fine P = P
+OnFine (Refused r) P = ⊤
+
+-- a fact for a refusal
+abbrev pub OnRefused : Judged → Type 0 → Type 0
+OnRefused Fine P = ⊤
+OnRefused (Refused r) P = P
 
 -- how many runs of addresses that rise by one a list has, behind an address
 abbrev pub more_runs : ℕ → List ℕ → ℕ

@@ -1,6 +1,13 @@
 //! What the maps of a driver lend, and which of its bytes are Known.
 #![tactic(auto)]
 
+mod access;
+mod loans;
+mod marks;
 mod position;
+mod row;
+mod sync;
+mod table;
 
 pub use position::Position;
+pub use table::LoanTable;

@@ -1,0 +1,7 @@
+pub mod Addresses
+pub mod Judgement
+pub mod LoansInTree
+pub mod Marking
+pub mod Removal
+pub mod Results
+pub mod Trees

@@ -1,0 +1,15 @@
+use Rattle.std.proofs.Common.{ap, sym, ◌∙◌}
+use Rattle.std.proofs.lemmas.List.{drop_more}
+use Rattle.loan_table.specs.Lending.{loses}
+use Rattle.loan_table.proofs.Marking.{lose_yes, lose_no, no_position}
+use Rattle.loan_table.specs.Trees.{of_tree}
+use Rattle.loan_table.proofs.row.lose.Goals as goal
+use Rattle.loan_table.proofs.row.lose.Goals.{then-loses, else-loses}
+
+pub loop-position-preserved : goal.loop-position-preserved
+loop-position-preserved c =
+    let e = drop_more c.args.positions.now c.loop-position.position-index no_position c.loop-position-test.true in
+    elim c.if-loses.branch [
+      | then-loses w ↦ lose_yes _ _ _ (loses c.args.ops.0) _ _ _ e (sym c.loses.ensures ∙ w.if-loses.true) (ap (λ t. of_tree t) w.bytes-is ∙ w.set_known.ensures) c.loop-position.invariant
+      | else-loses w ↦ lose_no _ _ _ (loses c.args.ops.0) _ _ _ e (sym c.loses.ensures ∙ w.if-loses.false) (ap (λ t. of_tree t) w.bytes-is) c.loop-position.invariant
+    ]

@@ -1,0 +1,15 @@
+use Rattle.std.proofs.Common.{true, sym, subst}
+use Rattle.busdma_base.specs.Runs.{addresses}
+use Rattle.loan_table.specs.Kept.{AreLow}
+use Rattle.loan_table.proofs.Addresses.{AllEnd, AreIn-set_all, AreLow-set_all}
+use Rattle.loan_table.proofs.table.LoanTable.note_write.Goals as goal
+
+pub set_extents-requires-clause-ends : goal.set_extents-requires-clause-ends
+set_extents-requires-clause-ends c = AllEnd _ c.self.invariant.low _ (rw (← c.self.view_is) at c.requires.there)
+
+pub invariant_of-self : goal.invariant_of-self
+invariant_of-self c = record {
+  ordered = c.self.invariant.ordered;
+  inside = λ m. rw c.set_extents.ensures (AreIn-set_all _ (addresses c.args.bytes.now) true _ (c.self.invariant.inside m));
+  low = subst AreLow (sym c.set_extents.ensures) (AreLow-set_all _ (addresses c.args.bytes.now) true (rw (← c.self.view_is) at c.requires.there) c.self.invariant.low);
+}

@@ -1,0 +1,39 @@
+-- What each table keeps, and its values as codes.
+use Rattle.std.specs.Prelude.{ℕ, ◌+◌, ◌<◌, ◌^◌, Bool, List, IsSome, refl}
+use Rattle.std.specs.Coded.{Coded, code_by, coded×, coded_ℕ, coded_bool, coded_list}
+use Rattle.std.specs.Ordering.{nat_cmp}
+use Rattle.std.specs.BTreeMap.{BTreeMap, IsOrdered}
+use Rattle.std.specs.FinMap.{FinMap, get}
+use Rattle.std.specs.FinMap as map
+use Rattle.busdma_base.specs.declared.address.Extent.{Extent}
+use Rattle.loan_table.specs.declared.position.Position.{Position}
+use Rattle.loan_table.specs.Loans.{Loan, Loans, loan_of, addresses_of}
+use Rattle.loan_table.specs.Table.{Table, AreIn}
+use Rattle.loan_table.specs.Trees.{of_tree}
+
+-- the byte of each position of each buffer is in the table
+abbrev pub HasItsBytes : FinMap nat_cmp Bool → Loans → Type 0
+HasItsBytes bytes loans = (m : ℕ) → AreIn bytes (addresses_of (loan_of loans m).positions)
+
+-- the bytes of a table are memory
+abbrev pub AreLow : FinMap nat_cmp Bool → Type 0
+AreLow bytes = (a : ℕ) → IsSome (get bytes a) → a < 2 ^ 42
+
+-- an extent that has a byte ends below 2^64
+abbrev pub Ends : Extent → Type 0
+Ends e = 0 < e.len → e.pa.0 + e.len < 2 ^ 64
+
+-- what is true of the fields of each table
+pub record IsKept (bytes : BTreeMap ℕ Bool) (loans : BTreeMap ℕ Loan) : Type 0 where
+  pub ordered : IsOrdered nat_cmp loans
+  pub inside : HasItsBytes (of_tree bytes) (of_tree loans)
+  pub low : AreLow (of_tree bytes)
+
+abbrev pub position_code : Coded Position
+position_code = code_by (ℕ × (Bool × Bool)) (coded× coded_ℕ (coded× coded_bool coded_bool)) (λ p. (p.pa, (p.to_read, p.to_write))) (λ t. record { pa = t.0; to_read = t.1.0; to_write = t.1.1 }) (λ _. refl)
+
+abbrev pub loan_code : Coded Loan
+loan_code = code_by (Bool × List Position) (coded× coded_bool (coded_list position_code)) (λ l. (l.coherent, l.positions)) (λ t. record { coherent = t.0; positions = t.1 }) (λ _. refl)
+
+abbrev pub table_code : Coded Table
+table_code = code_by (FinMap nat_cmp Bool × (Loans × ℕ)) (coded× (map.code coded_ℕ coded_bool) (coded× (map.code coded_ℕ loan_code) coded_ℕ)) (λ t. (t.bytes, (t.loans, t.spare))) (λ t. record { bytes = t.0; loans = t.1.0; spare = t.1.1 }) (λ _. refl)

@@ -1,0 +1,25 @@
+-- The kinds of lending and access that the code tells apart, as tests.
+use Rattle.std.specs.Prelude.{ℕ, Bool, Option}
+use Rattle.busdma_base.specs.declared.report.ReportName.{ReportName}
+use Rattle.loan_table.specs.declared.position.Position.{Position}
+use Rattle.loan_table.specs.declared.row.Way.{Way}
+use Rattle.loan_table.specs.declared.row.Way.TheVariants.{ToWrite, Any}
+use Rattle.loan_table.specs.declared.access.Access.{Access}
+use Rattle.loan_table.specs.declared.access.Access.TheVariants.{Read, Write}
+use Rattle.loan_table.specs.Loans.{Loans, to_write, in_any_way}
+use Rattle.loan_table.specs.Access.{cpu_read_refusal, cpu_write_refusal, dev_read_refusal, dev_write_refusal}
+
+-- a way of lending, as a test on positions
+abbrev pub test_of : Way → Position → Bool
+test_of ToWrite = to_write
+test_of Any = in_any_way
+
+-- what the driver meets at a byte
+abbrev pub cpu_refusal : Access → (ℕ → Bool) → Loans → ℕ → Option ReportName
+cpu_refusal Read known loans a = cpu_read_refusal known loans a
+cpu_refusal Write known loans a = cpu_write_refusal loans a
+
+-- what the device meets at a position
+abbrev pub dev_refusal : Access → (ℕ → Bool) → Bool → Position → Option ReportName
+dev_refusal Read known coherent p = dev_read_refusal known coherent p
+dev_refusal Write known coherent p = dev_write_refusal coherent p

@@ -1,0 +1,178 @@
+//! The judgement of accesses by the driver and by a device.
+
+ghost use Rattle.std.specs.Prelude.{◌≡◌, ◌+◌, ◌<◌, ◌^◌};
+ghost use Rattle.std.specs.List.{All};
+ghost use Rattle.std.specs.Ordering.{nat_cmp};
+ghost use Rattle.std.specs.BTreeMap as tree;
+ghost use Rattle.busdma_base.specs.Judging.{judged};
+ghost use Rattle.busdma_base.specs.Runs.{run_of, addresses, byte_count};
+ghost use Rattle.loan_table.specs.Access.{cpu_read_refusal, cpu_write_refusal, dev_read_refusal, dev_write_refusal};
+ghost use Rattle.loan_table.specs.Kept.{Ends};
+ghost use Rattle.loan_table.specs.Kinds.{cpu_refusal, dev_refusal};
+ghost use Rattle.loan_table.specs.Table.{is_marked};
+ghost use Rattle.loan_table.specs.Trees.{of_tree};
+
+use crate::loans::lent;
+use crate::marks::is_known;
+use crate::position::Position;
+use crate::row::{LoanRow, Way};
+use busdma_base::{Extent, Judged, Report, ReportName};
+use std::collections::BTreeMap;
+
+/// What is done to bytes.
+#[derive(Clone, Copy)]
+pub enum Access {
+    Read,
+    Write,
+}
+
+/// What the driver meets where it reads a byte.
+fn cpu_read_refusal(
+    bytes: &BTreeMap<u64, bool>,
+    loans: &BTreeMap<u32, LoanRow>,
+    pa: u64,
+) -> Option<ReportName>
+    requires { tree.IsOrdered nat_cmp loans.now }
+    ensures { result ≡ cpu_read_refusal (is_marked (of_tree bytes.now)) (of_tree loans.now) pa }
+{
+    if lent(loans, Way::ToWrite, pa) {
+        Some(ReportName::CpuReadLent)
+    } else if is_known(bytes, pa) {
+        None
+    } else {
+        Some(ReportName::StaleByte)
+    }
+}
+
+/// What the driver meets where it writes a byte.
+fn cpu_write_refusal(loans: &BTreeMap<u32, LoanRow>, pa: u64) -> Option<ReportName>
+    requires { tree.IsOrdered nat_cmp loans.now }
+    ensures { result ≡ cpu_write_refusal (of_tree loans.now) pa }
+{
+    if lent(loans, Way::Any, pa) {
+        Some(ReportName::CpuWriteLent)
+    } else {
+        None
+    }
+}
+
+/// What the driver meets at a byte.
+fn cpu_refusal(
+    bytes: &BTreeMap<u64, bool>,
+    loans: &BTreeMap<u32, LoanRow>,
+    access: Access,
+    pa: u64,
+) -> Option<ReportName>
+    requires { tree.IsOrdered nat_cmp loans.now }
+    ensures { result ≡ cpu_refusal access (is_marked (of_tree bytes.now)) (of_tree loans.now) pa }
+{
+    match access {
+        Access::Read => cpu_read_refusal(bytes, loans, pa),
+        Access::Write => cpu_write_refusal(loans, pa),
+    }
+}
+
+/// The judgement of the driver's access of a run, whose first byte stands at a place.
+fn judge_run(
+    bytes: &BTreeMap<u64, bool>,
+    loans: &BTreeMap<u32, LoanRow>,
+    access: Access,
+    run: &Extent,
+    place: u64,
+) -> Judged
+    requires ordered { tree.IsOrdered nat_cmp loans.now }
+    requires ends { Ends run.now }
+    requires place { place + run.now.len < 2 ^ 64 }
+    ensures { result ≡ judged (cpu_refusal access (is_marked (of_tree bytes.now)) (of_tree loans.now)) place (run_of run.now.pa.0 run.now.len) }
+{
+    let mut at = place;
+    for pa in run.pa.0..run.pa.0 + run.len {
+        if let Some(name) = cpu_refusal(bytes, loans, access, pa) {
+            return Judged::Refused(Report { name, at });
+        }
+        at += 1;
+    }
+    Judged::Fine
+}
+
+/// The judgement of the driver's access of extents.
+pub fn judge_extents(
+    bytes: &BTreeMap<u64, bool>,
+    loans: &BTreeMap<u32, LoanRow>,
+    access: Access,
+    extents: &[Extent],
+) -> Judged
+    requires ordered { tree.IsOrdered nat_cmp loans.now }
+    requires ends { All Ends extents.now }
+    requires total { byte_count extents.now < 2 ^ 64 }
+    ensures { result ≡ judged (cpu_refusal access (is_marked (of_tree bytes.now)) (of_tree loans.now)) 0 (addresses extents.now) }
+{
+    let mut at = 0;
+    for extent in extents {
+        if let Judged::Refused(report) = judge_run(bytes, loans, access, extent, at) {
+            return Judged::Refused(report);
+        }
+        at += extent.len;
+    }
+    Judged::Fine
+}
+
+/// What the device meets where it reads a position.
+fn dev_read_refusal(
+    bytes: &BTreeMap<u64, bool>,
+    coherent: bool,
+    position: Position,
+) -> Option<ReportName>
+    ensures { result ≡ dev_read_refusal (is_marked (of_tree bytes.now)) coherent position }
+{
+    if !(coherent || position.to_read) {
+        Some(ReportName::DeviceReadUnlent)
+    } else if is_known(bytes, position.pa) {
+        None
+    } else {
+        Some(ReportName::StaleByte)
+    }
+}
+
+/// What the device meets where it writes a position.
+fn dev_write_refusal(coherent: bool, position: Position) -> Option<ReportName>
+    ensures { result ≡ dev_write_refusal coherent position }
+{
+    if coherent || position.to_write {
+        None
+    } else {
+        Some(ReportName::DeviceWriteUnlent)
+    }
+}
+
+/// What the device meets at a position.
+fn dev_refusal(
+    bytes: &BTreeMap<u64, bool>,
+    coherent: bool,
+    access: Access,
+    position: Position,
+) -> Option<ReportName>
+    ensures { result ≡ dev_refusal access (is_marked (of_tree bytes.now)) coherent position }
+{
+    match access {
+        Access::Read => dev_read_refusal(bytes, coherent, position),
+        Access::Write => dev_write_refusal(coherent, position),
+    }
+}
+
+/// The judgement of the device's access of positions.
+pub fn judge_positions(
+    bytes: &BTreeMap<u64, bool>,
+    coherent: bool,
+    access: Access,
+    positions: &[Position],
+) -> Judged
+    ensures { result ≡ judged (dev_refusal access (is_marked (of_tree bytes.now)) coherent) 0 positions.now }
+{
+    for (i, position) in positions.iter().enumerate() {
+        if let Some(name) = dev_refusal(bytes, coherent, access, *position) {
+            return Judged::Refused(Report { name, at: i as u64 });
+        }
+    }
+    Judged::Fine
+}

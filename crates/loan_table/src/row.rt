@@ -1,0 +1,237 @@
+//! What one map lends.
+
+ghost use Rattle.std.specs.Prelude.{◌≡◌, ◌+◌, ◌<◌, ◌≤◌, ◌^◌, ◌++◌, length, slice_index, IfOk, OnOk, false};
+ghost use Rattle.std.specs.List.{filter, All};
+ghost use Rattle.busdma_base.specs.Runs.{run_of, addresses};
+ghost use Rattle.loan_table.specs.Kept.{Ends};
+ghost use Rattle.loan_table.specs.Kinds.{test_of};
+ghost use Rattle.loan_table.specs.Lending.{marked, marked_range, loses, range_of};
+ghost use Rattle.loan_table.specs.Loans.{lends, stands_twice, addresses_of, unlent, to_write};
+ghost use Rattle.loan_table.specs.Table.{AreIn, set_all, extent_count, more_runs};
+ghost use Rattle.loan_table.specs.Trees.{of_tree};
+
+use crate::marks;
+use crate::position::Position;
+use bitflags::Flags;
+use busdma_base::Extent;
+use dma_tag::SyncOps;
+use std::alloc::{AllocError, Global};
+use std::collections::BTreeMap;
+use std::marker::Model;
+
+/// A way in which a byte may be lent.
+#[derive(Clone, Copy)]
+pub enum Way {
+    ToWrite,
+    Any,
+}
+
+impl Way {
+    /// Whether a position is lent in this way.
+    fn passes(self, position: &Position) -> bool
+        ensures { result ≡ test_of self position.now }
+    {
+        match self {
+            Way::ToWrite => position.to_write,
+            Way::Any => position.to_read || position.to_write,
+        }
+    }
+}
+
+/// One map's positions.
+#[derive(Drop)]
+pub struct LoanRow {
+    coherent: bool,
+    positions: Vec<Position>,
+}
+
+impl Model for LoanRow {
+    ghost use Rattle.loan_table.specs.Loans.{Loan};
+    ghost use Rattle.loan_table.specs.Kept.{loan_code};
+
+    ghost Value = { Loan };
+
+    ghost coded = { loan_code };
+
+    ghost view = { λ r. record { coherent = r.coherent; positions = r.positions.items } };
+}
+
+impl LoanRow {
+    /// A map over bytes that lends nothing.
+    pub fn over(alloc: Global, coherent: bool, buffer: &[Extent]) -> Result<Self, AllocError>
+        requires { All Ends buffer.now }
+        ensures { IfOk result (λ row. row ≡ record { coherent = coherent; positions = unlent (addresses buffer.now) }) }
+    {
+        let mut positions = Vec::new(alloc);
+        for extent in buffer {
+            push_run(&mut positions, extent)?;
+        }
+        Ok(LoanRow {
+            coherent,
+            positions,
+        })
+    }
+
+    /// Whether the map is coherent.
+    pub fn is_coherent(&self) -> bool
+        ensures { result ≡ self.now.coherent }
+    {
+        self.coherent
+    }
+
+    /// The number of positions.
+    pub fn len(&self) -> u64
+        ensures { result ≡ length self.now.positions }
+    {
+        self.positions.len() as u64
+    }
+
+    /// The positions of a range.
+    pub fn range(&self, off: u64, len: u64) -> &[Position]
+        requires { off + len ≤ length self.now.positions }
+        ensures is { result.now ≡ range_of off len self.now.positions }
+        ensures small { off + length result.now < 2 ^ 64 }
+    {
+        let start = off as usize;
+        &self.positions[start..start + len as usize]
+    }
+
+    /// The byte at a position.
+    pub fn byte_at(&self, at: u64) -> u64
+        requires { at < length self.now.positions }
+        ensures { result ≡ slice_index (addresses_of self.now.positions) at }
+    {
+        self.positions[at as usize].pa
+    }
+
+    /// Whether some position lends the byte.
+    pub fn lends(&self, way: Way, pa: u64) -> bool
+        ensures { result ≡ lends (test_of way) pa self.now }
+    {
+        for position in &self.positions {
+            if position.pa == pa && way.passes(position) {
+                return true;
+            }
+        }
+        false
+    }
+
+    /// Whether the byte stands at more than one position.
+    pub fn stands_twice(&self, pa: u64) -> bool
+        ensures { result ≡ stands_twice pa self.now }
+    {
+        self.positions
+            .iter()
+            .filter(|position| position.pa == pa)
+            .count()
+            > 1
+    }
+
+    /// Makes Unknown the bytes that the map lends to write.
+    pub fn lose_lent(&self, bytes: &mut BTreeMap<u64, bool>)
+        requires { AreIn (of_tree bytes.old) (addresses_of self.now.positions) }
+        ensures { of_tree bytes.new ≡ set_all (of_tree bytes.old) (addresses_of (filter to_write self.now.positions)) false }
+    {
+        lose_lent(bytes, &self.positions);
+    }
+
+    /// Sets the marks of a range.
+    pub fn mark(&mut self, off: u64, len: u64, ops: SyncOps)
+        requires { off + len ≤ length self.old.positions }
+        ensures coherent { self.new.coherent ≡ self.old.coherent }
+        ensures positions { self.new.positions ≡ marked_range ops.0 off len self.old.positions }
+    {
+        let start = off as usize;
+        for position in &mut self.positions[start..start + len as usize] {
+            *position = marked(*position, ops);
+        }
+    }
+}
+
+/// Makes Unknown those bytes of positions that a call loses.
+pub fn lose(bytes: &mut BTreeMap<u64, bool>, positions: &[Position], ops: SyncOps)
+    requires { AreIn (of_tree bytes.old) (addresses_of positions.now) }
+    ensures { of_tree bytes.new
+        ≡ set_all (of_tree bytes.old) (addresses_of (filter (loses ops.0) positions.now)) false }
+{
+    for position in positions {
+        if loses(position, ops) {
+            marks::set_known(bytes, position.pa, false);
+        }
+    }
+}
+
+/// Makes Unknown the bytes of the positions that are lent to write.
+fn lose_lent(bytes: &mut BTreeMap<u64, bool>, positions: &[Position])
+    requires { AreIn (of_tree bytes.old) (addresses_of positions.now) }
+    ensures { of_tree bytes.new ≡ set_all (of_tree bytes.old) (addresses_of (filter to_write positions.now)) false }
+{
+    for position in positions {
+        if position.to_write {
+            marks::set_known(bytes, position.pa, false);
+        }
+    }
+}
+
+/// The marks of a position after a call.
+fn marked(position: Position, ops: SyncOps) -> Position
+    ensures { result ≡ marked ops.0 position }
+{
+    Position {
+        pa: position.pa,
+        to_read: !ops.contains(SyncOps::POSTWRITE)
+            && (ops.contains(SyncOps::PREWRITE) || position.to_read),
+        to_write: !ops.contains(SyncOps::POSTREAD)
+            && (ops.contains(SyncOps::PREREAD) || position.to_write),
+    }
+}
+
+/// Whether the byte of a position becomes Unknown.
+fn loses(position: &Position, ops: SyncOps) -> bool
+    ensures { result ≡ loses ops.0 position.now }
+{
+    ops.contains(SyncOps::PREREAD)
+        && !position.to_write
+        && !(ops.contains(SyncOps::PREWRITE) || position.to_read)
+}
+
+/// Appends the positions of a run.
+fn push_run(positions: &mut Vec<Position>, run: &Extent) -> Result<(), AllocError>
+    requires { Ends run.now }
+    ensures { OnOk result (positions.new.items ≡ positions.old.items ++ unlent (run_of run.now.pa.0 run.now.len)) }
+{
+    for pa in run.pa.0..run.pa.0 + run.len {
+        positions.push(Position {
+            pa,
+            to_read: false,
+            to_write: false,
+        })?;
+    }
+    Ok(())
+}
+
+/// How many extents at the most hold the bytes of positions.
+pub fn extent_count(positions: &[Position]) -> u64
+    ensures { result ≡ extent_count (addresses_of positions.now) }
+{
+    match positions.split_first() {
+        Some((first, rest)) => 1 + more_runs(first.pa, rest),
+        None => 0,
+    }
+}
+
+/// How many runs of bytes begin at these positions, behind a byte.
+fn more_runs(before: u64, positions: &[Position]) -> u64
+    ensures is { result ≡ more_runs before (addresses_of positions.now) }
+    ensures small { result ≤ length positions.now }
+{
+    let mut count = 0;
+    let mut last = before;
+    for position in positions {
+        if !(position.pa > last && position.pa - last == 1) {
+            count += 1;
+        }
+        last = position.pa;
+    }
+    count
+}

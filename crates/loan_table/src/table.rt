@@ -1,0 +1,303 @@
+//! Known marks and loans of one driver.
+
+ghost use Rattle.std.specs.Prelude.{◌≡◌, ◌+◌, ◌≤◌, ◌<◌, ◌^◌, OnOk, OnErr, IsNone, IsSome, length, slice_index, false, true};
+ghost use Rattle.std.specs.FinMap as finmap;
+ghost use Rattle.busdma_base.specs.Runs.{run_of, addresses, byte_count};
+ghost use Rattle.dma_tag.specs.SyncOps.{has_pre, has_post};
+ghost use Rattle.loan_table.specs.Access.{cpu_read_answer, cpu_write_answer, dev_read_answer, dev_write_answer};
+ghost use Rattle.loan_table.specs.Lending.{sync_answer, range_of, lost, lost_by_forgetting};
+ghost use Rattle.loan_table.specs.Loans.{loan_of, addresses_of, unlent};
+ghost use Rattle.loan_table.specs.Table.{HasMap, buffer_of, is_known, AreIn, AreNew, set_all, IsSame, IsSynced, OnFine, OnRefused, extent_count};
+
+use crate::access::{self, Access};
+use crate::loans::row_of;
+use crate::row::{self, LoanRow};
+use crate::{marks, sync};
+use busdma_base::{Extent, Judged, MapId, Pa};
+use dma_tag::SyncOps;
+use std::alloc::{AllocError, Global};
+use std::collections::BTreeMap;
+use std::marker::Model;
+
+/// Which of a driver's bytes are Known, and what its loaded maps lend. Maps are told apart by the
+/// places in the driver's script that made them. Bytes are named by their physical addresses.
+///
+/// Contracts see a number beside the table: `spare`, for how many extents there is room to change.
+#[derive(Drop)]
+pub struct LoanTable {
+    bytes: BTreeMap<u64, bool>,
+    loans: BTreeMap<u32, LoanRow>,
+    spare: u64,
+}
+
+impl Model for LoanTable {
+    ghost use Rattle.loan_table.specs.Kept.{table_code, IsKept};
+    ghost use Rattle.loan_table.specs.Table.{Table};
+    ghost use Rattle.loan_table.specs.Trees.{of_tree};
+
+    ghost Value = { Table };
+
+    ghost coded = { table_code };
+
+    ghost view = { λ t. record { bytes = of_tree t.bytes; loans = of_tree t.loans; spare = t.spare } };
+
+    ghost invariant = { λ t. IsKept t.bytes t.loans };
+}
+
+impl LoanTable {
+    /// A table with no byte and no map.
+    pub fn new(alloc: Global) -> LoanTable
+        ensures bytes { result.bytes ≡ finmap.empty }
+        ensures loans { result.loans ≡ finmap.empty }
+        ensures spare { result.spare ≡ 0 }
+    {
+        LoanTable {
+            bytes: BTreeMap::new(alloc),
+            loans: BTreeMap::new(alloc),
+            spare: 0,
+        }
+    }
+
+    /// Adds `len` bytes from `pa` on, each Known or each Unknown.
+    pub fn add_bytes(
+        &mut self,
+        _alloc: Global,
+        pa: Pa,
+        len: u64,
+        known: bool,
+    ) -> Result<(), AllocError>
+        requires below { pa.0 + len ≤ 2 ^ 42 }
+        requires fresh { AreNew self.old.bytes (run_of pa.0 len) }
+        ensures bytes { OnOk result (self.new.bytes ≡ set_all self.old.bytes (run_of pa.0 len) known) }
+        ensures loans { self.new.loans ≡ self.old.loans }
+        ensures err { OnErr result (IsSame self.old self.new) }
+        ensures spare { self.old.spare ≤ self.new.spare }
+    {
+        marks::add_run(&mut self.bytes, pa.0, len, known)
+    }
+
+    /// Adds a map over the bytes of a buffer, in order. It lends none of them yet; a coherent map
+    /// never does.
+    pub fn add_map(
+        &mut self,
+        alloc: Global,
+        map: MapId,
+        bytes: &[Extent],
+        coherent: bool,
+    ) -> Result<(), AllocError>
+        requires fresh { IsNone (finmap.get self.old.loans map.made_at) }
+        requires there { AreIn self.old.bytes (addresses bytes.now) }
+        requires total { byte_count bytes.now < 2 ^ 64 }
+        ensures loans { OnOk result (self.new.loans
+            ≡ finmap.insert self.old.loans map.made_at (record { coherent = coherent; positions = unlent (addresses bytes.now) })) }
+        ensures bytes { self.new.bytes ≡ self.old.bytes }
+        ensures err { OnErr result (IsSame self.old self.new) }
+        ensures spare { self.old.spare ≤ self.new.spare }
+    {
+        let loans = &mut self.loans;
+        let row = LoanRow::over(alloc, coherent, bytes)?;
+        loans.insert(map.made_at, row)?;
+        Ok(())
+    }
+
+    /// Forgets a map. The bytes that it lent to write become Unknown.
+    pub fn forget(&mut self, map: MapId)
+        requires { HasMap self.old map.made_at }
+        ensures bytes { self.new.bytes ≡ set_all self.old.bytes (lost_by_forgetting self.old.loans map.made_at) false }
+        ensures loans { self.new.loans ≡ finmap.remove self.old.loans map.made_at }
+        ensures there { AreIn self.old.bytes (lost_by_forgetting self.old.loans map.made_at) }
+        ensures spare { self.old.spare ≤ self.new.spare }
+    {
+        let row = self.loans.remove(&map.made_at).unwrap();
+        row.lose_lent(&mut self.bytes);
+    }
+
+    /// Makes room to change `parts` extents. One entry for each byte needs none: to change a byte
+    /// takes no memory.
+    pub fn reserve(&mut self, _alloc: Global, parts: u32) -> Result<(), AllocError>
+        ensures room { OnOk result (parts ≤ self.new.spare) }
+        ensures same { IsSame self.old self.new }
+        ensures spare { self.old.spare ≤ self.new.spare }
+    {
+        self.spare = self.spare.max(parts as u64);
+        Ok(())
+    }
+
+    /// A sync before the device's work, of `len` bytes from `off` on in a map's buffer. A refusal
+    /// names the first byte that stands in the way, by its offset in the buffer.
+    pub fn lend(&mut self, map: MapId, off: u64, len: u64, ops: SyncOps) -> Judged
+        requires there { HasMap self.old map.made_at }
+        requires range { off + len ≤ length (buffer_of self.old map.made_at) }
+        requires pre_alone { has_post ops.0 ≡ false }
+        requires room { extent_count (addresses_of (range_of off len (buffer_of self.old map.made_at))) ≤ self.old.spare }
+        ensures answer { result ≡ sync_answer self.old.loans map.made_at off len ops.0 }
+        ensures done { OnFine result (IsSynced self.old self.new map.made_at off len ops.0) }
+        ensures refused { OnRefused result (IsSame self.old self.new) }
+        ensures there { AreIn self.old.bytes (lost self.old.loans map.made_at off len ops.0) }
+        ensures spare { self.new.spare ≤ self.old.spare }
+    {
+        self.sync(map, off, len, ops)
+    }
+
+    /// A sync after the device's work, of `len` bytes from `off` on in a map's buffer. A refusal
+    /// names the first byte that stands in the way, by its offset in the buffer.
+    pub fn give_back(&mut self, map: MapId, off: u64, len: u64, ops: SyncOps) -> Judged
+        requires there { HasMap self.old map.made_at }
+        requires range { off + len ≤ length (buffer_of self.old map.made_at) }
+        requires post_alone { has_pre ops.0 ≡ false }
+        requires room { extent_count (addresses_of (range_of off len (buffer_of self.old map.made_at))) ≤ self.old.spare }
+        ensures answer { result ≡ sync_answer self.old.loans map.made_at off len ops.0 }
+        ensures done { OnFine result (IsSynced self.old self.new map.made_at off len ops.0) }
+        ensures refused { OnRefused result (IsSame self.old self.new) }
+        ensures there { AreIn self.old.bytes (lost self.old.loans map.made_at off len ops.0) }
+        ensures spare { self.new.spare ≤ self.old.spare }
+    {
+        self.sync(map, off, len, ops)
+    }
+
+    /// A sync of a range.
+    fn sync(&mut self, map: MapId, off: u64, len: u64, ops: SyncOps) -> Judged
+        requires there { HasMap self.old map.made_at }
+        requires range { off + len ≤ length (buffer_of self.old map.made_at) }
+        ensures answer { result ≡ sync_answer self.old.loans map.made_at off len ops.0 }
+        ensures done { OnFine result (IsSynced self.old self.new map.made_at off len ops.0) }
+        ensures refused { OnRefused result (IsSame self.old self.new) }
+        ensures there { AreIn self.old.bytes (lost self.old.loans map.made_at off len ops.0) }
+        ensures spare { self.new.spare ≡ self.old.spare }
+    {
+        let answer = sync::answer(&self.loans, map.made_at, off, len, ops);
+        if let Judged::Fine = answer {
+            sync::lose(&mut self.bytes, &self.loans, map.made_at, off, len, ops);
+            sync::mark(&mut self.loans, map.made_at, off, len, ops);
+        }
+        answer
+    }
+
+    /// Whether the driver may read bytes. A refusal names the first byte that stands in the way, by
+    /// its offset among them.
+    pub fn may_cpu_read(&self, bytes: &[Extent]) -> Judged
+        requires there { AreIn self.now.bytes (addresses bytes.now) }
+        requires total { byte_count bytes.now < 2 ^ 64 }
+        ensures { result ≡ cpu_read_answer (is_known self.now) self.now.loans (addresses bytes.now) }
+    {
+        access::judge_extents(&self.bytes, &self.loans, Access::Read, bytes)
+    }
+
+    /// Whether the driver may write bytes. A refusal names the first byte that stands in the way,
+    /// by its offset among them.
+    pub fn may_cpu_write(&self, bytes: &[Extent]) -> Judged
+        requires there { AreIn self.now.bytes (addresses bytes.now) }
+        requires total { byte_count bytes.now < 2 ^ 64 }
+        ensures { result ≡ cpu_write_answer self.now.loans (addresses bytes.now) }
+    {
+        access::judge_extents(&self.bytes, &self.loans, Access::Write, bytes)
+    }
+
+    /// Whether the device may read `len` bytes from `off` on in a map's buffer. A refusal names the
+    /// first byte that stands in the way, by its offset in the access.
+    pub fn may_dev_read(&self, map: MapId, off: u64, len: u64) -> Judged
+        requires there { HasMap self.now map.made_at }
+        requires range { off + len ≤ length (buffer_of self.now map.made_at) }
+        ensures { result ≡ dev_read_answer (is_known self.now) (loan_of self.now.loans map.made_at) off len }
+    {
+        let row = row_of(&self.loans, map.made_at);
+        access::judge_positions(
+            &self.bytes,
+            row.is_coherent(),
+            Access::Read,
+            row.range(off, len),
+        )
+    }
+
+    /// Whether the device may write `len` bytes from `off` on in a map's buffer. A refusal names
+    /// the first byte that stands in the way, by its offset in the access.
+    pub fn may_dev_write(&self, map: MapId, off: u64, len: u64) -> Judged
+        requires there { HasMap self.now map.made_at }
+        requires range { off + len ≤ length (buffer_of self.now map.made_at) }
+        ensures { result ≡ dev_write_answer (loan_of self.now.loans map.made_at) off len }
+    {
+        let row = row_of(&self.loans, map.made_at);
+        access::judge_positions(
+            &self.bytes,
+            row.is_coherent(),
+            Access::Write,
+            row.range(off, len),
+        )
+    }
+
+    /// Marks bytes Known that the driver has written.
+    pub fn note_write(&mut self, bytes: &[Extent])
+        requires there { AreIn self.old.bytes (addresses bytes.now) }
+        requires total { byte_count bytes.now < 2 ^ 64 }
+        requires room { length bytes.now ≤ self.old.spare }
+        ensures bytes { self.new.bytes ≡ set_all self.old.bytes (addresses bytes.now) true }
+        ensures loans { self.new.loans ≡ self.old.loans }
+        ensures spare { self.new.spare ≤ self.old.spare }
+    {
+        marks::set_extents(&mut self.bytes, bytes, true);
+    }
+
+    /// Marks bytes Known that the device has written: `len` bytes from `off` on in a map's buffer.
+    pub fn note_dev_write(&mut self, map: MapId, off: u64, len: u64)
+        requires there { HasMap self.old map.made_at }
+        requires range { off + len ≤ length (buffer_of self.old map.made_at) }
+        requires room { extent_count (addresses_of (range_of off len (buffer_of self.old map.made_at))) ≤ self.old.spare }
+        ensures bytes { self.new.bytes ≡ set_all self.old.bytes (addresses_of (range_of off len (buffer_of self.old map.made_at))) true }
+        ensures loans { self.new.loans ≡ self.old.loans }
+        ensures spare { self.new.spare ≤ self.old.spare }
+    {
+        let row = row_of(&self.loans, map.made_at);
+        marks::set_positions(&mut self.bytes, row.range(off, len), true);
+    }
+
+    /// Whether a map is in the table.
+    pub fn has_map(&self, map: MapId) -> bool
+        ensures { result ≡ finmap.contains_key self.now.loans map.made_at }
+    {
+        self.loans.contains_key(&map.made_at)
+    }
+
+    /// The number of bytes of a map's buffer.
+    pub fn len_of(&self, map: MapId) -> u64
+        requires { HasMap self.now map.made_at }
+        ensures is { result ≡ length (buffer_of self.now map.made_at) }
+        ensures there { AreIn self.now.bytes (addresses_of (buffer_of self.now map.made_at)) }
+    {
+        row_of(&self.loans, map.made_at).len()
+    }
+
+    /// Whether a map is coherent.
+    pub fn is_coherent(&self, map: MapId) -> bool
+        requires { HasMap self.now map.made_at }
+        ensures { result ≡ (loan_of self.now.loans map.made_at).coherent }
+    {
+        row_of(&self.loans, map.made_at).is_coherent()
+    }
+
+    /// Whether a byte is Known.
+    pub fn is_known(&self, pa: Pa) -> bool
+        ensures { result ≡ is_known self.now pa.0 }
+    {
+        marks::is_known(&self.bytes, pa.0)
+    }
+
+    /// The byte at an offset in a map's buffer.
+    pub fn byte_at(&self, map: MapId, at: u64) -> Pa
+        requires there { HasMap self.now map.made_at }
+        requires range { at < length (buffer_of self.now map.made_at) }
+        ensures is { result.0 ≡ slice_index (addresses_of (buffer_of self.now map.made_at)) at }
+        ensures there { IsSome (finmap.get self.now.bytes result.0) }
+    {
+        Pa(row_of(&self.loans, map.made_at).byte_at(at))
+    }
+
+    /// How many extents at the most hold `len` bytes from `off` on in a map's buffer: for so many
+    /// must there be room where they are lent, given back or written.
+    pub fn extents(&self, map: MapId, off: u64, len: u64) -> u64
+        requires there { HasMap self.now map.made_at }
+        requires range { off + len ≤ length (buffer_of self.now map.made_at) }
+        ensures { result ≡ extent_count (addresses_of (range_of off len (buffer_of self.now map.made_at))) }
+    {
+        row::extent_count(row_of(&self.loans, map.made_at).range(off, len))
+    }
+}
