@@ -96,7 +96,7 @@ pub AllEnd : (m : FinMap nat_cmp Bool) → AreLow m → (es : List Extent) → A
 AllEnd m low es h = All-from_recursion Ends es (extents_end m low es h)
 
 -- a run that has one more byte
-run_of-push : (a n : ℕ) → run_of a (suc n) ≡ run_of a n ++ (a + n) ∷ []
+pub run_of-push : (a n : ℕ) → run_of a (suc n) ≡ run_of a n ++ (a + n) ∷ []
 run_of-push a zero = ap (λ x. x ∷ []) (sym (add-zero a))
 run_of-push a (suc n) = let e : a + 1 + n ≡ a + suc n = omega arith in ap (λ xs. a ∷ xs) (run_of-push (a + 1) n ∙ ap (λ x. run_of (a + 1) n ++ x ∷ []) e)
 

@@ -1,4 +1,5 @@
 pub mod Addresses
+pub mod Extending
 pub mod Judgement
 pub mod LoansInTree
 pub mod Marking

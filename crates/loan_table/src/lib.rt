@@ -2,6 +2,7 @@
 #![tactic(auto)]
 
 mod access;
+mod extents;
 mod loans;
 mod marks;
 mod position;

@@ -7,7 +7,7 @@ ghost use Rattle.loan_table.specs.Kept.{Ends};
 ghost use Rattle.loan_table.specs.Kinds.{test_of};
 ghost use Rattle.loan_table.specs.Lending.{marked, marked_range, loses, range_of};
 ghost use Rattle.loan_table.specs.Loans.{lends, stands_twice, addresses_of, unlent, to_write};
-ghost use Rattle.loan_table.specs.Table.{AreIn, set_all, extent_count, more_runs};
+ghost use Rattle.loan_table.specs.Table.{AreIn, set_all};
 ghost use Rattle.loan_table.specs.Trees.{of_tree};
 
 use crate::marks;
@@ -208,30 +208,4 @@ fn push_run(positions: &mut Vec<Position>, run: &Extent) -> Result<(), AllocErro
         })?;
     }
     Ok(())
-}
-
-/// How many extents at the most hold the bytes of positions.
-pub fn extent_count(positions: &[Position]) -> u64
-    ensures { result ≡ extent_count (addresses_of positions.now) }
-{
-    match positions.split_first() {
-        Some((first, rest)) => 1 + more_runs(first.pa, rest),
-        None => 0,
-    }
-}
-
-/// How many runs of bytes begin at these positions, behind a byte.
-fn more_runs(before: u64, positions: &[Position]) -> u64
-    ensures is { result ≡ more_runs before (addresses_of positions.now) }
-    ensures small { result ≤ length positions.now }
-{
-    let mut count = 0;
-    let mut last = before;
-    for position in positions {
-        if !(position.pa > last && position.pa - last == 1) {
-            count += 1;
-        }
-        last = position.pa;
-    }
-    count
 }

@@ -1,8 +1,9 @@
 //! Known marks and loans of one driver.
 
-ghost use Rattle.std.specs.Prelude.{◌≡◌, ◌+◌, ◌≤◌, ◌<◌, ◌^◌, OnOk, OnErr, IsNone, IsSome, length, slice_index, false, true};
+ghost use Rattle.std.specs.Prelude.{◌≡◌, ◌+◌, ◌≤◌, ◌<◌, ◌^◌, OnOk, OnErr, IfOk, IsNone, IsSome, length, slice_index, false, true};
+ghost use Rattle.std.specs.List.{All};
 ghost use Rattle.std.specs.FinMap as finmap;
-ghost use Rattle.busdma_base.specs.Runs.{run_of, addresses, byte_count};
+ghost use Rattle.busdma_base.specs.Runs.{run_of, addresses, byte_count, IsExtent};
 ghost use Rattle.dma_tag.specs.SyncOps.{has_pre, has_post};
 ghost use Rattle.loan_table.specs.Access.{cpu_read_answer, cpu_write_answer, dev_read_answer, dev_write_answer};
 ghost use Rattle.loan_table.specs.Lending.{sync_answer, range_of, lost, lost_by_forgetting};
@@ -11,9 +12,9 @@ ghost use Rattle.loan_table.specs.Table.{HasMap, buffer_of, is_known, AreIn, Are
 
 use crate::access::{self, Access};
 use crate::loans::row_of;
-use crate::row::{self, LoanRow};
-use crate::{marks, sync};
-use busdma_base::{Extent, Judged, MapId, Pa};
+use crate::row::LoanRow;
+use crate::{extents, marks, sync};
+use busdma_base::{Extent, ExtentList, Judged, MapId, Pa};
 use dma_tag::SyncOps;
 use std::alloc::{AllocError, Global};
 use std::collections::BTreeMap;
@@ -291,6 +292,27 @@ impl LoanTable {
         Pa(row_of(&self.loans, map.made_at).byte_at(at))
     }
 
+    /// The extents that hold `len` bytes from `off` on in a map's buffer, in order, each in one
+    /// frame.
+    pub fn extents_of(
+        &self,
+        alloc: Global,
+        map: MapId,
+        off: u64,
+        len: u64,
+    ) -> Result<ExtentList, AllocError>
+        requires there { HasMap self.now map.made_at }
+        requires range { off + len ≤ length (buffer_of self.now map.made_at) }
+        ensures bytes { IfOk result (λ list. addresses list ≡ addresses_of (range_of off len (buffer_of self.now map.made_at))) }
+        ensures extents { IfOk result (λ list. All IsExtent list) }
+        ensures there { IfOk result (λ list. AreIn self.now.bytes (addresses list)) }
+        ensures total { IfOk result (λ list. byte_count list ≡ len) }
+    {
+        let row = row_of(&self.loans, map.made_at);
+        let extents = extents::extents_of(alloc, row.range(off, len))?;
+        Ok(ExtentList::new(extents))
+    }
+
     /// How many extents at the most hold `len` bytes from `off` on in a map's buffer: for so many
     /// must there be room where they are lent, given back or written.
     pub fn extents(&self, map: MapId, off: u64, len: u64) -> u64
@@ -298,6 +320,6 @@ impl LoanTable {
         requires range { off + len ≤ length (buffer_of self.now map.made_at) }
         ensures { result ≡ extent_count (addresses_of (range_of off len (buffer_of self.now map.made_at))) }
     {
-        row::extent_count(row_of(&self.loans, map.made_at).range(off, len))
+        extents::extent_count(row_of(&self.loans, map.made_at).range(off, len))
     }
 }

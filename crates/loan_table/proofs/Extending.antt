@@ -1,0 +1,53 @@
+-- Extents to which one byte after another is added.
+use Rattle.std.proofs.Common.{◌≡◌, ℕ, suc, ◌+◌, ◌<◌, ◌≤◌, ◌^◌, Bool, List, [], ◌∷◌, ◌++◌, length, drop, refl, sym, ap, ◌∙◌, append_assoc, append-nil, add-one, arith}
+use Rattle.std.specs.List.{All, AllByRecursion}
+use Rattle.std.specs.Ordering.{nat_cmp}
+use Rattle.std.specs.FinMap.{FinMap}
+use Rattle.std.proofs.lemmas.List.{length-append, length-map, length-take, length-drop}
+use Rattle.std.proofs.lemmas.List.Sums.{sum_by-cons}
+use Rattle.std.proofs.lemmas.List.Elements.{All-from_recursion}
+use Rattle.busdma_base.specs.declared.address.Extent.{Extent}
+use Rattle.busdma_base.specs.Runs.{addresses, run_of, byte_count}
+use Rattle.loan_table.specs.declared.position.Position.{Position}
+use Rattle.loan_table.specs.Kept.{AreLow}
+use Rattle.loan_table.specs.Lending.{range_of}
+use Rattle.loan_table.specs.Loans.{addresses_of}
+use Rattle.loan_table.specs.Table.{AreIn}
+use Rattle.loan_table.proofs.Addresses.{run_of-push}
+use Rattle.loan_table.proofs.Judgement.{length-run_of}
+
+pub addresses-push : (es : List Extent) (e : Extent) → addresses (es ++ e ∷ []) ≡ addresses es ++ run_of e.pa.0 e.len
+addresses-push [] e = append-nil _
+addresses-push (x ∷ es) e = ap (λ xs. run_of x.pa.0 x.len ++ xs) (addresses-push es e) ∙ sym (append_assoc (run_of x.pa.0 x.len) (addresses es) (run_of e.pa.0 e.len))
+
+-- the byte right behind a run joins it
+pub joins : (front : List ℕ) (a n pa : ℕ) (tail all : List ℕ) → pa ≡ a + n → front ++ (run_of a n ++ pa ∷ tail) ≡ all → front ++ (run_of a (n + 1) ++ tail) ≡ all
+joins front a n pa tail all e h =
+    ap (λ k. front ++ (run_of a k ++ tail)) (add-one n) ∙ ap (λ xs. front ++ (xs ++ tail)) (run_of-push a n)
+    ∙ ap (λ xs. front ++ xs) (append_assoc (run_of a n) ((a + n) ∷ []) tail) ∙ ap (λ k. front ++ (run_of a n ++ k ∷ tail)) (sym e) ∙ h
+
+-- another byte begins a run
+pub begins : (es new : List Extent) (run next : Extent) (pa : ℕ) (tail all : List ℕ) → new ≡ es ++ run ∷ [] → run_of next.pa.0 next.len ≡ pa ∷ [] → addresses es ++ (run_of run.pa.0 run.len ++ pa ∷ tail) ≡ all → addresses new ++ (run_of next.pa.0 next.len ++ tail) ≡ all
+begins es new run next pa tail all pushed one h =
+    ap (λ xs. addresses xs ++ (run_of next.pa.0 next.len ++ tail)) pushed ∙ ap (λ xs. xs ++ (run_of next.pa.0 next.len ++ tail)) (addresses-push es run)
+    ∙ ap (λ xs. (addresses es ++ run_of run.pa.0 run.len) ++ (xs ++ tail)) one ∙ append_assoc (addresses es) (run_of run.pa.0 run.len) (pa ∷ tail) ∙ h
+
+-- the last run ends the list
+pub ends : (es new : List Extent) (run : Extent) (rest all : List ℕ) → new ≡ es ++ run ∷ [] → rest ≡ [] → addresses es ++ (run_of run.pa.0 run.len ++ rest) ≡ all → addresses new ≡ all
+ends es new run rest all pushed none h =
+    ap addresses pushed ∙ addresses-push es run ∙ ap (λ xs. addresses es ++ xs) (sym (append-nil _)) ∙ sym (ap (λ xs. addresses es ++ (run_of run.pa.0 run.len ++ xs)) none) ∙ h
+
+-- the positions of a table's bytes are memory
+low_positions : (m : FinMap nat_cmp Bool) → AreLow m → (ps : List Position) → AreIn m (addresses_of ps) → AllByRecursion (λ (p : Position). p.pa < 2 ^ 42) ps
+low_positions m low [] h = tt
+low_positions m low (p ∷ ps) h = (low p.pa h.0, low_positions m low ps h.1)
+
+pub AllLow : (m : FinMap nat_cmp Bool) → AreLow m → (ps : List Position) → AreIn m (addresses_of ps) → All (λ p. p.pa < 2 ^ 42) ps
+AllLow m low ps h = All-from_recursion (λ p. p.pa < 2 ^ 42) ps (low_positions m low ps h)
+
+pub length-addresses : (es : List Extent) → length (addresses es) ≡ byte_count es
+length-addresses [] = refl
+length-addresses (e ∷ es) = length-append (run_of e.pa.0 e.len) (addresses es) ∙ ap (λ n. n + length (addresses es)) (length-run_of e.pa.0 e.len) ∙ ap (λ n. e.len + n) (length-addresses es) ∙ sym (sum_by-cons (λ (x : Extent). x.len) e es)
+
+pub length-range : (off len : ℕ) (ps : List Position) → off + len ≤ length ps → length (addresses_of (range_of off len ps)) ≡ len
+length-range off len ps h = rw length-map (length-take len (drop off ps) ∙ (omega (arith, length-drop off ps)))

@@ -1,0 +1,78 @@
+//! The extents that hold positions.
+
+ghost use Rattle.std.specs.Prelude.{◌≡◌, ◌+◌, ◌*◌, ◌%◌, ◌<◌, ◌≤◌, ◌^◌, length, ◌↔◌, ◌++◌, [], ◌∷◌, IfOk, IsTrue};
+ghost use Rattle.std.specs.List.{All};
+ghost use Rattle.busdma_base.specs.Runs.{addresses, IsExtent, run_of};
+ghost use Rattle.loan_table.specs.Loans.{addresses_of};
+ghost use Rattle.loan_table.specs.Table.{extent_count, more_runs};
+
+use crate::position::Position;
+use busdma_base::{Extent, Pa};
+use std::alloc::{AllocError, Global};
+
+/// The extents that hold the bytes of positions, in order: a byte that comes right behind the one
+/// before it, in the same frame, is in the same extent.
+pub fn extents_of(alloc: Global, positions: &[Position]) -> Result<Vec<Extent>, AllocError>
+    requires { All (λ p. p.pa < 2 ^ 42) positions.now }
+    ensures bytes { IfOk result (λ extents. addresses extents.items ≡ addresses_of positions.now) }
+    ensures extents { IfOk result (λ extents. All IsExtent extents.items) }
+{
+    let mut extents = Vec::new(alloc);
+    let Some((first, rest)) = positions.split_first() else {
+        return Ok(extents);
+    };
+    let mut run = byte(first.pa);
+    for position in rest {
+        if is_next(&run, position.pa) {
+            run.len += 1;
+        } else {
+            extents.push(run)?;
+            run = byte(position.pa);
+        }
+    }
+    extents.push(run)?;
+    Ok(extents)
+}
+
+/// The extent of one byte.
+fn byte(pa: u64) -> Extent
+    requires { pa < 2 ^ 42 }
+    ensures bytes { run_of result.pa.0 result.len ≡ pa ∷ [] }
+    ensures extent { IsExtent result }
+{
+    Extent { pa: Pa(pa), len: 1 }
+}
+
+/// Whether a byte comes right behind a run, in the same frame.
+fn is_next(run: &Extent, pa: u64) -> bool
+    requires { IsExtent run.now }
+    ensures { IsTrue result ↔ ((pa ≡ run.now.pa.0 + run.now.len) × (run.now.pa.0 % 4096 + run.now.len < 4096)) }
+{
+    pa == run.pa.0 + run.len && run.pa.0 % 4096 + run.len < 4096
+}
+
+/// How many extents at the most hold the bytes of positions, where an extent may leave its frame.
+pub fn extent_count(positions: &[Position]) -> u64
+    ensures { result ≡ extent_count (addresses_of positions.now) }
+{
+    match positions.split_first() {
+        Some((first, rest)) => 1 + more_runs(first.pa, rest),
+        None => 0,
+    }
+}
+
+/// How many runs of bytes begin at these positions, behind a byte.
+fn more_runs(before: u64, positions: &[Position]) -> u64
+    ensures is { result ≡ more_runs before (addresses_of positions.now) }
+    ensures small { result ≤ length positions.now }
+{
+    let mut count = 0;
+    let mut last = before;
+    for position in positions {
+        if !(position.pa > last && position.pa - last == 1) {
+            count += 1;
+        }
+        last = position.pa;
+    }
+    count
+}
