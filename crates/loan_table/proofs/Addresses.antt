@@ -3,7 +3,7 @@ use Rattle.std.proofs.Common.{◌≡◌, ℕ, zero, suc, length, slice_index, �
 use Rattle.std.specs.List.{All, AllByRecursion}
 use Rattle.std.proofs.lemmas.List.Elements.{All-from_recursion}
 use Rattle.std.specs.Ordering.{nat_cmp}
-use Rattle.std.specs.Cmp.{nat_cmp_total, unsigned_tied}
+use Rattle.std.specs.Cmp.{nat_cmp_total, unsigned_tied, nat_eq_equiv}
 use Rattle.std.proofs.lemmas.Map.Views.{exact_unsigned_eq}
 use Rattle.std.specs.FinMap.{FinMap, get, insert, get-insert}
 use Rattle.busdma_base.specs.declared.address.Extent.{Extent}
@@ -114,3 +114,11 @@ pub AreIn-at : (m : FinMap nat_cmp Bool) (xs : List ℕ) (i : ℕ) → AreIn m x
 AreIn-at m [] i h lt = absurd (omega arith)
 AreIn-at m (x ∷ xs) zero h lt = h.0
 AreIn-at m (x ∷ xs) (suc i) h lt = AreIn-at m xs i h.1 (omega arith)
+
+-- bytes that were marked are in the table
+pub AreIn-marked : (m : FinMap nat_cmp Bool) (keys : List ℕ) (v : Bool) → AreIn (set_all m keys v) keys
+AreIn-marked m [] v = tt
+AreIn-marked m (k ∷ keys) v = ((AreIn-set_all (insert m k v) keys v (k ∷ []) (here, tt)).0, AreIn-marked (insert m k v) keys v)
+  where
+    here : IsSome (get (insert m k v) k)
+    here = rw (get-insert nat_cmp_total m k v k, unsigned_tied k k, nat_eq_equiv.refl k) refl

@@ -1,9 +1,9 @@
 -- Bytes that were added and are removed again.
-use Rattle.std.proofs.Common.{◌≡◌, ℕ, zero, suc, ◌+◌, ◌≤◌, Bool, true, false, cond, ◌||◌, List, [], ◌∷◌, ◌==◌, Option, Some, None, IsNone, refl, sym, ap, ◌∙◌, arith}
+use Rattle.std.proofs.Common.{◌≡◌, ℕ, zero, suc, ◌+◌, ◌≤◌, Bool, true, false, cond, ◌||◌, List, [], ◌∷◌, ◌==◌, Option, Some, None, IsNone, is_some, refl, sym, ap, ◌∙◌, arith}
 use Rattle.std.specs.Ordering.{nat_cmp}
 use Rattle.std.specs.Cmp.{nat_cmp_total, unsigned_tied}
 use Rattle.std.proofs.lemmas.Map.Views.{exact_unsigned_eq}
-use Rattle.std.specs.FinMap.{FinMap, get, insert, remove, get-insert, get-remove, same_map, nat_cmp-IsAntisymmetric}
+use Rattle.std.specs.FinMap.{FinMap, empty, get-empty, get, insert, remove, get-insert, get-remove, same_map, nat_cmp-IsAntisymmetric}
 use Rattle.busdma_base.specs.Runs.{run_of}
 use Rattle.loan_table.specs.Table.{AreNew, set_all, without}
 
@@ -53,3 +53,7 @@ pub AreNew-run : (m : FinMap nat_cmp Bool) (a n k : ℕ) → AreNew m (run_of a 
 AreNew-run m a n zero h le = tt
 AreNew-run m a zero (suc k) h le = absurd (omega arith)
 AreNew-run m a (suc n) (suc k) h le = (h.0, AreNew-run m (a + 1) n k h.1 (omega arith))
+
+pub AreNew-empty : (ks : List ℕ) → AreNew empty ks
+AreNew-empty [] = tt
+AreNew-empty (k ∷ ks) = (ap is_some (get-empty nat_cmp k), AreNew-empty ks)

@@ -12,3 +12,6 @@ mod table;
 
 pub use position::Position;
 pub use table::LoanTable;
+
+#[cfg(test)]
+mod tests;

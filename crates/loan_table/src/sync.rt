@@ -60,11 +60,7 @@ fn preread_refusal(
 fn postread_refusal(position: Position) -> Option<ReportName>
     ensures { result ≡ postread_refusal position }
 {
-    if position.to_write {
-        None
-    } else {
-        Some(ReportName::SyncOrder)
-    }
+    (!position.to_write).then_some(ReportName::SyncOrder)
 }
 
 /// What a call meets at a position.
