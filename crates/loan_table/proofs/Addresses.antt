@@ -86,6 +86,10 @@ run_ends m low at zero h some = omega arith
 run_ends m low at (suc zero) h some = let here : at < 2 ^ 42 = low at h.0 in omega arith
 run_ends m low at (suc (suc n)) h some = let more : at + 1 + suc n ≤ 2 ^ 42 = run_ends m low (at + 1) (suc n) h.1 (omega arith) in omega arith
 
+pub run_fits : (m : FinMap nat_cmp Bool) → AreLow m → (at n : ℕ) → AreIn m (run_of at n) → at < 2 ^ 64 → at + n < 2 ^ 64
+run_fits m low at zero h fits = omega arith
+run_fits m low at (suc n) h fits = let end : at + suc n ≤ 2 ^ 42 = run_ends m low at (suc n) h (omega arith) in omega arith
+
 extents_end : (m : FinMap nat_cmp Bool) → AreLow m → (es : List Extent) → AreIn m (addresses es) → AllByRecursion Ends es
 extents_end m low [] h = tt
 extents_end m low (e ∷ es) h =

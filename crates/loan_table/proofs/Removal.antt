@@ -1,16 +1,16 @@
 -- Bytes that were added and are removed again.
-use Rattle.std.proofs.Common.{◌≡◌, ℕ, zero, suc, ◌+◌, ◌≤◌, Bool, true, false, cond, ◌||◌, List, [], ◌∷◌, ◌==◌, Option, Some, None, IsNone, is_some, refl, sym, ap, ◌∙◌, arith}
+use Rattle.std.proofs.Common.{◌≡◌, ℕ, zero, suc, ◌+◌, ◌≤◌, Bool, true, false, cond, ◌||◌, List, [], ◌∷◌, ◌==◌, Option, Some, None, IsNone, IsSome, is_some, refl, sym, ap, ◌∙◌, arith}
 use Rattle.std.specs.Ordering.{nat_cmp}
 use Rattle.std.specs.Cmp.{nat_cmp_total, unsigned_tied}
 use Rattle.std.proofs.lemmas.Map.Views.{exact_unsigned_eq}
 use Rattle.std.specs.FinMap.{FinMap, empty, get-empty, get, insert, remove, get-insert, get-remove, same_map, nat_cmp-IsAntisymmetric}
+use Rattle.std.specs.List.{AllByRecursion}
+use Rattle.std.proofs.lemmas.List.Elements.{recursion_from_All}
 use Rattle.busdma_base.specs.Runs.{run_of}
-use Rattle.loan_table.specs.Table.{AreNew, set_all, without}
-
--- the address is one of these
-abbrev is_among : ℕ → List ℕ → Bool
-is_among q [] = false
-is_among q (k ∷ ks) = (q == k) || is_among q ks
+use Rattle.loan_table.specs.declared.position.Position.{Position}
+use Rattle.loan_table.specs.Kept.{AreLow, HasItsBytes}
+use Rattle.loan_table.specs.Loans.{Loans, loan_of, addresses_of}
+use Rattle.loan_table.specs.Table.{AreIn, AreNew, AreFree, set_all, without, is_among}
 
 get-set_all : (m : FinMap nat_cmp Bool) (ks : List ℕ) (v : Bool) (q : ℕ) → get (set_all m ks v) q ≡ cond (is_among q ks) (Some v) (get m q)
 get-set_all m [] v q = refl
@@ -57,3 +57,21 @@ AreNew-run m a (suc n) (suc k) h le = (h.0, AreNew-run m (a + 1) n k h.1 (omega 
 pub AreNew-empty : (ks : List ℕ) → AreNew empty ks
 AreNew-empty [] = tt
 AreNew-empty (k ∷ ks) = (ap is_some (get-empty nat_cmp k), AreNew-empty ks)
+
+kept_of : (m : FinMap nat_cmp Bool) (ks : List ℕ) (q : ℕ) → is_among q ks ≡ false → IsSome (get m q) → IsSome (get (without m ks) q)
+kept_of m ks q apart there = rw (get-without m ks q, apart) there
+
+-- bytes that are none of the removed ones are left
+AreIn-without : (m : FinMap nat_cmp Bool) (ks : List ℕ) (ps : List Position) → AllByRecursion (λ (p : Position). is_among p.pa ks ≡ false) ps → AreIn m (addresses_of ps) → AreIn (without m ks) (addresses_of ps)
+AreIn-without m ks [] apart h = tt
+AreIn-without m ks (p ∷ ps) apart h = (kept_of m ks p.pa apart.0 h.0, AreIn-without m ks ps apart.1 h.1)
+
+pub HasItsBytes-without : (m : FinMap nat_cmp Bool) (loans : Loans) (ks : List ℕ) → AreFree loans ks → HasItsBytes m loans → HasItsBytes (without m ks) loans
+HasItsBytes-without m loans ks free h q = AreIn-without m ks (loan_of loans q).positions (recursion_from_All (λ p. is_among p.pa ks ≡ false) _ (free q)) (h q)
+
+pub AreLow-without : (m : FinMap nat_cmp Bool) (ks : List ℕ) → AreLow m → AreLow (without m ks)
+AreLow-without m ks low a there = low a (at_test (is_among a ks) (rw (get-without m ks a) at there))
+  where
+    at_test : (b : Bool) → IsSome (cond b None (get m a)) → IsSome (get m a)
+    at_test true h = absurd (cc)
+    at_test false h = h

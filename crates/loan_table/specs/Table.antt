@@ -1,5 +1,6 @@
 -- A table of Known marks and loans, and what its calls make of it.
-use Rattle.std.specs.Prelude.{◌≡◌, ℕ, ◌+◌, Bool, false, List, [], ◌∷◌, ◌==◌, if◌then◌else◌, unwrap_or, IsSome, IsNone, ⊤}
+use Rattle.std.specs.Prelude.{◌≡◌, ℕ, ◌+◌, Bool, false, ◌||◌, List, [], ◌∷◌, ◌==◌, if◌then◌else◌, unwrap_or, IsSome, IsNone, ⊤}
+use Rattle.std.specs.List.{All}
 use Rattle.std.specs.Ordering.{nat_cmp}
 use Rattle.std.specs.FinMap.{FinMap, get, insert, remove}
 use Rattle.busdma_base.specs.declared.report.Judged.{Judged}
@@ -50,6 +51,15 @@ set_all bytes (a ∷ rest) known = set_all (insert bytes a known) rest known
 abbrev pub without : FinMap nat_cmp Bool → List ℕ → FinMap nat_cmp Bool
 without bytes [] = bytes
 without bytes (a ∷ rest) = without (remove bytes a) rest
+
+-- the address is one of these
+abbrev pub is_among : ℕ → List ℕ → Bool
+is_among a [] = false
+is_among a (b ∷ rest) = (a == b) || is_among a rest
+
+-- none of these bytes stands in a map's buffer
+abbrev pub AreFree : Loans → List ℕ → Type 0
+AreFree loans bytes = (m : ℕ) → All (λ p. is_among p.pa bytes ≡ false) (loan_of loans m).positions
 
 -- two tables are alike but for their room
 pub record IsSame (t u : Table) : Type 0 where

@@ -85,7 +85,7 @@ pub fn add_run(
 }
 
 /// Removes the bytes from an address up to another.
-fn remove_run(bytes: &mut BTreeMap<u64, bool>, pa: u64, end: u64)
+pub fn remove_run(bytes: &mut BTreeMap<u64, bool>, pa: u64, end: u64)
     ensures { of_tree bytes.new ≡ without (of_tree bytes.old) (run_of pa (end - pa)) }
 {
     for at in pa..end {

@@ -8,7 +8,7 @@ ghost use Rattle.dma_tag.specs.SyncOps.{has_pre, has_post};
 ghost use Rattle.loan_table.specs.Access.{cpu_read_answer, cpu_write_answer, dev_read_answer, dev_write_answer};
 ghost use Rattle.loan_table.specs.Lending.{sync_answer, range_of, lost, lost_by_forgetting};
 ghost use Rattle.loan_table.specs.Loans.{loan_of, addresses_of, unlent};
-ghost use Rattle.loan_table.specs.Table.{HasMap, buffer_of, is_known, AreIn, AreNew, set_all, IsSame, IsSynced, OnFine, OnRefused, extent_count};
+ghost use Rattle.loan_table.specs.Table.{HasMap, buffer_of, is_known, AreFree, AreIn, AreNew, set_all, without, IsSame, IsSynced, OnFine, OnRefused, extent_count};
 
 use crate::access::{self, Access};
 use crate::loans::row_of;
@@ -75,6 +75,18 @@ impl LoanTable {
         ensures spare { self.old.spare ≤ self.new.spare }
     {
         marks::add_run(&mut self.bytes, pa.0, len, known)
+    }
+
+    /// Takes `len` bytes from `pa` on out of the table.
+    pub fn drop_bytes(&mut self, pa: Pa, len: u64)
+        requires there { AreIn self.old.bytes (run_of pa.0 len) }
+        requires free { AreFree self.old.loans (run_of pa.0 len) }
+        requires room { 1 ≤ self.old.spare }
+        ensures bytes { self.new.bytes ≡ without self.old.bytes (run_of pa.0 len) }
+        ensures loans { self.new.loans ≡ self.old.loans }
+        ensures spare { self.new.spare ≤ self.old.spare }
+    {
+        marks::remove_run(&mut self.bytes, pa.0, pa.0 + len);
     }
 
     /// Adds a map over the bytes of a buffer, in order. It lends none of them yet; a coherent map

@@ -3,13 +3,14 @@
 mod steps;
 
 use busdma_base::Judged::Fine;
+use busdma_base::Pa;
 use busdma_base::ReportName::{
     CpuReadLent, CpuWriteLent, DeviceReadUnlent, DeviceWriteUnlent, Overlap, StaleByte, SyncOrder,
 };
 use dma_tag::SyncOps;
 use std::test::Fail;
 use steps::Step::{CpuRead, CpuWrite, DevRead, DevWrite, Forget, Sync};
-use steps::{A, B, TWICE, WHOLE, refused, run};
+use steps::{A, B, TWICE, WHOLE, cut, refused, run};
 
 /// The operations of two sets.
 fn both(one: SyncOps, other: SyncOps) -> SyncOps {
@@ -435,5 +436,23 @@ fn forgets_a_map_and_refuses_nothing_of_a_coherent_one(rt: HostRuntime) -> Resul
             (Sync(A, 5, 1, SyncOps::PREREAD), Fine),
         ],
     )?;
+    Ok(())
+}
+
+#[test]
+fn drops_bytes(rt: HostRuntime) -> Result<(), Fail> {
+    let table = cut(rt.alloc())?;
+    for (pa, known) in [
+        (4095, false),
+        (4096, true),
+        (4097, true),
+        (4098, false),
+        (4100, false),
+        (4101, true),
+        (4103, true),
+        (4104, false),
+    ] {
+        assert_eq!(rt; table.is_known(Pa(pa)), known, "at {pa}");
+    }
     Ok(())
 }

@@ -225,3 +225,12 @@ pub fn run(
     }
     Ok(())
 }
+
+/// A table that has lost the bytes 2 to 4 of eight Known ones.
+pub fn cut(alloc: Global) -> Result<LoanTable, Fail> {
+    let mut table = LoanTable::new(alloc);
+    table.add_bytes(alloc, Pa(4096), 8, true)?;
+    table.reserve(alloc, 1)?;
+    table.drop_bytes(Pa(4098), 3);
+    Ok(table)
+}

@@ -1,4 +1,4 @@
-use Rattle.std.proofs.Common.{◌≡◌, ◌<◌, ◌^◌, ◌++◌, drop, [], ◌∷◌}
+use Rattle.std.proofs.Common.{◌≡◌, ◌<◌, ◌^◌, ◌++◌, drop}
 use Rattle.std.specs.List.{All}
 use Rattle.busdma_base.specs.Runs.{addresses, run_of, IsExtent}
 use Rattle.loan_table.specs.Loans.{addresses_of}

@@ -1,6 +1,6 @@
-use Rattle.std.proofs.Common.{◌≡◌, ◌+◌, ap, sym, ◌∙◌, length, drop, ◌≤◌, ◌-◌, subst, arith}
+use Rattle.std.proofs.Common.{◌+◌, ap, sym, ◌∙◌, length, ◌≤◌, subst}
 use Rattle.busdma_base.specs.Runs.{addresses}
-use Rattle.loan_table.specs.Loans.{loan_of, addresses_of}
+use Rattle.loan_table.specs.Loans.{loan_of}
 use Rattle.loan_table.specs.Table.{AreIn}
 use Rattle.loan_table.specs.Trees.{of_tree}
 use Rattle.loan_table.proofs.Extending.{AllLow, length-addresses, length-range}

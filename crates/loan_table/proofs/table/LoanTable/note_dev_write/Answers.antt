@@ -1,4 +1,4 @@
-use Rattle.std.proofs.Common.{true, sym, subst}
+use Rattle.std.proofs.Common.{sym, subst}
 use Rattle.loan_table.specs.Kept.{AreLow}
 use Rattle.loan_table.specs.Loans.{addresses_of}
 use Rattle.loan_table.proofs.Addresses.{AreIn-set_all, AreLow-set_all}
@@ -11,8 +11,8 @@ set_positions-requires c = rw (c.range.ensures.is, c.row_of-row.ensures) (AreIn-
 pub invariant_of-self : goal.invariant_of-self
 invariant_of-self c = record {
   ordered = c.self.invariant.ordered;
-  inside = λ m. rw c.set_positions.ensures (AreIn-set_all _ (addresses_of c.range.result.now) true _ (c.self.invariant.inside m));
+  inside = λ m. rw c.set_positions.ensures (AreIn-set_all _ (addresses_of c.range.result.now) _ _ (c.self.invariant.inside m));
   low = subst AreLow (sym c.set_positions.ensures)
-      (AreLow-set_all _ (addresses_of c.range.result.now) true
+      (AreLow-set_all _ (addresses_of c.range.result.now) _
       (rw (c.range.ensures.is, c.row_of-row.ensures) (AreIn-range _ c.args.off c.args.len _ (c.self.invariant.inside c.args.map.made_at))) c.self.invariant.low);
 }

@@ -1,4 +1,4 @@
-use Rattle.std.proofs.Common.{true, sym, subst}
+use Rattle.std.proofs.Common.{sym, subst}
 use Rattle.busdma_base.specs.Runs.{addresses}
 use Rattle.loan_table.specs.Kept.{AreLow}
 use Rattle.loan_table.proofs.Addresses.{AllEnd, AreIn-set_all, AreLow-set_all}
@@ -10,6 +10,6 @@ set_extents-requires-clause-ends c = AllEnd _ c.self.invariant.low _ (rw (← c.
 pub invariant_of-self : goal.invariant_of-self
 invariant_of-self c = record {
   ordered = c.self.invariant.ordered;
-  inside = λ m. rw c.set_extents.ensures (AreIn-set_all _ (addresses c.args.bytes.now) true _ (c.self.invariant.inside m));
-  low = subst AreLow (sym c.set_extents.ensures) (AreLow-set_all _ (addresses c.args.bytes.now) true (rw (← c.self.view_is) at c.requires.there) c.self.invariant.low);
+  inside = λ m. rw c.set_extents.ensures (AreIn-set_all _ (addresses c.args.bytes.now) _ _ (c.self.invariant.inside m));
+  low = subst AreLow (sym c.set_extents.ensures) (AreLow-set_all _ (addresses c.args.bytes.now) _ (rw (← c.self.view_is) at c.requires.there) c.self.invariant.low);
 }
