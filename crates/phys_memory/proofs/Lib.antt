@@ -1,0 +1,4 @@
+pub mod Changes
+pub mod FrameBytes
+pub mod Kept
+pub mod Tables

@@ -1,0 +1,50 @@
+-- The extents of bytes that lie in frames.
+use Rattle.std.specs.Prelude.{◌≡◌, ℕ, zero, suc, ◌+◌, ◌/◌, ◌%◌, ◌-◌, ◌≤◌, ◌==◌, Bool, true, false, if◌then◌else◌, List, [], ◌∷◌, ◌++◌, Option, Some, None, length}
+use Rattle.busdma_base.specs.declared.address.Extent.{Extent}
+use Rattle.busdma_base.specs.Runs.{IsExtent, run_of}
+use Rattle.phys_memory.specs.Memory.{Memory, physical, has_frame}
+
+-- a byte before the extents of the bytes after it: one extent with the next byte, unless a frame begins there
+abbrev pub with_byte : ℕ → List Extent → List Extent
+with_byte pa [] = record { pa = record { 0 = pa }; len = 1 } ∷ []
+with_byte pa (e ∷ es) =
+    if e.pa.0 % 4096 == 0 then record { pa = record { 0 = pa }; len = 1 } ∷ e ∷ es
+    else record { pa = record { 0 = pa }; len = 1 + e.len } ∷ es
+
+-- the extents of the bytes at these physical addresses: one begins at the first byte, and one wherever a frame begins
+abbrev pub extents_of : List ℕ → List Extent
+extents_of [] = []
+extents_of (pa ∷ pas) = with_byte pa (extents_of pas)
+
+-- a physical address and those after it, where there is one
+abbrev pub then_reached : Option ℕ → List ℕ → List ℕ
+then_reached None others = []
+then_reached (Some pa) others = pa ∷ others
+
+-- the physical addresses of n bytes from a virtual address on, up to the first that cannot be reached
+abbrev pub reached : Memory → ℕ → ℕ → List ℕ
+reached m va zero = []
+reached m va (suc n) = then_reached (physical m va) (reached m (va + 1) n)
+
+-- each extent but the first begins its frame, and each but the last ends its frame
+abbrev pub AreJoined : List Extent → Type 0
+AreJoined [] = Unit {0}
+AreJoined (e ∷ []) = Unit {0}
+AreJoined (e ∷ f ∷ es) = ((e.pa.0 + e.len) % 4096 ≡ 0) × (f.pa.0 % 4096 ≡ 0) × AreJoined (f ∷ es)
+
+-- the extent lies in a frame of the memory
+abbrev pub LiesIn : Memory → Extent → Type 0
+LiesIn m e = has_frame m (e.pa.0 / 4096) ≡ true
+
+-- the first of these addresses, if there is one, begins a frame
+abbrev pub BeginsFrame : List ℕ → Type 0
+BeginsFrame [] = Unit {0}
+BeginsFrame (pa ∷ pas) = pa % 4096 ≡ 0
+
+-- the extent has the first of n bytes from a virtual address on, and all after it that can be reached in its frame
+pub record IsNext (m : Memory) (va n : ℕ) (e : Extent) : Type 0 where
+  pub extent : IsExtent e
+  pub lies : LiesIn m e
+  pub short : e.len ≤ n
+  pub others : reached m va n ≡ run_of e.pa.0 e.len ++ reached m (va + e.len) (n - e.len)
+  pub cut : BeginsFrame (reached m (va + e.len) (n - e.len))

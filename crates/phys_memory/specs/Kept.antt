@@ -1,0 +1,34 @@
+-- How a memory is kept: a table of virtual pages, and the frames by their number.
+use Rattle.std.specs.Prelude.{◌≡◌, ℕ, min, List, [], ◌∷◌, map, Some}
+use Rattle.std.specs.declared.hash.FoldHasher.{FoldHasher}
+use Rattle.std.specs.declared.hash.BuildHasherDefault.{BuildHasherDefault}
+use Rattle.std.specs.HashMap.{HashMap, spare}
+use Rattle.std.specs.Map.{lookup}
+use Rattle.std.specs.Prelude.{nat_eq}
+use Rattle.std.specs.FinMap.{from_entries}
+use Rattle.busdma_base.specs.Framed.{Framed}
+use Rattle.phys_memory.specs.declared.reach.Reach.{Reach}
+use Rattle.phys_memory.specs.Memory.{Memory, Roomy, IsMemory}
+
+-- a map from numbers
+abbrev pub Numbered : Type 0 → Type 0
+Numbered X = HashMap ℕ X (BuildHasherDefault FoldHasher)
+
+-- the bytes of pages by their keys
+abbrev pub contents : List (ℕ × Framed) → List (ℕ × List ℕ)
+contents pages = map (λ e. (e.0, e.1.bytes)) pages
+
+abbrev pub memory_of : List (ℕ × Reach) → List (ℕ × Framed) → Memory
+memory_of rows pages = record { table = from_entries rows; frames = from_entries (contents pages) }
+
+-- the memory, with room for as many pages as both maps have room for
+abbrev pub roomy_of : Numbered Reach → Numbered Framed → Roomy
+roomy_of table frames = record { memory = memory_of table.entries frames.entries; spare = min (spare table) (spare frames) }
+
+-- each page stands at the number of its frame
+abbrev pub AtTheirFrames : List (ℕ × Framed) → Type 0
+AtTheirFrames pages = (f : ℕ) (page : Framed) → lookup (nat_eq f) pages ≡ Some page → page.frame ≡ f
+
+pub record IsKept (table : Numbered Reach) (frames : Numbered Framed) : Type 0 where
+  pub memory : IsMemory (memory_of table.entries frames.entries)
+  pub at_frames : AtTheirFrames frames.entries

@@ -1,0 +1,5 @@
+pub mod Codes
+pub mod Extents
+pub mod Kept
+pub mod Memory
+pub mod Walk

@@ -1,0 +1,99 @@
+-- The memory of a driver. A page has 4096 bytes, at virtual addresses and in a frame alike.
+use Rattle.std.specs.Prelude.{◌≡◌, ℕ, ◌+◌, ◌*◌, ◌/◌, ◌%◌, ◌-◌, ◌^◌, ◌<◌, ◌≤◌, Bool, true, ◌&&◌, if◌then◌else◌, nat_lt, nat_le, List, [], length, slice_index, Option, Some, None, unwrap_or}
+use Rattle.std.specs.Ordering.{nat_cmp}
+use Rattle.std.specs.FinMap.{FinMap, get, contains_key, insert, remove}
+use Rattle.phys_memory.specs.declared.reach.Reach.{Reach}
+use Rattle.busdma_base.specs.declared.report.ReportName.{ReportName}
+use Rattle.busdma_base.specs.declared.report.ReportName.TheVariants.{Unmapped}
+use Rattle.busdma_base.specs.Framed.{Framed, overwritten}
+
+-- the virtual pages by their number, the virtual address / 4096, and the bytes of the frames by theirs
+pub record Memory : Type 0 where
+  pub table : FinMap nat_cmp Reach
+  pub frames : FinMap nat_cmp (List ℕ)
+
+-- a memory, and how many more pages it has room for
+pub record Roomy : Type 0 where
+  pub memory : Memory
+  pub spare : ℕ
+
+-- the physical address of a byte of a page, where it can be reached
+abbrev pub reached_in : Option Reach → ℕ → Option ℕ
+reached_in None at = None
+reached_in (Some r) at = if nat_lt at r.reach then Some (4096 * r.frame + at) else None
+
+-- the row of the page of a virtual address; there is none from 2^64 on
+abbrev pub row_at : Memory → ℕ → Option Reach
+row_at m va = if nat_lt va (2 ^ 64) then get m.table (va / 4096) else None
+
+-- the physical address of a virtual one, where the driver can reach it
+abbrev pub physical : Memory → ℕ → Option ℕ
+physical m va = reached_in (row_at m va) (va % 4096)
+
+-- what stands in the way of a byte at a virtual address
+abbrev pub missing : Option ℕ → Option ReportName
+missing None = Some Unmapped
+missing (Some pa) = None
+
+abbrev pub unreached : Memory → ℕ → Option ReportName
+unreached m va = missing (physical m va)
+
+-- the byte of a frame at a place, or 0 without the frame
+abbrev pub byte_in : Option (List ℕ) → ℕ → ℕ
+byte_in None at = 0
+byte_in (Some bytes) at = slice_index bytes at
+
+-- the byte at a physical address, or 0 where the memory has no such frame
+abbrev pub wire : Memory → ℕ → ℕ
+wire m pa = byte_in (get m.frames (pa / 4096)) (pa % 4096)
+
+-- whether a frame of this number is in the memory
+abbrev pub has_frame : Memory → ℕ → Bool
+has_frame m frame = contains_key m.frames frame
+
+-- whether there is a page at this virtual address
+abbrev pub has_page : Memory → ℕ → Bool
+has_page m va = contains_key m.table (va / 4096)
+
+-- the memory with a page more, at a virtual address, of which so many first bytes can be reached
+abbrev pub with_page : Memory → ℕ → Framed → ℕ → Memory
+with_page m va page reach = record {
+  table = insert m.table (va / 4096) (record { frame = page.frame; reach = reach });
+  frames = insert m.frames page.frame page.bytes;
+}
+
+-- the page of a row, with the bytes of its frame
+abbrev pub page_of : Memory → Option Reach → Option Framed
+page_of m None = None
+page_of m (Some r) = Some (record { frame = r.frame; bytes = unwrap_or (get m.frames r.frame) [] })
+
+-- the page at a virtual address
+abbrev pub page_at : Memory → ℕ → Option Framed
+page_at m va = page_of m (get m.table (va / 4096))
+
+-- the memory without a virtual page, which has this row, and without its frame
+abbrev pub without_row : Memory → ℕ → Option Reach → Memory
+without_row m v None = m
+without_row m v (Some r) = record { table = remove m.table v; frames = remove m.frames r.frame }
+
+-- the memory without the page at a virtual address, if there is one
+abbrev pub without_page : Memory → ℕ → Memory
+without_page m va = without_row m (va / 4096) (get m.table (va / 4096))
+
+-- the memory after bytes were written into a frame, from a physical address on
+abbrev pub rewritten : Memory → ℕ → List ℕ → Memory
+rewritten m pa bytes =
+    let frame = unwrap_or (get m.frames (pa / 4096)) [] in
+    record m { frames = insert m.frames (pa / 4096) (overwritten frame (pa % 4096) bytes) }
+
+-- what stands at each address after bytes were written from one on; w stood there before
+abbrev pub written : ℕ → List ℕ → (ℕ → ℕ) → ℕ → ℕ
+written pa bytes w a = if nat_le pa a && nat_lt a (pa + length bytes) then slice_index bytes (a - pa) else w a
+
+-- each page has a frame of its own that is in the memory; frames have numbers below 2^30, and 4096 bytes
+pub record IsMemory (m : Memory) : Type 0 where
+  pub reached : (v : ℕ) (r : Reach) → get m.table v ≡ Some r → r.reach ≤ 4096
+  pub there : (v : ℕ) (r : Reach) → get m.table v ≡ Some r → has_frame m r.frame ≡ true
+  pub apart : (v w : ℕ) (r s : Reach) → get m.table v ≡ Some r → get m.table w ≡ Some s → r.frame ≡ s.frame → v ≡ w
+  pub numbered : (f : ℕ) (bytes : List ℕ) → get m.frames f ≡ Some bytes → f < 2 ^ 30
+  pub whole : (f : ℕ) (bytes : List ℕ) → get m.frames f ≡ Some bytes → length bytes ≡ 4096

@@ -1,0 +1,32 @@
+//! The bytes of frames by their physical addresses.
+
+ghost use Rattle.std.specs.Prelude.{◌≡◌, ◌+◌, ◌/◌, ◌%◌, ◌≤◌, true, length, map};
+ghost use Rattle.busdma_base.specs.Runs.{run_of};
+ghost use Rattle.phys_memory.specs.Memory.{has_frame, rewritten, wire, written};
+
+use crate::pages::LanePages;
+use busdma_base::Pa;
+
+impl LanePages {
+    /// Copies the bytes from a physical address on, which lie in one frame of the memory.
+    pub fn read(&self, pa: Pa, out: &mut [u8])
+        requires there { has_frame self.now.memory (pa.0 / 4096) ≡ true }
+        requires inside { pa.0 % 4096 + length out.old ≤ 4096 }
+        ensures { out.new ≡ map (wire self.now.memory) (run_of pa.0 (length out.old)) }
+    {
+        let page = self.frames.get(&(pa.0 / 4096)).unwrap();
+        let at = (pa.0 % 4096) as usize;
+        out.copy_from_slice(&page.bytes()[at..at + out.len()]);
+    }
+
+    /// Writes bytes from a physical address on, into one frame of the memory.
+    pub fn write(&mut self, pa: Pa, bytes: &[u8])
+        requires there { has_frame self.old.memory (pa.0 / 4096) ≡ true }
+        requires inside { pa.0 % 4096 + length bytes.now ≤ 4096 }
+        ensures is { self.new ≡ record self.old { memory = rewritten self.old.memory pa.0 bytes.now } }
+        ensures wire { wire self.new.memory ≡ written pa.0 bytes.now (wire self.old.memory) }
+    {
+        let page = self.frames.get_mut(&(pa.0 / 4096)).unwrap();
+        page.write((pa.0 % 4096) as usize, bytes);
+    }
+}

@@ -1,0 +1,112 @@
+//! The parts of virtual bytes.
+
+ghost use Rattle.std.specs.Prelude.{◌≡◌, ℕ, ◌+◌, ◌-◌, ◌*◌, ◌/◌, ◌%◌, ◌^◌, ◌<◌, ◌≤◌, IfSome, IfNone, None, Some, true, []};
+ghost use Rattle.std.specs.Iterator.{YieldsFirst, item_count};
+ghost use Rattle.phys_memory.specs.Memory.{physical, row_at};
+ghost use Rattle.phys_memory.specs.Extents.{IsNext, reached};
+ghost use Rattle.phys_memory.specs.Walk.{flat, stream_of};
+
+use crate::pages::LanePages;
+use crate::reach::Reach;
+use busdma_base::{Extent, Pa, Part, Va};
+use std::marker::Model;
+
+/// The parts of virtual bytes, in order: their extents, up to the first byte that cannot be
+/// reached, and then `Unmapped` with the offset of that byte.
+#[derive(Drop)]
+pub struct FlatParts<'a> {
+    memory: &'a LanePages,
+    at: u128,
+    left: u64,
+    offset: u64,
+    opens: bool,
+}
+
+impl<'a> Model for FlatParts<'a> {
+    ghost use Rattle.std.specs.Prelude.{List, ◌+◌, ◌<◌, ◌^◌};
+    ghost use Rattle.busdma_base.specs.declared.chunk.Part.{Part};
+    ghost use Rattle.phys_memory.specs.Extents.{reached};
+    ghost use Rattle.phys_memory.specs.Walk.{stream_of};
+
+    ghost Value = { List Part };
+
+    ghost view = { λ s. stream_of (reached s.memory.now.memory s.at s.left) s.left s.offset s.opens };
+
+    ghost invariant = { λ s. (s.at + s.left < 2 ^ 65) × (s.offset + s.left < 2 ^ 64) };
+}
+
+impl<'a> Iterator for FlatParts<'a> {
+    type Item = Part;
+
+    ghost next_gives = { YieldsFirst (λ s. s) };
+
+    ghost remaining = { item_count (λ s. s) };
+
+    fn next(&mut self) -> Option<Part> {
+        if self.left == 0 {
+            return None;
+        }
+        match self.memory.extent_at(self.at, self.left) {
+            None => {
+                self.left = 0;
+                Some(Part::Unmapped(self.offset))
+            }
+            Some(extent) => {
+                let opens = self.opens;
+                self.at += extent.len as u128;
+                self.left -= extent.len;
+                self.offset += extent.len;
+                self.opens = false;
+                Some(Part::Of {
+                    extent,
+                    opens,
+                    rounded: true,
+                })
+            }
+        }
+    }
+}
+
+impl LanePages {
+    /// The parts of `len` virtual bytes.
+    pub fn parts_flat(&self, va: Va, len: u64) -> FlatParts<'_>
+        ensures { result ≡ flat self.now.memory va.0 len }
+    {
+        FlatParts {
+            memory: self,
+            at: va.0 as u128,
+            left: len,
+            offset: 0,
+            opens: true,
+        }
+    }
+
+    // The extent of the first of `left` bytes from a virtual address on, and of those after it in its page.
+    fn extent_at(&self, at: u128, left: u64) -> Option<Extent>
+        requires { 0 < left }
+        ensures none { IfNone result (physical self.now.memory at ≡ None) }
+        ensures next { IfSome result (IsNext self.now.memory at left) }
+    {
+        let row = self.row_at(at)?;
+        let inside = (at % 4096) as u64;
+        if row.reach <= inside {
+            return None;
+        }
+        Some(Extent {
+            pa: Pa(row.frame * 4096 + inside),
+            len: (row.reach - inside).min(left),
+        })
+    }
+
+    // The row of the page of a virtual address.
+    fn row_at(&self, at: u128) -> Option<Reach>
+        ensures is { result ≡ row_at self.now.memory at }
+        ensures frame { IfSome result (λ r. r.frame < 2 ^ 30) }
+        ensures reach { IfSome result (λ r. r.reach ≤ 4096) }
+    {
+        if at >= 1 << 64 {
+            return None;
+        }
+        self.table.get(&((at / 4096) as u64)).copied()
+    }
+}

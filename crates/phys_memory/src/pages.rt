@@ -1,0 +1,131 @@
+//! The pages of a driver.
+
+ghost use Rattle.std.specs.Prelude.{◌≡◌, ◌+◌, ◌/◌, ◌%◌, ◌^◌, ◌<◌, ◌≤◌, ◌↔◌, true, false, length, if◌then◌else◌, Some, None, IsTrue, IsOk, OnOk, OnErr, IfOk};
+ghost use Rattle.std.specs.FinMap.{empty};
+ghost use Rattle.phys_memory.specs.Memory.{IsMemory, has_frame, has_page, page_at, with_page, without_page};
+
+use crate::reach::Reach;
+use busdma_base::{Page, Va};
+use std::alloc::{AllocError, Global};
+use std::collections::HashMap;
+use std::marker::Model;
+
+/// The memory of one driver: pages of 4096 bytes with virtual addresses, of each of which the
+/// first bytes, or all, can be reached there.
+#[derive(Drop)]
+pub struct LanePages {
+    pub(crate) table: HashMap<u64, Reach>,
+    pub(crate) frames: HashMap<u64, Page>,
+}
+
+impl Model for LanePages {
+    ghost use Rattle.phys_memory.specs.Memory.{Roomy};
+
+    ghost Value = { Roomy };
+
+    ghost use Rattle.phys_memory.specs.Codes.{roomy_code};
+
+    ghost coded = { roomy_code };
+
+    ghost use Rattle.phys_memory.specs.Kept.{roomy_of, IsKept};
+
+    ghost view = { λ p. roomy_of p.table p.frames };
+
+    ghost invariant = { λ p. IsKept p.table p.frames };
+}
+
+impl LanePages {
+    /// A memory with no pages.
+    pub fn new(alloc: Global) -> LanePages
+        ensures table { result.memory.table ≡ empty }
+        ensures frames { result.memory.frames ≡ empty }
+    {
+        LanePages {
+            table: HashMap::new(alloc),
+            frames: HashMap::new(alloc),
+        }
+    }
+
+    /// Gives room for so many more pages.
+    pub fn reserve(&mut self, _alloc: Global, pages: u32) -> Result<(), AllocError>
+        ensures memory { self.new.memory ≡ self.old.memory }
+        ensures room { OnOk result (pages ≤ self.new.spare) }
+        ensures spare { self.old.spare ≤ self.new.spare }
+        ensures succeeds { pages ≤ self.old.spare → IsOk result }
+    {
+        self.table.reserve(pages as usize)?;
+        self.frames.reserve(pages as usize)
+    }
+
+    /// Adds a page at a virtual address, of which the first `reach` bytes can be reached. A page
+    /// comes back where that virtual page is taken. The page is dropped where memory is wanting.
+    pub fn add(
+        &mut self,
+        alloc: Global,
+        va: Va,
+        page: Page,
+        reach: u64,
+    ) -> Result<Option<Page>, AllocError>
+        requires aligned { va.0 % 4096 ≡ 0 }
+        requires reach { reach ≤ 4096 }
+        requires fresh { has_frame self.old.memory page.frame ≡ false }
+        ensures answer { IfOk result (λ back. back ≡ (if has_page self.old.memory va.0 then Some page else None)) }
+        ensures memory { OnOk result (self.new.memory ≡ (if has_page self.old.memory va.0 then self.old.memory else with_page self.old.memory va.0 page reach)) }
+        ensures err { OnErr result (self.new.memory ≡ self.old.memory) }
+        ensures spare { self.old.spare ≤ self.new.spare + 1 }
+    {
+        self.reserve(alloc, 1)?;
+        Ok(self.add_reserved(va, page, reach))
+    }
+
+    /// The same, where there is room for the page.
+    pub fn add_reserved(&mut self, va: Va, page: Page, reach: u64) -> Option<Page>
+        requires room { 0 < self.old.spare }
+        requires aligned { va.0 % 4096 ≡ 0 }
+        requires reach { reach ≤ 4096 }
+        requires fresh { has_frame self.old.memory page.frame ≡ false }
+        ensures answer { result ≡ (if has_page self.old.memory va.0 then Some page else None) }
+        ensures memory { self.new.memory ≡ (if has_page self.old.memory va.0 then self.old.memory else with_page self.old.memory va.0 page reach) }
+        ensures spare { self.old.spare ≤ self.new.spare + 1 }
+    {
+        let number = va.0 / 4096;
+        if self.table.contains_key(&number) {
+            return Some(page);
+        }
+        let frame = whole_frame(&page);
+        let row: Result<_, _> = self.table.insert(number, Reach { frame, reach });
+        row.unwrap();
+        let kept: Result<_, _> = self.frames.insert(frame, page);
+        kept.unwrap();
+        None
+    }
+
+    /// Takes the page at a virtual address out, with the bytes that it holds.
+    pub fn remove(&mut self, va: Va) -> Option<Page>
+        requires { va.0 % 4096 ≡ 0 }
+        ensures page { result ≡ page_at self.old.memory va.0 }
+        ensures memory { self.new.memory ≡ without_page self.old.memory va.0 }
+        ensures spare { self.old.spare ≤ self.new.spare }
+    {
+        let row = self.table.remove(&(va.0 / 4096))?;
+        self.frames.remove(&row.frame)
+    }
+
+    /// Whether a frame of this number is in the memory.
+    pub fn has_frame(&self, frame: u64) -> bool
+        ensures is { result ≡ has_frame self.now.memory frame }
+        ensures sound { IsMemory self.now.memory }
+    {
+        self.frames.contains_key(&frame)
+    }
+}
+
+// The number of a page's frame.
+fn whole_frame(page: &Page) -> u64
+    ensures number { result ≡ page.now.frame }
+    ensures below { result < 2 ^ 30 }
+    ensures whole { length page.now.bytes ≡ 4096 }
+{
+    let _bytes = page.bytes();
+    page.frame()
+}

@@ -1,0 +1,41 @@
+//! Walks over virtual bytes.
+
+ghost use Rattle.std.specs.Prelude.{◌≡◌, IfOk, map};
+ghost use Rattle.std.specs.List.{AllByRecursion};
+ghost use Rattle.busdma_base.specs.Judging.{judged};
+ghost use Rattle.busdma_base.specs.Runs.{IsExtent, addresses, run_of};
+ghost use Rattle.phys_memory.specs.Memory.{unreached};
+ghost use Rattle.phys_memory.specs.Extents.{AreJoined, LiesIn, reached};
+ghost use Rattle.phys_memory.specs.Walk.{IfParts, physical_or_0, verdict, walk_of};
+
+use crate::pages::LanePages;
+use busdma_base::{ExtentList, Part, Va};
+use std::alloc::{AllocError, Global};
+
+/// The extents of virtual bytes, or the offset of the first of them that cannot be reached.
+#[derive(Debug, Drop)]
+pub enum Walked {
+    Parts(ExtentList),
+    Unmapped(u64),
+}
+
+impl LanePages {
+    /// The extents of `len` virtual bytes, one for each page that they touch, in order.
+    pub fn translate(&self, alloc: Global, va: Va, len: u64) -> Result<Walked, AllocError>
+        ensures walk { IfOk result (λ w. w ≡ walk_of (reached self.now.memory va.0 len) len) }
+        ensures verdict { IfOk result (λ w. verdict w ≡ judged (unreached self.now.memory) 0 (run_of va.0 len)) }
+        ensures addresses { IfOk result (λ w. IfParts w (λ es. addresses es ≡ map (physical_or_0 self.now.memory) (run_of va.0 len))) }
+        ensures extents { IfOk result (λ w. IfParts w (AllByRecursion IsExtent)) }
+        ensures joined { IfOk result (λ w. IfParts w AreJoined) }
+        ensures frames { IfOk result (λ w. IfParts w (AllByRecursion (LiesIn self.now.memory))) }
+    {
+        let mut parts = Vec::new(alloc);
+        for part in self.parts_flat(va, len) {
+            match part {
+                Part::Of { extent, .. } => parts.push(extent)?,
+                Part::Unmapped(offset) => return Ok(Walked::Unmapped(offset)),
+            }
+        }
+        Ok(Walked::Parts(ExtentList::new(parts)))
+    }
+}
