@@ -1,6 +1,6 @@
 -- What every memory keeps, through its changes.
 use Rattle.std.proofs.Common.{◌≡◌, ℕ, ◌+◌, ◌/◌, ◌%◌, ◌^◌, ◌<◌, ◌≤◌, Bool, true, false, cond, List, [], ◌∷◌, map, length, refl, ap, sym, ◌∙◌, subst, ◌⊎◌, inl, inr, ◌≢◌, arith, eqb}
-use Rattle.std.specs.Prelude.{Option, Some, None, is_some, nat_eq, unwrap_or}
+use Rattle.std.specs.Prelude.{Option, Some, None, is_some, nat_eq, unwrap_or, IfSome}
 use Rattle.std.specs.Option.{option_map}
 use Rattle.std.specs.Ordering.{nat_cmp}
 use Rattle.std.specs.Map.{lookup}
@@ -10,7 +10,7 @@ use Rattle.std.proofs.lemmas.Bool.{eq-eqb, ne_eqb}
 use Rattle.std.proofs.lemmas.Bool.Decides.{eqb_tells}
 use Rattle.busdma_base.specs.Framed.{Framed, overwritten}
 use Rattle.phys_memory.specs.declared.reach.Reach.{Reach}
-use Rattle.phys_memory.specs.Memory.{Memory, IsMemory, has_frame, has_page, with_page, without_row, rewritten}
+use Rattle.phys_memory.specs.Memory.{Memory, IsMemory, IsRow, has_frame, has_page, with_page, without_row, rewritten}
 use Rattle.phys_memory.specs.Kept.{contents, memory_of, AtTheirFrames}
 use Rattle.phys_memory.proofs.Tables.{get_made, get_inserted, get_removed, got_inserted, got_removed, is_some-inserted, made_inserted, made_removed, made_same}
 
@@ -128,3 +128,16 @@ memory_with_bytes m f bytes is has whole = record {
   number : (o : Option (List ℕ)) → get m.frames f ≡ o → is_some o ≡ true → f < 2 ^ 30
   number None e s = absurd (cc)
   number (Some old) e s = is.numbered f old e
+
+-- what is known of a row that was found
+pub row_is : (m : Memory) (v : ℕ) (o : Option Reach) → IsMemory m → get m.table v ≡ o → IfSome o (IsRow m)
+row_is m v None is here = tt
+row_is m v (Some r) is here = record {
+  reached = is.reached v r here;
+  there = is.there v r here;
+  numbered = number (get m.frames r.frame) refl (is.there v r here);
+}
+  where
+  number : (o : Option (List ℕ)) → get m.frames r.frame ≡ o → is_some o ≡ true → r.frame < 2 ^ 30
+  number None e s = absurd (cc)
+  number (Some old) e s = is.numbered r.frame old e

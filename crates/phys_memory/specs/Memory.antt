@@ -97,3 +97,9 @@ pub record IsMemory (m : Memory) : Type 0 where
   pub apart : (v w : ℕ) (r s : Reach) → get m.table v ≡ Some r → get m.table w ≡ Some s → r.frame ≡ s.frame → v ≡ w
   pub numbered : (f : ℕ) (bytes : List ℕ) → get m.frames f ≡ Some bytes → f < 2 ^ 30
   pub whole : (f : ℕ) (bytes : List ℕ) → get m.frames f ≡ Some bytes → length bytes ≡ 4096
+
+-- what is known of a row of a memory
+pub record IsRow (m : Memory) (r : Reach) : Type 0 where
+  pub reached : r.reach ≤ 4096
+  pub there : has_frame m r.frame ≡ true
+  pub numbered : r.frame < 2 ^ 30

@@ -2,7 +2,7 @@
 
 ghost use Rattle.std.specs.Prelude.{◌≡◌, ℕ, ◌+◌, ◌-◌, ◌*◌, ◌/◌, ◌%◌, ◌^◌, ◌<◌, ◌≤◌, IfSome, IfNone, None, Some, true, []};
 ghost use Rattle.std.specs.Iterator.{YieldsFirst, item_count};
-ghost use Rattle.phys_memory.specs.Memory.{physical, row_at};
+ghost use Rattle.phys_memory.specs.Memory.{IsMemory, IsRow, physical, row_at};
 ghost use Rattle.phys_memory.specs.Extents.{IsNext, reached};
 ghost use Rattle.phys_memory.specs.Walk.{flat, stream_of};
 
@@ -70,8 +70,10 @@ impl<'a> Iterator for FlatParts<'a> {
 impl LanePages {
     /// The parts of `len` virtual bytes.
     pub fn parts_flat(&self, va: Va, len: u64) -> FlatParts<'_>
-        ensures { result ≡ flat self.now.memory va.0 len }
+        ensures parts { result ≡ flat self.now.memory va.0 len }
+        ensures sound { IsMemory self.now.memory }
     {
+        let _ = &self.table;
         FlatParts {
             memory: self,
             at: va.0 as u128,
@@ -101,8 +103,7 @@ impl LanePages {
     // The row of the page of a virtual address.
     fn row_at(&self, at: u128) -> Option<Reach>
         ensures is { result ≡ row_at self.now.memory at }
-        ensures frame { IfSome result (λ r. r.frame < 2 ^ 30) }
-        ensures reach { IfSome result (λ r. r.reach ≤ 4096) }
+        ensures row { IfSome result (IsRow self.now.memory) }
     {
         if at >= 1 << 64 {
             return None;

@@ -1,0 +1,32 @@
+-- Streams of parts, from their front.
+use Rattle.std.proofs.Common.{◌≡◌, ℕ, zero, suc, ◌+◌, ◌-◌, ◌*◌, ◌/◌, ◌%◌, ◌^◌, ◌<◌, ◌≤◌, Bool, true, false, cond, List, [], ◌∷◌, ◌++◌, length, refl, ap, sym, ◌∙◌, subst, ◌⊎◌, inl, inr, ◌≢◌, arith, length-append}
+use Rattle.std.specs.Prelude.{Option, Some, None, nat_eq, if◌then◌else◌}
+use Rattle.std.proofs.lemmas.Bool.{eq-eqb, ne_eqb}
+use Rattle.std.proofs.lemmas.Bool.Decides.{eqb_tells}
+use Rattle.busdma_base.specs.declared.address.Extent.{Extent}
+use Rattle.busdma_base.specs.declared.chunk.Part.{Part}
+use Rattle.busdma_base.specs.declared.chunk.Part.TheVariants as part
+use Rattle.busdma_base.specs.Runs.{run_of}
+use Rattle.phys_memory.specs.Memory.{Memory, physical}
+use Rattle.phys_memory.specs.Extents.{BeginsFrame, IsNext, extents_of, reached, then_reached}
+use Rattle.phys_memory.specs.Walk.{parts_of, stream_of}
+use Rattle.phys_memory.proofs.Extents.{extents_of-run, length-run_of}
+
+-- a test that counts the bytes before
+same_left : (n l left : ℕ) → n ≤ left → nat_eq (n + l) left ≡ nat_eq l (left - n)
+same_left n l left h = elim (eqb_tells (n + l) left) [
+    | inl t ↦ t.0 ∙ sym (eq-eqb l (left - n) (omega arith))
+    | inr t ↦ t.0 ∙ sym (ne_eqb l (left - n) (λ e. t.1 (omega arith)))
+  ]
+
+-- the first part of a stream, and what is left
+pub stream_next : (m : Memory) (at left offset : ℕ) (opens : Bool) (e : Extent) → IsNext m at left e → stream_of (reached m at left) left offset opens ≡ part.Of e opens true ∷ stream_of (reached m (at + e.len) (left - e.len)) (left - e.len) (offset + e.len) false
+stream_next m at left offset opens e is =
+    let rest = reached m (at + e.len) (left - e.len) in
+    let count : length (run_of e.pa.0 e.len ++ rest) ≡ e.len + length rest = length-append (run_of e.pa.0 e.len) rest ∙ ap (λ n. n + length rest) (length-run_of e.pa.0 e.len) in
+    let more : offset + (e.len + length rest) ≡ offset + e.len + length rest = omega arith in
+    ap (λ pas. stream_of pas left offset opens) is.others
+    ∙ ap (λ es. parts_of opens es ++ (if nat_eq (length (run_of e.pa.0 e.len ++ rest)) left then [] else part.Unmapped (offset + length (run_of e.pa.0 e.len ++ rest)) ∷ [])) (extents_of-run e.pa.0 e.len rest is.extent.some is.extent.in_frame is.cut)
+    ∙ ap (λ n. part.Of e opens true ∷ (parts_of false (extents_of rest) ++ (if nat_eq n left then [] else part.Unmapped (offset + n) ∷ []))) count
+    ∙ ap (λ b. part.Of e opens true ∷ (parts_of false (extents_of rest) ++ (if b then [] else part.Unmapped (offset + (e.len + length rest)) ∷ []))) (same_left e.len (length rest) left is.short)
+    ∙ ap (λ k. part.Of e opens true ∷ (parts_of false (extents_of rest) ++ (if nat_eq (length rest) (left - e.len) then [] else part.Unmapped k ∷ []))) more

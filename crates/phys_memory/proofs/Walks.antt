@@ -1,0 +1,98 @@
+-- Walks, from their streams.
+use Rattle.std.proofs.Common.{◌≡◌, ℕ, zero, suc, ◌+◌, ◌-◌, ◌<◌, ◌≤◌, Bool, true, false, List, [], ◌∷◌, ◌++◌, map, length, refl, ap, sym, ◌∙◌, subst, inl, inr, arith, append-nil, append_assoc}
+use Rattle.std.specs.Prelude.{Option, Some, None, nat_eq, if◌then◌else◌, unwrap_or}
+use Rattle.std.specs.List.{AllByRecursion}
+use Rattle.std.proofs.lemmas.Bool.{eq-eqb, eqb-true, ne_eqb}
+use Rattle.std.proofs.lemmas.Bool.Decides.{eqb_tells}
+use Rattle.busdma_base.specs.declared.address.Extent.{Extent}
+use Rattle.busdma_base.specs.declared.chunk.Part.{Part}
+use Rattle.busdma_base.specs.declared.chunk.Part.TheVariants as part
+use Rattle.busdma_base.specs.declared.report.ReportName.TheVariants as name
+use Rattle.busdma_base.specs.declared.report.Judged.{Judged}
+use Rattle.busdma_base.specs.declared.report.Judged.TheVariants.{Fine, Refused}
+use Rattle.busdma_base.specs.Judging.{judged, refused_or}
+use Rattle.busdma_base.specs.Runs.{addresses, run_of, IsExtent}
+use Rattle.phys_memory.specs.declared.walk.Walked.{Walked}
+use Rattle.phys_memory.specs.declared.walk.Walked.TheVariants.{Parts, Unmapped}
+use Rattle.phys_memory.specs.Memory.{Memory, IsMemory, missing, physical, unreached}
+use Rattle.phys_memory.specs.Extents.{AreJoined, LiesIn, extents_of, reached, then_reached}
+use Rattle.phys_memory.specs.Walk.{IfParts, flat, parts_of, physical_or_0, stream_of, verdict, walk_of}
+use Rattle.phys_memory.proofs.Extents.{AreExtents, reached_extents}
+
+-- the walk whose extents so far are es, and whose other parts are these
+abbrev pub walked : List Extent → List Part → Walked
+walked es [] = Parts es
+walked es (part.Of e opens rounded ∷ ps) = walked (es ++ e ∷ []) ps
+walked es (part.Unmapped at ∷ ps) = Unmapped at
+
+walked-parts_of : (before es : List Extent) (opens : Bool) (rest : List Part) → walked before (parts_of opens es ++ rest) ≡ walked (before ++ es) rest
+walked-parts_of before [] opens rest = ap (λ xs. walked xs rest) (sym (append-nil before))
+walked-parts_of before (e ∷ es) opens rest = walked-parts_of (before ++ e ∷ []) es false rest ∙ ap (λ xs. walked xs rest) (append_assoc before (e ∷ []) es)
+
+-- the walk over a stream is the one over its bytes
+pub walked-stream_of : (pas : List ℕ) (n : ℕ) (opens : Bool) → walked [] (stream_of pas n 0 opens) ≡ walk_of pas n
+walked-stream_of pas n opens =
+    let zero_plus : 0 + length pas ≡ length pas = omega arith in
+    walked-parts_of [] (extents_of pas) opens (if nat_eq (length pas) n then [] else part.Unmapped (0 + length pas) ∷ [])
+    ∙ elim (nat_eq (length pas) n) as (λ b. walked (extents_of pas) (if b then [] else part.Unmapped (0 + length pas) ∷ []) ≡ (if b then Parts (extents_of pas) else Unmapped (length pas))) [ true ↦ refl | false ↦ ap (λ k. Unmapped k) zero_plus ]
+
+-- ---- what a walk says
+
+eqb_suc : (a b : ℕ) → nat_eq (suc a) (suc b) ≡ nat_eq a b
+eqb_suc a b = elim (eqb_tells a b) [
+    | inl t ↦ eq-eqb (suc a) (suc b) (ap suc t.1) ∙ sym t.0
+    | inr t ↦ ne_eqb (suc a) (suc b) (λ e. t.1 (omega arith)) ∙ sym t.0
+  ]
+
+abbrev refused_at : ℕ → Judged
+refused_at k = Refused (record { name = name.Unmapped; at = k })
+
+judged-reached : (m : Memory) (va n k : ℕ) → (if nat_eq (length (reached m va n)) n then Fine else refused_at (k + length (reached m va n))) ≡ judged (unreached m) k (run_of va n)
+judged-reached m va zero k = refl
+judged-reached m va (suc n) k = first (physical m va) (judged-reached m (va + 1) n (k + 1))
+  where
+  first : (o : Option ℕ) → (if nat_eq (length (reached m (va + 1) n)) n then Fine else refused_at (k + 1 + length (reached m (va + 1) n))) ≡ judged (unreached m) (k + 1) (run_of (va + 1) n) → (if nat_eq (length (then_reached o (reached m (va + 1) n))) (suc n) then Fine else refused_at (k + length (then_reached o (reached m (va + 1) n)))) ≡ refused_or (missing o) k (judged (unreached m) (k + 1) (run_of (va + 1) n))
+  first None others =
+      let none : k + 0 ≡ k = omega arith in
+      ap (λ b. if b then Fine else refused_at (k + 0)) (ne_eqb 0 (suc n) (omega arith)) ∙ ap refused_at none
+  first (Some p) others =
+      let one : k + suc (length (reached m (va + 1) n)) ≡ k + 1 + length (reached m (va + 1) n) = omega arith in
+      ap (λ b. if b then Fine else refused_at (k + suc (length (reached m (va + 1) n)))) (eqb_suc (length (reached m (va + 1) n)) n)
+      ∙ ap (λ j. if nat_eq (length (reached m (va + 1) n)) n then Fine else refused_at j) one ∙ others
+
+pub verdict-walk_of : (m : Memory) (va n : ℕ) → verdict (walk_of (reached m va n) n) ≡ judged (unreached m) 0 (run_of va n)
+verdict-walk_of m va n =
+    let l = length (reached m va n) in
+    let zero_plus : l ≡ 0 + l = omega arith in
+    elim (nat_eq l n) as (λ b. verdict (if b then Parts (extents_of (reached m va n)) else Unmapped l) ≡ (if b then Fine else refused_at (0 + l))) [ true ↦ refl | false ↦ ap refused_at zero_plus ]
+    ∙ judged-reached m va n 0
+
+-- where all bytes are reached, they stand at their physical addresses
+reached_all : (m : Memory) (va n : ℕ) → length (reached m va n) ≡ n → reached m va n ≡ map (physical_or_0 m) (run_of va n)
+reached_all m va zero h = refl
+reached_all m va (suc n) h = first (physical m va) h (λ e. reached_all m (va + 1) n e)
+  where
+  first : (o : Option ℕ) → length (then_reached o (reached m (va + 1) n)) ≡ suc n → (length (reached m (va + 1) n) ≡ n → reached m (va + 1) n ≡ map (physical_or_0 m) (run_of (va + 1) n)) → then_reached o (reached m (va + 1) n) ≡ unwrap_or o 0 ∷ map (physical_or_0 m) (run_of (va + 1) n)
+  first None e others = absurd (omega arith)
+  first (Some p) e others = ap (λ pas. p ∷ pas) (others (omega arith))
+
+-- what holds of the extents of a walk that is whole
+if_parts : (pas : List ℕ) (n : ℕ) (P : List Extent → Type 0) → (length pas ≡ n → P (extents_of pas)) → IfParts (walk_of pas n) P
+if_parts pas n P h = whole (nat_eq (length pas) n) refl
+  where
+  whole : (b : Bool) → nat_eq (length pas) n ≡ b → IfParts (if b then Parts (extents_of pas) else Unmapped (length pas)) P
+  whole true e = h (eqb-true (length pas) n e)
+  whole false e = tt
+
+module _ (m : Memory) (va n : ℕ) (is : IsMemory m) where
+  pub walk_addresses : IfParts (walk_of (reached m va n) n) (λ es. addresses es ≡ map (physical_or_0 m) (run_of va n))
+  walk_addresses = if_parts (reached m va n) n (λ es. addresses es ≡ map (physical_or_0 m) (run_of va n)) (λ h. (reached_extents m va n is).bytes ∙ reached_all m va n h)
+
+  pub walk_extents : IfParts (walk_of (reached m va n) n) (AllByRecursion IsExtent)
+  walk_extents = if_parts (reached m va n) n (AllByRecursion IsExtent) (λ h. (reached_extents m va n is).extents)
+
+  pub walk_joined : IfParts (walk_of (reached m va n) n) AreJoined
+  walk_joined = if_parts (reached m va n) n AreJoined (λ h. (reached_extents m va n is).joined)
+
+  pub walk_lies : IfParts (walk_of (reached m va n) n) (AllByRecursion (LiesIn m))
+  walk_lies = if_parts (reached m va n) n (AllByRecursion (LiesIn m)) (λ h. (reached_extents m va n is).lie)
