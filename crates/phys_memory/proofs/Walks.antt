@@ -16,21 +16,15 @@ use Rattle.phys_memory.specs.declared.walk.Walked.{Walked}
 use Rattle.phys_memory.specs.declared.walk.Walked.TheVariants.{Parts, Unmapped}
 use Rattle.phys_memory.specs.Memory.{Memory, IsMemory, missing, physical, unreached}
 use Rattle.phys_memory.specs.Extents.{AreJoined, LiesIn, extents_of, reached, then_reached}
-use Rattle.phys_memory.specs.Walk.{IfParts, flat, parts_of, physical_or_0, stream_of, verdict, walk_of}
+use Rattle.phys_memory.specs.Walk.{IfParts, flat, parts_of, physical_or_0, stream_of, verdict, walk_of, walked}
 use Rattle.phys_memory.proofs.Extents.{AreExtents, reached_extents}
-
--- the walk whose extents so far are es, and whose other parts are these
-abbrev pub walked : List Extent → List Part → Walked
-walked es [] = Parts es
-walked es (part.Of e opens rounded ∷ ps) = walked (es ++ e ∷ []) ps
-walked es (part.Unmapped at ∷ ps) = Unmapped at
 
 walked-parts_of : (before es : List Extent) (opens : Bool) (rest : List Part) → walked before (parts_of opens es ++ rest) ≡ walked (before ++ es) rest
 walked-parts_of before [] opens rest = ap (λ xs. walked xs rest) (sym (append-nil before))
 walked-parts_of before (e ∷ es) opens rest = walked-parts_of (before ++ e ∷ []) es false rest ∙ ap (λ xs. walked xs rest) (append_assoc before (e ∷ []) es)
 
 -- the walk over a stream is the one over its bytes
-pub walked-stream_of : (pas : List ℕ) (n : ℕ) (opens : Bool) → walked [] (stream_of pas n 0 opens) ≡ walk_of pas n
+walked-stream_of : (pas : List ℕ) (n : ℕ) (opens : Bool) → walked [] (stream_of pas n 0 opens) ≡ walk_of pas n
 walked-stream_of pas n opens =
     let zero_plus : 0 + length pas ≡ length pas = omega arith in
     walked-parts_of [] (extents_of pas) opens (if nat_eq (length pas) n then [] else part.Unmapped (0 + length pas) ∷ [])
@@ -60,7 +54,7 @@ judged-reached m va (suc n) k = first (physical m va) (judged-reached m (va + 1)
       ap (λ b. if b then Fine else refused_at (k + suc (length (reached m (va + 1) n)))) (eqb_suc (length (reached m (va + 1) n)) n)
       ∙ ap (λ j. if nat_eq (length (reached m (va + 1) n)) n then Fine else refused_at j) one ∙ others
 
-pub verdict-walk_of : (m : Memory) (va n : ℕ) → verdict (walk_of (reached m va n) n) ≡ judged (unreached m) 0 (run_of va n)
+verdict-walk_of : (m : Memory) (va n : ℕ) → verdict (walk_of (reached m va n) n) ≡ judged (unreached m) 0 (run_of va n)
 verdict-walk_of m va n =
     let l = length (reached m va n) in
     let zero_plus : l ≡ 0 + l = omega arith in
@@ -84,15 +78,27 @@ if_parts pas n P h = whole (nat_eq (length pas) n) refl
   whole true e = h (eqb-true (length pas) n e)
   whole false e = tt
 
-module _ (m : Memory) (va n : ℕ) (is : IsMemory m) where
-  pub walk_addresses : IfParts (walk_of (reached m va n) n) (λ es. addresses es ≡ map (physical_or_0 m) (run_of va n))
-  walk_addresses = if_parts (reached m va n) n (λ es. addresses es ≡ map (physical_or_0 m) (run_of va n)) (λ h. (reached_extents m va n is).bytes ∙ reached_all m va n h)
+-- ---- the walk over a stream of a virtual run
 
-  pub walk_extents : IfParts (walk_of (reached m va n) n) (AllByRecursion IsExtent)
-  walk_extents = if_parts (reached m va n) n (AllByRecursion IsExtent) (λ h. (reached_extents m va n is).extents)
+module _ (m : Memory) (va n : ℕ) (w : Walked) (h : w ≡ walked [] (flat m va n)) where
+  pub walk_is : w ≡ walk_of (reached m va n) n
+  walk_is = h ∙ walked-stream_of (reached m va n) n true
 
-  pub walk_joined : IfParts (walk_of (reached m va n) n) AreJoined
-  walk_joined = if_parts (reached m va n) n AreJoined (λ h. (reached_extents m va n is).joined)
+  pub verdict_is : verdict w ≡ judged (unreached m) 0 (run_of va n)
+  verdict_is = ap verdict walk_is ∙ verdict-walk_of m va n
 
-  pub walk_lies : IfParts (walk_of (reached m va n) n) (AllByRecursion (LiesIn m))
-  walk_lies = if_parts (reached m va n) n (AllByRecursion (LiesIn m)) (λ h. (reached_extents m va n is).lie)
+  module _ (is : IsMemory m) where
+    from_extents : (P : List Extent → Type 0) → (length (reached m va n) ≡ n → P (extents_of (reached m va n))) → IfParts w P
+    from_extents P k = subst (λ w. IfParts w P) (sym walk_is) (if_parts (reached m va n) n P k)
+
+    pub walk_addresses : IfParts w (λ es. addresses es ≡ map (physical_or_0 m) (run_of va n))
+    walk_addresses = from_extents (λ es. addresses es ≡ map (physical_or_0 m) (run_of va n)) (λ k. (reached_extents m va n is).bytes ∙ reached_all m va n k)
+
+    pub walk_extents : IfParts w (AllByRecursion IsExtent)
+    walk_extents = from_extents (AllByRecursion IsExtent) (λ k. (reached_extents m va n is).extents)
+
+    pub walk_joined : IfParts w AreJoined
+    walk_joined = from_extents AreJoined (λ k. (reached_extents m va n is).joined)
+
+    pub walk_lies : IfParts w (AllByRecursion (LiesIn m))
+    walk_lies = from_extents (AllByRecursion (LiesIn m)) (λ k. (reached_extents m va n is).lie)

@@ -29,6 +29,12 @@ flat m va n = stream_of (reached m va n) n 0 true
 abbrev pub walk_of : List ℕ → ℕ → Walked
 walk_of pas n = if length pas == n then Parts (extents_of pas) else Unmapped (length pas)
 
+-- the walk whose extents so far are these, and whose next parts are those of a stream
+abbrev pub walked : List Extent → List Part → Walked
+walked es [] = Parts es
+walked es (part.Of e opens rounded ∷ ps) = walked (es ++ e ∷ []) ps
+walked es (part.Unmapped at ∷ ps) = Unmapped at
+
 -- what a walk says of the bytes
 abbrev pub verdict : Walked → Judged
 verdict (Parts es) = Fine

@@ -5,6 +5,8 @@ mod bytes;
 mod flat;
 mod pages;
 mod reach;
+#[cfg(test)]
+mod tests;
 mod walk;
 
 pub use flat::FlatParts;

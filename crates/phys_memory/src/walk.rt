@@ -1,13 +1,14 @@
 //! Walks over virtual bytes.
 
-ghost use Rattle.std.specs.Prelude.{◌≡◌, IfOk, map};
+ghost use Rattle.std.specs.Prelude.{◌≡◌, [], IfOk, map};
 ghost use Rattle.std.specs.List.{AllByRecursion};
 ghost use Rattle.busdma_base.specs.Judging.{judged};
 ghost use Rattle.busdma_base.specs.Runs.{IsExtent, addresses, run_of};
 ghost use Rattle.phys_memory.specs.Memory.{unreached};
 ghost use Rattle.phys_memory.specs.Extents.{AreJoined, LiesIn, reached};
-ghost use Rattle.phys_memory.specs.Walk.{IfParts, physical_or_0, verdict, walk_of};
+ghost use Rattle.phys_memory.specs.Walk.{IfParts, physical_or_0, verdict, walk_of, walked};
 
+use crate::flat::FlatParts;
 use crate::pages::LanePages;
 use busdma_base::{ExtentList, Part, Va};
 use std::alloc::{AllocError, Global};
@@ -29,13 +30,20 @@ impl LanePages {
         ensures joined { IfOk result (λ w. IfParts w AreJoined) }
         ensures frames { IfOk result (λ w. IfParts w (AllByRecursion (LiesIn self.now.memory))) }
     {
-        let mut parts = Vec::new(alloc);
-        for part in self.parts_flat(va, len) {
-            match part {
-                Part::Of { extent, .. } => parts.push(extent)?,
-                Part::Unmapped(offset) => return Ok(Walked::Unmapped(offset)),
-            }
-        }
-        Ok(Walked::Parts(ExtentList::new(parts)))
+        walk_parts(alloc, self.parts_flat(va, len))
     }
+}
+
+// The walk over the bytes of a stream.
+fn walk_parts(alloc: Global, parts: FlatParts<'_>) -> Result<Walked, AllocError>
+    ensures { IfOk result (λ w. w ≡ walked [] parts.entry) }
+{
+    let mut extents = Vec::new(alloc);
+    for part in parts {
+        match part {
+            Part::Of { extent, .. } => extents.push(extent)?,
+            Part::Unmapped(offset) => return Ok(Walked::Unmapped(offset)),
+        }
+    }
+    Ok(Walked::Parts(ExtentList::new(extents)))
 }
