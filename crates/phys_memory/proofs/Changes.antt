@@ -1,14 +1,14 @@
 -- A memory after its maps changed.
-use Rattle.std.proofs.Common.{◌≡◌, ℕ, ◌+◌, ◌/◌, ◌%◌, ◌^◌, ◌<◌, ◌≤◌, Bool, true, false, cond, List, [], ◌∷◌, map, length, refl, ap, sym, ◌∙◌, subst, ◌⊎◌, inl, inr, ◌≢◌, arith, eqb, Bor, MutBor}
-use Rattle.std.specs.Prelude.{Option, Some, None, is_some, nat_eq, unwrap_or}
+use Rattle.std.proofs.Common.{◌≡◌, ℕ, ◌+◌, ◌/◌, ◌%◌, ◌≤◌, true, false, cond, List, length, refl, ap, sym, ◌∙◌, subst, inl, inr, arith, Bor, MutBor}
+use Rattle.std.specs.Prelude.{Option, Some, None, is_some, nat_eq}
 use Rattle.std.specs.Option.{option_map, option_copied, option_copied_mut}
 use Rattle.std.specs.Ordering.{nat_cmp}
 use Rattle.std.specs.Map.{lookup}
-use Rattle.std.specs.FinMap.{FinMap, get, insert, remove, from_entries}
+use Rattle.std.specs.FinMap.{FinMap, get, insert, from_entries}
 use Rattle.std.proofs.lemmas.Bool.Decides.{eqb_tells}
 use Rattle.busdma_base.specs.Framed.{Framed, overwritten}
 use Rattle.phys_memory.specs.declared.reach.Reach.{Reach}
-use Rattle.phys_memory.specs.Memory.{Memory, Roomy, IsMemory, has_frame, has_page, page_at, page_of, wire, with_page, without_page, without_row, rewritten, written}
+use Rattle.phys_memory.specs.Memory.{Memory, Roomy, IsMemory, has_frame, page_of, wire, with_page, without_row, rewritten, written}
 use Rattle.phys_memory.specs.Kept.{contents, memory_of, AtTheirFrames}
 use Rattle.phys_memory.proofs.Tables.{get_made, made_inserted, made_removed, made_same}
 use Rattle.phys_memory.proofs.Kept.{get-frames, has_frame-kept, contents_inserted, contents_removed, contents_same, memory_with_bytes}
@@ -23,27 +23,28 @@ two e f = cc
 
 pub same_memory : (rows new : List (ℕ × Reach)) (pages fresh : List (ℕ × Framed)) → ((q : ℕ) → lookup (nat_eq q) new ≡ lookup (nat_eq q) rows) → ((q : ℕ) → lookup (nat_eq q) fresh ≡ lookup (nat_eq q) pages) → memory_of new fresh ≡ memory_of rows pages
 same_memory rows new pages fresh h k = two (made_same rows new h) (contents_same pages fresh k)
+
 pub same_places : (pages new : List (ℕ × Framed)) → ((q : ℕ) → lookup (nat_eq q) new ≡ lookup (nat_eq q) pages) → AtTheirFrames pages → AtTheirFrames new
 same_places pages new h at f page e = at f page (sym (h f) ∙ e)
 
 -- pages after one was put at the number of its frame
 pub place_put : (es fs : List (ℕ × Framed)) (page : Framed) → Puts es fs page.frame (Some page) → AtTheirFrames es → AtTheirFrames fs
 place_put es fs page h at f p e = elim (eqb_tells page.frame f) [
-    | inl t ↦ same_page (sym (ap (λ b. cond b (Some page) (lookup (nat_eq f) es)) t.0) ∙ (sym (h f) ∙ e)) ∙ t.1
-    | inr t ↦ at f p (sym (ap (λ b. cond b (Some page) (lookup (nat_eq f) es)) t.0) ∙ (sym (h f) ∙ e))
-  ]
+  | inl t ↦ same_page (sym (ap (λ b. cond b (Some page) (lookup (nat_eq f) es)) t.0) ∙ (sym (h f) ∙ e)) ∙ t.1
+  | inr t ↦ at f p (sym (ap (λ b. cond b (Some page) (lookup (nat_eq f) es)) t.0) ∙ (sym (h f) ∙ e))
+]
   where
-  same_page : Some page ≡ Some p → p.frame ≡ page.frame
-  same_page s = cc
+    same_page : Some page ≡ Some p → p.frame ≡ page.frame
+    same_page s = cc
 
 pub place_removed : (es fs : List (ℕ × Framed)) (k : ℕ) → Puts es fs k None → AtTheirFrames es → AtTheirFrames fs
 place_removed es fs k h at f p e = elim (eqb_tells k f) [
-    | inl t ↦ none (sym (ap (λ b. cond b None (lookup (nat_eq f) es)) t.0) ∙ (sym (h f) ∙ e))
-    | inr t ↦ at f p (sym (ap (λ b. cond b None (lookup (nat_eq f) es)) t.0) ∙ (sym (h f) ∙ e))
-  ]
+  | inl t ↦ none (sym (ap (λ b. cond b None (lookup (nat_eq f) es)) t.0) ∙ (sym (h f) ∙ e))
+  | inr t ↦ at f p (sym (ap (λ b. cond b None (lookup (nat_eq f) es)) t.0) ∙ (sym (h f) ∙ e))
+]
   where
-  none : ◌≡◌ {A = Option Framed} None (Some p) → p.frame ≡ f
-  none s = absurd (cc)
+    none : ◌≡◌ {A = Option Framed} None (Some p) → p.frame ≡ f
+    none s = absurd (cc)
 
 -- a page was put into both maps
 pub memory_put : (rows new : List (ℕ × Reach)) (pages fresh : List (ℕ × Framed)) (va f : ℕ) (page : Framed) (reach : ℕ) → f ≡ page.frame → Puts rows new (va / 4096) (Some (record { frame = f; reach = reach })) → Puts pages fresh f (Some page) → memory_of new fresh ≡ with_page (memory_of rows pages) va page reach
@@ -63,15 +64,15 @@ row_found rows pages va o h = get_made rows (va / 4096) ∙ h
 pub page_found : (rows : List (ℕ × Reach)) (pages : List (ℕ × Framed)) (v : ℕ) (r : Reach) → IsMemory (memory_of rows pages) → AtTheirFrames pages → get (memory_of rows pages).table v ≡ Some r → page_of (memory_of rows pages) (Some r) ≡ lookup (nat_eq r.frame) pages
 page_found rows pages v r is at here = found (lookup (nat_eq r.frame) pages) refl
   where
-  found : (o : Option Framed) → lookup (nat_eq r.frame) pages ≡ o → page_of (memory_of rows pages) (Some r) ≡ o
-  found None e = absurd (gone (sym (is.there v r here) ∙ (has_frame-kept rows pages r.frame ∙ ap is_some e)))
-    where
-    gone : true ≡ false → ⊥
-    gone e = cc
-  found (Some p) e = same (at r.frame p e) (get-frames pages r.frame ∙ ap (option_map (λ (x : Framed). x.bytes)) e)
-    where
-    same : p.frame ≡ r.frame → get (memory_of rows pages).frames r.frame ≡ Some p.bytes → page_of (memory_of rows pages) (Some r) ≡ Some p
-    same n b = rw b (ap (λ k. Some (record { frame = k; bytes = p.bytes })) (sym n))
+    found : (o : Option Framed) → lookup (nat_eq r.frame) pages ≡ o → page_of (memory_of rows pages) (Some r) ≡ o
+    found None e = absurd (gone (sym (is.there v r here) ∙ (has_frame-kept rows pages r.frame ∙ ap is_some e)))
+      where
+        gone : true ≡ false → ⊥
+        gone e = cc
+    found (Some p) e = same (at r.frame p e) (get-frames pages r.frame ∙ ap (option_map (λ (x : Framed). x.bytes)) e)
+      where
+        same : p.frame ≡ r.frame → get (memory_of rows pages).frames r.frame ≡ Some p.bytes → page_of (memory_of rows pages) (Some r) ≡ Some p
+        same n b = rw b (ap (λ k. Some (record { frame = k; bytes = p.bytes })) (sym n))
 
 -- what the memory has of a frame whose page a look-up finds
 pub frame_found : (rows : List (ℕ × Reach)) (pages : List (ℕ × Framed)) (f : ℕ) (page : Framed) → lookup (nat_eq f) pages ≡ Some page → get (memory_of rows pages).frames f ≡ Some page.bytes
@@ -104,9 +105,9 @@ places_rewritten pages fresh pa page bytes at here h =
 pub wire_after : (m : Memory) (pa : ℕ) (bytes : List ℕ) → IsMemory m → has_frame m (pa / 4096) ≡ true → pa % 4096 + length bytes ≤ 4096 → wire (rewritten m pa bytes) ≡ written pa bytes (wire m)
 wire_after m pa bytes is has fits = known (get m.frames (pa / 4096)) refl has
   where
-  known : (o : Option (List ℕ)) → get m.frames (pa / 4096) ≡ o → is_some o ≡ true → wire (rewritten m pa bytes) ≡ written pa bytes (wire m)
-  known None e s = absurd (cc)
-  known (Some old) e s = wire-rewritten m pa old bytes e (is.whole (pa / 4096) old e) fits
+    known : (o : Option (List ℕ)) → get m.frames (pa / 4096) ≡ o → is_some o ≡ true → wire (rewritten m pa bytes) ≡ written pa bytes (wire m)
+    known None e s = absurd (cc)
+    known (Some old) e s = wire-rewritten m pa old bytes e (is.whole (pa / 4096) old e) fits
 
 -- a reference that was found
 pub IsSome-found : {A : Type 0} (r : Option (Bor A)) (o : Option A) → option_copied r ≡ o → is_some o ≡ true → is_some r ≡ true

@@ -1,10 +1,10 @@
 -- Bytes of frames by their addresses.
-use Rattle.std.proofs.Common.{◌≡◌, ℕ, zero, suc, ◌+◌, ◌-◌, ◌*◌, ◌/◌, ◌%◌, ◌^◌, ◌<◌, ◌≤◌, Bool, true, false, cond, List, [], ◌∷◌, ◌++◌, map, take, drop, length, get_or, refl, ap, sym, ◌∙◌, subst, ◌⊎◌, inl, inr, ◌≢◌, arith, length-append, length-take, length-drop, drop-cons, append_assoc, add-one}
-use Rattle.std.specs.Prelude.{Option, Some, None, is_some, nat_eq, nat_lt, nat_le, unwrap_or, slice_index, if◌then◌else◌, ◌&&◌}
-use Rattle.std.specs.FinMap.{FinMap, get, insert}
+use Rattle.std.proofs.Common.{◌≡◌, ℕ, zero, suc, ◌+◌, ◌-◌, ◌*◌, ◌/◌, ◌%◌, ◌<◌, ◌≤◌, Bool, true, false, cond, List, [], ◌∷◌, ◌++◌, map, take, drop, length, get_or, refl, ap, sym, ◌∙◌, inl, inr, ◌≢◌, arith, length-append, length-take, length-drop, drop-cons}
+use Rattle.std.specs.Prelude.{Some, nat_lt, nat_le, unwrap_or, if◌then◌else◌, ◌&&◌}
+use Rattle.std.specs.FinMap.{get, insert}
 use Rattle.std.proofs.Math.Path.{fun_ext}
 use Rattle.std.proofs.lemmas.List.{get_or-take, get_or-drop, get_or-append_right, get_or_append_left}
-use Rattle.std.proofs.lemmas.Bool.{eq-eqb, ne_eqb, lt-ltb, le-leb, lt-leb, le-ltb, cases_lt}
+use Rattle.std.proofs.lemmas.Bool.{lt-ltb, le-leb, lt-leb, le-ltb, cases_lt}
 use Rattle.std.proofs.lemmas.Bool.Decides.{eqb_tells}
 use Rattle.busdma_base.specs.Framed.{overwritten}
 use Rattle.busdma_base.specs.Runs.{run_of}
@@ -43,9 +43,9 @@ in_run_inside pa n a h k = rw (le-leb pa a h, lt-ltb a (pa + n) k)
 in_run_after : (pa n a : ℕ) → pa + n ≤ a → in_run pa n a ≡ false
 in_run_after pa n a h = ap (λ b. nat_le pa a && b) (le-ltb a (pa + n) h) ∙ no (nat_le pa a)
   where
-  no : (b : Bool) → (b && false) ≡ false
-  no true = refl
-  no false = refl
+    no : (b : Bool) → (b && false) ≡ false
+    no true = refl
+    no false = refl
 
 -- before, inside or after a run
 data Place (pa n a : ℕ) : Type 0 where
@@ -55,9 +55,9 @@ data Place (pa n a : ℕ) : Type 0 where
 
 place_of : (pa n a : ℕ) → Place pa n a
 place_of pa n a = elim (cases_lt a pa) [
-    | inl h ↦ before h
-    | inr h ↦ elim (cases_lt a (pa + n)) [ inl k ↦ inside h k | inr k ↦ after k ]
-  ]
+  | inl h ↦ before h
+  | inr h ↦ elim (cases_lt a (pa + n)) [ inl k ↦ inside h k | inr k ↦ after k ]
+]
 
 -- a place of a list after bytes were written into it
 pub get_or-overwritten : (old : List ℕ) (at : ℕ) (new : List ℕ) (i : ℕ) → at + length new ≤ length old → get_or (overwritten old at new) i 0 ≡ (if in_run at (length new) i then get_or new (i - at) 0 else get_or old i 0)
@@ -67,31 +67,31 @@ get_or-overwritten old at new i h =
     let both : length (take at old ++ new) ≡ at + length new = length-append (take at old) new ∙ ap (λ n. n + length new) front in
     elim (place_of at (length new) i) [
       | before k ↦
-        get_or_append_left (take at old ++ new) rest 0 i (omega arith) ∙ (get_or_append_left (take at old) new 0 i (omega arith) ∙ get_or-take at old i 0 k)
-        ∙ ap (λ b. if b then get_or new (i - at) 0 else get_or old i 0) (sym (in_run_before at (length new) i k))
+          get_or_append_left (take at old ++ new) rest 0 i (omega arith) ∙ (get_or_append_left (take at old) new 0 i (omega arith) ∙ get_or-take at old i 0 k)
+          ∙ ap (λ b. if b then get_or new (i - at) 0 else get_or old i 0) (sym (in_run_before at (length new) i k))
       | inside k l ↦
-        get_or_append_left (take at old ++ new) rest 0 i (omega arith) ∙ get_or-append_right (take at old) new at i 0 front k
-        ∙ ap (λ b. if b then get_or new (i - at) 0 else get_or old i 0) (sym (in_run_inside at (length new) i k l))
+          get_or_append_left (take at old ++ new) rest 0 i (omega arith) ∙ get_or-append_right (take at old) new at i 0 front k
+          ∙ ap (λ b. if b then get_or new (i - at) 0 else get_or old i 0) (sym (in_run_inside at (length new) i k l))
       | after k ↦
-        let back : at + length new + (i - (at + length new)) ≡ i = omega arith in
-        get_or-append_right (take at old ++ new) rest (at + length new) i 0 both k ∙ get_or-drop (at + length new) old (i - (at + length new)) 0 ∙ ap (λ j. get_or old j 0) back
-        ∙ ap (λ b. if b then get_or new (i - at) 0 else get_or old i 0) (sym (in_run_after at (length new) i k))
+          let back : at + length new + (i - (at + length new)) ≡ i = omega arith in
+          get_or-append_right (take at old ++ new) rest (at + length new) i 0 both k ∙ get_or-drop (at + length new) old (i - (at + length new)) 0 ∙ ap (λ j. get_or old j 0) back
+          ∙ ap (λ b. if b then get_or new (i - at) 0 else get_or old i 0) (sym (in_run_after at (length new) i k))
     ]
 
 -- the same by addresses, in one frame and in others
 at_address : (pa n a : ℕ) → pa % 4096 + n ≤ 4096 → a / 4096 ≡ pa / 4096 → in_run (pa % 4096) n (a % 4096) ≡ in_run pa n a
 at_address pa n a h q = elim (place_of pa n a) [
-    | before k ↦ in_run_before (pa % 4096) n (a % 4096) (omega arith) ∙ sym (in_run_before pa n a k)
-    | inside k l ↦ in_run_inside (pa % 4096) n (a % 4096) (omega arith) (omega arith) ∙ sym (in_run_inside pa n a k l)
-    | after k ↦ in_run_after (pa % 4096) n (a % 4096) (omega arith) ∙ sym (in_run_after pa n a k)
-  ]
+  | before k ↦ in_run_before (pa % 4096) n (a % 4096) (omega arith) ∙ sym (in_run_before pa n a k)
+  | inside k l ↦ in_run_inside (pa % 4096) n (a % 4096) (omega arith) (omega arith) ∙ sym (in_run_inside pa n a k l)
+  | after k ↦ in_run_after (pa % 4096) n (a % 4096) (omega arith) ∙ sym (in_run_after pa n a k)
+]
 
 elsewhere : (pa n a : ℕ) → pa % 4096 + n ≤ 4096 → a / 4096 ≢ pa / 4096 → in_run pa n a ≡ false
 elsewhere pa n a h q = elim (place_of pa n a) [
-    | before k ↦ in_run_before pa n a k
-    | inside k l ↦ absurd (q (omega arith))
-    | after k ↦ in_run_after pa n a k
-  ]
+  | before k ↦ in_run_before pa n a k
+  | inside k l ↦ absurd (q (omega arith))
+  | after k ↦ in_run_after pa n a k
+]
 
 offset_in_frame : (pa a : ℕ) → a / 4096 ≡ pa / 4096 → a % 4096 - pa % 4096 ≡ a - pa
 offset_in_frame pa a q = omega arith
@@ -109,13 +109,13 @@ module _ (m : Memory) (pa : ℕ) (old new : List ℕ) (here : get m.frames (pa /
       let frame = overwritten old (pa % 4096) new in
       ap (λ o. byte_in o (a % 4096)) (get_inserted m.frames (pa / 4096) frame (a / 4096)) ∙ elim (eqb_tells (a / 4096) (pa / 4096)) [
         | inl t ↦
-          ap (λ b. byte_in (cond b (Some frame) (get m.frames (a / 4096))) (a % 4096)) t.0 ∙ get_or-overwritten old (pa % 4096) new (a % 4096) (omega arith)
-          ∙ ap (λ b. if b then get_or new (a % 4096 - pa % 4096) 0 else get_or old (a % 4096) 0) (at_address pa (length new) a fits t.1)
-          ∙ ap (λ i. if in_run pa (length new) a then get_or new i 0 else get_or old (a % 4096) 0) (offset_in_frame pa a t.1)
-          ∙ ap (λ o. if in_run pa (length new) a then get_or new (a - pa) 0 else byte_in o (a % 4096)) (sym here ∙ ap (get m.frames) (sym t.1))
+            ap (λ b. byte_in (cond b (Some frame) (get m.frames (a / 4096))) (a % 4096)) t.0 ∙ get_or-overwritten old (pa % 4096) new (a % 4096) (omega arith)
+            ∙ ap (λ b. if b then get_or new (a % 4096 - pa % 4096) 0 else get_or old (a % 4096) 0) (at_address pa (length new) a fits t.1)
+            ∙ ap (λ i. if in_run pa (length new) a then get_or new i 0 else get_or old (a % 4096) 0) (offset_in_frame pa a t.1)
+            ∙ ap (λ o. if in_run pa (length new) a then get_or new (a - pa) 0 else byte_in o (a % 4096)) (sym here ∙ ap (get m.frames) (sym t.1))
         | inr t ↦
-          ap (λ b. byte_in (cond b (Some frame) (get m.frames (a / 4096))) (a % 4096)) t.0
-          ∙ ap (λ b. if b then get_or new (a - pa) 0 else wire m a) (sym (elsewhere pa (length new) a fits t.1))
+            ap (λ b. byte_in (cond b (Some frame) (get m.frames (a / 4096))) (a % 4096)) t.0
+            ∙ ap (λ b. if b then get_or new (a - pa) 0 else wire m a) (sym (elsewhere pa (length new) a fits t.1))
       ]
 
   -- exactly the run changes

@@ -1,18 +1,17 @@
 -- What every memory keeps, through its changes.
-use Rattle.std.proofs.Common.{◌≡◌, ℕ, ◌+◌, ◌/◌, ◌%◌, ◌^◌, ◌<◌, ◌≤◌, Bool, true, false, cond, List, [], ◌∷◌, map, length, refl, ap, sym, ◌∙◌, subst, ◌⊎◌, inl, inr, ◌≢◌, arith, eqb}
-use Rattle.std.specs.Prelude.{Option, Some, None, is_some, nat_eq, unwrap_or, IfSome}
+use Rattle.std.proofs.Common.{◌≡◌, ℕ, ◌/◌, ◌^◌, ◌<◌, ◌≤◌, Bool, true, false, cond, List, [], length, refl, ap, sym, ◌∙◌, subst, inl, inr, ◌≢◌}
+use Rattle.std.specs.Prelude.{Option, Some, None, is_some, nat_eq, IfSome}
 use Rattle.std.specs.Option.{option_map}
 use Rattle.std.specs.Ordering.{nat_cmp}
 use Rattle.std.specs.Map.{lookup}
-use Rattle.std.specs.FinMap.{FinMap, get, insert, remove, empty, get-empty, from_entries}
+use Rattle.std.specs.FinMap.{get, insert, remove, empty, get-empty, from_entries}
 use Rattle.std.proofs.lemmas.Map.Made.{lookup-map_values}
 use Rattle.std.proofs.lemmas.Bool.{eq-eqb, ne_eqb}
-use Rattle.std.proofs.lemmas.Bool.Decides.{eqb_tells}
-use Rattle.busdma_base.specs.Framed.{Framed, overwritten}
+use Rattle.busdma_base.specs.Framed.{Framed}
 use Rattle.phys_memory.specs.declared.reach.Reach.{Reach}
-use Rattle.phys_memory.specs.Memory.{Memory, IsMemory, IsRow, has_frame, has_page, with_page, without_row, rewritten}
+use Rattle.phys_memory.specs.Memory.{Memory, IsMemory, IsRow, has_frame, has_page, with_page, without_row}
 use Rattle.phys_memory.specs.Kept.{contents, memory_of, AtTheirFrames}
-use Rattle.phys_memory.proofs.Tables.{get_made, get_inserted, get_removed, got_inserted, got_removed, is_some-inserted, made_inserted, made_removed, made_same}
+use Rattle.phys_memory.proofs.Tables.{get_made, get_removed, got_inserted, got_removed, is_some-inserted, made_inserted, made_removed, made_same}
 
 -- ---- what the maps have
 
@@ -72,8 +71,8 @@ empty_memory m t f =
 pub no_pages : (pages : List (ℕ × Framed)) → pages ≡ [] → AtTheirFrames pages
 no_pages pages e f page h = none (sym (ap (lookup (nat_eq f)) e) ∙ h)
   where
-  none : ◌≡◌ {A = Option Framed} None (Some page) → page.frame ≡ f
-  none h = absurd (cc)
+    none : ◌≡◌ {A = Option Framed} None (Some page) → page.frame ≡ f
+    none h = absurd (cc)
 
 clash : (b : Bool) → b ≡ true → b ≡ false → ⊥
 clash b t f = absurd (cc)
@@ -107,9 +106,9 @@ pub memory_without_row : (m : Memory) (v : ℕ) (r : Reach) → IsMemory m → g
 memory_without_row m v r is here = record {
   reached = λ w s h. is.reached w s (got_removed m.table v w s h).1;
   there = λ w s h.
-    let old = got_removed m.table v w s h in
-    let apart : s.frame ≢ r.frame = λ e. old.0 (is.apart w v s r old.1 here e) in
-    ap is_some (get_removed m.frames r.frame s.frame ∙ ap (λ b. cond b None (get m.frames s.frame)) (ne_eqb s.frame r.frame apart)) ∙ is.there w s old.1;
+      let old = got_removed m.table v w s h in
+      let apart : s.frame ≢ r.frame = λ e. old.0 (is.apart w v s r old.1 here e) in
+      ap is_some (get_removed m.frames r.frame s.frame ∙ ap (λ b. cond b None (get m.frames s.frame)) (ne_eqb s.frame r.frame apart)) ∙ is.there w s old.1;
   apart = λ w x s t h i e. is.apart w x s t (got_removed m.table v w s h).1 (got_removed m.table v x t i).1 e;
   numbered = λ f bytes h. is.numbered f bytes (got_removed m.frames r.frame f bytes h).1;
   whole = λ f bytes h. is.whole f bytes (got_removed m.frames r.frame f bytes h).1;
@@ -125,9 +124,9 @@ memory_with_bytes m f bytes is has whole = record {
   whole = λ g new h. elim (got_inserted m.frames f bytes g new h) [ inl t ↦ sym (ap length t.1) ∙ whole | inr t ↦ is.whole g new t ];
 }
   where
-  number : (o : Option (List ℕ)) → get m.frames f ≡ o → is_some o ≡ true → f < 2 ^ 30
-  number None e s = absurd (cc)
-  number (Some old) e s = is.numbered f old e
+    number : (o : Option (List ℕ)) → get m.frames f ≡ o → is_some o ≡ true → f < 2 ^ 30
+    number None e s = absurd (cc)
+    number (Some old) e s = is.numbered f old e
 
 -- what is known of a row that was found
 pub row_is : (m : Memory) (v : ℕ) (o : Option Reach) → IsMemory m → get m.table v ≡ o → IfSome o (IsRow m)
@@ -138,6 +137,6 @@ row_is m v (Some r) is here = record {
   numbered = number (get m.frames r.frame) refl (is.there v r here);
 }
   where
-  number : (o : Option (List ℕ)) → get m.frames r.frame ≡ o → is_some o ≡ true → r.frame < 2 ^ 30
-  number None e s = absurd (cc)
-  number (Some old) e s = is.numbered r.frame old e
+    number : (o : Option (List ℕ)) → get m.frames r.frame ≡ o → is_some o ≡ true → r.frame < 2 ^ 30
+    number None e s = absurd (cc)
+    number (Some old) e s = is.numbered r.frame old e

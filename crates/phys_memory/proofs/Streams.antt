@@ -1,23 +1,22 @@
 -- Streams of parts, from their front.
-use Rattle.std.proofs.Common.{◌≡◌, ℕ, zero, suc, ◌+◌, ◌-◌, ◌*◌, ◌/◌, ◌%◌, ◌^◌, ◌<◌, ◌≤◌, Bool, true, false, cond, List, [], ◌∷◌, ◌++◌, length, refl, ap, sym, ◌∙◌, subst, ◌⊎◌, inl, inr, ◌≢◌, arith, length-append}
-use Rattle.std.specs.Prelude.{Option, Some, None, nat_eq, if◌then◌else◌}
+use Rattle.std.proofs.Common.{◌≡◌, ℕ, ◌+◌, ◌-◌, ◌≤◌, Bool, true, false, [], ◌∷◌, ◌++◌, length, ap, sym, ◌∙◌, inl, inr, arith, length-append}
+use Rattle.std.specs.Prelude.{nat_eq, if◌then◌else◌}
 use Rattle.std.proofs.lemmas.Bool.{eq-eqb, ne_eqb}
 use Rattle.std.proofs.lemmas.Bool.Decides.{eqb_tells}
 use Rattle.busdma_base.specs.declared.address.Extent.{Extent}
-use Rattle.busdma_base.specs.declared.chunk.Part.{Part}
 use Rattle.busdma_base.specs.declared.chunk.Part.TheVariants as part
 use Rattle.busdma_base.specs.Runs.{run_of}
-use Rattle.phys_memory.specs.Memory.{Memory, physical}
-use Rattle.phys_memory.specs.Extents.{BeginsFrame, IsNext, extents_of, reached, then_reached}
+use Rattle.phys_memory.specs.Memory.{Memory}
+use Rattle.phys_memory.specs.Extents.{IsNext, extents_of, reached}
 use Rattle.phys_memory.specs.Walk.{parts_of, stream_of}
 use Rattle.phys_memory.proofs.Extents.{extents_of-run, length-run_of}
 
 -- a test that counts the bytes before
 same_left : (n l left : ℕ) → n ≤ left → nat_eq (n + l) left ≡ nat_eq l (left - n)
 same_left n l left h = elim (eqb_tells (n + l) left) [
-    | inl t ↦ t.0 ∙ sym (eq-eqb l (left - n) (omega arith))
-    | inr t ↦ t.0 ∙ sym (ne_eqb l (left - n) (λ e. t.1 (omega arith)))
-  ]
+  | inl t ↦ t.0 ∙ sym (eq-eqb l (left - n) (omega arith))
+  | inr t ↦ t.0 ∙ sym (ne_eqb l (left - n) (λ e. t.1 (omega arith)))
+]
 
 -- the first part of a stream, and what is left
 pub stream_next : (m : Memory) (at left offset : ℕ) (opens : Bool) (e : Extent) → IsNext m at left e → stream_of (reached m at left) left offset opens ≡ part.Of e opens true ∷ stream_of (reached m (at + e.len) (left - e.len)) (left - e.len) (offset + e.len) false

@@ -1,5 +1,5 @@
 -- Walks, from their streams.
-use Rattle.std.proofs.Common.{◌≡◌, ℕ, zero, suc, ◌+◌, ◌-◌, ◌<◌, ◌≤◌, Bool, true, false, List, [], ◌∷◌, ◌++◌, map, length, refl, ap, sym, ◌∙◌, subst, inl, inr, arith, append-nil, append_assoc}
+use Rattle.std.proofs.Common.{◌≡◌, ℕ, zero, suc, ◌+◌, Bool, true, false, List, [], ◌∷◌, ◌++◌, map, length, refl, ap, sym, ◌∙◌, subst, inl, inr, arith, append-nil, append_assoc}
 use Rattle.std.specs.Prelude.{Option, Some, None, nat_eq, if◌then◌else◌, unwrap_or}
 use Rattle.std.specs.List.{AllByRecursion}
 use Rattle.std.proofs.lemmas.Bool.{eq-eqb, eqb-true, ne_eqb}
@@ -17,7 +17,7 @@ use Rattle.phys_memory.specs.declared.walk.Walked.TheVariants.{Parts, Unmapped}
 use Rattle.phys_memory.specs.Memory.{Memory, IsMemory, missing, physical, unreached}
 use Rattle.phys_memory.specs.Extents.{AreJoined, LiesIn, extents_of, reached, then_reached}
 use Rattle.phys_memory.specs.Walk.{IfParts, flat, parts_of, physical_or_0, stream_of, verdict, walk_of, walked}
-use Rattle.phys_memory.proofs.Extents.{AreExtents, reached_extents}
+use Rattle.phys_memory.proofs.Extents.{reached_extents}
 
 walked-parts_of : (before es : List Extent) (opens : Bool) (rest : List Part) → walked before (parts_of opens es ++ rest) ≡ walked (before ++ es) rest
 walked-parts_of before [] opens rest = ap (λ xs. walked xs rest) (sym (append-nil before))
@@ -34,9 +34,9 @@ walked-stream_of pas n opens =
 
 eqb_suc : (a b : ℕ) → nat_eq (suc a) (suc b) ≡ nat_eq a b
 eqb_suc a b = elim (eqb_tells a b) [
-    | inl t ↦ eq-eqb (suc a) (suc b) (ap suc t.1) ∙ sym t.0
-    | inr t ↦ ne_eqb (suc a) (suc b) (λ e. t.1 (omega arith)) ∙ sym t.0
-  ]
+  | inl t ↦ eq-eqb (suc a) (suc b) (ap suc t.1) ∙ sym t.0
+  | inr t ↦ ne_eqb (suc a) (suc b) (λ e. t.1 (omega arith)) ∙ sym t.0
+]
 
 abbrev refused_at : ℕ → Judged
 refused_at k = Refused (record { name = name.Unmapped; at = k })
@@ -45,14 +45,14 @@ judged-reached : (m : Memory) (va n k : ℕ) → (if nat_eq (length (reached m v
 judged-reached m va zero k = refl
 judged-reached m va (suc n) k = first (physical m va) (judged-reached m (va + 1) n (k + 1))
   where
-  first : (o : Option ℕ) → (if nat_eq (length (reached m (va + 1) n)) n then Fine else refused_at (k + 1 + length (reached m (va + 1) n))) ≡ judged (unreached m) (k + 1) (run_of (va + 1) n) → (if nat_eq (length (then_reached o (reached m (va + 1) n))) (suc n) then Fine else refused_at (k + length (then_reached o (reached m (va + 1) n)))) ≡ refused_or (missing o) k (judged (unreached m) (k + 1) (run_of (va + 1) n))
-  first None others =
-      let none : k + 0 ≡ k = omega arith in
-      ap (λ b. if b then Fine else refused_at (k + 0)) (ne_eqb 0 (suc n) (omega arith)) ∙ ap refused_at none
-  first (Some p) others =
-      let one : k + suc (length (reached m (va + 1) n)) ≡ k + 1 + length (reached m (va + 1) n) = omega arith in
-      ap (λ b. if b then Fine else refused_at (k + suc (length (reached m (va + 1) n)))) (eqb_suc (length (reached m (va + 1) n)) n)
-      ∙ ap (λ j. if nat_eq (length (reached m (va + 1) n)) n then Fine else refused_at j) one ∙ others
+    first : (o : Option ℕ) → (if nat_eq (length (reached m (va + 1) n)) n then Fine else refused_at (k + 1 + length (reached m (va + 1) n))) ≡ judged (unreached m) (k + 1) (run_of (va + 1) n) → (if nat_eq (length (then_reached o (reached m (va + 1) n))) (suc n) then Fine else refused_at (k + length (then_reached o (reached m (va + 1) n)))) ≡ refused_or (missing o) k (judged (unreached m) (k + 1) (run_of (va + 1) n))
+    first None others =
+        let none : k + 0 ≡ k = omega arith in
+        ap (λ b. if b then Fine else refused_at (k + 0)) (ne_eqb 0 (suc n) (omega arith)) ∙ ap refused_at none
+    first (Some p) others =
+        let one : k + suc (length (reached m (va + 1) n)) ≡ k + 1 + length (reached m (va + 1) n) = omega arith in
+        ap (λ b. if b then Fine else refused_at (k + suc (length (reached m (va + 1) n)))) (eqb_suc (length (reached m (va + 1) n)) n)
+        ∙ ap (λ j. if nat_eq (length (reached m (va + 1) n)) n then Fine else refused_at j) one ∙ others
 
 verdict-walk_of : (m : Memory) (va n : ℕ) → verdict (walk_of (reached m va n) n) ≡ judged (unreached m) 0 (run_of va n)
 verdict-walk_of m va n =
@@ -66,17 +66,17 @@ reached_all : (m : Memory) (va n : ℕ) → length (reached m va n) ≡ n → re
 reached_all m va zero h = refl
 reached_all m va (suc n) h = first (physical m va) h (λ e. reached_all m (va + 1) n e)
   where
-  first : (o : Option ℕ) → length (then_reached o (reached m (va + 1) n)) ≡ suc n → (length (reached m (va + 1) n) ≡ n → reached m (va + 1) n ≡ map (physical_or_0 m) (run_of (va + 1) n)) → then_reached o (reached m (va + 1) n) ≡ unwrap_or o 0 ∷ map (physical_or_0 m) (run_of (va + 1) n)
-  first None e others = absurd (omega arith)
-  first (Some p) e others = ap (λ pas. p ∷ pas) (others (omega arith))
+    first : (o : Option ℕ) → length (then_reached o (reached m (va + 1) n)) ≡ suc n → (length (reached m (va + 1) n) ≡ n → reached m (va + 1) n ≡ map (physical_or_0 m) (run_of (va + 1) n)) → then_reached o (reached m (va + 1) n) ≡ unwrap_or o 0 ∷ map (physical_or_0 m) (run_of (va + 1) n)
+    first None e others = absurd (omega arith)
+    first (Some p) e others = ap (λ pas. p ∷ pas) (others (omega arith))
 
 -- what holds of the extents of a walk that is whole
 if_parts : (pas : List ℕ) (n : ℕ) (P : List Extent → Type 0) → (length pas ≡ n → P (extents_of pas)) → IfParts (walk_of pas n) P
 if_parts pas n P h = whole (nat_eq (length pas) n) refl
   where
-  whole : (b : Bool) → nat_eq (length pas) n ≡ b → IfParts (if b then Parts (extents_of pas) else Unmapped (length pas)) P
-  whole true e = h (eqb-true (length pas) n e)
-  whole false e = tt
+    whole : (b : Bool) → nat_eq (length pas) n ≡ b → IfParts (if b then Parts (extents_of pas) else Unmapped (length pas)) P
+    whole true e = h (eqb-true (length pas) n e)
+    whole false e = tt
 
 -- ---- the walk over a stream of a virtual run
 

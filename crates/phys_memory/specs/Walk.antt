@@ -1,5 +1,5 @@
 -- Walks over virtual bytes, and the streams of their parts.
-use Rattle.std.specs.Prelude.{◌≡◌, ℕ, ◌+◌, ◌==◌, Bool, true, false, if◌then◌else◌, List, [], ◌∷◌, ◌++◌, length, unwrap_or}
+use Rattle.std.specs.Prelude.{ℕ, ◌+◌, ◌==◌, Bool, true, false, if◌then◌else◌, List, [], ◌∷◌, ◌++◌, length, unwrap_or}
 use Rattle.busdma_base.specs.declared.address.Extent.{Extent}
 use Rattle.busdma_base.specs.declared.chunk.Part.{Part}
 use Rattle.busdma_base.specs.declared.chunk.Part.TheVariants as part

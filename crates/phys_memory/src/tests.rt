@@ -33,7 +33,10 @@ fn four_pages(rt: &impl Abort, alloc: Global) -> Result<LanePages, Fail> {
     memory.reserve(alloc, 2)?;
     assert_eq!(rt; add(rt, alloc, &mut memory, 0x1000, 5, 4096)?, None);
     assert_eq!(rt; add(rt, alloc, &mut memory, 0x2000, 3, 16)?, None);
-    assert_eq!(rt; add(rt, alloc, &mut memory, 0xffff_ffff_ffff_f000, 7, 4096)?, None);
+    assert_eq!(rt;
+        add(rt, alloc, &mut memory, 0xffff_ffff_ffff_f000, 7, 4096)?,
+        None
+    );
     assert_eq!(rt; add(rt, alloc, &mut memory, 0, 6, 4096)?, None);
     Ok(memory)
 }

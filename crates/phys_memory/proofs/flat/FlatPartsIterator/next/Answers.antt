@@ -1,4 +1,4 @@
-use Rattle.std.proofs.Common.{◌≡◌, length, arith, ap, sym, ◌∙◌, refl, subst}
+use Rattle.std.proofs.Common.{length, arith, ap, sym, ◌∙◌, subst}
 use Rattle.std.specs.Prelude.{Option, IfSome}
 use Rattle.busdma_base.specs.declared.address.Extent.{Extent}
 use Rattle.phys_memory.specs.Extents.{IsNext}

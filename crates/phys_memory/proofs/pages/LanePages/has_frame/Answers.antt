@@ -1,4 +1,4 @@
-use Rattle.std.proofs.Common.{◌≡◌, sym, ap, ◌∙◌}
+use Rattle.std.proofs.Common.{sym, ap, ◌∙◌}
 use Rattle.phys_memory.specs.Memory.{Roomy, has_frame}
 use Rattle.phys_memory.proofs.Kept.{has_frame-kept}
 use Rattle.phys_memory.proofs.pages.LanePages.has_frame.Goals as goal

@@ -21,6 +21,6 @@ returns c =
     let at = pa % 4096 in
     let found = sym c.get.ensures.value ∙ ap option_copied c.unwrap-page.ensures in
     let here : get c.args.self.now.memory.frames (pa / 4096) ≡ Some c.bytes.result.now =
-        ap (λ (r : Roomy). get r.memory.frames (pa / 4096)) (sym c.self.view_is) ∙ frame_found m.table.entries m.frames.entries (pa / 4096) _ found ∙ ap Some (sym c.bytes.ensures.bytes) in
+    ap (λ (r : Roomy). get r.memory.frames (pa / 4096)) (sym c.self.view_is) ∙ frame_found m.table.entries m.frames.entries (pa / 4096) _ found ∙ ap Some (sym c.bytes.ensures.bytes) in
     c.copy_from_slice.ensures.after
     ∙ slice_wire c.args.self.now.memory c.bytes.result.now pa (length c.args.out.now) (at + length c.args.out.now - at) (omega arith) here c.bytes.ensures.length c.requires.inside

@@ -1,10 +1,9 @@
-use Rattle.std.proofs.Common.{◌≡◌, ◌/◌, ap, sym, ◌∙◌, subst}
-use Rattle.std.specs.Prelude.{Option, Some, None}
-use Rattle.phys_memory.specs.declared.reach.Reach.{Reach}
-use Rattle.phys_memory.specs.Memory.{Memory, Roomy, IsMemory, page_at, page_of, without_page, without_row}
+use Rattle.std.proofs.Common.{◌/◌, ap, sym, ◌∙◌, subst}
+use Rattle.std.specs.Prelude.{Some, None}
+use Rattle.phys_memory.specs.Memory.{Roomy, IsMemory, page_at, page_of, without_page, without_row}
 use Rattle.phys_memory.specs.Kept.{memory_of}
 use Rattle.phys_memory.proofs.Kept.{memory_without_row}
-use Rattle.phys_memory.proofs.Changes.{memory_taken, place_removed, row_found, page_found, same_memory}
+use Rattle.phys_memory.proofs.Changes.{memory_taken, place_removed, row_found, page_found}
 use Rattle.phys_memory.proofs.pages.LanePages.remove.Goals as goal
 
 pub returns-in_err-row-clause-page : goal.returns-in_err-row-clause-page
@@ -30,7 +29,7 @@ invariant_of-self-2 c =
     let row = row_found m.table.entries m.frames.entries c.args.va.0 (Some c.in_ok-row.row) (sym c.remove.ensures.value ∙ c.in_ok-row.was) in
     record {
       memory = subst IsMemory (sym (memory_taken _ _ _ _ (c.args.va.0 / 4096) c.in_ok-row.row c.remove.ensures.updates.0 c.remove-2.ensures.updates.0))
-        (memory_without_row old (c.args.va.0 / 4096) c.in_ok-row.row c.self.invariant.memory row);
+          (memory_without_row old (c.args.va.0 / 4096) c.in_ok-row.row c.self.invariant.memory row);
       at_frames = place_removed _ _ c.in_ok-row.row.frame c.remove-2.ensures.updates.0 c.self.invariant.at_frames;
     }
 

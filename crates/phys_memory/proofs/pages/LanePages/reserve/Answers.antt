@@ -1,5 +1,5 @@
-use Rattle.std.proofs.Common.{◌≡◌, sym, ap, ◌∙◌, subst}
-use Rattle.phys_memory.specs.Memory.{Memory, Roomy, IsMemory}
+use Rattle.std.proofs.Common.{sym, ap, ◌∙◌, subst}
+use Rattle.phys_memory.specs.Memory.{Roomy, IsMemory}
 use Rattle.phys_memory.proofs.Changes.{same_memory, same_places}
 use Rattle.phys_memory.proofs.pages.LanePages.reserve.Goals as goal
 

@@ -1,9 +1,8 @@
-use Rattle.std.proofs.Common.{◌≡◌, ◌/◌, ◌<◌, ◌^◌, Bool, true, ap, sym, ◌∙◌, subst, arith}
-use Rattle.std.specs.Prelude.{Option, None, IfSome, if◌then◌else◌, nat_lt}
+use Rattle.std.proofs.Common.{◌≡◌, ◌/◌, ◌^◌, Bool, true, ap, sym, ◌∙◌, subst, arith}
+use Rattle.std.specs.Prelude.{None, IfSome, if◌then◌else◌, nat_lt}
 use Rattle.std.specs.FinMap.{get}
 use Rattle.std.proofs.lemmas.Bool.{lt-ltb}
-use Rattle.phys_memory.specs.declared.reach.Reach.{Reach}
-use Rattle.phys_memory.specs.Memory.{Memory, Roomy, IsRow, row_at}
+use Rattle.phys_memory.specs.Memory.{Roomy, IsRow}
 use Rattle.phys_memory.proofs.Kept.{row_is}
 use Rattle.phys_memory.proofs.Changes.{row_found}
 use Rattle.phys_memory.proofs.pages.LanePages.row_at.Goals as goal

@@ -1,10 +1,9 @@
-use Rattle.std.proofs.Common.{◌≡◌, ◌+◌, ◌-◌, ◌/◌, ◌%◌, min, length, ap, sym, ◌∙◌, subst, arith}
+use Rattle.std.proofs.Common.{◌/◌, min, ap, sym, ◌∙◌, subst}
 use Rattle.std.specs.Prelude.{Some, is_some}
 use Rattle.std.specs.Option.{option_copied_mut}
 use Rattle.std.specs.HashMap.{spare}
 use Rattle.busdma_base.specs.Framed.{Framed}
-use Rattle.phys_memory.specs.Memory.{Memory, Roomy, has_frame, rewritten, wire, written}
-use Rattle.phys_memory.specs.Kept.{memory_of}
+use Rattle.phys_memory.specs.Memory.{Roomy, has_frame, rewritten, wire, written}
 use Rattle.phys_memory.proofs.Kept.{has_frame-kept}
 use Rattle.phys_memory.proofs.Changes.{Puts, IsSome-found_mut, kept_rewritten, memory_rewritten, places_rewritten, roomy, wire_after}
 use Rattle.phys_memory.proofs.pages.LanePages.write.Goals as goal
