@@ -8,7 +8,7 @@ use Rattle.std.specs.FinMap.{FinMap, get, insert, from_entries}
 use Rattle.std.proofs.lemmas.Bool.Decides.{eqb_tells}
 use Rattle.busdma_base.specs.Framed.{Framed, overwritten}
 use Rattle.phys_memory.specs.declared.reach.Reach.{Reach}
-use Rattle.phys_memory.specs.Memory.{Memory, Roomy, IsMemory, has_frame, page_of, wire, with_page, without_row, rewritten, written}
+use Rattle.phys_memory.specs.Memory.{Memory, IsMemory, has_frame, page_of, wire, with_page, without_row, rewritten, written}
 use Rattle.phys_memory.specs.Kept.{contents, memory_of, AtTheirFrames}
 use Rattle.phys_memory.proofs.Tables.{get_made, made_inserted, made_removed, made_same}
 use Rattle.phys_memory.proofs.Kept.{get-frames, has_frame-kept, contents_inserted, contents_removed, contents_same, memory_with_bytes}
@@ -117,6 +117,3 @@ IsSome-found (Some x) o h s = refl
 pub IsSome-found_mut : {A : Type 0} (r : Option (MutBor A)) (o : Option A) → option_copied_mut r ≡ o → is_some o ≡ true → is_some r ≡ true
 IsSome-found_mut None o h s = ap is_some h ∙ s
 IsSome-found_mut (Some x) o h s = refl
-
-pub roomy : {m n : Memory} {s t : ℕ} → m ≡ n → s ≡ t → ◌≡◌ {A = Roomy} (record { memory = m; spare = s }) (record { memory = n; spare = t })
-roomy e f = cc

@@ -62,6 +62,14 @@ with_page m va page reach = record {
   frames = insert m.frames page.frame page.bytes;
 }
 
+-- what `add` answers: the page, where that virtual page is taken
+abbrev pub handed_back : Memory → ℕ → Framed → Option Framed
+handed_back m va page = if has_page m va then Some page else None
+
+-- the memory that `add` leaves
+abbrev pub added : Memory → ℕ → Framed → ℕ → Memory
+added m va page reach = if has_page m va then m else with_page m va page reach
+
 -- the page of a row, with the bytes of its frame
 abbrev pub page_of : Memory → Option Reach → Option Framed
 page_of m None = None

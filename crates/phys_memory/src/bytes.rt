@@ -23,7 +23,8 @@ impl LanePages {
     pub fn write(&mut self, pa: Pa, bytes: &[u8])
         requires there { has_frame self.old.memory (pa.0 / 4096) ≡ true }
         requires inside { pa.0 % 4096 + length bytes.now ≤ 4096 }
-        ensures is { self.new ≡ record self.old { memory = rewritten self.old.memory pa.0 bytes.now } }
+        ensures memory { self.new.memory ≡ rewritten self.old.memory pa.0 bytes.now }
+        ensures spare { self.new.spare ≡ self.old.spare }
         ensures wire { wire self.new.memory ≡ written pa.0 bytes.now (wire self.old.memory) }
     {
         let page = self.frames.get_mut(&(pa.0 / 4096)).unwrap();

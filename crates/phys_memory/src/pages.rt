@@ -1,8 +1,8 @@
 //! The pages of a driver.
 
-ghost use Rattle.std.specs.Prelude.{◌≡◌, ◌+◌, ◌/◌, ◌%◌, ◌^◌, ◌<◌, ◌≤◌, ◌↔◌, true, false, length, if◌then◌else◌, Some, None, IsTrue, IsOk, OnOk, OnErr, IfOk};
+ghost use Rattle.std.specs.Prelude.{◌≡◌, ◌+◌, ◌%◌, ◌^◌, ◌<◌, ◌≤◌, false, length, IsOk, OnOk, OnErr, IfOk};
 ghost use Rattle.std.specs.FinMap.{empty};
-ghost use Rattle.phys_memory.specs.Memory.{IsMemory, has_frame, has_page, page_at, with_page, without_page};
+ghost use Rattle.phys_memory.specs.Memory.{IsMemory, added, handed_back, has_frame, page_at, without_page};
 
 use crate::reach::Reach;
 use busdma_base::{Page, Va};
@@ -57,8 +57,8 @@ impl LanePages {
         self.frames.reserve(pages as usize)
     }
 
-    /// Adds a page at a virtual address, of which the first `reach` bytes can be reached. A page
-    /// comes back where that virtual page is taken. The page is dropped where memory is wanting.
+    /// Adds a page at a virtual address, of which the first `reach` bytes can be reached. It comes
+    /// back where that virtual page is taken, and is dropped where there is no memory.
     pub fn add(
         &mut self,
         alloc: Global,
@@ -69,8 +69,8 @@ impl LanePages {
         requires aligned { va.0 % 4096 ≡ 0 }
         requires reach { reach ≤ 4096 }
         requires fresh { has_frame self.old.memory page.frame ≡ false }
-        ensures answer { IfOk result (λ back. back ≡ (if has_page self.old.memory va.0 then Some page else None)) }
-        ensures memory { OnOk result (self.new.memory ≡ (if has_page self.old.memory va.0 then self.old.memory else with_page self.old.memory va.0 page reach)) }
+        ensures answer { IfOk result (λ back. back ≡ handed_back self.old.memory va.0 page) }
+        ensures memory { OnOk result (self.new.memory ≡ added self.old.memory va.0 page reach) }
         ensures err { OnErr result (self.new.memory ≡ self.old.memory) }
         ensures spare { self.old.spare ≤ self.new.spare + 1 }
     {
@@ -84,8 +84,8 @@ impl LanePages {
         requires aligned { va.0 % 4096 ≡ 0 }
         requires reach { reach ≤ 4096 }
         requires fresh { has_frame self.old.memory page.frame ≡ false }
-        ensures answer { result ≡ (if has_page self.old.memory va.0 then Some page else None) }
-        ensures memory { self.new.memory ≡ (if has_page self.old.memory va.0 then self.old.memory else with_page self.old.memory va.0 page reach) }
+        ensures answer { result ≡ handed_back self.old.memory va.0 page }
+        ensures memory { self.new.memory ≡ added self.old.memory va.0 page reach }
         ensures spare { self.old.spare ≤ self.new.spare + 1 }
     {
         let number = va.0 / 4096;

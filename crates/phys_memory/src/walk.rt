@@ -25,7 +25,10 @@ impl LanePages {
     pub fn translate(&self, alloc: Global, va: Va, len: u64) -> Result<Walked, AllocError>
         ensures walk { IfOk result (λ w. w ≡ walk_of (reached self.now.memory va.0 len) len) }
         ensures verdict { IfOk result (λ w. verdict w ≡ judged (unreached self.now.memory) 0 (run_of va.0 len)) }
-        ensures addresses { IfOk result (λ w. IfParts w (λ es. addresses es ≡ map (physical_or_0 self.now.memory) (run_of va.0 len))) }
+        ensures addresses { let pas = map (physical_or_0 self.now.memory) (run_of va.0 len) in
+            IfOk result (λ w. IfParts w (λ es. addresses es ≡ pas)) }
+
+        // One extent for each page, and each in a frame of the memory.
         ensures extents { IfOk result (λ w. IfParts w (AllByRecursion IsExtent)) }
         ensures joined { IfOk result (λ w. IfParts w AreJoined) }
         ensures frames { IfOk result (λ w. IfParts w (AllByRecursion (LiesIn self.now.memory))) }

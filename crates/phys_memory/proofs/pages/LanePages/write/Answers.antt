@@ -5,7 +5,7 @@ use Rattle.std.specs.HashMap.{spare}
 use Rattle.busdma_base.specs.Framed.{Framed}
 use Rattle.phys_memory.specs.Memory.{Roomy, has_frame, rewritten, wire, written}
 use Rattle.phys_memory.proofs.Kept.{has_frame-kept}
-use Rattle.phys_memory.proofs.Changes.{Puts, IsSome-found_mut, kept_rewritten, memory_rewritten, places_rewritten, roomy, wire_after}
+use Rattle.phys_memory.proofs.Changes.{Puts, IsSome-found_mut, kept_rewritten, memory_rewritten, places_rewritten, wire_after}
 use Rattle.phys_memory.proofs.pages.LanePages.write.Goals as goal
 
 pub unwrap-page-requires : goal.unwrap-page-requires
@@ -26,15 +26,20 @@ invariant_of-self c =
       at_frames = places_rewritten m.frames.entries _ c.args.pa.0 c.unwrap-page.result.now c.args.bytes.now c.self.invariant.at_frames found put;
     }
 
-pub returns-clause-is : goal.returns-clause-is
-returns-clause-is c =
+pub returns-clause-memory : goal.returns-clause-memory
+returns-clause-memory c =
     let m = c.self.inside in
     let told = c.get_mut.follows.holds c.write.new.self in
     let found = sym c.get_mut.ensures.value ∙ ap option_copied_mut c.unwrap-page.ensures in
     let puts = (told.3 (ap is_some found)).0 in
     let put = subst (λ (p : Framed). Puts m.frames.entries (c.get_mut.follows.lender c.write.new.self).entries (c.args.pa.0 / 4096) (Some p)) c.write.ensures puts in
     let new = memory_rewritten m.table.entries m.frames.entries _ c.args.pa.0 c.unwrap-page.result.now c.args.bytes.now found put in
-    roomy new (ap (min (spare m.table)) told.6) ∙ ap (λ (r : Roomy). record r { memory = rewritten r.memory c.args.pa.0 c.args.bytes.now }) c.self.view_is
+    new ∙ ap (λ (r : Roomy). rewritten r.memory c.args.pa.0 c.args.bytes.now) c.self.view_is
+
+pub returns-clause-spare : goal.returns-clause-spare
+returns-clause-spare c =
+    let told = c.get_mut.follows.holds c.write.new.self in
+    ap (min (spare c.self.inside.table)) told.6 ∙ ap (λ (r : Roomy). r.spare) c.self.view_is
 
 pub returns-clause-wire : goal.returns-clause-wire
 returns-clause-wire c =
