@@ -1,0 +1,98 @@
+-- What a step did, as a line of a report says it.
+use Rattle.std.specs.Prelude.{ℕ, List, [], ◌++◌, codes, Option, Some, None, slice_get}
+use Rattle.std.specs.Option.{option_map_or}
+use Rattle.report_text.specs.Text.{hex}
+use Rattle.busdma_base.specs.declared.journal.Did.{Did}
+use Rattle.busdma_base.specs.declared.journal.Did.TheVariants as did
+use Rattle.busdma_base.specs.declared.name.LaneId.{LaneId}
+use Rattle.busdma_base.specs.declared.name.MapId.{MapId}
+use Rattle.busdma_base.specs.declared.scenario.Scenario.{Scenario}
+use Rattle.busdma_base.specs.declared.script.Item.{Item}
+use Rattle.busdma_base.specs.declared.script.Item.TheVariants.{Sync, DevRead}
+use Rattle.busdma_base.specs.declared.script.Op.{Op}
+use Rattle.busdma_base.specs.declared.script.Op.TheVariants.{Tag, Map, Load, Unload, CpuWrite, Await}
+
+-- the script of a driver; it is empty where there is no such driver
+abbrev pub script_of : Scenario → LaneId → List Op
+script_of scenario lane = option_map_or (λ driver. driver.script) (slice_get scenario.drivers lane.0) []
+
+-- the name that an operation makes; it is empty where it makes none
+abbrev pub made_name : Op → List ℕ
+made_name (Tag name) = name
+made_name (Map name tag) = name
+made_name other = []
+
+-- the name that the operation at this place of a script makes
+abbrev pub name_at : List Op → ℕ → List ℕ
+name_at script place = option_map_or made_name (slice_get script place) []
+
+-- the name of a map
+abbrev pub map_name : Scenario → MapId → List ℕ
+map_name scenario map = name_at (script_of scenario map.lane) map.made_at
+
+-- the word of an operation
+abbrev pub op_word : Op → List ℕ
+op_word (Tag name) = codes "tag"
+op_word (Map name tag) = codes "map"
+op_word (Load map place len then) = codes "load"
+op_word (Unload map) = codes "unload"
+op_word (CpuWrite place bytes) = codes "cpu_write"
+op_word (Await map) = codes "await"
+
+-- what an operation is about: the name that it makes, or that of its map; an access of the driver
+-- to its memory has no object
+abbrev pub op_object : List Op → Op → Option (List ℕ)
+op_object script (Tag name) = Some name
+op_object script (Map name tag) = Some name
+op_object script (Load map place len then) = Some (name_at script map)
+op_object script (Unload map) = Some (name_at script map)
+op_object script (CpuWrite place bytes) = None
+op_object script (Await map) = Some (name_at script map)
+
+-- an object, after a space
+abbrev pub object_text : Option (List ℕ) → List ℕ
+object_text None = []
+object_text (Some name) = codes " " ++ name
+
+-- an operation: its word and its object
+abbrev pub op_text : List Op → Op → List ℕ
+op_text script op = op_word op ++ object_text (op_object script op)
+
+-- the items that an operation hands to its device
+abbrev pub op_items : Op → List Item
+op_items (Load map place len then) = then
+op_items other = []
+
+-- the item at this place in the list of the operation at `load_at`
+abbrev pub item_at : List Op → ℕ → ℕ → Option Item
+item_at script load_at place = option_map_or (λ op. slice_get (op_items op) place) (slice_get script load_at) None
+
+-- the word of an item
+abbrev pub item_word : Item → List ℕ
+item_word (Sync map ops) = codes "sync"
+item_word (DevRead map off len) = codes "dev_read"
+
+-- the place of the operation that made an item's map
+abbrev pub item_map : Item → ℕ
+item_map (Sync map ops) = map
+item_map (DevRead map off len) = map
+
+-- an item: its word and the name of its map
+abbrev pub item_text : List Op → Item → List ℕ
+item_text script item = item_word item ++ (codes " " ++ name_at script (item_map item))
+
+-- the operation at this place of a script; it is empty where there is none
+abbrev pub op_text_at : List Op → ℕ → List ℕ
+op_text_at script place = option_map_or (op_text script) (slice_get script place) []
+
+-- the item at this place of the load at `load_at`; it is empty where there is none
+abbrev pub item_text_at : List Op → ℕ → ℕ → List ℕ
+item_text_at script load_at place = option_map_or (item_text script) (item_at script load_at place) []
+
+-- what a step for the driver with this number did
+abbrev pub did_text : Scenario → LaneId → Did → List ℕ
+did_text scenario lane (did.Op place) = op_text_at (script_of scenario lane) place
+did_text scenario lane (did.Release map page) =
+    codes "release " ++ (map_name scenario map ++ (codes " " ++ hex page.0))
+did_text scenario lane (did.Callback map) = codes "callback " ++ map_name scenario map
+did_text scenario lane (did.Item load_at place) = item_text_at (script_of scenario lane) load_at place

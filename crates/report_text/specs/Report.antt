@@ -1,0 +1,58 @@
+-- The text of a run.
+use Rattle.std.specs.Prelude.{ℕ, List, ◌++◌, Bool, true, false, codes, length, count_by}
+use Rattle.std.specs.Fmt.{decimal}
+use Rattle.report_text.specs.Text.{numbered}
+use Rattle.report_text.specs.Answer.{answer_text}
+use Rattle.report_text.specs.Did.{did_text}
+use Rattle.report_text.specs.Zone.{zone_lines}
+use Rattle.busdma_base.specs.declared.answer.Answer.{Answer}
+use Rattle.busdma_base.specs.declared.answer.Answer.TheVariants.{Report}
+use Rattle.busdma_base.specs.declared.journal.Actor.{Actor}
+use Rattle.busdma_base.specs.declared.journal.End.{End}
+use Rattle.busdma_base.specs.declared.journal.End.TheVariants.{Finished, Stuck}
+use Rattle.busdma_base.specs.declared.journal.Journal.{Journal}
+use Rattle.busdma_base.specs.declared.journal.JournalEntry.{JournalEntry}
+use Rattle.busdma_base.specs.declared.journal.Side.{Side}
+use Rattle.busdma_base.specs.declared.journal.Side.TheVariants.{Script, Transfer, Callback}
+use Rattle.busdma_base.specs.declared.scenario.Scenario.{Scenario}
+
+-- the letter of a driver, its device or its callbacks
+abbrev pub side_letter : Side → List ℕ
+side_letter Script = codes "s"
+side_letter Transfer = codes "d"
+side_letter Callback = codes "c"
+
+-- an actor: its letter and the number of its driver
+abbrev pub actor_text : Actor → List ℕ
+actor_text actor = side_letter actor.side ++ decimal actor.lane.0
+
+-- the line of the entry with this number: the actor, what it did, and the answer
+abbrev pub entry_line : Scenario → ℕ → JournalEntry → List ℕ
+entry_line scenario number entry =
+    decimal number ++ (codes " " ++ (actor_text entry.actor
+    ++ (codes " " ++ (did_text scenario entry.actor.lane entry.did
+    ++ (codes " -> " ++ (answer_text entry.answer ++ codes "\n"))))))
+
+-- whether an entry's answer is a report
+abbrev pub is_report : JournalEntry → Bool
+is_report entry = is_report_answer entry.answer where
+  is_report_answer : Answer → Bool
+  is_report_answer (Report report) = true
+  is_report_answer other = false
+
+-- how a run ended
+abbrev pub end_word : End → List ℕ
+end_word Finished = codes "finished"
+end_word Stuck = codes "stuck"
+
+-- the last line: how the run ended, how many entries there are, and how many answers are reports
+abbrev pub end_line : Journal → List ℕ
+end_line journal =
+    codes "end " ++ (end_word journal.end ++ (codes ", " ++ (decimal (length journal.entries)
+    ++ (codes " entries, " ++ (decimal (count_by is_report journal.entries) ++ codes " reports\n")))))
+
+-- the text of a run: a line for each entry, which are numbered from 0, the lines of the zones, and
+-- the last line
+abbrev pub report : Scenario → Journal → List ℕ
+report scenario journal =
+    numbered (entry_line scenario) 0 journal.entries ++ (zone_lines journal.zones ++ end_line journal)

@@ -1,0 +1,64 @@
+//! The text of a whole run.
+
+ghost use Rattle.std.specs.Prelude.{◌≡◌, ◌++◌, ◌↔◌, IfOk, IsTrue, OnOk, count_by, string_bytes};
+ghost use Rattle.report_text.specs.Report as text;
+
+use crate::entry::push_entries;
+use crate::zone::push_zones;
+use busdma_base::{Answer, ByteList, End, Journal, JournalEntry, ListOf, Scenario};
+use std::alloc::{AllocError, Global};
+
+fn is_report(entry: &JournalEntry) -> bool
+    ensures { result ≡ text.is_report entry.now }
+{
+    matches!(entry.answer, Answer::Report(_))
+}
+
+fn report_count(entries: &[JournalEntry]) -> usize
+    ensures { result ≡ count_by text.is_report entries.now }
+{
+    entries.iter().filter(|entry| is_report(entry)).count()
+}
+
+fn end_word(end: End) -> &'static str
+    ensures { result.now ≡ text.end_word end }
+{
+    match end {
+        End::Finished => "finished",
+        End::Stuck => "stuck",
+    }
+}
+
+fn push_end(out: &mut String, journal: &Journal) -> Result<(), AllocError>
+    ensures { OnOk result (string_bytes out.new ≡ string_bytes out.old ++ text.end_line journal.now) }
+{
+    let end = end_word(journal.end);
+    let entries = journal.entries.len();
+    let reports = report_count(journal.entries.as_slice());
+    writeln!(out, "end {end}, {entries} entries, {reports} reports")
+}
+
+/// The last line of a report: how the run ended, how many entries it has, and how many of them
+/// answer with a report.
+pub fn end_line(alloc: Global, journal: &Journal) -> Result<ByteList, AllocError>
+    ensures { IfOk result (λ line. line ≡ text.end_line journal.now) }
+{
+    let mut out = String::new(alloc);
+    push_end(&mut out, journal)?;
+    Ok(ListOf::new(out.into_bytes()))
+}
+
+/// The text of a run of the scenario: a line for each entry of its journal, the lines of its zones,
+/// and its end.
+///
+/// Each line ends with a line feed. What the journal names and the scenario does not have, leaves an
+/// empty place in its line.
+pub fn report(alloc: Global, scenario: &Scenario, journal: &Journal) -> Result<ByteList, AllocError>
+    ensures { IfOk result (λ text_of. text_of ≡ text.report scenario.now journal.now) }
+{
+    let mut out = String::new(alloc);
+    push_entries(&mut out, scenario, journal.entries.as_slice())?;
+    push_zones(&mut out, journal.zones.as_slice())?;
+    push_end(&mut out, journal)?;
+    Ok(ListOf::new(out.into_bytes()))
+}

@@ -1,0 +1,12 @@
+//! The text of a run: a line for each step, the lines of its bounce zones, and its end.
+#![tactic(auto)]
+
+mod answer;
+mod did;
+mod entry;
+mod journal;
+mod zone;
+
+pub use entry::entry_line;
+pub use journal::{end_line, report};
+pub use zone::zone_lines;
