@@ -5,6 +5,8 @@ mod answer;
 mod did;
 mod entry;
 mod journal;
+#[cfg(test)]
+mod tests;
 mod zone;
 
 pub use entry::entry_line;
