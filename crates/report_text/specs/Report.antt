@@ -33,12 +33,14 @@ entry_line scenario number entry =
     ++ (codes " " ++ (did_text scenario entry.actor.lane entry.did
     ++ (codes " -> " ++ (answer_text entry.answer ++ codes "\n"))))))
 
--- whether an entry's answer is a report
-abbrev pub is_report : JournalEntry → Bool
-is_report entry = is_report_answer entry.answer where
-  is_report_answer : Answer → Bool
-  is_report_answer (Report report) = true
-  is_report_answer other = false
+-- whether an answer is a report
+abbrev pub is_report : Answer → Bool
+is_report (Report report) = true
+is_report other = false
+
+-- how many entries have a report as their answer
+abbrev pub report_count : List JournalEntry → ℕ
+report_count entries = count_by (λ entry. is_report entry.answer) entries
 
 -- how a run ended
 abbrev pub end_word : End → List ℕ
@@ -49,7 +51,7 @@ end_word Stuck = codes "stuck"
 abbrev pub end_line : Journal → List ℕ
 end_line journal =
     codes "end " ++ (end_word journal.end ++ (codes ", " ++ (decimal (length journal.entries)
-    ++ (codes " entries, " ++ (decimal (count_by is_report journal.entries) ++ codes " reports\n")))))
+    ++ (codes " entries, " ++ (decimal (report_count journal.entries) ++ codes " reports\n")))))
 
 -- the text of a run: a line for each entry, which are numbered from 0, the lines of the zones, and
 -- the last line

@@ -50,9 +50,10 @@ pub(crate) fn push_entries(
     Ok(())
 }
 
-/// The line of an entry of a journal of the scenario, where it has this number.
+/// The line of the entry with this number in a journal of the scenario: the number, the actor, what
+/// it did, and after an arrow the answer.
 ///
-/// What the entry names and the scenario does not have, leaves an empty place in the line.
+/// What the entry names and the scenario does not have is left empty.
 pub fn entry_line(
     alloc: Global,
     scenario: &Scenario,

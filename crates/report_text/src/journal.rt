@@ -1,6 +1,6 @@
 //! The text of a whole run.
 
-ghost use Rattle.std.specs.Prelude.{◌≡◌, ◌++◌, ◌↔◌, IfOk, IsTrue, OnOk, count_by, string_bytes};
+ghost use Rattle.std.specs.Prelude.{◌≡◌, ◌++◌, IfOk, OnOk, string_bytes};
 ghost use Rattle.report_text.specs.Report as text;
 
 use crate::entry::push_entries;
@@ -8,16 +8,19 @@ use crate::zone::push_zones;
 use busdma_base::{Answer, ByteList, End, Journal, JournalEntry, ListOf, Scenario};
 use std::alloc::{AllocError, Global};
 
-fn is_report(entry: &JournalEntry) -> bool
-    ensures { result ≡ text.is_report entry.now }
+fn is_report(answer: &Answer) -> bool
+    ensures { result ≡ text.is_report answer.now }
 {
-    matches!(entry.answer, Answer::Report(_))
+    matches!(answer, Answer::Report(_))
 }
 
 fn report_count(entries: &[JournalEntry]) -> usize
-    ensures { result ≡ count_by text.is_report entries.now }
+    ensures { result ≡ text.report_count entries.now }
 {
-    entries.iter().filter(|entry| is_report(entry)).count()
+    entries
+        .iter()
+        .filter(|entry| is_report(&entry.answer))
+        .count()
 }
 
 fn end_word(end: End) -> &'static str
@@ -38,8 +41,8 @@ fn push_end(out: &mut String, journal: &Journal) -> Result<(), AllocError>
     writeln!(out, "end {end}, {entries} entries, {reports} reports")
 }
 
-/// The last line of a report: how the run ended, how many entries it has, and how many of them
-/// answer with a report.
+/// The last line of a run: how it ended, how many entries its journal has, and how many of them
+/// have a report as their answer.
 pub fn end_line(alloc: Global, journal: &Journal) -> Result<ByteList, AllocError>
     ensures { IfOk result (λ line. line ≡ text.end_line journal.now) }
 {
@@ -48,13 +51,13 @@ pub fn end_line(alloc: Global, journal: &Journal) -> Result<ByteList, AllocError
     Ok(ListOf::new(out.into_bytes()))
 }
 
-/// The text of a run of the scenario: a line for each entry of its journal, the lines of its zones,
-/// and its end.
+/// The text of a run of the scenario: a line for each entry of its journal, numbered from 0, the
+/// lines of its zones, and its last line.
 ///
-/// Each line ends with a line feed. What the journal names and the scenario does not have, leaves an
-/// empty place in its line.
+/// Each line ends with a line feed. What the journal names and the scenario does not have is left
+/// empty.
 pub fn report(alloc: Global, scenario: &Scenario, journal: &Journal) -> Result<ByteList, AllocError>
-    ensures { IfOk result (λ text_of. text_of ≡ text.report scenario.now journal.now) }
+    ensures { IfOk result (λ lines. lines ≡ text.report scenario.now journal.now) }
 {
     let mut out = String::new(alloc);
     push_entries(&mut out, scenario, journal.entries.as_slice())?;

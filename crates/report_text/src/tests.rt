@@ -12,141 +12,160 @@ use busdma_base::{
 use std::alloc::{AllocError, Global};
 use std::test::Fail;
 
+const HELLO: [u8; 5] = [0x68, 0x65, 0x6c, 0x6c, 0x6f];
+
 /// A driver whose map is `m`, and another whose map is `m2`.
 fn two_drivers(alloc: Global) -> Result<Scenario, AllocError> {
+    let drivers = vec![in alloc;
+        driver(alloc, first_script(alloc)?),
+        driver(alloc, second_script(alloc)?),
+    ]?;
     Ok(Scenario {
         frames: ListOf::new(Vec::new(alloc)),
         max_bpages: 8192,
-        drivers: ListOf::new(vec![in alloc; five_bytes(alloc)?, second_driver(alloc)?]?),
+        drivers: ListOf::new(drivers),
         order: ListOf::new(Vec::new(alloc)),
     })
 }
 
-/// A driver that has its device read five bytes.
-fn five_bytes(alloc: Global) -> Result<Driver, AllocError> {
-    let place = Place::At(Va(0x10_0000));
-    let then = vec![in alloc;
-        Item::Sync { map: 1, ops: 4 },
-        Item::DevRead {
-            map: 1,
-            off: 0,
-            len: 5
-        },
-        Item::Sync { map: 1, ops: 8 },
-    ]?;
-    let script = vec![in alloc;
-        Op::Tag {
-            name: name(alloc, "t")?
-        },
-        Op::Map {
-            name: name(alloc, "m")?,
-            tag: 0
-        },
-        Op::CpuWrite {
-            place,
-            bytes: ListOf::new([0x68, 0x65, 0x6c, 0x6c, 0x6f].to_vec(alloc)?)
-        },
-        Op::Load {
-            map: 1,
-            place,
-            len: 5,
-            then: ListOf::new(then)
-        },
-        Op::Await { map: 1 },
-        Op::Unload { map: 1 },
-    ]?;
-    Ok(Driver {
+fn driver(alloc: Global, script: Vec<Op>) -> Driver {
+    Driver {
         pages: ListOf::new(Vec::new(alloc)),
         script: ListOf::new(script),
-    })
+    }
 }
 
-fn second_driver(alloc: Global) -> Result<Driver, AllocError> {
-    let script = vec![in alloc;
-        Op::Tag {
-            name: name(alloc, "a")?
-        },
-        Op::Map {
-            name: name(alloc, "m2")?,
-            tag: 0
-        },
-    ]?;
-    Ok(Driver {
-        pages: ListOf::new(Vec::new(alloc)),
-        script: ListOf::new(script),
-    })
+/// The device reads five bytes.
+fn first_script(alloc: Global) -> Result<Vec<Op>, AllocError> {
+    let tag = Op::Tag {
+        name: name(alloc, "t")?,
+    };
+    let map = Op::Map {
+        name: name(alloc, "m")?,
+        tag: 0,
+    };
+    let place = Place::At(Va(0x10_0000));
+    let bytes = ListOf::new(HELLO.to_vec(alloc)?);
+    let write = Op::CpuWrite { place, bytes };
+    let before = Item::Sync { map: 1, ops: 4 };
+    let read = Item::DevRead {
+        map: 1,
+        off: 0,
+        len: 5,
+    };
+    let after = Item::Sync { map: 1, ops: 8 };
+    let then = ListOf::new(vec![in alloc; before, read, after]?);
+    let load = Op::Load {
+        map: 1,
+        place,
+        len: 5,
+        then,
+    };
+    Ok(vec![in alloc;
+        tag,
+        map,
+        write,
+        load,
+        Op::Await { map: 1 },
+        Op::Unload { map: 1 },
+    ]?)
+}
+
+fn second_script(alloc: Global) -> Result<Vec<Op>, AllocError> {
+    let tag = Op::Tag {
+        name: name(alloc, "a")?,
+    };
+    let map = Op::Map {
+        name: name(alloc, "m2")?,
+        tag: 0,
+    };
+    Ok(vec![in alloc; tag, map]?)
 }
 
 fn name(alloc: Global, text: &str) -> Result<Name, AllocError> {
     Ok(Name::new(String::from_str(alloc, text)?))
 }
 
-fn entry(side: Side, lane: u32, did: Did, answer: Answer) -> JournalEntry {
-    JournalEntry {
-        actor: Actor {
-            lane: LaneId(lane),
-            side,
-        },
-        did,
-        answer,
+fn actor(side: Side, lane: u32) -> Actor {
+    Actor {
+        lane: LaneId(lane),
+        side,
     }
+}
+
+/// The map of this driver.
+fn map_of(lane: u32) -> MapId {
+    MapId {
+        lane: LaneId(lane),
+        made_at: 1,
+    }
+}
+
+/// The item at this place of the first driver's load.
+fn item(place: u32) -> Did {
+    Did::Item { load_at: 3, place }
+}
+
+fn segments(alloc: Global, list: &[(u64, u64)]) -> Result<Answer, AllocError> {
+    let mut segments = Vec::new(alloc);
+    for (addr, len) in list {
+        segments.push(Segment {
+            addr: Pa(*addr),
+            len: *len,
+        })?;
+    }
+    Ok(Answer::Segments(ListOf::new(segments)))
+}
+
+fn bytes(alloc: Global, list: &[u8]) -> Result<Answer, AllocError> {
+    Ok(Answer::Bytes(ListOf::new(list.to_vec(alloc)?)))
+}
+
+fn grown(added: u32, made: bool) -> Answer {
+    Answer::Grown(Grown {
+        zone: ZoneId(3),
+        added,
+        made,
+    })
+}
+
+fn reported(name: ReportName, at: u64) -> Answer {
+    Answer::Report(Report { name, at })
+}
+
+fn journal(alloc: Global, entries: Vec<JournalEntry>, end: End) -> Journal {
+    Journal {
+        entries: ListOf::new(entries),
+        zones: ListOf::new(Vec::new(alloc)),
+        end,
+    }
+}
+
+fn five_bytes_read(alloc: Global) -> Result<Vec<JournalEntry>, AllocError> {
+    let s0 = actor(Side::Script, 0);
+    let d0 = actor(Side::Transfer, 0);
+    let steps = vec![in alloc;
+        (s0, Did::Op(0), Answer::Done),
+        (s0, Did::Op(1), Answer::Done),
+        (s0, Did::Op(2), Answer::Done),
+        (s0, Did::Op(3), segments(alloc, &[(0x100_0000, 5)])?),
+        (d0, item(0), Answer::Done),
+        (d0, item(1), bytes(alloc, &HELLO)?),
+        (d0, item(2), Answer::Done),
+        (s0, Did::Op(4), Answer::Done),
+        (s0, Did::Op(5), Answer::Done),
+    ]?;
+    let mut entries = Vec::new(alloc);
+    for (actor, did, answer) in steps {
+        entries.push(JournalEntry { actor, did, answer })?;
+    }
+    Ok(entries)
 }
 
 #[test]
 fn the_device_reads_five_bytes(rt: HostRuntime) -> Result<(), Fail> {
     let alloc = rt.alloc();
-    let segments = vec![in alloc;
-        Segment {
-            addr: Pa(0x100_0000),
-            len: 5
-        },
-    ]?;
-    let read = [0x68, 0x65, 0x6c, 0x6c, 0x6f].to_vec(alloc)?;
-    let entries = vec![in alloc;
-        entry(Side::Script, 0, Did::Op(0), Answer::Done),
-        entry(Side::Script, 0, Did::Op(1), Answer::Done),
-        entry(Side::Script, 0, Did::Op(2), Answer::Done),
-        entry(
-            Side::Script,
-            0,
-            Did::Op(3),
-            Answer::Segments(ListOf::new(segments))
-        ),
-        entry(
-            Side::Transfer,
-            0,
-            Did::Item {
-                load_at: 3,
-                place: 0
-            },
-            Answer::Done
-        ),
-        entry(
-            Side::Transfer,
-            0,
-            Did::Item {
-                load_at: 3,
-                place: 1
-            },
-            Answer::Bytes(ListOf::new(read))
-        ),
-        entry(
-            Side::Transfer,
-            0,
-            Did::Item {
-                load_at: 3,
-                place: 2
-            },
-            Answer::Done
-        ),
-        entry(Side::Script, 0, Did::Op(4), Answer::Done),
-        entry(Side::Script, 0, Did::Op(5), Answer::Done),
-    ]?;
-    let journal = Journal {
-        entries: ListOf::new(entries),
-        zones: ListOf::new(Vec::new(alloc)),
-        end: End::Finished,
-    };
+    let journal = journal(alloc, five_bytes_read(alloc)?, End::Finished);
     let text = report(alloc, &two_drivers(alloc)?, &journal)?;
     let want = "0 s0 tag t -> ok
 1 s0 map m -> ok
@@ -164,150 +183,71 @@ end finished, 9 entries, 0 reports
 }
 
 #[test]
-fn every_kind_of_line(rt: HostRuntime) -> Result<(), Fail> {
+fn what_was_done(rt: HostRuntime) -> Result<(), Fail> {
     let alloc = rt.alloc();
     let scenario = two_drivers(alloc)?;
-    let map = MapId {
-        lane: LaneId(1),
-        made_at: 1,
-    };
-    let made = Grown {
-        zone: ZoneId(0),
-        added: 2,
-        made: true,
-    };
-    let short = Grown {
-        zone: ZoneId(3),
-        added: 17,
-        made: false,
-    };
-    let pieces = vec![in alloc;
-        Segment {
-            addr: Pa(0x1_1000),
-            len: 4096
-        },
-        Segment {
-            addr: Pa(0x1_0000),
-            len: 904
-        },
-    ]?;
-    let read = [0x00, 0x0f, 0xa0, 0xff].to_vec(alloc)?;
-    let outside = Report {
-        name: ReportName::PastEnd,
-        at: 60,
-    };
-    let lines = vec![in alloc;
-        (
-            entry(Side::Script, 0, Did::Op(1), Answer::Grown(made)),
-            "0 s0 map m -> ok zone0 +2\n"
-        ),
-        (
-            entry(Side::Script, 1, Did::Op(1), Answer::Grown(short)),
-            "1 s1 map m2 -> ENOMEM zone3 +17\n"
-        ),
-        (
-            entry(Side::Script, 0, Did::Op(1), Answer::Placed(Pa(0x1_0000))),
-            "2 s0 map m -> ok 0x10000\n"
-        ),
-        (
-            entry(
-                Side::Script,
-                0,
-                Did::Op(3),
-                Answer::InProgress { have: 0, need: 2 }
-            ),
-            "3 s0 load m -> EINPROGRESS 0/2\n"
-        ),
-        (
-            entry(
-                Side::Script,
-                0,
-                Did::Release {
-                    map,
-                    page: Pa(0x1_1000)
-                },
-                Answer::Served(1)
-            ),
-            "4 s0 release m2 0x11000 -> ok ready 1\n",
-        ),
-        (
-            entry(
-                Side::Callback,
-                1,
-                Did::Callback { map },
-                Answer::Segments(ListOf::new(pieces))
-            ),
-            "5 c1 callback m2 -> ok 0x11000+4096 0x10000+904\n",
-        ),
-        (
-            entry(
-                Side::Script,
-                0,
-                Did::Op(3),
-                Answer::Segments(ListOf::new(Vec::new(alloc)))
-            ),
-            "6 s0 load m -> ok\n"
-        ),
-        (
-            entry(
-                Side::Transfer,
-                0,
-                Did::Item {
-                    load_at: 3,
-                    place: 1
-                },
-                Answer::Bytes(ListOf::new(read))
-            ),
-            "7 d0 dev_read m -> bytes 000fa0ff\n",
-        ),
-        (
-            entry(
-                Side::Transfer,
-                0,
-                Did::Item {
-                    load_at: 3,
-                    place: 1
-                },
-                Answer::Bytes(ListOf::new(Vec::new(alloc)))
-            ),
-            "8 d0 dev_read m -> bytes\n",
-        ),
-        (
-            entry(Side::Script, 0, Did::Op(2), Answer::Report(outside)),
-            "9 s0 cpu_write -> report PastEnd 60\n"
-        ),
-        (
-            entry(Side::Script, 0, Did::Op(5), Answer::Refused(Errno::EBUSY)),
-            "10 s0 unload m -> EBUSY\n"
-        ),
-        (
-            entry(Side::Script, 2, Did::Op(0), Answer::Done),
-            "11 s2  -> ok\n"
-        ),
-    ]?;
-    for (number, (entry, want)) in lines.iter().enumerate() {
-        let line = entry_line(alloc, &scenario, number as u64, entry)?;
+    let map = map_of(1);
+    let page = Pa(0x1_1000);
+    let release = Did::Release { map, page };
+    let callback = Did::Callback { map };
+    let rows = [
+        (Side::Script, 0, Did::Op(0), "0 s0 tag t -> ok\n"),
+        (Side::Script, 1, Did::Op(1), "1 s1 map m2 -> ok\n"),
+        (Side::Script, 0, Did::Op(2), "2 s0 cpu_write -> ok\n"),
+        (Side::Script, 0, Did::Op(3), "3 s0 load m -> ok\n"),
+        (Side::Script, 0, Did::Op(4), "4 s0 await m -> ok\n"),
+        (Side::Script, 0, Did::Op(5), "5 s0 unload m -> ok\n"),
+        (Side::Transfer, 0, item(0), "6 d0 sync m -> ok\n"),
+        (Side::Transfer, 0, item(1), "7 d0 dev_read m -> ok\n"),
+        (Side::Script, 0, release, "8 s0 release m2 0x11000 -> ok\n"),
+        (Side::Callback, 1, callback, "9 c1 callback m2 -> ok\n"),
+        (Side::Script, 12, Did::Op(0), "10 s12  -> ok\n"),
+        (Side::Transfer, 0, item(3), "11 d0  -> ok\n"),
+    ];
+    for (number, (side, lane, did, want)) in rows.iter().enumerate() {
+        let entry = JournalEntry {
+            actor: actor(*side, *lane),
+            did: *did,
+            answer: Answer::Done,
+        };
+        let line = entry_line(alloc, &scenario, number as u64, &entry)?;
         assert_eq!(rt; line.as_slice(), want.as_bytes(), "{want}");
     }
     Ok(())
 }
 
 #[test]
-fn every_name_of_a_refusal(rt: HostRuntime) -> Result<(), Fail> {
+fn what_was_answered(rt: HostRuntime) -> Result<(), Fail> {
     let alloc = rt.alloc();
-    let errors = [
-        (Errno::EINVAL, "EINVAL"),
-        (Errno::ENOMEM, "ENOMEM"),
-        (Errno::EFBIG, "EFBIG"),
-        (Errno::EINPROGRESS, "EINPROGRESS"),
-        (Errno::EBUSY, "EBUSY"),
-    ];
-    for (errno, want) in errors {
+    let rows = vec![in alloc;
+        (Answer::Done, "ok"),
+        (grown(2, true), "ok zone3 +2"),
+        (grown(0, false), "ENOMEM zone3 +0"),
+        (Answer::Placed(Pa(0x1_0000)), "ok 0x10000"),
+        (segments(alloc, &[])?, "ok"),
+        (
+            segments(alloc, &[(0xabc, 512), (0x1_0000, 904)])?,
+            "ok 0xabc+512 0x10000+904"
+        ),
+        (Answer::InProgress { have: 0, need: 2 }, "EINPROGRESS 0/2"),
+        (Answer::Served(1), "ok ready 1"),
+        (bytes(alloc, &[])?, "bytes"),
+        (bytes(alloc, &[0x00, 0x0f, 0xa0, 0xff])?, "bytes 000fa0ff"),
+        (Answer::Refused(Errno::EBUSY), "EBUSY"),
+        (reported(ReportName::StaleByte, 60), "report StaleByte 60"),
+    ]?;
+    for (answer, want) in &rows {
         let mut text = String::new(alloc);
-        push_answer(&mut text, &Answer::Refused(errno))?;
-        assert_eq!(rt; text.as_str(), want);
+        push_answer(&mut text, answer)?;
+        assert_eq!(rt; text.as_str(), *want);
     }
-    let reports = [
+    Ok(())
+}
+
+#[test]
+fn names_of_refusals(rt: HostRuntime) -> Result<(), Fail> {
+    let alloc = rt.alloc();
+    let names = [
         (ReportName::Absent, "report Absent 7"),
         (ReportName::Unmapped, "report Unmapped 7"),
         (ReportName::MapBusy, "report MapBusy 7"),
@@ -324,16 +264,34 @@ fn every_name_of_a_refusal(rt: HostRuntime) -> Result<(), Fail> {
         (ReportName::NotDeferred, "report NotDeferred 7"),
         (ReportName::ForeignMemory, "report ForeignMemory 7"),
     ];
-    for (name, want) in reports {
+    for (name, want) in names {
         let mut text = String::new(alloc);
-        push_answer(&mut text, &Answer::Report(Report { name, at: 7 }))?;
+        push_answer(&mut text, &reported(name, 7))?;
         assert_eq!(rt; text.as_str(), want);
     }
     Ok(())
 }
 
 #[test]
-fn zones_and_ends(rt: HostRuntime) -> Result<(), Fail> {
+fn names_of_errors(rt: HostRuntime) -> Result<(), Fail> {
+    let alloc = rt.alloc();
+    let names = [
+        (Errno::EINVAL, "EINVAL"),
+        (Errno::ENOMEM, "ENOMEM"),
+        (Errno::EFBIG, "EFBIG"),
+        (Errno::EINPROGRESS, "EINPROGRESS"),
+        (Errno::EBUSY, "EBUSY"),
+    ];
+    for (errno, want) in names {
+        let mut text = String::new(alloc);
+        push_answer(&mut text, &Answer::Refused(errno))?;
+        assert_eq!(rt; text.as_str(), want);
+    }
+    Ok(())
+}
+
+#[test]
+fn lines_of_a_zone(rt: HostRuntime) -> Result<(), Fail> {
     let alloc = rt.alloc();
     let zone = ZoneCounts {
         total: 2,
@@ -355,39 +313,38 @@ hw.busdma.zone0.lowaddr: 0xffffff
 hw.busdma.zone0.alignment: 4096
 ";
     assert_eq!(rt; zone_lines(alloc, &[zone])?.as_slice(), want.as_bytes());
+    Ok(())
+}
 
-    let empty = Journal {
-        entries: ListOf::new(Vec::new(alloc)),
-        zones: ListOf::new(Vec::new(alloc)),
-        end: End::Finished,
-    };
+#[test]
+fn ends(rt: HostRuntime) -> Result<(), Fail> {
+    let alloc = rt.alloc();
+    let empty = journal(alloc, Vec::new(alloc), End::Finished);
     let text = report(alloc, &two_drivers(alloc)?, &empty)?;
     assert_eq!(rt;
         text.as_slice(),
         "end finished, 0 entries, 0 reports\n".as_bytes()
     );
 
+    let mut entries = five_bytes_read(alloc)?;
     let absent = Report {
         name: ReportName::Absent,
         at: 0,
     };
-    let entries = vec![in alloc;
-        entry(Side::Script, 0, Did::Op(0), Answer::Refused(Errno::EINVAL)),
-        entry(Side::Script, 0, Did::Op(1), Answer::Report(absent)),
-    ]?;
-    let stuck = Journal {
-        entries: ListOf::new(entries),
-        zones: ListOf::new(Vec::new(alloc)),
-        end: End::Stuck,
-    };
+    entries.push(JournalEntry {
+        actor: actor(Side::Script, 0),
+        did: Did::Op(5),
+        answer: Answer::Report(absent),
+    })?;
+    let stuck = journal(alloc, entries, End::Stuck);
     assert_eq!(rt;
         end_line(alloc, &stuck)?.as_slice(),
-        "end stuck, 2 entries, 1 reports\n".as_bytes()
+        "end stuck, 10 entries, 1 reports\n".as_bytes()
     );
     Ok(())
 }
 
-/// The checker computes these lines from the definition.
+/// What this function and the next two promise, the checker computes from the definition.
 fn end_of_nothing(alloc: Global) -> Result<ByteList, AllocError>
     ensures { IfOk result (λ line. line ≡ codes "end finished, 0 entries, 0 reports\n") }
 {
