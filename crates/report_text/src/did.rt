@@ -2,6 +2,7 @@
 
 ghost use Rattle.std.specs.Prelude.{◌≡◌, ◌++◌, OnOk, string_bytes};
 ghost use Rattle.std.specs.Option.{option_map};
+ghost use Rattle.busdma_base.specs.Script.{items_of};
 ghost use Rattle.report_text.specs.Did as text;
 
 use busdma_base::{Did, Item, LaneId, MapId, Op, Scenario};
@@ -20,8 +21,16 @@ fn made_name(op: &Op) -> &str
     ensures { result.now ≡ text.made_name op.now }
 {
     match op {
-        Op::Tag { name } | Op::Map { name, .. } => name.as_str(),
-        _ => "",
+        Op::Tag { name, .. } | Op::Map { name, .. } => name.as_str(),
+        Op::TagDestroy { .. }
+        | Op::MapDestroy { .. }
+        | Op::Load { .. }
+        | Op::Unload { .. }
+        | Op::Sync { .. }
+        | Op::SyncRange { .. }
+        | Op::CpuRead { .. }
+        | Op::CpuWrite { .. }
+        | Op::Await { .. } => "",
     }
 }
 
@@ -45,9 +54,14 @@ fn op_word(op: &Op) -> &'static str
 {
     match op {
         Op::Tag { .. } => "tag",
+        Op::TagDestroy { .. } => "tag_destroy",
         Op::Map { .. } => "map",
+        Op::MapDestroy { .. } => "map_destroy",
         Op::Load { .. } => "load",
         Op::Unload { .. } => "unload",
+        Op::Sync { .. } => "sync",
+        Op::SyncRange { .. } => "sync_range",
+        Op::CpuRead { .. } => "cpu_read",
         Op::CpuWrite { .. } => "cpu_write",
         Op::Await { .. } => "await",
     }
@@ -57,11 +71,15 @@ fn op_object<'s>(script: &'s [Op], op: &'s Op) -> Option<&'s str>
     ensures { option_map (λ name. name.now) result ≡ text.op_object script.now op.now }
 {
     match op {
-        Op::Tag { name } | Op::Map { name, .. } => Some(name.as_str()),
-        Op::Load { map, .. } | Op::Unload { map } | Op::Await { map } => Some(name_at(
-            script, *map,
-        )),
-        Op::CpuWrite { .. } => None,
+        Op::Tag { name, .. } | Op::Map { name, .. } => Some(name.as_str()),
+        Op::TagDestroy { tag } => Some(name_at(script, *tag)),
+        Op::MapDestroy { map }
+        | Op::Load { map, .. }
+        | Op::Unload { map }
+        | Op::Sync { map, .. }
+        | Op::SyncRange { map, .. }
+        | Op::Await { map } => Some(name_at(script, *map)),
+        Op::CpuRead { .. } | Op::CpuWrite { .. } => None,
     }
 }
 
@@ -76,40 +94,54 @@ fn push_op(out: &mut String, script: &[Op], op: &Op) -> Result<(), AllocError>
 }
 
 fn op_items(op: &Op) -> &[Item]
-    ensures { result.now ≡ text.op_items op.now }
+    ensures { result.now ≡ items_of op.now }
 {
     match op {
         Op::Load { then, .. } => then.as_slice(),
-        _ => &[],
+        Op::Tag { .. }
+        | Op::TagDestroy { .. }
+        | Op::Map { .. }
+        | Op::MapDestroy { .. }
+        | Op::Unload { .. }
+        | Op::Sync { .. }
+        | Op::SyncRange { .. }
+        | Op::CpuRead { .. }
+        | Op::CpuWrite { .. }
+        | Op::Await { .. } => &[],
     }
 }
 
-fn item_at(script: &[Op], load_at: u32, place: u32) -> Option<Item>
-    ensures { result ≡ text.item_at script.now load_at place }
+fn item_at(script: &[Op], load_at: u32, place: u32) -> Option<&Item>
+    ensures { option_map (λ item. item.now) result ≡ text.item_at script.now load_at place }
 {
     let op = script.get(load_at as usize)?;
-    op_items(op).get(place as usize).copied()
+    op_items(op).get(place as usize)
 }
 
-fn item_word(item: Item) -> &'static str
-    ensures { result.now ≡ text.item_word item }
+fn item_word(item: &Item) -> &'static str
+    ensures { result.now ≡ text.item_word item.now }
 {
     match item {
         Item::Sync { .. } => "sync",
+        Item::SyncRange { .. } => "sync_range",
         Item::DevRead { .. } => "dev_read",
+        Item::DevWrite { .. } => "dev_write",
     }
 }
 
-fn item_map(item: Item) -> u32
-    ensures { result ≡ text.item_map item }
+fn item_map(item: &Item) -> u32
+    ensures { result ≡ text.item_map item.now }
 {
     match item {
-        Item::Sync { map, .. } | Item::DevRead { map, .. } => map,
+        Item::Sync { map, .. }
+        | Item::SyncRange { map, .. }
+        | Item::DevRead { map, .. }
+        | Item::DevWrite { map, .. } => *map,
     }
 }
 
-fn push_item(out: &mut String, script: &[Op], item: Item) -> Result<(), AllocError>
-    ensures { OnOk result (string_bytes out.new ≡ string_bytes out.old ++ text.item_text script.now item) }
+fn push_item(out: &mut String, script: &[Op], item: &Item) -> Result<(), AllocError>
+    ensures { OnOk result (string_bytes out.new ≡ string_bytes out.old ++ text.item_text script.now item.now) }
 {
     let word = item_word(item);
     let name = name_at(script, item_map(item));

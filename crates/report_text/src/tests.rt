@@ -5,9 +5,9 @@ ghost use Rattle.std.specs.Prelude.{◌≡◌, IfOk, codes, string_bytes};
 use crate::answer::push_answer;
 use crate::{end_line, entry_line, report, zone_lines};
 use busdma_base::{
-    Actor, Answer, ByteList, Did, Driver, End, Errno, Grown, Item, Journal, JournalEntry, LaneId,
-    ListOf, MapId, Name, Op, Pa, Place, Report, ReportName, Scenario, Segment, Side, Va,
-    ZoneCounts, ZoneId,
+    Actor, Answer, ByteList, Bytes, Did, Driver, End, Errno, Grown, Item, Journal, JournalEntry,
+    LaneId, ListOf, MapId, Name, Op, Pa, Place, Report, ReportName, Scenario, Segment, Side,
+    TagLimits, Va, ZoneCounts, ZoneId,
 };
 use std::alloc::{AllocError, Global};
 use std::test::Fail;
@@ -39,13 +39,15 @@ fn driver(alloc: Global, script: Vec<Op>) -> Driver {
 fn first_script(alloc: Global) -> Result<Vec<Op>, AllocError> {
     let tag = Op::Tag {
         name: name(alloc, "t")?,
+        parent: None,
+        limits: no_limits(),
     };
     let map = Op::Map {
         name: name(alloc, "m")?,
         tag: 0,
     };
     let place = Place::At(Va(0x10_0000));
-    let bytes = ListOf::new(HELLO.to_vec(alloc)?);
+    let bytes = Bytes::Listed(ListOf::new(HELLO.to_vec(alloc)?));
     let write = Op::CpuWrite { place, bytes };
     let before = Item::Sync { map: 1, ops: 4 };
     let read = Item::DevRead {
@@ -59,6 +61,7 @@ fn first_script(alloc: Global) -> Result<Vec<Op>, AllocError> {
         map: 1,
         place,
         len: 5,
+        flags: 0,
         then,
     };
     Ok(vec![in alloc;
@@ -71,15 +74,65 @@ fn first_script(alloc: Global) -> Result<Vec<Op>, AllocError> {
     ]?)
 }
 
+/// The device writes five bytes, and the driver ends all that it made.
 fn second_script(alloc: Global) -> Result<Vec<Op>, AllocError> {
     let tag = Op::Tag {
         name: name(alloc, "a")?,
+        parent: None,
+        limits: no_limits(),
     };
     let map = Op::Map {
         name: name(alloc, "m2")?,
         tag: 0,
     };
-    Ok(vec![in alloc; tag, map]?)
+    let place = Place::At(Va(0x20_0000));
+    let before = Item::SyncRange {
+        map: 1,
+        off: 0,
+        len: 5,
+        ops: 1,
+    };
+    let write = Item::DevWrite {
+        map: 1,
+        off: 0,
+        bytes: Bytes::Filled { byte: 7, len: 5 },
+    };
+    let load = Op::Load {
+        map: 1,
+        place,
+        len: 5,
+        flags: 0,
+        then: ListOf::new(vec![in alloc; before, write]?),
+    };
+    let after = Op::SyncRange {
+        map: 1,
+        off: 0,
+        len: 5,
+        ops: 2,
+    };
+    Ok(vec![in alloc;
+        tag,
+        map,
+        Op::CpuRead { place, len: 5 },
+        load,
+        Op::Sync { map: 1, ops: 2 },
+        after,
+        Op::MapDestroy { map: 1 },
+        Op::TagDestroy { tag: 0 },
+    ]?)
+}
+
+fn no_limits() -> TagLimits {
+    TagLimits {
+        alignment: 1,
+        boundary: 0,
+        lowaddr: Pa(u64::MAX),
+        highaddr: Pa(u64::MAX),
+        maxsize: 4096,
+        nsegments: 65536,
+        maxsegsz: 4096,
+        flags: 0,
+    }
 }
 
 fn name(alloc: Global, text: &str) -> Result<Name, AllocError> {
@@ -101,7 +154,7 @@ fn map_of(lane: u32) -> MapId {
     }
 }
 
-/// The item at this place of the first driver's load.
+/// The item at this place of a driver's load.
 fn item(place: u32) -> Did {
     Did::Item { load_at: 3, place }
 }
@@ -203,6 +256,13 @@ fn what_was_done(rt: HostRuntime) -> Result<(), Fail> {
         (Side::Callback, 1, callback, "9 c1 callback m2 -> ok\n"),
         (Side::Script, 12, Did::Op(0), "10 s12  -> ok\n"),
         (Side::Transfer, 0, item(3), "11 d0  -> ok\n"),
+        (Side::Script, 1, Did::Op(2), "12 s1 cpu_read -> ok\n"),
+        (Side::Script, 1, Did::Op(4), "13 s1 sync m2 -> ok\n"),
+        (Side::Script, 1, Did::Op(5), "14 s1 sync_range m2 -> ok\n"),
+        (Side::Script, 1, Did::Op(6), "15 s1 map_destroy m2 -> ok\n"),
+        (Side::Script, 1, Did::Op(7), "16 s1 tag_destroy a -> ok\n"),
+        (Side::Transfer, 1, item(0), "17 d1 sync_range m2 -> ok\n"),
+        (Side::Transfer, 1, item(1), "18 d1 dev_write m2 -> ok\n"),
     ];
     for (number, (side, lane, did, want)) in rows.iter().enumerate() {
         let entry = JournalEntry {
