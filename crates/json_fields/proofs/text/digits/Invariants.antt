@@ -1,0 +1,6 @@
+use Rattle.std.proofs.Common.{◌≡◌, ◌<◌, ◌^◌, drop}
+use Rattle.json_fields.specs.Number.{hex_after}
+use Rattle.json_fields.proofs.text.digits.Given as goal
+
+abbrev pub invariant-loop-b : goal.invariant-loop-b
+invariant-loop-b l = (hex_after l.number (drop l.b-index l.bytes) ≡ hex_after 0 l.bytes) × (l.number < 16 ^ l.b-index)

@@ -1,0 +1,220 @@
+//! A value of a document and where it stands.
+
+ghost use Rattle.std.specs.Prelude.{◌≡◌, ℕ, List, true, map, option_map, Option, string_bytes, IfOk};
+ghost use Rattle.std.specs.List.{list_any};
+ghost use Rattle.std.specs.Str.{bytes_eq};
+ghost use Rattle.serde_json.specs.View.{view, members_view};
+ghost use Rattle.busdma_base.specs.Names as names;
+ghost use Rattle.json_fields.specs.Place.{key, place_of};
+ghost use Rattle.json_fields.specs.Read.{Gives, GivesSeen, StopsWith, refusal};
+ghost use Rattle.json_fields.specs.Field.{spot_of, placed_at, item_of, field, required, members_of, only_keys, unknown_key};
+ghost use Rattle.json_fields.specs.Number.{number_in as number_of_kind, number_at, number_field, number_or};
+ghost use Rattle.json_fields.specs.Text.{name_at, bytes_at, text_at};
+ghost use Rattle.json_fields.specs.Items.{items_at};
+
+use crate::path::Path;
+use crate::refusal::{RefusalKind, Stop};
+use crate::text::{hex_bytes, hex_number, is_name};
+use busdma_base::{ByteList, ListOf, Name};
+use serde_json::Value;
+use serde_json::value::Map;
+use std::alloc::Global;
+
+/// A value, and the way to it.
+#[derive(Clone, Copy)]
+pub struct Node<'v> {
+    pub alloc: Global,
+    pub value: &'v Value,
+    pub path: Path<'v>,
+}
+
+impl<'v> Node<'v> {
+    /// This is wrong here.
+    pub fn refuse(&self, kind: RefusalKind) -> Stop
+        ensures { StopsWith result (refusal kind (place_of self.now.path)) }
+    {
+        self.path.refuse(self.alloc, kind)
+    }
+
+    /// This is wrong at a key.
+    pub fn refuse_key<'a>(&'a self, kind: RefusalKind, name: &'a str) -> Stop
+        ensures { StopsWith result (refusal kind (key (place_of self.now.path) name.now)) }
+    {
+        self.path.key(name).refuse(self.alloc, kind)
+    }
+
+    /// The value at a key, if there is one.
+    pub fn field<'a>(&'a self, name: &'a str) -> Option<Node<'a>>
+        ensures { option_map spot_of result ≡ field name.now (spot_of self.now) }
+    {
+        match self.value.get(name) {
+            Some(value) => Some(Node {
+                alloc: self.alloc,
+                value,
+                path: self.path.key(name),
+            }),
+            None => None,
+        }
+    }
+
+    /// The value at a key. A missing one is refused with the key's path.
+    #[tactic(auto, unfolding(crate::specs::Field::required))]
+    pub fn required<'a>(&'a self, name: &'a str) -> Result<Node<'a>, Stop>
+        ensures { GivesSeen spot_of result (required name.now (spot_of self.now)) }
+    {
+        match self.field(name) {
+            Some(node) => Ok(node),
+            None => Err(self.refuse_key(RefusalKind::BadField, name)),
+        }
+    }
+
+    /// Another value, at this place.
+    pub fn at(&self, value: &'v Value) -> Node<'v>
+        ensures { spot_of result ≡ placed_at (spot_of self.now) (view value.now) }
+    {
+        Node {
+            alloc: self.alloc,
+            value,
+            path: self.path,
+        }
+    }
+
+    /// An item of the list that stands here.
+    pub fn item<'a>(&'a self, place: usize, value: &'a Value) -> Node<'a>
+        ensures { spot_of result ≡ item_of (spot_of self.now) place (view value.now) }
+    {
+        Node {
+            alloc: self.alloc,
+            value,
+            path: self.path.item(place),
+        }
+    }
+
+    /// The members of an object.
+    pub fn members(&self) -> Result<&'v Map<String, Value>, Stop>
+        ensures { GivesSeen (λ m. members_view m.now.entries) result (members_of (spot_of self.now)) }
+    {
+        match self.value.as_object() {
+            Some(members) => Ok(members),
+            None => Err(self.refuse(RefusalKind::BadField)),
+        }
+    }
+
+    /// The value is an object, and has no key outside the table. The first other key, in byte
+    /// order, is refused with its path.
+    #[tactic(auto, unfolding(crate::specs::Field::only_keys))]
+    pub fn only_keys(&self, table: &[&str]) -> Result<(), Stop>
+        ensures { Gives result (only_keys (λ key. list_any (λ k. bytes_eq k.now key) table.now) (spot_of self.now)) }
+    {
+        match unknown_key(self.members()?, table) {
+            Some(key) => Err(self.refuse_key(RefusalKind::BadField, key)),
+            None => Ok(()),
+        }
+    }
+
+    /// A number: whole and below 2^64, or `0x` and 1 to 16 hexadecimal digits.
+    #[tactic(auto, unfolding(crate::specs::Number::number_at))]
+    pub fn number(&self) -> Result<u64, Stop>
+        ensures { Gives result (number_at (spot_of self.now)) }
+    {
+        match number_in(self.value) {
+            Some(n) => Ok(n),
+            None => Err(self.refuse(RefusalKind::BadField)),
+        }
+    }
+
+    /// The number at a key.
+    #[tactic(auto, unfolding(crate::specs::Number::number_field))]
+    pub fn number_field(&self, name: &str) -> Result<u64, Stop>
+        ensures { Gives result (number_field name.now (spot_of self.now)) }
+    {
+        self.required(name)?.number()
+    }
+
+    /// The number at a key, or a default where there is none.
+    #[tactic(auto, unfolding(crate::specs::Number::number_or))]
+    pub fn number_or(&self, name: &str, default: u64) -> Result<u64, Stop>
+        ensures { Gives result (number_or name.now default (spot_of self.now)) }
+    {
+        match self.field(name) {
+            Some(node) => node.number(),
+            None => Ok(default),
+        }
+    }
+
+    /// A text.
+    #[tactic(auto, unfolding(crate::specs::Text::text_at))]
+    pub fn text(&self) -> Result<&'v str, Stop>
+        ensures { GivesSeen (λ s. s.now) result (text_at (spot_of self.now)) }
+    {
+        match self.value.as_str() {
+            Some(text) => Ok(text),
+            None => Err(self.refuse(RefusalKind::BadField)),
+        }
+    }
+
+    /// A name: 1 to 32 of `a` to `z`, `0` to `9` and `_`, beginning with a letter.
+    #[tactic(auto, unfolding(crate::specs::Text::name_at))]
+    pub fn name(&self) -> Result<Name, Stop>
+        ensures value { Gives result (name_at (spot_of self.now)) }
+        ensures well_formed { IfOk result (λ n. names.is_name n ≡ true) }
+    {
+        match self.value.as_str() {
+            Some(text) if is_name(text) => Ok(Name::new(String::from_str(self.alloc, text)?)),
+            _ => Err(self.refuse(RefusalKind::BadField)),
+        }
+    }
+
+    /// Bytes, by two hexadecimal digits each.
+    #[tactic(auto, unfolding(crate::specs::Text::bytes_at))]
+    pub fn bytes(&self) -> Result<ByteList, Stop>
+        ensures { Gives result (bytes_at (spot_of self.now)) }
+    {
+        let Some(text) = self.value.as_str() else {
+            return Err(self.refuse(RefusalKind::BadField));
+        };
+        match hex_bytes(self.alloc, text)? {
+            Some(bytes) => Ok(ListOf::new(bytes)),
+            None => Err(self.refuse(RefusalKind::BadField)),
+        }
+    }
+
+    /// A list.
+    #[tactic(auto, unfolding(crate::specs::Items::items_at), using(crate::proofs::Lists::list_of_items))]
+    pub fn items(&self) -> Result<&'v [Value], Stop>
+        ensures { GivesSeen (λ v. map view v.now) result (items_at (spot_of self.now)) }
+    {
+        match self.value.as_array() {
+            Some(items) => Ok(items),
+            None => Err(self.refuse(RefusalKind::BadField)),
+        }
+    }
+}
+
+fn number_in(value: &Value) -> Option<u64>
+    ensures { result ≡ number_of_kind (view value.now) }
+{
+    match value.as_str() {
+        Some(text) => hex_number(text),
+        None => value.as_u64(),
+    }
+}
+
+fn unknown_key<'a>(members: &'a Map<String, Value>, table: &[&str]) -> Option<&'a str>
+    ensures { option_map (λ k. k.now) result
+        ≡ unknown_key (λ key. list_any (λ k. bytes_eq k.now key) table.now) (members_view members.now.entries) }
+{
+    for (key, _) in members {
+        let name = key.as_str();
+        if !is_listed(table, name) {
+            return Some(name);
+        }
+    }
+    None
+}
+
+fn is_listed(table: &[&str], key: &str) -> bool
+    ensures { result ≡ list_any (λ k. bytes_eq k.now key.now) table.now }
+{
+    table.iter().any(|known| *known == key)
+}

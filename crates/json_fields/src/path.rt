@@ -1,0 +1,86 @@
+//! Where in a document a value stands.
+
+ghost use Rattle.std.specs.Prelude.{◌≡◌, ◌++◌, OnOk, IfOk, string_bytes};
+ghost use Rattle.json_fields.specs.Place.{top, key, item, place_of, path_text};
+ghost use Rattle.json_fields.specs.Read.{StopsWith, refusal};
+
+use crate::refusal::{PathText, Refusal, RefusalKind, Stop};
+use std::alloc::{AllocError, Global};
+
+/// The way from the document's top to a value. It takes no memory until it is wanted as a text.
+#[derive(Clone, Copy)]
+pub enum Path<'a> {
+    /// The whole document.
+    Top,
+    /// The value at a key of an object.
+    Key(&'a Path<'a>, &'a str),
+    /// An item of a list, counted from 0.
+    Item(&'a Path<'a>, usize),
+}
+
+impl<'a> Path<'a> {
+    /// The whole document.
+    #[tactic(auto, unfolding(crate::specs::Place::place_of))]
+    pub fn top() -> Path<'a>
+        ensures { place_of result ≡ top }
+    {
+        Path::Top
+    }
+
+    /// The value at a key of the object that stands here.
+    #[tactic(auto, unfolding(crate::specs::Place::place_of))]
+    pub fn key(&'a self, name: &'a str) -> Path<'a>
+        ensures { place_of result ≡ key (place_of self.now) name.now }
+    {
+        Path::Key(self, name)
+    }
+
+    /// An item of the list that stands here.
+    #[tactic(auto, unfolding(crate::specs::Place::place_of))]
+    pub fn item(&'a self, place: usize) -> Path<'a>
+        ensures { place_of result ≡ item (place_of self.now) place }
+    {
+        Path::Item(self, place)
+    }
+
+    /// This is wrong here.
+    pub fn refuse(&self, alloc: Global, kind: RefusalKind) -> Stop
+        ensures { StopsWith result (refusal kind (place_of self.now)) }
+    {
+        match self.to_text(alloc) {
+            Ok(text) => Stop::Refused(Refusal {
+                kind,
+                path: PathText::new(text),
+            }),
+            Err(_) => Stop::OutOfMemory,
+        }
+    }
+
+    /// The path as a text, as in `drivers[0].script[3].len`.
+    fn to_text(&self, alloc: Global) -> Result<String, AllocError>
+        ensures { IfOk result (λ s. string_bytes s ≡ path_text (place_of self.now)) }
+    {
+        let mut text = String::new(alloc);
+        push_path(&mut text, self)?;
+        Ok(text)
+    }
+}
+
+#[tactic(auto, unfolding(crate::specs::Place::place_of))]
+fn push_path(text: &mut String, path: &Path) -> Result<(), AllocError>
+    ensures { OnOk result (string_bytes text.new ≡ string_bytes text.old ++ path_text (place_of path.now)) }
+{
+    match path {
+        Path::Top => Ok(()),
+        Path::Key(Path::Top, key) => text.push_str(key),
+        Path::Key(outer, key) => {
+            push_path(text, outer)?;
+            text.push_str(".")?;
+            text.push_str(key)
+        }
+        Path::Item(list, place) => {
+            push_path(text, list)?;
+            write!(text, "[{place}]")
+        }
+    }
+}

@@ -1,0 +1,177 @@
+//! Why a scenario is refused.
+
+ghost use Rattle.std.specs.Prelude.{◌≡◌, string_bytes};
+ghost use Rattle.json_fields.specs.declared.refusal.Stop.TheVariants.{OutOfMemory};
+
+use std::alloc::{AllocError, AllocFailed};
+use std::fmt;
+use std::marker::Model;
+
+/// The limits of a scenario.
+#[derive(Clone, Copy, Debug, PartialEq, Eq)]
+pub enum LimitName {
+    /// The frames of the machine.
+    Frames,
+    /// The number of a frame.
+    FrameNumber,
+    /// The pages that a zone may grow to.
+    MaxBpages,
+    /// The drivers.
+    Drivers,
+    /// The actors of the order.
+    Order,
+    /// The operations and items of a driver.
+    Steps,
+    /// The bytes of one access.
+    Access,
+    /// The bytes that all drivers and devices read.
+    Reads,
+    /// The bytes of one load.
+    Buffer,
+    /// The bytes of all loads.
+    Loaded,
+}
+
+/// What is wrong.
+#[derive(Clone, Copy, Debug, PartialEq, Eq)]
+pub enum RefusalKind {
+    /// The bytes are no JSON value.
+    NotJson,
+    /// A key is not known, a field is missing, or its value is none that it may have.
+    BadField,
+    /// A word of a set of flags is not known.
+    BadFlag,
+    /// The word of an operation or item is not known, or not allowed at its place.
+    BadOp,
+    /// A limit is passed.
+    Limit(LimitName),
+    /// A frame is given twice.
+    FrameTwice,
+    /// A page has a frame that the machine has not.
+    FrameAbsent,
+    /// A name is used that nothing before made.
+    UnknownName,
+}
+
+/// The text of a path, seen by contracts as its bytes.
+#[derive(Debug, Drop)]
+pub struct PathText {
+    text: String,
+}
+
+impl Model for PathText {
+    ghost use Rattle.std.specs.Prelude.{ℕ, List, string_bytes};
+
+    ghost Value = { List ℕ };
+
+    ghost view = { λ p. string_bytes p.text };
+}
+
+impl PathText {
+    /// The path of this text.
+    pub fn new(text: String) -> PathText
+        ensures { result ≡ string_bytes text }
+    {
+        PathText { text }
+    }
+
+    /// The text.
+    pub fn as_str(&self) -> &str
+        ensures { result.now ≡ self.now }
+    {
+        self.text.as_str()
+    }
+}
+
+/// The first thing that is wrong, and where it stands. The path is empty where the whole document
+/// is wrong.
+#[derive(Debug, Drop)]
+pub struct Refusal {
+    pub kind: RefusalKind,
+    pub path: PathText,
+}
+
+impl fmt::Display for LimitName {
+    ghost use Rattle.std.specs.Prelude.{Some};
+    ghost use Rattle.json_fields.specs.RefusalText.{limit_text};
+
+    ghost output = { λ n. Some (limit_text n) };
+
+    fn fmt<W: fmt::Write>(&self, f: &mut fmt::Formatter<W>) -> fmt::Result {
+        let name = match self {
+            LimitName::Frames => "frames",
+            LimitName::FrameNumber => "frame_number",
+            LimitName::MaxBpages => "max_bpages",
+            LimitName::Drivers => "drivers",
+            LimitName::Order => "order",
+            LimitName::Steps => "steps",
+            LimitName::Access => "access",
+            LimitName::Reads => "reads",
+            LimitName::Buffer => "buffer",
+            LimitName::Loaded => "loaded",
+        };
+        write!(f, "{name}")
+    }
+}
+
+impl fmt::Display for RefusalKind {
+    ghost use Rattle.std.specs.Prelude.{Some};
+    ghost use Rattle.json_fields.specs.RefusalText.{kind_text};
+
+    ghost output = { λ k. Some (kind_text k) };
+
+    fn fmt<W: fmt::Write>(&self, f: &mut fmt::Formatter<W>) -> fmt::Result {
+        match self {
+            RefusalKind::NotJson => write!(f, "NotJson"),
+            RefusalKind::BadField => write!(f, "BadField"),
+            RefusalKind::BadFlag => write!(f, "BadFlag"),
+            RefusalKind::BadOp => write!(f, "BadOp"),
+            RefusalKind::Limit(name) => write!(f, "Limit({name})"),
+            RefusalKind::FrameTwice => write!(f, "FrameTwice"),
+            RefusalKind::FrameAbsent => write!(f, "FrameAbsent"),
+            RefusalKind::UnknownName => write!(f, "UnknownName"),
+        }
+    }
+}
+
+impl fmt::Display for Refusal {
+    ghost use Rattle.std.specs.Prelude.{Some};
+    ghost use Rattle.json_fields.specs.RefusalText.{refusal_text};
+
+    ghost output = { λ r. Some (refusal_text r) };
+
+    fn fmt<W: fmt::Write>(&self, f: &mut fmt::Formatter<W>) -> fmt::Result {
+        let kind = self.kind;
+        let path = self.path.as_str();
+        if path.is_empty() {
+            write!(f, "{kind}")
+        } else {
+            write!(f, "{kind} {path}")
+        }
+    }
+}
+
+/// Why reading ends early.
+#[derive(Debug, Drop)]
+pub enum Stop {
+    /// Memory ran out.
+    OutOfMemory,
+    /// What is read is refused.
+    Refused(Refusal),
+}
+
+impl From<AllocError> for Stop {
+    ghost from_gives = { λ _ e. e ≡ OutOfMemory };
+
+    fn from(_e: AllocError) -> Stop {
+        Stop::OutOfMemory
+    }
+}
+
+impl<T: Drop> From<AllocFailed<T>> for Stop {
+    ghost from_gives = { λ _ e. e ≡ OutOfMemory };
+
+    fn from(_e: AllocFailed<T>) -> Stop {
+        Stop::OutOfMemory
+    }
+}
