@@ -1,0 +1,4 @@
+pub mod Counting
+pub mod Documents
+pub mod Each
+pub mod Runs

@@ -1,0 +1,14 @@
+use Rattle.std.proofs.Common.{◌≡◌, [], drop, map}
+use Rattle.serde_json.specs.View.{view}
+use Rattle.busdma_base.specs.Each.{EachAfter}
+use Rattle.busdma_base.specs.Pages.{IsPageRun}
+use Rattle.json_fields.specs.Field.{spot_of}
+use Rattle.json_fields.specs.Items.{each}
+use Rattle.scenario_read.specs.Pages.{page_run_at}
+use Rattle.scenario_read.proofs.pages.runs.Given as goal
+
+abbrev pub invariant-loop-value : goal.invariant-loop-value
+invariant-loop-value l = record {
+  rest : each (page_run_at l.frames l.earlier) (spot_of l.here) l.runs.items (map view (drop l.value-index l.items)) ≡ each (page_run_at l.frames l.earlier) (spot_of l.here) [] (map view l.items);
+  valid : EachAfter (IsPageRun l.frames l.earlier) [] l.runs.items;
+}

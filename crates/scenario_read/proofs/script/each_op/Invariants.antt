@@ -1,0 +1,17 @@
+use Rattle.std.proofs.Common.{◌≡◌, [], drop, map}
+use Rattle.serde_json.specs.View.{view}
+use Rattle.busdma_base.specs.Each.{EachAfter}
+use Rattle.busdma_base.specs.Script.{IsOp}
+use Rattle.json_fields.specs.Field.{spot_of}
+use Rattle.json_fields.specs.Items.{each}
+use Rattle.scenario_read.specs.Counts.{IsWithin, with_ops}
+use Rattle.scenario_read.specs.Script.{op_at}
+use Rattle.scenario_read.proofs.script.each_op.Given as goal
+
+abbrev pub invariant-loop-value : goal.invariant-loop-value
+invariant-loop-value l = record {
+  rest : each (λ before. op_at before (with_ops l.fn.counts before)) (spot_of l.here) l.before.items (map view (drop l.value-index l.items)) ≡ each (λ before. op_at before (with_ops l.fn.counts before)) (spot_of l.here) [] (map view l.items);
+  valid : EachAfter IsOp [] l.before.items;
+  counted : l.counts ≡ with_ops l.fn.counts l.before.items;
+  within : IsWithin l.counts;
+}

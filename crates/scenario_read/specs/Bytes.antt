@@ -1,0 +1,55 @@
+-- Where an operation works, and what it writes.
+use Rattle.std.specs.Prelude.{ℕ, ◌+◌, ◌%◌, Bool, true, false, Option, Some, None, Ok, if◌then◌else◌, nat_lt, is_some, codes}
+use Rattle.busdma_base.specs.declared.script.Place.{Place as Target}
+use Rattle.busdma_base.specs.declared.script.Place.TheVariants.{At}
+use Rattle.busdma_base.specs.declared.script.Bytes.{Bytes}
+use Rattle.busdma_base.specs.declared.script.Bytes.TheVariants.{Listed, Filled}
+use Rattle.json_fields.specs.Place.{Place, key}
+use Rattle.json_fields.specs.Read.{Read, ◌>>=◌, refuse}
+use Rattle.json_fields.specs.Field.{Spot, field}
+use Rattle.json_fields.specs.Number.{number_at, number_field}
+use Rattle.json_fields.specs.Text.{bytes_at}
+use Rattle.json_fields.specs.declared.refusal.RefusalKind.TheVariants.{BadField}
+
+-- an operation without a place is refused as a whole
+abbrev pub target_or : Place → Option Spot → Read Target
+target_or place None = refuse BadField place
+target_or place (Some spot) = number_at spot >>= (λ va. Ok (At (record { 0 = va })))
+
+-- the place of an operation: a virtual address
+unfoldable pub target_at : Spot → Read Target
+target_at here = target_or here.place (field (codes "va") here)
+
+-- a load's length: the bytes lie in one page
+abbrev pub length_in_page : Place → Target → ℕ → Read ℕ
+length_in_page place (At va) n = if nat_lt 4096 (va.0 % 4096 + n) then refuse BadField place else Ok n
+
+-- the length of a load of these bytes
+unfoldable pub load_length : Target → Spot → Read ℕ
+load_length target here = number_field (codes "len") here >>= length_in_page (key here.place (codes "len")) target
+
+-- a byte that is given as a number
+abbrev pub byte_or : Place → ℕ → Read ℕ
+byte_or place n = if nat_lt n 256 then Ok n else refuse BadField place
+
+unfoldable pub fill_at : Spot → Read ℕ
+fill_at here = number_field (codes "fill") here >>= byte_or (key here.place (codes "fill"))
+
+-- bytes by `hex`
+unfoldable pub listed_at : Spot → Read Bytes
+listed_at spot = bytes_at spot >>= (λ bytes. Ok (Listed bytes))
+
+-- one byte, `len` times
+unfoldable pub filled_at : Spot → Read Bytes
+filled_at here = fill_at here >>= (λ byte. number_field (codes "len") here >>= (λ n. Ok (Filled byte n)))
+
+-- `hex`, or `fill` with `len`: an operation with both or neither is refused as a whole
+abbrev pub bytes_by : Option Spot → Bool → Bool → Spot → Read Bytes
+bytes_by (Some hex) false false here = listed_at hex
+bytes_by None true _ here = filled_at here
+bytes_by _ _ _ here = refuse BadField here.place
+
+-- what an operation writes
+unfoldable pub written_at : Spot → Read Bytes
+written_at here =
+    bytes_by (field (codes "hex") here) (is_some (field (codes "fill") here)) (is_some (field (codes "len") here)) here

@@ -1,0 +1,40 @@
+-- The drivers, each read by itself and by the drivers before it.
+use Rattle.std.specs.Prelude.{List, [], ◌∷◌, length, Option, Some, None, Ok, if◌then◌else◌, nat_lt, codes}
+use Rattle.serde_json.specs.Data.{Data}
+use Rattle.busdma_base.specs.declared.scenario.FrameRun.{FrameRun}
+use Rattle.busdma_base.specs.declared.scenario.PageRun.{PageRun}
+use Rattle.busdma_base.specs.declared.scenario.Driver.{Driver}
+use Rattle.busdma_base.specs.declared.script.Op.{Op}
+use Rattle.json_fields.specs.Place.{Place}
+use Rattle.json_fields.specs.Read.{Read, ◌>>=◌, refuse}
+use Rattle.json_fields.specs.Field.{Spot, field, required, only_keys, one_of}
+use Rattle.json_fields.specs.Items.{items_at, each}
+use Rattle.json_fields.specs.declared.refusal.RefusalKind.TheVariants.{Limit}
+use Rattle.json_fields.specs.declared.refusal.LimitName.TheVariants.{Drivers}
+use Rattle.scenario_read.specs.declared.counts.Counts.{Counts}
+use Rattle.scenario_read.specs.Counts.{counts_of}
+use Rattle.scenario_read.specs.Limits.{drivers_limit}
+use Rattle.scenario_read.specs.Pages.{pages_at}
+use Rattle.scenario_read.specs.Script.{script_at}
+
+-- no pages where there is no list
+abbrev pub pages_or_none : List FrameRun → List Driver → Option Spot → Read (List PageRun)
+pages_or_none frames earlier None = Ok []
+pages_or_none frames earlier (Some spot) = pages_at frames earlier spot
+
+unfoldable pub script_field : Counts → Spot → Read (List Op)
+script_field c here = required (codes "script") here >>= script_at c
+
+unfoldable pub driver_at : List FrameRun → List Driver → Spot → Read Driver
+driver_at frames earlier here =
+    only_keys (one_of (codes "pages" ∷ codes "script" ∷ [])) here >>= (λ _.
+    pages_or_none frames earlier (field (codes "pages") here) >>= (λ pages.
+    script_field (counts_of earlier) here >>= (λ script.
+    Ok (record { pages = pages; script = script }))))
+
+-- the drivers are counted before the first of them is read
+abbrev pub drivers_judged : Place → List Data → Read (List Data)
+drivers_judged place ds = if nat_lt drivers_limit (length ds) then refuse (Limit Drivers) place else Ok ds
+
+unfoldable pub drivers_at : List FrameRun → Spot → Read (List Driver)
+drivers_at frames here = items_at here >>= (λ ds. drivers_judged here.place ds >>= each (driver_at frames) here [])

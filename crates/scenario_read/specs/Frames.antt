@@ -1,0 +1,46 @@
+-- The frames of the machine, as they are read.
+use Rattle.std.specs.Prelude.{ℕ, ◌+◌, List, [], ◌∷◌, Ok, if◌then◌else◌, nat_le, nat_lt}
+use Rattle.std.specs.List.{list_any}
+use Rattle.serde_json.specs.Data.{Data}
+use Rattle.busdma_base.specs.declared.scenario.FrameRun.{FrameRun}
+use Rattle.busdma_base.specs.Frames.{frame_count, overlap}
+use Rattle.json_fields.specs.Place.{Place}
+use Rattle.json_fields.specs.Read.{Read, ◌>>=◌, refuse}
+use Rattle.json_fields.specs.Field.{Spot}
+use Rattle.json_fields.specs.Number.{number_at}
+use Rattle.json_fields.specs.Items.{items_at, each}
+use Rattle.json_fields.specs.declared.refusal.RefusalKind.TheVariants.{BadField, Limit, FrameTwice}
+use Rattle.json_fields.specs.declared.refusal.LimitName.TheVariants.{Frames, FrameNumber}
+use Rattle.scenario_read.specs.Limits.{frames_limit, frame_numbers}
+
+-- a number in a list of numbers is refused with the list's place
+abbrev pub number_within : Place → Data → Read ℕ
+number_within place d = number_at (record { place = place; value = d })
+
+-- a run has at least one frame
+abbrev pub run_of : Place → ℕ → ℕ → Read FrameRun
+run_of place first count = if nat_le 1 count then Ok (record { first = first; count = count }) else refuse BadField place
+
+-- a list of two numbers
+abbrev pub run_in : Place → List Data → Read FrameRun
+run_in place [] = refuse BadField place
+run_in place (a ∷ []) = refuse BadField place
+run_in place (a ∷ b ∷ []) = number_within place a >>= (λ first. number_within place b >>= (λ count. run_of place first count))
+run_in place (a ∷ b ∷ c ∷ more) = refuse BadField place
+
+-- the limit on frame numbers, the limit on all frames, and no frame of an earlier run
+abbrev pub run_judged : List FrameRun → Place → FrameRun → Read FrameRun
+run_judged before place run =
+    if nat_lt frame_numbers (run.first + run.count) then refuse (Limit FrameNumber) place
+    else (if nat_lt frames_limit (frame_count before + run.count) then refuse (Limit Frames) place
+    else (if list_any (overlap run) before then refuse FrameTwice place
+    else Ok run))
+
+unfoldable pub run_at : Spot → Read FrameRun
+run_at here = items_at here >>= run_in here.place
+
+unfoldable pub frame_run_at : List FrameRun → Spot → Read FrameRun
+frame_run_at before here = run_at here >>= run_judged before here.place
+
+unfoldable pub frames_at : Spot → Read (List FrameRun)
+frames_at here = items_at here >>= each frame_run_at here []

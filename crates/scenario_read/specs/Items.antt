@@ -1,0 +1,79 @@
+-- The items of a load, as they are read.
+use Rattle.std.specs.Prelude.{List, [], ◌∷◌, length, Option, Some, None, Ok, codes}
+use Rattle.busdma_base.specs.declared.script.Op.{Op}
+use Rattle.busdma_base.specs.declared.script.Item.{Item}
+use Rattle.busdma_base.specs.declared.script.Item.TheVariants as item
+use Rattle.busdma_base.specs.Script.{bytes_of}
+use Rattle.json_fields.specs.Read.{Read, ◌>>=◌}
+use Rattle.json_fields.specs.Field.{Spot, field, members_of, only_keys, one_of}
+use Rattle.json_fields.specs.Number.{number_field}
+use Rattle.json_fields.specs.Items.{items_at, each}
+use Rattle.scenario_read.specs.declared.counts.Counts.{Counts}
+use Rattle.scenario_read.specs.declared.names.Made.TheVariants as made
+use Rattle.scenario_read.specs.declared.words.ItemWord.{ItemWord}
+use Rattle.scenario_read.specs.declared.words.ItemWord.TheVariants as word
+use Rattle.scenario_read.specs.Bytes.{written_at}
+use Rattle.scenario_read.specs.Counts.{with_items, stepped, step_judged, access_judged, read_judged}
+use Rattle.scenario_read.specs.Flags.{ops_field}
+use Rattle.scenario_read.specs.Names.{used_name}
+use Rattle.scenario_read.specs.Words.{item_word_at}
+
+unfoldable pub sync_item_at : List Op → Spot → Read Item
+sync_item_at before here =
+    only_keys (one_of (codes "op" ∷ codes "map" ∷ codes "ops" ∷ [])) here >>= (λ _.
+    used_name made.Map (codes "map") before here >>= (λ map.
+    ops_field here >>= (λ ops.
+    Ok (item.Sync map ops))))
+
+unfoldable pub sync_range_item_at : List Op → Spot → Read Item
+sync_range_item_at before here =
+    only_keys (one_of (codes "op" ∷ codes "map" ∷ codes "off" ∷ codes "len" ∷ codes "ops" ∷ [])) here >>= (λ _.
+    used_name made.Map (codes "map") before here >>= (λ map.
+    number_field (codes "off") here >>= (λ off.
+    number_field (codes "len") here >>= (λ n.
+    ops_field here >>= (λ ops.
+    Ok (item.SyncRange map off n ops))))))
+
+unfoldable pub dev_read_at : List Op → Counts → Spot → Read Item
+dev_read_at before c here =
+    only_keys (one_of (codes "op" ∷ codes "map" ∷ codes "off" ∷ codes "len" ∷ [])) here >>= (λ _.
+    used_name made.Map (codes "map") before here >>= (λ map.
+    number_field (codes "off") here >>= (λ off.
+    number_field (codes "len") here >>= (λ n.
+    read_judged c n here.place >>= (λ _.
+    Ok (item.DevRead map off n))))))
+
+unfoldable pub dev_write_at : List Op → Spot → Read Item
+dev_write_at before here =
+    only_keys (one_of (codes "op" ∷ codes "map" ∷ codes "off" ∷ codes "hex" ∷ codes "fill" ∷ codes "len" ∷ [])) here >>= (λ _.
+    used_name made.Map (codes "map") before here >>= (λ map.
+    number_field (codes "off") here >>= (λ off.
+    written_at here >>= (λ bytes.
+    access_judged (length (bytes_of bytes)) here.place >>= (λ _.
+    Ok (item.DevWrite map off bytes))))))
+
+abbrev pub item_by : ItemWord → List Op → Counts → Spot → Read Item
+item_by word.Sync before c here = sync_item_at before here
+item_by word.SyncRange before c here = sync_range_item_at before here
+item_by word.DevRead before c here = dev_read_at before c here
+item_by word.DevWrite before c here = dev_write_at before here
+
+-- an item is an object, is counted as a step, and is then read by its word
+unfoldable pub item_at : List Op → Counts → Spot → Read Item
+item_at before c here =
+    members_of here >>= (λ _.
+    step_judged c here.place >>= (λ _.
+    item_word_at here >>= (λ w.
+    item_by w before (stepped c) here)))
+
+-- the items of a list, each counted behind those before it
+unfoldable pub then_at : List Op → Counts → Spot → Read (List Item)
+then_at before c here = items_at here >>= each (λ done. item_at before (with_items c done)) here []
+
+abbrev pub then_or_none : List Op → Counts → Option Spot → Read (List Item)
+then_or_none before c None = Ok []
+then_or_none before c (Some spot) = then_at before c spot
+
+-- the items of a load, none where there is no list
+unfoldable pub then_field : List Op → Counts → Spot → Read (List Item)
+then_field before c here = then_or_none before c (field (codes "then") here)

@@ -1,0 +1,126 @@
+-- The operations of a script, each read by itself and by the operations before it.
+use Rattle.std.specs.Prelude.{ℕ, ◌-◌, ◌^◌, List, [], ◌∷◌, length, Ok, codes}
+use Rattle.busdma_base.specs.declared.script.Op.{Op}
+use Rattle.busdma_base.specs.declared.script.Op.TheVariants as op
+use Rattle.busdma_base.specs.declared.tag.TagLimits.{TagLimits}
+use Rattle.busdma_base.specs.Script.{bytes_of}
+use Rattle.json_fields.specs.Read.{Read, ◌>>=◌}
+use Rattle.json_fields.specs.Field.{Spot, field, only_keys, one_of}
+use Rattle.json_fields.specs.Number.{number_field, number_or}
+use Rattle.scenario_read.specs.declared.counts.Counts.{Counts}
+use Rattle.scenario_read.specs.declared.flags.FlagSet.TheVariants as set
+use Rattle.scenario_read.specs.declared.load.LoadHead.{LoadHead}
+use Rattle.scenario_read.specs.declared.names.Made.TheVariants as made
+use Rattle.scenario_read.specs.Bytes.{target_at, load_length, written_at}
+use Rattle.scenario_read.specs.Counts.{having_loaded, access_judged, read_judged, load_judged}
+use Rattle.scenario_read.specs.Flags.{flags_field, ops_field}
+use Rattle.scenario_read.specs.Items.{then_field}
+use Rattle.scenario_read.specs.Names.{new_name, used_name, parent_or_none}
+
+-- a tag that limits nothing but its exclusion window's end and the size of its loads
+abbrev pub limits_of : ℕ → ℕ → ℕ → TagLimits
+limits_of highaddr maxsize flags = record {
+  alignment = 1;
+  boundary = 0;
+  lowaddr = record { 0 = 2 ^ 64 - 1 };
+  highaddr = record { 0 = highaddr };
+  maxsize = maxsize;
+  nsegments = 65536;
+  maxsegsz = 2 ^ 32 - 1;
+  flags = flags;
+}
+
+unfoldable pub limits_at : Spot → Read TagLimits
+limits_at here =
+    number_or (codes "highaddr") (2 ^ 64 - 1) here >>= (λ highaddr.
+    number_or (codes "maxsize") (2 ^ 32 - 1) here >>= (λ maxsize.
+    flags_field set.Tag here >>= (λ flags.
+    Ok (limits_of highaddr maxsize flags))))
+
+unfoldable pub tag_at : List Op → Spot → Read Op
+tag_at before here =
+    only_keys (one_of (codes "op" ∷ codes "name" ∷ codes "parent" ∷ codes "highaddr" ∷ codes "maxsize" ∷ codes "flags" ∷ [])) here >>= (λ _.
+    new_name (codes "name") before here >>= (λ name.
+    parent_or_none before (field (codes "parent") here) >>= (λ parent.
+    limits_at here >>= (λ limits.
+    Ok (op.Tag name parent limits)))))
+
+unfoldable pub tag_destroy_at : List Op → Spot → Read Op
+tag_destroy_at before here =
+    only_keys (one_of (codes "op" ∷ codes "tag" ∷ [])) here >>= (λ _.
+    used_name made.Tag (codes "tag") before here >>= (λ tag.
+    Ok (op.TagDestroy tag)))
+
+unfoldable pub map_at : List Op → Spot → Read Op
+map_at before here =
+    only_keys (one_of (codes "op" ∷ codes "name" ∷ codes "tag" ∷ [])) here >>= (λ _.
+    new_name (codes "name") before here >>= (λ name.
+    used_name made.Tag (codes "tag") before here >>= (λ tag.
+    Ok (op.Map name tag))))
+
+unfoldable pub map_destroy_at : List Op → Spot → Read Op
+map_destroy_at before here =
+    only_keys (one_of (codes "op" ∷ codes "map" ∷ [])) here >>= (λ _.
+    used_name made.Map (codes "map") before here >>= (λ map.
+    Ok (op.MapDestroy map)))
+
+-- what a load says before its items
+unfoldable pub load_head_at : List Op → Spot → Read LoadHead
+load_head_at before here =
+    used_name made.Map (codes "map") before here >>= (λ map.
+    target_at here >>= (λ target.
+    load_length target here >>= (λ n.
+    flags_field set.Load here >>= (λ flags.
+    Ok (record { map = map; target = target; len = n; flags = flags })))))
+
+unfoldable pub load_at : List Op → Counts → Spot → Read Op
+load_at before c here =
+    only_keys (one_of (codes "op" ∷ codes "map" ∷ codes "va" ∷ codes "len" ∷ codes "flags" ∷ codes "then" ∷ [])) here >>= (λ _.
+    load_head_at before here >>= (λ head.
+    load_judged c head.len here.place >>= (λ _.
+    then_field before (having_loaded c head.len) here >>= (λ items.
+    Ok (op.Load head.map head.target head.len head.flags items)))))
+
+unfoldable pub unload_at : List Op → Spot → Read Op
+unload_at before here =
+    only_keys (one_of (codes "op" ∷ codes "map" ∷ [])) here >>= (λ _.
+    used_name made.Map (codes "map") before here >>= (λ map.
+    Ok (op.Unload map)))
+
+unfoldable pub sync_at : List Op → Spot → Read Op
+sync_at before here =
+    only_keys (one_of (codes "op" ∷ codes "map" ∷ codes "ops" ∷ [])) here >>= (λ _.
+    used_name made.Map (codes "map") before here >>= (λ map.
+    ops_field here >>= (λ ops.
+    Ok (op.Sync map ops))))
+
+unfoldable pub sync_range_at : List Op → Spot → Read Op
+sync_range_at before here =
+    only_keys (one_of (codes "op" ∷ codes "map" ∷ codes "off" ∷ codes "len" ∷ codes "ops" ∷ [])) here >>= (λ _.
+    used_name made.Map (codes "map") before here >>= (λ map.
+    number_field (codes "off") here >>= (λ off.
+    number_field (codes "len") here >>= (λ n.
+    ops_field here >>= (λ ops.
+    Ok (op.SyncRange map off n ops))))))
+
+unfoldable pub cpu_read_at : Counts → Spot → Read Op
+cpu_read_at c here =
+    only_keys (one_of (codes "op" ∷ codes "va" ∷ codes "len" ∷ [])) here >>= (λ _.
+    target_at here >>= (λ target.
+    number_field (codes "len") here >>= (λ n.
+    read_judged c n here.place >>= (λ _.
+    Ok (op.CpuRead target n)))))
+
+unfoldable pub cpu_write_at : Spot → Read Op
+cpu_write_at here =
+    only_keys (one_of (codes "op" ∷ codes "va" ∷ codes "hex" ∷ codes "fill" ∷ codes "len" ∷ [])) here >>= (λ _.
+    target_at here >>= (λ target.
+    written_at here >>= (λ bytes.
+    access_judged (length (bytes_of bytes)) here.place >>= (λ _.
+    Ok (op.CpuWrite target bytes)))))
+
+unfoldable pub await_at : List Op → Spot → Read Op
+await_at before here =
+    only_keys (one_of (codes "op" ∷ codes "map" ∷ [])) here >>= (λ _.
+    used_name made.Map (codes "map") before here >>= (λ map.
+    Ok (op.Await map)))

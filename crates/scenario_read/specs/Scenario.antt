@@ -1,0 +1,63 @@
+-- A scenario, or the first refusal.
+use Rattle.std.specs.Prelude.{ℕ, List, [], ◌∷◌, length, Option, Some, None, Ok, Err, if◌then◌else◌, nat_le, codes, ◌&&◌}
+use Rattle.std.specs.Str.{is_utf8}
+use Rattle.serde_json.specs.Data.{Data}
+use Rattle.serde_json.specs.Read.{read}
+use Rattle.busdma_base.specs.declared.scenario.FrameRun.{FrameRun}
+use Rattle.busdma_base.specs.declared.scenario.Driver.{Driver}
+use Rattle.busdma_base.specs.declared.scenario.Scenario.{Scenario}
+use Rattle.busdma_base.specs.Valid.{IsValid}
+use Rattle.json_fields.specs.Place.{Place, top, key}
+use Rattle.json_fields.specs.Read.{Read, ◌>>=◌, refuse}
+use Rattle.json_fields.specs.Field.{Spot, required, only_keys, one_of}
+use Rattle.json_fields.specs.Number.{number_or}
+use Rattle.json_fields.specs.declared.refusal.RefusalKind.TheVariants.{NotJson, Limit}
+use Rattle.json_fields.specs.declared.refusal.LimitName.TheVariants.{MaxBpages}
+use Rattle.scenario_read.specs.declared.reading.Reading.{Reading}
+use Rattle.scenario_read.specs.declared.reading.Reading.TheVariants.{Good, Bad}
+use Rattle.scenario_read.specs.Driver.{drivers_at}
+use Rattle.scenario_read.specs.Frames.{frames_at}
+use Rattle.scenario_read.specs.Limits.{bpages_limit}
+use Rattle.scenario_read.specs.Order.{order_field}
+
+abbrev pub bpages_judged : Place → ℕ → Read ℕ
+bpages_judged place n = if nat_le 1 n && nat_le n bpages_limit then Ok n else refuse (Limit MaxBpages) place
+
+unfoldable pub bpages_field : Spot → Read ℕ
+bpages_field here = number_or (codes "max_bpages") 8192 here >>= bpages_judged (key here.place (codes "max_bpages"))
+
+unfoldable pub frames_field : Spot → Read (List FrameRun)
+frames_field here = required (codes "frames") here >>= frames_at
+
+unfoldable pub drivers_field : List FrameRun → Spot → Read (List Driver)
+drivers_field frames here = required (codes "drivers") here >>= drivers_at frames
+
+unfoldable pub scenario_at : Spot → Read Scenario
+scenario_at here =
+    only_keys (one_of (codes "frames" ∷ codes "max_bpages" ∷ codes "drivers" ∷ codes "order" ∷ [])) here >>= (λ _.
+    frames_field here >>= (λ frames.
+    bpages_field here >>= (λ bpages.
+    drivers_field frames here >>= (λ drivers.
+    order_field (length drivers) here >>= (λ order.
+    Ok (record { frames = frames; max_bpages = bpages; drivers = drivers; order = order }))))))
+
+-- the value that the bytes are, as JSON has it
+abbrev pub document : List ℕ → Option Data
+document bytes = if is_utf8 bytes then read bytes else None
+
+abbrev pub read_document : Option Data → Read Scenario
+read_document None = refuse NotJson top
+read_document (Some d) = scenario_at (record { place = top; value = d })
+
+abbrev pub reading : Read Scenario → Reading
+reading (Ok s) = Good s
+reading (Err r) = Bad r
+
+-- what the bytes say: a scenario, or the first refusal
+unfoldable pub scenario_of : List ℕ → Reading
+scenario_of bytes = reading (read_document (document bytes))
+
+-- a scenario that was read is valid
+abbrev pub IsValidIfGood : Reading → Type 0
+IsValidIfGood (Good s) = IsValid s
+IsValidIfGood (Bad r) = Unit {0}

@@ -1,0 +1,89 @@
+//! Where an operation works, and what it writes.
+
+ghost use Rattle.std.specs.Prelude.{◌≡◌, length, IfOk};
+ghost use Rattle.busdma_base.specs.Script.{bytes_of, LiesInPage};
+ghost use Rattle.json_fields.specs.Read.{Gives};
+ghost use Rattle.json_fields.specs.Field.{spot_of};
+ghost use Rattle.scenario_read.specs.Bytes as bytes;
+
+use crate::pages::PAGE;
+use busdma_base::{Bytes, Place, Va};
+use json_fields::{Node, RefusalKind, Stop};
+
+/// The place of an operation.
+#[tactic(auto, unfolding(crate::specs::Bytes::target_at))]
+pub(crate) fn target(here: &Node) -> Result<Place, Stop>
+    ensures { Gives result (bytes.target_at (spot_of here.now)) }
+{
+    match here.field("va") {
+        Some(node) => Ok(Place::At(Va(node.number()?))),
+        None => Err(here.refuse(RefusalKind::BadField)),
+    }
+}
+
+/// The length of a load, whose bytes lie in one page.
+#[tactic(auto, unfolding(crate::specs::Bytes::load_length))]
+pub(crate) fn load_length(here: &Node, target: Place) -> Result<u64, Stop>
+    ensures value { Gives result (bytes.load_length target (spot_of here.now)) }
+    ensures in_page { IfOk result (LiesInPage target) }
+{
+    let len = here.number_field("len")?;
+    let Place::At(va) = target;
+    if len > PAGE - va.0 % PAGE {
+        return Err(here.refuse_key(RefusalKind::BadField, "len"));
+    }
+    Ok(len)
+}
+
+#[tactic(auto, unfolding(crate::specs::Bytes::fill_at))]
+fn fill(here: &Node) -> Result<u8, Stop>
+    ensures { Gives result (bytes.fill_at (spot_of here.now)) }
+{
+    let byte = here.number_field("fill")?;
+    if byte > 255 {
+        return Err(here.refuse_key(RefusalKind::BadField, "fill"));
+    }
+    Ok(byte as u8)
+}
+
+/// Bytes by `hex`.
+#[tactic(auto, unfolding(crate::specs::Bytes::listed_at))]
+fn listed(hex: &Node) -> Result<Bytes, Stop>
+    ensures { Gives result (bytes.listed_at (spot_of hex.now)) }
+{
+    Ok(Bytes::Listed(hex.bytes()?))
+}
+
+/// One byte, `len` times.
+#[tactic(auto, unfolding(crate::specs::Bytes::filled_at))]
+fn filled(here: &Node) -> Result<Bytes, Stop>
+    ensures { Gives result (bytes.filled_at (spot_of here.now)) }
+{
+    let byte = fill(here)?;
+    let len = here.number_field("len")?;
+    Ok(Bytes::Filled { byte, len })
+}
+
+/// What an operation writes: `hex`, or `fill` with `len`.
+#[tactic(auto, unfolding(crate::specs::Bytes::written_at))]
+pub(crate) fn written(here: &Node) -> Result<Bytes, Stop>
+    ensures { Gives result (bytes.written_at (spot_of here.now)) }
+{
+    let has_fill = here.field("fill").is_some();
+    let has_len = here.field("len").is_some();
+    match here.field("hex") {
+        Some(hex) if !has_fill && !has_len => listed(&hex),
+        None if has_fill => filled(here),
+        _ => Err(here.refuse(RefusalKind::BadField)),
+    }
+}
+
+/// How many bytes are written.
+pub(crate) fn count_of(bytes: &Bytes) -> u64
+    ensures { result ≡ length (bytes_of bytes.now) }
+{
+    match bytes {
+        Bytes::Listed(bytes) => bytes.len() as u64,
+        Bytes::Filled { len, .. } => *len,
+    }
+}

@@ -1,0 +1,78 @@
+//! What is counted for the limits.
+
+ghost use Rattle.std.specs.Prelude.{◌≡◌, ◌≤◌, OnOk};
+ghost use Rattle.busdma_base.specs.Script.{access_limit};
+ghost use Rattle.json_fields.specs.Place.{place_of};
+ghost use Rattle.json_fields.specs.Read.{Gives};
+ghost use Rattle.scenario_read.specs.Counts.{IsWithin, stepped, having_read, having_loaded, step_judged, access_judged, read_judged, load_judged};
+
+use crate::limits::{ACCESS, BUFFER, LOADED, READS, STEPS};
+use json_fields::{LimitName, Node, RefusalKind, Stop};
+
+/// The steps of the script that is read, and the bytes that all scripts so far read and load.
+#[derive(Clone, Copy, Debug)]
+pub(crate) struct Counts {
+    pub steps: u64,
+    pub read: u64,
+    pub loaded: u64,
+}
+
+impl Counts {
+    /// Counts one more step.
+    pub fn step(&mut self, here: &Node) -> Result<(), Stop>
+        requires { IsWithin self.old }
+        ensures value { Gives result (step_judged self.old (place_of here.now.path)) }
+        ensures counted { OnOk result (self.new ≡ stepped self.old) }
+        ensures within { OnOk result (IsWithin self.new) }
+    {
+        if self.steps >= STEPS {
+            return Err(here.refuse(RefusalKind::Limit(LimitName::Steps)));
+        }
+        self.steps += 1;
+        Ok(())
+    }
+
+    /// Counts the bytes of a read.
+    pub fn read(&mut self, here: &Node, len: u64) -> Result<(), Stop>
+        requires { IsWithin self.old }
+        ensures value { Gives result (read_judged self.old len (place_of here.now.path)) }
+        ensures counted { OnOk result (self.new ≡ having_read self.old len) }
+        ensures within { OnOk result (IsWithin self.new) }
+        ensures access { OnOk result (len ≤ access_limit) }
+    {
+        access(here, len)?;
+        if len > READS - self.read {
+            return Err(here.refuse(RefusalKind::Limit(LimitName::Reads)));
+        }
+        self.read += len;
+        Ok(())
+    }
+
+    /// Counts the bytes of a load.
+    pub fn load(&mut self, here: &Node, len: u64) -> Result<(), Stop>
+        requires { IsWithin self.old }
+        ensures value { Gives result (load_judged self.old len (place_of here.now.path)) }
+        ensures counted { OnOk result (self.new ≡ having_loaded self.old len) }
+        ensures within { OnOk result (IsWithin self.new) }
+    {
+        if len > BUFFER {
+            return Err(here.refuse(RefusalKind::Limit(LimitName::Buffer)));
+        }
+        if len > LOADED - self.loaded {
+            return Err(here.refuse(RefusalKind::Limit(LimitName::Loaded)));
+        }
+        self.loaded += len;
+        Ok(())
+    }
+}
+
+/// An access of `len` bytes keeps its limit.
+pub(crate) fn access(here: &Node, len: u64) -> Result<(), Stop>
+    ensures value { Gives result (access_judged len (place_of here.now.path)) }
+    ensures access { OnOk result (len ≤ access_limit) }
+{
+    if len > ACCESS {
+        return Err(here.refuse(RefusalKind::Limit(LimitName::Access)));
+    }
+    Ok(())
+}

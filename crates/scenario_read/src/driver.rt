@@ -1,0 +1,115 @@
+//! The drivers of a scenario.
+
+ghost use Rattle.std.specs.Prelude.{◌≡◌, ◌≤◌, ◌<◌, [], codes, length, map, IfOk};
+ghost use Rattle.std.specs.List.{AllByRecursion};
+ghost use Rattle.serde_json.specs.View.{view};
+ghost use Rattle.busdma_base.specs.Each.{EachAfter};
+ghost use Rattle.busdma_base.specs.Frames.{IsNumbered};
+ghost use Rattle.busdma_base.specs.Pages.{IsPageRun};
+ghost use Rattle.busdma_base.specs.Script.{IsScript, IsOp};
+ghost use Rattle.busdma_base.specs.Valid.{IsDriver, read_of, loaded_of};
+ghost use Rattle.json_fields.specs.Read.{Gives, GivesSeen};
+ghost use Rattle.json_fields.specs.Field.{spot_of, field};
+ghost use Rattle.json_fields.specs.Items.{each};
+ghost use Rattle.scenario_read.specs.Counts.{IsWithin, counts_of, with_ops};
+ghost use Rattle.scenario_read.specs.Driver as driver;
+ghost use Rattle.scenario_read.specs.Limits.{drivers_limit, reads_limit, loaded_limit};
+
+use crate::counts::Counts;
+use crate::limits::DRIVERS;
+use crate::pages::pages;
+use crate::script::script;
+use busdma_base::{Driver, DriverList, FrameRun, ListOf, OpList, PageRunList};
+use json_fields::{LimitName, Node, RefusalKind, Stop};
+use serde_json::Value;
+
+fn pages_field(here: &Node, frames: &[FrameRun], earlier: &[Driver]) -> Result<PageRunList, Stop>
+    requires { AllByRecursion IsNumbered frames.now }
+    ensures value { Gives result (driver.pages_or_none frames.now earlier.now (field (codes "pages") (spot_of here.now))) }
+    ensures valid { IfOk result (EachAfter (IsPageRun frames.now earlier.now) []) }
+{
+    match here.field("pages") {
+        Some(node) => pages(&node, frames, earlier),
+        None => Ok(ListOf::new(Vec::new(here.alloc))),
+    }
+}
+
+#[tactic(auto, unfolding(crate::specs::Driver::script_field))]
+fn script_field(here: &Node, counts: &mut Counts) -> Result<OpList, Stop>
+    requires within { IsWithin counts.old }
+    ensures value { Gives result (driver.script_field counts.old (spot_of here.now)) }
+    ensures valid { IfOk result (EachAfter IsOp []) }
+    ensures counted { IfOk result (λ v. counts.new ≡ with_ops counts.old v) }
+    ensures within { IfOk result (λ _. IsWithin counts.new) }
+{
+    script(&here.required("script")?, counts)
+}
+
+#[tactic(auto, unfolding(crate::specs::Driver::driver_at))]
+fn driver(
+    here: &Node,
+    frames: &[FrameRun],
+    earlier: &[Driver],
+    counts: &mut Counts,
+) -> Result<Driver, Stop>
+    requires numbered { AllByRecursion IsNumbered frames.now }
+    requires counted { counts.old ≡ counts_of earlier.now }
+    requires within { IsWithin counts.old }
+    ensures value { Gives result (driver.driver_at frames.now earlier.now (spot_of here.now)) }
+    ensures valid { IfOk result (IsDriver frames.now earlier.now) }
+    ensures counted { IfOk result (λ d. counts.new ≡ with_ops counts.old d.script) }
+    ensures within { IfOk result (λ _. IsWithin counts.new) }
+{
+    here.only_keys(&["pages", "script"])?;
+    let pages = pages_field(here, frames, earlier)?;
+    let script = script_field(here, counts)?;
+    Ok(Driver { pages, script })
+}
+
+fn each_driver<'v>(
+    here: &'v Node<'v>,
+    items: &'v [Value],
+    frames: &[FrameRun],
+) -> Result<Vec<Driver>, Stop>
+    requires numbered { AllByRecursion IsNumbered frames.now }
+    ensures value { GivesSeen (λ v. v.items) result (each (driver.driver_at frames.now) (spot_of here.now) [] (map view items.now)) }
+    ensures valid { IfOk result (λ v. EachAfter (IsDriver frames.now) [] v.items) }
+    ensures count { IfOk result (λ v. length v.items ≡ length items.now) }
+    ensures read { IfOk result (λ v. read_of v.items ≤ reads_limit) }
+    ensures loaded { IfOk result (λ v. loaded_of v.items ≤ loaded_limit) }
+{
+    let mut drivers = Vec::new(here.alloc);
+    let mut counts = Counts {
+        steps: 0,
+        read: 0,
+        loaded: 0,
+    };
+    for value in items {
+        counts.steps = 0;
+        let driver = driver(
+            &here.item(drivers.len(), value),
+            frames,
+            &drivers,
+            &mut counts,
+        )?;
+        drivers.push(driver)?;
+    }
+    Ok(drivers)
+}
+
+/// The drivers that stand here.
+#[tactic(auto, unfolding(crate::specs::Driver::drivers_at))]
+pub(crate) fn drivers(here: &Node, frames: &[FrameRun]) -> Result<DriverList, Stop>
+    requires { AllByRecursion IsNumbered frames.now }
+    ensures value { Gives result (driver.drivers_at frames.now (spot_of here.now)) }
+    ensures valid { IfOk result (EachAfter (IsDriver frames.now) []) }
+    ensures count { IfOk result (λ v. length v ≤ drivers_limit) }
+    ensures read { IfOk result (λ v. read_of v ≤ reads_limit) }
+    ensures loaded { IfOk result (λ v. loaded_of v ≤ loaded_limit) }
+{
+    let items = here.items()?;
+    if items.len() > DRIVERS {
+        return Err(here.refuse(RefusalKind::Limit(LimitName::Drivers)));
+    }
+    Ok(ListOf::new(each_driver(here, items, frames)?))
+}

@@ -1,0 +1,114 @@
+//! Sets of flags.
+
+ghost use Rattle.std.specs.Prelude.{◌≡◌, map};
+ghost use Rattle.serde_json.specs.View.{view};
+ghost use Rattle.bitflags.specs.Sets.{find_name};
+ghost use Rattle.busdma_base.specs.TagFlags.{tag_table};
+ghost use Rattle.dma_tag.specs.LoadFlags.{load_table};
+ghost use Rattle.dma_tag.specs.SyncOps.{sync_table};
+ghost use Rattle.json_fields.specs.Read.{Gives};
+ghost use Rattle.json_fields.specs.Field.{spot_of};
+ghost use Rattle.scenario_read.specs.Flags as flags;
+
+use bitflags::Flags;
+use dma_tag::{LoadFlags, SyncOps, TagFlags};
+use json_fields::{Node, RefusalKind, Stop};
+use serde_json::Value;
+
+/// Whose flags they are.
+#[derive(Clone, Copy, Debug)]
+pub(crate) enum FlagSet {
+    Tag,
+    Load,
+    Sync,
+}
+
+fn tag_bits(word: &str) -> Option<u32>
+    ensures { result ≡ find_name tag_table word.now }
+{
+    match TagFlags::from_name(word) {
+        Some(flag) => Some(flag.0),
+        None => None,
+    }
+}
+
+fn load_bits(word: &str) -> Option<u32>
+    ensures { result ≡ find_name load_table word.now }
+{
+    match LoadFlags::from_name(word) {
+        Some(flag) => Some(flag.0),
+        None => None,
+    }
+}
+
+fn sync_bits(word: &str) -> Option<u32>
+    ensures { result ≡ find_name sync_table word.now }
+{
+    match SyncOps::from_name(word) {
+        Some(flag) => Some(flag.0),
+        None => None,
+    }
+}
+
+/// The bits of a word. WAITOK adds none to the flags of a tag or a load.
+fn word_bits(set: FlagSet, word: &str) -> Option<u32>
+    ensures { result ≡ flags.word_bits set word.now }
+{
+    match set {
+        FlagSet::Tag if word == "WAITOK" => Some(0),
+        FlagSet::Tag => tag_bits(word),
+        FlagSet::Load if word == "WAITOK" => Some(0),
+        FlagSet::Load => load_bits(word),
+        FlagSet::Sync => sync_bits(word),
+    }
+}
+
+#[tactic(auto, unfolding(crate::specs::Flags::flag_at))]
+fn flag(here: &Node, set: FlagSet) -> Result<u32, Stop>
+    ensures { Gives result (flags.flag_at set (spot_of here.now)) }
+{
+    match word_bits(set, here.text()?) {
+        Some(bits) => Ok(bits),
+        None => Err(here.refuse(RefusalKind::BadFlag)),
+    }
+}
+
+fn union<'v>(here: &'v Node<'v>, set: FlagSet, items: &'v [Value]) -> Result<u32, Stop>
+    ensures { Gives result (flags.flags_from set (spot_of here.now) 0 0 (map view items.now)) }
+{
+    let mut bits = 0;
+    let mut place = 0;
+    for value in items {
+        bits |= flag(&here.item(place, value), set)?;
+        place += 1;
+    }
+    Ok(bits)
+}
+
+/// The bits of all words of a list.
+#[tactic(auto, unfolding(crate::specs::Flags::flags_at))]
+fn flags_here(here: &Node, set: FlagSet) -> Result<u32, Stop>
+    ensures { Gives result (flags.flags_at set (spot_of here.now)) }
+{
+    let items = here.items()?;
+    union(here, set, items)
+}
+
+/// The flags of a tag or a load.
+#[tactic(auto, unfolding(crate::specs::Flags::flags_field))]
+pub(crate) fn flags_field(here: &Node, set: FlagSet) -> Result<u32, Stop>
+    ensures { Gives result (flags.flags_field set (spot_of here.now)) }
+{
+    match here.field("flags") {
+        Some(node) => flags_here(&node, set),
+        None => Ok(0),
+    }
+}
+
+/// The operations of a sync.
+#[tactic(auto, unfolding(crate::specs::Flags::ops_field))]
+pub(crate) fn ops_field(here: &Node) -> Result<u32, Stop>
+    ensures { Gives result (flags.ops_field (spot_of here.now)) }
+{
+    flags_here(&here.required("ops")?, FlagSet::Sync)
+}

@@ -1,0 +1,164 @@
+//! The items of a load.
+
+ghost use Rattle.std.specs.Prelude.{◌≡◌, ◌≤◌, [], length, map, IfOk};
+ghost use Rattle.std.specs.List.{AllByRecursion};
+ghost use Rattle.serde_json.specs.View.{view};
+ghost use Rattle.busdma_base.specs.Script.{IsItem, read_by_item};
+ghost use Rattle.json_fields.specs.Read.{Gives, GivesSeen};
+ghost use Rattle.json_fields.specs.Field.{spot_of};
+ghost use Rattle.json_fields.specs.Items.{each};
+ghost use Rattle.scenario_read.specs.Counts.{IsWithin, with_items, having_read, stepped};
+ghost use Rattle.scenario_read.specs.Items.{sync_item_at, sync_range_item_at, dev_read_at, dev_write_at, item_by, item_at, then_at, then_field};
+ghost use Rattle.scenario_read.specs.Limits.{steps_limit};
+
+use crate::bytes::{count_of, written};
+use crate::counts::{Counts, access};
+use crate::flags::ops_field;
+use crate::names::{Made, used_name};
+use crate::words::{ItemWord, item_word};
+use busdma_base::{Item, ItemList, ListOf, Op};
+use json_fields::{Node, Stop};
+use serde_json::Value;
+
+#[tactic(auto, unfolding(crate::specs::Items::sync_item_at))]
+fn sync(here: &Node, before: &[Op]) -> Result<Item, Stop>
+    requires { length before.now ≤ steps_limit }
+    ensures value { Gives result (sync_item_at before.now (spot_of here.now)) }
+    ensures valid { IfOk result (IsItem before.now) }
+    ensures reads_nothing { IfOk result (λ i. read_by_item i ≡ 0) }
+{
+    here.only_keys(&["op", "map", "ops"])?;
+    let map = used_name(here, Made::Map, "map", before)?;
+    let ops = ops_field(here)?;
+    Ok(Item::Sync { map, ops })
+}
+
+#[tactic(auto, unfolding(crate::specs::Items::sync_range_item_at))]
+fn sync_range(here: &Node, before: &[Op]) -> Result<Item, Stop>
+    requires { length before.now ≤ steps_limit }
+    ensures value { Gives result (sync_range_item_at before.now (spot_of here.now)) }
+    ensures valid { IfOk result (IsItem before.now) }
+    ensures reads_nothing { IfOk result (λ i. read_by_item i ≡ 0) }
+{
+    here.only_keys(&["op", "map", "off", "len", "ops"])?;
+    let map = used_name(here, Made::Map, "map", before)?;
+    let off = here.number_field("off")?;
+    let len = here.number_field("len")?;
+    let ops = ops_field(here)?;
+    Ok(Item::SyncRange { map, off, len, ops })
+}
+
+#[tactic(auto, unfolding(crate::specs::Items::dev_read_at))]
+fn dev_read(here: &Node, before: &[Op], counts: &mut Counts) -> Result<Item, Stop>
+    requires few { length before.now ≤ steps_limit }
+    requires within { IsWithin counts.old }
+    ensures value { Gives result (dev_read_at before.now counts.old (spot_of here.now)) }
+    ensures valid { IfOk result (IsItem before.now) }
+    ensures counted { IfOk result (λ i. counts.new ≡ having_read counts.old (read_by_item i)) }
+    ensures within { IfOk result (λ _. IsWithin counts.new) }
+{
+    here.only_keys(&["op", "map", "off", "len"])?;
+    let map = used_name(here, Made::Map, "map", before)?;
+    let off = here.number_field("off")?;
+    let len = here.number_field("len")?;
+    counts.read(here, len)?;
+    Ok(Item::DevRead { map, off, len })
+}
+
+#[tactic(auto, unfolding(crate::specs::Items::dev_write_at))]
+fn dev_write(here: &Node, before: &[Op]) -> Result<Item, Stop>
+    requires { length before.now ≤ steps_limit }
+    ensures value { Gives result (dev_write_at before.now (spot_of here.now)) }
+    ensures valid { IfOk result (IsItem before.now) }
+    ensures reads_nothing { IfOk result (λ i. read_by_item i ≡ 0) }
+{
+    here.only_keys(&["op", "map", "off", "hex", "fill", "len"])?;
+    let map = used_name(here, Made::Map, "map", before)?;
+    let off = here.number_field("off")?;
+    let bytes = written(here)?;
+    access(here, count_of(&bytes))?;
+    Ok(Item::DevWrite { map, off, bytes })
+}
+
+/// The item of a word, whose own step is counted.
+fn item_by(word: ItemWord, here: &Node, before: &[Op], counts: &mut Counts) -> Result<Item, Stop>
+    requires few { length before.now ≤ steps_limit }
+    requires within { IsWithin counts.old }
+    ensures value { Gives result (item_by word before.now counts.old (spot_of here.now)) }
+    ensures valid { IfOk result (IsItem before.now) }
+    ensures counted { IfOk result (λ i. counts.new ≡ having_read counts.old (read_by_item i)) }
+    ensures within { IfOk result (λ _. IsWithin counts.new) }
+{
+    match word {
+        ItemWord::Sync => sync(here, before),
+        ItemWord::SyncRange => sync_range(here, before),
+        ItemWord::DevRead => dev_read(here, before, counts),
+        ItemWord::DevWrite => dev_write(here, before),
+    }
+}
+
+#[tactic(auto, unfolding(crate::specs::Items::item_at))]
+fn item(here: &Node, before: &[Op], counts: &mut Counts) -> Result<Item, Stop>
+    requires few { length before.now ≤ steps_limit }
+    requires within { IsWithin counts.old }
+    ensures value { Gives result (item_at before.now counts.old (spot_of here.now)) }
+    ensures valid { IfOk result (IsItem before.now) }
+    ensures counted { IfOk result (λ i. counts.new ≡ having_read (stepped counts.old) (read_by_item i)) }
+    ensures within { IfOk result (λ _. IsWithin counts.new) }
+{
+    here.members()?;
+    counts.step(here)?;
+    let word = item_word(here)?;
+    item_by(word, here, before, counts)
+}
+
+fn each_item<'v>(
+    here: &'v Node<'v>,
+    items: &'v [Value],
+    before: &[Op],
+    counts: &mut Counts,
+) -> Result<Vec<Item>, Stop>
+    requires few { length before.now ≤ steps_limit }
+    requires within { IsWithin counts.old }
+    ensures value { GivesSeen (λ v. v.items) result
+        (each (λ done. item_at before.now (with_items counts.old done)) (spot_of here.now) [] (map view items.now)) }
+    ensures valid { IfOk result (λ v. AllByRecursion (IsItem before.now) v.items) }
+    ensures counted { IfOk result (λ v. counts.new ≡ with_items counts.old v.items) }
+    ensures within { IfOk result (λ _. IsWithin counts.new) }
+{
+    let mut done = Vec::new(here.alloc);
+    for value in items {
+        let item = item(&here.item(done.len(), value), before, counts)?;
+        done.push(item)?;
+    }
+    Ok(done)
+}
+
+#[tactic(auto, unfolding(crate::specs::Items::then_at))]
+fn then(here: &Node, before: &[Op], counts: &mut Counts) -> Result<ItemList, Stop>
+    requires few { length before.now ≤ steps_limit }
+    requires within { IsWithin counts.old }
+    ensures value { Gives result (then_at before.now counts.old (spot_of here.now)) }
+    ensures valid { IfOk result (AllByRecursion (IsItem before.now)) }
+    ensures counted { IfOk result (λ v. counts.new ≡ with_items counts.old v) }
+    ensures within { IfOk result (λ _. IsWithin counts.new) }
+{
+    let items = here.items()?;
+    Ok(ListOf::new(each_item(here, items, before, counts)?))
+}
+
+/// The items of a load.
+#[tactic(auto, unfolding(crate::specs::Items::then_field))]
+pub(crate) fn then_field(here: &Node, before: &[Op], counts: &mut Counts) -> Result<ItemList, Stop>
+    requires few { length before.now ≤ steps_limit }
+    requires within { IsWithin counts.old }
+    ensures value { Gives result (then_field before.now counts.old (spot_of here.now)) }
+    ensures valid { IfOk result (AllByRecursion (IsItem before.now)) }
+    ensures counted { IfOk result (λ v. counts.new ≡ with_items counts.old v) }
+    ensures within { IfOk result (λ _. IsWithin counts.new) }
+{
+    match here.field("then") {
+        Some(node) => then(&node, before, counts),
+        None => Ok(ListOf::new(Vec::new(here.alloc))),
+    }
+}

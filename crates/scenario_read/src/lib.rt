@@ -1,0 +1,23 @@
+//! From the bytes of a JSON text to a valid scenario, or to the first refusal.
+#![tactic(auto)]
+
+mod bytes;
+mod counts;
+mod driver;
+mod flags;
+mod frames;
+mod items;
+mod limits;
+mod load;
+mod names;
+mod ops;
+mod order;
+mod pages;
+mod reading;
+mod scenario;
+mod script;
+mod words;
+
+pub use json_fields::{LimitName, PathText, Refusal, RefusalKind};
+pub use reading::Reading;
+pub use scenario::scenario_of;

@@ -1,0 +1,171 @@
+//! The operations of a script.
+
+ghost use Rattle.std.specs.Prelude.{◌≡◌, ◌≤◌, length, IfOk};
+ghost use Rattle.busdma_base.specs.Script.{IsOp, IsPlain};
+ghost use Rattle.json_fields.specs.Read.{Gives};
+ghost use Rattle.json_fields.specs.Field.{spot_of};
+ghost use Rattle.scenario_read.specs.Counts.{IsWithin, IsQuiet, with_op};
+ghost use Rattle.scenario_read.specs.Ops as ops;
+ghost use Rattle.scenario_read.specs.Limits.{steps_limit};
+
+use crate::bytes::{count_of, target, written};
+use crate::counts::{Counts, access};
+use crate::flags::{FlagSet, flags_field, ops_field};
+use crate::names::{Made, new_name, parent, used_name};
+use busdma_base::{Op, Pa, TagLimits};
+use json_fields::{Node, Stop};
+
+#[tactic(auto, unfolding(crate::specs::Ops::limits_at))]
+fn limits(here: &Node) -> Result<TagLimits, Stop>
+    ensures value { Gives result (ops.limits_at (spot_of here.now)) }
+    ensures plain { IfOk result IsPlain }
+{
+    let highaddr = here.number_or("highaddr", u64::MAX)?;
+    let maxsize = here.number_or("maxsize", u64::from(u32::MAX))?;
+    let flags = flags_field(here, FlagSet::Tag)?;
+    Ok(TagLimits {
+        alignment: 1,
+        boundary: 0,
+        lowaddr: Pa(u64::MAX),
+        highaddr: Pa(highaddr),
+        maxsize,
+        nsegments: 65536,
+        maxsegsz: u64::from(u32::MAX),
+        flags,
+    })
+}
+
+#[tactic(auto, unfolding(crate::specs::Ops::tag_at))]
+pub(crate) fn tag(here: &Node, before: &[Op]) -> Result<Op, Stop>
+    requires { length before.now ≤ steps_limit }
+    ensures value { Gives result (ops.tag_at before.now (spot_of here.now)) }
+    ensures valid { IfOk result (IsOp before.now) }
+    ensures quiet { IfOk result IsQuiet }
+{
+    here.only_keys(&["op", "name", "parent", "highaddr", "maxsize", "flags"])?;
+    let name = new_name(here, "name", before)?;
+    let parent = parent(here, before)?;
+    let limits = limits(here)?;
+    Ok(Op::Tag {
+        name,
+        parent,
+        limits,
+    })
+}
+
+#[tactic(auto, unfolding(crate::specs::Ops::tag_destroy_at))]
+pub(crate) fn tag_destroy(here: &Node, before: &[Op]) -> Result<Op, Stop>
+    requires { length before.now ≤ steps_limit }
+    ensures value { Gives result (ops.tag_destroy_at before.now (spot_of here.now)) }
+    ensures valid { IfOk result (IsOp before.now) }
+    ensures quiet { IfOk result IsQuiet }
+{
+    here.only_keys(&["op", "tag"])?;
+    let tag = used_name(here, Made::Tag, "tag", before)?;
+    Ok(Op::TagDestroy { tag })
+}
+
+#[tactic(auto, unfolding(crate::specs::Ops::map_at))]
+pub(crate) fn map(here: &Node, before: &[Op]) -> Result<Op, Stop>
+    requires { length before.now ≤ steps_limit }
+    ensures value { Gives result (ops.map_at before.now (spot_of here.now)) }
+    ensures valid { IfOk result (IsOp before.now) }
+    ensures quiet { IfOk result IsQuiet }
+{
+    here.only_keys(&["op", "name", "tag"])?;
+    let name = new_name(here, "name", before)?;
+    let tag = used_name(here, Made::Tag, "tag", before)?;
+    Ok(Op::Map { name, tag })
+}
+
+#[tactic(auto, unfolding(crate::specs::Ops::map_destroy_at))]
+pub(crate) fn map_destroy(here: &Node, before: &[Op]) -> Result<Op, Stop>
+    requires { length before.now ≤ steps_limit }
+    ensures value { Gives result (ops.map_destroy_at before.now (spot_of here.now)) }
+    ensures valid { IfOk result (IsOp before.now) }
+    ensures quiet { IfOk result IsQuiet }
+{
+    here.only_keys(&["op", "map"])?;
+    let map = used_name(here, Made::Map, "map", before)?;
+    Ok(Op::MapDestroy { map })
+}
+
+#[tactic(auto, unfolding(crate::specs::Ops::unload_at))]
+pub(crate) fn unload(here: &Node, before: &[Op]) -> Result<Op, Stop>
+    requires { length before.now ≤ steps_limit }
+    ensures value { Gives result (ops.unload_at before.now (spot_of here.now)) }
+    ensures valid { IfOk result (IsOp before.now) }
+    ensures quiet { IfOk result IsQuiet }
+{
+    here.only_keys(&["op", "map"])?;
+    let map = used_name(here, Made::Map, "map", before)?;
+    Ok(Op::Unload { map })
+}
+
+#[tactic(auto, unfolding(crate::specs::Ops::sync_at))]
+pub(crate) fn sync(here: &Node, before: &[Op]) -> Result<Op, Stop>
+    requires { length before.now ≤ steps_limit }
+    ensures value { Gives result (ops.sync_at before.now (spot_of here.now)) }
+    ensures valid { IfOk result (IsOp before.now) }
+    ensures quiet { IfOk result IsQuiet }
+{
+    here.only_keys(&["op", "map", "ops"])?;
+    let map = used_name(here, Made::Map, "map", before)?;
+    let ops = ops_field(here)?;
+    Ok(Op::Sync { map, ops })
+}
+
+#[tactic(auto, unfolding(crate::specs::Ops::sync_range_at))]
+pub(crate) fn sync_range(here: &Node, before: &[Op]) -> Result<Op, Stop>
+    requires { length before.now ≤ steps_limit }
+    ensures value { Gives result (ops.sync_range_at before.now (spot_of here.now)) }
+    ensures valid { IfOk result (IsOp before.now) }
+    ensures quiet { IfOk result IsQuiet }
+{
+    here.only_keys(&["op", "map", "off", "len", "ops"])?;
+    let map = used_name(here, Made::Map, "map", before)?;
+    let off = here.number_field("off")?;
+    let len = here.number_field("len")?;
+    let ops = ops_field(here)?;
+    Ok(Op::SyncRange { map, off, len, ops })
+}
+
+#[tactic(auto, unfolding(crate::specs::Ops::cpu_read_at))]
+pub(crate) fn cpu_read(here: &Node, before: &[Op], counts: &mut Counts) -> Result<Op, Stop>
+    requires { IsWithin counts.old }
+    ensures value { Gives result (ops.cpu_read_at counts.old (spot_of here.now)) }
+    ensures valid { IfOk result (IsOp before.now) }
+    ensures counted { IfOk result (λ o. counts.new ≡ with_op counts.old o) }
+    ensures within { IfOk result (λ _. IsWithin counts.new) }
+{
+    here.only_keys(&["op", "va", "len"])?;
+    let place = target(here)?;
+    let len = here.number_field("len")?;
+    counts.read(here, len)?;
+    Ok(Op::CpuRead { place, len })
+}
+
+#[tactic(auto, unfolding(crate::specs::Ops::cpu_write_at))]
+pub(crate) fn cpu_write(here: &Node, before: &[Op]) -> Result<Op, Stop>
+    ensures value { Gives result (ops.cpu_write_at (spot_of here.now)) }
+    ensures valid { IfOk result (IsOp before.now) }
+    ensures quiet { IfOk result IsQuiet }
+{
+    here.only_keys(&["op", "va", "hex", "fill", "len"])?;
+    let place = target(here)?;
+    let bytes = written(here)?;
+    access(here, count_of(&bytes))?;
+    Ok(Op::CpuWrite { place, bytes })
+}
+
+#[tactic(auto, unfolding(crate::specs::Ops::await_at))]
+pub(crate) fn await_op(here: &Node, before: &[Op]) -> Result<Op, Stop>
+    requires { length before.now ≤ steps_limit }
+    ensures value { Gives result (ops.await_at before.now (spot_of here.now)) }
+    ensures valid { IfOk result (IsOp before.now) }
+    ensures quiet { IfOk result IsQuiet }
+{
+    here.only_keys(&["op", "map"])?;
+    let map = used_name(here, Made::Map, "map", before)?;
+    Ok(Op::Await { map })
+}

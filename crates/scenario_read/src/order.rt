@@ -1,0 +1,127 @@
+//! The order of the actors' steps.
+
+ghost use Rattle.std.specs.Prelude.{◌≡◌, ◌≤◌, ◌<◌, ◌^◌, [], map, length, IfOk, IfSome};
+ghost use Rattle.std.specs.List.{AllByRecursion};
+ghost use Rattle.serde_json.specs.View.{view};
+ghost use Rattle.json_fields.specs.Read.{Gives, GivesSeen};
+ghost use Rattle.json_fields.specs.Field.{spot_of};
+ghost use Rattle.json_fields.specs.Items.{each};
+ghost use Rattle.scenario_read.specs.Order as order;
+ghost use Rattle.scenario_read.specs.Limits.{order_limit};
+
+use crate::limits::ORDER;
+use busdma_base::{Actor, ActorList, LaneId, ListOf, Side};
+use json_fields::{LimitName, Node, RefusalKind, Stop};
+use serde_json::Value;
+
+fn side_of(letter: u8) -> Option<Side>
+    ensures { result ≡ order.side_of letter }
+{
+    match letter {
+        b's' => Some(Side::Script),
+        b'd' => Some(Side::Transfer),
+        b'c' => Some(Side::Callback),
+        _ => None,
+    }
+}
+
+fn digit(b: u8) -> Option<u8>
+    ensures value { result ≡ order.digit b }
+    ensures below { IfSome result (λ d. d < 10) }
+{
+    match b {
+        b'0'..=b'9' => Some(b - b'0'),
+        _ => None,
+    }
+}
+
+fn digits(bytes: &[u8]) -> Option<u32>
+    requires { length bytes.now ≤ 9 }
+    ensures { result ≡ order.number_after 0 bytes.now }
+{
+    let mut number = 0;
+    for b in bytes {
+        number = 10 * number + u32::from(digit(*b)?);
+    }
+    Some(number)
+}
+
+fn decimal_number(bytes: &[u8]) -> Option<u32>
+    ensures { result ≡ order.decimal_number bytes.now }
+{
+    if bytes.is_empty() || bytes.len() > 9 || (bytes.len() > 1 && bytes[0] == b'0') {
+        return None;
+    }
+    digits(bytes)
+}
+
+/// A driver, of so many.
+fn lane_of(drivers: u32, bytes: &[u8]) -> Option<u32>
+    ensures { result ≡ order.lane_of drivers bytes.now }
+{
+    let lane = decimal_number(bytes)?;
+    if lane < drivers { Some(lane) } else { None }
+}
+
+/// A side and the number of a driver.
+fn actor_of(drivers: u32, text: &[u8]) -> Option<Actor>
+    ensures value { result ≡ order.actor_of drivers text.now }
+    ensures there { IfSome result (λ a. a.lane.0 < drivers) }
+{
+    let [letter, number @ ..] = text else {
+        return None;
+    };
+    let side = side_of(*letter)?;
+    let lane = LaneId(lane_of(drivers, number)?);
+    Some(Actor { lane, side })
+}
+
+#[tactic(auto, unfolding(crate::specs::Order::actor_at))]
+fn actor(here: &Node, drivers: u32) -> Result<Actor, Stop>
+    ensures value { Gives result (order.actor_at drivers (spot_of here.now)) }
+    ensures there { IfOk result (λ a. a.lane.0 < drivers) }
+{
+    match actor_of(drivers, here.text()?.as_bytes()) {
+        Some(actor) => Ok(actor),
+        None => Err(here.refuse(RefusalKind::BadField)),
+    }
+}
+
+fn actors<'v>(here: &'v Node<'v>, items: &'v [Value], drivers: u32) -> Result<Vec<Actor>, Stop>
+    ensures value { GivesSeen (λ v. v.items) result (each (λ _. order.actor_at drivers) (spot_of here.now) [] (map view items.now)) }
+    ensures count { IfOk result (λ v. length v.items ≡ length items.now) }
+    ensures there { IfOk result (λ v. AllByRecursion (λ a. a.lane.0 < drivers) v.items) }
+{
+    let mut actors = Vec::new(here.alloc);
+    for value in items {
+        let actor = actor(&here.item(actors.len(), value), drivers)?;
+        actors.push(actor)?;
+    }
+    Ok(actors)
+}
+
+#[tactic(auto, unfolding(crate::specs::Order::order_at))]
+fn order(here: &Node, drivers: u32) -> Result<ActorList, Stop>
+    ensures value { Gives result (order.order_at drivers (spot_of here.now)) }
+    ensures count { IfOk result (λ v. length v ≤ order_limit) }
+    ensures there { IfOk result (AllByRecursion (λ a. a.lane.0 < drivers)) }
+{
+    let items = here.items()?;
+    if items.len() > ORDER {
+        return Err(here.refuse(RefusalKind::Limit(LimitName::Order)));
+    }
+    Ok(ListOf::new(actors(here, items, drivers)?))
+}
+
+/// The order of a scenario of so many drivers.
+#[tactic(auto, unfolding(crate::specs::Order::order_field))]
+pub(crate) fn order_field(here: &Node, drivers: u32) -> Result<ActorList, Stop>
+    ensures value { Gives result (order.order_field drivers (spot_of here.now)) }
+    ensures count { IfOk result (λ v. length v ≤ order_limit) }
+    ensures there { IfOk result (AllByRecursion (λ a. a.lane.0 < drivers)) }
+{
+    match here.field("order") {
+        Some(node) => order(&node, drivers),
+        None => Ok(ListOf::new(Vec::new(here.alloc))),
+    }
+}

@@ -1,0 +1,176 @@
+//! The pages of a driver.
+
+ghost use Rattle.std.specs.Prelude.{◌≡◌, ℕ, [], map, true, false, IfSome, IfNone, IfOk};
+ghost use Rattle.std.specs.List.{list_any, AllByRecursion};
+ghost use Rattle.serde_json.specs.View.{view};
+ghost use Rattle.busdma_base.specs.Each.{EachAfter};
+ghost use Rattle.busdma_base.specs.Frames.{IsNumbered, is_in as lies_in};
+ghost use Rattle.busdma_base.specs.Pages as base;
+ghost use Rattle.json_fields.specs.Place.{place_of};
+ghost use Rattle.json_fields.specs.Read.{Gives, GivesSeen};
+ghost use Rattle.json_fields.specs.Field.{spot_of};
+ghost use Rattle.json_fields.specs.Items.{each};
+ghost use Rattle.scenario_read.specs.Pages.{IsOnPages, page_values_at, page_run_judged, page_run_at, pages_at};
+
+use crate::frames::is_in;
+use busdma_base::{Driver, FrameRun, ListOf, PageRun, PageRunList, Va};
+use json_fields::{Node, RefusalKind, Stop};
+use serde_json::Value;
+
+/// The bytes of a page.
+pub(crate) const PAGE: u64 = 4096;
+
+/// Where the virtual addresses of pages end.
+const PAGES_END: u64 = 0xfffff80000000000;
+
+#[tactic(auto, unfolding(crate::specs::Pages::page_values_at))]
+fn page_values(here: &Node) -> Result<PageRun, Stop>
+    ensures value { Gives result (page_values_at (spot_of here.now)) }
+    ensures on_pages { IfOk result IsOnPages }
+{
+    let [va, frame, count] = here.items()? else {
+        return Err(here.refuse(RefusalKind::BadField));
+    };
+    let va = here.at(va).number()?;
+    let frame = here.at(frame).number()?;
+    let count = here.at(count).number()?;
+    if count < 1 || va % PAGE != 0 || va > PAGES_END || count > (PAGES_END - va) / PAGE {
+        return Err(here.refuse(RefusalKind::BadField));
+    }
+    let va = Va(va);
+    Ok(PageRun { va, frame, count })
+}
+
+/// The run of the machine's frames that has a frame.
+fn run_with(frames: &[FrameRun], frame: u64) -> Option<FrameRun>
+    requires { AllByRecursion IsNumbered frames.now }
+    ensures found { IfSome result (λ r. (lies_in frame r ≡ true) × IsNumbered r
+        × ((x : ℕ) → lies_in x r ≡ true → list_any (lies_in x) frames.now ≡ true)) }
+    ensures none { IfNone result (list_any (lies_in frame) frames.now ≡ false) }
+{
+    for run in frames {
+        if is_in(frame, run) {
+            return Some(*run);
+        }
+    }
+    None
+}
+
+/// The machine has these frames.
+fn all_in(frames: &[FrameRun], first: u64, count: u64) -> bool
+    requires { AllByRecursion IsNumbered frames.now }
+    ensures { result ≡ base.all_in frames.now first count }
+{
+    let mut next = first;
+    let mut left = count;
+    while left > 0 {
+        let Some(run) = run_with(frames, next) else {
+            return false;
+        };
+        let step = left.min(run.count - (next - run.first));
+        next += step;
+        left -= step;
+    }
+    true
+}
+
+/// The `m` numbers from `a` on and the `n` numbers from `b` on have one in common.
+fn meet(a: u64, m: u64, b: u64, n: u64) -> bool
+    ensures { result ≡ base.meet a m b n }
+{
+    (b <= a && a - b < n) || (a <= b && b - a < m)
+}
+
+fn shares_frame(run: &PageRun, before: &[PageRun]) -> bool
+    ensures { result ≡ list_any (base.share_frame run.now) before.now }
+{
+    before.iter().any(|other| meet(run.frame, run.count, other.frame, other.count))
+}
+
+fn shares_page(run: &PageRun, before: &[PageRun]) -> bool
+    ensures { result ≡ list_any (base.share_page run.now) before.now }
+{
+    before.iter().any(|other| meet(run.va.0 / PAGE, run.count, other.va.0 / PAGE, other.count))
+}
+
+fn is_taken(run: &PageRun, earlier: &[Driver]) -> bool
+    ensures { result ≡ base.is_taken run.now earlier.now }
+{
+    earlier
+        .iter()
+        .any(|driver| shares_frame(run, driver.pages.as_slice()))
+}
+
+/// The run, where the machine has its frames, and nothing before it has one of them or one of its
+/// virtual pages.
+fn judge(
+    here: &Node,
+    frames: &[FrameRun],
+    earlier: &[Driver],
+    before: &[PageRun],
+    run: PageRun,
+) -> Result<PageRun, Stop>
+    requires numbered { AllByRecursion IsNumbered frames.now }
+    requires on_pages { IsOnPages run }
+    ensures value { Gives result (page_run_judged frames.now earlier.now before.now (place_of here.now.path) run) }
+    ensures valid { IfOk result (base.IsPageRun frames.now earlier.now before.now) }
+{
+    if !all_in(frames, run.frame, run.count) {
+        return Err(here.refuse(RefusalKind::FrameAbsent));
+    }
+    if is_taken(&run, earlier) || shares_frame(&run, before) {
+        return Err(here.refuse(RefusalKind::FrameTwice));
+    }
+    if shares_page(&run, before) {
+        return Err(here.refuse(RefusalKind::BadField));
+    }
+    Ok(run)
+}
+
+#[tactic(auto, unfolding(crate::specs::Pages::page_run_at))]
+fn page_run(
+    here: &Node,
+    frames: &[FrameRun],
+    earlier: &[Driver],
+    before: &[PageRun],
+) -> Result<PageRun, Stop>
+    requires { AllByRecursion IsNumbered frames.now }
+    ensures value { Gives result (page_run_at frames.now earlier.now before.now (spot_of here.now)) }
+    ensures valid { IfOk result (base.IsPageRun frames.now earlier.now before.now) }
+{
+    let run = page_values(here)?;
+    judge(here, frames, earlier, before, run)
+}
+
+/// A driver's pages.
+#[tactic(auto, unfolding(crate::specs::Pages::pages_at))]
+pub(crate) fn pages(
+    here: &Node,
+    frames: &[FrameRun],
+    earlier: &[Driver],
+) -> Result<PageRunList, Stop>
+    requires { AllByRecursion IsNumbered frames.now }
+    ensures value { Gives result (pages_at frames.now earlier.now (spot_of here.now)) }
+    ensures valid { IfOk result (EachAfter (base.IsPageRun frames.now earlier.now) []) }
+{
+    let items = here.items()?;
+    Ok(ListOf::new(runs(here, items, frames, earlier)?))
+}
+
+fn runs<'v>(
+    here: &'v Node<'v>,
+    items: &'v [Value],
+    frames: &[FrameRun],
+    earlier: &[Driver],
+) -> Result<Vec<PageRun>, Stop>
+    requires { AllByRecursion IsNumbered frames.now }
+    ensures value { GivesSeen (λ v. v.items) result (each (page_run_at frames.now earlier.now) (spot_of here.now) [] (map view items.now)) }
+    ensures valid { IfOk result (λ v. EachAfter (base.IsPageRun frames.now earlier.now) [] v.items) }
+{
+    let mut runs = Vec::new(here.alloc);
+    for value in items {
+        let run = page_run(&here.item(runs.len(), value), frames, earlier, &runs)?;
+        runs.push(run)?;
+    }
+    Ok(runs)
+}

@@ -1,0 +1,89 @@
+//! A script: its operations, one after another.
+
+ghost use Rattle.std.specs.Prelude.{◌≡◌, ◌≤◌, ◌+◌, [], length, map, IfOk};
+ghost use Rattle.serde_json.specs.View.{view};
+ghost use Rattle.busdma_base.specs.Each.{EachAfter};
+ghost use Rattle.busdma_base.specs.Script.{IsOp};
+ghost use Rattle.json_fields.specs.Read.{Gives, GivesSeen};
+ghost use Rattle.json_fields.specs.Field.{spot_of};
+ghost use Rattle.json_fields.specs.Items.{each};
+ghost use Rattle.scenario_read.specs.Counts.{IsWithin, with_op, with_ops, stepped};
+ghost use Rattle.scenario_read.specs.Script.{op_by, op_at, script_at};
+ghost use Rattle.scenario_read.specs.Limits.{steps_limit};
+
+use crate::counts::Counts;
+use crate::load::load;
+use crate::ops;
+use crate::words::{OpWord, op_word};
+use busdma_base::{ListOf, Op, OpList};
+use json_fields::{Node, Stop};
+use serde_json::Value;
+
+/// The operation of a word, whose own step is counted.
+#[tactic(auto, using(crate::proofs::Counting::with_op_quiet))]
+fn op_by(word: OpWord, here: &Node, before: &[Op], counts: &mut Counts) -> Result<Op, Stop>
+    requires few { length before.now ≤ steps_limit }
+    requires within { IsWithin counts.old }
+    ensures value { Gives result (op_by word before.now counts.old (spot_of here.now)) }
+    ensures valid { IfOk result (IsOp before.now) }
+    ensures counted { IfOk result (λ o. counts.new ≡ with_op counts.old o) }
+    ensures within { IfOk result (λ _. IsWithin counts.new) }
+{
+    match word {
+        OpWord::Tag => ops::tag(here, before),
+        OpWord::TagDestroy => ops::tag_destroy(here, before),
+        OpWord::Map => ops::map(here, before),
+        OpWord::MapDestroy => ops::map_destroy(here, before),
+        OpWord::Load => load(here, before, counts),
+        OpWord::Unload => ops::unload(here, before),
+        OpWord::Sync => ops::sync(here, before),
+        OpWord::SyncRange => ops::sync_range(here, before),
+        OpWord::CpuRead => ops::cpu_read(here, before, counts),
+        OpWord::CpuWrite => ops::cpu_write(here, before),
+        OpWord::Await => ops::await_op(here, before),
+    }
+}
+
+#[tactic(auto, unfolding(crate::specs::Script::op_at))]
+fn op(here: &Node, before: &[Op], counts: &mut Counts) -> Result<Op, Stop>
+    requires few { length before.now ≤ steps_limit }
+    requires within { IsWithin counts.old }
+    ensures value { Gives result (op_at before.now counts.old (spot_of here.now)) }
+    ensures valid { IfOk result (IsOp before.now) }
+    ensures counted { IfOk result (λ o. counts.new ≡ with_op (stepped counts.old) o) }
+    ensures within { IfOk result (λ _. IsWithin counts.new) }
+{
+    here.members()?;
+    counts.step(here)?;
+    let word = op_word(here)?;
+    op_by(word, here, before, counts)
+}
+
+fn each_op<'v>(here: &'v Node<'v>, items: &'v [Value], counts: &mut Counts) -> Result<Vec<Op>, Stop>
+    requires within { IsWithin counts.old }
+    ensures value { GivesSeen (λ v. v.items) result
+        (each (λ before. op_at before (with_ops counts.old before)) (spot_of here.now) [] (map view items.now)) }
+    ensures valid { IfOk result (λ v. EachAfter IsOp [] v.items) }
+    ensures counted { IfOk result (λ v. counts.new ≡ with_ops counts.old v.items) }
+    ensures within { IfOk result (λ _. IsWithin counts.new) }
+{
+    let mut before = Vec::new(here.alloc);
+    for value in items {
+        let op = op(&here.item(before.len(), value), &before, counts)?;
+        before.push(op)?;
+    }
+    Ok(before)
+}
+
+/// The operations of the script that stands here.
+#[tactic(auto, unfolding(crate::specs::Script::script_at))]
+pub(crate) fn script(here: &Node, counts: &mut Counts) -> Result<OpList, Stop>
+    requires within { IsWithin counts.old }
+    ensures value { Gives result (script_at counts.old (spot_of here.now)) }
+    ensures valid { IfOk result (EachAfter IsOp []) }
+    ensures counted { IfOk result (λ v. counts.new ≡ with_ops counts.old v) }
+    ensures within { IfOk result (λ _. IsWithin counts.new) }
+{
+    let items = here.items()?;
+    Ok(ListOf::new(each_op(here, items, counts)?))
+}
