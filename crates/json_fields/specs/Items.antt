@@ -11,6 +11,7 @@ abbrev pub list_of : Items → List Data
 list_of no_items = []
 list_of (item d ds) = d ∷ list_of ds
 
+-- the items of a list
 unfoldable pub items_at : Spot → Read (List Data)
 items_at here = of_kind here.place (option_map list_of (as_array here.value))
 

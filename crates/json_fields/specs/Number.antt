@@ -40,6 +40,7 @@ number_in (string s) = hex_number s
 number_in (array ds) = None
 number_in (object ms) = None
 
+-- a number
 unfoldable pub number_at : Spot → Read ℕ
 number_at here = of_kind here.place (number_in here.value)
 
@@ -47,6 +48,7 @@ number_at here = of_kind here.place (number_in here.value)
 unfoldable pub number_field : List ℕ → Spot → Read ℕ
 number_field name here = required name here >>= number_at
 
+-- a number, or its default where there is none
 abbrev pub or_default : ℕ → Option Spot → Read ℕ
 or_default n None = Ok n
 or_default n (Some spot) = number_at spot

@@ -6,6 +6,7 @@ use Rattle.json_fields.specs.declared.refusal.RefusalKind.{RefusalKind}
 use Rattle.json_fields.specs.declared.refusal.RefusalKind.TheVariants.{NotJson, BadField, BadFlag, BadOp, Limit, FrameTwice, FrameAbsent, UnknownName}
 use Rattle.json_fields.specs.declared.refusal.Refusal.{Refusal}
 
+-- a limit's name
 abbrev pub limit_text : LimitName → List ℕ
 limit_text limit.Frames = codes "frames"
 limit_text limit.FrameNumber = codes "frame_number"

@@ -7,6 +7,7 @@ use Rattle.json_fields.specs.Read.{Read}
 use Rattle.json_fields.specs.Field.{Spot}
 use Rattle.json_fields.specs.Number.{of_kind, hex_digit}
 
+-- a text
 unfoldable pub text_at : Spot → Read (List ℕ)
 text_at here = of_kind here.place (as_str here.value)
 
@@ -14,6 +15,7 @@ text_at here = of_kind here.place (as_str here.value)
 abbrev pub name_in : Data → Option (List ℕ)
 name_in d = option_and_then (λ s. if is_name s then Some s else None) (as_str d)
 
+-- a name
 unfoldable pub name_at : Spot → Read (List ℕ)
 name_at here = of_kind here.place (name_in here.value)
 
@@ -27,5 +29,6 @@ hex_bytes [] = Some []
 hex_bytes (a ∷ []) = None
 hex_bytes (a ∷ b ∷ more) = option_and_then (λ x. option_map (λ ys. x ∷ ys) (hex_bytes more)) (hex_byte a b)
 
+-- bytes
 unfoldable pub bytes_at : Spot → Read (List ℕ)
 bytes_at here = of_kind here.place (option_and_then hex_bytes (as_str here.value))

@@ -32,6 +32,7 @@ load_length target here = number_field (codes "len") here >>= length_in_page (ke
 abbrev pub byte_or : Place → ℕ → Read ℕ
 byte_or place n = if nat_lt n 256 then Ok n else refuse BadField place
 
+-- the byte in `fill`, at most 255
 unfoldable pub fill_at : Spot → Read ℕ
 fill_at here = number_field (codes "fill") here >>= byte_or (key here.place (codes "fill"))
 

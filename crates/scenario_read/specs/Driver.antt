@@ -22,9 +22,11 @@ abbrev pub pages_or_none : List FrameRun → List Driver → Option Spot → Rea
 pages_or_none frames earlier None = Ok []
 pages_or_none frames earlier (Some spot) = pages_at frames earlier spot
 
+-- the script of a driver, which has to be there
 unfoldable pub script_field : Counts → Spot → Read (List Op)
 script_field c here = required (codes "script") here >>= script_at c
 
+-- a driver: its pages, and its script, counted behind those of the drivers before it
 unfoldable pub driver_at : List FrameRun → List Driver → Spot → Read Driver
 driver_at frames earlier here =
     only_keys (one_of (codes "pages" ∷ codes "script" ∷ [])) here >>= (λ _.
@@ -36,5 +38,6 @@ driver_at frames earlier here =
 abbrev pub drivers_judged : Place → List Data → Read (List Data)
 drivers_judged place ds = if nat_lt drivers_limit (length ds) then refuse (Limit Drivers) place else Ok ds
 
+-- the list of drivers
 unfoldable pub drivers_at : List FrameRun → Spot → Read (List Driver)
 drivers_at frames here = items_at here >>= (λ ds. drivers_judged here.place ds >>= each (driver_at frames) here [])

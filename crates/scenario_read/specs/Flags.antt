@@ -25,6 +25,7 @@ word_bits set.Tag word = waitok_or (find_name tag_table word) word
 word_bits set.Load word = waitok_or (find_name load_table word) word
 word_bits set.Sync word = find_name sync_table word
 
+-- a word that is not in the table is refused
 abbrev pub bits_or : Place → Option ℕ → Read ℕ
 bits_or place None = refuse BadFlag place
 bits_or place (Some bits) = Ok bits

@@ -36,11 +36,14 @@ run_judged before place run =
     else (if list_any (overlap run) before then refuse FrameTwice place
     else Ok run))
 
+-- a run of frames by itself
 unfoldable pub run_at : Spot → Read FrameRun
 run_at here = items_at here >>= run_in here.place
 
+-- a run of frames behind those before it
 unfoldable pub frame_run_at : List FrameRun → Spot → Read FrameRun
 frame_run_at before here = run_at here >>= run_judged before here.place
 
+-- the list of runs
 unfoldable pub frames_at : Spot → Read (List FrameRun)
 frames_at here = items_at here >>= each frame_run_at here []

@@ -18,6 +18,7 @@ use Rattle.scenario_read.specs.Flags.{ops_field}
 use Rattle.scenario_read.specs.Names.{used_name}
 use Rattle.scenario_read.specs.Words.{item_word_at}
 
+-- a sync of the whole load
 unfoldable pub sync_item_at : List Op → Spot → Read Item
 sync_item_at before here =
     only_keys (one_of (codes "op" ∷ codes "map" ∷ codes "ops" ∷ [])) here >>= (λ _.
@@ -25,6 +26,7 @@ sync_item_at before here =
     ops_field here >>= (λ ops.
     Ok (item.Sync map ops))))
 
+-- a sync of a range of the load
 unfoldable pub sync_range_item_at : List Op → Spot → Read Item
 sync_range_item_at before here =
     only_keys (one_of (codes "op" ∷ codes "map" ∷ codes "off" ∷ codes "len" ∷ codes "ops" ∷ [])) here >>= (λ _.
@@ -34,6 +36,7 @@ sync_range_item_at before here =
     ops_field here >>= (λ ops.
     Ok (item.SyncRange map off n ops))))))
 
+-- a read of the device
 unfoldable pub dev_read_at : List Op → Counts → Spot → Read Item
 dev_read_at before c here =
     only_keys (one_of (codes "op" ∷ codes "map" ∷ codes "off" ∷ codes "len" ∷ [])) here >>= (λ _.
@@ -43,6 +46,7 @@ dev_read_at before c here =
     read_judged c n here.place >>= (λ _.
     Ok (item.DevRead map off n))))))
 
+-- a write of the device
 unfoldable pub dev_write_at : List Op → Spot → Read Item
 dev_write_at before here =
     only_keys (one_of (codes "op" ∷ codes "map" ∷ codes "off" ∷ codes "hex" ∷ codes "fill" ∷ codes "len" ∷ [])) here >>= (λ _.
@@ -52,6 +56,7 @@ dev_write_at before here =
     access_judged (length (bytes_of bytes)) here.place >>= (λ _.
     Ok (item.DevWrite map off bytes))))))
 
+-- the item of a word
 abbrev pub item_by : ItemWord → List Op → Counts → Spot → Read Item
 item_by word.Sync before c here = sync_item_at before here
 item_by word.SyncRange before c here = sync_range_item_at before here
@@ -70,6 +75,7 @@ item_at before c here =
 unfoldable pub then_at : List Op → Counts → Spot → Read (List Item)
 then_at before c here = items_at here >>= each (λ done. item_at before (with_items c done)) here []
 
+-- no items where there is no list
 abbrev pub then_or_none : List Op → Counts → Option Spot → Read (List Item)
 then_or_none before c None = Ok []
 then_or_none before c (Some spot) = then_at before c spot

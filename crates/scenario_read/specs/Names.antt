@@ -26,6 +26,7 @@ abbrev pub first_place : (Op → Bool) → ℕ → List Op → Option ℕ
 first_place test n [] = None
 first_place test n (o ∷ ops) = if test o then Some n else first_place test (n + 1) ops
 
+-- a name that was made before is refused
 abbrev pub new_or : List Op → Place → List ℕ → Read (List ℕ)
 new_or before place name = if list_any (makes name) before then refuse BadField place else Ok name
 
@@ -33,6 +34,7 @@ new_or before place name = if list_any (makes name) before then refuse BadField 
 unfoldable pub new_name : List ℕ → List Op → Spot → Read (List ℕ)
 new_name field before here = required field here >>= (λ spot. name_at spot >>= new_or before (key here.place field))
 
+-- a name that nothing before made is refused
 abbrev pub known_or : Place → Option ℕ → Read ℕ
 known_or place None = refuse UnknownName place
 known_or place (Some n) = Ok n

@@ -30,6 +30,7 @@ limits_of highaddr maxsize flags = record {
   flags = flags;
 }
 
+-- the fields of a tag's limits that can be given
 unfoldable pub limits_at : Spot → Read TagLimits
 limits_at here =
     number_or (codes "highaddr") (2 ^ 64 - 1) here >>= (λ highaddr.
@@ -37,6 +38,7 @@ limits_at here =
     flags_field set.Tag here >>= (λ flags.
     Ok (limits_of highaddr maxsize flags))))
 
+-- the making of a tag
 unfoldable pub tag_at : List Op → Spot → Read Op
 tag_at before here =
     only_keys (one_of (codes "op" ∷ codes "name" ∷ codes "parent" ∷ codes "highaddr" ∷ codes "maxsize" ∷ codes "flags" ∷ [])) here >>= (λ _.
@@ -45,12 +47,14 @@ tag_at before here =
     limits_at here >>= (λ limits.
     Ok (op.Tag name parent limits)))))
 
+-- the end of a tag
 unfoldable pub tag_destroy_at : List Op → Spot → Read Op
 tag_destroy_at before here =
     only_keys (one_of (codes "op" ∷ codes "tag" ∷ [])) here >>= (λ _.
     used_name made.Tag (codes "tag") before here >>= (λ tag.
     Ok (op.TagDestroy tag)))
 
+-- the making of a map
 unfoldable pub map_at : List Op → Spot → Read Op
 map_at before here =
     only_keys (one_of (codes "op" ∷ codes "name" ∷ codes "tag" ∷ [])) here >>= (λ _.
@@ -58,6 +62,7 @@ map_at before here =
     used_name made.Tag (codes "tag") before here >>= (λ tag.
     Ok (op.Map name tag))))
 
+-- the end of a map
 unfoldable pub map_destroy_at : List Op → Spot → Read Op
 map_destroy_at before here =
     only_keys (one_of (codes "op" ∷ codes "map" ∷ [])) here >>= (λ _.
@@ -73,6 +78,7 @@ load_head_at before here =
     flags_field set.Load here >>= (λ flags.
     Ok (record { map = map; target = target; len = n; flags = flags })))))
 
+-- a load: its length is judged behind its other fields, and before its items
 unfoldable pub load_at : List Op → Counts → Spot → Read Op
 load_at before c here =
     only_keys (one_of (codes "op" ∷ codes "map" ∷ codes "va" ∷ codes "len" ∷ codes "flags" ∷ codes "then" ∷ [])) here >>= (λ _.
@@ -81,12 +87,14 @@ load_at before c here =
     then_field before (having_loaded c head.len) here >>= (λ items.
     Ok (op.Load head.map head.target head.len head.flags items)))))
 
+-- an unload
 unfoldable pub unload_at : List Op → Spot → Read Op
 unload_at before here =
     only_keys (one_of (codes "op" ∷ codes "map" ∷ [])) here >>= (λ _.
     used_name made.Map (codes "map") before here >>= (λ map.
     Ok (op.Unload map)))
 
+-- a sync of the whole load
 unfoldable pub sync_at : List Op → Spot → Read Op
 sync_at before here =
     only_keys (one_of (codes "op" ∷ codes "map" ∷ codes "ops" ∷ [])) here >>= (λ _.
@@ -94,6 +102,7 @@ sync_at before here =
     ops_field here >>= (λ ops.
     Ok (op.Sync map ops))))
 
+-- a sync of a range of the load
 unfoldable pub sync_range_at : List Op → Spot → Read Op
 sync_range_at before here =
     only_keys (one_of (codes "op" ∷ codes "map" ∷ codes "off" ∷ codes "len" ∷ codes "ops" ∷ [])) here >>= (λ _.
@@ -103,6 +112,7 @@ sync_range_at before here =
     ops_field here >>= (λ ops.
     Ok (op.SyncRange map off n ops))))))
 
+-- a read of the driver
 unfoldable pub cpu_read_at : Counts → Spot → Read Op
 cpu_read_at c here =
     only_keys (one_of (codes "op" ∷ codes "va" ∷ codes "len" ∷ [])) here >>= (λ _.
@@ -111,6 +121,7 @@ cpu_read_at c here =
     read_judged c n here.place >>= (λ _.
     Ok (op.CpuRead target n)))))
 
+-- a write of the driver
 unfoldable pub cpu_write_at : Spot → Read Op
 cpu_write_at here =
     only_keys (one_of (codes "op" ∷ codes "va" ∷ codes "hex" ∷ codes "fill" ∷ codes "len" ∷ [])) here >>= (λ _.
@@ -119,6 +130,7 @@ cpu_write_at here =
     access_judged (length (bytes_of bytes)) here.place >>= (λ _.
     Ok (op.CpuWrite target bytes)))))
 
+-- a wait for a map
 unfoldable pub await_at : List Op → Spot → Read Op
 await_at before here =
     only_keys (one_of (codes "op" ∷ codes "map" ∷ [])) here >>= (λ _.

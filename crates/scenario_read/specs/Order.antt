@@ -47,6 +47,7 @@ actor_of drivers [] = None
 actor_of drivers (b ∷ bs) =
     option_and_then (λ s. option_and_then (λ n. Some (record { lane = record { 0 = n }; side = s })) (lane_of drivers bs)) (side_of b)
 
+-- an actor of the order
 unfoldable pub actor_at : ℕ → Spot → Read Actor
 actor_at drivers here = text_at here >>= (λ s. of_kind here.place (actor_of drivers s))
 
@@ -54,9 +55,11 @@ actor_at drivers here = text_at here >>= (λ s. of_kind here.place (actor_of dri
 abbrev pub order_judged : Place → List Data → Read (List Data)
 order_judged place ds = if nat_lt order_limit (length ds) then refuse (Limit limit.Order) place else Ok ds
 
+-- the list of actors
 unfoldable pub order_at : ℕ → Spot → Read (List Actor)
 order_at drivers here = items_at here >>= (λ ds. order_judged here.place ds >>= each (λ _. actor_at drivers) here [])
 
+-- no actors where there is no list
 abbrev pub order_or_none : ℕ → Option Spot → Read (List Actor)
 order_or_none drivers None = Ok []
 order_or_none drivers (Some spot) = order_at drivers spot

@@ -42,11 +42,14 @@ page_run_judged frames earlier before place run =
     else (if list_any (share_page run) before then refuse BadField place
     else Ok run))
 
+-- a run of pages by itself
 unfoldable pub page_values_at : Spot → Read PageRun
 page_values_at here = items_at here >>= page_run_in here.place
 
+-- a run of pages behind those before it
 unfoldable pub page_run_at : List FrameRun → List Driver → List PageRun → Spot → Read PageRun
 page_run_at frames earlier before here = page_values_at here >>= page_run_judged frames earlier before here.place
 
+-- the list of runs
 unfoldable pub pages_at : List FrameRun → List Driver → Spot → Read (List PageRun)
 pages_at frames earlier here = items_at here >>= each (page_run_at frames earlier) here []

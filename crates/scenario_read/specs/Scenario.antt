@@ -20,18 +20,23 @@ use Rattle.scenario_read.specs.Frames.{frames_at}
 use Rattle.scenario_read.specs.Limits.{bpages_limit}
 use Rattle.scenario_read.specs.Order.{order_field}
 
+-- at least one page, and at most the limit
 abbrev pub bpages_judged : Place → ℕ → Read ℕ
 bpages_judged place n = if nat_le 1 n && nat_le n bpages_limit then Ok n else refuse (Limit MaxBpages) place
 
+-- the pages that a zone may grow to
 unfoldable pub bpages_field : Spot → Read ℕ
 bpages_field here = number_or (codes "max_bpages") 8192 here >>= bpages_judged (key here.place (codes "max_bpages"))
 
+-- the machine's frames, which have to be there
 unfoldable pub frames_field : Spot → Read (List FrameRun)
 frames_field here = required (codes "frames") here >>= frames_at
 
+-- the drivers, which have to be there
 unfoldable pub drivers_field : List FrameRun → Spot → Read (List Driver)
 drivers_field frames here = required (codes "drivers") here >>= drivers_at frames
 
+-- the top object
 unfoldable pub scenario_at : Spot → Read Scenario
 scenario_at here =
     only_keys (one_of (codes "frames" ∷ codes "max_bpages" ∷ codes "drivers" ∷ codes "order" ∷ [])) here >>= (λ _.
@@ -45,10 +50,12 @@ scenario_at here =
 abbrev pub document : List ℕ → Option Data
 document bytes = if is_utf8 bytes then read bytes else None
 
+-- bytes that are no value are refused as a whole
 abbrev pub read_document : Option Data → Read Scenario
 read_document None = refuse NotJson top
 read_document (Some d) = scenario_at (record { place = top; value = d })
 
+-- a scenario is good, and a refusal is bad
 abbrev pub reading : Read Scenario → Reading
 reading (Ok s) = Good s
 reading (Err r) = Bad r

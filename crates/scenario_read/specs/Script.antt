@@ -11,6 +11,7 @@ use Rattle.scenario_read.specs.Counts.{with_ops, stepped, step_judged}
 use Rattle.scenario_read.specs.Ops.{tag_at, tag_destroy_at, map_at, map_destroy_at, load_at, unload_at, sync_at, sync_range_at, cpu_read_at, cpu_write_at, await_at}
 use Rattle.scenario_read.specs.Words.{op_word_at}
 
+-- the operation of a word
 abbrev pub op_by : OpWord → List Op → Counts → Spot → Read Op
 op_by word.Tag before c here = tag_at before here
 op_by word.TagDestroy before c here = tag_destroy_at before here
