@@ -1,0 +1,171 @@
+use crate::tests::{scripted, told, wanted};
+use std::test::Fail;
+
+/// What is said of an operation behind the making of a tag `t` and a map `m`, with the path behind
+/// the script's.
+const OPS: &str = r#"
+BadField [2] <- 7
+BadField [2].op <- {}
+BadField [2].op <- {"op":7}
+BadOp [2].op <- {"op":"Tag","zz":1}
+BadOp [2].op <- {"op":"dmamem","name":"x","tag":"t"}
+BadOp [2].op <- {"op":"dev_read","map":"m","off":0,"len":1}
+good <- {"op":"tag","name":"x"}
+BadField [2].name <- {"op":"tag","name":"t"}
+BadField [2].name <- {"op":"tag","name":"m"}
+BadField [2].name <- {"op":"tag","name":"M!"}
+BadField [2].name <- {"op":"tag","name":""}
+BadField [2].name <- {"op":"tag","name":"0a"}
+BadField [2].name <- {"op":"tag","name":"_a"}
+good <- {"op":"tag","name":"a_z09"}
+good <- {"op":"tag","name":"abcdefghijklmnopqrstuvwxyz012345"}
+BadField [2].name <- {"op":"tag","name":"abcdefghijklmnopqrstuvwxyz0123456"}
+BadField [2].name <- {"op":"tag","name":7}
+BadField [2].name <- {"op":"tag"}
+good <- {"op":"tag","name":"x","parent":"t"}
+UnknownName [2].parent <- {"op":"tag","name":"x","parent":"x"}
+UnknownName [2].parent <- {"op":"tag","name":"x","parent":"m"}
+BadField [2].parent <- {"op":"tag","name":"x","parent":"M!"}
+BadField [2].parent <- {"op":"tag","name":"x","parent":null}
+good <- {"op":"tag","name":"x","highaddr":"0xffffffffffffffff","maxsize":0}
+BadField [2].highaddr <- {"op":"tag","name":"x","highaddr":"x","maxsize":"y"}
+BadField [2].maxsize <- {"op":"tag","name":"x","maxsize":1.0}
+BadField [2].alignment <- {"op":"tag","name":"x","alignment":1}
+BadField [2].boundary <- {"op":"tag","name":"x","lowaddr":1,"boundary":0}
+BadField [2].maxsegsz <- {"op":"tag","name":"x","maxsegsz":1}
+BadField [2].nsegments <- {"op":"tag","name":"x","nsegments":1}
+BadFlag [2].flags[0] <- {"op":"tag","name":"x","flags":["WAIT"]}
+good <- {"op":"tag","name":"x","flags":["ALLOCNOW","WAITOK","KEEP_PG_OFFSET","ALLOCNOW"]}
+BadFlag [2].flags[1] <- {"op":"tag","name":"x","flags":["ALLOCNOW","NOWAIT"]}
+BadFlag [2].flags[1] <- {"op":"tag","name":"x","flags":["ALLOCNOW",""]}
+BadField [2].flags[1] <- {"op":"tag","name":"x","flags":["ALLOCNOW",1]}
+BadField [2].flags <- {"op":"tag","name":"x","flags":"ALLOCNOW"}
+good <- {"op":"tag_destroy","tag":"t"}
+UnknownName [2].tag <- {"op":"tag_destroy","tag":"m"}
+BadField [2].map <- {"op":"tag_destroy","map":"m"}
+BadField [2].tag <- {"op":"tag_destroy"}
+good <- {"op":"map","name":"n","tag":"t"}
+UnknownName [2].tag <- {"op":"map","name":"n","tag":"n"}
+UnknownName [2].tag <- {"op":"map","name":"n","tag":"m"}
+BadField [2].name <- {"op":"map","name":"t","tag":"x"}
+BadField [2].name <- {"op":"map","name":"N","tag":"x"}
+good <- {"op":"map_destroy","map":"m"}
+UnknownName [2].map <- {"op":"map_destroy","map":"t"}
+good <- {"op":"load","map":"m","va":"0x1000","len":4096}
+BadField [2].len <- {"op":"load","map":"m","va":"0x1000","len":4097}
+good <- {"op":"load","map":"m","va":"0x1fff","len":1}
+BadField [2].len <- {"op":"load","map":"m","va":"0x1fff","len":2}
+BadField [2].len <- {"op":"load","map":"m","va":"0x1001","len":"0xffffffffffffffff"}
+BadField [2].len <- {"op":"load","map":"m","va":"0x1000","len":4097,"flags":7}
+UnknownName [2].map <- {"op":"load","map":"x","len":0}
+BadField [2] <- {"op":"load","map":"m","len":"x"}
+BadField [2].va <- {"op":"load","map":"m","va":"x","len":"x"}
+BadField [2].len <- {"op":"load","map":"m","va":0}
+BadField [2].mem <- {"op":"load","map":"m","mem":"x","len":0}
+BadField [2].off <- {"op":"load","map":"m","va":0,"len":0,"off":0}
+good <- {"op":"load","map":"m","va":0,"len":0,"flags":["WAITOK","NOWAIT","NOWAIT"],"then":[]}
+BadFlag [2].flags[0] <- {"op":"load","map":"m","va":0,"len":0,"flags":["ALLOCNOW"],"then":7}
+BadField [2].then <- {"op":"load","map":"m","va":0,"len":0,"then":7}
+BadField [2].then[0] <- {"op":"load","map":"m","va":0,"len":0,"then":[7]}
+good <- {"op":"unload","map":"m"}
+BadField [2].len <- {"op":"unload","map":"m","len":0}
+good <- {"op":"sync","map":"m","ops":[]}
+good <- {"op":"sync","map":"m","ops":["PREREAD","POSTREAD","PREWRITE","POSTWRITE","PREREAD"]}
+BadFlag [2].ops[0] <- {"op":"sync","map":"m","ops":["WAITOK"]}
+BadFlag [2].ops[1] <- {"op":"sync","map":"m","ops":["PREREAD","preread"]}
+BadField [2].ops[1] <- {"op":"sync","map":"m","ops":["PREREAD",null]}
+BadField [2].ops <- {"op":"sync","map":"m"}
+good <- {"op":"sync_range","map":"m","off":0,"len":"0xffffffffffffffff","ops":["PREREAD"]}
+BadField [2].len <- {"op":"sync_range","map":"m","off":0,"ops":["x"]}
+BadField [2].off <- {"op":"sync_range","map":"m","len":0,"ops":["x"]}
+BadField [2].ops <- {"op":"sync_range","map":"m","off":0,"len":0}
+good <- {"op":"cpu_read","va":0,"len":4096}
+Limit(access) [2] <- {"op":"cpu_read","va":0,"len":4097}
+BadField [2] <- {"op":"cpu_read","len":4097}
+BadField [2].len <- {"op":"cpu_read","va":0}
+BadField [2].va <- {"op":"cpu_read","va":[],"len":[]}
+BadField [2].hex <- {"op":"cpu_read","va":0,"len":1,"hex":""}
+BadField [2].len <- {"op":"cpu_read","va":0,"len":-0}
+BadField [2].va <- {"op":"cpu_read","va":18446744073709551616,"len":1}
+good <- {"op":"cpu_write","va":0,"hex":"0aFf"}
+good <- {"op":"cpu_write","va":0,"hex":""}
+BadField [2].hex <- {"op":"cpu_write","va":0,"hex":"0"}
+BadField [2].hex <- {"op":"cpu_write","va":0,"hex":"0g"}
+BadField [2].hex <- {"op":"cpu_write","va":0,"hex":10}
+BadField [2] <- {"op":"cpu_write","va":0,"hex":7,"fill":0}
+BadField [2] <- {"op":"cpu_write","va":0,"hex":7,"len":0}
+BadField [2] <- {"op":"cpu_write","va":0,"hex":7,"fill":0,"len":0}
+BadField [2] <- {"op":"cpu_write","va":0,"len":"x"}
+BadField [2] <- {"op":"cpu_write","va":0}
+BadField [2].len <- {"op":"cpu_write","va":0,"fill":255}
+BadField [2].fill <- {"op":"cpu_write","va":0,"fill":256,"len":"x"}
+BadField [2].fill <- {"op":"cpu_write","va":0,"fill":"x","len":0}
+good <- {"op":"cpu_write","va":0,"fill":"0xff","len":4096}
+Limit(access) [2] <- {"op":"cpu_write","va":0,"fill":0,"len":4097}
+Limit(access) [2] <- {"op":"cpu_write","va":0,"fill":0,"len":"0xffffffffffffffff"}
+BadField [2] <- {"op":"cpu_write","hex":"0"}
+good <- {"op":"await","map":"m"}
+UnknownName [2].map <- {"op":"await","map":"n"},{"op":"map","name":"n","tag":"t"}
+BadField [2].tag <- {"op":"await","map":"m","tag":"t"}
+BadField [2].map <- {"op":"await","map":["m"]}
+BadField [4].map <- {"op":"map","name":"n","tag":"t"},{"op":"await","map":"n"},{"op":"await","map":"N"}
+"#;
+
+#[test]
+fn operations(rt: HostRuntime) -> Result<(), Fail> {
+    let alloc = rt.alloc();
+    for line in OPS.trim().lines() {
+        let Some((want, op)) = line.split_once(" <- ") else {
+            panic!(rt; "{line}");
+        };
+        let input = scripted(alloc, op)?;
+        let told = told(alloc, input.as_bytes())?;
+        let want = wanted(alloc, "", want)?;
+        assert_eq!(rt; told, want, "{op}");
+    }
+    Ok(())
+}
+
+/// What is said of the items of a load of no bytes behind a tag `t` and a map `m`, with the path
+/// behind that of the items.
+const ITEMS: &str = r#"
+good <- {"op":"sync","map":"m","ops":["PREWRITE"]},{"op":"dev_read","map":"m","off":0,"len":4096}
+BadField [1] <- {"op":"sync","map":"m","ops":[]},7
+BadOp [0].op <- {"op":"load","map":"m","va":0,"len":0}
+BadOp [0].op <- {"op":"cpu_read","va":0,"len":0}
+BadOp [0].op <- {"op":"x","zz":1}
+BadField [0].op <- {"zz":1}
+UnknownName [0].map <- {"op":"sync","map":"t","ops":[]}
+BadFlag [0].ops[0] <- {"op":"sync","map":"m","ops":["WAITOK"]}
+BadField [0].flags <- {"op":"sync","map":"m","ops":[],"flags":[]}
+good <- {"op":"sync_range","map":"m","off":1,"len":2,"ops":["POSTREAD"]}
+BadField [0].len <- {"op":"sync_range","map":"m","off":1,"ops":[]}
+good <- {"op":"dev_read","map":"m","off":"0xffffffffffffffff","len":0}
+BadField [0].off <- {"op":"dev_read","map":"m","len":0}
+Limit(access) [0] <- {"op":"dev_read","map":"m","off":0,"len":4097}
+good <- {"op":"dev_write","map":"m","off":0,"hex":"ff"}
+good <- {"op":"dev_write","map":"m","off":0,"fill":1,"len":4096}
+Limit(access) [0] <- {"op":"dev_write","map":"m","off":0,"fill":1,"len":4097}
+BadField [0] <- {"op":"dev_write","map":"m","off":0,"hex":"ff","len":1}
+BadField [0] <- {"op":"dev_write","map":"m","off":0,"len":1}
+BadField [0].off <- {"op":"dev_write","map":"m","hex":"ff"}
+BadField [0].hex <- {"op":"dev_write","map":"m","off":0,"hex":"f"}
+"#;
+
+#[test]
+fn items(rt: HostRuntime) -> Result<(), Fail> {
+    let alloc = rt.alloc();
+    for line in ITEMS.trim().lines() {
+        let Some((want, items)) = line.split_once(" <- ") else {
+            panic!(rt; "{line}");
+        };
+        let load = format!(in alloc;
+            r#"{{"op":"load","map":"m","va":0,"len":0,"then":[{items}]}}"#
+        )?;
+        let input = scripted(alloc, load.as_str())?;
+        let told = told(alloc, input.as_bytes())?;
+        let want = wanted(alloc, "[2].then", want)?;
+        assert_eq!(rt; told, want, "{items}");
+    }
+    Ok(())
+}
