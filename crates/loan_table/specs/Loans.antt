@@ -60,3 +60,7 @@ addresses_of ps = map (λ p. p.pa) ps
 -- a buffer of these bytes that lends nothing
 abbrev pub unlent : List ℕ → List Position
 unlent bytes = map (λ a. record { pa = a; to_read = false; to_write = false }) bytes
+
+-- the loan of a map over these bytes that lends nothing
+abbrev pub new_loan : Bool → List ℕ → Loan
+new_loan coherent bytes = record { coherent = coherent; positions = unlent bytes }

@@ -83,7 +83,8 @@ fn judge_run(
     requires ordered { tree.IsOrdered nat_cmp loans.now }
     requires ends { Ends run.now }
     requires place { place + run.now.len < 2 ^ 64 }
-    ensures { result ≡ judged (cpu_refusal access (is_marked (of_tree bytes.now)) (of_tree loans.now)) place (run_of run.now.pa.0 run.now.len) }
+    ensures { let refusal = cpu_refusal access (is_marked (of_tree bytes.now)) (of_tree loans.now) in
+        result ≡ judged refusal place (run_of run.now.pa.0 run.now.len) }
 {
     let mut at = place;
     for pa in run.pa.0..run.pa.0 + run.len {
@@ -105,7 +106,8 @@ pub fn judge_extents(
     requires ordered { tree.IsOrdered nat_cmp loans.now }
     requires ends { All Ends extents.now }
     requires total { byte_count extents.now < 2 ^ 64 }
-    ensures { result ≡ judged (cpu_refusal access (is_marked (of_tree bytes.now)) (of_tree loans.now)) 0 (addresses extents.now) }
+    ensures { let refusal = cpu_refusal access (is_marked (of_tree bytes.now)) (of_tree loans.now) in
+        result ≡ judged refusal 0 (addresses extents.now) }
 {
     let mut at = 0;
     for extent in extents {
@@ -167,7 +169,8 @@ pub fn judge_positions(
     access: Access,
     positions: &[Position],
 ) -> Judged
-    ensures { result ≡ judged (dev_refusal access (is_marked (of_tree bytes.now)) coherent) 0 positions.now }
+    ensures { result
+        ≡ judged (dev_refusal access (is_marked (of_tree bytes.now)) coherent) 0 positions.now }
 {
     for (i, position) in positions.iter().enumerate() {
         if let Some(name) = dev_refusal(bytes, coherent, access, *position) {

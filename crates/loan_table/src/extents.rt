@@ -14,8 +14,8 @@ use std::alloc::{AllocError, Global};
 /// before it, in the same frame, is in the same extent.
 pub fn extents_of(alloc: Global, positions: &[Position]) -> Result<Vec<Extent>, AllocError>
     requires { All (λ p. p.pa < 2 ^ 42) positions.now }
-    ensures bytes { IfOk result (λ extents. addresses extents.items ≡ addresses_of positions.now) }
-    ensures extents { IfOk result (λ extents. All IsExtent extents.items) }
+    ensures bytes { IfOk result (λ list. addresses list.items ≡ addresses_of positions.now) }
+    ensures extents { IfOk result (λ list. All IsExtent list.items) }
 {
     let mut extents = Vec::new(alloc);
     let Some((first, rest)) = positions.split_first() else {
@@ -46,7 +46,8 @@ fn byte(pa: u64) -> Extent
 /// Whether a byte comes right behind a run, in the same frame.
 fn is_next(run: &Extent, pa: u64) -> bool
     requires { IsExtent run.now }
-    ensures { IsTrue result ↔ ((pa ≡ run.now.pa.0 + run.now.len) × (run.now.pa.0 % 4096 + run.now.len < 4096)) }
+    ensures { IsTrue result
+        ↔ ((pa ≡ run.now.pa.0 + run.now.len) × (run.now.pa.0 % 4096 + run.now.len < 4096)) }
 {
     pa == run.pa.0 + run.len && run.pa.0 % 4096 + run.len < 4096
 }

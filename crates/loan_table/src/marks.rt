@@ -35,7 +35,8 @@ pub fn set_known(bytes: &mut BTreeMap<u64, bool>, pa: u64, known: bool)
 fn set_run(bytes: &mut BTreeMap<u64, bool>, run: &Extent, known: bool)
     requires there { AreIn (of_tree bytes.old) (run_of run.now.pa.0 run.now.len) }
     requires ends { Ends run.now }
-    ensures { of_tree bytes.new ≡ set_all (of_tree bytes.old) (run_of run.now.pa.0 run.now.len) known }
+    ensures { of_tree bytes.new
+        ≡ set_all (of_tree bytes.old) (run_of run.now.pa.0 run.now.len) known }
 {
     for pa in run.pa.0..run.pa.0 + run.len {
         set_known(bytes, pa, known);
@@ -72,7 +73,8 @@ pub fn add_run(
 ) -> Result<(), AllocError>
     requires fresh { AreNew (of_tree bytes.old) (run_of pa len) }
     requires fits { pa + len < 2 ^ 64 }
-    ensures ok { OnOk result (of_tree bytes.new ≡ set_all (of_tree bytes.old) (run_of pa len) known) }
+    ensures ok { OnOk result (of_tree bytes.new
+        ≡ set_all (of_tree bytes.old) (run_of pa len) known) }
     ensures err { OnErr result (of_tree bytes.new ≡ of_tree bytes.old) }
 {
     for at in pa..pa + len {

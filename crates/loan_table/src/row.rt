@@ -6,7 +6,7 @@ ghost use Rattle.busdma_base.specs.Runs.{run_of, addresses};
 ghost use Rattle.loan_table.specs.Kept.{Ends};
 ghost use Rattle.loan_table.specs.Kinds.{test_of};
 ghost use Rattle.loan_table.specs.Lending.{marked, marked_range, loses, range_of};
-ghost use Rattle.loan_table.specs.Loans.{lends, stands_twice, addresses_of, unlent, to_write};
+ghost use Rattle.loan_table.specs.Loans.{lends, stands_twice, addresses_of, unlent, to_write, new_loan};
 ghost use Rattle.loan_table.specs.Table.{AreIn, set_all};
 ghost use Rattle.loan_table.specs.Trees.{of_tree};
 
@@ -60,7 +60,7 @@ impl LoanRow {
     /// A map over bytes that lends nothing.
     pub fn over(alloc: Global, coherent: bool, buffer: &[Extent]) -> Result<Self, AllocError>
         requires { All Ends buffer.now }
-        ensures { IfOk result (λ row. row ≡ record { coherent = coherent; positions = unlent (addresses buffer.now) }) }
+        ensures { IfOk result (λ row. row ≡ new_loan coherent (addresses buffer.now)) }
     {
         let mut positions = Vec::new(alloc);
         for extent in buffer {
@@ -130,7 +130,8 @@ impl LoanRow {
     /// Makes Unknown the bytes that the map lends to write.
     pub fn lose_lent(&self, bytes: &mut BTreeMap<u64, bool>)
         requires { AreIn (of_tree bytes.old) (addresses_of self.now.positions) }
-        ensures { of_tree bytes.new ≡ set_all (of_tree bytes.old) (addresses_of (filter to_write self.now.positions)) false }
+        ensures { of_tree bytes.new
+            ≡ set_all (of_tree bytes.old) (addresses_of (filter to_write self.now.positions)) false }
     {
         lose_lent(bytes, &self.positions);
     }
@@ -164,7 +165,8 @@ pub fn lose(bytes: &mut BTreeMap<u64, bool>, positions: &[Position], ops: SyncOp
 /// Makes Unknown the bytes of the positions that are lent to write.
 fn lose_lent(bytes: &mut BTreeMap<u64, bool>, positions: &[Position])
     requires { AreIn (of_tree bytes.old) (addresses_of positions.now) }
-    ensures { of_tree bytes.new ≡ set_all (of_tree bytes.old) (addresses_of (filter to_write positions.now)) false }
+    ensures { of_tree bytes.new
+        ≡ set_all (of_tree bytes.old) (addresses_of (filter to_write positions.now)) false }
 {
     for position in positions {
         if position.to_write {
@@ -198,7 +200,8 @@ fn loses(position: &Position, ops: SyncOps) -> bool
 /// Appends the positions of a run.
 fn push_run(positions: &mut Vec<Position>, run: &Extent) -> Result<(), AllocError>
     requires { Ends run.now }
-    ensures { OnOk result (positions.new.items ≡ positions.old.items ++ unlent (run_of run.now.pa.0 run.now.len)) }
+    ensures { OnOk result (positions.new.items
+        ≡ positions.old.items ++ unlent (run_of run.now.pa.0 run.now.len)) }
 {
     for pa in run.pa.0..run.pa.0 + run.len {
         positions.push(Position {

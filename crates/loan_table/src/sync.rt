@@ -143,8 +143,10 @@ pub fn lose(
 )
     requires there { IsSome (finmap.get (of_tree loans.now) map) }
     requires range { off + len ≤ length (loan_of (of_tree loans.now) map).positions }
-    requires bytes { AreIn (of_tree bytes.old) (addresses_of (loan_of (of_tree loans.now) map).positions) }
-    ensures { of_tree bytes.new ≡ set_all (of_tree bytes.old) (lost (of_tree loans.now) map off len ops.0) false }
+    requires bytes { let buffer = (loan_of (of_tree loans.now) map).positions in
+        AreIn (of_tree bytes.old) (addresses_of buffer) }
+    ensures { of_tree bytes.new
+        ≡ set_all (of_tree bytes.old) (lost (of_tree loans.now) map off len ops.0) false }
 {
     let row = row_of(loans, map);
     if !row.is_coherent() {

@@ -6,9 +6,9 @@ ghost use Rattle.std.specs.FinMap as finmap;
 ghost use Rattle.busdma_base.specs.Runs.{run_of, addresses, byte_count, IsExtent};
 ghost use Rattle.dma_tag.specs.SyncOps.{has_pre, has_post};
 ghost use Rattle.loan_table.specs.Access.{cpu_read_answer, cpu_write_answer, dev_read_answer, dev_write_answer};
-ghost use Rattle.loan_table.specs.Lending.{sync_answer, range_of, lost, lost_by_forgetting};
-ghost use Rattle.loan_table.specs.Loans.{loan_of, addresses_of, unlent};
-ghost use Rattle.loan_table.specs.Table.{HasMap, buffer_of, is_known, AreFree, AreIn, AreNew, set_all, without, IsSame, IsSynced, OnFine, OnRefused, extent_count};
+ghost use Rattle.loan_table.specs.Lending.{sync_answer, lost, lost_by_forgetting};
+ghost use Rattle.loan_table.specs.Loans.{loan_of, addresses_of, new_loan};
+ghost use Rattle.loan_table.specs.Table.{HasMap, buffer_of, bytes_at, is_known, AreFree, AreIn, AreNew, set_all, without, IsSame, IsSynced, OnFine, OnRefused, extent_count};
 
 use crate::access::{self, Access};
 use crate::loans::row_of;
@@ -69,7 +69,8 @@ impl LoanTable {
     ) -> Result<(), AllocError>
         requires below { pa.0 + len ≤ 2 ^ 42 }
         requires fresh { AreNew self.old.bytes (run_of pa.0 len) }
-        ensures bytes { OnOk result (self.new.bytes ≡ set_all self.old.bytes (run_of pa.0 len) known) }
+        ensures bytes { OnOk result (self.new.bytes
+            ≡ set_all self.old.bytes (run_of pa.0 len) known) }
         ensures loans { self.new.loans ≡ self.old.loans }
         ensures err { OnErr result (IsSame self.old self.new) }
         ensures spare { self.old.spare ≤ self.new.spare }
@@ -102,7 +103,7 @@ impl LoanTable {
         requires there { AreIn self.old.bytes (addresses bytes.now) }
         requires total { byte_count bytes.now < 2 ^ 64 }
         ensures loans { OnOk result (self.new.loans
-            ≡ finmap.insert self.old.loans map.made_at (record { coherent = coherent; positions = unlent (addresses bytes.now) })) }
+            ≡ finmap.insert self.old.loans map.made_at (new_loan coherent (addresses bytes.now))) }
         ensures bytes { self.new.bytes ≡ self.old.bytes }
         ensures err { OnErr result (IsSame self.old self.new) }
         ensures spare { self.old.spare ≤ self.new.spare }
@@ -116,7 +117,8 @@ impl LoanTable {
     /// Forgets a map. The bytes that it lent to write become Unknown.
     pub fn forget(&mut self, map: MapId)
         requires { HasMap self.old map.made_at }
-        ensures bytes { self.new.bytes ≡ set_all self.old.bytes (lost_by_forgetting self.old.loans map.made_at) false }
+        ensures bytes { self.new.bytes
+            ≡ set_all self.old.bytes (lost_by_forgetting self.old.loans map.made_at) false }
         ensures loans { self.new.loans ≡ finmap.remove self.old.loans map.made_at }
         ensures there { AreIn self.old.bytes (lost_by_forgetting self.old.loans map.made_at) }
         ensures spare { self.old.spare ≤ self.new.spare }
@@ -142,7 +144,7 @@ impl LoanTable {
         requires there { HasMap self.old map.made_at }
         requires range { off + len ≤ length (buffer_of self.old map.made_at) }
         requires pre_alone { has_post ops.0 ≡ false }
-        requires room { extent_count (addresses_of (range_of off len (buffer_of self.old map.made_at))) ≤ self.old.spare }
+        requires room { extent_count (bytes_at self.old map.made_at off len) ≤ self.old.spare }
         ensures answer { result ≡ sync_answer self.old.loans map.made_at off len ops.0 }
         ensures done { OnFine result (IsSynced self.old self.new map.made_at off len ops.0) }
         ensures refused { OnRefused result (IsSame self.old self.new) }
@@ -158,7 +160,7 @@ impl LoanTable {
         requires there { HasMap self.old map.made_at }
         requires range { off + len ≤ length (buffer_of self.old map.made_at) }
         requires post_alone { has_pre ops.0 ≡ false }
-        requires room { extent_count (addresses_of (range_of off len (buffer_of self.old map.made_at))) ≤ self.old.spare }
+        requires room { extent_count (bytes_at self.old map.made_at off len) ≤ self.old.spare }
         ensures answer { result ≡ sync_answer self.old.loans map.made_at off len ops.0 }
         ensures done { OnFine result (IsSynced self.old self.new map.made_at off len ops.0) }
         ensures refused { OnRefused result (IsSame self.old self.new) }
@@ -211,7 +213,8 @@ impl LoanTable {
     pub fn may_dev_read(&self, map: MapId, off: u64, len: u64) -> Judged
         requires there { HasMap self.now map.made_at }
         requires range { off + len ≤ length (buffer_of self.now map.made_at) }
-        ensures { result ≡ dev_read_answer (is_known self.now) (loan_of self.now.loans map.made_at) off len }
+        ensures { result
+            ≡ dev_read_answer (is_known self.now) (loan_of self.now.loans map.made_at) off len }
     {
         let row = row_of(&self.loans, map.made_at);
         access::judge_positions(
@@ -254,8 +257,9 @@ impl LoanTable {
     pub fn note_dev_write(&mut self, map: MapId, off: u64, len: u64)
         requires there { HasMap self.old map.made_at }
         requires range { off + len ≤ length (buffer_of self.old map.made_at) }
-        requires room { extent_count (addresses_of (range_of off len (buffer_of self.old map.made_at))) ≤ self.old.spare }
-        ensures bytes { self.new.bytes ≡ set_all self.old.bytes (addresses_of (range_of off len (buffer_of self.old map.made_at))) true }
+        requires room { extent_count (bytes_at self.old map.made_at off len) ≤ self.old.spare }
+        ensures bytes { self.new.bytes
+            ≡ set_all self.old.bytes (bytes_at self.old map.made_at off len) true }
         ensures loans { self.new.loans ≡ self.old.loans }
         ensures spare { self.new.spare ≤ self.old.spare }
     {
@@ -315,7 +319,7 @@ impl LoanTable {
     ) -> Result<ExtentList, AllocError>
         requires there { HasMap self.now map.made_at }
         requires range { off + len ≤ length (buffer_of self.now map.made_at) }
-        ensures bytes { IfOk result (λ list. addresses list ≡ addresses_of (range_of off len (buffer_of self.now map.made_at))) }
+        ensures bytes { IfOk result (λ list. addresses list ≡ bytes_at self.now map.made_at off len) }
         ensures extents { IfOk result (λ list. All IsExtent list) }
         ensures there { IfOk result (λ list. AreIn self.now.bytes (addresses list)) }
         ensures total { IfOk result (λ list. byte_count list ≡ len) }
@@ -330,7 +334,7 @@ impl LoanTable {
     pub fn extents(&self, map: MapId, off: u64, len: u64) -> u64
         requires there { HasMap self.now map.made_at }
         requires range { off + len ≤ length (buffer_of self.now map.made_at) }
-        ensures { result ≡ extent_count (addresses_of (range_of off len (buffer_of self.now map.made_at))) }
+        ensures { result ≡ extent_count (bytes_at self.now map.made_at off len) }
     {
         extents::extent_count(row_of(&self.loans, map.made_at).range(off, len))
     }
