@@ -109,6 +109,7 @@ impl<T> PlaceTable<T> {
     pub fn take(&mut self, place: u32) -> Option<T>
         ensures value { result ≡ map.get self.old.map place }
         ensures taken { OnSome result (self.new ≡ record self.old { map = map.remove self.old.map place; spare = self.old.spare + 1 }) }
+        ensures in_script { OnSome result (place < self.old.places) }
         ensures none { IfNone result (self.new ≡ self.old) }
     {
         let key = key_at(&self.keys, place)?;
