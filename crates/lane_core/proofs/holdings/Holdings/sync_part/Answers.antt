@@ -1,0 +1,19 @@
+use Rattle.std.proofs.Common.{ap, sym, ◌∙◌}
+use Rattle.phys_memory.specs.Memory.{wire}
+use Rattle.lane_core.specs.Ideal.{ideal_of}
+use Rattle.lane_core.proofs.Held.{shown}
+use Rattle.lane_core.proofs.Outcomes.{sync_done, covered_synced}
+use Rattle.lane_core.proofs.holdings.Holdings.sync_part.Goals as goal
+
+pub invariant_of-self-2 : goal.invariant_of-self-2
+invariant_of-self-2 c = record {
+  covered = covered_synced c.args.self.now.memory.memory c.reserve_extents.new.loans c.sync_loans.new.loans c.sync_loans.result c.args.map.made_at c.args.off c.args.len c.args.ops.0 c.sync_loans.ensures.done c.sync_loans.ensures.refused c.sync_loans.ensures.there (rw c.reserve_extents.ensures.same.bytes c.args.self.now.covered);
+  tag_places = c.args.self.now.tag_places;
+  map_places = c.args.self.now.map_places;
+}
+
+pub returns-in-Fine-clause-done : goal.returns-in-Fine-clause-done
+returns-in-Fine-clause-done c =
+    let w = wire c.args.self.now.memory.memory in
+    sync_done (ideal_of c.args.self.now) c.reserve_extents.new.loans c.sync_loans.new.loans w c.args.map.made_at c.args.off c.args.len c.args.ops.0
+    c.reserve_extents.ensures.same.loans (ap (λ b. shown b w) c.reserve_extents.ensures.same.bytes) (sym c.is_mixed.ensures ∙ c.if-is_mixed.false) (sym c.in-Fine.ensures.answer) c.in-Fine.ensures.done

@@ -1,0 +1,15 @@
+pub mod Accesses
+pub mod Actors
+pub mod Calls
+pub mod Changes
+pub mod Covered
+pub mod Ideal
+pub mod IdealMemory
+pub mod Lane
+pub mod Left
+pub mod Maps
+pub mod Opening
+pub mod OpeningMemory
+pub mod Step
+pub mod Syncs
+pub mod Tags
