@@ -1,6 +1,6 @@
 //! The turns of a lane, and the calls that they use.
 
-ghost use Rattle.std.specs.Prelude.{◌≡◌, false, IfOk, OnErr};
+ghost use Rattle.std.specs.Prelude.{◌≡◌, false, IfOk, OnErr, length, nat_le};
 ghost use Rattle.busdma_base.specs.declared.journal.Side.TheVariants as side;
 ghost use Rattle.lane_core.specs.declared.turn.Turn.TheVariants.{Stepped};
 ghost use Rattle.lane_core.specs.Lane.{gives};
@@ -40,6 +40,13 @@ impl Lane<'_> {
             Side::Transfer => self.transfer_turn(alloc),
             Side::Callback => Ok(Turn::Blocked),
         }
+    }
+
+    /// Whether the script has ended.
+    pub fn has_ended(&self) -> bool
+        ensures { result ≡ nat_le (length (ideal self.now).script) (ideal self.now).place }
+    {
+        self.holdings.script.len() <= self.holdings.agenda.place() as usize
     }
 
     /// The next operation of the script.
