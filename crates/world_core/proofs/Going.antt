@@ -1,0 +1,97 @@
+-- Turns in order, and rounds until one makes no step.
+use Rattle.std.proofs.Common.{◌≡◌, ℕ, zero, suc, ◌+◌, ◌<◌, ◌≤◌, List, [], ◌∷◌, ◌++◌, length, take, get_or, Option, Some, None, refl, sym, ap, ◌∙◌, arith, add-one, length-append}
+use Rattle.std.proofs.Math.Seq.{take-suc}
+use Rattle.busdma_base.specs.declared.journal.Actor.{Actor}
+use Rattle.busdma_base.specs.declared.journal.Side.TheVariants.{Script, Transfer, Callback}
+use Rattle.world_core.specs.World.{WorldStep, step}
+use Rattle.world_core.specs.Legal.{Run, noted, turn, turns, rounds, round_from}
+use Rattle.world_core.specs.Laws.{left_of}
+use Rattle.world_core.proofs.Steps.{step_keeps}
+use Rattle.world_core.proofs.Rest.{turns_grow}
+use Rattle.world_core.proofs.Rounds.{rounds-add}
+
+turns-snoc : (r : Run) (order : List Actor) (a : Actor) → turns r (order ++ a ∷ []) ≡ turn (turns r order) a
+turns-snoc r [] a = refl
+turns-snoc r (b ∷ order) a = turns-snoc (turn r b) order a
+
+-- one more turn of an order
+pub next_turn : (r x y : Run) (order : List Actor) (i : ℕ) (d : Actor) → i < length order → x ≡ turns r (take i order) → y ≡ turn x (get_or order i d) → y ≡ turns r (take (i + 1) order)
+next_turn r x y order i d lt h k =
+    k ∙ (ap (λ z. turn z (get_or order i d)) h
+    ∙ sym (ap (λ j. turns r (take j order)) (add-one i) ∙ (ap (turns r) (take-suc order i d lt) ∙ turns-snoc r (take i order) (get_or order i d))))
+
+-- one more round
+pub next_round : (n : ℕ) (round : List Actor) (r x y : Run) → rounds n round r ≡ x → y ≡ turns x round → rounds (n + 1) round r ≡ y
+next_round n round r x y h k = sym (rounds-add n 1 round r) ∙ (ap (λ z. turns z round) h ∙ sym k)
+
+noted_falls : (r : Run) (a : Actor) (o : Option WorldStep) → step r.world a ≡ o → left_of (noted r o).world ≤ left_of r.world
+noted_falls r a None h = omega arith
+noted_falls r a (Some s) h = let f = (step_keeps r.world a s h).falls in omega (arith, f)
+
+turns_fall : (actors : List Actor) (r : Run) → left_of (turns r actors).world ≤ left_of r.world
+turns_fall [] r = omega arith
+turns_fall (a ∷ actors) r = omega (arith, turns_fall actors (turn r a), noted_falls r a (step r.world a) refl)
+
+-- turns that note no entry leave the run as it is
+pub no_entry_rests : (actors : List Actor) (r : Run) → length (turns r actors).entries ≡ length r.entries → turns r actors ≡ r
+no_entry_rests [] r h = refl
+no_entry_rests (a ∷ actors) r h = first (step r.world a) (no_entry_rests actors r) h
+  where
+    first : (o : Option WorldStep) → (length (turns r actors).entries ≡ length r.entries → turns r actors ≡ r) → length (turns (noted r o) actors).entries ≡ length r.entries → turns (noted r o) actors ≡ r
+    first None rest k = rest k
+    first (Some s) rest k = absurd (omega (arith, k, turns_grow actors (noted r (Some s)), length-append r.entries (s.entry ∷ [])))
+
+-- turns that note an entry leave less to do
+pub entry_falls : (actors : List Actor) (r : Run) → (length (turns r actors).entries ≡ length r.entries → ⊥) → left_of (turns r actors).world < left_of r.world
+entry_falls [] r h = absurd (h refl)
+entry_falls (a ∷ actors) r h = first (step r.world a) refl (entry_falls actors r) h
+  where
+    first : (o : Option WorldStep) → step r.world a ≡ o → ((length (turns r actors).entries ≡ length r.entries → ⊥) → left_of (turns r actors).world < left_of r.world)
+        → (length (turns (noted r o) actors).entries ≡ length r.entries → ⊥) → left_of (turns (noted r o) actors).world < left_of r.world
+    first None e rest k = rest k
+    first (Some s) e rest k = let f = (step_keeps r.world a s e).falls in omega (arith, f, turns_fall actors (noted r (Some s)))
+
+-- the round over one driver more
+round_from-snoc : (i n : ℕ) → round_from i (suc n) ≡ round_from i n ++ (record { lane = record { 0 = i + n }; side = Callback } ∷ record { lane = record { 0 = i + n }; side = Transfer } ∷ record { lane = record { 0 = i + n }; side = Script } ∷ [])
+round_from-snoc i zero = let e : i ≡ i + 0 = omega arith in ap (λ k. record { lane = record { 0 = k }; side = Callback } ∷ record { lane = record { 0 = k }; side = Transfer } ∷ record { lane = record { 0 = k }; side = Script } ∷ []) e
+round_from-snoc i (suc n) =
+    let e : (i + 1) + n ≡ i + suc n = omega arith in
+    ap (λ rest. record { lane = record { 0 = i }; side = Callback } ∷ record { lane = record { 0 = i }; side = Transfer } ∷ record { lane = record { 0 = i }; side = Script } ∷ rest)
+    (round_from-snoc (i + 1) n ∙ ap (λ k. round_from (i + 1) n ++ (record { lane = record { 0 = k }; side = Callback } ∷ record { lane = record { 0 = k }; side = Transfer } ∷ record { lane = record { 0 = k }; side = Script } ∷ [])) e)
+
+-- the actors of a driver in a round
+abbrev pub callback : ℕ → Actor
+callback n = record { lane = record { 0 = n }; side = Callback }
+
+abbrev pub transfer : ℕ → Actor
+transfer n = record { lane = record { 0 = n }; side = Transfer }
+
+abbrev pub script : ℕ → Actor
+script n = record { lane = record { 0 = n }; side = Script }
+
+-- three pushes
+three_more : (r : List Actor) (a b c : Actor) → ((r ++ a ∷ []) ++ b ∷ []) ++ c ∷ [] ≡ r ++ (a ∷ b ∷ c ∷ [])
+three_more [] a b c = refl
+three_more (x ∷ r) a b c = ap (λ t. x ∷ t) (three_more r a b c)
+
+-- a round that noted no entry comes to rest
+pub rests : (round : List Actor) (x y : Run) → y ≡ turns x round → length y.entries ≡ length x.entries → turns y round ≡ y
+rests round x y h none =
+    let same : turns x round ≡ x = no_entry_rests round x (ap (λ (z : Run). length z.entries) (sym h) ∙ none) in
+    ap (λ z. turns z round) (h ∙ same) ∙ sym h
+
+-- a round that noted an entry leaves less to do
+pub falls : (round : List Actor) (x y : Run) → y ≡ turns x round → (length y.entries ≡ length x.entries → ⊥) → left_of y.world < left_of x.world
+falls round x y h some =
+    let less = entry_falls round x (λ e. some (ap (λ (z : Run). length z.entries) h ∙ e)) in
+    omega (arith, less, ap (λ (z : Run). left_of z.world) h)
+
+-- the round over one driver more, by pushes
+pub round_pushed : (n : ℕ) (r x y z : List Actor) → r ≡ round_from 0 n → x ≡ r ++ callback n ∷ [] → y ≡ x ++ transfer n ∷ [] → z ≡ y ++ script n ∷ [] → z ≡ round_from 0 (n + 1)
+round_pushed n r x y z before first second third =
+    let e : 0 + n ≡ n = omega arith in
+    third
+    ∙ (ap (λ l. l ++ script n ∷ []) (second ∙ ap (λ l. l ++ transfer n ∷ []) first)
+    ∙ (three_more r (callback n) (transfer n) (script n)
+    ∙ (ap (λ l. l ++ (callback n ∷ transfer n ∷ script n ∷ [])) before
+    ∙ sym (ap (round_from 0) (add-one n) ∙ (round_from-snoc 0 n ∙ ap (λ k. round_from 0 n ++ (callback k ∷ transfer k ∷ script k ∷ [])) e)))))

@@ -1,0 +1,9 @@
+pub mod Ended
+pub mod Going
+pub mod Lanes
+pub mod Legal
+pub mod OpeningWorld
+pub mod Rest
+pub mod Rounds
+pub mod Steps
+pub mod Taking

@@ -1,0 +1,76 @@
+-- Journals: those that are legal, and the one that a scenario's order replays.
+use Rattle.std.specs.Prelude.{◌≡◌, ℕ, zero, suc, ◌+◌, List, [], ◌∷◌, ◌++◌, length, Option, Some, None}
+use Rattle.busdma_base.specs.declared.journal.Actor.{Actor}
+use Rattle.busdma_base.specs.declared.journal.Side.TheVariants.{Script, Transfer, Callback}
+use Rattle.busdma_base.specs.declared.journal.JournalEntry.{JournalEntry}
+use Rattle.busdma_base.specs.declared.journal.Journal.{Journal}
+use Rattle.busdma_base.specs.declared.scenario.Scenario.{Scenario}
+use Rattle.world_core.specs.World.{WorldState, WorldStep, opening_world, step, zone_counts}
+use Rattle.world_core.specs.Ends.{IsAtRest, end_of}
+
+-- entries lead from one world to another: each entry's actor can step there, and the entry is that of its step
+abbrev pub Leads : WorldState → List JournalEntry → WorldState → Type 0
+Leads w [] end = w ≡ end
+Leads w (e ∷ es) end = (s : WorldStep) × (step w e.actor ≡ Some s) × (e ≡ s.entry) × Leads s.world es end
+
+-- a journal is legal: its entries lead from the opening world to one at rest, whose counts and end it has
+pub record IsLegal (s : Scenario) (j : Journal) : Type 0 where
+  pub last : WorldState
+  pub leads : Leads (opening_world s) j.entries last
+  pub rest : IsAtRest last
+  pub zones : j.zones ≡ zone_counts last
+  pub end : j.end ≡ end_of last
+
+-- the world that a run has come to, and the entries of its steps
+pub record Run : Type 0 where
+  pub world : WorldState
+  pub entries : List JournalEntry
+
+-- a step is noted in the run; an actor that cannot step is skipped
+abbrev pub noted : Run → Option WorldStep → Run
+noted r None = r
+noted r (Some s) = record { world = s.world; entries = r.entries ++ s.entry ∷ [] }
+
+-- an actor's turn
+abbrev pub turn : Run → Actor → Run
+turn r actor = noted r (step r.world actor)
+
+-- the turns of actors, in order
+abbrev pub turns : Run → List Actor → Run
+turns r [] = r
+turns r (a ∷ order) = turns (turn r a) order
+
+-- the actors of a round over n drivers from the i-th on: c0 d0 s0 c1 d1 s1 ..
+abbrev pub round_from : ℕ → ℕ → List Actor
+round_from i zero = []
+round_from i (suc n) =
+    record { lane = record { 0 = i }; side = Callback } ∷ record { lane = record { 0 = i }; side = Transfer }
+    ∷ record { lane = record { 0 = i }; side = Script } ∷ round_from (i + 1) n
+
+abbrev pub round_of : Scenario → List Actor
+round_of s = round_from 0 (length s.drivers)
+
+-- n rounds
+abbrev pub rounds : ℕ → List Actor → Run → Run
+rounds zero round r = r
+rounds (suc n) round r = rounds n round (turns r round)
+
+-- the run in which a scenario opens
+abbrev pub opening_run : Scenario → Run
+opening_run s = record { world = opening_world s; entries = [] }
+
+-- the turns of the scenario's order, and then rounds until a whole round makes no step
+pub record IsReplay (s : Scenario) (end : Run) : Type 0 where
+  pub count : ℕ
+  pub reaches : rounds count (round_of s) (turns (opening_run s) s.order) ≡ end
+  pub rests : turns end (round_of s) ≡ end
+
+-- the journal of a run
+abbrev pub journal_of : Run → Journal
+journal_of r = record { entries = r.entries; zones = zone_counts r.world; end = end_of r.world }
+
+-- the journal is that of the scenario's replay
+pub record IsReplayed (s : Scenario) (j : Journal) : Type 0 where
+  pub run : Run
+  pub replay : IsReplay s run
+  pub journal : j ≡ journal_of run

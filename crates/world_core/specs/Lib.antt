@@ -1,0 +1,5 @@
+pub mod Ends
+pub mod Ideal
+pub mod Laws
+pub mod Legal
+pub mod World

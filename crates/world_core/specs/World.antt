@@ -1,0 +1,61 @@
+-- The world: all drivers and the account that they share, and its steps.
+use Rattle.std.specs.Prelude.{ℕ, ◌+◌, Bool, List, [], ◌∷◌, length, Option, Some, None, slice_get, slice_set, nat_le}
+use Rattle.busdma_base.specs.declared.journal.Actor.{Actor}
+use Rattle.busdma_base.specs.declared.journal.JournalEntry.{JournalEntry}
+use Rattle.busdma_base.specs.declared.scenario.Driver.{Driver}
+use Rattle.busdma_base.specs.declared.scenario.Scenario.{Scenario}
+use Rattle.busdma_base.specs.declared.zone.ZoneCounts.{ZoneCounts}
+use Rattle.busdma_base.specs.Account.{Account, Zone, counts}
+use Rattle.busdma_base.specs.Opening.{opening}
+use Rattle.lane_core.specs.declared.turn.Turn.{Turn}
+use Rattle.lane_core.specs.declared.turn.Turn.TheVariants.{Stepped, Blocked, Ended}
+use Rattle.lane_core.specs.Lane.{LaneState}
+use Rattle.lane_core.specs.Opening.{opening_lane}
+use Rattle.lane_core.specs.Step.{lane_step}
+
+-- the drivers, in the order of their numbers, and the one account
+pub record WorldState : Type 0 where
+  pub lanes : List LaneState
+  pub account : Account
+
+-- the opening states of drivers, the first of which has this number
+abbrev pub opening_lanes : ℕ → List Driver → List LaneState
+opening_lanes id [] = []
+opening_lanes id (d ∷ ds) = opening_lane id d ∷ opening_lanes (id + 1) ds
+
+-- the world in which a scenario opens
+abbrev pub opening_world : Scenario → WorldState
+opening_world s = record { lanes = opening_lanes 0 s.drivers; account = opening s }
+
+-- the world after a step, and the entry of the step
+pub record WorldStep : Type 0 where
+  pub world : WorldState
+  pub entry : JournalEntry
+
+-- what a driver's turn makes of the world; None where it is no step
+abbrev pub after_turn : WorldState → ℕ → LaneState → Turn → Option WorldStep
+after_turn w i l (Stepped entry held) = Some (record { world = record w { lanes = slice_set w.lanes i l }; entry = entry })
+after_turn w i l Blocked = None
+after_turn w i l Ended = None
+
+-- the step of an actor whose driver was looked up
+abbrev pub step_of : WorldState → Actor → Option LaneState → Option WorldStep
+step_of w actor None = None
+step_of w actor (Some l) = after_turn w actor.lane.0 (lane_step l actor.side).lane (lane_step l actor.side).turn
+
+-- the step of an actor; None where it cannot step
+abbrev pub step : WorldState → Actor → Option WorldStep
+step w actor = step_of w actor (slice_get w.lanes actor.lane.0)
+
+-- the counts of zones from the z-th on; no sync has copied yet
+abbrev pub counts_from : Account → ℕ → List Zone → List ZoneCounts
+counts_from a z [] = []
+counts_from a z (zone ∷ zones) = counts a 0 z ∷ counts_from a (z + 1) zones
+
+-- the counts of every zone in this world
+abbrev pub zone_counts : WorldState → List ZoneCounts
+zone_counts w = counts_from w.account 0 w.account.zones
+
+-- the script of a driver has ended
+abbrev pub has_ended : LaneState → Bool
+has_ended l = nat_le (length l.script) l.place
