@@ -1,0 +1,74 @@
+-- What a call did to its source and its sink. Where they do not tell their bytes, nothing is said
+-- of bytes.
+use Rattle.std.specs.Prelude.{◌≡◌, ℕ, ◌+◌, ◌≤◌, List, length, Option}
+use Rattle.std.specs.Io.KnownBytes.{Appends}
+use Rattle.io_edge.specs.Faults.{Rose}
+use Rattle.io_edge.specs.Reading.{Takes, TakesAtMost, TakesAll}
+use Rattle.io_edge.specs.Writing.{WritesPart}
+
+-- how many bytes the program reads at the most
+abbrev pub input_limit : ℕ
+input_limit = 16777216
+
+-- the bytes left in a source and held by a sink, and how often each had failed, before a call and after it
+pub record Edges : Type 0 where
+  pub left : Option (List ℕ)
+  pub left_after : Option (List ℕ)
+  pub held : Option (List ℕ)
+  pub held_after : Option (List ℕ)
+  pub read_faults : ℕ
+  pub read_faults_after : ℕ
+  pub write_faults : ℕ
+  pub write_faults_after : ℕ
+
+-- the edges of a call, by what its source and its sink mean
+abbrev pub edges : {S K : Type 0} → (S → Option (List ℕ)) → (S → ℕ) → (K → Option (List ℕ)) → (K → ℕ) → S → S → K → K → Edges
+edges left read_faults held write_faults s t k l = record {
+  left = left s;
+  left_after = left t;
+  held = held k;
+  held_after = held l;
+  read_faults = read_faults s;
+  read_faults_after = read_faults t;
+  write_faults = write_faults k;
+  write_faults_after = write_faults l;
+}
+
+-- reading failed
+abbrev pub ReadFailed : Edges → Type 0
+ReadFailed e = Rose e.read_faults e.read_faults_after
+
+-- writing failed
+abbrev pub WriteFailed : Edges → Type 0
+WriteFailed e = Rose e.write_faults e.write_faults_after
+
+-- nothing was read
+pub record ReadNothing (e : Edges) : Type 0 where
+  pub bytes : e.left_after ≡ e.left
+  pub faults : e.read_faults_after ≡ e.read_faults
+
+-- nothing was written, nor tried
+pub record WroteNothing (e : Edges) : Type 0 where
+  pub bytes : e.held_after ≡ e.held
+  pub faults : e.write_faults_after ≡ e.write_faults
+
+-- these bytes, which are not too many, were all that was left, and nothing is left
+pub record ReadAll (bytes : List ℕ) (e : Edges) : Type 0 where
+  pub all : TakesAll bytes e.left e.left_after
+  pub short : length bytes ≤ input_limit
+
+-- one byte too many was given
+abbrev pub ReadTooMany : Edges → Type 0
+ReadTooMany e = Takes (input_limit + 1) e.left e.left_after
+
+-- at most one byte too many was taken
+abbrev pub ReadAtMost : Edges → Type 0
+ReadAtMost e = TakesAtMost (input_limit + 1) e.left e.left_after
+
+-- the whole text was written
+abbrev pub WroteAll : List ℕ → Edges → Type 0
+WroteAll text e = Appends e.held e.held_after text
+
+-- a front of the text was written, and not the whole
+abbrev pub WrotePart : List ℕ → Edges → Type 0
+WrotePart text e = WritesPart text e.held e.held_after

@@ -1,0 +1,5 @@
+pub mod Command
+pub mod Edges
+pub mod Ends
+pub mod Line
+pub mod Outcome

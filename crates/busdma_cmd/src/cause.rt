@@ -1,0 +1,31 @@
+//! Why a command does not end well.
+
+ghost use Rattle.std.specs.Prelude.{◌≡◌};
+ghost use Rattle.busdma_cmd.specs.declared.cause.Cause.TheVariants.{OutOfMemory as no_memory};
+
+use busdma_base::Journal;
+use scenario_read::Refusal;
+use std::alloc::AllocError;
+
+/// Why a command does not end with the whole report written.
+#[derive(Debug, Drop)]
+pub(crate) enum Cause {
+    /// The bytes that were read are no scenario.
+    Refused(Refusal),
+    /// More bytes were given than the program reads.
+    TooLong,
+    /// Memory ran out.
+    OutOfMemory,
+    /// The source failed.
+    ReadFailed,
+    /// The sink failed before the last byte of this journal's report.
+    WriteFailed(Journal),
+}
+
+impl From<AllocError> for Cause {
+    ghost from_gives = { λ _ cause. cause ≡ no_memory };
+
+    fn from(_error: AllocError) -> Cause {
+        Cause::OutOfMemory
+    }
+}

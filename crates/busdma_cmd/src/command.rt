@@ -1,0 +1,90 @@
+//! The commands that wait for nobody.
+
+ghost use Rattle.std.specs.Prelude.{◌≡◌, IfOk, map, string_bytes};
+ghost use Rattle.busdma_base.specs.Valid.{IsValid};
+ghost use Rattle.busdma_cmd.specs.Edges.{edges};
+ghost use Rattle.busdma_cmd.specs.Outcome.{Keeps};
+ghost use Rattle.busdma_cmd.specs.Ends.{Reads, EndsBy, outcome};
+
+use crate::cause::Cause;
+use crate::outcome::Outcome;
+use crate::words::{Command, command_of};
+use busdma_base::{Journal, Scenario};
+use io_edge::{Input, Sink, Source, read_up_to, write_all};
+use report_text::report;
+use scenario_read::{Reading, scenario_of};
+use std::alloc::Global;
+use world_core::{replay, status};
+
+/// How many bytes the program reads at the most.
+const INPUT_LIMIT: usize = 16_777_216;
+
+/// The scenario that all of the source is.
+fn read_scenario<S: Source>(alloc: Global, source: &mut S) -> Result<Scenario, Cause>
+    ensures reads { Reads (S.left source.old) (S.left source.new) (S.faults source.old) (S.faults source.new) result }
+    ensures valid { IfOk result IsValid }
+{
+    match read_up_to(alloc, source, INPUT_LIMIT)? {
+        Input::Whole(bytes) => match scenario_of(alloc, &bytes)? {
+            Reading::Good(scenario) => Ok(scenario),
+            Reading::Bad(refusal) => Err(Cause::Refused(refusal)),
+        },
+        Input::TooLong => Err(Cause::TooLong),
+        Input::Failed => Err(Cause::ReadFailed),
+    }
+}
+
+/// Reads a scenario, replays its order and writes the report.
+fn replay_input<S: Source, K: Sink>(
+    alloc: Global,
+    source: &mut S,
+    sink: &mut K,
+) -> Result<Journal, Cause>
+    ensures { EndsBy (edges S.left S.faults K.held K.faults source.old source.new sink.old sink.new) result }
+{
+    let scenario = read_scenario(alloc, source)?;
+    let journal = replay(alloc, &scenario)?;
+    let text = report(alloc, &scenario, &journal)?;
+    match write_all(sink, text.as_slice()) {
+        Ok(()) => Ok(journal),
+        Err(_) => Err(Cause::WriteFailed(journal)),
+    }
+}
+
+/// The outcome of a run.
+fn outcome_of(ran: Result<Journal, Cause>) -> Outcome
+    ensures { result ≡ outcome ran }
+{
+    let (status, journal, fault) = match ran {
+        Ok(journal) => (status(&journal), Some(journal), None),
+        Err(Cause::Refused(refusal)) => (65, None, Some(refusal)),
+        Err(Cause::TooLong) => (66, None, None),
+        Err(Cause::OutOfMemory) => (71, None, None),
+        Err(Cause::WriteFailed(journal)) => (73, Some(journal), None),
+        Err(Cause::ReadFailed) => (74, None, None),
+    };
+    Outcome {
+        status,
+        journal,
+        fault,
+    }
+}
+
+/// Runs the command that the words ask for. It waits for nobody and always returns.
+pub fn plain_command<S: Source, K: Sink>(
+    alloc: Global,
+    words: &[String],
+    source: &mut S,
+    sink: &mut K,
+) -> Outcome
+    ensures { Keeps (map string_bytes words.now) (edges S.left S.faults K.held K.faults source.old source.new sink.old sink.new) result }
+{
+    match command_of(words) {
+        Some(Command::Replay) => outcome_of(replay_input(alloc, source, sink)),
+        None => Outcome {
+            status: 64,
+            journal: None,
+            fault: None,
+        },
+    }
+}

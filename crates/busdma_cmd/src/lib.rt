@@ -1,0 +1,17 @@
+//! The command of the program, over any source and any sink.
+#![tactic(auto)]
+
+mod cause;
+mod command;
+mod gate;
+mod line;
+mod outcome;
+mod top_call;
+mod words;
+
+pub use command::plain_command;
+pub use gate::Gate;
+pub use line::fault_line;
+pub use outcome::Outcome;
+pub use top_call::top;
+pub use words::{Command, command_of};

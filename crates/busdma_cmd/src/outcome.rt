@@ -1,0 +1,13 @@
+//! How a call of the program ends.
+
+use busdma_base::Journal;
+use scenario_read::Refusal;
+
+/// How a call of the program ends: its status, the journal of the run where there was one, and the
+/// refusal of the scenario where it was refused.
+#[derive(Debug, Drop)]
+pub struct Outcome {
+    pub status: u8,
+    pub journal: Option<Journal>,
+    pub fault: Option<Refusal>,
+}
