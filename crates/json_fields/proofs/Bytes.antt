@@ -3,7 +3,8 @@ use Rattle.std.proofs.Common.{◌≡◌, ℕ, suc, ◌<◌, ◌+◌, ◌*◌, Li
 use Rattle.std.proofs.Math.Seq.{drop-cons}
 use Rattle.json_fields.specs.Text.{hex_byte, hex_bytes}
 
-more_behind : (out : List ℕ) (x : ℕ) (r : Option (List ℕ)) → option_map (λ ys. (out ++ x ∷ []) ++ ys) r ≡ option_map (λ ys. out ++ ys) (option_map (λ ys. x ∷ ys) r)
+more_behind : (out : List ℕ) (x : ℕ) (r : Option (List ℕ))
+    → option_map (λ ys. (out ++ x ∷ []) ++ ys) r ≡ option_map (λ ys. out ++ ys) (option_map (λ ys. x ∷ ys) r)
 more_behind out x None = refl
 more_behind out x (Some ys) = ap Some (append_assoc out (x ∷ []) ys)
 
@@ -19,7 +20,8 @@ pub hex_bytes-more : (out s : List ℕ) (i x : ℕ) → 2 * i + 1 < length s →
     → option_map (λ ys. (out ++ x ∷ []) ++ ys) (hex_bytes (drop (2 * (i + 1)) s)) ≡ option_map (λ ys. out ++ ys) (hex_bytes (drop (2 * i) s))
 hex_bytes-more out s i x h e = rw (pair_at s i h, e) (more_behind out x (hex_bytes (drop (2 * (i + 1)) s)))
 
-pub hex_bytes-bad : (out s : List ℕ) (i : ℕ) → 2 * i + 1 < length s → hex_byte (get_or s (2 * i) 0) (get_or s (2 * i + 1) 0) ≡ None → option_map (λ ys. out ++ ys) (hex_bytes (drop (2 * i) s)) ≡ None
+pub hex_bytes-bad : (out s : List ℕ) (i : ℕ) → 2 * i + 1 < length s → hex_byte (get_or s (2 * i) 0) (get_or s (2 * i + 1) 0) ≡ None
+    → option_map (λ ys. out ++ ys) (hex_bytes (drop (2 * i) s)) ≡ None
 hex_bytes-bad out s i h e = rw (pair_at s i h, e) refl
 
 pub hex_bytes-one : (s : List ℕ) → length s ≡ 1 → hex_bytes s ≡ None

@@ -1,14 +1,16 @@
 //! A value of a document and where it stands.
 
-ghost use Rattle.std.specs.Prelude.{◌≡◌, ℕ, List, true, map, option_map, Option, string_bytes, IfOk};
+ghost use Rattle.std.specs.Prelude.{◌≡◌, true, map, option_map, string_bytes, IfOk};
 ghost use Rattle.std.specs.List.{list_any};
 ghost use Rattle.std.specs.Str.{bytes_eq};
 ghost use Rattle.serde_json.specs.View.{view, members_view};
 ghost use Rattle.busdma_base.specs.Names as names;
 ghost use Rattle.json_fields.specs.Place.{key, place_of};
 ghost use Rattle.json_fields.specs.Read.{Gives, GivesSeen, StopsWith, refusal};
-ghost use Rattle.json_fields.specs.Field.{spot_of, placed_at, item_of, field, required, members_of, only_keys, unknown_key};
-ghost use Rattle.json_fields.specs.Number.{number_in as number_of_kind, number_at, number_field, number_or};
+ghost use Rattle.json_fields.specs.Field.{spot_of, placed_at, item_of, field, required};
+ghost use Rattle.json_fields.specs.Field.{members_of, only_keys, unknown_key};
+ghost use Rattle.json_fields.specs.Number.{number_in as number_of_kind, number_at};
+ghost use Rattle.json_fields.specs.Number.{number_field, number_or};
 ghost use Rattle.json_fields.specs.Text.{name_at, bytes_at, text_at};
 ghost use Rattle.json_fields.specs.Items.{items_at};
 
@@ -92,7 +94,8 @@ impl<'v> Node<'v> {
 
     /// The members of an object.
     pub fn members(&self) -> Result<&'v Map<String, Value>, Stop>
-        ensures { GivesSeen (λ m. members_view m.now.entries) result (members_of (spot_of self.now)) }
+        ensures { GivesSeen (λ m. members_view m.now.entries) result
+            (members_of (spot_of self.now)) }
     {
         match self.value.as_object() {
             Some(members) => Ok(members),
@@ -104,7 +107,8 @@ impl<'v> Node<'v> {
     /// order, is refused with its path.
     #[tactic(auto, unfolding(crate::specs::Field::only_keys))]
     pub fn only_keys(&self, table: &[&str]) -> Result<(), Stop>
-        ensures { Gives result (only_keys (λ key. list_any (λ k. bytes_eq k.now key) table.now) (spot_of self.now)) }
+        ensures { Gives result
+            (only_keys (λ key. list_any (λ k. bytes_eq k.now key) table.now) (spot_of self.now)) }
     {
         match unknown_key(self.members()?, table) {
             Some(key) => Err(self.refuse_key(RefusalKind::BadField, key)),
@@ -202,7 +206,8 @@ fn number_in(value: &Value) -> Option<u64>
 
 fn unknown_key<'a>(members: &'a Map<String, Value>, table: &[&str]) -> Option<&'a str>
     ensures { option_map (λ k. k.now) result
-        ≡ unknown_key (λ key. list_any (λ k. bytes_eq k.now key) table.now) (members_view members.now.entries) }
+        ≡ unknown_key (λ key. list_any (λ k. bytes_eq k.now key) table.now)
+        (members_view members.now.entries) }
 {
     for (key, _) in members {
         let name = key.as_str();

@@ -68,7 +68,8 @@ impl<'a> Path<'a> {
 
 #[tactic(auto, unfolding(crate::specs::Place::place_of))]
 fn push_path(text: &mut String, path: &Path) -> Result<(), AllocError>
-    ensures { OnOk result (string_bytes text.new ≡ string_bytes text.old ++ path_text (place_of path.now)) }
+    ensures { OnOk result
+        (string_bytes text.new ≡ string_bytes text.old ++ path_text (place_of path.now)) }
 {
     match path {
         Path::Top => Ok(()),

@@ -9,7 +9,8 @@ use Rattle.busdma_base.specs.Valid.{read_of, loaded_of}
 use Rattle.scenario_read.specs.declared.counts.Counts.{Counts}
 use Rattle.scenario_read.specs.Counts.{with_op, with_ops, with_items, stepped, having_read, IsQuiet}
 
-same : (a b c a' b' c' : ℕ) → a ≡ a' → b ≡ b' → c ≡ c' → let x : Counts = record { steps = a; read = b; loaded = c } in let y : Counts = record { steps = a'; read = b'; loaded = c' } in x ≡ y
+same : (a b c a' b' c' : ℕ) → a ≡ a' → b ≡ b' → c ≡ c'
+    → let x : Counts = record { steps = a; read = b; loaded = c } in let y : Counts = record { steps = a'; read = b'; loaded = c' } in x ≡ y
 same a b c a' b' c' p q r = cc
 
 pub with_op_quiet : (c : Counts) (o : Op) → IsQuiet o → c ≡ with_op c o
@@ -22,12 +23,17 @@ with_ops_more c ops o =
     (rw (sum_by-append read_by ops (o ∷ [])) (omega arith))
     (rw (sum_by-append loaded_by ops (o ∷ [])) (omega arith))
 
-pub with_items_more : (c : Counts) (items : List Item) (i : Item) → having_read (stepped (with_items c items)) (read_by_item i) ≡ with_items c (items ++ i ∷ [])
+pub with_items_more : (c : Counts) (items : List Item) (i : Item)
+    → having_read (stepped (with_items c items)) (read_by_item i) ≡ with_items c (items ++ i ∷ [])
 with_items_more c items i =
     same _ _ _ _ _ _ (rw (length-append items (i ∷ [])) (omega arith)) (rw (sum_by-append read_by_item items (i ∷ [])) (omega arith)) refl
 
-pub read_more : (new old : Counts) (ds : List Driver) (d : Driver) → new ≡ with_ops old d.script → old.read ≡ read_of ds → new.read ≡ read_of (ds ++ d ∷ [])
-read_more new old ds d e h = ap (λ (k : Counts). k.read) e ∙ rw (sum_by-append (λ (x : Driver). sum_by read_by x.script) ds (d ∷ [])) (omega (arith, h))
+pub read_more : (new old : Counts) (ds : List Driver) (d : Driver)
+    → new ≡ with_ops old d.script → old.read ≡ read_of ds → new.read ≡ read_of (ds ++ d ∷ [])
+read_more new old ds d e h =
+    ap (λ (k : Counts). k.read) e ∙ rw (sum_by-append (λ (x : Driver). sum_by read_by x.script) ds (d ∷ [])) (omega (arith, h))
 
-pub loaded_more : (new old : Counts) (ds : List Driver) (d : Driver) → new ≡ with_ops old d.script → old.loaded ≡ loaded_of ds → new.loaded ≡ loaded_of (ds ++ d ∷ [])
-loaded_more new old ds d e h = ap (λ (k : Counts). k.loaded) e ∙ rw (sum_by-append (λ (x : Driver). sum_by loaded_by x.script) ds (d ∷ [])) (omega (arith, h))
+pub loaded_more : (new old : Counts) (ds : List Driver) (d : Driver)
+    → new ≡ with_ops old d.script → old.loaded ≡ loaded_of ds → new.loaded ≡ loaded_of (ds ++ d ∷ [])
+loaded_more new old ds d e h =
+    ap (λ (k : Counts). k.loaded) e ∙ rw (sum_by-append (λ (x : Driver). sum_by loaded_by x.script) ds (d ∷ [])) (omega (arith, h))

@@ -8,7 +8,8 @@ use Rattle.json_fields.specs.Read.{Read}
 use Rattle.json_fields.specs.Field.{Spot, item_of}
 use Rattle.json_fields.specs.Items.{each}
 
-pub EachAfter-append : {A : Type 0} (P : List A → A → Type 0) (before xs : List A) (x : A) → EachAfter P before xs → P (before ++ xs) x → EachAfter P before (xs ++ x ∷ [])
+pub EachAfter-append : {A : Type 0} (P : List A → A → Type 0) (before xs : List A) (x : A)
+    → EachAfter P before xs → P (before ++ xs) x → EachAfter P before (xs ++ x ∷ [])
 EachAfter-append P before [] x h p = (rw append-nil at p, tt)
 EachAfter-append P before (y ∷ ys) x h p = (h.0, EachAfter-append P (before ++ y ∷ []) ys x h.1 (rw append_assoc p))
 

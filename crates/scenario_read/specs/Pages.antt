@@ -31,7 +31,10 @@ page_run_in place [] = refuse BadField place
 page_run_in place (a ∷ []) = refuse BadField place
 page_run_in place (a ∷ b ∷ []) = refuse BadField place
 page_run_in place (a ∷ b ∷ c ∷ []) =
-    number_within place a >>= (λ va. number_within place b >>= (λ frame. number_within place c >>= (λ count. page_run_of place va frame count)))
+    number_within place a >>= (λ va.
+    number_within place b >>= (λ frame.
+    number_within place c >>= (λ count.
+    page_run_of place va frame count)))
 page_run_in place (a ∷ b ∷ c ∷ d ∷ more) = refuse BadField place
 
 -- frames of the machine alone, none that a page before has, and no virtual page that this driver has

@@ -4,7 +4,8 @@ ghost use Rattle.std.specs.Prelude.{◌≡◌, ◌≤◌, OnOk};
 ghost use Rattle.busdma_base.specs.Script.{access_limit};
 ghost use Rattle.json_fields.specs.Place.{place_of};
 ghost use Rattle.json_fields.specs.Read.{Gives};
-ghost use Rattle.scenario_read.specs.Counts.{IsWithin, stepped, having_read, having_loaded, step_judged, access_judged, read_judged, load_judged};
+ghost use Rattle.scenario_read.specs.Counts.{IsWithin, stepped, having_read, having_loaded};
+ghost use Rattle.scenario_read.specs.Counts.{step_judged, access_judged, read_judged, load_judged};
 
 use crate::limits::{ACCESS, BUFFER, LOADED, READS, STEPS};
 use json_fields::{LimitName, Node, RefusalKind, Stop};

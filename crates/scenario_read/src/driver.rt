@@ -25,7 +25,8 @@ use serde_json::Value;
 
 fn pages_field(here: &Node, frames: &[FrameRun], earlier: &[Driver]) -> Result<PageRunList, Stop>
     requires { AllByRecursion IsNumbered frames.now }
-    ensures value { Gives result (driver.pages_or_none frames.now earlier.now (field (codes "pages") (spot_of here.now))) }
+    ensures value { Gives result
+        (driver.pages_or_none frames.now earlier.now (field (codes "pages") (spot_of here.now))) }
     ensures valid { IfOk result (EachAfter (IsPageRun frames.now earlier.now) []) }
 {
     match here.field("pages") {
@@ -72,7 +73,8 @@ fn each_driver<'v>(
     frames: &[FrameRun],
 ) -> Result<Vec<Driver>, Stop>
     requires numbered { AllByRecursion IsNumbered frames.now }
-    ensures value { GivesSeen (λ v. v.items) result (each (driver.driver_at frames.now) (spot_of here.now) [] (map view items.now)) }
+    ensures value { GivesSeen (λ v. v.items) result
+        (each (driver.driver_at frames.now) (spot_of here.now) [] (map view items.now)) }
     ensures valid { IfOk result (λ v. EachAfter (IsDriver frames.now) [] v.items) }
     ensures count { IfOk result (λ v. length v.items ≡ length items.now) }
     ensures read { IfOk result (λ v. read_of v.items ≤ reads_limit) }

@@ -97,7 +97,8 @@ pub(crate) fn frames(here: &Node) -> Result<FrameRunList, Stop>
 }
 
 fn runs<'v>(here: &'v Node<'v>, items: &'v [Value]) -> Result<Vec<FrameRun>, Stop>
-    ensures value { GivesSeen (λ v. v.items) result (each frame_run_at (spot_of here.now) [] (map view items.now)) }
+    ensures value { GivesSeen (λ v. v.items) result
+        (each frame_run_at (spot_of here.now) [] (map view items.now)) }
     ensures valid { IfOk result (λ v. EachAfter IsFrameRun [] v.items) }
     ensures numbered { IfOk result (λ v. AllByRecursion IsNumbered v.items) }
 {

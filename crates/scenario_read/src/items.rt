@@ -8,7 +8,8 @@ ghost use Rattle.json_fields.specs.Read.{Gives, GivesSeen};
 ghost use Rattle.json_fields.specs.Field.{spot_of};
 ghost use Rattle.json_fields.specs.Items.{each};
 ghost use Rattle.scenario_read.specs.Counts.{IsWithin, with_items, having_read, stepped};
-ghost use Rattle.scenario_read.specs.Items.{sync_item_at, sync_range_item_at, dev_read_at, dev_write_at, item_by, item_at, then_at, then_field};
+ghost use Rattle.scenario_read.specs.Items.{sync_item_at, sync_range_item_at, dev_read_at};
+ghost use Rattle.scenario_read.specs.Items.{dev_write_at, item_by, item_at, then_at, then_field};
 ghost use Rattle.scenario_read.specs.Limits.{steps_limit};
 
 use crate::bytes::{count_of, written};
@@ -103,7 +104,8 @@ fn item(here: &Node, before: &[Op], counts: &mut Counts) -> Result<Item, Stop>
     requires within { IsWithin counts.old }
     ensures value { Gives result (item_at before.now counts.old (spot_of here.now)) }
     ensures valid { IfOk result (IsItem before.now) }
-    ensures counted { IfOk result (λ i. counts.new ≡ having_read (stepped counts.old) (read_by_item i)) }
+    ensures counted { IfOk result
+        (λ i. counts.new ≡ having_read (stepped counts.old) (read_by_item i)) }
     ensures within { IfOk result (λ _. IsWithin counts.new) }
 {
     here.members()?;
@@ -121,7 +123,8 @@ fn each_item<'v>(
     requires few { length before.now ≤ steps_limit }
     requires within { IsWithin counts.old }
     ensures value { GivesSeen (λ v. v.items) result
-        (each (λ done. item_at before.now (with_items counts.old done)) (spot_of here.now) [] (map view items.now)) }
+        (each (λ done. item_at before.now (with_items counts.old done)) (spot_of here.now) []
+        (map view items.now)) }
     ensures valid { IfOk result (λ v. AllByRecursion (IsItem before.now) v.items) }
     ensures counted { IfOk result (λ v. counts.new ≡ with_items counts.old v.items) }
     ensures within { IfOk result (λ _. IsWithin counts.new) }

@@ -95,7 +95,8 @@ pub(crate) fn used_name<'v>(
 /// The parent of a tag, where it has one.
 pub(crate) fn parent<'v>(here: &'v Node<'v>, before: &[Op]) -> Result<Option<u32>, Stop>
     requires { length before.now ≤ steps_limit }
-    ensures value { Gives result (names.parent_or_none before.now (field (codes "parent") (spot_of here.now))) }
+    ensures value { Gives result
+        (names.parent_or_none before.now (field (codes "parent") (spot_of here.now))) }
     ensures made { IfOk result (base.NamesParent before.now) }
 {
     match here.field("parent") {

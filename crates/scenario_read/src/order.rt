@@ -88,7 +88,8 @@ fn actor(here: &Node, drivers: u32) -> Result<Actor, Stop>
 }
 
 fn actors<'v>(here: &'v Node<'v>, items: &'v [Value], drivers: u32) -> Result<Vec<Actor>, Stop>
-    ensures value { GivesSeen (λ v. v.items) result (each (λ _. order.actor_at drivers) (spot_of here.now) [] (map view items.now)) }
+    ensures value { GivesSeen (λ v. v.items) result
+        (each (λ _. order.actor_at drivers) (spot_of here.now) [] (map view items.now)) }
     ensures count { IfOk result (λ v. length v.items ≡ length items.now) }
     ensures there { IfOk result (λ v. AllByRecursion (λ a. a.lane.0 < drivers) v.items) }
 {

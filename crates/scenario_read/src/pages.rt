@@ -10,7 +10,8 @@ ghost use Rattle.json_fields.specs.Place.{place_of};
 ghost use Rattle.json_fields.specs.Read.{Gives, GivesSeen};
 ghost use Rattle.json_fields.specs.Field.{spot_of};
 ghost use Rattle.json_fields.specs.Items.{each};
-ghost use Rattle.scenario_read.specs.Pages.{IsOnPages, page_values_at, page_run_judged, page_run_at, pages_at};
+ghost use Rattle.scenario_read.specs.Pages.{IsOnPages, page_values_at, page_run_judged};
+ghost use Rattle.scenario_read.specs.Pages.{page_run_at, pages_at};
 
 use crate::frames::is_in;
 use busdma_base::{Driver, FrameRun, ListOf, PageRun, PageRunList, Va};
@@ -112,7 +113,8 @@ fn judge(
 ) -> Result<PageRun, Stop>
     requires numbered { AllByRecursion IsNumbered frames.now }
     requires on_pages { IsOnPages run }
-    ensures value { Gives result (page_run_judged frames.now earlier.now before.now (place_of here.now.path) run) }
+    ensures value { Gives result
+        (page_run_judged frames.now earlier.now before.now (place_of here.now.path) run) }
     ensures valid { IfOk result (base.IsPageRun frames.now earlier.now before.now) }
 {
     if !all_in(frames, run.frame, run.count) {
@@ -135,7 +137,8 @@ fn page_run(
     before: &[PageRun],
 ) -> Result<PageRun, Stop>
     requires { AllByRecursion IsNumbered frames.now }
-    ensures value { Gives result (page_run_at frames.now earlier.now before.now (spot_of here.now)) }
+    ensures value { Gives result
+        (page_run_at frames.now earlier.now before.now (spot_of here.now)) }
     ensures valid { IfOk result (base.IsPageRun frames.now earlier.now before.now) }
 {
     let run = page_values(here)?;
@@ -164,8 +167,10 @@ fn runs<'v>(
     earlier: &[Driver],
 ) -> Result<Vec<PageRun>, Stop>
     requires { AllByRecursion IsNumbered frames.now }
-    ensures value { GivesSeen (λ v. v.items) result (each (page_run_at frames.now earlier.now) (spot_of here.now) [] (map view items.now)) }
-    ensures valid { IfOk result (λ v. EachAfter (base.IsPageRun frames.now earlier.now) [] v.items) }
+    ensures value { GivesSeen (λ v. v.items) result
+        (each (page_run_at frames.now earlier.now) (spot_of here.now) [] (map view items.now)) }
+    ensures valid { IfOk result
+        (λ v. EachAfter (base.IsPageRun frames.now earlier.now) [] v.items) }
 {
     let mut runs = Vec::new(here.alloc);
     for value in items {

@@ -8,7 +8,8 @@ ghost use Rattle.busdma_base.specs.Frames.{IsNumbered, IsFrameRun};
 ghost use Rattle.busdma_base.specs.Valid.{IsDriver, IsValid, read_of, loaded_of};
 ghost use Rattle.json_fields.specs.Read.{Gives};
 ghost use Rattle.json_fields.specs.Field.{spot_of};
-ghost use Rattle.scenario_read.specs.Limits.{bpages_limit, drivers_limit, reads_limit, loaded_limit};
+ghost use Rattle.scenario_read.specs.Limits.{bpages_limit, drivers_limit};
+ghost use Rattle.scenario_read.specs.Limits.{reads_limit, loaded_limit};
 ghost use Rattle.scenario_read.specs.Scenario as scenario;
 ghost use Rattle.scenario_read.specs.Scenario.{IsValidIfGood};
 

@@ -62,7 +62,8 @@ fn op(here: &Node, before: &[Op], counts: &mut Counts) -> Result<Op, Stop>
 fn each_op<'v>(here: &'v Node<'v>, items: &'v [Value], counts: &mut Counts) -> Result<Vec<Op>, Stop>
     requires within { IsWithin counts.old }
     ensures value { GivesSeen (λ v. v.items) result
-        (each (λ before. op_at before (with_ops counts.old before)) (spot_of here.now) [] (map view items.now)) }
+        (each (λ before. op_at before (with_ops counts.old before)) (spot_of here.now) []
+        (map view items.now)) }
     ensures valid { IfOk result (λ v. EachAfter IsOp [] v.items) }
     ensures counted { IfOk result (λ v. counts.new ≡ with_ops counts.old v.items) }
     ensures within { IfOk result (λ _. IsWithin counts.new) }
