@@ -1,0 +1,61 @@
+//! The command over sources and sinks in memory.
+
+ghost use Rattle.std.specs.Prelude.{◌≤◌};
+
+mod causes;
+mod lines;
+mod rows;
+
+use busdma_cmd::{Outcome, plain_command};
+use io_edge::{MemSink, MemSource};
+use std::alloc::{AllocError, Global};
+
+/// How a call ended, and the bytes that its sink holds.
+#[derive(Drop)]
+struct Ended {
+    outcome: Outcome,
+    written: Vec<u8>,
+}
+
+/// How a source or a sink works: the most bytes of one call, and the calls that fail.
+#[derive(Clone, Copy)]
+struct Edge<'a> {
+    piece: usize,
+    failing: &'a [u64],
+}
+
+/// One that takes or gives all at once and never fails.
+const WHOLE: Edge<'static> = Edge {
+    piece: 1_000_000,
+    failing: &[],
+};
+
+/// The words, as the command takes them.
+fn words_of(alloc: Global, words: &[&str]) -> Result<Vec<String>, AllocError> {
+    let mut all = Vec::new(alloc);
+    for word in words {
+        all.push(String::from_str(alloc, word)?)?;
+    }
+    Ok(all)
+}
+
+/// Calls the command with these words over this input.
+fn call(
+    alloc: Global,
+    words: &[&str],
+    input: Vec<u8>,
+    from: Edge,
+    to: Edge,
+) -> Result<Ended, AllocError>
+    requires given { 1 ≤ from.piece }
+    requires taken { 1 ≤ to.piece }
+{
+    let words = words_of(alloc, words)?;
+    let mut source = MemSource::new(input, from.piece, from.failing.to_vec(alloc)?);
+    let mut sink = MemSink::new(alloc, to.piece, to.failing.to_vec(alloc)?);
+    let outcome = plain_command(alloc, &words, &mut source, &mut sink);
+    Ok(Ended {
+        outcome,
+        written: sink.held().to_vec(alloc)?,
+    })
+}

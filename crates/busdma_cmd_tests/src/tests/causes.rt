@@ -1,0 +1,99 @@
+//! Statuses that come before a scenario is run.
+
+use super::{Edge, WHOLE, call, words_of};
+use busdma_cmd::plain_command;
+use io_edge::{Input, MemSink, MemSource, read_up_to};
+use std::test::Fail;
+
+/// No list of words but `replay` alone is a command, and nothing is read.
+#[test]
+fn words_come_first(rt: HostRuntime) -> Result<(), Fail> {
+    let alloc = rt.alloc();
+    let lists: [&[&str]; 6] = [
+        &[],
+        &["help"],
+        &["run"],
+        &["replay", "replay"],
+        &["--replay"],
+        &["Replay"],
+    ];
+    for list in lists {
+        let words = words_of(alloc, list)?;
+        let mut source = MemSource::new(b"{}".to_vec(alloc)?, 9, vec![in alloc; 0]?);
+        let mut sink = MemSink::new(alloc, 9, Vec::new(alloc));
+        let outcome = plain_command(alloc, &words, &mut source, &mut sink);
+        assert_eq!(rt; outcome.status, 64, "at {list:?}");
+        assert!(rt; outcome.journal.is_none(), "at {list:?}");
+        assert!(rt; outcome.fault.is_none(), "at {list:?}");
+        let first = read_up_to(alloc, &mut source, 9)?;
+        assert_eq!(rt; first, Input::Failed, "no call was made at {list:?}");
+        let all = read_up_to(alloc, &mut source, 9)?;
+        assert_eq!(rt; all, Input::Whole(b"{}".to_vec(alloc)?), "at {list:?}");
+    }
+    Ok(())
+}
+
+/// Bytes that are no scenario, in pieces of every small size.
+#[test]
+fn refuses(rt: HostRuntime) -> Result<(), Fail> {
+    let alloc = rt.alloc();
+    let table: [(&[u8], &str); 4] = [
+        (b"", "NotJson"),
+        (b"{", "NotJson"),
+        (b"\xff", "NotJson"),
+        (
+            b"{\"frames\":[],\"drivers\":[],\"extra\":1}",
+            "BadField extra",
+        ),
+    ];
+    for (input, want) in table {
+        for piece in 1..4 {
+            let from = Edge {
+                piece,
+                failing: &[],
+            };
+            let ended = call(alloc, &["replay"], input.to_vec(alloc)?, from, WHOLE)?;
+            assert_eq!(rt; ended.outcome.status, 65, "{want}");
+            assert!(rt; ended.outcome.journal.is_none(), "{want}");
+            assert!(rt; ended.written.is_empty(), "{want}");
+            match &ended.outcome.fault {
+                Some(refusal) => {
+                    let text = format!(in alloc; "{refusal}")?;
+                    assert_eq!(rt; text.as_str(), want);
+                }
+                None => panic!(rt; "no refusal, but {want}"),
+            }
+        }
+    }
+    Ok(())
+}
+
+/// A byte too many is too long, and one less is read and judged.
+#[test]
+fn reads_so_many_bytes_at_the_most(rt: HostRuntime) -> Result<(), Fail> {
+    let alloc = rt.alloc();
+    for (count, want) in [(16_777_216, 65), (16_777_217, 66), (16_777_218, 66)] {
+        let spaces = vec![in alloc; b' '; count]?;
+        let ended = call(alloc, &["replay"], spaces, WHOLE, WHOLE)?;
+        assert_eq!(rt; ended.outcome.status, want, "at {count}");
+        assert!(rt; ended.outcome.fault.is_some() == (want == 65), "at {count}");
+        assert!(rt; ended.written.is_empty(), "at {count}");
+    }
+    Ok(())
+}
+
+/// Whichever read fails, nothing is judged; the last one is the read that would see the end.
+#[test]
+fn fails_with_each_read(rt: HostRuntime) -> Result<(), Fail> {
+    let alloc = rt.alloc();
+    for (call_number, want) in [(0, 74), (1, 74), (2, 74), (3, 74), (4, 65)] {
+        let from = Edge {
+            piece: 1,
+            failing: &[call_number],
+        };
+        let ended = call(alloc, &["replay"], b"{ }".to_vec(alloc)?, from, WHOLE)?;
+        assert_eq!(rt; ended.outcome.status, want, "call {call_number}");
+        assert!(rt; ended.written.is_empty(), "call {call_number}");
+    }
+    Ok(())
+}
