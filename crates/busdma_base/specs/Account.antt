@@ -1,6 +1,6 @@
 -- The account: what all drivers share, as plain lists of frames, maps and waiters. Its pages are
 -- physical addresses and hold no bytes, and all its numbers are counted anew.
-use Rattle.std.specs.Prelude.{ℕ, ◌+◌, ◌-◌, List, [], length, ◌==◌, slice_index_or}
+use Rattle.std.specs.Prelude.{ℕ, ◌+◌, ◌-◌, Bool, ◌&&◌, List, [], length, ◌==◌, slice_index_or, slice_set}
 use Rattle.std.specs.List.{count_by, sum_by, filter}
 use Rattle.busdma_base.specs.declared.name.MapId.{MapId}
 use Rattle.busdma_base.specs.declared.zone.Waiter.{Waiter}
@@ -43,6 +43,14 @@ no_zone = record { lowaddr = 0; alignment = 0; avail = []; maps = []; wait = [];
 -- the zone of a number
 abbrev pub zone_at : Account → ℕ → Zone
 zone_at a z = slice_index_or a.zones z no_zone
+
+-- the account with another zone of that number
+abbrev pub with_zone : Account → ℕ → Zone → Account
+with_zone a z zone = record a { zones = slice_set a.zones z zone }
+
+-- two names name one map, or one memory
+abbrev pub is_map : MapId → MapId → Bool
+is_map m n = (m.lane.0 == n.lane.0) && (m.made_at == n.made_at)
 
 -- the pages of a zone that maps hold
 abbrev pub active : Account → ℕ → ℕ

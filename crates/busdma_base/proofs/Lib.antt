@@ -1,0 +1,8 @@
+pub mod Counting
+pub mod Counts
+pub mod Openings
+pub mod Order
+pub mod Places
+pub mod Rising
+pub mod Shares
+pub mod Wells
