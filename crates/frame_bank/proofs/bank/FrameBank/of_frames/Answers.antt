@@ -1,0 +1,31 @@
+use Rattle.std.proofs.Common.{◌≡◌, ◌+◌, ◌-◌, ◌<◌, ◌==◌, [], ◌∷◌, map, length, drop, get_or, sym, ap, ◌∙◌, arith}
+use Rattle.std.specs.List.{count_by}
+use Rattle.std.proofs.lemmas.List.{length-map, length-drop}
+use Rattle.frame_bank.specs.FrameBank.{Bank, fresh_page, put_page, put_pages}
+use Rattle.frame_bank.proofs.Placing.{length-put_pages, count_by-put_pages, differs_behind, put_next}
+use Rattle.frame_bank.proofs.bank.FrameBank.of_frames.Goals as goal
+
+pub give-requires-clause-room : goal.give-requires-clause-room
+give-requires-clause-room c =
+    omega (
+      arith,
+      c.loop-at.invariant.room,
+      ap length c.loop-at.invariant.put,
+      length-put_pages (map fresh_page (drop c.loop-at.at c.args.frames.now)),
+      length-map (drop c.loop-at.at c.args.frames.now) fresh_page,
+      length-drop c.loop-at.at c.args.frames.now,
+    )
+
+pub give-requires-clause-apart : goal.give-requires-clause-apart
+give-requires-clause-apart c =
+    let frame = c.in_ok-new.field-0.frame in
+    ap (count_by (λ p. p.frame == frame)) c.loop-at.invariant.put
+    ∙ count_by-put_pages (λ p. p.frame == frame) (map fresh_page (drop c.loop-at.at c.args.frames.now))
+    ∙ differs_behind c.args.frames.now (c.loop-at.at - 1) c.loop-at.at frame c.requires.differ (omega arith) (omega arith) c.in_ok-new.ensures.frame
+
+pub loop-at-preserved : goal.loop-at-preserved
+loop-at-preserved c = record {
+  put = ap (λ (b : Bank). b.pages) c.give.ensures.bank
+      ∙ put_next c.args.frames.now (c.loop-at.at - 1) c.loop-at.at c.in_ok-new.field-0 c.loop-at.bank.pages (omega arith) (omega arith) c.in_ok-new.ensures.frame c.in_ok-new.ensures.bytes c.loop-at.invariant.put;
+  room = ap (λ (b : Bank). b.room) c.give.ensures.bank ∙ c.loop-at.invariant.room;
+}

@@ -1,0 +1,69 @@
+-- The bank of free frames.
+use Rattle.std.specs.Prelude.{ℕ, zero, suc, ◌+◌, ◌*◌, ◌≤◌, Bool, false, not, ◌&&◌, List, [], ◌∷◌, length, replicate, Option, Some, None, nat_le, nat_lt, if◌then◌else◌}
+use Rattle.std.specs.List.{filter}
+use Rattle.busdma_base.specs.Framed.{Framed}
+use Rattle.busdma_base.specs.History.{IsRising}
+use Rattle.busdma_base.specs.MemoryRuns.{frames_for, follow, crosses_none, in_run}
+use Rattle.busdma_base.specs.PageLists.{page_address, page_addresses}
+
+-- the pages of the free frames, rising, and how many there is room for
+pub record Bank : Type 0 where
+  pub pages : List Framed
+  pub room : ℕ
+
+-- the physical addresses of the free frames
+abbrev pub free_frames : Bank → List ℕ
+free_frames b = page_addresses b.pages
+
+-- a frame of a new bank
+abbrev pub fresh_page : ℕ → Framed
+fresh_page frame = record { frame = frame; bytes = replicate 4096 0xa5 }
+
+-- a page in its place among pages of rising frames
+abbrev pub put_page : Framed → List Framed → List Framed
+put_page p [] = p ∷ []
+put_page p (q ∷ qs) = if nat_lt p.frame q.frame then p ∷ q ∷ qs else q ∷ put_page p qs
+
+-- pages in their places among pages of rising frames
+abbrev pub put_pages : List Framed → List Framed → List Framed
+put_pages [] qs = qs
+put_pages (p ∷ ps) qs = put_page p (put_pages ps qs)
+
+-- rising frames begin with those of a memory of so many bytes, which lie at or below the limit and cross no multiple
+-- of the boundary
+abbrev pub begins_run : ℕ → ℕ → ℕ → List ℕ → Bool
+begins_run len boundary limit [] = false
+begins_run len boundary limit (f ∷ fs) =
+    follow (frames_for len) f (f ∷ fs) && (nat_le (f + 4096 * frames_for len) (limit + 1) && crosses_none len boundary f)
+
+-- the addresses of n frames that follow one another from the first on
+abbrev pub frames_from : ℕ → ℕ → List ℕ
+frames_from zero first = []
+frames_from (suc n) first = first ∷ frames_from n (first + 4096)
+
+-- the n frames from the first of a run on, where there is a run, and the frames but those
+abbrev pub run_frames : Option ℕ → ℕ → List ℕ → Option (List ℕ)
+run_frames None n frames = None
+run_frames (Some first) n frames = Some (filter (in_run first n) frames)
+
+abbrev pub frames_left : Option ℕ → ℕ → List ℕ → List ℕ
+frames_left None n frames = frames
+frames_left (Some first) n frames = filter (λ f. not (in_run first n f)) frames
+
+-- the same of pages
+abbrev pub is_in_run : ℕ → ℕ → Framed → Bool
+is_in_run first n p = in_run first n (page_address p)
+
+abbrev pub run_pages : Option ℕ → ℕ → List Framed → Option (List Framed)
+run_pages None n pages = None
+run_pages (Some first) n pages = Some (filter (is_in_run first n) pages)
+
+abbrev pub pages_left : Option ℕ → ℕ → List Framed → List Framed
+pages_left None n pages = pages
+pages_left (Some first) n pages = filter (λ p. not (is_in_run first n p)) pages
+
+-- what is true of each bank: its pages rise, it has room for them, and the room is for at most 8192
+pub record IsBank (b : Bank) : Type 0 where
+  pub rising : IsRising (free_frames b)
+  pub roomy : length b.pages ≤ b.room
+  pub few : b.room ≤ 8192

@@ -1,0 +1,139 @@
+//! The bank of free frames.
+
+ghost use Rattle.std.specs.Prelude.{◌≡◌, ◌≢◌, ◌==◌, ◌+◌, ◌^◌, ◌<◌, ◌≤◌, [], ◌∷◌, length, map, option_map, count_by, IfOk, OnOk, OnErr, IfSome, IfNone};
+ghost use Rattle.std.specs.List.{All, AllPairs};
+ghost use Rattle.busdma_base.specs.Growth.{frames_below};
+ghost use Rattle.busdma_base.specs.MemoryRuns.{frames_for, lowest_run, put_in};
+ghost use Rattle.busdma_base.specs.PageLists.{page_address, page_addresses};
+ghost use Rattle.frame_bank.specs.FrameBank.{IsBank, free_frames, fresh_page, put_page, put_pages, frames_from, run_frames, frames_left, run_pages, pages_left};
+
+use crate::run;
+use crate::run::Wish;
+use busdma_base::{Pa, Page, PageList};
+use std::alloc::{AllocError, Global};
+use std::collections::VecDeque;
+use std::marker::Model;
+
+/// The byte that fills the free frames of a new bank.
+const FILL: u8 = 0xa5;
+
+/// The free frames, and room for those that were taken and may come back.
+#[derive(Drop)]
+pub struct FrameBank {
+    free: VecDeque<Page>,
+    room: usize,
+}
+
+impl Model for FrameBank {
+    ghost use Rattle.std.specs.Prelude.{◌≤◌};
+    ghost use Rattle.std.specs.VecDeque.{deque_capacity};
+    ghost use Rattle.frame_bank.specs.FrameBank.{Bank, IsBank};
+
+    ghost Value = { Bank };
+
+    ghost view = { λ b. record { pages = b.free.items; room = b.room } };
+
+    ghost invariant = { λ b. IsBank (record { pages = b.free.items; room = b.room })
+        × (b.room ≤ deque_capacity b.free) };
+}
+
+impl FrameBank {
+    /// A bank of these frames, given by their numbers, in any order. Each byte of them is 0xA5.
+    pub fn of_frames(alloc: Global, frames: &[u64]) -> Result<FrameBank, AllocError>
+        requires differ { AllPairs (λ f g. f ≢ g) frames.now }
+        requires numbered { All (λ f. f < 2 ^ 30) frames.now }
+        requires few { length frames.now ≤ 8192 }
+        ensures pages { IfOk result (λ b. b.pages ≡ put_pages (map fresh_page frames.now) []) }
+        ensures room { IfOk result (λ b. b.room ≡ length frames.now) }
+    {
+        let mut bank = FrameBank {
+            free: VecDeque::with_capacity(alloc, frames.len())?,
+            room: frames.len(),
+        };
+        for at in (0..frames.len()).rev() {
+            bank.give(Page::new(alloc, frames[at], FILL)?);
+        }
+        Ok(bank)
+    }
+
+    /// Takes the lowest frame out, if it lies at or below an address.
+    pub fn take_lowest(&mut self, limit: Pa) -> Option<Page>
+        ensures lowest { IfSome result (λ p. self.old.pages ≡ p ∷ self.new.pages) }
+        ensures below { IfSome result (λ p. page_address p + 4095 ≤ limit.0) }
+        ensures none { IfNone result ((frames_below limit.0 (free_frames self.old) ≡ 0)
+            × (self.new ≡ self.old)) }
+        ensures room { self.new.room ≡ self.old.room }
+        ensures sound { IsBank self.old }
+    {
+        if run::lies_below(self.free.front()?, limit) {
+            self.free.pop_front()
+        } else {
+            None
+        }
+    }
+
+    /// Takes out the lowest frames that follow one another, lie at or below an address, and whose
+    /// first `len` bytes cross no multiple of the boundary, where 0 is none: as many as have `len`
+    /// bytes, and one for no byte.
+    pub fn take_run(
+        &mut self,
+        alloc: Global,
+        len: u64,
+        boundary: u64,
+        limit: Pa,
+    ) -> Result<Option<PageList>, AllocError>
+        ensures pages { let first = lowest_run len boundary limit.0 (free_frames self.old) in
+            IfOk result (λ r. option_map (λ l. l.items) r
+            ≡ run_pages first (frames_for len) self.old.pages) }
+        ensures frames { let first = lowest_run len boundary limit.0 (free_frames self.old) in
+            IfOk result (λ r. option_map (λ l. page_addresses l.items) r
+            ≡ run_frames first (frames_for len) (free_frames self.old)) }
+        ensures placed { let first = lowest_run len boundary limit.0 (free_frames self.old) in
+            IfOk result (λ r. option_map (λ l. page_addresses l.items) r
+            ≡ option_map (frames_from (frames_for len)) first) }
+        ensures left { let first = lowest_run len boundary limit.0 (free_frames self.old) in
+            OnOk result (self.new.pages ≡ pages_left first (frames_for len) self.old.pages) }
+        ensures free { let first = lowest_run len boundary limit.0 (free_frames self.old) in
+            OnOk result (free_frames self.new
+            ≡ frames_left first (frames_for len) (free_frames self.old)) }
+        ensures room { self.new.room ≡ self.old.room }
+        ensures no_memory { OnErr result (self.new ≡ self.old) }
+    {
+        let wish = Wish {
+            len,
+            boundary,
+            limit,
+        };
+        let Some(at) = run::run_at(&self.free, wish) else {
+            return Ok(None);
+        };
+        let count = run::frames_for(len);
+        let mut pages = PageList::with_room(alloc, count)?;
+        self.free.rotate_left(at);
+        pages.take_first(&mut self.free, count);
+        self.free.rotate_right(at);
+        Ok(Some(pages))
+    }
+
+    /// The number of free frames at or below an address.
+    pub fn count_below(&self, limit: Pa) -> u32
+        ensures count { result ≡ frames_below limit.0 (free_frames self.now) }
+        ensures sound { IsBank self.now }
+    {
+        self.free
+            .partition_point(|page| run::lies_below(page, limit)) as u32
+    }
+
+    /// Takes a frame back, with the bytes that it holds, to its place in the order of frames.
+    pub fn give(&mut self, page: Page)
+        requires room { length self.old.pages < self.old.room }
+        requires apart { count_by (λ p. p.frame == page.frame) self.old.pages ≡ 0 }
+        ensures bank { self.new ≡ record self.old { pages = put_page page self.old.pages } }
+        ensures free { free_frames self.new ≡ put_in (page_address page) (free_frames self.old) }
+    {
+        let frame = page.frame();
+        let at = self.free.partition_point(|other| other.frame() <= frame);
+        let kept: Result<_, _> = self.free.insert(at, page);
+        kept.unwrap();
+    }
+}

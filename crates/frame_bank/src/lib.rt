@@ -1,0 +1,9 @@
+//! The free frames of the machine.
+#![tactic(auto)]
+
+mod bank;
+mod run;
+#[cfg(test)]
+mod tests;
+
+pub use bank::FrameBank;

@@ -1,0 +1,84 @@
+//! The search for free frames that follow one another.
+
+ghost use Rattle.std.specs.Prelude.{◌≡◌, ◌+◌, ◌<◌, ◌≤◌, length, drop, nat_le, Some, None, MatchOption, slice_index, true};
+ghost use Rattle.busdma_base.specs.History.{IsRising};
+ghost use Rattle.busdma_base.specs.MemoryRuns.{frames_for, follow, crosses_none, lowest_run};
+ghost use Rattle.busdma_base.specs.PageLists.{page_address, page_addresses};
+ghost use Rattle.frame_bank.specs.FrameBank.{begins_run};
+
+use busdma_base::{Pa, Page};
+use std::collections::VecDeque;
+
+/// A wish for memory: `len` bytes that cross no multiple of the boundary, where 0 is none, in
+/// frames at or below the limit.
+#[derive(Clone, Copy)]
+pub struct Wish {
+    pub len: u64,
+    pub boundary: u64,
+    pub limit: Pa,
+}
+
+/// The number of frames for so many bytes, at least one.
+pub fn frames_for(len: u64) -> usize
+    ensures { result ≡ frames_for len }
+{
+    len.div_ceil(4096).max(1) as usize
+}
+
+/// Whether the last byte of a page lies at or below an address.
+pub fn lies_below(page: &Page, limit: Pa) -> bool
+    ensures { result ≡ nat_le (page_address page.now + 4095) limit.0 }
+{
+    page.address().0 + 4095 <= limit.0
+}
+
+/// Whether so many bytes from an address on cross no multiple of the boundary.
+fn crosses_none(len: u64, boundary: u64, first: u64) -> bool
+    ensures { result ≡ crosses_none len boundary first }
+{
+    boundary == 0 || len <= boundary - first % boundary
+}
+
+/// Whether `count` frames from a place on follow one another.
+fn follow(free: &VecDeque<Page>, at: usize, count: usize) -> bool
+    requires rising { IsRising (page_addresses free.now.items) }
+    requires inside { at < length free.now.items }
+    requires some { 0 < count }
+    ensures { result ≡ follow count (slice_index (page_addresses free.now.items) at)
+        (drop at (page_addresses free.now.items)) }
+{
+    count <= free.len() - at
+        && free[at + count - 1].frame() == free[at].frame() + (count - 1) as u64
+}
+
+/// Whether the frames from a place on begin with those of a wish.
+fn begins_run(free: &VecDeque<Page>, at: usize, wish: Wish) -> bool
+    requires rising { IsRising (page_addresses free.now.items) }
+    requires inside { at < length free.now.items }
+    ensures { result ≡ begins_run wish.len wish.boundary wish.limit.0
+        (drop at (page_addresses free.now.items)) }
+{
+    let count = frames_for(wish.len);
+    if !follow(free, at, count) {
+        return false;
+    }
+    let first = free[at].address().0;
+    lies_below(&free[at + count - 1], wish.limit) && crosses_none(wish.len, wish.boundary, first)
+}
+
+/// The place of the lowest frame from which on a wish can be met.
+pub fn run_at(free: &VecDeque<Page>, wish: Wish) -> Option<usize>
+    requires { IsRising (page_addresses free.now.items) }
+    ensures { let frames = page_addresses free.now.items in
+        let lowest = lowest_run wish.len wish.boundary wish.limit.0 frames in
+        MatchOption result (lowest ≡ None) (λ at. (at < length free.now.items)
+        × (begins_run wish.len wish.boundary wish.limit.0 (drop at frames) ≡ true)
+        × (lowest ≡ Some (slice_index frames at))) }
+{
+    for at in 0..free.len() {
+        if begins_run(free, at, wish) {
+            return Some(at);
+        }
+    }
+    None
+}
