@@ -1,0 +1,35 @@
+-- What contracts see of a bounce zone.
+use Rattle.std.specs.Prelude.{◌≡◌, ℕ, ◌+◌, ◌-◌, ◌^◌, ◌<◌, ◌≤◌, List, length}
+use Rattle.busdma_base.specs.declared.zone.ZoneCounts.{ZoneCounts}
+use Rattle.busdma_base.specs.Framed.{Framed}
+
+-- the pages in list order, how many of them are reserved, and how many pages are with maps
+pub record ZonePages : Type 0 where
+  pub lowaddr : ℕ
+  pub alignment : ℕ
+  pub pages : List Framed
+  pub reserved : ℕ
+  pub active : ℕ
+
+-- the pages that are reserved for nobody
+abbrev pub free_pages : ZonePages → ℕ
+free_pages z = length z.pages - z.reserved
+
+-- the counts of a zone, without those of copies and of deferred loads
+abbrev pub zone_counts : ZonePages → ZoneCounts
+zone_counts z = record {
+  total = length z.pages + z.active;
+  free = free_pages z;
+  reserved = z.reserved;
+  active = z.active;
+  bounced = 0;
+  deferred = 0;
+  lowaddr = record { 0 = z.lowaddr };
+  alignment = z.alignment;
+}
+
+-- what is true of each zone: its list has the free and the reserved pages, and has room for those with maps
+pub record IsCounted (pages : List Framed) (free reserved active capacity : ℕ) : Type 0 where
+  pub listed : free + reserved ≡ length pages
+  pub roomy : free + reserved + active ≤ capacity
+  pub few : free + reserved + active < 2 ^ 32

@@ -1,0 +1,163 @@
+//! A bounce zone: its pages, and how many of them are reserved and in use.
+
+ghost use Rattle.std.specs.Prelude.{◌≡◌, ◌+◌, ◌-◌, ◌^◌, ◌<◌, ◌≤◌, min, [], ◌∷◌, ◌++◌, length, take, drop, IfOk, OnErr};
+ghost use Rattle.std.specs.VecDeque.{deque_capacity};
+ghost use Rattle.busdma_base.specs.Growth.{frames_below};
+ghost use Rattle.frame_bank.specs.FrameBank.{free_frames};
+ghost use Rattle.bounce_zone.specs.ZonePages.{free_pages, zone_counts};
+
+use busdma_base::{Pa, Page, PageList, ZoneCounts};
+use frame_bank::FrameBank;
+use std::alloc::{AllocError, Global};
+use std::collections::VecDeque;
+use std::marker::Model;
+
+/// Pages for the maps of tags that ask for no more than its alignment and reach no lower than its
+/// lowaddr. The list has the free and the reserved pages; a reservation is a number, and the page
+/// is picked at use.
+#[derive(Drop)]
+pub struct Zone {
+    lowaddr: Pa,
+    alignment: u64,
+    pages: VecDeque<Page>,
+    free: u32,
+    reserved: u32,
+    active: u32,
+}
+
+impl Model for Zone {
+    ghost use Rattle.std.specs.VecDeque.{deque_capacity};
+    ghost use Rattle.bounce_zone.specs.ZonePages.{ZonePages, IsCounted};
+
+    ghost Value = { ZonePages };
+
+    ghost view = { λ z. record {
+      lowaddr = z.lowaddr.0;
+      alignment = z.alignment;
+      pages = z.pages.items;
+      reserved = z.reserved;
+      active = z.active;
+    } };
+
+    ghost invariant = { λ z. IsCounted z.pages.items z.free z.reserved z.active (deque_capacity z.pages) };
+}
+
+impl Zone {
+    /// A zone with no page.
+    pub fn new(alloc: Global, lowaddr: Pa, alignment: u64) -> Zone
+        ensures { result ≡ record {
+          lowaddr = lowaddr.0;
+          alignment = alignment;
+          pages = [];
+          reserved = 0;
+          active = 0;
+        } }
+    {
+        Zone {
+            lowaddr,
+            alignment,
+            pages: VecDeque::new(alloc),
+            free: 0,
+            reserved: 0,
+            active: 0,
+        }
+    }
+
+    /// Moves so many of the bank's lowest frames to the tail of the list, as far as they lie at or
+    /// below the zone's lowaddr, and answers how many.
+    pub fn grow(
+        &mut self,
+        _alloc: Global,
+        bank: &mut FrameBank,
+        wanted: u64,
+    ) -> Result<u32, AllocError>
+        requires { length self.old.pages + self.old.active + length bank.old.pages < 2 ^ 32 }
+        ensures added { IfOk result (λ n. n
+            ≡ min wanted (frames_below self.old.lowaddr (free_frames bank.old))) }
+        ensures zone { IfOk result (λ n. self.new
+            ≡ record self.old { pages = self.old.pages ++ take n bank.old.pages }) }
+        ensures bank { IfOk result (λ n. bank.new
+            ≡ record bank.old { pages = drop n bank.old.pages }) }
+        ensures no_memory { OnErr result ((self.new ≡ self.old) × (bank.new ≡ bank.old)) }
+    {
+        let added = wanted.min(u64::from(bank.count_below(self.lowaddr))) as u32;
+        self.pages.reserve(self.active as usize + added as usize)?;
+        move_lowest(bank, self.lowaddr, added, &mut self.pages);
+        self.free += added;
+        Ok(added)
+    }
+
+    /// Reserves as many of the free pages as are wanted.
+    pub fn reserve(&mut self, wanted: u32) -> u32
+        ensures got { result ≡ min (free_pages self.old) wanted }
+        ensures zone { self.new ≡ record self.old { reserved = self.old.reserved + result } }
+    {
+        let got = self.free.min(wanted);
+        self.free -= got;
+        self.reserved += got;
+        got
+    }
+
+    /// Hands out so many reserved pages from the head of the list, in order.
+    pub fn take(&mut self, count: u32, into: &mut PageList)
+        requires reserved { count ≤ self.old.reserved }
+        requires room { length into.old.items + count ≤ into.old.room }
+        ensures zone { self.new ≡ record self.old {
+          pages = drop count self.old.pages;
+          reserved = self.old.reserved - count;
+          active = self.old.active + count;
+        } }
+        ensures pages { into.new
+            ≡ record into.old { items = into.old.items ++ take count self.old.pages } }
+    {
+        into.take_first(&mut self.pages, count as usize);
+        self.reserved -= count;
+        self.active += count;
+    }
+
+    /// Takes a page back, to the head of the list.
+    pub fn put_back(&mut self, page: Page)
+        requires { 1 ≤ self.old.active }
+        ensures { self.new ≡ record self.old {
+          pages = page ∷ self.old.pages;
+          active = self.old.active - 1;
+        } }
+    {
+        self.pages.push_front_reserved(page);
+        self.free += 1;
+        self.active -= 1;
+    }
+
+    /// The counts of the zone; the copies and the deferred loads are counted elsewhere, and are 0
+    /// here.
+    pub fn counts(&self) -> ZoneCounts
+        ensures counts { result ≡ zone_counts self.now }
+        ensures sum { result.free + result.reserved + result.active ≡ result.total }
+    {
+        ZoneCounts {
+            total: self.free + self.reserved + self.active,
+            free: self.free,
+            reserved: self.reserved,
+            active: self.active,
+            bounced: 0,
+            deferred: 0,
+            lowaddr: self.lowaddr,
+            alignment: self.alignment,
+        }
+    }
+}
+
+/// Moves so many of the lowest frames at or below a limit to the tail of a queue.
+fn move_lowest(bank: &mut FrameBank, limit: Pa, count: u32, queue: &mut VecDeque<Page>)
+    requires there { count ≤ frames_below limit.0 (free_frames bank.old) }
+    requires room { length queue.old.items + count ≤ deque_capacity queue.old }
+    ensures bank { bank.new ≡ record bank.old { pages = drop count bank.old.pages } }
+    ensures queue { queue.new.items ≡ queue.old.items ++ take count bank.old.pages }
+    ensures capacity { deque_capacity queue.new ≡ deque_capacity queue.old }
+{
+    for _ in 0..count {
+        if let Some(page) = bank.take_lowest(limit) {
+            queue.push_back_reserved(page);
+        }
+    }
+}
