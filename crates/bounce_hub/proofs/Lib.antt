@@ -1,0 +1,11 @@
+mod Agreeing
+mod Answering
+mod Counting
+mod Creating
+mod Deferrals
+mod Frames
+mod Keeping
+mod Mapping
+mod Owing
+mod Promises
+mod ZoneGrowth

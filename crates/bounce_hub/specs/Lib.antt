@@ -1,0 +1,5 @@
+pub mod Growing
+pub mod Opening
+pub mod Pools
+pub mod Seen
+pub mod Slots

@@ -1,0 +1,102 @@
+-- How what lanes share stands to the account.
+use Rattle.std.specs.Prelude.{◌≡◌, ℕ, ◌+◌, ◌^◌, ◌<◌, ◌≤◌, List, length, slice_index_or, sum_by}
+use Rattle.busdma_base.specs.declared.zone.Waiter.{Waiter}
+use Rattle.busdma_base.specs.declared.name.MapId.{MapId}
+use Rattle.busdma_base.specs.declared.hold.HubCall.{HubCall}
+use Rattle.busdma_base.specs.declared.hold.HubReply.{HubReply}
+use Rattle.busdma_base.specs.declared.hold.HubCall.TheVariants.{TakeCallback, MemFree}
+use Rattle.busdma_base.specs.declared.hold.HubReply.TheVariants.{Nothing}
+use Rattle.busdma_base.specs.Account.{Account, zone_at, reserved, active}
+use Rattle.busdma_base.specs.AccountStep.{account_step}
+use Rattle.busdma_base.specs.Conditions.{MayCall}
+use Rattle.busdma_base.specs.MemoryRuns.{frames_of}
+use Rattle.busdma_base.specs.PageLists.{page_addresses}
+use Rattle.busdma_base.specs.Places.{frame_total, places}
+use Rattle.busdma_base.specs.Well.{IsWell}
+use Rattle.frame_bank.specs.FrameBank.{free_frames}
+use Rattle.bounce_hub.specs.declared.slot.Slot.{Slot}
+use Rattle.bounce_hub.specs.declared.pool.Pool.{Pool}
+
+-- a zone's list and its counters are the account's
+pub record Matches (s : Slot) (a : Account) (z : ℕ) : Type 0 where
+  pub lowaddr : s.zone.lowaddr ≡ (zone_at a z).lowaddr
+  pub alignment : s.zone.alignment ≡ (zone_at a z).alignment
+  pub avail : page_addresses s.zone.pages ≡ (zone_at a z).avail
+  pub reserved : s.zone.reserved ≡ reserved a z
+  pub active : s.zone.active ≡ active a z
+  pub wait : s.wait ≡ (zone_at a z).wait
+  pub maps : s.maps ≡ length (zone_at a z).maps
+  pub deferred : s.deferred ≡ (zone_at a z).deferred
+
+-- the entries to come for maps that wait or await their callbacks: one for the callback, and one for each page's release
+abbrev pub entries_of : List Waiter → ℕ
+entries_of ws = sum_by (λ w. w.need + 1) ws
+
+-- the entries to come for what was begun: the releases, the callbacks, and the end of each map and memory
+abbrev pub owed : Account → ℕ
+owed a = length a.held + (sum_by (λ z. entries_of z.wait + length z.maps) a.zones + (entries_of a.ready + length a.mems))
+
+-- how many maps wait
+abbrev pub waiting : Account → ℕ
+waiting a = sum_by (λ z. length z.wait) a.zones
+
+-- how many loads were deferred or are waiting
+abbrev pub deferrals : Account → ℕ
+deferrals a = sum_by (λ z. z.deferred + length z.wait) a.zones
+
+-- the bank, the zones and the callback list are the account's, and there is room for each map that waits
+pub record Agrees (p : Pool) (a : Account) : Type 0 where
+  pub bank : free_frames p.bank ≡ a.bank
+  pub count : length p.zones.items ≡ length a.zones
+  pub zones : (z : ℕ) (d : Slot) → z < length p.zones.items → Matches (slice_index_or p.zones.items z d) a z
+  pub ready : p.ready.items ≡ a.ready
+  pub spare : waiting a ≤ p.ready.spare
+  pub owed : p.owed ≡ owed a
+  pub maxmem : p.maxmem ≡ a.maxmem
+  pub max_bpages : p.max_bpages ≡ a.max_bpages
+
+-- the account's lists fit together, no frame stands twice, its numbers are small, and the bank has room for all frames
+pub record Fits (p : Pool) (a : Account) : Type 0 where
+  pub well : IsWell a
+  pub apart : (f : ℕ) → places f a ≤ 1
+  pub few : frame_total a ≤ 8192
+  pub deferrals : deferrals a < 2 ^ 63
+  pub room : frame_total a ≤ p.bank.room
+
+-- the account allows the call
+pub record Allowed (p : Pool) (lane : ℕ) (c : HubCall) : Type 0 where
+  pub account : Account
+  pub agrees : Agrees p account
+  pub fits : Fits p account
+  pub may : MayCall lane c account
+
+-- the call made the account's step, and the reply is the account's
+pub record Stepped (p : Pool) (lane : ℕ) (c : HubCall) (r : HubReply) (a : Account) (q : Pool) : Type 0 where
+  pub agrees : Agrees q (account_step lane c a).account
+  pub reply : r ≡ (account_step lane c a).reply
+  pub room : q.bank.room ≡ p.bank.room
+
+-- the same of each account that the pool can be of
+abbrev pub Steps : Pool → ℕ → HubCall → HubReply → Pool → Type 0
+Steps p lane c r q = (a : Account) → Agrees p a → Fits p a → MayCall lane c a → Stepped p lane c r a q
+
+-- nothing happened that an account tells
+pub record Stays (p q : Pool) : Type 0 where
+  pub agrees : (a : Account) → Agrees p a → Agrees q a
+  pub room : q.bank.room ≡ p.bank.room
+
+-- no callback of the lane is at the head of the callback list
+abbrev pub Missed : Pool → ℕ → Type 0
+Missed p lane = (a : Account) → Agrees p a → (account_step lane TakeCallback a).reply ≡ Nothing
+
+-- the account allows the end of a memory of these frames
+pub record Returns (p : Pool) (m : MapId) (given : List ℕ) : Type 0 where
+  pub account : Account
+  pub agrees : Agrees p account
+  pub fits : Fits p account
+  pub may : MayCall m.lane.0 (MemFree m) account
+  pub frames : given ≡ frames_of m account.mems
+
+-- the end of a memory of these frames made the account's step
+abbrev pub StepsBack : Pool → MapId → List ℕ → Pool → Type 0
+StepsBack p m frames q = (a : Account) → Agrees p a → Fits p a → MayCall m.lane.0 (MemFree m) a → frames ≡ frames_of m a.mems → Stepped p m.lane.0 (MemFree m) Nothing a q

@@ -1,0 +1,36 @@
+-- What contracts see of a hub, and what is true of each.
+use Rattle.std.specs.Prelude.{◌≡◌, ℕ, ◌+◌, ◌<◌, ◌≤◌, true, List, length, slice_index_or}
+use Rattle.busdma_base.specs.declared.hold.HoldEntry.{HoldEntry}
+use Rattle.busdma_base.specs.declared.zone.ZoneCounts.{ZoneCounts}
+use Rattle.busdma_base.specs.Account.{Account, counts}
+use Rattle.busdma_base.specs.Door.{Seen}
+use Rattle.busdma_base.specs.History.{IsOpening, IsSound, account_of}
+use Rattle.bounce_hub.specs.declared.pool.Pool.{Pool}
+use Rattle.bounce_hub.specs.Opening.{opening}
+use Rattle.bounce_hub.specs.Pools.{Agrees}
+
+-- the account that it began with, and its holds
+pub record HubSeen : Type 0 where
+  pub opening : Account
+  pub history : List HoldEntry
+
+-- a hub is a door for all lanes
+abbrev pub door : HubSeen → Seen
+door h = record { opening = h.opening; history = h.history; serves = λ lane. true }
+
+-- the counts of the zones of an account, in order, where no sync copied
+pub record AreCounts (cs : List ZoneCounts) (a : Account) : Type 0 where
+  pub count : length cs ≡ length a.zones
+  pub each : (z : ℕ) (d : ZoneCounts) → z < length cs → slice_index_or cs z d ≡ counts a 0 z
+
+-- the account with which the hub of a pool begins
+abbrev pub opening_of : Pool → Account
+opening_of p = opening p.bank p.max_bpages p.maxmem
+
+-- its history is sound, its pool is what the account of the history says, and both have room for all that is to come
+pub record IsKept (opening : Account) (history : List HoldEntry) (pool : Pool) (capacity : ℕ) : Type 0 where
+  pub form : IsOpening opening
+  pub sound : IsSound opening history
+  pub agrees : Agrees pool (account_of opening history)
+  pub frames : length opening.bank ≤ pool.bank.room
+  pub room : length history + pool.owed ≤ capacity

@@ -1,0 +1,77 @@
+//! Pages go to maps and come back.
+
+ghost use Rattle.std.specs.Prelude.{◌≡◌, ◌+◌, ◌^◌, ◌<◌, ◌≤◌, IfOk, IfSome, IfNone, OnErr};
+ghost use Rattle.busdma_base.specs.declared.hold.HubCall.TheVariants.{Grab, Release, TakeCallback};
+ghost use Rattle.busdma_base.specs.declared.hold.HubReply.TheVariants.{Served, Called as CalledFor};
+ghost use Rattle.busdma_base.specs.AccountStep.{as_pages};
+ghost use Rattle.busdma_base.specs.Door.{grab_reply};
+ghost use Rattle.busdma_base.specs.PageLists.{page_address, page_addresses};
+ghost use Rattle.bounce_hub.specs.Pools.{Allowed, Steps, Stays, Missed};
+
+use crate::pool::Pool;
+use busdma_base::{Called, Grabbed, HubReply, LaneId, MapId, PaList, Page, ZoneId};
+use std::alloc::{AllocError, Global};
+
+impl Pool {
+    /// A load's wish for pages, with the reply that the history keeps.
+    pub fn grab(
+        &mut self,
+        alloc: Global,
+        map: MapId,
+        zone: ZoneId,
+        need: u32,
+        nowait: bool,
+    ) -> Result<(Grabbed, HubReply), AllocError>
+        requires allowed { Allowed self.old map.lane.0 (Grab map zone need nowait) }
+        requires few { self.old.owed + need + 1 < 2 ^ 64 }
+        ensures steps { IfOk result (λ r.
+            Steps self.old map.lane.0 (Grab map zone need nowait) r.1 self.new) }
+        ensures reply { IfOk result (λ r. r.1 ≡ grab_reply r.0) }
+        ensures owed { IfOk result (λ r. self.new.owed ≤ self.old.owed + need + 1) }
+        ensures no_memory { OnErr result (Stays self.old self.new) }
+    {
+        let slot = &mut self.zones[zone.0 as usize];
+        if need <= slot.free() {
+            let (pages, addresses) = slot.hand_out(alloc, need)?;
+            self.owed += need as usize;
+            Ok((Grabbed::Granted(pages), HubReply::Granted(addresses)))
+        } else if nowait {
+            Ok((Grabbed::NoPages, HubReply::NoPages))
+        } else {
+            let have = slot.queue(alloc, &mut self.ready, map, zone, need)?;
+            self.owed += need as usize + 1;
+            Ok((Grabbed::Queued(have), HubReply::Queued(have)))
+        }
+    }
+
+    /// A page comes back from a map, and its zone serves. Answers how many maps were completed.
+    pub fn release(&mut self, map: MapId, zone: ZoneId, page: Page) -> u32
+        requires { Allowed self.old map.lane.0 (Release map zone (record { 0 = page_address page })) }
+        ensures steps { Steps self.old map.lane.0
+            (Release map zone (record { 0 = page_address page })) (Served result) self.new }
+        ensures owed { self.new.owed + 1 ≡ self.old.owed }
+    {
+        let slot = &mut self.zones[zone.0 as usize];
+        let moved = slot.take_back(page, &mut self.ready);
+        self.owed -= 1;
+        moved
+    }
+
+    /// The head of the callback list gets its pages, where it is the lane's; with their addresses.
+    pub fn take_callback(&mut self, lane: LaneId) -> Option<(Called, PaList)>
+        requires { Allowed self.old lane.0 TakeCallback }
+        ensures steps { IfSome result (λ r.
+            Steps self.old lane.0 TakeCallback (CalledFor r.0.map r.1) self.new) }
+        ensures pages { IfSome result (λ r. r.1 ≡ as_pages (page_addresses r.0.pages.items)) }
+        ensures owed { IfSome result (λ r. self.new.owed + 1 ≡ self.old.owed) }
+        ensures none { IfNone result ((self.new ≡ self.old) × Missed self.old lane.0) }
+    {
+        let load = self.ready.pop_for(lane)?;
+        let map = load.waiter.map;
+        let mut pages = load.pages;
+        let slot = &mut self.zones[load.waiter.zone.0 as usize];
+        let addresses = slot.hand_promised(load.waiter.need, &mut pages, load.addresses);
+        self.owed -= 1;
+        Some((Called { map, pages }, addresses))
+    }
+}

@@ -1,0 +1,194 @@
+//! The hub: the bounce zones that all lanes share, and all holds so far.
+
+ghost use Rattle.std.specs.Prelude.{◌≡◌, [], IfOk};
+ghost use Rattle.busdma_base.specs.History.{IsOpening, account_of};
+ghost use Rattle.bounce_hub.specs.Opening.{opening};
+ghost use Rattle.bounce_hub.specs.Seen.{AreCounts};
+
+use crate::pool::Pool;
+use busdma_base::{
+    Called, Grabbed, Grown, HoldEntry, HubCall, HubDoor, HubReply, LaneId, MapId, Page, PageList,
+    TagLimits, ZoneId, ZoneList,
+};
+use frame_bank::FrameBank;
+use std::alloc::{AllocError, Global};
+use std::marker::Model;
+use std::snapshot::Snapshot;
+
+/// The bounce zones, the callback list and the free frames that all lanes share, with the history
+/// of the holds. Its pages are owned, so none is with two maps.
+#[derive(Drop)]
+pub struct Hub {
+    first: Snapshot<Pool>,
+    pool: Pool,
+    history: Vec<HoldEntry>,
+}
+
+impl Model for Hub {
+    ghost use Rattle.std.specs.Prelude.{vec_capacity};
+    ghost use Rattle.bounce_hub.specs.Seen.{HubSeen, IsKept, opening_of};
+
+    ghost Value = { HubSeen };
+
+    ghost view = { λ h. record { opening = opening_of h.first.value; history = h.history.items } };
+
+    ghost invariant = { λ h. IsKept (opening_of h.first.value) h.history.items h.pool (vec_capacity h.history) };
+}
+
+impl Hub {
+    /// A hub of the free frames of a bank, with no zone and an empty history.
+    pub fn new(alloc: Global, bank: FrameBank, max_bpages: u32, maxmem: u64) -> Hub
+        requires { IsOpening (opening bank max_bpages maxmem) }
+        ensures { result ≡ record { opening = opening bank max_bpages maxmem; history = [] } }
+    {
+        let pool = Pool::new(alloc, bank, max_bpages, maxmem);
+        Hub {
+            first: Snapshot::of(&pool),
+            pool,
+            history: Vec::new(alloc),
+        }
+    }
+
+    /// All holds so far, in order.
+    pub fn history(&self) -> &[HoldEntry]
+        ensures { result.now ≡ self.now.history }
+    {
+        self.history.as_slice()
+    }
+
+    /// The counts of the zones, in the order of their making. No sync is counted here.
+    pub fn counts(&self, alloc: Global) -> Result<ZoneList, AllocError>
+        ensures { IfOk result (λ l. AreCounts l (account_of self.now.opening self.now.history)) }
+    {
+        let counts = self.pool.counts(alloc)?;
+        Ok(counts)
+    }
+}
+
+impl HubDoor for Hub {
+    ghost use Rattle.bounce_hub.specs.Seen.{door};
+
+    ghost seen = { door };
+
+    fn attach_tag(
+        &mut self,
+        alloc: Global,
+        lane: LaneId,
+        tag: &TagLimits,
+    ) -> Result<Grown, AllocError> {
+        self.history.reserve(self.pool.owed + 1)?;
+        let grown = self.pool.attach(alloc, lane, tag)?;
+        self.history.push_reserved(HoldEntry {
+            lane,
+            call: HubCall::AttachTag(*tag),
+            reply: HubReply::Grown(grown),
+        });
+        Ok(grown)
+    }
+
+    fn create_map(
+        &mut self,
+        alloc: Global,
+        map: MapId,
+        tag: &TagLimits,
+        first_done: bool,
+    ) -> Result<Grown, AllocError> {
+        self.history.reserve(self.pool.owed + 2)?;
+        let grown = self.pool.create(alloc, map, tag, first_done)?;
+        self.history.push_reserved(HoldEntry {
+            lane: map.lane,
+            call: HubCall::CreateMap {
+                map,
+                tag: *tag,
+                first_done,
+            },
+            reply: HubReply::Grown(grown),
+        });
+        Ok(grown)
+    }
+
+    fn destroy_map(&mut self, map: MapId, zone: ZoneId) {
+        self.pool.destroy(map, zone);
+        self.history.push_reserved(HoldEntry {
+            lane: map.lane,
+            call: HubCall::DestroyMap { map, zone },
+            reply: HubReply::Nothing,
+        });
+    }
+
+    fn grab(
+        &mut self,
+        alloc: Global,
+        map: MapId,
+        zone: ZoneId,
+        need: u32,
+        nowait: bool,
+    ) -> Result<Grabbed, AllocError> {
+        self.history.reserve(self.pool.owed + need as usize + 2)?;
+        let (grabbed, reply) = self.pool.grab(alloc, map, zone, need, nowait)?;
+        self.history.push_reserved(HoldEntry {
+            lane: map.lane,
+            call: HubCall::Grab {
+                map,
+                zone,
+                need,
+                nowait,
+            },
+            reply,
+        });
+        Ok(grabbed)
+    }
+
+    fn release(&mut self, map: MapId, zone: ZoneId, page: Page) -> u32 {
+        let call = HubCall::Release {
+            map,
+            zone,
+            page: page.address(),
+        };
+        let moved = self.pool.release(map, zone, page);
+        self.history.push_reserved(HoldEntry {
+            lane: map.lane,
+            call,
+            reply: HubReply::Served(moved),
+        });
+        moved
+    }
+
+    fn take_callback(&mut self, lane: LaneId) -> Option<Called> {
+        let (called, pages) = self.pool.take_callback(lane)?;
+        self.history.push_reserved(HoldEntry {
+            lane,
+            call: HubCall::TakeCallback,
+            reply: HubReply::Called {
+                map: called.map,
+                pages,
+            },
+        });
+        Some(called)
+    }
+
+    fn mem_alloc(
+        &mut self,
+        alloc: Global,
+        mem: MapId,
+        tag: &TagLimits,
+    ) -> Result<Option<PageList>, AllocError> {
+        self.history.reserve(self.pool.owed + 2)?;
+        let (pages, reply) = self.pool.allocate(alloc, mem, tag)?;
+        self.history.push_reserved(HoldEntry {
+            lane: mem.lane,
+            call: HubCall::MemAlloc { mem, tag: *tag },
+            reply,
+        });
+        Ok(pages)
+    }
+
+    fn mem_free(&mut self, mem: MapId, pages: PageList) {
+        self.pool.free_memory(mem, pages);
+        self.history.push_reserved(HoldEntry {
+            lane: mem.lane,
+            call: HubCall::MemFree { mem },
+            reply: HubReply::Nothing,
+        });
+    }
+}

@@ -1,0 +1,156 @@
+//! A zone with the maps that wait for its pages.
+
+ghost use Rattle.std.specs.Prelude.{◌≡◌, ◌+◌, ◌-◌, ◌^◌, ◌<◌, ◌≤◌, [], ◌∷◌, ◌++◌, length, take, drop, All, vec_capacity, IfOk, OnOk, OnErr};
+ghost use Rattle.busdma_base.specs.AccountStep.{as_pages};
+ghost use Rattle.busdma_base.specs.PageLists.{page_addresses};
+ghost use Rattle.busdma_base.specs.Serving.{completed, left_waiting, promised};
+ghost use Rattle.bounce_zone.specs.ZonePages.{free_pages};
+ghost use Rattle.bounce_hub.specs.Slots.{room_after, slot_counts};
+
+use bounce_zone::Zone;
+use busdma_base::{MapId, Pa, PaList, Page, PageList, ZoneCounts, ZoneId};
+use std::alloc::{AllocError, Global};
+use wait_list::{ReadyList, WaitList};
+
+/// A zone, the maps that wait for its pages, the number of its living maps, and how many loads were
+/// deferred so far.
+#[derive(Drop)]
+pub struct Slot {
+    pub zone: Zone,
+    pub wait: WaitList,
+    pub maps: usize,
+    pub deferred: u64,
+}
+
+impl Slot {
+    /// A zone with no page and no map.
+    pub fn new(alloc: Global, lowaddr: Pa, alignment: u64) -> Slot
+        ensures { result ≡ record {
+          zone = record { lowaddr = lowaddr.0; alignment = alignment; pages = []; reserved = 0; active = 0 };
+          wait = [];
+          maps = 0;
+          deferred = 0;
+        } }
+    {
+        Slot {
+            zone: Zone::new(alloc, lowaddr, alignment),
+            wait: WaitList::new(alloc),
+            maps: 0,
+            deferred: 0,
+        }
+    }
+
+    /// The number of pages in the list that are promised to nobody.
+    pub fn free(&self) -> u32
+        ensures { result ≡ free_pages self.now.zone }
+    {
+        self.zone.counts().free
+    }
+
+    /// The counts of the zone. That of copies is kept elsewhere, and is 0 here.
+    pub fn counts(&self) -> ZoneCounts
+        ensures { result ≡ slot_counts self.now }
+    {
+        let mut counts = self.zone.counts();
+        counts.deferred = self.deferred;
+        counts
+    }
+
+    /// Hands out free pages from the head of the list, with their addresses.
+    pub fn hand_out(&mut self, alloc: Global, need: u32) -> Result<(PageList, PaList), AllocError>
+        requires { need ≤ free_pages self.old.zone }
+        ensures slot { OnOk result (self.new ≡ record self.old {
+          zone = record self.old.zone {
+            pages = drop need self.old.zone.pages;
+            active = self.old.zone.active + need;
+          };
+        }) }
+        ensures pages { IfOk result (λ r. r.0.items ≡ take need self.old.zone.pages) }
+        ensures addresses { IfOk result (λ r.
+            r.1 ≡ as_pages (page_addresses (take need self.old.zone.pages))) }
+        ensures no_memory { OnErr result (self.new ≡ self.old) }
+    {
+        let mut pages = PageList::with_room(alloc, need as usize)?;
+        let mut addresses = Vec::with_capacity(alloc, need as usize)?;
+        let _reserved = self.zone.reserve(need);
+        self.zone.take(need, &mut pages);
+        pages.write_addresses(&mut addresses);
+        Ok((pages, PaList::new(addresses)))
+    }
+
+    /// Hands out promised pages from the head of the list, with their addresses.
+    pub fn hand_promised(&mut self, need: u32, pages: &mut PageList, addresses: Vec<Pa>) -> PaList
+        requires enough { need ≤ self.old.zone.reserved }
+        requires no_page { pages.old.items ≡ [] }
+        requires page_room { need ≤ pages.old.room }
+        requires no_address { addresses.items ≡ [] }
+        requires address_room { need ≤ vec_capacity addresses }
+        ensures slot { self.new ≡ record self.old {
+          zone = record self.old.zone {
+            pages = drop need self.old.zone.pages;
+            reserved = self.old.zone.reserved - need;
+            active = self.old.zone.active + need;
+          };
+        } }
+        ensures pages { pages.new.items ≡ take need self.old.zone.pages }
+        ensures addresses { result ≡ as_pages (page_addresses (take need self.old.zone.pages)) }
+    {
+        let mut addresses = addresses;
+        self.zone.take(need, pages);
+        pages.write_addresses(&mut addresses);
+        PaList::new(addresses)
+    }
+
+    /// A map waits with all free pages, whose number is the answer.
+    pub fn queue(
+        &mut self,
+        alloc: Global,
+        ready: &mut ReadyList,
+        map: MapId,
+        zone: ZoneId,
+        need: u32,
+    ) -> Result<u32, AllocError>
+        requires { free_pages self.old.zone < need }
+        ensures slot { let free = free_pages self.old.zone in OnOk result (self.new ≡ record self.old {
+          zone = record self.old.zone { reserved = self.old.zone.reserved + free };
+          wait = self.old.wait ++ record { map = map; zone = zone; need = need; have = free } ∷ [];
+        }) }
+        ensures room { OnOk result (ready.new ≡ record ready.old { spare = ready.old.spare + 1 }) }
+        ensures have { IfOk result (λ r. r ≡ free_pages self.old.zone) }
+        ensures no_memory { OnErr result ((self.new ≡ self.old) × (ready.new ≡ ready.old)) }
+    {
+        let have = self.free();
+        self.wait.join(alloc, ready, map, zone, need, have)?;
+        let _reserved = self.zone.reserve(have);
+        Ok(have)
+    }
+
+    /// Takes a page back, and serves the maps that wait. Answers how many were completed.
+    pub fn take_back(&mut self, page: Page, ready: &mut ReadyList) -> u32
+        requires active { 1 ≤ self.old.zone.active }
+        requires room { length self.old.wait ≤ ready.old.spare }
+        requires lacks { All (λ w. w.have < w.need) self.old.wait }
+        requires few { self.old.deferred + length self.old.wait < 2 ^ 64 }
+        ensures slot { let room = room_after self.old in self.new ≡ record self.old {
+          zone = record self.old.zone {
+            pages = page ∷ self.old.zone.pages;
+            active = self.old.zone.active - 1;
+            reserved = self.old.zone.reserved + promised room self.old.wait;
+          };
+          wait = left_waiting room self.old.wait;
+          deferred = self.old.deferred + length (completed room self.old.wait);
+        } }
+        ensures ready { let done = completed (room_after self.old) self.old.wait in ready.new ≡ record {
+          items = ready.old.items ++ done;
+          spare = ready.old.spare - length done;
+        } }
+        ensures moved { result ≡ length (completed (room_after self.old) self.old.wait) }
+    {
+        self.zone.put_back(page);
+        let free = self.free();
+        let served = self.wait.serve(free, ready);
+        let _reserved = self.zone.reserve(served.taken);
+        self.deferred += u64::from(served.moved);
+        served.moved
+    }
+}
