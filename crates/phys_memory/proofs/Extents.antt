@@ -5,10 +5,11 @@ use Rattle.std.specs.List.{AllByRecursion}
 use Rattle.std.proofs.lemmas.Bool.{eq-eqb, ne_eqb}
 use Rattle.std.proofs.lemmas.Bool.Decides.{eqb_tells}
 use Rattle.busdma_base.specs.declared.address.Extent.{Extent}
+use Rattle.busdma_base.specs.Entry.{AreJoined}
 use Rattle.busdma_base.specs.Runs.{run_of, addresses, IsExtent}
 use Rattle.phys_memory.specs.declared.reach.Reach.{Reach}
 use Rattle.phys_memory.specs.Memory.{Memory, IsMemory, IsRow, has_frame, physical, reached_in, row_at}
-use Rattle.phys_memory.specs.Extents.{AreJoined, BeginsFrame, LiesIn, extents_of, reached, then_reached, with_byte}
+use Rattle.phys_memory.specs.Extents.{BeginsFrame, LiesIn, extents_of, reached, then_reached, with_byte}
 use Rattle.std.specs.FinMap.{get}
 use Rattle.phys_memory.proofs.Kept.{row_is}
 use Rattle.phys_memory.proofs.Reached.{physical_place, row_in_page}
@@ -24,13 +25,13 @@ with_byte-joined : (pa : ℕ) (e : Extent) (es : List Extent) → e.pa.0 % 4096 
 with_byte-joined pa e es h = ap (λ b. if b then extent pa 1 ∷ e ∷ es else extent pa (1 + e.len) ∷ es) (ne_eqb (e.pa.0 % 4096) 0 h)
 
 -- the first extent begins at the first byte
-record Begins (pa : ℕ) (xs : List Extent) : Type 0 where
-  first : Extent
-  others : List Extent
-  are : xs ≡ first ∷ others
-  at : first.pa.0 ≡ pa
+pub record Begins (pa : ℕ) (xs : List Extent) : Type 0 where
+  pub first : Extent
+  pub others : List Extent
+  pub are : xs ≡ first ∷ others
+  pub at : first.pa.0 ≡ pa
 
-begins : (pa : ℕ) (es : List Extent) → Begins pa (with_byte pa es)
+pub begins : (pa : ℕ) (es : List Extent) → Begins pa (with_byte pa es)
 begins pa [] = record { first = extent pa 1; others = []; are = refl; at = refl }
 begins pa (e ∷ es) = elim (nat_eq (e.pa.0 % 4096) 0) as (λ b. Begins pa (if b then extent pa 1 ∷ e ∷ es else extent pa (1 + e.len) ∷ es)) [
   | true ↦ record { first = extent pa 1; others = e ∷ es; are = refl; at = refl }

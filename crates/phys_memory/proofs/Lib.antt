@@ -5,4 +5,5 @@ pub mod Kept
 pub mod Reached
 pub mod Streams
 pub mod Tables
+pub mod Vectors
 pub mod Walks

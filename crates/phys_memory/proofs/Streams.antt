@@ -5,10 +5,11 @@ use Rattle.std.proofs.lemmas.Bool.{eq-eqb, ne_eqb}
 use Rattle.std.proofs.lemmas.Bool.Decides.{eqb_tells}
 use Rattle.busdma_base.specs.declared.address.Extent.{Extent}
 use Rattle.busdma_base.specs.declared.chunk.Part.TheVariants as part
+use Rattle.busdma_base.specs.Entry.{extent_parts}
 use Rattle.busdma_base.specs.Runs.{run_of}
 use Rattle.phys_memory.specs.Memory.{Memory}
 use Rattle.phys_memory.specs.Extents.{IsNext, extents_of, reached}
-use Rattle.phys_memory.specs.Walk.{parts_of, stream_of}
+use Rattle.phys_memory.specs.Walk.{run_stream}
 use Rattle.phys_memory.proofs.Extents.{extents_of-run, length-run_of}
 
 -- a test that counts the bytes before
@@ -19,13 +20,13 @@ same_left n l left h = elim (eqb_tells (n + l) left) [
 ]
 
 -- the first part of a stream, and what is left
-pub stream_next : (m : Memory) (at left offset : ℕ) (opens : Bool) (e : Extent) → IsNext m at left e → stream_of (reached m at left) left offset opens ≡ part.Of e opens true ∷ stream_of (reached m (at + e.len) (left - e.len)) (left - e.len) (offset + e.len) false
+pub stream_next : (m : Memory) (at left offset : ℕ) (opens : Bool) (e : Extent) → IsNext m at left e → run_stream (reached m at left) left offset opens ≡ part.Of e opens true ∷ run_stream (reached m (at + e.len) (left - e.len)) (left - e.len) (offset + e.len) false
 stream_next m at left offset opens e is =
     let rest = reached m (at + e.len) (left - e.len) in
     let count : length (run_of e.pa.0 e.len ++ rest) ≡ e.len + length rest = length-append (run_of e.pa.0 e.len) rest ∙ ap (λ n. n + length rest) (length-run_of e.pa.0 e.len) in
     let more : offset + (e.len + length rest) ≡ offset + e.len + length rest = omega arith in
-    ap (λ pas. stream_of pas left offset opens) is.others
-    ∙ ap (λ es. parts_of opens es ++ (if nat_eq (length (run_of e.pa.0 e.len ++ rest)) left then [] else part.Unmapped (offset + length (run_of e.pa.0 e.len ++ rest)) ∷ [])) (extents_of-run e.pa.0 e.len rest is.extent.some is.extent.in_frame is.cut)
-    ∙ ap (λ n. part.Of e opens true ∷ (parts_of false (extents_of rest) ++ (if nat_eq n left then [] else part.Unmapped (offset + n) ∷ []))) count
-    ∙ ap (λ b. part.Of e opens true ∷ (parts_of false (extents_of rest) ++ (if b then [] else part.Unmapped (offset + (e.len + length rest)) ∷ []))) (same_left e.len (length rest) left is.short)
-    ∙ ap (λ k. part.Of e opens true ∷ (parts_of false (extents_of rest) ++ (if nat_eq (length rest) (left - e.len) then [] else part.Unmapped k ∷ []))) more
+    ap (λ pas. run_stream pas left offset opens) is.others
+    ∙ ap (λ es. extent_parts opens true es ++ (if nat_eq (length (run_of e.pa.0 e.len ++ rest)) left then [] else part.Unmapped (offset + length (run_of e.pa.0 e.len ++ rest)) ∷ [])) (extents_of-run e.pa.0 e.len rest is.extent.some is.extent.in_frame is.cut)
+    ∙ ap (λ n. part.Of e opens true ∷ (extent_parts false true (extents_of rest) ++ (if nat_eq n left then [] else part.Unmapped (offset + n) ∷ []))) count
+    ∙ ap (λ b. part.Of e opens true ∷ (extent_parts false true (extents_of rest) ++ (if b then [] else part.Unmapped (offset + (e.len + length rest)) ∷ []))) (same_left e.len (length rest) left is.short)
+    ∙ ap (λ k. part.Of e opens true ∷ (extent_parts false true (extents_of rest) ++ (if nat_eq (length rest) (left - e.len) then [] else part.Unmapped k ∷ []))) more

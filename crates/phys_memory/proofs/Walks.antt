@@ -10,24 +10,25 @@ use Rattle.busdma_base.specs.declared.chunk.Part.TheVariants as part
 use Rattle.busdma_base.specs.declared.report.ReportName.TheVariants as name
 use Rattle.busdma_base.specs.declared.report.Judged.{Judged}
 use Rattle.busdma_base.specs.declared.report.Judged.TheVariants.{Fine, Refused}
+use Rattle.busdma_base.specs.Entry.{AreJoined, extent_parts}
 use Rattle.busdma_base.specs.Judging.{judged, refused_or}
 use Rattle.busdma_base.specs.Runs.{addresses, run_of, IsExtent}
 use Rattle.phys_memory.specs.declared.walk.Walked.{Walked}
 use Rattle.phys_memory.specs.declared.walk.Walked.TheVariants.{Parts, Unmapped}
 use Rattle.phys_memory.specs.Memory.{Memory, IsMemory, missing, physical, unreached}
-use Rattle.phys_memory.specs.Extents.{AreJoined, LiesIn, extents_of, reached, then_reached}
-use Rattle.phys_memory.specs.Walk.{IfParts, flat, parts_of, physical_or_0, stream_of, verdict, walk_of, walked}
+use Rattle.phys_memory.specs.Extents.{LiesIn, extents_of, reached, then_reached}
+use Rattle.phys_memory.specs.Walk.{IfParts, flat, physical_or_0, run_stream, verdict, walk_of, walked}
 use Rattle.phys_memory.proofs.Extents.{reached_extents}
 
-walked-parts_of : (before es : List Extent) (opens : Bool) (rest : List Part) → walked before (parts_of opens es ++ rest) ≡ walked (before ++ es) rest
-walked-parts_of before [] opens rest = ap (λ xs. walked xs rest) (sym (append-nil before))
-walked-parts_of before (e ∷ es) opens rest = walked-parts_of (before ++ e ∷ []) es false rest ∙ ap (λ xs. walked xs rest) (append_assoc before (e ∷ []) es)
+walked-parts : (before es : List Extent) (opens : Bool) (rest : List Part) → walked before (extent_parts opens true es ++ rest) ≡ walked (before ++ es) rest
+walked-parts before [] opens rest = ap (λ xs. walked xs rest) (sym (append-nil before))
+walked-parts before (e ∷ es) opens rest = walked-parts (before ++ e ∷ []) es false rest ∙ ap (λ xs. walked xs rest) (append_assoc before (e ∷ []) es)
 
 -- the walk over a stream is the one over its bytes
-walked-stream_of : (pas : List ℕ) (n : ℕ) (opens : Bool) → walked [] (stream_of pas n 0 opens) ≡ walk_of pas n
-walked-stream_of pas n opens =
+walked-run : (pas : List ℕ) (n : ℕ) (opens : Bool) → walked [] (run_stream pas n 0 opens) ≡ walk_of pas n
+walked-run pas n opens =
     let zero_plus : 0 + length pas ≡ length pas = omega arith in
-    walked-parts_of [] (extents_of pas) opens (if nat_eq (length pas) n then [] else part.Unmapped (0 + length pas) ∷ [])
+    walked-parts [] (extents_of pas) opens (if nat_eq (length pas) n then [] else part.Unmapped (0 + length pas) ∷ [])
     ∙ elim (nat_eq (length pas) n) as (λ b. walked (extents_of pas) (if b then [] else part.Unmapped (0 + length pas) ∷ []) ≡ (if b then Parts (extents_of pas) else Unmapped (length pas))) [ true ↦ refl | false ↦ ap (λ k. Unmapped k) zero_plus ]
 
 -- ---- what a walk says
@@ -38,31 +39,37 @@ eqb_suc a b = elim (eqb_tells a b) [
   | inr t ↦ ne_eqb (suc a) (suc b) (λ e. t.1 (omega arith)) ∙ sym t.0
 ]
 
-abbrev refused_at : ℕ → Judged
+abbrev pub refused_at : ℕ → Judged
 refused_at k = Refused (record { name = name.Unmapped; at = k })
 
-judged-reached : (m : Memory) (va n k : ℕ) → (if nat_eq (length (reached m va n)) n then Fine else refused_at (k + length (reached m va n))) ≡ judged (unreached m) k (run_of va n)
-judged-reached m va zero k = refl
-judged-reached m va (suc n) k = first (physical m va) (judged-reached m (va + 1) n (k + 1))
+-- the judgement of a run of bytes, and then of others
+pub judged-run : (m : Memory) (va n k : ℕ) (rest : List ℕ) → judged (unreached m) k (run_of va n ++ rest) ≡ (if nat_eq (length (reached m va n)) n then judged (unreached m) (k + n) rest else refused_at (k + length (reached m va n)))
+judged-run m va zero k rest =
+    let none : k ≡ k + 0 = omega arith in
+    ap (λ j. judged (unreached m) j rest) none
+judged-run m va (suc n) k rest = first (physical m va) (judged-run m (va + 1) n (k + 1) rest)
   where
-    first : (o : Option ℕ) → (if nat_eq (length (reached m (va + 1) n)) n then Fine else refused_at (k + 1 + length (reached m (va + 1) n))) ≡ judged (unreached m) (k + 1) (run_of (va + 1) n) → (if nat_eq (length (then_reached o (reached m (va + 1) n))) (suc n) then Fine else refused_at (k + length (then_reached o (reached m (va + 1) n)))) ≡ refused_or (missing o) k (judged (unreached m) (k + 1) (run_of (va + 1) n))
+    first : (o : Option ℕ) → judged (unreached m) (k + 1) (run_of (va + 1) n ++ rest) ≡ (if nat_eq (length (reached m (va + 1) n)) n then judged (unreached m) (k + 1 + n) rest else refused_at (k + 1 + length (reached m (va + 1) n))) → refused_or (missing o) k (judged (unreached m) (k + 1) (run_of (va + 1) n ++ rest)) ≡ (if nat_eq (length (then_reached o (reached m (va + 1) n))) (suc n) then judged (unreached m) (k + suc n) rest else refused_at (k + length (then_reached o (reached m (va + 1) n))))
     first None others =
-        let none : k + 0 ≡ k = omega arith in
-        ap (λ b. if b then Fine else refused_at (k + 0)) (ne_eqb 0 (suc n) (omega arith)) ∙ ap refused_at none
+        let none : k ≡ k + 0 = omega arith in
+        ap refused_at none ∙ ap (λ b. if b then judged (unreached m) (k + suc n) rest else refused_at (k + 0)) (sym (ne_eqb 0 (suc n) (omega arith)))
     first (Some p) others =
-        let one : k + suc (length (reached m (va + 1) n)) ≡ k + 1 + length (reached m (va + 1) n) = omega arith in
-        ap (λ b. if b then Fine else refused_at (k + suc (length (reached m (va + 1) n)))) (eqb_suc (length (reached m (va + 1) n)) n)
-        ∙ ap (λ j. if nat_eq (length (reached m (va + 1) n)) n then Fine else refused_at j) one ∙ others
+        let l = length (reached m (va + 1) n) in
+        let reached_one : k + 1 + l ≡ k + suc l = omega arith in
+        let all_one : k + 1 + n ≡ k + suc n = omega arith in
+        others ∙ ap (λ j. if nat_eq l n then judged (unreached m) (k + 1 + n) rest else refused_at j) reached_one
+        ∙ ap (λ j. if nat_eq l n then judged (unreached m) j rest else refused_at (k + suc l)) all_one
+        ∙ ap (λ b. if b then judged (unreached m) (k + suc n) rest else refused_at (k + suc l)) (sym (eqb_suc l n))
 
 verdict-walk_of : (m : Memory) (va n : ℕ) → verdict (walk_of (reached m va n) n) ≡ judged (unreached m) 0 (run_of va n)
 verdict-walk_of m va n =
     let l = length (reached m va n) in
     let zero_plus : l ≡ 0 + l = omega arith in
     elim (nat_eq l n) as (λ b. verdict (if b then Parts (extents_of (reached m va n)) else Unmapped l) ≡ (if b then Fine else refused_at (0 + l))) [ true ↦ refl | false ↦ ap refused_at zero_plus ]
-    ∙ judged-reached m va n 0
+    ∙ sym (judged-run m va n 0 []) ∙ ap (judged (unreached m) 0) (append-nil (run_of va n))
 
 -- where all bytes are reached, they stand at their physical addresses
-reached_all : (m : Memory) (va n : ℕ) → length (reached m va n) ≡ n → reached m va n ≡ map (physical_or_0 m) (run_of va n)
+pub reached_all : (m : Memory) (va n : ℕ) → length (reached m va n) ≡ n → reached m va n ≡ map (physical_or_0 m) (run_of va n)
 reached_all m va zero h = refl
 reached_all m va (suc n) h = first (physical m va) h (λ e. reached_all m (va + 1) n e)
   where
@@ -82,7 +89,7 @@ if_parts pas n P h = whole (nat_eq (length pas) n) refl
 
 module _ (m : Memory) (va n : ℕ) (w : Walked) (h : w ≡ walked [] (flat m va n)) where
   pub walk_is : w ≡ walk_of (reached m va n) n
-  walk_is = h ∙ walked-stream_of (reached m va n) n true
+  walk_is = h ∙ walked-run (reached m va n) n true
 
   pub verdict_is : verdict w ≡ judged (unreached m) 0 (run_of va n)
   verdict_is = ap verdict walk_is ∙ verdict-walk_of m va n

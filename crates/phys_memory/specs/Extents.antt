@@ -26,12 +26,6 @@ abbrev pub reached : Memory → ℕ → ℕ → List ℕ
 reached m va zero = []
 reached m va (suc n) = then_reached (physical m va) (reached m (va + 1) n)
 
--- each extent but the first begins its frame, and each but the last ends its frame
-abbrev pub AreJoined : List Extent → Type 0
-AreJoined [] = Unit {0}
-AreJoined (e ∷ []) = Unit {0}
-AreJoined (e ∷ f ∷ es) = ((e.pa.0 + e.len) % 4096 ≡ 0) × (f.pa.0 % 4096 ≡ 0) × AreJoined (f ∷ es)
-
 -- the extent lies in a frame of the memory
 abbrev pub LiesIn : Memory → Extent → Type 0
 LiesIn m e = has_frame m (e.pa.0 / 4096) ≡ true

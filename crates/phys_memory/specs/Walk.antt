@@ -1,29 +1,29 @@
 -- Walks over virtual bytes, and the streams of their parts.
-use Rattle.std.specs.Prelude.{ℕ, ◌+◌, ◌==◌, Bool, true, false, if◌then◌else◌, List, [], ◌∷◌, ◌++◌, length, unwrap_or}
+use Rattle.std.specs.Prelude.{ℕ, ◌+◌, ◌==◌, Bool, true, if◌then◌else◌, List, [], ◌∷◌, ◌++◌, length, unwrap_or}
 use Rattle.busdma_base.specs.declared.address.Extent.{Extent}
 use Rattle.busdma_base.specs.declared.chunk.Part.{Part}
 use Rattle.busdma_base.specs.declared.chunk.Part.TheVariants as part
 use Rattle.busdma_base.specs.declared.report.ReportName.TheVariants as name
 use Rattle.busdma_base.specs.declared.report.Judged.{Judged}
 use Rattle.busdma_base.specs.declared.report.Judged.TheVariants.{Fine, Refused}
+use Rattle.busdma_base.specs.Entry.{extent_parts}
 use Rattle.phys_memory.specs.declared.walk.Walked.{Walked}
 use Rattle.phys_memory.specs.declared.walk.Walked.TheVariants.{Parts, Unmapped}
 use Rattle.phys_memory.specs.Memory.{Memory, physical}
 use Rattle.phys_memory.specs.Extents.{extents_of, reached}
 
--- extents as parts of a stream; the first of them opens an entry or does not
-abbrev pub parts_of : Bool → List Extent → List Part
-parts_of opens [] = []
-parts_of opens (e ∷ es) = part.Of e opens true ∷ parts_of false es
-
 -- the stream of n bytes, the first of them at an offset of the load, of which these can be reached
-abbrev pub stream_of : List ℕ → ℕ → ℕ → Bool → List Part
-stream_of pas n offset opens =
-    parts_of opens (extents_of pas) ++ (if length pas == n then [] else part.Unmapped (offset + length pas) ∷ [])
+abbrev pub run_stream : List ℕ → ℕ → ℕ → Bool → List Part
+run_stream pas n offset opens =
+    extent_parts opens true (extents_of pas) ++ (if length pas == n then [] else part.Unmapped (offset + length pas) ∷ [])
+
+-- the stream of n bytes from a virtual address on, the first of them at an offset of the load
+abbrev pub flat_at : Memory → ℕ → ℕ → ℕ → List Part
+flat_at m offset va n = run_stream (reached m va n) n offset true
 
 -- the stream of n bytes from a virtual address on
 abbrev pub flat : Memory → ℕ → ℕ → List Part
-flat m va n = stream_of (reached m va n) n 0 true
+flat m va n = flat_at m 0 va n
 
 -- the walk over n bytes of which these can be reached
 abbrev pub walk_of : List ℕ → ℕ → Walked

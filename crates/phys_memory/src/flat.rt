@@ -2,9 +2,11 @@
 
 ghost use Rattle.std.specs.Prelude.{◌≡◌, ℕ, ◌+◌, ◌-◌, ◌*◌, ◌/◌, ◌%◌, ◌^◌, ◌<◌, ◌≤◌, IfSome, IfNone, None, Some, true, []};
 ghost use Rattle.std.specs.Iterator.{YieldsFirst, item_count};
+ghost use Rattle.busdma_base.specs.Entry.{parts_of};
 ghost use Rattle.phys_memory.specs.Memory.{IsMemory, IsRow, physical, row_at};
 ghost use Rattle.phys_memory.specs.Extents.{IsNext, reached};
-ghost use Rattle.phys_memory.specs.Walk.{flat, stream_of};
+ghost use Rattle.phys_memory.specs.Walk.{flat, flat_at, run_stream};
+ghost use Rattle.phys_memory.specs.Vector.{IfAll, one_span, vector, vector_walk};
 
 use crate::pages::LanePages;
 use crate::reach::Reach;
@@ -26,11 +28,11 @@ impl<'a> Model for FlatParts<'a> {
     ghost use Rattle.std.specs.Prelude.{List, ◌+◌, ◌<◌, ◌^◌};
     ghost use Rattle.busdma_base.specs.declared.chunk.Part.{Part};
     ghost use Rattle.phys_memory.specs.Extents.{reached};
-    ghost use Rattle.phys_memory.specs.Walk.{stream_of};
+    ghost use Rattle.phys_memory.specs.Walk.{run_stream};
 
     ghost Value = { List Part };
 
-    ghost view = { λ s. stream_of (reached s.memory.now.memory s.at s.left) s.left s.offset s.opens };
+    ghost view = { λ s. run_stream (reached s.memory.now.memory s.at s.left) s.left s.offset s.opens };
 
     ghost invariant = { λ s. (s.at + s.left < 2 ^ 65) × (s.offset + s.left < 2 ^ 64) };
 }
@@ -67,10 +69,30 @@ impl<'a> Iterator for FlatParts<'a> {
     }
 }
 
+impl<'a> FlatParts<'a> {
+    // Leaves nothing.
+    pub(crate) fn stop(&mut self)
+        ensures { self.new ≡ [] }
+    {
+        self.left = 0;
+    }
+}
+
 impl LanePages {
-    /// The parts of `len` virtual bytes.
+    /// The parts of `len` virtual bytes, which are those of the vector of one such span.
     pub fn parts_flat(&self, va: Va, len: u64) -> FlatParts<'_>
         ensures parts { result ≡ flat self.now.memory va.0 len }
+        ensures vector { result ≡ vector self.now.memory (one_span va.0 len) }
+        ensures walk { IfAll (vector_walk self.now.memory (one_span va.0 len)) (λ es. result ≡ parts_of es) }
+        ensures sound { IsMemory self.now.memory }
+    {
+        self.parts_at(va, len, 0)
+    }
+
+    // The same for bytes whose first stands at an offset of the load.
+    pub(crate) fn parts_at(&self, va: Va, len: u64, offset: u64) -> FlatParts<'_>
+        requires { offset + len < 2 ^ 64 }
+        ensures parts { result ≡ flat_at self.now.memory offset va.0 len }
         ensures sound { IsMemory self.now.memory }
     {
         let _ = &self.table;
@@ -78,7 +100,7 @@ impl LanePages {
             memory: self,
             at: va.0 as u128,
             left: len,
-            offset: 0,
+            offset,
             opens: true,
         }
     }

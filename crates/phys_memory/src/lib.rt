@@ -2,14 +2,18 @@
 #![tactic(auto)]
 
 mod bytes;
+mod entries;
 mod flat;
 mod pages;
 mod reach;
 #[cfg(test)]
 mod tests;
+mod vector;
 mod walk;
 
+pub use entries::Entries;
 pub use flat::FlatParts;
 pub use pages::LanePages;
 pub use reach::Reach;
+pub use vector::VectorParts;
 pub use walk::Walked;

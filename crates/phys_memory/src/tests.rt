@@ -2,8 +2,8 @@
 
 ghost use Rattle.std.specs.Prelude.{◌≡◌, ◌%◌, ◌^◌, ◌<◌, ◌≤◌};
 
-use crate::{LanePages, Walked};
-use busdma_base::{Extent, Pa, Page, Va};
+use crate::{Entries, LanePages, Walked};
+use busdma_base::{Extent, Pa, Page, Part, Span, Va};
 use std::alloc::Global;
 use std::process::Abort;
 use std::test::Fail;
@@ -53,25 +53,13 @@ fn unmapped(walked: &Walked) -> Option<u64> {
 fn reaches_what_is_mapped(rt: HostRuntime) -> Result<(), Fail> {
     let alloc = rt.alloc();
     let memory = four_pages(&rt, alloc)?;
-    let two = [
-        Extent {
-            pa: Pa(0x5ff0),
-            len: 0x10,
-        },
-        Extent {
-            pa: Pa(0x3000),
-            len: 0x10,
-        },
-    ];
+    let two = [extent(0x5ff0, 0x10), extent(0x3000, 0x10)];
     let Walked::Parts(parts) = memory.translate(alloc, Va(0x1ff0), 0x20)? else {
         return Err("two pages are there")?;
     };
     assert_eq!(rt; parts.as_slice(), two.as_slice());
 
-    let last = [Extent {
-        pa: Pa(0x7ff0),
-        len: 0x10,
-    }];
+    let last = [extent(0x7ff0, 0x10)];
     let Walked::Parts(parts) = memory.translate(alloc, Va(0xffff_ffff_ffff_fff0), 0x10)? else {
         return Err("the last page is there")?;
     };
@@ -113,5 +101,147 @@ fn pages_come_and_go(rt: HostRuntime) -> Result<(), Fail> {
     assert!(rt; memory.remove(Va(0x1000)).is_none());
     assert!(rt; !memory.has_frame(5));
     assert_eq!(rt; add(&rt, alloc, &mut memory, 0x1000, 5, 4096)?, None);
+    Ok(())
+}
+
+/// The bytes from a physical address on.
+fn extent(pa: u64, len: u64) -> Extent {
+    Extent { pa: Pa(pa), len }
+}
+
+/// The bytes from a virtual address on.
+fn span(va: u64, len: u64) -> Span
+    ensures { result.len ≡ len }
+{
+    Span { va: Va(va), len }
+}
+
+/// An extent as a part of an entry that is rounded.
+fn part(pa: u64, len: u64, opens: bool) -> Option<Part> {
+    let extent = extent(pa, len);
+    Some(Part::Of {
+        extent,
+        opens,
+        rounded: true,
+    })
+}
+
+/// The offset of the first byte that cannot be reached.
+fn missing(entries: &Entries) -> Option<u64> {
+    match entries {
+        Entries::All(_) => None,
+        Entries::Unmapped(offset) => Some(*offset),
+    }
+}
+
+#[test]
+fn a_flat_buffer_is_one_entry(rt: HostRuntime) -> Result<(), Fail> {
+    let alloc = rt.alloc();
+    let memory = four_pages(&rt, alloc)?;
+    let Entries::All(entries) = memory.walk_flat(alloc, Va(0x1ff0), 0x20)? else {
+        return Err("two pages are there")?;
+    };
+    assert_eq!(rt; entries.len(), 1);
+    for entry in entries.as_slice() {
+        assert!(rt; entry.rounded);
+        let two = [extent(0x5ff0, 0x10), extent(0x3000, 0x10)];
+        assert_eq!(rt; entry.parts.as_slice(), two.as_slice());
+    }
+
+    let Entries::All(entries) = memory.walk_flat(alloc, Va(0x8000), 0)? else {
+        return Err("no byte is missing")?;
+    };
+    assert!(rt; entries.is_empty());
+
+    let past = memory.walk_flat(alloc, Va(0x1ff0), 0x21)?;
+    assert_eq!(rt; missing(&past), Some(0x20));
+    let past = memory.walk_flat(alloc, Va(0xffff_ffff_ffff_fff0), 0x11)?;
+    assert_eq!(rt; missing(&past), Some(0x10));
+    Ok(())
+}
+
+#[test]
+fn a_flat_stream_ends_at_a_hole(rt: HostRuntime) -> Result<(), Fail> {
+    let alloc = rt.alloc();
+    let memory = four_pages(&rt, alloc)?;
+    let wanted = [
+        part(0x7ff0, 0x10, true),
+        Some(Part::Unmapped(0x10)),
+        None,
+        None,
+    ];
+    let mut parts = memory.parts_flat(Va(0xffff_ffff_ffff_fff0), 0x1011);
+    for part in wanted {
+        assert_eq!(rt; parts.next(), part);
+    }
+    Ok(())
+}
+
+#[test]
+fn each_span_is_an_entry(rt: HostRuntime) -> Result<(), Fail> {
+    let alloc = rt.alloc();
+    let memory = four_pages(&rt, alloc)?;
+    let spans = [span(0x1ff8, 8), span(0x8000, 0), span(0x1ff0, 0x20)];
+    let Entries::All(entries) = memory.walk_vector(alloc, &spans)? else {
+        return Err("all pages are there")?;
+    };
+    let first = [extent(0x5ff8, 8)];
+    let second = [extent(0x5ff0, 0x10), extent(0x3000, 0x10)];
+    let [a, b] = entries.as_slice() else {
+        return Err("two spans have bytes")?;
+    };
+    assert_eq!(rt; a.parts.as_slice(), first.as_slice());
+    assert_eq!(rt; b.parts.as_slice(), second.as_slice());
+
+    let wanted = [
+        part(0x5ff8, 8, true),
+        part(0x5ff0, 0x10, true),
+        part(0x3000, 0x10, false),
+        None,
+    ];
+    let mut parts = memory.parts_vector(&spans);
+    for part in wanted {
+        assert_eq!(rt; parts.next(), part);
+    }
+    Ok(())
+}
+
+#[test]
+fn an_offset_counts_over_all_spans(rt: HostRuntime) -> Result<(), Fail> {
+    let alloc = rt.alloc();
+    let memory = four_pages(&rt, alloc)?;
+    let spans = [span(0x1000, 0x10), span(0x200f, 2), span(0, 1)];
+    let walked = memory.walk_vector(alloc, &spans)?;
+    assert_eq!(rt; missing(&walked), Some(0x11));
+
+    let wanted = [
+        part(0x5000, 0x10, true),
+        part(0x300f, 1, true),
+        Some(Part::Unmapped(0x11)),
+        None,
+    ];
+    let mut parts = memory.parts_vector(&spans);
+    for part in wanted {
+        assert_eq!(rt; parts.next(), part);
+    }
+    Ok(())
+}
+
+#[test]
+fn a_page_is_added_within_room(rt: HostRuntime) -> Result<(), Fail> {
+    let alloc = rt.alloc();
+    let first = Page::new(alloc, 5, 0)?;
+    let second = Page::new(alloc, 6, 0)?;
+    let mut memory = LanePages::new(alloc);
+    memory.reserve(alloc, 2)?;
+    assert!(rt; !memory.has_frame(first.frame()));
+    assert!(rt; memory.add_reserved(Va(0x1000), first, 4096).is_none());
+    assert!(rt; !memory.has_frame(second.frame()));
+    let Some(back) = memory.add_reserved(Va(0x1000), second, 4096) else {
+        return Err("that page is taken")?;
+    };
+    assert_eq!(rt; back.frame(), 6);
+    assert!(rt; memory.has_frame(5));
+    assert!(rt; !memory.has_frame(6));
     Ok(())
 }

@@ -2,12 +2,13 @@ use Rattle.std.proofs.Common.{◌≡◌, [], map, subst}
 use Rattle.std.specs.List.{AllByRecursion}
 use Rattle.std.specs.Prelude.{List, IfOk}
 use Rattle.std.proofs.lemmas.Result.{IfOk-weaker}
+use Rattle.busdma_base.specs.Entry.{AreJoined}
 use Rattle.busdma_base.specs.Judging.{judged}
 use Rattle.busdma_base.specs.Runs.{IsExtent, addresses, run_of}
 use Rattle.busdma_base.specs.declared.chunk.Part.{Part}
 use Rattle.phys_memory.specs.declared.walk.Walked.{Walked}
 use Rattle.phys_memory.specs.Memory.{unreached}
-use Rattle.phys_memory.specs.Extents.{AreJoined, LiesIn, reached}
+use Rattle.phys_memory.specs.Extents.{LiesIn, reached}
 use Rattle.phys_memory.specs.Walk.{IfParts, flat, physical_or_0, verdict, walk_of, walked}
 use Rattle.phys_memory.proofs.Walks.{walk_is, verdict_is, walk_addresses, walk_extents, walk_joined, walk_lies}
 use Rattle.phys_memory.proofs.pages.LanePages.translate.Goals as goal

@@ -1,0 +1,16 @@
+use Rattle.std.proofs.Common.{◌≡◌, List, sym, ◌∙◌, subst}
+use Rattle.busdma_base.specs.declared.chunk.Part.{Part}
+use Rattle.busdma_base.specs.Entry.{parts_of}
+use Rattle.phys_memory.specs.Vector.{IfAll, one_span, vector_walk}
+use Rattle.phys_memory.proofs.Vectors.{vector_one, walk_stream}
+use Rattle.phys_memory.proofs.pages.LanePages.parts_flat.Goals as goal
+
+pub returns-clause-vector : goal.returns-clause-vector
+returns-clause-vector c = c.parts_at.ensures.parts ∙ sym (vector_one c.args.self.now.memory c.args.va.0 c.args.len)
+
+pub returns-clause-walk : goal.returns-clause-walk
+returns-clause-walk c =
+    let m = c.args.self.now.memory in
+    let spans = one_span c.args.va.0 c.args.len in
+    let is = c.parts_at.ensures.parts ∙ sym (vector_one m c.args.va.0 c.args.len) in
+    subst (λ (ps : List Part). IfAll (vector_walk m spans) (λ es. ps ≡ parts_of es)) (sym is) (walk_stream m spans)

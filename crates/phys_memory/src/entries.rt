@@ -1,0 +1,69 @@
+//! Walks that give entries.
+
+ghost use Rattle.std.specs.Prelude.{◌≡◌, ◌+◌, ◌^◌, ◌<◌, IfOk, map};
+ghost use Rattle.std.specs.List.{AllByRecursion};
+ghost use Rattle.busdma_base.specs.Entry.{HasPart, IsEntry, entries_addresses};
+ghost use Rattle.busdma_base.specs.Runs.{run_of};
+ghost use Rattle.busdma_base.specs.Spans.{span_addresses, span_bytes};
+ghost use Rattle.phys_memory.specs.Extents.{LiesIn};
+ghost use Rattle.phys_memory.specs.Vector.{IfAll, one_span, vector_walk};
+ghost use Rattle.phys_memory.specs.Walk.{physical_or_0};
+
+use crate::pages::LanePages;
+use crate::walk::Walked;
+use busdma_base::{Entry, EntryList, Span, Va};
+use std::alloc::{AllocError, Global};
+
+/// The entries of a buffer, or the offset in the whole buffer of the first byte that cannot be
+/// reached.
+#[derive(Debug, Drop)]
+pub enum Entries {
+    All(EntryList),
+    Unmapped(u64),
+}
+
+impl LanePages {
+    /// The entries of `len` virtual bytes: one, or none where there is no byte.
+    pub fn walk_flat(&self, alloc: Global, va: Va, len: u64) -> Result<Entries, AllocError>
+        ensures walk { IfOk result (λ w. w ≡ vector_walk self.now.memory (one_span va.0 len)) }
+        ensures addresses { let pas = map (physical_or_0 self.now.memory) (run_of va.0 len) in
+            IfOk result (λ w. IfAll w (λ es. entries_addresses es ≡ pas)) }
+        ensures entries { IfOk result (λ w. IfAll w (AllByRecursion IsEntry)) }
+        ensures some { IfOk result (λ w. IfAll w (AllByRecursion HasPart)) }
+    {
+        self.walk_vector(alloc, &[Span { va, len }])
+    }
+
+    /// The entries of a vector, in order: one for each span that has a byte.
+    pub fn walk_vector(&self, alloc: Global, spans: &[Span]) -> Result<Entries, AllocError>
+        requires { span_bytes spans.now < 2 ^ 64 }
+        ensures walk { IfOk result (λ w. w ≡ vector_walk self.now.memory spans.now) }
+        ensures addresses { let pas = map (physical_or_0 self.now.memory) (span_addresses spans.now) in
+            IfOk result (λ w. IfAll w (λ es. entries_addresses es ≡ pas)) }
+
+        // One extent for each page that a span touches, and each in a frame of the memory.
+        ensures entries { IfOk result (λ w. IfAll w (AllByRecursion IsEntry)) }
+        ensures some { IfOk result (λ w. IfAll w (AllByRecursion HasPart)) }
+        ensures frames { let lies = LiesIn self.now.memory in
+            IfOk result (λ w. IfAll w (AllByRecursion (λ e. AllByRecursion lies e.parts))) }
+    {
+        let _ = &self.table;
+        let mut entries = Vec::new(alloc);
+        let mut offset = 0;
+        for span in spans {
+            match self.translate(alloc, span.va, span.len)? {
+                Walked::Unmapped(at) => return Ok(Entries::Unmapped(offset + at)),
+                Walked::Parts(parts) => {
+                    if !parts.is_empty() {
+                        entries.push(Entry {
+                            rounded: true,
+                            parts,
+                        })?;
+                    }
+                }
+            }
+            offset += span.len;
+        }
+        Ok(Entries::All(EntryList::new(entries)))
+    }
+}

@@ -1,0 +1,78 @@
+//! The parts of vectors.
+
+ghost use Rattle.std.specs.Prelude.{◌≡◌, ℕ, ◌+◌, ◌^◌, ◌<◌, List};
+ghost use Rattle.std.specs.Iterator.{YieldsFirst, item_count};
+ghost use Rattle.busdma_base.specs.Entry.{parts_of};
+ghost use Rattle.busdma_base.specs.Spans.{span_bytes};
+ghost use Rattle.phys_memory.specs.Memory.{IsMemory};
+ghost use Rattle.phys_memory.specs.Vector.{IfAll, then_parts, vector, vector_at, vector_walk};
+
+use crate::flat::FlatParts;
+use crate::pages::LanePages;
+use busdma_base::{Part, Span, Va};
+use std::marker::Model;
+
+/// The parts of the spans of a vector, in order: the extents of each, the first of which opens its
+/// entry, up to the first byte that cannot be reached, and then `Unmapped` with the offset of that
+/// byte in the whole vector. A span of length 0 gives nothing.
+#[derive(Drop)]
+pub struct VectorParts<'a> {
+    memory: &'a LanePages,
+    current: FlatParts<'a>,
+    spans: &'a [Span],
+    offset: u64,
+}
+
+impl<'a> Model for VectorParts<'a> {
+    ghost use Rattle.std.specs.Prelude.{List, ◌+◌, ◌<◌, ◌^◌};
+    ghost use Rattle.busdma_base.specs.declared.chunk.Part.{Part};
+    ghost use Rattle.busdma_base.specs.Spans.{span_bytes};
+    ghost use Rattle.phys_memory.specs.Vector.{then_parts, vector_at};
+
+    ghost Value = { List Part };
+
+    ghost view = { λ s. then_parts s.current (vector_at s.memory.now.memory s.offset s.spans.now) };
+
+    ghost invariant = { λ s. s.offset + span_bytes s.spans.now < 2 ^ 64 };
+}
+
+impl<'a> Iterator for VectorParts<'a> {
+    type Item = Part;
+
+    ghost next_gives = { YieldsFirst (λ s. s) };
+
+    ghost remaining = { item_count (λ s. s) };
+
+    fn next(&mut self) -> Option<Part> {
+        loop {
+            if let Some(part) = self.current.next() {
+                if let Part::Unmapped(_) = part {
+                    self.spans = &[];
+                    self.current.stop();
+                }
+                return Some(part);
+            }
+            let (span, others) = self.spans.split_first()?;
+            self.spans = others;
+            self.current = self.memory.parts_at(span.va, span.len, self.offset);
+            self.offset += span.len;
+        }
+    }
+}
+
+impl LanePages {
+    /// The parts of the spans of a vector.
+    pub fn parts_vector<'a>(&'a self, spans: &'a [Span]) -> VectorParts<'a>
+        requires { span_bytes spans.now < 2 ^ 64 }
+        ensures parts { result ≡ vector self.now.memory spans.now }
+        ensures walk { IfAll (vector_walk self.now.memory spans.now) (λ es. result ≡ parts_of es) }
+        ensures sound { IsMemory self.now.memory }
+    {
+        VectorParts {
+            memory: self,
+            current: self.parts_flat(Va(0), 0),
+            spans,
+            offset: 0,
+        }
+    }
+}
