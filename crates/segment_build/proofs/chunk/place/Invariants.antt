@@ -1,0 +1,10 @@
+use Rattle.std.proofs.Common.{◌≡◌, ◌+◌, ◌++◌, length, take, drop}
+use Rattle.segment_build.specs.Chunks.{need_of}
+use Rattle.segment_build.specs.Trace.{placed}
+use Rattle.segment_build.proofs.chunk.place.Given as goal
+
+abbrev pub invariant-loop-chunk : goal.invariant-loop-chunk
+invariant-loop-chunk l = record {
+  is : take l.chunk-index l.chunks ++ placed l.keep (drop l.chunk-index l.chunks) (drop l.used l.pages) ≡ placed l.keep l.initial.chunks l.pages;
+  used : l.used + need_of (drop l.chunk-index l.chunks) ≡ length l.pages;
+}

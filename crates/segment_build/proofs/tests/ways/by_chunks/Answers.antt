@@ -1,0 +1,14 @@
+use Rattle.std.proofs.Common.{◌≡◌, List, sym, ◌∙◌, subst, ap}
+use Rattle.std.specs.List.{AllByRecursion}
+use Rattle.busdma_base.specs.declared.chunk.Chunk.{Chunk}
+use Rattle.busdma_base.specs.declared.tag.TagLimits.{TagLimits}
+use Rattle.busdma_base.specs.TagFlags.{keep_pg_offset}
+use Rattle.segment_build.specs.Trace.{IsPlaced, placed}
+use Rattle.segment_build.proofs.Sound.{placed_are}
+use Rattle.segment_build.proofs.tests.ways.by_chunks.Goals as goal
+
+pub build-requires : goal.build-requires
+build-requires c =
+    let keep = c.keeps_offset.ensures ∙ ap (λ (t : TagLimits). keep_pg_offset t.flags) c.limits.ensures.limits in
+    let is = c.place.ensures ∙ ap (λ k. placed k c.args.chunks.now c.args.pages.now) keep in
+    record { placed = subst (AllByRecursion IsPlaced) (sym is) (placed_are c.args.tag.now c.args.chunks.now c.args.pages.now c.requires.sound c.requires.pages) }

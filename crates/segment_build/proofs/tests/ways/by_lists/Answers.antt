@@ -1,0 +1,12 @@
+use Rattle.std.proofs.Common.{◌≡◌, List, sym, ◌∙◌, subst, ap}
+use Rattle.std.specs.List.{AllByRecursion}
+use Rattle.busdma_base.specs.declared.chunk.Chunk.{Chunk}
+use Rattle.segment_build.specs.Building.{IsSound}
+use Rattle.segment_build.specs.Chunks.{need_of}
+use Rattle.segment_build.proofs.Sound.{chunks_sound}
+use Rattle.segment_build.proofs.tests.ways.by_lists.Goals as goal
+
+pub by_chunks-requires-clause-sound : goal.by_chunks-requires-clause-sound
+by_chunks-requires-clause-sound c =
+    let is = c.deref_mut.ensures.value ∙ (c.into_vec-chunks.ensures ∙ c.in_ok-chunks.ensures) in
+    subst (AllByRecursion (IsSound c.args.tag.now)) (sym is) (chunks_sound c.args.tag.now c.args.maxmem c.args.entries.now c.limits.ensures.effective c.requires.entries)

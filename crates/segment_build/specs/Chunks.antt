@@ -1,0 +1,78 @@
+-- How the bytes of entries are cut into chunks, of which each stays where it is or moves as a whole to one
+-- bounce page: after the x86 bounce code.
+use Rattle.std.specs.Prelude.{ℕ, zero, suc, ◌+◌, ◌-◌, ◌*◌, ◌/◌, ◌%◌, Bool, ◌&&◌, not, if◌then◌else◌, List, [], ◌∷◌, ◌++◌, length, min, take, drop, Option, Some, None}
+use Rattle.std.specs.List.{filter}
+use Rattle.busdma_base.specs.declared.address.Extent.{Extent}
+use Rattle.busdma_base.specs.declared.chunk.Chunk.{Chunk}
+use Rattle.busdma_base.specs.declared.chunk.Entry.{Entry}
+use Rattle.busdma_base.specs.declared.tag.TagLimits.{TagLimits}
+use Rattle.busdma_base.specs.Runs.{byte_count}
+use Rattle.busdma_base.specs.Entry.{entry_addresses}
+use Rattle.busdma_base.specs.Tag.{needs_bounce}
+use Rattle.busdma_base.specs.TagFlags.{keep_pg_offset}
+
+-- a number rounded up to a multiple of another
+abbrev pub rounded_up : ℕ → ℕ → ℕ
+rounded_up n m = (n + m - 1) / m * m
+
+-- how many bytes of its frame are left from an address on
+abbrev pub to_frame_end : ℕ → ℕ
+to_frame_end a = 4096 - a % 4096
+
+-- the most bytes of a chunk whose first address is this, in an entry that is rounded or not: it ends with
+-- the frame, or, where it is bounced and begins its page, at a multiple of the alignment
+abbrev pub chunk_limit : TagLimits → ℕ → Bool → ℕ → ℕ
+chunk_limit t maxmem rounded a =
+    if needs_bounce t maxmem a && rounded && not (keep_pg_offset t.flags) then rounded_up (to_frame_end a) t.alignment
+    else to_frame_end a
+
+-- the extent of the first of these bytes and of those after it in its frame
+abbrev pub first_extent : List ℕ → Extent
+first_extent [] = record { pa = record { 0 = 0 }; len = 0 }
+first_extent (a ∷ bs) = record { pa = record { 0 = a }; len = min (length (a ∷ bs)) (to_frame_end a) }
+
+-- the extent of these bytes, where there are any
+abbrev pub extent_from : List ℕ → Option Extent
+extent_from [] = None
+extent_from (a ∷ bs) = Some (record { pa = record { 0 = a }; len = length (a ∷ bs) })
+
+-- the chunk of these bytes, of which the first is at a place of the load; it is bounced where its first address needs that
+abbrev pub chunk_of : TagLimits → ℕ → ℕ → List ℕ → Chunk
+chunk_of t maxmem at bytes = record {
+  at = at;
+  first = first_extent bytes;
+  rest = extent_from (drop (first_extent bytes).len bytes);
+  bounced = needs_bounce t maxmem (first_extent bytes).pa.0;
+  page = None;
+}
+
+-- the chunks of these bytes of an entry, of which the first is at a place of the load: the first chunk has as many of
+-- them as it may, and the others are cut in the same way. Each chunk has a byte, so n bytes have at most n chunks.
+abbrev pub chunks_within : ℕ → TagLimits → ℕ → Bool → ℕ → List ℕ → List Chunk
+chunks_within zero t maxmem rounded at bytes = []
+chunks_within (suc n) t maxmem rounded at [] = []
+chunks_within (suc n) t maxmem rounded at (a ∷ bs) =
+    let most = chunk_limit t maxmem rounded a in
+    chunk_of t maxmem at (take most (a ∷ bs)) ∷ chunks_within n t maxmem rounded (at + most) (drop most (a ∷ bs))
+
+-- the chunks of the bytes of an entry that is rounded or not
+abbrev pub chunks_of_bytes : TagLimits → ℕ → Bool → ℕ → List ℕ → List Chunk
+chunks_of_bytes t maxmem rounded at bytes = chunks_within (length bytes) t maxmem rounded at bytes
+
+-- the chunks of entries, of which the first begins at a place of the load; no chunk crosses an entry
+abbrev pub chunks_from : TagLimits → ℕ → ℕ → List Entry → List Chunk
+chunks_from t maxmem at [] = []
+chunks_from t maxmem at (e ∷ es) =
+    chunks_of_bytes t maxmem e.rounded at (entry_addresses e) ++ chunks_from t maxmem (at + byte_count e.parts) es
+
+-- the chunks of the entries of a load
+abbrev pub chunks_of : TagLimits → ℕ → List Entry → List Chunk
+chunks_of t maxmem entries = chunks_from t maxmem 0 entries
+
+-- the chunks that are bounced
+abbrev pub bounced_of : List Chunk → List Chunk
+bounced_of cs = filter (λ c. c.bounced) cs
+
+-- how many bounce pages chunks need
+abbrev pub need_of : List Chunk → ℕ
+need_of cs = length (bounced_of cs)

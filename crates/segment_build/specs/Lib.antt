@@ -1,0 +1,10 @@
+pub mod Building
+pub mod Built
+pub mod Chunks
+pub mod Cutting
+pub mod Joining
+pub mod Obeying
+pub mod Pieces
+pub mod Segmentation
+pub mod Streams
+pub mod Trace

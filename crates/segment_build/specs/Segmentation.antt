@@ -1,0 +1,67 @@
+-- The segments that pieces join to: runs of pieces, each as long as it may be.
+use Rattle.std.specs.Prelude.{◌≡◌, ℕ, ◌+◌, ◌/◌, ◌==◌, Bool, true, false, ◌&&◌, ◌||◌, nat_le, List, [], ◌∷◌, map}
+use Rattle.std.specs.List.{flat_map}
+use Rattle.busdma_base.specs.declared.address.Segment.{Segment}
+use Rattle.busdma_base.specs.declared.tag.TagLimits.{TagLimits}
+use Rattle.busdma_base.specs.Runs.{run_of}
+
+-- one or more pieces, in order
+pub record Run : Type 0 where
+  pub first : Segment
+  pub others : List Segment
+
+-- the bytes of two runs of which the second begins at the end of the first
+abbrev pub joint : Segment → Segment → Segment
+joint s p = record { addr = s.addr; len = s.len + p.len }
+
+-- both begin in the same window of boundary bytes, where there is a boundary
+abbrev pub same_window : TagLimits → Segment → Segment → Bool
+same_window t s p = t.boundary == 0 || s.addr.0 / t.boundary == p.addr.0 / t.boundary
+
+-- a piece may join the pieces before it: it begins at their end, they are together not too long, and both begin in one window
+abbrev pub may_join : TagLimits → Segment → Segment → Bool
+may_join t s p = p.addr.0 == s.addr.0 + s.len && nat_le (s.len + p.len) t.maxsegsz && same_window t s p
+
+-- these pieces after s
+abbrev pub grown : Segment → List Segment → Segment
+grown s [] = s
+grown s (p ∷ ps) = grown (joint s p) ps
+
+-- the segment of a run: it begins with the first piece, and has the bytes of all
+abbrev pub segment_of : Run → Segment
+segment_of r = grown r.first r.others
+
+-- the pieces of a run
+abbrev pub run_pieces : Run → List Segment
+run_pieces r = r.first ∷ r.others
+
+-- each next piece may join those before it, which are s at first
+abbrev pub EachJoins : TagLimits → Segment → List Segment → Type 0
+EachJoins t s [] = Unit {0}
+EachJoins t s (p ∷ ps) = (may_join t s p ≡ true) × EachJoins t (joint s p) ps
+
+-- the first piece of the next run, where there is one, may not join s
+abbrev pub NextIsApart : TagLimits → Segment → List Run → Type 0
+NextIsApart t s [] = Unit {0}
+NextIsApart t s (r ∷ rs) = may_join t s r.first ≡ false
+
+-- inside each run each next piece may join, and the first piece of the next run may not join the run before it
+abbrev pub AreRuns : TagLimits → List Run → Type 0
+AreRuns t [] = Unit {0}
+AreRuns t (r ∷ rs) = EachJoins t r.first r.others × NextIsApart t (segment_of r) rs × AreRuns t rs
+
+-- the segments are runs of whole pieces, in order and none left out
+pub record IsSegmentation (t : TagLimits) (segments pieces : List Segment) : Type 0 where
+  pub runs : List Run
+  pub pieces_are : flat_map run_pieces runs ≡ pieces
+  pub segments_are : map segment_of runs ≡ segments
+  pub joined : AreRuns t runs
+
+-- these segments and no others are the segmentation of the pieces
+pub record IsOnlySegmentation (t : TagLimits) (segments pieces : List Segment) : Type 0 where
+  pub is : IsSegmentation t segments pieces
+  pub only : (others : List Segment) → IsSegmentation t others pieces → others ≡ segments
+
+-- the bus addresses of the bytes of segments, in order
+abbrev pub segment_bytes : List Segment → List ℕ
+segment_bytes segments = flat_map (λ s. run_of s.addr.0 s.len) segments

@@ -1,0 +1,48 @@
+-- What a stream is measured to, and what is built of it.
+use Rattle.std.specs.Prelude.{◌≡◌, ℕ, List, length, Some, None}
+use Rattle.std.specs.List.{AllByRecursion}
+use Rattle.busdma_base.specs.declared.address.Pa.{Pa}
+use Rattle.busdma_base.specs.declared.address.Segment.{Segment}
+use Rattle.busdma_base.specs.declared.chunk.Chunk.{Chunk}
+use Rattle.busdma_base.specs.declared.chunk.Part.{Part}
+use Rattle.busdma_base.specs.declared.tag.TagLimits.{TagLimits}
+use Rattle.busdma_base.specs.Entry.{entries_of, entries_bytes, unmapped_of}
+use Rattle.segment_build.specs.declared.measured.Measured.{Measured}
+use Rattle.segment_build.specs.declared.measured.Measured.TheVariants.{Fits, Unmapped}
+use Rattle.segment_build.specs.declared.streamed.Streamed.{Streamed}
+use Rattle.segment_build.specs.declared.streamed.Streamed.TheVariants.{Segments, TooMany}
+use Rattle.segment_build.specs.Building.{tag_placed, placed_pieces}
+use Rattle.segment_build.specs.Built.{IsFew, AreTooMany}
+use Rattle.segment_build.specs.Chunks.{bounced_of, chunks_of, need_of}
+use Rattle.segment_build.specs.Trace.{IsPage}
+
+-- the chunks of the entries of a stream
+abbrev pub stream_chunks : TagLimits → ℕ → List Part → List Chunk
+stream_chunks t maxmem parts = chunks_of t maxmem (entries_of parts)
+
+-- a stream in which each byte can be reached needs so many bounce pages, and has so many pieces, in
+-- whichever pages, and so many bytes
+pub record IsMeasure (t : TagLimits) (maxmem : ℕ) (parts : List Part) (pages_needed piece_number byte_number : ℕ) : Type 0 where
+  pub mapped : unmapped_of parts ≡ None
+  pub need : pages_needed ≡ need_of (stream_chunks t maxmem parts)
+  pub pieces : (pages : List Pa) → AllByRecursion IsPage pages → piece_number ≡ length (placed_pieces t (stream_chunks t maxmem parts) pages)
+  pub bytes : byte_number ≡ entries_bytes (entries_of parts)
+
+-- the measure of a stream, or its first byte that cannot be reached
+abbrev pub IsMeasured : TagLimits → ℕ → List Part → Measured → Type 0
+IsMeasured t maxmem parts (Fits need pieces bytes) = IsMeasure t maxmem parts need pieces bytes
+IsMeasured t maxmem parts (Unmapped at) = unmapped_of parts ≡ Some at
+
+-- the segments of a stream with these pages, few enough, and its bounced chunks in their pages
+pub record IsBuiltFrom (t : TagLimits) (maxmem : ℕ) (pages : List Pa) (parts : List Part) (segments : List Segment) (bounced : List Chunk) : Type 0 where
+  pub segments_are : IsFew t (placed_pieces t (stream_chunks t maxmem parts) pages) segments
+  pub bounced_are : bounced ≡ bounced_of (tag_placed t (stream_chunks t maxmem parts) pages)
+
+-- the segments of a stream with these pages are too many
+abbrev pub OverflowsFrom : TagLimits → ℕ → List Pa → List Part → Type 0
+OverflowsFrom t maxmem pages parts = AreTooMany t (placed_pieces t (stream_chunks t maxmem parts) pages)
+
+-- what is built of a stream with these pages
+abbrev pub IsStreamed : TagLimits → ℕ → List Pa → List Part → Streamed → Type 0
+IsStreamed t maxmem pages parts (Segments list bounced) = IsBuiltFrom t maxmem pages parts list bounced
+IsStreamed t maxmem pages parts TooMany = OverflowsFrom t maxmem pages parts

@@ -1,0 +1,126 @@
+//! How extents are cut into chunks one after the other.
+
+ghost use Rattle.std.specs.Prelude.{◌≡◌, ◌+◌, ◌-◌, ◌%◌, ◌^◌, ◌<◌, ◌≤◌};
+ghost use Rattle.busdma_base.specs.Entry.{IsPart, part_bytes};
+ghost use Rattle.busdma_base.specs.Runs.{IsExtent};
+ghost use Rattle.busdma_base.specs.TagFlags.{keep_pg_offset};
+ghost use Rattle.segment_build.specs.Chunks.{chunk_limit};
+ghost use Rattle.segment_build.specs.Cutting.{after_part, closed_part, cut_by, closed_by, uncut, with_rest};
+
+use bitflags::Flags;
+use busdma_base::{Chunk, Extent, Pa, Part, TagLimits};
+use dma_tag::{Tag, TagFlags};
+
+/// The bytes of a frame.
+const FRAME: u64 = 4096;
+
+/// What is known between two extents of a load.
+///
+/// `last` is the chunk that the next extent may lengthen, by `owed` bytes at the most. `rounded` is
+/// the mark of the entry, and `at` the place of the next byte in the load.
+#[derive(Clone, Copy)]
+pub(crate) struct Cutter {
+    pub(crate) last: Option<Chunk>,
+    pub(crate) owed: u64,
+    pub(crate) rounded: bool,
+    pub(crate) at: u64,
+}
+
+impl Cutter {
+    /// Before the first extent.
+    pub(crate) fn new() -> Cutter
+        ensures { result ≡ uncut }
+    {
+        Cutter {
+            last: None,
+            owed: 0,
+            rounded: false,
+            at: 0,
+        }
+    }
+
+    /// Cuts the next part, and gives the chunk that it closes.
+    pub(crate) fn take(&mut self, tag: &Tag, maxmem: u64, part: Part) -> Option<Chunk>
+        requires part { IsPart part }
+        requires fits { self.old.at + part_bytes part < 2 ^ 64 }
+        ensures after { self.new ≡ after_part tag.now maxmem self.old part }
+        ensures closed { result ≡ closed_part self.old part }
+    {
+        let Part::Of {
+            extent,
+            opens,
+            rounded,
+        } = part
+        else {
+            return None;
+        };
+        if opens {
+            self.owed = 0;
+            self.rounded = rounded;
+        }
+        self.cut(tag, maxmem, extent)
+    }
+
+    // Cuts the next extent of an entry.
+    fn cut(&mut self, tag: &Tag, maxmem: u64, extent: Extent) -> Option<Chunk>
+        requires extent { IsExtent extent }
+        requires fits { self.old.at + extent.len < 2 ^ 64 }
+        ensures after { self.new ≡ cut_by tag.now maxmem self.old extent }
+        ensures closed { result ≡ closed_by self.old extent }
+    {
+        if extent.len <= self.owed {
+            self.last = with_rest(self.last, extent.pa, extent.len);
+            self.owed -= extent.len;
+            self.at += extent.len;
+            return None;
+        }
+        let closed = with_rest(self.last, extent.pa, self.owed);
+        let first = Extent {
+            pa: Pa(extent.pa.0 + self.owed),
+            len: extent.len - self.owed,
+        };
+        self.last = Some(Chunk {
+            at: self.at + self.owed,
+            first,
+            rest: None,
+            bounced: tag.needs_bounce(maxmem, first.pa),
+            page: None,
+        });
+        self.owed = chunk_limit(tag, maxmem, self.rounded, first.pa).saturating_sub(first.len);
+        self.at += extent.len;
+        closed
+    }
+}
+
+/// Whether a bounced byte of the tag keeps its offset in its page.
+pub(crate) fn keeps_offset(limits: &TagLimits) -> bool
+    ensures { result ≡ keep_pg_offset limits.now.flags }
+{
+    TagFlags(limits.flags).contains(TagFlags::KEEP_PG_OFFSET)
+}
+
+// The most bytes of a chunk whose first address is this.
+fn chunk_limit(tag: &Tag, maxmem: u64, rounded: bool, pa: Pa) -> u64
+    ensures { result ≡ chunk_limit tag.now maxmem rounded pa.0 }
+{
+    let left = FRAME - pa.0 % FRAME;
+    if !tag.needs_bounce(maxmem, pa) || !rounded || keeps_offset(tag.limits()) {
+        return left;
+    }
+    let alignment = tag.limits().alignment;
+    (left + alignment - 1) / alignment * alignment
+}
+
+// The chunk, where there is one, with `len` bytes more.
+fn with_rest(chunk: Option<Chunk>, pa: Pa, len: u64) -> Option<Chunk>
+    ensures { result ≡ with_rest chunk pa.0 len }
+{
+    let chunk = chunk?;
+    if len == 0 {
+        return Some(chunk);
+    }
+    Some(Chunk {
+        rest: Some(Extent { pa, len }),
+        ..chunk
+    })
+}

@@ -1,0 +1,64 @@
+//! Laws of loads. Each is the contract of a function that does nothing.
+
+ghost use Rattle.std.specs.Prelude.{◌≡◌, ◌*◌, ◌<◌, [], length, List};
+ghost use Rattle.std.specs.List.{AllByRecursion, flat_map, sum_by};
+ghost use Rattle.busdma_base.specs.declared.address.Segment.{Segment};
+ghost use Rattle.busdma_base.specs.Each.{EachAfter};
+ghost use Rattle.busdma_base.specs.Entry.{IsEntry, entry_addresses};
+ghost use Rattle.busdma_base.specs.Runs.{addresses};
+ghost use Rattle.segment_build.specs.Building.{IsSound, placed_pieces, tag_placed};
+ghost use Rattle.segment_build.specs.Built.{IsFew};
+ghost use Rattle.segment_build.specs.Chunks.{chunks_of};
+ghost use Rattle.segment_build.specs.Obeying.{IsReachable, Obeys};
+ghost use Rattle.segment_build.specs.Pieces.{chunk_pieces};
+ghost use Rattle.segment_build.specs.Segmentation.{IsOnlySegmentation, segment_bytes};
+ghost use Rattle.segment_build.specs.Trace.{IsPage, IsPlaced, RisesByOne, bus_trace, chunk_extents, chunk_len};
+
+use busdma_base::{Chunk, Entry, Pa, Segment};
+use dma_tag::Tag;
+
+/// The chunks of entries have their bytes, in order, and each stands at the number of bytes before
+/// it. Each that is bounced fits into one page, and in pages all are in their places.
+pub fn chunks_cover(tag: &Tag, maxmem: u64, entries: &[Entry], pages: &[Pa])
+    requires entries { AllByRecursion IsEntry entries.now }
+    requires pages { AllByRecursion IsPage pages.now }
+    ensures bytes { flat_map (λ c. addresses (chunk_extents c)) (chunks_of tag.now maxmem entries.now) ≡ flat_map entry_addresses entries.now }
+    ensures at { EachAfter (λ before c. c.at ≡ sum_by chunk_len before) [] (chunks_of tag.now maxmem entries.now) }
+    ensures sound { AllByRecursion (IsSound tag.now) (chunks_of tag.now maxmem entries.now) }
+    ensures placed { AllByRecursion IsPlaced (tag_placed tag.now (chunks_of tag.now maxmem entries.now) pages.now) }
+{
+    let _ = tag.limits();
+}
+
+/// The number of pieces does not depend on the pages of the bounced chunks.
+pub fn pieces_in_any_pages(tag: &Tag, maxmem: u64, entries: &[Entry], pages: &[Pa], others: &[Pa])
+    requires entries { AllByRecursion IsEntry entries.now }
+    requires pages { AllByRecursion IsPage pages.now }
+    requires others { AllByRecursion IsPage others.now }
+    ensures { length (placed_pieces tag.now (chunks_of tag.now maxmem entries.now) pages.now)
+        ≡ length (placed_pieces tag.now (chunks_of tag.now maxmem entries.now) others.now) }
+{
+    let _ = tag.limits();
+}
+
+/// Where the bus addresses of each chunk rise by one, the chunks have one segmentation, and its
+/// bytes are their trace.
+pub fn one_segmentation(tag: &Tag, chunks: &[Chunk])
+    requires rising { AllByRecursion RisesByOne chunks.now }
+    ensures { (segments : List Segment) × IsOnlySegmentation tag.now segments (chunk_pieces tag.now chunks.now)
+        × (segment_bytes segments ≡ bus_trace chunks.now) }
+{
+    let _ = tag.limits();
+}
+
+/// The segments of entries that lie in the machine obey the tag, where they are few enough and the
+/// bounced chunks have pages that the device reaches.
+pub fn segments_obey(tag: &Tag, maxmem: u64, entries: &[Entry], pages: &[Pa], segments: &[Segment])
+    requires entries { AllByRecursion IsEntry entries.now }
+    requires inside { AllByRecursion (λ a. a < 4096 * maxmem) (flat_map entry_addresses entries.now) }
+    requires pages { AllByRecursion (IsReachable tag.now) pages.now }
+    requires segments { IsFew tag.now (placed_pieces tag.now (chunks_of tag.now maxmem entries.now) pages.now) segments.now }
+    ensures { Obeys tag.now (tag_placed tag.now (chunks_of tag.now maxmem entries.now) pages.now) segments.now }
+{
+    let _ = tag.limits();
+}

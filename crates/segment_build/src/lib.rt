@@ -1,0 +1,20 @@
+//! How the bytes of a load are cut into chunks, and what a device is given of them: the segments.
+#![tactic(auto)]
+
+mod adding;
+mod built;
+mod chunk;
+mod cutter;
+mod joining;
+mod laws;
+mod measured;
+mod pieces;
+mod streamed;
+#[cfg(test)]
+mod tests;
+
+pub use built::{Built, build, chunk_pieces};
+pub use chunk::{chunks, need, place};
+pub use laws::{chunks_cover, one_segmentation, pieces_in_any_pages, segments_obey};
+pub use measured::{Measured, measure};
+pub use streamed::{Streamed, build_from, build_into};

@@ -1,0 +1,97 @@
+//! Streams, measured without memory.
+
+ghost use Rattle.std.specs.Prelude.{◌≡◌, ◌+◌, ◌≤◌, ◌-◌, ◌<◌, ◌^◌, [], ◌∷◌, ◌++◌, length, List, IfSome};
+ghost use Rattle.std.specs.Iterator.{Drains, HoldsAlong, IsFinite};
+ghost use Rattle.std.specs.Option.{option_to_list, option_or};
+ghost use Rattle.busdma_base.specs.declared.chunk.Part.{Part};
+ghost use Rattle.busdma_base.specs.Entry.{IsStream, unmapped_of};
+ghost use Rattle.segment_build.specs.Building.{IsSound, placed_pieces};
+ghost use Rattle.segment_build.specs.Chunks.{need_of};
+ghost use Rattle.segment_build.specs.Streams.{IsMeasured};
+
+use crate::built::bus_run;
+use crate::chunk::in_page;
+use crate::cutter::{Cutter, keeps_offset};
+use crate::pieces::piece_count;
+use busdma_base::{Chunk, Pa, Part, TagLimits};
+use dma_tag::Tag;
+
+/// What a stream comes to.
+#[derive(Clone, Copy, Debug, PartialEq, Eq)]
+pub enum Measured {
+    /// The number of bounce pages and of pieces, and the bytes in all.
+    Fits { need: u32, pieces: u64, bytes: u64 },
+    /// The offset of the first byte that cannot be reached.
+    Unmapped(u64),
+}
+
+/// The bounce pages, pieces and bytes of a stream of at most 1,048,576 bytes, without memory.
+///
+/// `maxmem` is the number at which the machine's frame numbers end. The number of pieces is that of
+/// whichever pages the bounced chunks get.
+#[tactic(auto, using(crate::proofs::Steps::unmapped_last))]
+pub fn measure<I: Iterator<Item = Part>>(tag: &Tag, maxmem: u64, parts: I) -> Measured
+    requires can { I.can_next parts }
+    requires ends { IsFinite (I.remaining parts) }
+    requires stream { HoldsAlong I.next_gives parts IsStream }
+    ensures { (ps : List Part) × Drains I.next_gives parts ps × IsMeasured tag.now maxmem ps result }
+{
+    let limits = tag.limits();
+    let mut cutter = Cutter::new();
+    let mut tally = Tally { need: 0, pieces: 0 };
+    let mut unmapped = None;
+    for part in parts {
+        unmapped = first_unmapped(unmapped, part);
+        tally.add(limits, cutter.take(tag, maxmem, part));
+    }
+    tally.add(limits, cutter.last);
+    match unmapped {
+        Some(at) => Measured::Unmapped(at),
+        None => Measured::Fits {
+            need: tally.need,
+            pieces: tally.pieces,
+            bytes: cutter.at,
+        },
+    }
+}
+
+/// How many bounce pages and pieces the chunks so far have.
+#[derive(Clone, Copy)]
+struct Tally {
+    need: u32,
+    pieces: u64,
+}
+
+impl Tally {
+    // Counts a chunk, where there is one.
+    fn add(&mut self, limits: &TagLimits, chunk: Option<Chunk>)
+        requires size { 0 < limits.now.maxsegsz }
+        requires sound { IfSome chunk (IsSound limits.now) }
+        requires need { self.old.need < 2 ^ 32 - 1 }
+        requires pieces { self.old.pieces < 2 ^ 63 }
+        ensures need { self.new.need ≡ self.old.need + need_of (option_to_list chunk) }
+        ensures pieces { self.new.pieces
+            ≡ self.old.pieces + length (placed_pieces limits.now (option_to_list chunk) []) }
+    {
+        let Some(chunk) = chunk else {
+            return;
+        };
+        let placed = if chunk.bounced {
+            self.need += 1;
+            in_page(chunk, Pa(0), keeps_offset(limits))
+        } else {
+            chunk
+        };
+        self.pieces += piece_count(limits, bus_run(&placed));
+    }
+}
+
+/// The first byte that cannot be reached, after one part more.
+fn first_unmapped(before: Option<u64>, part: Part) -> Option<u64>
+    ensures { result ≡ option_or before (unmapped_of (part ∷ [])) }
+{
+    match part {
+        Part::Of { .. } => before,
+        Part::Unmapped(at) => before.or(Some(at)),
+    }
+}
