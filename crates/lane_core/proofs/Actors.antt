@@ -1,14 +1,14 @@
 -- The actor of a step's entry, and the driver that steps.
-use Rattle.std.proofs.Common.{◌≡◌, ℕ, Bool, true, false, cond, List, [], ◌∷◌, Option, Some, None, refl, ap, slice_get}
+use Rattle.std.proofs.Common.{Bool, true, false, cond, List, [], ◌∷◌, Option, Some, None, refl, ap, slice_get}
 use Rattle.busdma_base.specs.declared.script.Op.{Op}
 use Rattle.busdma_base.specs.declared.journal.Did.TheVariants as did
 use Rattle.busdma_base.specs.declared.journal.Side.{Side}
 use Rattle.busdma_base.specs.declared.journal.Side.TheVariants as side
 use Rattle.lane_tables.specs.declared.queued.QueuedItem.{QueuedItem}
-use Rattle.lane_core.specs.declared.turn.Turn.TheVariants.{Stepped, Blocked, Ended}
-use Rattle.lane_core.specs.Lane.{LaneState, Outcome}
-use Rattle.lane_core.specs.Actors.{IsOwn, IsOwnBy}
-use Rattle.lane_core.specs.Step.{Turned, stays, stepped, advanced, left_queue, script_turn, transfer_turn, lane_step, waits, operation, transfer}
+use Rattle.lane_core.specs.declared.turn.Turn.TheVariants.{Blocked}
+use Rattle.lane_core.specs.Lane.{LaneState}
+use Rattle.lane_core.specs.Actors.{IsOwn}
+use Rattle.lane_core.specs.Step.{stays, stepped, advanced, script_turn, transfer_turn, lane_step, waits, operation}
 use Rattle.lane_core.proofs.Moves.{operation_moves, transfer_moves}
 
 step_own : (l : LaneState) (o : Op) (b : Bool) → IsOwn l side.Script (cond b (stays Blocked l) (stepped side.Script (did.Op l.place) (advanced (operation o l))))

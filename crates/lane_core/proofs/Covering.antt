@@ -1,16 +1,16 @@
 -- The bytes of a lane's frames are in its table.
-use Rattle.std.proofs.Common.{◌≡◌, ℕ, zero, suc, ◌+◌, ◌/◌, ◌%◌, ◌*◌, ◌<◌, ◌≤◌, ◌^◌, Bool, true, false, List, [], ◌∷◌, ◌++◌, length, map, refl, sym, ap, ◌∙◌, arith, length-append}
+use Rattle.std.proofs.Common.{◌≡◌, ℕ, zero, suc, ◌+◌, ◌/◌, ◌*◌, ◌≤◌, Bool, true, List, [], ◌∷◌, ◌++◌, length, map, refl, sym, ap, ◌∙◌, arith, length-append}
 use Rattle.std.specs.List.{AllByRecursion}
 use Rattle.std.proofs.lemmas.List.Sums.{sum_by-cons}
 use Rattle.loan_table.proofs.Judgement.{length-run_of}
 use Rattle.std.specs.Ordering.{nat_cmp}
-use Rattle.std.specs.FinMap.{FinMap, get, contains_key}
+use Rattle.std.specs.FinMap.{FinMap}
 use Rattle.busdma_base.specs.declared.address.Extent.{Extent}
 use Rattle.busdma_base.specs.Runs.{run_of, addresses, byte_count, IsExtent}
 use Rattle.phys_memory.specs.Memory.{Memory, has_frame}
 use Rattle.phys_memory.specs.Extents.{LiesIn}
 use Rattle.loan_table.specs.Table.{AreIn}
-use Rattle.lane_core.specs.Covered.{IsCovered, Lie}
+use Rattle.lane_core.specs.Covered.{IsCovered}
 
 -- a run within a frame
 run_in : (m : Memory) (bytes : FinMap nat_cmp Bool) (f a n : ℕ) → IsCovered m bytes → has_frame m f ≡ true → 4096 * f ≤ a → a + n ≤ 4096 * f + 4096 → AreIn bytes (run_of a n)

@@ -1,5 +1,5 @@
 -- An operation makes nothing at a later place than its own.
-use Rattle.std.proofs.Common.{◌≡◌, ℕ, nat_lt, ◌+◌, ◌<◌, ◌≤◌, suc, Bool, true, false, cond, ◌==◌, List, length, Option, Some, None, is_some, refl, sym, ap, ◌∙◌, arith}
+use Rattle.std.proofs.Common.{◌≡◌, ℕ, nat_lt, ◌<◌, Bool, true, false, cond, ◌==◌, List, length, Option, Some, None, is_some, refl, ap, ◌∙◌, arith}
 use Rattle.std.proofs.lemmas.Bool.Decides.{nat_tests}
 use Rattle.std.proofs.lemmas.Map.Views.{exact_unsigned_eq}
 use Rattle.std.specs.Ordering.{nat_cmp, eq_by_cmp}
@@ -8,14 +8,13 @@ use Rattle.std.specs.FinMap.{FinMap, get, insert, remove, contains_key, get-inse
 use Rattle.busdma_base.specs.declared.script.Op.{Op}
 use Rattle.busdma_base.specs.declared.script.Op.TheVariants as op
 use Rattle.busdma_base.specs.declared.script.Item.{Item}
-use Rattle.busdma_base.specs.declared.script.Item.TheVariants as item
 use Rattle.busdma_base.specs.declared.script.Place.{Place}
 use Rattle.busdma_base.specs.declared.tag.TagLimits.{TagLimits}
 use Rattle.busdma_base.specs.declared.report.Judged.{Judged}
 use Rattle.busdma_base.specs.declared.report.Judged.TheVariants.{Fine, Refused}
 use Rattle.busdma_base.specs.declared.answer.Answer.{Answer}
 use Rattle.busdma_base.specs.Tag.{effective}
-use Rattle.lane_core.specs.Lane.{LaneState, Outcome, gives, has_map, unless_refused, unless_absent, unless_busy, unless_unloaded, unless_past, refused, is_loaded, reached, bytes_at}
+use Rattle.lane_core.specs.Lane.{LaneState, Outcome, gives, has_map, unless_refused, unless_absent, unless_unloaded, refused, is_loaded, reached, bytes_at}
 use Rattle.lane_core.specs.Tags.{tag_or_invalid, tag_below, has_maps}
 use Rattle.busdma_base.specs.declared.answer.Answer.TheVariants.{Done, Segments}
 use Rattle.busdma_base.specs.declared.answer.Answer.TheVariants.{Refused as errno}
@@ -28,7 +27,7 @@ use Rattle.loan_table.specs.Access.{cpu_write_answer}
 use Rattle.lane_core.specs.Accesses.{cpu_write}
 use Rattle.lane_core.specs.IdealMemory.{forgotten, written}
 use Rattle.lane_core.specs.Maps.{load, loaded, tried, map_of, greatest_load, one_segment}
-use Rattle.lane_core.specs.Syncs.{sync_part, sync, sync_range}
+use Rattle.lane_core.specs.Syncs.{sync_part}
 use Rattle.lane_core.specs.Step.{operation}
 
 -- what is vacant behind the place stays so

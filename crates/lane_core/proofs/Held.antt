@@ -1,16 +1,13 @@
 -- Ideal memory, as the marks and the bytes that are really held change.
-use Rattle.std.proofs.Common.{◌≡◌, ℕ, Bool, true, false, cond, ◌==◌, ◌||◌, List, [], ◌∷◌, length, Option, Some, None, IsSome, is_some, unwrap_or, refl, sym, ap, ◌∙◌, suc}
+use Rattle.std.proofs.Common.{◌≡◌, ℕ, Bool, true, false, cond, ◌==◌, ◌||◌, List, [], ◌∷◌, length, Option, Some, IsSome, is_some, unwrap_or, refl, sym, ap, ◌∙◌}
 use Rattle.std.specs.List.{list_any}
 use Rattle.std.specs.Ordering.{nat_cmp}
 use Rattle.std.specs.Cmp.{nat_cmp_total, unsigned_tied}
 use Rattle.std.specs.FinMap.{FinMap, get, insert, get-insert, contains_key}
 use Rattle.std.proofs.lemmas.Map.Views.{exact_unsigned_eq}
-use Rattle.phys_memory.specs.Memory.{Memory, wire}
-use Rattle.loan_table.specs.Loans.{Loans}
-use Rattle.loan_table.specs.Table.{Table, AreIn, set_all, is_known}
+use Rattle.loan_table.specs.Table.{AreIn, set_all}
 use Rattle.lane_core.specs.IdealMemory.{IdealMemory, Known, Unknown, forgotten, written, written_at}
-use Rattle.lane_core.specs.Covered.{wired}
-use Rattle.lane_core.specs.Ideal.{held}
+use Rattle.lane_core.specs.Wire.{put}
 
 -- the ideal memory of marks and of a byte at each address
 abbrev pub shown : FinMap nat_cmp Bool → (ℕ → ℕ) → IdealMemory
@@ -54,7 +51,7 @@ shown_written_at marks w pa v = λ i a. (at a) i
 
 -- bytes that are written are Known with what was written
 pub shown_written : (marks : FinMap nat_cmp Bool) (w : ℕ → ℕ) (pas vs : List ℕ) → length pas ≡ length vs
-    → shown (set_all marks pas true) (wired pas vs w) ≡ written pas vs (shown marks w)
+    → shown (set_all marks pas true) (put pas vs w) ≡ written pas vs (shown marks w)
 shown_written marks w [] vs h = refl
 shown_written marks w (pa ∷ pas) [] h = absurd (cc)
 shown_written marks w (pa ∷ pas) (v ∷ vs) h =

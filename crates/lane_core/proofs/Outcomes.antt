@@ -10,7 +10,8 @@ use Rattle.phys_memory.specs.Memory.{Memory, physical}
 use Rattle.loan_table.specs.Lending.{sync_answer, synced, lost}
 use Rattle.loan_table.specs.Loans.{Loans}
 use Rattle.loan_table.specs.Table.{Table, AreIn, IsSame, IsSynced, OnFine, OnRefused, set_all}
-use Rattle.lane_core.specs.Covered.{IsCovered, SamePages, wired}
+use Rattle.lane_core.specs.Covered.{IsCovered, SamePages}
+use Rattle.lane_core.specs.Wire.{put}
 use Rattle.std.proofs.Common.{◌+◌, ◌≤◌, drop, arith, length-take, length-drop}
 use Rattle.std.proofs.lemmas.List.{length-map}
 use Rattle.busdma_base.specs.declared.answer.Answer.TheVariants.{Bytes}
@@ -64,7 +65,7 @@ same_physical m n s = ap (λ t. λ va. physical (record { table = t; frames = n.
 
 -- a write that is done
 pub write_done : (l : LaneState) (m n : Memory) (w now : ℕ → ℕ) (r u : Table) (keys vs : List ℕ) → physical m ≡ l.physical → SamePages m n → r.loans ≡ l.loans → shown r.bytes w ≡ l.memory → u.loans ≡ r.loans
-    → u.bytes ≡ set_all r.bytes keys true → now ≡ wired keys vs w → length keys ≡ length vs
+    → u.bytes ≡ set_all r.bytes keys true → now ≡ put keys vs w → length keys ≡ length vs
     → gives (record l { physical = physical n; loans = u.loans; memory = shown u.bytes now }) Done ≡ gives (record l { memory = written keys vs l.memory }) Done
 write_done l m n w now r u keys vs reached s same known loans bytes wires size =
     ap (λ x. gives x Done) (moved (same_physical m n s ∙ reached) (loans ∙ same)

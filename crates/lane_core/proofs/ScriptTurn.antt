@@ -1,5 +1,5 @@
 -- A turn of the script: what the operation left, and the step to the next place.
-use Rattle.std.proofs.Common.{◌≡◌, ℕ, ◌+◌, ◌<◌, ◌≤◌, Bool, false, cond, List, ◌∷◌, length, drop, Some, refl, sym, ap, ◌∙◌, arith, add-one, slice_get, sum_by}
+use Rattle.std.proofs.Common.{◌≡◌, ℕ, ◌+◌, ◌<◌, ◌≤◌, false, cond, List, ◌∷◌, length, drop, Some, refl, sym, ap, ◌∙◌, arith, add-one, slice_get, sum_by}
 use Rattle.std.proofs.Math.Seq.{drop-cons}
 use Rattle.std.proofs.lemmas.Option.{slice_get_within, get_or_from_slice_get}
 use Rattle.std.proofs.lemmas.List.Sums.{sum_by-cons}
@@ -11,7 +11,7 @@ use Rattle.busdma_base.specs.declared.journal.Did.TheVariants as did
 use Rattle.busdma_base.specs.Script.{items_of}
 use Rattle.lane_core.specs.declared.holdings.Holdings.{Holdings}
 use Rattle.lane_core.specs.declared.turn.Turn.{Turn}
-use Rattle.lane_core.specs.declared.turn.Turn.TheVariants.{Stepped, Blocked}
+use Rattle.lane_core.specs.declared.turn.Turn.TheVariants.{Blocked}
 use Rattle.lane_core.specs.Changes.{KeepsButAgenda}
 use Rattle.lane_core.specs.Covered.{IsVacantFrom, items_left}
 use Rattle.lane_core.specs.Ideal.{ideal_of}

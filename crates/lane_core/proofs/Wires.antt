@@ -18,16 +18,17 @@ use Rattle.loan_table.specs.Loans.{addresses_of}
 use Rattle.loan_table.proofs.Addresses.{no_extent}
 use Rattle.loan_table.proofs.Marking.{no_position}
 use Rattle.loan_table.proofs.Judgement.{length-run_of}
-use Rattle.lane_core.specs.Covered.{IsCovered, Lie, SamePages, wired}
+use Rattle.lane_core.specs.Covered.{IsCovered, Lie, SamePages}
+use Rattle.lane_core.specs.Wire.{put}
 use Rattle.lane_core.proofs.Held.{has_inserted}
 
 -- nothing is written without values
-wired_none : (xs : List ℕ) (w : ℕ → ℕ) → wired xs [] w ≡ w
+wired_none : (xs : List ℕ) (w : ℕ → ℕ) → put xs [] w ≡ w
 wired_none [] w = refl
 wired_none (x ∷ xs) w = refl
 
 -- bytes that are written at some addresses, then at others
-pub wired-append : (xs ys vs : List ℕ) (w : ℕ → ℕ) → wired (xs ++ ys) vs w ≡ wired ys (drop (length xs) vs) (wired xs (take (length xs) vs) w)
+pub wired-append : (xs ys vs : List ℕ) (w : ℕ → ℕ) → put (xs ++ ys) vs w ≡ put ys (drop (length xs) vs) (put xs (take (length xs) vs) w)
 wired-append [] ys vs w = refl
 wired-append (x ∷ xs) ys [] w = sym (wired_none ys w)
 wired-append (x ∷ xs) ys (v ∷ vs) w = wired-append xs ys vs (λ b. cond (b == x) v (w b))
@@ -59,23 +60,23 @@ written_none pa w a = elim (cases_lt a pa) [
 ]
 
 -- a run of bytes is written byte by byte
-pub written_run : (pa : ℕ) (bs : List ℕ) (w : ℕ → ℕ) → written pa bs w ≡ wired (run_of pa (length bs)) bs w
+pub written_run : (pa : ℕ) (bs : List ℕ) (w : ℕ → ℕ) → written pa bs w ≡ put (run_of pa (length bs)) bs w
 written_run pa bs w = λ i a. (at pa bs w a) i
   where
-    at : (pa : ℕ) (bs : List ℕ) (w : ℕ → ℕ) (a : ℕ) → written pa bs w a ≡ wired (run_of pa (length bs)) bs w a
+    at : (pa : ℕ) (bs : List ℕ) (w : ℕ → ℕ) (a : ℕ) → written pa bs w a ≡ put (run_of pa (length bs)) bs w a
     at pa [] w a = written_none pa w a
     at pa (v ∷ bs) w a = written_more pa v bs w a ∙ at (pa + 1) bs (λ b. cond (b == pa) v (w b)) a
 
 -- a part of the bytes is written, and the others are left to write
 pub part_written : (keys rest bytes : List ℕ) (pa n done k : ℕ) (w now : ℕ → ℕ) → keys ≡ run_of pa n ++ rest → k ≡ n → done + n ≤ length bytes → now ≡ written pa (take k (drop done bytes)) w
-    → wired rest (drop (done + n) bytes) now ≡ wired keys (drop done bytes) w
+    → put rest (drop (done + n) bytes) now ≡ put keys (drop done bytes) w
 part_written keys rest bytes pa n done k w now split same within is =
     let part = take n (drop done bytes) in
     let size : length part ≡ n = omega (arith, length-take n (drop done bytes), length-drop done bytes) in
-    let here : now ≡ wired (run_of pa n) part w = is ∙ ap (λ j. written pa (take j (drop done bytes)) w) same ∙ written_run pa part w ∙ ap (λ j. wired (run_of pa j) part w) size in
-    ap (wired rest (drop (done + n) bytes)) here ∙ sym (ap (λ vs. wired rest vs (wired (run_of pa n) part w)) (drop-drop n done bytes))
-    ∙ sym (wired-append (run_of pa n) rest (drop done bytes) w ∙ ap (λ j. wired rest (drop j (drop done bytes)) (wired (run_of pa n) (take j (drop done bytes)) w)) (length-run_of pa n))
-    ∙ sym (ap (λ ks. wired ks (drop done bytes) w) split)
+    let here : now ≡ put (run_of pa n) part w = is ∙ ap (λ j. written pa (take j (drop done bytes)) w) same ∙ written_run pa part w ∙ ap (λ j. put (run_of pa j) part w) size in
+    ap (put rest (drop (done + n) bytes)) here ∙ sym (ap (λ vs. put rest vs (put (run_of pa n) part w)) (drop-drop n done bytes))
+    ∙ sym (wired-append (run_of pa n) rest (drop done bytes) w ∙ ap (λ j. put rest (drop j (drop done bytes)) (put (run_of pa n) (take j (drop done bytes)) w)) (length-run_of pa n))
+    ∙ sym (ap (λ ks. put ks (drop done bytes) w) split)
 
 -- the extents from one on
 pub extents_more : (parts : List Extent) (i : ℕ) → i < length parts → addresses (drop i parts) ≡ run_of (get_or parts i no_extent).pa.0 (get_or parts i no_extent).len ++ addresses (drop (i + 1) parts)
@@ -122,25 +123,25 @@ load_more buffer at h =
 
 -- one byte of a load is written, and the others are left to write
 pub byte_written : (buffer : List Position) (at : ℕ) (bytes : List ℕ) (i a : ℕ) (w now : ℕ → ℕ) → at < length buffer → i < length bytes → a ≡ slice_index (addresses_of buffer) at → now ≡ written a (slice_index bytes i ∷ []) w
-    → wired (addresses_of (drop (at + 1) buffer)) (drop (i + 1) bytes) now ≡ wired (addresses_of (drop at buffer)) (drop i bytes) w
+    → put (addresses_of (drop (at + 1) buffer)) (drop (i + 1) bytes) now ≡ put (addresses_of (drop at buffer)) (drop i bytes) w
 byte_written buffer at bytes i a w now h k e is =
-    ap (wired (addresses_of (drop (at + 1) buffer)) (drop (i + 1) bytes)) (is ∙ written_run a (slice_index bytes i ∷ []) w)
-    ∙ sym (ap (λ vs. wired (a ∷ addresses_of (drop (at + 1) buffer)) vs w) (drop_more bytes i 0 k))
-    ∙ ap (λ q. wired (q ∷ addresses_of (drop (at + 1) buffer)) (drop i bytes) w) e
-    ∙ sym (ap (λ ks. wired ks (drop i bytes) w) (load_more buffer at h))
+    ap (put (addresses_of (drop (at + 1) buffer)) (drop (i + 1) bytes)) (is ∙ written_run a (slice_index bytes i ∷ []) w)
+    ∙ sym (ap (λ vs. put (a ∷ addresses_of (drop (at + 1) buffer)) vs w) (drop_more bytes i 0 k))
+    ∙ ap (λ q. put (q ∷ addresses_of (drop (at + 1) buffer)) (drop i bytes) w) e
+    ∙ sym (ap (λ ks. put ks (drop i bytes) w) (load_more buffer at h))
 
 -- no byte is left to write
-pub wired_end : (keys bytes : List ℕ) (i : ℕ) (now w : ℕ → ℕ) → length bytes ≤ i → wired keys (drop i bytes) now ≡ w → now ≡ w
-wired_end keys bytes i now w h e = sym (wired_none keys now) ∙ sym (ap (λ vs. wired keys vs now) (drop_all i bytes h)) ∙ e
+pub wired_end : (keys bytes : List ℕ) (i : ℕ) (now w : ℕ → ℕ) → length bytes ≤ i → put keys (drop i bytes) now ≡ w → now ≡ w
+wired_end keys bytes i now w h e = sym (wired_none keys now) ∙ sym (ap (λ vs. put keys vs now) (drop_all i bytes h)) ∙ e
 
 -- no more addresses are written than there are bytes
-front : (ps : List Position) (vs : List ℕ) (w : ℕ → ℕ) → wired (addresses_of ps) vs w ≡ wired (addresses_of (take (length vs) ps)) vs w
+front : (ps : List Position) (vs : List ℕ) (w : ℕ → ℕ) → put (addresses_of ps) vs w ≡ put (addresses_of (take (length vs) ps)) vs w
 front [] [] w = refl
 front [] (v ∷ vs) w = refl
 front (p ∷ ps) [] w = refl
 front (p ∷ ps) (v ∷ vs) w = front ps vs (λ b. cond (b == p.pa) v (w b))
 
-pub wired_front : (buffer : List Position) (off : ℕ) (bytes : List ℕ) (w : ℕ → ℕ) → wired (addresses_of (drop off buffer)) bytes w ≡ wired (addresses_of (range_of off (length bytes) buffer)) bytes w
+pub wired_front : (buffer : List Position) (off : ℕ) (bytes : List ℕ) (w : ℕ → ℕ) → put (addresses_of (drop off buffer)) bytes w ≡ put (addresses_of (range_of off (length bytes) buffer)) bytes w
 wired_front buffer off bytes w = front (drop off buffer) bytes w
 
 -- a byte of the lane's table lies in a frame

@@ -1,5 +1,5 @@
 -- What holds together of the parts of a lane.
-use Rattle.std.specs.Prelude.{◌≡◌, ℕ, ◌/◌, ◌≤◌, ◌==◌, Bool, false, if◌then◌else◌, List, [], ◌∷◌, sum_by, drop, length}
+use Rattle.std.specs.Prelude.{◌≡◌, ℕ, ◌/◌, ◌≤◌, Bool, false, List, sum_by, drop, length}
 use Rattle.std.specs.List.{AllByRecursion}
 use Rattle.std.specs.Ordering.{nat_cmp}
 use Rattle.std.specs.FinMap.{FinMap, contains_key}
@@ -31,9 +31,3 @@ pub record Lie (m : Memory) (es : List Extent) : Type 0 where
 pub record SamePages (m n : Memory) : Type 0 where
   pub table : n.table ≡ m.table
   pub frames : (f : ℕ) → has_frame n f ≡ has_frame m f
-
--- what stands at each address after bytes were written at these, in order
-abbrev pub wired : List ℕ → List ℕ → (ℕ → ℕ) → ℕ → ℕ
-wired [] vs w = w
-wired (a ∷ rest) [] w = w
-wired (a ∷ rest) (v ∷ vs) w = wired rest vs (λ b. if b == a then v else w b)

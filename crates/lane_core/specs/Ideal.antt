@@ -7,6 +7,8 @@ use Rattle.lane_core.specs.declared.holdings.Holdings.{Holdings}
 use Rattle.lane_core.specs.declared.lane.Lane.{Lane}
 use Rattle.lane_core.specs.IdealMemory.{IdealMemory, Known, Unknown}
 use Rattle.lane_core.specs.Lane.{LaneState}
+use Rattle.lane_core.specs.Wire.{Wire, Traces}
+use Rattle.lane_core.specs.WireStep.{unbounced}
 
 -- the ideal memory of marks and of the bytes that are really held
 abbrev pub held : Table → Memory → IdealMemory
@@ -29,3 +31,15 @@ ideal_of h = record {
 -- the ideal state of a lane
 abbrev pub ideal : Lane → LaneState
 ideal l = ideal_of l.holdings
+
+-- the bytes that a driver's frames really hold
+abbrev pub wire_held : Holdings → Wire
+wire_held h = wire h.memory.memory
+
+-- the same of a lane
+abbrev pub wire_of : Lane → Wire
+wire_of l = wire_held l.holdings
+
+-- the traces of a lane's loads, of which no byte is bounced
+abbrev pub traces_of : LaneState → Traces
+traces_of l = unbounced l.loans

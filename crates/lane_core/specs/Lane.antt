@@ -1,5 +1,5 @@
 -- The ideal state of a driver, and what a step gives.
-use Rattle.std.specs.Prelude.{ℕ, ◌+◌, ◌-◌, Bool, List, Option, Some, None, if◌then◌else◌, map, unwrap_or, is_some, nat_le, length}
+use Rattle.std.specs.Prelude.{ℕ, ◌+◌, ◌-◌, Bool, List, Option, if◌then◌else◌, map, unwrap_or, nat_le, length}
 use Rattle.std.specs.Ordering.{nat_cmp}
 use Rattle.std.specs.FinMap.{FinMap, contains_key}
 use Rattle.busdma_base.specs.declared.script.Op.{Op}

@@ -1,11 +1,13 @@
 pub mod Accesses
 pub mod Actors
 pub mod Calls
+pub mod Centre
 pub mod Changes
 pub mod Covered
 pub mod Ideal
 pub mod IdealMemory
 pub mod Lane
+pub mod Laws
 pub mod Left
 pub mod Maps
 pub mod Opening
@@ -13,3 +15,5 @@ pub mod OpeningMemory
 pub mod Step
 pub mod Syncs
 pub mod Tags
+pub mod Wire
+pub mod WireStep

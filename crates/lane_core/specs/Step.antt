@@ -1,6 +1,5 @@
 -- The step of a driver's side.
 use Rattle.std.specs.Prelude.{◌+◌, Bool, false, ◌&&◌, List, [], ◌∷◌, Option, Some, None, if◌then◌else◌, slice_get}
-use Rattle.std.specs.List.{list_any}
 use Rattle.busdma_base.specs.declared.script.Op.{Op}
 use Rattle.busdma_base.specs.declared.script.Op.TheVariants as op
 use Rattle.busdma_base.specs.declared.script.Item.{Item}

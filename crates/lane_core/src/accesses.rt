@@ -9,9 +9,12 @@ ghost use Rattle.loan_table.specs.Lending.{range_of};
 ghost use Rattle.loan_table.specs.Loans.{addresses_of};
 ghost use Rattle.loan_table.specs.Table.{AreIn, HasMap, IsSame, buffer_of, extent_count};
 ghost use Rattle.lane_core.specs.Calls.{unless_foreign};
-ghost use Rattle.lane_core.specs.Covered.{IsCovered, Lie, SamePages, wired};
+ghost use Rattle.lane_core.specs.Covered.{IsCovered, Lie, SamePages};
+ghost use Rattle.lane_core.specs.Wire.{put};
 ghost use Rattle.lane_core.specs.Lane.{Outcome, gives, virtual, unless_unloaded, unless_past};
 ghost use Rattle.lane_core.specs.Calls as calls;
+ghost use Rattle.lane_core.specs.WireStep as wires;
+ghost use Rattle.lane_core.specs.WireStep.{ChangesNoByte};
 
 use crate::holdings::{Holdings, report};
 use busdma_base::{Answer, ByteList, Extent, Judged, MapId, Place, ReportName};
@@ -21,7 +24,7 @@ use std::alloc::{AllocError, Global};
 
 impl Holdings<'_> {
     ghost use Rattle.lane_core.specs.Changes.{KeepsOwn};
-    ghost use Rattle.lane_core.specs.Ideal.{ideal_of};
+    ghost use Rattle.lane_core.specs.Ideal.{ideal_of, traces_of, wire_held};
 
     /// Where `len` bytes at a place lie.
     pub(crate) fn reach(&self, alloc: Global, place: Place, len: u64) -> Result<Walked, AllocError>
@@ -42,6 +45,7 @@ impl Holdings<'_> {
         ensures refused { IfSome result (λ a. (o : Outcome) → unless_foreign map (ideal_of self.now) (unless_unloaded map.made_at (ideal_of self.now) o) ≡ gives (ideal_of self.now) a) }
         ensures passed { IfNone result ((o : Outcome) → unless_foreign map (ideal_of self.now) (unless_unloaded map.made_at (ideal_of self.now) o) ≡ o) }
         ensures there { IfNone result (HasMap self.now.loans map.made_at) }
+        ensures idle { IfSome result ChangesNoByte }
     {
         if map.lane != self.id || self.maps.get(map.made_at).is_none() {
             return Some(report(ReportName::Absent, 0));
@@ -58,6 +62,7 @@ impl Holdings<'_> {
         ensures refused { IfSome result (λ a. (o : Outcome) → unless_past map.made_at off len (ideal_of self.now) o ≡ gives (ideal_of self.now) a) }
         ensures passed { IfNone result ((o : Outcome) → unless_past map.made_at off len (ideal_of self.now) o ≡ o) }
         ensures range { IfNone result (off + len ≤ length (buffer_of self.now.loans map.made_at)) }
+        ensures idle { IfSome result ChangesNoByte }
         ensures below { IfNone result (off + len < 2 ^ 64) }
         ensures inside { IfNone result (AreIn self.now.loans.bytes (addresses_of (buffer_of self.now.loans map.made_at))) }
     {
@@ -96,8 +101,10 @@ impl Holdings<'_> {
         bytes: &[u8],
     ) -> Result<Answer, AllocError>
         ensures done { IfOk result (λ answer. gives (ideal_of self.new) answer ≡ calls.cpu_write place bytes.now (ideal_of self.old)) }
+        ensures wire { IfOk result (λ answer. wire_held self.new ≡ wires.cpu_write answer place bytes.now (ideal_of self.old) (wire_held self.old)) }
         ensures rest { KeepsOwn self.old self.new }
         ensures err { OnErr result (ideal_of self.new ≡ ideal_of self.old) }
+        ensures err_wire { OnErr result (wire_held self.new ≡ wire_held self.old) }
     {
         let parts = match self.reach(alloc, place, bytes.len() as u64)? {
             Walked::Unmapped(at) => return Ok(report(ReportName::Unmapped, at)),
@@ -144,8 +151,10 @@ impl Holdings<'_> {
         bytes: &[u8],
     ) -> Result<Answer, AllocError>
         ensures done { IfOk result (λ answer. gives (ideal_of self.new) answer ≡ calls.dev_write map off bytes.now (ideal_of self.old)) }
+        ensures wire { IfOk result (λ answer. wire_held self.new ≡ wires.dev_write answer map.made_at off bytes.now (traces_of (ideal_of self.old)) (wire_held self.old)) }
         ensures rest { KeepsOwn self.old self.new }
         ensures err { OnErr result (ideal_of self.new ≡ ideal_of self.old) }
+        ensures err_wire { OnErr result (wire_held self.new ≡ wire_held self.old) }
     {
         let len = bytes.len() as u64;
         if let Some(refusal) = self.unloaded(map) {
@@ -199,7 +208,7 @@ fn fill(memory: &LanePages, parts: &[Extent], out: &mut [u8])
 fn write_parts(memory: &mut LanePages, parts: &[Extent], bytes: &[u8])
     requires lie { Lie memory.old.memory parts.now }
     requires len { length (addresses parts.now) ≡ length bytes.now }
-    ensures wire { wire memory.new.memory ≡ wired (addresses parts.now) bytes.now (wire memory.old.memory) }
+    ensures wire { wire memory.new.memory ≡ put (addresses parts.now) bytes.now (wire memory.old.memory) }
     ensures same { SamePages memory.old.memory memory.new.memory }
 {
     let mut done = 0;
@@ -242,7 +251,7 @@ fn write_load(memory: &mut LanePages, loans: &LoanTable, map: MapId, off: u64, b
     requires range { off + length bytes.now ≤ length (buffer_of loans.now map.made_at) }
     requires below { off + length bytes.now < 2 ^ 64 }
     ensures wire { wire memory.new.memory
-        ≡ wired (addresses_of (range_of off (length bytes.now) (buffer_of loans.now map.made_at))) bytes.now (wire memory.old.memory) }
+        ≡ put (addresses_of (range_of off (length bytes.now) (buffer_of loans.now map.made_at))) bytes.now (wire memory.old.memory) }
     ensures same { SamePages memory.old.memory memory.new.memory }
 {
     let mut at = off;

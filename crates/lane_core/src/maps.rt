@@ -17,13 +17,14 @@ use std::alloc::{AllocError, Global};
 
 impl Holdings<'_> {
     ghost use Rattle.lane_core.specs.Changes.{KeepsButMaps};
-    ghost use Rattle.lane_core.specs.Ideal.{ideal_of};
+    ghost use Rattle.lane_core.specs.Ideal.{ideal_of, wire_held};
 
     /// Makes the map of this place, of a tag.
     pub(crate) fn make_map(&mut self, alloc: Global, tag: u32) -> Result<Answer, AllocError>
         requires going { self.old.agenda.place < self.old.agenda.length }
         requires vacant { contains_key self.old.maps.map self.old.agenda.place ≡ false }
         ensures done { IfOk result (λ answer. gives (ideal_of self.new) answer ≡ maps.map tag (ideal_of self.old)) }
+        ensures wire { wire_held self.new ≡ wire_held self.old }
         ensures agenda { self.new.agenda ≡ self.old.agenda }
         ensures err { OnErr result (ideal_of self.new ≡ ideal_of self.old) }
     {
@@ -39,6 +40,7 @@ impl Holdings<'_> {
     /// Ends a map that is idle.
     pub(crate) fn destroy_map(&mut self, map: u32) -> Answer
         ensures done { gives (ideal_of self.new) result ≡ maps.map_destroy map (ideal_of self.old) }
+        ensures wire { wire_held self.new ≡ wire_held self.old }
         ensures agenda { self.new.agenda ≡ self.old.agenda }
     {
         if self.maps.get(map).is_none() {
@@ -62,6 +64,7 @@ impl Holdings<'_> {
     ) -> Result<Answer, AllocError>
         requires room { length then.now ≤ self.old.agenda.room }
         ensures done { IfOk result (λ answer. gives (ideal_of self.new) answer ≡ maps.load map place len then.now (ideal_of self.old)) }
+        ensures wire { wire_held self.new ≡ wire_held self.old }
         ensures length { self.new.agenda.length ≡ self.old.agenda.length }
         ensures room { self.old.agenda.room ≤ self.new.agenda.room + length then.now }
         ensures err { OnErr result (ideal_of self.new ≡ ideal_of self.old) }
@@ -100,6 +103,7 @@ impl Holdings<'_> {
         requires room { length then.now ≤ self.old.agenda.room }
         ensures done { IfOk result (λ answer. gives (ideal_of self.new) answer
             ≡ gives (maps.loaded map (addresses bytes.now) then.now (ideal_of self.old)) (Segments (maps.one_segment (addresses bytes.now)))) }
+        ensures wire { wire_held self.new ≡ wire_held self.old }
         ensures length { self.new.agenda.length ≡ self.old.agenda.length }
         ensures room { OnOk result (self.new.agenda.room + length then.now ≡ self.old.agenda.room) }
         ensures err { OnErr result (ideal_of self.new ≡ ideal_of self.old) }
@@ -143,6 +147,7 @@ impl Holdings<'_> {
     /// Unloads a map.
     pub(crate) fn unload(&mut self, map: u32) -> Answer
         ensures done { gives (ideal_of self.new) result ≡ maps.unload map (ideal_of self.old) }
+        ensures wire { wire_held self.new ≡ wire_held self.old }
         ensures agenda { self.new.agenda ≡ self.old.agenda }
     {
         if self.maps.get(map).is_none() {

@@ -5,6 +5,7 @@ ghost use Rattle.std.specs.FinMap.{contains_key};
 ghost use Rattle.busdma_base.specs.Script.{items_of};
 ghost use Rattle.lane_core.specs.Lane.{gives};
 ghost use Rattle.lane_core.specs.Step as step;
+ghost use Rattle.lane_core.specs.WireStep as wires;
 
 use crate::holdings::Holdings;
 use busdma_base::{Answer, Item, Op};
@@ -13,7 +14,7 @@ use std::alloc::{AllocError, Global};
 
 impl Holdings<'_> {
     ghost use Rattle.lane_core.specs.Changes.{KeepsButAgenda, KeepsOwn};
-    ghost use Rattle.lane_core.specs.Ideal.{ideal_of};
+    ghost use Rattle.lane_core.specs.Ideal.{ideal_of, traces_of, wire_held};
 
     /// Does an operation, but for the step to the next place.
     pub(crate) fn operation(&mut self, alloc: Global, op: &Op) -> Result<Answer, AllocError>
@@ -22,9 +23,11 @@ impl Holdings<'_> {
         requires new_map { contains_key self.old.maps.map self.old.agenda.place ≡ false }
         requires room { length (items_of op.now) ≤ self.old.agenda.room }
         ensures done { IfOk result (λ answer. gives (ideal_of self.new) answer ≡ step.operation op.now (ideal_of self.old)) }
+        ensures wire { IfOk result (λ answer. wire_held self.new ≡ wires.operation answer op.now (ideal_of self.old) (traces_of (ideal_of self.old)) (wire_held self.old)) }
         ensures length { self.new.agenda.length ≡ self.old.agenda.length }
         ensures room { self.old.agenda.room ≤ self.new.agenda.room + length (items_of op.now) }
         ensures err { OnErr result (ideal_of self.new ≡ ideal_of self.old) }
+        ensures err_wire { OnErr result (wire_held self.new ≡ wire_held self.old) }
         ensures err_room { OnErr result (self.old.agenda.room ≤ self.new.agenda.room) }
     {
         match op {
@@ -60,8 +63,10 @@ impl Holdings<'_> {
     /// Does an item, but for its leaving the queue.
     pub(crate) fn transfer(&mut self, alloc: Global, item: &Item) -> Result<Answer, AllocError>
         ensures done { IfOk result (λ answer. gives (ideal_of self.new) answer ≡ step.transfer item.now (ideal_of self.old)) }
+        ensures wire { IfOk result (λ answer. wire_held self.new ≡ wires.transfer answer item.now (ideal_of self.old) (traces_of (ideal_of self.old)) (wire_held self.old)) }
         ensures rest { KeepsOwn self.old self.new }
         ensures err { OnErr result (ideal_of self.new ≡ ideal_of self.old) }
+        ensures err_wire { OnErr result (wire_held self.new ≡ wire_held self.old) }
     {
         match item {
             Item::Sync { map, ops } => {

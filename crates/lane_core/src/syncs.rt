@@ -8,6 +8,7 @@ ghost use Rattle.loan_table.specs.Table.{AreIn, HasMap, IsSame, IsSynced, OnFine
 ghost use Rattle.lane_core.specs.Lane.{gives};
 ghost use Rattle.lane_core.specs.Calls as calls;
 ghost use Rattle.lane_core.specs.Syncs as syncs;
+ghost use Rattle.lane_core.specs.WireStep as wires;
 
 use crate::accesses::reserve_extents;
 use crate::holdings::{Holdings, report};
@@ -18,7 +19,7 @@ use std::alloc::{AllocError, Global};
 
 impl Holdings<'_> {
     ghost use Rattle.lane_core.specs.Changes.{KeepsOwn};
-    ghost use Rattle.lane_core.specs.Ideal.{ideal_of};
+    ghost use Rattle.lane_core.specs.Ideal.{ideal_of, traces_of, wire_held};
 
     /// A sync of the whole load of a map.
     pub(crate) fn sync(
@@ -28,8 +29,10 @@ impl Holdings<'_> {
         ops: SyncOps,
     ) -> Result<Answer, AllocError>
         ensures done { IfOk result (λ answer. gives (ideal_of self.new) answer ≡ calls.sync map ops.0 (ideal_of self.old)) }
+        ensures wire { IfOk result (λ answer. wire_held self.new ≡ wires.sync answer map.made_at ops.0 (ideal_of self.old) (traces_of (ideal_of self.old)) (wire_held self.old)) }
         ensures rest { KeepsOwn self.old self.new }
         ensures err { OnErr result (ideal_of self.new ≡ ideal_of self.old) }
+        ensures err_wire { OnErr result (wire_held self.new ≡ wire_held self.old) }
     {
         if let Some(refusal) = self.unloaded(map) {
             return Ok(refusal);
@@ -48,8 +51,10 @@ impl Holdings<'_> {
         ops: SyncOps,
     ) -> Result<Answer, AllocError>
         ensures done { IfOk result (λ answer. gives (ideal_of self.new) answer ≡ calls.sync_range map off len ops.0 (ideal_of self.old)) }
+        ensures wire { IfOk result (λ answer. wire_held self.new ≡ wires.sync_range answer map.made_at off len ops.0 (ideal_of self.old) (traces_of (ideal_of self.old)) (wire_held self.old)) }
         ensures rest { KeepsOwn self.old self.new }
         ensures err { OnErr result (ideal_of self.new ≡ ideal_of self.old) }
+        ensures err_wire { OnErr result (wire_held self.new ≡ wire_held self.old) }
     {
         if let Some(refusal) = self.unloaded(map) {
             return Ok(refusal);
@@ -72,8 +77,10 @@ impl Holdings<'_> {
         requires there { HasMap self.old.loans map.made_at }
         requires range { off + len ≤ length (buffer_of self.old.loans map.made_at) }
         ensures done { IfOk result (λ answer. gives (ideal_of self.new) answer ≡ syncs.sync_part map.made_at off len ops.0 (ideal_of self.old)) }
+        ensures wire { IfOk result (λ answer. wire_held self.new ≡ wires.sync_range answer map.made_at off len ops.0 (ideal_of self.old) (traces_of (ideal_of self.old)) (wire_held self.old)) }
         ensures rest { KeepsOwn self.old self.new }
         ensures err { OnErr result (ideal_of self.new ≡ ideal_of self.old) }
+        ensures err_wire { OnErr result (wire_held self.new ≡ wire_held self.old) }
     {
         if ops.is_mixed() {
             return Ok(report(ReportName::MixedSync, 0));

@@ -11,7 +11,7 @@ use dma_tag::Tag;
 use std::alloc::{AllocError, Global};
 
 impl Holdings<'_> {
-    ghost use Rattle.lane_core.specs.Ideal.{ideal_of};
+    ghost use Rattle.lane_core.specs.Ideal.{ideal_of, wire_held};
 
     /// Makes the tag of this place, perhaps below a parent.
     pub(crate) fn make_tag(
@@ -23,6 +23,7 @@ impl Holdings<'_> {
         requires going { self.old.agenda.place < self.old.agenda.length }
         requires vacant { contains_key self.old.tags.map self.old.agenda.place ≡ false }
         ensures done { IfOk result (λ answer. gives (ideal_of self.new) answer ≡ tags.tag parent limits.now (ideal_of self.old)) }
+        ensures wire { wire_held self.new ≡ wire_held self.old }
         ensures agenda { self.new.agenda ≡ self.old.agenda }
         ensures err { OnErr result (ideal_of self.new ≡ ideal_of self.old) }
     {
@@ -45,6 +46,7 @@ impl Holdings<'_> {
     /// Ends a tag that has no map.
     pub(crate) fn destroy_tag(&mut self, tag: u32) -> Answer
         ensures done { gives (ideal_of self.new) result ≡ tags.tag_destroy tag (ideal_of self.old) }
+        ensures wire { wire_held self.new ≡ wire_held self.old }
         ensures agenda { self.new.agenda ≡ self.old.agenda }
     {
         if self.tags.get(tag).is_none() {

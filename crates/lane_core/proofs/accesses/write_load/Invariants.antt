@@ -2,14 +2,15 @@ use Rattle.std.proofs.Common.{◌≡◌, ◌+◌, drop}
 use Rattle.phys_memory.specs.Memory.{wire}
 use Rattle.loan_table.specs.Loans.{addresses_of}
 use Rattle.loan_table.specs.Table.{buffer_of}
-use Rattle.lane_core.specs.Covered.{SamePages, wired}
+use Rattle.lane_core.specs.Covered.{SamePages}
+use Rattle.lane_core.specs.Wire.{put}
 use Rattle.lane_core.proofs.accesses.write_load.Given as goal
 
 abbrev pub invariant-loop-byte : goal.invariant-loop-byte
 invariant-loop-byte l =
     let buffer = buffer_of l.loans l.map.made_at in
     record {
-      left : wired (addresses_of (drop l.at buffer)) (drop l.byte-index l.bytes) (wire l.memory.memory) ≡ wired (addresses_of (drop l.off buffer)) l.bytes (wire l.initial.memory.memory);
+      left : put (addresses_of (drop l.at buffer)) (drop l.byte-index l.bytes) (wire l.memory.memory) ≡ put (addresses_of (drop l.off buffer)) l.bytes (wire l.initial.memory.memory);
       count : l.at ≡ l.off + l.byte-index;
       same : SamePages l.initial.memory.memory l.memory.memory;
     }

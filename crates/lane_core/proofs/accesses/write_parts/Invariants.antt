@@ -1,12 +1,13 @@
 use Rattle.std.proofs.Common.{◌≡◌, ◌+◌, drop, length}
 use Rattle.busdma_base.specs.Runs.{addresses}
 use Rattle.phys_memory.specs.Memory.{wire}
-use Rattle.lane_core.specs.Covered.{Lie, SamePages, wired}
+use Rattle.lane_core.specs.Covered.{Lie, SamePages}
+use Rattle.lane_core.specs.Wire.{put}
 use Rattle.lane_core.proofs.accesses.write_parts.Given as goal
 
 abbrev pub invariant-loop-part : goal.invariant-loop-part
 invariant-loop-part l = record {
-  left : wired (addresses (drop l.part-index l.parts)) (drop l.done l.bytes) (wire l.memory.memory) ≡ wired (addresses l.parts) l.bytes (wire l.initial.memory.memory);
+  left : put (addresses (drop l.part-index l.parts)) (drop l.done l.bytes) (wire l.memory.memory) ≡ put (addresses l.parts) l.bytes (wire l.initial.memory.memory);
   count : l.done + length (addresses (drop l.part-index l.parts)) ≡ length l.bytes;
   lie : Lie l.memory.memory (drop l.part-index l.parts);
   same : SamePages l.initial.memory.memory l.memory.memory;

@@ -6,6 +6,8 @@ use Rattle.lane_core.specs.Accesses.{load_bytes}
 use Rattle.lane_core.specs.Ideal.{ideal_of}
 use Rattle.lane_core.proofs.Held.{shown}
 use Rattle.lane_core.proofs.Outcomes.{dev_write_done, write_done, covered_written, range_size}
+use Rattle.lane_core.specs.Wire.{put}
+use Rattle.lane_core.proofs.Unbounced.{unbounced_buses}
 use Rattle.lane_core.proofs.holdings.Holdings.dev_write.Goals as goal
 
 pub invariant_of-self-2 : goal.invariant_of-self-2
@@ -29,3 +31,9 @@ returns-clause-done c =
     (write_done l c.args.self.now.memory.memory c.write_load.new.memory.memory w (wire c.write_load.new.memory.memory) c.reserve_extents.new.loans c.note_dev_write.new.self keys c.args.bytes.now refl
     c.write_load.ensures.same same.loans (ap (λ b. shown b w) same.bytes) c.note_dev_write.ensures.loans (rw same.loans at c.note_dev_write.ensures.bytes)
     (rw same.loans at c.write_load.ensures.wire) (range_size c.args.off (length c.args.bytes.now) (buffer_of c.args.self.now.loans c.args.map.made_at) c.in_default-past_end.ensures.range))
+
+pub returns-clause-wire : goal.returns-clause-wire
+returns-clause-wire c =
+    let w = wire c.args.self.now.memory.memory in
+    (rw c.reserve_extents.ensures.same.loans at c.write_load.ensures.wire)
+    ∙ ap (λ ks. put ks c.args.bytes.now w) (sym (unbounced_buses c.args.self.now.loans.loans c.args.map.made_at c.args.off (length c.args.bytes.now)))

@@ -3,6 +3,7 @@ use Rattle.phys_memory.specs.Memory.{wire}
 use Rattle.lane_core.specs.Ideal.{ideal_of}
 use Rattle.lane_core.proofs.Held.{shown}
 use Rattle.lane_core.proofs.Outcomes.{sync_done, covered_synced}
+use Rattle.lane_core.proofs.Unbounced.{unbounced_sync}
 use Rattle.lane_core.proofs.holdings.Holdings.sync_part.Goals as goal
 
 pub invariant_of-self-2 : goal.invariant_of-self-2
@@ -17,3 +18,6 @@ returns-in-Fine-clause-done c =
     let w = wire c.args.self.now.memory.memory in
     sync_done (ideal_of c.args.self.now) c.reserve_extents.new.loans c.sync_loans.new.loans w c.args.map.made_at c.args.off c.args.len c.args.ops.0
     c.reserve_extents.ensures.same.loans (ap (λ b. shown b w) c.reserve_extents.ensures.same.bytes) (sym c.is_mixed.ensures ∙ c.if-is_mixed.false) (sym c.in-Fine.ensures.answer) c.in-Fine.ensures.done
+
+pub returns-in-Fine-clause-wire : goal.returns-in-Fine-clause-wire
+returns-in-Fine-clause-wire c = unbounced_sync c.args.self.now.loans.loans c.args.map.made_at c.args.off c.args.len c.args.ops.0 (wire c.args.self.now.memory.memory)
