@@ -1,5 +1,5 @@
 -- Which scripts are valid.
-use Rattle.std.specs.Prelude.{◌≡◌, ℕ, ◌+◌, ◌%◌, ◌≤◌, ◌^◌, ◌-◌, List, [], length, sum_by, replicate}
+use Rattle.std.specs.Prelude.{◌≡◌, ℕ, ◌+◌, ◌%◌, ◌≤◌, ◌^◌, ◌-◌, ◌==◌, Bool, true, ◌||◌, nat_le, List, [], length, sum_by, replicate}
 use Rattle.std.specs.List.{AllByRecursion}
 use Rattle.busdma_base.specs.declared.script.Op.{Op}
 use Rattle.busdma_base.specs.declared.script.Op.TheVariants as op
@@ -47,13 +47,17 @@ read_by _ = 0
 abbrev pub access_limit : ℕ
 access_limit = 4096
 
+-- a greatest length of a segment that cuts no load of one page, or with which there is no tag
+abbrev pub cuts_no_page : ℕ → Bool
+cuts_no_page n = n == 0 || nat_le 4096 n
+
 -- a tag that can neither bounce nor cut a load of one page
 pub record IsPlain (limits : TagLimits) : Type 0 where
   pub alignment : limits.alignment ≡ 1
   pub boundary : limits.boundary ≡ 0
   pub lowaddr : limits.lowaddr.0 ≡ 2 ^ 64 - 1
   pub nsegments : limits.nsegments ≡ 65536
-  pub maxsegsz : limits.maxsegsz ≡ 2 ^ 32 - 1
+  pub maxsegsz : cuts_no_page limits.maxsegsz ≡ true
 
 -- the bytes lie in one page
 abbrev pub LiesInPage : Place → ℕ → Type 0

@@ -1,10 +1,12 @@
 -- The operations of a script, each read by itself and by the operations before it.
-use Rattle.std.specs.Prelude.{ℕ, ◌-◌, ◌^◌, List, [], ◌∷◌, length, Ok, codes}
+use Rattle.std.specs.Prelude.{ℕ, ◌-◌, ◌^◌, if◌then◌else◌, List, [], ◌∷◌, length, Ok, codes}
 use Rattle.busdma_base.specs.declared.script.Op.{Op}
 use Rattle.busdma_base.specs.declared.script.Op.TheVariants as op
 use Rattle.busdma_base.specs.declared.tag.TagLimits.{TagLimits}
-use Rattle.busdma_base.specs.Script.{bytes_of}
-use Rattle.json_fields.specs.Read.{Read, ◌>>=◌}
+use Rattle.busdma_base.specs.Script.{bytes_of, cuts_no_page}
+use Rattle.json_fields.specs.Place.{Place, key}
+use Rattle.json_fields.specs.Read.{Read, ◌>>=◌, refuse}
+use Rattle.json_fields.specs.declared.refusal.RefusalKind.TheVariants.{BadField}
 use Rattle.json_fields.specs.Field.{Spot, field, only_keys, one_of}
 use Rattle.json_fields.specs.Number.{number_field, number_or}
 use Rattle.scenario_read.specs.declared.counts.Counts.{Counts}
@@ -17,31 +19,40 @@ use Rattle.scenario_read.specs.Flags.{flags_field, ops_field}
 use Rattle.scenario_read.specs.Items.{then_field}
 use Rattle.scenario_read.specs.Names.{new_name, used_name, parent_or_none}
 
--- a tag that limits nothing but its exclusion window's end and the size of its loads
-abbrev pub limits_of : ℕ → ℕ → ℕ → TagLimits
-limits_of highaddr maxsize flags = record {
+-- a tag that limits nothing but its exclusion window's end, the size of its loads and that of a segment
+abbrev pub limits_of : ℕ → ℕ → ℕ → ℕ → TagLimits
+limits_of highaddr maxsize maxsegsz flags = record {
   alignment = 1;
   boundary = 0;
   lowaddr = record { 0 = 2 ^ 64 - 1 };
   highaddr = record { 0 = highaddr };
   maxsize = maxsize;
   nsegments = 65536;
-  maxsegsz = 2 ^ 32 - 1;
+  maxsegsz = maxsegsz;
   flags = flags;
 }
+
+-- a greatest length of a segment that cuts a load of one page is refused
+abbrev pub uncut_or : Place → ℕ → Read ℕ
+uncut_or place n = if cuts_no_page n then Ok n else refuse BadField place
+
+-- the greatest length of a segment
+unfoldable pub maxsegsz_at : Spot → Read ℕ
+maxsegsz_at here = number_or (codes "maxsegsz") (2 ^ 32 - 1) here >>= uncut_or (key here.place (codes "maxsegsz"))
 
 -- the fields of a tag's limits that can be given
 unfoldable pub limits_at : Spot → Read TagLimits
 limits_at here =
     number_or (codes "highaddr") (2 ^ 64 - 1) here >>= (λ highaddr.
     number_or (codes "maxsize") (2 ^ 32 - 1) here >>= (λ maxsize.
+    maxsegsz_at here >>= (λ maxsegsz.
     flags_field set.Tag here >>= (λ flags.
-    Ok (limits_of highaddr maxsize flags))))
+    Ok (limits_of highaddr maxsize maxsegsz flags)))))
 
 -- the making of a tag
 unfoldable pub tag_at : List Op → Spot → Read Op
 tag_at before here =
-    only_keys (one_of (codes "op" ∷ codes "name" ∷ codes "parent" ∷ codes "highaddr" ∷ codes "maxsize" ∷ codes "flags" ∷ [])) here >>= (λ _.
+    only_keys (one_of (codes "op" ∷ codes "name" ∷ codes "parent" ∷ codes "highaddr" ∷ codes "maxsize" ∷ codes "maxsegsz" ∷ codes "flags" ∷ [])) here >>= (λ _.
     new_name (codes "name") before here >>= (λ name.
     parent_or_none before (field (codes "parent") here) >>= (λ parent.
     limits_at here >>= (λ limits.

@@ -1,7 +1,7 @@
 //! The operations of a script.
 
-ghost use Rattle.std.specs.Prelude.{◌≡◌, ◌≤◌, length, IfOk};
-ghost use Rattle.busdma_base.specs.Script.{IsOp, IsPlain};
+ghost use Rattle.std.specs.Prelude.{◌≡◌, ◌≤◌, length, IfOk, true};
+ghost use Rattle.busdma_base.specs.Script.{IsOp, IsPlain, cuts_no_page};
 ghost use Rattle.json_fields.specs.Read.{Gives};
 ghost use Rattle.json_fields.specs.Field.{spot_of};
 ghost use Rattle.scenario_read.specs.Counts.{IsWithin, IsQuiet, with_op};
@@ -13,7 +13,20 @@ use crate::counts::{Counts, access};
 use crate::flags::{FlagSet, flags_field, ops_field};
 use crate::names::{Made, new_name, parent, used_name};
 use busdma_base::{Op, Pa, TagLimits};
-use json_fields::{Node, Stop};
+use json_fields::{Node, RefusalKind, Stop};
+
+// The greatest length of a segment. One below a page is refused as long as loads are not cut.
+#[tactic(auto, unfolding(crate::specs::Ops::maxsegsz_at))]
+fn maxsegsz(here: &Node) -> Result<u64, Stop>
+    ensures value { Gives result (ops.maxsegsz_at (spot_of here.now)) }
+    ensures uncut { IfOk result (λ n. cuts_no_page n ≡ true) }
+{
+    let maxsegsz = here.number_or("maxsegsz", u64::from(u32::MAX))?;
+    if 0 < maxsegsz && maxsegsz < 4096 {
+        return Err(here.refuse_key(RefusalKind::BadField, "maxsegsz"));
+    }
+    Ok(maxsegsz)
+}
 
 #[tactic(auto, unfolding(crate::specs::Ops::limits_at))]
 fn limits(here: &Node) -> Result<TagLimits, Stop>
@@ -22,6 +35,7 @@ fn limits(here: &Node) -> Result<TagLimits, Stop>
 {
     let highaddr = here.number_or("highaddr", u64::MAX)?;
     let maxsize = here.number_or("maxsize", u64::from(u32::MAX))?;
+    let maxsegsz = maxsegsz(here)?;
     let flags = flags_field(here, FlagSet::Tag)?;
     Ok(TagLimits {
         alignment: 1,
@@ -30,7 +44,7 @@ fn limits(here: &Node) -> Result<TagLimits, Stop>
         highaddr: Pa(highaddr),
         maxsize,
         nsegments: 65536,
-        maxsegsz: u64::from(u32::MAX),
+        maxsegsz,
         flags,
     })
 }
@@ -42,7 +56,9 @@ pub(crate) fn tag(here: &Node, before: &[Op]) -> Result<Op, Stop>
     ensures valid { IfOk result (IsOp before.now) }
     ensures quiet { IfOk result IsQuiet }
 {
-    here.only_keys(&["op", "name", "parent", "highaddr", "maxsize", "flags"])?;
+    here.only_keys(&[
+        "op", "name", "parent", "highaddr", "maxsize", "maxsegsz", "flags",
+    ])?;
     let name = new_name(here, "name", before)?;
     let parent = parent(here, before)?;
     let limits = limits(here)?;

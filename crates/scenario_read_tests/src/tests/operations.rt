@@ -32,7 +32,13 @@ BadField [2].highaddr <- {"op":"tag","name":"x","highaddr":"x","maxsize":"y"}
 BadField [2].maxsize <- {"op":"tag","name":"x","maxsize":1.0}
 BadField [2].alignment <- {"op":"tag","name":"x","alignment":1}
 BadField [2].boundary <- {"op":"tag","name":"x","lowaddr":1,"boundary":0}
-BadField [2].maxsegsz <- {"op":"tag","name":"x","maxsegsz":1}
+good <- {"op":"tag","name":"x","maxsegsz":0}
+good <- {"op":"tag","name":"x","maxsegsz":4096}
+good <- {"op":"tag","name":"x","maxsegsz":"0xffffffffffffffff"}
+BadField [2].maxsegsz <- {"op":"tag","name":"x","maxsegsz":1,"flags":7}
+BadField [2].maxsegsz <- {"op":"tag","name":"x","maxsegsz":4095}
+BadField [2].maxsegsz <- {"op":"tag","name":"x","maxsegsz":0.0}
+BadField [2].maxsize <- {"op":"tag","name":"x","maxsegsz":1,"maxsize":"x"}
 BadField [2].nsegments <- {"op":"tag","name":"x","nsegments":1}
 BadFlag [2].flags[0] <- {"op":"tag","name":"x","flags":["WAIT"]}
 good <- {"op":"tag","name":"x","flags":["ALLOCNOW","WAITOK","KEEP_PG_OFFSET","ALLOCNOW"]}
