@@ -176,7 +176,7 @@ fn bytes(alloc: Global, list: &[u8]) -> Result<Answer, AllocError> {
 
 fn grown(added: u32, made: bool) -> Answer {
     Answer::Grown(Grown {
-        zone: ZoneId(3),
+        zone: ZoneId(0),
         added,
         made,
     })
@@ -235,71 +235,111 @@ end finished, 9 entries, 0 reports
     Ok(())
 }
 
-#[test]
-fn what_was_done(rt: HostRuntime) -> Result<(), Fail> {
-    let alloc = rt.alloc();
-    let scenario = two_drivers(alloc)?;
-    let map = map_of(1);
-    let page = Pa(0x1_1000);
-    let release = Did::Release { map, page };
-    let callback = Did::Callback { map };
-    let rows = [
-        (Side::Script, 0, Did::Op(0), "0 s0 tag t -> ok\n"),
-        (Side::Script, 1, Did::Op(1), "1 s1 map m2 -> ok\n"),
-        (Side::Script, 0, Did::Op(2), "2 s0 cpu_write -> ok\n"),
-        (Side::Script, 0, Did::Op(3), "3 s0 load m -> ok\n"),
-        (Side::Script, 0, Did::Op(4), "4 s0 await m -> ok\n"),
-        (Side::Script, 0, Did::Op(5), "5 s0 unload m -> ok\n"),
-        (Side::Transfer, 0, item(0), "6 d0 sync m -> ok\n"),
-        (Side::Transfer, 0, item(1), "7 d0 dev_read m -> ok\n"),
-        (Side::Script, 0, release, "8 s0 release m2 0x11000 -> ok\n"),
-        (Side::Callback, 1, callback, "9 c1 callback m2 -> ok\n"),
-        (Side::Script, 12, Did::Op(0), "10 s12  -> ok\n"),
-        (Side::Transfer, 0, item(3), "11 d0  -> ok\n"),
-        (Side::Script, 1, Did::Op(2), "12 s1 cpu_read -> ok\n"),
-        (Side::Script, 1, Did::Op(4), "13 s1 sync m2 -> ok\n"),
-        (Side::Script, 1, Did::Op(5), "14 s1 sync_range m2 -> ok\n"),
-        (Side::Script, 1, Did::Op(6), "15 s1 map_destroy m2 -> ok\n"),
-        (Side::Script, 1, Did::Op(7), "16 s1 tag_destroy a -> ok\n"),
-        (Side::Transfer, 1, item(0), "17 d1 sync_range m2 -> ok\n"),
-        (Side::Transfer, 1, item(1), "18 d1 dev_write m2 -> ok\n"),
-    ];
-    for (number, (side, lane, did, want)) in rows.iter().enumerate() {
-        let entry = JournalEntry {
-            actor: actor(*side, *lane),
-            did: *did,
-            answer: Answer::Done,
-        };
-        let line = entry_line(alloc, &scenario, number as u64, &entry)?;
-        assert_eq!(rt; line.as_slice(), want.as_bytes(), "{want}");
+/// One entry of each kind, by what was done and by what was answered.
+fn each_kind(alloc: Global) -> Result<Vec<JournalEntry>, AllocError> {
+    let (s0, s1) = (actor(Side::Script, 0), actor(Side::Script, 1));
+    let (d0, d1) = (actor(Side::Transfer, 0), actor(Side::Transfer, 1));
+    let (m, m2) = (map_of(0), map_of(1));
+    let page = Pa(0x1_0000);
+    let two = segments(alloc, &[(0x1_1000, 4096), (0x1_0000, 904)])?;
+    let steps = vec![in alloc;
+        (s0, Did::Op(0), Answer::Done),
+        (s0, Did::Op(1), grown(2, true)),
+        (s1, Did::Op(1), grown(0, false)),
+        (s0, Did::Op(2), Answer::Done),
+        (s0, Did::Op(3), segments(alloc, &[(0x100_0000, 5)])?),
+        (d0, item(0), Answer::Done),
+        (d0, item(1), bytes(alloc, &HELLO)?),
+        (s1, Did::Op(3), Answer::InProgress { have: 0, need: 2 }),
+        (s0, Did::Op(4), Answer::Done),
+        (s0, Did::Op(5), Answer::Done),
+        (s0, Did::Release { map: m, page }, Answer::Served(1)),
+        (actor(Side::Callback, 1), Did::Callback { map: m2 }, two),
+        (s1, Did::Op(2), bytes(alloc, &[0x00, 0x0f, 0xa0, 0xff])?),
+        (s1, Did::Op(2), bytes(alloc, &[])?),
+        (s1, Did::Op(2), reported(ReportName::StaleByte, 60)),
+        (d1, item(0), reported(ReportName::PastEnd, 1)),
+        (d1, item(1), Answer::Done),
+        (s1, Did::Op(4), reported(ReportName::Overlap, 0)),
+        (s1, Did::Op(5), Answer::Done),
+        (s1, Did::Op(6), Answer::Refused(Errno::EBUSY)),
+        (s1, Did::Op(7), Answer::Refused(Errno::EBUSY)),
+        (s1, Did::Op(3), Answer::Refused(Errno::ENOMEM)),
+        (s1, Did::Op(3), segments(alloc, &[])?),
+        (s1, Did::Op(0), Answer::Placed(page)),
+    ]?;
+    let mut entries = Vec::new(alloc);
+    for (actor, did, answer) in steps {
+        entries.push(JournalEntry { actor, did, answer })?;
     }
-    Ok(())
+    Ok(entries)
+}
+
+/// The lines of those entries.
+const EACH_KIND: &str = "0 s0 tag t -> ok
+1 s0 map m -> ok zone0 +2
+2 s1 map m2 -> ENOMEM zone0 +0
+3 s0 cpu_write -> ok
+4 s0 load m -> ok 0x1000000+5
+5 d0 sync m -> ok
+6 d0 dev_read m -> bytes 68656c6c6f
+7 s1 load m2 -> EINPROGRESS 0/2
+8 s0 await m -> ok
+9 s0 unload m -> ok
+10 s0 release m 0x10000 -> ok ready 1
+11 c1 callback m2 -> ok 0x11000+4096 0x10000+904
+12 s1 cpu_read -> bytes 000fa0ff
+13 s1 cpu_read -> bytes
+14 s1 cpu_read -> report StaleByte 60
+15 d1 sync_range m2 -> report PastEnd 1
+16 d1 dev_write m2 -> ok
+17 s1 sync m2 -> report Overlap 0
+18 s1 sync_range m2 -> ok
+19 s1 map_destroy m2 -> EBUSY
+20 s1 tag_destroy a -> EBUSY
+21 s1 load m2 -> ENOMEM
+22 s1 load m2 -> ok
+23 s1 tag a -> ok 0x10000
+";
+
+/// The lines of a zone of two pages.
+const ZONE: &str = "hw.busdma.zone0.total_bpages: 2
+hw.busdma.zone0.free_bpages: 0
+hw.busdma.zone0.reserved_bpages: 0
+hw.busdma.zone0.active_bpages: 2
+hw.busdma.zone0.total_bounced: 0
+hw.busdma.zone0.total_deferred: 0
+hw.busdma.zone0.lowaddr: 0xffffff
+hw.busdma.zone0.alignment: 4096
+";
+
+/// A zone both of whose pages are held.
+fn zone() -> ZoneCounts {
+    ZoneCounts {
+        total: 2,
+        free: 0,
+        reserved: 0,
+        active: 2,
+        bounced: 0,
+        deferred: 0,
+        lowaddr: Pa(0xff_ffff),
+        alignment: 4096,
+    }
 }
 
 #[test]
-fn what_was_answered(rt: HostRuntime) -> Result<(), Fail> {
+fn each_kind_of_line(rt: HostRuntime) -> Result<(), Fail> {
     let alloc = rt.alloc();
-    let rows = vec![in alloc;
-        (Answer::Done, "ok"),
-        (grown(2, true), "ok zone3 +2"),
-        (grown(0, false), "ENOMEM zone3 +0"),
-        (Answer::Placed(Pa(0x1_0000)), "ok 0x10000"),
-        (segments(alloc, &[])?, "ok"),
-        (
-            segments(alloc, &[(0xabc, 512), (0x1_0000, 904)])?,
-            "ok 0xabc+512 0x10000+904"
-        ),
-        (Answer::InProgress { have: 0, need: 2 }, "EINPROGRESS 0/2"),
-        (Answer::Served(1), "ok ready 1"),
-        (bytes(alloc, &[])?, "bytes"),
-        (bytes(alloc, &[0x00, 0x0f, 0xa0, 0xff])?, "bytes 000fa0ff"),
-        (Answer::Refused(Errno::EBUSY), "EBUSY"),
-        (reported(ReportName::StaleByte, 60), "report StaleByte 60"),
-    ]?;
-    for (answer, want) in &rows {
-        let mut text = String::new(alloc);
-        push_answer(&mut text, answer)?;
-        assert_eq!(rt; text.as_str(), *want);
+    let ends = [
+        (End::Finished, "end finished, 24 entries, 3 reports\n"),
+        (End::Stuck, "end stuck, 24 entries, 3 reports\n"),
+    ];
+    for (end, last) in ends {
+        let mut journal = journal(alloc, each_kind(alloc)?, end);
+        journal.zones = ListOf::new(vec![in alloc; zone()]?);
+        let text = report(alloc, &two_drivers(alloc)?, &journal)?;
+        let want = format!(in alloc; "{EACH_KIND}{ZONE}{last}")?;
+        assert_eq!(rt; str::from_utf8(text.as_slice())?, want.as_str());
     }
     Ok(())
 }
@@ -350,29 +390,20 @@ fn names_of_errors(rt: HostRuntime) -> Result<(), Fail> {
     Ok(())
 }
 
+/// Zones are numbered from 0 on.
 #[test]
-fn lines_of_a_zone(rt: HostRuntime) -> Result<(), Fail> {
+fn lines_of_zones(rt: HostRuntime) -> Result<(), Fail> {
     let alloc = rt.alloc();
-    let zone = ZoneCounts {
-        total: 2,
-        free: 0,
-        reserved: 0,
-        active: 2,
-        bounced: 0,
-        deferred: 0,
-        lowaddr: Pa(0xff_ffff),
-        alignment: 4096,
+    let lines = zone_lines(alloc, &[zone(), zone()])?;
+    let text = str::from_utf8(lines.as_slice())?;
+    let Some((first, second)) = text.split_once("hw.busdma.zone1.total_bpages: 2\n") else {
+        panic!(rt; "{text}");
     };
-    let want = "hw.busdma.zone0.total_bpages: 2
-hw.busdma.zone0.free_bpages: 0
-hw.busdma.zone0.reserved_bpages: 0
-hw.busdma.zone0.active_bpages: 2
-hw.busdma.zone0.total_bounced: 0
-hw.busdma.zone0.total_deferred: 0
-hw.busdma.zone0.lowaddr: 0xffffff
-hw.busdma.zone0.alignment: 4096
-";
-    assert_eq!(rt; zone_lines(alloc, &[zone])?.as_slice(), want.as_bytes());
+    assert_eq!(rt; first, ZONE);
+    assert_eq!(rt;
+        second.len(),
+        ZONE.len() - "hw.busdma.zone1.total_bpages: 2\n".len()
+    );
     Ok(())
 }
 
