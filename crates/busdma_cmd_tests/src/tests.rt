@@ -3,8 +3,12 @@
 ghost use Rattle.std.specs.Prelude.{◌≤◌};
 
 mod causes;
+mod large;
 mod lines;
+mod refusals;
+mod reports;
 mod rows;
+mod rows_with_reports;
 
 use busdma_cmd::{Outcome, plain_command};
 use io_edge::{MemSink, MemSource};
