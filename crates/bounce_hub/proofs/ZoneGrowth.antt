@@ -17,7 +17,7 @@ use Rattle.busdma_base.specs.PageLists.{page_addresses, page_address}
 use Rattle.busdma_base.specs.Places.{frame_total}
 use Rattle.busdma_base.specs.Well.{IsWell}
 use Rattle.busdma_base.proofs.Counting.{sum_by-set_like}
-use Rattle.plain_account.proofs.PlainZones.{zones_for_found, zones_for_none}
+use Rattle.busdma_base.proofs.ZoneOf.{zones_for_found, zones_for_none}
 use Rattle.busdma_base.proofs.Shares.{sum_by-zones_for}
 use Rattle.bounce_hub.specs.declared.slot.Slot.{Slot}
 use Rattle.bounce_hub.specs.declared.pool.Pool.{Pool}

@@ -6,3 +6,4 @@ pub mod Places
 pub mod Rising
 pub mod Shares
 pub mod Wells
+pub mod ZoneOf

@@ -1,7 +1,7 @@
 -- An entry of one lane leaves what bears on another.
 use Rattle.std.proofs.Common.{◌≡◌, ◌≢◌, ℕ, zero, suc, ◌+◌, ◌-◌, Bool, true, false, cond, not, ◌&&◌, List, [], ◌∷◌, ◌++◌, map, take, drop, length, get_or, refl, sym, ap, ◌∙◌, subst, arith, eqb, leb, ne_eqb, if◌then◌else◌, Option, Some, None, All, IsTrue}
 use Rattle.std.proofs.lemmas.Bool.{false≢true, eqb-true}
-use Rattle.std.specs.List.{count_by, sum_by}
+use Rattle.std.specs.List.{count_by, sum_by, filter}
 use Rattle.std.proofs.lemmas.List.Sums.{sum_by-cons}
 use Rattle.std.proofs.lemmas.List.Elements.{All-head, All-tail}
 use Rattle.busdma_base.specs.declared.name.MapId.{MapId}
@@ -11,10 +11,10 @@ use Rattle.busdma_base.specs.declared.hold.HubCall.{HubCall}
 use Rattle.busdma_base.specs.declared.hold.HubCall.TheVariants.{AttachTag, CreateMap, DestroyMap, Grab, Release, TakeCallback, MemAlloc, MemFree}
 use Rattle.busdma_base.specs.declared.hold.HubReply.TheVariants.{Nothing, Granted, Queued, NoPages, Called}
 use Rattle.busdma_base.specs.declared.hold.HoldEntry.{HoldEntry}
-use Rattle.busdma_base.specs.Account.{Account, Zone, Held, is_map, zone_at, with_zone, no_zone, free, total}
+use Rattle.busdma_base.specs.Account.{Account, Zone, Held, Memory, is_map, zone_at, with_zone, no_zone, free, total}
 use Rattle.busdma_base.specs.Growth.{serves_tag, new_zone, zones_for, zone_of, with_zone_for, added, grown, maxpages, wanted_by_map, with_map, without_map}
 use Rattle.busdma_base.specs.Serving.{is_holding, handed, queued, returned, completed, left_waiting, served}
-use Rattle.busdma_base.specs.MemoryRuns.{with_memory, without_memory}
+use Rattle.busdma_base.specs.MemoryRuns.{with_memory, without_memory, frames_of}
 use Rattle.busdma_base.specs.AccountStep.{Outcome, account_step, as_pages, attached, created, grabbed, released, called_from, placed}
 use Rattle.busdma_base.specs.Conditions.{MayCall, IsIdle, pages_held, times_held}
 use Rattle.busdma_base.specs.History.{IsSound, after_entry, account_of}
@@ -23,7 +23,7 @@ use Rattle.busdma_base.specs.Tag.{could_bounce}
 use Rattle.busdma_base.proofs.Counting.{get_or-set_as, sum_by-set_less, sum_by-set_like, count_by-filter_keeps, count_by-map_none, count_by-append, count_by-one_no, count_by-push_no}
 
 pub SameFor-refl : (lane : ℕ) (a : Account) → SameFor lane a a
-SameFor-refl lane a = record { made = λ m z e. refl; in_zones = λ m e. refl; holds = λ m e. refl; holds_page = λ m z p e. refl; listed = λ m e. refl; mems = λ m e. refl; maxmem = refl }
+SameFor-refl lane a = record { made = λ m z e. refl; in_zones = λ m e. refl; holds = λ m e. refl; holds_page = λ m z p e. refl; listed = λ m e. refl; mems = λ m e. refl; frames = λ m e. refl; maxmem = refl }
 
 pub SameFor-trans : (lane : ℕ) (a b c : Account) → SameFor lane a b → SameFor lane b c → SameFor lane a c
 SameFor-trans lane a b c s t = record {
@@ -33,6 +33,7 @@ SameFor-trans lane a b c s t = record {
   holds_page = λ m z p e. t.holds_page m z p e ∙ s.holds_page m z p e;
   listed = λ m e. t.listed m e ∙ s.listed m e;
   mems = λ m e. t.mems m e ∙ s.mems m e;
+  frames = λ m e. t.frames m e ∙ s.frames m e;
   maxmem = t.maxmem ∙ s.maxmem;
 }
 
@@ -86,12 +87,13 @@ SameFor-with_zone lane a z zone maps waits = record {
   holds_page = λ m y p e. refl;
   listed = λ m e. ap (λ k. k + count_by (λ w. is_map m w.map) a.ready) (sum_by-set_like (waits_in m) a.zones z zone no_zone refl (waits m e));
   mems = λ m e. refl;
+  frames = λ m e. refl;
   maxmem = refl;
 }
 
 -- other pages held
 pub SameFor-held : (lane : ℕ) (a : Account) (held : List Held) → ((m : MapId) → m.lane.0 ≡ lane → count_by (λ h. is_map m h.map) held ≡ pages_held m a) → ((m : MapId) (z p : ℕ) → m.lane.0 ≡ lane → count_by (is_holding m z p) held ≡ times_held m z p a) → SameFor lane a (record a { held = held })
-SameFor-held lane a held all each = record { made = λ m z e. refl; in_zones = λ m e. refl; holds = all; holds_page = each; listed = λ m e. refl; mems = λ m e. refl; maxmem = refl }
+SameFor-held lane a held all each = record { made = λ m z e. refl; in_zones = λ m e. refl; holds = all; holds_page = each; listed = λ m e. refl; mems = λ m e. refl; frames = λ m e. refl; maxmem = refl }
 
 -- pages go to a map of another lane
 pub SameFor-handed : (lane : ℕ) (a : Account) (n : MapId) (z need : ℕ) → n.lane.0 ≢ lane → SameFor lane a (handed a n z need)
@@ -144,6 +146,7 @@ SameFor-served lane a z =
       holds_page = λ m y p e. refl;
       listed = λ m e. omega (arith, sum_by-set_less (waits_in m) a.zones z (count_by (λ w. is_map m w.map) done) after no_zone refl (waits-served (λ w. is_map m w.map) pages zone.wait (λ w k. refl)), count_by-append (λ w. is_map m w.map) a.ready done);
       mems = λ m e. refl;
+      frames = λ m e. refl;
       maxmem = refl;
     }
 
@@ -174,6 +177,7 @@ SameFor-called lane a caller (w ∷ ws) e other =
             holds_page = λ m z p k. refl;
             listed = λ m k. rw e (omega (arith, count_by-one_no (λ (x : Waiter). is_map m x.map) w ws (is_map-apart lane m w.map k apart)));
             mems = λ m k. refl;
+            frames = λ m k. refl;
             maxmem = refl;
           })
           (SameFor-handed lane (record a { ready = ws }) w.map w.zone.0 w.need apart))
@@ -207,13 +211,14 @@ module _ (t : TagLimits) where
     holds_page = λ m z p k. refl;
     listed = λ m k. ap (λ n. n + count_by (λ w. is_map m w.map) a.ready) (sum_by-zones_for (waits_in m) refl a.zones);
     mems = λ m k. refl;
+    frames = λ m k. refl;
     maxmem = refl;
   }
 
 pub SameFor-grown : (lane : ℕ) (a : Account) (z n : ℕ) → SameFor lane a (grown a z n)
 SameFor-grown lane a z n =
     SameFor-trans lane a (record a { bank = drop n a.bank }) _
-    (record { made = λ m y k. refl; in_zones = λ m k. refl; holds = λ m k. refl; holds_page = λ m y p k. refl; listed = λ m k. refl; mems = λ m k. refl; maxmem = refl })
+    (record { made = λ m y k. refl; in_zones = λ m k. refl; holds = λ m k. refl; holds_page = λ m y p k. refl; listed = λ m k. refl; mems = λ m k. refl; frames = λ m k. refl; maxmem = refl })
     (SameFor-with_zone lane (record a { bank = drop n a.bank }) z _ (λ m k. refl) (λ m k. refl))
 
 pub SameFor-with_map : (lane : ℕ) (a : Account) (z : ℕ) (n : MapId) → n.lane.0 ≢ lane → SameFor lane a (with_map a z n)
@@ -235,6 +240,23 @@ SameFor-created lane a n t first_done other =
     let same : SameFor lane a c = SameFor-trans lane a _ _ (SameFor-with_zone_for t lane a) (SameFor-grown lane b _ _) in
     SameFor-either lane a c (with_map c z n) _ same (SameFor-trans lane a c _ same (SameFor-with_map lane c z n other))
 
+-- a memory of another name adds no frame
+frames_of-push_no : (m : MapId) (xs : List Memory) (x : Memory) → is_map m x.mem ≡ false → frames_of m (xs ++ x ∷ []) ≡ frames_of m xs
+frames_of-push_no m [] x off = rw off refl
+frames_of-push_no m (y ∷ ys) x off = ap (λ fs. if is_map m y.mem then y.frames ++ fs else fs) (frames_of-push_no m ys x off)
+
+-- nor does one that goes
+frames_of-filter_keeps : (m : MapId) (q : Memory → Bool) (xs : List Memory) → ((x : Memory) → is_map m x.mem ≡ true → q x ≡ true) → frames_of m (filter q xs) ≡ frames_of m xs
+frames_of-filter_keeps m q [] h = refl
+frames_of-filter_keeps m q (x ∷ xs) h =
+    (elim (q x) as (λ v. q x ≡ v → frames_of m (cond v (x ∷ filter q xs) (filter q xs)) ≡ frames_of m (x ∷ xs)) [
+      | true ↦ λ w. ap (λ fs. if is_map m x.mem then x.frames ++ fs else fs) (frames_of-filter_keeps m q xs h)
+      | false ↦ λ w. (elim (is_map m x.mem) as (λ u. is_map m x.mem ≡ u → frames_of m (filter q xs) ≡ (if u then x.frames ++ frames_of m xs else frames_of m xs)) [
+        | true ↦ λ u. absurd (false≢true (sym w ∙ h x u))
+        | false ↦ λ u. frames_of-filter_keeps m q xs h
+      ]) refl
+    ]) refl
+
 pub SameFor-with_memory : (lane : ℕ) (a : Account) (n : MapId) (first k : ℕ) → n.lane.0 ≢ lane → SameFor lane a (with_memory a n first k)
 SameFor-with_memory lane a n first k other =
     record {
@@ -244,6 +266,7 @@ SameFor-with_memory lane a n first k other =
       holds_page = λ m z p e. refl;
       listed = λ m e. refl;
       mems = λ m e. count_by-push_no (λ x. is_map m x.mem) a.mems _ (is_map-apart lane m n e other);
+      frames = λ m e. frames_of-push_no m a.mems _ (is_map-apart lane m n e other);
       maxmem = refl;
     }
 
@@ -260,6 +283,7 @@ SameFor-without_memory lane a n other =
       holds_page = λ m z p e. refl;
       listed = λ m e. refl;
       mems = λ m e. count_by-filter_keeps (λ x. is_map m x.mem) (λ x. not (is_map n x.mem)) a.mems (λ x h. let off : is_map n x.mem ≡ false = still_apart lane m n x.mem e other h in rw off refl);
+      frames = λ m e. frames_of-filter_keeps m (λ x. not (is_map n x.mem)) a.mems (λ x h. let off : is_map n x.mem ≡ false = still_apart lane m n x.mem e other h in rw off refl);
       maxmem = refl;
     }
 
@@ -301,3 +325,7 @@ SameFor-history lane a (e ∷ es) sound others =
 -- The condition of a call of one lane is kept by each sound entry of another.
 pub MayCall-stays : (lane : ℕ) (c : HubCall) (a : Account) (es : List HoldEntry) → MayCall lane c a → IsSound a es → All (λ e. e.lane.0 ≢ lane) es → MayCall lane c (account_of a es)
 MayCall-stays lane c a es may sound others = MayCall-same lane a (account_of a es) c (SameFor-history lane a es sound others) may
+
+-- So are the frames of each memory of a lane.
+pub frames-stay : (lane : ℕ) (m : MapId) (a : Account) (es : List HoldEntry) → m.lane.0 ≡ lane → IsSound a es → All (λ e. e.lane.0 ≢ lane) es → frames_of m (account_of a es).mems ≡ frames_of m a.mems
+frames-stay lane m a es own sound others = (SameFor-history lane a es sound others).frames m own

@@ -46,7 +46,7 @@ grown a z n =
 abbrev pub wanted_by_tag : TagLimits → ℕ → ℕ
 wanted_by_tag t pages = t.maxsize / 4096 - pages
 
--- how many pages a zone may grow to for the maps of a tag
+-- up to how many pages a zone that has maps grows for further maps of a tag; a first allocation may pass that number
 abbrev pub maxpages : TagLimits → Account → ℕ
 maxpages t a = if nat_lt 1 t.alignment then a.max_bpages else min a.max_bpages (a.maxmem - t.lowaddr.0 / 4096)
 

@@ -15,6 +15,7 @@ pub mod Opening
 pub mod PageLists
 pub mod Pages
 pub mod Places
+pub mod Reports
 pub mod Room
 pub mod Runs
 pub mod SameFor

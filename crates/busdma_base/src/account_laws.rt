@@ -12,6 +12,7 @@ ghost use Rattle.busdma_base.specs.Well.{IsWell};
 ghost use Rattle.busdma_base.specs.declared.scenario.Scenario.{Scenario};
 ghost use Rattle.busdma_base.specs.Opening.{opening};
 ghost use Rattle.busdma_base.specs.Valid.{IsValid};
+ghost use Rattle.busdma_base.specs.MemoryRuns.{frames_of};
 ghost use Rattle.busdma_base.specs.Places.{places, times_lent, frame_total};
 ghost use Rattle.busdma_base.specs.AccountStep.{attached, created, released};
 ghost use Rattle.busdma_base.specs.Serving.{returned};
@@ -29,11 +30,15 @@ pub fn scenario_opens()
     ensures { (s : Scenario) → IsValid s → IsOpening (opening s) }
 {}
 
-/// The condition of a call of one lane is kept by each sound entry of other lanes.
+/// The condition of a call of one lane is kept by each sound entry of other lanes, and so are the
+/// frames of its memories, which it hands back at their end.
 pub fn condition_stays()
-    ensures { (lane : ℕ) (call : HubCall) (a : Account) (es : List HoldEntry) →
+    ensures may { (lane : ℕ) (call : HubCall) (a : Account) (es : List HoldEntry) →
         MayCall lane call a → IsSound a es → All (λ e. e.lane.0 ≢ lane) es →
         MayCall lane call (account_of a es) }
+    ensures frames { (lane : ℕ) (m : MapId) (a : Account) (es : List HoldEntry) → m.lane.0 ≡ lane →
+        IsSound a es → All (λ e. e.lane.0 ≢ lane) es →
+        frames_of m (account_of a es).mems ≡ frames_of m a.mems }
 {}
 
 /// The free, the reserved and the active pages of a zone are all its pages.

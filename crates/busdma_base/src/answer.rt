@@ -1,5 +1,8 @@
 //! What a step answers.
 
+ghost use Rattle.std.specs.Prelude.{◌≡◌};
+ghost use Rattle.busdma_base.specs.Reports.{is_report};
+
 use crate::address::{Pa, Segment};
 use crate::list::ListOf;
 use crate::report::{Errno, Report};
@@ -26,4 +29,13 @@ pub enum Answer {
     Refused(Errno),
     /// It is outside the rules, and was not done.
     Report(Report),
+}
+
+impl Answer {
+    /// Whether the step was outside the rules.
+    pub fn is_report(&self) -> bool
+        ensures { result ≡ is_report self.now }
+    {
+        matches!(self, Answer::Report(_))
+    }
 }

@@ -6,7 +6,8 @@ ghost use Rattle.busdma_base.specs.Framed.{overwritten};
 use std::alloc::{AllocError, Global};
 use std::marker::Model;
 
-/// A frame of 4096 bytes with one owner: there is no way to have it twice.
+/// A frame of 4096 bytes with one owner. A page is not cloned; whoever makes pages of frames sees to
+/// it that the frames differ.
 #[derive(Debug, Drop)]
 pub struct Page {
     frame: u64,

@@ -66,6 +66,14 @@ impl PageList {
         self.pages.is_empty()
     }
 
+    /// The pages as a vector, which keeps the room.
+    pub fn into_vec(self) -> Vec<Page>
+        ensures pages { result.items ≡ self.items }
+        ensures room { vec_capacity result ≡ self.room }
+    {
+        self.pages
+    }
+
     /// Adds a page at the end, where there is room.
     pub fn push_reserved(&mut self, page: Page)
         requires { length self.old.items < self.old.room }

@@ -38,7 +38,7 @@ pub enum ReportName {
     SyncOrder,
     /// A sync that has a PRE and a POST.
     MixedSync,
-    /// Two maps, or two positions of one, would lend a byte at once.
+    /// A byte that the device may write would be lent twice, by two maps or by two positions of one.
     Overlap,
     /// No load of the map has called or stored a callback.
     NotDeferred,

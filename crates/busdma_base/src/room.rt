@@ -113,13 +113,4 @@ impl<T> RoomyList<T> {
     {
         ListOf::new(self.items)
     }
-
-    /// The items of a list, with the room that it kept.
-    pub fn from_list(list: ListOf<T>) -> RoomyList<T>
-        ensures { result.items ≡ list }
-    {
-        RoomyList {
-            items: list.into_vec(),
-        }
-    }
 }

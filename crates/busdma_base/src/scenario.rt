@@ -29,8 +29,8 @@ pub struct Driver {
 
 /// A machine, its drivers, and an order of their steps.
 ///
-/// A bounce zone grows at the making of maps up to `max_bpages` pages, or fewer where its tags
-/// need fewer.
+/// A bounce zone that has a map grows no further at the making of maps once it has `max_bpages`
+/// pages. The first allocation of a tag may pass that number.
 #[derive(Debug, Drop)]
 pub struct Scenario {
     pub frames: ListOf<FrameRun>,

@@ -5,7 +5,7 @@ use crate::name::{MapId, ZoneId};
 
 /// What the making of a tag or a map added to its zone.
 ///
-/// `made` is false exactly where fewer pages came than were wanted, and the answer is ENOMEM.
+/// `made` is false exactly where the answer is ENOMEM.
 #[derive(Clone, Copy, Debug, PartialEq, Eq)]
 pub struct Grown {
     pub zone: ZoneId,

@@ -1,5 +1,8 @@
-use Rattle.busdma_base.proofs.Shares.{MayCall-stays}
+use Rattle.busdma_base.proofs.Shares.{MayCall-stays, frames-stay}
 use Rattle.busdma_base.proofs.account_laws.condition_stays.Goals as goal
 
-pub returns : goal.returns
-returns c = MayCall-stays
+pub returns-clause-may : goal.returns-clause-may
+returns-clause-may c = MayCall-stays
+
+pub returns-clause-frames : goal.returns-clause-frames
+returns-clause-frames c = frames-stay
