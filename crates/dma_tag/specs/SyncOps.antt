@@ -45,7 +45,3 @@ has_post ops = postread ops || postwrite ops
 -- The set has a PRE and a POST operation.
 abbrev pub is_mixed : ℕ → Bool
 is_mixed ops = has_pre ops && has_post ops
-
--- The set has no operation.
-abbrev pub is_empty : ℕ → Bool
-is_empty ops = ops == 0
