@@ -1,5 +1,5 @@
 -- A page in its place among others.
-use Rattle.std.proofs.Common.{◌≡◌, ◌≢◌, ℕ, zero, suc, ◌+◌, ◌<◌, ◌≤◌, Bool, true, false, cond, List, [], ◌∷◌, map, length, get_or, drop, replicate, refl, sym, ap, subst, ◌∙◌, arith, leb, ltb, eqb}
+use Rattle.std.proofs.Common.{◌≡◌, ◌≢◌, ℕ, zero, suc, ◌+◌, ◌<◌, ◌≤◌, Bool, true, false, cond, List, [], ◌∷◌, map, length, get_or, drop, replicate, refl, sym, ap, ◌∙◌, arith, leb, ltb, eqb}
 use Rattle.std.specs.List.{All, AllPairs, AllWithin, count_by, insert}
 use Rattle.std.proofs.lemmas.Bool.{ltb-true, ltb-false, leb-true, leb-false, lt-ltb, le-ltb, eq-eqb, ne_eqb}
 use Rattle.std.proofs.lemmas.Bool.Decides.{nat_tests}
@@ -10,7 +10,7 @@ use Rattle.busdma_base.specs.MemoryRuns.{put_in}
 use Rattle.busdma_base.specs.PageLists.{page_address, page_addresses}
 use Rattle.frame_bank.specs.FrameBank.{fresh_page, put_page, put_pages}
 use Rattle.frame_bank.proofs.Counted.{weight, count_by-cons, count_by-map, count_by-front}
-use Rattle.frame_bank.proofs.Rising.{AreAbove, AreRising, above_lower}
+use Rattle.frame_bank.proofs.Rising.{AreRising, above_lower}
 
 -- where the page goes first, and where it goes behind the first page
 put-first : (p q : Framed) (qs : List Framed) → p.frame < q.frame → put_page p (q ∷ qs) ≡ p ∷ q ∷ qs

@@ -1,15 +1,15 @@
 -- Frames that follow one another, among rising ones.
-use Rattle.std.proofs.Common.{◌≡◌, ℕ, zero, suc, ◌+◌, ◌-◌, ◌*◌, ◌<◌, ◌≤◌, Bool, true, false, cond, not, ◌&&◌, List, [], ◌∷◌, ◌++◌, map, length, get_or, take, drop, refl, sym, ap, ◌∙◌, arith, leb, ltb, eqb, Option, Some, if◌then◌else◌}
-use Rattle.std.specs.List.{All, filter}
-use Rattle.std.proofs.lemmas.Bool.{leb-true, leb-false, le-leb, lt-leb, lt-ltb, le-ltb, eq-eqb, eqb-true, ne_eqb, and_right, and_parts, false≢true}
+use Rattle.std.proofs.Common.{◌≡◌, ℕ, zero, suc, ◌+◌, ◌-◌, ◌*◌, ◌<◌, ◌≤◌, true, false, ◌&&◌, List, [], ◌∷◌, length, get_or, drop, refl, sym, ap, ◌∙◌, arith, leb, eqb, Some, if◌then◌else◌}
+use Rattle.std.specs.List.{All}
+use Rattle.std.proofs.lemmas.Bool.{eqb-true, ne_eqb, and_right, and_parts, false≢true}
 use Rattle.std.proofs.lemmas.Bool.Decides.{nat_tests}
 use Rattle.std.proofs.lemmas.List.Elements.{All-cons, All-head, All-weaker}
 use Rattle.std.proofs.lemmas.List.{get_or-map, get_or_read, get_or-drop, drop-map, drop_more, length-drop, length-map}
 use Rattle.busdma_base.specs.Framed.{Framed}
 use Rattle.busdma_base.specs.History.{IsRising}
-use Rattle.busdma_base.specs.MemoryRuns.{frames_for, follow, crosses_none, lowest_run, in_run}
+use Rattle.busdma_base.specs.MemoryRuns.{frames_for, follow, crosses_none, lowest_run}
 use Rattle.busdma_base.specs.PageLists.{page_address, page_addresses}
-use Rattle.frame_bank.specs.FrameBank.{begins_run, is_in_run, frames_from}
+use Rattle.frame_bank.specs.FrameBank.{begins_run}
 use Rattle.frame_bank.proofs.Rising.{AreRising, rising_pages, rising_drop}
 
 -- each page is at or above a frame

@@ -1,6 +1,6 @@
 -- The bank of free frames.
-use Rattle.std.specs.Prelude.{ℕ, zero, suc, ◌+◌, ◌*◌, ◌≤◌, Bool, false, not, ◌&&◌, List, [], ◌∷◌, length, replicate, Option, Some, None, nat_le, nat_lt, if◌then◌else◌}
-use Rattle.std.specs.List.{filter}
+use Rattle.std.specs.Prelude.{ℕ, zero, suc, ◌+◌, ◌*◌, ◌^◌, ◌<◌, ◌≤◌, Bool, false, not, ◌&&◌, List, [], ◌∷◌, length, replicate, Option, Some, None, nat_le, nat_lt, if◌then◌else◌}
+use Rattle.std.specs.List.{All, filter}
 use Rattle.busdma_base.specs.Framed.{Framed}
 use Rattle.busdma_base.specs.History.{IsRising}
 use Rattle.busdma_base.specs.MemoryRuns.{frames_for, follow, crosses_none, in_run}
@@ -62,8 +62,10 @@ abbrev pub pages_left : Option ℕ → ℕ → List Framed → List Framed
 pages_left None n pages = pages
 pages_left (Some first) n pages = filter (λ p. not (is_in_run first n p)) pages
 
--- what is true of each bank: its pages rise, it has room for them, and the room is for at most 8192
+-- what is true of each bank: its pages rise and have frames of numbers below 2^30, it has room for them, and the room
+-- is for at most 8192
 pub record IsBank (b : Bank) : Type 0 where
   pub rising : IsRising (free_frames b)
+  pub numbered : All (λ p. p.frame < 2 ^ 30) b.pages
   pub roomy : length b.pages ≤ b.room
   pub few : b.room ≤ 8192

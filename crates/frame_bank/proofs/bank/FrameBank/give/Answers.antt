@@ -1,4 +1,4 @@
-use Rattle.std.proofs.Common.{rules, ◌≡◌, ◌+◌, ◌≤◌, ◌==◌, true, false, leb, List, length, sym, ap, subst, ◌∙◌, arith}
+use Rattle.std.proofs.Common.{rules, ◌≡◌, ◌+◌, ◌^◌, ◌<◌, ◌≤◌, ◌==◌, true, false, leb, List, length, sym, ap, subst, ◌∙◌, arith}
 use Rattle.std.specs.List.{count_by}
 use Rattle.std.specs.List.Sorted.{IsPartitionPoint}
 use Rattle.std.proofs.lemmas.List.Sorted.{IsPartitionedBy-leb, IsPartitionPoint-from_clause}
@@ -7,7 +7,8 @@ use Rattle.busdma_base.specs.History.{IsRising}
 use Rattle.busdma_base.specs.MemoryRuns.{put_in}
 use Rattle.busdma_base.specs.PageLists.{page_address, page_addresses}
 use Rattle.frame_bank.specs.FrameBank.{Bank, free_frames, put_page}
-use Rattle.frame_bank.proofs.Placing.{put_page-insert, put_page-rising, length-put_page, page_addresses-put_page}
+use Rattle.std.proofs.lemmas.List.Elements.{All-same}
+use Rattle.frame_bank.proofs.Placing.{All-put_page, put_page-insert, put_page-rising, length-put_page, page_addresses-put_page}
 use Rattle.frame_bank.proofs.Rising.{AreRising, rising_pages, rising_addresses, rising_never_falls}
 use Rattle.frame_bank.proofs.bank.FrameBank.give.Goals as goal
 
@@ -34,6 +35,7 @@ invariant_of-self c =
     let fits : length c.self.inside.free.items + 1 ≤ c.self.inside.room = subst (λ (b : Bank). length b.pages + 1 ≤ b.room) (sym c.self.view_is) (omega arith) in (
       record {
         rising = subst (λ ps. IsRising (page_addresses ps)) (sym (placed c)) (rising_addresses _ (put_page-rising c.args.page c.self.inside.free.items (rising c) apart));
+        numbered = All-same (λ p. p.frame < 2 ^ 30) _ _ (placed c) (All-put_page (λ p. p.frame < 2 ^ 30) c.args.page c.self.inside.free.items (omega (arith, c.frame-frame.ensures.below)) c.self.invariant.0.numbered);
         roomy = omega arith;
         few = c.self.invariant.0.few;
       },

@@ -1,7 +1,7 @@
-use Rattle.std.proofs.Common.{◌≡◌, ◌+◌, ◌-◌, ◌<◌, ◌==◌, [], ◌∷◌, map, length, drop, get_or, sym, ap, ◌∙◌, arith}
+use Rattle.std.proofs.Common.{◌-◌, ◌==◌, map, length, drop, ap, ◌∙◌, arith}
 use Rattle.std.specs.List.{count_by}
 use Rattle.std.proofs.lemmas.List.{length-map, length-drop}
-use Rattle.frame_bank.specs.FrameBank.{Bank, fresh_page, put_page, put_pages}
+use Rattle.frame_bank.specs.FrameBank.{Bank, fresh_page}
 use Rattle.frame_bank.proofs.Placing.{length-put_pages, count_by-put_pages, differs_behind, put_next}
 use Rattle.frame_bank.proofs.bank.FrameBank.of_frames.Goals as goal
 

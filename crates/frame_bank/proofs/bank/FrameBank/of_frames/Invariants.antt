@@ -1,4 +1,4 @@
-use Rattle.std.proofs.Common.{◌≡◌, ◌≤◌, [], map, drop, length}
+use Rattle.std.proofs.Common.{◌≡◌, [], map, drop, length}
 use Rattle.frame_bank.specs.FrameBank.{fresh_page, put_pages}
 use Rattle.frame_bank.proofs.bank.FrameBank.of_frames.Given as goal
 

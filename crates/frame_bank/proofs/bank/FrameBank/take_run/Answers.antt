@@ -1,8 +1,8 @@
-use Rattle.std.proofs.Common.{◌≡◌, ◌+◌, ◌-◌, ◌<◌, ◌≤◌, List, [], ◌++◌, length, take, drop, get_or, not, Option, Some, option_map, sym, ap, subst, ◌∙◌, arith}
+use Rattle.std.proofs.Common.{◌≡◌, ◌+◌, ◌-◌, ◌^◌, ◌<◌, ◌++◌, length, take, drop, get_or, not, Some, option_map, sym, ap, subst, ◌∙◌, arith}
 use Rattle.std.specs.List.{filter}
 use Rattle.std.specs.VecDeque.{deque_len}
-use Rattle.std.proofs.lemmas.List.{length-append, length-drop, length-take}
-use Rattle.busdma_base.specs.Framed.{Framed}
+use Rattle.std.proofs.lemmas.List.{length-drop}
+use Rattle.std.proofs.lemmas.List.Elements.{All-same, All-append, All-take, All-drop}
 use Rattle.busdma_base.specs.PageLists.{Pages, page_addresses}
 use Rattle.busdma_base.specs.History.{IsRising}
 use Rattle.busdma_base.specs.MemoryRuns.{frames_for, lowest_run, in_run}
@@ -51,6 +51,7 @@ pub invariant_of-self : goal.invariant_of-self
 invariant_of-self c = (
   record {
     rising = subst (λ ps. IsRising (page_addresses ps)) (sym (rest c)) (rising_addresses _ (rising_without c.self.inside.free.items c.in-Some.at (c.in-Some.at + frames_for c.args.len) (omega arith) (rising_pages c.self.inside.free.items c.self.invariant.0.rising)));
+    numbered = All-same (λ p. p.frame < 2 ^ 30) _ _ (rest c) (All-append (λ p. p.frame < 2 ^ 30) _ _ (All-take (λ p. p.frame < 2 ^ 30) c.in-Some.at c.self.inside.free.items c.self.invariant.0.numbered) (All-drop (λ p. p.frame < 2 ^ 30) (c.in-Some.at + frames_for c.args.len) c.self.inside.free.items c.self.invariant.0.numbered));
     roomy = omega (arith, ap length c.take_first.ensures.left, length-drop c.frames_for-count.result c.rotate_left.new.self.items, c.rotate_left.ensures.len, c.rotate_right.ensures.len);
     few = c.self.invariant.0.few;
   },
