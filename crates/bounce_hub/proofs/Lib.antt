@@ -6,6 +6,7 @@ mod Deferrals
 mod Frames
 mod Keeping
 mod Mapping
+mod Openings
 mod Owing
 mod Promises
 mod ZoneGrowth

@@ -1,14 +1,14 @@
 //! The hub: the bounce zones that all lanes share, and all holds so far.
 
 ghost use Rattle.std.specs.Prelude.{◌≡◌, [], IfOk};
-ghost use Rattle.busdma_base.specs.History.{IsOpening, account_of};
+ghost use Rattle.busdma_base.specs.History.{account_of};
 ghost use Rattle.bounce_hub.specs.Opening.{opening};
 ghost use Rattle.bounce_hub.specs.Seen.{AreCounts};
 
 use crate::pool::Pool;
 use busdma_base::{
-    Called, Grabbed, Grown, HoldEntry, HubCall, HubDoor, HubReply, LaneId, MapId, Page, PageList,
-    TagLimits, ZoneId, ZoneList,
+    Called, Grabbed, Grown, HoldEntry, HubCall, HubDoor, HubReply, LaneId, MapId, Pa, Page,
+    PageList, TagLimits, ZoneId, ZoneList,
 };
 use frame_bank::FrameBank;
 use std::alloc::{AllocError, Global};
@@ -38,9 +38,10 @@ impl Model for Hub {
 impl Hub {
     /// A hub of the free frames of a bank, with no zone and an empty history.
     pub fn new(alloc: Global, bank: FrameBank, max_bpages: u32, maxmem: u64) -> Hub
-        requires { IsOpening (opening bank max_bpages maxmem) }
         ensures { result ≡ record { opening = opening bank max_bpages maxmem; history = [] } }
     {
+        // For what is true of every bank: its frames rise.
+        let _ = bank.count_below(Pa(0));
         let pool = Pool::new(alloc, bank, max_bpages, maxmem);
         Hub {
             first: Snapshot::of(&pool),
