@@ -1,0 +1,12 @@
+-- How a map holds what contracts see of it.
+use Rattle.dma_map.specs.declared.map.Held.{Held}
+use Rattle.dma_map.specs.declared.map.Held.TheVariants.{Idle, Waiting, Loaded, Lent, Returning}
+use Rattle.dma_map.specs.MapView.{Stage, idle, waiting, loaded, lent, returning, frames_of}
+
+-- what it holds, by what is stored
+abbrev pub stage_of : {C : Type 0} → Held C → Stage C
+stage_of Idle = idle
+stage_of (Waiting at callback room) = waiting at callback room
+stage_of (Loaded load pages) = loaded load.bounced load.segments pages
+stage_of (Lent load pages) = lent load.bounced load.segments (frames_of pages.value.items)
+stage_of Returning = returning

@@ -1,0 +1,3 @@
+pub mod Callback
+pub mod Held
+pub mod MapView

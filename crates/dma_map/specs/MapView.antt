@@ -1,0 +1,95 @@
+-- What contracts see of a map.
+use Rattle.std.specs.Prelude.{ℕ, Bool, List, [], ◌∷◌, map, Option, Some, None}
+use Rattle.busdma_base.specs.declared.chunk.Chunk.{Chunk}
+use Rattle.busdma_base.specs.declared.address.Segment.{Segment}
+use Rattle.busdma_base.specs.declared.name.MapId.{MapId}
+use Rattle.busdma_base.specs.declared.name.ZoneId.{ZoneId}
+use Rattle.busdma_base.specs.Framed.{Framed}
+use Rattle.busdma_base.specs.PageLists.{Pages}
+use Rattle.dma_map.specs.declared.room.LoadRoom.{LoadRoom}
+use Rattle.dma_map.specs.declared.state.MapState.{MapState}
+use Rattle.dma_map.specs.declared.state.MapState.TheVariants.{Idle, Waiting, Loaded, Returning}
+
+-- what a map holds: nothing; the place of the load that waits, its callback and its room; the bounced chunks, segments
+-- and bounce pages of its load; the same with the frames of its pages while these are lent out; or nothing, while its
+-- pages are on their way back
+pub data Stage (C : Type 0) : Type 0 where
+  idle : Stage C
+  waiting : ℕ → C → LoadRoom → Stage C
+  loaded : List Chunk → List Segment → Pages → Stage C
+  lent : List Chunk → List Segment → List ℕ → Stage C
+  returning : Stage C
+
+-- a map by its name, the zone of its bounce pages, whether a load of it has called or stored a callback, and what it
+-- holds
+pub record MapView (C : Type 0) : Type 0 where
+  pub id : MapId
+  pub zone : Option ZoneId
+  pub tried : Bool
+  pub stage : Stage C
+
+-- the frames of pages, in order
+abbrev pub frames_of : List Framed → List ℕ
+frames_of pages = map (λ p. p.frame) pages
+
+-- where a map is left that gave these pages away to be released: there is something to come back, or there is not
+abbrev pub left_by : {C : Type 0} → List Framed → Stage C
+left_by [] = idle
+left_by (p ∷ ps) = returning
+
+module _ {C : Type 0} where
+  -- the state that a caller is told
+  abbrev pub state_of : Stage C → MapState
+  state_of idle = Idle
+  state_of (waiting at callback room) = Waiting
+  state_of (loaded bounced segments pages) = Loaded
+  state_of (lent bounced segments frames) = Loaded
+  state_of returning = Returning
+
+  -- the load that waits
+  abbrev pub waiting_load : Stage C → Option (ℕ × C × LoadRoom)
+  waiting_load idle = None
+  waiting_load (waiting at callback room) = Some (at, callback, room)
+  waiting_load (loaded bounced segments pages) = None
+  waiting_load (lent bounced segments frames) = None
+  waiting_load returning = None
+
+  -- the bounced chunks of a load that has its segments
+  abbrev pub chunks_of : Stage C → List Chunk
+  chunks_of idle = []
+  chunks_of (waiting at callback room) = []
+  chunks_of (loaded bounced segments pages) = bounced
+  chunks_of (lent bounced segments frames) = bounced
+  chunks_of returning = []
+
+  -- its segments
+  abbrev pub segments_of : Stage C → List Segment
+  segments_of idle = []
+  segments_of (waiting at callback room) = []
+  segments_of (loaded bounced segments pages) = segments
+  segments_of (lent bounced segments frames) = segments
+  segments_of returning = []
+
+  -- its bounce pages, where the map has them
+  abbrev pub pages_of : Stage C → Option Pages
+  pages_of idle = None
+  pages_of (waiting at callback room) = None
+  pages_of (loaded bounced segments pages) = Some pages
+  pages_of (lent bounced segments frames) = None
+  pages_of returning = None
+
+  -- the frames of its bounce pages, while these are lent out
+  abbrev pub lent_frames : Stage C → Option (List ℕ)
+  lent_frames idle = None
+  lent_frames (waiting at callback room) = None
+  lent_frames (loaded bounced segments pages) = None
+  lent_frames (lent bounced segments frames) = Some frames
+  lent_frames returning = None
+
+  -- the same load with these pages
+  abbrev pub with_pages : Pages → Stage C → Stage C
+  with_pages pages stage = loaded (chunks_of stage) (segments_of stage) pages
+
+  -- the same load while these pages are lent out
+  abbrev pub without_pages : List Framed → Stage C → Stage C
+  without_pages pages stage = lent (chunks_of stage) (segments_of stage) (frames_of pages)

@@ -1,0 +1,14 @@
+//! Maps of loads, and their callbacks: after bus_dma(9).
+#![tactic(auto)]
+
+mod callback;
+mod map;
+mod room;
+mod state;
+#[cfg(test)]
+mod tests;
+
+pub use callback::{Callback, LoadEnd, Transfers};
+pub use map::DmaMap;
+pub use room::LoadRoom;
+pub use state::MapState;

@@ -1,0 +1,241 @@
+//! A map: what a driver loads buffers with.
+
+ghost use Rattle.std.specs.Prelude.{◌≡◌, true, false, Some, None};
+ghost use Rattle.dma_map.specs.declared.state.MapState.TheVariants.{Idle, Waiting, Loaded, Returning};
+ghost use Rattle.dma_map.specs.MapView.{idle, waiting, loaded, state_of, waiting_load, chunks_of, segments_of, pages_of, lent_frames, frames_of, with_pages, without_pages, left_by};
+
+use crate::callback::Callback;
+use crate::room::LoadRoom;
+use crate::state::MapState;
+use busdma_base::{Chunk, ChunkList, MapId, PageList, Segment, SegmentList, ZoneId};
+use std::marker::Model;
+use std::mem;
+use std::snapshot::Snapshot;
+
+/// What a load left in its map beside its pages.
+#[derive(Drop)]
+struct Load {
+    bounced: ChunkList,
+    segments: SegmentList,
+}
+
+/// What a map holds in each of its states. While its pages are lent out, the map remembers them for
+/// contracts alone.
+#[derive(Drop)]
+enum Held<C> {
+    Idle,
+    Waiting {
+        load_at: u32,
+        callback: C,
+        room: LoadRoom,
+    },
+    Loaded {
+        load: Load,
+        pages: PageList,
+    },
+    Lent {
+        load: Load,
+        pages: Snapshot<PageList>,
+    },
+    Returning,
+}
+
+/// A map of a tag, with what its load left there: after bus_dmamap_create(9). No call takes memory.
+#[derive(Drop)]
+pub struct DmaMap<C: Callback> {
+    id: MapId,
+    zone: Option<ZoneId>,
+    tried: bool,
+    held: Held<C>,
+}
+
+impl<C: Callback> Model for DmaMap<C> {
+    ghost use Rattle.dma_map.specs.MapView.{MapView};
+
+    ghost Value = { MapView C };
+
+    ghost use Rattle.dma_map.specs.Held.{stage_of};
+
+    ghost view = { λ m. record {
+      id = m.id;
+      zone = m.zone;
+      tried = m.tried;
+      stage = stage_of m.held;
+    } };
+}
+
+impl<C: Callback> DmaMap<C> {
+    /// An idle map. `zone` is where its bounce pages come from, and None where its tag never
+    /// bounces.
+    pub fn new(id: MapId, zone: Option<ZoneId>) -> DmaMap<C>
+        ensures { result ≡ record { id = id; zone = zone; tried = false; stage = idle } }
+    {
+        DmaMap {
+            id,
+            zone,
+            tried: false,
+            held: Held::Idle,
+        }
+    }
+
+    /// The map's name.
+    pub fn id(&self) -> MapId
+        ensures { result ≡ self.now.id }
+    {
+        self.id
+    }
+
+    /// The zone of the map's bounce pages.
+    pub fn zone(&self) -> Option<ZoneId>
+        ensures { result ≡ self.now.zone }
+    {
+        self.zone
+    }
+
+    /// Where the map is. A map whose pages are lent out is Loaded.
+    pub fn state(&self) -> MapState
+        ensures { result ≡ state_of self.now.stage }
+    {
+        match &self.held {
+            Held::Idle => MapState::Idle,
+            Held::Waiting { .. } => MapState::Waiting,
+            Held::Loaded { .. } | Held::Lent { .. } => MapState::Loaded,
+            Held::Returning => MapState::Returning,
+        }
+    }
+
+    /// Whether a load of the map has called or stored a callback.
+    pub fn tried(&self) -> bool
+        ensures { result ≡ self.now.tried }
+    {
+        self.tried
+    }
+
+    /// Notes a load that ended in EINVAL or ENOMEM.
+    pub fn note_tried(&mut self)
+        requires { state_of self.old.stage ≡ Idle }
+        ensures { self.new ≡ record self.old { tried = true } }
+    {
+        self.tried = true;
+    }
+
+    /// Keeps the callback of a load that waits for bounce pages, with the place of the load in the
+    /// script and the room that its completion uses.
+    pub fn wait(&mut self, load_at: u32, callback: C, room: LoadRoom)
+        requires { state_of self.old.stage ≡ Idle }
+        ensures { self.new ≡ record self.old { tried = true; stage = waiting load_at callback room } }
+    {
+        self.tried = true;
+        self.held = Held::Waiting {
+            load_at,
+            callback,
+            room,
+        };
+    }
+
+    /// Takes the load that waits out of the map, with its callback.
+    pub fn take_waiting(&mut self) -> (u32, C, LoadRoom)
+        requires { state_of self.old.stage ≡ Waiting }
+        ensures taken { waiting_load self.old.stage ≡ Some result }
+        ensures idle { self.new ≡ record self.old { stage = idle } }
+    {
+        match mem::replace(&mut self.held, Held::Idle) {
+            Held::Waiting {
+                load_at,
+                callback,
+                room,
+            } => (load_at, callback, room),
+            _ => unreachable!(),
+        }
+    }
+
+    /// Stores what a load ended with: its bounced chunks, its segments and its bounce pages, each in
+    /// the order of the load's bytes. After EFBIG there are no segments, and `unload` gives the
+    /// pages back.
+    pub fn finish(&mut self, bounced: ChunkList, segments: SegmentList, pages: PageList)
+        requires { state_of self.old.stage ≡ Idle }
+        ensures { self.new ≡ record self.old { tried = true; stage = loaded bounced segments pages } }
+    {
+        self.tried = true;
+        self.held = Held::Loaded {
+            load: Load { bounced, segments },
+            pages,
+        };
+    }
+
+    /// The bounced chunks that `finish` stored; none where the map is not Loaded.
+    pub fn chunks(&self) -> &[Chunk]
+        ensures { result.now ≡ chunks_of self.now.stage }
+    {
+        match &self.held {
+            Held::Loaded { load, .. } | Held::Lent { load, .. } => load.bounced.as_slice(),
+            Held::Idle | Held::Waiting { .. } | Held::Returning => &[],
+        }
+    }
+
+    /// The segments that `finish` stored; none where the map is not Loaded.
+    pub fn segments(&self) -> &[Segment]
+        ensures { result.now ≡ segments_of self.now.stage }
+    {
+        match &self.held {
+            Held::Loaded { load, .. } | Held::Lent { load, .. } => load.segments.as_slice(),
+            Held::Idle | Held::Waiting { .. } | Held::Returning => &[],
+        }
+    }
+
+    /// Lends the bounce pages out, to be given back by `restore_pages`.
+    pub fn lend_pages(&mut self) -> PageList
+        requires loaded { state_of self.old.stage ≡ Loaded }
+        requires unlent { lent_frames self.old.stage ≡ None }
+        ensures pages { pages_of self.old.stage ≡ Some result }
+        ensures lent { self.new ≡ record self.old { stage = without_pages result.items self.old.stage } }
+    {
+        match mem::replace(&mut self.held, Held::Idle) {
+            Held::Loaded { load, pages } => {
+                self.held = Held::Lent {
+                    load,
+                    pages: Snapshot::of(&pages),
+                };
+                pages
+            }
+            _ => unreachable!(),
+        }
+    }
+
+    /// Takes the lent pages back: the same frames in the same order.
+    pub fn restore_pages(&mut self, pages: PageList)
+        requires { lent_frames self.old.stage ≡ Some (frames_of pages.items) }
+        ensures { self.new ≡ record self.old { stage = with_pages pages self.old.stage } }
+    {
+        match mem::replace(&mut self.held, Held::Idle) {
+            Held::Lent { load, pages: _ } => self.held = Held::Loaded { load, pages },
+            _ => unreachable!(),
+        }
+    }
+
+    /// Ends the load, and gives its bounce pages away to be released, in the order of `finish`.
+    pub fn unload(&mut self) -> PageList
+        requires loaded { state_of self.old.stage ≡ Loaded }
+        requires unlent { lent_frames self.old.stage ≡ None }
+        ensures pages { pages_of self.old.stage ≡ Some result }
+        ensures left { self.new ≡ record self.old { stage = left_by result.items } }
+    {
+        match mem::replace(&mut self.held, Held::Idle) {
+            Held::Loaded { load: _, pages } => {
+                if !pages.is_empty() {
+                    self.held = Held::Returning;
+                }
+                pages
+            }
+            _ => unreachable!(),
+        }
+    }
+
+    /// Notes that the last page was released.
+    pub fn returned(&mut self)
+        requires { state_of self.old.stage ≡ Returning }
+        ensures { self.new ≡ record self.old { stage = idle } }
+    {
+        self.held = Held::Idle;
+    }
+}
