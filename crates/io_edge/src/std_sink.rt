@@ -10,7 +10,7 @@ use std::marker::Model;
 
 /// Standard output, or another writer of std, as a sink. It holds what its writer has flushed, and
 /// tells of that what its writer tells, which is nothing at standard output. Where the writer took
-/// bytes and could not flush them, this and each later call fails.
+/// bytes and could not flush them, the call fails, and nothing is written after.
 #[derive(Drop)]
 pub struct StdSink<W: Write> {
     writer: W,
