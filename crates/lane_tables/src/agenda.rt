@@ -7,7 +7,7 @@ ghost use Rattle.busdma_base.specs.Script.{items_of};
 ghost use Rattle.lane_tables.specs.Queues.{item_count, queued, queue_names, queued_pages, has_page};
 
 use crate::queued::{QueuedItem, QueuedPage, Returned, item_names};
-use busdma_base::{Driver, ItemList, ListOf, MapId, Op, Page, ZoneId};
+use busdma_base::{Driver, ItemList, MapId, Op, PageList, ZoneId};
 use std::alloc::{AllocError, Global};
 use std::collections::VecDeque;
 use std::marker::Model;
@@ -89,9 +89,9 @@ fn push_all(queue: &mut VecDeque<QueuedItem>, load_at: u32, items: ItemList)
 }
 
 // Appends the pages of a map, in order.
-fn push_pages(queue: &mut VecDeque<QueuedPage>, map: MapId, zone: ZoneId, pages: ListOf<Page>)
-    requires { length queue.old.items + length pages ≤ deque_capacity queue.old }
-    ensures items { queue.new.items ≡ queue.old.items ++ queued_pages map zone pages }
+fn push_pages(queue: &mut VecDeque<QueuedPage>, map: MapId, zone: ZoneId, pages: PageList)
+    requires { length queue.old.items + length pages.items ≤ deque_capacity queue.old }
+    ensures items { queue.new.items ≡ queue.old.items ++ queued_pages map zone pages.items }
     ensures capacity { deque_capacity queue.new ≡ deque_capacity queue.old }
 {
     for page in pages.into_vec() {
@@ -205,11 +205,11 @@ impl Agenda {
     }
 
     /// Appends the pages of a map to the return queue, in order; they use as many promises.
-    pub fn push_returns(&mut self, map: MapId, zone: ZoneId, pages: ListOf<Page>)
-        requires { length pages ≤ self.old.promised }
+    pub fn push_returns(&mut self, map: MapId, zone: ZoneId, pages: PageList)
+        requires { length pages.items ≤ self.old.promised }
         ensures { self.new ≡ record self.old {
-          returns = self.old.returns ++ queued_pages map zone pages;
-          promised = self.old.promised - length pages;
+          returns = self.old.returns ++ queued_pages map zone pages.items;
+          promised = self.old.promised - length pages.items;
         } }
     {
         let promised = self.promised as usize - pages.len();

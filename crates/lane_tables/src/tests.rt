@@ -2,7 +2,7 @@ ghost use Rattle.std.specs.Prelude.{◌≡◌, ◌^◌, ◌<◌, length, IfOk};
 ghost use Rattle.busdma_base.specs.Script.{items_of};
 
 use crate::{Agenda, PlaceTable};
-use busdma_base::{Driver, Item, LaneId, ListOf, MapId, Op, Page, Place, Va, ZoneId};
+use busdma_base::{Driver, Item, LaneId, ListOf, MapId, Op, Page, PageList, Place, Va, ZoneId};
 use std::alloc::{AllocError, Global};
 use std::test::Fail;
 
@@ -77,11 +77,13 @@ fn items_leave_in_the_order_of_their_loads(rt: HostRuntime) -> Result<(), Fail> 
     Ok(())
 }
 
-fn page(alloc: Global, frame: u64) -> Result<ListOf<Page>, AllocError>
+fn page(alloc: Global, frame: u64) -> Result<PageList, AllocError>
     requires { frame < 2 ^ 30 }
-    ensures { IfOk result (λ pages. length pages ≡ 1) }
+    ensures { IfOk result (λ pages. length pages.items ≡ 1) }
 {
-    Ok(ListOf::new(vec![in alloc; Page::new(alloc, frame, 0)?]?))
+    let mut pages = PageList::with_room(alloc, 1)?;
+    pages.push_reserved(Page::new(alloc, frame, 0)?);
+    Ok(pages)
 }
 
 #[test]
