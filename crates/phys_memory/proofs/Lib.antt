@@ -2,6 +2,7 @@ pub mod Changes
 pub mod Extents
 pub mod FrameBytes
 pub mod Kept
+pub mod Loads
 pub mod Reached
 pub mod Streams
 pub mod Tables

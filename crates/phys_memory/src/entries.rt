@@ -30,6 +30,8 @@ impl LanePages {
             IfOk result (λ w. IfAll w (λ es. entries_addresses es ≡ pas)) }
         ensures entries { IfOk result (λ w. IfAll w (AllByRecursion IsEntry)) }
         ensures some { IfOk result (λ w. IfAll w (AllByRecursion HasPart)) }
+        ensures frames { let lies = LiesIn self.now.memory in
+            IfOk result (λ w. IfAll w (AllByRecursion (λ e. AllByRecursion lies e.parts))) }
     {
         self.walk_vector(alloc, &[Span { va, len }])
     }
@@ -51,16 +53,15 @@ impl LanePages {
         let mut entries = Vec::new(alloc);
         let mut offset = 0;
         for span in spans {
-            match self.translate(alloc, span.va, span.len)? {
+            let parts = match self.translate(alloc, span.va, span.len)? {
                 Walked::Unmapped(at) => return Ok(Entries::Unmapped(offset + at)),
-                Walked::Parts(parts) => {
-                    if !parts.is_empty() {
-                        entries.push(Entry {
-                            rounded: true,
-                            parts,
-                        })?;
-                    }
-                }
+                Walked::Parts(parts) => parts,
+            };
+            if !parts.is_empty() {
+                entries.push(Entry {
+                    rounded: true,
+                    parts,
+                })?;
             }
             offset += span.len;
         }

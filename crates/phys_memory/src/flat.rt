@@ -1,8 +1,8 @@
 //! The parts of virtual bytes.
 
 ghost use Rattle.std.specs.Prelude.{◌≡◌, ℕ, ◌+◌, ◌-◌, ◌*◌, ◌/◌, ◌%◌, ◌^◌, ◌<◌, ◌≤◌, IfSome, IfNone, None, Some, true, []};
-ghost use Rattle.std.specs.Iterator.{YieldsFirst, item_count};
-ghost use Rattle.busdma_base.specs.Entry.{parts_of};
+ghost use Rattle.std.specs.Iterator.{HoldsAlong, YieldsFirst, item_count};
+ghost use Rattle.busdma_base.specs.Entry.{IsStream, parts_of};
 ghost use Rattle.phys_memory.specs.Memory.{IsMemory, IsRow, physical, row_at};
 ghost use Rattle.phys_memory.specs.Extents.{IsNext, reached};
 ghost use Rattle.phys_memory.specs.Walk.{flat, flat_at, run_stream};
@@ -85,6 +85,10 @@ impl LanePages {
         ensures vector { result ≡ vector self.now.memory (one_span va.0 len) }
         ensures walk { IfAll (vector_walk self.now.memory (one_span va.0 len)) (λ es. result ≡ parts_of es) }
         ensures sound { IsMemory self.now.memory }
+
+        // Up to 2^20 bytes are the stream of a load, and so is each front of it.
+        ensures stream { len ≤ 2 ^ 20 → IsStream result }
+        ensures along { len ≤ 2 ^ 20 → HoldsAlong (YieldsFirst (λ ps. ps)) result IsStream }
     {
         self.parts_at(va, len, 0)
     }

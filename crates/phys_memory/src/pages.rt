@@ -102,7 +102,6 @@ impl LanePages {
 
     /// Takes the page at a virtual address out, with the bytes that it holds.
     pub fn remove(&mut self, va: Va) -> Option<Page>
-        requires { va.0 % 4096 ≡ 0 }
         ensures page { result ≡ page_at self.old.memory va.0 }
         ensures memory { self.new.memory ≡ without_page self.old.memory va.0 }
         ensures spare { self.old.spare ≤ self.new.spare }

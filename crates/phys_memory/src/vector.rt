@@ -1,8 +1,8 @@
 //! The parts of vectors.
 
-ghost use Rattle.std.specs.Prelude.{◌≡◌, ℕ, ◌+◌, ◌^◌, ◌<◌, List};
-ghost use Rattle.std.specs.Iterator.{YieldsFirst, item_count};
-ghost use Rattle.busdma_base.specs.Entry.{parts_of};
+ghost use Rattle.std.specs.Prelude.{◌≡◌, ℕ, ◌+◌, ◌^◌, ◌<◌, ◌≤◌, List};
+ghost use Rattle.std.specs.Iterator.{HoldsAlong, YieldsFirst, item_count};
+ghost use Rattle.busdma_base.specs.Entry.{IsStream, parts_of};
 ghost use Rattle.busdma_base.specs.Spans.{span_bytes};
 ghost use Rattle.phys_memory.specs.Memory.{IsMemory};
 ghost use Rattle.phys_memory.specs.Vector.{IfAll, then_parts, vector, vector_at, vector_walk};
@@ -67,6 +67,10 @@ impl LanePages {
         ensures parts { result ≡ vector self.now.memory spans.now }
         ensures walk { IfAll (vector_walk self.now.memory spans.now) (λ es. result ≡ parts_of es) }
         ensures sound { IsMemory self.now.memory }
+
+        // Up to 2^20 bytes are the stream of a load, and so is each front of it.
+        ensures stream { span_bytes spans.now ≤ 2 ^ 20 → IsStream result }
+        ensures along { span_bytes spans.now ≤ 2 ^ 20 → HoldsAlong (YieldsFirst (λ ps. ps)) result IsStream }
     {
         VectorParts {
             memory: self,

@@ -1,7 +1,8 @@
-use Rattle.std.proofs.Common.{◌≡◌, List, sym, ◌∙◌, subst}
+use Rattle.std.proofs.Common.{◌≡◌, List, sym, ◌∙◌, subst, arith}
 use Rattle.busdma_base.specs.declared.chunk.Part.{Part}
-use Rattle.busdma_base.specs.Entry.{parts_of}
+use Rattle.busdma_base.specs.Entry.{IsStream, parts_of}
 use Rattle.phys_memory.specs.Vector.{IfAll, one_span, vector_walk}
+use Rattle.phys_memory.proofs.Loads.{along_loads, one_bytes, vector_loads}
 use Rattle.phys_memory.proofs.Vectors.{vector_one, walk_stream}
 use Rattle.phys_memory.proofs.pages.LanePages.parts_flat.Goals as goal
 
@@ -14,3 +15,16 @@ returns-clause-walk c =
     let spans = one_span c.args.va.0 c.args.len in
     let is = c.parts_at.ensures.parts ∙ sym (vector_one m c.args.va.0 c.args.len) in
     subst (λ (ps : List Part). IfAll (vector_walk m spans) (λ es. ps ≡ parts_of es)) (sym is) (walk_stream m spans)
+
+pub returns-clause-stream : goal.returns-clause-stream
+returns-clause-stream c = λ small.
+    let m = c.args.self.now.memory in
+    let is = c.parts_at.ensures.parts ∙ sym (vector_one m c.args.va.0 c.args.len) in
+    subst IsStream (sym is) (vector_loads m c.parts_at.ensures.sound (one_span c.args.va.0 c.args.len) (omega (arith, small, one_bytes c.args.va.0 c.args.len)))
+
+pub returns-clause-along : goal.returns-clause-along
+returns-clause-along c = λ small.
+    let m = c.args.self.now.memory in
+    let is = c.parts_at.ensures.parts ∙ sym (vector_one m c.args.va.0 c.args.len) in
+    let whole = subst IsStream (sym is) (vector_loads m c.parts_at.ensures.sound (one_span c.args.va.0 c.args.len) (omega (arith, small, one_bytes c.args.va.0 c.args.len))) in
+    along_loads c.parts_at.result whole

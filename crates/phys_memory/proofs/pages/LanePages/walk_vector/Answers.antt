@@ -4,7 +4,7 @@ use Rattle.busdma_base.specs.declared.chunk.Entry.{Entry}
 use Rattle.phys_memory.specs.declared.walk.Walked.TheVariants.{Parts}
 use Rattle.phys_memory.specs.Memory.{Roomy, IsMemory}
 use Rattle.phys_memory.proofs.Vectors.{bytes_here, missed_inside, past_entry, past_none, stopped, this, walk_bytes, walk_end, walk_entries, walk_frames, walk_from, walk_here, walk_touches}
-use Rattle.phys_memory.proofs.pages.LanePages.walk_vector.Goals.{then-not-is_empty+in_ok-push-in-Parts, else-not-is_empty}
+use Rattle.phys_memory.proofs.pages.LanePages.walk_vector.Goals.{then-not-is_empty+in_ok-push, else-not-is_empty}
 use Rattle.phys_memory.proofs.pages.LanePages.walk_vector.Goals as goal
 
 -- what an index past the end stands for
@@ -40,7 +40,7 @@ loop-span-preserved c =
     record {
       total = omega (arith, bytes, l.invariant.total);
       walk = elim c.if-not-is_empty.branch [
-        | then-not-is_empty+in_ok-push-in-Parts w ↦ ap (λ es. walk_from m es (l.offset + s.len) rest) (ap (λ (v : Vec Entry Global). v.items) w.entries-is ∙ w.in_ok-push-in-Parts.ensures.items)
+        | then-not-is_empty+in_ok-push w ↦ ap (λ es. walk_from m es (l.offset + s.len) rest) (ap (λ (v : Vec Entry Global). v.items) w.entries-is ∙ w.in_ok-push.ensures.items)
             ∙ sym (past_entry m l.entries.items l.offset s rest c.in-Parts.parts found w.if-not-is_empty.ensures.1) ∙ before
         | else-not-is_empty w ↦ ap (λ (v : Vec Entry Global). walk_from m v.items (l.offset + s.len) rest) w.entries-is
             ∙ sym (past_none m l.entries.items l.offset s rest (ap Parts (sym (w.if-not-is_empty.ensures.0 refl)) ∙ found)) ∙ before

@@ -1,0 +1,169 @@
+-- The streams of walks as streams of loads.
+use Rattle.std.proofs.Common.{◌≡◌, ℕ, ◌+◌, ◌<◌, ◌≤◌, ◌^◌, Bool, true, false, List, [], ◌∷◌, ◌++◌, length, refl, ap, sym, ◌∙◌, subst, arith, append_assoc, append-nil, length-append}
+use Rattle.std.specs.Prelude.{nat_eq, if◌then◌else◌}
+use Rattle.std.specs.Iterator.{Yields, YieldsFirst, HoldsAlong}
+use Rattle.std.specs.List.{AllByRecursion}
+use Rattle.std.proofs.lemmas.List.Sums.{sum_by-cons, sum_by-append}
+use Rattle.busdma_base.specs.declared.address.Extent.{Extent}
+use Rattle.busdma_base.specs.declared.address.Span.{Span}
+use Rattle.busdma_base.specs.declared.chunk.Entry.{Entry}
+use Rattle.busdma_base.specs.declared.chunk.Part.{Part}
+use Rattle.busdma_base.specs.declared.chunk.Part.TheVariants.{Of, Unmapped}
+use Rattle.busdma_base.specs.declared.report.Judged.{Judged}
+use Rattle.busdma_base.specs.declared.report.Judged.TheVariants.{Fine, Refused}
+use Rattle.busdma_base.specs.Entry.{AreJoined, HasPart, IsEntry, IsStream, entries_bytes, entries_of, entry_parts, extent_parts, others_of, parts_of}
+use Rattle.busdma_base.specs.Runs.{IsExtent, addresses, byte_count, run_of}
+use Rattle.busdma_base.specs.Spans.{span_bytes}
+use Rattle.phys_memory.specs.Memory.{Memory, IsMemory}
+use Rattle.phys_memory.specs.Extents.{extents_of, reached}
+use Rattle.phys_memory.specs.Vector.{ending, judged_spans, one_span, vector, with_entry}
+use Rattle.phys_memory.specs.Vector.{entries_of as walk_entries}
+use Rattle.phys_memory.proofs.Extents.{length-run_of, reached_extents}
+use Rattle.phys_memory.proofs.Vectors.{entries_are, entries_touch, length-reached}
+
+-- ---- the entries of a stream of entries
+
+others_behind : (r : Bool) (es : List Extent) (ps : List Part) → others_of (extent_parts false r es ++ ps) ≡ es ++ others_of ps
+others_behind r [] ps = refl
+others_behind r (e ∷ es) ps = ap (λ xs. e ∷ xs) (others_behind r es ps)
+
+entries_behind : (r : Bool) (es : List Extent) (ps : List Part) → entries_of (extent_parts false r es ++ ps) ≡ entries_of ps
+entries_behind r [] ps = refl
+entries_behind r (e ∷ es) ps = entries_behind r es ps
+
+-- the entries of a stream whose first entry has these parts
+entry_first : (r : Bool) (es : List Extent) (ps : List Part) → 0 < length es → others_of ps ≡ [] → entries_of (extent_parts true r es ++ ps) ≡ record { rounded = r; parts = es } ∷ entries_of ps
+entry_first r [] ps some h = absurd (omega arith)
+entry_first r (e ∷ es) ps some h =
+    ap (λ xs. record { rounded = r; parts = e ∷ xs } ∷ entries_of (extent_parts false r es ++ ps)) (others_behind r es ps ∙ ap (λ xs. es ++ xs) h ∙ append-nil es)
+    ∙ ap (λ xs. record { rounded = r; parts = e ∷ es } ∷ xs) (entries_behind r es ps)
+
+-- nothing of an entry stands before the first that opens
+opens_first : (r : Bool) (es : List Extent) (ps : List Part) → 0 < length es → others_of (extent_parts true r es ++ ps) ≡ []
+opens_first r [] ps some = absurd (omega arith)
+opens_first r (e ∷ es) ps some = refl
+
+-- the stream of entries, and then parts that have none
+module _ (last : List Part) (none : others_of last ≡ []) (end : entries_of last ≡ []) where
+  no_others : (es : List Entry) → AllByRecursion HasPart es → others_of (parts_of es ++ last) ≡ []
+  no_others [] h = none
+  no_others (e ∷ es) h =
+      ap others_of (append_assoc (entry_parts e) (parts_of es) last) ∙ opens_first e.rounded e.parts (parts_of es ++ last) h.0
+
+  same_entries : (es : List Entry) → AllByRecursion HasPart es → entries_of (parts_of es ++ last) ≡ es
+  same_entries [] h = end
+  same_entries (e ∷ es) h =
+      ap entries_of (append_assoc (entry_parts e) (parts_of es) last)
+      ∙ entry_first e.rounded e.parts (parts_of es ++ last) h.0 (no_others es h.1) ∙ ap (λ xs. e ∷ xs) (same_entries es h.1)
+
+no_last_others : (j : Judged) → others_of (ending j) ≡ []
+no_last_others Fine = refl
+no_last_others (Refused r) = refl
+
+no_last_entries : (j : Judged) → entries_of (ending j) ≡ []
+no_last_entries Fine = refl
+no_last_entries (Refused r) = refl
+
+-- ---- bytes
+
+count_addresses : (es : List Extent) → length (addresses es) ≡ byte_count es
+count_addresses [] = refl
+count_addresses (e ∷ es) =
+    omega (arith, length-append (run_of e.pa.0 e.len) (addresses es), length-run_of e.pa.0 e.len, count_addresses es, sum_by-cons (λ (x : Extent). x.len) e es)
+
+entry_bytes : (pas : List ℕ) (es : List Entry) → addresses (extents_of pas) ≡ pas → entries_bytes (with_entry pas es) ≡ length pas + entries_bytes es
+entry_bytes [] es h = omega arith
+entry_bytes (pa ∷ pas) es h =
+    let own = extents_of (pa ∷ pas) in
+    omega (arith, count_addresses own, ap length h, sum_by-cons (λ (x : Entry). byte_count x.parts) (record { rounded = true; parts = own }) es)
+
+module _ (m : Memory) (is : IsMemory m) where
+  -- a walk has no more bytes than its spans
+  walk_bytes : (ss : List Span) → entries_bytes (walk_entries m ss) ≤ span_bytes ss
+  walk_bytes [] = omega arith
+  walk_bytes (s ∷ ss) =
+      let pas = reached m s.va.0 s.len in
+      let others = if nat_eq (length pas) s.len then walk_entries m ss else [] in
+      let few = elim (nat_eq (length pas) s.len) as (λ b. entries_bytes (if b then walk_entries m ss else []) ≤ span_bytes ss) [ true ↦ walk_bytes ss | false ↦ omega arith ] in
+      omega (arith, entry_bytes pas others (reached_extents m s.va.0 s.len is).bytes, few, length-reached m s.va.0 s.len, sum_by-cons (λ (x : Span). x.len) s ss)
+
+  -- the stream of spans of at most 2^20 bytes is that of a load
+  pub vector_loads : (ss : List Span) → span_bytes ss ≤ 2 ^ 20 → IsStream (vector m ss)
+  vector_loads ss small =
+      let last = judged_spans m 0 ss in
+      let touch = entries_touch m is ss in
+      let none = no_last_others last in
+      let end = no_last_entries last in
+      let same = same_entries (ending last) none end (walk_entries m ss) touch in
+      record {
+        opens = no_others (ending last) none end (walk_entries m ss) touch;
+        entries = subst (AllByRecursion IsEntry) (sym same) (entries_are m is ss);
+        bytes = omega (arith, ap entries_bytes same, walk_bytes ss, small);
+      }
+
+pub one_bytes : (va n : ℕ) → span_bytes (one_span va n) ≡ n
+one_bytes va n = omega (arith, sum_by-cons (λ (x : Span). x.len) (record { va = record { 0 = va }; len = n }) [])
+
+-- ---- fronts
+
+others_front : (xs ys : List Part) → (rest : List Extent) × (others_of (xs ++ ys) ≡ others_of xs ++ rest)
+others_front [] ys = (others_of ys, refl)
+others_front (Of e true r ∷ xs) ys = ([], refl)
+others_front (Of e false r ∷ xs) ys = let f = others_front xs ys in (f.0, ap (λ es. e ∷ es) f.1)
+others_front (Unmapped n ∷ xs) ys = others_front xs ys
+
+no_extents : (es rest : List Extent) → es ++ rest ≡ [] → es ≡ []
+no_extents [] rest h = refl
+no_extents (e ∷ es) rest h = absurd (cc)
+
+first_extents : (es rest : List Extent) → AllByRecursion IsExtent (es ++ rest) → AllByRecursion IsExtent es
+first_extents [] rest h = tt
+first_extents (e ∷ es) rest h = (h.0, first_extents es rest h.1)
+
+joined_front : (es rest : List Extent) → AreJoined (es ++ rest) → AreJoined es
+joined_front [] rest h = tt
+joined_front (e ∷ []) rest h = tt
+joined_front (e ∷ f ∷ es) rest h = (h.0, h.1, joined_front (f ∷ es) rest h.2)
+
+entries_front : (xs ys : List Part) → AllByRecursion IsEntry (entries_of (xs ++ ys)) → AllByRecursion IsEntry (entries_of xs)
+entries_front [] ys h = tt
+entries_front (Of e true r ∷ xs) ys h =
+    let f = others_front xs ys in
+    let extents = subst (λ es. AllByRecursion IsExtent (e ∷ es)) f.1 h.0.extents in
+    let joined = subst (λ es. AreJoined (e ∷ es)) f.1 h.0.joined in
+    (record { extents = first_extents (e ∷ others_of xs) f.0 extents; joined = joined_front (e ∷ others_of xs) f.0 joined }, entries_front xs ys h.1)
+entries_front (Of e false r ∷ xs) ys h = entries_front xs ys h
+entries_front (Unmapped n ∷ xs) ys h = entries_front xs ys h
+
+bytes_front : (xs ys : List Part) → entries_bytes (entries_of xs) ≤ entries_bytes (entries_of (xs ++ ys))
+bytes_front [] ys = omega arith
+bytes_front (Of e true r ∷ xs) ys =
+    let f = others_front xs ys in
+    let here : Entry = record { rounded = r; parts = e ∷ others_of xs } in
+    let there : Entry = record { rounded = r; parts = e ∷ others_of (xs ++ ys) } in
+    omega (
+      arith,
+      sum_by-cons (λ (x : Entry). byte_count x.parts) here (entries_of xs),
+      sum_by-cons (λ (x : Entry). byte_count x.parts) there (entries_of (xs ++ ys)),
+      ap (λ es. byte_count (e ∷ es)) f.1,
+      sum_by-append (λ (x : Extent). x.len) (e ∷ others_of xs) f.0,
+      bytes_front xs ys,
+    )
+bytes_front (Of e false r ∷ xs) ys = bytes_front xs ys
+bytes_front (Unmapped n ∷ xs) ys = bytes_front xs ys
+
+-- a front of the stream of a load is one too
+front_loads : (xs ys : List Part) → IsStream (xs ++ ys) → IsStream xs
+front_loads xs ys h =
+    let f = others_front xs ys in
+    let small = h.bytes in
+    record { opens = no_extents (others_of xs) f.0 (sym f.1 ∙ h.opens); entries = entries_front xs ys h.entries; bytes = omega (arith, bytes_front xs ys, small) }
+
+-- what a stream has given, and then what is left, is the stream
+given_first : (ps xs rest : List Part) → Yields (YieldsFirst (λ (qs : List Part). qs)) ps xs rest → ps ≡ xs ++ rest
+given_first ps [] rest y = y
+given_first ps (x ∷ xs) rest y = y.1 ∙ ap (λ ys. x ∷ ys) (given_first y.0 xs rest y.2)
+
+-- what a stream of a load gives is such a stream at each point
+pub along_loads : (ps : List Part) → IsStream ps → HoldsAlong (YieldsFirst (λ (qs : List Part). qs)) ps IsStream
+along_loads ps h xs rest y = front_loads xs rest (subst IsStream (given_first ps xs rest y) h)
