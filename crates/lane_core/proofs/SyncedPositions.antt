@@ -26,14 +26,14 @@ asked true o e h = h
 asked false o e h = absurd (cc)
 
 module _ (loans : Loans) (m ops : ℕ) (p : Position) (fine : sync_refusal loans m ops p ≡ None) where
+  pub postread_part : postread ops ≡ true → postread_refusal p ≡ None
+  postread_part e = asked (postread ops) _ e (no_refusal _ _ fine).0
+
   pub prewrite_part : prewrite ops ≡ true → prewrite_refusal loans m p ≡ None
-  prewrite_part e = asked (prewrite ops) _ e (no_refusal _ _ fine).0
+  prewrite_part e = asked (prewrite ops) _ e (no_refusal _ _ (no_refusal _ _ fine).1).0
 
   pub preread_part : preread ops ≡ true → preread_refusal loans m p ≡ None
-  preread_part e = asked (preread ops) _ e (no_refusal _ _ (no_refusal _ _ fine).1).0
-
-  pub postread_part : postread ops ≡ true → postread_refusal p ≡ None
-  postread_part e = asked (postread ops) _ e (no_refusal _ _ (no_refusal _ _ fine).1).1
+  preread_part e = asked (preread ops) _ e (no_refusal _ _ (no_refusal _ _ fine).1).1
 
 pub prewrite_passes : (b c : Bool) (x y : ReportName) → cond b (Some x) (cond c (Some y) None) ≡ None → (b ≡ false) × (c ≡ false)
 prewrite_passes true c x y h = absurd (cc)

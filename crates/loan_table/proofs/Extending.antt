@@ -1,5 +1,5 @@
 -- Extents to which one byte after another is added.
-use Rattle.std.proofs.Common.{◌≡◌, ℕ, ◌+◌, ◌<◌, ◌≤◌, ◌^◌, Bool, List, [], ◌∷◌, ◌++◌, length, drop, refl, sym, ap, ◌∙◌, append_assoc, append-nil, add-one, arith}
+use Rattle.std.proofs.Common.{◌≡◌, ℕ, ◌+◌, ◌-◌, ◌%◌, ◌<◌, ◌≤◌, ◌^◌, Bool, true, false, cond, List, [], ◌∷◌, ◌++◌, length, drop, refl, sym, ap, ◌∙◌, append_assoc, append-nil, add-one, arith}
 use Rattle.std.specs.List.{All, AllByRecursion}
 use Rattle.std.specs.Ordering.{nat_cmp}
 use Rattle.std.specs.FinMap.{FinMap}
@@ -12,7 +12,7 @@ use Rattle.loan_table.specs.declared.position.Position.{Position}
 use Rattle.loan_table.specs.Kept.{AreLow}
 use Rattle.loan_table.specs.Lending.{range_of}
 use Rattle.loan_table.specs.Loans.{addresses_of}
-use Rattle.loan_table.specs.Table.{AreIn}
+use Rattle.loan_table.specs.Table.{AreIn, is_next, more_extents, extent_count}
 use Rattle.loan_table.proofs.Addresses.{run_of-push}
 use Rattle.loan_table.proofs.Judgement.{length-run_of}
 
@@ -51,3 +51,39 @@ length-addresses (e ∷ es) = length-append (run_of e.pa.0 e.len) (addresses es)
 
 pub length-range : (off len : ℕ) (ps : List Position) → off + len ≤ length ps → length (addresses_of (range_of off len ps)) ≡ len
 length-range off len ps h = rw length-map (length-take len (drop off ps) ∙ (omega (arith, length-drop off ps)))
+
+next_place : (before a : ℕ) → is_next before a ≡ true → (a ≡ before + 1) × (0 < a % 4096)
+next_place before a h = grind arith
+
+-- a byte comes right behind a run, in the same frame
+module _ (at n a : ℕ) (some : 0 < n) (next : is_next (at + n - 1) a ≡ true) where
+  pub next_is : a ≡ at + n
+  next_is = omega (arith, some, (next_place _ a next).0)
+
+  pub next_fits : at % 4096 + n ≤ 4096 → at % 4096 + n < 4096
+  next_fits h = omega (arith, h, some, (next_place _ a next).0, (next_place _ a next).1)
+
+-- how many extents there are: at the first byte, where a byte joins the last extent or begins another, and where none is left
+pub count_first : (es : List Extent) (at n a : ℕ) (keys tail : List ℕ) → es ≡ [] → at + n ≡ a + 1 → keys ≡ a ∷ tail → length es + (1 + more_extents (at + n - 1) tail) ≡ extent_count keys
+count_first es at n a keys tail none one e =
+    let last : at + n - 1 ≡ a = omega (arith, one) in
+    rw (none, e, last) (omega arith)
+
+pub count_joins : (count at n a : ℕ) (keys tail : List ℕ) (all : ℕ) → keys ≡ a ∷ tail → 0 < n → is_next (at + n - 1) a ≡ true → count + (1 + more_extents (at + n - 1) keys) ≡ all → count + (1 + more_extents (at + (n + 1) - 1) tail) ≡ all
+count_joins count at n a keys tail all e some next h =
+    let last : at + (n + 1) - 1 ≡ a = omega (arith, some, (next_place _ a next).0) in
+    let more : more_extents (at + n - 1) keys ≡ 0 + more_extents a tail = ap (more_extents (at + n - 1)) e ∙ ap (λ b. cond b 0 1 + more_extents a tail) next in
+    ap (λ k. count + (1 + more_extents k tail)) last ∙ (omega (arith, more, h))
+
+pub count_begins : (es new : List Extent) (run next : Extent) (a : ℕ) (keys tail : List ℕ) (all : ℕ) → new ≡ es ++ run ∷ [] → next.pa.0 + next.len ≡ a + 1 → keys ≡ a ∷ tail → is_next (run.pa.0 + run.len - 1) a ≡ false → length es + (1 + more_extents (run.pa.0 + run.len - 1) keys) ≡ all → length new + (1 + more_extents (next.pa.0 + next.len - 1) tail) ≡ all
+count_begins es new run next a keys tail all pushed one e apart h =
+    let last : next.pa.0 + next.len - 1 ≡ a = omega (arith, one) in
+    let longer : length new ≡ length es + 1 = ap length pushed ∙ length-append es (run ∷ []) in
+    let more : more_extents (run.pa.0 + run.len - 1) keys ≡ 1 + more_extents a tail = ap (more_extents (run.pa.0 + run.len - 1)) e ∙ ap (λ b. cond b 0 1 + more_extents a tail) apart in
+    ap (λ k. length new + (1 + more_extents k tail)) last ∙ (omega (arith, longer, more, h))
+
+pub count_ends : (es new : List Extent) (run : Extent) (last : ℕ) (rest : List ℕ) (all : ℕ) → new ≡ es ++ run ∷ [] → rest ≡ [] → length es + (1 + more_extents last rest) ≡ all → length new ≡ all
+count_ends es new run last rest all pushed none h =
+    let longer : length new ≡ length es + 1 = ap length pushed ∙ length-append es (run ∷ []) in
+    let more : more_extents last rest ≡ 0 = ap (more_extents last) none in
+    omega (arith, longer, more, h)

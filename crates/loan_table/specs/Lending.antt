@@ -28,11 +28,12 @@ preread_refusal loans m p =
 abbrev pub postread_refusal : Position → Option ReportName
 postread_refusal p = if p.to_write then None else Some SyncOrder
 
--- what a call meets at a position; SyncOrder stands before Overlap
+-- what a call meets at a position: SyncOrder stands before Overlap for every set of operations, since
+-- POSTREAD meets no Overlap, PREREAD no SyncOrder, and PREWRITE meets SyncOrder where POSTREAD does not
 abbrev pub sync_refusal : Loans → ℕ → ℕ → Position → Option ReportName
 sync_refusal loans m ops p =
-    option_or (if prewrite ops then prewrite_refusal loans m p else None)
-    (option_or (if preread ops then preread_refusal loans m p else None) (if postread ops then postread_refusal p else None))
+    option_or (if postread ops then postread_refusal p else None)
+    (option_or (if prewrite ops then prewrite_refusal loans m p else None) (if preread ops then preread_refusal loans m p else None))
 
 -- the positions from off to off + len - 1
 abbrev pub range_of : ℕ → ℕ → List Position → List Position

@@ -1,5 +1,5 @@
 -- A table of Known marks and loans, and what its calls make of it.
-use Rattle.std.specs.Prelude.{◌≡◌, ℕ, ◌+◌, Bool, false, ◌||◌, List, [], ◌∷◌, ◌==◌, if◌then◌else◌, unwrap_or, IsSome, IsNone, ⊤}
+use Rattle.std.specs.Prelude.{◌≡◌, ℕ, ◌+◌, ◌%◌, Bool, false, ◌&&◌, ◌||◌, not, List, [], ◌∷◌, ◌==◌, if◌then◌else◌, unwrap_or, IsSome, IsNone, ⊤}
 use Rattle.std.specs.List.{All}
 use Rattle.std.specs.Ordering.{nat_cmp}
 use Rattle.std.specs.FinMap.{FinMap, get, insert, remove}
@@ -85,12 +85,16 @@ abbrev pub OnRefused : Judged → Type 0 → Type 0
 OnRefused Fine P = ⊤
 OnRefused (Refused r) P = P
 
--- how many runs of addresses that rise by one a list has, behind an address
-abbrev pub more_runs : ℕ → List ℕ → ℕ
-more_runs before [] = 0
-more_runs before (a ∷ rest) = (if a == before + 1 then 0 else 1) + more_runs a rest
+-- a byte comes right behind another, in the same frame
+abbrev pub is_next : ℕ → ℕ → Bool
+is_next before a = (a == before + 1) && not (a % 4096 == 0)
 
--- how many extents at the most hold bytes: their runs of addresses that rise by one
+-- how many extents of bytes begin behind a byte
+abbrev pub more_extents : ℕ → List ℕ → ℕ
+more_extents before [] = 0
+more_extents before (a ∷ rest) = (if is_next before a then 0 else 1) + more_extents a rest
+
+-- how many extents hold bytes, in order; each is as long as it can be in its frame
 abbrev pub extent_count : List ℕ → ℕ
 extent_count [] = 0
-extent_count (a ∷ rest) = 1 + more_runs a rest
+extent_count (a ∷ rest) = 1 + more_extents a rest

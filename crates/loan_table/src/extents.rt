@@ -1,10 +1,10 @@
 //! The extents that hold positions.
 
-ghost use Rattle.std.specs.Prelude.{◌≡◌, ◌+◌, ◌*◌, ◌%◌, ◌<◌, ◌≤◌, ◌^◌, length, ◌↔◌, ◌++◌, [], ◌∷◌, IfOk, IsTrue};
+ghost use Rattle.std.specs.Prelude.{◌≡◌, ◌+◌, ◌-◌, ◌<◌, ◌≤◌, ◌^◌, length, [], ◌∷◌, IfOk};
 ghost use Rattle.std.specs.List.{All};
 ghost use Rattle.busdma_base.specs.Runs.{addresses, IsExtent, run_of};
 ghost use Rattle.loan_table.specs.Loans.{addresses_of};
-ghost use Rattle.loan_table.specs.Table.{extent_count, more_runs};
+ghost use Rattle.loan_table.specs.Table.{extent_count, is_next, more_extents};
 
 use crate::position::Position;
 use busdma_base::{Extent, Pa};
@@ -16,6 +16,7 @@ pub fn extents_of(alloc: Global, positions: &[Position]) -> Result<Vec<Extent>, 
     requires { All (λ p. p.pa < 2 ^ 42) positions.now }
     ensures bytes { IfOk result (λ list. addresses list.items ≡ addresses_of positions.now) }
     ensures extents { IfOk result (λ list. All IsExtent list.items) }
+    ensures count { IfOk result (λ list. length list.items ≡ extent_count (addresses_of positions.now)) }
 {
     let mut extents = Vec::new(alloc);
     let Some((first, rest)) = positions.split_first() else {
@@ -23,7 +24,7 @@ pub fn extents_of(alloc: Global, positions: &[Position]) -> Result<Vec<Extent>, 
     };
     let mut run = byte(first.pa);
     for position in rest {
-        if is_next(&run, position.pa) {
+        if is_next(last_of(&run), position.pa) {
             run.len += 1;
         } else {
             extents.push(run)?;
@@ -39,38 +40,45 @@ fn byte(pa: u64) -> Extent
     requires { pa < 2 ^ 42 }
     ensures bytes { run_of result.pa.0 result.len ≡ pa ∷ [] }
     ensures extent { IsExtent result }
+    ensures last { result.pa.0 + result.len ≡ pa + 1 }
 {
     Extent { pa: Pa(pa), len: 1 }
 }
 
-/// Whether a byte comes right behind a run, in the same frame.
-fn is_next(run: &Extent, pa: u64) -> bool
+/// The last byte of an extent.
+fn last_of(run: &Extent) -> u64
     requires { IsExtent run.now }
-    ensures { IsTrue result
-        ↔ ((pa ≡ run.now.pa.0 + run.now.len) × (run.now.pa.0 % 4096 + run.now.len < 4096)) }
+    ensures { result ≡ run.now.pa.0 + run.now.len - 1 }
 {
-    pa == run.pa.0 + run.len && run.pa.0 % 4096 + run.len < 4096
+    run.pa.0 + run.len - 1
 }
 
-/// How many extents at the most hold the bytes of positions, where an extent may leave its frame.
+/// Whether a byte comes right behind another, in the same frame.
+fn is_next(before: u64, pa: u64) -> bool
+    ensures { result ≡ is_next before pa }
+{
+    pa > before && pa - before == 1 && pa % 4096 != 0
+}
+
+/// How many extents hold the bytes of positions, in order.
 pub fn extent_count(positions: &[Position]) -> u64
     ensures { result ≡ extent_count (addresses_of positions.now) }
 {
     match positions.split_first() {
-        Some((first, rest)) => 1 + more_runs(first.pa, rest),
+        Some((first, rest)) => 1 + more_extents(first.pa, rest),
         None => 0,
     }
 }
 
-/// How many runs of bytes begin at these positions, behind a byte.
-fn more_runs(before: u64, positions: &[Position]) -> u64
-    ensures is { result ≡ more_runs before (addresses_of positions.now) }
+/// How many extents begin at these positions, behind a byte.
+fn more_extents(before: u64, positions: &[Position]) -> u64
+    ensures is { result ≡ more_extents before (addresses_of positions.now) }
     ensures small { result ≤ length positions.now }
 {
     let mut count = 0;
     let mut last = before;
     for position in positions {
-        if !(position.pa > last && position.pa - last == 1) {
+        if !is_next(last, position.pa) {
             count += 1;
         }
         last = position.pa;

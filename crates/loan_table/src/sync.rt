@@ -63,7 +63,7 @@ fn postread_refusal(position: Position) -> Option<ReportName>
     (!position.to_write).then_some(ReportName::SyncOrder)
 }
 
-/// What a call meets at a position.
+/// What a call meets at a position: SyncOrder before Overlap, whatever the operations.
 fn sync_refusal(
     loans: &BTreeMap<u32, LoanRow>,
     map: u32,
@@ -75,18 +75,18 @@ fn sync_refusal(
     requires row { row.now ≡ loan_of (of_tree loans.now) map }
     ensures { result ≡ sync_refusal (of_tree loans.now) map ops.0 position }
 {
+    if ops.contains(SyncOps::POSTREAD) {
+        if let Some(name) = postread_refusal(position) {
+            return Some(name);
+        }
+    }
     if ops.contains(SyncOps::PREWRITE) {
         if let Some(name) = prewrite_refusal(loans, map, position) {
             return Some(name);
         }
     }
     if ops.contains(SyncOps::PREREAD) {
-        if let Some(name) = preread_refusal(loans, map, row, position) {
-            return Some(name);
-        }
-    }
-    if ops.contains(SyncOps::POSTREAD) {
-        postread_refusal(position)
+        preread_refusal(loans, map, row, position)
     } else {
         None
     }

@@ -283,14 +283,6 @@ impl LoanTable {
         row_of(&self.loans, map.made_at).len()
     }
 
-    /// Whether a map is coherent.
-    pub fn is_coherent(&self, map: MapId) -> bool
-        requires { HasMap self.now map.made_at }
-        ensures { result ≡ (loan_of self.now.loans map.made_at).coherent }
-    {
-        row_of(&self.loans, map.made_at).is_coherent()
-    }
-
     /// Whether a byte is Known.
     pub fn is_known(&self, pa: Pa) -> bool
         ensures { result ≡ is_known self.now pa.0 }
@@ -323,14 +315,16 @@ impl LoanTable {
         ensures extents { IfOk result (λ list. All IsExtent list) }
         ensures there { IfOk result (λ list. AreIn self.now.bytes (addresses list)) }
         ensures total { IfOk result (λ list. byte_count list ≡ len) }
+        ensures count { IfOk result (λ list. length list
+            ≡ extent_count (bytes_at self.now map.made_at off len)) }
     {
         let row = row_of(&self.loans, map.made_at);
         let extents = extents::extents_of(alloc, row.range(off, len))?;
         Ok(ExtentList::new(extents))
     }
 
-    /// How many extents at the most hold `len` bytes from `off` on in a map's buffer: for so many
-    /// must there be room where they are lent, given back or written.
+    /// How many extents hold `len` bytes from `off` on in a map's buffer, those of `extents_of`: for
+    /// so many must there be room where they are lent, given back or written.
     pub fn extents(&self, map: MapId, off: u64, len: u64) -> u64
         requires there { HasMap self.now map.made_at }
         requires range { off + len ≤ length (buffer_of self.now map.made_at) }

@@ -3,14 +3,14 @@
 mod steps;
 
 use busdma_base::Judged::Fine;
-use busdma_base::Pa;
 use busdma_base::ReportName::{
     CpuReadLent, CpuWriteLent, DeviceReadUnlent, DeviceWriteUnlent, Overlap, StaleByte, SyncOrder,
 };
+use busdma_base::{Extent, Pa};
 use dma_tag::SyncOps;
 use std::test::Fail;
 use steps::Step::{CpuRead, CpuWrite, DevRead, DevWrite, Forget, Sync};
-use steps::{A, B, TWICE, WHOLE, cut, refused, run};
+use steps::{A, B, TWICE, WHOLE, across_frames, cut, refused, run};
 
 /// The operations of two sets.
 fn both(one: SyncOps, other: SyncOps) -> SyncOps {
@@ -454,5 +454,21 @@ fn drops_bytes(rt: HostRuntime) -> Result<(), Fail> {
     ] {
         assert_eq!(rt; table.is_known(Pa(pa)), known, "at {pa}");
     }
+    Ok(())
+}
+
+#[test]
+fn cuts_extents_at_frames(rt: HostRuntime) -> Result<(), Fail> {
+    let (counts, extents) = across_frames(&rt, rt.alloc())?;
+    assert_eq!(rt; counts, [1, 2, 2]);
+    let front = Extent {
+        pa: Pa(8184),
+        len: 8,
+    };
+    let back = Extent {
+        pa: Pa(8192),
+        len: 8,
+    };
+    assert_eq!(rt; extents.as_slice(), [front, back].as_slice());
     Ok(())
 }

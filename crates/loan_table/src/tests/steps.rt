@@ -2,7 +2,7 @@
 
 use crate::table::LoanTable;
 use bitflags::Flags;
-use busdma_base::{Extent, Judged, LaneId, MapId, Pa, Report, ReportName};
+use busdma_base::{Extent, ExtentList, Judged, LaneId, MapId, Pa, Report, ReportName};
 use dma_tag::SyncOps;
 use std::alloc::Global;
 use std::process::Abort;
@@ -151,8 +151,8 @@ fn cpu_write(
     assert!(rt; table.has_map(whole));
     let size = table.len_of(whole);
     assert!(rt; off <= size && len <= size - off);
+    assert!(rt; table.extents(whole, off, len) <= 64);
     let bytes = table.extents_of(alloc, whole, off, len)?;
-    assert!(rt; bytes.len() <= 64);
     let answer = table.may_cpu_write(bytes.as_slice());
     if let Judged::Fine = answer {
         table.note_write(bytes.as_slice());
@@ -233,4 +233,25 @@ pub fn cut(alloc: Global) -> Result<LoanTable, Fail> {
     table.reserve(alloc, 1)?;
     table.drop_bytes(Pa(4098), 3);
     Ok(table)
+}
+
+/// The numbers of extents of the first 6, the middle 6 and all of 16 bytes, of which 8 end a frame and
+/// 8 begin the next; and all of their extents.
+pub fn across_frames(rt: &impl Abort, alloc: Global) -> Result<([u64; 3], ExtentList), Fail> {
+    let mut table = LoanTable::new(alloc);
+    table.add_bytes(alloc, Pa(8184), 16, true)?;
+    let map = id(A);
+    let buffer = Extent {
+        pa: Pa(8184),
+        len: 16,
+    };
+    table.add_map(alloc, map, &[buffer], false)?;
+    assert!(rt; table.has_map(map));
+    assert!(rt; table.len_of(map) == 16);
+    let counts = [
+        table.extents(map, 0, 6),
+        table.extents(map, 6, 6),
+        table.extents(map, 0, 16),
+    ];
+    Ok((counts, table.extents_of(alloc, map, 0, 16)?))
 }
