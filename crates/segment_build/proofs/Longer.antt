@@ -1,30 +1,19 @@
 -- More bytes give no fewer pieces, and more parts no fewer chunks.
-use Rattle.std.proofs.Common.{◌≡◌, ℕ, zero, suc, ◌+◌, ◌-◌, ◌%◌, ◌<◌, ◌≤◌, min, List, [], ◌∷◌, ◌++◌, length, take, drop, Bool, true, false, cond, eqb, leb, refl, ap, sym, ◌∙◌, subst, arith, append_assoc, append-nil, length-append, length-take, length-drop, ◌⊎◌, inl, inr}
+use Rattle.std.proofs.Common.{◌≡◌, ℕ, zero, suc, ◌+◌, ◌-◌, ◌%◌, ◌<◌, ◌≤◌, min, List, [], ◌∷◌, ◌++◌, length, take, drop, Bool, true, false, eqb, leb, refl, ap, sym, ◌∙◌, subst, arith, append_assoc, length-append, length-take, length-drop}
 use Rattle.std.specs.Prelude.{Option, Some, None, IfSome}
 use Rattle.std.specs.Option.{option_to_list}
-use Rattle.std.specs.List.{AllByRecursion}
-use Rattle.std.proofs.lemmas.List.{drop-append-le, drop_all, take-append-le, take_all}
-use Rattle.busdma_base.specs.declared.address.Extent.{Extent}
-use Rattle.busdma_base.specs.declared.address.Pa.{Pa}
+use Rattle.std.proofs.lemmas.List.{drop-append-le, drop_all, take-append-le}
 use Rattle.busdma_base.specs.declared.chunk.Chunk.{Chunk}
-use Rattle.busdma_base.specs.declared.chunk.Entry.{Entry}
-use Rattle.busdma_base.specs.declared.chunk.Part.{Part}
-use Rattle.busdma_base.specs.declared.chunk.Part.TheVariants.{Of, Unmapped}
 use Rattle.busdma_base.specs.declared.tag.TagLimits.{TagLimits}
-use Rattle.busdma_base.specs.Entry.{entries_of, entry_addresses, others_of}
-use Rattle.busdma_base.specs.Runs.{addresses, byte_count, run_of}
+use Rattle.busdma_base.specs.Runs.{run_of}
 use Rattle.busdma_base.specs.Tag.{IsEffective}
-use Rattle.busdma_base.specs.TagFlags.{keep_pg_offset}
-use Rattle.segment_build.specs.Building.{IsSound, placed_pieces, tag_placed}
-use Rattle.segment_build.specs.Chunks.{chunk_limit, chunk_of, chunks_from, chunks_of_bytes, chunks_within, need_of}
-use Rattle.segment_build.specs.Pieces.{chunk_pieces, piece_len, pieces_of}
-use Rattle.segment_build.specs.Trace.{bus_addresses, chunk_len, first_page, in_page, page_offset, placed}
+use Rattle.segment_build.specs.Chunks.{chunk_limit, chunk_of, chunks_within}
+use Rattle.segment_build.specs.Pieces.{piece_len, pieces_of}
+use Rattle.segment_build.specs.Trace.{chunk_len}
 use Rattle.segment_build.proofs.Chunking.{limit_reaches}
-use Rattle.segment_build.proofs.Counting.{need_append, need_first, pieces_append}
 use Rattle.segment_build.proofs.Numbers.{above, most}
 use Rattle.segment_build.proofs.Places.{piece_fits, piece_some, pieces_step}
 use Rattle.segment_build.proofs.Sound.{made_len}
-use Rattle.segment_build.proofs.Steps.{own_run}
 
 -- ---- pieces of longer runs
 

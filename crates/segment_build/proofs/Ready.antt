@@ -1,9 +1,8 @@
 -- What a build asks of a stream holds of each front of a stream of which it holds.
-use Rattle.std.proofs.Common.{◌≡◌, ◌^◌, ℕ, zero, suc, ◌+◌, ◌<◌, ◌≤◌, min, List, [], ◌∷◌, ◌++◌, length, drop, Bool, true, false, cond, refl, ap, sym, ◌∙◌, subst, arith, append_assoc, append-nil, length-append, ◌⊎◌, inl, inr}
+use Rattle.std.proofs.Common.{◌≡◌, ◌^◌, ℕ, ◌+◌, ◌≤◌, min, List, [], ◌∷◌, ◌++◌, length, drop, Bool, true, false, cond, refl, ap, sym, ◌∙◌, subst, arith, append_assoc, append-nil, length-append, ◌⊎◌, inl, inr}
 use Rattle.std.specs.Prelude.{Option, Some, None, IfSome}
 use Rattle.std.specs.Option.{option_to_list}
-use Rattle.std.specs.List.{AllByRecursion, sum_by}
-use Rattle.std.proofs.lemmas.List.Concat.{flat_map-append}
+use Rattle.std.specs.List.{AllByRecursion}
 use Rattle.std.proofs.lemmas.List.Sums.{sum_by-append}
 use Rattle.busdma_base.specs.declared.address.Extent.{Extent}
 use Rattle.busdma_base.specs.declared.address.Pa.{Pa}
@@ -19,14 +18,14 @@ use Rattle.busdma_base.specs.TagFlags.{keep_pg_offset}
 use Rattle.segment_build.specs.Building.{IsSound, placed_pieces}
 use Rattle.segment_build.specs.Chunks.{chunks_from, chunks_of, chunks_of_bytes, need_of}
 use Rattle.segment_build.specs.Pieces.{chunk_pieces, pieces_of}
-use Rattle.segment_build.specs.Streams.{stream_chunks}
+use Rattle.segment_build.specs.Streams.{FrontsAskNoMore, stream_chunks}
 use Rattle.segment_build.specs.Trace.{bus_addresses, chunk_len, first_page, in_page, page_offset, placed}
 use Rattle.segment_build.proofs.Chunking.{chunks_of_parts, stream_of_entries}
 use Rattle.segment_build.proofs.Counting.{need_append, need_first, pieces_append}
 use Rattle.segment_build.proofs.Good.{all_first, all_second}
 use Rattle.segment_build.proofs.Longer.{BeginsLonger, IsFront, IsLonger, behind, extended, no_front, run_longer, within_front}
 use Rattle.segment_build.proofs.Sound.{chunks_sound}
-use Rattle.segment_build.proofs.Steps.{bytes_split, own_run, parts_bytes}
+use Rattle.segment_build.proofs.Steps.{bytes_split, own_run}
 
 -- ---- fronts of streams
 
@@ -166,16 +165,26 @@ pub record IsReady (t : TagLimits) (m : ℕ) (pages : List Pa) (room bounced_roo
   pub fits : min (length (placed_pieces t (stream_chunks t m ps) pages)) t.nsegments ≤ room
   pub bounced_fit : need_of (stream_chunks t m ps) ≤ bounced_room
 
-pub IsReady-front : (t : TagLimits) (m : ℕ) (pages : List Pa) (room bounced_room : ℕ) → IsEffective t → (xs ys : List Part) → IsReady t m pages room bounced_room (xs ++ ys) → IsReady t m pages room bounced_room xs
-IsReady-front t m pages room bounced_room eff xs ys h =
-    let stream = IsStream-front xs ys h.stream in
+-- the front of a stream asks no more than the whole
+pub fronts_ask : (t : TagLimits) (m : ℕ) (pages : List Pa) → IsEffective t → FrontsAskNoMore t m pages
+fronts_ask t m pages eff xs ys h =
+    let stream = IsStream-front xs ys h in
     let front = chunks_front t m 0 xs ys eff in
-    let need = front_need (stream_chunks t m xs) (stream_chunks t m (xs ++ ys)) front in
-    let pieces = front_pieces t (stream_chunks t m xs) (stream_chunks t m (xs ++ ys)) pages eff (chunks_sound t m (entries_of xs) eff stream.entries) (chunks_sound t m (entries_of (xs ++ ys)) eff h.stream.entries) front in
+    record {
+      stream = stream;
+      need = front_need (stream_chunks t m xs) (stream_chunks t m (xs ++ ys)) front;
+      pieces = front_pieces t (stream_chunks t m xs) (stream_chunks t m (xs ++ ys)) pages eff (chunks_sound t m (entries_of xs) eff stream.entries) (chunks_sound t m (entries_of (xs ++ ys)) eff h.entries) front;
+    }
+
+pub IsReady-front : (t : TagLimits) (m : ℕ) (pages : List Pa) (room bounced_room : ℕ) → FrontsAskNoMore t m pages → (xs ys : List Part) → IsReady t m pages room bounced_room (xs ++ ys) → IsReady t m pages room bounced_room xs
+IsReady-front t m pages room bounced_room fronts xs ys h =
+    let front = fronts xs ys h.stream in
+    let need = front.need in
+    let pieces = front.pieces in
     let fits = h.fits in
     let few = h.need in
     let bounced = h.bounced_fit in
-    record { stream = stream; need = omega arith; fits = omega arith; bounced_fit = omega arith }
+    record { stream = front.stream; need = omega arith; fits = omega arith; bounced_fit = omega arith }
 
 -- the entries of a load give such a stream
 pub entries_ready : (t : TagLimits) (m : ℕ) (pages : List Pa) (room bounced_room : ℕ) (es : List Entry) → AllByRecursion IsEntry es → entries_bytes es ≤ 2 ^ 20 → need_of (chunks_of t m es) ≤ length pages → min (length (placed_pieces t (chunks_of t m es) pages)) t.nsegments ≤ room → need_of (chunks_of t m es) ≤ bounced_room → IsReady t m pages room bounced_room (parts_of es)

@@ -24,7 +24,8 @@ pub record IsSound (t : TagLimits) (c : Chunk) : Type 0 where
   pub some : 0 < chunk_len c
   pub fits : c.bounced ≡ true → page_offset (keep_pg_offset t.flags) c.first.pa.0 + chunk_len c ≤ 4096
 
--- the segments and bounced chunks that are built of these chunks, while the segments are few enough
+-- What the private steps of the code do; no public clause cites it: the segments and bounced chunks that are
+-- built of these chunks, while the segments are few enough
 pub record IsSoFar (t : TagLimits) (pages : List Pa) (cs : List Chunk) (segments : List Segment) (bounced : List Chunk) (few : Bool) : Type 0 where
   pub segments_are : few ≡ true → IsFew t (placed_pieces t cs pages) segments
   pub bounced_are : few ≡ true → bounced ≡ bounced_of (tag_placed t cs pages)

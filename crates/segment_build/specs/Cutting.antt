@@ -1,3 +1,4 @@
+-- What the private steps of the code do; no public clause cites them.
 -- How extents are cut into chunks one after the other: what is left of a chunk to the next extent, step by step.
 use Rattle.std.specs.Prelude.{ℕ, ◌+◌, ◌-◌, ◌==◌, Bool, false, nat_le, if◌then◌else◌, List, [], ◌∷◌, ◌++◌, Option, Some, None}
 use Rattle.std.specs.Option.{option_to_list}

@@ -1,3 +1,4 @@
+-- What the private steps of the code do; no public clause cites them.
 -- How pieces join to segments one after the other.
 use Rattle.std.specs.Prelude.{if◌then◌else◌, List, [], ◌∷◌, Option, Some, None}
 use Rattle.busdma_base.specs.declared.address.Segment.{Segment}

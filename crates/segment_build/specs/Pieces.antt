@@ -45,6 +45,7 @@ pieces_of t bus = pieces_at bus (piece_places t bus)
 abbrev pub chunk_pieces : TagLimits → List Chunk → List Segment
 chunk_pieces t cs = flat_map (λ c. pieces_of t (bus_addresses c)) cs
 
--- the length of the piece that begins at a bus address, where so many bytes of its chunk are left: up to maxsegsz, and up to the next multiple of the boundary
+-- What the private steps of the code do; no public clause cites it: the length of the piece that begins at a bus
+-- address, where so many bytes of its chunk are left: up to maxsegsz, and up to the next multiple of the boundary
 abbrev pub piece_len : TagLimits → ℕ → ℕ → ℕ
 piece_len t a left = if t.boundary == 0 then min left t.maxsegsz else min (min left t.maxsegsz) (t.boundary - a % t.boundary)

@@ -1,12 +1,12 @@
--- What a stream is measured to, and what is built of it.
-use Rattle.std.specs.Prelude.{◌≡◌, ℕ, List, length, Some, None}
+-- What a stream is measured to, and what is built of it and asked of its fronts.
+use Rattle.std.specs.Prelude.{◌≡◌, ℕ, ◌≤◌, List, ◌++◌, length, Some, None}
 use Rattle.std.specs.List.{AllByRecursion}
 use Rattle.busdma_base.specs.declared.address.Pa.{Pa}
 use Rattle.busdma_base.specs.declared.address.Segment.{Segment}
 use Rattle.busdma_base.specs.declared.chunk.Chunk.{Chunk}
 use Rattle.busdma_base.specs.declared.chunk.Part.{Part}
 use Rattle.busdma_base.specs.declared.tag.TagLimits.{TagLimits}
-use Rattle.busdma_base.specs.Entry.{entries_of, entries_bytes, unmapped_of}
+use Rattle.busdma_base.specs.Entry.{IsStream, entries_of, entries_bytes, unmapped_of}
 use Rattle.segment_build.specs.declared.measured.Measured.{Measured}
 use Rattle.segment_build.specs.declared.measured.Measured.TheVariants.{Fits, Unmapped}
 use Rattle.segment_build.specs.declared.streamed.Streamed.{Streamed}
@@ -46,3 +46,13 @@ OverflowsFrom t maxmem pages parts = AreTooMany t (placed_pieces t (stream_chunk
 abbrev pub IsStreamed : TagLimits → ℕ → List Pa → List Part → Streamed → Type 0
 IsStreamed t maxmem pages parts (Segments list bounced) = IsBuiltFrom t maxmem pages parts list bounced
 IsStreamed t maxmem pages parts TooMany = OverflowsFrom t maxmem pages parts
+
+-- a front of a stream is a stream, needs no more bounce pages than the whole, and has no more pieces
+pub record AsksNoMore (t : TagLimits) (maxmem : ℕ) (pages : List Pa) (front whole : List Part) : Type 0 where
+  pub stream : IsStream front
+  pub need : need_of (stream_chunks t maxmem front) ≤ need_of (stream_chunks t maxmem whole)
+  pub pieces : length (placed_pieces t (stream_chunks t maxmem front) pages) ≤ length (placed_pieces t (stream_chunks t maxmem whole) pages)
+
+-- so does each front of each stream
+abbrev pub FrontsAskNoMore : TagLimits → ℕ → List Pa → Type 0
+FrontsAskNoMore t maxmem pages = (front rest : List Part) → IsStream (front ++ rest) → AsksNoMore t maxmem pages front (front ++ rest)

@@ -12,6 +12,7 @@ ghost use Rattle.segment_build.specs.Chunks.{chunks_of};
 ghost use Rattle.segment_build.specs.Obeying.{IsReachable, Obeys};
 ghost use Rattle.segment_build.specs.Pieces.{chunk_pieces};
 ghost use Rattle.segment_build.specs.Segmentation.{IsOnlySegmentation, segment_bytes};
+ghost use Rattle.segment_build.specs.Streams.{FrontsAskNoMore};
 ghost use Rattle.segment_build.specs.Trace.{IsPage, IsPlaced, RisesByOne, bus_trace, chunk_extents, chunk_len};
 
 use busdma_base::{Chunk, Entry, Pa, Segment};
@@ -37,6 +38,15 @@ pub fn pieces_in_any_pages(tag: &Tag, maxmem: u64, entries: &[Entry], pages: &[P
     requires others { AllByRecursion IsPage others.now }
     ensures { length (placed_pieces tag.now (chunks_of tag.now maxmem entries.now) pages.now)
         ≡ length (placed_pieces tag.now (chunks_of tag.now maxmem entries.now) others.now) }
+{
+    let _ = tag.limits();
+}
+
+/// A front of a stream is a stream, needs no more bounce pages than the whole, and has no more
+/// pieces: what `measure` says of a stream is enough for what `build_from` and `build_into` ask of
+/// each of its fronts.
+pub fn fronts_ask_no_more(tag: &Tag, maxmem: u64, pages: &[Pa])
+    ensures { FrontsAskNoMore tag.now maxmem pages.now }
 {
     let _ = tag.limits();
 }

@@ -62,7 +62,8 @@ pub fn build_from<I: Iterator<Item = Part>>(
 
 /// The same into two empty lists that have room for the smaller of the pieces and the tag's
 /// `nsegments`, and for the need: it takes no memory. It answers whether the segments are few
-/// enough, and leaves both lists empty where they are not.
+/// enough, and leaves both lists empty, with their room, where they are not. That the room of a whole
+/// stream is enough for its fronts is the law `fronts_ask_no_more`.
 pub fn build_into<I: Iterator<Item = Part>>(
     tag: &Tag,
     maxmem: u64,
@@ -80,9 +81,13 @@ pub fn build_into<I: Iterator<Item = Part>>(
     requires empty_bounced { bounced.old.items ≡ [] }
     requires room { HoldsAlong I.next_gives parts (λ ps. min (length (placed_pieces tag.now (stream_chunks tag.now maxmem ps) pages.now)) tag.now.nsegments ≤ list.old.spare) }
     requires bounced_room { HoldsAlong I.next_gives parts (λ ps. need_of (stream_chunks tag.now maxmem ps) ≤ bounced.old.spare) }
-    ensures { (ps : List Part) × Drains I.next_gives parts ps
+    ensures built { (ps : List Part) × Drains I.next_gives parts ps
         × MatchBool result (IsBuiltFrom tag.now maxmem pages.now ps list.new.items bounced.new.items)
         (OverflowsFrom tag.now maxmem pages.now ps × (list.new.items ≡ []) × (bounced.new.items ≡ [])) }
+
+    // Each list keeps the room that it had, beside what it holds.
+    ensures room { list.old.spare ≤ list.new.spare + length list.new.items }
+    ensures bounced_room { bounced.old.spare ≤ bounced.new.spare + length bounced.new.items }
 {
     let few: Result<bool, AllocError> = build_within(tag, maxmem, parts, pages, list, bounced);
     few.unwrap()
@@ -110,6 +115,8 @@ fn build_within<I: Iterator<Item = Part>>(
     ensures within { HoldsAlong I.next_gives parts (λ ps. min (length (placed_pieces tag.now (stream_chunks tag.now maxmem ps) pages.now)) tag.now.nsegments ≤ list.old.spare)
         → HoldsAlong I.next_gives parts (λ ps. need_of (stream_chunks tag.now maxmem ps) ≤ bounced.old.spare)
         → IsOk result }
+    ensures room { list.old.spare ≤ list.new.spare + length list.new.items }
+    ensures bounced_room { bounced.old.spare ≤ bounced.new.spare + length bounced.new.items }
 {
     let limits = tag.limits();
     let mut cutter = Cutter::new();

@@ -11,7 +11,8 @@ ghost use Rattle.segment_build.specs.Trace.{IsPage};
 use super::checks::parts;
 use crate::cutter::keeps_offset;
 use crate::{
-    Built, Measured, Streamed, build, build_from, build_into, chunks, measure, need, place,
+    Built, Measured, Streamed, build, build_from, build_into, chunks, fronts_ask_no_more, measure,
+    place,
 };
 use busdma_base::{
     Chunk, ChunkList, ChunkRoom, Entry, Pa, Part, Segment, SegmentList, SegmentRoom,
@@ -137,6 +138,7 @@ pub(super) fn by_room(
     };
     let mut list = SegmentRoom::with_room(alloc, pieces.min(limits.nsegments as u64) as usize)?;
     let mut bounced = ChunkRoom::with_room(alloc, need as usize)?;
+    fronts_ask_no_more(tag, maxmem, pages);
     let again = Listed::new(&parts);
     if !build_into(tag, maxmem, again, pages, &mut list, &mut bounced) {
         return Ok(None);

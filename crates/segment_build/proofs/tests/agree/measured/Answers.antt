@@ -1,4 +1,4 @@
-use Rattle.std.proofs.Common.{◌≡◌, List, sym, ◌∙◌, subst}
+use Rattle.std.proofs.Common.{sym, ◌∙◌, subst}
 use Rattle.busdma_base.specs.Entry.{IsStream}
 use Rattle.segment_build.specs.declared.tests.ways.Listed.{Listed}
 use Rattle.segment_build.proofs.Chunking.{stream_of_entries}

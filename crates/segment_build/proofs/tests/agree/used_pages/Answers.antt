@@ -1,4 +1,4 @@
-use Rattle.std.proofs.Common.{◌≡◌, ◌<◌, length, ap, ◌∙◌, arith}
+use Rattle.std.proofs.Common.{length, ap, ◌∙◌, arith}
 use Rattle.segment_build.specs.Chunks.{chunks_of}
 use Rattle.segment_build.proofs.Counting.{chunks_bytes, chunks_few}
 use Rattle.segment_build.proofs.Sound.{chunks_sound}

@@ -1,4 +1,4 @@
-use Rattle.std.proofs.Common.{◌≡◌, List, [], ◌∷◌, true, sym, subst, refl, arith}
+use Rattle.std.proofs.Common.{[], ◌∷◌, true, sym, subst, refl, arith}
 use Rattle.busdma_base.specs.declared.chunk.Part.{Part}
 use Rattle.busdma_base.specs.declared.chunk.Part.TheVariants.{Of, Unmapped}
 use Rattle.busdma_base.specs.Entry.{IsStream}

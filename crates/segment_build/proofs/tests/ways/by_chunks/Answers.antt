@@ -1,6 +1,5 @@
-use Rattle.std.proofs.Common.{◌≡◌, List, sym, ◌∙◌, subst, ap}
+use Rattle.std.proofs.Common.{sym, ◌∙◌, subst, ap}
 use Rattle.std.specs.List.{AllByRecursion}
-use Rattle.busdma_base.specs.declared.chunk.Chunk.{Chunk}
 use Rattle.busdma_base.specs.declared.tag.TagLimits.{TagLimits}
 use Rattle.busdma_base.specs.TagFlags.{keep_pg_offset}
 use Rattle.segment_build.specs.Trace.{IsPlaced, placed}

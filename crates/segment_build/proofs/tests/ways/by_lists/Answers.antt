@@ -1,8 +1,6 @@
-use Rattle.std.proofs.Common.{◌≡◌, List, sym, ◌∙◌, subst, ap}
+use Rattle.std.proofs.Common.{sym, ◌∙◌, subst}
 use Rattle.std.specs.List.{AllByRecursion}
-use Rattle.busdma_base.specs.declared.chunk.Chunk.{Chunk}
 use Rattle.segment_build.specs.Building.{IsSound}
-use Rattle.segment_build.specs.Chunks.{need_of}
 use Rattle.segment_build.proofs.Sound.{chunks_sound}
 use Rattle.segment_build.proofs.tests.ways.by_lists.Goals as goal
 

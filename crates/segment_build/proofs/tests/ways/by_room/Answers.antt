@@ -1,11 +1,11 @@
-use Rattle.std.proofs.Common.{◌≡◌, ◌≤◌, List, length, min, sym, ◌∙◌, ap, subst, arith}
+use Rattle.std.proofs.Common.{List, length, sym, ◌∙◌, ap, subst, arith}
 use Rattle.busdma_base.specs.declared.chunk.Part.{Part}
 use Rattle.busdma_base.specs.declared.tag.TagLimits.{TagLimits}
-use Rattle.busdma_base.specs.Entry.{IsStream, parts_of}
+use Rattle.busdma_base.specs.Entry.{IsStream}
 use Rattle.segment_build.specs.declared.tests.ways.Listed.{Listed}
 use Rattle.segment_build.specs.Building.{placed_pieces}
-use Rattle.segment_build.specs.Chunks.{chunks_of, need_of}
-use Rattle.segment_build.specs.Streams.{IsMeasure, stream_chunks}
+use Rattle.segment_build.specs.Chunks.{need_of}
+use Rattle.segment_build.specs.Streams.{IsMeasure}
 use Rattle.segment_build.proofs.Chunking.{chunks_of_parts, stream_of_entries}
 use Rattle.segment_build.proofs.Iterating.{along_first, drained_first}
 use Rattle.segment_build.proofs.Ready.{IsReady, IsReady-front, IsStream-front, entries_ready}
@@ -22,7 +22,6 @@ build_into-requires-clause-stream c xs s y =
     let m = c.args.maxmem in
     let pages = c.args.pages.now in
     let es = c.args.entries.now in
-    let eff = c.limits-limits.ensures.effective in
     let first = c.new-stream.ensures ∙ (c.deref.ensures.value ∙ c.in_ok-parts.ensures) in
     let is = c.new-again.ensures ∙ (c.deref-2.ensures.value ∙ c.in_ok-parts.ensures) in
     let ran = c.in-Fits.ensures in
@@ -36,7 +35,7 @@ build_into-requires-clause-stream c xs s y =
     let whole = entries_ready t m pages c.in_ok-list.list.spare c.in_ok-bounced.bounced.spare es c.requires.entries c.requires.bytes c.requires.need
     (omega (arith, room, c.min.ensures, pieces, ap (λ cs. length (placed_pieces t cs pages)) chunks, ap (λ (u : TagLimits). u.nsegments) c.limits-limits.ensures.limits))
     (omega (arith, bounced_room, need, ap need_of chunks)) in
-    let ready = along_first (λ (s : Listed). s.0.now) (IsReady t m pages c.in_ok-list.list.spare c.in_ok-bounced.bounced.spare) (IsReady-front t m pages c.in_ok-list.list.spare c.in_ok-bounced.bounced.spare eff) c.new-again.result (subst (IsReady t m pages c.in_ok-list.list.spare c.in_ok-bounced.bounced.spare) (sym is) whole) xs s y in
+    let ready = along_first (λ (s : Listed). s.0.now) (IsReady t m pages c.in_ok-list.list.spare c.in_ok-bounced.bounced.spare) (IsReady-front t m pages c.in_ok-list.list.spare c.in_ok-bounced.bounced.spare c.fronts_ask_no_more.ensures) c.new-again.result (subst (IsReady t m pages c.in_ok-list.list.spare c.in_ok-bounced.bounced.spare) (sym is) whole) xs s y in
     ready.stream
 
 pub build_into-requires-clause-need : goal.build_into-requires-clause-need
@@ -45,7 +44,6 @@ build_into-requires-clause-need c xs s y =
     let m = c.args.maxmem in
     let pages = c.args.pages.now in
     let es = c.args.entries.now in
-    let eff = c.limits-limits.ensures.effective in
     let first = c.new-stream.ensures ∙ (c.deref.ensures.value ∙ c.in_ok-parts.ensures) in
     let is = c.new-again.ensures ∙ (c.deref-2.ensures.value ∙ c.in_ok-parts.ensures) in
     let ran = c.in-Fits.ensures in
@@ -59,7 +57,7 @@ build_into-requires-clause-need c xs s y =
     let whole = entries_ready t m pages c.in_ok-list.list.spare c.in_ok-bounced.bounced.spare es c.requires.entries c.requires.bytes c.requires.need
     (omega (arith, room, c.min.ensures, pieces, ap (λ cs. length (placed_pieces t cs pages)) chunks, ap (λ (u : TagLimits). u.nsegments) c.limits-limits.ensures.limits))
     (omega (arith, bounced_room, need, ap need_of chunks)) in
-    let ready = along_first (λ (s : Listed). s.0.now) (IsReady t m pages c.in_ok-list.list.spare c.in_ok-bounced.bounced.spare) (IsReady-front t m pages c.in_ok-list.list.spare c.in_ok-bounced.bounced.spare eff) c.new-again.result (subst (IsReady t m pages c.in_ok-list.list.spare c.in_ok-bounced.bounced.spare) (sym is) whole) xs s y in
+    let ready = along_first (λ (s : Listed). s.0.now) (IsReady t m pages c.in_ok-list.list.spare c.in_ok-bounced.bounced.spare) (IsReady-front t m pages c.in_ok-list.list.spare c.in_ok-bounced.bounced.spare c.fronts_ask_no_more.ensures) c.new-again.result (subst (IsReady t m pages c.in_ok-list.list.spare c.in_ok-bounced.bounced.spare) (sym is) whole) xs s y in
     ready.need
 
 pub build_into-requires-clause-room : goal.build_into-requires-clause-room
@@ -68,7 +66,6 @@ build_into-requires-clause-room c xs s y =
     let m = c.args.maxmem in
     let pages = c.args.pages.now in
     let es = c.args.entries.now in
-    let eff = c.limits-limits.ensures.effective in
     let first = c.new-stream.ensures ∙ (c.deref.ensures.value ∙ c.in_ok-parts.ensures) in
     let is = c.new-again.ensures ∙ (c.deref-2.ensures.value ∙ c.in_ok-parts.ensures) in
     let ran = c.in-Fits.ensures in
@@ -82,7 +79,7 @@ build_into-requires-clause-room c xs s y =
     let whole = entries_ready t m pages c.in_ok-list.list.spare c.in_ok-bounced.bounced.spare es c.requires.entries c.requires.bytes c.requires.need
     (omega (arith, room, c.min.ensures, pieces, ap (λ cs. length (placed_pieces t cs pages)) chunks, ap (λ (u : TagLimits). u.nsegments) c.limits-limits.ensures.limits))
     (omega (arith, bounced_room, need, ap need_of chunks)) in
-    let ready = along_first (λ (s : Listed). s.0.now) (IsReady t m pages c.in_ok-list.list.spare c.in_ok-bounced.bounced.spare) (IsReady-front t m pages c.in_ok-list.list.spare c.in_ok-bounced.bounced.spare eff) c.new-again.result (subst (IsReady t m pages c.in_ok-list.list.spare c.in_ok-bounced.bounced.spare) (sym is) whole) xs s y in
+    let ready = along_first (λ (s : Listed). s.0.now) (IsReady t m pages c.in_ok-list.list.spare c.in_ok-bounced.bounced.spare) (IsReady-front t m pages c.in_ok-list.list.spare c.in_ok-bounced.bounced.spare c.fronts_ask_no_more.ensures) c.new-again.result (subst (IsReady t m pages c.in_ok-list.list.spare c.in_ok-bounced.bounced.spare) (sym is) whole) xs s y in
     ready.fits
 
 pub build_into-requires-clause-bounced_room : goal.build_into-requires-clause-bounced_room
@@ -91,7 +88,6 @@ build_into-requires-clause-bounced_room c xs s y =
     let m = c.args.maxmem in
     let pages = c.args.pages.now in
     let es = c.args.entries.now in
-    let eff = c.limits-limits.ensures.effective in
     let first = c.new-stream.ensures ∙ (c.deref.ensures.value ∙ c.in_ok-parts.ensures) in
     let is = c.new-again.ensures ∙ (c.deref-2.ensures.value ∙ c.in_ok-parts.ensures) in
     let ran = c.in-Fits.ensures in
@@ -105,5 +101,5 @@ build_into-requires-clause-bounced_room c xs s y =
     let whole = entries_ready t m pages c.in_ok-list.list.spare c.in_ok-bounced.bounced.spare es c.requires.entries c.requires.bytes c.requires.need
     (omega (arith, room, c.min.ensures, pieces, ap (λ cs. length (placed_pieces t cs pages)) chunks, ap (λ (u : TagLimits). u.nsegments) c.limits-limits.ensures.limits))
     (omega (arith, bounced_room, need, ap need_of chunks)) in
-    let ready = along_first (λ (s : Listed). s.0.now) (IsReady t m pages c.in_ok-list.list.spare c.in_ok-bounced.bounced.spare) (IsReady-front t m pages c.in_ok-list.list.spare c.in_ok-bounced.bounced.spare eff) c.new-again.result (subst (IsReady t m pages c.in_ok-list.list.spare c.in_ok-bounced.bounced.spare) (sym is) whole) xs s y in
+    let ready = along_first (λ (s : Listed). s.0.now) (IsReady t m pages c.in_ok-list.list.spare c.in_ok-bounced.bounced.spare) (IsReady-front t m pages c.in_ok-list.list.spare c.in_ok-bounced.bounced.spare c.fronts_ask_no_more.ensures) c.new-again.result (subst (IsReady t m pages c.in_ok-list.list.spare c.in_ok-bounced.bounced.spare) (sym is) whole) xs s y in
     ready.bounced_fit

@@ -1,10 +1,7 @@
-use Rattle.std.proofs.Common.{◌≡◌, ◌≤◌, List, length, sym, ◌∙◌, subst, arith}
-use Rattle.busdma_base.specs.declared.chunk.Part.{Part}
+use Rattle.std.proofs.Common.{length, sym, ◌∙◌, subst, arith}
 use Rattle.segment_build.specs.declared.tests.ways.Listed.{Listed}
-use Rattle.segment_build.specs.Chunks.{need_of}
-use Rattle.segment_build.specs.Streams.{stream_chunks}
 use Rattle.segment_build.proofs.Iterating.{along_first}
-use Rattle.segment_build.proofs.Ready.{IsReady, IsReady-front, entries_ready}
+use Rattle.segment_build.proofs.Ready.{IsReady, IsReady-front, entries_ready, fronts_ask}
 use Rattle.segment_build.proofs.tests.ways.by_stream.Goals as goal
 
 pub build_from-requires-clause-stream : goal.build_from-requires-clause-stream
@@ -15,7 +12,7 @@ build_from-requires-clause-stream c xs s y =
     let eff = c.limits.ensures.effective in
     let whole = entries_ready t m pages t.nsegments (length pages) c.args.entries.now c.requires.entries c.requires.bytes c.requires.need (omega arith) c.requires.need in
     let is = c.new.ensures ∙ (c.deref.ensures.value ∙ c.in_ok-parts.ensures) in
-    (along_first (λ (s : Listed). s.0.now) (IsReady t m pages t.nsegments (length pages)) (IsReady-front t m pages t.nsegments (length pages) eff) c.new.result (subst (IsReady t m pages t.nsegments (length pages)) (sym is) whole) xs s y).stream
+    (along_first (λ (s : Listed). s.0.now) (IsReady t m pages t.nsegments (length pages)) (IsReady-front t m pages t.nsegments (length pages) (fronts_ask t m pages eff)) c.new.result (subst (IsReady t m pages t.nsegments (length pages)) (sym is) whole) xs s y).stream
 
 pub build_from-requires-clause-need : goal.build_from-requires-clause-need
 build_from-requires-clause-need c xs s y =
@@ -25,4 +22,4 @@ build_from-requires-clause-need c xs s y =
     let eff = c.limits.ensures.effective in
     let whole = entries_ready t m pages t.nsegments (length pages) c.args.entries.now c.requires.entries c.requires.bytes c.requires.need (omega arith) c.requires.need in
     let is = c.new.ensures ∙ (c.deref.ensures.value ∙ c.in_ok-parts.ensures) in
-    (along_first (λ (s : Listed). s.0.now) (IsReady t m pages t.nsegments (length pages)) (IsReady-front t m pages t.nsegments (length pages) eff) c.new.result (subst (IsReady t m pages t.nsegments (length pages)) (sym is) whole) xs s y).need
+    (along_first (λ (s : Listed). s.0.now) (IsReady t m pages t.nsegments (length pages)) (IsReady-front t m pages t.nsegments (length pages) (fronts_ask t m pages eff)) c.new.result (subst (IsReady t m pages t.nsegments (length pages)) (sym is) whole) xs s y).need
