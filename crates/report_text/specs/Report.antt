@@ -1,12 +1,10 @@
 -- The text of a run.
-use Rattle.std.specs.Prelude.{ℕ, List, ◌++◌, Bool, true, false, codes, length, count_by}
+use Rattle.std.specs.Prelude.{ℕ, List, ◌++◌, codes, length, count_by}
 use Rattle.std.specs.Fmt.{decimal}
 use Rattle.report_text.specs.Text.{numbered}
 use Rattle.report_text.specs.Answer.{answer_text}
 use Rattle.report_text.specs.Did.{did_text}
 use Rattle.report_text.specs.Zone.{zone_lines}
-use Rattle.busdma_base.specs.declared.answer.Answer.{Answer}
-use Rattle.busdma_base.specs.declared.answer.Answer.TheVariants.{Report}
 use Rattle.busdma_base.specs.declared.journal.Actor.{Actor}
 use Rattle.busdma_base.specs.declared.journal.End.{End}
 use Rattle.busdma_base.specs.declared.journal.End.TheVariants.{Finished, Stuck}
@@ -15,6 +13,7 @@ use Rattle.busdma_base.specs.declared.journal.JournalEntry.{JournalEntry}
 use Rattle.busdma_base.specs.declared.journal.Side.{Side}
 use Rattle.busdma_base.specs.declared.journal.Side.TheVariants.{Script, Transfer, Callback}
 use Rattle.busdma_base.specs.declared.scenario.Scenario.{Scenario}
+use Rattle.busdma_base.specs.Reports.{is_report}
 
 -- the letter of a driver, its device or its callbacks
 abbrev pub side_letter : Side → List ℕ
@@ -32,11 +31,6 @@ entry_line scenario number entry =
     decimal number ++ (codes " " ++ (actor_text entry.actor
     ++ (codes " " ++ (did_text scenario entry.actor.lane entry.did
     ++ (codes " -> " ++ (answer_text entry.answer ++ codes "\n"))))))
-
--- whether an answer is a report
-abbrev pub is_report : Answer → Bool
-is_report (Report report) = true
-is_report other = false
 
 -- how many entries have a report as their answer
 abbrev pub report_count : List JournalEntry → ℕ

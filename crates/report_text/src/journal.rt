@@ -5,21 +5,15 @@ ghost use Rattle.report_text.specs.Report as text;
 
 use crate::entry::push_entries;
 use crate::zone::push_zones;
-use busdma_base::{Answer, ByteList, End, Journal, JournalEntry, ListOf, Scenario};
+use busdma_base::{ByteList, End, Journal, JournalEntry, ListOf, Scenario};
 use std::alloc::{AllocError, Global};
-
-fn is_report(answer: &Answer) -> bool
-    ensures { result ≡ text.is_report answer.now }
-{
-    matches!(answer, Answer::Report(_))
-}
 
 fn report_count(entries: &[JournalEntry]) -> usize
     ensures { result ≡ text.report_count entries.now }
 {
     entries
         .iter()
-        .filter(|entry| is_report(&entry.answer))
+        .filter(|entry| entry.answer.is_report())
         .count()
 }
 
