@@ -3,32 +3,22 @@ use Rattle.std.proofs.Common.{◌≡◌, ℕ, suc, zero, ◌≤◌, Bool, true, 
 use Rattle.std.proofs.lemmas.Bool.Decides.{nat_tests}
 use Rattle.busdma_base.specs.declared.script.Op.{Op}
 use Rattle.busdma_base.specs.declared.script.Op.TheVariants as op
+use Rattle.busdma_base.specs.declared.journal.Actor.{Actor}
+use Rattle.busdma_base.specs.declared.journal.Side.{Side}
 use Rattle.busdma_base.specs.declared.journal.Side.TheVariants as side
 use Rattle.busdma_base.specs.declared.journal.Did.TheVariants as did
 use Rattle.lane_tables.specs.declared.queued.QueuedItem.{QueuedItem}
 use Rattle.lane_tables.specs.Queues.{queue_names}
-use Rattle.lane_core.specs.declared.turn.Turn.{Turn}
-use Rattle.lane_core.specs.declared.turn.Turn.TheVariants.{Stepped, Blocked, Ended}
+use Rattle.lane_core.specs.declared.turn.Turn.TheVariants.{Blocked}
 use Rattle.lane_core.specs.Lane.{LaneState, has_map}
 use Rattle.lane_core.specs.Step.{script_turn, transfer_turn, lane_step, waits, stays, stepped, advanced, operation}
-use Rattle.world_core.specs.World.{WorldState, after_turn, step_of, has_ended}
+use Rattle.world_core.specs.World.{WorldState, step_of, entry_of, has_ended}
 use Rattle.world_core.specs.Ends.{IsAtRest, all_ended}
 use Rattle.world_core.proofs.Lanes.{all_pass}
 
--- the turn is no step
-abbrev pub IsNoStep : Turn → Type 0
-IsNoStep (Stepped entry held) = ⊥
-IsNoStep Blocked = Unit {0}
-IsNoStep Ended = Unit {0}
-
-no_turn : (w : WorldState) (i : ℕ) (m : LaneState) (t : Turn) → after_turn w i m t ≡ None → IsNoStep t
-no_turn w i m (Stepped entry held) h = absurd (cc)
-no_turn w i m Blocked h = tt
-no_turn w i m Ended h = tt
-
-no_queue : (l : LaneState) (queue : List QueuedItem) → IsNoStep (transfer_turn queue l).turn → queue ≡ []
+no_queue : (l : LaneState) (queue : List QueuedItem) → entry_of (transfer_turn queue l).turn ≡ None → queue ≡ []
 no_queue l [] h = refl
-no_queue l (q ∷ rest) h = absurd h
+no_queue l (q ∷ rest) h = absurd (cc)
 
 -- an operation waits only where an item of the queue names a map
 waits_named : (o : Op) (l : LaneState) → l.queue ≡ [] → waits o l ≡ false
@@ -48,11 +38,11 @@ waits_named (op.SyncRange m off len ops) l h = refl
 waits_named (op.CpuRead place len) l h = refl
 waits_named (op.CpuWrite place bytes) l h = refl
 
-no_op : (l : LaneState) (o : Op) (b : Bool) → b ≡ false → IsNoStep (cond b (stays Blocked l) (stepped side.Script (did.Op l.place) (advanced (operation o l)))).turn → ⊥
+no_op : (l : LaneState) (o : Op) (b : Bool) → b ≡ false → entry_of (cond b (stays Blocked l) (stepped side.Script (did.Op l.place) (advanced (operation o l)))).turn ≡ None → ⊥
 no_op l o true e h = absurd (cc)
-no_op l o false e h = h
+no_op l o false e h = absurd (cc)
 
-no_script : (l : LaneState) (o : Option Op) → l.queue ≡ [] → IsNoStep (script_turn o l).turn → o ≡ None
+no_script : (l : LaneState) (o : Option Op) → l.queue ≡ [] → entry_of (script_turn o l).turn ≡ None → o ≡ None
 no_script l None q h = refl
 no_script l (Some o) q h = absurd (no_op l o (waits o l) (waits_named o l q) h)
 
@@ -64,12 +54,15 @@ past_end (o ∷ script) (suc place) h = let r = past_end script place h in omega
 
 lane_ended : (w : WorldState) → IsAtRest w → (k : ℕ) (l : LaneState) → slice_get w.lanes k ≡ Some l → has_ended l ≡ true
 lane_ended w rest k l e =
-    let d : after_turn w k (lane_step l side.Transfer).lane (lane_step l side.Transfer).turn ≡ None = ap (step_of w (record { lane = record { 0 = k }; side = side.Transfer })) (sym e) ∙ rest (record { lane = record { 0 = k }; side = side.Transfer }) in
-    let s : after_turn w k (lane_step l side.Script).lane (lane_step l side.Script).turn ≡ None = ap (step_of w (record { lane = record { 0 = k }; side = side.Script })) (sym e) ∙ rest (record { lane = record { 0 = k }; side = side.Script }) in
-    let q : l.queue ≡ [] = no_queue l l.queue (no_turn w k _ _ d) in
-    let o : slice_get l.script l.place ≡ None = no_script l (slice_get l.script l.place) q (no_turn w k _ _ s) in
+    let q : l.queue ≡ [] = no_queue l l.queue (no_turn side.Transfer) in
+    let o : slice_get l.script l.place ≡ None = no_script l (slice_get l.script l.place) q (no_turn side.Script) in
     let p : length l.script ≤ l.place = past_end l.script l.place o in
     grind (arith, nat_tests)
+  where
+    no_turn : (s : Side) → entry_of (lane_step l s).turn ≡ None
+    no_turn s =
+        let actor : Actor = record { lane = record { 0 = k }; side = s } in
+        ap (λ x. entry_of (step_of w actor x).turn) (sym e) ∙ rest actor
 
 pub none_stuck : (w : WorldState) → IsAtRest w → all_ended w ≡ true
 none_stuck w rest = all_pass has_ended w.lanes (lane_ended w rest)

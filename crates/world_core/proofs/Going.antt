@@ -1,9 +1,10 @@
 -- Turns in order, and rounds until one makes no step.
-use Rattle.std.proofs.Common.{◌≡◌, ℕ, zero, suc, ◌+◌, ◌<◌, ◌≤◌, List, [], ◌∷◌, ◌++◌, length, take, get_or, Option, Some, None, refl, sym, ap, ◌∙◌, arith, add-one, length-append}
+use Rattle.std.proofs.Common.{◌≡◌, ℕ, zero, suc, ◌+◌, ◌<◌, ◌≤◌, List, [], ◌∷◌, ◌++◌, length, take, get_or, Option, Some, None, refl, sym, ap, ◌∙◌, arith, add-one, length-append, ◌⊎◌, inl, inr}
 use Rattle.std.proofs.Math.Seq.{take-suc}
 use Rattle.busdma_base.specs.declared.journal.Actor.{Actor}
+use Rattle.busdma_base.specs.declared.journal.JournalEntry.{JournalEntry}
 use Rattle.busdma_base.specs.declared.journal.Side.TheVariants.{Script, Transfer, Callback}
-use Rattle.world_core.specs.World.{WorldStep, step}
+use Rattle.world_core.specs.World.{step, step_entry}
 use Rattle.world_core.specs.Legal.{Run, noted, turn, turns, rounds, round_from}
 use Rattle.world_core.specs.Laws.{left_of}
 use Rattle.world_core.proofs.Steps.{step_keeps}
@@ -24,32 +25,35 @@ next_turn r x y order i d lt h k =
 pub next_round : (n : ℕ) (round : List Actor) (r x y : Run) → rounds n round r ≡ x → y ≡ turns x round → rounds (n + 1) round r ≡ y
 next_round n round r x y h k = sym (rounds-add n 1 round r) ∙ (ap (λ z. turns z round) h ∙ sym k)
 
-noted_falls : (r : Run) (a : Actor) (o : Option WorldStep) → step r.world a ≡ o → left_of (noted r o).world ≤ left_of r.world
-noted_falls r a None h = omega arith
-noted_falls r a (Some s) h = let f = (step_keeps r.world a s h).falls in omega (arith, f)
+-- a turn leaves no more to do
+noted_falls : (r : Run) (a : Actor) (o : Option JournalEntry) → step_entry r.world a ≡ o → left_of (noted r (step r.world a).world o).world ≤ left_of r.world
+noted_falls r a None is = omega arith
+noted_falls r a (Some e) is = let f = (step_keeps r.world a e is).falls in omega (arith, f)
 
 turns_fall : (actors : List Actor) (r : Run) → left_of (turns r actors).world ≤ left_of r.world
 turns_fall [] r = omega arith
-turns_fall (a ∷ actors) r = omega (arith, turns_fall actors (turn r a), noted_falls r a (step r.world a) refl)
+turns_fall (a ∷ actors) r = omega (arith, turns_fall actors (turn r a), noted_falls r a (step_entry r.world a) refl)
 
--- turns that note no entry leave the run as it is
-pub no_entry_rests : (actors : List Actor) (r : Run) → length (turns r actors).entries ≡ length r.entries → turns r actors ≡ r
-no_entry_rests [] r h = refl
-no_entry_rests (a ∷ actors) r h = first (step r.world a) (no_entry_rests actors r) h
-  where
-    first : (o : Option WorldStep) → (length (turns r actors).entries ≡ length r.entries → turns r actors ≡ r) → length (turns (noted r o) actors).entries ≡ length r.entries → turns (noted r o) actors ≡ r
-    first None rest k = rest k
-    first (Some s) rest k = absurd (omega (arith, k, turns_grow actors (noted r (Some s)), length-append r.entries (s.entry ∷ [])))
+-- turns that note an entry, and leave less to do
+pub record Goes (before after : Run) : Type 0 where
+  pub notes : length before.entries < length after.entries
+  pub falls : left_of after.world < left_of before.world
 
--- turns that note an entry leave less to do
-pub entry_falls : (actors : List Actor) (r : Run) → (length (turns r actors).entries ≡ length r.entries → ⊥) → left_of (turns r actors).world < left_of r.world
-entry_falls [] r h = absurd (h refl)
-entry_falls (a ∷ actors) r h = first (step r.world a) refl (entry_falls actors r) h
+-- turns leave the run as it is, or note an entry
+pub rests_or_goes : (actors : List Actor) (r : Run) → (turns r actors ≡ r) ⊎ Goes r (turns r actors)
+rests_or_goes [] r = inl refl
+rests_or_goes (a ∷ actors) r = first (step_entry r.world a) refl (rests_or_goes actors r)
   where
-    first : (o : Option WorldStep) → step r.world a ≡ o → ((length (turns r actors).entries ≡ length r.entries → ⊥) → left_of (turns r actors).world < left_of r.world)
-        → (length (turns (noted r o) actors).entries ≡ length r.entries → ⊥) → left_of (turns (noted r o) actors).world < left_of r.world
-    first None e rest k = rest k
-    first (Some s) e rest k = let f = (step_keeps r.world a s e).falls in omega (arith, f, turns_fall actors (noted r (Some s)))
+    first : (o : Option JournalEntry) → step_entry r.world a ≡ o → (turns r actors ≡ r) ⊎ Goes r (turns r actors)
+        → (turns (noted r (step r.world a).world o) actors ≡ r) ⊎ Goes r (turns (noted r (step r.world a).world o) actors)
+    first None is rest = rest
+    first (Some e) is rest =
+        let next : Run = noted r (step r.world a).world (Some e) in
+        let f = (step_keeps r.world a e is).falls in
+        inr (record {
+          notes = omega (arith, turns_grow actors next, length-append r.entries (e ∷ []));
+          falls = omega (arith, f, turns_fall actors next);
+        })
 
 -- the round over one driver more
 round_from-snoc : (i n : ℕ) → round_from i (suc n) ≡ round_from i n ++ (record { lane = record { 0 = i + n }; side = Callback } ∷ record { lane = record { 0 = i + n }; side = Transfer } ∷ record { lane = record { 0 = i + n }; side = Script } ∷ [])
@@ -76,15 +80,19 @@ three_more (x ∷ r) a b c = ap (λ t. x ∷ t) (three_more r a b c)
 
 -- a round that noted no entry comes to rest
 pub rests : (round : List Actor) (x y : Run) → y ≡ turns x round → length y.entries ≡ length x.entries → turns y round ≡ y
-rests round x y h none =
-    let same : turns x round ≡ x = no_entry_rests round x (ap (λ (z : Run). length z.entries) (sym h) ∙ none) in
-    ap (λ z. turns z round) (h ∙ same) ∙ sym h
+rests round x y h none = by_way (rests_or_goes round x)
+  where
+    by_way : (turns x round ≡ x) ⊎ Goes x (turns x round) → turns y round ≡ y
+    by_way (inl same) = ap (λ z. turns z round) (h ∙ same) ∙ sym h
+    by_way (inr goes) = let more = goes.notes in absurd (omega (arith, more, none, ap (λ (z : Run). length z.entries) h))
 
 -- a round that noted an entry leaves less to do
 pub falls : (round : List Actor) (x y : Run) → y ≡ turns x round → (length y.entries ≡ length x.entries → ⊥) → left_of y.world < left_of x.world
-falls round x y h some =
-    let less = entry_falls round x (λ e. some (ap (λ (z : Run). length z.entries) h ∙ e)) in
-    omega (arith, less, ap (λ (z : Run). left_of z.world) h)
+falls round x y h some = by_way (rests_or_goes round x)
+  where
+    by_way : (turns x round ≡ x) ⊎ Goes x (turns x round) → left_of y.world < left_of x.world
+    by_way (inl same) = absurd (some (ap (λ (z : Run). length z.entries) (h ∙ same)))
+    by_way (inr goes) = let less = goes.falls in omega (arith, less, ap (λ (z : Run). left_of z.world) h)
 
 -- the round over one driver more, by pushes
 pub round_pushed : (n : ℕ) (r x y z : List Actor) → r ≡ round_from 0 n → x ≡ r ++ callback n ∷ [] → y ≡ x ++ transfer n ∷ [] → z ≡ y ++ script n ∷ [] → z ≡ round_from 0 (n + 1)

@@ -35,6 +35,12 @@ length-slice_set [] k m = refl
 length-slice_set (x ∷ ls) zero m = refl
 length-slice_set (x ∷ ls) (suc k) m = ap suc (length-slice_set ls k m)
 
+-- a driver that is put back as it was
+pub set_same : (ls : List LaneState) (k : ℕ) (l m : LaneState) → slice_get ls k ≡ Some l → m ≡ l → slice_set ls k m ≡ ls
+set_same [] k l m e same = refl
+set_same (x ∷ ls) zero l m e same = let q : x ≡ l = cc in ap (λ y. y ∷ ls) (same ∙ sym q)
+set_same (x ∷ ls) (suc k) l m e same = ap (λ t. x ∷ t) (set_same ls k l m e same)
+
 -- where one driver has less to do, all together have
 pub sum_falls : (ls : List LaneState) (k : ℕ) (l m : LaneState) → slice_get ls k ≡ Some l → left m < left l → sum_by left (slice_set ls k m) < sum_by left ls
 sum_falls [] k l m e h = absurd (cc)

@@ -1,11 +1,12 @@
 -- What is replayed is legal.
-use Rattle.std.proofs.Common.{◌≡◌, ℕ, zero, suc, ◌+◌, ◌≤◌, Bool, true, false, List, [], ◌∷◌, length, Option, Some, None, refl, sym, ap, ◌∙◌, arith, subst, nat_lt}
+use Rattle.std.proofs.Common.{◌≡◌, ℕ, zero, suc, ◌+◌, ◌≤◌, Bool, true, false, List, [], ◌∷◌, ◌++◌, length, Option, Some, None, refl, sym, ap, ◌∙◌, arith, subst, nat_lt}
 use Rattle.std.proofs.lemmas.Bool.Decides.{nat_tests}
 use Rattle.std.proofs.lemmas.Option.{slice_get_past}
 use Rattle.busdma_base.specs.declared.journal.Actor.{Actor}
+use Rattle.busdma_base.specs.declared.journal.JournalEntry.{JournalEntry}
 use Rattle.busdma_base.specs.declared.journal.Journal.{Journal}
 use Rattle.busdma_base.specs.declared.scenario.Scenario.{Scenario}
-use Rattle.world_core.specs.World.{WorldState, WorldStep, step, step_of, opening_world}
+use Rattle.world_core.specs.World.{WorldState, step, step_of, entry_of, step_entry, opening_world}
 use Rattle.world_core.specs.Ends.{IsAtRest}
 use Rattle.world_core.specs.Legal.{Run, Leads, noted, turn, turns, rounds, round_of, opening_run, IsReplay, IsReplayed, IsLegal}
 use Rattle.world_core.proofs.Lanes.{AreNumbered, opening_numbered, length-opening_lanes}
@@ -19,20 +20,21 @@ pub record IsRun (s : Scenario) (r : Run) : Type 0 where
   pub numbered : AreNumbered 0 r.world.lanes
   pub count : length r.world.lanes ≡ length s.drivers
 
-noted_runs : (s : Scenario) (r : Run) (a : Actor) (o : Option WorldStep) → step r.world a ≡ o → IsRun s r → IsRun s (noted r o)
-noted_runs s r a None e h = h
-noted_runs s r a (Some x) e h =
-    let k = step_keeps r.world a x e in
-    let same : step r.world x.entry.actor ≡ Some x = ap (step r.world) (k.own h.numbered) ∙ e in
+noted_runs : (s : Scenario) (r : Run) (a : Actor) (o : Option JournalEntry) → step_entry r.world a ≡ o → IsRun s r → IsRun s (noted r (step r.world a).world o)
+noted_runs s r a None is h = h
+noted_runs s r a (Some e) is h =
+    let k = step_keeps r.world a e is in
+    let own : e.actor ≡ a = k.own h.numbered in
+    let leads = Leads-push (opening_world s) r.world r.entries e h.leads (ap (step_entry r.world) own ∙ is) in
     record {
-      leads = Leads-push (opening_world s) r.world r.entries x h.leads same;
+      leads = subst (λ x. Leads (opening_world s) (r.entries ++ e ∷ []) (step r.world x).world) own leads;
       numbered = k.numbered h.numbered;
       count = k.count ∙ h.count;
     }
 
 turns_run : (s : Scenario) (actors : List Actor) (r : Run) → IsRun s r → IsRun s (turns r actors)
 turns_run s [] r h = h
-turns_run s (a ∷ actors) r h = turns_run s actors (turn r a) (noted_runs s r a (step r.world a) refl h)
+turns_run s (a ∷ actors) r h = turns_run s actors (turn r a) (noted_runs s r a (step_entry r.world a) refl h)
 
 rounds_run : (s : Scenario) (n : ℕ) (round : List Actor) (r : Run) → IsRun s r → IsRun s (rounds n round r)
 rounds_run s zero round r h = h
@@ -45,16 +47,16 @@ pub replay_runs : (s : Scenario) (r : Run) → IsReplay s r → IsRun s r
 replay_runs s r h = subst (IsRun s) h.reaches (rounds_run s h.count (round_of s) (turns (opening_run s) s.order) (turns_run s s.order (opening_run s) (opening_runs s)))
 
 -- past the last driver no actor can step
-past_rests : (w : WorldState) (a : Actor) → length w.lanes ≤ a.lane.0 → step w a ≡ None
-past_rests w a h = ap (step_of w a) (slice_get_past w.lanes a.lane.0 h)
+past_rests : (w : WorldState) (a : Actor) → length w.lanes ≤ a.lane.0 → step_entry w a ≡ None
+past_rests w a h = ap (λ o. entry_of (step_of w a o).turn) (slice_get_past w.lanes a.lane.0 h)
 
 at_rest : (s : Scenario) (r : Run) → IsRun s r → turns r (round_of s) ≡ r → IsAtRest r.world
 at_rest s r h e a = by_place (nat_lt a.lane.0 (length s.drivers)) refl
   where
-    by_place : (b : Bool) → nat_lt a.lane.0 (length s.drivers) ≡ b → step r.world a ≡ None
+    by_place : (b : Bool) → nat_lt a.lane.0 (length s.drivers) ≡ b → step_entry r.world a ≡ None
     by_place true t =
         let z : 0 + a.lane.0 ≡ a.lane.0 = omega arith in
-        subst (λ n. step r.world (record { lane = record { 0 = n }; side = a.side }) ≡ None) z
+        subst (λ n. step_entry r.world (record { lane = record { 0 = n }; side = a.side }) ≡ None) z
         (in_round r.world (length s.drivers) 0 a.lane.0 a.side (round_rests (round_of s) r e) (grind (arith, nat_tests)))
     by_place false t = past_rests r.world a (let c = h.count in grind (arith, nat_tests))
 

@@ -1,8 +1,10 @@
+pub mod Drivers
 pub mod Ended
 pub mod Going
 pub mod Lanes
 pub mod Legal
 pub mod OpeningWorld
+pub mod Replayed
 pub mod Rest
 pub mod Rounds
 pub mod Steps

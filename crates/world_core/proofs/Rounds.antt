@@ -4,7 +4,7 @@ use Rattle.busdma_base.specs.declared.journal.Actor.{Actor}
 use Rattle.busdma_base.specs.declared.journal.JournalEntry.{JournalEntry}
 use Rattle.busdma_base.specs.declared.journal.Journal.{Journal}
 use Rattle.busdma_base.specs.declared.scenario.Scenario.{Scenario}
-use Rattle.world_core.specs.World.{WorldState, WorldStep, step}
+use Rattle.world_core.specs.World.{WorldState, step, step_entry}
 use Rattle.world_core.specs.Legal.{Run, Leads, turns, rounds, round_of, opening_run, IsReplay, IsReplayed, journal_of}
 
 -- after a round that makes no step no round does
@@ -37,6 +37,6 @@ pub one_replayed : (s : Scenario) (j k : Journal) → IsReplayed s j → IsRepla
 one_replayed s j k h g = h.journal ∙ ap journal_of (one_replay s h.run g.run h.replay g.replay) ∙ sym g.journal
 
 -- entries that lead on
-pub Leads-push : (w m : WorldState) (es : List JournalEntry) (s : WorldStep) → Leads w es m → step m s.entry.actor ≡ Some s → Leads w (es ++ s.entry ∷ []) s.world
-Leads-push w m [] s h is = (s, ap (λ x. step x s.entry.actor) h ∙ is, refl, refl)
-Leads-push w m (e ∷ es) s h is = (h.0, h.1, h.2, Leads-push h.0.world m es s h.3 is)
+pub Leads-push : (w m : WorldState) (es : List JournalEntry) (e : JournalEntry) → Leads w es m → step_entry m e.actor ≡ Some e → Leads w (es ++ e ∷ []) (step m e.actor).world
+Leads-push w m [] e h is = (ap (λ x. step_entry x e.actor) h ∙ is, ap (λ x. (step x e.actor).world) h)
+Leads-push w m (d ∷ es) e h is = (h.0, Leads-push (step w d.actor).world m es e h.1 is)

@@ -1,18 +1,17 @@
 -- How a run ends, and the status of a journal.
-use Rattle.std.specs.Prelude.{◌≡◌, ℕ, Bool, true, false, List, None, if◌then◌else◌}
+use Rattle.std.specs.Prelude.{◌≡◌, ℕ, Bool, List, None, if◌then◌else◌}
 use Rattle.std.specs.List.{list_all, list_any}
 use Rattle.busdma_base.specs.declared.journal.Actor.{Actor}
 use Rattle.busdma_base.specs.declared.journal.JournalEntry.{JournalEntry}
 use Rattle.busdma_base.specs.declared.journal.Journal.{Journal}
 use Rattle.busdma_base.specs.declared.journal.End.{End}
 use Rattle.busdma_base.specs.declared.journal.End.TheVariants.{Finished, Stuck}
-use Rattle.busdma_base.specs.declared.answer.Answer.{Answer}
-use Rattle.busdma_base.specs.declared.answer.Answer.TheVariants as answer
-use Rattle.world_core.specs.World.{WorldState, step, has_ended}
+use Rattle.busdma_base.specs.Reports.{is_report}
+use Rattle.world_core.specs.World.{WorldState, step_entry, has_ended}
 
 -- no actor can step
 abbrev pub IsAtRest : WorldState → Type 0
-IsAtRest w = (actor : Actor) → step w actor ≡ None
+IsAtRest w = (actor : Actor) → step_entry w actor ≡ None
 
 -- every script has ended
 abbrev pub all_ended : WorldState → Bool
@@ -21,11 +20,6 @@ all_ended w = list_all has_ended w.lanes
 -- a world at rest is finished where every script has ended, and stuck where one has not
 abbrev pub end_of : WorldState → End
 end_of w = if all_ended w then Finished else Stuck
-
--- an answer is a report
-abbrev pub is_report : Answer → Bool
-is_report (answer.Report r) = true
-is_report _ = false
 
 -- some entry's answer is a report
 abbrev pub has_report : List JournalEntry → Bool

@@ -5,13 +5,13 @@ use Rattle.busdma_base.specs.declared.journal.Side.TheVariants.{Script, Transfer
 use Rattle.busdma_base.specs.declared.journal.JournalEntry.{JournalEntry}
 use Rattle.busdma_base.specs.declared.journal.Journal.{Journal}
 use Rattle.busdma_base.specs.declared.scenario.Scenario.{Scenario}
-use Rattle.world_core.specs.World.{WorldState, WorldStep, opening_world, step, zone_counts}
+use Rattle.world_core.specs.World.{WorldState, opening_world, step, step_entry, zone_counts}
 use Rattle.world_core.specs.Ends.{IsAtRest, end_of}
 
 -- entries lead from one world to another: each entry's actor can step there, and the entry is that of its step
 abbrev pub Leads : WorldState → List JournalEntry → WorldState → Type 0
 Leads w [] end = w ≡ end
-Leads w (e ∷ es) end = (s : WorldStep) × (step w e.actor ≡ Some s) × (e ≡ s.entry) × Leads s.world es end
+Leads w (e ∷ es) end = (step_entry w e.actor ≡ Some e) × Leads (step w e.actor).world es end
 
 -- a journal is legal: its entries lead from the opening world to one at rest, whose counts and end it has
 pub record IsLegal (s : Scenario) (j : Journal) : Type 0 where
@@ -26,14 +26,14 @@ pub record Run : Type 0 where
   pub world : WorldState
   pub entries : List JournalEntry
 
--- a step is noted in the run; an actor that cannot step is skipped
-abbrev pub noted : Run → Option WorldStep → Run
-noted r None = r
-noted r (Some s) = record { world = s.world; entries = r.entries ++ s.entry ∷ [] }
+-- the entry of a step is noted, and the run goes on in the world after it; without an entry it stays
+abbrev pub noted : Run → WorldState → Option JournalEntry → Run
+noted r after None = r
+noted r after (Some e) = record { world = after; entries = r.entries ++ e ∷ [] }
 
--- an actor's turn
+-- an actor's turn; an actor that cannot step is skipped
 abbrev pub turn : Run → Actor → Run
-turn r actor = noted r (step r.world actor)
+turn r actor = noted r (step r.world actor).world (step_entry r.world actor)
 
 -- the turns of actors, in order
 abbrev pub turns : Run → List Actor → Run
@@ -59,11 +59,15 @@ rounds (suc n) round r = rounds n round (turns r round)
 abbrev pub opening_run : Scenario → Run
 opening_run s = record { world = opening_world s; entries = [] }
 
--- the turns of the scenario's order, and then rounds until a whole round makes no step
-pub record IsReplay (s : Scenario) (end : Run) : Type 0 where
+-- rounds lead from one run to another, which a further round leaves as it is
+pub record ComesToRest (round : List Actor) (before after : Run) : Type 0 where
   pub count : ℕ
-  pub reaches : rounds count (round_of s) (turns (opening_run s) s.order) ≡ end
-  pub rests : turns end (round_of s) ≡ end
+  pub reaches : rounds count round before ≡ after
+  pub rests : turns after round ≡ after
+
+-- the turns of the scenario's order, and then rounds until a whole round makes no step
+abbrev pub IsReplay : Scenario → Run → Type 0
+IsReplay s end = ComesToRest (round_of s) (turns (opening_run s) s.order) end
 
 -- the journal of a run
 abbrev pub journal_of : Run → Journal

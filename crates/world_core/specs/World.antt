@@ -1,5 +1,5 @@
 -- The world: all drivers and the account that they share, and its steps.
-use Rattle.std.specs.Prelude.{ℕ, ◌+◌, Bool, List, [], ◌∷◌, length, Option, Some, None, slice_get, slice_set, nat_le}
+use Rattle.std.specs.Prelude.{ℕ, ◌+◌, ◌<◌, Bool, List, [], ◌∷◌, length, Option, Some, None, slice_get, slice_set, nat_le}
 use Rattle.busdma_base.specs.declared.journal.Actor.{Actor}
 use Rattle.busdma_base.specs.declared.journal.JournalEntry.{JournalEntry}
 use Rattle.busdma_base.specs.declared.scenario.Driver.{Driver}
@@ -11,7 +11,7 @@ use Rattle.lane_core.specs.declared.turn.Turn.{Turn}
 use Rattle.lane_core.specs.declared.turn.Turn.TheVariants.{Stepped, Blocked, Ended}
 use Rattle.lane_core.specs.Lane.{LaneState}
 use Rattle.lane_core.specs.Opening.{opening_lane}
-use Rattle.lane_core.specs.Step.{lane_step}
+use Rattle.lane_core.specs.Step.{Turned, lane_step}
 
 -- the drivers, in the order of their numbers, and the one account
 pub record WorldState : Type 0 where
@@ -27,25 +27,37 @@ opening_lanes id (d ∷ ds) = opening_lane id d ∷ opening_lanes (id + 1) ds
 abbrev pub opening_world : Scenario → WorldState
 opening_world s = record { lanes = opening_lanes 0 s.drivers; account = opening s }
 
--- the world after a step, and the entry of the step
-pub record WorldStep : Type 0 where
+-- the world after an actor's turn, and what the turn answers
+pub record WorldTurned : Type 0 where
   pub world : WorldState
-  pub entry : JournalEntry
+  pub turn : Turn
 
--- what a driver's turn makes of the world; None where it is no step
-abbrev pub after_turn : WorldState → ℕ → LaneState → Turn → Option WorldStep
-after_turn w i l (Stepped entry held) = Some (record { world = record w { lanes = slice_set w.lanes i l }; entry = entry })
-after_turn w i l Blocked = None
-after_turn w i l Ended = None
+-- the turn of a driver in the world
+abbrev pub turned : WorldState → ℕ → Turned → WorldTurned
+turned w i t = record { world = record w { lanes = slice_set w.lanes i t.lane }; turn = t.turn }
 
--- the step of an actor whose driver was looked up
-abbrev pub step_of : WorldState → Actor → Option LaneState → Option WorldStep
-step_of w actor None = None
-step_of w actor (Some l) = after_turn w actor.lane.0 (lane_step l actor.side).lane (lane_step l actor.side).turn
+-- the turn of an actor whose driver was looked up; one that has no driver is Blocked
+abbrev pub step_of : WorldState → Actor → Option LaneState → WorldTurned
+step_of w actor None = record { world = w; turn = Blocked }
+step_of w actor (Some l) = turned w actor.lane.0 (lane_step l actor.side)
 
--- the step of an actor; None where it cannot step
-abbrev pub step : WorldState → Actor → Option WorldStep
+-- the turn of an actor
+abbrev pub step : WorldState → Actor → WorldTurned
 step w actor = step_of w actor (slice_get w.lanes actor.lane.0)
+
+-- the entry of a turn; None where it is no step
+abbrev pub entry_of : Turn → Option JournalEntry
+entry_of (Stepped entry held) = Some entry
+entry_of Blocked = None
+entry_of Ended = None
+
+-- the entry of an actor's step; None where the actor cannot step
+abbrev pub step_entry : WorldState → Actor → Option JournalEntry
+step_entry w actor = entry_of (step w actor).turn
+
+-- the actor's driver is one of the world's
+abbrev pub HasDriver : WorldState → Actor → Type 0
+HasDriver w actor = actor.lane.0 < length w.lanes
 
 -- the counts of zones from the z-th on; no sync has copied yet
 abbrev pub counts_from : Account → ℕ → List Zone → List ZoneCounts

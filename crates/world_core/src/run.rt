@@ -1,14 +1,17 @@
 //! The replay of a scenario.
 
 ghost use Rattle.std.specs.Prelude.{◌≡◌, IfOk, OnOk};
+ghost use Rattle.std.specs.List.{AllByRecursion};
 ghost use Rattle.busdma_base.specs.Valid.{IsValid};
 ghost use Rattle.world_core.specs.Ends as ends;
-ghost use Rattle.world_core.specs.Ideal.{ideal_run, ComesToRest};
+ghost use Rattle.world_core.specs.Ideal.{ideal_run, ideal_world};
 ghost use Rattle.world_core.specs.Legal as legal;
-ghost use Rattle.world_core.specs.Legal.{IsReplayed, round_from};
+ghost use Rattle.world_core.specs.Legal.{ComesToRest, IsReplayed, round_from};
+ghost use Rattle.world_core.specs.World.{HasDriver};
 
 use crate::world::World;
-use busdma_base::{Actor, Answer, End, Journal, JournalEntry, LaneId, ListOf, Scenario, Side};
+use busdma_base::{Actor, End, Journal, JournalEntry, LaneId, ListOf, Scenario, Side};
+use lane_core::Turn;
 use std::alloc::{AllocError, Global};
 
 /// How far a replay has come.
@@ -21,9 +24,10 @@ struct Progress<'s> {
 impl Progress<'_> {
     /// An actor's turn.
     fn turn(&mut self, alloc: Global, actor: Actor) -> Result<(), AllocError>
+        requires { HasDriver (ideal_world self.old.world) actor }
         ensures { OnOk result (ideal_run self.new ≡ legal.turn (ideal_run self.old) actor) }
     {
-        if let Some(entry) = self.world.step(alloc, actor)? {
+        if let Turn::Stepped { entry, .. } = self.world.step(alloc, actor)? {
             self.entries.push(entry)?;
         }
         Ok(())
@@ -31,6 +35,7 @@ impl Progress<'_> {
 
     /// The turns of actors, in order.
     fn turns(&mut self, alloc: Global, order: &[Actor]) -> Result<(), AllocError>
+        requires { AllByRecursion (HasDriver (ideal_world self.old.world)) order.now }
         ensures { OnOk result (ideal_run self.new ≡ legal.turns (ideal_run self.old) order.now) }
     {
         for actor in order {
@@ -41,6 +46,7 @@ impl Progress<'_> {
 
     /// Rounds over all drivers until a whole round makes no step.
     fn rounds(&mut self, alloc: Global, round: &[Actor]) -> Result<(), AllocError>
+        requires { AllByRecursion (HasDriver (ideal_world self.old.world)) round.now }
         ensures { OnOk result (ComesToRest round.now (ideal_run self.old) (ideal_run self.new)) }
     {
         'rounds: loop {
@@ -90,7 +96,7 @@ pub fn replay(alloc: Global, scenario: &Scenario) -> Result<Journal, AllocError>
     progress.rounds(alloc, &round)?;
     let Progress { world, entries } = progress;
     Ok(Journal {
-        zones: world.zones(alloc),
+        zones: world.zones(alloc)?,
         end: world.end(),
         entries: ListOf::new(entries),
     })
@@ -115,11 +121,5 @@ pub fn status(journal: &Journal) -> u8
 fn has_report(entries: &[JournalEntry]) -> bool
     ensures { result ≡ ends.has_report entries.now }
 {
-    entries.iter().any(|entry| is_report(&entry.answer))
-}
-
-fn is_report(answer: &Answer) -> bool
-    ensures { result ≡ ends.is_report answer.now }
-{
-    matches!(answer, Answer::Report(_))
+    entries.iter().any(|entry| entry.answer.is_report())
 }

@@ -5,10 +5,10 @@ ghost use Rattle.busdma_base.specs.Valid.{IsValid};
 ghost use Rattle.std.specs.List.{list_all};
 ghost use Rattle.lane_core.specs.Ideal.{ideal};
 ghost use Rattle.world_core.specs.Ends.{end_of};
-ghost use Rattle.world_core.specs.Ideal.{ideal_world, taken};
-ghost use Rattle.world_core.specs.World.{opening_world, has_ended, step, zone_counts};
+ghost use Rattle.world_core.specs.Ideal.{ideal_world};
+ghost use Rattle.world_core.specs.World.{HasDriver, opening_world, has_ended, step, zone_counts};
 
-use busdma_base::{Actor, End, JournalEntry, LaneId, Scenario, ZoneList};
+use busdma_base::{Actor, End, LaneId, Scenario, ZoneList};
 use lane_core::{Lane, Turn, opening_memory};
 use std::alloc::{AllocError, Global};
 
@@ -34,26 +34,21 @@ impl<'s> World<'s> {
         Ok(World { scenario, lanes })
     }
 
-    /// The step of an actor, and its entry; none where the actor cannot step. Want of memory leaves
-    /// the world as it was.
-    pub fn step(&mut self, alloc: Global, actor: Actor) -> Result<Option<JournalEntry>, AllocError>
-        ensures done { IfOk result (λ entry. record { world = ideal_world self.new; entry = entry } ≡ taken (ideal_world self.old) (step (ideal_world self.old) actor)) }
+    /// An actor's turn, which is its driver's: a step with its entry, Blocked, or Ended. Want of
+    /// memory leaves the world as it was.
+    pub fn step(&mut self, alloc: Global, actor: Actor) -> Result<Turn, AllocError>
+        requires { HasDriver (ideal_world self.old) actor }
+        ensures done { IfOk result (λ turn. record { world = ideal_world self.new; turn = turn } ≡ step (ideal_world self.old) actor) }
         ensures err { OnErr result (ideal_world self.new ≡ ideal_world self.old) }
     {
-        let Some(lane) = self.lanes.get_mut(actor.lane.0 as usize) else {
-            return Ok(None);
-        };
-        match lane.turn(alloc, actor.side)? {
-            Turn::Stepped { entry, .. } => Ok(Some(entry)),
-            Turn::Blocked | Turn::Ended => Ok(None),
-        }
+        self.lanes[actor.lane.0 as usize].turn(alloc, actor.side)
     }
 
     /// The counts of every bounce zone, in the order of their making.
-    pub fn zones(&self, alloc: Global) -> ZoneList
-        ensures { result ≡ zone_counts (ideal_world self.now) }
+    pub fn zones(&self, alloc: Global) -> Result<ZoneList, AllocError>
+        ensures { IfOk result (λ zones. zones ≡ zone_counts (ideal_world self.now)) }
     {
-        ZoneList::new(Vec::new(alloc))
+        Ok(ZoneList::new(Vec::new(alloc)))
     }
 
     /// How a run ends that has come to rest here.

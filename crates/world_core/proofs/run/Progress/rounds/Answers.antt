@@ -1,6 +1,7 @@
 use Rattle.std.proofs.Common.{◌+◌, refl, sym, ◌∙◌}
 use Rattle.world_core.specs.Ideal.{ideal_run}
 use Rattle.world_core.proofs.Going.{next_round, rests, falls}
+use Rattle.world_core.proofs.Drivers.{round_has_drivers}
 use Rattle.world_core.proofs.run.Progress.rounds.Goals as goal
 
 pub rounds-init : goal.rounds-init
@@ -18,3 +19,6 @@ rounds-smaller c = falls c.args.round.now (ideal_run c.rounds.self) (ideal_run c
 
 pub rounds-preserved : goal.rounds-preserved
 rounds-preserved c = (c.rounds.invariant.0 + 1, next_round c.rounds.invariant.0 c.args.round.now _ (ideal_run c.rounds.self) _ c.rounds.invariant.1 c.in_ok-turns.ensures)
+
+pub turns-requires : goal.turns-requires
+turns-requires c = round_has_drivers c.rounds.invariant.0 c.args.round.now _ (ideal_run c.rounds.self) c.rounds.invariant.1 c.requires
