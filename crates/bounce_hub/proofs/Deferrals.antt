@@ -15,7 +15,7 @@ use Rattle.busdma_base.specs.AccountStep.{Outcome, account_step, as_pages, creat
 use Rattle.busdma_base.specs.Growth.{zones_for, zone_of, with_zone_for, added, grown, maxpages, wanted_by_tag, wanted_by_map, with_map}
 use Rattle.busdma_base.specs.History.{IsOpening, after_entry, account_of}
 use Rattle.busdma_base.specs.Serving.{handed, queued, returned, completed, left_waiting, served}
-use Rattle.busdma_base.proofs.Shares.{sum_by-zones_for}
+use Rattle.busdma_base.proofs.Names.{sum_by-zones_for}
 use Rattle.bounce_hub.specs.Pools.{deferrals}
 use Rattle.bounce_hub.proofs.Owing.{completed-length}
 

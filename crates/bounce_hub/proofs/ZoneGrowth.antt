@@ -18,7 +18,7 @@ use Rattle.busdma_base.specs.Places.{frame_total}
 use Rattle.busdma_base.specs.Well.{IsWell}
 use Rattle.busdma_base.proofs.Counting.{sum_by-set_like}
 use Rattle.busdma_base.proofs.ZoneOf.{zones_for_found, zones_for_none}
-use Rattle.busdma_base.proofs.Shares.{sum_by-zones_for}
+use Rattle.busdma_base.proofs.Names.{sum_by-zones_for}
 use Rattle.bounce_hub.specs.declared.slot.Slot.{Slot}
 use Rattle.bounce_hub.specs.declared.pool.Pool.{Pool}
 use Rattle.bounce_hub.specs.Growing.{serves, place_for, pages_of, maps_of, most_pages, wanted_for}

@@ -69,7 +69,11 @@ impl Hub {
 impl HubDoor for Hub {
     ghost use Rattle.bounce_hub.specs.Seen.{door};
 
+    type Fixed = ();
+
     ghost seen = { door };
+
+    ghost fixed = { λ _. tt };
 
     fn attach_tag(
         &mut self,

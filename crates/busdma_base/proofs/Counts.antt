@@ -13,7 +13,7 @@ use Rattle.busdma_base.specs.Serving.{is_holding, handed, queued, returned, comp
 use Rattle.busdma_base.specs.Conditions.{IsIdle, times_held}
 use Rattle.busdma_base.specs.Well.{Lacks, IsWell}
 use Rattle.busdma_base.proofs.Counting.{count_by-append, count_by-filter_keeps, count_by-map_none}
-use Rattle.busdma_base.proofs.Shares.{and_left, and_right}
+use Rattle.busdma_base.proofs.Names.{and_left, and_right}
 
 abbrev weight : Bool → ℕ
 weight b = cond b 1 0

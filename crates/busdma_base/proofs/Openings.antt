@@ -13,7 +13,7 @@ use Rattle.busdma_base.specs.Frames.{is_in, frame_count, IsFrameRun}
 use Rattle.busdma_base.specs.Opening.{maxmem_of, is_owned, free_below, opening}
 use Rattle.busdma_base.specs.Valid.{IsValid}
 use Rattle.busdma_base.specs.History.{IsRising, IsFrame, IsOpening}
-use Rattle.busdma_base.proofs.Shares.{and_left, and_right}
+use Rattle.busdma_base.proofs.Names.{and_left, and_right}
 
 abbrev weight : Bool → ℕ
 weight b = cond b 1 0

@@ -17,7 +17,7 @@ use Rattle.busdma_base.specs.AccountStep.{Outcome, account_step, as_pages, attac
 use Rattle.busdma_base.specs.History.{IsSound, after_entry, account_of}
 use Rattle.busdma_base.specs.ServingOrder.{ServesNobody, lacking, first_gets, TooFew, ServesFront, ServesInOrder, maps_of, joined_by, called_by, joined, called}
 use Rattle.busdma_base.proofs.Counting.{get_or-set_as}
-use Rattle.busdma_base.proofs.Shares.{get_or-zones_for}
+use Rattle.busdma_base.proofs.Names.{get_or-zones_for}
 
 -- a change that leaves the lists of maps and the held pages
 nobody-like : (a b : Account) → b.held ≡ a.held → b.ready ≡ a.ready → ((z : ℕ) → (zone_at b z).wait ≡ (zone_at a z).wait) → ServesNobody a b

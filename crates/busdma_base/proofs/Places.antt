@@ -21,7 +21,7 @@ use Rattle.busdma_base.specs.Places.{times, places, frames_where, frame_total}
 use Rattle.busdma_base.specs.Well.{IsWell}
 use Rattle.busdma_base.proofs.Counting.{count_by-append, sum_by-set_like}
 use Rattle.busdma_base.proofs.Counts.{in_zones, head-inside}
-use Rattle.busdma_base.proofs.Shares.{sum_by-zones_for, and_left}
+use Rattle.busdma_base.proofs.Names.{sum_by-zones_for, and_left}
 use Rattle.busdma_base.proofs.Wells.{held-inside, well-step, well-opening}
 
 abbrev weight : Bool → ℕ

@@ -19,7 +19,7 @@ use Rattle.busdma_base.specs.Conditions.{MayCall, IsIdle, times_held}
 use Rattle.busdma_base.specs.History.{IsOpening, IsSound, after_entry, account_of}
 use Rattle.busdma_base.specs.Well.{Lacks, IsWell}
 use Rattle.busdma_base.proofs.Counting.{get_or-set_as, get_or-set_more}
-use Rattle.busdma_base.proofs.Shares.{get_or-zones_for}
+use Rattle.busdma_base.proofs.Names.{get_or-zones_for}
 use Rattle.busdma_base.proofs.Counts.{in_zones, handed-well, queued-well, held-active, release-well, shorter, shorter-well, shorter-enough, head-inside}
 
 -- a change that leaves the held pages, the lists of maps, and no fewer pages in the zones' lists

@@ -22,6 +22,7 @@ pub mod SameFor
 pub mod Script
 pub mod Serving
 pub mod ServingOrder
+pub mod Share
 pub mod Spans
 pub mod Table
 pub mod Tag

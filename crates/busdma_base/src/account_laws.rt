@@ -9,6 +9,7 @@ ghost use Rattle.busdma_base.specs.Account.{Account, free, reserved, active, tot
 ghost use Rattle.busdma_base.specs.Conditions.{MayCall};
 ghost use Rattle.busdma_base.specs.History.{IsRising, IsOpening, IsSound, account_of};
 ghost use Rattle.busdma_base.specs.Well.{IsWell};
+ghost use Rattle.busdma_base.specs.SameFor.{SameFor};
 ghost use Rattle.busdma_base.specs.declared.scenario.Scenario.{Scenario};
 ghost use Rattle.busdma_base.specs.Opening.{opening};
 ghost use Rattle.busdma_base.specs.Valid.{IsValid};
@@ -30,8 +31,8 @@ pub fn scenario_opens()
     ensures { (s : Scenario) → IsValid s → IsOpening (opening s) }
 {}
 
-/// The condition of a call of one lane is kept by each sound entry of other lanes, and so are the
-/// frames of its memories, which it hands back at their end.
+/// The condition of a call of one lane is kept by each sound entry of other lanes, and so is all that
+/// the account has of the lane's maps and memories, as the frames that it hands back at their end.
 pub fn condition_stays()
     ensures may { (lane : ℕ) (call : HubCall) (a : Account) (es : List HoldEntry) →
         MayCall lane call a → IsSound a es → All (λ e. e.lane.0 ≢ lane) es →
@@ -39,6 +40,8 @@ pub fn condition_stays()
     ensures frames { (lane : ℕ) (m : MapId) (a : Account) (es : List HoldEntry) → m.lane.0 ≡ lane →
         IsSound a es → All (λ e. e.lane.0 ≢ lane) es →
         frames_of m (account_of a es).mems ≡ frames_of m a.mems }
+    ensures same { (lane : ℕ) (a : Account) (es : List HoldEntry) → IsSound a es →
+        All (λ e. e.lane.0 ≢ lane) es → SameFor lane a (account_of a es) }
 {}
 
 /// The free, the reserved and the active pages of a zone are all its pages.

@@ -41,7 +41,12 @@ pub struct Called {
 /// and ends with the call's own entry. A call that ends in want of memory adds no own entry, and
 /// neither does the taking of a callback that finds none.
 pub trait HubDoor {
+    /// What no call changes, beside the account that the door began with and the lanes that it serves.
+    type Fixed;
+
     ghost seen: { Self → Seen };
+
+    ghost fixed: { Self → Self.Fixed };
 
     /// The first allocation of a tag with ALLOCNOW, which could bounce. `made` is false exactly
     /// where fewer pages were there than it wants; those that were there stay in its zone.
@@ -54,7 +59,8 @@ pub trait HubDoor {
         requires { Allows (seen self.old) lane.0 (AttachTag tag.now) }
         ensures held { IfOk result (λ r.
             Holds (seen self.old) lane.0 (AttachTag tag.now) (GrownBy r) (seen self.new)) }
-        ensures no_memory { OnErr result (Fails (seen self.old) (seen self.new)) };
+        ensures no_memory { OnErr result (Fails (seen self.old) (seen self.new)) }
+        ensures fixed { fixed self.new ≡ fixed self.old };
 
     /// The making of a map of a tag that could bounce; `first_done` tells that the tag's first
     /// allocation is done. `made` is false exactly where it was not and fewer pages were there
@@ -69,12 +75,14 @@ pub trait HubDoor {
         requires { Allows (seen self.old) map.lane.0 (CreateMap map tag.now first_done) }
         ensures held { IfOk result (λ r. Holds (seen self.old) map.lane.0
             (CreateMap map tag.now first_done) (GrownBy r) (seen self.new)) }
-        ensures no_memory { OnErr result (Fails (seen self.old) (seen self.new)) };
+        ensures no_memory { OnErr result (Fails (seen self.old) (seen self.new)) }
+        ensures fixed { fixed self.new ≡ fixed self.old };
 
     /// The end of a map that holds no page and is in no list. Takes no memory.
     fn destroy_map(&mut self, map: MapId, zone: ZoneId)
         requires { Allows (seen self.old) map.lane.0 (DestroyMap map zone) }
-        ensures { Holds (seen self.old) map.lane.0 (DestroyMap map zone) Nothing (seen self.new) };
+        ensures held { Holds (seen self.old) map.lane.0 (DestroyMap map zone) Nothing (seen self.new) }
+        ensures fixed { fixed self.new ≡ fixed self.old };
 
     /// The wish of a load for `need` pages, at least one. Where too few are free, a load with
     /// `nowait` gets none, and any other waits with all that are.
@@ -89,23 +97,26 @@ pub trait HubDoor {
         requires { Allows (seen self.old) map.lane.0 (Grab map zone need nowait) }
         ensures held { IfOk result (λ r. Holds (seen self.old) map.lane.0
             (Grab map zone need nowait) (grab_reply r) (seen self.new)) }
-        ensures no_memory { OnErr result (Fails (seen self.old) (seen self.new)) };
+        ensures no_memory { OnErr result (Fails (seen self.old) (seen self.new)) }
+        ensures fixed { fixed self.new ≡ fixed self.old };
 
     /// The return of a page to the zone that gave it to the map. Answers how many maps that wait
     /// were completed by it. Takes no memory.
     fn release(&mut self, map: MapId, zone: ZoneId, page: Page) -> u32
         requires { Allows (seen self.old) map.lane.0
             (Release map zone (record { 0 = page_address page })) }
-        ensures { Holds (seen self.old) map.lane.0
-            (Release map zone (record { 0 = page_address page })) (Served result) (seen self.new) };
+        ensures held { Holds (seen self.old) map.lane.0
+            (Release map zone (record { 0 = page_address page })) (Served result) (seen self.new) }
+        ensures fixed { fixed self.new ≡ fixed self.old };
 
     /// The first map of the callback list, where it is one of the lane's; None where the list is
     /// empty or its first map is another lane's. Takes no memory.
     fn take_callback(&mut self, lane: LaneId) -> Option<Called>
         requires { Allows (seen self.old) lane.0 TakeCallback }
-        ensures { MatchOption result (Misses (seen self.old) lane.0 (seen self.new)) (λ c.
+        ensures held { MatchOption result (Misses (seen self.old) lane.0 (seen self.new)) (λ c.
             Holds (seen self.old) lane.0 TakeCallback
-            (CalledFor c.map (as_pages (page_addresses c.pages.items))) (seen self.new)) };
+            (CalledFor c.map (as_pages (page_addresses c.pages.items))) (seen self.new)) }
+        ensures fixed { fixed self.new ≡ fixed self.old };
 
     /// The frames of a new dmamem memory, which follow one another; None where no such run is
     /// free.
@@ -120,11 +131,13 @@ pub trait HubDoor {
             (MemAlloc mem tag.now) (memory_reply r) (seen self.new)) }
         ensures row { IfOk result (λ r. IfSome r (λ pages. IsRow (page_addresses pages.items))) }
         ensures few { IfOk result (λ r. IfSome r (λ pages. length pages.items ≤ 8192)) }
-        ensures no_memory { OnErr result (Fails (seen self.old) (seen self.new)) };
+        ensures no_memory { OnErr result (Fails (seen self.old) (seen self.new)) }
+        ensures fixed { fixed self.new ≡ fixed self.old };
 
     /// The end of a memory, with its frames in rising order. Takes no memory.
     fn mem_free(&mut self, mem: MapId, pages: PageList)
         requires allowed { Allows (seen self.old) mem.lane.0 (MemFree mem) }
         requires pages { ArePagesOf mem (page_addresses pages.items) (seen self.old) }
-        ensures { Holds (seen self.old) mem.lane.0 (MemFree mem) Nothing (seen self.new) };
+        ensures held { Holds (seen self.old) mem.lane.0 (MemFree mem) Nothing (seen self.new) }
+        ensures fixed { fixed self.new ≡ fixed self.old };
 }

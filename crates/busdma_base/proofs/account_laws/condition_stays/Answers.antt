@@ -1,4 +1,4 @@
-use Rattle.busdma_base.proofs.Shares.{MayCall-stays, frames-stay}
+use Rattle.busdma_base.proofs.Shares.{MayCall-stays, frames-stay, SameFor-history}
 use Rattle.busdma_base.proofs.account_laws.condition_stays.Goals as goal
 
 pub returns-clause-may : goal.returns-clause-may
@@ -6,3 +6,6 @@ returns-clause-may c = MayCall-stays
 
 pub returns-clause-frames : goal.returns-clause-frames
 returns-clause-frames c = frames-stay
+
+pub returns-clause-same : goal.returns-clause-same
+returns-clause-same c = SameFor-history

@@ -27,6 +27,6 @@ later c =
 pub invariant_of-self : goal.invariant_of-self
 invariant_of-self c = later c
 
-pub returns : goal.returns
-returns c =
+pub returns-clause-held : goal.returns-clause-held
+returns-clause-held c =
     holds-own c.args.self.now (opening_of c.self.inside.first.value) c.self.inside.history.items c.push_reserved.new.self.items c.self.inside.pool c.destroy.new.self (vec_capacity c.self.inside.history) (vec_capacity c.push_reserved.new.self) c.args.map.lane.0 (DestroyMap c.args.map c.args.zone) Nothing c.self.view_is c.self.invariant (stepped c) (grows c) (later c)

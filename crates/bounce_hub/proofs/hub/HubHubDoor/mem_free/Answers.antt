@@ -37,6 +37,6 @@ later c =
 pub invariant_of-self : goal.invariant_of-self
 invariant_of-self c = later c
 
-pub returns : goal.returns
-returns c =
+pub returns-clause-held : goal.returns-clause-held
+returns-clause-held c =
     holds-own c.args.self.now (opening_of c.self.inside.first.value) c.self.inside.history.items c.push_reserved.new.self.items c.self.inside.pool c.free_memory.new.self (vec_capacity c.self.inside.history) (vec_capacity c.push_reserved.new.self) c.args.mem.lane.0 (MemFree c.args.mem) Nothing c.self.view_is c.self.invariant (stepped c) c.push_reserved.ensures.items (later c)

@@ -28,6 +28,6 @@ later c =
 pub invariant_of-self : goal.invariant_of-self
 invariant_of-self c = later c
 
-pub returns : goal.returns
-returns c =
+pub returns-clause-held : goal.returns-clause-held
+returns-clause-held c =
     holds-own c.args.self.now (opening_of c.self.inside.first.value) c.self.inside.history.items c.push_reserved.new.self.items c.self.inside.pool c.release-moved.new.self (vec_capacity c.self.inside.history) (vec_capacity c.push_reserved.new.self) c.args.map.lane.0 (Release c.args.map c.args.zone (record { 0 = page_address c.args.page })) (Served c.release-moved.result) c.self.view_is c.self.invariant (stepped c) (grows c) (later c)

@@ -28,7 +28,7 @@ later c =
 pub invariant_of-self-2 : goal.invariant_of-self-2
 invariant_of-self-2 c = later c
 
-pub returns : goal.returns
-returns c =
+pub returns-clause-held : goal.returns-clause-held
+returns-clause-held c =
     subst (λ ps. Holds (door c.args.self.now) c.args.lane.0 TakeCallback (Called c.in_ok-called.called.map ps) (door (record { opening = opening_of c.self.inside.first.value; history = c.push_reserved.new.self.items }))) c.in_ok-called.ensures.pages
     (holds-own c.args.self.now (opening_of c.self.inside.first.value) c.self.inside.history.items c.push_reserved.new.self.items c.self.inside.pool c.take_callback.new.self (vec_capacity c.self.inside.history) (vec_capacity c.push_reserved.new.self) c.args.lane.0 TakeCallback (Called c.in_ok-called.called.map c.in_ok-called.pages) c.self.view_is c.self.invariant (stepped c) (grows c) (later c))
