@@ -3,26 +3,26 @@ use Rattle.std.proofs.Common.{◌≡◌, ◌≢◌, ℕ, zero, suc, ◌+◌, ◌
 use Rattle.std.proofs.lemmas.Bool.Decides.{eqb_tells}
 use Rattle.std.proofs.lemmas.List.{get_or-set_same, get_or-set_other, length-set, set-get_or, length-map}
 use Rattle.busdma_base.specs.declared.name.MapId.{MapId}
-use Rattle.busdma_base.specs.declared.zone.Waiter.{Waiter}
-use Rattle.busdma_base.specs.Account.{Account, Zone, zone_at, free}
-use Rattle.busdma_base.specs.Serving.{handed, queued, returned, served, completed, left_waiting, promised}
-use Rattle.busdma_base.specs.Conditions.{times_held}
-use Rattle.busdma_base.specs.Framed.{Framed}
-use Rattle.busdma_base.specs.PageLists.{page_addresses, page_address}
-use Rattle.busdma_base.specs.Well.{IsWell}
-use Rattle.busdma_base.proofs.Counts.{SameZone, handed-zone, handed-reserved, handed-active, handed-other, queued-zone, queued-reserved, queued-other, room_now, release-avail, release-wait, release-done, release-reserved, release-active, release-other, release-count, shorter-reserved, shorter-other, shorter-enough, back-zone}
+use Rattle.busdma_base.specs.declared.bounce.zone.Waiter.{Waiter}
+use Rattle.busdma_base.specs.Bounce.Account.{Account, Zone, zone_at, free}
+use Rattle.busdma_base.specs.Bounce.Serving.{handed, queued, returned, served, completed, left_waiting, promised}
+use Rattle.busdma_base.specs.Bounce.Conditions.{times_held}
+use Rattle.busdma_base.specs.Machine.Page.{FrameBytes}
+use Rattle.busdma_base.specs.Machine.PageList.{page_addresses, page_address}
+use Rattle.busdma_base.specs.Bounce.WellFormed.{IsWellFormed}
+use Rattle.busdma_base.proofs.Accounts.Counts.{SameZone, handed-zone, handed-reserved, handed-active, handed-other, queued-zone, queued-reserved, queued-other, room_now, release-avail, release-wait, release-done, release-reserved, release-active, release-other, release-count, shorter-reserved, shorter-other, shorter-enough, back-zone}
 use Rattle.bounce_hub.specs.declared.slot.Slot.{Slot}
 use Rattle.bounce_hub.specs.declared.pool.Pool.{Pool}
 use Rattle.bounce_hub.specs.Pools.{Matches, Agrees, owed}
 use Rattle.bounce_hub.specs.Slots.{room_after}
 use Rattle.bounce_hub.proofs.Owing.{handed-owed, handed-waiting, queued-owed, queued-waiting, release-owed, release-waiting, shorter-owed}
 
-pub addresses-drop : (n : ℕ) (ps : List Framed) → page_addresses (drop n ps) ≡ drop n (page_addresses ps)
+pub addresses-drop : (n : ℕ) (ps : List FrameBytes) → page_addresses (drop n ps) ≡ drop n (page_addresses ps)
 addresses-drop zero ps = refl
 addresses-drop (suc n) [] = refl
 addresses-drop (suc n) (p ∷ ps) = addresses-drop n ps
 
-pub addresses-take : (n : ℕ) (ps : List Framed) → page_addresses (take n ps) ≡ take n (page_addresses ps)
+pub addresses-take : (n : ℕ) (ps : List FrameBytes) → page_addresses (take n ps) ≡ take n (page_addresses ps)
 addresses-take zero ps = refl
 addresses-take (suc n) [] = refl
 addresses-take (suc n) (p ∷ ps) = ap (λ xs. page_address p ∷ xs) (addresses-take n ps)
@@ -98,7 +98,7 @@ agrees-handed p q a m z need old new agrees around inside enough here is zones r
 
 -- a map waits with all free pages
 pub agrees-queued : (p q : Pool) (a : Account) (m : MapId) (z need : ℕ) (old new : Slot)
-    → Agrees p a → Around p q → IsWell a → z < length a.zones → free a z < need → Matches old a z
+    → Agrees p a → Around p q → IsWellFormed a → z < length a.zones → free a z < need → Matches old a z
     → new ≡ record old { zone = record old.zone { reserved = old.zone.reserved + free a z }; wait = old.wait ++ record { map = m; zone = record { 0 = z }; need = need; have = free a z } ∷ [] }
     → q.zones.items ≡ set p.zones.items z new → q.ready ≡ record p.ready { spare = p.ready.spare + 1 } → q.owed ≡ p.owed + (need + 1)
     → Agrees q (queued a m z need)
@@ -127,12 +127,12 @@ agrees-queued p q a m z need old new agrees around well inside short here is zon
     }
 
 -- how many pages are free once a page came back
-pub room-is : (a : Account) (m : MapId) (z page : ℕ) (old : Slot) (inside : z < length a.zones) (held : times_held m z page a ≡ 1) (well : IsWell a) → Matches old a z → room_after old ≡ room_now a m z page inside held well
+pub room-is : (a : Account) (m : MapId) (z page : ℕ) (old : Slot) (inside : z < length a.zones) (held : times_held m z page a ≡ 1) (well : IsWellFormed a) → Matches old a z → room_after old ≡ room_now a m z page inside held well
 room-is a m z page old inside held well here = omega (arith, ap (λ (x : List ℕ). length x) here.avail, length-map old.zone.pages page_address, here.reserved)
 
 -- a page came back, and the zone served
-pub agrees-released : (p q : Pool) (a : Account) (m : MapId) (z : ℕ) (page : Framed) (old new : Slot)
-    → Agrees p a → Around p q → IsWell a → z < length a.zones → times_held m z (page_address page) a ≡ 1 → Matches old a z
+pub agrees-released : (p q : Pool) (a : Account) (m : MapId) (z : ℕ) (page : FrameBytes) (old new : Slot)
+    → Agrees p a → Around p q → IsWellFormed a → z < length a.zones → times_held m z (page_address page) a ≡ 1 → Matches old a z
     → new ≡ record old { zone = record old.zone { pages = page ∷ old.zone.pages; active = old.zone.active - 1; reserved = old.zone.reserved + promised (room_after old) old.wait }; wait = left_waiting (room_after old) old.wait; deferred = old.deferred + length (completed (room_after old) old.wait) }
     → q.zones.items ≡ set p.zones.items z new
     → q.ready ≡ record { items = p.ready.items ++ completed (room_after old) old.wait; spare = p.ready.spare - length (completed (room_after old) old.wait) }
@@ -172,7 +172,7 @@ agrees-released p q a m z page old new agrees around well inside held here is zo
 
 -- a callback took its pages
 pub agrees-called : (p q : Pool) (a : Account) (w : Waiter) (ws : List Waiter) (old new : Slot)
-    → Agrees p a → Around p q → IsWell a → a.ready ≡ w ∷ ws → w.zone.0 < length a.zones → Matches old a w.zone.0
+    → Agrees p a → Around p q → IsWellFormed a → a.ready ≡ w ∷ ws → w.zone.0 < length a.zones → Matches old a w.zone.0
     → new ≡ record old { zone = record old.zone { pages = drop w.need old.zone.pages; reserved = old.zone.reserved - w.need; active = old.zone.active + w.need } }
     → q.zones.items ≡ set p.zones.items w.zone.0 new → q.ready.items ≡ ws → q.ready.spare ≡ p.ready.spare → q.owed ≡ p.owed - 1
     → Agrees q (handed (record a { ready = ws }) w.map w.zone.0 w.need)

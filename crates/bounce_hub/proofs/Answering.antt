@@ -5,18 +5,18 @@ use Rattle.std.proofs.lemmas.List.{length-map}
 use Rattle.std.proofs.lemmas.List.Elements.{All-weaker}
 use Rattle.std.proofs.lemmas.List.Sums.{get_or-le-sum_by}
 use Rattle.busdma_base.specs.declared.name.MapId.{MapId}
-use Rattle.busdma_base.specs.declared.zone.Waiter.{Waiter}
-use Rattle.busdma_base.specs.declared.hold.HubCall.{HubCall}
-use Rattle.busdma_base.specs.declared.hold.HubCall.TheVariants.{TakeCallback}
-use Rattle.busdma_base.specs.declared.hold.HubReply.{HubReply}
-use Rattle.busdma_base.specs.declared.hold.HubReply.TheVariants.{Granted, Queued, NoPages, Served, Called}
-use Rattle.busdma_base.specs.Account.{Account, Zone, no_zone, zone_at, free}
-use Rattle.busdma_base.specs.AccountStep.{Outcome, account_step, as_pages, grabbed, released, called_from}
-use Rattle.busdma_base.specs.Serving.{handed, queued, completed}
-use Rattle.busdma_base.specs.Conditions.{times_held}
-use Rattle.busdma_base.specs.PageLists.{page_address}
-use Rattle.busdma_base.specs.Well.{IsWell, Lacks}
-use Rattle.busdma_base.proofs.Counts.{release-done}
+use Rattle.busdma_base.specs.declared.bounce.zone.Waiter.{Waiter}
+use Rattle.busdma_base.specs.declared.bounce.hold.HubCall.{HubCall}
+use Rattle.busdma_base.specs.declared.bounce.hold.HubCall.TheVariants.{TakeCallback}
+use Rattle.busdma_base.specs.declared.bounce.hold.HubReply.{HubReply}
+use Rattle.busdma_base.specs.declared.bounce.hold.HubReply.TheVariants.{Granted, Queued, NoPages, Served, Called}
+use Rattle.busdma_base.specs.Bounce.Account.{Account, Zone, no_zone, zone_at, free}
+use Rattle.busdma_base.specs.Bounce.AccountStep.{Outcome, account_step, as_pages, grabbed, released, called_from}
+use Rattle.busdma_base.specs.Bounce.Serving.{handed, queued, completed}
+use Rattle.busdma_base.specs.Bounce.Conditions.{times_held}
+use Rattle.busdma_base.specs.Machine.PageList.{page_address}
+use Rattle.busdma_base.specs.Bounce.WellFormed.{IsWellFormed, Lacks}
+use Rattle.busdma_base.proofs.Accounts.Counts.{release-done}
 use Rattle.bounce_zone.specs.ZonePages.{free_pages}
 use Rattle.bounce_hub.specs.declared.slot.Slot.{Slot}
 use Rattle.bounce_hub.specs.declared.pool.Pool.{Pool}
@@ -44,7 +44,7 @@ pub called-yes : (lane : ℕ) (a : Account) (w : Waiter) (ws : List Waiter) → 
 called-yes lane a w ws is own = ap (λ k. called_from k lane a) is ∙ rw (eq-eqb w.map.lane.0 lane own) refl
 
 -- a release moves as many maps as its zone completes
-pub moved-is : (a : Account) (m : MapId) (z page : ℕ) (old : Slot) → IsWell a → z < length a.zones → times_held m z page a ≡ 1 → Matches old a z
+pub moved-is : (a : Account) (m : MapId) (z page : ℕ) (old : Slot) → IsWellFormed a → z < length a.zones → times_held m z page a ≡ 1 → Matches old a z
     → Served (length (completed (room_after old) old.wait)) ≡ (released m z page a).reply
 moved-is a m z page old well inside held here =
     ap (λ (x : List Waiter). Served (length x)) (ap (λ r. completed r old.wait) (room-is a m z page old inside held well here) ∙ ap (completed _) here.wait ∙ sym (release-done a m z page inside held well))
@@ -53,7 +53,7 @@ moved-is a m z page old well inside held here =
 pub waits-fit : (a : Account) (z : ℕ) → z < length a.zones → (zone_at a z).deferred + length (zone_at a z).wait ≤ deferrals a
 waits-fit a z inside = get_or-le-sum_by (λ (k : Zone). k.deferred + length k.wait) a.zones z no_zone inside
 
-pub waits-lack : (a : Account) (z : ℕ) → IsWell a → All (λ (w : Waiter). w.have < w.need) (zone_at a z).wait
+pub waits-lack : (a : Account) (z : ℕ) → IsWellFormed a → All (λ (w : Waiter). w.have < w.need) (zone_at a z).wait
 waits-lack a z well = All-weaker (Lacks z) (λ (w : Waiter). w.have < w.need) (λ w l. l.lacks) (zone_at a z).wait (well.waits z)
 
 -- a call whose outcome is known

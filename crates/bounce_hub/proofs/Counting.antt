@@ -1,9 +1,9 @@
 -- The counts of zones.
 use Rattle.std.proofs.Common.{◌≡◌, ℕ, zero, suc, ◌+◌, ◌-◌, ◌<◌, List, [], ◌∷◌, map, length, get_or, refl, ap, ◌∙◌, arith}
 use Rattle.std.proofs.lemmas.List.{length-map}
-use Rattle.busdma_base.specs.declared.zone.ZoneCounts.{ZoneCounts}
-use Rattle.busdma_base.specs.Account.{Account, zone_at, reserved, active, free, total, counts}
-use Rattle.busdma_base.specs.PageLists.{page_address}
+use Rattle.busdma_base.specs.declared.bounce.zone.ZoneCounts.{ZoneCounts}
+use Rattle.busdma_base.specs.Bounce.Account.{Account, zone_at, reserved, active, free, total, counts}
+use Rattle.busdma_base.specs.Machine.PageList.{page_address}
 use Rattle.bounce_hub.specs.declared.slot.Slot.{Slot}
 use Rattle.bounce_hub.specs.declared.pool.Pool.{Pool}
 use Rattle.bounce_hub.specs.Pools.{Matches, Agrees}

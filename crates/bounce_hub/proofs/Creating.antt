@@ -3,12 +3,12 @@ use Rattle.std.proofs.Common.{◌≡◌, ℕ, ◌<◌, ◌≤◌, ◌+◌, ◌==
 use Rattle.std.proofs.lemmas.List.{length-append, length-set}
 use Rattle.busdma_base.specs.declared.name.MapId.{MapId}
 use Rattle.busdma_base.specs.declared.name.ZoneId.{ZoneId}
-use Rattle.busdma_base.specs.declared.tag.TagLimits.{TagLimits}
-use Rattle.busdma_base.specs.declared.hold.HubCall.TheVariants.{CreateMap}
-use Rattle.busdma_base.specs.declared.hold.HubReply.TheVariants.{Grown}
-use Rattle.busdma_base.specs.Account.{Account, zone_at, total}
-use Rattle.busdma_base.specs.AccountStep.{Outcome, created}
-use Rattle.busdma_base.specs.Growth.{zone_of, with_zone_for, wanted_by_map, maxpages, added, grown, with_map}
+use Rattle.busdma_base.specs.declared.tags.tag.TagLimits.{TagLimits}
+use Rattle.busdma_base.specs.declared.bounce.hold.HubCall.TheVariants.{CreateMap}
+use Rattle.busdma_base.specs.declared.bounce.hold.HubReply.TheVariants.{Grown}
+use Rattle.busdma_base.specs.Bounce.Account.{Account, zone_at, total}
+use Rattle.busdma_base.specs.Bounce.AccountStep.{Outcome, created}
+use Rattle.busdma_base.specs.Bounce.Growth.{zone_of, with_zone_for, wanted_by_map, maxpages, added, grown, with_map}
 use Rattle.bounce_hub.specs.declared.slot.Slot.{Slot}
 use Rattle.bounce_hub.specs.declared.pool.Pool.{Pool}
 use Rattle.bounce_hub.specs.Growing.{GrewBy, Grows, place_for, wanted_for, maps_of, pages_of, most_pages}

@@ -4,18 +4,18 @@ use Rattle.std.specs.List.{sum_by, filter}
 use Rattle.std.proofs.lemmas.List.{length-append}
 use Rattle.std.proofs.lemmas.List.Sums.{sum_by-cons}
 use Rattle.busdma_base.specs.declared.name.MapId.{MapId}
-use Rattle.busdma_base.specs.declared.tag.TagLimits.{TagLimits}
-use Rattle.busdma_base.specs.declared.zone.Waiter.{Waiter}
-use Rattle.busdma_base.specs.declared.hold.HubCall.{HubCall}
-use Rattle.busdma_base.specs.declared.hold.HubCall.TheVariants.{AttachTag, CreateMap, DestroyMap, Grab, Release, TakeCallback, MemAlloc, MemFree}
-use Rattle.busdma_base.specs.declared.hold.HubReply.TheVariants.{Nothing, Granted, Queued, NoPages, Called}
-use Rattle.busdma_base.specs.declared.hold.HoldEntry.{HoldEntry}
-use Rattle.busdma_base.specs.Account.{Account, Zone, is_map, zone_at, no_zone, with_zone, free, total}
-use Rattle.busdma_base.specs.AccountStep.{Outcome, account_step, as_pages, created, grabbed, called_from, placed}
-use Rattle.busdma_base.specs.Growth.{zones_for, zone_of, with_zone_for, added, grown, maxpages, wanted_by_tag, wanted_by_map, with_map}
-use Rattle.busdma_base.specs.History.{IsOpening, after_entry, account_of}
-use Rattle.busdma_base.specs.Serving.{handed, queued, returned, completed, left_waiting, served}
-use Rattle.busdma_base.proofs.Names.{sum_by-zones_for}
+use Rattle.busdma_base.specs.declared.tags.tag.TagLimits.{TagLimits}
+use Rattle.busdma_base.specs.declared.bounce.zone.Waiter.{Waiter}
+use Rattle.busdma_base.specs.declared.bounce.hold.HubCall.{HubCall}
+use Rattle.busdma_base.specs.declared.bounce.hold.HubCall.TheVariants.{AttachTag, CreateMap, DestroyMap, Grab, Release, TakeCallback, MemAlloc, MemFree}
+use Rattle.busdma_base.specs.declared.bounce.hold.HubReply.TheVariants.{Nothing, Granted, Queued, NoPages, Called}
+use Rattle.busdma_base.specs.declared.bounce.hold.HoldEntry.{HoldEntry}
+use Rattle.busdma_base.specs.Bounce.Account.{Account, Zone, same_map, zone_at, no_zone, with_zone, free, total}
+use Rattle.busdma_base.specs.Bounce.AccountStep.{Outcome, account_step, as_pages, created, grabbed, called_from, placed}
+use Rattle.busdma_base.specs.Bounce.Growth.{zones_for, zone_of, with_zone_for, added, grown, maxpages, wanted_by_tag, wanted_by_map, with_map}
+use Rattle.busdma_base.specs.Bounce.History.{IsOpening, after_entry, account_of}
+use Rattle.busdma_base.specs.Bounce.Serving.{handed, queued, returned, completed, left_waiting, served}
+use Rattle.busdma_base.proofs.Accounts.Names.{sum_by-zones_for}
 use Rattle.bounce_hub.specs.Pools.{deferrals}
 use Rattle.bounce_hub.proofs.Owing.{completed-length}
 
@@ -86,7 +86,7 @@ step_le lane (AttachTag t) a =
     let z : ℕ = zone_of t a.zones in
     omega (arith, grown_le t a (added (with_zone_for t a) z (wanted_by_tag t (total (with_zone_for t a) z))))
 step_le lane (CreateMap m t first_done) a = created_le m t first_done a
-step_le lane (DestroyMap m z) a = omega (arith, with_zone_le a z.0 0 (record (zone_at a z.0) { maps = filter (λ n. not (is_map m n)) (zone_at a z.0).maps }) (omega arith))
+step_le lane (DestroyMap m z) a = omega (arith, with_zone_le a z.0 0 (record (zone_at a z.0) { maps = filter (λ n. not (same_map m n)) (zone_at a z.0).maps }) (omega arith))
 step_le lane (Grab m z need nowait) a = grabbed_le m z.0 need nowait a
 step_le lane (Release m z page) a = released_le m z.0 page.0 a
 step_le lane TakeCallback a = called_le a.ready lane a

@@ -2,15 +2,15 @@
 use Rattle.std.proofs.Common.{◌≡◌, ℕ, ◌+◌, ◌<◌, ◌≤◌, ◌^◌, true, false, List, [], ◌∷◌, ◌++◌, length, refl, sym, ap, ◌∙◌, subst, arith}
 use Rattle.std.proofs.lemmas.List.{length-append, append-nil}
 use Rattle.std.proofs.lemmas.List.Elements.{All-nil}
-use Rattle.busdma_base.specs.declared.hold.HubCall.{HubCall}
-use Rattle.busdma_base.specs.declared.hold.HubReply.{HubReply}
-use Rattle.busdma_base.specs.declared.hold.HoldEntry.{HoldEntry}
-use Rattle.busdma_base.specs.Account.{Account}
-use Rattle.busdma_base.specs.Conditions.{MayCall}
-use Rattle.busdma_base.specs.Door.{Allows, Passes, Holds, Misses, Fails}
-use Rattle.busdma_base.specs.History.{IsOpening, IsSound, IsSoundEntry, is_kept, account_of, after_entry}
-use Rattle.busdma_base.proofs.Places.{places-bank, times-rising, total-stays}
-use Rattle.busdma_base.proofs.Wells.{account-well}
+use Rattle.busdma_base.specs.declared.bounce.hold.HubCall.{HubCall}
+use Rattle.busdma_base.specs.declared.bounce.hold.HubReply.{HubReply}
+use Rattle.busdma_base.specs.declared.bounce.hold.HoldEntry.{HoldEntry}
+use Rattle.busdma_base.specs.Bounce.Account.{Account}
+use Rattle.busdma_base.specs.Bounce.Conditions.{MayCall}
+use Rattle.busdma_base.specs.Bounce.Door.{Allows, Passes, Holds, Misses, Fails}
+use Rattle.busdma_base.specs.Bounce.History.{IsOpening, IsSound, IsSoundEntry, is_kept, account_of, after_entry}
+use Rattle.busdma_base.proofs.Accounts.Places.{places-bank, times-rising, total-stays}
+use Rattle.busdma_base.proofs.Accounts.WellFormed.{account-well}
 use Rattle.bounce_hub.specs.declared.pool.Pool.{Pool}
 use Rattle.bounce_hub.specs.Pools.{Agrees, Fits, Allowed, Stepped, Steps, Stays, Missed}
 use Rattle.bounce_hub.specs.Seen.{HubSeen, IsKept, door}

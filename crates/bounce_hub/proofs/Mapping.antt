@@ -4,12 +4,12 @@ use Rattle.std.specs.List.{count_by, sum_by, filter}
 use Rattle.std.proofs.lemmas.List.{get_or-set_same, get_or-set_other}
 use Rattle.std.proofs.lemmas.List.Sums.{sum_by-cons, sum_by-set, get_or-le-sum_by}
 use Rattle.busdma_base.specs.declared.name.MapId.{MapId}
-use Rattle.busdma_base.specs.declared.tag.TagLimits.{TagLimits}
-use Rattle.busdma_base.specs.declared.hold.HubReply.TheVariants.{Grown}
-use Rattle.busdma_base.specs.Account.{Account, Zone, is_map, no_zone, zone_at, with_zone, total}
-use Rattle.busdma_base.specs.AccountStep.{created}
-use Rattle.busdma_base.specs.Growth.{zone_of, with_zone_for, added, grown, maxpages, wanted_by_map, with_map}
-use Rattle.busdma_base.specs.PageLists.{page_addresses}
+use Rattle.busdma_base.specs.declared.tags.tag.TagLimits.{TagLimits}
+use Rattle.busdma_base.specs.declared.bounce.hold.HubReply.TheVariants.{Grown}
+use Rattle.busdma_base.specs.Bounce.Account.{Account, Zone, same_map, no_zone, zone_at, with_zone, total}
+use Rattle.busdma_base.specs.Bounce.AccountStep.{created}
+use Rattle.busdma_base.specs.Bounce.Growth.{zone_of, with_zone_for, added, grown, maxpages, wanted_by_map, with_map}
+use Rattle.busdma_base.specs.Machine.PageList.{page_addresses}
 use Rattle.bounce_hub.specs.declared.slot.Slot.{Slot}
 use Rattle.bounce_hub.specs.declared.pool.Pool.{Pool}
 use Rattle.bounce_hub.specs.Pools.{Matches, Agrees, entries_of, owed, waiting}
@@ -56,12 +56,12 @@ agrees-mapped p q a z old new maps agrees around inside here is zones ready more
     }
 
 -- one map fewer
-pub maps-less : (m : MapId) (ms : List MapId) → length (filter (λ n. not (is_map m n)) ms) + count_by (is_map m) ms ≡ length ms
+pub maps-less : (m : MapId) (ms : List MapId) → length (filter (λ n. not (same_map m n)) ms) + count_by (same_map m) ms ≡ length ms
 maps-less m [] = refl
 maps-less m (n ∷ ms) =
-    (elim (is_map m n) as (λ v. is_map m n ≡ v → length (cond (not v) (n ∷ filter (λ n. not (is_map m n)) ms) (filter (λ n. not (is_map m n)) ms)) + count_by (is_map m) (n ∷ ms) ≡ length (n ∷ ms)) [
-      | true ↦ λ w. (let one : weight (is_map m n) ≡ 1 = rw w refl in omega (arith, one, maps-less m ms, sum_by-cons (λ y. weight (is_map m y)) n ms))
-      | false ↦ λ w. (let none : weight (is_map m n) ≡ 0 = rw w refl in omega (arith, none, maps-less m ms, sum_by-cons (λ y. weight (is_map m y)) n ms))
+    (elim (same_map m n) as (λ v. same_map m n ≡ v → length (cond (not v) (n ∷ filter (λ n. not (same_map m n)) ms) (filter (λ n. not (same_map m n)) ms)) + count_by (same_map m) (n ∷ ms) ≡ length (n ∷ ms)) [
+      | true ↦ λ w. (let one : weight (same_map m n) ≡ 1 = rw w refl in omega (arith, one, maps-less m ms, sum_by-cons (λ y. weight (same_map m y)) n ms))
+      | false ↦ λ w. (let none : weight (same_map m n) ≡ 0 = rw w refl in omega (arith, none, maps-less m ms, sum_by-cons (λ y. weight (same_map m y)) n ms))
     ]) refl
 
 -- a zone's maps are among those that are to end

@@ -2,13 +2,13 @@
 use Rattle.std.proofs.Common.{ℕ, ◌^◌, ◌<◌, refl, arith}
 use Rattle.std.proofs.lemmas.List.{length-map}
 use Rattle.std.proofs.lemmas.List.Elements.{All-map, All-weaker}
-use Rattle.busdma_base.specs.Framed.{Framed}
-use Rattle.busdma_base.specs.History.{IsFrame, IsOpening}
-use Rattle.busdma_base.specs.PageLists.{page_address}
+use Rattle.busdma_base.specs.Machine.Page.{FrameBytes}
+use Rattle.busdma_base.specs.Bounce.History.{IsFrame, IsOpening}
+use Rattle.busdma_base.specs.Machine.PageList.{page_address}
 use Rattle.frame_bank.specs.FrameBank.{Bank, IsBank}
 use Rattle.bounce_hub.specs.Opening.{opening}
 
-page_is_frame : (p : Framed) → p.frame < 2 ^ 30 → IsFrame (page_address p)
+page_is_frame : (p : FrameBytes) → p.frame < 2 ^ 30 → IsFrame (page_address p)
 page_is_frame p h = record { whole = omega arith; numbered = omega (arith, h) }
 
 pub bank_opens : (b : Bank) (max_bpages maxmem : ℕ) → IsBank b → IsOpening (opening b max_bpages maxmem)

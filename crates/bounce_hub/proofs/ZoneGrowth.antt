@@ -6,19 +6,19 @@ use Rattle.std.proofs.lemmas.List.{get_or-set_same, get_or-set_other, length-app
 use Rattle.std.proofs.Math.Seq.{get_or-append_seam}
 use Rattle.std.proofs.lemmas.List.Sums.{get_or-le-sum_by, count_by-le-length}
 use Rattle.std.proofs.lemmas.Option.{slice_get-get_or, slice_get_past}
-use Rattle.busdma_base.specs.declared.tag.TagLimits.{TagLimits}
-use Rattle.busdma_base.specs.declared.zone.Waiter.{Waiter}
-use Rattle.busdma_base.specs.declared.hold.HubReply.TheVariants.{Grown}
-use Rattle.busdma_base.specs.Account.{Account, Zone, Held, no_zone, zone_at, reserved, active, total}
-use Rattle.busdma_base.specs.AccountStep.{attached}
-use Rattle.busdma_base.specs.Framed.{Framed}
-use Rattle.busdma_base.specs.Growth.{serves_tag, new_zone, zones_for, zone_of, with_zone_for, added, grown, wanted_by_tag, wanted_by_map, maxpages}
-use Rattle.busdma_base.specs.PageLists.{page_addresses, page_address}
-use Rattle.busdma_base.specs.Places.{frame_total}
-use Rattle.busdma_base.specs.Well.{IsWell}
-use Rattle.busdma_base.proofs.Counting.{sum_by-set_like}
-use Rattle.busdma_base.proofs.ZoneOf.{zones_for_found, zones_for_none}
-use Rattle.busdma_base.proofs.Names.{sum_by-zones_for}
+use Rattle.busdma_base.specs.declared.tags.tag.TagLimits.{TagLimits}
+use Rattle.busdma_base.specs.declared.bounce.zone.Waiter.{Waiter}
+use Rattle.busdma_base.specs.declared.bounce.hold.HubReply.TheVariants.{Grown}
+use Rattle.busdma_base.specs.Bounce.Account.{Account, Zone, Held, no_zone, zone_at, reserved, active, total}
+use Rattle.busdma_base.specs.Bounce.AccountStep.{attached}
+use Rattle.busdma_base.specs.Machine.Page.{FrameBytes}
+use Rattle.busdma_base.specs.Bounce.Growth.{serves_tag, new_zone, zones_for, zone_of, with_zone_for, added, grown, wanted_by_tag, wanted_by_map, maxpages}
+use Rattle.busdma_base.specs.Machine.PageList.{page_addresses, page_address}
+use Rattle.busdma_base.specs.Bounce.Places.{frame_total}
+use Rattle.busdma_base.specs.Bounce.WellFormed.{IsWellFormed}
+use Rattle.busdma_base.proofs.Accounts.Counting.{sum_by-set_like}
+use Rattle.busdma_base.proofs.Accounts.ZoneOf.{zones_for_found, zones_for_none}
+use Rattle.busdma_base.proofs.Accounts.Names.{sum_by-zones_for}
 use Rattle.bounce_hub.specs.declared.slot.Slot.{Slot}
 use Rattle.bounce_hub.specs.declared.pool.Pool.{Pool}
 use Rattle.bounce_hub.specs.Growing.{serves, place_for, pages_of, maps_of, most_pages, wanted_for}
@@ -74,7 +74,7 @@ grown-owed a z n = omega (arith, sum_by-set_like of_zone a.zones z (record (zone
 pub grown-waiting : (a : Account) (z n : ℕ) → waiting (grown a z n) ≡ waiting a
 grown-waiting a z n = sum_by-set_like (λ (s : Zone). length s.wait) a.zones z (record (zone_at a z) { avail = (zone_at a z).avail ++ take n a.bank }) no_zone refl refl
 
-addresses-append : (ps qs : List Framed) → page_addresses (ps ++ qs) ≡ page_addresses ps ++ page_addresses qs
+addresses-append : (ps qs : List FrameBytes) → page_addresses (ps ++ qs) ≡ page_addresses ps ++ page_addresses qs
 addresses-append [] qs = refl
 addresses-append (p ∷ ps) qs = ap (λ xs. page_address p ∷ xs) (addresses-append ps qs)
 
@@ -112,7 +112,7 @@ agrees-grown p q a z n old new agrees inside here is zones bank ready owes maxme
     }
 
 -- a zone that is made for the tag, with its first pages
-abbrev pub new_slot : TagLimits → List Framed → Slot
+abbrev pub new_slot : TagLimits → List FrameBytes → Slot
 new_slot t pages = record {
   zone = record { lowaddr = t.lowaddr.0; alignment = max t.alignment 4096; pages = pages; reserved = 0; active = 0 };
   wait = [];
@@ -133,7 +133,7 @@ module _ (t : TagLimits) (a : Account) (none : zone_of t a.zones ≡ length a.zo
   old-there : (y : ℕ) → y < length a.zones → zone_at with_new y ≡ zone_at a y
   old-there y below = ap (λ (zs : List Zone). get_or zs y no_zone) behind ∙ get_or_append_left a.zones (new_zone t ∷ []) no_zone y below
 
-  none-reserved : IsWell a → reserved a (zone_of t a.zones) ≡ 0
+  none-reserved : IsWellFormed a → reserved a (zone_of t a.zones) ≡ 0
   none-reserved well =
       let gone : zone_at a (zone_of t a.zones) ≡ no_zone = ap (λ (k : ℕ). get_or a.zones k no_zone) none ∙ none-past a.zones in
       omega (arith, well.enough (zone_of t a.zones), ap (λ (z : Zone). length z.avail) gone)
@@ -141,10 +141,10 @@ module _ (t : TagLimits) (a : Account) (none : zone_of t a.zones ≡ length a.zo
   none-waits : (zone_at a (zone_of t a.zones)).wait ≡ []
   none-waits = ap (λ (z : Zone). z.wait) (ap (λ (k : ℕ). get_or a.zones k no_zone) none ∙ none-past a.zones)
 
-  pub none-total : IsWell a → total with_new (zone_of t a.zones) ≡ 0
+  pub none-total : IsWellFormed a → total with_new (zone_of t a.zones) ≡ 0
   none-total well = omega (arith, ap (λ (z : Zone). length z.avail) new-there, well.inside (zone_of t a.zones) (omega (arith, none)))
 
-  module _ (p q : Pool) (n : ℕ) (agrees : Agrees p a) (well : IsWell a) (zones : q.zones.items ≡ p.zones.items ++ new_slot t (take n p.bank.pages) ∷ []) where
+  module _ (p q : Pool) (n : ℕ) (agrees : Agrees p a) (well : IsWellFormed a) (zones : q.zones.items ≡ p.zones.items ++ new_slot t (take n p.bank.pages) ∷ []) where
     abbrev z : ℕ
     z = zone_of t a.zones
 
@@ -213,7 +213,7 @@ module _ (t : TagLimits) (a : Account) (none : zone_of t a.zones ≡ length a.zo
     }
 
 -- the pages and the maps of the tag's zone
-pub pages-is : (t : TagLimits) (p : Pool) (a : Account) → Agrees p a → IsWell a → pages_of (slice_get p.zones.items (zone_of t a.zones)) ≡ total (with_zone_for t a) (zone_of t a.zones)
+pub pages-is : (t : TagLimits) (p : Pool) (a : Account) → Agrees p a → IsWellFormed a → pages_of (slice_get p.zones.items (zone_of t a.zones)) ≡ total (with_zone_for t a) (zone_of t a.zones)
 pages-is t p a agrees well =
     (elim (eqb_tells (zone_of t a.zones) (length a.zones)) as (λ _. pages_of (slice_get p.zones.items (zone_of t a.zones)) ≡ total (with_zone_for t a) (zone_of t a.zones)) [
       | inl h ↦ ap pages_of (slice_get_past p.zones.items (zone_of t a.zones) (omega (arith, h.1, agrees.count))) ∙ sym (none-total t a h.1 well)
@@ -242,7 +242,7 @@ pub attached-as : (t : TagLimits) (a : Account) (n wanted : ℕ) → wanted ≡ 
 attached-as t a n wanted w e = rw (sym w, sym e) refl
 
 -- how many pages the making of a map wants
-pub wanted-is : (t : TagLimits) (first_done : Bool) (p : Pool) (a : Account) (place : ℕ) → Agrees p a → IsWell a → place ≡ zone_of t a.zones
+pub wanted-is : (t : TagLimits) (first_done : Bool) (p : Pool) (a : Account) (place : ℕ) → Agrees p a → IsWellFormed a → place ≡ zone_of t a.zones
     → wanted_for t first_done (maps_of (slice_get p.zones.items place)) (pages_of (slice_get p.zones.items place)) (most_pages t p)
     ≡ wanted_by_map t first_done (zone_at (with_zone_for t a) (zone_of t a.zones)) (total (with_zone_for t a) (zone_of t a.zones)) (maxpages t a)
 wanted-is t first_done p a place agrees well at =

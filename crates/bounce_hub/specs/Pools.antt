@@ -1,18 +1,18 @@
 -- How what lanes share stands to the account.
 use Rattle.std.specs.Prelude.{◌≡◌, ℕ, ◌+◌, ◌^◌, ◌<◌, ◌≤◌, List, length, slice_index_or, sum_by}
-use Rattle.busdma_base.specs.declared.zone.Waiter.{Waiter}
+use Rattle.busdma_base.specs.declared.bounce.zone.Waiter.{Waiter}
 use Rattle.busdma_base.specs.declared.name.MapId.{MapId}
-use Rattle.busdma_base.specs.declared.hold.HubCall.{HubCall}
-use Rattle.busdma_base.specs.declared.hold.HubReply.{HubReply}
-use Rattle.busdma_base.specs.declared.hold.HubCall.TheVariants.{TakeCallback, MemFree}
-use Rattle.busdma_base.specs.declared.hold.HubReply.TheVariants.{Nothing}
-use Rattle.busdma_base.specs.Account.{Account, zone_at, reserved, active}
-use Rattle.busdma_base.specs.AccountStep.{account_step}
-use Rattle.busdma_base.specs.Conditions.{MayCall}
-use Rattle.busdma_base.specs.MemoryRuns.{frames_of}
-use Rattle.busdma_base.specs.PageLists.{page_addresses}
-use Rattle.busdma_base.specs.Places.{frame_total, places}
-use Rattle.busdma_base.specs.Well.{IsWell}
+use Rattle.busdma_base.specs.declared.bounce.hold.HubCall.{HubCall}
+use Rattle.busdma_base.specs.declared.bounce.hold.HubReply.{HubReply}
+use Rattle.busdma_base.specs.declared.bounce.hold.HubCall.TheVariants.{TakeCallback, MemFree}
+use Rattle.busdma_base.specs.declared.bounce.hold.HubReply.TheVariants.{Nothing}
+use Rattle.busdma_base.specs.Bounce.Account.{Account, zone_at, reserved, active}
+use Rattle.busdma_base.specs.Bounce.AccountStep.{account_step}
+use Rattle.busdma_base.specs.Bounce.Conditions.{MayCall}
+use Rattle.busdma_base.specs.Bounce.MemoryRuns.{frames_of}
+use Rattle.busdma_base.specs.Machine.PageList.{page_addresses}
+use Rattle.busdma_base.specs.Bounce.Places.{frame_total, places}
+use Rattle.busdma_base.specs.Bounce.WellFormed.{IsWellFormed}
 use Rattle.frame_bank.specs.FrameBank.{free_frames}
 use Rattle.bounce_hub.specs.declared.slot.Slot.{Slot}
 use Rattle.bounce_hub.specs.declared.pool.Pool.{Pool}
@@ -57,7 +57,7 @@ pub record Agrees (p : Pool) (a : Account) : Type 0 where
 
 -- the account's lists fit together, no frame stands twice, its numbers are small, and the bank has room for all frames
 pub record Fits (p : Pool) (a : Account) : Type 0 where
-  pub well : IsWell a
+  pub well : IsWellFormed a
   pub apart : (f : ℕ) → places f a ≤ 1
   pub few : frame_total a ≤ 8192
   pub deferrals : deferrals a < 2 ^ 63

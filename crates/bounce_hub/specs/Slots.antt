@@ -1,6 +1,6 @@
 -- What contracts see of a zone with its waiting maps.
 use Rattle.std.specs.Prelude.{ℕ, ◌+◌, ◌-◌, length}
-use Rattle.busdma_base.specs.declared.zone.ZoneCounts.{ZoneCounts}
+use Rattle.busdma_base.specs.declared.bounce.zone.ZoneCounts.{ZoneCounts}
 use Rattle.bounce_zone.specs.ZonePages.{free_pages}
 use Rattle.bounce_hub.specs.declared.slot.Slot.{Slot}
 

@@ -1,11 +1,11 @@
 //! Pages go to maps and come back.
 
 ghost use Rattle.std.specs.Prelude.{◌≡◌, ◌+◌, ◌^◌, ◌<◌, ◌≤◌, IfOk, IfSome, IfNone, OnErr};
-ghost use Rattle.busdma_base.specs.declared.hold.HubCall.TheVariants.{Grab, Release, TakeCallback};
-ghost use Rattle.busdma_base.specs.declared.hold.HubReply.TheVariants.{Served, Called as CalledFor};
-ghost use Rattle.busdma_base.specs.AccountStep.{as_pages};
-ghost use Rattle.busdma_base.specs.Door.{grab_reply};
-ghost use Rattle.busdma_base.specs.PageLists.{page_address, page_addresses};
+ghost use Rattle.busdma_base.specs.declared.bounce.hold.HubCall.TheVariants.{Grab, Release, TakeCallback};
+ghost use Rattle.busdma_base.specs.declared.bounce.hold.HubReply.TheVariants.{Served, Called as CalledFor};
+ghost use Rattle.busdma_base.specs.Bounce.AccountStep.{as_pages};
+ghost use Rattle.busdma_base.specs.Bounce.Door.{grab_reply};
+ghost use Rattle.busdma_base.specs.Machine.PageList.{page_address, page_addresses};
 ghost use Rattle.bounce_hub.specs.Pools.{Allowed, Steps, Stays, Missed};
 
 use crate::pool::Pool;

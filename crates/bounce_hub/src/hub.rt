@@ -1,7 +1,7 @@
 //! The hub: the bounce zones that all lanes share, and all holds so far.
 
 ghost use Rattle.std.specs.Prelude.{◌≡◌, [], IfOk};
-ghost use Rattle.busdma_base.specs.History.{account_of};
+ghost use Rattle.busdma_base.specs.Bounce.History.{account_of};
 ghost use Rattle.bounce_hub.specs.Opening.{opening};
 ghost use Rattle.bounce_hub.specs.Seen.{AreCounts};
 

@@ -1,8 +1,8 @@
 //! Zones for tags and maps, and their growth.
 
 ghost use Rattle.std.specs.Prelude.{◌≡◌, ◌==◌, ◌||◌, ◌+◌, ◌-◌, ◌^◌, ◌<◌, ◌≤◌, IfOk, OnErr, length, slice_get};
-ghost use Rattle.busdma_base.specs.declared.hold.HubCall.TheVariants.{AttachTag, CreateMap, DestroyMap};
-ghost use Rattle.busdma_base.specs.declared.hold.HubReply.TheVariants.{Nothing, Grown as GrownBy};
+ghost use Rattle.busdma_base.specs.declared.bounce.hold.HubCall.TheVariants.{AttachTag, CreateMap, DestroyMap};
+ghost use Rattle.busdma_base.specs.declared.bounce.hold.HubReply.TheVariants.{Nothing, Grown as GrownBy};
 ghost use Rattle.bounce_hub.specs.Growing.{IsPlace, Grows, place_for, serves, pages_of, maps_of, most_pages, wanted_for};
 ghost use Rattle.bounce_hub.specs.Pools.{Allowed, Steps, Stays};
 

@@ -1,9 +1,9 @@
 //! The frames of dmamem memories.
 
 ghost use Rattle.std.specs.Prelude.{◌≡◌, ◌==◌, ℕ, count_by, ◌+◌, ◌^◌, ◌<◌, ◌≤◌, IfOk, IfSome, OnErr, length, slice_index_or};
-ghost use Rattle.busdma_base.specs.declared.hold.HubCall.TheVariants.{MemAlloc};
-ghost use Rattle.busdma_base.specs.Door.{IsRow, memory_reply};
-ghost use Rattle.busdma_base.specs.PageLists.{page_addresses};
+ghost use Rattle.busdma_base.specs.declared.bounce.hold.HubCall.TheVariants.{MemAlloc};
+ghost use Rattle.busdma_base.specs.Bounce.Door.{IsRow, memory_reply};
+ghost use Rattle.busdma_base.specs.Machine.PageList.{page_addresses};
 ghost use Rattle.frame_bank.specs.FrameBank.{put_pages};
 ghost use Rattle.bounce_hub.specs.Pools.{Allowed, Steps, Stays, Returns, StepsBack};
 

@@ -1,9 +1,9 @@
 //! A zone with the maps that wait for its pages.
 
 ghost use Rattle.std.specs.Prelude.{◌≡◌, ◌+◌, ◌-◌, ◌^◌, ◌<◌, ◌≤◌, [], ◌∷◌, ◌++◌, length, take, drop, All, vec_capacity, IfOk, OnOk, OnErr};
-ghost use Rattle.busdma_base.specs.AccountStep.{as_pages};
-ghost use Rattle.busdma_base.specs.PageLists.{page_addresses};
-ghost use Rattle.busdma_base.specs.Serving.{completed, left_waiting, promised};
+ghost use Rattle.busdma_base.specs.Bounce.AccountStep.{as_pages};
+ghost use Rattle.busdma_base.specs.Machine.PageList.{page_addresses};
+ghost use Rattle.busdma_base.specs.Bounce.Serving.{completed, left_waiting, promised};
 ghost use Rattle.bounce_zone.specs.ZonePages.{free_pages};
 ghost use Rattle.bounce_hub.specs.Slots.{room_after, slot_counts};
 

@@ -4,9 +4,9 @@ use Rattle.std.specs.List.{All, AllPairs}
 use Rattle.std.proofs.lemmas.Bool.{and_parts, ltb-true, leb-true}
 use Rattle.std.proofs.lemmas.List.Elements.{All-nil, All-cons, All-weaker}
 use Rattle.std.proofs.lemmas.List.Kept.{AllPairs-cons}
-use Rattle.busdma_base.specs.Account.{Account}
-use Rattle.busdma_base.specs.History.{IsSound, account_of}
-use Rattle.busdma_base.specs.PageLists.{page_addresses}
+use Rattle.busdma_base.specs.Bounce.Account.{Account}
+use Rattle.busdma_base.specs.Bounce.History.{IsSound, account_of}
+use Rattle.busdma_base.specs.Machine.PageList.{page_addresses}
 use Rattle.frame_bank.specs.FrameBank.{Bank, fresh_page, put_page, put_pages, free_frames}
 use Rattle.bounce_hub.specs.Opening.{opening}
 use Rattle.bounce_hub.specs.Seen.{HubSeen}

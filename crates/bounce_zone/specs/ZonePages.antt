@@ -1,13 +1,13 @@
 -- What contracts see of a bounce zone.
 use Rattle.std.specs.Prelude.{◌≡◌, ℕ, ◌+◌, ◌-◌, ◌^◌, ◌<◌, ◌≤◌, List, length}
-use Rattle.busdma_base.specs.declared.zone.ZoneCounts.{ZoneCounts}
-use Rattle.busdma_base.specs.Framed.{Framed}
+use Rattle.busdma_base.specs.declared.bounce.zone.ZoneCounts.{ZoneCounts}
+use Rattle.busdma_base.specs.Machine.Page.{FrameBytes}
 
 -- the pages in list order, how many of them are reserved, and how many pages are with maps
 pub record ZonePages : Type 0 where
   pub lowaddr : ℕ
   pub alignment : ℕ
-  pub pages : List Framed
+  pub pages : List FrameBytes
   pub reserved : ℕ
   pub active : ℕ
 
@@ -29,7 +29,7 @@ zone_counts z = record {
 }
 
 -- what is true of each zone: its list has the free and the reserved pages, and has room for those with maps
-pub record IsCounted (pages : List Framed) (free reserved active capacity : ℕ) : Type 0 where
+pub record IsCounted (pages : List FrameBytes) (free reserved active capacity : ℕ) : Type 0 where
   pub listed : free + reserved ≡ length pages
   pub roomy : free + reserved + active ≤ capacity
   pub few : free + reserved + active < 2 ^ 32

@@ -2,7 +2,7 @@
 
 ghost use Rattle.std.specs.Prelude.{◌≡◌, ◌+◌, ◌-◌, ◌^◌, ◌<◌, ◌≤◌, min, [], ◌∷◌, ◌++◌, length, take, drop, IfOk, OnErr};
 ghost use Rattle.std.specs.VecDeque.{deque_capacity};
-ghost use Rattle.busdma_base.specs.Growth.{frames_below};
+ghost use Rattle.busdma_base.specs.Bounce.Growth.{frames_below};
 ghost use Rattle.frame_bank.specs.FrameBank.{free_frames};
 ghost use Rattle.bounce_zone.specs.ZonePages.{free_pages, zone_counts};
 

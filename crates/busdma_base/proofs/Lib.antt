@@ -1,10 +1,1 @@
-pub mod Counting
-pub mod Counts
-pub mod Names
-pub mod Openings
-pub mod Order
-pub mod Places
-pub mod Rising
-pub mod Shares
-pub mod Wells
-pub mod ZoneOf
+pub mod Accounts

@@ -2,45 +2,30 @@
 //! definitions that more than one crate cites.
 #![tactic(auto)]
 
-mod account_laws;
-mod address;
-mod answer;
-mod chunk;
-mod door;
-mod hold;
-mod journal;
+mod bounce;
+mod journals;
 mod list;
+mod machine;
 mod name;
-mod page;
-mod page_list;
-mod report;
 mod room;
-mod scenario;
-mod script;
-mod tag;
-mod zone;
+mod scenarios;
+mod tags;
 
-pub use account_laws::{
-    account_is_well, callbacks_keep_their_order, condition_stays, counts_add_up,
+pub use bounce::{
+    Called, Grabbed, Grown, HoldEntry, HubCall, HubDoor, HubReply, Waiter, ZoneCounts,
+    account_is_well_formed, callbacks_keep_their_order, condition_stays, counts_add_up,
     each_frame_in_one_place, free_frames_rise, growth_serves_nobody, no_frame_is_lost,
     no_page_is_lent_twice, release_serves_in_order, scenario_opens, twelve_calls,
 };
-pub use address::{Extent, Pa, Segment, Span, Va};
-pub use answer::Answer;
-pub use chunk::{Chunk, Entry, Part};
-pub use door::{Called, Grabbed, HubDoor};
-pub use hold::{HoldEntry, HubCall, HubReply};
-pub use journal::{Actor, Did, End, Journal, JournalEntry, Side};
+pub use journals::{
+    Actor, Answer, Did, End, Errno, Journal, JournalEntry, Judged, Report, ReportName, Side,
+};
 pub use list::ListOf;
+pub use machine::{Chunk, Entry, Extent, Pa, Page, PageList, Part, Segment, Span, Va};
 pub use name::{LaneId, MapId, Name, ZoneId};
-pub use page::Page;
-pub use page_list::PageList;
-pub use report::{Errno, Judged, Report, ReportName};
 pub use room::RoomyList;
-pub use scenario::{Driver, FrameRun, PageRun, Scenario};
-pub use script::{Bytes, Item, Op, Place};
-pub use tag::TagLimits;
-pub use zone::{Grown, Waiter, ZoneCounts};
+pub use scenarios::{Bytes, Driver, FrameRun, Item, Op, PageRun, Place, Scenario};
+pub use tags::TagLimits;
 
 /// Addresses, in order.
 pub type PaList = ListOf<Pa>;

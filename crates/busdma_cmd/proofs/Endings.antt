@@ -3,11 +3,11 @@ use Rattle.std.proofs.Common.{◌≡◌, ◌≢◌, ℕ, ◌+◌, ◌≤◌, ◌
 use Rattle.std.proofs.Math.Seq.{drop-length}
 use Rattle.std.specs.Result.{IsErrAnd}
 use Rattle.io_edge.specs.Reading.{Takes, TakesAtMost, TakesAll}
-use Rattle.busdma_base.specs.declared.scenario.Scenario.{Scenario}
-use Rattle.busdma_base.specs.declared.journal.Journal.{Journal}
-use Rattle.busdma_base.specs.declared.journal.JournalEntry.{JournalEntry}
-use Rattle.busdma_base.specs.declared.journal.End.{End}
-use Rattle.busdma_base.specs.declared.journal.End.TheVariants.{Finished, Stuck}
+use Rattle.busdma_base.specs.declared.scenarios.scenario.Scenario.{Scenario}
+use Rattle.busdma_base.specs.declared.journals.journal.Journal.{Journal}
+use Rattle.busdma_base.specs.declared.journals.journal.JournalEntry.{JournalEntry}
+use Rattle.busdma_base.specs.declared.journals.journal.End.{End}
+use Rattle.busdma_base.specs.declared.journals.journal.End.TheVariants.{Finished, Stuck}
 use Rattle.json_fields.specs.declared.refusal.Refusal.{Refusal}
 use Rattle.scenario_read.specs.declared.reading.Reading.TheVariants.{Good, Bad}
 use Rattle.scenario_read.specs.Scenario.{scenario_of}

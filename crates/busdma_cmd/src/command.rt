@@ -1,7 +1,7 @@
 //! The commands that wait for nobody.
 
 ghost use Rattle.std.specs.Prelude.{◌≡◌, IfOk, map, string_bytes};
-ghost use Rattle.busdma_base.specs.Valid.{IsValid};
+ghost use Rattle.busdma_base.specs.Scenarios.Valid.{IsValid};
 ghost use Rattle.busdma_cmd.specs.Edges.{edges};
 ghost use Rattle.busdma_cmd.specs.Outcome.{Keeps};
 ghost use Rattle.busdma_cmd.specs.Ends.{Reads, EndsBy, outcome};

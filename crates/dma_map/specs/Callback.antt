@@ -1,6 +1,6 @@
 -- What a driver's callback answers: after bus_dmamap_load(9).
 use Rattle.std.specs.Prelude.{List, Option, Some, None}
-use Rattle.busdma_base.specs.declared.script.Item.{Item}
+use Rattle.busdma_base.specs.declared.scenarios.script.Item.{Item}
 use Rattle.dma_map.specs.declared.callback.LoadEnd.{LoadEnd}
 use Rattle.dma_map.specs.declared.callback.LoadEnd.TheVariants.{Segments, Refused}
 

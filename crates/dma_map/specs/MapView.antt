@@ -1,11 +1,11 @@
 -- What contracts see of a map.
 use Rattle.std.specs.Prelude.{ℕ, Bool, List, [], ◌∷◌, map, Option, Some, None}
-use Rattle.busdma_base.specs.declared.chunk.Chunk.{Chunk}
-use Rattle.busdma_base.specs.declared.address.Segment.{Segment}
+use Rattle.busdma_base.specs.declared.machine.chunk.Chunk.{Chunk}
+use Rattle.busdma_base.specs.declared.machine.address.Segment.{Segment}
 use Rattle.busdma_base.specs.declared.name.MapId.{MapId}
 use Rattle.busdma_base.specs.declared.name.ZoneId.{ZoneId}
-use Rattle.busdma_base.specs.Framed.{Framed}
-use Rattle.busdma_base.specs.PageLists.{Pages}
+use Rattle.busdma_base.specs.Machine.Page.{FrameBytes}
+use Rattle.busdma_base.specs.Machine.PageList.{RoomyPages}
 use Rattle.dma_map.specs.declared.room.LoadRoom.{LoadRoom}
 use Rattle.dma_map.specs.declared.state.MapState.{MapState}
 use Rattle.dma_map.specs.declared.state.MapState.TheVariants.{Idle, Waiting, Loaded, Returning}
@@ -16,7 +16,7 @@ use Rattle.dma_map.specs.declared.state.MapState.TheVariants.{Idle, Waiting, Loa
 pub data Stage (C : Type 0) : Type 0 where
   idle : Stage C
   waiting : ℕ → C → LoadRoom → Stage C
-  loaded : List Chunk → List Segment → Pages → Stage C
+  loaded : List Chunk → List Segment → RoomyPages → Stage C
   lent : List Chunk → List Segment → List ℕ → Stage C
   returning : Stage C
 
@@ -29,11 +29,11 @@ pub record MapView (C : Type 0) : Type 0 where
   pub stage : Stage C
 
 -- the frames of pages, in order
-abbrev pub frames_of : List Framed → List ℕ
+abbrev pub frames_of : List FrameBytes → List ℕ
 frames_of pages = map (λ p. p.frame) pages
 
 -- where a map is left that gave these pages away to be released: there is something to come back, or there is not
-abbrev pub left_by : {C : Type 0} → List Framed → Stage C
+abbrev pub left_by : {C : Type 0} → List FrameBytes → Stage C
 left_by [] = idle
 left_by (p ∷ ps) = returning
 
@@ -71,7 +71,7 @@ module _ {C : Type 0} where
   segments_of returning = []
 
   -- its bounce pages, where the map has them
-  abbrev pub pages_of : Stage C → Option Pages
+  abbrev pub pages_of : Stage C → Option RoomyPages
   pages_of idle = None
   pages_of (waiting at callback room) = None
   pages_of (loaded bounced segments pages) = Some pages
@@ -87,9 +87,9 @@ module _ {C : Type 0} where
   lent_frames returning = None
 
   -- the same load with these pages
-  abbrev pub with_pages : Pages → Stage C → Stage C
+  abbrev pub with_pages : RoomyPages → Stage C → Stage C
   with_pages pages stage = loaded (chunks_of stage) (segments_of stage) pages
 
   -- the same load while these pages are lent out
-  abbrev pub without_pages : List Framed → Stage C → Stage C
+  abbrev pub without_pages : List FrameBytes → Stage C → Stage C
   without_pages pages stage = lent (chunks_of stage) (segments_of stage) (frames_of pages)

@@ -1,7 +1,7 @@
 //! What a load's end is told to.
 
 ghost use Rattle.std.specs.Prelude.{◌≡◌, List, Option};
-ghost use Rattle.busdma_base.specs.declared.script.Item.{Item};
+ghost use Rattle.busdma_base.specs.declared.scenarios.script.Item.{Item};
 
 use busdma_base::{Errno, ItemList, SegmentList};
 

@@ -1,8 +1,8 @@
 //! How the limits of a tag are rounded, and narrowed by those of its parent.
 
 ghost use Rattle.std.specs.Prelude.{◌≡◌, ◌↔◌, IfSome, IsSome};
-ghost use Rattle.busdma_base.specs.Tag as tag;
-ghost use Rattle.busdma_base.specs.Tag.{IsAccepted, IsEffective};
+ghost use Rattle.busdma_base.specs.Tags.Tag as tag;
+ghost use Rattle.busdma_base.specs.Tags.Tag.{IsAccepted, IsEffective};
 
 use busdma_base::{Pa, TagLimits};
 

@@ -2,7 +2,7 @@
 
 ghost use Rattle.std.specs.Prelude.{◌≡◌, ◌↔◌, ◌∷◌, All, IsErr, IsOk, IsNone, IfOk, Some};
 ghost use Rattle.std.specs.Option.{option_copied};
-ghost use Rattle.busdma_base.specs.Tag.{IsAccepted, IsEffective, effective, excluded, could_bounce, needs_bounce};
+ghost use Rattle.busdma_base.specs.Tags.Tag.{IsAccepted, IsEffective, effective, excluded, could_bounce, needs_bounce};
 ghost use Rattle.dma_tag.specs.Chain.{IsNarrowest, IsOwn, last_of};
 
 use crate::einval::Einval;
@@ -18,8 +18,8 @@ pub struct Tag {
 }
 
 impl Model for Tag {
-    ghost use Rattle.busdma_base.specs.declared.tag.TagLimits.{TagLimits};
-    ghost use Rattle.busdma_base.specs.Tag.{IsEffective};
+    ghost use Rattle.busdma_base.specs.declared.tags.tag.TagLimits.{TagLimits};
+    ghost use Rattle.busdma_base.specs.Tags.Tag.{IsEffective};
 
     ghost Value = { TagLimits };
 

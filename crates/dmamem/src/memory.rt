@@ -1,7 +1,7 @@
 //! How many frames a memory has, where the driver finds it, and which bytes are its own.
 
 ghost use Rattle.std.specs.Prelude.{◌≡◌, ◌+◌, ◌^◌, ◌<◌, ◌↔◌, IsTrue};
-ghost use Rattle.busdma_base.specs.MemoryRuns.{frames_for};
+ghost use Rattle.busdma_base.specs.Bounce.MemoryRuns.{frames_for};
 ghost use Rattle.dmamem.specs.Memory.{virtual_of};
 
 use busdma_base::{MapId, Pa, TagLimits, Va};

@@ -5,21 +5,21 @@ use Rattle.std.proofs.lemmas.Bool.{ltb-true, ltb-false, leb-true, leb-false, lt-
 use Rattle.std.proofs.lemmas.Bool.Decides.{nat_tests}
 use Rattle.std.proofs.lemmas.List.{get_or_default, get_or-drop, drop_more, length-drop}
 use Rattle.std.proofs.lemmas.List.Elements.{All-nil, All-cons, All-head, All-tail}
-use Rattle.busdma_base.specs.Framed.{Framed}
-use Rattle.busdma_base.specs.MemoryRuns.{put_in}
-use Rattle.busdma_base.specs.PageLists.{page_address, page_addresses}
+use Rattle.busdma_base.specs.Machine.Page.{FrameBytes}
+use Rattle.busdma_base.specs.Bounce.MemoryRuns.{put_in}
+use Rattle.busdma_base.specs.Machine.PageList.{page_address, page_addresses}
 use Rattle.frame_bank.specs.FrameBank.{fresh_page, put_page, put_pages}
 use Rattle.frame_bank.proofs.Counted.{weight, count_by-cons, count_by-map, count_by-front}
 use Rattle.frame_bank.proofs.Rising.{AreRising, above_lower}
 
 -- where the page goes first, and where it goes behind the first page
-put-first : (p q : Framed) (qs : List Framed) → p.frame < q.frame → put_page p (q ∷ qs) ≡ p ∷ q ∷ qs
+put-first : (p q : FrameBytes) (qs : List FrameBytes) → p.frame < q.frame → put_page p (q ∷ qs) ≡ p ∷ q ∷ qs
 put-first p q qs l = rw (lt-ltb p.frame q.frame l) refl
 
-put-behind : (p q : Framed) (qs : List Framed) → q.frame ≤ p.frame → put_page p (q ∷ qs) ≡ q ∷ put_page p qs
+put-behind : (p q : FrameBytes) (qs : List FrameBytes) → q.frame ≤ p.frame → put_page p (q ∷ qs) ≡ q ∷ put_page p qs
 put-behind p q qs l = rw (le-ltb p.frame q.frame l) refl
 
-pub put_page-insert : (p : Framed) (qs : List Framed) (i : ℕ) → i ≤ length qs → AllWithin (λ q. leb q.frame p.frame ≡ true) qs 0 i → AllWithin (λ q. leb q.frame p.frame ≡ false) qs i (length qs) → put_page p qs ≡ insert qs i p
+pub put_page-insert : (p : FrameBytes) (qs : List FrameBytes) (i : ℕ) → i ≤ length qs → AllWithin (λ q. leb q.frame p.frame ≡ true) qs 0 i → AllWithin (λ q. leb q.frame p.frame ≡ false) qs i (length qs) → put_page p qs ≡ insert qs i p
 put_page-insert p [] zero l front rest = refl
 put_page-insert p [] (suc i) l front rest = absurd (omega arith)
 put_page-insert p (q ∷ qs) zero l front rest = put-first p q qs (leb-false q.frame p.frame (rest 0 q (omega arith) (omega arith)))
@@ -27,8 +27,8 @@ put_page-insert p (q ∷ qs) (suc i) l front rest =
     put-behind p q qs (leb-true q.frame p.frame (front 0 q (omega arith) (omega arith)))
     ∙ ap (λ rs. q ∷ rs) (put_page-insert p qs i (omega arith) (λ k d a b. front (suc k) d (omega arith) (omega arith)) (λ k d a b. rest (suc k) d (omega arith) (omega arith)))
 
-module _ (P : Framed → Type 0) where
-  pub All-put_page : (p : Framed) (qs : List Framed) → P p → All P qs → All P (put_page p qs)
+module _ (P : FrameBytes → Type 0) where
+  pub All-put_page : (p : FrameBytes) (qs : List FrameBytes) → P p → All P qs → All P (put_page p qs)
   All-put_page p [] here h = All-cons P p [] here h
   All-put_page p (q ∷ qs) here h =
       (elim (ltb p.frame q.frame) as (λ v. All P (cond v (p ∷ q ∷ qs) (q ∷ put_page p qs))) [
@@ -37,7 +37,7 @@ module _ (P : Framed → Type 0) where
       ])
 
 -- the address in its place among the addresses
-pub page_addresses-put_page : (p : Framed) (qs : List Framed) → page_addresses (put_page p qs) ≡ put_in (page_address p) (page_addresses qs)
+pub page_addresses-put_page : (p : FrameBytes) (qs : List FrameBytes) → page_addresses (put_page p qs) ≡ put_in (page_address p) (page_addresses qs)
 page_addresses-put_page p [] = refl
 page_addresses-put_page p (q ∷ qs) =
     let same : ltb p.frame q.frame ≡ ltb (page_address p) (page_address q) = grind (arith, nat_tests) in
@@ -47,7 +47,7 @@ page_addresses-put_page p (q ∷ qs) =
       | false ↦ ap (λ fs. page_address q ∷ fs) (page_addresses-put_page p qs)
     ])
 
-pub length-put_page : (p : Framed) (qs : List Framed) → length (put_page p qs) ≡ length qs + 1
+pub length-put_page : (p : FrameBytes) (qs : List FrameBytes) → length (put_page p qs) ≡ length qs + 1
 length-put_page p [] = refl
 length-put_page p (q ∷ qs) =
     (elim (ltb p.frame q.frame) as (λ v. length (cond v (p ∷ q ∷ qs) (q ∷ put_page p qs)) ≡ length (q ∷ qs) + 1) [
@@ -55,7 +55,7 @@ length-put_page p (q ∷ qs) =
       | false ↦ omega (arith, length-put_page p qs)
     ])
 
-pub count_by-put_page : (t : Framed → Bool) (p : Framed) (qs : List Framed) → count_by t (put_page p qs) ≡ weight (t p) + count_by t qs
+pub count_by-put_page : (t : FrameBytes → Bool) (p : FrameBytes) (qs : List FrameBytes) → count_by t (put_page p qs) ≡ weight (t p) + count_by t qs
 count_by-put_page t p [] = count_by-cons t p []
 count_by-put_page t p (q ∷ qs) =
     (elim (ltb p.frame q.frame) as (λ v. count_by t (cond v (p ∷ q ∷ qs) (q ∷ put_page p qs)) ≡ weight (t p) + count_by t (q ∷ qs)) [
@@ -63,10 +63,10 @@ count_by-put_page t p (q ∷ qs) =
       | false ↦ omega (arith, count_by-cons t q (put_page p qs), count_by-cons t q qs, count_by-put_page t p qs)
     ])
 
-pub put_page-rising : (p : Framed) (qs : List Framed) → AreRising qs → count_by (λ q. eqb q.frame p.frame) qs ≡ 0 → AreRising (put_page p qs)
+pub put_page-rising : (p : FrameBytes) (qs : List FrameBytes) → AreRising qs → count_by (λ q. eqb q.frame p.frame) qs ≡ 0 → AreRising (put_page p qs)
 put_page-rising p [] h none = (All-nil (λ q. p.frame < q.frame), tt)
 put_page-rising p (q ∷ qs) h none =
-    let others = count_by-cons (λ (x : Framed). eqb x.frame p.frame) q qs in
+    let others = count_by-cons (λ (x : FrameBytes). eqb x.frame p.frame) q qs in
     (elim (ltb p.frame q.frame) as (λ v. ltb p.frame q.frame ≡ v → AreRising (cond v (p ∷ q ∷ qs) (q ∷ put_page p qs))) [
       | true ↦ λ t.
           let l : p.frame < q.frame = ltb-true p.frame q.frame t in
@@ -78,11 +78,11 @@ put_page-rising p (q ∷ qs) h none =
     ]) refl
 
 -- pages that are put in one by one are all there
-pub length-put_pages : (ps : List Framed) → length (put_pages ps []) ≡ length ps
+pub length-put_pages : (ps : List FrameBytes) → length (put_pages ps []) ≡ length ps
 length-put_pages [] = refl
 length-put_pages (p ∷ ps) = omega (arith, length-put_page p (put_pages ps []), length-put_pages ps)
 
-pub count_by-put_pages : (t : Framed → Bool) (ps : List Framed) → count_by t (put_pages ps []) ≡ count_by t ps
+pub count_by-put_pages : (t : FrameBytes → Bool) (ps : List FrameBytes) → count_by t (put_pages ps []) ≡ count_by t ps
 count_by-put_pages t [] = refl
 count_by-put_pages t (p ∷ ps) = omega (arith, count_by-put_page t p (put_pages ps []), count_by-cons t p ps, count_by-put_pages t ps)
 
@@ -95,10 +95,10 @@ differs_behind frames i j x differ next inside here =
     (λ e. differ i (j + k) d (omega arith) (omega (arith, length-drop j frames)) (get_or_default frames i d 0 inside ∙ sym here ∙ sym e ∙ get_or-drop j frames k d)))
 
 -- the next page of a new bank is put in
-pub put_next : (frames : List ℕ) (i j : ℕ) (page : Framed) (pages : List Framed) → j ≡ i + 1 → i < length frames → page.frame ≡ get_or frames i 0 → page.bytes ≡ replicate 4096 0xa5 →
+pub put_next : (frames : List ℕ) (i j : ℕ) (page : FrameBytes) (pages : List FrameBytes) → j ≡ i + 1 → i < length frames → page.frame ≡ get_or frames i 0 → page.bytes ≡ replicate 4096 0xa5 →
     pages ≡ put_pages (map fresh_page (drop j frames)) [] → put_page page pages ≡ put_pages (map fresh_page (drop i frames)) []
 put_next frames i j page pages next inside frame bytes before =
-    let rest : List Framed = put_pages (map fresh_page (drop j frames)) [] in
+    let rest : List FrameBytes = put_pages (map fresh_page (drop j frames)) [] in
     ap (put_page page) before
     ∙ ap (λ bs. put_page (record { frame = page.frame; bytes = bs }) rest) bytes
     ∙ ap (λ f. put_page (fresh_page f) rest) frame

@@ -4,10 +4,10 @@ use Rattle.std.specs.List.{All, filter}
 use Rattle.std.proofs.lemmas.Bool.{le-leb, lt-leb, lt-ltb, le-ltb, eqb-true, and_from, and_left, and_right, and_parts, false≢true}
 use Rattle.std.proofs.lemmas.List.{take-append-drop, take-append-le, drop-append-le, drop-drop, take_at, drop_at, length-drop, length-take-le, length-append, length-map, drop-map}
 use Rattle.std.proofs.lemmas.List.Elements.{All-head, All-tail, All-weaker, All-append, All-take, All-drop}
-use Rattle.busdma_base.specs.Framed.{Framed}
-use Rattle.busdma_base.specs.History.{IsRising}
-use Rattle.busdma_base.specs.MemoryRuns.{frames_for, follow, crosses_none}
-use Rattle.busdma_base.specs.PageLists.{page_address, page_addresses}
+use Rattle.busdma_base.specs.Machine.Page.{FrameBytes}
+use Rattle.busdma_base.specs.Bounce.History.{IsRising}
+use Rattle.busdma_base.specs.Bounce.MemoryRuns.{frames_for, follow, crosses_none}
+use Rattle.busdma_base.specs.Machine.PageList.{page_address, page_addresses}
 use Rattle.frame_bank.specs.FrameBank.{begins_run, is_in_run, frames_from}
 use Rattle.frame_bank.proofs.Rising.{AreRising, rising_pages, rising_drop, rising_below}
 use Rattle.frame_bank.proofs.Runs.{AreFrom, from_next, from_place, no_page, address_at, follow-long, begins_run-at}
@@ -47,7 +47,7 @@ module _ {X : Type 0} where
       ])
 
 -- a filter of addresses is that of the pages
-pub filter-page_addresses : (t : ℕ → Bool) (ps : List Framed) → filter t (page_addresses ps) ≡ page_addresses (filter (λ p. t (page_address p)) ps)
+pub filter-page_addresses : (t : ℕ → Bool) (ps : List FrameBytes) → filter t (page_addresses ps) ≡ page_addresses (filter (λ p. t (page_address p)) ps)
 filter-page_addresses t [] = refl
 filter-page_addresses t (p ∷ ps) =
     (elim (t (page_address p)) as (λ v. cond v (page_address p ∷ filter t (page_addresses ps)) (filter t (page_addresses ps)) ≡ page_addresses (cond v (p ∷ filter (λ q. t (page_address q)) ps) (filter (λ q. t (page_address q)) ps))) [
@@ -56,12 +56,12 @@ filter-page_addresses t (p ∷ ps) =
     ])
 
 -- of pages that begin with the last n of a run, those n are the run's
-record Taken (first m n a : ℕ) (ps : List Framed) : Type 0 where
+record Taken (first m n a : ℕ) (ps : List FrameBytes) : Type 0 where
   run : filter (is_in_run first m) ps ≡ take n ps
   left : filter (λ p. not (is_in_run first m p)) ps ≡ drop n ps
   placed : page_addresses (take n ps) ≡ frames_from n a
 
-taken : (n f first m a : ℕ) (ps : List Framed) → first ≤ 4096 * f → 4096 * f + 4096 * n ≡ first + 4096 * m → a ≡ 4096 * f → AreRising ps → AreFrom f ps → follow n a (page_addresses ps) ≡ true → Taken first m n a ps
+taken : (n f first m a : ℕ) (ps : List FrameBytes) → first ≤ 4096 * f → 4096 * f + 4096 * n ≡ first + 4096 * m → a ≡ 4096 * f → AreRising ps → AreFrom f ps → follow n a (page_addresses ps) ≡ true → Taken first m n a ps
 taken zero f first m a ps low end e h from t =
     let past = filter_none (is_in_run first m) ps
     (All-weaker (λ p. f ≤ p.frame) (λ p. is_in_run first m p ≡ false) (λ p l. and_right (leb first (page_address p)) (ltb (page_address p) (first + 4096 * m)) (le-ltb (page_address p) (first + 4096 * m) (omega arith))) ps from) in
@@ -79,13 +79,13 @@ taken (suc n) f first m a (p ∷ ps) low end e h from t =
     }
 
 -- the n pages of a run that begins at a place
-pub record TakenAt (first n at : ℕ) (ps : List Framed) : Type 0 where
+pub record TakenAt (first n at : ℕ) (ps : List FrameBytes) : Type 0 where
   pub inside : at + n ≤ length ps
   pub run : filter (is_in_run first n) ps ≡ take n (drop at ps)
   pub left : filter (λ p. not (is_in_run first n p)) ps ≡ take at ps ++ drop (at + n) ps
   pub placed : page_addresses (take n (drop at ps)) ≡ frames_from n first
 
-pub taken_at : (n at : ℕ) (ps : List Framed) → IsRising (page_addresses ps) → at < length ps → follow n (get_or (page_addresses ps) at 0) (drop at (page_addresses ps)) ≡ true → TakenAt (get_or (page_addresses ps) at 0) n at ps
+pub taken_at : (n at : ℕ) (ps : List FrameBytes) → IsRising (page_addresses ps) → at < length ps → follow n (get_or (page_addresses ps) at 0) (drop at (page_addresses ps)) ≡ true → TakenAt (get_or (page_addresses ps) at 0) n at ps
 taken_at n at ps rising inside t =
     let h : AreRising ps = rising_pages ps rising in
     let f : ℕ = (get_or ps at no_page).frame in
@@ -107,7 +107,7 @@ taken_at n at ps rising inside t =
     }
 
 -- the same from the test that the code makes
-pub begun_at : (len boundary limit at : ℕ) (ps : List Framed) → IsRising (page_addresses ps) → at < length ps → begins_run len boundary limit (drop at (page_addresses ps)) ≡ true → TakenAt (get_or (page_addresses ps) at 0) (frames_for len) at ps
+pub begun_at : (len boundary limit at : ℕ) (ps : List FrameBytes) → IsRising (page_addresses ps) → at < length ps → begins_run len boundary limit (drop at (page_addresses ps)) ≡ true → TakenAt (get_or (page_addresses ps) at 0) (frames_for len) at ps
 begun_at len boundary limit at ps rising inside t =
     let a : ℕ = get_or (page_addresses ps) at 0 in
     taken_at (frames_for len) at ps rising inside
@@ -115,7 +115,7 @@ begun_at len boundary limit at ps rising inside t =
     (sym (begins_run-at len boundary limit at (page_addresses ps) (simp length-map inside)) ∙ t)).0
 
 -- pages stay rising without a part
-pub rising_without : (ps : List Framed) (at j : ℕ) → at ≤ j → AreRising ps → AreRising (take at ps ++ drop j ps)
+pub rising_without : (ps : List FrameBytes) (at j : ℕ) → at ≤ j → AreRising ps → AreRising (take at ps ++ drop j ps)
 rising_without ps zero j l h = rising_drop j ps h
 rising_without ps (suc at) zero l h = absurd (omega arith)
 rising_without [] (suc at) (suc j) l h = tt

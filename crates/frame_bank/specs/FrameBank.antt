@@ -1,14 +1,14 @@
 -- The bank of free frames.
 use Rattle.std.specs.Prelude.{ℕ, zero, suc, ◌+◌, ◌*◌, ◌^◌, ◌<◌, ◌≤◌, Bool, false, not, ◌&&◌, List, [], ◌∷◌, length, replicate, Option, Some, None, nat_le, nat_lt, if◌then◌else◌}
 use Rattle.std.specs.List.{All, filter}
-use Rattle.busdma_base.specs.Framed.{Framed}
-use Rattle.busdma_base.specs.History.{IsRising}
-use Rattle.busdma_base.specs.MemoryRuns.{frames_for, follow, crosses_none, in_run}
-use Rattle.busdma_base.specs.PageLists.{page_address, page_addresses}
+use Rattle.busdma_base.specs.Machine.Page.{FrameBytes}
+use Rattle.busdma_base.specs.Bounce.History.{IsRising}
+use Rattle.busdma_base.specs.Bounce.MemoryRuns.{frames_for, follow, crosses_none, in_run}
+use Rattle.busdma_base.specs.Machine.PageList.{page_address, page_addresses}
 
 -- the pages of the free frames, rising, and how many there is room for
 pub record Bank : Type 0 where
-  pub pages : List Framed
+  pub pages : List FrameBytes
   pub room : ℕ
 
 -- the physical addresses of the free frames
@@ -16,16 +16,16 @@ abbrev pub free_frames : Bank → List ℕ
 free_frames b = page_addresses b.pages
 
 -- a frame of a new bank
-abbrev pub fresh_page : ℕ → Framed
+abbrev pub fresh_page : ℕ → FrameBytes
 fresh_page frame = record { frame = frame; bytes = replicate 4096 0xa5 }
 
 -- a page in its place among pages of rising frames
-abbrev pub put_page : Framed → List Framed → List Framed
+abbrev pub put_page : FrameBytes → List FrameBytes → List FrameBytes
 put_page p [] = p ∷ []
 put_page p (q ∷ qs) = if nat_lt p.frame q.frame then p ∷ q ∷ qs else q ∷ put_page p qs
 
 -- pages in their places among pages of rising frames
-abbrev pub put_pages : List Framed → List Framed → List Framed
+abbrev pub put_pages : List FrameBytes → List FrameBytes → List FrameBytes
 put_pages [] qs = qs
 put_pages (p ∷ ps) qs = put_page p (put_pages ps qs)
 
@@ -51,14 +51,14 @@ frames_left None n frames = frames
 frames_left (Some first) n frames = filter (λ f. not (in_run first n f)) frames
 
 -- the same of pages
-abbrev pub is_in_run : ℕ → ℕ → Framed → Bool
+abbrev pub is_in_run : ℕ → ℕ → FrameBytes → Bool
 is_in_run first n p = in_run first n (page_address p)
 
-abbrev pub run_pages : Option ℕ → ℕ → List Framed → Option (List Framed)
+abbrev pub run_pages : Option ℕ → ℕ → List FrameBytes → Option (List FrameBytes)
 run_pages None n pages = None
 run_pages (Some first) n pages = Some (filter (is_in_run first n) pages)
 
-abbrev pub pages_left : Option ℕ → ℕ → List Framed → List Framed
+abbrev pub pages_left : Option ℕ → ℕ → List FrameBytes → List FrameBytes
 pages_left None n pages = pages
 pages_left (Some first) n pages = filter (λ p. not (is_in_run first n p)) pages
 

@@ -2,7 +2,7 @@
 use Rattle.std.specs.Prelude.{ℕ, ◌+◌, ◌*◌, List, [], ◌∷◌, Option, Some, None, option_map, option_and_then, if◌then◌else◌}
 use Rattle.serde_json.specs.Data.{Data}
 use Rattle.serde_json.specs.Find.{as_str}
-use Rattle.busdma_base.specs.Names.{is_name}
+use Rattle.busdma_base.specs.Scenarios.Names.{is_name}
 use Rattle.json_fields.specs.Read.{Read}
 use Rattle.json_fields.specs.Field.{Spot}
 use Rattle.json_fields.specs.Number.{of_kind, hex_digit}

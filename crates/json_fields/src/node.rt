@@ -4,7 +4,7 @@ ghost use Rattle.std.specs.Prelude.{◌≡◌, true, map, option_map, string_byt
 ghost use Rattle.std.specs.List.{list_any};
 ghost use Rattle.std.specs.Str.{bytes_eq};
 ghost use Rattle.serde_json.specs.View.{view, members_view};
-ghost use Rattle.busdma_base.specs.Names as names;
+ghost use Rattle.busdma_base.specs.Scenarios.Names as names;
 ghost use Rattle.json_fields.specs.Place.{key, place_of};
 ghost use Rattle.json_fields.specs.Read.{Gives, GivesSeen, StopsWith, refusal};
 ghost use Rattle.json_fields.specs.Field.{spot_of, placed_at, item_of, field, required};

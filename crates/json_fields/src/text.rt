@@ -2,7 +2,7 @@
 
 ghost use Rattle.std.specs.Prelude.{◌≡◌, ◌<◌, ◌≤◌, length, IfSome, IfOk, option_map};
 ghost use Rattle.std.specs.List.{list_all};
-ghost use Rattle.busdma_base.specs.Names as names;
+ghost use Rattle.busdma_base.specs.Scenarios.Names as names;
 ghost use Rattle.json_fields.specs.Number as numbers;
 ghost use Rattle.json_fields.specs.Text as texts;
 

@@ -1,12 +1,12 @@
 -- What is known of the positions of loads where the wire is faithful.
 use Rattle.std.proofs.Common.{◌≡◌, ℕ, ◌+◌, ◌-◌, nat_le, Bool, true, false, cond, ◌||◌, slice_get, refl, sym, ap, ◌∙◌}
 use Rattle.std.proofs.lemmas.Bool.{false≢true}
-use Rattle.busdma_base.specs.declared.report.Judged.{Judged}
-use Rattle.busdma_base.specs.declared.report.Judged.TheVariants.{Fine, Refused}
+use Rattle.busdma_base.specs.declared.journals.report.Judged.{Judged}
+use Rattle.busdma_base.specs.declared.journals.report.Judged.TheVariants.{Fine, Refused}
 use Rattle.loan_table.specs.declared.position.Position.{Position}
 use Rattle.loan_table.specs.Loans.{loan_of, in_any_way}
 use Rattle.lane_core.specs.Centre.{IsAt, IsPlacedAt, IsExclusive, ArePlaced, IsFaithful}
-use Rattle.busdma_base.specs.declared.report.ReportName.TheVariants.{Absent, NotLoaded, PastEnd}
+use Rattle.busdma_base.specs.declared.journals.report.ReportName.TheVariants.{Absent, NotLoaded, PastEnd}
 use Rattle.lane_core.specs.Lane.{LaneState, Outcome, refused, unless_refused, unless_unloaded, unless_past, has_map, is_loaded, load_length}
 use Rattle.lane_core.specs.Wire.{Wire, Traces, Placed}
 use Rattle.lane_core.specs.WireStep.{if_done}

@@ -2,12 +2,12 @@
 use Rattle.std.proofs.Common.{◌≡◌, ℕ, ◌+◌, ◌-◌, nat_le, Bool, true, false, cond, ◌||◌, ◌==◌, List, map, length, slice_get, Option, Some, None, unwrap_or, ◌⊎◌, inl, inr, refl, sym, ap, ◌∙◌}
 use Rattle.std.proofs.lemmas.Bool.{false≢true}
 use Rattle.std.proofs.lemmas.Option.{slice_get-map}
-use Rattle.busdma_base.specs.declared.script.Place.{Place}
-use Rattle.busdma_base.specs.declared.report.Judged.{Judged}
-use Rattle.busdma_base.specs.declared.report.Judged.TheVariants.{Fine, Refused}
-use Rattle.busdma_base.specs.declared.report.ReportName.{ReportName}
-use Rattle.busdma_base.specs.declared.report.ReportName.TheVariants.{CpuReadLent, CpuWriteLent, DeviceReadUnlent, DeviceWriteUnlent, StaleByte, Absent, NotLoaded, PastEnd}
-use Rattle.busdma_base.specs.declared.answer.Answer.TheVariants.{Done, Bytes}
+use Rattle.busdma_base.specs.declared.scenarios.script.Place.{Place}
+use Rattle.busdma_base.specs.declared.journals.report.Judged.{Judged}
+use Rattle.busdma_base.specs.declared.journals.report.Judged.TheVariants.{Fine, Refused}
+use Rattle.busdma_base.specs.declared.journals.report.ReportName.{ReportName}
+use Rattle.busdma_base.specs.declared.journals.report.ReportName.TheVariants.{CpuReadLent, CpuWriteLent, DeviceReadUnlent, DeviceWriteUnlent, StaleByte, Absent, NotLoaded, PastEnd}
+use Rattle.busdma_base.specs.declared.journals.answer.Answer.TheVariants.{Done, Bytes}
 use Rattle.phys_memory.specs.Memory.{missing}
 use Rattle.loan_table.specs.declared.position.Position.{Position}
 use Rattle.loan_table.specs.Loans.{loan_of, to_write, in_any_way, lent, addresses_of}

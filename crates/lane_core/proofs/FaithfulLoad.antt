@@ -3,20 +3,20 @@ use Rattle.std.proofs.Common.{◌≡◌, ◌≢◌, ℕ, zero, suc, Bool, true, 
 use Rattle.std.proofs.lemmas.Bool.{false≢true, ne_eqb}
 use Rattle.std.specs.Cmp.{nat_cmp_total, unsigned_tied}
 use Rattle.std.specs.FinMap.{get, insert, remove, get-remove}
-use Rattle.busdma_base.specs.declared.script.Item.{Item}
-use Rattle.busdma_base.specs.declared.script.Place.{Place}
+use Rattle.busdma_base.specs.declared.scenarios.script.Item.{Item}
+use Rattle.busdma_base.specs.declared.scenarios.script.Place.{Place}
 use Rattle.loan_table.specs.declared.position.Position.{Position}
 use Rattle.loan_table.specs.Loans.{Loan, loan_of, no_loan, to_write, in_any_way, lent, unlent}
 use Rattle.loan_table.specs.Lending.{lost_by_forgetting}
 use Rattle.lane_core.specs.Centre.{IsAt, IsPlacedAt, IsExclusive, IsFaithful, Follows}
 use Rattle.lane_core.specs.IdealMemory.{Known, forgotten}
 use Rattle.loan_table.proofs.Marking.{loan_of-insert}
-use Rattle.busdma_base.specs.declared.report.Judged.{Judged}
-use Rattle.busdma_base.specs.declared.report.Judged.TheVariants.{Fine, Refused}
-use Rattle.busdma_base.specs.declared.report.ReportName.TheVariants.{Absent, NotLoaded, MapBusy}
-use Rattle.busdma_base.specs.declared.report.Errno.TheVariants.{EINVAL}
-use Rattle.busdma_base.specs.declared.answer.Answer.TheVariants.{Done, Segments, Report}
-use Rattle.busdma_base.specs.declared.answer.Answer.TheVariants.{Refused as errno}
+use Rattle.busdma_base.specs.declared.journals.report.Judged.{Judged}
+use Rattle.busdma_base.specs.declared.journals.report.Judged.TheVariants.{Fine, Refused}
+use Rattle.busdma_base.specs.declared.journals.report.ReportName.TheVariants.{Absent, NotLoaded, MapBusy}
+use Rattle.busdma_base.specs.declared.journals.report.Errno.TheVariants.{EINVAL}
+use Rattle.busdma_base.specs.declared.journals.answer.Answer.TheVariants.{Done, Segments, Report}
+use Rattle.busdma_base.specs.declared.journals.answer.Answer.TheVariants.{Refused as errno}
 use Rattle.lane_core.specs.Lane.{LaneState, Outcome, gives, refused, unless_refused, has_map, is_loaded, reached, bytes_at}
 use Rattle.lane_core.specs.Wire.{Wire, Traces, Placed}
 use Rattle.lane_core.specs.Laws.{LoadStaysFaithful, UnloadStaysFaithful}

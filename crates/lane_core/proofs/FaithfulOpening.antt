@@ -6,7 +6,7 @@ use Rattle.std.specs.Ordering.{nat_cmp}
 use Rattle.std.specs.FinMap.{get-empty}
 use Rattle.std.specs.FinMap as finmap
 use Rattle.std.specs.Option.{unwrap_or}
-use Rattle.busdma_base.specs.declared.scenario.PageRun.{PageRun}
+use Rattle.busdma_base.specs.declared.scenarios.scenario.PageRun.{PageRun}
 use Rattle.loan_table.specs.declared.position.Position.{Position}
 use Rattle.loan_table.specs.Loans.{loan_of, no_loan, addresses_of}
 use Rattle.lane_core.specs.declared.lane.Lane.{Lane}

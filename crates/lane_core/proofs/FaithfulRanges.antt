@@ -2,15 +2,15 @@
 use Rattle.std.proofs.Common.{◌≡◌, ℕ, Bool, true, false, cond, ◌&&◌, ◌||◌, [], refl, sym, ap, ◌∙◌}
 use Rattle.std.proofs.lemmas.Bool.{false≢true}
 use Rattle.std.specs.List.{filter}
-use Rattle.busdma_base.specs.declared.report.Judged.TheVariants.{Fine}
-use Rattle.busdma_base.specs.Judging.{judged}
+use Rattle.busdma_base.specs.declared.journals.report.Judged.TheVariants.{Fine}
+use Rattle.busdma_base.specs.Journals.Judging.{judged}
 use Rattle.dma_tag.specs.SyncOps.{preread, prewrite, postread, postwrite, has_pre, has_post, is_mixed}
 use Rattle.loan_table.specs.Loans.{loan_of, addresses_of}
 use Rattle.loan_table.specs.Lending.{range_of, synced, lost, loses, sync_refusal, sync_answer}
 use Rattle.lane_core.specs.Centre.{IsFaithful}
 use Rattle.lane_core.specs.IdealMemory.{forgotten}
-use Rattle.busdma_base.specs.declared.report.ReportName.TheVariants.{MixedSync}
-use Rattle.busdma_base.specs.declared.answer.Answer.TheVariants.{Done}
+use Rattle.busdma_base.specs.declared.journals.report.ReportName.TheVariants.{MixedSync}
+use Rattle.busdma_base.specs.declared.journals.answer.Answer.TheVariants.{Done}
 use Rattle.lane_core.specs.Lane.{LaneState, gives, refused, unless_refused, unless_past, load_length}
 use Rattle.lane_core.specs.Syncs.{sync_part}
 use Rattle.lane_core.specs.Laws.{SyncStaysFaithful, SyncRangeStaysFaithful}

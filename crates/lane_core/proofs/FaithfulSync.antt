@@ -3,9 +3,9 @@ use Rattle.std.proofs.Common.{◌≡◌, ◌≢◌, ℕ, ◌+◌, ◌-◌, Bool,
 use Rattle.std.proofs.lemmas.Bool.{false≢true}
 use Rattle.std.specs.List.{filter}
 use Rattle.std.proofs.lemmas.Map.Views.{exact_unsigned_eq}
-use Rattle.busdma_base.specs.declared.report.ReportName.TheVariants.{SyncOrder, Overlap}
-use Rattle.busdma_base.specs.declared.report.Judged.TheVariants.{Fine}
-use Rattle.busdma_base.specs.Judging.{judged}
+use Rattle.busdma_base.specs.declared.journals.report.ReportName.TheVariants.{SyncOrder, Overlap}
+use Rattle.busdma_base.specs.declared.journals.report.Judged.TheVariants.{Fine}
+use Rattle.busdma_base.specs.Journals.Judging.{judged}
 use Rattle.dma_tag.specs.SyncOps.{preread, prewrite, postread, postwrite}
 use Rattle.loan_table.specs.declared.position.Position.{Position}
 use Rattle.loan_table.specs.Loans.{Loans, loan_of, to_write, to_read, in_any_way, lent, lent_elsewhere, stands_twice, addresses_of}

@@ -3,27 +3,27 @@ use Rattle.std.proofs.Common.{◌≡◌, ℕ, ◌+◌, ◌-◌, nat_le, subst, B
 use Rattle.std.specs.Cmp.{nat_cmp_total, unsigned_tied}
 use Rattle.std.specs.FinMap.{get, insert, remove, get-insert, contains_key}
 use Rattle.std.proofs.lemmas.Map.Views.{exact_unsigned_eq}
-use Rattle.busdma_base.specs.declared.script.Op.{Op}
-use Rattle.busdma_base.specs.declared.script.Op.TheVariants as op
-use Rattle.busdma_base.specs.declared.script.Item.{Item}
-use Rattle.busdma_base.specs.declared.script.Item.TheVariants as item
-use Rattle.busdma_base.specs.declared.journal.Side.TheVariants as side
-use Rattle.busdma_base.specs.declared.tag.TagLimits.{TagLimits}
-use Rattle.busdma_base.specs.declared.report.Judged.{Judged}
-use Rattle.busdma_base.specs.declared.report.Judged.TheVariants.{Fine, Refused}
-use Rattle.busdma_base.specs.Script.{bytes_of}
-use Rattle.busdma_base.specs.Tag.{effective}
+use Rattle.busdma_base.specs.declared.scenarios.script.Op.{Op}
+use Rattle.busdma_base.specs.declared.scenarios.script.Op.TheVariants as op
+use Rattle.busdma_base.specs.declared.scenarios.script.Item.{Item}
+use Rattle.busdma_base.specs.declared.scenarios.script.Item.TheVariants as item
+use Rattle.busdma_base.specs.declared.journals.journal.Side.TheVariants as side
+use Rattle.busdma_base.specs.declared.tags.tag.TagLimits.{TagLimits}
+use Rattle.busdma_base.specs.declared.journals.report.Judged.{Judged}
+use Rattle.busdma_base.specs.declared.journals.report.Judged.TheVariants.{Fine, Refused}
+use Rattle.busdma_base.specs.Scenarios.Script.{bytes_of}
+use Rattle.busdma_base.specs.Tags.Tag.{effective}
 use Rattle.dma_tag.specs.SyncOps.{is_mixed}
 use Rattle.lane_tables.specs.declared.queued.QueuedItem.{QueuedItem}
 use Rattle.loan_table.specs.Loans.{Loan, loan_of, addresses_of}
 use Rattle.loan_table.specs.Lending.{sync_answer, synced, lost, marked_range}
 use Rattle.loan_table.specs.Access.{cpu_read_answer, cpu_write_answer, dev_read_answer, dev_write_answer}
-use Rattle.busdma_base.specs.declared.script.Place.{Place}
-use Rattle.busdma_base.specs.declared.journal.Did.TheVariants as did
-use Rattle.busdma_base.specs.declared.report.ReportName.TheVariants.{Absent, NotLoaded, PastEnd, MixedSync, NotDeferred}
-use Rattle.busdma_base.specs.declared.report.Errno.TheVariants.{EBUSY}
-use Rattle.busdma_base.specs.declared.answer.Answer.TheVariants.{Done, Bytes}
-use Rattle.busdma_base.specs.declared.answer.Answer.TheVariants.{Refused as errno}
+use Rattle.busdma_base.specs.declared.scenarios.script.Place.{Place}
+use Rattle.busdma_base.specs.declared.journals.journal.Did.TheVariants as did
+use Rattle.busdma_base.specs.declared.journals.report.ReportName.TheVariants.{Absent, NotLoaded, PastEnd, MixedSync, NotDeferred}
+use Rattle.busdma_base.specs.declared.journals.report.Errno.TheVariants.{EBUSY}
+use Rattle.busdma_base.specs.declared.journals.answer.Answer.TheVariants.{Done, Bytes}
+use Rattle.busdma_base.specs.declared.journals.answer.Answer.TheVariants.{Refused as errno}
 use Rattle.lane_core.specs.declared.turn.Turn.TheVariants.{Blocked}
 use Rattle.lane_core.specs.Accesses.{cpu_read, cpu_write, dev_read, dev_write, values, load_bytes}
 use Rattle.lane_core.specs.IdealMemory.{is_known, written, forgotten}

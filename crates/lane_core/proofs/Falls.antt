@@ -1,11 +1,11 @@
 -- Each turn that is a step leaves the driver less to do.
 use Rattle.std.proofs.Common.{◌≡◌, ◌+◌, ◌<◌, ◌≤◌, Bool, true, false, cond, List, [], ◌∷◌, length, drop, Option, Some, None, refl, ap, ◌∙◌, arith, slice_get, sum_by}
 use Rattle.std.proofs.lemmas.List.Sums.{sum_by-cons}
-use Rattle.busdma_base.specs.declared.journal.Did.TheVariants as did
-use Rattle.busdma_base.specs.declared.script.Op.{Op}
-use Rattle.busdma_base.specs.declared.journal.Side.{Side}
-use Rattle.busdma_base.specs.declared.journal.Side.TheVariants as side
-use Rattle.busdma_base.specs.Script.{items_of}
+use Rattle.busdma_base.specs.declared.journals.journal.Did.TheVariants as did
+use Rattle.busdma_base.specs.declared.scenarios.script.Op.{Op}
+use Rattle.busdma_base.specs.declared.journals.journal.Side.{Side}
+use Rattle.busdma_base.specs.declared.journals.journal.Side.TheVariants as side
+use Rattle.busdma_base.specs.Scenarios.Script.{items_of}
 use Rattle.lane_tables.specs.declared.queued.QueuedItem.{QueuedItem}
 use Rattle.lane_core.specs.declared.turn.Turn.TheVariants.{Blocked}
 use Rattle.lane_core.specs.Lane.{LaneState}

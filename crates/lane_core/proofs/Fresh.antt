@@ -5,24 +5,24 @@ use Rattle.std.proofs.lemmas.Map.Views.{exact_unsigned_eq}
 use Rattle.std.specs.Ordering.{nat_cmp, eq_by_cmp}
 use Rattle.std.specs.Cmp.{nat_cmp_total, unsigned_tied}
 use Rattle.std.specs.FinMap.{FinMap, get, insert, remove, contains_key, get-insert, get-remove}
-use Rattle.busdma_base.specs.declared.script.Op.{Op}
-use Rattle.busdma_base.specs.declared.script.Op.TheVariants as op
-use Rattle.busdma_base.specs.declared.script.Item.{Item}
-use Rattle.busdma_base.specs.declared.script.Place.{Place}
-use Rattle.busdma_base.specs.declared.tag.TagLimits.{TagLimits}
-use Rattle.busdma_base.specs.declared.report.Judged.{Judged}
-use Rattle.busdma_base.specs.declared.report.Judged.TheVariants.{Fine, Refused}
-use Rattle.busdma_base.specs.declared.answer.Answer.{Answer}
-use Rattle.busdma_base.specs.Tag.{effective}
+use Rattle.busdma_base.specs.declared.scenarios.script.Op.{Op}
+use Rattle.busdma_base.specs.declared.scenarios.script.Op.TheVariants as op
+use Rattle.busdma_base.specs.declared.scenarios.script.Item.{Item}
+use Rattle.busdma_base.specs.declared.scenarios.script.Place.{Place}
+use Rattle.busdma_base.specs.declared.tags.tag.TagLimits.{TagLimits}
+use Rattle.busdma_base.specs.declared.journals.report.Judged.{Judged}
+use Rattle.busdma_base.specs.declared.journals.report.Judged.TheVariants.{Fine, Refused}
+use Rattle.busdma_base.specs.declared.journals.answer.Answer.{Answer}
+use Rattle.busdma_base.specs.Tags.Tag.{effective}
 use Rattle.lane_core.specs.Lane.{LaneState, Outcome, gives, has_map, unless_refused, unless_absent, unless_unloaded, refused, is_loaded, reached, bytes_at}
 use Rattle.lane_core.specs.Tags.{tag_or_invalid, tag_below, has_maps}
-use Rattle.busdma_base.specs.declared.answer.Answer.TheVariants.{Done, Segments}
-use Rattle.busdma_base.specs.declared.answer.Answer.TheVariants.{Refused as errno}
-use Rattle.busdma_base.specs.declared.report.Errno.TheVariants.{EINVAL, EBUSY}
-use Rattle.busdma_base.specs.declared.report.ReportName.TheVariants.{MapBusy, MixedSync}
+use Rattle.busdma_base.specs.declared.journals.answer.Answer.TheVariants.{Done, Segments}
+use Rattle.busdma_base.specs.declared.journals.answer.Answer.TheVariants.{Refused as errno}
+use Rattle.busdma_base.specs.declared.journals.report.Errno.TheVariants.{EINVAL, EBUSY}
+use Rattle.busdma_base.specs.declared.journals.report.ReportName.TheVariants.{MapBusy, MixedSync}
 use Rattle.dma_tag.specs.SyncOps.{is_mixed}
 use Rattle.loan_table.specs.Lending.{sync_answer, synced, lost}
-use Rattle.busdma_base.specs.Script.{bytes_of}
+use Rattle.busdma_base.specs.Scenarios.Script.{bytes_of}
 use Rattle.loan_table.specs.Access.{cpu_write_answer}
 use Rattle.lane_core.specs.Accesses.{cpu_write}
 use Rattle.lane_core.specs.IdealMemory.{forgotten, written}

@@ -1,18 +1,18 @@
 -- What an operation and an item leave as it was, and how many items they append.
 use Rattle.std.proofs.Common.{◌≡◌, ℕ, ◌+◌, ◌≤◌, suc, Bool, true, false, cond, List, [], ◌∷◌, length, Option, Some, None, refl, ap, arith, length-append}
 use Rattle.std.specs.FinMap.{get}
-use Rattle.busdma_base.specs.declared.script.Op.{Op}
-use Rattle.busdma_base.specs.declared.script.Op.TheVariants as op
-use Rattle.busdma_base.specs.declared.script.Item.{Item}
-use Rattle.busdma_base.specs.declared.script.Item.TheVariants as item
-use Rattle.busdma_base.specs.declared.tag.TagLimits.{TagLimits}
-use Rattle.busdma_base.specs.declared.report.Judged.{Judged}
-use Rattle.busdma_base.specs.declared.report.Judged.TheVariants.{Fine, Refused}
-use Rattle.busdma_base.specs.declared.answer.Answer.{Answer}
-use Rattle.busdma_base.specs.Script.{items_of}
-use Rattle.busdma_base.specs.Tag.{effective}
+use Rattle.busdma_base.specs.declared.scenarios.script.Op.{Op}
+use Rattle.busdma_base.specs.declared.scenarios.script.Op.TheVariants as op
+use Rattle.busdma_base.specs.declared.scenarios.script.Item.{Item}
+use Rattle.busdma_base.specs.declared.scenarios.script.Item.TheVariants as item
+use Rattle.busdma_base.specs.declared.tags.tag.TagLimits.{TagLimits}
+use Rattle.busdma_base.specs.declared.journals.report.Judged.{Judged}
+use Rattle.busdma_base.specs.declared.journals.report.Judged.TheVariants.{Fine, Refused}
+use Rattle.busdma_base.specs.declared.journals.answer.Answer.{Answer}
+use Rattle.busdma_base.specs.Scenarios.Script.{items_of}
+use Rattle.busdma_base.specs.Tags.Tag.{effective}
 use Rattle.lane_tables.specs.Queues.{queued, queued_from}
-use Rattle.busdma_base.specs.declared.script.Place.{Place}
+use Rattle.busdma_base.specs.declared.scenarios.script.Place.{Place}
 use Rattle.lane_core.specs.Lane.{LaneState, Outcome, gives, unless_refused, unless_absent, unless_busy, unless_unloaded, unless_past}
 use Rattle.lane_core.specs.Maps.{load, loaded}
 use Rattle.lane_core.specs.Syncs.{sync_part, sync, sync_range}

@@ -1,7 +1,7 @@
 -- The segment of bytes that follow one another.
 use Rattle.std.proofs.Common.{◌≡◌, ℕ, zero, suc, ◌<◌, List, [], ◌∷◌, ◌++◌, length, Some, sym, ap, ◌∙◌, arith, slice_get}
 use Rattle.std.specs.List.{AllByRecursion}
-use Rattle.busdma_base.specs.declared.address.Extent.{Extent}
+use Rattle.busdma_base.specs.declared.machine.address.Extent.{Extent}
 use Rattle.busdma_base.specs.Runs.{run_of, addresses, IsExtent}
 use Rattle.lane_core.specs.Maps.{one_segment}
 

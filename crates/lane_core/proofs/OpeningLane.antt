@@ -1,6 +1,6 @@
 -- The ideal memory of a driver that opens.
 use Rattle.std.proofs.Common.{◌≡◌, ℕ, Bool, true, false, cond, List, Some, None, unwrap_or, refl, ap, ◌∙◌}
-use Rattle.busdma_base.specs.declared.scenario.PageRun.{PageRun}
+use Rattle.busdma_base.specs.declared.scenarios.scenario.PageRun.{PageRun}
 use Rattle.phys_memory.specs.Memory.{Memory, wire}
 use Rattle.loan_table.specs.Table.{Table}
 use Rattle.lane_core.specs.IdealMemory.{Known, Unknown}

@@ -7,10 +7,10 @@ use Rattle.std.specs.FinMap.{get, empty, get-empty}
 use Rattle.std.proofs.lemmas.Bool.Decides.{nat_tests}
 use Rattle.std.proofs.lemmas.List.{take_more, get_or-replicate}
 use Rattle.std.proofs.lemmas.List.Folds.{list_any_more}
-use Rattle.busdma_base.specs.declared.scenario.PageRun.{PageRun}
+use Rattle.busdma_base.specs.declared.scenarios.scenario.PageRun.{PageRun}
 use Rattle.busdma_base.specs.Each.{EachAfter}
-use Rattle.busdma_base.specs.Framed.{Framed}
-use Rattle.busdma_base.specs.Pages.{pages_end, share_page}
+use Rattle.busdma_base.specs.Machine.Page.{FrameBytes}
+use Rattle.busdma_base.specs.Machine.PageRuns.{pages_end, share_page}
 use Rattle.phys_memory.specs.declared.reach.Reach.{Reach}
 use Rattle.phys_memory.specs.Memory.{Memory, physical, reached_in, byte_in, with_page}
 use Rattle.phys_memory.proofs.Tables.{get_inserted}
@@ -44,7 +44,7 @@ has_none run m = record {
 }
 
 -- one page more
-pub has_more : (run : PageRun) (i : ℕ) (m n : Memory) (page : Framed) → run.va.0 % 4096 ≡ 0 → HasRun (first_of run i) m n → page.frame ≡ run.frame + i → page.bytes ≡ replicate 4096 0
+pub has_more : (run : PageRun) (i : ℕ) (m n : Memory) (page : FrameBytes) → run.va.0 % 4096 ≡ 0 → HasRun (first_of run i) m n → page.frame ≡ run.frame + i → page.bytes ≡ replicate 4096 0
     → HasRun (first_of run (i + 1)) m (with_page n (run.va.0 + 4096 * i) page 4096)
 has_more run i m n page aligned has frame bytes =
     let k : (run.va.0 + 4096 * i) / 4096 ≡ run.va.0 / 4096 + i = omega arith in

@@ -2,9 +2,9 @@
 use Rattle.std.proofs.Common.{◌≡◌, ℕ, ◌/◌, false, true, Bool, Option, List, length, map, refl, sym, ap, ◌∙◌}
 use Rattle.std.specs.Ordering.{nat_cmp}
 use Rattle.std.specs.FinMap.{FinMap}
-use Rattle.busdma_base.specs.declared.report.Judged.{Judged}
-use Rattle.busdma_base.specs.declared.report.Judged.TheVariants.{Fine, Refused}
-use Rattle.busdma_base.specs.declared.answer.Answer.TheVariants.{Done}
+use Rattle.busdma_base.specs.declared.journals.report.Judged.{Judged}
+use Rattle.busdma_base.specs.declared.journals.report.Judged.TheVariants.{Fine, Refused}
+use Rattle.busdma_base.specs.declared.journals.answer.Answer.TheVariants.{Done}
 use Rattle.dma_tag.specs.SyncOps.{is_mixed}
 use Rattle.phys_memory.specs.Memory.{Memory, physical}
 use Rattle.loan_table.specs.Lending.{sync_answer, synced, lost}
@@ -14,9 +14,9 @@ use Rattle.lane_core.specs.Covered.{IsCovered, SamePages}
 use Rattle.lane_core.specs.Wire.{put}
 use Rattle.std.proofs.Common.{◌+◌, ◌≤◌, drop, arith, length-take, length-drop}
 use Rattle.std.proofs.lemmas.List.{length-map}
-use Rattle.busdma_base.specs.declared.answer.Answer.TheVariants.{Bytes}
+use Rattle.busdma_base.specs.declared.journals.answer.Answer.TheVariants.{Bytes}
 use Rattle.busdma_base.specs.declared.name.MapId.{MapId}
-use Rattle.busdma_base.specs.declared.script.Place.{Place}
+use Rattle.busdma_base.specs.declared.scenarios.script.Place.{Place}
 use Rattle.loan_table.specs.declared.position.Position.{Position}
 use Rattle.loan_table.specs.Access.{cpu_read_answer, cpu_write_answer, dev_read_answer, dev_write_answer}
 use Rattle.loan_table.specs.Lending.{range_of}

@@ -1,12 +1,12 @@
 -- The pages of a driver of a valid scenario.
 use Rattle.std.proofs.Common.{◌≡◌, ℕ, zero, suc, ◌+◌, ◌^◌, ◌<◌, ◌≤◌, Bool, true, false, ◌&&◌, ◌||◌, List, [], ◌∷◌, ◌++◌, refl, arith}
 use Rattle.std.specs.List.{list_any}
-use Rattle.busdma_base.specs.declared.scenario.FrameRun.{FrameRun}
-use Rattle.busdma_base.specs.declared.scenario.PageRun.{PageRun}
-use Rattle.busdma_base.specs.declared.scenario.Driver.{Driver}
+use Rattle.busdma_base.specs.declared.scenarios.scenario.FrameRun.{FrameRun}
+use Rattle.busdma_base.specs.declared.scenarios.scenario.PageRun.{PageRun}
+use Rattle.busdma_base.specs.declared.scenarios.scenario.Driver.{Driver}
 use Rattle.busdma_base.specs.Each.{EachAfter}
-use Rattle.busdma_base.specs.Frames.{IsFrameRun, is_in}
-use Rattle.busdma_base.specs.Pages.{IsPageRun, all_in}
+use Rattle.busdma_base.specs.Machine.FrameRuns.{IsFrameRun, is_in}
+use Rattle.busdma_base.specs.Machine.PageRuns.{IsPageRun, all_in}
 use Rattle.lane_core.specs.OpeningMemory.{IsOwnRun}
 use Rattle.lane_core.proofs.OwnRuns.{one_of_hi}
 

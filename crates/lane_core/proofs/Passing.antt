@@ -1,16 +1,16 @@
 -- Refusals that do not come.
 use Rattle.std.proofs.Common.{◌≡◌, ℕ, Bool, true, false, Option, Some, None, is_some, refl, sym, ap, ◌∙◌, Bor, List, subst, Result, Ok, Err, IfOk, length, map}
-use Rattle.busdma_base.specs.declared.script.Place.{Place}
-use Rattle.busdma_base.specs.declared.script.Place.TheVariants.{At}
+use Rattle.busdma_base.specs.declared.scenarios.script.Place.{Place}
+use Rattle.busdma_base.specs.declared.scenarios.script.Place.TheVariants.{At}
 use Rattle.lane_core.proofs.Covering.{length-map-run}
-use Rattle.busdma_base.specs.declared.address.Extent.{Extent}
+use Rattle.busdma_base.specs.declared.machine.address.Extent.{Extent}
 use Rattle.phys_memory.specs.declared.walk.Walked.{Walked}
 use Rattle.phys_memory.specs.declared.walk.Walked.TheVariants.{Parts}
 use Rattle.phys_memory.specs.Walk.{IfParts}
 use Rattle.std.specs.Option.{option_copied}
 use Rattle.std.specs.Prelude.{not}
-use Rattle.busdma_base.specs.declared.report.Judged.{Judged}
-use Rattle.busdma_base.specs.declared.report.Judged.TheVariants.{Fine}
+use Rattle.busdma_base.specs.declared.journals.report.Judged.{Judged}
+use Rattle.busdma_base.specs.declared.journals.report.Judged.TheVariants.{Fine}
 use Rattle.lane_core.specs.Lane.{LaneState, Outcome, has_map, is_loaded, unless_absent, unless_busy, unless_unloaded, unless_refused, virtual}
 
 pub absent_passes : (m : ℕ) (l : LaneState) (o : Outcome) → has_map l m ≡ true → unless_absent m l o ≡ o

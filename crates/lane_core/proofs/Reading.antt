@@ -2,10 +2,10 @@
 use Rattle.std.proofs.Common.{◌≡◌, ℕ, ◌+◌, ◌||◌, Bool, true, false, cond, List, [], ◌∷◌, Some, None, map, refl, sym, ap}
 use Rattle.std.specs.Ordering.{nat_cmp}
 use Rattle.std.specs.FinMap.{FinMap}
-use Rattle.busdma_base.specs.declared.report.ReportName.{ReportName}
-use Rattle.busdma_base.specs.declared.report.Judged.{Judged}
-use Rattle.busdma_base.specs.declared.report.Judged.TheVariants.{Fine}
-use Rattle.busdma_base.specs.Judging.{judged, refused_or}
+use Rattle.busdma_base.specs.declared.journals.report.ReportName.{ReportName}
+use Rattle.busdma_base.specs.declared.journals.report.Judged.{Judged}
+use Rattle.busdma_base.specs.declared.journals.report.Judged.TheVariants.{Fine}
+use Rattle.busdma_base.specs.Journals.Judging.{judged, refused_or}
 use Rattle.loan_table.specs.declared.position.Position.{Position}
 use Rattle.loan_table.specs.Loans.{Loans, addresses_of}
 use Rattle.loan_table.specs.Access.{cpu_read_refusal, dev_read_refusal}

@@ -4,11 +4,11 @@ use Rattle.std.proofs.Math.Seq.{drop-cons}
 use Rattle.std.proofs.lemmas.Option.{slice_get_within, get_or_from_slice_get}
 use Rattle.std.proofs.lemmas.List.Sums.{sum_by-cons}
 use Rattle.std.specs.FinMap.{contains_key}
-use Rattle.busdma_base.specs.declared.script.Op.{Op}
-use Rattle.busdma_base.specs.declared.answer.Answer.{Answer}
-use Rattle.busdma_base.specs.declared.journal.Side.TheVariants as side
-use Rattle.busdma_base.specs.declared.journal.Did.TheVariants as did
-use Rattle.busdma_base.specs.Script.{items_of}
+use Rattle.busdma_base.specs.declared.scenarios.script.Op.{Op}
+use Rattle.busdma_base.specs.declared.journals.answer.Answer.{Answer}
+use Rattle.busdma_base.specs.declared.journals.journal.Side.TheVariants as side
+use Rattle.busdma_base.specs.declared.journals.journal.Did.TheVariants as did
+use Rattle.busdma_base.specs.Scenarios.Script.{items_of}
 use Rattle.lane_core.specs.declared.holdings.Holdings.{Holdings}
 use Rattle.lane_core.specs.declared.turn.Turn.{Turn}
 use Rattle.lane_core.specs.declared.turn.Turn.TheVariants.{Blocked}

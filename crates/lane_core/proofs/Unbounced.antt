@@ -6,11 +6,11 @@ use Rattle.std.specs.Ordering.{nat_cmp}
 use Rattle.std.specs.FinMap.{FinMap, get}
 use Rattle.dma_tag.specs.SyncOps.{prewrite, postread}
 use Rattle.busdma_base.specs.declared.name.MapId.{MapId}
-use Rattle.busdma_base.specs.declared.script.Place.{Place}
-use Rattle.busdma_base.specs.declared.report.Judged.{Judged}
-use Rattle.busdma_base.specs.declared.report.Judged.TheVariants.{Fine, Refused}
-use Rattle.busdma_base.specs.declared.report.ReportName.TheVariants.{Absent, DeviceReadUnlent, StaleByte}
-use Rattle.busdma_base.specs.declared.answer.Answer.TheVariants.{Bytes}
+use Rattle.busdma_base.specs.declared.scenarios.script.Place.{Place}
+use Rattle.busdma_base.specs.declared.journals.report.Judged.{Judged}
+use Rattle.busdma_base.specs.declared.journals.report.Judged.TheVariants.{Fine, Refused}
+use Rattle.busdma_base.specs.declared.journals.report.ReportName.TheVariants.{Absent, DeviceReadUnlent, StaleByte}
+use Rattle.busdma_base.specs.declared.journals.answer.Answer.TheVariants.{Bytes}
 use Rattle.loan_table.specs.declared.position.Position.{Position}
 use Rattle.loan_table.specs.Loans.{Loans, loan_of, addresses_of}
 use Rattle.loan_table.specs.Lending.{range_of}

@@ -8,7 +8,7 @@ use Rattle.std.specs.FinMap.{FinMap, get}
 use Rattle.std.proofs.lemmas.Bool.{eq-eqb, ne_eqb, lt-ltb, le-leb, lt-leb, le-ltb, cases_lt}
 use Rattle.std.proofs.lemmas.List.{at_drop_more, drop_more, drop_all, drop-drop, get_or-map, map-append}
 use Rattle.std.proofs.lemmas.List.Sums.{sum_by-cons}
-use Rattle.busdma_base.specs.declared.address.Extent.{Extent}
+use Rattle.busdma_base.specs.declared.machine.address.Extent.{Extent}
 use Rattle.busdma_base.specs.Runs.{run_of, addresses, byte_count}
 use Rattle.phys_memory.specs.Memory.{Memory, has_frame, written, rewritten}
 use Rattle.phys_memory.specs.Extents.{LiesIn}

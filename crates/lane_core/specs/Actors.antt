@@ -1,6 +1,6 @@
 -- Whose step an entry is.
 use Rattle.std.specs.Prelude.{◌≡◌, ℕ}
-use Rattle.busdma_base.specs.declared.journal.Side.{Side}
+use Rattle.busdma_base.specs.declared.journals.journal.Side.{Side}
 use Rattle.lane_core.specs.declared.turn.Turn.{Turn}
 use Rattle.lane_core.specs.declared.turn.Turn.TheVariants.{Stepped, Blocked, Ended}
 use Rattle.lane_core.specs.Lane.{LaneState}

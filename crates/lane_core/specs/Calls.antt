@@ -2,8 +2,8 @@
 -- does not have.
 use Rattle.std.specs.Prelude.{ℕ, List, ◌==◌, if◌then◌else◌}
 use Rattle.busdma_base.specs.declared.name.MapId.{MapId}
-use Rattle.busdma_base.specs.declared.script.Place.{Place}
-use Rattle.busdma_base.specs.declared.report.ReportName.TheVariants.{Absent}
+use Rattle.busdma_base.specs.declared.scenarios.script.Place.{Place}
+use Rattle.busdma_base.specs.declared.journals.report.ReportName.TheVariants.{Absent}
 use Rattle.lane_core.specs.Lane.{LaneState, Outcome, refused}
 use Rattle.lane_core.specs.Syncs as syncs
 use Rattle.lane_core.specs.Accesses as accesses

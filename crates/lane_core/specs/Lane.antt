@@ -2,17 +2,17 @@
 use Rattle.std.specs.Prelude.{ℕ, ◌+◌, ◌-◌, Bool, List, Option, if◌then◌else◌, map, unwrap_or, nat_le, length}
 use Rattle.std.specs.Ordering.{nat_cmp}
 use Rattle.std.specs.FinMap.{FinMap, contains_key}
-use Rattle.busdma_base.specs.declared.script.Op.{Op}
-use Rattle.busdma_base.specs.declared.script.Place.{Place}
-use Rattle.busdma_base.specs.declared.script.Place.TheVariants.{At}
-use Rattle.busdma_base.specs.declared.tag.TagLimits.{TagLimits}
-use Rattle.busdma_base.specs.declared.report.ReportName.{ReportName}
-use Rattle.busdma_base.specs.declared.report.ReportName.TheVariants.{Absent, MapBusy, NotLoaded, PastEnd}
-use Rattle.busdma_base.specs.declared.report.Judged.{Judged}
-use Rattle.busdma_base.specs.declared.report.Judged.TheVariants.{Fine, Refused}
-use Rattle.busdma_base.specs.declared.answer.Answer.{Answer}
-use Rattle.busdma_base.specs.declared.answer.Answer.TheVariants as answer
-use Rattle.busdma_base.specs.Judging.{judged}
+use Rattle.busdma_base.specs.declared.scenarios.script.Op.{Op}
+use Rattle.busdma_base.specs.declared.scenarios.script.Place.{Place}
+use Rattle.busdma_base.specs.declared.scenarios.script.Place.TheVariants.{At}
+use Rattle.busdma_base.specs.declared.tags.tag.TagLimits.{TagLimits}
+use Rattle.busdma_base.specs.declared.journals.report.ReportName.{ReportName}
+use Rattle.busdma_base.specs.declared.journals.report.ReportName.TheVariants.{Absent, MapBusy, NotLoaded, PastEnd}
+use Rattle.busdma_base.specs.declared.journals.report.Judged.{Judged}
+use Rattle.busdma_base.specs.declared.journals.report.Judged.TheVariants.{Fine, Refused}
+use Rattle.busdma_base.specs.declared.journals.answer.Answer.{Answer}
+use Rattle.busdma_base.specs.declared.journals.answer.Answer.TheVariants as answer
+use Rattle.busdma_base.specs.Journals.Judging.{judged}
 use Rattle.phys_memory.specs.Memory.{missing}
 use Rattle.busdma_base.specs.Runs.{run_of}
 use Rattle.lane_tables.specs.declared.queued.QueuedItem.{QueuedItem}

@@ -1,10 +1,10 @@
 -- Laws of the wire: whatever the traces are, a step leaves the wire faithful to the ideal state, and
 -- what is really read is what the ideal memory has.
 use Rattle.std.specs.Prelude.{◌≡◌, ℕ, Bool, true, List, []}
-use Rattle.busdma_base.specs.declared.scenario.Driver.{Driver}
-use Rattle.busdma_base.specs.declared.journal.Side.{Side}
-use Rattle.busdma_base.specs.declared.script.Item.{Item}
-use Rattle.busdma_base.specs.declared.script.Place.{Place}
+use Rattle.busdma_base.specs.declared.scenarios.scenario.Driver.{Driver}
+use Rattle.busdma_base.specs.declared.journals.journal.Side.{Side}
+use Rattle.busdma_base.specs.declared.scenarios.script.Item.{Item}
+use Rattle.busdma_base.specs.declared.scenarios.script.Place.{Place}
 use Rattle.lane_core.specs.Lane.{LaneState, bytes_at}
 use Rattle.lane_core.specs.Wire.{Wire, Traces, buses, stretch}
 use Rattle.lane_core.specs.WireStep as wire

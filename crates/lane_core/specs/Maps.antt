@@ -1,12 +1,12 @@
 -- Operations on maps: making and ending, loading and unloading, waiting.
 use Rattle.std.specs.Prelude.{ℕ, true, false, List, [], ◌∷◌, ◌++◌, length, if◌then◌else◌, nat_lt, unwrap_or, option_map}
 use Rattle.std.specs.FinMap.{get, insert, remove, contains_key}
-use Rattle.busdma_base.specs.declared.address.Segment.{Segment}
-use Rattle.busdma_base.specs.declared.script.Place.{Place}
-use Rattle.busdma_base.specs.declared.script.Item.{Item}
-use Rattle.busdma_base.specs.declared.report.ReportName.TheVariants.{Absent, NotDeferred}
-use Rattle.busdma_base.specs.declared.report.Errno.TheVariants.{EINVAL, EBUSY}
-use Rattle.busdma_base.specs.declared.answer.Answer.TheVariants.{Done, Segments, Refused}
+use Rattle.busdma_base.specs.declared.machine.address.Segment.{Segment}
+use Rattle.busdma_base.specs.declared.scenarios.script.Place.{Place}
+use Rattle.busdma_base.specs.declared.scenarios.script.Item.{Item}
+use Rattle.busdma_base.specs.declared.journals.report.ReportName.TheVariants.{Absent, NotDeferred}
+use Rattle.busdma_base.specs.declared.journals.report.Errno.TheVariants.{EINVAL, EBUSY}
+use Rattle.busdma_base.specs.declared.journals.answer.Answer.TheVariants.{Done, Segments, Refused}
 use Rattle.lane_tables.specs.Queues.{queued}
 use Rattle.loan_table.specs.Loans.{unlent}
 use Rattle.loan_table.specs.Lending.{lost_by_forgetting}

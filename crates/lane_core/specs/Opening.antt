@@ -2,8 +2,8 @@
 use Rattle.std.specs.Prelude.{ℕ, ◌+◌, ◌-◌, ◌*◌, Bool, ◌&&◌, List, [], ◌∷◌, Option, Some, None, if◌then◌else◌, nat_le, nat_lt}
 use Rattle.std.specs.List.{list_any}
 use Rattle.std.specs.FinMap as finmap
-use Rattle.busdma_base.specs.declared.scenario.PageRun.{PageRun}
-use Rattle.busdma_base.specs.declared.scenario.Driver.{Driver}
+use Rattle.busdma_base.specs.declared.scenarios.scenario.PageRun.{PageRun}
+use Rattle.busdma_base.specs.declared.scenarios.scenario.Driver.{Driver}
 use Rattle.lane_core.specs.IdealMemory.{IdealMemory, Known, Unknown}
 use Rattle.lane_core.specs.Lane.{LaneState}
 

@@ -1,14 +1,14 @@
 -- The step of a driver's side.
 use Rattle.std.specs.Prelude.{◌+◌, Bool, false, ◌&&◌, List, [], ◌∷◌, Option, Some, None, if◌then◌else◌, slice_get}
-use Rattle.busdma_base.specs.declared.script.Op.{Op}
-use Rattle.busdma_base.specs.declared.script.Op.TheVariants as op
-use Rattle.busdma_base.specs.declared.script.Item.{Item}
-use Rattle.busdma_base.specs.declared.script.Item.TheVariants as item
-use Rattle.busdma_base.specs.declared.journal.Side.{Side}
-use Rattle.busdma_base.specs.declared.journal.Side.TheVariants as side
-use Rattle.busdma_base.specs.declared.journal.Did.{Did}
-use Rattle.busdma_base.specs.declared.journal.Did.TheVariants as did
-use Rattle.busdma_base.specs.Script.{bytes_of}
+use Rattle.busdma_base.specs.declared.scenarios.script.Op.{Op}
+use Rattle.busdma_base.specs.declared.scenarios.script.Op.TheVariants as op
+use Rattle.busdma_base.specs.declared.scenarios.script.Item.{Item}
+use Rattle.busdma_base.specs.declared.scenarios.script.Item.TheVariants as item
+use Rattle.busdma_base.specs.declared.journals.journal.Side.{Side}
+use Rattle.busdma_base.specs.declared.journals.journal.Side.TheVariants as side
+use Rattle.busdma_base.specs.declared.journals.journal.Did.{Did}
+use Rattle.busdma_base.specs.declared.journals.journal.Did.TheVariants as did
+use Rattle.busdma_base.specs.Scenarios.Script.{bytes_of}
 use Rattle.lane_tables.specs.declared.queued.QueuedItem.{QueuedItem}
 use Rattle.lane_tables.specs.Queues.{queue_names}
 use Rattle.lane_core.specs.declared.turn.Turn.{Turn}

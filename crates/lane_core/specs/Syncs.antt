@@ -1,7 +1,7 @@
 -- Syncs of a map's load.
 use Rattle.std.specs.Prelude.{ℕ, if◌then◌else◌}
-use Rattle.busdma_base.specs.declared.report.ReportName.TheVariants.{MixedSync}
-use Rattle.busdma_base.specs.declared.answer.Answer.TheVariants.{Done}
+use Rattle.busdma_base.specs.declared.journals.report.ReportName.TheVariants.{MixedSync}
+use Rattle.busdma_base.specs.declared.journals.answer.Answer.TheVariants.{Done}
 use Rattle.dma_tag.specs.SyncOps.{is_mixed}
 use Rattle.loan_table.specs.Lending.{sync_answer, synced, lost}
 use Rattle.lane_core.specs.IdealMemory.{forgotten}

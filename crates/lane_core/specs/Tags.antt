@@ -2,11 +2,11 @@
 use Rattle.std.specs.Prelude.{ℕ, Bool, Option, Some, None, if◌then◌else◌, ◌==◌}
 use Rattle.std.specs.List.{list_any}
 use Rattle.std.specs.FinMap.{get, insert, remove, contains_key, entries}
-use Rattle.busdma_base.specs.declared.tag.TagLimits.{TagLimits}
-use Rattle.busdma_base.specs.declared.report.ReportName.TheVariants.{Absent}
-use Rattle.busdma_base.specs.declared.report.Errno.TheVariants.{EINVAL, EBUSY}
-use Rattle.busdma_base.specs.declared.answer.Answer.TheVariants.{Done, Refused}
-use Rattle.busdma_base.specs.Tag.{effective}
+use Rattle.busdma_base.specs.declared.tags.tag.TagLimits.{TagLimits}
+use Rattle.busdma_base.specs.declared.journals.report.ReportName.TheVariants.{Absent}
+use Rattle.busdma_base.specs.declared.journals.report.Errno.TheVariants.{EINVAL, EBUSY}
+use Rattle.busdma_base.specs.declared.journals.answer.Answer.TheVariants.{Done, Refused}
+use Rattle.busdma_base.specs.Tags.Tag.{effective}
 use Rattle.lane_core.specs.Lane.{LaneState, Outcome, gives, refused}
 
 -- the effective tag of this place, or EINVAL where there is none

@@ -1,15 +1,15 @@
 -- What the steps of a driver make of its wire. Pages arrive with any bytes and leave with theirs.
 use Rattle.std.specs.Prelude.{◌≡◌, ℕ, List, [], ◌∷◌, Option, Some, None, map, length, slice_get, if◌then◌else◌}
-use Rattle.busdma_base.specs.declared.script.Op.{Op}
-use Rattle.busdma_base.specs.declared.script.Op.TheVariants as op
-use Rattle.busdma_base.specs.declared.script.Item.{Item}
-use Rattle.busdma_base.specs.declared.script.Item.TheVariants as item
-use Rattle.busdma_base.specs.declared.script.Place.{Place}
-use Rattle.busdma_base.specs.declared.answer.Answer.{Answer}
-use Rattle.busdma_base.specs.declared.answer.Answer.TheVariants.{Done, Bytes}
-use Rattle.busdma_base.specs.declared.journal.Side.{Side}
-use Rattle.busdma_base.specs.declared.journal.Side.TheVariants as side
-use Rattle.busdma_base.specs.Script.{bytes_of}
+use Rattle.busdma_base.specs.declared.scenarios.script.Op.{Op}
+use Rattle.busdma_base.specs.declared.scenarios.script.Op.TheVariants as op
+use Rattle.busdma_base.specs.declared.scenarios.script.Item.{Item}
+use Rattle.busdma_base.specs.declared.scenarios.script.Item.TheVariants as item
+use Rattle.busdma_base.specs.declared.scenarios.script.Place.{Place}
+use Rattle.busdma_base.specs.declared.journals.answer.Answer.{Answer}
+use Rattle.busdma_base.specs.declared.journals.answer.Answer.TheVariants.{Done, Bytes}
+use Rattle.busdma_base.specs.declared.journals.journal.Side.{Side}
+use Rattle.busdma_base.specs.declared.journals.journal.Side.TheVariants as side
+use Rattle.busdma_base.specs.Scenarios.Script.{bytes_of}
 use Rattle.loan_table.specs.Loans.{Loans, loan_of}
 use Rattle.lane_tables.specs.declared.queued.QueuedItem.{QueuedItem}
 use Rattle.lane_core.specs.Lane.{LaneState, load_length, bytes_at}

@@ -2,7 +2,7 @@
 
 ghost use Rattle.std.specs.Prelude.{◌≡◌, ◌+◌, ◌≤◌, ◌<◌, ◌^◌, length, map, map as mapped, IfOk, OnOk, OnErr, IfSome, IfNone};
 ghost use Rattle.busdma_base.specs.Runs.{addresses, byte_count};
-ghost use Rattle.busdma_base.specs.Judging.{judged};
+ghost use Rattle.busdma_base.specs.Journals.Judging.{judged};
 ghost use Rattle.phys_memory.specs.Memory.{unreached, wire};
 ghost use Rattle.phys_memory.specs.Walk.{verdict, physical_or_0, IfParts};
 ghost use Rattle.loan_table.specs.Lending.{range_of};

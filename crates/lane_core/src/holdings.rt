@@ -3,7 +3,7 @@
 ghost use Rattle.std.specs.Prelude.{◌≡◌, ◌/◌, ℕ, true};
 ghost use Rattle.std.specs.FinMap.{contains_key};
 ghost use Rattle.phys_memory.specs.Memory.{has_frame};
-ghost use Rattle.busdma_base.specs.declared.answer.Answer.TheVariants as answer;
+ghost use Rattle.busdma_base.specs.declared.journals.answer.Answer.TheVariants as answer;
 ghost use Rattle.lane_core.specs.Covered.{IsCovered};
 
 use crate::map::LaneMap;

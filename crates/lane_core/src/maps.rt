@@ -2,7 +2,7 @@
 
 ghost use Rattle.std.specs.Prelude.{◌≡◌, ◌<◌, ◌≤◌, ◌+◌, true, false, IfOk, OnOk, OnErr, length};
 ghost use Rattle.std.specs.List.{AllByRecursion};
-ghost use Rattle.busdma_base.specs.declared.answer.Answer.TheVariants.{Segments};
+ghost use Rattle.busdma_base.specs.declared.journals.answer.Answer.TheVariants.{Segments};
 ghost use Rattle.busdma_base.specs.Runs.{IsExtent, addresses};
 ghost use Rattle.std.specs.FinMap.{contains_key};
 ghost use Rattle.lane_core.specs.Covered.{Lie};

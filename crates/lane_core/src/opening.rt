@@ -2,7 +2,7 @@
 
 ghost use Rattle.std.specs.Prelude.{◌≡◌, ℕ, ◌+◌, ◌*◌, ◌%◌, ◌^◌, ◌≤◌, IfOk, OnOk, Some, None, true, if◌then◌else◌};
 ghost use Rattle.std.specs.FinMap.{empty, get};
-ghost use Rattle.busdma_base.specs.Pages.{pages_end};
+ghost use Rattle.busdma_base.specs.Machine.PageRuns.{pages_end};
 ghost use Rattle.lane_core.specs.Ideal.{ideal};
 ghost use Rattle.lane_core.specs.Opening.{opening_lane, is_own};
 ghost use Rattle.lane_core.specs.OpeningMemory.{ArePages, IsOpeningMemory, HasRun, IsWithout};

@@ -2,7 +2,7 @@
 
 ghost use Rattle.std.specs.Prelude.{◌≡◌, ◌<◌, ◌≤◌, ◌+◌, false, IfOk, OnErr, length, drop};
 ghost use Rattle.std.specs.FinMap.{contains_key};
-ghost use Rattle.busdma_base.specs.Script.{items_of};
+ghost use Rattle.busdma_base.specs.Scenarios.Script.{items_of};
 ghost use Rattle.lane_core.specs.Lane.{gives};
 ghost use Rattle.lane_core.specs.Step as step;
 ghost use Rattle.lane_core.specs.WireStep as wires;

@@ -1,7 +1,7 @@
 //! The turns of a lane, and the calls that they use.
 
 ghost use Rattle.std.specs.Prelude.{◌≡◌, false, IfOk, OnOk, OnErr, length, nat_le};
-ghost use Rattle.busdma_base.specs.declared.journal.Side.TheVariants as side;
+ghost use Rattle.busdma_base.specs.declared.journals.journal.Side.TheVariants as side;
 ghost use Rattle.lane_core.specs.declared.turn.Turn.TheVariants.{Stepped};
 ghost use Rattle.lane_core.specs.Lane.{gives, bytes_at};
 ghost use Rattle.lane_core.specs.Wire.{buses, stretch};

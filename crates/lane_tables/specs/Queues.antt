@@ -3,11 +3,11 @@ use Rattle.std.specs.Prelude.{ℕ, ◌+◌, Bool, ◌&&◌, ◌==◌, List, [], 
 use Rattle.std.specs.List.{list_any}
 use Rattle.busdma_base.specs.declared.name.MapId.{MapId}
 use Rattle.busdma_base.specs.declared.name.ZoneId.{ZoneId}
-use Rattle.busdma_base.specs.declared.script.Op.{Op}
-use Rattle.busdma_base.specs.declared.script.Item.{Item}
-use Rattle.busdma_base.specs.declared.script.Item.TheVariants as item
-use Rattle.busdma_base.specs.Framed.{Framed}
-use Rattle.busdma_base.specs.Script.{items_of}
+use Rattle.busdma_base.specs.declared.scenarios.script.Op.{Op}
+use Rattle.busdma_base.specs.declared.scenarios.script.Item.{Item}
+use Rattle.busdma_base.specs.declared.scenarios.script.Item.TheVariants as item
+use Rattle.busdma_base.specs.Machine.Page.{FrameBytes}
+use Rattle.busdma_base.specs.Scenarios.Script.{items_of}
 use Rattle.lane_tables.specs.declared.queued.QueuedItem.{QueuedItem}
 use Rattle.lane_tables.specs.declared.queued.QueuedPage.{QueuedPage}
 
@@ -36,7 +36,7 @@ abbrev pub queue_names : ℕ → List QueuedItem → Bool
 queue_names made_at queue = list_any (λ q. item_names made_at q.item) queue
 
 -- pages of a map, in order
-abbrev pub queued_pages : MapId → ZoneId → List Framed → List QueuedPage
+abbrev pub queued_pages : MapId → ZoneId → List FrameBytes → List QueuedPage
 queued_pages m zone pages = map (λ page. record { map = m; zone = zone; page = page }) pages
 
 -- a page of the queue is the map's

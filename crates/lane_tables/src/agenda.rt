@@ -3,7 +3,7 @@
 ghost use Rattle.std.specs.Prelude.{◌≡◌, ◌+◌, ◌-◌, ◌^◌, ◌<◌, ◌≤◌, [], ◌∷◌, ◌++◌, length, not, slice_get, IfNone, IfOk, IfSome, OnErr, OnOk, OnSome, option_copied};
 ghost use Rattle.std.specs.Option.{SomeIff};
 ghost use Rattle.std.specs.VecDeque.{deque_capacity};
-ghost use Rattle.busdma_base.specs.Script.{items_of};
+ghost use Rattle.busdma_base.specs.Scenarios.Script.{items_of};
 ghost use Rattle.lane_tables.specs.Queues.{item_count, queued, queue_names, queued_pages, has_page};
 
 use crate::queued::{QueuedItem, QueuedPage, Returned, item_names};

@@ -6,7 +6,7 @@ use Rattle.std.specs.Ordering.{nat_cmp}
 use Rattle.std.specs.Cmp.{nat_cmp_total, unsigned_tied, nat_eq_equiv}
 use Rattle.std.proofs.lemmas.Map.Views.{exact_unsigned_eq}
 use Rattle.std.specs.FinMap.{FinMap, get, insert, get-insert}
-use Rattle.busdma_base.specs.declared.address.Extent.{Extent}
+use Rattle.busdma_base.specs.declared.machine.address.Extent.{Extent}
 use Rattle.busdma_base.specs.Runs.{run_of, addresses}
 use Rattle.loan_table.specs.Kept.{AreLow, Ends}
 use Rattle.loan_table.specs.Table.{AreIn, set_all}

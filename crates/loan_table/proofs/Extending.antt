@@ -6,7 +6,7 @@ use Rattle.std.specs.FinMap.{FinMap}
 use Rattle.std.proofs.lemmas.List.{length-append, length-map, length-take, length-drop}
 use Rattle.std.proofs.lemmas.List.Sums.{sum_by-cons}
 use Rattle.std.proofs.lemmas.List.Elements.{All-from_recursion}
-use Rattle.busdma_base.specs.declared.address.Extent.{Extent}
+use Rattle.busdma_base.specs.declared.machine.address.Extent.{Extent}
 use Rattle.busdma_base.specs.Runs.{addresses, run_of, byte_count}
 use Rattle.loan_table.specs.declared.position.Position.{Position}
 use Rattle.loan_table.specs.Kept.{AreLow}

@@ -8,8 +8,8 @@ use Rattle.std.specs.Map.{lookup}
 use Rattle.std.specs.BTreeMap.{is_at}
 use Rattle.std.specs.FinMap.{get, insert, from_entries}
 use Rattle.loan_table.specs.Loans.{Loan, Loans, loan_of, no_loan}
-use Rattle.busdma_base.specs.declared.report.Judged.TheVariants.{Fine}
-use Rattle.busdma_base.specs.Judging.{judged}
+use Rattle.busdma_base.specs.declared.journals.report.Judged.TheVariants.{Fine}
+use Rattle.busdma_base.specs.Journals.Judging.{judged}
 use Rattle.loan_table.specs.Loans.{addresses_of}
 use Rattle.loan_table.specs.Lending.{synced, marked_range, sync_answer, sync_refusal, lost, range_of, loses}
 use Rattle.std.specs.List.{filter}

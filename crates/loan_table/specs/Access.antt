@@ -1,9 +1,9 @@
 -- Which accesses are allowed.
 use Rattle.std.specs.Prelude.{ℕ, Bool, if◌then◌else◌, ◌||◌, List, Option, Some, None}
-use Rattle.busdma_base.specs.declared.report.ReportName.{ReportName}
-use Rattle.busdma_base.specs.declared.report.ReportName.TheVariants.{CpuReadLent, CpuWriteLent, DeviceReadUnlent, DeviceWriteUnlent, StaleByte}
-use Rattle.busdma_base.specs.declared.report.Judged.{Judged}
-use Rattle.busdma_base.specs.Judging.{judged}
+use Rattle.busdma_base.specs.declared.journals.report.ReportName.{ReportName}
+use Rattle.busdma_base.specs.declared.journals.report.ReportName.TheVariants.{CpuReadLent, CpuWriteLent, DeviceReadUnlent, DeviceWriteUnlent, StaleByte}
+use Rattle.busdma_base.specs.declared.journals.report.Judged.{Judged}
+use Rattle.busdma_base.specs.Journals.Judging.{judged}
 use Rattle.loan_table.specs.declared.position.Position.{Position}
 use Rattle.loan_table.specs.Loans.{Loan, Loans, to_write, in_any_way, lent}
 use Rattle.loan_table.specs.Lending.{range_of}

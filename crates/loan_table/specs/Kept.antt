@@ -5,7 +5,7 @@ use Rattle.std.specs.Ordering.{nat_cmp}
 use Rattle.std.specs.BTreeMap.{BTreeMap, IsOrdered}
 use Rattle.std.specs.FinMap.{FinMap, get}
 use Rattle.std.specs.FinMap as map
-use Rattle.busdma_base.specs.declared.address.Extent.{Extent}
+use Rattle.busdma_base.specs.declared.machine.address.Extent.{Extent}
 use Rattle.loan_table.specs.declared.position.Position.{Position}
 use Rattle.loan_table.specs.Loans.{Loan, Loans, loan_of, addresses_of}
 use Rattle.loan_table.specs.Table.{Table, AreIn}

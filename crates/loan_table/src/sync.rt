@@ -4,7 +4,7 @@ ghost use Rattle.std.specs.Prelude.{◌≡◌, ◌+◌, ◌<◌, ◌≤◌, ◌^
 ghost use Rattle.std.specs.Ordering.{nat_cmp};
 ghost use Rattle.std.specs.BTreeMap as tree;
 ghost use Rattle.std.specs.FinMap as finmap;
-ghost use Rattle.busdma_base.specs.Judging.{judged};
+ghost use Rattle.busdma_base.specs.Journals.Judging.{judged};
 ghost use Rattle.loan_table.specs.Lending.{lost, synced, sync_answer, sync_refusal, prewrite_refusal, preread_refusal, postread_refusal};
 ghost use Rattle.loan_table.specs.Loans.{loan_of, addresses_of};
 ghost use Rattle.loan_table.specs.Table.{AreIn, set_all};

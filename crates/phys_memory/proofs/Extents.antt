@@ -4,8 +4,8 @@ use Rattle.std.specs.Prelude.{Option, Some, None, nat_eq, nat_lt, if◌then◌el
 use Rattle.std.specs.List.{AllByRecursion}
 use Rattle.std.proofs.lemmas.Bool.{eq-eqb, ne_eqb}
 use Rattle.std.proofs.lemmas.Bool.Decides.{eqb_tells}
-use Rattle.busdma_base.specs.declared.address.Extent.{Extent}
-use Rattle.busdma_base.specs.Entry.{AreJoined}
+use Rattle.busdma_base.specs.declared.machine.address.Extent.{Extent}
+use Rattle.busdma_base.specs.Machine.Entry.{AreJoined}
 use Rattle.busdma_base.specs.Runs.{run_of, addresses, IsExtent}
 use Rattle.phys_memory.specs.declared.reach.Reach.{Reach}
 use Rattle.phys_memory.specs.Memory.{Memory, IsMemory, IsRow, has_frame, physical, reached_in, row_at}

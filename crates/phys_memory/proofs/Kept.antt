@@ -7,7 +7,7 @@ use Rattle.std.specs.Map.{lookup}
 use Rattle.std.specs.FinMap.{get, insert, remove, empty, get-empty, from_entries}
 use Rattle.std.proofs.lemmas.Map.Made.{lookup-map_values}
 use Rattle.std.proofs.lemmas.Bool.{eq-eqb, ne_eqb}
-use Rattle.busdma_base.specs.Framed.{Framed}
+use Rattle.busdma_base.specs.Machine.Page.{FrameBytes}
 use Rattle.phys_memory.specs.declared.reach.Reach.{Reach}
 use Rattle.phys_memory.specs.Memory.{Memory, IsMemory, IsRow, has_frame, has_page, with_page, without_row}
 use Rattle.phys_memory.specs.Kept.{contents, memory_of, AtTheirFrames}
@@ -16,11 +16,11 @@ use Rattle.phys_memory.proofs.Tables.{get_made, get_removed, got_inserted, got_r
 -- ---- what the maps have
 
 -- the bytes of the page that a look-up finds
-pub lookup-contents : (pages : List (ℕ × Framed)) (q : ℕ) → lookup (nat_eq q) (contents pages) ≡ option_map (λ p. p.bytes) (lookup (nat_eq q) pages)
-lookup-contents pages q = lookup-map_values (λ (p : Framed). p.bytes) (nat_eq q) pages
+pub lookup-contents : (pages : List (ℕ × FrameBytes)) (q : ℕ) → lookup (nat_eq q) (contents pages) ≡ option_map (λ p. p.bytes) (lookup (nat_eq q) pages)
+lookup-contents pages q = lookup-map_values (λ (p : FrameBytes). p.bytes) (nat_eq q) pages
 
 -- the bytes that the memory has of a frame
-pub get-frames : (pages : List (ℕ × Framed)) (q : ℕ) → get (from_entries {R = nat_cmp} (contents pages)) q ≡ option_map (λ p. p.bytes) (lookup (nat_eq q) pages)
+pub get-frames : (pages : List (ℕ × FrameBytes)) (q : ℕ) → get (from_entries {R = nat_cmp} (contents pages)) q ≡ option_map (λ p. p.bytes) (lookup (nat_eq q) pages)
 get-frames pages q = get_made (contents pages) q ∙ lookup-contents pages q
 
 is_some-mapped : {A B : Type 0} (f : A → B) (o : Option A) → is_some (option_map f o) ≡ is_some o
@@ -28,10 +28,10 @@ is_some-mapped f None = refl
 is_some-mapped f (Some x) = refl
 
 -- a memory has a frame where its pages do
-pub has_frame-kept : (rows : List (ℕ × Reach)) (pages : List (ℕ × Framed)) (q : ℕ) → has_frame (memory_of rows pages) q ≡ is_some (lookup (nat_eq q) pages)
-has_frame-kept rows pages q = ap is_some (get-frames pages q) ∙ is_some-mapped (λ (p : Framed). p.bytes) (lookup (nat_eq q) pages)
+pub has_frame-kept : (rows : List (ℕ × Reach)) (pages : List (ℕ × FrameBytes)) (q : ℕ) → has_frame (memory_of rows pages) q ≡ is_some (lookup (nat_eq q) pages)
+has_frame-kept rows pages q = ap is_some (get-frames pages q) ∙ is_some-mapped (λ (p : FrameBytes). p.bytes) (lookup (nat_eq q) pages)
 
-pub has_page-kept : (rows : List (ℕ × Reach)) (pages : List (ℕ × Framed)) (va : ℕ) → has_page (memory_of rows pages) va ≡ is_some (lookup (nat_eq (va / 4096)) rows)
+pub has_page-kept : (rows : List (ℕ × Reach)) (pages : List (ℕ × FrameBytes)) (va : ℕ) → has_page (memory_of rows pages) va ≡ is_some (lookup (nat_eq (va / 4096)) rows)
 has_page-kept rows pages va = ap is_some (get_made rows (va / 4096))
 
 mapped_cond : {A B : Type 0} (f : A → B) (b : Bool) (o p : Option A) → option_map f (cond b o p) ≡ cond b (option_map f o) (option_map f p)
@@ -39,20 +39,20 @@ mapped_cond f true o p = refl
 mapped_cond f false o p = refl
 
 -- the contents of pages after a page was put at a number
-pub contents_inserted : (es fs : List (ℕ × Framed)) (k : ℕ) (page : Framed) → ((q : ℕ) → lookup (nat_eq q) fs ≡ cond (nat_eq k q) (Some page) (lookup (nat_eq q) es)) → from_entries {R = nat_cmp} (contents fs) ≡ insert (from_entries (contents es)) k page.bytes
+pub contents_inserted : (es fs : List (ℕ × FrameBytes)) (k : ℕ) (page : FrameBytes) → ((q : ℕ) → lookup (nat_eq q) fs ≡ cond (nat_eq k q) (Some page) (lookup (nat_eq q) es)) → from_entries {R = nat_cmp} (contents fs) ≡ insert (from_entries (contents es)) k page.bytes
 contents_inserted es fs k page h =
     made_inserted (contents es) (contents fs) k page.bytes (λ q.
-    lookup-contents fs q ∙ ap (option_map (λ (p : Framed). p.bytes)) (h q) ∙ mapped_cond (λ (p : Framed). p.bytes) (nat_eq k q) (Some page) (lookup (nat_eq q) es)
+    lookup-contents fs q ∙ ap (option_map (λ (p : FrameBytes). p.bytes)) (h q) ∙ mapped_cond (λ (p : FrameBytes). p.bytes) (nat_eq k q) (Some page) (lookup (nat_eq q) es)
     ∙ ap (cond (nat_eq k q) (Some page.bytes)) (sym (lookup-contents es q)))
 
-pub contents_removed : (es fs : List (ℕ × Framed)) (k : ℕ) → ((q : ℕ) → lookup (nat_eq q) fs ≡ cond (nat_eq k q) None (lookup (nat_eq q) es)) → from_entries {R = nat_cmp} (contents fs) ≡ remove (from_entries (contents es)) k
+pub contents_removed : (es fs : List (ℕ × FrameBytes)) (k : ℕ) → ((q : ℕ) → lookup (nat_eq q) fs ≡ cond (nat_eq k q) None (lookup (nat_eq q) es)) → from_entries {R = nat_cmp} (contents fs) ≡ remove (from_entries (contents es)) k
 contents_removed es fs k h =
     made_removed (contents es) (contents fs) k (λ q.
-    lookup-contents fs q ∙ ap (option_map (λ (p : Framed). p.bytes)) (h q) ∙ mapped_cond (λ (p : Framed). p.bytes) (nat_eq k q) None (lookup (nat_eq q) es)
+    lookup-contents fs q ∙ ap (option_map (λ (p : FrameBytes). p.bytes)) (h q) ∙ mapped_cond (λ (p : FrameBytes). p.bytes) (nat_eq k q) None (lookup (nat_eq q) es)
     ∙ ap (cond (nat_eq k q) None) (sym (lookup-contents es q)))
 
-pub contents_same : (es fs : List (ℕ × Framed)) → ((q : ℕ) → lookup (nat_eq q) fs ≡ lookup (nat_eq q) es) → from_entries {R = nat_cmp} (contents fs) ≡ from_entries (contents es)
-contents_same es fs h = made_same (contents es) (contents fs) (λ q. lookup-contents fs q ∙ ap (option_map (λ (p : Framed). p.bytes)) (h q) ∙ sym (lookup-contents es q))
+pub contents_same : (es fs : List (ℕ × FrameBytes)) → ((q : ℕ) → lookup (nat_eq q) fs ≡ lookup (nat_eq q) es) → from_entries {R = nat_cmp} (contents fs) ≡ from_entries (contents es)
+contents_same es fs h = made_same (contents es) (contents fs) (λ q. lookup-contents fs q ∙ ap (option_map (λ (p : FrameBytes). p.bytes)) (h q) ∙ sym (lookup-contents es q))
 
 -- ---- what a memory keeps
 
@@ -68,16 +68,16 @@ empty_memory m t f =
       whole = λ q bytes h. absurd (cc (frame q));
     }
 
-pub no_pages : (pages : List (ℕ × Framed)) → pages ≡ [] → AtTheirFrames pages
+pub no_pages : (pages : List (ℕ × FrameBytes)) → pages ≡ [] → AtTheirFrames pages
 no_pages pages e f page h = none (sym (ap (lookup (nat_eq f)) e) ∙ h)
   where
-    none : ◌≡◌ {A = Option Framed} None (Some page) → page.frame ≡ f
+    none : ◌≡◌ {A = Option FrameBytes} None (Some page) → page.frame ≡ f
     none h = absurd (cc)
 
 clash : (b : Bool) → b ≡ true → b ≡ false → ⊥
 clash b t f = absurd (cc)
 
-pub memory_with_page : (m : Memory) (va : ℕ) (page : Framed) (reach : ℕ) → IsMemory m → has_page m va ≡ false → has_frame m page.frame ≡ false → page.frame < 2 ^ 30 → length page.bytes ≡ 4096 → reach ≤ 4096 → IsMemory (with_page m va page reach)
+pub memory_with_page : (m : Memory) (va : ℕ) (page : FrameBytes) (reach : ℕ) → IsMemory m → has_page m va ≡ false → has_frame m page.frame ≡ false → page.frame < 2 ^ 30 → length page.bytes ≡ 4096 → reach ≤ 4096 → IsMemory (with_page m va page reach)
 memory_with_page m va page reach is free fresh below whole short =
     let row : Reach = record { frame = page.frame; reach = reach } in
     let k = va / 4096 in

@@ -4,16 +4,16 @@ use Rattle.std.specs.Prelude.{nat_eq, if◌then◌else◌}
 use Rattle.std.specs.Iterator.{Yields, YieldsFirst, HoldsAlong}
 use Rattle.std.specs.List.{AllByRecursion}
 use Rattle.std.proofs.lemmas.List.Sums.{sum_by-cons, sum_by-append}
-use Rattle.busdma_base.specs.declared.address.Extent.{Extent}
-use Rattle.busdma_base.specs.declared.address.Span.{Span}
-use Rattle.busdma_base.specs.declared.chunk.Entry.{Entry}
-use Rattle.busdma_base.specs.declared.chunk.Part.{Part}
-use Rattle.busdma_base.specs.declared.chunk.Part.TheVariants.{Of, Unmapped}
-use Rattle.busdma_base.specs.declared.report.Judged.{Judged}
-use Rattle.busdma_base.specs.declared.report.Judged.TheVariants.{Fine, Refused}
-use Rattle.busdma_base.specs.Entry.{AreJoined, HasPart, IsEntry, IsStream, entries_bytes, entries_of, entry_parts, extent_parts, others_of, parts_of}
+use Rattle.busdma_base.specs.declared.machine.address.Extent.{Extent}
+use Rattle.busdma_base.specs.declared.machine.address.Span.{Span}
+use Rattle.busdma_base.specs.declared.machine.chunk.Entry.{Entry}
+use Rattle.busdma_base.specs.declared.machine.chunk.Part.{Part}
+use Rattle.busdma_base.specs.declared.machine.chunk.Part.TheVariants.{Of, Unmapped}
+use Rattle.busdma_base.specs.declared.journals.report.Judged.{Judged}
+use Rattle.busdma_base.specs.declared.journals.report.Judged.TheVariants.{Fine, Refused}
+use Rattle.busdma_base.specs.Machine.Entry.{AreJoined, HasPart, IsEntry, IsStream, entries_bytes, entries_of, entry_parts, extent_parts, others_of, parts_of}
 use Rattle.busdma_base.specs.Runs.{IsExtent, addresses, byte_count, run_of}
-use Rattle.busdma_base.specs.Spans.{span_bytes}
+use Rattle.busdma_base.specs.Machine.Spans.{span_bytes}
 use Rattle.phys_memory.specs.Memory.{Memory, IsMemory}
 use Rattle.phys_memory.specs.Extents.{extents_of, reached}
 use Rattle.phys_memory.specs.Vector.{ending, judged_spans, one_span, vector, with_entry}

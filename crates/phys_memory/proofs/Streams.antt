@@ -3,9 +3,9 @@ use Rattle.std.proofs.Common.{◌≡◌, ℕ, ◌+◌, ◌-◌, ◌≤◌, Bool,
 use Rattle.std.specs.Prelude.{nat_eq, if◌then◌else◌}
 use Rattle.std.proofs.lemmas.Bool.{eq-eqb, ne_eqb}
 use Rattle.std.proofs.lemmas.Bool.Decides.{eqb_tells}
-use Rattle.busdma_base.specs.declared.address.Extent.{Extent}
-use Rattle.busdma_base.specs.declared.chunk.Part.TheVariants as part
-use Rattle.busdma_base.specs.Entry.{extent_parts}
+use Rattle.busdma_base.specs.declared.machine.address.Extent.{Extent}
+use Rattle.busdma_base.specs.declared.machine.chunk.Part.TheVariants as part
+use Rattle.busdma_base.specs.Machine.Entry.{extent_parts}
 use Rattle.busdma_base.specs.Runs.{run_of}
 use Rattle.phys_memory.specs.Memory.{Memory}
 use Rattle.phys_memory.specs.Extents.{IsNext, extents_of, reached}

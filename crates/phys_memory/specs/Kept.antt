@@ -6,7 +6,7 @@ use Rattle.std.specs.HashMap.{HashMap, spare}
 use Rattle.std.specs.Map.{lookup}
 use Rattle.std.specs.Prelude.{nat_eq}
 use Rattle.std.specs.FinMap.{from_entries}
-use Rattle.busdma_base.specs.Framed.{Framed}
+use Rattle.busdma_base.specs.Machine.Page.{FrameBytes}
 use Rattle.phys_memory.specs.declared.reach.Reach.{Reach}
 use Rattle.phys_memory.specs.Memory.{Memory, Roomy, IsMemory}
 
@@ -15,20 +15,20 @@ abbrev pub Numbered : Type 0 → Type 0
 Numbered X = HashMap ℕ X (BuildHasherDefault FoldHasher)
 
 -- the bytes of pages by their keys
-abbrev pub contents : List (ℕ × Framed) → List (ℕ × List ℕ)
+abbrev pub contents : List (ℕ × FrameBytes) → List (ℕ × List ℕ)
 contents pages = map (λ e. (e.0, e.1.bytes)) pages
 
-abbrev pub memory_of : List (ℕ × Reach) → List (ℕ × Framed) → Memory
+abbrev pub memory_of : List (ℕ × Reach) → List (ℕ × FrameBytes) → Memory
 memory_of rows pages = record { table = from_entries rows; frames = from_entries (contents pages) }
 
 -- the memory, with room for as many pages as both maps have room for
-abbrev pub roomy_of : Numbered Reach → Numbered Framed → Roomy
+abbrev pub roomy_of : Numbered Reach → Numbered FrameBytes → Roomy
 roomy_of table frames = record { memory = memory_of table.entries frames.entries; spare = min (spare table) (spare frames) }
 
 -- each page stands at the number of its frame
-abbrev pub AtTheirFrames : List (ℕ × Framed) → Type 0
-AtTheirFrames pages = (f : ℕ) (page : Framed) → lookup (nat_eq f) pages ≡ Some page → page.frame ≡ f
+abbrev pub AtTheirFrames : List (ℕ × FrameBytes) → Type 0
+AtTheirFrames pages = (f : ℕ) (page : FrameBytes) → lookup (nat_eq f) pages ≡ Some page → page.frame ≡ f
 
-pub record IsKept (table : Numbered Reach) (frames : Numbered Framed) : Type 0 where
+pub record IsKept (table : Numbered Reach) (frames : Numbered FrameBytes) : Type 0 where
   pub memory : IsMemory (memory_of table.entries frames.entries)
   pub at_frames : AtTheirFrames frames.entries

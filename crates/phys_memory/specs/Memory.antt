@@ -3,9 +3,9 @@ use Rattle.std.specs.Prelude.{◌≡◌, ℕ, ◌+◌, ◌*◌, ◌/◌, ◌%◌
 use Rattle.std.specs.Ordering.{nat_cmp}
 use Rattle.std.specs.FinMap.{FinMap, get, contains_key, insert, remove}
 use Rattle.phys_memory.specs.declared.reach.Reach.{Reach}
-use Rattle.busdma_base.specs.declared.report.ReportName.{ReportName}
-use Rattle.busdma_base.specs.declared.report.ReportName.TheVariants.{Unmapped}
-use Rattle.busdma_base.specs.Framed.{Framed, overwritten}
+use Rattle.busdma_base.specs.declared.journals.report.ReportName.{ReportName}
+use Rattle.busdma_base.specs.declared.journals.report.ReportName.TheVariants.{Unmapped}
+use Rattle.busdma_base.specs.Machine.Page.{FrameBytes, overwritten}
 
 -- the virtual pages by their number, the virtual address / 4096, and the bytes of the frames by theirs
 pub record Memory : Type 0 where
@@ -56,27 +56,27 @@ abbrev pub has_page : Memory → ℕ → Bool
 has_page m va = contains_key m.table (va / 4096)
 
 -- the memory with a page more, at a virtual address, of which so many first bytes can be reached
-abbrev pub with_page : Memory → ℕ → Framed → ℕ → Memory
+abbrev pub with_page : Memory → ℕ → FrameBytes → ℕ → Memory
 with_page m va page reach = record {
   table = insert m.table (va / 4096) (record { frame = page.frame; reach = reach });
   frames = insert m.frames page.frame page.bytes;
 }
 
 -- what `add` answers: the page, where that virtual page is taken
-abbrev pub handed_back : Memory → ℕ → Framed → Option Framed
+abbrev pub handed_back : Memory → ℕ → FrameBytes → Option FrameBytes
 handed_back m va page = if has_page m va then Some page else None
 
 -- the memory that `add` leaves
-abbrev pub added : Memory → ℕ → Framed → ℕ → Memory
+abbrev pub added : Memory → ℕ → FrameBytes → ℕ → Memory
 added m va page reach = if has_page m va then m else with_page m va page reach
 
 -- the page of a row, with the bytes of its frame
-abbrev pub page_of : Memory → Option Reach → Option Framed
+abbrev pub page_of : Memory → Option Reach → Option FrameBytes
 page_of m None = None
 page_of m (Some r) = Some (record { frame = r.frame; bytes = unwrap_or (get m.frames r.frame) [] })
 
 -- the page at a virtual address
-abbrev pub page_at : Memory → ℕ → Option Framed
+abbrev pub page_at : Memory → ℕ → Option FrameBytes
 page_at m va = page_of m (get m.table (va / 4096))
 
 -- the memory without a virtual page, which has this row, and without its frame

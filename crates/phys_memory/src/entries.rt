@@ -2,9 +2,9 @@
 
 ghost use Rattle.std.specs.Prelude.{◌≡◌, ◌+◌, ◌^◌, ◌<◌, IfOk, map};
 ghost use Rattle.std.specs.List.{AllByRecursion};
-ghost use Rattle.busdma_base.specs.Entry.{HasPart, IsEntry, entries_addresses};
+ghost use Rattle.busdma_base.specs.Machine.Entry.{HasPart, IsEntry, entries_addresses};
 ghost use Rattle.busdma_base.specs.Runs.{run_of};
-ghost use Rattle.busdma_base.specs.Spans.{span_addresses, span_bytes};
+ghost use Rattle.busdma_base.specs.Machine.Spans.{span_addresses, span_bytes};
 ghost use Rattle.phys_memory.specs.Extents.{LiesIn};
 ghost use Rattle.phys_memory.specs.Vector.{IfAll, one_span, vector_walk};
 ghost use Rattle.phys_memory.specs.Walk.{physical_or_0};

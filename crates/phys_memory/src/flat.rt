@@ -2,7 +2,7 @@
 
 ghost use Rattle.std.specs.Prelude.{◌≡◌, ℕ, ◌+◌, ◌-◌, ◌*◌, ◌/◌, ◌%◌, ◌^◌, ◌<◌, ◌≤◌, IfSome, IfNone, None, Some, true, []};
 ghost use Rattle.std.specs.Iterator.{HoldsAlong, YieldsFirst, item_count};
-ghost use Rattle.busdma_base.specs.Entry.{IsStream, parts_of};
+ghost use Rattle.busdma_base.specs.Machine.Entry.{IsStream, parts_of};
 ghost use Rattle.phys_memory.specs.Memory.{IsMemory, IsRow, physical, row_at};
 ghost use Rattle.phys_memory.specs.Extents.{IsNext, reached};
 ghost use Rattle.phys_memory.specs.Walk.{flat, flat_at, run_stream};
@@ -26,7 +26,7 @@ pub struct FlatParts<'a> {
 
 impl<'a> Model for FlatParts<'a> {
     ghost use Rattle.std.specs.Prelude.{List, ◌+◌, ◌<◌, ◌^◌};
-    ghost use Rattle.busdma_base.specs.declared.chunk.Part.{Part};
+    ghost use Rattle.busdma_base.specs.declared.machine.chunk.Part.{Part};
     ghost use Rattle.phys_memory.specs.Extents.{reached};
     ghost use Rattle.phys_memory.specs.Walk.{run_stream};
 

@@ -2,8 +2,8 @@
 
 ghost use Rattle.std.specs.Prelude.{◌≡◌, ℕ, ◌+◌, ◌^◌, ◌<◌, ◌≤◌, List};
 ghost use Rattle.std.specs.Iterator.{HoldsAlong, YieldsFirst, item_count};
-ghost use Rattle.busdma_base.specs.Entry.{IsStream, parts_of};
-ghost use Rattle.busdma_base.specs.Spans.{span_bytes};
+ghost use Rattle.busdma_base.specs.Machine.Entry.{IsStream, parts_of};
+ghost use Rattle.busdma_base.specs.Machine.Spans.{span_bytes};
 ghost use Rattle.phys_memory.specs.Memory.{IsMemory};
 ghost use Rattle.phys_memory.specs.Vector.{IfAll, then_parts, vector, vector_at, vector_walk};
 
@@ -25,8 +25,8 @@ pub struct VectorParts<'a> {
 
 impl<'a> Model for VectorParts<'a> {
     ghost use Rattle.std.specs.Prelude.{List, ◌+◌, ◌<◌, ◌^◌};
-    ghost use Rattle.busdma_base.specs.declared.chunk.Part.{Part};
-    ghost use Rattle.busdma_base.specs.Spans.{span_bytes};
+    ghost use Rattle.busdma_base.specs.declared.machine.chunk.Part.{Part};
+    ghost use Rattle.busdma_base.specs.Machine.Spans.{span_bytes};
     ghost use Rattle.phys_memory.specs.Vector.{then_parts, vector_at};
 
     ghost Value = { List Part };

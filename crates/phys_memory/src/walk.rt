@@ -2,8 +2,8 @@
 
 ghost use Rattle.std.specs.Prelude.{◌≡◌, [], IfOk, map};
 ghost use Rattle.std.specs.List.{AllByRecursion};
-ghost use Rattle.busdma_base.specs.Entry.{AreJoined};
-ghost use Rattle.busdma_base.specs.Judging.{judged};
+ghost use Rattle.busdma_base.specs.Machine.Entry.{AreJoined};
+ghost use Rattle.busdma_base.specs.Journals.Judging.{judged};
 ghost use Rattle.busdma_base.specs.Runs.{IsExtent, addresses, run_of};
 ghost use Rattle.phys_memory.specs.Memory.{unreached};
 ghost use Rattle.phys_memory.specs.Extents.{LiesIn, reached};

@@ -10,7 +10,7 @@ mod step;
 
 ghost use Rattle.std.specs.Prelude.{◌≡◌, [], IfOk, OnOk};
 ghost use Rattle.std.specs.List.{count_by};
-ghost use Rattle.busdma_base.specs.Account.{zone_at, with_zone, active, reserved, free, total, counts};
+ghost use Rattle.busdma_base.specs.Bounce.Account.{zone_at, with_zone, active, reserved, free, total, counts};
 
 use busdma_base::{MapId, Pa, Waiter, ZoneCounts, ZoneId};
 use std::alloc::{AllocError, Global};
@@ -30,7 +30,7 @@ struct PlainZone {
 }
 
 impl Model for PlainZone {
-    ghost use Rattle.busdma_base.specs.Account.{Zone};
+    ghost use Rattle.busdma_base.specs.Bounce.Account.{Zone};
 
     ghost Value = { Zone };
 
@@ -53,7 +53,7 @@ struct PlainHeld {
 }
 
 impl Model for PlainHeld {
-    ghost use Rattle.busdma_base.specs.Account.{Held};
+    ghost use Rattle.busdma_base.specs.Bounce.Account.{Held};
 
     ghost Value = { Held };
 
@@ -70,7 +70,7 @@ struct PlainMemory {
 }
 
 impl Model for PlainMemory {
-    ghost use Rattle.busdma_base.specs.Account.{Memory};
+    ghost use Rattle.busdma_base.specs.Bounce.Account.{Memory};
 
     ghost Value = { Memory };
 
@@ -90,7 +90,7 @@ pub struct PlainAccount {
 }
 
 impl Model for PlainAccount {
-    ghost use Rattle.busdma_base.specs.Account.{Account};
+    ghost use Rattle.busdma_base.specs.Bounce.Account.{Account};
 
     ghost Value = { Account };
 

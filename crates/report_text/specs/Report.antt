@@ -5,15 +5,15 @@ use Rattle.report_text.specs.Text.{numbered}
 use Rattle.report_text.specs.Answer.{answer_text}
 use Rattle.report_text.specs.Did.{did_text}
 use Rattle.report_text.specs.Zone.{zone_lines}
-use Rattle.busdma_base.specs.declared.journal.Actor.{Actor}
-use Rattle.busdma_base.specs.declared.journal.End.{End}
-use Rattle.busdma_base.specs.declared.journal.End.TheVariants.{Finished, Stuck}
-use Rattle.busdma_base.specs.declared.journal.Journal.{Journal}
-use Rattle.busdma_base.specs.declared.journal.JournalEntry.{JournalEntry}
-use Rattle.busdma_base.specs.declared.journal.Side.{Side}
-use Rattle.busdma_base.specs.declared.journal.Side.TheVariants.{Script, Transfer, Callback}
-use Rattle.busdma_base.specs.declared.scenario.Scenario.{Scenario}
-use Rattle.busdma_base.specs.Reports.{is_report}
+use Rattle.busdma_base.specs.declared.journals.journal.Actor.{Actor}
+use Rattle.busdma_base.specs.declared.journals.journal.End.{End}
+use Rattle.busdma_base.specs.declared.journals.journal.End.TheVariants.{Finished, Stuck}
+use Rattle.busdma_base.specs.declared.journals.journal.Journal.{Journal}
+use Rattle.busdma_base.specs.declared.journals.journal.JournalEntry.{JournalEntry}
+use Rattle.busdma_base.specs.declared.journals.journal.Side.{Side}
+use Rattle.busdma_base.specs.declared.journals.journal.Side.TheVariants.{Script, Transfer, Callback}
+use Rattle.busdma_base.specs.declared.scenarios.scenario.Scenario.{Scenario}
+use Rattle.busdma_base.specs.Journals.Reports.{is_report}
 
 -- the letter of a driver, its device or its callbacks
 abbrev pub side_letter : Side → List ℕ

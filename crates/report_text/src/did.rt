@@ -2,7 +2,7 @@
 
 ghost use Rattle.std.specs.Prelude.{◌≡◌, ◌++◌, OnOk, string_bytes};
 ghost use Rattle.std.specs.Option.{option_map};
-ghost use Rattle.busdma_base.specs.Script.{items_of};
+ghost use Rattle.busdma_base.specs.Scenarios.Script.{items_of};
 ghost use Rattle.report_text.specs.Did as text;
 
 use busdma_base::{Did, Item, LaneId, MapId, Op, Scenario};

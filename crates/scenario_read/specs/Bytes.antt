@@ -1,9 +1,9 @@
 -- Where an operation works, and what it writes.
 use Rattle.std.specs.Prelude.{ℕ, ◌+◌, ◌%◌, Bool, true, false, Option, Some, None, Ok, if◌then◌else◌, nat_lt, is_some, codes}
-use Rattle.busdma_base.specs.declared.script.Place.{Place as Target}
-use Rattle.busdma_base.specs.declared.script.Place.TheVariants.{At}
-use Rattle.busdma_base.specs.declared.script.Bytes.{Bytes}
-use Rattle.busdma_base.specs.declared.script.Bytes.TheVariants.{Listed, Filled}
+use Rattle.busdma_base.specs.declared.scenarios.script.Place.{Place as Target}
+use Rattle.busdma_base.specs.declared.scenarios.script.Place.TheVariants.{At}
+use Rattle.busdma_base.specs.declared.scenarios.script.Bytes.{Bytes}
+use Rattle.busdma_base.specs.declared.scenarios.script.Bytes.TheVariants.{Listed, Filled}
 use Rattle.json_fields.specs.Place.{Place, key}
 use Rattle.json_fields.specs.Read.{Read, ◌>>=◌, refuse}
 use Rattle.json_fields.specs.Field.{Spot, field}

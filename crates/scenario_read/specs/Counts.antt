@@ -1,10 +1,10 @@
 -- What is counted for the limits: the steps of a script, and the bytes that all scripts read and load.
 use Rattle.std.specs.Prelude.{◌≡◌, ℕ, ◌+◌, ◌≤◌, List, length, sum_by, Ok, if◌then◌else◌, nat_lt, ⊤}
-use Rattle.busdma_base.specs.declared.script.Op.{Op}
-use Rattle.busdma_base.specs.declared.script.Item.{Item}
-use Rattle.busdma_base.specs.declared.scenario.Driver.{Driver}
-use Rattle.busdma_base.specs.Script.{items_of, steps_of, read_by, read_by_item, loaded_by, access_limit}
-use Rattle.busdma_base.specs.Valid.{read_of, loaded_of}
+use Rattle.busdma_base.specs.declared.scenarios.script.Op.{Op}
+use Rattle.busdma_base.specs.declared.scenarios.script.Item.{Item}
+use Rattle.busdma_base.specs.declared.scenarios.scenario.Driver.{Driver}
+use Rattle.busdma_base.specs.Scenarios.Script.{items_of, steps_of, read_by, read_by_item, loaded_by, access_limit}
+use Rattle.busdma_base.specs.Scenarios.Valid.{read_of, loaded_of}
 use Rattle.json_fields.specs.Place.{Place}
 use Rattle.json_fields.specs.Read.{Read, ◌>>=◌, refuse}
 use Rattle.json_fields.specs.declared.refusal.RefusalKind.TheVariants.{Limit}

@@ -1,10 +1,10 @@
 -- The drivers, each read by itself and by the drivers before it.
 use Rattle.std.specs.Prelude.{List, [], ◌∷◌, length, Option, Some, None, Ok, if◌then◌else◌, nat_lt, codes}
 use Rattle.serde_json.specs.Data.{Data}
-use Rattle.busdma_base.specs.declared.scenario.FrameRun.{FrameRun}
-use Rattle.busdma_base.specs.declared.scenario.PageRun.{PageRun}
-use Rattle.busdma_base.specs.declared.scenario.Driver.{Driver}
-use Rattle.busdma_base.specs.declared.script.Op.{Op}
+use Rattle.busdma_base.specs.declared.scenarios.scenario.FrameRun.{FrameRun}
+use Rattle.busdma_base.specs.declared.scenarios.scenario.PageRun.{PageRun}
+use Rattle.busdma_base.specs.declared.scenarios.scenario.Driver.{Driver}
+use Rattle.busdma_base.specs.declared.scenarios.script.Op.{Op}
 use Rattle.json_fields.specs.Place.{Place}
 use Rattle.json_fields.specs.Read.{Read, ◌>>=◌, refuse}
 use Rattle.json_fields.specs.Field.{Spot, field, required, only_keys, one_of}

@@ -1,9 +1,9 @@
 -- The items of a load, as they are read.
 use Rattle.std.specs.Prelude.{List, [], ◌∷◌, length, Option, Some, None, Ok, codes}
-use Rattle.busdma_base.specs.declared.script.Op.{Op}
-use Rattle.busdma_base.specs.declared.script.Item.{Item}
-use Rattle.busdma_base.specs.declared.script.Item.TheVariants as item
-use Rattle.busdma_base.specs.Script.{bytes_of}
+use Rattle.busdma_base.specs.declared.scenarios.script.Op.{Op}
+use Rattle.busdma_base.specs.declared.scenarios.script.Item.{Item}
+use Rattle.busdma_base.specs.declared.scenarios.script.Item.TheVariants as item
+use Rattle.busdma_base.specs.Scenarios.Script.{bytes_of}
 use Rattle.json_fields.specs.Read.{Read, ◌>>=◌}
 use Rattle.json_fields.specs.Field.{Spot, field, members_of, only_keys, one_of}
 use Rattle.json_fields.specs.Number.{number_field}

@@ -1,9 +1,9 @@
 -- The operations of a script, each read by itself and by the operations before it.
 use Rattle.std.specs.Prelude.{ℕ, ◌-◌, ◌^◌, if◌then◌else◌, List, [], ◌∷◌, length, Ok, codes}
-use Rattle.busdma_base.specs.declared.script.Op.{Op}
-use Rattle.busdma_base.specs.declared.script.Op.TheVariants as op
-use Rattle.busdma_base.specs.declared.tag.TagLimits.{TagLimits}
-use Rattle.busdma_base.specs.Script.{bytes_of, cuts_no_page}
+use Rattle.busdma_base.specs.declared.scenarios.script.Op.{Op}
+use Rattle.busdma_base.specs.declared.scenarios.script.Op.TheVariants as op
+use Rattle.busdma_base.specs.declared.tags.tag.TagLimits.{TagLimits}
+use Rattle.busdma_base.specs.Scenarios.Script.{bytes_of, cuts_no_page}
 use Rattle.json_fields.specs.Place.{Place, key}
 use Rattle.json_fields.specs.Read.{Read, ◌>>=◌, refuse}
 use Rattle.json_fields.specs.declared.refusal.RefusalKind.TheVariants.{BadField}

@@ -1,9 +1,9 @@
 -- The order of the actors' steps.
 use Rattle.std.specs.Prelude.{ℕ, ◌+◌, ◌*◌, ◌-◌, ◌==◌, ◌&&◌, ◌||◌, List, [], ◌∷◌, length, Option, Some, None, option_and_then, Ok, if◌then◌else◌, nat_le, nat_lt, not, slice_index, codes}
 use Rattle.serde_json.specs.Data.{Data}
-use Rattle.busdma_base.specs.declared.journal.Actor.{Actor}
-use Rattle.busdma_base.specs.declared.journal.Side.{Side}
-use Rattle.busdma_base.specs.declared.journal.Side.TheVariants as side
+use Rattle.busdma_base.specs.declared.journals.journal.Actor.{Actor}
+use Rattle.busdma_base.specs.declared.journals.journal.Side.{Side}
+use Rattle.busdma_base.specs.declared.journals.journal.Side.TheVariants as side
 use Rattle.json_fields.specs.Place.{Place}
 use Rattle.json_fields.specs.Read.{Read, ◌>>=◌, refuse}
 use Rattle.json_fields.specs.Field.{Spot, field}

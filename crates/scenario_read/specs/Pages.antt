@@ -2,10 +2,10 @@
 use Rattle.std.specs.Prelude.{◌≡◌, ℕ, ◌+◌, ◌≤◌, ◌*◌, ◌%◌, ◌&&◌, ◌||◌, ◌==◌, List, [], ◌∷◌, not, Ok, if◌then◌else◌, nat_le}
 use Rattle.std.specs.List.{list_any}
 use Rattle.serde_json.specs.Data.{Data}
-use Rattle.busdma_base.specs.declared.scenario.FrameRun.{FrameRun}
-use Rattle.busdma_base.specs.declared.scenario.PageRun.{PageRun}
-use Rattle.busdma_base.specs.declared.scenario.Driver.{Driver}
-use Rattle.busdma_base.specs.Pages.{pages_end, all_in, share_frame, share_page, is_taken}
+use Rattle.busdma_base.specs.declared.scenarios.scenario.FrameRun.{FrameRun}
+use Rattle.busdma_base.specs.declared.scenarios.scenario.PageRun.{PageRun}
+use Rattle.busdma_base.specs.declared.scenarios.scenario.Driver.{Driver}
+use Rattle.busdma_base.specs.Machine.PageRuns.{pages_end, all_in, share_frame, share_page, is_taken}
 use Rattle.json_fields.specs.Place.{Place}
 use Rattle.json_fields.specs.Read.{Read, ◌>>=◌, refuse}
 use Rattle.json_fields.specs.Field.{Spot}

@@ -1,6 +1,6 @@
 -- A script: its operations, each counted behind those before it.
 use Rattle.std.specs.Prelude.{List, []}
-use Rattle.busdma_base.specs.declared.script.Op.{Op}
+use Rattle.busdma_base.specs.declared.scenarios.script.Op.{Op}
 use Rattle.json_fields.specs.Read.{Read, ◌>>=◌}
 use Rattle.json_fields.specs.Field.{Spot, members_of}
 use Rattle.json_fields.specs.Items.{items_at, each}

@@ -4,10 +4,10 @@ ghost use Rattle.std.specs.Prelude.{◌≡◌, ◌≤◌, ◌<◌, [], codes, le
 ghost use Rattle.std.specs.List.{AllByRecursion};
 ghost use Rattle.serde_json.specs.View.{view};
 ghost use Rattle.busdma_base.specs.Each.{EachAfter};
-ghost use Rattle.busdma_base.specs.Frames.{IsNumbered};
-ghost use Rattle.busdma_base.specs.Pages.{IsPageRun};
-ghost use Rattle.busdma_base.specs.Script.{IsScript, IsOp};
-ghost use Rattle.busdma_base.specs.Valid.{IsDriver, read_of, loaded_of};
+ghost use Rattle.busdma_base.specs.Machine.FrameRuns.{IsNumbered};
+ghost use Rattle.busdma_base.specs.Machine.PageRuns.{IsPageRun};
+ghost use Rattle.busdma_base.specs.Scenarios.Script.{IsScript, IsOp};
+ghost use Rattle.busdma_base.specs.Scenarios.Valid.{IsDriver, read_of, loaded_of};
 ghost use Rattle.json_fields.specs.Read.{Gives, GivesSeen};
 ghost use Rattle.json_fields.specs.Field.{spot_of, field};
 ghost use Rattle.json_fields.specs.Items.{each};

@@ -1,8 +1,8 @@
 //! The load of a map.
 
 ghost use Rattle.std.specs.Prelude.{◌≡◌, ◌≤◌, length, IfOk};
-ghost use Rattle.busdma_base.specs.Names.{NamesMap};
-ghost use Rattle.busdma_base.specs.Script.{IsOp, LiesInPage};
+ghost use Rattle.busdma_base.specs.Scenarios.Names.{NamesMap};
+ghost use Rattle.busdma_base.specs.Scenarios.Script.{IsOp, LiesInPage};
 ghost use Rattle.json_fields.specs.Read.{Gives};
 ghost use Rattle.json_fields.specs.Field.{spot_of};
 ghost use Rattle.scenario_read.specs.Counts.{IsWithin, with_op};

@@ -2,7 +2,7 @@
 
 ghost use Rattle.std.specs.Prelude.{◌≡◌, ◌≤◌, codes, length, IfOk, IfSome};
 ghost use Rattle.std.specs.List.{list_any};
-ghost use Rattle.busdma_base.specs.Names as base;
+ghost use Rattle.busdma_base.specs.Scenarios.Names as base;
 ghost use Rattle.json_fields.specs.Read.{Gives};
 ghost use Rattle.json_fields.specs.Field.{spot_of, field};
 ghost use Rattle.scenario_read.specs.Names as names;

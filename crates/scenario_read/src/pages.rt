@@ -4,8 +4,8 @@ ghost use Rattle.std.specs.Prelude.{◌≡◌, ℕ, [], map, true, false, IfSome
 ghost use Rattle.std.specs.List.{list_any, AllByRecursion};
 ghost use Rattle.serde_json.specs.View.{view};
 ghost use Rattle.busdma_base.specs.Each.{EachAfter};
-ghost use Rattle.busdma_base.specs.Frames.{IsNumbered, is_in as lies_in};
-ghost use Rattle.busdma_base.specs.Pages as base;
+ghost use Rattle.busdma_base.specs.Machine.FrameRuns.{IsNumbered, is_in as lies_in};
+ghost use Rattle.busdma_base.specs.Machine.PageRuns as base;
 ghost use Rattle.json_fields.specs.Place.{place_of};
 ghost use Rattle.json_fields.specs.Read.{Gives, GivesSeen};
 ghost use Rattle.json_fields.specs.Field.{spot_of};

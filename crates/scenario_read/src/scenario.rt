@@ -4,8 +4,8 @@ ghost use Rattle.std.specs.Prelude.{◌≡◌, ◌≤◌, [], length, option_map
 ghost use Rattle.std.specs.List.{AllByRecursion};
 ghost use Rattle.serde_json.specs.View.{view};
 ghost use Rattle.busdma_base.specs.Each.{EachAfter};
-ghost use Rattle.busdma_base.specs.Frames.{IsNumbered, IsFrameRun};
-ghost use Rattle.busdma_base.specs.Valid.{IsDriver, IsValid, read_of, loaded_of};
+ghost use Rattle.busdma_base.specs.Machine.FrameRuns.{IsNumbered, IsFrameRun};
+ghost use Rattle.busdma_base.specs.Scenarios.Valid.{IsDriver, IsValid, read_of, loaded_of};
 ghost use Rattle.json_fields.specs.Read.{Gives};
 ghost use Rattle.json_fields.specs.Field.{spot_of};
 ghost use Rattle.scenario_read.specs.Limits.{bpages_limit, drivers_limit};

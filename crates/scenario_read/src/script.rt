@@ -3,7 +3,7 @@
 ghost use Rattle.std.specs.Prelude.{◌≡◌, ◌≤◌, ◌+◌, [], length, map, IfOk};
 ghost use Rattle.serde_json.specs.View.{view};
 ghost use Rattle.busdma_base.specs.Each.{EachAfter};
-ghost use Rattle.busdma_base.specs.Script.{IsOp};
+ghost use Rattle.busdma_base.specs.Scenarios.Script.{IsOp};
 ghost use Rattle.json_fields.specs.Read.{Gives, GivesSeen};
 ghost use Rattle.json_fields.specs.Field.{spot_of};
 ghost use Rattle.json_fields.specs.Items.{each};

@@ -4,9 +4,9 @@ use Rattle.std.specs.List.{AllByRecursion, flat_map}
 use Rattle.std.proofs.Math.Nat.{add-mul, add-mul-mod_self_left, mul_assoc, zero-mod}
 use Rattle.std.proofs.lemmas.Bool.Decides.{nat_tests}
 use Rattle.std.proofs.lemmas.Nat.{div-add-mod'}
-use Rattle.busdma_base.specs.declared.address.Pa.{Pa}
-use Rattle.busdma_base.specs.declared.address.Segment.{Segment}
-use Rattle.busdma_base.specs.declared.tag.TagLimits.{TagLimits}
+use Rattle.busdma_base.specs.declared.machine.address.Pa.{Pa}
+use Rattle.busdma_base.specs.declared.machine.address.Segment.{Segment}
+use Rattle.busdma_base.specs.declared.tags.tag.TagLimits.{TagLimits}
 use Rattle.busdma_base.specs.Runs.{run_of}
 use Rattle.segment_build.specs.Obeying.{HasAlignedSizes}
 use Rattle.segment_build.specs.Pieces.{piece_len, pieces_of}

@@ -2,8 +2,8 @@
 use Rattle.std.proofs.Common.{◌≡◌, ℕ, ◌+◌, ◌≤◌, List, [], ◌∷◌, ◌++◌, length, map, true, false, cond, refl, ap, sym, ◌∙◌, append-nil, append_assoc, arith, subst, ◌<◌, drop, get_or}
 use Rattle.std.proofs.lemmas.List.{drop_all, drop_more}
 use Rattle.std.specs.List.{flat_map}
-use Rattle.busdma_base.specs.declared.address.Segment.{Segment}
-use Rattle.busdma_base.specs.declared.tag.TagLimits.{TagLimits}
+use Rattle.busdma_base.specs.declared.machine.address.Segment.{Segment}
+use Rattle.busdma_base.specs.declared.tags.tag.TagLimits.{TagLimits}
 use Rattle.segment_build.specs.Segmentation.{Run, joint, may_join, grown, segment_of, run_pieces, EachJoins, AreRuns, IsSegmentation}
 use Rattle.segment_build.specs.Built.{IsFew, AreTooMany}
 use Rattle.segment_build.specs.Joining.{added, added_all}

@@ -3,10 +3,10 @@ use Rattle.std.proofs.Common.{◌≡◌, ℕ, zero, suc, ◌+◌, ◌-◌, ◌%�
 use Rattle.std.specs.Prelude.{Option, Some, None, IfSome}
 use Rattle.std.specs.Option.{option_to_list}
 use Rattle.std.proofs.lemmas.List.{drop-append-le, drop_all, take-append-le}
-use Rattle.busdma_base.specs.declared.chunk.Chunk.{Chunk}
-use Rattle.busdma_base.specs.declared.tag.TagLimits.{TagLimits}
+use Rattle.busdma_base.specs.declared.machine.chunk.Chunk.{Chunk}
+use Rattle.busdma_base.specs.declared.tags.tag.TagLimits.{TagLimits}
 use Rattle.busdma_base.specs.Runs.{run_of}
-use Rattle.busdma_base.specs.Tag.{IsEffective}
+use Rattle.busdma_base.specs.Tags.Tag.{IsEffective}
 use Rattle.segment_build.specs.Chunks.{chunk_limit, chunk_of, chunks_within}
 use Rattle.segment_build.specs.Pieces.{piece_len, pieces_of}
 use Rattle.segment_build.specs.Trace.{chunk_len}

@@ -3,16 +3,16 @@ use Rattle.std.proofs.Common.{◌≡◌, ℕ, zero, suc, ◌+◌, ◌-◌, ◌*�
 use Rattle.std.specs.Prelude.{Option, Some, None, is_some}
 use Rattle.std.specs.List.{AllByRecursion, Contains, flat_map}
 use Rattle.std.proofs.Math.Nat.{mul_assoc}
-use Rattle.busdma_base.specs.declared.address.Pa.{Pa}
-use Rattle.busdma_base.specs.declared.address.Segment.{Segment}
-use Rattle.busdma_base.specs.declared.chunk.Chunk.{Chunk}
-use Rattle.busdma_base.specs.declared.chunk.Entry.{Entry}
-use Rattle.busdma_base.specs.declared.tag.TagLimits.{TagLimits}
+use Rattle.busdma_base.specs.declared.machine.address.Pa.{Pa}
+use Rattle.busdma_base.specs.declared.machine.address.Segment.{Segment}
+use Rattle.busdma_base.specs.declared.machine.chunk.Chunk.{Chunk}
+use Rattle.busdma_base.specs.declared.machine.chunk.Entry.{Entry}
+use Rattle.busdma_base.specs.declared.tags.tag.TagLimits.{TagLimits}
 use Rattle.busdma_base.specs.Each.{EachAfter}
-use Rattle.busdma_base.specs.Entry.{IsEntry, entry_addresses}
+use Rattle.busdma_base.specs.Machine.Entry.{IsEntry, entry_addresses}
 use Rattle.busdma_base.specs.Runs.{byte_count, run_of}
-use Rattle.busdma_base.specs.Tag.{IsEffective, could_bounce, excluded, needs_bounce}
-use Rattle.busdma_base.specs.TagFlags.{keep_pg_offset}
+use Rattle.busdma_base.specs.Tags.Tag.{IsEffective, could_bounce, excluded, needs_bounce}
+use Rattle.busdma_base.specs.Tags.TagFlags.{keep_pg_offset}
 use Rattle.segment_build.specs.Building.{IsSound, placed_pieces, tag_placed}
 use Rattle.segment_build.specs.Built.{IsFew}
 use Rattle.segment_build.specs.Chunks.{chunk_limit, chunk_of, chunks_from, chunks_of, chunks_of_bytes, chunks_within}

@@ -3,9 +3,9 @@ use Rattle.std.proofs.Common.{◌≡◌, ℕ, zero, suc, ◌+◌, ◌<◌, ◌�
 use Rattle.std.specs.List.{AllByRecursion}
 use Rattle.std.proofs.lemmas.List.{get_or-append-add}
 use Rattle.std.proofs.lemmas.List.Sums.{sum_by-cons, sum_by-append}
-use Rattle.busdma_base.specs.declared.address.Pa.{Pa}
-use Rattle.busdma_base.specs.declared.address.Segment.{Segment}
-use Rattle.busdma_base.specs.declared.chunk.Chunk.{Chunk}
+use Rattle.busdma_base.specs.declared.machine.address.Pa.{Pa}
+use Rattle.busdma_base.specs.declared.machine.address.Segment.{Segment}
+use Rattle.busdma_base.specs.declared.machine.chunk.Chunk.{Chunk}
 use Rattle.busdma_base.specs.Each.{EachAfter}
 use Rattle.busdma_base.specs.Runs.{run_of}
 use Rattle.segment_build.specs.Obeying.{segments_bytes}

@@ -1,11 +1,11 @@
 -- What is built of chunks, with a chunk more.
 use Rattle.std.proofs.Common.{◌≡◌, ◌<◌, ◌≤◌, List, [], ◌∷◌, ◌++◌, length, drop, Bool, true, false, refl, ap, sym, ◌∙◌, subst, arith, append-nil, length-append}
 use Rattle.std.specs.Prelude.{Result, Ok, Err, OnOk, IfOk}
-use Rattle.busdma_base.specs.declared.address.Pa.{Pa}
-use Rattle.busdma_base.specs.declared.address.Segment.{Segment}
-use Rattle.busdma_base.specs.declared.chunk.Chunk.{Chunk}
-use Rattle.busdma_base.specs.declared.tag.TagLimits.{TagLimits}
-use Rattle.busdma_base.specs.TagFlags.{keep_pg_offset}
+use Rattle.busdma_base.specs.declared.machine.address.Pa.{Pa}
+use Rattle.busdma_base.specs.declared.machine.address.Segment.{Segment}
+use Rattle.busdma_base.specs.declared.machine.chunk.Chunk.{Chunk}
+use Rattle.busdma_base.specs.declared.tags.tag.TagLimits.{TagLimits}
+use Rattle.busdma_base.specs.Tags.TagFlags.{keep_pg_offset}
 use Rattle.segment_build.specs.Building.{IsSoFar, placed_pieces, tag_placed}
 use Rattle.segment_build.specs.Chunks.{bounced_of, need_of}
 use Rattle.segment_build.specs.Joining.{added_all}

@@ -6,15 +6,15 @@ use Rattle.std.proofs.Math.Nat.{add-mul}
 use Rattle.std.proofs.lemmas.Bool.{cases_lt}
 use Rattle.std.proofs.lemmas.Nat.{pow-add, pow_below, div_below, mul-le}
 use Rattle.std.proofs.lemmas.List.{drop_all}
-use Rattle.busdma_base.specs.declared.address.Extent.{Extent}
-use Rattle.busdma_base.specs.declared.address.Pa.{Pa}
-use Rattle.busdma_base.specs.declared.chunk.Chunk.{Chunk}
-use Rattle.busdma_base.specs.declared.chunk.Entry.{Entry}
-use Rattle.busdma_base.specs.declared.tag.TagLimits.{TagLimits}
+use Rattle.busdma_base.specs.declared.machine.address.Extent.{Extent}
+use Rattle.busdma_base.specs.declared.machine.address.Pa.{Pa}
+use Rattle.busdma_base.specs.declared.machine.chunk.Chunk.{Chunk}
+use Rattle.busdma_base.specs.declared.machine.chunk.Entry.{Entry}
+use Rattle.busdma_base.specs.declared.tags.tag.TagLimits.{TagLimits}
 use Rattle.busdma_base.specs.Runs.{IsExtent, run_of, addresses, byte_count}
-use Rattle.busdma_base.specs.Entry.{IsEntry, entry_addresses}
-use Rattle.busdma_base.specs.Tag.{IsEffective, needs_bounce}
-use Rattle.busdma_base.specs.TagFlags.{keep_pg_offset}
+use Rattle.busdma_base.specs.Machine.Entry.{IsEntry, entry_addresses}
+use Rattle.busdma_base.specs.Tags.Tag.{IsEffective, needs_bounce}
+use Rattle.busdma_base.specs.Tags.TagFlags.{keep_pg_offset}
 use Rattle.segment_build.specs.Building.{IsSound, tag_placed}
 use Rattle.segment_build.specs.Chunks.{rounded_up, to_frame_end, chunk_limit, first_extent, extent_from, chunk_of, chunks_within, chunks_of_bytes, chunks_from, chunks_of}
 use Rattle.segment_build.specs.Trace.{IsPage, IsPlaced, chunk_len, first_page, in_page, page_offset, placed}

@@ -2,12 +2,12 @@
 -- How extents are cut into chunks one after the other: what is left of a chunk to the next extent, step by step.
 use Rattle.std.specs.Prelude.{ℕ, ◌+◌, ◌-◌, ◌==◌, Bool, false, nat_le, if◌then◌else◌, List, [], ◌∷◌, ◌++◌, Option, Some, None}
 use Rattle.std.specs.Option.{option_to_list}
-use Rattle.busdma_base.specs.declared.address.Extent.{Extent}
-use Rattle.busdma_base.specs.declared.chunk.Chunk.{Chunk}
-use Rattle.busdma_base.specs.declared.chunk.Part.{Part}
-use Rattle.busdma_base.specs.declared.chunk.Part.TheVariants.{Of, Unmapped}
-use Rattle.busdma_base.specs.declared.tag.TagLimits.{TagLimits}
-use Rattle.busdma_base.specs.Tag.{needs_bounce}
+use Rattle.busdma_base.specs.declared.machine.address.Extent.{Extent}
+use Rattle.busdma_base.specs.declared.machine.chunk.Chunk.{Chunk}
+use Rattle.busdma_base.specs.declared.machine.chunk.Part.{Part}
+use Rattle.busdma_base.specs.declared.machine.chunk.Part.TheVariants.{Of, Unmapped}
+use Rattle.busdma_base.specs.declared.tags.tag.TagLimits.{TagLimits}
+use Rattle.busdma_base.specs.Tags.Tag.{needs_bounce}
 use Rattle.segment_build.specs.declared.cutter.Cutter.{Cutter}
 use Rattle.segment_build.specs.Chunks.{chunk_limit}
 

@@ -1,12 +1,12 @@
 -- When the segments of a load obey its tag.
 use Rattle.std.specs.Prelude.{◌≡◌, ◌≢◌, ℕ, ◌+◌, ◌-◌, ◌/◌, ◌%◌, ◌<◌, ◌≤◌, true, false, List, [], length, sum_by, Contains}
-use Rattle.busdma_base.specs.declared.address.Pa.{Pa}
-use Rattle.busdma_base.specs.declared.address.Segment.{Segment}
-use Rattle.busdma_base.specs.declared.chunk.Chunk.{Chunk}
-use Rattle.busdma_base.specs.declared.tag.TagLimits.{TagLimits}
+use Rattle.busdma_base.specs.declared.machine.address.Pa.{Pa}
+use Rattle.busdma_base.specs.declared.machine.address.Segment.{Segment}
+use Rattle.busdma_base.specs.declared.machine.chunk.Chunk.{Chunk}
+use Rattle.busdma_base.specs.declared.tags.tag.TagLimits.{TagLimits}
 use Rattle.busdma_base.specs.Each.{EachAfter}
-use Rattle.busdma_base.specs.Tag.{excluded}
-use Rattle.busdma_base.specs.TagFlags.{keep_pg_offset}
+use Rattle.busdma_base.specs.Tags.Tag.{excluded}
+use Rattle.busdma_base.specs.Tags.TagFlags.{keep_pg_offset}
 use Rattle.segment_build.specs.Trace.{IsPage}
 
 -- the device reaches each byte of the segment

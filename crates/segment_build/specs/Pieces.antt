@@ -1,9 +1,9 @@
 -- The pieces of a chunk's bus bytes, by tests on their places.
 use Rattle.std.specs.Prelude.{ℕ, zero, suc, ◌-◌, ◌%◌, ◌==◌, Bool, ◌&&◌, not, if◌then◌else◌, List, [], ◌∷◌, length, min, slice_index}
 use Rattle.std.specs.List.{filter, flat_map, range_with_len}
-use Rattle.busdma_base.specs.declared.address.Segment.{Segment}
-use Rattle.busdma_base.specs.declared.chunk.Chunk.{Chunk}
-use Rattle.busdma_base.specs.declared.tag.TagLimits.{TagLimits}
+use Rattle.busdma_base.specs.declared.machine.address.Segment.{Segment}
+use Rattle.busdma_base.specs.declared.machine.chunk.Chunk.{Chunk}
+use Rattle.busdma_base.specs.declared.tags.tag.TagLimits.{TagLimits}
 use Rattle.segment_build.specs.Trace.{bus_addresses}
 
 -- a multiple of the boundary, where there is a boundary

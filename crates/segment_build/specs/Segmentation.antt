@@ -1,8 +1,8 @@
 -- The segments that pieces join to: runs of pieces, each as long as it may be.
 use Rattle.std.specs.Prelude.{◌≡◌, ℕ, ◌+◌, ◌/◌, ◌==◌, Bool, true, false, ◌&&◌, ◌||◌, nat_le, List, [], ◌∷◌, map}
 use Rattle.std.specs.List.{flat_map}
-use Rattle.busdma_base.specs.declared.address.Segment.{Segment}
-use Rattle.busdma_base.specs.declared.tag.TagLimits.{TagLimits}
+use Rattle.busdma_base.specs.declared.machine.address.Segment.{Segment}
+use Rattle.busdma_base.specs.declared.tags.tag.TagLimits.{TagLimits}
 use Rattle.busdma_base.specs.Runs.{run_of}
 
 -- one or more pieces, in order

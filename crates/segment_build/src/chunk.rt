@@ -2,7 +2,7 @@
 
 ghost use Rattle.std.specs.Prelude.{◌≡◌, ◌+◌, ◌^◌, ◌<◌, ◌≤◌, ◌++◌, length, IfOk, OnOk};
 ghost use Rattle.std.specs.List.{AllByRecursion};
-ghost use Rattle.busdma_base.specs.Entry.{IsEntry, entries_bytes, entry_parts};
+ghost use Rattle.busdma_base.specs.Machine.Entry.{IsEntry, entries_bytes, entry_parts};
 ghost use Rattle.busdma_base.specs.Runs.{byte_count};
 ghost use Rattle.segment_build.specs.Chunks.{chunks_of, need_of};
 ghost use Rattle.segment_build.specs.Cutting.{after, closed};

@@ -1,9 +1,9 @@
 //! How extents are cut into chunks one after the other.
 
 ghost use Rattle.std.specs.Prelude.{◌≡◌, ◌+◌, ◌-◌, ◌%◌, ◌^◌, ◌<◌, ◌≤◌};
-ghost use Rattle.busdma_base.specs.Entry.{IsPart, part_bytes};
+ghost use Rattle.busdma_base.specs.Machine.Entry.{IsPart, part_bytes};
 ghost use Rattle.busdma_base.specs.Runs.{IsExtent};
-ghost use Rattle.busdma_base.specs.TagFlags.{keep_pg_offset};
+ghost use Rattle.busdma_base.specs.Tags.TagFlags.{keep_pg_offset};
 ghost use Rattle.segment_build.specs.Chunks.{chunk_limit};
 ghost use Rattle.segment_build.specs.Cutting.{after_part, closed_part, cut_by, closed_by, uncut, with_rest};
 

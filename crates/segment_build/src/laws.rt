@@ -2,9 +2,9 @@
 
 ghost use Rattle.std.specs.Prelude.{◌≡◌, ◌*◌, ◌<◌, [], length, List};
 ghost use Rattle.std.specs.List.{AllByRecursion, flat_map, sum_by};
-ghost use Rattle.busdma_base.specs.declared.address.Segment.{Segment};
+ghost use Rattle.busdma_base.specs.declared.machine.address.Segment.{Segment};
 ghost use Rattle.busdma_base.specs.Each.{EachAfter};
-ghost use Rattle.busdma_base.specs.Entry.{IsEntry, entry_addresses};
+ghost use Rattle.busdma_base.specs.Machine.Entry.{IsEntry, entry_addresses};
 ghost use Rattle.busdma_base.specs.Runs.{addresses};
 ghost use Rattle.segment_build.specs.Building.{IsSound, placed_pieces, tag_placed};
 ghost use Rattle.segment_build.specs.Built.{IsFew};

@@ -3,8 +3,8 @@
 ghost use Rattle.std.specs.Prelude.{◌≡◌, ◌+◌, ◌≤◌, ◌-◌, ◌<◌, ◌^◌, [], ◌∷◌, ◌++◌, length, List, IfSome};
 ghost use Rattle.std.specs.Iterator.{Drains, HoldsAlong, IsFinite};
 ghost use Rattle.std.specs.Option.{option_to_list, option_or};
-ghost use Rattle.busdma_base.specs.declared.chunk.Part.{Part};
-ghost use Rattle.busdma_base.specs.Entry.{IsStream, unmapped_of};
+ghost use Rattle.busdma_base.specs.declared.machine.chunk.Part.{Part};
+ghost use Rattle.busdma_base.specs.Machine.Entry.{IsStream, unmapped_of};
 ghost use Rattle.segment_build.specs.Building.{IsSound, placed_pieces};
 ghost use Rattle.segment_build.specs.Chunks.{need_of};
 ghost use Rattle.segment_build.specs.Streams.{IsMeasured};

@@ -4,9 +4,9 @@ ghost use Rattle.std.specs.Prelude.{◌≡◌, ◌+◌, ◌<◌, ◌≤◌, [], 
 ghost use Rattle.std.specs.Iterator.{Drains, HoldsAlong, IsFinite};
 ghost use Rattle.std.specs.List.{AllByRecursion};
 ghost use Rattle.std.specs.Option.{option_to_list};
-ghost use Rattle.busdma_base.specs.declared.chunk.Chunk.{Chunk};
-ghost use Rattle.busdma_base.specs.declared.chunk.Part.{Part};
-ghost use Rattle.busdma_base.specs.Entry.{IsStream};
+ghost use Rattle.busdma_base.specs.declared.machine.chunk.Chunk.{Chunk};
+ghost use Rattle.busdma_base.specs.declared.machine.chunk.Part.{Part};
+ghost use Rattle.busdma_base.specs.Machine.Entry.{IsStream};
 ghost use Rattle.segment_build.specs.Building.{IsSoFar, IsSound, placed_pieces};
 ghost use Rattle.segment_build.specs.Chunks.{need_of};
 ghost use Rattle.segment_build.specs.Streams.{IsBuiltFrom, IsStreamed, OverflowsFrom, stream_chunks};

@@ -1,7 +1,7 @@
 //! The waiting list of a zone.
 
 ghost use Rattle.std.specs.Prelude.{◌≡◌, ◌+◌, ◌-◌, ◌<◌, ◌≤◌, [], ◌∷◌, ◌++◌, length, sum_by, slice_get, OnOk, OnErr};
-ghost use Rattle.busdma_base.specs.Serving.{completed, left_waiting};
+ghost use Rattle.busdma_base.specs.Bounce.Serving.{completed, left_waiting};
 
 use crate::deferred::Deferred;
 use crate::ready::ReadyList;
@@ -26,7 +26,7 @@ pub struct WaitList {
 
 impl Model for WaitList {
     ghost use Rattle.std.specs.Prelude.{List, map, All};
-    ghost use Rattle.busdma_base.specs.declared.zone.Waiter.{Waiter};
+    ghost use Rattle.busdma_base.specs.declared.bounce.zone.Waiter.{Waiter};
     ghost use Rattle.wait_list.specs.Reserved.{IsWaiting};
 
     ghost Value = { List Waiter };

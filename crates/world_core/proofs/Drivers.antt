@@ -2,10 +2,10 @@
 use Rattle.std.proofs.Common.{◌≡◌, ℕ, zero, suc, ◌+◌, ◌<◌, ◌≤◌, List, [], ◌∷◌, length, take, get_or, Option, Some, None, refl, sym, ap, ◌∙◌, subst, arith}
 use Rattle.std.proofs.ByRecursion.{All-get_or}
 use Rattle.std.specs.List.{AllByRecursion}
-use Rattle.busdma_base.specs.declared.journal.Actor.{Actor}
-use Rattle.busdma_base.specs.declared.journal.JournalEntry.{JournalEntry}
-use Rattle.busdma_base.specs.declared.scenario.Scenario.{Scenario}
-use Rattle.busdma_base.specs.Valid.{IsValid}
+use Rattle.busdma_base.specs.declared.journals.journal.Actor.{Actor}
+use Rattle.busdma_base.specs.declared.journals.journal.JournalEntry.{JournalEntry}
+use Rattle.busdma_base.specs.declared.scenarios.scenario.Scenario.{Scenario}
+use Rattle.busdma_base.specs.Scenarios.Valid.{IsValid}
 use Rattle.world_core.specs.World.{WorldState, HasDriver, opening_world, step, step_entry}
 use Rattle.world_core.specs.Legal.{Run, noted, turn, turns, rounds, round_from}
 use Rattle.world_core.proofs.Lanes.{length-opening_lanes}

@@ -1,9 +1,9 @@
 -- Turns in order, and rounds until one makes no step.
 use Rattle.std.proofs.Common.{◌≡◌, ℕ, zero, suc, ◌+◌, ◌<◌, ◌≤◌, List, [], ◌∷◌, ◌++◌, length, take, get_or, Option, Some, None, refl, sym, ap, ◌∙◌, arith, add-one, length-append, ◌⊎◌, inl, inr}
 use Rattle.std.proofs.Math.Seq.{take-suc}
-use Rattle.busdma_base.specs.declared.journal.Actor.{Actor}
-use Rattle.busdma_base.specs.declared.journal.JournalEntry.{JournalEntry}
-use Rattle.busdma_base.specs.declared.journal.Side.TheVariants.{Script, Transfer, Callback}
+use Rattle.busdma_base.specs.declared.journals.journal.Actor.{Actor}
+use Rattle.busdma_base.specs.declared.journals.journal.JournalEntry.{JournalEntry}
+use Rattle.busdma_base.specs.declared.journals.journal.Side.TheVariants.{Script, Transfer, Callback}
 use Rattle.world_core.specs.World.{step, step_entry}
 use Rattle.world_core.specs.Legal.{Run, noted, turn, turns, rounds, round_from}
 use Rattle.world_core.specs.Laws.{left_of}

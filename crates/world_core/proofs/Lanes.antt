@@ -2,7 +2,7 @@
 use Rattle.std.proofs.Common.{◌≡◌, ℕ, zero, suc, ◌+◌, ◌<◌, Bool, true, List, [], ◌∷◌, length, Some, refl, sym, ap, ◌∙◌, arith, subst, slice_get, slice_set, sum_by, add-zero}
 use Rattle.std.specs.List.{list_all}
 use Rattle.std.proofs.lemmas.List.Sums.{sum_by-cons}
-use Rattle.busdma_base.specs.declared.scenario.Driver.{Driver}
+use Rattle.busdma_base.specs.declared.scenarios.scenario.Driver.{Driver}
 use Rattle.lane_core.specs.Lane.{LaneState}
 use Rattle.lane_core.specs.Left.{left}
 use Rattle.world_core.specs.World.{opening_lanes}

@@ -1,11 +1,11 @@
 -- The world in which a valid scenario opens.
 use Rattle.std.proofs.Common.{◌≡◌, ℕ, zero, suc, ◌+◌, ◌<◌, List, [], ◌∷◌, ◌++◌, length, map, take, get_or, refl, sym, ap, ◌∙◌, arith, add-one, subst}
 use Rattle.std.proofs.Math.Seq.{take-suc}
-use Rattle.busdma_base.specs.declared.scenario.Driver.{Driver}
-use Rattle.busdma_base.specs.declared.scenario.PageRun.{PageRun}
-use Rattle.busdma_base.specs.declared.scenario.Scenario.{Scenario}
+use Rattle.busdma_base.specs.declared.scenarios.scenario.Driver.{Driver}
+use Rattle.busdma_base.specs.declared.scenarios.scenario.PageRun.{PageRun}
+use Rattle.busdma_base.specs.declared.scenarios.scenario.Scenario.{Scenario}
 use Rattle.busdma_base.specs.Each.{EachAfter}
-use Rattle.busdma_base.specs.Valid.{IsValid, IsDriver}
+use Rattle.busdma_base.specs.Scenarios.Valid.{IsValid, IsDriver}
 use Rattle.lane_core.specs.declared.lane.Lane.{Lane}
 use Rattle.lane_core.specs.Ideal.{ideal}
 use Rattle.lane_core.specs.Opening.{opening_lane}

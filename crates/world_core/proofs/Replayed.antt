@@ -1,8 +1,8 @@
 -- Every scenario has a replayed journal.
 use Rattle.std.proofs.Common.{◌≡◌, ℕ, zero, suc, ◌<◌, ◌≤◌, List, ◌⊎◌, inl, inr, refl, arith}
-use Rattle.busdma_base.specs.declared.journal.Actor.{Actor}
-use Rattle.busdma_base.specs.declared.journal.Journal.{Journal}
-use Rattle.busdma_base.specs.declared.scenario.Scenario.{Scenario}
+use Rattle.busdma_base.specs.declared.journals.journal.Actor.{Actor}
+use Rattle.busdma_base.specs.declared.journals.journal.Journal.{Journal}
+use Rattle.busdma_base.specs.declared.scenarios.scenario.Scenario.{Scenario}
 use Rattle.world_core.specs.Legal.{Run, ComesToRest, turns, round_of, opening_run, journal_of, IsReplayed}
 use Rattle.world_core.specs.Laws.{left_of}
 use Rattle.world_core.proofs.Going.{Goes, rests_or_goes}

@@ -1,9 +1,9 @@
 -- Turns and rounds.
 use Rattle.std.proofs.Common.{◌≡◌, ℕ, zero, suc, ◌+◌, List, [], ◌∷◌, ◌++◌, Some, refl, sym, ap, ◌∙◌, arith}
-use Rattle.busdma_base.specs.declared.journal.Actor.{Actor}
-use Rattle.busdma_base.specs.declared.journal.JournalEntry.{JournalEntry}
-use Rattle.busdma_base.specs.declared.journal.Journal.{Journal}
-use Rattle.busdma_base.specs.declared.scenario.Scenario.{Scenario}
+use Rattle.busdma_base.specs.declared.journals.journal.Actor.{Actor}
+use Rattle.busdma_base.specs.declared.journals.journal.JournalEntry.{JournalEntry}
+use Rattle.busdma_base.specs.declared.journals.journal.Journal.{Journal}
+use Rattle.busdma_base.specs.declared.scenarios.scenario.Scenario.{Scenario}
 use Rattle.world_core.specs.World.{WorldState, step, step_entry}
 use Rattle.world_core.specs.Legal.{Run, Leads, turns, rounds, round_of, opening_run, IsReplay, IsReplayed, journal_of}
 

@@ -1,7 +1,7 @@
 -- What a turn keeps of the world: a step leaves less to do, and any other turn leaves all as it was.
 use Rattle.std.proofs.Common.{◌≡◌, ◌+◌, ◌<◌, length, Option, Some, None, refl, ap, ◌∙◌, subst, slice_get, slice_set, arith}
-use Rattle.busdma_base.specs.declared.journal.Actor.{Actor}
-use Rattle.busdma_base.specs.declared.journal.JournalEntry.{JournalEntry}
+use Rattle.busdma_base.specs.declared.journals.journal.Actor.{Actor}
+use Rattle.busdma_base.specs.declared.journals.journal.JournalEntry.{JournalEntry}
 use Rattle.lane_core.specs.declared.turn.Turn.{Turn}
 use Rattle.lane_core.specs.declared.turn.Turn.TheVariants.{Stepped, Blocked, Ended}
 use Rattle.lane_core.specs.Actors.{IsOwnBy}

@@ -1,12 +1,12 @@
 -- How a run ends, and the status of a journal.
 use Rattle.std.specs.Prelude.{◌≡◌, ℕ, Bool, List, None, if◌then◌else◌}
 use Rattle.std.specs.List.{list_all, list_any}
-use Rattle.busdma_base.specs.declared.journal.Actor.{Actor}
-use Rattle.busdma_base.specs.declared.journal.JournalEntry.{JournalEntry}
-use Rattle.busdma_base.specs.declared.journal.Journal.{Journal}
-use Rattle.busdma_base.specs.declared.journal.End.{End}
-use Rattle.busdma_base.specs.declared.journal.End.TheVariants.{Finished, Stuck}
-use Rattle.busdma_base.specs.Reports.{is_report}
+use Rattle.busdma_base.specs.declared.journals.journal.Actor.{Actor}
+use Rattle.busdma_base.specs.declared.journals.journal.JournalEntry.{JournalEntry}
+use Rattle.busdma_base.specs.declared.journals.journal.Journal.{Journal}
+use Rattle.busdma_base.specs.declared.journals.journal.End.{End}
+use Rattle.busdma_base.specs.declared.journals.journal.End.TheVariants.{Finished, Stuck}
+use Rattle.busdma_base.specs.Journals.Reports.{is_report}
 use Rattle.world_core.specs.World.{WorldState, step_entry, has_ended}
 
 -- no actor can step

@@ -1,6 +1,6 @@
 -- The ideal state of a world of the program, and of its run.
 use Rattle.std.specs.Prelude.{map}
-use Rattle.busdma_base.specs.Opening.{opening}
+use Rattle.busdma_base.specs.Bounce.Opening.{opening}
 use Rattle.lane_core.specs.Ideal.{ideal}
 use Rattle.world_core.specs.declared.world.World.{World}
 use Rattle.world_core.specs.declared.run.Progress.{Progress}

@@ -1,9 +1,9 @@
 -- What holds of every world and of every replay.
 use Rattle.std.specs.Prelude.{◌≡◌, ℕ, ◌<◌, true, Some, sum_by}
-use Rattle.busdma_base.specs.declared.journal.Actor.{Actor}
-use Rattle.busdma_base.specs.declared.journal.JournalEntry.{JournalEntry}
-use Rattle.busdma_base.specs.declared.journal.Journal.{Journal}
-use Rattle.busdma_base.specs.declared.scenario.Scenario.{Scenario}
+use Rattle.busdma_base.specs.declared.journals.journal.Actor.{Actor}
+use Rattle.busdma_base.specs.declared.journals.journal.JournalEntry.{JournalEntry}
+use Rattle.busdma_base.specs.declared.journals.journal.Journal.{Journal}
+use Rattle.busdma_base.specs.declared.scenarios.scenario.Scenario.{Scenario}
 use Rattle.lane_core.specs.Left.{left}
 use Rattle.world_core.specs.World.{WorldState, step, step_entry}
 use Rattle.world_core.specs.Ends.{IsAtRest, all_ended}

@@ -1,10 +1,10 @@
 -- Journals: those that are legal, and the one that a scenario's order replays.
 use Rattle.std.specs.Prelude.{◌≡◌, ℕ, zero, suc, ◌+◌, List, [], ◌∷◌, ◌++◌, length, Option, Some, None}
-use Rattle.busdma_base.specs.declared.journal.Actor.{Actor}
-use Rattle.busdma_base.specs.declared.journal.Side.TheVariants.{Script, Transfer, Callback}
-use Rattle.busdma_base.specs.declared.journal.JournalEntry.{JournalEntry}
-use Rattle.busdma_base.specs.declared.journal.Journal.{Journal}
-use Rattle.busdma_base.specs.declared.scenario.Scenario.{Scenario}
+use Rattle.busdma_base.specs.declared.journals.journal.Actor.{Actor}
+use Rattle.busdma_base.specs.declared.journals.journal.Side.TheVariants.{Script, Transfer, Callback}
+use Rattle.busdma_base.specs.declared.journals.journal.JournalEntry.{JournalEntry}
+use Rattle.busdma_base.specs.declared.journals.journal.Journal.{Journal}
+use Rattle.busdma_base.specs.declared.scenarios.scenario.Scenario.{Scenario}
 use Rattle.world_core.specs.World.{WorldState, opening_world, step, step_entry, zone_counts}
 use Rattle.world_core.specs.Ends.{IsAtRest, end_of}
 

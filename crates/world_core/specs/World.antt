@@ -1,12 +1,12 @@
 -- The world: all drivers and the account that they share, and its steps.
 use Rattle.std.specs.Prelude.{ℕ, ◌+◌, ◌<◌, Bool, List, [], ◌∷◌, length, Option, Some, None, slice_get, slice_set, nat_le}
-use Rattle.busdma_base.specs.declared.journal.Actor.{Actor}
-use Rattle.busdma_base.specs.declared.journal.JournalEntry.{JournalEntry}
-use Rattle.busdma_base.specs.declared.scenario.Driver.{Driver}
-use Rattle.busdma_base.specs.declared.scenario.Scenario.{Scenario}
-use Rattle.busdma_base.specs.declared.zone.ZoneCounts.{ZoneCounts}
-use Rattle.busdma_base.specs.Account.{Account, Zone, counts}
-use Rattle.busdma_base.specs.Opening.{opening}
+use Rattle.busdma_base.specs.declared.journals.journal.Actor.{Actor}
+use Rattle.busdma_base.specs.declared.journals.journal.JournalEntry.{JournalEntry}
+use Rattle.busdma_base.specs.declared.scenarios.scenario.Driver.{Driver}
+use Rattle.busdma_base.specs.declared.scenarios.scenario.Scenario.{Scenario}
+use Rattle.busdma_base.specs.declared.bounce.zone.ZoneCounts.{ZoneCounts}
+use Rattle.busdma_base.specs.Bounce.Account.{Account, Zone, counts}
+use Rattle.busdma_base.specs.Bounce.Opening.{opening}
 use Rattle.lane_core.specs.declared.turn.Turn.{Turn}
 use Rattle.lane_core.specs.declared.turn.Turn.TheVariants.{Stepped, Blocked, Ended}
 use Rattle.lane_core.specs.Lane.{LaneState}

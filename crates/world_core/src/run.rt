@@ -2,7 +2,7 @@
 
 ghost use Rattle.std.specs.Prelude.{◌≡◌, IfOk, OnOk};
 ghost use Rattle.std.specs.List.{AllByRecursion};
-ghost use Rattle.busdma_base.specs.Valid.{IsValid};
+ghost use Rattle.busdma_base.specs.Scenarios.Valid.{IsValid};
 ghost use Rattle.world_core.specs.Ends as ends;
 ghost use Rattle.world_core.specs.Ideal.{ideal_run, ideal_world};
 ghost use Rattle.world_core.specs.Legal as legal;

@@ -1,7 +1,7 @@
 //! All drivers at work.
 
 ghost use Rattle.std.specs.Prelude.{◌≡◌, IfOk, OnErr};
-ghost use Rattle.busdma_base.specs.Valid.{IsValid};
+ghost use Rattle.busdma_base.specs.Scenarios.Valid.{IsValid};
 ghost use Rattle.std.specs.List.{list_all};
 ghost use Rattle.lane_core.specs.Ideal.{ideal};
 ghost use Rattle.world_core.specs.Ends.{end_of};

@@ -1,9 +1,9 @@
 //! Calls that may want memory.
 
 ghost use Rattle.std.specs.Prelude.{IfOk};
-ghost use Rattle.busdma_base.specs.declared.hold.HubCall.TheVariants.{AttachTag, CreateMap, Grab, MemAlloc};
-ghost use Rattle.busdma_base.specs.declared.hold.HubReply.TheVariants.{Grown as GrownBy};
-ghost use Rattle.busdma_base.specs.Door.{Allows, Holds, grab_reply, memory_reply};
+ghost use Rattle.busdma_base.specs.declared.bounce.hold.HubCall.TheVariants.{AttachTag, CreateMap, Grab, MemAlloc};
+ghost use Rattle.busdma_base.specs.declared.bounce.hold.HubReply.TheVariants.{Grown as GrownBy};
+ghost use Rattle.busdma_base.specs.Bounce.Door.{Allows, Holds, grab_reply, memory_reply};
 ghost use Rattle.bounce_hub.specs.Seen.{door};
 
 use bounce_hub::Hub;

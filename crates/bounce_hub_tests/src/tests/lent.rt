@@ -1,7 +1,7 @@
 //! The pages that a hub gave out.
 
 ghost use Rattle.std.specs.Prelude.{◌≡◌, IfOk, IfSome};
-ghost use Rattle.busdma_base.specs.PageLists.{page_address, page_addresses};
+ghost use Rattle.busdma_base.specs.Machine.PageList.{page_address, page_addresses};
 
 use busdma_base::{Called, Grabbed, HubReply, ListOf, MapId, Pa, PaList, Page, PageList};
 use std::alloc::{AllocError, Global};

@@ -1,7 +1,7 @@
 //! A hub and a plain account, which are asked the same.
 
 ghost use Rattle.std.specs.Prelude.{◌≡◌, ◌<◌, ◌*◌, ◌^◌, map, All, IfOk, IsTrue};
-ghost use Rattle.busdma_base.specs.AccountStep.{account_step};
+ghost use Rattle.busdma_base.specs.Bounce.AccountStep.{account_step};
 ghost use Rattle.bounce_hub_tests.specs.Frames.{are_frames};
 ghost use Rattle.bounce_hub_tests.specs.Pairs.{IsPair};
 

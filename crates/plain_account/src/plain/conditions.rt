@@ -1,12 +1,12 @@
 //! Whether the account allows a call.
 
 ghost use Rattle.std.specs.Prelude.{◌≡◌, ◌↔◌, ◌≤◌, ◌*◌, ◌^◌, ◌+◌, length, count_by, sum_by, IsTrue};
-ghost use Rattle.busdma_base.specs.Account.{is_map};
-ghost use Rattle.busdma_base.specs.Conditions.{IsIdle, MayCall, times_made, times_in_zones, pages_held, times_held, times_listed, memories};
-ghost use Rattle.busdma_base.specs.Tag.{could_bounce};
-ghost use Rattle.busdma_base.specs.TagFlags.{allocnow};
+ghost use Rattle.busdma_base.specs.Bounce.Account.{same_map};
+ghost use Rattle.busdma_base.specs.Bounce.Conditions.{IsIdle, MayCall, times_made, times_in_zones, pages_held, times_held, times_listed, memories};
+ghost use Rattle.busdma_base.specs.Tags.Tag.{could_bounce};
+ghost use Rattle.busdma_base.specs.Tags.TagFlags.{allocnow};
 
-use crate::plain::lists::is_map;
+use crate::plain::lists::same_map;
 use crate::plain::serving::is_holding;
 use crate::plain::{PlainAccount, PlainZone};
 use busdma_base::{HubCall, LaneId, MapId, TagLimits, Waiter};
@@ -33,9 +33,9 @@ fn allocnow(tag: &TagLimits) -> bool
 
 /// How often a map is among these.
 fn times_among(map: MapId, maps: &[MapId]) -> usize
-    ensures { result ≡ count_by (is_map map) maps.now }
+    ensures { result ≡ count_by (same_map map) maps.now }
 {
-    maps.iter().filter(|other| is_map(map, **other)).count()
+    maps.iter().filter(|other| same_map(map, **other)).count()
 }
 
 /// How often a map is among the maps of zones.
@@ -51,14 +51,14 @@ fn times_in_zones(map: MapId, zones: &[PlainZone]) -> u128
 
 /// How often a map is among these that wait.
 fn times_waiting(map: MapId, wait: &[Waiter]) -> usize
-    ensures { result ≡ count_by (λ w. is_map map w.map) wait.now }
+    ensures { result ≡ count_by (λ w. same_map map w.map) wait.now }
 {
-    wait.iter().filter(|waiter| is_map(map, waiter.map)).count()
+    wait.iter().filter(|waiter| same_map(map, waiter.map)).count()
 }
 
 /// How often a map waits for pages of zones.
 fn times_in_lists(map: MapId, zones: &[PlainZone]) -> u128
-    ensures sum { result ≡ sum_by (λ z. count_by (λ w. is_map map w.map) z.wait) zones.now }
+    ensures sum { result ≡ sum_by (λ z. count_by (λ w. same_map map w.map) z.wait) zones.now }
     ensures bound { result ≤ 2 ^ 64 * length zones.now }
 {
     match zones.split_first() {
@@ -84,7 +84,7 @@ impl PlainAccount {
     {
         self.held
             .iter()
-            .filter(|held| is_map(map, held.map))
+            .filter(|held| same_map(map, held.map))
             .count()
     }
 
@@ -111,7 +111,7 @@ impl PlainAccount {
     {
         self.mems
             .iter()
-            .filter(|memory| is_map(mem, memory.mem))
+            .filter(|memory| same_map(mem, memory.mem))
             .count()
     }
 

@@ -2,11 +2,11 @@
 
 ghost use Rattle.std.specs.Prelude.{◌≡◌, ◌==◌, ◌≤◌, ◌||◌, OnOk, IfOk, length, not, if◌then◌else◌};
 ghost use Rattle.std.specs.List.{filter};
-ghost use Rattle.busdma_base.specs.Account.{is_map, zone_at, total};
-ghost use Rattle.busdma_base.specs.AccountStep.{attached, created};
-ghost use Rattle.busdma_base.specs.Growth.{serves_tag, new_zone, zone_of, with_zone_for, frames_below, added, grown, wanted_by_tag, maxpages, wanted_by_map, growth_for_map, with_map, without_map};
+ghost use Rattle.busdma_base.specs.Bounce.Account.{same_map, zone_at, total};
+ghost use Rattle.busdma_base.specs.Bounce.AccountStep.{attached, created};
+ghost use Rattle.busdma_base.specs.Bounce.Growth.{serves_tag, new_zone, zone_of, with_zone_for, frames_below, added, grown, wanted_by_tag, maxpages, wanted_by_map, growth_for_map, with_map, without_map};
 
-use crate::plain::lists::{is_map, joined, small};
+use crate::plain::lists::{same_map, joined, small};
 use crate::plain::{PlainAccount, PlainZone};
 use busdma_base::{Grown, HubReply, MapId, TagLimits, ZoneId};
 use std::alloc::{AllocError, Global};
@@ -73,11 +73,11 @@ fn is_made(first_done: bool, count: u64, wanted: u64) -> bool
 
 /// The maps without one.
 fn other_maps(alloc: Global, map: MapId, maps: &[MapId]) -> Result<Vec<MapId>, AllocError>
-    ensures { IfOk result (λ v. v.items ≡ filter (λ n. not (is_map map n)) maps.now) }
+    ensures { IfOk result (λ v. v.items ≡ filter (λ n. not (same_map map n)) maps.now) }
 {
     maps.iter()
         .copied()
-        .filter(|other| !is_map(map, *other))
+        .filter(|other| !same_map(map, *other))
         .collect(alloc)
 }
 

@@ -2,7 +2,7 @@
 
 ghost use Rattle.std.specs.Prelude.{◌≡◌, ◌==◌, ◌≤◌, ◌*◌, ◌^◌, ◌<◌, ◌++◌, length, take, drop, sum_by, IfOk};
 ghost use Rattle.std.specs.List.{filter};
-ghost use Rattle.busdma_base.specs.Account.{is_map};
+ghost use Rattle.busdma_base.specs.Bounce.Account.{same_map};
 
 use busdma_base::{MapId, Waiter};
 use std::alloc::{AllocError, Global};
@@ -33,8 +33,8 @@ pub(super) fn behind(alloc: Global, count: u32, items: &[u64]) -> Result<Vec<u64
 }
 
 /// Two names name one map, or one memory.
-pub(super) fn is_map(map: MapId, other: MapId) -> bool
-    ensures { result ≡ is_map map other }
+pub(super) fn same_map(map: MapId, other: MapId) -> bool
+    ensures { result ≡ same_map map other }
 {
     map.lane.0 == other.lane.0 && map.made_at == other.made_at
 }

@@ -2,12 +2,12 @@
 
 ghost use Rattle.std.specs.Prelude.{◌≡◌, ◌≤◌, ◌+◌, ◌*◌, ◌^◌, ◌<◌, OnOk, IfOk, not};
 ghost use Rattle.std.specs.List.{filter};
-ghost use Rattle.busdma_base.specs.declared.hold.HubCall.TheVariants.{MemAlloc};
-ghost use Rattle.busdma_base.specs.Account.{is_map};
-ghost use Rattle.busdma_base.specs.AccountStep.{account_step};
-ghost use Rattle.busdma_base.specs.MemoryRuns.{frames_for, follow, crosses_none, lowest_run, in_run, with_memory, put_in, put_all, frames_of, without_memory};
+ghost use Rattle.busdma_base.specs.declared.bounce.hold.HubCall.TheVariants.{MemAlloc};
+ghost use Rattle.busdma_base.specs.Bounce.Account.{same_map};
+ghost use Rattle.busdma_base.specs.Bounce.AccountStep.{account_step};
+ghost use Rattle.busdma_base.specs.Bounce.MemoryRuns.{frames_for, follow, crosses_none, lowest_run, in_run, with_memory, put_in, put_all, frames_of, without_memory};
 
-use crate::plain::lists::{is_map, joined, small};
+use crate::plain::lists::{same_map, joined, small};
 use crate::plain::{PlainAccount, PlainMemory};
 use busdma_base::{HubReply, MapId, Pa, TagLimits};
 use std::alloc::{AllocError, Global};
@@ -99,7 +99,7 @@ fn frames_of(alloc: Global, mem: MapId, mems: &[PlainMemory]) -> Result<Vec<u64>
         return Ok(Vec::new(alloc));
     };
     let others = frames_of(alloc, mem, rest)?;
-    if is_map(mem, first.mem) {
+    if same_map(mem, first.mem) {
         joined(alloc, &first.frames, &others)
     } else {
         Ok(others)
@@ -112,10 +112,10 @@ fn other_memories(
     mem: MapId,
     mems: Vec<PlainMemory>,
 ) -> Result<Vec<PlainMemory>, AllocError>
-    ensures { IfOk result (λ v. v.items ≡ filter (λ x. not (is_map mem x.mem)) mems.items) }
+    ensures { IfOk result (λ v. v.items ≡ filter (λ x. not (same_map mem x.mem)) mems.items) }
 {
     mems.into_iter()
-        .filter(|other| !is_map(mem, other.mem))
+        .filter(|other| !same_map(mem, other.mem))
         .collect(alloc)
 }
 

@@ -2,12 +2,12 @@
 
 ghost use Rattle.std.specs.Prelude.{◌≡◌, ◌-◌, ◌+◌, ◌<◌, ◌++◌, OnOk, IfOk, length, take, not, map as map_list};
 ghost use Rattle.std.specs.List.{filter};
-ghost use Rattle.busdma_base.specs.declared.hold.HubReply.TheVariants.{Queued};
-ghost use Rattle.busdma_base.specs.Account.{zone_at, with_zone, free};
-ghost use Rattle.busdma_base.specs.AccountStep.{grabbed, released, called_from, as_pages};
-ghost use Rattle.busdma_base.specs.Serving.{is_holding, handed, queued, returned, completed, left_waiting, served};
+ghost use Rattle.busdma_base.specs.declared.bounce.hold.HubReply.TheVariants.{Queued};
+ghost use Rattle.busdma_base.specs.Bounce.Account.{zone_at, with_zone, free};
+ghost use Rattle.busdma_base.specs.Bounce.AccountStep.{grabbed, released, called_from, as_pages};
+ghost use Rattle.busdma_base.specs.Bounce.Serving.{is_holding, handed, queued, returned, completed, left_waiting, served};
 
-use crate::plain::lists::{behind, first_of, is_map, joined, small};
+use crate::plain::lists::{behind, first_of, same_map, joined, small};
 use crate::plain::{PlainAccount, PlainHeld};
 use busdma_base::{HubReply, LaneId, ListOf, MapId, Pa, Waiter, ZoneId};
 use std::alloc::{AllocError, Global};
@@ -98,7 +98,7 @@ fn held_by(
 pub(super) fn is_holding(map: MapId, zone: u32, page: u64, held: &PlainHeld) -> bool
     ensures { result ≡ is_holding map zone page held.now }
 {
-    held.page == page && held.zone == zone && is_map(map, held.map)
+    held.page == page && held.zone == zone && same_map(map, held.map)
 }
 
 /// The held pages without one.

@@ -1,8 +1,8 @@
 //! The step of each call.
 
 ghost use Rattle.std.specs.Prelude.{◌≡◌, IfOk};
-ghost use Rattle.busdma_base.specs.AccountStep.{account_step};
-ghost use Rattle.busdma_base.specs.History.{is_kept};
+ghost use Rattle.busdma_base.specs.Bounce.AccountStep.{account_step};
+ghost use Rattle.busdma_base.specs.Bounce.History.{is_kept};
 
 use crate::plain::PlainAccount;
 use busdma_base::{HubCall, HubReply, LaneId};

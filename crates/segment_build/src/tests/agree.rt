@@ -2,7 +2,7 @@
 
 ghost use Rattle.std.specs.Prelude.{◌≡◌, ◌≤◌, ◌^◌, IfOk};
 ghost use Rattle.std.specs.List.{AllByRecursion};
-ghost use Rattle.busdma_base.specs.Entry.{IsEntry, entries_bytes};
+ghost use Rattle.busdma_base.specs.Machine.Entry.{IsEntry, entries_bytes};
 ghost use Rattle.segment_build.specs.Chunks.{chunks_of, need_of};
 
 use super::checks::{are_pages, load_bytes, parts};

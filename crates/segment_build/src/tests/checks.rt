@@ -2,7 +2,7 @@
 
 ghost use Rattle.std.specs.Prelude.{◌≡◌, ◌+◌, ◌%◌, ◌^◌, ◌<◌, ◌≤◌, ◌++◌, true, IfOk, IfSome, OnOk};
 ghost use Rattle.std.specs.List.{AllByRecursion};
-ghost use Rattle.busdma_base.specs.Entry.{AreJoined, IsEntry, entries_bytes, entry_parts, parts_of};
+ghost use Rattle.busdma_base.specs.Machine.Entry.{AreJoined, IsEntry, entries_bytes, entry_parts, parts_of};
 ghost use Rattle.busdma_base.specs.Runs.{IsExtent, byte_count};
 ghost use Rattle.segment_build.specs.Trace.{IsPage};
 

@@ -3,7 +3,7 @@
 ghost use Rattle.std.specs.Prelude.{◌≡◌, ◌≤◌, ◌^◌, length};
 ghost use Rattle.std.specs.Iterator.{YieldsFirst, item_count};
 ghost use Rattle.std.specs.List.{AllByRecursion};
-ghost use Rattle.busdma_base.specs.Entry.{IsEntry, entries_bytes};
+ghost use Rattle.busdma_base.specs.Machine.Entry.{IsEntry, entries_bytes};
 ghost use Rattle.segment_build.specs.Building.{IsSound};
 ghost use Rattle.segment_build.specs.Chunks.{chunks_of, need_of};
 ghost use Rattle.segment_build.specs.Trace.{IsPage};

@@ -2,34 +2,34 @@ use Rattle.std.proofs.Common.{◌≡◌, ◌<◌, ◌==◌, eqb, ℕ, List, [], 
 use Rattle.std.specs.List.{count_by}
 use Rattle.std.proofs.lemmas.Bool.{ne_eqb}
 use Rattle.std.proofs.lemmas.List.Elements.{All-head, All-tail}
-use Rattle.busdma_base.specs.Framed.{Framed}
-use Rattle.busdma_base.specs.History.{IsRising}
-use Rattle.busdma_base.specs.PageLists.{page_addresses}
+use Rattle.busdma_base.specs.Machine.Page.{FrameBytes}
+use Rattle.busdma_base.specs.Bounce.History.{IsRising}
+use Rattle.busdma_base.specs.Machine.PageList.{page_addresses}
 use Rattle.frame_bank.specs.FrameBank.{Bank, put_page}
 use Rattle.frame_bank.proofs.Counted.{weight, count_by-cons}
 use Rattle.frame_bank.proofs.Placing.{length-put_page, count_by-put_page}
 use Rattle.frame_bank.proofs.Rising.{AreAbove, rising_pages}
 use Rattle.frame_bank.proofs.tests.take_and_give.Goals as goal
 
-none_above : (f : ℕ) (ps : List Framed) → AreAbove f ps → count_by (λ p. p.frame == f) ps ≡ 0
+none_above : (f : ℕ) (ps : List FrameBytes) → AreAbove f ps → count_by (λ p. p.frame == f) ps ≡ 0
 none_above f [] h = refl
 none_above f (p ∷ ps) h =
-    let above : f < p.frame = All-head (λ (q : Framed). f < q.frame) p ps h in
+    let above : f < p.frame = All-head (λ (q : FrameBytes). f < q.frame) p ps h in
     let here : weight (eqb p.frame f) ≡ 0 = ap weight (ne_eqb p.frame f (λ e. omega arith)) in
-    omega (arith, here, count_by-cons (λ (q : Framed). eqb q.frame f) p ps, none_above f ps (All-tail (λ (q : Framed). f < q.frame) p ps h))
+    omega (arith, here, count_by-cons (λ (q : FrameBytes). eqb q.frame f) p ps, none_above f ps (All-tail (λ (q : FrameBytes). f < q.frame) p ps h))
 
 -- of rising pages, the first two may be given back, the lower first
-record MayReturn (a b : Framed) (rest : List Framed) : Type 0 where
+record MayReturn (a b : FrameBytes) (rest : List FrameBytes) : Type 0 where
   first : count_by (λ p. p.frame == a.frame) rest ≡ 0
   second : count_by (λ p. p.frame == b.frame) (put_page a rest) ≡ 0
 
-may_return : (all behind rest : List Framed) (a b : Framed) → IsRising (page_addresses all) → all ≡ a ∷ behind → behind ≡ b ∷ rest → MayReturn a b rest
+may_return : (all behind rest : List FrameBytes) (a b : FrameBytes) → IsRising (page_addresses all) → all ≡ a ∷ behind → behind ≡ b ∷ rest → MayReturn a b rest
 may_return all behind rest a b rising e f =
     let h = rising_pages (a ∷ b ∷ rest) (subst (λ ps. IsRising (page_addresses ps)) (e ∙ ap (λ ps. a ∷ ps) f) rising) in
-    let above : a.frame < b.frame = All-head (λ (q : Framed). a.frame < q.frame) b rest h.0 in
+    let above : a.frame < b.frame = All-head (λ (q : FrameBytes). a.frame < q.frame) b rest h.0 in
     let other : weight (eqb a.frame b.frame) ≡ 0 = ap weight (ne_eqb a.frame b.frame (λ s. omega arith)) in
     record {
-      first = none_above a.frame rest (All-tail (λ (q : Framed). a.frame < q.frame) b rest h.0);
+      first = none_above a.frame rest (All-tail (λ (q : FrameBytes). a.frame < q.frame) b rest h.0);
       second = omega (arith, other, count_by-put_page (λ p. eqb p.frame b.frame) a rest, none_above b.frame rest h.1.0);
     }
 
@@ -58,4 +58,4 @@ give-requires-2-clause-apart c =
     let left = c.take_lowest-2.new.self.pages in
     let may = may_return c.args.bank.now.pages c.take_lowest.new.self.pages left c.in_ok-first.first c.in_ok-second.second c.take_lowest.ensures.sound.rising c.in_ok-first.ensures.lowest c.in_ok-second.ensures.lowest in
     ap (λ (b : Bank). count_by (λ p. p.frame == written.frame) b.pages) c.give.ensures.bank
-    ∙ ap (λ (q : Framed). count_by (λ p. p.frame == q.frame) (put_page c.in_ok-first.first left)) c.write.ensures ∙ may.second
+    ∙ ap (λ (q : FrameBytes). count_by (λ p. p.frame == q.frame) (put_page c.in_ok-first.first left)) c.write.ensures ∙ may.second

@@ -1,5 +1,5 @@
 use Rattle.std.proofs.Common.{◌≡◌, drop}
-use Rattle.busdma_base.specs.Judging.{judged}
+use Rattle.busdma_base.specs.Journals.Judging.{judged}
 use Rattle.loan_table.specs.Kinds.{dev_refusal}
 use Rattle.loan_table.specs.Table.{is_marked}
 use Rattle.loan_table.specs.Trees.{of_tree}

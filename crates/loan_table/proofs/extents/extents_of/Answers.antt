@@ -1,7 +1,7 @@
 use Rattle.std.proofs.Common.{ℕ, ◌+◌, ◌%◌, ◌<◌, ◌^◌, ◌++◌, ap, sym, ◌∙◌, subst, get_or, arith}
 use Rattle.std.proofs.lemmas.List.{at_drop_more, at_drop_all}
 use Rattle.std.proofs.lemmas.List.Elements.{All-push, All-get_or, All-nil, All-rest}
-use Rattle.busdma_base.specs.declared.address.Pa.{Pa}
+use Rattle.busdma_base.specs.declared.machine.address.Pa.{Pa}
 use Rattle.busdma_base.specs.Runs.{addresses, run_of, IsExtent}
 use Rattle.loan_table.specs.Loans.{addresses_of}
 use Rattle.loan_table.specs.Table.{is_next}

@@ -1,5 +1,5 @@
 use Rattle.std.proofs.Common.{◌≡◌, ◌+◌, drop}
-use Rattle.busdma_base.specs.Judging.{judged}
+use Rattle.busdma_base.specs.Journals.Judging.{judged}
 use Rattle.loan_table.specs.Lending.{sync_refusal}
 use Rattle.loan_table.specs.Trees.{of_tree}
 use Rattle.loan_table.proofs.sync.judge.Given as goal

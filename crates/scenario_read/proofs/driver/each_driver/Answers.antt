@@ -1,6 +1,6 @@
 use Rattle.std.proofs.Common.{arith}
 use Rattle.std.proofs.lemmas.Grind.{common_steps}
-use Rattle.busdma_base.specs.Valid.{IsDriver}
+use Rattle.busdma_base.specs.Scenarios.Valid.{IsDriver}
 use Rattle.scenario_read.specs.declared.counts.Counts.{Counts}
 use Rattle.scenario_read.proofs.Counting.{read_more, loaded_more}
 use Rattle.scenario_read.proofs.Each.{EachAfter-append}

@@ -2,7 +2,7 @@ use Rattle.std.proofs.Common.{◌≡◌, ◌≤◌, [], drop, map}
 use Rattle.std.specs.List.{AllByRecursion}
 use Rattle.serde_json.specs.View.{view}
 use Rattle.busdma_base.specs.Each.{EachAfter}
-use Rattle.busdma_base.specs.Frames.{IsFrameRun, IsNumbered, frame_count}
+use Rattle.busdma_base.specs.Machine.FrameRuns.{IsFrameRun, IsNumbered, frame_count}
 use Rattle.json_fields.specs.Field.{spot_of}
 use Rattle.json_fields.specs.Items.{each}
 use Rattle.scenario_read.specs.Frames.{frame_run_at}

@@ -1,6 +1,6 @@
 use Rattle.std.proofs.Common.{arith, ap, ◌∙◌}
 use Rattle.std.proofs.lemmas.Grind.{common_steps}
-use Rattle.busdma_base.specs.Script.{IsOp}
+use Rattle.busdma_base.specs.Scenarios.Script.{IsOp}
 use Rattle.scenario_read.specs.Counts.{with_op, stepped}
 use Rattle.scenario_read.proofs.Counting.{with_ops_more}
 use Rattle.scenario_read.proofs.Each.{EachAfter-append}

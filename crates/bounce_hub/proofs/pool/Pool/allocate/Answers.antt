@@ -1,16 +1,16 @@
 use Rattle.std.proofs.Common.{◌≡◌, ℕ, ◌≤◌, ◌∷◌, ◌++◌, [], not, List, Some, Option, length, get_or, refl, sym, ap, ◌∙◌, subst, arith}
 use Rattle.std.specs.List.{filter}
 use Rattle.std.proofs.lemmas.List.{length-append, length-map}
-use Rattle.busdma_base.specs.declared.hold.HubCall.TheVariants.{MemAlloc}
-use Rattle.busdma_base.specs.declared.hold.HubReply.TheVariants.{Run}
-use Rattle.busdma_base.specs.declared.address.Pa.{Pa}
-use Rattle.busdma_base.specs.Account.{Memory}
-use Rattle.busdma_base.specs.AccountStep.{placed}
-use Rattle.busdma_base.specs.Framed.{Framed}
-use Rattle.busdma_base.specs.MemoryRuns.{frames_for, lowest_run, in_run, with_memory}
-use Rattle.busdma_base.specs.PageLists.{page_addresses, page_address}
+use Rattle.busdma_base.specs.declared.bounce.hold.HubCall.TheVariants.{MemAlloc}
+use Rattle.busdma_base.specs.declared.bounce.hold.HubReply.TheVariants.{Run}
+use Rattle.busdma_base.specs.declared.machine.address.Pa.{Pa}
+use Rattle.busdma_base.specs.Bounce.Account.{Memory}
+use Rattle.busdma_base.specs.Bounce.AccountStep.{placed}
+use Rattle.busdma_base.specs.Machine.Page.{FrameBytes}
+use Rattle.busdma_base.specs.Bounce.MemoryRuns.{frames_for, lowest_run, in_run, with_memory}
+use Rattle.busdma_base.specs.Machine.PageList.{page_addresses, page_address}
 use Rattle.frame_bank.specs.FrameBank.{free_frames, pages_left, is_in_run}
-use Rattle.busdma_base.specs.Door.{IsRow}
+use Rattle.busdma_base.specs.Bounce.Door.{IsRow}
 use Rattle.bounce_hub.proofs.Answering.{stepped}
 use Rattle.bounce_hub.proofs.Frames.{Found, found, from-row, from-length, from-first, left-addresses, filter-few, run-items, agrees-bank}
 use Rattle.bounce_hub.proofs.pool.Pool.allocate.Goals as goal
@@ -30,7 +30,7 @@ few c =
     let items : c.in-Some.pages.items ≡ filter (is_in_run f.at n) c.args.self.now.bank.pages = run-items first n f.at c.in-Some.pages.items c.args.self.now.bank.pages f.is (rw c.in-Some.is at c.in_ok-pages.ensures.pages) in
     omega (
       arith,
-      ap (λ (x : List Framed). length x) items,
+      ap (λ (x : List FrameBytes). length x) items,
       filter-few (is_in_run f.at n) c.args.self.now.bank.pages,
       length-map c.args.self.now.bank.pages page_address,
       ap (λ (x : List ℕ). length x) c.requires.allowed.agrees.bank,

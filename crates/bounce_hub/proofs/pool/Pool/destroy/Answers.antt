@@ -1,8 +1,8 @@
 use Rattle.std.proofs.Common.{◌≡◌, ℕ, ◌<◌, ◌+◌, ◌-◌, List, not, length, refl, ap, arith}
 use Rattle.std.specs.List.{filter}
 use Rattle.busdma_base.specs.declared.name.MapId.{MapId}
-use Rattle.busdma_base.specs.Account.{zone_at, is_map}
-use Rattle.busdma_base.proofs.Counts.{in_zones}
+use Rattle.busdma_base.specs.Bounce.Account.{zone_at, same_map}
+use Rattle.busdma_base.proofs.Accounts.Counts.{in_zones}
 use Rattle.bounce_hub.specs.declared.slot.Slot.{Slot}
 use Rattle.bounce_hub.specs.Pools.{Matches}
 use Rattle.bounce_hub.proofs.Agreeing.{slot-matches}
@@ -15,7 +15,7 @@ returns-clause-steps c = λ a agrees fits may.
     let s : Slot = c.index_mut.result.now in
     let inside : z < length a.zones = in_zones a c.args.map z may.1 in
     let here : Matches s a z = slot-matches c.args.self.now a z s agrees inside c.index_mut.ensures.value in
-    let rest : List MapId = filter (λ n. not (is_map c.args.map n)) (zone_at a z).maps in
+    let rest : List MapId = filter (λ n. not (same_map c.args.map n)) (zone_at a z).maps in
     let less : length rest + 1 ≡ length (zone_at a z).maps = omega (arith, maps-less c.args.map (zone_at a z).maps, may.1.made) in
     record {
       agrees = agrees-mapped c.args.self.now _ a z s (record s { maps = s.maps - 1 }) rest agrees (record { bank = refl; maxmem = refl; max_bpages = refl }) inside here

@@ -1,9 +1,9 @@
 use Rattle.std.proofs.Common.{ℕ, ◌*◌, not, List, length, refl, ap, ◌∙◌, arith}
 use Rattle.std.specs.List.{filter}
 use Rattle.std.proofs.lemmas.List.{length-map}
-use Rattle.busdma_base.specs.Account.{Account, is_map}
-use Rattle.busdma_base.specs.MemoryRuns.{frames_of, put_all}
-use Rattle.busdma_base.specs.PageLists.{page_addresses, page_address}
+use Rattle.busdma_base.specs.Bounce.Account.{Account, same_map}
+use Rattle.busdma_base.specs.Bounce.MemoryRuns.{frames_of, put_all}
+use Rattle.busdma_base.specs.Machine.PageList.{page_addresses, page_address}
 use Rattle.frame_bank.specs.FrameBank.{Bank}
 use Rattle.bounce_hub.proofs.Frames.{agrees-bank, put_pages-addresses, frames-room, frames-apart, mems-less}
 use Rattle.bounce_hub.proofs.pool.Pool.free_memory.Goals as goal
@@ -26,7 +26,7 @@ give_all-requires-clause-apart c = λ k. frames-apart c.args.mem c.requires.acco
 
 pub returns-clause-steps : goal.returns-clause-steps
 returns-clause-steps c = λ a agrees fits may mine. record {
-  agrees = agrees-bank c.args.self.now _ a (put_all (frames_of c.args.mem a.mems) a.bank) (filter (λ x. not (is_map c.args.mem x.mem)) a.mems) agrees
+  agrees = agrees-bank c.args.self.now _ a (put_all (frames_of c.args.mem a.mems) a.bank) (filter (λ x. not (same_map c.args.mem x.mem)) a.mems) agrees
       (ap (λ (b : Bank). page_addresses b.pages) c.give_all.ensures ∙ put_pages-addresses c.args.pages.items c.args.self.now.bank.pages ∙ ap (λ (fs : List ℕ). put_all fs (page_addresses c.args.self.now.bank.pages)) mine ∙ ap (put_all (frames_of c.args.mem a.mems)) agrees.bank)
       refl refl (omega (arith, agrees.owed, mems-less c.args.mem a.mems, may.1)) refl refl;
   reply = refl;

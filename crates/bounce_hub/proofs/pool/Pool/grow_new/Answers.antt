@@ -1,7 +1,7 @@
 use Rattle.std.proofs.Common.{◌≡◌, ℕ, ◌∷◌, ◌++◌, [], List, length, min, take, refl, sym, ap, ◌∙◌, arith}
-use Rattle.busdma_base.specs.Account.{Zone}
-use Rattle.busdma_base.specs.Framed.{Framed}
-use Rattle.busdma_base.specs.Growth.{zone_of, with_zone_for, frames_below, added, grown}
+use Rattle.busdma_base.specs.Bounce.Account.{Zone}
+use Rattle.busdma_base.specs.Machine.Page.{FrameBytes}
+use Rattle.busdma_base.specs.Bounce.Growth.{zone_of, with_zone_for, frames_below, added, grown}
 use Rattle.bounce_zone.specs.ZonePages.{ZonePages}
 use Rattle.frame_bank.specs.FrameBank.{Bank, free_frames}
 use Rattle.bounce_hub.specs.declared.slot.Slot.{Slot}
@@ -12,7 +12,7 @@ use Rattle.bounce_hub.proofs.pool.Pool.grow_new.Goals as goal
 -- the new zone
 made : (c : goal.After-push_reserved) → record c.new-slot.result { zone = c.grow.new.self } ≡ new_slot c.args.tag.now (take c.in_ok-added.added c.args.self.now.bank.pages)
 made c =
-    let ps : List Framed = take c.in_ok-added.added c.args.self.now.bank.pages in
+    let ps : List FrameBytes = take c.in_ok-added.added c.args.self.now.bank.pages in
     ap (λ (k : ZonePages). record c.new-slot.result { zone = k }) c.in_ok-added.ensures.zone
     ∙ ap (λ (s : Slot). record s { zone = record s.zone { pages = s.zone.pages ++ ps } }) c.new-slot.ensures
     ∙ ap (λ (k : ℕ). record (new_slot c.args.tag.now ps) { zone = record (new_slot c.args.tag.now ps).zone { alignment = k } }) c.max.ensures

@@ -1,11 +1,11 @@
 use Rattle.std.proofs.Common.{◌≡◌, ◌<◌, List, ◌∷◌, length, take, refl, sym, ap, ◌∙◌, arith}
-use Rattle.busdma_base.specs.declared.zone.Waiter.{Waiter}
-use Rattle.busdma_base.specs.declared.hold.HubCall.TheVariants.{TakeCallback}
-use Rattle.busdma_base.specs.declared.hold.HubReply.TheVariants.{Called}
-use Rattle.busdma_base.specs.Account.{zone_at}
-use Rattle.busdma_base.specs.AccountStep.{as_pages}
-use Rattle.busdma_base.specs.Serving.{handed}
-use Rattle.busdma_base.proofs.Counts.{head-inside}
+use Rattle.busdma_base.specs.declared.bounce.zone.Waiter.{Waiter}
+use Rattle.busdma_base.specs.declared.bounce.hold.HubCall.TheVariants.{TakeCallback}
+use Rattle.busdma_base.specs.declared.bounce.hold.HubReply.TheVariants.{Called}
+use Rattle.busdma_base.specs.Bounce.Account.{zone_at}
+use Rattle.busdma_base.specs.Bounce.AccountStep.{as_pages}
+use Rattle.busdma_base.specs.Bounce.Serving.{handed}
+use Rattle.busdma_base.proofs.Accounts.Counts.{head-inside}
 use Rattle.bounce_hub.specs.declared.slot.Slot.{Slot}
 use Rattle.bounce_hub.specs.Pools.{Matches}
 use Rattle.bounce_hub.proofs.Agreeing.{addresses-take, slot-matches, agrees-called}

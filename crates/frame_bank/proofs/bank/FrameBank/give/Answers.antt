@@ -2,10 +2,10 @@ use Rattle.std.proofs.Common.{rules, ◌≡◌, ◌+◌, ◌^◌, ◌<◌, ◌�
 use Rattle.std.specs.List.{count_by}
 use Rattle.std.specs.List.Sorted.{IsPartitionPoint}
 use Rattle.std.proofs.lemmas.List.Sorted.{IsPartitionedBy-leb, IsPartitionPoint-from_clause}
-use Rattle.busdma_base.specs.Framed.{Framed}
-use Rattle.busdma_base.specs.History.{IsRising}
-use Rattle.busdma_base.specs.MemoryRuns.{put_in}
-use Rattle.busdma_base.specs.PageLists.{page_address, page_addresses}
+use Rattle.busdma_base.specs.Machine.Page.{FrameBytes}
+use Rattle.busdma_base.specs.Bounce.History.{IsRising}
+use Rattle.busdma_base.specs.Bounce.MemoryRuns.{put_in}
+use Rattle.busdma_base.specs.Machine.PageList.{page_address, page_addresses}
 use Rattle.frame_bank.specs.FrameBank.{Bank, free_frames, put_page}
 use Rattle.std.proofs.lemmas.List.Elements.{All-same}
 use Rattle.frame_bank.proofs.Placing.{All-put_page, put_page-insert, put_page-rising, length-put_page, page_addresses-put_page}
@@ -44,7 +44,7 @@ invariant_of-self c =
 
 pub returns-clause-bank : goal.returns-clause-bank
 returns-clause-bank c =
-    let made : List Framed → Bank = λ ps. record { pages = ps; room = c.self.inside.room } in
+    let made : List FrameBytes → Bank = λ ps. record { pages = ps; room = c.self.inside.room } in
     ap made (placed c) ∙ ap (λ (b : Bank). record { pages = put_page c.args.page b.pages; room = b.room }) c.self.view_is
 
 pub returns-clause-free : goal.returns-clause-free

@@ -3,9 +3,9 @@ use Rattle.std.specs.List.{filter}
 use Rattle.std.specs.VecDeque.{deque_len}
 use Rattle.std.proofs.lemmas.List.{length-drop}
 use Rattle.std.proofs.lemmas.List.Elements.{All-same, All-append, All-take, All-drop}
-use Rattle.busdma_base.specs.PageLists.{Pages, page_addresses}
-use Rattle.busdma_base.specs.History.{IsRising}
-use Rattle.busdma_base.specs.MemoryRuns.{frames_for, lowest_run, in_run}
+use Rattle.busdma_base.specs.Machine.PageList.{RoomyPages, page_addresses}
+use Rattle.busdma_base.specs.Bounce.History.{IsRising}
+use Rattle.busdma_base.specs.Bounce.MemoryRuns.{frames_for, lowest_run, in_run}
 use Rattle.frame_bank.specs.FrameBank.{Bank, free_frames, is_in_run, frames_from, run_frames, frames_left, run_pages, pages_left}
 use Rattle.frame_bank.proofs.Rising.{rising_pages, rising_addresses}
 use Rattle.frame_bank.proofs.Taking.{TakenAt, begun_at, turned_front, turned_back, rising_without, filter-page_addresses}
@@ -29,8 +29,8 @@ part : (c : goal.After-rotate_right) → c.take_first.new.self.items ≡ take (f
 part c =
     let items = c.self.inside.free.items in
     let count = c.frames_for-count.result in
-    ap (λ (l : Pages). l.items) c.take_first.ensures.taken
-    ∙ ap (λ (l : Pages). l.items ++ take count c.rotate_left.new.self.items) c.in_ok-pages.ensures
+    ap (λ (l : RoomyPages). l.items) c.take_first.ensures.taken
+    ∙ ap (λ (l : RoomyPages). l.items ++ take count c.rotate_left.new.self.items) c.in_ok-pages.ensures
     ∙ ap (take count) c.rotate_left.ensures.items
     ∙ turned_front items c.in-Some.at count (omega (arith, (at_run c).inside, c.frames_for-count.ensures))
     ∙ ap (λ n. take n (drop c.in-Some.at items)) c.frames_for-count.ensures

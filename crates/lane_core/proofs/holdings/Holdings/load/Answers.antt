@@ -2,12 +2,12 @@ use Rattle.std.proofs.Common.{◌≡◌, ap, sym, ◌∙◌, true, false, arith,
 use Rattle.std.proofs.lemmas.Bool.Decides.{nat_tests}
 use Rattle.std.specs.FinMap.{contains_key}
 use Rattle.busdma_base.specs.declared.name.MapId.{MapId}
-use Rattle.busdma_base.specs.declared.script.Place.{Place}
-use Rattle.busdma_base.specs.declared.script.Item.{Item}
-use Rattle.busdma_base.specs.declared.report.Judged.{Judged}
-use Rattle.busdma_base.specs.declared.answer.Answer.TheVariants.{Refused, Segments}
-use Rattle.busdma_base.specs.declared.report.Errno.TheVariants.{EINVAL}
-use Rattle.busdma_base.specs.declared.report.Judged.TheVariants as judged
+use Rattle.busdma_base.specs.declared.scenarios.script.Place.{Place}
+use Rattle.busdma_base.specs.declared.scenarios.script.Item.{Item}
+use Rattle.busdma_base.specs.declared.journals.report.Judged.{Judged}
+use Rattle.busdma_base.specs.declared.journals.answer.Answer.TheVariants.{Refused, Segments}
+use Rattle.busdma_base.specs.declared.journals.report.Errno.TheVariants.{EINVAL}
+use Rattle.busdma_base.specs.declared.journals.report.Judged.TheVariants as judged
 use Rattle.busdma_base.specs.Runs.{addresses}
 use Rattle.phys_memory.specs.Walk.{verdict, physical_or_0}
 use Rattle.lane_core.specs.Covered.{Lie}

@@ -2,7 +2,7 @@ use Rattle.std.proofs.Common.{◌≡◌, ap, ◌∙◌, ◌++◌, length, arith,
 use Rattle.std.specs.FinMap.{insert}
 use Rattle.std.specs.List.{each_same}
 use Rattle.busdma_base.specs.declared.name.MapId.{MapId}
-use Rattle.busdma_base.specs.declared.answer.Answer.TheVariants.{Segments}
+use Rattle.busdma_base.specs.declared.journals.answer.Answer.TheVariants.{Segments}
 use Rattle.busdma_base.specs.Runs.{addresses}
 use Rattle.loan_table.specs.Loans.{unlent}
 use Rattle.lane_tables.specs.Queues.{queued}

@@ -3,7 +3,7 @@ use Rattle.std.specs.FinMap.{contains_key, remove}
 use Rattle.busdma_base.specs.declared.name.MapId.{MapId}
 use Rattle.loan_table.specs.Table.{set_all}
 use Rattle.loan_table.specs.Lending.{lost_by_forgetting}
-use Rattle.busdma_base.specs.declared.answer.Answer.TheVariants.{Done}
+use Rattle.busdma_base.specs.declared.journals.answer.Answer.TheVariants.{Done}
 use Rattle.lane_core.specs.Ideal.{ideal_of}
 use Rattle.lane_core.specs.Lane.{gives}
 use Rattle.lane_core.proofs.Held.{has_set_all, shown, shown_forgotten}

@@ -5,8 +5,8 @@ use Rattle.std.specs.List.{slice_get}
 use Rattle.lane_core.specs.Ideal.{ideal_of}
 use Rattle.lane_core.specs.Step.{waits, stepped}
 use Rattle.lane_core.specs.Lane.{gives}
-use Rattle.busdma_base.specs.declared.journal.Side.TheVariants as side
-use Rattle.busdma_base.specs.declared.journal.Did.TheVariants as journal
+use Rattle.busdma_base.specs.declared.journals.journal.Side.TheVariants as side
+use Rattle.busdma_base.specs.declared.journals.journal.Did.TheVariants as journal
 use Rattle.lane_core.proofs.ScriptTurn.{Kept, Done, still_going, kept_on, on_to_next, script_step}
 use Rattle.lane_core.proofs.lane.Lane.script_turn.Goals as goal
 

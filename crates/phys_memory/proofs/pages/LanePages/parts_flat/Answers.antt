@@ -1,6 +1,6 @@
 use Rattle.std.proofs.Common.{◌≡◌, List, sym, ◌∙◌, subst, arith}
-use Rattle.busdma_base.specs.declared.chunk.Part.{Part}
-use Rattle.busdma_base.specs.Entry.{IsStream, parts_of}
+use Rattle.busdma_base.specs.declared.machine.chunk.Part.{Part}
+use Rattle.busdma_base.specs.Machine.Entry.{IsStream, parts_of}
 use Rattle.phys_memory.specs.Vector.{IfAll, one_span, vector_walk}
 use Rattle.phys_memory.proofs.Loads.{along_loads, one_bytes, vector_loads}
 use Rattle.phys_memory.proofs.Vectors.{vector_one, walk_stream}

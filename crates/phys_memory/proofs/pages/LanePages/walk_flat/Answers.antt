@@ -1,6 +1,6 @@
 use Rattle.std.proofs.Common.{◌≡◌, ℕ, ap, map, subst, append-nil}
 use Rattle.std.specs.Prelude.{List, IfOk}
-use Rattle.busdma_base.specs.Entry.{entries_addresses}
+use Rattle.busdma_base.specs.Machine.Entry.{entries_addresses}
 use Rattle.busdma_base.specs.Runs.{run_of}
 use Rattle.phys_memory.specs.declared.entries.Entries.{Entries}
 use Rattle.phys_memory.specs.Vector.{IfAll}

@@ -1,6 +1,6 @@
 use Rattle.std.proofs.Common.{Vec, Global, ◌+◌, drop, refl, ap, sym, ◌∙◌, subst, arith}
-use Rattle.busdma_base.specs.declared.address.Span.{Span}
-use Rattle.busdma_base.specs.declared.chunk.Entry.{Entry}
+use Rattle.busdma_base.specs.declared.machine.address.Span.{Span}
+use Rattle.busdma_base.specs.declared.machine.chunk.Entry.{Entry}
 use Rattle.phys_memory.specs.declared.walk.Walked.TheVariants.{Parts}
 use Rattle.phys_memory.specs.Memory.{Roomy, IsMemory}
 use Rattle.phys_memory.proofs.Vectors.{bytes_here, missed_inside, past_entry, past_none, stopped, this, walk_bytes, walk_end, walk_entries, walk_frames, walk_from, walk_here, walk_touches}

@@ -1,5 +1,5 @@
 use Rattle.std.proofs.Common.{◌≡◌, ◌+◌, drop}
-use Rattle.busdma_base.specs.Spans.{span_bytes}
+use Rattle.busdma_base.specs.Machine.Spans.{span_bytes}
 use Rattle.phys_memory.specs.Vector.{vector_walk}
 use Rattle.phys_memory.proofs.Vectors.{walk_from}
 use Rattle.phys_memory.proofs.pages.LanePages.walk_vector.Given as goal

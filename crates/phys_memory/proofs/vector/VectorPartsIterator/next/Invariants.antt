@@ -1,5 +1,5 @@
 use Rattle.std.proofs.Common.{◌≡◌, ◌+◌, ◌^◌, ◌<◌, length}
-use Rattle.busdma_base.specs.Spans.{span_bytes}
+use Rattle.busdma_base.specs.Machine.Spans.{span_bytes}
 use Rattle.phys_memory.specs.Vector.{then_parts, vector_at}
 use Rattle.phys_memory.proofs.vector.VectorPartsIterator.next.Given as goal
 

@@ -1,6 +1,6 @@
 use Rattle.std.proofs.Common.{sym, ap, ◌∙◌, cond}
 use Rattle.std.proofs.lemmas.List.Folds.{list_all-map}
-use Rattle.busdma_base.specs.declared.journal.End.TheVariants.{Finished, Stuck}
+use Rattle.busdma_base.specs.declared.journals.journal.End.TheVariants.{Finished, Stuck}
 use Rattle.lane_core.specs.Ideal.{ideal}
 use Rattle.world_core.specs.World.{has_ended}
 use Rattle.world_core.proofs.world.World.end.Goals as goal

@@ -1,6 +1,6 @@
 use Rattle.std.proofs.Common.{◌≡◌, ◌+◌, refl, ap, ◌∙◌, arith, length, map, get_or, [], ◌∷◌, length-append}
 use Rattle.std.proofs.lemmas.List.{take_all}
-use Rattle.busdma_base.specs.Opening.{opening}
+use Rattle.busdma_base.specs.Bounce.Opening.{opening}
 use Rattle.lane_core.specs.Ideal.{ideal}
 use Rattle.lane_core.specs.Opening.{opening_lane}
 use Rattle.world_core.specs.World.{opening_lanes}

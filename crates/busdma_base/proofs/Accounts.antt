@@ -1,0 +1,10 @@
+pub mod Counting
+pub mod Counts
+pub mod Names
+pub mod Openings
+pub mod Order
+pub mod Places
+pub mod Rising
+pub mod Shares
+pub mod WellFormed
+pub mod ZoneOf

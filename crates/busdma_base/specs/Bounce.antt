@@ -1,0 +1,15 @@
+pub mod Account
+pub mod AccountStep
+pub mod Conditions
+pub mod Door
+pub mod Growth
+pub mod History
+pub mod MemoryRuns
+pub mod Opening
+pub mod Places
+pub mod SameFor
+pub mod Serving
+pub mod ServingOrder
+pub mod Share
+pub mod WorkedExample
+pub mod WellFormed

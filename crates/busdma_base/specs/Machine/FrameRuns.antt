@@ -1,0 +1,27 @@
+-- The frames of the machine. A frame has 4096 bytes; frame f holds the bytes from 4096 * f on.
+use Rattle.std.specs.Prelude.{◌≡◌, ℕ, ◌+◌, ◌^◌, ◌≤◌, Bool, false, ◌&&◌, ◌||◌, List, nat_le, nat_lt, sum_by}
+use Rattle.std.specs.List.{list_any}
+use Rattle.busdma_base.specs.declared.scenarios.scenario.FrameRun.{FrameRun}
+
+-- the frame lies in the run
+abbrev pub is_in : ℕ → FrameRun → Bool
+is_in frame run = nat_le run.first frame && nat_lt frame (run.first + run.count)
+
+-- two runs, neither of them empty, share a frame
+abbrev pub overlap : FrameRun → FrameRun → Bool
+overlap a b = is_in a.first b || is_in b.first a
+
+-- how many frames runs have
+abbrev pub frame_count : List FrameRun → ℕ
+frame_count runs = sum_by (λ run. run.count) runs
+
+-- the run's frames have numbers below 2^30
+abbrev pub IsNumbered : FrameRun → Type 0
+IsNumbered run = run.first + run.count ≤ 2 ^ 30
+
+-- a run has a frame, keeps the limits on frame numbers and on all frames, and has no frame of a run before it
+pub record IsFrameRun (before : List FrameRun) (run : FrameRun) : Type 0 where
+  pub some : 1 ≤ run.count
+  pub numbered : IsNumbered run
+  pub few : frame_count before + run.count ≤ 8192
+  pub apart : list_any (overlap run) before ≡ false

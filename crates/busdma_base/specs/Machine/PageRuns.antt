@@ -1,0 +1,43 @@
+-- The pages of a driver: frames of its own at virtual addresses.
+use Rattle.std.specs.Prelude.{◌≡◌, ℕ, zero, suc, ◌+◌, ◌*◌, ◌/◌, ◌%◌, ◌≤◌, Bool, true, false, ◌&&◌, ◌||◌, List, nat_le, nat_lt}
+use Rattle.std.specs.List.{list_any}
+use Rattle.busdma_base.specs.declared.scenarios.scenario.FrameRun.{FrameRun}
+use Rattle.busdma_base.specs.declared.scenarios.scenario.PageRun.{PageRun}
+use Rattle.busdma_base.specs.declared.scenarios.scenario.Driver.{Driver}
+use Rattle.busdma_base.specs.Machine.FrameRuns.{is_in}
+
+-- where the virtual addresses end that a driver's pages may have; those of dmamem memory begin here
+abbrev pub pages_end : ℕ
+pages_end = 0xfffff80000000000
+
+-- the n frames from `first` on are all in the machine
+abbrev pub all_in : List FrameRun → ℕ → ℕ → Bool
+all_in runs first zero = true
+all_in runs first (suc n) = list_any (is_in first) runs && all_in runs (first + 1) n
+
+-- the m numbers from a on and the n numbers from b on have one in common; neither m nor n is 0
+abbrev pub meet : ℕ → ℕ → ℕ → ℕ → Bool
+meet a m b n = (nat_le b a && nat_lt a (b + n)) || (nat_le a b && nat_lt b (a + m))
+
+-- two runs share a frame
+abbrev pub share_frame : PageRun → PageRun → Bool
+share_frame a b = meet a.frame a.count b.frame b.count
+
+-- two runs share a virtual page
+abbrev pub share_page : PageRun → PageRun → Bool
+share_page a b = meet (a.va.0 / 4096) a.count (b.va.0 / 4096) b.count
+
+-- the run has a frame of one of these drivers
+abbrev pub is_taken : PageRun → List Driver → Bool
+is_taken run drivers = list_any (λ d. list_any (share_frame run) d.pages) drivers
+
+-- a run has a page, lies on page boundaries below the end of pages, has frames of the machine
+-- alone, and shares none of them, nor a virtual page, with what came before it
+pub record IsPageRun (frames : List FrameRun) (earlier : List Driver) (before : List PageRun) (run : PageRun) : Type 0 where
+  pub some : 1 ≤ run.count
+  pub aligned : run.va.0 % 4096 ≡ 0
+  pub low : run.va.0 + 4096 * run.count ≤ pages_end
+  pub there : all_in frames run.frame run.count ≡ true
+  pub untaken : is_taken run earlier ≡ false
+  pub own_frames : list_any (share_frame run) before ≡ false
+  pub own_pages : list_any (share_page run) before ≡ false

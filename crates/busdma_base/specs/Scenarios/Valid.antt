@@ -1,0 +1,35 @@
+-- Which scenarios are valid: they keep every limit, and every rule on names, frames, pages and places.
+use Rattle.std.specs.Prelude.{ℕ, ◌≤◌, ◌<◌, List, [], length, sum_by}
+use Rattle.std.specs.List.{AllByRecursion}
+use Rattle.busdma_base.specs.declared.scenarios.scenario.FrameRun.{FrameRun}
+use Rattle.busdma_base.specs.declared.scenarios.scenario.Driver.{Driver}
+use Rattle.busdma_base.specs.declared.scenarios.scenario.Scenario.{Scenario}
+use Rattle.busdma_base.specs.declared.journals.journal.Actor.{Actor}
+use Rattle.busdma_base.specs.Each.{EachAfter}
+use Rattle.busdma_base.specs.Machine.FrameRuns.{IsFrameRun}
+use Rattle.busdma_base.specs.Machine.PageRuns.{IsPageRun}
+use Rattle.busdma_base.specs.Scenarios.Script.{IsScript, loaded_by, read_by}
+
+-- a driver's pages are its own, and its script is valid
+pub record IsDriver (frames : List FrameRun) (earlier : List Driver) (driver : Driver) : Type 0 where
+  pub pages : EachAfter (IsPageRun frames earlier) [] driver.pages
+  pub script : IsScript driver.script
+
+-- how many bytes the loads of drivers have, all together
+abbrev pub loaded_of : List Driver → ℕ
+loaded_of drivers = sum_by (λ d. sum_by loaded_by d.script) drivers
+
+-- how many bytes drivers and devices read, all together
+abbrev pub read_of : List Driver → ℕ
+read_of drivers = sum_by (λ d. sum_by read_by d.script) drivers
+
+pub record IsValid (s : Scenario) : Type 0 where
+  pub frames : EachAfter IsFrameRun [] s.frames
+  pub some_bpages : 1 ≤ s.max_bpages
+  pub few_bpages : s.max_bpages ≤ 8192
+  pub few_drivers : length s.drivers ≤ 16
+  pub drivers : EachAfter (IsDriver s.frames) [] s.drivers
+  pub loaded : loaded_of s.drivers ≤ 16777216
+  pub read : read_of s.drivers ≤ 1048576
+  pub short_order : length s.order ≤ 65536
+  pub order : AllByRecursion (λ (a : Actor). a.lane.0 < length s.drivers) s.order

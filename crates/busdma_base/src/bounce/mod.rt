@@ -1,0 +1,16 @@
+//! What all drivers share: bounce zones and their pages, the calls of the bounce lock, and the
+//! laws of the account of both.
+
+mod account_laws;
+mod door;
+mod hold;
+mod zone;
+
+pub use account_laws::{
+    account_is_well_formed, callbacks_keep_their_order, condition_stays, counts_add_up,
+    each_frame_in_one_place, free_frames_rise, growth_serves_nobody, no_frame_is_lost,
+    no_page_is_lent_twice, release_serves_in_order, scenario_opens, twelve_calls,
+};
+pub use door::{Called, Grabbed, HubDoor};
+pub use hold::{HoldEntry, HubCall, HubReply};
+pub use zone::{Grown, Waiter, ZoneCounts};

@@ -1,0 +1,41 @@
+//! What a step answers.
+
+ghost use Rattle.std.specs.Prelude.{◌≡◌};
+ghost use Rattle.busdma_base.specs.Journals.Reports.{is_report};
+
+use crate::bounce::Grown;
+use crate::journals::{Errno, Report};
+use crate::list::ListOf;
+use crate::machine::{Pa, Segment};
+
+/// The answer of a step.
+#[derive(Debug, Drop)]
+pub enum Answer {
+    /// It was done.
+    Done,
+    /// A tag or a map was made, or could not be, and this many pages came to its zone.
+    Grown(Grown),
+    /// A dmamem memory was made, with its first byte at this physical address.
+    Placed(Pa),
+    /// The load has these segments.
+    Segments(ListOf<Segment>),
+    /// The load waits: it has `have` of the `need` pages that it needs.
+    InProgress { have: u32, need: u32 },
+    /// A page was released, and so many maps moved to the callback list.
+    Served(u32),
+    /// These bytes were read.
+    Bytes(ListOf<u8>),
+    /// bus_dma(9) refuses it.
+    Refused(Errno),
+    /// It is outside the rules, and was not done.
+    Report(Report),
+}
+
+impl Answer {
+    /// Whether the step was outside the rules.
+    pub fn is_report(&self) -> bool
+        ensures { result ≡ is_report self.now }
+    {
+        matches!(self, Answer::Report(_))
+    }
+}

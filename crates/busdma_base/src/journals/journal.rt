@@ -1,0 +1,63 @@
+//! What a run did, step by step.
+
+use crate::bounce::ZoneCounts;
+use crate::journals::Answer;
+use crate::list::ListOf;
+use crate::machine::Pa;
+use crate::name::{LaneId, MapId};
+
+/// One of the three that act for a driver.
+#[derive(Clone, Copy, Debug, PartialEq, Eq)]
+pub enum Side {
+    /// The driver itself, along its script.
+    Script,
+    /// Its device, along the transfer queue.
+    Transfer,
+    /// The callbacks of its deferred loads.
+    Callback,
+}
+
+/// One side of one driver.
+#[derive(Clone, Copy, Debug, PartialEq, Eq)]
+pub struct Actor {
+    pub lane: LaneId,
+    pub side: Side,
+}
+
+/// What a step did.
+#[derive(Clone, Copy, Debug, PartialEq, Eq)]
+pub enum Did {
+    /// The operation at this place of the script.
+    Op(u32),
+    /// It gave back the page at this physical address, which the map held.
+    Release { map: MapId, page: Pa },
+    /// It completed the map's deferred load.
+    Callback { map: MapId },
+    /// The item at `place` in the list of the load at `load_at` of the script.
+    Item { load_at: u32, place: u32 },
+}
+
+/// One step of a run.
+#[derive(Debug, Drop)]
+pub struct JournalEntry {
+    pub actor: Actor,
+    pub did: Did,
+    pub answer: Answer,
+}
+
+/// How a run ends, where no actor can step.
+#[derive(Clone, Copy, Debug, PartialEq, Eq)]
+pub enum End {
+    /// Every script has ended.
+    Finished,
+    /// Some script has not ended.
+    Stuck,
+}
+
+/// A whole run: its steps in order, the counts of every zone after them, and its end.
+#[derive(Debug, Drop)]
+pub struct Journal {
+    pub entries: ListOf<JournalEntry>,
+    pub zones: ListOf<ZoneCounts>,
+    pub end: End,
+}

@@ -1,0 +1,11 @@
+//! The machine: addresses, runs of bytes, and pages.
+
+mod address;
+mod chunk;
+mod page;
+mod page_list;
+
+pub use address::{Extent, Pa, Segment, Span, Va};
+pub use chunk::{Chunk, Entry, Part};
+pub use page::Page;
+pub use page_list::PageList;

@@ -1,0 +1,40 @@
+//! What a scenario is.
+
+use crate::journals::Actor;
+use crate::list::ListOf;
+use crate::machine::Va;
+use crate::scenarios::Op;
+
+/// `count` frames of 4096 bytes, from the frame number `first` on.
+#[derive(Clone, Copy, Debug, PartialEq, Eq)]
+pub struct FrameRun {
+    pub first: u64,
+    pub count: u64,
+}
+
+/// `count` frames from the frame number `frame` on, at the virtual pages from `va` on.
+#[derive(Clone, Copy, Debug, PartialEq, Eq)]
+pub struct PageRun {
+    pub va: Va,
+    pub frame: u64,
+    pub count: u64,
+}
+
+/// A driver: its memory and what it does.
+#[derive(Debug, Drop)]
+pub struct Driver {
+    pub pages: ListOf<PageRun>,
+    pub script: ListOf<Op>,
+}
+
+/// A machine, its drivers, and an order of their steps.
+///
+/// A bounce zone that has a map grows no further at the making of maps once it has `max_bpages`
+/// pages. The first allocation of a tag may pass that number.
+#[derive(Debug, Drop)]
+pub struct Scenario {
+    pub frames: ListOf<FrameRun>,
+    pub max_bpages: u32,
+    pub drivers: ListOf<Driver>,
+    pub order: ListOf<Actor>,
+}

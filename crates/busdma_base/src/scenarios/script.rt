@@ -1,0 +1,180 @@
+//! Operations of drivers and items of devices.
+//!
+//! A name that an operation makes is kept as its text. A name that it uses is kept as the place in
+//! the script of the operation that made it.
+
+use crate::list::ListOf;
+use crate::machine::Va;
+use crate::name::Name;
+use crate::tags::TagLimits;
+use std::alloc::{AllocError, Global};
+
+/// Where the driver's bytes begin that an operation works on.
+#[derive(Clone, Copy, Debug, PartialEq, Eq)]
+pub enum Place {
+    /// At a virtual address.
+    At(Va),
+}
+
+/// What is written.
+#[derive(Debug, Drop)]
+pub enum Bytes {
+    /// These bytes.
+    Listed(ListOf<u8>),
+    /// One byte, `len` times.
+    Filled { byte: u8, len: u64 },
+}
+
+/// An operation of a script. Lengths and offsets are in bytes; flags and ops are sets of bits.
+#[derive(Debug, Drop)]
+pub enum Op {
+    /// Makes a tag, perhaps under a parent.
+    Tag {
+        name: Name,
+        parent: Option<u32>,
+        limits: TagLimits,
+    },
+    /// Ends a tag.
+    TagDestroy {
+        tag: u32,
+    },
+    /// Makes a map of a tag.
+    Map {
+        name: Name,
+        tag: u32,
+    },
+    /// Ends a map.
+    MapDestroy {
+        map: u32,
+    },
+    /// Loads a map with the `len` bytes at a place; its callback appends the items of `then`.
+    Load {
+        map: u32,
+        place: Place,
+        len: u64,
+        flags: u32,
+        then: ListOf<Item>,
+    },
+    /// Unloads a map.
+    Unload {
+        map: u32,
+    },
+    /// A sync of the whole load of a map.
+    Sync {
+        map: u32,
+        ops: u32,
+    },
+    /// A sync of `len` bytes of a map's load, from `off` on.
+    SyncRange {
+        map: u32,
+        off: u64,
+        len: u64,
+        ops: u32,
+    },
+    /// The driver reads `len` bytes.
+    CpuRead {
+        place: Place,
+        len: u64,
+    },
+    /// The driver writes bytes.
+    CpuWrite {
+        place: Place,
+        bytes: Bytes,
+    },
+    /// Waits for the callback and the items of a map.
+    Await {
+        map: u32,
+    },
+}
+
+/// An item of the transfer queue. Offsets and lengths are in bytes of the map's load; ops are a set
+/// of bits.
+#[derive(Debug, Drop)]
+pub enum Item {
+    /// A sync of the whole load.
+    Sync {
+        map: u32,
+        ops: u32,
+    },
+    /// A sync of `len` bytes, from `off` on.
+    SyncRange {
+        map: u32,
+        off: u64,
+        len: u64,
+        ops: u32,
+    },
+    /// The device reads `len` bytes, from `off` on.
+    DevRead {
+        map: u32,
+        off: u64,
+        len: u64,
+    },
+    /// The device writes bytes, from `off` on.
+    DevWrite {
+        map: u32,
+        off: u64,
+        bytes: Bytes,
+    },
+}
+
+impl Bytes {
+    ghost use Rattle.std.specs.Prelude.{◌≡◌, IfOk};
+    ghost use Rattle.busdma_base.specs.Scenarios.Script.{bytes_of};
+
+    /// The bytes, in order.
+    pub fn to_vec(&self, alloc: Global) -> Result<Vec<u8>, AllocError>
+        ensures { IfOk result (λ v. v.items ≡ bytes_of self.now) }
+    {
+        match self {
+            Bytes::Listed(bytes) => Vec::from_slice(alloc, bytes.as_slice()),
+            Bytes::Filled { byte, len } => vec![in alloc; *byte; *len as usize],
+        }
+    }
+}
+
+impl Clone for Bytes {
+    ghost use Rattle.std.specs.Prelude.{◌≡◌};
+
+    ghost is_clone = { λ a b. b ≡ a };
+
+    fn clone(&self) -> Result<Bytes, AllocError> {
+        match self {
+            Bytes::Listed(bytes) => Ok(Bytes::Listed(bytes.clone()?)),
+            Bytes::Filled { byte, len } => Ok(Bytes::Filled {
+                byte: *byte,
+                len: *len,
+            }),
+        }
+    }
+}
+
+impl Clone for Item {
+    ghost use Rattle.std.specs.Prelude.{◌≡◌};
+
+    ghost is_clone = { λ a b. b ≡ a };
+
+    fn clone(&self) -> Result<Item, AllocError> {
+        match self {
+            Item::Sync { map, ops } => Ok(Item::Sync {
+                map: *map,
+                ops: *ops,
+            }),
+            Item::SyncRange { map, off, len, ops } => Ok(Item::SyncRange {
+                map: *map,
+                off: *off,
+                len: *len,
+                ops: *ops,
+            }),
+            Item::DevRead { map, off, len } => Ok(Item::DevRead {
+                map: *map,
+                off: *off,
+                len: *len,
+            }),
+            Item::DevWrite { map, off, bytes } => Ok(Item::DevWrite {
+                map: *map,
+                off: *off,
+                bytes: bytes.clone()?,
+            }),
+        }
+    }
+}
