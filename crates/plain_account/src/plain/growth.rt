@@ -83,7 +83,7 @@ fn other_maps(alloc: Global, map: MapId, maps: &[MapId]) -> Result<Vec<MapId>, A
 
 impl PlainAccount {
     /// Makes a zone for the tag where none serves it, and tells the zone's number.
-    #[tactic(auto, using(busdma_base::proofs::ZoneOf::zones_for_found, busdma_base::proofs::ZoneOf::zones_for_none))]
+    #[tactic(auto, using(busdma_base::proofs::Accounts::ZoneOf::zones_for_found, busdma_base::proofs::Accounts::ZoneOf::zones_for_none))]
     fn find_zone(&mut self, alloc: Global, tag: &TagLimits) -> Result<u32, AllocError>
         ensures account { OnOk result (self.new ≡ with_zone_for tag.now self.old) }
         ensures zone { IfOk result (λ z. z ≡ zone_of tag.now self.old.zones) }
