@@ -1,5 +1,6 @@
 pub mod Counting
 pub mod Counts
+pub mod KeptZones
 pub mod Names
 pub mod Openings
 pub mod Order

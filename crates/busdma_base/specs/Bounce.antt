@@ -4,6 +4,7 @@ pub mod Conditions
 pub mod Door
 pub mod Growth
 pub mod History
+pub mod KeptZones
 pub mod MemoryRuns
 pub mod Opening
 pub mod Places
@@ -11,5 +12,5 @@ pub mod SameFor
 pub mod Serving
 pub mod ServingOrder
 pub mod Share
-pub mod WorkedExample
 pub mod WellFormed
+pub mod WorkedExample

@@ -87,7 +87,7 @@ where-zones_for : (chosen : ℕ → Bool) (t : TagLimits) (a : Account) → fram
 where-zones_for chosen t a = omega (arith, sum_by-zones_for t (λ (k : Zone). count_by chosen k.avail) refl a.zones)
 
 -- the zone of a tag is one of the zones that are made for it
-zone_of-inside : (t : TagLimits) (zs : List Zone) → zone_of t zs < length (zones_for t zs)
+pub zone_of-inside : (t : TagLimits) (zs : List Zone) → zone_of t zs < length (zones_for t zs)
 zone_of-inside t [] = omega arith
 zone_of-inside t (z ∷ zs) =
     elim (serves_tag t z) as (λ v. (if v then 0 else suc (zone_of t zs)) < length (z ∷ (if v then zs else zones_for t zs))) [

@@ -5,6 +5,7 @@ mod account_laws;
 mod door;
 mod hold;
 mod zone;
+mod zone_laws;
 
 pub use account_laws::{
     account_is_well_formed, callbacks_keep_their_order, condition_stays, counts_add_up,
@@ -14,3 +15,4 @@ pub use account_laws::{
 pub use door::{Called, Grabbed, HubDoor};
 pub use hold::{HoldEntry, HubCall, HubReply};
 pub use zone::{Grown, Waiter, ZoneCounts};
+pub use zone_laws::{zone_serves_its_tag, zones_stay};
