@@ -2,9 +2,11 @@ pub mod Account
 pub mod AccountStep
 pub mod Conditions
 pub mod Door
+pub mod EachFrame
 pub mod Growth
 pub mod History
 pub mod KeptZones
+pub mod LowPages
 pub mod MemoryRuns
 pub mod Opening
 pub mod Places

@@ -82,7 +82,7 @@ maxmem-low before [] each = omega arith
 maxmem-low before (run ∷ runs) each = grind (arith, each.0.numbered, maxmem-low (before ++ run ∷ []) runs each.1)
 
 -- the free frames rise, and lie below
-free-below : (s : Scenario) (n : ℕ) → All (λ f. f < n) (free_below s n)
+pub free-below : (s : Scenario) (n : ℕ) → All (λ f. f < n) (free_below s n)
 free-below s zero = All-nil (λ f. f < 0)
 free-below s (suc n) =
     let p : ℕ → Bool = (λ f. list_any (is_in f) s.frames && not (is_owned s.drivers f)) in

@@ -233,7 +233,7 @@ times-below p f (g ∷ gs) rising low =
     let off : weight (g == p) ≡ 0 = rw (ne_eqb g p (λ e. absurd (omega (arith, rising.0, low, e)))) refl in
     omega (arith, off, sum_by-cons (λ x. weight (x == p)) g gs, times-below p g gs rising.1 (omega (arith, rising.0, low)))
 
-tail_rises : (f : ℕ) (fs : List ℕ) → IsRising (f ∷ fs) → IsRising fs
+pub tail_rises : (f : ℕ) (fs : List ℕ) → IsRising (f ∷ fs) → IsRising fs
 tail_rises f [] rising = tt
 tail_rises f (g ∷ gs) rising = rising.1
 

@@ -34,7 +34,7 @@ cons_rises : (f : ℕ) (fs : List ℕ) → All (λ g. f < g) fs → IsRising fs 
 cons_rises f [] above rising = tt
 cons_rises f (g ∷ gs) above rising = (All-head (λ x. f < x) g gs above, rising)
 
-above_first : (f : ℕ) (fs : List ℕ) → IsRising (f ∷ fs) → All (λ g. f < g) fs
+pub above_first : (f : ℕ) (fs : List ℕ) → IsRising (f ∷ fs) → All (λ g. f < g) fs
 above_first f [] rising = All-nil (λ g. f < g)
 above_first f (g ∷ gs) rising =
     All-cons (λ x. f < x) g gs rising.0 (All-weaker (λ x. g < x) (λ x. f < x) (λ x h. omega (arith, h, rising.0)) gs (above_first g gs rising.1))
@@ -115,7 +115,7 @@ rising-placed : (m : MapId) (n : ℕ) (first : Option ℕ) (a : Account) → IsR
 rising-placed m n None a rising = rising
 rising-placed m n (Some first) a rising = filter_rises (λ f. not (in_run first n f)) a.bank rising
 
-rising-step : (lane : ℕ) (c : HubCall) (a : Account) → ((p : ℕ) → places p a ≤ 1) → IsRising a.bank → IsRising (account_step lane c a).account.bank
+pub rising-step : (lane : ℕ) (c : HubCall) (a : Account) → ((p : ℕ) → places p a ≤ 1) → IsRising a.bank → IsRising (account_step lane c a).account.bank
 rising-step lane (AttachTag t) a once rising = drop_rises _ a.bank rising
 rising-step lane (CreateMap m t first_done) a once rising = rising-created m t first_done a rising
 rising-step lane (DestroyMap m z) a once rising = rising

@@ -9,9 +9,14 @@ ghost use Rattle.busdma_base.specs.declared.bounce.zone.Grown.{Grown as GrownBy}
 ghost use Rattle.busdma_base.specs.declared.bounce.hold.HubReply.TheVariants.{Grown};
 ghost use Rattle.busdma_base.specs.Bounce.Account.{Account, zone_at};
 ghost use Rattle.busdma_base.specs.Bounce.AccountStep.{attached, created};
+ghost use Rattle.busdma_base.specs.Bounce.EachFrame.{EachFrame, LiesBelowMaxmem};
 ghost use Rattle.busdma_base.specs.Bounce.Growth.{serves_tag};
-ghost use Rattle.busdma_base.specs.Bounce.History.{account_of};
+ghost use Rattle.busdma_base.specs.Bounce.History.{IsFrame, IsOpening, IsSound, account_of};
 ghost use Rattle.busdma_base.specs.Bounce.KeptZones.{KeepsZones};
+ghost use Rattle.busdma_base.specs.Bounce.LowPages.{PagesLieLow};
+ghost use Rattle.busdma_base.specs.Bounce.Opening.{opening};
+ghost use Rattle.busdma_base.specs.Bounce.WellFormed.{IsWellFormed};
+ghost use Rattle.busdma_base.specs.declared.scenarios.scenario.Scenario.{Scenario};
 
 /// No zone goes, and its lowaddr and its alignment never change, whatever is called.
 pub fn zones_stay()
@@ -27,4 +32,21 @@ pub fn zone_serves_its_tag()
     ensures map { (m : MapId) (t : TagLimits) (first_done : Bool) (a : Account) (g : GrownBy)
         (es : List HoldEntry) → (created m t first_done a).reply ≡ Grown g →
         IsTrue (serves_tag t (zone_at (account_of (created m t first_done a).account es) g.zone.0)) }
+{}
+
+/// Each page in a zone's list, and each page of the zone that a map holds, ends at or below the
+/// zone's lowaddr.
+pub fn pages_lie_low()
+    ensures { (a : Account) (es : List HoldEntry) → IsOpening a → IsSound a es →
+        PagesLieLow (account_of a es) }
+{}
+
+/// Each frame of a scenario's opening has a number below maxmem; where that holds of an account, it
+/// holds after each sound history. Each frame that such a history leads to is a whole one.
+pub fn frames_lie_below_maxmem()
+    ensures opening { (s : Scenario) → LiesBelowMaxmem (opening s) }
+    ensures history { (a : Account) (es : List HoldEntry) → IsWellFormed a → IsSound a es →
+        LiesBelowMaxmem a → LiesBelowMaxmem (account_of a es) }
+    ensures whole { (a : Account) (es : List HoldEntry) → IsOpening a → IsSound a es →
+        EachFrame IsFrame (account_of a es) }
 {}

@@ -1,0 +1,11 @@
+use Rattle.busdma_base.proofs.Accounts.EachFrame.{below-opening, below-history, whole-history}
+use Rattle.busdma_base.proofs.bounce.zone_laws.frames_lie_below_maxmem.Goals as goal
+
+pub returns-clause-opening : goal.returns-clause-opening
+returns-clause-opening c = below-opening
+
+pub returns-clause-history : goal.returns-clause-history
+returns-clause-history c = below-history
+
+pub returns-clause-whole : goal.returns-clause-whole
+returns-clause-whole c = whole-history
