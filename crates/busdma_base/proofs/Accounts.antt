@@ -9,5 +9,6 @@ pub mod Order
 pub mod Places
 pub mod Rising
 pub mod Shares
+pub mod Waiting
 pub mod WellFormed
 pub mod ZoneOf

@@ -16,7 +16,7 @@ pub use bounce::{
     account_is_well_formed, callbacks_keep_their_order, condition_stays, counts_add_up,
     each_frame_in_one_place, frames_lie_below_maxmem, free_frames_rise, growth_serves_nobody,
     no_frame_is_lost, no_page_is_lent_twice, pages_lie_low, release_serves_in_order,
-    scenario_opens, twelve_calls, zone_serves_its_tag, zones_stay,
+    scenario_opens, twelve_calls, waiting_map_stays, zone_serves_its_tag, zones_stay,
 };
 pub use journals::{
     Actor, Answer, Did, End, Errno, Journal, JournalEntry, Judged, Report, ReportName, Side,

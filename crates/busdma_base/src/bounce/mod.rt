@@ -15,4 +15,6 @@ pub use account_laws::{
 pub use door::{Called, Grabbed, HubDoor};
 pub use hold::{HoldEntry, HubCall, HubReply};
 pub use zone::{Grown, Waiter, ZoneCounts};
-pub use zone_laws::{frames_lie_below_maxmem, pages_lie_low, zone_serves_its_tag, zones_stay};
+pub use zone_laws::{
+    frames_lie_below_maxmem, pages_lie_low, waiting_map_stays, zone_serves_its_tag, zones_stay,
+};

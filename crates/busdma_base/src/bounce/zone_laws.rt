@@ -1,7 +1,7 @@
 //! Laws of the zones and of what waits for their pages, each the contract of a function that does
 //! nothing.
 
-ghost use Rattle.std.specs.Prelude.{◌≡◌, ℕ, Bool, List, IsTrue};
+ghost use Rattle.std.specs.Prelude.{◌≡◌, ◌≢◌, ◌<◌, ℕ, Bool, List, All, Contains, IsTrue};
 ghost use Rattle.busdma_base.specs.declared.name.MapId.{MapId};
 ghost use Rattle.busdma_base.specs.declared.tags.tag.TagLimits.{TagLimits};
 ghost use Rattle.busdma_base.specs.declared.bounce.hold.HoldEntry.{HoldEntry};
@@ -15,6 +15,8 @@ ghost use Rattle.busdma_base.specs.Bounce.History.{IsFrame, IsOpening, IsSound, 
 ghost use Rattle.busdma_base.specs.Bounce.KeptZones.{KeepsZones};
 ghost use Rattle.busdma_base.specs.Bounce.LowPages.{PagesLieLow};
 ghost use Rattle.busdma_base.specs.Bounce.Opening.{opening};
+ghost use Rattle.busdma_base.specs.Bounce.ServingOrder.{called};
+ghost use Rattle.busdma_base.specs.Bounce.Share.{is_waiting, waiters};
 ghost use Rattle.busdma_base.specs.Bounce.WellFormed.{IsWellFormed};
 ghost use Rattle.busdma_base.specs.declared.scenarios.scenario.Scenario.{Scenario};
 
@@ -49,4 +51,15 @@ pub fn frames_lie_below_maxmem()
         LiesBelowMaxmem a → LiesBelowMaxmem (account_of a es) }
     ensures whole { (a : Account) (es : List HoldEntry) → IsOpening a → IsSound a es →
         EachFrame IsFrame (account_of a es) }
+{}
+
+/// A map that waits for so many pages of a zone, or stands complete in the callback list, does so
+/// until its callback, whatever is called meanwhile. Entries of other lanes leave it in any case.
+pub fn waiting_map_stays()
+    ensures until_called { (m : MapId) (z need : ℕ) (a : Account) (es : List HoldEntry) →
+        IsSound a es → (Contains (called es) m → ⊥) → 0 < waiters (is_waiting m z need) a →
+        waiters (is_waiting m z need) (account_of a es) ≡ waiters (is_waiting m z need) a }
+    ensures others { (m : MapId) (z need : ℕ) (a : Account) (es : List HoldEntry) →
+        IsSound a es → All (λ e. e.lane.0 ≢ m.lane.0) es →
+        waiters (is_waiting m z need) (account_of a es) ≡ waiters (is_waiting m z need) a }
 {}
