@@ -1,6 +1,6 @@
 //! A sink in memory.
 
-ghost use Rattle.std.specs.Prelude.{◌≡◌, ◌≤◌, ◌⊎◌, ◌++◌, [], Some, length, take};
+ghost use Rattle.std.specs.Prelude.{◌≡◌, ◌≢◌, ◌≤◌, ◌⊎◌, ◌++◌, [], Some, length, take};
 ghost use Rattle.io_edge.specs.Faults.{Rose};
 ghost use Rattle.io_edge.specs.Writing.{taken_count};
 ghost use Rattle.io_edge.specs.Calls.{no_calls};
@@ -63,6 +63,7 @@ impl Sink for MemSink {
         ensures some { result ≡ Put.Took 0 → piece.now ≡ [] }
         ensures held { self.new.held ≡ self.old.held ++ take (taken_count result) piece.now }
         ensures failed { result ≡ Put.Failed → Rose self.old.calls.faults self.new.calls.faults }
+        ensures unfailed { result ≢ Put.Failed → self.new.calls.faults ≡ self.old.calls.faults }
         ensures count { self.old.calls.faults ≤ self.new.calls.faults }
 
         // What this one does. A call that is not to fail may still find no memory.

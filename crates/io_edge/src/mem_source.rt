@@ -1,6 +1,6 @@
 //! A source in memory.
 
-ghost use Rattle.std.specs.Prelude.{◌≡◌, ◌≤◌, ◌++◌, [], Some, length, take, drop};
+ghost use Rattle.std.specs.Prelude.{◌≡◌, ◌≢◌, ◌≤◌, ◌++◌, [], Some, length, take, drop};
 ghost use Rattle.io_edge.specs.Faults.{Rose};
 ghost use Rattle.io_edge.specs.Reading.{given_count, SaysEnd};
 ghost use Rattle.io_edge.specs.Calls.{no_calls};
@@ -60,6 +60,7 @@ impl Source for MemSource {
         ensures given { self.old.left ≡ take (given_count result) buffer.new ++ self.new.left }
         ensures end { SaysEnd result (length buffer.new) → self.new.left ≡ [] }
         ensures failed { result ≡ Got.Failed → Rose self.old.calls.faults self.new.calls.faults }
+        ensures unfailed { result ≢ Got.Failed → self.new.calls.faults ≡ self.old.calls.faults }
         ensures count { self.old.calls.faults ≤ self.new.calls.faults }
 
         // What this one does.

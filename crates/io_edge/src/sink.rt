@@ -1,6 +1,6 @@
 //! Writing a whole text to a sink.
 
-ghost use Rattle.std.specs.Prelude.{◌≡◌, ℕ, ◌<◌, ◌≤◌, List, [], length, take, Option, OnOk, OnErr};
+ghost use Rattle.std.specs.Prelude.{◌≡◌, ◌≢◌, ℕ, ◌<◌, ◌≤◌, List, [], length, take, Option, OnOk, OnErr};
 ghost use Rattle.std.specs.Io.KnownBytes.{Appends};
 ghost use Rattle.io_edge.specs.Faults.{Rose};
 ghost use Rattle.io_edge.specs.Writing.{taken_count, WritesPart};
@@ -29,6 +29,7 @@ pub trait Sink {
         ensures held { Appends (held self.old) (held self.new)
             (take (taken_count result) piece.now) }
         ensures failed { result ≡ Put.Failed → Rose (faults self.old) (faults self.new) }
+        ensures unfailed { result ≢ Put.Failed → faults self.new ≡ faults self.old }
         ensures count { faults self.old ≤ faults self.new };
 }
 
@@ -42,6 +43,7 @@ pub fn write_all<K: Sink>(sink: &mut K, text: &[u8]) -> Result<(), Unwritten>
     ensures written { OnOk result (Appends (K.held sink.old) (K.held sink.new) text.now) }
     ensures unwritten { OnErr result (WritesPart text.now (K.held sink.old) (K.held sink.new)) }
     ensures failed { OnErr result (Rose (K.faults sink.old) (K.faults sink.new)) }
+    ensures unfailed { OnOk result (K.faults sink.new ≡ K.faults sink.old) }
     ensures count { K.faults sink.old ≤ K.faults sink.new }
     ensures empty { text.now ≡ [] → sink.new ≡ sink.old }
 {

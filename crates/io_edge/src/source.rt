@@ -1,6 +1,6 @@
 //! Reading a source to its end.
 
-ghost use Rattle.std.specs.Prelude.{◌≡◌, ℕ, ◌+◌, ◌≤◌, List, length, take, Option, OnErr};
+ghost use Rattle.std.specs.Prelude.{◌≡◌, ◌≢◌, ℕ, ◌+◌, ◌≤◌, List, length, take, Option, OnErr};
 ghost use Rattle.std.specs.Io.KnownBytes.{Consumes, IsAtEnd};
 ghost use Rattle.io_edge.specs.Faults.{Rose};
 ghost use Rattle.io_edge.specs.Reading.{given_count, SaysEnd, Takes, TakesAtMost, TakesAll, IfWhole};
@@ -33,6 +33,7 @@ pub trait Source {
             (take (given_count result) buffer.new) }
         ensures end { SaysEnd result (length buffer.new) → IsAtEnd (left self.new) }
         ensures failed { result ≡ Got.Failed → Rose (faults self.old) (faults self.new) }
+        ensures unfailed { result ≢ Got.Failed → faults self.new ≡ faults self.old }
         ensures count { faults self.old ≤ faults self.new };
 }
 
@@ -64,8 +65,9 @@ pub fn read_up_to<S: Source>(
     ensures too_long { result ≡ Ok Input.TooLong →
         Takes (most + 1) (S.left source.old) (S.left source.new) }
 
-    // A fault is told only where one came, and before the byte that is too many.
+    // A fault is told where one came and there alone, and before the byte that is too many.
     ensures failed { result ≡ Ok Input.Failed → Rose (S.faults source.old) (S.faults source.new) }
+    ensures unfailed { result ≢ Ok Input.Failed → S.faults source.new ≡ S.faults source.old }
     ensures taken_before { result ≡ Ok Input.Failed →
         TakesAtMost most (S.left source.old) (S.left source.new) }
     ensures count { S.faults source.old ≤ S.faults source.new }

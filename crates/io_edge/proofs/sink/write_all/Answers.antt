@@ -1,4 +1,4 @@
-use Rattle.std.proofs.Common.{rules, ◌≡◌, ℕ, ◌<◌, List, [], ap, drop, length, length-drop, refl, arith, zero, suc}
+use Rattle.std.proofs.Common.{rules, ◌≡◌, ℕ, ◌<◌, List, [], ap, ◌∙◌, drop, length, length-drop, refl, arith, zero, suc}
 use Rattle.io_edge.specs.declared.sink.Put.TheVariants.{Took}
 use Rattle.io_edge.proofs.Pieces.{appends_more}
 use Rattle.io_edge.proofs.sink.write_all.Goals as goal
@@ -21,6 +21,6 @@ loop-done-preserved g c =
     record {
       within = omega (arith, wrote.fits, length-drop done text);
       held = appends_more done n text _ _ _ c.loop-done.invariant.held (rw (← rest) wrote.held);
-      count = omega (arith, wrote.count);
+      unfailed = wrote.unfailed (λ is. absurd (cc)) ∙ c.loop-done.invariant.unfailed;
       untouched = λ none. absurd (omega arith);
     }

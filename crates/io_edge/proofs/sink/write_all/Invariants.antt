@@ -6,7 +6,7 @@ abbrev pub invariant-loop-done : goal.invariant-loop-done
 invariant-loop-done g l = record {
   within : l.done ≤ length l.text;
   held : Appends (g.K.Sink.held l.initial.sink) (g.K.Sink.held l.sink) (take l.done l.text);
-  count : g.K.Sink.faults l.initial.sink ≤ g.K.Sink.faults l.sink;
+  unfailed : g.K.Sink.faults l.sink ≡ g.K.Sink.faults l.initial.sink;
   untouched : l.done ≡ 0 → l.sink ≡ l.initial.sink;
 }
 
