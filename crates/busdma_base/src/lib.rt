@@ -22,7 +22,7 @@ pub use journals::{
     Actor, Answer, Did, End, Errno, Journal, JournalEntry, Judged, Report, ReportName, Side,
 };
 pub use list::ListOf;
-pub use machine::{Chunk, Entry, Extent, Pa, Page, PageList, Part, Segment, Span, Va};
+pub use machine::{Bio, Chunk, Entry, Extent, Mbuf, Pa, Page, PageList, Part, Segment, Span, Va};
 pub use name::{LaneId, MapId, Name, ZoneId};
 pub use room::RoomyList;
 pub use scenarios::{Bytes, Driver, FrameRun, Item, Op, PageRun, Place, Scenario};
@@ -32,6 +32,12 @@ pub use tags::TagLimits;
 pub type PaList = ListOf<Pa>;
 /// Runs of bytes, in order.
 pub type ExtentList = ListOf<Extent>;
+/// The spans of a vector, in the order of its bytes.
+pub type SpanList = ListOf<Span>;
+/// The mbufs of a chain, in the order of its bytes.
+pub type MbufList = ListOf<Mbuf>;
+/// The numbers of frames, in the order of the bytes that they hold.
+pub type FrameList = ListOf<u64>;
 /// The segments of a load, in the order of its bytes.
 pub type SegmentList = ListOf<Segment>;
 /// The chunks of a load, in the order of its bytes.
