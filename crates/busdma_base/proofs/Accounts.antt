@@ -3,6 +3,7 @@ pub mod Counts
 pub mod EachFrame
 pub mod KeptZones
 pub mod LowPages
+pub mod LaneEntries
 pub mod Names
 pub mod Openings
 pub mod Order

@@ -7,6 +7,7 @@ pub mod Growth
 pub mod History
 pub mod KeptZones
 pub mod LowPages
+pub mod LaneEntries
 pub mod MemoryRuns
 pub mod Opening
 pub mod Places

@@ -12,7 +12,7 @@ mod scenarios;
 mod tags;
 
 pub use bounce::{
-    Called, Grabbed, Grown, HoldEntry, HubCall, HubDoor, HubReply, Waiter, ZoneCounts,
+    Called, Grabbed, Grown, HoldEntry, HubCall, HubDoor, HubReply, Opening, Waiter, ZoneCounts,
     account_is_well_formed, callbacks_keep_their_order, condition_stays, counts_add_up,
     each_frame_in_one_place, frames_lie_below_maxmem, free_frames_rise, growth_serves_nobody,
     no_frame_is_lost, no_page_is_lent_twice, pages_lie_low, release_serves_in_order,

@@ -80,3 +80,7 @@ counts a bounced z = record {
   lowaddr = record { 0 = (zone_at a z).lowaddr };
   alignment = (zone_at a z).alignment;
 }
+
+-- an account with nothing in it
+abbrev pub no_account : Account
+no_account = record { bank = []; zones = []; held = []; ready = []; mems = []; maxmem = 0; max_bpages = 0 }

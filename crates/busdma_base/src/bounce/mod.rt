@@ -4,6 +4,7 @@
 mod account_laws;
 mod door;
 mod hold;
+mod opening;
 mod zone;
 mod zone_laws;
 
@@ -14,6 +15,7 @@ pub use account_laws::{
 };
 pub use door::{Called, Grabbed, HubDoor};
 pub use hold::{HoldEntry, HubCall, HubReply};
+pub use opening::Opening;
 pub use zone::{Grown, Waiter, ZoneCounts};
 pub use zone_laws::{
     frames_lie_below_maxmem, pages_lie_low, waiting_map_stays, zone_serves_its_tag, zones_stay,
