@@ -1,0 +1,17 @@
+-- Lists of numbers that do not fall.
+use Rattle.std.specs.Prelude.{ℕ, ◌+◌, ◌≤◌, Bool, true, false, nat_le, List, [], ◌∷◌}
+
+-- one, where it is wanted
+abbrev pub one_if : Bool → ℕ
+one_if true = 1
+one_if false = 0
+
+-- how many of the numbers are at most n
+abbrev pub count_le : List ℕ → ℕ → ℕ
+count_le [] n = 0
+count_le (e ∷ es) n = one_if (nat_le e n) + count_le es n
+
+-- the numbers do not fall, from lo on
+abbrev pub Climbs : ℕ → List ℕ → Type 0
+Climbs lo [] = Unit {0}
+Climbs lo (e ∷ es) = (lo ≤ e) × Climbs e es

@@ -1,0 +1,14 @@
+//! Sets of numbers, as runs.
+#![tactic(auto)]
+
+mod counts;
+mod edges;
+pub mod numbers;
+mod run_counts;
+mod run_set;
+
+pub use run_counts::RunCounts;
+pub use run_set::RunSet;
+
+#[cfg(test)]
+mod tests;

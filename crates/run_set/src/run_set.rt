@@ -1,0 +1,132 @@
+//! A set of numbers, as runs.
+
+ghost use Rattle.std.specs.Prelude.{◌≡◌, ℕ, ◌+◌, ◌≤◌, ◌<◌, [], if◌then◌else◌, length, IsOk, OnOk, OnErr};
+ghost use Rattle.run_set.specs.Edges.{member, in_run, IsFirst, IsKept};
+ghost use Rattle.run_set.specs.Numbers.{count_le};
+
+use crate::edges::{count_below, count_to, differ, is_odd, replace};
+use crate::numbers::{number_or, turn};
+use std::alloc::{AllocError, Global};
+use std::marker::Model;
+
+/// A set of numbers below 2^64 - 1, by its edges: the numbers at which membership turns, in rising
+/// order. So it is a list of runs, each from its start up to its end, apart and not touching.
+///
+/// Contracts see a number beside the edges: `room`, for how many more of them there is room.
+#[derive(Drop)]
+pub struct RunSet {
+    edges: Vec<u64>,
+}
+
+impl Model for RunSet {
+    ghost use Rattle.std.specs.Prelude.{◌-◌, length};
+    ghost use Rattle.std.specs.Vec.{vec_capacity};
+    ghost use Rattle.run_set.specs.Edges.{Edges, edges_code, IsKept};
+
+    ghost Value = { Edges };
+
+    ghost coded = { edges_code };
+
+    ghost view = { λ s. record { edges = s.edges.items; room = vec_capacity s.edges - length s.edges.items } };
+
+    ghost invariant = { λ s. IsKept s.edges.items };
+}
+
+impl RunSet {
+    /// The empty set, with room for no edge.
+    pub fn new(alloc: Global) -> RunSet
+        ensures edges { result.edges ≡ [] }
+        ensures room { result.room ≡ 0 }
+    {
+        RunSet {
+            edges: Vec::new(alloc),
+        }
+    }
+
+    /// Makes room for `edges` more edges; each change by `set` needs two. It fails only where that
+    /// room was missing, and the set stays as it was.
+    pub fn reserve(&mut self, edges: usize) -> Result<(), AllocError>
+        ensures ok { OnOk result (edges ≤ self.new.room) }
+        ensures missing { OnErr result (self.old.room < edges) }
+        ensures same { self.new.edges ≡ self.old.edges }
+        ensures room { self.old.room ≤ self.new.room }
+    {
+        self.edges.reserve(edges)
+    }
+
+    /// For how many more edges there is room.
+    pub fn room(&self) -> usize
+        ensures { result ≡ self.now.room }
+    {
+        self.edges.capacity() - self.edges.len()
+    }
+
+    /// The number of edges: two for each run.
+    pub fn edge_count(&self) -> usize
+        ensures { result ≡ length self.now.edges }
+    {
+        self.edges.len()
+    }
+
+    /// Whether a number is in the set.
+    pub fn contains(&self, n: u64) -> bool
+        ensures { result ≡ member self.now.edges n }
+    {
+        is_odd(count_to(&self.edges, n))
+    }
+
+    /// The least number of the run from `start` to `end - 1` that is in the set or, where `is_in` is
+    /// false, out of it; None where the run has no such number.
+    pub fn first(&self, start: u64, end: u64, is_in: bool) -> Option<u64>
+        ensures { IsFirst (member self.now.edges) is_in start end result }
+    {
+        if end <= start {
+            return None;
+        }
+        let count = count_to(&self.edges, start);
+        if is_odd(count) == is_in {
+            return Some(start);
+        }
+        let turn = number_or(&self.edges, count, end);
+        if turn < end { Some(turn) } else { None }
+    }
+
+    /// The number up to which all numbers from `start` on are in the set, or all are out of it; `end`
+    /// where no edge comes before it.
+    pub fn turn(&self, start: u64, end: u64) -> u64
+        requires { start < end }
+        ensures from { start < result }
+        ensures to { result ≤ end }
+        ensures same { (n : ℕ) → start ≤ n → n < result → member self.now.edges n ≡ member self.now.edges start }
+        ensures fewer { result < end → count_le self.now.edges start < count_le self.now.edges result }
+    {
+        turn(&self.edges, start, end)
+    }
+
+    /// Puts the run from `start` to `end - 1` into the set or, where `is_in` is false, takes it out.
+    pub fn set(&mut self, start: u64, end: u64, is_in: bool)
+        requires { 2 ≤ self.old.room }
+        ensures members { (n : ℕ) → member self.new.edges n
+            ≡ (if in_run start end n then is_in else member self.old.edges n) }
+        ensures kept { IsKept self.new.edges }
+        ensures edges { length self.new.edges ≤ length self.old.edges + 2 }
+        ensures room { self.old.room ≤ self.new.room + 2 }
+    {
+        let edges = &self.edges;
+        if end <= start {
+            return;
+        }
+        let first = count_below(edges, start);
+        let rest = &edges[first..];
+        let inside = count_to(rest, end);
+        let before = is_odd(first);
+        let after = differ(before, is_odd(inside));
+        replace(
+            &mut self.edges,
+            first,
+            inside,
+            (start, differ(before, is_in)),
+            (end, differ(after, is_in)),
+        );
+    }
+}
