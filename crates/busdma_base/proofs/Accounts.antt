@@ -2,8 +2,8 @@ pub mod Counting
 pub mod Counts
 pub mod EachFrame
 pub mod KeptZones
-pub mod LowPages
 pub mod LaneEntries
+pub mod LowPages
 pub mod Names
 pub mod Openings
 pub mod Order

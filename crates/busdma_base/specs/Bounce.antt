@@ -6,8 +6,8 @@ pub mod EachFrame
 pub mod Growth
 pub mod History
 pub mod KeptZones
-pub mod LowPages
 pub mod LaneEntries
+pub mod LowPages
 pub mod MemoryRuns
 pub mod Opening
 pub mod Places
