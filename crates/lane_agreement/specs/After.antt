@@ -1,0 +1,85 @@
+-- What the reply to a lane's own call makes of it. A load that gets its pages ends as `fits` says.
+use Rattle.std.specs.Prelude.{◌≡◌, ℕ, ◌+◌, ◌≤◌, Bool, List, [], ◌∷◌, map, length, IsTrue, Option, Some, None, if◌then◌else◌}
+use Rattle.busdma_base.specs.declared.machine.address.Pa.{Pa}
+use Rattle.busdma_base.specs.declared.bounce.hold.HubCall.{HubCall}
+use Rattle.busdma_base.specs.declared.bounce.hold.HubCall.TheVariants.{AttachTag, CreateMap, DestroyMap, Grab, Release, TakeCallback, MemAlloc, MemFree}
+use Rattle.busdma_base.specs.declared.bounce.hold.HubReply.{HubReply}
+use Rattle.busdma_base.specs.declared.bounce.hold.HubReply.TheVariants.{Grown, Granted, Queued, Called, Run}
+use Rattle.busdma_base.specs.Tags.Tag.{could_bounce}
+use Rattle.busdma_base.specs.Tags.TagFlags.{allocnow}
+use Rattle.busdma_base.specs.Bounce.WorkedExample.{frames_from}
+use Rattle.lane_agreement.specs.View.{View, OwnMap, Return, Idle, Waiting, Loaded, Returning, staged, gone, with_mem, ended, given_back, zone_in}
+
+abbrev pub addresses : List Pa → List ℕ
+addresses pages = map (λ p. p.0) pages
+
+abbrev pub after_grab : Bool → View → ℕ → ℕ → ℕ → HubReply → View
+after_grab fits l k z need (Granted pages) = ended fits l k z (addresses pages)
+after_grab fits l k z need (Queued have) = staged l k z (Waiting need)
+after_grab fits l k z need _ = l
+
+abbrev pub after_create : View → ℕ → HubReply → View
+after_create l k (Grown g) = if g.made then staged l k g.zone.0 Idle else l
+after_create l k _ = l
+
+abbrev pub after_callback : Bool → View → HubReply → View
+after_callback fits l (Called m pages) = ended fits l m.made_at (zone_in (l.map_at m.made_at)) (addresses pages)
+after_callback fits l _ = l
+
+abbrev pub after_mem_alloc : View → ℕ → HubReply → View
+after_mem_alloc l k (Run first count) = with_mem l k (Some (frames_from count first.0))
+after_mem_alloc l k _ = l
+
+abbrev pub after : Bool → View → HubCall → HubReply → View
+after fits l (AttachTag t) r = l
+after fits l (CreateMap m t first_done) r = after_create l m.made_at r
+after fits l (DestroyMap m z) r = gone l m.made_at
+after fits l (Grab m z need nowait) r = after_grab fits l m.made_at z.0 need r
+after fits l (Release m z page) r = given_back l l.returns
+after fits l TakeCallback r = after_callback fits l r
+after fits l (MemAlloc m t) r = after_mem_alloc l m.made_at r
+after fits l (MemFree m) r = with_mem l m.made_at None
+
+-- the head of a return queue is this page
+abbrev pub IsFront : List Return → ℕ → ℕ → ℕ → Type 0
+IsFront [] k z page = ⊥
+IsFront (r ∷ rs) k z page = (r.map ≡ k) × (r.zone ≡ z) × (r.page ≡ page)
+
+-- what a lane's own state says before it makes a call
+abbrev pub Asks : View → HubCall → Type 0
+Asks l (AttachTag t) = IsTrue (could_bounce t l.maxmem) × IsTrue (allocnow t.flags)
+Asks l (CreateMap m t first_done) = (m.lane.0 ≡ l.id) × IsTrue (could_bounce t l.maxmem) × (l.map_at m.made_at ≡ None)
+Asks l (DestroyMap m z) = (m.lane.0 ≡ l.id) × (l.map_at m.made_at ≡ Some (record { zone = z.0; stage = Idle }))
+Asks l (Grab m z need nowait) = (m.lane.0 ≡ l.id) × (1 ≤ need) × (l.map_at m.made_at ≡ Some (record { zone = z.0; stage = Idle }))
+Asks l (Release m z page) = (m.lane.0 ≡ l.id) × IsFront l.returns m.made_at z.0 page.0
+Asks l TakeCallback = Unit {0}
+Asks l (MemAlloc m t) = (m.lane.0 ≡ l.id) × (l.mem_at m.made_at ≡ None)
+Asks l (MemFree m) = (m.lane.0 ≡ l.id) × (fs : List ℕ) × (l.mem_at m.made_at ≡ Some fs)
+
+-- a lane that has no map, no memory and no page to give back
+pub record IsFresh (l : View) : Type 0 where
+  pub maps : (k : ℕ) → l.map_at k ≡ None
+  pub mems : (k : ℕ) → l.mem_at k ≡ None
+  pub returns : l.returns ≡ []
+
+-- what one map adds to what is left: a Waiting load of so many items counts 1, its items and its need, a Loaded one its pages
+abbrev pub left_at : ℕ → Option OwnMap → ℕ
+left_at items None = 0
+left_at items (Some m) = (elim m.stage [ Idle ↦ 0 | Waiting need ↦ 1 + items + need | Loaded ps ↦ length ps | Returning ↦ 0 ])
+
+-- with the return queue
+abbrev pub left_of : ℕ → View → ℕ → ℕ
+left_of items l k = left_at items (l.map_at k) + length l.returns
+
+-- the items that a load brings to the transfer queue
+abbrev pub brought : Bool → ℕ → ℕ
+brought fits items = if fits then items else 0
+
+-- the same lane, looked up place by place
+pub record IsLike (l k : View) : Type 0 where
+  pub id : k.id ≡ l.id
+  pub maxmem : k.maxmem ≡ l.maxmem
+  pub maps : (j : ℕ) → k.map_at j ≡ l.map_at j
+  pub mems : (j : ℕ) → k.mem_at j ≡ l.mem_at j
+  pub returns : k.returns ≡ l.returns
+  pub own_frame : (f : ℕ) → k.own_frame f ≡ l.own_frame f

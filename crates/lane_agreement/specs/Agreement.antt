@@ -1,0 +1,29 @@
+-- When a lane and an account agree.
+use Rattle.std.specs.Prelude.{◌≡◌, ℕ, ◌%◌, ◌≤◌, true, false, not, ◌==◌}
+use Rattle.std.specs.List.{count_by}
+use Rattle.busdma_base.specs.declared.name.MapId.{MapId}
+use Rattle.busdma_base.specs.Bounce.Account.{Account}
+use Rattle.busdma_base.specs.Bounce.Places.{places, frames_where}
+use Rattle.busdma_base.specs.Bounce.WellFormed.{IsWellFormed}
+use Rattle.busdma_base.specs.Bounce.History.{IsRising}
+use Rattle.lane_agreement.specs.View.{View, is_returning, returning, is_astray, zone_in}
+use Rattle.busdma_base.specs.Bounce.Share.{Same, share}
+use Rattle.lane_agreement.specs.OwnShare.{own_share}
+
+-- of each name of the lane the account has what the lane has of it
+abbrev pub ShareNames : View → Account → Type 0
+ShareNames l a = (m : MapId) → m.lane.0 ≡ l.id → Same (own_share l m.made_at) (share m a)
+
+pub record Agrees (l : View) (a : Account) : Type 0 where
+  pub apart : (f : ℕ) → l.own_frame f ≡ true → places f a ≡ 0
+  pub one : (f : ℕ) → places f a ≤ 1
+  pub maxmem : l.maxmem ≡ a.maxmem
+  pub names : ShareNames l a
+  pub returns : (k : ℕ) → is_returning (l.map_at k) ≡ false → returning k l.returns ≡ 0
+  pub zones : (k : ℕ) → count_by (is_astray k (zone_in (l.map_at k))) l.returns ≡ 0
+
+-- what holds of every account that a sound history of an opening leads to, whatever the lanes
+pub record IsFit (a : Account) : Type 0 where
+  pub well : IsWellFormed a
+  pub rising : IsRising a.bank
+  pub whole : frames_where (λ f. not (f % 4096 == 0)) a ≡ 0

@@ -1,0 +1,4 @@
+pub mod After
+pub mod Agreement
+pub mod OwnShare
+pub mod View

@@ -1,0 +1,84 @@
+//! How what a driver has and what all drivers share agree, name by name, in numbers. Each law is the
+//! contract of a function that does nothing.
+#![tactic(auto)]
+
+ghost use Rattle.std.specs.Prelude.{◌≡◌, ◌≢◌, ◌+◌, ◌≤◌, ℕ, Bool, true, List, [], ◌∷◌, Option, Some, None, All, IsTrue, length};
+ghost use Rattle.busdma_base.specs.declared.machine.address.Pa.{Pa};
+ghost use Rattle.busdma_base.specs.declared.name.MapId.{MapId};
+ghost use Rattle.busdma_base.specs.declared.bounce.hold.HubCall.{HubCall};
+ghost use Rattle.busdma_base.specs.declared.bounce.hold.HubReply.TheVariants.{Granted, Called};
+ghost use Rattle.busdma_base.specs.declared.bounce.hold.HoldEntry.{HoldEntry};
+ghost use Rattle.busdma_base.specs.Bounce.Account.{Account};
+ghost use Rattle.busdma_base.specs.Bounce.AccountStep.{account_step, grabbed, called_from};
+ghost use Rattle.busdma_base.specs.Bounce.Conditions.{MayCall};
+ghost use Rattle.busdma_base.specs.Bounce.History.{IsOpening, IsSound, account_of};
+ghost use Rattle.busdma_base.specs.Bounce.Places.{times};
+ghost use Rattle.busdma_base.specs.Bounce.WellFormed.{IsWellFormed};
+ghost use Rattle.lane_agreement.specs.View.{View, Return, Idle, Waiting, Loaded, staged, unloaded, given_back};
+ghost use Rattle.busdma_base.specs.Bounce.Door.{Seen, account, Passes, Holds};
+ghost use Rattle.busdma_base.specs.declared.bounce.hold.HubReply.{HubReply};
+ghost use Rattle.lane_agreement.specs.Agreement.{Agrees, IsFit};
+ghost use Rattle.lane_agreement.specs.After.{after, after_callback, Asks, IsFresh, IsLike, left_of, brought};
+
+/// A lane that has nothing agrees with an opening that has none of its driver's frames.
+pub fn opening_agrees()
+    ensures { (l : View) (a : Account) → IsFresh l → IsOpening a → l.maxmem ≡ a.maxmem →
+        ((f : ℕ) → l.own_frame f ≡ true → times f a.bank ≡ 0) → Agrees l a }
+{}
+
+/// Sound entries of other lanes keep the agreement.
+pub fn agreement_stays()
+    ensures { (l : View) (a : Account) (es : List HoldEntry) → IsWellFormed a → Agrees l a → IsSound a es →
+        All (λ e. e.lane.0 ≢ l.id) es → Agrees l (account_of a es) }
+{}
+
+/// Over a door that serves the lane, what comes between keeps the agreement, and a call leads to it.
+pub fn doors_keep_agreement()
+    ensures passes { (l : View) (d : Seen) (others : List HoldEntry) (e : Seen) → Agrees l (account d) →
+        IsTrue (d.serves l.id) → Passes d others e → Agrees l (account e) }
+    ensures holds { (fits : Bool) (l : View) (d : Seen) (c : HubCall) (r : HubReply) (e : Seen) → Agrees l (account d) →
+        IsTrue (d.serves l.id) → Holds d l.id c r e → Asks l c → Agrees (after fits l c r) (account e) }
+{}
+
+/// A lane that agrees with the account may make each call that its own state allows.
+pub fn agreement_allows()
+    ensures { (l : View) (a : Account) (c : HubCall) → Agrees l a → Asks l c → MayCall l.id c a }
+{}
+
+/// After a call of the lane, the lane that the account's reply makes of it agrees with the new account.
+pub fn agreement_follows()
+    ensures step { (fits : Bool) (l : View) (c : HubCall) (a : Account) → IsFit a → Agrees l a → Asks l c →
+        Agrees (after fits l c (account_step l.id c a).reply) (account_step l.id c a).account }
+    ensures unload { (l : View) (k z : ℕ) (pages : List ℕ) (a : Account) → Agrees l a →
+        l.map_at k ≡ Some (record { zone = z; stage = Loaded pages }) → Agrees (unloaded l k z pages) a }
+    ensures no_page { (l : View) (k z : ℕ) (a : Account) → Agrees l a →
+        l.map_at k ≡ Some (record { zone = z; stage = Idle }) → Agrees (staged l k z (Loaded [])) a }
+{}
+
+/// A sound history leads to an account that fits.
+pub fn history_fits()
+    ensures { (a : Account) (es : List HoldEntry) → IsOpening a → IsSound a es → IsFit (account_of a es) }
+{}
+
+/// A load gets as many pages as it needs.
+pub fn loads_get_their_need()
+    ensures granted { (m : MapId) (z need : ℕ) (nowait : Bool) (a : Account) (pages : List Pa) →
+        (grabbed m z need nowait a).reply ≡ Granted pages → length pages ≡ need }
+    ensures called { (l : View) (a : Account) (m : MapId) (pages : List Pa) → IsWellFormed a → Agrees l a →
+        (called_from a.ready l.id a).reply ≡ Called m pages →
+        (need : ℕ) × (m.lane.0 ≡ l.id) × (z : ℕ) × (l.map_at m.made_at ≡ Some (record { zone = z; stage = Waiting need })) × (length pages ≡ need) }
+{}
+
+/// A callback lowers what is left of its map, and so does the return of a page.
+pub fn left_falls()
+    ensures callback { (fits : Bool) (l : View) (a : Account) (m : MapId) (pages : List Pa) (items : ℕ) → IsWellFormed a → Agrees l a →
+        (called_from a.ready l.id a).reply ≡ Called m pages →
+        left_of items (after_callback fits l (Called m pages)) m.made_at + brought fits items + 1 ≤ left_of items l m.made_at }
+    ensures back { (l : View) (r : Return) (rs : List Return) (items : ℕ) → l.returns ≡ r ∷ rs →
+        left_of items (given_back l (r ∷ rs)) r.map + 1 ≤ left_of items l r.map }
+{}
+
+/// Lanes that are alike agree with the same accounts.
+pub fn alike_lanes_agree()
+    ensures { (l k : View) (a : Account) → IsLike l k → Agrees l a → Agrees k a }
+{}
