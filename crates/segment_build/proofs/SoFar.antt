@@ -9,23 +9,23 @@ use Rattle.busdma_base.specs.Tags.TagFlags.{keep_pg_offset}
 use Rattle.segment_build.specs.Building.{IsSoFar, placed_pieces, tag_placed}
 use Rattle.segment_build.specs.Chunks.{bounced_of, need_of}
 use Rattle.segment_build.specs.Joining.{added_all}
-use Rattle.segment_build.specs.Segmentation.{IsSegmentation}
+use Rattle.segment_build.specs.Segmentation.{IsSegmentation, segmentation}
 use Rattle.segment_build.proofs.Counting.{bounced_append, need_append, pieces_append, placed_need}
-use Rattle.segment_build.proofs.Cuts.{added_all_longer, cut, cut_all, cut_is, cut_shorter, one_segmentation}
+use Rattle.segment_build.proofs.Cuts.{added_all_longer, cut_all, cut_is, cut_shorter, one_segmentation}
 
 -- so many chunks are in their pages
 pub used_pages : (t : TagLimits) (pages : List Pa) (cs : List Chunk) (segs : List Segment) (bounced : List Chunk) → IsSoFar t pages cs segs bounced true → length bounced ≡ need_of cs
 used_pages t pages cs segs bounced h = ap length (h.bounced_are refl) ∙ placed_need (keep_pg_offset t.flags) cs pages
 
 -- the segments with the pieces of a chunk more
-pub segments_more : (t : TagLimits) (pages : List Pa) (cs : List Chunk) (segs : List Segment) (bounced : List Chunk) (c : Chunk) → IsSoFar t pages cs segs bounced true → added_all t segs (placed_pieces t (c ∷ []) (drop (length bounced) pages)) ≡ cut t (placed_pieces t (cs ++ c ∷ []) pages)
+pub segments_more : (t : TagLimits) (pages : List Pa) (cs : List Chunk) (segs : List Segment) (bounced : List Chunk) (c : Chunk) → IsSoFar t pages cs segs bounced true → added_all t segs (placed_pieces t (c ∷ []) (drop (length bounced) pages)) ≡ segmentation t (placed_pieces t (cs ++ c ∷ []) pages)
 segments_more t pages cs segs bounced c h =
     let few = h.segments_are refl in
     let own = placed_pieces t (c ∷ []) (drop (need_of cs) pages) in
     ap (λ k. added_all t segs (placed_pieces t (c ∷ []) (drop k pages))) (used_pages t pages cs segs bounced h)
     ∙ (ap (λ xs. added_all t xs own) (one_segmentation t segs (placed_pieces t cs pages) few.0)
     ∙ (sym (cut_all t (placed_pieces t cs pages) own)
-    ∙ ap (λ xs. cut t xs) (sym (pieces_append t cs (c ∷ []) pages))))
+    ∙ ap (λ xs. segmentation t xs) (sym (pieces_append t cs (c ∷ []) pages))))
 
 pub more_few : (t : TagLimits) (pages : List Pa) (cs : List Chunk) (segs next : List Segment) (bounced later : List Chunk) (c : Chunk) → IsSoFar t pages cs segs bounced true → next ≡ added_all t segs (placed_pieces t (c ∷ []) (drop (length bounced) pages)) → length next ≤ t.nsegments → later ≡ bounced ++ bounced_of (tag_placed t (c ∷ []) (drop (length bounced) pages)) → IsSoFar t pages (cs ++ c ∷ []) next later true
 more_few t pages cs segs next bounced later c h e l f =
@@ -44,15 +44,15 @@ more_many t pages cs segs next bounced later c h l =
       segments_are = λ x. absurd cc;
       bounced_are = λ x. absurd cc;
       too_many = λ _. record {
-        segments = cut t (placed_pieces t (cs ++ c ∷ []) pages);
+        segments = segmentation t (placed_pieces t (cs ++ c ∷ []) pages);
         are = cut_is t (placed_pieces t (cs ++ c ∷ []) pages);
         many = omega (arith, l, ap length (segments_more t pages cs segs bounced c h));
       };
     }
 
 -- the segments of a front are no more than those of the whole
-pub cut_longer : (t : TagLimits) (xs ys : List Segment) → length (cut t xs) ≤ length (cut t (xs ++ ys))
-cut_longer t xs ys = omega (arith, ap length (cut_all t xs ys), added_all_longer t (cut t xs) ys)
+pub cut_longer : (t : TagLimits) (xs ys : List Segment) → length (segmentation t xs) ≤ length (segmentation t (xs ++ ys))
+cut_longer t xs ys = omega (arith, ap length (cut_all t xs ys), added_all_longer t (segmentation t xs) ys)
 
 pub still_many : (t : TagLimits) (pages : List Pa) (cs more : List Chunk) (segs next : List Segment) (bounced later : List Chunk) → IsSoFar t pages cs segs bounced false → IsSoFar t pages (cs ++ more) next later false
 still_many t pages cs more segs next bounced later h =
@@ -63,9 +63,9 @@ still_many t pages cs more segs next bounced later h =
       segments_are = λ x. absurd cc;
       bounced_are = λ x. absurd cc;
       too_many = λ _. record {
-        segments = cut t (placed_pieces t (cs ++ more) pages);
+        segments = segmentation t (placed_pieces t (cs ++ more) pages);
         are = cut_is t (placed_pieces t (cs ++ more) pages);
-        many = omega (arith, many.many, ap length (one_segmentation t many.segments here many.are), cut_longer t here own, ap (λ xs. length (cut t xs)) (pieces_append t cs more pages));
+        many = omega (arith, many.many, ap length (one_segmentation t many.segments here many.are), cut_longer t here own, ap (λ xs. length (segmentation t xs)) (pieces_append t cs more pages));
       };
     }
 

@@ -1,5 +1,5 @@
 -- The segments that pieces join to: runs of pieces, each as long as it may be.
-use Rattle.std.specs.Prelude.{◌≡◌, ℕ, ◌+◌, ◌/◌, ◌==◌, Bool, true, false, ◌&&◌, ◌||◌, nat_le, List, [], ◌∷◌, map}
+use Rattle.std.specs.Prelude.{◌≡◌, ℕ, ◌+◌, ◌/◌, ◌==◌, Bool, true, false, ◌&&◌, ◌||◌, nat_le, if◌then◌else◌, List, [], ◌∷◌, map}
 use Rattle.std.specs.List.{flat_map}
 use Rattle.busdma_base.specs.declared.machine.address.Segment.{Segment}
 use Rattle.busdma_base.specs.declared.tags.tag.TagLimits.{TagLimits}
@@ -61,6 +61,17 @@ pub record IsSegmentation (t : TagLimits) (segments pieces : List Segment) : Typ
 pub record IsOnlySegmentation (t : TagLimits) (segments pieces : List Segment) : Type 0 where
   pub is : IsSegmentation t segments pieces
   pub only : (others : List Segment) → IsSegmentation t others pieces → others ≡ segments
+
+-- the segments of s and of the pieces behind it, joined from the front
+abbrev pub segments_from : TagLimits → Segment → List Segment → List Segment
+segments_from t s [] = s ∷ []
+segments_from t s (p ∷ ps) =
+    if may_join t s p then segments_from t (joint s p) ps else s ∷ segments_from t p ps
+
+-- the one segmentation of pieces
+abbrev pub segmentation : TagLimits → List Segment → List Segment
+segmentation t [] = []
+segmentation t (p ∷ ps) = segments_from t p ps
 
 -- the bus addresses of the bytes of segments, in order
 abbrev pub segment_bytes : List Segment → List ℕ

@@ -1,8 +1,7 @@
 //! Laws of loads. Each is the contract of a function that does nothing.
 
-ghost use Rattle.std.specs.Prelude.{◌≡◌, ◌*◌, ◌<◌, [], length, List};
+ghost use Rattle.std.specs.Prelude.{◌≡◌, ◌*◌, ◌<◌, [], length};
 ghost use Rattle.std.specs.List.{AllByRecursion, flat_map, sum_by};
-ghost use Rattle.busdma_base.specs.declared.machine.address.Segment.{Segment};
 ghost use Rattle.busdma_base.specs.Each.{EachAfter};
 ghost use Rattle.busdma_base.specs.Machine.Entry.{IsEntry, entry_addresses};
 ghost use Rattle.busdma_base.specs.Runs.{addresses};
@@ -11,9 +10,9 @@ ghost use Rattle.segment_build.specs.Built.{IsFew};
 ghost use Rattle.segment_build.specs.Chunks.{chunks_of};
 ghost use Rattle.segment_build.specs.Obeying.{IsReachable, Obeys};
 ghost use Rattle.segment_build.specs.Pieces.{chunk_pieces};
-ghost use Rattle.segment_build.specs.Segmentation.{IsOnlySegmentation, segment_bytes};
+ghost use Rattle.segment_build.specs.Segmentation.{IsOnlySegmentation, segment_bytes, segmentation};
 ghost use Rattle.segment_build.specs.Streams.{FrontsAskNoMore};
-ghost use Rattle.segment_build.specs.Trace.{IsPage, IsPlaced, RisesByOne, bus_trace, chunk_extents, chunk_len};
+ghost use Rattle.segment_build.specs.Trace.{IsPage, IsPlaced, RisesByOne, bus_trace, chunk_extents, chunk_len, trace};
 
 use busdma_base::{Chunk, Entry, Pa, Segment};
 use dma_tag::Tag;
@@ -51,12 +50,23 @@ pub fn fronts_ask_no_more(tag: &Tag, maxmem: u64, pages: &[Pa])
     let _ = tag.limits();
 }
 
-/// Where the bus addresses of each chunk rise by one, the chunks have one segmentation, and its
-/// bytes are their trace.
+/// The pieces of chunks have one segmentation. Where the bus addresses of each chunk rise by one,
+/// its bytes are their bus addresses, in order.
 pub fn one_segmentation(tag: &Tag, chunks: &[Chunk])
     requires rising { AllByRecursion RisesByOne chunks.now }
-    ensures { (segments : List Segment) × IsOnlySegmentation tag.now segments (chunk_pieces tag.now chunks.now)
-        × (segment_bytes segments ≡ bus_trace chunks.now) }
+    ensures only { IsOnlySegmentation tag.now (segmentation tag.now (chunk_pieces tag.now chunks.now))
+        (chunk_pieces tag.now chunks.now) }
+    ensures bytes { segment_bytes (segmentation tag.now (chunk_pieces tag.now chunks.now)) ≡ bus_trace chunks.now }
+{
+    let _ = tag.limits();
+}
+
+/// The bytes of the segments of a load are its trace, whatever the pages of its bounced chunks.
+pub fn segments_are_the_trace(tag: &Tag, maxmem: u64, entries: &[Entry], pages: &[Pa])
+    requires entries { AllByRecursion IsEntry entries.now }
+    requires pages { AllByRecursion IsPage pages.now }
+    ensures { segment_bytes (segmentation tag.now (placed_pieces tag.now (chunks_of tag.now maxmem entries.now) pages.now))
+        ≡ trace tag.now (chunks_of tag.now maxmem entries.now) pages.now }
 {
     let _ = tag.limits();
 }

@@ -16,7 +16,8 @@ mod tests;
 pub use built::{Built, build, chunk_pieces};
 pub use chunk::{chunks, need, place};
 pub use laws::{
-    chunks_cover, fronts_ask_no_more, one_segmentation, pieces_in_any_pages, segments_obey,
+    chunks_cover, fronts_ask_no_more, one_segmentation, pieces_in_any_pages,
+    segments_are_the_trace, segments_obey,
 };
 pub use measured::{Measured, measure};
 pub use streamed::{Streamed, build_from, build_into};

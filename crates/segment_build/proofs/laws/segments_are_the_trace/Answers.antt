@@ -1,0 +1,19 @@
+use Rattle.std.proofs.Common.{◌∙◌}
+use Rattle.segment_build.specs.Building.{placed_pieces, tag_placed}
+use Rattle.segment_build.specs.Chunks.{chunks_of}
+use Rattle.segment_build.specs.Segmentation.{segmentation}
+use Rattle.segment_build.proofs.Bytes.{all_rise, pieces_bytes, segmentation_bytes}
+use Rattle.segment_build.proofs.Cuts.{cut_is}
+use Rattle.segment_build.proofs.Sound.{chunks_sound, placed_are}
+use Rattle.segment_build.proofs.laws.segments_are_the_trace.Goals as goal
+
+pub returns : goal.returns
+returns c =
+    let t = c.args.tag.now in
+    let pages = c.args.pages.now in
+    let chunks = chunks_of t c.args.maxmem c.args.entries.now in
+    let pieces = placed_pieces t chunks pages in
+    let eff = c.limits.ensures.effective in
+    let sound = chunks_sound t c.args.maxmem c.args.entries.now eff c.requires.entries in
+    segmentation_bytes t (segmentation t pieces) pieces (cut_is t pieces)
+    ∙ pieces_bytes t (tag_placed t chunks pages) eff.maxsegsz (all_rise (tag_placed t chunks pages) (placed_are t chunks pages sound c.requires.pages))
