@@ -4,3 +4,4 @@ pub mod Page
 pub mod PageList
 pub mod PageRuns
 pub mod Spans
+pub mod Wire

@@ -8,7 +8,7 @@ use Rattle.loan_table.specs.Loans.{loan_of, in_any_way}
 use Rattle.lane_core.specs.Centre.{IsAt, IsPlacedAt, IsExclusive, ArePlaced, IsFaithful}
 use Rattle.busdma_base.specs.declared.journals.report.ReportName.TheVariants.{Absent, NotLoaded, PastEnd}
 use Rattle.lane_core.specs.Lane.{LaneState, Outcome, refused, unless_refused, unless_unloaded, unless_past, has_map, is_loaded, load_length}
-use Rattle.lane_core.specs.Wire.{Wire, Traces, Placed}
+use Rattle.busdma_base.specs.Machine.Wire.{Wire, Traces, Placed}
 use Rattle.lane_core.specs.WireStep.{if_done}
 use Rattle.lane_core.proofs.Positions.{Twin, twin_of, found_one}
 

@@ -17,7 +17,7 @@ use Rattle.lane_core.specs.Accesses.{values, load_bytes}
 use Rattle.lane_core.specs.Centre.{IsAt, IsPlacedAt, IsFaithful}
 use Rattle.lane_core.specs.IdealMemory.{Known, is_known, value, written}
 use Rattle.lane_core.specs.Lane.{LaneState, Outcome, gives, refused, has_map, is_loaded, load_length, unless_refused, unless_unloaded, unless_past, reached, unreached, bytes_at, virtual}
-use Rattle.lane_core.specs.Wire.{Wire, Traces, Placed, buffers, buses, stretch, put}
+use Rattle.busdma_base.specs.Machine.Wire.{Wire, Traces, Placed, buffers, buses, stretch, put}
 use Rattle.lane_core.specs.WireStep.{Reads}
 use Rattle.lane_core.specs.Laws.{CpuReadIsFaithful, DevReadIsFaithful, CpuWriteStaysFaithful, DevWriteStaysFaithful}
 use Rattle.lane_core.proofs.Copies.{known_value, eqb_alike, both_written, written_known, same_values, same_reads, same_range, map_own}

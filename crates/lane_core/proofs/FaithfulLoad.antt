@@ -18,7 +18,7 @@ use Rattle.busdma_base.specs.declared.journals.report.Errno.TheVariants.{EINVAL}
 use Rattle.busdma_base.specs.declared.journals.answer.Answer.TheVariants.{Done, Segments, Report}
 use Rattle.busdma_base.specs.declared.journals.answer.Answer.TheVariants.{Refused as errno}
 use Rattle.lane_core.specs.Lane.{LaneState, Outcome, gives, refused, unless_refused, has_map, is_loaded, reached, bytes_at}
-use Rattle.lane_core.specs.Wire.{Wire, Traces, Placed}
+use Rattle.busdma_base.specs.Machine.Wire.{Wire, Traces, Placed}
 use Rattle.lane_core.specs.Laws.{LoadStaysFaithful, UnloadStaysFaithful}
 use Rattle.lane_core.specs.Maps.{load, unload, loaded, tried, greatest_load, one_segment}
 use Rattle.lane_core.proofs.Faithful.{written_any, read_any}

@@ -14,7 +14,7 @@ use Rattle.lane_core.specs.Centre.{IsAt}
 use Rattle.lane_core.specs.Ideal.{ideal, wire_of}
 use Rattle.lane_core.specs.IdealMemory.{Known, Unknown}
 use Rattle.lane_core.specs.Opening.{is_own, is_in_run, physical_in}
-use Rattle.lane_core.specs.Wire.{Placed}
+use Rattle.busdma_base.specs.Machine.Wire.{Placed}
 use Rattle.lane_core.specs.Laws.{OpeningIsFaithful, LaneAgrees}
 use Rattle.lane_core.proofs.Copies.{one_value}
 use Rattle.lane_core.proofs.Positions.{found_one}

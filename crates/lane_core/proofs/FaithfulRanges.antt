@@ -14,7 +14,8 @@ use Rattle.busdma_base.specs.declared.journals.answer.Answer.TheVariants.{Done}
 use Rattle.lane_core.specs.Lane.{LaneState, gives, refused, unless_refused, unless_past, load_length}
 use Rattle.lane_core.specs.Syncs.{sync_part}
 use Rattle.lane_core.specs.Laws.{SyncStaysFaithful, SyncRangeStaysFaithful}
-use Rattle.lane_core.specs.Wire.{Wire, Traces, stretch, copied_by}
+use Rattle.busdma_base.specs.Machine.Wire.{Wire, Traces, stretch}
+use Rattle.lane_core.specs.Wire.{copied_by}
 use Rattle.lane_core.proofs.Faithful.{Stays, unloaded_stays, past_stays, if_stays, refused_stays}
 use Rattle.lane_core.proofs.FaithfulSync.{faithful_before_work, faithful_after_work}
 use Rattle.lane_core.proofs.SyncedPositions.{after}

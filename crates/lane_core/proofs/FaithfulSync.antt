@@ -14,7 +14,8 @@ use Rattle.loan_table.proofs.Marking.{same_bytes, addresses_of-marked_range}
 use Rattle.lane_core.specs.Centre.{IsAt, IsPlacedAt, Agrees, IsExclusive, ArePlaced, IsFaithful}
 use Rattle.lane_core.specs.IdealMemory.{IdealMemory, Known, forgotten}
 use Rattle.lane_core.specs.Lane.{LaneState}
-use Rattle.lane_core.specs.Wire.{Wire, Traces, Placed, is_bounced, stretch, copied_by, copied_in, copied_out}
+use Rattle.busdma_base.specs.Machine.Wire.{Wire, Traces, Placed, is_bounced, stretch, copied_in, copied_out}
+use Rattle.lane_core.specs.Wire.{copied_by}
 use Rattle.lane_core.proofs.Copies.{Source, copied, stayed, source_of}
 use Rattle.lane_core.proofs.Faithful.{written_any, read_any, place_of, position_of, same_pa, one_position, own_bus, bus_of_one, same_lender}
 use Rattle.lane_core.proofs.Lent.{Lender, lender_of, lent_by, lent_by_another, standing_twice}

@@ -34,7 +34,7 @@ use Rattle.lane_core.specs.Lane.{LaneState, Outcome, gives, refused, unless_refu
 use Rattle.lane_core.specs.Laws.{TurnStaysFaithful}
 use Rattle.lane_core.specs.Step as step
 use Rattle.lane_core.specs.Tags.{tag_or_invalid, tag_below, has_maps}
-use Rattle.lane_core.specs.Wire.{Wire, Traces}
+use Rattle.busdma_base.specs.Machine.Wire.{Wire, Traces}
 use Rattle.lane_core.specs.WireStep as wire
 use Rattle.lane_core.proofs.FaithfulAccess.{cpu_writes, dev_writes}
 use Rattle.lane_core.proofs.FaithfulLoad.{Stays, nothing_stays, cond_stays, judged_stays, again, loads, unloads}

@@ -7,7 +7,7 @@ use Rattle.std.specs.FinMap.{FinMap, get, insert, get-insert, contains_key}
 use Rattle.std.proofs.lemmas.Map.Views.{exact_unsigned_eq}
 use Rattle.loan_table.specs.Table.{AreIn, set_all}
 use Rattle.lane_core.specs.IdealMemory.{IdealMemory, Known, Unknown, forgotten, written, written_at}
-use Rattle.lane_core.specs.Wire.{put}
+use Rattle.busdma_base.specs.Machine.Wire.{put}
 
 -- the ideal memory of marks and of a byte at each address
 abbrev pub shown : FinMap nat_cmp Bool → (ℕ → ℕ) → IdealMemory

@@ -11,7 +11,7 @@ use Rattle.loan_table.specs.Lending.{sync_answer, synced, lost}
 use Rattle.loan_table.specs.Loans.{Loans}
 use Rattle.loan_table.specs.Table.{Table, AreIn, IsSame, IsSynced, OnFine, OnRefused, set_all}
 use Rattle.lane_core.specs.Covered.{IsCovered, SamePages}
-use Rattle.lane_core.specs.Wire.{put}
+use Rattle.busdma_base.specs.Machine.Wire.{put}
 use Rattle.std.proofs.Common.{◌+◌, ◌≤◌, drop, arith, length-take, length-drop}
 use Rattle.std.proofs.lemmas.List.{length-map}
 use Rattle.busdma_base.specs.declared.journals.answer.Answer.TheVariants.{Bytes}

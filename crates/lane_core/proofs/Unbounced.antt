@@ -19,7 +19,8 @@ use Rattle.lane_core.specs.Accesses.{load_bytes, values}
 use Rattle.lane_core.specs.Calls as calls
 use Rattle.lane_core.specs.IdealMemory.{Known, Unknown, is_known, value}
 use Rattle.lane_core.specs.Lane.{LaneState, gives, refused, reached, bytes_at, unless_refused, unless_past}
-use Rattle.lane_core.specs.Wire.{Wire, Placed, is_bounced, buffers, buses, stretch, put, copied_by, copied_in, copied_out}
+use Rattle.busdma_base.specs.Machine.Wire.{Wire, Placed, is_bounced, buffers, buses, stretch, put, copied_in, copied_out}
+use Rattle.lane_core.specs.Wire.{copied_by}
 use Rattle.lane_core.specs.WireStep.{Reads, unbounced}
 use Rattle.lane_core.proofs.Copies.{known_value, same_reads, same_range, map_own, one_value}
 use Rattle.lane_core.proofs.FaithfulAccess.{cpu_read_of, dev_read_passes, if_reads, unloaded_reads, past_reads}

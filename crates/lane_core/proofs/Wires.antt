@@ -19,7 +19,7 @@ use Rattle.loan_table.proofs.Addresses.{no_extent}
 use Rattle.loan_table.proofs.Marking.{no_position}
 use Rattle.loan_table.proofs.Judgement.{length-run_of}
 use Rattle.lane_core.specs.Covered.{IsCovered, Lie, SamePages}
-use Rattle.lane_core.specs.Wire.{put}
+use Rattle.busdma_base.specs.Machine.Wire.{put}
 use Rattle.lane_core.proofs.Held.{has_inserted}
 
 -- nothing is written without values

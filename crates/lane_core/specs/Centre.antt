@@ -4,7 +4,7 @@ use Rattle.loan_table.specs.declared.position.Position.{Position}
 use Rattle.loan_table.specs.Loans.{Loans, loan_of, addresses_of, to_write, in_any_way, lent}
 use Rattle.lane_core.specs.IdealMemory.{IdealMemory, Known}
 use Rattle.lane_core.specs.Lane.{LaneState, is_loaded}
-use Rattle.lane_core.specs.Wire.{Wire, Traces, Placed, buffers}
+use Rattle.busdma_base.specs.Machine.Wire.{Wire, Traces, Placed, buffers}
 
 -- the position of a map's load at a place, and its place in the trace
 abbrev pub IsAt : Loans → ℕ → ℕ → Position → Type 0

@@ -7,7 +7,7 @@ use Rattle.lane_core.specs.declared.holdings.Holdings.{Holdings}
 use Rattle.lane_core.specs.declared.lane.Lane.{Lane}
 use Rattle.lane_core.specs.IdealMemory.{IdealMemory, Known, Unknown}
 use Rattle.lane_core.specs.Lane.{LaneState}
-use Rattle.lane_core.specs.Wire.{Wire, Traces}
+use Rattle.busdma_base.specs.Machine.Wire.{Wire, Traces}
 use Rattle.lane_core.specs.WireStep.{unbounced}
 
 -- the ideal memory of marks and of the bytes that are really held

@@ -6,7 +6,7 @@ use Rattle.busdma_base.specs.declared.journals.journal.Side.{Side}
 use Rattle.busdma_base.specs.declared.scenarios.script.Item.{Item}
 use Rattle.busdma_base.specs.declared.scenarios.script.Place.{Place}
 use Rattle.lane_core.specs.Lane.{LaneState, bytes_at}
-use Rattle.lane_core.specs.Wire.{Wire, Traces, buses, stretch}
+use Rattle.busdma_base.specs.Machine.Wire.{Wire, Traces, buses, stretch}
 use Rattle.lane_core.specs.WireStep as wire
 use Rattle.lane_core.specs.WireStep.{Reads}
 use Rattle.lane_core.specs.declared.lane.Lane.{Lane}

@@ -1,49 +1,7 @@
--- The bytes that are really held, and the copies between buffers and bounce pages.
-use Rattle.std.specs.Prelude.{ℕ, Bool, not, ◌==◌, List, [], ◌∷◌, map, take, drop, if◌then◌else◌}
-use Rattle.std.specs.List.{filter}
+-- What syncs make of the bytes that are really held.
+use Rattle.std.specs.Prelude.{ℕ, List, if◌then◌else◌}
 use Rattle.dma_tag.specs.SyncOps.{prewrite, postread}
-
--- the byte at each physical address, of a driver's own frames and of the bounce pages of its maps
-abbrev pub Wire : Type 0
-Wire = ℕ → ℕ
-
--- a position of a load: the physical address of its byte, and the bus address at which the device reaches it
-pub record Placed : Type 0 where
-  pub pa : ℕ
-  pub bus : ℕ
-
--- the traces of loaded maps: of each map the positions of its load, in order
-abbrev pub Traces : Type 0
-Traces = ℕ → List Placed
-
--- the device reaches the byte in a page
-abbrev pub is_bounced : Placed → Bool
-is_bounced p = not (p.bus == p.pa)
-
--- the physical addresses of positions, and their bus addresses
-abbrev pub buffers : List Placed → List ℕ
-buffers ps = map (λ p. p.pa) ps
-
-abbrev pub buses : List Placed → List ℕ
-buses ps = map (λ p. p.bus) ps
-
--- the positions of a trace from off to off + len - 1
-abbrev pub stretch : ℕ → ℕ → List Placed → List Placed
-stretch off len ps = take len (drop off ps)
-
--- the bytes at these addresses are these now, in order
-abbrev pub put : List ℕ → List ℕ → Wire → Wire
-put [] vs w = w
-put (a ∷ rest) [] w = w
-put (a ∷ rest) (v ∷ vs) w = put rest vs (λ b. if b == a then v else w b)
-
--- each byte of these positions that is bounced is copied to its bus address
-abbrev pub copied_in : List Placed → Wire → Wire
-copied_in ps w = put (buses (filter is_bounced ps)) (map w (buffers (filter is_bounced ps))) w
-
--- each such byte is copied back from there
-abbrev pub copied_out : List Placed → Wire → Wire
-copied_out ps w = put (buffers (filter is_bounced ps)) (map w (buses (filter is_bounced ps))) w
+use Rattle.busdma_base.specs.Machine.Wire.{Wire, Placed, copied_in, copied_out}
 
 -- a sync of these positions: PREWRITE copies in and POSTREAD copies back; PREREAD and POSTWRITE copy nothing
 abbrev pub copied_by : ℕ → List Placed → Wire → Wire

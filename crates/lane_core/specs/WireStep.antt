@@ -15,7 +15,8 @@ use Rattle.lane_tables.specs.declared.queued.QueuedItem.{QueuedItem}
 use Rattle.lane_core.specs.Lane.{LaneState, load_length, bytes_at}
 use Rattle.lane_core.specs.Step as step
 use Rattle.lane_core.specs.Step.{waits}
-use Rattle.lane_core.specs.Wire.{Wire, Traces, buses, stretch, put, copied_by}
+use Rattle.busdma_base.specs.Machine.Wire.{Wire, Traces, buses, stretch, put}
+use Rattle.lane_core.specs.Wire.{copied_by}
 
 -- a step that is not done changes no byte
 abbrev pub if_done : Answer → Wire → Wire → Wire

@@ -10,7 +10,7 @@ ghost use Rattle.loan_table.specs.Loans.{addresses_of};
 ghost use Rattle.loan_table.specs.Table.{AreIn, HasMap, IsSame, buffer_of, extent_count};
 ghost use Rattle.lane_core.specs.Calls.{unless_foreign};
 ghost use Rattle.lane_core.specs.Covered.{IsCovered, Lie, SamePages};
-ghost use Rattle.lane_core.specs.Wire.{put};
+ghost use Rattle.busdma_base.specs.Machine.Wire.{put};
 ghost use Rattle.lane_core.specs.Lane.{Outcome, gives, virtual, unless_unloaded, unless_past};
 ghost use Rattle.lane_core.specs.Calls as calls;
 ghost use Rattle.lane_core.specs.WireStep as wires;

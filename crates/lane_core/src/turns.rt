@@ -4,7 +4,7 @@ ghost use Rattle.std.specs.Prelude.{◌≡◌, false, IfOk, OnOk, OnErr, length,
 ghost use Rattle.busdma_base.specs.declared.journals.journal.Side.TheVariants as side;
 ghost use Rattle.lane_core.specs.declared.turn.Turn.TheVariants.{Stepped};
 ghost use Rattle.lane_core.specs.Lane.{gives, bytes_at};
-ghost use Rattle.lane_core.specs.Wire.{buses, stretch};
+ghost use Rattle.busdma_base.specs.Machine.Wire.{buses, stretch};
 ghost use Rattle.lane_core.specs.Step.{lane_step, stays};
 ghost use Rattle.lane_core.specs.Opening.{opening_lane};
 ghost use Rattle.lane_core.specs.Calls as calls;

@@ -3,7 +3,7 @@ use Rattle.phys_memory.specs.Memory.{wire}
 use Rattle.loan_table.specs.Loans.{addresses_of}
 use Rattle.loan_table.specs.Table.{buffer_of}
 use Rattle.lane_core.specs.Covered.{SamePages}
-use Rattle.lane_core.specs.Wire.{put}
+use Rattle.busdma_base.specs.Machine.Wire.{put}
 use Rattle.lane_core.proofs.accesses.write_load.Given as goal
 
 abbrev pub invariant-loop-byte : goal.invariant-loop-byte

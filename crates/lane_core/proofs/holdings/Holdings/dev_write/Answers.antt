@@ -6,7 +6,7 @@ use Rattle.lane_core.specs.Accesses.{load_bytes}
 use Rattle.lane_core.specs.Ideal.{ideal_of}
 use Rattle.lane_core.proofs.Held.{shown}
 use Rattle.lane_core.proofs.Outcomes.{dev_write_done, write_done, covered_written, range_size}
-use Rattle.lane_core.specs.Wire.{put}
+use Rattle.busdma_base.specs.Machine.Wire.{put}
 use Rattle.lane_core.proofs.Unbounced.{unbounced_buses}
 use Rattle.lane_core.proofs.holdings.Holdings.dev_write.Goals as goal
 

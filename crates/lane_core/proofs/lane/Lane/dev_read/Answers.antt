@@ -2,7 +2,7 @@ use Rattle.std.proofs.Common.{◌≡◌, sym, ap, subst}
 use Rattle.lane_core.specs.Ideal.{ideal, wire_of, traces_of}
 use Rattle.lane_core.specs.Lane.{gives}
 use Rattle.lane_core.specs.Calls as calls
-use Rattle.lane_core.specs.Wire.{buses, stretch}
+use Rattle.busdma_base.specs.Machine.Wire.{buses, stretch}
 use Rattle.lane_core.specs.WireStep.{Reads}
 use Rattle.lane_core.proofs.Passing.{ok_map}
 use Rattle.lane_core.proofs.Unbounced.{dev_read_held, known_held}
