@@ -8,7 +8,7 @@ use Rattle.busdma_base.specs.declared.journals.report.Judged.TheVariants.{Fine, 
 use Rattle.busdma_base.specs.declared.journals.report.ReportName.{ReportName}
 use Rattle.busdma_base.specs.declared.journals.report.ReportName.TheVariants.{CpuReadLent, CpuWriteLent, DeviceReadUnlent, DeviceWriteUnlent, StaleByte, Absent, NotLoaded, PastEnd}
 use Rattle.busdma_base.specs.declared.journals.answer.Answer.TheVariants.{Done, Bytes}
-use Rattle.phys_memory.specs.Memory.{missing}
+use Rattle.phys_memory.specs.Translation.{missing, unreached}
 use Rattle.loan_table.specs.declared.position.Position.{Position}
 use Rattle.loan_table.specs.Loans.{loan_of, to_write, in_any_way, lent, addresses_of}
 use Rattle.loan_table.specs.Lending.{range_of}
@@ -16,7 +16,7 @@ use Rattle.loan_table.specs.Access.{cpu_read_answer, cpu_write_answer, dev_read_
 use Rattle.lane_core.specs.Accesses.{values, load_bytes}
 use Rattle.lane_core.specs.Centre.{IsAt, IsPlacedAt, IsFaithful}
 use Rattle.lane_core.specs.IdealMemory.{Known, is_known, value, written}
-use Rattle.lane_core.specs.Lane.{LaneState, Outcome, gives, refused, has_map, is_loaded, load_length, unless_refused, unless_unloaded, unless_past, reached, unreached, bytes_at, virtual}
+use Rattle.lane_core.specs.Lane.{LaneState, Outcome, gives, refused, has_map, is_loaded, load_length, unless_refused, unless_unloaded, unless_past, reached, bytes_at, virtual}
 use Rattle.busdma_base.specs.Machine.Wire.{Wire, Traces, Placed, buffers, buses, stretch, put}
 use Rattle.lane_core.specs.WireStep.{Reads}
 use Rattle.lane_core.specs.Laws.{CpuReadIsFaithful, DevReadIsFaithful, CpuWriteStaysFaithful, DevWriteStaysFaithful}

@@ -1,5 +1,5 @@
 -- The ideal state of a driver, and what a step gives.
-use Rattle.std.specs.Prelude.{ℕ, ◌+◌, ◌-◌, Bool, List, Option, if◌then◌else◌, map, unwrap_or, nat_le, length}
+use Rattle.std.specs.Prelude.{ℕ, ◌+◌, ◌-◌, Bool, List, if◌then◌else◌, map, nat_le, length}
 use Rattle.std.specs.Ordering.{nat_cmp}
 use Rattle.std.specs.FinMap.{FinMap, contains_key}
 use Rattle.busdma_base.specs.declared.scenarios.script.Op.{Op}
@@ -13,7 +13,7 @@ use Rattle.busdma_base.specs.declared.journals.report.Judged.TheVariants.{Fine, 
 use Rattle.busdma_base.specs.declared.journals.answer.Answer.{Answer}
 use Rattle.busdma_base.specs.declared.journals.answer.Answer.TheVariants as answer
 use Rattle.busdma_base.specs.Journals.Judging.{judged}
-use Rattle.phys_memory.specs.Memory.{missing}
+use Rattle.phys_memory.specs.Translation.{Translation, physical_or_0, unreached}
 use Rattle.busdma_base.specs.Runs.{run_of}
 use Rattle.lane_tables.specs.declared.queued.QueuedItem.{QueuedItem}
 use Rattle.loan_table.specs.Loans.{Loans, loan_of}
@@ -29,7 +29,7 @@ pub record LaneState : Type 0 where
   pub place : ℕ
   pub tags : FinMap nat_cmp TagLimits
   pub maps : FinMap nat_cmp LaneMap
-  pub physical : ℕ → Option ℕ
+  pub physical : Translation
   pub memory : IdealMemory
   pub loans : Loans
   pub queue : List QueuedItem
@@ -89,14 +89,10 @@ unless_past m off len l outcome =
 abbrev pub virtual : Place → ℕ → List ℕ
 virtual (At va) len = run_of va.0 len
 
--- what stands in the way of the byte at a virtual address
-abbrev pub unreached : (ℕ → Option ℕ) → ℕ → Option ReportName
-unreached physical va = missing (physical va)
-
 -- the first of `len` bytes at a place that the driver cannot reach
 abbrev pub reached : LaneState → Place → ℕ → Judged
 reached l place len = judged (unreached l.physical) 0 (virtual place len)
 
 -- the physical addresses of bytes that it can reach
 abbrev pub bytes_at : LaneState → Place → ℕ → List ℕ
-bytes_at l place len = map (λ va. unwrap_or (l.physical va) 0) (virtual place len)
+bytes_at l place len = map (physical_or_0 l.physical) (virtual place len)

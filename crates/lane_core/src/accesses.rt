@@ -3,8 +3,9 @@
 ghost use Rattle.std.specs.Prelude.{◌≡◌, ◌+◌, ◌≤◌, ◌<◌, ◌^◌, length, map, map as mapped, IfOk, OnOk, OnErr, IfSome, IfNone};
 ghost use Rattle.busdma_base.specs.Runs.{addresses, byte_count};
 ghost use Rattle.busdma_base.specs.Journals.Judging.{judged};
-ghost use Rattle.phys_memory.specs.Memory.{unreached, wire};
-ghost use Rattle.phys_memory.specs.Walk.{verdict, physical_or_0, IfParts};
+ghost use Rattle.phys_memory.specs.Memory.{physical, wire};
+ghost use Rattle.phys_memory.specs.Translation.{physical_or_0, unreached};
+ghost use Rattle.phys_memory.specs.Walk.{IfParts, verdict};
 ghost use Rattle.loan_table.specs.Lending.{range_of};
 ghost use Rattle.loan_table.specs.Loans.{addresses_of};
 ghost use Rattle.loan_table.specs.Table.{AreIn, HasMap, IsSame, buffer_of, extent_count};
@@ -28,8 +29,10 @@ impl Holdings<'_> {
 
     /// Where `len` bytes at a place lie.
     pub(crate) fn reach(&self, alloc: Global, place: Place, len: u64) -> Result<Walked, AllocError>
-        ensures verdict { IfOk result (λ w. verdict w ≡ judged (unreached self.now.memory.memory) 0 (virtual place len)) }
-        ensures addresses { IfOk result (λ w. IfParts w (λ es. addresses es ≡ map (physical_or_0 self.now.memory.memory) (virtual place len))) }
+        ensures verdict { let refusal = unreached (physical self.now.memory.memory) in
+            IfOk result (λ w. verdict w ≡ judged refusal 0 (virtual place len)) }
+        ensures addresses { let pas = map (physical_or_0 (physical self.now.memory.memory)) (virtual place len) in
+            IfOk result (λ w. IfParts w (λ es. addresses es ≡ pas)) }
         ensures lie { IfOk result (λ w. IfParts w (Lie self.now.memory.memory)) }
         ensures inside { IfOk result (λ w. IfParts w (λ es. AreIn self.now.loans.bytes (addresses es))) }
         ensures len { IfOk result (λ w. IfParts w (λ es. length (addresses es) ≡ len)) }

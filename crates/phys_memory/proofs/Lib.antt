@@ -3,6 +3,7 @@ pub mod Extents
 pub mod FrameBytes
 pub mod Kept
 pub mod Loads
+pub mod Paged
 pub mod Reached
 pub mod Streams
 pub mod Tables

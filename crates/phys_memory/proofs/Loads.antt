@@ -14,11 +14,12 @@ use Rattle.busdma_base.specs.declared.journals.report.Judged.TheVariants.{Fine, 
 use Rattle.busdma_base.specs.Machine.Entry.{AreJoined, HasPart, IsEntry, IsStream, entries_bytes, entries_of, entry_parts, extent_parts, others_of, parts_of}
 use Rattle.busdma_base.specs.Runs.{IsExtent, addresses, byte_count, run_of}
 use Rattle.busdma_base.specs.Machine.Spans.{span_bytes}
-use Rattle.phys_memory.specs.Memory.{Memory, IsMemory}
+use Rattle.phys_memory.specs.Translation.{Translation}
 use Rattle.phys_memory.specs.Extents.{extents_of, reached}
-use Rattle.phys_memory.specs.Vector.{ending, judged_spans, one_span, vector, with_entry}
+use Rattle.phys_memory.specs.Vector.{ending, judged_spans, one_span, spans_stream, with_entry}
 use Rattle.phys_memory.specs.Vector.{entries_of as walk_entries}
 use Rattle.phys_memory.proofs.Extents.{length-run_of, reached_extents}
+use Rattle.phys_memory.proofs.Paged.{IsPaged}
 use Rattle.phys_memory.proofs.Vectors.{entries_are, entries_touch, length-reached}
 
 -- ---- the entries of a stream of entries
@@ -71,33 +72,33 @@ count_addresses [] = refl
 count_addresses (e ∷ es) =
     omega (arith, length-append (run_of e.pa.0 e.len) (addresses es), length-run_of e.pa.0 e.len, count_addresses es, sum_by-cons (λ (x : Extent). x.len) e es)
 
-entry_bytes : (pas : List ℕ) (es : List Entry) → addresses (extents_of pas) ≡ pas → entries_bytes (with_entry pas es) ≡ length pas + entries_bytes es
-entry_bytes [] es h = omega arith
-entry_bytes (pa ∷ pas) es h =
+entry_bytes : (rounded : Bool) (pas : List ℕ) (es : List Entry) → addresses (extents_of pas) ≡ pas → entries_bytes (with_entry rounded pas es) ≡ length pas + entries_bytes es
+entry_bytes rounded [] es h = omega arith
+entry_bytes rounded (pa ∷ pas) es h =
     let own = extents_of (pa ∷ pas) in
-    omega (arith, count_addresses own, ap length h, sum_by-cons (λ (x : Entry). byte_count x.parts) (record { rounded = true; parts = own }) es)
+    omega (arith, count_addresses own, ap length h, sum_by-cons (λ (x : Entry). byte_count x.parts) (record { rounded = rounded; parts = own }) es)
 
-module _ (m : Memory) (is : IsMemory m) where
+module _ (Has : ℕ → Type 0) (rounded : Bool) (t : Translation) (is : IsPaged Has t) where
   -- a walk has no more bytes than its spans
-  walk_bytes : (ss : List Span) → entries_bytes (walk_entries m ss) ≤ span_bytes ss
+  walk_bytes : (ss : List Span) → entries_bytes (walk_entries rounded t ss) ≤ span_bytes ss
   walk_bytes [] = omega arith
   walk_bytes (s ∷ ss) =
-      let pas = reached m s.va.0 s.len in
-      let others = if nat_eq (length pas) s.len then walk_entries m ss else [] in
-      let few = elim (nat_eq (length pas) s.len) as (λ b. entries_bytes (if b then walk_entries m ss else []) ≤ span_bytes ss) [ true ↦ walk_bytes ss | false ↦ omega arith ] in
-      omega (arith, entry_bytes pas others (reached_extents m s.va.0 s.len is).bytes, few, length-reached m s.va.0 s.len, sum_by-cons (λ (x : Span). x.len) s ss)
+      let pas = reached t s.va.0 s.len in
+      let others = if nat_eq (length pas) s.len then walk_entries rounded t ss else [] in
+      let few = elim (nat_eq (length pas) s.len) as (λ b. entries_bytes (if b then walk_entries rounded t ss else []) ≤ span_bytes ss) [ true ↦ walk_bytes ss | false ↦ omega arith ] in
+      omega (arith, entry_bytes rounded pas others (reached_extents Has t is s.va.0 s.len).bytes, few, length-reached t s.va.0 s.len, sum_by-cons (λ (x : Span). x.len) s ss)
 
   -- the stream of spans of at most 2^20 bytes is that of a load
-  pub vector_loads : (ss : List Span) → span_bytes ss ≤ 2 ^ 20 → IsStream (vector m ss)
-  vector_loads ss small =
-      let last = judged_spans m 0 ss in
-      let touch = entries_touch m is ss in
+  pub spans_load : (ss : List Span) → span_bytes ss ≤ 2 ^ 20 → IsStream (spans_stream rounded t ss)
+  spans_load ss small =
+      let last = judged_spans t 0 ss in
+      let touch = entries_touch Has rounded t is ss in
       let none = no_last_others last in
       let end = no_last_entries last in
-      let same = same_entries (ending last) none end (walk_entries m ss) touch in
+      let same = same_entries (ending last) none end (walk_entries rounded t ss) touch in
       record {
-        opens = no_others (ending last) none end (walk_entries m ss) touch;
-        entries = subst (AllByRecursion IsEntry) (sym same) (entries_are m is ss);
+        opens = no_others (ending last) none end (walk_entries rounded t ss) touch;
+        entries = subst (AllByRecursion IsEntry) (sym same) (entries_are Has rounded t is ss);
         bytes = omega (arith, ap entries_bytes same, walk_bytes ss, small);
       }
 

@@ -19,95 +19,96 @@ use Rattle.busdma_base.specs.Machine.Spans.{span_addresses, span_bytes}
 use Rattle.phys_memory.specs.declared.entries.Entries.{Entries}
 use Rattle.phys_memory.specs.declared.entries.Entries.TheVariants as walk
 use Rattle.phys_memory.specs.declared.walk.Walked.TheVariants.{Parts, Unmapped}
-use Rattle.phys_memory.specs.Memory.{Memory, IsMemory, physical}
-use Rattle.phys_memory.specs.Extents.{LiesIn, extents_of, reached, then_reached}
-use Rattle.phys_memory.specs.Vector.{IfAll, ending, entries_of, judged_spans, one_span, then_parts, vector, vector_at, vector_walk, walk_unless, with_entry}
-use Rattle.phys_memory.specs.Walk.{flat, flat_at, physical_or_0, walk_of}
+use Rattle.phys_memory.specs.Translation.{Translation, physical_or_0}
+use Rattle.phys_memory.specs.Extents.{extents_of, reached, then_reached}
+use Rattle.phys_memory.specs.Vector.{IfAll, ending, entries_of, judged_spans, one_span, spans_at, spans_stream, spans_walk, then_parts, walk_unless, with_entry}
+use Rattle.phys_memory.specs.Walk.{flat_at, walk_of}
 use Rattle.phys_memory.proofs.Extents.{AreExtents, begins, reached_extents}
+use Rattle.phys_memory.proofs.Paged.{IsPaged}
 use Rattle.phys_memory.proofs.Walks.{judged-run, reached_all, refused_at}
 
 -- no more bytes are reached than there are
-pub length-reached : (m : Memory) (va n : ℕ) → length (reached m va n) ≤ n
-length-reached m va zero = omega arith
-length-reached m va (suc n) = first (physical m va) (length-reached m (va + 1) n)
+pub length-reached : (t : Translation) (va n : ℕ) → length (reached t va n) ≤ n
+length-reached t va zero = omega arith
+length-reached t va (suc n) = first (t va) (length-reached t (va + 1) n)
   where
-    first : (o : Option ℕ) → length (reached m (va + 1) n) ≤ n → length (then_reached o (reached m (va + 1) n)) ≤ suc n
+    first : (o : Option ℕ) → length (reached t (va + 1) n) ≤ n → length (then_reached o (reached t (va + 1) n)) ≤ suc n
     first None h = omega arith
     first (Some p) h = omega arith
 
 -- ---- the first of spans, and the others
 
-module _ (m : Memory) (s : Span) (ss : List Span) (offset : ℕ) where
+module _ (t : Translation) (s : Span) (ss : List Span) (offset : ℕ) where
   abbrev bytes : List ℕ
-  bytes = reached m s.va.0 s.len
+  bytes = reached t s.va.0 s.len
 
-  first_judged : (b : Bool) → nat_eq (length bytes) s.len ≡ b → judged_spans m offset (s ∷ ss) ≡ (if b then judged_spans m (offset + s.len) ss else refused_at (offset + length bytes))
-  first_judged b h = judged-run m s.va.0 s.len offset (span_addresses ss) ∙ ap (λ t. if t then judged_spans m (offset + s.len) ss else refused_at (offset + length bytes)) h
+  first_judged : (b : Bool) → nat_eq (length bytes) s.len ≡ b → judged_spans t offset (s ∷ ss) ≡ (if b then judged_spans t (offset + s.len) ss else refused_at (offset + length bytes))
+  first_judged b h = judged-run t s.va.0 s.len offset (span_addresses ss) ∙ ap (λ c. if c then judged_spans t (offset + s.len) ss else refused_at (offset + length bytes)) h
 
-  first_entry : (b : Bool) → nat_eq (length bytes) s.len ≡ b → entries_of m (s ∷ ss) ≡ with_entry bytes (if b then entries_of m ss else [])
-  first_entry b h = ap (λ t. with_entry bytes (if t then entries_of m ss else [])) h
+  first_entry : (rounded b : Bool) → nat_eq (length bytes) s.len ≡ b → entries_of rounded t (s ∷ ss) ≡ with_entry rounded bytes (if b then entries_of rounded t ss else [])
+  first_entry rounded b h = ap (λ c. with_entry rounded bytes (if c then entries_of rounded t ss else [])) h
 
 -- ---- streams
 
 -- parts of extents, and what is after them
-then_run : (es : List Extent) (opens : Bool) (rest others : List Part) → then_parts (extent_parts opens true es ++ rest) others ≡ extent_parts opens true es ++ then_parts rest others
-then_run [] opens rest others = refl
-then_run (e ∷ es) opens rest others = ap (λ ps. part.Of e opens true ∷ ps) (then_run es false rest others)
+then_run : (es : List Extent) (opens rounded : Bool) (rest others : List Part) → then_parts (extent_parts opens rounded es ++ rest) others ≡ extent_parts opens rounded es ++ then_parts rest others
+then_run [] opens rounded rest others = refl
+then_run (e ∷ es) opens rounded rest others = ap (λ ps. part.Of e opens rounded ∷ ps) (then_run es false rounded rest others)
 
-stream_entry : (pas : List ℕ) (es : List Entry) → parts_of (with_entry pas es) ≡ extent_parts true true (extents_of pas) ++ parts_of es
-stream_entry [] es = refl
-stream_entry (pa ∷ pas) es = refl
+stream_entry : (rounded : Bool) (pas : List ℕ) (es : List Entry) → parts_of (with_entry rounded pas es) ≡ extent_parts true rounded (extents_of pas) ++ parts_of es
+stream_entry rounded [] es = refl
+stream_entry rounded (pa ∷ pas) es = refl
 
-module _ (m : Memory) (offset : ℕ) (s : Span) (ss : List Span) where
+module _ (rounded : Bool) (t : Translation) (offset : ℕ) (s : Span) (ss : List Span) where
   abbrev first : List ℕ
-  first = reached m s.va.0 s.len
+  first = reached t s.va.0 s.len
 
   abbrev parts : List Part
-  parts = extent_parts true true (extents_of first)
+  parts = extent_parts true rounded (extents_of first)
 
   abbrev last : Bool → List Part
   last b = if b then [] else part.Unmapped (offset + length first) ∷ []
 
-  next_by : (b : Bool) → nat_eq (length first) s.len ≡ b → vector_at m offset (s ∷ ss) ≡ then_parts (parts ++ last b) (vector_at m (offset + s.len) ss)
+  next_by : (b : Bool) → nat_eq (length first) s.len ≡ b → spans_at rounded t offset (s ∷ ss) ≡ then_parts (parts ++ last b) (spans_at rounded t (offset + s.len) ss)
   next_by true h =
-      ap (λ es. parts_of es ++ ending (judged_spans m offset (s ∷ ss))) (first_entry m s ss offset true h)
-      ∙ ap (λ j. parts_of (with_entry first (entries_of m ss)) ++ ending j) (first_judged m s ss offset true h)
-      ∙ ap (λ ps. ps ++ ending (judged_spans m (offset + s.len) ss)) (stream_entry first (entries_of m ss))
-      ∙ append_assoc parts (parts_of (entries_of m ss)) (ending (judged_spans m (offset + s.len) ss))
-      ∙ sym (then_run (extents_of first) true [] (vector_at m (offset + s.len) ss))
+      ap (λ es. parts_of es ++ ending (judged_spans t offset (s ∷ ss))) (first_entry t s ss offset rounded true h)
+      ∙ ap (λ j. parts_of (with_entry rounded first (entries_of rounded t ss)) ++ ending j) (first_judged t s ss offset true h)
+      ∙ ap (λ ps. ps ++ ending (judged_spans t (offset + s.len) ss)) (stream_entry rounded first (entries_of rounded t ss))
+      ∙ append_assoc parts (parts_of (entries_of rounded t ss)) (ending (judged_spans t (offset + s.len) ss))
+      ∙ sym (then_run (extents_of first) true rounded [] (spans_at rounded t (offset + s.len) ss))
   next_by false h =
-      ap (λ es. parts_of es ++ ending (judged_spans m offset (s ∷ ss))) (first_entry m s ss offset false h)
-      ∙ ap (λ j. parts_of (with_entry first []) ++ ending j) (first_judged m s ss offset false h)
-      ∙ ap (λ ps. ps ++ last false) (stream_entry first [] ∙ append-nil parts)
-      ∙ sym (then_run (extents_of first) true (last false) (vector_at m (offset + s.len) ss))
+      ap (λ es. parts_of es ++ ending (judged_spans t offset (s ∷ ss))) (first_entry t s ss offset rounded false h)
+      ∙ ap (λ j. parts_of (with_entry rounded first []) ++ ending j) (first_judged t s ss offset false h)
+      ∙ ap (λ ps. ps ++ last false) (stream_entry rounded first [] ∙ append-nil parts)
+      ∙ sym (then_run (extents_of first) true rounded (last false) (spans_at rounded t (offset + s.len) ss))
 
   -- the parts of the first span, and then those of the others
-  pub vector_next : vector_at m offset (s ∷ ss) ≡ then_parts (flat_at m offset s.va.0 s.len) (vector_at m (offset + s.len) ss)
-  vector_next =
+  pub spans_next : spans_at rounded t offset (s ∷ ss) ≡ then_parts (flat_at rounded t offset s.va.0 s.len) (spans_at rounded t (offset + s.len) ss)
+  spans_next =
       next_by (nat_eq (length first) s.len) refl
 
 -- the stream of one span
-pub vector_one : (m : Memory) (va n : ℕ) → vector m (one_span va n) ≡ flat m va n
-vector_one m va n =
+pub spans_one : (rounded : Bool) (t : Translation) (va n : ℕ) → spans_stream rounded t (one_span va n) ≡ flat_at rounded t 0 va n
+spans_one rounded t va n =
     let one : Span = record { va = record { 0 = va }; len = n } in
-    let ps = parts m 0 one [] in
-    vector_next m 0 one []
-    ∙ then_run (extents_of (reached m va n)) true (last m 0 one [] (nat_eq (length (reached m va n)) n)) []
-    ∙ elim (nat_eq (length (reached m va n)) n) as (λ b. ps ++ then_parts (last m 0 one [] b) [] ≡ ps ++ last m 0 one [] b) [ true ↦ refl | false ↦ refl ]
+    let ps = parts rounded t 0 one [] in
+    spans_next rounded t 0 one []
+    ∙ then_run (extents_of (reached t va n)) true rounded (last rounded t 0 one [] (nat_eq (length (reached t va n)) n)) []
+    ∙ elim (nat_eq (length (reached t va n)) n) as (λ b. ps ++ then_parts (last rounded t 0 one [] b) [] ≡ ps ++ last rounded t 0 one [] b) [ true ↦ refl | false ↦ refl ]
 
 -- where the walk has entries, they are those of the stream
-pub walk_stream : (m : Memory) (spans : List Span) → IfAll (vector_walk m spans) (λ es. vector m spans ≡ parts_of es)
-walk_stream m spans = by_judgement (judged_spans m 0 spans)
+pub walk_stream : (rounded : Bool) (t : Translation) (spans : List Span) → IfAll (spans_walk rounded t spans) (λ es. spans_stream rounded t spans ≡ parts_of es)
+walk_stream rounded t spans = by_judgement (judged_spans t 0 spans)
   where
-    by_judgement : (j : Judged) → IfAll (walk_unless j (entries_of m spans)) (λ es. parts_of (entries_of m spans) ++ ending j ≡ parts_of es)
-    by_judgement Fine = append-nil (parts_of (entries_of m spans))
+    by_judgement : (j : Judged) → IfAll (walk_unless j (entries_of rounded t spans)) (λ es. parts_of (entries_of rounded t spans) ++ ending j ≡ parts_of es)
+    by_judgement Fine = append-nil (parts_of (entries_of rounded t spans))
     by_judgement (Refused r) = tt
 
 -- ---- walks
 
 -- the walk over spans whose entries so far are these, and whose other spans begin at an offset
-abbrev pub walk_from : Memory → List Entry → ℕ → List Span → Entries
-walk_from m es offset spans = walk_unless (judged_spans m offset spans) (es ++ entries_of m spans)
+abbrev pub walk_from : Translation → List Entry → ℕ → List Span → Entries
+walk_from t es offset spans = walk_unless (judged_spans t offset spans) (es ++ entries_of true t spans)
 
 not_true : false ≡ true → ⊥
 not_true e = cc
@@ -135,54 +136,54 @@ missed pas n at h = by_count (nat_eq (length pas) n) refl h
     by_count true e k = absurd (cc)
     by_count false e k = record { cut = e; is = cc }
 
-entry_added : (pas : List ℕ) (e : Extent) (es : List Extent) (others : List Entry) → e ∷ es ≡ extents_of pas → with_entry pas others ≡ record { rounded = true; parts = e ∷ es } ∷ others
+entry_added : (pas : List ℕ) (e : Extent) (es : List Extent) (others : List Entry) → e ∷ es ≡ extents_of pas → with_entry true pas others ≡ record { rounded = true; parts = e ∷ es } ∷ others
 entry_added [] e es others h = absurd (cc)
 entry_added (pa ∷ pas) e es others h = ap (λ xs. record { rounded = true; parts = xs } ∷ others) (sym h)
 
-no_entry : (pas : List ℕ) (others : List Entry) → [] ≡ extents_of pas → with_entry pas others ≡ others
-no_entry [] others h = refl
-no_entry (pa ∷ pas) others h = gone (h ∙ (begins pa (extents_of pas)).are)
+no_entry : (rounded : Bool) (pas : List ℕ) (others : List Entry) → [] ≡ extents_of pas → with_entry rounded pas others ≡ others
+no_entry rounded [] others h = refl
+no_entry rounded (pa ∷ pas) others h = gone (h ∙ (begins pa (extents_of pas)).are)
   where
-    gone : {e : Extent} {es : List Extent} → [] ≡ e ∷ es → with_entry (pa ∷ pas) others ≡ others
+    gone : {e : Extent} {es : List Extent} → [] ≡ e ∷ es → with_entry rounded (pa ∷ pas) others ≡ others
     gone e = absurd (cc)
 
-module _ (m : Memory) (before : List Entry) (offset : ℕ) (s : Span) (ss : List Span) where
+module _ (t : Translation) (before : List Entry) (offset : ℕ) (s : Span) (ss : List Span) where
   abbrev here : List ℕ
-  here = reached m s.va.0 s.len
+  here = reached t s.va.0 s.len
 
   -- the walk after a span of which all bytes are reached
-  past : (es : List Entry) → nat_eq (length here) s.len ≡ true → with_entry here (entries_of m ss) ≡ es ++ entries_of m ss → walk_from m before offset (s ∷ ss) ≡ walk_from m (before ++ es) (offset + s.len) ss
+  past : (es : List Entry) → nat_eq (length here) s.len ≡ true → with_entry true here (entries_of true t ss) ≡ es ++ entries_of true t ss → walk_from t before offset (s ∷ ss) ≡ walk_from t (before ++ es) (offset + s.len) ss
   past es h e =
-      ap (λ xs. walk_unless (judged_spans m offset (s ∷ ss)) (before ++ xs)) (first_entry m s ss offset true h ∙ e)
-      ∙ ap (λ j. walk_unless j (before ++ (es ++ entries_of m ss))) (first_judged m s ss offset true h)
-      ∙ ap (walk_unless (judged_spans m (offset + s.len) ss)) (sym (append_assoc before es (entries_of m ss)))
+      ap (λ xs. walk_unless (judged_spans t offset (s ∷ ss)) (before ++ xs)) (first_entry t s ss offset true true h ∙ e)
+      ∙ ap (λ j. walk_unless j (before ++ (es ++ entries_of true t ss))) (first_judged t s ss offset true h)
+      ∙ ap (walk_unless (judged_spans t (offset + s.len) ss)) (sym (append_assoc before es (entries_of true t ss)))
 
-  pub past_entry : (es : List Extent) → Parts es ≡ walk_of here s.len → (es ≡ [] → false ≡ true) → walk_from m before offset (s ∷ ss) ≡ walk_from m (before ++ record { rounded = true; parts = es } ∷ []) (offset + s.len) ss
+  pub past_entry : (es : List Extent) → Parts es ≡ walk_of here s.len → (es ≡ [] → false ≡ true) → walk_from t before offset (s ∷ ss) ≡ walk_from t (before ++ record { rounded = true; parts = es } ∷ []) (offset + s.len) ss
   past_entry [] h some = absurd (not_true (some refl))
   past_entry (e ∷ es) h some =
       let f = found here s.len (e ∷ es) h in
-      past (record { rounded = true; parts = e ∷ es } ∷ []) f.whole (entry_added here e es (entries_of m ss) f.are)
+      past (record { rounded = true; parts = e ∷ es } ∷ []) f.whole (entry_added here e es (entries_of true t ss) f.are)
 
-  pub past_none : Parts [] ≡ walk_of here s.len → walk_from m before offset (s ∷ ss) ≡ walk_from m before (offset + s.len) ss
+  pub past_none : Parts [] ≡ walk_of here s.len → walk_from t before offset (s ∷ ss) ≡ walk_from t before (offset + s.len) ss
   past_none h =
       let f = found here s.len [] h in
-      past [] f.whole (no_entry here (entries_of m ss) f.are) ∙ ap (λ es. walk_from m es (offset + s.len) ss) (append-nil before)
+      past [] f.whole (no_entry true here (entries_of true t ss) f.are) ∙ ap (λ es. walk_from t es (offset + s.len) ss) (append-nil before)
 
   -- the walk at a span of which not all are
-  pub stopped : (at : ℕ) → Unmapped at ≡ walk_of here s.len → walk_from m before offset (s ∷ ss) ≡ walk.Unmapped (offset + at)
+  pub stopped : (at : ℕ) → Unmapped at ≡ walk_of here s.len → walk_from t before offset (s ∷ ss) ≡ walk.Unmapped (offset + at)
   stopped at h =
       let f = missed here s.len at h in
-      ap (λ j. walk_unless j (before ++ entries_of m (s ∷ ss))) (first_judged m s ss offset false f.cut) ∙ ap (λ k. walk.Unmapped (offset + k)) (sym f.is)
+      ap (λ j. walk_unless j (before ++ entries_of true t (s ∷ ss))) (first_judged t s ss offset false f.cut) ∙ ap (λ k. walk.Unmapped (offset + k)) (sym f.is)
 
 -- an unreached byte is one of the span
-pub missed_inside : (m : Memory) (va n at : ℕ) → Unmapped at ≡ walk_of (reached m va n) n → at ≤ n
-missed_inside m va n at h = omega (arith, (missed (reached m va n) n at h).is, length-reached m va n)
+pub missed_inside : (t : Translation) (va n at : ℕ) → Unmapped at ≡ walk_of (reached t va n) n → at ≤ n
+missed_inside t va n at h = omega (arith, (missed (reached t va n) n at h).is, length-reached t va n)
 
 -- what is left after an empty stream, where the next span begins
-pub next_span : (m : Memory) (now ps : List Part) (offset : ℕ) (spans : List Span) (s : Span) (ss : List Span) → now ≡ [] → spans ≡ s ∷ ss → ps ≡ flat_at m offset s.va.0 s.len → then_parts ps (vector_at m (offset + s.len) ss) ≡ then_parts now (vector_at m offset spans)
-next_span m now ps offset spans s ss none are e =
-    ap (λ qs. then_parts qs (vector_at m (offset + s.len) ss)) e ∙ sym (vector_next m offset s ss) ∙ ap (vector_at m offset) (sym are)
-    ∙ ap (λ qs. then_parts qs (vector_at m offset spans)) (sym none)
+pub next_span : (t : Translation) (now ps : List Part) (offset : ℕ) (spans : List Span) (s : Span) (ss : List Span) → now ≡ [] → spans ≡ s ∷ ss → ps ≡ flat_at true t offset s.va.0 s.len → then_parts ps (spans_at true t (offset + s.len) ss) ≡ then_parts now (spans_at true t offset spans)
+next_span t now ps offset spans s ss none are e =
+    ap (λ qs. then_parts qs (spans_at true t (offset + s.len) ss)) e ∙ sym (spans_next true t offset s ss) ∙ ap (spans_at true t offset) (sym are)
+    ∙ ap (λ qs. then_parts qs (spans_at true t offset spans)) (sym none)
 
 pub first_bytes : (offset : ℕ) (spans : List Span) (s : Span) (ss : List Span) → spans ≡ s ∷ ss → offset + s.len + span_bytes ss ≡ offset + span_bytes spans
 first_bytes offset spans s ss are =
@@ -191,83 +192,83 @@ first_bytes offset spans s ss are =
 
 -- ---- what the entries of a walk are
 
-entry_all : (P : Entry → Type 0) (pas : List ℕ) (others : List Entry) → (0 < length pas → P (record { rounded = true; parts = extents_of pas })) → AllByRecursion P others → AllByRecursion P (with_entry pas others)
-entry_all P [] others h all = all
-entry_all P (pa ∷ pas) others h all = (h (omega arith), all)
+entry_all : (P : Entry → Type 0) (rounded : Bool) (pas : List ℕ) (others : List Entry) → (0 < length pas → P (record { rounded = rounded; parts = extents_of pas })) → AllByRecursion P others → AllByRecursion P (with_entry rounded pas others)
+entry_all P rounded [] others h all = all
+entry_all P rounded (pa ∷ pas) others h all = (h (omega arith), all)
 
 some_extents : (pas : List ℕ) → 0 < length pas → 0 < length (extents_of pas)
 some_extents [] h = absurd (omega arith)
 some_extents (pa ∷ pas) h = omega (arith, ap length (begins pa (extents_of pas)).are)
 
-module _ (m : Memory) (is : IsMemory m) where
-  all_entries : (P : Entry → Type 0) → ((pas : List ℕ) → 0 < length pas → AreExtents m pas (extents_of pas) → P (record { rounded = true; parts = extents_of pas })) → (spans : List Span) → AllByRecursion P (entries_of m spans)
+module _ (Has : ℕ → Type 0) (rounded : Bool) (t : Translation) (is : IsPaged Has t) where
+  all_entries : (P : Entry → Type 0) → ((pas : List ℕ) → 0 < length pas → AreExtents Has pas (extents_of pas) → P (record { rounded = rounded; parts = extents_of pas })) → (spans : List Span) → AllByRecursion P (entries_of rounded t spans)
   all_entries P h [] = tt
   all_entries P h (s ∷ ss) =
-      let pas = reached m s.va.0 s.len in
+      let pas = reached t s.va.0 s.len in
       let others = all_entries P h ss in
-      entry_all P pas (if nat_eq (length pas) s.len then entries_of m ss else []) (λ some. h pas some (reached_extents m s.va.0 s.len is))
-      (elim (nat_eq (length pas) s.len) as (λ b. AllByRecursion P (if b then entries_of m ss else [])) [ true ↦ others | false ↦ tt ])
+      entry_all P rounded pas (if nat_eq (length pas) s.len then entries_of rounded t ss else []) (λ some. h pas some (reached_extents Has t is s.va.0 s.len))
+      (elim (nat_eq (length pas) s.len) as (λ b. AllByRecursion P (if b then entries_of rounded t ss else [])) [ true ↦ others | false ↦ tt ])
 
-  pub entries_are : (spans : List Span) → AllByRecursion IsEntry (entries_of m spans)
+  pub entries_are : (spans : List Span) → AllByRecursion IsEntry (entries_of rounded t spans)
   entries_are = all_entries IsEntry (λ pas some are. record { extents = are.extents; joined = are.joined })
 
-  pub entries_touch : (spans : List Span) → AllByRecursion HasPart (entries_of m spans)
+  pub entries_touch : (spans : List Span) → AllByRecursion HasPart (entries_of rounded t spans)
   entries_touch = all_entries HasPart (λ pas some are. some_extents pas some)
 
-  pub entries_lie : (spans : List Span) → AllByRecursion (λ e. AllByRecursion (LiesIn m) e.parts) (entries_of m spans)
-  entries_lie = all_entries (λ e. AllByRecursion (LiesIn m) e.parts) (λ pas some are. are.lie)
+  pub entries_have : (spans : List Span) → AllByRecursion (λ e. AllByRecursion (λ x. Has x.pa.0) e.parts) (entries_of rounded t spans)
+  entries_have = all_entries (λ e. AllByRecursion (λ x. Has x.pa.0) e.parts) (λ pas some are. are.have)
 
-  entry_bytes : (s : Span) (es : List Entry) → entries_addresses (with_entry (reached m s.va.0 s.len) es) ≡ reached m s.va.0 s.len ++ entries_addresses es
-  entry_bytes s es = by_bytes (reached m s.va.0 s.len) (reached_extents m s.va.0 s.len is).bytes
+  entry_bytes : (s : Span) (es : List Entry) → entries_addresses (with_entry rounded (reached t s.va.0 s.len) es) ≡ reached t s.va.0 s.len ++ entries_addresses es
+  entry_bytes s es = by_bytes (reached t s.va.0 s.len) (reached_extents Has t is s.va.0 s.len).bytes
     where
-      by_bytes : (pas : List ℕ) → addresses (extents_of pas) ≡ pas → entries_addresses (with_entry pas es) ≡ pas ++ entries_addresses es
+      by_bytes : (pas : List ℕ) → addresses (extents_of pas) ≡ pas → entries_addresses (with_entry rounded pas es) ≡ pas ++ entries_addresses es
       by_bytes [] h = refl
       by_bytes (pa ∷ pas) h = ap (λ qs. qs ++ entries_addresses es) h
 
   -- where no byte is refused, the entries have the bytes of the spans
-  entries_bytes : (offset : ℕ) (spans : List Span) → judged_spans m offset spans ≡ Fine → entries_addresses (entries_of m spans) ≡ map (physical_or_0 m) (span_addresses spans)
+  entries_bytes : (offset : ℕ) (spans : List Span) → judged_spans t offset spans ≡ Fine → entries_addresses (entries_of rounded t spans) ≡ map (physical_or_0 t) (span_addresses spans)
   entries_bytes offset [] h = refl
-  entries_bytes offset (s ∷ ss) h = by_count (nat_eq (length (reached m s.va.0 s.len)) s.len) refl (entries_bytes (offset + s.len) ss)
+  entries_bytes offset (s ∷ ss) h = by_count (nat_eq (length (reached t s.va.0 s.len)) s.len) refl (entries_bytes (offset + s.len) ss)
     where
-      by_count : (b : Bool) → nat_eq (length (reached m s.va.0 s.len)) s.len ≡ b → (judged_spans m (offset + s.len) ss ≡ Fine → entries_addresses (entries_of m ss) ≡ map (physical_or_0 m) (span_addresses ss)) → entries_addresses (entries_of m (s ∷ ss)) ≡ map (physical_or_0 m) (span_addresses (s ∷ ss))
+      by_count : (b : Bool) → nat_eq (length (reached t s.va.0 s.len)) s.len ≡ b → (judged_spans t (offset + s.len) ss ≡ Fine → entries_addresses (entries_of rounded t ss) ≡ map (physical_or_0 t) (span_addresses ss)) → entries_addresses (entries_of rounded t (s ∷ ss)) ≡ map (physical_or_0 t) (span_addresses (s ∷ ss))
       by_count true e others =
-          ap entries_addresses (first_entry m s ss offset true e) ∙ entry_bytes s (entries_of m ss)
-          ∙ ap (λ pas. pas ++ entries_addresses (entries_of m ss)) (reached_all m s.va.0 s.len (eqb-true (length (reached m s.va.0 s.len)) s.len e))
-          ∙ ap (λ qs. map (physical_or_0 m) (run_of s.va.0 s.len) ++ qs) (others (sym (first_judged m s ss offset true e) ∙ h))
-          ∙ sym (map-append (physical_or_0 m) (run_of s.va.0 s.len) (span_addresses ss))
-      by_count false e others = absurd (refused (sym (first_judged m s ss offset false e) ∙ h))
+          ap entries_addresses (first_entry t s ss offset rounded true e) ∙ entry_bytes s (entries_of rounded t ss)
+          ∙ ap (λ pas. pas ++ entries_addresses (entries_of rounded t ss)) (reached_all t s.va.0 s.len (eqb-true (length (reached t s.va.0 s.len)) s.len e))
+          ∙ ap (λ qs. map (physical_or_0 t) (run_of s.va.0 s.len) ++ qs) (others (sym (first_judged t s ss offset true e) ∙ h))
+          ∙ sym (map-append (physical_or_0 t) (run_of s.va.0 s.len) (span_addresses ss))
+      by_count false e others = absurd (refused (sym (first_judged t s ss offset false e) ∙ h))
         where
-          refused : refused_at (offset + length (reached m s.va.0 s.len)) ≡ Fine → ⊥
+          refused : refused_at (offset + length (reached t s.va.0 s.len)) ≡ Fine → ⊥
           refused r = cc
 
 -- a walk that has entries
-record IsWhole (m : Memory) (spans : List Span) (es : List Entry) : Type 0 where
-  pub fine : judged_spans m 0 spans ≡ Fine
-  pub are : es ≡ entries_of m spans
+record IsWhole (rounded : Bool) (t : Translation) (spans : List Span) (es : List Entry) : Type 0 where
+  pub fine : judged_spans t 0 spans ≡ Fine
+  pub are : es ≡ entries_of rounded t spans
 
-whole : (m : Memory) (spans : List Span) (es : List Entry) → walk.All es ≡ vector_walk m spans → IsWhole m spans es
-whole m spans es h = by_judgement (judged_spans m 0 spans) refl h
+whole : (rounded : Bool) (t : Translation) (spans : List Span) (es : List Entry) → walk.All es ≡ spans_walk rounded t spans → IsWhole rounded t spans es
+whole rounded t spans es h = by_judgement (judged_spans t 0 spans) refl h
   where
-    by_judgement : (j : Judged) → judged_spans m 0 spans ≡ j → walk.All es ≡ walk_unless j (entries_of m spans) → IsWhole m spans es
+    by_judgement : (j : Judged) → judged_spans t 0 spans ≡ j → walk.All es ≡ walk_unless j (entries_of rounded t spans) → IsWhole rounded t spans es
     by_judgement Fine e k = record { fine = e; are = cc }
     by_judgement (Refused r) e k = absurd (cc)
 
-module _ (m : Memory) (spans : List Span) (es : List Entry) (is : IsMemory m) (h : walk.All es ≡ vector_walk m spans) where
-  pub walk_bytes : entries_addresses es ≡ map (physical_or_0 m) (span_addresses spans)
-  walk_bytes = ap entries_addresses (whole m spans es h).are ∙ entries_bytes m is 0 spans (whole m spans es h).fine
+module _ (Has : ℕ → Type 0) (rounded : Bool) (t : Translation) (spans : List Span) (es : List Entry) (is : IsPaged Has t) (h : walk.All es ≡ spans_walk rounded t spans) where
+  pub walk_bytes : entries_addresses es ≡ map (physical_or_0 t) (span_addresses spans)
+  walk_bytes = ap entries_addresses (whole rounded t spans es h).are ∙ entries_bytes Has rounded t is 0 spans (whole rounded t spans es h).fine
 
   pub walk_entries : AllByRecursion IsEntry es
-  walk_entries = subst (AllByRecursion IsEntry) (sym (whole m spans es h).are) (entries_are m is spans)
+  walk_entries = subst (AllByRecursion IsEntry) (sym (whole rounded t spans es h).are) (entries_are Has rounded t is spans)
 
   pub walk_touches : AllByRecursion HasPart es
-  walk_touches = subst (AllByRecursion HasPart) (sym (whole m spans es h).are) (entries_touch m is spans)
+  walk_touches = subst (AllByRecursion HasPart) (sym (whole rounded t spans es h).are) (entries_touch Has rounded t is spans)
 
-  pub walk_frames : AllByRecursion (λ e. AllByRecursion (LiesIn m) e.parts) es
-  walk_frames = subst (AllByRecursion (λ e. AllByRecursion (LiesIn m) e.parts)) (sym (whole m spans es h).are) (entries_lie m is spans)
+  pub walk_have : AllByRecursion (λ e. AllByRecursion (λ x. Has x.pa.0) e.parts) es
+  walk_have = subst (AllByRecursion (λ e. AllByRecursion (λ x. Has x.pa.0) e.parts)) (sym (whole rounded t spans es h).are) (entries_have Has rounded t is spans)
 
 -- ---- the walk at an index
 
-module _ (m : Memory) (es : List Entry) (offset : ℕ) (spans : List Span) (i : ℕ) (other : Span) (inside : i < length spans) where
+module _ (t : Translation) (es : List Entry) (offset : ℕ) (spans : List Span) (i : ℕ) (other : Span) (inside : i < length spans) where
   abbrev pub this : Span
   this = get_or spans i other
 
@@ -276,12 +277,12 @@ module _ (m : Memory) (es : List Entry) (offset : ℕ) (spans : List Span) (i : 
       let next : suc i ≡ i + 1 = omega arith in
       drop-cons spans i other inside ∙ ap (λ j. this ∷ drop j spans) next
 
-  pub walk_here : walk_from m es offset (drop i spans) ≡ walk_from m es offset (this ∷ drop (i + 1) spans)
-  walk_here = ap (walk_from m es offset) split
+  pub walk_here : walk_from t es offset (drop i spans) ≡ walk_from t es offset (this ∷ drop (i + 1) spans)
+  walk_here = ap (walk_from t es offset) split
 
   pub bytes_here : offset + this.len + span_bytes (drop (i + 1) spans) ≡ offset + span_bytes (drop i spans)
   bytes_here = first_bytes offset (drop i spans) this (drop (i + 1) spans) split
 
 -- the walk at the end
-pub walk_end : (m : Memory) (es all : List Entry) (offset : ℕ) (spans : List Span) (i : ℕ) → all ≡ es → length spans ≤ i → walk_from m es offset (drop i spans) ≡ vector_walk m spans → walk.All all ≡ vector_walk m spans
-walk_end m es all offset spans i same h e = ap walk.All (same ∙ sym (append-nil es)) ∙ ap (walk_from m es offset) (sym (drop_all i spans h)) ∙ e
+pub walk_end : (t : Translation) (es all : List Entry) (offset : ℕ) (spans : List Span) (i : ℕ) → all ≡ es → length spans ≤ i → walk_from t es offset (drop i spans) ≡ spans_walk true t spans → walk.All all ≡ spans_walk true t spans
+walk_end t es all offset spans i same h e = ap walk.All (same ∙ sym (append-nil es)) ∙ ap (walk_from t es offset) (sym (drop_all i spans h)) ∙ e

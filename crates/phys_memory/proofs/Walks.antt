@@ -15,65 +15,66 @@ use Rattle.busdma_base.specs.Journals.Judging.{judged, refused_or}
 use Rattle.busdma_base.specs.Runs.{addresses, run_of, IsExtent}
 use Rattle.phys_memory.specs.declared.walk.Walked.{Walked}
 use Rattle.phys_memory.specs.declared.walk.Walked.TheVariants.{Parts, Unmapped}
-use Rattle.phys_memory.specs.Memory.{Memory, IsMemory, missing, physical, unreached}
-use Rattle.phys_memory.specs.Extents.{LiesIn, extents_of, reached, then_reached}
-use Rattle.phys_memory.specs.Walk.{IfParts, flat, physical_or_0, run_stream, verdict, walk_of, walked}
+use Rattle.phys_memory.specs.Translation.{Translation, missing, physical_or_0, unreached}
+use Rattle.phys_memory.specs.Extents.{extents_of, reached, then_reached}
+use Rattle.phys_memory.specs.Walk.{IfParts, flat, run_stream, verdict, walk_of, walked}
 use Rattle.phys_memory.proofs.Extents.{reached_extents}
+use Rattle.phys_memory.proofs.Paged.{IsPaged}
 
-walked-parts : (before es : List Extent) (opens : Bool) (rest : List Part) → walked before (extent_parts opens true es ++ rest) ≡ walked (before ++ es) rest
-walked-parts before [] opens rest = ap (λ xs. walked xs rest) (sym (append-nil before))
-walked-parts before (e ∷ es) opens rest = walked-parts (before ++ e ∷ []) es false rest ∙ ap (λ xs. walked xs rest) (append_assoc before (e ∷ []) es)
+walked-parts : (before es : List Extent) (opens rounded : Bool) (rest : List Part) → walked before (extent_parts opens rounded es ++ rest) ≡ walked (before ++ es) rest
+walked-parts before [] opens rounded rest = ap (λ xs. walked xs rest) (sym (append-nil before))
+walked-parts before (e ∷ es) opens rounded rest = walked-parts (before ++ e ∷ []) es false rounded rest ∙ ap (λ xs. walked xs rest) (append_assoc before (e ∷ []) es)
 
 -- the walk over a stream is the one over its bytes
-walked-run : (pas : List ℕ) (n : ℕ) (opens : Bool) → walked [] (run_stream pas n 0 opens) ≡ walk_of pas n
-walked-run pas n opens =
+walked-run : (pas : List ℕ) (n : ℕ) (opens rounded : Bool) → walked [] (run_stream pas n 0 opens rounded) ≡ walk_of pas n
+walked-run pas n opens rounded =
     let zero_plus : 0 + length pas ≡ length pas = omega arith in
-    walked-parts [] (extents_of pas) opens (if nat_eq (length pas) n then [] else part.Unmapped (0 + length pas) ∷ [])
+    walked-parts [] (extents_of pas) opens rounded (if nat_eq (length pas) n then [] else part.Unmapped (0 + length pas) ∷ [])
     ∙ elim (nat_eq (length pas) n) as (λ b. walked (extents_of pas) (if b then [] else part.Unmapped (0 + length pas) ∷ []) ≡ (if b then Parts (extents_of pas) else Unmapped (length pas))) [ true ↦ refl | false ↦ ap (λ k. Unmapped k) zero_plus ]
 
 -- ---- what a walk says
 
 eqb_suc : (a b : ℕ) → nat_eq (suc a) (suc b) ≡ nat_eq a b
 eqb_suc a b = elim (eqb_tells a b) [
-  | inl t ↦ eq-eqb (suc a) (suc b) (ap suc t.1) ∙ sym t.0
-  | inr t ↦ ne_eqb (suc a) (suc b) (λ e. t.1 (omega arith)) ∙ sym t.0
+  | inl e ↦ eq-eqb (suc a) (suc b) (ap suc e.1) ∙ sym e.0
+  | inr d ↦ ne_eqb (suc a) (suc b) (λ e. d.1 (omega arith)) ∙ sym d.0
 ]
 
 abbrev pub refused_at : ℕ → Judged
 refused_at k = Refused (record { name = name.Unmapped; at = k })
 
 -- the judgement of a run of bytes, and then of others
-pub judged-run : (m : Memory) (va n k : ℕ) (rest : List ℕ) → judged (unreached m) k (run_of va n ++ rest) ≡ (if nat_eq (length (reached m va n)) n then judged (unreached m) (k + n) rest else refused_at (k + length (reached m va n)))
-judged-run m va zero k rest =
+pub judged-run : (t : Translation) (va n k : ℕ) (rest : List ℕ) → judged (unreached t) k (run_of va n ++ rest) ≡ (if nat_eq (length (reached t va n)) n then judged (unreached t) (k + n) rest else refused_at (k + length (reached t va n)))
+judged-run t va zero k rest =
     let none : k ≡ k + 0 = omega arith in
-    ap (λ j. judged (unreached m) j rest) none
-judged-run m va (suc n) k rest = first (physical m va) (judged-run m (va + 1) n (k + 1) rest)
+    ap (λ j. judged (unreached t) j rest) none
+judged-run t va (suc n) k rest = first (t va) (judged-run t (va + 1) n (k + 1) rest)
   where
-    first : (o : Option ℕ) → judged (unreached m) (k + 1) (run_of (va + 1) n ++ rest) ≡ (if nat_eq (length (reached m (va + 1) n)) n then judged (unreached m) (k + 1 + n) rest else refused_at (k + 1 + length (reached m (va + 1) n))) → refused_or (missing o) k (judged (unreached m) (k + 1) (run_of (va + 1) n ++ rest)) ≡ (if nat_eq (length (then_reached o (reached m (va + 1) n))) (suc n) then judged (unreached m) (k + suc n) rest else refused_at (k + length (then_reached o (reached m (va + 1) n))))
+    first : (o : Option ℕ) → judged (unreached t) (k + 1) (run_of (va + 1) n ++ rest) ≡ (if nat_eq (length (reached t (va + 1) n)) n then judged (unreached t) (k + 1 + n) rest else refused_at (k + 1 + length (reached t (va + 1) n))) → refused_or (missing o) k (judged (unreached t) (k + 1) (run_of (va + 1) n ++ rest)) ≡ (if nat_eq (length (then_reached o (reached t (va + 1) n))) (suc n) then judged (unreached t) (k + suc n) rest else refused_at (k + length (then_reached o (reached t (va + 1) n))))
     first None others =
         let none : k ≡ k + 0 = omega arith in
-        ap refused_at none ∙ ap (λ b. if b then judged (unreached m) (k + suc n) rest else refused_at (k + 0)) (sym (ne_eqb 0 (suc n) (omega arith)))
+        ap refused_at none ∙ ap (λ b. if b then judged (unreached t) (k + suc n) rest else refused_at (k + 0)) (sym (ne_eqb 0 (suc n) (omega arith)))
     first (Some p) others =
-        let l = length (reached m (va + 1) n) in
+        let l = length (reached t (va + 1) n) in
         let reached_one : k + 1 + l ≡ k + suc l = omega arith in
         let all_one : k + 1 + n ≡ k + suc n = omega arith in
-        others ∙ ap (λ j. if nat_eq l n then judged (unreached m) (k + 1 + n) rest else refused_at j) reached_one
-        ∙ ap (λ j. if nat_eq l n then judged (unreached m) j rest else refused_at (k + suc l)) all_one
-        ∙ ap (λ b. if b then judged (unreached m) (k + suc n) rest else refused_at (k + suc l)) (sym (eqb_suc l n))
+        others ∙ ap (λ j. if nat_eq l n then judged (unreached t) (k + 1 + n) rest else refused_at j) reached_one
+        ∙ ap (λ j. if nat_eq l n then judged (unreached t) j rest else refused_at (k + suc l)) all_one
+        ∙ ap (λ b. if b then judged (unreached t) (k + suc n) rest else refused_at (k + suc l)) (sym (eqb_suc l n))
 
-verdict-walk_of : (m : Memory) (va n : ℕ) → verdict (walk_of (reached m va n) n) ≡ judged (unreached m) 0 (run_of va n)
-verdict-walk_of m va n =
-    let l = length (reached m va n) in
+verdict-walk_of : (t : Translation) (va n : ℕ) → verdict (walk_of (reached t va n) n) ≡ judged (unreached t) 0 (run_of va n)
+verdict-walk_of t va n =
+    let l = length (reached t va n) in
     let zero_plus : l ≡ 0 + l = omega arith in
-    elim (nat_eq l n) as (λ b. verdict (if b then Parts (extents_of (reached m va n)) else Unmapped l) ≡ (if b then Fine else refused_at (0 + l))) [ true ↦ refl | false ↦ ap refused_at zero_plus ]
-    ∙ sym (judged-run m va n 0 []) ∙ ap (judged (unreached m) 0) (append-nil (run_of va n))
+    elim (nat_eq l n) as (λ b. verdict (if b then Parts (extents_of (reached t va n)) else Unmapped l) ≡ (if b then Fine else refused_at (0 + l))) [ true ↦ refl | false ↦ ap refused_at zero_plus ]
+    ∙ sym (judged-run t va n 0 []) ∙ ap (judged (unreached t) 0) (append-nil (run_of va n))
 
 -- where all bytes are reached, they stand at their physical addresses
-pub reached_all : (m : Memory) (va n : ℕ) → length (reached m va n) ≡ n → reached m va n ≡ map (physical_or_0 m) (run_of va n)
-reached_all m va zero h = refl
-reached_all m va (suc n) h = first (physical m va) h (λ e. reached_all m (va + 1) n e)
+pub reached_all : (t : Translation) (va n : ℕ) → length (reached t va n) ≡ n → reached t va n ≡ map (physical_or_0 t) (run_of va n)
+reached_all t va zero h = refl
+reached_all t va (suc n) h = first (t va) h (λ e. reached_all t (va + 1) n e)
   where
-    first : (o : Option ℕ) → length (then_reached o (reached m (va + 1) n)) ≡ suc n → (length (reached m (va + 1) n) ≡ n → reached m (va + 1) n ≡ map (physical_or_0 m) (run_of (va + 1) n)) → then_reached o (reached m (va + 1) n) ≡ unwrap_or o 0 ∷ map (physical_or_0 m) (run_of (va + 1) n)
+    first : (o : Option ℕ) → length (then_reached o (reached t (va + 1) n)) ≡ suc n → (length (reached t (va + 1) n) ≡ n → reached t (va + 1) n ≡ map (physical_or_0 t) (run_of (va + 1) n)) → then_reached o (reached t (va + 1) n) ≡ unwrap_or o 0 ∷ map (physical_or_0 t) (run_of (va + 1) n)
     first None e others = absurd (omega arith)
     first (Some p) e others = ap (λ pas. p ∷ pas) (others (omega arith))
 
@@ -87,25 +88,25 @@ if_parts pas n P h = whole (nat_eq (length pas) n) refl
 
 -- ---- the walk over a stream of a virtual run
 
-module _ (m : Memory) (va n : ℕ) (w : Walked) (h : w ≡ walked [] (flat m va n)) where
-  pub walk_is : w ≡ walk_of (reached m va n) n
-  walk_is = h ∙ walked-run (reached m va n) n true
+module _ (t : Translation) (va n : ℕ) (w : Walked) (h : w ≡ walked [] (flat t va n)) where
+  pub walk_is : w ≡ walk_of (reached t va n) n
+  walk_is = h ∙ walked-run (reached t va n) n true true
 
-  pub verdict_is : verdict w ≡ judged (unreached m) 0 (run_of va n)
-  verdict_is = ap verdict walk_is ∙ verdict-walk_of m va n
+  pub verdict_is : verdict w ≡ judged (unreached t) 0 (run_of va n)
+  verdict_is = ap verdict walk_is ∙ verdict-walk_of t va n
 
-  module _ (is : IsMemory m) where
-    from_extents : (P : List Extent → Type 0) → (length (reached m va n) ≡ n → P (extents_of (reached m va n))) → IfParts w P
-    from_extents P k = subst (λ w. IfParts w P) (sym walk_is) (if_parts (reached m va n) n P k)
+  module _ (Has : ℕ → Type 0) (is : IsPaged Has t) where
+    from_extents : (P : List Extent → Type 0) → (length (reached t va n) ≡ n → P (extents_of (reached t va n))) → IfParts w P
+    from_extents P k = subst (λ w. IfParts w P) (sym walk_is) (if_parts (reached t va n) n P k)
 
-    pub walk_addresses : IfParts w (λ es. addresses es ≡ map (physical_or_0 m) (run_of va n))
-    walk_addresses = from_extents (λ es. addresses es ≡ map (physical_or_0 m) (run_of va n)) (λ k. (reached_extents m va n is).bytes ∙ reached_all m va n k)
+    pub walk_addresses : IfParts w (λ es. addresses es ≡ map (physical_or_0 t) (run_of va n))
+    walk_addresses = from_extents (λ es. addresses es ≡ map (physical_or_0 t) (run_of va n)) (λ k. (reached_extents Has t is va n).bytes ∙ reached_all t va n k)
 
     pub walk_extents : IfParts w (AllByRecursion IsExtent)
-    walk_extents = from_extents (AllByRecursion IsExtent) (λ k. (reached_extents m va n is).extents)
+    walk_extents = from_extents (AllByRecursion IsExtent) (λ k. (reached_extents Has t is va n).extents)
 
     pub walk_joined : IfParts w AreJoined
-    walk_joined = from_extents AreJoined (λ k. (reached_extents m va n is).joined)
+    walk_joined = from_extents AreJoined (λ k. (reached_extents Has t is va n).joined)
 
-    pub walk_lies : IfParts w (AllByRecursion (LiesIn m))
-    walk_lies = from_extents (AllByRecursion (LiesIn m)) (λ k. (reached_extents m va n is).lie)
+    pub walk_has : IfParts w (AllByRecursion (λ e. Has e.pa.0))
+    walk_has = from_extents (AllByRecursion (λ e. Has e.pa.0)) (λ k. (reached_extents Has t is va n).have)

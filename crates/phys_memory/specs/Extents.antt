@@ -2,7 +2,8 @@
 use Rattle.std.specs.Prelude.{◌≡◌, ℕ, zero, suc, ◌+◌, ◌/◌, ◌%◌, ◌-◌, ◌≤◌, ◌==◌, true, if◌then◌else◌, List, [], ◌∷◌, ◌++◌, Option, Some, None}
 use Rattle.busdma_base.specs.declared.machine.address.Extent.{Extent}
 use Rattle.busdma_base.specs.Runs.{IsExtent, run_of}
-use Rattle.phys_memory.specs.Memory.{Memory, physical, has_frame}
+use Rattle.phys_memory.specs.Memory.{Memory, has_frame}
+use Rattle.phys_memory.specs.Translation.{Translation}
 
 -- a byte before the extents of the bytes after it: one extent with the next byte, unless a frame begins there
 abbrev pub with_byte : ℕ → List Extent → List Extent
@@ -22,9 +23,9 @@ then_reached None others = []
 then_reached (Some pa) others = pa ∷ others
 
 -- the physical addresses of n bytes from a virtual address on, up to the first that cannot be reached
-abbrev pub reached : Memory → ℕ → ℕ → List ℕ
-reached m va zero = []
-reached m va (suc n) = then_reached (physical m va) (reached m (va + 1) n)
+abbrev pub reached : Translation → ℕ → ℕ → List ℕ
+reached t va zero = []
+reached t va (suc n) = then_reached (t va) (reached t (va + 1) n)
 
 -- the extent lies in a frame of the memory
 abbrev pub LiesIn : Memory → Extent → Type 0
@@ -36,9 +37,8 @@ BeginsFrame [] = Unit {0}
 BeginsFrame (pa ∷ pas) = pa % 4096 ≡ 0
 
 -- the extent has the first of n bytes from a virtual address on, and all after it that can be reached in its frame
-pub record IsNext (m : Memory) (va n : ℕ) (e : Extent) : Type 0 where
+pub record IsNext (t : Translation) (va n : ℕ) (e : Extent) : Type 0 where
   pub extent : IsExtent e
-  pub lies : LiesIn m e
   pub short : e.len ≤ n
-  pub others : reached m va n ≡ run_of e.pa.0 e.len ++ reached m (va + e.len) (n - e.len)
-  pub cut : BeginsFrame (reached m (va + e.len) (n - e.len))
+  pub others : reached t va n ≡ run_of e.pa.0 e.len ++ reached t (va + e.len) (n - e.len)
+  pub cut : BeginsFrame (reached t (va + e.len) (n - e.len))

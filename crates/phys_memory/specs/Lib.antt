@@ -2,5 +2,6 @@ pub mod Codes
 pub mod Extents
 pub mod Kept
 pub mod Memory
+pub mod Translation
 pub mod Vector
 pub mod Walk

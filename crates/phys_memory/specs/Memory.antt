@@ -3,9 +3,8 @@ use Rattle.std.specs.Prelude.{◌≡◌, ℕ, ◌+◌, ◌*◌, ◌/◌, ◌%◌
 use Rattle.std.specs.Ordering.{nat_cmp}
 use Rattle.std.specs.FinMap.{FinMap, get, contains_key, insert, remove}
 use Rattle.phys_memory.specs.declared.reach.Reach.{Reach}
-use Rattle.busdma_base.specs.declared.journals.report.ReportName.{ReportName}
-use Rattle.busdma_base.specs.declared.journals.report.ReportName.TheVariants.{Unmapped}
 use Rattle.busdma_base.specs.Machine.Page.{FrameBytes, overwritten}
+use Rattle.phys_memory.specs.Translation.{Translation}
 
 -- the virtual pages by their number, the virtual address / 4096, and the bytes of the frames by theirs
 pub record Memory : Type 0 where
@@ -27,16 +26,8 @@ abbrev pub row_at : Memory → ℕ → Option Reach
 row_at m va = if nat_lt va (2 ^ 64) then get m.table (va / 4096) else None
 
 -- the physical address of a virtual one, where the driver can reach it
-abbrev pub physical : Memory → ℕ → Option ℕ
+abbrev pub physical : Memory → Translation
 physical m va = reached_in (row_at m va) (va % 4096)
-
--- what stands in the way of a byte at a virtual address
-abbrev pub missing : Option ℕ → Option ReportName
-missing None = Some Unmapped
-missing (Some pa) = None
-
-abbrev pub unreached : Memory → ℕ → Option ReportName
-unreached m va = missing (physical m va)
 
 -- the byte of a frame at a place, or 0 without the frame
 abbrev pub byte_in : Option (List ℕ) → ℕ → ℕ

@@ -1,5 +1,5 @@
 -- Walks over the spans of vectors, and the streams of their parts.
-use Rattle.std.specs.Prelude.{ℕ, ◌==◌, true, if◌then◌else◌, List, [], ◌∷◌, ◌++◌, length}
+use Rattle.std.specs.Prelude.{ℕ, ◌==◌, Bool, true, if◌then◌else◌, List, [], ◌∷◌, ◌++◌, length}
 use Rattle.busdma_base.specs.declared.machine.address.Span.{Span}
 use Rattle.busdma_base.specs.declared.machine.chunk.Entry.{Entry}
 use Rattle.busdma_base.specs.declared.machine.chunk.Part.{Part}
@@ -11,24 +11,24 @@ use Rattle.busdma_base.specs.Journals.Judging.{judged}
 use Rattle.busdma_base.specs.Machine.Spans.{span_addresses}
 use Rattle.phys_memory.specs.declared.entries.Entries.{Entries}
 use Rattle.phys_memory.specs.declared.entries.Entries.TheVariants.{All, Unmapped}
-use Rattle.phys_memory.specs.Memory.{Memory, unreached}
 use Rattle.phys_memory.specs.Extents.{extents_of, reached}
+use Rattle.phys_memory.specs.Translation.{Translation, unreached}
 
--- the entry of the bytes at these physical addresses before other entries; no byte is no entry
-abbrev pub with_entry : List ℕ → List Entry → List Entry
-with_entry [] es = es
-with_entry (pa ∷ pas) es = record { rounded = true; parts = extents_of (pa ∷ pas) } ∷ es
+-- the entry of the bytes at these physical addresses, rounded or not, before other entries; no byte is no entry
+abbrev pub with_entry : Bool → List ℕ → List Entry → List Entry
+with_entry rounded [] es = es
+with_entry rounded (pa ∷ pas) es = record { rounded = rounded; parts = extents_of (pa ∷ pas) } ∷ es
 
--- the entries of spans, up to the first byte that cannot be reached
-abbrev pub entries_of : Memory → List Span → List Entry
-entries_of m [] = []
-entries_of m (s ∷ ss) =
-    let pas = reached m s.va.0 s.len in
-    with_entry pas (if length pas == s.len then entries_of m ss else [])
+-- the entries of spans, all of them rounded or none, up to the first byte that cannot be reached
+abbrev pub entries_of : Bool → Translation → List Span → List Entry
+entries_of rounded t [] = []
+entries_of rounded t (s ∷ ss) =
+    let pas = reached t s.va.0 s.len in
+    with_entry rounded pas (if length pas == s.len then entries_of rounded t ss else [])
 
 -- what stands in the way of the bytes of spans, the first of them at an offset of the load
-abbrev pub judged_spans : Memory → ℕ → List Span → Judged
-judged_spans m offset spans = judged (unreached m) offset (span_addresses spans)
+abbrev pub judged_spans : Translation → ℕ → List Span → Judged
+judged_spans t offset spans = judged (unreached t) offset (span_addresses spans)
 
 -- a walk that found entries, unless a byte is refused
 abbrev pub walk_unless : Judged → List Entry → Entries
@@ -36,8 +36,12 @@ walk_unless Fine es = All es
 walk_unless (Refused r) es = Unmapped r.at
 
 -- the walk over spans
-abbrev pub vector_walk : Memory → List Span → Entries
-vector_walk m spans = walk_unless (judged_spans m 0 spans) (entries_of m spans)
+abbrev pub spans_walk : Bool → Translation → List Span → Entries
+spans_walk rounded t spans = walk_unless (judged_spans t 0 spans) (entries_of rounded t spans)
+
+-- the walk over a vector, whose entries are rounded
+abbrev pub vector_walk : Translation → List Span → Entries
+vector_walk t spans = spans_walk true t spans
 
 -- the part that ends a stream where a byte is refused
 abbrev pub ending : Judged → List Part
@@ -45,12 +49,16 @@ ending Fine = []
 ending (Refused r) = part.Unmapped r.at ∷ []
 
 -- the stream of spans, the first byte of which stands at an offset of the load
-abbrev pub vector_at : Memory → ℕ → List Span → List Part
-vector_at m offset spans = parts_of (entries_of m spans) ++ ending (judged_spans m offset spans)
+abbrev pub spans_at : Bool → Translation → ℕ → List Span → List Part
+spans_at rounded t offset spans = parts_of (entries_of rounded t spans) ++ ending (judged_spans t offset spans)
 
 -- the stream of spans
-abbrev pub vector : Memory → List Span → List Part
-vector m spans = vector_at m 0 spans
+abbrev pub spans_stream : Bool → Translation → List Span → List Part
+spans_stream rounded t spans = spans_at rounded t 0 spans
+
+-- the stream of a vector, whose entries are rounded
+abbrev pub vector : Translation → List Span → List Part
+vector t spans = spans_stream true t spans
 
 -- the vector of one span
 abbrev pub one_span : ℕ → ℕ → List Span

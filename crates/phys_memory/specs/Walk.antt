@@ -1,5 +1,5 @@
 -- Walks over virtual bytes, and the streams of their parts.
-use Rattle.std.specs.Prelude.{ℕ, ◌+◌, ◌==◌, Bool, true, if◌then◌else◌, List, [], ◌∷◌, ◌++◌, length, unwrap_or}
+use Rattle.std.specs.Prelude.{ℕ, ◌+◌, ◌==◌, Bool, true, if◌then◌else◌, List, [], ◌∷◌, ◌++◌, length}
 use Rattle.busdma_base.specs.declared.machine.address.Extent.{Extent}
 use Rattle.busdma_base.specs.declared.machine.chunk.Part.{Part}
 use Rattle.busdma_base.specs.declared.machine.chunk.Part.TheVariants as part
@@ -9,21 +9,22 @@ use Rattle.busdma_base.specs.declared.journals.report.Judged.TheVariants.{Fine, 
 use Rattle.busdma_base.specs.Machine.Entry.{extent_parts}
 use Rattle.phys_memory.specs.declared.walk.Walked.{Walked}
 use Rattle.phys_memory.specs.declared.walk.Walked.TheVariants.{Parts, Unmapped}
-use Rattle.phys_memory.specs.Memory.{Memory, physical}
 use Rattle.phys_memory.specs.Extents.{extents_of, reached}
+use Rattle.phys_memory.specs.Translation.{Translation}
 
--- the stream of n bytes, the first of them at an offset of the load, of which these can be reached
-abbrev pub run_stream : List ℕ → ℕ → ℕ → Bool → List Part
-run_stream pas n offset opens =
-    extent_parts opens true (extents_of pas) ++ (if length pas == n then [] else part.Unmapped (offset + length pas) ∷ [])
+-- the stream of n bytes of which these can be reached, the first of them at an offset of the load; an
+-- entry opens with them or does not, and it is rounded or is not
+abbrev pub run_stream : List ℕ → ℕ → ℕ → Bool → Bool → List Part
+run_stream pas n offset opens rounded =
+    extent_parts opens rounded (extents_of pas) ++ (if length pas == n then [] else part.Unmapped (offset + length pas) ∷ [])
 
 -- the stream of n bytes from a virtual address on, the first of them at an offset of the load
-abbrev pub flat_at : Memory → ℕ → ℕ → ℕ → List Part
-flat_at m offset va n = run_stream (reached m va n) n offset true
+abbrev pub flat_at : Bool → Translation → ℕ → ℕ → ℕ → List Part
+flat_at rounded t offset va n = run_stream (reached t va n) n offset true rounded
 
 -- the stream of n bytes from a virtual address on
-abbrev pub flat : Memory → ℕ → ℕ → List Part
-flat m va n = flat_at m 0 va n
+abbrev pub flat : Translation → ℕ → ℕ → List Part
+flat t va n = flat_at true t 0 va n
 
 -- the walk over n bytes of which these can be reached
 abbrev pub walk_of : List ℕ → ℕ → Walked
@@ -44,7 +45,3 @@ verdict (Unmapped at) = Refused (record { name = name.Unmapped; at = at })
 abbrev pub IfParts : Walked → (List Extent → Type 0) → Type 0
 IfParts (Parts es) P = P es
 IfParts (Unmapped at) P = Unit {0}
-
--- the physical address of a virtual one, or 0
-abbrev pub physical_or_0 : Memory → ℕ → ℕ
-physical_or_0 m va = unwrap_or (physical m va) 0

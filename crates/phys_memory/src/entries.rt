@@ -6,8 +6,9 @@ ghost use Rattle.busdma_base.specs.Machine.Entry.{HasPart, IsEntry, entries_addr
 ghost use Rattle.busdma_base.specs.Runs.{run_of};
 ghost use Rattle.busdma_base.specs.Machine.Spans.{span_addresses, span_bytes};
 ghost use Rattle.phys_memory.specs.Extents.{LiesIn};
+ghost use Rattle.phys_memory.specs.Memory.{physical};
+ghost use Rattle.phys_memory.specs.Translation.{physical_or_0};
 ghost use Rattle.phys_memory.specs.Vector.{IfAll, one_span, vector_walk};
-ghost use Rattle.phys_memory.specs.Walk.{physical_or_0};
 
 use crate::pages::LanePages;
 use crate::walk::Walked;
@@ -25,8 +26,8 @@ pub enum Entries {
 impl LanePages {
     /// The entries of `len` virtual bytes: one, or none where there is no byte.
     pub fn walk_flat(&self, alloc: Global, va: Va, len: u64) -> Result<Entries, AllocError>
-        ensures walk { IfOk result (λ w. w ≡ vector_walk self.now.memory (one_span va.0 len)) }
-        ensures addresses { let pas = map (physical_or_0 self.now.memory) (run_of va.0 len) in
+        ensures walk { IfOk result (λ w. w ≡ vector_walk (physical self.now.memory) (one_span va.0 len)) }
+        ensures addresses { let pas = map (physical_or_0 (physical self.now.memory)) (run_of va.0 len) in
             IfOk result (λ w. IfAll w (λ es. entries_addresses es ≡ pas)) }
         ensures entries { IfOk result (λ w. IfAll w (AllByRecursion IsEntry)) }
         ensures some { IfOk result (λ w. IfAll w (AllByRecursion HasPart)) }
@@ -39,8 +40,8 @@ impl LanePages {
     /// The entries of a vector, in order: one for each span that has a byte.
     pub fn walk_vector(&self, alloc: Global, spans: &[Span]) -> Result<Entries, AllocError>
         requires { span_bytes spans.now < 2 ^ 64 }
-        ensures walk { IfOk result (λ w. w ≡ vector_walk self.now.memory spans.now) }
-        ensures addresses { let pas = map (physical_or_0 self.now.memory) (span_addresses spans.now) in
+        ensures walk { IfOk result (λ w. w ≡ vector_walk (physical self.now.memory) spans.now) }
+        ensures addresses { let pas = map (physical_or_0 (physical self.now.memory)) (span_addresses spans.now) in
             IfOk result (λ w. IfAll w (λ es. entries_addresses es ≡ pas)) }
 
         // One extent for each page that a span touches, and each in a frame of the memory.

@@ -25,14 +25,15 @@ pub struct FlatParts<'a> {
 }
 
 impl<'a> Model for FlatParts<'a> {
-    ghost use Rattle.std.specs.Prelude.{List, ◌+◌, ◌<◌, ◌^◌};
+    ghost use Rattle.std.specs.Prelude.{List, ◌+◌, ◌<◌, ◌^◌, true};
     ghost use Rattle.busdma_base.specs.declared.machine.chunk.Part.{Part};
     ghost use Rattle.phys_memory.specs.Extents.{reached};
+    ghost use Rattle.phys_memory.specs.Memory.{physical};
     ghost use Rattle.phys_memory.specs.Walk.{run_stream};
 
     ghost Value = { List Part };
 
-    ghost view = { λ s. run_stream (reached s.memory.now.memory s.at s.left) s.left s.offset s.opens };
+    ghost view = { λ s. run_stream (reached (physical s.memory.now.memory) s.at s.left) s.left s.offset s.opens true };
 
     ghost invariant = { λ s. (s.at + s.left < 2 ^ 65) × (s.offset + s.left < 2 ^ 64) };
 }
@@ -81,9 +82,9 @@ impl<'a> FlatParts<'a> {
 impl LanePages {
     /// The parts of `len` virtual bytes, which are those of the vector of one such span.
     pub fn parts_flat(&self, va: Va, len: u64) -> FlatParts<'_>
-        ensures parts { result ≡ flat self.now.memory va.0 len }
-        ensures vector { result ≡ vector self.now.memory (one_span va.0 len) }
-        ensures walk { IfAll (vector_walk self.now.memory (one_span va.0 len)) (λ es. result ≡ parts_of es) }
+        ensures parts { result ≡ flat (physical self.now.memory) va.0 len }
+        ensures vector { result ≡ vector (physical self.now.memory) (one_span va.0 len) }
+        ensures walk { IfAll (vector_walk (physical self.now.memory) (one_span va.0 len)) (λ es. result ≡ parts_of es) }
         ensures sound { IsMemory self.now.memory }
 
         // Up to 2^20 bytes are the stream of a load, and so is each front of it.
@@ -96,7 +97,7 @@ impl LanePages {
     // The same for bytes whose first stands at an offset of the load.
     pub(crate) fn parts_at(&self, va: Va, len: u64, offset: u64) -> FlatParts<'_>
         requires { offset + len < 2 ^ 64 }
-        ensures parts { result ≡ flat_at self.now.memory offset va.0 len }
+        ensures parts { result ≡ flat_at true (physical self.now.memory) offset va.0 len }
         ensures sound { IsMemory self.now.memory }
     {
         let _ = &self.table;
@@ -113,7 +114,7 @@ impl LanePages {
     fn extent_at(&self, at: u128, left: u64) -> Option<Extent>
         requires { 0 < left }
         ensures none { IfNone result (physical self.now.memory at ≡ None) }
-        ensures next { IfSome result (IsNext self.now.memory at left) }
+        ensures next { IfSome result (IsNext (physical self.now.memory) at left) }
     {
         let row = self.row_at(at)?;
         let inside = (at % 4096) as u64;

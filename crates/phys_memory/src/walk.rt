@@ -5,9 +5,10 @@ ghost use Rattle.std.specs.List.{AllByRecursion};
 ghost use Rattle.busdma_base.specs.Machine.Entry.{AreJoined};
 ghost use Rattle.busdma_base.specs.Journals.Judging.{judged};
 ghost use Rattle.busdma_base.specs.Runs.{IsExtent, addresses, run_of};
-ghost use Rattle.phys_memory.specs.Memory.{unreached};
+ghost use Rattle.phys_memory.specs.Memory.{physical};
 ghost use Rattle.phys_memory.specs.Extents.{LiesIn, reached};
-ghost use Rattle.phys_memory.specs.Walk.{IfParts, physical_or_0, verdict, walk_of, walked};
+ghost use Rattle.phys_memory.specs.Translation.{physical_or_0, unreached};
+ghost use Rattle.phys_memory.specs.Walk.{IfParts, verdict, walk_of, walked};
 
 use crate::flat::FlatParts;
 use crate::pages::LanePages;
@@ -24,9 +25,10 @@ pub enum Walked {
 impl LanePages {
     /// The extents of `len` virtual bytes, one for each page that they touch, in order.
     pub fn translate(&self, alloc: Global, va: Va, len: u64) -> Result<Walked, AllocError>
-        ensures walk { IfOk result (λ w. w ≡ walk_of (reached self.now.memory va.0 len) len) }
-        ensures verdict { IfOk result (λ w. verdict w ≡ judged (unreached self.now.memory) 0 (run_of va.0 len)) }
-        ensures addresses { let pas = map (physical_or_0 self.now.memory) (run_of va.0 len) in
+        ensures walk { IfOk result (λ w. w ≡ walk_of (reached (physical self.now.memory) va.0 len) len) }
+        ensures verdict { let refusal = unreached (physical self.now.memory) in
+            IfOk result (λ w. verdict w ≡ judged refusal 0 (run_of va.0 len)) }
+        ensures addresses { let pas = map (physical_or_0 (physical self.now.memory)) (run_of va.0 len) in
             IfOk result (λ w. IfParts w (λ es. addresses es ≡ pas)) }
 
         // One extent for each page, and each in a frame of the memory.

@@ -9,7 +9,9 @@ use Rattle.busdma_base.specs.declared.journals.answer.Answer.TheVariants.{Refuse
 use Rattle.busdma_base.specs.declared.journals.report.Errno.TheVariants.{EINVAL}
 use Rattle.busdma_base.specs.declared.journals.report.Judged.TheVariants as judged
 use Rattle.busdma_base.specs.Runs.{addresses}
-use Rattle.phys_memory.specs.Walk.{verdict, physical_or_0}
+use Rattle.phys_memory.specs.Memory.{physical}
+use Rattle.phys_memory.specs.Translation.{physical_or_0}
+use Rattle.phys_memory.specs.Walk.{verdict}
 use Rattle.lane_core.specs.Covered.{Lie}
 use Rattle.lane_core.specs.Ideal.{ideal_of}
 use Rattle.lane_core.specs.Lane.{LaneState, gives, has_map, is_loaded, unless_refused, reached, bytes_at, virtual}
@@ -49,7 +51,7 @@ load_bytes-requires-clause-lie c =
 
 pub load_bytes-requires-clause-len : goal.load_bytes-requires-clause-len
 load_bytes-requires-clause-len c =
-    let f = physical_or_0 c.args.self.now.memory.memory in
+    let f = physical_or_0 (physical c.args.self.now.memory.memory) in
     ap (λ es. length (addresses es)) c.as_slice.ensures
     ∙ ap length (parts_have c.in_ok-at.field-0 c.in-Parts.bytes (λ es. addresses es ≡ map f (virtual c.args.place c.args.len)) c.in-Parts.is c.in_ok-at.ensures.addresses)
     ∙ length-virtual f c.args.place c.args.len
@@ -62,7 +64,7 @@ returns-clause-done c =
     let within : nat_lt (greatest_load l c.args.map) c.args.len ≡ false = let g = c.greatest_load.ensures in let le = c.if-greatest_load-len.false in grind (arith, nat_tests) in
     let bytes : addresses c.as_slice.result.now ≡ bytes_at l c.args.place c.args.len =
     ap addresses c.as_slice.ensures
-    ∙ parts_have c.in_ok-at.field-0 c.in-Parts.bytes (λ es. addresses es ≡ map (physical_or_0 c.args.self.now.memory.memory) (virtual c.args.place c.args.len)) c.in-Parts.is c.in_ok-at.ensures.addresses in
+    ∙ parts_have c.in_ok-at.field-0 c.in-Parts.bytes (λ es. addresses es ≡ map (physical_or_0 (physical c.args.self.now.memory.memory)) (virtual c.args.place c.args.len)) c.in-Parts.is c.in_ok-at.ensures.addresses in
     let load_is = by_reach c.args.map c.args.len c.args.place c.args.then.now l judged.Fine made idle (sym (ap verdict (sym c.in-Parts.is) ∙ c.in_ok-at.ensures.verdict))
     ∙ ap (λ b. cond b (gives (tried c.args.map l) (Refused EINVAL)) (gives (loaded c.args.map (bytes_at l c.args.place c.args.len) c.args.then.now l) (Segments (one_segment (bytes_at l c.args.place c.args.len))))) within in
     ok_map c.load_bytes.result _ _ (λ answer h. h ∙ ap (λ bs. gives (loaded c.args.map bs c.args.then.now l) (Segments (one_segment bs))) bytes ∙ sym load_is) c.load_bytes.ensures.done

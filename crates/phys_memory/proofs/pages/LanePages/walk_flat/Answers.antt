@@ -3,11 +3,12 @@ use Rattle.std.specs.Prelude.{List, IfOk}
 use Rattle.busdma_base.specs.Machine.Entry.{entries_addresses}
 use Rattle.busdma_base.specs.Runs.{run_of}
 use Rattle.phys_memory.specs.declared.entries.Entries.{Entries}
+use Rattle.phys_memory.specs.Memory.{physical}
+use Rattle.phys_memory.specs.Translation.{physical_or_0}
 use Rattle.phys_memory.specs.Vector.{IfAll}
-use Rattle.phys_memory.specs.Walk.{physical_or_0}
 use Rattle.phys_memory.proofs.pages.LanePages.walk_flat.Goals as goal
 
 pub returns-clause-addresses : goal.returns-clause-addresses
 returns-clause-addresses c =
-    let one = ap (map (physical_or_0 c.args.self.now.memory)) (append-nil (run_of c.args.va.0 c.args.len)) in
+    let one = ap (map (physical_or_0 (physical c.args.self.now.memory))) (append-nil (run_of c.args.va.0 c.args.len)) in
     subst (λ (pas : List ℕ). IfOk c.walk_vector.result (λ (w : Entries). IfAll w (λ es. entries_addresses es ≡ pas))) one c.walk_vector.ensures.addresses

@@ -1,4 +1,5 @@
 use Rattle.std.proofs.Common.{◌∙◌, arith}
+use Rattle.phys_memory.specs.Memory.{physical}
 use Rattle.phys_memory.proofs.Vectors.{first_bytes, next_span}
 use Rattle.phys_memory.proofs.vector.VectorPartsIterator.next.Goals as goal
 
@@ -11,5 +12,5 @@ loop-part-preserved c =
     let none = c.in_default.ensures.steps.0 in
     record {
       total = omega (arith, first_bytes s.offset s.spans.now span others are, c.loop-part.invariant.total);
-      same = next_span s.memory.now.memory s.current c.parts_at-self-inside.result s.offset s.spans.now span others none are c.parts_at-self-inside.ensures.parts ∙ c.loop-part.invariant.same;
+      same = next_span (physical s.memory.now.memory) s.current c.parts_at-self-inside.result s.offset s.spans.now span others none are c.parts_at-self-inside.ensures.parts ∙ c.loop-part.invariant.same;
     }
