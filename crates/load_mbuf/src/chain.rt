@@ -1,0 +1,60 @@
+//! The bytes of a chain: how many they are, and the walk over them, as entries and as a stream.
+
+ghost use Rattle.std.specs.Prelude.{◌≡◌, ◌^◌, ◌<◌, ◌≤◌, IfOk, map};
+ghost use Rattle.std.specs.Iterator.{HoldsAlong, YieldsFirst};
+ghost use Rattle.std.specs.List.{AllByRecursion};
+ghost use Rattle.busdma_base.specs.Machine.Entry.{HasPart, IsEntry, IsStream, entries_addresses, parts_of};
+ghost use Rattle.busdma_base.specs.Machine.Spans.{span_addresses, span_bytes};
+ghost use Rattle.phys_memory.specs.Extents.{LiesIn};
+ghost use Rattle.phys_memory.specs.Memory.{IsMemory, physical};
+ghost use Rattle.phys_memory.specs.Translation.{physical_or_0};
+ghost use Rattle.phys_memory.specs.Vector.{IfAll, vector, vector_walk};
+
+use busdma_base::Mbuf;
+use phys_memory::{Entries, LanePages, VectorParts};
+use std::alloc::{AllocError, Global};
+
+/// The parts of a chain, in order: the extents of each mbuf, the first of which opens its entry, up to
+/// the first byte that cannot be reached, and then `Unmapped` with the offset of that byte in the
+/// whole chain. An mbuf of length 0 gives nothing.
+pub type MbufParts<'a> = VectorParts<'a>;
+
+/// The number of bytes of a chain.
+pub fn total(chain: &[Mbuf]) -> u128
+    ensures { result ≡ span_bytes chain.now }
+{
+    let mut bytes = 0;
+    for mbuf in chain {
+        bytes += u128::from(mbuf.len);
+    }
+    bytes
+}
+
+/// The entries of a chain of a driver, in order: one for each mbuf that has a byte, or the offset in
+/// the whole chain of the first byte that cannot be reached.
+pub fn walk(alloc: Global, memory: &LanePages, chain: &[Mbuf]) -> Result<Entries, AllocError>
+    requires { span_bytes chain.now < 2 ^ 64 }
+    ensures walk { IfOk result (λ w. w ≡ vector_walk (physical memory.now.memory) chain.now) }
+    ensures addresses { let pas = map (physical_or_0 (physical memory.now.memory)) (span_addresses chain.now) in
+        IfOk result (λ w. IfAll w (λ es. entries_addresses es ≡ pas)) }
+    ensures entries { IfOk result (λ w. IfAll w (AllByRecursion IsEntry)) }
+    ensures some { IfOk result (λ w. IfAll w (AllByRecursion HasPart)) }
+    ensures frames { let lies = LiesIn memory.now.memory in
+        IfOk result (λ w. IfAll w (AllByRecursion (λ e. AllByRecursion lies e.parts))) }
+{
+    memory.walk_vector(alloc, chain)
+}
+
+/// The parts of a chain of a driver, which are those of the entries where all bytes can be reached.
+pub fn parts<'a>(memory: &'a LanePages, chain: &'a [Mbuf]) -> MbufParts<'a>
+    requires { span_bytes chain.now < 2 ^ 64 }
+    ensures parts { result ≡ vector (physical memory.now.memory) chain.now }
+    ensures walk { IfAll (vector_walk (physical memory.now.memory) chain.now) (λ es. result ≡ parts_of es) }
+    ensures sound { IsMemory memory.now.memory }
+
+    // Up to 2^20 bytes are the stream of a load, and so is each front of it.
+    ensures stream { span_bytes chain.now ≤ 2 ^ 20 → IsStream result }
+    ensures along { span_bytes chain.now ≤ 2 ^ 20 → HoldsAlong (YieldsFirst (λ ps. ps)) result IsStream }
+{
+    memory.parts_vector(chain)
+}
