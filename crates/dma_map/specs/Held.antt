@@ -1,7 +1,8 @@
 -- How a map holds what contracts see of it.
 use Rattle.dma_map.specs.declared.map.Held.{Held}
 use Rattle.dma_map.specs.declared.map.Held.TheVariants.{Idle, Waiting, Loaded, Lent, Returning}
-use Rattle.dma_map.specs.MapView.{Stage, idle, waiting, loaded, lent, returning, frames_of}
+use Rattle.busdma_base.specs.Machine.PageList.{frames_of}
+use Rattle.dma_map.specs.MapView.{Stage, idle, waiting, loaded, lent, returning}
 
 -- what it holds, by what is stored
 abbrev pub stage_of : {C : Type 0} → Held C → Stage C

@@ -1,11 +1,11 @@
 -- What contracts see of a map.
-use Rattle.std.specs.Prelude.{ℕ, Bool, List, [], ◌∷◌, map, Option, Some, None}
+use Rattle.std.specs.Prelude.{ℕ, Bool, List, [], ◌∷◌, Option, Some, None}
 use Rattle.busdma_base.specs.declared.machine.chunk.Chunk.{Chunk}
 use Rattle.busdma_base.specs.declared.machine.address.Segment.{Segment}
 use Rattle.busdma_base.specs.declared.name.MapId.{MapId}
 use Rattle.busdma_base.specs.declared.name.ZoneId.{ZoneId}
 use Rattle.busdma_base.specs.Machine.Page.{FrameBytes}
-use Rattle.busdma_base.specs.Machine.PageList.{RoomyPages}
+use Rattle.busdma_base.specs.Machine.PageList.{RoomyPages, frames_of}
 use Rattle.dma_map.specs.declared.room.LoadRoom.{LoadRoom}
 use Rattle.dma_map.specs.declared.state.MapState.{MapState}
 use Rattle.dma_map.specs.declared.state.MapState.TheVariants.{Idle, Waiting, Loaded, Returning}
@@ -27,10 +27,6 @@ pub record MapView (C : Type 0) : Type 0 where
   pub zone : Option ZoneId
   pub tried : Bool
   pub stage : Stage C
-
--- the frames of pages, in order
-abbrev pub frames_of : List FrameBytes → List ℕ
-frames_of pages = map (λ p. p.frame) pages
 
 -- where a map is left that gave these pages away to be released: there is something to come back, or there is not
 abbrev pub left_by : {C : Type 0} → List FrameBytes → Stage C

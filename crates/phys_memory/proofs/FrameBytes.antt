@@ -31,7 +31,7 @@ slice_wire m bytes pa n k e here whole h =
 -- ---- bytes written over others
 
 -- whether an address lies in a run
-abbrev in_run : ℕ → ℕ → ℕ → Bool
+abbrev pub in_run : ℕ → ℕ → ℕ → Bool
 in_run pa n a = nat_le pa a && nat_lt a (pa + n)
 
 in_run_before : (pa n a : ℕ) → a < pa → in_run pa n a ≡ false
@@ -79,21 +79,21 @@ get_or-overwritten old at new i h =
     ]
 
 -- the same by addresses, in one frame and in others
-at_address : (pa n a : ℕ) → pa % 4096 + n ≤ 4096 → a / 4096 ≡ pa / 4096 → in_run (pa % 4096) n (a % 4096) ≡ in_run pa n a
+pub at_address : (pa n a : ℕ) → pa % 4096 + n ≤ 4096 → a / 4096 ≡ pa / 4096 → in_run (pa % 4096) n (a % 4096) ≡ in_run pa n a
 at_address pa n a h q = elim (place_of pa n a) [
   | before k ↦ in_run_before (pa % 4096) n (a % 4096) (omega arith) ∙ sym (in_run_before pa n a k)
   | inside k l ↦ in_run_inside (pa % 4096) n (a % 4096) (omega arith) (omega arith) ∙ sym (in_run_inside pa n a k l)
   | after k ↦ in_run_after (pa % 4096) n (a % 4096) (omega arith) ∙ sym (in_run_after pa n a k)
 ]
 
-elsewhere : (pa n a : ℕ) → pa % 4096 + n ≤ 4096 → a / 4096 ≢ pa / 4096 → in_run pa n a ≡ false
+pub elsewhere : (pa n a : ℕ) → pa % 4096 + n ≤ 4096 → a / 4096 ≢ pa / 4096 → in_run pa n a ≡ false
 elsewhere pa n a h q = elim (place_of pa n a) [
   | before k ↦ in_run_before pa n a k
   | inside k l ↦ absurd (q (omega arith))
   | after k ↦ in_run_after pa n a k
 ]
 
-offset_in_frame : (pa a : ℕ) → a / 4096 ≡ pa / 4096 → a % 4096 - pa % 4096 ≡ a - pa
+pub offset_in_frame : (pa a : ℕ) → a / 4096 ≡ pa / 4096 → a % 4096 - pa % 4096 ≡ a - pa
 offset_in_frame pa a q = omega arith
 
 pub length-overwritten : (old : List ℕ) (at : ℕ) (new : List ℕ) → at + length new ≤ length old → length (overwritten old at new) ≡ length old

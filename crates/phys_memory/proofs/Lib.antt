@@ -4,8 +4,12 @@ pub mod FrameBytes
 pub mod Kept
 pub mod Loads
 pub mod Paged
+pub mod PageBytes
 pub mod Reached
+pub mod RunParts
+pub mod SameFrames
 pub mod Streams
 pub mod Tables
 pub mod Vectors
 pub mod Walks
+pub mod Writing

@@ -1,5 +1,6 @@
 pub mod Codes
 pub mod Extents
+pub mod Frames
 pub mod Kept
 pub mod Memory
 pub mod Translation

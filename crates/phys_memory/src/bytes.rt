@@ -8,15 +8,24 @@ use crate::pages::LanePages;
 use busdma_base::Pa;
 
 impl LanePages {
+    /// The bytes from a physical address on, which lie in one frame of the memory.
+    pub fn bytes_at(&self, pa: Pa, len: u64) -> &[u8]
+        requires there { has_frame self.now.memory (pa.0 / 4096) ≡ true }
+        requires inside { pa.0 % 4096 + len ≤ 4096 }
+        ensures { result.now ≡ map (wire self.now.memory) (run_of pa.0 len) }
+    {
+        let page = self.frames.get(&(pa.0 / 4096)).unwrap();
+        let at = (pa.0 % 4096) as usize;
+        &page.bytes()[at..at + len as usize]
+    }
+
     /// Copies the bytes from a physical address on, which lie in one frame of the memory.
     pub fn read(&self, pa: Pa, out: &mut [u8])
         requires there { has_frame self.now.memory (pa.0 / 4096) ≡ true }
         requires inside { pa.0 % 4096 + length out.old ≤ 4096 }
         ensures { out.new ≡ map (wire self.now.memory) (run_of pa.0 (length out.old)) }
     {
-        let page = self.frames.get(&(pa.0 / 4096)).unwrap();
-        let at = (pa.0 % 4096) as usize;
-        out.copy_from_slice(&page.bytes()[at..at + out.len()]);
+        out.copy_from_slice(self.bytes_at(pa, out.len() as u64));
     }
 
     /// Writes bytes from a physical address on, into one frame of the memory.

@@ -14,3 +14,7 @@ page_address p = 4096 * p.frame
 -- those of pages, in order
 abbrev pub page_addresses : List FrameBytes → List ℕ
 page_addresses pages = map page_address pages
+
+-- the frames of pages, in order
+abbrev pub frames_of : List FrameBytes → List ℕ
+frames_of pages = map (λ p. p.frame) pages

@@ -1,10 +1,20 @@
 -- The bytes that are really held, and the copies between buffers and bounce pages.
-use Rattle.std.specs.Prelude.{ℕ, Bool, not, ◌==◌, List, [], ◌∷◌, map, take, drop, if◌then◌else◌}
+use Rattle.std.specs.Prelude.{ℕ, ◌/◌, ◌%◌, Bool, not, ◌==◌, List, [], ◌∷◌, map, take, drop, slice_index, if◌then◌else◌}
 use Rattle.std.specs.List.{filter}
+use Rattle.busdma_base.specs.Machine.Page.{FrameBytes}
 
 -- the byte at each physical address, of a driver's own frames and of the bounce pages of its maps
 abbrev pub Wire : Type 0
 Wire = ℕ → ℕ
+
+-- the byte of a page at an address of its frame
+abbrev pub page_byte : FrameBytes → ℕ → ℕ
+page_byte p a = slice_index p.bytes (a % 4096)
+
+-- what is held where pages hold the bytes of their frames, and w tells of the others
+abbrev pub with_bytes_of : List FrameBytes → Wire → Wire
+with_bytes_of [] w a = w a
+with_bytes_of (p ∷ ps) w a = if a / 4096 == p.frame then page_byte p a else with_bytes_of ps w a
 
 -- a position of a load: the physical address of its byte, and the bus address at which the device reaches it
 pub record Placed : Type 0 where

@@ -57,7 +57,8 @@ impl Page {
     /// Writes bytes into the frame, the first of them at a place.
     pub fn write(&mut self, at: usize, bytes: &[u8])
         requires { at + length bytes.now ≤ 4096 }
-        ensures { self.new ≡ record self.old { bytes = overwritten self.old.bytes at bytes.now } }
+        ensures page { self.new ≡ record self.old { bytes = overwritten self.old.bytes at bytes.now } }
+        ensures whole { length self.old.bytes ≡ 4096 }
     {
         self.bytes[at..at + bytes.len()].copy_from_slice(bytes);
     }

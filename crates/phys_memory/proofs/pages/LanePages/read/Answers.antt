@@ -1,26 +1,11 @@
-use Rattle.std.proofs.Common.{◌≡◌, ◌+◌, ◌-◌, ◌/◌, ◌%◌, length, ap, sym, ◌∙◌, arith}
-use Rattle.std.specs.Prelude.{Some}
-use Rattle.std.specs.Option.{option_copied}
-use Rattle.phys_memory.specs.Memory.{Roomy, has_frame}
-use Rattle.std.specs.FinMap.{get}
-use Rattle.phys_memory.proofs.Kept.{has_frame-kept}
-use Rattle.phys_memory.proofs.Changes.{IsSome-found, frame_found}
-use Rattle.phys_memory.proofs.FrameBytes.{slice_wire}
+use Rattle.std.proofs.Common.{length, ap, sym, ◌∙◌}
+use Rattle.std.proofs.lemmas.List.{length-map}
+use Rattle.busdma_base.specs.Runs.{run_of}
+use Rattle.phys_memory.specs.Memory.{wire}
+use Rattle.phys_memory.proofs.Extents.{length-run_of}
 use Rattle.phys_memory.proofs.pages.LanePages.read.Goals as goal
 
-pub unwrap-page-requires : goal.unwrap-page-requires
-unwrap-page-requires c =
-    let m = c.self.inside in
-    IsSome-found c.get.result _ c.get.ensures.value
-    (sym (has_frame-kept m.table.entries m.frames.entries (c.args.pa.0 / 4096)) ∙ ap (λ (r : Roomy). has_frame r.memory (c.args.pa.0 / 4096)) c.self.view_is ∙ c.requires.there)
-
-pub returns : goal.returns
-returns c =
-    let m = c.self.inside in
-    let pa = c.args.pa.0 in
-    let at = pa % 4096 in
-    let found = sym c.get.ensures.value ∙ ap option_copied c.unwrap-page.ensures in
-    let here : get c.args.self.now.memory.frames (pa / 4096) ≡ Some c.bytes.result.now =
-    ap (λ (r : Roomy). get r.memory.frames (pa / 4096)) (sym c.self.view_is) ∙ frame_found m.table.entries m.frames.entries (pa / 4096) _ found ∙ ap Some (sym c.bytes.ensures.bytes) in
-    c.copy_from_slice.ensures.after
-    ∙ slice_wire c.args.self.now.memory c.bytes.result.now pa (length c.args.out.now) (at + length c.args.out.now - at) (omega arith) here c.bytes.ensures.length c.requires.inside
+pub copy_from_slice-requires : goal.copy_from_slice-requires
+copy_from_slice-requires c =
+    let n = length c.args.out.now in
+    sym (ap length c.bytes_at.ensures ∙ length-map (run_of c.args.pa.0 n) (wire c.args.self.now.memory) ∙ length-run_of c.args.pa.0 n)

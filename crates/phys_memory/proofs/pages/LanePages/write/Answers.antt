@@ -20,7 +20,7 @@ invariant_of-self c =
     let told = c.get_mut.follows.holds c.write.new.self in
     let found = sym c.get_mut.ensures.value ∙ ap option_copied_mut c.unwrap-page.ensures in
     let puts = (told.3 (ap is_some found)).0 in
-    let put = subst (λ (p : FrameBytes). Puts m.frames.entries (c.get_mut.follows.lender c.write.new.self).entries (c.args.pa.0 / 4096) (Some p)) c.write.ensures puts in
+    let put = subst (λ (p : FrameBytes). Puts m.frames.entries (c.get_mut.follows.lender c.write.new.self).entries (c.args.pa.0 / 4096) (Some p)) c.write.ensures.page puts in
     record {
       memory = kept_rewritten m.table.entries m.frames.entries _ c.args.pa.0 c.unwrap-page.result.now c.args.bytes.now c.self.invariant.memory found c.requires.inside put;
       at_frames = places_rewritten m.frames.entries _ c.args.pa.0 c.unwrap-page.result.now c.args.bytes.now c.self.invariant.at_frames found put;
@@ -32,7 +32,7 @@ returns-clause-memory c =
     let told = c.get_mut.follows.holds c.write.new.self in
     let found = sym c.get_mut.ensures.value ∙ ap option_copied_mut c.unwrap-page.ensures in
     let puts = (told.3 (ap is_some found)).0 in
-    let put = subst (λ (p : FrameBytes). Puts m.frames.entries (c.get_mut.follows.lender c.write.new.self).entries (c.args.pa.0 / 4096) (Some p)) c.write.ensures puts in
+    let put = subst (λ (p : FrameBytes). Puts m.frames.entries (c.get_mut.follows.lender c.write.new.self).entries (c.args.pa.0 / 4096) (Some p)) c.write.ensures.page puts in
     let new = memory_rewritten m.table.entries m.frames.entries _ c.args.pa.0 c.unwrap-page.result.now c.args.bytes.now found put in
     new ∙ ap (λ (r : Roomy). rewritten r.memory c.args.pa.0 c.args.bytes.now) c.self.view_is
 
@@ -47,7 +47,7 @@ returns-clause-wire c =
     let told = c.get_mut.follows.holds c.write.new.self in
     let found = sym c.get_mut.ensures.value ∙ ap option_copied_mut c.unwrap-page.ensures in
     let puts = (told.3 (ap is_some found)).0 in
-    let put = subst (λ (p : FrameBytes). Puts m.frames.entries (c.get_mut.follows.lender c.write.new.self).entries (c.args.pa.0 / 4096) (Some p)) c.write.ensures puts in
+    let put = subst (λ (p : FrameBytes). Puts m.frames.entries (c.get_mut.follows.lender c.write.new.self).entries (c.args.pa.0 / 4096) (Some p)) c.write.ensures.page puts in
     let new = memory_rewritten m.table.entries m.frames.entries _ c.args.pa.0 c.unwrap-page.result.now c.args.bytes.now found put in
     let there = ap (λ (r : Roomy). has_frame r.memory (c.args.pa.0 / 4096)) c.self.view_is ∙ c.requires.there in
     ap wire new ∙ wire_after _ c.args.pa.0 c.args.bytes.now c.self.invariant.memory there c.requires.inside

@@ -1,0 +1,22 @@
+-- Frames of a memory, and pages that lie beside it.
+use Rattle.std.specs.Prelude.{◌≡◌, ◌≢◌, ℕ, false, List}
+use Rattle.std.specs.List.{All, AllByRecursion, AllPairs}
+use Rattle.busdma_base.specs.declared.machine.address.Extent.{Extent}
+use Rattle.busdma_base.specs.Runs.{IsExtent}
+use Rattle.phys_memory.specs.Extents.{LiesIn}
+use Rattle.phys_memory.specs.Memory.{Memory, has_frame}
+
+-- extents of a memory's frames, each with a byte and in one frame
+pub record Lie (m : Memory) (es : List Extent) : Type 0 where
+  pub extents : AllByRecursion IsExtent es
+  pub frames : AllByRecursion (LiesIn m) es
+
+-- two memories have the same pages in the same frames
+pub record SamePages (m n : Memory) : Type 0 where
+  pub table : n.table ≡ m.table
+  pub frames : (f : ℕ) → has_frame n f ≡ has_frame m f
+
+-- these frames differ, and none of them is in the memory
+pub record AreApart (m : Memory) (frames : List ℕ) : Type 0 where
+  pub differ : AllPairs (λ f g. f ≢ g) frames
+  pub away : All (λ f. has_frame m f ≡ false) frames
