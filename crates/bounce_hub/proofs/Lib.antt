@@ -9,4 +9,5 @@ mod Mapping
 mod Openings
 mod Owing
 mod Promises
+pub mod Sending
 mod ZoneGrowth

@@ -1,7 +1,7 @@
 //! The hub: the bounce zones that all lanes share, and all holds so far.
 
 ghost use Rattle.std.specs.Prelude.{◌≡◌, [], IfOk};
-ghost use Rattle.busdma_base.specs.Bounce.History.{account_of};
+ghost use Rattle.busdma_base.specs.Bounce.History.{IsOpening, IsSound, account_of};
 ghost use Rattle.bounce_hub.specs.Opening.{opening};
 ghost use Rattle.bounce_hub.specs.Seen.{AreCounts};
 
@@ -38,7 +38,8 @@ impl Model for Hub {
 impl Hub {
     /// A hub of the free frames of a bank, with no zone and an empty history.
     pub fn new(alloc: Global, bank: FrameBank, max_bpages: u32, maxmem: u64) -> Hub
-        ensures { result ≡ record { opening = opening bank max_bpages maxmem; history = [] } }
+        ensures made { result ≡ record { opening = opening bank max_bpages maxmem; history = [] } }
+        ensures form { IsOpening result.opening }
     {
         // For what is true of every bank: its frames rise.
         let _ = bank.count_below(Pa(0));
@@ -50,9 +51,11 @@ impl Hub {
         }
     }
 
-    /// All holds so far, in order.
+    /// All holds so far, in order. They are a sound history of the account with which the hub began.
     pub fn history(&self) -> &[HoldEntry]
-        ensures { result.now ≡ self.now.history }
+        ensures items { result.now ≡ self.now.history }
+        ensures form { IsOpening self.now.opening }
+        ensures sound { IsSound self.now.opening self.now.history }
     {
         self.history.as_slice()
     }

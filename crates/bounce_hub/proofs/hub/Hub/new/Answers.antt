@@ -27,3 +27,6 @@ invariant_of-result c =
       frames = omega (arith, length-map first.bank.pages page_address, (subst IsBank (sym bank) sound).roomy, ap (λ (b : Bank). b.room) bank, ap (λ (b : Bank). b.room) c.new-pool.ensures.bank);
       room = omega (arith, ap length c.new.ensures.items, c.new-pool.ensures.agrees.owed);
     }
+
+pub returns-clause-form : goal.returns-clause-form
+returns-clause-form c = (invariant_of-result c).form
