@@ -1,0 +1,55 @@
+-- What is known of the hub once all passes came together.
+use Rattle.std.specs.Prelude.{◌≡◌, ◌+◌, ◌<◌, ◌==◌, ℕ, List, ◌∷◌, ◌++◌, All, Contains, Some}
+use mathlib.Core.List.{IsPrefix}
+use Rattle.busdma_base.specs.declared.bounce.hold.HoldEntry.{HoldEntry}
+use Rattle.busdma_base.specs.Bounce.Account.{Account}
+use Rattle.busdma_base.specs.Bounce.Door.{Seen, Passes}
+use Rattle.busdma_base.specs.Bounce.LaneEntries.{of_lane}
+use Rattle.bounce_hub.specs.Seen.{HubSeen}
+use Rattle.turnstile.specs.declared.view.Start.{Start}
+use Rattle.turnstile.specs.Pass.{PassView, own_calls}
+use Rattle.lane_threads.specs.Object.{IsLegal}
+use Rattle.lane_threads.specs.PassDoor.{seen}
+
+abbrev pub LanePass : Type 0
+LanePass = PassView HoldEntry Account
+
+-- a pass was joined to this one, which knows its turns and that it ended with its calls
+pub record IsJoined (into pass : LanePass) : Type 0 where
+  pub begins : IsPrefix pass.front into.front
+  pub ended : Contains into.ended (pass.name, own_calls pass)
+
+-- passes were joined to the old one, which is now the new one
+pub record Joins (old : LanePass) (passes : List LanePass) (new : LanePass) : Type 0 where
+  pub turnstile : new.turnstile ≡ old.turnstile
+  pub start : new.start ≡ old.start
+  pub name : new.name ≡ old.name
+  pub begins : IsPrefix old.front new.front
+  pub own : own_calls new ≡ own_calls old
+  pub each : All (IsJoined new) passes
+
+-- what the lane of a pass sees of a hub
+abbrev pub hub_seen : LanePass → HubSeen → Seen
+hub_seen pass hub = record { opening = hub.opening; history = hub.history; serves = λ lane. lane + 1 == pass.name }
+
+-- the history has, of the lane of a pass, what it began with and then the pass's own calls, and no other
+abbrev pub HasOwnCalls : List HoldEntry → List HoldEntry → LanePass → Type 0
+HasOwnCalls opening history pass =
+    (lane : ℕ) → lane + 1 ≡ pass.name → of_lane lane history ≡ of_lane lane opening ++ own_calls pass
+
+-- beyond what a pass of this turnstile knew, holds of other lanes came, and nothing else
+abbrev pub OthersCame : LanePass → HubSeen → LanePass → Type 0
+OthersCame first hub pass =
+    pass.start ≡ first.start → (others : List HoldEntry) × Passes (seen pass) others (hub_seen pass hub)
+
+-- the hub's history is legal, begins with that of the start, and goes on by entries of lanes whose passes have names; of each lane it has its pass's own calls
+pub record ClosesAfter (first : LanePass) (passes : List LanePass) (hub : HubSeen) : Type 0 where
+  pub start : Start HoldEntry Account
+  pub started : first.start ≡ Some start
+  pub opening : hub.opening ≡ start.fixed
+  pub legal : IsLegal hub.opening hub.history
+  pub added : List HoldEntry
+  pub begins : hub.history ≡ start.opening ++ added
+  pub drivers : All (λ hold. hold.lane.0 + 1 < start.names) added
+  pub own : All (HasOwnCalls start.opening hub.history) (first ∷ passes)
+  pub others : All (OthersCame first hub) (first ∷ passes)
