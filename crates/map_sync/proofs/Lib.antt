@@ -1,0 +1,4 @@
+pub mod Extents
+pub mod Parts
+pub mod Placing
+pub mod Stepping
