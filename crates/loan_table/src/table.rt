@@ -127,10 +127,11 @@ impl LoanTable {
         row.lose_lent(&mut self.bytes);
     }
 
-    /// Makes room to change `parts` extents. One entry for each byte needs none: to change a byte
-    /// takes no memory.
+    /// Makes room to change `parts` extents. It fails only where that room was missing. One entry for
+    /// each byte needs none: to change a byte takes no memory.
     pub fn reserve(&mut self, _alloc: Global, parts: u32) -> Result<(), AllocError>
         ensures room { OnOk result (parts ≤ self.new.spare) }
+        ensures missing { OnErr result (self.old.spare < parts) }
         ensures same { IsSame self.old self.new }
         ensures spare { self.old.spare ≤ self.new.spare }
     {

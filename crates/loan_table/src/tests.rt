@@ -10,7 +10,7 @@ use busdma_base::{Extent, Pa};
 use dma_tag::SyncOps;
 use std::test::Fail;
 use steps::Step::{CpuRead, CpuWrite, DevRead, DevWrite, Forget, Sync};
-use steps::{A, B, TWICE, WHOLE, across_frames, cut, refused, run};
+use steps::{A, B, TWICE, WHOLE, across_frames, chain, cut, every_second, refused, run};
 
 /// The operations of two sets.
 fn both(one: SyncOps, other: SyncOps) -> SyncOps {
@@ -470,5 +470,30 @@ fn cuts_extents_at_frames(rt: HostRuntime) -> Result<(), Fail> {
         len: 8,
     };
     assert_eq!(rt; extents.as_slice(), [front, back].as_slice());
+    Ok(())
+}
+
+#[test]
+fn a_hundred_maps_lend_beside_each_other(rt: HostRuntime) -> Result<(), Fail> {
+    let alloc = rt.alloc();
+    let mut table = chain(&rt, alloc, 100)?;
+    let lend_to_read = |map| Sync(map, 0, 64, SyncOps::PREWRITE);
+    let lend_to_write = |map| Sync(map, 0, 64, SyncOps::PREREAD);
+    let end_reading = |map| Sync(map, 0, 64, SyncOps::POSTWRITE);
+    every_second(&rt, alloc, &mut table, 1, lend_to_read, Fine)?;
+    every_second(&rt, alloc, &mut table, 2, lend_to_read, Fine)?;
+    every_second(
+        &rt,
+        alloc,
+        &mut table,
+        2,
+        lend_to_write,
+        refused(Overlap, 0),
+    )?;
+    every_second(&rt, alloc, &mut table, 2, end_reading, Fine)?;
+    every_second(&rt, alloc, &mut table, 1, lend_to_write, Fine)?;
+    every_second(&rt, alloc, &mut table, 2, lend_to_read, refused(Overlap, 0))?;
+    every_second(&rt, alloc, &mut table, 1, Forget, Fine)?;
+    every_second(&rt, alloc, &mut table, 2, lend_to_write, Fine)?;
     Ok(())
 }

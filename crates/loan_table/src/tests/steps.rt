@@ -226,6 +226,38 @@ pub fn run(
     Ok(())
 }
 
+/// A table of 4,096 Known bytes, with the coherent map over all of them and `count` maps of 64 bytes
+/// each: map 1 has the bytes from 0 on, and each other map begins 32 bytes behind the one before it.
+pub fn chain(rt: &impl Abort, alloc: Global, count: u32) -> Result<LoanTable, Fail> {
+    let mut table = LoanTable::new(alloc);
+    let memory = Extent {
+        pa: Pa(4096),
+        len: 4096,
+    };
+    table.add_bytes(alloc, memory.pa, memory.len, true)?;
+    table.add_map(alloc, id(WHOLE), &[memory], true)?;
+    for map in 1..=count {
+        add(rt, alloc, &mut table, id(map), (map as u64 - 1) * 32, 64)?;
+    }
+    Ok(table)
+}
+
+/// Takes a step for every second map of the chain from `first` on, and compares the answers.
+pub fn every_second(
+    rt: &impl Abort,
+    alloc: Global,
+    table: &mut LoanTable,
+    first: u32,
+    step: fn(u32) -> Step,
+    want: Judged,
+) -> Result<(), Fail> {
+    for map in (first..=100).step_by(2) {
+        let got = answer_of(rt, alloc, table, step(map))?;
+        assert_eq!(rt; got, want, "map {map}");
+    }
+    Ok(())
+}
+
 /// A table that has lost the bytes 2 to 4 of eight Known ones.
 pub fn cut(alloc: Global) -> Result<LoanTable, Fail> {
     let mut table = LoanTable::new(alloc);
