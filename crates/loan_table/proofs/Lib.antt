@@ -3,6 +3,7 @@ pub mod Extending
 pub mod Judgement
 pub mod LoansInTree
 pub mod Marking
+pub mod Places
 pub mod Removal
 pub mod Results
 pub mod Trees

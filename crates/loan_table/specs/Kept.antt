@@ -1,11 +1,12 @@
 -- What each table keeps, and its values as codes.
-use Rattle.std.specs.Prelude.{ℕ, ◌+◌, ◌<◌, ◌^◌, Bool, List, IsSome, refl}
+use Rattle.std.specs.Prelude.{◌≡◌, ◌==◌, count_by, ℕ, ◌+◌, ◌<◌, ◌^◌, Bool, List, IsSome, refl}
 use Rattle.std.specs.Coded.{Coded, code_by, coded×, coded_ℕ, coded_bool, coded_list}
 use Rattle.std.specs.Ordering.{nat_cmp}
 use Rattle.std.specs.BTreeMap.{BTreeMap, IsOrdered}
 use Rattle.std.specs.FinMap.{FinMap, get}
 use Rattle.std.specs.FinMap as map
 use Rattle.busdma_base.specs.declared.machine.address.Extent.{Extent}
+use Rattle.run_set.specs.Counts.{Counts, count}
 use Rattle.loan_table.specs.declared.position.Position.{Position}
 use Rattle.loan_table.specs.Loans.{Loan, Loans, loan_of, addresses_of}
 use Rattle.loan_table.specs.Table.{Table, AreIn}
@@ -22,6 +23,10 @@ AreLow bytes = (a : ℕ) → IsSome (get bytes a) → a < 2 ^ 42
 -- an extent that has a byte ends below 2^64
 abbrev pub Ends : Extent → Type 0
 Ends e = 0 < e.len → e.pa.0 + e.len < 2 ^ 64
+
+-- counts say at how many places of a list each number stands
+abbrev pub CountsPlaces : Counts → List ℕ → Type 0
+CountsPlaces places bytes = (a : ℕ) → count places a ≡ count_by (λ b. b == a) bytes
 
 -- what is true of the fields of each table
 pub record IsKept (bytes : BTreeMap ℕ Bool) (loans : BTreeMap ℕ Loan) : Type 0 where

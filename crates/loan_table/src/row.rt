@@ -1,20 +1,23 @@
 //! What one map lends.
 
-ghost use Rattle.std.specs.Prelude.{◌≡◌, ◌+◌, ◌<◌, ◌≤◌, ◌^◌, ◌++◌, length, slice_index, IfOk, OnOk, false};
+ghost use Rattle.std.specs.Prelude.{◌≡◌, ℕ, ◌+◌, ◌<◌, ◌≤◌, ◌^◌, ◌++◌, length, slice_index, IfOk, OnOk, false, true};
 ghost use Rattle.std.specs.List.{filter, All};
 ghost use Rattle.busdma_base.specs.Runs.{run_of, addresses};
-ghost use Rattle.loan_table.specs.Kept.{Ends};
+ghost use Rattle.loan_table.specs.Kept.{CountsPlaces, Ends};
 ghost use Rattle.loan_table.specs.Kinds.{test_of};
 ghost use Rattle.loan_table.specs.Lending.{marked, marked_range, loses, range_of};
 ghost use Rattle.loan_table.specs.Loans.{lends, stands_twice, addresses_of, unlent, to_write, new_loan};
 ghost use Rattle.loan_table.specs.Table.{AreIn, set_all};
 ghost use Rattle.loan_table.specs.Trees.{of_tree};
+ghost use Rattle.run_set.specs.Counts.{changed, count};
+ghost use Rattle.run_set.specs.Edges.{in_run};
 
 use crate::marks;
 use crate::position::Position;
 use bitflags::Flags;
 use busdma_base::Extent;
 use dma_tag::SyncOps;
+use run_set::RunCounts;
 use std::alloc::{AllocError, Global};
 use std::collections::BTreeMap;
 use std::marker::Model;
@@ -38,22 +41,25 @@ impl Way {
     }
 }
 
-/// One map's positions.
+/// One map's positions, and how many of them each byte stands at.
 #[derive(Drop)]
 pub struct LoanRow {
     coherent: bool,
     positions: Vec<Position>,
+    places: RunCounts,
 }
 
 impl Model for LoanRow {
-    ghost use Rattle.loan_table.specs.Loans.{Loan};
-    ghost use Rattle.loan_table.specs.Kept.{loan_code};
+    ghost use Rattle.loan_table.specs.Kept.{loan_code, CountsPlaces};
+    ghost use Rattle.loan_table.specs.Loans.{Loan, addresses_of};
 
     ghost Value = { Loan };
 
     ghost coded = { loan_code };
 
     ghost view = { λ r. record { coherent = r.coherent; positions = r.positions.items } };
+
+    ghost invariant = { λ r. CountsPlaces r.places (addresses_of r.positions.items) };
 }
 
 impl LoanRow {
@@ -62,13 +68,12 @@ impl LoanRow {
         requires { All Ends buffer.now }
         ensures { IfOk result (λ row. row ≡ new_loan coherent (addresses buffer.now)) }
     {
-        let mut positions = Vec::new(alloc);
-        for extent in buffer {
-            push_run(&mut positions, extent)?;
-        }
+        let positions = unlent_over(alloc, buffer)?;
+        let places = places_over(alloc, buffer)?;
         Ok(LoanRow {
             coherent,
             positions,
+            places,
         })
     }
 
@@ -108,6 +113,9 @@ impl LoanRow {
     pub fn lends(&self, way: Way, pa: u64) -> bool
         ensures { result ≡ lends (test_of way) pa self.now }
     {
+        if self.places.count(pa) == 0 {
+            return false;
+        }
         for position in &self.positions {
             if position.pa == pa && way.passes(position) {
                 return true;
@@ -120,11 +128,7 @@ impl LoanRow {
     pub fn stands_twice(&self, pa: u64) -> bool
         ensures { result ≡ stands_twice pa self.now }
     {
-        self.positions
-            .iter()
-            .filter(|position| position.pa == pa)
-            .count()
-            > 1
+        self.places.count(pa) > 1
     }
 
     /// Makes Unknown the bytes that the map lends to write.
@@ -142,10 +146,18 @@ impl LoanRow {
         ensures coherent { self.new.coherent ≡ self.old.coherent }
         ensures positions { self.new.positions ≡ marked_range ops.0 off len self.old.positions }
     {
-        let start = off as usize;
-        for position in &mut self.positions[start..start + len as usize] {
-            *position = marked(*position, ops);
-        }
+        mark_range(&mut self.positions, off, len, ops);
+    }
+}
+
+/// Sets the marks of a range of positions.
+fn mark_range(positions: &mut Vec<Position>, off: u64, len: u64, ops: SyncOps)
+    requires { off + len ≤ length positions.old.items }
+    ensures { positions.new.items ≡ marked_range ops.0 off len positions.old.items }
+{
+    let start = off as usize;
+    for position in &mut positions[start..start + len as usize] {
+        *position = marked(*position, ops);
     }
 }
 
@@ -195,6 +207,41 @@ fn loses(position: &Position, ops: SyncOps) -> bool
     ops.contains(SyncOps::PREREAD)
         && !position.to_write
         && !(ops.contains(SyncOps::PREWRITE) || position.to_read)
+}
+
+/// The positions of a buffer, none of them lent.
+fn unlent_over(alloc: Global, buffer: &[Extent]) -> Result<Vec<Position>, AllocError>
+    requires { All Ends buffer.now }
+    ensures { IfOk result (λ positions. positions.items ≡ unlent (addresses buffer.now)) }
+{
+    let mut positions = Vec::new(alloc);
+    for extent in buffer {
+        push_run(&mut positions, extent)?;
+    }
+    Ok(positions)
+}
+
+/// At how many positions of a buffer each byte stands.
+fn places_over(alloc: Global, buffer: &[Extent]) -> Result<RunCounts, AllocError>
+    requires { All Ends buffer.now }
+    ensures { IfOk result (λ places. CountsPlaces places (addresses buffer.now)) }
+{
+    let mut places = RunCounts::new(alloc);
+    for extent in buffer {
+        count_run(&mut places, extent)?;
+    }
+    Ok(places)
+}
+
+/// Counts each byte of a run once more.
+fn count_run(places: &mut RunCounts, run: &Extent) -> Result<(), AllocError>
+    requires { Ends run.now }
+    ensures { OnOk result ((a : ℕ) → count places.new a
+        ≡ changed true (in_run run.now.pa.0 (run.now.pa.0 + run.now.len) a) (count places.old a)) }
+{
+    places.reserve(1)?;
+    places.change(run.pa.0, run.pa.0 + run.len, true);
+    Ok(())
 }
 
 /// Appends the positions of a run.

@@ -10,7 +10,10 @@ use busdma_base::{Extent, Pa};
 use dma_tag::SyncOps;
 use std::test::Fail;
 use steps::Step::{CpuRead, CpuWrite, DevRead, DevWrite, Forget, Sync};
-use steps::{A, B, TWICE, WHOLE, across_frames, chain, cut, every_second, refused, run};
+use steps::{
+    A, B, TWICE, WHOLE, across_frames, chain, cut, forget_every_second, refused, run,
+    sync_every_second,
+};
 
 /// The operations of two sets.
 fn both(one: SyncOps, other: SyncOps) -> SyncOps {
@@ -476,24 +479,15 @@ fn cuts_extents_at_frames(rt: HostRuntime) -> Result<(), Fail> {
 #[test]
 fn a_hundred_maps_lend_beside_each_other(rt: HostRuntime) -> Result<(), Fail> {
     let alloc = rt.alloc();
-    let mut table = chain(&rt, alloc, 100)?;
-    let lend_to_read = |map| Sync(map, 0, 64, SyncOps::PREWRITE);
-    let lend_to_write = |map| Sync(map, 0, 64, SyncOps::PREREAD);
-    let end_reading = |map| Sync(map, 0, 64, SyncOps::POSTWRITE);
-    every_second(&rt, alloc, &mut table, 1, lend_to_read, Fine)?;
-    every_second(&rt, alloc, &mut table, 2, lend_to_read, Fine)?;
-    every_second(
-        &rt,
-        alloc,
-        &mut table,
-        2,
-        lend_to_write,
-        refused(Overlap, 0),
-    )?;
-    every_second(&rt, alloc, &mut table, 2, end_reading, Fine)?;
-    every_second(&rt, alloc, &mut table, 1, lend_to_write, Fine)?;
-    every_second(&rt, alloc, &mut table, 2, lend_to_read, refused(Overlap, 0))?;
-    every_second(&rt, alloc, &mut table, 1, Forget, Fine)?;
-    every_second(&rt, alloc, &mut table, 2, lend_to_write, Fine)?;
+    let mut table = chain(&rt, alloc, 4096, 100)?;
+    sync_every_second(&rt, alloc, &mut table, 1, SyncOps::PREWRITE, Fine)?;
+    sync_every_second(&rt, alloc, &mut table, 2, SyncOps::PREWRITE, Fine)?;
+    let overlap = refused(Overlap, 0);
+    sync_every_second(&rt, alloc, &mut table, 2, SyncOps::PREREAD, overlap)?;
+    sync_every_second(&rt, alloc, &mut table, 2, SyncOps::POSTWRITE, Fine)?;
+    sync_every_second(&rt, alloc, &mut table, 1, SyncOps::PREREAD, Fine)?;
+    sync_every_second(&rt, alloc, &mut table, 2, SyncOps::PREWRITE, overlap)?;
+    forget_every_second(&rt, &mut table, 1);
+    sync_every_second(&rt, alloc, &mut table, 2, SyncOps::PREREAD, Fine)?;
     Ok(())
 }

@@ -226,36 +226,43 @@ pub fn run(
     Ok(())
 }
 
-/// A table of 4,096 Known bytes, with the coherent map over all of them and `count` maps of 64 bytes
+/// A table of `len` Known bytes, with the coherent map over all of them and `count` maps of 64 bytes
 /// each: map 1 has the bytes from 0 on, and each other map begins 32 bytes behind the one before it.
-pub fn chain(rt: &impl Abort, alloc: Global, count: u32) -> Result<LoanTable, Fail> {
+pub fn chain(rt: &impl Abort, alloc: Global, len: u64, count: u32) -> Result<LoanTable, Fail> {
+    assert!(rt; 0 < len && len <= 65536);
     let mut table = LoanTable::new(alloc);
-    let memory = Extent {
-        pa: Pa(4096),
-        len: 4096,
-    };
+    let memory = Extent { pa: Pa(4096), len };
     table.add_bytes(alloc, memory.pa, memory.len, true)?;
     table.add_map(alloc, id(WHOLE), &[memory], true)?;
-    for map in 1..=count {
-        add(rt, alloc, &mut table, id(map), (map as u64 - 1) * 32, 64)?;
+    for map in 0..count {
+        add(rt, alloc, &mut table, id(map + 1), map as u64 * 32, 64)?;
     }
     Ok(table)
 }
 
-/// Takes a step for every second map of the chain from `first` on, and compares the answers.
-pub fn every_second(
+/// Makes a sync of all 64 bytes by 50 maps of the chain, every second one from `first` on, and
+/// compares the answers.
+pub fn sync_every_second(
     rt: &impl Abort,
     alloc: Global,
     table: &mut LoanTable,
-    first: u32,
-    step: fn(u32) -> Step,
+    first: u8,
+    ops: SyncOps,
     want: Judged,
 ) -> Result<(), Fail> {
-    for map in (first..=100).step_by(2) {
-        let got = answer_of(rt, alloc, table, step(map))?;
+    for i in 0..50u32 {
+        let map = first as u32 + i * 2;
+        let got = sync(rt, alloc, table, id(map), 0, 64, ops)?;
         assert_eq!(rt; got, want, "map {map}");
     }
     Ok(())
+}
+
+/// Forgets 50 maps of the chain, every second one from `first` on.
+pub fn forget_every_second(rt: &impl Abort, table: &mut LoanTable, first: u8) {
+    for i in 0..50u32 {
+        forget(rt, table, id(first as u32 + i * 2));
+    }
 }
 
 /// A table that has lost the bytes 2 to 4 of eight Known ones.

@@ -1,12 +1,10 @@
-use Rattle.std.proofs.Common.{ap, ◌∙◌, set, arith}
-use Rattle.std.proofs.lemmas.List.{get_or_default}
-use Rattle.std.proofs.lemmas.List.Edits.{map_over_more}
-use Rattle.loan_table.specs.Lending.{marked}
-use Rattle.loan_table.proofs.Marking.{no_position}
+use Rattle.std.proofs.Common.{ap, sym, ◌∙◌, ◌==◌}
+use Rattle.std.specs.List.{count_by}
+use Rattle.loan_table.specs.Loans.{addresses_of}
+use Rattle.loan_table.proofs.Marking.{addresses_of-marked_range}
 use Rattle.loan_table.proofs.row.LoanRow.mark.Goals as goal
 
-pub loop-position-preserved : goal.loop-position-preserved
-loop-position-preserved c =
-    ap (set c.loop-position.position-items c.loop-position.position-index) c.marked.ensures
-    ∙ map_over_more (marked c.args.ops.0) _ c.loop-position.position-items c.loop-position.position-index _ c.loop-position-test.true c.loop-position.invariant
-    (get_or_default c.loop-position.position-items c.loop-position.position-index no_position _ (omega arith))
+pub invariant_of-self : goal.invariant_of-self
+invariant_of-self c = λ a.
+    c.self.invariant a
+    ∙ ap (λ bytes. count_by (λ b. b == a) bytes) (sym (ap addresses_of c.mark_range.ensures ∙ addresses_of-marked_range c.args.ops.0 c.args.off c.args.len c.self.inside.positions.items))

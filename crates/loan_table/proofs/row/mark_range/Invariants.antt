@@ -1,6 +1,6 @@
 use Rattle.std.proofs.Common.{◌≡◌, ◌++◌, map, take, drop}
 use Rattle.loan_table.specs.Lending.{marked}
-use Rattle.loan_table.proofs.row.LoanRow.mark.Given as goal
+use Rattle.loan_table.proofs.row.mark_range.Given as goal
 
 abbrev pub invariant-loop-position : goal.invariant-loop-position
 invariant-loop-position l =
