@@ -13,11 +13,11 @@ use Rattle.lane_agreement.specs.Agreement.{Agrees}
 use Rattle.lane_agreement.specs.After.{addresses, after_callback, left_at, left_of, brought, IsLike}
 use Rattle.lane_agreement.proofs.Whole.{Called_for, called-length}
 
-addresses-length : (pages : List Pa) → length (addresses pages) ≡ length pages
+pub addresses-length : (pages : List Pa) → length (addresses pages) ≡ length pages
 addresses-length [] = refl
 addresses-length (p ∷ ps) = omega (arith, addresses-length ps)
 
-queued-length : (k z : ℕ) (pages : List ℕ) → length (queued_back k z pages) ≡ length pages
+pub queued-length : (k z : ℕ) (pages : List ℕ) → length (queued_back k z pages) ≡ length pages
 queued-length k z [] = refl
 queued-length k z (p ∷ ps) = omega (arith, queued-length k z ps)
 

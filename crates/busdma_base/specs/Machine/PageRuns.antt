@@ -1,5 +1,6 @@
 -- The pages of a driver: frames of its own at virtual addresses.
-use Rattle.std.specs.Prelude.{◌≡◌, ℕ, zero, suc, ◌+◌, ◌*◌, ◌/◌, ◌%◌, ◌≤◌, Bool, true, false, ◌&&◌, ◌||◌, List, nat_le, nat_lt}
+use Rattle.std.specs.Prelude.{◌≡◌, ℕ, zero, suc, ◌+◌, ◌-◌, ◌*◌, ◌/◌, ◌%◌, ◌≤◌, Bool, true, false, ◌&&◌, ◌||◌, if◌then◌else◌}
+use Rattle.std.specs.Prelude.{List, [], ◌∷◌, Option, Some, None, nat_le, nat_lt}
 use Rattle.std.specs.List.{list_any}
 use Rattle.busdma_base.specs.declared.scenarios.scenario.FrameRun.{FrameRun}
 use Rattle.busdma_base.specs.declared.scenarios.scenario.PageRun.{PageRun}
@@ -41,3 +42,18 @@ pub record IsPageRun (frames : List FrameRun) (earlier : List Driver) (before : 
   pub untaken : is_taken run earlier ≡ false
   pub own_frames : list_any (share_frame run) before ≡ false
   pub own_pages : list_any (share_page run) before ≡ false
+
+-- a virtual address lies in a run of pages
+abbrev pub is_in_run : ℕ → PageRun → Bool
+is_in_run va run = nat_le run.va.0 va && nat_lt va (run.va.0 + 4096 * run.count)
+
+-- where the byte at a virtual address lies, by the driver's pages
+abbrev pub physical_in : List PageRun → ℕ → Option ℕ
+physical_in [] va = None
+physical_in (run ∷ runs) va =
+    if is_in_run va run then Some (4096 * run.frame + (va - run.va.0)) else physical_in runs va
+
+-- the physical address is a byte of the driver's pages
+abbrev pub is_own : List PageRun → ℕ → Bool
+is_own runs pa =
+    list_any (λ run. nat_le (4096 * run.frame) pa && nat_lt pa (4096 * (run.frame + run.count))) runs
