@@ -107,8 +107,8 @@ walk_stream rounded t spans = by_judgement (judged_spans t 0 spans)
 -- ---- walks
 
 -- the walk over spans whose entries so far are these, and whose other spans begin at an offset
-abbrev pub walk_from : Translation → List Entry → ℕ → List Span → Entries
-walk_from t es offset spans = walk_unless (judged_spans t offset spans) (es ++ entries_of true t spans)
+abbrev pub walk_from : Bool → Translation → List Entry → ℕ → List Span → Entries
+walk_from rounded t es offset spans = walk_unless (judged_spans t offset spans) (es ++ entries_of rounded t spans)
 
 not_true : false ≡ true → ⊥
 not_true e = cc
@@ -136,9 +136,9 @@ missed pas n at h = by_count (nat_eq (length pas) n) refl h
     by_count true e k = absurd (cc)
     by_count false e k = record { cut = e; is = cc }
 
-entry_added : (pas : List ℕ) (e : Extent) (es : List Extent) (others : List Entry) → e ∷ es ≡ extents_of pas → with_entry true pas others ≡ record { rounded = true; parts = e ∷ es } ∷ others
-entry_added [] e es others h = absurd (cc)
-entry_added (pa ∷ pas) e es others h = ap (λ xs. record { rounded = true; parts = xs } ∷ others) (sym h)
+entry_added : (rounded : Bool) (pas : List ℕ) (e : Extent) (es : List Extent) (others : List Entry) → e ∷ es ≡ extents_of pas → with_entry rounded pas others ≡ record { rounded = rounded; parts = e ∷ es } ∷ others
+entry_added rounded [] e es others h = absurd (cc)
+entry_added rounded (pa ∷ pas) e es others h = ap (λ xs. record { rounded = rounded; parts = xs } ∷ others) (sym h)
 
 no_entry : (rounded : Bool) (pas : List ℕ) (others : List Entry) → [] ≡ extents_of pas → with_entry rounded pas others ≡ others
 no_entry rounded [] others h = refl
@@ -147,33 +147,33 @@ no_entry rounded (pa ∷ pas) others h = gone (h ∙ (begins pa (extents_of pas)
     gone : {e : Extent} {es : List Extent} → [] ≡ e ∷ es → with_entry rounded (pa ∷ pas) others ≡ others
     gone e = absurd (cc)
 
-module _ (t : Translation) (before : List Entry) (offset : ℕ) (s : Span) (ss : List Span) where
+module _ (rounded : Bool) (t : Translation) (before : List Entry) (offset : ℕ) (s : Span) (ss : List Span) where
   abbrev here : List ℕ
   here = reached t s.va.0 s.len
 
   -- the walk after a span of which all bytes are reached
-  past : (es : List Entry) → nat_eq (length here) s.len ≡ true → with_entry true here (entries_of true t ss) ≡ es ++ entries_of true t ss → walk_from t before offset (s ∷ ss) ≡ walk_from t (before ++ es) (offset + s.len) ss
+  past : (es : List Entry) → nat_eq (length here) s.len ≡ true → with_entry rounded here (entries_of rounded t ss) ≡ es ++ entries_of rounded t ss → walk_from rounded t before offset (s ∷ ss) ≡ walk_from rounded t (before ++ es) (offset + s.len) ss
   past es h e =
-      ap (λ xs. walk_unless (judged_spans t offset (s ∷ ss)) (before ++ xs)) (first_entry t s ss offset true true h ∙ e)
-      ∙ ap (λ j. walk_unless j (before ++ (es ++ entries_of true t ss))) (first_judged t s ss offset true h)
-      ∙ ap (walk_unless (judged_spans t (offset + s.len) ss)) (sym (append_assoc before es (entries_of true t ss)))
+      ap (λ xs. walk_unless (judged_spans t offset (s ∷ ss)) (before ++ xs)) (first_entry t s ss offset rounded true h ∙ e)
+      ∙ ap (λ j. walk_unless j (before ++ (es ++ entries_of rounded t ss))) (first_judged t s ss offset true h)
+      ∙ ap (walk_unless (judged_spans t (offset + s.len) ss)) (sym (append_assoc before es (entries_of rounded t ss)))
 
-  pub past_entry : (es : List Extent) → Parts es ≡ walk_of here s.len → (es ≡ [] → false ≡ true) → walk_from t before offset (s ∷ ss) ≡ walk_from t (before ++ record { rounded = true; parts = es } ∷ []) (offset + s.len) ss
+  pub past_entry : (es : List Extent) → Parts es ≡ walk_of here s.len → (es ≡ [] → false ≡ true) → walk_from rounded t before offset (s ∷ ss) ≡ walk_from rounded t (before ++ record { rounded = rounded; parts = es } ∷ []) (offset + s.len) ss
   past_entry [] h some = absurd (not_true (some refl))
   past_entry (e ∷ es) h some =
       let f = found here s.len (e ∷ es) h in
-      past (record { rounded = true; parts = e ∷ es } ∷ []) f.whole (entry_added here e es (entries_of true t ss) f.are)
+      past (record { rounded = rounded; parts = e ∷ es } ∷ []) f.whole (entry_added rounded here e es (entries_of rounded t ss) f.are)
 
-  pub past_none : Parts [] ≡ walk_of here s.len → walk_from t before offset (s ∷ ss) ≡ walk_from t before (offset + s.len) ss
+  pub past_none : Parts [] ≡ walk_of here s.len → walk_from rounded t before offset (s ∷ ss) ≡ walk_from rounded t before (offset + s.len) ss
   past_none h =
       let f = found here s.len [] h in
-      past [] f.whole (no_entry true here (entries_of true t ss) f.are) ∙ ap (λ es. walk_from t es (offset + s.len) ss) (append-nil before)
+      past [] f.whole (no_entry rounded here (entries_of rounded t ss) f.are) ∙ ap (λ es. walk_from rounded t es (offset + s.len) ss) (append-nil before)
 
   -- the walk at a span of which not all are
-  pub stopped : (at : ℕ) → Unmapped at ≡ walk_of here s.len → walk_from t before offset (s ∷ ss) ≡ walk.Unmapped (offset + at)
+  pub stopped : (at : ℕ) → Unmapped at ≡ walk_of here s.len → walk_from rounded t before offset (s ∷ ss) ≡ walk.Unmapped (offset + at)
   stopped at h =
       let f = missed here s.len at h in
-      ap (λ j. walk_unless j (before ++ entries_of true t (s ∷ ss))) (first_judged t s ss offset false f.cut) ∙ ap (λ k. walk.Unmapped (offset + k)) (sym f.is)
+      ap (λ j. walk_unless j (before ++ entries_of rounded t (s ∷ ss))) (first_judged t s ss offset false f.cut) ∙ ap (λ k. walk.Unmapped (offset + k)) (sym f.is)
 
 -- an unreached byte is one of the span
 pub missed_inside : (t : Translation) (va n at : ℕ) → Unmapped at ≡ walk_of (reached t va n) n → at ≤ n
@@ -277,12 +277,12 @@ module _ (t : Translation) (es : List Entry) (offset : ℕ) (spans : List Span) 
       let next : suc i ≡ i + 1 = omega arith in
       drop-cons spans i other inside ∙ ap (λ j. this ∷ drop j spans) next
 
-  pub walk_here : walk_from t es offset (drop i spans) ≡ walk_from t es offset (this ∷ drop (i + 1) spans)
-  walk_here = ap (walk_from t es offset) split
+  pub walk_here : walk_from true t es offset (drop i spans) ≡ walk_from true t es offset (this ∷ drop (i + 1) spans)
+  walk_here = ap (walk_from true t es offset) split
 
   pub bytes_here : offset + this.len + span_bytes (drop (i + 1) spans) ≡ offset + span_bytes (drop i spans)
   bytes_here = first_bytes offset (drop i spans) this (drop (i + 1) spans) split
 
 -- the walk at the end
-pub walk_end : (t : Translation) (es all : List Entry) (offset : ℕ) (spans : List Span) (i : ℕ) → all ≡ es → length spans ≤ i → walk_from t es offset (drop i spans) ≡ spans_walk true t spans → walk.All all ≡ spans_walk true t spans
-walk_end t es all offset spans i same h e = ap walk.All (same ∙ sym (append-nil es)) ∙ ap (walk_from t es offset) (sym (drop_all i spans h)) ∙ e
+pub walk_end : (t : Translation) (es all : List Entry) (offset : ℕ) (spans : List Span) (i : ℕ) → all ≡ es → length spans ≤ i → walk_from true t es offset (drop i spans) ≡ spans_walk true t spans → walk.All all ≡ spans_walk true t spans
+walk_end t es all offset spans i same h e = ap walk.All (same ∙ sym (append-nil es)) ∙ ap (walk_from true t es offset) (sym (drop_all i spans h)) ∙ e

@@ -26,7 +26,7 @@ walked-parts before [] opens rounded rest = ap (λ xs. walked xs rest) (sym (app
 walked-parts before (e ∷ es) opens rounded rest = walked-parts (before ++ e ∷ []) es false rounded rest ∙ ap (λ xs. walked xs rest) (append_assoc before (e ∷ []) es)
 
 -- the walk over a stream is the one over its bytes
-walked-run : (pas : List ℕ) (n : ℕ) (opens rounded : Bool) → walked [] (run_stream pas n 0 opens rounded) ≡ walk_of pas n
+pub walked-run : (pas : List ℕ) (n : ℕ) (opens rounded : Bool) → walked [] (run_stream pas n 0 opens rounded) ≡ walk_of pas n
 walked-run pas n opens rounded =
     let zero_plus : 0 + length pas ≡ length pas = omega arith in
     walked-parts [] (extents_of pas) opens rounded (if nat_eq (length pas) n then [] else part.Unmapped (0 + length pas) ∷ [])

@@ -26,7 +26,7 @@ returns-in-Unmapped-clause-walk c =
     let spans = c.args.spans.now in
     let l = c.loop-span in
     let s = this t l.entries.items l.offset spans l.span-index no_span c.loop-span-test.true in
-    sym (stopped t l.entries.items l.offset s (drop (l.span-index + 1) spans) c.in-Unmapped.at (sym c.in-Unmapped.is ∙ c.in_ok-at.ensures.walk))
+    sym (stopped true t l.entries.items l.offset s (drop (l.span-index + 1) spans) c.in-Unmapped.at (sym c.in-Unmapped.is ∙ c.in_ok-at.ensures.walk))
     ∙ sym (walk_here t l.entries.items l.offset spans l.span-index no_span c.loop-span-test.true) ∙ l.invariant.walk
 
 pub loop-span-preserved : goal.loop-span-preserved
@@ -43,10 +43,10 @@ loop-span-preserved c =
     record {
       total = omega (arith, bytes, l.invariant.total);
       walk = elim c.if-not-is_empty.branch [
-        | then-not-is_empty+in_ok-push w ↦ ap (λ es. walk_from t es (l.offset + s.len) rest) (ap (λ (v : Vec Entry Global). v.items) w.entries-is ∙ w.in_ok-push.ensures.items)
-            ∙ sym (past_entry t l.entries.items l.offset s rest c.in-Parts.parts found w.if-not-is_empty.ensures.1) ∙ before
-        | else-not-is_empty w ↦ ap (λ (v : Vec Entry Global). walk_from t v.items (l.offset + s.len) rest) w.entries-is
-            ∙ sym (past_none t l.entries.items l.offset s rest (ap Parts (sym (w.if-not-is_empty.ensures.0 refl)) ∙ found)) ∙ before
+        | then-not-is_empty+in_ok-push w ↦ ap (λ es. walk_from true t es (l.offset + s.len) rest) (ap (λ (v : Vec Entry Global). v.items) w.entries-is ∙ w.in_ok-push.ensures.items)
+            ∙ sym (past_entry true t l.entries.items l.offset s rest c.in-Parts.parts found w.if-not-is_empty.ensures.1) ∙ before
+        | else-not-is_empty w ↦ ap (λ (v : Vec Entry Global). walk_from true t v.items (l.offset + s.len) rest) w.entries-is
+            ∙ sym (past_none true t l.entries.items l.offset s rest (ap Parts (sym (w.if-not-is_empty.ensures.0 refl)) ∙ found)) ∙ before
       ];
     }
 
