@@ -1,3 +1,4 @@
 pub mod Acting
 pub mod Closings
+pub mod Sending
 pub mod Turning
