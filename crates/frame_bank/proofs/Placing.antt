@@ -1,14 +1,15 @@
 -- A page in its place among others.
-use Rattle.std.proofs.Common.{◌≡◌, ◌≢◌, ℕ, zero, suc, ◌+◌, ◌<◌, ◌≤◌, Bool, true, false, cond, List, [], ◌∷◌, map, length, get_or, drop, replicate, refl, sym, ap, ◌∙◌, arith, leb, ltb, eqb}
+use Rattle.std.proofs.Common.{◌≡◌, ◌≢◌, ℕ, zero, suc, ◌+◌, ◌*◌, ◌<◌, ◌≤◌, Bool, true, false, cond, List, [], ◌∷◌, map, length, get_or, drop, replicate, refl, sym, ap, ◌∙◌, arith, leb, ltb, eqb}
 use Rattle.std.specs.List.{All, AllPairs, AllWithin, count_by, insert}
 use Rattle.std.proofs.lemmas.Bool.{ltb-true, ltb-false, leb-true, leb-false, lt-ltb, le-ltb, eq-eqb, ne_eqb}
 use Rattle.std.proofs.lemmas.Bool.Decides.{nat_tests}
 use Rattle.std.proofs.lemmas.List.{get_or_default, get_or-drop, drop_more, length-drop}
 use Rattle.std.proofs.lemmas.List.Elements.{All-nil, All-cons, All-head, All-tail}
 use Rattle.busdma_base.specs.Machine.Page.{FrameBytes}
+use Rattle.busdma_base.specs.Bounce.History.{IsRising}
 use Rattle.busdma_base.specs.Bounce.MemoryRuns.{put_in}
 use Rattle.busdma_base.specs.Machine.PageList.{page_address, page_addresses}
-use Rattle.frame_bank.specs.FrameBank.{fresh_page, put_page, put_pages}
+use Rattle.frame_bank.specs.FrameBank.{Bank, free_frames, fresh_page, put_page, put_pages}
 use Rattle.frame_bank.proofs.Counted.{weight, count_by-cons, count_by-map, count_by-front}
 use Rattle.frame_bank.proofs.Rising.{AreRising, above_lower}
 
@@ -104,3 +105,17 @@ put_next frames i j page pages next inside frame bytes before =
     ∙ ap (λ f. put_page (fresh_page f) rest) frame
     ∙ ap (λ k. put_page (fresh_page (get_or frames i 0)) (put_pages (map fresh_page (drop k frames)) [])) next
     ∙ ap (λ fs. put_pages (map fresh_page fs) []) (sym (drop_more frames i 0 inside))
+
+-- pages of rising frames stay in their order
+pub put_rising : (fs : List ℕ) → IsRising fs → put_pages (map fresh_page fs) [] ≡ map fresh_page fs
+put_rising [] rising = refl
+put_rising (f ∷ []) rising = refl
+put_rising (f ∷ g ∷ gs) rising =
+    ap (put_page (fresh_page f)) (put_rising (g ∷ gs) rising.1) ∙ put-first (fresh_page f) (fresh_page g) (map fresh_page gs) rising.0
+
+fresh_addresses : (fs : List ℕ) → page_addresses (map fresh_page fs) ≡ map (λ f. 4096 * f) fs
+fresh_addresses [] = refl
+fresh_addresses (f ∷ fs) = ap (λ xs. 4096 * f ∷ xs) (fresh_addresses fs)
+
+pub rising_are_free : (fs : List ℕ) (b : Bank) → b.pages ≡ put_pages (map fresh_page fs) [] → IsRising fs → free_frames b ≡ map (λ f. 4096 * f) fs
+rising_are_free fs b pages rising = ap page_addresses (pages ∙ put_rising fs rising) ∙ fresh_addresses fs

@@ -7,9 +7,8 @@ use Rattle.std.proofs.lemmas.List.Elements.{All-cons, All-head, All-weaker}
 use Rattle.std.proofs.lemmas.List.{get_or-map, get_or_read, get_or-drop, drop-map, drop_more, length-drop, length-map}
 use Rattle.busdma_base.specs.Machine.Page.{FrameBytes}
 use Rattle.busdma_base.specs.Bounce.History.{IsRising}
-use Rattle.busdma_base.specs.Bounce.MemoryRuns.{frames_for, follow, crosses_none, lowest_run}
+use Rattle.busdma_base.specs.Bounce.MemoryRuns.{frames_for, follow, crosses_none, begins_run, lowest_run}
 use Rattle.busdma_base.specs.Machine.PageList.{page_address, page_addresses}
-use Rattle.frame_bank.specs.FrameBank.{begins_run}
 use Rattle.frame_bank.proofs.Rising.{AreRising, rising_pages, rising_drop}
 
 -- each page is at or above a frame

@@ -1,9 +1,9 @@
 -- The bank of free frames.
-use Rattle.std.specs.Prelude.{ℕ, zero, suc, ◌+◌, ◌*◌, ◌^◌, ◌<◌, ◌≤◌, Bool, false, not, ◌&&◌, List, [], ◌∷◌, length, replicate, Option, Some, None, nat_le, nat_lt, if◌then◌else◌}
+use Rattle.std.specs.Prelude.{ℕ, ◌^◌, ◌<◌, ◌≤◌, Bool, not, List, [], ◌∷◌, length, replicate, Option, Some, None, nat_lt, if◌then◌else◌}
 use Rattle.std.specs.List.{All, filter}
 use Rattle.busdma_base.specs.Machine.Page.{FrameBytes}
 use Rattle.busdma_base.specs.Bounce.History.{IsRising}
-use Rattle.busdma_base.specs.Bounce.MemoryRuns.{frames_for, follow, crosses_none, in_run}
+use Rattle.busdma_base.specs.Bounce.MemoryRuns.{in_run, frames_in, frames_but}
 use Rattle.busdma_base.specs.Machine.PageList.{page_address, page_addresses}
 
 -- the pages of the free frames, rising, and how many there is room for
@@ -29,26 +29,14 @@ abbrev pub put_pages : List FrameBytes → List FrameBytes → List FrameBytes
 put_pages [] qs = qs
 put_pages (p ∷ ps) qs = put_page p (put_pages ps qs)
 
--- rising frames begin with those of a memory of so many bytes, which lie at or below the limit and cross no multiple
--- of the boundary
-abbrev pub begins_run : ℕ → ℕ → ℕ → List ℕ → Bool
-begins_run len boundary limit [] = false
-begins_run len boundary limit (f ∷ fs) =
-    follow (frames_for len) f (f ∷ fs) && (nat_le (f + 4096 * frames_for len) (limit + 1) && crosses_none len boundary f)
-
--- the addresses of n frames that follow one another from the first on
-abbrev pub frames_from : ℕ → ℕ → List ℕ
-frames_from zero first = []
-frames_from (suc n) first = first ∷ frames_from n (first + 4096)
-
 -- the n frames from the first of a run on, where there is a run, and the frames but those
 abbrev pub run_frames : Option ℕ → ℕ → List ℕ → Option (List ℕ)
 run_frames None n frames = None
-run_frames (Some first) n frames = Some (filter (in_run first n) frames)
+run_frames (Some first) n frames = Some (frames_in first n frames)
 
 abbrev pub frames_left : Option ℕ → ℕ → List ℕ → List ℕ
 frames_left None n frames = frames
-frames_left (Some first) n frames = filter (λ f. not (in_run first n f)) frames
+frames_left (Some first) n frames = frames_but first n frames
 
 -- the same of pages
 abbrev pub is_in_run : ℕ → ℕ → FrameBytes → Bool

@@ -1,11 +1,12 @@
 //! The bank of free frames.
 
-ghost use Rattle.std.specs.Prelude.{◌≡◌, ◌≢◌, ◌==◌, ◌+◌, ◌^◌, ◌<◌, ◌≤◌, [], ◌∷◌, length, map, option_map, count_by, IfOk, OnOk, OnErr, IfSome, IfNone};
+ghost use Rattle.std.specs.Prelude.{◌≡◌, ◌≢◌, ◌==◌, ◌+◌, ◌*◌, ◌^◌, ◌<◌, ◌≤◌, [], ◌∷◌, length, map, option_map, count_by, IfOk, OnOk, OnErr, IfSome, IfNone};
 ghost use Rattle.std.specs.List.{All, AllPairs};
 ghost use Rattle.busdma_base.specs.Bounce.Growth.{frames_below};
-ghost use Rattle.busdma_base.specs.Bounce.MemoryRuns.{frames_for, lowest_run, put_in};
+ghost use Rattle.busdma_base.specs.Bounce.History.{IsRising};
+ghost use Rattle.busdma_base.specs.Bounce.MemoryRuns.{frames_for, frames_from, lowest_run, put_in};
 ghost use Rattle.busdma_base.specs.Machine.PageList.{page_address, page_addresses};
-ghost use Rattle.frame_bank.specs.FrameBank.{IsBank, free_frames, fresh_page, put_page, put_pages, frames_from, run_frames, frames_left, run_pages, pages_left};
+ghost use Rattle.frame_bank.specs.FrameBank.{IsBank, free_frames, fresh_page, put_page, put_pages, run_frames, frames_left, run_pages, pages_left};
 
 use crate::run;
 use crate::run::Wish;
@@ -45,6 +46,9 @@ impl FrameBank {
         requires few { length frames.now ≤ 8192 }
         ensures pages { IfOk result (λ b. b.pages ≡ put_pages (map fresh_page frames.now) []) }
         ensures room { IfOk result (λ b. b.room ≡ length frames.now) }
+        ensures sound { IfOk result IsBank }
+        ensures free { IsRising frames.now →
+            IfOk result (λ b. free_frames b ≡ map (λ f. 4096 * f) frames.now) }
     {
         let mut bank = FrameBank {
             free: VecDeque::with_capacity(alloc, frames.len())?,
@@ -130,6 +134,7 @@ impl FrameBank {
         requires apart { count_by (λ p. p.frame == page.frame) self.old.pages ≡ 0 }
         ensures bank { self.new ≡ record self.old { pages = put_page page self.old.pages } }
         ensures free { free_frames self.new ≡ put_in (page_address page) (free_frames self.old) }
+        ensures sound { IsBank self.new }
     {
         let frame = page.frame();
         let at = self.free.partition_point(|other| other.frame() <= frame);

@@ -2,9 +2,8 @@
 
 ghost use Rattle.std.specs.Prelude.{◌≡◌, ◌+◌, ◌<◌, ◌≤◌, length, drop, nat_le, Some, None, MatchOption, slice_index, true};
 ghost use Rattle.busdma_base.specs.Bounce.History.{IsRising};
-ghost use Rattle.busdma_base.specs.Bounce.MemoryRuns.{frames_for, follow, crosses_none, lowest_run};
+ghost use Rattle.busdma_base.specs.Bounce.MemoryRuns.{frames_for, follow, crosses_none, begins_run, lowest_run};
 ghost use Rattle.busdma_base.specs.Machine.PageList.{page_address, page_addresses};
-ghost use Rattle.frame_bank.specs.FrameBank.{begins_run};
 
 use busdma_base::{Pa, Page};
 use std::collections::VecDeque;

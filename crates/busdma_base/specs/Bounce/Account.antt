@@ -36,6 +36,18 @@ pub record Account : Type 0 where
   pub maxmem : ℕ
   pub max_bpages : ℕ
 
+-- an account of free frames with the two constants, and of nothing else
+abbrev pub fresh_account : List ℕ → ℕ → ℕ → Account
+fresh_account frames maxmem max_bpages = record {
+  bank = frames;
+  zones = [];
+  held = [];
+  ready = [];
+  mems = [];
+  maxmem = maxmem;
+  max_bpages = max_bpages;
+}
+
 -- what stands past the last zone
 abbrev pub no_zone : Zone
 no_zone = record { lowaddr = 0; alignment = 0; avail = []; maps = []; wait = []; deferred = 0 }

@@ -6,9 +6,13 @@ use Rattle.busdma_base.specs.declared.tags.tag.TagLimits.{TagLimits}
 use Rattle.busdma_base.specs.declared.bounce.zone.Grown.{Grown}
 use Rattle.busdma_base.specs.Bounce.Account.{Account, Zone, no_zone, zone_at, with_zone, same_map, total}
 
--- the zone's pages are aligned as the tag asks, and lie as low as the tag asks
+-- pages below a lowaddr, and of an alignment, are aligned as the tag asks, and lie as low as the tag asks
+abbrev pub bounds_serve : TagLimits → ℕ → ℕ → Bool
+bounds_serve t lowaddr alignment = nat_le t.alignment alignment && nat_le lowaddr t.lowaddr.0
+
+-- the zone's pages do
 abbrev pub serves_tag : TagLimits → Zone → Bool
-serves_tag t z = nat_le t.alignment z.alignment && nat_le z.lowaddr t.lowaddr.0
+serves_tag t z = bounds_serve t z.lowaddr z.alignment
 
 -- a zone that is made for a tag, with nothing in it
 abbrev pub new_zone : TagLimits → Zone
@@ -19,10 +23,14 @@ abbrev pub zones_for : TagLimits → List Zone → List Zone
 zones_for t [] = new_zone t ∷ []
 zones_for t (z ∷ zs) = z ∷ (if serves_tag t z then zs else zones_for t zs)
 
+-- the place of the first that passes a test, or behind all
+abbrev pub first_place : {X : Type 0} → (X → Bool) → List X → ℕ
+first_place test [] = 0
+first_place test (x ∷ xs) = if test x then 0 else suc (first_place test xs)
+
 -- the number of the first zone that serves the tag, or of the one that is made for it
 abbrev pub zone_of : TagLimits → List Zone → ℕ
-zone_of t [] = 0
-zone_of t (z ∷ zs) = if serves_tag t z then 0 else suc (zone_of t zs)
+zone_of t zs = first_place (serves_tag t) zs
 
 -- the account in which the tag has its zone
 abbrev pub with_zone_for : TagLimits → Account → Account
@@ -46,19 +54,26 @@ grown a z n =
 abbrev pub wanted_by_tag : TagLimits → ℕ → ℕ
 wanted_by_tag t pages = t.maxsize / 4096 - pages
 
--- up to how many pages a zone that has maps grows for further maps of a tag; a first allocation may pass that number
+-- up to how many pages a zone that has maps grows for further maps of a tag, by the two constants; a first allocation
+-- may pass that number
+abbrev pub most_pages : TagLimits → ℕ → ℕ → ℕ
+most_pages t max_bpages maxmem = if nat_lt 1 t.alignment then max_bpages else min max_bpages (maxmem - t.lowaddr.0 / 4096)
+
 abbrev pub maxpages : TagLimits → Account → ℕ
-maxpages t a = if nat_lt 1 t.alignment then a.max_bpages else min a.max_bpages (a.maxmem - t.lowaddr.0 / 4096)
+maxpages t a = most_pages t a.max_bpages a.maxmem
 
 -- a map wants pages where it is to do its tag's first allocation, and where its zone has a map and may still grow
-abbrev pub wants_pages : Bool → Zone → ℕ → ℕ → Bool
-wants_pages first_done zone pages most = not first_done || (nat_lt 0 (length zone.maps) && nat_lt pages most)
+abbrev pub wants_pages : Bool → ℕ → ℕ → ℕ → Bool
+wants_pages first_done maps pages most = not first_done || (nat_lt 0 maps && nat_lt pages most)
 
--- how many pages the making of a map wants, where its zone has so many and may grow to `most`
-abbrev pub wanted_by_map : TagLimits → Bool → Zone → ℕ → ℕ → ℕ
-wanted_by_map t first_done zone pages most =
-    if wants_pages first_done zone pages most
+-- how many pages the making of a map wants, where its zone has so many maps and pages and may grow to `most`
+abbrev pub wanted_for : TagLimits → Bool → ℕ → ℕ → ℕ → ℕ
+wanted_for t first_done maps pages most =
+    if wants_pages first_done maps pages most
     then max 1 (min (most - pages) (min t.nsegments (max 1 (t.maxsize / 4096)))) else 0
+
+abbrev pub wanted_by_map : TagLimits → Bool → Zone → ℕ → ℕ → ℕ
+wanted_by_map t first_done zone pages most = wanted_for t first_done (length zone.maps) pages most
 
 -- what the first allocation of a tag adds to a zone; it is made where all that is wanted came
 abbrev pub growth_for_tag : TagLimits → Account → ℕ → Grown

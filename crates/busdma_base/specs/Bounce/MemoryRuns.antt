@@ -18,24 +18,40 @@ follow (suc n) f (g ∷ gs) = (g == f) && follow n (f + 4096) gs
 abbrev pub crosses_none : ℕ → ℕ → ℕ → Bool
 crosses_none len boundary f = (boundary == 0) || nat_le (f % boundary + len) boundary
 
--- the lowest of the rising free frames from which on a memory of so many bytes can have its frames: they are free,
--- lie at or below the limit, and its bytes cross no multiple of the boundary
+-- rising frames begin with those of a memory of so many bytes: they follow one another, lie at or below the limit, and
+-- the bytes cross no multiple of the boundary
+abbrev pub begins_run : ℕ → ℕ → ℕ → List ℕ → Bool
+begins_run len boundary limit [] = false
+begins_run len boundary limit (f ∷ fs) =
+    follow (frames_for len) f (f ∷ fs) && (nat_le (f + 4096 * frames_for len) (limit + 1) && crosses_none len boundary f)
+
+-- the lowest of the rising free frames from which on a memory of so many bytes can have its frames
 abbrev pub lowest_run : ℕ → ℕ → ℕ → List ℕ → Option ℕ
 lowest_run len boundary limit [] = None
 lowest_run len boundary limit (f ∷ fs) =
-    let n : ℕ = frames_for len in
-    if follow n f (f ∷ fs) && (nat_le (f + 4096 * n) (limit + 1) && crosses_none len boundary f)
-    then Some f else lowest_run len boundary limit fs
+    if begins_run len boundary limit (f ∷ fs) then Some f else lowest_run len boundary limit fs
+
+-- the addresses of n frames that follow one another from the first on
+abbrev pub frames_from : ℕ → ℕ → List ℕ
+frames_from zero first = []
+frames_from (suc n) first = first ∷ frames_from n (first + 4096)
 
 -- a frame is one of the n frames from first on
 abbrev pub in_run : ℕ → ℕ → ℕ → Bool
 in_run first n f = nat_le first f && nat_lt f (first + 4096 * n)
 
+-- those of frames that are among the n frames from first on, and the others
+abbrev pub frames_in : ℕ → ℕ → List ℕ → List ℕ
+frames_in first n frames = filter (in_run first n) frames
+
+abbrev pub frames_but : ℕ → ℕ → List ℕ → List ℕ
+frames_but first n frames = filter (λ f. not (in_run first n f)) frames
+
 -- the n frames from first on go from the bank to a memory
 abbrev pub with_memory : Account → MapId → ℕ → ℕ → Account
 with_memory a m first n = record a {
-  bank = filter (λ f. not (in_run first n f)) a.bank;
-  mems = a.mems ++ record { mem = m; frames = filter (in_run first n) a.bank } ∷ [];
+  bank = frames_but first n a.bank;
+  mems = a.mems ++ record { mem = m; frames = frames_in first n a.bank } ∷ [];
 }
 
 -- a frame in its place among rising ones

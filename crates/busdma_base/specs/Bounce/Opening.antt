@@ -6,7 +6,7 @@ use Rattle.busdma_base.specs.declared.scenarios.scenario.FrameRun.{FrameRun}
 use Rattle.busdma_base.specs.declared.scenarios.scenario.Driver.{Driver}
 use Rattle.busdma_base.specs.declared.scenarios.scenario.Scenario.{Scenario}
 use Rattle.busdma_base.specs.Machine.FrameRuns.{is_in}
-use Rattle.busdma_base.specs.Bounce.Account.{Account}
+use Rattle.busdma_base.specs.Bounce.Account.{Account, fresh_account}
 
 -- the highest frame plus one, or 0 without frames
 abbrev pub maxmem_of : List FrameRun → ℕ
@@ -24,12 +24,6 @@ free_below s (suc n) = free_below s n ++ filter (λ f. list_any (is_in f) s.fram
 
 -- every frame that no driver has is free, and nothing else is there
 abbrev pub opening : Scenario → Account
-opening s = record {
-  bank = map (λ f. 4096 * f) (free_below s (maxmem_of s.frames));
-  zones = [];
-  held = [];
-  ready = [];
-  mems = [];
-  maxmem = maxmem_of s.frames;
-  max_bpages = s.max_bpages;
-}
+opening s =
+    let maxmem : ℕ = maxmem_of s.frames in
+    fresh_account (map (λ f. 4096 * f) (free_below s maxmem)) maxmem s.max_bpages

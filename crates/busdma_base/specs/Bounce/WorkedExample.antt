@@ -1,5 +1,5 @@
 -- Twelve calls over a small machine, their replies, and the counts after them, worked by hand.
-use Rattle.std.specs.Prelude.{ℕ, zero, suc, ◌+◌, ◌^◌, ◌-◌, true, false, List, [], ◌∷◌, ◌++◌}
+use Rattle.std.specs.Prelude.{ℕ, ◌^◌, ◌-◌, true, false, List, [], ◌∷◌, ◌++◌}
 use Rattle.busdma_base.specs.declared.name.MapId.{MapId}
 use Rattle.busdma_base.specs.declared.tags.tag.TagLimits.{TagLimits}
 use Rattle.busdma_base.specs.declared.bounce.zone.ZoneCounts.{ZoneCounts}
@@ -7,25 +7,13 @@ use Rattle.busdma_base.specs.declared.bounce.hold.HubCall.{HubCall}
 use Rattle.busdma_base.specs.declared.bounce.hold.HubCall.TheVariants.{CreateMap, DestroyMap, Grab, Release, TakeCallback, MemAlloc}
 use Rattle.busdma_base.specs.declared.bounce.hold.HubReply.{HubReply}
 use Rattle.busdma_base.specs.declared.bounce.hold.HubReply.TheVariants.{Nothing, Grown, Granted, Queued, NoPages, Served, Called, Run, NoRun}
-use Rattle.busdma_base.specs.Bounce.Account.{Account}
+use Rattle.busdma_base.specs.Bounce.Account.{Account, fresh_account}
 use Rattle.busdma_base.specs.Bounce.AccountStep.{Outcome, account_step, as_pages}
+use Rattle.busdma_base.specs.Bounce.MemoryRuns.{frames_from}
 
--- the addresses of n frames from the one at f on
-abbrev pub frames_from : ℕ → ℕ → List ℕ
-frames_from zero f = []
-frames_from (suc n) f = f ∷ frames_from n (f + 4096)
-
--- the frames 0x10 to 0x17 and 0x1000 to 0x100f are free
+-- the frames 0x10 to 0x17 and 0x1000 to 0x100f are free; maxmem is 0x1010, and max_bpages 2
 abbrev pub small_machine : Account
-small_machine = record {
-  bank = frames_from 8 0x10000 ++ frames_from 16 0x1000000;
-  zones = [];
-  held = [];
-  ready = [];
-  mems = [];
-  maxmem = 0x1010;
-  max_bpages = 2;
-}
+small_machine = fresh_account (frames_from 8 0x10000 ++ frames_from 16 0x1000000) 0x1010 2
 
 abbrev pub low_tag : TagLimits
 low_tag = record {

@@ -51,3 +51,6 @@ pub returns-clause-free : goal.returns-clause-free
 returns-clause-free c =
     ap page_addresses (placed c) ∙ page_addresses-put_page c.args.page c.self.inside.free.items
     ∙ ap (λ (b : Bank). put_in (page_address c.args.page) (free_frames b)) c.self.view_is
+
+pub returns-clause-sound : goal.returns-clause-sound
+returns-clause-sound c = (invariant_of-self c).0

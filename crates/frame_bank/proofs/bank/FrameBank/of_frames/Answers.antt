@@ -1,8 +1,8 @@
-use Rattle.std.proofs.Common.{◌-◌, ◌==◌, map, length, drop, ap, ◌∙◌, arith}
+use Rattle.std.proofs.Common.{◌-◌, ◌≡◌, ◌==◌, [], map, length, drop, ap, ◌∙◌, arith}
 use Rattle.std.specs.List.{count_by}
 use Rattle.std.proofs.lemmas.List.{length-map, length-drop}
-use Rattle.frame_bank.specs.FrameBank.{Bank, fresh_page}
-use Rattle.frame_bank.proofs.Placing.{length-put_pages, count_by-put_pages, differs_behind, put_next}
+use Rattle.frame_bank.specs.FrameBank.{Bank, fresh_page, put_pages}
+use Rattle.frame_bank.proofs.Placing.{length-put_pages, count_by-put_pages, differs_behind, put_next, rising_are_free}
 use Rattle.frame_bank.proofs.bank.FrameBank.of_frames.Goals as goal
 
 pub give-requires-clause-room : goal.give-requires-clause-room
@@ -28,4 +28,10 @@ loop-at-preserved c = record {
   put = ap (λ (b : Bank). b.pages) c.give.ensures.bank
       ∙ put_next c.args.frames.now (c.loop-at.at - 1) c.loop-at.at c.in_ok-new.field-0 c.loop-at.bank.pages (omega arith) (omega arith) c.in_ok-new.ensures.frame c.in_ok-new.ensures.bytes c.loop-at.invariant.put;
   room = ap (λ (b : Bank). b.room) c.give.ensures.bank ∙ c.loop-at.invariant.room;
+  sound = c.give.ensures.sound;
 }
+
+pub returns-clause-free : goal.returns-clause-free
+returns-clause-free c =
+    let done : c.loop-at.at ≡ 0 = omega arith in
+    λ rising. rising_are_free c.args.frames.now c.loop-at.bank (c.loop-at.invariant.put ∙ ap (λ k. put_pages (map fresh_page (drop k c.args.frames.now)) []) done) rising
