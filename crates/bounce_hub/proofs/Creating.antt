@@ -8,10 +8,10 @@ use Rattle.busdma_base.specs.declared.bounce.hold.HubCall.TheVariants.{CreateMap
 use Rattle.busdma_base.specs.declared.bounce.hold.HubReply.TheVariants.{Grown}
 use Rattle.busdma_base.specs.Bounce.Account.{Account, zone_at, total}
 use Rattle.busdma_base.specs.Bounce.AccountStep.{Outcome, created}
-use Rattle.busdma_base.specs.Bounce.Growth.{zone_of, with_zone_for, wanted_by_map, maxpages, added, grown, with_map}
+use Rattle.busdma_base.specs.Bounce.Growth.{zone_of, with_zone_for, wanted_for, wanted_by_map, most_pages, maxpages, added, grown, with_map}
 use Rattle.bounce_hub.specs.declared.slot.Slot.{Slot}
 use Rattle.bounce_hub.specs.declared.pool.Pool.{Pool}
-use Rattle.bounce_hub.specs.Growing.{GrewBy, Grows, place_for, wanted_for, maps_of, pages_of, most_pages}
+use Rattle.bounce_hub.specs.Growing.{GrewBy, Grows, place_for, maps_of, pages_of}
 use Rattle.bounce_hub.specs.Pools.{Matches, Agrees, Fits, Stepped}
 use Rattle.bounce_hub.proofs.Agreeing.{Around, agrees-as, slot-matches}
 use Rattle.bounce_hub.proofs.Mapping.{agrees-mapped, maps-owed, created-made, created-not}
@@ -19,7 +19,7 @@ use Rattle.bounce_hub.proofs.ZoneGrowth.{place-is, place-inside, wanted-is}
 
 module _ (p q : Pool) (t : TagLimits) (first_done : Bool) (m : MapId) (place wanted n : ℕ) (zone : ZoneId) (a : Account) (agrees : Agrees p a) (fits : Fits p a)
     (found : place ≡ place_for t p.zones.items) (named : zone ≡ record { 0 = place })
-    (wants : wanted ≡ wanted_for t first_done (maps_of (slice_get p.zones.items place)) (pages_of (slice_get p.zones.items place)) (most_pages t p)) (grows : Grows p t place wanted n q) where
+    (wants : wanted ≡ wanted_for t first_done (maps_of (slice_get p.zones.items place)) (pages_of (slice_get p.zones.items place)) (most_pages t p.max_bpages p.maxmem)) (grows : Grows p t place wanted n q) where
   abbrev z : ℕ
   z = zone_of t a.zones
 

@@ -10,10 +10,10 @@ use Rattle.busdma_base.specs.declared.name.MapId.{MapId}
 use Rattle.busdma_base.specs.Bounce.Account.{Account, Memory, same_map}
 use Rattle.busdma_base.specs.Bounce.Door.{IsRow}
 use Rattle.busdma_base.specs.Machine.Page.{FrameBytes}
-use Rattle.busdma_base.specs.Bounce.MemoryRuns.{in_run, put_in, put_all, frames_of}
+use Rattle.busdma_base.specs.Bounce.MemoryRuns.{frames_from, in_run, put_in, put_all, frames_of}
 use Rattle.busdma_base.specs.Machine.PageList.{page_address, page_addresses}
 use Rattle.busdma_base.specs.Bounce.Places.{times, places, frame_total}
-use Rattle.frame_bank.specs.FrameBank.{free_frames, frames_from, run_pages, is_in_run, put_page, put_pages}
+use Rattle.frame_bank.specs.FrameBank.{free_frames, run_pages, is_in_run, put_page, put_pages}
 use Rattle.bounce_hub.specs.declared.slot.Slot.{Slot}
 use Rattle.bounce_hub.specs.declared.pool.Pool.{Pool}
 use Rattle.bounce_hub.specs.Pools.{Matches, Agrees}

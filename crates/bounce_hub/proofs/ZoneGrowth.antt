@@ -12,7 +12,7 @@ use Rattle.busdma_base.specs.declared.bounce.hold.HubReply.TheVariants.{Grown}
 use Rattle.busdma_base.specs.Bounce.Account.{Account, Zone, Held, no_zone, zone_at, reserved, active, total}
 use Rattle.busdma_base.specs.Bounce.AccountStep.{attached}
 use Rattle.busdma_base.specs.Machine.Page.{FrameBytes}
-use Rattle.busdma_base.specs.Bounce.Growth.{serves_tag, new_zone, zones_for, zone_of, with_zone_for, added, grown, wanted_by_tag, wanted_by_map, maxpages}
+use Rattle.busdma_base.specs.Bounce.Growth.{serves_tag, new_zone, zones_for, zone_of, with_zone_for, added, grown, wanted_by_tag, wanted_for, wanted_by_map, most_pages, maxpages}
 use Rattle.busdma_base.specs.Machine.PageList.{page_addresses, page_address}
 use Rattle.busdma_base.specs.Bounce.Places.{frame_total}
 use Rattle.busdma_base.specs.Bounce.WellFormed.{IsWellFormed}
@@ -21,7 +21,7 @@ use Rattle.busdma_base.proofs.Accounts.ZoneOf.{zones_for_found, zones_for_none}
 use Rattle.busdma_base.proofs.Accounts.Names.{sum_by-zones_for}
 use Rattle.bounce_hub.specs.declared.slot.Slot.{Slot}
 use Rattle.bounce_hub.specs.declared.pool.Pool.{Pool}
-use Rattle.bounce_hub.specs.Growing.{serves, place_for, pages_of, maps_of, most_pages, wanted_for}
+use Rattle.bounce_hub.specs.Growing.{serves, place_for, pages_of, maps_of}
 use Rattle.bounce_hub.specs.Pools.{Matches, Agrees, entries_of, owed, waiting}
 use Rattle.bounce_hub.proofs.Agreeing.{addresses-drop, addresses-take, zones-set, count-set}
 
@@ -243,14 +243,15 @@ attached-as t a n wanted w e = rw (sym w, sym e) refl
 
 -- how many pages the making of a map wants
 pub wanted-is : (t : TagLimits) (first_done : Bool) (p : Pool) (a : Account) (place : ℕ) → Agrees p a → IsWellFormed a → place ≡ zone_of t a.zones
-    → wanted_for t first_done (maps_of (slice_get p.zones.items place)) (pages_of (slice_get p.zones.items place)) (most_pages t p)
+    → wanted_for t first_done (maps_of (slice_get p.zones.items place)) (pages_of (slice_get p.zones.items place)) (most_pages t p.max_bpages p.maxmem)
     ≡ wanted_by_map t first_done (zone_at (with_zone_for t a) (zone_of t a.zones)) (total (with_zone_for t a) (zone_of t a.zones)) (maxpages t a)
 wanted-is t first_done p a place agrees well at =
     let b : Account = with_zone_for t a in
     let z : ℕ = zone_of t a.zones in
     let maps : ℕ = length (zone_at b z).maps in
-    ap (λ (k : ℕ). wanted_for t first_done (maps_of (slice_get p.zones.items k)) (pages_of (slice_get p.zones.items k)) (most_pages t p)) at
-    ∙ ap (λ (m : ℕ). wanted_for t first_done m (pages_of (slice_get p.zones.items z)) (most_pages t p)) (maps-is t p a agrees)
-    ∙ ap (λ (g : ℕ). wanted_for t first_done maps g (most_pages t p)) (pages-is t p a agrees well)
-    ∙ ap (λ (x : ℕ). wanted_for t first_done maps (total b z) (if nat_lt 1 t.alignment then x else min x (p.maxmem - t.lowaddr.0 / 4096))) agrees.max_bpages
-    ∙ ap (λ (y : ℕ). wanted_for t first_done maps (total b z) (if nat_lt 1 t.alignment then a.max_bpages else min a.max_bpages (y - t.lowaddr.0 / 4096))) agrees.maxmem
+    let most : ℕ = most_pages t p.max_bpages p.maxmem in
+    ap (λ (k : ℕ). wanted_for t first_done (maps_of (slice_get p.zones.items k)) (pages_of (slice_get p.zones.items k)) most) at
+    ∙ ap (λ (m : ℕ). wanted_for t first_done m (pages_of (slice_get p.zones.items z)) most) (maps-is t p a agrees)
+    ∙ ap (λ (g : ℕ). wanted_for t first_done maps g most) (pages-is t p a agrees well)
+    ∙ ap (λ (x : ℕ). wanted_for t first_done maps (total b z) (most_pages t x p.maxmem)) agrees.max_bpages
+    ∙ ap (λ (y : ℕ). wanted_for t first_done maps (total b z) (most_pages t a.max_bpages y)) agrees.maxmem

@@ -1,16 +1,8 @@
 -- The account with which a hub begins.
-use Rattle.std.specs.Prelude.{ℕ, []}
-use Rattle.busdma_base.specs.Bounce.Account.{Account}
+use Rattle.std.specs.Prelude.{ℕ}
+use Rattle.busdma_base.specs.Bounce.Account.{Account, fresh_account}
 use Rattle.frame_bank.specs.FrameBank.{Bank, free_frames}
 
 -- the free frames of a bank, the two constants, and nothing else
 abbrev pub opening : Bank → ℕ → ℕ → Account
-opening bank max_bpages maxmem = record {
-  bank = free_frames bank;
-  zones = [];
-  held = [];
-  ready = [];
-  mems = [];
-  maxmem = maxmem;
-  max_bpages = max_bpages;
-}
+opening bank max_bpages maxmem = fresh_account (free_frames bank) maxmem max_bpages

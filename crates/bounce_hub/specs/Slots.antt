@@ -1,7 +1,7 @@
 -- What contracts see of a zone with its waiting maps.
 use Rattle.std.specs.Prelude.{ℕ, ◌+◌, ◌-◌, length}
 use Rattle.busdma_base.specs.declared.bounce.zone.ZoneCounts.{ZoneCounts}
-use Rattle.bounce_zone.specs.ZonePages.{free_pages}
+use Rattle.bounce_zone.specs.ZonePages.{zone_counts}
 use Rattle.bounce_hub.specs.declared.slot.Slot.{Slot}
 
 -- the pages that are promised to nobody once a page came back
@@ -10,13 +10,4 @@ room_after s = length s.zone.pages + 1 - s.zone.reserved
 
 -- the counts of the zone, without that of copies
 abbrev pub slot_counts : Slot → ZoneCounts
-slot_counts s = record {
-  total = length s.zone.pages + s.zone.active;
-  free = free_pages s.zone;
-  reserved = s.zone.reserved;
-  active = s.zone.active;
-  bounced = 0;
-  deferred = s.deferred;
-  lowaddr = record { 0 = s.zone.lowaddr };
-  alignment = s.zone.alignment;
-}
+slot_counts s = record (zone_counts s.zone) { deferred = s.deferred }

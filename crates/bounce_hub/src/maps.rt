@@ -3,7 +3,8 @@
 ghost use Rattle.std.specs.Prelude.{◌≡◌, ◌==◌, ◌||◌, ◌+◌, ◌-◌, ◌^◌, ◌<◌, ◌≤◌, IfOk, OnErr, length, slice_get};
 ghost use Rattle.busdma_base.specs.declared.bounce.hold.HubCall.TheVariants.{AttachTag, CreateMap, DestroyMap};
 ghost use Rattle.busdma_base.specs.declared.bounce.hold.HubReply.TheVariants.{Nothing, Grown as GrownBy};
-ghost use Rattle.bounce_hub.specs.Growing.{IsPlace, Grows, place_for, serves, pages_of, maps_of, most_pages, wanted_for};
+ghost use Rattle.busdma_base.specs.Bounce.Growth.{most_pages, wanted_for};
+ghost use Rattle.bounce_hub.specs.Growing.{IsPlace, Grows, place_for, serves, pages_of, maps_of};
 ghost use Rattle.bounce_hub.specs.Pools.{Allowed, Steps, Stays};
 
 use crate::pool::Pool;
@@ -131,7 +132,7 @@ impl Pool {
 
     /// How many pages a zone may grow to for the maps of a tag.
     fn most_pages(&self, tag: &TagLimits) -> u64
-        ensures { result ≡ most_pages tag.now self.now }
+        ensures { result ≡ most_pages tag.now self.now.max_bpages self.now.maxmem }
     {
         let most = u64::from(self.max_bpages);
         if tag.alignment > 1 {
@@ -144,7 +145,8 @@ impl Pool {
     /// How many pages the making of a map of the tag wants for the zone at a place.
     fn wanted_by_map(&self, tag: &TagLimits, first_done: bool, place: usize) -> u64
         ensures { let slot = slice_get self.now.zones.items place in
-            result ≡ wanted_for tag.now first_done (maps_of slot) (pages_of slot) (most_pages tag.now self.now) }
+            let most = most_pages tag.now self.now.max_bpages self.now.maxmem in
+            result ≡ wanted_for tag.now first_done (maps_of slot) (pages_of slot) most }
     {
         let pages = u64::from(self.pages_at(place));
         let most = self.most_pages(tag);

@@ -48,9 +48,6 @@ impl ReadyList {
         ensures ok { OnOk result (self.new ≡ record self.old { spare = self.old.spare + 1 }) }
         ensures no_memory { OnErr result (self.new ≡ self.old) }
     {
-        if self.spare == usize::MAX {
-            return Err(AllocError);
-        }
         self.kept.reserve(self.spare + 1)?;
         self.spare += 1;
         Ok(())

@@ -95,4 +95,4 @@ counts a bounced z = record {
 
 -- an account with nothing in it
 abbrev pub no_account : Account
-no_account = record { bank = []; zones = []; held = []; ready = []; mems = []; maxmem = 0; max_bpages = 0 }
+no_account = fresh_account [] 0 0
