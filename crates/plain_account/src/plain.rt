@@ -10,7 +10,7 @@ mod step;
 
 ghost use Rattle.std.specs.Prelude.{◌≡◌, [], IfOk, OnOk};
 ghost use Rattle.std.specs.List.{count_by};
-ghost use Rattle.busdma_base.specs.Bounce.Account.{zone_at, with_zone, active, reserved, free, total, counts};
+ghost use Rattle.busdma_base.specs.Bounce.Account.{fresh_account, zone_at, with_zone, active, reserved, free, total, counts};
 
 use busdma_base::{MapId, Pa, Waiter, ZoneCounts, ZoneId};
 use std::alloc::{AllocError, Global};
@@ -108,15 +108,7 @@ impl Model for PlainAccount {
 impl PlainAccount {
     /// An account of free frames, by their physical addresses, and nothing else.
     pub fn new(alloc: Global, bank: Vec<u64>, maxmem: u64, max_bpages: u32) -> PlainAccount
-        ensures { result ≡ record {
-          bank = bank.items;
-          zones = [];
-          held = [];
-          ready = [];
-          mems = [];
-          maxmem = maxmem;
-          max_bpages = max_bpages;
-        } }
+        ensures { result ≡ fresh_account bank.items maxmem max_bpages }
     {
         PlainAccount {
             bank,
