@@ -1,3 +1,6 @@
+pub mod Limits
 pub mod Names
+pub mod Operations
 pub mod Script
 pub mod Valid
+pub mod Words

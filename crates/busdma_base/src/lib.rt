@@ -25,7 +25,10 @@ pub use list::ListOf;
 pub use machine::{Bio, Chunk, Entry, Extent, Mbuf, Pa, Page, PageList, Part, Segment, Span, Va};
 pub use name::{LaneId, MapId, Name, ZoneId};
 pub use room::RoomyList;
-pub use scenarios::{Bytes, Driver, FrameRun, Item, Op, PageRun, Place, Scenario};
+pub use scenarios::{
+    Bytes, Driver, FrameRun, Item, ItemAbout, ItemWord, MadeName, NameKind, Object, Op, OpAbout,
+    OpWord, PageRun, Place, Scenario, UsedName,
+};
 pub use tags::TagLimits;
 
 /// Addresses, in order.

@@ -11,7 +11,7 @@ use Rattle.busdma_base.specs.declared.journals.journal.Side.TheVariants as side
 use Rattle.busdma_base.specs.declared.tags.tag.TagLimits.{TagLimits}
 use Rattle.busdma_base.specs.declared.journals.report.Judged.{Judged}
 use Rattle.busdma_base.specs.declared.journals.report.Judged.TheVariants.{Fine, Refused}
-use Rattle.busdma_base.specs.Scenarios.Script.{bytes_of}
+use Rattle.busdma_base.specs.Scenarios.Operations.{bytes_of}
 use Rattle.busdma_base.specs.Tags.Tag.{effective}
 use Rattle.dma_tag.specs.SyncOps.{is_mixed}
 use Rattle.lane_tables.specs.declared.queued.QueuedItem.{QueuedItem}

@@ -5,7 +5,7 @@ use Rattle.busdma_base.specs.declared.journals.journal.Did.TheVariants as did
 use Rattle.busdma_base.specs.declared.scenarios.script.Op.{Op}
 use Rattle.busdma_base.specs.declared.journals.journal.Side.{Side}
 use Rattle.busdma_base.specs.declared.journals.journal.Side.TheVariants as side
-use Rattle.busdma_base.specs.Scenarios.Script.{items_of}
+use Rattle.busdma_base.specs.Scenarios.Operations.{items_of}
 use Rattle.lane_tables.specs.declared.queued.QueuedItem.{QueuedItem}
 use Rattle.lane_core.specs.declared.turn.Turn.TheVariants.{Blocked}
 use Rattle.lane_core.specs.Lane.{LaneState}

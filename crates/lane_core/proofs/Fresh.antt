@@ -22,7 +22,7 @@ use Rattle.busdma_base.specs.declared.journals.report.Errno.TheVariants.{EINVAL,
 use Rattle.busdma_base.specs.declared.journals.report.ReportName.TheVariants.{MapBusy, MixedSync}
 use Rattle.dma_tag.specs.SyncOps.{is_mixed}
 use Rattle.loan_table.specs.Lending.{sync_answer, synced, lost}
-use Rattle.busdma_base.specs.Scenarios.Script.{bytes_of}
+use Rattle.busdma_base.specs.Scenarios.Operations.{bytes_of}
 use Rattle.loan_table.specs.Access.{cpu_write_answer}
 use Rattle.lane_core.specs.Accesses.{cpu_write}
 use Rattle.lane_core.specs.IdealMemory.{forgotten, written}

@@ -9,7 +9,7 @@ use Rattle.busdma_base.specs.declared.tags.tag.TagLimits.{TagLimits}
 use Rattle.busdma_base.specs.declared.journals.report.Judged.{Judged}
 use Rattle.busdma_base.specs.declared.journals.report.Judged.TheVariants.{Fine, Refused}
 use Rattle.busdma_base.specs.declared.journals.answer.Answer.{Answer}
-use Rattle.busdma_base.specs.Scenarios.Script.{items_of}
+use Rattle.busdma_base.specs.Scenarios.Operations.{items_of}
 use Rattle.busdma_base.specs.Tags.Tag.{effective}
 use Rattle.lane_tables.specs.Queues.{queued, queued_from}
 use Rattle.busdma_base.specs.declared.scenarios.script.Place.{Place}

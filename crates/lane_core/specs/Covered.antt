@@ -6,7 +6,7 @@ use Rattle.std.specs.FinMap.{FinMap, contains_key}
 use Rattle.busdma_base.specs.declared.scenarios.script.Op.{Op}
 use Rattle.busdma_base.specs.declared.machine.address.Extent.{Extent}
 use Rattle.busdma_base.specs.Runs.{IsExtent}
-use Rattle.busdma_base.specs.Scenarios.Script.{items_of}
+use Rattle.busdma_base.specs.Scenarios.Operations.{items_of}
 use Rattle.phys_memory.specs.Extents.{LiesIn}
 use Rattle.phys_memory.specs.Memory.{Memory, has_frame}
 

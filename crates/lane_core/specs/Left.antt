@@ -1,7 +1,7 @@
 -- How much a driver has still to do.
 use Rattle.std.specs.Prelude.{◌≡◌, ℕ, ◌+◌, ◌<◌, drop, length, sum_by}
 use Rattle.busdma_base.specs.declared.scenarios.script.Op.{Op}
-use Rattle.busdma_base.specs.Scenarios.Script.{items_of, loaded_by}
+use Rattle.busdma_base.specs.Scenarios.Operations.{items_of, loaded_by}
 use Rattle.lane_core.specs.declared.turn.Turn.{Turn}
 use Rattle.lane_core.specs.declared.turn.Turn.TheVariants.{Stepped, Blocked, Ended}
 use Rattle.lane_core.specs.Lane.{LaneState}

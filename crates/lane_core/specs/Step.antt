@@ -8,7 +8,7 @@ use Rattle.busdma_base.specs.declared.journals.journal.Side.{Side}
 use Rattle.busdma_base.specs.declared.journals.journal.Side.TheVariants as side
 use Rattle.busdma_base.specs.declared.journals.journal.Did.{Did}
 use Rattle.busdma_base.specs.declared.journals.journal.Did.TheVariants as did
-use Rattle.busdma_base.specs.Scenarios.Script.{bytes_of}
+use Rattle.busdma_base.specs.Scenarios.Operations.{bytes_of}
 use Rattle.lane_tables.specs.declared.queued.QueuedItem.{QueuedItem}
 use Rattle.lane_tables.specs.Queues.{queue_names}
 use Rattle.lane_core.specs.declared.turn.Turn.{Turn}
@@ -42,8 +42,17 @@ transfer (item.DevWrite map off bytes) l = accesses.dev_write map off (bytes_of 
 
 -- an operation cannot step: it awaits a map that exists and that an item of the queue names
 abbrev pub waits : Op → LaneState → Bool
+waits (op.Tag name parent limits) l = false
+waits (op.TagDestroy tag) l = false
+waits (op.Map name tag) l = false
+waits (op.MapDestroy map) l = false
+waits (op.Load map place len flags items) l = false
+waits (op.Unload map) l = false
+waits (op.Sync map ops) l = false
+waits (op.SyncRange map off len ops) l = false
+waits (op.CpuRead place len) l = false
+waits (op.CpuWrite place bytes) l = false
 waits (op.Await map) l = has_map l map && queue_names map l.queue
-waits _ l = false
 
 -- the lane after a turn, and what the turn answers
 pub record Turned : Type 0 where

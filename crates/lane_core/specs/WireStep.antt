@@ -9,7 +9,7 @@ use Rattle.busdma_base.specs.declared.journals.answer.Answer.{Answer}
 use Rattle.busdma_base.specs.declared.journals.answer.Answer.TheVariants.{Done, Bytes}
 use Rattle.busdma_base.specs.declared.journals.journal.Side.{Side}
 use Rattle.busdma_base.specs.declared.journals.journal.Side.TheVariants as side
-use Rattle.busdma_base.specs.Scenarios.Script.{bytes_of}
+use Rattle.busdma_base.specs.Scenarios.Operations.{bytes_of}
 use Rattle.loan_table.specs.Loans.{Loans, loan_of}
 use Rattle.lane_tables.specs.declared.queued.QueuedItem.{QueuedItem}
 use Rattle.lane_core.specs.Lane.{LaneState, load_length, bytes_at}
@@ -51,10 +51,17 @@ Reads _ addresses w = Unit {0}
 
 -- an operation that answered; no other operation changes a byte
 abbrev pub operation : Answer → Op → LaneState → Traces → Wire → Wire
+operation a (op.Tag name parent limits) l traces w = w
+operation a (op.TagDestroy tag) l traces w = w
+operation a (op.Map name tag) l traces w = w
+operation a (op.MapDestroy map) l traces w = w
+operation a (op.Load map place len flags items) l traces w = w
+operation a (op.Unload map) l traces w = w
 operation a (op.Sync map ops) l traces w = sync a map ops l traces w
 operation a (op.SyncRange map off len ops) l traces w = sync_range a map off len ops l traces w
+operation a (op.CpuRead place len) l traces w = w
 operation a (op.CpuWrite place bytes) l traces w = cpu_write a place (bytes_of bytes) l w
-operation a _ l traces w = w
+operation a (op.Await map) l traces w = w
 
 -- an item that answered
 abbrev pub transfer : Answer → Item → LaneState → Traces → Wire → Wire

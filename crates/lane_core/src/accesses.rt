@@ -1,6 +1,7 @@
 //! Accesses by the driver and by its device.
 
-ghost use Rattle.std.specs.Prelude.{◌≡◌, ◌+◌, ◌≤◌, ◌<◌, ◌^◌, length, map, map as mapped, IfOk, OnOk, OnErr, IfSome, IfNone};
+ghost use Rattle.std.specs.Prelude.{◌≡◌, ◌+◌, ◌≤◌, ◌<◌, ◌^◌, length, map, map as mapped};
+ghost use Rattle.std.specs.Prelude.{IfOk, OnOk, OnErr, IfSome, IfNone};
 ghost use Rattle.busdma_base.specs.Runs.{addresses, byte_count};
 ghost use Rattle.busdma_base.specs.Journals.Judging.{judged};
 ghost use Rattle.phys_memory.specs.Memory.{physical, wire};
@@ -24,7 +25,7 @@ use phys_memory::{LanePages, Walked};
 use std::alloc::{AllocError, Global};
 
 impl Holdings<'_> {
-    ghost use Rattle.lane_core.specs.Changes.{KeepsOwn};
+    ghost use Rattle.lane_core.specs.Changes.{KeepsOwn, SameState};
     ghost use Rattle.lane_core.specs.Ideal.{ideal_of, traces_of, wire_held};
 
     /// Where `len` bytes at a place lie.
@@ -45,8 +46,12 @@ impl Holdings<'_> {
 
     /// The refusal of a map that does not exist or is not loaded.
     pub(crate) fn unloaded(&self, map: MapId) -> Option<Answer>
-        ensures refused { IfSome result (λ a. (o : Outcome) → unless_foreign map (ideal_of self.now) (unless_unloaded map.made_at (ideal_of self.now) o) ≡ gives (ideal_of self.now) a) }
-        ensures passed { IfNone result ((o : Outcome) → unless_foreign map (ideal_of self.now) (unless_unloaded map.made_at (ideal_of self.now) o) ≡ o) }
+        ensures refused { IfSome result (λ a.
+            (o : Outcome) → unless_foreign map (ideal_of self.now) (unless_unloaded map.made_at (ideal_of self.now) o)
+            ≡ gives (ideal_of self.now) a) }
+        ensures passed { IfNone result ((o : Outcome) →
+            unless_foreign map (ideal_of self.now) (unless_unloaded map.made_at (ideal_of self.now) o)
+            ≡ o) }
         ensures there { IfNone result (HasMap self.now.loans map.made_at) }
         ensures idle { IfSome result ChangesNoByte }
     {
@@ -62,12 +67,14 @@ impl Holdings<'_> {
     /// The refusal of `len` bytes from `off` on that reach past the end of a map's load.
     pub(crate) fn past_end(&self, map: MapId, off: u64, len: u64) -> Option<Answer>
         requires { HasMap self.now.loans map.made_at }
-        ensures refused { IfSome result (λ a. (o : Outcome) → unless_past map.made_at off len (ideal_of self.now) o ≡ gives (ideal_of self.now) a) }
+        ensures refused { IfSome result (λ a.
+            (o : Outcome) → unless_past map.made_at off len (ideal_of self.now) o ≡ gives (ideal_of self.now) a) }
         ensures passed { IfNone result ((o : Outcome) → unless_past map.made_at off len (ideal_of self.now) o ≡ o) }
         ensures range { IfNone result (off + len ≤ length (buffer_of self.now.loans map.made_at)) }
         ensures idle { IfSome result ChangesNoByte }
         ensures below { IfNone result (off + len < 2 ^ 64) }
-        ensures inside { IfNone result (AreIn self.now.loans.bytes (addresses_of (buffer_of self.now.loans map.made_at))) }
+        ensures inside { IfNone result
+            (AreIn self.now.loans.bytes (addresses_of (buffer_of self.now.loans map.made_at))) }
     {
         let end = self.loans.len_of(map);
         if off <= end && len <= end - off {
@@ -84,7 +91,8 @@ impl Holdings<'_> {
         place: Place,
         len: u64,
     ) -> Result<Answer, AllocError>
-        ensures { IfOk result (λ answer. gives (ideal_of self.now) answer ≡ calls.cpu_read place len (ideal_of self.now)) }
+        ensures { IfOk result (λ answer.
+            gives (ideal_of self.now) answer ≡ calls.cpu_read place len (ideal_of self.now)) }
     {
         let bytes = match self.reach(alloc, place, len)? {
             Walked::Unmapped(at) => return Ok(report(ReportName::Unmapped, at)),
@@ -103,11 +111,12 @@ impl Holdings<'_> {
         place: Place,
         bytes: &[u8],
     ) -> Result<Answer, AllocError>
-        ensures done { IfOk result (λ answer. gives (ideal_of self.new) answer ≡ calls.cpu_write place bytes.now (ideal_of self.old)) }
-        ensures wire { IfOk result (λ answer. wire_held self.new ≡ wires.cpu_write answer place bytes.now (ideal_of self.old) (wire_held self.old)) }
+        ensures done { IfOk result (λ answer.
+            gives (ideal_of self.new) answer ≡ calls.cpu_write place bytes.now (ideal_of self.old)) }
+        ensures wire { IfOk result (λ answer.
+            wire_held self.new ≡ wires.cpu_write answer place bytes.now (ideal_of self.old) (wire_held self.old)) }
         ensures rest { KeepsOwn self.old self.new }
-        ensures err { OnErr result (ideal_of self.new ≡ ideal_of self.old) }
-        ensures err_wire { OnErr result (wire_held self.new ≡ wire_held self.old) }
+        ensures err { OnErr result (SameState self.old self.new) }
     {
         let parts = match self.reach(alloc, place, bytes.len() as u64)? {
             Walked::Unmapped(at) => return Ok(report(ReportName::Unmapped, at)),
@@ -131,7 +140,8 @@ impl Holdings<'_> {
         off: u64,
         len: u64,
     ) -> Result<Answer, AllocError>
-        ensures { IfOk result (λ answer. gives (ideal_of self.now) answer ≡ calls.dev_read map off len (ideal_of self.now)) }
+        ensures { IfOk result (λ answer.
+            gives (ideal_of self.now) answer ≡ calls.dev_read map off len (ideal_of self.now)) }
     {
         if let Some(refusal) = self.unloaded(map) {
             return Ok(refusal);
@@ -153,11 +163,13 @@ impl Holdings<'_> {
         off: u64,
         bytes: &[u8],
     ) -> Result<Answer, AllocError>
-        ensures done { IfOk result (λ answer. gives (ideal_of self.new) answer ≡ calls.dev_write map off bytes.now (ideal_of self.old)) }
-        ensures wire { IfOk result (λ answer. wire_held self.new ≡ wires.dev_write answer map.made_at off bytes.now (traces_of (ideal_of self.old)) (wire_held self.old)) }
+        ensures done { IfOk result (λ answer.
+            gives (ideal_of self.new) answer ≡ calls.dev_write map off bytes.now (ideal_of self.old)) }
+        ensures wire { IfOk result (λ answer.
+            wire_held self.new
+            ≡ wires.dev_write answer map.made_at off bytes.now (traces_of (ideal_of self.old)) (wire_held self.old)) }
         ensures rest { KeepsOwn self.old self.new }
-        ensures err { OnErr result (ideal_of self.new ≡ ideal_of self.old) }
-        ensures err_wire { OnErr result (wire_held self.new ≡ wire_held self.old) }
+        ensures err { OnErr result (SameState self.old self.new) }
     {
         let len = bytes.len() as u64;
         if let Some(refusal) = self.unloaded(map) {
@@ -236,7 +248,8 @@ fn read_load(
     requires there { HasMap loans.now map.made_at }
     requires range { off + len ≤ length (buffer_of loans.now map.made_at) }
     requires below { off + len < 2 ^ 64 }
-    ensures { IfOk result (λ bytes. bytes ≡ mapped (wire memory.now.memory) (addresses_of (range_of off len (buffer_of loans.now map.made_at)))) }
+    ensures { IfOk result (λ bytes.
+        bytes ≡ mapped (wire memory.now.memory) (addresses_of (range_of off len (buffer_of loans.now map.made_at)))) }
 {
     let mut bytes = Vec::with_capacity(alloc, len as usize)?;
     for at in off..off + len {
@@ -254,7 +267,8 @@ fn write_load(memory: &mut LanePages, loans: &LoanTable, map: MapId, off: u64, b
     requires range { off + length bytes.now ≤ length (buffer_of loans.now map.made_at) }
     requires below { off + length bytes.now < 2 ^ 64 }
     ensures wire { wire memory.new.memory
-        ≡ put (addresses_of (range_of off (length bytes.now) (buffer_of loans.now map.made_at))) bytes.now (wire memory.old.memory) }
+        ≡ put (addresses_of (range_of off (length bytes.now) (buffer_of loans.now map.made_at))) bytes.now
+        (wire memory.old.memory) }
     ensures same { SamePages memory.old.memory memory.new.memory }
 {
     let mut at = off;
@@ -274,7 +288,8 @@ pub(crate) fn reserve_extents(
 ) -> Result<(), AllocError>
     requires there { HasMap loans.old map.made_at }
     requires range { off + len ≤ length (buffer_of loans.old map.made_at) }
-    ensures room { OnOk result (extent_count (addresses_of (range_of off len (buffer_of loans.old map.made_at))) ≤ loans.new.spare) }
+    ensures room { OnOk result
+        (extent_count (addresses_of (range_of off len (buffer_of loans.old map.made_at))) ≤ loans.new.spare) }
     ensures same { IsSame loans.old loans.new }
 {
     let extents = loans.extents(map, off, len);

@@ -1,6 +1,9 @@
 //! Laws of the wire, whatever the traces of the loads are.
 
-ghost use Rattle.lane_core.specs.Laws.{CpuReadIsFaithful, CpuWriteStaysFaithful, DevReadIsFaithful, DevWriteStaysFaithful, LaneAgrees, LoadStaysFaithful, OpeningIsFaithful, SyncRangeStaysFaithful, SyncStaysFaithful, TurnStaysFaithful, UnloadStaysFaithful};
+ghost use Rattle.lane_core.specs.Laws.{CpuReadIsFaithful, CpuWriteStaysFaithful, DevReadIsFaithful};
+ghost use Rattle.lane_core.specs.Laws.{DevWriteStaysFaithful, LaneAgrees, LoadStaysFaithful};
+ghost use Rattle.lane_core.specs.Laws.{OpeningIsFaithful, SyncRangeStaysFaithful, SyncStaysFaithful};
+ghost use Rattle.lane_core.specs.Laws.{TurnStaysFaithful, UnloadStaysFaithful};
 
 use crate::lane::Lane;
 

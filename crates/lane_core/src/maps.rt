@@ -63,7 +63,8 @@ impl Holdings<'_> {
         then: &ItemList,
     ) -> Result<Answer, AllocError>
         requires room { length then.now ≤ self.old.agenda.room }
-        ensures done { IfOk result (λ answer. gives (ideal_of self.new) answer ≡ maps.load map place len then.now (ideal_of self.old)) }
+        ensures done { IfOk result (λ answer.
+            gives (ideal_of self.new) answer ≡ maps.load map place len then.now (ideal_of self.old)) }
         ensures wire { wire_held self.new ≡ wire_held self.old }
         ensures length { self.new.agenda.length ≡ self.old.agenda.length }
         ensures room { self.old.agenda.room ≤ self.new.agenda.room + length then.now }
@@ -102,7 +103,8 @@ impl Holdings<'_> {
         requires len { length (addresses bytes.now) ≡ len }
         requires room { length then.now ≤ self.old.agenda.room }
         ensures done { IfOk result (λ answer. gives (ideal_of self.new) answer
-            ≡ gives (maps.loaded map (addresses bytes.now) then.now (ideal_of self.old)) (Segments (maps.one_segment (addresses bytes.now)))) }
+            ≡ gives (maps.loaded map (addresses bytes.now) then.now (ideal_of self.old))
+            (Segments (maps.one_segment (addresses bytes.now)))) }
         ensures wire { wire_held self.new ≡ wire_held self.old }
         ensures length { self.new.agenda.length ≡ self.old.agenda.length }
         ensures room { OnOk result (self.new.agenda.room + length then.now ≡ self.old.agenda.room) }

@@ -3,6 +3,7 @@
 ghost use Rattle.std.specs.Prelude.{◌≡◌, ℕ, ◌+◌, ◌*◌, ◌%◌, ◌^◌, ◌≤◌, IfOk, OnOk, Some, None, true, if◌then◌else◌};
 ghost use Rattle.std.specs.FinMap.{empty, get};
 ghost use Rattle.busdma_base.specs.Machine.PageRuns.{pages_end};
+ghost use Rattle.busdma_base.specs.Scenarios.Script.{IsScript};
 ghost use Rattle.lane_core.specs.Ideal.{ideal};
 ghost use Rattle.lane_core.specs.Opening.{opening_lane, is_own};
 ghost use Rattle.lane_core.specs.OpeningMemory.{ArePages, IsOpeningMemory, HasRun, IsWithout};
@@ -16,20 +17,20 @@ use phys_memory::LanePages;
 use std::alloc::{AllocError, Global};
 
 impl<'s> Lane<'s> {
-    /// The lane of a driver that has done nothing, with a memory of the driver's pages. A script or
-    /// its items that cannot be counted in 32 bits are want of memory.
+    /// The lane of a driver that has done nothing, with a memory of the driver's pages.
     pub fn new(
         alloc: Global,
         id: LaneId,
         driver: &'s Driver,
         memory: LanePages,
     ) -> Result<Lane<'s>, AllocError>
+        requires script { IsScript driver.now.script }
         requires pages { ArePages driver.now.pages }
         requires memory { IsOpeningMemory driver.now.pages memory.memory }
         ensures { IfOk result (λ lane. ideal lane ≡ opening_lane id.0 driver.now) }
     {
         let script = driver.script.as_slice();
-        let places = u32::try_from(script.len()).map_err(|_| AllocError)?;
+        let places = script.len() as u32;
         Ok(Lane {
             holdings: Holdings {
                 script,

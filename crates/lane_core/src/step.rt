@@ -2,7 +2,7 @@
 
 ghost use Rattle.std.specs.Prelude.{◌≡◌, ◌<◌, ◌≤◌, ◌+◌, false, IfOk, OnErr, length, drop};
 ghost use Rattle.std.specs.FinMap.{contains_key};
-ghost use Rattle.busdma_base.specs.Scenarios.Script.{items_of};
+ghost use Rattle.busdma_base.specs.Scenarios.Operations.{items_of};
 ghost use Rattle.lane_core.specs.Lane.{gives};
 ghost use Rattle.lane_core.specs.Step as step;
 ghost use Rattle.lane_core.specs.WireStep as wires;
@@ -13,7 +13,7 @@ use dma_tag::SyncOps;
 use std::alloc::{AllocError, Global};
 
 impl Holdings<'_> {
-    ghost use Rattle.lane_core.specs.Changes.{KeepsButAgenda, KeepsOwn};
+    ghost use Rattle.lane_core.specs.Changes.{KeepsButAgenda, KeepsOwn, SameState};
     ghost use Rattle.lane_core.specs.Ideal.{ideal_of, traces_of, wire_held};
 
     /// Does an operation, but for the step to the next place.
@@ -22,12 +22,15 @@ impl Holdings<'_> {
         requires new_tag { contains_key self.old.tags.map self.old.agenda.place ≡ false }
         requires new_map { contains_key self.old.maps.map self.old.agenda.place ≡ false }
         requires room { length (items_of op.now) ≤ self.old.agenda.room }
-        ensures done { IfOk result (λ answer. gives (ideal_of self.new) answer ≡ step.operation op.now (ideal_of self.old)) }
-        ensures wire { IfOk result (λ answer. wire_held self.new ≡ wires.operation answer op.now (ideal_of self.old) (traces_of (ideal_of self.old)) (wire_held self.old)) }
+        ensures done { IfOk result (λ answer.
+            gives (ideal_of self.new) answer ≡ step.operation op.now (ideal_of self.old)) }
+        ensures wire { IfOk result (λ answer.
+            wire_held self.new
+            ≡ wires.operation answer op.now (ideal_of self.old)
+            (traces_of (ideal_of self.old)) (wire_held self.old)) }
         ensures length { self.new.agenda.length ≡ self.old.agenda.length }
         ensures room { self.old.agenda.room ≤ self.new.agenda.room + length (items_of op.now) }
-        ensures err { OnErr result (ideal_of self.new ≡ ideal_of self.old) }
-        ensures err_wire { OnErr result (wire_held self.new ≡ wire_held self.old) }
+        ensures err { OnErr result (SameState self.old self.new) }
         ensures err_room { OnErr result (self.old.agenda.room ≤ self.new.agenda.room) }
     {
         match op {
@@ -62,11 +65,14 @@ impl Holdings<'_> {
 
     /// Does an item, but for its leaving the queue.
     pub(crate) fn transfer(&mut self, alloc: Global, item: &Item) -> Result<Answer, AllocError>
-        ensures done { IfOk result (λ answer. gives (ideal_of self.new) answer ≡ step.transfer item.now (ideal_of self.old)) }
-        ensures wire { IfOk result (λ answer. wire_held self.new ≡ wires.transfer answer item.now (ideal_of self.old) (traces_of (ideal_of self.old)) (wire_held self.old)) }
+        ensures done { IfOk result (λ answer.
+            gives (ideal_of self.new) answer ≡ step.transfer item.now (ideal_of self.old)) }
+        ensures wire { IfOk result (λ answer.
+            wire_held self.new
+            ≡ wires.transfer answer item.now (ideal_of self.old)
+            (traces_of (ideal_of self.old)) (wire_held self.old)) }
         ensures rest { KeepsOwn self.old self.new }
-        ensures err { OnErr result (ideal_of self.new ≡ ideal_of self.old) }
-        ensures err_wire { OnErr result (wire_held self.new ≡ wire_held self.old) }
+        ensures err { OnErr result (SameState self.old self.new) }
     {
         match item {
             Item::Sync { map, ops } => {
@@ -92,7 +98,16 @@ impl Holdings<'_> {
     {
         match op {
             Op::Await { map } => self.maps.get(*map).is_some() && self.agenda.names(*map),
-            _ => false,
+            Op::Tag { .. }
+            | Op::TagDestroy { .. }
+            | Op::Map { .. }
+            | Op::MapDestroy { .. }
+            | Op::Load { .. }
+            | Op::Unload { .. }
+            | Op::Sync { .. }
+            | Op::SyncRange { .. }
+            | Op::CpuRead { .. }
+            | Op::CpuWrite { .. } => false,
         }
     }
 
@@ -109,7 +124,8 @@ impl Holdings<'_> {
     pub(crate) fn pop_item(&mut self)
         ensures queue { self.new.agenda.queue ≡ drop 1 self.old.agenda.queue }
         ensures room { self.old.agenda.room ≤ self.new.agenda.room }
-        ensures agenda { self.new.agenda ≡ record self.old.agenda { queue = self.new.agenda.queue; room = self.new.agenda.room } }
+        ensures agenda { self.new.agenda
+            ≡ record self.old.agenda { queue = self.new.agenda.queue; room = self.new.agenda.room } }
         ensures rest { KeepsButAgenda self.old self.new }
     {
         self.agenda.pop();

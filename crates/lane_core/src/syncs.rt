@@ -18,7 +18,7 @@ use loan_table::LoanTable;
 use std::alloc::{AllocError, Global};
 
 impl Holdings<'_> {
-    ghost use Rattle.lane_core.specs.Changes.{KeepsOwn};
+    ghost use Rattle.lane_core.specs.Changes.{KeepsOwn, SameState};
     ghost use Rattle.lane_core.specs.Ideal.{ideal_of, traces_of, wire_held};
 
     /// A sync of the whole load of a map.
@@ -28,11 +28,14 @@ impl Holdings<'_> {
         map: MapId,
         ops: SyncOps,
     ) -> Result<Answer, AllocError>
-        ensures done { IfOk result (λ answer. gives (ideal_of self.new) answer ≡ calls.sync map ops.0 (ideal_of self.old)) }
-        ensures wire { IfOk result (λ answer. wire_held self.new ≡ wires.sync answer map.made_at ops.0 (ideal_of self.old) (traces_of (ideal_of self.old)) (wire_held self.old)) }
+        ensures done { IfOk result (λ answer.
+            gives (ideal_of self.new) answer ≡ calls.sync map ops.0 (ideal_of self.old)) }
+        ensures wire { IfOk result (λ answer.
+            wire_held self.new
+            ≡ wires.sync answer map.made_at ops.0 (ideal_of self.old)
+            (traces_of (ideal_of self.old)) (wire_held self.old)) }
         ensures rest { KeepsOwn self.old self.new }
-        ensures err { OnErr result (ideal_of self.new ≡ ideal_of self.old) }
-        ensures err_wire { OnErr result (wire_held self.new ≡ wire_held self.old) }
+        ensures err { OnErr result (SameState self.old self.new) }
     {
         if let Some(refusal) = self.unloaded(map) {
             return Ok(refusal);
@@ -50,11 +53,14 @@ impl Holdings<'_> {
         len: u64,
         ops: SyncOps,
     ) -> Result<Answer, AllocError>
-        ensures done { IfOk result (λ answer. gives (ideal_of self.new) answer ≡ calls.sync_range map off len ops.0 (ideal_of self.old)) }
-        ensures wire { IfOk result (λ answer. wire_held self.new ≡ wires.sync_range answer map.made_at off len ops.0 (ideal_of self.old) (traces_of (ideal_of self.old)) (wire_held self.old)) }
+        ensures done { IfOk result (λ answer.
+            gives (ideal_of self.new) answer ≡ calls.sync_range map off len ops.0 (ideal_of self.old)) }
+        ensures wire { IfOk result (λ answer.
+            wire_held self.new
+            ≡ wires.sync_range answer map.made_at off len ops.0 (ideal_of self.old)
+            (traces_of (ideal_of self.old)) (wire_held self.old)) }
         ensures rest { KeepsOwn self.old self.new }
-        ensures err { OnErr result (ideal_of self.new ≡ ideal_of self.old) }
-        ensures err_wire { OnErr result (wire_held self.new ≡ wire_held self.old) }
+        ensures err { OnErr result (SameState self.old self.new) }
     {
         if let Some(refusal) = self.unloaded(map) {
             return Ok(refusal);
@@ -76,11 +82,14 @@ impl Holdings<'_> {
     ) -> Result<Answer, AllocError>
         requires there { HasMap self.old.loans map.made_at }
         requires range { off + len ≤ length (buffer_of self.old.loans map.made_at) }
-        ensures done { IfOk result (λ answer. gives (ideal_of self.new) answer ≡ syncs.sync_part map.made_at off len ops.0 (ideal_of self.old)) }
-        ensures wire { IfOk result (λ answer. wire_held self.new ≡ wires.sync_range answer map.made_at off len ops.0 (ideal_of self.old) (traces_of (ideal_of self.old)) (wire_held self.old)) }
+        ensures done { IfOk result (λ answer.
+            gives (ideal_of self.new) answer ≡ syncs.sync_part map.made_at off len ops.0 (ideal_of self.old)) }
+        ensures wire { IfOk result (λ answer.
+            wire_held self.new
+            ≡ wires.sync_range answer map.made_at off len ops.0 (ideal_of self.old)
+            (traces_of (ideal_of self.old)) (wire_held self.old)) }
         ensures rest { KeepsOwn self.old self.new }
-        ensures err { OnErr result (ideal_of self.new ≡ ideal_of self.old) }
-        ensures err_wire { OnErr result (wire_held self.new ≡ wire_held self.old) }
+        ensures err { OnErr result (SameState self.old self.new) }
     {
         if ops.is_mixed() {
             return Ok(report(ReportName::MixedSync, 0));

@@ -22,7 +22,8 @@ impl Holdings<'_> {
     ) -> Result<Answer, AllocError>
         requires going { self.old.agenda.place < self.old.agenda.length }
         requires vacant { contains_key self.old.tags.map self.old.agenda.place ≡ false }
-        ensures done { IfOk result (λ answer. gives (ideal_of self.new) answer ≡ tags.tag parent limits.now (ideal_of self.old)) }
+        ensures done { IfOk result (λ answer.
+            gives (ideal_of self.new) answer ≡ tags.tag parent limits.now (ideal_of self.old)) }
         ensures wire { wire_held self.new ≡ wire_held self.old }
         ensures agenda { self.new.agenda ≡ self.old.agenda }
         ensures err { OnErr result (ideal_of self.new ≡ ideal_of self.old) }

@@ -5,9 +5,11 @@ use Rattle.busdma_base.specs.declared.name.MapId.{MapId}
 use Rattle.busdma_base.specs.declared.name.ZoneId.{ZoneId}
 use Rattle.busdma_base.specs.declared.scenarios.script.Op.{Op}
 use Rattle.busdma_base.specs.declared.scenarios.script.Item.{Item}
-use Rattle.busdma_base.specs.declared.scenarios.script.Item.TheVariants as item
+use Rattle.busdma_base.specs.declared.scenarios.operations.NameKind.TheVariants.{Map}
+use Rattle.busdma_base.specs.declared.scenarios.operations.UsedName.{UsedName}
 use Rattle.busdma_base.specs.Machine.Page.{FrameBytes}
-use Rattle.busdma_base.specs.Scenarios.Script.{items_of}
+use Rattle.busdma_base.specs.Scenarios.Names.{same_kind}
+use Rattle.busdma_base.specs.Scenarios.Operations.{about_item, items_of}
 use Rattle.lane_tables.specs.declared.queued.QueuedItem.{QueuedItem}
 use Rattle.lane_tables.specs.declared.queued.QueuedPage.{QueuedPage}
 
@@ -24,12 +26,13 @@ queued_from load_at place (i ∷ items) = record { load_at = load_at; place = pl
 abbrev pub queued : ℕ → List Item → List QueuedItem
 queued load_at items = queued_from load_at 0 items
 
+-- a name is that of the map that was made at a place
+abbrev pub is_map_at : ℕ → UsedName → Bool
+is_map_at made_at used = same_kind used.kind Map && (used.made_at == made_at)
+
 -- an item names the map that was made at a place
 abbrev pub item_names : ℕ → Item → Bool
-item_names made_at (item.Sync map ops) = map == made_at
-item_names made_at (item.SyncRange map off len ops) = map == made_at
-item_names made_at (item.DevRead map off len) = map == made_at
-item_names made_at (item.DevWrite map off bytes) = map == made_at
+item_names made_at i = is_map_at made_at (about_item i).uses
 
 -- an item of the queue names it
 abbrev pub queue_names : ℕ → List QueuedItem → Bool

@@ -1,9 +1,10 @@
 //! A driver's place in its script, its transfer queue and its return queue.
 
-ghost use Rattle.std.specs.Prelude.{◌≡◌, ◌+◌, ◌-◌, ◌^◌, ◌<◌, ◌≤◌, [], ◌∷◌, ◌++◌, length, not, slice_get, IfNone, IfOk, IfSome, OnErr, OnOk, OnSome, option_copied};
-ghost use Rattle.std.specs.Option.{SomeIff};
+ghost use Rattle.std.specs.Prelude.{◌≡◌, ◌+◌, ◌-◌, ◌^◌, ◌<◌, ◌≤◌, [], ◌∷◌, ◌++◌, length, not, slice_get, option_copied};
+ghost use Rattle.std.specs.Prelude.{IfNone, IfOk, IfSome, OnErr, OnOk, OnSome};
 ghost use Rattle.std.specs.VecDeque.{deque_capacity};
-ghost use Rattle.busdma_base.specs.Scenarios.Script.{items_of};
+ghost use Rattle.busdma_base.specs.Scenarios.Limits.{steps_limit};
+ghost use Rattle.busdma_base.specs.Scenarios.Script.{steps_of};
 ghost use Rattle.lane_tables.specs.Queues.{item_count, queued, queue_names, queued_pages, has_page};
 
 use crate::queued::{QueuedItem, QueuedPage, Returned, item_names};
@@ -49,25 +50,17 @@ impl Model for Agenda {
     } };
 }
 
-// How many items an operation has.
-fn item_len(op: &Op) -> usize
-    ensures { result ≡ length (items_of op.now) }
+// How many items a script has.
+fn item_count(script: &[Op]) -> usize
+    requires { steps_of script.now ≤ steps_limit }
+    ensures value { result ≡ item_count script.now }
+    ensures few { result ≤ steps_limit }
 {
-    match op {
-        Op::Load { then, .. } => then.len(),
-        _ => 0,
-    }
-}
-
-// How many items a script has, where they can be counted.
-fn item_count(script: &[Op]) -> Option<u32>
-    ensures { SomeIff result (item_count script.now < 2 ^ 32) (item_count script.now) }
-{
-    let mut count = 0usize;
+    let mut count = 0;
     for op in script {
-        count = count.checked_add(item_len(op))?;
+        count += op.items().len();
     }
-    u32::try_from(count).ok()
+    count
 }
 
 // Appends the items of a load, in order.
@@ -107,9 +100,9 @@ fn has_page(queue: &VecDeque<QueuedPage>, map: MapId) -> bool
 }
 
 impl Agenda {
-    /// The agenda of a driver that has done nothing. A script or its items that cannot be counted
-    /// in 32 bits are want of memory.
+    /// The agenda of a driver that has done nothing.
     pub fn new(alloc: Global, driver: &Driver) -> Result<Agenda, AllocError>
+        requires { steps_of driver.now.script ≤ steps_limit }
         ensures { IfOk result (λ a. a ≡ record {
           place = 0;
           length = length driver.now.script;
@@ -120,12 +113,10 @@ impl Agenda {
         }) }
     {
         let script = driver.script.as_slice();
-        let script_len = u32::try_from(script.len()).map_err(|_| AllocError)?;
-        let room = item_count(script).ok_or(AllocError)?;
         Ok(Agenda {
             place: 0,
-            script_len,
-            queue: VecDeque::with_capacity(alloc, room as usize)?,
+            script_len: script.len() as u32,
+            queue: VecDeque::with_capacity(alloc, item_count(script))?,
             returns: VecDeque::new(alloc),
             promised: 0,
         })
@@ -168,7 +159,8 @@ impl Agenda {
     /// of the item is there again.
     pub fn pop(&mut self) -> Option<QueuedItem>
         ensures item { IfSome result (λ item. self.old.queue ≡ item ∷ self.new.queue) }
-        ensures rest { OnSome result (self.new ≡ record self.old { queue = self.new.queue; room = self.old.room + 1 }) }
+        ensures rest { OnSome result (self.new
+            ≡ record self.old { queue = self.new.queue; room = self.old.room + 1 }) }
         ensures empty { IfNone result (self.old.queue ≡ []) }
         ensures none { IfNone result (self.new ≡ self.old) }
     {

@@ -1,6 +1,7 @@
 //! Values by the place in the script of the operation that made them.
 
-ghost use Rattle.std.specs.Prelude.{◌≡◌, ◌+◌, ◌-◌, ◌<◌, ◌≤◌, length, None, IfOk, IfNone, OnOk, OnSome, option_copied, slice_index_or};
+ghost use Rattle.std.specs.Prelude.{◌≡◌, ◌+◌, ◌-◌, ◌<◌, ◌≤◌, length, None, option_copied, slice_index_or};
+ghost use Rattle.std.specs.Prelude.{IfOk, IfNone, IsOk, OnOk, OnSome};
 ghost use Rattle.std.specs.FinMap as map;
 ghost use Rattle.std.specs.Iterator.{at_most};
 ghost use Rattle.std.specs.Map.Iter.{TakesFirst, ShowsInOrder};
@@ -66,9 +67,10 @@ impl<T> PlaceTable<T> {
         })
     }
 
-    /// Makes room for one more value, where there is none.
+    /// Makes room for one more value, where there is none; where there is some, it takes no memory.
     pub fn reserve(&mut self, _alloc: Global) -> Result<(), AllocError>
         ensures room { OnOk result (1 ≤ self.new.spare) }
+        ensures succeeds { 1 ≤ self.old.spare → IsOk result }
         ensures kept { self.new ≡ record self.old { spare = self.new.spare } }
         ensures spare { self.old.spare ≤ self.new.spare }
     {
@@ -80,7 +82,8 @@ impl<T> PlaceTable<T> {
         requires room { 1 ≤ self.old.spare }
         requires in_script { place < self.old.places }
         requires vacant { map.get self.old.map place ≡ None }
-        ensures { self.new ≡ record self.old { map = map.insert self.old.map place value; spare = self.old.spare - 1 } }
+        ensures { self.new
+            ≡ record self.old { map = map.insert self.old.map place value; spare = self.old.spare - 1 } }
     {
         self.keys[place as usize] = Some(self.values.insert_reserved(value));
     }
@@ -108,7 +111,8 @@ impl<T> PlaceTable<T> {
     /// again.
     pub fn take(&mut self, place: u32) -> Option<T>
         ensures value { result ≡ map.get self.old.map place }
-        ensures taken { OnSome result (self.new ≡ record self.old { map = map.remove self.old.map place; spare = self.old.spare + 1 }) }
+        ensures taken { OnSome result (self.new
+            ≡ record self.old { map = map.remove self.old.map place; spare = self.old.spare + 1 }) }
         ensures in_script { OnSome result (place < self.old.places) }
         ensures none { IfNone result (self.new ≡ self.old) }
     {

@@ -3,7 +3,7 @@
 ghost use Rattle.std.specs.Prelude.{◌≡◌};
 ghost use Rattle.lane_tables.specs.Queues.{item_names};
 
-use busdma_base::{Item, MapId, Page, ZoneId};
+use busdma_base::{Item, MapId, NameKind, Page, ZoneId};
 
 /// An item of the transfer queue: `load_at` is the place in the script of the load that brought it,
 /// `place` its place among that load's items.
@@ -35,10 +35,6 @@ pub struct Returned {
 pub(crate) fn item_names(item: &Item, made_at: u32) -> bool
     ensures { result ≡ item_names made_at item.now }
 {
-    match item {
-        Item::Sync { map, .. }
-        | Item::SyncRange { map, .. }
-        | Item::DevRead { map, .. }
-        | Item::DevWrite { map, .. } => *map == made_at,
-    }
+    let used = item.about().uses;
+    used.kind == NameKind::Map && used.made_at == made_at
 }

@@ -1,5 +1,5 @@
 ghost use Rattle.std.specs.Prelude.{◌≡◌, ◌^◌, ◌<◌, length, IfOk};
-ghost use Rattle.busdma_base.specs.Scenarios.Script.{items_of};
+ghost use Rattle.busdma_base.specs.Scenarios.Operations.{items_of};
 
 use crate::{Agenda, PlaceTable};
 use busdma_base::{Driver, Item, LaneId, ListOf, MapId, Op, Page, PageList, Place, Va, ZoneId};

@@ -1,6 +1,6 @@
 -- What a step did, as a line of a report says it.
-use Rattle.std.specs.Prelude.{ℕ, List, [], ◌++◌, codes, Option, Some, None, slice_get}
-use Rattle.std.specs.Option.{option_map_or}
+use Rattle.std.specs.Prelude.{ℕ, List, [], ◌++◌, codes, Option, Some, None, slice_get, unwrap_or}
+use Rattle.std.specs.Option.{option_map, option_map_or}
 use Rattle.report_text.specs.Text.{hex}
 use Rattle.busdma_base.specs.declared.journals.journal.Did.{Did}
 use Rattle.busdma_base.specs.declared.journals.journal.Did.TheVariants as did
@@ -8,10 +8,9 @@ use Rattle.busdma_base.specs.declared.name.LaneId.{LaneId}
 use Rattle.busdma_base.specs.declared.name.MapId.{MapId}
 use Rattle.busdma_base.specs.declared.scenarios.scenario.Scenario.{Scenario}
 use Rattle.busdma_base.specs.declared.scenarios.script.Item.{Item}
-use Rattle.busdma_base.specs.declared.scenarios.script.Item.TheVariants as item
 use Rattle.busdma_base.specs.declared.scenarios.script.Op.{Op}
-use Rattle.busdma_base.specs.declared.scenarios.script.Op.TheVariants as op
-use Rattle.busdma_base.specs.Scenarios.Script.{items_of}
+use Rattle.busdma_base.specs.Scenarios.Operations.{Object, Makes, Uses, about, about_item, items_of, name_made_by, object_of}
+use Rattle.busdma_base.specs.Scenarios.Words as word
 
 -- the script of a driver; it is empty where there is no such driver
 abbrev pub script_of : Scenario → LaneId → List Op
@@ -19,17 +18,7 @@ script_of scenario lane = option_map_or (λ driver. driver.script) (slice_get sc
 
 -- the name that an operation makes; it is empty where it makes none
 abbrev pub made_name : Op → List ℕ
-made_name (op.Tag name parent limits) = name
-made_name (op.TagDestroy tag) = []
-made_name (op.Map name tag) = name
-made_name (op.MapDestroy map) = []
-made_name (op.Load map place len flags then) = []
-made_name (op.Unload map) = []
-made_name (op.Sync map ops) = []
-made_name (op.SyncRange map off len ops) = []
-made_name (op.CpuRead place len) = []
-made_name (op.CpuWrite place bytes) = []
-made_name (op.Await map) = []
+made_name o = unwrap_or (name_made_by o) []
 
 -- the name that the operation at this place of a script makes
 abbrev pub name_at : List Op → ℕ → List ℕ
@@ -39,34 +28,10 @@ name_at script place = option_map_or made_name (slice_get script place) []
 abbrev pub map_name : Scenario → MapId → List ℕ
 map_name scenario map = name_at (script_of scenario map.lane) map.made_at
 
--- the word of an operation
-abbrev pub op_word : Op → List ℕ
-op_word (op.Tag name parent limits) = codes "tag"
-op_word (op.TagDestroy tag) = codes "tag_destroy"
-op_word (op.Map name tag) = codes "map"
-op_word (op.MapDestroy map) = codes "map_destroy"
-op_word (op.Load map place len flags then) = codes "load"
-op_word (op.Unload map) = codes "unload"
-op_word (op.Sync map ops) = codes "sync"
-op_word (op.SyncRange map off len ops) = codes "sync_range"
-op_word (op.CpuRead place len) = codes "cpu_read"
-op_word (op.CpuWrite place bytes) = codes "cpu_write"
-op_word (op.Await map) = codes "await"
-
--- what an operation is about: the name that it makes, or that of the tag or map that it uses; an
--- access of the driver to its memory has no object
-abbrev pub op_object : List Op → Op → Option (List ℕ)
-op_object script (op.Tag name parent limits) = Some name
-op_object script (op.TagDestroy tag) = Some (name_at script tag)
-op_object script (op.Map name tag) = Some name
-op_object script (op.MapDestroy map) = Some (name_at script map)
-op_object script (op.Load map place len flags then) = Some (name_at script map)
-op_object script (op.Unload map) = Some (name_at script map)
-op_object script (op.Sync map ops) = Some (name_at script map)
-op_object script (op.SyncRange map off len ops) = Some (name_at script map)
-op_object script (op.CpuRead place len) = None
-op_object script (op.CpuWrite place bytes) = None
-op_object script (op.Await map) = Some (name_at script map)
+-- the name of what a line names
+abbrev pub object_name : List Op → Object → List ℕ
+object_name script (Makes made) = made.name
+object_name script (Uses used) = name_at script used.made_at
 
 -- an object, after a space
 abbrev pub object_text : Option (List ℕ) → List ℕ
@@ -75,29 +40,15 @@ object_text (Some name) = codes " " ++ name
 
 -- an operation: its word and its object
 abbrev pub op_text : List Op → Op → List ℕ
-op_text script op = op_word op ++ object_text (op_object script op)
+op_text script o = word.op_text (about o).word ++ object_text (option_map (object_name script) (object_of (about o)))
 
 -- the item at this place in the list of the operation at `load_at`
 abbrev pub item_at : List Op → ℕ → ℕ → Option Item
 item_at script load_at place = option_map_or (λ op. slice_get (items_of op) place) (slice_get script load_at) None
 
--- the word of an item
-abbrev pub item_word : Item → List ℕ
-item_word (item.Sync map ops) = codes "sync"
-item_word (item.SyncRange map off len ops) = codes "sync_range"
-item_word (item.DevRead map off len) = codes "dev_read"
-item_word (item.DevWrite map off bytes) = codes "dev_write"
-
--- the place of the operation that made an item's map
-abbrev pub item_map : Item → ℕ
-item_map (item.Sync map ops) = map
-item_map (item.SyncRange map off len ops) = map
-item_map (item.DevRead map off len) = map
-item_map (item.DevWrite map off bytes) = map
-
--- an item: its word and the name of its map
+-- an item: its word and the name that it uses
 abbrev pub item_text : List Op → Item → List ℕ
-item_text script item = item_word item ++ (codes " " ++ name_at script (item_map item))
+item_text script i = word.item_text (about_item i).word ++ (codes " " ++ name_at script (about_item i).uses.made_at)
 
 -- the operation at this place of a script; it is empty where there is none
 abbrev pub op_text_at : List Op → ℕ → List ℕ

@@ -2,10 +2,10 @@
 
 ghost use Rattle.std.specs.Prelude.{◌≡◌, ◌++◌, OnOk, string_bytes};
 ghost use Rattle.std.specs.Option.{option_map};
-ghost use Rattle.busdma_base.specs.Scenarios.Script.{items_of};
+ghost use Rattle.busdma_base.specs.Scenarios.Operations as operations;
 ghost use Rattle.report_text.specs.Did as text;
 
-use busdma_base::{Did, Item, LaneId, MapId, Op, Scenario};
+use busdma_base::{Did, Item, LaneId, MapId, Object, Op, Scenario};
 use std::alloc::AllocError;
 
 fn script_of(scenario: &Scenario, lane: LaneId) -> &[Op]
@@ -20,18 +20,7 @@ fn script_of(scenario: &Scenario, lane: LaneId) -> &[Op]
 fn made_name(op: &Op) -> &str
     ensures { result.now ≡ text.made_name op.now }
 {
-    match op {
-        Op::Tag { name, .. } | Op::Map { name, .. } => name.as_str(),
-        Op::TagDestroy { .. }
-        | Op::MapDestroy { .. }
-        | Op::Load { .. }
-        | Op::Unload { .. }
-        | Op::Sync { .. }
-        | Op::SyncRange { .. }
-        | Op::CpuRead { .. }
-        | Op::CpuWrite { .. }
-        | Op::Await { .. } => "",
-    }
+    op.made_name().unwrap_or("")
 }
 
 fn name_at(script: &[Op], place: u32) -> &str
@@ -49,65 +38,25 @@ fn map_name(scenario: &Scenario, map: MapId) -> &str
     name_at(script_of(scenario, map.lane), map.made_at)
 }
 
-fn op_word(op: &Op) -> &'static str
-    ensures { result.now ≡ text.op_word op.now }
+fn object_name<'s>(script: &'s [Op], object: Object<'s>) -> &'s str
+    ensures { result.now ≡ text.object_name script.now (operations.object object) }
 {
-    match op {
-        Op::Tag { .. } => "tag",
-        Op::TagDestroy { .. } => "tag_destroy",
-        Op::Map { .. } => "map",
-        Op::MapDestroy { .. } => "map_destroy",
-        Op::Load { .. } => "load",
-        Op::Unload { .. } => "unload",
-        Op::Sync { .. } => "sync",
-        Op::SyncRange { .. } => "sync_range",
-        Op::CpuRead { .. } => "cpu_read",
-        Op::CpuWrite { .. } => "cpu_write",
-        Op::Await { .. } => "await",
-    }
-}
-
-fn op_object<'s>(script: &'s [Op], op: &'s Op) -> Option<&'s str>
-    ensures { option_map (λ name. name.now) result ≡ text.op_object script.now op.now }
-{
-    match op {
-        Op::Tag { name, .. } | Op::Map { name, .. } => Some(name.as_str()),
-        Op::TagDestroy { tag } => Some(name_at(script, *tag)),
-        Op::MapDestroy { map }
-        | Op::Load { map, .. }
-        | Op::Unload { map }
-        | Op::Sync { map, .. }
-        | Op::SyncRange { map, .. }
-        | Op::Await { map } => Some(name_at(script, *map)),
-        Op::CpuRead { .. } | Op::CpuWrite { .. } => None,
+    match object {
+        Object::Makes(made) => made.name,
+        Object::Uses(used) => name_at(script, used.made_at),
     }
 }
 
 fn push_op(out: &mut String, script: &[Op], op: &Op) -> Result<(), AllocError>
     ensures { OnOk result (string_bytes out.new ≡ string_bytes out.old ++ text.op_text script.now op.now) }
 {
-    out.push_str(op_word(op))?;
-    match op_object(script, op) {
-        Some(name) => write!(out, " {name}"),
+    out.push_str(op.word().text())?;
+    match op.object() {
+        Some(object) => {
+            let name = object_name(script, object);
+            write!(out, " {name}")
+        }
         None => Ok(()),
-    }
-}
-
-fn op_items(op: &Op) -> &[Item]
-    ensures { result.now ≡ items_of op.now }
-{
-    match op {
-        Op::Load { then, .. } => then.as_slice(),
-        Op::Tag { .. }
-        | Op::TagDestroy { .. }
-        | Op::Map { .. }
-        | Op::MapDestroy { .. }
-        | Op::Unload { .. }
-        | Op::Sync { .. }
-        | Op::SyncRange { .. }
-        | Op::CpuRead { .. }
-        | Op::CpuWrite { .. }
-        | Op::Await { .. } => &[],
     }
 }
 
@@ -115,36 +64,15 @@ fn item_at(script: &[Op], load_at: u32, place: u32) -> Option<&Item>
     ensures { option_map (λ item. item.now) result ≡ text.item_at script.now load_at place }
 {
     let op = script.get(load_at as usize)?;
-    op_items(op).get(place as usize)
-}
-
-fn item_word(item: &Item) -> &'static str
-    ensures { result.now ≡ text.item_word item.now }
-{
-    match item {
-        Item::Sync { .. } => "sync",
-        Item::SyncRange { .. } => "sync_range",
-        Item::DevRead { .. } => "dev_read",
-        Item::DevWrite { .. } => "dev_write",
-    }
-}
-
-fn item_map(item: &Item) -> u32
-    ensures { result ≡ text.item_map item.now }
-{
-    match item {
-        Item::Sync { map, .. }
-        | Item::SyncRange { map, .. }
-        | Item::DevRead { map, .. }
-        | Item::DevWrite { map, .. } => *map,
-    }
+    op.items().get(place as usize)
 }
 
 fn push_item(out: &mut String, script: &[Op], item: &Item) -> Result<(), AllocError>
     ensures { OnOk result (string_bytes out.new ≡ string_bytes out.old ++ text.item_text script.now item.now) }
 {
-    let word = item_word(item);
-    let name = name_at(script, item_map(item));
+    let about = item.about();
+    let word = about.word.text();
+    let name = name_at(script, about.uses.made_at);
     write!(out, "{word} {name}")
 }
 

@@ -4,7 +4,7 @@ use Rattle.std.proofs.lemmas.List.Sums.{sum_by-append}
 use Rattle.busdma_base.specs.declared.scenarios.script.Op.{Op}
 use Rattle.busdma_base.specs.declared.scenarios.script.Item.{Item}
 use Rattle.busdma_base.specs.declared.scenarios.scenario.Driver.{Driver}
-use Rattle.busdma_base.specs.Scenarios.Script.{items_of, read_by, read_by_item, loaded_by}
+use Rattle.busdma_base.specs.Scenarios.Operations.{items_of, read_by, read_by_item, loaded_by}
 use Rattle.busdma_base.specs.Scenarios.Valid.{read_of, loaded_of}
 use Rattle.scenario_read.specs.declared.counts.Counts.{Counts}
 use Rattle.scenario_read.specs.Counts.{with_op, with_ops, with_items, stepped, having_read, IsQuiet}

@@ -3,14 +3,16 @@ use Rattle.std.specs.Prelude.{◌≡◌, ℕ, ◌+◌, ◌≤◌, List, length, 
 use Rattle.busdma_base.specs.declared.scenarios.script.Op.{Op}
 use Rattle.busdma_base.specs.declared.scenarios.script.Item.{Item}
 use Rattle.busdma_base.specs.declared.scenarios.scenario.Driver.{Driver}
-use Rattle.busdma_base.specs.Scenarios.Script.{items_of, steps_of, read_by, read_by_item, loaded_by, access_limit}
+use Rattle.busdma_base.specs.Scenarios.Limits.{access_limit}
+use Rattle.busdma_base.specs.Scenarios.Operations.{items_of, read_by, read_by_item, loaded_by}
+use Rattle.busdma_base.specs.Scenarios.Script.{steps_of}
 use Rattle.busdma_base.specs.Scenarios.Valid.{read_of, loaded_of}
 use Rattle.json_fields.specs.Place.{Place}
 use Rattle.json_fields.specs.Read.{Read, ◌>>=◌, refuse}
 use Rattle.json_fields.specs.declared.refusal.RefusalKind.TheVariants.{Limit}
 use Rattle.json_fields.specs.declared.refusal.LimitName.TheVariants as limit
 use Rattle.scenario_read.specs.declared.counts.Counts.{Counts}
-use Rattle.scenario_read.specs.Limits.{steps_limit, reads_limit, buffer_limit, loaded_limit}
+use Rattle.busdma_base.specs.Scenarios.Limits.{steps_limit, reads_limit, buffer_limit, loaded_limit}
 
 -- before the script of the next driver
 abbrev pub counts_of : List Driver → Counts

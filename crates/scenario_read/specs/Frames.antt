@@ -11,7 +11,7 @@ use Rattle.json_fields.specs.Number.{number_at}
 use Rattle.json_fields.specs.Items.{items_at, each}
 use Rattle.json_fields.specs.declared.refusal.RefusalKind.TheVariants.{BadField, Limit, FrameTwice}
 use Rattle.json_fields.specs.declared.refusal.LimitName.TheVariants.{Frames, FrameNumber}
-use Rattle.scenario_read.specs.Limits.{frames_limit, frame_numbers}
+use Rattle.busdma_base.specs.Scenarios.Limits.{frames_limit, frame_numbers}
 
 -- a number in a list of numbers is refused with the list's place
 abbrev pub number_within : Place → Data → Read ℕ

@@ -3,15 +3,15 @@ use Rattle.std.specs.Prelude.{List, [], ◌∷◌, length, Option, Some, None, O
 use Rattle.busdma_base.specs.declared.scenarios.script.Op.{Op}
 use Rattle.busdma_base.specs.declared.scenarios.script.Item.{Item}
 use Rattle.busdma_base.specs.declared.scenarios.script.Item.TheVariants as item
-use Rattle.busdma_base.specs.Scenarios.Script.{bytes_of}
+use Rattle.busdma_base.specs.Scenarios.Operations.{bytes_of}
 use Rattle.json_fields.specs.Read.{Read, ◌>>=◌}
 use Rattle.json_fields.specs.Field.{Spot, field, members_of, only_keys, one_of}
 use Rattle.json_fields.specs.Number.{number_field}
 use Rattle.json_fields.specs.Items.{items_at, each}
 use Rattle.scenario_read.specs.declared.counts.Counts.{Counts}
-use Rattle.scenario_read.specs.declared.names.Made.TheVariants as made
-use Rattle.scenario_read.specs.declared.words.ItemWord.{ItemWord}
-use Rattle.scenario_read.specs.declared.words.ItemWord.TheVariants as word
+use Rattle.busdma_base.specs.declared.scenarios.operations.NameKind.TheVariants as kind
+use Rattle.busdma_base.specs.declared.scenarios.words.ItemWord.{ItemWord}
+use Rattle.busdma_base.specs.declared.scenarios.words.ItemWord.TheVariants as word
 use Rattle.scenario_read.specs.Bytes.{written_at}
 use Rattle.scenario_read.specs.Counts.{with_items, stepped, step_judged, access_judged, read_judged}
 use Rattle.scenario_read.specs.Flags.{ops_field}
@@ -22,7 +22,7 @@ use Rattle.scenario_read.specs.Words.{item_word_at}
 unfoldable pub sync_item_at : List Op → Spot → Read Item
 sync_item_at before here =
     only_keys (one_of (codes "op" ∷ codes "map" ∷ codes "ops" ∷ [])) here >>= (λ _.
-    used_name made.Map (codes "map") before here >>= (λ map.
+    used_name kind.Map (codes "map") before here >>= (λ map.
     ops_field here >>= (λ ops.
     Ok (item.Sync map ops))))
 
@@ -30,7 +30,7 @@ sync_item_at before here =
 unfoldable pub sync_range_item_at : List Op → Spot → Read Item
 sync_range_item_at before here =
     only_keys (one_of (codes "op" ∷ codes "map" ∷ codes "off" ∷ codes "len" ∷ codes "ops" ∷ [])) here >>= (λ _.
-    used_name made.Map (codes "map") before here >>= (λ map.
+    used_name kind.Map (codes "map") before here >>= (λ map.
     number_field (codes "off") here >>= (λ off.
     number_field (codes "len") here >>= (λ n.
     ops_field here >>= (λ ops.
@@ -40,7 +40,7 @@ sync_range_item_at before here =
 unfoldable pub dev_read_at : List Op → Counts → Spot → Read Item
 dev_read_at before c here =
     only_keys (one_of (codes "op" ∷ codes "map" ∷ codes "off" ∷ codes "len" ∷ [])) here >>= (λ _.
-    used_name made.Map (codes "map") before here >>= (λ map.
+    used_name kind.Map (codes "map") before here >>= (λ map.
     number_field (codes "off") here >>= (λ off.
     number_field (codes "len") here >>= (λ n.
     read_judged c n here.place >>= (λ _.
@@ -50,7 +50,7 @@ dev_read_at before c here =
 unfoldable pub dev_write_at : List Op → Spot → Read Item
 dev_write_at before here =
     only_keys (one_of (codes "op" ∷ codes "map" ∷ codes "off" ∷ codes "hex" ∷ codes "fill" ∷ codes "len" ∷ [])) here >>= (λ _.
-    used_name made.Map (codes "map") before here >>= (λ map.
+    used_name kind.Map (codes "map") before here >>= (λ map.
     number_field (codes "off") here >>= (λ off.
     written_at here >>= (λ bytes.
     access_judged (length (bytes_of bytes)) here.place >>= (λ _.

@@ -2,24 +2,14 @@
 use Rattle.std.specs.Prelude.{ℕ, ◌+◌, List, [], ◌∷◌, Bool, Option, Some, None, Ok, if◌then◌else◌}
 use Rattle.std.specs.List.{list_any}
 use Rattle.busdma_base.specs.declared.scenarios.script.Op.{Op}
-use Rattle.busdma_base.specs.Scenarios.Names.{makes, makes_tag, makes_map, NamesTag, NamesMap}
+use Rattle.busdma_base.specs.declared.scenarios.operations.NameKind.{NameKind}
+use Rattle.busdma_base.specs.Scenarios.Names.{makes, makes_as}
 use Rattle.json_fields.specs.Place.{Place, key}
 use Rattle.json_fields.specs.Read.{Read, ◌>>=◌, refuse}
 use Rattle.json_fields.specs.Field.{Spot, field, required}
 use Rattle.json_fields.specs.Text.{name_at}
 use Rattle.json_fields.specs.declared.refusal.RefusalKind.TheVariants.{BadField, UnknownName}
-use Rattle.scenario_read.specs.declared.names.Made.{Made}
-use Rattle.scenario_read.specs.declared.names.Made.TheVariants as made
-
--- the operation makes the name, as a thing of that kind
-abbrev pub makes_as : Made → List ℕ → Op → Bool
-makes_as made.Tag name o = makes_tag name o
-makes_as made.Map name o = makes_map name o
-
--- the place of an operation that makes a thing of that kind
-abbrev pub Names : Made → List Op → ℕ → Type 0
-Names made.Tag before place = NamesTag before place
-Names made.Map before place = NamesMap before place
+use Rattle.busdma_base.specs.declared.scenarios.operations.NameKind.TheVariants as kind
 
 -- the place of the first operation that passes the test, counted from n
 abbrev pub first_place : (Op → Bool) → ℕ → List Op → Option ℕ
@@ -40,14 +30,14 @@ known_or place None = refuse UnknownName place
 known_or place (Some n) = Ok n
 
 -- the operation before that made the name that stands here, as a thing of that kind
-unfoldable pub used_at : Made → List Op → Spot → Read ℕ
+unfoldable pub used_at : NameKind → List Op → Spot → Read ℕ
 used_at kind before here = name_at here >>= (λ name. known_or here.place (first_place (makes_as kind name) 0 before))
 
 -- the same of the name at a key
-unfoldable pub used_name : Made → List ℕ → List Op → Spot → Read ℕ
+unfoldable pub used_name : NameKind → List ℕ → List Op → Spot → Read ℕ
 used_name kind field before here = required field here >>= used_at kind before
 
 -- the same of a tag that may be absent
 abbrev pub parent_or_none : List Op → Option Spot → Read (Option ℕ)
 parent_or_none before None = Ok None
-parent_or_none before (Some spot) = used_at made.Tag before spot >>= (λ n. Ok (Some n))
+parent_or_none before (Some spot) = used_at kind.Tag before spot >>= (λ n. Ok (Some n))

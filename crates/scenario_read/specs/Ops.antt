@@ -3,7 +3,8 @@ use Rattle.std.specs.Prelude.{ℕ, ◌-◌, ◌^◌, if◌then◌else◌, List, 
 use Rattle.busdma_base.specs.declared.scenarios.script.Op.{Op}
 use Rattle.busdma_base.specs.declared.scenarios.script.Op.TheVariants as op
 use Rattle.busdma_base.specs.declared.tags.tag.TagLimits.{TagLimits}
-use Rattle.busdma_base.specs.Scenarios.Script.{bytes_of, cuts_no_page}
+use Rattle.busdma_base.specs.Scenarios.Operations.{bytes_of}
+use Rattle.busdma_base.specs.Scenarios.Script.{cuts_no_page}
 use Rattle.json_fields.specs.Place.{Place, key}
 use Rattle.json_fields.specs.Read.{Read, ◌>>=◌, refuse}
 use Rattle.json_fields.specs.declared.refusal.RefusalKind.TheVariants.{BadField}
@@ -12,7 +13,7 @@ use Rattle.json_fields.specs.Number.{number_field, number_or}
 use Rattle.scenario_read.specs.declared.counts.Counts.{Counts}
 use Rattle.scenario_read.specs.declared.flags.FlagSet.TheVariants as set
 use Rattle.scenario_read.specs.declared.load.LoadHead.{LoadHead}
-use Rattle.scenario_read.specs.declared.names.Made.TheVariants as made
+use Rattle.busdma_base.specs.declared.scenarios.operations.NameKind.TheVariants as kind
 use Rattle.scenario_read.specs.Bytes.{target_at, load_length, written_at}
 use Rattle.scenario_read.specs.Counts.{having_loaded, access_judged, read_judged, load_judged}
 use Rattle.scenario_read.specs.Flags.{flags_field, ops_field}
@@ -62,7 +63,7 @@ tag_at before here =
 unfoldable pub tag_destroy_at : List Op → Spot → Read Op
 tag_destroy_at before here =
     only_keys (one_of (codes "op" ∷ codes "tag" ∷ [])) here >>= (λ _.
-    used_name made.Tag (codes "tag") before here >>= (λ tag.
+    used_name kind.Tag (codes "tag") before here >>= (λ tag.
     Ok (op.TagDestroy tag)))
 
 -- the making of a map
@@ -70,20 +71,20 @@ unfoldable pub map_at : List Op → Spot → Read Op
 map_at before here =
     only_keys (one_of (codes "op" ∷ codes "name" ∷ codes "tag" ∷ [])) here >>= (λ _.
     new_name (codes "name") before here >>= (λ name.
-    used_name made.Tag (codes "tag") before here >>= (λ tag.
+    used_name kind.Tag (codes "tag") before here >>= (λ tag.
     Ok (op.Map name tag))))
 
 -- the end of a map
 unfoldable pub map_destroy_at : List Op → Spot → Read Op
 map_destroy_at before here =
     only_keys (one_of (codes "op" ∷ codes "map" ∷ [])) here >>= (λ _.
-    used_name made.Map (codes "map") before here >>= (λ map.
+    used_name kind.Map (codes "map") before here >>= (λ map.
     Ok (op.MapDestroy map)))
 
 -- what a load says before its items
 unfoldable pub load_head_at : List Op → Spot → Read LoadHead
 load_head_at before here =
-    used_name made.Map (codes "map") before here >>= (λ map.
+    used_name kind.Map (codes "map") before here >>= (λ map.
     target_at here >>= (λ target.
     load_length target here >>= (λ n.
     flags_field set.Load here >>= (λ flags.
@@ -102,14 +103,14 @@ load_at before c here =
 unfoldable pub unload_at : List Op → Spot → Read Op
 unload_at before here =
     only_keys (one_of (codes "op" ∷ codes "map" ∷ [])) here >>= (λ _.
-    used_name made.Map (codes "map") before here >>= (λ map.
+    used_name kind.Map (codes "map") before here >>= (λ map.
     Ok (op.Unload map)))
 
 -- a sync of the whole load
 unfoldable pub sync_at : List Op → Spot → Read Op
 sync_at before here =
     only_keys (one_of (codes "op" ∷ codes "map" ∷ codes "ops" ∷ [])) here >>= (λ _.
-    used_name made.Map (codes "map") before here >>= (λ map.
+    used_name kind.Map (codes "map") before here >>= (λ map.
     ops_field here >>= (λ ops.
     Ok (op.Sync map ops))))
 
@@ -117,7 +118,7 @@ sync_at before here =
 unfoldable pub sync_range_at : List Op → Spot → Read Op
 sync_range_at before here =
     only_keys (one_of (codes "op" ∷ codes "map" ∷ codes "off" ∷ codes "len" ∷ codes "ops" ∷ [])) here >>= (λ _.
-    used_name made.Map (codes "map") before here >>= (λ map.
+    used_name kind.Map (codes "map") before here >>= (λ map.
     number_field (codes "off") here >>= (λ off.
     number_field (codes "len") here >>= (λ n.
     ops_field here >>= (λ ops.
@@ -145,5 +146,5 @@ cpu_write_at here =
 unfoldable pub await_at : List Op → Spot → Read Op
 await_at before here =
     only_keys (one_of (codes "op" ∷ codes "map" ∷ [])) here >>= (λ _.
-    used_name made.Map (codes "map") before here >>= (λ map.
+    used_name kind.Map (codes "map") before here >>= (λ map.
     Ok (op.Await map)))

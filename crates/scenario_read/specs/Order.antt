@@ -12,7 +12,7 @@ use Rattle.json_fields.specs.Text.{text_at}
 use Rattle.json_fields.specs.Items.{items_at, each}
 use Rattle.json_fields.specs.declared.refusal.RefusalKind.TheVariants.{Limit}
 use Rattle.json_fields.specs.declared.refusal.LimitName.TheVariants as limit
-use Rattle.scenario_read.specs.Limits.{order_limit}
+use Rattle.busdma_base.specs.Scenarios.Limits.{order_limit}
 
 -- `s`, `d` or `c`
 abbrev pub side_of : ℕ → Option Side

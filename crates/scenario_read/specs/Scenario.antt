@@ -17,7 +17,7 @@ use Rattle.scenario_read.specs.declared.reading.Reading.{Reading}
 use Rattle.scenario_read.specs.declared.reading.Reading.TheVariants.{Good, Bad}
 use Rattle.scenario_read.specs.Driver.{drivers_at}
 use Rattle.scenario_read.specs.Frames.{frames_at}
-use Rattle.scenario_read.specs.Limits.{bpages_limit}
+use Rattle.busdma_base.specs.Scenarios.Limits.{bpages_limit}
 use Rattle.scenario_read.specs.Order.{order_field}
 
 -- at least one page, and at most the limit

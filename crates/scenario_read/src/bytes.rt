@@ -1,7 +1,8 @@
 //! Where an operation works, and what it writes.
 
 ghost use Rattle.std.specs.Prelude.{◌≡◌, length, IfOk};
-ghost use Rattle.busdma_base.specs.Scenarios.Script.{bytes_of, LiesInPage};
+ghost use Rattle.busdma_base.specs.Scenarios.Operations.{bytes_of};
+ghost use Rattle.busdma_base.specs.Scenarios.Script.{LiesInPage};
 ghost use Rattle.json_fields.specs.Read.{Gives};
 ghost use Rattle.json_fields.specs.Field.{spot_of};
 ghost use Rattle.scenario_read.specs.Bytes as bytes;

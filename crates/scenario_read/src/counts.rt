@@ -1,7 +1,7 @@
 //! What is counted for the limits.
 
 ghost use Rattle.std.specs.Prelude.{◌≡◌, ◌≤◌, OnOk};
-ghost use Rattle.busdma_base.specs.Scenarios.Script.{access_limit};
+ghost use Rattle.busdma_base.specs.Scenarios.Limits.{access_limit};
 ghost use Rattle.json_fields.specs.Place.{place_of};
 ghost use Rattle.json_fields.specs.Read.{Gives};
 ghost use Rattle.scenario_read.specs.Counts.{IsWithin, stepped, having_read, having_loaded};

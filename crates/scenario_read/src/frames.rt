@@ -10,7 +10,7 @@ ghost use Rattle.json_fields.specs.Read.{Gives, GivesSeen};
 ghost use Rattle.json_fields.specs.Field.{spot_of};
 ghost use Rattle.json_fields.specs.Items.{each};
 ghost use Rattle.scenario_read.specs.Frames.{run_at, run_judged, frame_run_at, frames_at};
-ghost use Rattle.scenario_read.specs.Limits.{frames_limit};
+ghost use Rattle.busdma_base.specs.Scenarios.Limits.{frames_limit};
 
 use crate::limits::{FRAME_NUMBERS, FRAMES};
 use busdma_base::{FrameRun, FrameRunList, ListOf};

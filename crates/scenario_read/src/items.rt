@@ -3,21 +3,22 @@
 ghost use Rattle.std.specs.Prelude.{◌≡◌, ◌≤◌, [], length, map, IfOk};
 ghost use Rattle.std.specs.List.{AllByRecursion};
 ghost use Rattle.serde_json.specs.View.{view};
-ghost use Rattle.busdma_base.specs.Scenarios.Script.{IsItem, read_by_item};
+ghost use Rattle.busdma_base.specs.Scenarios.Operations.{read_by_item};
+ghost use Rattle.busdma_base.specs.Scenarios.Script.{IsItem};
 ghost use Rattle.json_fields.specs.Read.{Gives, GivesSeen};
 ghost use Rattle.json_fields.specs.Field.{spot_of};
 ghost use Rattle.json_fields.specs.Items.{each};
 ghost use Rattle.scenario_read.specs.Counts.{IsWithin, with_items, having_read, stepped};
 ghost use Rattle.scenario_read.specs.Items.{sync_item_at, sync_range_item_at, dev_read_at};
 ghost use Rattle.scenario_read.specs.Items.{dev_write_at, item_by, item_at, then_at, then_field};
-ghost use Rattle.scenario_read.specs.Limits.{steps_limit};
+ghost use Rattle.busdma_base.specs.Scenarios.Limits.{steps_limit};
 
 use crate::bytes::{count_of, written};
 use crate::counts::{Counts, access};
 use crate::flags::ops_field;
-use crate::names::{Made, used_name};
-use crate::words::{ItemWord, item_word};
-use busdma_base::{Item, ItemList, ListOf, Op};
+use crate::names::used_name;
+use crate::words::item_word;
+use busdma_base::{Item, ItemList, ItemWord, ListOf, NameKind, Op};
 use json_fields::{Node, Stop};
 use serde_json::Value;
 
@@ -29,7 +30,7 @@ fn sync(here: &Node, before: &[Op]) -> Result<Item, Stop>
     ensures reads_nothing { IfOk result (λ i. read_by_item i ≡ 0) }
 {
     here.only_keys(&["op", "map", "ops"])?;
-    let map = used_name(here, Made::Map, "map", before)?;
+    let map = used_name(here, NameKind::Map, "map", before)?;
     let ops = ops_field(here)?;
     Ok(Item::Sync { map, ops })
 }
@@ -42,7 +43,7 @@ fn sync_range(here: &Node, before: &[Op]) -> Result<Item, Stop>
     ensures reads_nothing { IfOk result (λ i. read_by_item i ≡ 0) }
 {
     here.only_keys(&["op", "map", "off", "len", "ops"])?;
-    let map = used_name(here, Made::Map, "map", before)?;
+    let map = used_name(here, NameKind::Map, "map", before)?;
     let off = here.number_field("off")?;
     let len = here.number_field("len")?;
     let ops = ops_field(here)?;
@@ -59,7 +60,7 @@ fn dev_read(here: &Node, before: &[Op], counts: &mut Counts) -> Result<Item, Sto
     ensures within { IfOk result (λ _. IsWithin counts.new) }
 {
     here.only_keys(&["op", "map", "off", "len"])?;
-    let map = used_name(here, Made::Map, "map", before)?;
+    let map = used_name(here, NameKind::Map, "map", before)?;
     let off = here.number_field("off")?;
     let len = here.number_field("len")?;
     counts.read(here, len)?;
@@ -74,7 +75,7 @@ fn dev_write(here: &Node, before: &[Op]) -> Result<Item, Stop>
     ensures reads_nothing { IfOk result (λ i. read_by_item i ≡ 0) }
 {
     here.only_keys(&["op", "map", "off", "hex", "fill", "len"])?;
-    let map = used_name(here, Made::Map, "map", before)?;
+    let map = used_name(here, NameKind::Map, "map", before)?;
     let off = here.number_field("off")?;
     let bytes = written(here)?;
     access(here, count_of(&bytes))?;

@@ -1,20 +1,21 @@
 //! The load of a map.
 
 ghost use Rattle.std.specs.Prelude.{◌≡◌, ◌≤◌, length, IfOk};
-ghost use Rattle.busdma_base.specs.Scenarios.Names.{NamesMap};
+ghost use Rattle.busdma_base.specs.Scenarios.Names.{IsMade};
+ghost use Rattle.busdma_base.specs.Scenarios.Operations.{map_at};
 ghost use Rattle.busdma_base.specs.Scenarios.Script.{IsOp, LiesInPage};
 ghost use Rattle.json_fields.specs.Read.{Gives};
 ghost use Rattle.json_fields.specs.Field.{spot_of};
 ghost use Rattle.scenario_read.specs.Counts.{IsWithin, with_op};
 ghost use Rattle.scenario_read.specs.Ops.{load_head_at, load_at};
-ghost use Rattle.scenario_read.specs.Limits.{steps_limit};
+ghost use Rattle.busdma_base.specs.Scenarios.Limits.{steps_limit};
 
 use crate::bytes::{load_length, target};
 use crate::counts::Counts;
 use crate::flags::{FlagSet, flags_field};
 use crate::items::then_field;
-use crate::names::{Made, used_name};
-use busdma_base::{Op, Place};
+use crate::names::used_name;
+use busdma_base::{NameKind, Op, Place};
 use json_fields::{Node, Stop};
 
 /// What a load says before its items.
@@ -30,10 +31,10 @@ pub(crate) struct LoadHead {
 fn load_head(here: &Node, before: &[Op]) -> Result<LoadHead, Stop>
     requires { length before.now ≤ steps_limit }
     ensures value { Gives result (load_head_at before.now (spot_of here.now)) }
-    ensures made { IfOk result (λ h. NamesMap before.now h.map) }
+    ensures made { IfOk result (λ h. IsMade before.now (map_at h.map)) }
     ensures in_page { IfOk result (λ h. LiesInPage h.target h.len) }
 {
-    let map = used_name(here, Made::Map, "map", before)?;
+    let map = used_name(here, NameKind::Map, "map", before)?;
     let target = target(here)?;
     let len = load_length(here, target)?;
     let flags = flags_field(here, FlagSet::Load)?;

@@ -1,48 +1,32 @@
 //! The names that a script makes and uses.
 
 ghost use Rattle.std.specs.Prelude.{◌≡◌, ◌≤◌, codes, length, IfOk, IfSome};
-ghost use Rattle.std.specs.List.{list_any};
+ghost use Rattle.std.specs.List.{AllByRecursion, list_any};
 ghost use Rattle.busdma_base.specs.Scenarios.Names as base;
+ghost use Rattle.busdma_base.specs.Scenarios.Operations.{parents};
 ghost use Rattle.json_fields.specs.Read.{Gives};
 ghost use Rattle.json_fields.specs.Field.{spot_of, field};
 ghost use Rattle.scenario_read.specs.Names as names;
-ghost use Rattle.scenario_read.specs.Limits.{steps_limit};
+ghost use Rattle.busdma_base.specs.Scenarios.Limits.{steps_limit};
 
-use busdma_base::{Name, Op};
+use busdma_base::{Name, NameKind, Op};
 use json_fields::{Node, RefusalKind, Stop};
-
-/// What a name stands for.
-#[derive(Clone, Copy, Debug)]
-pub(crate) enum Made {
-    Tag,
-    Map,
-}
-
-fn makes_as(kind: Made, name: &str, op: &Op) -> bool
-    ensures { result ≡ names.makes_as kind name.now op.now }
-{
-    match (kind, op) {
-        (Made::Tag, Op::Tag { name: made, .. }) => made.as_str() == name,
-        (Made::Map, Op::Map { name: made, .. }) => made.as_str() == name,
-        _ => false,
-    }
-}
 
 fn is_made(name: &str, before: &[Op]) -> bool
     ensures { result ≡ list_any (base.makes name.now) before.now }
 {
-    before.iter().any(|op| makes_as(Made::Tag, name, op) || makes_as(Made::Map, name, op))
+    before.iter().any(|op| op.makes(name))
 }
 
 /// The place of the first operation that makes the name, as a thing of that kind.
-fn maker(kind: Made, name: &str, before: &[Op]) -> Option<u32>
+fn maker(kind: NameKind, name: &str, before: &[Op]) -> Option<u32>
     requires { length before.now ≤ steps_limit }
-    ensures value { result ≡ names.first_place (names.makes_as kind name.now) 0 before.now }
-    ensures made { IfSome result (names.Names kind before.now) }
+    ensures value { result ≡ names.first_place (base.makes_as kind name.now) 0 before.now }
+    ensures made { IfSome result (λ place. base.IsMade before.now (record { kind = kind; made_at = place })) }
 {
     let mut place = 0;
     for op in before {
-        if makes_as(kind, name, op) {
+        if op.makes_as(kind, name) {
             return Some(place);
         }
         place += 1;
@@ -65,10 +49,10 @@ pub(crate) fn new_name<'v>(here: &'v Node<'v>, field: &'v str, before: &[Op]) ->
 
 /// The place of the operation before that made the name that stands here, as a thing of that kind.
 #[tactic(auto, unfolding(crate::specs::Names::used_at))]
-fn used(here: &Node, kind: Made, before: &[Op]) -> Result<u32, Stop>
+fn used(here: &Node, kind: NameKind, before: &[Op]) -> Result<u32, Stop>
     requires { length before.now ≤ steps_limit }
     ensures value { Gives result (names.used_at kind before.now (spot_of here.now)) }
-    ensures made { IfOk result (names.Names kind before.now) }
+    ensures made { IfOk result (λ place. base.IsMade before.now (record { kind = kind; made_at = place })) }
 {
     let name = here.name()?;
     match maker(kind, name.as_str(), before) {
@@ -81,13 +65,13 @@ fn used(here: &Node, kind: Made, before: &[Op]) -> Result<u32, Stop>
 #[tactic(auto, unfolding(crate::specs::Names::used_name))]
 pub(crate) fn used_name<'v>(
     here: &'v Node<'v>,
-    kind: Made,
+    kind: NameKind,
     field: &'v str,
     before: &[Op],
 ) -> Result<u32, Stop>
     requires { length before.now ≤ steps_limit }
     ensures value { Gives result (names.used_name kind field.now before.now (spot_of here.now)) }
-    ensures made { IfOk result (names.Names kind before.now) }
+    ensures made { IfOk result (λ place. base.IsMade before.now (record { kind = kind; made_at = place })) }
 {
     used(&here.required(field)?, kind, before)
 }
@@ -97,10 +81,10 @@ pub(crate) fn parent<'v>(here: &'v Node<'v>, before: &[Op]) -> Result<Option<u32
     requires { length before.now ≤ steps_limit }
     ensures value { Gives result
         (names.parent_or_none before.now (field (codes "parent") (spot_of here.now))) }
-    ensures made { IfOk result (base.NamesParent before.now) }
+    ensures made { IfOk result (λ p. AllByRecursion (base.IsMade before.now) (parents p)) }
 {
     match here.field("parent") {
-        Some(node) => Ok(Some(used(&node, Made::Tag, before)?)),
+        Some(node) => Ok(Some(used(&node, NameKind::Tag, before)?)),
         None => Ok(None),
     }
 }

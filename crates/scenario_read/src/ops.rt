@@ -6,13 +6,13 @@ ghost use Rattle.json_fields.specs.Read.{Gives};
 ghost use Rattle.json_fields.specs.Field.{spot_of};
 ghost use Rattle.scenario_read.specs.Counts.{IsWithin, IsQuiet, with_op};
 ghost use Rattle.scenario_read.specs.Ops as ops;
-ghost use Rattle.scenario_read.specs.Limits.{steps_limit};
+ghost use Rattle.busdma_base.specs.Scenarios.Limits.{steps_limit};
 
 use crate::bytes::{count_of, target, written};
 use crate::counts::{Counts, access};
 use crate::flags::{FlagSet, flags_field, ops_field};
-use crate::names::{Made, new_name, parent, used_name};
-use busdma_base::{Op, Pa, TagLimits};
+use crate::names::{new_name, parent, used_name};
+use busdma_base::{NameKind, Op, Pa, TagLimits};
 use json_fields::{Node, RefusalKind, Stop};
 
 // The greatest length of a segment. One below a page is refused as long as loads are not cut.
@@ -77,7 +77,7 @@ pub(crate) fn tag_destroy(here: &Node, before: &[Op]) -> Result<Op, Stop>
     ensures quiet { IfOk result IsQuiet }
 {
     here.only_keys(&["op", "tag"])?;
-    let tag = used_name(here, Made::Tag, "tag", before)?;
+    let tag = used_name(here, NameKind::Tag, "tag", before)?;
     Ok(Op::TagDestroy { tag })
 }
 
@@ -90,7 +90,7 @@ pub(crate) fn map(here: &Node, before: &[Op]) -> Result<Op, Stop>
 {
     here.only_keys(&["op", "name", "tag"])?;
     let name = new_name(here, "name", before)?;
-    let tag = used_name(here, Made::Tag, "tag", before)?;
+    let tag = used_name(here, NameKind::Tag, "tag", before)?;
     Ok(Op::Map { name, tag })
 }
 
@@ -102,7 +102,7 @@ pub(crate) fn map_destroy(here: &Node, before: &[Op]) -> Result<Op, Stop>
     ensures quiet { IfOk result IsQuiet }
 {
     here.only_keys(&["op", "map"])?;
-    let map = used_name(here, Made::Map, "map", before)?;
+    let map = used_name(here, NameKind::Map, "map", before)?;
     Ok(Op::MapDestroy { map })
 }
 
@@ -114,7 +114,7 @@ pub(crate) fn unload(here: &Node, before: &[Op]) -> Result<Op, Stop>
     ensures quiet { IfOk result IsQuiet }
 {
     here.only_keys(&["op", "map"])?;
-    let map = used_name(here, Made::Map, "map", before)?;
+    let map = used_name(here, NameKind::Map, "map", before)?;
     Ok(Op::Unload { map })
 }
 
@@ -126,7 +126,7 @@ pub(crate) fn sync(here: &Node, before: &[Op]) -> Result<Op, Stop>
     ensures quiet { IfOk result IsQuiet }
 {
     here.only_keys(&["op", "map", "ops"])?;
-    let map = used_name(here, Made::Map, "map", before)?;
+    let map = used_name(here, NameKind::Map, "map", before)?;
     let ops = ops_field(here)?;
     Ok(Op::Sync { map, ops })
 }
@@ -139,7 +139,7 @@ pub(crate) fn sync_range(here: &Node, before: &[Op]) -> Result<Op, Stop>
     ensures quiet { IfOk result IsQuiet }
 {
     here.only_keys(&["op", "map", "off", "len", "ops"])?;
-    let map = used_name(here, Made::Map, "map", before)?;
+    let map = used_name(here, NameKind::Map, "map", before)?;
     let off = here.number_field("off")?;
     let len = here.number_field("len")?;
     let ops = ops_field(here)?;
@@ -182,6 +182,6 @@ pub(crate) fn await_op(here: &Node, before: &[Op]) -> Result<Op, Stop>
     ensures quiet { IfOk result IsQuiet }
 {
     here.only_keys(&["op", "map"])?;
-    let map = used_name(here, Made::Map, "map", before)?;
+    let map = used_name(here, NameKind::Map, "map", before)?;
     Ok(Op::Await { map })
 }

@@ -7,7 +7,7 @@ ghost use Rattle.json_fields.specs.Read.{Gives, GivesSeen};
 ghost use Rattle.json_fields.specs.Field.{spot_of};
 ghost use Rattle.json_fields.specs.Items.{each};
 ghost use Rattle.scenario_read.specs.Order as order;
-ghost use Rattle.scenario_read.specs.Limits.{order_limit};
+ghost use Rattle.busdma_base.specs.Scenarios.Limits.{order_limit};
 
 use crate::limits::ORDER;
 use busdma_base::{Actor, ActorList, LaneId, ListOf, Side};

@@ -9,13 +9,13 @@ ghost use Rattle.json_fields.specs.Field.{spot_of};
 ghost use Rattle.json_fields.specs.Items.{each};
 ghost use Rattle.scenario_read.specs.Counts.{IsWithin, with_op, with_ops, stepped};
 ghost use Rattle.scenario_read.specs.Script.{op_by, op_at, script_at};
-ghost use Rattle.scenario_read.specs.Limits.{steps_limit};
+ghost use Rattle.busdma_base.specs.Scenarios.Limits.{steps_limit};
 
 use crate::counts::Counts;
 use crate::load::load;
 use crate::ops;
-use crate::words::{OpWord, op_word};
-use busdma_base::{ListOf, Op, OpList};
+use crate::words::op_word;
+use busdma_base::{ListOf, Op, OpList, OpWord};
 use json_fields::{Node, Stop};
 use serde_json::Value;
 

@@ -5,6 +5,7 @@ use Rattle.busdma_base.specs.declared.scenarios.scenario.Driver.{Driver}
 use Rattle.busdma_base.specs.declared.scenarios.scenario.PageRun.{PageRun}
 use Rattle.busdma_base.specs.declared.scenarios.scenario.Scenario.{Scenario}
 use Rattle.busdma_base.specs.Each.{EachAfter}
+use Rattle.busdma_base.specs.Scenarios.Script.{IsScript}
 use Rattle.busdma_base.specs.Scenarios.Valid.{IsValid, IsDriver}
 use Rattle.lane_core.specs.declared.lane.Lane.{Lane}
 use Rattle.lane_core.specs.Ideal.{ideal}
@@ -30,6 +31,12 @@ pub pages_for : (s : Scenario) (ds : List Driver) (i : ℕ) (d : Driver) (pages 
 pages_for s ds i d pages valid same lt is at =
     let within : i < length s.drivers = omega (arith, lt, ap length same) in
     subst ArePages (sym (at ∙ ap (λ (x : Driver). x.pages) (is ∙ ap (λ l. get_or l i d) same))) (pages_at s i d valid within)
+
+-- a driver's script is valid
+pub script_for : (s : Scenario) (ds : List Driver) (i : ℕ) (d : Driver) → IsValid s → ds ≡ s.drivers → i < length ds → d ≡ get_or ds i d → IsScript d.script
+script_for s ds i d valid same lt is =
+    let within : i < length s.drivers = omega (arith, lt, ap length same) in
+    subst IsScript (sym (ap (λ (x : Driver). x.script) (is ∙ ap (λ l. get_or l i d) same))) (driver_at s [] s.drivers i d valid.drivers within).1.script
 
 opening-snoc : (k : ℕ) (ds : List Driver) (d : Driver) → opening_lanes k (ds ++ d ∷ []) ≡ opening_lanes k ds ++ opening_lane (k + length ds) d ∷ []
 opening-snoc k [] d = let e : k ≡ k + 0 = omega arith in ap (λ i. opening_lane i d ∷ []) e

@@ -1,6 +1,7 @@
 //! Laws of worlds and replays.
 
-ghost use Rattle.world_core.specs.Laws.{EachScenarioIsReplayed, EachStepFalls, NoneIsStuck, OneIsReplayed, ReplayIsLegal};
+ghost use Rattle.world_core.specs.Laws.{EachScenarioIsReplayed, EachStepFalls, NoneIsStuck};
+ghost use Rattle.world_core.specs.Laws.{OneIsReplayed, ReplayIsLegal};
 
 /// Every step leaves less to do, so every run ends.
 pub fn each_step_falls()

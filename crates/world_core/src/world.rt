@@ -5,7 +5,7 @@ ghost use Rattle.busdma_base.specs.Scenarios.Valid.{IsValid};
 ghost use Rattle.std.specs.List.{list_all};
 ghost use Rattle.lane_core.specs.Ideal.{ideal};
 ghost use Rattle.world_core.specs.Ends.{end_of};
-ghost use Rattle.world_core.specs.Ideal.{ideal_world};
+ghost use Rattle.world_core.specs.Ideal.{ideal_world, wires_of};
 ghost use Rattle.world_core.specs.World.{HasDriver, opening_world, has_ended, step, zone_counts};
 
 use busdma_base::{Actor, End, LaneId, Scenario, ZoneList};
@@ -38,8 +38,10 @@ impl<'s> World<'s> {
     /// memory leaves the world as it was.
     pub fn step(&mut self, alloc: Global, actor: Actor) -> Result<Turn, AllocError>
         requires { HasDriver (ideal_world self.old) actor }
-        ensures done { IfOk result (λ turn. record { world = ideal_world self.new; turn = turn } ≡ step (ideal_world self.old) actor) }
+        ensures done { IfOk result (λ turn.
+            record { world = ideal_world self.new; turn = turn } ≡ step (ideal_world self.old) actor) }
         ensures err { OnErr result (ideal_world self.new ≡ ideal_world self.old) }
+        ensures err_wires { OnErr result (wires_of self.new ≡ wires_of self.old) }
     {
         self.lanes[actor.lane.0 as usize].turn(alloc, actor.side)
     }

@@ -1,9 +1,13 @@
 -- The names that a script makes and uses.
 use Rattle.std.specs.Prelude.{◌≡◌, ℕ, Bool, true, false, ◌&&◌, ◌||◌, ◌==◌, List, length, nat_le, if◌then◌else◌, slice_index, Option, Some, None, slice_get}
 use Rattle.std.specs.List.{list_all, list_any}
+use Rattle.std.specs.Option.{option_map_or}
 use Rattle.std.specs.Str.{bytes_eq}
 use Rattle.busdma_base.specs.declared.scenarios.script.Op.{Op}
-use Rattle.busdma_base.specs.declared.scenarios.script.Op.TheVariants as op
+use Rattle.busdma_base.specs.declared.scenarios.operations.NameKind.{NameKind}
+use Rattle.busdma_base.specs.declared.scenarios.operations.NameKind.TheVariants as kind
+use Rattle.busdma_base.specs.declared.scenarios.operations.UsedName.{UsedName}
+use Rattle.busdma_base.specs.Scenarios.Operations.{Made, about}
 
 -- a letter from a to z
 abbrev pub is_letter : ℕ → Bool
@@ -17,46 +21,35 @@ in_name b = is_letter b || (nat_le 48 b && nat_le b 57) || (b == 95)
 abbrev pub is_name : List ℕ → Bool
 is_name s = if nat_le 1 (length s) && nat_le (length s) 32 && is_letter (slice_index s 0) then list_all in_name s else false
 
--- the operation makes a tag of that name
-abbrev pub makes_tag : List ℕ → Op → Bool
-makes_tag name (op.Tag n parent limits) = bytes_eq n name
-makes_tag name _ = false
+-- two names stand for things of one kind
+abbrev pub same_kind : NameKind → NameKind → Bool
+same_kind kind.Tag kind.Tag = true
+same_kind kind.Tag kind.Map = false
+same_kind kind.Map kind.Tag = false
+same_kind kind.Map kind.Map = true
 
--- the operation makes a map of that name
-abbrev pub makes_map : List ℕ → Op → Bool
-makes_map name (op.Map n tag) = bytes_eq n name
-makes_map name _ = false
+-- the operation makes the name, as a thing of that kind
+abbrev pub makes_as : NameKind → List ℕ → Op → Bool
+makes_as k name o = option_map_or (λ made. same_kind made.kind k && bytes_eq made.name name) (about o).makes false
 
 -- the operation makes the name, of whatever kind
 abbrev pub makes : List ℕ → Op → Bool
-makes name o = makes_tag name o || makes_map name o
+makes name o = option_map_or (λ made. bytes_eq made.name name) (about o).makes false
 
--- the operation makes a tag
-abbrev pub is_tag : Option Op → Bool
-is_tag (Some (op.Tag name parent limits)) = true
-is_tag (Some _) = false
-is_tag None = false
-
--- the operation makes a map
-abbrev pub is_map : Option Op → Bool
-is_map (Some (op.Map name tag)) = true
-is_map (Some _) = false
-is_map None = false
+-- the operation makes a thing of that kind
+abbrev pub makes_kind : NameKind → Op → Bool
+makes_kind k o = option_map_or (λ made. same_kind made.kind k) (about o).makes false
 
 -- a name that no operation before made
 pub record IsNewName (before : List Op) (name : List ℕ) : Type 0 where
   pub well_formed : is_name name ≡ true
   pub fresh : list_any (makes name) before ≡ false
 
--- the place of an operation before that makes a tag
-abbrev pub NamesTag : List Op → ℕ → Type 0
-NamesTag before place = is_tag (slice_get before place) ≡ true
+-- the same of the name that an operation makes, if it makes one
+abbrev pub MakesNewName : List Op → Option Made → Type 0
+MakesNewName before None = Unit {0}
+MakesNewName before (Some made) = IsNewName before made.name
 
--- the place of an operation before that makes a map
-abbrev pub NamesMap : List Op → ℕ → Type 0
-NamesMap before place = is_map (slice_get before place) ≡ true
-
--- the same of a tag that may be named
-abbrev pub NamesParent : List Op → Option ℕ → Type 0
-NamesParent before None = Unit {0}
-NamesParent before (Some place) = NamesTag before place
+-- an operation before makes the name, as a thing of that kind
+abbrev pub IsMade : List Op → UsedName → Type 0
+IsMade before used = option_map_or (makes_kind used.kind) (slice_get before used.made_at) false ≡ true

@@ -8,7 +8,9 @@ use Rattle.busdma_base.specs.declared.journals.journal.Actor.{Actor}
 use Rattle.busdma_base.specs.Each.{EachAfter}
 use Rattle.busdma_base.specs.Machine.FrameRuns.{IsFrameRun}
 use Rattle.busdma_base.specs.Machine.PageRuns.{IsPageRun}
-use Rattle.busdma_base.specs.Scenarios.Script.{IsScript, loaded_by, read_by}
+use Rattle.busdma_base.specs.Scenarios.Limits.{bpages_limit, drivers_limit, loaded_limit, reads_limit, order_limit}
+use Rattle.busdma_base.specs.Scenarios.Operations.{loaded_by, read_by}
+use Rattle.busdma_base.specs.Scenarios.Script.{IsScript}
 
 -- a driver's pages are its own, and its script is valid
 pub record IsDriver (frames : List FrameRun) (earlier : List Driver) (driver : Driver) : Type 0 where
@@ -26,10 +28,10 @@ read_of drivers = sum_by (λ d. sum_by read_by d.script) drivers
 pub record IsValid (s : Scenario) : Type 0 where
   pub frames : EachAfter IsFrameRun [] s.frames
   pub some_bpages : 1 ≤ s.max_bpages
-  pub few_bpages : s.max_bpages ≤ 8192
-  pub few_drivers : length s.drivers ≤ 16
+  pub few_bpages : s.max_bpages ≤ bpages_limit
+  pub few_drivers : length s.drivers ≤ drivers_limit
   pub drivers : EachAfter (IsDriver s.frames) [] s.drivers
-  pub loaded : loaded_of s.drivers ≤ 16777216
-  pub read : read_of s.drivers ≤ 1048576
-  pub short_order : length s.order ≤ 65536
+  pub loaded : loaded_of s.drivers ≤ loaded_limit
+  pub read : read_of s.drivers ≤ reads_limit
+  pub short_order : length s.order ≤ order_limit
   pub order : AllByRecursion (λ (a : Actor). a.lane.0 < length s.drivers) s.order

@@ -119,7 +119,7 @@ pub enum Item {
 
 impl Bytes {
     ghost use Rattle.std.specs.Prelude.{◌≡◌, IfOk};
-    ghost use Rattle.busdma_base.specs.Scenarios.Script.{bytes_of};
+    ghost use Rattle.busdma_base.specs.Scenarios.Operations.{bytes_of};
 
     /// The bytes, in order.
     pub fn to_vec(&self, alloc: Global) -> Result<Vec<u8>, AllocError>

@@ -1,6 +1,6 @@
 use Rattle.std.proofs.Common.{arith, ap, ◌∙◌}
 use Rattle.std.proofs.lemmas.Grind.{common_steps}
-use Rattle.busdma_base.specs.Scenarios.Script.{read_by_item}
+use Rattle.busdma_base.specs.Scenarios.Operations.{read_by_item}
 use Rattle.scenario_read.specs.Counts.{having_read, stepped}
 use Rattle.scenario_read.proofs.Counting.{with_items_more}
 use Rattle.scenario_read.proofs.items.each_item.Goals as goal

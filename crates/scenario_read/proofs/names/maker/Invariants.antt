@@ -1,5 +1,6 @@
 use Rattle.std.proofs.Common.{◌≡◌, drop}
-use Rattle.scenario_read.specs.Names.{first_place, makes_as}
+use Rattle.busdma_base.specs.Scenarios.Names.{makes_as}
+use Rattle.scenario_read.specs.Names.{first_place}
 use Rattle.scenario_read.proofs.names.maker.Given as goal
 
 abbrev pub invariant-loop-op : goal.invariant-loop-op

@@ -4,7 +4,7 @@ use Rattle.busdma_base.specs.Bounce.Opening.{opening}
 use Rattle.lane_core.specs.Ideal.{ideal}
 use Rattle.lane_core.specs.Opening.{opening_lane}
 use Rattle.world_core.specs.World.{opening_lanes}
-use Rattle.world_core.proofs.OpeningWorld.{pages_for, next_lane}
+use Rattle.world_core.proofs.OpeningWorld.{pages_for, script_for, next_lane}
 use Rattle.world_core.proofs.world.World.new.Goals as goal
 
 pub loop-driver-init : goal.loop-driver-init
@@ -17,6 +17,10 @@ opening_memory-requires c =
 pub overflow_cast-id : goal.overflow_cast-id
 overflow_cast-id c =
     omega (arith, c.len.ensures, c.loop-driver.lanes.ok.0, c.loop-driver.invariant.0, c.loop-driver-test.true, ap length c.as_slice-driver-items.ensures, c.requires.few_drivers)
+
+pub new-requires-clause-script : goal.new-requires-clause-script
+new-requires-clause-script c =
+    script_for c.args.scenario.now c.as_slice-driver-items.result.now c.loop-driver.driver-index c.driver-item.result c.requires c.as_slice-driver-items.ensures c.loop-driver-test.true c.driver-item.is
 
 pub new-requires-clause-pages : goal.new-requires-clause-pages
 new-requires-clause-pages c =

@@ -1,0 +1,135 @@
+-- What an operation and an item are about, each told once.
+use Rattle.std.specs.Prelude.{ℕ, List, [], ◌∷◌, Option, Some, None, length, replicate, sum_by, ◌+◌, slice_get}
+use Rattle.std.specs.Option.{option_map, option_map_or}
+use Rattle.busdma_base.specs.declared.scenarios.script.Bytes.{Bytes}
+use Rattle.busdma_base.specs.declared.scenarios.script.Bytes.TheVariants as bytes
+use Rattle.busdma_base.specs.declared.scenarios.script.Item.{Item}
+use Rattle.busdma_base.specs.declared.scenarios.script.Item.TheVariants as item
+use Rattle.busdma_base.specs.declared.scenarios.script.Op.{Op}
+use Rattle.busdma_base.specs.declared.scenarios.script.Op.TheVariants as op
+use Rattle.busdma_base.specs.declared.scenarios.operations.NameKind.{NameKind}
+use Rattle.busdma_base.specs.declared.scenarios.operations.NameKind.TheVariants as kind
+use Rattle.busdma_base.specs.declared.scenarios.operations.UsedName.{UsedName}
+use Rattle.busdma_base.specs.declared.scenarios.operations.MadeName.{MadeName}
+use Rattle.busdma_base.specs.declared.scenarios.operations.Object.{Object as SeenObject}
+use Rattle.busdma_base.specs.declared.scenarios.operations.Object.TheVariants as seen
+use Rattle.busdma_base.specs.declared.scenarios.words.OpWord.{OpWord}
+use Rattle.busdma_base.specs.declared.scenarios.words.OpWord.TheVariants as op_word
+use Rattle.busdma_base.specs.declared.scenarios.words.ItemWord.{ItemWord}
+use Rattle.busdma_base.specs.declared.scenarios.words.ItemWord.TheVariants as item_word
+
+-- a name that an operation makes, and what it stands for
+pub record Made : Type 0 where
+  pub kind : NameKind
+  pub name : List ℕ
+
+-- what an operation is about: its word, the name that it makes, the names that it uses, its items,
+-- and how many bytes it loads, reads and writes
+pub record About : Type 0 where
+  pub word : OpWord
+  pub makes : Option Made
+  pub uses : List UsedName
+  pub items : List Item
+  pub loads : ℕ
+  pub reads : ℕ
+  pub writes : ℕ
+
+-- what an item is about: its word, the name that it uses, and how many bytes it reads and writes
+pub record AboutItem : Type 0 where
+  pub word : ItemWord
+  pub uses : UsedName
+  pub reads : ℕ
+  pub writes : ℕ
+
+-- the bytes that a write has
+abbrev pub bytes_of : Bytes → List ℕ
+bytes_of (bytes.Listed bs) = bs
+bytes_of (bytes.Filled b n) = replicate n b
+
+-- a tag that is made, and a map that is made
+abbrev pub new_tag : List ℕ → Option Made
+new_tag name = Some (record { kind = kind.Tag; name = name })
+
+abbrev pub new_map : List ℕ → Option Made
+new_map name = Some (record { kind = kind.Map; name = name })
+
+-- the tag, and the map, that was made at a place
+abbrev pub tag_at : ℕ → UsedName
+tag_at place = record { kind = kind.Tag; made_at = place }
+
+abbrev pub map_at : ℕ → UsedName
+map_at place = record { kind = kind.Map; made_at = place }
+
+-- a parent, where there is one
+abbrev pub parents : Option ℕ → List UsedName
+parents None = []
+parents (Some place) = tag_at place ∷ []
+
+-- an operation that makes and uses names and does nothing else
+abbrev pub with_names : OpWord → Option Made → List UsedName → About
+with_names word makes uses = record { word = word; makes = makes; uses = uses; items = []; loads = 0; reads = 0; writes = 0 }
+
+-- what each operation is about
+abbrev pub about : Op → About
+about (op.Tag name parent limits) = with_names op_word.Tag (new_tag name) (parents parent)
+about (op.TagDestroy tag) = with_names op_word.TagDestroy None (tag_at tag ∷ [])
+about (op.Map name tag) = with_names op_word.Map (new_map name) (tag_at tag ∷ [])
+about (op.MapDestroy map) = with_names op_word.MapDestroy None (map_at map ∷ [])
+about (op.Load map place len flags items) =
+    record (with_names op_word.Load None (map_at map ∷ [])) { items = items; loads = len }
+about (op.Unload map) = with_names op_word.Unload None (map_at map ∷ [])
+about (op.Sync map ops) = with_names op_word.Sync None (map_at map ∷ [])
+about (op.SyncRange map off len ops) = with_names op_word.SyncRange None (map_at map ∷ [])
+about (op.CpuRead place len) = record (with_names op_word.CpuRead None []) { reads = len }
+about (op.CpuWrite place bs) = record (with_names op_word.CpuWrite None []) { writes = length (bytes_of bs) }
+about (op.Await map) = with_names op_word.Await None (map_at map ∷ [])
+
+-- what each item is about
+abbrev pub about_item : Item → AboutItem
+about_item (item.Sync map ops) = record { word = item_word.Sync; uses = map_at map; reads = 0; writes = 0 }
+about_item (item.SyncRange map off len ops) =
+    record { word = item_word.SyncRange; uses = map_at map; reads = 0; writes = 0 }
+about_item (item.DevRead map off len) = record { word = item_word.DevRead; uses = map_at map; reads = len; writes = 0 }
+about_item (item.DevWrite map off bs) =
+    record { word = item_word.DevWrite; uses = map_at map; reads = 0; writes = length (bytes_of bs) }
+
+-- the items of an operation
+abbrev pub items_of : Op → List Item
+items_of o = (about o).items
+
+-- how many bytes an operation counts for the limit on all loads
+abbrev pub loaded_by : Op → ℕ
+loaded_by o = (about o).loads
+
+-- how many bytes an item reads
+abbrev pub read_by_item : Item → ℕ
+read_by_item i = (about_item i).reads
+
+-- how many bytes an operation and its items read
+abbrev pub read_by : Op → ℕ
+read_by o = (about o).reads + sum_by read_by_item (about o).items
+
+-- what a line of a journal names
+pub data Object : Type 0 where
+  Makes : Made → Object
+  Uses : UsedName → Object
+
+-- the first name that is used, if there is one
+abbrev pub first_used : List UsedName → Option Object
+first_used uses = option_map Uses (slice_get uses 0)
+
+-- the name that is made; else the first that is used; an access of the driver to its memory names nothing
+abbrev pub object_of : About → Option Object
+object_of a = option_map_or (λ made. Some (Makes made)) a.makes (first_used a.uses)
+
+-- the name that an operation makes, if it makes one
+abbrev pub name_made_by : Op → Option (List ℕ)
+name_made_by o = option_map (λ made. made.name) (about o).makes
+
+-- what borrowed names say
+abbrev pub made : MadeName → Made
+made m = record { kind = m.kind; name = m.name.now }
+
+abbrev pub object : SeenObject → Object
+object (seen.Makes m) = Makes (made m)
+object (seen.Uses u) = Uses u

@@ -1,0 +1,47 @@
+-- The words of operations and items, as scenarios and reports have them.
+use Rattle.std.specs.Prelude.{ℕ, List, [], ◌∷◌, Option, codes}
+use Rattle.std.specs.List.{find}
+use Rattle.std.specs.Str.{bytes_eq}
+use Rattle.busdma_base.specs.declared.scenarios.words.OpWord.{OpWord}
+use Rattle.busdma_base.specs.declared.scenarios.words.OpWord.TheVariants as op
+use Rattle.busdma_base.specs.declared.scenarios.words.ItemWord.{ItemWord}
+use Rattle.busdma_base.specs.declared.scenarios.words.ItemWord.TheVariants as item
+
+-- the text of an operation's word
+abbrev pub op_text : OpWord → List ℕ
+op_text op.Tag = codes "tag"
+op_text op.TagDestroy = codes "tag_destroy"
+op_text op.Map = codes "map"
+op_text op.MapDestroy = codes "map_destroy"
+op_text op.Load = codes "load"
+op_text op.Unload = codes "unload"
+op_text op.Sync = codes "sync"
+op_text op.SyncRange = codes "sync_range"
+op_text op.CpuRead = codes "cpu_read"
+op_text op.CpuWrite = codes "cpu_write"
+op_text op.Await = codes "await"
+
+-- the words of a script
+abbrev pub op_words : List OpWord
+op_words =
+    op.Tag ∷ op.TagDestroy ∷ op.Map ∷ op.MapDestroy ∷ op.Load ∷ op.Unload ∷ op.Sync ∷ op.SyncRange ∷ op.CpuRead
+    ∷ op.CpuWrite ∷ op.Await ∷ []
+
+-- the word of a script that has this text
+abbrev pub op_word_of : List ℕ → Option OpWord
+op_word_of text = find (λ w. bytes_eq (op_text w) text) op_words
+
+-- the text of an item's word
+abbrev pub item_text : ItemWord → List ℕ
+item_text item.Sync = codes "sync"
+item_text item.SyncRange = codes "sync_range"
+item_text item.DevRead = codes "dev_read"
+item_text item.DevWrite = codes "dev_write"
+
+-- the words of the items of a load
+abbrev pub item_words : List ItemWord
+item_words = item.Sync ∷ item.SyncRange ∷ item.DevRead ∷ item.DevWrite ∷ []
+
+-- the word of an item that has this text
+abbrev pub item_word_of : List ℕ → Option ItemWord
+item_word_of text = find (λ w. bytes_eq (item_text w) text) item_words

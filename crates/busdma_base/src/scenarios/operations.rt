@@ -1,0 +1,242 @@
+//! What an operation and an item are about, each told once.
+
+ghost use Rattle.std.specs.Prelude.{◌≡◌, [], Some, option_map, slice_get};
+ghost use Rattle.busdma_base.specs.Scenarios.Names as names;
+ghost use Rattle.busdma_base.specs.Scenarios.Operations as operations;
+
+use crate::name::Name;
+use crate::scenarios::{Item, ItemWord, Op, OpWord};
+
+/// What a name of a script stands for.
+#[derive(Clone, Copy, Debug, PartialEq, Eq)]
+pub enum NameKind {
+    Tag,
+    Map,
+}
+
+/// A name that an operation makes, and what it stands for.
+#[derive(Clone, Copy, Debug)]
+pub struct MadeName<'s> {
+    pub kind: NameKind,
+    pub name: &'s str,
+}
+
+/// A name that an operation or an item uses: what it stands for, and the place in the script of the
+/// operation that made it.
+#[derive(Clone, Copy, Debug, PartialEq, Eq)]
+pub struct UsedName {
+    pub kind: NameKind,
+    pub made_at: u32,
+}
+
+/// What an operation is about: its word, the name that it makes, the first name that it uses, and
+/// its items.
+#[derive(Clone, Copy, Debug)]
+pub struct OpAbout<'s> {
+    pub word: OpWord,
+    pub makes: Option<MadeName<'s>>,
+    pub uses: Option<UsedName>,
+    pub items: &'s [Item],
+}
+
+/// What an item is about: its word, and the name that it uses.
+#[derive(Clone, Copy, Debug, PartialEq, Eq)]
+pub struct ItemAbout {
+    pub word: ItemWord,
+    pub uses: UsedName,
+}
+
+/// What a line of a journal names.
+#[derive(Clone, Copy, Debug)]
+pub enum Object<'s> {
+    /// The name that its operation makes.
+    Makes(MadeName<'s>),
+    /// A name that its operation or its item uses.
+    Uses(UsedName),
+}
+
+fn made<'s>(kind: NameKind, name: &'s Name) -> Option<MadeName<'s>>
+    ensures { option_map operations.made result ≡ Some (record { kind = kind; name = name.now }) }
+{
+    Some(MadeName {
+        kind,
+        name: name.as_str(),
+    })
+}
+
+fn tag_at(made_at: u32) -> Option<UsedName>
+    ensures { result ≡ Some (operations.tag_at made_at) }
+{
+    Some(UsedName {
+        kind: NameKind::Tag,
+        made_at,
+    })
+}
+
+fn map_at(made_at: u32) -> Option<UsedName>
+    ensures { result ≡ Some (operations.map_at made_at) }
+{
+    Some(UsedName {
+        kind: NameKind::Map,
+        made_at,
+    })
+}
+
+fn parent_at(parent: Option<u32>) -> Option<UsedName>
+    ensures { result ≡ slice_get (operations.parents parent) 0 }
+{
+    match parent {
+        Some(made_at) => tag_at(made_at),
+        None => None,
+    }
+}
+
+impl<'s> OpAbout<'s> {
+    /// An operation that makes and uses names, and has no items.
+    fn with_names(word: OpWord, makes: Option<MadeName<'s>>, uses: Option<UsedName>) -> OpAbout<'s>
+        ensures word { result.word ≡ word }
+        ensures makes { option_map operations.made result.makes ≡ option_map operations.made makes.entry }
+        ensures uses { result.uses ≡ uses }
+        ensures items { result.items.now ≡ [] }
+    {
+        OpAbout {
+            word,
+            makes,
+            uses,
+            items: &[],
+        }
+    }
+}
+
+impl ItemAbout {
+    /// An item that uses the map that was made at a place.
+    fn of_map(word: ItemWord, made_at: u32) -> ItemAbout
+        ensures word { result.word ≡ word }
+        ensures uses { result.uses ≡ operations.map_at made_at }
+    {
+        ItemAbout {
+            word,
+            uses: UsedName {
+                kind: NameKind::Map,
+                made_at,
+            },
+        }
+    }
+}
+
+impl Op {
+    /// What the operation is about.
+    pub fn about(&self) -> OpAbout<'_>
+        ensures word { result.word ≡ (operations.about self.now).word }
+        ensures makes { option_map operations.made result.makes ≡ (operations.about self.now).makes }
+        ensures uses { result.uses ≡ slice_get (operations.about self.now).uses 0 }
+        ensures items { result.items.now ≡ operations.items_of self.now }
+    {
+        match self {
+            Op::Tag { name, parent, .. } => {
+                OpAbout::with_names(OpWord::Tag, made(NameKind::Tag, name), parent_at(*parent))
+            }
+            Op::TagDestroy { tag } => OpAbout::with_names(OpWord::TagDestroy, None, tag_at(*tag)),
+            Op::Map { name, tag } => {
+                OpAbout::with_names(OpWord::Map, made(NameKind::Map, name), tag_at(*tag))
+            }
+            Op::MapDestroy { map } => OpAbout::with_names(OpWord::MapDestroy, None, map_at(*map)),
+            Op::Load { map, then, .. } => OpAbout {
+                items: then.as_slice(),
+                ..OpAbout::with_names(OpWord::Load, None, map_at(*map))
+            },
+            Op::Unload { map } => OpAbout::with_names(OpWord::Unload, None, map_at(*map)),
+            Op::Sync { map, .. } => OpAbout::with_names(OpWord::Sync, None, map_at(*map)),
+            Op::SyncRange { map, .. } => OpAbout::with_names(OpWord::SyncRange, None, map_at(*map)),
+            Op::CpuRead { .. } => OpAbout::with_names(OpWord::CpuRead, None, None),
+            Op::CpuWrite { .. } => OpAbout::with_names(OpWord::CpuWrite, None, None),
+            Op::Await { map } => OpAbout::with_names(OpWord::Await, None, map_at(*map)),
+        }
+    }
+
+    /// The operation's word.
+    pub fn word(&self) -> OpWord
+        ensures { result ≡ (operations.about self.now).word }
+    {
+        self.about().word
+    }
+
+    /// The items of the operation, in the order of the device's work.
+    pub fn items(&self) -> &[Item]
+        ensures { result.now ≡ operations.items_of self.now }
+    {
+        self.about().items
+    }
+
+    /// The name that a line of a journal shows for the operation, or None for an access of the
+    /// driver to its memory.
+    pub fn object(&self) -> Option<Object<'_>>
+        ensures { option_map operations.object result ≡ operations.object_of (operations.about self.now) }
+    {
+        let about = self.about();
+        match (about.makes, about.uses) {
+            (Some(made), _) => Some(Object::Makes(made)),
+            (None, Some(used)) => Some(Object::Uses(used)),
+            (None, None) => None,
+        }
+    }
+
+    /// The name that the operation makes, or None where it makes none.
+    pub fn made_name(&self) -> Option<&str>
+        ensures { option_map (λ name. name.now) result ≡ operations.name_made_by self.now }
+    {
+        match self.about().makes {
+            Some(made) => Some(made.name),
+            None => None,
+        }
+    }
+
+    /// Whether the operation makes the name, whatever it stands for.
+    pub fn makes(&self, name: &str) -> bool
+        ensures { result ≡ names.makes name.now self.now }
+    {
+        match self.about().makes {
+            Some(made) => made.name == name,
+            None => false,
+        }
+    }
+
+    /// Whether the operation makes the name, as a thing of that kind.
+    pub fn makes_as(&self, kind: NameKind, name: &str) -> bool
+        ensures { result ≡ names.makes_as kind name.now self.now }
+    {
+        match self.about().makes {
+            Some(made) => made.kind == kind && made.name == name,
+            None => false,
+        }
+    }
+}
+
+impl Item {
+    /// What the item is about.
+    pub fn about(&self) -> ItemAbout
+        ensures word { result.word ≡ (operations.about_item self.now).word }
+        ensures uses { result.uses ≡ (operations.about_item self.now).uses }
+    {
+        match self {
+            Item::Sync { map, .. } => ItemAbout::of_map(ItemWord::Sync, *map),
+            Item::SyncRange { map, .. } => ItemAbout::of_map(ItemWord::SyncRange, *map),
+            Item::DevRead { map, .. } => ItemAbout::of_map(ItemWord::DevRead, *map),
+            Item::DevWrite { map, .. } => ItemAbout::of_map(ItemWord::DevWrite, *map),
+        }
+    }
+
+    /// The item's word.
+    pub fn word(&self) -> ItemWord
+        ensures { result ≡ (operations.about_item self.now).word }
+    {
+        self.about().word
+    }
+
+    /// The name that the item uses.
+    pub fn uses(&self) -> UsedName
+        ensures { result ≡ (operations.about_item self.now).uses }
+    {
+        self.about().uses
+    }
+}

@@ -1,0 +1,101 @@
+//! The words of operations and items.
+
+ghost use Rattle.std.specs.Prelude.{◌≡◌, Some};
+ghost use Rattle.busdma_base.specs.Scenarios.Words as words;
+
+/// What an operation of a script does.
+#[derive(Clone, Copy, Debug, PartialEq, Eq)]
+pub enum OpWord {
+    Tag,
+    TagDestroy,
+    Map,
+    MapDestroy,
+    Load,
+    Unload,
+    Sync,
+    SyncRange,
+    CpuRead,
+    CpuWrite,
+    Await,
+}
+
+/// What an item of a load does.
+#[derive(Clone, Copy, Debug, PartialEq, Eq)]
+pub enum ItemWord {
+    Sync,
+    SyncRange,
+    DevRead,
+    DevWrite,
+}
+
+const OP_WORDS: [OpWord; 11] = [
+    OpWord::Tag,
+    OpWord::TagDestroy,
+    OpWord::Map,
+    OpWord::MapDestroy,
+    OpWord::Load,
+    OpWord::Unload,
+    OpWord::Sync,
+    OpWord::SyncRange,
+    OpWord::CpuRead,
+    OpWord::CpuWrite,
+    OpWord::Await,
+];
+
+const ITEM_WORDS: [ItemWord; 4] = [
+    ItemWord::Sync,
+    ItemWord::SyncRange,
+    ItemWord::DevRead,
+    ItemWord::DevWrite,
+];
+
+impl OpWord {
+    /// The word as scenarios and reports have it.
+    pub fn text(self) -> &'static str
+        ensures text { result.now ≡ words.op_text self }
+        ensures read_again { words.op_word_of result.now ≡ Some self }
+    {
+        match self {
+            OpWord::Tag => "tag",
+            OpWord::TagDestroy => "tag_destroy",
+            OpWord::Map => "map",
+            OpWord::MapDestroy => "map_destroy",
+            OpWord::Load => "load",
+            OpWord::Unload => "unload",
+            OpWord::Sync => "sync",
+            OpWord::SyncRange => "sync_range",
+            OpWord::CpuRead => "cpu_read",
+            OpWord::CpuWrite => "cpu_write",
+            OpWord::Await => "await",
+        }
+    }
+
+    /// The word of an operation that has this text, or None where no operation has it.
+    pub fn from_text(text: &str) -> Option<OpWord>
+        ensures { result ≡ words.op_word_of text.now }
+    {
+        OP_WORDS.iter().copied().find(|word| word.text() == text)
+    }
+}
+
+impl ItemWord {
+    /// The word as scenarios and reports have it.
+    pub fn text(self) -> &'static str
+        ensures text { result.now ≡ words.item_text self }
+        ensures read_again { words.item_word_of result.now ≡ Some self }
+    {
+        match self {
+            ItemWord::Sync => "sync",
+            ItemWord::SyncRange => "sync_range",
+            ItemWord::DevRead => "dev_read",
+            ItemWord::DevWrite => "dev_write",
+        }
+    }
+
+    /// The word of an item that has this text, or None where no item has it.
+    pub fn from_text(text: &str) -> Option<ItemWord>
+        ensures { result ≡ words.item_word_of text.now }
+    {
+        ITEM_WORDS.iter().copied().find(|word| word.text() == text)
+    }
+}
