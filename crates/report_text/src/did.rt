@@ -39,7 +39,7 @@ fn map_name(scenario: &Scenario, map: MapId) -> &str
 }
 
 fn object_name<'s>(script: &'s [Op], object: Object<'s>) -> &'s str
-    ensures { result.now ≡ text.object_name script.now (operations.object object) }
+    ensures { result.now ≡ text.object_name script.now (operations.object object.entry) }
 {
     match object {
         Object::Makes(made) => made.name,
