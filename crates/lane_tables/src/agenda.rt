@@ -177,7 +177,7 @@ impl Agenda {
     }
 
     /// Promises so many further pages a place in the return queue.
-    pub fn promise(&mut self, _alloc: Global, pages: u32) -> Result<(), AllocError>
+    pub fn promise(&mut self, alloc: Global, pages: u32) -> Result<(), AllocError>
         requires { self.old.promised + pages < 2 ^ 32 }
         ensures ok { OnOk result (self.new ≡ record self.old { promised = self.old.promised + pages }) }
         ensures err { OnErr result (self.new ≡ self.old) }

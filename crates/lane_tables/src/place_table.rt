@@ -68,7 +68,7 @@ impl<T> PlaceTable<T> {
     }
 
     /// Makes room for one more value, where there is none; where there is some, it takes no memory.
-    pub fn reserve(&mut self, _alloc: Global) -> Result<(), AllocError>
+    pub fn reserve(&mut self, alloc: Global) -> Result<(), AllocError>
         ensures room { OnOk result (1 ≤ self.new.spare) }
         ensures succeeds { 1 ≤ self.old.spare → IsOk result }
         ensures kept { self.new ≡ record self.old { spare = self.new.spare } }

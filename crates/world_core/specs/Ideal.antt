@@ -2,7 +2,7 @@
 use Rattle.std.specs.Prelude.{List, map}
 use Rattle.busdma_base.specs.Bounce.Opening.{opening}
 use Rattle.lane_core.specs.Ideal.{ideal, wire_of}
-use Rattle.lane_core.specs.Wire.{Wire}
+use Rattle.busdma_base.specs.Machine.Wire.{Wire}
 use Rattle.world_core.specs.declared.world.World.{World}
 use Rattle.world_core.specs.declared.run.Progress.{Progress}
 use Rattle.world_core.specs.World.{WorldState}
