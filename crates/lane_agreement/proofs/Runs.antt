@@ -4,7 +4,7 @@ use Rattle.std.proofs.lemmas.Bool.{false≢true, eqb-true, le-leb, lt-leb, le-lt
 use Rattle.std.specs.List.{count_by, filter}
 use Rattle.busdma_base.specs.Bounce.MemoryRuns.{frames_for, follow, crosses_none, lowest_run, in_run}
 use Rattle.busdma_base.specs.Bounce.History.{IsRising}
-use Rattle.busdma_base.specs.Bounce.WorkedExample.{frames_from}
+use Rattle.busdma_base.specs.Bounce.MemoryRuns.{frames_from}
 use Rattle.lane_agreement.specs.OwnShare.{one_if}
 use Rattle.busdma_base.proofs.Accounts.Names.{and_left, and_right}
 use Rattle.lane_agreement.proofs.Own.{count-one}

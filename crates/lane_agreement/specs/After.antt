@@ -7,7 +7,7 @@ use Rattle.busdma_base.specs.declared.bounce.hold.HubReply.{HubReply}
 use Rattle.busdma_base.specs.declared.bounce.hold.HubReply.TheVariants.{Grown, Granted, Queued, Called, Run}
 use Rattle.busdma_base.specs.Tags.Tag.{could_bounce}
 use Rattle.busdma_base.specs.Tags.TagFlags.{allocnow}
-use Rattle.busdma_base.specs.Bounce.WorkedExample.{frames_from}
+use Rattle.busdma_base.specs.Bounce.MemoryRuns.{frames_from}
 use Rattle.lane_agreement.specs.View.{View, OwnMap, Return, Idle, Waiting, Loaded, Returning, staged, gone, with_mem, ended, given_back, zone_in}
 
 abbrev pub addresses : List Pa → List ℕ
