@@ -53,7 +53,9 @@ fn times_in_zones(map: MapId, zones: &[PlainZone]) -> u128
 fn times_waiting(map: MapId, wait: &[Waiter]) -> usize
     ensures { result ≡ count_by (λ w. same_map map w.map) wait.now }
 {
-    wait.iter().filter(|waiter| same_map(map, waiter.map)).count()
+    wait.iter()
+        .filter(|waiter| same_map(map, waiter.map))
+        .count()
 }
 
 /// How often a map waits for pages of zones.

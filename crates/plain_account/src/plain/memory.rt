@@ -7,7 +7,7 @@ ghost use Rattle.busdma_base.specs.Bounce.Account.{same_map};
 ghost use Rattle.busdma_base.specs.Bounce.AccountStep.{account_step};
 ghost use Rattle.busdma_base.specs.Bounce.MemoryRuns.{frames_for, follow, crosses_none, lowest_run, in_run, with_memory, put_in, put_all, frames_of, without_memory};
 
-use crate::plain::lists::{same_map, joined, small};
+use crate::plain::lists::{joined, same_map, small};
 use crate::plain::{PlainAccount, PlainMemory};
 use busdma_base::{HubReply, MapId, Pa, TagLimits};
 use std::alloc::{AllocError, Global};

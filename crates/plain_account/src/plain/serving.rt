@@ -7,7 +7,7 @@ ghost use Rattle.busdma_base.specs.Bounce.Account.{zone_at, with_zone, free};
 ghost use Rattle.busdma_base.specs.Bounce.AccountStep.{grabbed, released, called_from, as_pages};
 ghost use Rattle.busdma_base.specs.Bounce.Serving.{is_holding, handed, queued, returned, completed, left_waiting, served};
 
-use crate::plain::lists::{behind, first_of, same_map, joined, small};
+use crate::plain::lists::{behind, first_of, joined, same_map, small};
 use crate::plain::{PlainAccount, PlainHeld};
 use busdma_base::{HubReply, LaneId, ListOf, MapId, Pa, Waiter, ZoneId};
 use std::alloc::{AllocError, Global};
