@@ -22,7 +22,8 @@ pub record Edges : Type 0 where
   pub write_faults_after : ℕ
 
 -- the edges of a call, by what its source and its sink mean
-abbrev pub edges : {S K : Type 0} → (S → Option (List ℕ)) → (S → ℕ) → (K → Option (List ℕ)) → (K → ℕ) → S → S → K → K → Edges
+abbrev pub edges : {S K : Type 0} → (S → Option (List ℕ)) → (S → ℕ) → (K → Option (List ℕ)) → (K → ℕ)
+    → S → S → K → K → Edges
 edges left read_faults held write_faults s t k l = record {
   left = left s;
   left_after = left t;
@@ -42,15 +43,23 @@ ReadFailed e = Rose e.read_faults e.read_faults_after
 abbrev pub WriteFailed : Edges → Type 0
 WriteFailed e = Rose e.write_faults e.write_faults_after
 
--- nothing was read
+-- no read failed
+abbrev pub NoReadFailed : Edges → Type 0
+NoReadFailed e = e.read_faults_after ≡ e.read_faults
+
+-- no write failed
+abbrev pub NoWriteFailed : Edges → Type 0
+NoWriteFailed e = e.write_faults_after ≡ e.write_faults
+
+-- nothing was read, and no read failed
 pub record ReadNothing (e : Edges) : Type 0 where
   pub bytes : e.left_after ≡ e.left
-  pub faults : e.read_faults_after ≡ e.read_faults
+  pub faults : NoReadFailed e
 
--- nothing was written, nor tried
+-- nothing was written, and no write failed
 pub record WroteNothing (e : Edges) : Type 0 where
   pub bytes : e.held_after ≡ e.held
-  pub faults : e.write_faults_after ≡ e.write_faults
+  pub faults : NoWriteFailed e
 
 -- these bytes, which are not too many, were all that was left, and nothing is left
 pub record ReadAll (bytes : List ℕ) (e : Edges) : Type 0 where

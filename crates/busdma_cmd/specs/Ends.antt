@@ -2,6 +2,7 @@
 use Rattle.std.specs.Prelude.{◌≡◌, ℕ, ◌+◌, ◌≤◌, List, length, Option, Some, None, Result, Ok, Err}
 use Rattle.io_edge.specs.Faults.{Rose}
 use Rattle.io_edge.specs.Reading.{Takes, TakesAtMost, TakesAll}
+use Rattle.busdma_base.specs.Scenarios.Valid.{IsValid}
 use Rattle.busdma_base.specs.declared.scenarios.scenario.Scenario.{Scenario}
 use Rattle.busdma_base.specs.declared.journals.journal.Journal.{Journal}
 use Rattle.scenario_read.specs.declared.reading.Reading.TheVariants.{Good, Bad}
@@ -12,7 +13,7 @@ use Rattle.world_core.specs.Ends.{status}
 use Rattle.busdma_cmd.specs.declared.cause.Cause.{Cause}
 use Rattle.busdma_cmd.specs.declared.cause.Cause.TheVariants as cause
 use Rattle.busdma_cmd.specs.declared.outcome.Outcome.{Outcome}
-use Rattle.busdma_cmd.specs.Edges.{Edges, WriteFailed, WroteNothing, WroteAll, WrotePart, input_limit}
+use Rattle.busdma_cmd.specs.Edges.{Edges, WriteFailed, NoWriteFailed, WroteNothing, WroteAll, WrotePart, input_limit}
 
 -- P holds of all the bytes that were left, which are not too many, and nothing is left
 abbrev pub OfInput : Option (List ℕ) → Option (List ℕ) → (List ℕ → Type 0) → Type 0
@@ -20,35 +21,38 @@ OfInput left after P =
     (bytes : List ℕ) × TakesAll bytes left after × (length bytes ≤ input_limit) × P bytes
 
 -- why reading gave no scenario
-abbrev pub StopsReading : Option (List ℕ) → Option (List ℕ) → ℕ → ℕ → Cause → Type 0
-StopsReading left after before now (cause.Refused refusal) =
+abbrev pub StopsReading : Option (List ℕ) → Option (List ℕ) → Cause → Type 0
+StopsReading left after (cause.Refused refusal) =
     OfInput left after (λ bytes. scenario_of bytes ≡ Bad refusal)
-StopsReading left after before now cause.TooLong = Takes (input_limit + 1) left after
-StopsReading left after before now cause.OutOfMemory = TakesAtMost (input_limit + 1) left after
-StopsReading left after before now cause.ReadFailed =
-    Rose before now × TakesAtMost input_limit left after
-StopsReading left after before now (cause.WriteFailed journal) = ⊥
+StopsReading left after cause.TooLong = Takes (input_limit + 1) left after
+StopsReading left after cause.OutOfMemory = TakesAtMost (input_limit + 1) left after
+StopsReading left after cause.ReadFailed = TakesAtMost input_limit left after
+StopsReading left after (cause.WriteFailed journal) = ⊥
 
--- how reading a scenario ends, by what was left before it and after it, and how often the source
--- had failed
-abbrev pub Reads : Option (List ℕ) → Option (List ℕ) → ℕ → ℕ → Result Scenario Cause → Type 0
-Reads left after before now (Ok scenario) =
-    OfInput left after (λ bytes. scenario_of bytes ≡ Good scenario)
-Reads left after before now (Err why) = StopsReading left after before now why
+-- how reading a scenario ends, by what was left before it and after it
+abbrev pub Reads : Option (List ℕ) → Option (List ℕ) → Result Scenario Cause → Type 0
+Reads left after (Ok scenario) = OfInput left after (λ bytes. scenario_of bytes ≡ Good scenario)
+Reads left after (Err why) = StopsReading left after why
 
--- all the bytes were read, the journal is the one that their scenario's order replays, and this
--- was written of its report
+-- how often the source had failed before a call and after it: the count rose where a read that
+-- failed is the cause, and stayed otherwise
+abbrev pub CountsReads : {A : Type 0} → ℕ → ℕ → Result A Cause → Type 0
+CountsReads before now (Ok done) = now ≡ before
+CountsReads before now (Err cause.ReadFailed) = Rose before now
+CountsReads before now (Err why) = now ≡ before
+
+-- all the bytes were read, the journal is the one that the order of their scenario, a valid one,
+-- replays, and this was written of its report
 abbrev pub Replays : Edges → Journal → (List ℕ → Edges → Type 0) → Type 0
 Replays e journal Wrote = OfInput e.left e.left_after (λ bytes.
-    (scenario : Scenario) × (scenario_of bytes ≡ Good scenario) × IsReplayed scenario journal
-    × Wrote (report scenario journal) e)
+    (scenario : Scenario) × (scenario_of bytes ≡ Good scenario) × IsValid scenario
+    × IsReplayed scenario journal × Wrote (report scenario journal) e)
 
 -- how the whole replay ends
 abbrev pub EndsBy : Edges → Result Journal Cause → Type 0
-EndsBy e (Ok journal) = Replays e journal WroteAll
+EndsBy e (Ok journal) = NoWriteFailed e × Replays e journal WroteAll
 EndsBy e (Err (cause.WriteFailed journal)) = WriteFailed e × Replays e journal WrotePart
-EndsBy e (Err why) =
-    StopsReading e.left e.left_after e.read_faults e.read_faults_after why × WroteNothing e
+EndsBy e (Err why) = StopsReading e.left e.left_after why × WroteNothing e
 
 -- the outcome of a replay that ended so
 abbrev pub outcome : Result Journal Cause → Outcome

@@ -1,5 +1,6 @@
 -- How a call of the program ends, and why.
 use Rattle.std.specs.Prelude.{◌≡◌, ◌≢◌, ℕ, ◌+◌, ◌≤◌, ◌<◌, ◌⊎◌, ◌↔◌, List, length, Some, None, IsSome}
+use Rattle.busdma_base.specs.Scenarios.Valid.{IsValid}
 use Rattle.busdma_base.specs.declared.scenarios.scenario.Scenario.{Scenario}
 use Rattle.busdma_base.specs.declared.journals.journal.Journal.{Journal}
 use Rattle.json_fields.specs.declared.refusal.Refusal.{Refusal}
@@ -11,7 +12,8 @@ use Rattle.world_core.specs.Legal.{IsReplayed}
 use Rattle.world_core.specs.Ends.{status}
 use Rattle.busdma_cmd.specs.declared.outcome.Outcome.{Outcome}
 use Rattle.busdma_cmd.specs.Command.{command}
-use Rattle.busdma_cmd.specs.Edges.{Edges, ReadFailed, WriteFailed, ReadNothing, WroteNothing, ReadAll, ReadTooMany, ReadAtMost, WroteAll, WrotePart, input_limit}
+use Rattle.busdma_cmd.specs.Edges.{Edges, ReadFailed, NoReadFailed, ReadNothing, ReadAll, ReadTooMany, ReadAtMost, input_limit}
+use Rattle.busdma_cmd.specs.Edges.{WriteFailed, NoWriteFailed, WroteNothing, WroteAll, WrotePart}
 
 -- the statuses of a run that was done and written
 abbrev pub IsDone : ℕ → Type 0
@@ -25,14 +27,15 @@ HasJournal n = IsDone n ⊎ (n ≡ 73)
 abbrev pub IsStatus : ℕ → Type 0
 IsStatus n = IsDone n ⊎ ((n ≡ 64) ⊎ ((n ≡ 65) ⊎ ((n ≡ 66) ⊎ ((n ≡ 71) ⊎ ((n ≡ 73) ⊎ (n ≡ 74))))))
 
--- The run of a scenario that was read: all the bytes that were left are the scenario's, and the
--- journal of the outcome is the one that its order replays.
+-- The run of a scenario that was read: all the bytes that were left are the scenario's, the
+-- scenario is valid, and the journal of the outcome is the one that its order replays.
 pub record Ran (e : Edges) (o : Outcome) : Type 0 where
   pub bytes : List ℕ
   pub scenario : Scenario
   pub journal : Journal
   pub read : ReadAll bytes e
   pub good : scenario_of bytes ≡ Good scenario
+  pub valid : IsValid scenario
   pub kept : o.journal ≡ Some journal
   pub replayed : IsReplayed scenario journal
 
@@ -68,15 +71,19 @@ AnswersReading o (Bad r) = (o.status ≡ 65) × (o.fault ≡ Some r)
 -- where neither source nor sink failed, the outcome is that of the bytes that were left
 pub record IsComplete (e : Edges) (o : Outcome) : Type 0 where
   pub short : (input : List ℕ) → e.left ≡ Some input → length input ≤ input_limit
-      → (ReadFailed e → ⊥) → (WriteFailed e → ⊥) → OrNoMemory o (AnswersReading o (scenario_of input))
+      → (ReadFailed e → ⊥) → (WriteFailed e → ⊥)
+      → OrNoMemory o (AnswersReading o (scenario_of input))
   pub long : (input : List ℕ) → e.left ≡ Some input → input_limit < length input
       → (ReadFailed e → ⊥) → OrNoMemory o (o.status ≡ 66)
   pub refused : (input : List ℕ) (r : Refusal) → e.left ≡ Some input → length input ≤ input_limit
-      → scenario_of input ≡ Bad r → (ReadFailed e → ⊥) → OrNoMemory o ((o.status ≡ 65) × (o.fault ≡ Some r))
+      → scenario_of input ≡ Bad r → (ReadFailed e → ⊥)
+      → OrNoMemory o ((o.status ≡ 65) × (o.fault ≡ Some r))
 
 -- more bytes were given than the program reads
 abbrev pub GaveTooMany : Edges → Type 0
-GaveTooMany e = (input : List ℕ) × (rest : List ℕ) × (e.left ≡ Some input) × (e.left_after ≡ Some rest) × (length rest + input_limit < length input)
+GaveTooMany e =
+    (input : List ℕ) × (rest : List ℕ) × (e.left ≡ Some input) × (e.left_after ≡ Some rest)
+    × (length rest + input_limit < length input)
 
 -- What a call of the program with these words keeps. Words are judged before reading, reading is
 -- done before judging and judging before the work, and the whole report is made before the first
@@ -91,6 +98,8 @@ pub record Keeps (words : List (List ℕ)) (e : Edges) (o : Outcome) : Type 0 wh
   pub too_many : GaveTooMany e → OrNoMemory o (o.status ≡ 66)
   pub unwritten : o.status ≡ 73 → RanUnwritten e o
   pub unread : o.status ≡ 74 → ReadFailed e
+  pub no_read_failed : o.status ≢ 74 → NoReadFailed e
+  pub no_write_failed : o.status ≢ 73 → NoWriteFailed e
   pub nothing : HasJournal o.status ⊎ WroteNothing e
   pub journal : IsSome o.journal ↔ HasJournal o.status
   pub fault : IsSome o.fault ↔ (o.status ≡ 65)

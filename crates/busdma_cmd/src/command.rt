@@ -4,7 +4,7 @@ ghost use Rattle.std.specs.Prelude.{◌≡◌, IfOk, map, string_bytes};
 ghost use Rattle.busdma_base.specs.Scenarios.Valid.{IsValid};
 ghost use Rattle.busdma_cmd.specs.Edges.{edges};
 ghost use Rattle.busdma_cmd.specs.Outcome.{Keeps};
-ghost use Rattle.busdma_cmd.specs.Ends.{Reads, EndsBy, outcome};
+ghost use Rattle.busdma_cmd.specs.Ends.{Reads, CountsReads, EndsBy, outcome};
 
 use crate::cause::Cause;
 use crate::outcome::Outcome;
@@ -21,7 +21,8 @@ const INPUT_LIMIT: usize = 16_777_216;
 
 /// The scenario that all of the source is.
 fn read_scenario<S: Source>(alloc: Global, source: &mut S) -> Result<Scenario, Cause>
-    ensures reads { Reads (S.left source.old) (S.left source.new) (S.faults source.old) (S.faults source.new) result }
+    ensures reads { Reads (S.left source.old) (S.left source.new) result }
+    ensures faults { CountsReads (S.faults source.old) (S.faults source.new) result }
     ensures valid { IfOk result IsValid }
 {
     match read_up_to(alloc, source, INPUT_LIMIT)? {
@@ -40,7 +41,10 @@ fn replay_input<S: Source, K: Sink>(
     source: &mut S,
     sink: &mut K,
 ) -> Result<Journal, Cause>
-    ensures { EndsBy (edges S.left S.faults K.held K.faults source.old source.new sink.old sink.new) result }
+    ensures ends { EndsBy
+        (edges S.left S.faults K.held K.faults source.old source.new sink.old sink.new)
+        result }
+    ensures faults { CountsReads (S.faults source.old) (S.faults source.new) result }
 {
     let scenario = read_scenario(alloc, source)?;
     let journal = replay(alloc, &scenario)?;
@@ -77,7 +81,9 @@ pub fn plain_command<S: Source, K: Sink>(
     source: &mut S,
     sink: &mut K,
 ) -> Outcome
-    ensures { Keeps (map string_bytes words.now) (edges S.left S.faults K.held K.faults source.old source.new sink.old sink.new) result }
+    ensures { Keeps (map string_bytes words.now)
+        (edges S.left S.faults K.held K.faults source.old source.new sink.old sink.new)
+        result }
 {
     match command_of(words) {
         Some(Command::Replay) => outcome_of(replay_input(alloc, source, sink)),

@@ -21,7 +21,9 @@ pub fn top<R: Threads + Wait + Sync, S: Source, K: Sink, G: Gate + Sync>(
     sink: &mut K,
     _gate: &G,
 ) -> Outcome
-    ensures { Keeps (map string_bytes words.now) (edges S.left S.faults K.held K.faults source.old source.new sink.old sink.new) result }
+    ensures { Keeps (map string_bytes words.now)
+        (edges S.left S.faults K.held K.faults source.old source.new sink.old sink.new)
+        result }
 {
     plain_command(alloc, words, source, sink)
 }
