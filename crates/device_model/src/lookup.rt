@@ -1,0 +1,24 @@
+//! Which page has a frame.
+
+ghost use Rattle.std.specs.Prelude.{◌≡◌, ◌<◌, ◌==◌, true, length, slice_index};
+ghost use Rattle.std.specs.List.{list_any};
+ghost use Rattle.busdma_base.specs.Machine.PageList.{frames_of};
+
+use busdma_base::Page;
+
+/// The place of the page of a frame. It is looked for at `near` first, where the pages of a load's
+/// next bytes mostly are.
+pub(crate) fn page_of(pages: &[Page], frame: u64, near: usize) -> usize
+    requires { list_any (λ f. frame == f) (frames_of pages.now) ≡ true }
+    ensures inside { result < length pages.now }
+    ensures frame { slice_index (frames_of pages.now) result ≡ frame }
+{
+    if near < pages.len() && pages[near].frame() == frame {
+        return near;
+    }
+    let mut place = 0;
+    while pages[place].frame() != frame {
+        place += 1;
+    }
+    place
+}
