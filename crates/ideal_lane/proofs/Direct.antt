@@ -1,0 +1,69 @@
+-- Where nothing can bounce, no chunk does.
+use Rattle.std.proofs.Common.{◌≡◌, ℕ, zero, suc, ◌+◌, ◌||◌, not, Bool, true, false, cond, List, [], ◌∷◌, ◌++◌, length}
+use Rattle.std.proofs.Common.{refl, ap, sym, ◌∙◌, arith, take, drop, Some, None}
+use Rattle.std.proofs.lemmas.Bool.Decides.{nat_tests}
+use Rattle.std.specs.FinMap.{get, contains_key}
+use Rattle.busdma_base.specs.declared.machine.chunk.Chunk.{Chunk}
+use Rattle.busdma_base.specs.declared.machine.chunk.Entry.{Entry}
+use Rattle.busdma_base.specs.declared.tags.tag.TagLimits.{TagLimits}
+use Rattle.busdma_base.specs.Machine.Entry.{entry_addresses}
+use Rattle.busdma_base.specs.Runs.{byte_count}
+use Rattle.busdma_base.specs.Tags.Tag.{could_bounce}
+use Rattle.segment_build.specs.Chunks.{chunk_limit, chunk_of, chunks_within, chunks_of_bytes, chunks_from, bounced_of}
+use Rattle.segment_build.specs.Chunks.{need_of}
+use Rattle.ideal_lane.specs.State.{LaneState, LaneTag, LaneMap}
+use Rattle.ideal_lane.specs.Standing.{StandsAt}
+use Rattle.ideal_lane.specs.Loads.{limits_of, chunks_for, one_entry}
+
+module _ (t : TagLimits) (maxmem : ℕ) (never : could_bounce t maxmem ≡ false) where
+  unbounced : (at : ℕ) (bytes : List ℕ) → (chunk_of t maxmem at bytes).bounced ≡ false
+  unbounced at bytes = rw never refl
+
+  within : (n : ℕ) (rounded : Bool) (at : ℕ) (bytes : List ℕ) →
+      bounced_of (chunks_within n t maxmem rounded at bytes) ≡ []
+  within zero rounded at bytes = refl
+  within (suc n) rounded at [] = refl
+  within (suc n) rounded at (a ∷ bs) =
+      let most = chunk_limit t maxmem rounded a in
+      rw (unbounced at (take most (a ∷ bs))) (within n rounded (at + most) (drop most (a ∷ bs)))
+
+  none_of : (xs ys : List Chunk) → bounced_of xs ≡ [] → bounced_of ys ≡ [] → bounced_of (xs ++ ys) ≡ []
+  none_of [] ys h k = k
+  none_of (x ∷ xs) ys h k = by x.bounced h (λ g. none_of xs ys g k)
+    where
+      by : (b : Bool) → cond b (x ∷ bounced_of xs) (bounced_of xs) ≡ [] →
+          (bounced_of xs ≡ [] → bounced_of (xs ++ ys) ≡ []) →
+          cond b (x ∷ bounced_of (xs ++ ys)) (bounced_of (xs ++ ys)) ≡ []
+      by true h rest = absurd (cc)
+      by false h rest = rest h
+
+  from : (at : ℕ) (es : List Entry) → bounced_of (chunks_from t maxmem at es) ≡ []
+  from at [] = refl
+  from at (e ∷ es) =
+      none_of (chunks_of_bytes t maxmem e.rounded at (entry_addresses e))
+      (chunks_from t maxmem (at + byte_count e.parts) es)
+      (within (length (entry_addresses e)) e.rounded at (entry_addresses e)) (from (at + byte_count e.parts) es)
+
+-- where the end of memory is 0 and no alignment is asked, nothing can bounce
+nowhere : (t : TagLimits) → could_bounce (record t { alignment = 1 }) 0 ≡ false
+nowhere t = grind (arith, nat_tests)
+
+limits-are : (l : LaneState) (o : LaneMap) (t : LaneTag) → get l.tags o.tag ≡ Some t → limits_of l o ≡ t.limits
+limits-are l o t e = rw e refl
+
+-- a map without zone needs no page
+pub need-direct : (l : LaneState) (k : ℕ) (o : LaneMap) (es : List Entry) →
+    StandsAt l.maxmem l.tags l.mems k o → o.zone ≡ None →
+    need_of (chunks_for l o (contains_key l.mems k) es) ≡ 0
+need-direct l k o es s zone = by (contains_key l.mems k) (s.direct zone)
+  where
+    never : (b : Bool) → not b ≡ true → b ≡ false
+    never true h = sym h
+    never false h = refl
+
+    by : (b : Bool) → (b || not (could_bounce s.tag.limits l.maxmem)) ≡ true → need_of (chunks_for l o b es) ≡ 0
+    by true h =
+        ap length (from (record (limits_of l o) { alignment = 1 }) 0 (nowhere (limits_of l o)) 0 (one_entry es))
+    by false h =
+        ap length (from (limits_of l o) l.maxmem (ap (λ t. could_bounce t l.maxmem) (limits-are l o s.tag s.there)
+        ∙ never (could_bounce s.tag.limits l.maxmem) h) 0 es)

@@ -1,0 +1,10 @@
+pub mod Direct
+pub mod Falling
+pub mod Keeping
+pub mod Lookups
+pub mod Needs
+pub mod Openings
+pub mod Standings
+pub mod Turning
+pub mod Views
+pub mod Weights

@@ -1,0 +1,130 @@
+-- A load needs no more pages than it has bytes.
+use Rattle.std.proofs.Common.{◌≡◌, ℕ, zero, suc, ◌+◌, ◌≤◌, ◌==◌, Bool, true, false, cond, if◌then◌else◌, List, [], ◌∷◌}
+use Rattle.std.proofs.Common.{length, refl, arith, drop, Option, Some, None, ◌%◌}
+use Rattle.std.proofs.lemmas.List.{length-append}
+use Rattle.std.proofs.lemmas.List.Sums.{sum_by-cons}
+use Rattle.busdma_base.specs.declared.machine.chunk.Chunk.{Chunk}
+use Rattle.busdma_base.specs.declared.machine.chunk.Entry.{Entry}
+use Rattle.busdma_base.specs.declared.machine.address.Extent.{Extent}
+use Rattle.busdma_base.specs.declared.machine.address.Span.{Span}
+use Rattle.busdma_base.specs.declared.tags.tag.TagLimits.{TagLimits}
+use Rattle.busdma_base.specs.Machine.Entry.{entry_addresses, entries_addresses}
+use Rattle.busdma_base.specs.Machine.Spans.{span_bytes}
+use Rattle.busdma_base.specs.Runs.{addresses, byte_count, run_of}
+use Rattle.phys_memory.specs.Extents.{extents_of, with_byte, reached, then_reached}
+use Rattle.phys_memory.specs.Translation.{Translation}
+use Rattle.phys_memory.specs.Vector.{entries_of, with_entry}
+use Rattle.segment_build.specs.Chunks.{chunk_limit, chunks_within, chunks_of_bytes, chunks_from, chunks_of, bounced_of}
+use Rattle.segment_build.specs.Chunks.{need_of}
+use Rattle.ideal_lane.specs.State.{LaneState, LaneMap}
+use Rattle.ideal_lane.specs.Loads.{limits_of, chunks_for, one_entry}
+
+few-bounced : (cs : List Chunk) → length (bounced_of cs) ≤ length cs
+few-bounced [] = omega arith
+few-bounced (c ∷ cs) =
+    elim c.bounced as (λ b. length (cond b (c ∷ bounced_of cs) (bounced_of cs)) ≤ suc (length cs))
+    [ true ↦ omega (arith, few-bounced cs) | false ↦ omega (arith, few-bounced cs) ]
+
+few-within : (n : ℕ) (t : TagLimits) (maxmem : ℕ) (rounded : Bool) (at : ℕ) (bytes : List ℕ) →
+    length (chunks_within n t maxmem rounded at bytes) ≤ n
+few-within zero t maxmem rounded at bytes = omega arith
+few-within (suc n) t maxmem rounded at [] = omega arith
+few-within (suc n) t maxmem rounded at (a ∷ bs) =
+    let most = chunk_limit t maxmem rounded a in
+    omega (arith, few-within n t maxmem rounded (at + most) (drop most (a ∷ bs)))
+
+few-from : (t : TagLimits) (maxmem at : ℕ) (es : List Entry) →
+    length (chunks_from t maxmem at es) ≤ length (entries_addresses es)
+few-from t maxmem at [] = omega arith
+few-from t maxmem at (e ∷ es) =
+    omega (
+      arith,
+      few-within (length (entry_addresses e)) t maxmem e.rounded at (entry_addresses e),
+      few-from t maxmem (at + byte_count e.parts) es,
+      length-append (chunks_of_bytes t maxmem e.rounded at (entry_addresses e))
+          (chunks_from t maxmem (at + byte_count e.parts) es),
+      length-append (entry_addresses e) (entries_addresses es),
+    )
+
+-- ---- how many bytes entries have
+
+run-length : (a n : ℕ) → length (run_of a n) ≡ n
+run-length a zero = refl
+run-length a (suc n) = omega (arith, run-length (a + 1) n)
+
+byte-length : (pa : ℕ) (es : List Extent) → length (addresses (with_byte pa es)) ≤ 1 + length (addresses es)
+byte-length pa [] = omega arith
+byte-length pa (e ∷ es) = by (e.pa.0 % 4096 == 0)
+  where
+    by : (b : Bool) →
+        length
+        (addresses (cond b (record { pa = record { 0 = pa }; len = 1 } ∷ e ∷ es)
+        (record { pa = record { 0 = pa }; len = 1 + e.len } ∷ es))) ≤ 1 + length (addresses (e ∷ es))
+    by true =
+        let all : length (addresses (record { pa = record { 0 = pa }; len = 1 } ∷ e ∷ es))
+        ≡ suc (length (addresses (e ∷ es))) = refl in
+        omega (arith, all)
+    by false =
+        let all : length (addresses (record { pa = record { 0 = pa }; len = 1 + e.len } ∷ es))
+        ≡ length (run_of pa (1 + e.len)) + length (addresses es) =
+        length-append (run_of pa (1 + e.len)) (addresses es) in
+        let old : length (addresses (e ∷ es)) ≡ length (run_of e.pa.0 e.len) + length (addresses es) =
+        length-append (run_of e.pa.0 e.len) (addresses es) in
+        omega (arith, all, old, run-length pa (1 + e.len), run-length e.pa.0 e.len)
+
+extents-length : (pas : List ℕ) → length (addresses (extents_of pas)) ≤ length pas
+extents-length [] = omega arith
+extents-length (pa ∷ pas) = omega (arith, byte-length pa (extents_of pas), extents-length pas)
+
+entry-length : (rounded : Bool) (pas : List ℕ) (es : List Entry) →
+    length (entries_addresses (with_entry rounded pas es)) ≤ length pas + length (entries_addresses es)
+entry-length rounded [] es = omega arith
+entry-length rounded (pa ∷ pas) es =
+    omega (arith, length-append (addresses (extents_of (pa ∷ pas))) (entries_addresses es), extents-length (pa ∷ pas))
+
+reached-length : (t : Translation) (va n : ℕ) → length (reached t va n) ≤ n
+reached-length t va zero = omega arith
+reached-length t va (suc n) = by (t va) (reached-length t (va + 1) n)
+  where
+    by : (x : Option ℕ) → length (reached t (va + 1) n) ≤ n → length (then_reached x (reached t (va + 1) n)) ≤ suc n
+    by None h = omega arith
+    by (Some pa) h = omega (arith, h)
+
+pub entries-length : (rounded : Bool) (t : Translation) (spans : List Span) →
+    length (entries_addresses (entries_of rounded t spans)) ≤ span_bytes spans
+entries-length rounded t [] = omega arith
+entries-length rounded t (s ∷ ss) = by (length (reached t s.va.0 s.len) == s.len) (entries-length rounded t ss)
+  where
+    by : (b : Bool) → length (entries_addresses (entries_of rounded t ss)) ≤ span_bytes ss →
+        length
+        (entries_addresses (with_entry rounded (reached t s.va.0 s.len) (if b then entries_of rounded t ss
+        else []))) ≤ span_bytes (s ∷ ss)
+    by true h =
+        omega (
+          arith,
+          h,
+          entry-length rounded (reached t s.va.0 s.len) (entries_of rounded t ss),
+          reached-length t s.va.0 s.len,
+          sum_by-cons (λ (x : Span). x.len) s ss,
+        )
+    by false h =
+        omega (
+          arith,
+          entry-length rounded (reached t s.va.0 s.len) [],
+          reached-length t s.va.0 s.len,
+          sum_by-cons (λ (x : Span). x.len) s ss,
+        )
+
+-- the chunks of a load of a map need at most as many pages as the load's entries have bytes
+pub need-few : (l : LaneState) (o : LaneMap) (memory : Bool) (es : List Entry) →
+    need_of (chunks_for l o memory es) ≤ length (entries_addresses es)
+need-few l o true es =
+    let t : TagLimits = record (limits_of l o) { alignment = 1 } in
+    omega (
+      arith,
+      few-bounced (chunks_of t 0 (one_entry es)),
+      few-from t 0 0 (one_entry es),
+      entry-length true (entries_addresses es) [],
+    )
+need-few l o false es =
+    omega (arith, few-bounced (chunks_of (limits_of l o) l.maxmem es), few-from (limits_of l o) l.maxmem 0 es)

@@ -1,0 +1,5 @@
+use Rattle.ideal_lane.proofs.Standings.{turn-stands}
+use Rattle.ideal_lane.proofs.laws.step_keeps_standing.Goals as goal
+
+pub returns : goal.returns
+returns c = turn-stands

@@ -1,0 +1,25 @@
+-- A step as a value: it gives what it makes at once, or it makes one call under the bounce lock and goes on with the
+-- reply. So a step without a call neither reads nor changes what all drivers share.
+use Rattle.std.specs.Prelude.{Option, Some, None}
+use Rattle.busdma_base.specs.declared.bounce.hold.HubCall.{HubCall}
+use Rattle.busdma_base.specs.declared.bounce.hold.HubReply.{HubReply}
+
+pub data Asking (X : Type 0) : Type 0 where
+  Gives : X → Asking X
+  Asks : HubCall → (HubReply → X) → Asking X
+
+module _ {X : Type 0} where
+  -- the call that a step makes, if any
+  abbrev pub call_of : Asking X → Option HubCall
+  call_of (Gives x) = None
+  call_of (Asks c k) = Some c
+
+  -- what is given at last, where this is the reply to a call
+  abbrev pub by_reply : Asking X → HubReply → X
+  by_reply (Gives x) r = x
+  by_reply (Asks c k) r = k r
+
+-- what is given at last, made into another thing
+abbrev pub goes_on : {X Y : Type 0} → (X → Y) → Asking X → Asking Y
+goes_on f (Gives x) = Gives (f x)
+goes_on f (Asks c k) = Asks c (λ r. f (k r))

@@ -1,0 +1,177 @@
+-- Loads: what they name, how they are cut, and how they end. After bus_dmamap_load(9) and the x86 bounce code.
+use Rattle.std.specs.Prelude.{ℕ, ◌+◌, ◌==◌, Bool, true, false, not, List, [], ◌∷◌, ◌++◌, length, Option, Some, None}
+use Rattle.std.specs.Prelude.{if◌then◌else◌, nat_le, nat_lt, unwrap_or}
+use Rattle.std.specs.FinMap.{get, insert, contains_key}
+use Rattle.std.specs.List.{enumerate_from}
+use Rattle.std.specs.Option.{option_map}
+use Rattle.busdma_base.specs.declared.bounce.hold.HubCall.TheVariants.{Grab}
+use Rattle.busdma_base.specs.declared.bounce.hold.HubReply.{HubReply}
+use Rattle.busdma_base.specs.declared.bounce.hold.HubReply.TheVariants as reply
+use Rattle.busdma_base.specs.declared.journals.answer.Answer.{Answer}
+use Rattle.busdma_base.specs.declared.journals.answer.Answer.TheVariants.{Segments, InProgress, Refused}
+use Rattle.busdma_base.specs.declared.journals.report.Errno.TheVariants.{EINVAL, ENOMEM, EFBIG}
+use Rattle.busdma_base.specs.declared.journals.report.Judged.{Judged}
+use Rattle.busdma_base.specs.declared.journals.report.ReportName.{ReportName}
+use Rattle.busdma_base.specs.declared.journals.report.ReportName.TheVariants.{Unmapped, ForeignMemory}
+use Rattle.busdma_base.specs.declared.machine.address.Segment.{Segment}
+use Rattle.busdma_base.specs.declared.machine.address.Span.{Span}
+use Rattle.busdma_base.specs.declared.machine.chunk.Chunk.{Chunk}
+use Rattle.busdma_base.specs.declared.machine.chunk.Entry.{Entry}
+use Rattle.busdma_base.specs.declared.scenarios.script.Item.{Item}
+use Rattle.busdma_base.specs.declared.tags.tag.TagLimits.{TagLimits}
+use Rattle.busdma_base.specs.Bounce.AccountStep.{as_pages}
+use Rattle.busdma_base.specs.Journals.Judging.{judged}
+use Rattle.busdma_base.specs.Machine.Entry.{entries_addresses}
+use Rattle.busdma_base.specs.Machine.Spans.{span_addresses, span_bytes}
+use Rattle.lane_agreement.specs.View.{queued_back}
+use Rattle.lane_agreement.specs.After.{addresses}
+use Rattle.lane_tables.specs.Queues.{queued}
+use Rattle.loan_table.specs.Loans.{new_loan}
+use Rattle.phys_memory.specs.Vector.{entries_of, with_entry}
+use Rattle.segment_build.specs.Building.{tag_placed, placed_pieces}
+use Rattle.segment_build.specs.Chunks.{chunks_of, bounced_of, need_of}
+use Rattle.segment_build.specs.Segmentation.{segmentation}
+use Rattle.ideal_lane.specs.State.{LaneState, LaneTag, LaneMap, LaneMemory, Stage, Idle, Waiting, Loaded, Returning}
+use Rattle.ideal_lane.specs.State.{named}
+use Rattle.ideal_lane.specs.Asking.{Asking, Gives, Asks}
+use Rattle.ideal_lane.specs.Outcomes.{Outcome, unless_busy, unless_refused}
+use Rattle.ideal_lane.specs.Places.{physical, is_memory_byte, begin_of}
+
+-- What a load names
+
+-- what a load asks: the judgement of its bytes, its entries and how many bytes it has, whether it must not wait, and
+-- the items that its callback appends
+pub record Asked : Type 0 where
+  pub judged : Judged
+  pub entries : List Entry
+  pub len : ℕ
+  pub nowait : Bool
+  pub items : List Item
+
+-- a byte at a place of a load of a map, and its virtual address, is memory that is not the map's to load: of a memory
+-- where the map is not a memory's own; or, where it is, not that memory's byte at this place
+abbrev pub is_foreign_to : Option LaneMemory → LaneState → ℕ → ℕ → Bool
+is_foreign_to None l at va = is_memory_byte l va
+is_foreign_to (Some x) l at va = not (va == begin_of x + at)
+
+-- what stands in the way of a byte of a load of a map
+abbrev pub load_refusal : Bool → Option ℕ → Option ReportName
+load_refusal foreign None = Some Unmapped
+load_refusal foreign (Some pa) = if foreign then Some ForeignMemory else None
+
+-- the bytes of a load of a map, by their virtual addresses in order
+abbrev pub load_judged : LaneState → ℕ → List ℕ → Judged
+load_judged l m vas =
+    judged (λ b. load_refusal (is_foreign_to (get l.mems m) l b.0 b.1) (physical l b.1)) 0 (enumerate_from 0 vas)
+
+-- a load of spans
+abbrev pub asked : ℕ → List Span → Bool → List Item → LaneState → Asked
+asked m spans nowait items l = record {
+  judged = load_judged l m (span_addresses spans);
+  entries = entries_of true (physical l) spans;
+  len = span_bytes spans;
+  nowait = nowait;
+  items = items;
+}
+
+-- How it is cut
+
+-- what stands for the limits of a tag that does not exist
+abbrev pub no_limits : TagLimits
+no_limits = record {
+  alignment = 1;
+  boundary = 0;
+  lowaddr = record { 0 = 0 };
+  highaddr = record { 0 = 0 };
+  maxsize = 0;
+  nsegments = 0;
+  maxsegsz = 1;
+  flags = 0;
+}
+
+-- the limits of a map's tag, which lives as long as the map does
+abbrev pub limits_of : LaneState → LaneMap → TagLimits
+limits_of l o = unwrap_or (option_map (λ (t : LaneTag). t.limits) (get l.tags o.tag)) no_limits
+
+-- the bytes of a memory's load are one rounded entry, however many entries name them
+abbrev pub one_entry : List Entry → List Entry
+one_entry es = with_entry true (entries_addresses es) []
+
+-- the chunks of a load of a map. A map of a tag that could not bounce, and the map of a memory, have no zone: in their
+-- loads no byte is excluded and none is out of its alignment.
+abbrev pub chunks_for : LaneState → LaneMap → Bool → List Entry → List Chunk
+chunks_for l o memory es =
+    if memory then chunks_of (record (limits_of l o) { alignment = 1 }) 0 (one_entry es)
+    else chunks_of (limits_of l o) l.maxmem es
+
+-- How it ends
+
+-- the map with another stage, of which a load has called or stored a callback
+abbrev pub staged : ℕ → LaneMap → Stage → LaneState → LaneState
+staged m o s l = record l { maps = insert l.maps m (record o { tried = true; stage = s }) }
+
+-- a load is over that was refused
+abbrev pub ended : ℕ → LaneMap → Answer → LaneState → Outcome
+ended m o a l = record { lane = staged m o Idle l; answer = a }
+
+-- the map is coherent: it is that of a coherent memory
+abbrev pub is_coherent : Option LaneMemory → Bool
+is_coherent None = false
+is_coherent (Some x) = x.coherent
+
+-- the map is loaded with these chunks in these pages and lends nothing, and its callback has appended the items of the
+-- load, which stands at a place of the script
+abbrev pub loaded : ℕ → LaneMap → ℕ → Asked → List Chunk → List Segment → List ℕ → LaneState → LaneState
+loaded m o load_at x placed segments pages l = record (staged m o (Loaded (bounced_of placed) segments pages) l) {
+  loans = insert l.loans m (new_loan (is_coherent (get l.mems m)) (entries_addresses x.entries));
+  queue = l.queue ++ queued load_at x.items;
+}
+
+-- where a map stands whose pages are on their way back
+abbrev pub emptied : List ℕ → Stage
+emptied [] = Idle
+emptied (p ∷ ps) = Returning
+
+-- the zone of a map, or 0 where it has none and so no pages
+abbrev pub zone_of : LaneMap → ℕ
+zone_of o = unwrap_or o.zone 0
+
+-- the pages of a map leave it for the return queue
+abbrev pub unpaged : ℕ → LaneMap → List ℕ → LaneState → LaneState
+unpaged m o pages l = record (staged m o (emptied pages) l) { returns = l.returns ++ queued_back m (zone_of o) pages }
+
+-- a load that has its pages ends with the segments of its chunks, or with EFBIG where they are more than the tag
+-- allows
+abbrev pub finished : ℕ → LaneMap → ℕ → Asked → List Chunk → List ℕ → LaneState → Outcome
+finished m o load_at x chunks pages l =
+    let t : TagLimits = limits_of l o in
+    let segments : List Segment = segmentation t (placed_pieces t chunks (as_pages pages)) in
+    if nat_le (length segments) t.nsegments
+    then record {
+      lane = loaded m o load_at x (tag_placed t chunks (as_pages pages)) segments pages l;
+      answer = Segments segments;
+    }
+    else record { lane = unpaged m o pages l; answer = Refused EFBIG }
+
+-- the reply to a load's wish for pages: it gets them, or waits, or is refused
+abbrev pub granted : ℕ → LaneMap → Asked → List Chunk → LaneState → HubReply → Outcome
+granted m o x chunks l (reply.Granted pages) = finished m o l.place x chunks (addresses pages) l
+granted m o x chunks l (reply.Queued have) = record {
+  lane = staged m o (Waiting l.place (need_of chunks)) l;
+  answer = InProgress have (need_of chunks);
+}
+granted m o x chunks l _ = ended m o (Refused ENOMEM) l
+
+-- a load of these chunks, which need bounce pages or do not
+abbrev pub load_chunks : ℕ → LaneMap → Asked → List Chunk → LaneState → Asking Outcome
+load_chunks m o x chunks l =
+    if need_of chunks == 0 then Gives (finished m o l.place x chunks [] l)
+    else Asks (Grab (named l m) (record { 0 = zone_of o }) (need_of chunks) x.nowait) (granted m o x chunks l)
+
+-- a load: after its map and its bytes its length is judged, then pages are wanted, then its segments are counted
+abbrev pub load : ℕ → Asked → LaneState → Asking Outcome
+load m x l =
+    unless_busy m l (λ o.
+    unless_refused x.judged l (
+    if nat_lt (limits_of l o).maxsize x.len then Gives (ended m o (Refused EINVAL) l)
+    else load_chunks m o x (chunks_for l o (contains_key l.mems m) x.entries) l))

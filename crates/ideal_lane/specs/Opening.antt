@@ -1,0 +1,31 @@
+-- The state in which a driver opens.
+use Rattle.std.specs.Prelude.{ℕ, List, [], Some, None, if◌then◌else◌}
+use Rattle.std.specs.FinMap as finmap
+use Rattle.busdma_base.specs.declared.scenarios.scenario.Driver.{Driver}
+use Rattle.busdma_base.specs.declared.scenarios.scenario.PageRun.{PageRun}
+use Rattle.busdma_base.specs.Machine.PageRuns.{is_own}
+use Rattle.ideal_lane.specs.IdealMemory.{IdealMemory, Known}
+use Rattle.ideal_lane.specs.State.{LaneState}
+
+-- every byte of the driver's pages is Known and 0
+abbrev pub zeros : List PageRun → IdealMemory
+zeros runs pa = if is_own runs pa then Some (Known 0) else None
+
+-- a driver at the first operation of its script, in a machine with so many frames, with nothing made and nothing to do
+-- for its device
+abbrev pub opening_lane : ℕ → ℕ → Driver → LaneState
+opening_lane id maxmem driver = record {
+  id = id;
+  maxmem = maxmem;
+  script = driver.script;
+  place = 0;
+  pages = driver.pages;
+  tags = finmap.empty;
+  maps = finmap.empty;
+  mems = finmap.empty;
+  memory = zeros driver.pages;
+  loans = finmap.empty;
+  queue = [];
+  returns = [];
+  shares = λ z. 0;
+}

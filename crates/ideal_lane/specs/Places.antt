@@ -1,0 +1,50 @@
+-- Which bytes a driver reaches: those of its pages and those of its memories.
+use Rattle.std.specs.Prelude.{ℕ, ◌+◌, ◌-◌, Bool, ◌&&◌, List, Option, Some, None, if◌then◌else◌, map, nat_le, nat_lt}
+use Rattle.std.specs.FinMap.{entries}
+use Rattle.std.specs.List.{list_any}
+use Rattle.busdma_base.specs.declared.journals.report.Judged.{Judged}
+use Rattle.busdma_base.specs.declared.scenarios.script.Place.{Place}
+use Rattle.busdma_base.specs.declared.scenarios.script.Place.TheVariants.{At}
+use Rattle.busdma_base.specs.Journals.Judging.{judged}
+use Rattle.busdma_base.specs.Machine.PageRuns.{pages_end, physical_in}
+use Rattle.busdma_base.specs.Runs.{run_of}
+use Rattle.dmamem.specs.Memory.{virtual_of}
+use Rattle.phys_memory.specs.Translation.{Translation, unreached, physical_or_0}
+use Rattle.ideal_lane.specs.State.{LaneState, LaneMemory}
+
+-- the virtual address of a memory's first byte
+abbrev pub begin_of : LaneMemory → ℕ
+begin_of x = virtual_of x.first
+
+-- a virtual address is one of a memory's bytes
+abbrev pub is_in_memory : ℕ → LaneMemory → Bool
+is_in_memory va x = nat_le (begin_of x) va && nat_lt va (begin_of x + x.len)
+
+-- it is one of the bytes of the driver's memories
+abbrev pub is_memory_byte : LaneState → ℕ → Bool
+is_memory_byte l va = list_any (λ e. is_in_memory va e.1) (entries l.mems)
+
+-- where a byte of a memory lies that is at a virtual address
+abbrev pub physical_of : ℕ → ℕ
+physical_of va = va - pages_end
+
+-- where the byte at a virtual address lies that the pages do not have
+abbrev pub or_in_memory : LaneState → ℕ → Option ℕ → Option ℕ
+or_in_memory l va (Some pa) = Some pa
+or_in_memory l va None = if is_memory_byte l va then Some (physical_of va) else None
+
+-- where the byte at a virtual address lies, if the driver reaches it
+abbrev pub physical : LaneState → Translation
+physical l va = or_in_memory l va (physical_in l.pages va)
+
+-- the virtual address of a place, unless its memory does not exist
+abbrev pub virtual_at : LaneState → Place → Option ℕ
+virtual_at l (At va) = Some va.0
+
+-- the physical addresses of bytes that the driver reaches, by their virtual ones
+abbrev pub bytes_at : LaneState → List ℕ → List ℕ
+bytes_at l vas = map (physical_or_0 (physical l)) vas
+
+-- the first of `len` bytes from a virtual address on that the driver does not reach
+abbrev pub reached : LaneState → ℕ → ℕ → Judged
+reached l va len = judged (unreached (physical l)) 0 (run_of va len)

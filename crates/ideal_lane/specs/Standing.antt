@@ -1,0 +1,48 @@
+-- What holds of a driver's state at each of its turns, whatever the account.
+use Rattle.std.specs.Prelude.{◌≡◌, ℕ, ◌≤◌, Bool, true, not, ◌||◌, [], Some, None}
+use Rattle.std.specs.Ordering.{nat_cmp}
+use Rattle.std.specs.FinMap.{FinMap, get, contains_key}
+use Rattle.busdma_base.specs.declared.bounce.hold.HubReply.{HubReply}
+use Rattle.busdma_base.specs.Tags.Tag.{could_bounce}
+use Rattle.ideal_lane.specs.State.{LaneState, LaneTag, LaneMap, LaneMemory, Stage, Idle, Waiting, Loaded, Returning}
+use Rattle.ideal_lane.specs.Asking.{Asking, Gives, Asks}
+use Rattle.ideal_lane.specs.Turns.{Turned}
+
+-- a map that stands so holds no page, and awaits none
+abbrev pub IsPageless : Stage → Type 0
+IsPageless Idle = Unit {0}
+IsPageless (Waiting load_at need) = ⊥
+IsPageless (Loaded bounced segments pages) = pages ≡ []
+IsPageless Returning = Unit {0}
+
+-- no byte of a load of a tag's map at a place bounces: the map is a memory's, or the tag could not bounce
+abbrev pub is_direct : ℕ → FinMap nat_cmp LaneMemory → ℕ → LaneTag → Bool
+is_direct maxmem mems k t = contains_key mems k || not (could_bounce t.limits maxmem)
+
+-- a map at a place has its tag; a memory's map has no zone; and where a map has none, no byte of its loads bounces and
+-- it is pageless
+pub record StandsAt (maxmem : ℕ) (tags : FinMap nat_cmp LaneTag)
+    (mems : FinMap nat_cmp LaneMemory) (k : ℕ) (o : LaneMap)
+    : Type 0 where
+  pub tag : LaneTag
+  pub there : get tags o.tag ≡ Some tag
+  pub memory : contains_key mems k ≡ true → o.zone ≡ None
+  pub direct : o.zone ≡ None → is_direct maxmem mems k tag ≡ true
+  pub pageless : o.zone ≡ None → IsPageless o.stage
+
+-- nothing was made at a place of the script or later, and each map stands
+pub record StandsFrom (place maxmem : ℕ) (tags : FinMap nat_cmp LaneTag) (maps : FinMap nat_cmp LaneMap)
+    (mems : FinMap nat_cmp LaneMemory) : Type 0 where
+  pub no_tag : (k : ℕ) → place ≤ k → get tags k ≡ None
+  pub no_map : (k : ℕ) → place ≤ k → get maps k ≡ None
+  pub no_memory : (k : ℕ) → place ≤ k → get mems k ≡ None
+  pub each : (k : ℕ) (o : LaneMap) → get maps k ≡ Some o → StandsAt maxmem tags mems k o
+
+-- nothing was made yet by what of the script is not done
+abbrev pub Stands : LaneState → Type 0
+Stands l = StandsFrom l.place l.maxmem l.tags l.maps l.mems
+
+-- after a step the driver stands, whatever the reply to its call
+abbrev pub KeepsStanding : Asking Turned → Type 0
+KeepsStanding (Gives t) = Stands t.lane
+KeepsStanding (Asks c k) = (r : HubReply) → Stands (k r).lane

@@ -1,0 +1,69 @@
+-- The ideal state of a driver. Its memory has one byte for each physical address of its own, and its bounce pages hold
+-- none. This project's own.
+use Rattle.std.specs.Prelude.{ℕ, Bool, List, Option}
+use Rattle.std.specs.Ordering.{nat_cmp}
+use Rattle.std.specs.FinMap.{FinMap}
+use Rattle.busdma_base.specs.declared.machine.address.Segment.{Segment}
+use Rattle.busdma_base.specs.declared.machine.chunk.Chunk.{Chunk}
+use Rattle.busdma_base.specs.declared.name.MapId.{MapId}
+use Rattle.busdma_base.specs.declared.scenarios.scenario.PageRun.{PageRun}
+use Rattle.busdma_base.specs.declared.scenarios.script.Op.{Op}
+use Rattle.busdma_base.specs.declared.tags.tag.TagLimits.{TagLimits}
+use Rattle.lane_agreement.specs.View.{Return}
+use Rattle.lane_tables.specs.declared.queued.QueuedItem.{QueuedItem}
+use Rattle.loan_table.specs.Loans.{Loans}
+use Rattle.ideal_lane.specs.IdealMemory.{IdealMemory}
+
+-- a tag: its effective limits, and whether its first allocation is done
+pub record LaneTag : Type 0 where
+  pub limits : TagLimits
+  pub first_done : Bool
+
+-- where a map stands: with no load; with a load that waits, of which it keeps the place in the script and the need;
+-- with a load, its bounced chunks, its segments and its bounce pages in the order of the chunks; or with pages on
+-- their way back
+pub data Stage : Type 0 where
+  Idle : Stage
+  Waiting : (load_at : ℕ) → (need : ℕ) → Stage
+  Loaded : (bounced : List Chunk) → (segments : List Segment) → (pages : List ℕ) → Stage
+  Returning : Stage
+
+-- a map: the place of its tag, the zone of its bounce pages where its tag could bounce, whether a load of it has
+-- called or stored a callback, and where it stands
+pub record LaneMap : Type 0 where
+  pub tag : ℕ
+  pub zone : Option ℕ
+  pub tried : Bool
+  pub stage : Stage
+
+-- a dmamem memory: the place of its tag, the physical address of its first byte, how many frames it has, how many
+-- bytes the driver reaches, and whether driver and device see the same bytes with no sync
+pub record LaneMemory : Type 0 where
+  pub tag : ℕ
+  pub first : ℕ
+  pub count : ℕ
+  pub len : ℕ
+  pub coherent : Bool
+
+-- A driver: its number, the end of the machine's memory in frames, its script and the place in it, and its pages; its
+-- tags, maps and memories by the places that made them, where the map of a memory has the memory's place; its ideal
+-- memory and what its loaded maps lend; its transfer queue and its return queue; and its share of each zone's
+-- total_bounced.
+pub record LaneState : Type 0 where
+  pub id : ℕ
+  pub maxmem : ℕ
+  pub script : List Op
+  pub place : ℕ
+  pub pages : List PageRun
+  pub tags : FinMap nat_cmp LaneTag
+  pub maps : FinMap nat_cmp LaneMap
+  pub mems : FinMap nat_cmp LaneMemory
+  pub memory : IdealMemory
+  pub loans : Loans
+  pub queue : List QueuedItem
+  pub returns : List Return
+  pub shares : ℕ → ℕ
+
+-- the name of what the driver made at a place
+abbrev pub named : LaneState → ℕ → MapId
+named l k = record { lane = record { 0 = l.id }; made_at = k }

@@ -1,0 +1,62 @@
+-- Syncs of a map's load: after bus_dmamap_sync(9).
+use Rattle.std.specs.Prelude.{ℕ, ◌+◌, ◌-◌, ◌^◌, ◌==◌, Bool, ◌&&◌, ◌||◌, List, [], Option, Some, None, if◌then◌else◌}
+use Rattle.std.specs.Prelude.{max, min, nat_lt}
+use Rattle.std.specs.List.{list_any}
+use Rattle.busdma_base.specs.declared.journals.answer.Answer.TheVariants.{Done}
+use Rattle.busdma_base.specs.declared.journals.report.ReportName.TheVariants.{MixedSync}
+use Rattle.busdma_base.specs.declared.machine.chunk.Chunk.{Chunk}
+use Rattle.dma_tag.specs.SyncOps.{is_mixed, prewrite, postread}
+use Rattle.loan_table.specs.Lending.{sync_answer, synced, lost}
+use Rattle.segment_build.specs.Trace.{chunk_len}
+use Rattle.ideal_lane.specs.IdealMemory.{forgotten}
+use Rattle.ideal_lane.specs.State.{LaneState, LaneMap, Stage, Idle, Waiting, Loaded, Returning}
+use Rattle.ideal_lane.specs.Asking.{Asking}
+use Rattle.ideal_lane.specs.Outcomes.{Outcome, gives, refused, unless_refused, unless_unloaded, unless_past}
+use Rattle.ideal_lane.specs.Outcomes.{load_length}
+
+-- the bounced chunks of a map's load
+abbrev pub bounced_in : Stage → List Chunk
+bounced_in Idle = []
+bounced_in (Waiting load_at need) = []
+bounced_in (Loaded bounced segments pages) = bounced
+bounced_in Returning = []
+
+-- a chunk has one of the `len` bytes of a load from `off` on
+abbrev pub has_byte_of : ℕ → ℕ → Chunk → Bool
+has_byte_of off len c = nat_lt (max off c.at) (min (off + len) (c.at + chunk_len c))
+
+-- a sync with these operations of a range of a map's load copies a byte to or from a bounce page
+abbrev pub copies : ℕ → ℕ → ℕ → Stage → Bool
+copies off len ops s = (prewrite ops || postread ops) && list_any (has_byte_of off len) (bounced_in s)
+
+-- the greatest number of syncs that a share counts
+abbrev pub greatest_share : ℕ
+greatest_share = 2 ^ 64 - 1
+
+-- the driver's share of a zone's total_bounced is greater by one
+abbrev pub counted_in : ℕ → (ℕ → ℕ) → ℕ → ℕ
+counted_in z shares y = if y == z then min (shares y + 1) greatest_share else shares y
+
+-- a sync that copies is counted for the zone of its map
+abbrev pub counted : Bool → Option ℕ → (ℕ → ℕ) → ℕ → ℕ
+counted copied None shares = shares
+counted copied (Some z) shares = if copied then counted_in z shares else shares
+
+-- the sync of a range of a map that is loaded
+abbrev pub sync_part : ℕ → LaneMap → ℕ → ℕ → ℕ → LaneState → Asking Outcome
+sync_part m o off len ops l =
+    if is_mixed ops then refused MixedSync 0 l
+    else unless_refused (sync_answer l.loans m off len ops) l (gives (record l {
+      loans = synced l.loans m off len ops;
+      memory = forgotten (lost l.loans m off len ops) l.memory;
+      shares = counted (copies off len ops o.stage) o.zone l.shares;
+    }) Done)
+
+-- sync: the whole load
+abbrev pub sync : ℕ → ℕ → LaneState → Asking Outcome
+sync m ops l = unless_unloaded m l (λ o. sync_part m o 0 (load_length l m) ops l)
+
+-- sync_range: `len` bytes of the load from `off` on
+abbrev pub sync_range : ℕ → ℕ → ℕ → ℕ → LaneState → Asking Outcome
+sync_range m off len ops l =
+    unless_unloaded m l (λ o. unless_past m off len l (sync_part m o off len ops l))

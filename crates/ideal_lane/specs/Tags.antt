@@ -1,0 +1,47 @@
+-- Operations on tags.
+use Rattle.std.specs.Prelude.{ℕ, ◌==◌, Bool, true, false, ◌&&◌, Option, Some, None, if◌then◌else◌}
+use Rattle.std.specs.FinMap.{get, insert, remove, entries}
+use Rattle.std.specs.List.{list_any}
+use Rattle.busdma_base.specs.declared.bounce.hold.HubCall.TheVariants.{AttachTag}
+use Rattle.busdma_base.specs.declared.bounce.hold.HubReply.{HubReply}
+use Rattle.busdma_base.specs.declared.bounce.hold.HubReply.TheVariants as reply
+use Rattle.busdma_base.specs.declared.journals.answer.Answer.TheVariants.{Done, Grown, Refused}
+use Rattle.busdma_base.specs.declared.journals.report.Errno.TheVariants.{EINVAL, EBUSY, ENOMEM}
+use Rattle.busdma_base.specs.declared.tags.tag.TagLimits.{TagLimits}
+use Rattle.busdma_base.specs.Tags.Tag.{effective, could_bounce}
+use Rattle.busdma_base.specs.Tags.TagFlags.{allocnow}
+use Rattle.ideal_lane.specs.State.{LaneState}
+use Rattle.ideal_lane.specs.Asking.{Asking, Asks}
+use Rattle.ideal_lane.specs.Outcomes.{Outcome, gives, unless_absent}
+
+-- the driver with a tag at a place
+abbrev pub with_tag : ℕ → TagLimits → Bool → LaneState → LaneState
+with_tag k t first_done l = record l { tags = insert l.tags k (record { limits = t; first_done = first_done }) }
+
+-- a tag's first allocation has grown its zone; where too few pages came there is no tag
+abbrev pub attached : TagLimits → LaneState → HubReply → Outcome
+attached t l (reply.Grown g) = record { lane = if g.made then with_tag l.place t true l else l; answer = Grown g }
+attached t l _ = record { lane = l; answer = Refused ENOMEM }
+
+-- the effective tag of this place, or EINVAL where there is none
+abbrev pub tag_or_invalid : Option TagLimits → LaneState → Asking Outcome
+tag_or_invalid None l = gives l (Refused EINVAL)
+tag_or_invalid (Some t) l =
+    if could_bounce t l.maxmem && allocnow t.flags then Asks (AttachTag t) (attached t l)
+    else gives (with_tag l.place t false l) Done
+
+-- tag: named by this place, perhaps below a parent
+abbrev pub tag : Option ℕ → TagLimits → LaneState → Asking Outcome
+tag None limits l = tag_or_invalid (effective None limits) l
+tag (Some parent) limits l =
+    unless_absent (get l.tags parent) l (λ p. tag_or_invalid (effective (Some p.limits) limits) l)
+
+-- a tag has a map, or a memory, which has a map of its own
+abbrev pub has_maps : LaneState → ℕ → Bool
+has_maps l t = list_any (λ e. e.1.tag == t) (entries l.maps)
+
+-- tag_destroy: a tag with maps is busy
+abbrev pub tag_destroy : ℕ → LaneState → Asking Outcome
+tag_destroy t l =
+    unless_absent (get l.tags t) l (λ o.
+    if has_maps l t then gives l (Refused EBUSY) else gives (record l { tags = remove l.tags t }) Done)

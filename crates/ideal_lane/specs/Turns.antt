@@ -1,0 +1,219 @@
+-- The turn of a driver's side: a page goes back, an operation or an item is done, a callback is taken, or nothing can
+-- be done now.
+use Rattle.std.specs.Prelude.{ℕ, ◌+◌, Bool, true, false, ◌&&◌, ◌||◌, List, [], ◌∷◌, Option, Some, None, if◌then◌else◌}
+use Rattle.std.specs.Prelude.{slice_get, unwrap_or}
+use Rattle.std.specs.Option.{option_map, option_and_then}
+use Rattle.std.specs.FinMap.{get, contains_key}
+use Rattle.busdma_base.specs.declared.bounce.hold.HubCall.TheVariants as hold
+use Rattle.busdma_base.specs.declared.bounce.hold.HubReply.{HubReply}
+use Rattle.busdma_base.specs.declared.bounce.hold.HubReply.TheVariants as reply
+use Rattle.busdma_base.specs.declared.journals.answer.Answer.TheVariants as answer
+use Rattle.busdma_base.specs.declared.journals.journal.Did.{Did}
+use Rattle.busdma_base.specs.declared.journals.journal.Did.TheVariants as did
+use Rattle.busdma_base.specs.declared.journals.journal.JournalEntry.{JournalEntry}
+use Rattle.busdma_base.specs.declared.journals.journal.Side.{Side}
+use Rattle.busdma_base.specs.declared.journals.journal.Side.TheVariants as side
+use Rattle.busdma_base.specs.declared.machine.address.Pa.{Pa}
+use Rattle.busdma_base.specs.declared.scenarios.script.Item.{Item}
+use Rattle.busdma_base.specs.declared.scenarios.script.Item.TheVariants as item
+use Rattle.busdma_base.specs.declared.scenarios.script.Op.{Op}
+use Rattle.busdma_base.specs.declared.scenarios.script.Op.TheVariants as op
+use Rattle.busdma_base.specs.declared.scenarios.script.Place.{Place}
+use Rattle.busdma_base.specs.Scenarios.Operations.{bytes_of}
+use Rattle.dma_tag.specs.LoadFlags.{nowait}
+use Rattle.lane_agreement.specs.After.{addresses}
+use Rattle.lane_agreement.specs.View.{Return}
+use Rattle.lane_tables.specs.declared.queued.QueuedItem.{QueuedItem}
+use Rattle.lane_tables.specs.Queues.{queue_names}
+use Rattle.phys_memory.specs.Vector.{one_span}
+use Rattle.ideal_lane.specs.State.{LaneState, LaneMap, Stage, Idle, Waiting, Loaded, Returning, named}
+use Rattle.ideal_lane.specs.Asking.{Asking, Gives, Asks, goes_on}
+use Rattle.ideal_lane.specs.Outcomes.{Outcome, unless_absent}
+use Rattle.ideal_lane.specs.Places.{virtual_at}
+use Rattle.ideal_lane.specs.Tags as tags
+use Rattle.ideal_lane.specs.Maps as maps
+use Rattle.ideal_lane.specs.Loads as loads
+use Rattle.ideal_lane.specs.Unloads as unloads
+use Rattle.ideal_lane.specs.Syncs as syncs
+use Rattle.ideal_lane.specs.Accesses as accesses
+
+-- what a turn answers: an entry of the journal, or that the side cannot step now, or that its script has ended
+pub data Turn : Type 0 where
+  Stepped : JournalEntry → Turn
+  Blocked : Turn
+  Ended : Turn
+
+-- the driver after a turn, and what the turn answers
+pub record Turned : Type 0 where
+  pub lane : LaneState
+  pub turn : Turn
+
+-- a turn that is no step
+abbrev pub stays : Turn → LaneState → Turned
+stays t l = record { lane = l; turn = t }
+
+-- a step of a side
+abbrev pub stepped : Side → Did → Outcome → Turned
+stepped s d o = record {
+  lane = o.lane;
+  turn = Stepped (record { actor = record { lane = record { 0 = o.lane.id }; side = s }; did = d; answer = o.answer });
+}
+
+-- The script
+
+-- a load of the bytes at a place
+abbrev pub load_at_place : ℕ → Place → ℕ → ℕ → List Item → LaneState → Asking Outcome
+load_at_place m place len flags items l =
+    unless_absent (virtual_at l place) l (λ va. loads.load m
+    (loads.asked m (one_span va len) (nowait flags) items l) l)
+
+-- what an operation does
+abbrev pub operation : Op → LaneState → Asking Outcome
+operation (op.Tag name parent limits) l = tags.tag parent limits l
+operation (op.TagDestroy tag) l = tags.tag_destroy tag l
+operation (op.Map name tag) l = maps.map tag l
+operation (op.MapDestroy map) l = maps.map_destroy map l
+operation (op.Load map place len flags items) l = load_at_place map place len flags items l
+operation (op.Unload map) l = unloads.unload map l
+operation (op.Sync map ops) l = syncs.sync map ops l
+operation (op.SyncRange map off len ops) l = syncs.sync_range map off len ops l
+operation (op.CpuRead place len) l = accesses.cpu_read place len l
+operation (op.CpuWrite place bytes) l = accesses.cpu_write place (bytes_of bytes) l
+operation (op.Await map) l = maps.await map l
+
+-- a map that stands so has a load that waits
+abbrev pub waits_in : Stage → Bool
+waits_in Idle = false
+waits_in (Waiting load_at need) = true
+waits_in (Loaded bounced segments pages) = false
+waits_in Returning = false
+
+-- a map exists and its load waits
+abbrev pub is_waiting : Option LaneMap → Bool
+is_waiting None = false
+is_waiting (Some o) = waits_in o.stage
+
+-- an operation cannot step: it awaits a map that exists and whose load waits, or that an item of the queue names
+abbrev pub waits : Op → LaneState → Bool
+waits (op.Await m) l = contains_key l.maps m && (is_waiting (get l.maps m) || queue_names m l.queue)
+waits (op.Tag name parent limits) l = false
+waits (op.TagDestroy tag) l = false
+waits (op.Map name tag) l = false
+waits (op.MapDestroy map) l = false
+waits (op.Load map place len flags items) l = false
+waits (op.Unload map) l = false
+waits (op.Sync map ops) l = false
+waits (op.SyncRange map off len ops) l = false
+waits (op.CpuRead place len) l = false
+waits (op.CpuWrite place bytes) l = false
+
+-- the script goes on to its next place
+abbrev pub advanced : ℕ → Outcome → Turned
+advanced place o =
+    stepped side.Script (did.Op place) (record { lane = record o.lane { place = place + 1 }; answer = o.answer })
+
+-- the next operation of the script, if there is one
+abbrev pub next_operation : Option Op → LaneState → Asking Turned
+next_operation None l = Gives (stays Ended l)
+next_operation (Some o) l = if waits o l then Gives (stays Blocked l) else goes_on (advanced l.place) (operation o l)
+
+-- how many maps a release made complete
+abbrev pub served : HubReply → ℕ
+served (reply.Served n) = n
+served _ = 0
+
+-- the first page of the return queue goes back to its zone
+abbrev pub release : Return → List Return → LaneState → Asking Turned
+release r rest l =
+    let page : Pa = record { 0 = r.page } in
+    Asks (hold.Release (named l r.map) (record { 0 = r.zone }) page) (λ got.
+    stepped side.Script (did.Release (named l r.map) page)
+    (record { lane = unloads.given_back r rest l; answer = answer.Served (served got) }))
+
+-- the turn of the script: pages go back first
+abbrev pub script_turn : List Return → LaneState → Asking Turned
+script_turn [] l = next_operation (slice_get l.script l.place) l
+script_turn (r ∷ rest) l = release r rest l
+
+-- The device
+
+-- what an item does
+abbrev pub transfer : Item → LaneState → Asking Outcome
+transfer (item.Sync map ops) l = syncs.sync map ops l
+transfer (item.SyncRange map off len ops) l = syncs.sync_range map off len ops l
+transfer (item.DevRead map off len) l = accesses.dev_read map off len l
+transfer (item.DevWrite map off bytes) l = accesses.dev_write map off (bytes_of bytes) l
+
+-- an item has left the queue
+abbrev pub left_queue : QueuedItem → List QueuedItem → Outcome → Turned
+left_queue q rest o =
+    stepped side.Transfer (did.Item q.load_at q.place)
+    (record { lane = record o.lane { queue = rest }; answer = o.answer })
+
+-- the first item of the transfer queue, if there is one
+abbrev pub transfer_turn : List QueuedItem → LaneState → Asking Turned
+transfer_turn [] l = Gives (stays Blocked l)
+transfer_turn (q ∷ rest) l = goes_on (left_queue q rest) (transfer q.item l)
+
+-- Callbacks
+
+-- a load of no byte
+abbrev pub no_load : LaneState → loads.Asked
+no_load l = loads.asked 0 [] false [] l
+
+-- what an operation asks that loads a map, where its memory exists
+abbrev pub asked_by : Op → LaneState → Option loads.Asked
+asked_by (op.Load map place len flags items) l =
+    option_map (λ va. loads.asked map (one_span va len) (nowait flags) items l) (virtual_at l place)
+asked_by (op.Tag name parent limits) l = None
+asked_by (op.TagDestroy tag) l = None
+asked_by (op.Map name tag) l = None
+asked_by (op.MapDestroy map) l = None
+asked_by (op.Unload map) l = None
+asked_by (op.Sync map ops) l = None
+asked_by (op.SyncRange map off len ops) l = None
+asked_by (op.CpuRead place len) l = None
+asked_by (op.CpuWrite place bytes) l = None
+asked_by (op.Await map) l = None
+
+-- what the load at a place of the script asks; the bytes that it names are where they were when it began to wait
+abbrev pub asked_at : ℕ → LaneState → loads.Asked
+asked_at k l = unwrap_or (option_and_then (λ o. asked_by o l) (slice_get l.script k)) (no_load l)
+
+-- the load of a map at a place of the script has its pages, and its callback is called
+abbrev pub called_at : ℕ → LaneMap → ℕ → List ℕ → LaneState → Outcome
+called_at m o load_at pages l =
+    let x : loads.Asked = asked_at load_at l in
+    loads.finished m o load_at x (loads.chunks_for l o (contains_key l.mems m) x.entries) pages l
+
+-- nothing was called: a reply has only the maps that wait
+abbrev pub uncalled : LaneState → Outcome
+uncalled l = record { lane = l; answer = answer.Done }
+
+-- a map that stands so has the pages of its load
+abbrev pub called_in : ℕ → LaneMap → Stage → List ℕ → LaneState → Outcome
+called_in m o Idle pages l = uncalled l
+called_in m o (Waiting load_at need) pages l = called_at m o load_at pages l
+called_in m o (Loaded bounced segments held) pages l = uncalled l
+called_in m o Returning pages l = uncalled l
+
+-- a map whose load waited has its pages
+abbrev pub called : ℕ → Option LaneMap → List ℕ → LaneState → Outcome
+called m None pages l = uncalled l
+called m (Some o) pages l = called_in m o o.stage pages l
+
+-- the turn by the reply to the taking of a callback
+abbrev pub called_back : LaneState → HubReply → Turned
+called_back l (reply.Called m pages) =
+    stepped side.Callback (did.Callback m) (called m.made_at (get l.maps m.made_at) (addresses pages) l)
+called_back l _ = stays Blocked l
+
+-- the turn of the callbacks: the head of the callback list, where it is this driver's
+abbrev pub callback_turn : LaneState → Asking Turned
+callback_turn l = Asks hold.TakeCallback (called_back l)
+
+-- the turn of a side
+abbrev pub lane_step : LaneState → Side → Asking Turned
+lane_step l side.Script = script_turn l.returns l
+lane_step l side.Transfer = transfer_turn l.queue l
+lane_step l side.Callback = callback_turn l

@@ -1,0 +1,42 @@
+-- Unloading, and pages on their way back to their zones.
+use Rattle.std.specs.Prelude.{ℕ, ◌==◌, List, [], Option, Some, None, if◌then◌else◌}
+use Rattle.std.specs.FinMap.{get, insert, remove}
+use Rattle.busdma_base.specs.declared.journals.answer.Answer.TheVariants.{Done}
+use Rattle.lane_agreement.specs.View.{Return, returning}
+use Rattle.loan_table.specs.Lending.{lost_by_forgetting}
+use Rattle.ideal_lane.specs.IdealMemory.{forgotten}
+use Rattle.ideal_lane.specs.State.{LaneState, LaneMap, Stage, Idle, Waiting, Loaded, Returning}
+use Rattle.ideal_lane.specs.Asking.{Asking}
+use Rattle.ideal_lane.specs.Outcomes.{Outcome, gives, unless_unloaded}
+use Rattle.ideal_lane.specs.Loads.{unpaged}
+
+-- the bounce pages that a map holds, in order
+abbrev pub pages_of : Stage → List ℕ
+pages_of Idle = []
+pages_of (Waiting load_at need) = []
+pages_of (Loaded bounced segments pages) = pages
+pages_of Returning = []
+
+-- the map lends nothing any more, and what it lent to write is Unknown
+abbrev pub unlent : ℕ → LaneState → LaneState
+unlent m l = record l {
+  loans = remove l.loans m;
+  memory = forgotten (lost_by_forgetting l.loans m) l.memory;
+}
+
+-- unload: the map's lending ends, and its pages join the return queue
+abbrev pub unload : ℕ → LaneState → Asking Outcome
+unload m l = unless_unloaded m l (λ o. gives (unpaged m o (pages_of o.stage) (unlent m l)) Done)
+
+-- where a map stands of which a page left the return queue
+abbrev pub after_return : ℕ → List Return → Stage
+after_return m rest = if returning m rest == 0 then Idle else Returning
+
+-- the map with that stage, where there is one
+abbrev pub restaged : ℕ → Option LaneMap → Stage → LaneState → LaneState
+restaged m None s l = l
+restaged m (Some o) s l = record l { maps = insert l.maps m (record o { stage = s }) }
+
+-- the first page of the return queue has left it
+abbrev pub given_back : Return → List Return → LaneState → LaneState
+given_back r rest l = record (restaged r.map (get l.maps r.map) (after_return r.map rest) l) { returns = rest }

@@ -1,0 +1,45 @@
+//! Laws of the ideal driver.
+
+ghost use Rattle.std.specs.Prelude.{◌≡◌, ℕ, Some, slice_get};
+ghost use Rattle.busdma_base.specs.declared.journals.journal.Side.{Side};
+ghost use Rattle.busdma_base.specs.declared.scenarios.scenario.Driver.{Driver};
+ghost use Rattle.busdma_base.specs.declared.scenarios.scenario.Scenario.{Scenario};
+ghost use Rattle.busdma_base.specs.Bounce.Account.{Account};
+ghost use Rattle.busdma_base.specs.Bounce.Opening.{maxmem_of, opening};
+ghost use Rattle.busdma_base.specs.Scenarios.Valid.{IsValid};
+ghost use Rattle.lane_agreement.specs.Agreement.{IsFit};
+ghost use Rattle.ideal_lane.specs.Agreement.{AgreesWith, IsAllowed, KeepsAgreement};
+ghost use Rattle.ideal_lane.specs.Left.{FallsOrStays};
+ghost use Rattle.ideal_lane.specs.Opening.{opening_lane};
+ghost use Rattle.ideal_lane.specs.Standing.{KeepsStanding, Stands};
+ghost use Rattle.ideal_lane.specs.State.{LaneState};
+ghost use Rattle.ideal_lane.specs.Turns.{lane_step};
+
+/// Where a driver and the account agree, the account allows the call of the driver's step, and they
+/// agree after it. The account is one that a sound history leads to.
+pub fn step_keeps_agreement()
+    ensures allowed { (l : LaneState) (s : Side) (a : Account) → Stands l → AgreesWith l a →
+        IsAllowed l.id a (lane_step l s) }
+    ensures kept { (l : LaneState) (s : Side) (a : Account) → Stands l → IsFit a → AgreesWith l a →
+        KeepsAgreement l.id a (lane_step l s) }
+{}
+
+/// A step leaves a driver standing that stands, whatever the reply to its call.
+pub fn step_keeps_standing()
+    ensures { (l : LaneState) (s : Side) → Stands l → KeepsStanding (lane_step l s) }
+{}
+
+/// A turn that is a step leaves its driver less to do, where driver and account agree; any other
+/// leaves the driver as it was. The account is one that a sound history leads to.
+pub fn each_step_falls()
+    ensures { (l : LaneState) (s : Side) (a : Account) → Stands l → IsFit a → AgreesWith l a →
+        FallsOrStays l a (lane_step l s) }
+{}
+
+/// A driver opens standing; and a driver of a valid scenario agrees with the account with which the
+/// scenario opens.
+pub fn opening_stands()
+    ensures stands { (id maxmem : ℕ) (driver : Driver) → Stands (opening_lane id maxmem driver) }
+    ensures agrees { (s : Scenario) (i : ℕ) (driver : Driver) → IsValid s → slice_get s.drivers i ≡ Some driver →
+        AgreesWith (opening_lane i (maxmem_of s.frames) driver) (opening s) }
+{}

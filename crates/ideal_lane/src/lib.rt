@@ -1,0 +1,7 @@
+//! The ideal driver over the bounce lock: what each turn makes of its state, and the laws of its
+//! steps. Each law is the contract of a function that does nothing.
+#![tactic(auto)]
+
+mod laws;
+
+pub use laws::{each_step_falls, opening_stands, step_keeps_agreement, step_keeps_standing};
