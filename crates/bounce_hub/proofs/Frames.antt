@@ -76,10 +76,6 @@ pub found : (first : Option ℕ) (n : ℕ) (pages : List FrameBytes) → Some (p
 found None n pages e = cc
 found (Some at) n pages e = record { at = at; is = refl; row = cc }
 
-pub none_found : (first : Option ℕ) (n : ℕ) → None ≡ option_map (frames_from n) first → first ≡ None
-none_found None n e = refl
-none_found (Some at) n e = cc
-
 pub run-items : (first : Option ℕ) (n at : ℕ) (items ps : List FrameBytes) → first ≡ Some at → Some items ≡ run_pages first n ps → items ≡ filter (is_in_run at n) ps
 run-items None n at items ps is e = cc
 run-items (Some f) n at items ps is e = cc

@@ -1,5 +1,5 @@
 -- A hub after a call: one more entry, and nobody in between.
-use Rattle.std.proofs.Common.{◌≡◌, ℕ, ◌+◌, ◌<◌, ◌≤◌, ◌^◌, true, false, List, [], ◌∷◌, ◌++◌, length, refl, sym, ap, ◌∙◌, subst, arith}
+use Rattle.std.proofs.Common.{◌≡◌, ℕ, ◌+◌, ◌<◌, ◌≤◌, ◌^◌, true, false, List, [], ◌∷◌, ◌++◌, length, refl, sym, ap, subst, arith}
 use Rattle.std.proofs.lemmas.List.{length-append, append-nil}
 use Rattle.std.proofs.lemmas.List.Elements.{All-nil}
 use Rattle.busdma_base.specs.declared.bounce.hold.HubCall.{HubCall}
@@ -7,12 +7,12 @@ use Rattle.busdma_base.specs.declared.bounce.hold.HubReply.{HubReply}
 use Rattle.busdma_base.specs.declared.bounce.hold.HoldEntry.{HoldEntry}
 use Rattle.busdma_base.specs.Bounce.Account.{Account}
 use Rattle.busdma_base.specs.Bounce.Conditions.{MayCall}
-use Rattle.busdma_base.specs.Bounce.Door.{Allows, Passes, Holds, Misses, Fails}
+use Rattle.busdma_base.specs.Bounce.Door.{Allows, Passes, Holds}
 use Rattle.busdma_base.specs.Bounce.History.{IsOpening, IsSound, IsSoundEntry, is_kept, account_of, after_entry}
 use Rattle.busdma_base.proofs.Accounts.Places.{places-bank, times-rising, total-stays}
 use Rattle.busdma_base.proofs.Accounts.WellFormed.{account-well}
 use Rattle.bounce_hub.specs.declared.pool.Pool.{Pool}
-use Rattle.bounce_hub.specs.Pools.{Agrees, Fits, Allowed, Stepped, Steps, Stays, Missed}
+use Rattle.bounce_hub.specs.Pools.{Agrees, Fits, Allowed, Stepped, Steps}
 use Rattle.bounce_hub.specs.Seen.{HubSeen, IsKept, door}
 use Rattle.bounce_hub.proofs.Deferrals.{deferrals-few}
 
@@ -66,19 +66,6 @@ kept-push o es fs p q capacity room lane c r kept may noted stepped grows fits =
   room = omega (arith, fits, ap (λ (hs : List HoldEntry). length hs) grows, length-append es (own lane c r ∷ []));
 }
 
--- nothing happened
-pub kept-stays : (o : Account) (es fs : List HoldEntry) (p q : Pool) (capacity room : ℕ) → IsKept o es p capacity → Stays p q → fs ≡ es → q.owed ≡ p.owed → capacity ≤ room → IsKept o fs q room
-kept-stays o es fs p q capacity room kept stays same owed larger = record {
-  form = kept.form;
-  sound = subst (IsSound o) (sym same) kept.sound;
-  agrees = subst (λ hs. Agrees q (account_of o hs)) (sym same) (stays.agrees (account_of o es) kept.agrees);
-  frames = omega (arith, kept.frames, stays.room);
-  room = omega (arith, kept.room, ap (λ (hs : List HoldEntry). length hs) same, owed, larger);
-}
-
-pub stays-owed : (o : Account) (es : List HoldEntry) (p q : Pool) (capacity : ℕ) → IsKept o es p capacity → Stays p q → q.owed ≡ p.owed
-stays-owed o es p q capacity kept stays = (stays.agrees (account_of o es) kept.agrees).owed ∙ sym kept.agrees.owed
-
 -- a hub lets nobody in between
 passes-none : (v : HubSeen) → IsOpening v.opening → IsSound v.opening v.history → Passes (door v) [] (door v)
 passes-none v form sound = record { opening = refl; form = form; serves = refl; apart = All-nil (λ (e : HoldEntry). true ≡ false); history = sym (append-nil v.history); sound = sound }
@@ -98,14 +85,3 @@ holds-own h o es fs p q capacity room lane c r is kept stepped grows later =
       history = grows;
       sound = later.sound;
     })
-
-pub fails-own : (h : HubSeen) (o : Account) (es fs : List HoldEntry) (p : Pool) (capacity : ℕ) → record { opening = o; history = es } ≡ h → IsKept o es p capacity → fs ≡ es → Fails (door h) (door (record { opening = o; history = fs }))
-fails-own h o es fs p capacity is kept same =
-    let v : HubSeen = record { opening = o; history = es } in
-    subst (λ k. Fails (door k) (door (record { opening = o; history = fs }))) is
-    (subst (λ hs. Fails (door v) (door (record { opening = o; history = hs }))) (sym same) (record { others = []; passes = passes-none v kept.form kept.sound }))
-
-pub misses-own : (h : HubSeen) (o : Account) (es : List HoldEntry) (p : Pool) (capacity lane : ℕ) → record { opening = o; history = es } ≡ h → IsKept o es p capacity → Missed p lane → Misses (door h) lane (door (record { opening = o; history = es }))
-misses-own h o es p capacity lane is kept missed =
-    let v : HubSeen = record { opening = o; history = es } in
-    subst (λ k. Misses (door k) lane (door v)) is (record { others = []; passes = passes-none v kept.form kept.sound; reply = missed (account_of o es) kept.agrees })

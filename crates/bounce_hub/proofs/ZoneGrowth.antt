@@ -1,20 +1,18 @@
 -- Zones for tags, their growth, and their maps.
-use Rattle.std.proofs.Common.{◌≡◌, ◌≢◌, ℕ, suc, ◌+◌, ◌-◌, ◌<◌, ◌≤◌, min, max, Bool, true, false, cond, List, [], ◌∷◌, ◌++◌, length, get_or, set, take, drop, refl, sym, ap, ◌∙◌, subst, arith, inl, inr, if◌then◌else◌, ◌==◌, ◌/◌, nat_lt, slice_get}
+use Rattle.std.proofs.Common.{◌≡◌, ◌≢◌, ℕ, suc, ◌+◌, ◌<◌, ◌≤◌, max, Bool, true, false, cond, List, [], ◌∷◌, ◌++◌, length, get_or, set, take, drop, refl, sym, ap, ◌∙◌, subst, arith, inl, inr, if◌then◌else◌, ◌==◌, slice_get}
 use Rattle.std.specs.List.{sum_by, filter}
 use Rattle.std.proofs.lemmas.Bool.Decides.{eqb_tells}
 use Rattle.std.proofs.lemmas.List.{get_or-set_same, get_or-set_other, length-append, length-set, length-map, get_or_append_left}
 use Rattle.std.proofs.Math.Seq.{get_or-append_seam}
-use Rattle.std.proofs.lemmas.List.Sums.{get_or-le-sum_by, count_by-le-length}
 use Rattle.std.proofs.lemmas.Option.{slice_get-get_or, slice_get_past}
 use Rattle.busdma_base.specs.declared.tags.tag.TagLimits.{TagLimits}
 use Rattle.busdma_base.specs.declared.bounce.zone.Waiter.{Waiter}
 use Rattle.busdma_base.specs.declared.bounce.hold.HubReply.TheVariants.{Grown}
-use Rattle.busdma_base.specs.Bounce.Account.{Account, Zone, Held, no_zone, zone_at, reserved, active, total}
+use Rattle.busdma_base.specs.Bounce.Account.{Account, Zone, no_zone, zone_at, reserved, total}
 use Rattle.busdma_base.specs.Bounce.AccountStep.{attached}
 use Rattle.busdma_base.specs.Machine.Page.{FrameBytes}
 use Rattle.busdma_base.specs.Bounce.Growth.{serves_tag, new_zone, zones_for, zone_of, with_zone_for, added, grown, wanted_by_tag, wanted_for, wanted_by_map, most_pages, maxpages}
 use Rattle.busdma_base.specs.Machine.PageList.{page_addresses, page_address}
-use Rattle.busdma_base.specs.Bounce.Places.{frame_total}
 use Rattle.busdma_base.specs.Bounce.WellFormed.{IsWellFormed}
 use Rattle.busdma_base.proofs.Accounts.Counting.{sum_by-set_like}
 use Rattle.busdma_base.proofs.Accounts.ZoneOf.{zones_for_found, zones_for_none}
@@ -62,10 +60,6 @@ found-zone t a there = ap (λ (zs : List Zone). record a { zones = zs }) (zones_
 none-past : (zs : List Zone) → get_or zs (length zs) no_zone ≡ no_zone
 none-past [] = refl
 none-past (z ∷ zs) = none-past zs
-
--- the numbers of a zone are small
-pub zone-few : (a : Account) (z : ℕ) → z < length a.zones → length (zone_at a z).avail + active a z + length a.bank ≤ frame_total a
-zone-few a z inside = omega (arith, get_or-le-sum_by (λ (k : Zone). length k.avail) a.zones z no_zone inside, count_by-le-length (λ (h : Held). h.zone == z) a.held)
 
 -- growth leaves what is to come
 pub grown-owed : (a : Account) (z n : ℕ) → owed (grown a z n) ≡ owed a

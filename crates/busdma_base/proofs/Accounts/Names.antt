@@ -30,18 +30,6 @@ Same-trans s t u p q = record {
   frames = q.frames ∙ p.frames;
 }
 
-pub Same-sym : (s t : Share) → Same s t → Same t s
-Same-sym s t p = record {
-  made = λ z. sym (p.made z);
-  in_zones = sym p.in_zones;
-  holds = sym p.holds;
-  holds_page = λ z k. sym (p.holds_page z k);
-  waits = λ z n. sym (p.waits z n);
-  listed = sym p.listed;
-  mems = sym p.mems;
-  frames = sym p.frames;
-}
-
 pub and_none : (a b : Bool) → b ≡ false → (a && b) ≡ false
 and_none true b e = e
 and_none false b e = refl
