@@ -3,3 +3,4 @@ pub mod Edges
 pub mod Ends
 pub mod Line
 pub mod Outcome
+pub mod ProgramCall

@@ -1,5 +1,8 @@
 -- The line on standard error.
-use Rattle.std.specs.Prelude.{ℕ, ◌==◌, ◌++◌, List, codes, Option, Some, None, option_map, if◌then◌else◌, nat_le}
+use Rattle.std.specs.Prelude.{◌≡◌, ℕ, ◌==◌, ◌⊎◌, ◌++◌, List, codes, Option, Some, None, option_map, if◌then◌else◌, nat_le}
+use Rattle.std.specs.Io.KnownBytes.{Appends}
+use Rattle.io_edge.specs.Faults.{Rose}
+use Rattle.io_edge.specs.Writing.{WritesPart}
 use Rattle.json_fields.specs.declared.refusal.Refusal.{Refusal}
 use Rattle.json_fields.specs.RefusalText.{refusal_text}
 use Rattle.busdma_cmd.specs.declared.outcome.Outcome.{Outcome}
@@ -18,3 +21,24 @@ line_of o =
     else (if o.status == 71 then Some (codes "busdma_run: out of memory")
     else (if o.status == 73 then Some (codes "busdma_run: write failed")
     else Some (codes "busdma_run: read failed"))))))
+
+-- the same with its line feed
+abbrev pub ended_line : Outcome → Option (List ℕ)
+ended_line o = option_map (λ line. line ++ codes "\n") (line_of o)
+
+-- a text was written whole, or a front of it before a write that failed
+abbrev pub Writes : List ℕ → Option (List ℕ) → Option (List ℕ) → ℕ → ℕ → Type 0
+Writes text before after faults now =
+    (Appends before after text × (now ≡ faults))
+    ⊎ (WritesPart text before after × Rose faults now)
+
+-- the line was written where there is one, or that of want of memory
+abbrev pub PrintsLine : Option (List ℕ) → Option (List ℕ) → Option (List ℕ) → ℕ → ℕ → Type 0
+PrintsLine None before after faults now = (after ≡ before) × (now ≡ faults)
+PrintsLine (Some line) before after faults now =
+    Writes line before after faults now
+    ⊎ Writes (codes "busdma_run: out of memory\n") before after faults now
+
+-- what is printed of an outcome
+abbrev pub Prints : Outcome → Option (List ℕ) → Option (List ℕ) → ℕ → ℕ → Type 0
+Prints o before after faults now = PrintsLine (ended_line o) before after faults now

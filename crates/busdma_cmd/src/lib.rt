@@ -6,6 +6,7 @@ mod command;
 mod gate;
 mod line;
 mod outcome;
+mod program_call;
 mod top_call;
 mod words;
 
@@ -13,5 +14,6 @@ pub use command::plain_command;
 pub use gate::Gate;
 pub use line::fault_line;
 pub use outcome::Outcome;
+pub use program_call::{program, program_words};
 pub use top_call::top;
 pub use words::{Command, command_of};
