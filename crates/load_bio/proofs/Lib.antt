@@ -1,0 +1,2 @@
+pub mod FrameWalks
+pub mod InFrames

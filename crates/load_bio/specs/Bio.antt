@@ -1,0 +1,51 @@
+-- The bytes of bios, and the walks over them.
+use Rattle.std.specs.Prelude.{◌<◌, Bool, true, false, List, [], ◌∷◌}
+use Rattle.busdma_base.specs.declared.machine.address.Extent.{Extent}
+use Rattle.busdma_base.specs.declared.machine.address.Span.{Span}
+use Rattle.busdma_base.specs.declared.machine.bio.Bio.{Bio}
+use Rattle.busdma_base.specs.declared.machine.bio.Bio.TheVariants.{Mapped, Vector, Unmapped}
+use Rattle.busdma_base.specs.declared.machine.chunk.Part.{Part}
+use Rattle.phys_memory.specs.declared.entries.Entries.{Entries}
+use Rattle.phys_memory.specs.Extents.{LiesIn}
+use Rattle.phys_memory.specs.Memory.{Memory}
+use Rattle.phys_memory.specs.Translation.{Translation}
+use Rattle.phys_memory.specs.Vector.{one_span, spans_stream, spans_walk}
+use Rattle.load_bio.specs.Frames.{AreFrames, LiesInOneOf, in_frames}
+
+-- an unmapped bio begins in its first frame, and its frames have numbers below 2^30
+abbrev pub IsBio : Bio → Type 0
+IsBio (Mapped span) = Unit {0}
+IsBio (Vector spans) = Unit {0}
+IsBio (Unmapped frames off len) = (off < 4096) × AreFrames frames
+
+-- the spans of a bio, in order; that of an unmapped one is of the bytes of its frames
+abbrev pub bio_spans : Bio → List Span
+bio_spans (Mapped span) = span ∷ []
+bio_spans (Vector spans) = spans
+bio_spans (Unmapped frames off len) = one_span off len
+
+-- where the bytes of those spans lie, for a driver with this translation
+abbrev pub bio_translation : Translation → Bio → Translation
+bio_translation t (Mapped span) = t
+bio_translation t (Vector spans) = t
+bio_translation t (Unmapped frames off len) = in_frames frames
+
+-- an extent lies in a frame of the driver's memory, or of an unmapped bio in one of its frames
+abbrev pub LiesInBio : Memory → Bio → Extent → Type 0
+LiesInBio m (Mapped span) e = LiesIn m e
+LiesInBio m (Vector spans) e = LiesIn m e
+LiesInBio m (Unmapped frames off len) e = LiesInOneOf frames e
+
+-- the entries of a bio are rounded, unless it is unmapped
+abbrev pub is_rounded : Bio → Bool
+is_rounded (Mapped span) = true
+is_rounded (Vector spans) = true
+is_rounded (Unmapped frames off len) = false
+
+-- the walk over a bio of a driver with this translation
+abbrev pub bio_walk : Translation → Bio → Entries
+bio_walk t bio = spans_walk (is_rounded bio) (bio_translation t bio) (bio_spans bio)
+
+-- its stream
+abbrev pub bio_stream : Translation → Bio → List Part
+bio_stream t bio = spans_stream (is_rounded bio) (bio_translation t bio) (bio_spans bio)

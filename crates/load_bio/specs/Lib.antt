@@ -1,0 +1,3 @@
+pub mod Bio
+pub mod Frames
+pub mod Kinds

@@ -1,0 +1,101 @@
+//! The walk over a bio, as entries and as a stream.
+
+ghost use Rattle.std.specs.Prelude.{◌≡◌, ◌^◌, ◌<◌, ◌≤◌, IfOk, List, map};
+ghost use Rattle.std.specs.Iterator.{HoldsAlong, YieldsFirst, item_count};
+ghost use Rattle.std.specs.List.{AllByRecursion};
+ghost use Rattle.busdma_base.specs.Machine.Entry.{HasPart, IsEntry, IsStream, entries_addresses, parts_of};
+ghost use Rattle.busdma_base.specs.Machine.Spans.{span_addresses, span_bytes};
+ghost use Rattle.phys_memory.specs.Memory.{physical};
+ghost use Rattle.phys_memory.specs.Translation.{physical_or_0};
+ghost use Rattle.phys_memory.specs.Vector.{IfAll};
+ghost use Rattle.load_bio.specs.Bio.{IsBio, LiesInBio, bio_spans, bio_stream, bio_translation, bio_walk};
+
+use crate::frame_walk::walk_frames;
+use crate::frames::{FrameParts, frame_parts};
+use busdma_base::{Bio, Part};
+use phys_memory::{Entries, FlatParts, LanePages, VectorParts};
+use std::alloc::{AllocError, Global};
+use std::marker::Model;
+
+/// The parts of a bio, in order: the extents of each of its entries, the first of which opens it, up to
+/// the first byte that cannot be reached, and then `Unmapped` with the offset of that byte in the
+/// bio.
+#[derive(Drop)]
+pub struct BioParts<'a> {
+    kind: Kind<'a>,
+}
+
+#[derive(Drop)]
+enum Kind<'a> {
+    Mapped(FlatParts<'a>),
+    Vector(VectorParts<'a>),
+    Unmapped(FrameParts<'a>),
+}
+
+impl<'a> Model for BioParts<'a> {
+    ghost use Rattle.std.specs.Prelude.{List};
+    ghost use Rattle.busdma_base.specs.declared.machine.chunk.Part.{Part};
+    ghost use Rattle.load_bio.specs.Kinds.{kind_parts};
+
+    ghost Value = { List Part };
+
+    ghost view = { λ s. kind_parts s.kind };
+}
+
+impl<'a> Iterator for BioParts<'a> {
+    type Item = Part;
+
+    ghost next_gives = { YieldsFirst (λ s. s) };
+
+    ghost remaining = { item_count (λ s. s) };
+
+    fn next(&mut self) -> Option<Part> {
+        match &mut self.kind {
+            Kind::Mapped(parts) => parts.next(),
+            Kind::Vector(parts) => parts.next(),
+            Kind::Unmapped(parts) => parts.next(),
+        }
+    }
+}
+
+/// The entries of a bio of a driver, in order, or the offset in the bio of the first byte that cannot be
+/// reached. A mapped bio is one entry, a vector one for each span that has a byte. An unmapped bio
+/// is one that is not rounded, and the bytes past its last frame cannot be reached.
+pub fn walk(alloc: Global, memory: &LanePages, bio: &Bio) -> Result<Entries, AllocError>
+    requires bio { IsBio bio.now }
+    requires bytes { span_bytes (bio_spans bio.now) < 2 ^ 64 }
+    ensures walk { IfOk result (λ w. w ≡ bio_walk (physical memory.now.memory) bio.now) }
+    ensures addresses { let t = bio_translation (physical memory.now.memory) bio.now in
+        IfOk result (λ w. IfAll w (λ es. entries_addresses es ≡ map (physical_or_0 t) (span_addresses (bio_spans bio.now)))) }
+    ensures entries { IfOk result (λ w. IfAll w (AllByRecursion IsEntry)) }
+    ensures some { IfOk result (λ w. IfAll w (AllByRecursion HasPart)) }
+    ensures frames { let lies = LiesInBio memory.now.memory bio.now in
+        IfOk result (λ w. IfAll w (AllByRecursion (λ e. AllByRecursion lies e.parts))) }
+{
+    match bio {
+        Bio::Mapped(span) => memory.walk_flat(alloc, span.va, span.len),
+        Bio::Vector(spans) => memory.walk_vector(alloc, spans.as_slice()),
+        Bio::Unmapped { frames, off, len } => walk_frames(alloc, frames.as_slice(), *off, *len),
+    }
+}
+
+/// The parts of a bio of a driver, which are those of the entries where all bytes can be reached.
+pub fn parts<'a>(memory: &'a LanePages, bio: &'a Bio) -> BioParts<'a>
+    requires bio { IsBio bio.now }
+    requires bytes { span_bytes (bio_spans bio.now) < 2 ^ 64 }
+    ensures parts { result ≡ bio_stream (physical memory.now.memory) bio.now }
+    ensures walk { IfAll (bio_walk (physical memory.now.memory) bio.now) (λ es. result ≡ parts_of es) }
+
+    // Up to 2^20 bytes are the stream of a load, and so is each front of it.
+    ensures stream { span_bytes (bio_spans bio.now) ≤ 2 ^ 20 → IsStream result }
+    ensures along { span_bytes (bio_spans bio.now) ≤ 2 ^ 20 → HoldsAlong (YieldsFirst (λ ps. ps)) result IsStream }
+{
+    let kind = match bio {
+        Bio::Mapped(span) => Kind::Mapped(memory.parts_flat(span.va, span.len)),
+        Bio::Vector(spans) => Kind::Vector(memory.parts_vector(spans.as_slice())),
+        Bio::Unmapped { frames, off, len } => {
+            Kind::Unmapped(frame_parts(frames.as_slice(), *off, *len))
+        }
+    };
+    BioParts { kind }
+}

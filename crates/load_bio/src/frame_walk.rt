@@ -1,0 +1,40 @@
+//! The entry of bytes of frames that are not mapped.
+
+ghost use Rattle.std.specs.Prelude.{◌≡◌, ◌<◌, false, IfOk};
+ghost use Rattle.phys_memory.specs.Vector.{one_span, spans_walk};
+ghost use Rattle.load_bio.specs.Frames.{AreFrames, in_frames};
+
+use crate::frames::frame_parts;
+use busdma_base::{Entry, EntryList, ExtentList, Part};
+use phys_memory::Entries;
+use std::alloc::{AllocError, Global};
+
+/// The entry of `len` bytes of frames, from `off` in the first on, where there is a byte; or the offset
+/// of the first byte past the last frame.
+pub(crate) fn walk_frames(
+    alloc: Global,
+    frames: &[u64],
+    off: u64,
+    len: u64,
+) -> Result<Entries, AllocError>
+    requires off { off < 4096 }
+    requires frames { AreFrames frames.now }
+    ensures { IfOk result (λ w. w ≡ spans_walk false (in_frames frames.now) (one_span off len)) }
+{
+    let mut parts = Vec::new(alloc);
+    for part in frame_parts(frames, off, len) {
+        match part {
+            Part::Of { extent, .. } => parts.push(extent)?,
+            Part::Unmapped(at) => return Ok(Entries::Unmapped(at)),
+        }
+    }
+    let parts = ExtentList::new(parts);
+    let mut entries = Vec::new(alloc);
+    if !parts.is_empty() {
+        entries.push(Entry {
+            rounded: false,
+            parts,
+        })?;
+    }
+    Ok(Entries::All(EntryList::new(entries)))
+}

@@ -1,0 +1,85 @@
+//! The stream of bytes of frames that are not mapped.
+
+ghost use Rattle.std.specs.Prelude.{◌≡◌, ℕ, ◌^◌, ◌<◌, ◌≤◌, false};
+ghost use Rattle.std.specs.Iterator.{YieldsFirst, item_count};
+ghost use Rattle.busdma_base.specs.Machine.Entry.{IsStream};
+ghost use Rattle.phys_memory.specs.Vector.{one_span, spans_stream};
+ghost use Rattle.load_bio.specs.Frames.{AreFrames, in_frames};
+
+use busdma_base::{Extent, Pa, Part};
+use std::marker::Model;
+
+/// The parts of `left` bytes of frames, from `off` in the first on: one for each frame, up to the last
+/// byte, or to the end of the last frame and then `Unmapped` with the offset of the next byte. They
+/// are of one entry that is not rounded.
+#[derive(Drop)]
+pub(crate) struct FrameParts<'a> {
+    frames: &'a [u64],
+    off: u64,
+    left: u64,
+    offset: u64,
+    opens: bool,
+}
+
+impl<'a> Model for FrameParts<'a> {
+    ghost use Rattle.std.specs.Prelude.{List, ◌+◌, ◌<◌, ◌^◌, false};
+    ghost use Rattle.busdma_base.specs.declared.machine.chunk.Part.{Part};
+    ghost use Rattle.phys_memory.specs.Extents.{reached};
+    ghost use Rattle.phys_memory.specs.Walk.{run_stream};
+    ghost use Rattle.load_bio.specs.Frames.{AreFrames, in_frames};
+
+    ghost Value = { List Part };
+
+    ghost view = { λ s. run_stream (reached (in_frames s.frames.now) s.off s.left) s.left s.offset s.opens false };
+
+    ghost invariant = { λ s. (s.off < 4096) × (s.offset + s.left < 2 ^ 64) × AreFrames s.frames.now };
+}
+
+impl<'a> Iterator for FrameParts<'a> {
+    type Item = Part;
+
+    ghost next_gives = { YieldsFirst (λ s. s) };
+
+    ghost remaining = { item_count (λ s. s) };
+
+    fn next(&mut self) -> Option<Part> {
+        if self.left == 0 {
+            return None;
+        }
+        let Some((frame, others)) = self.frames.split_first() else {
+            self.left = 0;
+            return Some(Part::Unmapped(self.offset));
+        };
+        let extent = Extent {
+            pa: Pa(*frame * 4096 + self.off),
+            len: (4096 - self.off).min(self.left),
+        };
+        let opens = self.opens;
+        self.frames = others;
+        self.off = 0;
+        self.left -= extent.len;
+        self.offset += extent.len;
+        self.opens = false;
+        Some(Part::Of {
+            extent,
+            opens,
+            rounded: false,
+        })
+    }
+}
+
+/// The parts of `len` bytes of frames, from `off` in the first on.
+pub(crate) fn frame_parts(frames: &[u64], off: u64, len: u64) -> FrameParts<'_>
+    requires off { off < 4096 }
+    requires frames { AreFrames frames.now }
+    ensures parts { result ≡ spans_stream false (in_frames frames.now) (one_span off len) }
+    ensures stream { len ≤ 2 ^ 20 → IsStream result }
+{
+    FrameParts {
+        frames,
+        off,
+        left: len,
+        offset: 0,
+        opens: true,
+    }
+}

@@ -1,0 +1,11 @@
+//! Loads of bios, after bus_dma(9)'s `bus_dmamap_load_bio`: mapped in one run or in several, or not
+//! mapped.
+#![tactic(auto)]
+
+mod bio;
+mod frame_walk;
+mod frames;
+#[cfg(test)]
+mod tests;
+
+pub use bio::{BioParts, parts, walk};
