@@ -1,5 +1,6 @@
 -- The pool agrees with the account after each change.
-use Rattle.std.proofs.Common.{◌≡◌, ◌≢◌, ℕ, zero, suc, ◌+◌, ◌-◌, ◌<◌, ◌≤◌, List, [], ◌∷◌, ◌++◌, length, get_or, set, take, drop, refl, sym, ap, ◌∙◌, subst, arith, inl, inr}
+use Rattle.std.proofs.Common.{◌≡◌, ◌≢◌, ℕ, zero, suc, ◌+◌, ◌-◌, ◌<◌, ◌≤◌, List, [], ◌∷◌, ◌++◌, length, get_or, set}
+use Rattle.std.proofs.Common.{take, drop, refl, sym, ap, ◌∙◌, subst, arith, inl, inr}
 use Rattle.std.proofs.lemmas.Bool.Decides.{eqb_tells}
 use Rattle.std.proofs.lemmas.List.{get_or-set_same, get_or-set_other, length-set, set-get_or, length-map}
 use Rattle.busdma_base.specs.declared.name.MapId.{MapId}
@@ -10,12 +11,17 @@ use Rattle.busdma_base.specs.Bounce.Conditions.{times_held}
 use Rattle.busdma_base.specs.Machine.Page.{FrameBytes}
 use Rattle.busdma_base.specs.Machine.PageList.{page_addresses, page_address}
 use Rattle.busdma_base.specs.Bounce.WellFormed.{IsWellFormed}
-use Rattle.busdma_base.proofs.Accounts.Counts.{SameZone, handed-zone, handed-reserved, handed-active, handed-other, queued-zone, queued-reserved, queued-other, room_now, release-avail, release-wait, release-done, release-reserved, release-active, release-other, release-count, shorter-reserved, shorter-other, shorter-enough, back-zone}
+use Rattle.busdma_base.proofs.Accounts.Counts.{SameZone, handed-zone, handed-reserved, handed-active, handed-other}
+use Rattle.busdma_base.proofs.Accounts.Counts.{queued-zone, queued-reserved, queued-other, room_now, release-avail}
+use Rattle.busdma_base.proofs.Accounts.Counts.{release-wait, release-done, release-reserved, release-active}
+use Rattle.busdma_base.proofs.Accounts.Counts.{release-other, release-count, shorter-reserved, shorter-other}
+use Rattle.busdma_base.proofs.Accounts.Counts.{shorter-enough, back-zone}
 use Rattle.bounce_hub.specs.declared.slot.Slot.{Slot}
 use Rattle.bounce_hub.specs.declared.pool.Pool.{Pool}
 use Rattle.bounce_hub.specs.Pools.{Matches, Agrees, owed}
 use Rattle.bounce_hub.specs.Slots.{room_after}
-use Rattle.bounce_hub.proofs.Owing.{handed-owed, handed-waiting, queued-owed, queued-waiting, release-owed, release-waiting, shorter-owed}
+use Rattle.bounce_hub.proofs.Owing.{handed-owed, handed-waiting, queued-owed, queued-waiting, release-owed}
+use Rattle.bounce_hub.proofs.Owing.{release-waiting, shorter-owed}
 
 pub addresses-drop : (n : ℕ) (ps : List FrameBytes) → page_addresses (drop n ps) ≡ drop n (page_addresses ps)
 addresses-drop zero ps = refl
@@ -34,16 +40,22 @@ pub record Around (p q : Pool) : Type 0 where
   pub max_bpages : q.max_bpages ≡ p.max_bpages
 
 -- the zone at a place
-pub slot-matches : (p : Pool) (a : Account) (z : ℕ) (s : Slot) → Agrees p a → z < length a.zones → s ≡ get_or p.zones.items z s → Matches s a z
-slot-matches p a z s agrees inside at = subst (λ k. Matches k a z) (sym at) (agrees.zones z s (omega (arith, inside, agrees.count)))
+pub slot-matches : (p : Pool) (a : Account) (z : ℕ) (s : Slot) → Agrees p a → z < length a.zones →
+    s ≡ get_or p.zones.items z s → Matches s a z
+slot-matches p a z s agrees inside at =
+    subst (λ k. Matches k a z) (sym at) (agrees.zones z s (omega (arith, inside, agrees.count)))
 
 -- one zone's counters change, and the others' stay
-matches-set : (slots : List Slot) (a b : Account) (z : ℕ) (s : Slot) → z < length slots → ((y : ℕ) (d : Slot) → y < length slots → Matches (get_or slots y d) a y) → Matches s b z → ((y : ℕ) → y ≢ z → SameZone a b y)
+matches-set : (slots : List Slot) (a b : Account) (z : ℕ) (s : Slot) → z < length slots →
+    ((y : ℕ) (d : Slot) → y < length slots → Matches (get_or slots y d) a y) →
+    Matches s b z → ((y : ℕ) → y ≢ z → SameZone a b y)
     → (y : ℕ) (d : Slot) → y < length (set slots z s) → Matches (get_or (set slots z s) y d) b y
 matches-set slots a b z s inside each here others y d below =
     (elim (eqb_tells y z) as (λ _. Matches (get_or (set slots z s) y d) b y) [
-      | inl h ↦ subst (λ k. Matches (get_or (set slots z s) k d) b k) (sym h.1) (rw (get_or-set_same slots z s d inside) here)
-      | inr h ↦ (let old : Matches (get_or slots y d) a y = each y d (omega (arith, below, length-set slots z s)) in let same : SameZone a b y = others y h.1 in
+      | inl h ↦ subst (λ k. Matches (get_or (set slots z s) k d) b k) (sym h.1)
+          (rw (get_or-set_same slots z s d inside) here)
+      | inr h ↦ (let old : Matches (get_or slots y d) a y = each y d (omega (arith, below, length-set slots z s)) in
+          let same : SameZone a b y = others y h.1 in
           rw (get_or-set_other slots z y s d h.1) (record {
             lowaddr = old.lowaddr ∙ sym (ap (λ (k : Zone). k.lowaddr) same.zone);
             alignment = old.alignment ∙ sym (ap (λ (k : Zone). k.alignment) same.zone);
@@ -57,14 +69,17 @@ matches-set slots a b z s inside each here others y d below =
     ])
 
 -- the zones of a pool, of which one changed
-pub zones-set : (p q : Pool) (a b : Account) (z : ℕ) (s : Slot) → Agrees p a → z < length a.zones → q.zones.items ≡ set p.zones.items z s → Matches s b z → ((y : ℕ) → y ≢ z → SameZone a b y)
+pub zones-set : (p q : Pool) (a b : Account) (z : ℕ) (s : Slot) → Agrees p a → z < length a.zones →
+    q.zones.items ≡ set p.zones.items z s → Matches s b z → ((y : ℕ) → y ≢ z → SameZone a b y)
     → (y : ℕ) (d : Slot) → y < length q.zones.items → Matches (get_or q.zones.items y d) b y
 zones-set p q a b z s agrees inside is here others =
     subst (λ (slots : List Slot). (y : ℕ) (d : Slot) → y < length slots → Matches (get_or slots y d) b y) (sym is)
     (matches-set p.zones.items a b z s (omega (arith, inside, agrees.count)) agrees.zones here others)
 
-pub count-set : (p q : Pool) (a : Account) (z : ℕ) (s : Slot) (k : Zone) → Agrees p a → q.zones.items ≡ set p.zones.items z s → length q.zones.items ≡ length (set a.zones z k)
-count-set p q a z s k agrees is = ap (λ (slots : List Slot). length slots) is ∙ length-set p.zones.items z s ∙ agrees.count ∙ sym (length-set a.zones z k)
+pub count-set : (p q : Pool) (a : Account) (z : ℕ) (s : Slot) (k : Zone) → Agrees p a →
+    q.zones.items ≡ set p.zones.items z s → length q.zones.items ≡ length (set a.zones z k)
+count-set p q a z s k agrees is = ap (λ (slots : List Slot). length slots) is ∙ length-set p.zones.items z s
+    ∙ agrees.count ∙ sym (length-set a.zones z k)
 
 -- pages were handed out
 pub agrees-handed : (p q : Pool) (a : Account) (m : MapId) (z need : ℕ) (old new : Slot)
@@ -73,7 +88,8 @@ pub agrees-handed : (p q : Pool) (a : Account) (m : MapId) (z need : ℕ) (old n
     → q.zones.items ≡ set p.zones.items z new → q.ready ≡ p.ready → q.owed ≡ p.owed + need
     → Agrees q (handed a m z need)
 agrees-handed p q a m z need old new agrees around inside enough here is zones ready more =
-    let at : zone_at (handed a m z need) z ≡ record (zone_at a z) { avail = drop need (zone_at a z).avail } = handed-zone a m z need inside enough in
+    let at : zone_at (handed a m z need) z ≡ record (zone_at a z) { avail = drop need (zone_at a z).avail } =
+    handed-zone a m z need inside enough in
     record {
       bank = ap (λ b. page_addresses b.pages) around.bank ∙ agrees.bank;
       count = count-set p q a z new _ agrees zones;
@@ -81,7 +97,8 @@ agrees-handed p q a m z need old new agrees around inside enough here is zones r
           (rw is (record {
             lowaddr = here.lowaddr ∙ sym (ap (λ (k : Zone). k.lowaddr) at);
             alignment = here.alignment ∙ sym (ap (λ (k : Zone). k.alignment) at);
-            avail = addresses-drop need old.zone.pages ∙ ap (drop need) here.avail ∙ sym (ap (λ (k : Zone). k.avail) at);
+            avail =
+                addresses-drop need old.zone.pages ∙ ap (drop need) here.avail ∙ sym (ap (λ (k : Zone). k.avail) at);
             reserved = here.reserved ∙ sym (handed-reserved a m z need inside enough z);
             active = omega (arith, here.active, handed-active a m z need inside enough);
             wait = here.wait ∙ sym (ap (λ (k : Zone). k.wait) at);
@@ -99,11 +116,21 @@ agrees-handed p q a m z need old new agrees around inside enough here is zones r
 -- a map waits with all free pages
 pub agrees-queued : (p q : Pool) (a : Account) (m : MapId) (z need : ℕ) (old new : Slot)
     → Agrees p a → Around p q → IsWellFormed a → z < length a.zones → free a z < need → Matches old a z
-    → new ≡ record old { zone = record old.zone { reserved = old.zone.reserved + free a z }; wait = old.wait ++ record { map = m; zone = record { 0 = z }; need = need; have = free a z } ∷ [] }
-    → q.zones.items ≡ set p.zones.items z new → q.ready ≡ record p.ready { spare = p.ready.spare + 1 } → q.owed ≡ p.owed + (need + 1)
+    → new ≡ record old {
+      zone = record old.zone { reserved = old.zone.reserved + free a z };
+      wait = old.wait
+          ++ record { map = m; zone = record { 0 = z }; need = need; have = free a z } ∷ [];
+    }
+    → q.zones.items ≡ set p.zones.items z new →
+    q.ready ≡ record p.ready { spare = p.ready.spare + 1 } → q.owed ≡ p.owed + (need + 1)
     → Agrees q (queued a m z need)
 agrees-queued p q a m z need old new agrees around well inside short here is zones ready more =
-    let at : zone_at (queued a m z need) z ≡ record (zone_at a z) { wait = (zone_at a z).wait ++ record { map = m; zone = record { 0 = z }; need = need; have = free a z } ∷ [] } = queued-zone a m z need inside well short in
+    let at : zone_at (queued a m z need) z
+    ≡ record (zone_at a z) {
+      wait = (zone_at a z).wait
+          ++ record { map = m; zone = record { 0 = z }; need = need; have = free a z } ∷ [];
+    } =
+    queued-zone a m z need inside well short in
     record {
       bank = ap (λ b. page_addresses b.pages) around.bank ∙ agrees.bank;
       count = count-set p q a z new _ agrees zones;
@@ -114,7 +141,8 @@ agrees-queued p q a m z need old new agrees around well inside short here is zon
             avail = here.avail ∙ sym (ap (λ (k : Zone). k.avail) at);
             reserved = omega (arith, here.reserved, queued-reserved a m z need inside well short);
             active = here.active;
-            wait = ap (λ ws. ws ++ record { map = m; zone = record { 0 = z }; need = need; have = free a z } ∷ []) here.wait ∙ sym (ap (λ (k : Zone). k.wait) at);
+            wait = ap (λ ws. ws ++ record { map = m; zone = record { 0 = z }; need = need; have = free a z } ∷ [])
+                here.wait ∙ sym (ap (λ (k : Zone). k.wait) at);
             maps = here.maps ∙ sym (ap (λ (k : Zone). length k.maps) at);
             deferred = here.deferred ∙ sym (ap (λ (k : Zone). k.deferred) at);
           }))
@@ -127,15 +155,33 @@ agrees-queued p q a m z need old new agrees around well inside short here is zon
     }
 
 -- how many pages are free once a page came back
-pub room-is : (a : Account) (m : MapId) (z page : ℕ) (old : Slot) (inside : z < length a.zones) (held : times_held m z page a ≡ 1) (well : IsWellFormed a) → Matches old a z → room_after old ≡ room_now a m z page inside held well
-room-is a m z page old inside held well here = omega (arith, ap (λ (x : List ℕ). length x) here.avail, length-map old.zone.pages page_address, here.reserved)
+pub room-is : (a : Account) (m : MapId) (z page : ℕ) (old : Slot) (inside : z < length a.zones)
+    (held : times_held m z page a ≡ 1) (well : IsWellFormed a) → Matches old a z →
+    room_after old ≡ room_now a m z page inside held well
+room-is a m z page old inside held well here =
+    omega (arith, ap (λ (x : List ℕ). length x) here.avail, length-map old.zone.pages page_address, here.reserved)
 
 -- a page came back, and the zone served
 pub agrees-released : (p q : Pool) (a : Account) (m : MapId) (z : ℕ) (page : FrameBytes) (old new : Slot)
-    → Agrees p a → Around p q → IsWellFormed a → z < length a.zones → times_held m z (page_address page) a ≡ 1 → Matches old a z
-    → new ≡ record old { zone = record old.zone { pages = page ∷ old.zone.pages; active = old.zone.active - 1; reserved = old.zone.reserved + promised (room_after old) old.wait }; wait = left_waiting (room_after old) old.wait; deferred = old.deferred + length (completed (room_after old) old.wait) }
+    → Agrees p a → Around p q → IsWellFormed a → z < length a.zones →
+    times_held m z (page_address page) a ≡ 1 → Matches old a z
+    →
+    new
+    ≡ record old {
+      zone = record old.zone {
+        pages = page ∷ old.zone.pages;
+        active = old.zone.active - 1;
+        reserved = old.zone.reserved + promised (room_after old) old.wait;
+      };
+      wait = left_waiting (room_after old) old.wait;
+      deferred =
+          old.deferred + length (completed (room_after old) old.wait);
+    }
     → q.zones.items ≡ set p.zones.items z new
-    → q.ready ≡ record { items = p.ready.items ++ completed (room_after old) old.wait; spare = p.ready.spare - length (completed (room_after old) old.wait) }
+    → q.ready ≡ record {
+      items = p.ready.items ++ completed (room_after old) old.wait;
+      spare = p.ready.spare - length (completed (room_after old) old.wait);
+    }
     → q.owed ≡ p.owed - 1
     → Agrees q (served (returned a m z (page_address page)) z)
 agrees-released p q a m z page old new agrees around well inside held here is zones then less =
@@ -143,14 +189,26 @@ agrees-released p q a m z page old new agrees around well inside held here is zo
     let b : Account = returned a m z f in
     let k : room_after old ≡ room_now a m z f inside held well = room-is a m z f old inside held well here in
     let w : old.wait ≡ (zone_at a z).wait = here.wait in
-    let kept : left_waiting (room_after old) old.wait ≡ (zone_at (served b z) z).wait = ap (λ r. left_waiting r old.wait) k ∙ ap (left_waiting (room_now a m z f inside held well)) w ∙ sym (release-wait a m z f inside held well) in
-    let done : completed (room_after old) old.wait ≡ completed (free b z) (zone_at b z).wait = ap (λ r. completed r old.wait) k ∙ ap (completed (room_now a m z f inside held well)) w ∙ sym (release-done a m z f inside held well) in
-    let got : promised (room_after old) old.wait ≡ promised (room_now a m z f inside held well) (zone_at a z).wait = ap (λ r. promised r old.wait) k ∙ ap (promised (room_now a m z f inside held well)) w in
-    let back : zone_at b z ≡ record (zone_at a z) { avail = f ∷ (zone_at a z).avail } = back-zone a m z f inside held in
-    let at : zone_at (served b z) z ≡ record (zone_at b z) { wait = left_waiting (free b z) (zone_at b z).wait; deferred = (zone_at b z).deferred + length (completed (free b z) (zone_at b z).wait) } = get_or-set_same b.zones z _ _ (omega (arith, inside, length-set a.zones z (record (zone_at a z) { avail = f ∷ (zone_at a z).avail }))) in
+    let kept : left_waiting (room_after old) old.wait ≡ (zone_at (served b z) z).wait =
+    ap (λ r. left_waiting r old.wait) k ∙ ap (left_waiting (room_now a m z f inside held well)) w
+    ∙ sym (release-wait a m z f inside held well) in
+    let done : completed (room_after old) old.wait ≡ completed (free b z) (zone_at b z).wait =
+    ap (λ r. completed r old.wait) k ∙ ap (completed (room_now a m z f inside held well)) w
+    ∙ sym (release-done a m z f inside held well) in
+    let got : promised (room_after old) old.wait ≡ promised (room_now a m z f inside held well) (zone_at a z).wait =
+    ap (λ r. promised r old.wait) k ∙ ap (promised (room_now a m z f inside held well)) w in
+    let back : zone_at b z ≡ record (zone_at a z) { avail = f ∷ (zone_at a z).avail } =
+    back-zone a m z f inside held in
+    let at : zone_at (served b z) z ≡ record (zone_at b z) {
+      wait = left_waiting (free b z) (zone_at b z).wait;
+      deferred = (zone_at b z).deferred + length (completed (free b z) (zone_at b z).wait);
+    } =
+    get_or-set_same b.zones z _ _ (omega
+    (arith, inside, length-set a.zones z (record (zone_at a z) { avail = f ∷ (zone_at a z).avail }))) in
     record {
       bank = ap (λ b. page_addresses b.pages) around.bank ∙ agrees.bank;
-      count = ap (λ (slots : List Slot). length slots) zones ∙ length-set p.zones.items z new ∙ agrees.count ∙ sym (release-count a m z f inside held well);
+      count = ap (λ (slots : List Slot). length slots) zones ∙ length-set p.zones.items z new ∙ agrees.count
+          ∙ sym (release-count a m z f inside held well);
       zones = zones-set p q a (served b z) z new agrees inside zones
           (rw is (record {
             lowaddr = here.lowaddr ∙ sym (ap (λ (k : Zone). k.lowaddr) at ∙ ap (λ (k : Zone). k.lowaddr) back);
@@ -160,11 +218,26 @@ agrees-released p q a m z page old new agrees around well inside held here is zo
             active = omega (arith, here.active, release-active a m z f inside held well);
             wait = kept;
             maps = here.maps ∙ sym (ap (λ (k : Zone). length k.maps) at ∙ ap (λ (k : Zone). length k.maps) back);
-            deferred = omega (arith, here.deferred, ap (λ (k : Zone). k.deferred) at, ap (λ (k : Zone). k.deferred) back, ap (λ (x : List Waiter). length x) done);
+            deferred =
+                omega (
+                  arith,
+                  here.deferred,
+                  ap (λ (k : Zone). k.deferred) at,
+                  ap (λ (k : Zone). k.deferred) back,
+                  ap (λ (x : List Waiter). length x) done,
+                );
           }))
           (release-other a m z f inside held well);
-      ready = ap (λ r. r.items) then ∙ ap (λ x. x ++ completed (room_after old) old.wait) agrees.ready ∙ ap (λ x. a.ready ++ x) done;
-      spare = omega (arith, ap (λ r. r.spare) then, agrees.spare, release-waiting a m z f inside held, ap (λ (x : List Waiter). length x) done);
+      ready = ap (λ r. r.items) then ∙ ap (λ x. x ++ completed (room_after old) old.wait) agrees.ready
+          ∙ ap (λ x. a.ready ++ x) done;
+      spare =
+          omega (
+            arith,
+            ap (λ r. r.spare) then,
+            agrees.spare,
+            release-waiting a m z f inside held,
+            ap (λ (x : List Waiter). length x) done,
+          );
       owed = omega (arith, less, agrees.owed, release-owed a m z f inside held);
       maxmem = around.maxmem ∙ agrees.maxmem;
       max_bpages = around.max_bpages ∙ agrees.max_bpages;
@@ -173,14 +246,24 @@ agrees-released p q a m z page old new agrees around well inside held here is zo
 -- a callback took its pages
 pub agrees-called : (p q : Pool) (a : Account) (w : Waiter) (ws : List Waiter) (old new : Slot)
     → Agrees p a → Around p q → IsWellFormed a → a.ready ≡ w ∷ ws → w.zone.0 < length a.zones → Matches old a w.zone.0
-    → new ≡ record old { zone = record old.zone { pages = drop w.need old.zone.pages; reserved = old.zone.reserved - w.need; active = old.zone.active + w.need } }
-    → q.zones.items ≡ set p.zones.items w.zone.0 new → q.ready.items ≡ ws → q.ready.spare ≡ p.ready.spare → q.owed ≡ p.owed - 1
+    →
+    new
+    ≡ record old {
+      zone = record old.zone {
+        pages = drop w.need old.zone.pages;
+        reserved = old.zone.reserved - w.need;
+        active = old.zone.active + w.need;
+      };
+    }
+    → q.zones.items ≡ set p.zones.items w.zone.0 new → q.ready.items ≡ ws →
+    q.ready.spare ≡ p.ready.spare → q.owed ≡ p.owed - 1
     → Agrees q (handed (record a { ready = ws }) w.map w.zone.0 w.need)
 agrees-called p q a w ws old new agrees around well is inside here new_is zones items spare less =
     let b : Account = record a { ready = ws } in
     let z : ℕ = w.zone.0 in
     let enough : w.need ≤ free b z = shorter-enough a w ws is well in
-    let at : zone_at (handed b w.map z w.need) z ≡ record (zone_at a z) { avail = drop w.need (zone_at a z).avail } = handed-zone b w.map z w.need inside enough in
+    let at : zone_at (handed b w.map z w.need) z ≡ record (zone_at a z) { avail = drop w.need (zone_at a z).avail } =
+    handed-zone b w.map z w.need inside enough in
     record {
       bank = ap (λ b. page_addresses b.pages) around.bank ∙ agrees.bank;
       count = count-set p q a z new _ agrees zones;
@@ -188,14 +271,22 @@ agrees-called p q a w ws old new agrees around well is inside here new_is zones 
           (rw new_is (record {
             lowaddr = here.lowaddr ∙ sym (ap (λ (k : Zone). k.lowaddr) at);
             alignment = here.alignment ∙ sym (ap (λ (k : Zone). k.alignment) at);
-            avail = addresses-drop w.need old.zone.pages ∙ ap (drop w.need) here.avail ∙ sym (ap (λ (k : Zone). k.avail) at);
-            reserved = omega (arith, here.reserved, shorter-reserved a w ws is well, handed-reserved b w.map z w.need inside enough z);
+            avail = addresses-drop w.need old.zone.pages ∙ ap (drop w.need) here.avail
+                ∙ sym (ap (λ (k : Zone). k.avail) at);
+            reserved =
+                omega (
+                  arith,
+                  here.reserved,
+                  shorter-reserved a w ws is well,
+                  handed-reserved b w.map z w.need inside enough z,
+                );
             active = omega (arith, here.active, handed-active b w.map z w.need inside enough);
             wait = here.wait ∙ sym (ap (λ (k : Zone). k.wait) at);
             maps = here.maps ∙ sym (ap (λ (k : Zone). length k.maps) at);
             deferred = here.deferred ∙ sym (ap (λ (k : Zone). k.deferred) at);
           }))
-          (λ y apart. (let s : SameZone b (handed b w.map z w.need) y = handed-other b w.map z w.need inside enough y apart in
+          (λ y apart. (let s : SameZone b (handed b w.map z w.need) y =
+          handed-other b w.map z w.need inside enough y apart in
           record { zone = s.zone; reserved = s.reserved ∙ shorter-other a w ws is well y apart; active = s.active }));
       ready = items;
       spare = omega (arith, agrees.spare, spare, handed-waiting b w.map z w.need inside enough);
@@ -206,13 +297,16 @@ agrees-called p q a w ws old new agrees around well is inside here new_is zones 
 
 -- a zone was written back as it was
 pub agrees-same : (p q : Pool) (a : Account) (z : ℕ) (s : Slot)
-    → Agrees p a → Around p q → s ≡ get_or p.zones.items z s → q.zones.items ≡ set p.zones.items z s → q.ready ≡ p.ready → q.owed ≡ p.owed → Agrees q a
+    → Agrees p a → Around p q → s ≡ get_or p.zones.items z s → q.zones.items ≡ set p.zones.items z s →
+    q.ready ≡ p.ready → q.owed ≡ p.owed → Agrees q a
 agrees-same p q a z s agrees around at is ready owed =
     let same : q.zones.items ≡ p.zones.items = is ∙ ap (set p.zones.items z) at ∙ set-get_or p.zones.items z s in
     record {
       bank = ap (λ b. page_addresses b.pages) around.bank ∙ agrees.bank;
       count = ap (λ (slots : List Slot). length slots) same ∙ agrees.count;
-      zones = subst (λ (slots : List Slot). (y : ℕ) (d : Slot) → y < length slots → Matches (get_or slots y d) a y) (sym same) agrees.zones;
+      zones =
+          subst (λ (slots : List Slot). (y : ℕ) (d : Slot) → y < length slots →
+          Matches (get_or slots y d) a y) (sym same) agrees.zones;
       ready = ap (λ r. r.items) ready ∙ agrees.ready;
       spare = omega (arith, agrees.spare, ap (λ r. r.spare) ready);
       owed = owed ∙ agrees.owed;

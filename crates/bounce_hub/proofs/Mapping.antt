@@ -1,5 +1,6 @@
 -- Maps join their zones and leave them.
-use Rattle.std.proofs.Common.{◌≡◌, ℕ, ◌+◌, ◌<◌, ◌≤◌, Bool, true, false, cond, not, ◌||◌, List, [], ◌∷◌, length, set, refl, sym, ap, ◌∙◌, arith, ◌==◌}
+use Rattle.std.proofs.Common.{◌≡◌, ℕ, ◌+◌, ◌<◌, ◌≤◌, Bool, true, false, cond, not, ◌||◌, List, [], ◌∷◌, length, set}
+use Rattle.std.proofs.Common.{refl, sym, ap, ◌∙◌, arith, ◌==◌}
 use Rattle.std.specs.List.{count_by, sum_by, filter}
 use Rattle.std.proofs.lemmas.List.{get_or-set_same, get_or-set_other}
 use Rattle.std.proofs.lemmas.List.Sums.{sum_by-cons, sum_by-set, get_or-le-sum_by}
@@ -24,14 +25,17 @@ of_zone s = entries_of s.wait + length s.maps
 -- another number of maps in one zone
 pub agrees-mapped : (p q : Pool) (a : Account) (z : ℕ) (old new : Slot) (maps : List MapId)
     → Agrees p a → Around p q → z < length a.zones → Matches old a z
-    → new ≡ record old { maps = length maps } → q.zones.items ≡ set p.zones.items z new → q.ready ≡ p.ready → q.owed + length (zone_at a z).maps ≡ p.owed + length maps
+    → new ≡ record old { maps = length maps } → q.zones.items ≡ set p.zones.items z new → q.ready ≡ p.ready →
+    q.owed + length (zone_at a z).maps ≡ p.owed + length maps
     → Agrees q (with_zone a z (record (zone_at a z) { maps = maps }))
 agrees-mapped p q a z old new maps agrees around inside here is zones ready more =
     let k : Zone = record (zone_at a z) { maps = maps } in
     let b : Account = with_zone a z k in
     let at : zone_at b z ≡ k = get_or-set_same a.zones z k no_zone inside in
-    let less : owed b + length (zone_at a z).maps ≡ owed a + length maps = omega (arith, sum_by-set of_zone a.zones z k no_zone inside) in
-    let same : waiting b ≡ waiting a = omega (arith, sum_by-set (λ (s : Zone). length s.wait) a.zones z k no_zone inside) in
+    let less : owed b + length (zone_at a z).maps ≡ owed a + length maps =
+    omega (arith, sum_by-set of_zone a.zones z k no_zone inside) in
+    let same : waiting b ≡ waiting a =
+    omega (arith, sum_by-set (λ (s : Zone). length s.wait) a.zones z k no_zone inside) in
     record {
       bank = ap (λ b. page_addresses b.pages) around.bank ∙ agrees.bank;
       count = count-set p q a z new k agrees zones;
@@ -40,14 +44,24 @@ agrees-mapped p q a z old new maps agrees around inside here is zones ready more
             lowaddr = here.lowaddr ∙ sym (ap (λ (k : Zone). k.lowaddr) at);
             alignment = here.alignment ∙ sym (ap (λ (k : Zone). k.alignment) at);
             avail = here.avail ∙ sym (ap (λ (k : Zone). k.avail) at);
-            reserved = here.reserved ∙ sym (ap (λ (s : Zone). sum_by (λ w. w.have) s.wait + sum_by (λ w. w.need) (filter (λ w. w.zone.0 == z) a.ready)) at);
+            reserved =
+                here.reserved
+                ∙ sym
+                (ap (λ (s : Zone). sum_by (λ w. w.have) s.wait
+                + sum_by (λ w. w.need) (filter (λ w. w.zone.0 == z) a.ready)) at);
             active = here.active;
             wait = here.wait ∙ sym (ap (λ (k : Zone). k.wait) at);
             maps = sym (ap (λ (k : Zone). length k.maps) at);
             deferred = here.deferred ∙ sym (ap (λ (k : Zone). k.deferred) at);
           }))
           (λ y apart. (let there : zone_at b y ≡ zone_at a y = get_or-set_other a.zones z y k no_zone apart in
-          record { zone = there; reserved = ap (λ (s : Zone). sum_by (λ w. w.have) s.wait + sum_by (λ w. w.need) (filter (λ w. w.zone.0 == y) a.ready)) there; active = refl }));
+          record {
+            zone = there;
+            reserved =
+                ap (λ (s : Zone). sum_by (λ w. w.have) s.wait
+                + sum_by (λ w. w.need) (filter (λ w. w.zone.0 == y) a.ready)) there;
+            active = refl;
+          }));
       ready = ap (λ r. r.items) ready ∙ agrees.ready;
       spare = omega (arith, agrees.spare, ap (λ r. r.spare) ready, same);
       owed = omega (arith, more, agrees.owed, less);
@@ -56,12 +70,17 @@ agrees-mapped p q a z old new maps agrees around inside here is zones ready more
     }
 
 -- one map fewer
-pub maps-less : (m : MapId) (ms : List MapId) → length (filter (λ n. not (same_map m n)) ms) + count_by (same_map m) ms ≡ length ms
+pub maps-less : (m : MapId) (ms : List MapId) →
+    length (filter (λ n. not (same_map m n)) ms) + count_by (same_map m) ms ≡ length ms
 maps-less m [] = refl
 maps-less m (n ∷ ms) =
-    (elim (same_map m n) as (λ v. same_map m n ≡ v → length (cond (not v) (n ∷ filter (λ n. not (same_map m n)) ms) (filter (λ n. not (same_map m n)) ms)) + count_by (same_map m) (n ∷ ms) ≡ length (n ∷ ms)) [
-      | true ↦ λ w. (let one : weight (same_map m n) ≡ 1 = rw w refl in omega (arith, one, maps-less m ms, sum_by-cons (λ y. weight (same_map m y)) n ms))
-      | false ↦ λ w. (let none : weight (same_map m n) ≡ 0 = rw w refl in omega (arith, none, maps-less m ms, sum_by-cons (λ y. weight (same_map m y)) n ms))
+    (elim (same_map m n) as (λ v. same_map m n ≡ v →
+    length (cond (not v) (n ∷ filter (λ n. not (same_map m n)) ms) (filter (λ n. not (same_map m n)) ms))
+    + count_by (same_map m) (n ∷ ms) ≡ length (n ∷ ms)) [
+      | true ↦ λ w. (let one : weight (same_map m n) ≡ 1 = rw w refl in
+          omega (arith, one, maps-less m ms, sum_by-cons (λ y. weight (same_map m y)) n ms))
+      | false ↦ λ w. (let none : weight (same_map m n) ≡ 0 = rw w refl in
+          omega (arith, none, maps-less m ms, sum_by-cons (λ y. weight (same_map m y)) n ms))
     ]) refl
 
 -- a zone's maps are among those that are to end
@@ -70,11 +89,24 @@ maps-owed a z inside = omega (arith, get_or-le-sum_by of_zone a.zones z no_zone 
 
 -- the making of a map, by whether it was made
 pub created-made : (m : MapId) (t : TagLimits) (first_done : Bool) (a : Account) (n wanted : ℕ)
-    → wanted ≡ wanted_by_map t first_done (zone_at (with_zone_for t a) (zone_of t a.zones)) (total (with_zone_for t a) (zone_of t a.zones)) (maxpages t a) → n ≡ added (with_zone_for t a) (zone_of t a.zones) wanted → (first_done || n == wanted) ≡ true
-    → created m t first_done a ≡ record { account = with_map (grown (with_zone_for t a) (zone_of t a.zones) n) (zone_of t a.zones) m; reply = Grown (record { zone = record { 0 = zone_of t a.zones }; added = n; made = true }) }
+    → wanted ≡ wanted_by_map t first_done (zone_at (with_zone_for t a) (zone_of t a.zones))
+    (total (with_zone_for t a) (zone_of t a.zones)) (maxpages t a) →
+    n ≡ added (with_zone_for t a) (zone_of t a.zones) wanted → (first_done || n == wanted) ≡ true
+    →
+    created m t first_done a ≡ record {
+      account =
+          with_map (grown (with_zone_for t a) (zone_of t a.zones) n) (zone_of t a.zones) m;
+      reply =
+          Grown (record { zone = record { 0 = zone_of t a.zones }; added = n; made = true });
+    }
 created-made m t first_done a n wanted w e holds = rw (sym w, sym e, holds) refl
 
 pub created-not : (m : MapId) (t : TagLimits) (first_done : Bool) (a : Account) (n wanted : ℕ)
-    → wanted ≡ wanted_by_map t first_done (zone_at (with_zone_for t a) (zone_of t a.zones)) (total (with_zone_for t a) (zone_of t a.zones)) (maxpages t a) → n ≡ added (with_zone_for t a) (zone_of t a.zones) wanted → (first_done || n == wanted) ≡ false
-    → created m t first_done a ≡ record { account = grown (with_zone_for t a) (zone_of t a.zones) n; reply = Grown (record { zone = record { 0 = zone_of t a.zones }; added = n; made = false }) }
+    → wanted ≡ wanted_by_map t first_done (zone_at (with_zone_for t a) (zone_of t a.zones))
+    (total (with_zone_for t a) (zone_of t a.zones)) (maxpages t a) →
+    n ≡ added (with_zone_for t a) (zone_of t a.zones) wanted → (first_done || n == wanted) ≡ false
+    → created m t first_done a ≡ record {
+      account = grown (with_zone_for t a) (zone_of t a.zones) n;
+      reply = Grown (record { zone = record { 0 = zone_of t a.zones }; added = n; made = false });
+    }
 created-not m t first_done a n wanted w e fails = rw (sym w, sym e, fails) refl

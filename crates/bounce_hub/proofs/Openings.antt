@@ -14,7 +14,9 @@ page_is_frame p h = record { whole = omega arith; numbered = omega (arith, h) }
 pub bank_opens : (b : Bank) (max_bpages maxmem : ℕ) → IsBank b → IsOpening (opening b max_bpages maxmem)
 bank_opens b max_bpages maxmem sound = record {
   rising = sound.rising;
-  frames = All-map IsFrame page_address b.pages (All-weaker (λ p. p.frame < 2 ^ 30) (λ p. IsFrame (page_address p)) page_is_frame b.pages sound.numbered);
+  frames =
+      All-map IsFrame page_address b.pages
+      (All-weaker (λ p. p.frame < 2 ^ 30) (λ p. IsFrame (page_address p)) page_is_frame b.pages sound.numbered);
   few = omega (arith, length-map b.pages page_address, sound.roomy, sound.few);
   zones = refl;
   held = refl;

@@ -1,5 +1,6 @@
 -- What each change of an account makes of the entries to come and of the number of maps that wait.
-use Rattle.std.proofs.Common.{◌≡◌, ℕ, ◌+◌, ◌-◌, ◌<◌, ◌≤◌, Bool, true, false, cond, not, List, [], ◌∷◌, ◌++◌, map, take, drop, length, refl, ap, arith, leb, if◌then◌else◌}
+use Rattle.std.proofs.Common.{◌≡◌, ℕ, ◌+◌, ◌-◌, ◌<◌, ◌≤◌, Bool, true, false, cond, not, List, [], ◌∷◌, ◌++◌, map, take}
+use Rattle.std.proofs.Common.{drop, length, refl, ap, arith, leb, if◌then◌else◌}
 use Rattle.std.specs.List.{count_by, filter}
 use Rattle.std.proofs.lemmas.List.{length-map, length-take-le, length-append, length-set}
 use Rattle.std.proofs.lemmas.List.Sums.{sum_by-cons, sum_by-append, sum_by-set}
@@ -28,7 +29,12 @@ module _ (a : Account) (m : MapId) (z need : ℕ) (inside : z < length a.zones) 
   )
 
   pub handed-waiting : waiting (handed a m z need) ≡ waiting a
-  handed-waiting = omega (arith, sum_by-set (λ (s : Zone). length s.wait) a.zones z (record (zone_at a z) { avail = drop need (zone_at a z).avail }) no_zone inside)
+  handed-waiting =
+      omega (
+        arith,
+        sum_by-set (λ (s : Zone). length s.wait) a.zones z
+            (record (zone_at a z) { avail = drop need (zone_at a z).avail }) no_zone inside,
+      )
 
 -- a map waits
 module _ (a : Account) (m : MapId) (z need : ℕ) (inside : z < length a.zones) where
@@ -47,23 +53,43 @@ module _ (a : Account) (m : MapId) (z need : ℕ) (inside : z < length a.zones) 
   )
 
   pub queued-waiting : waiting (queued a m z need) ≡ waiting a + 1
-  queued-waiting = omega (arith, sum_by-set (λ (s : Zone). length s.wait) a.zones z queued_zone no_zone inside, length-append (zone_at a z).wait (joined ∷ []))
+  queued-waiting =
+      omega (
+        arith,
+        sum_by-set (λ (s : Zone). length s.wait) a.zones z queued_zone no_zone inside,
+        length-append (zone_at a z).wait (joined ∷ []),
+      )
 
 -- serving
-pub completed-entries : (pages : ℕ) (ws : List Waiter) → entries_of (left_waiting pages ws) + entries_of (completed pages ws) ≡ entries_of ws
+pub completed-entries : (pages : ℕ) (ws : List Waiter) →
+    entries_of (left_waiting pages ws) + entries_of (completed pages ws) ≡ entries_of ws
 completed-entries pages [] = refl
 completed-entries pages (w ∷ ws) =
     let k : ℕ = w.need - w.have in
-    elim (leb k pages) as (λ v. entries_of (if v then left_waiting (pages - k) ws else record w { have = w.have + pages } ∷ ws) + entries_of (if v then record w { have = w.need } ∷ completed (pages - k) ws else []) ≡ entries_of (w ∷ ws)) [
-      | true ↦ omega (arith, completed-entries (pages - k) ws, sum_by-cons (λ (x : Waiter). x.need + 1) (record w { have = w.need }) (completed (pages - k) ws), sum_by-cons (λ (x : Waiter). x.need + 1) w ws)
-      | false ↦ omega (arith, sum_by-cons (λ (x : Waiter). x.need + 1) (record w { have = w.have + pages }) ws, sum_by-cons (λ (x : Waiter). x.need + 1) w ws)
+    elim (leb k pages) as (λ v. entries_of (if v then left_waiting (pages - k) ws
+    else record w { have = w.have + pages } ∷ ws)
+    + entries_of (if v then record w { have = w.need } ∷ completed (pages - k) ws else []) ≡ entries_of (w ∷ ws)) [
+      | true ↦ omega (
+        arith,
+        completed-entries (pages - k) ws,
+        sum_by-cons (λ (x : Waiter). x.need + 1) (record w { have = w.need }) (completed (pages - k) ws),
+        sum_by-cons (λ (x : Waiter). x.need + 1) w ws,
+      )
+      | false ↦ omega (
+        arith,
+        sum_by-cons (λ (x : Waiter). x.need + 1) (record w { have = w.have + pages }) ws,
+        sum_by-cons (λ (x : Waiter). x.need + 1) w ws,
+      )
     ]
 
-pub completed-length : (pages : ℕ) (ws : List Waiter) → length (left_waiting pages ws) + length (completed pages ws) ≡ length ws
+pub completed-length : (pages : ℕ) (ws : List Waiter) →
+    length (left_waiting pages ws) + length (completed pages ws) ≡ length ws
 completed-length pages [] = refl
 completed-length pages (w ∷ ws) =
     let k : ℕ = w.need - w.have in
-    elim (leb k pages) as (λ v. length (if v then left_waiting (pages - k) ws else record w { have = w.have + pages } ∷ ws) + length (if v then record w { have = w.need } ∷ completed (pages - k) ws else []) ≡ length (w ∷ ws)) [
+    elim (leb k pages) as (λ v. length (if v then left_waiting (pages - k) ws
+    else record w { have = w.have + pages } ∷ ws)
+    + length (if v then record w { have = w.need } ∷ completed (pages - k) ws else []) ≡ length (w ∷ ws)) [
       | true ↦ omega (arith, completed-length (pages - k) ws)
       | false ↦ omega arith
     ]
@@ -73,7 +99,11 @@ module _ (b : Account) (z : ℕ) (inside : z < length b.zones) where
   done = completed (free b z) (zone_at b z).wait
 
   abbrev served_zone : Zone
-  served_zone = record (zone_at b z) { wait = left_waiting (free b z) (zone_at b z).wait; deferred = (zone_at b z).deferred + length done }
+  served_zone =
+      record (zone_at b z) {
+        wait = left_waiting (free b z) (zone_at b z).wait;
+        deferred = (zone_at b z).deferred + length done;
+      }
 
   pub served-owed : owed (served b z) ≡ owed b
   served-owed = omega (
@@ -84,15 +114,24 @@ module _ (b : Account) (z : ℕ) (inside : z < length b.zones) where
   )
 
   pub served-waiting : waiting (served b z) + length done ≡ waiting b
-  served-waiting = omega (arith, sum_by-set (λ (s : Zone). length s.wait) b.zones z served_zone no_zone inside, completed-length (free b z) (zone_at b z).wait)
+  served-waiting =
+      omega (
+        arith,
+        sum_by-set (λ (s : Zone). length s.wait) b.zones z served_zone no_zone inside,
+        completed-length (free b z) (zone_at b z).wait,
+      )
 
 -- a page comes back
-length-filter_less : (q : Held → Bool) (xs : List Held) → length (filter (λ x. not (q x)) xs) + count_by q xs ≡ length xs
+length-filter_less : (q : Held → Bool) (xs : List Held) →
+    length (filter (λ x. not (q x)) xs) + count_by q xs ≡ length xs
 length-filter_less q [] = refl
 length-filter_less q (x ∷ xs) =
-    (elim (q x) as (λ v. q x ≡ v → length (cond (not v) (x ∷ filter (λ x. not (q x)) xs) (filter (λ x. not (q x)) xs)) + count_by q (x ∷ xs) ≡ length (x ∷ xs)) [
-      | true ↦ λ w. (let one : weight (q x) ≡ 1 = rw w refl in omega (arith, one, length-filter_less q xs, sum_by-cons (λ y. weight (q y)) x xs))
-      | false ↦ λ w. (let none : weight (q x) ≡ 0 = rw w refl in omega (arith, none, length-filter_less q xs, sum_by-cons (λ y. weight (q y)) x xs))
+    (elim (q x) as (λ v. q x ≡ v → length (cond (not v) (x ∷ filter (λ x. not (q x)) xs) (filter (λ x. not (q x)) xs))
+    + count_by q (x ∷ xs) ≡ length (x ∷ xs)) [
+      | true ↦ λ w. (let one : weight (q x) ≡ 1 = rw w refl in
+          omega (arith, one, length-filter_less q xs, sum_by-cons (λ y. weight (q y)) x xs))
+      | false ↦ λ w. (let none : weight (q x) ≡ 0 = rw w refl in
+          omega (arith, none, length-filter_less q xs, sum_by-cons (λ y. weight (q y)) x xs))
     ]) refl
 
 module _ (a : Account) (m : MapId) (z page : ℕ) (inside : z < length a.zones) (held : times_held m z page a ≡ 1) where
@@ -103,11 +142,25 @@ module _ (a : Account) (m : MapId) (z page : ℕ) (inside : z < length a.zones) 
   back-inside = rw (length-set a.zones z back_zone) inside
 
   pub release-owed : owed (served (returned a m z page) z) + 1 ≡ owed a
-  release-owed = omega (arith, held, served-owed (returned a m z page) z back-inside, length-filter_less (is_holding m z page) a.held, sum_by-set of_zone a.zones z back_zone no_zone inside)
+  release-owed =
+      omega (
+        arith,
+        held,
+        served-owed (returned a m z page) z back-inside,
+        length-filter_less (is_holding m z page) a.held,
+        sum_by-set of_zone a.zones z back_zone no_zone inside,
+      )
 
-  pub release-waiting : waiting (served (returned a m z page) z) + length (completed (free (returned a m z page) z) (zone_at (returned a m z page) z).wait) ≡ waiting a
-  release-waiting = omega (arith, served-waiting (returned a m z page) z back-inside, sum_by-set (λ (s : Zone). length s.wait) a.zones z back_zone no_zone inside)
+  pub release-waiting : waiting (served (returned a m z page) z)
+      + length (completed (free (returned a m z page) z) (zone_at (returned a m z page) z).wait) ≡ waiting a
+  release-waiting =
+      omega (
+        arith,
+        served-waiting (returned a m z page) z back-inside,
+        sum_by-set (λ (s : Zone). length s.wait) a.zones z back_zone no_zone inside,
+      )
 
 -- the head of the callback list leaves it
-pub shorter-owed : (a : Account) (w : Waiter) (ws : List Waiter) → a.ready ≡ w ∷ ws → owed (record a { ready = ws }) + (w.need + 1) ≡ owed a
+pub shorter-owed : (a : Account) (w : Waiter) (ws : List Waiter) → a.ready ≡ w ∷ ws →
+    owed (record a { ready = ws }) + (w.need + 1) ≡ owed a
 shorter-owed a w ws is = omega (arith, ap entries_of is, sum_by-cons (λ (x : Waiter). x.need + 1) w ws)

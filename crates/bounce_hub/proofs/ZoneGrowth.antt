@@ -1,8 +1,11 @@
 -- Zones for tags, their growth, and their maps.
-use Rattle.std.proofs.Common.{◌≡◌, ◌≢◌, ℕ, suc, ◌+◌, ◌<◌, ◌≤◌, max, Bool, true, false, cond, List, [], ◌∷◌, ◌++◌, length, get_or, set, take, drop, refl, sym, ap, ◌∙◌, subst, arith, inl, inr, if◌then◌else◌, ◌==◌, slice_get}
+use Rattle.std.proofs.Common.{◌≡◌, ◌≢◌, ℕ, suc, ◌+◌, ◌<◌, ◌≤◌, max, Bool, true, false, cond, List, [], ◌∷◌, ◌++◌}
+use Rattle.std.proofs.Common.{length, get_or, set, take, drop, refl, sym, ap, ◌∙◌, subst, arith, inl, inr}
+use Rattle.std.proofs.Common.{if◌then◌else◌, ◌==◌, slice_get}
 use Rattle.std.specs.List.{sum_by, filter}
 use Rattle.std.proofs.lemmas.Bool.Decides.{eqb_tells}
-use Rattle.std.proofs.lemmas.List.{get_or-set_same, get_or-set_other, length-append, length-set, length-map, get_or_append_left}
+use Rattle.std.proofs.lemmas.List.{get_or-set_same, get_or-set_other, length-append, length-set, length-map}
+use Rattle.std.proofs.lemmas.List.{get_or_append_left}
 use Rattle.std.proofs.Math.Seq.{get_or-append_seam}
 use Rattle.std.proofs.lemmas.Option.{slice_get-get_or, slice_get_past}
 use Rattle.busdma_base.specs.declared.tags.tag.TagLimits.{TagLimits}
@@ -11,7 +14,8 @@ use Rattle.busdma_base.specs.declared.bounce.hold.HubReply.TheVariants.{Grown}
 use Rattle.busdma_base.specs.Bounce.Account.{Account, Zone, no_zone, zone_at, reserved, total}
 use Rattle.busdma_base.specs.Bounce.AccountStep.{attached}
 use Rattle.busdma_base.specs.Machine.Page.{FrameBytes}
-use Rattle.busdma_base.specs.Bounce.Growth.{serves_tag, new_zone, zones_for, zone_of, with_zone_for, added, grown, wanted_by_tag, wanted_for, wanted_by_map, most_pages, maxpages}
+use Rattle.busdma_base.specs.Bounce.Growth.{serves_tag, new_zone, zones_for, zone_of, with_zone_for, added, grown}
+use Rattle.busdma_base.specs.Bounce.Growth.{wanted_by_tag, wanted_for, wanted_by_map, most_pages, maxpages}
 use Rattle.busdma_base.specs.Machine.PageList.{page_addresses, page_address}
 use Rattle.busdma_base.specs.Bounce.WellFormed.{IsWellFormed}
 use Rattle.busdma_base.proofs.Accounts.Counting.{sum_by-set_like}
@@ -30,31 +34,42 @@ abbrev of_zone : Zone → ℕ
 of_zone s = entries_of s.wait + length s.maps
 
 -- the place of a tag's zone
-place-same : (t : TagLimits) (ss : List Slot) (zs : List Zone) → length ss ≡ length zs → ((n : ℕ) (d : Slot) → n < length ss → serves t (get_or ss n d) ≡ serves_tag t (get_or zs n no_zone)) → place_for t ss ≡ zone_of t zs
+place-same : (t : TagLimits) (ss : List Slot) (zs : List Zone) → length ss ≡ length zs →
+    ((n : ℕ) (d : Slot) → n < length ss → serves t (get_or ss n d) ≡ serves_tag t (get_or zs n no_zone)) →
+    place_for t ss ≡ zone_of t zs
 place-same t [] [] e same = refl
 place-same t [] (z ∷ zs) e same = absurd (omega (arith, e))
 place-same t (s ∷ ss) [] e same = absurd (omega (arith, e))
 place-same t (s ∷ ss) (z ∷ zs) e same =
-    let rest : place_for t ss ≡ zone_of t zs = place-same t ss zs (omega (arith, e)) (λ n d below. same (suc n) d (omega (arith, below))) in
-    ap (λ (v : Bool). if v then 0 else suc (place_for t ss)) (same 0 s (omega arith)) ∙ ap (λ (k : ℕ). if serves_tag t z then 0 else suc k) rest
+    let rest : place_for t ss ≡ zone_of t zs =
+    place-same t ss zs (omega (arith, e)) (λ n d below. same (suc n) d (omega (arith, below))) in
+    ap (λ (v : Bool). if v then 0 else suc (place_for t ss)) (same 0 s (omega arith))
+    ∙ ap (λ (k : ℕ). if serves_tag t z then 0 else suc k) rest
 
 pub place-is : (t : TagLimits) (p : Pool) (a : Account) → Agrees p a → place_for t p.zones.items ≡ zone_of t a.zones
-place-is t p a agrees = place-same t p.zones.items a.zones agrees.count (λ n d below. (let here : Matches (get_or p.zones.items n d) a n = agrees.zones n d below in rw (here.lowaddr, here.alignment) refl))
+place-is t p a agrees =
+    place-same t p.zones.items a.zones agrees.count
+    (λ n d below. (let here : Matches (get_or p.zones.items n d) a n = agrees.zones n d below in
+    rw (here.lowaddr, here.alignment) refl))
 
 -- the tag's zone is one of those that are made for it
 pub place-inside : (t : TagLimits) (zs : List Zone) → zone_of t zs < length (zones_for t zs)
 place-inside t [] = omega arith
 place-inside t (z ∷ zs) =
-    elim (serves_tag t z) as (λ v. (if v then 0 else suc (zone_of t zs)) < length (z ∷ (if v then zs else zones_for t zs))) [ true ↦ omega arith | false ↦ omega (arith, place-inside t zs) ]
+    elim (serves_tag t z) as (λ v. (if v then 0 else suc (zone_of t zs)) < length
+    (z ∷ (if v then zs else zones_for t zs))) [ true ↦ omega arith | false ↦ omega (arith, place-inside t zs) ]
 
 pub place-bound : (t : TagLimits) (zs : List Zone) → zone_of t zs ≤ length zs
 place-bound t [] = omega arith
 place-bound t (z ∷ zs) =
-    elim (serves_tag t z) as (λ v. (if v then 0 else suc (zone_of t zs)) ≤ length (z ∷ zs)) [ true ↦ omega arith | false ↦ omega (arith, place-bound t zs) ]
+    elim (serves_tag t z) as (λ v. (if v then 0 else suc (zone_of t zs)) ≤ length (z ∷ zs))
+    [ true ↦ omega arith | false ↦ omega (arith, place-bound t zs) ]
 
 -- a zone that is there is the tag's zone
 pub found-zone : (t : TagLimits) (a : Account) → zone_of t a.zones < length a.zones → with_zone_for t a ≡ a
-found-zone t a there = ap (λ (zs : List Zone). record a { zones = zs }) (zones_for_found t a.zones (λ e. absurd (omega (arith, there, e))))
+found-zone t a there =
+    ap (λ (zs : List Zone). record a { zones = zs })
+    (zones_for_found t a.zones (λ e. absurd (omega (arith, there, e))))
 
 -- none past the last
 none-past : (zs : List Zone) → get_or zs (length zs) no_zone ≡ no_zone
@@ -63,10 +78,17 @@ none-past (z ∷ zs) = none-past zs
 
 -- growth leaves what is to come
 pub grown-owed : (a : Account) (z n : ℕ) → owed (grown a z n) ≡ owed a
-grown-owed a z n = omega (arith, sum_by-set_like of_zone a.zones z (record (zone_at a z) { avail = (zone_at a z).avail ++ take n a.bank }) no_zone refl refl)
+grown-owed a z n =
+    omega (
+      arith,
+      sum_by-set_like of_zone a.zones z
+          (record (zone_at a z) { avail = (zone_at a z).avail ++ take n a.bank }) no_zone refl refl,
+    )
 
 pub grown-waiting : (a : Account) (z n : ℕ) → waiting (grown a z n) ≡ waiting a
-grown-waiting a z n = sum_by-set_like (λ (s : Zone). length s.wait) a.zones z (record (zone_at a z) { avail = (zone_at a z).avail ++ take n a.bank }) no_zone refl refl
+grown-waiting a z n =
+    sum_by-set_like (λ (s : Zone). length s.wait) a.zones z
+    (record (zone_at a z) { avail = (zone_at a z).avail ++ take n a.bank }) no_zone refl refl
 
 addresses-append : (ps qs : List FrameBytes) → page_addresses (ps ++ qs) ≡ page_addresses ps ++ page_addresses qs
 addresses-append [] qs = refl
@@ -76,12 +98,14 @@ addresses-append (p ∷ ps) qs = ap (λ xs. page_address p ∷ xs) (addresses-ap
 pub agrees-grown : (p q : Pool) (a : Account) (z n : ℕ) (old new : Slot)
     → Agrees p a → z < length a.zones → Matches old a z
     → new ≡ record old { zone = record old.zone { pages = old.zone.pages ++ take n p.bank.pages } }
-    → q.zones.items ≡ set p.zones.items z new → q.bank ≡ record p.bank { pages = drop n p.bank.pages } → q.ready ≡ p.ready → q.owed ≡ p.owed → q.maxmem ≡ p.maxmem → q.max_bpages ≡ p.max_bpages
+    → q.zones.items ≡ set p.zones.items z new → q.bank ≡ record p.bank { pages = drop n p.bank.pages } →
+    q.ready ≡ p.ready → q.owed ≡ p.owed → q.maxmem ≡ p.maxmem → q.max_bpages ≡ p.max_bpages
     → Agrees q (grown a z n)
 agrees-grown p q a z n old new agrees inside here is zones bank ready owes maxmem max_bpages =
     let k : Zone = record (zone_at a z) { avail = (zone_at a z).avail ++ take n a.bank } in
     let at : zone_at (grown a z n) z ≡ k = get_or-set_same a.zones z k no_zone inside in
-    let took : page_addresses (take n p.bank.pages) ≡ take n a.bank = addresses-take n p.bank.pages ∙ ap (take n) agrees.bank in
+    let took : page_addresses (take n p.bank.pages) ≡ take n a.bank =
+    addresses-take n p.bank.pages ∙ ap (take n) agrees.bank in
     record {
       bank = ap (λ b. page_addresses b.pages) bank ∙ addresses-drop n p.bank.pages ∙ ap (drop n) agrees.bank;
       count = count-set p q a z new k agrees zones;
@@ -89,15 +113,28 @@ agrees-grown p q a z n old new agrees inside here is zones bank ready owes maxme
           (rw is (record {
             lowaddr = here.lowaddr ∙ sym (ap (λ (k : Zone). k.lowaddr) at);
             alignment = here.alignment ∙ sym (ap (λ (k : Zone). k.alignment) at);
-            avail = addresses-append old.zone.pages (take n p.bank.pages) ∙ ap (λ xs. xs ++ page_addresses (take n p.bank.pages)) here.avail ∙ ap (λ xs. (zone_at a z).avail ++ xs) took ∙ sym (ap (λ (k : Zone). k.avail) at);
-            reserved = here.reserved ∙ sym (ap (λ (s : Zone). sum_by (λ w. w.have) s.wait + sum_by (λ w. w.need) (filter (λ w. w.zone.0 == z) a.ready)) at);
+            avail = addresses-append old.zone.pages (take n p.bank.pages)
+                ∙ ap (λ xs. xs ++ page_addresses (take n p.bank.pages)) here.avail
+                ∙ ap (λ xs. (zone_at a z).avail ++ xs) took ∙ sym (ap (λ (k : Zone). k.avail) at);
+            reserved =
+                here.reserved
+                ∙ sym
+                (ap (λ (s : Zone). sum_by (λ w. w.have) s.wait
+                + sum_by (λ w. w.need) (filter (λ w. w.zone.0 == z) a.ready)) at);
             active = here.active;
             wait = here.wait ∙ sym (ap (λ (k : Zone). k.wait) at);
             maps = here.maps ∙ sym (ap (λ (k : Zone). length k.maps) at);
             deferred = here.deferred ∙ sym (ap (λ (k : Zone). k.deferred) at);
           }))
-          (λ y apart. (let there : zone_at (grown a z n) y ≡ zone_at a y = get_or-set_other a.zones z y k no_zone apart in
-          record { zone = there; reserved = ap (λ (s : Zone). sum_by (λ w. w.have) s.wait + sum_by (λ w. w.need) (filter (λ w. w.zone.0 == y) a.ready)) there; active = refl }));
+          (λ y apart. (let there : zone_at (grown a z n) y ≡ zone_at a y =
+          get_or-set_other a.zones z y k no_zone apart in
+          record {
+            zone = there;
+            reserved =
+                ap (λ (s : Zone). sum_by (λ w. w.have) s.wait
+                + sum_by (λ w. w.need) (filter (λ w. w.zone.0 == y) a.ready)) there;
+            active = refl;
+          }));
       ready = ap (λ r. r.items) ready ∙ agrees.ready;
       spare = omega (arith, agrees.spare, ap (λ r. r.spare) ready, grown-waiting a z n);
       owed = owes ∙ agrees.owed ∙ sym (grown-owed a z n);
@@ -122,23 +159,29 @@ module _ (t : TagLimits) (a : Account) (none : zone_of t a.zones ≡ length a.zo
   behind = zones_for_none t a.zones none
 
   pub new-there : zone_at with_new (zone_of t a.zones) ≡ new_zone t
-  new-there = ap (λ (zs : List Zone). get_or zs (zone_of t a.zones) no_zone) behind ∙ ap (λ (k : ℕ). get_or (a.zones ++ new_zone t ∷ []) k no_zone) none ∙ get_or-append_seam a.zones (new_zone t) [] no_zone
+  new-there = ap (λ (zs : List Zone). get_or zs (zone_of t a.zones) no_zone) behind
+      ∙ ap (λ (k : ℕ). get_or (a.zones ++ new_zone t ∷ []) k no_zone) none
+      ∙ get_or-append_seam a.zones (new_zone t) [] no_zone
 
   old-there : (y : ℕ) → y < length a.zones → zone_at with_new y ≡ zone_at a y
-  old-there y below = ap (λ (zs : List Zone). get_or zs y no_zone) behind ∙ get_or_append_left a.zones (new_zone t ∷ []) no_zone y below
+  old-there y below = ap (λ (zs : List Zone). get_or zs y no_zone) behind
+      ∙ get_or_append_left a.zones (new_zone t ∷ []) no_zone y below
 
   none-reserved : IsWellFormed a → reserved a (zone_of t a.zones) ≡ 0
   none-reserved well =
-      let gone : zone_at a (zone_of t a.zones) ≡ no_zone = ap (λ (k : ℕ). get_or a.zones k no_zone) none ∙ none-past a.zones in
+      let gone : zone_at a (zone_of t a.zones) ≡ no_zone =
+      ap (λ (k : ℕ). get_or a.zones k no_zone) none ∙ none-past a.zones in
       omega (arith, well.enough (zone_of t a.zones), ap (λ (z : Zone). length z.avail) gone)
 
   none-waits : (zone_at a (zone_of t a.zones)).wait ≡ []
   none-waits = ap (λ (z : Zone). z.wait) (ap (λ (k : ℕ). get_or a.zones k no_zone) none ∙ none-past a.zones)
 
   pub none-total : IsWellFormed a → total with_new (zone_of t a.zones) ≡ 0
-  none-total well = omega (arith, ap (λ (z : Zone). length z.avail) new-there, well.inside (zone_of t a.zones) (omega (arith, none)))
+  none-total well =
+      omega (arith, ap (λ (z : Zone). length z.avail) new-there, well.inside (zone_of t a.zones) (omega (arith, none)))
 
-  module _ (p q : Pool) (n : ℕ) (agrees : Agrees p a) (well : IsWellFormed a) (zones : q.zones.items ≡ p.zones.items ++ new_slot t (take n p.bank.pages) ∷ []) where
+  module _ (p q : Pool) (n : ℕ) (agrees : Agrees p a) (well : IsWellFormed a) (zones : q.zones.items ≡ p.zones.items
+      ++ new_slot t (take n p.bank.pages) ∷ []) where
     abbrev z : ℕ
     z = zone_of t a.zones
 
@@ -157,11 +200,17 @@ module _ (t : TagLimits) (a : Account) (none : zone_of t a.zones ≡ length a.zo
     made-matches : Matches made g z
     made-matches =
         let is : (f : Zone → ℕ) → f k ≡ f (zone_at g z) = (λ f. sym (ap f at)) in
-        let same : reserved g z ≡ reserved a z = ap (λ (s : Zone). sum_by (λ w. w.have) s.wait + sum_by (λ w. w.need) (filter (λ w. w.zone.0 == z) a.ready)) at ∙ ap (λ (ws : List Waiter). sum_by (λ w. w.have) ws + sum_by (λ w. w.need) (filter (λ w. w.zone.0 == z) a.ready)) (ap (λ (s : Zone). s.wait) new-there ∙ sym none-waits) in
+        let same : reserved g z ≡ reserved a z =
+        ap (λ (s : Zone). sum_by (λ w. w.have) s.wait + sum_by (λ w. w.need) (filter (λ w. w.zone.0 == z) a.ready))
+        at
+        ∙ ap (λ (ws : List Waiter). sum_by (λ w. w.have) ws
+        + sum_by (λ w. w.need) (filter (λ w. w.zone.0 == z) a.ready))
+        (ap (λ (s : Zone). s.wait) new-there ∙ sym none-waits) in
         record {
           lowaddr = sym (ap (λ (s : Zone). s.lowaddr) new-there) ∙ is (λ s. s.lowaddr);
           alignment = sym (ap (λ (s : Zone). s.alignment) new-there) ∙ is (λ s. s.alignment);
-          avail = addresses-take n p.bank.pages ∙ ap (take n) agrees.bank ∙ sym (ap (λ (s : Zone). s.avail ++ take n a.bank) new-there) ∙ sym (ap (λ (s : Zone). s.avail) at);
+          avail = addresses-take n p.bank.pages ∙ ap (take n) agrees.bank
+              ∙ sym (ap (λ (s : Zone). s.avail ++ take n a.bank) new-there) ∙ sym (ap (λ (s : Zone). s.avail) at);
           reserved = sym (none-reserved well) ∙ sym same;
           active = sym (well.inside z (omega (arith, none)));
           wait = sym (ap (λ (s : Zone). s.wait) new-there) ∙ sym (ap (λ (s : Zone). s.wait) at);
@@ -173,56 +222,99 @@ module _ (t : TagLimits) (a : Account) (none : zone_of t a.zones ≡ length a.zo
     old-matches y d below =
         let apart : y ≢ z = (λ e. absurd (omega (arith, below, e, none, agrees.count))) in
         let old : Matches (get_or p.zones.items y d) a y = agrees.zones y d below in
-        let there : zone_at g y ≡ zone_at a y = get_or-set_other with_new.zones z y k no_zone apart ∙ old-there y (omega (arith, below, agrees.count)) in
+        let there : zone_at g y ≡ zone_at a y =
+        get_or-set_other with_new.zones z y k no_zone apart ∙ old-there y (omega (arith, below, agrees.count)) in
         record {
           lowaddr = old.lowaddr ∙ sym (ap (λ (s : Zone). s.lowaddr) there);
           alignment = old.alignment ∙ sym (ap (λ (s : Zone). s.alignment) there);
           avail = old.avail ∙ sym (ap (λ (s : Zone). s.avail) there);
-          reserved = old.reserved ∙ sym (ap (λ (s : Zone). sum_by (λ w. w.have) s.wait + sum_by (λ w. w.need) (filter (λ w. w.zone.0 == y) a.ready)) there);
+          reserved =
+              old.reserved
+              ∙ sym
+              (ap (λ (s : Zone). sum_by (λ w. w.have) s.wait
+              + sum_by (λ w. w.need) (filter (λ w. w.zone.0 == y) a.ready)) there);
           active = old.active;
           wait = old.wait ∙ sym (ap (λ (s : Zone). s.wait) there);
           maps = old.maps ∙ sym (ap (λ (s : Zone). length s.maps) there);
           deferred = old.deferred ∙ sym (ap (λ (s : Zone). s.deferred) there);
         }
 
-    each-matches : (y : ℕ) (d : Slot) → y < length (p.zones.items ++ made ∷ []) → Matches (get_or (p.zones.items ++ made ∷ []) y d) g y
+    each-matches : (y : ℕ) (d : Slot) → y < length (p.zones.items ++ made ∷ []) →
+        Matches (get_or (p.zones.items ++ made ∷ []) y d) g y
     each-matches y d below =
         (elim (eqb_tells y (length p.zones.items)) as (λ _. Matches (get_or (p.zones.items ++ made ∷ []) y d) g y) [
           | inl h ↦ subst (λ i. Matches (get_or (p.zones.items ++ made ∷ []) i d) g i) (sym h.1)
-              (subst (λ s. Matches s g (length p.zones.items)) (sym (get_or-append_seam p.zones.items made [] d)) (subst (λ i. Matches made g i) (none ∙ sym agrees.count) made-matches))
-          | inr h ↦ (let inside : y < length p.zones.items = omega (arith, below, length-append p.zones.items (made ∷ []), h.1) in
-              subst (λ s. Matches s g y) (sym (get_or_append_left p.zones.items (made ∷ []) d y inside)) (old-matches y d inside))
+              (subst (λ s. Matches s g (length p.zones.items)) (sym (get_or-append_seam p.zones.items made [] d))
+              (subst (λ i. Matches made g i) (none ∙ sym agrees.count) made-matches))
+          | inr h ↦ (let inside : y < length p.zones.items =
+              omega (arith, below, length-append p.zones.items (made ∷ []), h.1) in
+              subst (λ s. Matches s g y) (sym (get_or_append_left p.zones.items (made ∷ []) d y inside))
+              (old-matches y d inside))
         ])
 
-    pub agrees-new : q.bank ≡ record p.bank { pages = drop n p.bank.pages } → q.ready ≡ p.ready → q.owed ≡ p.owed → q.maxmem ≡ p.maxmem → q.max_bpages ≡ p.max_bpages → Agrees q g
+    pub agrees-new : q.bank ≡ record p.bank { pages = drop n p.bank.pages } → q.ready ≡ p.ready → q.owed ≡ p.owed →
+        q.maxmem ≡ p.maxmem → q.max_bpages ≡ p.max_bpages → Agrees q g
     agrees-new bank ready owes maxmem max_bpages = record {
       bank = ap (λ b. page_addresses b.pages) bank ∙ addresses-drop n p.bank.pages ∙ ap (drop n) agrees.bank;
-      count = omega (arith, ap (λ (ss : List Slot). length ss) zones, length-append p.zones.items (made ∷ []), agrees.count, length-set with_new.zones z k, ap (λ (zs : List Zone). length zs) behind, length-append a.zones (new_zone t ∷ []));
-      zones = subst (λ (ss : List Slot). (y : ℕ) (d : Slot) → y < length ss → Matches (get_or ss y d) g y) (sym zones) each-matches;
+      count =
+          omega (
+            arith,
+            ap (λ (ss : List Slot). length ss) zones,
+            length-append p.zones.items (made ∷ []),
+            agrees.count,
+            length-set with_new.zones z k,
+            ap (λ (zs : List Zone). length zs) behind,
+            length-append a.zones (new_zone t ∷ []),
+          );
+      zones =
+          subst (λ (ss : List Slot). (y : ℕ) (d : Slot) → y < length ss →
+          Matches (get_or ss y d) g y) (sym zones) each-matches;
       ready = ap (λ r. r.items) ready ∙ agrees.ready;
-      spare = omega (arith, agrees.spare, ap (λ r. r.spare) ready, grown-waiting with_new z n, sum_by-zones_for t (λ (s : Zone). length s.wait) refl a.zones);
+      spare =
+          omega (
+            arith,
+            agrees.spare,
+            ap (λ r. r.spare) ready,
+            grown-waiting with_new z n,
+            sum_by-zones_for t (λ (s : Zone). length s.wait) refl a.zones,
+          );
       owed = omega (arith, owes, agrees.owed, grown-owed with_new z n, sum_by-zones_for t of_zone refl a.zones);
       maxmem = maxmem ∙ agrees.maxmem;
       max_bpages = max_bpages ∙ agrees.max_bpages;
     }
 
 -- the pages and the maps of the tag's zone
-pub pages-is : (t : TagLimits) (p : Pool) (a : Account) → Agrees p a → IsWellFormed a → pages_of (slice_get p.zones.items (zone_of t a.zones)) ≡ total (with_zone_for t a) (zone_of t a.zones)
+pub pages-is : (t : TagLimits) (p : Pool) (a : Account) → Agrees p a → IsWellFormed a →
+    pages_of (slice_get p.zones.items (zone_of t a.zones)) ≡ total (with_zone_for t a) (zone_of t a.zones)
 pages-is t p a agrees well =
-    (elim (eqb_tells (zone_of t a.zones) (length a.zones)) as (λ _. pages_of (slice_get p.zones.items (zone_of t a.zones)) ≡ total (with_zone_for t a) (zone_of t a.zones)) [
-      | inl h ↦ ap pages_of (slice_get_past p.zones.items (zone_of t a.zones) (omega (arith, h.1, agrees.count))) ∙ sym (none-total t a h.1 well)
+    (elim (eqb_tells (zone_of t a.zones) (length a.zones))
+    as (λ _. pages_of (slice_get p.zones.items (zone_of t a.zones))
+    ≡ total (with_zone_for t a) (zone_of t a.zones)) [
+      | inl h ↦ ap pages_of (slice_get_past p.zones.items (zone_of t a.zones) (omega (arith, h.1, agrees.count)))
+          ∙ sym (none-total t a h.1 well)
       | inr h ↦ (let there : zone_of t a.zones < length a.zones = omega (arith, place-bound t a.zones, h.1) in
           let d : Slot = new_slot t [] in
-          let here : Matches (get_or p.zones.items (zone_of t a.zones) d) a (zone_of t a.zones) = agrees.zones (zone_of t a.zones) d (omega (arith, there, agrees.count)) in
+          let here : Matches (get_or p.zones.items (zone_of t a.zones) d) a (zone_of t a.zones) =
+          agrees.zones (zone_of t a.zones) d (omega (arith, there, agrees.count)) in
           ap pages_of (slice_get-get_or p.zones.items (zone_of t a.zones) d (omega (arith, there, agrees.count)))
-          ∙ omega (arith, here.active, ap (λ (xs : List ℕ). length xs) here.avail, length-map (get_or p.zones.items (zone_of t a.zones) d).zone.pages page_address)
+          ∙ omega (
+            arith,
+            here.active,
+            ap (λ (xs : List ℕ). length xs) here.avail,
+            length-map (get_or p.zones.items (zone_of t a.zones) d).zone.pages page_address,
+          )
           ∙ sym (ap (λ (b : Account). total b (zone_of t a.zones)) (found-zone t a there)))
     ])
 
-pub maps-is : (t : TagLimits) (p : Pool) (a : Account) → Agrees p a → maps_of (slice_get p.zones.items (zone_of t a.zones)) ≡ length (zone_at (with_zone_for t a) (zone_of t a.zones)).maps
+pub maps-is : (t : TagLimits) (p : Pool) (a : Account) → Agrees p a →
+    maps_of (slice_get p.zones.items (zone_of t a.zones))
+    ≡ length (zone_at (with_zone_for t a) (zone_of t a.zones)).maps
 maps-is t p a agrees =
-    (elim (eqb_tells (zone_of t a.zones) (length a.zones)) as (λ _. maps_of (slice_get p.zones.items (zone_of t a.zones)) ≡ length (zone_at (with_zone_for t a) (zone_of t a.zones)).maps) [
-      | inl h ↦ ap maps_of (slice_get_past p.zones.items (zone_of t a.zones) (omega (arith, h.1, agrees.count))) ∙ sym (ap (λ (s : Zone). length s.maps) (new-there t a h.1))
+    (elim (eqb_tells (zone_of t a.zones) (length a.zones))
+    as (λ _. maps_of (slice_get p.zones.items (zone_of t a.zones))
+    ≡ length (zone_at (with_zone_for t a) (zone_of t a.zones)).maps) [
+      | inl h ↦ ap maps_of (slice_get_past p.zones.items (zone_of t a.zones) (omega (arith, h.1, agrees.count)))
+          ∙ sym (ap (λ (s : Zone). length s.maps) (new-there t a h.1))
       | inr h ↦ (let there : zone_of t a.zones < length a.zones = omega (arith, place-bound t a.zones, h.1) in
           let d : Slot = new_slot t [] in
           ap maps_of (slice_get-get_or p.zones.items (zone_of t a.zones) d (omega (arith, there, agrees.count)))
@@ -231,20 +323,29 @@ maps-is t p a agrees =
     ])
 
 -- the first allocation of a tag
-pub attached-as : (t : TagLimits) (a : Account) (n wanted : ℕ) → wanted ≡ wanted_by_tag t (total (with_zone_for t a) (zone_of t a.zones)) → n ≡ added (with_zone_for t a) (zone_of t a.zones) wanted
-    → attached t a ≡ record { account = grown (with_zone_for t a) (zone_of t a.zones) n; reply = Grown (record { zone = record { 0 = zone_of t a.zones }; added = n; made = n == wanted }) }
+pub attached-as : (t : TagLimits) (a : Account) (n wanted : ℕ) →
+    wanted ≡ wanted_by_tag t (total (with_zone_for t a) (zone_of t a.zones)) →
+    n ≡ added (with_zone_for t a) (zone_of t a.zones) wanted
+    → attached t a ≡ record {
+      account = grown (with_zone_for t a) (zone_of t a.zones) n;
+      reply = Grown (record { zone = record { 0 = zone_of t a.zones }; added = n; made = n == wanted });
+    }
 attached-as t a n wanted w e = rw (sym w, sym e) refl
 
 -- how many pages the making of a map wants
-pub wanted-is : (t : TagLimits) (first_done : Bool) (p : Pool) (a : Account) (place : ℕ) → Agrees p a → IsWellFormed a → place ≡ zone_of t a.zones
-    → wanted_for t first_done (maps_of (slice_get p.zones.items place)) (pages_of (slice_get p.zones.items place)) (most_pages t p.max_bpages p.maxmem)
-    ≡ wanted_by_map t first_done (zone_at (with_zone_for t a) (zone_of t a.zones)) (total (with_zone_for t a) (zone_of t a.zones)) (maxpages t a)
+pub wanted-is : (t : TagLimits) (first_done : Bool) (p : Pool) (a : Account) (place : ℕ) → Agrees p a →
+    IsWellFormed a → place ≡ zone_of t a.zones
+    → wanted_for t first_done (maps_of (slice_get p.zones.items place)) (pages_of (slice_get p.zones.items place))
+    (most_pages t p.max_bpages p.maxmem)
+    ≡ wanted_by_map t first_done (zone_at (with_zone_for t a) (zone_of t a.zones))
+    (total (with_zone_for t a) (zone_of t a.zones)) (maxpages t a)
 wanted-is t first_done p a place agrees well at =
     let b : Account = with_zone_for t a in
     let z : ℕ = zone_of t a.zones in
     let maps : ℕ = length (zone_at b z).maps in
     let most : ℕ = most_pages t p.max_bpages p.maxmem in
-    ap (λ (k : ℕ). wanted_for t first_done (maps_of (slice_get p.zones.items k)) (pages_of (slice_get p.zones.items k)) most) at
+    ap (λ (k : ℕ). wanted_for t first_done (maps_of (slice_get p.zones.items k))
+    (pages_of (slice_get p.zones.items k)) most) at
     ∙ ap (λ (m : ℕ). wanted_for t first_done m (pages_of (slice_get p.zones.items z)) most) (maps-is t p a agrees)
     ∙ ap (λ (g : ℕ). wanted_for t first_done maps g most) (pages-is t p a agrees well)
     ∙ ap (λ (x : ℕ). wanted_for t first_done maps (total b z) (most_pages t x p.maxmem)) agrees.max_bpages

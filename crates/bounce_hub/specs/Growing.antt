@@ -39,4 +39,5 @@ pub record GrewBy (p : Pool) (t : TagLimits) (place wanted n : ℕ) (a : Account
 
 -- the same for each account that the pool can be of
 abbrev pub Grows : Pool → TagLimits → ℕ → ℕ → ℕ → Pool → Type 0
-Grows p t place wanted n q = (a : Account) → Agrees p a → Fits p a → place ≡ zone_of t a.zones → GrewBy p t place wanted n a q
+Grows p t place wanted n q =
+    (a : Account) → Agrees p a → Fits p a → place ≡ zone_of t a.zones → GrewBy p t place wanted n a q

@@ -28,13 +28,15 @@ pub record Matches (s : Slot) (a : Account) (z : ℕ) : Type 0 where
   pub maps : s.maps ≡ length (zone_at a z).maps
   pub deferred : s.deferred ≡ (zone_at a z).deferred
 
--- the entries to come for maps that wait or await their callbacks: one for the callback, and one for each page's release
+-- the entries to come for maps that wait or await their callbacks: one for the callback, and one for each page's
+-- release
 abbrev pub entries_of : List Waiter → ℕ
 entries_of ws = sum_by (λ w. w.need + 1) ws
 
 -- the entries to come for what was begun: the releases, the callbacks, and the end of each map and memory
 abbrev pub owed : Account → ℕ
-owed a = length a.held + (sum_by (λ z. entries_of z.wait + length z.maps) a.zones + (entries_of a.ready + length a.mems))
+owed a =
+    length a.held + (sum_by (λ z. entries_of z.wait + length z.maps) a.zones + (entries_of a.ready + length a.mems))
 
 -- how many maps wait
 abbrev pub waiting : Account → ℕ
@@ -99,4 +101,5 @@ pub record Returns (p : Pool) (m : MapId) (given : List ℕ) : Type 0 where
 
 -- the end of a memory of these frames made the account's step
 abbrev pub StepsBack : Pool → MapId → List ℕ → Pool → Type 0
-StepsBack p m frames q = (a : Account) → Agrees p a → Fits p a → MayCall m.lane.0 (MemFree m) a → frames ≡ frames_of m a.mems → Stepped p m.lane.0 (MemFree m) Nothing a q
+StepsBack p m frames q = (a : Account) → Agrees p a → Fits p a → MayCall m.lane.0 (MemFree m) a →
+    frames ≡ frames_of m a.mems → Stepped p m.lane.0 (MemFree m) Nothing a q

@@ -1,6 +1,7 @@
 //! The frames of dmamem memories.
 
-ghost use Rattle.std.specs.Prelude.{◌≡◌, ◌==◌, ℕ, count_by, ◌+◌, ◌^◌, ◌<◌, ◌≤◌, IfOk, IfSome, OnErr, length, slice_index_or};
+ghost use Rattle.std.specs.Prelude.{◌≡◌, ◌==◌, ℕ, count_by, ◌+◌, ◌^◌, ◌<◌, ◌≤◌, IfOk, IfSome, OnErr, length};
+ghost use Rattle.std.specs.Prelude.{slice_index_or};
 ghost use Rattle.busdma_base.specs.declared.bounce.hold.HubCall.TheVariants.{MemAlloc};
 ghost use Rattle.busdma_base.specs.Bounce.Door.{IsRow, memory_reply};
 ghost use Rattle.busdma_base.specs.Machine.PageList.{page_addresses};

@@ -1,6 +1,7 @@
 //! A zone with the maps that wait for its pages.
 
-ghost use Rattle.std.specs.Prelude.{◌≡◌, ◌+◌, ◌-◌, ◌^◌, ◌<◌, ◌≤◌, [], ◌∷◌, ◌++◌, length, take, drop, All, vec_capacity, IfOk, OnOk, OnErr};
+ghost use Rattle.std.specs.Prelude.{◌≡◌, ◌+◌, ◌-◌, ◌^◌, ◌<◌, ◌≤◌, [], ◌∷◌, ◌++◌, length, take, drop, All};
+ghost use Rattle.std.specs.Prelude.{vec_capacity, IfOk, OnOk, OnErr};
 ghost use Rattle.busdma_base.specs.Bounce.AccountStep.{as_pages};
 ghost use Rattle.busdma_base.specs.Machine.PageList.{page_addresses};
 ghost use Rattle.busdma_base.specs.Bounce.Serving.{completed, left_waiting, promised};

@@ -1,5 +1,6 @@
 -- One page more of the front of a list.
-use Rattle.std.proofs.Common.{◌≡◌, ℕ, ◌+◌, ◌<◌, ◌≤◌, cond, List, [], ◌∷◌, ◌++◌, length, get_or, take, drop, ap, ◌∙◌, arith}
+use Rattle.std.proofs.Common.{◌≡◌, ℕ, ◌+◌, ◌<◌, ◌≤◌, cond, List, [], ◌∷◌, ◌++◌, length, get_or, take, drop, ap, ◌∙◌}
+use Rattle.std.proofs.Common.{arith}
 use Rattle.std.proofs.lemmas.Bool.{le-leb}
 use Rattle.std.proofs.lemmas.List.{drop_more, take_more, length-drop}
 use Rattle.std.proofs.lemmas.List.Sums.{sum_by-cons}
@@ -8,7 +9,8 @@ use Rattle.busdma_base.specs.Bounce.Growth.{frames_below}
 use Rattle.busdma_base.specs.Machine.PageList.{page_address, page_addresses}
 
 -- the first i, and the rest, where the rest begins with p
-pub next_of : {X : Type 0} (xs ys : List X) (i : ℕ) (p : X) → drop i xs ≡ p ∷ ys → (take (i + 1) xs ≡ take i xs ++ p ∷ []) × (drop (i + 1) xs ≡ ys)
+pub next_of : {X : Type 0} (xs ys : List X) (i : ℕ) (p : X) → drop i xs ≡ p ∷ ys →
+    (take (i + 1) xs ≡ take i xs ++ p ∷ []) × (drop (i + 1) xs ≡ ys)
 next_of xs ys i p e =
     let inside : i < length xs = omega (arith, ap length e, length-drop i xs) in
     let more = drop_more xs i p inside in
@@ -17,6 +19,8 @@ next_of xs ys i p e =
     (take_more xs i p inside ∙ ap (λ x. take i xs ++ x ∷ []) same, rest)
 
 -- a page at or below the limit is counted
-pub below-more : (limit : ℕ) (p : FrameBytes) (ps : List FrameBytes) → page_address p + 4095 ≤ limit → frames_below limit (page_addresses (p ∷ ps)) ≡ 1 + frames_below limit (page_addresses ps)
+pub below-more : (limit : ℕ) (p : FrameBytes) (ps : List FrameBytes) → page_address p + 4095 ≤ limit →
+    frames_below limit (page_addresses (p ∷ ps)) ≡ 1 + frames_below limit (page_addresses ps)
 below-more limit p ps l =
-    sum_by-cons _ (page_address p) (page_addresses ps) ∙ ap (λ b. cond b 1 0 + frames_below limit (page_addresses ps)) (le-leb (page_address p + 4095) limit l)
+    sum_by-cons _ (page_address p) (page_addresses ps)
+    ∙ ap (λ b. cond b 1 0 + frames_below limit (page_addresses ps)) (le-leb (page_address p + 4095) limit l)

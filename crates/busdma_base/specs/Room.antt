@@ -10,4 +10,5 @@ pub record Roomy (A : Type 0) : Type 0 where
 -- how it is stored: as the pair of its parts
 abbrev pub roomy_code : {A : Type 0} → Coded A → Coded (Roomy A)
 roomy_code {A} code =
-    code_by (List A × ℕ) (coded× (coded_list code) coded_ℕ) (λ r. (r.items, r.spare)) (λ p. record { items = p.0; spare = p.1 }) (λ _. refl)
+    code_by (List A × ℕ) (coded× (coded_list code) coded_ℕ) (λ r. (r.items, r.spare))
+    (λ p. record { items = p.0; spare = p.1 }) (λ _. refl)

@@ -1,6 +1,7 @@
 //! A list with room for more items.
 
-ghost use Rattle.std.specs.Prelude.{◌≡◌, ◌↔◌, ◌-◌, ◌+◌, ◌<◌, ◌≤◌, length, IsTrue, IsOk, IfOk, [], ◌∷◌, ◌++◌, if◌then◌else◌, is_ok, slice_get, slice_set};
+ghost use Rattle.std.specs.Prelude.{◌≡◌, ◌↔◌, ◌-◌, ◌+◌, ◌<◌, ◌≤◌, length, IsTrue, IsOk, IfOk, [], ◌∷◌, ◌++◌};
+ghost use Rattle.std.specs.Prelude.{if◌then◌else◌, is_ok, slice_get, slice_set};
 ghost use Rattle.std.specs.Option.{option_copied};
 
 use crate::list::ListOf;

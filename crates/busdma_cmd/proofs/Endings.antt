@@ -1,6 +1,7 @@
 -- From how a replay ends to what a call of the program keeps.
 use Rattle.std.proofs.Common.{◌≡◌, ◌≢◌, ℕ, ◌+◌, ◌≤◌, ◌<◌, ◌↔◌, inl, inr, cond, Bool, true, false, arith}
-use Rattle.std.proofs.Common.{List, length, drop, length-drop, Option, Some, None, Result, Ok, Err, refl, sym, ap, ◌∙◌, subst}
+use Rattle.std.proofs.Common.{List, length, drop, length-drop, Option, Some, None, Result, Ok, Err, refl, sym, ap, ◌∙◌}
+use Rattle.std.proofs.Common.{subst}
 use Rattle.std.proofs.Math.Seq.{drop-length}
 use Rattle.std.specs.Result.{IsErrAnd}
 use Rattle.io_edge.specs.Reading.{Takes, TakesAtMost, TakesAll}

@@ -12,7 +12,8 @@ use Rattle.world_core.specs.Legal.{IsReplayed}
 use Rattle.world_core.specs.Ends.{status}
 use Rattle.busdma_cmd.specs.declared.outcome.Outcome.{Outcome}
 use Rattle.busdma_cmd.specs.Command.{command}
-use Rattle.busdma_cmd.specs.Edges.{Edges, ReadFailed, NoReadFailed, ReadNothing, ReadAll, ReadTooMany, ReadAtMost, input_limit}
+use Rattle.busdma_cmd.specs.Edges.{Edges, ReadFailed, NoReadFailed, ReadNothing, ReadAll, ReadTooMany, ReadAtMost}
+use Rattle.busdma_cmd.specs.Edges.{input_limit}
 use Rattle.busdma_cmd.specs.Edges.{WriteFailed, NoWriteFailed, WroteNothing, WroteAll, WrotePart}
 
 -- the statuses of a run that was done and written

@@ -1,5 +1,6 @@
 -- What an access does run by run.
-use Rattle.std.proofs.Common.{◌≡◌, ◌≢◌, ℕ, zero, suc, ◌+◌, ◌-◌, ◌/◌, ◌%◌, ◌*◌, ◌^◌, ◌<◌, ◌≤◌, ◌==◌, true, false, List, [], ◌∷◌, ◌++◌, length, map, take, drop, get_or, set, refl, ap, sym, ◌∙◌, subst, arith}
+use Rattle.std.proofs.Common.{◌≡◌, ◌≢◌, ℕ, zero, suc, ◌+◌, ◌-◌, ◌/◌, ◌%◌, ◌*◌, ◌^◌, ◌<◌, ◌≤◌, ◌==◌, true, false, List}
+use Rattle.std.proofs.Common.{[], ◌∷◌, ◌++◌, length, map, take, drop, get_or, set, refl, ap, sym, ◌∙◌, subst, arith}
 use Rattle.std.specs.Prelude.{◌||◌, Bool}
 use Rattle.std.specs.List.{AllByRecursion, AllPairs, list_any}
 use Rattle.std.proofs.Common.{inl, inr, length-append, length-drop, length-take}
@@ -11,7 +12,8 @@ use Rattle.busdma_base.specs.Machine.Wire.{Wire, page_byte, put, with_bytes_of}
 use Rattle.busdma_base.specs.Runs.{run_of}
 use Rattle.phys_memory.specs.Frames.{AreApart, SamePages}
 use Rattle.phys_memory.specs.Memory.{Memory, has_frame, wire, written}
-use Rattle.phys_memory.proofs.PageBytes.{no_page, no_page_at, none_apart, page_at, page_replaced, page_shown, page_written, put_under}
+use Rattle.phys_memory.proofs.PageBytes.{no_page, no_page_at, none_apart, page_at, page_replaced, page_shown}
+use Rattle.phys_memory.proofs.PageBytes.{page_written, put_under}
 use Rattle.phys_memory.proofs.RunParts.{all_imply, run_in_frame, same_reads, take_append}
 use Rattle.phys_memory.proofs.Writing.{written_run}
 use Rattle.segment_build.proofs.Places.{run_length}
@@ -19,7 +21,8 @@ use Rattle.device_model.specs.Access.{IsThere}
 use Rattle.device_model.specs.Walking.{BeginsLow}
 
 -- ---- a run, and what is left behind it
-pub split_run : (a n left : ℕ) (rest : List ℕ) → n ≤ left → take left (run_of a n ++ rest) ≡ run_of a n ++ take (left - n) rest
+pub split_run : (a n left : ℕ) (rest : List ℕ) → n ≤ left →
+    take left (run_of a n ++ rest) ≡ run_of a n ++ take (left - n) rest
 split_run a n left rest h =
     let whole : take left (run_of a n) ≡ run_of a n = taken left (run_of a n) (omega (arith, run_length a n)) in
     take_append left (run_of a n) rest ∙ ap (λ xs. xs ++ take (left - length (run_of a n)) rest) whole
@@ -40,7 +43,8 @@ first_of_run P a zero ys h k = absurd (omega arith)
 first_of_run P a (suc n) ys h k = k.0
 
 -- the first of bytes that are there lies in a frame with a number
-pub begins_low : (m : Memory) (fs : List ℕ) (n : ℕ) (xs : List ℕ) → 0 < n → AllByRecursion (IsThere m fs) (take n xs) → BeginsLow xs
+pub begins_low : (m : Memory) (fs : List ℕ) (n : ℕ) (xs : List ℕ) → 0 < n →
+    AllByRecursion (IsThere m fs) (take n xs) → BeginsLow xs
 begins_low m fs zero xs h k = absurd (omega arith)
 begins_low m fs (suc n) [] h k = tt
 begins_low m fs (suc n) (x ∷ xs) h k = k.0.numbered
@@ -56,17 +60,22 @@ among_pages false y e h = h
 
 module _ (m : Memory) (pages : List FrameBytes) (apart : AreApart m (frames_of pages)) where
   -- bytes of a frame of the memory
-  pub memory_read : (a n : ℕ) → a % 4096 + n ≤ 4096 → has_frame m (a / 4096) ≡ true → map (wire m) (run_of a n) ≡ map (with_bytes_of pages (wire m)) (run_of a n)
+  pub memory_read : (a n : ℕ) → a % 4096 + n ≤ 4096 → has_frame m (a / 4096) ≡ true →
+      map (wire m) (run_of a n) ≡ map (with_bytes_of pages (wire m)) (run_of a n)
   memory_read a n h there =
-      same_reads (run_of a n) _ _ (all_imply _ _ (λ b q. sym (no_page_at pages (wire m) b (none_apart m pages (b / 4096) apart.away (ap (has_frame m) q ∙ there))))
+      same_reads (run_of a n) _ _ (all_imply _ _
+      (λ b q. sym (no_page_at pages (wire m) b
+      (none_apart m pages (b / 4096) apart.away (ap (has_frame m) q ∙ there))))
       (run_of a n) (in_one_frame a n h))
 
-  pub memory_written : (a : ℕ) (bytes : List ℕ) (now : Wire) → a % 4096 + length bytes ≤ 4096 → has_frame m (a / 4096) ≡ true → now ≡ written a bytes (wire m)
+  pub memory_written : (a : ℕ) (bytes : List ℕ) (now : Wire) → a % 4096 + length bytes ≤ 4096 →
+      has_frame m (a / 4096) ≡ true → now ≡ written a bytes (wire m)
       → with_bytes_of pages now ≡ put (run_of a (length bytes)) bytes (with_bytes_of pages (wire m))
   memory_written a bytes now h there is =
       ap (with_bytes_of pages) (is ∙ written_run a bytes (wire m))
       ∙ put_under pages (run_of a (length bytes)) bytes (wire m)
-      (all_imply _ _ (λ b q. none_apart m pages (b / 4096) apart.away (ap (has_frame m) q ∙ there)) (run_of a (length bytes)) (in_one_frame a (length bytes) h))
+      (all_imply _ _ (λ b q. none_apart m pages (b / 4096) apart.away (ap (has_frame m) q ∙ there))
+      (run_of a (length bytes)) (in_one_frame a (length bytes) h))
 
   -- bytes of a page
   frame_at : (k : ℕ) (f : ℕ) → k < length pages → get_or (frames_of pages) k 0 ≡ f → f ≡ (get_or pages k no_page).frame
@@ -75,11 +84,14 @@ module _ (m : Memory) (pages : List FrameBytes) (apart : AreApart m (frames_of p
   pub page_read : (k a n : ℕ) → k < length pages → get_or (frames_of pages) k 0 ≡ a / 4096 → a % 4096 + n ≤ 4096
       → map (page_byte (get_or pages k no_page)) (run_of a n) ≡ map (with_bytes_of pages (wire m)) (run_of a n)
   page_read k a n h e fits =
-      same_reads (run_of a n) _ _ (all_imply _ _ (λ b q. sym (page_at pages k (wire m) b apart.differ h (q ∙ frame_at k (a / 4096) h e)))
+      same_reads (run_of a n) _ _ (all_imply _ _
+      (λ b q. sym (page_at pages k (wire m) b apart.differ h (q ∙ frame_at k (a / 4096) h e)))
       (run_of a n) (in_one_frame a n fits))
 
-  pub page_put : (k a : ℕ) (bytes : List ℕ) (new : FrameBytes) → k < length pages → get_or (frames_of pages) k 0 ≡ a / 4096 → a % 4096 + length bytes ≤ 4096
-      → length (get_or pages k no_page).bytes ≡ 4096 → new ≡ record (get_or pages k no_page) { bytes = overwritten (get_or pages k no_page).bytes (a % 4096) bytes }
+  pub page_put : (k a : ℕ) (bytes : List ℕ) (new : FrameBytes) → k < length pages →
+      get_or (frames_of pages) k 0 ≡ a / 4096 → a % 4096 + length bytes ≤ 4096
+      → length (get_or pages k no_page).bytes ≡ 4096 →
+      new ≡ record (get_or pages k no_page) { bytes = overwritten (get_or pages k no_page).bytes (a % 4096) bytes }
       → with_bytes_of (set pages k new) (wire m) ≡ put (run_of a (length bytes)) bytes (with_bytes_of pages (wire m))
   page_put k a bytes new h e fits whole is =
       let page = get_or pages k no_page in
@@ -93,7 +105,8 @@ module _ (m : Memory) (pages : List FrameBytes) (apart : AreApart m (frames_of p
 pub there_now : (m n : Memory) (fs now : List ℕ) (a : ℕ) → SamePages m n → now ≡ fs → IsThere m fs a → IsThere n now a
 there_now m n fs now a s e t = record {
   numbered = t.numbered;
-  found = ap (λ b. b || list_any (λ f. a / 4096 == f) now) (s.frames (a / 4096)) ∙ (ap (λ xs. has_frame m (a / 4096) || list_any (λ f. a / 4096 == f) xs) e ∙ t.found);
+  found = ap (λ b. b || list_any (λ f. a / 4096 == f) now) (s.frames (a / 4096))
+      ∙ (ap (λ xs. has_frame m (a / 4096) || list_any (λ f. a / 4096 == f) xs) e ∙ t.found);
 }
 
 pub apart_now : (m n : Memory) (fs now : List ℕ) → SamePages m n → now ≡ fs → AreApart m fs → AreApart n now
@@ -101,23 +114,30 @@ apart_now m n fs now s e h =
     subst (AreApart n) (sym e) (record { differ = h.differ; away = λ k d l. s.frames (get_or fs k d) ∙ h.away k d l })
 
 -- ---- how many bytes a slice has, and what is left of the segments
-pub slice_size : (n done k : ℕ) (bytes : List ℕ) → k ≡ n → done + n ≤ length bytes → length (take k (drop done bytes)) ≡ n
-slice_size n done k bytes e h = ap (λ j. length (take j (drop done bytes))) e ∙ (omega (arith, length-take n (drop done bytes), length-drop done bytes))
+pub slice_size : (n done k : ℕ) (bytes : List ℕ) → k ≡ n →
+    done + n ≤ length bytes → length (take k (drop done bytes)) ≡ n
+slice_size n done k bytes e h = ap (λ j. length (take j (drop done bytes))) e
+    ∙ (omega (arith, length-take n (drop done bytes), length-drop done bytes))
 
 pub rest_length : (a n : ℕ) (xs rest : List ℕ) → xs ≡ run_of a n ++ rest → length xs ≡ n + length rest
 rest_length a n xs rest e = ap length e ∙ length-append (run_of a n) rest ∙ ap (λ k. k + length rest) (run_length a n)
 
 -- the frame of another page is looked for in those behind it
-pub any_behind : (ps : List FrameBytes) (k f : ℕ) (d : FrameBytes) → (get_or ps k d).frame ≢ f → list_any (λ g. f == g) (drop k (frames_of ps)) ≡ true → list_any (λ g. f == g) (drop (k + 1) (frames_of ps)) ≡ true
+pub any_behind : (ps : List FrameBytes) (k f : ℕ) (d : FrameBytes) → (get_or ps k d).frame ≢ f →
+    list_any (λ g. f == g) (drop k (frames_of ps)) ≡ true → list_any (λ g. f == g) (drop (k + 1) (frames_of ps)) ≡ true
 any_behind ps k f d differ h = elim (cases_lt k (length ps)) [
   | inl l ↦
-      let same : get_or (frames_of ps) k 0 ≡ (get_or ps k d).frame = get_or-map (λ (p : FrameBytes). p.frame) ps k d 0 l in
+      let same : get_or (frames_of ps) k 0 ≡ (get_or ps k d).frame =
+      get_or-map (λ (p : FrameBytes). p.frame) ps k d 0 l in
       let more = drop_more (frames_of ps) k 0 (omega (arith, l, length-map ps (λ (p : FrameBytes). p.frame))) in
-      behind (get_or (frames_of ps) k 0) (drop (k + 1) (frames_of ps)) (ne_eqb f (get_or (frames_of ps) k 0) (λ e. differ (sym (e ∙ same)))) (sym (ap (list_any (λ g. f == g)) more) ∙ h)
+      behind (get_or (frames_of ps) k 0) (drop (k + 1) (frames_of ps))
+      (ne_eqb f (get_or (frames_of ps) k 0) (λ e. differ (sym (e ∙ same))))
+      (sym (ap (list_any (λ g. f == g)) more) ∙ h)
   | inr l ↦
       let none = drop_all k (frames_of ps) (omega (arith, l, length-map ps (λ (p : FrameBytes). p.frame))) in
       absurd (false≢true (sym (ap (list_any (λ g. f == g)) none) ∙ h))
 ]
   where
-    behind : (x : ℕ) (xs : List ℕ) → (f == x) ≡ false → list_any (λ g. f == g) (x ∷ xs) ≡ true → list_any (λ g. f == g) xs ≡ true
+    behind : (x : ℕ) (xs : List ℕ) → (f == x) ≡ false →
+        list_any (λ g. f == g) (x ∷ xs) ≡ true → list_any (λ g. f == g) xs ≡ true
     behind x xs e q = among_pages (f == x) (list_any (λ g. f == g) xs) e q

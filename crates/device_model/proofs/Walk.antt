@@ -1,5 +1,6 @@
 -- The way through the bytes of segments.
-use Rattle.std.proofs.Common.{◌≡◌, ℕ, zero, suc, ◌+◌, ◌-◌, ◌^◌, ◌<◌, ◌≤◌, List, [], ◌∷◌, ◌++◌, length, take, drop, get_or, sum_by, refl, ap, sym, ◌∙◌, subst, inl, inr, arith, append_assoc}
+use Rattle.std.proofs.Common.{◌≡◌, ℕ, zero, suc, ◌+◌, ◌-◌, ◌^◌, ◌<◌, ◌≤◌, List, [], ◌∷◌, ◌++◌, length, take, drop}
+use Rattle.std.proofs.Common.{get_or, sum_by, refl, ap, sym, ◌∙◌, subst, inl, inr, arith, append_assoc}
 use Rattle.std.proofs.Math.Path.{fun_ext}
 use Rattle.std.proofs.lemmas.Bool.{cases_lt}
 use Rattle.std.proofs.lemmas.List.{drop_more, drop_all, drop-append-le}
@@ -18,7 +19,8 @@ no_segment = record { addr = record { 0 = 0 }; len = 0 }
 
 -- the bytes of a segment, and of those behind it
 bytes_more : (segments : List Segment) (i : ℕ) → i < length segments
-    → segment_bytes (drop i segments) ≡ run_of (get_or segments i no_segment).addr.0 (get_or segments i no_segment).len ++ segment_bytes (drop (i + 1) segments)
+    → segment_bytes (drop i segments) ≡ run_of (get_or segments i no_segment).addr.0 (get_or segments i no_segment).len
+    ++ segment_bytes (drop (i + 1) segments)
 bytes_more segments i h =
     ap segment_bytes (drop_more segments i no_segment h)
     ∙ flat_map-cons (λ (s : Segment). run_of s.addr.0 s.len) (get_or segments i no_segment) (drop (i + 1) segments)
@@ -28,18 +30,21 @@ nothing_dropped zero xs e = ap length e
 nothing_dropped (suc k) xs e = ap (λ ys. length (drop (suc k) ys)) e
 
 -- behind a segment
-pub past_segment : (segments : List Segment) (i skip : ℕ) → i < length segments → (get_or segments i no_segment).len ≤ skip
+pub past_segment : (segments : List Segment) (i skip : ℕ) → i < length segments →
+    (get_or segments i no_segment).len ≤ skip
     → rest_from segments (i + 1) (skip - (get_or segments i no_segment).len) ≡ rest_from segments i skip
 past_segment segments i skip h k =
     let s = get_or segments i no_segment in
     let run = run_of s.addr.0 s.len in
     let count : length run ≡ s.len = run_length s.addr.0 s.len in
     sym (ap (drop skip) (bytes_more segments i h) ∙ drop_append skip run (segment_bytes (drop (i + 1) segments))
-    ∙ ap (λ xs. xs ++ drop (skip - length run) (segment_bytes (drop (i + 1) segments))) (drop_all skip run (omega (arith, count)))
+    ∙ ap (λ xs. xs ++ drop (skip - length run) (segment_bytes (drop (i + 1) segments)))
+    (drop_all skip run (omega (arith, count)))
     ∙ ap (λ n. drop (skip - n) (segment_bytes (drop (i + 1) segments))) count)
 
 -- where a byte is left, so is its segment
-pub some_segment : (segments : List Segment) (i skip : ℕ) → 0 < length (rest_from segments i skip) → i < length segments
+pub some_segment : (segments : List Segment) (i skip : ℕ) →
+    0 < length (rest_from segments i skip) → i < length segments
 some_segment segments i skip h = elim (cases_lt i (length segments)) [
   | inl l ↦ l
   | inr l ↦
@@ -48,8 +53,10 @@ some_segment segments i skip h = elim (cases_lt i (length segments)) [
 ]
 
 -- within a segment
-within_segment : (segments : List Segment) (i skip : ℕ) → i < length segments → skip ≤ (get_or segments i no_segment).len
-    → rest_from segments i skip ≡ run_of ((get_or segments i no_segment).addr.0 + skip) ((get_or segments i no_segment).len - skip) ++ segment_bytes (drop (i + 1) segments)
+within_segment : (segments : List Segment) (i skip : ℕ) → i < length segments →
+    skip ≤ (get_or segments i no_segment).len
+    → rest_from segments i skip ≡ run_of ((get_or segments i no_segment).addr.0 + skip)
+    ((get_or segments i no_segment).len - skip) ++ segment_bytes (drop (i + 1) segments)
 within_segment segments i skip h k =
     let s = get_or segments i no_segment in
     let run = run_of s.addr.0 s.len in
@@ -59,8 +66,10 @@ within_segment segments i skip h k =
     ∙ ap (λ xs. xs ++ segment_bytes (drop (i + 1) segments)) (drop_run skip s.addr.0 s.len)
 
 -- a run of a segment's bytes, and what is behind it
-pub next_run : (segments : List Segment) (i skip n : ℕ) → i < length segments → skip + n ≤ (get_or segments i no_segment).len
-    → rest_from segments i skip ≡ run_of ((get_or segments i no_segment).addr.0 + skip) n ++ rest_from segments i (skip + n)
+pub next_run : (segments : List Segment) (i skip n : ℕ) → i < length segments →
+    skip + n ≤ (get_or segments i no_segment).len
+    → rest_from segments i skip ≡ run_of ((get_or segments i no_segment).addr.0 + skip) n
+    ++ rest_from segments i (skip + n)
 next_run segments i skip n h k =
     let s = get_or segments i no_segment in
     let later = segment_bytes (drop (i + 1) segments) in
@@ -78,11 +87,13 @@ low_run : (a n : ℕ) (rest : List ℕ) → 0 < n → BeginsLow (run_of a n ++ r
 low_run a zero rest h l = absurd (omega arith)
 low_run a (suc n) rest h l = l
 
-pub low_byte : (segments : List Segment) (i skip : ℕ) → i < length segments → skip < (get_or segments i no_segment).len → BeginsLow (rest_from segments i skip)
+pub low_byte : (segments : List Segment) (i skip : ℕ) → i < length segments →
+    skip < (get_or segments i no_segment).len → BeginsLow (rest_from segments i skip)
     → (get_or segments i no_segment).addr.0 + skip < 2 ^ 42
 low_byte segments i skip h k l =
     let s = get_or segments i no_segment in
-    low_run (s.addr.0 + skip) (s.len - skip) (segment_bytes (drop (i + 1) segments)) (omega arith) (subst BeginsLow (within_segment segments i skip h (omega arith)) l)
+    low_run (s.addr.0 + skip) (s.len - skip) (segment_bytes (drop (i + 1) segments)) (omega arith)
+    (subst BeginsLow (within_segment segments i skip h (omega arith)) l)
 
 -- how many bytes segments have
 pub bytes_length : (segments : List Segment) → length (segment_bytes segments) ≡ segments_bytes segments

@@ -21,9 +21,11 @@ use phys_memory::LanePages;
 /// the load's map lends for the access, in any order.
 pub fn bus_read(segments: &[Segment], off: u64, out: &mut [u8], memory: &LanePages, pages: &[Page])
     requires range { off + length out.old ≤ segments_bytes segments.now }
-    requires there { AllByRecursion (IsThere memory.now.memory (frames_of pages.now)) (bus_range off (length out.old) segments.now) }
+    requires there { AllByRecursion (IsThere memory.now.memory (frames_of pages.now))
+        (bus_range off (length out.old) segments.now) }
     requires apart { AreApart memory.now.memory (frames_of pages.now) }
-    ensures { out.new ≡ map (with_bytes_of pages.now (wire memory.now.memory)) (bus_range off (length out.old) segments.now) }
+    ensures { out.new ≡ map (with_bytes_of pages.now (wire memory.now.memory))
+        (bus_range off (length out.old) segments.now) }
 {
     let mut cursor = Cursor::new(segments, off);
     let mut near = 0;

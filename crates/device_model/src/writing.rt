@@ -28,10 +28,12 @@ pub fn bus_write(
     pages: &mut [Page],
 )
     requires range { off + length bytes.now ≤ segments_bytes segments.now }
-    requires there { AllByRecursion (IsThere memory.old.memory (frames_of pages.old)) (bus_range off (length bytes.now) segments.now) }
+    requires there { AllByRecursion (IsThere memory.old.memory (frames_of pages.old))
+        (bus_range off (length bytes.now) segments.now) }
     requires apart { AreApart memory.old.memory (frames_of pages.old) }
     ensures wire { with_bytes_of pages.new (wire memory.new.memory)
-        ≡ put (bus_range off (length bytes.now) segments.now) bytes.now (with_bytes_of pages.old (wire memory.old.memory)) }
+        ≡ put (bus_range off (length bytes.now) segments.now) bytes.now
+        (with_bytes_of pages.old (wire memory.old.memory)) }
     ensures frames { frames_of pages.new ≡ frames_of pages.old }
     ensures same { SamePages memory.old.memory memory.new.memory }
     ensures spare { memory.new.spare ≡ memory.old.spare }

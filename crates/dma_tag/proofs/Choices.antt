@@ -21,7 +21,8 @@ either_min P a b p q =
     ]
 
 -- the smaller of two boundaries is one that is not 0
-pub either_boundary : (P : ℕ → Type 0) (a b : ℕ) → (a ≢ 0 → P a) → (b ≢ 0 → P b) → least_boundary a b ≢ 0 → P (least_boundary a b)
+pub either_boundary : (P : ℕ → Type 0) (a b : ℕ) → (a ≢ 0 → P a) → (b ≢ 0 → P b) →
+    least_boundary a b ≢ 0 → P (least_boundary a b)
 either_boundary P a b p q some =
     elim (cases_eq a 0) [
       | inl none ↦

@@ -1,12 +1,14 @@
 -- What holds of every effective tag.
-use Rattle.std.proofs.Common.{◌≡◌, ◌≢◌, ℕ, ◌%◌, ◌^◌, ◌<◌, ◌≤◌, Bool, true, not, ◌&&◌, ◌||◌, ◌==◌, nat_le, inl, inr, arith}
+use Rattle.std.proofs.Common.{◌≡◌, ◌≢◌, ℕ, ◌%◌, ◌^◌, ◌<◌, ◌≤◌, Bool, true, not, ◌&&◌, ◌||◌, ◌==◌, nat_le, inl, inr}
+use Rattle.std.proofs.Common.{arith}
 use Rattle.std.proofs.lemmas.Bool.{and_parts, or_cases, and_from, le-leb, eqb-true, leb-true, cases_eq}
 use Rattle.std.proofs.lemmas.Bool.Decides.{nat_tests}
 use Rattle.std.proofs.lemmas.Nat.{pow_pos}
 use Rattle.std.specs.Bool.{Decides}
 use Rattle.std.specs.Int.{IsPowerOfTwo}
 use Rattle.busdma_base.specs.declared.tags.tag.TagLimits.{TagLimits}
-use Rattle.busdma_base.specs.Tags.Tag.{IsAccepted, IsEffective, is_accepted, is_power_of_two, is_alignment, is_boundary, segment_limit, rounded, inherit}
+use Rattle.busdma_base.specs.Tags.Tag.{IsAccepted, IsEffective, is_accepted, is_power_of_two, is_alignment}
+use Rattle.busdma_base.specs.Tags.Tag.{is_boundary, segment_limit, rounded, inherit}
 use Rattle.dma_tag.proofs.Choices.{either_max, either_min, either_boundary}
 use Rattle.dma_tag.proofs.Powers.{is_power_of_two_decides}
 
@@ -34,7 +36,8 @@ IsAccepted-tested t alignment_fits boundary_fits test =
     some_segment : (t : TagLimits) → not (segment_limit t == 0) ≡ true → 1 ≤ t.maxsegsz
     some_segment t h = grind (arith, nat_tests)
 
-boundary_test : (power : Bool) (n : ℕ) → (n ≢ 0 → power ≡ true) → (n ≢ 0 → 16 ≤ n) → (n == 0 || (power && nat_le 16 n)) ≡ true
+boundary_test : (power : Bool) (n : ℕ) → (n ≢ 0 → power ≡ true) → (n ≢ 0 → 16 ≤ n) →
+    (n == 0 || (power && nat_le 16 n)) ≡ true
 boundary_test power n p q =
     elim (cases_eq n 0) [
       | inl none ↦ grind (arith, nat_tests)
@@ -54,7 +57,9 @@ above_test n h = grind (arith, nat_tests)
 tested_accepted : (t : TagLimits) → t.alignment < 2 ^ 64 → t.boundary < 2 ^ 64 → IsAccepted t → is_accepted t ≡ true
 tested_accepted t alignment_fits boundary_fits a =
     let power = (is_power_of_two_decides t.alignment alignment_fits).1 a.alignment_power in
-    let alignment = and_from (is_power_of_two t.alignment) (nat_le t.alignment 4096) power (le-leb t.alignment 4096 a.alignment_high) in
+    let alignment =
+    and_from (is_power_of_two t.alignment) (nat_le t.alignment 4096) power
+    (le-leb t.alignment 4096 a.alignment_high) in
     let boundary =
     boundary_test (is_power_of_two t.boundary) t.boundary
     (λ some. (is_power_of_two_decides t.boundary boundary_fits).1 (a.boundary_power some))
@@ -65,7 +70,8 @@ tested_accepted t alignment_fits boundary_fits a =
     (above_test (segment_limit t) (some_limit t a))
 
 -- the test tells the limits that are accepted
-pub is_accepted_decides : (t : TagLimits) → t.alignment < 2 ^ 64 → t.boundary < 2 ^ 64 → Decides (is_accepted t) (IsAccepted t)
+pub is_accepted_decides : (t : TagLimits) → t.alignment < 2 ^ 64 →
+    t.boundary < 2 ^ 64 → Decides (is_accepted t) (IsAccepted t)
 is_accepted_decides t p q = (IsAccepted-tested t p q, tested_accepted t p q)
 
 -- limits that are accepted are effective once they are rounded
@@ -85,7 +91,8 @@ IsEffective-rounded t a = record {
     power_low n (k, e) = omega (arith, pow_pos k)
 
 -- what is inherited is effective
-pub IsEffective-inherit : (parent child : TagLimits) → IsEffective parent → IsEffective child → IsEffective (inherit parent child)
+pub IsEffective-inherit : (parent child : TagLimits) → IsEffective parent →
+    IsEffective child → IsEffective (inherit parent child)
 IsEffective-inherit parent child p c = record {
   alignment_power = either_max IsPowerOfTwo parent.alignment child.alignment p.alignment_power c.alignment_power;
   alignment_low = either_max (λ n. 1 ≤ n) parent.alignment child.alignment p.alignment_low c.alignment_low;

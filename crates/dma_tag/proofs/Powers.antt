@@ -1,5 +1,6 @@
 -- Powers of two: by their set bits, by what they divide, and as powers.
-use Rattle.std.proofs.Common.{◌≡◌, ℕ, zero, suc, ◌+◌, ◌-◌, ◌*◌, ◌/◌, ◌%◌, ◌^◌, ◌<◌, ◌≤◌, nat_lt, ◌==◌, refl, ap, ◌∙◌, inl, inr, arith}
+use Rattle.std.proofs.Common.{◌≡◌, ℕ, zero, suc, ◌+◌, ◌-◌, ◌*◌, ◌/◌, ◌%◌, ◌^◌, ◌<◌, ◌≤◌, nat_lt, ◌==◌, refl, ap, ◌∙◌}
+use Rattle.std.proofs.Common.{inl, inr, arith}
 use Rattle.std.proofs.Math.Nat.{mul-mod_left, pow-suc, mul_comm}
 use Rattle.std.proofs.lemmas.Nat.{zero_from_ones, ones_le_self, pow-add, pow_pos, pow_below, div-add-mod'}
 use Rattle.std.proofs.lemmas.Bool.{cases_eq, cases_lt}
@@ -61,7 +62,9 @@ power_of_divisor (suc k) n m e =
       | inl m_even ↦ power_of_divisor k n (m / 2) (half_product n m (2 ^ k) m_even p)
       | inr m_odd ↦
           elim (cases_eq (n % 2) 0) [
-            | inl n_even ↦ twice_power n n_even (power_of_divisor k (n / 2) m (mul_comm (n / 2) m ∙ half_product m n (2 ^ k) n_even (mul_comm m n ∙ p)))
+            | inl n_even ↦ twice_power n n_even
+                (power_of_divisor k (n / 2) m (mul_comm (n / 2) m
+                ∙ half_product m n (2 ^ k) n_even (mul_comm m n ∙ p)))
             | inr n_odd ↦ absurd (odd_product n m (2 ^ k) n_odd m_odd p)
           ]
     ]
@@ -84,7 +87,8 @@ small_power n h k e =
 pub is_power_of_two_decides : (n : ℕ) → n < 2 ^ 64 → Decides (is_power_of_two n) (IsPowerOfTwo n)
 is_power_of_two_decides n h =
     Decides-like (is_power_of_two n)
-    (λ (low, divides). power_of_divisor 64 n (2 ^ 64 / n) (let whole = div-add-mod' (2 ^ 64) n in mul_comm n (2 ^ 64 / n) ∙ omega arith))
+    (λ (low, divides). power_of_divisor 64 n (2 ^ 64 / n) (let whole = div-add-mod' (2 ^ 64) n in
+    mul_comm n (2 ^ 64 / n) ∙ omega arith))
     (λ (k, e). (omega (arith, pow_pos k), ap (λ (x : ℕ). 2 ^ 64 % x) e ∙ power_divides k (small_power n h k e)))
     (Decides-and (nat_lt 0 n) (2 ^ 64 % n == 0) (Decides-ltb 0 n) (Decides-eqb (2 ^ 64 % n) 0))
 
@@ -92,5 +96,6 @@ is_power_of_two_decides n h =
 pub one_bit-is_power_of_two : (n : ℕ) → n < 2 ^ 64 → (count_ones n == 1) ≡ is_power_of_two n
 one_bit-is_power_of_two n h =
     same_from_decides (count_ones n == 1) (is_power_of_two n)
-    (Decides-like (count_ones n == 1) (power_of_one_bit n) (λ (k, e). ap count_ones e ∙ count_ones-power k) (Decides-eqb (count_ones n) 1))
+    (Decides-like (count_ones n == 1) (power_of_one_bit n) (λ (k, e). ap count_ones e
+    ∙ count_ones-power k) (Decides-eqb (count_ones n) 1))
     (is_power_of_two_decides n h)

@@ -16,7 +16,8 @@ postwrite_bit = 8
 -- Each word and its bit.
 abbrev pub sync_table : List (List ℕ × ℕ)
 sync_table =
-    (codes "PREREAD", preread_bit) ∷ (codes "POSTREAD", postread_bit) ∷ (codes "PREWRITE", prewrite_bit) ∷ (codes "POSTWRITE", postwrite_bit) ∷ []
+    (codes "PREREAD", preread_bit) ∷ (codes "POSTREAD", postread_bit) ∷ (codes "PREWRITE", prewrite_bit)
+    ∷ (codes "POSTWRITE", postwrite_bit) ∷ []
 
 -- The device is about to write the memory.
 abbrev pub preread : ℕ → Bool

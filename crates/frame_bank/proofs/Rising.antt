@@ -39,17 +39,20 @@ rising_drop (suc n) [] h = tt
 rising_drop (suc n) (p ∷ ps) h = rising_drop n ps h.1
 
 -- each page before a place is below the page there
-pub rising_below : (ps : List FrameBytes) (i : ℕ) (d : FrameBytes) → AreRising ps → i < length ps → All (λ q. q.frame < (get_or ps i d).frame) (take i ps)
+pub rising_below : (ps : List FrameBytes) (i : ℕ) (d : FrameBytes) → AreRising ps → i < length ps →
+    All (λ q. q.frame < (get_or ps i d).frame) (take i ps)
 rising_below [] i d h l = absurd (omega arith)
 rising_below (p ∷ ps) zero d h l = All-nil (λ q. q.frame < p.frame)
 rising_below (p ∷ ps) (suc i) d h l =
-    All-cons (λ q. q.frame < (get_or ps i d).frame) p (take i ps) (All-get_or (λ q. p.frame < q.frame) ps i d (omega arith) h.0) (rising_below ps i d h.1 (omega arith))
+    All-cons (λ q. q.frame < (get_or ps i d).frame) p (take i ps)
+    (All-get_or (λ q. p.frame < q.frame) ps i d (omega arith) h.0) (rising_below ps i d h.1 (omega arith))
 
 pub rising_never_falls : (ps : List FrameBytes) → AreRising ps → IsNonDecreasingBy (λ p. p.frame) ps
 rising_never_falls [] h i j d le l = absurd (omega arith)
 rising_never_falls (p ∷ ps) h zero zero d le l = omega arith
 rising_never_falls (p ∷ ps) h zero (suc j) d le l =
-    let above : p.frame < (get_or ps j d).frame = All-get_or (λ q. p.frame < q.frame) ps j d (omega arith) h.0 in omega arith
+    let above : p.frame < (get_or ps j d).frame =
+    All-get_or (λ q. p.frame < q.frame) ps j d (omega arith) h.0 in omega arith
 rising_never_falls (p ∷ ps) h (suc i) zero d le l = absurd (omega arith)
 rising_never_falls (p ∷ ps) h (suc i) (suc j) d le l = rising_never_falls ps h.1 i j d (omega arith) (omega arith)
 

@@ -1,12 +1,14 @@
 //! The bank of free frames.
 
-ghost use Rattle.std.specs.Prelude.{◌≡◌, ◌≢◌, ◌==◌, ◌+◌, ◌*◌, ◌^◌, ◌<◌, ◌≤◌, [], ◌∷◌, length, map, option_map, count_by, IfOk, OnOk, OnErr, IfSome, IfNone};
+ghost use Rattle.std.specs.Prelude.{◌≡◌, ◌≢◌, ◌==◌, ◌+◌, ◌*◌, ◌^◌, ◌<◌, ◌≤◌, [], ◌∷◌, length, map, option_map};
+ghost use Rattle.std.specs.Prelude.{count_by, IfOk, OnOk, OnErr, IfSome, IfNone};
 ghost use Rattle.std.specs.List.{All, AllPairs};
 ghost use Rattle.busdma_base.specs.Bounce.Growth.{frames_below};
 ghost use Rattle.busdma_base.specs.Bounce.History.{IsRising};
 ghost use Rattle.busdma_base.specs.Bounce.MemoryRuns.{frames_for, frames_from, lowest_run, put_in};
 ghost use Rattle.busdma_base.specs.Machine.PageList.{page_address, page_addresses};
-ghost use Rattle.frame_bank.specs.FrameBank.{IsBank, free_frames, fresh_page, put_page, put_pages, run_frames, frames_left, run_pages, pages_left};
+ghost use Rattle.frame_bank.specs.FrameBank.{IsBank, free_frames, fresh_page, put_page, put_pages, run_frames};
+ghost use Rattle.frame_bank.specs.FrameBank.{frames_left, run_pages, pages_left};
 
 use crate::run;
 use crate::run::Wish;

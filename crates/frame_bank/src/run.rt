@@ -1,6 +1,7 @@
 //! The search for free frames that follow one another.
 
-ghost use Rattle.std.specs.Prelude.{◌≡◌, ◌+◌, ◌<◌, ◌≤◌, length, drop, nat_le, Some, None, MatchOption, slice_index, true};
+ghost use Rattle.std.specs.Prelude.{◌≡◌, ◌+◌, ◌<◌, ◌≤◌, length, drop, nat_le, Some, None, MatchOption, slice_index};
+ghost use Rattle.std.specs.Prelude.{true};
 ghost use Rattle.busdma_base.specs.Bounce.History.{IsRising};
 ghost use Rattle.busdma_base.specs.Bounce.MemoryRuns.{frames_for, follow, crosses_none, begins_run, lowest_run};
 ghost use Rattle.busdma_base.specs.Machine.PageList.{page_address, page_addresses};

@@ -235,7 +235,8 @@ module _ {p maxmem : ℕ} {tags : FinMap nat_cmp LaneTag} {maps : FinMap nat_cmp
         record {
           tag = st.tag;
           there =
-              cut-other tags t x.tag (λ d. absurd (let u : (x.tag == t) ≡ true = rw d (grind (arith, nat_tests)) in cc))
+              cut-other tags t x.tag (λ d. absurd
+              (let u : (x.tag == t) ≡ true = rw d (grind (arith, nat_tests)) in cc))
               ∙ st.there;
           memory = st.memory;
           direct = st.direct;

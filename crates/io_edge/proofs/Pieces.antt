@@ -1,5 +1,6 @@
 -- A text that comes or goes in pieces.
-use Rattle.std.proofs.Common.{ℕ, ◌+◌, List, ◌++◌, length, take, drop, length-append, Option, Some, None, refl, sym, ap, ◌∙◌, append_assoc, arith}
+use Rattle.std.proofs.Common.{ℕ, ◌+◌, List, ◌++◌, length, take, drop, length-append, Option, Some, None, refl, sym, ap}
+use Rattle.std.proofs.Common.{◌∙◌, append_assoc, arith}
 use Rattle.std.proofs.Math.Seq.{take-add}
 use Rattle.std.proofs.lemmas.List.{drop_at}
 use Rattle.std.specs.Io.KnownBytes.{Consumes, Appends}

@@ -5,7 +5,8 @@ use Rattle.serde_json.proofs.Views.{Entry}
 use Rattle.json_fields.specs.Field.{unknown_key}
 
 pub known_first : (known : List ℕ → Bool) (e : Entry) (es rest : List Entry)
-    → es ≡ e ∷ rest → known (string_bytes e.0) ≡ true → unknown_key known (members_view rest) ≡ unknown_key known (members_view es)
+    → es ≡ e ∷ rest → known (string_bytes e.0) ≡ true →
+    unknown_key known (members_view rest) ≡ unknown_key known (members_view es)
 known_first known e es rest is h = rw (is, h) refl
 
 pub unknown_first : (known : List ℕ → Bool) (e : Entry) (es rest : List Entry)

@@ -18,4 +18,5 @@ items_at here = of_kind here.place (option_map list_of (as_array here.value))
 -- each item is read by itself and by what was read of the list before it
 abbrev pub each : {A : Type 0} → (List A → Spot → Read A) → Spot → List A → List Data → Read (List A)
 each read here before [] = Ok before
-each read here before (d ∷ ds) = read before (item_of here (length before) d) >>= (λ x. each read here (before ++ x ∷ []) ds)
+each read here before (d ∷ ds) =
+    read before (item_of here (length before) d) >>= (λ x. each read here (before ++ x ∷ []) ds)

@@ -1,5 +1,6 @@
 -- Numbers: whole ones below 2^64, or a text of hexadecimal digits behind `0x`.
-use Rattle.std.specs.Prelude.{ℕ, ◌+◌, ◌*◌, ◌-◌, ◌==◌, ◌&&◌, List, [], ◌∷◌, length, drop, Option, Some, None, option_and_then, Ok, if◌then◌else◌, nat_le, slice_index}
+use Rattle.std.specs.Prelude.{ℕ, ◌+◌, ◌*◌, ◌-◌, ◌==◌, ◌&&◌, List, [], ◌∷◌, length, drop, Option, Some, None}
+use Rattle.std.specs.Prelude.{option_and_then, Ok, if◌then◌else◌, nat_le, slice_index}
 use Rattle.serde_json.specs.Data.{Data, null, boolean, number, string, array, object}
 use Rattle.serde_json.specs.Find.{as_u64}
 use Rattle.json_fields.specs.Place.{Place}

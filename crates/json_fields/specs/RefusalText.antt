@@ -3,7 +3,8 @@ use Rattle.std.specs.Prelude.{ℕ, List, [], ◌∷◌, ◌++◌, codes}
 use Rattle.json_fields.specs.declared.refusal.LimitName.{LimitName}
 use Rattle.json_fields.specs.declared.refusal.LimitName.TheVariants as limit
 use Rattle.json_fields.specs.declared.refusal.RefusalKind.{RefusalKind}
-use Rattle.json_fields.specs.declared.refusal.RefusalKind.TheVariants.{NotJson, BadField, BadFlag, BadOp, Limit, FrameTwice, FrameAbsent, UnknownName}
+use Rattle.json_fields.specs.declared.refusal.RefusalKind.TheVariants.{NotJson, BadField, BadFlag, BadOp, Limit}
+use Rattle.json_fields.specs.declared.refusal.RefusalKind.TheVariants.{FrameTwice, FrameAbsent, UnknownName}
 use Rattle.json_fields.specs.declared.refusal.Refusal.{Refusal}
 
 -- a limit's name

@@ -27,24 +27,31 @@ sound-rest : (a : Account) (es fs : List HoldEntry) → IsSound a (es ++ fs) →
 sound-rest a [] fs sound = sound
 sound-rest a (e ∷ es) fs sound = sound-rest (after_entry e a) es fs sound.1
 
-others_away : (serves : ℕ → Bool) (lane : ℕ) (es : List HoldEntry) → IsTrue (serves lane) → All (λ e. serves e.lane.0 ≡ false) es → All (λ e. e.lane.0 ≢ lane) es
+others_away : (serves : ℕ → Bool) (lane : ℕ) (es : List HoldEntry) → IsTrue (serves lane) →
+    All (λ e. serves e.lane.0 ≡ false) es → All (λ e. e.lane.0 ≢ lane) es
 others_away serves lane [] served apart = All-nil (λ (e : HoldEntry). e.lane.0 ≢ lane)
 others_away serves lane (e ∷ es) served apart =
     All-cons (λ (e : HoldEntry). e.lane.0 ≢ lane) e es
-    (λ is. absurd (false≢true (sym (All-head (λ (e : HoldEntry). serves e.lane.0 ≡ false) e es apart) ∙ ap serves is ∙ served)))
+    (λ is. absurd
+    (false≢true (sym (All-head (λ (e : HoldEntry). serves e.lane.0 ≡ false) e es apart) ∙ ap serves is ∙ served)))
     (others_away serves lane es served (All-tail (λ (e : HoldEntry). serves e.lane.0 ≡ false) e es apart))
 
-pub agrees-passes : (l : View) (d : Seen) (others : List HoldEntry) (e : Seen) → Agrees l (account d) → IsTrue (d.serves l.id) → Passes d others e → Agrees l (account e)
+pub agrees-passes : (l : View) (d : Seen) (others : List HoldEntry) (e : Seen) → Agrees l (account d) →
+    IsTrue (d.serves l.id) → Passes d others e → Agrees l (account e)
 agrees-passes l d others e agrees served passes =
     let form : IsOpening d.opening = subst (λ o. IsOpening o) passes.opening passes.form in
-    let sound : IsSound d.opening (d.history ++ others) = subst (λ o. IsSound o (d.history ++ others)) passes.opening (subst (λ h. IsSound e.opening h) passes.history passes.sound) in
+    let sound : IsSound d.opening (d.history ++ others) =
+    subst (λ o. IsSound o (d.history ++ others)) passes.opening
+    (subst (λ h. IsSound e.opening h) passes.history passes.sound) in
     subst (λ o. Agrees l (account_of o e.history)) (sym passes.opening)
     (subst (λ h. Agrees l (account_of d.opening h)) (sym passes.history)
     (subst (λ a. Agrees l a) (sym (account-append d.opening d.history others))
-    (agrees-stays l (account d) others (fit-reached d.opening d.history form (sound-first d.opening d.history others sound)).well agrees (sound-rest d.opening d.history others sound)
+    (agrees-stays l (account d) others (fit-reached d.opening d.history form
+    (sound-first d.opening d.history others sound)).well agrees (sound-rest d.opening d.history others sound)
     (others_away d.serves l.id others served passes.apart))))
 
-pub agrees-holds : (fits : Bool) (l : View) (d : Seen) (c : HubCall) (r : HubReply) (e : Seen) → Agrees l (account d) → IsTrue (d.serves l.id) → Holds d l.id c r e → Asks l c → Agrees (after fits l c r) (account e)
+pub agrees-holds : (fits : Bool) (l : View) (d : Seen) (c : HubCall) (r : HubReply) (e : Seen) → Agrees l (account d) →
+    IsTrue (d.serves l.id) → Holds d l.id c r e → Asks l c → Agrees (after fits l c r) (account e)
 agrees-holds fits l d c r e agrees served holds asks =
     let b : Seen = holds.between in
     let own : List HoldEntry = record { lane = record { 0 = l.id }; call = c; reply = r } ∷ [] in
@@ -52,4 +59,5 @@ agrees-holds fits l d c r e agrees served holds asks =
     (subst (λ h. Agrees (after fits l c r) (account_of b.opening h)) (sym holds.history)
     (subst (λ a. Agrees (after fits l c r) a) (sym (account-append b.opening b.history own))
     (subst (λ k. Agrees (after fits l c k) (account_step l.id c (account b)).account) (sym holds.reply)
-    (agrees-step fits l c (account b) (fit-reached b.opening b.history holds.passes.form holds.passes.sound) (agrees-passes l d holds.others b agrees served holds.passes) asks))))
+    (agrees-step fits l c (account b) (fit-reached b.opening b.history holds.passes.form holds.passes.sound)
+    (agrees-passes l d holds.others b agrees served holds.passes) asks))))

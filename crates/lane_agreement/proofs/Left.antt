@@ -1,5 +1,6 @@
 -- What is left falls where pages come as asked, and where one goes back.
-use Rattle.std.proofs.Common.{◌≡◌, ℕ, ◌+◌, ◌≤◌, Bool, true, false, List, [], ◌∷◌, length, refl, sym, ap, ◌∙◌, arith, if◌then◌else◌, ◌==◌, Option, Some, None}
+use Rattle.std.proofs.Common.{◌≡◌, ℕ, ◌+◌, ◌≤◌, Bool, true, false, List, [], ◌∷◌, length, refl, sym, ap, ◌∙◌, arith}
+use Rattle.std.proofs.Common.{if◌then◌else◌, ◌==◌, Option, Some, None}
 use Rattle.std.proofs.lemmas.Bool.{eq-eqb}
 use Rattle.std.proofs.lemmas.List.{length-append}
 use Rattle.busdma_base.specs.declared.machine.address.Pa.{Pa}
@@ -8,7 +9,8 @@ use Rattle.busdma_base.specs.declared.bounce.hold.HubReply.TheVariants.{Called}
 use Rattle.busdma_base.specs.Bounce.Account.{Account}
 use Rattle.busdma_base.specs.Bounce.AccountStep.{called_from}
 use Rattle.busdma_base.specs.Bounce.WellFormed.{IsWellFormed}
-use Rattle.lane_agreement.specs.View.{View, Return, OwnMap, Idle, Returning, ended, emptied, queued_back, given_back, restaged, returning, is_returning, zone_in}
+use Rattle.lane_agreement.specs.View.{View, Return, OwnMap, Idle, Returning, ended, emptied, queued_back, given_back}
+use Rattle.lane_agreement.specs.View.{restaged, returning, is_returning, zone_in}
 use Rattle.lane_agreement.specs.Agreement.{Agrees}
 use Rattle.lane_agreement.specs.After.{addresses, after_callback, left_at, left_of, brought, IsLike}
 use Rattle.lane_agreement.proofs.Whole.{Called_for, called-length}
@@ -26,22 +28,39 @@ emptied-left items z [] = refl
 emptied-left items z (p ∷ ps) = refl
 
 -- a load that ends has brought its items, and its pages are with the map or in the return queue
-pub ended-left : (fits : Bool) (l : View) (k z : ℕ) (pages : List ℕ) (items : ℕ) → left_of items (ended fits l k z pages) k ≡ length pages + length l.returns
+pub ended-left : (fits : Bool) (l : View) (k z : ℕ) (pages : List ℕ) (items : ℕ) →
+    left_of items (ended fits l k z pages) k ≡ length pages + length l.returns
 ended-left true l k z pages items = rw (eq-eqb k k refl) refl
 ended-left false l k z pages items =
-    rw (eq-eqb k k refl) (omega (arith, emptied-left items z pages, length-append l.returns (queued_back k z pages), queued-length k z pages))
+    rw (eq-eqb k k refl) (omega (
+      arith,
+      emptied-left items z pages,
+      length-append l.returns (queued_back k z pages),
+      queued-length k z pages,
+    ))
 
 -- a callback lowers what is left
-pub callback-left : (fits : Bool) (l : View) (a : Account) (m : MapId) (pages : List Pa) (items : ℕ) → IsWellFormed a → Agrees l a → (called_from a.ready l.id a).reply ≡ Called m pages
-    → left_of items (after_callback fits l (Called m pages)) m.made_at + brought fits items + 1 ≤ left_of items l m.made_at
+pub callback-left : (fits : Bool) (l : View) (a : Account) (m : MapId) (pages : List Pa) (items : ℕ) → IsWellFormed a →
+    Agrees l a → (called_from a.ready l.id a).reply ≡ Called m pages
+    → left_of items (after_callback fits l (Called m pages)) m.made_at
+    + brought fits items + 1 ≤ left_of items l m.made_at
 callback-left fits l a m pages items well agrees e = lowers (called-length l a.ready a m pages well agrees refl e)
   where
     few : (fits : Bool) → brought fits items ≤ items
     few true = omega arith
     few false = omega arith
 
-    lowers : Called_for l pages m → left_of items (after_callback fits l (Called m pages)) m.made_at + brought fits items + 1 ≤ left_of items l m.made_at
-    lowers c = omega (arith, few fits, ended-left fits l m.made_at (zone_in (l.map_at m.made_at)) (addresses pages) items, addresses-length pages, c.4, ap (left_at items) c.3)
+    lowers : Called_for l pages m → left_of items (after_callback fits l (Called m pages)) m.made_at
+        + brought fits items + 1 ≤ left_of items l m.made_at
+    lowers c =
+        omega (
+          arith,
+          few fits,
+          ended-left fits l m.made_at (zone_in (l.map_at m.made_at)) (addresses pages) items,
+          addresses-length pages,
+          c.4,
+          ap (left_at items) c.3,
+        )
 
 bare-left : (items : ℕ) (o : Option OwnMap) (b : Bool) → left_at items (restaged o (if b then Idle else Returning)) ≡ 0
 bare-left items None b = refl
@@ -49,9 +68,11 @@ bare-left items (Some m) true = refl
 bare-left items (Some m) false = refl
 
 -- so does the return of a page
-pub back-left : (l : View) (r : Return) (rs : List Return) (items : ℕ) → l.returns ≡ r ∷ rs → left_of items (given_back l (r ∷ rs)) r.map + 1 ≤ left_of items l r.map
+pub back-left : (l : View) (r : Return) (rs : List Return) (items : ℕ) → l.returns ≡ r ∷ rs →
+    left_of items (given_back l (r ∷ rs)) r.map + 1 ≤ left_of items l r.map
 back-left l r rs items is =
-    let here : left_at items ((given_back l (r ∷ rs)).map_at r.map) ≡ 0 = rw (eq-eqb r.map r.map refl) (bare-left items (l.map_at r.map) (returning r.map rs == 0)) in
+    let here : left_at items ((given_back l (r ∷ rs)).map_at r.map) ≡ 0 =
+    rw (eq-eqb r.map r.map refl) (bare-left items (l.map_at r.map) (returning r.map rs == 0)) in
     omega (arith, here, ap length is)
 
 -- lanes that are alike agree with the same accounts

@@ -13,7 +13,8 @@ use Rattle.lane_agreement.specs.OwnShare.{own_share}
 use Rattle.lane_agreement.specs.Agreement.{Agrees}
 use Rattle.busdma_base.proofs.Accounts.Names.{Same-trans}
 
-pub agrees-stays : (l : View) (a : Account) (es : List HoldEntry) → IsWellFormed a → Agrees l a → IsSound a es → All (λ e. e.lane.0 ≢ l.id) es → Agrees l (account_of a es)
+pub agrees-stays : (l : View) (a : Account) (es : List HoldEntry) → IsWellFormed a → Agrees l a → IsSound a es →
+    All (λ e. e.lane.0 ≢ l.id) es → Agrees l (account_of a es)
 agrees-stays l a es well agrees sound others =
     let same : SameFor l.id a (account_of a es) = SameFor-history l.id a es sound others in
     record {

@@ -1,14 +1,17 @@
 -- What the reply to a lane's own call makes of it. A load that gets its pages ends as `fits` says.
-use Rattle.std.specs.Prelude.{◌≡◌, ℕ, ◌+◌, ◌≤◌, Bool, List, [], ◌∷◌, map, length, IsTrue, Option, Some, None, if◌then◌else◌}
+use Rattle.std.specs.Prelude.{◌≡◌, ℕ, ◌+◌, ◌≤◌, Bool, List, [], ◌∷◌, map, length, IsTrue, Option, Some, None}
+use Rattle.std.specs.Prelude.{if◌then◌else◌}
 use Rattle.busdma_base.specs.declared.machine.address.Pa.{Pa}
 use Rattle.busdma_base.specs.declared.bounce.hold.HubCall.{HubCall}
-use Rattle.busdma_base.specs.declared.bounce.hold.HubCall.TheVariants.{AttachTag, CreateMap, DestroyMap, Grab, Release, TakeCallback, MemAlloc, MemFree}
+use Rattle.busdma_base.specs.declared.bounce.hold.HubCall.TheVariants.{AttachTag, CreateMap, DestroyMap, Grab, Release}
+use Rattle.busdma_base.specs.declared.bounce.hold.HubCall.TheVariants.{TakeCallback, MemAlloc, MemFree}
 use Rattle.busdma_base.specs.declared.bounce.hold.HubReply.{HubReply}
 use Rattle.busdma_base.specs.declared.bounce.hold.HubReply.TheVariants.{Grown, Granted, Queued, Called, Run}
 use Rattle.busdma_base.specs.Tags.Tag.{could_bounce}
 use Rattle.busdma_base.specs.Tags.TagFlags.{allocnow}
 use Rattle.busdma_base.specs.Bounce.MemoryRuns.{frames_from}
-use Rattle.lane_agreement.specs.View.{View, OwnMap, Return, Idle, Waiting, Loaded, Returning, staged, gone, with_mem, ended, given_back, zone_in}
+use Rattle.lane_agreement.specs.View.{View, OwnMap, Return, Idle, Waiting, Loaded, Returning, staged, gone, with_mem}
+use Rattle.lane_agreement.specs.View.{ended, given_back, zone_in}
 
 abbrev pub addresses : List Pa → List ℕ
 addresses pages = map (λ p. p.0) pages
@@ -50,7 +53,8 @@ abbrev pub Asks : View → HubCall → Type 0
 Asks l (AttachTag t) = IsTrue (could_bounce t l.maxmem) × IsTrue (allocnow t.flags)
 Asks l (CreateMap m t first_done) = (m.lane.0 ≡ l.id) × IsTrue (could_bounce t l.maxmem) × (l.map_at m.made_at ≡ None)
 Asks l (DestroyMap m z) = (m.lane.0 ≡ l.id) × (l.map_at m.made_at ≡ Some (record { zone = z.0; stage = Idle }))
-Asks l (Grab m z need nowait) = (m.lane.0 ≡ l.id) × (1 ≤ need) × (l.map_at m.made_at ≡ Some (record { zone = z.0; stage = Idle }))
+Asks l (Grab m z need nowait) =
+    (m.lane.0 ≡ l.id) × (1 ≤ need) × (l.map_at m.made_at ≡ Some (record { zone = z.0; stage = Idle }))
 Asks l (Release m z page) = (m.lane.0 ≡ l.id) × IsFront l.returns m.made_at z.0 page.0
 Asks l TakeCallback = Unit {0}
 Asks l (MemAlloc m t) = (m.lane.0 ≡ l.id) × (l.mem_at m.made_at ≡ None)
@@ -62,10 +66,12 @@ pub record IsFresh (l : View) : Type 0 where
   pub mems : (k : ℕ) → l.mem_at k ≡ None
   pub returns : l.returns ≡ []
 
--- what one map adds to what is left: a Waiting load of so many items counts 1, its items and its need, a Loaded one its pages
+-- what one map adds to what is left: a Waiting load of so many items counts 1, its items and its need, a Loaded one
+-- its pages
 abbrev pub left_at : ℕ → Option OwnMap → ℕ
 left_at items None = 0
-left_at items (Some m) = (elim m.stage [ Idle ↦ 0 | Waiting need ↦ 1 + items + need | Loaded ps ↦ length ps | Returning ↦ 0 ])
+left_at items (Some m) =
+    (elim m.stage [ Idle ↦ 0 | Waiting need ↦ 1 + items + need | Loaded ps ↦ length ps | Returning ↦ 0 ])
 
 -- with the return queue
 abbrev pub left_of : ℕ → View → ℕ → ℕ

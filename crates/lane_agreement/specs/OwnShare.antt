@@ -32,7 +32,8 @@ loaded_page z page None = 0
 loaded_page z page (Some m) = count_by (λ p. (p == page) && (m.zone == z)) (pages_in m.stage)
 
 abbrev pub waits_in : ℕ → ℕ → ℕ → Stage → ℕ
-waits_in y z need s = (elim s [ Idle ↦ 0 | Waiting n ↦ one_if ((n == need) && (y == z)) | Loaded ps ↦ 0 | Returning ↦ 0 ])
+waits_in y z need s =
+    (elim s [ Idle ↦ 0 | Waiting n ↦ one_if ((n == need) && (y == z)) | Loaded ps ↦ 0 | Returning ↦ 0 ])
 
 abbrev pub waits_for : ℕ → ℕ → Option OwnMap → ℕ
 waits_for z need None = 0

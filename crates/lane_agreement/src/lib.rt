@@ -2,7 +2,8 @@
 //! contract of a function that does nothing.
 #![tactic(auto)]
 
-ghost use Rattle.std.specs.Prelude.{◌≡◌, ◌≢◌, ◌+◌, ◌≤◌, ℕ, Bool, true, List, [], ◌∷◌, Option, Some, None, All, IsTrue, length};
+ghost use Rattle.std.specs.Prelude.{◌≡◌, ◌≢◌, ◌+◌, ◌≤◌, ℕ, Bool, true, List, [], ◌∷◌, Option, Some, None, All, IsTrue};
+ghost use Rattle.std.specs.Prelude.{length};
 ghost use Rattle.busdma_base.specs.declared.machine.address.Pa.{Pa};
 ghost use Rattle.busdma_base.specs.declared.name.MapId.{MapId};
 ghost use Rattle.busdma_base.specs.declared.bounce.hold.HubCall.{HubCall};
@@ -36,7 +37,8 @@ pub fn agreement_stays()
 pub fn doors_keep_agreement()
     ensures passes { (l : View) (d : Seen) (others : List HoldEntry) (e : Seen) → Agrees l (account d) →
         IsTrue (d.serves l.id) → Passes d others e → Agrees l (account e) }
-    ensures holds { (fits : Bool) (l : View) (d : Seen) (c : HubCall) (r : HubReply) (e : Seen) → Agrees l (account d) →
+    ensures holds { (fits : Bool) (l : View) (d : Seen) (c : HubCall) (r : HubReply) (e : Seen) →
+        Agrees l (account d) →
         IsTrue (d.serves l.id) → Holds d l.id c r e → Asks l c → Agrees (after fits l c r) (account e) }
 {}
 
@@ -66,12 +68,14 @@ pub fn loads_get_their_need()
         (grabbed m z need nowait a).reply ≡ Granted pages → length pages ≡ need }
     ensures called { (l : View) (a : Account) (m : MapId) (pages : List Pa) → IsWellFormed a → Agrees l a →
         (called_from a.ready l.id a).reply ≡ Called m pages →
-        (need : ℕ) × (m.lane.0 ≡ l.id) × (z : ℕ) × (l.map_at m.made_at ≡ Some (record { zone = z; stage = Waiting need })) × (length pages ≡ need) }
+        (need : ℕ) × (m.lane.0 ≡ l.id) × (z : ℕ)
+        × (l.map_at m.made_at ≡ Some (record { zone = z; stage = Waiting need })) × (length pages ≡ need) }
 {}
 
 /// A callback lowers what is left of its map, and so does the return of a page.
 pub fn left_falls()
-    ensures callback { (fits : Bool) (l : View) (a : Account) (m : MapId) (pages : List Pa) (items : ℕ) → IsWellFormed a → Agrees l a →
+    ensures callback { (fits : Bool) (l : View) (a : Account) (m : MapId) (pages : List Pa) (items : ℕ) →
+        IsWellFormed a → Agrees l a →
         (called_from a.ready l.id a).reply ≡ Called m pages →
         left_of items (after_callback fits l (Called m pages)) m.made_at + brought fits items + 1 ≤ left_of items l m.made_at }
     ensures back { (l : View) (r : Return) (rs : List Return) (items : ℕ) → l.returns ≡ r ∷ rs →

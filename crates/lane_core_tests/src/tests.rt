@@ -14,6 +14,7 @@ use std::alloc::{AllocError, Global};
 use std::test::Fail;
 
 const BUFFER: Place = Place::At(Va(0x1000));
+
 const MAP: MapId = MapId {
     lane: LaneId(0),
     made_at: 1,

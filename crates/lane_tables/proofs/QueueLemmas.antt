@@ -3,6 +3,7 @@ use Rattle.std.proofs.Common.{◌≡◌, ℕ, suc, ◌+◌, List, [], ◌∷◌,
 use Rattle.busdma_base.specs.declared.scenarios.script.Item.{Item}
 use Rattle.lane_tables.specs.Queues.{queued_from}
 
-pub length-queued_from : (load_at place : ℕ) (items : List Item) → length (queued_from load_at place items) ≡ length items
+pub length-queued_from : (load_at place : ℕ) (items : List Item) →
+    length (queued_from load_at place items) ≡ length items
 length-queued_from load_at place [] = refl
 length-queued_from load_at place (i ∷ items) = ap suc (length-queued_from load_at (place + 1) items)

@@ -20,7 +20,8 @@ item_count script = sum_by (λ o. length (items_of o)) script
 -- items of a load, in order, the first of which has a place among the load's items
 abbrev pub queued_from : ℕ → ℕ → List Item → List QueuedItem
 queued_from load_at place [] = []
-queued_from load_at place (i ∷ items) = record { load_at = load_at; place = place; item = i } ∷ queued_from load_at (place + 1) items
+queued_from load_at place (i ∷ items) =
+    record { load_at = load_at; place = place; item = i } ∷ queued_from load_at (place + 1) items
 
 -- all items of a load, in order
 abbrev pub queued : ℕ → List Item → List QueuedItem

@@ -21,5 +21,6 @@ module _ {T : Type 0} where
   -- each key has a value and stands at one place, and places are numbers of 32 bits
   pub record IsKept (keys : List (Option ℕ)) (slab : Slab T) : Type 0 where
     pub present : (place key : ℕ) → slice_index_or keys place None ≡ Some key → ContainsKey slab key
-    pub once : (place other key : ℕ) → slice_index_or keys place None ≡ Some key → slice_index_or keys other None ≡ Some key → place ≡ other
+    pub once : (place other key : ℕ) → slice_index_or keys place None ≡ Some key →
+        slice_index_or keys other None ≡ Some key → place ≡ other
     pub few : length keys < 2 ^ 32

@@ -1,7 +1,8 @@
 -- What the passes of lanes knew begins the hub's history, and what came after is of other lanes.
 use Rattle.std.proofs.Common.{◌≡◌, ◌≢◌, ℕ, ◌+◌, ◌==◌, ◌<◌, List, [], ◌∷◌, ◌++◌, All, Contains, Some, refl, sym, ap}
 use Rattle.std.proofs.Common.{◌∙◌, subst, arith, append-nil, eq-eqb, ne_eqb}
-use Rattle.std.proofs.lemmas.List.Elements.{All-nil, All-cons, All-head, All-tail, All-append, All-contains, All-weaker}
+use Rattle.std.proofs.lemmas.List.Elements.{All-nil, All-cons, All-head, All-tail, All-append, All-contains}
+use Rattle.std.proofs.lemmas.List.Elements.{All-weaker}
 use Rattle.std.proofs.lemmas.List.Elements.{Contains-append_left, Contains-append_right}
 use mathlib.Core.List.{IsPrefix}
 use mathlib.Core.Logic.{dite}
@@ -70,7 +71,8 @@ drivers : (start : Start HoldEntry Account) (turns : List (ℕ × HoldEntry)) �
 drivers start [] h = All-nil (λ (e : HoldEntry). e.lane.0 + 1 < start.names)
 drivers start (t ∷ ts) h =
     let here = All-head (IsPair start) t ts h in
-    All-cons (λ (e : HoldEntry). e.lane.0 + 1 < start.names) t.1 (entries ts) (subst (λ n. n < start.names) (sym here.1) here.0)
+    All-cons (λ (e : HoldEntry). e.lane.0 + 1 < start.names) t.1 (entries ts)
+    (subst (λ n. n < start.names) (sym here.1) here.0)
     (drivers start ts (All-tail (IsPair start) t ts h))
 
 -- the entries of a lane are the calls under its name
@@ -92,12 +94,14 @@ record IsWithin (turns : List (ℕ × HoldEntry)) (p : LanePass) : Type 0 where
   calls : calls_of p.name turns ≡ own_calls p
 
 -- the turnstile is closed
-module _ (first all : LanePass) (hub : HubSeen) (c : Closes (λ h. h.history) (λ h. h.opening) IsLegal IsOfName all hub) where
+module _ (first all : LanePass) (hub : HubSeen)
+    (c : Closes (λ h. h.history) (λ h. h.opening) IsLegal IsOfName all hub) where
   own_of : (p : LanePass) → IsWithin c.turns p → HasOwnCalls c.start.opening hub.history p
   own_of p w lane named =
       ap (of_lane lane) c.whole
       ∙ of_lane-append lane c.start.opening (entries c.turns)
-      ∙ ap (λ es. of_lane lane c.start.opening ++ es) (lane_calls c.start lane p.name c.turns named c.sound.pairs ∙ w.calls)
+      ∙ ap (λ es. of_lane lane c.start.opening ++ es)
+      (lane_calls c.start lane p.name c.turns named c.sound.pairs ∙ w.calls)
 
   others_of : (started : first.start ≡ Some c.start) (p : LanePass) → IsWithin c.turns p → OthersCame first hub p
   others_of started p w same =
@@ -124,7 +128,9 @@ joined_within : (all p : LanePass) (turns : List (ℕ × HoldEntry)) → IsPrefi
     → All (λ (o : ℕ × List HoldEntry). calls_of o.0 turns ≡ o.1) all.ended → IsJoined all p → IsWithin turns p
 joined_within all p turns begins ended j = record {
   begins = prefix_then p.front all.front turns j.begins begins;
-  calls = All-contains (λ (o : ℕ × List HoldEntry). calls_of o.0 turns ≡ o.1) all.ended (p.name, own_calls p) ended j.ended;
+  calls =
+      All-contains (λ (o : ℕ × List HoldEntry). calls_of o.0 turns ≡ o.1)
+      all.ended (p.name, own_calls p) ended j.ended;
 }
 
 -- all were joined, and the turnstile is closed
@@ -144,10 +150,15 @@ closed first all passes hub j c =
       start = c.start;
       started = started;
       opening = c.fixed_part;
-      legal = subst (λ (x : Account × List HoldEntry). IsLegal x.0 x.1) (λ i. (sym c.fixed_part i, sym c.whole i)) lawful;
+      legal =
+          subst (λ (x : Account × List HoldEntry). IsLegal x.0 x.1) (λ i. (sym c.fixed_part i, sym c.whole i)) lawful;
       added = entries c.turns;
       begins = c.whole;
       drivers = drivers c.start c.turns c.sound.pairs;
-      own = All-weaker (IsWithin c.turns) (HasOwnCalls c.start.opening hub.history) (own_of first all hub c) (first ∷ passes) within;
-      others = All-weaker (IsWithin c.turns) (OthersCame first hub) (others_of first all hub c started) (first ∷ passes) within;
+      own =
+          All-weaker (IsWithin c.turns) (HasOwnCalls c.start.opening hub.history)
+          (own_of first all hub c) (first ∷ passes) within;
+      others =
+          All-weaker (IsWithin c.turns) (OthersCame first hub)
+          (others_of first all hub c started) (first ∷ passes) within;
     }

@@ -18,11 +18,16 @@ use Rattle.lane_threads.specs.contracts.object.HubObjectTurnObject as Acts
 pub object_send : IsSend Object.the_row
 object_send = search (hub_send, sendable, crosses) depth 60 fits 20000
 
-pub lane_pass_send : IsSend (Pass.the_row Object.the_row Call.the_row Reply.the_row Entry.the_row Opening.the_row Acts.TheImpl.ghosts)
-lane_pass_send = pass_send Object.the_row Call.the_row Reply.the_row Entry.the_row Opening.the_row Acts.TheImpl.ghosts object_send
+pub lane_pass_send : IsSend (Pass.the_row Object.the_row Call.the_row Reply.the_row
+    Entry.the_row Opening.the_row Acts.TheImpl.ghosts)
+lane_pass_send =
+    pass_send Object.the_row Call.the_row Reply.the_row Entry.the_row Opening.the_row Acts.TheImpl.ghosts object_send
 
-pub lane_turnstile_sync : IsSync (Turnstile.the_row Object.the_row Call.the_row Reply.the_row Entry.the_row Opening.the_row Acts.TheImpl.ghosts)
-lane_turnstile_sync = turnstile_sync Object.the_row Call.the_row Reply.the_row Entry.the_row Opening.the_row Acts.TheImpl.ghosts object_send
+pub lane_turnstile_sync : IsSync (Turnstile.the_row Object.the_row Call.the_row Reply.the_row
+    Entry.the_row Opening.the_row Acts.TheImpl.ghosts)
+lane_turnstile_sync =
+    turnstile_sync Object.the_row Call.the_row Reply.the_row Entry.the_row
+    Opening.the_row Acts.TheImpl.ghosts object_send
 
 -- where the handle may be shared
 pub door_send : (a : NamedLft) (Rt : RattleType) → IsSync Rt → IsSend (PassDoor.the_row a Rt)

@@ -69,7 +69,9 @@ abbrev pub at : Start HoldEntry Account → ℕ → List (ℕ × HoldEntry) → 
 at start name turns = seen_from (Some start) name turns
 
 -- turns of others came after the front, in a whole turn history that is sound
-module _ (start : Start HoldEntry Account) (name : ℕ) (front between whole : List (ℕ × HoldEntry)) (begins : IsPrefix (front ++ between) whole) (others : IsOfOthers name between) (sound : IsSound IsLegal IsOfName start whole) where
+module _ (start : Start HoldEntry Account) (name : ℕ) (front between whole : List (ℕ × HoldEntry))
+    (begins : IsPrefix (front ++ between) whole) (others : IsOfOthers name between)
+    (sound : IsSound IsLegal IsOfName start whole) where
   pub passes : Passes (at start name front) (entries between) (at start name (front ++ between))
   passes =
       let legal = sound.lawful (front ++ between) begins in
@@ -121,7 +123,9 @@ module _ (start : Start HoldEntry Account) (name : ℕ) (front between whole : L
   misses lane m = let f = fails m.same in record {
     others = f.others;
     passes = f.passes;
-    reply = subst (λ h. (account_step lane hub.TakeCallback (account_of start.fixed h)).reply ≡ said.Nothing) (sym m.same) m.reply;
+    reply =
+        subst (λ h. (account_step lane hub.TakeCallback (account_of start.fixed h)).reply
+        ≡ said.Nothing) (sym m.same) m.reply;
   }
 
   -- by the call and its reply
@@ -155,6 +159,10 @@ turn_replied old new c r t s =
     let named : new.name ≡ old.name = ap (λ (p : LanePass). p.name) t.rest in
     let sound : IsSound IsLegal IsOfName t.start new.front =
     subst (λ b. IsSound IsLegal IsOfName b new.front) same s.front in
-    let here = replied t.start old.name old.front t.between new.front (turns_of old.name t.gain, sym t.front) t.others sound c r t.answered in
+    let here =
+    replied t.start old.name old.front t.between new.front (
+      turns_of old.name t.gain,
+      sym t.front,
+    ) t.others sound c r t.answered in
     subst (λ (x : Seen × Seen). Replied x.0 c r x.1)
     (λ i. (seen_from (sym t.started i) old.name old.front, seen_from (sym again i) (sym named i) new.front)) here

@@ -42,7 +42,8 @@ abbrev pub OthersCame : LanePass → HubSeen → LanePass → Type 0
 OthersCame first hub pass =
     pass.start ≡ first.start → (others : List HoldEntry) × Passes (seen pass) others (hub_seen pass hub)
 
--- the hub's history is legal, begins with that of the start, and goes on by entries of lanes whose passes have names; of each lane it has its pass's own calls
+-- the hub's history is legal, begins with that of the start, and goes on by entries of lanes whose passes have names;
+-- of each lane it has its pass's own calls
 pub record ClosesAfter (first : LanePass) (passes : List LanePass) (hub : HubSeen) : Type 0 where
   pub start : Start HoldEntry Account
   pub started : first.start ≡ Some start

@@ -1,5 +1,6 @@
 -- The positions of a chunk: which of them are bounced, and where.
-use Rattle.std.proofs.Common.{◌≡◌, ◌≢◌, ℕ, zero, suc, ◌+◌, ◌-◌, ◌*◌, ◌/◌, ◌%◌, ◌≤◌, ◌==◌, Bool, true, false, List, [], ◌∷◌, ◌++◌, length, map, take, drop, refl, ap, sym, ◌∙◌, arith, length-append}
+use Rattle.std.proofs.Common.{◌≡◌, ◌≢◌, ℕ, zero, suc, ◌+◌, ◌-◌, ◌*◌, ◌/◌, ◌%◌, ◌≤◌, ◌==◌, Bool, true, false, List, []}
+use Rattle.std.proofs.Common.{◌∷◌, ◌++◌, length, map, take, drop, refl, ap, sym, ◌∙◌, arith, length-append}
 use Rattle.std.proofs.Common.{subst}
 use Rattle.std.specs.Prelude.{not, Option, Some, None, unwrap_or}
 use Rattle.std.specs.List.{AllByRecursion, filter}
@@ -24,7 +25,8 @@ use Rattle.phys_memory.proofs.RunParts.{all_append, all_drop, all_imply, all_tak
 pub all_part : (P : ℕ → Type 0) (from to : ℕ) (xs : List ℕ) → AllByRecursion P xs → AllByRecursion P (part from to xs)
 all_part P from to xs h = all_take P (to - from) (drop from xs) (all_drop P from xs h)
 
-all_stretch : (P : Placed → Type 0) (off n : ℕ) (ps : List Placed) → AllByRecursion P ps → AllByRecursion P (stretch off n ps)
+all_stretch : (P : Placed → Type 0) (off n : ℕ) (ps : List Placed) →
+    AllByRecursion P ps → AllByRecursion P (stretch off n ps)
 all_stretch P off n ps h = all_take P n (drop off ps) (all_drop P off ps h)
 
 -- ---- a filter that all or none pass
@@ -58,7 +60,8 @@ map_take f zero ps = refl
 map_take f (suc n) [] = refl
 map_take f (suc n) (p ∷ ps) = ap (λ xs. f p ∷ xs) (map_take f n ps)
 
-map_stretch : (f : Placed → ℕ) (from to : ℕ) (ps : List Placed) → map f (stretch from (to - from) ps) ≡ part from to (map f ps)
+map_stretch : (f : Placed → ℕ) (from to : ℕ) (ps : List Placed) →
+    map f (stretch from (to - from) ps) ≡ part from to (map f ps)
 map_stretch f from to ps = map_take f (to - from) (drop from ps) ∙ ap (take (to - from)) (map_drop f from ps)
 
 -- as many bus addresses as bytes
@@ -67,18 +70,22 @@ as_many c None = refl
 as_many c (Some bus) = addresses_length (chunk_extents c) ∙ sym (run_length bus.0 (chunk_len c))
 
 -- the addresses of a chunk in a range
-pub range_buffers : (off len : ℕ) (c : Chunk) → buffers (chunk_range off len c) ≡ part (off - c.at) (off + len - c.at) (addresses (chunk_extents c))
+pub range_buffers : (off len : ℕ) (c : Chunk) →
+    buffers (chunk_range off len c) ≡ part (off - c.at) (off + len - c.at) (addresses (chunk_extents c))
 range_buffers off len c =
     map_stretch (λ p. p.pa) (off - c.at) (off + len - c.at) (positions_of c)
     ∙ ap (part (off - c.at) (off + len - c.at)) (buffers_of _ _ (as_many c c.page))
 
-pub range_buses : (off len : ℕ) (c : Chunk) → buses (chunk_range off len c) ≡ part (off - c.at) (off + len - c.at) (bus_addresses c)
+pub range_buses : (off len : ℕ) (c : Chunk) →
+    buses (chunk_range off len c) ≡ part (off - c.at) (off + len - c.at) (bus_addresses c)
 range_buses off len c =
     map_stretch (λ p. p.bus) (off - c.at) (off + len - c.at) (positions_of c)
     ∙ ap (part (off - c.at) (off + len - c.at)) (buses_of _ _ (as_many c c.page))
 
 -- ---- which positions are bounced
-all_bounced : (m : Memory) (f : ℕ) → has_frame m f ≡ false → (xs ys : List ℕ) → AllByRecursion (λ a. has_frame m (a / 4096) ≡ true) xs → AllByRecursion (λ b. b / 4096 ≡ f) ys → AllByRecursion (λ p. is_bounced p ≡ true) (placed_at xs ys)
+all_bounced : (m : Memory) (f : ℕ) → has_frame m f ≡ false → (xs ys : List ℕ) →
+    AllByRecursion (λ a. has_frame m (a / 4096) ≡ true) xs → AllByRecursion (λ b. b / 4096 ≡ f) ys →
+    AllByRecursion (λ p. is_bounced p ≡ true) (placed_at xs ys)
 all_bounced m f away [] ys h k = tt
 all_bounced m f away (x ∷ xs) [] h k = tt
 all_bounced m f away (x ∷ xs) (y ∷ ys) h k = (
@@ -91,7 +98,8 @@ none_bounced [] = tt
 none_bounced (x ∷ xs) = (ap not (eq-eqb x x refl), none_bounced xs)
 
 -- the bytes of extents lie in frames of the memory
-pub in_frames : (m : Memory) (es : List Extent) → AllByRecursion IsExtent es → AllByRecursion (LiesIn m) es → AllByRecursion (λ a. has_frame m (a / 4096) ≡ true) (addresses es)
+pub in_frames : (m : Memory) (es : List Extent) → AllByRecursion IsExtent es → AllByRecursion (LiesIn m) es →
+    AllByRecursion (λ a. has_frame m (a / 4096) ≡ true) (addresses es)
 in_frames m [] h k = tt
 in_frames m (e ∷ es) h k =
     let here = run_in_frame e.len e.pa.0 (e.pa.0 / 4096) (omega arith) (omega (arith, h.0.in_frame)) in
@@ -99,24 +107,29 @@ in_frames m (e ∷ es) h k =
     (all_imply _ _ (λ b q. ap (has_frame m) q ∙ k.0) (run_of e.pa.0 e.len) here) (in_frames m es h.1 k.1)
 
 -- the bus bytes of a chunk lie in the frame of its page
-pub bus_frame : (m : Memory) (c : Chunk) (bus : Pa) (f : ℕ) → c.page ≡ Some bus → IsHeld m c f → AllByRecursion (λ b. b / 4096 ≡ f) (bus_addresses c)
+pub bus_frame : (m : Memory) (c : Chunk) (bus : Pa) (f : ℕ) → c.page ≡ Some bus → IsHeld m c f →
+    AllByRecursion (λ b. b / 4096 ≡ f) (bus_addresses c)
 bus_frame m c bus f e h =
     subst (λ (o : Option Pa). AllByRecursion (λ b. b / 4096 ≡ f) (bus_from o c)) (sym e)
     (by (ap (λ (o : Option Pa). unwrap_or o c.first.pa) e) h.bus.in_frame h.page)
   where
-    by : (bus_extent c).pa ≡ bus → (bus_extent c).pa.0 % 4096 + chunk_len c ≤ 4096 → (bus_extent c).pa.0 / 4096 ≡ f → AllByRecursion (λ b. b / 4096 ≡ f) (run_of bus.0 (chunk_len c))
+    by : (bus_extent c).pa ≡ bus → (bus_extent c).pa.0 % 4096 + chunk_len c ≤ 4096 → (bus_extent c).pa.0 / 4096 ≡ f →
+        AllByRecursion (λ b. b / 4096 ≡ f) (run_of bus.0 (chunk_len c))
     by q fits at =
         let same : (bus_extent c).pa.0 ≡ bus.0 = ap (λ (p : Pa). p.0) q in
         run_in_frame (chunk_len c) bus.0 f (omega (arith, same)) (omega (arith, same))
 
 -- each position of a chunk that has a page is bounced, and none of another chunk
-pub bounced_range : (m : Memory) (off len : ℕ) (c : Chunk) (bus : Pa) (f : ℕ) → c.page ≡ Some bus → IsHeld m c f → has_frame m f ≡ false → filter is_bounced (chunk_range off len c) ≡ chunk_range off len c
+pub bounced_range : (m : Memory) (off len : ℕ) (c : Chunk) (bus : Pa) (f : ℕ) → c.page ≡ Some bus → IsHeld m c f →
+    has_frame m f ≡ false → filter is_bounced (chunk_range off len c) ≡ chunk_range off len c
 bounced_range m off len c bus f e h away =
     filter_all (chunk_range off len c) (all_stretch _ (off - c.at) _ (positions_of c)
-    (all_bounced m f away _ _ (in_frames m (chunk_extents c) h.buffer.extents h.buffer.frames) (bus_frame m c bus f e h)))
+    (all_bounced m f away _ _ (in_frames m (chunk_extents c) h.buffer.extents h.buffer.frames)
+    (bus_frame m c bus f e h)))
 
 pub unbounced_range : (off len : ℕ) (c : Chunk) → c.page ≡ None → filter is_bounced (chunk_range off len c) ≡ []
 unbounced_range off len c e =
     filter_none (chunk_range off len c) (all_stretch _ (off - c.at) _ (positions_of c)
-    (subst (λ (o : Option Pa). AllByRecursion (λ p. is_bounced p ≡ false) (placed_at (addresses (chunk_extents c)) (bus_from o c))) (sym e)
+    (subst (λ (o : Option Pa). AllByRecursion (λ p. is_bounced p ≡ false)
+    (placed_at (addresses (chunk_extents c)) (bus_from o c))) (sym e)
     (none_bounced (addresses (chunk_extents c)))))

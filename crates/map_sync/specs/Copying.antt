@@ -9,4 +9,5 @@ part from to addresses = take (to - from) (drop from addresses)
 
 -- a page has these bytes at these addresses now, and no other byte of it changed
 abbrev pub IsWritten : FrameBytes → FrameBytes → List ℕ → List ℕ → Type 0
-IsWritten old new addresses bytes = (w : Wire) → with_bytes_of (new ∷ []) w ≡ put addresses bytes (with_bytes_of (old ∷ []) w)
+IsWritten old new addresses bytes =
+    (w : Wire) → with_bytes_of (new ∷ []) w ≡ put addresses bytes (with_bytes_of (old ∷ []) w)

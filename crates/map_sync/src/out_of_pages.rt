@@ -50,7 +50,8 @@ fn copy_chunk_out(chunk: &Chunk, bus: Pa, from: u64, to: u64, memory: &mut LaneP
     requires bus { IsExtent (bus_extent chunk.now) }
     requires begins { (bus_extent chunk.now).pa ≡ bus }
     ensures wire { let bytes = map (page_byte page.now) (part from to (run_of bus.0 (bus_extent chunk.now).len)) in
-        wire memory.new.memory ≡ put (part from to (addresses (chunk_extents chunk.now))) bytes (wire memory.old.memory) }
+        wire memory.new.memory ≡ put (part from to (addresses (chunk_extents chunk.now)))
+        bytes (wire memory.old.memory) }
     ensures same { SamePages memory.old.memory memory.new.memory }
     ensures spare { memory.new.spare ≡ memory.old.spare }
 {

@@ -1,5 +1,6 @@
 -- The extents of bytes.
-use Rattle.std.proofs.Common.{◌≡◌, ℕ, zero, suc, ◌+◌, ◌%◌, ◌^◌, ◌<◌, ◌≤◌, true, false, List, [], ◌∷◌, ◌++◌, length, refl, ap, sym, ◌∙◌, subst, ◌⊎◌, inl, inr, ◌≢◌, arith}
+use Rattle.std.proofs.Common.{◌≡◌, ℕ, zero, suc, ◌+◌, ◌%◌, ◌^◌, ◌<◌, ◌≤◌, true, false, List, [], ◌∷◌, ◌++◌, length}
+use Rattle.std.proofs.Common.{refl, ap, sym, ◌∙◌, subst, ◌⊎◌, inl, inr, ◌≢◌, arith}
 use Rattle.std.specs.Prelude.{Option, Some, None, nat_eq, if◌then◌else◌}
 use Rattle.std.specs.List.{AllByRecursion}
 use Rattle.std.proofs.lemmas.Bool.{eq-eqb, ne_eqb}
@@ -15,11 +16,15 @@ use Rattle.phys_memory.proofs.Paged.{IsPaged}
 abbrev pub extent : ℕ → ℕ → Extent
 extent pa n = record { pa = record { 0 = pa }; len = n }
 
-with_byte-cut : (pa : ℕ) (e : Extent) (es : List Extent) → e.pa.0 % 4096 ≡ 0 → with_byte pa (e ∷ es) ≡ extent pa 1 ∷ e ∷ es
-with_byte-cut pa e es h = ap (λ b. if b then extent pa 1 ∷ e ∷ es else extent pa (1 + e.len) ∷ es) (eq-eqb (e.pa.0 % 4096) 0 h)
+with_byte-cut : (pa : ℕ) (e : Extent) (es : List Extent) → e.pa.0 % 4096 ≡ 0 →
+    with_byte pa (e ∷ es) ≡ extent pa 1 ∷ e ∷ es
+with_byte-cut pa e es h =
+    ap (λ b. if b then extent pa 1 ∷ e ∷ es else extent pa (1 + e.len) ∷ es) (eq-eqb (e.pa.0 % 4096) 0 h)
 
-with_byte-joined : (pa : ℕ) (e : Extent) (es : List Extent) → e.pa.0 % 4096 ≢ 0 → with_byte pa (e ∷ es) ≡ extent pa (1 + e.len) ∷ es
-with_byte-joined pa e es h = ap (λ b. if b then extent pa 1 ∷ e ∷ es else extent pa (1 + e.len) ∷ es) (ne_eqb (e.pa.0 % 4096) 0 h)
+with_byte-joined : (pa : ℕ) (e : Extent) (es : List Extent) → e.pa.0 % 4096 ≢ 0 →
+    with_byte pa (e ∷ es) ≡ extent pa (1 + e.len) ∷ es
+with_byte-joined pa e es h =
+    ap (λ b. if b then extent pa 1 ∷ e ∷ es else extent pa (1 + e.len) ∷ es) (ne_eqb (e.pa.0 % 4096) 0 h)
 
 -- the first extent begins at the first byte
 pub record Begins (pa : ℕ) (xs : List Extent) : Type 0 where
@@ -30,27 +35,33 @@ pub record Begins (pa : ℕ) (xs : List Extent) : Type 0 where
 
 pub begins : (pa : ℕ) (es : List Extent) → Begins pa (with_byte pa es)
 begins pa [] = record { first = extent pa 1; others = []; are = refl; at = refl }
-begins pa (e ∷ es) = elim (nat_eq (e.pa.0 % 4096) 0) as (λ b. Begins pa (if b then extent pa 1 ∷ e ∷ es else extent pa (1 + e.len) ∷ es)) [
-  | true ↦ record { first = extent pa 1; others = e ∷ es; are = refl; at = refl }
-  | false ↦ record { first = extent pa (1 + e.len); others = es; are = refl; at = refl }
-]
+begins pa (e ∷ es) =
+    elim (nat_eq (e.pa.0 % 4096) 0) as (λ b. Begins pa (if b
+    then extent pa 1 ∷ e ∷ es else extent pa (1 + e.len) ∷ es)) [
+      | true ↦ record { first = extent pa 1; others = e ∷ es; are = refl; at = refl }
+      | false ↦ record { first = extent pa (1 + e.len); others = es; are = refl; at = refl }
+    ]
 
 -- ---- a run of bytes of one frame is one extent
 
-last_byte : (pa : ℕ) (rest : List ℕ) → BeginsFrame rest → with_byte pa (extents_of rest) ≡ extent pa 1 ∷ extents_of rest
+last_byte : (pa : ℕ) (rest : List ℕ) → BeginsFrame rest →
+    with_byte pa (extents_of rest) ≡ extent pa 1 ∷ extents_of rest
 last_byte pa [] h = refl
 last_byte pa (q ∷ qs) h =
     let b = begins q (extents_of qs) in
-    ap (with_byte pa) b.are ∙ with_byte-cut pa b.first b.others (ap (λ a. a % 4096) b.at ∙ h) ∙ ap (λ es. extent pa 1 ∷ es) (sym b.are)
+    ap (with_byte pa) b.are ∙ with_byte-cut pa b.first b.others (ap (λ a. a % 4096) b.at ∙ h)
+    ∙ ap (λ es. extent pa 1 ∷ es) (sym b.are)
 
-pub extents_of-run : (pa n : ℕ) (rest : List ℕ) → 0 < n → pa % 4096 + n ≤ 4096 → BeginsFrame rest → extents_of (run_of pa n ++ rest) ≡ extent pa n ∷ extents_of rest
+pub extents_of-run : (pa n : ℕ) (rest : List ℕ) → 0 < n → pa % 4096 + n ≤ 4096 → BeginsFrame rest →
+    extents_of (run_of pa n ++ rest) ≡ extent pa n ∷ extents_of rest
 extents_of-run pa zero rest some h cut = absurd (omega arith)
 extents_of-run pa (suc zero) rest some h cut = last_byte pa rest cut
 extents_of-run pa (suc (suc n)) rest some h cut =
     let apart : (pa + 1) % 4096 ≢ 0 = omega arith in
     let one : 1 + suc n ≡ suc (suc n) = omega arith in
     ap (with_byte pa) (extents_of-run (pa + 1) (suc n) rest (omega arith) (omega arith) cut)
-    ∙ with_byte-joined pa (extent (pa + 1) (suc n)) (extents_of rest) apart ∙ ap (λ k. extent pa k ∷ extents_of rest) one
+    ∙ with_byte-joined pa (extent (pa + 1) (suc n)) (extents_of rest) apart
+    ∙ ap (λ k. extent pa k ∷ extents_of rest) one
 
 pub length-run_of : (pa n : ℕ) → length (run_of pa n) ≡ n
 length-run_of pa zero = refl
@@ -77,16 +88,19 @@ no_extents Has = record { bytes = refl; extents = tt; joined = tt; have = tt }
 one_byte : (pa : ℕ) → pa < 2 ^ 42 → IsExtent (extent pa 1)
 one_byte pa h = record { some = omega arith; in_frame = omega arith; numbered = h }
 
-joined_after : (pa : ℕ) (e : Extent) (es : List Extent) → (pa + 1) % 4096 ≡ 0 → e.pa.0 % 4096 ≡ 0 → AreJoined (e ∷ es) → AreJoined (extent pa 1 ∷ e ∷ es)
+joined_after : (pa : ℕ) (e : Extent) (es : List Extent) → (pa + 1) % 4096 ≡ 0 → e.pa.0 % 4096 ≡ 0 →
+    AreJoined (e ∷ es) → AreJoined (extent pa 1 ∷ e ∷ es)
 joined_after pa e es end start h = (end, start, h)
 
-joined_before : (pa : ℕ) (e : Extent) (es : List Extent) → e.pa.0 ≡ pa + 1 → AreJoined (e ∷ es) → AreJoined (extent pa (1 + e.len) ∷ es)
+joined_before : (pa : ℕ) (e : Extent) (es : List Extent) → e.pa.0 ≡ pa + 1 →
+    AreJoined (e ∷ es) → AreJoined (extent pa (1 + e.len) ∷ es)
 joined_before pa e [] h j = tt
 joined_before pa e (f ∷ fs) h j =
     let same : e.pa.0 + e.len ≡ pa + (1 + e.len) = omega arith in
     (ap (λ a. a % 4096) (sym same) ∙ j.0, j.1, j.2)
 
-with_byte_extents : (Has : ℕ → Type 0) (pa : ℕ) (pas : List ℕ) (es : List Extent) → pa < 2 ^ 42 → Has pa → Leads pa es → AreExtents Has pas es → AreExtents Has (pa ∷ pas) (with_byte pa es)
+with_byte_extents : (Has : ℕ → Type 0) (pa : ℕ) (pas : List ℕ) (es : List Extent) → pa < 2 ^ 42 → Has pa →
+    Leads pa es → AreExtents Has pas es → AreExtents Has (pa ∷ pas) (with_byte pa es)
 with_byte_extents Has pa pas [] low has leads old = record {
   bytes = ap (λ xs. pa ∷ xs) old.bytes;
   extents = (one_byte pa low, tt);
@@ -113,7 +127,8 @@ with_byte_extents Has pa pas (e ∷ es) low has leads old = elim (eqb_tells (e.p
         let fits : e.pa.0 % 4096 + e.len ≤ 4096 = old.extents.0.in_frame in
         let one : 1 + e.len ≡ suc e.len = omega arith in
         record {
-          bytes = ap (λ k. run_of pa k ++ addresses es) one ∙ ap (λ xs. pa ∷ xs) (ap (λ a. run_of a e.len ++ addresses es) (sym h) ∙ old.bytes);
+          bytes = ap (λ k. run_of pa k ++ addresses es) one
+              ∙ ap (λ xs. pa ∷ xs) (ap (λ a. run_of a e.len ++ addresses es) (sym h) ∙ old.bytes);
           extents = (record { some = omega arith; in_frame = omega arith; numbered = low }, old.extents.1);
           joined = joined_before pa e es h old.joined;
           have = (has, old.have.1);
@@ -122,7 +137,8 @@ with_byte_extents Has pa pas (e ∷ es) low has leads old = elim (eqb_tells (e.p
 -- ---- the bytes that are reached
 
 module _ (Has : ℕ → Type 0) (t : Translation) (is : IsPaged Has t) where
-  next_byte : (va p q : ℕ) → t va ≡ Some p → t (va + 1) ≡ Some q → (q % 4096 ≡ (p + 1) % 4096) × ((q % 4096 ≡ 0) ⊎ (q ≡ p + 1))
+  next_byte : (va p q : ℕ) → t va ≡ Some p → t (va + 1) ≡ Some q →
+      (q % 4096 ≡ (p + 1) % 4096) × ((q % 4096 ≡ 0) ⊎ (q ≡ p + 1))
   next_byte va p q h k =
       let here = is.places va p h in
       let there = is.places (va + 1) q k in (
@@ -134,17 +150,23 @@ module _ (Has : ℕ → Type 0) (t : Translation) (is : IsPaged Has t) where
   leads va p zero h = tt
   leads va p (suc n) h = leads_to (t (va + 1)) (λ q k. next_byte va p q h k)
     where
-      leads_to : (o : Option ℕ) → ((q : ℕ) → o ≡ Some q → (q % 4096 ≡ (p + 1) % 4096) × ((q % 4096 ≡ 0) ⊎ (q ≡ p + 1))) → Leads p (extents_of (then_reached o (reached t (va + 1 + 1) n)))
+      leads_to : (o : Option ℕ) → ((q : ℕ) → o ≡ Some q → (q % 4096 ≡ (p + 1) % 4096)
+          × ((q % 4096 ≡ 0) ⊎ (q ≡ p + 1))) → Leads p (extents_of (then_reached o (reached t (va + 1 + 1) n)))
       leads_to None next = tt
       leads_to (Some q) next =
           let b = begins q (extents_of (reached t (va + 1 + 1) n)) in
-          subst (Leads p) (sym b.are) (subst (λ a. (a % 4096 ≡ (p + 1) % 4096) × ((a % 4096 ≡ 0) ⊎ (a ≡ p + 1))) (sym b.at) (next q refl))
+          subst (Leads p) (sym b.are) (subst (λ a. (a % 4096 ≡ (p + 1) % 4096)
+          × ((a % 4096 ≡ 0) ⊎ (a ≡ p + 1))) (sym b.at) (next q refl))
 
   pub reached_extents : (va n : ℕ) → AreExtents Has (reached t va n) (extents_of (reached t va n))
   reached_extents va zero = no_extents Has
-  reached_extents va (suc n) = these (t va) (λ p e. (is.low va p e, is.has va p e, leads va p n e)) (reached_extents (va + 1) n)
+  reached_extents va (suc n) =
+      these (t va) (λ p e. (is.low va p e, is.has va p e, leads va p n e)) (reached_extents (va + 1) n)
     where
-      these : (o : Option ℕ) → ((p : ℕ) → o ≡ Some p → (p < 2 ^ 42) × Has p × Leads p (extents_of (reached t (va + 1) n))) → AreExtents Has (reached t (va + 1) n) (extents_of (reached t (va + 1) n)) → AreExtents Has (then_reached o (reached t (va + 1) n)) (extents_of (then_reached o (reached t (va + 1) n)))
+      these : (o : Option ℕ) → ((p : ℕ) → o ≡ Some p →
+          (p < 2 ^ 42) × Has p × Leads p (extents_of (reached t (va + 1) n))) →
+          AreExtents Has (reached t (va + 1) n) (extents_of (reached t (va + 1) n)) →
+          AreExtents Has (then_reached o (reached t (va + 1) n)) (extents_of (then_reached o (reached t (va + 1) n)))
       these None facts others = no_extents Has
       these (Some p) facts others =
           let f = facts p refl in

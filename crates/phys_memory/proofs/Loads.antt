@@ -1,5 +1,6 @@
 -- The streams of walks as streams of loads.
-use Rattle.std.proofs.Common.{◌≡◌, ℕ, ◌+◌, ◌<◌, ◌≤◌, ◌^◌, Bool, true, false, List, [], ◌∷◌, ◌++◌, length, refl, ap, sym, ◌∙◌, subst, arith, append_assoc, append-nil, length-append}
+use Rattle.std.proofs.Common.{◌≡◌, ℕ, ◌+◌, ◌<◌, ◌≤◌, ◌^◌, Bool, true, false, List, [], ◌∷◌, ◌++◌, length, refl, ap}
+use Rattle.std.proofs.Common.{sym, ◌∙◌, subst, arith, append_assoc, append-nil, length-append}
 use Rattle.std.specs.Prelude.{nat_eq, if◌then◌else◌}
 use Rattle.std.specs.Iterator.{Yields, YieldsFirst, HoldsAlong}
 use Rattle.std.specs.List.{AllByRecursion}
@@ -11,7 +12,8 @@ use Rattle.busdma_base.specs.declared.machine.chunk.Part.{Part}
 use Rattle.busdma_base.specs.declared.machine.chunk.Part.TheVariants.{Of, Unmapped}
 use Rattle.busdma_base.specs.declared.journals.report.Judged.{Judged}
 use Rattle.busdma_base.specs.declared.journals.report.Judged.TheVariants.{Fine, Refused}
-use Rattle.busdma_base.specs.Machine.Entry.{AreJoined, HasPart, IsEntry, IsStream, entries_bytes, entries_of, entry_parts, extent_parts, others_of, parts_of}
+use Rattle.busdma_base.specs.Machine.Entry.{AreJoined, HasPart, IsEntry, IsStream, entries_bytes, entries_of}
+use Rattle.busdma_base.specs.Machine.Entry.{entry_parts, extent_parts, others_of, parts_of}
 use Rattle.busdma_base.specs.Runs.{IsExtent, addresses, byte_count, run_of}
 use Rattle.busdma_base.specs.Machine.Spans.{span_bytes}
 use Rattle.phys_memory.specs.Translation.{Translation}
@@ -24,23 +26,28 @@ use Rattle.phys_memory.proofs.Vectors.{entries_are, entries_touch, length-reache
 
 -- ---- the entries of a stream of entries
 
-others_behind : (r : Bool) (es : List Extent) (ps : List Part) → others_of (extent_parts false r es ++ ps) ≡ es ++ others_of ps
+others_behind : (r : Bool) (es : List Extent) (ps : List Part) →
+    others_of (extent_parts false r es ++ ps) ≡ es ++ others_of ps
 others_behind r [] ps = refl
 others_behind r (e ∷ es) ps = ap (λ xs. e ∷ xs) (others_behind r es ps)
 
-entries_behind : (r : Bool) (es : List Extent) (ps : List Part) → entries_of (extent_parts false r es ++ ps) ≡ entries_of ps
+entries_behind : (r : Bool) (es : List Extent) (ps : List Part) →
+    entries_of (extent_parts false r es ++ ps) ≡ entries_of ps
 entries_behind r [] ps = refl
 entries_behind r (e ∷ es) ps = entries_behind r es ps
 
 -- the entries of a stream whose first entry has these parts
-entry_first : (r : Bool) (es : List Extent) (ps : List Part) → 0 < length es → others_of ps ≡ [] → entries_of (extent_parts true r es ++ ps) ≡ record { rounded = r; parts = es } ∷ entries_of ps
+entry_first : (r : Bool) (es : List Extent) (ps : List Part) → 0 < length es → others_of ps ≡ [] →
+    entries_of (extent_parts true r es ++ ps) ≡ record { rounded = r; parts = es } ∷ entries_of ps
 entry_first r [] ps some h = absurd (omega arith)
 entry_first r (e ∷ es) ps some h =
-    ap (λ xs. record { rounded = r; parts = e ∷ xs } ∷ entries_of (extent_parts false r es ++ ps)) (others_behind r es ps ∙ ap (λ xs. es ++ xs) h ∙ append-nil es)
+    ap (λ xs. record { rounded = r; parts = e ∷ xs } ∷ entries_of (extent_parts false r es ++ ps))
+    (others_behind r es ps ∙ ap (λ xs. es ++ xs) h ∙ append-nil es)
     ∙ ap (λ xs. record { rounded = r; parts = e ∷ es } ∷ xs) (entries_behind r es ps)
 
 -- nothing of an entry stands before the first that opens
-opens_first : (r : Bool) (es : List Extent) (ps : List Part) → 0 < length es → others_of (extent_parts true r es ++ ps) ≡ []
+opens_first : (r : Bool) (es : List Extent) (ps : List Part) → 0 < length es →
+    others_of (extent_parts true r es ++ ps) ≡ []
 opens_first r [] ps some = absurd (omega arith)
 opens_first r (e ∷ es) ps some = refl
 
@@ -49,13 +56,15 @@ module _ (last : List Part) (none : others_of last ≡ []) (end : entries_of las
   no_others : (es : List Entry) → AllByRecursion HasPart es → others_of (parts_of es ++ last) ≡ []
   no_others [] h = none
   no_others (e ∷ es) h =
-      ap others_of (append_assoc (entry_parts e) (parts_of es) last) ∙ opens_first e.rounded e.parts (parts_of es ++ last) h.0
+      ap others_of (append_assoc (entry_parts e) (parts_of es) last)
+      ∙ opens_first e.rounded e.parts (parts_of es ++ last) h.0
 
   same_entries : (es : List Entry) → AllByRecursion HasPart es → entries_of (parts_of es ++ last) ≡ es
   same_entries [] h = end
   same_entries (e ∷ es) h =
       ap entries_of (append_assoc (entry_parts e) (parts_of es) last)
-      ∙ entry_first e.rounded e.parts (parts_of es ++ last) h.0 (no_others es h.1) ∙ ap (λ xs. e ∷ xs) (same_entries es h.1)
+      ∙ entry_first e.rounded e.parts (parts_of es ++ last) h.0 (no_others es h.1)
+      ∙ ap (λ xs. e ∷ xs) (same_entries es h.1)
 
 no_last_others : (j : Judged) → others_of (ending j) ≡ []
 no_last_others Fine = refl
@@ -70,13 +79,25 @@ no_last_entries (Refused r) = refl
 count_addresses : (es : List Extent) → length (addresses es) ≡ byte_count es
 count_addresses [] = refl
 count_addresses (e ∷ es) =
-    omega (arith, length-append (run_of e.pa.0 e.len) (addresses es), length-run_of e.pa.0 e.len, count_addresses es, sum_by-cons (λ (x : Extent). x.len) e es)
+    omega (
+      arith,
+      length-append (run_of e.pa.0 e.len) (addresses es),
+      length-run_of e.pa.0 e.len,
+      count_addresses es,
+      sum_by-cons (λ (x : Extent). x.len) e es,
+    )
 
-entry_bytes : (rounded : Bool) (pas : List ℕ) (es : List Entry) → addresses (extents_of pas) ≡ pas → entries_bytes (with_entry rounded pas es) ≡ length pas + entries_bytes es
+entry_bytes : (rounded : Bool) (pas : List ℕ) (es : List Entry) → addresses (extents_of pas) ≡ pas →
+    entries_bytes (with_entry rounded pas es) ≡ length pas + entries_bytes es
 entry_bytes rounded [] es h = omega arith
 entry_bytes rounded (pa ∷ pas) es h =
     let own = extents_of (pa ∷ pas) in
-    omega (arith, count_addresses own, ap length h, sum_by-cons (λ (x : Entry). byte_count x.parts) (record { rounded = rounded; parts = own }) es)
+    omega (
+      arith,
+      count_addresses own,
+      ap length h,
+      sum_by-cons (λ (x : Entry). byte_count x.parts) (record { rounded = rounded; parts = own }) es,
+    )
 
 module _ (Has : ℕ → Type 0) (rounded : Bool) (t : Translation) (is : IsPaged Has t) where
   -- a walk has no more bytes than its spans
@@ -85,8 +106,17 @@ module _ (Has : ℕ → Type 0) (rounded : Bool) (t : Translation) (is : IsPaged
   walk_bytes (s ∷ ss) =
       let pas = reached t s.va.0 s.len in
       let others = if nat_eq (length pas) s.len then walk_entries rounded t ss else [] in
-      let few = elim (nat_eq (length pas) s.len) as (λ b. entries_bytes (if b then walk_entries rounded t ss else []) ≤ span_bytes ss) [ true ↦ walk_bytes ss | false ↦ omega arith ] in
-      omega (arith, entry_bytes rounded pas others (reached_extents Has t is s.va.0 s.len).bytes, few, length-reached t s.va.0 s.len, sum_by-cons (λ (x : Span). x.len) s ss)
+      let few =
+      elim (nat_eq (length pas) s.len)
+      as (λ b. entries_bytes (if b then walk_entries rounded t ss else []) ≤ span_bytes ss)
+      [ true ↦ walk_bytes ss | false ↦ omega arith ] in
+      omega (
+        arith,
+        entry_bytes rounded pas others (reached_extents Has t is s.va.0 s.len).bytes,
+        few,
+        length-reached t s.va.0 s.len,
+        sum_by-cons (λ (x : Span). x.len) s ss,
+      )
 
   -- the stream of spans of at most 2^20 bytes is that of a load
   pub spans_load : (ss : List Span) → span_bytes ss ≤ 2 ^ 20 → IsStream (spans_stream rounded t ss)
@@ -126,13 +156,19 @@ joined_front [] rest h = tt
 joined_front (e ∷ []) rest h = tt
 joined_front (e ∷ f ∷ es) rest h = (h.0, h.1, joined_front (f ∷ es) rest h.2)
 
-entries_front : (xs ys : List Part) → AllByRecursion IsEntry (entries_of (xs ++ ys)) → AllByRecursion IsEntry (entries_of xs)
+entries_front : (xs ys : List Part) → AllByRecursion IsEntry (entries_of (xs ++ ys)) →
+    AllByRecursion IsEntry (entries_of xs)
 entries_front [] ys h = tt
 entries_front (Of e true r ∷ xs) ys h =
     let f = others_front xs ys in
     let extents = subst (λ es. AllByRecursion IsExtent (e ∷ es)) f.1 h.0.extents in
-    let joined = subst (λ es. AreJoined (e ∷ es)) f.1 h.0.joined in
-    (record { extents = first_extents (e ∷ others_of xs) f.0 extents; joined = joined_front (e ∷ others_of xs) f.0 joined }, entries_front xs ys h.1)
+    let joined = subst (λ es. AreJoined (e ∷ es)) f.1 h.0.joined in (
+      record {
+        extents = first_extents (e ∷ others_of xs) f.0 extents;
+        joined = joined_front (e ∷ others_of xs) f.0 joined;
+      },
+      entries_front xs ys h.1,
+    )
 entries_front (Of e false r ∷ xs) ys h = entries_front xs ys h
 entries_front (Unmapped n ∷ xs) ys h = entries_front xs ys h
 
@@ -158,7 +194,11 @@ front_loads : (xs ys : List Part) → IsStream (xs ++ ys) → IsStream xs
 front_loads xs ys h =
     let f = others_front xs ys in
     let small = h.bytes in
-    record { opens = no_extents (others_of xs) f.0 (sym f.1 ∙ h.opens); entries = entries_front xs ys h.entries; bytes = omega (arith, bytes_front xs ys, small) }
+    record {
+      opens = no_extents (others_of xs) f.0 (sym f.1 ∙ h.opens);
+      entries = entries_front xs ys h.entries;
+      bytes = omega (arith, bytes_front xs ys, small);
+    }
 
 -- what a stream has given, and then what is left, is the stream
 given_first : (ps xs rest : List Part) → Yields (YieldsFirst (λ (qs : List Part). qs)) ps xs rest → ps ≡ xs ++ rest

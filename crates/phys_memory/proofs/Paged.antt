@@ -1,5 +1,6 @@
 -- Translations that keep pages: the bytes of a page lie in order in one frame.
-use Rattle.std.proofs.Common.{◌≡◌, ℕ, zero, suc, ◌+◌, ◌-◌, ◌*◌, ◌/◌, ◌%◌, ◌^◌, ◌<◌, ◌≤◌, min, ◌∷◌, ◌++◌, refl, ap, sym, ◌∙◌, subst, inl, inr, ◌≢◌, arith}
+use Rattle.std.proofs.Common.{◌≡◌, ℕ, zero, suc, ◌+◌, ◌-◌, ◌*◌, ◌/◌, ◌%◌, ◌^◌, ◌<◌, ◌≤◌, min, ◌∷◌, ◌++◌, refl, ap, sym}
+use Rattle.std.proofs.Common.{◌∙◌, subst, inl, inr, ◌≢◌, arith}
 use Rattle.std.specs.Prelude.{Option, Some, None}
 use Rattle.std.proofs.lemmas.Bool.{cases_lt}
 use Rattle.busdma_base.specs.Runs.{run_of}
@@ -27,7 +28,8 @@ begins_at_page : (t : Translation) (va k : ℕ) → KeepsPlaces t → va % 4096 
 begins_at_page t va zero keeps h = tt
 begins_at_page t va (suc k) keeps h = begins (t va) (λ p e. keeps va p e)
   where
-    begins : (o : Option ℕ) → ((p : ℕ) → o ≡ Some p → p % 4096 ≡ va % 4096) → BeginsFrame (then_reached o (reached t (va + 1) k))
+    begins : (o : Option ℕ) → ((p : ℕ) → o ≡ Some p → p % 4096 ≡ va % 4096) →
+        BeginsFrame (then_reached o (reached t (va + 1) k))
     begins None e = tt
     begins (Some p) e = e p refl ∙ h
 
@@ -37,7 +39,8 @@ begins_unreached t va (suc k) h = subst (λ o. BeginsFrame (then_reached o (reac
 
 module _ (t : Translation) (page frame reach : ℕ) (is : HasPage t page frame reach) (short : reach ≤ 4096) where
   -- a run of bytes of the page, and then the others
-  reached_run : (i n l k : ℕ) → i + n ≤ reach → l ≡ n + k → reached t (4096 * page + i) l ≡ run_of (4096 * frame + i) n ++ reached t (4096 * page + (i + n)) k
+  reached_run : (i n l k : ℕ) → i + n ≤ reach → l ≡ n + k → reached t (4096 * page + i) l ≡ run_of (4096 * frame + i) n
+      ++ reached t (4096 * page + (i + n)) k
   reached_run i zero l k fits e =
       let same : i ≡ i + 0 = omega arith in
       let left : l ≡ k = omega arith in
@@ -57,12 +60,14 @@ module _ (t : Translation) (page frame reach : ℕ) (is : HasPage t page frame r
 
   module _ (keeps : KeepsPlaces t) where
     -- what comes after the bytes of the page that were taken
-    begins_after : (i n left : ℕ) → n ≡ min (reach - i) left → i < reach → BeginsFrame (reached t (4096 * page + (i + n)) (left - n))
+    begins_after : (i n left : ℕ) → n ≡ min (reach - i) left → i < reach →
+        BeginsFrame (reached t (4096 * page + (i + n)) (left - n))
     begins_after i n left e inside = elim (cases_lt (reach - i) left) [
       | inl h ↦
           let end : i + n ≡ reach = omega arith in
           elim (cases_lt reach 4096) [
-            | inl k ↦ subst (λ j. BeginsFrame (reached t (4096 * page + j) (left - n))) (sym end) (begins_unreached t (4096 * page + reach) (left - n) (is.past reach (omega arith) k))
+            | inl k ↦ subst (λ j. BeginsFrame (reached t (4096 * page + j) (left - n))) (sym end)
+                (begins_unreached t (4096 * page + reach) (left - n) (is.past reach (omega arith) k))
             | inr k ↦ begins_at_page t (4096 * page + (i + n)) (left - n) keeps (omega arith)
           ]
       | inr h ↦
@@ -71,7 +76,9 @@ module _ (t : Translation) (page frame reach : ℕ) (is : HasPage t page frame r
     ]
 
 -- the extent of the bytes that a page gives
-pub next_in_page : (t : Translation) (at n left frame reach : ℕ) → HasPage t (at / 4096) frame reach → KeepsPlaces t → reach ≤ 4096 → frame < 2 ^ 30 → at % 4096 < reach → 0 < left → n ≡ min (reach - at % 4096) left → IsNext t at left (record { pa = record { 0 = frame * 4096 + at % 4096 }; len = n })
+pub next_in_page : (t : Translation) (at n left frame reach : ℕ) → HasPage t (at / 4096) frame reach → KeepsPlaces t →
+    reach ≤ 4096 → frame < 2 ^ 30 → at % 4096 < reach → 0 < left → n ≡ min (reach - at % 4096) left →
+    IsNext t at left (record { pa = record { 0 = frame * 4096 + at % 4096 }; len = n })
 next_in_page t at n left frame reach is keeps short below inside some e =
     let start : 4096 * (at / 4096) + at % 4096 ≡ at = omega arith in
     let end : 4096 * (at / 4096) + (at % 4096 + n) ≡ at + n = omega arith in
@@ -79,8 +86,11 @@ next_in_page t at n left frame reach is keeps short below inside some e =
     record {
       extent = record { some = omega arith; in_frame = omega arith; numbered = omega arith };
       short = omega arith;
-      others = ap (λ a. reached t a left) (sym start) ∙ reached_run t (at / 4096) frame reach is short (at % 4096) n left (left - n) (omega arith) (omega arith)
+      others = ap (λ a. reached t a left) (sym start)
+          ∙ reached_run t (at / 4096) frame reach is short (at % 4096) n left (left - n) (omega arith) (omega arith)
           ∙ ap (λ p. run_of p n ++ reached t (4096 * (at / 4096) + (at % 4096 + n)) (left - n)) swap
           ∙ ap (λ a. run_of (frame * 4096 + at % 4096) n ++ reached t a (left - n)) end;
-      cut = subst (λ a. BeginsFrame (reached t a (left - n))) end (begins_after t (at / 4096) frame reach is short keeps (at % 4096) n left e inside);
+      cut =
+          subst (λ a. BeginsFrame (reached t a (left - n))) end
+          (begins_after t (at / 4096) frame reach is short keeps (at % 4096) n left e inside);
     }

@@ -1,5 +1,6 @@
 -- The bytes of a memory that can be reached, page by page.
-use Rattle.std.proofs.Common.{◌≡◌, ℕ, ◌+◌, ◌-◌, ◌*◌, ◌/◌, ◌%◌, ◌^◌, ◌<◌, ◌≤◌, min, Bool, true, false, refl, ap, sym, ◌∙◌, ◌⊎◌, inl, inr, ◌≢◌, arith}
+use Rattle.std.proofs.Common.{◌≡◌, ℕ, ◌+◌, ◌-◌, ◌*◌, ◌/◌, ◌%◌, ◌^◌, ◌<◌, ◌≤◌, min, Bool, true, false, refl, ap, sym}
+use Rattle.std.proofs.Common.{◌∙◌, ◌⊎◌, inl, inr, ◌≢◌, arith}
 use Rattle.std.specs.Prelude.{Option, Some, None, nat_lt, if◌then◌else◌}
 use Rattle.std.specs.FinMap.{get}
 use Rattle.std.proofs.lemmas.Bool.{lt-ltb, le-ltb, cases_lt}
@@ -11,14 +12,16 @@ use Rattle.phys_memory.proofs.Paged.{HasPage, IsPaged, KeepsPlaces, next_in_page
 
 -- the row of a byte's page is that of every byte of the page
 row_in_page : (m : Memory) (a b : ℕ) → a / 4096 ≡ b / 4096 → row_at m a ≡ row_at m b
-row_in_page m a b e = ap (λ v. if nat_lt a (2 ^ 64) then get m.table v else None) e ∙ ap (λ (t : Bool). if t then get m.table (b / 4096) else None) (same (cases_lt a (2 ^ 64)))
+row_in_page m a b e = ap (λ v. if nat_lt a (2 ^ 64) then get m.table v else None) e
+    ∙ ap (λ (t : Bool). if t then get m.table (b / 4096) else None) (same (cases_lt a (2 ^ 64)))
   where
     same : (a < 2 ^ 64) ⊎ (2 ^ 64 ≤ a) → nat_lt a (2 ^ 64) ≡ nat_lt b (2 ^ 64)
     same (inl h) = lt-ltb a (2 ^ 64) h ∙ sym (lt-ltb b (2 ^ 64) (omega arith))
     same (inr h) = le-ltb a (2 ^ 64) h ∙ sym (le-ltb b (2 ^ 64) (omega arith))
 
 -- a byte of the page of a row
-physical_in_row : (m : Memory) (at i : ℕ) (r : Reach) → row_at m at ≡ Some r → i < 4096 → physical m (4096 * (at / 4096) + i) ≡ reached_in (Some r) i
+physical_in_row : (m : Memory) (at i : ℕ) (r : Reach) → row_at m at ≡ Some r → i < 4096 →
+    physical m (4096 * (at / 4096) + i) ≡ reached_in (Some r) i
 physical_in_row m at i r here h =
     let a = 4096 * (at / 4096) + i in
     let number : a / 4096 ≡ at / 4096 = omega arith in
@@ -27,15 +30,18 @@ physical_in_row m at i r here h =
 
 row_page : (m : Memory) (at : ℕ) (r : Reach) → row_at m at ≡ Some r → HasPage (physical m) (at / 4096) r.frame r.reach
 row_page m at r here = record {
-  inside = λ i h k. physical_in_row m at i r here k ∙ ap (λ (t : Bool). if t then Some (4096 * r.frame + i) else None) (lt-ltb i r.reach h);
-  past = λ i h k. physical_in_row m at i r here k ∙ ap (λ (t : Bool). if t then Some (4096 * r.frame + i) else None) (le-ltb i r.reach h);
+  inside = λ i h k. physical_in_row m at i r here k
+      ∙ ap (λ (t : Bool). if t then Some (4096 * r.frame + i) else None) (lt-ltb i r.reach h);
+  past = λ i h k. physical_in_row m at i r here k
+      ∙ ap (λ (t : Bool). if t then Some (4096 * r.frame + i) else None) (le-ltb i r.reach h);
 }
 
 -- a byte stands at one place in its page and in its frame
 memory_places : (m : Memory) → KeepsPlaces (physical m)
 memory_places m a p h = placed (row_at m a) h
   where
-    inside : (f : ℕ) (t : Bool) → ◌≡◌ {A = Option ℕ} (if t then Some (4096 * f + a % 4096) else None) (Some p) → p % 4096 ≡ a % 4096
+    inside : (f : ℕ) (t : Bool) → ◌≡◌ {A = Option ℕ} (if t then Some (4096 * f + a % 4096) else None) (Some p) →
+        p % 4096 ≡ a % 4096
     inside f true e = let q : 4096 * f + a % 4096 ≡ p = cc in omega arith
     inside f false e = absurd (cc)
 
@@ -44,9 +50,12 @@ memory_places m a p h = placed (row_at m a) h
     placed (Some r) e = inside r.frame (nat_lt (a % 4096) r.reach) e
 
 -- the extent that a row gives
-pub next_is : (m : Memory) (at n left : ℕ) (r : Reach) → row_at m at ≡ Some r → IsRow m r → at % 4096 < r.reach → 0 < left → n ≡ min (r.reach - at % 4096) left → IsNext (physical m) at left (record { pa = record { 0 = r.frame * 4096 + at % 4096 }; len = n })
+pub next_is : (m : Memory) (at n left : ℕ) (r : Reach) → row_at m at ≡ Some r → IsRow m r → at % 4096 < r.reach →
+    0 < left → n ≡ min (r.reach - at % 4096) left →
+    IsNext (physical m) at left (record { pa = record { 0 = r.frame * 4096 + at % 4096 }; len = n })
 next_is m at n left r here is inside some e =
-    next_in_page (physical m) at n left r.frame r.reach (row_page m at r here) (memory_places m) is.reached is.numbered inside some e
+    next_in_page (physical m) at n left r.frame r.reach (row_page m at r here) (memory_places m)
+    is.reached is.numbered inside some e
 
 -- ---- the bytes of a memory
 
@@ -55,7 +64,8 @@ next_place : (o : Option Reach) (i p q : ℕ) → reached_in o i ≡ Some p → 
 next_place None i p q h k = absurd (cc)
 next_place (Some r) i p q h k = both (nat_lt i r.reach) (nat_lt (i + 1) r.reach) h k
   where
-    both : (s t : Bool) → ◌≡◌ {A = Option ℕ} (if s then Some (4096 * r.frame + i) else None) (Some p) → ◌≡◌ {A = Option ℕ} (if t then Some (4096 * r.frame + (i + 1)) else None) (Some q) → q ≡ p + 1
+    both : (s t : Bool) → ◌≡◌ {A = Option ℕ} (if s then Some (4096 * r.frame + i) else None) (Some p) →
+        ◌≡◌ {A = Option ℕ} (if t then Some (4096 * r.frame + (i + 1)) else None) (Some q) → q ≡ p + 1
     both true true e f =
         let a : 4096 * r.frame + i ≡ p = cc in
         let b : 4096 * r.frame + (i + 1) ≡ q = cc in
@@ -63,11 +73,14 @@ next_place (Some r) i p q h k = both (nat_lt i r.reach) (nat_lt (i + 1) r.reach)
     both true false e f = absurd (cc)
     both false t e f = absurd (cc)
 
-next_byte : (m : Memory) (va p q : ℕ) → physical m va ≡ Some p → physical m (va + 1) ≡ Some q → (va + 1) % 4096 ≢ 0 → q ≡ p + 1
+next_byte : (m : Memory) (va p q : ℕ) → physical m va ≡ Some p →
+    physical m (va + 1) ≡ Some q → (va + 1) % 4096 ≢ 0 → q ≡ p + 1
 next_byte m va p q h k apart =
     let page : (va + 1) / 4096 ≡ va / 4096 = omega arith in
     let place : (va + 1) % 4096 ≡ va % 4096 + 1 = omega arith in
-    next_place (row_at m va) (va % 4096) p q h (ap (λ o. reached_in o (va % 4096 + 1)) (sym (row_in_page m (va + 1) va page)) ∙ ap (reached_in (row_at m (va + 1))) (sym place) ∙ k)
+    next_place (row_at m va) (va % 4096) p q h
+    (ap (λ o. reached_in o (va % 4096 + 1)) (sym (row_in_page m (va + 1) va page))
+    ∙ ap (reached_in (row_at m (va + 1))) (sym place) ∙ k)
 
 -- an address is in a frame of the memory
 abbrev pub IsHeld : Memory → ℕ → Type 0
@@ -76,7 +89,8 @@ IsHeld m pa = has_frame m (pa / 4096) ≡ true
 address_of : (m : Memory) (va p : ℕ) → IsMemory m → physical m va ≡ Some p → (p < 2 ^ 42) × IsHeld m p
 address_of m va p is h = in_row (row_at m va) refl h
   where
-    inside : (r : Reach) (t : Bool) → IsRow m r → ◌≡◌ {A = Option ℕ} (if t then Some (4096 * r.frame + va % 4096) else None) (Some p) → (p < 2 ^ 42) × IsHeld m p
+    inside : (r : Reach) (t : Bool) → IsRow m r →
+        ◌≡◌ {A = Option ℕ} (if t then Some (4096 * r.frame + va % 4096) else None) (Some p) → (p < 2 ^ 42) × IsHeld m p
     inside r true row e =
         let a : 4096 * r.frame + va % 4096 ≡ p = cc in
         let below : r.frame < 2 ^ 30 = row.numbered in
@@ -84,7 +98,8 @@ address_of m va p is h = in_row (row_at m va) refl h
         (omega arith, ap (has_frame m) number ∙ row.there)
     inside r false row e = absurd (cc)
 
-    found : (t : Bool) (r : Reach) → ◌≡◌ {A = Option Reach} (if t then get m.table (va / 4096) else None) (Some r) → IsRow m r
+    found : (t : Bool) (r : Reach) → ◌≡◌ {A = Option Reach} (if t then get m.table (va / 4096) else None) (Some r) →
+        IsRow m r
     found true r e = row_is m (va / 4096) (Some r) is e
     found false r e = absurd (cc)
 

@@ -1,5 +1,6 @@
 -- Parts of lists, and of runs of addresses.
-use Rattle.std.proofs.Common.{◌≡◌, ℕ, zero, suc, ◌+◌, ◌-◌, ◌*◌, ◌/◌, ◌≤◌, min, List, [], ◌∷◌, ◌++◌, length, map, take, drop, refl, ap, ◌∙◌, arith}
+use Rattle.std.proofs.Common.{◌≡◌, ℕ, zero, suc, ◌+◌, ◌-◌, ◌*◌, ◌/◌, ◌≤◌, min, List, [], ◌∷◌, ◌++◌, length, map, take}
+use Rattle.std.proofs.Common.{drop, refl, ap, ◌∙◌, arith}
 use Rattle.std.specs.List.{AllByRecursion}
 use Rattle.busdma_base.specs.Runs.{run_of}
 
@@ -52,16 +53,19 @@ run_append a (suc m) n =
     ap (run_of a) e ∙ ap (λ xs. a ∷ xs) (run_append (a + 1) m n ∙ ap (λ b. run_of (a + 1) m ++ run_of b n) f)
 
 -- the addresses of a run in one frame
-pub run_in_frame : (n a f : ℕ) → 4096 * f ≤ a → a + n ≤ 4096 * f + 4096 → AllByRecursion (λ b. b / 4096 ≡ f) (run_of a n)
+pub run_in_frame : (n a f : ℕ) → 4096 * f ≤ a → a + n ≤ 4096 * f + 4096 →
+    AllByRecursion (λ b. b / 4096 ≡ f) (run_of a n)
 run_in_frame zero a f h k = tt
 run_in_frame (suc n) a f h k = (omega arith, run_in_frame n (a + 1) f (omega arith) (omega arith))
 
 -- what holds of each element holds of each of a part
-pub all_imply : {X : Type 0} (P Q : X → Type 0) → ((x : X) → P x → Q x) → (xs : List X) → AllByRecursion P xs → AllByRecursion Q xs
+pub all_imply : {X : Type 0} (P Q : X → Type 0) → ((x : X) → P x → Q x) → (xs : List X) →
+    AllByRecursion P xs → AllByRecursion Q xs
 all_imply P Q f [] h = tt
 all_imply P Q f (x ∷ xs) h = (f x h.0, all_imply P Q f xs h.1)
 
-pub all_append : {X : Type 0} (P : X → Type 0) (xs ys : List X) → AllByRecursion P xs → AllByRecursion P ys → AllByRecursion P (xs ++ ys)
+pub all_append : {X : Type 0} (P : X → Type 0) (xs ys : List X) → AllByRecursion P xs →
+    AllByRecursion P ys → AllByRecursion P (xs ++ ys)
 all_append P [] ys h k = k
 all_append P (x ∷ xs) ys h k = (h.0, all_append P xs ys h.1 k)
 

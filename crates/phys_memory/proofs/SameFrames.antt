@@ -11,7 +11,8 @@ use Rattle.phys_memory.specs.Frames.{Lie, SamePages}
 use Rattle.phys_memory.specs.Memory.{Memory, has_frame, rewritten}
 use Rattle.phys_memory.proofs.Tables.{get_inserted}
 
-lies_all : (m n : Memory) (es : List Extent) → SamePages m n → AllByRecursion (LiesIn m) es → AllByRecursion (LiesIn n) es
+lies_all : (m n : Memory) (es : List Extent) → SamePages m n →
+    AllByRecursion (LiesIn m) es → AllByRecursion (LiesIn n) es
 lies_all m n [] s h = tt
 lies_all m n (e ∷ es) s h = (s.frames (e.pa.0 / 4096) ∙ h.0, lies_all m n es s h.1)
 
@@ -20,7 +21,8 @@ pub lie_same : (m n : Memory) (es : List Extent) → SamePages m n → Lie m es 
 lie_same m n es s h = record { extents = h.extents; frames = lies_all m n es s h.frames }
 
 -- bytes that are written in a frame change no page
-pub same_rewritten : (m : Memory) (pa : ℕ) (bs : List ℕ) → has_frame m (pa / 4096) ≡ true → SamePages m (rewritten m pa bs)
+pub same_rewritten : (m : Memory) (pa : ℕ) (bs : List ℕ) →
+    has_frame m (pa / 4096) ≡ true → SamePages m (rewritten m pa bs)
 same_rewritten m pa bs h = record { table = refl; frames = at }
   where
     at : (f : ℕ) → has_frame (rewritten m pa bs) f ≡ has_frame m f

@@ -1,5 +1,6 @@
 -- Streams of parts, from their front.
-use Rattle.std.proofs.Common.{◌≡◌, ℕ, ◌+◌, ◌-◌, ◌≤◌, Bool, false, [], ◌∷◌, ◌++◌, length, ap, sym, ◌∙◌, inl, inr, arith, length-append}
+use Rattle.std.proofs.Common.{◌≡◌, ℕ, ◌+◌, ◌-◌, ◌≤◌, Bool, false, [], ◌∷◌, ◌++◌, length, ap, sym, ◌∙◌, inl, inr, arith}
+use Rattle.std.proofs.Common.{length-append}
 use Rattle.std.specs.Prelude.{nat_eq, if◌then◌else◌}
 use Rattle.std.proofs.lemmas.Bool.{eq-eqb, ne_eqb}
 use Rattle.std.proofs.lemmas.Bool.Decides.{eqb_tells}
@@ -20,13 +21,23 @@ same_left n l left h = elim (eqb_tells (n + l) left) [
 ]
 
 -- the first part of a stream, and what is left
-pub stream_next : (t : Translation) (at left offset : ℕ) (opens rounded : Bool) (e : Extent) → IsNext t at left e → run_stream (reached t at left) left offset opens rounded ≡ part.Of e opens rounded ∷ run_stream (reached t (at + e.len) (left - e.len)) (left - e.len) (offset + e.len) false rounded
+pub stream_next : (t : Translation) (at left offset : ℕ) (opens rounded : Bool) (e : Extent) → IsNext t at left e →
+    run_stream (reached t at left) left offset opens rounded ≡ part.Of e opens rounded
+    ∷ run_stream (reached t (at + e.len) (left - e.len)) (left - e.len) (offset + e.len) false rounded
 stream_next t at left offset opens rounded e is =
     let rest = reached t (at + e.len) (left - e.len) in
-    let count : length (run_of e.pa.0 e.len ++ rest) ≡ e.len + length rest = length-append (run_of e.pa.0 e.len) rest ∙ ap (λ n. n + length rest) (length-run_of e.pa.0 e.len) in
+    let count : length (run_of e.pa.0 e.len ++ rest) ≡ e.len + length rest =
+    length-append (run_of e.pa.0 e.len) rest ∙ ap (λ n. n + length rest) (length-run_of e.pa.0 e.len) in
     let more : offset + (e.len + length rest) ≡ offset + e.len + length rest = omega arith in
     ap (λ pas. run_stream pas left offset opens rounded) is.others
-    ∙ ap (λ es. extent_parts opens rounded es ++ (if nat_eq (length (run_of e.pa.0 e.len ++ rest)) left then [] else part.Unmapped (offset + length (run_of e.pa.0 e.len ++ rest)) ∷ [])) (extents_of-run e.pa.0 e.len rest is.extent.some is.extent.in_frame is.cut)
-    ∙ ap (λ n. part.Of e opens rounded ∷ (extent_parts false rounded (extents_of rest) ++ (if nat_eq n left then [] else part.Unmapped (offset + n) ∷ []))) count
-    ∙ ap (λ b. part.Of e opens rounded ∷ (extent_parts false rounded (extents_of rest) ++ (if b then [] else part.Unmapped (offset + (e.len + length rest)) ∷ []))) (same_left e.len (length rest) left is.short)
-    ∙ ap (λ k. part.Of e opens rounded ∷ (extent_parts false rounded (extents_of rest) ++ (if nat_eq (length rest) (left - e.len) then [] else part.Unmapped k ∷ []))) more
+    ∙ ap (λ es. extent_parts opens rounded es
+    ++ (if nat_eq (length (run_of e.pa.0 e.len ++ rest)) left then []
+    else part.Unmapped (offset + length (run_of e.pa.0 e.len ++ rest)) ∷ []))
+    (extents_of-run e.pa.0 e.len rest is.extent.some is.extent.in_frame is.cut)
+    ∙ ap (λ n. part.Of e opens rounded ∷ (extent_parts false rounded (extents_of rest)
+    ++ (if nat_eq n left then [] else part.Unmapped (offset + n) ∷ []))) count
+    ∙ ap (λ b. part.Of e opens rounded ∷ (extent_parts false rounded (extents_of rest)
+    ++ (if b then [] else part.Unmapped (offset + (e.len + length rest)) ∷ [])))
+    (same_left e.len (length rest) left is.short)
+    ∙ ap (λ k. part.Of e opens rounded ∷ (extent_parts false rounded (extents_of rest)
+    ++ (if nat_eq (length rest) (left - e.len) then [] else part.Unmapped k ∷ []))) more

@@ -1,5 +1,6 @@
 -- Walks over vectors, and their streams, span by span.
-use Rattle.std.proofs.Common.{◌≡◌, ℕ, zero, suc, ◌+◌, ◌<◌, ◌≤◌, Bool, true, false, List, [], ◌∷◌, ◌++◌, map, drop, length, get_or, refl, ap, sym, ◌∙◌, subst, arith, append-nil, append_assoc}
+use Rattle.std.proofs.Common.{◌≡◌, ℕ, zero, suc, ◌+◌, ◌<◌, ◌≤◌, Bool, true, false, List, [], ◌∷◌, ◌++◌, map, drop}
+use Rattle.std.proofs.Common.{length, get_or, refl, ap, sym, ◌∙◌, subst, arith, append-nil, append_assoc}
 use Rattle.std.specs.Prelude.{Option, Some, None, nat_eq, if◌then◌else◌}
 use Rattle.std.specs.List.{AllByRecursion}
 use Rattle.std.proofs.lemmas.Bool.{eqb-true}
@@ -21,7 +22,8 @@ use Rattle.phys_memory.specs.declared.entries.Entries.TheVariants as walk
 use Rattle.phys_memory.specs.declared.walk.Walked.TheVariants.{Parts, Unmapped}
 use Rattle.phys_memory.specs.Translation.{Translation, physical_or_0}
 use Rattle.phys_memory.specs.Extents.{extents_of, reached, then_reached}
-use Rattle.phys_memory.specs.Vector.{IfAll, ending, entries_of, judged_spans, one_span, spans_at, spans_stream, spans_walk, then_parts, walk_unless, with_entry}
+use Rattle.phys_memory.specs.Vector.{IfAll, ending, entries_of, judged_spans, one_span, spans_at, spans_stream}
+use Rattle.phys_memory.specs.Vector.{spans_walk, then_parts, walk_unless, with_entry}
 use Rattle.phys_memory.specs.Walk.{flat_at, walk_of}
 use Rattle.phys_memory.proofs.Extents.{AreExtents, begins, reached_extents}
 use Rattle.phys_memory.proofs.Paged.{IsPaged}
@@ -42,20 +44,27 @@ module _ (t : Translation) (s : Span) (ss : List Span) (offset : ℕ) where
   abbrev bytes : List ℕ
   bytes = reached t s.va.0 s.len
 
-  first_judged : (b : Bool) → nat_eq (length bytes) s.len ≡ b → judged_spans t offset (s ∷ ss) ≡ (if b then judged_spans t (offset + s.len) ss else refused_at (offset + length bytes))
-  first_judged b h = judged-run t s.va.0 s.len offset (span_addresses ss) ∙ ap (λ c. if c then judged_spans t (offset + s.len) ss else refused_at (offset + length bytes)) h
+  first_judged : (b : Bool) → nat_eq (length bytes) s.len ≡ b →
+      judged_spans t offset (s ∷ ss) ≡ (if b then judged_spans t (offset + s.len) ss
+      else refused_at (offset + length bytes))
+  first_judged b h = judged-run t s.va.0 s.len offset (span_addresses ss)
+      ∙ ap (λ c. if c then judged_spans t (offset + s.len) ss else refused_at (offset + length bytes)) h
 
-  first_entry : (rounded b : Bool) → nat_eq (length bytes) s.len ≡ b → entries_of rounded t (s ∷ ss) ≡ with_entry rounded bytes (if b then entries_of rounded t ss else [])
+  first_entry : (rounded b : Bool) → nat_eq (length bytes) s.len ≡ b →
+      entries_of rounded t (s ∷ ss) ≡ with_entry rounded bytes (if b then entries_of rounded t ss else [])
   first_entry rounded b h = ap (λ c. with_entry rounded bytes (if c then entries_of rounded t ss else [])) h
 
 -- ---- streams
 
 -- parts of extents, and what is after them
-then_run : (es : List Extent) (opens rounded : Bool) (rest others : List Part) → then_parts (extent_parts opens rounded es ++ rest) others ≡ extent_parts opens rounded es ++ then_parts rest others
+then_run : (es : List Extent) (opens rounded : Bool) (rest others : List Part) →
+    then_parts (extent_parts opens rounded es ++ rest) others ≡ extent_parts opens rounded es ++ then_parts rest others
 then_run [] opens rounded rest others = refl
-then_run (e ∷ es) opens rounded rest others = ap (λ ps. part.Of e opens rounded ∷ ps) (then_run es false rounded rest others)
+then_run (e ∷ es) opens rounded rest others =
+    ap (λ ps. part.Of e opens rounded ∷ ps) (then_run es false rounded rest others)
 
-stream_entry : (rounded : Bool) (pas : List ℕ) (es : List Entry) → parts_of (with_entry rounded pas es) ≡ extent_parts true rounded (extents_of pas) ++ parts_of es
+stream_entry : (rounded : Bool) (pas : List ℕ) (es : List Entry) →
+    parts_of (with_entry rounded pas es) ≡ extent_parts true rounded (extents_of pas) ++ parts_of es
 stream_entry rounded [] es = refl
 stream_entry rounded (pa ∷ pas) es = refl
 
@@ -69,11 +78,14 @@ module _ (rounded : Bool) (t : Translation) (offset : ℕ) (s : Span) (ss : List
   abbrev last : Bool → List Part
   last b = if b then [] else part.Unmapped (offset + length first) ∷ []
 
-  next_by : (b : Bool) → nat_eq (length first) s.len ≡ b → spans_at rounded t offset (s ∷ ss) ≡ then_parts (parts ++ last b) (spans_at rounded t (offset + s.len) ss)
+  next_by : (b : Bool) → nat_eq (length first) s.len ≡ b →
+      spans_at rounded t offset (s ∷ ss) ≡ then_parts (parts ++ last b) (spans_at rounded t (offset + s.len) ss)
   next_by true h =
       ap (λ es. parts_of es ++ ending (judged_spans t offset (s ∷ ss))) (first_entry t s ss offset rounded true h)
-      ∙ ap (λ j. parts_of (with_entry rounded first (entries_of rounded t ss)) ++ ending j) (first_judged t s ss offset true h)
-      ∙ ap (λ ps. ps ++ ending (judged_spans t (offset + s.len) ss)) (stream_entry rounded first (entries_of rounded t ss))
+      ∙ ap (λ j. parts_of (with_entry rounded first (entries_of rounded t ss)) ++ ending j)
+      (first_judged t s ss offset true h)
+      ∙ ap (λ ps. ps ++ ending (judged_spans t (offset + s.len) ss))
+      (stream_entry rounded first (entries_of rounded t ss))
       ∙ append_assoc parts (parts_of (entries_of rounded t ss)) (ending (judged_spans t (offset + s.len) ss))
       ∙ sym (then_run (extents_of first) true rounded [] (spans_at rounded t (offset + s.len) ss))
   next_by false h =
@@ -83,24 +95,30 @@ module _ (rounded : Bool) (t : Translation) (offset : ℕ) (s : Span) (ss : List
       ∙ sym (then_run (extents_of first) true rounded (last false) (spans_at rounded t (offset + s.len) ss))
 
   -- the parts of the first span, and then those of the others
-  pub spans_next : spans_at rounded t offset (s ∷ ss) ≡ then_parts (flat_at rounded t offset s.va.0 s.len) (spans_at rounded t (offset + s.len) ss)
+  pub spans_next : spans_at rounded t offset (s ∷ ss)
+      ≡ then_parts (flat_at rounded t offset s.va.0 s.len) (spans_at rounded t (offset + s.len) ss)
   spans_next =
       next_by (nat_eq (length first) s.len) refl
 
 -- the stream of one span
-pub spans_one : (rounded : Bool) (t : Translation) (va n : ℕ) → spans_stream rounded t (one_span va n) ≡ flat_at rounded t 0 va n
+pub spans_one : (rounded : Bool) (t : Translation) (va n : ℕ) →
+    spans_stream rounded t (one_span va n) ≡ flat_at rounded t 0 va n
 spans_one rounded t va n =
     let one : Span = record { va = record { 0 = va }; len = n } in
     let ps = parts rounded t 0 one [] in
     spans_next rounded t 0 one []
-    ∙ then_run (extents_of (reached t va n)) true rounded (last rounded t 0 one [] (nat_eq (length (reached t va n)) n)) []
-    ∙ elim (nat_eq (length (reached t va n)) n) as (λ b. ps ++ then_parts (last rounded t 0 one [] b) [] ≡ ps ++ last rounded t 0 one [] b) [ true ↦ refl | false ↦ refl ]
+    ∙ then_run (extents_of (reached t va n)) true rounded
+    (last rounded t 0 one [] (nat_eq (length (reached t va n)) n)) []
+    ∙ elim (nat_eq (length (reached t va n)) n) as (λ b. ps ++ then_parts (last rounded t 0 one [] b) [] ≡ ps
+    ++ last rounded t 0 one [] b) [ true ↦ refl | false ↦ refl ]
 
 -- where the walk has entries, they are those of the stream
-pub walk_stream : (rounded : Bool) (t : Translation) (spans : List Span) → IfAll (spans_walk rounded t spans) (λ es. spans_stream rounded t spans ≡ parts_of es)
+pub walk_stream : (rounded : Bool) (t : Translation) (spans : List Span) →
+    IfAll (spans_walk rounded t spans) (λ es. spans_stream rounded t spans ≡ parts_of es)
 walk_stream rounded t spans = by_judgement (judged_spans t 0 spans)
   where
-    by_judgement : (j : Judged) → IfAll (walk_unless j (entries_of rounded t spans)) (λ es. parts_of (entries_of rounded t spans) ++ ending j ≡ parts_of es)
+    by_judgement : (j : Judged) → IfAll (walk_unless j (entries_of rounded t spans))
+        (λ es. parts_of (entries_of rounded t spans) ++ ending j ≡ parts_of es)
     by_judgement Fine = append-nil (parts_of (entries_of rounded t spans))
     by_judgement (Refused r) = tt
 
@@ -121,7 +139,8 @@ record Found (pas : List ℕ) (n : ℕ) (es : List Extent) : Type 0 where
 found : (pas : List ℕ) (n : ℕ) (es : List Extent) → Parts es ≡ walk_of pas n → Found pas n es
 found pas n es h = by_count (nat_eq (length pas) n) refl h
   where
-    by_count : (b : Bool) → nat_eq (length pas) n ≡ b → Parts es ≡ (if b then Parts (extents_of pas) else Unmapped (length pas)) → Found pas n es
+    by_count : (b : Bool) → nat_eq (length pas) n ≡ b →
+        Parts es ≡ (if b then Parts (extents_of pas) else Unmapped (length pas)) → Found pas n es
     by_count true e k = record { whole = e; are = cc }
     by_count false e k = absurd (cc)
 
@@ -132,15 +151,18 @@ record Missed (pas : List ℕ) (n at : ℕ) : Type 0 where
 missed : (pas : List ℕ) (n at : ℕ) → Unmapped at ≡ walk_of pas n → Missed pas n at
 missed pas n at h = by_count (nat_eq (length pas) n) refl h
   where
-    by_count : (b : Bool) → nat_eq (length pas) n ≡ b → Unmapped at ≡ (if b then Parts (extents_of pas) else Unmapped (length pas)) → Missed pas n at
+    by_count : (b : Bool) → nat_eq (length pas) n ≡ b →
+        Unmapped at ≡ (if b then Parts (extents_of pas) else Unmapped (length pas)) → Missed pas n at
     by_count true e k = absurd (cc)
     by_count false e k = record { cut = e; is = cc }
 
-entry_added : (rounded : Bool) (pas : List ℕ) (e : Extent) (es : List Extent) (others : List Entry) → e ∷ es ≡ extents_of pas → with_entry rounded pas others ≡ record { rounded = rounded; parts = e ∷ es } ∷ others
+entry_added : (rounded : Bool) (pas : List ℕ) (e : Extent) (es : List Extent) (others : List Entry) →
+    e ∷ es ≡ extents_of pas → with_entry rounded pas others ≡ record { rounded = rounded; parts = e ∷ es } ∷ others
 entry_added rounded [] e es others h = absurd (cc)
 entry_added rounded (pa ∷ pas) e es others h = ap (λ xs. record { rounded = rounded; parts = xs } ∷ others) (sym h)
 
-no_entry : (rounded : Bool) (pas : List ℕ) (others : List Entry) → [] ≡ extents_of pas → with_entry rounded pas others ≡ others
+no_entry : (rounded : Bool) (pas : List ℕ) (others : List Entry) →
+    [] ≡ extents_of pas → with_entry rounded pas others ≡ others
 no_entry rounded [] others h = refl
 no_entry rounded (pa ∷ pas) others h = gone (h ∙ (begins pa (extents_of pas)).are)
   where
@@ -152,47 +174,64 @@ module _ (rounded : Bool) (t : Translation) (before : List Entry) (offset : ℕ)
   here = reached t s.va.0 s.len
 
   -- the walk after a span of which all bytes are reached
-  past : (es : List Entry) → nat_eq (length here) s.len ≡ true → with_entry rounded here (entries_of rounded t ss) ≡ es ++ entries_of rounded t ss → walk_from rounded t before offset (s ∷ ss) ≡ walk_from rounded t (before ++ es) (offset + s.len) ss
+  past : (es : List Entry) → nat_eq (length here) s.len ≡ true → with_entry rounded here (entries_of rounded t ss) ≡ es
+      ++ entries_of rounded t ss → walk_from rounded t before offset (s ∷ ss)
+      ≡ walk_from rounded t (before ++ es) (offset + s.len) ss
   past es h e =
-      ap (λ xs. walk_unless (judged_spans t offset (s ∷ ss)) (before ++ xs)) (first_entry t s ss offset rounded true h ∙ e)
+      ap (λ xs. walk_unless (judged_spans t offset (s ∷ ss)) (before ++ xs))
+      (first_entry t s ss offset rounded true h ∙ e)
       ∙ ap (λ j. walk_unless j (before ++ (es ++ entries_of rounded t ss))) (first_judged t s ss offset true h)
       ∙ ap (walk_unless (judged_spans t (offset + s.len) ss)) (sym (append_assoc before es (entries_of rounded t ss)))
 
-  pub past_entry : (es : List Extent) → Parts es ≡ walk_of here s.len → (es ≡ [] → false ≡ true) → walk_from rounded t before offset (s ∷ ss) ≡ walk_from rounded t (before ++ record { rounded = rounded; parts = es } ∷ []) (offset + s.len) ss
+  pub past_entry : (es : List Extent) → Parts es ≡ walk_of here s.len → (es ≡ [] → false ≡ true) →
+      walk_from rounded t before offset (s ∷ ss)
+      ≡ walk_from rounded t (before ++ record { rounded = rounded; parts = es } ∷ []) (offset + s.len) ss
   past_entry [] h some = absurd (not_true (some refl))
   past_entry (e ∷ es) h some =
       let f = found here s.len (e ∷ es) h in
-      past (record { rounded = rounded; parts = e ∷ es } ∷ []) f.whole (entry_added rounded here e es (entries_of rounded t ss) f.are)
+      past (record { rounded = rounded; parts = e ∷ es } ∷ []) f.whole
+      (entry_added rounded here e es (entries_of rounded t ss) f.are)
 
-  pub past_none : Parts [] ≡ walk_of here s.len → walk_from rounded t before offset (s ∷ ss) ≡ walk_from rounded t before (offset + s.len) ss
+  pub past_none : Parts [] ≡ walk_of here s.len →
+      walk_from rounded t before offset (s ∷ ss) ≡ walk_from rounded t before (offset + s.len) ss
   past_none h =
       let f = found here s.len [] h in
-      past [] f.whole (no_entry rounded here (entries_of rounded t ss) f.are) ∙ ap (λ es. walk_from rounded t es (offset + s.len) ss) (append-nil before)
+      past [] f.whole (no_entry rounded here (entries_of rounded t ss) f.are)
+      ∙ ap (λ es. walk_from rounded t es (offset + s.len) ss) (append-nil before)
 
   -- the walk at a span of which not all are
-  pub stopped : (at : ℕ) → Unmapped at ≡ walk_of here s.len → walk_from rounded t before offset (s ∷ ss) ≡ walk.Unmapped (offset + at)
+  pub stopped : (at : ℕ) → Unmapped at ≡ walk_of here s.len →
+      walk_from rounded t before offset (s ∷ ss) ≡ walk.Unmapped (offset + at)
   stopped at h =
       let f = missed here s.len at h in
-      ap (λ j. walk_unless j (before ++ entries_of rounded t (s ∷ ss))) (first_judged t s ss offset false f.cut) ∙ ap (λ k. walk.Unmapped (offset + k)) (sym f.is)
+      ap (λ j. walk_unless j (before ++ entries_of rounded t (s ∷ ss))) (first_judged t s ss offset false f.cut)
+      ∙ ap (λ k. walk.Unmapped (offset + k)) (sym f.is)
 
 -- an unreached byte is one of the span
 pub missed_inside : (t : Translation) (va n at : ℕ) → Unmapped at ≡ walk_of (reached t va n) n → at ≤ n
 missed_inside t va n at h = omega (arith, (missed (reached t va n) n at h).is, length-reached t va n)
 
 -- what is left after an empty stream, where the next span begins
-pub next_span : (t : Translation) (now ps : List Part) (offset : ℕ) (spans : List Span) (s : Span) (ss : List Span) → now ≡ [] → spans ≡ s ∷ ss → ps ≡ flat_at true t offset s.va.0 s.len → then_parts ps (spans_at true t (offset + s.len) ss) ≡ then_parts now (spans_at true t offset spans)
+pub next_span : (t : Translation) (now ps : List Part) (offset : ℕ) (spans : List Span) (s : Span) (ss : List Span) →
+    now ≡ [] → spans ≡ s ∷ ss → ps ≡ flat_at true t offset s.va.0 s.len →
+    then_parts ps (spans_at true t (offset + s.len) ss) ≡ then_parts now (spans_at true t offset spans)
 next_span t now ps offset spans s ss none are e =
-    ap (λ qs. then_parts qs (spans_at true t (offset + s.len) ss)) e ∙ sym (spans_next true t offset s ss) ∙ ap (spans_at true t offset) (sym are)
+    ap (λ qs. then_parts qs (spans_at true t (offset + s.len) ss)) e ∙ sym (spans_next true t offset s ss)
+    ∙ ap (spans_at true t offset) (sym are)
     ∙ ap (λ qs. then_parts qs (spans_at true t offset spans)) (sym none)
 
-pub first_bytes : (offset : ℕ) (spans : List Span) (s : Span) (ss : List Span) → spans ≡ s ∷ ss → offset + s.len + span_bytes ss ≡ offset + span_bytes spans
+pub first_bytes : (offset : ℕ) (spans : List Span) (s : Span) (ss : List Span) → spans ≡ s ∷ ss →
+    offset + s.len + span_bytes ss ≡ offset + span_bytes spans
 first_bytes offset spans s ss are =
-    let bytes : span_bytes spans ≡ s.len + span_bytes ss = ap span_bytes are ∙ sum_by-cons (λ (x : Span). x.len) s ss in
+    let bytes : span_bytes spans ≡ s.len + span_bytes ss =
+    ap span_bytes are ∙ sum_by-cons (λ (x : Span). x.len) s ss in
     omega (arith, bytes)
 
 -- ---- what the entries of a walk are
 
-entry_all : (P : Entry → Type 0) (rounded : Bool) (pas : List ℕ) (others : List Entry) → (0 < length pas → P (record { rounded = rounded; parts = extents_of pas })) → AllByRecursion P others → AllByRecursion P (with_entry rounded pas others)
+entry_all : (P : Entry → Type 0) (rounded : Bool) (pas : List ℕ) (others : List Entry) →
+    (0 < length pas → P (record { rounded = rounded; parts = extents_of pas })) → AllByRecursion P others →
+    AllByRecursion P (with_entry rounded pas others)
 entry_all P rounded [] others h all = all
 entry_all P rounded (pa ∷ pas) others h all = (h (omega arith), all)
 
@@ -201,13 +240,17 @@ some_extents [] h = absurd (omega arith)
 some_extents (pa ∷ pas) h = omega (arith, ap length (begins pa (extents_of pas)).are)
 
 module _ (Has : ℕ → Type 0) (rounded : Bool) (t : Translation) (is : IsPaged Has t) where
-  all_entries : (P : Entry → Type 0) → ((pas : List ℕ) → 0 < length pas → AreExtents Has pas (extents_of pas) → P (record { rounded = rounded; parts = extents_of pas })) → (spans : List Span) → AllByRecursion P (entries_of rounded t spans)
+  all_entries : (P : Entry → Type 0) → ((pas : List ℕ) → 0 < length pas → AreExtents Has pas (extents_of pas) →
+      P (record { rounded = rounded; parts = extents_of pas })) → (spans : List Span) →
+      AllByRecursion P (entries_of rounded t spans)
   all_entries P h [] = tt
   all_entries P h (s ∷ ss) =
       let pas = reached t s.va.0 s.len in
       let others = all_entries P h ss in
-      entry_all P rounded pas (if nat_eq (length pas) s.len then entries_of rounded t ss else []) (λ some. h pas some (reached_extents Has t is s.va.0 s.len))
-      (elim (nat_eq (length pas) s.len) as (λ b. AllByRecursion P (if b then entries_of rounded t ss else [])) [ true ↦ others | false ↦ tt ])
+      entry_all P rounded pas (if nat_eq (length pas) s.len then entries_of rounded t ss else [])
+      (λ some. h pas some (reached_extents Has t is s.va.0 s.len))
+      (elim (nat_eq (length pas) s.len) as (λ b. AllByRecursion P (if b then entries_of rounded t ss else []))
+      [ true ↦ others | false ↦ tt ])
 
   pub entries_are : (spans : List Span) → AllByRecursion IsEntry (entries_of rounded t spans)
   entries_are = all_entries IsEntry (λ pas some are. record { extents = are.extents; joined = are.joined })
@@ -215,26 +258,37 @@ module _ (Has : ℕ → Type 0) (rounded : Bool) (t : Translation) (is : IsPaged
   pub entries_touch : (spans : List Span) → AllByRecursion HasPart (entries_of rounded t spans)
   entries_touch = all_entries HasPart (λ pas some are. some_extents pas some)
 
-  pub entries_have : (spans : List Span) → AllByRecursion (λ e. AllByRecursion (λ x. Has x.pa.0) e.parts) (entries_of rounded t spans)
+  pub entries_have : (spans : List Span) →
+      AllByRecursion (λ e. AllByRecursion (λ x. Has x.pa.0) e.parts) (entries_of rounded t spans)
   entries_have = all_entries (λ e. AllByRecursion (λ x. Has x.pa.0) e.parts) (λ pas some are. are.have)
 
-  entry_bytes : (s : Span) (es : List Entry) → entries_addresses (with_entry rounded (reached t s.va.0 s.len) es) ≡ reached t s.va.0 s.len ++ entries_addresses es
+  entry_bytes : (s : Span) (es : List Entry) →
+      entries_addresses (with_entry rounded (reached t s.va.0 s.len) es)
+      ≡ reached t s.va.0 s.len ++ entries_addresses es
   entry_bytes s es = by_bytes (reached t s.va.0 s.len) (reached_extents Has t is s.va.0 s.len).bytes
     where
-      by_bytes : (pas : List ℕ) → addresses (extents_of pas) ≡ pas → entries_addresses (with_entry rounded pas es) ≡ pas ++ entries_addresses es
+      by_bytes : (pas : List ℕ) → addresses (extents_of pas) ≡ pas →
+          entries_addresses (with_entry rounded pas es) ≡ pas ++ entries_addresses es
       by_bytes [] h = refl
       by_bytes (pa ∷ pas) h = ap (λ qs. qs ++ entries_addresses es) h
 
   -- where no byte is refused, the entries have the bytes of the spans
-  entries_bytes : (offset : ℕ) (spans : List Span) → judged_spans t offset spans ≡ Fine → entries_addresses (entries_of rounded t spans) ≡ map (physical_or_0 t) (span_addresses spans)
+  entries_bytes : (offset : ℕ) (spans : List Span) → judged_spans t offset spans ≡ Fine →
+      entries_addresses (entries_of rounded t spans) ≡ map (physical_or_0 t) (span_addresses spans)
   entries_bytes offset [] h = refl
-  entries_bytes offset (s ∷ ss) h = by_count (nat_eq (length (reached t s.va.0 s.len)) s.len) refl (entries_bytes (offset + s.len) ss)
+  entries_bytes offset (s ∷ ss) h =
+      by_count (nat_eq (length (reached t s.va.0 s.len)) s.len) refl (entries_bytes (offset + s.len) ss)
     where
-      by_count : (b : Bool) → nat_eq (length (reached t s.va.0 s.len)) s.len ≡ b → (judged_spans t (offset + s.len) ss ≡ Fine → entries_addresses (entries_of rounded t ss) ≡ map (physical_or_0 t) (span_addresses ss)) → entries_addresses (entries_of rounded t (s ∷ ss)) ≡ map (physical_or_0 t) (span_addresses (s ∷ ss))
+      by_count : (b : Bool) → nat_eq (length (reached t s.va.0 s.len)) s.len ≡ b →
+          (judged_spans t (offset + s.len) ss ≡ Fine →
+          entries_addresses (entries_of rounded t ss) ≡ map (physical_or_0 t) (span_addresses ss)) →
+          entries_addresses (entries_of rounded t (s ∷ ss)) ≡ map (physical_or_0 t) (span_addresses (s ∷ ss))
       by_count true e others =
           ap entries_addresses (first_entry t s ss offset rounded true e) ∙ entry_bytes s (entries_of rounded t ss)
-          ∙ ap (λ pas. pas ++ entries_addresses (entries_of rounded t ss)) (reached_all t s.va.0 s.len (eqb-true (length (reached t s.va.0 s.len)) s.len e))
-          ∙ ap (λ qs. map (physical_or_0 t) (run_of s.va.0 s.len) ++ qs) (others (sym (first_judged t s ss offset true e) ∙ h))
+          ∙ ap (λ pas. pas ++ entries_addresses (entries_of rounded t ss))
+          (reached_all t s.va.0 s.len (eqb-true (length (reached t s.va.0 s.len)) s.len e))
+          ∙ ap (λ qs. map (physical_or_0 t) (run_of s.va.0 s.len) ++ qs)
+          (others (sym (first_judged t s ss offset true e) ∙ h))
           ∙ sym (map-append (physical_or_0 t) (run_of s.va.0 s.len) (span_addresses ss))
       by_count false e others = absurd (refused (sym (first_judged t s ss offset false e) ∙ h))
         where
@@ -246,29 +300,38 @@ record IsWhole (rounded : Bool) (t : Translation) (spans : List Span) (es : List
   pub fine : judged_spans t 0 spans ≡ Fine
   pub are : es ≡ entries_of rounded t spans
 
-whole : (rounded : Bool) (t : Translation) (spans : List Span) (es : List Entry) → walk.All es ≡ spans_walk rounded t spans → IsWhole rounded t spans es
+whole : (rounded : Bool) (t : Translation) (spans : List Span) (es : List Entry) →
+    walk.All es ≡ spans_walk rounded t spans → IsWhole rounded t spans es
 whole rounded t spans es h = by_judgement (judged_spans t 0 spans) refl h
   where
-    by_judgement : (j : Judged) → judged_spans t 0 spans ≡ j → walk.All es ≡ walk_unless j (entries_of rounded t spans) → IsWhole rounded t spans es
+    by_judgement : (j : Judged) → judged_spans t 0 spans ≡ j →
+        walk.All es ≡ walk_unless j (entries_of rounded t spans) → IsWhole rounded t spans es
     by_judgement Fine e k = record { fine = e; are = cc }
     by_judgement (Refused r) e k = absurd (cc)
 
-module _ (Has : ℕ → Type 0) (rounded : Bool) (t : Translation) (spans : List Span) (es : List Entry) (is : IsPaged Has t) (h : walk.All es ≡ spans_walk rounded t spans) where
+module _ (Has : ℕ → Type 0) (rounded : Bool) (t : Translation) (spans : List Span) (es : List Entry)
+    (is : IsPaged Has t) (h : walk.All es ≡ spans_walk rounded t spans) where
   pub walk_bytes : entries_addresses es ≡ map (physical_or_0 t) (span_addresses spans)
-  walk_bytes = ap entries_addresses (whole rounded t spans es h).are ∙ entries_bytes Has rounded t is 0 spans (whole rounded t spans es h).fine
+  walk_bytes = ap entries_addresses (whole rounded t spans es h).are
+      ∙ entries_bytes Has rounded t is 0 spans (whole rounded t spans es h).fine
 
   pub walk_entries : AllByRecursion IsEntry es
-  walk_entries = subst (AllByRecursion IsEntry) (sym (whole rounded t spans es h).are) (entries_are Has rounded t is spans)
+  walk_entries =
+      subst (AllByRecursion IsEntry) (sym (whole rounded t spans es h).are) (entries_are Has rounded t is spans)
 
   pub walk_touches : AllByRecursion HasPart es
-  walk_touches = subst (AllByRecursion HasPart) (sym (whole rounded t spans es h).are) (entries_touch Has rounded t is spans)
+  walk_touches =
+      subst (AllByRecursion HasPart) (sym (whole rounded t spans es h).are) (entries_touch Has rounded t is spans)
 
   pub walk_have : AllByRecursion (λ e. AllByRecursion (λ x. Has x.pa.0) e.parts) es
-  walk_have = subst (AllByRecursion (λ e. AllByRecursion (λ x. Has x.pa.0) e.parts)) (sym (whole rounded t spans es h).are) (entries_have Has rounded t is spans)
+  walk_have =
+      subst (AllByRecursion (λ e. AllByRecursion (λ x. Has x.pa.0) e.parts))
+      (sym (whole rounded t spans es h).are) (entries_have Has rounded t is spans)
 
 -- ---- the walk at an index
 
-module _ (t : Translation) (es : List Entry) (offset : ℕ) (spans : List Span) (i : ℕ) (other : Span) (inside : i < length spans) where
+module _ (t : Translation) (es : List Entry) (offset : ℕ) (spans : List Span) (i : ℕ)
+    (other : Span) (inside : i < length spans) where
   abbrev pub this : Span
   this = get_or spans i other
 
@@ -284,5 +347,8 @@ module _ (t : Translation) (es : List Entry) (offset : ℕ) (spans : List Span) 
   bytes_here = first_bytes offset (drop i spans) this (drop (i + 1) spans) split
 
 -- the walk at the end
-pub walk_end : (t : Translation) (es all : List Entry) (offset : ℕ) (spans : List Span) (i : ℕ) → all ≡ es → length spans ≤ i → walk_from true t es offset (drop i spans) ≡ spans_walk true t spans → walk.All all ≡ spans_walk true t spans
-walk_end t es all offset spans i same h e = ap walk.All (same ∙ sym (append-nil es)) ∙ ap (walk_from true t es offset) (sym (drop_all i spans h)) ∙ e
+pub walk_end : (t : Translation) (es all : List Entry) (offset : ℕ) (spans : List Span) (i : ℕ) → all ≡ es →
+    length spans ≤ i → walk_from true t es offset (drop i spans)
+    ≡ spans_walk true t spans → walk.All all ≡ spans_walk true t spans
+walk_end t es all offset spans i same h e =
+    ap walk.All (same ∙ sym (append-nil es)) ∙ ap (walk_from true t es offset) (sym (drop_all i spans h)) ∙ e

@@ -1,5 +1,6 @@
 -- Bytes that are put at addresses one after the other, and at the addresses of a run.
-use Rattle.std.proofs.Common.{◌≡◌, ◌≢◌, ℕ, suc, ◌+◌, ◌-◌, ◌<◌, ◌≤◌, ◌==◌, true, cond, List, [], ◌∷◌, ◌++◌, length, map, take, drop, refl, sym, ap, ◌∙◌, inl, inr, arith, append_assoc, length-take, length-drop}
+use Rattle.std.proofs.Common.{◌≡◌, ◌≢◌, ℕ, suc, ◌+◌, ◌-◌, ◌<◌, ◌≤◌, ◌==◌, true, cond, List, [], ◌∷◌, ◌++◌, length, map}
+use Rattle.std.proofs.Common.{take, drop, refl, sym, ap, ◌∙◌, inl, inr, arith, append_assoc, length-take, length-drop}
 use Rattle.std.proofs.lemmas.Bool.{eq-eqb, ne_eqb, lt-ltb, le-leb, lt-leb, le-ltb, cases_lt}
 use Rattle.std.proofs.lemmas.List.{drop-drop, map-append}
 use Rattle.busdma_base.specs.Machine.Wire.{put}
@@ -38,7 +39,14 @@ written_more pa v bs w a = elim (cases_lt a pa) [
     | inr k ↦
         let e : a ≡ pa = omega arith in
         let d : pa - pa ≡ 0 = omega arith in
-        rw (e, le-leb pa pa (omega arith), lt-ltb pa (pa + suc (length bs)) (omega arith), lt-leb (pa + 1) pa (omega arith), eq_here pa, d) refl
+        rw (
+          e,
+          le-leb pa pa (omega arith),
+          lt-ltb pa (pa + suc (length bs)) (omega arith),
+          lt-leb (pa + 1) pa (omega arith),
+          eq_here pa,
+          d,
+        ) refl
   ]
 ]
 
@@ -57,19 +65,26 @@ written_run pa bs w = λ i a. (at pa bs w a) i
     at pa (v ∷ bs) w a = written_more pa v bs w a ∙ at (pa + 1) bs (λ b. cond (b == pa) v (w b)) a
 
 -- a part of the bytes is written, and the others are left to write
-pub part_written : (keys rest bytes : List ℕ) (pa n done k : ℕ) (w now : ℕ → ℕ) → keys ≡ run_of pa n ++ rest → k ≡ n → done + n ≤ length bytes → now ≡ written pa (take k (drop done bytes)) w
+pub part_written : (keys rest bytes : List ℕ) (pa n done k : ℕ) (w now : ℕ → ℕ) → keys ≡ run_of pa n ++ rest → k ≡ n →
+    done + n ≤ length bytes → now ≡ written pa (take k (drop done bytes)) w
     → put rest (drop (done + n) bytes) now ≡ put keys (drop done bytes) w
 part_written keys rest bytes pa n done k w now split same within is =
     let part = take n (drop done bytes) in
     let size : length part ≡ n = omega (arith, length-take n (drop done bytes), length-drop done bytes) in
-    let here : now ≡ put (run_of pa n) part w = is ∙ ap (λ j. written pa (take j (drop done bytes)) w) same ∙ written_run pa part w ∙ ap (λ j. put (run_of pa j) part w) size in
-    ap (put rest (drop (done + n) bytes)) here ∙ sym (ap (λ vs. put rest vs (put (run_of pa n) part w)) (drop-drop n done bytes))
-    ∙ sym (wired-append (run_of pa n) rest (drop done bytes) w ∙ ap (λ j. put rest (drop j (drop done bytes)) (put (run_of pa n) (take j (drop done bytes)) w)) (length-run_of pa n))
+    let here : now ≡ put (run_of pa n) part w = is ∙ ap (λ j. written pa (take j (drop done bytes)) w) same
+    ∙ written_run pa part w ∙ ap (λ j. put (run_of pa j) part w) size in
+    ap (put rest (drop (done + n) bytes)) here
+    ∙ sym (ap (λ vs. put rest vs (put (run_of pa n) part w)) (drop-drop n done bytes))
+    ∙ sym (wired-append (run_of pa n) rest (drop done bytes) w
+    ∙ ap (λ j. put rest (drop j (drop done bytes)) (put (run_of pa n) (take j (drop done bytes)) w))
+    (length-run_of pa n))
     ∙ sym (ap (λ ks. put ks (drop done bytes) w) split)
 
 -- a part of the bytes is read, and the others are left to read
-pub part_read : (keys rest : List ℕ) (pa n done : ℕ) (out now filled : List ℕ) (w : ℕ → ℕ) → keys ≡ run_of pa n ++ rest → filled ≡ take done out ++ now → now ≡ map w (run_of pa n)
+pub part_read : (keys rest : List ℕ) (pa n done : ℕ) (out now filled : List ℕ) (w : ℕ → ℕ) →
+    keys ≡ run_of pa n ++ rest → filled ≡ take done out ++ now → now ≡ map w (run_of pa n)
     → filled ++ map w rest ≡ take done out ++ map w keys
 part_read keys rest pa n done out now filled w split is e =
-    ap (λ xs. xs ++ map w rest) (is ∙ ap (λ xs. take done out ++ xs) e) ∙ append_assoc (take done out) (map w (run_of pa n)) (map w rest)
+    ap (λ xs. xs ++ map w rest) (is ∙ ap (λ xs. take done out ++ xs) e)
+    ∙ append_assoc (take done out) (map w (run_of pa n)) (map w rest)
     ∙ sym (ap (λ xs. take done out ++ xs) (ap (map w) split ∙ map-append w (run_of pa n) rest))

@@ -23,7 +23,8 @@ memory_of rows pages = record { table = from_entries rows; frames = from_entries
 
 -- the memory, with room for as many pages as both maps have room for
 abbrev pub roomy_of : Numbered Reach → Numbered FrameBytes → Roomy
-roomy_of table frames = record { memory = memory_of table.entries frames.entries; spare = min (spare table) (spare frames) }
+roomy_of table frames =
+    record { memory = memory_of table.entries frames.entries; spare = min (spare table) (spare frames) }
 
 -- each page stands at the number of its frame
 abbrev pub AtTheirFrames : List (ℕ × FrameBytes) → Type 0

@@ -16,7 +16,8 @@ use Rattle.phys_memory.specs.Translation.{Translation}
 -- entry opens with them or does not, and it is rounded or is not
 abbrev pub run_stream : List ℕ → ℕ → ℕ → Bool → Bool → List Part
 run_stream pas n offset opens rounded =
-    extent_parts opens rounded (extents_of pas) ++ (if length pas == n then [] else part.Unmapped (offset + length pas) ∷ [])
+    extent_parts opens rounded (extents_of pas)
+    ++ (if length pas == n then [] else part.Unmapped (offset + length pas) ∷ [])
 
 -- the stream of n bytes from a virtual address on, the first of them at an offset of the load
 abbrev pub flat_at : Bool → Translation → ℕ → ℕ → ℕ → List Part

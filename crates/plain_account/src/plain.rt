@@ -10,7 +10,8 @@ mod step;
 
 ghost use Rattle.std.specs.Prelude.{◌≡◌, [], IfOk, OnOk};
 ghost use Rattle.std.specs.List.{count_by};
-ghost use Rattle.busdma_base.specs.Bounce.Account.{fresh_account, zone_at, with_zone, active, reserved, free, total, counts};
+ghost use Rattle.busdma_base.specs.Bounce.Account.{fresh_account, zone_at, with_zone, active, reserved, free, total};
+ghost use Rattle.busdma_base.specs.Bounce.Account.{counts};
 
 use busdma_base::{MapId, Pa, Waiter, ZoneCounts, ZoneId};
 use std::alloc::{AllocError, Global};

@@ -10,7 +10,12 @@ use Rattle.busdma_base.specs.declared.journals.report.Errno.{Errno}
 use Rattle.busdma_base.specs.declared.journals.report.Errno.TheVariants.{EINVAL, ENOMEM, EFBIG, EINPROGRESS, EBUSY}
 use Rattle.busdma_base.specs.declared.journals.report.Report.{Report}
 use Rattle.busdma_base.specs.declared.journals.report.ReportName.{ReportName}
-use Rattle.busdma_base.specs.declared.journals.report.ReportName.TheVariants.{Absent, Unmapped, MapBusy, NotLoaded, PastEnd, DeviceReadUnlent, DeviceWriteUnlent, CpuReadLent, CpuWriteLent, StaleByte, SyncOrder, MixedSync, Overlap, NotDeferred, ForeignMemory}
+use Rattle.busdma_base.specs.declared.journals.report.ReportName.TheVariants.{Absent, Unmapped, MapBusy, NotLoaded}
+use Rattle.busdma_base.specs.declared.journals.report.ReportName.TheVariants.{PastEnd, DeviceReadUnlent}
+use Rattle.busdma_base.specs.declared.journals.report.ReportName.TheVariants.{DeviceWriteUnlent, CpuReadLent}
+use Rattle.busdma_base.specs.declared.journals.report.ReportName.TheVariants.{CpuWriteLent, StaleByte, SyncOrder}
+use Rattle.busdma_base.specs.declared.journals.report.ReportName.TheVariants.{MixedSync, Overlap, NotDeferred}
+use Rattle.busdma_base.specs.declared.journals.report.ReportName.TheVariants.{ForeignMemory}
 use Rattle.busdma_base.specs.declared.bounce.zone.Grown.{Grown}
 
 -- the name of an error

@@ -9,7 +9,8 @@ use Rattle.busdma_base.specs.declared.name.MapId.{MapId}
 use Rattle.busdma_base.specs.declared.scenarios.scenario.Scenario.{Scenario}
 use Rattle.busdma_base.specs.declared.scenarios.script.Item.{Item}
 use Rattle.busdma_base.specs.declared.scenarios.script.Op.{Op}
-use Rattle.busdma_base.specs.Scenarios.Operations.{Object, Makes, Uses, about, about_item, items_of, name_made_by, object_of}
+use Rattle.busdma_base.specs.Scenarios.Operations.{Object, Makes, Uses, about, about_item, items_of, name_made_by}
+use Rattle.busdma_base.specs.Scenarios.Operations.{object_of}
 use Rattle.busdma_base.specs.Scenarios.Words as word
 
 -- the script of a driver; it is empty where there is no such driver

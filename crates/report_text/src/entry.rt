@@ -25,7 +25,8 @@ fn push_entry(
     number: u64,
     entry: &JournalEntry,
 ) -> Result<(), AllocError>
-    ensures { OnOk result (string_bytes out.new ≡ string_bytes out.old ++ text.entry_line scenario.now number entry.now) }
+    ensures { OnOk result (string_bytes out.new ≡ string_bytes out.old
+        ++ text.entry_line scenario.now number entry.now) }
 {
     let side = side_letter(entry.actor.side);
     let lane = entry.actor.lane;
@@ -42,7 +43,8 @@ pub(crate) fn push_entries(
     scenario: &Scenario,
     entries: &[JournalEntry],
 ) -> Result<(), AllocError>
-    ensures { OnOk result (string_bytes out.new ≡ string_bytes out.old ++ numbered (text.entry_line scenario.now) 0 entries.now) }
+    ensures { OnOk result (string_bytes out.new ≡ string_bytes out.old
+        ++ numbered (text.entry_line scenario.now) 0 entries.now) }
 {
     for (number, entry) in entries.iter().enumerate() {
         push_entry(out, scenario, number as u64, entry)?;

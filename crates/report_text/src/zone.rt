@@ -10,14 +10,16 @@ use std::alloc::{AllocError, Global};
 
 #[tactic(auto, unfolding(crate::specs::Zone::value_line))]
 fn push_count(out: &mut String, zone: usize, name: &str, count: u64) -> Result<(), AllocError>
-    ensures { OnOk result (string_bytes out.new ≡ string_bytes out.old ++ text.value_line zone name.now (decimal count)) }
+    ensures { OnOk result (string_bytes out.new ≡ string_bytes out.old
+        ++ text.value_line zone name.now (decimal count)) }
 {
     writeln!(out, "hw.busdma.zone{zone}.{name}: {count}")
 }
 
 #[tactic(auto, unfolding(crate::specs::Zone::value_line))]
 fn push_address(out: &mut String, zone: usize, name: &str, address: Pa) -> Result<(), AllocError>
-    ensures { OnOk result (string_bytes out.new ≡ string_bytes out.old ++ text.value_line zone name.now (hex address.0)) }
+    ensures { OnOk result (string_bytes out.new ≡ string_bytes out.old
+        ++ text.value_line zone name.now (hex address.0)) }
 {
     let address = address.0;
     writeln!(out, "hw.busdma.zone{zone}.{name}: 0x{address:x}")

@@ -1,5 +1,7 @@
 -- Members of a set by its edges.
-use Rattle.std.proofs.Common.{◌≡◌, ℕ, zero, suc, ◌+◌, ◌-◌, ◌≤◌, ◌<◌, Bool, true, false, not, if◌then◌else◌, leb, ltb, eqb, ◌%◌, ◌&&◌, List, [], ◌∷◌, ◌++◌, length, take, drop, get_or, refl, sym, ap, subst, ◌∙◌, add-zero, arith}
+use Rattle.std.proofs.Common.{◌≡◌, ℕ, zero, suc, ◌+◌, ◌-◌, ◌≤◌, ◌<◌, Bool, true, false, not, if◌then◌else◌, leb, ltb}
+use Rattle.std.proofs.Common.{eqb, ◌%◌, ◌&&◌, List, [], ◌∷◌, ◌++◌, length, take, drop, get_or, refl, sym, ap, subst}
+use Rattle.std.proofs.Common.{◌∙◌, add-zero, arith}
 use Rattle.std.proofs.lemmas.Bool.{le-leb, lt-leb, leb-true, leb-false, ltb-true, ltb-false, le-ltb}
 use Rattle.std.proofs.lemmas.List.{take-append-drop, drop-drop, length-take-le, get_or-drop, take_all, length-drop}
 use Rattle.std.specs.List.Sorted.{IsNonDecreasingBy}
@@ -36,9 +38,11 @@ rises_nondecreasing lo hi (e ∷ es) h zero (suc j) d p q =
     let r : e + 1 ≤ get_or es j d = rises_from (e + 1) hi es h.1 j d (omega arith) in
     omega arith
 rises_nondecreasing lo hi (e ∷ es) h (suc i) zero d p q = absurd (omega arith)
-rises_nondecreasing lo hi (e ∷ es) h (suc i) (suc j) d p q = rises_nondecreasing (e + 1) hi es h.1 i j d (omega arith) (omega arith)
+rises_nondecreasing lo hi (e ∷ es) h (suc i) (suc j) d p q =
+    rises_nondecreasing (e + 1) hi es h.1 i j d (omega arith) (omega arith)
 
-pub rises_take : (es : List ℕ) (i lo hi n : ℕ) → lo ≤ n → Rises lo hi es → ((k : ℕ) → k < i → k < length es → get_or es k 0 < n) → Rises lo n (take i es)
+pub rises_take : (es : List ℕ) (i lo hi n : ℕ) → lo ≤ n → Rises lo hi es →
+    ((k : ℕ) → k < i → k < length es → get_or es k 0 < n) → Rises lo n (take i es)
 rises_take [] zero lo hi n p h f = p
 rises_take [] (suc i) lo hi n p h f = p
 rises_take (e ∷ es) zero lo hi n p h f = p
@@ -46,11 +50,13 @@ rises_take (e ∷ es) (suc i) lo hi n p h f =
     let q : e < n = f 0 (omega arith) (omega arith) in
     (h.0, rises_take es i (e + 1) hi n (omega arith) h.1 (λ k a b. f (suc k) (omega arith) (omega arith)))
 
-pub rises_drop : (es : List ℕ) (i lo hi n : ℕ) → n ≤ hi → Rises lo hi es → ((k : ℕ) → i ≤ k → k < length es → n ≤ get_or es k 0) → Rises n hi (drop i es)
+pub rises_drop : (es : List ℕ) (i lo hi n : ℕ) → n ≤ hi → Rises lo hi es →
+    ((k : ℕ) → i ≤ k → k < length es → n ≤ get_or es k 0) → Rises n hi (drop i es)
 rises_drop [] zero lo hi n p h f = p
 rises_drop [] (suc i) lo hi n p h f = p
 rises_drop (e ∷ es) zero lo hi n p h f = (f 0 (omega arith) (omega arith), h.1)
-rises_drop (e ∷ es) (suc i) lo hi n p h f = rises_drop es i (e + 1) hi n p h.1 (λ k a b. f (suc k) (omega arith) (omega arith))
+rises_drop (e ∷ es) (suc i) lo hi n p h f =
+    rises_drop es i (e + 1) hi n p h.1 (λ k a b. f (suc k) (omega arith) (omega arith))
 
 differ-assoc : (a b c : Bool) → differ a (differ b c) ≡ differ (differ a b) c
 differ-assoc false b c = refl
@@ -60,7 +66,8 @@ differ-assoc true true true = refl
 
 pub member-append : (xs ys : List ℕ) (n : ℕ) → member (xs ++ ys) n ≡ differ (member xs n) (member ys n)
 member-append [] ys n = refl
-member-append (x ∷ xs) ys n = ap (differ (leb x n)) (member-append xs ys n) ∙ differ-assoc (leb x n) (member xs n) (member ys n)
+member-append (x ∷ xs) ys n =
+    ap (differ (leb x n)) (member-append xs ys n) ∙ differ-assoc (leb x n) (member xs n) (member ys n)
 
 pub member_above : (lo hi n : ℕ) (es : List ℕ) → Rises lo hi es → n < lo → member es n ≡ false
 member_above lo hi n [] h p = refl
@@ -92,7 +99,9 @@ inside_run false true = refl
 inside_run true false = refl
 inside_run true true = refl
 
-behind_run : (before is_in odds rest : Bool) → differ before (differ (differ before is_in) (differ (differ (differ before odds) is_in) rest)) ≡ differ before (differ odds rest)
+behind_run : (before is_in odds rest : Bool) →
+    differ before (differ (differ before is_in) (differ (differ (differ before odds) is_in) rest))
+    ≡ differ before (differ odds rest)
 behind_run false false false rest = refl
 behind_run false false true rest = refl
 behind_run false true false false = refl
@@ -106,14 +115,17 @@ behind_run true true false rest = refl
 behind_run true true true false = refl
 behind_run true true true true = refl
 
-member-four : (a b c d : List ℕ) (n : ℕ) (x y z w : Bool) → member a n ≡ x → member b n ≡ y → member c n ≡ z → member d n ≡ w → member (a ++ (b ++ (c ++ d))) n ≡ differ x (differ y (differ z w))
+member-four : (a b c d : List ℕ) (n : ℕ) (x y z w : Bool) → member a n ≡ x → member b n ≡ y → member c n ≡ z →
+    member d n ≡ w → member (a ++ (b ++ (c ++ d))) n ≡ differ x (differ y (differ z w))
 member-four a b c d n x y z w p q r s = rw (member-append a, member-append b, member-append c, p, q, r, s)
 
-member-three : (a b c : List ℕ) (n : ℕ) (x y z : Bool) → member a n ≡ x → member b n ≡ y → member c n ≡ z → member (a ++ (b ++ c)) n ≡ differ x (differ y z)
+member-three : (a b c : List ℕ) (n : ℕ) (x y z : Bool) → member a n ≡ x → member b n ≡ y → member c n ≡ z →
+    member (a ++ (b ++ c)) n ≡ differ x (differ y z)
 member-three a b c n x y z p q r = rw (member-append a, member-append b, p, q, r)
 
 -- edges in three parts: those before the run, those of it, and those behind it
-module _ (s e hi : ℕ) (before inside behind : List ℕ) (is_in : Bool) (p : s < e) (r : Rises 0 s before) (m : Rises s (e + 1) inside) (b : Rises (e + 1) hi behind) where
+module _ (s e hi : ℕ) (before inside behind : List ℕ) (is_in : Bool) (p : s < e) (r : Rises 0 s before)
+    (m : Rises s (e + 1) inside) (b : Rises (e + 1) hi behind) where
   abbrev odds : Bool
   odds = odd (length before)
 
@@ -129,55 +141,75 @@ module _ (s e hi : ℕ) (before inside behind : List ℕ) (is_in : Bool) (p : s 
       (rises-append s (s + 1) hi first _ (rises_edge s s _ (omega arith))
       (rises-append (s + 1) (e + 1) hi last behind (rises_edge (s + 1) e _ (omega arith)) b))
 
-  set_before : (n : ℕ) → n < s → member (before ++ (first ++ (last ++ behind))) n ≡ member (before ++ (inside ++ behind)) n
+  set_before : (n : ℕ) → n < s → member (before ++ (first ++ (last ++ behind))) n
+      ≡ member (before ++ (inside ++ behind)) n
   set_before n q =
-      member-four before first last behind n _ _ _ _ refl (edge_above s n _ q) (edge_above e n _ (omega arith)) (member_above (e + 1) hi n behind b (omega arith))
-      ∙ sym (member-three before inside behind n _ _ _ refl (member_above s (e + 1) n inside m q) (member_above (e + 1) hi n behind b (omega arith)))
+      member-four before first last behind n _ _ _ _ refl (edge_above s n _ q) (edge_above e n _ (omega arith))
+      (member_above (e + 1) hi n behind b (omega arith))
+      ∙ sym (member-three before inside behind n _ _ _ refl (member_above s (e + 1) n inside m q)
+      (member_above (e + 1) hi n behind b (omega arith)))
 
   set_in : (n : ℕ) → s ≤ n → n < e → member (before ++ (first ++ (last ++ behind))) n ≡ is_in
   set_in n q t =
-      member-four before first last behind n _ _ _ _ (member_below 0 s n before r (omega arith)) (edge_below s n _ q) (edge_above e n _ t) (member_above (e + 1) hi n behind b (omega arith))
+      member-four before first last behind n _ _ _ _ (member_below 0 s n before r (omega arith)) (edge_below s n _ q)
+      (edge_above e n _ t) (member_above (e + 1) hi n behind b (omega arith))
       ∙ inside_run odds is_in
 
-  set_behind : (n : ℕ) → e ≤ n → member (before ++ (first ++ (last ++ behind))) n ≡ member (before ++ (inside ++ behind)) n
+  set_behind : (n : ℕ) → e ≤ n → member (before ++ (first ++ (last ++ behind))) n
+      ≡ member (before ++ (inside ++ behind)) n
   set_behind n q =
-      member-four before first last behind n _ _ _ _ (member_below 0 s n before r (omega arith)) (edge_below s n _ (omega arith)) (edge_below e n _ q) refl
+      member-four before first last behind n _ _ _ _ (member_below 0 s n before r (omega arith))
+      (edge_below s n _ (omega arith)) (edge_below e n _ q) refl
       ∙ behind_run odds is_in (odd (length inside)) (member behind n)
-      ∙ sym (member-three before inside behind n _ _ _ (member_below 0 s n before r (omega arith)) (member_below s (e + 1) n inside m (omega arith)) refl)
+      ∙ sym (member-three before inside behind n _ _ _ (member_below 0 s n before r (omega arith))
+      (member_below s (e + 1) n inside m (omega arith)) refl)
 
-  by_run : (n : ℕ) (t u : Bool) → leb s n ≡ t → ltb n e ≡ u → member (before ++ (first ++ (last ++ behind))) n ≡ (if t && u then is_in else member (before ++ (inside ++ behind)) n)
+  by_run : (n : ℕ) (t u : Bool) → leb s n ≡ t → ltb n e ≡ u →
+      member (before ++ (first ++ (last ++ behind))) n
+      ≡ (if t && u then is_in else member (before ++ (inside ++ behind)) n)
   by_run n false u x y = set_before n (leb-false s n x)
   by_run n true true x y = set_in n (leb-true s n x) (ltb-true n e y)
   by_run n true false x y = set_behind n (ltb-false n e y)
 
-  pub members_set : (n : ℕ) → member (before ++ (first ++ (last ++ behind))) n ≡ (if in_run s e n then is_in else member (before ++ (inside ++ behind)) n)
+  pub members_set : (n : ℕ) → member (before ++ (first ++ (last ++ behind))) n
+      ≡ (if in_run s e n then is_in else member (before ++ (inside ++ behind)) n)
   members_set n = by_run n (leb s n) (ltb n e) refl refl
 
 -- the edges after a change
 abbrev pub edges_set : ℕ → ℕ → ℕ → ℕ → Bool → List ℕ → List ℕ
-edges_set s e i k is_in es = take i es ++ (edge_if (differ (odd i) is_in) s ++ (edge_if (differ (differ (odd i) (odd k)) is_in) e ++ drop (i + k) es))
+edges_set s e i k is_in es =
+    take i es ++ (edge_if (differ (odd i) is_in) s
+    ++ (edge_if (differ (differ (odd i) (odd k)) is_in) e ++ drop (i + k) es))
 
 three_parts : (i k : ℕ) (es : List ℕ) → take i es ++ (take k (drop i es) ++ drop k (drop i es)) ≡ es
 three_parts i k es = ap (λ xs. take i es ++ xs) (take-append-drop k (drop i es)) ∙ take-append-drop i es
 
-module _ (s e hi i k : ℕ) (is_in : Bool) (es : List ℕ) (p : s < e) (is : i ≤ length es) (ks : k ≤ length (drop i es)) (r : Rises 0 s (take i es)) (m : Rises s (e + 1) (take k (drop i es))) (b : Rises (e + 1) hi (drop k (drop i es))) where
+module _ (s e hi i k : ℕ) (is_in : Bool) (es : List ℕ) (p : s < e) (is : i ≤ length es) (ks : k ≤ length (drop i es))
+    (r : Rises 0 s (take i es)) (m : Rises s (e + 1) (take k (drop i es)))
+    (b : Rises (e + 1) hi (drop k (drop i es))) where
   abbrev spliced : ℕ → ℕ → List ℕ → List ℕ
-  spliced x y rest = take i es ++ (edge_if (differ (odd x) is_in) s ++ (edge_if (differ (differ (odd x) (odd y)) is_in) e ++ rest))
+  spliced x y rest =
+      take i es ++ (edge_if (differ (odd x) is_in) s ++ (edge_if (differ (differ (odd x) (odd y)) is_in) e ++ rest))
 
   same : spliced (length (take i es)) (length (take k (drop i es))) (drop k (drop i es)) ≡ edges_set s e i k is_in es
   same =
       ap (λ x. spliced x (length (take k (drop i es))) (drop k (drop i es))) (length-take-le i es is)
-      ∙ ap (λ y. spliced i y (drop k (drop i es))) (length-take-le k (drop i es) ks) ∙ ap (spliced i k) (drop-drop k i es)
+      ∙ ap (λ y. spliced i y (drop k (drop i es))) (length-take-le k (drop i es) ks)
+      ∙ ap (spliced i k) (drop-drop k i es)
 
   pub rises_edges_set : Rises 0 hi (edges_set s e i k is_in es)
-  rises_edges_set = subst (Rises 0 hi) same (rises_set s e hi (take i es) (take k (drop i es)) (drop k (drop i es)) is_in p r m b)
+  rises_edges_set =
+      subst (Rises 0 hi) same (rises_set s e hi (take i es) (take k (drop i es)) (drop k (drop i es)) is_in p r m b)
 
-  pub members_edges_set : (n : ℕ) → member (edges_set s e i k is_in es) n ≡ (if in_run s e n then is_in else member es n)
+  pub members_edges_set : (n : ℕ) → member (edges_set s e i k is_in es) n
+      ≡ (if in_run s e n then is_in else member es n)
   members_edges_set n =
-      ap (λ xs. member xs n) (sym same) ∙ members_set s e hi (take i es) (take k (drop i es)) (drop k (drop i es)) is_in p r m b n
+      ap (λ xs. member xs n) (sym same) ∙ members_set s e hi (take i es) (take k (drop i es))
+      (drop k (drop i es)) is_in p r m b n
       ∙ ap (λ xs. if in_run s e n then is_in else member xs n) (three_parts i k es)
 
-  pub finite_edges_set : Rises 0 hi es → e ≤ hi → odd (length es) ≡ false → odd (length (edges_set s e i k is_in es)) ≡ false
+  pub finite_edges_set : Rises 0 hi es → e ≤ hi → odd (length es) ≡ false →
+      odd (length (edges_set s e i k is_in es)) ≡ false
   finite_edges_set h l f =
       sym (member_below 0 hi hi (edges_set s e i k is_in es) rises_edges_set (omega arith)) ∙ members_edges_set hi
       ∙ outside (leb s hi) (ltb hi e) (le-ltb hi e l) ∙ member_below 0 hi hi es h (omega arith) ∙ f
@@ -186,7 +218,8 @@ module _ (s e hi i k : ℕ) (is_in : Bool) (es : List ℕ) (p : s < e) (is : i �
       outside false u x = refl
       outside true u x = ap (λ b. if b then is_in else member es hi) x
 
-module _ (c start end hi : ℕ) (es : List ℕ) (small : c ≤ length es) (p : Rises 0 (start + 1) (take c es)) (q : Rises (start + 1) hi (drop c es)) where
+module _ (c start end hi : ℕ) (es : List ℕ) (small : c ≤ length es) (p : Rises 0 (start + 1) (take c es))
+    (q : Rises (start + 1) hi (drop c es)) where
   above_start : (rest : List ℕ) → Rises (start + 1) hi rest → (n : ℕ) → n < get_or rest 0 end → member rest n ≡ false
   above_start [] h n u = refl
   above_start (f ∷ fs) h n u = member_above f hi n (f ∷ fs) (omega arith, h.1) u
@@ -194,7 +227,8 @@ module _ (c start end hi : ℕ) (es : List ℕ) (small : c ≤ length es) (p : R
   split : (n : ℕ) → start ≤ n → member es n ≡ differ (odd c) (member (drop c es) n)
   split n t =
       ap (λ xs. member xs n) (sym (take-append-drop c es)) ∙ member-append (take c es) (drop c es) n
-      ∙ ap (λ b. differ b (member (drop c es) n)) (member_below 0 (start + 1) n (take c es) p (omega arith) ∙ ap odd (length-take-le c es small))
+      ∙ ap (λ b. differ b (member (drop c es) n)) (member_below 0 (start + 1) n (take c es) p (omega arith)
+      ∙ ap odd (length-take-le c es small))
 
   differ-false : (b : Bool) → differ b false ≡ b
   differ-false false = refl
@@ -205,25 +239,34 @@ module _ (c start end hi : ℕ) (es : List ℕ) (small : c ≤ length es) (p : R
   differ-true true = refl
 
   pub at_start : member es start ≡ odd c
-  at_start = split start (omega arith) ∙ ap (differ (odd c)) (member_above (start + 1) hi start (drop c es) q (omega arith)) ∙ differ-false (odd c)
+  at_start =
+      split start (omega arith) ∙ ap (differ (odd c)) (member_above (start + 1) hi start (drop c es) q (omega arith))
+      ∙ differ-false (odd c)
 
   first_edge : get_or (drop c es) 0 end ≡ get_or es c end
   first_edge = get_or-drop c es 0 end ∙ ap (λ k. get_or es k end) (add-zero c)
 
   pub until_turn : (n : ℕ) → start ≤ n → n < get_or es c end → member es n ≡ odd c
-  until_turn n t u = split n t ∙ ap (differ (odd c)) (above_start (drop c es) q n (subst (λ f. n < f) (sym first_edge) u)) ∙ differ-false (odd c)
+  until_turn n t u =
+      split n t ∙ ap (differ (odd c)) (above_start (drop c es) q n (subst (λ f. n < f) (sym first_edge) u))
+      ∙ differ-false (odd c)
 
-  turns : (rest : List ℕ) → Rises (start + 1) hi rest → get_or rest 0 end < end → (start < get_or rest 0 end) × (member rest (get_or rest 0 end) ≡ true)
+  turns : (rest : List ℕ) → Rises (start + 1) hi rest → get_or rest 0 end < end → (start < get_or rest 0 end)
+      × (member rest (get_or rest 0 end) ≡ true)
   turns [] h u = absurd (omega arith)
   turns (f ∷ fs) h u =
-      let l : start + 1 ≤ f = h.0 in
-      (omega arith, ap (λ b. differ b (member fs f)) (le-leb f f (omega arith)) ∙ ap not (member_above (f + 1) hi f fs h.1 (omega arith)))
+      let l : start + 1 ≤ f = h.0 in (
+        omega arith,
+        ap (λ b. differ b (member fs f)) (le-leb f f (omega arith))
+            ∙ ap not (member_above (f + 1) hi f fs h.1 (omega arith)),
+      )
 
   pub at_turn : get_or es c end < end → (start < get_or es c end) × (member es (get_or es c end) ≡ not (odd c))
   at_turn u =
       let found = turns (drop c es) q (subst (λ f. f < end) (sym first_edge) u) in
       let above : start < get_or es c end = subst (λ f. start < f) first_edge found.0 in
-      let is : member (drop c es) (get_or es c end) ≡ true = subst (λ f. member (drop c es) f ≡ true) first_edge found.1 in
+      let is : member (drop c es) (get_or es c end) ≡ true =
+      subst (λ f. member (drop c es) f ≡ true) first_edge found.1 in
       (above, split (get_or es c end) (omega arith) ∙ ap (differ (odd c)) is ∙ differ-true (odd c))
 
 flip : (a b : ℕ) → a < 2 → b < 2 → a + b ≡ 1 → eqb a 1 ≡ not (eqb b 1)

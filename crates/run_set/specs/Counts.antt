@@ -11,7 +11,8 @@ pub record Counts : Type 0 where
 
 abbrev pub counts_code : Coded Counts
 counts_code =
-    code_by (List ℕ × (List ℕ × ℕ)) (coded× (coded_list coded_ℕ) (coded× (coded_list coded_ℕ) coded_ℕ)) (λ s. (s.starts, (s.ends, s.room)))
+    code_by (List ℕ × (List ℕ × ℕ)) (coded× (coded_list coded_ℕ) (coded× (coded_list coded_ℕ) coded_ℕ))
+    (λ s. (s.starts, (s.ends, s.room)))
     (λ p. record { starts = p.0; ends = p.1.0; room = p.1.1 }) (λ _. refl)
 
 -- how many runs hold n

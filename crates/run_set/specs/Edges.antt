@@ -1,5 +1,6 @@
 -- Sets of numbers by their edges: the numbers at which membership turns, in rising order.
-use Rattle.std.specs.Prelude.{◌≡◌, ℕ, zero, suc, ◌+◌, ◌≤◌, ◌<◌, ◌^◌, Bool, true, false, not, ◌&&◌, nat_le, nat_lt, List, [], ◌∷◌, length, Option, refl}
+use Rattle.std.specs.Prelude.{◌≡◌, ℕ, zero, suc, ◌+◌, ◌≤◌, ◌<◌, ◌^◌, Bool, true, false, not, ◌&&◌, nat_le, nat_lt}
+use Rattle.std.specs.Prelude.{List, [], ◌∷◌, length, Option, refl}
 use Rattle.std.specs.Option.{MatchOption}
 use Rattle.std.specs.Coded.{Coded, code_by, coded×, coded_ℕ, coded_list}
 
@@ -9,7 +10,9 @@ pub record Edges : Type 0 where
   pub room : ℕ
 
 abbrev pub edges_code : Coded Edges
-edges_code = code_by (List ℕ × ℕ) (coded× (coded_list coded_ℕ) coded_ℕ) (λ s. (s.edges, s.room)) (λ p. record { edges = p.0; room = p.1 }) (λ _. refl)
+edges_code =
+    code_by (List ℕ × ℕ) (coded× (coded_list coded_ℕ) coded_ℕ) (λ s. (s.edges, s.room))
+    (λ p. record { edges = p.0; room = p.1 }) (λ _. refl)
 
 -- one of the two, and not both
 abbrev pub differ : Bool → Bool → Bool
@@ -51,4 +54,5 @@ NoneIn set is_in start end = (n : ℕ) → start ≤ n → n < end → set n ≡
 -- the least number of the run that is in the set, or, where is_in is false, out of it
 abbrev pub IsFirst : (ℕ → Bool) → Bool → ℕ → ℕ → Option ℕ → Type 0
 IsFirst set is_in start end first =
-    MatchOption first (NoneIn set is_in start end) (λ f. (start ≤ f) × (f < end) × (set f ≡ is_in) × NoneIn set is_in start f)
+    MatchOption first (NoneIn set is_in start end) (λ f. (start ≤ f) × (f < end)
+    × (set f ≡ is_in) × NoneIn set is_in start f)

@@ -28,7 +28,11 @@ impl Model for RunCounts {
 
     ghost coded = { counts_code };
 
-    ghost view = { λ s. record { starts = s.starts.items; ends = s.ends.items; room = min (vec_capacity s.starts - length s.starts.items) (vec_capacity s.ends - length s.ends.items) } };
+    ghost view = { λ s. record {
+      starts = s.starts.items;
+      ends = s.ends.items;
+      room = min (vec_capacity s.starts - length s.starts.items) (vec_capacity s.ends - length s.ends.items);
+    } };
 
     ghost invariant = { λ s. IsBalanced s.starts.items s.ends.items };
 }

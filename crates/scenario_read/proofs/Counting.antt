@@ -10,13 +10,16 @@ use Rattle.scenario_read.specs.declared.counts.Counts.{Counts}
 use Rattle.scenario_read.specs.Counts.{with_op, with_ops, with_items, stepped, having_read, IsQuiet}
 
 same : (a b c a' b' c' : ℕ) → a ≡ a' → b ≡ b' → c ≡ c'
-    → let x : Counts = record { steps = a; read = b; loaded = c } in let y : Counts = record { steps = a'; read = b'; loaded = c' } in x ≡ y
+    → let x : Counts = record { steps = a; read = b; loaded = c } in let y : Counts =
+    record { steps = a'; read = b'; loaded = c' } in x ≡ y
 same a b c a' b' c' p q r = cc
 
 pub with_op_quiet : (c : Counts) (o : Op) → IsQuiet o → c ≡ with_op c o
-with_op_quiet c o h = same _ _ _ _ _ _ (omega (arith, h.no_items)) (omega (arith, h.reads_nothing)) (omega (arith, h.loads_nothing))
+with_op_quiet c o h =
+    same _ _ _ _ _ _ (omega (arith, h.no_items)) (omega (arith, h.reads_nothing)) (omega (arith, h.loads_nothing))
 
-pub with_ops_more : (c : Counts) (ops : List Op) (o : Op) → with_op (stepped (with_ops c ops)) o ≡ with_ops c (ops ++ o ∷ [])
+pub with_ops_more : (c : Counts) (ops : List Op) (o : Op) →
+    with_op (stepped (with_ops c ops)) o ≡ with_ops c (ops ++ o ∷ [])
 with_ops_more c ops o =
     same _ _ _ _ _ _
     (rw (length-append ops (o ∷ []), sum_by-append (λ p. length (items_of p)) ops (o ∷ [])) (omega arith))
@@ -26,14 +29,17 @@ with_ops_more c ops o =
 pub with_items_more : (c : Counts) (items : List Item) (i : Item)
     → having_read (stepped (with_items c items)) (read_by_item i) ≡ with_items c (items ++ i ∷ [])
 with_items_more c items i =
-    same _ _ _ _ _ _ (rw (length-append items (i ∷ [])) (omega arith)) (rw (sum_by-append read_by_item items (i ∷ [])) (omega arith)) refl
+    same _ _ _ _ _ _ (rw (length-append items (i ∷ [])) (omega arith))
+    (rw (sum_by-append read_by_item items (i ∷ [])) (omega arith)) refl
 
 pub read_more : (new old : Counts) (ds : List Driver) (d : Driver)
     → new ≡ with_ops old d.script → old.read ≡ read_of ds → new.read ≡ read_of (ds ++ d ∷ [])
 read_more new old ds d e h =
-    ap (λ (k : Counts). k.read) e ∙ rw (sum_by-append (λ (x : Driver). sum_by read_by x.script) ds (d ∷ [])) (omega (arith, h))
+    ap (λ (k : Counts). k.read) e
+    ∙ rw (sum_by-append (λ (x : Driver). sum_by read_by x.script) ds (d ∷ [])) (omega (arith, h))
 
 pub loaded_more : (new old : Counts) (ds : List Driver) (d : Driver)
     → new ≡ with_ops old d.script → old.loaded ≡ loaded_of ds → new.loaded ≡ loaded_of (ds ++ d ∷ [])
 loaded_more new old ds d e h =
-    ap (λ (k : Counts). k.loaded) e ∙ rw (sum_by-append (λ (x : Driver). sum_by loaded_by x.script) ds (d ∷ [])) (omega (arith, h))
+    ap (λ (k : Counts). k.loaded) e
+    ∙ rw (sum_by-append (λ (x : Driver). sum_by loaded_by x.script) ds (d ∷ [])) (omega (arith, h))

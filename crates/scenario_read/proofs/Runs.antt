@@ -9,7 +9,8 @@ use Rattle.busdma_base.specs.Machine.PageRuns.{all_in}
 within : (x : ℕ) (run : FrameRun) → run.first ≤ x → x < run.first + run.count → is_in x run ≡ true
 within x run low high = grind (arith, nat_tests)
 
-module _ (frames : List FrameRun) (run : FrameRun) (has : (x : ℕ) → is_in x run ≡ true → list_any (is_in x) frames ≡ true) where
+module _ (frames : List FrameRun) (run : FrameRun) (has : (x : ℕ) →
+    is_in x run ≡ true → list_any (is_in x) frames ≡ true) where
   pub jump : (step rest next : ℕ) → run.first ≤ next → next + step ≤ run.first + run.count
       → all_in frames next (step + rest) ≡ all_in frames (next + step) rest
   jump zero rest next low high =

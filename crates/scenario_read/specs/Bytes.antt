@@ -1,5 +1,6 @@
 -- Where an operation works, and what it writes.
-use Rattle.std.specs.Prelude.{ℕ, ◌+◌, ◌%◌, Bool, true, false, Option, Some, None, Ok, if◌then◌else◌, nat_lt, is_some, codes}
+use Rattle.std.specs.Prelude.{ℕ, ◌+◌, ◌%◌, Bool, true, false, Option, Some, None, Ok, if◌then◌else◌, nat_lt, is_some}
+use Rattle.std.specs.Prelude.{codes}
 use Rattle.busdma_base.specs.declared.scenarios.script.Place.{Place as Target}
 use Rattle.busdma_base.specs.declared.scenarios.script.Place.TheVariants.{At}
 use Rattle.busdma_base.specs.declared.scenarios.script.Bytes.{Bytes}

@@ -20,15 +20,22 @@ counts_of earlier = record { steps = 0; read = read_of earlier; loaded = loaded_
 
 -- behind operations
 abbrev pub with_ops : Counts → List Op → Counts
-with_ops c ops = record { steps = c.steps + steps_of ops; read = c.read + sum_by read_by ops; loaded = c.loaded + sum_by loaded_by ops }
+with_ops c ops =
+    record {
+      steps = c.steps + steps_of ops;
+      read = c.read + sum_by read_by ops;
+      loaded = c.loaded + sum_by loaded_by ops;
+    }
 
 -- behind an operation whose own step is counted already
 abbrev pub with_op : Counts → Op → Counts
-with_op c o = record { steps = c.steps + length (items_of o); read = c.read + read_by o; loaded = c.loaded + loaded_by o }
+with_op c o =
+    record { steps = c.steps + length (items_of o); read = c.read + read_by o; loaded = c.loaded + loaded_by o }
 
 -- behind items
 abbrev pub with_items : Counts → List Item → Counts
-with_items c items = record { steps = c.steps + length items; read = c.read + sum_by read_by_item items; loaded = c.loaded }
+with_items c items =
+    record { steps = c.steps + length items; read = c.read + sum_by read_by_item items; loaded = c.loaded }
 
 -- behind one more step
 abbrev pub stepped : Counts → Counts

@@ -37,7 +37,8 @@ flag_at kind here = text_at here >>= (λ word. bits_or here.place (word_bits kin
 -- the words from the n-th on add their bits, in any order and as often as they like
 abbrev pub flags_from : FlagSet → Spot → ℕ → ℕ → List Data → Read ℕ
 flags_from kind here n bits [] = Ok bits
-flags_from kind here n bits (d ∷ ds) = flag_at kind (item_of here n d) >>= (λ more. flags_from kind here (n + 1) (bit_or bits more) ds)
+flags_from kind here n bits (d ∷ ds) =
+    flag_at kind (item_of here n d) >>= (λ more. flags_from kind here (n + 1) (bit_or bits more) ds)
 
 -- the bits of all words of a list
 unfoldable pub flags_at : FlagSet → Spot → Read ℕ

@@ -19,13 +19,15 @@ number_within place d = number_at (record { place = place; value = d })
 
 -- a run has at least one frame
 abbrev pub run_of : Place → ℕ → ℕ → Read FrameRun
-run_of place first count = if nat_le 1 count then Ok (record { first = first; count = count }) else refuse BadField place
+run_of place first count =
+    if nat_le 1 count then Ok (record { first = first; count = count }) else refuse BadField place
 
 -- a list of two numbers
 abbrev pub run_in : Place → List Data → Read FrameRun
 run_in place [] = refuse BadField place
 run_in place (a ∷ []) = refuse BadField place
-run_in place (a ∷ b ∷ []) = number_within place a >>= (λ first. number_within place b >>= (λ count. run_of place first count))
+run_in place (a ∷ b ∷ []) =
+    number_within place a >>= (λ first. number_within place b >>= (λ count. run_of place first count))
 run_in place (a ∷ b ∷ c ∷ more) = refuse BadField place
 
 -- the limit on frame numbers, the limit on all frames, and no frame of an earlier run

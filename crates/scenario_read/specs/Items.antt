@@ -49,7 +49,8 @@ dev_read_at before c here =
 -- a write of the device
 unfoldable pub dev_write_at : List Op → Spot → Read Item
 dev_write_at before here =
-    only_keys (one_of (codes "op" ∷ codes "map" ∷ codes "off" ∷ codes "hex" ∷ codes "fill" ∷ codes "len" ∷ [])) here >>= (λ _.
+    only_keys (one_of (codes "op" ∷ codes "map" ∷ codes "off" ∷ codes "hex" ∷ codes "fill" ∷ codes "len" ∷ [])) here
+    >>= (λ _.
     used_name kind.Map (codes "map") before here >>= (λ map.
     number_field (codes "off") here >>= (λ off.
     written_at here >>= (λ bytes.

@@ -53,7 +53,8 @@ limits_at here =
 -- the making of a tag
 unfoldable pub tag_at : List Op → Spot → Read Op
 tag_at before here =
-    only_keys (one_of (codes "op" ∷ codes "name" ∷ codes "parent" ∷ codes "highaddr" ∷ codes "maxsize" ∷ codes "maxsegsz" ∷ codes "flags" ∷ [])) here >>= (λ _.
+    only_keys (one_of (codes "op" ∷ codes "name" ∷ codes "parent" ∷ codes "highaddr" ∷ codes "maxsize"
+    ∷ codes "maxsegsz" ∷ codes "flags" ∷ [])) here >>= (λ _.
     new_name (codes "name") before here >>= (λ name.
     parent_or_none before (field (codes "parent") here) >>= (λ parent.
     limits_at here >>= (λ limits.
@@ -93,7 +94,8 @@ load_head_at before here =
 -- a load: its length is judged behind its other fields, and before its items
 unfoldable pub load_at : List Op → Counts → Spot → Read Op
 load_at before c here =
-    only_keys (one_of (codes "op" ∷ codes "map" ∷ codes "va" ∷ codes "len" ∷ codes "flags" ∷ codes "then" ∷ [])) here >>= (λ _.
+    only_keys (one_of (codes "op" ∷ codes "map" ∷ codes "va" ∷ codes "len" ∷ codes "flags" ∷ codes "then" ∷ [])) here
+    >>= (λ _.
     load_head_at before here >>= (λ head.
     load_judged c head.len here.place >>= (λ _.
     then_field before (having_loaded c head.len) here >>= (λ items.

@@ -1,5 +1,6 @@
 -- The order of the actors' steps.
-use Rattle.std.specs.Prelude.{ℕ, ◌+◌, ◌*◌, ◌-◌, ◌==◌, ◌&&◌, ◌||◌, List, [], ◌∷◌, length, Option, Some, None, option_and_then, Ok, if◌then◌else◌, nat_le, nat_lt, not, slice_index, codes}
+use Rattle.std.specs.Prelude.{ℕ, ◌+◌, ◌*◌, ◌-◌, ◌==◌, ◌&&◌, ◌||◌, List, [], ◌∷◌, length, Option, Some, None}
+use Rattle.std.specs.Prelude.{option_and_then, Ok, if◌then◌else◌, nat_le, nat_lt, not, slice_index, codes}
 use Rattle.serde_json.specs.Data.{Data}
 use Rattle.busdma_base.specs.declared.journals.journal.Actor.{Actor}
 use Rattle.busdma_base.specs.declared.journals.journal.Side.{Side}
@@ -45,7 +46,9 @@ lane_of drivers s = option_and_then (λ n. if nat_lt n drivers then Some n else 
 abbrev pub actor_of : ℕ → List ℕ → Option Actor
 actor_of drivers [] = None
 actor_of drivers (b ∷ bs) =
-    option_and_then (λ s. option_and_then (λ n. Some (record { lane = record { 0 = n }; side = s })) (lane_of drivers bs)) (side_of b)
+    option_and_then
+    (λ s. option_and_then (λ n. Some (record { lane = record { 0 = n }; side = s })) (lane_of drivers bs))
+    (side_of b)
 
 -- an actor of the order
 unfoldable pub actor_at : ℕ → Spot → Read Actor

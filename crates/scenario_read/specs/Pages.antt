@@ -1,5 +1,6 @@
 -- The pages of a driver, as they are read.
-use Rattle.std.specs.Prelude.{◌≡◌, ℕ, ◌+◌, ◌≤◌, ◌*◌, ◌%◌, ◌&&◌, ◌||◌, ◌==◌, List, [], ◌∷◌, not, Ok, if◌then◌else◌, nat_le}
+use Rattle.std.specs.Prelude.{◌≡◌, ℕ, ◌+◌, ◌≤◌, ◌*◌, ◌%◌, ◌&&◌, ◌||◌, ◌==◌, List, [], ◌∷◌, not, Ok, if◌then◌else◌}
+use Rattle.std.specs.Prelude.{nat_le}
 use Rattle.std.specs.List.{list_any}
 use Rattle.serde_json.specs.Data.{Data}
 use Rattle.busdma_base.specs.declared.scenarios.scenario.FrameRun.{FrameRun}

@@ -8,7 +8,8 @@ use Rattle.scenario_read.specs.declared.counts.Counts.{Counts}
 use Rattle.busdma_base.specs.declared.scenarios.words.OpWord.{OpWord}
 use Rattle.busdma_base.specs.declared.scenarios.words.OpWord.TheVariants as word
 use Rattle.scenario_read.specs.Counts.{with_ops, stepped, step_judged}
-use Rattle.scenario_read.specs.Ops.{tag_at, tag_destroy_at, map_at, map_destroy_at, load_at, unload_at, sync_at, sync_range_at, cpu_read_at, cpu_write_at, await_at}
+use Rattle.scenario_read.specs.Ops.{tag_at, tag_destroy_at, map_at, map_destroy_at, load_at, unload_at, sync_at}
+use Rattle.scenario_read.specs.Ops.{sync_range_at, cpu_read_at, cpu_write_at, await_at}
 use Rattle.scenario_read.specs.Words.{op_word_at}
 
 -- the operation of a word

@@ -1,5 +1,6 @@
 -- Where segments begin, with sizes that are multiples of the alignment.
-use Rattle.std.proofs.Common.{◌≡◌, ℕ, zero, suc, ◌+◌, ◌-◌, ◌*◌, ◌/◌, ◌%◌, ◌<◌, ◌≤◌, min, List, [], ◌∷◌, map, true, false, eqb, leb, refl, ap, sym, ◌∙◌, subst, arith, mul_comm}
+use Rattle.std.proofs.Common.{◌≡◌, ℕ, zero, suc, ◌+◌, ◌-◌, ◌*◌, ◌/◌, ◌%◌, ◌<◌, ◌≤◌, min, List, [], ◌∷◌, map, true}
+use Rattle.std.proofs.Common.{false, eqb, leb, refl, ap, sym, ◌∙◌, subst, arith, mul_comm}
 use Rattle.std.specs.List.{AllByRecursion, flat_map}
 use Rattle.std.proofs.Math.Nat.{add-mul, add-mul-mod_self_left, mul_assoc, zero-mod}
 use Rattle.std.proofs.lemmas.Bool.Decides.{nat_tests}
@@ -22,13 +23,20 @@ grown_begins : (s : Segment) (ps : List Segment) → (grown s ps).addr ≡ s.add
 grown_begins s [] = refl
 grown_begins s (p ∷ ps) = grown_begins (joint s p) ps
 
-runs_aligned : (t : TagLimits) (rs : List Run) → AllByRecursion (IsAligned t) (flat_map run_pieces rs) → AllByRecursion (IsAligned t) (map segment_of rs)
+runs_aligned : (t : TagLimits) (rs : List Run) → AllByRecursion (IsAligned t) (flat_map run_pieces rs) →
+    AllByRecursion (IsAligned t) (map segment_of rs)
 runs_aligned t [] h = tt
-runs_aligned t (r ∷ rs) h =
-    (ap (λ (a : Pa). a.0 % t.alignment) (grown_begins r.first r.others) ∙ h.0, runs_aligned t rs (all_second (IsAligned t) (run_pieces r) (flat_map run_pieces rs) h))
+runs_aligned t (r ∷ rs) h = (
+  ap (λ (a : Pa). a.0 % t.alignment) (grown_begins r.first r.others)
+      ∙ h.0,
+  runs_aligned t rs (all_second (IsAligned t) (run_pieces r) (flat_map run_pieces rs) h),
+)
 
-pub segments_aligned : (t : TagLimits) (segs ps : List Segment) → IsSegmentation t segs ps → AllByRecursion (IsAligned t) ps → AllByRecursion (IsAligned t) segs
-segments_aligned t segs ps s h = subst (AllByRecursion (IsAligned t)) s.segments_are (runs_aligned t s.runs (subst (AllByRecursion (IsAligned t)) (sym s.pieces_are) h))
+pub segments_aligned : (t : TagLimits) (segs ps : List Segment) → IsSegmentation t segs ps →
+    AllByRecursion (IsAligned t) ps → AllByRecursion (IsAligned t) segs
+segments_aligned t segs ps s h =
+    subst (AllByRecursion (IsAligned t)) s.segments_are
+    (runs_aligned t s.runs (subst (AllByRecursion (IsAligned t)) (sym s.pieces_are) h))
 
 pub multiple : (x al y : ℕ) → x ≡ al * y → x % al ≡ 0
 multiple x al y e = ap (λ (n : ℕ). n % al) (e ∙ (omega arith)) ∙ (add-mul-mod_self_left 0 al y ∙ zero-mod al)
@@ -46,9 +54,11 @@ sum_multiple x y al h i =
 
 times_multiple : (x y al : ℕ) → y % al ≡ 0 → (x * y) % al ≡ 0
 times_multiple x y al h =
-    multiple (x * y) al (x * (y / al)) (ap (λ (n : ℕ). x * n) (quotient y al h) ∙ (sym (mul_assoc x al (y / al)) ∙ (ap (λ (n : ℕ). n * (y / al)) (mul_comm x al) ∙ mul_assoc al x (y / al))))
+    multiple (x * y) al (x * (y / al)) (ap (λ (n : ℕ). x * n) (quotient y al h)
+    ∙ (sym (mul_assoc x al (y / al)) ∙ (ap (λ (n : ℕ). n * (y / al)) (mul_comm x al) ∙ mul_assoc al x (y / al))))
 
-next_aligned : (t : TagLimits) (a left : ℕ) → HasAlignedSizes t → a % t.alignment ≡ 0 → piece_len t a left < left → (a + piece_len t a left) % t.alignment ≡ 0
+next_aligned : (t : TagLimits) (a left : ℕ) → HasAlignedSizes t → a % t.alignment ≡ 0 → piece_len t a left < left →
+    (a + piece_len t a left) % t.alignment ≡ 0
 next_aligned t a left sizes h l =
     (elim (eqb t.boundary 0) as (λ b. eqb t.boundary 0 ≡ b → (a + piece_len t a left) % t.alignment ≡ 0) [
       | true ↦ λ w.
@@ -57,7 +67,8 @@ next_aligned t a left sizes h l =
           ap (λ (k : ℕ). (a + k) % t.alignment) full ∙ sum_multiple a t.maxsegsz t.alignment h sizes.0
       | false ↦ λ w.
           let is : piece_len t a left ≡ min (min left t.maxsegsz) (t.boundary - a % t.boundary) = rw w refl in
-          (elim (leb t.maxsegsz (t.boundary - a % t.boundary)) as (λ c. leb t.maxsegsz (t.boundary - a % t.boundary) ≡ c → (a + piece_len t a left) % t.alignment ≡ 0) [
+          (elim (leb t.maxsegsz (t.boundary - a % t.boundary))
+          as (λ c. leb t.maxsegsz (t.boundary - a % t.boundary) ≡ c → (a + piece_len t a left) % t.alignment ≡ 0) [
             | true ↦ λ v. (
                 let le = most t.maxsegsz (t.boundary - a % t.boundary) v in
                 let full : piece_len t a left ≡ t.maxsegsz = omega arith in
@@ -67,14 +78,17 @@ next_aligned t a left sizes h l =
                 let whole = div-add-mod' a t.boundary in
                 let inside = boundary_inside t.boundary a w in
                 let e : a + piece_len t a left ≡ a / t.boundary * t.boundary + t.boundary = omega arith in
-                ap (λ (k : ℕ). k % t.alignment) e ∙ sum_multiple (a / t.boundary * t.boundary) t.boundary t.alignment (times_multiple (a / t.boundary) t.boundary t.alignment sizes.1) sizes.1)
+                ap (λ (k : ℕ). k % t.alignment) e
+                ∙ sum_multiple (a / t.boundary * t.boundary) t.boundary t.alignment
+                (times_multiple (a / t.boundary) t.boundary t.alignment sizes.1) sizes.1)
           ]) refl
     ]) refl
   where
     boundary_inside : (b a : ℕ) → eqb b 0 ≡ false → a % b < b
     boundary_inside b a w = let n : 0 < b = grind (arith, nat_tests) in omega arith
 
-pub run_aligned : (n : ℕ) (t : TagLimits) (a left : ℕ) → 0 < t.maxsegsz → HasAlignedSizes t → a % t.alignment ≡ 0 → left ≤ n → AllByRecursion (IsAligned t) (pieces_of t (run_of a left))
+pub run_aligned : (n : ℕ) (t : TagLimits) (a left : ℕ) → 0 < t.maxsegsz → HasAlignedSizes t → a % t.alignment ≡ 0 →
+    left ≤ n → AllByRecursion (IsAligned t) (pieces_of t (run_of a left))
 run_aligned n t a zero m sizes h l = tt
 run_aligned zero t a (suc r) m sizes h l = absurd (omega arith)
 run_aligned (suc n) t a (suc r) m sizes h l =
@@ -83,8 +97,11 @@ run_aligned (suc n) t a (suc r) m sizes h l =
     let fits = piece_fits t a (suc r) in
     subst (AllByRecursion (IsAligned t)) (sym (pieces_step t a (suc r) k m (omega arith) refl)) (
       h,
-      (elim (leb (suc r) k) as (λ b. leb (suc r) k ≡ b → AllByRecursion (IsAligned t) (pieces_of t (run_of (a + k) (suc r - k)))) [
-        | true ↦ λ w. (let le = most (suc r) k w in let none : suc r - k ≡ 0 = omega arith in subst (λ (z : ℕ). AllByRecursion (IsAligned t) (pieces_of t (run_of (a + k) z))) (sym none) tt)
-        | false ↦ λ w. (let gt = above (suc r) k w in run_aligned n t (a + k) (suc r - k) m sizes (next_aligned t a (suc r) sizes h gt) (omega arith))
-      ]) refl,
+      (elim (leb (suc r) k) as (λ b. leb (suc r) k ≡ b →
+          AllByRecursion (IsAligned t) (pieces_of t (run_of (a + k) (suc r - k)))) [
+            | true ↦ λ w. (let le = most (suc r) k w in let none : suc r - k ≡ 0 = omega arith in
+                subst (λ (z : ℕ). AllByRecursion (IsAligned t) (pieces_of t (run_of (a + k) z))) (sym none) tt)
+            | false ↦ λ w. (let gt = above (suc r) k w in
+                run_aligned n t (a + k) (suc r - k) m sizes (next_aligned t a (suc r) sizes h gt) (omega arith))
+          ]) refl,
     )

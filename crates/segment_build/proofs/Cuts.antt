@@ -1,35 +1,47 @@
 -- The one segmentation of pieces.
-use Rattle.std.proofs.Common.{◌≡◌, ℕ, ◌+◌, ◌≤◌, List, [], ◌∷◌, ◌++◌, length, map, true, false, cond, refl, ap, sym, ◌∙◌, append-nil, append_assoc, arith, subst, ◌<◌, drop, get_or}
+use Rattle.std.proofs.Common.{◌≡◌, ℕ, ◌+◌, ◌≤◌, List, [], ◌∷◌, ◌++◌, length, map, true, false, cond, refl, ap, sym}
+use Rattle.std.proofs.Common.{◌∙◌, append-nil, append_assoc, arith, subst, ◌<◌, drop, get_or}
 use Rattle.std.proofs.lemmas.List.{drop_all, drop_more}
 use Rattle.std.specs.List.{flat_map}
 use Rattle.busdma_base.specs.declared.machine.address.Segment.{Segment}
 use Rattle.busdma_base.specs.declared.tags.tag.TagLimits.{TagLimits}
-use Rattle.segment_build.specs.Segmentation.{Run, segments_from, segmentation, joint, may_join, grown, segment_of, run_pieces, EachJoins, AreRuns, IsSegmentation}
+use Rattle.segment_build.specs.Segmentation.{Run, segments_from, segmentation, joint, may_join, grown, segment_of}
+use Rattle.segment_build.specs.Segmentation.{run_pieces, EachJoins, AreRuns, IsSegmentation}
 use Rattle.segment_build.specs.Built.{IsFew, AreTooMany}
 use Rattle.segment_build.specs.Joining.{added, added_all}
 
 -- ---- a piece more
 
-added_under : (t : TagLimits) (q s : Segment) (ps : List Segment) (p : Segment) → added t (q ∷ segments_from t s ps) p ≡ q ∷ added t (segments_from t s ps) p
+added_under : (t : TagLimits) (q s : Segment) (ps : List Segment) (p : Segment) →
+    added t (q ∷ segments_from t s ps) p ≡ q ∷ added t (segments_from t s ps) p
 added_under t q s [] p = refl
 added_under t q s (r ∷ rs) p =
-    elim (may_join t s r) as (λ b. added t (q ∷ cond b (segments_from t (joint s r) rs) (s ∷ segments_from t r rs)) p ≡ q ∷ added t (cond b (segments_from t (joint s r) rs) (s ∷ segments_from t r rs)) p)
+    elim (may_join t s r) as (λ b. added t (q ∷ cond b (segments_from t (joint s r) rs) (s ∷ segments_from t r rs)) p
+    ≡ q ∷ added t (cond b (segments_from t (joint s r) rs) (s ∷ segments_from t r rs)) p)
     [ true ↦ added_under t q (joint s r) rs p | false ↦ refl ]
 
-cut_from_last : (t : TagLimits) (s : Segment) (ps : List Segment) (p : Segment) → segments_from t s (ps ++ p ∷ []) ≡ added t (segments_from t s ps) p
+cut_from_last : (t : TagLimits) (s : Segment) (ps : List Segment) (p : Segment) →
+    segments_from t s (ps ++ p ∷ []) ≡ added t (segments_from t s ps) p
 cut_from_last t s [] p = refl
 cut_from_last t s (r ∷ rs) p =
-    elim (may_join t s r) as (λ b. cond b (segments_from t (joint s r) (rs ++ p ∷ [])) (s ∷ segments_from t r (rs ++ p ∷ [])) ≡ added t (cond b (segments_from t (joint s r) rs) (s ∷ segments_from t r rs)) p)
-    [ true ↦ cut_from_last t (joint s r) rs p | false ↦ ap (λ xs. s ∷ xs) (cut_from_last t r rs p) ∙ sym (added_under t s r rs p) ]
+    elim (may_join t s r) as (λ b. cond b (segments_from t (joint s r) (rs ++ p ∷ []))
+    (s ∷ segments_from t r (rs ++ p ∷ []))
+    ≡ added t (cond b (segments_from t (joint s r) rs) (s ∷ segments_from t r rs)) p) [
+      | true ↦ cut_from_last t (joint s r) rs p
+      | false ↦
+          ap (λ xs. s ∷ xs) (cut_from_last t r rs p) ∙ sym (added_under t s r rs p)
+    ]
 
-pub cut_last : (t : TagLimits) (ps : List Segment) (p : Segment) → segmentation t (ps ++ p ∷ []) ≡ added t (segmentation t ps) p
+pub cut_last : (t : TagLimits) (ps : List Segment) (p : Segment) →
+    segmentation t (ps ++ p ∷ []) ≡ added t (segmentation t ps) p
 cut_last t [] p = refl
 cut_last t (q ∷ qs) p = cut_from_last t q qs p
 
 pub cut_all : (t : TagLimits) (xs ys : List Segment) → segmentation t (xs ++ ys) ≡ added_all t (segmentation t xs) ys
 cut_all t xs [] = ap (λ ps. segmentation t ps) (append-nil xs)
 cut_all t xs (y ∷ ys) =
-    ap (λ ps. segmentation t ps) (sym (append_assoc xs (y ∷ []) ys)) ∙ (cut_all t (xs ++ y ∷ []) ys ∙ ap (λ segs. added_all t segs ys) (cut_last t xs y))
+    ap (λ ps. segmentation t ps) (sym (append_assoc xs (y ∷ []) ys))
+    ∙ (cut_all t (xs ++ y ∷ []) ys ∙ ap (λ segs. added_all t segs ys) (cut_last t xs y))
 
 -- ---- it is a segmentation
 
@@ -41,18 +53,33 @@ record RunsFrom (t : TagLimits) (s : Segment) (ps segs : List Segment) : Type 0 
   segments : grown s others ∷ map segment_of later ≡ segs
   runs : AreRuns t (record { first = s; others = others } ∷ later)
 
-joined_run : (t : TagLimits) (s p : Segment) (ps segs : List Segment) → may_join t s p ≡ true → RunsFrom t (joint s p) ps segs → RunsFrom t s (p ∷ ps) segs
+joined_run : (t : TagLimits) (s p : Segment) (ps segs : List Segment) → may_join t s p ≡ true →
+    RunsFrom t (joint s p) ps segs → RunsFrom t s (p ∷ ps) segs
 joined_run t s p ps segs j r =
-    record { others = p ∷ r.others; later = r.later; pieces = ap (λ xs. p ∷ xs) r.pieces; segments = r.segments; runs = ((j, r.runs.0), r.runs.1, r.runs.2) }
+    record {
+      others = p ∷ r.others;
+      later = r.later;
+      pieces = ap (λ xs. p ∷ xs) r.pieces;
+      segments = r.segments;
+      runs = ((j, r.runs.0), r.runs.1, r.runs.2);
+    }
 
-begun_run : (t : TagLimits) (s p : Segment) (ps segs : List Segment) → may_join t s p ≡ false → RunsFrom t p ps segs → RunsFrom t s (p ∷ ps) (s ∷ segs)
+begun_run : (t : TagLimits) (s p : Segment) (ps segs : List Segment) → may_join t s p ≡ false →
+    RunsFrom t p ps segs → RunsFrom t s (p ∷ ps) (s ∷ segs)
 begun_run t s p ps segs j r =
-    record { others = []; later = record { first = p; others = r.others } ∷ r.later; pieces = ap (λ xs. p ∷ xs) r.pieces; segments = ap (λ xs. s ∷ xs) r.segments; runs = (tt, j, r.runs) }
+    record {
+      others = [];
+      later = record { first = p; others = r.others } ∷ r.later;
+      pieces = ap (λ xs. p ∷ xs) r.pieces;
+      segments = ap (λ xs. s ∷ xs) r.segments;
+      runs = (tt, j, r.runs);
+    }
 
 cut_from_runs : (t : TagLimits) (s : Segment) (ps : List Segment) → RunsFrom t s ps (segments_from t s ps)
 cut_from_runs t s [] = record { others = []; later = []; pieces = refl; segments = refl; runs = (tt, tt, tt) }
 cut_from_runs t s (p ∷ ps) =
-    (elim (may_join t s p) as (λ b. may_join t s p ≡ b → RunsFrom t s (p ∷ ps) (cond b (segments_from t (joint s p) ps) (s ∷ segments_from t p ps))) [
+    (elim (may_join t s p) as (λ b. may_join t s p ≡ b →
+    RunsFrom t s (p ∷ ps) (cond b (segments_from t (joint s p) ps) (s ∷ segments_from t p ps))) [
       | true ↦ λ j. joined_run t s p ps (segments_from t (joint s p) ps) j (cut_from_runs t (joint s p) ps)
       | false ↦ λ j. begun_run t s p ps (segments_from t p ps) j (cut_from_runs t p ps)
     ]) refl
@@ -61,11 +88,17 @@ pub cut_is : (t : TagLimits) (ps : List Segment) → IsSegmentation t (segmentat
 cut_is t [] = record { runs = []; pieces_are = refl; segments_are = refl; joined = tt }
 cut_is t (p ∷ ps) =
     let r = cut_from_runs t p ps in
-    record { runs = record { first = p; others = r.others } ∷ r.later; pieces_are = ap (λ xs. p ∷ xs) r.pieces; segments_are = r.segments; joined = r.runs }
+    record {
+      runs = record { first = p; others = r.others } ∷ r.later;
+      pieces_are = ap (λ xs. p ∷ xs) r.pieces;
+      segments_are = r.segments;
+      joined = r.runs;
+    }
 
 -- ---- and the only one
 
-cut_run : (t : TagLimits) (s : Segment) (others ps : List Segment) → EachJoins t s others → segments_from t s (others ++ ps) ≡ segments_from t (grown s others) ps
+cut_run : (t : TagLimits) (s : Segment) (others ps : List Segment) → EachJoins t s others →
+    segments_from t s (others ++ ps) ≡ segments_from t (grown s others) ps
 cut_run t s [] ps h = refl
 cut_run t s (p ∷ others) ps h = rw h.0 (cut_run t (joint s p) others ps h.1)
 
@@ -73,17 +106,21 @@ cut_runs : (t : TagLimits) (rs : List Run) → AreRuns t rs → map segment_of r
 cut_runs t [] h = refl
 cut_runs t (r ∷ []) h = sym (cut_run t r.first r.others [] h.0)
 cut_runs t (r ∷ q ∷ qs) h =
-    ap (λ xs. segment_of r ∷ xs) (cut_runs t (q ∷ qs) h.2) ∙ sym (cut_run t r.first r.others (flat_map run_pieces (q ∷ qs)) h.0 ∙ rw h.1 refl)
+    ap (λ xs. segment_of r ∷ xs) (cut_runs t (q ∷ qs) h.2)
+    ∙ sym (cut_run t r.first r.others (flat_map run_pieces (q ∷ qs)) h.0 ∙ rw h.1 refl)
 
 pub one_segmentation : (t : TagLimits) (segs ps : List Segment) → IsSegmentation t segs ps → segs ≡ segmentation t ps
-one_segmentation t segs ps h = sym h.segments_are ∙ (cut_runs t h.runs h.joined ∙ ap (λ xs. segmentation t xs) h.pieces_are)
+one_segmentation t segs ps h =
+    sym h.segments_are ∙ (cut_runs t h.runs h.joined ∙ ap (λ xs. segmentation t xs) h.pieces_are)
 
 -- ---- how many
 
 -- a piece more gives no fewer segments
 pub added_longer : (t : TagLimits) (segs : List Segment) (p : Segment) → length segs ≤ length (added t segs p)
 added_longer t [] p = omega arith
-added_longer t (s ∷ []) p = elim (may_join t s p) as (λ b. 1 ≤ length (cond b (joint s p ∷ []) (s ∷ p ∷ []))) [ true ↦ omega arith | false ↦ omega arith ]
+added_longer t (s ∷ []) p =
+    elim (may_join t s p) as (λ b. 1 ≤ length (cond b (joint s p ∷ []) (s ∷ p ∷ [])))
+    [ true ↦ omega arith | false ↦ omega arith ]
 added_longer t (s ∷ r ∷ rs) p = omega (arith, added_longer t (r ∷ rs) p)
 
 pub added_all_longer : (t : TagLimits) (segs ps : List Segment) → length segs ≤ length (added_all t segs ps)
@@ -93,7 +130,8 @@ added_all_longer t segs (p ∷ ps) = omega (arith, added_longer t segs p, added_
 cut_from_shorter : (t : TagLimits) (s : Segment) (ps : List Segment) → length (segments_from t s ps) ≤ length ps + 1
 cut_from_shorter t s [] = omega arith
 cut_from_shorter t s (p ∷ ps) =
-    elim (may_join t s p) as (λ b. length (cond b (segments_from t (joint s p) ps) (s ∷ segments_from t p ps)) ≤ length (p ∷ ps) + 1)
+    elim (may_join t s p) as (λ b. length (cond b (segments_from t (joint s p) ps) (s ∷ segments_from t p ps))
+    ≤ length (p ∷ ps) + 1)
     [ true ↦ omega (arith, cut_from_shorter t (joint s p) ps) | false ↦ omega (arith, cut_from_shorter t p ps) ]
 
 -- there are no more segments than pieces
@@ -103,11 +141,22 @@ cut_shorter t (p ∷ ps) = omega (arith, cut_from_shorter t p ps)
 
 -- ---- what is built, where the pieces behind the first i are still to come
 
-pub are_few : (t : TagLimits) (segs ps : List Segment) (i : ℕ) → length ps ≤ i → added_all t segs (drop i ps) ≡ added_all t [] ps → length segs ≤ t.nsegments → IsFew t ps segs
-are_few t segs ps i h is few =
-    (subst (λ xs. IsSegmentation t xs ps) (cut_all t [] ps ∙ (sym is ∙ ap (λ xs. added_all t segs xs) (drop_all i ps h))) (cut_is t ps), few)
+pub are_few : (t : TagLimits) (segs ps : List Segment) (i : ℕ) → length ps ≤ i →
+    added_all t segs (drop i ps) ≡ added_all t [] ps → length segs ≤ t.nsegments → IsFew t ps segs
+are_few t segs ps i h is few = (
+  subst (λ xs. IsSegmentation t xs ps) (cut_all t [] ps
+      ∙ (sym is ∙ ap (λ xs. added_all t segs xs) (drop_all i ps h))) (cut_is t ps),
+  few,
+)
 
-pub are_many : (t : TagLimits) (segs ps : List Segment) (i : ℕ) (d : Segment) → i < length ps → added_all t segs (drop i ps) ≡ added_all t [] ps → t.nsegments < length (added t segs (get_or ps i d)) → AreTooMany t ps
+pub are_many : (t : TagLimits) (segs ps : List Segment) (i : ℕ) (d : Segment) → i < length ps →
+    added_all t segs (drop i ps) ≡ added_all t [] ps →
+    t.nsegments < length (added t segs (get_or ps i d)) → AreTooMany t ps
 are_many t segs ps i d h is many =
     let all = cut_all t [] ps ∙ (sym is ∙ ap (λ xs. added_all t segs xs) (drop_more ps i d h)) in
-    record { segments = segmentation t ps; are = cut_is t ps; many = omega (arith, many, ap length all, added_all_longer t (added t segs (get_or ps i d)) (drop (i + 1) ps)) }
+    record {
+      segments = segmentation t ps;
+      are = cut_is t ps;
+      many =
+          omega (arith, many, ap length all, added_all_longer t (added t segs (get_or ps i d)) (drop (i + 1) ps));
+    }

@@ -13,15 +13,30 @@ use Rattle.segment_build.proofs.SoFar.{need_longer, pieces_longer}
 use Rattle.segment_build.proofs.Steps.{holds, holds_at}
 
 -- the chunks that are closed with a part more need no more pages than the whole
-pub front_need : (t : TagLimits) (m : ℕ) (ps : List Part) (p : Part) → IsEffective t → IsStream (ps ++ p ∷ []) → need_of (closed t m uncut ps ++ option_to_list (closed_part (after t m uncut ps) p)) ≤ need_of (chunks_of t m (entries_of (ps ++ p ∷ [])))
+pub front_need : (t : TagLimits) (m : ℕ) (ps : List Part) (p : Part) → IsEffective t → IsStream (ps ++ p ∷ []) →
+    need_of (closed t m uncut ps ++ option_to_list (closed_part (after t m uncut ps) p))
+    ≤ need_of (chunks_of t m (entries_of (ps ++ p ∷ [])))
 front_need t m ps p eff h =
     let at = holds_at t m ps p eff h in
     let all = holds t m (ps ++ p ∷ []) eff h in
-    omega (arith, ap need_of at.closed_are, ap need_of all.chunks, need_longer (closed t m uncut (ps ++ p ∷ [])) (option_to_list (after t m uncut (ps ++ p ∷ [])).last))
+    omega (
+      arith,
+      ap need_of at.closed_are,
+      ap need_of all.chunks,
+      need_longer (closed t m uncut (ps ++ p ∷ [])) (option_to_list (after t m uncut (ps ++ p ∷ [])).last),
+    )
 
 -- and have no more pieces
-pub front_pieces : (t : TagLimits) (m : ℕ) (ps : List Part) (p : Part) (pages : List Pa) → IsEffective t → IsStream (ps ++ p ∷ []) → length (placed_pieces t (closed t m uncut ps ++ option_to_list (closed_part (after t m uncut ps) p)) pages) ≤ length (placed_pieces t (chunks_of t m (entries_of (ps ++ p ∷ []))) pages)
+pub front_pieces : (t : TagLimits) (m : ℕ) (ps : List Part) (p : Part) (pages : List Pa) → IsEffective t →
+    IsStream (ps ++ p ∷ []) →
+    length (placed_pieces t (closed t m uncut ps ++ option_to_list (closed_part (after t m uncut ps) p)) pages)
+    ≤ length (placed_pieces t (chunks_of t m (entries_of (ps ++ p ∷ []))) pages)
 front_pieces t m ps p pages eff h =
     let at = holds_at t m ps p eff h in
     let all = holds t m (ps ++ p ∷ []) eff h in
-    omega (arith, ap (λ cs. length (placed_pieces t cs pages)) at.closed_are, ap (λ cs. length (placed_pieces t cs pages)) all.chunks, pieces_longer t (closed t m uncut (ps ++ p ∷ [])) (option_to_list (after t m uncut (ps ++ p ∷ [])).last) pages)
+    omega (
+      arith,
+      ap (λ cs. length (placed_pieces t cs pages)) at.closed_are,
+      ap (λ cs. length (placed_pieces t cs pages)) all.chunks,
+      pieces_longer t (closed t m uncut (ps ++ p ∷ [])) (option_to_list (after t m uncut (ps ++ p ∷ [])).last) pages,
+    )

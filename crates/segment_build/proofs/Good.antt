@@ -1,5 +1,6 @@
 -- Segments are short, and lie in one window.
-use Rattle.std.proofs.Common.{◌≡◌, ℕ, zero, suc, ◌+◌, ◌-◌, ◌*◌, ◌/◌, ◌%◌, ◌<◌, ◌≤◌, List, [], ◌∷◌, ◌++◌, map, Bool, true, false, eqb, leb, ◌&&◌, ◌||◌, refl, ap, sym, ◌∙◌, subst, arith, ◌≢◌}
+use Rattle.std.proofs.Common.{◌≡◌, ℕ, zero, suc, ◌+◌, ◌-◌, ◌*◌, ◌/◌, ◌%◌, ◌<◌, ◌≤◌, List, [], ◌∷◌, ◌++◌, map, Bool}
+use Rattle.std.proofs.Common.{true, false, eqb, leb, ◌&&◌, ◌||◌, refl, ap, sym, ◌∙◌, subst, arith, ◌≢◌}
 use Rattle.std.specs.List.{AllByRecursion, flat_map}
 use Rattle.std.proofs.lemmas.Nat.{div-add-mod', div-mul-add}
 use Rattle.busdma_base.specs.declared.machine.address.Segment.{Segment}
@@ -8,7 +9,8 @@ use Rattle.busdma_base.specs.declared.tags.tag.TagLimits.{TagLimits}
 use Rattle.busdma_base.specs.Runs.{run_of}
 use Rattle.segment_build.specs.Obeying.{LiesInWindow}
 use Rattle.segment_build.specs.Pieces.{chunk_pieces, piece_len, pieces_of}
-use Rattle.segment_build.specs.Segmentation.{AreRuns, EachJoins, IsSegmentation, Run, grown, joint, may_join, run_pieces, same_window, segment_of}
+use Rattle.segment_build.specs.Segmentation.{AreRuns, EachJoins, IsSegmentation, Run, grown, joint, may_join}
+use Rattle.segment_build.specs.Segmentation.{run_pieces, same_window, segment_of}
 use Rattle.segment_build.specs.Trace.{IsPlaced, bus_addresses, bus_extent, chunk_len}
 use Rattle.segment_build.proofs.Bytes.{begins_at_end, bus_is_run}
 use Rattle.segment_build.proofs.Places.{len_in_size, len_in_window, piece_some, pieces_step}
@@ -26,26 +28,32 @@ in_window a k b pos some h =
     let e : a + k - 1 ≡ a / b * b + (a % b + k - 1) = omega arith in
     sym (ap (λ (x : ℕ). x / b) e ∙ div-mul-add (a / b) b (a % b + k - 1) (omega arith))
 
-piece_good : (t : TagLimits) (a left : ℕ) → 0 < t.maxsegsz → 0 < left → IsGood t (record { addr = record { 0 = a }; len = piece_len t a left })
+piece_good : (t : TagLimits) (a left : ℕ) → 0 < t.maxsegsz → 0 < left →
+    IsGood t (record { addr = record { 0 = a }; len = piece_len t a left })
 piece_good t a left m h = record {
   some = piece_some t a left m h;
   short = len_in_size t a left;
-  window = λ b. in_window a (piece_len t a left) t.boundary (let n : t.boundary ≢ 0 = b in omega arith) (piece_some t a left m h) (len_in_window t a left (not_zero t.boundary b));
+  window = λ b. in_window a (piece_len t a left) t.boundary (let n : t.boundary ≢ 0 = b in
+      omega arith) (piece_some t a left m h) (len_in_window t a left (not_zero t.boundary b));
 }
 
-run_good : (n : ℕ) (t : TagLimits) (a left : ℕ) → 0 < t.maxsegsz → left ≤ n → AllByRecursion (IsGood t) (pieces_of t (run_of a left))
+run_good : (n : ℕ) (t : TagLimits) (a left : ℕ) → 0 < t.maxsegsz → left ≤ n →
+    AllByRecursion (IsGood t) (pieces_of t (run_of a left))
 run_good n t a zero m h = tt
 run_good zero t a (suc l) m h = absurd (omega arith)
 run_good (suc n) t a (suc l) m h =
     let k = piece_len t a (suc l) in
     let some = piece_some t a (suc l) m (omega arith) in
-    subst (AllByRecursion (IsGood t)) (sym (pieces_step t a (suc l) k m (omega arith) refl)) (piece_good t a (suc l) m (omega arith), run_good n t (a + k) (suc l - k) m (omega arith))
+    subst (AllByRecursion (IsGood t)) (sym (pieces_step t a (suc l) k m (omega arith) refl))
+    (piece_good t a (suc l) m (omega arith), run_good n t (a + k) (suc l - k) m (omega arith))
 
-pub pieces_good : (t : TagLimits) (cs : List Chunk) → 0 < t.maxsegsz → AllByRecursion IsPlaced cs → AllByRecursion (IsGood t) (chunk_pieces t cs)
+pub pieces_good : (t : TagLimits) (cs : List Chunk) → 0 < t.maxsegsz → AllByRecursion IsPlaced cs →
+    AllByRecursion (IsGood t) (chunk_pieces t cs)
 pieces_good t [] m h = tt
 pieces_good t (c ∷ cs) m h =
     all_append (IsGood t) (pieces_of t (bus_addresses c)) (chunk_pieces t cs)
-    (subst (λ bs. AllByRecursion (IsGood t) (pieces_of t bs)) (sym (bus_is_run c h.0)) (run_good (chunk_len c) t (bus_extent c).pa.0 (chunk_len c) m (omega arith))) (pieces_good t cs m h.1)
+    (subst (λ bs. AllByRecursion (IsGood t) (pieces_of t bs)) (sym (bus_is_run c h.0))
+    (run_good (chunk_len c) t (bus_extent c).pa.0 (chunk_len c) m (omega arith))) (pieces_good t cs m h.1)
 
 second_true : (a b c : Bool) → (a && b && c) ≡ true → b ≡ true
 second_true true true c h = refl
@@ -68,14 +76,21 @@ joint_good t s p x y j =
     let more = y.some in
     record {
       some = omega arith;
-      short = most (s.len + p.len) t.maxsegsz (second_true (eqb p.addr.0 (s.addr.0 + s.len)) (leb (s.len + p.len) t.maxsegsz) (same_window t s p) j);
+      short =
+          most (s.len + p.len) t.maxsegsz (second_true (eqb p.addr.0 (s.addr.0 + s.len))
+          (leb (s.len + p.len) t.maxsegsz) (same_window t s p) j);
       window = λ b. (
-          let same = number_is (s.addr.0 / t.boundary) (p.addr.0 / t.boundary) (or_true (eqb t.boundary 0) (eqb (s.addr.0 / t.boundary) (p.addr.0 / t.boundary)) (third_true (eqb p.addr.0 (s.addr.0 + s.len)) (leb (s.len + p.len) t.maxsegsz) (same_window t s p) j) (not_zero t.boundary b)) in
+          let same =
+          number_is (s.addr.0 / t.boundary) (p.addr.0 / t.boundary)
+          (or_true (eqb t.boundary 0) (eqb (s.addr.0 / t.boundary) (p.addr.0 / t.boundary))
+          (third_true (eqb p.addr.0 (s.addr.0 + s.len)) (leb (s.len + p.len) t.maxsegsz) (same_window t s p) j)
+          (not_zero t.boundary b)) in
           let ends : p.addr.0 + p.len - 1 ≡ s.addr.0 + (s.len + p.len) - 1 = omega arith in
           same ∙ (y.window b ∙ ap (λ (x : ℕ). x / t.boundary) ends));
     }
 
-grown_good : (t : TagLimits) (s : Segment) (ps : List Segment) → IsGood t s → AllByRecursion (IsGood t) ps → EachJoins t s ps → IsGood t (grown s ps)
+grown_good : (t : TagLimits) (s : Segment) (ps : List Segment) → IsGood t s → AllByRecursion (IsGood t) ps →
+    EachJoins t s ps → IsGood t (grown s ps)
 grown_good t s [] x y j = x
 grown_good t s (p ∷ ps) x y j = grown_good t (joint s p) ps (joint_good t s p x y.0 j.0) y.1 j.1
 
@@ -87,11 +102,17 @@ pub all_second : {X : Type 0} (P : X → Type 0) (xs ys : List X) → AllByRecur
 all_second P [] ys h = h
 all_second P (x ∷ xs) ys h = all_second P xs ys h.1
 
-runs_good : (t : TagLimits) (rs : List Run) → AreRuns t rs → AllByRecursion (IsGood t) (flat_map run_pieces rs) → AllByRecursion (IsGood t) (map segment_of rs)
+runs_good : (t : TagLimits) (rs : List Run) → AreRuns t rs → AllByRecursion (IsGood t) (flat_map run_pieces rs) →
+    AllByRecursion (IsGood t) (map segment_of rs)
 runs_good t [] j h = tt
 runs_good t (r ∷ rs) j h =
-    let here = all_first (IsGood t) (run_pieces r) (flat_map run_pieces rs) h in
-    (grown_good t r.first r.others here.0 here.1 j.0, runs_good t rs j.2 (all_second (IsGood t) (run_pieces r) (flat_map run_pieces rs) h))
+    let here = all_first (IsGood t) (run_pieces r) (flat_map run_pieces rs) h in (
+      grown_good t r.first r.others here.0 here.1 j.0,
+      runs_good t rs j.2 (all_second (IsGood t) (run_pieces r) (flat_map run_pieces rs) h),
+    )
 
-pub segments_good : (t : TagLimits) (segs ps : List Segment) → IsSegmentation t segs ps → AllByRecursion (IsGood t) ps → AllByRecursion (IsGood t) segs
-segments_good t segs ps s h = subst (AllByRecursion (IsGood t)) s.segments_are (runs_good t s.runs s.joined (subst (AllByRecursion (IsGood t)) (sym s.pieces_are) h))
+pub segments_good : (t : TagLimits) (segs ps : List Segment) → IsSegmentation t segs ps →
+    AllByRecursion (IsGood t) ps → AllByRecursion (IsGood t) segs
+segments_good t segs ps s h =
+    subst (AllByRecursion (IsGood t)) s.segments_are
+    (runs_good t s.runs s.joined (subst (AllByRecursion (IsGood t)) (sym s.pieces_are) h))

@@ -1,5 +1,6 @@
 -- What a build asks of a stream holds of each front of a stream of which it holds.
-use Rattle.std.proofs.Common.{◌≡◌, ◌^◌, ℕ, ◌+◌, ◌≤◌, min, List, [], ◌∷◌, ◌++◌, length, drop, Bool, true, false, cond, refl, ap, sym, ◌∙◌, subst, arith, append_assoc, append-nil, length-append, ◌⊎◌, inl, inr}
+use Rattle.std.proofs.Common.{◌≡◌, ◌^◌, ℕ, ◌+◌, ◌≤◌, min, List, [], ◌∷◌, ◌++◌, length, drop, Bool, true, false, cond}
+use Rattle.std.proofs.Common.{refl, ap, sym, ◌∙◌, subst, arith, append_assoc, append-nil, length-append, ◌⊎◌, inl, inr}
 use Rattle.std.specs.Prelude.{Option, Some, None, IfSome}
 use Rattle.std.specs.Option.{option_to_list}
 use Rattle.std.specs.List.{AllByRecursion}
@@ -11,7 +12,8 @@ use Rattle.busdma_base.specs.declared.machine.chunk.Entry.{Entry}
 use Rattle.busdma_base.specs.declared.machine.chunk.Part.{Part}
 use Rattle.busdma_base.specs.declared.machine.chunk.Part.TheVariants.{Of, Unmapped}
 use Rattle.busdma_base.specs.declared.tags.tag.TagLimits.{TagLimits}
-use Rattle.busdma_base.specs.Machine.Entry.{AreJoined, IsEntry, IsStream, entries_bytes, entries_of, others_of, part_bytes, parts_of}
+use Rattle.busdma_base.specs.Machine.Entry.{AreJoined, IsEntry, IsStream, entries_bytes, entries_of, others_of}
+use Rattle.busdma_base.specs.Machine.Entry.{part_bytes, parts_of}
 use Rattle.busdma_base.specs.Runs.{IsExtent, addresses, byte_count, run_of}
 use Rattle.busdma_base.specs.Tags.Tag.{IsEffective}
 use Rattle.busdma_base.specs.Tags.TagFlags.{keep_pg_offset}
@@ -23,7 +25,8 @@ use Rattle.segment_build.specs.Trace.{bus_addresses, chunk_len, first_page, in_p
 use Rattle.segment_build.proofs.Chunking.{chunks_of_parts, stream_of_entries}
 use Rattle.segment_build.proofs.Counting.{need_append, need_first, pieces_append}
 use Rattle.segment_build.proofs.Good.{all_first, all_second}
-use Rattle.segment_build.proofs.Longer.{BeginsLonger, IsFront, IsLonger, behind, extended, no_front, run_longer, within_front}
+use Rattle.segment_build.proofs.Longer.{BeginsLonger, IsFront, IsLonger, behind, extended, no_front, run_longer}
+use Rattle.segment_build.proofs.Longer.{within_front}
 use Rattle.segment_build.proofs.Sound.{chunks_sound}
 use Rattle.segment_build.proofs.Steps.{bytes_split, own_run}
 
@@ -44,13 +47,19 @@ no_extents : (es rest : List Extent) → es ++ rest ≡ [] → es ≡ []
 no_extents [] rest h = refl
 no_extents (e ∷ es) rest h = absurd cc
 
-entries_front : (xs ys : List Part) → AllByRecursion IsEntry (entries_of (xs ++ ys)) → AllByRecursion IsEntry (entries_of xs)
+entries_front : (xs ys : List Part) → AllByRecursion IsEntry (entries_of (xs ++ ys)) →
+    AllByRecursion IsEntry (entries_of xs)
 entries_front [] ys h = tt
 entries_front (Of e true r ∷ xs) ys h =
     let f = others_front xs ys in
     let extents = subst (λ es. AllByRecursion IsExtent (e ∷ es)) f.1 h.0.extents in
-    let joined = subst (λ es. AreJoined (e ∷ es)) f.1 h.0.joined in
-    (record { extents = all_first IsExtent (e ∷ others_of xs) f.0 extents; joined = joined_front (e ∷ others_of xs) f.0 joined }, entries_front xs ys h.1)
+    let joined = subst (λ es. AreJoined (e ∷ es)) f.1 h.0.joined in (
+      record {
+        extents = all_first IsExtent (e ∷ others_of xs) f.0 extents;
+        joined = joined_front (e ∷ others_of xs) f.0 joined;
+      },
+      entries_front xs ys h.1,
+    )
 entries_front (Of e false r ∷ xs) ys h = entries_front xs ys h
 entries_front (Unmapped n ∷ xs) ys h = entries_front xs ys h
 
@@ -63,7 +72,16 @@ IsStream-front xs ys h =
     record {
       opens = opens;
       entries = entries_front xs ys h.entries;
-      bytes = omega (arith, bytes_split xs, bytes_split (xs ++ ys), ap byte_count opens, ap byte_count h.opens, sum_by-append part_bytes xs ys, small);
+      bytes =
+          omega (
+            arith,
+            bytes_split xs,
+            bytes_split (xs ++ ys),
+            ap byte_count opens,
+            ap byte_count h.opens,
+            sum_by-append part_bytes xs ys,
+            small,
+          );
     }
 
 -- ---- fronts of chunks
@@ -76,72 +94,125 @@ others_stay (Unmapped n ∷ xs) ys = others_stay xs ys
 
 addresses_append : (es fs : List Extent) → addresses (es ++ fs) ≡ addresses es ++ addresses fs
 addresses_append [] fs = refl
-addresses_append (e ∷ es) fs = ap (λ xs. run_of e.pa.0 e.len ++ xs) (addresses_append es fs) ∙ sym (append_assoc (run_of e.pa.0 e.len) (addresses es) (addresses fs))
+addresses_append (e ∷ es) fs = ap (λ xs. run_of e.pa.0 e.len ++ xs) (addresses_append es fs)
+    ∙ sym (append_assoc (run_of e.pa.0 e.len) (addresses es) (addresses fs))
 
-bytes_front : (t : TagLimits) (m : ℕ) (r : Bool) (at : ℕ) (es rest : List Extent) → IsEffective t → IsFront (chunks_of_bytes t m r at (addresses es)) (chunks_of_bytes t m r at (addresses (es ++ rest)))
+bytes_front : (t : TagLimits) (m : ℕ) (r : Bool) (at : ℕ) (es rest : List Extent) → IsEffective t →
+    IsFront (chunks_of_bytes t m r at (addresses es)) (chunks_of_bytes t m r at (addresses (es ++ rest)))
 bytes_front t m r at es rest eff =
     let bs = addresses es in
     let more = addresses rest in
-    subst (λ (xs : List ℕ). IsFront (chunks_of_bytes t m r at bs) (chunks_of_bytes t m r at xs)) (sym (addresses_append es rest))
-    (within_front (length bs) (length (bs ++ more)) t m r at bs more eff (omega arith) (omega (arith, length-append bs more)))
+    subst (λ (xs : List ℕ). IsFront (chunks_of_bytes t m r at bs) (chunks_of_bytes t m r at xs))
+    (sym (addresses_append es rest))
+    (within_front (length bs) (length (bs ++ more)) t m r at bs more eff (omega arith)
+    (omega (arith, length-append bs more)))
 
 -- the last entry of a front, and the same entry of the whole
-last_front : (t : TagLimits) (m at : ℕ) (r : Bool) (e : Extent) (xs ys : List Part) (later : List Chunk) → IsEffective t → entries_of xs ≡ [] → IsFront (chunks_from t m at (record { rounded = r; parts = e ∷ others_of xs } ∷ entries_of xs)) (chunks_of_bytes t m r at (addresses (e ∷ others_of (xs ++ ys))) ++ later)
+last_front : (t : TagLimits) (m at : ℕ) (r : Bool) (e : Extent) (xs ys : List Part) (later : List Chunk) →
+    IsEffective t → entries_of xs ≡ [] →
+    IsFront (chunks_from t m at (record { rounded = r; parts = e ∷ others_of xs } ∷ entries_of xs))
+    (chunks_of_bytes t m r at (addresses (e ∷ others_of (xs ++ ys))) ++ later)
 last_front t m at r e xs ys later eff none =
     let f = others_front xs ys in
     let own = e ∷ others_of xs in
     let here = chunks_of_bytes t m r at (addresses own) in
-    let only : chunks_from t m at (record { rounded = r; parts = own } ∷ entries_of xs) ≡ here = ap (λ es. here ++ chunks_from t m (at + byte_count own) es) none ∙ append-nil here in
-    subst (λ (cs : List Chunk). IsFront cs (chunks_of_bytes t m r at (addresses (e ∷ others_of (xs ++ ys))) ++ later)) (sym only)
+    let only : chunks_from t m at (record { rounded = r; parts = own } ∷ entries_of xs) ≡ here =
+    ap (λ es. here ++ chunks_from t m (at + byte_count own) es) none ∙ append-nil here in
+    subst (λ (cs : List Chunk). IsFront cs (chunks_of_bytes t m r at (addresses (e ∷ others_of (xs ++ ys))) ++ later))
+    (sym only)
     (extended here (chunks_of_bytes t m r at (addresses (e ∷ others_of (xs ++ ys)))) later
-    (subst (λ (es : List Extent). IsFront here (chunks_of_bytes t m r at (addresses (e ∷ es)))) (sym f.1) (bytes_front t m r at own f.0 eff)))
+    (subst (λ (es : List Extent). IsFront here (chunks_of_bytes t m r at (addresses (e ∷ es)))) (sym f.1)
+    (bytes_front t m r at own f.0 eff)))
 
-chunks_front : (t : TagLimits) (m at : ℕ) (xs ys : List Part) → IsEffective t → IsFront (chunks_from t m at (entries_of xs)) (chunks_from t m at (entries_of (xs ++ ys)))
+chunks_front : (t : TagLimits) (m at : ℕ) (xs ys : List Part) → IsEffective t →
+    IsFront (chunks_from t m at (entries_of xs)) (chunks_from t m at (entries_of (xs ++ ys)))
 chunks_front t m at [] ys eff = no_front (chunks_from t m at (entries_of ys))
 chunks_front t m at (Of e true r ∷ xs) ys eff =
     elim (others_stay xs ys) [
-      | inl none ↦ last_front t m at r e xs ys (chunks_from t m (at + byte_count (e ∷ others_of (xs ++ ys))) (entries_of (xs ++ ys))) eff none
-      | inr same ↦ subst (λ (es : List Extent). IsFront (chunks_from t m at (record { rounded = r; parts = e ∷ others_of xs } ∷ entries_of xs)) (chunks_from t m at (record { rounded = r; parts = e ∷ es } ∷ entries_of (xs ++ ys)))) (sym same)
-          (behind (chunks_of_bytes t m r at (addresses (e ∷ others_of xs))) (chunks_from t m (at + byte_count (e ∷ others_of xs)) (entries_of xs)) (chunks_from t m (at + byte_count (e ∷ others_of xs)) (entries_of (xs ++ ys))) (chunks_front t m (at + byte_count (e ∷ others_of xs)) xs ys eff))
+      | inl none ↦ last_front t m at r e xs ys
+          (chunks_from t m (at + byte_count (e ∷ others_of (xs ++ ys))) (entries_of (xs ++ ys))) eff none
+      | inr same ↦
+          subst (λ (es : List Extent). IsFront
+          (chunks_from t m at (record { rounded = r; parts = e ∷ others_of xs } ∷ entries_of xs))
+          (chunks_from t m at (record { rounded = r; parts = e ∷ es } ∷ entries_of (xs ++ ys)))) (sym same)
+          (behind (chunks_of_bytes t m r at (addresses (e ∷ others_of xs)))
+          (chunks_from t m (at + byte_count (e ∷ others_of xs)) (entries_of xs))
+          (chunks_from t m (at + byte_count (e ∷ others_of xs)) (entries_of (xs ++ ys)))
+          (chunks_front t m (at + byte_count (e ∷ others_of xs)) xs ys eff))
     ]
 chunks_front t m at (Of e false r ∷ xs) ys eff = chunks_front t m at xs ys eff
 chunks_front t m at (Unmapped n ∷ xs) ys eff = chunks_front t m at xs ys eff
 
 -- ---- a front needs no more pages, and has no more pieces
 
-last_need : (o : Option Chunk) (other : List Chunk) → IfSome o (λ c. BeginsLonger c other) → need_of (option_to_list o) ≤ need_of other
+last_need : (o : Option Chunk) (other : List Chunk) → IfSome o (λ c. BeginsLonger c other) →
+    need_of (option_to_list o) ≤ need_of other
 last_need None other h = omega arith
 last_need (Some c) [] h = absurd h
 last_need (Some c) (d ∷ ds) h = omega (arith, need_first c [], need_first d ds, ap {B = ℕ} (λ b. cond b 1 0) h.bounced)
 
 front_need : (cs ds : List Chunk) → IsFront cs ds → need_of cs ≤ need_of ds
 front_need cs ds f =
-    omega (arith, ap need_of f.front_is, ap need_of f.whole_is, need_append f.shared (option_to_list f.last), need_append f.shared f.other, last_need f.last f.other f.longer)
+    omega (
+      arith,
+      ap need_of f.front_is,
+      ap need_of f.whole_is,
+      need_append f.shared (option_to_list f.last),
+      need_append f.shared f.other,
+      last_need f.last f.other f.longer,
+    )
 
-longer_pieces : (t : TagLimits) (c d : Chunk) (ds : List Chunk) (pages : List Pa) → IsEffective t → IsSound t c → IsSound t d → IsLonger c d → length (placed_pieces t (c ∷ []) pages) ≤ length (placed_pieces t (d ∷ ds) pages)
+longer_pieces : (t : TagLimits) (c d : Chunk) (ds : List Chunk) (pages : List Pa) → IsEffective t → IsSound t c →
+    IsSound t d → IsLonger c d → length (placed_pieces t (c ∷ []) pages) ≤ length (placed_pieces t (d ∷ ds) pages)
 longer_pieces t c d ds pages eff sc sd l =
     let keep = keep_pg_offset t.flags in
     let len = l.len in
     let same = ap (λ (a : Pa). a.0) l.begins in
-    (elim c.bounced as (λ b. c.bounced ≡ b → length (chunk_pieces t (cond b (in_page keep (first_page pages) c ∷ []) (c ∷ []))) ≤ length (placed_pieces t (d ∷ ds) pages)) [
+    (elim c.bounced as (λ b. c.bounced ≡ b →
+    length (chunk_pieces t (cond b (in_page keep (first_page pages) c ∷ []) (c ∷ [])))
+    ≤ length (placed_pieces t (d ∷ ds) pages)) [
       | true ↦ λ w.
           let p = first_page pages in
-          let other : placed keep (d ∷ ds) pages ≡ in_page keep p d ∷ placed keep ds (drop 1 pages) = rw (l.bounced ∙ w) refl in
-          let at : p.0 + page_offset keep d.first.pa.0 ≡ p.0 + page_offset keep c.first.pa.0 = ap (λ (n : ℕ). p.0 + page_offset keep n) same in
-          omega (arith, ap (λ cs. length (chunk_pieces t cs)) other, length-append (pieces_of t (bus_addresses (in_page keep p d))) (chunk_pieces t (placed keep ds (drop 1 pages))), ap (λ (n : ℕ). length (pieces_of t (run_of n (chunk_len d)))) at, run_longer t (p.0 + page_offset keep c.first.pa.0) (chunk_len c) (chunk_len d) eff.maxsegsz len, length-append (pieces_of t (bus_addresses (in_page keep p c))) [])
+          let other : placed keep (d ∷ ds) pages ≡ in_page keep p d ∷ placed keep ds (drop 1 pages) =
+          rw (l.bounced ∙ w) refl in
+          let at : p.0 + page_offset keep d.first.pa.0 ≡ p.0 + page_offset keep c.first.pa.0 =
+          ap (λ (n : ℕ). p.0 + page_offset keep n) same in
+          omega (
+            arith,
+            ap (λ cs. length (chunk_pieces t cs)) other,
+            length-append (pieces_of t (bus_addresses (in_page keep p d)))
+                (chunk_pieces t (placed keep ds (drop 1 pages))),
+            ap (λ (n : ℕ). length (pieces_of t (run_of n (chunk_len d)))) at,
+            run_longer t (p.0 + page_offset keep c.first.pa.0) (chunk_len c) (chunk_len d) eff.maxsegsz len,
+            length-append (pieces_of t (bus_addresses (in_page keep p c))) [],
+          )
       | false ↦ λ w.
           let other : placed keep (d ∷ ds) pages ≡ d ∷ placed keep ds pages = rw (l.bounced ∙ w) refl in
           let one = ap (λ bs. length (pieces_of t bs)) (own_run t c sc w) in
           let two = ap (λ bs. length (pieces_of t bs)) (own_run t d sd (l.bounced ∙ w)) in
-          omega (arith, ap (λ cs. length (chunk_pieces t cs)) other, length-append (pieces_of t (bus_addresses d)) (chunk_pieces t (placed keep ds pages)), one, two, ap (λ (n : ℕ). length (pieces_of t (run_of n (chunk_len d)))) same, run_longer t c.first.pa.0 (chunk_len c) (chunk_len d) eff.maxsegsz len, length-append (pieces_of t (bus_addresses c)) [])
+          omega (
+            arith,
+            ap (λ cs. length (chunk_pieces t cs)) other,
+            length-append (pieces_of t (bus_addresses d)) (chunk_pieces t (placed keep ds pages)),
+            one,
+            two,
+            ap (λ (n : ℕ). length (pieces_of t (run_of n (chunk_len d)))) same,
+            run_longer t c.first.pa.0 (chunk_len c) (chunk_len d) eff.maxsegsz len,
+            length-append (pieces_of t (bus_addresses c)) [],
+          )
     ]) refl
 
-last_pieces : (t : TagLimits) (o : Option Chunk) (other : List Chunk) (pages : List Pa) → IsEffective t → AllByRecursion (IsSound t) (option_to_list o) → AllByRecursion (IsSound t) other → IfSome o (λ c. BeginsLonger c other) → length (placed_pieces t (option_to_list o) pages) ≤ length (placed_pieces t other pages)
+last_pieces : (t : TagLimits) (o : Option Chunk) (other : List Chunk) (pages : List Pa) → IsEffective t →
+    AllByRecursion (IsSound t) (option_to_list o) → AllByRecursion (IsSound t) other →
+    IfSome o (λ c. BeginsLonger c other) →
+    length (placed_pieces t (option_to_list o) pages) ≤ length (placed_pieces t other pages)
 last_pieces t None other pages eff x y h = omega arith
 last_pieces t (Some c) [] pages eff x y h = absurd h
 last_pieces t (Some c) (d ∷ ds) pages eff x y h = longer_pieces t c d ds pages eff x.0 y.0 h
 
-front_pieces : (t : TagLimits) (cs ds : List Chunk) (pages : List Pa) → IsEffective t → AllByRecursion (IsSound t) cs → AllByRecursion (IsSound t) ds → IsFront cs ds → length (placed_pieces t cs pages) ≤ length (placed_pieces t ds pages)
+front_pieces : (t : TagLimits) (cs ds : List Chunk) (pages : List Pa) → IsEffective t → AllByRecursion (IsSound t) cs →
+    AllByRecursion (IsSound t) ds → IsFront cs ds →
+    length (placed_pieces t cs pages) ≤ length (placed_pieces t ds pages)
 front_pieces t cs ds pages eff x y f =
     let own = option_to_list f.last in
     let left = drop (need_of f.shared) pages in
@@ -173,10 +244,14 @@ fronts_ask t m pages eff xs ys h =
     record {
       stream = stream;
       need = front_need (stream_chunks t m xs) (stream_chunks t m (xs ++ ys)) front;
-      pieces = front_pieces t (stream_chunks t m xs) (stream_chunks t m (xs ++ ys)) pages eff (chunks_sound t m (entries_of xs) eff stream.entries) (chunks_sound t m (entries_of (xs ++ ys)) eff h.entries) front;
+      pieces =
+          front_pieces t (stream_chunks t m xs) (stream_chunks t m (xs ++ ys)) pages eff
+          (chunks_sound t m (entries_of xs) eff stream.entries)
+          (chunks_sound t m (entries_of (xs ++ ys)) eff h.entries) front;
     }
 
-pub IsReady-front : (t : TagLimits) (m : ℕ) (pages : List Pa) (room bounced_room : ℕ) → FrontsAskNoMore t m pages → (xs ys : List Part) → IsReady t m pages room bounced_room (xs ++ ys) → IsReady t m pages room bounced_room xs
+pub IsReady-front : (t : TagLimits) (m : ℕ) (pages : List Pa) (room bounced_room : ℕ) → FrontsAskNoMore t m pages →
+    (xs ys : List Part) → IsReady t m pages room bounced_room (xs ++ ys) → IsReady t m pages room bounced_room xs
 IsReady-front t m pages room bounced_room fronts xs ys h =
     let front = fronts xs ys h.stream in
     let need = front.need in
@@ -187,7 +262,10 @@ IsReady-front t m pages room bounced_room fronts xs ys h =
     record { stream = front.stream; need = omega arith; fits = omega arith; bounced_fit = omega arith }
 
 -- the entries of a load give such a stream
-pub entries_ready : (t : TagLimits) (m : ℕ) (pages : List Pa) (room bounced_room : ℕ) (es : List Entry) → AllByRecursion IsEntry es → entries_bytes es ≤ 2 ^ 20 → need_of (chunks_of t m es) ≤ length pages → min (length (placed_pieces t (chunks_of t m es) pages)) t.nsegments ≤ room → need_of (chunks_of t m es) ≤ bounced_room → IsReady t m pages room bounced_room (parts_of es)
+pub entries_ready : (t : TagLimits) (m : ℕ) (pages : List Pa) (room bounced_room : ℕ) (es : List Entry) →
+    AllByRecursion IsEntry es → entries_bytes es ≤ 2 ^ 20 → need_of (chunks_of t m es) ≤ length pages →
+    min (length (placed_pieces t (chunks_of t m es) pages)) t.nsegments ≤ room →
+    need_of (chunks_of t m es) ≤ bounced_room → IsReady t m pages room bounced_room (parts_of es)
 entries_ready t m pages room bounced_room es entries bytes need fits bounced =
     let same = chunks_of_parts t m es in
     record {

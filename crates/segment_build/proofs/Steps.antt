@@ -1,5 +1,6 @@
 -- One part of a stream after the other.
-use Rattle.std.proofs.Common.{◌≡◌, ℕ, zero, suc, ◌+◌, ◌-◌, ◌≤◌, ◌^◌, List, [], ◌∷◌, ◌++◌, length, drop, true, false, cond, refl, ap, sym, ◌∙◌, subst, arith, append-nil, length-append}
+use Rattle.std.proofs.Common.{◌≡◌, ℕ, zero, suc, ◌+◌, ◌-◌, ◌≤◌, ◌^◌, List, [], ◌∷◌, ◌++◌, length, drop, true, false}
+use Rattle.std.proofs.Common.{cond, refl, ap, sym, ◌∙◌, subst, arith, append-nil, length-append}
 use Rattle.std.specs.Prelude.{Option, Some, None, IfSome, is_some}
 use Rattle.std.specs.Option.{option_to_list, option_or}
 use Rattle.std.specs.List.{AllByRecursion, sum_by}
@@ -12,7 +13,8 @@ use Rattle.busdma_base.specs.declared.machine.chunk.Part.{Part}
 use Rattle.busdma_base.specs.declared.machine.chunk.Part.TheVariants.{Of, Unmapped}
 use Rattle.busdma_base.specs.declared.tags.tag.TagLimits.{TagLimits}
 use Rattle.busdma_base.specs.Runs.{IsExtent, byte_count, run_of}
-use Rattle.busdma_base.specs.Machine.Entry.{IsEntry, IsPart, IsStream, entries_bytes, entries_of, others_of, part_bytes, unmapped_of}
+use Rattle.busdma_base.specs.Machine.Entry.{IsEntry, IsPart, IsStream, entries_bytes, entries_of, others_of}
+use Rattle.busdma_base.specs.Machine.Entry.{part_bytes, unmapped_of}
 use Rattle.busdma_base.specs.Tags.Tag.{IsEffective}
 use Rattle.busdma_base.specs.Tags.TagFlags.{keep_pg_offset}
 use Rattle.segment_build.specs.declared.cutter.Cutter.{Cutter}
@@ -38,16 +40,31 @@ parts_bytes ps = sum_by part_bytes ps
 
 after_at : (t : TagLimits) (m : ℕ) (s : Cutter) (ps : List Part) → (after t m s ps).at ≡ s.at + parts_bytes ps
 after_at t m s [] = omega arith
-after_at t m s (p ∷ ps) = omega (arith, after_at t m (after_part t m s p) ps, part_at t m s p, sum_by-cons part_bytes p ps)
+after_at t m s (p ∷ ps) =
+    omega (arith, after_at t m (after_part t m s p) ps, part_at t m s p, sum_by-cons part_bytes p ps)
 
 pub bytes_split : (ps : List Part) → parts_bytes ps ≡ byte_count (others_of ps) + entries_bytes (entries_of ps)
 bytes_split [] = refl
 bytes_split (Of e true r ∷ ps) =
-    omega (arith, bytes_split ps, sum_by-cons part_bytes (Of e true r) ps, sum_by-cons (λ (x : Extent). x.len) e (others_of ps), sum_by-cons (λ (x : Entry). byte_count x.parts) (record { rounded = r; parts = e ∷ others_of ps }) (entries_of ps))
-bytes_split (Of e false r ∷ ps) = omega (arith, bytes_split ps, sum_by-cons part_bytes (Of e false r) ps, sum_by-cons (λ (x : Extent). x.len) e (others_of ps))
+    omega (
+      arith,
+      bytes_split ps,
+      sum_by-cons part_bytes (Of e true r) ps,
+      sum_by-cons (λ (x : Extent). x.len) e (others_of ps),
+      sum_by-cons (λ (x : Entry). byte_count x.parts)
+          (record { rounded = r; parts = e ∷ others_of ps }) (entries_of ps),
+    )
+bytes_split (Of e false r ∷ ps) =
+    omega (
+      arith,
+      bytes_split ps,
+      sum_by-cons part_bytes (Of e false r) ps,
+      sum_by-cons (λ (x : Extent). x.len) e (others_of ps),
+    )
 bytes_split (Unmapped n ∷ ps) = omega (arith, bytes_split ps, sum_by-cons part_bytes (Unmapped n) ps)
 
-each_part : (ps : List Part) → AllByRecursion IsExtent (others_of ps) → AllByRecursion IsEntry (entries_of ps) → AllByRecursion IsPart ps
+each_part : (ps : List Part) → AllByRecursion IsExtent (others_of ps) →
+    AllByRecursion IsEntry (entries_of ps) → AllByRecursion IsPart ps
 each_part [] h i = tt
 each_part (Of e true r ∷ ps) h i = (i.0.extents.0, each_part ps i.0.extents.1 i.1)
 each_part (Of e false r ∷ ps) h i = (h.0, each_part ps h.1 i)
@@ -70,7 +87,8 @@ if_listed P None h = tt
 if_listed P (Some x) h = h.0
 
 -- the bytes of a stream so far
-pub stream_at : (t : TagLimits) (m : ℕ) (ps : List Part) → IsStream ps → (after t m uncut ps).at ≡ entries_bytes (entries_of ps)
+pub stream_at : (t : TagLimits) (m : ℕ) (ps : List Part) → IsStream ps →
+    (after t m uncut ps).at ≡ entries_bytes (entries_of ps)
 stream_at t m ps h = omega (arith, after_at t m uncut ps, bytes_split ps, ap byte_count h.opens)
 
 -- ---- a stream and its chunks
@@ -91,7 +109,14 @@ holds t m ps eff h =
     let all = chunks_are t m ps eff h in
     let sound = subst (AllByRecursion (IsSound t)) (sym all) (chunks_sound t m (entries_of ps) eff h.entries) in
     let small = h.bytes in
-    let bytes : chunk_bytes cs + chunk_bytes last ≤ 2 ^ 20 = omega (arith, sum_by-append chunk_len cs last, ap chunk_bytes all, chunks_bytes t m (entries_of ps) eff, small) in
+    let bytes : chunk_bytes cs + chunk_bytes last ≤ 2 ^ 20 =
+    omega (
+      arith,
+      sum_by-append chunk_len cs last,
+      ap chunk_bytes all,
+      chunks_bytes t m (entries_of ps) eff,
+      small,
+    ) in
     record {
       chunks = all;
       sound = all_first (IsSound t) cs last sound;
@@ -106,24 +131,30 @@ pub record HoldsAt (t : TagLimits) (m : ℕ) (ps : List Part) (p : Part) : Type 
   pub part : IsPart p
   pub fits : (after t m uncut ps).at + part_bytes p ≤ 2 ^ 20
   pub sound : IfSome (closed_part (after t m uncut ps) p) (IsSound t)
-  pub closed_are : closed t m uncut (ps ++ p ∷ []) ≡ closed t m uncut ps ++ option_to_list (closed_part (after t m uncut ps) p)
+  pub closed_are : closed t m uncut (ps ++ p ∷ []) ≡ closed t m uncut ps
+      ++ option_to_list (closed_part (after t m uncut ps) p)
   pub after_is : after t m uncut (ps ++ p ∷ []) ≡ after_part t m (after t m uncut ps) p
   pub chunks : AllByRecursion (IsSound t) (closed t m uncut ps)
   pub bytes : chunk_bytes (closed t m uncut ps) ≤ 2 ^ 20
   pub need : need_of (closed t m uncut ps) ≤ 2 ^ 20
 
-pub holds_at : (t : TagLimits) (m : ℕ) (ps : List Part) (p : Part) → IsEffective t → IsStream (ps ++ p ∷ []) → HoldsAt t m ps p
+pub holds_at : (t : TagLimits) (m : ℕ) (ps : List Part) (p : Part) → IsEffective t →
+    IsStream (ps ++ p ∷ []) → HoldsAt t m ps p
 holds_at t m ps p eff h =
     let cs = closed t m uncut ps in
     let one = option_to_list (closed_part (after t m uncut ps) p) in
     let all = holds t m (ps ++ p ∷ []) eff h in
-    let more : closed t m uncut (ps ++ p ∷ []) ≡ cs ++ one = closed_append t m uncut ps (p ∷ []) ∙ ap (λ xs. cs ++ xs) (append-nil one) in
+    let more : closed t m uncut (ps ++ p ∷ []) ≡ cs ++ one =
+    closed_append t m uncut ps (p ∷ []) ∙ ap (λ xs. cs ++ xs) (append-nil one) in
     let next = after_append t m uncut ps (p ∷ []) in
     let small = h.bytes in
     let sound = subst (AllByRecursion (IsSound t)) more all.sound in
-    let bytes : chunk_bytes cs ≤ 2 ^ 20 = omega (arith, sum_by-append chunk_len cs one, ap chunk_bytes more, all.bytes) in
+    let bytes : chunk_bytes cs ≤ 2 ^ 20 =
+    omega (arith, sum_by-append chunk_len cs one, ap chunk_bytes more, all.bytes) in
     record {
-      part = last_of_all IsPart ps p (each_part (ps ++ p ∷ []) (subst (AllByRecursion IsExtent) (sym h.opens) tt) h.entries);
+      part =
+          last_of_all IsPart ps p (each_part (ps ++ p ∷ [])
+          (subst (AllByRecursion IsExtent) (sym h.opens) tt) h.entries);
       fits = omega (arith, all.at, ap (λ (s : Cutter). s.at) next, part_at t m (after t m uncut ps) p, small);
       sound = if_listed (IsSound t) (closed_part (after t m uncut ps) p) (all_second (IsSound t) cs one sound);
       closed_are = more;
@@ -144,29 +175,52 @@ run_few : (t : TagLimits) (a n : ℕ) → IsEffective t → length (pieces_of t 
 run_few t a n eff = omega (arith, ap length (pieces_are_from t a n eff.maxsegsz), from_few n t a n)
 
 -- a chunk that is not bounced lies on the bus where its bytes are
-pub own_run : (t : TagLimits) (c : Chunk) → IsSound t c → c.bounced ≡ false → bus_addresses c ≡ run_of c.first.pa.0 (chunk_len c)
+pub own_run : (t : TagLimits) (c : Chunk) → IsSound t c → c.bounced ≡ false →
+    bus_addresses c ≡ run_of c.first.pa.0 (chunk_len c)
 own_run t c h b =
     let own = h.own b in
-    let len : chunk_len c ≡ c.first.len = ap (λ r. byte_count (c.first ∷ option_to_list r)) (own.single b) ∙ omega arith in
-    rw (no_page c.page (own.paged ∙ b), own.single b, append-nil (run_of c.first.pa.0 c.first.len)) (ap (λ n. run_of c.first.pa.0 n) (omega arith))
+    let len : chunk_len c ≡ c.first.len =
+    ap (λ r. byte_count (c.first ∷ option_to_list r)) (own.single b) ∙ omega arith in
+    rw (no_page c.page (own.paged ∙ b), own.single b, append-nil (run_of c.first.pa.0 c.first.len))
+    (ap (λ n. run_of c.first.pa.0 n) (omega arith))
   where
     no_page : (o : Option Pa) → is_some o ≡ false → o ≡ None
     no_page None e = refl
     no_page (Some x) e = absurd cc
 
 -- no more pieces than bytes
-pub pieces_few : (t : TagLimits) (cs : List Chunk) (pages : List Pa) → IsEffective t → AllByRecursion (IsSound t) cs → length (placed_pieces t cs pages) ≤ chunk_bytes cs
+pub pieces_few : (t : TagLimits) (cs : List Chunk) (pages : List Pa) → IsEffective t → AllByRecursion (IsSound t) cs →
+    length (placed_pieces t cs pages) ≤ chunk_bytes cs
 pieces_few t [] pages eff h = omega arith
 pieces_few t (c ∷ cs) pages eff h =
     let keep = keep_pg_offset t.flags in
     let all = sum_by-cons chunk_len c cs in
-    (elim c.bounced as (λ b. c.bounced ≡ b → length (chunk_pieces t (cond b (in_page keep (first_page pages) c ∷ placed keep cs (drop 1 pages)) (c ∷ placed keep cs pages))) ≤ chunk_bytes (c ∷ cs)) [
-      | true ↦ λ w. omega (arith, all, run_few t ((first_page pages).0 + page_offset keep c.first.pa.0) (chunk_len c) eff, pieces_few t cs (drop 1 pages) eff h.1, length-append (pieces_of t (bus_addresses (in_page keep (first_page pages) c))) (chunk_pieces t (placed keep cs (drop 1 pages))))
-      | false ↦ λ w. omega (arith, all, ap (λ bs. length (pieces_of t bs)) (own_run t c h.0 w), run_few t c.first.pa.0 (chunk_len c) eff, pieces_few t cs pages eff h.1, length-append (pieces_of t (bus_addresses c)) (chunk_pieces t (placed keep cs pages)))
+    (elim c.bounced as (λ b. c.bounced ≡ b →
+    length
+    (chunk_pieces t (cond b (in_page keep (first_page pages) c ∷ placed keep cs (drop 1 pages))
+    (c ∷ placed keep cs pages))) ≤ chunk_bytes (c ∷ cs)) [
+      | true ↦
+          λ w. omega (
+            arith,
+            all,
+            run_few t ((first_page pages).0 + page_offset keep c.first.pa.0) (chunk_len c) eff,
+            pieces_few t cs (drop 1 pages) eff h.1,
+            length-append (pieces_of t (bus_addresses (in_page keep (first_page pages) c)))
+                (chunk_pieces t (placed keep cs (drop 1 pages))),
+          )
+      | false ↦ λ w. omega (
+        arith,
+        all,
+        ap (λ bs. length (pieces_of t bs)) (own_run t c h.0 w),
+        run_few t c.first.pa.0 (chunk_len c) eff,
+        pieces_few t cs pages eff h.1,
+        length-append (pieces_of t (bus_addresses c)) (chunk_pieces t (placed keep cs pages)),
+      )
     ]) refl
 
 -- the first byte that cannot be reached, with a part more
-pub unmapped_last : (ps : List Part) (p : Part) → unmapped_of (ps ++ p ∷ []) ≡ option_or (unmapped_of ps) (unmapped_of (p ∷ []))
+pub unmapped_last : (ps : List Part) (p : Part) →
+    unmapped_of (ps ++ p ∷ []) ≡ option_or (unmapped_of ps) (unmapped_of (p ∷ []))
 unmapped_last [] p = refl
 unmapped_last (Of e o r ∷ ps) p = unmapped_last ps p
 unmapped_last (Unmapped n ∷ ps) p = refl
@@ -176,7 +230,9 @@ no_pages zero = refl
 no_pages (suc k) = refl
 
 -- the number of pieces with chunks more
-pub pieces_more : (t : TagLimits) (xs ys : List Chunk) → length (placed_pieces t (xs ++ ys) []) ≡ length (placed_pieces t xs []) + length (placed_pieces t ys [])
+pub pieces_more : (t : TagLimits) (xs ys : List Chunk) →
+    length (placed_pieces t (xs ++ ys) []) ≡ length (placed_pieces t xs []) + length (placed_pieces t ys [])
 pieces_more t xs ys =
-    ap length (pieces_append t xs ys []) ∙ (length-append (placed_pieces t xs []) (placed_pieces t ys (drop (need_of xs) []))
+    ap length (pieces_append t xs ys [])
+    ∙ (length-append (placed_pieces t xs []) (placed_pieces t ys (drop (need_of xs) []))
     ∙ ap (λ ps. length (placed_pieces t xs []) + length (placed_pieces t ys ps)) (no_pages (need_of xs)))

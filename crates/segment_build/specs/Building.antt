@@ -26,7 +26,8 @@ pub record IsSound (t : TagLimits) (c : Chunk) : Type 0 where
 
 -- What the private steps of the code do; no public clause cites it: the segments and bounced chunks that are
 -- built of these chunks, while the segments are few enough
-pub record IsSoFar (t : TagLimits) (pages : List Pa) (cs : List Chunk) (segments : List Segment) (bounced : List Chunk) (few : Bool) : Type 0 where
+pub record IsSoFar (t : TagLimits) (pages : List Pa) (cs : List Chunk) (segments : List Segment)
+    (bounced : List Chunk) (few : Bool) : Type 0 where
   pub segments_are : few ≡ true → IsFew t (placed_pieces t cs pages) segments
   pub bounced_are : few ≡ true → bounced ≡ bounced_of (tag_placed t cs pages)
   pub too_many : few ≡ false → AreTooMany t (placed_pieces t cs pages)

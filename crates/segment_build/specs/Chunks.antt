@@ -1,6 +1,7 @@
 -- How the bytes of entries are cut into chunks, of which each stays where it is or moves as a whole to one
 -- bounce page: after the x86 bounce code.
-use Rattle.std.specs.Prelude.{ℕ, zero, suc, ◌+◌, ◌-◌, ◌*◌, ◌/◌, ◌%◌, Bool, ◌&&◌, not, if◌then◌else◌, List, [], ◌∷◌, ◌++◌, length, min, take, drop, Option, Some, None}
+use Rattle.std.specs.Prelude.{ℕ, zero, suc, ◌+◌, ◌-◌, ◌*◌, ◌/◌, ◌%◌, Bool, ◌&&◌, not, if◌then◌else◌, List, [], ◌∷◌}
+use Rattle.std.specs.Prelude.{◌++◌, length, min, take, drop, Option, Some, None}
 use Rattle.std.specs.List.{filter}
 use Rattle.busdma_base.specs.declared.machine.address.Extent.{Extent}
 use Rattle.busdma_base.specs.declared.machine.chunk.Chunk.{Chunk}
@@ -36,7 +37,8 @@ abbrev pub extent_from : List ℕ → Option Extent
 extent_from [] = None
 extent_from (a ∷ bs) = Some (record { pa = record { 0 = a }; len = length (a ∷ bs) })
 
--- the chunk of these bytes, of which the first is at a place of the load; it is bounced where its first address needs that
+-- the chunk of these bytes, of which the first is at a place of the load; it is bounced where its first address needs
+-- that
 abbrev pub chunk_of : TagLimits → ℕ → ℕ → List ℕ → Chunk
 chunk_of t maxmem at bytes = record {
   at = at;

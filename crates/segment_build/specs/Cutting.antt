@@ -1,6 +1,7 @@
 -- What the private steps of the code do; no public clause cites them.
 -- How extents are cut into chunks one after the other: what is left of a chunk to the next extent, step by step.
-use Rattle.std.specs.Prelude.{ℕ, ◌+◌, ◌-◌, ◌==◌, Bool, false, nat_le, if◌then◌else◌, List, [], ◌∷◌, ◌++◌, Option, Some, None}
+use Rattle.std.specs.Prelude.{ℕ, ◌+◌, ◌-◌, ◌==◌, Bool, false, nat_le, if◌then◌else◌, List, [], ◌∷◌, ◌++◌, Option, Some}
+use Rattle.std.specs.Prelude.{None}
 use Rattle.std.specs.Option.{option_to_list}
 use Rattle.busdma_base.specs.declared.machine.address.Extent.{Extent}
 use Rattle.busdma_base.specs.declared.machine.chunk.Chunk.{Chunk}
@@ -24,7 +25,8 @@ begun_chunk t maxmem at a n = record {
 -- the last chunk with n bytes more, from an address on
 abbrev pub with_rest : Option Chunk → ℕ → ℕ → Option Chunk
 with_rest None a n = None
-with_rest (Some c) a n = Some (if n == 0 then c else record c { rest = Some (record { pa = record { 0 = a }; len = n }) })
+with_rest (Some c) a n =
+    Some (if n == 0 then c else record c { rest = Some (record { pa = record { 0 = a }; len = n }) })
 
 -- before the first extent
 abbrev pub uncut : Cutter

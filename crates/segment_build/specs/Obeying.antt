@@ -1,5 +1,6 @@
 -- When the segments of a load obey its tag.
-use Rattle.std.specs.Prelude.{◌≡◌, ◌≢◌, ℕ, ◌+◌, ◌-◌, ◌/◌, ◌%◌, ◌<◌, ◌≤◌, true, false, List, [], length, sum_by, Contains}
+use Rattle.std.specs.Prelude.{◌≡◌, ◌≢◌, ℕ, ◌+◌, ◌-◌, ◌/◌, ◌%◌, ◌<◌, ◌≤◌, true, false, List, [], length, sum_by}
+use Rattle.std.specs.Prelude.{Contains}
 use Rattle.busdma_base.specs.declared.machine.address.Pa.{Pa}
 use Rattle.busdma_base.specs.declared.machine.address.Segment.{Segment}
 use Rattle.busdma_base.specs.declared.machine.chunk.Chunk.{Chunk}
@@ -21,7 +22,8 @@ LiesInWindow t s = t.boundary ≢ 0 → s.addr.0 / t.boundary ≡ (s.addr.0 + s.
 -- the tag keeps offsets, as far into its page as that byte into its own
 abbrev pub BeginsWith : TagLimits → Segment → Chunk → Type 0
 BeginsWith t s c =
-    (keep_pg_offset t.flags ≡ false → s.addr.0 % t.alignment ≡ 0) × (keep_pg_offset t.flags ≡ true → s.addr.0 % 4096 ≡ c.first.pa.0 % 4096)
+    (keep_pg_offset t.flags ≡ false → s.addr.0 % t.alignment ≡ 0)
+    × (keep_pg_offset t.flags ≡ true → s.addr.0 % 4096 ≡ c.first.pa.0 % 4096)
 
 -- maxsegsz and boundary are multiples of the alignment
 abbrev pub HasAlignedSizes : TagLimits → Type 0

@@ -1,5 +1,6 @@
 -- The pieces of a chunk's bus bytes, by tests on their places.
-use Rattle.std.specs.Prelude.{ℕ, zero, suc, ◌-◌, ◌%◌, ◌==◌, Bool, ◌&&◌, not, if◌then◌else◌, List, [], ◌∷◌, length, min, slice_index}
+use Rattle.std.specs.Prelude.{ℕ, zero, suc, ◌-◌, ◌%◌, ◌==◌, Bool, ◌&&◌, not, if◌then◌else◌, List, [], ◌∷◌, length, min}
+use Rattle.std.specs.Prelude.{slice_index}
 use Rattle.std.specs.List.{filter, flat_map, range_with_len}
 use Rattle.busdma_base.specs.declared.machine.address.Segment.{Segment}
 use Rattle.busdma_base.specs.declared.machine.chunk.Chunk.{Chunk}
@@ -48,4 +49,5 @@ chunk_pieces t cs = flat_map (λ c. pieces_of t (bus_addresses c)) cs
 -- What the private steps of the code do; no public clause cites it: the length of the piece that begins at a bus
 -- address, where so many bytes of its chunk are left: up to maxsegsz, and up to the next multiple of the boundary
 abbrev pub piece_len : TagLimits → ℕ → ℕ → ℕ
-piece_len t a left = if t.boundary == 0 then min left t.maxsegsz else min (min left t.maxsegsz) (t.boundary - a % t.boundary)
+piece_len t a left =
+    if t.boundary == 0 then min left t.maxsegsz else min (min left t.maxsegsz) (t.boundary - a % t.boundary)

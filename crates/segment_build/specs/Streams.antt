@@ -22,10 +22,12 @@ stream_chunks t maxmem parts = chunks_of t maxmem (entries_of parts)
 
 -- a stream in which each byte can be reached needs so many bounce pages, and has so many pieces, in
 -- whichever pages, and so many bytes
-pub record IsMeasure (t : TagLimits) (maxmem : ℕ) (parts : List Part) (pages_needed piece_number byte_number : ℕ) : Type 0 where
+pub record IsMeasure (t : TagLimits) (maxmem : ℕ) (parts : List Part)
+    (pages_needed piece_number byte_number : ℕ) : Type 0 where
   pub mapped : unmapped_of parts ≡ None
   pub need : pages_needed ≡ need_of (stream_chunks t maxmem parts)
-  pub pieces : (pages : List Pa) → AllByRecursion IsPage pages → piece_number ≡ length (placed_pieces t (stream_chunks t maxmem parts) pages)
+  pub pieces : (pages : List Pa) → AllByRecursion IsPage pages →
+      piece_number ≡ length (placed_pieces t (stream_chunks t maxmem parts) pages)
   pub bytes : byte_number ≡ entries_bytes (entries_of parts)
 
 -- the measure of a stream, or its first byte that cannot be reached
@@ -34,7 +36,8 @@ IsMeasured t maxmem parts (Fits need pieces bytes) = IsMeasure t maxmem parts ne
 IsMeasured t maxmem parts (Unmapped at) = unmapped_of parts ≡ Some at
 
 -- the segments of a stream with these pages, few enough, and its bounced chunks in their pages
-pub record IsBuiltFrom (t : TagLimits) (maxmem : ℕ) (pages : List Pa) (parts : List Part) (segments : List Segment) (bounced : List Chunk) : Type 0 where
+pub record IsBuiltFrom (t : TagLimits) (maxmem : ℕ) (pages : List Pa) (parts : List Part)
+    (segments : List Segment) (bounced : List Chunk) : Type 0 where
   pub segments_are : IsFew t (placed_pieces t (stream_chunks t maxmem parts) pages) segments
   pub bounced_are : bounced ≡ bounced_of (tag_placed t (stream_chunks t maxmem parts) pages)
 
@@ -51,8 +54,10 @@ IsStreamed t maxmem pages parts TooMany = OverflowsFrom t maxmem pages parts
 pub record AsksNoMore (t : TagLimits) (maxmem : ℕ) (pages : List Pa) (front whole : List Part) : Type 0 where
   pub stream : IsStream front
   pub need : need_of (stream_chunks t maxmem front) ≤ need_of (stream_chunks t maxmem whole)
-  pub pieces : length (placed_pieces t (stream_chunks t maxmem front) pages) ≤ length (placed_pieces t (stream_chunks t maxmem whole) pages)
+  pub pieces : length (placed_pieces t (stream_chunks t maxmem front) pages)
+      ≤ length (placed_pieces t (stream_chunks t maxmem whole) pages)
 
 -- so does each front of each stream
 abbrev pub FrontsAskNoMore : TagLimits → ℕ → List Pa → Type 0
-FrontsAskNoMore t maxmem pages = (front rest : List Part) → IsStream (front ++ rest) → AsksNoMore t maxmem pages front (front ++ rest)
+FrontsAskNoMore t maxmem pages =
+    (front rest : List Part) → IsStream (front ++ rest) → AsksNoMore t maxmem pages front (front ++ rest)

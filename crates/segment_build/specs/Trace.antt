@@ -1,5 +1,6 @@
 -- Where the bytes of chunks lie on the bus.
-use Rattle.std.specs.Prelude.{◌≡◌, ℕ, ◌+◌, ◌%◌, ◌^◌, ◌<◌, Bool, false, if◌then◌else◌, List, [], ◌∷◌, slice_index_or, drop, Option, Some, None, is_some, unwrap_or}
+use Rattle.std.specs.Prelude.{◌≡◌, ℕ, ◌+◌, ◌%◌, ◌^◌, ◌<◌, Bool, false, if◌then◌else◌, List, [], ◌∷◌, slice_index_or}
+use Rattle.std.specs.Prelude.{drop, Option, Some, None, is_some, unwrap_or}
 use Rattle.std.specs.List.{flat_map}
 use Rattle.std.specs.Option.{option_to_list}
 use Rattle.busdma_base.specs.declared.machine.address.Extent.{Extent}
@@ -32,7 +33,8 @@ first_page pages = slice_index_or pages 0 (record { 0 = 0 })
 -- the chunks in their pages: the first that is bounced has the first page, and so on
 abbrev pub placed : Bool → List Chunk → List Pa → List Chunk
 placed keep [] pages = []
-placed keep (c ∷ cs) pages = if c.bounced then in_page keep (first_page pages) c ∷ placed keep cs (drop 1 pages) else c ∷ placed keep cs pages
+placed keep (c ∷ cs) pages =
+    if c.bounced then in_page keep (first_page pages) c ∷ placed keep cs (drop 1 pages) else c ∷ placed keep cs pages
 
 -- the bus addresses of the bytes of a chunk: from its place in a page on, or those of the bytes
 abbrev pub bus_from : Option Pa → Chunk → List ℕ
@@ -58,7 +60,8 @@ IsPage page = (page.0 % 4096 ≡ 0) × (page.0 < 2 ^ 42)
 abbrev pub bus_extent : Chunk → Extent
 bus_extent c = record { pa = unwrap_or c.page c.first.pa; len = chunk_len c }
 
--- a chunk is in its place: it has a page where it is bounced, and one extent alone where it is not, and its bus bytes lie in one frame
+-- a chunk is in its place: it has a page where it is bounced, and one extent alone where it is not, and its bus bytes
+-- lie in one frame
 pub record IsPlaced (c : Chunk) : Type 0 where
   pub paged : is_some c.page ≡ c.bounced
   pub single : c.bounced ≡ false → c.rest ≡ None

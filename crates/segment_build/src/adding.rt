@@ -36,10 +36,12 @@ pub(crate) fn add_chunk(
     ensures many { let pieces = placed_pieces limits.now (chunk ∷ []) (drop (length bounced.old.items) pages.now) in
         result ≡ Ok false → limits.now.nsegments < length (added_all limits.now list.old.items pieces) }
     ensures room { list.old.spare + length list.old.items ≤ list.new.spare + length list.new.items }
-    ensures bounced_room { bounced.old.spare + length bounced.old.items ≤ bounced.new.spare + length bounced.new.items }
+    ensures bounced_room { bounced.old.spare + length bounced.old.items
+        ≤ bounced.new.spare + length bounced.new.items }
     ensures within { let pieces = placed_pieces limits.now (chunk ∷ []) (drop (length bounced.old.items) pages.now) in
         need_of (chunk ∷ []) ≤ bounced.old.spare
-        → min (length (added_all limits.now list.old.items pieces)) limits.now.nsegments ≤ list.old.spare + length list.old.items
+        → min (length (added_all limits.now list.old.items pieces)) limits.now.nsegments
+        ≤ list.old.spare + length list.old.items
         → IsOk result }
 {
     if !chunk.bounced {

@@ -18,7 +18,8 @@ pub(crate) fn add_piece(
     ensures few { result ≡ Ok true → length list.new.items ≤ limits.now.nsegments }
     ensures many { result ≡ Ok false → limits.now.nsegments < length (added limits.now list.old.items piece) }
     ensures room { list.old.spare + length list.old.items ≤ list.new.spare + length list.new.items }
-    ensures within { min (length (added limits.now list.old.items piece)) limits.now.nsegments ≤ list.old.spare + length list.old.items → IsOk result }
+    ensures within { min (length (added limits.now list.old.items piece)) limits.now.nsegments ≤ list.old.spare
+        + length list.old.items → IsOk result }
 {
     let last = list.last().copied();
     if let Some(joint) = joined(limits, last, piece) {

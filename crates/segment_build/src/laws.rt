@@ -22,7 +22,8 @@ use dma_tag::Tag;
 pub fn chunks_cover(tag: &Tag, maxmem: u64, entries: &[Entry], pages: &[Pa])
     requires entries { AllByRecursion IsEntry entries.now }
     requires pages { AllByRecursion IsPage pages.now }
-    ensures bytes { flat_map (λ c. addresses (chunk_extents c)) (chunks_of tag.now maxmem entries.now) ≡ flat_map entry_addresses entries.now }
+    ensures bytes { flat_map (λ c. addresses (chunk_extents c)) (chunks_of tag.now maxmem entries.now)
+        ≡ flat_map entry_addresses entries.now }
     ensures at { EachAfter (λ before c. c.at ≡ sum_by chunk_len before) [] (chunks_of tag.now maxmem entries.now) }
     ensures sound { AllByRecursion (IsSound tag.now) (chunks_of tag.now maxmem entries.now) }
     ensures placed { AllByRecursion IsPlaced (tag_placed tag.now (chunks_of tag.now maxmem entries.now) pages.now) }

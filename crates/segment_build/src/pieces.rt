@@ -27,7 +27,8 @@ pub(crate) fn add_run(
         result ≡ Ok false → limits.now.nsegments < length (added_all limits.now list.old.items pieces) }
     ensures room { list.old.spare + length list.old.items ≤ list.new.spare + length list.new.items }
     ensures within { let pieces = pieces_of limits.now (run_of run.addr.0 run.len) in
-        min (length (added_all limits.now list.old.items pieces)) limits.now.nsegments ≤ list.old.spare + length list.old.items → IsOk result }
+        min (length (added_all limits.now list.old.items pieces)) limits.now.nsegments ≤ list.old.spare
+        + length list.old.items → IsOk result }
 {
     let mut at = run.addr.0;
     let mut left = run.len;

@@ -1,6 +1,7 @@
 //! Segments from a stream of extents, in one pass.
 
-ghost use Rattle.std.specs.Prelude.{◌≡◌, ◌+◌, ◌<◌, ◌≤◌, [], ◌++◌, length, min, true, List, MatchBool, IfOk, IfSome, IsOk};
+ghost use Rattle.std.specs.Prelude.{◌≡◌, ◌+◌, ◌<◌, ◌≤◌, [], ◌++◌, length, min, true, List, MatchBool, IfOk, IfSome};
+ghost use Rattle.std.specs.Prelude.{IsOk};
 ghost use Rattle.std.specs.Iterator.{Drains, HoldsAlong, IsFinite};
 ghost use Rattle.std.specs.List.{AllByRecursion};
 ghost use Rattle.std.specs.Option.{option_to_list};
@@ -46,8 +47,10 @@ pub fn build_from<I: Iterator<Item = Part>>(
     requires ends { IsFinite (I.remaining parts) }
     requires stream { HoldsAlong I.next_gives parts IsStream }
     requires pages { AllByRecursion IsPage pages.now }
-    requires need { HoldsAlong I.next_gives parts (λ ps. need_of (stream_chunks tag.now maxmem ps) ≤ length pages.now) }
-    ensures { IfOk result (λ r. (ps : List Part) × Drains I.next_gives parts ps × IsStreamed tag.now maxmem pages.now ps r) }
+    requires need { HoldsAlong I.next_gives parts
+        (λ ps. need_of (stream_chunks tag.now maxmem ps) ≤ length pages.now) }
+    ensures { IfOk result (λ r. (ps : List Part) × Drains I.next_gives parts ps
+        × IsStreamed tag.now maxmem pages.now ps r) }
 {
     let mut list = SegmentRoom::new(alloc);
     let mut bounced = ChunkRoom::new(alloc);
@@ -76,11 +79,15 @@ pub fn build_into<I: Iterator<Item = Part>>(
     requires ends { IsFinite (I.remaining parts) }
     requires stream { HoldsAlong I.next_gives parts IsStream }
     requires pages { AllByRecursion IsPage pages.now }
-    requires need { HoldsAlong I.next_gives parts (λ ps. need_of (stream_chunks tag.now maxmem ps) ≤ length pages.now) }
+    requires need { HoldsAlong I.next_gives parts
+        (λ ps. need_of (stream_chunks tag.now maxmem ps) ≤ length pages.now) }
     requires empty { list.old.items ≡ [] }
     requires empty_bounced { bounced.old.items ≡ [] }
-    requires room { HoldsAlong I.next_gives parts (λ ps. min (length (placed_pieces tag.now (stream_chunks tag.now maxmem ps) pages.now)) tag.now.nsegments ≤ list.old.spare) }
-    requires bounced_room { HoldsAlong I.next_gives parts (λ ps. need_of (stream_chunks tag.now maxmem ps) ≤ bounced.old.spare) }
+    requires room { HoldsAlong I.next_gives parts
+        (λ ps. min (length (placed_pieces tag.now (stream_chunks tag.now maxmem ps) pages.now)) tag.now.nsegments
+        ≤ list.old.spare) }
+    requires bounced_room { HoldsAlong I.next_gives parts
+        (λ ps. need_of (stream_chunks tag.now maxmem ps) ≤ bounced.old.spare) }
     ensures built { (ps : List Part) × Drains I.next_gives parts ps
         × MatchBool result (IsBuiltFrom tag.now maxmem pages.now ps list.new.items bounced.new.items)
         (OverflowsFrom tag.now maxmem pages.now ps × (list.new.items ≡ []) × (bounced.new.items ≡ [])) }
@@ -106,13 +113,16 @@ fn build_within<I: Iterator<Item = Part>>(
     requires ends { IsFinite (I.remaining parts) }
     requires stream { HoldsAlong I.next_gives parts IsStream }
     requires pages { AllByRecursion IsPage pages.now }
-    requires need { HoldsAlong I.next_gives parts (λ ps. need_of (stream_chunks tag.now maxmem ps) ≤ length pages.now) }
+    requires need { HoldsAlong I.next_gives parts
+        (λ ps. need_of (stream_chunks tag.now maxmem ps) ≤ length pages.now) }
     requires empty { list.old.items ≡ [] }
     requires empty_bounced { bounced.old.items ≡ [] }
     ensures built { IfOk result (λ few. (ps : List Part) × Drains I.next_gives parts ps
         × MatchBool few (IsBuiltFrom tag.now maxmem pages.now ps list.new.items bounced.new.items)
         (OverflowsFrom tag.now maxmem pages.now ps × (list.new.items ≡ []) × (bounced.new.items ≡ []))) }
-    ensures within { HoldsAlong I.next_gives parts (λ ps. min (length (placed_pieces tag.now (stream_chunks tag.now maxmem ps) pages.now)) tag.now.nsegments ≤ list.old.spare)
+    ensures within { HoldsAlong I.next_gives parts
+        (λ ps. min (length (placed_pieces tag.now (stream_chunks tag.now maxmem ps) pages.now)) tag.now.nsegments
+        ≤ list.old.spare)
         → HoldsAlong I.next_gives parts (λ ps. need_of (stream_chunks tag.now maxmem ps) ≤ bounced.old.spare)
         → IsOk result }
     ensures room { list.old.spare ≤ list.new.spare + length list.new.items }
@@ -150,10 +160,12 @@ fn add_next(
     ensures so_far { (cs : List Chunk) → IsSoFar limits.now pages.now cs list.old.items bounced.old.items few
         → IfOk result (IsSoFar limits.now pages.now (cs ++ option_to_list next) list.new.items bounced.new.items) }
     ensures room { list.old.spare + length list.old.items ≤ list.new.spare + length list.new.items }
-    ensures bounced_room { bounced.old.spare + length bounced.old.items ≤ bounced.new.spare + length bounced.new.items }
+    ensures bounced_room { bounced.old.spare + length bounced.old.items
+        ≤ bounced.new.spare + length bounced.new.items }
     ensures within { (cs : List Chunk) → IsSoFar limits.now pages.now cs list.old.items bounced.old.items few
         → need_of (cs ++ option_to_list next) ≤ bounced.old.spare + length bounced.old.items
-        → min (length (placed_pieces limits.now (cs ++ option_to_list next) pages.now)) limits.now.nsegments ≤ list.old.spare + length list.old.items
+        → min (length (placed_pieces limits.now (cs ++ option_to_list next) pages.now)) limits.now.nsegments
+        ≤ list.old.spare + length list.old.items
         → IsOk result }
 {
     match next {

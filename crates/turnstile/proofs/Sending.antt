@@ -32,7 +32,8 @@ shared_sync S V K P g s =
       );
     }
 
-lease_sync : (T A : RattleType) (g : Ghosts A.Denot) → IsSend A → Frees g g.dealloc_token → IsSync (Lease.the_row T A g)
+lease_sync : (T A : RattleType) (g : Ghosts A.Denot) → IsSend A →
+    Frees g g.dealloc_token → IsSync (Lease.the_row T A g)
 lease_sync T A g s f = record { shared = λ d b o ν q. part_keyless (Lease.the_row T A g) (right_send T A g f) q d b o }
 
 module _ (T C R E F : RattleType) (g : TurnObject.Ghosts T.Denot C.Denot R.Denot E.Denot F.Denot) where

@@ -7,4 +7,5 @@ wrapped_sum numbers = sum numbers % 2 ^ 64
 
 -- the number was added and the answer is the sum of all, or there was no memory and none was added
 abbrev pub AnswersSum : {A : Type 0} → List ℕ → ℕ → Result ℕ A → List ℕ → Type 0
-AnswersSum before number reply after = MatchResult reply (λ total. (after ≡ before ++ number ∷ []) × (total ≡ wrapped_sum after)) (λ _. after ≡ before)
+AnswersSum before number reply after =
+    MatchResult reply (λ total. (after ≡ before ++ number ∷ []) × (total ≡ wrapped_sum after)) (λ _. after ≡ before)

@@ -7,7 +7,8 @@ use Rattle.turnstile.specs.TurnObject.{IsGain}
 use Rattle.turnstile.specs.Start.{history_after, IsSound}
 use Rattle.turnstile.specs.declared.view.Start.{Start}
 
--- which turnstile it is of, how that started, its name, its front (the turn history as far as it knows it), the names that it knows to have ended, each with its calls, and the further names that it knows to be taken
+-- which turnstile it is of, how that started, its name, its front (the turn history as far as it knows it), the names
+-- that it knows to have ended, each with its calls, and the further names that it knows to be taken
 pub record PassView (E F : Type 0) : Type 0 where
   pub turnstile : TableId
   pub start : Option (Start E F)
@@ -23,13 +24,15 @@ module _ {E F : Type 0} where
 
   -- the first pass of a turnstile that started so
   abbrev pub first_pass : TableId → Start E F → PassView E F
-  first_pass turnstile start = record { turnstile = turnstile; start = Some start; name = 0; front = []; ended = []; taken = [] }
+  first_pass turnstile start =
+      record { turnstile = turnstile; start = Some start; name = 0; front = []; ended = []; taken = [] }
 
   -- the names that it knows to be taken: its own, those that ended in it, and further ones
   abbrev pub known_names : PassView E F → List ℕ
   known_names pass = pass.name ∷ (map (λ other. other.0) pass.ended ++ pass.taken)
 
-  -- a new pass has this name, of which the old pass knew no call and did not know that it was taken; it knows the same turns, and saw no name end
+  -- a new pass has this name, of which the old pass knew no call and did not know that it was taken; it knows the same
+  -- turns, and saw no name end
   pub record SplitsOff (name : ℕ) (old pass : PassView E F) : Type 0 where
     pub is : pass ≡ record old { name = name; ended = []; taken = known_names old }
     pub calls : calls_of name old.front ≡ []
@@ -41,7 +44,12 @@ module _ {E F : Type 0} where
 
   -- a pass took another in: it has the longer front, and knows that the other's name ended with its calls
   pub record TakesIn (old other new : PassView E F) : Type 0 where
-    pub is : new ≡ record old { front = longer old.front other.front; ended = old.ended ++ (other.name, own_calls other) ∷ other.ended; taken = old.taken ++ other.taken }
+    pub is : new ≡ record old {
+      front = longer old.front other.front;
+      ended = old.ended
+          ++ (other.name, own_calls other) ∷ other.ended;
+      taken = old.taken ++ other.taken;
+    }
     pub begins : IsPrefix old.front new.front
     pub begins_other : IsPrefix other.front new.front
     pub own : own_calls new ≡ own_calls old
@@ -50,16 +58,20 @@ module _ {E F : Type 0} where
 abbrev pub MayCall : {C E F : Type 0} → (F → List E → ℕ → C → Type 0) → PassView E F → C → Type 0
 MayCall may pass call = IfSome pass.start (λ start. may start.fixed (history_after start pass.front) pass.name call)
 
--- what a pass knows is true of an object: its front is sound, its name is one of the names, and a name that ended has in its front the calls that it ended with
-pub record IsSoundPass {E F : Type 0} (legal : F → List E → Type 0) (fits : ℕ → E → Type 0) (pass : PassView E F) : Type 0 where
+-- what a pass knows is true of an object: its front is sound, its name is one of the names, and a name that ended has
+-- in its front the calls that it ended with
+pub record IsSoundPass {E F : Type 0} (legal : F → List E → Type 0) (fits : ℕ → E →
+    Type 0) (pass : PassView E F) : Type 0 where
   pub start : Start E F
   pub started : pass.start ≡ Some start
   pub front : IsSound legal fits start pass.front
   pub name : pass.name < start.names
   pub ended : All (λ other. calls_of other.0 pass.front ≡ other.1) pass.ended
 
--- a pass had a turn: its front went on by turns of others, and then by its own, which added one entry or none; the reply answers the call in the history of that moment
-pub record HasTurn {C R E F : Type 0} (fits : ℕ → E → Type 0) (answers : F → List E → ℕ → C → R → List E → Type 0) (old : PassView E F) (call : C) (reply : R) (new : PassView E F) : Type 0 where
+-- a pass had a turn: its front went on by turns of others, and then by its own, which added one entry or none; the
+-- reply answers the call in the history of that moment
+pub record HasTurn {C R E F : Type 0} (fits : ℕ → E → Type 0) (answers : F → List E → ℕ → C → R → List E →
+    Type 0) (old : PassView E F) (call : C) (reply : R) (new : PassView E F) : Type 0 where
   pub start : Start E F
   pub started : old.start ≡ Some start
   pub between : List (ℕ × E)
@@ -70,10 +82,13 @@ pub record HasTurn {C R E F : Type 0} (fits : ℕ → E → Type 0) (answers : F
   pub rest : new ≡ record old { front = new.front }
   pub own : own_calls new ≡ own_calls old ++ gain
   pub history : history_after start new.front ≡ history_after start (old.front ++ between) ++ gain
-  pub answered : answers start.fixed (history_after start (old.front ++ between)) old.name call reply (history_after start new.front)
+  pub answered : answers start.fixed (history_after start (old.front ++ between)) old.name
+      call reply (history_after start new.front)
 
--- what a closed turnstile gives: the object as a sound turn history left it, which begins with the last pass's front, has no more of that pass's calls, and has just the calls of each name that ended in it
-pub record Closes {O E F : Type 0} (history : O → List E) (fixed : O → F) (legal : F → List E → Type 0) (fits : ℕ → E → Type 0) (pass : PassView E F) (object : O) : Type 0 where
+-- what a closed turnstile gives: the object as a sound turn history left it, which begins with the last pass's front,
+-- has no more of that pass's calls, and has just the calls of each name that ended in it
+pub record Closes {O E F : Type 0} (history : O → List E) (fixed : O → F) (legal : F → List E → Type 0) (fits : ℕ → E →
+    Type 0) (pass : PassView E F) (object : O) : Type 0 where
   pub start : Start E F
   pub started : pass.start ≡ Some start
   pub turns : List (ℕ × E)

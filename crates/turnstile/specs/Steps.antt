@@ -1,5 +1,6 @@
 -- What each atomic step of a turnstile tells the seat that makes it.
-use Rattle.std.specs.Prelude.{◌≡◌, ◌≢◌, ◌-◌, ℕ, ◌<◌, true, false, List, [], ◌∷◌, ◌++◌, length, drop, All, Option, Some, None, is_some}
+use Rattle.std.specs.Prelude.{◌≡◌, ◌≢◌, ◌-◌, ℕ, ◌<◌, true, false, List, [], ◌∷◌, ◌++◌, length, drop, All, Option, Some}
+use Rattle.std.specs.Prelude.{None, is_some}
 use mathlib.Core.List.{IsPrefix}
 use Rattle.atomic_table.specs.Table.{Me, Step, rest}
 use Rattle.turnstile.specs.TurnHistory.{calls_of, IsOfOthers}
@@ -20,7 +21,8 @@ Carries {O} out P = (x : O) × (out ≡ (0, x) ∷ []) × P x
 
 -- the seat is a pass's between its calls
 abbrev pub IsIdle : {O E F : Type 0} → ℕ → Held O E F → Type 0
-IsIdle name m = (m.0.named ≡ true) × (m.0.name ≡ name) × (m.0.turn ≡ false) × (length m.1 ≡ 0) × (is_some m.0.start ≡ true)
+IsIdle name m =
+    (m.0.named ≡ true) × (m.0.name ≡ name) × (m.0.turn ≡ false) × (length m.1 ≡ 0) × (is_some m.0.start ≡ true)
 
 module _ {O E F : Type 0} where
   -- the ticket is the seat's where the word was as expected
@@ -29,7 +31,9 @@ module _ {O E F : Type 0} where
 
   -- where the seat's ticket is served, it learns the whole turn history, and the object stays in the slot
   abbrev pub SeesLastTurn : Step O → Held O E F → ℕ → Held O E F → Type 0
-  SeesLastTurn st m r m' = (r ≡ m.0.ticket → (log : List (ℕ × E)) × (m' ≡ (served_view false log m.0, m.1)) × IsPrefix m.0.front log) × (r ≢ m.0.ticket → m' ≡ m)
+  SeesLastTurn st m r m' =
+      (r ≡ m.0.ticket → (log : List (ℕ × E)) × (m' ≡ (served_view false log m.0, m.1)) × IsPrefix m.0.front log)
+      × (r ≢ m.0.ticket → m' ≡ m)
 
 module _ {E F : Type 0} (legal : F → List E → Type 0) (fits : ℕ → E → Type 0) where
   -- what a view says is true of the object
@@ -42,11 +46,15 @@ module _ {E F : Type 0} (legal : F → List E → Type 0) (fits : ℕ → E → 
   module _ {O : Type 0} where
     -- the name is the seat's where its word was 0, and is then none of those that the seat knew to be taken
     abbrev pub TakesName : Step O → Held O E F → ℕ → Held O E F → Type 0
-    TakesName st m r m' = (r ≡ 0 → (m' ≡ (named_view (st.word - 2) m.0, m.1)) × All (λ n. n ≢ st.word - 2) m.0.taken × ((start : Start E F) → m.0.start ≡ Some start → Knows start m'.0)) × (r ≢ 0 → m' ≡ (refused_view (st.word - 2) m.0, m.1))
+    TakesName st m r m' =
+        (r ≡ 0 → (m' ≡ (named_view (st.word - 2) m.0, m.1)) × All (λ n. n ≢ st.word - 2) m.0.taken
+        × ((start : Start E F) → m.0.start ≡ Some start → Knows start m'.0))
+        × (r ≢ 0 → m' ≡ (refused_view (st.word - 2) m.0, m.1))
 
     -- a look that changes nothing, and tells that what the view says is true
     abbrev pub LearnsTruth : Step O → Held O E F → ℕ → Held O E F → Type 0
-    LearnsTruth st m r m' = (m' ≡ m) × ((start : Start E F) → m.0.start ≡ Some start → Knows start m.0) × All (λ xs. IsPrefix xs m.0.front) m.0.below
+    LearnsTruth st m r m' = (m' ≡ m) × ((start : Start E F) → m.0.start ≡ Some start → Knows start m.0)
+        × All (λ xs. IsPrefix xs m.0.front) m.0.below
 
 module _ {O E F : Type 0} (history : O → List E) where
   -- what the object's calls added, beyond these turns
@@ -61,12 +69,16 @@ module _ {O E F : Type 0} (history : O → List E) where
 
   -- the object goes home, and the next ticket is served
   abbrev pub EndsTurn : (F → List E → Type 0) → (ℕ → E → Type 0) → Step O → Held O E F → ℕ → Held O E F → Type 0
-  EndsTurn legal fits st m r m' = (m' ≡ (finished_view m.0 m.1, rest m.1)) × ((start : Start E F) → m.0.start ≡ Some start → Knows legal fits start m'.0)
+  EndsTurn legal fits st m r m' = (m' ≡ (finished_view m.0 m.1, rest m.1))
+      × ((start : Start E F) → m.0.start ≡ Some start → Knows legal fits start m'.0)
 
   module _ (fixed : O → F) (legal : F → List E → Type 0) (fits : ℕ → E → Type 0) where
-    -- the seat's ticket is served: it knows the whole turn history, in which only others came next, and has the object as that left it
+    -- the seat's ticket is served: it knows the whole turn history, in which only others came next, and has the object
+    -- as that left it
     abbrev pub Sees : (O → List (ℕ × O)) → Held O E F → Held O E F → Type 0
-    Sees out m m' = (start : Start E F) × (log : List (ℕ × E)) × (between : List (ℕ × E)) × (x : O) × (m' ≡ (served_view true log m.0, out x)) × (m.0.front ++ between ≡ log) × (m.0.named ≡ true → IsOfOthers m.0.name between) × IsAt history fixed start log x
+    Sees out m m' = (start : Start E F) × (log : List (ℕ × E)) × (between : List (ℕ × E)) × (x : O)
+        × (m' ≡ (served_view true log m.0, out x)) × (m.0.front ++ between ≡ log)
+        × (m.0.named ≡ true → IsOfOthers m.0.name between) × IsAt history fixed start log x
         × Knows legal fits start m'.0
 
     -- where the seat's ticket is served, the object comes out to it
@@ -75,4 +87,5 @@ module _ {O E F : Type 0} (history : O → List E) where
 
     -- the object has made the call of this view's turn
     abbrev pub HasActed : Start E F → View E F → O → Type 0
-    HasActed start v y = (fixed y ≡ start.fixed) × legal start.fixed (history y) × ((added : List E) × IsGain fits v.name added × (history y ≡ history_after start v.front ++ added))
+    HasActed start v y = (fixed y ≡ start.fixed) × legal start.fixed (history y)
+        × ((added : List E) × IsGain fits v.name added × (history y ≡ history_after start v.front ++ added))

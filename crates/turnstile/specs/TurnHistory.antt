@@ -1,4 +1,5 @@
--- A turn history lists, in the order of the turns, each entry that was added, beside the name of the pass that added it.
+-- A turn history lists, in the order of the turns, each entry that was added, beside the name of the pass that added
+-- it.
 use Rattle.std.specs.Prelude.{◌≢◌, All, ◌==◌, if◌then◌else◌, ℕ, List, [], ◌∷◌, map, length, nat_lt}
 
 module _ {E : Type 0} where

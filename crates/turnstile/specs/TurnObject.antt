@@ -10,13 +10,18 @@ abbrev pub IsGain : {E : Type 0} → (ℕ → E → Type 0) → ℕ → List E �
 IsGain {E} fits name added = (added ≡ []) ⊎ ((entry : E) × fits name entry × (added ≡ entry ∷ []))
 
 -- a call that may be made under a name may still be made after an entry of another name
-abbrev pub OutlastsOthers : {C E F : Type 0} → (F → List E → Type 0) → (ℕ → E → Type 0) → (F → List E → ℕ → C → Type 0) → Type 0
+abbrev pub OutlastsOthers : {C E F : Type 0} → (F → List E → Type 0) →
+    (ℕ → E → Type 0) → (F → List E → ℕ → C → Type 0) → Type 0
 OutlastsOthers {C} {E} {F} legal fits may =
     (fixed : F) (history : List E) (name other : ℕ) (call : C) (entry : E)
-    → may fixed history name call → other ≢ name → fits other entry → legal fixed (history ++ entry ∷ []) → may fixed (history ++ entry ∷ []) name call
+    → may fixed history name call → other ≢ name → fits other entry → legal fixed (history ++ entry ∷ []) →
+    may fixed (history ++ entry ∷ []) name call
 
--- the object was `before`, and is `after` since this call under this name: its fixed part is the same, its history is legal, grew by one entry or none, and the reply answers the call
-pub record IsActed {O C R E F : Type 0} (history : O → List E) (fixed : O → F) (legal : F → List E → Type 0) (fits : ℕ → E → Type 0) (answers : F → List E → ℕ → C → R → List E → Type 0) (name : ℕ) (call : C) (reply : R) (before after : O) : Type 0 where
+-- the object was `before`, and is `after` since this call under this name: its fixed part is the same, its history is
+-- legal, grew by one entry or none, and the reply answers the call
+pub record IsActed {O C R E F : Type 0} (history : O → List E) (fixed : O → F) (legal : F → List E →
+    Type 0) (fits : ℕ → E → Type 0) (answers : F → List E → ℕ → C → R → List E → Type 0) (name : ℕ) (call : C)
+    (reply : R) (before after : O) : Type 0 where
   pub same_fixed : fixed after ≡ fixed before
   pub lawful : legal (fixed after) (history after)
   pub grows : Grows (fits name) (history before) (history after)

@@ -14,12 +14,34 @@ first_of (n ∷ ns) = n ∷ []
 module _ {E F : Type 0} where
   -- what a pass with this view shows
   abbrev pub pass_view : TableId → View E F → PassView E F
-  pass_view turnstile v = record { turnstile = turnstile; start = v.start; name = v.name; front = v.front; ended = v.ended; taken = v.taken }
+  pass_view turnstile v =
+      record {
+        turnstile = turnstile;
+        start = v.start;
+        name = v.name;
+        front = v.front;
+        ended = v.ended;
+        taken = v.taken;
+      }
 
   -- a view with no ticket
-  abbrev pub resting_view : Option (Start E F) → Bool → ℕ → List (ℕ × E) → List E → List (ℕ × List E) → List ℕ → View E F
+  abbrev pub resting_view : Option (Start E F) → Bool → ℕ → List (ℕ × E) →
+      List E → List (ℕ × List E) → List ℕ → View E F
   resting_view start named name front own ended taken =
-      record { start = start; named = named; name = name; waits = false; whole = false; turn = false; ticket = 0; front = front; own = own; ended = ended; taken = taken; below = [] }
+      record {
+        start = start;
+        named = named;
+        name = name;
+        waits = false;
+        whole = false;
+        turn = false;
+        ticket = 0;
+        front = front;
+        own = own;
+        ended = ended;
+        taken = taken;
+        below = [];
+      }
 
   -- the view of the first pass
   abbrev pub first_view : Start E F → View E F
@@ -32,16 +54,43 @@ module _ {E F : Type 0} where
   -- the view with this ticket
   abbrev pub ticket_view : ℕ → View E F → View E F
   ticket_view ticket v =
-      record { start = v.start; named = v.named; name = v.name; waits = true; whole = false; turn = false; ticket = ticket; front = v.front; own = v.own; ended = v.ended; taken = v.taken; below = [] }
+      record {
+        start = v.start;
+        named = v.named;
+        name = v.name;
+        waits = true;
+        whole = false;
+        turn = false;
+        ticket = ticket;
+        front = v.front;
+        own = v.own;
+        ended = v.ended;
+        taken = v.taken;
+        below = [];
+      }
 
   -- the view whose ticket is served after these turns; it is on turn, or closes the turnstile
   abbrev pub served_view : Bool → List (ℕ × E) → View E F → View E F
   served_view turn turns v =
-      record { start = v.start; named = v.named; name = v.name; waits = true; whole = true; turn = turn; ticket = v.ticket; front = turns; own = v.own; ended = v.ended; taken = v.taken; below = [] }
+      record {
+        start = v.start;
+        named = v.named;
+        name = v.name;
+        waits = true;
+        whole = true;
+        turn = turn;
+        ticket = v.ticket;
+        front = turns;
+        own = v.own;
+        ended = v.ended;
+        taken = v.taken;
+        below = [];
+      }
 
   -- the view after its turn, which added these entries
   abbrev pub view_after : List E → View E F → View E F
-  view_after added v = resting_view v.start v.named v.name (v.front ++ turns_of v.name added) (v.own ++ added) v.ended v.taken
+  view_after added v =
+      resting_view v.start v.named v.name (v.front ++ turns_of v.name added) (v.own ++ added) v.ended v.taken
 
   -- the names that have ended once this view is spent, each with its calls
   abbrev pub ended_with : View E F → List (ℕ × List E)

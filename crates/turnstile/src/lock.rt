@@ -1,7 +1,8 @@
 //! The lock.
 ghost use Rattle.std.specs.Prelude.{◌≡◌, ◌≤◌, ◌<◌, IfOk, IfSome, IfNone, OnSome};
 ghost use Rattle.turnstile.specs.Start.{start_of};
-ghost use Rattle.turnstile.specs.Pass.{first_pass, MayCall, IsSoundPass, HasTurn, SplitsOff, finds_taken, TakesIn, Closes};
+ghost use Rattle.turnstile.specs.Pass.{first_pass, MayCall, IsSoundPass, HasTurn, SplitsOff, finds_taken, TakesIn};
+ghost use Rattle.turnstile.specs.Pass.{Closes};
 
 mod steps;
 
@@ -31,7 +32,8 @@ impl<H: TurnObject> Model for Turnstile<H> {
 
     ghost view = { λ t. turnstile_view t.table.shared.table_id t.names };
 
-    ghost invariant = { λ t. (t.table.shared.table_id.words ≡ t.names + 2) × (t.table.shared.key.names ≡ t.names) × (t.table.shared.table_id.slots ≡ 1) };
+    ghost invariant = { λ t. (t.table.shared.table_id.words ≡ t.names + 2) × (t.table.shared.key.names ≡ t.names)
+        × (t.table.shared.table_id.slots ≡ 1) };
 }
 
 impl<H: TurnObject> Turnstile<H> {

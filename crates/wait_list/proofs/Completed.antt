@@ -8,12 +8,16 @@ use Rattle.busdma_base.specs.Bounce.Serving.{completed, left_waiting}
 abbrev pub complete : Waiter → Waiter
 complete w = record w { have = w.need }
 
-pub left-head : (pages lack : ℕ) (w : Waiter) (ws : List Waiter) → lack ≡ w.need - w.have → lack ≤ pages → left_waiting pages (w ∷ ws) ≡ left_waiting (pages - lack) ws
+pub left-head : (pages lack : ℕ) (w : Waiter) (ws : List Waiter) → lack ≡ w.need - w.have → lack ≤ pages →
+    left_waiting pages (w ∷ ws) ≡ left_waiting (pages - lack) ws
 left-head pages lack w ws e l =
-    ap (λ b. cond b (left_waiting (pages - (w.need - w.have)) ws) (record w { have = w.have + pages } ∷ ws)) (le-leb (w.need - w.have) pages (omega arith))
+    ap (λ b. cond b (left_waiting (pages - (w.need - w.have)) ws) (record w { have = w.have + pages } ∷ ws))
+    (le-leb (w.need - w.have) pages (omega arith))
     ∙ ap (λ k. left_waiting (pages - k) ws) (sym e)
 
-pub completed-head : (pages lack : ℕ) (w : Waiter) (ws : List Waiter) → lack ≡ w.need - w.have → lack ≤ pages → completed pages (w ∷ ws) ≡ complete w ∷ completed (pages - lack) ws
+pub completed-head : (pages lack : ℕ) (w : Waiter) (ws : List Waiter) → lack ≡ w.need - w.have → lack ≤ pages →
+    completed pages (w ∷ ws) ≡ complete w ∷ completed (pages - lack) ws
 completed-head pages lack w ws e l =
-    ap (λ b. cond b (complete w ∷ completed (pages - (w.need - w.have)) ws) []) (le-leb (w.need - w.have) pages (omega arith))
+    ap (λ b. cond b (complete w ∷ completed (pages - (w.need - w.have)) ws) [])
+    (le-leb (w.need - w.have) pages (omega arith))
     ∙ ap (λ k. complete w ∷ completed (pages - k) ws) (sym e)

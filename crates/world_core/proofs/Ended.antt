@@ -1,5 +1,6 @@
 -- At rest every script has ended, since no load waits yet.
-use Rattle.std.proofs.Common.{◌≡◌, ℕ, suc, zero, ◌≤◌, Bool, true, false, cond, ◌&&◌, List, [], ◌∷◌, length, Option, Some, None, refl, sym, ap, ◌∙◌, arith, slice_get}
+use Rattle.std.proofs.Common.{◌≡◌, ℕ, suc, zero, ◌≤◌, Bool, true, false, cond, ◌&&◌, List, [], ◌∷◌, length, Option}
+use Rattle.std.proofs.Common.{Some, None, refl, sym, ap, ◌∙◌, arith, slice_get}
 use Rattle.std.proofs.lemmas.Bool.Decides.{nat_tests}
 use Rattle.busdma_base.specs.declared.scenarios.script.Op.{Op}
 use Rattle.busdma_base.specs.declared.scenarios.script.Op.TheVariants as op
@@ -38,7 +39,9 @@ waits_named (op.SyncRange m off len ops) l h = refl
 waits_named (op.CpuRead place len) l h = refl
 waits_named (op.CpuWrite place bytes) l h = refl
 
-no_op : (l : LaneState) (o : Op) (b : Bool) → b ≡ false → entry_of (cond b (stays Blocked l) (stepped side.Script (did.Op l.place) (advanced (operation o l)))).turn ≡ None → ⊥
+no_op : (l : LaneState) (o : Op) (b : Bool) → b ≡ false →
+    entry_of (cond b (stays Blocked l) (stepped side.Script (did.Op l.place) (advanced (operation o l)))).turn ≡ None →
+    ⊥
 no_op l o true e h = absurd (cc)
 no_op l o false e h = absurd (cc)
 
@@ -52,7 +55,8 @@ past_end [] place h = omega arith
 past_end (o ∷ script) zero h = absurd (cc)
 past_end (o ∷ script) (suc place) h = let r = past_end script place h in omega arith
 
-lane_ended : (w : WorldState) → IsAtRest w → (k : ℕ) (l : LaneState) → slice_get w.lanes k ≡ Some l → has_ended l ≡ true
+lane_ended : (w : WorldState) → IsAtRest w → (k : ℕ) (l : LaneState) →
+    slice_get w.lanes k ≡ Some l → has_ended l ≡ true
 lane_ended w rest k l e =
     let q : l.queue ≡ [] = no_queue l l.queue (no_turn side.Transfer) in
     let o : slice_get l.script l.place ≡ None = no_script l (slice_get l.script l.place) q (no_turn side.Script) in

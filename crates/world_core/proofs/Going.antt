@@ -1,5 +1,6 @@
 -- Turns in order, and rounds until one makes no step.
-use Rattle.std.proofs.Common.{◌≡◌, ℕ, zero, suc, ◌+◌, ◌<◌, ◌≤◌, List, [], ◌∷◌, ◌++◌, length, take, get_or, Option, Some, None, refl, sym, ap, ◌∙◌, arith, add-one, length-append, ◌⊎◌, inl, inr}
+use Rattle.std.proofs.Common.{◌≡◌, ℕ, zero, suc, ◌+◌, ◌<◌, ◌≤◌, List, [], ◌∷◌, ◌++◌, length, take, get_or, Option}
+use Rattle.std.proofs.Common.{Some, None, refl, sym, ap, ◌∙◌, arith, add-one, length-append, ◌⊎◌, inl, inr}
 use Rattle.std.proofs.Math.Seq.{take-suc}
 use Rattle.busdma_base.specs.declared.journals.journal.Actor.{Actor}
 use Rattle.busdma_base.specs.declared.journals.journal.JournalEntry.{JournalEntry}
@@ -16,17 +17,21 @@ turns-snoc r [] a = refl
 turns-snoc r (b ∷ order) a = turns-snoc (turn r b) order a
 
 -- one more turn of an order
-pub next_turn : (r x y : Run) (order : List Actor) (i : ℕ) (d : Actor) → i < length order → x ≡ turns r (take i order) → y ≡ turn x (get_or order i d) → y ≡ turns r (take (i + 1) order)
+pub next_turn : (r x y : Run) (order : List Actor) (i : ℕ) (d : Actor) → i < length order →
+    x ≡ turns r (take i order) → y ≡ turn x (get_or order i d) → y ≡ turns r (take (i + 1) order)
 next_turn r x y order i d lt h k =
     k ∙ (ap (λ z. turn z (get_or order i d)) h
-    ∙ sym (ap (λ j. turns r (take j order)) (add-one i) ∙ (ap (turns r) (take-suc order i d lt) ∙ turns-snoc r (take i order) (get_or order i d))))
+    ∙ sym (ap (λ j. turns r (take j order)) (add-one i)
+    ∙ (ap (turns r) (take-suc order i d lt) ∙ turns-snoc r (take i order) (get_or order i d))))
 
 -- one more round
-pub next_round : (n : ℕ) (round : List Actor) (r x y : Run) → rounds n round r ≡ x → y ≡ turns x round → rounds (n + 1) round r ≡ y
+pub next_round : (n : ℕ) (round : List Actor) (r x y : Run) → rounds n round r ≡ x →
+    y ≡ turns x round → rounds (n + 1) round r ≡ y
 next_round n round r x y h k = sym (rounds-add n 1 round r) ∙ (ap (λ z. turns z round) h ∙ sym k)
 
 -- a turn leaves no more to do
-noted_falls : (r : Run) (a : Actor) (o : Option JournalEntry) → step_entry r.world a ≡ o → left_of (noted r (step r.world a).world o).world ≤ left_of r.world
+noted_falls : (r : Run) (a : Actor) (o : Option JournalEntry) → step_entry r.world a ≡ o →
+    left_of (noted r (step r.world a).world o).world ≤ left_of r.world
 noted_falls r a None is = omega arith
 noted_falls r a (Some e) is = let f = (step_keeps r.world a e is).falls in omega (arith, f)
 
@@ -45,7 +50,8 @@ rests_or_goes [] r = inl refl
 rests_or_goes (a ∷ actors) r = first (step_entry r.world a) refl (rests_or_goes actors r)
   where
     first : (o : Option JournalEntry) → step_entry r.world a ≡ o → (turns r actors ≡ r) ⊎ Goes r (turns r actors)
-        → (turns (noted r (step r.world a).world o) actors ≡ r) ⊎ Goes r (turns (noted r (step r.world a).world o) actors)
+        → (turns (noted r (step r.world a).world o) actors ≡ r) ⊎ Goes r
+        (turns (noted r (step r.world a).world o) actors)
     first None is rest = rest
     first (Some e) is rest =
         let next : Run = noted r (step r.world a).world (Some e) in
@@ -56,12 +62,23 @@ rests_or_goes (a ∷ actors) r = first (step_entry r.world a) refl (rests_or_goe
         })
 
 -- the round over one driver more
-round_from-snoc : (i n : ℕ) → round_from i (suc n) ≡ round_from i n ++ (record { lane = record { 0 = i + n }; side = Callback } ∷ record { lane = record { 0 = i + n }; side = Transfer } ∷ record { lane = record { 0 = i + n }; side = Script } ∷ [])
-round_from-snoc i zero = let e : i ≡ i + 0 = omega arith in ap (λ k. record { lane = record { 0 = k }; side = Callback } ∷ record { lane = record { 0 = k }; side = Transfer } ∷ record { lane = record { 0 = k }; side = Script } ∷ []) e
+round_from-snoc : (i n : ℕ) → round_from i (suc n) ≡ round_from i n
+    ++ (record { lane = record { 0 = i + n }; side = Callback }
+    ∷ record { lane = record { 0 = i + n }; side = Transfer }
+    ∷ record { lane = record { 0 = i + n }; side = Script } ∷ [])
+round_from-snoc i zero = let e : i ≡ i + 0 =
+    omega arith in
+    ap (λ k. record { lane = record { 0 = k }; side = Callback } ∷ record { lane = record { 0 = k }; side = Transfer }
+    ∷ record { lane = record { 0 = k }; side = Script } ∷ []) e
 round_from-snoc i (suc n) =
     let e : (i + 1) + n ≡ i + suc n = omega arith in
-    ap (λ rest. record { lane = record { 0 = i }; side = Callback } ∷ record { lane = record { 0 = i }; side = Transfer } ∷ record { lane = record { 0 = i }; side = Script } ∷ rest)
-    (round_from-snoc (i + 1) n ∙ ap (λ k. round_from (i + 1) n ++ (record { lane = record { 0 = k }; side = Callback } ∷ record { lane = record { 0 = k }; side = Transfer } ∷ record { lane = record { 0 = k }; side = Script } ∷ [])) e)
+    ap (λ rest. record { lane = record { 0 = i }; side = Callback }
+    ∷ record { lane = record { 0 = i }; side = Transfer }
+    ∷ record { lane = record { 0 = i }; side = Script } ∷ rest)
+    (round_from-snoc (i + 1) n
+    ∙ ap (λ k. round_from (i + 1) n
+    ++ (record { lane = record { 0 = k }; side = Callback } ∷ record { lane = record { 0 = k }; side = Transfer }
+    ∷ record { lane = record { 0 = k }; side = Script } ∷ [])) e)
 
 -- the actors of a driver in a round
 abbrev pub callback : ℕ → Actor
@@ -79,15 +96,18 @@ three_more [] a b c = refl
 three_more (x ∷ r) a b c = ap (λ t. x ∷ t) (three_more r a b c)
 
 -- a round that noted no entry comes to rest
-pub rests : (round : List Actor) (x y : Run) → y ≡ turns x round → length y.entries ≡ length x.entries → turns y round ≡ y
+pub rests : (round : List Actor) (x y : Run) → y ≡ turns x round →
+    length y.entries ≡ length x.entries → turns y round ≡ y
 rests round x y h none = by_way (rests_or_goes round x)
   where
     by_way : (turns x round ≡ x) ⊎ Goes x (turns x round) → turns y round ≡ y
     by_way (inl same) = ap (λ z. turns z round) (h ∙ same) ∙ sym h
-    by_way (inr goes) = let more = goes.notes in absurd (omega (arith, more, none, ap (λ (z : Run). length z.entries) h))
+    by_way (inr goes) = let more =
+        goes.notes in absurd (omega (arith, more, none, ap (λ (z : Run). length z.entries) h))
 
 -- a round that noted an entry leaves less to do
-pub falls : (round : List Actor) (x y : Run) → y ≡ turns x round → (length y.entries ≡ length x.entries → ⊥) → left_of y.world < left_of x.world
+pub falls : (round : List Actor) (x y : Run) → y ≡ turns x round →
+    (length y.entries ≡ length x.entries → ⊥) → left_of y.world < left_of x.world
 falls round x y h some = by_way (rests_or_goes round x)
   where
     by_way : (turns x round ≡ x) ⊎ Goes x (turns x round) → left_of y.world < left_of x.world
@@ -95,11 +115,13 @@ falls round x y h some = by_way (rests_or_goes round x)
     by_way (inr goes) = let less = goes.falls in omega (arith, less, ap (λ (z : Run). left_of z.world) h)
 
 -- the round over one driver more, by pushes
-pub round_pushed : (n : ℕ) (r x y z : List Actor) → r ≡ round_from 0 n → x ≡ r ++ callback n ∷ [] → y ≡ x ++ transfer n ∷ [] → z ≡ y ++ script n ∷ [] → z ≡ round_from 0 (n + 1)
+pub round_pushed : (n : ℕ) (r x y z : List Actor) → r ≡ round_from 0 n → x ≡ r ++ callback n ∷ [] →
+    y ≡ x ++ transfer n ∷ [] → z ≡ y ++ script n ∷ [] → z ≡ round_from 0 (n + 1)
 round_pushed n r x y z before first second third =
     let e : 0 + n ≡ n = omega arith in
     third
     ∙ (ap (λ l. l ++ script n ∷ []) (second ∙ ap (λ l. l ++ transfer n ∷ []) first)
     ∙ (three_more r (callback n) (transfer n) (script n)
     ∙ (ap (λ l. l ++ (callback n ∷ transfer n ∷ script n ∷ [])) before
-    ∙ sym (ap (round_from 0) (add-one n) ∙ (round_from-snoc 0 n ∙ ap (λ k. round_from 0 n ++ (callback k ∷ transfer k ∷ script k ∷ [])) e)))))
+    ∙ sym (ap (round_from 0) (add-one n) ∙ (round_from-snoc 0 n
+    ∙ ap (λ k. round_from 0 n ++ (callback k ∷ transfer k ∷ script k ∷ [])) e)))))

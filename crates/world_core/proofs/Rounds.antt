@@ -23,20 +23,24 @@ rounds-add zero k round r = ap (λ m. rounds m round r) (zero_plus k)
 rounds-add (suc n) k round r = rounds-add n k round (turns r round) ∙ sym (ap (λ m. rounds m round r) (suc_plus n k))
 
 -- a replay that has come to rest is where every longer one ends
-replay_longer : (s : Scenario) (x : Run) (h : IsReplay s x) (k : ℕ) → rounds (h.count + k) (round_of s) (turns (opening_run s) s.order) ≡ x
+replay_longer : (s : Scenario) (x : Run) (h : IsReplay s x) (k : ℕ) →
+    rounds (h.count + k) (round_of s) (turns (opening_run s) s.order) ≡ x
 replay_longer s x h k =
-    sym (rounds-add h.count k (round_of s) (turns (opening_run s) s.order)) ∙ ap (rounds k (round_of s)) h.reaches ∙ rounds_stuck k (round_of s) x h.rests
+    sym (rounds-add h.count k (round_of s) (turns (opening_run s) s.order)) ∙ ap (rounds k (round_of s)) h.reaches
+    ∙ rounds_stuck k (round_of s) x h.rests
 
 -- there is one replay
 one_replay : (s : Scenario) (x y : Run) → IsReplay s x → IsReplay s y → x ≡ y
 one_replay s x y h k =
     let e : h.count + k.count ≡ k.count + h.count = omega arith in
-    sym (replay_longer s x h k.count) ∙ ap (λ m. rounds m (round_of s) (turns (opening_run s) s.order)) e ∙ replay_longer s y k h.count
+    sym (replay_longer s x h k.count) ∙ ap (λ m. rounds m (round_of s) (turns (opening_run s) s.order)) e
+    ∙ replay_longer s y k h.count
 
 pub one_replayed : (s : Scenario) (j k : Journal) → IsReplayed s j → IsReplayed s k → j ≡ k
 one_replayed s j k h g = h.journal ∙ ap journal_of (one_replay s h.run g.run h.replay g.replay) ∙ sym g.journal
 
 -- entries that lead on
-pub Leads-push : (w m : WorldState) (es : List JournalEntry) (e : JournalEntry) → Leads w es m → step_entry m e.actor ≡ Some e → Leads w (es ++ e ∷ []) (step m e.actor).world
+pub Leads-push : (w m : WorldState) (es : List JournalEntry) (e : JournalEntry) → Leads w es m →
+    step_entry m e.actor ≡ Some e → Leads w (es ++ e ∷ []) (step m e.actor).world
 Leads-push w m [] e h is = (ap (λ x. step_entry x e.actor) h ∙ is, ap (λ x. (step x e.actor).world) h)
 Leads-push w m (d ∷ es) e h is = (h.0, Leads-push (step w d.actor).world m es e h.1 is)

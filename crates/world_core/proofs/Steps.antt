@@ -1,5 +1,6 @@
 -- What a turn keeps of the world: a step leaves less to do, and any other turn leaves all as it was.
-use Rattle.std.proofs.Common.{◌≡◌, ◌+◌, ◌<◌, length, Option, Some, None, refl, ap, ◌∙◌, subst, slice_get, slice_set, arith}
+use Rattle.std.proofs.Common.{◌≡◌, ◌+◌, ◌<◌, length, Option, Some, None, refl, ap, ◌∙◌, subst, slice_get, slice_set}
+use Rattle.std.proofs.Common.{arith}
 use Rattle.busdma_base.specs.declared.journals.journal.Actor.{Actor}
 use Rattle.busdma_base.specs.declared.journals.journal.JournalEntry.{JournalEntry}
 use Rattle.lane_core.specs.declared.turn.Turn.{Turn}
@@ -21,15 +22,19 @@ pub record Keeps (w : WorldState) (actor : Actor) (after : WorldState) (e : Jour
   pub numbered : AreNumbered 0 w.lanes → AreNumbered 0 after.lanes
   pub own : AreNumbered 0 w.lanes → e.actor ≡ actor
 
-own_actor : (w : WorldState) (actor : Actor) (l : LaneState) (entry : JournalEntry) → slice_get w.lanes actor.lane.0 ≡ Some l
-    → entry.actor ≡ record { lane = record { 0 = l.id }; side = actor.side } → AreNumbered 0 w.lanes → entry.actor ≡ actor
+own_actor : (w : WorldState) (actor : Actor) (l : LaneState) (entry : JournalEntry) →
+    slice_get w.lanes actor.lane.0 ≡ Some l
+    → entry.actor ≡ record { lane = record { 0 = l.id }; side = actor.side } →
+    AreNumbered 0 w.lanes → entry.actor ≡ actor
 own_actor w actor l entry found h n =
     let q : l.id ≡ 0 + actor.lane.0 = number_at 0 actor.lane.0 w.lanes l n found in
     let r : l.id ≡ actor.lane.0 = omega arith in
     h ∙ ap (λ i. record { lane = record { 0 = i }; side = actor.side }) r
 
-turn_keeps : (w : WorldState) (actor : Actor) (l m : LaneState) (t : Turn) (e : JournalEntry) → slice_get w.lanes actor.lane.0 ≡ Some l
-    → FallsOrStaysBy l m t → m.id ≡ l.id → IsOwnBy l.id actor.side t → entry_of t ≡ Some e → Keeps w actor (record w { lanes = slice_set w.lanes actor.lane.0 m }) e
+turn_keeps : (w : WorldState) (actor : Actor) (l m : LaneState) (t : Turn) (e : JournalEntry) →
+    slice_get w.lanes actor.lane.0 ≡ Some l
+    → FallsOrStaysBy l m t → m.id ≡ l.id → IsOwnBy l.id actor.side t → entry_of t ≡ Some e →
+    Keeps w actor (record w { lanes = slice_set w.lanes actor.lane.0 m }) e
 turn_keeps w actor l m (Stepped entry held) e found f i a h =
     let same : entry ≡ e = cc in
     record {
@@ -41,14 +46,17 @@ turn_keeps w actor l m (Stepped entry held) e found f i a h =
 turn_keeps w actor l m Blocked e found f i a h = absurd (cc)
 turn_keeps w actor l m Ended e found f i a h = absurd (cc)
 
-step_of_keeps : (w : WorldState) (actor : Actor) (o : Option LaneState) (e : JournalEntry) → slice_get w.lanes actor.lane.0 ≡ o
+step_of_keeps : (w : WorldState) (actor : Actor) (o : Option LaneState) (e : JournalEntry) →
+    slice_get w.lanes actor.lane.0 ≡ o
     → entry_of (step_of w actor o).turn ≡ Some e → Keeps w actor (step_of w actor o).world e
 step_of_keeps w actor None e found h = absurd (cc)
 step_of_keeps w actor (Some l) e found h =
     let own = turn_own l actor.side in
-    turn_keeps w actor l (lane_step l actor.side).lane (lane_step l actor.side).turn e found (turn_falls l actor.side) own.id own.actor h
+    turn_keeps w actor l (lane_step l actor.side).lane (lane_step l actor.side).turn e found
+    (turn_falls l actor.side) own.id own.actor h
 
-pub step_keeps : (w : WorldState) (actor : Actor) (e : JournalEntry) → step_entry w actor ≡ Some e → Keeps w actor (step w actor).world e
+pub step_keeps : (w : WorldState) (actor : Actor) (e : JournalEntry) →
+    step_entry w actor ≡ Some e → Keeps w actor (step w actor).world e
 step_keeps w actor e h = step_of_keeps w actor (slice_get w.lanes actor.lane.0) e refl h
 
 lane_rests : (l m : LaneState) (t : Turn) → FallsOrStaysBy l m t → entry_of t ≡ None → m ≡ l
@@ -56,7 +64,8 @@ lane_rests l m (Stepped entry held) f h = absurd (cc)
 lane_rests l m Blocked f h = f
 lane_rests l m Ended f h = f
 
-step_of_rests : (w : WorldState) (actor : Actor) (o : Option LaneState) → slice_get w.lanes actor.lane.0 ≡ o → entry_of (step_of w actor o).turn ≡ None → (step_of w actor o).world ≡ w
+step_of_rests : (w : WorldState) (actor : Actor) (o : Option LaneState) → slice_get w.lanes actor.lane.0 ≡ o →
+    entry_of (step_of w actor o).turn ≡ None → (step_of w actor o).world ≡ w
 step_of_rests w actor None found h = refl
 step_of_rests w actor (Some l) found h =
     let m = (lane_step l actor.side).lane in

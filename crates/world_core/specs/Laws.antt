@@ -15,7 +15,8 @@ left_of w = sum_by left w.lanes
 
 -- every step leaves less to do
 abbrev pub EachStepFalls : Type 0
-EachStepFalls = (w : WorldState) (actor : Actor) (e : JournalEntry) → step_entry w actor ≡ Some e → left_of (step w actor).world < left_of w
+EachStepFalls = (w : WorldState) (actor : Actor) (e : JournalEntry) → step_entry w actor ≡ Some e →
+    left_of (step w actor).world < left_of w
 
 -- no world is stuck, since no load waits yet: at rest every script has ended
 abbrev pub NoneIsStuck : Type 0

@@ -1,5 +1,6 @@
 -- The world: all drivers and the account that they share, and its steps.
-use Rattle.std.specs.Prelude.{ℕ, ◌+◌, ◌<◌, Bool, List, [], ◌∷◌, length, Option, Some, None, slice_get, slice_set, nat_le}
+use Rattle.std.specs.Prelude.{ℕ, ◌+◌, ◌<◌, Bool, List, [], ◌∷◌, length, Option, Some, None, slice_get, slice_set}
+use Rattle.std.specs.Prelude.{nat_le}
 use Rattle.busdma_base.specs.declared.journals.journal.Actor.{Actor}
 use Rattle.busdma_base.specs.declared.journals.journal.JournalEntry.{JournalEntry}
 use Rattle.busdma_base.specs.declared.scenarios.scenario.Driver.{Driver}

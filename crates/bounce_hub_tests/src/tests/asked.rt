@@ -67,7 +67,8 @@ pub fn create(
     first_done: bool,
 ) -> Result<Grown, AllocError>
     requires { Allows (door hub.old) map.lane.0 (CreateMap map tag.now first_done) }
-    ensures { IfOk result (λ r. Holds (door hub.old) map.lane.0 (CreateMap map tag.now first_done) (GrownBy r) (door hub.new)) }
+    ensures { IfOk result (λ r. Holds (door hub.old) map.lane.0
+        (CreateMap map tag.now first_done) (GrownBy r) (door hub.new)) }
 {
     let before = Shown::of(alloc, hub)?;
     match hub.create_map(alloc, map, tag, first_done) {

@@ -1,5 +1,6 @@
 -- The account of a valid scenario's opening may begin a history.
-use Rattle.std.proofs.Common.{◌≡◌, ℕ, zero, suc, ◌+◌, ◌-◌, ◌*◌, ◌%◌, ◌^◌, ◌<◌, ◌≤◌, Bool, true, false, cond, not, ◌&&◌, ◌||◌, List, [], ◌∷◌, ◌++◌, map, length, refl, subst, arith, All, nat_le}
+use Rattle.std.proofs.Common.{◌≡◌, ℕ, zero, suc, ◌+◌, ◌-◌, ◌*◌, ◌%◌, ◌^◌, ◌<◌, ◌≤◌, Bool, true, false, cond, not, ◌&&◌}
+use Rattle.std.proofs.Common.{◌||◌, List, [], ◌∷◌, ◌++◌, map, length, refl, subst, arith, All, nat_le}
 use Rattle.std.specs.List.{filter, list_any}
 use Rattle.std.proofs.lemmas.Bool.{leb-true, ltb-true}
 use Rattle.std.proofs.lemmas.List.{length-append, length-map, append-nil}
@@ -39,9 +40,11 @@ within runs (suc n) = within runs n + weight (list_any (is_in n) runs)
 inside-le : (run : FrameRun) (n : ℕ) → (inside run n ≤ run.count) × (inside run n ≤ n - run.first)
 inside-le run zero = (omega arith, omega arith)
 inside-le run (suc n) =
-    (elim (is_in n run) as (λ v. is_in n run ≡ v → (inside run n + weight v ≤ run.count) × (inside run n + weight v ≤ suc n - run.first)) [
+    (elim (is_in n run) as (λ v. is_in n run ≡ v → (inside run n + weight v ≤ run.count)
+    × (inside run n + weight v ≤ suc n - run.first)) [
       | true ↦ λ e. (let low : run.first ≤ n = leb-true run.first n (and_left (nat_le run.first n) _ e) in
-          let high : n < run.first + run.count = ltb-true n (run.first + run.count) (and_right (nat_le run.first n) _ e) in
+          let high : n < run.first + run.count =
+          ltb-true n (run.first + run.count) (and_right (nat_le run.first n) _ e) in
           (omega (arith, low, high, (inside-le run n).1), omega (arith, low, (inside-le run n).1)))
       | false ↦ λ e. (omega (arith, (inside-le run n).0), omega (arith, (inside-le run n).1))
     ]) refl
@@ -57,7 +60,13 @@ within-cons run runs (suc n) = omega (arith, within-cons run runs n, weight-or (
 within-le : (runs : List FrameRun) (n : ℕ) → within runs n ≤ frame_count runs
 within-le [] n = omega (arith, within-none n)
 within-le (run ∷ runs) n =
-    omega (arith, within-cons run runs n, (inside-le run n).0, within-le runs n, sum_by-cons (λ (r : FrameRun). r.count) run runs)
+    omega (
+      arith,
+      within-cons run runs n,
+      (inside-le run n).0,
+      within-le runs n,
+      sum_by-cons (λ (r : FrameRun). r.count) run runs,
+    )
 
 -- the free frames are no more than all frames
 one-le : (p : ℕ → Bool) (n : ℕ) → length (filter p (n ∷ [])) ≡ weight (p n)
@@ -67,15 +76,29 @@ free-le : (s : Scenario) (n : ℕ) → length (free_below s n) ≤ within s.fram
 free-le s zero = omega arith
 free-le s (suc n) =
     let p : ℕ → Bool = (λ f. list_any (is_in f) s.frames && not (is_owned s.drivers f)) in
-    omega (arith, free-le s n, length-append (free_below s n) (filter p (n ∷ [])), one-le p n, weight-and (list_any (is_in n) s.frames) (not (is_owned s.drivers n)))
+    omega (
+      arith,
+      free-le s n,
+      length-append (free_below s n) (filter p (n ∷ [])),
+      one-le p n,
+      weight-and (list_any (is_in n) s.frames) (not (is_owned s.drivers n)),
+    )
 
 -- valid frames are few, and their numbers low
-frames-few : (before runs : List FrameRun) → frame_count before ≤ 8192 → EachAfter IsFrameRun before runs → frame_count before + frame_count runs ≤ 8192
+frames-few : (before runs : List FrameRun) → frame_count before ≤ 8192 → EachAfter IsFrameRun before runs →
+    frame_count before + frame_count runs ≤ 8192
 frames-few before [] few each = omega (arith, few)
 frames-few before (run ∷ runs) few each =
-    let joined : frame_count (before ++ run ∷ []) ≡ frame_count before + frame_count (run ∷ []) = sum_by-append (λ (r : FrameRun). r.count) before (run ∷ []) in
+    let joined : frame_count (before ++ run ∷ []) ≡ frame_count before + frame_count (run ∷ []) =
+    sum_by-append (λ (r : FrameRun). r.count) before (run ∷ []) in
     let one : frame_count (run ∷ []) ≡ run.count + 0 = sum_by-cons (λ (r : FrameRun). r.count) run [] in
-    omega (arith, joined, one, frames-few (before ++ run ∷ []) runs (omega (arith, joined, one, each.0.few)) each.1, sum_by-cons (λ (r : FrameRun). r.count) run runs)
+    omega (
+      arith,
+      joined,
+      one,
+      frames-few (before ++ run ∷ []) runs (omega (arith, joined, one, each.0.few)) each.1,
+      sum_by-cons (λ (r : FrameRun). r.count) run runs,
+    )
 
 maxmem-low : (before runs : List FrameRun) → EachAfter IsFrameRun before runs → maxmem_of runs ≤ 2 ^ 30
 maxmem-low before [] each = omega arith
@@ -86,7 +109,8 @@ pub free-below : (s : Scenario) (n : ℕ) → All (λ f. f < n) (free_below s n)
 free-below s zero = All-nil (λ f. f < 0)
 free-below s (suc n) =
     let p : ℕ → Bool = (λ f. list_any (is_in f) s.frames && not (is_owned s.drivers f)) in
-    let lower : All (λ f. f < suc n) (free_below s n) = All-weaker (λ f. f < n) (λ f. f < suc n) (λ f h. omega (arith, h)) (free_below s n) (free-below s n) in
+    let lower : All (λ f. f < suc n) (free_below s n) =
+    All-weaker (λ f. f < n) (λ f. f < suc n) (λ f h. omega (arith, h)) (free_below s n) (free-below s n) in
     elim (p n) as (λ v. All (λ f. f < suc n) (free_below s n ++ cond v (n ∷ []) [])) [
       | true ↦ All-push (λ f. f < suc n) (free_below s n) n lower (omega arith)
       | false ↦ rw (append-nil (free_below s n)) lower
@@ -95,7 +119,8 @@ free-below s (suc n) =
 push_rises : (fs : List ℕ) (n : ℕ) → IsRising fs → All (λ f. f < n) fs → IsRising (fs ++ n ∷ [])
 push_rises [] n rising low = tt
 push_rises (f ∷ []) n rising low = (All-head (λ x. x < n) f [] low, tt)
-push_rises (f ∷ g ∷ gs) n rising low = (rising.0, push_rises (g ∷ gs) n rising.1 (All-tail (λ x. x < n) f (g ∷ gs) low))
+push_rises (f ∷ g ∷ gs) n rising low =
+    (rising.0, push_rises (g ∷ gs) n rising.1 (All-tail (λ x. x < n) f (g ∷ gs) low))
 
 free-rises : (s : Scenario) (n : ℕ) → IsRising (free_below s n)
 free-rises s zero = tt
@@ -114,7 +139,10 @@ scaled_rises (f ∷ g ∷ gs) rising = (omega (arith, rising.0), scaled_rises (g
 frame_of : (n f : ℕ) → n ≤ 2 ^ 30 → f < n → IsFrame (4096 * f)
 frame_of n f low below =
     let same : 0 + 4096 * f ≡ 4096 * f = omega arith in
-    record { whole = subst (λ k. k % 4096 ≡ 0) same (add-mul-mod_self_left 0 4096 f); numbered = omega (arith, low, below) }
+    record {
+      whole = subst (λ k. k % 4096 ≡ 0) same (add-mul-mod_self_left 0 4096 f);
+      numbered = omega (arith, low, below);
+    }
 
 pub opening-may_begin : (s : Scenario) → IsValid s → IsOpening (opening s)
 opening-may_begin s valid =
@@ -122,8 +150,18 @@ opening-may_begin s valid =
     let low : n ≤ 2 ^ 30 = maxmem-low [] s.frames valid.frames in
     record {
       rising = scaled_rises (free_below s n) (free-rises s n);
-      frames = All-map IsFrame (λ f. 4096 * f) (free_below s n) (All-weaker (λ f. f < n) (λ f. IsFrame (4096 * f)) (λ f h. frame_of n f low h) (free_below s n) (free-below s n));
-      few = omega (arith, length-map {B = ℕ} (free_below s n) (λ f. 4096 * f), free-le s n, within-le s.frames n, frames-few [] s.frames (omega arith) valid.frames);
+      frames =
+          All-map IsFrame (λ f. 4096 * f) (free_below s n)
+          (All-weaker (λ f. f < n) (λ f. IsFrame (4096 * f)) (λ f h. frame_of n f low h)
+          (free_below s n) (free-below s n));
+      few =
+          omega (
+            arith,
+            length-map {B = ℕ} (free_below s n) (λ f. 4096 * f),
+            free-le s n,
+            within-le s.frames n,
+            frames-few [] s.frames (omega arith) valid.frames,
+          );
       zones = refl;
       held = refl;
       ready = refl;

@@ -26,7 +26,8 @@ pub record Memory : Type 0 where
   pub mem : MapId
   pub frames : List ℕ
 
--- the free frames, rising; the zones in order of making; the held pages; the callback list; the memories; and two constants
+-- the free frames, rising; the zones in order of making; the held pages; the callback list; the memories; and two
+-- constants
 pub record Account : Type 0 where
   pub bank : List ℕ
   pub zones : List Zone

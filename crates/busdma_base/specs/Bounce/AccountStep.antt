@@ -1,16 +1,20 @@
 -- What each call under the bounce lock makes of the account, and what it answers.
-use Rattle.std.specs.Prelude.{ℕ, Bool, List, [], ◌∷◌, map, length, take, Option, Some, None, ◌==◌, nat_le, if◌then◌else◌}
+use Rattle.std.specs.Prelude.{ℕ, Bool, List, [], ◌∷◌, map, length, take, Option, Some, None, ◌==◌, nat_le}
+use Rattle.std.specs.Prelude.{if◌then◌else◌}
 use Rattle.busdma_base.specs.declared.machine.address.Pa.{Pa}
 use Rattle.busdma_base.specs.declared.name.MapId.{MapId}
 use Rattle.busdma_base.specs.declared.tags.tag.TagLimits.{TagLimits}
 use Rattle.busdma_base.specs.declared.bounce.zone.Grown.{Grown as GrownBy}
 use Rattle.busdma_base.specs.declared.bounce.zone.Waiter.{Waiter}
 use Rattle.busdma_base.specs.declared.bounce.hold.HubCall.{HubCall}
-use Rattle.busdma_base.specs.declared.bounce.hold.HubCall.TheVariants.{AttachTag, CreateMap, DestroyMap, Grab, Release, TakeCallback, MemAlloc, MemFree}
+use Rattle.busdma_base.specs.declared.bounce.hold.HubCall.TheVariants.{AttachTag, CreateMap, DestroyMap, Grab, Release}
+use Rattle.busdma_base.specs.declared.bounce.hold.HubCall.TheVariants.{TakeCallback, MemAlloc, MemFree}
 use Rattle.busdma_base.specs.declared.bounce.hold.HubReply.{HubReply}
-use Rattle.busdma_base.specs.declared.bounce.hold.HubReply.TheVariants.{Nothing, Grown, Granted, Queued, NoPages, Served, Called, Run, NoRun}
+use Rattle.busdma_base.specs.declared.bounce.hold.HubReply.TheVariants.{Nothing, Grown, Granted, Queued, NoPages}
+use Rattle.busdma_base.specs.declared.bounce.hold.HubReply.TheVariants.{Served, Called, Run, NoRun}
 use Rattle.busdma_base.specs.Bounce.Account.{Account, zone_at, free}
-use Rattle.busdma_base.specs.Bounce.Growth.{with_zone_for, zone_of, grown, growth_for_tag, growth_for_map, with_map, without_map}
+use Rattle.busdma_base.specs.Bounce.Growth.{with_zone_for, zone_of, grown, growth_for_tag, growth_for_map, with_map}
+use Rattle.busdma_base.specs.Bounce.Growth.{without_map}
 use Rattle.busdma_base.specs.Bounce.Serving.{handed, queued, returned, completed, served}
 use Rattle.busdma_base.specs.Bounce.MemoryRuns.{frames_for, lowest_run, with_memory, without_memory}
 

@@ -1,5 +1,6 @@
 -- What a door to the bounce lock means, and what a call at it does.
-use Rattle.std.specs.Prelude.{◌≡◌, ℕ, ◌+◌, Bool, false, List, [], ◌∷◌, ◌++◌, All, IsTrue, length, Option, Some, None, slice_index_or}
+use Rattle.std.specs.Prelude.{◌≡◌, ℕ, ◌+◌, Bool, false, List, [], ◌∷◌, ◌++◌, All, IsTrue, length, Option, Some, None}
+use Rattle.std.specs.Prelude.{slice_index_or}
 use Rattle.busdma_base.specs.declared.name.MapId.{MapId}
 use Rattle.busdma_base.specs.declared.bounce.hold.HubCall.{HubCall}
 use Rattle.busdma_base.specs.declared.bounce.hold.HubCall.TheVariants.{TakeCallback}
@@ -7,7 +8,8 @@ use Rattle.busdma_base.specs.declared.bounce.hold.HubReply.{HubReply}
 use Rattle.busdma_base.specs.declared.bounce.hold.HubReply.TheVariants.{Nothing, Granted, Queued, NoPages, Run, NoRun}
 use Rattle.busdma_base.specs.declared.bounce.hold.HoldEntry.{HoldEntry}
 use Rattle.busdma_base.specs.declared.bounce.door.Grabbed.{Grabbed}
-use Rattle.busdma_base.specs.declared.bounce.door.Grabbed.TheVariants.{Granted as GrantedPages, Queued as QueuedPages, NoPages as NoPagesFree}
+use Rattle.busdma_base.specs.declared.bounce.door.Grabbed.TheVariants.{Granted as GrantedPages, Queued as QueuedPages}
+use Rattle.busdma_base.specs.declared.bounce.door.Grabbed.TheVariants.{NoPages as NoPagesFree}
 use Rattle.busdma_base.specs.Bounce.Account.{Account}
 use Rattle.busdma_base.specs.Bounce.AccountStep.{account_step, as_pages}
 use Rattle.busdma_base.specs.Bounce.Conditions.{MayCall}

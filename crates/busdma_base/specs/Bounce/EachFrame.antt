@@ -2,7 +2,8 @@
 use Rattle.std.specs.Prelude.{ℕ, ◌*◌, ◌<◌, All}
 use Rattle.busdma_base.specs.Bounce.Account.{Account}
 
--- P holds of the free frames, of the pages in the zones' lists, of the pages that maps hold, and of the memories' frames
+-- P holds of the free frames, of the pages in the zones' lists, of the pages that maps hold, and of the memories'
+-- frames
 pub record EachFrame (P : ℕ → Type 0) (a : Account) : Type 0 where
   pub bank : All P a.bank
   pub listed : All (λ z. All P z.avail) a.zones

@@ -1,5 +1,6 @@
 -- Which zone a tag has, and how zones grow: after the x86 bounce code. The formulas are this project's own.
-use Rattle.std.specs.Prelude.{ℕ, suc, ◌+◌, ◌-◌, ◌/◌, min, max, Bool, not, ◌&&◌, ◌||◌, List, [], ◌∷◌, ◌++◌, length, take, drop, ◌==◌, nat_le, nat_lt, if◌then◌else◌}
+use Rattle.std.specs.Prelude.{ℕ, suc, ◌+◌, ◌-◌, ◌/◌, min, max, Bool, not, ◌&&◌, ◌||◌, List, [], ◌∷◌, ◌++◌, length}
+use Rattle.std.specs.Prelude.{take, drop, ◌==◌, nat_le, nat_lt, if◌then◌else◌}
 use Rattle.std.specs.List.{count_by, filter}
 use Rattle.busdma_base.specs.declared.name.MapId.{MapId}
 use Rattle.busdma_base.specs.declared.tags.tag.TagLimits.{TagLimits}
@@ -57,7 +58,8 @@ wanted_by_tag t pages = t.maxsize / 4096 - pages
 -- up to how many pages a zone that has maps grows for further maps of a tag, by the two constants; a first allocation
 -- may pass that number
 abbrev pub most_pages : TagLimits → ℕ → ℕ → ℕ
-most_pages t max_bpages maxmem = if nat_lt 1 t.alignment then max_bpages else min max_bpages (maxmem - t.lowaddr.0 / 4096)
+most_pages t max_bpages maxmem =
+    if nat_lt 1 t.alignment then max_bpages else min max_bpages (maxmem - t.lowaddr.0 / 4096)
 
 abbrev pub maxpages : TagLimits → Account → ℕ
 maxpages t a = most_pages t a.max_bpages a.maxmem

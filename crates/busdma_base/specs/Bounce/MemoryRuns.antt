@@ -1,5 +1,6 @@
 -- The frames of a dmamem memory: after bus_dmamem_alloc(9). That the lowest run is taken is this project's own.
-use Rattle.std.specs.Prelude.{ℕ, zero, suc, ◌+◌, ◌*◌, ◌/◌, ◌%◌, max, Bool, true, false, not, ◌&&◌, ◌||◌, List, [], ◌∷◌, ◌++◌, Option, Some, None, ◌==◌, nat_le, nat_lt, if◌then◌else◌}
+use Rattle.std.specs.Prelude.{ℕ, zero, suc, ◌+◌, ◌*◌, ◌/◌, ◌%◌, max, Bool, true, false, not, ◌&&◌, ◌||◌, List, [], ◌∷◌}
+use Rattle.std.specs.Prelude.{◌++◌, Option, Some, None, ◌==◌, nat_le, nat_lt, if◌then◌else◌}
 use Rattle.std.specs.List.{filter}
 use Rattle.busdma_base.specs.declared.name.MapId.{MapId}
 use Rattle.busdma_base.specs.Bounce.Account.{Account, Memory, same_map}
@@ -23,7 +24,8 @@ crosses_none len boundary f = (boundary == 0) || nat_le (f % boundary + len) bou
 abbrev pub begins_run : ℕ → ℕ → ℕ → List ℕ → Bool
 begins_run len boundary limit [] = false
 begins_run len boundary limit (f ∷ fs) =
-    follow (frames_for len) f (f ∷ fs) && (nat_le (f + 4096 * frames_for len) (limit + 1) && crosses_none len boundary f)
+    follow (frames_for len) f (f ∷ fs)
+    && (nat_le (f + 4096 * frames_for len) (limit + 1) && crosses_none len boundary f)
 
 -- the lowest of the rising free frames from which on a memory of so many bytes can have its frames
 abbrev pub lowest_run : ℕ → ℕ → ℕ → List ℕ → Option ℕ

@@ -15,12 +15,14 @@ maxmem_of (run ∷ runs) = max (run.first + run.count) (maxmem_of runs)
 
 -- a frame that a driver's pages name
 abbrev pub is_owned : List Driver → ℕ → Bool
-is_owned drivers frame = list_any (λ d. list_any (λ p. nat_le p.frame frame && nat_lt frame (p.frame + p.count)) d.pages) drivers
+is_owned drivers frame =
+    list_any (λ d. list_any (λ p. nat_le p.frame frame && nat_lt frame (p.frame + p.count)) d.pages) drivers
 
 -- the first n frame numbers that lie in the machine and belong to no driver, rising
 abbrev pub free_below : Scenario → ℕ → List ℕ
 free_below s zero = []
-free_below s (suc n) = free_below s n ++ filter (λ f. list_any (is_in f) s.frames && not (is_owned s.drivers f)) (n ∷ [])
+free_below s (suc n) =
+    free_below s n ++ filter (λ f. list_any (is_in f) s.frames && not (is_owned s.drivers f)) (n ∷ [])
 
 -- every frame that no driver has is free, and nothing else is there
 abbrev pub opening : Scenario → Account

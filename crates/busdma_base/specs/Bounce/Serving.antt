@@ -1,6 +1,7 @@
 -- How pages go to maps and come back, and how maps that wait are served: after the x86 bounce code. The order is this
 -- project's own.
-use Rattle.std.specs.Prelude.{ℕ, ◌+◌, ◌-◌, Bool, not, ◌&&◌, List, [], ◌∷◌, ◌++◌, map, length, take, drop, ◌==◌, nat_le, if◌then◌else◌}
+use Rattle.std.specs.Prelude.{ℕ, ◌+◌, ◌-◌, Bool, not, ◌&&◌, List, [], ◌∷◌, ◌++◌, map, length, take, drop, ◌==◌, nat_le}
+use Rattle.std.specs.Prelude.{if◌then◌else◌}
 use Rattle.std.specs.List.{filter}
 use Rattle.busdma_base.specs.declared.name.MapId.{MapId}
 use Rattle.busdma_base.specs.declared.bounce.zone.Waiter.{Waiter}
@@ -62,5 +63,6 @@ abbrev pub served : Account → ℕ → Account
 served a z =
     let zone : Zone = zone_at a z in
     let done : List Waiter = completed (free a z) zone.wait in
-    let after : Zone = record zone { wait = left_waiting (free a z) zone.wait; deferred = zone.deferred + length done } in
+    let after : Zone =
+    record zone { wait = left_waiting (free a z) zone.wait; deferred = zone.deferred + length done } in
     record (with_zone a z after) { ready = a.ready ++ done }

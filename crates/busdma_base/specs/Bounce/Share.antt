@@ -4,11 +4,12 @@ use Rattle.std.specs.List.{count_by, sum_by}
 use Rattle.busdma_base.specs.declared.name.MapId.{MapId}
 use Rattle.busdma_base.specs.declared.bounce.zone.Waiter.{Waiter}
 use Rattle.busdma_base.specs.Bounce.Account.{Account, Zone, same_map}
-use Rattle.busdma_base.specs.Bounce.Conditions.{times_made, times_in_zones, pages_held, times_held, times_listed, memories}
+use Rattle.busdma_base.specs.Bounce.Conditions.{times_made, times_in_zones, pages_held, times_held, times_listed}
+use Rattle.busdma_base.specs.Bounce.Conditions.{memories}
 use Rattle.busdma_base.specs.Bounce.MemoryRuns.{frames_of}
 
--- how often a name is among the maps of a zone, among all maps, how many pages it holds, how often it holds a page of a
--- zone, how often it waits for so many pages of a zone, how often it waits at all, and its memories
+-- how often a name is among the maps of a zone, among all maps, how many pages it holds, how often it holds a page of
+-- a zone, how often it waits for so many pages of a zone, how often it waits at all, and its memories
 pub record Share : Type 0 where
   pub made : ℕ → ℕ
   pub in_zones : ℕ

@@ -4,9 +4,11 @@ use Rattle.busdma_base.specs.declared.name.MapId.{MapId}
 use Rattle.busdma_base.specs.declared.tags.tag.TagLimits.{TagLimits}
 use Rattle.busdma_base.specs.declared.bounce.zone.ZoneCounts.{ZoneCounts}
 use Rattle.busdma_base.specs.declared.bounce.hold.HubCall.{HubCall}
-use Rattle.busdma_base.specs.declared.bounce.hold.HubCall.TheVariants.{CreateMap, DestroyMap, Grab, Release, TakeCallback, MemAlloc}
+use Rattle.busdma_base.specs.declared.bounce.hold.HubCall.TheVariants.{CreateMap, DestroyMap, Grab, Release}
+use Rattle.busdma_base.specs.declared.bounce.hold.HubCall.TheVariants.{TakeCallback, MemAlloc}
 use Rattle.busdma_base.specs.declared.bounce.hold.HubReply.{HubReply}
-use Rattle.busdma_base.specs.declared.bounce.hold.HubReply.TheVariants.{Nothing, Grown, Granted, Queued, NoPages, Served, Called, Run, NoRun}
+use Rattle.busdma_base.specs.declared.bounce.hold.HubReply.TheVariants.{Nothing, Grown, Granted, Queued, NoPages}
+use Rattle.busdma_base.specs.declared.bounce.hold.HubReply.TheVariants.{Served, Called, Run, NoRun}
 use Rattle.busdma_base.specs.Bounce.Account.{Account, fresh_account}
 use Rattle.busdma_base.specs.Bounce.AccountStep.{Outcome, account_step, as_pages}
 use Rattle.busdma_base.specs.Bounce.MemoryRuns.{frames_from}

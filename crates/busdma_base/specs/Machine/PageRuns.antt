@@ -1,5 +1,6 @@
 -- The pages of a driver: frames of its own at virtual addresses.
-use Rattle.std.specs.Prelude.{◌≡◌, ℕ, zero, suc, ◌+◌, ◌-◌, ◌*◌, ◌/◌, ◌%◌, ◌≤◌, Bool, true, false, ◌&&◌, ◌||◌, if◌then◌else◌}
+use Rattle.std.specs.Prelude.{◌≡◌, ℕ, zero, suc, ◌+◌, ◌-◌, ◌*◌, ◌/◌, ◌%◌, ◌≤◌, Bool, true, false, ◌&&◌, ◌||◌}
+use Rattle.std.specs.Prelude.{if◌then◌else◌}
 use Rattle.std.specs.Prelude.{List, [], ◌∷◌, Option, Some, None, nat_le, nat_lt}
 use Rattle.std.specs.List.{list_any}
 use Rattle.busdma_base.specs.declared.scenarios.scenario.FrameRun.{FrameRun}
@@ -34,7 +35,8 @@ is_taken run drivers = list_any (λ d. list_any (share_frame run) d.pages) drive
 
 -- a run has a page, lies on page boundaries below the end of pages, has frames of the machine
 -- alone, and shares none of them, nor a virtual page, with what came before it
-pub record IsPageRun (frames : List FrameRun) (earlier : List Driver) (before : List PageRun) (run : PageRun) : Type 0 where
+pub record IsPageRun (frames : List FrameRun) (earlier : List Driver)
+    (before : List PageRun) (run : PageRun) : Type 0 where
   pub some : 1 ≤ run.count
   pub aligned : run.va.0 % 4096 ≡ 0
   pub low : run.va.0 + 4096 * run.count ≤ pages_end

@@ -1,5 +1,6 @@
 -- The names that a script makes and uses.
-use Rattle.std.specs.Prelude.{◌≡◌, ℕ, Bool, true, false, ◌&&◌, ◌||◌, ◌==◌, List, length, nat_le, if◌then◌else◌, slice_index, Option, Some, None, slice_get}
+use Rattle.std.specs.Prelude.{◌≡◌, ℕ, Bool, true, false, ◌&&◌, ◌||◌, ◌==◌, List, length, nat_le, if◌then◌else◌}
+use Rattle.std.specs.Prelude.{slice_index, Option, Some, None, slice_get}
 use Rattle.std.specs.List.{list_all, list_any}
 use Rattle.std.specs.Option.{option_map_or}
 use Rattle.std.specs.Str.{bytes_eq}
@@ -19,7 +20,8 @@ in_name b = is_letter b || (nat_le 48 b && nat_le b 57) || (b == 95)
 
 -- 1 to 32 such bytes, the first of them a letter
 abbrev pub is_name : List ℕ → Bool
-is_name s = if nat_le 1 (length s) && nat_le (length s) 32 && is_letter (slice_index s 0) then list_all in_name s else false
+is_name s =
+    if nat_le 1 (length s) && nat_le (length s) 32 && is_letter (slice_index s 0) then list_all in_name s else false
 
 -- two names stand for things of one kind
 abbrev pub same_kind : NameKind → NameKind → Bool

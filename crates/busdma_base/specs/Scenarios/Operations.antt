@@ -67,7 +67,8 @@ parents (Some place) = tag_at place ∷ []
 
 -- an operation that makes and uses names and does nothing else
 abbrev pub with_names : OpWord → Option Made → List UsedName → About
-with_names word makes uses = record { word = word; makes = makes; uses = uses; items = []; loads = 0; reads = 0; writes = 0 }
+with_names word makes uses =
+    record { word = word; makes = makes; uses = uses; items = []; loads = 0; reads = 0; writes = 0 }
 
 -- what each operation is about
 abbrev pub about : Op → About

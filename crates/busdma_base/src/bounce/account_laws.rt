@@ -18,7 +18,8 @@ ghost use Rattle.busdma_base.specs.Bounce.Places.{places, times_lent, frame_tota
 ghost use Rattle.busdma_base.specs.Bounce.AccountStep.{attached, created, released};
 ghost use Rattle.busdma_base.specs.Bounce.Serving.{returned};
 ghost use Rattle.busdma_base.specs.Bounce.ServingOrder.{ServesNobody, ServesInOrder, maps_of, joined, called};
-ghost use Rattle.busdma_base.specs.Bounce.WorkedExample.{small_machine, calls, replies, counts_after, answers, after_calls};
+ghost use Rattle.busdma_base.specs.Bounce.WorkedExample.{small_machine, calls, replies, counts_after, answers};
+ghost use Rattle.busdma_base.specs.Bounce.WorkedExample.{after_calls};
 
 /// Twelve calls over a small machine have the replies and the counts that were worked by hand.
 pub fn twelve_calls()

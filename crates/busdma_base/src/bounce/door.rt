@@ -1,11 +1,14 @@
 //! The way of a lane to what all lanes share.
 
 ghost use Rattle.std.specs.Prelude.{◌≡◌, ◌≤◌, ℕ, length, OnErr, IfOk, IfSome, MatchOption};
-ghost use Rattle.busdma_base.specs.declared.bounce.hold.HubCall.TheVariants.{AttachTag, CreateMap, DestroyMap, Grab, Release, TakeCallback, MemAlloc, MemFree};
-ghost use Rattle.busdma_base.specs.declared.bounce.hold.HubReply.TheVariants.{Nothing, Grown as GrownBy, Served, Called as CalledFor};
+ghost use Rattle.busdma_base.specs.declared.bounce.hold.HubCall.TheVariants.{AttachTag, CreateMap, DestroyMap, Grab};
+ghost use Rattle.busdma_base.specs.declared.bounce.hold.HubCall.TheVariants.{Release, TakeCallback, MemAlloc, MemFree};
+ghost use Rattle.busdma_base.specs.declared.bounce.hold.HubReply.TheVariants.{Nothing, Grown as GrownBy, Served};
+ghost use Rattle.busdma_base.specs.declared.bounce.hold.HubReply.TheVariants.{Called as CalledFor};
 ghost use Rattle.busdma_base.specs.Bounce.AccountStep.{as_pages};
 ghost use Rattle.busdma_base.specs.Machine.PageList.{page_address, page_addresses};
-ghost use Rattle.busdma_base.specs.Bounce.Door.{Seen, Allows, Holds, Misses, Fails, IsRow, ArePagesOf, grab_reply, memory_reply};
+ghost use Rattle.busdma_base.specs.Bounce.Door.{Seen, Allows, Holds, Misses, Fails, IsRow, ArePagesOf, grab_reply};
+ghost use Rattle.busdma_base.specs.Bounce.Door.{memory_reply};
 
 use crate::bounce::Grown;
 use crate::machine::{Page, PageList};

@@ -2,7 +2,8 @@
 
 ghost use Rattle.std.specs.Prelude.{◌≡◌, ◌↔◌, ◌≤◌, ◌*◌, ◌^◌, ◌+◌, length, count_by, sum_by, IsTrue};
 ghost use Rattle.busdma_base.specs.Bounce.Account.{same_map};
-ghost use Rattle.busdma_base.specs.Bounce.Conditions.{IsIdle, MayCall, times_made, times_in_zones, pages_held, times_held, times_listed, memories};
+ghost use Rattle.busdma_base.specs.Bounce.Conditions.{IsIdle, MayCall, times_made, times_in_zones, pages_held};
+ghost use Rattle.busdma_base.specs.Bounce.Conditions.{times_held, times_listed, memories};
 ghost use Rattle.busdma_base.specs.Tags.Tag.{could_bounce};
 ghost use Rattle.busdma_base.specs.Tags.TagFlags.{allocnow};
 

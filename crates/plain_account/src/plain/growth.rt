@@ -4,7 +4,9 @@ ghost use Rattle.std.specs.Prelude.{◌≡◌, ◌==◌, ◌≤◌, ◌||◌, On
 ghost use Rattle.std.specs.List.{filter};
 ghost use Rattle.busdma_base.specs.Bounce.Account.{same_map, zone_at, total};
 ghost use Rattle.busdma_base.specs.Bounce.AccountStep.{attached, created};
-ghost use Rattle.busdma_base.specs.Bounce.Growth.{serves_tag, new_zone, zone_of, with_zone_for, frames_below, added, grown, wanted_by_tag, maxpages, wanted_by_map, growth_for_map, with_map, without_map};
+ghost use Rattle.busdma_base.specs.Bounce.Growth.{serves_tag, new_zone, zone_of, with_zone_for, frames_below, added};
+ghost use Rattle.busdma_base.specs.Bounce.Growth.{grown, wanted_by_tag, maxpages, wanted_by_map, growth_for_map};
+ghost use Rattle.busdma_base.specs.Bounce.Growth.{with_map, without_map};
 
 use crate::plain::lists::{joined, same_map, small};
 use crate::plain::{PlainAccount, PlainZone};

@@ -5,7 +5,8 @@ ghost use Rattle.std.specs.List.{filter};
 ghost use Rattle.busdma_base.specs.declared.bounce.hold.HubCall.TheVariants.{MemAlloc};
 ghost use Rattle.busdma_base.specs.Bounce.Account.{same_map};
 ghost use Rattle.busdma_base.specs.Bounce.AccountStep.{account_step};
-ghost use Rattle.busdma_base.specs.Bounce.MemoryRuns.{frames_for, follow, crosses_none, lowest_run, in_run, with_memory, put_in, put_all, frames_of, without_memory};
+ghost use Rattle.busdma_base.specs.Bounce.MemoryRuns.{frames_for, follow, crosses_none, lowest_run, in_run};
+ghost use Rattle.busdma_base.specs.Bounce.MemoryRuns.{with_memory, put_in, put_all, frames_of, without_memory};
 
 use crate::plain::lists::{joined, same_map, small};
 use crate::plain::{PlainAccount, PlainMemory};

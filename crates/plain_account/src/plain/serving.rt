@@ -5,7 +5,8 @@ ghost use Rattle.std.specs.List.{filter};
 ghost use Rattle.busdma_base.specs.declared.bounce.hold.HubReply.TheVariants.{Queued};
 ghost use Rattle.busdma_base.specs.Bounce.Account.{zone_at, with_zone, free};
 ghost use Rattle.busdma_base.specs.Bounce.AccountStep.{grabbed, released, called_from, as_pages};
-ghost use Rattle.busdma_base.specs.Bounce.Serving.{is_holding, handed, queued, returned, completed, left_waiting, served};
+ghost use Rattle.busdma_base.specs.Bounce.Serving.{is_holding, handed, queued, returned, completed, left_waiting};
+ghost use Rattle.busdma_base.specs.Bounce.Serving.{served};
 
 use crate::plain::lists::{behind, first_of, joined, same_map, small};
 use crate::plain::{PlainAccount, PlainHeld};

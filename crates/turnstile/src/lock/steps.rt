@@ -29,7 +29,8 @@ impl<H: TurnObject> Turnstile<H> {
         ensures table { (seat.new.table_id ≡ seat.old.table_id) × (seat.new.id ≡ seat.old.id) }
         ensures idle { IsIdle name seat.new.me }
         ensures knows { (start : _) × Knows H.legal H.fits start seat.new.me.0 }
-        ensures turn { HasTurn H.fits H.answers (pass_view seat.old.table_id seat.old.me.0) call result (pass_view seat.old.table_id seat.new.me.0) }
+        ensures turn { HasTurn H.fits H.answers (pass_view seat.old.table_id seat.old.me.0) call result
+            (pass_view seat.old.table_id seat.new.me.0) }
     {
         let ticket = self.draw_ticket(rt, seat);
         self.await_turn(rt, seat, ticket);
@@ -68,7 +69,8 @@ impl<H: TurnObject> Turnstile<H> {
     fn await_turn<R: Wait>(&self, rt: &R, seat: &mut Seat<H, View<H::Entry, H::Fixed>>, ticket: u64)
         requires table { seat.old.table_id ≡ self.now.id }
         requires start { is_some seat.old.me.0.start ≡ true }
-        requires ticket { (seat.old.me.0.waits ≡ true) × (seat.old.me.0.turn ≡ false) × (seat.old.me.0.ticket ≡ ticket) }
+        requires ticket { (seat.old.me.0.waits ≡ true) × (seat.old.me.0.turn ≡ false)
+            × (seat.old.me.0.ticket ≡ ticket) }
         ensures table { (seat.new.table_id ≡ seat.old.table_id) × (seat.new.id ≡ seat.old.id) }
         ensures sees { Sees H.history H.fixed H.legal H.fits (λ x. (0, x) ∷ seat.old.me.1) seat.old.me seat.new.me }
     {
@@ -90,9 +92,13 @@ impl<H: TurnObject> Turnstile<H> {
         call: H::Call,
     ) -> H::Reply
         requires table { seat.old.table_id ≡ self.now.id }
-        requires may { Carries seat.old.me.1 (λ x. H.legal (H.fixed x) (H.history x) × H.may (H.fixed x) (H.history x) name call) }
-        ensures table { (seat.new.table_id ≡ seat.old.table_id) × (seat.new.id ≡ seat.old.id) × (seat.new.me.0 ≡ seat.old.me.0) }
-        ensures acts { Carries seat.old.me.1 (λ before. Carries seat.new.me.1 (IsActed H.history H.fixed H.legal H.fits H.answers name call result before)) }
+        requires may { Carries seat.old.me.1 (λ x. H.legal (H.fixed x) (H.history x)
+            × H.may (H.fixed x) (H.history x) name call) }
+        ensures table { (seat.new.table_id ≡ seat.old.table_id) × (seat.new.id ≡ seat.old.id)
+            × (seat.new.me.0 ≡ seat.old.me.0) }
+        ensures acts { Carries seat.old.me.1
+            (λ before. Carries seat.new.me.1
+            (IsActed H.history H.fixed H.legal H.fits H.answers name call result before)) }
     {
         let object = seat.slot_mut(&self.table.shared, 0);
         object.act(name, call)
@@ -103,10 +109,13 @@ impl<H: TurnObject> Turnstile<H> {
         requires table { seat.old.table_id ≡ self.now.id }
         requires below { ticket + 1 < 2 ^ 64 }
         requires turn { (seat.old.me.0.turn ≡ true) × (seat.old.me.0.named ≡ true) × (seat.old.me.0.ticket ≡ ticket) }
-        requires acted { (start : _) × (seat.old.me.0.start ≡ Some start) × Carries seat.old.me.1 (λ y. HasActed H.history H.fixed H.legal H.fits start seat.old.me.0 y) }
+        requires acted { (start : _) × (seat.old.me.0.start ≡ Some start)
+            × Carries seat.old.me.1 (λ y. HasActed H.history H.fixed H.legal H.fits start seat.old.me.0 y) }
         ensures table { (seat.new.table_id ≡ seat.old.table_id) × (seat.new.id ≡ seat.old.id) }
         ensures knows { (start : _) × Knows H.legal H.fits start seat.new.me.0 }
-        ensures after { Carries seat.old.me.1 (λ y. seat.new.me ≡ (view_after (added_since H.history seat.old.me.0.start seat.old.me.0.front y) seat.old.me.0, [])) }
+        ensures after { Carries seat.old.me.1
+            (λ y. seat.new.me
+            ≡ (view_after (added_since H.history seat.old.me.0.start seat.old.me.0.front y) seat.old.me.0, [])) }
     {
         self.table.shared.store::<End<H>>(seat, 1, ticket + 1);
     }
@@ -119,9 +128,11 @@ impl<H: TurnObject> Turnstile<H> {
         ticket: u64,
     )
         requires table { seat.old.table_id ≡ self.now.id }
-        requires ticket { (seat.old.me.0.waits ≡ true) × (seat.old.me.0.turn ≡ false) × (seat.old.me.0.ticket ≡ ticket) }
+        requires ticket { (seat.old.me.0.waits ≡ true) × (seat.old.me.0.turn ≡ false)
+            × (seat.old.me.0.ticket ≡ ticket) }
         ensures table { (seat.new.table_id ≡ seat.old.table_id) × (seat.new.id ≡ seat.old.id) }
-        ensures last { (log : _) × (seat.new.me ≡ (served_view false log seat.old.me.0, seat.old.me.1)) × IsPrefix seat.old.me.0.front log }
+        ensures last { (log : _) × (seat.new.me ≡ (served_view false log seat.old.me.0, seat.old.me.1))
+            × IsPrefix seat.old.me.0.front log }
     {
         let shared = &self.table.shared;
         for _ in rt.forever() {

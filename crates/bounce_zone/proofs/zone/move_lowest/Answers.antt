@@ -18,14 +18,21 @@ loop-preserved c =
           let page = w.in-Some.page in
           let before : c.loop.bank.pages ≡ drop i all = ap (λ (b : Bank). b.pages) c.loop.invariant.bank in
           let next = next_of all left.pages i page (sym before ∙ w.in-Some.ensures.lowest) in
-          let room : left.room ≡ c.args.bank.now.room = w.in-Some.ensures.room ∙ ap (λ (b : Bank). b.room) c.loop.invariant.bank in
-          let counted : frames_below c.args.limit.0 (free_frames c.loop.bank) ≡ 1 + frames_below c.args.limit.0 (free_frames left) =
-          ap (λ (ps : List FrameBytes). frames_below c.args.limit.0 (page_addresses ps)) w.in-Some.ensures.lowest ∙ below-more c.args.limit.0 page left.pages w.in-Some.ensures.below in
+          let room : left.room ≡ c.args.bank.now.room =
+          w.in-Some.ensures.room ∙ ap (λ (b : Bank). b.room) c.loop.invariant.bank in
+          let counted : frames_below c.args.limit.0 (free_frames c.loop.bank) ≡ 1
+          + frames_below c.args.limit.0 (free_frames left) =
+          ap (λ (ps : List FrameBytes). frames_below c.args.limit.0 (page_addresses ps)) w.in-Some.ensures.lowest
+          ∙ below-more c.args.limit.0 page left.pages w.in-Some.ensures.below in
           record {
-            bank = ap (λ (ps : List FrameBytes). record { pages = ps; room = left.room }) (sym next.1) ∙ ap (λ r. record { pages = drop (i + 1) all; room = r }) room;
-            queue = ap (λ q. q.items) w.queue-is ∙ w.push_back_reserved.ensures.items ∙ ap (λ ps. ps ++ page ∷ []) c.loop.invariant.queue
-                ∙ append_assoc c.args.queue.now.items (take i all) (page ∷ []) ∙ ap (λ ps. c.args.queue.now.items ++ ps) (sym next.0);
-            capacity = ap (λ q. deque_capacity q) w.queue-is ∙ w.push_back_reserved.ensures.capacity ∙ c.loop.invariant.capacity;
+            bank = ap (λ (ps : List FrameBytes). record { pages = ps; room = left.room }) (sym next.1)
+                ∙ ap (λ r. record { pages = drop (i + 1) all; room = r }) room;
+            queue = ap (λ q. q.items) w.queue-is ∙ w.push_back_reserved.ensures.items
+                ∙ ap (λ ps. ps ++ page ∷ []) c.loop.invariant.queue
+                ∙ append_assoc c.args.queue.now.items (take i all) (page ∷ [])
+                ∙ ap (λ ps. c.args.queue.now.items ++ ps) (sym next.0);
+            capacity = ap (λ q. deque_capacity q) w.queue-is ∙ w.push_back_reserved.ensures.capacity
+                ∙ c.loop.invariant.capacity;
             there = omega (arith, counted, c.loop.invariant.there);
           }
       | in_default w ↦ absurd (omega (arith, c.loop.invariant.there, c.loop-test.true, w.in_default.ensures.none))

@@ -7,4 +7,5 @@ pub loop-place-preserved : goal.loop-place-preserved
 loop-place-preserved c =
     let shown = c.index-pages-place.result in
     let same = c.frame-in-loop-place.ensures.number ∙ ap (λ (p : FrameBytes). p.frame) c.index-pages-place.is in
-    any_behind c.args.pages.now c.loop-place.place c.args.frame shown (λ e. c.loop-place-test.true (same ∙ e)) c.loop-place.invariant
+    any_behind c.args.pages.now c.loop-place.place c.args.frame shown
+    (λ e. c.loop-place-test.true (same ∙ e)) c.loop-place.invariant

@@ -1,4 +1,5 @@
-use Rattle.std.proofs.Common.{◌≡◌, ◌+◌, ◌-◌, ◌++◌, ◌≤◌, length, map, take, drop, ap, sym, subst, ◌∙◌, arith, length-drop}
+use Rattle.std.proofs.Common.{◌≡◌, ◌+◌, ◌-◌, ◌++◌, ◌≤◌, length, map, take, drop, ap, sym, subst, ◌∙◌, arith}
+use Rattle.std.proofs.Common.{length-drop}
 use borrow.Rule.Slice.PartMut.{put_mid, same_len_mid}
 use Rattle.std.specs.List.{AllByRecursion}
 use Rattle.std.proofs.lemmas.Slice.{take-put_mid}
@@ -22,8 +23,17 @@ loop-done-init c =
     let range = ap (λ k. take k (rest_of c.new-cursor.result)) e ∙ ap (take n) begins in
     record {
       left = ap (map (with_bytes_of c.args.pages.now (wire c.args.memory.now.memory))) range;
-      enough = omega (arith, ap length begins, length-drop c.args.off (segment_bytes c.args.segments.now), bytes_length c.args.segments.now, c.requires.range);
-      there = subst (AllByRecursion (IsThere c.args.memory.now.memory (frames_of c.args.pages.now))) (sym range) c.requires.there;
+      enough =
+          omega (
+            arith,
+            ap length begins,
+            length-drop c.args.off (segment_bytes c.args.segments.now),
+            bytes_length c.args.segments.now,
+            c.requires.range,
+          );
+      there =
+          subst (AllByRecursion (IsThere c.args.memory.now.memory (frames_of c.args.pages.now))) (sym range)
+          c.requires.there;
       inside = omega arith;
     }
 
@@ -32,8 +42,10 @@ read_in_frame-near-requires-clause-there c =
     let left = length c.loop-done.out - c.loop-done.done in
     let run = c.next-run.result in
     let there = IsThere c.args.memory.now.memory (frames_of c.args.pages.now) in
-    let split = ap (take left) c.next-run.ensures.run ∙ split_run run.pa.0 run.len left (rest_of c.next-run.new.self) c.next-run.ensures.most in
-    first_of_run there run.pa.0 run.len _ c.next-run.ensures.extent.some (subst (AllByRecursion there) split c.loop-done.invariant.there)
+    let split = ap (take left) c.next-run.ensures.run
+    ∙ split_run run.pa.0 run.len left (rest_of c.next-run.new.self) c.next-run.ensures.most in
+    first_of_run there run.pa.0 run.len _ c.next-run.ensures.extent.some
+    (subst (AllByRecursion there) split c.loop-done.invariant.there)
 
 pub loop-done-preserved : goal.loop-done-preserved
 loop-done-preserved c =
@@ -57,10 +69,14 @@ loop-done-preserved c =
     let read : new ≡ map w (run_of pa n) = c.read_in_frame-near.ensures ∙ ap (λ k. map w (run_of pa k)) size in
     record {
       left = ap (λ k. take (done + n) all ++ map w (take k rest)) fewer
-          ∙ part_read (take left (rest_of c.loop-done.cursor)) (take (left - n) rest) pa n done out new (take (done + n) all) w split
-          (take-put_mid done (done + n - done) out new (done + n) (omega (arith, size, c.read_in_frame-near.auto.out)) (omega (arith, before.inside))) read
+          ∙ part_read (take left (rest_of c.loop-done.cursor)) (take (left - n) rest) pa n done out
+          new (take (done + n) all) w split
+          (take-put_mid done (done + n - done) out new (done + n) (omega (arith, size, c.read_in_frame-near.auto.out))
+          (omega (arith, before.inside))) read
           ∙ before.left;
       enough = omega (arith, fewer, count, before.enough, most);
-      there = subst (λ k. AllByRecursion there (take k rest)) (sym fewer) (all_behind there (run_of pa n) (take (left - n) rest) (subst (AllByRecursion there) split before.there));
+      there =
+          subst (λ k. AllByRecursion there (take k rest)) (sym fewer)
+          (all_behind there (run_of pa n) (take (left - n) rest) (subst (AllByRecursion there) split before.there));
       inside = omega (arith, same, before.inside, most);
     }

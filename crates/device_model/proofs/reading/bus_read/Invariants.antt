@@ -9,10 +9,12 @@ use Rattle.device_model.proofs.reading.bus_read.Given as goal
 
 abbrev pub invariant-loop-done : goal.invariant-loop-done
 invariant-loop-done l = record {
-  left : take l.done l.out ++ map (with_bytes_of l.pages (wire l.memory.memory)) (take (length l.out - l.done) (rest_of l.cursor))
+  left : take l.done l.out ++ map (with_bytes_of l.pages (wire l.memory.memory))
+      (take (length l.out - l.done) (rest_of l.cursor))
       ≡ map (with_bytes_of l.pages (wire l.memory.memory)) (bus_range l.off (length l.fn.out) l.segments);
   enough : length l.out - l.done ≤ length (rest_of l.cursor);
-  there : AllByRecursion (IsThere l.memory.memory (frames_of l.pages)) (take (length l.out - l.done) (rest_of l.cursor));
+  there : AllByRecursion (IsThere l.memory.memory (frames_of l.pages))
+      (take (length l.out - l.done) (rest_of l.cursor));
   inside : l.done ≤ length l.out;
 }
 

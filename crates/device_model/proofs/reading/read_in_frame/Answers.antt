@@ -9,7 +9,8 @@ use Rattle.device_model.proofs.reading.read_in_frame.Goals as goal
 
 pub returns-then-has_frame : goal.returns-then-has_frame
 returns-then-has_frame c =
-    c.read.ensures ∙ memory_read c.args.memory.now.memory c.args.pages.now c.requires.apart c.args.at.0 (length c.args.out.now) c.requires.inside (sym c.has_frame.ensures.is ∙ c.if-has_frame.true)
+    c.read.ensures ∙ memory_read c.args.memory.now.memory c.args.pages.now c.requires.apart c.args.at.0
+    (length c.args.out.now) c.requires.inside (sym c.has_frame.ensures.is ∙ c.if-has_frame.true)
 
 pub returns : goal.returns
 returns c =
@@ -19,9 +20,12 @@ returns c =
     let place = c.page_of-place.result in
     let inside = c.page_of-place.ensures.inside in
     let shown = c.index-pages-place.result in
-    let page : shown ≡ get_or pages place no_page = c.index-pages-place.is ∙ get_or_default pages place shown no_page inside in
+    let page : shown ≡ get_or pages place no_page =
+    c.index-pages-place.is ∙ get_or_default pages place shown no_page inside in
     c.copy_from_slice.ensures.after
     ∙ ap (λ xs. take (at % 4096 + n - at % 4096) (drop (at % 4096) xs)) c.bytes.ensures.bytes
-    ∙ slice_page shown at n (at % 4096 + n - at % 4096) (omega arith) (sym (ap length c.bytes.ensures.bytes) ∙ c.bytes.ensures.length) c.requires.inside
+    ∙ slice_page shown at n (at % 4096 + n - at % 4096) (omega arith) (sym (ap length c.bytes.ensures.bytes)
+    ∙ c.bytes.ensures.length) c.requires.inside
     ∙ ap (λ (p : FrameBytes). map (page_byte p) (run_of at n)) page
-    ∙ page_read c.args.memory.now.memory pages c.requires.apart place at n inside c.page_of-place.ensures.frame c.requires.inside
+    ∙ page_read c.args.memory.now.memory pages c.requires.apart place at n inside
+    c.page_of-place.ensures.frame c.requires.inside

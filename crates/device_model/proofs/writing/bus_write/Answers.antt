@@ -20,9 +20,20 @@ loop-done-init c =
     let begins = c.new-cursor.ensures in
     let range = ap (λ k. take k (rest_of c.new-cursor.result)) e ∙ ap (take n) begins in
     record {
-      left = ap (λ keys. put keys c.args.bytes.now (with_bytes_of c.args.pages.now (wire c.args.memory.now.memory))) range;
-      enough = omega (arith, ap length begins, length-drop c.args.off (segment_bytes c.args.segments.now), bytes_length c.args.segments.now, c.requires.range);
-      there = subst (AllByRecursion (IsThere c.args.memory.now.memory (frames_of c.args.pages.now))) (sym range) c.requires.there;
+      left =
+          ap (λ keys. put keys c.args.bytes.now (with_bytes_of c.args.pages.now (wire c.args.memory.now.memory)))
+          range;
+      enough =
+          omega (
+            arith,
+            ap length begins,
+            length-drop c.args.off (segment_bytes c.args.segments.now),
+            bytes_length c.args.segments.now,
+            c.requires.range,
+          );
+      there =
+          subst (AllByRecursion (IsThere c.args.memory.now.memory (frames_of c.args.pages.now))) (sym range)
+          c.requires.there;
       inside = omega arith;
       frames = refl;
       same = same_refl c.args.memory.now.memory;
@@ -35,9 +46,11 @@ write_in_frame-near-requires-clause-there c =
     let run = c.next-run.result in
     let before = c.loop-done.invariant in
     let there = IsThere c.args.memory.now.memory (frames_of c.args.pages.now) in
-    let split = ap (take left) c.next-run.ensures.run ∙ split_run run.pa.0 run.len left (rest_of c.next-run.new.self) c.next-run.ensures.most in
+    let split = ap (take left) c.next-run.ensures.run
+    ∙ split_run run.pa.0 run.len left (rest_of c.next-run.new.self) c.next-run.ensures.most in
     there_now _ _ _ _ _ before.same before.frames
-    (first_of_run there run.pa.0 run.len _ c.next-run.ensures.extent.some (subst (AllByRecursion there) split before.there))
+    (first_of_run there run.pa.0 run.len _ c.next-run.ensures.extent.some
+    (subst (AllByRecursion there) split before.there))
 
 pub loop-done-preserved : goal.loop-done-preserved
 loop-done-preserved c =
@@ -57,11 +70,14 @@ loop-done-preserved c =
     let fewer : length bytes - (done + n) ≡ left - n = omega arith in
     record {
       left = ap (λ k. put (take k rest) (drop (done + n) bytes) now) fewer
-          ∙ part_written (take left (rest_of c.loop-done.cursor)) (take (left - n) rest) bytes pa n done (done + n - done) w now split (omega arith) (omega (arith, before.inside, most))
+          ∙ part_written (take left (rest_of c.loop-done.cursor)) (take (left - n) rest) bytes pa n done
+          (done + n - done) w now split (omega arith) (omega (arith, before.inside, most))
           (c.write_in_frame-near.ensures.wire ∙ sym (written_run pa (take (done + n - done) (drop done bytes)) w))
           ∙ before.left;
       enough = omega (arith, fewer, count, before.enough, most);
-      there = subst (λ k. AllByRecursion there (take k rest)) (sym fewer) (all_behind there (run_of pa n) (take (left - n) rest) (subst (AllByRecursion there) split before.there));
+      there =
+          subst (λ k. AllByRecursion there (take k rest)) (sym fewer)
+          (all_behind there (run_of pa n) (take (left - n) rest) (subst (AllByRecursion there) split before.there));
       inside = omega (arith, before.inside, most);
       frames = c.write_in_frame-near.ensures.frames ∙ before.frames;
       same = same_trans _ _ _ before.same c.write_in_frame-near.ensures.same;

@@ -10,10 +10,12 @@ use Rattle.device_model.proofs.writing.bus_write.Given as goal
 
 abbrev pub invariant-loop-done : goal.invariant-loop-done
 invariant-loop-done l = record {
-  left : put (take (length l.bytes - l.done) (rest_of l.cursor)) (drop l.done l.bytes) (with_bytes_of l.pages (wire l.memory.memory))
+  left : put (take (length l.bytes - l.done) (rest_of l.cursor)) (drop l.done l.bytes)
+      (with_bytes_of l.pages (wire l.memory.memory))
       ≡ put (bus_range l.off (length l.bytes) l.segments) l.bytes (with_bytes_of l.fn.pages (wire l.fn.memory.memory));
   enough : length l.bytes - l.done ≤ length (rest_of l.cursor);
-  there : AllByRecursion (IsThere l.fn.memory.memory (frames_of l.fn.pages)) (take (length l.bytes - l.done) (rest_of l.cursor));
+  there : AllByRecursion (IsThere l.fn.memory.memory (frames_of l.fn.pages))
+      (take (length l.bytes - l.done) (rest_of l.cursor));
   inside : l.done ≤ length l.bytes;
   frames : frames_of l.pages ≡ frames_of l.fn.pages;
   same : SamePages l.fn.memory.memory l.memory.memory;

@@ -11,12 +11,15 @@ use Rattle.device_model.proofs.writing.write_in_frame.Goals as goal
 
 pub returns-then-has_frame-clause-wire : goal.returns-then-has_frame-clause-wire
 returns-then-has_frame-clause-wire c =
-    memory_written c.args.memory.now.memory c.args.pages.now c.requires.apart c.args.at.0 c.args.bytes.now (wire c.write.new.self.memory) c.requires.inside (sym c.has_frame.ensures.is ∙ c.if-has_frame.true) c.write.ensures.wire
+    memory_written c.args.memory.now.memory c.args.pages.now c.requires.apart c.args.at.0 c.args.bytes.now
+    (wire c.write.new.self.memory) c.requires.inside (sym c.has_frame.ensures.is
+    ∙ c.if-has_frame.true) c.write.ensures.wire
 
 pub returns-then-has_frame-clause-same : goal.returns-then-has_frame-clause-same
 returns-then-has_frame-clause-same c =
     subst (λ (m : Memory). SamePages c.args.memory.now.memory m) (sym c.write.ensures.memory)
-    (same_rewritten c.args.memory.now.memory c.args.at.0 c.args.bytes.now (sym c.has_frame.ensures.is ∙ c.if-has_frame.true))
+    (same_rewritten c.args.memory.now.memory c.args.at.0 c.args.bytes.now
+    (sym c.has_frame.ensures.is ∙ c.if-has_frame.true))
 
 pub returns-clause-wire : goal.returns-clause-wire
 returns-clause-wire c =
@@ -24,12 +27,16 @@ returns-clause-wire c =
     let place = c.page_of-place.result in
     let inside = c.page_of-place.ensures.inside in
     let shown = c.index-pages-place.result in
-    let page : get_or pages place shown ≡ get_or pages place no_page = get_or_default pages place shown no_page inside in
-    page_put c.args.memory.now.memory pages c.requires.apart place c.args.at.0 c.args.bytes.now c.write-2.new.self inside c.page_of-place.ensures.frame c.requires.inside
+    let page : get_or pages place shown ≡ get_or pages place no_page =
+    get_or_default pages place shown no_page inside in
+    page_put c.args.memory.now.memory pages c.requires.apart place c.args.at.0 c.args.bytes.now c.write-2.new.self
+    inside c.page_of-place.ensures.frame c.requires.inside
     (ap (λ (p : FrameBytes). length p.bytes) (sym page) ∙ c.write-2.ensures.whole)
-    (c.write-2.ensures.page ∙ ap (λ (p : FrameBytes). record p { bytes = overwritten p.bytes (c.args.at.0 % 4096) c.args.bytes.now }) page)
+    (c.write-2.ensures.page
+    ∙ ap (λ (p : FrameBytes). record p { bytes = overwritten p.bytes (c.args.at.0 % 4096) c.args.bytes.now }) page)
 
 pub returns-clause-frames : goal.returns-clause-frames
 returns-clause-frames c =
-    map-set_same (λ (p : FrameBytes). p.frame) c.args.pages.now c.page_of-place.result c.write-2.new.self c.index-pages-place.result
+    map-set_same (λ (p : FrameBytes). p.frame) c.args.pages.now c.page_of-place.result
+    c.write-2.new.self c.index-pages-place.result
     (ap (λ (p : FrameBytes). p.frame) c.write-2.ensures.page)

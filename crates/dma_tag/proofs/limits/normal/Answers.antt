@@ -13,7 +13,8 @@ returns-then-not-is_accepted-clause-accepted c =
 pub returns-clause-effective : goal.returns-clause-effective
 returns-clause-effective c =
     let decided = is_accepted_decides c.args.spec (omega arith) (omega arith) in
-    subst IsEffective (search rules) (IsEffective-rounded c.args.spec (decided.0 (sym c.is_accepted.ensures ∙ c.if-not-is_accepted.false)))
+    subst IsEffective (search rules) (IsEffective-rounded c.args.spec
+    (decided.0 (sym c.is_accepted.ensures ∙ c.if-not-is_accepted.false)))
 
 pub returns-clause-accepted : goal.returns-clause-accepted
 returns-clause-accepted c =

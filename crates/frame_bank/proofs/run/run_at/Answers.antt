@@ -8,7 +8,8 @@ pub loop-at-preserved : goal.loop-at-preserved
 loop-at-preserved c =
     let addresses = page_addresses c.args.free.now.items in
     let inside : c.loop-at.at < length addresses = omega (arith, length-map c.args.free.now.items page_address) in
-    sym (lowest_run-later c.args.wish.len c.args.wish.boundary c.args.wish.limit.0 c.loop-at.at addresses inside (sym c.begins_run.ensures ∙ c.if-begins_run.false))
+    sym (lowest_run-later c.args.wish.len c.args.wish.boundary c.args.wish.limit.0 c.loop-at.at addresses inside
+    (sym c.begins_run.ensures ∙ c.if-begins_run.false))
     ∙ c.loop-at.invariant
 
 pub returns-then-begins_run : goal.returns-then-begins_run
@@ -18,5 +19,6 @@ returns-then-begins_run c =
     let begins = sym c.begins_run.ensures ∙ c.if-begins_run.true in (
       omega arith,
       begins,
-      sym c.loop-at.invariant ∙ lowest_run-here c.args.wish.len c.args.wish.boundary c.args.wish.limit.0 c.loop-at.at addresses inside begins,
+      sym c.loop-at.invariant ∙ lowest_run-here c.args.wish.len c.args.wish.boundary c.args.wish.limit.0
+          c.loop-at.at addresses inside begins,
     )

@@ -11,7 +11,8 @@ returns-then-not-is_listed c =
     let rest = rest_more deref_pair _ _ _ (c.in-Some.key, c.in-Some.field-0-1) c.in-Some.is c.next.ensures.steps in
     let known : List ℕ → Bool = λ key. list_any (λ k. bytes_eq k.now key) c.args.table.now in
     let other : known c.as_str-name.result.now ≡ false = search rules in
-    ap Some c.as_str-name.ensures.value ∙ unknown_first known _ _ _ rest (ap known (sym c.as_str-name.ensures.value) ∙ other) ∙ c.loop-key.invariant
+    ap Some c.as_str-name.ensures.value
+    ∙ unknown_first known _ _ _ rest (ap known (sym c.as_str-name.ensures.value) ∙ other) ∙ c.loop-key.invariant
 
 pub loop-key-preserved : goal.loop-key-preserved
 loop-key-preserved c =

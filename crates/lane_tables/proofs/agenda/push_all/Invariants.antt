@@ -9,7 +9,8 @@ abbrev pub invariant-loop-item : goal.invariant-loop-item
 invariant-loop-item l = record {
   can_next : (goal.iterator-loop-item).can_next l.item-iterator;
   is_finite : (goal.iterator-loop-item).is_finite l.item-iterator;
-  all : l.queue.items ++ queued_from l.load_at l.place (into_iter_items l.item-iterator) ≡ l.fn.queue.items ++ queued l.load_at l.fn.items;
+  all : l.queue.items ++ queued_from l.load_at l.place (into_iter_items l.item-iterator)
+      ≡ l.fn.queue.items ++ queued l.load_at l.fn.items;
   room : length l.queue.items + length (into_iter_items l.item-iterator) ≤ deque_capacity l.queue;
   capacity : deque_capacity l.queue ≡ deque_capacity l.fn.queue;
   few : l.place ≤ length l.queue.items;

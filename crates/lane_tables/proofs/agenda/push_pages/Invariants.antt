@@ -9,7 +9,8 @@ abbrev pub invariant-loop-page : goal.invariant-loop-page
 invariant-loop-page l = record {
   can_next : (goal.iterator-loop-page).can_next l.page-iterator;
   is_finite : (goal.iterator-loop-page).is_finite l.page-iterator;
-  all : l.queue.items ++ queued_pages l.map l.zone (into_iter_items l.page-iterator) ≡ l.fn.queue.items ++ queued_pages l.map l.zone l.fn.pages.items;
+  all : l.queue.items ++ queued_pages l.map l.zone (into_iter_items l.page-iterator) ≡ l.fn.queue.items
+      ++ queued_pages l.map l.zone l.fn.pages.items;
   room : length l.queue.items + length (into_iter_items l.page-iterator) ≤ deque_capacity l.queue;
   capacity : deque_capacity l.queue ≡ deque_capacity l.fn.queue;
 }

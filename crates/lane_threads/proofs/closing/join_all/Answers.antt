@@ -17,7 +17,8 @@ loop-pass-preserved c =
       (
         done ++ pass ∷ [],
         append_assoc done (pass ∷ []) rest ∙ (ap (λ ps. done ++ ps) (sym step) ∙ c.loop-pass.invariant.2.1),
-        joins-more c.args.first c.loop-pass.into pass c.join.new.into done c.join.ensures.joined c.loop-pass.invariant.2.2,
+        joins-more c.args.first c.loop-pass.into pass c.join.new.into done
+            c.join.ensures.joined c.loop-pass.invariant.2.2,
       ),
       All-tail IsHere pass rest (subst (All IsHere) step c.loop-pass.invariant.3),
     )

@@ -6,5 +6,6 @@ abbrev pub invariant-loop-pass : goal.invariant-loop-pass
 invariant-loop-pass l =
     (goal.iterator-loop-pass).can_next l.pass-iterator ×
     (goal.iterator-loop-pass).is_finite l.pass-iterator ×
-    ((done : List LanePass) × (done ++ l.pass-iterator.rest.items ≡ l.fn.passes.items) × Joins l.initial.into done l.into) ×
+    ((done : List LanePass) × (done ++ l.pass-iterator.rest.items ≡ l.fn.passes.items)
+    × Joins l.initial.into done l.into) ×
     All (λ p. p.turnstile ≡ l.initial.into.turnstile) l.pass-iterator.rest.items

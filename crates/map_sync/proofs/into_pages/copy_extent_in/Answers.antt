@@ -18,9 +18,11 @@ pub returns-then-from-to-clause-bytes : goal.returns-then-from-to-clause-bytes
 returns-then-from-to-clause-bytes c =
     let e = c.args.extent in
     let m = c.args.memory.now.memory in
-    extent_written (wire m) c.args.from c.args.to c.args.bus.0 e.pa.0 e.len c.args.page.now c.write.new.self c.bytes_at-bytes.result.now
+    extent_written (wire m) c.args.from c.args.to c.args.bus.0 e.pa.0 e.len c.args.page.now
+    c.write.new.self c.bytes_at-bytes.result.now
     c.write.ensures.whole c.requires.page c.requires.inside (omega (arith, c.min-to.ensures, c.if-from-to.true))
-    (c.bytes_at-bytes.ensures ∙ ap (λ n. map (wire m) (run_of (e.pa.0 + c.args.from) (n - c.args.from))) c.min-to.ensures)
+    (c.bytes_at-bytes.ensures
+    ∙ ap (λ n. map (wire m) (run_of (e.pa.0 + c.args.from) (n - c.args.from))) c.min-to.ensures)
     c.write.ensures.page
 
 pub returns-else-from-to-clause-bytes : goal.returns-else-from-to-clause-bytes

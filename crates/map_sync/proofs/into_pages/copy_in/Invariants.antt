@@ -12,6 +12,7 @@ abbrev pub invariant-loop-chunk : goal.invariant-loop-chunk
 invariant-loop-chunk l = record {
   frames : frames_of l.pages ≡ frames_of l.fn.pages;
   held : AllZip (IsHeld l.memory.memory) (paged (drop l.chunk-index l.chunks)) (drop l.next (frames_of l.fn.pages));
-  left : copied (λ p. p.bus) (λ p. p.pa) (with_bytes_of l.fn.pages (wire l.memory.memory)) (range_of_chunks l.off l.len (drop l.chunk-index l.chunks)) (with_bytes_of l.pages (wire l.memory.memory))
+  left : copied (λ p. p.bus) (λ p. p.pa) (with_bytes_of l.fn.pages (wire l.memory.memory))
+      (range_of_chunks l.off l.len (drop l.chunk-index l.chunks)) (with_bytes_of l.pages (wire l.memory.memory))
       ≡ copied_in (range_of_chunks l.off l.len l.chunks) (with_bytes_of l.fn.pages (wire l.memory.memory));
 }

@@ -14,11 +14,16 @@ returns-then-from-to-clause-wire c =
     let bus = c.args.bus.0 in
     let from = c.args.from in
     let n = c.min-to.result - from in
-    let place : bus % 4096 + from ≡ (bus + from) % 4096 = omega (arith, c.min-to.ensures, c.if-from-to.true, c.requires.inside) in
-    copied_extent (page_byte c.args.page.now) (wire c.args.memory.now.memory) (wire c.write.new.self.memory) from c.args.to bus e.pa.0 e.len _
-    (ap (λ xs. take (bus % 4096 + c.min-to.result - (bus % 4096 + from)) (drop (bus % 4096 + from) xs)) c.bytes.ensures.bytes
+    let place : bus % 4096 + from ≡ (bus + from) % 4096 =
+    omega (arith, c.min-to.ensures, c.if-from-to.true, c.requires.inside) in
+    copied_extent (page_byte c.args.page.now) (wire c.args.memory.now.memory)
+    (wire c.write.new.self.memory) from c.args.to bus e.pa.0 e.len _
+    (ap (λ xs. take (bus % 4096 + c.min-to.result - (bus % 4096 + from)) (drop (bus % 4096 + from) xs))
+    c.bytes.ensures.bytes
     ∙ ap (λ at. take (bus % 4096 + c.min-to.result - (bus % 4096 + from)) (drop at c.args.page.now.bytes)) place
-    ∙ slice_page c.args.page.now (bus + from) n (bus % 4096 + c.min-to.result - (bus % 4096 + from)) (omega arith) (sym (ap length c.bytes.ensures.bytes) ∙ c.bytes.ensures.length) (omega (arith, c.min-to.ensures, c.if-from-to.true, c.requires.inside))
+    ∙ slice_page c.args.page.now (bus + from) n (bus % 4096 + c.min-to.result - (bus % 4096 + from)) (omega arith)
+    (sym (ap length c.bytes.ensures.bytes)
+    ∙ c.bytes.ensures.length) (omega (arith, c.min-to.ensures, c.if-from-to.true, c.requires.inside))
     ∙ ap (λ k. map (page_byte c.args.page.now) (run_of (bus + from) (k - from))) c.min-to.ensures)
     c.write.ensures.wire
 

@@ -14,6 +14,7 @@ invariant-loop-chunk l = record {
   same : SamePages l.fn.memory.memory l.memory.memory;
   spare : l.memory.spare ≡ l.fn.memory.spare;
   held : AllZip (IsHeld l.fn.memory.memory) (paged (drop l.chunk-index l.chunks)) (drop l.next (frames_of l.pages));
-  left : copied (λ p. p.pa) (λ p. p.bus) (with_bytes_of l.pages (wire l.fn.memory.memory)) (range_of_chunks l.off l.len (drop l.chunk-index l.chunks)) (with_bytes_of l.pages (wire l.memory.memory))
+  left : copied (λ p. p.pa) (λ p. p.bus) (with_bytes_of l.pages (wire l.fn.memory.memory))
+      (range_of_chunks l.off l.len (drop l.chunk-index l.chunks)) (with_bytes_of l.pages (wire l.memory.memory))
       ≡ copied_out (range_of_chunks l.off l.len l.chunks) (with_bytes_of l.pages (wire l.fn.memory.memory));
 }

@@ -8,8 +8,10 @@ returns-then-index-at-clause-less c = rw c.remove.ensures.items (climbs_remove 0
 
 pub returns-then-index-at-clause-counts : goal.returns-then-index-at-clause-counts
 returns-then-index-at-clause-counts c n =
-    let removed = count_remove c.args.less.now.items (c.count_at-stood.result - 1) n c.index.result.now (omega arith) in
-    let is : get_or c.args.less.now.items (c.count_at-stood.result - 1) c.index.result.now ≡ c.args.at = sym c.index.ensures ∙ c.if-index-at.true in
+    let removed =
+    count_remove c.args.less.now.items (c.count_at-stood.result - 1) n c.index.result.now (omega arith) in
+    let is : get_or c.args.less.now.items (c.count_at-stood.result - 1) c.index.result.now ≡ c.args.at =
+    sym c.index.ensures ∙ c.if-index-at.true in
     let counted = rw is at removed in
     rw c.remove.ensures.items (omega arith)
 
@@ -18,7 +20,9 @@ returns-else-stood-gt0-clause-more c =
     let ok : is_ok c.insert.result ≡ true = c.insert.ensures.succeeds (omega arith) in
     let below = rw c.deref-else-stood-gt0.ensures.value at c.count_at-place.ensures.below in
     let above = rw c.deref-else-stood-gt0.ensures.value at c.count_at-place.ensures.above in
-    rw (c.insert.ensures.items, ok) (climbs_insert 0 c.args.more.now.items c.count_at-place.result c.args.at 0 c.requires.more (omega arith) (λ k a b. below k 0 a) (λ k a b. let x : c.args.at < get_or c.args.more.now.items k 0 = above k 0 a b in omega arith))
+    rw (c.insert.ensures.items, ok) (climbs_insert 0 c.args.more.now.items c.count_at-place.result c.args.at 0
+    c.requires.more (omega arith) (λ k a b. below k 0 a)
+    (λ k a b. let x : c.args.at < get_or c.args.more.now.items k 0 = above k 0 a b in omega arith))
 
 pub returns-else-stood-gt0-clause-counts : goal.returns-else-stood-gt0-clause-counts
 returns-else-stood-gt0-clause-counts c n =

@@ -7,11 +7,18 @@ use Rattle.run_set.proofs.edges.count_to.Goals as goal
 pub returns-clause-below : goal.returns-clause-below
 returns-clause-below c lo hi p h =
     let parted = IsPartitionedBy-leb (λ (x : ℕ). x) c.args.edges.now c.args.n (rises_nondecreasing lo hi _ h) in
-    let point = IsPartitionPoint-from_clause (λ x. leb x c.args.n) _ _ c.partition_point.ensures.partitioned parted (λ a r q k. search rules) in
-    rises_take _ _ lo hi (c.args.n + 1) p h (λ k a b. let x : get_or c.args.edges.now k 0 ≤ c.args.n = leb-true _ _ (point.0 k 0 (omega arith) a) in omega arith)
+    let point =
+    IsPartitionPoint-from_clause (λ x. leb x c.args.n) _ _
+    c.partition_point.ensures.partitioned parted (λ a r q k. search rules) in
+    rises_take _ _ lo hi (c.args.n + 1) p h
+    (λ k a b. let x : get_or c.args.edges.now k 0 ≤ c.args.n =
+    leb-true _ _ (point.0 k 0 (omega arith) a) in omega arith)
 
 pub returns-clause-above : goal.returns-clause-above
 returns-clause-above c lo hi p h =
     let parted = IsPartitionedBy-leb (λ (x : ℕ). x) c.args.edges.now c.args.n (rises_nondecreasing lo hi _ h) in
-    let point = IsPartitionPoint-from_clause (λ x. leb x c.args.n) _ _ c.partition_point.ensures.partitioned parted (λ a r q k. search rules) in
-    rises_drop _ _ lo hi (c.args.n + 1) (omega arith) h (λ k a b. let x : c.args.n < get_or c.args.edges.now k 0 = leb-false _ _ (point.1 k 0 a b) in omega arith)
+    let point =
+    IsPartitionPoint-from_clause (λ x. leb x c.args.n) _ _
+    c.partition_point.ensures.partitioned parted (λ a r q k. search rules) in
+    rises_drop _ _ lo hi (c.args.n + 1) (omega arith) h
+    (λ k a b. let x : c.args.n < get_or c.args.edges.now k 0 = leb-false _ _ (point.1 k 0 a b) in omega arith)

@@ -6,17 +6,20 @@ use Rattle.run_set.proofs.numbers.turn.Goals as goal
 pub returns-clause-from : goal.returns-clause-from
 returns-clause-from c =
     let next : c.args.start < get_or c.args.list.now c.count_at.result c.args.end =
-    next_is_above c.args.list.now c.count_at.result c.args.start c.args.end c.requires.some (λ q. c.count_at.ensures.above c.count_at.result c.args.end (omega arith) q) in
+    next_is_above c.args.list.now c.count_at.result c.args.start c.args.end c.requires.some
+    (λ q. c.count_at.ensures.above c.count_at.result c.args.end (omega arith) q) in
     omega arith
 
 pub returns-clause-none : goal.returns-clause-none
 returns-clause-none c n p q =
     let until : n < get_or c.args.list.now c.count_at.result c.args.end = omega arith in
-    count_until 0 c.args.list.now c.count_at.result c.args.start n c.args.end c.requires.climbs c.count_at.ensures.small c.count_at.ensures.below p until ∙ c.count_at.ensures.is
+    count_until 0 c.args.list.now c.count_at.result c.args.start n c.args.end c.requires.climbs
+    c.count_at.ensures.small c.count_at.ensures.below p until ∙ c.count_at.ensures.is
 
 pub returns-clause-fewer : goal.returns-clause-fewer
 returns-clause-fewer c p =
     let before : get_or c.args.list.now c.count_at.result c.args.end < c.args.end = omega arith in
     let past : c.count_at.result < count_le c.args.list.now c.min.result =
-    count_past 0 c.args.list.now c.count_at.result c.min.result c.args.end c.requires.climbs (is_inside c.args.list.now c.count_at.result c.args.end before) (omega arith) in
+    count_past 0 c.args.list.now c.count_at.result c.min.result c.args.end c.requires.climbs
+    (is_inside c.args.list.now c.count_at.result c.args.end before) (omega arith) in
     omega arith

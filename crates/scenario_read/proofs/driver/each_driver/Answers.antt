@@ -12,11 +12,14 @@ loop-value-preserved c =
     record {
       rest = grind (arith, common_steps);
       valid = rw c.in_ok-push.ensures.items
-          (EachAfter-append (IsDriver c.args.frames.now) _ _ c.in_ok-driver.driver c.loop-value.invariant.valid (rw (← c.deref.ensures.value) c.in_ok-driver.ensures.valid));
+          (EachAfter-append (IsDriver c.args.frames.now) _ _ c.in_ok-driver.driver c.loop-value.invariant.valid
+          (rw (← c.deref.ensures.value) c.in_ok-driver.ensures.valid));
       count = grind (arith, common_steps);
       read = rw c.in_ok-push.ensures.items
-          (read_more c.driver.new.counts start c.loop-value.drivers.items c.in_ok-driver.driver c.in_ok-driver.ensures.counted c.loop-value.invariant.read);
+          (read_more c.driver.new.counts start c.loop-value.drivers.items c.in_ok-driver.driver
+          c.in_ok-driver.ensures.counted c.loop-value.invariant.read);
       loaded = rw c.in_ok-push.ensures.items
-          (loaded_more c.driver.new.counts start c.loop-value.drivers.items c.in_ok-driver.driver c.in_ok-driver.ensures.counted c.loop-value.invariant.loaded);
+          (loaded_more c.driver.new.counts start c.loop-value.drivers.items c.in_ok-driver.driver
+          c.in_ok-driver.ensures.counted c.loop-value.invariant.loaded);
       within = grind (arith, common_steps);
     }

@@ -10,7 +10,8 @@ use Rattle.scenario_read.proofs.driver.each_driver.Given as goal
 
 abbrev pub invariant-loop-value : goal.invariant-loop-value
 invariant-loop-value l = record {
-  rest : each (driver_at l.frames) (spot_of l.here) l.drivers.items (map view (drop l.value-index l.items)) ≡ each (driver_at l.frames) (spot_of l.here) [] (map view l.items);
+  rest : each (driver_at l.frames) (spot_of l.here) l.drivers.items (map view (drop l.value-index l.items))
+      ≡ each (driver_at l.frames) (spot_of l.here) [] (map view l.items);
   valid : EachAfter (IsDriver l.frames) [] l.drivers.items;
   count : length l.drivers.items ≡ l.value-index;
   read : l.counts.read ≡ read_of l.drivers.items;

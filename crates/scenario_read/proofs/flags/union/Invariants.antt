@@ -5,4 +5,6 @@ use Rattle.scenario_read.specs.Flags.{flags_from}
 use Rattle.scenario_read.proofs.flags.union.Given as goal
 
 abbrev pub invariant-loop-value : goal.invariant-loop-value
-invariant-loop-value l = (flags_from l.set (spot_of l.here) l.place l.bits (map view (drop l.value-index l.items)) ≡ flags_from l.set (spot_of l.here) 0 0 (map view l.items)) × (l.place ≡ l.value-index)
+invariant-loop-value l =
+    (flags_from l.set (spot_of l.here) l.place l.bits (map view (drop l.value-index l.items))
+    ≡ flags_from l.set (spot_of l.here) 0 0 (map view l.items)) × (l.place ≡ l.value-index)

@@ -9,6 +9,8 @@ loop-value-preserved c = record {
   rest = grind (arith, common_steps);
   sum = grind (arith, common_steps);
   few = grind (arith, common_steps);
-  valid = rw c.in_ok-push.ensures.items (EachAfter-append IsFrameRun _ _ c.in_ok-run.run' c.loop-value.invariant.valid (rw (← c.deref.ensures.value) c.in_ok-run.ensures.valid));
+  valid =
+      rw c.in_ok-push.ensures.items (EachAfter-append IsFrameRun _ _ c.in_ok-run.run' c.loop-value.invariant.valid
+      (rw (← c.deref.ensures.value) c.in_ok-run.ensures.valid));
   numbered = grind (arith, common_steps);
 }

@@ -10,7 +10,8 @@ use Rattle.scenario_read.proofs.frames.runs.Given as goal
 
 abbrev pub invariant-loop-value : goal.invariant-loop-value
 invariant-loop-value l = record {
-  rest : each frame_run_at (spot_of l.here) l.runs.items (map view (drop l.value-index l.items)) ≡ each frame_run_at (spot_of l.here) [] (map view l.items);
+  rest : each frame_run_at (spot_of l.here) l.runs.items (map view (drop l.value-index l.items))
+      ≡ each frame_run_at (spot_of l.here) [] (map view l.items);
   sum : l.total ≡ frame_count l.runs.items;
   few : l.total ≤ 8192;
   valid : EachAfter IsFrameRun [] l.runs.items;

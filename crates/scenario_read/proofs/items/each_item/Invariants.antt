@@ -10,7 +10,9 @@ use Rattle.scenario_read.proofs.items.each_item.Given as goal
 
 abbrev pub invariant-loop-value : goal.invariant-loop-value
 invariant-loop-value l = record {
-  rest : each (λ done. item_at l.before (with_items l.fn.counts done)) (spot_of l.here) l.done.items (map view (drop l.value-index l.items)) ≡ each (λ done. item_at l.before (with_items l.fn.counts done)) (spot_of l.here) [] (map view l.items);
+  rest : each (λ done. item_at l.before (with_items l.fn.counts done)) (spot_of l.here) l.done.items
+      (map view (drop l.value-index l.items))
+      ≡ each (λ done. item_at l.before (with_items l.fn.counts done)) (spot_of l.here) [] (map view l.items);
   valid : AllByRecursion (IsItem l.before) l.done.items;
   counted : l.counts ≡ with_items l.fn.counts l.done.items;
   within : IsWithin l.counts;

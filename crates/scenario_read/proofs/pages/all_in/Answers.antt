@@ -13,4 +13,5 @@ loop-left-preserved c =
     let high : next < run.first + run.count = below _ _ found.0 in
     let whole : step + (c.loop-left.left - step) ≡ c.loop-left.left = omega (arith, c.min-step.ensures) in
     let end : next + step ≤ run.first + run.count = omega (arith, c.min-step.ensures) in
-    sym (jump c.args.frames.now run found.2 step (c.loop-left.left - step) next low end) ∙ ap (all_in c.args.frames.now next) whole ∙ c.loop-left.invariant
+    sym (jump c.args.frames.now run found.2 step (c.loop-left.left - step) next low end)
+    ∙ ap (all_in c.args.frames.now next) whole ∙ c.loop-left.invariant

@@ -9,6 +9,7 @@ use Rattle.scenario_read.proofs.pages.runs.Given as goal
 
 abbrev pub invariant-loop-value : goal.invariant-loop-value
 invariant-loop-value l = record {
-  rest : each (page_run_at l.frames l.earlier) (spot_of l.here) l.runs.items (map view (drop l.value-index l.items)) ≡ each (page_run_at l.frames l.earlier) (spot_of l.here) [] (map view l.items);
+  rest : each (page_run_at l.frames l.earlier) (spot_of l.here) l.runs.items (map view (drop l.value-index l.items))
+      ≡ each (page_run_at l.frames l.earlier) (spot_of l.here) [] (map view l.items);
   valid : EachAfter (IsPageRun l.frames l.earlier) [] l.runs.items;
 }

@@ -10,8 +10,10 @@ pub loop-value-preserved : goal.loop-value-preserved
 loop-value-preserved c = record {
   rest = grind (arith, common_steps);
   valid = rw c.in_ok-push.ensures.items
-      (EachAfter-append IsOp _ _ c.in_ok-op.op c.loop-value.invariant.valid (rw (← c.deref.ensures.value) c.in_ok-op.ensures.valid));
+      (EachAfter-append IsOp _ _ c.in_ok-op.op c.loop-value.invariant.valid
+      (rw (← c.deref.ensures.value) c.in_ok-op.ensures.valid));
   counted = rw c.in_ok-push.ensures.items
-      (c.in_ok-op.ensures.counted ∙ ap (λ k. with_op (stepped k) c.in_ok-op.op) c.loop-value.invariant.counted ∙ with_ops_more _ _ _);
+      (c.in_ok-op.ensures.counted ∙ ap (λ k. with_op (stepped k) c.in_ok-op.op) c.loop-value.invariant.counted
+      ∙ with_ops_more _ _ _);
   within = grind (arith, common_steps);
 }

@@ -10,7 +10,9 @@ use Rattle.scenario_read.proofs.script.each_op.Given as goal
 
 abbrev pub invariant-loop-value : goal.invariant-loop-value
 invariant-loop-value l = record {
-  rest : each (λ before. op_at before (with_ops l.fn.counts before)) (spot_of l.here) l.before.items (map view (drop l.value-index l.items)) ≡ each (λ before. op_at before (with_ops l.fn.counts before)) (spot_of l.here) [] (map view l.items);
+  rest : each (λ before. op_at before (with_ops l.fn.counts before)) (spot_of l.here) l.before.items
+      (map view (drop l.value-index l.items))
+      ≡ each (λ before. op_at before (with_ops l.fn.counts before)) (spot_of l.here) [] (map view l.items);
   valid : EachAfter IsOp [] l.before.items;
   counted : l.counts ≡ with_ops l.fn.counts l.before.items;
   within : IsWithin l.counts;

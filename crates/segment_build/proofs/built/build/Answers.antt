@@ -14,13 +14,20 @@ returns-then-not-branch c =
     let pieces = c.as_slice-piece-items.ensures ∙ c.in_ok-pieces.ensures in
     let refused : c.add_piece.result ≡ Ok false = cc in
     let none : Segment = record { addr = record { 0 = 0 }; len = 0 } in
-    let many = subst (λ (u : TagLimits). u.nsegments < length (added u l.list.items (get_or c.as_slice-piece-items.result.now l.piece-index none))) c.limits.ensures.limits (c.add_piece.ensures.many refused) in
-    subst (AreTooMany t) pieces (are_many t l.list.items c.as_slice-piece-items.result.now l.piece-index none c.loop-piece-test.true l.invariant.is many)
+    let many =
+    subst (λ (u : TagLimits). u.nsegments < length
+    (added u l.list.items (get_or c.as_slice-piece-items.result.now l.piece-index none))) c.limits.ensures.limits
+    (c.add_piece.ensures.many refused) in
+    subst (AreTooMany t) pieces (are_many t l.list.items c.as_slice-piece-items.result.now l.piece-index none
+    c.loop-piece-test.true l.invariant.is many)
 
 pub returns : goal.returns
 returns c =
     let t = c.args.tag.now in
     let l = c.loop-piece in
     let pieces = c.as_slice-piece-items.ensures ∙ c.in_ok-pieces.ensures in
-    let few = are_few t l.list.items c.as_slice-piece-items.result.now l.piece-index c.loop-piece-test.false l.invariant.is l.invariant.few in
-    subst (λ (ps : List Segment). IsFew t ps c.into_list.result) pieces (subst (λ (segs : List Segment). IsFew t c.as_slice-piece-items.result.now segs) (sym c.into_list.ensures) few)
+    let few =
+    are_few t l.list.items c.as_slice-piece-items.result.now l.piece-index
+    c.loop-piece-test.false l.invariant.is l.invariant.few in
+    subst (λ (ps : List Segment). IsFew t ps c.into_list.result) pieces
+    (subst (λ (segs : List Segment). IsFew t c.as_slice-piece-items.result.now segs) (sym c.into_list.ensures) few)

@@ -13,7 +13,8 @@ loop-left-preserved c =
     record {
       is = ap (λ ps. ps ++ rest) c.in_ok-push.ensures.items
           ∙ (append_assoc l.pieces.items (piece_at l.at k ∷ []) rest
-          ∙ (ap (λ ps. l.pieces.items ++ ps) (sym (pieces_step t l.at l.left k c.requires.size c.loop-left-test.true c.piece_len-len.ensures.is))
+          ∙ (ap (λ ps. l.pieces.items ++ ps)
+          (sym (pieces_step t l.at l.left k c.requires.size c.loop-left-test.true c.piece_len-len.ensures.is))
           ∙ l.invariant.is));
       place = omega arith;
     }

@@ -9,7 +9,8 @@ invariant-loop-entry l =
     let rest = drop l.entry-index l.entries in
     record {
       after : after l.tag l.maxmem l.cutter (parts_of rest) ≡ after l.tag l.maxmem uncut (parts_of l.entries);
-      closed : l.chunks.items ++ closed l.tag l.maxmem l.cutter (parts_of rest) ≡ closed l.tag l.maxmem uncut (parts_of l.entries);
+      closed : l.chunks.items ++ closed l.tag l.maxmem l.cutter (parts_of rest)
+          ≡ closed l.tag l.maxmem uncut (parts_of l.entries);
       at : l.cutter.at + entries_bytes rest ≡ entries_bytes l.entries;
       entries : AllByRecursion IsEntry rest;
     }

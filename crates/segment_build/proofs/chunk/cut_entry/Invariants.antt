@@ -11,7 +11,8 @@ invariant-loop-extent l =
     let rest = extent_parts l.opens l.entry.rounded es in
     record {
       after : after l.tag l.maxmem l.cutter rest ≡ after l.tag l.maxmem l.initial.cutter (entry_parts l.entry);
-      closed : l.chunks.items ++ closed l.tag l.maxmem l.cutter rest ≡ l.initial.chunks.items ++ closed l.tag l.maxmem l.initial.cutter (entry_parts l.entry);
+      closed : l.chunks.items ++ closed l.tag l.maxmem l.cutter rest ≡ l.initial.chunks.items
+          ++ closed l.tag l.maxmem l.initial.cutter (entry_parts l.entry);
       at : l.cutter.at + byte_count es ≡ l.initial.cutter.at + byte_count l.entry.parts;
       extents : AllByRecursion IsExtent es;
     }

@@ -5,6 +5,7 @@ use Rattle.segment_build.proofs.chunk.place.Given as goal
 
 abbrev pub invariant-loop-chunk : goal.invariant-loop-chunk
 invariant-loop-chunk l = record {
-  is : take l.chunk-index l.chunks ++ placed l.keep (drop l.chunk-index l.chunks) (drop l.used l.pages) ≡ placed l.keep l.initial.chunks l.pages;
+  is : take l.chunk-index l.chunks ++ placed l.keep (drop l.chunk-index l.chunks) (drop l.used l.pages)
+      ≡ placed l.keep l.initial.chunks l.pages;
   used : l.used + need_of (drop l.chunk-index l.chunks) ≡ length l.pages;
 }

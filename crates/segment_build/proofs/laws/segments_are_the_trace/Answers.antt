@@ -16,4 +16,5 @@ returns c =
     let eff = c.limits.ensures.effective in
     let sound = chunks_sound t c.args.maxmem c.args.entries.now eff c.requires.entries in
     segmentation_bytes t (segmentation t pieces) pieces (cut_is t pieces)
-    ∙ pieces_bytes t (tag_placed t chunks pages) eff.maxsegsz (all_rise (tag_placed t chunks pages) (placed_are t chunks pages sound c.requires.pages))
+    ∙ pieces_bytes t (tag_placed t chunks pages) eff.maxsegsz
+    (all_rise (tag_placed t chunks pages) (placed_are t chunks pages sound c.requires.pages))

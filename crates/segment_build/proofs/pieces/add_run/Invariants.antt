@@ -6,7 +6,8 @@ use Rattle.segment_build.proofs.pieces.add_run.Given as goal
 
 abbrev pub invariant-loop-left : goal.invariant-loop-left
 invariant-loop-left l = record {
-  is : added_all l.limits l.list.items (pieces_of l.limits (run_of l.at l.left)) ≡ added_all l.limits l.initial.list.items (pieces_of l.limits (run_of l.fn.run.addr.0 l.fn.run.len));
+  is : added_all l.limits l.list.items (pieces_of l.limits (run_of l.at l.left))
+      ≡ added_all l.limits l.initial.list.items (pieces_of l.limits (run_of l.fn.run.addr.0 l.fn.run.len));
   few : length l.list.items ≤ l.limits.nsegments;
   room : l.initial.list.spare + length l.initial.list.items ≤ l.list.spare + length l.list.items;
   place : l.at + l.left ≡ l.fn.run.addr.0 + l.fn.run.len;

@@ -18,13 +18,24 @@ invariant_of-result c =
     let bank : first.bank ≡ c.args.bank = ap (λ p. p.bank) c.of.ensures ∙ c.new-pool.ensures.bank in
     let same : opening_of first ≡ opening c.args.bank c.args.max_bpages c.args.maxmem =
     ap (λ b. opening b first.max_bpages first.maxmem) bank
-    ∙ ap (λ n. opening c.args.bank n first.maxmem) (ap (λ p. p.max_bpages) c.of.ensures ∙ c.new-pool.ensures.max_bpages)
-    ∙ ap (λ n. opening c.args.bank c.args.max_bpages n) (ap (λ p. p.maxmem) c.of.ensures ∙ c.new-pool.ensures.maxmem) in
+    ∙ ap (λ n. opening c.args.bank n first.maxmem)
+    (ap (λ p. p.max_bpages) c.of.ensures ∙ c.new-pool.ensures.max_bpages)
+    ∙ ap (λ n. opening c.args.bank c.args.max_bpages n)
+    (ap (λ p. p.maxmem) c.of.ensures ∙ c.new-pool.ensures.maxmem) in
     record {
       form = bank_opens first.bank first.max_bpages first.maxmem (subst IsBank (sym bank) sound);
       sound = subst (IsSound (opening_of first)) (sym c.new.ensures.items) tt;
-      agrees = subst (λ h. Agrees pool (account_of (opening_of first) h)) (sym c.new.ensures.items) (subst (Agrees pool) (sym same) c.new-pool.ensures.agrees);
-      frames = omega (arith, length-map first.bank.pages page_address, (subst IsBank (sym bank) sound).roomy, ap (λ (b : Bank). b.room) bank, ap (λ (b : Bank). b.room) c.new-pool.ensures.bank);
+      agrees =
+          subst (λ h. Agrees pool (account_of (opening_of first) h)) (sym c.new.ensures.items)
+          (subst (Agrees pool) (sym same) c.new-pool.ensures.agrees);
+      frames =
+          omega (
+            arith,
+            length-map first.bank.pages page_address,
+            (subst IsBank (sym bank) sound).roomy,
+            ap (λ (b : Bank). b.room) bank,
+            ap (λ (b : Bank). b.room) c.new-pool.ensures.bank,
+          );
       room = omega (arith, ap length c.new.ensures.items, c.new-pool.ensures.agrees.owed);
     }
 

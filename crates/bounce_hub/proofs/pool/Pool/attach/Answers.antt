@@ -14,7 +14,8 @@ grow-requires c = record {
   account = c.requires.account;
   agrees = c.requires.agrees;
   fits = c.requires.fits;
-  place = c.place_for-place.ensures.is ∙ ap (place_for c.args.tag.now) c.deref.ensures.value ∙ place-is c.args.tag.now c.args.self.now c.requires.account c.requires.agrees;
+  place = c.place_for-place.ensures.is ∙ ap (place_for c.args.tag.now) c.deref.ensures.value
+      ∙ place-is c.args.tag.now c.args.self.now c.requires.account c.requires.agrees;
 }
 
 pub returns-clause-steps : goal.returns-clause-steps
@@ -22,15 +23,25 @@ returns-clause-steps c = λ a agrees fits may.
     let n : ℕ = c.in_ok-added.added in
     let z : ℕ = zone_of c.args.tag.now a.zones in
     let b : Account = with_zone_for c.args.tag.now a in
-    let at : c.place_for-place.result ≡ z = c.place_for-place.ensures.is ∙ ap (place_for c.args.tag.now) c.deref.ensures.value ∙ place-is c.args.tag.now c.args.self.now a agrees in
-    let pages : c.from.result ≡ total b z = c.from.ensures ∙ c.pages_at.ensures ∙ ap (λ (k : ℕ). pages_of (slice_get c.args.self.now.zones.items k)) at ∙ pages-is c.args.tag.now c.args.self.now a agrees fits.well in
-    let wanted : c.saturating_sub-wanted.result ≡ wanted_by_tag c.args.tag.now (total b z) = c.saturating_sub-wanted.ensures ∙ ap (λ (k : ℕ). c.args.tag.now.maxsize / 4096 - k) pages in
-    let grew : GrewBy c.args.self.now c.args.tag.now c.place_for-place.result c.saturating_sub-wanted.result n a c.grow.new.self = c.in_ok-added.ensures.grows a agrees fits at in
-    let count : n ≡ added b z c.saturating_sub-wanted.result = grew.added ∙ ap (λ (k : ℕ). added b k c.saturating_sub-wanted.result) at in
+    let at : c.place_for-place.result ≡ z =
+    c.place_for-place.ensures.is ∙ ap (place_for c.args.tag.now) c.deref.ensures.value
+    ∙ place-is c.args.tag.now c.args.self.now a agrees in
+    let pages : c.from.result ≡ total b z =
+    c.from.ensures ∙ c.pages_at.ensures ∙ ap (λ (k : ℕ). pages_of (slice_get c.args.self.now.zones.items k)) at
+    ∙ pages-is c.args.tag.now c.args.self.now a agrees fits.well in
+    let wanted : c.saturating_sub-wanted.result ≡ wanted_by_tag c.args.tag.now (total b z) =
+    c.saturating_sub-wanted.ensures ∙ ap (λ (k : ℕ). c.args.tag.now.maxsize / 4096 - k) pages in
+    let grew : GrewBy c.args.self.now c.args.tag.now c.place_for-place.result c.saturating_sub-wanted.result n a
+    c.grow.new.self = c.in_ok-added.ensures.grows a agrees fits at in
+    let count : n ≡ added b z c.saturating_sub-wanted.result =
+    grew.added ∙ ap (λ (k : ℕ). added b k c.saturating_sub-wanted.result) at in
     let is = attached-as c.args.tag.now a n c.saturating_sub-wanted.result wanted count in
     record {
-      agrees = agrees-as c.grow.new.self (grown b c.place_for-place.result n) _ (ap (λ (k : ℕ). grown b k n) at ∙ sym (ap (λ (o : Outcome). o.account) is)) grew.agrees;
-      reply = ap (λ (k : ZoneId). Grown (record { zone = k; added = n; made = c.is_made-made.result })) (c.in_ok-zone.ensures ∙ ap (λ (k : ℕ). record { 0 = k }) at)
+      agrees = agrees-as c.grow.new.self (grown b c.place_for-place.result n) _ (ap (λ (k : ℕ). grown b k n) at
+          ∙ sym (ap (λ (o : Outcome). o.account) is)) grew.agrees;
+      reply =
+          ap (λ (k : ZoneId). Grown (record { zone = k; added = n; made = c.is_made-made.result }))
+          (c.in_ok-zone.ensures ∙ ap (λ (k : ℕ). record { 0 = k }) at)
           ∙ ap (λ (v : Bool). Grown (record { zone = record { 0 = z }; added = n; made = v })) c.is_made-made.ensures
           ∙ sym (ap (λ (o : Outcome). o.reply) is);
       room = grew.room;

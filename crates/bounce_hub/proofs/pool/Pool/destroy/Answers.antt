@@ -16,10 +16,14 @@ returns-clause-steps c = λ a agrees fits may.
     let inside : z < length a.zones = in_zones a c.args.map z may.1 in
     let here : Matches s a z = slot-matches c.args.self.now a z s agrees inside c.index_mut.ensures.value in
     let rest : List MapId = filter (λ n. not (same_map c.args.map n)) (zone_at a z).maps in
-    let less : length rest + 1 ≡ length (zone_at a z).maps = omega (arith, maps-less c.args.map (zone_at a z).maps, may.1.made) in
+    let less : length rest + 1 ≡ length (zone_at a z).maps =
+    omega (arith, maps-less c.args.map (zone_at a z).maps, may.1.made) in
     record {
-      agrees = agrees-mapped c.args.self.now _ a z s (record s { maps = s.maps - 1 }) rest agrees (record { bank = refl; maxmem = refl; max_bpages = refl }) inside here
-          (ap (λ (k : ℕ). record s { maps = k }) (omega (arith, less, here.maps))) refl refl (omega (arith, less, agrees.owed, maps-owed a z inside));
+      agrees =
+          agrees-mapped c.args.self.now _ a z s (record s { maps = s.maps - 1 }) rest agrees
+          (record { bank = refl; maxmem = refl; max_bpages = refl }) inside here
+          (ap (λ (k : ℕ). record s { maps = k }) (omega (arith, less, here.maps))) refl refl
+          (omega (arith, less, agrees.owed, maps-owed a z inside));
       reply = refl;
       room = refl;
     }

@@ -22,12 +22,19 @@ give_all-requires-clause-room c =
     )
 
 pub give_all-requires-clause-apart : goal.give_all-requires-clause-apart
-give_all-requires-clause-apart c = λ k. frames-apart c.args.mem c.requires.account c.args.pages.items c.args.self.now.bank.pages k (c.requires.fits.apart (4096 * k)) c.requires.frames c.requires.agrees.bank
+give_all-requires-clause-apart c =
+    λ k. frames-apart c.args.mem c.requires.account c.args.pages.items c.args.self.now.bank.pages k
+    (c.requires.fits.apart (4096 * k)) c.requires.frames c.requires.agrees.bank
 
 pub returns-clause-steps : goal.returns-clause-steps
 returns-clause-steps c = λ a agrees fits may mine. record {
-  agrees = agrees-bank c.args.self.now _ a (put_all (frames_of c.args.mem a.mems) a.bank) (filter (λ x. not (same_map c.args.mem x.mem)) a.mems) agrees
-      (ap (λ (b : Bank). page_addresses b.pages) c.give_all.ensures ∙ put_pages-addresses c.args.pages.items c.args.self.now.bank.pages ∙ ap (λ (fs : List ℕ). put_all fs (page_addresses c.args.self.now.bank.pages)) mine ∙ ap (put_all (frames_of c.args.mem a.mems)) agrees.bank)
+  agrees =
+      agrees-bank c.args.self.now _ a (put_all (frames_of c.args.mem a.mems) a.bank)
+      (filter (λ x. not (same_map c.args.mem x.mem)) a.mems) agrees
+      (ap (λ (b : Bank). page_addresses b.pages) c.give_all.ensures
+      ∙ put_pages-addresses c.args.pages.items c.args.self.now.bank.pages
+      ∙ ap (λ (fs : List ℕ). put_all fs (page_addresses c.args.self.now.bank.pages)) mine
+      ∙ ap (put_all (frames_of c.args.mem a.mems)) agrees.bank)
       refl refl (omega (arith, agrees.owed, mems-less c.args.mem a.mems, may.1)) refl refl;
   reply = refl;
   room = ap (λ (b : Bank). b.room) c.give_all.ensures;

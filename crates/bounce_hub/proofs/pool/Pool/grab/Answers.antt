@@ -14,7 +14,12 @@ use Rattle.bounce_hub.proofs.pool.Pool.grab.Goals as goal
 
 pub index_mut-slot-requires : goal.index_mut-slot-requires
 index_mut-slot-requires c =
-    omega (arith, in_zones c.requires.allowed.account c.args.map c.args.zone.0 c.requires.allowed.may.2, c.requires.allowed.agrees.count, c.args.self.now.zones.ok)
+    omega (
+      arith,
+      in_zones c.requires.allowed.account c.args.map c.args.zone.0 c.requires.allowed.may.2,
+      c.requires.allowed.agrees.count,
+      c.args.self.now.zones.ok,
+    )
 
 -- pages are granted
 pub returns-in_ok-pages-clause-steps : goal.returns-in_ok-pages-clause-steps
@@ -24,10 +29,16 @@ returns-in_ok-pages-clause-steps c = λ a agrees fits may.
     let inside : z < length a.zones = in_zones a c.args.map z may.2 in
     let here : Matches s a z = slot-matches c.args.self.now a z s agrees inside c.index_mut-slot.ensures.value in
     let enough : c.args.need ≤ free a z = omega (arith, free-is s a z here, c.free.ensures, c.if-need-free.true) in
-    let pages : c.in_ok-pages.addresses ≡ as_pages (take c.args.need (zone_at a z).avail) = c.in_ok-pages.ensures.addresses ∙ ap as_pages (addresses-take c.args.need s.zone.pages ∙ ap (take c.args.need) here.avail) in
-    stepped c.args.self.now _ c.args.map.lane.0 (Grab c.args.map c.args.zone c.args.need c.args.nowait) _ a (handed a c.args.map z c.args.need)
-    (grabbed-yes c.args.map z c.args.need c.args.nowait a enough ∙ ap (λ ps. record { account = handed a c.args.map z c.args.need; reply = Granted ps }) (sym pages))
-    (agrees-handed c.args.self.now _ a c.args.map z c.args.need s c.hand_out.new.self agrees (record { bank = refl; maxmem = refl; max_bpages = refl }) inside enough here c.in_ok-pages.ensures.slot refl refl refl)
+    let pages : c.in_ok-pages.addresses ≡ as_pages (take c.args.need (zone_at a z).avail) =
+    c.in_ok-pages.ensures.addresses ∙ ap as_pages (addresses-take c.args.need s.zone.pages
+    ∙ ap (take c.args.need) here.avail) in
+    stepped c.args.self.now _ c.args.map.lane.0 (Grab c.args.map c.args.zone c.args.need c.args.nowait) _
+    a (handed a c.args.map z c.args.need)
+    (grabbed-yes c.args.map z c.args.need c.args.nowait a enough
+    ∙ ap (λ ps. record { account = handed a c.args.map z c.args.need; reply = Granted ps }) (sym pages))
+    (agrees-handed c.args.self.now _ a c.args.map z c.args.need s c.hand_out.new.self agrees
+    (record { bank = refl; maxmem = refl; max_bpages = refl }) inside enough here
+    c.in_ok-pages.ensures.slot refl refl refl)
     refl
 
 -- no page for a load that does not wait
@@ -40,7 +51,8 @@ returns-then-nowait-clause-steps c = λ a agrees fits may.
     let short : free a z < c.args.need = omega (arith, free-is s a z here, c.free.ensures, c.if-need-free.false) in
     stepped c.args.self.now _ c.args.map.lane.0 (Grab c.args.map c.args.zone c.args.need c.args.nowait) _ a a
     (grabbed-no c.args.map z c.args.need c.args.nowait a short c.if-nowait.true)
-    (agrees-same c.args.self.now _ a z s agrees (record { bank = refl; maxmem = refl; max_bpages = refl }) c.index_mut-slot.ensures.value refl refl refl)
+    (agrees-same c.args.self.now _ a z s agrees (record { bank = refl; maxmem = refl; max_bpages = refl })
+    c.index_mut-slot.ensures.value refl refl refl)
     refl
 
 -- the load waits
@@ -53,9 +65,21 @@ returns-in_ok-have-clause-steps c = λ a agrees fits may.
     let f : free_pages s.zone ≡ free a z = free-is s a z here in
     let short : free a z < c.args.need = omega (arith, f, c.free.ensures, c.if-need-free.false) in
     let have : c.in_ok-have.have ≡ free a z = c.in_ok-have.ensures.have ∙ f in
-    let new : c.queue.new.self ≡ record s { zone = record s.zone { reserved = s.zone.reserved + free a z }; wait = s.wait ++ record { map = c.args.map; zone = c.args.zone; need = c.args.need; have = free a z } ∷ [] } =
-    c.in_ok-have.ensures.slot ∙ ap (λ (k : ℕ). record s { zone = record s.zone { reserved = s.zone.reserved + k }; wait = s.wait ++ record { map = c.args.map; zone = c.args.zone; need = c.args.need; have = k } ∷ [] }) f in
-    stepped c.args.self.now _ c.args.map.lane.0 (Grab c.args.map c.args.zone c.args.need c.args.nowait) _ a (queued a c.args.map z c.args.need)
-    (grabbed-waits c.args.map z c.args.need c.args.nowait a short c.if-nowait.false ∙ ap (λ k. record { account = queued a c.args.map z c.args.need; reply = Queued k }) (sym have))
-    (agrees-queued c.args.self.now _ a c.args.map z c.args.need s c.queue.new.self agrees (record { bank = refl; maxmem = refl; max_bpages = refl }) fits.well inside short here new refl c.in_ok-have.ensures.room refl)
+    let new : c.queue.new.self ≡ record s {
+      zone = record s.zone { reserved = s.zone.reserved + free a z };
+      wait = s.wait ++ record { map = c.args.map; zone = c.args.zone; need = c.args.need; have = free a z } ∷ [];
+    } =
+    c.in_ok-have.ensures.slot
+    ∙ ap (λ (k : ℕ). record s {
+      zone = record s.zone { reserved = s.zone.reserved + k };
+      wait = s.wait
+          ++ record { map = c.args.map; zone = c.args.zone; need = c.args.need; have = k } ∷ [];
+    }) f in
+    stepped c.args.self.now _ c.args.map.lane.0 (Grab c.args.map c.args.zone c.args.need c.args.nowait) _
+    a (queued a c.args.map z c.args.need)
+    (grabbed-waits c.args.map z c.args.need c.args.nowait a short c.if-nowait.false
+    ∙ ap (λ k. record { account = queued a c.args.map z c.args.need; reply = Queued k }) (sym have))
+    (agrees-queued c.args.self.now _ a c.args.map z c.args.need s c.queue.new.self agrees
+    (record { bank = refl; maxmem = refl; max_bpages = refl }) fits.well inside short here new
+    refl c.in_ok-have.ensures.room refl)
     refl

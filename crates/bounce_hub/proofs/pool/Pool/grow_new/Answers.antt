@@ -10,27 +10,39 @@ use Rattle.bounce_hub.proofs.ZoneGrowth.{new_slot, new-there, agrees-new, place-
 use Rattle.bounce_hub.proofs.pool.Pool.grow_new.Goals as goal
 
 -- the new zone
-made : (c : goal.After-push_reserved) → record c.new-slot.result { zone = c.grow.new.self } ≡ new_slot c.args.tag.now (take c.in_ok-added.added c.args.self.now.bank.pages)
+made : (c : goal.After-push_reserved) → record c.new-slot.result { zone = c.grow.new.self }
+    ≡ new_slot c.args.tag.now (take c.in_ok-added.added c.args.self.now.bank.pages)
 made c =
     let ps : List FrameBytes = take c.in_ok-added.added c.args.self.now.bank.pages in
     ap (λ (k : ZonePages). record c.new-slot.result { zone = k }) c.in_ok-added.ensures.zone
     ∙ ap (λ (s : Slot). record s { zone = record s.zone { pages = s.zone.pages ++ ps } }) c.new-slot.ensures
-    ∙ ap (λ (k : ℕ). record (new_slot c.args.tag.now ps) { zone = record (new_slot c.args.tag.now ps).zone { alignment = k } }) c.max.ensures
+    ∙ ap (λ (k : ℕ). record (new_slot c.args.tag.now ps)
+    { zone = record (new_slot c.args.tag.now ps).zone { alignment = k } }) c.max.ensures
 
 pub returns-clause-grows : goal.returns-clause-grows
 returns-clause-grows c = λ a agrees fits at.
     let z : ℕ = c.args.place in
     let n : ℕ = c.in_ok-added.added in
-    let none : zone_of c.args.tag.now a.zones ≡ length a.zones = omega (arith, at, c.requires.none, agrees.count, place-bound c.args.tag.now a.zones) in
-    let zones : c.push_reserved.new.self.items ≡ c.args.self.now.zones.items ++ new_slot c.args.tag.now (take n c.args.self.now.bank.pages) ∷ [] =
-    c.push_reserved.ensures.items ∙ ap (λ (s : Slot). c.reserve.new.self.items ++ s ∷ []) (made c) ∙ ap (λ (ss : List Slot). ss ++ new_slot c.args.tag.now (take n c.args.self.now.bank.pages) ∷ []) c.in_ok-reserve.ensures.items in
+    let none : zone_of c.args.tag.now a.zones ≡ length a.zones =
+    omega (arith, at, c.requires.none, agrees.count, place-bound c.args.tag.now a.zones) in
+    let zones : c.push_reserved.new.self.items ≡ c.args.self.now.zones.items
+    ++ new_slot c.args.tag.now (take n c.args.self.now.bank.pages) ∷ [] =
+    c.push_reserved.ensures.items ∙ ap (λ (s : Slot). c.reserve.new.self.items ++ s ∷ []) (made c)
+    ∙ ap (λ (ss : List Slot). ss ++ new_slot c.args.tag.now (take n c.args.self.now.bank.pages)
+    ∷ []) c.in_ok-reserve.ensures.items in
     record {
-      agrees = agrees-as _ (grown (with_zone_for c.args.tag.now a) (zone_of c.args.tag.now a.zones) n) (grown (with_zone_for c.args.tag.now a) z n) (ap (λ (k : ℕ). grown (with_zone_for c.args.tag.now a) k n) (sym at))
-          (agrees-new c.args.tag.now a none c.args.self.now _ n agrees fits.well zones c.in_ok-added.ensures.bank refl refl refl refl);
+      agrees =
+          agrees-as _ (grown (with_zone_for c.args.tag.now a) (zone_of c.args.tag.now a.zones) n)
+          (grown (with_zone_for c.args.tag.now a) z n)
+          (ap (λ (k : ℕ). grown (with_zone_for c.args.tag.now a) k n) (sym at))
+          (agrees-new c.args.tag.now a none c.args.self.now _ n agrees fits.well zones
+          c.in_ok-added.ensures.bank refl refl refl refl);
       added = c.in_ok-added.ensures.added
-          ∙ ap (λ (s : Slot). min c.args.wanted (frames_below s.zone.lowaddr (free_frames c.args.self.now.bank))) c.new-slot.ensures
+          ∙ ap (λ (s : Slot). min c.args.wanted (frames_below s.zone.lowaddr (free_frames c.args.self.now.bank)))
+          c.new-slot.ensures
           ∙ ap (λ (fs : List ℕ). min c.args.wanted (frames_below c.args.tag.now.lowaddr.0 fs)) agrees.bank
-          ∙ sym (ap (λ (k : Zone). min c.args.wanted (frames_below k.lowaddr a.bank)) (new-there c.args.tag.now a none))
+          ∙ sym (ap (λ (k : Zone). min c.args.wanted (frames_below k.lowaddr a.bank))
+          (new-there c.args.tag.now a none))
           ∙ ap (λ (k : ℕ). added (with_zone_for c.args.tag.now a) k c.args.wanted) (sym at);
       room = ap (λ (b : Bank). b.room) c.in_ok-added.ensures.bank;
     }

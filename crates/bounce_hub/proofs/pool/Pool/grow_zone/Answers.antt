@@ -18,8 +18,12 @@ returns-clause-grows c = λ a agrees fits at.
     let same : with_zone_for c.args._tag.now a ≡ a = found-zone c.args._tag.now a (omega (arith, inside, at)) in
     let here : Matches s a z = slot-matches c.args.self.now a z s agrees inside c.index_mut-slot.ensures.value in
     record {
-      agrees = agrees-as _ (grown a z n) (grown (with_zone_for c.args._tag.now a) z n) (ap (λ (b : Account). grown b z n) (sym same))
-          (agrees-grown c.args.self.now _ a z n s (record s { zone = c.grow.new.self }) agrees inside here (ap (λ (k : ZonePages). record s { zone = k }) c.in_ok-added.ensures.zone) refl c.in_ok-added.ensures.bank refl refl refl refl);
+      agrees =
+          agrees-as _ (grown a z n) (grown (with_zone_for c.args._tag.now a) z n)
+          (ap (λ (b : Account). grown b z n) (sym same))
+          (agrees-grown c.args.self.now _ a z n s (record s { zone = c.grow.new.self }) agrees inside here
+          (ap (λ (k : ZonePages). record s { zone = k }) c.in_ok-added.ensures.zone) refl
+          c.in_ok-added.ensures.bank refl refl refl refl);
       added = c.in_ok-added.ensures.added
           ∙ ap (λ (l : ℕ). min c.args.wanted (frames_below l (free_frames c.args.self.now.bank))) here.lowaddr
           ∙ ap (λ (fs : List ℕ). min c.args.wanted (frames_below (zone_at a z).lowaddr fs)) agrees.bank

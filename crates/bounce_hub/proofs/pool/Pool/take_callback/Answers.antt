@@ -14,8 +14,15 @@ use Rattle.bounce_hub.proofs.pool.Pool.take_callback.Goals as goal
 
 pub index_mut-slot-requires : goal.index_mut-slot-requires
 index_mut-slot-requires c =
-    let is : c.requires.account.ready ≡ c.in_ok-load.load.waiter ∷ c.pop_for.new.self.items = sym c.requires.agrees.ready ∙ c.in_ok-load.ensures.some in
-    omega (arith, head-inside c.requires.account c.in_ok-load.load.waiter c.pop_for.new.self.items is c.requires.fits.well, c.requires.agrees.count, c.args.self.now.zones.ok)
+    let is : c.requires.account.ready ≡ c.in_ok-load.load.waiter ∷ c.pop_for.new.self.items =
+    sym c.requires.agrees.ready ∙ c.in_ok-load.ensures.some in
+    omega (
+      arith,
+      head-inside c.requires.account c.in_ok-load.load.waiter c.pop_for.new.self.items is
+          c.requires.fits.well,
+      c.requires.agrees.count,
+      c.args.self.now.zones.ok,
+    )
 
 pub returns-clause-steps : goal.returns-clause-steps
 returns-clause-steps c = λ a agrees fits may.
@@ -24,9 +31,18 @@ returns-clause-steps c = λ a agrees fits may.
     let is : a.ready ≡ w ∷ ws = sym agrees.ready ∙ c.in_ok-load.ensures.some in
     let s : Slot = c.index_mut-slot.result.now in
     let inside : w.zone.0 < length a.zones = head-inside a w ws is fits.well in
-    let here : Matches s a w.zone.0 = slot-matches c.args.self.now a w.zone.0 s agrees inside c.index_mut-slot.ensures.value in
-    let pages : c.hand_promised-addresses.result ≡ as_pages (take w.need (zone_at a w.zone.0).avail) = c.hand_promised-addresses.ensures.addresses ∙ ap as_pages (addresses-take w.need s.zone.pages ∙ ap (take w.need) here.avail) in
+    let here : Matches s a w.zone.0 =
+    slot-matches c.args.self.now a w.zone.0 s agrees inside c.index_mut-slot.ensures.value in
+    let pages : c.hand_promised-addresses.result ≡ as_pages (take w.need (zone_at a w.zone.0).avail) =
+    c.hand_promised-addresses.ensures.addresses
+    ∙ ap as_pages (addresses-take w.need s.zone.pages ∙ ap (take w.need) here.avail) in
     stepped c.args.self.now _ c.args.lane.0 TakeCallback _ a (handed (record a { ready = ws }) w.map w.zone.0 w.need)
-    (called-yes c.args.lane.0 a w ws is c.in_ok-load.ensures.lane ∙ ap (λ ps. record { account = handed (record a { ready = ws }) w.map w.zone.0 w.need; reply = Called w.map ps }) (sym pages))
-    (agrees-called c.args.self.now _ a w ws s c.hand_promised-addresses.new.self agrees (record { bank = refl; maxmem = refl; max_bpages = refl }) fits.well is inside here c.hand_promised-addresses.ensures.slot refl refl c.in_ok-load.ensures.spare refl)
+    (called-yes c.args.lane.0 a w ws is c.in_ok-load.ensures.lane
+    ∙ ap (λ ps. record {
+      account = handed (record a { ready = ws }) w.map w.zone.0 w.need;
+      reply = Called w.map ps;
+    }) (sym pages))
+    (agrees-called c.args.self.now _ a w ws s c.hand_promised-addresses.new.self agrees
+    (record { bank = refl; maxmem = refl; max_bpages = refl }) fits.well is inside here
+    c.hand_promised-addresses.ensures.slot refl refl c.in_ok-load.ensures.spare refl)
     refl

@@ -21,7 +21,8 @@ overflow_add-pa c =
     let some : 0 < length (rest_of self) = omega (arith, ap length before.same, c.requires.left) in
     let inside = some_segment self.segments.now self.index self.skip some in
     let low : (get_or self.segments.now self.index no_segment).addr.0 + self.skip < 2 ^ 42 =
-    low_byte self.segments.now self.index self.skip inside c.loop-self-test.false (subst BeginsLow (sym before.same) c.requires.low) in
+    low_byte self.segments.now self.index self.skip inside c.loop-self-test.false
+    (subst BeginsLow (sym before.same) c.requires.low) in
     omega (arith, low)
 
 pub returns-clause-run : goal.returns-clause-run
@@ -30,7 +31,8 @@ returns-clause-run c =
     let before = c.loop-self.invariant in
     let some : 0 < length (rest_of self) = omega (arith, ap length before.same, c.requires.left) in
     let inside = some_segment self.segments.now self.index self.skip some in
-    sym before.same ∙ next_run self.segments.now self.index self.skip c.min-len.result inside (omega (arith, c.min.ensures, c.min-len.ensures, c.loop-self-test.false))
+    sym before.same ∙ next_run self.segments.now self.index self.skip c.min-len.result inside
+    (omega (arith, c.min.ensures, c.min-len.ensures, c.loop-self-test.false))
 
 pub returns-clause-extent : goal.returns-clause-extent
 returns-clause-extent c =
@@ -41,5 +43,7 @@ returns-clause-extent c =
     record {
       some = omega (arith, c.min.ensures, c.min-len.ensures, c.loop-self-test.false, c.requires.some);
       in_frame = omega (arith, c.min.ensures, c.min-len.ensures);
-      numbered = low_byte self.segments.now self.index self.skip inside c.loop-self-test.false (subst BeginsLow (sym before.same) c.requires.low);
+      numbered =
+          low_byte self.segments.now self.index self.skip inside c.loop-self-test.false
+          (subst BeginsLow (sym before.same) c.requires.low);
     }

@@ -11,9 +11,12 @@ pub returns-clause-count : goal.returns-clause-count
 returns-clause-count c =
     let items = c.self.inside.free.items in
     let limit = c.args.limit.0 in
-    let point = IsPartitionPoint-from_clause (λ p. leb (page_address p + 4095) limit) items c.partition_point.result c.partition_point.ensures.partitioned
-    (IsPartitionedBy-leb (λ p. page_address p + 4095) items limit (rising_ends items (rising_pages items c.self.invariant.0.rising)))
+    let point = IsPartitionPoint-from_clause (λ p. leb (page_address p + 4095) limit) items c.partition_point.result
+    c.partition_point.ensures.partitioned
+    (IsPartitionedBy-leb (λ p. page_address p + 4095) items limit
+    (rising_ends items (rising_pages items c.self.invariant.0.rising)))
     (λ a r f k. search rules) in
     sym (ap (λ (b : Bank). frames_below limit (free_frames b)) (sym c.self.view_is)
     ∙ count_by-map (λ f. leb (f + 4095) limit) page_address items
-    ∙ count_by-front (λ p. leb (page_address p + 4095) limit) items c.partition_point.result (omega arith) point.0 point.1)
+    ∙ count_by-front (λ p. leb (page_address p + 4095) limit) items
+    c.partition_point.result (omega arith) point.0 point.1)

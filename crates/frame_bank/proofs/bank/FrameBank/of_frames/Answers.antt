@@ -21,12 +21,14 @@ give-requires-clause-apart c =
     let frame = c.in_ok-new.field-0.frame in
     ap (count_by (λ p. p.frame == frame)) c.loop-at.invariant.put
     ∙ count_by-put_pages (λ p. p.frame == frame) (map fresh_page (drop c.loop-at.at c.args.frames.now))
-    ∙ differs_behind c.args.frames.now (c.loop-at.at - 1) c.loop-at.at frame c.requires.differ (omega arith) (omega arith) c.in_ok-new.ensures.frame
+    ∙ differs_behind c.args.frames.now (c.loop-at.at - 1) c.loop-at.at frame c.requires.differ (omega arith)
+    (omega arith) c.in_ok-new.ensures.frame
 
 pub loop-at-preserved : goal.loop-at-preserved
 loop-at-preserved c = record {
   put = ap (λ (b : Bank). b.pages) c.give.ensures.bank
-      ∙ put_next c.args.frames.now (c.loop-at.at - 1) c.loop-at.at c.in_ok-new.field-0 c.loop-at.bank.pages (omega arith) (omega arith) c.in_ok-new.ensures.frame c.in_ok-new.ensures.bytes c.loop-at.invariant.put;
+      ∙ put_next c.args.frames.now (c.loop-at.at - 1) c.loop-at.at c.in_ok-new.field-0 c.loop-at.bank.pages
+      (omega arith) (omega arith) c.in_ok-new.ensures.frame c.in_ok-new.ensures.bytes c.loop-at.invariant.put;
   room = ap (λ (b : Bank). b.room) c.give.ensures.bank ∙ c.loop-at.invariant.room;
   sound = c.give.ensures.sound;
 }
@@ -34,4 +36,5 @@ loop-at-preserved c = record {
 pub returns-clause-free : goal.returns-clause-free
 returns-clause-free c =
     let done : c.loop-at.at ≡ 0 = omega arith in
-    λ rising. rising_are_free c.args.frames.now c.loop-at.bank (c.loop-at.invariant.put ∙ ap (λ k. put_pages (map fresh_page (drop k c.args.frames.now)) []) done) rising
+    λ rising. rising_are_free c.args.frames.now c.loop-at.bank (c.loop-at.invariant.put
+    ∙ ap (λ k. put_pages (map fresh_page (drop k c.args.frames.now)) []) done) rising

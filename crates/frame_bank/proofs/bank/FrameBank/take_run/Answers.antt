@@ -1,4 +1,5 @@
-use Rattle.std.proofs.Common.{◌≡◌, ◌+◌, ◌-◌, ◌^◌, ◌<◌, ◌++◌, length, take, drop, get_or, not, Some, option_map, sym, ap, subst, ◌∙◌, arith}
+use Rattle.std.proofs.Common.{◌≡◌, ◌+◌, ◌-◌, ◌^◌, ◌<◌, ◌++◌, length, take, drop, get_or, not, Some, option_map, sym}
+use Rattle.std.proofs.Common.{ap, subst, ◌∙◌, arith}
 use Rattle.std.specs.List.{filter}
 use Rattle.std.specs.VecDeque.{deque_len}
 use Rattle.std.proofs.lemmas.List.{length-drop}
@@ -8,24 +9,40 @@ use Rattle.busdma_base.specs.Bounce.History.{IsRising}
 use Rattle.busdma_base.specs.Bounce.MemoryRuns.{frames_for, frames_from, lowest_run, in_run}
 use Rattle.frame_bank.specs.FrameBank.{Bank, free_frames, is_in_run, run_frames, frames_left, run_pages, pages_left}
 use Rattle.frame_bank.proofs.Rising.{rising_pages, rising_addresses}
-use Rattle.frame_bank.proofs.Taking.{TakenAt, begun_at, turned_front, turned_back, rising_without, filter-page_addresses}
+use Rattle.frame_bank.proofs.Taking.{TakenAt, begun_at, turned_front, turned_back, rising_without}
+use Rattle.frame_bank.proofs.Taking.{filter-page_addresses}
 use Rattle.frame_bank.proofs.bank.FrameBank.take_run.Goals as goal
 
 pub take_first-requires-clause-enough : goal.take_first-requires-clause-enough
 take_first-requires-clause-enough c =
-    let t = begun_at c.args.len c.args.boundary c.args.limit.0 c.in-Some.at c.self.inside.free.items c.self.invariant.0.rising c.in-Some.ensures.0 c.in-Some.ensures.1 in
+    let t =
+    begun_at c.args.len c.args.boundary c.args.limit.0 c.in-Some.at c.self.inside.free.items
+    c.self.invariant.0.rising c.in-Some.ensures.0 c.in-Some.ensures.1 in
     omega (arith, t.inside, c.frames_for-count.ensures, c.rotate_left.ensures.len)
 
 pub rotate_right-requires : goal.rotate_right-requires
 rotate_right-requires c =
-    let t = begun_at c.args.len c.args.boundary c.args.limit.0 c.in-Some.at c.self.inside.free.items c.self.invariant.0.rising c.in-Some.ensures.0 c.in-Some.ensures.1 in
-    omega (arith, t.inside, c.frames_for-count.ensures, c.rotate_left.ensures.len, ap length c.take_first.ensures.left, length-drop c.frames_for-count.result c.rotate_left.new.self.items)
+    let t =
+    begun_at c.args.len c.args.boundary c.args.limit.0 c.in-Some.at c.self.inside.free.items
+    c.self.invariant.0.rising c.in-Some.ensures.0 c.in-Some.ensures.1 in
+    omega (
+      arith,
+      t.inside,
+      c.frames_for-count.ensures,
+      c.rotate_left.ensures.len,
+      ap length c.take_first.ensures.left,
+      length-drop c.frames_for-count.result c.rotate_left.new.self.items,
+    )
 
-at_run : (c : goal.After-rotate_right) → TakenAt (get_or (page_addresses c.self.inside.free.items) c.in-Some.at 0) (frames_for c.args.len) c.in-Some.at c.self.inside.free.items
-at_run c = begun_at c.args.len c.args.boundary c.args.limit.0 c.in-Some.at c.self.inside.free.items c.self.invariant.0.rising c.in-Some.ensures.0 c.in-Some.ensures.1
+at_run : (c : goal.After-rotate_right) → TakenAt (get_or (page_addresses c.self.inside.free.items) c.in-Some.at 0)
+    (frames_for c.args.len) c.in-Some.at c.self.inside.free.items
+at_run c =
+    begun_at c.args.len c.args.boundary c.args.limit.0 c.in-Some.at c.self.inside.free.items
+    c.self.invariant.0.rising c.in-Some.ensures.0 c.in-Some.ensures.1
 
 -- the pages that were taken, and those that stay
-part : (c : goal.After-rotate_right) → c.take_first.new.self.items ≡ take (frames_for c.args.len) (drop c.in-Some.at c.self.inside.free.items)
+part : (c : goal.After-rotate_right) → c.take_first.new.self.items
+    ≡ take (frames_for c.args.len) (drop c.in-Some.at c.self.inside.free.items)
 part c =
     let items = c.self.inside.free.items in
     let count = c.frames_for-count.result in
@@ -35,7 +52,8 @@ part c =
     ∙ turned_front items c.in-Some.at count (omega (arith, (at_run c).inside, c.frames_for-count.ensures))
     ∙ ap (λ n. take n (drop c.in-Some.at items)) c.frames_for-count.ensures
 
-rest : (c : goal.After-rotate_right) → c.rotate_right.new.self.items ≡ take c.in-Some.at c.self.inside.free.items ++ drop (c.in-Some.at + frames_for c.args.len) c.self.inside.free.items
+rest : (c : goal.After-rotate_right) → c.rotate_right.new.self.items ≡ take c.in-Some.at c.self.inside.free.items
+    ++ drop (c.in-Some.at + frames_for c.args.len) c.self.inside.free.items
 rest c =
     let items = c.self.inside.free.items in
     let count = c.frames_for-count.result in
@@ -44,26 +62,48 @@ rest c =
     let long : deque_len c.take_first.new.queue ≡ length queue = omega arith in
     c.rotate_right.ensures.items
     ∙ ap (λ k. drop (k - at) queue ++ take (k - at) queue) long
-    ∙ turned_back items queue at count (omega (arith, (at_run c).inside, c.frames_for-count.ensures)) (c.take_first.ensures.left ∙ ap (drop count) c.rotate_left.ensures.items)
+    ∙ turned_back items queue at count (omega (arith, (at_run c).inside, c.frames_for-count.ensures))
+    (c.take_first.ensures.left ∙ ap (drop count) c.rotate_left.ensures.items)
     ∙ ap (λ n. take at items ++ drop (at + n) items) c.frames_for-count.ensures
 
 pub invariant_of-self : goal.invariant_of-self
 invariant_of-self c = (
   record {
-    rising = subst (λ ps. IsRising (page_addresses ps)) (sym (rest c)) (rising_addresses _ (rising_without c.self.inside.free.items c.in-Some.at (c.in-Some.at + frames_for c.args.len) (omega arith) (rising_pages c.self.inside.free.items c.self.invariant.0.rising)));
-    numbered = All-same (λ p. p.frame < 2 ^ 30) _ _ (rest c) (All-append (λ p. p.frame < 2 ^ 30) _ _ (All-take (λ p. p.frame < 2 ^ 30) c.in-Some.at c.self.inside.free.items c.self.invariant.0.numbered) (All-drop (λ p. p.frame < 2 ^ 30) (c.in-Some.at + frames_for c.args.len) c.self.inside.free.items c.self.invariant.0.numbered));
-    roomy = omega (arith, ap length c.take_first.ensures.left, length-drop c.frames_for-count.result c.rotate_left.new.self.items, c.rotate_left.ensures.len, c.rotate_right.ensures.len);
+    rising =
+        subst (λ ps. IsRising (page_addresses ps)) (sym (rest c))
+        (rising_addresses _ (rising_without c.self.inside.free.items c.in-Some.at
+        (c.in-Some.at + frames_for c.args.len) (omega arith)
+        (rising_pages c.self.inside.free.items c.self.invariant.0.rising)));
+    numbered =
+        All-same (λ p. p.frame < 2 ^ 30) _ _ (rest c)
+        (All-append (λ p. p.frame < 2 ^ 30) _ _
+        (All-take (λ p. p.frame < 2 ^ 30) c.in-Some.at c.self.inside.free.items c.self.invariant.0.numbered)
+        (All-drop (λ p. p.frame < 2 ^ 30) (c.in-Some.at + frames_for c.args.len)
+        c.self.inside.free.items c.self.invariant.0.numbered));
+    roomy =
+        omega (
+          arith,
+          ap length c.take_first.ensures.left,
+          length-drop c.frames_for-count.result c.rotate_left.new.self.items,
+          c.rotate_left.ensures.len,
+          c.rotate_right.ensures.len,
+        );
     few = c.self.invariant.0.few;
   },
   omega arith,
 )
 
-lowest : (c : goal.After-rotate_right) → lowest_run c.args.len c.args.boundary c.args.limit.0 (free_frames c.args.self.now) ≡ Some (get_or (page_addresses c.self.inside.free.items) c.in-Some.at 0)
-lowest c = ap (λ (b : Bank). lowest_run c.args.len c.args.boundary c.args.limit.0 (free_frames b)) (sym c.self.view_is) ∙ c.in-Some.ensures.2
+lowest : (c : goal.After-rotate_right) → lowest_run c.args.len c.args.boundary c.args.limit.0
+    (free_frames c.args.self.now) ≡ Some (get_or (page_addresses c.self.inside.free.items) c.in-Some.at 0)
+lowest c = ap (λ (b : Bank). lowest_run c.args.len c.args.boundary c.args.limit.0 (free_frames b)) (sym c.self.view_is)
+    ∙ c.in-Some.ensures.2
 
 pub returns-clause-pages : goal.returns-clause-pages
 returns-clause-pages c =
-    ap (λ ps. Some ps) (part c ∙ sym (at_run c).run ∙ ap (λ (b : Bank). filter (is_in_run (get_or (page_addresses c.self.inside.free.items) c.in-Some.at 0) (frames_for c.args.len)) b.pages) c.self.view_is)
+    ap (λ ps. Some ps) (part c ∙ sym (at_run c).run
+    ∙ ap
+    (λ (b : Bank). filter (is_in_run (get_or (page_addresses c.self.inside.free.items) c.in-Some.at 0)
+    (frames_for c.args.len)) b.pages) c.self.view_is)
     ∙ ap (λ r. run_pages r (frames_for c.args.len) c.args.self.now.pages) (sym (lowest c))
 
 pub returns-clause-placed : goal.returns-clause-placed
@@ -75,7 +115,10 @@ returns-clause-placed c =
 pub returns-clause-left : goal.returns-clause-left
 returns-clause-left c =
     rest c ∙ sym (at_run c).left
-    ∙ ap (λ (b : Bank). filter (λ p. not (is_in_run (get_or (page_addresses c.self.inside.free.items) c.in-Some.at 0) (frames_for c.args.len) p)) b.pages) c.self.view_is
+    ∙ ap
+    (λ (b : Bank). filter
+    (λ p. not (is_in_run (get_or (page_addresses c.self.inside.free.items) c.in-Some.at 0)
+    (frames_for c.args.len) p)) b.pages) c.self.view_is
     ∙ ap (λ r. pages_left r (frames_for c.args.len) c.args.self.now.pages) (sym (lowest c))
 
 -- the same of their addresses, by what is said of the pages

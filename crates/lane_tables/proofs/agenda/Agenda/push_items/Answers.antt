@@ -6,5 +6,12 @@ use Rattle.lane_tables.proofs.agenda.Agenda.push_items.Goals as goal
 
 pub returns : goal.returns
 returns c =
-    let room : deque_capacity c.self.inside.queue - length (c.self.inside.queue.items ++ queued c.args.load_at c.args.items) ≡ deque_capacity c.self.inside.queue - length c.self.inside.queue.items - length c.args.items = omega (arith, length-append c.self.inside.queue.items (queued c.args.load_at c.args.items), length-queued_from c.args.load_at 0 c.args.items) in
+    let room : deque_capacity c.self.inside.queue - length (c.self.inside.queue.items
+    ++ queued c.args.load_at c.args.items)
+    ≡ deque_capacity c.self.inside.queue - length c.self.inside.queue.items - length c.args.items =
+    omega (
+      arith,
+      length-append c.self.inside.queue.items (queued c.args.load_at c.args.items),
+      length-queued_from c.args.load_at 0 c.args.items,
+    ) in
     rw (← c.self.view_is, c.push_all.ensures.capacity, c.push_all.ensures.items, room)

@@ -9,7 +9,12 @@ use Rattle.lane_tables.proofs.SlotLemmas.{sorted_entries}
 use Rattle.lane_tables.proofs.place_table.PlaceTable.iter.Goals as goal
 
 pub returns-clause-rest : goal.returns-clause-rest
-returns-clause-rest g c = rw (c.as_slice.ensures.value, ← c.self.view_is, map.entries-from_sorted nat_cmp _ (sorted_entries 0 (slots c.self.inside.keys.items c.self.inside.values)))
+returns-clause-rest g c =
+    rw (
+      c.as_slice.ensures.value,
+      ← c.self.view_is,
+      map.entries-from_sorted nat_cmp _ (sorted_entries 0 (slots c.self.inside.keys.items c.self.inside.values)),
+    )
 
 pub returns-clause-runs : goal.returns-clause-runs
 returns-clause-runs g c = from_front (TakesFirst shown) shown (λ s. s) (λ s t h. ap length h.0) (λ s x t h. h)

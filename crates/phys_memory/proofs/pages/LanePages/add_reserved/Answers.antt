@@ -11,7 +11,8 @@ returns-then-contains_key-clause-answer c =
     let m = c.self.inside in
     let taken : has_page c.args.self.now.memory c.args.va.0 ≡ true =
     ap (λ (r : Roomy). has_page r.memory c.args.va.0) (sym c.self.view_is)
-    ∙ has_page-kept m.table.entries m.frames.entries c.args.va.0 ∙ sym c.contains_key.ensures ∙ c.if-contains_key.true in
+    ∙ has_page-kept m.table.entries m.frames.entries c.args.va.0
+    ∙ sym c.contains_key.ensures ∙ c.if-contains_key.true in
     ap (λ (b : Bool). if b then Some c.args.page else None) (sym taken)
 
 pub returns-then-contains_key-clause-memory : goal.returns-then-contains_key-clause-memory
@@ -19,8 +20,10 @@ returns-then-contains_key-clause-memory c =
     let m = c.self.inside in
     let taken : has_page c.args.self.now.memory c.args.va.0 ≡ true =
     ap (λ (r : Roomy). has_page r.memory c.args.va.0) (sym c.self.view_is)
-    ∙ has_page-kept m.table.entries m.frames.entries c.args.va.0 ∙ sym c.contains_key.ensures ∙ c.if-contains_key.true in
-    ap (λ (b : Bool). if b then c.args.self.now.memory else with_page c.args.self.now.memory c.args.va.0 c.args.page c.args.reach) (sym taken)
+    ∙ has_page-kept m.table.entries m.frames.entries c.args.va.0
+    ∙ sym c.contains_key.ensures ∙ c.if-contains_key.true in
+    ap (λ (b : Bool). if b then c.args.self.now.memory
+    else with_page c.args.self.now.memory c.args.va.0 c.args.page c.args.reach) (sym taken)
 
 pub invariant_of-self : goal.invariant_of-self
 invariant_of-self c =
@@ -29,13 +32,16 @@ invariant_of-self c =
     let rows = rw c.unwrap.ensures at c.insert-row.ensures.updates in
     let pages = rw c.unwrap-2.ensures at c.insert-kept.ensures.updates in
     let free : has_page old c.args.va.0 ≡ false =
-    has_page-kept m.table.entries m.frames.entries c.args.va.0 ∙ sym c.contains_key.ensures ∙ c.if-contains_key.false in
+    has_page-kept m.table.entries m.frames.entries c.args.va.0
+    ∙ sym c.contains_key.ensures ∙ c.if-contains_key.false in
     let fresh : has_frame old c.args.page.frame ≡ false =
     ap (λ (r : Roomy). has_frame r.memory c.args.page.frame) c.self.view_is ∙ c.requires.fresh in
     let whole = c.whole_frame-frame.ensures in
     record {
-      memory = subst IsMemory (sym (memory_put _ _ _ _ c.args.va.0 _ c.args.page c.args.reach whole.number rows.0 pages.0))
-          (memory_with_page old c.args.va.0 c.args.page c.args.reach c.self.invariant.memory free fresh (subst (λ n. n < 2 ^ 30) whole.number whole.below) whole.whole c.requires.reach);
+      memory =
+          subst IsMemory (sym (memory_put _ _ _ _ c.args.va.0 _ c.args.page c.args.reach whole.number rows.0 pages.0))
+          (memory_with_page old c.args.va.0 c.args.page c.args.reach c.self.invariant.memory free fresh
+          (subst (λ n. n < 2 ^ 30) whole.number whole.below) whole.whole c.requires.reach);
       at_frames = place_put _ _ c.args.page (rw whole.number at pages.0) c.self.invariant.at_frames;
     }
 
@@ -44,7 +50,8 @@ returns-clause-answer c =
     let m = c.self.inside in
     let free : has_page c.args.self.now.memory c.args.va.0 ≡ false =
     ap (λ (r : Roomy). has_page r.memory c.args.va.0) (sym c.self.view_is)
-    ∙ has_page-kept m.table.entries m.frames.entries c.args.va.0 ∙ sym c.contains_key.ensures ∙ c.if-contains_key.false in
+    ∙ has_page-kept m.table.entries m.frames.entries c.args.va.0
+    ∙ sym c.contains_key.ensures ∙ c.if-contains_key.false in
     ap (λ (b : Bool). if b then Some c.args.page else None) (sym free)
 
 pub returns-clause-memory : goal.returns-clause-memory
@@ -54,7 +61,9 @@ returns-clause-memory c =
     let pages = rw c.unwrap-2.ensures at c.insert-kept.ensures.updates in
     let free : has_page c.args.self.now.memory c.args.va.0 ≡ false =
     ap (λ (r : Roomy). has_page r.memory c.args.va.0) (sym c.self.view_is)
-    ∙ has_page-kept m.table.entries m.frames.entries c.args.va.0 ∙ sym c.contains_key.ensures ∙ c.if-contains_key.false in
+    ∙ has_page-kept m.table.entries m.frames.entries c.args.va.0
+    ∙ sym c.contains_key.ensures ∙ c.if-contains_key.false in
     memory_put _ _ _ _ c.args.va.0 _ c.args.page c.args.reach c.whole_frame-frame.ensures.number rows.0 pages.0
     ∙ ap (λ (r : Roomy). with_page r.memory c.args.va.0 c.args.page c.args.reach) c.self.view_is
-    ∙ ap (λ (b : Bool). if b then c.args.self.now.memory else with_page c.args.self.now.memory c.args.va.0 c.args.page c.args.reach) (sym free)
+    ∙ ap (λ (b : Bool). if b then c.args.self.now.memory
+    else with_page c.args.self.now.memory c.args.va.0 c.args.page c.args.reach) (sym free)

@@ -12,7 +12,8 @@ pub unwrap-page-requires : goal.unwrap-page-requires
 unwrap-page-requires c =
     let m = c.self.inside in
     IsSome-found c.get.result _ c.get.ensures.value
-    (sym (has_frame-kept m.table.entries m.frames.entries (c.args.pa.0 / 4096)) ∙ ap (λ (r : Roomy). has_frame r.memory (c.args.pa.0 / 4096)) c.self.view_is ∙ c.requires.there)
+    (sym (has_frame-kept m.table.entries m.frames.entries (c.args.pa.0 / 4096))
+    ∙ ap (λ (r : Roomy). has_frame r.memory (c.args.pa.0 / 4096)) c.self.view_is ∙ c.requires.there)
 
 pub returns : goal.returns
 returns c =
@@ -21,5 +22,7 @@ returns c =
     let at = pa % 4096 in
     let found = sym c.get.ensures.value ∙ ap option_copied c.unwrap-page.ensures in
     let here : get c.args.self.now.memory.frames (pa / 4096) ≡ Some c.bytes.result.now =
-    ap (λ (r : Roomy). get r.memory.frames (pa / 4096)) (sym c.self.view_is) ∙ frame_found m.table.entries m.frames.entries (pa / 4096) _ found ∙ ap Some (sym c.bytes.ensures.bytes) in
-    slice_wire c.args.self.now.memory c.bytes.result.now pa c.args.len (at + c.args.len - at) (omega arith) here c.bytes.ensures.length c.requires.inside
+    ap (λ (r : Roomy). get r.memory.frames (pa / 4096)) (sym c.self.view_is)
+    ∙ frame_found m.table.entries m.frames.entries (pa / 4096) _ found ∙ ap Some (sym c.bytes.ensures.bytes) in
+    slice_wire c.args.self.now.memory c.bytes.result.now pa c.args.len (at + c.args.len - at) (omega arith) here
+    c.bytes.ensures.length c.requires.inside

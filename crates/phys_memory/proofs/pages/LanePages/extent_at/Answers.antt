@@ -7,5 +7,7 @@ use Rattle.phys_memory.proofs.pages.LanePages.extent_at.Goals as goal
 
 pub returns-clause-next : goal.returns-clause-next
 returns-clause-next c =
-    let is = subst (λ (o : Option Reach). IfSome o (IsRow c.args.self.now.memory)) c.in_ok-row.was c.row_at.ensures.row in
-    next_is c.args.self.now.memory c.args.at c.min.result c.args.left c.in_ok-row.row (sym c.row_at.ensures.is ∙ c.in_ok-row.was) is (omega arith) c.requires (omega arith)
+    let is =
+    subst (λ (o : Option Reach). IfSome o (IsRow c.args.self.now.memory)) c.in_ok-row.was c.row_at.ensures.row in
+    next_is c.args.self.now.memory c.args.at c.min.result c.args.left c.in_ok-row.row (sym c.row_at.ensures.is
+    ∙ c.in_ok-row.was) is (omega arith) c.requires (omega arith)

@@ -9,6 +9,7 @@ use Rattle.phys_memory.proofs.pages.LanePages.new.Goals as goal
 
 pub invariant_of-result : goal.invariant_of-result
 invariant_of-result c = record {
-  memory = empty_memory _ (ap (λ (es : List (ℕ × Reach)). from_entries {R = nat_cmp} es) c.new.ensures.empty) (ap (λ (es : List (ℕ × FrameBytes)). from_entries {R = nat_cmp} (contents es)) c.new-2.ensures.empty);
+  memory = empty_memory _ (ap (λ (es : List (ℕ × Reach)). from_entries {R = nat_cmp} es) c.new.ensures.empty)
+      (ap (λ (es : List (ℕ × FrameBytes)). from_entries {R = nat_cmp} (contents es)) c.new-2.ensures.empty);
   at_frames = no_pages _ c.new-2.ensures.empty;
 }

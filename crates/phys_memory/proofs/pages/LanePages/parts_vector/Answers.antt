@@ -13,19 +13,22 @@ returns-clause-walk c =
     let m = c.args.self.now.memory in
     let t = physical m in
     let spans = c.args.spans.now in
-    subst (λ (ps : List Part). IfAll (vector_walk t spans) (λ es. then_parts ps (vector t spans) ≡ parts_of es)) (sym c.parts_flat.ensures.parts) (walk_stream true t spans)
+    subst (λ (ps : List Part). IfAll (vector_walk t spans) (λ es. then_parts ps (vector t spans) ≡ parts_of es))
+    (sym c.parts_flat.ensures.parts) (walk_stream true t spans)
 
 pub returns-clause-stream : goal.returns-clause-stream
 returns-clause-stream c = λ small.
     let m = c.args.self.now.memory in
     let t = physical m in
     let spans = c.args.spans.now in
-    subst (λ (ps : List Part). IsStream (then_parts ps (vector t spans))) (sym c.parts_flat.ensures.parts) (spans_load (IsHeld m) true t (memory_paged m c.parts_flat.ensures.sound) spans small)
+    subst (λ (ps : List Part). IsStream (then_parts ps (vector t spans))) (sym c.parts_flat.ensures.parts)
+    (spans_load (IsHeld m) true t (memory_paged m c.parts_flat.ensures.sound) spans small)
 
 pub returns-clause-along : goal.returns-clause-along
 returns-clause-along c = λ small.
     let m = c.args.self.now.memory in
     let t = physical m in
     let spans = c.args.spans.now in
-    let whole = subst (λ (ps : List Part). IsStream (then_parts ps (vector t spans))) (sym c.parts_flat.ensures.parts) (spans_load (IsHeld m) true t (memory_paged m c.parts_flat.ensures.sound) spans small) in
+    let whole = subst (λ (ps : List Part). IsStream (then_parts ps (vector t spans))) (sym c.parts_flat.ensures.parts)
+    (spans_load (IsHeld m) true t (memory_paged m c.parts_flat.ensures.sound) spans small) in
     along_loads (then_parts c.parts_flat.result (vector t spans)) whole

@@ -5,10 +5,13 @@ use Rattle.phys_memory.proofs.pages.LanePages.reserve.Goals as goal
 
 pub invariant_of-self-2 : goal.invariant_of-self-2
 invariant_of-self-2 c = record {
-  memory = subst IsMemory (sym (same_memory _ _ _ _ c.in_ok-reserve.ensures.entries.2 c.reserve-2.ensures.entries.2)) c.self.invariant.memory;
+  memory =
+      subst IsMemory (sym (same_memory _ _ _ _ c.in_ok-reserve.ensures.entries.2 c.reserve-2.ensures.entries.2))
+      c.self.invariant.memory;
   at_frames = same_places _ _ c.reserve-2.ensures.entries.2 c.self.invariant.at_frames;
 }
 
 pub returns-clause-memory : goal.returns-clause-memory
 returns-clause-memory c =
-    same_memory _ _ _ _ c.in_ok-reserve.ensures.entries.2 c.reserve-2.ensures.entries.2 ∙ ap (λ (r : Roomy). r.memory) c.self.view_is
+    same_memory _ _ _ _ c.in_ok-reserve.ensures.entries.2 c.reserve-2.ensures.entries.2
+    ∙ ap (λ (r : Roomy). r.memory) c.self.view_is

@@ -12,7 +12,8 @@ returns-clause-is c =
     let m = c.self.inside in
     let at = c.args.at in
     let low : nat_lt at (2 ^ 64) ≡ true = lt-ltb at (2 ^ 64) (omega arith) in
-    sym (row_found m.table.entries m.frames.entries at c.copied.result (sym c.get.ensures.value ∙ sym c.copied.ensures))
+    sym (row_found m.table.entries m.frames.entries at c.copied.result
+    (sym c.get.ensures.value ∙ sym c.copied.ensures))
     ∙ ap (λ (r : Roomy). get r.memory.table (at / 4096)) c.self.view_is
     ∙ ap (λ (b : Bool). if b then get c.args.self.now.memory.table (at / 4096) else None) (sym low)
 
@@ -20,5 +21,8 @@ pub returns-clause-row : goal.returns-clause-row
 returns-clause-row c =
     let m = c.self.inside in
     let at = c.args.at in
-    let found = row_found m.table.entries m.frames.entries at c.copied.result (sym c.get.ensures.value ∙ sym c.copied.ensures) in
-    subst (λ (r : Roomy). IfSome c.copied.result (IsRow r.memory)) c.self.view_is (row_is _ (at / 4096) c.copied.result c.self.invariant.memory found)
+    let found =
+    row_found m.table.entries m.frames.entries at c.copied.result
+    (sym c.get.ensures.value ∙ sym c.copied.ensures) in
+    subst (λ (r : Roomy). IfSome c.copied.result (IsRow r.memory)) c.self.view_is
+    (row_is _ (at / 4096) c.copied.result c.self.invariant.memory found)

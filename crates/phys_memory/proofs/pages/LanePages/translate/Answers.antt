@@ -21,8 +21,11 @@ returns-clause-walk c =
     let t = physical m in
     let va = c.args.va.0 in
     let n = c.args.len in
-    let walked_flat = subst (λ (ps : List Part). IfOk c.walk_parts.result (λ (w : Walked). w ≡ walked [] ps)) c.parts_flat.ensures.parts c.walk_parts.ensures in
-    IfOk-weaker c.walk_parts.result (λ (w : Walked). w ≡ walked [] (flat t va n)) (λ (w : Walked). w ≡ walk_of (reached t va n) n) (λ w h. walk_is t va n w h) walked_flat
+    let walked_flat =
+    subst (λ (ps : List Part). IfOk c.walk_parts.result (λ (w : Walked). w ≡ walked [] ps))
+    c.parts_flat.ensures.parts c.walk_parts.ensures in
+    IfOk-weaker c.walk_parts.result (λ (w : Walked). w ≡ walked [] (flat t va n))
+    (λ (w : Walked). w ≡ walk_of (reached t va n) n) (λ w h. walk_is t va n w h) walked_flat
 
 pub returns-clause-verdict : goal.returns-clause-verdict
 returns-clause-verdict c =
@@ -30,8 +33,11 @@ returns-clause-verdict c =
     let t = physical m in
     let va = c.args.va.0 in
     let n = c.args.len in
-    let walked_flat = subst (λ (ps : List Part). IfOk c.walk_parts.result (λ (w : Walked). w ≡ walked [] ps)) c.parts_flat.ensures.parts c.walk_parts.ensures in
-    IfOk-weaker c.walk_parts.result (λ (w : Walked). w ≡ walked [] (flat t va n)) (λ (w : Walked). verdict w ≡ judged (unreached t) 0 (run_of va n)) (λ w h. verdict_is t va n w h) walked_flat
+    let walked_flat =
+    subst (λ (ps : List Part). IfOk c.walk_parts.result (λ (w : Walked). w ≡ walked [] ps))
+    c.parts_flat.ensures.parts c.walk_parts.ensures in
+    IfOk-weaker c.walk_parts.result (λ (w : Walked). w ≡ walked [] (flat t va n))
+    (λ (w : Walked). verdict w ≡ judged (unreached t) 0 (run_of va n)) (λ w h. verdict_is t va n w h) walked_flat
 
 pub returns-clause-addresses : goal.returns-clause-addresses
 returns-clause-addresses c =
@@ -40,8 +46,12 @@ returns-clause-addresses c =
     let va = c.args.va.0 in
     let n = c.args.len in
     let paged = memory_paged m c.parts_flat.ensures.sound in
-    let walked_flat = subst (λ (ps : List Part). IfOk c.walk_parts.result (λ (w : Walked). w ≡ walked [] ps)) c.parts_flat.ensures.parts c.walk_parts.ensures in
-    IfOk-weaker c.walk_parts.result (λ (w : Walked). w ≡ walked [] (flat t va n)) (λ (w : Walked). IfParts w (λ es. addresses es ≡ map (physical_or_0 t) (run_of va n))) (λ w h. walk_addresses t va n w h (IsHeld m) paged) walked_flat
+    let walked_flat =
+    subst (λ (ps : List Part). IfOk c.walk_parts.result (λ (w : Walked). w ≡ walked [] ps))
+    c.parts_flat.ensures.parts c.walk_parts.ensures in
+    IfOk-weaker c.walk_parts.result (λ (w : Walked). w ≡ walked [] (flat t va n))
+    (λ (w : Walked). IfParts w (λ es. addresses es ≡ map (physical_or_0 t) (run_of va n)))
+    (λ w h. walk_addresses t va n w h (IsHeld m) paged) walked_flat
 
 pub returns-clause-extents : goal.returns-clause-extents
 returns-clause-extents c =
@@ -50,8 +60,12 @@ returns-clause-extents c =
     let va = c.args.va.0 in
     let n = c.args.len in
     let paged = memory_paged m c.parts_flat.ensures.sound in
-    let walked_flat = subst (λ (ps : List Part). IfOk c.walk_parts.result (λ (w : Walked). w ≡ walked [] ps)) c.parts_flat.ensures.parts c.walk_parts.ensures in
-    IfOk-weaker c.walk_parts.result (λ (w : Walked). w ≡ walked [] (flat t va n)) (λ (w : Walked). IfParts w (AllByRecursion IsExtent)) (λ w h. walk_extents t va n w h (IsHeld m) paged) walked_flat
+    let walked_flat =
+    subst (λ (ps : List Part). IfOk c.walk_parts.result (λ (w : Walked). w ≡ walked [] ps))
+    c.parts_flat.ensures.parts c.walk_parts.ensures in
+    IfOk-weaker c.walk_parts.result (λ (w : Walked). w ≡ walked [] (flat t va n))
+    (λ (w : Walked). IfParts w (AllByRecursion IsExtent))
+    (λ w h. walk_extents t va n w h (IsHeld m) paged) walked_flat
 
 pub returns-clause-joined : goal.returns-clause-joined
 returns-clause-joined c =
@@ -60,8 +74,11 @@ returns-clause-joined c =
     let va = c.args.va.0 in
     let n = c.args.len in
     let paged = memory_paged m c.parts_flat.ensures.sound in
-    let walked_flat = subst (λ (ps : List Part). IfOk c.walk_parts.result (λ (w : Walked). w ≡ walked [] ps)) c.parts_flat.ensures.parts c.walk_parts.ensures in
-    IfOk-weaker c.walk_parts.result (λ (w : Walked). w ≡ walked [] (flat t va n)) (λ (w : Walked). IfParts w AreJoined) (λ w h. walk_joined t va n w h (IsHeld m) paged) walked_flat
+    let walked_flat =
+    subst (λ (ps : List Part). IfOk c.walk_parts.result (λ (w : Walked). w ≡ walked [] ps))
+    c.parts_flat.ensures.parts c.walk_parts.ensures in
+    IfOk-weaker c.walk_parts.result (λ (w : Walked). w ≡ walked [] (flat t va n)) (λ (w : Walked). IfParts w AreJoined)
+    (λ w h. walk_joined t va n w h (IsHeld m) paged) walked_flat
 
 pub returns-clause-frames : goal.returns-clause-frames
 returns-clause-frames c =
@@ -70,5 +87,9 @@ returns-clause-frames c =
     let va = c.args.va.0 in
     let n = c.args.len in
     let paged = memory_paged m c.parts_flat.ensures.sound in
-    let walked_flat = subst (λ (ps : List Part). IfOk c.walk_parts.result (λ (w : Walked). w ≡ walked [] ps)) c.parts_flat.ensures.parts c.walk_parts.ensures in
-    IfOk-weaker c.walk_parts.result (λ (w : Walked). w ≡ walked [] (flat t va n)) (λ (w : Walked). IfParts w (AllByRecursion (LiesIn m))) (λ w h. walk_has t va n w h (IsHeld m) paged) walked_flat
+    let walked_flat =
+    subst (λ (ps : List Part). IfOk c.walk_parts.result (λ (w : Walked). w ≡ walked [] ps))
+    c.parts_flat.ensures.parts c.walk_parts.ensures in
+    IfOk-weaker c.walk_parts.result (λ (w : Walked). w ≡ walked [] (flat t va n))
+    (λ (w : Walked). IfParts w (AllByRecursion (LiesIn m)))
+    (λ w h. walk_has t va n w h (IsHeld m) paged) walked_flat

@@ -10,5 +10,7 @@ use Rattle.phys_memory.proofs.pages.LanePages.walk_flat.Goals as goal
 
 pub returns-clause-addresses : goal.returns-clause-addresses
 returns-clause-addresses c =
-    let one = ap (map (physical_or_0 (physical c.args.self.now.memory))) (append-nil (run_of c.args.va.0 c.args.len)) in
-    subst (λ (pas : List ℕ). IfOk c.walk_vector.result (λ (w : Entries). IfAll w (λ es. entries_addresses es ≡ pas))) one c.walk_vector.ensures.addresses
+    let one =
+    ap (map (physical_or_0 (physical c.args.self.now.memory))) (append-nil (run_of c.args.va.0 c.args.len)) in
+    subst (λ (pas : List ℕ). IfOk c.walk_vector.result (λ (w : Entries). IfAll w (λ es. entries_addresses es ≡ pas)))
+    one c.walk_vector.ensures.addresses

@@ -4,7 +4,8 @@ use Rattle.busdma_base.specs.declared.machine.chunk.Entry.{Entry}
 use Rattle.phys_memory.specs.declared.walk.Walked.TheVariants.{Parts}
 use Rattle.phys_memory.specs.Memory.{Roomy, IsMemory, physical}
 use Rattle.phys_memory.proofs.Reached.{IsHeld, memory_paged}
-use Rattle.phys_memory.proofs.Vectors.{bytes_here, missed_inside, past_entry, past_none, stopped, this, walk_bytes, walk_end, walk_entries, walk_from, walk_have, walk_here, walk_touches}
+use Rattle.phys_memory.proofs.Vectors.{bytes_here, missed_inside, past_entry, past_none, stopped, this, walk_bytes}
+use Rattle.phys_memory.proofs.Vectors.{walk_end, walk_entries, walk_from, walk_have, walk_here, walk_touches}
 use Rattle.phys_memory.proofs.pages.LanePages.walk_vector.Goals.{then-not-is_empty+in_ok-push, else-not-is_empty}
 use Rattle.phys_memory.proofs.pages.LanePages.walk_vector.Goals as goal
 
@@ -15,9 +16,20 @@ no_span = record { va = record { 0 = 0 }; len = 0 }
 pub overflow_add-result : goal.overflow_add-result
 overflow_add-result c =
     let l = c.loop-span in
-    let s = this (physical c.args.self.now.memory) l.entries.items l.offset c.args.spans.now l.span-index no_span c.loop-span-test.true in
-    let bytes = bytes_here (physical c.args.self.now.memory) l.entries.items l.offset c.args.spans.now l.span-index no_span c.loop-span-test.true in
-    omega (arith, bytes, l.invariant.total, c.requires, missed_inside (physical c.args.self.now.memory) s.va.0 s.len c.in-Unmapped.at (sym c.in-Unmapped.is ∙ c.in_ok-at.ensures.walk))
+    let s =
+    this (physical c.args.self.now.memory) l.entries.items l.offset c.args.spans.now
+    l.span-index no_span c.loop-span-test.true in
+    let bytes =
+    bytes_here (physical c.args.self.now.memory) l.entries.items l.offset c.args.spans.now
+    l.span-index no_span c.loop-span-test.true in
+    omega (
+      arith,
+      bytes,
+      l.invariant.total,
+      c.requires,
+      missed_inside (physical c.args.self.now.memory) s.va.0 s.len c.in-Unmapped.at
+          (sym c.in-Unmapped.is ∙ c.in_ok-at.ensures.walk),
+    )
 
 pub returns-in-Unmapped-clause-walk : goal.returns-in-Unmapped-clause-walk
 returns-in-Unmapped-clause-walk c =
@@ -26,7 +38,8 @@ returns-in-Unmapped-clause-walk c =
     let spans = c.args.spans.now in
     let l = c.loop-span in
     let s = this t l.entries.items l.offset spans l.span-index no_span c.loop-span-test.true in
-    sym (stopped true t l.entries.items l.offset s (drop (l.span-index + 1) spans) c.in-Unmapped.at (sym c.in-Unmapped.is ∙ c.in_ok-at.ensures.walk))
+    sym (stopped true t l.entries.items l.offset s (drop (l.span-index + 1) spans) c.in-Unmapped.at
+    (sym c.in-Unmapped.is ∙ c.in_ok-at.ensures.walk))
     ∙ sym (walk_here t l.entries.items l.offset spans l.span-index no_span c.loop-span-test.true) ∙ l.invariant.walk
 
 pub loop-span-preserved : goal.loop-span-preserved
@@ -38,15 +51,21 @@ loop-span-preserved c =
     let s = this t l.entries.items l.offset spans l.span-index no_span c.loop-span-test.true in
     let rest = drop (l.span-index + 1) spans in
     let found = sym c.in-Parts.is ∙ c.in_ok-at.ensures.walk in
-    let before = sym (walk_here t l.entries.items l.offset spans l.span-index no_span c.loop-span-test.true) ∙ l.invariant.walk in
+    let before = sym (walk_here t l.entries.items l.offset spans l.span-index no_span c.loop-span-test.true)
+    ∙ l.invariant.walk in
     let bytes = bytes_here t l.entries.items l.offset spans l.span-index no_span c.loop-span-test.true in
     record {
       total = omega (arith, bytes, l.invariant.total);
       walk = elim c.if-not-is_empty.branch [
-        | then-not-is_empty+in_ok-push w ↦ ap (λ es. walk_from true t es (l.offset + s.len) rest) (ap (λ (v : Vec Entry Global). v.items) w.entries-is ∙ w.in_ok-push.ensures.items)
-            ∙ sym (past_entry true t l.entries.items l.offset s rest c.in-Parts.parts found w.if-not-is_empty.ensures.1) ∙ before
-        | else-not-is_empty w ↦ ap (λ (v : Vec Entry Global). walk_from true t v.items (l.offset + s.len) rest) w.entries-is
-            ∙ sym (past_none true t l.entries.items l.offset s rest (ap Parts (sym (w.if-not-is_empty.ensures.0 refl)) ∙ found)) ∙ before
+        | then-not-is_empty+in_ok-push w ↦
+            ap (λ es. walk_from true t es (l.offset + s.len) rest)
+            (ap (λ (v : Vec Entry Global). v.items) w.entries-is ∙ w.in_ok-push.ensures.items)
+            ∙ sym (past_entry true t l.entries.items l.offset s rest c.in-Parts.parts found
+            w.if-not-is_empty.ensures.1) ∙ before
+        | else-not-is_empty w ↦
+            ap (λ (v : Vec Entry Global). walk_from true t v.items (l.offset + s.len) rest) w.entries-is
+            ∙ sym (past_none true t l.entries.items l.offset s rest
+            (ap Parts (sym (w.if-not-is_empty.ensures.0 refl)) ∙ found)) ∙ before
       ];
     }
 
@@ -56,7 +75,9 @@ returns-clause-addresses c =
     let t = physical m in
     let l = c.loop-span in
     let sound = subst (λ (r : Roomy). IsMemory r.memory) c.self.view_is c.self.invariant.memory in
-    walk_bytes (IsHeld m) true t c.args.spans.now c.new.result (memory_paged m sound) (walk_end t l.entries.items c.new.result l.offset c.args.spans.now l.span-index c.new.ensures c.loop-span-test.false l.invariant.walk)
+    walk_bytes (IsHeld m) true t c.args.spans.now c.new.result (memory_paged m sound)
+    (walk_end t l.entries.items c.new.result l.offset c.args.spans.now l.span-index c.new.ensures
+    c.loop-span-test.false l.invariant.walk)
 
 pub returns-clause-entries : goal.returns-clause-entries
 returns-clause-entries c =
@@ -64,7 +85,9 @@ returns-clause-entries c =
     let t = physical m in
     let l = c.loop-span in
     let sound = subst (λ (r : Roomy). IsMemory r.memory) c.self.view_is c.self.invariant.memory in
-    walk_entries (IsHeld m) true t c.args.spans.now c.new.result (memory_paged m sound) (walk_end t l.entries.items c.new.result l.offset c.args.spans.now l.span-index c.new.ensures c.loop-span-test.false l.invariant.walk)
+    walk_entries (IsHeld m) true t c.args.spans.now c.new.result (memory_paged m sound)
+    (walk_end t l.entries.items c.new.result l.offset c.args.spans.now l.span-index c.new.ensures
+    c.loop-span-test.false l.invariant.walk)
 
 pub returns-clause-some : goal.returns-clause-some
 returns-clause-some c =
@@ -72,7 +95,9 @@ returns-clause-some c =
     let t = physical m in
     let l = c.loop-span in
     let sound = subst (λ (r : Roomy). IsMemory r.memory) c.self.view_is c.self.invariant.memory in
-    walk_touches (IsHeld m) true t c.args.spans.now c.new.result (memory_paged m sound) (walk_end t l.entries.items c.new.result l.offset c.args.spans.now l.span-index c.new.ensures c.loop-span-test.false l.invariant.walk)
+    walk_touches (IsHeld m) true t c.args.spans.now c.new.result (memory_paged m sound)
+    (walk_end t l.entries.items c.new.result l.offset c.args.spans.now l.span-index c.new.ensures
+    c.loop-span-test.false l.invariant.walk)
 
 pub returns-clause-frames : goal.returns-clause-frames
 returns-clause-frames c =
@@ -80,4 +105,6 @@ returns-clause-frames c =
     let t = physical m in
     let l = c.loop-span in
     let sound = subst (λ (r : Roomy). IsMemory r.memory) c.self.view_is c.self.invariant.memory in
-    walk_have (IsHeld m) true t c.args.spans.now c.new.result (memory_paged m sound) (walk_end t l.entries.items c.new.result l.offset c.args.spans.now l.span-index c.new.ensures c.loop-span-test.false l.invariant.walk)
+    walk_have (IsHeld m) true t c.args.spans.now c.new.result (memory_paged m sound)
+    (walk_end t l.entries.items c.new.result l.offset c.args.spans.now l.span-index c.new.ensures
+    c.loop-span-test.false l.invariant.walk)

@@ -8,5 +8,6 @@ use Rattle.phys_memory.proofs.pages.LanePages.walk_vector.Given as goal
 abbrev pub invariant-loop-span : goal.invariant-loop-span
 invariant-loop-span l = record {
   total : l.offset + span_bytes (drop l.span-index l.fn.spans) ≡ span_bytes l.fn.spans;
-  walk : walk_from true (physical l.fn.self.memory) l.entries.items l.offset (drop l.span-index l.fn.spans) ≡ vector_walk (physical l.fn.self.memory) l.fn.spans;
+  walk : walk_from true (physical l.fn.self.memory) l.entries.items l.offset (drop l.span-index l.fn.spans)
+      ≡ vector_walk (physical l.fn.self.memory) l.fn.spans;
 }

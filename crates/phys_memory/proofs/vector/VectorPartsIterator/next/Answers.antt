@@ -12,5 +12,6 @@ loop-part-preserved c =
     let none = c.in_default.ensures.steps.0 in
     record {
       total = omega (arith, first_bytes s.offset s.spans.now span others are, c.loop-part.invariant.total);
-      same = next_span (physical s.memory.now.memory) s.current c.parts_at-self-inside.result s.offset s.spans.now span others none are c.parts_at-self-inside.ensures.parts ∙ c.loop-part.invariant.same;
+      same = next_span (physical s.memory.now.memory) s.current c.parts_at-self-inside.result s.offset s.spans.now span
+          others none are c.parts_at-self-inside.ensures.parts ∙ c.loop-part.invariant.same;
     }

@@ -10,7 +10,8 @@ invariant-loop-part l =
     let old = l.initial.self-inside in
     record {
       total : s.offset + span_bytes s.spans.now < 2 ^ 64;
-      same : then_parts s.current (spans_at true (physical s.memory.now.memory) s.offset s.spans.now) ≡ then_parts old.current (spans_at true (physical old.memory.now.memory) old.offset old.spans.now);
+      same : then_parts s.current (spans_at true (physical s.memory.now.memory) s.offset s.spans.now)
+          ≡ then_parts old.current (spans_at true (physical old.memory.now.memory) old.offset old.spans.now);
     }
 
 abbrev pub decreases-loop-part : goal.decreases-loop-part

@@ -8,8 +8,15 @@ returns-then-is_odd-is_in c =
     let small = rw c.deref.ensures.value at c.count_to-count.ensures.small in
     let below = rw c.deref.ensures.value at c.count_to-count.ensures.below in
     let above = rw c.deref.ensures.value at c.count_to-count.ensures.above in
-    let is = at_start c.count_to-count.result c.args.start c.args.end (2 ^ 64) c.self.inside.edges.items small (below 0 (2 ^ 64) (omega arith) c.self.invariant.rise) (above 0 (2 ^ 64) (omega arith) c.self.invariant.rise) in
-    (omega arith, omega arith, rw (← c.self.view_is) (is ∙ sym c.is_odd.ensures ∙ same_answer _ _ c.if-is_odd-is_in.true), λ n p q. absurd (omega arith))
+    let is = at_start c.count_to-count.result c.args.start c.args.end (2 ^ 64) c.self.inside.edges.items small
+    (below 0 (2 ^ 64) (omega arith) c.self.invariant.rise)
+    (above 0 (2 ^ 64) (omega arith) c.self.invariant.rise) in (
+      omega arith,
+      omega arith,
+      rw (← c.self.view_is) (is ∙ sym c.is_odd.ensures
+          ∙ same_answer _ _ c.if-is_odd-is_in.true),
+      λ n p q. absurd (omega arith),
+    )
 
 pub returns-then-turn-end : goal.returns-then-turn-end
 returns-then-turn-end c =
@@ -17,10 +24,21 @@ returns-then-turn-end c =
     let below = rw c.deref.ensures.value at c.count_to-count.ensures.below in
     let above = rw c.deref.ensures.value at c.count_to-count.ensures.above in
     let e = rw c.deref-2.ensures.value at c.number_or-turn.ensures in
-    let at = at_turn c.count_to-count.result c.args.start c.args.end (2 ^ 64) c.self.inside.edges.items small (below 0 (2 ^ 64) (omega arith) c.self.invariant.rise) (above 0 (2 ^ 64) (omega arith) c.self.invariant.rise) (subst (λ f. f < c.args.end) e c.if-turn-end.true) in
-    let until = until_turn c.count_to-count.result c.args.start c.args.end (2 ^ 64) c.self.inside.edges.items small (below 0 (2 ^ 64) (omega arith) c.self.invariant.rise) (above 0 (2 ^ 64) (omega arith) c.self.invariant.rise) in
-    let other : not (odd c.count_to-count.result) ≡ c.args.is_in = ap not (sym c.is_odd.ensures) ∙ other_answer _ _ c.if-is_odd-is_in.false in
-    rw (← c.self.view_is, e) (omega arith, subst (λ f. f < c.args.end) e c.if-turn-end.true, at.1 ∙ other, λ n p q. until n p q ∙ sym (not_not _) ∙ ap not other)
+    let at = at_turn c.count_to-count.result c.args.start c.args.end (2 ^ 64) c.self.inside.edges.items small
+    (below 0 (2 ^ 64) (omega arith) c.self.invariant.rise) (above 0 (2 ^ 64) (omega arith) c.self.invariant.rise)
+    (subst (λ f. f < c.args.end) e c.if-turn-end.true) in
+    let until = until_turn c.count_to-count.result c.args.start c.args.end (2 ^ 64) c.self.inside.edges.items small
+    (below 0 (2 ^ 64) (omega arith) c.self.invariant.rise)
+    (above 0 (2 ^ 64) (omega arith) c.self.invariant.rise) in
+    let other : not (odd c.count_to-count.result) ≡ c.args.is_in =
+    ap not (sym c.is_odd.ensures) ∙ other_answer _ _ c.if-is_odd-is_in.false in
+    rw (← c.self.view_is, e) (
+      omega arith,
+      subst (λ f. f < c.args.end) e c.if-turn-end.true,
+      at.1
+          ∙ other,
+      λ n p q. until n p q ∙ sym (not_not _) ∙ ap not other,
+    )
 
 pub returns-else-turn-end : goal.returns-else-turn-end
 returns-else-turn-end c =
@@ -28,7 +46,11 @@ returns-else-turn-end c =
     let below = rw c.deref.ensures.value at c.count_to-count.ensures.below in
     let above = rw c.deref.ensures.value at c.count_to-count.ensures.above in
     let e = rw c.deref-2.ensures.value at c.number_or-turn.ensures in
-    let until = until_turn c.count_to-count.result c.args.start c.args.end (2 ^ 64) c.self.inside.edges.items small (below 0 (2 ^ 64) (omega arith) c.self.invariant.rise) (above 0 (2 ^ 64) (omega arith) c.self.invariant.rise) in
-    let other : not (odd c.count_to-count.result) ≡ c.args.is_in = ap not (sym c.is_odd.ensures) ∙ other_answer _ _ c.if-is_odd-is_in.false in
-    let t : c.args.end ≤ get_or c.self.inside.edges.items c.count_to-count.result c.args.end = subst (λ f. c.args.end ≤ f) e c.if-turn-end.false in
+    let until = until_turn c.count_to-count.result c.args.start c.args.end (2 ^ 64) c.self.inside.edges.items small
+    (below 0 (2 ^ 64) (omega arith) c.self.invariant.rise)
+    (above 0 (2 ^ 64) (omega arith) c.self.invariant.rise) in
+    let other : not (odd c.count_to-count.result) ≡ c.args.is_in =
+    ap not (sym c.is_odd.ensures) ∙ other_answer _ _ c.if-is_odd-is_in.false in
+    let t : c.args.end ≤ get_or c.self.inside.edges.items c.count_to-count.result c.args.end =
+    subst (λ f. c.args.end ≤ f) e c.if-turn-end.false in
     rw (← c.self.view_is) (λ n p q. until n p (omega arith) ∙ sym (not_not _) ∙ ap not other)

@@ -4,7 +4,9 @@ use Rattle.run_set.proofs.Sets.{rises_edges_set, members_edges_set, finite_edges
 use Rattle.run_set.proofs.run_set.RunSet.set.Goals as goal
 
 -- the new edges rise, and their members are those that are wanted
-done : (c : goal.After-replace) → IsKept c.replace.new.edges.items × ((n : ℕ) → member c.replace.new.edges.items n ≡ (if in_run c.args.start c.args.end n then c.args.is_in else member c.self.inside.edges.items n))
+done : (c : goal.After-replace) → IsKept c.replace.new.edges.items
+    × ((n : ℕ) → member c.replace.new.edges.items n
+    ≡ (if in_run c.args.start c.args.end n then c.args.is_in else member c.self.inside.edges.items n))
 done c =
     let small = rw c.deref.ensures.value at c.count_below-first.ensures.small in
     let below = rw c.deref.ensures.value at c.count_below-first.ensures.below in
@@ -13,10 +15,28 @@ done c =
     let small2 = rw (c.deref-2.ensures.value, tail_is) at c.count_to-inside.ensures.small in
     let below2 = rw (c.deref-2.ensures.value, tail_is) at c.count_to-inside.ensures.below in
     let above2 = rw (c.deref-2.ensures.value, tail_is) at c.count_to-inside.ensures.above in
-    let rises = rises_edges_set c.args.start c.args.end (2 ^ 64) c.count_below-first.result c.count_to-inside.result c.args.is_in c.self.inside.edges.items (omega arith) small small2 (below 0 (2 ^ 64) (omega arith) c.self.invariant.rise) (below2 c.args.start (2 ^ 64) (omega arith) after) (above2 c.args.start (2 ^ 64) (omega arith) after) in
-    let members = members_edges_set c.args.start c.args.end (2 ^ 64) c.count_below-first.result c.count_to-inside.result c.args.is_in c.self.inside.edges.items (omega arith) small small2 (below 0 (2 ^ 64) (omega arith) c.self.invariant.rise) (below2 c.args.start (2 ^ 64) (omega arith) after) (above2 c.args.start (2 ^ 64) (omega arith) after) in
-    let finite = finite_edges_set c.args.start c.args.end (2 ^ 64) c.count_below-first.result c.count_to-inside.result c.args.is_in c.self.inside.edges.items (omega arith) small small2 (below 0 (2 ^ 64) (omega arith) c.self.invariant.rise) (below2 c.args.start (2 ^ 64) (omega arith) after) (above2 c.args.start (2 ^ 64) (omega arith) after) c.self.invariant.rise (omega arith) c.self.invariant.finite in
-    rw (c.replace.ensures.items, c.differ.ensures, c.differ-2.ensures, c.differ-after.ensures, c.is_odd-before.ensures, c.is_odd.ensures) (record { rise = rises; finite = finite }, members)
+    let rises = rises_edges_set c.args.start c.args.end (2 ^ 64) c.count_below-first.result c.count_to-inside.result
+    c.args.is_in c.self.inside.edges.items (omega arith) small small2
+    (below 0 (2 ^ 64) (omega arith) c.self.invariant.rise) (below2 c.args.start (2 ^ 64) (omega arith) after)
+    (above2 c.args.start (2 ^ 64) (omega arith) after) in
+    let members =
+    members_edges_set c.args.start c.args.end (2 ^ 64) c.count_below-first.result c.count_to-inside.result
+    c.args.is_in c.self.inside.edges.items (omega arith) small small2
+    (below 0 (2 ^ 64) (omega arith) c.self.invariant.rise) (below2 c.args.start (2 ^ 64) (omega arith) after)
+    (above2 c.args.start (2 ^ 64) (omega arith) after) in
+    let finite = finite_edges_set c.args.start c.args.end (2 ^ 64) c.count_below-first.result c.count_to-inside.result
+    c.args.is_in c.self.inside.edges.items (omega arith) small small2
+    (below 0 (2 ^ 64) (omega arith) c.self.invariant.rise) (below2 c.args.start (2 ^ 64) (omega arith) after)
+    (above2 c.args.start (2 ^ 64) (omega arith) after) c.self.invariant.rise
+    (omega arith) c.self.invariant.finite in
+    rw (
+      c.replace.ensures.items,
+      c.differ.ensures,
+      c.differ-2.ensures,
+      c.differ-after.ensures,
+      c.is_odd-before.ensures,
+      c.is_odd.ensures,
+    ) (record { rise = rises; finite = finite }, members)
 
 pub invariant_of-self : goal.invariant_of-self
 invariant_of-self c = (done c).0

@@ -10,4 +10,12 @@ need-requires c =
     let m = c.args.maxmem in
     let es = c.args.entries.now in
     let eff = c.limits.ensures.effective in
-    record { few = omega (arith, ap length (c.as_slice.ensures ∙ c.in_ok-list.ensures), chunks_few t (chunks_of t m es) (chunks_sound t m es eff c.requires.entries), chunks_bytes t m es eff, c.requires.bytes) }
+    record {
+      few = omega (
+        arith,
+        ap length (c.as_slice.ensures ∙ c.in_ok-list.ensures),
+        chunks_few t (chunks_of t m es) (chunks_sound t m es eff c.requires.entries),
+        chunks_bytes t m es eff,
+        c.requires.bytes,
+      );
+    }

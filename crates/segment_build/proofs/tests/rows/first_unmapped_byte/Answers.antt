@@ -12,7 +12,14 @@ measure-found-requires-clause-stream g c xs s y =
     let six : Part = Of (record { pa = record { 0 = 0x1000ffa }; len = 6 }) true true in
     let two : IsStream (six ∷ Unmapped 6 ∷ []) = record {
       opens = refl;
-      entries = (record { extents = (record { some = omega arith; in_frame = omega arith; numbered = omega arith }, tt); joined = tt }, tt);
+      entries = (
+        record {
+          extents = (record { some = omega arith; in_frame = omega arith; numbered = omega arith }, tt);
+          joined = tt;
+        },
+        tt,
+      );
       bytes = omega arith;
     } in
-    along_first (λ (s : Listed). s.0.now) IsStream IsStream-front c.new.result (subst IsStream (sym c.new.ensures) two) xs s y
+    along_first (λ (s : Listed). s.0.now) IsStream IsStream-front c.new.result
+    (subst IsStream (sym c.new.ensures) two) xs s y

@@ -10,4 +10,7 @@ pub build-requires : goal.build-requires
 build-requires c =
     let keep = c.keeps_offset.ensures ∙ ap (λ (t : TagLimits). keep_pg_offset t.flags) c.limits.ensures.limits in
     let is = c.place.ensures ∙ ap (λ k. placed k c.args.chunks.now c.args.pages.now) keep in
-    record { placed = subst (AllByRecursion IsPlaced) (sym is) (placed_are c.args.tag.now c.args.chunks.now c.args.pages.now c.requires.sound c.requires.pages) }
+    record {
+      placed = subst (AllByRecursion IsPlaced) (sym is)
+          (placed_are c.args.tag.now c.args.chunks.now c.args.pages.now c.requires.sound c.requires.pages);
+    }

@@ -14,7 +14,8 @@ use Rattle.segment_build.proofs.tests.ways.by_room.Goals as goal
 pub measure-requires-clause-stream : goal.measure-requires-clause-stream
 measure-requires-clause-stream c xs s y =
     let is = c.new-stream.ensures ∙ (c.deref.ensures.value ∙ c.in_ok-parts.ensures) in
-    along_first (λ (s : Listed). s.0.now) IsStream IsStream-front c.new-stream.result (subst IsStream (sym is) (stream_of_entries c.args.entries.now c.requires.entries c.requires.bytes)) xs s y
+    along_first (λ (s : Listed). s.0.now) IsStream IsStream-front c.new-stream.result
+    (subst IsStream (sym is) (stream_of_entries c.args.entries.now c.requires.entries c.requires.bytes)) xs s y
 
 pub build_into-requires-clause-stream : goal.build_into-requires-clause-stream
 build_into-requires-clause-stream c xs s y =
@@ -26,16 +27,30 @@ build_into-requires-clause-stream c xs s y =
     let is = c.new-again.ensures ∙ (c.deref-2.ensures.value ∙ c.in_ok-parts.ensures) in
     let ran = c.in-Fits.ensures in
     let seen = sym (drained_first (λ (s : Listed). s.0.now) c.new-stream.result ran.0 ran.1) ∙ first in
-    let fits = subst (λ (ps : List Part). IsMeasure t m ps c.in-Fits.need c.in-Fits.pieces c.in-Fits.bytes) seen ran.2 in
+    let fits =
+    subst (λ (ps : List Part). IsMeasure t m ps c.in-Fits.need c.in-Fits.pieces c.in-Fits.bytes) seen ran.2 in
     let chunks = chunks_of_parts t m es in
     let pieces = fits.pieces pages c.requires.pages in
     let need = fits.need in
     let room = c.in_ok-list.ensures.room in
     let bounced_room = c.in_ok-bounced.ensures.room in
-    let whole = entries_ready t m pages c.in_ok-list.list.spare c.in_ok-bounced.bounced.spare es c.requires.entries c.requires.bytes c.requires.need
-    (omega (arith, room, c.min.ensures, pieces, ap (λ cs. length (placed_pieces t cs pages)) chunks, ap (λ (u : TagLimits). u.nsegments) c.limits-limits.ensures.limits))
+    let whole =
+    entries_ready t m pages c.in_ok-list.list.spare c.in_ok-bounced.bounced.spare es
+    c.requires.entries c.requires.bytes c.requires.need
+    (omega (
+      arith,
+      room,
+      c.min.ensures,
+      pieces,
+      ap (λ cs. length (placed_pieces t cs pages)) chunks,
+      ap (λ (u : TagLimits). u.nsegments) c.limits-limits.ensures.limits,
+    ))
     (omega (arith, bounced_room, need, ap need_of chunks)) in
-    let ready = along_first (λ (s : Listed). s.0.now) (IsReady t m pages c.in_ok-list.list.spare c.in_ok-bounced.bounced.spare) (IsReady-front t m pages c.in_ok-list.list.spare c.in_ok-bounced.bounced.spare c.fronts_ask_no_more.ensures) c.new-again.result (subst (IsReady t m pages c.in_ok-list.list.spare c.in_ok-bounced.bounced.spare) (sym is) whole) xs s y in
+    let ready =
+    along_first (λ (s : Listed). s.0.now) (IsReady t m pages c.in_ok-list.list.spare c.in_ok-bounced.bounced.spare)
+    (IsReady-front t m pages c.in_ok-list.list.spare c.in_ok-bounced.bounced.spare c.fronts_ask_no_more.ensures)
+    c.new-again.result
+    (subst (IsReady t m pages c.in_ok-list.list.spare c.in_ok-bounced.bounced.spare) (sym is) whole) xs s y in
     ready.stream
 
 pub build_into-requires-clause-need : goal.build_into-requires-clause-need
@@ -48,16 +63,30 @@ build_into-requires-clause-need c xs s y =
     let is = c.new-again.ensures ∙ (c.deref-2.ensures.value ∙ c.in_ok-parts.ensures) in
     let ran = c.in-Fits.ensures in
     let seen = sym (drained_first (λ (s : Listed). s.0.now) c.new-stream.result ran.0 ran.1) ∙ first in
-    let fits = subst (λ (ps : List Part). IsMeasure t m ps c.in-Fits.need c.in-Fits.pieces c.in-Fits.bytes) seen ran.2 in
+    let fits =
+    subst (λ (ps : List Part). IsMeasure t m ps c.in-Fits.need c.in-Fits.pieces c.in-Fits.bytes) seen ran.2 in
     let chunks = chunks_of_parts t m es in
     let pieces = fits.pieces pages c.requires.pages in
     let need = fits.need in
     let room = c.in_ok-list.ensures.room in
     let bounced_room = c.in_ok-bounced.ensures.room in
-    let whole = entries_ready t m pages c.in_ok-list.list.spare c.in_ok-bounced.bounced.spare es c.requires.entries c.requires.bytes c.requires.need
-    (omega (arith, room, c.min.ensures, pieces, ap (λ cs. length (placed_pieces t cs pages)) chunks, ap (λ (u : TagLimits). u.nsegments) c.limits-limits.ensures.limits))
+    let whole =
+    entries_ready t m pages c.in_ok-list.list.spare c.in_ok-bounced.bounced.spare es
+    c.requires.entries c.requires.bytes c.requires.need
+    (omega (
+      arith,
+      room,
+      c.min.ensures,
+      pieces,
+      ap (λ cs. length (placed_pieces t cs pages)) chunks,
+      ap (λ (u : TagLimits). u.nsegments) c.limits-limits.ensures.limits,
+    ))
     (omega (arith, bounced_room, need, ap need_of chunks)) in
-    let ready = along_first (λ (s : Listed). s.0.now) (IsReady t m pages c.in_ok-list.list.spare c.in_ok-bounced.bounced.spare) (IsReady-front t m pages c.in_ok-list.list.spare c.in_ok-bounced.bounced.spare c.fronts_ask_no_more.ensures) c.new-again.result (subst (IsReady t m pages c.in_ok-list.list.spare c.in_ok-bounced.bounced.spare) (sym is) whole) xs s y in
+    let ready =
+    along_first (λ (s : Listed). s.0.now) (IsReady t m pages c.in_ok-list.list.spare c.in_ok-bounced.bounced.spare)
+    (IsReady-front t m pages c.in_ok-list.list.spare c.in_ok-bounced.bounced.spare c.fronts_ask_no_more.ensures)
+    c.new-again.result
+    (subst (IsReady t m pages c.in_ok-list.list.spare c.in_ok-bounced.bounced.spare) (sym is) whole) xs s y in
     ready.need
 
 pub build_into-requires-clause-room : goal.build_into-requires-clause-room
@@ -70,16 +99,30 @@ build_into-requires-clause-room c xs s y =
     let is = c.new-again.ensures ∙ (c.deref-2.ensures.value ∙ c.in_ok-parts.ensures) in
     let ran = c.in-Fits.ensures in
     let seen = sym (drained_first (λ (s : Listed). s.0.now) c.new-stream.result ran.0 ran.1) ∙ first in
-    let fits = subst (λ (ps : List Part). IsMeasure t m ps c.in-Fits.need c.in-Fits.pieces c.in-Fits.bytes) seen ran.2 in
+    let fits =
+    subst (λ (ps : List Part). IsMeasure t m ps c.in-Fits.need c.in-Fits.pieces c.in-Fits.bytes) seen ran.2 in
     let chunks = chunks_of_parts t m es in
     let pieces = fits.pieces pages c.requires.pages in
     let need = fits.need in
     let room = c.in_ok-list.ensures.room in
     let bounced_room = c.in_ok-bounced.ensures.room in
-    let whole = entries_ready t m pages c.in_ok-list.list.spare c.in_ok-bounced.bounced.spare es c.requires.entries c.requires.bytes c.requires.need
-    (omega (arith, room, c.min.ensures, pieces, ap (λ cs. length (placed_pieces t cs pages)) chunks, ap (λ (u : TagLimits). u.nsegments) c.limits-limits.ensures.limits))
+    let whole =
+    entries_ready t m pages c.in_ok-list.list.spare c.in_ok-bounced.bounced.spare es
+    c.requires.entries c.requires.bytes c.requires.need
+    (omega (
+      arith,
+      room,
+      c.min.ensures,
+      pieces,
+      ap (λ cs. length (placed_pieces t cs pages)) chunks,
+      ap (λ (u : TagLimits). u.nsegments) c.limits-limits.ensures.limits,
+    ))
     (omega (arith, bounced_room, need, ap need_of chunks)) in
-    let ready = along_first (λ (s : Listed). s.0.now) (IsReady t m pages c.in_ok-list.list.spare c.in_ok-bounced.bounced.spare) (IsReady-front t m pages c.in_ok-list.list.spare c.in_ok-bounced.bounced.spare c.fronts_ask_no_more.ensures) c.new-again.result (subst (IsReady t m pages c.in_ok-list.list.spare c.in_ok-bounced.bounced.spare) (sym is) whole) xs s y in
+    let ready =
+    along_first (λ (s : Listed). s.0.now) (IsReady t m pages c.in_ok-list.list.spare c.in_ok-bounced.bounced.spare)
+    (IsReady-front t m pages c.in_ok-list.list.spare c.in_ok-bounced.bounced.spare c.fronts_ask_no_more.ensures)
+    c.new-again.result
+    (subst (IsReady t m pages c.in_ok-list.list.spare c.in_ok-bounced.bounced.spare) (sym is) whole) xs s y in
     ready.fits
 
 pub build_into-requires-clause-bounced_room : goal.build_into-requires-clause-bounced_room
@@ -92,14 +135,28 @@ build_into-requires-clause-bounced_room c xs s y =
     let is = c.new-again.ensures ∙ (c.deref-2.ensures.value ∙ c.in_ok-parts.ensures) in
     let ran = c.in-Fits.ensures in
     let seen = sym (drained_first (λ (s : Listed). s.0.now) c.new-stream.result ran.0 ran.1) ∙ first in
-    let fits = subst (λ (ps : List Part). IsMeasure t m ps c.in-Fits.need c.in-Fits.pieces c.in-Fits.bytes) seen ran.2 in
+    let fits =
+    subst (λ (ps : List Part). IsMeasure t m ps c.in-Fits.need c.in-Fits.pieces c.in-Fits.bytes) seen ran.2 in
     let chunks = chunks_of_parts t m es in
     let pieces = fits.pieces pages c.requires.pages in
     let need = fits.need in
     let room = c.in_ok-list.ensures.room in
     let bounced_room = c.in_ok-bounced.ensures.room in
-    let whole = entries_ready t m pages c.in_ok-list.list.spare c.in_ok-bounced.bounced.spare es c.requires.entries c.requires.bytes c.requires.need
-    (omega (arith, room, c.min.ensures, pieces, ap (λ cs. length (placed_pieces t cs pages)) chunks, ap (λ (u : TagLimits). u.nsegments) c.limits-limits.ensures.limits))
+    let whole =
+    entries_ready t m pages c.in_ok-list.list.spare c.in_ok-bounced.bounced.spare es
+    c.requires.entries c.requires.bytes c.requires.need
+    (omega (
+      arith,
+      room,
+      c.min.ensures,
+      pieces,
+      ap (λ cs. length (placed_pieces t cs pages)) chunks,
+      ap (λ (u : TagLimits). u.nsegments) c.limits-limits.ensures.limits,
+    ))
     (omega (arith, bounced_room, need, ap need_of chunks)) in
-    let ready = along_first (λ (s : Listed). s.0.now) (IsReady t m pages c.in_ok-list.list.spare c.in_ok-bounced.bounced.spare) (IsReady-front t m pages c.in_ok-list.list.spare c.in_ok-bounced.bounced.spare c.fronts_ask_no_more.ensures) c.new-again.result (subst (IsReady t m pages c.in_ok-list.list.spare c.in_ok-bounced.bounced.spare) (sym is) whole) xs s y in
+    let ready =
+    along_first (λ (s : Listed). s.0.now) (IsReady t m pages c.in_ok-list.list.spare c.in_ok-bounced.bounced.spare)
+    (IsReady-front t m pages c.in_ok-list.list.spare c.in_ok-bounced.bounced.spare c.fronts_ask_no_more.ensures)
+    c.new-again.result
+    (subst (IsReady t m pages c.in_ok-list.list.spare c.in_ok-bounced.bounced.spare) (sym is) whole) xs s y in
     ready.bounced_fit

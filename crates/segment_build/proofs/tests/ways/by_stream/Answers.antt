@@ -10,9 +10,13 @@ build_from-requires-clause-stream c xs s y =
     let m = c.args.maxmem in
     let pages = c.args.pages.now in
     let eff = c.limits.ensures.effective in
-    let whole = entries_ready t m pages t.nsegments (length pages) c.args.entries.now c.requires.entries c.requires.bytes c.requires.need (omega arith) c.requires.need in
+    let whole =
+    entries_ready t m pages t.nsegments (length pages) c.args.entries.now c.requires.entries c.requires.bytes
+    c.requires.need (omega arith) c.requires.need in
     let is = c.new.ensures ∙ (c.deref.ensures.value ∙ c.in_ok-parts.ensures) in
-    (along_first (λ (s : Listed). s.0.now) (IsReady t m pages t.nsegments (length pages)) (IsReady-front t m pages t.nsegments (length pages) (fronts_ask t m pages eff)) c.new.result (subst (IsReady t m pages t.nsegments (length pages)) (sym is) whole) xs s y).stream
+    (along_first (λ (s : Listed). s.0.now) (IsReady t m pages t.nsegments (length pages))
+    (IsReady-front t m pages t.nsegments (length pages) (fronts_ask t m pages eff)) c.new.result
+    (subst (IsReady t m pages t.nsegments (length pages)) (sym is) whole) xs s y).stream
 
 pub build_from-requires-clause-need : goal.build_from-requires-clause-need
 build_from-requires-clause-need c xs s y =
@@ -20,6 +24,10 @@ build_from-requires-clause-need c xs s y =
     let m = c.args.maxmem in
     let pages = c.args.pages.now in
     let eff = c.limits.ensures.effective in
-    let whole = entries_ready t m pages t.nsegments (length pages) c.args.entries.now c.requires.entries c.requires.bytes c.requires.need (omega arith) c.requires.need in
+    let whole =
+    entries_ready t m pages t.nsegments (length pages) c.args.entries.now c.requires.entries c.requires.bytes
+    c.requires.need (omega arith) c.requires.need in
     let is = c.new.ensures ∙ (c.deref.ensures.value ∙ c.in_ok-parts.ensures) in
-    (along_first (λ (s : Listed). s.0.now) (IsReady t m pages t.nsegments (length pages)) (IsReady-front t m pages t.nsegments (length pages) (fronts_ask t m pages eff)) c.new.result (subst (IsReady t m pages t.nsegments (length pages)) (sym is) whole) xs s y).need
+    (along_first (λ (s : Listed). s.0.now) (IsReady t m pages t.nsegments (length pages))
+    (IsReady-front t m pages t.nsegments (length pages) (fronts_ask t m pages eff)) c.new.result
+    (subst (IsReady t m pages t.nsegments (length pages)) (sym is) whole) xs s y).need

@@ -12,7 +12,8 @@ invariant-loop-load l =
       left : left_waiting l.pages waiters ≡ left_waiting l.free l.fn.self;
       done : l.ready.items ++ completed l.pages waiters ≡ l.fn.ready.items ++ completed l.free l.fn.self;
       count : l.moved + length (completed l.pages waiters) ≡ length (completed l.free l.fn.self);
-      given : sum_by (λ w. w.have) l.fn.self + (l.free - l.pages) + sum_by (λ w. w.need) (completed l.pages waiters) ≡ sum_by (λ w. w.have) waiters + sum_by (λ w. w.need) (completed l.free l.fn.self);
+      given : sum_by (λ w. w.have) l.fn.self + (l.free - l.pages) + sum_by (λ w. w.need) (completed l.pages waiters)
+          ≡ sum_by (λ w. w.have) waiters + sum_by (λ w. w.need) (completed l.free l.fn.self);
       below : l.pages ≤ l.free;
       few : l.moved + l.pages ≤ l.free;
       spare : l.ready.spare + l.moved ≡ l.fn.ready.spare;

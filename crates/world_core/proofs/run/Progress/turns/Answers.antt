@@ -10,10 +10,17 @@ pub loop-actor-init : goal.loop-actor-init
 loop-actor-init c = refl
 
 pub loop-actor-preserved : goal.loop-actor-preserved
-loop-actor-preserved c = next_turn (ideal_run c.args.self.now) (ideal_run c.loop-actor.self) (ideal_run c.turn.new.self) c.args.order.now c.loop-actor.actor-index _ c.loop-actor-test.true c.loop-actor.invariant c.in_ok-turn.ensures
+loop-actor-preserved c =
+    next_turn (ideal_run c.args.self.now) (ideal_run c.loop-actor.self) (ideal_run c.turn.new.self) c.args.order.now
+    c.loop-actor.actor-index _ c.loop-actor-test.true c.loop-actor.invariant c.in_ok-turn.ensures
 
 pub returns : goal.returns
-returns c = c.loop-actor.invariant ∙ ap (turns (ideal_run c.args.self.now)) (take_all c.loop-actor.actor-index c.args.order.now c.loop-actor-test.false)
+returns c =
+    c.loop-actor.invariant
+    ∙ ap (turns (ideal_run c.args.self.now))
+    (take_all c.loop-actor.actor-index c.args.order.now c.loop-actor-test.false)
 
 pub turn-requires : goal.turn-requires
-turn-requires c = next_has_driver (ideal_run c.args.self.now) (ideal_run c.loop-actor.self) c.args.order.now c.loop-actor.actor-index _ c.requires c.loop-actor.invariant c.loop-actor-test.true
+turn-requires c =
+    next_has_driver (ideal_run c.args.self.now) (ideal_run c.loop-actor.self) c.args.order.now c.loop-actor.actor-index
+    _ c.requires c.loop-actor.invariant c.loop-actor-test.true

@@ -6,7 +6,11 @@ use Rattle.world_core.specs.World.{has_ended}
 use Rattle.world_core.proofs.world.World.end.Goals as goal
 
 pub returns-then-all_ended : goal.returns-then-all_ended
-returns-then-all_ended c = sym (ap (λ b. cond b Finished Stuck) (list_all-map has_ended ideal c.args.self.now.lanes.items ∙ (sym c.all_ended.ensures ∙ c.if-all_ended.true)))
+returns-then-all_ended c =
+    sym (ap (λ b. cond b Finished Stuck) (list_all-map has_ended ideal c.args.self.now.lanes.items
+    ∙ (sym c.all_ended.ensures ∙ c.if-all_ended.true)))
 
 pub returns-else-all_ended : goal.returns-else-all_ended
-returns-else-all_ended c = sym (ap (λ b. cond b Finished Stuck) (list_all-map has_ended ideal c.args.self.now.lanes.items ∙ (sym c.all_ended.ensures ∙ c.if-all_ended.false)))
+returns-else-all_ended c =
+    sym (ap (λ b. cond b Finished Stuck) (list_all-map has_ended ideal c.args.self.now.lanes.items
+    ∙ (sym c.all_ended.ensures ∙ c.if-all_ended.false)))

@@ -13,22 +13,29 @@ returns-clause-done c =
     let lanes = c.args.self.now.lanes.items in
     let i = c.args.actor.lane.0 in
     let world = ideal_world c.args.self.now in
-    let found = lane_found lanes i c.index_mut.result.now (omega (arith, c.requires, length-map lanes ideal)) c.index_mut.ensures.value in
+    let found =
+    lane_found lanes i c.index_mut.result.now
+    (omega (arith, c.requires, length-map lanes ideal)) c.index_mut.ensures.value in
     IfOk-weaker c.turn.result _ _
-    (λ turn done. ap (λ ls. record { world = record world { lanes = ls }; turn = turn }) (map-set ideal lanes i c.turn.new.self) ∙ took world c.args.actor _ (ideal c.turn.new.self) turn found done)
+    (λ turn done. ap (λ ls. record { world = record world { lanes = ls }; turn = turn })
+    (map-set ideal lanes i c.turn.new.self) ∙ took world c.args.actor _ (ideal c.turn.new.self) turn found done)
     c.turn.ensures.done
 
 pub returns-clause-err : goal.returns-clause-err
 returns-clause-err c =
     let lanes = c.args.self.now.lanes.items in
     let i = c.args.actor.lane.0 in
-    let found = lane_found lanes i c.index_mut.result.now (omega (arith, c.requires, length-map lanes ideal)) c.index_mut.ensures.value in
+    let found =
+    lane_found lanes i c.index_mut.result.now
+    (omega (arith, c.requires, length-map lanes ideal)) c.index_mut.ensures.value in
     on_err_weaker c.turn.result
-    (λ same. ap (λ ls. record (ideal_world c.args.self.now) { lanes = ls }) (map-set ideal lanes i c.turn.new.self ∙ set_same (map ideal lanes) i _ _ found same.ideal))
+    (λ same. ap (λ ls. record (ideal_world c.args.self.now) { lanes = ls }) (map-set ideal lanes i c.turn.new.self
+    ∙ set_same (map ideal lanes) i _ _ found same.ideal))
     c.turn.ensures.err
 
 pub returns-clause-err_wires : goal.returns-clause-err_wires
 returns-clause-err_wires c =
     on_err_weaker c.turn.result
-    (λ same. map-set_same wire_of c.args.self.now.lanes.items c.args.actor.lane.0 c.turn.new.self c.index_mut.result.now (same.wire ∙ ap wire_of c.index_mut.ensures.value))
+    (λ same. map-set_same wire_of c.args.self.now.lanes.items c.args.actor.lane.0 c.turn.new.self
+    c.index_mut.result.now (same.wire ∙ ap wire_of c.index_mut.ensures.value))
     c.turn.ensures.err
