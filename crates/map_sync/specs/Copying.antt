@@ -3,9 +3,9 @@ use Rattle.std.specs.Prelude.{◌≡◌, ℕ, ◌-◌, List, [], ◌∷◌, take
 use Rattle.busdma_base.specs.Machine.Page.{FrameBytes}
 use Rattle.busdma_base.specs.Machine.Wire.{Wire, put, with_bytes_of}
 
--- the addresses of a list at the places from `from` up to `to`
-abbrev pub part : ℕ → ℕ → List ℕ → List ℕ
-part from to addresses = take (to - from) (drop from addresses)
+-- the elements of a list at the places from `from` up to `to`
+abbrev pub part : {A : Type 0} → ℕ → ℕ → List A → List A
+part from to xs = take (to - from) (drop from xs)
 
 -- a page has these bytes at these addresses now, and no other byte of it changed
 abbrev pub IsWritten : FrameBytes → FrameBytes → List ℕ → List ℕ → Type 0

@@ -1,3 +1,4 @@
 pub mod Copying
 pub mod Held
 pub mod Ranges
+pub mod Traces

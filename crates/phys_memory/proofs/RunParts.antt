@@ -22,7 +22,7 @@ take_run (suc k) a (suc n) =
     ap (λ xs. a ∷ xs) (take_run k (a + 1) n) ∙ ap (run_of a) e
 
 -- the first elements of two lists, and the others
-pub take_append : (n : ℕ) (xs ys : List ℕ) → take n (xs ++ ys) ≡ take n xs ++ take (n - length xs) ys
+pub take_append : {A : Type 0} (n : ℕ) (xs ys : List A) → take n (xs ++ ys) ≡ take n xs ++ take (n - length xs) ys
 take_append n [] ys = nothing n ∙ (let e : n ≡ n - 0 = omega arith in ap (λ k. take n [] ++ take k ys) e)
   where
     nothing : (k : ℕ) → take n ys ≡ take k [] ++ take n ys
@@ -33,7 +33,7 @@ take_append (suc n) (x ∷ xs) ys =
     let e : n - length xs ≡ suc n - suc (length xs) = omega arith in
     ap (λ zs. x ∷ zs) (take_append n xs ys ∙ ap (λ k. take n xs ++ take k ys) e)
 
-pub drop_append : (n : ℕ) (xs ys : List ℕ) → drop n (xs ++ ys) ≡ drop n xs ++ drop (n - length xs) ys
+pub drop_append : {A : Type 0} (n : ℕ) (xs ys : List A) → drop n (xs ++ ys) ≡ drop n xs ++ drop (n - length xs) ys
 drop_append n [] ys = nothing n ∙ (let e : n ≡ n - 0 = omega arith in ap (λ k. drop n [] ++ drop k ys) e)
   where
     nothing : (k : ℕ) → drop n ys ≡ drop k [] ++ drop n ys

@@ -1,0 +1,5 @@
+use Rattle.map_sync.proofs.Traced.{ranges_alike}
+use Rattle.map_sync.proofs.laws.ranges_copy_alike.Goals as goal
+
+pub returns : goal.returns
+returns c = ranges_alike

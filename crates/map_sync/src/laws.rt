@@ -1,0 +1,9 @@
+//! A law of the copies.
+
+ghost use Rattle.map_sync.specs.Traces.{EachRangeCopiesAlike};
+
+/// Where a load's trace has the positions of its chunks, a copy of a range of the chunks is one of
+/// that range of the trace.
+pub fn ranges_copy_alike()
+    ensures { EachRangeCopiesAlike }
+{}
