@@ -5,13 +5,20 @@ use Rattle.std.specs.Ordering.{nat_cmp}
 use Rattle.std.specs.Cmp.{nat_cmp_total, unsigned_tied}
 use Rattle.std.specs.FinMap.{FinMap, get, insert, get-insert, contains_key}
 use Rattle.std.proofs.lemmas.Map.Views.{exact_unsigned_eq}
+use Rattle.loan_table.specs.Loans.{Loans}
 use Rattle.loan_table.specs.Table.{AreIn, set_all}
 use Rattle.lane_core.specs.IdealMemory.{IdealMemory, Known, Unknown, forgotten, written, written_at}
+use Rattle.lane_core.specs.Lane.{LaneState}
 use Rattle.busdma_base.specs.Machine.Wire.{put}
 
 -- the ideal memory of marks and of a byte at each address
 abbrev pub shown : FinMap nat_cmp Bool → (ℕ → ℕ) → IdealMemory
 shown marks w a = cond (unwrap_or (get marks a) false) (Known (w a)) Unknown
+
+-- marks and loans that are as they were leave the ideal state as it was
+pub same_ideal : (l : LaneState) (marks more : FinMap nat_cmp Bool) (w : ℕ → ℕ) (loans these : Loans) → more ≡ marks → these ≡ loans
+    → record l { memory = shown more w; loans = these } ≡ record l { memory = shown marks w; loans = loans }
+same_ideal l marks more w loans these p q = λ i. record l { memory = shown (p i) w; loans = q i }
 
 get-put : {X : Type 0} (m : FinMap nat_cmp X) (k : ℕ) (v : X) (q : ℕ) → get (insert m k v) q ≡ cond (q == k) (Some v) (get m q)
 get-put m k v q = get-insert nat_cmp_total m k v q ∙ ap (λ b. cond b (Some v) (get m q)) (unsigned_tied q k)

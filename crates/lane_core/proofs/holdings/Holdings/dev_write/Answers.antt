@@ -4,7 +4,7 @@ use Rattle.loan_table.specs.Table.{buffer_of}
 use Rattle.loan_table.proofs.Marking.{AreIn-range}
 use Rattle.lane_core.specs.Accesses.{load_bytes}
 use Rattle.lane_core.specs.Ideal.{ideal_of}
-use Rattle.lane_core.proofs.Held.{shown}
+use Rattle.lane_core.proofs.Held.{shown, same_ideal}
 use Rattle.lane_core.proofs.Outcomes.{dev_write_done, write_done, covered_written, range_size}
 use Rattle.busdma_base.specs.Machine.Wire.{put}
 use Rattle.lane_core.proofs.Unbounced.{unbounced_buses}
@@ -37,3 +37,12 @@ returns-clause-wire c =
     let w = wire c.args.self.now.memory.memory in
     (rw c.reserve_extents.ensures.same.loans at c.write_load.ensures.wire)
     ∙ ap (λ ks. put ks c.args.bytes.now w) (sym (unbounced_buses c.args.self.now.loans.loans c.args.map.made_at c.args.off (length c.args.bytes.now)))
+
+pub returns-in_err-reserve_extents-clause-err : goal.returns-in_err-reserve_extents-clause-err
+returns-in_err-reserve_extents-clause-err c =
+    let h = c.args.self.now in
+    let same = c.reserve_extents.ensures.same in
+    record {
+      ideal = same_ideal (ideal_of h) h.loans.bytes c.reserve_extents.new.loans.bytes (wire h.memory.memory) h.loans.loans c.reserve_extents.new.loans.loans same.bytes same.loans;
+      wire = refl;
+    }

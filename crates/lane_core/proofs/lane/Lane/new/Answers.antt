@@ -3,13 +3,12 @@ use Rattle.std.specs.Ordering.{nat_cmp}
 use Rattle.std.specs.FinMap.{contains_key, get-empty}
 use Rattle.lane_tables.specs.Queues.{item_count}
 use Rattle.lane_core.specs.Covered.{items_left}
-use Rattle.lane_core.specs.OpeningMemory.{IsOpeningMemory}
 use Rattle.lane_core.proofs.OwnRuns.{AreKnown}
 use Rattle.lane_core.proofs.OpeningLane.{held_zeros}
 use Rattle.lane_core.proofs.lane.Lane.new.Goals as goal
 
-pub invariant_of-result-3 : goal.invariant_of-result-3
-invariant_of-result-3 c =
+pub invariant_of-result-2 : goal.invariant_of-result-2
+invariant_of-result-2 c =
     let agenda = c.in_ok-new-3.ensures in
     let script = c.as_slice-script.ensures in
     let left : items_left c.in_ok-new-3.field-0.place c.as_slice-script.result.now ≡ c.in_ok-new-3.field-0.room =
@@ -24,7 +23,7 @@ invariant_of-result-3 c =
 pub returns : goal.returns
 returns c =
     let agenda = c.in_ok-new-3.ensures in
-    let memory = subst (λ m. IsOpeningMemory c.args.driver.now.pages m.memory) (sym c.memory.view_is) c.requires.memory in
+    let memory = c.requires.memory in
     let known = subst (λ pages. AreKnown pages c.in_ok-opening_loans.field-0.bytes) c.as_slice.ensures c.in_ok-opening_loans.ensures.bytes in
     let held = held_zeros c.args.driver.now.pages c.in_ok-opening_loans.field-0 _ known memory in
     (λ i. record {
