@@ -11,9 +11,11 @@ use Rattle.lane_core.specs.Actors.{IsOwn}
 use Rattle.lane_core.specs.Step.{stays, stepped, advanced, script_turn, transfer_turn, lane_step, waits, operation}
 use Rattle.lane_core.proofs.Moves.{operation_moves, transfer_moves}
 
-step_own : (l : LaneState) (o : Op) (b : Bool) → IsOwn l side.Script (cond b (stays Blocked l) (stepped side.Script (did.Op l.place) (advanced (operation o l))))
+step_own : (l : LaneState) (o : Op) (b : Bool) →
+    IsOwn l side.Script (cond b (stays Blocked l) (stepped side.Script (did.Op l.place) (advanced (operation o l))))
 step_own l o true = record { id = refl; actor = tt }
-step_own l o false = let m = operation_moves o l in record { id = m.id; actor = ap (λ i. record { lane = record { 0 = i }; side = side.Script }) m.id }
+step_own l o false = let m = operation_moves o l in
+    record { id = m.id; actor = ap (λ i. record { lane = record { 0 = i }; side = side.Script }) m.id }
 
 script_own : (l : LaneState) (o : Option Op) → IsOwn l side.Script (script_turn o l)
 script_own l None = record { id = refl; actor = tt }
@@ -21,7 +23,8 @@ script_own l (Some o) = step_own l o (waits o l)
 
 transfer_own : (l : LaneState) (queue : List QueuedItem) → IsOwn l side.Transfer (transfer_turn queue l)
 transfer_own l [] = record { id = refl; actor = tt }
-transfer_own l (q ∷ rest) = let m = transfer_moves q.item l in record { id = m.id; actor = ap (λ i. record { lane = record { 0 = i }; side = side.Transfer }) m.id }
+transfer_own l (q ∷ rest) = let m = transfer_moves q.item l in
+    record { id = m.id; actor = ap (λ i. record { lane = record { 0 = i }; side = side.Transfer }) m.id }
 
 -- a turn keeps the driver's number, and the entry of its step names the driver and its side
 pub turn_own : (l : LaneState) (s : Side) → IsOwn l s (lane_step l s)

@@ -1,5 +1,6 @@
 -- The wire in which a driver opens, and that of a lane of which no byte is bounced.
-use Rattle.std.proofs.Common.{◌≡◌, ℕ, ◌+◌, ◌-◌, ◌*◌, Bool, true, false, cond, ◌&&◌, ◌||◌, nat_le, nat_lt, List, [], ◌∷◌, map, slice_get, option_map, Option, Some, None, refl, sym, ap, ◌∙◌, arith}
+use Rattle.std.proofs.Common.{◌≡◌, ℕ, ◌+◌, ◌-◌, ◌*◌, Bool, true, false, cond, ◌&&◌, ◌||◌, nat_le, nat_lt, List, []}
+use Rattle.std.proofs.Common.{◌∷◌, map, slice_get, option_map, Option, Some, None, refl, sym, ap, ◌∙◌, arith}
 use Rattle.std.proofs.lemmas.Bool.Decides.{nat_tests}
 use Rattle.std.proofs.lemmas.Option.{slice_get-map}
 use Rattle.std.specs.Ordering.{nat_cmp}
@@ -21,10 +22,12 @@ use Rattle.lane_core.proofs.Positions.{found_one}
 use Rattle.lane_core.proofs.Unbounced.{known_held}
 
 -- ---- a lane of which no byte is bounced
-same_bus : (o : Option Position) (p : Position) (t : Placed) → o ≡ Some p → option_map (λ (q : Position). record { pa = q.pa; bus = q.pa }) o ≡ Some t → t.bus ≡ p.pa
+same_bus : (o : Option Position) (p : Position) (t : Placed) → o ≡ Some p →
+    option_map (λ (q : Position). record { pa = q.pa; bus = q.pa }) o ≡ Some t → t.bus ≡ p.pa
 same_bus None p t h k = absurd (cc)
 same_bus (Some q) p t h k =
-    let e : record { pa = q.pa; bus = q.pa } ≡ t = found_one (Some (record { pa = q.pa; bus = q.pa })) (record { pa = q.pa; bus = q.pa }) t refl k in
+    let e : record { pa = q.pa; bus = q.pa } ≡ t =
+    found_one (Some (record { pa = q.pa; bus = q.pa })) (record { pa = q.pa; bus = q.pa }) t refl k in
     sym (ap (λ (x : Placed). x.bus) e) ∙ ap (λ (x : Position). x.pa) (found_one (Some q) q p refl h)
 
 pub agrees : (l : Lane) → LaneAgrees l
@@ -34,9 +37,13 @@ agrees l = record {
   kept = λ a v free is. known_held l.holdings.loans.bytes (wire_of l) a v is;
 }
   where
-    at : (m i : ℕ) (p : Position) (t : Placed) (v : ℕ) → IsAt (ideal l).loans m i p → slice_get (map (λ (q : Position). record { pa = q.pa; bus = q.pa }) (loan_of (ideal l).loans m).positions) i ≡ Some t → (ideal l).memory p.pa ≡ Known v → wire_of l t.bus ≡ v
+    at : (m i : ℕ) (p : Position) (t : Placed) (v : ℕ) → IsAt (ideal l).loans m i p →
+        slice_get (map (λ (q : Position). record { pa = q.pa; bus = q.pa }) (loan_of (ideal l).loans m).positions) i
+        ≡ Some t → (ideal l).memory p.pa ≡ Known v → wire_of l t.bus ≡ v
     at m i p t v h g is =
-        ap (wire_of l) (same_bus (slice_get (loan_of (ideal l).loans m).positions i) p t h (sym (slice_get-map (λ (q : Position). record { pa = q.pa; bus = q.pa }) (loan_of (ideal l).loans m).positions i) ∙ g))
+        ap (wire_of l) (same_bus (slice_get (loan_of (ideal l).loans m).positions i) p t h
+        (sym (slice_get-map (λ (q : Position). record { pa = q.pa; bus = q.pa })
+        (loan_of (ideal l).loans m).positions i) ∙ g))
         ∙ known_held l.holdings.loans.bytes (wire_of l) p.pa v is
 
 -- ---- the opening
@@ -44,10 +51,13 @@ none_loaded : (m : ℕ) → loan_of finmap.empty m ≡ no_loan
 none_loaded m = ap (λ o. unwrap_or o no_loan) (get-empty nat_cmp m)
 
 none_at : {A : Type 0} (m i : ℕ) (p : Position) → IsAt finmap.empty m i p → A
-none_at m i p h = let gone : slice_get [] i ≡ Some p = sym (λ x. slice_get (none_loaded m x).positions i) ∙ h in absurd (cc)
+none_at m i p h = let gone : slice_get [] i ≡ Some p =
+    sym (λ x. slice_get (none_loaded m x).positions i) ∙ h in absurd (cc)
 
 -- where a byte of a run lies
-within : (va first frame count : ℕ) → (nat_le first va && nat_lt va (first + 4096 * count)) ≡ true → (nat_le (4096 * frame) (4096 * frame + (va - first)) && nat_lt (4096 * frame + (va - first)) (4096 * (frame + count))) ≡ true
+within : (va first frame count : ℕ) → (nat_le first va && nat_lt va (first + 4096 * count)) ≡ true →
+    (nat_le (4096 * frame) (4096 * frame + (va - first))
+    && nat_lt (4096 * frame + (va - first)) (4096 * (frame + count))) ≡ true
 within va first frame count h = grind (arith, nat_tests)
 
 reached_own : (runs : List PageRun) (va pa : ℕ) → physical_in runs va ≡ Some pa → is_own runs pa ≡ true
@@ -58,10 +68,13 @@ reached_own (r ∷ runs) va pa h = by (is_in_run va r) refl (reached_own runs va
     or_true true b h = refl
     or_true false b h = h
 
-    by : (b : Bool) → is_in_run va r ≡ b → (physical_in runs va ≡ Some pa → is_own runs pa ≡ true) → cond b (Some (4096 * r.frame + (va - r.va.0))) (physical_in runs va) ≡ Some pa → is_own (r ∷ runs) pa ≡ true
+    by : (b : Bool) → is_in_run va r ≡ b → (physical_in runs va ≡ Some pa → is_own runs pa ≡ true) →
+        cond b (Some (4096 * r.frame + (va - r.va.0))) (physical_in runs va) ≡ Some pa → is_own (r ∷ runs) pa ≡ true
     by true e rest h =
-        let at : 4096 * r.frame + (va - r.va.0) ≡ pa = found_one (Some (4096 * r.frame + (va - r.va.0))) (4096 * r.frame + (va - r.va.0)) pa refl h in
-        ap (is_own (r ∷ runs)) (sym at) ∙ ap (λ b. b || is_own runs (4096 * r.frame + (va - r.va.0))) (within va r.va.0 r.frame r.count e)
+        let at : 4096 * r.frame + (va - r.va.0) ≡ pa =
+        found_one (Some (4096 * r.frame + (va - r.va.0))) (4096 * r.frame + (va - r.va.0)) pa refl h in
+        ap (is_own (r ∷ runs)) (sym at) ∙ ap (λ b. b || is_own runs (4096 * r.frame + (va - r.va.0)))
+        (within va r.va.0 r.frame r.count e)
     by false e rest h = or_true _ _ (rest h)
 
 known_own : (b : Bool) (v : ℕ) → cond b (Known 0) Unknown ≡ Known v → (b ≡ true) × (v ≡ 0)

@@ -1,5 +1,7 @@
 -- Who lends a byte.
-use Rattle.std.proofs.Common.{◌≡◌, ◌≢◌, ℕ, zero, suc, ◌+◌, ◌<◌, ◌≤◌, Bool, true, false, cond, not, ◌&&◌, ◌||◌, ◌==◌, List, [], ◌∷◌, slice_get, Option, Some, None, unwrap_or, refl, sym, ap, ◌∙◌, eq-eqb, arith}
+use Rattle.std.proofs.Common.{◌≡◌, ◌≢◌, ℕ, zero, suc, ◌+◌, ◌<◌, ◌≤◌, Bool, true, false, cond, not, ◌&&◌, ◌||◌, ◌==◌}
+use Rattle.std.proofs.Common.{List, [], ◌∷◌, slice_get, Option, Some, None, unwrap_or, refl, sym, ap, ◌∙◌, eq-eqb}
+use Rattle.std.proofs.Common.{arith}
 use Rattle.std.proofs.lemmas.Bool.{ne_eqb, lt-ltb}
 use Rattle.std.proofs.lemmas.List.Sums.{sum_by-cons}
 use Rattle.std.proofs.lemmas.Map.Views.{exact_unsigned_eq}
@@ -31,7 +33,8 @@ T_parts : (a b : Bool) → T (a && b) → T a × T b
 T_parts true b h = (tt, h)
 T_parts false b h = absurd h
 
-pub any_at : {X : Type 0} (test : X → Bool) (xs : List X) (i : ℕ) (x : X) → slice_get xs i ≡ Some x → test x ≡ true → list_any test xs ≡ true
+pub any_at : {X : Type 0} (test : X → Bool) (xs : List X) (i : ℕ) (x : X) →
+    slice_get xs i ≡ Some x → test x ≡ true → list_any test xs ≡ true
 any_at test [] i x h k = absurd (cc)
 any_at test (y ∷ xs) zero x h k = ap (λ b. b || list_any test xs) (ap test (found_one (Some y) y x refl h) ∙ k)
 any_at test (y ∷ xs) (suc i) x h k = or_true (test y) _ (any_at test xs i x h k)
@@ -46,16 +49,20 @@ pub any_found : {X : Type 0} (test : X → Bool) (xs : List X) → list_any test
 any_found test [] h = absurd (cc)
 any_found test (y ∷ xs) h = by (test y) refl (any_found test xs) h
   where
-    by : (b : Bool) → test y ≡ b → (list_any test xs ≡ true → Passing test xs) → (b || list_any test xs) ≡ true → Passing test (y ∷ xs)
+    by : (b : Bool) → test y ≡ b → (list_any test xs ≡ true → Passing test xs) →
+        (b || list_any test xs) ≡ true → Passing test (y ∷ xs)
     by true e rest h = record { place = 0; item = y; found = refl; passes = e }
-    by false e rest h = let r = rest h in record { place = suc r.place; item = r.item; found = r.found; passes = r.passes }
+    by false e rest h = let r =
+        rest h in record { place = suc r.place; item = r.item; found = r.found; passes = r.passes }
 
 -- ---- loans among their entries
-find_any : (test : ℕ × Loan → Bool) (es : List (ℕ × Loan)) (m : ℕ) (loan : Loan) → find nat_cmp m es ≡ Some loan → test (m, loan) ≡ true → list_any test es ≡ true
+find_any : (test : ℕ × Loan → Bool) (es : List (ℕ × Loan)) (m : ℕ) (loan : Loan) → find nat_cmp m es ≡ Some loan →
+    test (m, loan) ≡ true → list_any test es ≡ true
 find_any test [] m loan h k = absurd (cc)
 find_any test (e ∷ es) m loan h k = by (eq_by_cmp nat_cmp m e.0) refl (λ q. find_any test es m loan q k) h
   where
-    by : (b : Bool) → eq_by_cmp nat_cmp m e.0 ≡ b → (find nat_cmp m es ≡ Some loan → list_any test es ≡ true) → cond b (Some e.1) (find nat_cmp m es) ≡ Some loan → (test e || list_any test es) ≡ true
+    by : (b : Bool) → eq_by_cmp nat_cmp m e.0 ≡ b → (find nat_cmp m es ≡ Some loan → list_any test es ≡ true) →
+        cond b (Some e.1) (find nat_cmp m es) ≡ Some loan → (test e || list_any test es) ≡ true
     by true t rest h =
         let key : m ≡ e.0 = exact_unsigned_eq m e.0 (sym (unsigned_tied m e.0) ∙ t) in
         let value : loan ≡ e.1 = found_one (Some e.1) loan e.1 h refl in
@@ -73,22 +80,26 @@ rises Less A B C h t = h
 rises Equal A B C h t = absurd t
 rises Greater A B C h t = absurd t
 
-above : (x : ℕ) (es : List (ℕ × Loan)) (m : ℕ) (loan : Loan) → T (below_all nat_cmp x es) → find nat_cmp m es ≡ Some loan → x < m
+above : (x : ℕ) (es : List (ℕ × Loan)) (m : ℕ) (loan : Loan) →
+    T (below_all nat_cmp x es) → find nat_cmp m es ≡ Some loan → x < m
 above x [] m loan h k = absurd (cc)
 above x (e ∷ es) m loan h k = by (eq_by_cmp nat_cmp m e.0) refl (above x es m loan (T_parts _ _ h).1) k
   where
-    by : (b : Bool) → eq_by_cmp nat_cmp m e.0 ≡ b → (find nat_cmp m es ≡ Some loan → x < m) → cond b (Some e.1) (find nat_cmp m es) ≡ Some loan → x < m
+    by : (b : Bool) → eq_by_cmp nat_cmp m e.0 ≡ b → (find nat_cmp m es ≡ Some loan → x < m) →
+        cond b (Some e.1) (find nat_cmp m es) ≡ Some loan → x < m
     by true t rest k =
         let key : m ≡ e.0 = exact_unsigned_eq m e.0 (sym (unsigned_tied m e.0) ∙ t) in
         let lt : x < e.0 = rises (nat_cmp x e.0) _ _ _ (ranks x e.0) (T_parts _ _ h).0 in
         omega (arith, key, lt)
     by false t rest k = rest k
 
-any_entry : (test : ℕ × Loan → Bool) (es : List (ℕ × Loan)) → T (is_sorted nat_cmp es) → list_any test es ≡ true → Entry test es
+any_entry : (test : ℕ × Loan → Bool) (es : List (ℕ × Loan)) →
+    T (is_sorted nat_cmp es) → list_any test es ≡ true → Entry test es
 any_entry test [] s h = absurd (cc)
 any_entry test (e ∷ es) s h = by (test e) refl (any_entry test es (T_parts _ _ s).1) h
   where
-    by : (b : Bool) → test e ≡ b → (list_any test es ≡ true → Entry test es) → (b || list_any test es) ≡ true → Entry test (e ∷ es)
+    by : (b : Bool) → test e ≡ b → (list_any test es ≡ true → Entry test es) →
+        (b || list_any test es) ≡ true → Entry test (e ∷ es)
     by true t rest h = record {
       key = e.0;
       loan = e.1;
@@ -102,7 +113,8 @@ any_entry test (e ∷ es) s h = by (test e) refl (any_entry test es (T_parts _ _
         record {
           key = r.key;
           loan = r.loan;
-          found = ap (λ b. cond b (Some e.1) (find nat_cmp r.key es)) (unsigned_tied r.key e.0 ∙ ne_eqb r.key e.0 ne) ∙ r.found;
+          found = ap (λ b. cond b (Some e.1) (find nat_cmp r.key es)) (unsigned_tied r.key e.0 ∙ ne_eqb r.key e.0 ne)
+              ∙ r.found;
           passes = r.passes;
         }
 
@@ -110,23 +122,30 @@ any_entry test (e ∷ es) s h = by (test e) refl (any_entry test es (T_parts _ _
 pub loaded_at : (loans : Loans) (m i : ℕ) (p : Position) → IsAt loans m i p → get loans m ≡ Some (loan_of loans m)
 loaded_at loans m i p h = by (get loans m) refl h
   where
-    by : (o : Option Loan) → get loans m ≡ o → slice_get (unwrap_or o no_loan).positions i ≡ Some p → o ≡ Some (unwrap_or o no_loan)
+    by : (o : Option Loan) → get loans m ≡ o →
+        slice_get (unwrap_or o no_loan).positions i ≡ Some p → o ≡ Some (unwrap_or o no_loan)
     by None e h = absurd (cc)
     by (Some loan) e h = refl
 
-lends_at : (way : Position → Bool) (a : ℕ) (loan : Loan) (i : ℕ) (p : Position) → slice_get loan.positions i ≡ Some p → p.pa ≡ a → way p ≡ true → lends way a loan ≡ true
-lends_at way a loan i p h e k = any_at (λ q. is_at a q && way q) loan.positions i p h (both (p.pa == a) (way p) (eq-eqb p.pa a e) k)
+lends_at : (way : Position → Bool) (a : ℕ) (loan : Loan) (i : ℕ) (p : Position) → slice_get loan.positions i ≡ Some p →
+    p.pa ≡ a → way p ≡ true → lends way a loan ≡ true
+lends_at way a loan i p h e k =
+    any_at (λ q. is_at a q && way q) loan.positions i p h (both (p.pa == a) (way p) (eq-eqb p.pa a e) k)
 
 -- a position that lends a byte
-pub lent_by : (way : Position → Bool) (a : ℕ) (loans : Loans) (m i : ℕ) (p : Position) → IsAt loans m i p → p.pa ≡ a → way p ≡ true → lent way a loans ≡ true
+pub lent_by : (way : Position → Bool) (a : ℕ) (loans : Loans) (m i : ℕ) (p : Position) → IsAt loans m i p →
+    p.pa ≡ a → way p ≡ true → lent way a loans ≡ true
 lent_by way a loans m i p h e k =
-    find_any (λ x. lends way a x.1) (entries loans) m (loan_of loans m) (sym (get-entries loans m) ∙ loaded_at loans m i p h)
+    find_any (λ x. lends way a x.1) (entries loans) m (loan_of loans m)
+    (sym (get-entries loans m) ∙ loaded_at loans m i p h)
     (lends_at way a (loan_of loans m) i p h e k)
 
 -- and one of another map
-pub lent_by_another : (way : Position → Bool) (a : ℕ) (loans : Loans) (m n i : ℕ) (p : Position) → n ≢ m → IsAt loans n i p → p.pa ≡ a → way p ≡ true → lent_elsewhere way m a loans ≡ true
+pub lent_by_another : (way : Position → Bool) (a : ℕ) (loans : Loans) (m n i : ℕ) (p : Position) → n ≢ m →
+    IsAt loans n i p → p.pa ≡ a → way p ≡ true → lent_elsewhere way m a loans ≡ true
 lent_by_another way a loans m n i p ne h e k =
-    find_any (λ x. not (x.0 == m) && lends way a x.1) (entries loans) n (loan_of loans n) (sym (get-entries loans n) ∙ loaded_at loans n i p h)
+    find_any (λ x. not (x.0 == m) && lends way a x.1) (entries loans) n (loan_of loans n)
+    (sym (get-entries loans n) ∙ loaded_at loans n i p h)
     (both _ _ (ap not (ne_eqb n m ne)) (lends_at way a (loan_of loans n) i p h e k))
 
 pub record Lender (way : Position → Bool) (a : ℕ) (loans : Loans) : Type 0 where
@@ -154,24 +173,34 @@ lender_of way a loans h =
     }
 
 -- ---- a byte that stands twice
-counted : {X : Type 0} (test : X → Bool) (y : X) (xs : List X) (b : Bool) → test y ≡ b → count_by test (y ∷ xs) ≡ cond b 1 0 + count_by test xs
+counted : {X : Type 0} (test : X → Bool) (y : X) (xs : List X) (b : Bool) → test y ≡ b →
+    count_by test (y ∷ xs) ≡ cond b 1 0 + count_by test xs
 counted test y xs b e = sum_by-cons (λ x. cond (test x) 1 0) y xs ∙ ap (λ c. cond c 1 0 + count_by test xs) e
 
-counted_one : {X : Type 0} (test : X → Bool) (xs : List X) (i : ℕ) (x : X) → slice_get xs i ≡ Some x → test x ≡ true → 1 ≤ count_by test xs
+counted_one : {X : Type 0} (test : X → Bool) (xs : List X) (i : ℕ) (x : X) →
+    slice_get xs i ≡ Some x → test x ≡ true → 1 ≤ count_by test xs
 counted_one test [] i x h k = absurd (cc)
-counted_one test (y ∷ xs) zero x h k = let c = counted test y xs true (ap test (found_one (Some y) y x refl h) ∙ k) in omega (arith, c)
-counted_one test (y ∷ xs) (suc i) x h k = let c = counted test y xs (test y) refl in let r = counted_one test xs i x h k in omega (arith, c, r)
+counted_one test (y ∷ xs) zero x h k = let c =
+    counted test y xs true (ap test (found_one (Some y) y x refl h) ∙ k) in omega (arith, c)
+counted_one test (y ∷ xs) (suc i) x h k = let c = counted test y xs (test y) refl in let r =
+    counted_one test xs i x h k in omega (arith, c, r)
 
-counted_two : {X : Type 0} (test : X → Bool) (xs : List X) (i j : ℕ) (x y : X) → slice_get xs i ≡ Some x → slice_get xs j ≡ Some y → test x ≡ true → test y ≡ true → i ≢ j → 2 ≤ count_by test xs
+counted_two : {X : Type 0} (test : X → Bool) (xs : List X) (i j : ℕ) (x y : X) → slice_get xs i ≡ Some x →
+    slice_get xs j ≡ Some y → test x ≡ true → test y ≡ true → i ≢ j → 2 ≤ count_by test xs
 counted_two test [] i j x y h k p q ne = absurd (cc)
 counted_two test (z ∷ xs) zero zero x y h k p q ne = absurd (ne refl)
 counted_two test (z ∷ xs) zero (suc j) x y h k p q ne =
-    let c = counted test z xs true (ap test (found_one (Some z) z x refl h) ∙ p) in let r = counted_one test xs j y k q in omega (arith, c, r)
+    let c = counted test z xs true (ap test (found_one (Some z) z x refl h) ∙ p) in let r =
+    counted_one test xs j y k q in omega (arith, c, r)
 counted_two test (z ∷ xs) (suc i) zero x y h k p q ne =
-    let c = counted test z xs true (ap test (found_one (Some z) z y refl k) ∙ q) in let r = counted_one test xs i x h p in omega (arith, c, r)
+    let c = counted test z xs true (ap test (found_one (Some z) z y refl k) ∙ q) in let r =
+    counted_one test xs i x h p in omega (arith, c, r)
 counted_two test (z ∷ xs) (suc i) (suc j) x y h k p q ne =
-    let c = counted test z xs (test z) refl in let r = counted_two test xs i j x y h k p q (λ e. ne (ap suc e)) in omega (arith, c, r)
+    let c = counted test z xs (test z) refl in let r =
+    counted_two test xs i j x y h k p q (λ e. ne (ap suc e)) in omega (arith, c, r)
 
-pub standing_twice : (a : ℕ) (loan : Loan) (i j : ℕ) (p q : Position) → slice_get loan.positions i ≡ Some p → slice_get loan.positions j ≡ Some q → p.pa ≡ a → q.pa ≡ a → i ≢ j → stands_twice a loan ≡ true
+pub standing_twice : (a : ℕ) (loan : Loan) (i j : ℕ) (p q : Position) → slice_get loan.positions i ≡ Some p →
+    slice_get loan.positions j ≡ Some q → p.pa ≡ a → q.pa ≡ a → i ≢ j → stands_twice a loan ≡ true
 standing_twice a loan i j p q h k e f ne =
-    lt-ltb 1 (count_by (is_at a) loan.positions) (counted_two (is_at a) loan.positions i j p q h k (eq-eqb p.pa a e) (eq-eqb q.pa a f) ne)
+    lt-ltb 1 (count_by (is_at a) loan.positions)
+    (counted_two (is_at a) loan.positions i j p q h k (eq-eqb p.pa a e) (eq-eqb q.pa a f) ne)

@@ -10,12 +10,15 @@ use Rattle.lane_core.specs.OpeningMemory.{IsOpeningMemory}
 use Rattle.lane_core.proofs.OwnRuns.{AreKnown}
 
 -- every byte of the pages is marked and 0, and no other is marked
-pub held_zeros : (pages : List PageRun) (t : Table) (m : Memory) → AreKnown pages t.bytes → IsOpeningMemory pages m → held t m ≡ zeros pages
+pub held_zeros : (pages : List PageRun) (t : Table) (m : Memory) → AreKnown pages t.bytes →
+    IsOpeningMemory pages m → held t m ≡ zeros pages
 held_zeros pages t m known opening = λ i a. (at a) i
   where
-    shown_at : (b : Bool) (x : ℕ) → (b ≡ true → x ≡ 0) → cond (unwrap_or (cond b (Some true) None) false) (Known x) Unknown ≡ cond b (Known 0) Unknown
+    shown_at : (b : Bool) (x : ℕ) → (b ≡ true → x ≡ 0) →
+        cond (unwrap_or (cond b (Some true) None) false) (Known x) Unknown ≡ cond b (Known 0) Unknown
     shown_at true x h = ap Known (h refl)
     shown_at false x h = refl
 
     at : (a : ℕ) → held t m a ≡ zeros pages a
-    at a = ap (λ o. cond (unwrap_or o false) (Known (wire m a)) Unknown) (known a) ∙ shown_at (is_own pages a) (wire m a) (opening.zero a)
+    at a = ap (λ o. cond (unwrap_or o false) (Known (wire m a)) Unknown) (known a)
+        ∙ shown_at (is_own pages a) (wire m a) (opening.zero a)

@@ -11,9 +11,11 @@ over false x z = refl
 
 pub reput : {X : Type 0} (m : FinMap nat_cmp X) (k : ℕ) (v : X) → insert (remove m k) k v ≡ insert m k v
 reput m k v = same_map nat_cmp_total exact_unsigned (insert (remove m k) k v) (insert m k v) (λ q.
-    get-insert nat_cmp_total (remove m k) k v q ∙ ap (cond (eq_by_cmp nat_cmp q k) (Some v)) (get-remove nat_cmp_total m k q)
+    get-insert nat_cmp_total (remove m k) k v q
+    ∙ ap (cond (eq_by_cmp nat_cmp q k) (Some v)) (get-remove nat_cmp_total m k q)
     ∙ over (eq_by_cmp nat_cmp q k) (Some v) (get m q) ∙ sym (get-insert nat_cmp_total m k v q))
 
 -- what was removed is gone
 pub get_removed : {X : Type 0} (m : FinMap nat_cmp X) (k : ℕ) → get (remove m k) k ≡ None
-get_removed m k = get-remove nat_cmp_total m k k ∙ ap (λ b. cond b None (get m k)) ((eq_by_cmp_equiv nat_cmp_total).refl k)
+get_removed m k =
+    get-remove nat_cmp_total m k k ∙ ap (λ b. cond b None (get m k)) ((eq_by_cmp_equiv nat_cmp_total).refl k)

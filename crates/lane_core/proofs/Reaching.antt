@@ -17,19 +17,24 @@ use Rattle.lane_core.proofs.Covering.{lie_in}
 use Rattle.lane_core.proofs.Wires.{byte_count_addresses}
 
 -- they have bytes of the lane's table alone
-pub reach_inside : {E : Type 0} (m : Memory) (bytes : FinMap nat_cmp Bool) (r : Result Walked E) → IsCovered m bytes → IfOk r (λ w. IfParts w (AllByRecursion IsExtent)) → IfOk r (λ w. IfParts w (AllByRecursion (LiesIn m)))
+pub reach_inside : {E : Type 0} (m : Memory) (bytes : FinMap nat_cmp Bool) (r : Result Walked E) → IsCovered m bytes →
+    IfOk r (λ w. IfParts w (AllByRecursion IsExtent)) → IfOk r (λ w. IfParts w (AllByRecursion (LiesIn m)))
     → IfOk r (λ w. IfParts w (λ es. AreIn bytes (addresses es)))
 reach_inside m bytes (Ok (Parts es)) c h k = lie_in m bytes es c h k
 reach_inside m bytes (Ok (Unmapped at)) c h k = tt
 reach_inside m bytes (Err e) c h k = tt
 
 -- they have as many bytes
-pub reach_len : {E : Type 0} (f : ℕ → ℕ) (va len : ℕ) (r : Result Walked E) → IfOk r (λ w. IfParts w (λ es. addresses es ≡ map f (run_of va len))) → IfOk r (λ w. IfParts w (λ es. length (addresses es) ≡ len))
+pub reach_len : {E : Type 0} (f : ℕ → ℕ) (va len : ℕ) (r : Result Walked E) →
+    IfOk r (λ w. IfParts w (λ es. addresses es ≡ map f (run_of va len))) →
+    IfOk r (λ w. IfParts w (λ es. length (addresses es) ≡ len))
 reach_len f va len (Ok (Parts es)) h = ap length h ∙ length-map (run_of va len) f ∙ length-run_of va len
 reach_len f va len (Ok (Unmapped at)) h = tt
 reach_len f va len (Err e) h = tt
 
-pub reach_total : {E : Type 0} (len : ℕ) (r : Result Walked E) → len < 2 ^ 64 → IfOk r (λ w. IfParts w (λ es. length (addresses es) ≡ len)) → IfOk r (λ w. IfParts w (λ es. byte_count es < 2 ^ 64))
+pub reach_total : {E : Type 0} (len : ℕ) (r : Result Walked E) → len < 2 ^ 64 →
+    IfOk r (λ w. IfParts w (λ es. length (addresses es) ≡ len)) →
+    IfOk r (λ w. IfParts w (λ es. byte_count es < 2 ^ 64))
 reach_total len (Ok (Parts es)) b h = omega (arith, b, byte_count_addresses es, h)
 reach_total len (Ok (Unmapped at)) b h = tt
 reach_total len (Err e) b h = tt

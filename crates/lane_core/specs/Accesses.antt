@@ -6,7 +6,8 @@ use Rattle.loan_table.specs.Loans.{loan_of, addresses_of}
 use Rattle.loan_table.specs.Lending.{range_of}
 use Rattle.loan_table.specs.Access.{cpu_read_answer, cpu_write_answer, dev_read_answer, dev_write_answer}
 use Rattle.lane_core.specs.IdealMemory.{is_known, value, written}
-use Rattle.lane_core.specs.Lane.{LaneState, Outcome, gives, unless_refused, unless_unloaded, unless_past, reached, bytes_at}
+use Rattle.lane_core.specs.Lane.{LaneState, Outcome, gives, unless_refused, unless_unloaded, unless_past, reached}
+use Rattle.lane_core.specs.Lane.{bytes_at}
 
 -- the values of bytes
 abbrev pub values : LaneState → List ℕ → List ℕ

@@ -20,15 +20,20 @@ use Rattle.lane_core.specs.Maps as maps
 
 -- of each faithful wire
 abbrev pub OfEachWire : ((own : ℕ → Bool) → LaneState → Traces → Wire → Type 0) → Type 0
-OfEachWire Law = (own : ℕ → Bool) (l : LaneState) (traces : Traces) (w : Wire) → IsFaithful own l traces w → Law own l traces w
+OfEachWire Law =
+    (own : ℕ → Bool) (l : LaneState) (traces : Traces) (w : Wire) → IsFaithful own l traces w → Law own l traces w
 
 -- the driver reads what the ideal memory has
 abbrev pub CpuReadIsFaithful : Type 0
-CpuReadIsFaithful = OfEachWire (λ own l traces w. (place : Place) (len : ℕ) → Reads (accesses.cpu_read place len l).answer (bytes_at l place len) w)
+CpuReadIsFaithful =
+    OfEachWire (λ own l traces w. (place : Place) (len : ℕ) →
+    Reads (accesses.cpu_read place len l).answer (bytes_at l place len) w)
 
 -- the device reads at the bus addresses what the ideal memory has
 abbrev pub DevReadIsFaithful : Type 0
-DevReadIsFaithful = OfEachWire (λ own l traces w. (m off len : ℕ) → Reads (accesses.dev_read m off len l).answer (buses (stretch off len (traces m))) w)
+DevReadIsFaithful =
+    OfEachWire (λ own l traces w. (m off len : ℕ) →
+    Reads (accesses.dev_read m off len l).answer (buses (stretch off len (traces m))) w)
 
 -- a write by the driver
 abbrev pub CpuWriteStaysFaithful : Type 0
@@ -48,12 +53,16 @@ SyncStaysFaithful = OfEachWire (λ own l traces w. (m ops : ℕ) →
 -- a sync of a range
 abbrev pub SyncRangeStaysFaithful : Type 0
 SyncRangeStaysFaithful = OfEachWire (λ own l traces w. (m off len ops : ℕ) →
-    let o = syncs.sync_range m off len ops l in IsFaithful own o.lane traces (wire.sync_range o.answer m off len ops l traces w))
+    let o = syncs.sync_range m off len ops l in
+    IsFaithful own o.lane traces (wire.sync_range o.answer m off len ops l traces w))
 
 -- a load, whose pages come with any bytes
 abbrev pub LoadStaysFaithful : Type 0
-LoadStaysFaithful = OfEachWire (λ own l traces w. (m : ℕ) (place : Place) (len : ℕ) (items : List Item) (traces' : Traces) (w' : Wire) →
-    let o = maps.load m place len items l in Follows own l o.lane traces traces' w w' → IsFaithful own o.lane traces' w')
+LoadStaysFaithful =
+    OfEachWire (λ own l traces w. (m : ℕ) (place : Place) (len : ℕ)
+    (items : List Item) (traces' : Traces) (w' : Wire) →
+    let o =
+    maps.load m place len items l in Follows own l o.lane traces traces' w w' → IsFaithful own o.lane traces' w')
 
 -- an unload, whose pages go with theirs
 abbrev pub UnloadStaysFaithful : Type 0
@@ -63,7 +72,8 @@ UnloadStaysFaithful = OfEachWire (λ own l traces w. (m : ℕ) (traces' : Traces
 -- any turn of any side, after which pages may come or go
 abbrev pub TurnStaysFaithful : Type 0
 TurnStaysFaithful = OfEachWire (λ own l traces w. (s : Side) (traces' : Traces) (w' : Wire) →
-    let t = lane_step l s in Follows own l t.lane traces traces' (wire.lane_step l s traces w) w' → IsFaithful own t.lane traces' w')
+    let t = lane_step l s in Follows own l t.lane traces traces' (wire.lane_step l s traces w) w' →
+    IsFaithful own t.lane traces' w')
 
 -- a driver opens with a faithful wire, where its pages hold zeros
 abbrev pub OpeningIsFaithful : Type 0

@@ -1,5 +1,6 @@
 -- Operations on maps: making and ending, loading and unloading, waiting.
-use Rattle.std.specs.Prelude.{ℕ, true, false, List, [], ◌∷◌, ◌++◌, length, if◌then◌else◌, nat_lt, unwrap_or, option_map}
+use Rattle.std.specs.Prelude.{ℕ, true, false, List, [], ◌∷◌, ◌++◌, length, if◌then◌else◌, nat_lt, unwrap_or}
+use Rattle.std.specs.Prelude.{option_map}
 use Rattle.std.specs.FinMap.{get, insert, remove, contains_key}
 use Rattle.busdma_base.specs.declared.machine.address.Segment.{Segment}
 use Rattle.busdma_base.specs.declared.scenarios.script.Place.{Place}
@@ -12,7 +13,8 @@ use Rattle.loan_table.specs.Loans.{unlent}
 use Rattle.loan_table.specs.Lending.{lost_by_forgetting}
 use Rattle.lane_core.specs.declared.map.LaneMap.{LaneMap}
 use Rattle.lane_core.specs.IdealMemory.{forgotten}
-use Rattle.lane_core.specs.Lane.{LaneState, Outcome, gives, refused, unless_refused, unless_absent, unless_busy, unless_unloaded, is_loaded, reached, bytes_at}
+use Rattle.lane_core.specs.Lane.{LaneState, Outcome, gives, refused, unless_refused, unless_absent, unless_busy}
+use Rattle.lane_core.specs.Lane.{unless_unloaded, is_loaded, reached, bytes_at}
 
 -- map: an idle map of a tag, named by this place
 abbrev pub map : ℕ → LaneState → Outcome
@@ -24,7 +26,8 @@ map t l =
 -- map_destroy: a map that is not idle is busy
 abbrev pub map_destroy : ℕ → LaneState → Outcome
 map_destroy m l =
-    unless_absent m l (if is_loaded l m then gives l (Refused EBUSY) else gives (record l { maps = remove l.maps m }) Done)
+    unless_absent m l (if is_loaded l m then gives l (Refused EBUSY)
+    else gives (record l { maps = remove l.maps m }) Done)
 
 -- no map
 abbrev pub no_map : LaneMap

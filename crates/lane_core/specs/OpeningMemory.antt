@@ -1,5 +1,6 @@
 -- The memory in which a driver opens.
-use Rattle.std.specs.Prelude.{◌≡◌, ℕ, ◌+◌, ◌*◌, ◌/◌, ◌%◌, ◌-◌, ◌^◌, ◌≤◌, Bool, true, false, ◌&&◌, nat_le, nat_lt, List, [], Some, None, if◌then◌else◌, replicate}
+use Rattle.std.specs.Prelude.{◌≡◌, ℕ, ◌+◌, ◌*◌, ◌/◌, ◌%◌, ◌-◌, ◌^◌, ◌≤◌, Bool, true, false, ◌&&◌, nat_le, nat_lt, List}
+use Rattle.std.specs.Prelude.{[], Some, None, if◌then◌else◌, replicate}
 use Rattle.std.specs.List.{list_any}
 use Rattle.std.specs.FinMap.{get}
 use Rattle.busdma_base.specs.declared.scenarios.scenario.PageRun.{PageRun}
@@ -39,8 +40,10 @@ row_of run v = record { frame = run.frame + (v - run.va.0 / 4096); reach = 4096 
 
 -- a memory after the pages of a run were added, with 0 in every byte
 pub record HasRun (run : PageRun) (before after : Memory) : Type 0 where
-  pub table : (v : ℕ) → get after.table v ≡ (if is_one_of (run.va.0 / 4096) run.count v then Some (row_of run v) else get before.table v)
-  pub frames : (f : ℕ) → get after.frames f ≡ (if is_one_of run.frame run.count f then Some (replicate 4096 0) else get before.frames f)
+  pub table : (v : ℕ) → get after.table v ≡ (if is_one_of (run.va.0 / 4096) run.count v
+      then Some (row_of run v) else get before.table v)
+  pub frames : (f : ℕ) → get after.frames f
+      ≡ (if is_one_of run.frame run.count f then Some (replicate 4096 0) else get before.frames f)
 
 -- a memory has none of the pages of a run, and none of its frames
 pub record IsWithout (run : PageRun) (m : Memory) : Type 0 where

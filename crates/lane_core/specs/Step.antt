@@ -67,7 +67,9 @@ stays t l = record { lane = l; turn = t }
 abbrev pub stepped : Side → Did → Outcome → Turned
 stepped s d o = record {
   lane = o.lane;
-  turn = Stepped (record { actor = record { lane = record { 0 = o.lane.id }; side = s }; did = d; answer = o.answer }) false;
+  turn =
+      Stepped (record { actor = record { lane = record { 0 = o.lane.id }; side = s }; did = d; answer = o.answer })
+      false;
 }
 
 -- the script goes on to its next place
@@ -77,7 +79,8 @@ advanced o = gives (record o.lane { place = o.lane.place + 1 }) o.answer
 -- the next operation of the script, if there is one
 abbrev pub script_turn : Option Op → LaneState → Turned
 script_turn None l = stays Ended l
-script_turn (Some o) l = if waits o l then stays Blocked l else stepped side.Script (did.Op l.place) (advanced (operation o l))
+script_turn (Some o) l =
+    if waits o l then stays Blocked l else stepped side.Script (did.Op l.place) (advanced (operation o l))
 
 -- the item has left the queue
 abbrev pub left_queue : List QueuedItem → Outcome → Outcome

@@ -5,7 +5,8 @@ use Rattle.busdma_base.specs.declared.journals.answer.Answer.TheVariants.{Done}
 use Rattle.dma_tag.specs.SyncOps.{is_mixed}
 use Rattle.loan_table.specs.Lending.{sync_answer, synced, lost}
 use Rattle.lane_core.specs.IdealMemory.{forgotten}
-use Rattle.lane_core.specs.Lane.{LaneState, Outcome, gives, refused, unless_refused, unless_unloaded, unless_past, load_length}
+use Rattle.lane_core.specs.Lane.{LaneState, Outcome, gives, refused, unless_refused, unless_unloaded, unless_past}
+use Rattle.lane_core.specs.Lane.{load_length}
 
 -- the sync of a range of a map that is loaded
 abbrev pub sync_part : ℕ → ℕ → ℕ → ℕ → LaneState → Outcome

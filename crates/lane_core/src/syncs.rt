@@ -107,7 +107,8 @@ fn sync_loans(loans: &mut LoanTable, map: MapId, off: u64, len: u64, ops: SyncOp
     requires there { HasMap loans.old map.made_at }
     requires range { off + len ≤ length (buffer_of loans.old map.made_at) }
     requires alone { is_mixed ops.0 ≡ false }
-    requires room { extent_count (addresses_of (range_of off len (buffer_of loans.old map.made_at))) ≤ loans.old.spare }
+    requires room { extent_count (addresses_of (range_of off len (buffer_of loans.old map.made_at)))
+        ≤ loans.old.spare }
     ensures answer { result ≡ sync_answer loans.old.loans map.made_at off len ops.0 }
     ensures done { OnFine result (IsSynced loans.old loans.new map.made_at off len ops.0) }
     ensures refused { OnRefused result (IsSame loans.old loans.new) }

@@ -15,25 +15,32 @@ use Rattle.phys_memory.specs.Translation.{physical_or_0}
 use Rattle.phys_memory.specs.Vector.{IfAll, one_span, spans_stream, spans_walk}
 use Rattle.phys_memory.specs.Walk.{walk_of, walked}
 use Rattle.phys_memory.proofs.Loads.{one_bytes, spans_load}
-use Rattle.phys_memory.proofs.Vectors.{past_entry, past_none, spans_one, stopped, walk_bytes, walk_entries, walk_have, walk_touches}
+use Rattle.phys_memory.proofs.Vectors.{past_entry, past_none, spans_one, stopped, walk_bytes, walk_entries, walk_have}
+use Rattle.phys_memory.proofs.Vectors.{walk_touches}
 use Rattle.phys_memory.proofs.Walks.{walked-run}
 use Rattle.load_bio.specs.Frames.{AreFrames, LiesInOneOf, in_frames}
 use Rattle.load_bio.proofs.InFrames.{IsInOneOf, frames_paged}
 
 -- the stream of frames of at most 2^20 bytes is that of a load
-pub frames_load : (fs : List ℕ) (off n : ℕ) → AreFrames fs → n ≤ 2 ^ 20 → IsStream (spans_stream false (in_frames fs) (one_span off n))
-frames_load fs off n are small = spans_load (IsInOneOf fs) false (in_frames fs) (frames_paged fs are) (one_span off n) (omega (arith, small, one_bytes off n))
+pub frames_load : (fs : List ℕ) (off n : ℕ) → AreFrames fs → n ≤ 2 ^ 20 →
+    IsStream (spans_stream false (in_frames fs) (one_span off n))
+frames_load fs off n are small =
+    spans_load (IsInOneOf fs) false (in_frames fs) (frames_paged fs are)
+    (one_span off n) (omega (arith, small, one_bytes off n))
 
 -- ---- the walk over frames, from the walk over their stream
 
-module _ (fs : List ℕ) (off n : ℕ) (w : Walked) (h : w ≡ walked [] (spans_stream false (in_frames fs) (one_span off n))) where
+module _ (fs : List ℕ) (off n : ℕ) (w : Walked)
+    (h : w ≡ walked [] (spans_stream false (in_frames fs) (one_span off n))) where
   abbrev here : Span
   here = record { va = record { 0 = off }; len = n }
 
   from_stream : w ≡ walk_of (reached (in_frames fs) off n) n
-  from_stream = h ∙ ap (walked []) (spans_one false (in_frames fs) off n) ∙ walked-run (reached (in_frames fs) off n) n true false
+  from_stream = h ∙ ap (walked []) (spans_one false (in_frames fs) off n)
+      ∙ walked-run (reached (in_frames fs) off n) n true false
 
-  pub one_entry : (es : List Extent) → w ≡ Parts es → (es ≡ [] → false ≡ true) → walk.All (record { rounded = false; parts = es } ∷ []) ≡ spans_walk false (in_frames fs) (one_span off n)
+  pub one_entry : (es : List Extent) → w ≡ Parts es → (es ≡ [] → false ≡ true) →
+      walk.All (record { rounded = false; parts = es } ∷ []) ≡ spans_walk false (in_frames fs) (one_span off n)
   one_entry es is some = sym (past_entry false (in_frames fs) [] 0 here [] es (sym is ∙ from_stream) some)
 
   pub no_entry : w ≡ Parts [] → walk.All [] ≡ spans_walk false (in_frames fs) (one_span off n)
@@ -46,22 +53,33 @@ module _ (fs : List ℕ) (off n : ℕ) (w : Walked) (h : w ≡ walked [] (spans_
 
 -- ---- what its entries are
 
-module _ (fs : List ℕ) (off n : ℕ) (are : AreFrames fs) (w : Entries) (h : w ≡ spans_walk false (in_frames fs) (one_span off n)) where
-  if_all : (P : List Entry → Type 0) → ((es : List Entry) → walk.All es ≡ spans_walk false (in_frames fs) (one_span off n) → P es) → IfAll w P
+module _ (fs : List ℕ) (off n : ℕ) (are : AreFrames fs) (w : Entries)
+    (h : w ≡ spans_walk false (in_frames fs) (one_span off n)) where
+  if_all : (P : List Entry → Type 0) → ((es : List Entry) →
+      walk.All es ≡ spans_walk false (in_frames fs) (one_span off n) → P es) → IfAll w P
   if_all P k = by_kind w h
     where
       by_kind : (v : Entries) → v ≡ spans_walk false (in_frames fs) (one_span off n) → IfAll v P
       by_kind (walk.All es) e = k es e
       by_kind (walk.Unmapped at) e = tt
 
-  pub frame_bytes : IfAll w (λ es. entries_addresses es ≡ map (physical_or_0 (in_frames fs)) (span_addresses (one_span off n)))
-  frame_bytes = if_all (λ es. entries_addresses es ≡ map (physical_or_0 (in_frames fs)) (span_addresses (one_span off n))) (λ es e. walk_bytes (IsInOneOf fs) false (in_frames fs) (one_span off n) es (frames_paged fs are) e)
+  pub frame_bytes : IfAll w (λ es. entries_addresses es
+      ≡ map (physical_or_0 (in_frames fs)) (span_addresses (one_span off n)))
+  frame_bytes =
+      if_all (λ es. entries_addresses es ≡ map (physical_or_0 (in_frames fs)) (span_addresses (one_span off n)))
+      (λ es e. walk_bytes (IsInOneOf fs) false (in_frames fs) (one_span off n) es (frames_paged fs are) e)
 
   pub frame_entries : IfAll w (AllByRecursion IsEntry)
-  frame_entries = if_all (AllByRecursion IsEntry) (λ es e. walk_entries (IsInOneOf fs) false (in_frames fs) (one_span off n) es (frames_paged fs are) e)
+  frame_entries =
+      if_all (AllByRecursion IsEntry) (λ es e. walk_entries (IsInOneOf fs) false (in_frames fs)
+      (one_span off n) es (frames_paged fs are) e)
 
   pub frame_touches : IfAll w (AllByRecursion HasPart)
-  frame_touches = if_all (AllByRecursion HasPart) (λ es e. walk_touches (IsInOneOf fs) false (in_frames fs) (one_span off n) es (frames_paged fs are) e)
+  frame_touches =
+      if_all (AllByRecursion HasPart) (λ es e. walk_touches (IsInOneOf fs) false (in_frames fs)
+      (one_span off n) es (frames_paged fs are) e)
 
   pub frame_lie : IfAll w (AllByRecursion (λ e. AllByRecursion (LiesInOneOf fs) e.parts))
-  frame_lie = if_all (AllByRecursion (λ e. AllByRecursion (LiesInOneOf fs) e.parts)) (λ es e. walk_have (IsInOneOf fs) false (in_frames fs) (one_span off n) es (frames_paged fs are) e)
+  frame_lie =
+      if_all (AllByRecursion (λ e. AllByRecursion (LiesInOneOf fs) e.parts))
+      (λ es e. walk_have (IsInOneOf fs) false (in_frames fs) (one_span off n) es (frames_paged fs are) e)

@@ -1,5 +1,6 @@
 -- The bytes of frames keep pages: each page of their bytes is a frame.
-use Rattle.std.proofs.Common.{◌≡◌, ℕ, zero, suc, ◌+◌, ◌-◌, ◌*◌, ◌/◌, ◌%◌, ◌^◌, ◌<◌, min, Bool, false, List, [], ◌∷◌, refl, ap, sym, ◌∙◌, subst, inl, inr, ◌≢◌, arith}
+use Rattle.std.proofs.Common.{◌≡◌, ℕ, zero, suc, ◌+◌, ◌-◌, ◌*◌, ◌/◌, ◌%◌, ◌^◌, ◌<◌, min, Bool, false, List, [], ◌∷◌}
+use Rattle.std.proofs.Common.{refl, ap, sym, ◌∙◌, subst, inl, inr, ◌≢◌, arith}
 use Rattle.std.specs.Prelude.{Contains, Option, Some, None, slice_get}
 use Rattle.std.proofs.lemmas.Bool.{cases_lt}
 use Rattle.std.proofs.lemmas.List.Elements.{Contains-get_or}
@@ -37,12 +38,14 @@ next_of (Some f) i p q h k =
     let b : 4096 * f + (i + 1) ≡ q = cc in
     omega arith
 
-frames_next : (fs : List ℕ) (k p q : ℕ) → in_frames fs k ≡ Some p → in_frames fs (k + 1) ≡ Some q → (k + 1) % 4096 ≢ 0 → q ≡ p + 1
+frames_next : (fs : List ℕ) (k p q : ℕ) → in_frames fs k ≡ Some p →
+    in_frames fs (k + 1) ≡ Some q → (k + 1) % 4096 ≢ 0 → q ≡ p + 1
 frames_next fs k p q h e apart =
     let page : (k + 1) / 4096 ≡ k / 4096 = omega arith in
     let place : (k + 1) % 4096 ≡ k % 4096 + 1 = omega arith in
     next_of (slice_get fs (k / 4096)) (k % 4096) p q h (
-    ap (byte_of (slice_get fs (k / 4096))) (sym place) ∙ ap (λ n. byte_of (slice_get fs n) ((k + 1) % 4096)) (sym page) ∙ e)
+    ap (byte_of (slice_get fs (k / 4096))) (sym place)
+    ∙ ap (λ n. byte_of (slice_get fs n) ((k + 1) % 4096)) (sym page) ∙ e)
 
 frames_low : (fs : List ℕ) (k p : ℕ) → AreFrames fs → in_frames fs k ≡ Some p → p < 2 ^ 42
 frames_low fs k p are h = low (slice_get fs (k / 4096)) (λ f e. low_frame fs (k / 4096) f are e) h
@@ -66,7 +69,8 @@ frames_have fs k p h = there (slice_get fs (k / 4096)) refl h
     there (Some f) at e =
         let q : 4096 * f + k % 4096 ≡ p = cc in
         let frame : f ≡ p / 4096 = omega arith in
-        subst (Contains fs) (get_or_from_slice_get fs (k / 4096) f 0 at ∙ frame) (Contains-get_or fs (k / 4096) 0 (slice_get_within fs (k / 4096) f at))
+        subst (Contains fs) (get_or_from_slice_get fs (k / 4096) f 0 at
+        ∙ frame) (Contains-get_or fs (k / 4096) 0 (slice_get_within fs (k / 4096) f at))
 
 pub frames_paged : (fs : List ℕ) → AreFrames fs → IsPaged (IsInOneOf fs) (in_frames fs)
 frames_paged fs are = record {
@@ -94,15 +98,18 @@ behind_first f fs k =
     let place : (4096 + k) % 4096 ≡ k % 4096 = omega arith in
     ap (λ n. byte_of (slice_get (f ∷ fs) n) ((4096 + k) % 4096)) number ∙ ap (byte_of (slice_get fs (k / 4096))) place
 
-reached_behind : (f : ℕ) (fs : List ℕ) (k n : ℕ) → reached (in_frames (f ∷ fs)) (4096 + k) n ≡ reached (in_frames fs) k n
+reached_behind : (f : ℕ) (fs : List ℕ) (k n : ℕ) →
+    reached (in_frames (f ∷ fs)) (4096 + k) n ≡ reached (in_frames fs) k n
 reached_behind f fs k zero = refl
 reached_behind f fs k (suc n) =
     let next : 4096 + k + 1 ≡ 4096 + (k + 1) = omega arith in
     ap (λ o. then_reached o (reached (in_frames (f ∷ fs)) (4096 + k + 1) n)) (behind_first f fs k)
-    ∙ ap (then_reached (in_frames fs k)) (ap (λ a. reached (in_frames (f ∷ fs)) a n) next ∙ reached_behind f fs (k + 1) n)
+    ∙ ap (then_reached (in_frames fs k)) (ap (λ a. reached (in_frames (f ∷ fs)) a n) next
+    ∙ reached_behind f fs (k + 1) n)
 
 -- what is left after the bytes that the first frame gave
-reached_next : (f : ℕ) (fs : List ℕ) (off n left : ℕ) → off < 4096 → n ≡ min (4096 - off) left → reached (in_frames (f ∷ fs)) (off + n) (left - n) ≡ reached (in_frames fs) 0 (left - n)
+reached_next : (f : ℕ) (fs : List ℕ) (off n left : ℕ) → off < 4096 → n ≡ min (4096 - off) left →
+    reached (in_frames (f ∷ fs)) (off + n) (left - n) ≡ reached (in_frames fs) 0 (left - n)
 reached_next f fs off n left inside e = elim (cases_lt (4096 - off) left) [
   | inl h ↦
       let end : off + n ≡ 4096 + 0 = omega arith in
@@ -113,13 +120,20 @@ reached_next f fs off n left inside e = elim (cases_lt (4096 - off) left) [
 ]
 
 -- the first part of a stream of frames, and what is left
-pub frames_stream : (f : ℕ) (fs : List ℕ) (off n left offset : ℕ) (opens : Bool) → f < 2 ^ 30 → off < 4096 → 0 < left → n ≡ min (4096 - off) left → run_stream (reached (in_frames (f ∷ fs)) off left) left offset opens false ≡ part.Of (record { pa = record { 0 = f * 4096 + off }; len = n }) opens false ∷ run_stream (reached (in_frames fs) 0 (left - n)) (left - n) (offset + n) false false
+pub frames_stream : (f : ℕ) (fs : List ℕ) (off n left offset : ℕ) (opens : Bool) → f < 2 ^ 30 → off < 4096 → 0 < left →
+    n ≡ min (4096 - off) left → run_stream (reached (in_frames (f ∷ fs)) off left) left offset opens false
+    ≡ part.Of (record { pa = record { 0 = f * 4096 + off }; len = n }) opens false
+    ∷ run_stream (reached (in_frames fs) 0 (left - n)) (left - n) (offset + n) false false
 frames_stream f fs off n left offset opens below inside some e =
     let t = in_frames (f ∷ fs) in
     let page : off / 4096 ≡ 0 = omega arith in
     let place : off % 4096 ≡ off = omega arith in
     let first : Extent = record { pa = record { 0 = f * 4096 + off }; len = n } in
-    let is = next_in_page t off n left f 4096 (first_page f fs (off / 4096) page) (frames_places (f ∷ fs)) (omega arith) below (omega arith) some (omega arith) in
+    let is =
+    next_in_page t off n left f 4096 (first_page f fs (off / 4096) page) (frames_places (f ∷ fs)) (omega arith)
+    below (omega arith) some (omega arith) in
     stream_next t off left offset opens false (record { pa = record { 0 = f * 4096 + off % 4096 }; len = n }) is
-    ∙ ap (λ a. part.Of (record { pa = record { 0 = f * 4096 + a }; len = n }) opens false ∷ run_stream (reached t (off + n) (left - n)) (left - n) (offset + n) false false) place
-    ∙ ap (λ pas. part.Of first opens false ∷ run_stream pas (left - n) (offset + n) false false) (reached_next f fs off n left inside e)
+    ∙ ap (λ a. part.Of (record { pa = record { 0 = f * 4096 + a }; len = n }) opens false
+    ∷ run_stream (reached t (off + n) (left - n)) (left - n) (offset + n) false false) place
+    ∙ ap (λ pas. part.Of first opens false ∷ run_stream pas (left - n) (offset + n) false false)
+    (reached_next f fs off n left inside e)

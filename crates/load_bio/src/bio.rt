@@ -66,7 +66,8 @@ pub fn walk(alloc: Global, memory: &LanePages, bio: &Bio) -> Result<Entries, All
     requires bytes { span_bytes (bio_spans bio.now) < 2 ^ 64 }
     ensures walk { IfOk result (λ w. w ≡ bio_walk (physical memory.now.memory) bio.now) }
     ensures addresses { let t = bio_translation (physical memory.now.memory) bio.now in
-        IfOk result (λ w. IfAll w (λ es. entries_addresses es ≡ map (physical_or_0 t) (span_addresses (bio_spans bio.now)))) }
+        IfOk result
+        (λ w. IfAll w (λ es. entries_addresses es ≡ map (physical_or_0 t) (span_addresses (bio_spans bio.now)))) }
     ensures entries { IfOk result (λ w. IfAll w (AllByRecursion IsEntry)) }
     ensures some { IfOk result (λ w. IfAll w (AllByRecursion HasPart)) }
     ensures frames { let lies = LiesInBio memory.now.memory bio.now in

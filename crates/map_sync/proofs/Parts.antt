@@ -13,7 +13,8 @@ part_run from to a n =
     ap (take (to - from)) (drop_run from a n) ∙ take_run (to - from) (a + from) (n - from) ∙ ap (run_of (a + from)) e
 
 -- a part of two lists
-pub part_append : {A : Type 0} (from to : ℕ) (xs ys : List A) → part from to (xs ++ ys) ≡ part from to xs ++ part (from - length xs) (to - length xs) ys
+pub part_append : {A : Type 0} (from to : ℕ) (xs ys : List A) → part from to (xs ++ ys) ≡ part from to xs
+    ++ part (from - length xs) (to - length xs) ys
 part_append from to xs ys =
     let e : to - from - length (drop from xs) ≡ to - length xs - (from - length xs) =
     omega (arith, length-drop from xs) in

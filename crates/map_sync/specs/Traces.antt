@@ -6,7 +6,8 @@ use Rattle.busdma_base.specs.Machine.Wire.{Placed, Wire, copied_in, copied_out, 
 use Rattle.segment_build.specs.Trace.{chunk_len}
 use Rattle.map_sync.specs.Ranges.{positions_of, range_of_chunks}
 
--- of the positions of a load from a place on, those of a chunk stand at the chunk's place, and none before them is bounced
+-- of the positions of a load from a place on, those of a chunk stand at the chunk's place, and none before them is
+-- bounced
 pub record HasChunk (place : ℕ) (ps : List Placed) (c : Chunk) : Type 0 where
   pub behind : place ≤ c.at
   pub inside : c.at + chunk_len c ≤ place + length ps
@@ -16,7 +17,8 @@ pub record HasChunk (place : ℕ) (ps : List Placed) (c : Chunk) : Type 0 where
 -- the same of each of these chunks, one behind the other, and no position behind them is bounced
 abbrev pub HasChunks : ℕ → List Placed → List Chunk → Type 0
 HasChunks place ps [] = AllByRecursion (λ p. is_bounced p ≡ false) ps
-HasChunks place ps (c ∷ cs) = HasChunk place ps c × HasChunks (c.at + chunk_len c) (drop (c.at + chunk_len c - place) ps) cs
+HasChunks place ps (c ∷ cs) =
+    HasChunk place ps c × HasChunks (c.at + chunk_len c) (drop (c.at + chunk_len c - place) ps) cs
 
 -- a sync of a range of a trace copies what its chunks have there
 pub record CopiesAlike (off len : ℕ) (chunks : List Chunk) (trace : List Placed) (w : Wire) : Type 0 where
@@ -25,4 +27,5 @@ pub record CopiesAlike (off len : ℕ) (chunks : List Chunk) (trace : List Place
 
 abbrev pub EachRangeCopiesAlike : Type 0
 EachRangeCopiesAlike =
-    (off len : ℕ) (chunks : List Chunk) (trace : List Placed) → HasChunks 0 trace chunks → (w : Wire) → CopiesAlike off len chunks trace w
+    (off len : ℕ) (chunks : List Chunk) (trace : List Placed) → HasChunks 0 trace chunks →
+    (w : Wire) → CopiesAlike off len chunks trace w

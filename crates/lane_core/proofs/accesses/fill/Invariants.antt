@@ -6,7 +6,8 @@ use Rattle.lane_core.proofs.accesses.fill.Given as goal
 
 abbrev pub invariant-loop-part : goal.invariant-loop-part
 invariant-loop-part l = record {
-  left : take l.done l.out ++ map (wire l.memory.memory) (addresses (drop l.part-index l.parts)) ≡ map (wire l.memory.memory) (addresses l.parts);
+  left : take l.done l.out ++ map (wire l.memory.memory) (addresses (drop l.part-index l.parts))
+      ≡ map (wire l.memory.memory) (addresses l.parts);
   count : l.done + length (addresses (drop l.part-index l.parts)) ≡ length l.out;
   lie : Lie l.memory.memory (drop l.part-index l.parts);
 }

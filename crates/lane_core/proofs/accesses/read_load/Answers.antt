@@ -6,4 +6,7 @@ use Rattle.lane_core.proofs.accesses.read_load.Goals as goal
 
 pub loop-at-preserved : goal.loop-at-preserved
 loop-at-preserved c =
-    byte_read (buffer_of c.args.loans.now c.args.map.made_at) c.loop-at.at (c.args.off + c.args.len) c.loop-at.bytes.items c.push.new.self.items (wire c.args.memory.now.memory) _ c.loop-at-test.true c.requires.range c.in_ok-push.ensures.items (ap (λ xs. slice_index xs 0) c.read.ensures ∙ ap (wire c.args.memory.now.memory) c.byte_at.ensures.is) ∙ c.loop-at.invariant
+    byte_read (buffer_of c.args.loans.now c.args.map.made_at) c.loop-at.at (c.args.off + c.args.len)
+    c.loop-at.bytes.items c.push.new.self.items (wire c.args.memory.now.memory) _ c.loop-at-test.true
+    c.requires.range c.in_ok-push.ensures.items (ap (λ xs. slice_index xs 0) c.read.ensures
+    ∙ ap (wire c.args.memory.now.memory) c.byte_at.ensures.is) ∙ c.loop-at.invariant

@@ -7,9 +7,13 @@ pub loop-byte-preserved : goal.loop-byte-preserved
 loop-byte-preserved c =
     let before = c.loop-byte.invariant in
     let buffer = buffer_of c.args.loans.now c.args.map.made_at in
-    let same = same_rewritten c.loop-byte.memory.memory _ _ (before.same.frames _ ∙ in_frame c.args.memory.now.memory _ _ c.requires.covered c.byte_at.ensures.there) in
+    let same = same_rewritten c.loop-byte.memory.memory _ _ (before.same.frames _
+    ∙ in_frame c.args.memory.now.memory _ _ c.requires.covered c.byte_at.ensures.there) in
     record {
-      left = byte_written buffer c.loop-byte.at c.args.bytes.now c.loop-byte.byte-index _ _ _ (omega (arith, before.count, c.requires.range, c.loop-byte-test.true)) c.loop-byte-test.true c.byte_at.ensures.is c.write.ensures.wire ∙ before.left;
+      left =
+          byte_written buffer c.loop-byte.at c.args.bytes.now c.loop-byte.byte-index _ _ _
+          (omega (arith, before.count, c.requires.range, c.loop-byte-test.true)) c.loop-byte-test.true
+          c.byte_at.ensures.is c.write.ensures.wire ∙ before.left;
       count = omega (arith, before.count);
       same = rw c.write.ensures.memory (same_trans _ _ _ before.same same);
     }

@@ -10,7 +10,8 @@ abbrev pub invariant-loop-byte : goal.invariant-loop-byte
 invariant-loop-byte l =
     let buffer = buffer_of l.loans l.map.made_at in
     record {
-      left : put (addresses_of (drop l.at buffer)) (drop l.byte-index l.bytes) (wire l.memory.memory) ≡ put (addresses_of (drop l.off buffer)) l.bytes (wire l.initial.memory.memory);
+      left : put (addresses_of (drop l.at buffer)) (drop l.byte-index l.bytes) (wire l.memory.memory)
+          ≡ put (addresses_of (drop l.off buffer)) l.bytes (wire l.initial.memory.memory);
       count : l.at ≡ l.off + l.byte-index;
       same : SamePages l.initial.memory.memory l.memory.memory;
     }

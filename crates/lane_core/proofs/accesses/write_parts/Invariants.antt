@@ -7,7 +7,8 @@ use Rattle.lane_core.proofs.accesses.write_parts.Given as goal
 
 abbrev pub invariant-loop-part : goal.invariant-loop-part
 invariant-loop-part l = record {
-  left : put (addresses (drop l.part-index l.parts)) (drop l.done l.bytes) (wire l.memory.memory) ≡ put (addresses l.parts) l.bytes (wire l.initial.memory.memory);
+  left : put (addresses (drop l.part-index l.parts)) (drop l.done l.bytes) (wire l.memory.memory)
+      ≡ put (addresses l.parts) l.bytes (wire l.initial.memory.memory);
   count : l.done + length (addresses (drop l.part-index l.parts)) ≡ length l.bytes;
   lie : Lie l.memory.memory (drop l.part-index l.parts);
   same : SamePages l.initial.memory.memory l.memory.memory;

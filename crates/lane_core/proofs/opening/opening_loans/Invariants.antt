@@ -4,4 +4,5 @@ use Rattle.lane_core.proofs.OwnRuns.{AreKnown}
 use Rattle.lane_core.proofs.opening.opening_loans.Given as goal
 
 abbrev pub invariant-loop-run : goal.invariant-loop-run
-invariant-loop-run l = record { loans : l.loans.loans ≡ empty; bytes : AreKnown (take l.run-index l.pages) l.loans.bytes }
+invariant-loop-run l =
+    record { loans : l.loans.loans ≡ empty; bytes : AreKnown (take l.run-index l.pages) l.loans.bytes }

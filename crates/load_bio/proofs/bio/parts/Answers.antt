@@ -18,15 +18,18 @@ returns-clause-parts c =
     let t = physical c.args.memory.now.memory in
     elim c.match-bio.branch [
       | in-Mapped w ↦ ap kind_parts w.kind-is ∙ w.parts_flat.ensures.vector ∙ ap (bio_stream t) (sym w.in-Mapped.is)
-      | in-Vector w ↦ ap kind_parts w.kind-is ∙ rw w.as_slice.ensures at w.parts_vector.ensures.parts ∙ ap (bio_stream t) (sym w.in-Vector.is)
-      | in-Unmapped w ↦ ap kind_parts w.kind-is ∙ rw w.as_slice-in-Unmapped.ensures at w.frame_parts.ensures.parts ∙ ap (bio_stream t) (sym w.in-Unmapped.is)
+      | in-Vector w ↦ ap kind_parts w.kind-is ∙ rw w.as_slice.ensures at w.parts_vector.ensures.parts
+          ∙ ap (bio_stream t) (sym w.in-Vector.is)
+      | in-Unmapped w ↦ ap kind_parts w.kind-is ∙ rw w.as_slice-in-Unmapped.ensures at w.frame_parts.ensures.parts
+          ∙ ap (bio_stream t) (sym w.in-Unmapped.is)
     ]
 
 pub returns-clause-walk : goal.returns-clause-walk
 returns-clause-walk c =
     let t = physical c.args.memory.now.memory in
     let bio = c.args.bio.now in
-    subst (λ (ps : List Part). IfAll (bio_walk t bio) (λ es. ps ≡ parts_of es)) (sym (returns-clause-parts c)) (walk_stream (is_rounded bio) (bio_translation t bio) (bio_spans bio))
+    subst (λ (ps : List Part). IfAll (bio_walk t bio) (λ es. ps ≡ parts_of es)) (sym (returns-clause-parts c))
+    (walk_stream (is_rounded bio) (bio_translation t bio) (bio_spans bio))
 
 pub returns-clause-stream : goal.returns-clause-stream
 returns-clause-stream c = λ small.
@@ -34,14 +37,17 @@ returns-clause-stream c = λ small.
       | in-Mapped w ↦
           let s = w.in-Mapped.span in
           let bytes = ap (λ (bio : Bio). span_bytes (bio_spans bio)) w.in-Mapped.is in
-          subst (λ (kind : Kind). IsStream (kind_parts kind)) (sym w.kind-is) (w.parts_flat.ensures.stream (omega (arith, small, bytes, one_bytes s.va.0 s.len)))
+          subst (λ (kind : Kind). IsStream (kind_parts kind)) (sym w.kind-is)
+          (w.parts_flat.ensures.stream (omega (arith, small, bytes, one_bytes s.va.0 s.len)))
       | in-Vector w ↦
           let stream = rw w.as_slice.ensures at w.parts_vector.ensures.stream in
           let bytes = ap (λ (bio : Bio). span_bytes (bio_spans bio)) w.in-Vector.is in
           subst (λ (kind : Kind). IsStream (kind_parts kind)) (sym w.kind-is) (stream (omega (arith, small, bytes)))
       | in-Unmapped w ↦
           let bytes = ap (λ (bio : Bio). span_bytes (bio_spans bio)) w.in-Unmapped.is in
-          subst (λ (kind : Kind). IsStream (kind_parts kind)) (sym w.kind-is) (w.frame_parts.ensures.stream (omega (arith, small, bytes, one_bytes w.in-Unmapped.off w.in-Unmapped.len)))
+          subst (λ (kind : Kind). IsStream (kind_parts kind)) (sym w.kind-is)
+          (w.frame_parts.ensures.stream
+          (omega (arith, small, bytes, one_bytes w.in-Unmapped.off w.in-Unmapped.len)))
     ]
 
 pub returns-clause-along : goal.returns-clause-along

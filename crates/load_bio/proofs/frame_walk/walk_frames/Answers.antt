@@ -11,7 +11,8 @@ pub returns-in-Unmapped : goal.returns-in-Unmapped
 returns-in-Unmapped c =
     let l = c.loop-part in
     let here = c.in-Some.ensures.steps ∙ ap (λ p. p ∷ c.next.new.self) c.in-Unmapped.is in
-    past_end c.args.frames.now c.args.off c.args.len (walked l.parts.items l.part-iterator) l.invariant c.in-Unmapped.at (ap (walked l.parts.items) here)
+    past_end c.args.frames.now c.args.off c.args.len (walked l.parts.items l.part-iterator) l.invariant
+    c.in-Unmapped.at (ap (walked l.parts.items) here)
 
 pub returns : goal.returns
 returns c =
@@ -26,8 +27,10 @@ returns c =
       | then-not-is_empty+in_ok-push b ↦
           ap (λ (v : Vec Entry Global). walk.All v.items) b.entries-is ∙ ap walk.All b.in_ok-push.ensures.items
           ∙ ap (λ xs. walk.All (xs ++ record { rounded = false; parts = es } ∷ [])) c.new-entries.ensures.items
-          ∙ one_entry fs off len w l.invariant es (is ∙ ap Parts (sym c.new-parts-2.ensures)) b.if-not-is_empty.ensures.1
+          ∙ one_entry fs off len w l.invariant es (is
+          ∙ ap Parts (sym c.new-parts-2.ensures)) b.if-not-is_empty.ensures.1
       | else-not-is_empty b ↦
           ap (λ (v : Vec Entry Global). walk.All v.items) b.entries-is ∙ ap walk.All c.new-entries.ensures.items
-          ∙ no_entry fs off len w l.invariant (is ∙ ap Parts (sym c.new-parts-2.ensures ∙ b.if-not-is_empty.ensures.0 refl))
+          ∙ no_entry fs off len w l.invariant (is
+          ∙ ap Parts (sym c.new-parts-2.ensures ∙ b.if-not-is_empty.ensures.0 refl))
     ]

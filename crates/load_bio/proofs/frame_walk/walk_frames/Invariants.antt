@@ -5,4 +5,5 @@ use Rattle.load_bio.specs.Frames.{in_frames}
 use Rattle.load_bio.proofs.frame_walk.walk_frames.Given as goal
 
 abbrev pub invariant-loop-part : goal.invariant-loop-part
-invariant-loop-part l = walked l.parts.items l.part-iterator ≡ walked [] (spans_stream false (in_frames l.fn.frames) (one_span l.fn.off l.fn.len))
+invariant-loop-part l = walked l.parts.items l.part-iterator
+    ≡ walked [] (spans_stream false (in_frames l.fn.frames) (one_span l.fn.off l.fn.len))

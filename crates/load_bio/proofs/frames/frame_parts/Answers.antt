@@ -10,4 +10,5 @@ returns-clause-parts c = sym (spans_one false (in_frames c.args.frames.now) c.ar
 
 pub returns-clause-stream : goal.returns-clause-stream
 returns-clause-stream c = λ small.
-    subst IsStream (spans_one false (in_frames c.args.frames.now) c.args.off c.args.len) (frames_load c.args.frames.now c.args.off c.args.len c.requires.frames small)
+    subst IsStream (spans_one false (in_frames c.args.frames.now) c.args.off c.args.len)
+    (frames_load c.args.frames.now c.args.off c.args.len c.requires.frames small)

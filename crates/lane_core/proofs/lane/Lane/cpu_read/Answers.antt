@@ -12,5 +12,8 @@ returns-clause-read c =
     let l = ideal c.args.self.now in
     let w = wire_of c.args.self.now in
     let at = bytes_at l c.args.place c.args.len in
-    ok_map c.cpu_read.result (λ answer. gives l answer ≡ calls.cpu_read c.args.place c.args.len l) (λ answer. Reads answer at w)
-    (λ answer h. subst (λ a. Reads a at w) (sym (ap (λ o. o.answer) h)) (cpu_read_held l w (known_held c.args.self.now.holdings.loans.bytes w) c.args.place c.args.len)) c.cpu_read.ensures
+    ok_map c.cpu_read.result (λ answer. gives l answer
+    ≡ calls.cpu_read c.args.place c.args.len l) (λ answer. Reads answer at w)
+    (λ answer h. subst (λ a. Reads a at w) (sym (ap (λ o. o.answer) h))
+    (cpu_read_held l w (known_held c.args.self.now.holdings.loans.bytes w) c.args.place c.args.len))
+    c.cpu_read.ensures

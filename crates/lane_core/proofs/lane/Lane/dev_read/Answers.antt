@@ -13,5 +13,8 @@ returns-clause-read c =
     let l = ideal c.args.self.now in
     let w = wire_of c.args.self.now in
     let at = buses (stretch c.args.off c.args.len (traces_of l c.args.map.made_at)) in
-    ok_map c.dev_read.result (λ answer. gives l answer ≡ calls.dev_read c.args.map c.args.off c.args.len l) (λ answer. Reads answer at w)
-    (λ answer h. subst (λ a. Reads a at w) (sym (ap (λ o. o.answer) h)) (dev_read_held l w (known_held c.args.self.now.holdings.loans.bytes w) c.args.map c.args.off c.args.len)) c.dev_read.ensures
+    ok_map c.dev_read.result (λ answer. gives l answer
+    ≡ calls.dev_read c.args.map c.args.off c.args.len l) (λ answer. Reads answer at w)
+    (λ answer h. subst (λ a. Reads a at w) (sym (ap (λ o. o.answer) h))
+    (dev_read_held l w (known_held c.args.self.now.holdings.loans.bytes w) c.args.map c.args.off c.args.len))
+    c.dev_read.ensures

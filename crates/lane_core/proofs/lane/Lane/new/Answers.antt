@@ -12,7 +12,8 @@ invariant_of-result-2 c =
     let agenda = c.in_ok-new-3.ensures in
     let script = c.as_slice-script.ensures in
     let left : items_left c.in_ok-new-3.field-0.place c.as_slice-script.result.now ≡ c.in_ok-new-3.field-0.room =
-    ap (λ a. items_left a.place c.as_slice-script.result.now) agenda ∙ ap item_count script ∙ sym (ap (λ a. a.room) agenda) in
+    ap (λ a. items_left a.place c.as_slice-script.result.now) agenda
+    ∙ ap item_count script ∙ sym (ap (λ a. a.room) agenda) in
     record {
       length = ap (λ a. a.length) agenda ∙ sym (ap length script);
       room = omega (arith, left);
@@ -24,7 +25,9 @@ pub returns : goal.returns
 returns c =
     let agenda = c.in_ok-new-3.ensures in
     let memory = c.requires.memory in
-    let known = subst (λ pages. AreKnown pages c.in_ok-opening_loans.field-0.bytes) c.as_slice.ensures c.in_ok-opening_loans.ensures.bytes in
+    let known =
+    subst (λ pages. AreKnown pages c.in_ok-opening_loans.field-0.bytes) c.as_slice.ensures
+    c.in_ok-opening_loans.ensures.bytes in
     let held = held_zeros c.args.driver.now.pages c.in_ok-opening_loans.field-0 _ known memory in
     (λ i. record {
       id = c.args.id.0;

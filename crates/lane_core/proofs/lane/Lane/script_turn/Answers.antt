@@ -17,9 +17,18 @@ advance-requires c =
     let k = c.in-Some.ensures.lookup in
     let within : c.place-place.result < length l.holdings.script.now = grind (arith, nat_tests, k.0) in
     let at : slice_get l.holdings.script.now l.holdings.agenda.place ≡ Some c.in-Some.op.now =
-    ap (slice_get l.holdings.script.now) (sym c.place-place.ensures) ∙ slice_get_read l.holdings.script.now (length l.holdings.script.now) c.place-place.result c.in-Some.op.now refl within k.1 in
-    let kept : Kept l.holdings = record { length = l.length; room = l.room; new_tags = l.new_tags; new_maps = l.new_maps } in
-    let did : Done l.holdings c.operation.new.self c.in-Some.op.now c.in_ok-answer.answer = record { found = at; done = c.in_ok-answer.ensures.done; places = c.in_ok-answer.ensures.length; room = c.in_ok-answer.ensures.room } in
+    ap (slice_get l.holdings.script.now) (sym c.place-place.ensures)
+    ∙ slice_get_read l.holdings.script.now (length l.holdings.script.now)
+    c.place-place.result c.in-Some.op.now refl within k.1 in
+    let kept : Kept l.holdings =
+    record { length = l.length; room = l.room; new_tags = l.new_tags; new_maps = l.new_maps } in
+    let did : Done l.holdings c.operation.new.self c.in-Some.op.now c.in_ok-answer.answer =
+    record {
+      found = at;
+      done = c.in_ok-answer.ensures.done;
+      places = c.in_ok-answer.ensures.length;
+      room = c.in_ok-answer.ensures.room;
+    } in
     still_going l.holdings c.operation.new.self c.in-Some.op.now c.in_ok-answer.answer kept did
 
 -- src/turns.rt:58:9
@@ -29,10 +38,20 @@ invariant_of-self-2 c =
     let k = c.in-Some.ensures.lookup in
     let within : c.place-place.result < length l.holdings.script.now = grind (arith, nat_tests, k.0) in
     let at : slice_get l.holdings.script.now l.holdings.agenda.place ≡ Some c.in-Some.op.now =
-    ap (slice_get l.holdings.script.now) (sym c.place-place.ensures) ∙ slice_get_read l.holdings.script.now (length l.holdings.script.now) c.place-place.result c.in-Some.op.now refl within k.1 in
-    let kept : Kept l.holdings = record { length = l.length; room = l.room; new_tags = l.new_tags; new_maps = l.new_maps } in
-    let did : Done l.holdings c.operation.new.self c.in-Some.op.now c.in_ok-answer.answer = record { found = at; done = c.in_ok-answer.ensures.done; places = c.in_ok-answer.ensures.length; room = c.in_ok-answer.ensures.room } in
-    let on = kept_on l.holdings c.operation.new.self c.advance.new.self c.in-Some.op.now c.in_ok-answer.answer kept did c.advance.ensures.agenda c.advance.ensures.rest in
+    ap (slice_get l.holdings.script.now) (sym c.place-place.ensures)
+    ∙ slice_get_read l.holdings.script.now (length l.holdings.script.now)
+    c.place-place.result c.in-Some.op.now refl within k.1 in
+    let kept : Kept l.holdings =
+    record { length = l.length; room = l.room; new_tags = l.new_tags; new_maps = l.new_maps } in
+    let did : Done l.holdings c.operation.new.self c.in-Some.op.now c.in_ok-answer.answer =
+    record {
+      found = at;
+      done = c.in_ok-answer.ensures.done;
+      places = c.in_ok-answer.ensures.length;
+      room = c.in_ok-answer.ensures.room;
+    } in
+    let on = kept_on l.holdings c.operation.new.self c.advance.new.self c.in-Some.op.now c.in_ok-answer.answer kept did
+    c.advance.ensures.agenda c.advance.ensures.rest in
     record { length = on.length; room = on.room; new_tags = on.new_tags; new_maps = on.new_maps }
 
 -- src/turns.rt:46:5
@@ -42,9 +61,21 @@ returns-clause-done c =
     let k = c.in-Some.ensures.lookup in
     let within : c.place-place.result < length l.script.now = grind (arith, nat_tests, k.0) in
     let at : slice_get l.script.now l.agenda.place ≡ Some c.in-Some.op.now =
-    ap (slice_get l.script.now) (sym c.place-place.ensures) ∙ slice_get_read l.script.now (length l.script.now) c.place-place.result c.in-Some.op.now refl within k.1 in
-    let did : Done l c.operation.new.self c.in-Some.op.now c.in_ok-answer.answer = record { found = at; done = c.in_ok-answer.ensures.done; places = c.in_ok-answer.ensures.length; room = c.in_ok-answer.ensures.room } in
-    let on = on_to_next l c.operation.new.self c.advance.new.self c.in-Some.op.now c.in_ok-answer.answer did c.advance.ensures.agenda c.advance.ensures.rest in
+    ap (slice_get l.script.now) (sym c.place-place.ensures)
+    ∙ slice_get_read l.script.now (length l.script.now) c.place-place.result c.in-Some.op.now refl within k.1 in
+    let did : Done l c.operation.new.self c.in-Some.op.now c.in_ok-answer.answer =
+    record {
+      found = at;
+      done = c.in_ok-answer.ensures.done;
+      places = c.in_ok-answer.ensures.length;
+      room = c.in_ok-answer.ensures.room;
+    } in
+    let on = on_to_next l c.operation.new.self c.advance.new.self c.in-Some.op.now c.in_ok-answer.answer did
+    c.advance.ensures.agenda c.advance.ensures.rest in
     let going : waits c.in-Some.op.now (ideal_of l) ≡ false = sym c.waits.ensures ∙ c.if-waits.false in
-    script_step (ideal_of l) (ideal_of c.advance.new.self) c.in-Some.op.now c.in_ok-answer.answer c.stepped.result did.found going on
-    (c.stepped.ensures ∙ ap (λ p. (stepped side.Script (journal.Op p) (gives (ideal_of c.advance.new.self) c.in_ok-answer.answer)).turn) c.place-place.ensures)
+    script_step (ideal_of l) (ideal_of c.advance.new.self) c.in-Some.op.now
+    c.in_ok-answer.answer c.stepped.result did.found going on
+    (c.stepped.ensures
+    ∙ ap
+    (λ p. (stepped side.Script (journal.Op p) (gives (ideal_of c.advance.new.self) c.in_ok-answer.answer)).turn)
+    c.place-place.ensures)

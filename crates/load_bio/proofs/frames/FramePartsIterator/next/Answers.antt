@@ -11,13 +11,17 @@ returns-clause-steps c =
     let are = c.in-Some.ensures.cases.0 in
     let all = subst AreFrames are c.self.invariant.2 in
     sym c.self.view_is ∙ ap (λ fs. run_stream (reached (in_frames fs) s.off s.left) s.left s.offset s.opens false) are
-    ∙ frames_stream c.in-Some.frame.now c.in-Some.others.now s.off c.min.result s.left s.offset s.opens all.0 c.self.invariant.0 (omega arith) (omega arith)
+    ∙ frames_stream c.in-Some.frame.now c.in-Some.others.now s.off c.min.result s.left s.offset s.opens all.0
+    c.self.invariant.0 (omega arith) (omega arith)
 
 pub returns-clause-goes : goal.returns-clause-goes
 returns-clause-goes c =
     let s = c.self.inside in
     let are = c.in-Some.ensures.cases.0 in
     let all = subst AreFrames are c.self.invariant.2 in
-    let e = sym c.self.view_is ∙ ap (λ fs. run_stream (reached (in_frames fs) s.off s.left) s.left s.offset s.opens false) are
-    ∙ frames_stream c.in-Some.frame.now c.in-Some.others.now s.off c.min.result s.left s.offset s.opens all.0 c.self.invariant.0 (omega arith) (omega arith) in
+    let e =
+    sym c.self.view_is
+    ∙ ap (λ fs. run_stream (reached (in_frames fs) s.off s.left) s.left s.offset s.opens false) are
+    ∙ frames_stream c.in-Some.frame.now c.in-Some.others.now s.off c.min.result s.left s.offset s.opens all.0
+    c.self.invariant.0 (omega arith) (omega arith) in
     record { on = λ _. (tt, tt, omega (arith, ap length e)); keeps = tt; rests = λ _. tt }
