@@ -2,7 +2,7 @@ use Rattle.std.proofs.Common.{ap, sym, ◌∙◌, refl}
 use Rattle.phys_memory.specs.Memory.{wire}
 use Rattle.busdma_base.specs.Runs.{addresses}
 use Rattle.lane_core.specs.Ideal.{ideal_of}
-use Rattle.lane_core.proofs.Held.{shown, same_ideal}
+use Rattle.lane_core.proofs.Held.{shown, same_ideal, on_err}
 use Rattle.lane_core.proofs.Outcomes.{cpu_write_done, write_done, covered_written}
 use Rattle.lane_core.proofs.holdings.Holdings.cpu_write.Goals as goal
 
@@ -35,8 +35,7 @@ pub returns-in_err-reserve-clause-err : goal.returns-in_err-reserve-clause-err
 returns-in_err-reserve-clause-err c =
     let h = c.args.self.now in
     let same = c.reserve.ensures.same in
-    record {
-      ideal = same_ideal (ideal_of h) h.loans.bytes c.reserve.new.self.bytes (wire h.memory.memory) h.loans.loans
-          c.reserve.new.self.loans same.bytes same.loans;
+    on_err c.from_residual-in_err-reserve.result (record {
+      ideal = same_ideal (ideal_of h) h.loans.bytes c.reserve.new.self.bytes (wire h.memory.memory) h.loans.loans c.reserve.new.self.loans same.bytes same.loans;
       wire = refl;
-    }
+    })

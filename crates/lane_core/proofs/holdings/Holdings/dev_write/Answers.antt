@@ -4,7 +4,7 @@ use Rattle.loan_table.specs.Table.{buffer_of}
 use Rattle.loan_table.proofs.Marking.{AreIn-range}
 use Rattle.lane_core.specs.Accesses.{load_bytes}
 use Rattle.lane_core.specs.Ideal.{ideal_of}
-use Rattle.lane_core.proofs.Held.{shown, same_ideal}
+use Rattle.lane_core.proofs.Held.{shown, same_ideal, on_err}
 use Rattle.lane_core.proofs.Outcomes.{dev_write_done, write_done, covered_written, range_size}
 use Rattle.busdma_base.specs.Machine.Wire.{put}
 use Rattle.lane_core.proofs.Unbounced.{unbounced_buses}
@@ -52,9 +52,7 @@ pub returns-in_err-reserve_extents-clause-err : goal.returns-in_err-reserve_exte
 returns-in_err-reserve_extents-clause-err c =
     let h = c.args.self.now in
     let same = c.reserve_extents.ensures.same in
-    record {
-      ideal =
-          same_ideal (ideal_of h) h.loans.bytes c.reserve_extents.new.loans.bytes (wire h.memory.memory) h.loans.loans
-          c.reserve_extents.new.loans.loans same.bytes same.loans;
+    on_err c.from_residual.result (record {
+      ideal = same_ideal (ideal_of h) h.loans.bytes c.reserve_extents.new.loans.bytes (wire h.memory.memory) h.loans.loans c.reserve_extents.new.loans.loans same.bytes same.loans;
       wire = refl;
-    }
+    })

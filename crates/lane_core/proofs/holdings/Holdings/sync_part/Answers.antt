@@ -1,7 +1,7 @@
 use Rattle.std.proofs.Common.{ap, sym, ◌∙◌, refl}
 use Rattle.phys_memory.specs.Memory.{wire}
 use Rattle.lane_core.specs.Ideal.{ideal_of}
-use Rattle.lane_core.proofs.Held.{shown, same_ideal}
+use Rattle.lane_core.proofs.Held.{shown, same_ideal, on_err}
 use Rattle.lane_core.proofs.Outcomes.{sync_done, covered_synced}
 use Rattle.lane_core.proofs.Unbounced.{unbounced_sync}
 use Rattle.lane_core.proofs.holdings.Holdings.sync_part.Goals as goal
@@ -33,9 +33,7 @@ pub returns-in_err-reserve_extents-clause-err : goal.returns-in_err-reserve_exte
 returns-in_err-reserve_extents-clause-err c =
     let h = c.args.self.now in
     let same = c.reserve_extents.ensures.same in
-    record {
-      ideal =
-          same_ideal (ideal_of h) h.loans.bytes c.reserve_extents.new.loans.bytes (wire h.memory.memory) h.loans.loans
-          c.reserve_extents.new.loans.loans same.bytes same.loans;
+    on_err c.from_residual.result (record {
+      ideal = same_ideal (ideal_of h) h.loans.bytes c.reserve_extents.new.loans.bytes (wire h.memory.memory) h.loans.loans c.reserve_extents.new.loans.loans same.bytes same.loans;
       wire = refl;
-    }
+    })
