@@ -1,5 +1,6 @@
 -- What is judged in parts.
-use Rattle.std.proofs.Common.{◌≡◌, ℕ, zero, suc, ◌+◌, List, [], ◌∷◌, ◌++◌, length, Option, Some, None, refl, sym, ap, ◌∙◌, add-zero, arith}
+use Rattle.std.proofs.Common.{◌≡◌, ℕ, zero, suc, ◌+◌, List, [], ◌∷◌, ◌++◌, length, Option, Some, None, refl, sym, ap}
+use Rattle.std.proofs.Common.{◌∙◌, add-zero, arith}
 use Rattle.busdma_base.specs.declared.journals.report.Report.{Report}
 use Rattle.busdma_base.specs.declared.journals.report.ReportName.{ReportName}
 use Rattle.busdma_base.specs.declared.journals.report.Judged.{Judged}
@@ -8,24 +9,28 @@ use Rattle.busdma_base.specs.Journals.Judging.{judged, refused_or}
 use Rattle.busdma_base.specs.Runs.{run_of}
 
 module _ {X : Type 0} (f : X → Option ReportName) where
-  fine_or : (o : Option ReportName) (at : ℕ) (rest all tail : Judged) → (rest ≡ Fine → all ≡ tail) → refused_or o at rest ≡ Fine → refused_or o at all ≡ tail
+  fine_or : (o : Option ReportName) (at : ℕ) (rest all tail : Judged) → (rest ≡ Fine → all ≡ tail) →
+      refused_or o at rest ≡ Fine → refused_or o at all ≡ tail
   fine_or None at rest all tail next h = next h
   fine_or (Some name) at rest all tail next h = absurd (cc)
 
   -- the first part is Fine: what is left is judged
-  pub judged-fine : (at : ℕ) (xs ys : List X) → judged f at xs ≡ Fine → judged f at (xs ++ ys) ≡ judged f (at + length xs) ys
+  pub judged-fine : (at : ℕ) (xs ys : List X) → judged f at xs ≡ Fine →
+      judged f at (xs ++ ys) ≡ judged f (at + length xs) ys
   judged-fine at [] ys h = ap (λ n. judged f n ys) (sym (add-zero at))
   judged-fine at (x ∷ xs) ys h =
       let e : at + 1 + length xs ≡ at + suc (length xs) = omega arith in
       fine_or (f x) at (judged f (at + 1) xs) (judged f (at + 1) (xs ++ ys)) (judged f (at + suc (length xs)) ys)
       (λ fine. judged-fine (at + 1) xs ys fine ∙ ap (λ n. judged f n ys) e) h
 
-  refused_first : (o : Option ReportName) (at : ℕ) (rest all : Judged) (r : Report) → (rest ≡ Refused r → all ≡ Refused r) → refused_or o at rest ≡ Refused r → refused_or o at all ≡ Refused r
+  refused_first : (o : Option ReportName) (at : ℕ) (rest all : Judged) (r : Report) →
+      (rest ≡ Refused r → all ≡ Refused r) → refused_or o at rest ≡ Refused r → refused_or o at all ≡ Refused r
   refused_first None at rest all r next h = next h
   refused_first (Some name) at rest all r next h = h
 
   -- the first part is refused: so is the whole
-  pub judged-refused : (at : ℕ) (xs ys : List X) (r : Report) → judged f at xs ≡ Refused r → judged f at (xs ++ ys) ≡ Refused r
+  pub judged-refused : (at : ℕ) (xs ys : List X) (r : Report) →
+      judged f at xs ≡ Refused r → judged f at (xs ++ ys) ≡ Refused r
   judged-refused at [] ys r h = absurd (cc)
   judged-refused at (x ∷ xs) ys r h = refused_first (f x) at _ _ r (judged-refused (at + 1) xs ys r) h
 
@@ -34,5 +39,7 @@ length-run_of at zero = refl
 length-run_of at (suc n) = ap suc (length-run_of (at + 1) n)
 
 -- one that is not refused: what is left is judged
-pub judged-none : {X : Type 0} (f : X → Option ReportName) (at : ℕ) (xs rest : List X) (x : X) (answer : Judged) → xs ≡ x ∷ rest → f x ≡ None → judged f at xs ≡ answer → judged f (at + 1) rest ≡ answer
-judged-none f at xs rest x answer e none h = sym (ap (λ o. refused_or o at (judged f (at + 1) rest)) none) ∙ sym (ap (judged f at) e) ∙ h
+pub judged-none : {X : Type 0} (f : X → Option ReportName) (at : ℕ) (xs rest : List X) (x : X) (answer : Judged) →
+    xs ≡ x ∷ rest → f x ≡ None → judged f at xs ≡ answer → judged f (at + 1) rest ≡ answer
+judged-none f at xs rest x answer e none h =
+    sym (ap (λ o. refused_or o at (judged f (at + 1) rest)) none) ∙ sym (ap (judged f at) e) ∙ h

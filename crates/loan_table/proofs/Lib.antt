@@ -6,4 +6,6 @@ pub mod Marking
 pub mod Places
 pub mod Removal
 pub mod Results
+pub mod Rooms
+pub mod RunMarks
 pub mod Trees

@@ -1,5 +1,6 @@
 -- Marks of a range: no position moves, and the bytes that a call loses.
-use Rattle.std.proofs.Common.{◌≡◌, ℕ, zero, suc, ◌+◌, Bool, true, false, cond, List, [], ◌∷◌, ◌++◌, ◌==◌, map, take, drop, Some, None, IsSome, unwrap_or, refl, sym, ap, ◌∙◌, subst}
+use Rattle.std.proofs.Common.{◌≡◌, ℕ, zero, suc, ◌+◌, Bool, true, false, cond, List, [], ◌∷◌, ◌++◌, ◌==◌, map, take}
+use Rattle.std.proofs.Common.{drop, Some, None, IsSome, unwrap_or, refl, sym, ap, ◌∙◌, subst}
 use Rattle.std.proofs.lemmas.List.{map-append, append_assoc, drop-drop, take-append-drop}
 use Rattle.std.specs.List.{filter}
 use Rattle.std.specs.Ordering.{nat_cmp, eq_by_cmp}
@@ -26,61 +27,91 @@ three_parts off len ps =
     ∙ ap (λ xs. take off ps ++ (range_of off len ps ++ xs)) (sym (drop-drop len off ps))
     ∙ ap (λ xs. take off ps ++ xs) (take-append-drop len (drop off ps)) ∙ take-append-drop off ps
 
-addresses_of_three : (a b c : List Position) → addresses_of (a ++ b ++ c) ≡ addresses_of a ++ addresses_of b ++ addresses_of c
+addresses_of_three : (a b c : List Position) →
+    addresses_of (a ++ b ++ c) ≡ addresses_of a ++ addresses_of b ++ addresses_of c
 addresses_of_three a b c = map-append _ (a ++ b) c ∙ ap (λ xs. xs ++ addresses_of c) (map-append _ a b)
 
-pub addresses_of-marked_range : (ops : ℕ) (off len : ℕ) (ps : List Position) → addresses_of (marked_range ops off len ps) ≡ addresses_of ps
+pub addresses_of-marked_range : (ops : ℕ) (off len : ℕ) (ps : List Position) →
+    addresses_of (marked_range ops off len ps) ≡ addresses_of ps
 addresses_of-marked_range ops off len ps =
-    addresses_of_three _ _ _ ∙ ap (λ xs. addresses_of (take off ps) ++ xs ++ addresses_of (drop (off + len) ps)) (addresses_of-marked ops (range_of off len ps))
+    addresses_of_three _ _ _ ∙ ap (λ xs. addresses_of (take off ps) ++ xs ++ addresses_of (drop (off + len) ps))
+    (addresses_of-marked ops (range_of off len ps))
     ∙ sym (addresses_of_three _ _ _) ∙ ap addresses_of (three_parts off len ps)
 
 -- the loan at a key after an insert
-pub loan_of-insert : (loans : Loans) (m : ℕ) (new : Loan) (q : ℕ) → loan_of (insert loans m new) q ≡ cond (eq_by_cmp nat_cmp q m) new (loan_of loans q)
-loan_of-insert loans m new q = ap (λ o. unwrap_or o no_loan) (get-insert nat_cmp_total loans m new q) ∙ chosen (eq_by_cmp nat_cmp q m)
+pub loan_of-insert : (loans : Loans) (m : ℕ) (new : Loan) (q : ℕ) →
+    loan_of (insert loans m new) q ≡ cond (eq_by_cmp nat_cmp q m) new (loan_of loans q)
+loan_of-insert loans m new q =
+    ap (λ o. unwrap_or o no_loan) (get-insert nat_cmp_total loans m new q) ∙ chosen (eq_by_cmp nat_cmp q m)
   where
     chosen : (b : Bool) → unwrap_or (cond b (Some new) (get loans q)) no_loan ≡ cond b new (loan_of loans q)
     chosen true = refl
     chosen false = refl
 
-AreIn-take : (m : FinMap nat_cmp Bool) (n : ℕ) (ps : List Position) → AreIn m (addresses_of ps) → AreIn m (addresses_of (take n ps))
+AreIn-take : (m : FinMap nat_cmp Bool) (n : ℕ) (ps : List Position) →
+    AreIn m (addresses_of ps) → AreIn m (addresses_of (take n ps))
 AreIn-take m zero ps h = tt
 AreIn-take m (suc n) [] h = tt
 AreIn-take m (suc n) (p ∷ ps) h = (h.0, AreIn-take m n ps h.1)
 
-AreIn-drop : (m : FinMap nat_cmp Bool) (n : ℕ) (ps : List Position) → AreIn m (addresses_of ps) → AreIn m (addresses_of (drop n ps))
+AreIn-drop : (m : FinMap nat_cmp Bool) (n : ℕ) (ps : List Position) →
+    AreIn m (addresses_of ps) → AreIn m (addresses_of (drop n ps))
 AreIn-drop m zero ps h = h
 AreIn-drop m (suc n) [] h = tt
 AreIn-drop m (suc n) (p ∷ ps) h = AreIn-drop m n ps h.1
 
-pub AreIn-range : (m : FinMap nat_cmp Bool) (off len : ℕ) (ps : List Position) → AreIn m (addresses_of ps) → AreIn m (addresses_of (range_of off len ps))
+pub AreIn-range : (m : FinMap nat_cmp Bool) (off len : ℕ) (ps : List Position) → AreIn m (addresses_of ps) →
+    AreIn m (addresses_of (range_of off len ps))
 AreIn-range m off len ps h = AreIn-take m len (drop off ps) (AreIn-drop m off ps h)
 
--- a loop that makes Unknown the bytes of the positions that pass a test, at a position that does and at one that does not
-module _ (m n w : FinMap nat_cmp Bool) (test : Position → Bool) (ps rest : List Position) (p : Position) (e : ps ≡ p ∷ rest) where
-  pub lose_yes : test p ≡ true → n ≡ insert m p.pa false → (set_all m (addresses_of (filter test ps)) false ≡ w) × AreIn m (addresses_of ps) → (set_all n (addresses_of (filter test rest)) false ≡ w) × AreIn n (addresses_of rest)
+-- a loop that makes Unknown the bytes of the positions that pass a test, at a position that does and at one that does
+-- not
+module _ (m n w : FinMap nat_cmp Bool) (test : Position → Bool) (ps rest : List Position)
+    (p : Position) (e : ps ≡ p ∷ rest) where
+  pub lose_yes : test p ≡ true → n ≡ insert m p.pa false → (set_all m (addresses_of (filter test ps)) false ≡ w)
+      × AreIn m (addresses_of ps) → (set_all n (addresses_of (filter test rest)) false ≡ w)
+      × AreIn n (addresses_of rest)
   lose_yes passes is h = (
-    ap (λ x. set_all x (addresses_of (filter test rest)) false) is ∙ sym (ap (λ b. set_all m (addresses_of (cond b (p ∷ filter test rest) (filter test rest))) false) passes) ∙ sym (ap (λ xs. set_all m (addresses_of (filter test xs)) false) e) ∙ h.0,
+    ap (λ x. set_all x (addresses_of (filter test rest)) false) is
+        ∙ sym (ap (λ b. set_all m (addresses_of (cond b (p ∷ filter test rest) (filter test rest))) false) passes)
+        ∙ sym (ap (λ xs. set_all m (addresses_of (filter test xs)) false) e) ∙ h.0,
     rw is (AreIn-insert m p.pa false (addresses_of rest) (rw e at h.1).1),
   )
 
-  pub lose_no : test p ≡ false → n ≡ m → (set_all m (addresses_of (filter test ps)) false ≡ w) × AreIn m (addresses_of ps) → (set_all n (addresses_of (filter test rest)) false ≡ w) × AreIn n (addresses_of rest)
+  pub lose_no : test p ≡ false → n ≡ m → (set_all m (addresses_of (filter test ps)) false ≡ w)
+      × AreIn m (addresses_of ps) → (set_all n (addresses_of (filter test rest)) false ≡ w)
+      × AreIn n (addresses_of rest)
   lose_no fails is h = (
-    ap (λ x. set_all x (addresses_of (filter test rest)) false) is ∙ sym (ap (λ b. set_all m (addresses_of (cond b (p ∷ filter test rest) (filter test rest))) false) fails) ∙ sym (ap (λ xs. set_all m (addresses_of (filter test xs)) false) e) ∙ h.0,
+    ap (λ x. set_all x (addresses_of (filter test rest)) false) is
+        ∙ sym (ap (λ b. set_all m (addresses_of (cond b (p ∷ filter test rest) (filter test rest))) false) fails)
+        ∙ sym (ap (λ xs. set_all m (addresses_of (filter test xs)) false) e) ∙ h.0,
     rw is (rw e at h.1).1,
   )
 
-pub same_bytes : (loans : Loans) (m : ℕ) (new : Loan) → addresses_of new.positions ≡ addresses_of (loan_of loans m).positions → (q : ℕ) → addresses_of (loan_of (insert loans m new) q).positions ≡ addresses_of (loan_of loans q).positions
+pub same_bytes : (loans : Loans) (m : ℕ) (new : Loan) →
+    addresses_of new.positions ≡ addresses_of (loan_of loans m).positions → (q : ℕ) →
+    addresses_of (loan_of (insert loans m new) q).positions ≡ addresses_of (loan_of loans q).positions
 same_bytes loans m new same q =
-    ap (λ l. addresses_of l.positions) (loan_of-insert loans m new q ∙ ap (λ b. cond b new (loan_of loans q)) (unsigned_tied q m)) ∙ at_test (q == m) refl
+    ap (λ l. addresses_of l.positions) (loan_of-insert loans m new q
+    ∙ ap (λ b. cond b new (loan_of loans q)) (unsigned_tied q m)) ∙ at_test (q == m) refl
   where
-    at_test : (b : Bool) → (q == m) ≡ b → addresses_of (cond b new (loan_of loans q)).positions ≡ addresses_of (loan_of loans q).positions
+    at_test : (b : Bool) → (q == m) ≡ b → addresses_of (cond b new (loan_of loans q)).positions
+        ≡ addresses_of (loan_of loans q).positions
     at_test true e = same ∙ ap (λ k. addresses_of (loan_of loans k).positions) (sym (exact_unsigned_eq q m e))
     at_test false e = refl
 
 -- a sync call moves no position
-pub addresses_of-synced : (loans : Loans) (m off len : ℕ) (ops : ℕ) (q : ℕ) → addresses_of (loan_of (synced loans m off len ops) q).positions ≡ addresses_of (loan_of loans q).positions
+pub addresses_of-synced : (loans : Loans) (m off len : ℕ) (ops : ℕ) (q : ℕ) →
+    addresses_of (loan_of (synced loans m off len ops) q).positions ≡ addresses_of (loan_of loans q).positions
 addresses_of-synced loans m off len ops q =
-    (elim (loan_of loans m).coherent as (λ b. addresses_of (loan_of (cond b loans (insert loans m (record { coherent = false; positions = marked_range ops off len (loan_of loans m).positions }))) q).positions ≡ addresses_of (loan_of loans q).positions) [
+    (elim (loan_of loans m).coherent as (λ b. addresses_of
+    (loan_of
+    (cond b loans
+    (insert loans m (record {
+      coherent = false;
+      positions = marked_range ops off len (loan_of loans m).positions;
+    }))) q).positions
+    ≡ addresses_of (loan_of loans q).positions) [
       | true ↦ refl
       | false ↦ same_bytes loans m _ (addresses_of-marked_range ops off len (loan_of loans m).positions) q
     ])
@@ -93,31 +124,40 @@ pub unlent-append : (front back : List ℕ) → unlent (front ++ back) ≡ unlen
 unlent-append front back = map-append _ front back
 
 -- what holds of the loan that is put and of each other one holds of all
-pub put_loan : (P : List Position → Type 0) (loans : Loans) (m : ℕ) (new : Loan) → P new.positions → ((q : ℕ) → P (loan_of loans q).positions) → (q : ℕ) → P (loan_of (insert loans m new) q).positions
-put_loan P loans m new here others q = subst (λ (l : Loan). P l.positions) (sym (loan_of-insert loans m new q)) (chosen (eq_by_cmp nat_cmp q m))
+pub put_loan : (P : List Position → Type 0) (loans : Loans) (m : ℕ) (new : Loan) → P new.positions →
+    ((q : ℕ) → P (loan_of loans q).positions) → (q : ℕ) → P (loan_of (insert loans m new) q).positions
+put_loan P loans m new here others q =
+    subst (λ (l : Loan). P l.positions) (sym (loan_of-insert loans m new q)) (chosen (eq_by_cmp nat_cmp q m))
   where
     chosen : (b : Bool) → P (cond b new (loan_of loans q)).positions
     chosen true = here
     chosen false = others q
 
-pub take_loan : (P : List Position → Type 0) (loans : Loans) (m : ℕ) → P [] → ((q : ℕ) → P (loan_of loans q).positions) → (q : ℕ) → P (loan_of (remove loans m) q).positions
-take_loan P loans m none others q = subst (λ o. P (unwrap_or o no_loan).positions) (sym (get-remove nat_cmp_total loans m q)) (chosen (eq_by_cmp nat_cmp q m))
+pub take_loan : (P : List Position → Type 0) (loans : Loans) (m : ℕ) → P [] →
+    ((q : ℕ) → P (loan_of loans q).positions) → (q : ℕ) → P (loan_of (remove loans m) q).positions
+take_loan P loans m none others q =
+    subst (λ o. P (unwrap_or o no_loan).positions)
+    (sym (get-remove nat_cmp_total loans m q)) (chosen (eq_by_cmp nat_cmp q m))
   where
     chosen : (b : Bool) → P (unwrap_or (cond b None (get loans q)) no_loan).positions
     chosen true = none
     chosen false = others q
 
-filtered : (m : FinMap nat_cmp Bool) (p : Position) (ps : List Position) (b : Bool) → IsSome (get m p.pa) → AreIn m (addresses_of ps) → AreIn m (addresses_of (cond b (p ∷ ps) ps))
+filtered : (m : FinMap nat_cmp Bool) (p : Position) (ps : List Position) (b : Bool) → IsSome (get m p.pa) →
+    AreIn m (addresses_of ps) → AreIn m (addresses_of (cond b (p ∷ ps) ps))
 filtered m p ps true h k = (h, k)
 filtered m p ps false h k = k
 
-pub AreIn-filter : (m : FinMap nat_cmp Bool) (test : Position → Bool) (ps : List Position) → AreIn m (addresses_of ps) → AreIn m (addresses_of (filter test ps))
+pub AreIn-filter : (m : FinMap nat_cmp Bool) (test : Position → Bool) (ps : List Position) →
+    AreIn m (addresses_of ps) → AreIn m (addresses_of (filter test ps))
 AreIn-filter m test [] h = tt
 AreIn-filter m test (p ∷ ps) h = filtered m p (filter test ps) (test p) h.0 (AreIn-filter m test ps h.1)
 
-pub AreIn-lost : (m : FinMap nat_cmp Bool) (loans : Loans) (k off len : ℕ) (ops : ℕ) → AreIn m (addresses_of (loan_of loans k).positions) → AreIn m (lost loans k off len ops)
+pub AreIn-lost : (m : FinMap nat_cmp Bool) (loans : Loans) (k off len : ℕ) (ops : ℕ) →
+    AreIn m (addresses_of (loan_of loans k).positions) → AreIn m (lost loans k off len ops)
 AreIn-lost m loans k off len ops h =
-    elim (loan_of loans k).coherent as (λ b. AreIn m (cond b [] (addresses_of (filter (loses ops) (range_of off len (loan_of loans k).positions))))) [
+    elim (loan_of loans k).coherent as (λ b. AreIn m
+    (cond b [] (addresses_of (filter (loses ops) (range_of off len (loan_of loans k).positions))))) [
       | true ↦ tt
       | false ↦ AreIn-filter m (loses ops) _ (AreIn-range m off len _ h)
     ]

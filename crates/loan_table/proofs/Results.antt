@@ -1,5 +1,6 @@
 -- What a result says, by its variant.
-use Rattle.std.proofs.Common.{◌≡◌, true, false, Option, Some, None, IsSome, Result, Ok, Err, OnOk, OnErr, is_err, Bor, refl}
+use Rattle.std.proofs.Common.{◌≡◌, true, false, Option, Some, None, IsSome, Result, Ok, Err, OnOk, OnErr, is_err, Bor}
+use Rattle.std.proofs.Common.{refl}
 use Rattle.std.specs.Option.{option_copied}
 
 pub copied_some : {X : Type 0} (o : Option (Bor X)) → IsSome (option_copied o) → IsSome o

@@ -1,7 +1,9 @@
 -- Which accesses are allowed.
 use Rattle.std.specs.Prelude.{ℕ, Bool, if◌then◌else◌, ◌||◌, List, Option, Some, None}
 use Rattle.busdma_base.specs.declared.journals.report.ReportName.{ReportName}
-use Rattle.busdma_base.specs.declared.journals.report.ReportName.TheVariants.{CpuReadLent, CpuWriteLent, DeviceReadUnlent, DeviceWriteUnlent, StaleByte}
+use Rattle.busdma_base.specs.declared.journals.report.ReportName.TheVariants.{CpuReadLent, CpuWriteLent}
+use Rattle.busdma_base.specs.declared.journals.report.ReportName.TheVariants.{DeviceReadUnlent, DeviceWriteUnlent}
+use Rattle.busdma_base.specs.declared.journals.report.ReportName.TheVariants.{StaleByte}
 use Rattle.busdma_base.specs.declared.journals.report.Judged.{Judged}
 use Rattle.busdma_base.specs.Journals.Judging.{judged}
 use Rattle.loan_table.specs.declared.position.Position.{Position}

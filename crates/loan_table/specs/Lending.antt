@@ -1,6 +1,7 @@
 -- What a sync of a range of a map's buffer does. Each operation of a call is judged on the loans
 -- before the call, and a call is done whole or not at all.
-use Rattle.std.specs.Prelude.{ℕ, ◌+◌, Bool, false, if◌then◌else◌, ◌&&◌, ◌||◌, not, List, [], ◌++◌, map, take, drop, Option, Some, None}
+use Rattle.std.specs.Prelude.{ℕ, ◌+◌, Bool, false, if◌then◌else◌, ◌&&◌, ◌||◌, not, List, [], ◌++◌, map, take, drop}
+use Rattle.std.specs.Prelude.{Option, Some, None}
 use Rattle.std.specs.List.{filter}
 use Rattle.std.specs.Option.{option_or}
 use Rattle.std.specs.FinMap.{insert}
@@ -22,7 +23,8 @@ prewrite_refusal loans m p =
 -- in any way, nor of one that stands twice in the whole buffer
 abbrev pub preread_refusal : Loans → ℕ → Position → Option ReportName
 preread_refusal loans m p =
-    if p.to_write then None else if lent_elsewhere in_any_way m p.pa loans || stands_twice p.pa (loan_of loans m) then Some Overlap else None
+    if p.to_write then None else if lent_elsewhere in_any_way m p.pa loans
+    || stands_twice p.pa (loan_of loans m) then Some Overlap else None
 
 -- POSTREAD: of bytes alone that the map lends to write
 abbrev pub postread_refusal : Position → Option ReportName
@@ -33,7 +35,8 @@ postread_refusal p = if p.to_write then None else Some SyncOrder
 abbrev pub sync_refusal : Loans → ℕ → ℕ → Position → Option ReportName
 sync_refusal loans m ops p =
     option_or (if postread ops then postread_refusal p else None)
-    (option_or (if prewrite ops then prewrite_refusal loans m p else None) (if preread ops then preread_refusal loans m p else None))
+    (option_or (if prewrite ops then prewrite_refusal loans m p else None) (if preread ops
+    then preread_refusal loans m p else None))
 
 -- the positions from off to off + len - 1
 abbrev pub range_of : ℕ → ℕ → List Position → List Position
@@ -42,9 +45,11 @@ range_of off len ps = take len (drop off ps)
 -- the answer of a call on a range: its first position that is refused; a coherent map refuses nothing
 abbrev pub sync_answer : Loans → ℕ → ℕ → ℕ → ℕ → Judged
 sync_answer loans m off len ops =
-    if (loan_of loans m).coherent then Fine else judged (sync_refusal loans m ops) off (range_of off len (loan_of loans m).positions)
+    if (loan_of loans m).coherent then Fine
+    else judged (sync_refusal loans m ops) off (range_of off len (loan_of loans m).positions)
 
--- a position after a call: PREWRITE lends it to read and POSTWRITE ends that, PREREAD lends it to write and POSTREAD ends that
+-- a position after a call: PREWRITE lends it to read and POSTWRITE ends that, PREREAD lends it to write and POSTREAD
+-- ends that
 abbrev pub marked : ℕ → Position → Position
 marked ops p = record {
   pa = p.pa;
@@ -60,7 +65,8 @@ marked_range ops off len ps = take off ps ++ map (marked ops) (range_of off len 
 abbrev pub synced : Loans → ℕ → ℕ → ℕ → ℕ → Loans
 synced loans m off len ops =
     let loan = loan_of loans m in
-    if loan.coherent then loans else insert loans m (record { coherent = false; positions = marked_range ops off len loan.positions })
+    if loan.coherent then loans else insert loans m
+    (record { coherent = false; positions = marked_range ops off len loan.positions })
 
 -- the byte becomes Unknown: it is newly lent to write, and not lent to read before or by the same call
 abbrev pub loses : ℕ → Position → Bool

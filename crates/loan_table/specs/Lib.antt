@@ -3,5 +3,6 @@ pub mod Kinds
 pub mod Kept
 pub mod Lending
 pub mod Loans
+pub mod Marks
 pub mod Table
 pub mod Trees

@@ -13,7 +13,7 @@ ghost use Rattle.loan_table.specs.Table.{is_marked};
 ghost use Rattle.loan_table.specs.Trees.{of_tree};
 
 use crate::loans::lent;
-use crate::marks::is_known;
+use crate::marks::ByteMarks;
 use crate::position::Position;
 use crate::row::{LoanRow, Way};
 use busdma_base::{Extent, Judged, Report, ReportName};
@@ -28,16 +28,16 @@ pub enum Access {
 
 /// What the driver meets where it reads a byte.
 fn cpu_read_refusal(
-    bytes: &BTreeMap<u64, bool>,
+    bytes: &ByteMarks,
     loans: &BTreeMap<u32, LoanRow>,
     pa: u64,
 ) -> Option<ReportName>
     requires { tree.IsOrdered nat_cmp loans.now }
-    ensures { result ≡ cpu_read_refusal (is_marked (of_tree bytes.now)) (of_tree loans.now) pa }
+    ensures { result ≡ cpu_read_refusal (is_marked bytes.now.bytes) (of_tree loans.now) pa }
 {
     if lent(loans, Way::ToWrite, pa) {
         Some(ReportName::CpuReadLent)
-    } else if is_known(bytes, pa) {
+    } else if bytes.is_known(pa) {
         None
     } else {
         Some(ReportName::StaleByte)
@@ -58,13 +58,13 @@ fn cpu_write_refusal(loans: &BTreeMap<u32, LoanRow>, pa: u64) -> Option<ReportNa
 
 /// What the driver meets at a byte.
 fn cpu_refusal(
-    bytes: &BTreeMap<u64, bool>,
+    bytes: &ByteMarks,
     loans: &BTreeMap<u32, LoanRow>,
     access: Access,
     pa: u64,
 ) -> Option<ReportName>
     requires { tree.IsOrdered nat_cmp loans.now }
-    ensures { result ≡ cpu_refusal access (is_marked (of_tree bytes.now)) (of_tree loans.now) pa }
+    ensures { result ≡ cpu_refusal access (is_marked bytes.now.bytes) (of_tree loans.now) pa }
 {
     match access {
         Access::Read => cpu_read_refusal(bytes, loans, pa),
@@ -74,7 +74,7 @@ fn cpu_refusal(
 
 /// The judgement of the driver's access of a run, whose first byte stands at a place.
 fn judge_run(
-    bytes: &BTreeMap<u64, bool>,
+    bytes: &ByteMarks,
     loans: &BTreeMap<u32, LoanRow>,
     access: Access,
     run: &Extent,
@@ -83,7 +83,7 @@ fn judge_run(
     requires ordered { tree.IsOrdered nat_cmp loans.now }
     requires ends { Ends run.now }
     requires place { place + run.now.len < 2 ^ 64 }
-    ensures { let refusal = cpu_refusal access (is_marked (of_tree bytes.now)) (of_tree loans.now) in
+    ensures { let refusal = cpu_refusal access (is_marked bytes.now.bytes) (of_tree loans.now) in
         result ≡ judged refusal place (run_of run.now.pa.0 run.now.len) }
 {
     let mut at = place;
@@ -98,7 +98,7 @@ fn judge_run(
 
 /// The judgement of the driver's access of extents.
 pub fn judge_extents(
-    bytes: &BTreeMap<u64, bool>,
+    bytes: &ByteMarks,
     loans: &BTreeMap<u32, LoanRow>,
     access: Access,
     extents: &[Extent],
@@ -106,7 +106,7 @@ pub fn judge_extents(
     requires ordered { tree.IsOrdered nat_cmp loans.now }
     requires ends { All Ends extents.now }
     requires total { byte_count extents.now < 2 ^ 64 }
-    ensures { let refusal = cpu_refusal access (is_marked (of_tree bytes.now)) (of_tree loans.now) in
+    ensures { let refusal = cpu_refusal access (is_marked bytes.now.bytes) (of_tree loans.now) in
         result ≡ judged refusal 0 (addresses extents.now) }
 {
     let mut at = 0;
@@ -120,16 +120,12 @@ pub fn judge_extents(
 }
 
 /// What the device meets where it reads a position.
-fn dev_read_refusal(
-    bytes: &BTreeMap<u64, bool>,
-    coherent: bool,
-    position: Position,
-) -> Option<ReportName>
-    ensures { result ≡ dev_read_refusal (is_marked (of_tree bytes.now)) coherent position }
+fn dev_read_refusal(bytes: &ByteMarks, coherent: bool, position: Position) -> Option<ReportName>
+    ensures { result ≡ dev_read_refusal (is_marked bytes.now.bytes) coherent position }
 {
     if !(coherent || position.to_read) {
         Some(ReportName::DeviceReadUnlent)
-    } else if is_known(bytes, position.pa) {
+    } else if bytes.is_known(position.pa) {
         None
     } else {
         Some(ReportName::StaleByte)
@@ -149,12 +145,12 @@ fn dev_write_refusal(coherent: bool, position: Position) -> Option<ReportName>
 
 /// What the device meets at a position.
 fn dev_refusal(
-    bytes: &BTreeMap<u64, bool>,
+    bytes: &ByteMarks,
     coherent: bool,
     access: Access,
     position: Position,
 ) -> Option<ReportName>
-    ensures { result ≡ dev_refusal access (is_marked (of_tree bytes.now)) coherent position }
+    ensures { result ≡ dev_refusal access (is_marked bytes.now.bytes) coherent position }
 {
     match access {
         Access::Read => dev_read_refusal(bytes, coherent, position),
@@ -164,13 +160,13 @@ fn dev_refusal(
 
 /// The judgement of the device's access of positions.
 pub fn judge_positions(
-    bytes: &BTreeMap<u64, bool>,
+    bytes: &ByteMarks,
     coherent: bool,
     access: Access,
     positions: &[Position],
 ) -> Judged
     ensures { result
-        ≡ judged (dev_refusal access (is_marked (of_tree bytes.now)) coherent) 0 positions.now }
+        ≡ judged (dev_refusal access (is_marked bytes.now.bytes) coherent) 0 positions.now }
 {
     for (i, position) in positions.iter().enumerate() {
         if let Some(name) = dev_refusal(bytes, coherent, access, *position) {

@@ -6,6 +6,7 @@ mod extents;
 mod loans;
 mod marks;
 mod position;
+mod room;
 mod row;
 mod sync;
 mod table;

@@ -1,96 +1,159 @@
 //! Known marks by the physical addresses of bytes.
 
-ghost use Rattle.std.specs.Prelude.{◌≡◌, ◌+◌, ◌-◌, ◌<◌, ◌^◌, IsSome, OnOk, OnErr};
+ghost use Rattle.std.specs.Prelude.{◌≡◌, ◌+◌, ◌≤◌, ◌<◌, ◌^◌, IsSome, OnOk, length};
 ghost use Rattle.std.specs.List.{All};
 ghost use Rattle.std.specs.FinMap as map;
 ghost use Rattle.busdma_base.specs.Runs.{run_of, addresses};
 ghost use Rattle.loan_table.specs.Kept.{Ends};
 ghost use Rattle.loan_table.specs.Loans.{addresses_of};
-ghost use Rattle.loan_table.specs.Table.{AreIn, AreNew, set_all, without, is_marked};
-ghost use Rattle.loan_table.specs.Trees.{of_tree};
+ghost use Rattle.loan_table.specs.Table.{AreIn, set_all, without, is_marked};
 
 use crate::position::Position;
 use busdma_base::Extent;
-use std::alloc::AllocError;
-use std::collections::BTreeMap;
+use run_set::RunSet;
+use std::alloc::{AllocError, Global};
+use std::marker::Model;
 
-/// Whether a byte has the mark of a Known one.
-pub fn is_known(bytes: &BTreeMap<u64, bool>, pa: u64) -> bool
-    ensures { result ≡ is_marked (of_tree bytes.now) pa }
-{
-    bytes.get(&pa).copied().unwrap_or(false)
+/// Which bytes a driver has, and which of them are Known: two sets of addresses, as runs.
+///
+/// Contracts see two numbers beside the bytes: `room`, for how many edges there is room where bytes
+/// become Known or Unknown, and `there_room`, for how many where bytes come or go. A change of one
+/// run needs two.
+#[derive(Drop)]
+pub struct ByteMarks {
+    there: RunSet,
+    known: RunSet,
 }
 
-/// Marks a byte that is there.
-pub fn set_known(bytes: &mut BTreeMap<u64, bool>, pa: u64, known: bool)
-    requires { IsSome (map.get (of_tree bytes.old) pa) }
-    ensures { of_tree bytes.new ≡ map.insert (of_tree bytes.old) pa known }
-{
-    if let Some(mark) = bytes.get_mut(&pa) {
-        *mark = known;
+impl Model for ByteMarks {
+    ghost use Rattle.loan_table.specs.Marks.{Marks, marks, marks_code};
+    ghost use Rattle.run_set.specs.Edges.{IsKept};
+
+    ghost Value = { Marks };
+
+    ghost coded = { marks_code };
+
+    ghost view = { λ m. record { bytes = marks m.there.edges m.known.edges; room = m.known.room; there_room = m.there.room } };
+
+    ghost invariant = { λ m. IsKept m.there.edges };
+}
+
+impl ByteMarks {
+    /// No byte, with room for no change.
+    pub fn new(alloc: Global) -> ByteMarks
+        ensures bytes { result.bytes ≡ map.empty }
+        ensures room { result.room ≡ 0 }
+    {
+        ByteMarks {
+            there: RunSet::new(alloc),
+            known: RunSet::new(alloc),
+        }
+    }
+
+    /// Makes room for `edges` edges where bytes become Known or Unknown, and for four where bytes come
+    /// or go. Where memory lacks the marks stay as they were.
+    pub fn reserve(&mut self, edges: usize) -> Result<(), AllocError>
+        ensures ok { OnOk result (edges ≤ self.new.room) }
+        ensures there_ok { OnOk result (4 ≤ self.new.there_room) }
+        ensures bytes { self.new.bytes ≡ self.old.bytes }
+        ensures room { self.old.room ≤ self.new.room }
+        ensures there_room { self.old.there_room ≤ self.new.there_room }
+    {
+        self.there.reserve(4)?;
+        self.known.reserve(edges)
+    }
+
+    /// Whether a byte has the mark of a Known one.
+    pub fn is_known(&self, pa: u64) -> bool
+        ensures { result ≡ is_marked self.now.bytes pa }
+    {
+        self.there.contains(pa) && self.known.contains(pa)
+    }
+
+    /// Marks `len` bytes from `pa` on that are there.
+    pub fn set_run(&mut self, pa: u64, len: u64, known: bool)
+        requires there { AreIn self.old.bytes (run_of pa len) }
+        requires fits { pa + len < 2 ^ 64 }
+        requires room { 2 ≤ self.old.room }
+        ensures bytes { self.new.bytes ≡ set_all self.old.bytes (run_of pa len) known }
+        ensures room { self.old.room ≤ self.new.room + 2 }
+        ensures there_room { self.new.there_room ≡ self.old.there_room }
+    {
+        self.known.set(pa, pa + len, known);
+    }
+
+    /// Marks a byte that is there.
+    pub fn set_known(&mut self, pa: u64, known: bool)
+        requires there { IsSome (map.get self.old.bytes pa) }
+        requires room { 2 ≤ self.old.room }
+        ensures bytes { self.new.bytes ≡ map.insert self.old.bytes pa known }
+        ensures room { self.old.room ≤ self.new.room + 2 }
+        ensures there_room { self.new.there_room ≡ self.old.there_room }
+    {
+        if self.known.contains(pa) != known {
+            self.known.set(pa, pa + 1, known);
+        }
+    }
+
+    /// Adds `len` bytes from `pa` on, each Known or each Unknown.
+    pub fn add_run(&mut self, pa: u64, len: u64, known: bool)
+        requires fits { pa + len < 2 ^ 64 }
+        requires room { 2 ≤ self.old.room }
+        requires there_room { 2 ≤ self.old.there_room }
+        ensures bytes { self.new.bytes ≡ set_all self.old.bytes (run_of pa len) known }
+        ensures room { self.old.room ≤ self.new.room + 2 }
+        ensures there_room { self.old.there_room ≤ self.new.there_room + 2 }
+    {
+        self.there.set(pa, pa + len, true);
+        self.known.set(pa, pa + len, known);
+    }
+
+    /// Removes `len` bytes from `pa` on.
+    pub fn remove_run(&mut self, pa: u64, len: u64)
+        requires fits { pa + len < 2 ^ 64 }
+        requires there_room { 2 ≤ self.old.there_room }
+        ensures bytes { self.new.bytes ≡ without self.old.bytes (run_of pa len) }
+        ensures room { self.new.room ≡ self.old.room }
+    {
+        self.there.set(pa, pa + len, false);
     }
 }
 
-/// Marks the bytes of a run.
-fn set_run(bytes: &mut BTreeMap<u64, bool>, run: &Extent, known: bool)
-    requires there { AreIn (of_tree bytes.old) (run_of run.now.pa.0 run.now.len) }
-    requires ends { Ends run.now }
-    ensures { of_tree bytes.new
-        ≡ set_all (of_tree bytes.old) (run_of run.now.pa.0 run.now.len) known }
+/// Marks the bytes of an extent.
+fn set_extent(bytes: &mut ByteMarks, extent: &Extent, known: bool)
+    requires there { AreIn bytes.old.bytes (run_of extent.now.pa.0 extent.now.len) }
+    requires ends { Ends extent.now }
+    requires room { 2 ≤ bytes.old.room }
+    ensures bytes { bytes.new.bytes ≡ set_all bytes.old.bytes (run_of extent.now.pa.0 extent.now.len) known }
+    ensures room { bytes.old.room ≤ bytes.new.room + 2 }
+    ensures there_room { bytes.new.there_room ≡ bytes.old.there_room }
 {
-    for pa in run.pa.0..run.pa.0 + run.len {
-        set_known(bytes, pa, known);
-    }
+    bytes.set_run(extent.pa.0, extent.len, known);
 }
 
 /// Marks the bytes of extents.
-pub fn set_extents(bytes: &mut BTreeMap<u64, bool>, extents: &[Extent], known: bool)
-    requires there { AreIn (of_tree bytes.old) (addresses extents.now) }
+pub fn set_extents(bytes: &mut ByteMarks, extents: &[Extent], known: bool)
+    requires there { AreIn bytes.old.bytes (addresses extents.now) }
     requires ends { All Ends extents.now }
-    ensures { of_tree bytes.new ≡ set_all (of_tree bytes.old) (addresses extents.now) known }
+    requires room { length extents.now + length extents.now ≤ bytes.old.room }
+    ensures bytes { bytes.new.bytes ≡ set_all bytes.old.bytes (addresses extents.now) known }
+    ensures room { bytes.old.room ≤ bytes.new.room + (length extents.now + length extents.now) }
+    ensures there_room { bytes.new.there_room ≡ bytes.old.there_room }
 {
     for extent in extents {
-        set_run(bytes, extent, known);
+        set_extent(bytes, extent, known);
     }
 }
 
 /// Marks the bytes of positions.
-pub fn set_positions(bytes: &mut BTreeMap<u64, bool>, positions: &[Position], known: bool)
-    requires { AreIn (of_tree bytes.old) (addresses_of positions.now) }
-    ensures { of_tree bytes.new ≡ set_all (of_tree bytes.old) (addresses_of positions.now) known }
+pub fn set_positions(bytes: &mut ByteMarks, positions: &[Position], known: bool)
+    requires there { AreIn bytes.old.bytes (addresses_of positions.now) }
+    requires room { length positions.now + length positions.now ≤ bytes.old.room }
+    ensures bytes { bytes.new.bytes ≡ set_all bytes.old.bytes (addresses_of positions.now) known }
+    ensures room { bytes.old.room ≤ bytes.new.room + (length positions.now + length positions.now) }
+    ensures there_room { bytes.new.there_room ≡ bytes.old.there_room }
 {
     for position in positions {
-        set_known(bytes, position.pa, known);
-    }
-}
-
-/// Adds the bytes of a run, all of them or none.
-pub fn add_run(
-    bytes: &mut BTreeMap<u64, bool>,
-    pa: u64,
-    len: u64,
-    known: bool,
-) -> Result<(), AllocError>
-    requires fresh { AreNew (of_tree bytes.old) (run_of pa len) }
-    requires fits { pa + len < 2 ^ 64 }
-    ensures ok { OnOk result (of_tree bytes.new
-        ≡ set_all (of_tree bytes.old) (run_of pa len) known) }
-    ensures err { OnErr result (of_tree bytes.new ≡ of_tree bytes.old) }
-{
-    for at in pa..pa + len {
-        if bytes.insert(at, known).is_err() {
-            remove_run(bytes, pa, at);
-            return Err(AllocError);
-        }
-    }
-    Ok(())
-}
-
-/// Removes the bytes from an address up to another.
-pub fn remove_run(bytes: &mut BTreeMap<u64, bool>, pa: u64, end: u64)
-    ensures { of_tree bytes.new ≡ without (of_tree bytes.old) (run_of pa (end - pa)) }
-{
-    for at in pa..end {
-        bytes.remove(&at);
+        bytes.set_known(position.pa, known);
     }
 }

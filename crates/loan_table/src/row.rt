@@ -12,14 +12,13 @@ ghost use Rattle.loan_table.specs.Trees.{of_tree};
 ghost use Rattle.run_set.specs.Counts.{changed, count};
 ghost use Rattle.run_set.specs.Edges.{in_run};
 
-use crate::marks;
+use crate::marks::ByteMarks;
 use crate::position::Position;
 use bitflags::Flags;
 use busdma_base::Extent;
 use dma_tag::SyncOps;
 use run_set::RunCounts;
 use std::alloc::{AllocError, Global};
-use std::collections::BTreeMap;
 use std::marker::Model;
 
 /// A way in which a byte may be lent.
@@ -132,10 +131,14 @@ impl LoanRow {
     }
 
     /// Makes Unknown the bytes that the map lends to write.
-    pub fn lose_lent(&self, bytes: &mut BTreeMap<u64, bool>)
-        requires { AreIn (of_tree bytes.old) (addresses_of self.now.positions) }
-        ensures { of_tree bytes.new
-            ≡ set_all (of_tree bytes.old) (addresses_of (filter to_write self.now.positions)) false }
+    pub fn lose_lent(&self, bytes: &mut ByteMarks)
+        requires there { AreIn bytes.old.bytes (addresses_of self.now.positions) }
+        requires room { length self.now.positions + length self.now.positions ≤ bytes.old.room }
+        ensures bytes { bytes.new.bytes
+            ≡ set_all bytes.old.bytes (addresses_of (filter to_write self.now.positions)) false }
+        ensures room { bytes.old.room
+            ≤ bytes.new.room + (length self.now.positions + length self.now.positions) }
+        ensures there_room { bytes.new.there_room ≡ bytes.old.there_room }
     {
         lose_lent(bytes, &self.positions);
     }
@@ -162,27 +165,33 @@ fn mark_range(positions: &mut Vec<Position>, off: u64, len: u64, ops: SyncOps)
 }
 
 /// Makes Unknown those bytes of positions that a call loses.
-pub fn lose(bytes: &mut BTreeMap<u64, bool>, positions: &[Position], ops: SyncOps)
-    requires { AreIn (of_tree bytes.old) (addresses_of positions.now) }
-    ensures { of_tree bytes.new
-        ≡ set_all (of_tree bytes.old) (addresses_of (filter (loses ops.0) positions.now)) false }
+pub fn lose(bytes: &mut ByteMarks, positions: &[Position], ops: SyncOps)
+    requires there { AreIn bytes.old.bytes (addresses_of positions.now) }
+    requires room { length positions.now + length positions.now ≤ bytes.old.room }
+    ensures bytes { bytes.new.bytes
+        ≡ set_all bytes.old.bytes (addresses_of (filter (loses ops.0) positions.now)) false }
+    ensures room { bytes.old.room ≤ bytes.new.room + (length positions.now + length positions.now) }
+    ensures there_room { bytes.new.there_room ≡ bytes.old.there_room }
 {
     for position in positions {
         if loses(position, ops) {
-            marks::set_known(bytes, position.pa, false);
+            bytes.set_known(position.pa, false);
         }
     }
 }
 
 /// Makes Unknown the bytes of the positions that are lent to write.
-fn lose_lent(bytes: &mut BTreeMap<u64, bool>, positions: &[Position])
-    requires { AreIn (of_tree bytes.old) (addresses_of positions.now) }
-    ensures { of_tree bytes.new
-        ≡ set_all (of_tree bytes.old) (addresses_of (filter to_write positions.now)) false }
+fn lose_lent(bytes: &mut ByteMarks, positions: &[Position])
+    requires there { AreIn bytes.old.bytes (addresses_of positions.now) }
+    requires room { length positions.now + length positions.now ≤ bytes.old.room }
+    ensures bytes { bytes.new.bytes
+        ≡ set_all bytes.old.bytes (addresses_of (filter to_write positions.now)) false }
+    ensures room { bytes.old.room ≤ bytes.new.room + (length positions.now + length positions.now) }
+    ensures there_room { bytes.new.there_room ≡ bytes.old.there_room }
 {
     for position in positions {
         if position.to_write {
-            marks::set_known(bytes, position.pa, false);
+            bytes.set_known(position.pa, false);
         }
     }
 }

@@ -5,12 +5,15 @@ ghost use Rattle.std.specs.Ordering.{nat_cmp};
 ghost use Rattle.std.specs.BTreeMap as tree;
 ghost use Rattle.std.specs.FinMap as finmap;
 ghost use Rattle.busdma_base.specs.Journals.Judging.{judged};
-ghost use Rattle.loan_table.specs.Lending.{lost, synced, sync_answer, sync_refusal, prewrite_refusal, preread_refusal, postread_refusal};
+ghost use Rattle.loan_table.specs.Lending.{lost, synced, sync_answer, sync_refusal, prewrite_refusal, preread_refusal};
+ghost use Rattle.loan_table.specs.Lending.{postread_refusal};
+ghost use Rattle.loan_table.specs.Kept.{position_count};
 ghost use Rattle.loan_table.specs.Loans.{loan_of, addresses_of};
 ghost use Rattle.loan_table.specs.Table.{AreIn, set_all};
 ghost use Rattle.loan_table.specs.Trees.{of_tree};
 
 use crate::loans::{lent_elsewhere, row_of};
+use crate::marks::ByteMarks;
 use crate::position::Position;
 use crate::row::{self, LoanRow, Way};
 use bitflags::Flags;
@@ -134,7 +137,7 @@ pub fn answer(loans: &BTreeMap<u32, LoanRow>, map: u32, off: u64, len: u64, ops:
 
 /// Makes Unknown the bytes that a call on a range loses.
 pub fn lose(
-    bytes: &mut BTreeMap<u64, bool>,
+    bytes: &mut ByteMarks,
     loans: &BTreeMap<u32, LoanRow>,
     map: u32,
     off: u64,
@@ -144,9 +147,12 @@ pub fn lose(
     requires there { IsSome (finmap.get (of_tree loans.now) map) }
     requires range { off + len ≤ length (loan_of (of_tree loans.now) map).positions }
     requires bytes { let buffer = (loan_of (of_tree loans.now) map).positions in
-        AreIn (of_tree bytes.old) (addresses_of buffer) }
-    ensures { of_tree bytes.new
-        ≡ set_all (of_tree bytes.old) (lost (of_tree loans.now) map off len ops.0) false }
+        AreIn bytes.old.bytes (addresses_of buffer) }
+    requires room { len + len ≤ bytes.old.room }
+    ensures bytes { bytes.new.bytes
+        ≡ set_all bytes.old.bytes (lost (of_tree loans.now) map off len ops.0) false }
+    ensures room { bytes.old.room ≤ bytes.new.room + (len + len) }
+    ensures there_room { bytes.new.there_room ≡ bytes.old.there_room }
 {
     let row = row_of(loans, map);
     if !row.is_coherent() {
@@ -160,6 +166,7 @@ pub fn mark(loans: &mut BTreeMap<u32, LoanRow>, map: u32, off: u64, len: u64, op
     requires range { off + len ≤ length (loan_of (of_tree loans.old) map).positions }
     ensures marks { of_tree loans.new ≡ synced (of_tree loans.old) map off len ops.0 }
     ensures ordered { tree.IsOrdered nat_cmp loans.new }
+    ensures count { position_count loans.new.entries ≡ position_count loans.old.entries }
 {
     if let Some(row) = loans.get_mut(&map) {
         if !row.is_coherent() {

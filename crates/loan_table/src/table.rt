@@ -1,6 +1,7 @@
 //! Known marks and loans of one driver.
 
-ghost use Rattle.std.specs.Prelude.{◌≡◌, ◌+◌, ◌≤◌, ◌<◌, ◌^◌, OnOk, OnErr, IfOk, IsNone, IsSome, length, slice_index, false, true};
+ghost use Rattle.std.specs.Prelude.{◌≡◌, ◌+◌, ◌≤◌, ◌<◌, ◌^◌, OnOk, OnErr, IfOk, IsNone, IsSome, length, slice_index};
+ghost use Rattle.std.specs.Prelude.{false, true};
 ghost use Rattle.std.specs.List.{All};
 ghost use Rattle.std.specs.FinMap as finmap;
 ghost use Rattle.busdma_base.specs.Runs.{run_of, addresses, byte_count, IsExtent};
@@ -8,10 +9,13 @@ ghost use Rattle.dma_tag.specs.SyncOps.{has_pre, has_post};
 ghost use Rattle.loan_table.specs.Access.{cpu_read_answer, cpu_write_answer, dev_read_answer, dev_write_answer};
 ghost use Rattle.loan_table.specs.Lending.{sync_answer, lost, lost_by_forgetting};
 ghost use Rattle.loan_table.specs.Loans.{loan_of, addresses_of, new_loan};
-ghost use Rattle.loan_table.specs.Table.{HasMap, buffer_of, bytes_at, is_known, AreFree, AreIn, AreNew, set_all, without, IsSame, IsSynced, OnFine, OnRefused, extent_count};
+ghost use Rattle.loan_table.specs.Table.{HasMap, buffer_of, bytes_at, is_known, AreFree, AreIn, AreNew, set_all};
+ghost use Rattle.loan_table.specs.Table.{without, IsSame, IsSynced, OnFine, OnRefused, extent_count};
 
 use crate::access::{self, Access};
 use crate::loans::row_of;
+use crate::marks::ByteMarks;
+use crate::room::{edges_for, spare_after, sum_of};
 use crate::row::LoanRow;
 use crate::{extents, marks, sync};
 use busdma_base::{Extent, ExtentList, Judged, MapId, Pa};
@@ -26,8 +30,9 @@ use std::marker::Model;
 /// Contracts see a number beside the table: `spare`, for how many extents there is room to change.
 #[derive(Drop)]
 pub struct LoanTable {
-    bytes: BTreeMap<u64, bool>,
+    bytes: ByteMarks,
     loans: BTreeMap<u32, LoanRow>,
+    positions: u64,
     spare: u64,
 }
 
@@ -40,9 +45,9 @@ impl Model for LoanTable {
 
     ghost coded = { table_code };
 
-    ghost view = { λ t. record { bytes = of_tree t.bytes; loans = of_tree t.loans; spare = t.spare } };
+    ghost view = { λ t. record { bytes = t.bytes.bytes; loans = of_tree t.loans; spare = t.spare } };
 
-    ghost invariant = { λ t. IsKept t.bytes t.loans };
+    ghost invariant = { λ t. IsKept t.bytes t.loans t.positions t.spare };
 }
 
 impl LoanTable {
@@ -53,8 +58,9 @@ impl LoanTable {
         ensures spare { result.spare ≡ 0 }
     {
         LoanTable {
-            bytes: BTreeMap::new(alloc),
+            bytes: ByteMarks::new(alloc),
             loans: BTreeMap::new(alloc),
+            positions: 0,
             spare: 0,
         }
     }
@@ -75,7 +81,10 @@ impl LoanTable {
         ensures err { OnErr result (IsSame self.old self.new) }
         ensures spare { self.old.spare ≤ self.new.spare }
     {
-        marks::add_run(&mut self.bytes, pa.0, len, known)
+        let bytes = &mut self.bytes;
+        bytes.reserve(edges_for(self.positions, self.spare)?)?;
+        bytes.add_run(pa.0, len, known);
+        Ok(())
     }
 
     /// Takes `len` bytes from `pa` on out of the table.
@@ -87,7 +96,8 @@ impl LoanTable {
         ensures loans { self.new.loans ≡ self.old.loans }
         ensures spare { self.new.spare ≤ self.old.spare }
     {
-        marks::remove_run(&mut self.bytes, pa.0, pa.0 + len);
+        self.bytes.remove_run(pa.0, len);
+        self.spare = 0;
     }
 
     /// Adds a map over the bytes of a buffer, in order. It lends none of them yet; a coherent map
@@ -110,7 +120,10 @@ impl LoanTable {
     {
         let loans = &mut self.loans;
         let row = LoanRow::over(alloc, coherent, bytes)?;
+        let positions = sum_of(self.positions, row.len())?;
+        self.bytes.reserve(edges_for(positions, self.spare)?)?;
         loans.insert(map.made_at, row)?;
+        self.positions = positions;
         Ok(())
     }
 
@@ -125,17 +138,22 @@ impl LoanTable {
     {
         let row = self.loans.remove(&map.made_at).unwrap();
         row.lose_lent(&mut self.bytes);
+        self.positions -= row.len();
     }
 
-    /// Makes room to change `parts` extents. It fails only where that room was missing. One entry for
-    /// each byte needs none: to change a byte takes no memory.
+    /// Makes room to change `parts` extents. It fails only where that room was missing.
     pub fn reserve(&mut self, _alloc: Global, parts: u32) -> Result<(), AllocError>
         ensures room { OnOk result (parts ≤ self.new.spare) }
         ensures missing { OnErr result (self.old.spare < parts) }
         ensures same { IsSame self.old self.new }
         ensures spare { self.old.spare ≤ self.new.spare }
     {
-        self.spare = self.spare.max(parts as u64);
+        let parts = parts as u64;
+        if parts <= self.spare {
+            return Ok(());
+        }
+        self.bytes.reserve(edges_for(self.positions, parts)?)?;
+        self.spare = parts;
         Ok(())
     }
 
@@ -175,16 +193,18 @@ impl LoanTable {
     fn sync(&mut self, map: MapId, off: u64, len: u64, ops: SyncOps) -> Judged
         requires there { HasMap self.old map.made_at }
         requires range { off + len ≤ length (buffer_of self.old map.made_at) }
+        requires room { extent_count (bytes_at self.old map.made_at off len) ≤ self.old.spare }
         ensures answer { result ≡ sync_answer self.old.loans map.made_at off len ops.0 }
         ensures done { OnFine result (IsSynced self.old self.new map.made_at off len ops.0) }
         ensures refused { OnRefused result (IsSame self.old self.new) }
         ensures there { AreIn self.old.bytes (lost self.old.loans map.made_at off len ops.0) }
-        ensures spare { self.new.spare ≡ self.old.spare }
+        ensures spare { self.new.spare ≤ self.old.spare }
     {
         let answer = sync::answer(&self.loans, map.made_at, off, len, ops);
         if let Judged::Fine = answer {
             sync::lose(&mut self.bytes, &self.loans, map.made_at, off, len, ops);
             sync::mark(&mut self.loans, map.made_at, off, len, ops);
+            self.spare = spare_after(self.spare, len);
         }
         answer
     }
@@ -252,6 +272,7 @@ impl LoanTable {
         ensures spare { self.new.spare ≤ self.old.spare }
     {
         marks::set_extents(&mut self.bytes, bytes, true);
+        self.spare -= bytes.len() as u64;
     }
 
     /// Marks bytes Known that the device has written: `len` bytes from `off` on in a map's buffer.
@@ -266,6 +287,7 @@ impl LoanTable {
     {
         let row = row_of(&self.loans, map.made_at);
         marks::set_positions(&mut self.bytes, row.range(off, len), true);
+        self.spare = spare_after(self.spare, len);
     }
 
     /// Whether a map is in the table.
@@ -288,7 +310,7 @@ impl LoanTable {
     pub fn is_known(&self, pa: Pa) -> bool
         ensures { result ≡ is_known self.now pa.0 }
     {
-        marks::is_known(&self.bytes, pa.0)
+        self.bytes.is_known(pa.0)
     }
 
     /// The byte at an offset in a map's buffer.

@@ -13,15 +13,17 @@ use Rattle.loan_table.proofs.access.judge_extents.Goals as goal
 
 pub returns-in-Refused : goal.returns-in-Refused
 returns-in-Refused c =
-    let refusal = cpu_refusal c.args.access (is_marked (of_tree c.args.bytes.now)) (of_tree c.args.loans.now) in
+    let refusal = cpu_refusal c.args.access (is_marked c.args.bytes.now.bytes) (of_tree c.args.loans.now) in
     let extents = c.args.extents.now in
     let i = c.loop-extent.extent-index in
-    sym (judged-refused refusal c.loop-extent.at _ (addresses (drop (i + 1) extents)) c.in-Refused.report (sym c.judge_run.ensures ∙ c.in-Refused.is))
-    ∙ sym (ap (judged refusal c.loop-extent.at) (at_drop_more addresses extents i no_extent c.loop-extent-test.true)) ∙ c.loop-extent.invariant.judged_so_far
+    sym (judged-refused refusal c.loop-extent.at _ (addresses (drop (i + 1) extents)) c.in-Refused.report
+    (sym c.judge_run.ensures ∙ c.in-Refused.is))
+    ∙ sym (ap (judged refusal c.loop-extent.at) (at_drop_more addresses extents i no_extent c.loop-extent-test.true))
+    ∙ c.loop-extent.invariant.judged_so_far
 
 pub loop-extent-preserved : goal.loop-extent-preserved
 loop-extent-preserved c =
-    let refusal = cpu_refusal c.args.access (is_marked (of_tree c.args.bytes.now)) (of_tree c.args.loans.now) in
+    let refusal = cpu_refusal c.args.access (is_marked c.args.bytes.now.bytes) (of_tree c.args.loans.now) in
     let extents = c.args.extents.now in
     let i = c.loop-extent.extent-index in
     let extent = slice_index_or extents i no_extent in
@@ -29,7 +31,10 @@ loop-extent-preserved c =
     record {
       judged_so_far =
           sym (ap (λ n. judged refusal (c.loop-extent.at + n) rest) (length-run_of extent.pa.0 extent.len))
-          ∙ sym (judged-fine refusal c.loop-extent.at (run_of extent.pa.0 extent.len) rest (sym c.judge_run.ensures ∙ c.in_default.is))
-          ∙ sym (ap (judged refusal c.loop-extent.at) (at_drop_more addresses extents i no_extent c.loop-extent-test.true)) ∙ c.loop-extent.invariant.judged_so_far;
+          ∙ sym (judged-fine refusal c.loop-extent.at (run_of extent.pa.0 extent.len) rest
+          (sym c.judge_run.ensures ∙ c.in_default.is))
+          ∙ sym (ap (judged refusal c.loop-extent.at)
+          (at_drop_more addresses extents i no_extent c.loop-extent-test.true))
+          ∙ c.loop-extent.invariant.judged_so_far;
       in_place = omega (arith, sum_by-drop_more (λ (e : Extent). e.len) extents i no_extent c.loop-extent-test.true);
     }

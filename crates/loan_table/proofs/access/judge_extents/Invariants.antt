@@ -8,8 +8,9 @@ use Rattle.loan_table.proofs.access.judge_extents.Given as goal
 
 abbrev pub invariant-loop-extent : goal.invariant-loop-extent
 invariant-loop-extent l =
-    let refusal = cpu_refusal l.access (is_marked (of_tree l.bytes)) (of_tree l.loans) in
+    let refusal = cpu_refusal l.access (is_marked l.bytes.bytes) (of_tree l.loans) in
     record {
-      judged_so_far : judged refusal l.at (addresses (drop l.extent-index l.extents)) ≡ judged refusal 0 (addresses l.extents);
+      judged_so_far : judged refusal l.at (addresses (drop l.extent-index l.extents))
+          ≡ judged refusal 0 (addresses l.extents);
       in_place : l.at + byte_count (drop l.extent-index l.extents) ≡ byte_count l.extents;
     }

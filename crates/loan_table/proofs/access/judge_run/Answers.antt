@@ -5,6 +5,7 @@ use Rattle.loan_table.proofs.access.judge_run.Goals as goal
 
 pub loop-pa-preserved : goal.loop-pa-preserved
 loop-pa-preserved c = record {
-  judged_so_far = judged-none _ _ _ _ _ _ (run_more c.loop-pa.pa _ c.loop-pa-test.true) (sym c.cpu_refusal.ensures ∙ c.in_default.is) c.loop-pa.invariant.judged_so_far;
+  judged_so_far = judged-none _ _ _ _ _ _ (run_more c.loop-pa.pa _ c.loop-pa-test.true) (sym c.cpu_refusal.ensures
+      ∙ c.in_default.is) c.loop-pa.invariant.judged_so_far;
   in_place = omega arith;
 }

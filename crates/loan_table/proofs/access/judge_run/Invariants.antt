@@ -8,8 +8,9 @@ use Rattle.loan_table.proofs.access.judge_run.Given as goal
 
 abbrev pub invariant-loop-pa : goal.invariant-loop-pa
 invariant-loop-pa l =
-    let refusal = cpu_refusal l.access (is_marked (of_tree l.bytes)) (of_tree l.loans) in
+    let refusal = cpu_refusal l.access (is_marked l.bytes.bytes) (of_tree l.loans) in
     record {
-      judged_so_far : judged refusal l.at (run_of l.pa (l.pa-end - l.pa)) ≡ judged refusal l.place (run_of l.run.pa.0 l.run.len);
+      judged_so_far : judged refusal l.at (run_of l.pa (l.pa-end - l.pa))
+          ≡ judged refusal l.place (run_of l.run.pa.0 l.run.len);
       in_place : l.at + (l.pa-end - l.pa) ≡ l.place + l.run.len;
     }

@@ -5,4 +5,5 @@ use Rattle.loan_table.specs.Kinds.{test_of}
 use Rattle.loan_table.proofs.loans.lent.Given as goal
 
 abbrev pub invariant-loop-id : goal.invariant-loop-id
-invariant-loop-id l = list_any (λ e. lends (test_of l.way) l.pa e.1) l._id-iterator ≡ list_any (λ e. lends (test_of l.way) l.pa e.1) l.loans.entries
+invariant-loop-id l = list_any (λ e. lends (test_of l.way) l.pa e.1) l._id-iterator
+    ≡ list_any (λ e. lends (test_of l.way) l.pa e.1) l.loans.entries

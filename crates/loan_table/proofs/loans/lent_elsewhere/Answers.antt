@@ -10,10 +10,15 @@ use Rattle.loan_table.proofs.loans.lent_elsewhere.Goals as goal
 
 pub returns-then-lends : goal.returns-then-lends
 returns-then-lends c =
-    any_here _ c.args.loans.now.entries _ _ _ c.loop-id.invariant (rest_more deref_pair _ _ _ _ c.in-Some.is c.next.ensures.steps) (other_lends c.in-Some.id.now c.args.map _ c.if-id-map.true (sym c.lends.ensures ∙ c.if-lends.true))
-    ∙ ap (list_any (λ e. not (e.0 == c.args.map) && lends (test_of c.args.way) c.args.pa e.1)) (sym (entries-from_tree _ c.requires))
+    any_here _ c.args.loans.now.entries _ _ _ c.loop-id.invariant
+    (rest_more deref_pair _ _ _ _ c.in-Some.is c.next.ensures.steps)
+    (other_lends c.in-Some.id.now c.args.map _ c.if-id-map.true (sym c.lends.ensures ∙ c.if-lends.true))
+    ∙ ap (list_any (λ e. not (e.0 == c.args.map) && lends (test_of c.args.way) c.args.pa e.1))
+    (sym (entries-from_tree _ c.requires))
 
 pub returns : goal.returns
 returns c =
-    any_nowhere _ c.args.loans.now.entries _ c.loop-id.invariant (rest_all deref_pair _ _ _ c.in-None.is c.next.ensures.steps)
-    ∙ ap (list_any (λ e. not (e.0 == c.args.map) && lends (test_of c.args.way) c.args.pa e.1)) (sym (entries-from_tree _ c.requires))
+    any_nowhere _ c.args.loans.now.entries _ c.loop-id.invariant
+    (rest_all deref_pair _ _ _ c.in-None.is c.next.ensures.steps)
+    ∙ ap (list_any (λ e. not (e.0 == c.args.map) && lends (test_of c.args.way) c.args.pa e.1))
+    (sym (entries-from_tree _ c.requires))

@@ -6,4 +6,5 @@ use Rattle.loan_table.proofs.loans.lent_elsewhere.Given as goal
 
 abbrev pub invariant-loop-id : goal.invariant-loop-id
 invariant-loop-id l =
-    list_any (λ e. not (e.0 == l.map) && lends (test_of l.way) l.pa e.1) l.id-iterator ≡ list_any (λ e. not (e.0 == l.map) && lends (test_of l.way) l.pa e.1) l.loans.entries
+    list_any (λ e. not (e.0 == l.map) && lends (test_of l.way) l.pa e.1) l.id-iterator
+    ≡ list_any (λ e. not (e.0 == l.map) && lends (test_of l.way) l.pa e.1) l.loans.entries

@@ -9,5 +9,6 @@ use Rattle.loan_table.proofs.marks.remove_run.Goals as goal
 pub loop-at-preserved : goal.loop-at-preserved
 loop-at-preserved c =
     let at = c.loop-at.at-counter in
-    ap (λ bytes. without bytes (run_of (at + 1) (c.args.end - (at + 1)))) (from_tree_remove c.loop-at.bytes.entries c.remove.new.self.entries at c.remove.ensures.updates.0)
+    ap (λ bytes. without bytes (run_of (at + 1) (c.args.end - (at + 1))))
+    (from_tree_remove c.loop-at.bytes.entries c.remove.new.self.entries at c.remove.ensures.updates.0)
     ∙ sym (ap (without (of_tree c.loop-at.bytes)) (run_more at c.args.end c.loop-at-test.true)) ∙ c.loop-at.invariant

@@ -1,10 +1,14 @@
-use Rattle.std.proofs.Common.{◌≡◌, drop}
+use Rattle.std.proofs.Common.{◌≡◌, ◌+◌, ◌≤◌, drop}
 use Rattle.loan_table.specs.Loans.{addresses_of}
 use Rattle.loan_table.specs.Table.{AreIn, set_all}
-use Rattle.loan_table.specs.Trees.{of_tree}
 use Rattle.loan_table.proofs.marks.set_positions.Given as goal
 
 abbrev pub invariant-loop-position : goal.invariant-loop-position
 invariant-loop-position l =
-    (set_all (of_tree l.bytes) (addresses_of (drop l.position-index l.positions)) l.known ≡ set_all (of_tree l.initial.bytes) (addresses_of l.positions) l.known)
-    × AreIn (of_tree l.bytes) (addresses_of (drop l.position-index l.positions))
+    record {
+      marked : (set_all l.bytes.bytes (addresses_of (drop l.position-index l.positions)) l.known
+          ≡ set_all l.initial.bytes.bytes (addresses_of l.positions) l.known)
+          × AreIn l.bytes.bytes (addresses_of (drop l.position-index l.positions));
+      in_room : l.initial.bytes.room ≤ l.bytes.room + (l.position-index + l.position-index);
+      same_room : l.bytes.there_room ≡ l.initial.bytes.there_room;
+    }

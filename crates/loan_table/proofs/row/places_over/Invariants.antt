@@ -5,4 +5,5 @@ use Rattle.busdma_base.specs.Runs.{addresses}
 use Rattle.loan_table.proofs.row.places_over.Given as goal
 
 abbrev pub invariant-loop-extent : goal.invariant-loop-extent
-invariant-loop-extent l = (a : ℕ) → count l.places a + count_by (λ b. b == a) (addresses (drop l.extent-index l.buffer)) ≡ count_by (λ b. b == a) (addresses l.buffer)
+invariant-loop-extent l = (a : ℕ) → count l.places a
+    + count_by (λ b. b == a) (addresses (drop l.extent-index l.buffer)) ≡ count_by (λ b. b == a) (addresses l.buffer)

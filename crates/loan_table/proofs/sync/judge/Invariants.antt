@@ -6,4 +6,5 @@ use Rattle.loan_table.proofs.sync.judge.Given as goal
 
 abbrev pub invariant-loop-i : goal.invariant-loop-i
 invariant-loop-i l =
-    judged (sync_refusal (of_tree l.loans) l.map l.ops.0) (l.place + l.i) (drop l.i l.positions) ≡ judged (sync_refusal (of_tree l.loans) l.map l.ops.0) l.place l.positions
+    judged (sync_refusal (of_tree l.loans) l.map l.ops.0) (l.place + l.i) (drop l.i l.positions)
+    ≡ judged (sync_refusal (of_tree l.loans) l.map l.ops.0) l.place l.positions

@@ -6,4 +6,5 @@ use Rattle.loan_table.proofs.row.LoanRow.lends.Given as goal
 
 abbrev pub invariant-loop-position : goal.invariant-loop-position
 invariant-loop-position l =
-    list_any (λ p. p.pa == l.pa && test_of l.way p) (drop l.position-index l.self.positions) ≡ lends (test_of l.way) l.pa l.self
+    list_any (λ p. p.pa == l.pa && test_of l.way p) (drop l.position-index l.self.positions)
+    ≡ lends (test_of l.way) l.pa l.self

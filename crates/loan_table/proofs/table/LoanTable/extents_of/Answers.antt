@@ -9,14 +9,16 @@ use Rattle.loan_table.proofs.table.LoanTable.extents_of.Goals as goal
 
 pub extents_of-requires : goal.extents_of-requires
 extents_of-requires c =
-    AllLow (of_tree c.self.inside.bytes) c.self.invariant.low c.range.result.now
-    (rw (c.range.ensures.is, c.row_of-row.ensures) (AreIn-range _ c.args.off c.args.len _ (c.self.invariant.inside c.args.map.made_at)))
+    AllLow c.self.inside.bytes.bytes c.self.invariant.low c.range.result.now
+    (rw (c.range.ensures.is, c.row_of-row.ensures)
+    (AreIn-range _ c.args.off c.args.len _ (c.self.invariant.inside c.args.map.made_at)))
 
 pub returns-clause-there : goal.returns-clause-there
 returns-clause-there c =
     rw (← c.self.view_is)
-    (subst (AreIn (of_tree c.self.inside.bytes)) (sym (ap addresses c.new.ensures ∙ c.in_ok-extents.ensures.bytes))
-    (rw (c.range.ensures.is, c.row_of-row.ensures) (AreIn-range _ c.args.off c.args.len _ (c.self.invariant.inside c.args.map.made_at))))
+    (subst (AreIn c.self.inside.bytes.bytes) (sym (ap addresses c.new.ensures ∙ c.in_ok-extents.ensures.bytes))
+    (rw (c.range.ensures.is, c.row_of-row.ensures)
+    (AreIn-range _ c.args.off c.args.len _ (c.self.invariant.inside c.args.map.made_at))))
 
 pub returns-clause-total : goal.returns-clause-total
 returns-clause-total c =

@@ -1,18 +1,50 @@
-use Rattle.std.proofs.Common.{sym, subst}
+use Rattle.std.proofs.Common.{◌+◌, ◌≤◌, length, sym, subst, arith}
 use Rattle.loan_table.specs.Kept.{AreLow}
-use Rattle.loan_table.specs.Loans.{addresses_of}
+use Rattle.loan_table.specs.Lending.{range_of}
+use Rattle.loan_table.specs.Loans.{loan_of, addresses_of}
+use Rattle.loan_table.specs.Trees.{of_tree}
 use Rattle.loan_table.proofs.Addresses.{AreIn-set_all, AreLow-set_all}
 use Rattle.loan_table.proofs.Marking.{AreIn-range}
+use Rattle.loan_table.proofs.Rooms.{count_bound, needs_spare, range_small, used_bytes}
 use Rattle.loan_table.proofs.table.LoanTable.note_dev_write.Goals as goal
 
-pub set_positions-requires : goal.set_positions-requires
-set_positions-requires c = rw (c.range.ensures.is, c.row_of-row.ensures) (AreIn-range _ c.args.off c.args.len _ (c.self.invariant.inside c.args.map.made_at))
+pub set_positions-requires-clause-there : goal.set_positions-requires-clause-there
+set_positions-requires-clause-there c =
+    rw (c.range.ensures.is, c.row_of-row.ensures)
+    (AreIn-range _ c.args.off c.args.len _ (c.self.invariant.inside c.args.map.made_at))
+
+pub set_positions-requires-clause-room : goal.set_positions-requires-clause-room
+set_positions-requires-clause-room c =
+    let ps = (loan_of (of_tree c.self.inside.loans) c.args.map.made_at).positions in
+    let range : c.args.off + c.args.len ≤ length ps = rw (← c.self.view_is) at c.requires.range in
+    let all : length ps ≤ c.self.inside.positions =
+    rw c.self.invariant.counted at (count_bound c.self.inside.loans.entries c.args.map.made_at) in
+    let small : length (range_of c.args.off c.args.len ps) ≤ c.args.len = range_small c.args.off c.args.len ps in
+    rw (c.range.ensures.is, c.row_of-row.ensures) (omega (arith, range, all, small, c.self.invariant.room.forgets))
 
 pub invariant_of-self : goal.invariant_of-self
-invariant_of-self c = record {
-  ordered = c.self.invariant.ordered;
-  inside = λ m. rw c.set_positions.ensures (AreIn-set_all _ (addresses_of c.range.result.now) _ _ (c.self.invariant.inside m));
-  low = subst AreLow (sym c.set_positions.ensures)
-      (AreLow-set_all _ (addresses_of c.range.result.now) _
-      (rw (c.range.ensures.is, c.row_of-row.ensures) (AreIn-range _ c.args.off c.args.len _ (c.self.invariant.inside c.args.map.made_at))) c.self.invariant.low);
-}
+invariant_of-self c =
+    let ps = (loan_of (of_tree c.self.inside.loans) c.args.map.made_at).positions in
+    let range : c.args.off + c.args.len ≤ length ps = rw (← c.self.view_is) at c.requires.range in
+    let all : length ps ≤ c.self.inside.positions =
+    rw c.self.invariant.counted at (count_bound c.self.inside.loans.entries c.args.map.made_at) in
+    let small : length (range_of c.args.off c.args.len ps) ≤ c.args.len = range_small c.args.off c.args.len ps in
+    let used = rw (c.range.ensures.is, c.row_of-row.ensures) at c.set_positions.ensures.room in
+    record {
+      ordered = c.self.invariant.ordered;
+      inside =
+          λ m. rw c.set_positions.ensures.bytes
+          (AreIn-set_all _ (addresses_of c.range.result.now) _ _ (c.self.invariant.inside m));
+      low = subst AreLow (sym c.set_positions.ensures.bytes)
+          (AreLow-set_all _ (addresses_of c.range.result.now) _
+          (rw (c.range.ensures.is, c.row_of-row.ensures)
+          (AreIn-range _ c.args.off c.args.len _ (c.self.invariant.inside c.args.map.made_at)))
+          c.self.invariant.low);
+      counted = c.self.invariant.counted;
+      room =
+          used_bytes c.self.inside.bytes c.set_positions.new.bytes c.self.inside.positions c.self.inside.spare
+          c.args.len c.spare_after-self-inside.result c.self.invariant.room (omega (arith, range, all))
+          (needs_spare c.args.off c.args.len c.self.inside.spare ps range (rw (← c.self.view_is) at c.requires.room))
+          (omega (arith, small, used)) c.spare_after-self-inside.ensures.small
+          c.spare_after-self-inside.ensures.some c.set_positions.ensures.there_room;
+    }
