@@ -36,6 +36,7 @@ returns-in_err-reserve-clause-err c =
     let h = c.args.self.now in
     let same = c.reserve.ensures.same in
     on_err c.from_residual-in_err-reserve.result (record {
-      ideal = same_ideal (ideal_of h) h.loans.bytes c.reserve.new.self.bytes (wire h.memory.memory) h.loans.loans c.reserve.new.self.loans same.bytes same.loans;
+      ideal = same_ideal (ideal_of h) h.loans.bytes c.reserve.new.self.bytes (wire h.memory.memory) h.loans.loans
+          c.reserve.new.self.loans same.bytes same.loans;
       wire = refl;
     })

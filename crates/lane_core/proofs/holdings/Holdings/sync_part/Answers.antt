@@ -34,6 +34,8 @@ returns-in_err-reserve_extents-clause-err c =
     let h = c.args.self.now in
     let same = c.reserve_extents.ensures.same in
     on_err c.from_residual.result (record {
-      ideal = same_ideal (ideal_of h) h.loans.bytes c.reserve_extents.new.loans.bytes (wire h.memory.memory) h.loans.loans c.reserve_extents.new.loans.loans same.bytes same.loans;
+      ideal =
+          same_ideal (ideal_of h) h.loans.bytes c.reserve_extents.new.loans.bytes (wire h.memory.memory) h.loans.loans
+          c.reserve_extents.new.loans.loans same.bytes same.loans;
       wire = refl;
     })
