@@ -1,8 +1,7 @@
 -- What an access does run by run.
-use Rattle.std.proofs.Common.{◌≡◌, ◌≢◌, ℕ, zero, suc, ◌+◌, ◌-◌, ◌/◌, ◌%◌, ◌*◌, ◌^◌, ◌<◌, ◌≤◌, ◌==◌, true, false, List}
-use Rattle.std.proofs.Common.{[], ◌∷◌, ◌++◌, length, map, take, drop, get_or, set, refl, ap, sym, ◌∙◌, subst, arith}
+use Rattle.std.proofs.Common.{◌≡◌, ◌≢◌, ℕ, zero, suc, ◌+◌, ◌-◌, ◌/◌, ◌%◌, ◌<◌, ◌≤◌, ◌==◌, true, false, List, [], ◌∷◌, ◌++◌, length, map, take, drop, get_or, set, refl, ap, sym, ◌∙◌, subst, arith}
 use Rattle.std.specs.Prelude.{◌||◌, Bool}
-use Rattle.std.specs.List.{AllByRecursion, AllPairs, list_any}
+use Rattle.std.specs.List.{AllByRecursion, list_any}
 use Rattle.std.proofs.Common.{inl, inr, length-append, length-drop, length-take}
 use Rattle.std.proofs.lemmas.Bool.{cases_lt, false≢true, ne_eqb}
 use Rattle.std.proofs.lemmas.List.{drop_all, drop_more, get_or-map, length-map}

@@ -1,2 +1,3 @@
 pub mod Accessing
+pub mod SegmentsInTests
 pub mod Walk

@@ -4,6 +4,8 @@
 mod cursor;
 mod lookup;
 mod reading;
+#[cfg(test)]
+mod tests;
 mod writing;
 
 pub use reading::bus_read;

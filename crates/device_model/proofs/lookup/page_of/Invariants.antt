@@ -1,4 +1,4 @@
-use Rattle.std.proofs.Common.{◌≡◌, ◌==◌, true, length, drop, ℕ, ◌-◌}
+use Rattle.std.proofs.Common.{◌≡◌, ◌==◌, true, length, drop, ◌-◌}
 use Rattle.std.specs.List.{list_any}
 use Rattle.busdma_base.specs.Machine.PageList.{frames_of}
 use Rattle.device_model.proofs.lookup.page_of.Given as goal

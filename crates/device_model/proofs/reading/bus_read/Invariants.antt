@@ -1,4 +1,4 @@
-use Rattle.std.proofs.Common.{length, ◌-◌, ◌≡◌, ◌≤◌, ◌++◌, map, take, ℕ}
+use Rattle.std.proofs.Common.{length, ◌-◌, ◌≡◌, ◌≤◌, ◌++◌, map, take}
 use Rattle.std.specs.List.{AllByRecursion}
 use Rattle.busdma_base.specs.Machine.PageList.{frames_of}
 use Rattle.busdma_base.specs.Machine.Wire.{with_bytes_of}

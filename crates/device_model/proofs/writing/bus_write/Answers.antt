@@ -1,4 +1,4 @@
-use Rattle.std.proofs.Common.{◌≡◌, ◌+◌, ◌-◌, ◌≤◌, length, take, drop, ap, sym, subst, ◌∙◌, arith, length-drop, refl}
+use Rattle.std.proofs.Common.{◌≡◌, ◌+◌, ◌-◌, length, take, drop, ap, sym, subst, ◌∙◌, arith, length-drop, refl}
 use Rattle.std.specs.List.{AllByRecursion}
 use Rattle.busdma_base.specs.Machine.PageList.{frames_of}
 use Rattle.busdma_base.specs.Machine.Wire.{put, with_bytes_of}

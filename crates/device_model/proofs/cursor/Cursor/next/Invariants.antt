@@ -1,4 +1,4 @@
-use Rattle.std.proofs.Common.{◌≡◌, length, ℕ, ◌-◌}
+use Rattle.std.proofs.Common.{◌≡◌, length, ◌-◌}
 use Rattle.device_model.specs.Walking.{rest_of}
 use Rattle.device_model.proofs.cursor.Cursor.next.Given as goal
 
