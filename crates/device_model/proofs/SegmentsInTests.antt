@@ -1,5 +1,6 @@
 -- The bytes of the segments of the tests are there.
-use Rattle.std.proofs.Common.{◌≡◌, ℕ, ◌/◌, ◌^◌, ◌<◌, ◌==◌, Bool, true, false, List, [], ◌∷◌, drop, refl, ap, ◌∙◌, arith}
+use Rattle.std.proofs.Common.{◌≡◌, ℕ, ◌/◌, ◌^◌, ◌<◌, ◌==◌, Bool, true, false, List, [], ◌∷◌, drop, refl, ap, ◌∙◌}
+use Rattle.std.proofs.Common.{arith}
 use Rattle.std.specs.Prelude.{◌||◌}
 use Rattle.std.specs.List.{AllByRecursion, list_any}
 use Rattle.busdma_base.specs.declared.machine.address.Segment.{Segment}
@@ -9,13 +10,15 @@ use Rattle.segment_build.specs.Segmentation.{segment_bytes}
 use Rattle.device_model.specs.Access.{IsThere, bus_range}
 
 abbrev pub segments : List Segment
-segments = record { addr = record { 0 = 0x5ffe }; len = 4 } ∷ record { addr = record { 0 = 0x21000 }; len = 8 } ∷ record { addr = record { 0 = 0x20010 }; len = 3 } ∷ []
+segments = record { addr = record { 0 = 0x5ffe }; len = 4 } ∷ record { addr = record { 0 = 0x21000 }; len = 8 }
+    ∷ record { addr = record { 0 = 0x20010 }; len = 3 } ∷ []
 
 or_true : (b : Bool) → (b || true) ≡ true
 or_true true = refl
 or_true false = refl
 
-module _ (m : Memory) (fs : List ℕ) (five : has_frame m 5 ≡ true) (six : has_frame m 6 ≡ true) (pages : fs ≡ 32 ∷ 33 ∷ []) where
+module _ (m : Memory) (fs : List ℕ) (five : has_frame m 5 ≡ true)
+    (six : has_frame m 6 ≡ true) (pages : fs ≡ 32 ∷ 33 ∷ []) where
   in_five : (has_frame m 5 || list_any (λ f. 5 == f) fs) ≡ true
   in_five = ap (λ b. b || list_any (λ f. 5 == f) fs) five
 
@@ -81,4 +84,6 @@ module _ (m : Memory) (fs : List ℕ) (five : has_frame m 5 ≡ true) (six : has
 
   -- so those of a range are
   pub range_there : (off n : ℕ) → AllByRecursion (IsThere m fs) (bus_range off n segments)
-  range_there off n = all_take (IsThere m fs) n (drop off (segment_bytes segments)) (all_drop (IsThere m fs) off (segment_bytes segments) each_there)
+  range_there off n =
+      all_take (IsThere m fs) n (drop off (segment_bytes segments))
+      (all_drop (IsThere m fs) off (segment_bytes segments) each_there)
