@@ -1,4 +1,4 @@
-use Rattle.std.proofs.Common.{ap, sym, ◌∙◌, subst, true, is_some}
+use Rattle.std.proofs.Common.{ap, sym, ◌∙◌, subst, true, is_some, append-nil}
 use Rattle.std.specs.Ordering.{nat_cmp}
 use Rattle.std.specs.FinMap.{get, get-empty}
 use Rattle.busdma_base.specs.Runs.{run_of}
@@ -20,5 +20,6 @@ add_map-requires-clause-fresh g c =
 
 pub add_map-requires-clause-there : goal.add_map-requires-clause-there
 add_map-requires-clause-there g c =
-    subst (λ bytes. AreIn bytes (run_of 4096 c.args.len)) (sym c.in_ok-add_bytes.ensures.bytes)
-    (AreIn-marked c.new-table.result.bytes (run_of 4096 c.args.len) true)
+    subst (λ bytes. AreIn c.add_bytes.new.self.bytes bytes) (sym (append-nil (run_of 4096 c.args.len)))
+    (subst (λ bytes. AreIn bytes (run_of 4096 c.args.len)) (sym c.in_ok-add_bytes.ensures.bytes)
+    (AreIn-marked c.new-table.result.bytes (run_of 4096 c.args.len) true))
