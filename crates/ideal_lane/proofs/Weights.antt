@@ -1,5 +1,6 @@
 -- What the values of a map weigh together, after a change.
 use Rattle.std.proofs.Common.{◌≡◌, ℕ, ◌+◌, ◌≤◌, ◌==◌, Bool, true, false, cond, List, [], ◌∷◌, Some, None, refl, ap}
+use Rattle.std.proofs.Common.{length}
 use Rattle.std.proofs.Common.{sym, ◌∙◌, arith}
 use Rattle.std.proofs.lemmas.List.Sums.{sum_by-cons}
 use Rattle.std.specs.declared.cmp.Ordering.{Ordering}
@@ -10,8 +11,13 @@ use Rattle.std.specs.List.{sum_by}
 use Rattle.std.proofs.lemmas.Bool.{eq-eqb}
 use Rattle.std.specs.FinMap.Entries.{by_order}
 use Rattle.std.specs.FinMap.{FinMap, get, insert, remove, entries, find, put, get-entries, entries-insert, same_map}
+use Rattle.std.specs.FinMap.{empty, len-entries, len-empty}
 use Rattle.std.specs.FinMap.{nat_cmp-IsAntisymmetric}
 use Rattle.ideal_lane.proofs.Lookups.{get_put, get_cut, put_same}
+
+nothing-left : {A : Type 0} (es : List A) → length es ≡ 0 → es ≡ []
+nothing-left [] e = refl
+nothing-left (x ∷ es) e = absurd (omega arith)
 
 module _ {X : Type 0} (w : X → ℕ) where
   abbrev weight_of : ℕ × X → ℕ
@@ -87,3 +93,12 @@ module _ {X : Type 0} (w : X → ℕ) where
   -- a value is gone
   pub weigh-cut : (m : FinMap nat_cmp X) (k : ℕ) (x : X) → get m k ≡ Some x → weigh (remove m k) ≤ weigh m
   weigh-cut m k x found = omega (arith, without m k x found)
+
+  -- an empty map weighs nothing
+  pub weigh-empty : weigh empty ≡ 0
+  weigh-empty = ap (sum_by weight_of) none
+    where
+      none : entries (empty {X = X} {R = nat_cmp}) ≡ []
+      none =
+          nothing-left (entries (empty {X = X} {R = nat_cmp}))
+          (sym (len-entries (empty {X = X} {R = nat_cmp})) ∙ len-empty nat_cmp X)

@@ -1,6 +1,7 @@
 pub mod Accesses
 pub mod Agreement
 pub mod Asking
+pub mod Callbacks
 pub mod IdealMemory
 pub mod Left
 pub mod Loads

@@ -1,6 +1,6 @@
 //! Laws of the ideal driver.
 
-ghost use Rattle.std.specs.Prelude.{◌≡◌, ℕ, Some, slice_get};
+ghost use Rattle.std.specs.Prelude.{◌≡◌, ◌≤◌, ℕ, List, Some, slice_get};
 ghost use Rattle.busdma_base.specs.declared.journals.journal.Side.{Side};
 ghost use Rattle.busdma_base.specs.declared.scenarios.scenario.Driver.{Driver};
 ghost use Rattle.busdma_base.specs.declared.scenarios.scenario.Scenario.{Scenario};
@@ -9,6 +9,7 @@ ghost use Rattle.busdma_base.specs.Bounce.Opening.{maxmem_of, opening};
 ghost use Rattle.busdma_base.specs.Scenarios.Valid.{IsValid};
 ghost use Rattle.lane_agreement.specs.Agreement.{IsFit};
 ghost use Rattle.ideal_lane.specs.Agreement.{AgreesWith, IsAllowed, KeepsAgreement};
+ghost use Rattle.ideal_lane.specs.Callbacks.{IsRun, Made, times_called};
 ghost use Rattle.ideal_lane.specs.Left.{FallsOrStays};
 ghost use Rattle.ideal_lane.specs.Opening.{opening_lane};
 ghost use Rattle.ideal_lane.specs.Standing.{KeepsStanding, Stands};
@@ -42,4 +43,13 @@ pub fn opening_stands()
     ensures stands { (id maxmem : ℕ) (driver : Driver) → Stands (opening_lane id maxmem driver) }
     ensures agrees { (s : Scenario) (i : ℕ) (driver : Driver) → IsValid s → slice_get s.drivers i ≡ Some driver →
         AgreesWith (opening_lane i (maxmem_of s.frames) driver) (opening s) }
+{}
+
+/// In each run of a driver from its opening, whatever the replies to its calls, the callback of the
+/// load at each place of the script is called at most once: in the load's own step, or in a later
+/// step that takes it.
+pub fn each_load_is_called_once()
+    ensures { (place id maxmem : ℕ) (driver : Driver) (steps : List Made) →
+        IsRun (opening_lane id maxmem driver) steps →
+        times_called place (opening_lane id maxmem driver) steps ≤ 1 }
 {}

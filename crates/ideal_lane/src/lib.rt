@@ -4,4 +4,7 @@
 
 mod laws;
 
-pub use laws::{each_step_falls, opening_stands, step_keeps_agreement, step_keeps_standing};
+pub use laws::{
+    each_load_is_called_once, each_step_falls, opening_stands, step_keeps_agreement,
+    step_keeps_standing,
+};

@@ -1,0 +1,72 @@
+-- Whose callback a step calls, and that of each load is called at most once: after bus_dmamap_load(9).
+use Rattle.std.specs.Prelude.{◌≡◌, ℕ, ◌+◌, ◌==◌, Bool, true, false, ◌&&◌, List, [], ◌∷◌, Option, Some, None}
+use Rattle.std.specs.Prelude.{if◌then◌else◌, is_some, slice_get}
+use Rattle.std.specs.FinMap.{get}
+use Rattle.busdma_base.specs.declared.bounce.hold.HubReply.{HubReply}
+use Rattle.busdma_base.specs.declared.journals.answer.Answer.{Answer}
+use Rattle.busdma_base.specs.declared.journals.answer.Answer.TheVariants as answer
+use Rattle.busdma_base.specs.declared.journals.journal.Did.{Did}
+use Rattle.busdma_base.specs.declared.journals.journal.Did.TheVariants as did
+use Rattle.busdma_base.specs.declared.journals.journal.Side.{Side}
+use Rattle.busdma_base.specs.declared.scenarios.script.Op.{Op}
+use Rattle.ideal_lane.specs.State.{LaneState, LaneMap, Stage, Idle, Waiting, Loaded, Returning}
+use Rattle.ideal_lane.specs.Asking.{by_reply}
+use Rattle.ideal_lane.specs.Turns.{Turn, Turned, Stepped, Blocked, Ended, asked_by, lane_step}
+
+-- a load with this answer has ended in the step of its own operation, which calls its callback
+abbrev pub ends : Answer → Bool
+ends answer.Done = false
+ends (answer.Grown g) = false
+ends (answer.Placed pa) = false
+ends (answer.Segments segments) = true
+ends (answer.InProgress have need) = false
+ends (answer.Served n) = false
+ends (answer.Bytes bytes) = false
+ends (answer.Refused errno) = true
+ends (answer.Report r) = false
+
+-- there is a load
+abbrev pub is_load : LaneState → Option Op → Bool
+is_load l None = false
+is_load l (Some o) = is_some (asked_by o l)
+
+-- the load at a place of the script waits, with a map that stands so
+abbrev pub awaits : ℕ → Stage → Bool
+awaits p Idle = false
+awaits p (Waiting load_at need) = load_at == p
+awaits p (Loaded bounced segments pages) = false
+awaits p Returning = false
+
+-- it waits, with this map
+abbrev pub awaited : ℕ → Option LaneMap → Bool
+awaited p None = false
+awaited p (Some o) = awaits p o.stage
+
+-- what was done, with this answer, calls the callback of the load at a place of the script
+abbrev pub calls : ℕ → LaneState → Did → Answer → Bool
+calls p l (did.Op place) a = (place == p) && (is_load l (slice_get l.script place) && ends a)
+calls p l (did.Callback m) a = awaited p (get l.maps m.made_at)
+calls p l (did.Release m page) a = false
+calls p l (did.Item load_at place) a = false
+
+-- how often a turn calls it
+abbrev pub called_by : ℕ → LaneState → Turn → ℕ
+called_by p l (Stepped e) = if calls p l e.did e.answer then 1 else 0
+called_by p l Blocked = 0
+called_by p l Ended = 0
+
+-- a step of a run: its side, the reply to its call if it made one, and the turn
+pub record Made : Type 0 where
+  pub side : Side
+  pub reply : HubReply
+  pub turned : Turned
+
+-- these steps were made one after another
+abbrev pub IsRun : LaneState → List Made → Type 0
+IsRun l [] = Unit {0}
+IsRun l (m ∷ ms) = (m.turned ≡ by_reply (lane_step l m.side) m.reply) × IsRun m.turned.lane ms
+
+-- how often the steps of a run call the callback of the load at a place of the script
+abbrev pub times_called : ℕ → LaneState → List Made → ℕ
+times_called p l [] = 0
+times_called p l (m ∷ ms) = called_by p l m.turned.turn + times_called p m.turned.lane ms
