@@ -10,4 +10,4 @@ after-requires g c =
     let given : Pa = record { 0 = page_address c.in-Some.given } in
     let same : given ≡ c.args.page = search rules in
     released c.self.inside.hub c.release.new.self c.self.inside.beside.plain c.args.map c.args.zone given c.args.page
-    (Served c.release.result) c.self.invariant same c.release.ensures
+    (Served c.release.result) c.self.invariant same c.release.ensures.held

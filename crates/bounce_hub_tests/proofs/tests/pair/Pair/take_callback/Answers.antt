@@ -8,4 +8,4 @@ pub after-requires : goal.after-requires
 after-requires g c =
     taken c.self.inside.hub c.take_callback-called.new.self c.self.inside.beside.plain c.args.lane.0
     (λ x. Called x.map (as_pages (page_addresses x.pages.items))) c.take_callback-called.result
-    c.self.invariant c.take_callback-called.ensures
+    c.self.invariant c.take_callback-called.ensures.held
