@@ -1,0 +1,292 @@
+-- Accesses of a faithful wire.
+use Rattle.std.proofs.Common.{◌≡◌, ℕ, ◌+◌, Bool, true, false, cond, ◌||◌, ◌==◌, List, map}
+use Rattle.std.proofs.Common.{slice_get, Option, Some, None, unwrap_or, ◌⊎◌, inl, inr, refl, sym, ap, ◌∙◌}
+use Rattle.std.specs.Option.{option_map}
+use Rattle.std.proofs.lemmas.Bool.{false≢true}
+use Rattle.std.proofs.lemmas.Option.{slice_get-map}
+use Rattle.busdma_base.specs.declared.journals.report.Judged.TheVariants.{Fine}
+use Rattle.busdma_base.specs.declared.journals.report.ReportName.{ReportName}
+use Rattle.busdma_base.specs.declared.journals.report.ReportName.TheVariants.{CpuReadLent, CpuWriteLent}
+use Rattle.busdma_base.specs.declared.journals.report.ReportName.TheVariants.{DeviceReadUnlent, DeviceWriteUnlent}
+use Rattle.busdma_base.specs.declared.journals.report.ReportName.TheVariants.{StaleByte}
+use Rattle.busdma_base.specs.Journals.Judging.{judged}
+use Rattle.busdma_base.specs.Machine.Wire.{Wire, Traces, Placed, buffers, buses, stretch, put}
+use Rattle.phys_memory.specs.Translation.{missing, unreached, physical_or_0}
+use Rattle.loan_table.specs.declared.position.Position.{Position}
+use Rattle.loan_table.specs.Loans.{loan_of, to_write, in_any_way, lent, addresses_of}
+use Rattle.loan_table.specs.Lending.{range_of}
+use Rattle.loan_table.specs.Access.{cpu_read_answer, cpu_write_answer, dev_read_answer, dev_write_answer}
+use Rattle.loan_table.specs.Access.{cpu_read_refusal, cpu_write_refusal, dev_read_refusal, dev_write_refusal}
+use Rattle.ideal_lane.specs.Accesses.{values, load_bytes}
+use Rattle.ideal_lane.specs.IdealMemory.{Known, is_known, value, written}
+use Rattle.ideal_lane.specs.Places.{physical, bytes_at}
+use Rattle.ideal_lane.specs.State.{LaneState}
+use Rattle.ideal_wire.specs.Centre.{IsAt, IsPlacedAt}
+use Rattle.ideal_wire.proofs.Copies.{known_value, eqb_alike, both_written, written_known, same_values, same_reads}
+use Rattle.ideal_wire.proofs.Copies.{same_range, map_own}
+use Rattle.ideal_wire.proofs.Faithful.{written_any, read_any, same_pa, one_placed, one_position, own_bus, bus_of_one}
+use Rattle.ideal_wire.proofs.Faithful.{same_lender, coherent_unlent}
+use Rattle.ideal_wire.proofs.Lent.{lender_of, lent_by}
+use Rattle.ideal_wire.proofs.Placed.{Faithful}
+use Rattle.ideal_wire.proofs.Positions.{found_one, of_range, twin_of, fine_at}
+
+-- what the tests say of a byte that passes them
+cpu_read_passes : (b k : Bool) (x y : ReportName) →
+    cond b (Some x) (cond k None (Some y)) ≡ None → (b ≡ false) × (k ≡ true)
+cpu_read_passes true k x y h = absurd (cc)
+cpu_read_passes false true x y h = (refl, refl)
+cpu_read_passes false false x y h = absurd (cc)
+
+cpu_write_passes : (b : Bool) (x : ReportName) → cond b (Some x) None ≡ None → b ≡ false
+cpu_write_passes true x h = absurd (cc)
+cpu_write_passes false x h = refl
+
+pub dev_read_passes : (c b k : Bool) (x y : ReportName) →
+    cond (c || b) (cond k None (Some y)) (Some x) ≡ None → ((c ≡ true) ⊎ (b ≡ true)) × (k ≡ true)
+dev_read_passes true b true x y h = (inl refl, refl)
+dev_read_passes true b false x y h = absurd (cc)
+dev_read_passes false true true x y h = (inr refl, refl)
+dev_read_passes false true false x y h = absurd (cc)
+dev_read_passes false false k x y h = absurd (cc)
+
+dev_write_passes : (c b : Bool) (x : ReportName) → cond (c || b) None (Some x) ≡ None → (c ≡ true) ⊎ (b ≡ true)
+dev_write_passes true b x h = inl refl
+dev_write_passes false true x h = inr refl
+dev_write_passes false false x h = absurd (cc)
+
+not_missing : (o : Option ℕ) → missing o ≡ None → o ≡ Some (unwrap_or o 0)
+not_missing None h = absurd (cc)
+not_missing (Some pa) h = refl
+
+-- what the driver reads, where each Known byte that is not lent to write stands in the wire
+pub cpu_read_of : (l : LaneState) (w : Wire) (bytes : List ℕ) →
+    ((a v : ℕ) → lent to_write a l.loans ≡ false → l.memory a ≡ Some (Known v) → w a ≡ v)
+    → cpu_read_answer (is_known l.memory) l.loans bytes ≡ Fine → values l bytes ≡ map w bytes
+cpu_read_of l w bytes kept fine = same_reads bytes (λ a. value (l.memory a)) w at
+  where
+    at : (k a : ℕ) → slice_get bytes k ≡ Some a → value (l.memory a) ≡ w a
+    at k a h =
+        let p =
+        cpu_read_passes (lent to_write a l.loans) (is_known l.memory a) CpuReadLent StaleByte
+        (fine_at (cpu_read_refusal (is_known l.memory) l.loans) 0 bytes fine k a h) in
+        sym (kept a (value (l.memory a)) p.0 (known_value (l.memory a) p.1))
+
+-- ---- the driver's
+module _ (own : ℕ → Bool) (l : LaneState) (traces : Traces) (w : Wire) (f : Faithful own l traces w) where
+  -- the bytes that the driver reaches are its own
+  pub reached_own : (vas : List ℕ) → judged (unreached (physical l)) 0 vas ≡ Fine → (k a : ℕ) →
+      slice_get (bytes_at l vas) k ≡ Some a → own a ≡ true
+  reached_own vas h k a at =
+      by (slice_get vas k) refl (sym (slice_get-map (physical_or_0 (physical l)) vas k) ∙ at)
+    where
+      by : (o : Option ℕ) → slice_get vas k ≡ o →
+          option_map (physical_or_0 (physical l)) o ≡ Some a → own a ≡ true
+      by None e is = absurd (cc)
+      by (Some va) e is =
+          let there = not_missing (physical l va) (fine_at (unreached (physical l)) 0 vas h k va e) in
+          f.placed.reached va a (there ∙ ap Some (found_one _ _ a refl is))
+
+  -- a byte that is written is lent in no way
+  module _ (bytes vs : List ℕ) (mine : (k a : ℕ) → slice_get bytes k ≡ Some a →
+      own a ≡ true) (free : cpu_write_answer l.loans bytes ≡ Fine) where
+    unlent : (k a m i : ℕ) (p : Position) → slice_get bytes k ≡ Some a →
+        IsAt l.loans m i p → in_any_way p ≡ true → p.pa ≡ a → ⊥
+    unlent k a m i p at h any e =
+        false≢true
+        (sym (cpu_write_passes (lent in_any_way a l.loans) CpuWriteLent
+        (fine_at (cpu_write_refusal l.loans) 0 bytes free k a at)) ∙ lent_by in_any_way a l.loans m i p h e any)
+
+    -- so no bus address of a position that lends is written
+    apart : (m i : ℕ) (p : Position) (t : Placed) → IsAt l.loans m i p → IsPlacedAt traces m i t →
+        in_any_way p ≡ true → (k a : ℕ) → slice_get bytes k ≡ Some a → (p.pa == a) ≡ (t.bus == a)
+    apart m i p t h g any k a at =
+        eqb_alike p.pa a t.bus a (λ e. absurd (unlent k a m i p at h any e))
+        (λ e. absurd (unlent k a m i p at h any (same_pa own l traces f.placed m i p t h g
+        ∙ sym (own_bus own l traces f.placed m i a t g (mine k a at) (sym e)))))
+
+    both : (a b : ℕ) → ((k x : ℕ) → slice_get bytes k ≡ Some x → (a == x) ≡ (b == x)) →
+        ((v : ℕ) → l.memory a ≡ Some (Known v) → w b ≡ v) → (v : ℕ) →
+        written bytes vs l.memory a ≡ Some (Known v) → put bytes vs w b ≡ v
+    both a b same h v is =
+        ap (λ ks. put ks vs w b) (sym (map_own bytes))
+        ∙ both_written (λ x. x) (λ x. x) a b bytes vs l.memory w same h v
+        (ap (λ ks. written ks vs l.memory a) (map_own bytes) ∙ is)
+
+    pub cpu_written : Faithful own (record l { memory = written bytes vs l.memory }) traces (put bytes vs w)
+    cpu_written = record {
+      placed = record {
+        reached = f.placed.reached;
+        known = λ a v is. written_known bytes vs l.memory a (own a ≡ true) (λ k x at e. ap own e
+            ∙ mine k x at) (λ u h. f.placed.known a u h) v is;
+        buffer = f.placed.buffer;
+        lies = f.placed.lies;
+        unbounced = f.placed.unbounced;
+        paged = f.placed.paged;
+        coherent = f.placed.coherent;
+        apart = f.placed.apart;
+      };
+      exclusive = f.exclusive;
+      agrees = record {
+        written =
+            λ m i p t v h g tw is. both p.pa t.bus (apart m i p t h g (written_any p tw))
+            (λ u k. f.agrees.written m i p t u h g tw k) v is;
+        read =
+            λ m i p t v h g tr free is. both p.pa t.bus (apart m i p t h g (read_any p tr))
+            (λ u k. f.agrees.read m i p t u h g tr free k) v is;
+        kept = λ a v free is. both a a (λ k x at. refl) (λ u k. f.agrees.kept a u free k) v is;
+      };
+    }
+
+-- ---- the device's, of a range of a map's load
+module _ (own : ℕ → Bool) (l : LaneState) (traces : Traces) (w : Wire)
+    (f : Faithful own l traces w) (m off len : ℕ) where
+  range_alike : addresses_of (range_of off len (loan_of l.loans m).positions) ≡ buffers (stretch off len (traces m))
+  range_alike =
+      same_range (λ (p : Position). p.pa) (λ (t : Placed). t.pa) off len
+      (loan_of l.loans m).positions (traces m) (sym (f.placed.buffer m))
+
+  -- a place of the range: the position, and where it stands in the trace
+  record At (k : ℕ) (t : Placed) : Type 0 where
+    position : Position
+    in_range : slice_get (range_of off len (loan_of l.loans m).positions) k ≡ Some position
+    at : IsAt l.loans m (off + k) position
+    placed : IsPlacedAt traces m (off + k) t
+    same : position.pa ≡ t.pa
+
+  at_range : (k : ℕ) (t : Placed) → slice_get (stretch off len (traces m)) k ≡ Some t → At k t
+  at_range k t h =
+      let q =
+      twin_of (λ (t : Placed). t.pa) (λ (p : Position). p.pa) (stretch off len (traces m))
+      (range_of off len (loan_of l.loans m).positions) (sym range_alike) k t h in
+      record {
+        position = q.twin;
+        in_range = q.found;
+        at = (of_range (loan_of l.loans m).positions off len k q.twin q.found).whole;
+        placed = (of_range (traces m) off len k t h).whole;
+        same = sym q.same;
+      }
+
+  -- a Known byte at a position that is lent to read, or of a coherent map, stands at its bus address
+  stands : (i : ℕ) (p : Position) (t : Placed) (v : ℕ) → IsAt l.loans m i p → IsPlacedAt traces m i t →
+      ((loan_of l.loans m).coherent ≡ true) ⊎ (p.to_read ≡ true) → l.memory p.pa ≡ Some (Known v)
+      → (b : Bool) → lent to_write p.pa l.loans ≡ b → w t.bus ≡ v
+  stands i p t v h g (inl c) is false e =
+      ap w (f.placed.coherent m i t c g ∙ sym (same_pa own l traces f.placed m i p t h g)) ∙ f.agrees.kept p.pa v e is
+  stands i p t v h g (inr r) is false e = f.agrees.read m i p t v h g r e is
+  stands i p t v h g (inl c) is true e =
+      let s = lender_of to_write p.pa l.loans e in
+      absurd (coherent_unlent own l traces f.placed f.exclusive m s.by_map i s.place p s.position c h s.at
+      (written_any s.position s.lends) (sym s.same))
+  stands i p t v h g (inr r) is true e =
+      let s = lender_of to_write p.pa l.loans e in
+      let one =
+      same_lender own l traces f.placed f.exclusive s.by_map m s.place i s.position p s.at
+      h s.lends (read_any p r) s.same in
+      let it = one_position own l traces f.placed s.by_map m s.place i s.position p s.at h one.0 one.1 in
+      f.agrees.written m i p t v h g (ap to_write (sym it) ∙ s.lends) is
+
+  read_at : dev_read_answer (is_known l.memory) (loan_of l.loans m) off len ≡ Fine → (k : ℕ) (t : Placed) →
+      slice_get (stretch off len (traces m)) k ≡ Some t → value (l.memory t.pa) ≡ w t.bus
+  read_at allowed k t h =
+      let s = at_range k t h in
+      let p = s.position in
+      let passes =
+      dev_read_passes (loan_of l.loans m).coherent p.to_read (is_known l.memory p.pa) DeviceReadUnlent StaleByte
+      (fine_at (dev_read_refusal (is_known l.memory) (loan_of l.loans m).coherent) 0
+      (range_of off len (loan_of l.loans m).positions) allowed k p s.in_range) in
+      ap (λ a. value (l.memory a)) (sym s.same)
+      ∙ sym (stands (off + k) p t (value (l.memory p.pa)) s.at s.placed passes.0
+      (known_value (l.memory p.pa) passes.1) (lent to_write p.pa l.loans) refl)
+
+  -- what the device reads
+  pub dev_read_of : dev_read_answer (is_known l.memory) (loan_of l.loans m) off len ≡ Fine →
+      values l (load_bytes l m off len) ≡ map w (buses (stretch off len (traces m)))
+  dev_read_of fine =
+      ap (map (λ a. value (l.memory a))) range_alike
+      ∙ same_values (stretch off len (traces m)) (λ a. value (l.memory a)) w (read_at fine)
+
+  -- ---- a range that the device may write
+  module _ (vs : List ℕ) (allowed : dev_write_answer (loan_of l.loans m) off len ≡ Fine) where
+    may_write : (k : ℕ) (t : Placed) (s : At k t) →
+        ((loan_of l.loans m).coherent ≡ true) ⊎ (s.position.to_write ≡ true)
+    may_write k t s =
+        dev_write_passes (loan_of l.loans m).coherent s.position.to_write DeviceWriteUnlent
+        (fine_at (dev_write_refusal (loan_of l.loans m).coherent) 0 (range_of off len (loan_of l.loans m).positions)
+        allowed k s.position s.in_range)
+
+    -- a position that lends a byte of the range is the one of the range
+    the_one : (n j k : ℕ) (q : Position) (u t : Placed) (s : At k t) →
+        ((loan_of l.loans m).coherent ≡ true) ⊎ (s.position.to_write ≡ true) → IsAt l.loans n j q →
+        IsPlacedAt traces n j u → in_any_way q ≡ true → q.pa ≡ t.pa → u.bus ≡ t.bus
+    the_one n j k q u t s (inl c) h g any e =
+        absurd (coherent_unlent own l traces f.placed f.exclusive m n (off + k) j
+        s.position q c s.at h any (s.same ∙ sym e))
+    the_one n j k q u t s (inr r) h g any e =
+        let one =
+        same_lender own l traces f.placed f.exclusive m n (off + k) j s.position q s.at h r any (s.same ∙ sym e) in
+        ap (λ (x : Placed). x.bus) (sym (one_placed own l traces f.placed m n (off + k) j t u s.placed g one.0 one.1))
+
+    lent_alike : (n j : ℕ) (q : Position) (u : Placed) → IsAt l.loans n j q → IsPlacedAt traces n j u →
+        in_any_way q ≡ true → (k : ℕ) (t : Placed) →
+        slice_get (stretch off len (traces m)) k ≡ Some t → (q.pa == t.pa) ≡ (u.bus == t.bus)
+    lent_alike n j q u h g any k t at =
+        let s = at_range k t at in
+        eqb_alike q.pa t.pa u.bus t.bus (the_one n j k q u t s (may_write k t s) h g any)
+        (λ e. same_pa own l traces f.placed n j q u h g
+        ∙ bus_of_one own l traces f.placed n m j (off + k) u t g s.placed e)
+
+    own_alike : (a : ℕ) → lent to_write a l.loans ≡ false → own a ≡ true → (k : ℕ) (t : Placed) →
+        slice_get (stretch off len (traces m)) k ≡ Some t → (a == t.pa) ≡ (a == t.bus)
+    own_alike a free mine k t at =
+        let s = at_range k t at in
+        eqb_alike a t.pa a t.bus (λ e. stays s (may_write k t s) e)
+        (own_bus own l traces f.placed m (off + k) a t s.placed mine)
+      where
+        stays : (s : At k t) → ((loan_of l.loans m).coherent ≡ true) ⊎ (s.position.to_write ≡ true) → a ≡ t.pa →
+            a ≡ t.bus
+        stays s (inl c) e = e ∙ sym (f.placed.coherent m (off + k) t c s.placed)
+        stays s (inr r) e =
+            absurd (false≢true (sym free ∙ lent_by to_write a l.loans m (off + k) s.position s.at (s.same ∙ sym e) r))
+
+    both_at : (a b : ℕ) → ((k : ℕ) (t : Placed) → slice_get (stretch off len (traces m)) k ≡ Some t →
+        (a == t.pa) ≡ (b == t.bus)) → ((v : ℕ) → l.memory a ≡ Some (Known v) → w b ≡ v)
+        → (v : ℕ) → written (load_bytes l m off len) vs l.memory a ≡ Some (Known v) →
+        put (buses (stretch off len (traces m))) vs w b ≡ v
+    both_at a b same h v is =
+        both_written (λ (t : Placed). t.pa) (λ (t : Placed). t.bus) a b (stretch off len (traces m)) vs l.memory w same
+        h v (ap (λ ks. written ks vs l.memory a) (sym range_alike) ∙ is)
+
+    known_own : (a v : ℕ) → written (load_bytes l m off len) vs l.memory a ≡ Some (Known v) → own a ≡ true
+    known_own a v is =
+        written_known (load_bytes l m off len) vs l.memory a (own a ≡ true) one (λ u h. f.placed.known a u h) v is
+      where
+        one : (k x : ℕ) → slice_get (load_bytes l m off len) k ≡ Some x → a ≡ x → own a ≡ true
+        one k x at e =
+            let q = twin_of (λ (b : ℕ). b) (λ (t : Placed). t.pa) (load_bytes l m off len) (stretch off len (traces m))
+            (map_own (load_bytes l m off len) ∙ range_alike) k x at in
+            ap own (e ∙ q.same) ∙ f.placed.lies m (off + k) q.twin (of_range (traces m) off len k q.twin q.found).whole
+
+    pub dev_written : Faithful own (record l { memory = written (load_bytes l m off len) vs l.memory }) traces
+        (put (buses (stretch off len (traces m))) vs w)
+    dev_written = record {
+      placed = record {
+        reached = f.placed.reached;
+        known = known_own;
+        buffer = f.placed.buffer;
+        lies = f.placed.lies;
+        unbounced = f.placed.unbounced;
+        paged = f.placed.paged;
+        coherent = f.placed.coherent;
+        apart = f.placed.apart;
+      };
+      exclusive = f.exclusive;
+      agrees = record {
+        written =
+            λ n j q u v h g tw is. both_at q.pa u.bus (lent_alike n j q u h g (written_any q tw))
+            (λ x k. f.agrees.written n j q u x h g tw k) v is;
+        read =
+            λ n j q u v h g tr free is. both_at q.pa u.bus (lent_alike n j q u h g (read_any q tr))
+            (λ x k. f.agrees.read n j q u x h g tr free k) v is;
+        kept = λ a v free is. both_at a a (own_alike a free (known_own a v is)) (λ x k. f.agrees.kept a x free k) v is;
+      };
+    }

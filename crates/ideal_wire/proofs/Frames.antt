@@ -1,0 +1,343 @@
+-- Bounce pages, the frames of the driver's pages and those of its memories are apart, where driver and account agree.
+use Rattle.std.proofs.Common.{◌≡◌, ◌≢◌, ℕ, zero, suc, ◌+◌, ◌*◌, ◌/◌, ◌%◌, ◌<◌, ◌≤◌, ◌==◌, ◌&&◌, Bool, true, false}
+use Rattle.std.proofs.Common.{cond, List, [], ◌∷◌, ◌++◌, Option, Some, None, slice_get, refl, ap, sym, ◌∙◌}
+use Rattle.std.proofs.Common.{subst, arith, nat_le, nat_lt, ◌⊎◌, inl, inr, ◌||◌}
+use Rattle.std.proofs.lemmas.Bool.{and_parts, false≢true, leb-true, ltb-true, le-leb, lt-ltb, eqb-true, eq-eqb}
+use Rattle.std.proofs.lemmas.Bool.Decides.{eqb_tells}
+use Rattle.std.proofs.lemmas.List.Sums.{sum_by-cons}
+use Rattle.std.specs.Prelude.{count_by, sum_by}
+use Rattle.std.specs.FinMap.{get}
+use Rattle.busdma_base.specs.declared.machine.chunk.Chunk.{Chunk}
+use Rattle.busdma_base.specs.declared.machine.address.Segment.{Segment}
+use Rattle.busdma_base.specs.declared.name.MapId.{MapId}
+use Rattle.busdma_base.specs.declared.scenarios.scenario.PageRun.{PageRun}
+use Rattle.busdma_base.specs.Bounce.Account.{Account, Held, Memory, same_map}
+use Rattle.busdma_base.specs.Bounce.Conditions.{times_held}
+use Rattle.busdma_base.specs.Bounce.MemoryRuns.{frames_from, frames_of, in_run}
+use Rattle.busdma_base.specs.Bounce.Places.{times, times_lent}
+use Rattle.busdma_base.specs.Bounce.Serving.{is_holding}
+use Rattle.busdma_base.specs.Machine.PageRuns.{is_own}
+use Rattle.busdma_base.proofs.Accounts.Counting.{count_by-append}
+use Rattle.lane_agreement.specs.OwnShare.{one_if, loaded_page}
+use Rattle.lane_agreement.specs.View as view
+use Rattle.lane_agreement.proofs.Own.{count-one, count-like}
+use Rattle.ideal_lane.specs.Agreement.{AgreesWith}
+use Rattle.ideal_lane.specs.Standing.{IsPageless, Stands}
+use Rattle.ideal_lane.specs.State.{LaneState, LaneMap, LaneMemory, Stage, Loaded, named}
+use Rattle.ideal_lane.specs.Syncs.{bounced_in}
+use Rattle.ideal_lane.specs.Unloads.{pages_of}
+use Rattle.ideal_lane.specs.View.{own_map, own_frames, in_zone, stage_of}
+use Rattle.ideal_wire.specs.Laid.{IsOwnByte, OfPages, OfMemory, IsRun}
+use Rattle.ideal_wire.specs.Traces.{stage_in, stage_at}
+use Rattle.ideal_wire.proofs.Buses.{IsBounced}
+use Rattle.ideal_wire.proofs.Lent.{counted_two}
+use Rattle.ideal_wire.proofs.Positions.{found_one}
+use Rattle.ideal_wire.proofs.SyncedPositions.{decided}
+
+-- ---- counts
+
+-- elements that pass one of two tests, of which none passes both, are no more than those that pass a third
+count-two : {X : Type 0} (p q r : X → Bool) (xs : List X) → ((x : X) → p x ≡ true → r x ≡ true) →
+    ((x : X) → q x ≡ true → r x ≡ true) → ((x : X) → p x ≡ true → q x ≡ true → ⊥) →
+    count_by p xs + count_by q xs ≤ count_by r xs
+count-two p q r [] first second apart = omega arith
+count-two p q r (x ∷ xs) first second apart =
+    omega (
+      arith,
+      count-two p q r xs first second apart,
+      count-one p x xs,
+      count-one q x xs,
+      count-one r x xs,
+      one (p x) (q x) (r x) refl refl refl,
+    )
+  where
+    one : (u v s : Bool) → p x ≡ u → q x ≡ v → r x ≡ s → one_if u + one_if v ≤ one_if s
+    one true true s e f g = absurd (apart x e f)
+    one true false true e f g = omega arith
+    one true false false e f g = absurd (false≢true (sym g ∙ first x e))
+    one false true true e f g = omega arith
+    one false true false e f g = absurd (false≢true (sym g ∙ second x f))
+    one false false s e f g = omega arith
+
+made-alike : (m n k : MapId) → same_map m k ≡ true → same_map n k ≡ true → m.made_at ≡ n.made_at
+made-alike m n k e f =
+    let a = and_parts (m.lane.0 == k.lane.0) (m.made_at == k.made_at) e in
+    let b = and_parts (n.lane.0 == k.lane.0) (n.made_at == k.made_at) f in
+    eqb-true m.made_at k.made_at a.1 ∙ sym (eqb-true n.made_at k.made_at b.1)
+
+-- two maps hold a page no more often than all do
+lent-two : (m n : MapId) (y z p : ℕ) (a : Account) → m.made_at ≢ n.made_at →
+    times_held m y p a + times_held n z p a ≤ times_lent p a
+lent-two m n y z p a ne =
+    count-two (is_holding m y p) (is_holding n z p) (λ h. h.page == p) a.held
+    (λ h e. (and_parts (h.page == p) _ e).0) (λ h e. (and_parts (h.page == p) _ e).0)
+    (λ h e f. ne (made-alike m n h.map (name m y h e) (name n z h f)))
+  where
+    name : (k : MapId) (x : ℕ) (h : Held) → is_holding k x p h ≡ true → same_map k h.map ≡ true
+    name k x h e =
+        (and_parts (h.zone == x) (same_map k h.map) (and_parts (h.page == p) ((h.zone == x) && same_map k h.map) e).1).1
+
+-- two memories have a frame no more often than all do
+mems-two : (m n : MapId) (f : ℕ) (xs : List Memory) → m.made_at ≢ n.made_at →
+    times f (frames_of m xs) + times f (frames_of n xs) ≤ sum_by (λ x. times f x.frames) xs
+mems-two m n f [] ne = omega arith
+mems-two m n f (x ∷ xs) ne =
+    by (same_map m x.mem) (same_map n x.mem) refl refl (mems-two m n f xs ne)
+    (sum_by-cons (λ (y : Memory). times f y.frames) x xs)
+  where
+    joined : (k : MapId) → times f (x.frames ++ frames_of k xs) ≡ times f x.frames + times f (frames_of k xs)
+    joined k = count_by-append (λ g. g == f) x.frames (frames_of k xs)
+
+    by : (u v : Bool) → same_map m x.mem ≡ u → same_map n x.mem ≡ v →
+        times f (frames_of m xs) + times f (frames_of n xs) ≤ sum_by (λ y. times f y.frames) xs →
+        sum_by (λ y. times f y.frames) (x ∷ xs) ≡ times f x.frames + sum_by (λ y. times f y.frames) xs →
+        times f (cond u (x.frames ++ frames_of m xs) (frames_of m xs))
+        + times f (cond v (x.frames ++ frames_of n xs) (frames_of n xs)) ≤ sum_by (λ y. times f y.frames) (x ∷ xs)
+    by true true e g rest all = absurd (ne (made-alike m n x.mem e g))
+    by true false e g rest all = omega (arith, rest, all, joined m)
+    by false true e g rest all = omega (arith, rest, all, joined n)
+    by false false e g rest all = omega (arith, rest, all)
+
+-- another name of the same driver
+abbrev next : MapId → MapId
+next m = record { lane = m.lane; made_at = suc m.made_at }
+
+off-next : (m : MapId) → m.made_at ≢ (next m).made_at
+off-next m e = absurd (omega (arith, e))
+
+-- ---- frames
+
+-- the frame of a byte
+abbrev pub frame_of : ℕ → ℕ
+frame_of a = a / 4096 * 4096
+
+-- a frame of whole frames that follow one another is among them
+frame-in : (n first f : ℕ) → first % 4096 ≡ 0 → f % 4096 ≡ 0 → first ≤ f → f < first + 4096 * n →
+    1 ≤ times f (frames_from n first)
+frame-in zero first f whole w low high = absurd (omega (arith, low, high))
+frame-in (suc n) first f whole w low high =
+    elim (eqb_tells first f) as (λ _. 1 ≤ times f (first ∷ frames_from n (first + 4096))) [
+      | inl h ↦ let t = h.0 in omega (arith, count-one (λ g. g == f) first (frames_from n (first + 4096)), ap one_if t)
+      | inr h ↦
+          let ne : first ≢ f = h.1 in
+          let more : first + 4096 ≤ f = beyond ne in
+          let there : (first + 4096) % 4096 ≡ 0 = omega (arith, whole) in
+          let rest = frame-in n (first + 4096) f there w more (omega (arith, high)) in
+          omega (arith, rest, count-one (λ g. g == f) first (frames_from n (first + 4096)))
+    ]
+  where
+    beyond : first ≢ f → first + 4096 ≤ f
+    beyond ne = elim (Rattle.std.proofs.lemmas.Bool.cases_lt f (first + 4096)) as (λ _. first + 4096 ≤ f) [
+      | inl lt ↦ let same : first ≡ f = omega (arith, whole, w, low, lt) in absurd (ne same)
+      | inr le ↦ le
+    ]
+
+-- the frame of a byte of whole frames is among them
+run-frame : (n first a : ℕ) → first % 4096 ≡ 0 → in_run first n a ≡ true → 1 ≤ times (frame_of a) (frames_from n first)
+run-frame n first a whole h =
+    let parts = and_parts (nat_le first a) (nat_lt a (first + 4096 * n)) h in
+    let low : first ≤ a = leb-true first a parts.0 in
+    let high : a < first + 4096 * n = ltb-true a (first + 4096 * n) parts.1 in
+    frame-in n first (frame_of a) whole (omega arith) (omega (arith, whole, low)) (omega (arith, high))
+
+-- so is that of a byte of pages
+own-frame : (runs : List PageRun) (a : ℕ) → is_own runs a ≡ true → is_own runs (frame_of a) ≡ true
+own-frame [] a h = absurd (cc)
+own-frame (r ∷ rs) a h = by (within a) refl (own-frame rs a) h
+  where
+    within : ℕ → Bool
+    within b = nat_le (4096 * r.frame) b && nat_lt b (4096 * (r.frame + r.count))
+
+    frame : within a ≡ true → within (frame_of a) ≡ true
+    frame e =
+        let parts = and_parts (nat_le (4096 * r.frame) a) (nat_lt a (4096 * (r.frame + r.count))) e in
+        let low : 4096 * r.frame ≤ a = leb-true (4096 * r.frame) a parts.0 in
+        let high : a < 4096 * (r.frame + r.count) = ltb-true a (4096 * (r.frame + r.count)) parts.1 in
+        let low' : 4096 * r.frame ≤ frame_of a = omega (arith, low) in
+        let high' : frame_of a < 4096 * (r.frame + r.count) = omega (arith, high) in
+        rw (le-leb (4096 * r.frame) (frame_of a) low', lt-ltb (frame_of a) (4096 * (r.frame + r.count)) high') refl
+
+    by : (b : Bool) → within a ≡ b → (is_own rs a ≡ true → is_own rs (frame_of a) ≡ true) →
+        (b || is_own rs a) ≡ true → is_own (r ∷ rs) (frame_of a) ≡ true
+    by true e rest k = ap (λ b. b || is_own rs (frame_of a)) (frame e)
+    by false e rest k = or-true (within (frame_of a)) (is_own rs (frame_of a)) (rest k)
+      where
+        or-true : (x y : Bool) → y ≡ true → (x || y) ≡ true
+        or-true true y g = refl
+        or-true false y g = g
+
+-- ---- a driver that agrees with the account
+module _ (l : LaneState) (a : Account) (agrees : AgreesWith l a) where
+  -- a page that a map holds stands with the maps' pages
+  page-held : (m : ℕ) (o : LaneMap) (z : ℕ) (cs : List Chunk) (ss : List Segment) (ps : List ℕ) (p : ℕ) →
+      get l.maps m ≡ Some o → o.zone ≡ Some z → o.stage ≡ Loaded cs ss ps → times p ps ≤ times_held (named l m) z p a
+  page-held m o z cs ss ps p there zone stage =
+      let is : own_map (get l.maps m) ≡ Some (record { zone = z; stage = view.Loaded ps }) = ap own_map there
+      ∙ ap (in_zone o.stage) zone ∙ ap (λ s. Some (record { zone = z; stage = stage_of s })) stage in
+      let pages : loaded_page z p (own_map (get l.maps m)) ≡ times p ps = ap (loaded_page z p) is
+      ∙ count-like (λ q. (q == p) && (z == z)) (λ q. q == p) ps
+      (λ q. ap (λ b. (q == p) && b) (eq-eqb z z refl) ∙ Rattle.lane_agreement.proofs.Own.and-true (q == p)) in
+      omega (arith, (agrees.names (named l m) refl).holds_page z p, pages)
+
+  -- a frame of a memory stands with the memories' frames
+  memory-held : (k : ℕ) (x : LaneMemory) (f : ℕ) → get l.mems k ≡ Some x →
+      times f (frames_of (named l k) a.mems) ≡ times f (frames_from x.count x.first)
+  memory-held k x f there =
+      ap (times f) ((agrees.names (named l k) refl).frames
+      ∙ ap (λ o. Rattle.lane_agreement.specs.OwnShare.mem_frames (own_frames o)) there)
+
+  -- a byte of a memory's frames is none of another's, and none of the driver's pages
+  pub memories-apart : (k j : ℕ) (x y : LaneMemory) (b : ℕ) → get l.mems k ≡ Some x → get l.mems j ≡ Some y →
+      IsRun x → IsRun y → in_run x.first x.count b ≡ true → in_run y.first y.count b ≡ true → k ≡ j
+  memories-apart k j x y b there too rx ry h g = elim (decided k j) as (λ _. k ≡ j) [
+    | inl e ↦ e
+    | inr ne ↦
+        let f : ℕ = frame_of b in
+        absurd
+        (omega (
+          arith,
+          agrees.one f,
+          mems-two (named l k) (named l j) f a.mems ne,
+          memory-held k x f there,
+          memory-held j y f too,
+          run-frame x.count x.first b rx.whole h,
+          run-frame y.count y.first b ry.whole g,
+        ))
+  ]
+
+  pub memory-apart : (k : ℕ) (x : LaneMemory) (b : ℕ) → get l.mems k ≡ Some x → IsRun x →
+      in_run x.first x.count b ≡ true → is_own l.pages b ≡ true → ⊥
+  memory-apart k x b there rx h own =
+      let f : ℕ = frame_of b in
+      absurd
+      (omega (
+        arith,
+        agrees.apart f (own-frame l.pages b own),
+        mems-two (named l k) (next (named l k)) f a.mems (off-next (named l k)),
+        memory-held k x f there,
+        run-frame x.count x.first b rx.whole h,
+      ))
+
+  module _ (stands : Stands l) where
+    -- a map that is loaded with a page
+    record Holder (m : ℕ) (cs : List Chunk) (ss : List Segment) (ps : List ℕ) : Type 0 where
+      map : LaneMap
+      zone : ℕ
+      there : get l.maps m ≡ Some map
+      zoned : map.zone ≡ Some zone
+      stage : map.stage ≡ Loaded cs ss ps
+
+    holder-of : (m i p : ℕ) (cs : List Chunk) (ss : List Segment) (ps : List ℕ) → stage_at l m ≡ Loaded cs ss ps →
+        slice_get ps i ≡ Some p → Holder m cs ss ps
+    holder-of m i p cs ss ps loaded has = by (get l.maps m) refl loaded
+      where
+        none : ps ≡ [] → ⊥
+        none e = let gone : slice_get [] i ≡ Some p = sym (ap (λ x. slice_get x i) e) ∙ has in cc
+
+        pageless : (s : Stage) → s ≡ Loaded cs ss ps → IsPageless s → ps ≡ []
+        pageless s e h = subst IsPageless e h
+
+        zoned : (o : LaneMap) → get l.maps m ≡ Some o → o.stage ≡ Loaded cs ss ps → (z : Option ℕ) → o.zone ≡ z →
+            Holder m cs ss ps
+        zoned o e s None z = absurd (none (pageless o.stage s ((stands.each m o e).pageless z)))
+        zoned o e s (Some y) z = record { map = o; zone = y; there = e; zoned = z; stage = s }
+
+        by : (o : Option LaneMap) → get l.maps m ≡ o → stage_in o ≡ Loaded cs ss ps → Holder m cs ss ps
+        by None e s = absurd (cc)
+        by (Some o) e s = zoned o e s o.zone refl
+
+    page-times : {m : ℕ} {cs : List Chunk} {ss : List Segment} {ps : List ℕ} (h : Holder m cs ss ps) (p : ℕ) →
+        times p ps ≤ times_held (named l m) h.zone p a
+    page-times {m} {cs} {ss} {ps} h p = page-held m h.map h.zone cs ss ps p h.there h.zoned h.stage
+
+    counted-page : (ps : List ℕ) (i p : ℕ) → slice_get ps i ≡ Some p → 1 ≤ times p ps
+    counted-page ps i p e = Rattle.ideal_wire.proofs.Lent.counted_one (λ q. q == p) ps i p e (eq-eqb p p refl)
+
+    -- a page that a map holds stands among the account's frames
+    page-placed : (m i p : ℕ) (cs : List Chunk) (ss : List Segment) (ps : List ℕ) → stage_at l m ≡ Loaded cs ss ps →
+        slice_get ps i ≡ Some p → 1 ≤ times_lent p a
+    page-placed m i p cs ss ps loaded has =
+        let h = holder-of m i p cs ss ps loaded has in
+        omega (
+          arith,
+          page-times h p,
+          counted-page ps i p has,
+          lent-two (named l m) (next (named l m)) h.zone h.zone p a (off-next (named l m)),
+        )
+
+    -- a bus address in a page is none of the driver's own bytes
+    pub page-apart : (m k b : ℕ) (cs : List Chunk) (ss : List Segment) (ps : List ℕ) → stage_at l m ≡ Loaded cs ss ps →
+        IsBounced cs ps k b → ((j : ℕ) (x : LaneMemory) → get l.mems j ≡ Some x → IsRun x) → IsOwnByte l b → ⊥
+    page-apart m k b cs ss ps loaded x runs own = by own
+      where
+        frame : frame_of b ≡ x.page
+        frame = omega (arith, x.whole, x.low, x.high)
+
+        placed : 1 ≤ times_lent (frame_of b) a
+        placed = subst (λ p. 1 ≤ times_lent p a) (sym frame) (page-placed m x.index x.page cs ss ps loaded x.has_page)
+
+        by : IsOwnByte l b → ⊥
+        by (OfPages e) = absurd (omega (arith, agrees.apart (frame_of b) (own-frame l.pages b e), placed))
+        by (OfMemory j y there h) =
+            let f : ℕ = frame_of b in
+            absurd
+            (omega (
+              arith,
+              agrees.one f,
+              placed,
+              mems-two (named l j) (next (named l j)) f a.mems (off-next (named l j)),
+              memory-held j y f there,
+              run-frame y.count y.first b (runs j y there).whole h,
+            ))
+
+    -- a bus address in a page is that of one place of one map
+    pub page-one : (m n k j b d : ℕ) (cs : List Chunk) (ss : List Segment) (ps : List ℕ)
+        (cs' : List Chunk) (ss' : List Segment) (ps' : List ℕ) → stage_at l m ≡ Loaded cs ss ps →
+        stage_at l n ≡ Loaded cs' ss' ps' → IsBounced cs ps k b → IsBounced cs' ps' j d → b ≡ d → (m ≡ n) × (k ≡ j)
+    page-one m n k j b d cs ss ps cs' ss' ps' loaded too x y same = by (decided m n)
+      where
+        page : y.page ≡ x.page
+        page = omega (arith, x.whole, x.low, x.high, y.whole, y.low, y.high, same)
+
+        twice : (i : ℕ) → slice_get ps i ≡ Some x.page → x.index ≢ i → ⊥
+        twice i has ne =
+            let h = holder-of m x.index x.page cs ss ps loaded x.has_page in
+            absurd
+            (omega (
+              arith,
+              agrees.one x.page,
+              page-times h x.page,
+              lent-two (named l m) (next (named l m)) h.zone h.zone x.page a (off-next (named l m)),
+              counted_two (λ q. q == x.page) ps x.index i x.page x.page x.has_page has
+                  (eq-eqb x.page x.page refl) (eq-eqb x.page x.page refl) ne,
+            ))
+
+        at-index : ps' ≡ ps → cs' ≡ cs → (x.index ≡ y.index) ⊎ (x.index ≢ y.index) → k ≡ j
+        at-index ep ec (inr ne) =
+            absurd (twice y.index (sym (ap (λ q. slice_get q y.index) ep) ∙ y.has_page ∙ ap (λ q. Some q) page) ne)
+        at-index ep ec (inl i) =
+            let there : slice_get cs x.index ≡ Some y.chunk = ap (slice_get cs) i
+            ∙ sym (ap (λ q. slice_get q y.index) ec) ∙ y.has_chunk in
+            let chunk : x.chunk ≡ y.chunk = found_one (slice_get cs x.index) x.chunk y.chunk x.has_chunk there in
+            let base = ap (λ (c : Chunk). (Rattle.segment_build.specs.Trace.bus_extent c).pa.0) chunk in
+            let at = ap (λ (c : Chunk). c.at) chunk in
+            omega (arith, x.bus_is, y.bus_is, x.behind, y.behind, base, at, same)
+
+        by : (m ≡ n) ⊎ (m ≢ n) → (m ≡ n) × (k ≡ j)
+        by (inl e) =
+            let stages : Loaded cs' ss' ps' ≡ Loaded cs ss ps = sym too ∙ ap (stage_at l) (sym e) ∙ loaded in
+            (e, at-index (ap pages_of stages) (ap bounced_in stages) (decided x.index y.index))
+        by (inr ne) =
+            let h = holder-of m x.index x.page cs ss ps loaded x.has_page in
+            let g = holder-of n y.index y.page cs' ss' ps' too y.has_page in
+            let p = x.page in
+            absurd
+            (omega (
+              arith,
+              agrees.one p,
+              page-times h p,
+              subst (λ q. times q ps' ≤ times_held (named l n) g.zone q a) page (page-times g y.page),
+              counted-page ps x.index p x.has_page,
+              subst (λ q. 1 ≤ times q ps') page (counted-page ps' y.index y.page y.has_page),
+              lent-two (named l m) (named l n) h.zone g.zone p a ne,
+            ))

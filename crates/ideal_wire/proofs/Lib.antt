@@ -1,0 +1,17 @@
+pub mod Buses
+pub mod Carried
+pub mod Copies
+pub mod Faithful
+pub mod FaithfulAccess
+pub mod FaithfulRanges
+pub mod FaithfulSync
+pub mod Frames
+pub mod Lent
+pub mod Openings
+pub mod Placed
+pub mod Placing
+pub mod Positions
+pub mod Refusing
+pub mod SyncedPositions
+pub mod Turns
+pub mod Wiring

@@ -1,0 +1,43 @@
+-- The ideal memory and the wire agree, whatever the traces of the loads are.
+use Rattle.std.specs.Prelude.{◌≡◌, ℕ, true, false, Some, slice_get}
+use Rattle.loan_table.specs.declared.position.Position.{Position}
+use Rattle.loan_table.specs.Loans.{Loans, loan_of, to_write, in_any_way, lent}
+use Rattle.busdma_base.specs.Machine.Wire.{Wire, Traces, Placed}
+use Rattle.ideal_lane.specs.IdealMemory.{IdealMemory, Known}
+use Rattle.ideal_lane.specs.State.{LaneState}
+use Rattle.ideal_wire.specs.Traces.{traces_of}
+
+-- the position of a map's load at a place, and its place in the trace
+abbrev pub IsAt : Loans → ℕ → ℕ → Position → Type 0
+IsAt loans m i p = slice_get (loan_of loans m).positions i ≡ Some p
+
+abbrev pub IsPlacedAt : Traces → ℕ → ℕ → Placed → Type 0
+IsPlacedAt traces m i t = slice_get (traces m) i ≡ Some t
+
+-- A Known byte that is lent to write stands at the bus address of the position that lends it; one that is lent to read
+-- alone stands at the bus address of each position that lends it; and each that is not lent to write stands in the
+-- buffer.
+pub record Agrees (memory : IdealMemory) (loans : Loans) (traces : Traces) (w : Wire) : Type 0 where
+  pub written : (m i : ℕ) (p : Position) (t : Placed) (v : ℕ) → IsAt loans m i p → IsPlacedAt traces m i t →
+      p.to_write ≡ true → memory p.pa ≡ Some (Known v) → w t.bus ≡ v
+  pub read : (m i : ℕ) (p : Position) (t : Placed) (v : ℕ) → IsAt loans m i p → IsPlacedAt traces m i t →
+      p.to_read ≡ true → lent to_write p.pa loans ≡ false → memory p.pa ≡ Some (Known v) → w t.bus ≡ v
+  pub kept : (a v : ℕ) → lent to_write a loans ≡ false → memory a ≡ Some (Known v) → w a ≡ v
+
+-- What the rules of lending keep: a byte that is lent to write stands once in the buffer of its map, and no other map
+-- lends it; a coherent map lends nothing.
+pub record IsExclusive (loans : Loans) : Type 0 where
+  pub once : (m i j : ℕ) (p q : Position) → IsAt loans m i p → IsAt loans m j q →
+      p.to_write ≡ true → p.pa ≡ q.pa → i ≡ j
+  pub alone : (m n i j : ℕ) (p q : Position) → IsAt loans m i p → IsAt loans n j q → p.to_write ≡ true →
+      in_any_way q ≡ true → p.pa ≡ q.pa → m ≡ n
+  pub unlent : (m i : ℕ) (p : Position) → (loan_of loans m).coherent ≡ true → IsAt loans m i p → in_any_way p ≡ false
+
+-- the wire is faithful to an ideal memory and to what is lent of it
+pub record IsFaithfulTo (memory : IdealMemory) (loans : Loans) (traces : Traces) (w : Wire) : Type 0 where
+  pub exclusive : IsExclusive loans
+  pub agrees : Agrees memory loans traces w
+
+-- the wire of a driver is faithful to its ideal state
+abbrev pub IsFaithful : LaneState → Wire → Type 0
+IsFaithful l w = IsFaithfulTo l.memory l.loans (traces_of l) w

@@ -1,0 +1,4 @@
+pub mod Centre
+pub mod Laid
+pub mod Traces
+pub mod WireStep

@@ -1,0 +1,148 @@
+-- What the steps of a driver make of its wire. Pages come with any bytes and leave with theirs.
+use Rattle.std.specs.Prelude.{◌≡◌, ℕ, true, List, [], ◌∷◌, Option, Some, None, map, length, slice_get, unwrap_or}
+use Rattle.std.specs.Prelude.{if◌then◌else◌, is_some}
+use Rattle.std.specs.Ordering.{nat_cmp}
+use Rattle.std.specs.FinMap.{FinMap, get}
+use Rattle.busdma_base.specs.declared.scenarios.script.Op.{Op}
+use Rattle.busdma_base.specs.declared.scenarios.script.Op.TheVariants as op
+use Rattle.busdma_base.specs.declared.scenarios.script.Item.{Item}
+use Rattle.busdma_base.specs.declared.scenarios.script.Item.TheVariants as item
+use Rattle.busdma_base.specs.declared.scenarios.script.Place.{Place}
+use Rattle.busdma_base.specs.declared.journals.answer.Answer.{Answer}
+use Rattle.busdma_base.specs.declared.journals.answer.Answer.TheVariants as answer
+use Rattle.busdma_base.specs.declared.journals.journal.Side.{Side}
+use Rattle.busdma_base.specs.declared.journals.journal.Side.TheVariants as side
+use Rattle.busdma_base.specs.Machine.Wire.{Wire, Placed, buses, stretch, put, copied_in, copied_out}
+use Rattle.busdma_base.specs.Runs.{run_of}
+use Rattle.busdma_base.specs.Scenarios.Operations.{bytes_of}
+use Rattle.dma_tag.specs.SyncOps.{prewrite, postread}
+use Rattle.lane_agreement.specs.View.{Return}
+use Rattle.lane_tables.specs.declared.queued.QueuedItem.{QueuedItem}
+use Rattle.loan_table.specs.Loans.{loan_of}
+use Rattle.ideal_lane.specs.State.{LaneState, LaneMap}
+use Rattle.ideal_lane.specs.Asking.{Asking, Gives, Asks}
+use Rattle.ideal_lane.specs.IdealMemory.{IdealMemory}
+use Rattle.ideal_lane.specs.Outcomes.{Outcome, load_length}
+use Rattle.ideal_lane.specs.Places.{virtual_at, bytes_at}
+use Rattle.ideal_lane.specs.Turns.{waits}
+use Rattle.ideal_lane.specs.Accesses as accesses
+use Rattle.ideal_lane.specs.Syncs as syncs
+use Rattle.ideal_lane.specs.Unloads.{pages_of}
+use Rattle.ideal_wire.specs.Traces.{stage_in, is_in_pages, traces_of}
+
+-- What is done
+
+-- a step with this answer that is not done changes no byte
+abbrev pub if_answered : Answer → Wire → Wire → Wire
+if_answered answer.Done after w = after
+if_answered _ after w = w
+
+-- nor does one that makes a call
+abbrev pub if_done : Asking Outcome → Wire → Wire → Wire
+if_done (Gives o) after w = if_answered o.answer after w
+if_done (Asks c k) after w = w
+
+-- PREWRITE copies the bounced bytes of positions to their bus addresses, and POSTREAD copies them back; PREREAD and
+-- POSTWRITE copy nothing
+abbrev pub copied_by : ℕ → List Placed → Wire → Wire
+copied_by ops ps w = if prewrite ops then copied_in ps w else if postread ops then copied_out ps w else w
+
+-- a sync of a range of a map's load; that of a coherent map copies nothing
+abbrev pub synced : ℕ → ℕ → ℕ → ℕ → LaneState → Wire → Wire
+synced m off len ops l w =
+    if (loan_of l.loans m).coherent then w else copied_by ops (stretch off len (traces_of l m)) w
+
+-- a sync of the whole load
+abbrev pub sync : ℕ → ℕ → LaneState → Wire → Wire
+sync m ops l w = if_done (syncs.sync m ops l) (synced m 0 (load_length l m) ops l w) w
+
+-- a sync of a range
+abbrev pub sync_range : ℕ → ℕ → ℕ → ℕ → LaneState → Wire → Wire
+sync_range m off len ops l w = if_done (syncs.sync_range m off len ops l) (synced m off len ops l w) w
+
+-- the bytes at a place, by their physical addresses
+abbrev pub place_bytes : LaneState → Place → ℕ → List ℕ
+place_bytes l place len = bytes_at l (run_of (unwrap_or (virtual_at l place) 0) len)
+
+-- the driver writes the bytes at a place
+abbrev pub cpu_write : Place → List ℕ → LaneState → Wire → Wire
+cpu_write place vs l w = if_done (accesses.cpu_write place vs l) (put (place_bytes l place (length vs)) vs w) w
+
+-- the bus addresses of a range of a map's load
+abbrev pub load_buses : LaneState → ℕ → ℕ → ℕ → List ℕ
+load_buses l m off len = buses (stretch off len (traces_of l m))
+
+-- the device writes the bytes of a range of a map's load
+abbrev pub dev_write : ℕ → ℕ → List ℕ → LaneState → Wire → Wire
+dev_write m off vs l w = if_done (accesses.dev_write m off vs l) (put (load_buses l m off (length vs)) vs w) w
+
+-- an operation; no other changes a byte
+abbrev pub operation : Op → LaneState → Wire → Wire
+operation (op.Tag name parent limits) l w = w
+operation (op.TagDestroy tag) l w = w
+operation (op.Map name tag) l w = w
+operation (op.MapDestroy map) l w = w
+operation (op.Load map place len flags items) l w = w
+operation (op.Unload map) l w = w
+operation (op.Sync map ops) l w = sync map ops l w
+operation (op.SyncRange map off len ops) l w = sync_range map off len ops l w
+operation (op.CpuRead place len) l w = w
+operation (op.CpuWrite place bytes) l w = cpu_write place (bytes_of bytes) l w
+operation (op.Await map) l w = w
+
+-- an item
+abbrev pub transfer : Item → LaneState → Wire → Wire
+transfer (item.Sync map ops) l w = sync map ops l w
+transfer (item.SyncRange map off len ops) l w = sync_range map off len ops l w
+transfer (item.DevRead map off len) l w = w
+transfer (item.DevWrite map off bytes) l w = dev_write map off (bytes_of bytes) l w
+
+-- the next operation of the script, if there is one and it does not wait
+abbrev pub next_operation : Option Op → LaneState → Wire → Wire
+next_operation None l w = w
+next_operation (Some o) l w = if waits o l then w else operation o l w
+
+-- the turn of the script, in which pages go back first
+abbrev pub script_turn : List Return → LaneState → Wire → Wire
+script_turn [] l w = next_operation (slice_get l.script l.place) l w
+script_turn (r ∷ rest) l w = w
+
+-- the first item of the transfer queue, if there is one
+abbrev pub transfer_turn : List QueuedItem → LaneState → Wire → Wire
+transfer_turn [] l w = w
+transfer_turn (q ∷ rest) l w = transfer q.item l w
+
+-- the turn of a side
+abbrev pub lane_step : LaneState → Side → Wire → Wire
+lane_step l side.Script w = script_turn l.returns l w
+lane_step l side.Transfer w = transfer_turn l.queue l w
+lane_step l side.Callback w = w
+
+-- What comes and goes
+
+-- a byte that is the driver's own before and after stays
+abbrev pub KeepsOwn : IdealMemory → IdealMemory → Wire → Wire → Type 0
+KeepsOwn before after w w' =
+    (a : ℕ) → is_some (before a) ≡ true → is_some (after a) ≡ true → w' a ≡ w a
+
+-- so does a byte of a page that a map holds before and after
+abbrev pub KeepsPages : FinMap nat_cmp LaneMap → FinMap nat_cmp LaneMap → Wire → Wire → Type 0
+KeepsPages before after w w' =
+    (m a : ℕ) → is_in_pages (pages_of (stage_in (get before m))) a ≡ true →
+    is_in_pages (pages_of (stage_in (get after m))) a ≡ true → w' a ≡ w a
+
+-- pages came with any bytes, and went with theirs
+abbrev pub Follows : LaneState → LaneState → Wire → Wire → Type 0
+Follows before after w w' = KeepsOwn before.memory after.memory w w' × KeepsPages before.maps after.maps w w'
+
+-- What is read
+
+-- a read that is done answers the bytes at these addresses
+abbrev pub Reads : Answer → List ℕ → Wire → Type 0
+Reads (answer.Bytes vs) addresses w = vs ≡ map w addresses
+Reads _ addresses w = Unit {0}
+
+-- the same of a step
+abbrev pub IsRead : Asking Outcome → List ℕ → Wire → Type 0
+IsRead (Gives o) addresses w = Reads o.answer addresses w
+IsRead (Asks c k) addresses w = Unit {0}

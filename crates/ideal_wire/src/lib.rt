@@ -1,0 +1,8 @@
+//! The wire of the ideal driver: the bytes that its frames and its bounce pages really hold, and the
+//! laws by which they agree with its ideal memory. Each law is the contract of a function that does
+//! nothing.
+#![tactic(auto)]
+
+mod laws;
+
+pub use laws::{opening_is_faithful, reads_are_faithful, step_stays_faithful};
