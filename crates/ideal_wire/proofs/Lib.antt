@@ -1,3 +1,4 @@
+pub mod Accepting
 pub mod Buses
 pub mod Carried
 pub mod Copies
@@ -7,10 +8,12 @@ pub mod FaithfulRanges
 pub mod FaithfulSync
 pub mod Frames
 pub mod Lent
+pub mod Loading
 pub mod Openings
 pub mod Placed
 pub mod Placing
 pub mod Positions
+pub mod Reaching
 pub mod Refusing
 pub mod SyncedPositions
 pub mod Turns

@@ -1,22 +1,31 @@
 //! Laws of the wire.
 
-ghost use Rattle.std.specs.Prelude.{◌≡◌, ℕ, true};
+ghost use Rattle.std.specs.Prelude.{◌≡◌, ℕ, Bool, true, false, List, Some};
+ghost use Rattle.std.specs.FinMap.{contains_key, get};
 ghost use Rattle.busdma_base.specs.declared.bounce.hold.HubReply.{HubReply};
 ghost use Rattle.busdma_base.specs.declared.journals.journal.Side.{Side};
+ghost use Rattle.busdma_base.specs.declared.journals.report.Judged.TheVariants.{Fine};
+ghost use Rattle.busdma_base.specs.declared.machine.address.Span.{Span};
 ghost use Rattle.busdma_base.specs.declared.scenarios.scenario.Driver.{Driver};
+ghost use Rattle.busdma_base.specs.declared.scenarios.script.Item.{Item};
 ghost use Rattle.busdma_base.specs.declared.scenarios.script.Place.{Place};
 ghost use Rattle.busdma_base.specs.Bounce.Account.{Account};
 ghost use Rattle.busdma_base.specs.Machine.PageRuns.{is_own};
+ghost use Rattle.busdma_base.specs.Machine.Spans.{span_addresses};
 ghost use Rattle.busdma_base.specs.Machine.Wire.{Wire};
 ghost use Rattle.ideal_lane.specs.Accesses.{cpu_read, dev_read};
 ghost use Rattle.ideal_lane.specs.Agreement.{AgreesWith};
 ghost use Rattle.ideal_lane.specs.Asking.{by_reply};
+ghost use Rattle.ideal_lane.specs.Loads.{asked, chunks_for, finished, limits_of, load_judged};
 ghost use Rattle.ideal_lane.specs.Opening.{opening_lane};
+ghost use Rattle.ideal_lane.specs.Places.{bytes_at};
 ghost use Rattle.ideal_lane.specs.Standing.{Stands};
-ghost use Rattle.ideal_lane.specs.State.{LaneState};
+ghost use Rattle.ideal_lane.specs.State.{LaneMap, LaneState};
 ghost use Rattle.ideal_lane.specs.Turns.{lane_step};
+ghost use Rattle.ideal_wire.specs.Accepted.{HasPages, IfSegments, IsAccepted};
 ghost use Rattle.ideal_wire.specs.Centre.{IsFaithful};
 ghost use Rattle.ideal_wire.specs.Laid.{AreLaid};
+ghost use Rattle.ideal_wire.specs.Machine.{IsInMachine};
 ghost use Rattle.ideal_wire.specs.WireStep.{Follows, IsRead, load_buses, place_bytes};
 ghost use Rattle.ideal_wire.specs.WireStep as wire;
 
@@ -45,4 +54,20 @@ pub fn reads_are_faithful()
     ensures dev { (l : LaneState) (a : Account) (w : Wire) (m off len : ℕ) →
         Stands l → AgreesWith l a → AreLaid l → IsFaithful l w →
         IsRead (dev_read m off len l) (load_buses l m off len) w }
+{}
+
+/// The segments that a load of the driver's pages answers are its bytes, in order, and obey its tag,
+/// where it has as many pages as it needs and its device reaches each of them. The load is of a map
+/// that is not a memory's, and its bytes are judged fine.
+pub fn accepted_loads_obey()
+    ensures { (l : LaneState) (m : ℕ) (o : LaneMap) (spans : List Span) (load_at : ℕ) (nowait : Bool)
+        (items : List Item) (pages : List ℕ) → Stands l → AreLaid l → IsInMachine l →
+        get l.maps m ≡ Some o → contains_key l.mems m ≡ false →
+        load_judged l m (span_addresses spans) ≡ Fine →
+        let x = asked m spans nowait items l in
+        let chunks = chunks_for l o false x.entries in
+        HasPages (limits_of l o) chunks pages →
+        let end = finished m o load_at x chunks pages l in
+        IfSegments end.answer
+        (IsAccepted end.lane m (limits_of l o) (bytes_at l (span_addresses spans)) chunks pages) }
 {}

@@ -1,0 +1,215 @@
+-- A load that has its pages lies in them, and its segments are its bytes and obey its tag.
+use Rattle.std.proofs.Common.{◌≡◌, ℕ, suc, ◌*◌, ◌<◌, ◌≤◌, Bool, true, false, cond, List, [], ◌∷◌, ◌++◌}
+use Rattle.std.proofs.Common.{length, Option, Some, refl, ap, sym, ◌∙◌, subst}
+use Rattle.std.proofs.Common.{unwrap_or, nat_le, eq-eqb, if◌then◌else◌}
+use Rattle.std.proofs.lemmas.Bool.{leb-true}
+use Rattle.std.specs.Option.{option_map}
+use Rattle.std.specs.List.{AllByRecursion, flat_map}
+use Rattle.std.specs.FinMap.{get, contains_key}
+use Rattle.busdma_base.specs.declared.journals.answer.Answer.TheVariants as answer
+use Rattle.busdma_base.specs.declared.journals.report.Errno.TheVariants.{EFBIG}
+use Rattle.busdma_base.specs.declared.journals.report.Judged.TheVariants.{Fine}
+use Rattle.busdma_base.specs.declared.machine.address.Pa.{Pa}
+use Rattle.busdma_base.specs.declared.machine.address.Segment.{Segment}
+use Rattle.busdma_base.specs.declared.machine.address.Span.{Span}
+use Rattle.busdma_base.specs.declared.machine.chunk.Chunk.{Chunk}
+use Rattle.busdma_base.specs.declared.machine.chunk.Entry.{Entry}
+use Rattle.busdma_base.specs.declared.scenarios.script.Item.{Item}
+use Rattle.busdma_base.specs.declared.tags.tag.TagLimits.{TagLimits}
+use Rattle.busdma_base.specs.Bounce.AccountStep.{as_pages}
+use Rattle.busdma_base.specs.Machine.Entry.{IsEntry, entry_addresses, entries_addresses}
+use Rattle.busdma_base.specs.Machine.Spans.{span_addresses}
+use Rattle.busdma_base.specs.Machine.Wire.{buffers, buses}
+use Rattle.busdma_base.specs.Tags.Tag.{IsEffective}
+use Rattle.busdma_base.specs.Tags.TagFlags.{keep_pg_offset}
+use Rattle.lane_agreement.specs.After as after
+use Rattle.loan_table.specs.Loans.{Loan, loan_of, no_loan, addresses_of, unlent, new_loan}
+use Rattle.phys_memory.specs.Translation.{physical_or_0}
+use Rattle.phys_memory.proofs.Vectors.{entries_are}
+use Rattle.segment_build.specs.Building.{tag_placed, placed_pieces}
+use Rattle.segment_build.specs.Chunks.{bounced_of, chunks_of}
+use Rattle.segment_build.specs.Obeying.{IsReachable}
+use Rattle.segment_build.specs.Segmentation.{segment_bytes, segmentation}
+use Rattle.segment_build.specs.Trace.{IsPage, IsPlaced}
+use Rattle.segment_build.proofs.Bytes.{all_rise, pieces_bytes, segmentation_bytes}
+use Rattle.segment_build.proofs.Covering.{chunks_at, chunks_cover}
+use Rattle.segment_build.proofs.Cuts.{cut_is}
+use Rattle.segment_build.proofs.Obeys as obeying
+use Rattle.segment_build.proofs.Sound.{chunks_sound, placed_are}
+use Rattle.ideal_lane.specs.Loads.{Asked, asked, limits_of, no_limits, finished, loaded, unpaged, is_coherent}
+use Rattle.ideal_lane.specs.Loads.{load_judged}
+use Rattle.ideal_lane.specs.Outcomes.{Outcome}
+use Rattle.ideal_lane.specs.Places.{physical, bytes_at}
+use Rattle.ideal_lane.specs.Standing.{Stands}
+use Rattle.ideal_lane.specs.State.{LaneState, LaneTag, LaneMap, Loaded}
+use Rattle.ideal_lane.proofs.Lookups.{get_put}
+use Rattle.ideal_wire.specs.Accepted.{HasPages, IsAccepted, IfSegments}
+use Rattle.ideal_wire.specs.Laid.{AreLaid}
+use Rattle.ideal_wire.specs.Machine.{IsInMachine}
+use Rattle.ideal_wire.specs.Traces.{stage_in, stage_at, placed_from, traces_of}
+use Rattle.ideal_wire.proofs.Buses.{placed-buffers}
+use Rattle.ideal_wire.proofs.Loading.{chunks_bytes, Follow, follow-of, placed-follow, placed-bytes, traced}
+use Rattle.ideal_wire.proofs.Placing.{reaches}
+use Rattle.ideal_wire.proofs.Reaching.{AllReached, all-reached, byte-below, entries-bytes, paged}
+
+-- ---- small lists
+
+same-pages : (pages : List ℕ) → after.addresses (as_pages pages) ≡ pages
+same-pages [] = refl
+same-pages (p ∷ pages) = ap (λ xs. p ∷ xs) (same-pages pages)
+
+count-pages : (pages : List ℕ) → length (as_pages pages) ≡ length pages
+count-pages [] = refl
+count-pages (p ∷ pages) = ap suc (count-pages pages)
+
+are-pages : (t : TagLimits) (pages : List Pa) → AllByRecursion (IsReachable t) pages → AllByRecursion IsPage pages
+are-pages t [] h = tt
+are-pages t (p ∷ pages) h = (h.0.0, are-pages t pages h.1)
+
+unlent-bytes : (bytes : List ℕ) → addresses_of (unlent bytes) ≡ bytes
+unlent-bytes [] = refl
+unlent-bytes (b ∷ bytes) = ap (λ xs. b ∷ xs) (unlent-bytes bytes)
+
+pub flat-entries : (es : List Entry) → flat_map entry_addresses es ≡ entries_addresses es
+flat-entries [] = refl
+flat-entries (e ∷ es) = ap (λ xs. entry_addresses e ++ xs) (flat-entries es)
+
+-- ---- the load of a map that has its pages
+module _ (l : LaneState) (m : ℕ) (o : LaneMap) (load_at : ℕ) (x : Asked) (chunks : List Chunk) (pages : List ℕ) where
+  abbrev t : TagLimits
+  t = limits_of l o
+
+  abbrev placed : List Chunk
+  placed = tag_placed t chunks (as_pages pages)
+
+  abbrev pub segments : List Segment
+  segments = segmentation t (placed_pieces t chunks (as_pages pages))
+
+  abbrev pub fits : LaneState
+  fits = loaded m o load_at x placed segments pages l
+
+  pub stage-is : stage_at fits m ≡ Loaded (bounced_of placed) segments pages
+  stage-is =
+      ap stage_in (get_put l.maps m there m ∙ ap (λ b. cond b (Some there) (get l.maps m)) (eq-eqb m m refl))
+    where
+      there : LaneMap
+      there = record o { tried = true; stage = Loaded (bounced_of placed) segments pages }
+
+  pub loan-is : loan_of fits.loans m ≡ new_loan (is_coherent (get l.mems m)) (entries_addresses x.entries)
+  loan-is =
+      ap (λ q. unwrap_or q no_loan) (get_put l.loans m new m
+      ∙ ap (λ b. cond b (Some new) (get l.loans m)) (eq-eqb m m refl))
+    where
+      new : Loan
+      new = new_loan (is_coherent (get l.mems m)) (entries_addresses x.entries)
+
+  pub traces-are : traces_of fits m ≡ placed_from (bounced_of placed) 0 (entries_addresses x.entries)
+  traces-are =
+      (λ i. placed_from (Rattle.ideal_lane.specs.Syncs.bounced_in (stage-is i)) 0 (addresses_of (loan-is i).positions))
+      ∙ ap (placed_from (bounced_of placed) 0) (unlent-bytes (entries_addresses x.entries))
+
+  module _ (some : 1 ≤ t.maxsegsz) (are : AllByRecursion IsPlaced placed) (follow : Follow 0 chunks)
+      (bytes : chunks_bytes chunks ≡ entries_addresses x.entries) where
+    pub trace-is : segment_bytes segments ≡ buses (traces_of fits m)
+    trace-is =
+        let pieces = placed_pieces t chunks (as_pages pages) in
+        let keep = keep_pg_offset t.flags in
+        segmentation_bytes t segments pieces (cut_is t pieces)
+        ∙ pieces_bytes t placed some (all_rise placed are)
+        ∙ traced placed 0 (placed-follow keep chunks (as_pages pages) 0 follow) are
+        ∙ ap (λ xs. buses (placed_from (bounced_of placed) 0 xs)) (placed-bytes keep chunks (as_pages pages) ∙ bytes)
+        ∙ ap buses (sym traces-are)
+
+-- ---- a load of a map that is not a memory's
+module _ (l : LaneState) (laid : AreLaid l) (machine : IsInMachine l) (stands : Stands l) (m : ℕ) (o : LaneMap)
+    (there : get l.maps m ≡ Some o) (direct : contains_key l.mems m ≡ false) (spans : List Span) (load_at : ℕ)
+    (no_wait : Bool) (items : List Item) (fine : load_judged l m (span_addresses spans) ≡ Fine) (pages : List ℕ) where
+  abbrev x : Asked
+  x = asked m spans no_wait items l
+
+  abbrev limits : TagLimits
+  limits = limits_of l o
+
+  abbrev pub chunks : List Chunk
+  chunks = chunks_of limits l.maxmem x.entries
+
+  effective : IsEffective limits
+  effective =
+      let st = stands.each m o there in
+      let same : limits ≡ st.tag.limits =
+      ap (λ q. unwrap_or (option_map (λ (g : LaneTag). g.limits) q) no_limits) st.there in
+      subst IsEffective (sym same) (machine.tags o.tag st.tag st.there)
+
+  are-entries : AllByRecursion IsEntry x.entries
+  are-entries = entries_are (λ p. Unit {0}) true (physical l) (paged l laid machine) spans
+
+  reached-all : AllReached (physical l) (span_addresses spans)
+  reached-all = all-reached l m (span_addresses spans) fine
+
+  are-bytes : entries_addresses x.entries ≡ bytes_at l (span_addresses spans)
+  are-bytes = entries-bytes (physical l) (paged l laid machine) true spans reached-all
+
+  all-below : (vas : List ℕ) → AllReached (physical l) vas → AllByRecursion (λ a. a < 4096 * l.maxmem) (bytes_at l vas)
+  all-below [] h = tt
+  all-below (va ∷ vas) h =
+      let e = h.0.1 in
+      let is : physical_or_0 (physical l) va ≡ h.0.0 = ap (λ (q : Option ℕ). unwrap_or q 0) e in (
+        subst (λ a. a < 4096 * l.maxmem) (sym is) (byte-below l laid machine h.0.0 (reaches l laid va h.0.0 e)),
+        all-below vas h.1,
+      )
+
+  inside : AllByRecursion (λ a. a < 4096 * l.maxmem) (flat_map entry_addresses x.entries)
+  inside =
+      subst (AllByRecursion (λ a. a < 4096 * l.maxmem)) (sym (flat-entries x.entries ∙ are-bytes))
+      (all-below (span_addresses spans) reached-all)
+
+  module _ (has : HasPages limits chunks pages) where
+    whole : AllByRecursion IsPage (as_pages pages)
+    whole = are-pages limits (as_pages pages) has.reachable
+
+    placed-chunks : AllByRecursion IsPlaced (tag_placed limits chunks (as_pages pages))
+    placed-chunks =
+        placed_are limits chunks (as_pages pages)
+        (chunks_sound limits l.maxmem x.entries effective are-entries) whole
+
+    follows : Follow 0 chunks
+    follows = follow-of [] chunks 0 refl (chunks_at limits l.maxmem x.entries effective)
+
+    covers : chunks_bytes chunks ≡ entries_addresses x.entries
+    covers = chunks_cover limits l.maxmem x.entries effective are-entries ∙ flat-entries x.entries
+
+    accepted : nat_le (length (segments l m o load_at x chunks pages)) limits.nsegments ≡ true →
+        IsAccepted (fits l m o load_at x chunks pages) m limits (bytes_at l (span_addresses spans)) chunks pages
+        (segments l m o load_at x chunks pages)
+    accepted few = record {
+      buffer =
+          ap buffers (traces-are l m o load_at x chunks pages)
+          ∙ placed-buffers (bounced_of (tag_placed limits chunks (as_pages pages))) 0 (entries_addresses x.entries)
+          ∙ are-bytes;
+      trace = trace-is l m o load_at x chunks pages effective.maxsegsz placed-chunks follows covers;
+      obeys =
+          obeying.obeys limits l.maxmem x.entries (as_pages pages) (segments l m o load_at x chunks pages) effective
+          are-entries inside has.reachable (
+            cut_is limits (placed_pieces limits chunks (as_pages pages)),
+            leb-true (length (segments l m o load_at x chunks pages)) limits.nsegments few,
+          );
+    }
+
+    abbrev answered : LaneState → List Segment → Type 0
+    answered l' ss =
+        IsAccepted l' m limits (bytes_at l (span_addresses spans)) chunks pages ss
+
+    pub finished-accepted : IfSegments (finished m o load_at x chunks pages l).answer
+        (answered (finished m o load_at x chunks pages l).lane)
+    finished-accepted = by (nat_le (length (segments l m o load_at x chunks pages)) limits.nsegments) refl
+      where
+        end : Bool → Outcome
+        end b = if b then record {
+          lane = fits l m o load_at x chunks pages;
+          answer = answer.Segments (segments l m o load_at x chunks pages);
+        } else record { lane = unpaged m o pages l; answer = answer.Refused EFBIG }
+
+        by : (b : Bool) → nat_le (length (segments l m o load_at x chunks pages)) limits.nsegments ≡ b →
+            IfSegments (end b).answer (answered (end b).lane)
+        by true few = accepted few
+        by false many = tt

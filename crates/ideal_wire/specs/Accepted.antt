@@ -1,0 +1,34 @@
+-- When the segments that a load answers are its bytes and obey its tag: after bus_dmamap_load(9).
+use Rattle.std.specs.Prelude.{◌≡◌, ℕ, List, length}
+use Rattle.std.specs.List.{AllByRecursion}
+use Rattle.busdma_base.specs.declared.journals.answer.Answer.{Answer}
+use Rattle.busdma_base.specs.declared.journals.answer.Answer.TheVariants as answer
+use Rattle.busdma_base.specs.declared.machine.address.Segment.{Segment}
+use Rattle.busdma_base.specs.declared.machine.chunk.Chunk.{Chunk}
+use Rattle.busdma_base.specs.declared.tags.tag.TagLimits.{TagLimits}
+use Rattle.busdma_base.specs.Bounce.AccountStep.{as_pages}
+use Rattle.busdma_base.specs.Machine.Wire.{buffers, buses}
+use Rattle.segment_build.specs.Building.{tag_placed}
+use Rattle.segment_build.specs.Chunks.{need_of}
+use Rattle.segment_build.specs.Obeying.{IsReachable, Obeys}
+use Rattle.segment_build.specs.Segmentation.{segment_bytes}
+use Rattle.ideal_lane.specs.State.{LaneState}
+use Rattle.ideal_wire.specs.Traces.{traces_of}
+
+-- as many pages as chunks need, each of which the device of a tag reaches
+pub record HasPages (t : TagLimits) (chunks : List Chunk) (pages : List ℕ) : Type 0 where
+  pub count : length pages ≡ need_of chunks
+  pub reachable : AllByRecursion (IsReachable t) (as_pages pages)
+
+-- the load of a map is of these bytes, in order; the bytes of its segments are the bus addresses of these bytes, in
+-- order; and the segments of its chunks in their pages obey the tag
+pub record IsAccepted (l : LaneState) (m : ℕ) (t : TagLimits) (bytes : List ℕ) (chunks : List Chunk) (pages : List ℕ)
+    (segments : List Segment) : Type 0 where
+  pub buffer : buffers (traces_of l m) ≡ bytes
+  pub trace : segment_bytes segments ≡ buses (traces_of l m)
+  pub obeys : Obeys t (tag_placed t chunks (as_pages pages)) segments
+
+-- P holds of the segments, where there are segments
+abbrev pub IfSegments : Answer → (List Segment → Type 0) → Type 0
+IfSegments (answer.Segments segments) P = P segments
+IfSegments _ P = Unit {0}

@@ -1,0 +1,20 @@
+-- What holds of a driver in a machine of valid pages, whatever it does.
+use Rattle.std.specs.Prelude.{◌≡◌, ℕ, ◌+◌, ◌*◌, ◌%◌, ◌^◌, ◌≤◌, Some}
+use Rattle.std.specs.List.{AllByRecursion}
+use Rattle.std.specs.FinMap.{get}
+use Rattle.busdma_base.specs.declared.scenarios.scenario.PageRun.{PageRun}
+use Rattle.busdma_base.specs.Tags.Tag.{IsEffective}
+use Rattle.ideal_lane.specs.State.{LaneState, LaneTag, LaneMemory}
+
+-- a run of pages begins a page, and its frames have numbers below the end of the machine's memory
+pub record IsOfMachine (maxmem : ℕ) (r : PageRun) : Type 0 where
+  pub aligned : r.va.0 % 4096 ≡ 0
+  pub below : r.frame + r.count ≤ maxmem
+
+-- the machine's frames have numbers below 2^30, and the driver's pages and memories have frames of the machine; each of
+-- its tags is an effective one
+pub record IsInMachine (l : LaneState) : Type 0 where
+  pub numbered : l.maxmem ≤ 2 ^ 30
+  pub pages : AllByRecursion (IsOfMachine l.maxmem) l.pages
+  pub mems : (k : ℕ) (x : LaneMemory) → get l.mems k ≡ Some x → x.first + 4096 * x.count ≤ 4096 * l.maxmem
+  pub tags : (k : ℕ) (t : LaneTag) → get l.tags k ≡ Some t → IsEffective t.limits
