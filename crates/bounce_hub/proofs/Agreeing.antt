@@ -16,10 +16,10 @@ use Rattle.busdma_base.proofs.Accounts.Counts.{queued-zone, queued-reserved, que
 use Rattle.busdma_base.proofs.Accounts.Counts.{release-wait, release-done, release-reserved, release-active}
 use Rattle.busdma_base.proofs.Accounts.Counts.{release-other, release-count, shorter-reserved, shorter-other}
 use Rattle.busdma_base.proofs.Accounts.Counts.{shorter-enough, back-zone}
-use Rattle.bounce_hub.specs.declared.slot.Slot.{Slot}
+use Rattle.bounce_hub.specs.declared.hub_zone.HubZone.{HubZone}
 use Rattle.bounce_hub.specs.declared.pool.Pool.{Pool}
 use Rattle.bounce_hub.specs.Pools.{Matches, Agrees, owed}
-use Rattle.bounce_hub.specs.Slots.{room_after}
+use Rattle.bounce_hub.specs.HubZones.{room_after}
 use Rattle.bounce_hub.proofs.Owing.{handed-owed, handed-waiting, queued-owed, queued-waiting, release-owed}
 use Rattle.bounce_hub.proofs.Owing.{release-waiting, shorter-owed}
 
@@ -40,23 +40,23 @@ pub record Around (p q : Pool) : Type 0 where
   pub max_bpages : q.max_bpages ≡ p.max_bpages
 
 -- the zone at a place
-pub slot-matches : (p : Pool) (a : Account) (z : ℕ) (s : Slot) → Agrees p a → z < length a.zones →
+pub zone-matches : (p : Pool) (a : Account) (z : ℕ) (s : HubZone) → Agrees p a → z < length a.zones →
     s ≡ get_or p.zones.items z s → Matches s a z
-slot-matches p a z s agrees inside at =
+zone-matches p a z s agrees inside at =
     subst (λ k. Matches k a z) (sym at) (agrees.zones z s (omega (arith, inside, agrees.count)))
 
 -- one zone's counters change, and the others' stay
-matches-set : (slots : List Slot) (a b : Account) (z : ℕ) (s : Slot) → z < length slots →
-    ((y : ℕ) (d : Slot) → y < length slots → Matches (get_or slots y d) a y) →
+matches-set : (hub_zones : List HubZone) (a b : Account) (z : ℕ) (s : HubZone) → z < length hub_zones →
+    ((y : ℕ) (d : HubZone) → y < length hub_zones → Matches (get_or hub_zones y d) a y) →
     Matches s b z → ((y : ℕ) → y ≢ z → SameZone a b y)
-    → (y : ℕ) (d : Slot) → y < length (set slots z s) → Matches (get_or (set slots z s) y d) b y
-matches-set slots a b z s inside each here others y d below =
-    (elim (eqb_tells y z) as (λ _. Matches (get_or (set slots z s) y d) b y) [
-      | inl h ↦ subst (λ k. Matches (get_or (set slots z s) k d) b k) (sym h.1)
-          (rw (get_or-set_same slots z s d inside) here)
-      | inr h ↦ (let old : Matches (get_or slots y d) a y = each y d (omega (arith, below, length-set slots z s)) in
+    → (y : ℕ) (d : HubZone) → y < length (set hub_zones z s) → Matches (get_or (set hub_zones z s) y d) b y
+matches-set hub_zones a b z s inside each here others y d below =
+    (elim (eqb_tells y z) as (λ _. Matches (get_or (set hub_zones z s) y d) b y) [
+      | inl h ↦ subst (λ k. Matches (get_or (set hub_zones z s) k d) b k) (sym h.1)
+          (rw (get_or-set_same hub_zones z s d inside) here)
+      | inr h ↦ (let old : Matches (get_or hub_zones y d) a y = each y d (omega (arith, below, length-set hub_zones z s)) in
           let same : SameZone a b y = others y h.1 in
-          rw (get_or-set_other slots z y s d h.1) (record {
+          rw (get_or-set_other hub_zones z y s d h.1) (record {
             lowaddr = old.lowaddr ∙ sym (ap (λ (k : Zone). k.lowaddr) same.zone);
             alignment = old.alignment ∙ sym (ap (λ (k : Zone). k.alignment) same.zone);
             avail = old.avail ∙ sym (ap (λ (k : Zone). k.avail) same.zone);
@@ -69,20 +69,20 @@ matches-set slots a b z s inside each here others y d below =
     ])
 
 -- the zones of a pool, of which one changed
-pub zones-set : (p q : Pool) (a b : Account) (z : ℕ) (s : Slot) → Agrees p a → z < length a.zones →
+pub zones-set : (p q : Pool) (a b : Account) (z : ℕ) (s : HubZone) → Agrees p a → z < length a.zones →
     q.zones.items ≡ set p.zones.items z s → Matches s b z → ((y : ℕ) → y ≢ z → SameZone a b y)
-    → (y : ℕ) (d : Slot) → y < length q.zones.items → Matches (get_or q.zones.items y d) b y
+    → (y : ℕ) (d : HubZone) → y < length q.zones.items → Matches (get_or q.zones.items y d) b y
 zones-set p q a b z s agrees inside is here others =
-    subst (λ (slots : List Slot). (y : ℕ) (d : Slot) → y < length slots → Matches (get_or slots y d) b y) (sym is)
+    subst (λ (hub_zones : List HubZone). (y : ℕ) (d : HubZone) → y < length hub_zones → Matches (get_or hub_zones y d) b y) (sym is)
     (matches-set p.zones.items a b z s (omega (arith, inside, agrees.count)) agrees.zones here others)
 
-pub count-set : (p q : Pool) (a : Account) (z : ℕ) (s : Slot) (k : Zone) → Agrees p a →
+pub count-set : (p q : Pool) (a : Account) (z : ℕ) (s : HubZone) (k : Zone) → Agrees p a →
     q.zones.items ≡ set p.zones.items z s → length q.zones.items ≡ length (set a.zones z k)
-count-set p q a z s k agrees is = ap (λ (slots : List Slot). length slots) is ∙ length-set p.zones.items z s
+count-set p q a z s k agrees is = ap (λ (hub_zones : List HubZone). length hub_zones) is ∙ length-set p.zones.items z s
     ∙ agrees.count ∙ sym (length-set a.zones z k)
 
 -- pages were handed out
-pub agrees-handed : (p q : Pool) (a : Account) (m : MapId) (z need : ℕ) (old new : Slot)
+pub agrees-handed : (p q : Pool) (a : Account) (m : MapId) (z need : ℕ) (old new : HubZone)
     → Agrees p a → Around p q → z < length a.zones → need ≤ free a z → Matches old a z
     → new ≡ record old { zone = record old.zone { pages = drop need old.zone.pages; active = old.zone.active + need } }
     → q.zones.items ≡ set p.zones.items z new → q.ready ≡ p.ready → q.owed ≡ p.owed + need
@@ -114,7 +114,7 @@ agrees-handed p q a m z need old new agrees around inside enough here is zones r
     }
 
 -- a map waits with all free pages
-pub agrees-queued : (p q : Pool) (a : Account) (m : MapId) (z need : ℕ) (old new : Slot)
+pub agrees-queued : (p q : Pool) (a : Account) (m : MapId) (z need : ℕ) (old new : HubZone)
     → Agrees p a → Around p q → IsWellFormed a → z < length a.zones → free a z < need → Matches old a z
     → new ≡ record old {
       zone = record old.zone { reserved = old.zone.reserved + free a z };
@@ -155,14 +155,14 @@ agrees-queued p q a m z need old new agrees around well inside short here is zon
     }
 
 -- how many pages are free once a page came back
-pub room-is : (a : Account) (m : MapId) (z page : ℕ) (old : Slot) (inside : z < length a.zones)
+pub room-is : (a : Account) (m : MapId) (z page : ℕ) (old : HubZone) (inside : z < length a.zones)
     (held : times_held m z page a ≡ 1) (well : IsWellFormed a) → Matches old a z →
     room_after old ≡ room_now a m z page inside held well
 room-is a m z page old inside held well here =
     omega (arith, ap (λ (x : List ℕ). length x) here.avail, length-map old.zone.pages page_address, here.reserved)
 
 -- a page came back, and the zone served
-pub agrees-released : (p q : Pool) (a : Account) (m : MapId) (z : ℕ) (page : FrameBytes) (old new : Slot)
+pub agrees-released : (p q : Pool) (a : Account) (m : MapId) (z : ℕ) (page : FrameBytes) (old new : HubZone)
     → Agrees p a → Around p q → IsWellFormed a → z < length a.zones →
     times_held m z (page_address page) a ≡ 1 → Matches old a z
     →
@@ -207,7 +207,7 @@ agrees-released p q a m z page old new agrees around well inside held here is zo
     (arith, inside, length-set a.zones z (record (zone_at a z) { avail = f ∷ (zone_at a z).avail }))) in
     record {
       bank = ap (λ b. page_addresses b.pages) around.bank ∙ agrees.bank;
-      count = ap (λ (slots : List Slot). length slots) zones ∙ length-set p.zones.items z new ∙ agrees.count
+      count = ap (λ (hub_zones : List HubZone). length hub_zones) zones ∙ length-set p.zones.items z new ∙ agrees.count
           ∙ sym (release-count a m z f inside held well);
       zones = zones-set p q a (served b z) z new agrees inside zones
           (rw is (record {
@@ -244,7 +244,7 @@ agrees-released p q a m z page old new agrees around well inside held here is zo
     }
 
 -- a callback took its pages
-pub agrees-called : (p q : Pool) (a : Account) (w : Waiter) (ws : List Waiter) (old new : Slot)
+pub agrees-called : (p q : Pool) (a : Account) (w : Waiter) (ws : List Waiter) (old new : HubZone)
     → Agrees p a → Around p q → IsWellFormed a → a.ready ≡ w ∷ ws → w.zone.0 < length a.zones → Matches old a w.zone.0
     →
     new
@@ -296,17 +296,17 @@ agrees-called p q a w ws old new agrees around well is inside here new_is zones 
     }
 
 -- a zone was written back as it was
-pub agrees-same : (p q : Pool) (a : Account) (z : ℕ) (s : Slot)
+pub agrees-same : (p q : Pool) (a : Account) (z : ℕ) (s : HubZone)
     → Agrees p a → Around p q → s ≡ get_or p.zones.items z s → q.zones.items ≡ set p.zones.items z s →
     q.ready ≡ p.ready → q.owed ≡ p.owed → Agrees q a
 agrees-same p q a z s agrees around at is ready owed =
     let same : q.zones.items ≡ p.zones.items = is ∙ ap (set p.zones.items z) at ∙ set-get_or p.zones.items z s in
     record {
       bank = ap (λ b. page_addresses b.pages) around.bank ∙ agrees.bank;
-      count = ap (λ (slots : List Slot). length slots) same ∙ agrees.count;
+      count = ap (λ (hub_zones : List HubZone). length hub_zones) same ∙ agrees.count;
       zones =
-          subst (λ (slots : List Slot). (y : ℕ) (d : Slot) → y < length slots →
-          Matches (get_or slots y d) a y) (sym same) agrees.zones;
+          subst (λ (hub_zones : List HubZone). (y : ℕ) (d : HubZone) → y < length hub_zones →
+          Matches (get_or hub_zones y d) a y) (sym same) agrees.zones;
       ready = ap (λ r. r.items) ready ∙ agrees.ready;
       spare = omega (arith, agrees.spare, ap (λ r. r.spare) ready);
       owed = owed ∙ agrees.owed;

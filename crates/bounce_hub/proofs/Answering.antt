@@ -19,10 +19,10 @@ use Rattle.busdma_base.specs.Machine.PageList.{page_address}
 use Rattle.busdma_base.specs.Bounce.WellFormed.{IsWellFormed, Lacks}
 use Rattle.busdma_base.proofs.Accounts.Counts.{release-done}
 use Rattle.bounce_zone.specs.ZonePages.{free_pages}
-use Rattle.bounce_hub.specs.declared.slot.Slot.{Slot}
+use Rattle.bounce_hub.specs.declared.hub_zone.HubZone.{HubZone}
 use Rattle.bounce_hub.specs.declared.pool.Pool.{Pool}
 use Rattle.bounce_hub.specs.Pools.{Matches, Agrees, Stepped, deferrals}
-use Rattle.bounce_hub.specs.Slots.{room_after}
+use Rattle.bounce_hub.specs.HubZones.{room_after}
 use Rattle.bounce_hub.proofs.Agreeing.{room-is}
 
 -- a grab
@@ -42,7 +42,7 @@ pub grabbed-waits : (m : MapId) (z need : ℕ) (nowait : Bool) (a : Account) →
 grabbed-waits m z need nowait a h e = rw (lt-leb need (free a z) h, e) refl
 
 -- the free pages of a zone
-pub free-is : (s : Slot) (a : Account) (z : ℕ) → Matches s a z → free_pages s.zone ≡ free a z
+pub free-is : (s : HubZone) (a : Account) (z : ℕ) → Matches s a z → free_pages s.zone ≡ free a z
 free-is s a z here =
     omega (arith, ap (λ (x : List ℕ). length x) here.avail, length-map s.zone.pages page_address, here.reserved)
 
@@ -55,7 +55,7 @@ pub called-yes : (lane : ℕ) (a : Account) (w : Waiter) (ws : List Waiter) → 
 called-yes lane a w ws is own = ap (λ k. called_from k lane a) is ∙ rw (eq-eqb w.map.lane.0 lane own) refl
 
 -- a release moves as many maps as its zone completes
-pub moved-is : (a : Account) (m : MapId) (z page : ℕ) (old : Slot) → IsWellFormed a → z < length a.zones →
+pub moved-is : (a : Account) (m : MapId) (z page : ℕ) (old : HubZone) → IsWellFormed a → z < length a.zones →
     times_held m z page a ≡ 1 → Matches old a z
     → Served (length (completed (room_after old) old.wait)) ≡ (released m z page a).reply
 moved-is a m z page old well inside held here =

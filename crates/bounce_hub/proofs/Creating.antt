@@ -11,11 +11,11 @@ use Rattle.busdma_base.specs.Bounce.Account.{Account, zone_at, total}
 use Rattle.busdma_base.specs.Bounce.AccountStep.{Outcome, created}
 use Rattle.busdma_base.specs.Bounce.Growth.{zone_of, with_zone_for, wanted_for, wanted_by_map, most_pages, maxpages}
 use Rattle.busdma_base.specs.Bounce.Growth.{added, grown, with_map}
-use Rattle.bounce_hub.specs.declared.slot.Slot.{Slot}
+use Rattle.bounce_hub.specs.declared.hub_zone.HubZone.{HubZone}
 use Rattle.bounce_hub.specs.declared.pool.Pool.{Pool}
 use Rattle.bounce_hub.specs.Growing.{GrewBy, Grows, place_for, maps_of, pages_of}
 use Rattle.bounce_hub.specs.Pools.{Matches, Agrees, Fits, Stepped}
-use Rattle.bounce_hub.proofs.Agreeing.{Around, agrees-as, slot-matches}
+use Rattle.bounce_hub.proofs.Agreeing.{Around, agrees-as, zone-matches}
 use Rattle.bounce_hub.proofs.Mapping.{agrees-mapped, maps-owed, created-made, created-not}
 use Rattle.bounce_hub.proofs.ZoneGrowth.{place-is, place-inside, wanted-is}
 
@@ -58,11 +58,11 @@ module _ (p q : Pool) (t : TagLimits) (first_done : Bool) (m : MapId) (place wan
   pub create-inside : place < length q.zones.items
   create-inside = omega (arith, inside, now.count)
 
-  pub create-small : (s : Slot) → s ≡ get_or q.zones.items place s → s.maps ≤ q.owed
+  pub create-small : (s : HubZone) → s ≡ get_or q.zones.items place s → s.maps ≤ q.owed
   create-small s here =
       omega (
         arith,
-        (slot-matches q (grown b z n) place s now inside here).maps,
+        (zone-matches q (grown b z n) place s now inside here).maps,
         maps-owed (grown b z n) place inside,
         now.owed,
       )
@@ -85,7 +85,7 @@ module _ (p q : Pool) (t : TagLimits) (first_done : Bool) (m : MapId) (place wan
         room = grew.room;
       }
 
-  pub create-made : (r : Pool) (s : Slot) (v : Bool) → s ≡ get_or q.zones.items place s → Around q r →
+  pub create-made : (r : Pool) (s : HubZone) (v : Bool) → s ≡ get_or q.zones.items place s → Around q r →
       r.zones.items ≡ set q.zones.items place (record s { maps = s.maps + 1 }) →
       r.ready ≡ q.ready → r.owed ≡ q.owed + 1
       → v ≡ (first_done || n == wanted) → v ≡ true →
@@ -94,7 +94,7 @@ module _ (p q : Pool) (t : TagLimits) (first_done : Bool) (m : MapId) (place wan
       let g : Account = grown b z n in
       let is = created-made m t first_done a n wanted wish count (sym e ∙ holds) in
       let maps : List MapId = (zone_at g place).maps ++ m ∷ [] in
-      let matches : Matches s g place = slot-matches q g place s now inside here in
+      let matches : Matches s g place = zone-matches q g place s now inside here in
       let longer : length maps ≡ length (zone_at g place).maps + 1 = length-append (zone_at g place).maps (m ∷ []) in
       let joined : Agrees r (with_map g place m) =
       agrees-mapped q r g place s (record s { maps = s.maps + 1 }) maps now around inside matches

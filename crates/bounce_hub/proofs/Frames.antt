@@ -16,7 +16,7 @@ use Rattle.busdma_base.specs.Bounce.MemoryRuns.{frames_from, in_run, put_in, put
 use Rattle.busdma_base.specs.Machine.PageList.{page_address, page_addresses}
 use Rattle.busdma_base.specs.Bounce.Places.{times, places, frame_total}
 use Rattle.frame_bank.specs.FrameBank.{free_frames, run_pages, is_in_run, put_page, put_pages}
-use Rattle.bounce_hub.specs.declared.slot.Slot.{Slot}
+use Rattle.bounce_hub.specs.declared.hub_zone.HubZone.{HubZone}
 use Rattle.bounce_hub.specs.declared.pool.Pool.{Pool}
 use Rattle.bounce_hub.specs.Pools.{Matches, Agrees}
 
@@ -32,7 +32,7 @@ agrees-bank p q a bank mems agrees free zones ready more maxmem max_bpages = rec
   bank = free;
   count = ap (λ v. length v.items) zones ∙ agrees.count;
   zones =
-      subst (λ v. (y : ℕ) (d : Slot) → y < length v.items →
+      subst (λ v. (y : ℕ) (d : HubZone) → y < length v.items →
       Matches (get_or v.items y d) (record a { bank = bank; mems = mems }) y) (sym zones)
       (λ y d below. (let old : Matches (get_or p.zones.items y d) a y = agrees.zones y d below in
       record {

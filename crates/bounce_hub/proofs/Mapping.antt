@@ -11,7 +11,7 @@ use Rattle.busdma_base.specs.Bounce.Account.{Account, Zone, same_map, no_zone, z
 use Rattle.busdma_base.specs.Bounce.AccountStep.{created}
 use Rattle.busdma_base.specs.Bounce.Growth.{zone_of, with_zone_for, added, grown, maxpages, wanted_by_map, with_map}
 use Rattle.busdma_base.specs.Machine.PageList.{page_addresses}
-use Rattle.bounce_hub.specs.declared.slot.Slot.{Slot}
+use Rattle.bounce_hub.specs.declared.hub_zone.HubZone.{HubZone}
 use Rattle.bounce_hub.specs.declared.pool.Pool.{Pool}
 use Rattle.bounce_hub.specs.Pools.{Matches, Agrees, entries_of, owed, waiting}
 use Rattle.bounce_hub.proofs.Agreeing.{Around, zones-set, count-set}
@@ -23,7 +23,7 @@ abbrev of_zone : Zone → ℕ
 of_zone s = entries_of s.wait + length s.maps
 
 -- another number of maps in one zone
-pub agrees-mapped : (p q : Pool) (a : Account) (z : ℕ) (old new : Slot) (maps : List MapId)
+pub agrees-mapped : (p q : Pool) (a : Account) (z : ℕ) (old new : HubZone) (maps : List MapId)
     → Agrees p a → Around p q → z < length a.zones → Matches old a z
     → new ≡ record old { maps = length maps } → q.zones.items ≡ set p.zones.items z new → q.ready ≡ p.ready →
     q.owed + length (zone_at a z).maps ≡ p.owed + length maps

@@ -21,7 +21,7 @@ use Rattle.busdma_base.specs.Bounce.WellFormed.{IsWellFormed}
 use Rattle.busdma_base.proofs.Accounts.Counting.{sum_by-set_like}
 use Rattle.busdma_base.proofs.Accounts.ZoneOf.{zones_for_found, zones_for_none}
 use Rattle.busdma_base.proofs.Accounts.Names.{sum_by-zones_for}
-use Rattle.bounce_hub.specs.declared.slot.Slot.{Slot}
+use Rattle.bounce_hub.specs.declared.hub_zone.HubZone.{HubZone}
 use Rattle.bounce_hub.specs.declared.pool.Pool.{Pool}
 use Rattle.bounce_hub.specs.Growing.{serves, place_for, pages_of, maps_of}
 use Rattle.bounce_hub.specs.Pools.{Matches, Agrees, entries_of, owed, waiting}
@@ -34,8 +34,8 @@ abbrev of_zone : Zone → ℕ
 of_zone s = entries_of s.wait + length s.maps
 
 -- the place of a tag's zone
-place-same : (t : TagLimits) (ss : List Slot) (zs : List Zone) → length ss ≡ length zs →
-    ((n : ℕ) (d : Slot) → n < length ss → serves t (get_or ss n d) ≡ serves_tag t (get_or zs n no_zone)) →
+place-same : (t : TagLimits) (ss : List HubZone) (zs : List Zone) → length ss ≡ length zs →
+    ((n : ℕ) (d : HubZone) → n < length ss → serves t (get_or ss n d) ≡ serves_tag t (get_or zs n no_zone)) →
     place_for t ss ≡ zone_of t zs
 place-same t [] [] e same = refl
 place-same t [] (z ∷ zs) e same = absurd (omega (arith, e))
@@ -95,7 +95,7 @@ addresses-append [] qs = refl
 addresses-append (p ∷ ps) qs = ap (λ xs. page_address p ∷ xs) (addresses-append ps qs)
 
 -- a zone that is there grows
-pub agrees-grown : (p q : Pool) (a : Account) (z n : ℕ) (old new : Slot)
+pub agrees-grown : (p q : Pool) (a : Account) (z n : ℕ) (old new : HubZone)
     → Agrees p a → z < length a.zones → Matches old a z
     → new ≡ record old { zone = record old.zone { pages = old.zone.pages ++ take n p.bank.pages } }
     → q.zones.items ≡ set p.zones.items z new → q.bank ≡ record p.bank { pages = drop n p.bank.pages } →
@@ -143,8 +143,8 @@ agrees-grown p q a z n old new agrees inside here is zones bank ready owes maxme
     }
 
 -- a zone that is made for the tag, with its first pages
-abbrev pub new_slot : TagLimits → List FrameBytes → Slot
-new_slot t pages = record {
+abbrev pub new_hub_zone : TagLimits → List FrameBytes → HubZone
+new_hub_zone t pages = record {
   zone = record { lowaddr = t.lowaddr.0; alignment = max t.alignment 4096; pages = pages; reserved = 0; active = 0 };
   wait = [];
   maps = 0;
@@ -181,15 +181,15 @@ module _ (t : TagLimits) (a : Account) (none : zone_of t a.zones ≡ length a.zo
       omega (arith, ap (λ (z : Zone). length z.avail) new-there, well.inside (zone_of t a.zones) (omega (arith, none)))
 
   module _ (p q : Pool) (n : ℕ) (agrees : Agrees p a) (well : IsWellFormed a) (zones : q.zones.items ≡ p.zones.items
-      ++ new_slot t (take n p.bank.pages) ∷ []) where
+      ++ new_hub_zone t (take n p.bank.pages) ∷ []) where
     abbrev z : ℕ
     z = zone_of t a.zones
 
     abbrev g : Account
     g = grown with_new z n
 
-    abbrev made : Slot
-    made = new_slot t (take n p.bank.pages)
+    abbrev made : HubZone
+    made = new_hub_zone t (take n p.bank.pages)
 
     abbrev k : Zone
     k = record (zone_at with_new z) { avail = (zone_at with_new z).avail ++ take n a.bank }
@@ -218,7 +218,7 @@ module _ (t : TagLimits) (a : Account) (none : zone_of t a.zones ≡ length a.zo
           deferred = sym (ap (λ (s : Zone). s.deferred) new-there) ∙ is (λ s. s.deferred);
         }
 
-    old-matches : (y : ℕ) (d : Slot) → y < length p.zones.items → Matches (get_or p.zones.items y d) g y
+    old-matches : (y : ℕ) (d : HubZone) → y < length p.zones.items → Matches (get_or p.zones.items y d) g y
     old-matches y d below =
         let apart : y ≢ z = (λ e. absurd (omega (arith, below, e, none, agrees.count))) in
         let old : Matches (get_or p.zones.items y d) a y = agrees.zones y d below in
@@ -239,7 +239,7 @@ module _ (t : TagLimits) (a : Account) (none : zone_of t a.zones ≡ length a.zo
           deferred = old.deferred ∙ sym (ap (λ (s : Zone). s.deferred) there);
         }
 
-    each-matches : (y : ℕ) (d : Slot) → y < length (p.zones.items ++ made ∷ []) →
+    each-matches : (y : ℕ) (d : HubZone) → y < length (p.zones.items ++ made ∷ []) →
         Matches (get_or (p.zones.items ++ made ∷ []) y d) g y
     each-matches y d below =
         (elim (eqb_tells y (length p.zones.items)) as (λ _. Matches (get_or (p.zones.items ++ made ∷ []) y d) g y) [
@@ -259,7 +259,7 @@ module _ (t : TagLimits) (a : Account) (none : zone_of t a.zones ≡ length a.zo
       count =
           omega (
             arith,
-            ap (λ (ss : List Slot). length ss) zones,
+            ap (λ (ss : List HubZone). length ss) zones,
             length-append p.zones.items (made ∷ []),
             agrees.count,
             length-set with_new.zones z k,
@@ -267,7 +267,7 @@ module _ (t : TagLimits) (a : Account) (none : zone_of t a.zones ≡ length a.zo
             length-append a.zones (new_zone t ∷ []),
           );
       zones =
-          subst (λ (ss : List Slot). (y : ℕ) (d : Slot) → y < length ss →
+          subst (λ (ss : List HubZone). (y : ℕ) (d : HubZone) → y < length ss →
           Matches (get_or ss y d) g y) (sym zones) each-matches;
       ready = ap (λ r. r.items) ready ∙ agrees.ready;
       spare =
@@ -293,7 +293,7 @@ pages-is t p a agrees well =
       | inl h ↦ ap pages_of (slice_get_past p.zones.items (zone_of t a.zones) (omega (arith, h.1, agrees.count)))
           ∙ sym (none-total t a h.1 well)
       | inr h ↦ (let there : zone_of t a.zones < length a.zones = omega (arith, place-bound t a.zones, h.1) in
-          let d : Slot = new_slot t [] in
+          let d : HubZone = new_hub_zone t [] in
           let here : Matches (get_or p.zones.items (zone_of t a.zones) d) a (zone_of t a.zones) =
           agrees.zones (zone_of t a.zones) d (omega (arith, there, agrees.count)) in
           ap pages_of (slice_get-get_or p.zones.items (zone_of t a.zones) d (omega (arith, there, agrees.count)))
@@ -316,7 +316,7 @@ maps-is t p a agrees =
       | inl h ↦ ap maps_of (slice_get_past p.zones.items (zone_of t a.zones) (omega (arith, h.1, agrees.count)))
           ∙ sym (ap (λ (s : Zone). length s.maps) (new-there t a h.1))
       | inr h ↦ (let there : zone_of t a.zones < length a.zones = omega (arith, place-bound t a.zones, h.1) in
-          let d : Slot = new_slot t [] in
+          let d : HubZone = new_hub_zone t [] in
           ap maps_of (slice_get-get_or p.zones.items (zone_of t a.zones) d (omega (arith, there, agrees.count)))
           ∙ (agrees.zones (zone_of t a.zones) d (omega (arith, there, agrees.count))).maps
           ∙ sym (ap (λ (b : Account). length (zone_at b (zone_of t a.zones)).maps) (found-zone t a there)))

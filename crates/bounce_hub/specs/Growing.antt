@@ -3,24 +3,24 @@ use Rattle.std.specs.Prelude.{◌≡◌, ℕ, ◌+◌, Bool, List, length, Optio
 use Rattle.busdma_base.specs.declared.tags.tag.TagLimits.{TagLimits}
 use Rattle.busdma_base.specs.Bounce.Account.{Account}
 use Rattle.busdma_base.specs.Bounce.Growth.{bounds_serve, first_place, zone_of, with_zone_for, added, grown}
-use Rattle.bounce_hub.specs.declared.slot.Slot.{Slot}
+use Rattle.bounce_hub.specs.declared.hub_zone.HubZone.{HubZone}
 use Rattle.bounce_hub.specs.declared.pool.Pool.{Pool}
 use Rattle.bounce_hub.specs.Pools.{Agrees, Fits}
 
 -- the zone's pages are aligned as the tag asks, and lie as low as the tag asks
-abbrev pub serves : TagLimits → Slot → Bool
+abbrev pub serves : TagLimits → HubZone → Bool
 serves t s = bounds_serve t s.zone.lowaddr s.zone.alignment
 
 -- the place of the first zone that serves the tag, or behind all zones
-abbrev pub place_for : TagLimits → List Slot → ℕ
+abbrev pub place_for : TagLimits → List HubZone → ℕ
 place_for t ss = first_place (serves t) ss
 
 -- how many pages a zone has, and how many maps
-abbrev pub pages_of : Option Slot → ℕ
+abbrev pub pages_of : Option HubZone → ℕ
 pages_of None = 0
 pages_of (Some s) = length s.zone.pages + s.zone.active
 
-abbrev pub maps_of : Option Slot → ℕ
+abbrev pub maps_of : Option HubZone → ℕ
 maps_of None = 0
 maps_of (Some s) = s.maps
 

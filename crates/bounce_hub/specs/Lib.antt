@@ -2,4 +2,4 @@ pub mod Growing
 pub mod Opening
 pub mod Pools
 pub mod Seen
-pub mod Slots
+pub mod HubZones

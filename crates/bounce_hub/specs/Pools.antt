@@ -14,11 +14,11 @@ use Rattle.busdma_base.specs.Machine.PageList.{page_addresses}
 use Rattle.busdma_base.specs.Bounce.Places.{frame_total, places}
 use Rattle.busdma_base.specs.Bounce.WellFormed.{IsWellFormed}
 use Rattle.frame_bank.specs.FrameBank.{free_frames}
-use Rattle.bounce_hub.specs.declared.slot.Slot.{Slot}
+use Rattle.bounce_hub.specs.declared.hub_zone.HubZone.{HubZone}
 use Rattle.bounce_hub.specs.declared.pool.Pool.{Pool}
 
 -- a zone's list and its counters are the account's
-pub record Matches (s : Slot) (a : Account) (z : ℕ) : Type 0 where
+pub record Matches (s : HubZone) (a : Account) (z : ℕ) : Type 0 where
   pub lowaddr : s.zone.lowaddr ≡ (zone_at a z).lowaddr
   pub alignment : s.zone.alignment ≡ (zone_at a z).alignment
   pub avail : page_addresses s.zone.pages ≡ (zone_at a z).avail
@@ -50,7 +50,7 @@ deferrals a = sum_by (λ z. z.deferred + length z.wait) a.zones
 pub record Agrees (p : Pool) (a : Account) : Type 0 where
   pub bank : free_frames p.bank ≡ a.bank
   pub count : length p.zones.items ≡ length a.zones
-  pub zones : (z : ℕ) (d : Slot) → z < length p.zones.items → Matches (slice_index_or p.zones.items z d) a z
+  pub zones : (z : ℕ) (d : HubZone) → z < length p.zones.items → Matches (slice_index_or p.zones.items z d) a z
   pub ready : p.ready.items ≡ a.ready
   pub spare : waiting a ≤ p.ready.spare
   pub owed : p.owed ≡ owed a

@@ -1,5 +1,5 @@
 -- What contracts see of a hub, and what is true of each.
-use Rattle.std.specs.Prelude.{◌≡◌, ℕ, ◌+◌, ◌<◌, ◌≤◌, true, List, length, slice_index_or}
+use Rattle.std.specs.Prelude.{◌≡◌, ℕ, ◌+◌, ◌<◌, ◌≤◌, true, List, length, slice_index, slice_index_or}
 use Rattle.busdma_base.specs.declared.bounce.hold.HoldEntry.{HoldEntry}
 use Rattle.busdma_base.specs.declared.bounce.zone.ZoneCounts.{ZoneCounts}
 use Rattle.busdma_base.specs.Bounce.Account.{Account, counts}
@@ -18,10 +18,10 @@ pub record HubSeen : Type 0 where
 abbrev pub door : HubSeen → Seen
 door h = record { opening = h.opening; history = h.history; serves = λ lane. true }
 
--- the counts of the zones of an account, in order, where no sync copied
-pub record AreCounts (cs : List ZoneCounts) (a : Account) : Type 0 where
+-- the counts of the zones of an account, in order, where so many syncs copied in each, and none past the list's end
+pub record AreCounts (cs : List ZoneCounts) (bounced : List ℕ) (a : Account) : Type 0 where
   pub count : length cs ≡ length a.zones
-  pub each : (z : ℕ) (d : ZoneCounts) → z < length cs → slice_index_or cs z d ≡ counts a 0 z
+  pub each : (z : ℕ) (d : ZoneCounts) → z < length cs → slice_index_or cs z d ≡ counts a (slice_index bounced z) z
 
 -- the account with which the hub of a pool begins
 abbrev pub opening_of : Pool → Account

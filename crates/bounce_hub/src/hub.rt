@@ -2,6 +2,7 @@
 
 ghost use Rattle.std.specs.Prelude.{◌≡◌, [], IfOk};
 ghost use Rattle.busdma_base.specs.Bounce.History.{IsOpening, IsSound, account_of};
+ghost use Rattle.frame_bank.specs.FrameBank.{IsBank};
 ghost use Rattle.bounce_hub.specs.Opening.{opening};
 ghost use Rattle.bounce_hub.specs.Seen.{AreCounts};
 
@@ -41,8 +42,7 @@ impl Hub {
         ensures made { result ≡ record { opening = opening bank max_bpages maxmem; history = [] } }
         ensures form { IsOpening result.opening }
     {
-        // For what is true of every bank: its frames rise.
-        let _ = bank.count_below(Pa(0));
+        bank_is_sound(&bank);
         let pool = Pool::new(alloc, bank, max_bpages, maxmem);
         Hub {
             first: Snapshot::of(&pool),
@@ -60,13 +60,22 @@ impl Hub {
         self.history.as_slice()
     }
 
-    /// The counts of the zones, in the order of their making. No sync is counted here.
-    pub fn counts(&self, alloc: Global) -> Result<ZoneList, AllocError>
-        ensures { IfOk result (λ l. AreCounts l (account_of self.now.opening self.now.history)) }
+    /// The counts of the zones, in the order of their making. `bounced` has, zone by zone, how many
+    /// syncs copied so far, which the hub does not know; a zone past its end had none.
+    pub fn counts(&self, alloc: Global, bounced: &[u64]) -> Result<ZoneList, AllocError>
+        ensures { IfOk result (λ l.
+            AreCounts l bounced.now (account_of self.now.opening self.now.history)) }
     {
-        let counts = self.pool.counts(alloc)?;
+        let counts = self.pool.counts(alloc, bounced)?;
         Ok(counts)
     }
+}
+
+/// The frames of every bank rise. A proof knows it of a bank only once the bank was asked something.
+fn bank_is_sound(bank: &FrameBank)
+    ensures { IsBank bank.now }
+{
+    bank.count_below(Pa(0));
 }
 
 impl HubDoor for Hub {

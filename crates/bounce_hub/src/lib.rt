@@ -1,11 +1,12 @@
 //! The bounce zones that all lanes share, their callback list, the bank, and the history of holds.
 #![tactic(auto)]
 
-mod grabs;
+mod growth;
 mod hub;
+mod hub_zone;
+mod loads;
 mod maps;
 mod memories;
 mod pool;
-mod slot;
 
 pub use hub::Hub;

@@ -1,11 +1,11 @@
 //! What all lanes share, without the history of its holds.
 
-ghost use Rattle.std.specs.Prelude.{◌≡◌, map, IfOk};
+ghost use Rattle.std.specs.Prelude.{◌≡◌, IfOk, slice_index};
 ghost use Rattle.bounce_hub.specs.Opening.{opening};
 ghost use Rattle.bounce_hub.specs.Pools.{Agrees};
-ghost use Rattle.bounce_hub.specs.Slots.{slot_counts};
+ghost use Rattle.bounce_hub.specs.HubZones.{HaveCounts};
 
-use crate::slot::Slot;
+use crate::hub_zone::HubZone;
 use busdma_base::ZoneList;
 use frame_bank::FrameBank;
 use std::alloc::{AllocError, Global};
@@ -16,7 +16,7 @@ use wait_list::ReadyList;
 #[derive(Drop)]
 pub struct Pool {
     pub bank: FrameBank,
-    pub zones: Vec<Slot>,
+    pub zones: Vec<HubZone>,
     pub ready: ReadyList,
     pub owed: usize,
     pub maxmem: u64,
@@ -41,14 +41,25 @@ impl Pool {
         }
     }
 
-    /// The counts of the zones, in the order of their making.
-    pub fn counts(&self, alloc: Global) -> Result<ZoneList, AllocError>
-        ensures { IfOk result (λ l. l ≡ map slot_counts self.now.zones.items) }
+    /// The counts of the zones, in the order of their making, where so many syncs copied in each.
+    pub fn counts(&self, alloc: Global, bounced: &[u64]) -> Result<ZoneList, AllocError>
+        ensures { IfOk result (λ l. HaveCounts self.now.zones.items bounced.now l) }
     {
         let mut counts = Vec::with_capacity(alloc, self.zones.len())?;
-        for slot in &self.zones {
-            counts.push_reserved(slot.counts());
+        for hub_zone in &self.zones {
+            let copied = number_at(bounced, counts.len());
+            counts.push_reserved(hub_zone.counts(copied));
         }
         Ok(ZoneList::new(counts))
+    }
+}
+
+/// The number at a place of a list, and 0 past its end.
+fn number_at(numbers: &[u64], place: usize) -> u64
+    ensures { result ≡ slice_index numbers.now place }
+{
+    match numbers.get(place) {
+        Some(number) => *number,
+        None => 0,
     }
 }

@@ -15,15 +15,19 @@ pub record ZonePages : Type 0 where
 abbrev pub free_pages : ZonePages → ℕ
 free_pages z = length z.pages - z.reserved
 
--- the counts of a zone, without those of copies and of deferred loads
-abbrev pub zone_counts : ZonePages → ZoneCounts
-zone_counts z = record {
-  total = length z.pages + z.active;
+-- all its pages
+abbrev pub total_pages : ZonePages → ℕ
+total_pages z = length z.pages + z.active
+
+-- the counts of a zone, where so many syncs copied and so many loads were deferred so far
+abbrev pub zone_counts : ZonePages → ℕ → ℕ → ZoneCounts
+zone_counts z bounced deferred = record {
+  total = total_pages z;
   free = free_pages z;
   reserved = z.reserved;
   active = z.active;
-  bounced = 0;
-  deferred = 0;
+  bounced = bounced;
+  deferred = deferred;
   lowaddr = record { 0 = z.lowaddr };
   alignment = z.alignment;
 }

@@ -4,7 +4,7 @@ ghost use Rattle.std.specs.Prelude.{◌≡◌, ◌+◌, ◌-◌, ◌^◌, ◌<�
 ghost use Rattle.std.specs.VecDeque.{deque_capacity};
 ghost use Rattle.busdma_base.specs.Bounce.Growth.{frames_below};
 ghost use Rattle.frame_bank.specs.FrameBank.{free_frames};
-ghost use Rattle.bounce_zone.specs.ZonePages.{free_pages, zone_counts};
+ghost use Rattle.bounce_zone.specs.ZonePages.{free_pages, total_pages, zone_counts};
 
 use busdma_base::{Pa, Page, PageList, ZoneCounts};
 use frame_bank::FrameBank;
@@ -67,7 +67,7 @@ impl Zone {
     /// below the zone's lowaddr, and answers how many.
     pub fn grow(
         &mut self,
-        _alloc: Global,
+        alloc: Global,
         bank: &mut FrameBank,
         wanted: u64,
     ) -> Result<u32, AllocError>
@@ -128,19 +128,47 @@ impl Zone {
         self.active -= 1;
     }
 
-    /// The counts of the zone; the copies and the deferred loads are counted elsewhere, and are 0
-    /// here.
-    pub fn counts(&self) -> ZoneCounts
-        ensures counts { result ≡ zone_counts self.now }
+    /// The highest physical address that a byte of its pages can have.
+    pub fn lowaddr(&self) -> Pa
+        ensures { result.0 ≡ self.now.lowaddr }
+    {
+        self.lowaddr
+    }
+
+    /// The alignment in bytes of its pages' physical addresses: that of its first tag, and at least
+    /// a page's.
+    pub fn alignment(&self) -> u64
+        ensures { result ≡ self.now.alignment }
+    {
+        self.alignment
+    }
+
+    /// The number of its pages, in the list and with maps.
+    pub fn total(&self) -> u32
+        ensures { result ≡ total_pages self.now }
+    {
+        self.free + self.reserved + self.active
+    }
+
+    /// The number of pages in the list that are reserved for nobody.
+    pub fn free(&self) -> u32
+        ensures { result ≡ free_pages self.now }
+    {
+        self.free
+    }
+
+    /// The counts of the zone, where so many syncs copied and so many loads were deferred so far.
+    pub fn counts(&self, bounced: u64, deferred: u64) -> ZoneCounts
+        ensures counts { result ≡ zone_counts self.now bounced deferred }
         ensures sum { result.free + result.reserved + result.active ≡ result.total }
     {
         ZoneCounts {
-            total: self.free + self.reserved + self.active,
+            total: self.total(),
             free: self.free,
             reserved: self.reserved,
             active: self.active,
-            bounced: 0,
-            deferred: 0,
+            bounced,
+            deferred,
             lowaddr: self.lowaddr,
             alignment: self.alignment,
         }

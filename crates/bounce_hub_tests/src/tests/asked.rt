@@ -22,7 +22,7 @@ impl Shown {
     fn of(alloc: Global, hub: &Hub) -> Result<Shown, AllocError> {
         Ok(Shown {
             entries: hub.history().len(),
-            zones: hub.counts(alloc)?,
+            zones: hub.counts(alloc, &[])?,
         })
     }
 

@@ -130,14 +130,14 @@ impl Pair {
         self.hub.history().len()
     }
 
-    /// The hub's counts.
-    pub fn counts(&self, alloc: Global) -> Result<ZoneList, AllocError> {
-        self.hub.counts(alloc)
+    /// The hub's counts, where so many syncs copied in each zone.
+    pub fn counts(&self, alloc: Global, bounced: &[u64]) -> Result<ZoneList, AllocError> {
+        self.hub.counts(alloc, bounced)
     }
 
     /// The counts of each zone are the plain account's, which has no more zones.
     fn assert_counts(&self, rt: &impl Abort, alloc: Global) -> Result<(), AllocError> {
-        let zones = self.hub.counts(alloc)?;
+        let zones = self.hub.counts(alloc, &[])?;
         let mut count = 0;
         for (zone, counts) in (0..u32::MAX).zip(zones.as_slice()) {
             assert_eq!(rt;

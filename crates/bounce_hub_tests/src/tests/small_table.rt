@@ -76,11 +76,11 @@ fn twelve_calls(rt: HostRuntime) -> Result<(), Fail> {
         free: 0,
         reserved: 0,
         active: 2,
-        bounced: 0,
+        bounced: 3,
         deferred: 1,
         lowaddr: Pa(0xff_ffff),
         alignment: 4096,
     };
-    assert_eq!(rt; pair.counts(alloc)?.as_slice(), [counts].as_slice());
+    assert_eq!(rt; pair.counts(alloc, &[3])?.as_slice(), [counts].as_slice());
     Ok(())
 }

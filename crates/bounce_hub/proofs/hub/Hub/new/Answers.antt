@@ -14,7 +14,7 @@ pub invariant_of-result : goal.invariant_of-result
 invariant_of-result c =
     let pool = c.new-pool.result in
     let first = c.of.result.value in
-    let sound : IsBank c.args.bank = c.count_below.ensures.sound in
+    let sound : IsBank c.args.bank = c.bank_is_sound.ensures in
     let bank : first.bank ≡ c.args.bank = ap (λ p. p.bank) c.of.ensures ∙ c.new-pool.ensures.bank in
     let same : opening_of first ≡ opening c.args.bank c.args.max_bpages c.args.maxmem =
     ap (λ b. opening b first.max_bpages first.maxmem) bank

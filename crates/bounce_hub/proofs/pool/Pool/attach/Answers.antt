@@ -1,4 +1,4 @@
-use Rattle.std.proofs.Common.{◌≡◌, ℕ, ◌-◌, ◌/◌, Bool, sym, ap, ◌∙◌, slice_get}
+use Rattle.std.proofs.Common.{◌≡◌, ℕ, Bool, sym, ap, ◌∙◌, slice_get}
 use Rattle.busdma_base.specs.declared.name.ZoneId.{ZoneId}
 use Rattle.busdma_base.specs.declared.bounce.hold.HubReply.TheVariants.{Grown}
 use Rattle.busdma_base.specs.Bounce.Account.{Account, total}
@@ -26,16 +26,16 @@ returns-clause-steps c = λ a agrees fits may.
     let at : c.place_for-place.result ≡ z =
     c.place_for-place.ensures.is ∙ ap (place_for c.args.tag.now) c.deref.ensures.value
     ∙ place-is c.args.tag.now c.args.self.now a agrees in
-    let pages : c.from.result ≡ total b z =
-    c.from.ensures ∙ c.pages_at.ensures ∙ ap (λ (k : ℕ). pages_of (slice_get c.args.self.now.zones.items k)) at
+    let pages : c.pages_at.result ≡ total b z =
+    c.pages_at.ensures ∙ ap (λ (k : ℕ). pages_of (slice_get c.args.self.now.zones.items k)) at
     ∙ pages-is c.args.tag.now c.args.self.now a agrees fits.well in
-    let wanted : c.saturating_sub-wanted.result ≡ wanted_by_tag c.args.tag.now (total b z) =
-    c.saturating_sub-wanted.ensures ∙ ap (λ (k : ℕ). c.args.tag.now.maxsize / 4096 - k) pages in
-    let grew : GrewBy c.args.self.now c.args.tag.now c.place_for-place.result c.saturating_sub-wanted.result n a
+    let wanted : c.wanted_by_tag-wanted.result ≡ wanted_by_tag c.args.tag.now (total b z) =
+    c.wanted_by_tag-wanted.ensures ∙ ap (λ (k : ℕ). wanted_by_tag c.args.tag.now k) pages in
+    let grew : GrewBy c.args.self.now c.args.tag.now c.place_for-place.result c.wanted_by_tag-wanted.result n a
     c.grow.new.self = c.in_ok-added.ensures.grows a agrees fits at in
-    let count : n ≡ added b z c.saturating_sub-wanted.result =
-    grew.added ∙ ap (λ (k : ℕ). added b k c.saturating_sub-wanted.result) at in
-    let is = attached-as c.args.tag.now a n c.saturating_sub-wanted.result wanted count in
+    let count : n ≡ added b z c.wanted_by_tag-wanted.result =
+    grew.added ∙ ap (λ (k : ℕ). added b k c.wanted_by_tag-wanted.result) at in
+    let is = attached-as c.args.tag.now a n c.wanted_by_tag-wanted.result wanted count in
     record {
       agrees = agrees-as c.grow.new.self (grown b c.place_for-place.result n) _ (ap (λ (k : ℕ). grown b k n) at
           ∙ sym (ap (λ (o : Outcome). o.account) is)) grew.agrees;

@@ -3,18 +3,18 @@ use Rattle.std.specs.List.{filter}
 use Rattle.busdma_base.specs.declared.name.MapId.{MapId}
 use Rattle.busdma_base.specs.Bounce.Account.{zone_at, same_map}
 use Rattle.busdma_base.proofs.Accounts.Counts.{in_zones}
-use Rattle.bounce_hub.specs.declared.slot.Slot.{Slot}
+use Rattle.bounce_hub.specs.declared.hub_zone.HubZone.{HubZone}
 use Rattle.bounce_hub.specs.Pools.{Matches}
-use Rattle.bounce_hub.proofs.Agreeing.{slot-matches}
+use Rattle.bounce_hub.proofs.Agreeing.{zone-matches}
 use Rattle.bounce_hub.proofs.Mapping.{agrees-mapped, maps-less, maps-owed}
 use Rattle.bounce_hub.proofs.pool.Pool.destroy.Goals as goal
 
 pub returns-clause-steps : goal.returns-clause-steps
 returns-clause-steps c = λ a agrees fits may.
     let z : ℕ = c.args.zone.0 in
-    let s : Slot = c.index_mut.result.now in
+    let s : HubZone = c.index_mut.result.now in
     let inside : z < length a.zones = in_zones a c.args.map z may.1 in
-    let here : Matches s a z = slot-matches c.args.self.now a z s agrees inside c.index_mut.ensures.value in
+    let here : Matches s a z = zone-matches c.args.self.now a z s agrees inside c.index_mut.ensures.value in
     let rest : List MapId = filter (λ n. not (same_map c.args.map n)) (zone_at a z).maps in
     let less : length rest + 1 ≡ length (zone_at a z).maps =
     omega (arith, maps-less c.args.map (zone_at a z).maps, may.1.made) in

@@ -6,14 +6,14 @@ use Rattle.busdma_base.specs.Bounce.AccountStep.{as_pages}
 use Rattle.busdma_base.specs.Bounce.Serving.{handed, queued}
 use Rattle.busdma_base.proofs.Accounts.Counts.{in_zones}
 use Rattle.bounce_zone.specs.ZonePages.{free_pages}
-use Rattle.bounce_hub.specs.declared.slot.Slot.{Slot}
+use Rattle.bounce_hub.specs.declared.hub_zone.HubZone.{HubZone}
 use Rattle.bounce_hub.specs.Pools.{Matches}
-use Rattle.bounce_hub.proofs.Agreeing.{addresses-take, slot-matches, agrees-handed, agrees-queued, agrees-same}
+use Rattle.bounce_hub.proofs.Agreeing.{addresses-take, zone-matches, agrees-handed, agrees-queued, agrees-same}
 use Rattle.bounce_hub.proofs.Answering.{free-is, grabbed-yes, grabbed-no, grabbed-waits, stepped}
 use Rattle.bounce_hub.proofs.pool.Pool.grab.Goals as goal
 
-pub index_mut-slot-requires : goal.index_mut-slot-requires
-index_mut-slot-requires c =
+pub index_mut-hub_zone-requires : goal.index_mut-hub_zone-requires
+index_mut-hub_zone-requires c =
     omega (
       arith,
       in_zones c.requires.allowed.account c.args.map c.args.zone.0 c.requires.allowed.may.2,
@@ -25,9 +25,9 @@ index_mut-slot-requires c =
 pub returns-in_ok-pages-clause-steps : goal.returns-in_ok-pages-clause-steps
 returns-in_ok-pages-clause-steps c = λ a agrees fits may.
     let z : ℕ = c.args.zone.0 in
-    let s : Slot = c.index_mut-slot.result.now in
+    let s : HubZone = c.index_mut-hub_zone.result.now in
     let inside : z < length a.zones = in_zones a c.args.map z may.2 in
-    let here : Matches s a z = slot-matches c.args.self.now a z s agrees inside c.index_mut-slot.ensures.value in
+    let here : Matches s a z = zone-matches c.args.self.now a z s agrees inside c.index_mut-hub_zone.ensures.value in
     let enough : c.args.need ≤ free a z = omega (arith, free-is s a z here, c.free.ensures, c.if-need-free.true) in
     let pages : c.in_ok-pages.addresses ≡ as_pages (take c.args.need (zone_at a z).avail) =
     c.in_ok-pages.ensures.addresses ∙ ap as_pages (addresses-take c.args.need s.zone.pages
@@ -38,30 +38,30 @@ returns-in_ok-pages-clause-steps c = λ a agrees fits may.
     ∙ ap (λ ps. record { account = handed a c.args.map z c.args.need; reply = Granted ps }) (sym pages))
     (agrees-handed c.args.self.now _ a c.args.map z c.args.need s c.hand_out.new.self agrees
     (record { bank = refl; maxmem = refl; max_bpages = refl }) inside enough here
-    c.in_ok-pages.ensures.slot refl refl refl)
+    c.in_ok-pages.ensures.zone refl refl refl)
     refl
 
 -- no page for a load that does not wait
 pub returns-then-nowait-clause-steps : goal.returns-then-nowait-clause-steps
 returns-then-nowait-clause-steps c = λ a agrees fits may.
     let z : ℕ = c.args.zone.0 in
-    let s : Slot = c.index_mut-slot.result.now in
+    let s : HubZone = c.index_mut-hub_zone.result.now in
     let inside : z < length a.zones = in_zones a c.args.map z may.2 in
-    let here : Matches s a z = slot-matches c.args.self.now a z s agrees inside c.index_mut-slot.ensures.value in
+    let here : Matches s a z = zone-matches c.args.self.now a z s agrees inside c.index_mut-hub_zone.ensures.value in
     let short : free a z < c.args.need = omega (arith, free-is s a z here, c.free.ensures, c.if-need-free.false) in
     stepped c.args.self.now _ c.args.map.lane.0 (Grab c.args.map c.args.zone c.args.need c.args.nowait) _ a a
     (grabbed-no c.args.map z c.args.need c.args.nowait a short c.if-nowait.true)
     (agrees-same c.args.self.now _ a z s agrees (record { bank = refl; maxmem = refl; max_bpages = refl })
-    c.index_mut-slot.ensures.value refl refl refl)
+    c.index_mut-hub_zone.ensures.value refl refl refl)
     refl
 
 -- the load waits
 pub returns-in_ok-have-clause-steps : goal.returns-in_ok-have-clause-steps
 returns-in_ok-have-clause-steps c = λ a agrees fits may.
     let z : ℕ = c.args.zone.0 in
-    let s : Slot = c.index_mut-slot.result.now in
+    let s : HubZone = c.index_mut-hub_zone.result.now in
     let inside : z < length a.zones = in_zones a c.args.map z may.2 in
-    let here : Matches s a z = slot-matches c.args.self.now a z s agrees inside c.index_mut-slot.ensures.value in
+    let here : Matches s a z = zone-matches c.args.self.now a z s agrees inside c.index_mut-hub_zone.ensures.value in
     let f : free_pages s.zone ≡ free a z = free-is s a z here in
     let short : free a z < c.args.need = omega (arith, f, c.free.ensures, c.if-need-free.false) in
     let have : c.in_ok-have.have ≡ free a z = c.in_ok-have.ensures.have ∙ f in
@@ -69,7 +69,7 @@ returns-in_ok-have-clause-steps c = λ a agrees fits may.
       zone = record s.zone { reserved = s.zone.reserved + free a z };
       wait = s.wait ++ record { map = c.args.map; zone = c.args.zone; need = c.args.need; have = free a z } ∷ [];
     } =
-    c.in_ok-have.ensures.slot
+    c.in_ok-have.ensures.zone
     ∙ ap (λ (k : ℕ). record s {
       zone = record s.zone { reserved = s.zone.reserved + k };
       wait = s.wait

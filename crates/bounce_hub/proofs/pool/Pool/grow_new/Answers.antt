@@ -4,20 +4,20 @@ use Rattle.busdma_base.specs.Machine.Page.{FrameBytes}
 use Rattle.busdma_base.specs.Bounce.Growth.{zone_of, with_zone_for, frames_below, added, grown}
 use Rattle.bounce_zone.specs.ZonePages.{ZonePages}
 use Rattle.frame_bank.specs.FrameBank.{Bank, free_frames}
-use Rattle.bounce_hub.specs.declared.slot.Slot.{Slot}
+use Rattle.bounce_hub.specs.declared.hub_zone.HubZone.{HubZone}
 use Rattle.bounce_hub.proofs.Agreeing.{agrees-as}
-use Rattle.bounce_hub.proofs.ZoneGrowth.{new_slot, new-there, agrees-new, place-bound}
+use Rattle.bounce_hub.proofs.ZoneGrowth.{new_hub_zone, new-there, agrees-new, place-bound}
 use Rattle.bounce_hub.proofs.pool.Pool.grow_new.Goals as goal
 
 -- the new zone
-made : (c : goal.After-push_reserved) → record c.new-slot.result { zone = c.grow.new.self }
-    ≡ new_slot c.args.tag.now (take c.in_ok-added.added c.args.self.now.bank.pages)
+made : (c : goal.After-push_reserved) → record c.new-hub_zone.result { zone = c.grow.new.self }
+    ≡ new_hub_zone c.args.tag.now (take c.in_ok-added.added c.args.self.now.bank.pages)
 made c =
     let ps : List FrameBytes = take c.in_ok-added.added c.args.self.now.bank.pages in
-    ap (λ (k : ZonePages). record c.new-slot.result { zone = k }) c.in_ok-added.ensures.zone
-    ∙ ap (λ (s : Slot). record s { zone = record s.zone { pages = s.zone.pages ++ ps } }) c.new-slot.ensures
-    ∙ ap (λ (k : ℕ). record (new_slot c.args.tag.now ps)
-    { zone = record (new_slot c.args.tag.now ps).zone { alignment = k } }) c.max.ensures
+    ap (λ (k : ZonePages). record c.new-hub_zone.result { zone = k }) c.in_ok-added.ensures.zone
+    ∙ ap (λ (s : HubZone). record s { zone = record s.zone { pages = s.zone.pages ++ ps } }) c.new-hub_zone.ensures
+    ∙ ap (λ (k : ℕ). record (new_hub_zone c.args.tag.now ps)
+    { zone = record (new_hub_zone c.args.tag.now ps).zone { alignment = k } }) c.max.ensures
 
 pub returns-clause-grows : goal.returns-clause-grows
 returns-clause-grows c = λ a agrees fits at.
@@ -26,9 +26,9 @@ returns-clause-grows c = λ a agrees fits at.
     let none : zone_of c.args.tag.now a.zones ≡ length a.zones =
     omega (arith, at, c.requires.none, agrees.count, place-bound c.args.tag.now a.zones) in
     let zones : c.push_reserved.new.self.items ≡ c.args.self.now.zones.items
-    ++ new_slot c.args.tag.now (take n c.args.self.now.bank.pages) ∷ [] =
-    c.push_reserved.ensures.items ∙ ap (λ (s : Slot). c.reserve.new.self.items ++ s ∷ []) (made c)
-    ∙ ap (λ (ss : List Slot). ss ++ new_slot c.args.tag.now (take n c.args.self.now.bank.pages)
+    ++ new_hub_zone c.args.tag.now (take n c.args.self.now.bank.pages) ∷ [] =
+    c.push_reserved.ensures.items ∙ ap (λ (s : HubZone). c.reserve.new.self.items ++ s ∷ []) (made c)
+    ∙ ap (λ (ss : List HubZone). ss ++ new_hub_zone c.args.tag.now (take n c.args.self.now.bank.pages)
     ∷ []) c.in_ok-reserve.ensures.items in
     record {
       agrees =
@@ -38,8 +38,8 @@ returns-clause-grows c = λ a agrees fits at.
           (agrees-new c.args.tag.now a none c.args.self.now _ n agrees fits.well zones
           c.in_ok-added.ensures.bank refl refl refl refl);
       added = c.in_ok-added.ensures.added
-          ∙ ap (λ (s : Slot). min c.args.wanted (frames_below s.zone.lowaddr (free_frames c.args.self.now.bank)))
-          c.new-slot.ensures
+          ∙ ap (λ (s : HubZone). min c.args.wanted (frames_below s.zone.lowaddr (free_frames c.args.self.now.bank)))
+          c.new-hub_zone.ensures
           ∙ ap (λ (fs : List ℕ). min c.args.wanted (frames_below c.args.tag.now.lowaddr.0 fs)) agrees.bank
           ∙ sym (ap (λ (k : Zone). min c.args.wanted (frames_below k.lowaddr a.bank))
           (new-there c.args.tag.now a none))

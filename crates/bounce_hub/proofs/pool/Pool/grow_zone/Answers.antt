@@ -3,9 +3,9 @@ use Rattle.busdma_base.specs.Bounce.Account.{Account, zone_at}
 use Rattle.busdma_base.specs.Bounce.Growth.{with_zone_for, frames_below, added, grown}
 use Rattle.bounce_zone.specs.ZonePages.{ZonePages}
 use Rattle.frame_bank.specs.FrameBank.{Bank, free_frames}
-use Rattle.bounce_hub.specs.declared.slot.Slot.{Slot}
+use Rattle.bounce_hub.specs.declared.hub_zone.HubZone.{HubZone}
 use Rattle.bounce_hub.specs.Pools.{Matches}
-use Rattle.bounce_hub.proofs.Agreeing.{slot-matches, agrees-as}
+use Rattle.bounce_hub.proofs.Agreeing.{zone-matches, agrees-as}
 use Rattle.bounce_hub.proofs.ZoneGrowth.{found-zone, agrees-grown}
 use Rattle.bounce_hub.proofs.pool.Pool.grow_zone.Goals as goal
 
@@ -13,13 +13,13 @@ pub returns-clause-grows : goal.returns-clause-grows
 returns-clause-grows c = λ a agrees fits at.
     let z : ℕ = c.args.place in
     let n : ℕ = c.in_ok-added.added in
-    let s : Slot = c.index_mut-slot.result.now in
+    let s : HubZone = c.index_mut-hub_zone.result.now in
     let inside : z < length a.zones = omega (arith, c.requires.there, agrees.count) in
-    let same : with_zone_for c.args._tag.now a ≡ a = found-zone c.args._tag.now a (omega (arith, inside, at)) in
-    let here : Matches s a z = slot-matches c.args.self.now a z s agrees inside c.index_mut-slot.ensures.value in
+    let same : with_zone_for c.args.tag.now a ≡ a = found-zone c.args.tag.now a (omega (arith, inside, at)) in
+    let here : Matches s a z = zone-matches c.args.self.now a z s agrees inside c.index_mut-hub_zone.ensures.value in
     record {
       agrees =
-          agrees-as _ (grown a z n) (grown (with_zone_for c.args._tag.now a) z n)
+          agrees-as _ (grown a z n) (grown (with_zone_for c.args.tag.now a) z n)
           (ap (λ (b : Account). grown b z n) (sym same))
           (agrees-grown c.args.self.now _ a z n s (record s { zone = c.grow.new.self }) agrees inside here
           (ap (λ (k : ZonePages). record s { zone = k }) c.in_ok-added.ensures.zone) refl

@@ -6,14 +6,14 @@ use Rattle.busdma_base.specs.Bounce.Account.{Account, Zone, no_zone}
 use Rattle.busdma_base.specs.Machine.PageList.{page_address}
 use Rattle.busdma_base.proofs.Accounts.Counts.{held-active}
 use Rattle.busdma_base.proofs.Accounts.WellFormed.{held-inside}
-use Rattle.bounce_hub.specs.declared.slot.Slot.{Slot}
+use Rattle.bounce_hub.specs.declared.hub_zone.HubZone.{HubZone}
 use Rattle.bounce_hub.specs.Pools.{Matches}
-use Rattle.bounce_hub.proofs.Agreeing.{slot-matches, agrees-released}
+use Rattle.bounce_hub.proofs.Agreeing.{zone-matches, agrees-released}
 use Rattle.bounce_hub.proofs.Answering.{moved-is, waits-fit, waits-lack}
 use Rattle.bounce_hub.proofs.pool.Pool.release.Goals as goal
 
-pub index_mut-slot-requires : goal.index_mut-slot-requires
-index_mut-slot-requires c =
+pub index_mut-hub_zone-requires : goal.index_mut-hub_zone-requires
+index_mut-hub_zone-requires c =
     omega (
       arith,
       held-inside c.requires.account c.args.map c.args.zone.0 (page_address c.args.page) c.requires.may.1
@@ -22,10 +22,10 @@ index_mut-slot-requires c =
       c.args.self.now.zones.ok,
     )
 
-here : (c : goal.After-take_back-arg-1) → Matches c.index_mut-slot.result.now c.requires.account c.args.zone.0
-here c = slot-matches c.args.self.now c.requires.account c.args.zone.0 c.index_mut-slot.result.now c.requires.agrees
+here : (c : goal.After-take_back-arg-1) → Matches c.index_mut-hub_zone.result.now c.requires.account c.args.zone.0
+here c = zone-matches c.args.self.now c.requires.account c.args.zone.0 c.index_mut-hub_zone.result.now c.requires.agrees
     (held-inside c.requires.account c.args.map c.args.zone.0 (page_address c.args.page) c.requires.may.1
-    c.requires.fits.well) c.index_mut-slot.ensures.value
+    c.requires.fits.well) c.index_mut-hub_zone.ensures.value
 
 pub take_back-moved-requires-clause-active : goal.take_back-moved-requires-clause-active
 take_back-moved-requires-clause-active c =
@@ -68,13 +68,13 @@ take_back-moved-requires-clause-few c =
 pub returns-clause-steps : goal.returns-clause-steps
 returns-clause-steps c = λ a agrees fits may.
     let z : ℕ = c.args.zone.0 in
-    let s : Slot = c.index_mut-slot.result.now in
+    let s : HubZone = c.index_mut-hub_zone.result.now in
     let inside : z < length a.zones = held-inside a c.args.map z (page_address c.args.page) may.1 fits.well in
-    let now : Matches s a z = slot-matches c.args.self.now a z s agrees inside c.index_mut-slot.ensures.value in
+    let now : Matches s a z = zone-matches c.args.self.now a z s agrees inside c.index_mut-hub_zone.ensures.value in
     record {
       agrees = agrees-released c.args.self.now _ a c.args.map z c.args.page s c.take_back-moved.new.self agrees
           (record { bank = refl; maxmem = refl; max_bpages = refl }) fits.well inside may.1 now
-          c.take_back-moved.ensures.slot refl c.take_back-moved.ensures.ready refl;
+          c.take_back-moved.ensures.zone refl c.take_back-moved.ensures.ready refl;
       reply = ap Served c.take_back-moved.ensures.moved
           ∙ moved-is a c.args.map z (page_address c.args.page) s fits.well inside may.1 now;
       room = refl;

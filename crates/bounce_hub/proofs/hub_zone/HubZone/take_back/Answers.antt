@@ -3,9 +3,9 @@ use Rattle.std.specs.List.{sum_by}
 use Rattle.std.proofs.lemmas.Grind.{common_steps}
 use Rattle.busdma_base.specs.declared.bounce.zone.Waiter.{Waiter}
 use Rattle.busdma_base.specs.Bounce.Serving.{completed, left_waiting, promised}
-use Rattle.bounce_hub.specs.Slots.{room_after}
+use Rattle.bounce_hub.specs.HubZones.{room_after}
 use Rattle.bounce_hub.proofs.Promises.{promised-sum, completed-le}
-use Rattle.bounce_hub.proofs.slot.Slot.take_back.Goals as goal
+use Rattle.bounce_hub.proofs.hub_zone.HubZone.take_back.Goals as goal
 
 pub overflow_add-self : goal.overflow_add-self
 overflow_add-self c =
@@ -13,8 +13,8 @@ overflow_add-self c =
     c.from.ensures ∙ c.serve-served.ensures.moved in
     omega (arith, c.requires.few, moved, completed-le c.free-free.result c.args.self.now.wait)
 
-pub returns-clause-slot : goal.returns-clause-slot
-returns-clause-slot c =
+pub returns-clause-zone : goal.returns-clause-zone
+returns-clause-zone c =
     let ws : List Waiter = c.args.self.now.wait in
     let room : ℕ = room_after c.args.self.now in
     let is : c.free-free.result ≡ room = c.free-free.ensures ∙ (rw c.put_back.ensures (omega arith)) in

@@ -1,4 +1,4 @@
-//! Pages go to maps and come back.
+//! Pages for loads: they are grabbed, released, and handed out with callbacks.
 
 ghost use Rattle.std.specs.Prelude.{◌≡◌, ◌+◌, ◌^◌, ◌<◌, ◌≤◌, IfOk, IfSome, IfNone, OnErr};
 ghost use Rattle.busdma_base.specs.declared.bounce.hold.HubCall.TheVariants.{Grab, Release, TakeCallback};
@@ -30,15 +30,15 @@ impl Pool {
         ensures owed { IfOk result (λ r. self.new.owed ≤ self.old.owed + need + 1) }
         ensures no_memory { OnErr result (Stays self.old self.new) }
     {
-        let slot = &mut self.zones[zone.0 as usize];
-        if need <= slot.free() {
-            let (pages, addresses) = slot.hand_out(alloc, need)?;
+        let hub_zone = &mut self.zones[zone.0 as usize];
+        if need <= hub_zone.zone.free() {
+            let (pages, addresses) = hub_zone.hand_out(alloc, need)?;
             self.owed += need as usize;
             Ok((Grabbed::Granted(pages), HubReply::Granted(addresses)))
         } else if nowait {
             Ok((Grabbed::NoPages, HubReply::NoPages))
         } else {
-            let have = slot.queue(alloc, &mut self.ready, map, zone, need)?;
+            let have = hub_zone.queue(alloc, &mut self.ready, map, zone, need)?;
             self.owed += need as usize + 1;
             Ok((Grabbed::Queued(have), HubReply::Queued(have)))
         }
@@ -51,8 +51,8 @@ impl Pool {
             (Release map zone (record { 0 = page_address page })) (Served result) self.new }
         ensures owed { self.new.owed + 1 ≡ self.old.owed }
     {
-        let slot = &mut self.zones[zone.0 as usize];
-        let moved = slot.take_back(page, &mut self.ready);
+        let hub_zone = &mut self.zones[zone.0 as usize];
+        let moved = hub_zone.take_back(page, &mut self.ready);
         self.owed -= 1;
         moved
     }
@@ -69,8 +69,8 @@ impl Pool {
         let load = self.ready.pop_for(lane)?;
         let map = load.waiter.map;
         let mut pages = load.pages;
-        let slot = &mut self.zones[load.waiter.zone.0 as usize];
-        let addresses = slot.hand_promised(load.waiter.need, &mut pages, load.addresses);
+        let hub_zone = &mut self.zones[load.waiter.zone.0 as usize];
+        let addresses = hub_zone.hand_promised(load.waiter.need, &mut pages, load.addresses);
         self.owed -= 1;
         Some((Called { map, pages }, addresses))
     }

@@ -1,12 +1,12 @@
-//! A zone with the maps that wait for its pages.
+//! A zone as the hub has it: with the maps that wait for its pages.
 
 ghost use Rattle.std.specs.Prelude.{◌≡◌, ◌+◌, ◌-◌, ◌^◌, ◌<◌, ◌≤◌, [], ◌∷◌, ◌++◌, length, take, drop, All};
 ghost use Rattle.std.specs.Prelude.{vec_capacity, IfOk, OnOk, OnErr};
 ghost use Rattle.busdma_base.specs.Bounce.AccountStep.{as_pages};
 ghost use Rattle.busdma_base.specs.Machine.PageList.{page_addresses};
 ghost use Rattle.busdma_base.specs.Bounce.Serving.{completed, left_waiting, promised};
-ghost use Rattle.bounce_zone.specs.ZonePages.{free_pages};
-ghost use Rattle.bounce_hub.specs.Slots.{room_after, slot_counts};
+ghost use Rattle.bounce_zone.specs.ZonePages.{free_pages, zone_counts};
+ghost use Rattle.bounce_hub.specs.HubZones.{room_after};
 
 use bounce_zone::Zone;
 use busdma_base::{MapId, Pa, PaList, Page, PageList, ZoneCounts, ZoneId};
@@ -16,16 +16,16 @@ use wait_list::{ReadyList, WaitList};
 /// A zone, the maps that wait for its pages, the number of its living maps, and how many loads were
 /// deferred so far.
 #[derive(Drop)]
-pub struct Slot {
+pub struct HubZone {
     pub zone: Zone,
     pub wait: WaitList,
     pub maps: usize,
     pub deferred: u64,
 }
 
-impl Slot {
+impl HubZone {
     /// A zone with no page and no map.
-    pub fn new(alloc: Global, lowaddr: Pa, alignment: u64) -> Slot
+    pub fn new(alloc: Global, lowaddr: Pa, alignment: u64) -> HubZone
         ensures { result ≡ record {
           zone = record { lowaddr = lowaddr.0; alignment = alignment; pages = []; reserved = 0; active = 0 };
           wait = [];
@@ -33,7 +33,7 @@ impl Slot {
           deferred = 0;
         } }
     {
-        Slot {
+        HubZone {
             zone: Zone::new(alloc, lowaddr, alignment),
             wait: WaitList::new(alloc),
             maps: 0,
@@ -41,26 +41,17 @@ impl Slot {
         }
     }
 
-    /// The number of pages in the list that are promised to nobody.
-    pub fn free(&self) -> u32
-        ensures { result ≡ free_pages self.now.zone }
+    /// The counts of the zone, where so many syncs copied.
+    pub fn counts(&self, bounced: u64) -> ZoneCounts
+        ensures { result ≡ zone_counts self.now.zone bounced self.now.deferred }
     {
-        self.zone.counts().free
-    }
-
-    /// The counts of the zone. That of copies is kept elsewhere, and is 0 here.
-    pub fn counts(&self) -> ZoneCounts
-        ensures { result ≡ slot_counts self.now }
-    {
-        let mut counts = self.zone.counts();
-        counts.deferred = self.deferred;
-        counts
+        self.zone.counts(bounced, self.deferred)
     }
 
     /// Hands out free pages from the head of the list, with their addresses.
     pub fn hand_out(&mut self, alloc: Global, need: u32) -> Result<(PageList, PaList), AllocError>
         requires { need ≤ free_pages self.old.zone }
-        ensures slot { OnOk result (self.new ≡ record self.old {
+        ensures zone { OnOk result (self.new ≡ record self.old {
           zone = record self.old.zone {
             pages = drop need self.old.zone.pages;
             active = self.old.zone.active + need;
@@ -86,7 +77,7 @@ impl Slot {
         requires page_room { need ≤ pages.old.room }
         requires no_address { addresses.items ≡ [] }
         requires address_room { need ≤ vec_capacity addresses }
-        ensures slot { self.new ≡ record self.old {
+        ensures zone { self.new ≡ record self.old {
           zone = record self.old.zone {
             pages = drop need self.old.zone.pages;
             reserved = self.old.zone.reserved - need;
@@ -112,7 +103,7 @@ impl Slot {
         need: u32,
     ) -> Result<u32, AllocError>
         requires { free_pages self.old.zone < need }
-        ensures slot { let free = free_pages self.old.zone in OnOk result (self.new ≡ record self.old {
+        ensures zone { let free = free_pages self.old.zone in OnOk result (self.new ≡ record self.old {
           zone = record self.old.zone { reserved = self.old.zone.reserved + free };
           wait = self.old.wait ++ record { map = map; zone = zone; need = need; have = free } ∷ [];
         }) }
@@ -120,7 +111,7 @@ impl Slot {
         ensures have { IfOk result (λ r. r ≡ free_pages self.old.zone) }
         ensures no_memory { OnErr result ((self.new ≡ self.old) × (ready.new ≡ ready.old)) }
     {
-        let have = self.free();
+        let have = self.zone.free();
         self.wait.join(alloc, ready, map, zone, need, have)?;
         let _reserved = self.zone.reserve(have);
         Ok(have)
@@ -132,7 +123,7 @@ impl Slot {
         requires room { length self.old.wait ≤ ready.old.spare }
         requires lacks { All (λ w. w.have < w.need) self.old.wait }
         requires few { self.old.deferred + length self.old.wait < 2 ^ 64 }
-        ensures slot { let room = room_after self.old in self.new ≡ record self.old {
+        ensures zone { let room = room_after self.old in self.new ≡ record self.old {
           zone = record self.old.zone {
             pages = page ∷ self.old.zone.pages;
             active = self.old.zone.active - 1;
@@ -148,7 +139,7 @@ impl Slot {
         ensures moved { result ≡ length (completed (room_after self.old) self.old.wait) }
     {
         self.zone.put_back(page);
-        let free = self.free();
+        let free = self.zone.free();
         let served = self.wait.serve(free, ready);
         let _reserved = self.zone.reserve(served.taken);
         self.deferred += u64::from(served.moved);

@@ -1,0 +1,19 @@
+-- What contracts see of a zone with its waiting maps.
+use Rattle.std.specs.Prelude.{◌≡◌, ℕ, ◌+◌, ◌-◌, ◌<◌, List, length, slice_index, slice_index_or}
+use Rattle.busdma_base.specs.declared.bounce.zone.ZoneCounts.{ZoneCounts}
+use Rattle.bounce_zone.specs.ZonePages.{zone_counts}
+use Rattle.bounce_hub.specs.declared.hub_zone.HubZone.{HubZone}
+
+-- the pages that are promised to nobody once a page came back
+abbrev pub room_after : HubZone → ℕ
+room_after s = length s.zone.pages + 1 - s.zone.reserved
+
+-- the counts of the zone of a number, where so many syncs copied in each zone
+abbrev pub counts_at : List ℕ → ℕ → HubZone → ZoneCounts
+counts_at bounced z s = zone_counts s.zone (slice_index bounced z) s.deferred
+
+-- the counts of zones, in order
+pub record HaveCounts (zones : List HubZone) (bounced : List ℕ) (cs : List ZoneCounts) : Type 0 where
+  pub count : length cs ≡ length zones
+  pub each : (z : ℕ) → z < length cs → (s : HubZone) (d : ZoneCounts) →
+      slice_index_or cs z d ≡ counts_at bounced z (slice_index_or zones z s)

@@ -1,0 +1,169 @@
+//! Which zone a tag has, how many pages it wants, and how its zone grows.
+
+ghost use Rattle.std.specs.Prelude.{◌≡◌, ◌==◌, ◌||◌, ◌<◌, ◌≤◌, IfOk, OnErr, length, slice_get};
+ghost use Rattle.busdma_base.specs.Bounce.Growth.{most_pages, wanted_by_tag, wanted_for};
+ghost use Rattle.bounce_hub.specs.Growing.{IsPlace, Grows, place_for, serves, pages_of, maps_of};
+ghost use Rattle.bounce_hub.specs.Pools.{Stays};
+
+use crate::hub_zone::HubZone;
+use crate::pool::Pool;
+use busdma_base::{TagLimits, ZoneId};
+use std::alloc::{AllocError, Global};
+
+/// The bytes of a page.
+const PAGE: u64 = 4096;
+
+/// The number of a zone, which has 32 bits.
+pub(crate) fn number_of(place: usize) -> Result<ZoneId, AllocError>
+    ensures { IfOk result (λ z. z ≡ record { 0 = place }) }
+{
+    match u32::try_from(place) {
+        Ok(number) => Ok(ZoneId(number)),
+        Err(_) => Err(AllocError),
+    }
+}
+
+/// The zone's pages are aligned and low enough for the tag.
+fn serves(tag: &TagLimits, hub_zone: &HubZone) -> bool
+    ensures { result ≡ serves tag.now hub_zone.now }
+{
+    tag.alignment <= hub_zone.zone.alignment() && hub_zone.zone.lowaddr().0 <= tag.lowaddr.0
+}
+
+/// The place of the first zone that serves the tag, or behind all zones.
+pub(crate) fn place_for(tag: &TagLimits, zones: &[HubZone]) -> usize
+    ensures is { result ≡ place_for tag.now zones.now }
+    ensures bound { result ≤ length zones.now }
+{
+    match zones.split_first() {
+        Some((first, _)) if serves(tag, first) => 0,
+        Some((_, rest)) => 1 + place_for(tag, rest),
+        None => 0,
+    }
+}
+
+/// How many pages the first allocation of a tag wants for a zone of so many.
+pub(crate) fn wanted_by_tag(tag: &TagLimits, pages: u32) -> u64
+    ensures { result ≡ wanted_by_tag tag.now pages }
+{
+    (tag.maxsize / PAGE).saturating_sub(u64::from(pages))
+}
+
+/// All wanted pages came, or the first allocation was done before.
+pub(crate) fn is_made(first_done: bool, added: u32, wanted: u64) -> bool
+    ensures { result ≡ (first_done || added == wanted) }
+{
+    first_done || u64::from(added) == wanted
+}
+
+impl Pool {
+    /// The number of pages of the zone at a place, or 0 behind all zones.
+    pub(crate) fn pages_at(&self, place: usize) -> u32
+        ensures { result ≡ pages_of (slice_get self.now.zones.items place) }
+    {
+        match self.zones.get(place) {
+            Some(hub_zone) => hub_zone.zone.total(),
+            None => 0,
+        }
+    }
+
+    /// The number of maps of the zone at a place, or 0 behind all zones.
+    fn maps_at(&self, place: usize) -> usize
+        ensures { result ≡ maps_of (slice_get self.now.zones.items place) }
+    {
+        match self.zones.get(place) {
+            Some(hub_zone) => hub_zone.maps,
+            None => 0,
+        }
+    }
+
+    /// How many pages a zone may grow to for the maps of a tag.
+    fn most_pages(&self, tag: &TagLimits) -> u64
+        ensures { result ≡ most_pages tag.now self.now.max_bpages self.now.maxmem }
+    {
+        let most = u64::from(self.max_bpages);
+        if tag.alignment > 1 {
+            most
+        } else {
+            most.min(self.maxmem.saturating_sub(tag.lowaddr.0 / PAGE))
+        }
+    }
+
+    /// How many pages the making of a map of the tag wants for the zone at a place.
+    pub(crate) fn wanted_by_map(&self, tag: &TagLimits, first_done: bool, place: usize) -> u64
+        ensures { let hub_zone = slice_get self.now.zones.items place in
+            let most = most_pages tag.now self.now.max_bpages self.now.maxmem in
+            result ≡ wanted_for tag.now first_done (maps_of hub_zone) (pages_of hub_zone) most }
+    {
+        let pages = u64::from(self.pages_at(place));
+        let most = self.most_pages(tag);
+        if first_done && (self.maps_at(place) == 0 || most <= pages) {
+            return 0;
+        }
+        let load = (tag.maxsize / PAGE).max(1);
+        most.saturating_sub(pages)
+            .min(load.min(u64::from(tag.nsegments)))
+            .max(1)
+    }
+
+    /// Moves so many of the lowest free frames to the zone at a place, or to a new one there, as far
+    /// as there are any below its lowaddr, and answers how many.
+    pub(crate) fn grow(
+        &mut self,
+        alloc: Global,
+        tag: &TagLimits,
+        place: usize,
+        wanted: u64,
+    ) -> Result<u32, AllocError>
+        requires { IsPlace self.old tag.now place }
+        ensures grows { IfOk result (λ n. Grows self.old tag.now place wanted n self.new) }
+        ensures owed { IfOk result (λ n. self.new.owed ≡ self.old.owed) }
+        ensures no_memory { OnErr result (Stays self.old self.new) }
+    {
+        if place < self.zones.len() {
+            self.grow_zone(alloc, tag, place, wanted)
+        } else {
+            self.grow_new(alloc, tag, place, wanted)
+        }
+    }
+
+    /// The same for a zone that is there.
+    fn grow_zone(
+        &mut self,
+        alloc: Global,
+        tag: &TagLimits,
+        place: usize,
+        wanted: u64,
+    ) -> Result<u32, AllocError>
+        requires place { IsPlace self.old tag.now place }
+        requires there { place < length self.old.zones.items }
+        ensures grows { IfOk result (λ n. Grows self.old tag.now place wanted n self.new) }
+        ensures owed { IfOk result (λ n. self.new.owed ≡ self.old.owed) }
+        ensures no_memory { OnErr result (Stays self.old self.new) }
+    {
+        let hub_zone = &mut self.zones[place];
+        let added = hub_zone.zone.grow(alloc, &mut self.bank, wanted)?;
+        Ok(added)
+    }
+
+    /// The same for a new zone behind the others.
+    fn grow_new(
+        &mut self,
+        alloc: Global,
+        tag: &TagLimits,
+        place: usize,
+        wanted: u64,
+    ) -> Result<u32, AllocError>
+        requires place { IsPlace self.old tag.now place }
+        requires none { length self.old.zones.items ≤ place }
+        ensures grows { IfOk result (λ n. Grows self.old tag.now place wanted n self.new) }
+        ensures owed { IfOk result (λ n. self.new.owed ≡ self.old.owed) }
+        ensures no_memory { OnErr result (Stays self.old self.new) }
+    {
+        self.zones.reserve(1)?;
+        let mut hub_zone = HubZone::new(alloc, tag.lowaddr, tag.alignment.max(PAGE));
+        let added = hub_zone.zone.grow(alloc, &mut self.bank, wanted)?;
+        self.zones.push_reserved(hub_zone);
+        Ok(added)
+    }
+}
