@@ -1,5 +1,6 @@
 pub mod Addresses
 pub mod Extending
+pub mod Inside
 pub mod Judgement
 pub mod LoansInTree
 pub mod Marking

@@ -1,32 +1,36 @@
 -- Loans in a tree map: a loan that is found, a test over all loans, and marks that are set.
 use Rattle.std.proofs.Common.{◌≡◌, ℕ, ◌||◌, ◌&&◌, not, ◌==◌, arith, Bool, true, false, List, [], ◌∷◌, Some, None}
-use Rattle.std.proofs.Common.{IsSome, unwrap_or, is_some, refl, sym, ap, ◌∙◌}
-use Rattle.std.proofs.lemmas.Bool.{false≢true}
+use Rattle.std.proofs.Common.{unwrap_or, cond, refl, sym, ap, ◌∙◌}
 use Rattle.std.proofs.lemmas.Bool.Decides.{nat_tests}
 use Rattle.std.specs.List.{list_any}
 use Rattle.std.specs.Ordering.{nat_cmp}
 use Rattle.std.specs.Map.{lookup}
 use Rattle.std.specs.BTreeMap.{is_at}
-use Rattle.std.specs.FinMap.{get, insert, from_entries}
+use Rattle.std.specs.FinMap.{insert}
 use Rattle.loan_table.specs.Loans.{Loan, Loans, loan_of, no_loan}
 use Rattle.busdma_base.specs.declared.journals.report.Judged.TheVariants.{Fine}
 use Rattle.busdma_base.specs.Journals.Judging.{judged}
 use Rattle.loan_table.specs.Loans.{addresses_of}
 use Rattle.loan_table.specs.Lending.{synced, marked_range, sync_answer, sync_refusal, lost, range_of, loses}
 use Rattle.std.specs.List.{filter}
-use Rattle.loan_table.proofs.Trees.{get-from_tree}
+use Rattle.loan_table.specs.declared.slot.Slot.{Slot}
+use Rattle.loan_table.specs.Trees.{loans_in}
+use Rattle.loan_table.proofs.Trees.{get-loans_in, loan_at}
 
-pub loan_found : (es : List (ℕ × Loan)) (m : ℕ) (row : Loan) →
-    lookup (is_at (nat_cmp m)) es ≡ Some row → loan_of (from_entries es) m ≡ row
-loan_found es m row h = ap (λ o. unwrap_or o no_loan) (get-from_tree es m ∙ h)
+pub loan_found : (es : List (ℕ × Slot)) (m : ℕ) (slot : Slot) → lookup (is_at (nat_cmp m)) es ≡ Some slot →
+    slot.is_open ≡ true → loan_of (loans_in true es) m ≡ slot.row
+loan_found es m slot h o = ap (λ x. unwrap_or x no_loan)
+    (get-loans_in true es m ∙ ap (loan_at true) h ∙ ap (λ b. cond b (Some slot.row) None) o)
 
-pub not_missing : {X : Type 0} (es : List (ℕ × X)) (m : ℕ) → IsSome (get (from_entries {R = nat_cmp} es) m) →
-    lookup (is_at (nat_cmp m)) es ≡ None → ⊥
-not_missing es m there h = false≢true (ap is_some (sym (get-from_tree es m ∙ h)) ∙ there)
+pub loan_shut : (es : List (ℕ × Slot)) (m : ℕ) (slot : Slot) → lookup (is_at (nat_cmp m)) es ≡ Some slot →
+    slot.is_open ≡ false → loan_of (loans_in true es) m ≡ no_loan
+loan_shut es m slot h o = ap (λ x. unwrap_or x no_loan)
+    (get-loans_in true es m ∙ ap (loan_at true) h ∙ ap (λ b. cond b (Some slot.row) None) o)
 
-pub is_there : {X : Type 0} (es : List (ℕ × X)) (m : ℕ) →
-    IsSome (get (from_entries {R = nat_cmp} es) m) → IsSome (lookup (is_at (nat_cmp m)) es)
-is_there es m there = ap is_some (sym (get-from_tree es m)) ∙ there
+pub loan_prepared : (es : List (ℕ × Slot)) (m : ℕ) (slot : Slot) → lookup (is_at (nat_cmp m)) es ≡ Some slot →
+    slot.is_open ≡ false → loan_of (loans_in false es) m ≡ slot.row
+loan_prepared es m slot h o = ap (λ x. unwrap_or x no_loan)
+    (get-loans_in false es m ∙ ap (loan_at false) h ∙ ap (λ b. cond b None (Some slot.row)) o)
 
 -- what is left to test gives the answer: at an element that passes, and at the end
 pub any_here : {X : Type 0} (p : X → Bool) (all rest tail : List X) (x : X) → list_any p rest ≡ list_any p all →
@@ -70,6 +74,6 @@ pub lost_open : (loans : Loans) (m off len : ℕ) (ops : ℕ) (row : Loan) → l
     addresses_of (filter (loses ops) (range_of off len row.positions)) ≡ lost loans m off len ops
 lost_open loans m off len ops row e h = rw (e, h) refl
 
-pub loan_missing : (es : List (ℕ × Loan)) (m : ℕ) →
-    lookup (is_at (nat_cmp m)) es ≡ None → loan_of (from_entries es) m ≡ no_loan
-loan_missing es m h = ap (λ o. unwrap_or o no_loan) (get-from_tree es m ∙ h)
+pub loan_missing : (is_open : Bool) (es : List (ℕ × Slot)) (m : ℕ) →
+    lookup (is_at (nat_cmp m)) es ≡ None → loan_of (loans_in is_open es) m ≡ no_loan
+loan_missing is_open es m h = ap (λ x. unwrap_or x no_loan) (get-loans_in is_open es m ∙ ap (loan_at is_open) h)

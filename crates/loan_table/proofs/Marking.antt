@@ -1,6 +1,6 @@
 -- Marks of a range: no position moves, and the bytes that a call loses.
 use Rattle.std.proofs.Common.{◌≡◌, ℕ, zero, suc, ◌+◌, Bool, true, false, cond, List, [], ◌∷◌, ◌++◌, ◌==◌, map, take}
-use Rattle.std.proofs.Common.{drop, Some, None, IsSome, unwrap_or, refl, sym, ap, ◌∙◌, subst}
+use Rattle.std.proofs.Common.{drop, Option, Some, None, IsSome, unwrap_or, refl, sym, ap, ◌∙◌, subst}
 use Rattle.std.proofs.lemmas.List.{map-append, append_assoc, drop-drop, take-append-drop}
 use Rattle.std.specs.List.{filter}
 use Rattle.std.specs.Ordering.{nat_cmp, eq_by_cmp}
@@ -11,6 +11,7 @@ use Rattle.loan_table.specs.declared.position.Position.{Position}
 use Rattle.loan_table.specs.Table.{AreIn, set_all}
 use Rattle.loan_table.specs.Loans.{Loan, Loans, loan_of, no_loan, addresses_of, unlent}
 use Rattle.loan_table.specs.Lending.{marked, marked_range, range_of, loses, lost, synced}
+use Rattle.loan_table.specs.Trees.{with_value}
 use Rattle.loan_table.proofs.Addresses.{AreIn-insert}
 
 -- what stands for a position that a buffer does not have
@@ -142,6 +143,12 @@ take_loan P loans m none others q =
     chosen : (b : Bool) → P (unwrap_or (cond b None (get loans q)) no_loan).positions
     chosen true = none
     chosen false = others q
+
+pub with_loan : (P : List Position → Type 0) (loans : Loans) (m : ℕ) (o : Option Loan) →
+    P (unwrap_or o no_loan).positions → ((q : ℕ) → P (loan_of loans q).positions) → (q : ℕ) →
+    P (loan_of (with_value loans m o) q).positions
+with_loan P loans m None here others q = take_loan P loans m here others q
+with_loan P loans m (Some new) here others q = put_loan P loans m new here others q
 
 filtered : (m : FinMap nat_cmp Bool) (p : Position) (ps : List Position) (b : Bool) → IsSome (get m p.pa) →
     AreIn m (addresses_of ps) → AreIn m (addresses_of (cond b (p ∷ ps) ps))

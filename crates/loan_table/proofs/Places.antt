@@ -8,7 +8,7 @@ use Rattle.run_set.specs.Counts.{Counts, count, changed}
 use Rattle.run_set.specs.Edges.{in_run}
 use Rattle.busdma_base.specs.Runs.{run_of}
 use Rattle.loan_table.specs.declared.position.Position.{Position}
-use Rattle.loan_table.specs.Kept.{CountsPlaces}
+use Rattle.loan_table.specs.Rows.{CountsPlaces}
 use Rattle.loan_table.specs.Loans.{Loan, addresses_of, is_at, lends}
 
 -- how often a byte stands in a list that begins with another byte

@@ -1,6 +1,6 @@
 -- What a result says, by its variant.
 use Rattle.std.proofs.Common.{◌≡◌, true, false, Option, Some, None, IsSome, Result, Ok, Err, OnOk, OnErr, is_err, Bor}
-use Rattle.std.proofs.Common.{refl}
+use Rattle.std.proofs.Common.{refl, IsNone}
 use Rattle.std.specs.Option.{option_copied}
 
 pub copied_some : {X : Type 0} (o : Option (Bor X)) → IsSome (option_copied o) → IsSome o
@@ -19,3 +19,7 @@ on_err (Err x) P e h = h
 pub either_way : {T E : Type 0} (r : Result T E) (A B P : Type 0) → OnOk r A → OnErr r B → (A → P) → (B → P) → P
 either_way (Ok x) A B P ok err f g = f ok
 either_way (Err x) A B P ok err f g = g err
+
+pub is_none : {X : Type 0} (o : Option X) → IsNone o → o ≡ None
+is_none None h = refl
+is_none (Some x) h = absurd (cc)

@@ -1,67 +1,72 @@
 -- How many positions the maps of a table have, and the room that is left after a change.
-use Rattle.std.proofs.Common.{◌≡◌, ℕ, zero, suc, ◌+◌, ◌-◌, ◌<◌, ◌≤◌, Bool, List, [], ◌∷◌, length, drop, Option, Some}
-use Rattle.std.proofs.Common.{None, IsNone, unwrap_or, refl, sym, ap, subst, ◌∙◌, arith}
+use Rattle.std.proofs.Common.{◌≡◌, ℕ, zero, suc, ◌+◌, ◌-◌, ◌<◌, ◌≤◌, Bool, true, false, List, [], ◌∷◌, length, drop, Option, Some}
+use Rattle.std.proofs.Common.{None, unwrap_or, refl, sym, ap, subst, ◌∙◌, arith}
 use Rattle.std.specs.Option.{option_map}
 use Rattle.std.specs.Ordering.{nat_cmp}
 use Rattle.std.specs.Cmp.{nat_cmp_total}
 use Rattle.std.specs.Map.{lookup, keys_of, remove_entry, set_value}
 use Rattle.std.specs.BTreeMap.{is_at, insert_entry}
 use Rattle.std.specs.List.Sorted.{IsStrictlySortedBy}
-use Rattle.std.specs.FinMap.{get, from_entries}
 use Rattle.std.proofs.lemmas.List.{length-take}
 use Rattle.std.proofs.lemmas.Map.Entries.{sum_by-remove_entry, sum_by-set_value, sum_by-insert_entry}
 use Rattle.loan_table.specs.declared.position.Position.{Position}
+use Rattle.loan_table.specs.declared.slot.Slot.{Slot}
 use Rattle.loan_table.specs.Kept.{HasRoom, position_count}
 use Rattle.loan_table.specs.Lending.{marked_range, range_of}
 use Rattle.loan_table.specs.Loans.{Loan, loan_of, addresses_of}
 use Rattle.loan_table.specs.Marks.{Marks}
 use Rattle.loan_table.specs.Table.{extent_count}
+use Rattle.loan_table.specs.Trees.{loans_in}
 use Rattle.loan_table.proofs.Extending.{length-range}
-use Rattle.loan_table.proofs.LoansInTree.{loan_found, loan_missing}
+use Rattle.loan_table.proofs.LoansInTree.{loan_found, loan_shut, loan_missing}
 use Rattle.loan_table.proofs.Marking.{addresses_of-marked_range}
-use Rattle.loan_table.proofs.Trees.{get-from_tree}
 
-abbrev size : Loan → ℕ
-size l = length l.positions
+abbrev size : Slot → ℕ
+size slot = length slot.row.positions
 
 -- a map that goes, one that stays with as many positions, and one that comes
-pub count_removed : (es : List (ℕ × Loan)) (test : ℕ → Bool) (row : Loan) → lookup test es ≡ Some row →
-    position_count (remove_entry test es) + length row.positions ≡ position_count es
-count_removed es test row h = ap (λ o. position_count (remove_entry test es) + unwrap_or (option_map size o) 0) (sym h)
+pub count_removed : (es : List (ℕ × Slot)) (test : ℕ → Bool) (slot : Slot) → lookup test es ≡ Some slot →
+    position_count (remove_entry test es) + length slot.row.positions ≡ position_count es
+count_removed es test slot h = ap (λ o. position_count (remove_entry test es) + unwrap_or (option_map size o) 0) (sym h)
     ∙ sum_by-remove_entry size test es
 
-pub count_set : (es : List (ℕ × Loan)) (test : ℕ → Bool) (old new : Loan) → lookup test es ≡ Some old →
-    length new.positions ≡ length old.positions → position_count (set_value test es new) ≡ position_count es
+pub count_taken : (es ds : List (ℕ × Slot)) (test : ℕ → Bool) (left : Option Slot) (n : ℕ) →
+    ds ≡ remove_entry test es → left ≡ lookup test es →
+    n ≡ unwrap_or (option_map (λ s. length s.row.positions) left) 0 → position_count ds + n ≡ position_count es
+count_taken es ds test left n e f g = ap (λ x. position_count x + n) e
+    ∙ ap (λ k. position_count (remove_entry test es) + k) (g ∙ ap (λ o. unwrap_or (option_map size o) 0) f)
+    ∙ sum_by-remove_entry size test es
+
+pub count_set : (es : List (ℕ × Slot)) (test : ℕ → Bool) (old new : Slot) → lookup test es ≡ Some old →
+    length new.row.positions ≡ length old.row.positions → position_count (set_value test es new) ≡ position_count es
 count_set es test old new h same =
-    let sums : position_count (set_value test es new) + length old.positions ≡ position_count es
-    + length new.positions = sum_by-set_value size test es old new h in
+    let sums : position_count (set_value test es new) + length old.row.positions ≡ position_count es
+    + length new.row.positions = sum_by-set_value size test es old new h in
     omega arith
 
-none_of : (o : Option Loan) → IsNone o → o ≡ None
-none_of None h = refl
-none_of (Some x) h = absurd (cc)
-
-pub count_added : (es : List (ℕ × Loan)) (k : ℕ) (row : Loan) → IsStrictlySortedBy nat_cmp (keys_of es) →
-    IsNone (get (from_entries {R = nat_cmp} es) k) →
-    position_count (insert_entry nat_cmp es k row) ≡ position_count es + length row.positions
-count_added es k row sorted fresh =
-    let none : lookup (is_at (nat_cmp k)) es ≡ None = sym (get-from_tree es k) ∙ none_of _ fresh in
-    let sums : position_count (insert_entry nat_cmp es k row) + 0 ≡ position_count es + length row.positions =
-    ap (λ o. position_count (insert_entry nat_cmp es k row) + unwrap_or (option_map size o) 0) (sym none)
-    ∙ sum_by-insert_entry size nat_cmp_total es k row sorted in
-    omega arith
+pub count_put : (es : List (ℕ × Slot)) (k : ℕ) (slot : Slot) → IsStrictlySortedBy nat_cmp (keys_of es) →
+    position_count (insert_entry nat_cmp es k slot)
+    + unwrap_or (option_map (λ s. length s.row.positions) (lookup (is_at (nat_cmp k)) es)) 0
+    ≡ position_count es + length slot.row.positions
+count_put es k slot sorted = sum_by-insert_entry size nat_cmp_total es k slot sorted
 
 -- no map has more positions than all have
-count_found : (es : List (ℕ × Loan)) (m : ℕ) (o : Option Loan) → lookup (is_at (nat_cmp m)) es ≡ o →
-    length (loan_of (from_entries es) m).positions ≤ position_count es
-count_found es m None e =
-    subst (λ (l : Loan). length l.positions ≤ position_count es) (sym (loan_missing es m e)) (omega arith)
-count_found es m (Some row) e =
-    let sums : position_count (remove_entry (is_at (nat_cmp m)) es) + length row.positions ≡ position_count es =
-    count_removed es (is_at (nat_cmp m)) row e in
-    subst (λ (l : Loan). length l.positions ≤ position_count es) (sym (loan_found es m row e)) (omega arith)
+count_open : (es : List (ℕ × Slot)) (m : ℕ) (slot : Slot) (b : Bool) → lookup (is_at (nat_cmp m)) es ≡ Some slot →
+    slot.is_open ≡ b → length (loan_of (loans_in true es) m).positions ≤ position_count es
+count_open es m slot true e o =
+    let sums : position_count (remove_entry (is_at (nat_cmp m)) es) + length slot.row.positions ≡ position_count es =
+    count_removed es (is_at (nat_cmp m)) slot e in
+    subst (λ (l : Loan). length l.positions ≤ position_count es) (sym (loan_found es m slot e o)) (omega arith)
+count_open es m slot false e o =
+    subst (λ (l : Loan). length l.positions ≤ position_count es) (sym (loan_shut es m slot e o)) (omega arith)
 
-pub count_bound : (es : List (ℕ × Loan)) (m : ℕ) → length (loan_of (from_entries es) m).positions ≤ position_count es
+count_found : (es : List (ℕ × Slot)) (m : ℕ) (o : Option Slot) → lookup (is_at (nat_cmp m)) es ≡ o →
+    length (loan_of (loans_in true es) m).positions ≤ position_count es
+count_found es m None e =
+    subst (λ (l : Loan). length l.positions ≤ position_count es) (sym (loan_missing true es m e)) (omega arith)
+count_found es m (Some slot) e = count_open es m slot slot.is_open e refl
+
+pub count_bound : (es : List (ℕ × Slot)) (m : ℕ) → length (loan_of (loans_in true es) m).positions ≤ position_count es
 count_bound es m = count_found es m (lookup (is_at (nat_cmp m)) es) refl
 
 length-addresses_of : (ps : List Position) → length (addresses_of ps) ≡ length ps
@@ -123,3 +128,15 @@ left_by_map b c p q s n h e r t = record {
 
 pub room_made : (b : Marks) (p s : ℕ) → p + p + (p + p) + (s + s) ≤ b.room → 2 ≤ b.there_room → HasRoom b p s
 room_made b p s h t = record { forgets = omega arith; changes = λ q. h; drops = λ q. t }
+
+-- room for one run, and what is left of it
+pub one_run : (b : Marks) (p s : ℕ) → HasRoom b p s → 1 ≤ s → 2 ≤ b.room
+one_run b p s h some = let all : p + p + (p + p) + (s + s) ≤ b.room = h.changes some in omega arith
+
+pub two_edges : (b : Marks) (p s : ℕ) → HasRoom b p s → 1 ≤ s → 2 ≤ b.there_room
+two_edges b p s h some = h.drops some
+
+pub room_left : (b c : Marks) (p s : ℕ) → HasRoom b p s → 1 ≤ s → b.room ≤ c.room + 2 → HasRoom c p 0
+room_left b c p s h some r =
+    let all : p + p + (p + p) + (s + s) ≤ b.room = h.changes some in
+    record { forgets = omega arith; changes = λ q. absurd (omega arith); drops = λ q. absurd (omega arith) }

@@ -4,5 +4,6 @@ pub mod Kept
 pub mod Lending
 pub mod Loans
 pub mod Marks
+pub mod Rows
 pub mod Table
 pub mod Trees

@@ -10,11 +10,12 @@ use Rattle.loan_table.specs.declared.position.Position.{Position}
 use Rattle.loan_table.specs.Loans.{Loans, loan_of, addresses_of}
 use Rattle.loan_table.specs.Lending.{range_of, synced, lost}
 
--- the driver's bytes by physical address, each Known or not; the loans of its loaded maps; and for
--- how many extents there is room to change
+-- the driver's bytes by physical address, each Known or not; the loans of its loaded maps; those that are prepared
+-- for maps to come; and for how many extents there is room to change
 pub record Table : Type 0 where
   pub bytes : FinMap nat_cmp Bool
   pub loans : Loans
+  pub prepared : Loans
   pub spare : ℕ
 
 -- the byte at an address has the mark of a Known one
@@ -28,6 +29,10 @@ is_known t a = is_marked t.bytes a
 -- the map is in the table
 abbrev pub HasMap : Table → ℕ → Type 0
 HasMap t m = IsSome (get t.loans m)
+
+-- a loan is prepared for the map
+abbrev pub IsPrepared : Table → ℕ → Type 0
+IsPrepared t m = IsSome (get t.prepared m)
 
 -- the positions of a map's buffer
 abbrev pub buffer_of : Table → ℕ → List Position
@@ -70,11 +75,13 @@ AreFree loans bytes = (m : ℕ) → All (λ p. is_among p.pa bytes ≡ false) (l
 pub record IsSame (t u : Table) : Type 0 where
   pub bytes : u.bytes ≡ t.bytes
   pub loans : u.loans ≡ t.loans
+  pub prepared : u.prepared ≡ t.prepared
 
 -- the table after a sync of a range of a map's buffer that is done
 pub record IsSynced (t u : Table) (m off len ops : ℕ) : Type 0 where
   pub bytes : u.bytes ≡ set_all t.bytes (lost t.loans m off len ops) false
   pub loans : u.loans ≡ synced t.loans m off len ops
+  pub prepared : u.prepared ≡ t.prepared
 
 -- a fact for the answer Fine
 abbrev pub OnFine : Judged → Type 0 → Type 0

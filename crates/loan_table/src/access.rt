@@ -10,12 +10,13 @@ ghost use Rattle.loan_table.specs.Access.{cpu_read_refusal, cpu_write_refusal, d
 ghost use Rattle.loan_table.specs.Kept.{Ends};
 ghost use Rattle.loan_table.specs.Kinds.{cpu_refusal, dev_refusal};
 ghost use Rattle.loan_table.specs.Table.{is_marked};
-ghost use Rattle.loan_table.specs.Trees.{of_tree};
+ghost use Rattle.loan_table.specs.Trees.{opened};
 
 use crate::loans::lent;
 use crate::marks::ByteMarks;
 use crate::position::Position;
-use crate::row::{LoanRow, Way};
+use crate::row::Way;
+use crate::slot::Slot;
 use busdma_base::{Extent, Judged, Report, ReportName};
 use std::collections::BTreeMap;
 
@@ -27,13 +28,9 @@ pub enum Access {
 }
 
 /// What the driver meets where it reads a byte.
-fn cpu_read_refusal(
-    bytes: &ByteMarks,
-    loans: &BTreeMap<u32, LoanRow>,
-    pa: u64,
-) -> Option<ReportName>
+fn cpu_read_refusal(bytes: &ByteMarks, loans: &BTreeMap<u32, Slot>, pa: u64) -> Option<ReportName>
     requires { tree.IsOrdered nat_cmp loans.now }
-    ensures { result ≡ cpu_read_refusal (is_marked bytes.now.bytes) (of_tree loans.now) pa }
+    ensures { result ≡ cpu_read_refusal (is_marked bytes.now.bytes) (opened loans.now) pa }
 {
     if lent(loans, Way::ToWrite, pa) {
         Some(ReportName::CpuReadLent)
@@ -45,9 +42,9 @@ fn cpu_read_refusal(
 }
 
 /// What the driver meets where it writes a byte.
-fn cpu_write_refusal(loans: &BTreeMap<u32, LoanRow>, pa: u64) -> Option<ReportName>
+fn cpu_write_refusal(loans: &BTreeMap<u32, Slot>, pa: u64) -> Option<ReportName>
     requires { tree.IsOrdered nat_cmp loans.now }
-    ensures { result ≡ cpu_write_refusal (of_tree loans.now) pa }
+    ensures { result ≡ cpu_write_refusal (opened loans.now) pa }
 {
     if lent(loans, Way::Any, pa) {
         Some(ReportName::CpuWriteLent)
@@ -59,12 +56,12 @@ fn cpu_write_refusal(loans: &BTreeMap<u32, LoanRow>, pa: u64) -> Option<ReportNa
 /// What the driver meets at a byte.
 fn cpu_refusal(
     bytes: &ByteMarks,
-    loans: &BTreeMap<u32, LoanRow>,
+    loans: &BTreeMap<u32, Slot>,
     access: Access,
     pa: u64,
 ) -> Option<ReportName>
     requires { tree.IsOrdered nat_cmp loans.now }
-    ensures { result ≡ cpu_refusal access (is_marked bytes.now.bytes) (of_tree loans.now) pa }
+    ensures { result ≡ cpu_refusal access (is_marked bytes.now.bytes) (opened loans.now) pa }
 {
     match access {
         Access::Read => cpu_read_refusal(bytes, loans, pa),
@@ -75,7 +72,7 @@ fn cpu_refusal(
 /// The judgement of the driver's access of a run, whose first byte stands at a place.
 fn judge_run(
     bytes: &ByteMarks,
-    loans: &BTreeMap<u32, LoanRow>,
+    loans: &BTreeMap<u32, Slot>,
     access: Access,
     run: &Extent,
     place: u64,
@@ -83,7 +80,7 @@ fn judge_run(
     requires ordered { tree.IsOrdered nat_cmp loans.now }
     requires ends { Ends run.now }
     requires place { place + run.now.len < 2 ^ 64 }
-    ensures { let refusal = cpu_refusal access (is_marked bytes.now.bytes) (of_tree loans.now) in
+    ensures { let refusal = cpu_refusal access (is_marked bytes.now.bytes) (opened loans.now) in
         result ≡ judged refusal place (run_of run.now.pa.0 run.now.len) }
 {
     let mut at = place;
@@ -99,14 +96,14 @@ fn judge_run(
 /// The judgement of the driver's access of extents.
 pub fn judge_extents(
     bytes: &ByteMarks,
-    loans: &BTreeMap<u32, LoanRow>,
+    loans: &BTreeMap<u32, Slot>,
     access: Access,
     extents: &[Extent],
 ) -> Judged
     requires ordered { tree.IsOrdered nat_cmp loans.now }
     requires ends { All Ends extents.now }
     requires total { byte_count extents.now < 2 ^ 64 }
-    ensures { let refusal = cpu_refusal access (is_marked bytes.now.bytes) (of_tree loans.now) in
+    ensures { let refusal = cpu_refusal access (is_marked bytes.now.bytes) (opened loans.now) in
         result ≡ judged refusal 0 (addresses extents.now) }
 {
     let mut at = 0;

@@ -8,6 +8,7 @@ mod marks;
 mod position;
 mod room;
 mod row;
+mod slot;
 mod sync;
 mod table;
 

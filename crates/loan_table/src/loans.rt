@@ -1,44 +1,80 @@
-//! The loans of a driver's loaded maps.
+//! The loans of a driver's maps.
 
-ghost use Rattle.std.specs.Prelude.{◌≡◌, IsSome};
+ghost use Rattle.std.specs.Prelude.{◌≡◌, IsSome, length, option_map, unwrap_or};
 ghost use Rattle.std.specs.Ordering.{nat_cmp};
 ghost use Rattle.std.specs.BTreeMap as tree;
 ghost use Rattle.std.specs.FinMap as finmap;
+ghost use Rattle.loan_table.specs.Kept.{position_count};
 ghost use Rattle.loan_table.specs.Kinds.{test_of};
 ghost use Rattle.loan_table.specs.Loans.{loan_of, lent, lent_elsewhere};
-ghost use Rattle.loan_table.specs.Trees.{of_tree};
+ghost use Rattle.loan_table.specs.Trees.{closed, opened};
 
 use crate::row::{LoanRow, Way};
+use crate::slot::Slot;
 use std::collections::BTreeMap;
 
-/// The positions of a map.
-pub fn row_of(loans: &BTreeMap<u32, LoanRow>, map: u32) -> &LoanRow
-    requires { IsSome (finmap.get (of_tree loans.now) map) }
-    ensures { result.now ≡ loan_of (of_tree loans.now) map }
+/// Whether a map is open.
+pub fn is_open(loans: &BTreeMap<u32, Slot>, map: u32) -> bool
+    ensures { result ≡ finmap.contains_key (opened loans.now) map }
 {
-    loans.get(&map).unwrap()
+    match loans.get(&map) {
+        Some(slot) => slot.is_open,
+        None => false,
+    }
 }
 
-/// Whether some map lends a byte.
-pub fn lent(loans: &BTreeMap<u32, LoanRow>, way: Way, pa: u64) -> bool
-    requires { tree.IsOrdered nat_cmp loans.now }
-    ensures { result ≡ lent (test_of way) pa (of_tree loans.now) }
+/// The positions of an open map.
+pub fn row_of(loans: &BTreeMap<u32, Slot>, map: u32) -> &LoanRow
+    requires { IsSome (finmap.get (opened loans.now) map) }
+    ensures { result.now ≡ loan_of (opened loans.now) map }
 {
-    for (_id, row) in loans {
-        if row.lends(way, pa) {
+    let slot = loans.get(&map).unwrap();
+    &slot.row
+}
+
+/// Opens a prepared map.
+pub fn open(loans: &mut BTreeMap<u32, Slot>, map: u32)
+    requires { IsSome (finmap.get (closed loans.old) map) }
+    ensures opened { opened loans.new ≡ finmap.insert (opened loans.old) map (loan_of (closed loans.old) map) }
+    ensures closed { closed loans.new ≡ finmap.remove (closed loans.old) map }
+    ensures ordered { tree.IsOrdered nat_cmp loans.new }
+    ensures count { position_count loans.new.entries ≡ position_count loans.old.entries }
+{
+    if let Some(slot) = loans.get_mut(&map) {
+        slot.is_open = true;
+    }
+}
+
+/// How many positions a map had that stands no longer in a table.
+pub fn positions_of(slot: Option<Slot>) -> u64
+    ensures { result ≡ unwrap_or (option_map (λ s. length s.row.positions) slot) 0 }
+{
+    match slot {
+        Some(slot) => slot.row.len(),
+        None => 0,
+    }
+}
+
+/// Whether some open map lends a byte.
+pub fn lent(loans: &BTreeMap<u32, Slot>, way: Way, pa: u64) -> bool
+    requires { tree.IsOrdered nat_cmp loans.now }
+    ensures { result ≡ lent (test_of way) pa (opened loans.now) }
+{
+    for (_id, slot) in loans {
+        if slot.lends(way, pa) {
             return true;
         }
     }
     false
 }
 
-/// Whether some map other than this one lends a byte.
-pub fn lent_elsewhere(loans: &BTreeMap<u32, LoanRow>, way: Way, map: u32, pa: u64) -> bool
+/// Whether some open map other than this one lends a byte.
+pub fn lent_elsewhere(loans: &BTreeMap<u32, Slot>, way: Way, map: u32, pa: u64) -> bool
     requires { tree.IsOrdered nat_cmp loans.now }
-    ensures { result ≡ lent_elsewhere (test_of way) map pa (of_tree loans.now) }
+    ensures { result ≡ lent_elsewhere (test_of way) map pa (opened loans.now) }
 {
-    for (id, row) in loans {
-        if *id != map && row.lends(way, pa) {
+    for (id, slot) in loans {
+        if *id != map && slot.lends(way, pa) {
             return true;
         }
     }

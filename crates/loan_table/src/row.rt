@@ -3,12 +3,12 @@
 ghost use Rattle.std.specs.Prelude.{◌≡◌, ℕ, ◌+◌, ◌<◌, ◌≤◌, ◌^◌, ◌++◌, length, slice_index, IfOk, OnOk, false, true};
 ghost use Rattle.std.specs.List.{filter, All};
 ghost use Rattle.busdma_base.specs.Runs.{run_of, addresses};
-ghost use Rattle.loan_table.specs.Kept.{CountsPlaces, Ends};
+ghost use Rattle.loan_table.specs.Kept.{Ends};
 ghost use Rattle.loan_table.specs.Kinds.{test_of};
 ghost use Rattle.loan_table.specs.Lending.{marked, marked_range, loses, range_of};
 ghost use Rattle.loan_table.specs.Loans.{lends, stands_twice, addresses_of, unlent, to_write, new_loan};
+ghost use Rattle.loan_table.specs.Rows.{CountsPlaces};
 ghost use Rattle.loan_table.specs.Table.{AreIn, set_all};
-ghost use Rattle.loan_table.specs.Trees.{of_tree};
 ghost use Rattle.run_set.specs.Counts.{changed, count};
 ghost use Rattle.run_set.specs.Edges.{in_run};
 
@@ -49,8 +49,8 @@ pub struct LoanRow {
 }
 
 impl Model for LoanRow {
-    ghost use Rattle.loan_table.specs.Kept.{loan_code, CountsPlaces};
     ghost use Rattle.loan_table.specs.Loans.{Loan, addresses_of};
+    ghost use Rattle.loan_table.specs.Rows.{loan_code, CountsPlaces};
 
     ghost Value = { Loan };
 

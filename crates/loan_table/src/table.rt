@@ -1,7 +1,7 @@
 //! Known marks and loans of one driver.
 
 ghost use Rattle.std.specs.Prelude.{◌≡◌, ◌+◌, ◌≤◌, ◌<◌, ◌^◌, OnOk, OnErr, IfOk, IsNone, IsSome, length, slice_index};
-ghost use Rattle.std.specs.Prelude.{false, true};
+ghost use Rattle.std.specs.Prelude.{false, true, Some, None, if◌then◌else◌};
 ghost use Rattle.std.specs.List.{All};
 ghost use Rattle.std.specs.FinMap as finmap;
 ghost use Rattle.busdma_base.specs.Runs.{run_of, addresses, byte_count, IsExtent};
@@ -10,13 +10,15 @@ ghost use Rattle.loan_table.specs.Access.{cpu_read_answer, cpu_write_answer, dev
 ghost use Rattle.loan_table.specs.Lending.{sync_answer, lost, lost_by_forgetting};
 ghost use Rattle.loan_table.specs.Loans.{loan_of, addresses_of, new_loan};
 ghost use Rattle.loan_table.specs.Table.{HasMap, buffer_of, bytes_at, is_known, AreFree, AreIn, AreNew, set_all};
-ghost use Rattle.loan_table.specs.Table.{without, IsSame, IsSynced, OnFine, OnRefused, extent_count};
+ghost use Rattle.loan_table.specs.Table.{without, IsPrepared, IsSame, IsSynced, OnFine, OnRefused, extent_count};
+ghost use Rattle.loan_table.specs.Trees.{with_value};
 
 use crate::access::{self, Access};
-use crate::loans::row_of;
+use crate::loans::{is_open, open, positions_of, row_of};
 use crate::marks::ByteMarks;
 use crate::room::{edges_for, spare_after, sum_of};
 use crate::row::LoanRow;
+use crate::slot::Slot;
 use crate::{extents, marks, sync};
 use busdma_base::{Extent, ExtentList, Judged, MapId, Pa};
 use dma_tag::SyncOps;
@@ -31,7 +33,7 @@ use std::marker::Model;
 #[derive(Drop)]
 pub struct LoanTable {
     bytes: ByteMarks,
-    loans: BTreeMap<u32, LoanRow>,
+    loans: BTreeMap<u32, Slot>,
     positions: u64,
     spare: u64,
 }
@@ -39,13 +41,18 @@ pub struct LoanTable {
 impl Model for LoanTable {
     ghost use Rattle.loan_table.specs.Kept.{table_code, IsKept};
     ghost use Rattle.loan_table.specs.Table.{Table};
-    ghost use Rattle.loan_table.specs.Trees.{of_tree};
+    ghost use Rattle.loan_table.specs.Trees.{closed, opened};
 
     ghost Value = { Table };
 
     ghost coded = { table_code };
 
-    ghost view = { λ t. record { bytes = t.bytes.bytes; loans = of_tree t.loans; spare = t.spare } };
+    ghost view = { λ t. record {
+      bytes = t.bytes.bytes;
+      loans = opened t.loans;
+      prepared = closed t.loans;
+      spare = t.spare;
+    } };
 
     ghost invariant = { λ t. IsKept t.bytes t.loans t.positions t.spare };
 }
@@ -55,6 +62,7 @@ impl LoanTable {
     pub fn new(alloc: Global) -> LoanTable
         ensures bytes { result.bytes ≡ finmap.empty }
         ensures loans { result.loans ≡ finmap.empty }
+        ensures prepared { result.prepared ≡ finmap.empty }
         ensures spare { result.spare ≡ 0 }
     {
         LoanTable {
@@ -78,6 +86,7 @@ impl LoanTable {
         ensures bytes { OnOk result (self.new.bytes
             ≡ set_all self.old.bytes (run_of pa.0 len) known) }
         ensures loans { self.new.loans ≡ self.old.loans }
+        ensures prepared { self.new.prepared ≡ self.old.prepared }
         ensures err { OnErr result (IsSame self.old self.new) }
         ensures spare { self.old.spare ≤ self.new.spare }
     {
@@ -87,13 +96,29 @@ impl LoanTable {
         Ok(())
     }
 
+    /// Adds `len` bytes from `pa` on within the room for one extent.
+    pub fn add_reserved(&mut self, pa: Pa, len: u64, known: bool)
+        requires below { pa.0 + len ≤ 2 ^ 42 }
+        requires fresh { AreNew self.old.bytes (run_of pa.0 len) }
+        requires room { 1 ≤ self.old.spare }
+        ensures bytes { self.new.bytes ≡ set_all self.old.bytes (run_of pa.0 len) known }
+        ensures loans { self.new.loans ≡ self.old.loans }
+        ensures prepared { self.new.prepared ≡ self.old.prepared }
+        ensures spare { self.new.spare ≤ self.old.spare }
+    {
+        self.bytes.add_run(pa.0, len, known);
+        self.spare = 0;
+    }
+
     /// Takes `len` bytes from `pa` on out of the table.
     pub fn drop_bytes(&mut self, pa: Pa, len: u64)
         requires there { AreIn self.old.bytes (run_of pa.0 len) }
         requires free { AreFree self.old.loans (run_of pa.0 len) }
+        requires unprepared { AreFree self.old.prepared (run_of pa.0 len) }
         requires room { 1 ≤ self.old.spare }
         ensures bytes { self.new.bytes ≡ without self.old.bytes (run_of pa.0 len) }
         ensures loans { self.new.loans ≡ self.old.loans }
+        ensures prepared { self.new.prepared ≡ self.old.prepared }
         ensures spare { self.new.spare ≤ self.old.spare }
     {
         self.bytes.remove_run(pa.0, len);
@@ -101,7 +126,7 @@ impl LoanTable {
     }
 
     /// Adds a map over the bytes of a buffer, in order. It lends none of them yet; a coherent map
-    /// never does.
+    /// never does. What was prepared for the map is forgotten.
     pub fn add_map(
         &mut self,
         alloc: Global,
@@ -114,6 +139,64 @@ impl LoanTable {
         requires total { byte_count bytes.now < 2 ^ 64 }
         ensures loans { OnOk result (self.new.loans
             ≡ finmap.insert self.old.loans map.made_at (new_loan coherent (addresses bytes.now))) }
+        ensures prepared { OnOk result (self.new.prepared ≡ finmap.remove self.old.prepared map.made_at) }
+        ensures bytes { self.new.bytes ≡ self.old.bytes }
+        ensures err { OnErr result (IsSame self.old self.new) }
+        ensures spare { self.old.spare ≤ self.new.spare }
+    {
+        self.put_map(alloc, map, bytes, coherent, true)
+    }
+
+    /// Prepares a map over the bytes of a buffer, in order, so that it can be opened without memory.
+    pub fn prepare_map(
+        &mut self,
+        alloc: Global,
+        map: MapId,
+        bytes: &[Extent],
+        coherent: bool,
+    ) -> Result<(), AllocError>
+        requires fresh { IsNone (finmap.get self.old.loans map.made_at) }
+        requires unprepared { IsNone (finmap.get self.old.prepared map.made_at) }
+        requires there { AreIn self.old.bytes (addresses bytes.now) }
+        requires total { byte_count bytes.now < 2 ^ 64 }
+        ensures prepared { OnOk result (self.new.prepared
+            ≡ finmap.insert self.old.prepared map.made_at (new_loan coherent (addresses bytes.now))) }
+        ensures loans { self.new.loans ≡ self.old.loans }
+        ensures bytes { self.new.bytes ≡ self.old.bytes }
+        ensures err { OnErr result (IsSame self.old self.new) }
+        ensures spare { self.old.spare ≤ self.new.spare }
+    {
+        self.put_map(alloc, map, bytes, coherent, false)
+    }
+
+    /// Adds a map that was prepared.
+    pub fn open_map(&mut self, map: MapId)
+        requires { IsPrepared self.old map.made_at }
+        ensures loans { self.new.loans
+            ≡ finmap.insert self.old.loans map.made_at (loan_of self.old.prepared map.made_at) }
+        ensures prepared { self.new.prepared ≡ finmap.remove self.old.prepared map.made_at }
+        ensures bytes { self.new.bytes ≡ self.old.bytes }
+        ensures spare { self.old.spare ≤ self.new.spare }
+    {
+        open(&mut self.loans, map.made_at);
+    }
+
+    /// Puts a map over the bytes of a buffer, open or prepared, in the place of what was prepared.
+    fn put_map(
+        &mut self,
+        alloc: Global,
+        map: MapId,
+        bytes: &[Extent],
+        coherent: bool,
+        is_open: bool,
+    ) -> Result<(), AllocError>
+        requires fresh { IsNone (finmap.get self.old.loans map.made_at) }
+        requires there { AreIn self.old.bytes (addresses bytes.now) }
+        requires total { byte_count bytes.now < 2 ^ 64 }
+        ensures loans { OnOk result (let loan = new_loan coherent (addresses bytes.now) in
+            self.new.loans ≡ with_value self.old.loans map.made_at (if is_open then Some loan else None)) }
+        ensures prepared { OnOk result (let loan = new_loan coherent (addresses bytes.now) in
+            self.new.prepared ≡ with_value self.old.prepared map.made_at (if is_open then None else Some loan)) }
         ensures bytes { self.new.bytes ≡ self.old.bytes }
         ensures err { OnErr result (IsSame self.old self.new) }
         ensures spare { self.old.spare ≤ self.new.spare }
@@ -122,8 +205,8 @@ impl LoanTable {
         let row = LoanRow::over(alloc, coherent, bytes)?;
         let positions = sum_of(self.positions, row.len())?;
         self.bytes.reserve(edges_for(positions, self.spare)?)?;
-        loans.insert(map.made_at, row)?;
-        self.positions = positions;
+        let gone = loans.insert(map.made_at, Slot { is_open, row })?;
+        self.positions = positions - positions_of(gone);
         Ok(())
     }
 
@@ -133,12 +216,25 @@ impl LoanTable {
         ensures bytes { self.new.bytes
             ≡ set_all self.old.bytes (lost_by_forgetting self.old.loans map.made_at) false }
         ensures loans { self.new.loans ≡ finmap.remove self.old.loans map.made_at }
+        ensures prepared { self.new.prepared ≡ self.old.prepared }
         ensures there { AreIn self.old.bytes (lost_by_forgetting self.old.loans map.made_at) }
         ensures spare { self.old.spare ≤ self.new.spare }
     {
-        let row = self.loans.remove(&map.made_at).unwrap();
-        row.lose_lent(&mut self.bytes);
-        self.positions -= row.len();
+        let slot = self.loans.remove(&map.made_at).unwrap();
+        slot.row.lose_lent(&mut self.bytes);
+        self.positions -= slot.row.len();
+    }
+
+    /// Forgets what is prepared for a map.
+    pub fn drop_prepared(&mut self, map: MapId)
+        requires { IsPrepared self.old map.made_at }
+        ensures prepared { self.new.prepared ≡ finmap.remove self.old.prepared map.made_at }
+        ensures bytes { self.new.bytes ≡ self.old.bytes }
+        ensures loans { self.new.loans ≡ self.old.loans }
+        ensures spare { self.old.spare ≤ self.new.spare }
+    {
+        let gone = self.loans.remove(&map.made_at);
+        self.positions -= positions_of(gone);
     }
 
     /// Makes room to change `parts` extents. It fails only where that room was missing.
@@ -269,6 +365,7 @@ impl LoanTable {
         requires room { length bytes.now ≤ self.old.spare }
         ensures bytes { self.new.bytes ≡ set_all self.old.bytes (addresses bytes.now) true }
         ensures loans { self.new.loans ≡ self.old.loans }
+        ensures prepared { self.new.prepared ≡ self.old.prepared }
         ensures spare { self.new.spare ≤ self.old.spare }
     {
         marks::set_extents(&mut self.bytes, bytes, true);
@@ -283,6 +380,7 @@ impl LoanTable {
         ensures bytes { self.new.bytes
             ≡ set_all self.old.bytes (bytes_at self.old map.made_at off len) true }
         ensures loans { self.new.loans ≡ self.old.loans }
+        ensures prepared { self.new.prepared ≡ self.old.prepared }
         ensures spare { self.new.spare ≤ self.old.spare }
     {
         let row = row_of(&self.loans, map.made_at);
@@ -294,7 +392,7 @@ impl LoanTable {
     pub fn has_map(&self, map: MapId) -> bool
         ensures { result ≡ finmap.contains_key self.now.loans map.made_at }
     {
-        self.loans.contains_key(&map.made_at)
+        is_open(&self.loans, map.made_at)
     }
 
     /// The number of bytes of a map's buffer.

@@ -6,14 +6,14 @@ use Rattle.busdma_base.specs.Journals.Judging.{judged}
 use Rattle.busdma_base.specs.Runs.{addresses, run_of}
 use Rattle.loan_table.specs.Kinds.{cpu_refusal}
 use Rattle.loan_table.specs.Table.{is_marked}
-use Rattle.loan_table.specs.Trees.{of_tree}
+use Rattle.loan_table.specs.Trees.{opened}
 use Rattle.loan_table.proofs.Addresses.{no_extent}
 use Rattle.loan_table.proofs.Judgement.{judged-fine, judged-refused, length-run_of}
 use Rattle.loan_table.proofs.access.judge_extents.Goals as goal
 
 pub returns-in-Refused : goal.returns-in-Refused
 returns-in-Refused c =
-    let refusal = cpu_refusal c.args.access (is_marked c.args.bytes.now.bytes) (of_tree c.args.loans.now) in
+    let refusal = cpu_refusal c.args.access (is_marked c.args.bytes.now.bytes) (opened c.args.loans.now) in
     let extents = c.args.extents.now in
     let i = c.loop-extent.extent-index in
     sym (judged-refused refusal c.loop-extent.at _ (addresses (drop (i + 1) extents)) c.in-Refused.report
@@ -23,7 +23,7 @@ returns-in-Refused c =
 
 pub loop-extent-preserved : goal.loop-extent-preserved
 loop-extent-preserved c =
-    let refusal = cpu_refusal c.args.access (is_marked c.args.bytes.now.bytes) (of_tree c.args.loans.now) in
+    let refusal = cpu_refusal c.args.access (is_marked c.args.bytes.now.bytes) (opened c.args.loans.now) in
     let extents = c.args.extents.now in
     let i = c.loop-extent.extent-index in
     let extent = slice_index_or extents i no_extent in

@@ -3,12 +3,12 @@ use Rattle.busdma_base.specs.Journals.Judging.{judged}
 use Rattle.busdma_base.specs.Runs.{run_of}
 use Rattle.loan_table.specs.Kinds.{cpu_refusal}
 use Rattle.loan_table.specs.Table.{is_marked}
-use Rattle.loan_table.specs.Trees.{of_tree}
+use Rattle.loan_table.specs.Trees.{opened}
 use Rattle.loan_table.proofs.access.judge_run.Given as goal
 
 abbrev pub invariant-loop-pa : goal.invariant-loop-pa
 invariant-loop-pa l =
-    let refusal = cpu_refusal l.access (is_marked l.bytes.bytes) (of_tree l.loans) in
+    let refusal = cpu_refusal l.access (is_marked l.bytes.bytes) (opened l.loans) in
     record {
       judged_so_far : judged refusal l.at (run_of l.pa (l.pa-end - l.pa))
           ≡ judged refusal l.place (run_of l.run.pa.0 l.run.len);

@@ -1,10 +1,10 @@
-use Rattle.std.proofs.Common.{ap, sym, ◌∙◌}
-use Rattle.std.specs.List.{list_any}
+use Rattle.std.proofs.Common.{sym, refl, ◌∙◌}
 use Rattle.std.specs.Map.Iter.{deref_pair}
 use Rattle.std.proofs.lemmas.Map.Iter.{rest_more, rest_all}
 use Rattle.loan_table.specs.Loans.{lends}
 use Rattle.loan_table.specs.Kinds.{test_of}
-use Rattle.loan_table.proofs.Trees.{entries-from_tree}
+use Rattle.loan_table.specs.Trees.{slot_lends}
+use Rattle.loan_table.proofs.Trees.{any-opened}
 use Rattle.loan_table.proofs.LoansInTree.{any_here, any_nowhere}
 use Rattle.loan_table.proofs.loans.lent.Goals as goal
 
@@ -12,10 +12,12 @@ pub returns-then-lends : goal.returns-then-lends
 returns-then-lends c =
     any_here _ c.args.loans.now.entries _ _ _ c.loop-id.invariant
     (rest_more deref_pair _ _ _ _ c.in-Some.is c.next.ensures.steps) (sym c.lends.ensures ∙ c.if-lends.true)
-    ∙ ap (list_any (λ e. lends (test_of c.args.way) c.args.pa e.1)) (sym (entries-from_tree _ c.requires))
+    ∙ any-opened (λ e. lends (test_of c.args.way) c.args.pa e.1) (λ e. slot_lends (test_of c.args.way) c.args.pa e.1)
+    (λ k slot. refl) c.args.loans.now.entries c.requires
 
 pub returns : goal.returns
 returns c =
     any_nowhere _ c.args.loans.now.entries _ c.loop-id.invariant
     (rest_all deref_pair _ _ _ c.in-None.is c.next.ensures.steps)
-    ∙ ap (list_any (λ e. lends (test_of c.args.way) c.args.pa e.1)) (sym (entries-from_tree _ c.requires))
+    ∙ any-opened (λ e. lends (test_of c.args.way) c.args.pa e.1) (λ e. slot_lends (test_of c.args.way) c.args.pa e.1)
+    (λ k slot. refl) c.args.loans.now.entries c.requires

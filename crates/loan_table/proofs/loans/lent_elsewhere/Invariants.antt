@@ -1,10 +1,10 @@
 use Rattle.std.proofs.Common.{◌≡◌, ◌==◌, ◌&&◌, not}
 use Rattle.std.specs.List.{list_any}
-use Rattle.loan_table.specs.Loans.{lends}
 use Rattle.loan_table.specs.Kinds.{test_of}
+use Rattle.loan_table.specs.Trees.{slot_lends}
 use Rattle.loan_table.proofs.loans.lent_elsewhere.Given as goal
 
 abbrev pub invariant-loop-id : goal.invariant-loop-id
 invariant-loop-id l =
-    list_any (λ e. not (e.0 == l.map) && lends (test_of l.way) l.pa e.1) l.id-iterator
-    ≡ list_any (λ e. not (e.0 == l.map) && lends (test_of l.way) l.pa e.1) l.loans.entries
+    list_any (λ e. not (e.0 == l.map) && slot_lends (test_of l.way) l.pa e.1) l.id-iterator
+    ≡ list_any (λ e. not (e.0 == l.map) && slot_lends (test_of l.way) l.pa e.1) l.loans.entries

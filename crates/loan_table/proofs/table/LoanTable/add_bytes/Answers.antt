@@ -3,7 +3,7 @@ use Rattle.busdma_base.specs.Runs.{run_of}
 use Rattle.loan_table.specs.Kept.{AreLow}
 use Rattle.loan_table.specs.Loans.{loan_of, addresses_of}
 use Rattle.loan_table.specs.Table.{AreIn, set_all}
-use Rattle.loan_table.specs.Trees.{of_tree}
+use Rattle.loan_table.specs.Trees.{closed, opened}
 use Rattle.loan_table.proofs.Addresses.{AreIn-set_all, AreLow-add}
 use Rattle.loan_table.proofs.Rooms.{room_made}
 use Rattle.loan_table.proofs.table.LoanTable.add_bytes.Goals as goal
@@ -14,8 +14,10 @@ invariant_of-self-2 c =
     let is = c.add_run.ensures.bytes ∙ ap (λ b. set_all b run c.args.known) c.reserve.ensures.bytes in
     record {
       ordered = c.self.invariant.ordered;
-      inside = λ m. subst (λ b. AreIn b (addresses_of (loan_of (of_tree c.self.inside.loans) m).positions)) (sym is)
+      inside = λ m. subst (λ b. AreIn b (addresses_of (loan_of (opened c.self.inside.loans) m).positions)) (sym is)
           (AreIn-set_all _ run c.args.known _ (c.self.invariant.inside m));
+      prepared = λ m. subst (λ b. AreIn b (addresses_of (loan_of (closed c.self.inside.loans) m).positions)) (sym is)
+          (AreIn-set_all _ run c.args.known _ (c.self.invariant.prepared m));
       low =
           subst AreLow (sym is) (AreLow-add c.self.inside.bytes.bytes c.args.pa.0 c.args.len c.args.known
           c.requires.below c.self.invariant.low);

@@ -1,7 +1,7 @@
 use Rattle.std.proofs.Common.{sym, subst, arith}
 use Rattle.busdma_base.specs.Runs.{run_of}
 use Rattle.loan_table.specs.Kept.{AreLow, HasItsBytes}
-use Rattle.loan_table.specs.Trees.{of_tree}
+use Rattle.loan_table.specs.Trees.{closed, opened}
 use Rattle.loan_table.proofs.Addresses.{run_fits}
 use Rattle.loan_table.proofs.Removal.{HasItsBytes-without, AreLow-without}
 use Rattle.loan_table.proofs.table.LoanTable.drop_bytes.Goals as goal
@@ -18,9 +18,13 @@ invariant_of-self c =
     record {
       ordered = c.self.invariant.ordered;
       inside =
-          subst (λ bytes. HasItsBytes bytes (of_tree c.self.inside.loans)) (sym gone)
-          (HasItsBytes-without c.self.inside.bytes.bytes (of_tree c.self.inside.loans) run
+          subst (λ bytes. HasItsBytes bytes (opened c.self.inside.loans)) (sym gone)
+          (HasItsBytes-without c.self.inside.bytes.bytes (opened c.self.inside.loans) run
           (rw (← c.self.view_is) at c.requires.free) c.self.invariant.inside);
+      prepared =
+          subst (λ bytes. HasItsBytes bytes (closed c.self.inside.loans)) (sym gone)
+          (HasItsBytes-without c.self.inside.bytes.bytes (closed c.self.inside.loans) run
+          (rw (← c.self.view_is) at c.requires.unprepared) c.self.invariant.prepared);
       low = subst AreLow (sym gone) (AreLow-without c.self.inside.bytes.bytes run c.self.invariant.low);
       counted = c.self.invariant.counted;
       room = record {

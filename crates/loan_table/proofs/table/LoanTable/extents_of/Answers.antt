@@ -2,7 +2,7 @@ use Rattle.std.proofs.Common.{◌+◌, ap, sym, ◌∙◌, length, ◌≤◌, su
 use Rattle.busdma_base.specs.Runs.{addresses}
 use Rattle.loan_table.specs.Loans.{loan_of}
 use Rattle.loan_table.specs.Table.{AreIn}
-use Rattle.loan_table.specs.Trees.{of_tree}
+use Rattle.loan_table.specs.Trees.{opened}
 use Rattle.loan_table.proofs.Extending.{AllLow, length-addresses, length-range}
 use Rattle.loan_table.proofs.Marking.{AreIn-range}
 use Rattle.loan_table.proofs.table.LoanTable.extents_of.Goals as goal
@@ -22,7 +22,7 @@ returns-clause-there c =
 
 pub returns-clause-total : goal.returns-clause-total
 returns-clause-total c =
-    let ps = (loan_of (of_tree c.self.inside.loans) c.args.map.made_at).positions in
+    let ps = (loan_of (opened c.self.inside.loans) c.args.map.made_at).positions in
     let range : c.args.off + c.args.len ≤ length ps = rw (← c.self.view_is) at c.requires.range in
     sym (length-addresses c.new.result) ∙ ap length (ap addresses c.new.ensures ∙ c.in_ok-extents.ensures.bytes)
     ∙ rw (c.range.ensures.is, c.row_of-row.ensures) (length-range c.args.off c.args.len ps range)

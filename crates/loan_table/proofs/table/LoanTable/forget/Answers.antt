@@ -1,87 +1,104 @@
-use Rattle.std.proofs.Common.{◌≡◌, ◌+◌, length, ap, sym, ◌∙◌, subst, false, is_some, arith}
+use Rattle.std.proofs.Common.{◌≡◌, ◌+◌, length, ap, sym, ◌∙◌, subst, true, false, is_some, refl, None, arith}
 use Rattle.std.specs.List.{filter}
 use Rattle.loan_table.specs.Kept.{AreLow, position_count}
 use Rattle.loan_table.specs.Loans.{Loan, to_write, addresses_of}
 use Rattle.loan_table.specs.Table.{AreIn, set_all}
 use Rattle.loan_table.proofs.Addresses.{AreIn-set_all, AreLow-set_all}
-use Rattle.loan_table.proofs.LoansInTree.{loan_found, is_there}
+use Rattle.loan_table.proofs.LoansInTree.{loan_found}
 use Rattle.loan_table.proofs.Marking.{take_loan, AreIn-filter}
 use Rattle.loan_table.proofs.Rooms.{count_removed, left_by_map}
-use Rattle.loan_table.proofs.Trees.{from_tree_remove}
+use Rattle.loan_table.proofs.Trees.{closed_stay, is_there, loans_in-change, open_there}
 use Rattle.loan_table.proofs.table.LoanTable.forget.Goals as goal
 
-pub unwrap-row-requires : goal.unwrap-row-requires
-unwrap-row-requires c = ap is_some c.remove.ensures.value
-    ∙ is_there c.self.inside.loans.entries c.args.map.made_at (rw (← c.self.view_is) at c.requires)
+pub unwrap-slot-requires : goal.unwrap-slot-requires
+unwrap-slot-requires c = ap is_some c.remove.ensures.value
+    ∙ is_there true c.self.inside.loans.entries c.args.map.made_at (rw (← c.self.view_is) at c.requires)
 
 pub lose_lent-requires-clause-there : goal.lose_lent-requires-clause-there
 lose_lent-requires-clause-there c =
+    let at = sym c.remove.ensures.value ∙ c.unwrap-slot.ensures in
     subst (λ (l : Loan). AreIn c.self.inside.bytes.bytes (addresses_of l.positions))
-    (loan_found c.self.inside.loans.entries c.args.map.made_at _ (sym c.remove.ensures.value ∙ c.unwrap-row.ensures))
+    (loan_found c.self.inside.loans.entries c.args.map.made_at _ at
+    (open_there _ _ _ at (rw (← c.self.view_is) at c.requires)))
     (c.self.invariant.inside c.args.map.made_at)
 
 pub lose_lent-requires-clause-room : goal.lose_lent-requires-clause-room
 lose_lent-requires-clause-room c =
     let sum : position_count c.remove.new.self.entries
-    + length c.unwrap-row.result.positions ≡ c.self.inside.positions =
-    ap (λ es. position_count es + length c.unwrap-row.result.positions) c.remove.ensures.entries
-    ∙ count_removed c.self.inside.loans.entries _ c.unwrap-row.result (sym c.remove.ensures.value
-    ∙ c.unwrap-row.ensures) ∙ c.self.invariant.counted in
+    + length c.unwrap-slot.result.row.positions ≡ c.self.inside.positions =
+    ap (λ es. position_count es + length c.unwrap-slot.result.row.positions) c.remove.ensures.entries
+    ∙ count_removed c.self.inside.loans.entries _ c.unwrap-slot.result (sym c.remove.ensures.value
+    ∙ c.unwrap-slot.ensures) ∙ c.self.invariant.counted in
     omega (arith, sum, c.self.invariant.room.forgets)
 
 pub overflow_sub-self : goal.overflow_sub-self
 overflow_sub-self c =
     let sum : position_count c.remove.new.self.entries
-    + length c.unwrap-row.result.positions ≡ c.self.inside.positions =
-    ap (λ es. position_count es + length c.unwrap-row.result.positions) c.remove.ensures.entries
-    ∙ count_removed c.self.inside.loans.entries _ c.unwrap-row.result (sym c.remove.ensures.value
-    ∙ c.unwrap-row.ensures) ∙ c.self.invariant.counted in
+    + length c.unwrap-slot.result.row.positions ≡ c.self.inside.positions =
+    ap (λ es. position_count es + length c.unwrap-slot.result.row.positions) c.remove.ensures.entries
+    ∙ count_removed c.self.inside.loans.entries _ c.unwrap-slot.result (sym c.remove.ensures.value
+    ∙ c.unwrap-slot.ensures) ∙ c.self.invariant.counted in
     omega (arith, sum, c.len.ensures)
 
 pub invariant_of-self : goal.invariant_of-self
 invariant_of-self c =
     let bytes = c.self.inside.bytes.bytes in
+    let es = c.self.inside.loans.entries in
     let map = c.args.map.made_at in
-    let row = c.unwrap-row.result in
-    let gone = addresses_of (filter to_write row.positions) in
-    let found = loan_found c.self.inside.loans.entries map row (sym c.remove.ensures.value ∙ c.unwrap-row.ensures) in
+    let slot = c.unwrap-slot.result in
+    let gone = addresses_of (filter to_write slot.row.positions) in
+    let at = sym c.remove.ensures.value ∙ c.unwrap-slot.ensures in
+    let is_open = open_there es map slot at (rw (← c.self.view_is) at c.requires) in
+    let found = loan_found es map slot at is_open in
     let there = subst (λ (l : Loan). AreIn bytes (addresses_of l.positions)) found (c.self.invariant.inside map) in
     let sum : position_count c.remove.new.self.entries
-    + length c.unwrap-row.result.positions ≡ c.self.inside.positions =
-    ap (λ es. position_count es + length c.unwrap-row.result.positions) c.remove.ensures.entries
-    ∙ count_removed c.self.inside.loans.entries _ c.unwrap-row.result (sym c.remove.ensures.value
-    ∙ c.unwrap-row.ensures) ∙ c.self.invariant.counted in
+    + length c.unwrap-slot.result.row.positions ≡ c.self.inside.positions =
+    ap (λ es. position_count es + length c.unwrap-slot.result.row.positions) c.remove.ensures.entries
+    ∙ count_removed es _ slot at ∙ c.self.invariant.counted in
     record {
       ordered = c.remove.ensures.ordered;
       inside = λ m.
           rw (
             c.lose_lent.ensures.bytes,
-            from_tree_remove c.self.inside.loans.entries c.remove.new.self.entries
-                map c.remove.ensures.updates.0,
+            loans_in-change true es c.remove.new.self.entries map None c.remove.ensures.updates.0,
           )
           (take_loan (λ ps. AreIn (set_all bytes gone false) (addresses_of ps)) _ map tt
           (λ q. AreIn-set_all _ gone false _ (c.self.invariant.inside q)) m);
+      prepared = λ m.
+          rw (
+            c.lose_lent.ensures.bytes,
+            closed_stay es c.remove.new.self.entries map slot None at is_open refl c.remove.ensures.updates.0,
+          )
+          (AreIn-set_all _ gone false _ (c.self.invariant.prepared m));
       low =
           subst AreLow (sym c.lose_lent.ensures.bytes)
-          (AreLow-set_all bytes gone false (AreIn-filter bytes to_write row.positions there) c.self.invariant.low);
+          (AreLow-set_all bytes gone false (AreIn-filter bytes to_write slot.row.positions there) c.self.invariant.low);
       counted = omega (arith, sum, c.len.ensures);
       room = left_by_map c.self.inside.bytes c.lose_lent.new.bytes c.self.inside.positions _ c.self.inside.spare
-          (length row.positions) c.self.invariant.room (omega (arith, sum, c.len.ensures))
+          (length slot.row.positions) c.self.invariant.room (omega (arith, sum, c.len.ensures))
           c.lose_lent.ensures.room c.lose_lent.ensures.there_room;
     }
 
 pub returns-clause-bytes : goal.returns-clause-bytes
 returns-clause-bytes c =
+    let at = sym c.remove.ensures.value ∙ c.unwrap-slot.ensures in
     rw (← c.self.view_is)
     (c.lose_lent.ensures.bytes
     ∙ ap (λ (l : Loan). set_all c.self.inside.bytes.bytes (addresses_of (filter to_write l.positions)) false)
-    (sym (loan_found c.self.inside.loans.entries c.args.map.made_at _
-    (sym c.remove.ensures.value ∙ c.unwrap-row.ensures))))
+    (sym (loan_found c.self.inside.loans.entries c.args.map.made_at _ at
+    (open_there _ _ _ at (rw (← c.self.view_is) at c.requires)))))
 
 pub returns-clause-loans : goal.returns-clause-loans
 returns-clause-loans c =
-    rw (← c.self.view_is) (from_tree_remove c.self.inside.loans.entries c.remove.new.self.entries
-    c.args.map.made_at c.remove.ensures.updates.0)
+    rw (← c.self.view_is) (loans_in-change true c.self.inside.loans.entries c.remove.new.self.entries
+    c.args.map.made_at None c.remove.ensures.updates.0)
+
+pub returns-clause-prepared : goal.returns-clause-prepared
+returns-clause-prepared c =
+    let at = sym c.remove.ensures.value ∙ c.unwrap-slot.ensures in
+    rw (← c.self.view_is) (closed_stay c.self.inside.loans.entries c.remove.new.self.entries c.args.map.made_at
+    c.unwrap-slot.result None at (open_there _ _ _ at (rw (← c.self.view_is) at c.requires)) refl
+    c.remove.ensures.updates.0)
 
 pub returns-clause-there : goal.returns-clause-there
 returns-clause-there c = rw (← c.self.view_is) (AreIn-filter _ to_write _ (c.self.invariant.inside c.args.map.made_at))

@@ -2,7 +2,7 @@ use Rattle.std.proofs.Common.{◌+◌, ◌≤◌, length, sym, subst, arith}
 use Rattle.loan_table.specs.Kept.{AreLow}
 use Rattle.loan_table.specs.Lending.{range_of}
 use Rattle.loan_table.specs.Loans.{loan_of, addresses_of}
-use Rattle.loan_table.specs.Trees.{of_tree}
+use Rattle.loan_table.specs.Trees.{opened}
 use Rattle.loan_table.proofs.Addresses.{AreIn-set_all, AreLow-set_all}
 use Rattle.loan_table.proofs.Marking.{AreIn-range}
 use Rattle.loan_table.proofs.Rooms.{count_bound, needs_spare, range_small, used_bytes}
@@ -15,7 +15,7 @@ set_positions-requires-clause-there c =
 
 pub set_positions-requires-clause-room : goal.set_positions-requires-clause-room
 set_positions-requires-clause-room c =
-    let ps = (loan_of (of_tree c.self.inside.loans) c.args.map.made_at).positions in
+    let ps = (loan_of (opened c.self.inside.loans) c.args.map.made_at).positions in
     let range : c.args.off + c.args.len ≤ length ps = rw (← c.self.view_is) at c.requires.range in
     let all : length ps ≤ c.self.inside.positions =
     rw c.self.invariant.counted at (count_bound c.self.inside.loans.entries c.args.map.made_at) in
@@ -24,7 +24,7 @@ set_positions-requires-clause-room c =
 
 pub invariant_of-self : goal.invariant_of-self
 invariant_of-self c =
-    let ps = (loan_of (of_tree c.self.inside.loans) c.args.map.made_at).positions in
+    let ps = (loan_of (opened c.self.inside.loans) c.args.map.made_at).positions in
     let range : c.args.off + c.args.len ≤ length ps = rw (← c.self.view_is) at c.requires.range in
     let all : length ps ≤ c.self.inside.positions =
     rw c.self.invariant.counted at (count_bound c.self.inside.loans.entries c.args.map.made_at) in
@@ -35,6 +35,9 @@ invariant_of-self c =
       inside =
           λ m. rw c.set_positions.ensures.bytes
           (AreIn-set_all _ (addresses_of c.range.result.now) _ _ (c.self.invariant.inside m));
+      prepared =
+          λ m. rw c.set_positions.ensures.bytes
+          (AreIn-set_all _ (addresses_of c.range.result.now) _ _ (c.self.invariant.prepared m));
       low = subst AreLow (sym c.set_positions.ensures.bytes)
           (AreLow-set_all _ (addresses_of c.range.result.now) _
           (rw (c.range.ensures.is, c.row_of-row.ensures)

@@ -14,6 +14,9 @@ invariant_of-self c = record {
   inside =
       λ m. rw c.set_extents.ensures.bytes (AreIn-set_all _
       (addresses c.args.bytes.now) _ _ (c.self.invariant.inside m));
+  prepared =
+      λ m. rw c.set_extents.ensures.bytes (AreIn-set_all _
+      (addresses c.args.bytes.now) _ _ (c.self.invariant.prepared m));
   low =
       subst AreLow (sym c.set_extents.ensures.bytes)
       (AreLow-set_all _ (addresses c.args.bytes.now) _

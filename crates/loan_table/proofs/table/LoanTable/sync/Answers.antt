@@ -2,7 +2,7 @@ use Rattle.std.proofs.Common.{◌+◌, ◌≤◌, length, false, sym, subst, ◌
 use Rattle.loan_table.specs.Kept.{AreLow}
 use Rattle.loan_table.specs.Lending.{lost}
 use Rattle.loan_table.specs.Loans.{loan_of}
-use Rattle.loan_table.specs.Trees.{of_tree}
+use Rattle.loan_table.specs.Trees.{opened}
 use Rattle.loan_table.proofs.Addresses.{AreIn-set_all, AreLow-set_all}
 use Rattle.loan_table.proofs.Marking.{addresses_of-synced, AreIn-lost}
 use Rattle.loan_table.proofs.Rooms.{count_bound, needs_spare, used_bytes}
@@ -10,7 +10,7 @@ use Rattle.loan_table.proofs.table.LoanTable.sync.Goals as goal
 
 pub lose-requires-clause-room : goal.lose-requires-clause-room
 lose-requires-clause-room c =
-    let ps = (loan_of (of_tree c.self.inside.loans) c.args.map.made_at).positions in
+    let ps = (loan_of (opened c.self.inside.loans) c.args.map.made_at).positions in
     let range : c.args.off + c.args.len ≤ length ps = rw (← c.self.view_is) at c.requires.range in
     let all : length ps ≤ c.self.inside.positions =
     rw c.self.invariant.counted at (count_bound c.self.inside.loans.entries c.args.map.made_at) in
@@ -18,7 +18,7 @@ lose-requires-clause-room c =
 
 pub invariant_of-self : goal.invariant_of-self
 invariant_of-self c =
-    let loans = of_tree c.self.inside.loans in
+    let loans = opened c.self.inside.loans in
     let map = c.args.map.made_at in
     let gone = lost loans map c.args.off c.args.len c.args.ops.0 in
     let ps = (loan_of loans map).positions in
@@ -34,6 +34,9 @@ invariant_of-self c =
             addresses_of-synced loans map c.args.off c.args.len c.args.ops.0 m,
           )
           (AreIn-set_all _ gone false _ (c.self.invariant.inside m));
+      prepared =
+          λ m. rw (c.lose.ensures.bytes, c.mark.ensures.prepared)
+          (AreIn-set_all _ gone false _ (c.self.invariant.prepared m));
       low =
           subst AreLow (sym c.lose.ensures.bytes)
           (AreLow-set_all _ gone false (AreIn-lost _ loans map c.args.off c.args.len c.args.ops.0
@@ -49,10 +52,10 @@ invariant_of-self c =
 
 pub returns-in-Fine-clause-there : goal.returns-in-Fine-clause-there
 returns-in-Fine-clause-there c =
-    rw (← c.self.view_is) (AreIn-lost _ (of_tree c.self.inside.loans) c.args.map.made_at c.args.off c.args.len
+    rw (← c.self.view_is) (AreIn-lost _ (opened c.self.inside.loans) c.args.map.made_at c.args.off c.args.len
     c.args.ops.0 (c.self.invariant.inside c.args.map.made_at))
 
 pub returns-in_default-clause-there : goal.returns-in_default-clause-there
 returns-in_default-clause-there c =
-    rw (← c.self.view_is) (AreIn-lost _ (of_tree c.self.inside.loans) c.args.map.made_at c.args.off c.args.len
+    rw (← c.self.view_is) (AreIn-lost _ (opened c.self.inside.loans) c.args.map.made_at c.args.off c.args.len
     c.args.ops.0 (c.self.invariant.inside c.args.map.made_at))
