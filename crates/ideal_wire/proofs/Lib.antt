@@ -9,6 +9,8 @@ pub mod FaithfulSync
 pub mod Frames
 pub mod Lent
 pub mod Loading
+pub mod Machinery
+pub mod Machines
 pub mod Openings
 pub mod Placed
 pub mod Placing

@@ -1,18 +1,21 @@
 //! Laws of the wire.
 
-ghost use Rattle.std.specs.Prelude.{◌≡◌, ℕ, Bool, true, false, List, Some};
+ghost use Rattle.std.specs.Prelude.{◌≡◌, ℕ, Bool, true, false, List, Some, slice_get};
 ghost use Rattle.std.specs.FinMap.{contains_key, get};
 ghost use Rattle.busdma_base.specs.declared.bounce.hold.HubReply.{HubReply};
 ghost use Rattle.busdma_base.specs.declared.journals.journal.Side.{Side};
 ghost use Rattle.busdma_base.specs.declared.journals.report.Judged.TheVariants.{Fine};
 ghost use Rattle.busdma_base.specs.declared.machine.address.Span.{Span};
 ghost use Rattle.busdma_base.specs.declared.scenarios.scenario.Driver.{Driver};
+ghost use Rattle.busdma_base.specs.declared.scenarios.scenario.Scenario.{Scenario};
 ghost use Rattle.busdma_base.specs.declared.scenarios.script.Item.{Item};
 ghost use Rattle.busdma_base.specs.declared.scenarios.script.Place.{Place};
 ghost use Rattle.busdma_base.specs.Bounce.Account.{Account};
+ghost use Rattle.busdma_base.specs.Bounce.Opening.{maxmem_of};
 ghost use Rattle.busdma_base.specs.Machine.PageRuns.{is_own};
 ghost use Rattle.busdma_base.specs.Machine.Spans.{span_addresses};
 ghost use Rattle.busdma_base.specs.Machine.Wire.{Wire};
+ghost use Rattle.busdma_base.specs.Scenarios.Valid.{IsValid};
 ghost use Rattle.ideal_lane.specs.Accesses.{cpu_read, dev_read};
 ghost use Rattle.ideal_lane.specs.Agreement.{AgreesWith};
 ghost use Rattle.ideal_lane.specs.Asking.{by_reply};
@@ -70,4 +73,13 @@ pub fn accepted_loads_obey()
         let end = finished m o load_at x chunks pages l in
         IfSegments end.answer
         (IsAccepted end.lane m (limits_of l o) (bytes_at l (span_addresses spans)) chunks pages) }
+{}
+
+/// A driver of a valid scenario opens in its machine, and a step leaves it there, whatever the reply
+/// to its call: its tags stay effective ones.
+pub fn steps_stay_in_machine()
+    ensures opens { (s : Scenario) (i : ℕ) (driver : Driver) → IsValid s → slice_get s.drivers i ≡ Some driver →
+        IsInMachine (opening_lane i (maxmem_of s.frames) driver) }
+    ensures stays { (l : LaneState) (s : Side) (r : HubReply) → IsInMachine l →
+        IsInMachine (by_reply (lane_step l s) r).lane }
 {}

@@ -5,4 +5,7 @@
 
 mod laws;
 
-pub use laws::{accepted_loads_obey, opening_is_faithful, reads_are_faithful, step_stays_faithful};
+pub use laws::{
+    accepted_loads_obey, opening_is_faithful, reads_are_faithful, step_stays_faithful,
+    steps_stay_in_machine,
+};
