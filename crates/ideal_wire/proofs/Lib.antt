@@ -12,6 +12,7 @@ pub mod Loading
 pub mod Machinery
 pub mod Machines
 pub mod Openings
+pub mod Pages
 pub mod Placed
 pub mod Placing
 pub mod Positions

@@ -1,7 +1,19 @@
 //! Laws of the wire.
 
-ghost use Rattle.std.specs.Prelude.{◌≡◌, ℕ, Bool, true, false, List, Some, slice_get};
+ghost use Rattle.std.specs.Prelude.{◌≡◌, ◌∷◌, ℕ, Bool, true, false, List, Some, slice_get};
 ghost use Rattle.std.specs.FinMap.{contains_key, get};
+ghost use Rattle.std.specs.List.{AllByRecursion};
+ghost use Rattle.busdma_base.specs.declared.bounce.hold.HubReply.TheVariants.{Called, Granted};
+ghost use Rattle.busdma_base.specs.declared.bounce.zone.Waiter.{Waiter};
+ghost use Rattle.busdma_base.specs.declared.machine.address.Pa.{Pa};
+ghost use Rattle.busdma_base.specs.declared.name.MapId.{MapId};
+ghost use Rattle.busdma_base.specs.declared.tags.tag.TagLimits.{TagLimits};
+ghost use Rattle.busdma_base.specs.Bounce.AccountStep.{called_from, grabbed};
+ghost use Rattle.busdma_base.specs.Bounce.EachFrame.{EachFrame};
+ghost use Rattle.busdma_base.specs.Bounce.Growth.{serves_tag};
+ghost use Rattle.busdma_base.specs.Bounce.History.{IsFrame};
+ghost use Rattle.busdma_base.specs.Bounce.LowPages.{PagesLieLow};
+ghost use Rattle.segment_build.specs.Obeying.{IsReachable};
 ghost use Rattle.busdma_base.specs.declared.bounce.hold.HubReply.{HubReply};
 ghost use Rattle.busdma_base.specs.declared.journals.journal.Side.{Side};
 ghost use Rattle.busdma_base.specs.declared.journals.report.Judged.TheVariants.{Fine};
@@ -10,7 +22,7 @@ ghost use Rattle.busdma_base.specs.declared.scenarios.scenario.Driver.{Driver};
 ghost use Rattle.busdma_base.specs.declared.scenarios.scenario.Scenario.{Scenario};
 ghost use Rattle.busdma_base.specs.declared.scenarios.script.Item.{Item};
 ghost use Rattle.busdma_base.specs.declared.scenarios.script.Place.{Place};
-ghost use Rattle.busdma_base.specs.Bounce.Account.{Account};
+ghost use Rattle.busdma_base.specs.Bounce.Account.{Account, zone_at};
 ghost use Rattle.busdma_base.specs.Bounce.Opening.{maxmem_of};
 ghost use Rattle.busdma_base.specs.Machine.PageRuns.{is_own};
 ghost use Rattle.busdma_base.specs.Machine.Spans.{span_addresses};
@@ -82,4 +94,15 @@ pub fn steps_stay_in_machine()
         IsInMachine (opening_lane i (maxmem_of s.frames) driver) }
     ensures stays { (l : LaneState) (s : Side) (r : HubReply) → IsInMachine l →
         IsInMachine (by_reply (lane_step l s) r).lane }
+{}
+
+/// The device of a tag reaches each page that a map is given by a zone that serves the tag: at a
+/// load, and at the callback of a load that waited.
+pub fn given_pages_are_reached()
+    ensures granted { (t : TagLimits) (a : Account) (m : MapId) (z need : ℕ) (nowait : Bool) (pages : List Pa) →
+        PagesLieLow a → EachFrame IsFrame a → serves_tag t (zone_at a z) ≡ true →
+        (grabbed m z need nowait a).reply ≡ Granted pages → AllByRecursion (IsReachable t) pages }
+    ensures called { (t : TagLimits) (a : Account) (lane : ℕ) (w : Waiter) (ws : List Waiter) (m : MapId)
+        (pages : List Pa) → PagesLieLow a → EachFrame IsFrame a → serves_tag t (zone_at a w.zone.0) ≡ true →
+        (called_from (w ∷ ws) lane a).reply ≡ Called m pages → AllByRecursion (IsReachable t) pages }
 {}
