@@ -1,5 +1,5 @@
 -- Loads: what they name, how they are cut, and how they end. After bus_dmamap_load(9) and the x86 bounce code.
-use Rattle.std.specs.Prelude.{ℕ, ◌+◌, ◌==◌, Bool, true, false, not, List, [], ◌∷◌, ◌++◌, length, Option, Some, None}
+use Rattle.std.specs.Prelude.{ℕ, ◌+◌, ◌==◌, Bool, true, false, not, ◌&&◌, List, [], ◌∷◌, ◌++◌, length, Option, Some, None}
 use Rattle.std.specs.Prelude.{if◌then◌else◌, nat_le, nat_lt, unwrap_or}
 use Rattle.std.specs.FinMap.{get, insert, contains_key}
 use Rattle.std.specs.List.{enumerate_from}
@@ -52,7 +52,7 @@ pub record Asked : Type 0 where
 -- where the map is not a memory's own; or, where it is, not that memory's byte at this place
 abbrev pub is_foreign_to : Option LaneMemory → LaneState → ℕ → ℕ → Bool
 is_foreign_to None l at va = is_memory_byte l va
-is_foreign_to (Some x) l at va = not (va == begin_of x + at)
+is_foreign_to (Some x) l at va = not (va == begin_of x + at && nat_lt at x.len)
 
 -- what stands in the way of a byte of a load of a map
 abbrev pub load_refusal : Bool → Option ℕ → Option ReportName
