@@ -1,5 +1,6 @@
 //! Short runs of one table, with their answers worked out by hand.
 
+mod room;
 mod steps;
 
 use busdma_base::Judged::Fine;

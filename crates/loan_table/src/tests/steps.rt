@@ -28,7 +28,7 @@ pub enum Step {
     Forget(u32),
 }
 
-fn id(made_at: u32) -> MapId {
+pub fn id(made_at: u32) -> MapId {
     MapId {
         lane: LaneId(0),
         made_at,
@@ -61,7 +61,7 @@ fn memory(alloc: Global) -> Result<LoanTable, Fail> {
 }
 
 /// Adds a map over bytes of the memory.
-fn add(
+pub fn add(
     rt: &impl Abort,
     alloc: Global,
     table: &mut LoanTable,
@@ -195,7 +195,7 @@ fn forget(rt: &impl Abort, table: &mut LoanTable, map: MapId) -> Judged {
 }
 
 /// The answer of a step; forgetting has none.
-fn answer_of(
+pub fn answer_of(
     rt: &impl Abort,
     alloc: Global,
     table: &mut LoanTable,

@@ -1,9 +1,8 @@
-use Rattle.std.proofs.Common.{◌≡◌, true, false, refl, ap, sym, ◌∙◌, subst, Some, None, Option}
+use Rattle.std.proofs.Common.{true, false, refl, ap, sym, ◌∙◌, Some}
 use Rattle.std.specs.Option.{option_copied_mut}
-use Rattle.std.specs.Ordering.{nat_cmp}
 use Rattle.std.specs.FinMap.{insert}
 use Rattle.loan_table.specs.Kept.{position_count}
-use Rattle.loan_table.specs.Trees.{loans_in, with_value}
+use Rattle.loan_table.specs.Trees.{loans_in}
 use Rattle.loan_table.proofs.Trees.{loans_in-change, closed_there, is_there, not_missing}
 use Rattle.loan_table.proofs.LoansInTree.{loan_prepared}
 use Rattle.loan_table.proofs.Rooms.{count_set}

@@ -1,6 +1,5 @@
-use Rattle.std.proofs.Common.{◌≡◌, true, false, refl, ap, sym, ◌∙◌, arith, length, Some}
+use Rattle.std.proofs.Common.{◌≡◌, true, false, ap, sym, ◌∙◌, arith, length, Some}
 use Rattle.std.specs.Option.{option_copied_mut}
-use Rattle.std.specs.FinMap.{insert}
 use Rattle.std.proofs.lemmas.Map.Steps.{set_value_same}
 use Rattle.loan_table.specs.declared.slot.Slot.{Slot}
 use Rattle.loan_table.specs.Kept.{position_count}

@@ -1,4 +1,4 @@
-use Rattle.std.proofs.Common.{sym, subst, arith, ◌+◌, ◌≤◌}
+use Rattle.std.proofs.Common.{sym, subst}
 use Rattle.busdma_base.specs.Runs.{run_of}
 use Rattle.loan_table.specs.Kept.{AreLow}
 use Rattle.loan_table.specs.Loans.{loan_of, addresses_of}

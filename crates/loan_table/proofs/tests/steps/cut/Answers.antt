@@ -30,3 +30,11 @@ drop_bytes-requires-clause-free c = λ m.
     ∙ c.new-table.ensures.loans) ∙ ap (λ o. unwrap_or o no_loan) (get-empty nat_cmp m) in
     subst (λ (l : Loan). All (λ p. is_among p.pa (run_of 4098 3) ≡ false) l.positions) (sym none)
     (All-nil (λ (p : Position). is_among p.pa (run_of 4098 3) ≡ false))
+
+pub drop_bytes-requires-clause-unprepared : goal.drop_bytes-requires-clause-unprepared
+drop_bytes-requires-clause-unprepared c = λ m.
+    let none = ap (λ (loans : Loans). loan_of loans m) (c.reserve.ensures.same.prepared
+    ∙ c.add_bytes.ensures.prepared ∙ c.new-table.ensures.prepared)
+    ∙ ap (λ o. unwrap_or o no_loan) (get-empty nat_cmp m) in
+    subst (λ (l : Loan). All (λ p. is_among p.pa (run_of 4098 3) ≡ false) l.positions) (sym none)
+    (All-nil (λ (p : Position). is_among p.pa (run_of 4098 3) ≡ false))

@@ -1,0 +1,34 @@
+use Rattle.std.proofs.Common.{ap, sym, ◌∙◌, subst, true, IsSome, is_some}
+use Rattle.std.specs.Ordering.{nat_cmp}
+use Rattle.std.specs.FinMap.{get, get-empty}
+use Rattle.busdma_base.specs.Runs.{run_of}
+use Rattle.loan_table.specs.Loans.{Loans}
+use Rattle.loan_table.specs.Table.{AreIn, AreNew}
+use Rattle.loan_table.proofs.Addresses.{AreIn-marked}
+use Rattle.loan_table.proofs.Removal.{AreNew-empty}
+use Rattle.loan_table.proofs.Inside.{put_there}
+use Rattle.loan_table.proofs.tests.room.opened.Goals as goal
+
+pub add_bytes-requires-clause-fresh : goal.add_bytes-requires-clause-fresh
+add_bytes-requires-clause-fresh g c =
+    subst (λ bytes. AreNew bytes (run_of 4096 8)) (sym c.new-table.ensures.bytes) (AreNew-empty (run_of 4096 8))
+
+pub prepare_map-requires-clause-fresh : goal.prepare_map-requires-clause-fresh
+prepare_map-requires-clause-fresh g c =
+    ap (λ (loans : Loans). is_some (get loans c.id-map.result.made_at)) (c.add_bytes.ensures.loans
+    ∙ c.new-table.ensures.loans) ∙ ap is_some (get-empty nat_cmp c.id-map.result.made_at)
+
+pub prepare_map-requires-clause-unprepared : goal.prepare_map-requires-clause-unprepared
+prepare_map-requires-clause-unprepared g c =
+    ap (λ (loans : Loans). is_some (get loans c.id-map.result.made_at)) (c.add_bytes.ensures.prepared
+    ∙ c.new-table.ensures.prepared) ∙ ap is_some (get-empty nat_cmp c.id-map.result.made_at)
+
+pub prepare_map-requires-clause-there : goal.prepare_map-requires-clause-there
+prepare_map-requires-clause-there g c =
+    subst (λ bytes. AreIn bytes (run_of 4096 8)) (sym c.in_ok-add_bytes.ensures.bytes)
+    (AreIn-marked c.new-table.result.bytes (run_of 4096 8) true)
+
+pub open_map-requires : goal.open_map-requires
+open_map-requires g c =
+    subst (λ (loans : Loans). IsSome (get loans c.id-map.result.made_at)) (sym c.in_ok-prepare_map.ensures.prepared)
+    (put_there _ _ _)
