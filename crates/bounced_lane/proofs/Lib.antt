@@ -1,0 +1,6 @@
+mod MapTables
+mod MapValues
+mod Marks
+mod OpeningLane
+mod OpeningPages
+mod OwnRuns

@@ -1,0 +1,8 @@
+use Rattle.std.proofs.Common.{◌≡◌, take}
+use Rattle.std.specs.FinMap.{empty}
+use Rattle.bounced_lane.proofs.OwnRuns.{AreKnown}
+use Rattle.bounced_lane.proofs.opening.opening_loans.Given as goal
+
+abbrev pub invariant-loop-run : goal.invariant-loop-run
+invariant-loop-run l =
+    record { loans : l.loans.loans ≡ empty; bytes : AreKnown (take l.run-index l.pages) l.loans.bytes }

@@ -1,0 +1,35 @@
+-- What of a driver's holdings a step leaves as it was.
+use Rattle.std.specs.Prelude.{◌≡◌, ℕ, [], ◌⊎◌}
+use Rattle.phys_memory.specs.Memory.{wire}
+use Rattle.bounced_lane.specs.declared.holdings.Holdings.{Holdings}
+use Rattle.bounced_lane.specs.Held.{devices_of}
+use Rattle.bounced_lane.specs.Ideal.{ideal_of}
+
+-- the bytes of the driver's frames, and those of the bounce pages of each map
+pub record KeepsBytes (h k : Holdings) : Type 0 where
+  pub own : wire k.memory.memory ≡ wire h.memory.memory
+  pub pages : (m : ℕ) → (devices_of k.maps.map m).pages ≡ (devices_of h.maps.map m).pages
+
+-- the bytes of the driver's frames, and those of the bounce pages of each map that still has its pages
+pub record KeepsBytesHeld (h k : Holdings) : Type 0 where
+  pub own : wire k.memory.memory ≡ wire h.memory.memory
+  pub pages : (m : ℕ) → ((devices_of k.maps.map m).pages ≡ (devices_of h.maps.map m).pages)
+      ⊎ ((devices_of k.maps.map m).pages ≡ [])
+
+-- what a step leaves for want of memory: the ideal state and all bytes
+pub record KeepsState (h k : Holdings) : Type 0 where
+  pub ideal : ideal_of k ≡ ideal_of h
+  pub bytes : KeepsBytes h k
+
+-- all but the tags
+pub record KeepsButTags (h k : Holdings) : Type 0 where
+  pub script : k.script ≡ h.script
+  pub pages : k.pages ≡ h.pages
+  pub id : k.id ≡ h.id
+  pub maxmem : k.maxmem ≡ h.maxmem
+  pub memory : k.memory ≡ h.memory
+  pub maps : k.maps ≡ h.maps
+  pub memories : k.memories ≡ h.memories
+  pub loans : k.loans ≡ h.loans
+  pub agenda : k.agenda ≡ h.agenda
+  pub shares : k.shares ≡ h.shares

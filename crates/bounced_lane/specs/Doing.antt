@@ -1,0 +1,27 @@
+-- What a step makes at a door to the bounce lock.
+use Rattle.std.specs.Prelude.{◌≡◌, ℕ, ◌⊎◌}
+use Rattle.busdma_base.specs.declared.bounce.hold.HubCall.{HubCall}
+use Rattle.busdma_base.specs.declared.bounce.hold.HubReply.{HubReply}
+use Rattle.busdma_base.specs.Bounce.Door.{Seen, Allows, Holds, Fails}
+use Rattle.ideal_lane.specs.Asking.{Asking, Gives, Asks}
+
+module _ {X : Type 0} where
+  -- a lane may make the call of a step, if the step makes one
+  abbrev pub IsAllowedBy : Seen → ℕ → Asking X → Type 0
+  IsAllowedBy d lane (Gives x) = Unit {0}
+  IsAllowedBy d lane (Asks c k) = Allows d lane c
+
+  -- a call was made between what the door had seen and what it has seen now, and the step went on with its reply
+  pub record IsCalled (d : Seen) (lane : ℕ) (c : HubCall) (k : HubReply → X) (x : X) (e : Seen) : Type 0 where
+    pub reply : HubReply
+    pub holds : Holds d lane c reply e
+    pub is : x ≡ k reply
+
+  -- a step was done, and made this: with a call, or without one where the door has seen nothing new
+  abbrev pub IsDone : Seen → ℕ → Asking X → X → Seen → Type 0
+  IsDone d lane (Gives y) x e = (x ≡ y) × (e ≡ d)
+  IsDone d lane (Asks c k) x e = IsCalled d lane c k x e
+
+-- memory was wanting: the door has seen nothing new, or it failed
+abbrev pub IsUndone : Seen → Seen → Type 0
+IsUndone d e = (e ≡ d) ⊎ Fails d e

@@ -1,0 +1,9 @@
+pub mod Changes
+pub mod Covered
+pub mod Doing
+pub mod Held
+pub mod Ideal
+pub mod Kept
+pub mod LaneIdeal
+pub mod MapValues
+pub mod OpeningMemory

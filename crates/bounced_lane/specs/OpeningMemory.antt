@@ -1,0 +1,51 @@
+-- The memory in which a driver opens.
+use Rattle.std.specs.Prelude.{◌≡◌, ℕ, ◌+◌, ◌*◌, ◌/◌, ◌%◌, ◌-◌, ◌^◌, ◌≤◌, Bool, true, false, ◌&&◌, nat_le, nat_lt, List}
+use Rattle.std.specs.Prelude.{[], Some, None, if◌then◌else◌, replicate}
+use Rattle.std.specs.List.{list_any}
+use Rattle.std.specs.FinMap.{get}
+use Rattle.busdma_base.specs.declared.scenarios.scenario.PageRun.{PageRun}
+use Rattle.busdma_base.specs.Each.{EachAfter}
+use Rattle.busdma_base.specs.Machine.PageRuns.{pages_end, share_frame, share_page}
+use Rattle.phys_memory.specs.declared.reach.Reach.{Reach}
+use Rattle.phys_memory.specs.Memory.{Memory, physical, wire, has_frame}
+use Rattle.busdma_base.specs.Machine.PageRuns.{physical_in, is_own}
+
+-- a run has a page, lies on page boundaries below the end of pages and in frames of numbers below
+-- 2^30, and shares no frame and no virtual page with a run before it
+pub record IsOwnRun (before : List PageRun) (run : PageRun) : Type 0 where
+  pub some : 1 ≤ run.count
+  pub aligned : run.va.0 % 4096 ≡ 0
+  pub low : run.va.0 + 4096 * run.count ≤ pages_end
+  pub numbered : run.frame + run.count ≤ 2 ^ 30
+  pub own_frames : list_any (share_frame run) before ≡ false
+  pub own_pages : list_any (share_page run) before ≡ false
+
+-- what is needed of the pages of a driver
+abbrev pub ArePages : List PageRun → Type 0
+ArePages pages = EachAfter IsOwnRun [] pages
+
+-- the memory has these pages alone, and 0 in every byte of them
+pub record IsOpeningMemory (pages : List PageRun) (m : Memory) : Type 0 where
+  pub physical : physical m ≡ physical_in pages
+  pub frames : (a : ℕ) → has_frame m (a / 4096) ≡ is_own pages a
+  pub zero : (a : ℕ) → is_own pages a ≡ true → wire m a ≡ 0
+
+-- a number is one of the n from another on
+abbrev pub is_one_of : ℕ → ℕ → ℕ → Bool
+is_one_of first n x = nat_le first x && nat_lt x (first + n)
+
+-- the row of a virtual page, by its number, in a run of pages that can be reached to their ends
+abbrev pub row_of : PageRun → ℕ → Reach
+row_of run v = record { frame = run.frame + (v - run.va.0 / 4096); reach = 4096 }
+
+-- a memory after the pages of a run were added, with 0 in every byte
+pub record HasRun (run : PageRun) (before after : Memory) : Type 0 where
+  pub table : (v : ℕ) → get after.table v ≡ (if is_one_of (run.va.0 / 4096) run.count v
+      then Some (row_of run v) else get before.table v)
+  pub frames : (f : ℕ) → get after.frames f
+      ≡ (if is_one_of run.frame run.count f then Some (replicate 4096 0) else get before.frames f)
+
+-- a memory has none of the pages of a run, and none of its frames
+pub record IsWithout (run : PageRun) (m : Memory) : Type 0 where
+  pub table : (v : ℕ) → is_one_of (run.va.0 / 4096) run.count v ≡ true → get m.table v ≡ None
+  pub frames : (f : ℕ) → is_one_of run.frame run.count f ≡ true → get m.frames f ≡ None

@@ -1,0 +1,10 @@
+//! One driver over the bounce lock: the lane that makes the steps of the ideal driver.
+#![tactic(auto)]
+
+mod holdings;
+mod kept;
+mod lane;
+mod opening;
+
+pub use lane::Lane;
+pub use opening::opening_memory;
