@@ -14,7 +14,7 @@ use Rattle.segment_build.specs.Pieces.{piece_len, pieces_of}
 use Rattle.segment_build.specs.Segmentation.{IsSegmentation, Run, grown, joint, run_pieces, segment_of}
 use Rattle.segment_build.proofs.Places.{piece_fits, piece_some, pieces_step}
 use Rattle.segment_build.proofs.Numbers.{above, most}
-use Rattle.segment_build.proofs.Good.{all_second}
+use Rattle.segment_build.proofs.OneWindow.{all_second}
 
 abbrev pub IsAligned : TagLimits → Segment → Type 0
 IsAligned t s = s.addr.0 % t.alignment ≡ 0

@@ -238,17 +238,6 @@ nothing_fits [] = tt
 nothing_fits (e ∷ []) = tt
 nothing_fits (e ∷ f ∷ es) = omega arith
 
--- behind an extent all of whose bytes are owed
-to_come_behind : (t : TagLimits) (m : ℕ) (last : Option Chunk) (r : Bool) (at owed : ℕ) (es : List Extent)
-    (later : List Chunk) → (es ≡ []) ⊎ (owed ≡ 0) → (k : ℕ) → k ≡ at + owed →
-    option_to_list (carried last (take owed (addresses es)))
-    ++ (chunks_of_bytes t m r k (drop owed (addresses es)) ++ later) ≡ option_to_list last
-    ++ (chunks_of_bytes t m r k (addresses es) ++ later)
-to_come_behind t m last r at owed es later (inl e) k h =
-    let a = ap addresses e in
-    rw (a, take_nil owed, drop_nil owed, carried_none last) refl
-to_come_behind t m last r at owed es later (inr e) k h = rw (e, carried_none last) refl
-
 small_cut : (t : TagLimits) (m : ℕ) (s : Cutter) (e : Extent) (es : List Extent) (later : List Chunk) →
     e.len ≤ s.owed → Fits s.owed (e ∷ es) → to_come t m (continued s e) es later ≡ to_come t m s (e ∷ es) later
 small_cut t m s e [] later le fits =

@@ -10,7 +10,7 @@ use Rattle.segment_build.specs.Building.{placed_pieces}
 use Rattle.segment_build.specs.Chunks.{chunks_of, need_of}
 use Rattle.segment_build.specs.Cutting.{after, closed, closed_part, uncut}
 use Rattle.segment_build.proofs.SoFar.{need_longer, pieces_longer}
-use Rattle.segment_build.proofs.Steps.{holds, holds_at}
+use Rattle.segment_build.proofs.PartByPart.{holds, holds_at}
 
 -- the chunks that are closed with a part more need no more pages than the whole
 pub front_need : (t : TagLimits) (m : ℕ) (ps : List Part) (p : Part) → IsEffective t → IsStream (ps ++ p ∷ []) →

@@ -28,10 +28,10 @@ use Rattle.segment_build.proofs.Chunking.{limit_reaches}
 use Rattle.segment_build.proofs.Counting.{chunk_bytes}
 use Rattle.segment_build.proofs.Covering.{chunks_at}
 use Rattle.segment_build.proofs.Positions.{all_at, all_middle, chunk_at, each_at, each_from, placed_at, segment_at}
-use Rattle.segment_build.proofs.Steps.{own_run}
+use Rattle.segment_build.proofs.PartByPart.{own_run}
 use Rattle.segment_build.proofs.Sound.{all_append, chunks_sound, divides_frame}
 use Rattle.segment_build.proofs.Numbers.{above, is_above, is_less, is_most, is_not_less, less, most, not_less, zero_is}
-use Rattle.segment_build.proofs.Good.{IsGood, all_first, all_second, pieces_good, segments_good}
+use Rattle.segment_build.proofs.OneWindow.{IsGood, all_first, all_second, pieces_good, segments_good}
 use Rattle.segment_build.proofs.Aligned.{IsAligned, multiple, run_aligned, segments_aligned}
 
 -- ---- the device reaches each byte

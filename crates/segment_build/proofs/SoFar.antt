@@ -1,6 +1,6 @@
 -- What is built of chunks, with a chunk more.
 use Rattle.std.proofs.Common.{◌≡◌, ◌<◌, ◌≤◌, List, [], ◌∷◌, ◌++◌, length, drop, Bool, true, false, refl, ap, sym, ◌∙◌}
-use Rattle.std.proofs.Common.{subst, arith, append-nil, length-append}
+use Rattle.std.proofs.Common.{subst, arith, length-append}
 use Rattle.std.specs.Prelude.{Result, Ok, Err, OnOk, IfOk}
 use Rattle.busdma_base.specs.declared.machine.address.Pa.{Pa}
 use Rattle.busdma_base.specs.declared.machine.address.Segment.{Segment}
@@ -95,14 +95,6 @@ still_many t pages cs more segs next bounced later h =
             );
       };
     }
-
-pub nothing_more : (t : TagLimits) (pages : List Pa) (cs : List Chunk) (segs : List Segment) (bounced : List Chunk)
-    (few : Bool) → IsSoFar t pages cs segs bounced few → IsSoFar t pages (cs ++ []) segs bounced few
-nothing_more t pages cs segs bounced few h = subst (λ xs. IsSoFar t pages xs segs bounced few) (sym (append-nil cs)) h
-
-pub nothing_yet : (t : TagLimits) (pages : List Pa) → IsSoFar t pages [] [] [] true
-nothing_yet t pages =
-    record { segments_are = λ _. (cut_is t [], omega arith); bounced_are = λ _. refl; too_many = λ x. absurd cc }
 
 -- ---- room
 

@@ -1,6 +1,7 @@
 pub mod Building
 pub mod Built
 pub mod Chunks
+pub mod Conditions
 pub mod Cutting
 pub mod Joining
 pub mod Obeying

@@ -9,6 +9,7 @@ ghost use Rattle.segment_build.specs.Cutting.{after, closed};
 ghost use Rattle.segment_build.specs.Trace.{IsPage, in_page, placed};
 
 use crate::cutter::Cutter;
+use crate::laws::tag_is_effective;
 use busdma_base::{Chunk, ChunkList, Entry, Pa, Part};
 use dma_tag::Tag;
 use std::alloc::{AllocError, Global};
@@ -29,7 +30,7 @@ pub fn chunks(
     requires bytes { entries_bytes entries.now < 2 ^ 64 }
     ensures { IfOk result (λ l. l ≡ chunks_of tag.now maxmem entries.now) }
 {
-    let _ = tag.limits();
+    tag_is_effective(tag);
     let mut cutter = Cutter::new();
     let mut chunks = Vec::new(alloc);
     for entry in entries {

@@ -5,6 +5,7 @@ ghost use Rattle.std.specs.List.{AllByRecursion, flat_map, sum_by};
 ghost use Rattle.busdma_base.specs.Each.{EachAfter};
 ghost use Rattle.busdma_base.specs.Machine.Entry.{IsEntry, entry_addresses};
 ghost use Rattle.busdma_base.specs.Runs.{addresses};
+ghost use Rattle.busdma_base.specs.Tags.Tag.{IsEffective};
 ghost use Rattle.segment_build.specs.Building.{IsSound, placed_pieces, tag_placed};
 ghost use Rattle.segment_build.specs.Built.{IsFew};
 ghost use Rattle.segment_build.specs.Chunks.{chunks_of};
@@ -17,6 +18,14 @@ ghost use Rattle.segment_build.specs.Trace.{IsPage, IsPlaced, RisesByOne, bus_tr
 use busdma_base::{Chunk, Entry, Pa, Segment};
 use dma_tag::Tag;
 
+/// Every tag's limits are effective. A proof knows it of a tag only once they were read, and so
+/// calls this where the code reads nothing of the tag.
+pub(crate) fn tag_is_effective(tag: &Tag)
+    ensures { IsEffective tag.now }
+{
+    tag.limits();
+}
+
 /// The chunks of entries have their bytes, in order, and each stands at the number of bytes before
 /// it. Each that is bounced fits into one page, and in pages all are in their places.
 pub fn chunks_cover(tag: &Tag, maxmem: u64, entries: &[Entry], pages: &[Pa])
@@ -28,7 +37,7 @@ pub fn chunks_cover(tag: &Tag, maxmem: u64, entries: &[Entry], pages: &[Pa])
     ensures sound { AllByRecursion (IsSound tag.now) (chunks_of tag.now maxmem entries.now) }
     ensures placed { AllByRecursion IsPlaced (tag_placed tag.now (chunks_of tag.now maxmem entries.now) pages.now) }
 {
-    let _ = tag.limits();
+    tag_is_effective(tag);
 }
 
 /// The number of pieces does not depend on the pages of the bounced chunks.
@@ -39,7 +48,7 @@ pub fn pieces_in_any_pages(tag: &Tag, maxmem: u64, entries: &[Entry], pages: &[P
     ensures { length (placed_pieces tag.now (chunks_of tag.now maxmem entries.now) pages.now)
         ≡ length (placed_pieces tag.now (chunks_of tag.now maxmem entries.now) others.now) }
 {
-    let _ = tag.limits();
+    tag_is_effective(tag);
 }
 
 /// A front of a stream is a stream, needs no more bounce pages than the whole, and has no more
@@ -48,7 +57,7 @@ pub fn pieces_in_any_pages(tag: &Tag, maxmem: u64, entries: &[Entry], pages: &[P
 pub fn fronts_ask_no_more(tag: &Tag, maxmem: u64, pages: &[Pa])
     ensures { FrontsAskNoMore tag.now maxmem pages.now }
 {
-    let _ = tag.limits();
+    tag_is_effective(tag);
 }
 
 /// The pieces of chunks have one segmentation. Where the bus addresses of each chunk rise by one,
@@ -59,7 +68,7 @@ pub fn one_segmentation(tag: &Tag, chunks: &[Chunk])
         (chunk_pieces tag.now chunks.now) }
     ensures bytes { segment_bytes (segmentation tag.now (chunk_pieces tag.now chunks.now)) ≡ bus_trace chunks.now }
 {
-    let _ = tag.limits();
+    tag_is_effective(tag);
 }
 
 /// The bytes of the segments of a load are its trace, whatever the pages of its bounced chunks.
@@ -69,7 +78,7 @@ pub fn segments_are_the_trace(tag: &Tag, maxmem: u64, entries: &[Entry], pages: 
     ensures { segment_bytes (segmentation tag.now (placed_pieces tag.now (chunks_of tag.now maxmem entries.now) pages.now))
         ≡ trace tag.now (chunks_of tag.now maxmem entries.now) pages.now }
 {
-    let _ = tag.limits();
+    tag_is_effective(tag);
 }
 
 /// The segments of entries that lie in the machine obey the tag, where they are few enough and the
@@ -81,5 +90,5 @@ pub fn segments_obey(tag: &Tag, maxmem: u64, entries: &[Entry], pages: &[Pa], se
     requires segments { IsFew tag.now (placed_pieces tag.now (chunks_of tag.now maxmem entries.now) pages.now) segments.now }
     ensures { Obeys tag.now (tag_placed tag.now (chunks_of tag.now maxmem entries.now) pages.now) segments.now }
 {
-    let _ = tag.limits();
+    tag_is_effective(tag);
 }

@@ -29,7 +29,7 @@ pub enum Measured {
 ///
 /// `maxmem` is the number at which the machine's frame numbers end. The number of pieces is that of
 /// whichever pages the bounced chunks get.
-#[tactic(auto, using(crate::proofs::Steps::unmapped_last))]
+#[tactic(auto, using(crate::proofs::PartByPart::unmapped_last))]
 pub fn measure<I: Iterator<Item = Part>>(tag: &Tag, maxmem: u64, parts: I) -> Measured
     requires can { I.can_next parts }
     requires ends { IsFinite (I.remaining parts) }

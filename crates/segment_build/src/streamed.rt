@@ -10,6 +10,7 @@ ghost use Rattle.busdma_base.specs.declared.machine.chunk.Part.{Part};
 ghost use Rattle.busdma_base.specs.Machine.Entry.{IsStream};
 ghost use Rattle.segment_build.specs.Building.{IsSoFar, IsSound, placed_pieces};
 ghost use Rattle.segment_build.specs.Chunks.{need_of};
+ghost use Rattle.segment_build.specs.Conditions.{CanBuild};
 ghost use Rattle.segment_build.specs.Streams.{IsBuiltFrom, IsStreamed, OverflowsFrom, stream_chunks};
 ghost use Rattle.segment_build.specs.Trace.{IsPage};
 
@@ -77,17 +78,7 @@ pub fn build_into<I: Iterator<Item = Part>>(
 ) -> bool
     requires can { I.can_next parts }
     requires ends { IsFinite (I.remaining parts) }
-    requires stream { HoldsAlong I.next_gives parts IsStream }
-    requires pages { AllByRecursion IsPage pages.now }
-    requires need { HoldsAlong I.next_gives parts
-        (λ ps. need_of (stream_chunks tag.now maxmem ps) ≤ length pages.now) }
-    requires empty { list.old.items ≡ [] }
-    requires empty_bounced { bounced.old.items ≡ [] }
-    requires room { HoldsAlong I.next_gives parts
-        (λ ps. min (length (placed_pieces tag.now (stream_chunks tag.now maxmem ps) pages.now)) tag.now.nsegments
-        ≤ list.old.spare) }
-    requires bounced_room { HoldsAlong I.next_gives parts
-        (λ ps. need_of (stream_chunks tag.now maxmem ps) ≤ bounced.old.spare) }
+    requires room { CanBuild I.next_gives parts tag.now maxmem pages.now list.old bounced.old }
     ensures built { (ps : List Part) × Drains I.next_gives parts ps
         × MatchBool result (IsBuiltFrom tag.now maxmem pages.now ps list.new.items bounced.new.items)
         (OverflowsFrom tag.now maxmem pages.now ps × (list.new.items ≡ []) × (bounced.new.items ≡ [])) }

@@ -7,6 +7,7 @@ ghost use Rattle.segment_build.specs.Chunks.{chunks_of, need_of};
 
 use super::checks::{are_pages, load_bytes, parts};
 use super::ways::{Listed, Outcome, by_lists, by_room, by_stream};
+use crate::laws::tag_is_effective;
 use crate::{Measured, chunks, measure, need};
 use busdma_base::{Entry, Extent, ExtentList, Pa, TagLimits};
 use dma_tag::Tag;
@@ -90,7 +91,7 @@ fn used_pages(alloc: Global, tag: &Tag, maxmem: u64, entries: &[Entry]) -> Resul
     requires bytes { entries_bytes entries.now ≤ 2 ^ 20 }
     ensures { IfOk result (λ n. n ≡ need_of (chunks_of tag.now maxmem entries.now)) }
 {
-    let _ = tag.limits();
+    tag_is_effective(tag);
     let list = chunks(alloc, tag, maxmem, entries)?;
     Ok(need(list.as_slice()) as usize)
 }

@@ -10,6 +10,7 @@ ghost use Rattle.segment_build.specs.Trace.{IsPage};
 
 use super::checks::parts;
 use crate::cutter::keeps_offset;
+use crate::laws::tag_is_effective;
 use crate::{
     Built, Measured, Streamed, build, build_from, build_into, chunks, fronts_ask_no_more, measure,
     place,
@@ -62,7 +63,7 @@ pub(super) fn by_lists(
     requires pages { AllByRecursion IsPage pages.now }
     requires need { need_of (chunks_of tag.now maxmem entries.now) ≡ length pages.now }
 {
-    let _ = tag.limits();
+    tag_is_effective(tag);
     let mut chunks = chunks(alloc, tag, maxmem, entries)?.into_vec();
     by_chunks(alloc, tag, &mut chunks, pages)
 }
@@ -109,7 +110,7 @@ pub(super) fn by_stream(
     requires pages { AllByRecursion IsPage pages.now }
     requires need { need_of (chunks_of tag.now maxmem entries.now) ≤ length pages.now }
 {
-    let _ = tag.limits();
+    tag_is_effective(tag);
     let parts = parts(alloc, entries)?;
     match build_from(alloc, tag, maxmem, Listed::new(&parts), pages)? {
         Streamed::Segments { list, bounced } => Ok(Some((list, bounced))),

@@ -55,7 +55,7 @@ returns c =
     let done : l.chunks.items ≡ closed t c.args.maxmem uncut (parts_of c.args.entries.now) =
     sym (append-nil l.chunks.items) ∙ rw none at l.invariant.closed in
     let last : l.cutter ≡ after t c.args.maxmem uncut (parts_of c.args.entries.now) = rw none at l.invariant.after in
-    let all = entries_cut t c.args.maxmem c.args.entries.now c.limits.ensures.effective c.requires.entries in
+    let all = entries_cut t c.args.maxmem c.args.entries.now c.tag_is_effective.ensures c.requires.entries in
     let whole =
     with_last t c.args.maxmem (parts_of c.args.entries.now) l.chunks.items
     (chunks_of t c.args.maxmem c.args.entries.now) l.cutter done last all in

@@ -8,7 +8,7 @@ returns c =
     let t = c.args.tag.now in
     let m = c.args.maxmem in
     let es = c.args.entries.now in
-    let eff = c.limits.ensures.effective in
+    let eff = c.tag_is_effective.ensures in
     let sound = chunks_sound t m es eff c.requires.entries in
     record {
       bytes = chunks_cover t m es eff c.requires.entries;

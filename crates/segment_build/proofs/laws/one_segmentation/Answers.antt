@@ -12,5 +12,5 @@ returns c =
     record {
       only = record { is = cut_is t pieces; only = λ others is. one_segmentation t others pieces is };
       bytes = segmentation_bytes t (segmentation t pieces) pieces (cut_is t pieces)
-          ∙ pieces_bytes t c.args.chunks.now c.limits.ensures.effective.maxsegsz c.requires.rising;
+          ∙ pieces_bytes t c.args.chunks.now c.tag_is_effective.ensures.maxsegsz c.requires.rising;
     }

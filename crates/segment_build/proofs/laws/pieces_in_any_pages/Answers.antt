@@ -8,6 +8,6 @@ returns c =
     let t = c.args.tag.now in
     let m = c.args.maxmem in
     let es = c.args.entries.now in
-    let eff = c.limits.ensures.effective in
+    let eff = c.tag_is_effective.ensures in
     as_many t (chunks_of t m es) c.args.pages.now c.args.others.now eff
     (chunks_sound t m es eff c.requires.entries) c.requires.pages c.requires.others

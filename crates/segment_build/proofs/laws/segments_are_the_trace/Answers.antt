@@ -13,7 +13,7 @@ returns c =
     let pages = c.args.pages.now in
     let chunks = chunks_of t c.args.maxmem c.args.entries.now in
     let pieces = placed_pieces t chunks pages in
-    let eff = c.limits.ensures.effective in
+    let eff = c.tag_is_effective.ensures in
     let sound = chunks_sound t c.args.maxmem c.args.entries.now eff c.requires.entries in
     segmentation_bytes t (segmentation t pieces) pieces (cut_is t pieces)
     ∙ pieces_bytes t (tag_placed t chunks pages) eff.maxsegsz

@@ -12,7 +12,7 @@ use Rattle.segment_build.proofs.Counting.{need_append}
 use Rattle.segment_build.proofs.Frames.{as_many}
 use Rattle.segment_build.proofs.Iterating.{holds_so_far, holds_seen, drained}
 use Rattle.segment_build.proofs.Sound.{chunks_sound}
-use Rattle.segment_build.proofs.Steps.{holds, holds_at, pieces_few, pieces_more, unmapped_last}
+use Rattle.segment_build.proofs.PartByPart.{holds, holds_at, pieces_few, pieces_more, unmapped_last}
 use Rattle.segment_build.proofs.measured.measure.Goals as goal
 
 pub take-requires-clause-part : goal.take-requires-clause-part

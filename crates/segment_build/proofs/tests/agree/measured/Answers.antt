@@ -3,7 +3,7 @@ use Rattle.busdma_base.specs.Machine.Entry.{IsStream}
 use Rattle.segment_build.specs.declared.tests.ways.Listed.{Listed}
 use Rattle.segment_build.proofs.Chunking.{stream_of_entries}
 use Rattle.segment_build.proofs.Iterating.{along_first}
-use Rattle.segment_build.proofs.Ready.{IsStream-front}
+use Rattle.segment_build.proofs.FrontsAsk.{IsStream-front}
 use Rattle.segment_build.proofs.tests.agree.measured.Goals as goal
 
 pub measure-requires-clause-stream : goal.measure-requires-clause-stream

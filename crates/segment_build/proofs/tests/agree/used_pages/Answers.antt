@@ -9,7 +9,7 @@ need-requires c =
     let t = c.args.tag.now in
     let m = c.args.maxmem in
     let es = c.args.entries.now in
-    let eff = c.limits.ensures.effective in
+    let eff = c.tag_is_effective.ensures in
     record {
       few = omega (
         arith,

@@ -4,7 +4,7 @@ use Rattle.busdma_base.specs.declared.machine.chunk.Part.TheVariants.{Of, Unmapp
 use Rattle.busdma_base.specs.Machine.Entry.{IsStream}
 use Rattle.segment_build.specs.declared.tests.ways.Listed.{Listed}
 use Rattle.segment_build.proofs.Iterating.{along_first}
-use Rattle.segment_build.proofs.Ready.{IsStream-front}
+use Rattle.segment_build.proofs.FrontsAsk.{IsStream-front}
 use Rattle.segment_build.proofs.tests.rows.first_unmapped_byte.Goals as goal
 
 pub measure-found-requires-clause-stream : goal.measure-found-requires-clause-stream

@@ -8,4 +8,4 @@ pub by_chunks-requires-clause-sound : goal.by_chunks-requires-clause-sound
 by_chunks-requires-clause-sound c =
     let is = c.deref_mut.ensures.value ∙ (c.into_vec-chunks.ensures ∙ c.in_ok-chunks.ensures) in
     subst (AllByRecursion (IsSound c.args.tag.now)) (sym is)
-    (chunks_sound c.args.tag.now c.args.maxmem c.args.entries.now c.limits.ensures.effective c.requires.entries)
+    (chunks_sound c.args.tag.now c.args.maxmem c.args.entries.now c.tag_is_effective.ensures c.requires.entries)

@@ -19,16 +19,17 @@ use Rattle.busdma_base.specs.Tags.Tag.{IsEffective}
 use Rattle.busdma_base.specs.Tags.TagFlags.{keep_pg_offset}
 use Rattle.segment_build.specs.Building.{IsSound, placed_pieces}
 use Rattle.segment_build.specs.Chunks.{chunks_from, chunks_of, chunks_of_bytes, need_of}
+use Rattle.segment_build.specs.Conditions.{HasRooms}
 use Rattle.segment_build.specs.Pieces.{chunk_pieces, pieces_of}
 use Rattle.segment_build.specs.Streams.{FrontsAskNoMore, stream_chunks}
 use Rattle.segment_build.specs.Trace.{bus_addresses, chunk_len, first_page, in_page, page_offset, placed}
 use Rattle.segment_build.proofs.Chunking.{chunks_of_parts, stream_of_entries}
 use Rattle.segment_build.proofs.Counting.{need_append, need_first, pieces_append}
-use Rattle.segment_build.proofs.Good.{all_first, all_second}
-use Rattle.segment_build.proofs.Longer.{BeginsLonger, IsFront, IsLonger, behind, extended, no_front, run_longer}
-use Rattle.segment_build.proofs.Longer.{within_front}
+use Rattle.segment_build.proofs.OneWindow.{all_first, all_second}
+use Rattle.segment_build.proofs.LongerRuns.{BeginsLonger, IsFront, IsLonger, behind, extended, no_front, run_longer}
+use Rattle.segment_build.proofs.LongerRuns.{within_front}
 use Rattle.segment_build.proofs.Sound.{chunks_sound}
-use Rattle.segment_build.proofs.Steps.{bytes_split, own_run}
+use Rattle.segment_build.proofs.PartByPart.{bytes_split, own_run}
 
 -- ---- fronts of streams
 
@@ -229,13 +230,6 @@ front_pieces t cs ds pages eff x y f =
       last_pieces t f.last f.other left eff a b f.longer,
     )
 
--- what a build into lists with room asks of a stream
-pub record IsReady (t : TagLimits) (m : ℕ) (pages : List Pa) (room bounced_room : ℕ) (ps : List Part) : Type 0 where
-  pub stream : IsStream ps
-  pub need : need_of (stream_chunks t m ps) ≤ length pages
-  pub fits : min (length (placed_pieces t (stream_chunks t m ps) pages)) t.nsegments ≤ room
-  pub bounced_fit : need_of (stream_chunks t m ps) ≤ bounced_room
-
 -- the front of a stream asks no more than the whole
 pub fronts_ask : (t : TagLimits) (m : ℕ) (pages : List Pa) → IsEffective t → FrontsAskNoMore t m pages
 fronts_ask t m pages eff xs ys h =
@@ -250,9 +244,9 @@ fronts_ask t m pages eff xs ys h =
           (chunks_sound t m (entries_of (xs ++ ys)) eff h.entries) front;
     }
 
-pub IsReady-front : (t : TagLimits) (m : ℕ) (pages : List Pa) (room bounced_room : ℕ) → FrontsAskNoMore t m pages →
-    (xs ys : List Part) → IsReady t m pages room bounced_room (xs ++ ys) → IsReady t m pages room bounced_room xs
-IsReady-front t m pages room bounced_room fronts xs ys h =
+pub HasRooms-front : (t : TagLimits) (m : ℕ) (pages : List Pa) (room bounced_room : ℕ) → FrontsAskNoMore t m pages →
+    (xs ys : List Part) → HasRooms t m pages room bounced_room (xs ++ ys) → HasRooms t m pages room bounced_room xs
+HasRooms-front t m pages room bounced_room fronts xs ys h =
     let front = fronts xs ys h.stream in
     let need = front.need in
     let pieces = front.pieces in
@@ -262,11 +256,11 @@ IsReady-front t m pages room bounced_room fronts xs ys h =
     record { stream = front.stream; need = omega arith; fits = omega arith; bounced_fit = omega arith }
 
 -- the entries of a load give such a stream
-pub entries_ready : (t : TagLimits) (m : ℕ) (pages : List Pa) (room bounced_room : ℕ) (es : List Entry) →
+pub entries_have_rooms : (t : TagLimits) (m : ℕ) (pages : List Pa) (room bounced_room : ℕ) (es : List Entry) →
     AllByRecursion IsEntry es → entries_bytes es ≤ 2 ^ 20 → need_of (chunks_of t m es) ≤ length pages →
     min (length (placed_pieces t (chunks_of t m es) pages)) t.nsegments ≤ room →
-    need_of (chunks_of t m es) ≤ bounced_room → IsReady t m pages room bounced_room (parts_of es)
-entries_ready t m pages room bounced_room es entries bytes need fits bounced =
+    need_of (chunks_of t m es) ≤ bounced_room → HasRooms t m pages room bounced_room (parts_of es)
+entries_have_rooms t m pages room bounced_room es entries bytes need fits bounced =
     let same = chunks_of_parts t m es in
     record {
       stream = stream_of_entries es entries bytes;

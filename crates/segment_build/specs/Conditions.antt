@@ -1,0 +1,31 @@
+-- What a build into two lists with room asks.
+use Rattle.std.specs.Prelude.{◌≡◌, ◌≤◌, ℕ, min, List, [], length, Option}
+use Rattle.std.specs.Iterator.{HoldsAlong}
+use Rattle.std.specs.List.{AllByRecursion}
+use Rattle.busdma_base.specs.declared.machine.address.Pa.{Pa}
+use Rattle.busdma_base.specs.declared.machine.address.Segment.{Segment}
+use Rattle.busdma_base.specs.declared.machine.chunk.Chunk.{Chunk}
+use Rattle.busdma_base.specs.declared.machine.chunk.Part.{Part}
+use Rattle.busdma_base.specs.declared.tags.tag.TagLimits.{TagLimits}
+use Rattle.busdma_base.specs.Machine.Entry.{IsStream}
+use Rattle.busdma_base.specs.Room.{Roomy}
+use Rattle.segment_build.specs.Building.{placed_pieces}
+use Rattle.segment_build.specs.Chunks.{need_of}
+use Rattle.segment_build.specs.Streams.{stream_chunks}
+use Rattle.segment_build.specs.Trace.{IsPage}
+
+-- parts are a stream that has pages for its need, and room for its segments and for its bounced chunks
+pub record HasRooms (t : TagLimits) (maxmem : ℕ) (pages : List Pa) (room bounced_room : ℕ)
+    (parts : List Part) : Type 0 where
+  pub stream : IsStream parts
+  pub need : need_of (stream_chunks t maxmem parts) ≤ length pages
+  pub fits : min (length (placed_pieces t (stream_chunks t maxmem parts) pages)) t.nsegments ≤ room
+  pub bounced_fit : need_of (stream_chunks t maxmem parts) ≤ bounced_room
+
+-- the pages begin frames, the two lists are empty, and each front of what an iterator gives has pages and room
+pub record CanBuild {S : Type 0} (steps : S → Option Part → S → Type 0) (parts : S) (t : TagLimits) (maxmem : ℕ)
+    (pages : List Pa) (list : Roomy Segment) (bounced : Roomy Chunk) : Type 0 where
+  pub at_frames : AllByRecursion IsPage pages
+  pub empty : list.items ≡ []
+  pub empty_bounced : bounced.items ≡ []
+  pub fronts : HoldsAlong steps parts (HasRooms t maxmem pages list.spare bounced.spare)
