@@ -1,0 +1,39 @@
+-- What a lane knows of the account at its door.
+use Rattle.std.specs.Prelude.{◌≡◌, ℕ, List, [], Option, Some, None, IsTrue}
+use Rattle.busdma_base.specs.Bounce.Door.{Seen, account}
+use Rattle.busdma_base.specs.Bounce.History.{IsSound}
+use Rattle.lane_agreement.specs.Agreement.{Agrees}
+use Rattle.lane_agreement.specs.View.{View, OwnMap, Return, Stage, Idle}
+
+-- the door serves the lane, and the account there agrees with a view of the lane of which this holds
+pub record Knows (lane : ℕ) (Has : View → Type 0) (d : Seen) : Type 0 where
+  pub view : View
+  pub id : view.id ≡ lane
+  pub has : Has view
+  pub served : IsTrue (d.serves lane)
+  pub sound : IsSound d.opening d.history
+  pub agrees : Agrees view (account d)
+
+-- a map of a zone in a stage
+abbrev pub in_zone : ℕ → Stage → Option OwnMap
+in_zone zone stage = Some (record { zone = zone; stage = stage })
+
+-- the maps that the first two operations made, no memory of the next two, and pages to give back
+pub record HasMaps (first second : Option OwnMap) (back : List Return) (l : View) : Type 0 where
+  pub maxmem : l.maxmem ≡ 0x1010
+  pub one : l.map_at 1 ≡ first
+  pub two : l.map_at 2 ≡ second
+  pub three : l.mem_at 3 ≡ None
+  pub four : l.mem_at 4 ≡ None
+  pub returns : l.returns ≡ back
+
+-- no map, and no page to give back
+pub record HasNone (l : View) : Type 0 where
+  pub maxmem : l.maxmem ≡ 0x1010
+  pub maps : (k : ℕ) → l.map_at k ≡ None
+  pub returns : l.returns ≡ []
+
+-- a map of zone 0 that no load uses, and no page to give back
+pub record HasIdle (made_at : ℕ) (l : View) : Type 0 where
+  pub map : l.map_at made_at ≡ in_zone 0 Idle
+  pub returns : l.returns ≡ []
