@@ -74,8 +74,8 @@ module _ (d e : Seen) (one two : Option OwnMap) where
       → Holds d 0 (Grab (of_table 1) zone 2 false) (Granted (as_pages pages)) e
       → Knows 0 (HasMaps (in_zone 0 (Loaded pages)) two []) e
   first_loaded k pages h =
-      granted 0 (HasMaps idle two []) (HasMaps (in_zone 0 (Loaded pages)) two []) d e k (of_table 1) zone 2 false pages asks_one
-      (λ l id has. first_in idle two [] l has 0 (Loaded pages)) h
+      granted 0 (HasMaps idle two []) (HasMaps (in_zone 0 (Loaded pages)) two []) d e k (of_table 1) zone 2 false
+      pages asks_one (λ l id has. first_in idle two [] l has 0 (Loaded pages)) h
 
   pub may_load_second : (nowait : Bool) → Knows 0 (HasMaps one idle []) d → Allows d 0 (Grab (of_table 2) zone 2 nowait)
   may_load_second nowait k = allows 0 (HasMaps one idle []) d k (Grab (of_table 2) zone 2 nowait) (asks_two nowait)
@@ -110,7 +110,8 @@ module _ (d e : Seen) (one two : Option OwnMap) where
       → Holds d 0 TakeCallback (Called m (as_pages pages)) e
       → Knows 0 (HasMaps one (in_zone 0 (Loaded pages)) []) e
   second_called k m pages is h =
-      called 0 (HasMaps one (in_zone 0 (Waiting 2)) []) (HasMaps one (in_zone 0 (Loaded pages)) []) d e k (of_table 2) pages
+      called 0 (HasMaps one (in_zone 0 (Waiting 2)) []) (HasMaps one (in_zone 0 (Loaded pages)) []) d e k
+      (of_table 2) pages
       (λ l id has. subst (λ z. HasMaps one (in_zone 0 (Loaded pages)) [] (staged l 2 z (Loaded pages)))
       (sym (ap zone_in has.two)) (second_in one (in_zone 0 (Waiting 2)) [] l has 0 (Loaded pages)))
       (subst (λ n. Holds d 0 TakeCallback (Called n (as_pages pages)) e) is h)
