@@ -1,6 +1,16 @@
+mod Bytes
+mod Doors
+mod Keeping
+mod MapSteps
 mod MapTables
 mod MapValues
 mod Marks
 mod OpeningLane
 mod OpeningPages
 mod OwnRuns
+mod Places
+mod ReturnSteps
+mod Returned
+mod TagSteps
+mod UnloadSteps
+mod Unloaded

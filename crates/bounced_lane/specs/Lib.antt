@@ -7,3 +7,4 @@ pub mod Kept
 pub mod LaneIdeal
 pub mod MapValues
 pub mod OpeningMemory
+pub mod TagPlan

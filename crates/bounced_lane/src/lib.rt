@@ -4,7 +4,11 @@
 mod holdings;
 mod kept;
 mod lane;
+mod maps;
 mod opening;
+mod returns;
+mod tags;
+mod unloads;
 
 pub use lane::Lane;
 pub use opening::opening_memory;

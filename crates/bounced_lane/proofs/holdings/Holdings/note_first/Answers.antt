@@ -1,0 +1,29 @@
+use Rattle.std.proofs.Common.{◌≡◌, Some, true, ap, sym, ◌∙◌}
+use Rattle.std.specs.FinMap.{get, insert}
+use Rattle.bounced_lane.specs.declared.kept.KeptTag.{KeptTag}
+use Rattle.bounced_lane.specs.Ideal.{ideal_of}
+use Rattle.bounced_lane.specs.Kept.{tag_of}
+use Rattle.bounced_lane.specs.MapValues.{map_values}
+use Rattle.bounced_lane.proofs.MapValues.{map_values-insert}
+use Rattle.bounced_lane.proofs.Places.{reput, get_removed}
+use Rattle.bounced_lane.proofs.holdings.Holdings.note_first.Goals as goal
+
+pub put-requires-clause-vacant : goal.put-requires-clause-vacant
+put-requires-clause-vacant c =
+    ap (λ t. get t.map c.args.tag) c.in-Some.ensures.taken ∙ get_removed c.args.self.now.tags.map c.args.tag
+
+pub returns-in-Some-clause-done : goal.returns-in-Some-clause-done
+returns-in-Some-clause-done c t found =
+    let h = c.args.self.now in
+    let l = ideal_of h in
+    let k = c.args.tag in
+    let v : KeptTag = record { tag = c.in-Some.kept.tag; first_done = true } in
+    let was : Some c.in-Some.kept ≡ get h.tags.map k = sym c.in-Some.is ∙ c.take.ensures.value in
+    let same : c.in-Some.kept ≡ t = cc in
+    (λ i. record l {
+      tags = (ap (λ ts. map_values tag_of ts.map) c.put.ensures
+          ∙ ap (λ ts. map_values tag_of (insert ts.map k v)) c.in-Some.ensures.taken
+          ∙ ap (map_values tag_of) (reput h.tags.map k v)
+          ∙ map_values-insert tag_of h.tags.map k v
+          ∙ ap (λ (x : KeptTag). insert l.tags k (record { limits = x.tag; first_done = true })) same) i;
+    })

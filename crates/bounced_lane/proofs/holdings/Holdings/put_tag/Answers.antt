@@ -1,0 +1,19 @@
+use Rattle.std.proofs.Common.{ap, ◌∙◌}
+use Rattle.std.specs.FinMap.{insert}
+use Rattle.bounced_lane.specs.declared.kept.KeptTag.{KeptTag}
+use Rattle.bounced_lane.specs.Ideal.{ideal_of}
+use Rattle.bounced_lane.specs.Kept.{tag_of}
+use Rattle.bounced_lane.specs.MapValues.{map_values}
+use Rattle.bounced_lane.proofs.MapValues.{map_values-insert}
+use Rattle.bounced_lane.proofs.holdings.Holdings.put_tag.Goals as goal
+
+pub returns-clause-done : goal.returns-clause-done
+returns-clause-done c =
+    let h = c.args.self.now in
+    let l = ideal_of h in
+    let t : KeptTag = record { tag = c.args.tag; first_done = c.args.first_done } in
+    (λ i. record l {
+      tags = (ap (λ ts. map_values tag_of ts.map) c.put.ensures
+          ∙ map_values-insert tag_of h.tags.map c.place-place.result t
+          ∙ ap (λ p. insert l.tags p (tag_of t)) c.place-place.ensures) i;
+    })
