@@ -10,7 +10,8 @@ use Rattle.ideal_lane.proofs.Lookups.{get_put, get_cut, mapped, put_same}
 use Rattle.ideal_lane.proofs.Weights.{weigh-new, weigh-cut}
 use Rattle.bounced_lane.specs.declared.holdings.Holdings.{Holdings}
 use Rattle.bounced_lane.specs.declared.kept.KeptMap.{KeptMap}
-use Rattle.bounced_lane.specs.Covered.{AreLoaded, AreReturning, has_load, lends_pages, pages_due, is_returning, is_tried}
+use Rattle.bounced_lane.specs.Covered.{AreLoaded, AreReturning, has_load, lends_pages, pages_due}
+use Rattle.bounced_lane.specs.Covered.{is_returning, is_tried}
 use Rattle.bounced_lane.specs.Kept.{due_of}
 
 pub record AreMaps (maps : FinMap nat_cmp KeptMap) (loans : Loans) (returns : List QueuedPage) (owed : ℕ)

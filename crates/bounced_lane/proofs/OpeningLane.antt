@@ -1,5 +1,6 @@
 -- The ideal memory of a driver that opens.
-use Rattle.std.proofs.Common.{◌≡◌, ℕ, Bool, true, false, cond, List, [], Option, Some, None, is_some, not, refl, ap, sym, ◌∙◌, arith}
+use Rattle.std.proofs.Common.{◌≡◌, ℕ, Bool, true, false, cond, List, [], Option, Some, None}
+use Rattle.std.proofs.Common.{is_some, not, refl, ap, sym, ◌∙◌, arith}
 use Rattle.std.specs.FinMap.{FinMap, empty, entries, get, get-empty}
 use Rattle.std.specs.List.{list_any}
 use Rattle.std.specs.Ordering.{nat_cmp}
@@ -51,13 +52,14 @@ module _ (pages : List PageRun) (bytes : FinMap nat_cmp Bool) (m : Memory) (know
 pub opens-reaching : (pages : List PageRun) (memories : FinMap nat_cmp KeptMemory) (m : Memory) → memories ≡ empty →
     IsOpeningMemory pages m → Reaches pages memories m
 opens-reaching pages memories m none opening va =
-    ap (λ f. f va) opening.physical ∙ sym (ap (λ ms. reached_in (physical_in pages va) ms va) none ∙ by (physical_in pages va))
+    ap (λ f. f va) opening.physical
+    ∙ sym (ap (λ ms. reached_in (physical_in pages va) ms va) none ∙ by (physical_in pages va))
   where
     by : (o : Option ℕ) → reached_in o empty va ≡ o
     by (Some pa) = refl
     by None =
-        ap (λ es. cond (list_any (λ (e : ℕ × KeptMemory). is_in_memory va (memory_of e.1)) es) (Some (physical_of va)) None)
-        entries-empty
+        ap (λ es. cond (list_any (λ (e : ℕ × KeptMemory). is_in_memory va (memory_of e.1)) es)
+        (Some (physical_of va)) None) entries-empty
 
 -- with no map, nothing is lent and nothing is due
 pub opens-mapless : (maps : FinMap nat_cmp KeptMap) (loans : Loans) (returns : List QueuedPage) (owed : ℕ) →

@@ -1,5 +1,6 @@
 -- The step that gives a page back, and where it leaves the page's map.
-use Rattle.std.proofs.Common.{◌≡◌, ℕ, ◌+◌, ◌==◌, ◌&&◌, ◌||◌, not, Bool, true, false, cond, List, [], ◌∷◌, map, Option, Some, None}
+use Rattle.std.proofs.Common.{◌≡◌, ℕ, ◌+◌, ◌==◌, ◌&&◌, ◌||◌, not, Bool, true, false, cond, List, [], ◌∷◌}
+use Rattle.std.proofs.Common.{map, Option, Some, None}
 use Rattle.std.proofs.Common.{refl, sym, ap, ◌∙◌, arith}
 use Rattle.std.proofs.lemmas.Bool.Decides.{nat_tests}
 use Rattle.std.proofs.lemmas.List.Sums.{sum_by-cons}
@@ -32,7 +33,8 @@ none-counted p (x ∷ xs) = ap (λ n. n == 0) (sum_by-cons (λ y. cond (p y) 1 0
     by : (count_by p xs == 0) ≡ not (list_any p xs) → (b : Bool) →
         (cond b 1 0 + count_by p xs == 0) ≡ not (b || list_any p xs)
     by rest true = more (count_by p xs)
-    by rest false = let same : (0 + count_by p xs == 0) ≡ (count_by p xs == 0) = ap (λ n. n == 0) (omega arith) in same ∙ rest
+    by rest false =
+        let same : (0 + count_by p xs == 0) ≡ (count_by p xs == 0) = ap (λ n. n == 0) (omega arith) in same ∙ rest
 
 pub own-head : (b c : Bool) → (not b || c) ≡ false → (b ≡ true) × (c ≡ false)
 own-head true c h = (refl, h)

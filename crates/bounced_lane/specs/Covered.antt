@@ -1,5 +1,6 @@
 -- What holds together of the parts of a lane.
-use Rattle.std.specs.Prelude.{◌≡◌, ℕ, ◌/◌, ◌≤◌, ◌==◌, Bool, true, false, ◌||◌, not, List, sum_by, drop, length, Option, Some, None}
+use Rattle.std.specs.Prelude.{◌≡◌, ℕ, ◌/◌, ◌≤◌, ◌==◌, Bool, true, false, ◌||◌, not, List, sum_by, drop}
+use Rattle.std.specs.Prelude.{length, Option, Some, None}
 use Rattle.std.specs.Prelude.{if◌then◌else◌}
 use Rattle.std.specs.List.{list_any}
 use Rattle.std.specs.Ordering.{nat_cmp}

@@ -1,6 +1,6 @@
--- The ideal memory of what a driver really holds. A byte that a bounced position lends to write stands in a bounce page
--- of the map that lends it, at the position's bus address; every other byte stands in the driver's own frames. Where
--- the pages of maps lie apart, the device's view of a map has the same bytes there as the wire of the whole driver.
+-- The ideal memory of what a driver really holds. A byte that a bounced position lends to write stands in a bounce
+-- page of the map that lends it, at the position's bus address; every other byte stands in the driver's own frames.
+-- Where the pages of maps lie apart, the device's view of a map has the same bytes there as the wire of the driver.
 use Rattle.std.specs.Prelude.{ℕ, ◌+◌, ◌-◌, ◌==◌, Bool, ◌&&◌, List, [], ◌∷◌, Option, Some, None, if◌then◌else◌}
 use Rattle.std.specs.Prelude.{nat_le, nat_lt, slice_index}
 use Rattle.std.specs.Ordering.{nat_cmp}

@@ -10,7 +10,8 @@ use crate::holdings::Holdings;
 pub struct Lane<'s> {
     pub(crate) holdings: Holdings<'s>,
     ghost length: { holdings.agenda.length ≡ length holdings.script.now },
-    ghost room: { items_left holdings.agenda.place holdings.script.now + items_due holdings.maps.map ≤ holdings.agenda.room },
+    ghost room: { items_left holdings.agenda.place holdings.script.now + items_due holdings.maps.map
+        ≤ holdings.agenda.room },
     ghost new_tags: { IsVacantFrom holdings.agenda.place holdings.tags.map },
     ghost new_maps: { IsVacantFrom holdings.agenda.place holdings.maps.map },
     ghost new_memories: { IsVacantFrom holdings.agenda.place holdings.memories.map },

@@ -52,7 +52,8 @@ impl Holdings<'_> {
 
     /// Whether a tag could bounce, if it exists.
     fn bounces(&self, tag: u32) -> Option<bool>
-        ensures { result ≡ option_map (λ (t : KeptTag). could_bounce t.tag self.now.maxmem) (get self.now.tags.map tag) }
+        ensures { result
+            ≡ option_map (λ (t : KeptTag). could_bounce t.tag self.now.maxmem) (get self.now.tags.map tag) }
     {
         let kept = self.tags.get(tag)?;
         Some(kept.tag.could_bounce(self.maxmem))
@@ -112,7 +113,8 @@ impl Holdings<'_> {
         requires vacant { get self.old.maps.map self.old.agenda.place ≡ None }
         ensures done { (t : KeptTag) → get self.old.tags.map tag ≡ Some t →
             ideal_of self.new ≡ (if grown.made
-            then with_tag tag t.tag true (with_map tag (Some grown.zone.0) (ideal_of self.old)) else ideal_of self.old) }
+            then with_tag tag t.tag true (with_map tag (Some grown.zone.0) (ideal_of self.old))
+            else ideal_of self.old) }
         ensures bytes { KeepsBytes self.old self.new }
         ensures agenda { self.new.agenda ≡ self.old.agenda }
     {

@@ -64,7 +64,9 @@ impl Holdings<'_> {
 fn note_returned(maps: &mut PlaceTable<KeptMap>, map: u32, last: bool)
     requires { is_returning (get maps.old.map map) ≡ true }
     ensures last { last ≡ true → (o : _) → get maps.old.map map ≡ Some o →
-        maps.new ≡ record maps.old { map = insert maps.old.map map (record o { map = record o.map { stage = idle } }) } }
+        maps.new ≡ record maps.old {
+          map = insert maps.old.map map (record o { map = record o.map { stage = idle } });
+        } }
     ensures more { last ≡ false → maps.new ≡ maps.old }
 {
     if last && let Some(mut kept) = maps.take(map) {

@@ -1,4 +1,4 @@
-use Rattle.std.proofs.Common.{◌≡◌, ◌+◌, ◌-◌, ◌++◌, Some, true, false, length, map, unwrap_or, refl, sym, ap, ◌∙◌}
+use Rattle.std.proofs.Common.{◌≡◌, ◌-◌, ◌++◌, Some, true, false, length, map, unwrap_or, refl, sym, ap, ◌∙◌}
 use Rattle.std.proofs.Common.{subst}
 use Rattle.std.proofs.lemmas.Bool.{eq-eqb}
 use Rattle.std.specs.FinMap.{get, insert, remove, contains_key}
@@ -118,7 +118,8 @@ returns-in-Some-clause-done c other found =
     c.forget.ensures.bytes
     ∙ ap (λ (x : MapId). set_all h.loans.bytes (lost_by_forgetting h.loans.loans x.made_at) false) id in
     let in_table : AreIn h.loans.bytes (lost_by_forgetting h.loans.loans k) =
-    subst (λ (x : MapId). AreIn h.loans.bytes (lost_by_forgetting h.loans.loans x.made_at)) id c.forget.ensures.there in
+    subst (λ (x : MapId). AreIn h.loans.bytes (lost_by_forgetting h.loans.loans x.made_at)) id
+    c.forget.ensures.there in
     let agenda = c.push_returns.ensures
     ∙ ap (λ (x : MapId). record h.agenda {
       returns = h.agenda.returns ++ queued_pages x zone p.items;
