@@ -1,4 +1,5 @@
 mod Bytes
+mod Covering
 mod Doors
 mod Keeping
 mod MapSteps
@@ -9,8 +10,11 @@ mod OpeningLane
 mod OpeningPages
 mod OwnRuns
 mod Places
-mod ReturnSteps
+mod Reaching
+mod Reading
 mod Returned
+mod ReturnSteps
 mod TagSteps
-mod UnloadSteps
 mod Unloaded
+mod UnloadSteps
+mod Wires

@@ -8,3 +8,4 @@ pub mod LaneIdeal
 pub mod MapValues
 pub mod OpeningMemory
 pub mod TagPlan
+pub mod Virtual

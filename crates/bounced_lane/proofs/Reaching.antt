@@ -1,0 +1,40 @@
+-- The extents of bytes that a driver reaches.
+use Rattle.std.proofs.Common.{◌≡◌, ℕ, ◌<◌, ◌^◌, Bool, length, map, ap, ◌∙◌, Result, Ok, Err, IfOk, arith}
+use Rattle.std.specs.List.{AllByRecursion}
+use Rattle.std.specs.Ordering.{nat_cmp}
+use Rattle.std.specs.FinMap.{FinMap}
+use Rattle.std.proofs.lemmas.List.{length-map}
+use Rattle.busdma_base.specs.Runs.{run_of, addresses, byte_count, IsExtent}
+use Rattle.phys_memory.specs.declared.walk.Walked.{Walked}
+use Rattle.phys_memory.specs.declared.walk.Walked.TheVariants.{Parts, Unmapped}
+use Rattle.phys_memory.specs.Memory.{Memory}
+use Rattle.phys_memory.specs.Extents.{LiesIn}
+use Rattle.phys_memory.specs.Walk.{IfParts}
+use Rattle.loan_table.specs.Table.{AreIn}
+use Rattle.loan_table.proofs.Judgement.{length-run_of}
+use Rattle.bounced_lane.specs.Covered.{IsCovered}
+use Rattle.bounced_lane.proofs.Covering.{lie_in}
+use Rattle.bounced_lane.proofs.Wires.{byte_count_addresses}
+
+-- they have bytes of the lane's table alone
+pub reach_inside : {E : Type 0} (m : Memory) (bytes : FinMap nat_cmp Bool) (r : Result Walked E) → IsCovered m bytes →
+    IfOk r (λ w. IfParts w (AllByRecursion IsExtent)) → IfOk r (λ w. IfParts w (AllByRecursion (LiesIn m)))
+    → IfOk r (λ w. IfParts w (λ es. AreIn bytes (addresses es)))
+reach_inside m bytes (Ok (Parts es)) c h k = lie_in m bytes es c h k
+reach_inside m bytes (Ok (Unmapped at)) c h k = tt
+reach_inside m bytes (Err e) c h k = tt
+
+-- they have as many bytes
+pub reach_len : {E : Type 0} (f : ℕ → ℕ) (va len : ℕ) (r : Result Walked E) →
+    IfOk r (λ w. IfParts w (λ es. addresses es ≡ map f (run_of va len))) →
+    IfOk r (λ w. IfParts w (λ es. length (addresses es) ≡ len))
+reach_len f va len (Ok (Parts es)) h = ap length h ∙ length-map (run_of va len) f ∙ length-run_of va len
+reach_len f va len (Ok (Unmapped at)) h = tt
+reach_len f va len (Err e) h = tt
+
+pub reach_total : {E : Type 0} (len : ℕ) (r : Result Walked E) → len < 2 ^ 64 →
+    IfOk r (λ w. IfParts w (λ es. length (addresses es) ≡ len)) →
+    IfOk r (λ w. IfParts w (λ es. byte_count es < 2 ^ 64))
+reach_total len (Ok (Parts es)) b h = omega (arith, b, byte_count_addresses es, h)
+reach_total len (Ok (Unmapped at)) b h = tt
+reach_total len (Err e) b h = tt
