@@ -11,9 +11,9 @@ use std::alloc::Global;
 use std::process::Abort;
 use std::test::Fail;
 
-/// Of a load of 20 bytes: eight that keep their offset in frame 32, four that stay where they are,
-/// and eight out of two frames that begin frame 33.
-const CHUNKS: [Chunk; 3] = [
+/// Of a load of 25 bytes: eight that keep their offset in frame 32, four that stay where they are,
+/// eight out of two frames that begin frame 33, and five out of one frame that begin frame 34.
+const CHUNKS: [Chunk; 4] = [
     Chunk {
         at: 0,
         first: Extent {
@@ -47,6 +47,16 @@ const CHUNKS: [Chunk; 3] = [
         bounced: true,
         page: Some(Pa(0x21000)),
     },
+    Chunk {
+        at: 20,
+        first: Extent {
+            pa: Pa(0x3010),
+            len: 5,
+        },
+        rest: None,
+        bounced: true,
+        page: Some(Pa(0x22000)),
+    },
 ];
 
 /// A frame of the driver's that holds 0 in every byte.
@@ -78,6 +88,8 @@ fn buffer(rt: &impl Abort, alloc: Global) -> Result<LanePages, Fail> {
     assert!(rt; memory.has_frame(3));
     memory.write(Pa(0x3000), &[0x21, 0x22, 0x23, 0x24]);
     assert!(rt; memory.has_frame(3));
+    memory.write(Pa(0x3010), &[0x41, 0x42, 0x43, 0x44, 0x45]);
+    assert!(rt; memory.has_frame(3));
     memory.write(Pa(0x3ffc), &[0x31, 0x32, 0x33, 0x34]);
     Ok(memory)
 }
@@ -89,8 +101,9 @@ fn into(off: u64, len: u64, memory: &LanePages, pages: &mut [Page])
     requires three { has_frame memory.now.memory 3 ≡ true }
     requires beside { has_frame memory.now.memory 32 ≡ false }
     requires above { has_frame memory.now.memory 33 ≡ false }
-    requires pages { frames_of pages.old ≡ 32 ∷ 33 ∷ [] }
-    ensures { frames_of pages.new ≡ 32 ∷ 33 ∷ [] }
+    requires highest { has_frame memory.now.memory 34 ≡ false }
+    requires pages { frames_of pages.old ≡ 32 ∷ 33 ∷ 34 ∷ [] }
+    ensures { frames_of pages.new ≡ 32 ∷ 33 ∷ 34 ∷ [] }
 {
     copy_in(&CHUNKS, off, len, memory, pages);
 }
@@ -98,12 +111,13 @@ fn into(off: u64, len: u64, memory: &LanePages, pages: &mut [Page])
 /// Copies a range of the load back from its pages.
 fn back(rt: &impl Abort, off: u64, len: u64, memory: &mut LanePages, pages: &[Page])
     requires range { off + len < 2 ^ 64 }
-    requires pages { frames_of pages.now ≡ 32 ∷ 33 ∷ [] }
+    requires pages { frames_of pages.now ≡ 32 ∷ 33 ∷ 34 ∷ [] }
 {
     assert!(rt; memory.has_frame(5));
     assert!(rt; memory.has_frame(3));
     assert!(rt; !memory.has_frame(32));
     assert!(rt; !memory.has_frame(33));
+    assert!(rt; !memory.has_frame(34));
     copy_out(&CHUNKS, off, len, memory, pages);
 }
 
@@ -111,22 +125,34 @@ fn back(rt: &impl Abort, off: u64, len: u64, memory: &mut LanePages, pages: &[Pa
 fn ranges_go_into_their_pages(rt: HostRuntime) -> Result<(), Fail> {
     let alloc = rt.alloc();
     let memory = buffer(&rt, alloc)?;
-    let mut pages = [Page::new(alloc, 32, 0xee)?, Page::new(alloc, 33, 0xee)?];
+    let mut pages = [
+        Page::new(alloc, 32, 0xee)?,
+        Page::new(alloc, 33, 0xee)?,
+        Page::new(alloc, 34, 0xee)?,
+    ];
     assert!(rt; memory.has_frame(5));
     assert!(rt; memory.has_frame(3));
     assert!(rt; !memory.has_frame(32));
     assert!(rt; !memory.has_frame(33));
+    assert!(rt; !memory.has_frame(34));
     into(6, 9, &memory, &mut pages);
     into(0, 1, &memory, &mut pages);
+    into(3, 1, &memory, &mut pages);
     into(15, 2, &memory, &mut pages);
-    into(19, 1, &memory, &mut pages);
+    into(19, 2, &memory, &mut pages);
+    into(22, 1, &memory, &mut pages);
+    into(24, 1, &memory, &mut pages);
     assert_eq!(rt;
         &pages[0].bytes()[0xf..0x19],
-        [0xee, 1, 0xee, 0xee, 0xee, 0xee, 0xee, 7, 8, 0xee].as_slice()
+        [0xee, 1, 0xee, 0xee, 4, 0xee, 0xee, 7, 8, 0xee].as_slice()
     );
     assert_eq!(rt;
         &pages[1].bytes()[..9],
         [0x11, 0x12, 0x13, 0x14, 0x21, 0xee, 0xee, 0x24, 0xee].as_slice()
+    );
+    assert_eq!(rt;
+        &pages[2].bytes()[..6],
+        [0x41, 0xee, 0x43, 0xee, 0x45, 0xee].as_slice()
     );
     Ok(())
 }
@@ -139,16 +165,21 @@ fn ranges_come_back(rt: HostRuntime) -> Result<(), Fail> {
     kept.write(0x10, &[0xa0, 0xa1, 0xa2, 0xa3, 0xa4, 0xa5, 0xa6, 0xa7]);
     let mut two_frames = Page::new(alloc, 33, 0xee)?;
     two_frames.write(0, &[0xb0, 0xb1, 0xb2, 0xb3, 0xb4, 0xb5, 0xb6, 0xb7]);
-    let pages = [kept, two_frames];
+    let mut one_frame = Page::new(alloc, 34, 0xee)?;
+    one_frame.write(0, &[0xc0, 0xc1, 0xc2, 0xc3, 0xc4]);
+    let pages = [kept, two_frames, one_frame];
     back(&rt, 6, 9, &mut memory, &pages);
     back(&rt, 0, 1, &mut memory, &pages);
+    back(&rt, 3, 1, &mut memory, &pages);
     back(&rt, 15, 2, &mut memory, &pages);
-    back(&rt, 19, 1, &mut memory, &pages);
+    back(&rt, 19, 2, &mut memory, &pages);
+    back(&rt, 22, 1, &mut memory, &pages);
+    back(&rt, 24, 1, &mut memory, &pages);
     assert!(rt; memory.has_frame(5));
     assert!(rt; memory.has_frame(3));
     assert_eq!(rt;
         memory.bytes_at(Pa(0x500f), 10),
-        [0, 0xa0, 2, 3, 4, 5, 6, 0xa6, 0xa7, 0].as_slice()
+        [0, 0xa0, 2, 3, 0xa3, 5, 6, 0xa6, 0xa7, 0].as_slice()
     );
     assert_eq!(rt;
         memory.bytes_at(Pa(0x5ffa), 6),
@@ -157,6 +188,10 @@ fn ranges_come_back(rt: HostRuntime) -> Result<(), Fail> {
     assert_eq!(rt;
         memory.bytes_at(Pa(0x3000), 5),
         [0xb4, 0x22, 0x23, 0xb7, 0].as_slice()
+    );
+    assert_eq!(rt;
+        memory.bytes_at(Pa(0x300f), 7),
+        [0, 0xc0, 0x42, 0xc2, 0x44, 0xc4, 0].as_slice()
     );
     assert_eq!(rt;
         memory.bytes_at(Pa(0x3ffb), 5),
