@@ -14,14 +14,13 @@ use Rattle.busdma_base.specs.Runs.{run_of, addresses, byte_count}
 use Rattle.phys_memory.specs.Memory.{Memory, has_frame, written, rewritten}
 use Rattle.phys_memory.specs.Extents.{LiesIn}
 use Rattle.loan_table.specs.declared.position.Position.{Position}
-use Rattle.loan_table.specs.Lending.{range_of}
 use Rattle.loan_table.specs.Loans.{addresses_of}
 use Rattle.loan_table.proofs.Addresses.{no_extent}
 use Rattle.loan_table.proofs.Marking.{no_position}
 use Rattle.loan_table.proofs.Judgement.{length-run_of}
 use Rattle.bounced_lane.specs.Covered.{IsCovered}
 use Rattle.phys_memory.specs.Frames.{Lie, SamePages}
-use Rattle.busdma_base.specs.Machine.Wire.{put}
+use Rattle.busdma_base.specs.Machine.Wire.{put, stretch}
 use Rattle.bounced_lane.proofs.Marks.{has_inserted}
 
 -- nothing is written without values
@@ -177,7 +176,7 @@ front (p ∷ ps) [] w = refl
 front (p ∷ ps) (v ∷ vs) w = front ps vs (λ b. cond (b == p.pa) v (w b))
 
 pub wired_front : (buffer : List Position) (off : ℕ) (bytes : List ℕ) (w : ℕ → ℕ) →
-    put (addresses_of (drop off buffer)) bytes w ≡ put (addresses_of (range_of off (length bytes) buffer)) bytes w
+    put (addresses_of (drop off buffer)) bytes w ≡ put (addresses_of (stretch off (length bytes) buffer)) bytes w
 wired_front buffer off bytes w = front (drop off buffer) bytes w
 
 -- a byte of the lane's table lies in a frame
@@ -188,12 +187,12 @@ in_frame m bytes a c h = sym (c a) ∙ h
 -- one byte of a load is read, and the others are left to read
 pub byte_read : (buffer : List Position) (at end : ℕ) (items now : List ℕ) (w : ℕ → ℕ) (v : ℕ) → at < end →
     end ≤ length buffer → now ≡ items ++ v ∷ [] → v ≡ w (slice_index (addresses_of buffer) at)
-    → now ++ map w (addresses_of (range_of (at + 1) (end - (at + 1)) buffer)) ≡ items
-    ++ map w (addresses_of (range_of at (end - at) buffer))
+    → now ++ map w (addresses_of (stretch (at + 1) (end - (at + 1)) buffer)) ≡ items
+    ++ map w (addresses_of (stretch at (end - at) buffer))
 byte_read buffer at end items now w v h k is e =
     let more : end - at ≡ suc (end - (at + 1)) = omega arith in
     let left = take (end - (at + 1)) (drop (at + 1) buffer) in
-    let all : addresses_of (range_of at (end - at) buffer) ≡ slice_index (addresses_of buffer) at ∷ addresses_of left =
+    let all : addresses_of (stretch at (end - at) buffer) ≡ slice_index (addresses_of buffer) at ∷ addresses_of left =
     ap (λ n. addresses_of (take n (drop at buffer))) more
     ∙ ap (λ ps. addresses_of (take (suc (end - (at + 1))) ps)) (drop_more buffer at no_position (omega arith))
     ∙ ap (λ a. a ∷ addresses_of left) (sym (get_or-map (λ (p : Position). p.pa) buffer at no_position 0 (omega arith)))

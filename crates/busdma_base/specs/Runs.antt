@@ -1,6 +1,11 @@
 -- The addresses of runs of bytes.
 use Rattle.std.specs.Prelude.{ℕ, zero, suc, ◌+◌, ◌%◌, ◌^◌, ◌<◌, ◌≤◌, List, [], ◌∷◌, ◌++◌, sum_by}
+use Rattle.std.specs.Prelude.{Bool, ◌&&◌, ◌||◌, nat_le, nat_lt}
 use Rattle.busdma_base.specs.declared.machine.address.Extent.{Extent}
+
+-- the m numbers from a on and the n numbers from b on have one in common; neither m nor n is 0
+abbrev pub meet : ℕ → ℕ → ℕ → ℕ → Bool
+meet a m b n = (nat_le b a && nat_lt a (b + n)) || (nat_le a b && nat_lt b (a + m))
 
 -- n addresses from a on
 abbrev pub run_of : ℕ → ℕ → List ℕ

@@ -4,7 +4,7 @@ use Rattle.busdma_base.specs.declared.journals.answer.Answer.TheVariants.{Done, 
 use Rattle.busdma_base.specs.declared.scenarios.script.Place.{Place}
 use Rattle.busdma_base.specs.Runs.{run_of}
 use Rattle.loan_table.specs.Access.{cpu_read_answer, cpu_write_answer, dev_read_answer, dev_write_answer}
-use Rattle.loan_table.specs.Lending.{range_of}
+use Rattle.busdma_base.specs.Machine.Wire.{stretch}
 use Rattle.loan_table.specs.Loans.{loan_of, addresses_of}
 use Rattle.ideal_lane.specs.IdealMemory.{is_known, value, written}
 use Rattle.ideal_lane.specs.State.{LaneState}
@@ -34,7 +34,7 @@ cpu_write place vs l =
 
 -- the bytes of a range of a map's load
 abbrev pub load_bytes : LaneState → ℕ → ℕ → ℕ → List ℕ
-load_bytes l m off len = addresses_of (range_of off len (loan_of l.loans m).positions)
+load_bytes l m off len = addresses_of (stretch off len (loan_of l.loans m).positions)
 
 -- dev_read
 abbrev pub dev_read : ℕ → ℕ → ℕ → LaneState → Asking Outcome

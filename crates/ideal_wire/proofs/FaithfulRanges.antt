@@ -6,7 +6,7 @@ use Rattle.busdma_base.specs.declared.journals.report.Judged.TheVariants.{Fine}
 use Rattle.busdma_base.specs.Journals.Judging.{judged}
 use Rattle.dma_tag.specs.SyncOps.{preread, prewrite, postread, postwrite, has_pre, has_post, is_mixed}
 use Rattle.loan_table.specs.Loans.{loan_of, addresses_of}
-use Rattle.loan_table.specs.Lending.{range_of, loses, sync_refusal, sync_answer}
+use Rattle.loan_table.specs.Lending.{loses, sync_refusal, sync_answer}
 use Rattle.ideal_wire.proofs.Placed.{Faithful}
 use Rattle.ideal_lane.specs.IdealMemory.{forgotten}
 use Rattle.busdma_base.specs.Machine.Wire.{Wire, Traces, stretch}
@@ -27,13 +27,13 @@ module _ (own : ℕ → Bool) (l : LaneState) (traces : Traces) (w : Wire)
   neither false b h = (refl, h)
 
   by_side : (closed : (loan_of l.loans m).coherent ≡ false) →
-      judged (sync_refusal l.loans m ops) off (range_of off len (loan_of l.loans m).positions) ≡ Fine →
+      judged (sync_refusal l.loans m ops) off (stretch off len (loan_of l.loans m).positions) ≡ Fine →
       is_mixed ops ≡ false → (b : Bool) → has_pre ops ≡ b
       →
       Faithful own (record l {
         loans = after l.loans m off len ops;
         memory =
-            forgotten (addresses_of (filter (loses ops) (range_of off len (loan_of l.loans m).positions))) l.memory;
+            forgotten (addresses_of (filter (loses ops) (stretch off len (loan_of l.loans m).positions))) l.memory;
       })
       traces (copied_by ops (stretch off len (traces m)) w)
   by_side closed fine alone true e =
@@ -48,7 +48,7 @@ module _ (own : ℕ → Bool) (l : LaneState) (traces : Traces) (w : Wire)
       → Faithful own (record l {
         loans = cond b l.loans (after l.loans m off len ops);
         memory =
-            forgotten (cond b [] (addresses_of (filter (loses ops) (range_of off len (loan_of l.loans m).positions))))
+            forgotten (cond b [] (addresses_of (filter (loses ops) (stretch off len (loan_of l.loans m).positions))))
             l.memory;
       }) traces (cond b w (copied_by ops (stretch off len (traces m)) w))
   by_map fine alone true e = f
@@ -56,5 +56,5 @@ module _ (own : ℕ → Bool) (l : LaneState) (traces : Traces) (w : Wire)
       by_side e
       (sym
       (ap
-      (λ b. cond b Fine (judged (sync_refusal l.loans m ops) off (range_of off len (loan_of l.loans m).positions)))
+      (λ b. cond b Fine (judged (sync_refusal l.loans m ops) off (stretch off len (loan_of l.loans m).positions)))
       e) ∙ fine) alone (has_pre ops) refl

@@ -9,11 +9,11 @@ use Rattle.busdma_base.specs.declared.journals.report.Judged.TheVariants.{Fine}
 use Rattle.busdma_base.specs.declared.journals.report.ReportName.TheVariants.{MixedSync, Absent}
 use Rattle.busdma_base.specs.declared.scenarios.script.Place.{Place}
 use Rattle.busdma_base.specs.Bounce.Account.{Account}
-use Rattle.busdma_base.specs.Machine.Wire.{Wire, put}
+use Rattle.busdma_base.specs.Machine.Wire.{Wire, put, stretch}
 use Rattle.busdma_base.specs.Runs.{run_of}
 use Rattle.dma_tag.specs.SyncOps.{is_mixed}
 use Rattle.loan_table.specs.Access.{cpu_read_answer, cpu_write_answer, dev_read_answer, dev_write_answer}
-use Rattle.loan_table.specs.Lending.{range_of, sync_answer, marked_range, loses, lost}
+use Rattle.loan_table.specs.Lending.{sync_answer, marked_range, loses, lost}
 use Rattle.loan_table.specs.Lending as lending
 use Rattle.loan_table.specs.Loans.{loan_of, addresses_of}
 use Rattle.loan_table.proofs.Marking.{same_bytes, addresses_of-marked_range}

@@ -14,7 +14,6 @@ use Rattle.busdma_base.specs.declared.journals.answer.Answer.TheVariants.{Done, 
 use Rattle.phys_memory.specs.Translation.{missing, unreached}
 use Rattle.loan_table.specs.declared.position.Position.{Position}
 use Rattle.loan_table.specs.Loans.{loan_of, to_write, in_any_way, lent, addresses_of}
-use Rattle.loan_table.specs.Lending.{range_of}
 use Rattle.loan_table.specs.Access.{cpu_read_answer, cpu_write_answer, dev_read_answer, dev_write_answer}
 use Rattle.loan_table.specs.Access.{cpu_read_refusal, cpu_write_refusal, dev_read_refusal, dev_write_refusal}
 use Rattle.lane_core.specs.Accesses.{values, load_bytes}
@@ -159,7 +158,7 @@ cpu_writes own l traces w f place vs =
 -- ---- the device's, of a range of a map's load
 module _ (own : ℕ → Bool) (l : LaneState) (traces : Traces) (w : Wire)
     (f : IsFaithful own l traces w) (m off len : ℕ) where
-  range_alike : addresses_of (range_of off len (loan_of l.loans m).positions) ≡ buffers (stretch off len (traces m))
+  range_alike : addresses_of (stretch off len (loan_of l.loans m).positions) ≡ buffers (stretch off len (traces m))
   range_alike =
       same_range (λ (p : Position). p.pa) (λ (t : Placed). t.pa) off len
       (loan_of l.loans m).positions (traces m) (sym (f.placed.buffer m))
@@ -167,7 +166,7 @@ module _ (own : ℕ → Bool) (l : LaneState) (traces : Traces) (w : Wire)
   -- a place of the range: the position, and where it stands in the trace
   record At (k : ℕ) (t : Placed) : Type 0 where
     position : Position
-    in_range : slice_get (range_of off len (loan_of l.loans m).positions) k ≡ Some position
+    in_range : slice_get (stretch off len (loan_of l.loans m).positions) k ≡ Some position
     at : IsAt l.loans m (off + k) position
     placed : IsPlacedAt traces m (off + k) t
     same : position.pa ≡ t.pa
@@ -176,7 +175,7 @@ module _ (own : ℕ → Bool) (l : LaneState) (traces : Traces) (w : Wire)
   at_range k t h =
       let q =
       twin_of (λ (t : Placed). t.pa) (λ (p : Position). p.pa) (stretch off len (traces m))
-      (range_of off len (loan_of l.loans m).positions) (sym range_alike) k t h in
+      (stretch off len (loan_of l.loans m).positions) (sym range_alike) k t h in
       record {
         position = q.twin;
         in_range = q.found;
@@ -212,7 +211,7 @@ module _ (own : ℕ → Bool) (l : LaneState) (traces : Traces) (w : Wire)
       let passes =
       dev_read_passes (loan_of l.loans m).coherent p.to_read (is_known l.memory p.pa) DeviceReadUnlent StaleByte
       (fine_at (dev_read_refusal (is_known l.memory) (loan_of l.loans m).coherent) 0
-      (range_of off len (loan_of l.loans m).positions) allowed k p s.in_range) in
+      (stretch off len (loan_of l.loans m).positions) allowed k p s.in_range) in
       ap (λ a. value (l.memory a)) (sym s.same)
       ∙ sym (stands (off + k) p t (value (l.memory p.pa)) s.at s.placed passes.0
       (known_value (l.memory p.pa) passes.1) (lent to_write p.pa l.loans) refl)
@@ -231,7 +230,7 @@ module _ (own : ℕ → Bool) (l : LaneState) (traces : Traces) (w : Wire)
         ((loan_of l.loans m).coherent ≡ true) ⊎ (s.position.to_write ≡ true)
     may_write k t s =
         dev_write_passes (loan_of l.loans m).coherent s.position.to_write DeviceWriteUnlent
-        (fine_at (dev_write_refusal (loan_of l.loans m).coherent) 0 (range_of off len (loan_of l.loans m).positions)
+        (fine_at (dev_write_refusal (loan_of l.loans m).coherent) 0 (stretch off len (loan_of l.loans m).positions)
         allowed k s.position s.in_range)
 
     -- a position that lends a byte of the range is the one of the range

@@ -11,7 +11,7 @@ use Rattle.dma_tag.specs.SyncOps.{preread, prewrite, postread, postwrite}
 use Rattle.loan_table.specs.declared.position.Position.{Position}
 use Rattle.loan_table.specs.Loans.{Loans, loan_of, to_write, to_read, in_any_way, lent, lent_elsewhere, stands_twice}
 use Rattle.loan_table.specs.Loans.{addresses_of}
-use Rattle.loan_table.specs.Lending.{range_of, marked, marked_range, loses, sync_refusal}
+use Rattle.loan_table.specs.Lending.{marked, marked_range, loses, sync_refusal}
 use Rattle.loan_table.proofs.Marking.{same_bytes, addresses_of-marked_range}
 use Rattle.lane_core.specs.Centre.{IsAt, IsPlacedAt, Agrees, IsExclusive, ArePlaced, IsFaithful}
 use Rattle.lane_core.specs.IdealMemory.{IdealMemory, Known, forgotten}
@@ -32,12 +32,12 @@ use Rattle.lane_core.proofs.Positions.{Twin, fine_at, of_range, to_range}
 module _ (own : ℕ → Bool) (l : LaneState) (traces : Traces) (w : Wire)
     (f : IsFaithful own l traces w) (m off len ops : ℕ)
     (closed : (loan_of l.loans m).coherent ≡ false)
-    (fine : judged (sync_refusal l.loans m ops) off (range_of off len (loan_of l.loans m).positions) ≡ Fine) where
+    (fine : judged (sync_refusal l.loans m ops) off (stretch off len (loan_of l.loans m).positions) ≡ Fine) where
   abbrev loans' : Loans
   loans' = after l.loans m off len ops
 
   abbrev memory' : IdealMemory
-  memory' = forgotten (addresses_of (filter (loses ops) (range_of off len (loan_of l.loans m).positions))) l.memory
+  memory' = forgotten (addresses_of (filter (loses ops) (stretch off len (loan_of l.loans m).positions))) l.memory
 
   abbrev range : List Placed
   range = stretch off len (traces m)
@@ -47,12 +47,12 @@ module _ (own : ℕ → Bool) (l : LaneState) (traces : Traces) (w : Wire)
 
   known : (a v : ℕ) → memory' a ≡ Known v → l.memory a ≡ Known v
   known a v h =
-      (known_before (addresses_of (filter (loses ops) (range_of off len (loan_of l.loans m).positions))) l.memory a v
+      (known_before (addresses_of (filter (loses ops) (stretch off len (loan_of l.loans m).positions))) l.memory a v
       h).1
 
   -- a position of the range stands in it
   in_range : (n i : ℕ) (p : Position) → IsAt l.loans n i p → Inside l.loans m off len ops n i →
-      slice_get (range_of off len (loan_of l.loans m).positions) (i - off) ≡ Some p
+      slice_get (stretch off len (loan_of l.loans m).positions) (i - off) ≡ Some p
   in_range n i p h s = to_range (loan_of l.loans m).positions off len i s.1 s.2
       ∙ (sym (λ x. slice_get (loan_of l.loans (s.0 x)).positions i) ∙ h)
 
@@ -64,12 +64,12 @@ module _ (own : ℕ → Bool) (l : LaneState) (traces : Traces) (w : Wire)
       Inside l.loans m off len ops n i → sync_refusal l.loans m ops p ≡ None
   passes n i p h s =
       fine_at (sync_refusal l.loans m ops) off
-      (range_of off len (loan_of l.loans m).positions) fine (i - off) p (in_range n i p h s)
+      (stretch off len (loan_of l.loans m).positions) fine (i - off) p (in_range n i p h s)
 
   not_lost_at : (n i v : ℕ) (p : Position) → IsAt l.loans n i p → Inside l.loans m off len ops n i →
       memory' p.pa ≡ Known v → loses ops p ≡ false
   not_lost_at n i v p h s is =
-      not_lost (loses ops) (range_of off len (loan_of l.loans m).positions)
+      not_lost (loses ops) (stretch off len (loan_of l.loans m).positions)
       (i - off) v p l.memory (in_range n i p h s) is
 
   placed_after : ArePlaced own (record l { loans = loans'; memory = memory' }) traces

@@ -11,7 +11,7 @@ use Rattle.loan_table.specs.Lending.{sync_answer, synced, lost}
 use Rattle.loan_table.specs.Loans.{Loans}
 use Rattle.loan_table.specs.Table.{Table, AreIn, IsSame, IsSynced, OnFine, OnRefused, set_all}
 use Rattle.lane_core.specs.Covered.{IsCovered, SamePages}
-use Rattle.busdma_base.specs.Machine.Wire.{put}
+use Rattle.busdma_base.specs.Machine.Wire.{put, stretch}
 use Rattle.std.proofs.Common.{◌+◌, ◌≤◌, drop, arith, length-take, length-drop}
 use Rattle.std.proofs.lemmas.List.{length-map}
 use Rattle.busdma_base.specs.declared.journals.answer.Answer.TheVariants.{Bytes}
@@ -19,7 +19,6 @@ use Rattle.busdma_base.specs.declared.name.MapId.{MapId}
 use Rattle.busdma_base.specs.declared.scenarios.script.Place.{Place}
 use Rattle.loan_table.specs.declared.position.Position.{Position}
 use Rattle.loan_table.specs.Access.{cpu_read_answer, cpu_write_answer, dev_read_answer, dev_write_answer}
-use Rattle.loan_table.specs.Lending.{range_of}
 use Rattle.loan_table.specs.Loans.{loan_of, addresses_of}
 use Rattle.loan_table.specs.Table.{is_marked}
 use Rattle.lane_core.specs.Accesses.{load_bytes}
@@ -124,7 +123,7 @@ dev_read_done l marks w m off len bytes known loads ends fine is =
     let knows : is_known l.memory ≡ is_marked marks = ap (λ x. is_known x) known ∙ known_shown marks w in
     let answer : dev_read_answer (is_known l.memory) loan off len ≡ Fine =
     ap (λ k. dev_read_answer k loan off len) knows ∙ sym fine in
-    ap (λ vs. gives l (Bytes vs)) (is ∙ dev_values marks w loan.coherent 0 (range_of off len loan.positions) (sym fine)
+    ap (λ vs. gives l (Bytes vs)) (is ∙ dev_values marks w loan.coherent 0 (stretch off len loan.positions) (sym fine)
     ∙ sym (ap (λ x. map (λ a. value (x a)) (load_bytes l m.made_at off len)) known))
     ∙ sym (loads _ ∙ ends _ ∙ passes _ l _ answer)
 
@@ -139,6 +138,6 @@ dev_write_done l o m off vs loads ends fine is = is ∙ sym (loads _ ∙ ends _ 
 
 -- as many bytes as a range of a buffer has
 pub range_size : (off len : ℕ) (buffer : List Position) → off + len ≤ length buffer →
-    length (addresses_of (range_of off len buffer)) ≡ len
-range_size off len buffer h = length-map (range_of off len buffer) (λ p. p.pa)
+    length (addresses_of (stretch off len buffer)) ≡ len
+range_size off len buffer h = length-map (stretch off len buffer) (λ p. p.pa)
     ∙ omega (arith, length-take len (drop off buffer), length-drop off buffer)

@@ -9,8 +9,7 @@ use Rattle.std.proofs.lemmas.Bool.Decides.{nat_tests}
 use Rattle.std.proofs.lemmas.List.Folds.{list_any_more}
 use Rattle.busdma_base.specs.declared.scenarios.scenario.PageRun.{PageRun}
 use Rattle.busdma_base.specs.Each.{EachAfter}
-use Rattle.busdma_base.specs.Machine.PageRuns.{meet}
-use Rattle.busdma_base.specs.Runs.{run_of}
+use Rattle.busdma_base.specs.Runs.{meet, run_of}
 use Rattle.loan_table.specs.Table.{AreNew, set_all}
 use Rattle.lane_core.specs.Opening.{is_own}
 use Rattle.lane_core.specs.OpeningMemory.{IsOwnRun, ArePages, is_one_of}

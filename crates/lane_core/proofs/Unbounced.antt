@@ -14,7 +14,6 @@ use Rattle.busdma_base.specs.declared.journals.report.ReportName.TheVariants.{Ab
 use Rattle.busdma_base.specs.declared.journals.answer.Answer.TheVariants.{Bytes}
 use Rattle.loan_table.specs.declared.position.Position.{Position}
 use Rattle.loan_table.specs.Loans.{Loans, loan_of, addresses_of}
-use Rattle.loan_table.specs.Lending.{range_of}
 use Rattle.loan_table.specs.Access.{dev_read_answer, dev_read_refusal}
 use Rattle.lane_core.specs.Accesses.{load_bytes, values}
 use Rattle.lane_core.specs.Calls as calls
@@ -36,7 +35,7 @@ buses_of (p ∷ ps) = ap (λ xs. p.pa ∷ xs) (buses_of ps)
 
 -- the bus addresses are the bytes' own
 pub unbounced_buses : (loans : Loans) (m off len : ℕ) →
-    buses (stretch off len (unbounced loans m)) ≡ addresses_of (range_of off len (loan_of loans m).positions)
+    buses (stretch off len (unbounced loans m)) ≡ addresses_of (stretch off len (loan_of loans m).positions)
 unbounced_buses loans m off len =
     same_range (λ (t : Placed). t.bus) (λ (p : Position). p.pa) off len (unbounced loans m) (loan_of loans m).positions
     (buses_of (loan_of loans m).positions)
@@ -99,7 +98,7 @@ module _ (l : LaneState) (w : Wire) (held : (a v : ℕ) → l.memory a ≡ Known
   dev_read_held_of m off len Fine e = same_reads (load_bytes l m off len) (λ a. value (l.memory a)) w at
     where
       range : List Position
-      range = range_of off len (loan_of l.loans m).positions
+      range = stretch off len (loan_of l.loans m).positions
 
       at : (k a : ℕ) → slice_get (load_bytes l m off len) k ≡ Some a → value (l.memory a) ≡ w a
       at k a h =

@@ -7,12 +7,11 @@ ghost use Rattle.busdma_base.specs.Journals.Judging.{judged};
 ghost use Rattle.phys_memory.specs.Memory.{physical, wire};
 ghost use Rattle.phys_memory.specs.Translation.{physical_or_0, unreached};
 ghost use Rattle.phys_memory.specs.Walk.{IfParts, verdict};
-ghost use Rattle.loan_table.specs.Lending.{range_of};
 ghost use Rattle.loan_table.specs.Loans.{addresses_of};
 ghost use Rattle.loan_table.specs.Table.{AreIn, HasMap, IsSame, buffer_of, extent_count};
 ghost use Rattle.lane_core.specs.Calls.{unless_foreign};
 ghost use Rattle.lane_core.specs.Covered.{IsCovered, Lie, SamePages};
-ghost use Rattle.busdma_base.specs.Machine.Wire.{put};
+ghost use Rattle.busdma_base.specs.Machine.Wire.{put, stretch};
 ghost use Rattle.lane_core.specs.Lane.{Outcome, gives, virtual, unless_unloaded, unless_past};
 ghost use Rattle.lane_core.specs.Calls as calls;
 ghost use Rattle.lane_core.specs.WireStep as wires;
@@ -249,7 +248,7 @@ fn read_load(
     requires range { off + len ≤ length (buffer_of loans.now map.made_at) }
     requires below { off + len < 2 ^ 64 }
     ensures { IfOk result (λ bytes.
-        bytes ≡ mapped (wire memory.now.memory) (addresses_of (range_of off len (buffer_of loans.now map.made_at)))) }
+        bytes ≡ mapped (wire memory.now.memory) (addresses_of (stretch off len (buffer_of loans.now map.made_at)))) }
 {
     let mut bytes = Vec::with_capacity(alloc, len as usize)?;
     for at in off..off + len {
@@ -267,7 +266,7 @@ fn write_load(memory: &mut LanePages, loans: &LoanTable, map: MapId, off: u64, b
     requires range { off + length bytes.now ≤ length (buffer_of loans.now map.made_at) }
     requires below { off + length bytes.now < 2 ^ 64 }
     ensures wire { wire memory.new.memory
-        ≡ put (addresses_of (range_of off (length bytes.now) (buffer_of loans.now map.made_at))) bytes.now
+        ≡ put (addresses_of (stretch off (length bytes.now) (buffer_of loans.now map.made_at))) bytes.now
         (wire memory.old.memory) }
     ensures same { SamePages memory.old.memory memory.new.memory }
 {
@@ -289,7 +288,7 @@ pub(crate) fn reserve_extents(
     requires there { HasMap loans.old map.made_at }
     requires range { off + len ≤ length (buffer_of loans.old map.made_at) }
     ensures room { OnOk result
-        (extent_count (addresses_of (range_of off len (buffer_of loans.old map.made_at))) ≤ loans.new.spare) }
+        (extent_count (addresses_of (stretch off len (buffer_of loans.old map.made_at))) ≤ loans.new.spare) }
     ensures same { IsSame loans.old loans.new }
 {
     let extents = loans.extents(map, off, len);

@@ -2,7 +2,8 @@
 
 ghost use Rattle.std.specs.Prelude.{◌≡◌, ◌+◌, ◌≤◌, length, false, IfOk, OnErr};
 ghost use Rattle.dma_tag.specs.SyncOps.{is_mixed};
-ghost use Rattle.loan_table.specs.Lending.{lost, range_of, sync_answer};
+ghost use Rattle.busdma_base.specs.Machine.Wire.{stretch};
+ghost use Rattle.loan_table.specs.Lending.{lost, sync_answer};
 ghost use Rattle.loan_table.specs.Loans.{addresses_of};
 ghost use Rattle.loan_table.specs.Table.{AreIn, HasMap, IsSame, IsSynced, OnFine, OnRefused, buffer_of, extent_count};
 ghost use Rattle.lane_core.specs.Lane.{gives};
@@ -107,7 +108,7 @@ fn sync_loans(loans: &mut LoanTable, map: MapId, off: u64, len: u64, ops: SyncOp
     requires there { HasMap loans.old map.made_at }
     requires range { off + len ≤ length (buffer_of loans.old map.made_at) }
     requires alone { is_mixed ops.0 ≡ false }
-    requires room { extent_count (addresses_of (range_of off len (buffer_of loans.old map.made_at)))
+    requires room { extent_count (addresses_of (stretch off len (buffer_of loans.old map.made_at)))
         ≤ loans.old.spare }
     ensures answer { result ≡ sync_answer loans.old.loans map.made_at off len ops.0 }
     ensures done { OnFine result (IsSynced loans.old loans.new map.made_at off len ops.0) }

@@ -11,7 +11,7 @@ use Rattle.busdma_base.specs.declared.machine.address.Extent.{Extent}
 use Rattle.busdma_base.specs.Runs.{addresses, run_of, byte_count}
 use Rattle.loan_table.specs.declared.position.Position.{Position}
 use Rattle.loan_table.specs.Kept.{AreLow}
-use Rattle.loan_table.specs.Lending.{range_of}
+use Rattle.busdma_base.specs.Machine.Wire.{stretch}
 use Rattle.loan_table.specs.Loans.{addresses_of}
 use Rattle.loan_table.specs.Table.{AreIn, is_next, more_extents, extent_count}
 use Rattle.loan_table.proofs.Addresses.{run_of-push}
@@ -64,7 +64,7 @@ length-addresses (e ∷ es) = length-append (run_of e.pa.0 e.len) (addresses es)
     ∙ sym (sum_by-cons (λ (x : Extent). x.len) e es)
 
 pub length-range : (off len : ℕ) (ps : List Position) → off + len ≤ length ps →
-    length (addresses_of (range_of off len ps)) ≡ len
+    length (addresses_of (stretch off len ps)) ≡ len
 length-range off len ps h = rw length-map (length-take len (drop off ps) ∙ (omega (arith, length-drop off ps)))
 
 next_place : (before a : ℕ) → is_next before a ≡ true → (a ≡ before + 1) × (0 < a % 4096)

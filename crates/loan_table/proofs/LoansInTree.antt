@@ -11,7 +11,8 @@ use Rattle.loan_table.specs.Loans.{Loan, Loans, loan_of, no_loan}
 use Rattle.busdma_base.specs.declared.journals.report.Judged.TheVariants.{Fine}
 use Rattle.busdma_base.specs.Journals.Judging.{judged}
 use Rattle.loan_table.specs.Loans.{addresses_of}
-use Rattle.loan_table.specs.Lending.{synced, marked_range, sync_answer, sync_refusal, lost, range_of, loses}
+use Rattle.busdma_base.specs.Machine.Wire.{stretch}
+use Rattle.loan_table.specs.Lending.{synced, marked_range, sync_answer, sync_refusal, lost, loses}
 use Rattle.std.specs.List.{filter}
 use Rattle.loan_table.specs.declared.slot.Slot.{Slot}
 use Rattle.loan_table.specs.Trees.{loans_in}
@@ -62,7 +63,7 @@ pub answer_coherent : (loans : Loans) (m off len : ℕ) (ops : ℕ) (row : Loan)
 answer_coherent loans m off len ops row e h = rw (e, h) refl
 
 pub answer_judged : (loans : Loans) (m off len : ℕ) (ops : ℕ) (row : Loan) → loan_of loans m ≡ row →
-    row.coherent ≡ false → judged (sync_refusal loans m ops) off (range_of off len row.positions)
+    row.coherent ≡ false → judged (sync_refusal loans m ops) off (stretch off len row.positions)
     ≡ sync_answer loans m off len ops
 answer_judged loans m off len ops row e h = rw (e, h) refl
 
@@ -71,7 +72,7 @@ pub lost_coherent : (loans : Loans) (m off len : ℕ) (ops : ℕ) (row : Loan) �
 lost_coherent loans m off len ops row e h = rw (e, h) refl
 
 pub lost_open : (loans : Loans) (m off len : ℕ) (ops : ℕ) (row : Loan) → loan_of loans m ≡ row → row.coherent ≡ false →
-    addresses_of (filter (loses ops) (range_of off len row.positions)) ≡ lost loans m off len ops
+    addresses_of (filter (loses ops) (stretch off len row.positions)) ≡ lost loans m off len ops
 lost_open loans m off len ops row e h = rw (e, h) refl
 
 pub loan_missing : (is_open : Bool) (es : List (ℕ × Slot)) (m : ℕ) →

@@ -10,7 +10,8 @@ use Rattle.std.specs.FinMap.{FinMap, get, insert, remove, get-insert, get-remove
 use Rattle.loan_table.specs.declared.position.Position.{Position}
 use Rattle.loan_table.specs.Table.{AreIn, set_all}
 use Rattle.loan_table.specs.Loans.{Loan, Loans, loan_of, no_loan, addresses_of, unlent}
-use Rattle.loan_table.specs.Lending.{marked, marked_range, range_of, loses, lost, synced}
+use Rattle.busdma_base.specs.Machine.Wire.{stretch}
+use Rattle.loan_table.specs.Lending.{marked, marked_range, loses, lost, synced}
 use Rattle.loan_table.specs.Trees.{with_value}
 use Rattle.loan_table.proofs.Addresses.{AreIn-insert}
 
@@ -22,10 +23,10 @@ addresses_of-marked : (ops : ℕ) (ps : List Position) → addresses_of (map (ma
 addresses_of-marked ops [] = refl
 addresses_of-marked ops (p ∷ ps) = ap (λ xs. p.pa ∷ xs) (addresses_of-marked ops ps)
 
-three_parts : (off len : ℕ) (ps : List Position) → take off ps ++ range_of off len ps ++ drop (off + len) ps ≡ ps
+three_parts : (off len : ℕ) (ps : List Position) → take off ps ++ stretch off len ps ++ drop (off + len) ps ≡ ps
 three_parts off len ps =
     append_assoc (take off ps) _ _
-    ∙ ap (λ xs. take off ps ++ (range_of off len ps ++ xs)) (sym (drop-drop len off ps))
+    ∙ ap (λ xs. take off ps ++ (stretch off len ps ++ xs)) (sym (drop-drop len off ps))
     ∙ ap (λ xs. take off ps ++ xs) (take-append-drop len (drop off ps)) ∙ take-append-drop off ps
 
 addresses_of_three : (a b c : List Position) →
@@ -36,7 +37,7 @@ pub addresses_of-marked_range : (ops : ℕ) (off len : ℕ) (ps : List Position)
     addresses_of (marked_range ops off len ps) ≡ addresses_of ps
 addresses_of-marked_range ops off len ps =
     addresses_of_three _ _ _ ∙ ap (λ xs. addresses_of (take off ps) ++ xs ++ addresses_of (drop (off + len) ps))
-    (addresses_of-marked ops (range_of off len ps))
+    (addresses_of-marked ops (stretch off len ps))
     ∙ sym (addresses_of_three _ _ _) ∙ ap addresses_of (three_parts off len ps)
 
 -- the loan at a key after an insert
@@ -62,7 +63,7 @@ AreIn-drop m (suc n) [] h = tt
 AreIn-drop m (suc n) (p ∷ ps) h = AreIn-drop m n ps h.1
 
 pub AreIn-range : (m : FinMap nat_cmp Bool) (off len : ℕ) (ps : List Position) → AreIn m (addresses_of ps) →
-    AreIn m (addresses_of (range_of off len ps))
+    AreIn m (addresses_of (stretch off len ps))
 AreIn-range m off len ps h = AreIn-take m len (drop off ps) (AreIn-drop m off ps h)
 
 -- a loop that makes Unknown the bytes of the positions that pass a test, at a position that does and at one that does
@@ -164,7 +165,7 @@ pub AreIn-lost : (m : FinMap nat_cmp Bool) (loans : Loans) (k off len : ℕ) (op
     AreIn m (addresses_of (loan_of loans k).positions) → AreIn m (lost loans k off len ops)
 AreIn-lost m loans k off len ops h =
     elim (loan_of loans k).coherent as (λ b. AreIn m
-    (cond b [] (addresses_of (filter (loses ops) (range_of off len (loan_of loans k).positions))))) [
+    (cond b [] (addresses_of (filter (loses ops) (stretch off len (loan_of loans k).positions))))) [
       | true ↦ tt
       | false ↦ AreIn-filter m (loses ops) _ (AreIn-range m off len _ h)
     ]

@@ -12,7 +12,8 @@ use Rattle.std.proofs.lemmas.Map.Entries.{sum_by-remove_entry, sum_by-set_value,
 use Rattle.loan_table.specs.declared.position.Position.{Position}
 use Rattle.loan_table.specs.declared.slot.Slot.{Slot}
 use Rattle.loan_table.specs.Kept.{HasRoom, position_count}
-use Rattle.loan_table.specs.Lending.{marked_range, range_of}
+use Rattle.busdma_base.specs.Machine.Wire.{stretch}
+use Rattle.loan_table.specs.Lending.{marked_range}
 use Rattle.loan_table.specs.Loans.{Loan, loan_of, addresses_of}
 use Rattle.loan_table.specs.Marks.{Marks}
 use Rattle.loan_table.specs.Table.{extent_count}
@@ -77,7 +78,7 @@ pub length-marked_range : (ops off len : ℕ) (ps : List Position) → length (m
 length-marked_range ops off len ps = sym (length-addresses_of (marked_range ops off len ps))
     ∙ ap length (addresses_of-marked_range ops off len ps) ∙ length-addresses_of ps
 
-pub range_small : (off len : ℕ) (ps : List Position) → length (range_of off len ps) ≤ len
+pub range_small : (off len : ℕ) (ps : List Position) → length (stretch off len ps) ≤ len
 range_small off len ps = omega (arith, length-take len (drop off ps))
 
 -- bytes need room for an extent
@@ -86,11 +87,11 @@ extent_some [] h = absurd (omega arith)
 extent_some (a ∷ rest) h = omega arith
 
 pub needs_spare : (off len spare : ℕ) (ps : List Position) → off + len ≤ length ps →
-    extent_count (addresses_of (range_of off len ps)) ≤ spare → 0 < len → 0 < spare
+    extent_count (addresses_of (stretch off len ps)) ≤ spare → 0 < len → 0 < spare
 needs_spare off len spare ps range room some =
-    let long : length (addresses_of (range_of off len ps)) ≡ len = length-range off len ps range in
-    let one : 0 < extent_count (addresses_of (range_of off len ps)) =
-    extent_some (addresses_of (range_of off len ps)) (omega arith) in
+    let long : length (addresses_of (stretch off len ps)) ≡ len = length-range off len ps range in
+    let one : 0 < extent_count (addresses_of (stretch off len ps)) =
+    extent_some (addresses_of (stretch off len ps)) (omega arith) in
     omega arith
 
 -- the room after a change of n extents, of n bytes, and after a map of n positions goes

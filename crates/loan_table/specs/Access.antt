@@ -8,7 +8,7 @@ use Rattle.busdma_base.specs.declared.journals.report.Judged.{Judged}
 use Rattle.busdma_base.specs.Journals.Judging.{judged}
 use Rattle.loan_table.specs.declared.position.Position.{Position}
 use Rattle.loan_table.specs.Loans.{Loan, Loans, to_write, in_any_way, lent}
-use Rattle.loan_table.specs.Lending.{range_of}
+use Rattle.busdma_base.specs.Machine.Wire.{stretch}
 
 -- the driver reads bytes that no map lends to write and that are Known
 abbrev pub cpu_read_refusal : (ℕ → Bool) → Loans → ℕ → Option ReportName
@@ -37,7 +37,7 @@ cpu_write_answer loans bytes = judged (cpu_write_refusal loans) 0 bytes
 
 -- the answers to the device's accesses of a range of its map's buffer
 abbrev pub dev_read_answer : (ℕ → Bool) → Loan → ℕ → ℕ → Judged
-dev_read_answer known loan off len = judged (dev_read_refusal known loan.coherent) 0 (range_of off len loan.positions)
+dev_read_answer known loan off len = judged (dev_read_refusal known loan.coherent) 0 (stretch off len loan.positions)
 
 abbrev pub dev_write_answer : Loan → ℕ → ℕ → Judged
-dev_write_answer loan off len = judged (dev_write_refusal loan.coherent) 0 (range_of off len loan.positions)
+dev_write_answer loan off len = judged (dev_write_refusal loan.coherent) 0 (stretch off len loan.positions)

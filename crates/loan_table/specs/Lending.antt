@@ -11,6 +11,7 @@ use Rattle.busdma_base.specs.declared.journals.report.ReportName.TheVariants.{Sy
 use Rattle.busdma_base.specs.declared.journals.report.Judged.{Judged}
 use Rattle.busdma_base.specs.declared.journals.report.Judged.TheVariants.{Fine}
 use Rattle.busdma_base.specs.Journals.Judging.{judged}
+use Rattle.busdma_base.specs.Machine.Wire.{stretch}
 use Rattle.loan_table.specs.declared.position.Position.{Position}
 use Rattle.loan_table.specs.Loans.{Loans, loan_of, to_write, in_any_way, lent_elsewhere, stands_twice, addresses_of}
 
@@ -38,15 +39,11 @@ sync_refusal loans m ops p =
     (option_or (if prewrite ops then prewrite_refusal loans m p else None) (if preread ops
     then preread_refusal loans m p else None))
 
--- the positions from off to off + len - 1
-abbrev pub range_of : ℕ → ℕ → List Position → List Position
-range_of off len ps = take len (drop off ps)
-
 -- the answer of a call on a range: its first position that is refused; a coherent map refuses nothing
 abbrev pub sync_answer : Loans → ℕ → ℕ → ℕ → ℕ → Judged
 sync_answer loans m off len ops =
     if (loan_of loans m).coherent then Fine
-    else judged (sync_refusal loans m ops) off (range_of off len (loan_of loans m).positions)
+    else judged (sync_refusal loans m ops) off (stretch off len (loan_of loans m).positions)
 
 -- a position after a call: PREWRITE lends it to read and POSTWRITE ends that, PREREAD lends it to write and POSTREAD
 -- ends that
@@ -59,7 +56,7 @@ marked ops p = record {
 
 -- the positions after a call on a range of them
 abbrev pub marked_range : ℕ → ℕ → ℕ → List Position → List Position
-marked_range ops off len ps = take off ps ++ map (marked ops) (range_of off len ps) ++ drop (off + len) ps
+marked_range ops off len ps = take off ps ++ map (marked ops) (stretch off len ps) ++ drop (off + len) ps
 
 -- the loans after a call that is done
 abbrev pub synced : Loans → ℕ → ℕ → ℕ → ℕ → Loans
@@ -76,7 +73,7 @@ loses ops p = preread ops && not p.to_write && not (prewrite ops || p.to_read)
 abbrev pub lost : Loans → ℕ → ℕ → ℕ → ℕ → List ℕ
 lost loans m off len ops =
     let loan = loan_of loans m in
-    if loan.coherent then [] else addresses_of (filter (loses ops) (range_of off len loan.positions))
+    if loan.coherent then [] else addresses_of (filter (loses ops) (stretch off len loan.positions))
 
 -- the bytes that become Unknown where a map is forgotten: those that it lends to write
 abbrev pub lost_by_forgetting : Loans → ℕ → List ℕ

@@ -8,7 +8,8 @@ use Rattle.busdma_base.specs.declared.journals.report.Judged.{Judged}
 use Rattle.busdma_base.specs.declared.journals.report.Judged.TheVariants.{Fine, Refused}
 use Rattle.loan_table.specs.declared.position.Position.{Position}
 use Rattle.loan_table.specs.Loans.{Loans, loan_of, addresses_of}
-use Rattle.loan_table.specs.Lending.{range_of, synced, lost}
+use Rattle.busdma_base.specs.Machine.Wire.{stretch}
+use Rattle.loan_table.specs.Lending.{synced, lost}
 
 -- the driver's bytes by physical address, each Known or not; the loans of its loaded maps; those that are prepared
 -- for maps to come; and for how many extents there is room to change
@@ -40,7 +41,7 @@ buffer_of t m = (loan_of t.loans m).positions
 
 -- the bytes of a range of a map's buffer, in order
 abbrev pub bytes_at : Table → ℕ → ℕ → ℕ → List ℕ
-bytes_at t m off len = addresses_of (range_of off len (buffer_of t m))
+bytes_at t m off len = addresses_of (stretch off len (buffer_of t m))
 
 -- each of these bytes is in the table
 abbrev pub AreIn : FinMap nat_cmp Bool → List ℕ → Type 0

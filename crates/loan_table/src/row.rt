@@ -5,7 +5,8 @@ ghost use Rattle.std.specs.List.{filter, All};
 ghost use Rattle.busdma_base.specs.Runs.{run_of, addresses};
 ghost use Rattle.loan_table.specs.Kept.{Ends};
 ghost use Rattle.loan_table.specs.Kinds.{test_of};
-ghost use Rattle.loan_table.specs.Lending.{marked, marked_range, loses, range_of};
+ghost use Rattle.busdma_base.specs.Machine.Wire.{stretch};
+ghost use Rattle.loan_table.specs.Lending.{marked, marked_range, loses};
 ghost use Rattle.loan_table.specs.Loans.{lends, stands_twice, addresses_of, unlent, to_write, new_loan};
 ghost use Rattle.loan_table.specs.Rows.{CountsPlaces};
 ghost use Rattle.loan_table.specs.Table.{AreIn, set_all};
@@ -93,7 +94,7 @@ impl LoanRow {
     /// The positions of a range.
     pub fn range(&self, off: u64, len: u64) -> &[Position]
         requires { off + len ≤ length self.now.positions }
-        ensures is { result.now ≡ range_of off len self.now.positions }
+        ensures is { result.now ≡ stretch off len self.now.positions }
         ensures small { off + length result.now < 2 ^ 64 }
     {
         let start = off as usize;

@@ -76,7 +76,7 @@ impl LoanTable {
     /// Adds `len` bytes from `pa` on, each Known or each Unknown.
     pub fn add_bytes(
         &mut self,
-        _alloc: Global,
+        alloc: Global,
         pa: Pa,
         len: u64,
         known: bool,
@@ -238,7 +238,7 @@ impl LoanTable {
     }
 
     /// Makes room to change `parts` extents. It fails only where that room was missing.
-    pub fn reserve(&mut self, _alloc: Global, parts: u32) -> Result<(), AllocError>
+    pub fn reserve(&mut self, alloc: Global, parts: u32) -> Result<(), AllocError>
         ensures room { OnOk result (parts ≤ self.new.spare) }
         ensures missing { OnErr result (self.old.spare < parts) }
         ensures same { IsSame self.old self.new }

@@ -47,7 +47,7 @@ impl LanePages {
     }
 
     /// Gives room for so many more pages.
-    pub fn reserve(&mut self, _alloc: Global, pages: u32) -> Result<(), AllocError>
+    pub fn reserve(&mut self, alloc: Global, pages: u32) -> Result<(), AllocError>
         ensures memory { self.new.memory ≡ self.old.memory }
         ensures room { OnOk result (pages ≤ self.new.spare) }
         ensures spare { self.old.spare ≤ self.new.spare }

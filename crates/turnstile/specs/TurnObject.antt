@@ -7,7 +7,7 @@ Grows {E} fits before after = (after ≡ before) ⊎ ((entry : E) × fits entry 
 
 -- these entries are none, or one that fits the name
 abbrev pub IsGain : {E : Type 0} → (ℕ → E → Type 0) → ℕ → List E → Type 0
-IsGain {E} fits name added = (added ≡ []) ⊎ ((entry : E) × fits name entry × (added ≡ entry ∷ []))
+IsGain {E} fits name added = Grows (fits name) [] added
 
 -- a call that may be made under a name may still be made after an entry of another name
 abbrev pub OutlastsOthers : {C E F : Type 0} → (F → List E → Type 0) →

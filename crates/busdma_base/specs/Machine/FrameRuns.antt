@@ -1,16 +1,17 @@
 -- The frames of the machine. A frame has 4096 bytes; frame f holds the bytes from 4096 * f on.
-use Rattle.std.specs.Prelude.{◌≡◌, ℕ, ◌+◌, ◌≤◌, Bool, false, ◌&&◌, ◌||◌, List, nat_le, nat_lt, sum_by}
+use Rattle.std.specs.Prelude.{◌≡◌, ℕ, ◌+◌, ◌≤◌, Bool, false, ◌&&◌, List, nat_le, nat_lt, sum_by}
 use Rattle.std.specs.List.{list_any}
 use Rattle.busdma_base.specs.declared.scenarios.scenario.FrameRun.{FrameRun}
+use Rattle.busdma_base.specs.Runs.{meet}
 use Rattle.busdma_base.specs.Scenarios.Limits.{frames_limit, frame_numbers}
 
 -- the frame lies in the run
 abbrev pub is_in : ℕ → FrameRun → Bool
 is_in frame run = nat_le run.first frame && nat_lt frame (run.first + run.count)
 
--- two runs, neither of them empty, share a frame
+-- two runs share a frame
 abbrev pub overlap : FrameRun → FrameRun → Bool
-overlap a b = is_in a.first b || is_in b.first a
+overlap a b = meet a.first a.count b.first b.count
 
 -- how many frames runs have
 abbrev pub frame_count : List FrameRun → ℕ

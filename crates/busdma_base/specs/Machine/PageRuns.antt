@@ -1,5 +1,5 @@
 -- The pages of a driver: frames of its own at virtual addresses.
-use Rattle.std.specs.Prelude.{◌≡◌, ℕ, zero, suc, ◌+◌, ◌-◌, ◌*◌, ◌/◌, ◌%◌, ◌≤◌, Bool, true, false, ◌&&◌, ◌||◌}
+use Rattle.std.specs.Prelude.{◌≡◌, ℕ, zero, suc, ◌+◌, ◌-◌, ◌*◌, ◌/◌, ◌%◌, ◌≤◌, Bool, true, false, ◌&&◌}
 use Rattle.std.specs.Prelude.{if◌then◌else◌}
 use Rattle.std.specs.Prelude.{List, [], ◌∷◌, Option, Some, None, nat_le, nat_lt}
 use Rattle.std.specs.List.{list_any}
@@ -7,6 +7,7 @@ use Rattle.busdma_base.specs.declared.scenarios.scenario.FrameRun.{FrameRun}
 use Rattle.busdma_base.specs.declared.scenarios.scenario.PageRun.{PageRun}
 use Rattle.busdma_base.specs.declared.scenarios.scenario.Driver.{Driver}
 use Rattle.busdma_base.specs.Machine.FrameRuns.{is_in}
+use Rattle.busdma_base.specs.Runs.{meet}
 
 -- where the virtual addresses end that a driver's pages may have; those of dmamem memory begin here
 abbrev pub pages_end : ℕ
@@ -16,10 +17,6 @@ pages_end = 0xfffff80000000000
 abbrev pub all_in : List FrameRun → ℕ → ℕ → Bool
 all_in runs first zero = true
 all_in runs first (suc n) = list_any (is_in first) runs && all_in runs (first + 1) n
-
--- the m numbers from a on and the n numbers from b on have one in common; neither m nor n is 0
-abbrev pub meet : ℕ → ℕ → ℕ → ℕ → Bool
-meet a m b n = (nat_le b a && nat_lt a (b + n)) || (nat_le a b && nat_lt b (a + m))
 
 -- two runs share a frame
 abbrev pub share_frame : PageRun → PageRun → Bool

@@ -36,9 +36,9 @@ buffers ps = map (λ p. p.pa) ps
 abbrev pub buses : List Placed → List ℕ
 buses ps = map (λ p. p.bus) ps
 
--- the positions of a trace from off to off + len - 1
-abbrev pub stretch : ℕ → ℕ → List Placed → List Placed
-stretch off len ps = take len (drop off ps)
+-- the positions of a load from off to off + len - 1
+abbrev pub stretch : {A : Type 0} → ℕ → ℕ → List A → List A
+stretch {A} off len ps = take len (drop off ps)
 
 -- the bytes at these addresses are these now, in order
 abbrev pub put : List ℕ → List ℕ → Wire → Wire

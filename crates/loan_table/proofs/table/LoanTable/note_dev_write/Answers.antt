@@ -1,6 +1,6 @@
 use Rattle.std.proofs.Common.{◌+◌, ◌≤◌, length, sym, subst, arith}
 use Rattle.loan_table.specs.Kept.{AreLow}
-use Rattle.loan_table.specs.Lending.{range_of}
+use Rattle.busdma_base.specs.Machine.Wire.{stretch}
 use Rattle.loan_table.specs.Loans.{loan_of, addresses_of}
 use Rattle.loan_table.specs.Trees.{opened}
 use Rattle.loan_table.proofs.Addresses.{AreIn-set_all, AreLow-set_all}
@@ -19,7 +19,7 @@ set_positions-requires-clause-room c =
     let range : c.args.off + c.args.len ≤ length ps = rw (← c.self.view_is) at c.requires.range in
     let all : length ps ≤ c.self.inside.positions =
     rw c.self.invariant.counted at (count_bound c.self.inside.loans.entries c.args.map.made_at) in
-    let small : length (range_of c.args.off c.args.len ps) ≤ c.args.len = range_small c.args.off c.args.len ps in
+    let small : length (stretch c.args.off c.args.len ps) ≤ c.args.len = range_small c.args.off c.args.len ps in
     rw (c.range.ensures.is, c.row_of-row.ensures) (omega (arith, range, all, small, c.self.invariant.room.forgets))
 
 pub invariant_of-self : goal.invariant_of-self
@@ -28,7 +28,7 @@ invariant_of-self c =
     let range : c.args.off + c.args.len ≤ length ps = rw (← c.self.view_is) at c.requires.range in
     let all : length ps ≤ c.self.inside.positions =
     rw c.self.invariant.counted at (count_bound c.self.inside.loans.entries c.args.map.made_at) in
-    let small : length (range_of c.args.off c.args.len ps) ≤ c.args.len = range_small c.args.off c.args.len ps in
+    let small : length (stretch c.args.off c.args.len ps) ≤ c.args.len = range_small c.args.off c.args.len ps in
     let used = rw (c.range.ensures.is, c.row_of-row.ensures) at c.set_positions.ensures.room in
     record {
       ordered = c.self.invariant.ordered;
