@@ -9,3 +9,4 @@ pub mod MapValues
 pub mod OpeningMemory
 pub mod TagPlan
 pub mod Virtual
+pub mod Wire

@@ -34,7 +34,7 @@ in-frame keep c page p is =
     let off : ℕ = page_offset keep c.first.pa.0 in
     let small : off < 4096 = by keep in
     let whole : page.0 % 4096 ≡ 0 = p.0 in
-    record { bus = is.inside; frame = omega (arith, small, whole) }
+    record { paged = refl; bus = is.inside; frame = omega (arith, small, whole) }
   where
     by : (b : Bool) → page_offset b c.first.pa.0 < 4096
     by true = omega arith

@@ -82,7 +82,7 @@ module _ (l : LaneState) (a : Account) (w : Wire) (stands : Stands l) (agrees : 
     where
       by : (s : Stage) → is_loaded s ≡ false → LiesIn l m s → loan_of l.loans m ≡ no_loan
       by Idle none h = h
-      by (Waiting load_at need) none h = h.0
+      by (Waiting load_at need) none h = h.unlent
       by (Loaded cs ss ps) none h = absurd (cc)
       by Returning none h = h
 

@@ -1,7 +1,7 @@
 -- How the loads of a driver lie in its memory and in bounce pages.
-use Rattle.std.specs.Prelude.{◌≡◌, ℕ, ◌*◌, ◌/◌, ◌%◌, ◌≤◌, Bool, true, List, [], Option, Some, None}
+use Rattle.std.specs.Prelude.{◌≡◌, ℕ, ◌*◌, ◌/◌, ◌%◌, ◌≤◌, Bool, true, false, List, [], Option, Some, None}
 use Rattle.std.specs.Prelude.{is_some}
-use Rattle.std.specs.List.{AllZip}
+use Rattle.std.specs.List.{AllByRecursion, AllZip}
 use Rattle.std.specs.FinMap as finmap
 use Rattle.std.specs.FinMap.{get}
 use Rattle.busdma_base.specs.declared.journals.report.Judged.TheVariants.{Fine}
@@ -13,18 +13,25 @@ use Rattle.busdma_base.specs.Machine.Wire.{buses}
 use Rattle.busdma_base.specs.Runs.{IsExtent}
 use Rattle.loan_table.specs.declared.position.Position.{Position}
 use Rattle.loan_table.specs.Loans.{loan_of, no_loan}
+use Rattle.map_sync.specs.Traces.{HasChunks}
+use Rattle.segment_build.specs.Chunks.{need_of}
 use Rattle.segment_build.specs.Segmentation.{segment_bytes}
-use Rattle.segment_build.specs.Trace.{bus_extent}
-use Rattle.ideal_lane.specs.State.{LaneState, LaneMemory, Stage, Idle, Waiting, Loaded, Returning}
-use Rattle.ideal_lane.specs.Loads.{is_coherent}
+use Rattle.segment_build.specs.Trace.{bus_extent, chunk_extents}
+use Rattle.ideal_lane.specs.State.{LaneState, LaneMap, LaneMemory, Stage, Idle, Waiting, Loaded, Returning}
+use Rattle.ideal_lane.specs.Loads.{chunks_for, is_coherent}
 use Rattle.ideal_lane.specs.Turns.{asked_at}
 use Rattle.ideal_wire.specs.Centre.{IsAt}
 use Rattle.ideal_wire.specs.Traces.{stage_at, traces_of}
 
--- a chunk lies in a page on the bus
+-- a chunk has a place in a page, and lies in the page on the bus
 pub record IsInPage (c : Chunk) (page : ℕ) : Type 0 where
+  pub paged : is_some c.page ≡ true
   pub bus : IsExtent (bus_extent c)
   pub frame : (bus_extent c).pa.0 / 4096 * 4096 ≡ page
+
+-- each extent of a chunk lies in one frame
+abbrev pub IsOfExtents : Chunk → Type 0
+IsOfExtents c = AllByRecursion IsExtent (chunk_extents c)
 
 -- a byte is one of a memory's frames, or, where there is no memory, of the driver's pages
 abbrev pub is_loadable : Option LaneMemory → LaneState → ℕ → Bool
@@ -32,21 +39,35 @@ is_loadable None l a = is_own l.pages a
 is_loadable (Some x) l a = in_run x.first x.count a
 
 -- the load of a map has bytes of its memory alone, of which none is bounced, or of the driver's pages; its bounced
--- chunks lie in its pages, one in each; and the bytes of its segments are its trace
+-- chunks lie in its pages, one in each, and have the bytes at their places; and the bytes of its segments are its trace
 pub record IsLaid (l : LaneState) (m : ℕ) (bounced : List Chunk) (segments : List Segment) (pages : List ℕ)
     : Type 0 where
   pub coherent : (loan_of l.loans m).coherent ≡ is_coherent (get l.mems m)
   pub bytes : (i : ℕ) (p : Position) → IsAt l.loans m i p → is_loadable (get l.mems m) l p.pa ≡ true
   pub direct : is_some (get l.mems m) ≡ true → bounced ≡ []
   pub paged : AllZip IsInPage bounced pages
+  pub extents : AllByRecursion IsOfExtents bounced
+  pub chunks : HasChunks 0 (traces_of l m) bounced
   pub trace : segment_bytes segments ≡ buses (traces_of l m)
 
--- a map lies so by where it stands: with no load it lends nothing, and the load for which it waits is one of the
--- driver's pages alone
+-- the driver with the bytes of its pages alone, which no step changes
+abbrev pub pages_alone : LaneState → LaneState
+pages_alone l = record l { mems = finmap.empty }
+
+-- the chunks of the load of a map that stands at a place of the script, of bytes of the driver's pages
+abbrev pub chunks_at : LaneState → LaneMap → ℕ → List Chunk
+chunks_at l o load_at = chunks_for l o false (asked_at load_at (pages_alone l)).entries
+
+-- the load for which a map waits is one of the driver's pages alone, and its chunks have the need that it waits for
+pub record IsAwaited (l : LaneState) (m load_at need : ℕ) : Type 0 where
+  pub unlent : loan_of l.loans m ≡ no_loan
+  pub fine : (asked_at load_at (pages_alone l)).judged ≡ Fine
+  pub counted : (o : LaneMap) → get l.maps m ≡ Some o → need ≡ need_of (chunks_at l o load_at)
+
+-- a map lies so by where it stands; with no load it lends nothing
 abbrev pub LiesIn : LaneState → ℕ → Stage → Type 0
 LiesIn l m Idle = loan_of l.loans m ≡ no_loan
-LiesIn l m (Waiting load_at need) =
-    (loan_of l.loans m ≡ no_loan) × ((asked_at load_at (record l { mems = finmap.empty })).judged ≡ Fine)
+LiesIn l m (Waiting load_at need) = IsAwaited l m load_at need
 LiesIn l m (Loaded bounced segments pages) = IsLaid l m bounced segments pages
 LiesIn l m Returning = loan_of l.loans m ≡ no_loan
 
