@@ -1,3 +1,4 @@
+mod Awaiting
 mod Bytes
 mod Covering
 mod Doors

@@ -8,5 +8,6 @@ pub mod LaneIdeal
 pub mod MapValues
 pub mod OpeningMemory
 pub mod TagPlan
+pub mod Turning
 pub mod Virtual
 pub mod Wire
