@@ -1,0 +1,7 @@
+//! The ideal world: all ideal drivers on one account of the bounce lock, the journals of their
+//! steps, and the laws of both. Each law is the contract of a function that does nothing.
+#![tactic(auto)]
+
+mod laws;
+
+pub use laws::opening_is_well_formed;
