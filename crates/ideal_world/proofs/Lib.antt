@@ -1,3 +1,5 @@
 pub mod Lanes
+pub mod Keeping
 pub mod Opens
 pub mod Own
+pub mod Reached

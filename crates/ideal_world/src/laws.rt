@@ -1,11 +1,29 @@
 //! Laws of the ideal world and of its journals.
 
+ghost use Rattle.std.specs.Prelude.{◌≡◌, ℕ, Some, slice_get};
+ghost use Rattle.busdma_base.specs.declared.journals.journal.Actor.{Actor};
+ghost use Rattle.busdma_base.specs.declared.journals.journal.JournalEntry.{JournalEntry};
+ghost use Rattle.busdma_base.specs.declared.journals.journal.Side.{Side};
 ghost use Rattle.busdma_base.specs.declared.scenarios.scenario.Scenario.{Scenario};
 ghost use Rattle.busdma_base.specs.Scenarios.Valid.{IsValid};
+ghost use Rattle.ideal_lane.specs.Agreement.{IsAllowed};
+ghost use Rattle.ideal_lane.specs.State.{LaneState};
+ghost use Rattle.ideal_lane.specs.Turns.{lane_step};
 ghost use Rattle.ideal_world.specs.WellFormed.{IsWellFormed};
-ghost use Rattle.ideal_world.specs.World.{opening_world};
+ghost use Rattle.ideal_world.specs.World.{WorldState, opening_world, step, step_entry};
 
 /// The world in which a valid scenario opens is well formed.
 pub fn opening_is_well_formed()
     ensures { (s : Scenario) → IsValid s → IsWellFormed s (opening_world s) }
+{}
+
+/// The turn of any actor leaves a well-formed world well formed. The account allows the call of each
+/// driver's step, and the entry of a step is that of its actor.
+pub fn steps_keep_it()
+    ensures kept { (s : Scenario) (w : WorldState) (actor : Actor) → IsWellFormed s w →
+        IsWellFormed s (step w actor).world }
+    ensures allowed { (s : Scenario) (w : WorldState) (i : ℕ) (l : LaneState) (side : Side) → IsWellFormed s w →
+        slice_get w.lanes i ≡ Some l → IsAllowed l.id w.account (lane_step l side) }
+    ensures named { (s : Scenario) (w : WorldState) (actor : Actor) (e : JournalEntry) → IsWellFormed s w →
+        step_entry w actor ≡ Some e → e.actor ≡ actor }
 {}

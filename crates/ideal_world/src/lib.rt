@@ -4,4 +4,4 @@
 
 mod laws;
 
-pub use laws::opening_is_well_formed;
+pub use laws::{opening_is_well_formed, steps_keep_it};
