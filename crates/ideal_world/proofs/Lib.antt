@@ -1,4 +1,5 @@
 pub mod Lanes
+pub mod Falling
 pub mod Keeping
 pub mod Opens
 pub mod Own

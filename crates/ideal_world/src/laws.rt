@@ -1,6 +1,6 @@
 //! Laws of the ideal world and of its journals.
 
-ghost use Rattle.std.specs.Prelude.{◌≡◌, ℕ, Some, slice_get};
+ghost use Rattle.std.specs.Prelude.{◌≡◌, ◌<◌, ℕ, Some, None, slice_get};
 ghost use Rattle.busdma_base.specs.declared.journals.journal.Actor.{Actor};
 ghost use Rattle.busdma_base.specs.declared.journals.journal.JournalEntry.{JournalEntry};
 ghost use Rattle.busdma_base.specs.declared.journals.journal.Side.{Side};
@@ -9,6 +9,7 @@ ghost use Rattle.busdma_base.specs.Scenarios.Valid.{IsValid};
 ghost use Rattle.ideal_lane.specs.Agreement.{IsAllowed};
 ghost use Rattle.ideal_lane.specs.State.{LaneState};
 ghost use Rattle.ideal_lane.specs.Turns.{lane_step};
+ghost use Rattle.ideal_world.specs.Left.{left_of};
 ghost use Rattle.ideal_world.specs.WellFormed.{IsWellFormed};
 ghost use Rattle.ideal_world.specs.World.{WorldState, opening_world, step, step_entry};
 
@@ -26,4 +27,12 @@ pub fn steps_keep_it()
         slice_get w.lanes i ≡ Some l → IsAllowed l.id w.account (lane_step l side) }
     ensures named { (s : Scenario) (w : WorldState) (actor : Actor) (e : JournalEntry) → IsWellFormed s w →
         step_entry w actor ≡ Some e → e.actor ≡ actor }
+{}
+
+/// A turn that is a step leaves all drivers together less to do, so every run ends; any other turn
+/// leaves the world as it was, its account too.
+pub fn each_step_falls()
+    ensures falls { (s : Scenario) (w : WorldState) (actor : Actor) (e : JournalEntry) → IsWellFormed s w →
+        step_entry w actor ≡ Some e → left_of (step w actor).world < left_of w }
+    ensures rests { (w : WorldState) (actor : Actor) → step_entry w actor ≡ None → (step w actor).world ≡ w }
 {}
