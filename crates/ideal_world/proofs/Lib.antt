@@ -4,3 +4,5 @@ pub mod Keeping
 pub mod Opens
 pub mod Own
 pub mod Reached
+pub mod Stuck
+pub mod Waiters

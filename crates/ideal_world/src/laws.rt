@@ -9,7 +9,9 @@ ghost use Rattle.busdma_base.specs.Scenarios.Valid.{IsValid};
 ghost use Rattle.ideal_lane.specs.Agreement.{IsAllowed};
 ghost use Rattle.ideal_lane.specs.State.{LaneState};
 ghost use Rattle.ideal_lane.specs.Turns.{lane_step};
+ghost use Rattle.ideal_world.specs.Ends.{IsAtRest};
 ghost use Rattle.ideal_world.specs.Left.{left_of};
+ghost use Rattle.ideal_world.specs.Waiting.{OnlyAwaits};
 ghost use Rattle.ideal_world.specs.WellFormed.{IsWellFormed};
 ghost use Rattle.ideal_world.specs.World.{WorldState, opening_world, step, step_entry};
 
@@ -35,4 +37,11 @@ pub fn each_step_falls()
     ensures falls { (s : Scenario) (w : WorldState) (actor : Actor) (e : JournalEntry) → IsWellFormed s w →
         step_entry w actor ≡ Some e → left_of (step w actor).world < left_of w }
     ensures rests { (w : WorldState) (actor : Actor) → step_entry w actor ≡ None → (step w actor).world ≡ w }
+{}
+
+/// In a well-formed world in which no actor can step, each driver's script has ended or awaits a map
+/// that waits for pages and stands in the waiting list of its zone; no driver has a page to give back
+/// or an item to transfer, and no callback is to be called.
+pub fn stuck_worlds_wait()
+    ensures { (s : Scenario) (w : WorldState) → IsWellFormed s w → IsAtRest w → OnlyAwaits w }
 {}

@@ -4,4 +4,4 @@
 
 mod laws;
 
-pub use laws::{each_step_falls, opening_is_well_formed, steps_keep_it};
+pub use laws::{each_step_falls, opening_is_well_formed, steps_keep_it, stuck_worlds_wait};
