@@ -2,6 +2,7 @@
 
 ghost use Rattle.std.specs.Prelude.{◌≡◌, ◌<◌, ℕ, Some, None, slice_get};
 ghost use Rattle.busdma_base.specs.declared.journals.journal.Actor.{Actor};
+ghost use Rattle.busdma_base.specs.declared.journals.journal.Journal.{Journal};
 ghost use Rattle.busdma_base.specs.declared.journals.journal.JournalEntry.{JournalEntry};
 ghost use Rattle.busdma_base.specs.declared.journals.journal.Side.{Side};
 ghost use Rattle.busdma_base.specs.declared.scenarios.scenario.Scenario.{Scenario};
@@ -11,6 +12,7 @@ ghost use Rattle.ideal_lane.specs.State.{LaneState};
 ghost use Rattle.ideal_lane.specs.Turns.{lane_step};
 ghost use Rattle.ideal_world.specs.Ends.{IsAtRest};
 ghost use Rattle.ideal_world.specs.Left.{left_of};
+ghost use Rattle.ideal_world.specs.Legal.{IsLegal, IsReplayed};
 ghost use Rattle.ideal_world.specs.Waiting.{OnlyAwaits};
 ghost use Rattle.ideal_world.specs.WellFormed.{IsWellFormed};
 ghost use Rattle.ideal_world.specs.World.{WorldState, opening_world, step, step_entry};
@@ -44,4 +46,28 @@ pub fn each_step_falls()
 /// or an item to transfer, and no callback is to be called.
 pub fn stuck_worlds_wait()
     ensures { (s : Scenario) (w : WorldState) → IsWellFormed s w → IsAtRest w → OnlyAwaits w }
+{}
+
+/// Every valid scenario has a replayed journal: after the turns of its order, enough rounds come to
+/// rest.
+pub fn each_scenario_is_replayed()
+    ensures { (s : Scenario) → IsValid s → (j : Journal) × IsReplayed s j }
+{}
+
+/// A scenario has at most one replayed journal.
+pub fn one_replayed()
+    ensures { (s : Scenario) (j k : Journal) → IsReplayed s j → IsReplayed s k → j ≡ k }
+{}
+
+/// The replayed journal of a valid scenario is legal: its entries lead from the opening world to a
+/// world at rest.
+pub fn replay_is_legal()
+    ensures { (s : Scenario) (j : Journal) → IsValid s → IsReplayed s j → IsLegal s j }
+{}
+
+/// A legal journal of a valid scenario ends in a well-formed world, which only awaits maps that wait
+/// for pages.
+pub fn legal_journals_wait()
+    ensures { (s : Scenario) (j : Journal) (legal : IsLegal s j) → IsValid s →
+        IsWellFormed s legal.last × OnlyAwaits legal.last }
 {}
