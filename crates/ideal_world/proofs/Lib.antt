@@ -1,0 +1,13 @@
+pub mod Falling
+pub mod Going
+pub mod Keeping
+pub mod Lanes
+pub mod Legal
+pub mod Opens
+pub mod Own
+pub mod Reached
+pub mod Replayed
+pub mod Rest
+pub mod Rounds
+pub mod Stuck
+pub mod Waiters

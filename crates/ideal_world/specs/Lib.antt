@@ -1,0 +1,6 @@
+pub mod Ends
+pub mod Left
+pub mod Legal
+pub mod Waiting
+pub mod WellFormed
+pub mod World

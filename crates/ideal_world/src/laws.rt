@@ -1,0 +1,73 @@
+//! Laws of the ideal world and of its journals.
+
+ghost use Rattle.std.specs.Prelude.{◌≡◌, ◌<◌, ℕ, Some, None, slice_get};
+ghost use Rattle.busdma_base.specs.declared.journals.journal.Actor.{Actor};
+ghost use Rattle.busdma_base.specs.declared.journals.journal.Journal.{Journal};
+ghost use Rattle.busdma_base.specs.declared.journals.journal.JournalEntry.{JournalEntry};
+ghost use Rattle.busdma_base.specs.declared.journals.journal.Side.{Side};
+ghost use Rattle.busdma_base.specs.declared.scenarios.scenario.Scenario.{Scenario};
+ghost use Rattle.busdma_base.specs.Scenarios.Valid.{IsValid};
+ghost use Rattle.ideal_lane.specs.Agreement.{IsAllowed};
+ghost use Rattle.ideal_lane.specs.State.{LaneState};
+ghost use Rattle.ideal_lane.specs.Turns.{lane_step};
+ghost use Rattle.ideal_world.specs.Ends.{IsAtRest};
+ghost use Rattle.ideal_world.specs.Left.{left_of};
+ghost use Rattle.ideal_world.specs.Legal.{IsLegal, IsReplayed};
+ghost use Rattle.ideal_world.specs.Waiting.{OnlyAwaits};
+ghost use Rattle.ideal_world.specs.WellFormed.{IsWellFormed};
+ghost use Rattle.ideal_world.specs.World.{WorldState, opening_world, step, step_entry};
+
+/// The world in which a valid scenario opens is well formed.
+pub fn opening_is_well_formed()
+    ensures { (s : Scenario) → IsValid s → IsWellFormed s (opening_world s) }
+{}
+
+/// The turn of any actor leaves a well-formed world well formed. The account allows the call of each
+/// driver's step, and the entry of a step is that of its actor.
+pub fn steps_keep_it()
+    ensures kept { (s : Scenario) (w : WorldState) (actor : Actor) → IsWellFormed s w →
+        IsWellFormed s (step w actor).world }
+    ensures allowed { (s : Scenario) (w : WorldState) (i : ℕ) (l : LaneState) (side : Side) → IsWellFormed s w →
+        slice_get w.lanes i ≡ Some l → IsAllowed l.id w.account (lane_step l side) }
+    ensures named { (s : Scenario) (w : WorldState) (actor : Actor) (e : JournalEntry) → IsWellFormed s w →
+        step_entry w actor ≡ Some e → e.actor ≡ actor }
+{}
+
+/// A turn that is a step leaves all drivers together less to do, so every run ends; any other turn
+/// leaves the world as it was, its account too.
+pub fn each_step_falls()
+    ensures falls { (s : Scenario) (w : WorldState) (actor : Actor) (e : JournalEntry) → IsWellFormed s w →
+        step_entry w actor ≡ Some e → left_of (step w actor).world < left_of w }
+    ensures rests { (w : WorldState) (actor : Actor) → step_entry w actor ≡ None → (step w actor).world ≡ w }
+{}
+
+/// In a well-formed world in which no actor can step, each driver's script has ended or awaits a map
+/// that waits for pages and stands in the waiting list of its zone; no driver has a page to give back
+/// or an item to transfer, and no callback is to be called.
+pub fn stuck_worlds_wait()
+    ensures { (s : Scenario) (w : WorldState) → IsWellFormed s w → IsAtRest w → OnlyAwaits w }
+{}
+
+/// Every valid scenario has a replayed journal: after the turns of its order, enough rounds come to
+/// rest.
+pub fn each_scenario_is_replayed()
+    ensures { (s : Scenario) → IsValid s → (j : Journal) × IsReplayed s j }
+{}
+
+/// A scenario has at most one replayed journal.
+pub fn one_replayed()
+    ensures { (s : Scenario) (j k : Journal) → IsReplayed s j → IsReplayed s k → j ≡ k }
+{}
+
+/// The replayed journal of a valid scenario is legal: its entries lead from the opening world to a
+/// world at rest.
+pub fn replay_is_legal()
+    ensures { (s : Scenario) (j : Journal) → IsValid s → IsReplayed s j → IsLegal s j }
+{}
+
+/// A legal journal of a valid scenario ends in a well-formed world, which only awaits maps that wait
+/// for pages.
+pub fn legal_journals_wait()
+    ensures { (s : Scenario) (j : Journal) (legal : IsLegal s j) → IsValid s →
+        IsWellFormed s legal.last × OnlyAwaits legal.last }
+{}

@@ -1,0 +1,10 @@
+//! The ideal world: all ideal drivers on one account of the bounce lock, the journals of their
+//! steps, and the laws of both. Each law is the contract of a function that does nothing.
+#![tactic(auto)]
+
+mod laws;
+
+pub use laws::{
+    each_scenario_is_replayed, each_step_falls, legal_journals_wait, one_replayed,
+    opening_is_well_formed, replay_is_legal, steps_keep_it, stuck_worlds_wait,
+};
