@@ -9,6 +9,7 @@ mod MapValues
 mod Marks
 mod OpeningLane
 mod OpeningPages
+mod OpensWired
 mod OwnRuns
 mod Places
 mod Reaching

@@ -6,6 +6,7 @@ pub mod Ideal
 pub mod Kept
 pub mod LaneIdeal
 pub mod MapValues
+pub mod OneProof
 pub mod OpeningMemory
 pub mod TagPlan
 pub mod Turning
