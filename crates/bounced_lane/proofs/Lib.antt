@@ -1,7 +1,9 @@
 mod Bytes
 mod Covering
 mod Doors
+mod Finding
 mod Keeping
+mod Lying
 mod MapSteps
 mod MapTables
 mod MapValues
@@ -17,4 +19,5 @@ mod ReturnSteps
 mod TagSteps
 mod Unloaded
 mod UnloadSteps
+mod Views
 mod Wires
