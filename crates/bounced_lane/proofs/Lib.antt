@@ -2,7 +2,9 @@ mod Bytes
 mod Covering
 mod Doors
 mod Finding
+mod HeldMemory
 mod Keeping
+mod Lenders
 mod Lying
 mod MapSteps
 mod MapTables

@@ -73,7 +73,7 @@ unlent-bus cs i (p ∷ ps) a h =
     let parts = either_false ((p.pa == a) && to_write p) (list_any (λ q. (q.pa == a) && to_write q) ps) h in
     ap (λ b. cond b (Some (bus_of cs i p.pa)) (lent_bus cs (i + 1) ps a)) parts.0 ∙ unlent-bus cs (i + 1) ps a parts.1
 
-unlent-byte : (d : ℕ → Device) (m : Memory) (es : List (ℕ × Loan)) (a : ℕ) →
+pub unlent-byte : (d : ℕ → Device) (m : Memory) (es : List (ℕ × Loan)) (a : ℕ) →
     list_any (λ e. lends to_write a e.1) es ≡ false → byte_among d m es a ≡ wire m a
 unlent-byte d m [] a h = refl
 unlent-byte d m (e ∷ es) a h =
