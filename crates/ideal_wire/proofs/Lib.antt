@@ -1,5 +1,6 @@
 pub mod Accepting
 pub mod Buses
+pub mod Calls
 pub mod Carried
 pub mod Copies
 pub mod Faithful

@@ -52,6 +52,7 @@ use Rattle.ideal_lane.specs.Turns.{Turned, operation, transfer, waits, asked_at,
 use Rattle.ideal_lane.specs.Turns as turns
 use Rattle.ideal_lane.specs.Unloads.{unload, restaged, given_back, after_return}
 use Rattle.ideal_lane.specs.View.{own_map, in_zone}
+use Rattle.ideal_wire.specs.Apart.{IsApart}
 use Rattle.ideal_wire.specs.Centre.{IsFaithful}
 use Rattle.ideal_wire.specs.Laid.{LiesIn, AreLaid}
 use Rattle.ideal_wire.specs.Traces.{stage_in, stage_at}
@@ -59,11 +60,15 @@ use Rattle.ideal_wire.specs.WireStep as wire
 use Rattle.ideal_wire.specs.WireStep.{Follows}
 use Rattle.ideal_wire.proofs.Carried.{Carries, are-bused, carried, same-carries, idle-carries, load-carries}
 use Rattle.ideal_wire.proofs.Carried.{unload-carries, put-stage, cut-stage}
+use Rattle.ideal_wire.proofs.Frames.{agreeing-apart}
 use Rattle.ideal_wire.proofs.Refusing.{absent, judged, either, busy, unloaded, past}
 use Rattle.ideal_wire.proofs.Wiring.{sync-stays, sync_range-stays, cpu_write-stays, dev_write-stays}
 
 module _ (l : LaneState) (a : Account) (w : Wire) (stands : Stands l) (agrees : AgreesWith l a) (laid : AreLaid l)
     (f : IsFaithful l w) where
+  apart : IsApart l
+  apart = agreeing-apart l a agrees stands laid
+
   -- ---- steps that change no byte
 
   -- a step carries what the driver lends, whatever the reply
@@ -338,10 +343,10 @@ module _ (l : LaneState) (a : Account) (w : Wire) (stands : Stands l) (agrees : 
   operation-stays (op.Load m place len flags items) =
       idle (turns.load_at_place m place len flags items l) (load-at-idles m place len flags items)
   operation-stays (op.Unload m) = idle (unload m l) (unload-idles m)
-  operation-stays (op.Sync m ops) = sync-stays l a w stands agrees laid f m ops
-  operation-stays (op.SyncRange m off len ops) = sync_range-stays l a w stands agrees laid f m off len ops
+  operation-stays (op.Sync m ops) = sync-stays l w apart laid f m ops
+  operation-stays (op.SyncRange m off len ops) = sync_range-stays l w apart laid f m off len ops
   operation-stays (op.CpuRead place len) = idle (cpu_read place len l) (cpu_read-idles place len)
-  operation-stays (op.CpuWrite place bytes) = cpu_write-stays l a w stands agrees laid f place (bytes_of bytes)
+  operation-stays (op.CpuWrite place bytes) = cpu_write-stays l w apart laid f place (bytes_of bytes)
   operation-stays (op.Await m) = idle (await m l) (await-idles m)
 
   dev_read-idles : (m off len : ℕ) → Idles (dev_read m off len l)
@@ -352,10 +357,10 @@ module _ (l : LaneState) (a : Account) (w : Wire) (stands : Stands l) (agrees : 
       (gives l (answer.Bytes (values l (load_bytes l m off len)))) (λ allowed r. same)))
 
   transfer-stays : (i : Item) → Outcomes (wire.transfer i l w) (transfer i l)
-  transfer-stays (item.Sync m ops) = sync-stays l a w stands agrees laid f m ops
-  transfer-stays (item.SyncRange m off len ops) = sync_range-stays l a w stands agrees laid f m off len ops
+  transfer-stays (item.Sync m ops) = sync-stays l w apart laid f m ops
+  transfer-stays (item.SyncRange m off len ops) = sync_range-stays l w apart laid f m off len ops
   transfer-stays (item.DevRead m off len) = idle (dev_read m off len l) (dev_read-idles m off len)
-  transfer-stays (item.DevWrite m off bytes) = dev_write-stays l a w stands agrees laid f m off (bytes_of bytes)
+  transfer-stays (item.DevWrite m off bytes) = dev_write-stays l w apart laid f m off (bytes_of bytes)
 
   nothing-stays : (t : turns.Turn) → Stays w (Gives (turns.stays t l))
   nothing-stays t r w' h = idle-stays l w' same h
