@@ -1,5 +1,7 @@
 mod Bytes
+mod Changing
 mod Covering
+mod CpuWrites
 mod Doors
 mod Finding
 mod HeldMemory
@@ -9,6 +11,7 @@ mod Lying
 mod MapSteps
 mod MapTables
 mod MapValues
+mod MarkedMemory
 mod Marks
 mod OpeningLane
 mod OpeningPages

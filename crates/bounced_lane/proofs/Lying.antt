@@ -1,6 +1,6 @@
 -- Where the bytes of a driver's loads lie among the pages that its maps really hold.
 use Rattle.std.proofs.Common.{◌≡◌, ◌≢◌, ℕ, zero, suc, ◌+◌, ◌-◌, ◌*◌, ◌/◌, ◌<◌, ◌≤◌, Bool, true, false, cond, List, []}
-use Rattle.std.proofs.Common.{◌∷◌, map, Option, Some, None, is_some, slice_get, slice_index, nat_le, nat_lt, unwrap_or}
+use Rattle.std.proofs.Common.{◌∷◌, Option, Some, None, is_some, slice_get, slice_index, nat_le, nat_lt, unwrap_or}
 use Rattle.std.proofs.Common.{refl, sym, ap, ◌∙◌, subst, arith}
 use Rattle.std.proofs.lemmas.Bool.{and_parts, leb-true, ltb-true, le-leb, lt-ltb, false≢true}
 use Rattle.std.proofs.lemmas.Option.{slice_get-map}
@@ -26,8 +26,7 @@ use Rattle.ideal_wire.specs.Apart.{HoldsPage, IsApart}
 use Rattle.ideal_wire.specs.Centre.{IsPlacedAt}
 use Rattle.ideal_wire.specs.Laid.{AreLaid, IsInPage}
 use Rattle.ideal_wire.specs.Traces.{stage_in, stage_at, has_place, bus_at, traces_of}
-use Rattle.ideal_wire.proofs.Buses.{IsBounced}
-use Rattle.ideal_wire.proofs.Placing.{Lies, ItsOwn, InPage, Load, lies-of, own-place}
+use Rattle.ideal_wire.proofs.Placing.{Lies, ItsOwn, InPage, lies-of, own-place}
 use Rattle.ideal_wire.proofs.Reaching.{all-from}
 use Rattle.bounced_lane.specs.declared.kept.KeptMap.{KeptMap}
 use Rattle.bounced_lane.specs.Covered.{is_lent, lends_pages}
@@ -108,7 +107,8 @@ module _ (l : LaneState) (laid : AreLaid l) (apart : IsApart l) (maps : FinMap n
   pub pages-same : (k : ℕ) → page_addresses (devices_of maps k).pages ≡ pages_of (stage_at l k)
   pages-same k = pages-in (get maps k) (unlent k) ∙ ap pages_of (stage-same k)
 
-  holds : (n j : ℕ) (p : FrameBytes) → slice_get (devices_of maps n).pages j ≡ Some p →
+  -- a page of a map is one that it holds
+  pub holds : (n j : ℕ) (p : FrameBytes) → slice_get (devices_of maps n).pages j ≡ Some p →
       HoldsPage l n j (page_address p)
   holds n j p h =
       ap (λ ps. slice_get ps j) (sym (pages-same n))
