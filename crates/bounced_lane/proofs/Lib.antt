@@ -1,11 +1,18 @@
 mod Awaiting
 mod Bytes
+mod Changing
 mod Covering
+mod CpuWrites
 mod Doors
+mod Finding
+mod HeldMemory
 mod Keeping
+mod Lenders
+mod Lying
 mod MapSteps
 mod MapTables
 mod MapValues
+mod MarkedMemory
 mod Marks
 mod OpeningLane
 mod OpeningPages
@@ -19,4 +26,5 @@ mod ReturnSteps
 mod TagSteps
 mod Unloaded
 mod UnloadSteps
+mod Views
 mod Wires
