@@ -5,6 +5,7 @@ mod Covering
 mod CpuWrites
 mod Doors
 mod Finding
+mod Following
 mod HeldMemory
 mod Keeping
 mod Lenders
