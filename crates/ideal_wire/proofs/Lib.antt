@@ -2,12 +2,14 @@ pub mod Accepting
 pub mod Buses
 pub mod Calls
 pub mod Carried
+pub mod ChunkExtents
 pub mod Copies
 pub mod Faithful
 pub mod FaithfulAccess
 pub mod FaithfulRanges
 pub mod FaithfulSync
 pub mod Frames
+pub mod HavingChunks
 pub mod Lent
 pub mod Loading
 pub mod Machinery
