@@ -1,4 +1,5 @@
 pub mod Accepting
+pub mod Alike
 pub mod Buses
 pub mod Calls
 pub mod Carried
@@ -21,6 +22,8 @@ pub mod Placing
 pub mod Positions
 pub mod Reaching
 pub mod Refusing
+pub mod Returning
+pub mod StillLaid
 pub mod SyncedPositions
 pub mod Turns
 pub mod Wiring

@@ -62,6 +62,7 @@ use Rattle.ideal_wire.proofs.Carried.{Carries, are-bused, carried, same-carries,
 use Rattle.ideal_wire.proofs.Carried.{unload-carries, put-stage, cut-stage}
 use Rattle.ideal_wire.proofs.Frames.{agreeing-apart}
 use Rattle.ideal_wire.proofs.Refusing.{absent, judged, either, busy, unloaded, past}
+use Rattle.ideal_wire.proofs.Returning.{returning-unloaded}
 use Rattle.ideal_wire.proofs.Wiring.{sync-stays, sync_range-stays, cpu_write-stays, dev_write-stays}
 
 module _ (l : LaneState) (a : Account) (w : Wire) (stands : Stands l) (agrees : AgreesWith l a) (laid : AreLaid l)
@@ -249,34 +250,11 @@ module _ (l : LaneState) (a : Account) (w : Wire) (stands : Stands l) (agrees : 
   given-idles : (x : Return) (rest : List Return) → l.returns ≡ x ∷ rest → Carries l (given_back x rest l)
   given-idles x rest e = by (get l.maps x.map) refl
     where
-      some : returning x.map l.returns ≡ 0 → ⊥
-      some none =
-          let one = Rattle.lane_agreement.proofs.Own.count-one (λ (r : Return). r.map == x.map) x rest in
-          let here : (x.map == x.map) ≡ true = Rattle.std.proofs.Common.eq-eqb x.map x.map refl in
-          absurd
-          (omega (
-            arith,
-            sym (ap (returning x.map) e) ∙ none,
-            one,
-            ap Rattle.lane_agreement.specs.OwnShare.one_if here,
-          ))
-
-      back : (o : LaneMap) → get l.maps x.map ≡ Some o → (b : Bool) →
-          is_returning (own_map (get l.maps x.map)) ≡ b → is_loaded o.stage ≡ false
-      back o g false r = absurd (some (agrees.returns x.map r))
-      back o g true r = stage o.stage o.zone (sym (ap (λ y. is_returning (own_map y)) g) ∙ r)
-        where
-          stage : (s : Stage) (z : Option ℕ) → is_returning (in_zone s z) ≡ true → is_loaded s ≡ false
-          stage s None h = absurd (cc)
-          stage Idle (Some z) h = refl
-          stage (Waiting load_at need) (Some z) h = refl
-          stage (Loaded cs ss ps) (Some z) h = absurd (cc)
-          stage Returning (Some z) h = refl
-
       by : (y : Option LaneMap) → get l.maps x.map ≡ y →
           Carries l (record (restaged x.map y (after_return x.map rest) l) { returns = rest })
       by None g = kept _ refl refl refl
-      by (Some o) g = put x.map _ _ (no-loan x.map o g (back o g _ refl)) refl refl refl
+      by (Some o) g =
+          put x.map _ _ (no-loan x.map o g (returning-unloaded l a agrees x rest e o g)) refl refl refl
 
   -- ---- callbacks
   called-idles : (m : ℕ) (pages : List ℕ) → Carries l (called m (get l.maps m) pages l).lane
