@@ -54,19 +54,19 @@ use Rattle.ideal_wire.proofs.Reaching.{AllReached, all-reached, byte-below, entr
 
 -- ---- small lists
 
-same-pages : (pages : List ℕ) → after.addresses (as_pages pages) ≡ pages
+pub same-pages : (pages : List ℕ) → after.addresses (as_pages pages) ≡ pages
 same-pages [] = refl
 same-pages (p ∷ pages) = ap (λ xs. p ∷ xs) (same-pages pages)
 
-count-pages : (pages : List ℕ) → length (as_pages pages) ≡ length pages
+pub count-pages : (pages : List ℕ) → length (as_pages pages) ≡ length pages
 count-pages [] = refl
 count-pages (p ∷ pages) = ap suc (count-pages pages)
 
-are-pages : (t : TagLimits) (pages : List Pa) → AllByRecursion (IsReachable t) pages → AllByRecursion IsPage pages
+pub are-pages : (t : TagLimits) (pages : List Pa) → AllByRecursion (IsReachable t) pages → AllByRecursion IsPage pages
 are-pages t [] h = tt
 are-pages t (p ∷ pages) h = (h.0.0, are-pages t pages h.1)
 
-unlent-bytes : (bytes : List ℕ) → addresses_of (unlent bytes) ≡ bytes
+pub unlent-bytes : (bytes : List ℕ) → addresses_of (unlent bytes) ≡ bytes
 unlent-bytes [] = refl
 unlent-bytes (b ∷ bytes) = ap (λ xs. b ∷ xs) (unlent-bytes bytes)
 

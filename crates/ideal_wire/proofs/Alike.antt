@@ -108,7 +108,7 @@ module _ (l l' : LaneState) (pages : l'.pages ≡ l.pages) where
       script ∙ asked_in-alike (slice_get l.script k)
 
 module _ (l l' : LaneState) (kept : KeepsRest l l') where
-  loadable-alike : (o : Option LaneMemory) (a : ℕ) → is_loadable o l' a ≡ is_loadable o l a
+  pub loadable-alike : (o : Option LaneMemory) (a : ℕ) → is_loadable o l' a ≡ is_loadable o l a
   loadable-alike None a = ap (λ p. is_own p a) kept.pages
   loadable-alike (Some x) a = refl
 

@@ -12,6 +12,7 @@ pub mod FaithfulSync
 pub mod Frames
 pub mod HavingChunks
 pub mod Lent
+pub mod LoadLaid
 pub mod Loading
 pub mod Machinery
 pub mod Machines

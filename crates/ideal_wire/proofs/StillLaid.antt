@@ -47,11 +47,11 @@ use Rattle.ideal_wire.proofs.Wiring.{own-forgotten, own-written}
 
 -- ---- what is looked up after a change
 
-put-there : {X : Type 0} (m : FinMap nat_cmp X) (k : ℕ) (v : X) →
+pub put-there : {X : Type 0} (m : FinMap nat_cmp X) (k : ℕ) (v : X) →
     get (insert m k v) k ≡ Some v
 put-there m k v = get_put m k v k ∙ ap (λ b. cond b (Some v) (get m k)) (eq-eqb k k refl)
 
-put-off : {X : Type 0} (m : FinMap nat_cmp X) (k n : ℕ) (v : X) →
+pub put-off : {X : Type 0} (m : FinMap nat_cmp X) (k n : ℕ) (v : X) →
     n ≢ k → get (insert m k v) n ≡ get m n
 put-off m k n v off = get_put m k v n ∙ ap (λ b. cond b (Some v) (get m n)) (ne_eqb n k off)
 
