@@ -1,5 +1,6 @@
 pub mod Accepting
 pub mod Alike
+pub mod Asked
 pub mod Buses
 pub mod Calls
 pub mod Carried

@@ -27,7 +27,7 @@ use Rattle.ideal_lane.specs.Outcomes.{Outcome}
 use Rattle.ideal_lane.specs.State.{LaneState, LaneMap, Loaded}
 use Rattle.ideal_wire.specs.Centre.{IsAt}
 use Rattle.ideal_wire.specs.Laid.{IsInPage, IsOfExtents, is_loadable, IsLaid, LiesIn, AreLaid}
-use Rattle.ideal_wire.specs.Traces.{stage_in, placed_from}
+use Rattle.ideal_wire.specs.Traces.{stage_in, placed_from, traces_of}
 use Rattle.ideal_wire.proofs.Accepting.{same-pages, count-pages, flat-entries, segments, fits, stage-is, loan-is}
 use Rattle.ideal_wire.proofs.Accepting.{traces-are, trace-is}
 use Rattle.ideal_wire.proofs.Alike.{KeepsRest, loadable-alike, one-changed}
@@ -138,7 +138,7 @@ module _ (l : LaneState) (laid : AreLaid l) (m : ℕ) (o : LaneMap) (none : loan
     trace = trace-is l m o load_at x chunks pages r.some r.are r.follow r.bytes;
   }
     where
-      traces : Rattle.ideal_wire.specs.Traces.traces_of after m
+      traces : traces_of after m
           ≡ placed_from (bounced_of in_pages) 0 (chunks_bytes in_pages)
       traces = traces-are l m o load_at x chunks pages
           ∙ ap (placed_from (bounced_of in_pages) 0)

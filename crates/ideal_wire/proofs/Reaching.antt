@@ -144,7 +144,7 @@ module _ (l : LaneState) (laid : AreLaid l) (machine : IsInMachine l) where
       omega (arith, low)
 
   -- a byte that is no byte of pages, but one of a memory
-  in-memory : (va p : ℕ) → or_in_memory l va None ≡ Some p → (pages_end ≤ va) × (p ≡ va - pages_end)
+  pub in-memory : (va p : ℕ) → or_in_memory l va None ≡ Some p → (pages_end ≤ va) × (p ≡ va - pages_end)
   in-memory va p h = by (is_memory_byte l va) refl h
     where
       by : (b : Bool) → is_memory_byte l va ≡ b → cond b (Some (va - pages_end)) None ≡ Some p →
