@@ -1,40 +1,36 @@
 -- A map lies as it lay, where a step leaves its stage, the bytes of its load and what its tag says.
-use Rattle.std.proofs.Common.{◌≡◌, ◌≢◌, ℕ, Bool, true, false, List, [], Option, Some, None, slice_get, is_some, inl, inr}
-use Rattle.std.proofs.Common.{refl, ap, sym, ◌∙◌, subst, ◌⊎◌}
+use Rattle.std.proofs.Common.{◌≡◌, ◌≢◌, ℕ, Bool, true, false, List, Option, Some, None, slice_get, is_some, inl, inr}
+use Rattle.std.proofs.Common.{refl, ap, sym, ◌∙◌, subst}
 use Rattle.std.specs.Option.{option_and_then}
 use Rattle.std.specs.Prelude.{unwrap_or}
 use Rattle.std.specs.FinMap.{empty, get, get-empty}
 use Rattle.std.specs.List.{enumerate_from}
 use Rattle.std.specs.Ordering.{nat_cmp}
-use Rattle.busdma_base.specs.declared.journals.report.Judged.TheVariants.{Fine}
 use Rattle.busdma_base.specs.declared.machine.address.Segment.{Segment}
 use Rattle.busdma_base.specs.declared.machine.address.Span.{Span}
 use Rattle.busdma_base.specs.declared.machine.chunk.Chunk.{Chunk}
-use Rattle.busdma_base.specs.declared.scenarios.scenario.PageRun.{PageRun}
 use Rattle.busdma_base.specs.declared.scenarios.script.Item.{Item}
 use Rattle.busdma_base.specs.declared.scenarios.script.Op.{Op}
 use Rattle.busdma_base.specs.declared.scenarios.script.Op.TheVariants as op
 use Rattle.busdma_base.specs.declared.scenarios.script.Place.TheVariants.{At}
-use Rattle.busdma_base.specs.Bounce.MemoryRuns.{in_run}
 use Rattle.busdma_base.specs.Journals.Judging.{judged}
 use Rattle.busdma_base.specs.Machine.PageRuns.{is_own}
 use Rattle.busdma_base.specs.Machine.Spans.{span_addresses, span_bytes}
 use Rattle.busdma_base.specs.Machine.Wire.{buses}
 use Rattle.dma_tag.specs.LoadFlags.{nowait}
 use Rattle.loan_table.specs.declared.position.Position.{Position}
-use Rattle.loan_table.specs.Loans.{loan_of, no_loan, addresses_of}
+use Rattle.loan_table.specs.Loans.{loan_of, addresses_of}
 use Rattle.map_sync.specs.Traces.{HasChunks}
 use Rattle.phys_memory.specs.Vector.{entries_of, one_span}
 use Rattle.segment_build.specs.Chunks.{chunks_of, need_of}
-use Rattle.segment_build.specs.Segmentation.{segment_bytes}
-use Rattle.ideal_lane.specs.Loads.{Asked, asked, chunks_for, is_coherent, is_foreign_to, limits_of, load_refusal}
+use Rattle.ideal_lane.specs.Loads.{Asked, asked, is_coherent, is_foreign_to, limits_of, load_refusal}
 use Rattle.ideal_lane.specs.Places.{physical}
 use Rattle.ideal_lane.specs.Outcomes.{is_loaded}
 use Rattle.ideal_lane.specs.State.{LaneState, LaneMap, LaneMemory, Stage, Idle, Waiting, Loaded, Returning}
 use Rattle.ideal_lane.specs.Syncs.{bounced_in}
 use Rattle.ideal_lane.specs.Turns.{asked_at, asked_by, no_load}
 use Rattle.ideal_wire.specs.Centre.{IsAt}
-use Rattle.ideal_wire.specs.Laid.{is_loadable, IsLaid, IsAwaited, LiesIn, IsRun, IsOwnByte, OfPages, OfMemory, AreLaid}
+use Rattle.ideal_wire.specs.Laid.{is_loadable, IsLaid, IsAwaited, LiesIn, IsOwnByte, OfPages, OfMemory, AreLaid}
 use Rattle.ideal_wire.specs.Laid.{chunks_at, pages_alone}
 use Rattle.ideal_wire.specs.Traces.{stage_at, placed_from, traces_of}
 use Rattle.ideal_wire.proofs.Positions.{twin_of}

@@ -1,47 +1,41 @@
 -- What a load asks can end with its pages, now and when it waited.
-use Rattle.std.proofs.Common.{◌≡◌, ℕ, zero, suc, ◌+◌, ◌-◌, ◌*◌, ◌^◌, ◌<◌, ◌≤◌, ◌==◌, ◌&&◌, not, Bool, true, false, cond}
-use Rattle.std.proofs.Common.{if◌then◌else◌, List, [], ◌∷◌, ◌++◌, map, length, Option, Some, None, slice_get, is_some}
-use Rattle.std.proofs.Common.{refl, ap, sym, ◌∙◌, subst, arith, nat_le, nat_lt, unwrap_or}
-use Rattle.std.proofs.lemmas.Bool.{and_parts, false≢true, leb-true, ltb-true, le-leb, lt-ltb, eqb-true, le-ltb}
-use Rattle.std.specs.FinMap.{FinMap, empty, get, contains_key, entries, entries_sorted, get-entries}
+use Rattle.std.proofs.Common.{◌≡◌, ℕ, zero, suc, ◌+◌, ◌-◌, ◌==◌, Bool, true, false, cond}
+use Rattle.std.proofs.Common.{if◌then◌else◌, List, [], ◌∷◌, ◌++◌, map, length, Option, Some, None, is_some}
+use Rattle.std.proofs.Common.{refl, ap, sym, ◌∙◌, subst, unwrap_or}
+use Rattle.std.proofs.lemmas.Bool.{false≢true}
+use Rattle.std.specs.FinMap.{FinMap, empty, get, entries, entries_sorted, get-entries}
 use Rattle.std.specs.List.{AllByRecursion, enumerate_from}
 use Rattle.std.specs.Ordering.{nat_cmp}
-use Rattle.busdma_base.specs.declared.journals.report.Judged.{Judged}
 use Rattle.busdma_base.specs.declared.journals.report.Judged.TheVariants.{Fine}
 use Rattle.busdma_base.specs.declared.journals.report.ReportName.{ReportName}
 use Rattle.busdma_base.specs.declared.machine.address.Span.{Span}
 use Rattle.busdma_base.specs.declared.machine.chunk.Entry.{Entry}
-use Rattle.busdma_base.specs.declared.scenarios.scenario.PageRun.{PageRun}
 use Rattle.busdma_base.specs.declared.tags.tag.TagLimits.{TagLimits}
 use Rattle.busdma_base.specs.Bounce.AccountStep.{as_pages}
-use Rattle.busdma_base.specs.Bounce.MemoryRuns.{in_run}
 use Rattle.busdma_base.specs.Journals.Judging.{judged, refused_or}
 use Rattle.busdma_base.specs.Machine.Entry.{entries_addresses}
-use Rattle.busdma_base.specs.Machine.PageRuns.{is_in_run, is_own, pages_end, physical_in}
+use Rattle.busdma_base.specs.Machine.PageRuns.{is_own, pages_end, physical_in}
 use Rattle.busdma_base.specs.Machine.Spans.{span_addresses}
 use Rattle.busdma_base.specs.Runs.{run_of}
 use Rattle.busdma_base.specs.Tags.Tag.{IsEffective}
-use Rattle.phys_memory.specs.Extents.{extents_of, reached, then_reached}
+use Rattle.phys_memory.specs.Extents.{reached, then_reached}
 use Rattle.phys_memory.specs.Translation.{Translation, physical_or_0}
-use Rattle.phys_memory.specs.Vector.{entries_of, one_span, with_entry}
-use Rattle.phys_memory.proofs.Extents.{reached_extents}
+use Rattle.phys_memory.specs.Vector.{entries_of, with_entry}
 use Rattle.phys_memory.proofs.Vectors.{entries_are}
 use Rattle.segment_build.specs.Chunks.{chunks_of, need_of}
 use Rattle.segment_build.specs.Trace.{IsPage}
-use Rattle.ideal_lane.specs.Loads.{chunks_for, is_foreign_to, limits_of, load_judged, load_refusal, one_entry}
-use Rattle.ideal_lane.specs.Places.{begin_of, is_in_memory, is_memory_byte, or_in_memory, physical}
+use Rattle.ideal_lane.specs.Loads.{is_foreign_to, limits_of, load_judged, load_refusal}
+use Rattle.ideal_lane.specs.Places.{is_in_memory, is_memory_byte, or_in_memory, physical}
 use Rattle.ideal_lane.specs.Standing.{Stands}
 use Rattle.ideal_lane.specs.State.{LaneState, LaneMap, LaneMemory}
-use Rattle.ideal_lane.proofs.Direct.{need-direct}
 use Rattle.ideal_wire.specs.Laid.{is_loadable, AreLaid, pages_alone}
-use Rattle.ideal_wire.specs.Machine.{IsOfMachine, IsInMachine}
+use Rattle.ideal_wire.specs.Machine.{IsInMachine}
 use Rattle.ideal_wire.proofs.Accepting.{limits-effective}
 use Rattle.ideal_wire.proofs.Alike.{no-memory}
 use Rattle.ideal_wire.proofs.Lent.{any_entry}
 use Rattle.ideal_wire.proofs.LoadLaid.{IsReady, ready}
 use Rattle.ideal_wire.proofs.Placing.{reached-own}
-use Rattle.ideal_wire.proofs.Positions.{found_one}
-use Rattle.ideal_wire.proofs.Reaching.{AllReached, all-from, all-reached, each-byte, entries-bytes, in-memory, paged}
+use Rattle.ideal_wire.proofs.Reaching.{AllReached, all-from, each-byte, entries-bytes, paged}
 
 -- ---- lists
 
@@ -58,12 +52,12 @@ all-fine refusal at [] h = refl
 all-fine refusal at (x ∷ xs) h =
     ap (λ o. refused_or o at (judged refusal (at + 1) xs)) h.0 ∙ all-fine refusal (at + 1) xs h.1
 
-all-map : {X Y : Type 0} (f : X → Y) (P : Y → Type 0) (xs : List X) → AllByRecursion (λ x. P (f x)) xs →
+pub all-map : {X Y : Type 0} (f : X → Y) (P : Y → Type 0) (xs : List X) → AllByRecursion (λ x. P (f x)) xs →
     AllByRecursion P (map f xs)
 all-map f P [] h = tt
 all-map f P (x ∷ xs) h = (h.0, all-map f P xs h.1)
 
-all-of : {X : Type 0} (P Q : X → Type 0) → ((x : X) → P x → Q x) → (xs : List X) → AllByRecursion P xs → AllByRecursion Q xs
+pub all-of : {X : Type 0} (P Q : X → Type 0) → ((x : X) → P x → Q x) → (xs : List X) → AllByRecursion P xs → AllByRecursion Q xs
 all-of P Q f [] h = tt
 all-of P Q f (x ∷ xs) h = (f x h.0, all-of P Q f xs h.1)
 
@@ -136,15 +130,14 @@ module _ (l : LaneState) where
   with-pages : (k : LaneState) (va p : ℕ) → physical_in k.pages va ≡ Some p → physical k va ≡ Some p
   with-pages k va p e = ap (or_in_memory k va) e
 
-  alone-same : (vas : List ℕ) → AreOfPages vas → AreSame (physical (pages_alone l)) (physical l) vas
-  alone-same vas h =
-      all-of (λ va. (p : ℕ) × (physical_in l.pages va ≡ Some p)) (λ va. physical (pages_alone l) va ≡ physical l va)
-      (λ va r. with-pages (pages_alone l) va r.0 r.1 ∙ sym (with-pages l va r.0 r.1)) vas h
-
-  pub alone-entries : (spans : List Span) → AreOfPages (span_addresses spans) →
-      entries_of true (physical (pages_alone l)) spans ≡ entries_of true (physical l) spans
-  alone-entries spans h =
-      same-entries (physical (pages_alone l)) (physical l) true spans (alone-same (span_addresses spans) h)
+  -- so the entries of such bytes are the same for each driver with these pages
+  pub pages-entries : (k : LaneState) → k.pages ≡ l.pages → (spans : List Span) → AreOfPages (span_addresses spans) →
+      entries_of true (physical k) spans ≡ entries_of true (physical l) spans
+  pages-entries k same spans h =
+      same-entries (physical k) (physical l) true spans
+      (all-of (λ va. (p : ℕ) × (physical_in l.pages va ≡ Some p)) (λ va. physical k va ≡ physical l va)
+      (λ va r. with-pages k va r.0 ((λ i. physical_in (same i) va) ∙ r.1) ∙ sym (with-pages l va r.0 r.1))
+      (span_addresses spans) h)
 
   -- they are judged fine without its memories
   pub alone-fine : (m : ℕ) (vas : List ℕ) → AreOfPages vas → load_judged (pages_alone l) m vas ≡ Fine

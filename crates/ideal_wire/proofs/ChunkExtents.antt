@@ -14,11 +14,10 @@ use Rattle.busdma_base.specs.declared.tags.tag.TagLimits.{TagLimits}
 use Rattle.busdma_base.specs.Machine.Entry.{AreJoined, IsEntry, entry_addresses}
 use Rattle.busdma_base.specs.Runs.{IsExtent, addresses, byte_count, run_of}
 use Rattle.busdma_base.specs.Tags.Tag.{IsEffective}
-use Rattle.busdma_base.specs.Tags.TagFlags.{keep_pg_offset}
 use Rattle.segment_build.specs.Building.{IsSound}
 use Rattle.segment_build.specs.Chunks.{bounced_of, chunk_limit, chunk_of, chunks_from, chunks_of, chunks_of_bytes}
 use Rattle.segment_build.specs.Chunks.{chunks_within, extent_from, to_frame_end}
-use Rattle.segment_build.specs.Trace.{chunk_len, first_page, in_page, page_offset, placed}
+use Rattle.segment_build.specs.Trace.{chunk_len, first_page, in_page, placed}
 use Rattle.segment_build.proofs.Chunking.{limit_reaches}
 use Rattle.segment_build.proofs.Sound.{all_append, chunks_sound}
 use Rattle.ideal_wire.specs.Laid.{IsOfExtents}
@@ -171,8 +170,7 @@ chunk-extents t c sound cut = by c.rest refl
     by : (r : Option Extent) → c.rest ≡ r → AllByRecursion IsExtent (c.first ∷ option_to_list r)
     by None is = (cut.first, tt)
     by (Some e) is =
-        let b = cut.rest e is in
-        (
+        let b = cut.rest e is in (
           cut.first,
           (record { some = b.0; in_frame = omega (arith, b.1, small e is c.bounced refl); numbered = b.2 }, tt),
         )

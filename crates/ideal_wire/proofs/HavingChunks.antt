@@ -7,12 +7,12 @@ use Rattle.std.proofs.lemmas.List.{take-append-le, take_all}
 use Rattle.std.specs.List.{AllByRecursion}
 use Rattle.busdma_base.specs.declared.machine.address.Pa.{Pa}
 use Rattle.busdma_base.specs.declared.machine.chunk.Chunk.{Chunk}
-use Rattle.busdma_base.specs.Machine.Wire.{Placed, is_bounced, stretch}
+use Rattle.busdma_base.specs.Machine.Wire.{Placed, is_bounced}
 use Rattle.busdma_base.specs.Runs.{run_of}
 use Rattle.map_sync.specs.Ranges.{placed_at, positions_of}
 use Rattle.map_sync.specs.Traces.{HasChunk, HasChunks}
 use Rattle.segment_build.specs.Chunks.{bounced_of}
-use Rattle.segment_build.specs.Trace.{IsPlaced, bus_addresses, bus_extent, bus_from, chunk_extents, chunk_len}
+use Rattle.segment_build.specs.Trace.{IsPlaced, bus_extent, bus_from, chunk_extents, chunk_len}
 use Rattle.segment_build.proofs.Counting.{addresses_length}
 use Rattle.segment_build.proofs.Sound.{all_append}
 use Rattle.ideal_wire.specs.Traces.{bus_at, placed_from}

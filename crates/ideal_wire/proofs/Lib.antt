@@ -12,11 +12,13 @@ pub mod FaithfulRanges
 pub mod FaithfulSync
 pub mod Frames
 pub mod HavingChunks
+pub mod LaidTurns
 pub mod Lent
 pub mod LoadLaid
 pub mod Loading
 pub mod Machinery
 pub mod Machines
+pub mod MemoryLoads
 pub mod Openings
 pub mod Pages
 pub mod Placed

@@ -1,8 +1,8 @@
 -- A load that has its pages lies in them.
-use Rattle.std.proofs.Common.{◌≡◌, ◌≢◌, ℕ, zero, suc, ◌≤◌, Bool, true, false, cond, if◌then◌else◌, List, [], ◌∷◌, length}
-use Rattle.std.proofs.Common.{Option, Some, None, slice_get, is_some, refl, ap, sym, ◌∙◌, subst, arith, nat_le, unwrap_or}
+use Rattle.std.proofs.Common.{◌≡◌, ℕ, zero, suc, ◌≤◌, Bool, true, false, cond, if◌then◌else◌, List, [], ◌∷◌, length}
+use Rattle.std.proofs.Common.{Some, slice_get, is_some, refl, ap, sym, ◌∙◌, subst, arith, nat_le, unwrap_or}
 use Rattle.std.proofs.Common.{drop}
-use Rattle.std.specs.FinMap.{get, insert}
+use Rattle.std.specs.FinMap.{get}
 use Rattle.std.specs.List.{AllByRecursion, AllZip}
 use Rattle.busdma_base.specs.declared.journals.answer.Answer.TheVariants as answer
 use Rattle.busdma_base.specs.declared.journals.report.Errno.TheVariants.{EFBIG}
@@ -25,9 +25,8 @@ use Rattle.segment_build.proofs.Sound.{chunks_sound, placed_are}
 use Rattle.ideal_lane.specs.Loads.{Asked, finished, is_coherent, limits_of, unpaged}
 use Rattle.ideal_lane.specs.Outcomes.{Outcome}
 use Rattle.ideal_lane.specs.State.{LaneState, LaneMap, Loaded}
-use Rattle.ideal_wire.specs.Centre.{IsAt}
 use Rattle.ideal_wire.specs.Laid.{IsInPage, IsOfExtents, is_loadable, IsLaid, LiesIn, AreLaid}
-use Rattle.ideal_wire.specs.Traces.{stage_in, placed_from, traces_of}
+use Rattle.ideal_wire.specs.Traces.{placed_from, traces_of}
 use Rattle.ideal_wire.proofs.Accepting.{same-pages, count-pages, flat-entries, segments, fits, stage-is, loan-is}
 use Rattle.ideal_wire.proofs.Accepting.{traces-are, trace-is}
 use Rattle.ideal_wire.proofs.Alike.{KeepsRest, loadable-alike, one-changed}
@@ -168,9 +167,9 @@ module _ (l : LaneState) (laid : AreLaid l) (m : ℕ) (o : LaneMap) (none : loan
   finished-laid = by (nat_le (length (segments l m o load_at x chunks pages)) t.nsegments)
     where
       by : (b : Bool) → AreLaid (Outcome.lane (if b then record {
-            lane = after;
-            answer = answer.Segments (segments l m o load_at x chunks pages);
-          }
+        lane = after;
+        answer = answer.Segments (segments l m o load_at x chunks pages);
+      }
           else record { lane = unpaged m o pages l; answer = answer.Refused EFBIG }))
       by true = fits-laid
       by false = unpaged-still l laid m o pages none

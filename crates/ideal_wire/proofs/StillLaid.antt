@@ -1,6 +1,6 @@
 -- Steps that end no load with pages leave the loads of a driver laid, whatever the reply to their call.
-use Rattle.std.proofs.Common.{◌≡◌, ◌≢◌, ℕ, ◌==◌, ◌&&◌, ◌≤◌, Bool, true, false, cond, if◌then◌else◌, List, [], ◌∷◌, length}
-use Rattle.std.proofs.Common.{Option, Some, None, refl, ap, sym, ◌∙◌, subst, arith, eq-eqb, is_some, unwrap_or, option_map}
+use Rattle.std.proofs.Common.{◌≡◌, ◌≢◌, ℕ, ◌==◌, ◌&&◌, Bool, true, false, cond, if◌then◌else◌, List, [], ◌∷◌, length}
+use Rattle.std.proofs.Common.{Option, Some, None, refl, ap, sym, ◌∙◌, subst, arith, eq-eqb, unwrap_or, option_map}
 use Rattle.std.proofs.lemmas.Bool.{false≢true, ne_eqb, eqb-true}
 use Rattle.std.specs.Ordering.{nat_cmp}
 use Rattle.std.specs.FinMap.{FinMap, get, insert, remove, entries, get-entries}
@@ -8,7 +8,6 @@ use Rattle.busdma_base.specs.declared.bounce.hold.HubCall.TheVariants as call
 use Rattle.busdma_base.specs.declared.bounce.hold.HubReply.{HubReply}
 use Rattle.busdma_base.specs.declared.bounce.hold.HubReply.TheVariants as reply
 use Rattle.busdma_base.specs.declared.journals.answer.Answer.TheVariants as answer
-use Rattle.busdma_base.specs.declared.journals.report.Judged.TheVariants.{Fine}
 use Rattle.busdma_base.specs.declared.journals.report.Report.{Report}
 use Rattle.busdma_base.specs.declared.journals.report.ReportName.TheVariants.{MixedSync}
 use Rattle.busdma_base.specs.declared.scenarios.script.Place.{Place}
@@ -24,11 +23,11 @@ use Rattle.loan_table.specs.Lending as lending
 use Rattle.loan_table.specs.Loans.{Loan, Loans, addresses_of, loan_of, no_loan}
 use Rattle.loan_table.proofs.Marking.{addresses_of-synced}
 use Rattle.ideal_lane.specs.Accesses.{cpu_read, cpu_write, dev_read, dev_write, values, load_bytes}
-use Rattle.ideal_lane.specs.Asking.{Asking, Gives, Asks, by_reply}
+use Rattle.ideal_lane.specs.Asking.{Asking, Asks, by_reply}
 use Rattle.ideal_lane.specs.IdealMemory.{is_known, forgotten, written}
 use Rattle.ideal_lane.specs.Loads.{emptied, limits_of, no_limits, staged, unpaged}
 use Rattle.ideal_lane.specs.Maps.{created, map, end_map, map_destroy, await, with_map}
-use Rattle.ideal_lane.specs.Outcomes.{Outcome, gives, refused, is_idle, is_loaded, load_length, unless_past, unless_refused}
+use Rattle.ideal_lane.specs.Outcomes.{Outcome, gives, refused, is_idle, is_loaded, load_length, unless_past}
 use Rattle.ideal_lane.specs.Places.{virtual_at, reached, bytes_at}
 use Rattle.ideal_lane.specs.Standing.{Stands}
 use Rattle.ideal_lane.specs.State.{LaneState, LaneTag, LaneMap, Stage, Idle, Waiting, Loaded, Returning}
@@ -42,7 +41,6 @@ use Rattle.ideal_wire.proofs.Alike.{KeepsRest, IsAlike, none-changed, one-change
 use Rattle.ideal_wire.proofs.Lent.{find_any}
 use Rattle.ideal_wire.proofs.Positions.{found_one}
 use Rattle.ideal_wire.proofs.Refusing.{absent, judged, either, unloaded, past}
-use Rattle.ideal_wire.proofs.SyncedPositions.{decided}
 use Rattle.ideal_wire.proofs.Wiring.{own-forgotten, own-written}
 
 -- ---- what is looked up after a change

@@ -1,6 +1,6 @@
 -- Any turn leaves the wire faithful, whatever pages come and go.
-use Rattle.std.proofs.Common.{◌≡◌, ◌≢◌, ℕ, ◌==◌, ◌&&◌, Bool, true, false, cond, if◌then◌else◌, List, [], ◌∷◌, ◌++◌, Option}
-use Rattle.std.proofs.Common.{Some, None, refl, ap, sym, ◌∙◌, slice_get, length, nat_le, nat_lt, subst, arith}
+use Rattle.std.proofs.Common.{◌≡◌, ℕ, ◌==◌, ◌&&◌, Bool, true, false, cond, if◌then◌else◌, List, [], ◌∷◌, Option}
+use Rattle.std.proofs.Common.{Some, None, refl, ap, ◌∙◌, slice_get, length, nat_le, nat_lt, subst, arith}
 use Rattle.std.specs.FinMap.{get, contains_key}
 use Rattle.busdma_base.specs.declared.bounce.hold.HubCall.TheVariants as call
 use Rattle.busdma_base.specs.declared.bounce.hold.HubReply.{HubReply}
@@ -27,7 +27,7 @@ use Rattle.busdma_base.specs.Tags.Tag.{could_bounce, effective}
 use Rattle.busdma_base.specs.Tags.TagFlags.{allocnow}
 use Rattle.dma_tag.specs.LoadFlags.{nowait}
 use Rattle.lane_agreement.specs.After.{addresses}
-use Rattle.lane_agreement.specs.View.{Return, returning, is_returning}
+use Rattle.lane_agreement.specs.View.{Return}
 use Rattle.lane_tables.specs.declared.queued.QueuedItem.{QueuedItem}
 use Rattle.loan_table.specs.Access.{cpu_read_answer, dev_read_answer}
 use Rattle.loan_table.specs.Loans.{loan_of, no_loan}
@@ -51,7 +51,6 @@ use Rattle.ideal_lane.specs.Tags.{with_tag, attached, tag_or_invalid, tag, tag_d
 use Rattle.ideal_lane.specs.Turns.{Turned, operation, transfer, waits, asked_at, called, called_in, called_back, lane_step}
 use Rattle.ideal_lane.specs.Turns as turns
 use Rattle.ideal_lane.specs.Unloads.{unload, restaged, given_back, after_return}
-use Rattle.ideal_lane.specs.View.{own_map, in_zone}
 use Rattle.ideal_wire.specs.Apart.{IsApart}
 use Rattle.ideal_wire.specs.Centre.{IsFaithful}
 use Rattle.ideal_wire.specs.Laid.{LiesIn, AreLaid}
