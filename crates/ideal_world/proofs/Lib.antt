@@ -1,4 +1,5 @@
 pub mod Falling
+pub mod Few
 pub mod Going
 pub mod Keeping
 pub mod Lanes

@@ -133,7 +133,7 @@ module _ (s : Scenario) (w : WorldState) (well : IsWellFormed s w) (rest : IsAtR
   -- ---- each driver
 
   module _ (i : ℕ) (l : LaneState) (there : slice_get w.lanes i ≡ Some l) where
-    driver : IsDriverOf w.account i l
+    driver : IsDriverOf s w.account i l
     driver = well.each i l there
 
     no-turn : (d : Side) → entry_of (replied w i l (lane_step l d)).turn ≡ None

@@ -1,6 +1,6 @@
 //! Laws of the ideal world and of its journals.
 
-ghost use Rattle.std.specs.Prelude.{◌≡◌, ◌<◌, ℕ, Some, None, slice_get};
+ghost use Rattle.std.specs.Prelude.{◌≡◌, ◌<◌, ◌^◌, ℕ, Some, None, slice_get};
 ghost use Rattle.busdma_base.specs.declared.journals.journal.Actor.{Actor};
 ghost use Rattle.busdma_base.specs.declared.journals.journal.Journal.{Journal};
 ghost use Rattle.busdma_base.specs.declared.journals.journal.JournalEntry.{JournalEntry};
@@ -15,7 +15,7 @@ ghost use Rattle.ideal_world.specs.Left.{left_of};
 ghost use Rattle.ideal_world.specs.Legal.{IsLegal, IsReplayed};
 ghost use Rattle.ideal_world.specs.Waiting.{OnlyAwaits};
 ghost use Rattle.ideal_world.specs.WellFormed.{IsWellFormed};
-ghost use Rattle.ideal_world.specs.World.{WorldState, opening_world, step, step_entry};
+ghost use Rattle.ideal_world.specs.World.{WorldState, bounced, opening_world, step, step_entry};
 
 /// The world in which a valid scenario opens is well formed.
 pub fn opening_is_well_formed()
@@ -39,6 +39,11 @@ pub fn each_step_falls()
     ensures falls { (s : Scenario) (w : WorldState) (actor : Actor) (e : JournalEntry) → IsWellFormed s w →
         step_entry w actor ≡ Some e → left_of (step w actor).world < left_of w }
     ensures rests { (w : WorldState) (actor : Actor) → step_entry w actor ≡ None → (step w actor).world ≡ w }
+{}
+
+/// The drivers' shares of a zone's total_bounced are together below 2^64, as a count is.
+pub fn counts_fit()
+    ensures { (s : Scenario) (w : WorldState) (z : ℕ) → IsWellFormed s w → bounced w z < 2 ^ 64 }
 {}
 
 /// In a well-formed world in which no actor can step, each driver's script has ended or awaits a map

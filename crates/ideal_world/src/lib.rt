@@ -5,6 +5,6 @@
 mod laws;
 
 pub use laws::{
-    each_scenario_is_replayed, each_step_falls, legal_journals_wait, one_replayed,
+    counts_fit, each_scenario_is_replayed, each_step_falls, legal_journals_wait, one_replayed,
     opening_is_well_formed, replay_is_legal, steps_keep_it, stuck_worlds_wait,
 };
