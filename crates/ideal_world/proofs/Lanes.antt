@@ -76,6 +76,12 @@ each_set P (x ∷ ls) (suc k) m here others zero l h =
 each_set P (x ∷ ls) (suc k) m here others (suc i) l h =
     each_set (λ j. P (suc j)) ls k m here (λ j n off e. others (suc j) n (λ q. off (omega (arith, q))) e) i l h
 
+-- a driver that is put at a place is there
+pub set-here : (ls : List LaneState) (k : ℕ) (m : LaneState) → k < length ls → slice_get (slice_set ls k m) k ≡ Some m
+set-here [] k m lt = absurd (omega (arith, lt))
+set-here (x ∷ ls) zero m lt = refl
+set-here (x ∷ ls) (suc k) m lt = set-here ls k m (omega (arith, lt))
+
 -- a driver that is put back as it was
 pub set_same : (ls : List LaneState) (k : ℕ) (l m : LaneState) →
     slice_get ls k ≡ Some l → m ≡ l → slice_set ls k m ≡ ls

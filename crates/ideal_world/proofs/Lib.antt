@@ -12,3 +12,4 @@ pub mod Rest
 pub mod Rounds
 pub mod Stuck
 pub mod Waiters
+pub mod Wiring
