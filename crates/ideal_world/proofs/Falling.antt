@@ -1,6 +1,6 @@
 -- A turn that is a step leaves all drivers less to do; any other leaves the world as it was.
 use Rattle.std.proofs.Common.{◌≡◌, ℕ, ◌<◌, ◌==◌, Bool, true, false, List, [], ◌∷◌, Option, Some, None, if◌then◌else◌}
-use Rattle.std.proofs.Common.{refl, ap, slice_get}
+use Rattle.std.proofs.Common.{refl, ap, arith, slice_get}
 use Rattle.busdma_base.specs.declared.bounce.zone.Waiter.{Waiter}
 use Rattle.busdma_base.specs.declared.journals.journal.Actor.{Actor}
 use Rattle.busdma_base.specs.declared.journals.journal.JournalEntry.{JournalEntry}
@@ -22,7 +22,7 @@ use Rattle.ideal_world.specs.Left.{left_of}
 use Rattle.ideal_world.specs.WellFormed.{IsWellFormed}
 use Rattle.ideal_world.specs.World.{WorldState, turned, replied, step_of, step, entry_of, step_entry}
 use Rattle.ideal_world.proofs.Keeping.{fits}
-use Rattle.ideal_world.proofs.Lanes.{set_same, sum_falls}
+use Rattle.ideal_world.proofs.Lanes.{set_same, sum_set}
 
 -- ---- a step
 
@@ -34,10 +34,10 @@ fell l m Ended e f h = absurd (cc)
 module _ (w : WorldState) (i : ℕ) (l : LaneState) (there : slice_get w.lanes i ≡ Some l) where
   driver-falls : (x : Asking Turned) (e : JournalEntry) → FallsOrStays l w.account x →
       entry_of (replied w i l x).turn ≡ Some e → left_of (replied w i l x).world < left_of w
-  driver-falls (Gives t) e f h = sum_falls w.lanes i l t.lane there (fell l t.lane t.turn e f h)
+  driver-falls (Gives t) e f h = omega (arith, sum_set left w.lanes i l t.lane there, fell l t.lane t.turn e f h)
   driver-falls (Asks c k) e f h =
       let t : Turned = k (account_step l.id c w.account).reply in
-      sum_falls w.lanes i l t.lane there (fell l t.lane t.turn e f h)
+      omega (arith, sum_set left w.lanes i l t.lane there, fell l t.lane t.turn e f h)
 
 pub step-falls : (s : Scenario) (w : WorldState) (actor : Actor) (e : JournalEntry) → IsWellFormed s w →
     step_entry w actor ≡ Some e → left_of (step w actor).world < left_of w

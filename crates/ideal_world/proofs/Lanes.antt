@@ -4,7 +4,6 @@ use Rattle.std.proofs.Common.{sym, ap, ◌∙◌, arith, subst, slice_get, slice
 use Rattle.std.proofs.lemmas.List.Sums.{sum_by-cons}
 use Rattle.std.specs.List.{sum_by}
 use Rattle.busdma_base.specs.declared.scenarios.scenario.Driver.{Driver}
-use Rattle.ideal_lane.specs.Left.{left}
 use Rattle.ideal_lane.specs.Opening.{opening_lane}
 use Rattle.ideal_lane.specs.State.{LaneState}
 use Rattle.ideal_world.specs.World.{opening_lanes}
@@ -34,6 +33,17 @@ opening_at id maxmem (d ∷ ds) (suc i) l h =
 pub length-opening_lanes : (id maxmem : ℕ) (ds : List Driver) → length (opening_lanes id maxmem ds) ≡ length ds
 length-opening_lanes id maxmem [] = refl
 length-opening_lanes id maxmem (d ∷ ds) = ap suc (length-opening_lanes (id + 1) maxmem ds)
+
+-- no driver has counted a sync when it opens
+pub none-bounced : (id maxmem : ℕ) (ds : List Driver) (z : ℕ) →
+    sum_by (λ (l : LaneState). l.shares z) (opening_lanes id maxmem ds) ≡ 0
+none-bounced id maxmem [] z = refl
+none-bounced id maxmem (d ∷ ds) z =
+    omega (
+      arith,
+      sum_by-cons (λ (l : LaneState). l.shares z) (opening_lane id maxmem d) (opening_lanes (id + 1) maxmem ds),
+      none-bounced (id + 1) maxmem ds z,
+    )
 
 pub length-slice_set : (ls : List LaneState) (k : ℕ) (m : LaneState) → length (slice_set ls k m) ≡ length ls
 length-slice_set [] k m = refl
@@ -66,6 +76,12 @@ each_set P (x ∷ ls) (suc k) m here others zero l h =
 each_set P (x ∷ ls) (suc k) m here others (suc i) l h =
     each_set (λ j. P (suc j)) ls k m here (λ j n off e. others (suc j) n (λ q. off (omega (arith, q))) e) i l h
 
+-- a driver that is put at a place is there
+pub set-here : (ls : List LaneState) (k : ℕ) (m : LaneState) → k < length ls → slice_get (slice_set ls k m) k ≡ Some m
+set-here [] k m lt = absurd (omega (arith, lt))
+set-here (x ∷ ls) zero m lt = refl
+set-here (x ∷ ls) (suc k) m lt = set-here ls k m (omega (arith, lt))
+
 -- a driver that is put back as it was
 pub set_same : (ls : List LaneState) (k : ℕ) (l m : LaneState) →
     slice_get ls k ≡ Some l → m ≡ l → slice_set ls k m ≡ ls
@@ -73,12 +89,12 @@ set_same [] k l m e same = refl
 set_same (x ∷ ls) zero l m e same = let q : x ≡ l = cc in ap (λ y. y ∷ ls) (same ∙ sym q)
 set_same (x ∷ ls) (suc k) l m e same = ap (λ t. x ∷ t) (set_same ls k l m e same)
 
--- where one driver has less to do, all together have
-pub sum_falls : (ls : List LaneState) (k : ℕ) (l m : LaneState) → slice_get ls k ≡ Some l → left m < left l →
-    sum_by left (slice_set ls k m) < sum_by left ls
-sum_falls [] k l m e h = absurd (cc)
-sum_falls (x ∷ ls) zero l m e h =
+-- what one driver has less or more of, all together have
+pub sum_set : (f : LaneState → ℕ) (ls : List LaneState) (k : ℕ) (l m : LaneState) → slice_get ls k ≡ Some l →
+    sum_by f (slice_set ls k m) + f l ≡ sum_by f ls + f m
+sum_set f [] k l m e = absurd (cc)
+sum_set f (x ∷ ls) zero l m e =
     let q : x ≡ l = cc in
-    omega (arith, sum_by-cons left m ls, sum_by-cons left x ls, ap left q)
-sum_falls (x ∷ ls) (suc k) l m e h =
-    omega (arith, sum_by-cons left x ls, sum_by-cons left x (slice_set ls k m), sum_falls ls k l m e h)
+    omega (arith, sum_by-cons f m ls, sum_by-cons f x ls, ap f q)
+sum_set f (x ∷ ls) (suc k) l m e =
+    omega (arith, sum_by-cons f x ls, sum_by-cons f x (slice_set ls k m), sum_set f ls k l m e)

@@ -1,4 +1,5 @@
 pub mod Falling
+pub mod Few
 pub mod Going
 pub mod Keeping
 pub mod Lanes
@@ -11,3 +12,4 @@ pub mod Rest
 pub mod Rounds
 pub mod Stuck
 pub mod Waiters
+pub mod Wiring

@@ -11,15 +11,19 @@ use Rattle.ideal_lane.specs.State.{LaneState}
 use Rattle.ideal_lane.proofs.Openings.{opens-standing, opens-agreeing}
 use Rattle.ideal_world.specs.WellFormed.{IsDriverOf, IsWellFormed}
 use Rattle.ideal_world.specs.World.{opening_world}
-use Rattle.ideal_world.proofs.Lanes.{OpensAt, opening_at, length-opening_lanes}
+use Rattle.ideal_world.proofs.Lanes.{OpensAt, opening_at, length-opening_lanes, none-bounced}
 
 module _ (s : Scenario) (valid : IsValid s) where
-  driver : (i : ℕ) (l : LaneState) → OpensAt 0 (maxmem_of s.frames) s.drivers i l → IsDriverOf (opening s) i l
+  driver : (i : ℕ) (l : LaneState) → OpensAt 0 (maxmem_of s.frames) s.drivers i l → IsDriverOf s (opening s) i l
   driver i l o =
       let at : 0 + i ≡ i = omega arith in
-      subst (IsDriverOf (opening s) i) (sym o.opens)
-      (subst (λ k. IsDriverOf (opening s) i (opening_lane k (maxmem_of s.frames) o.driver)) (sym at) (record {
+      subst (IsDriverOf s (opening s) i) (sym o.opens)
+      (subst (λ k. IsDriverOf s (opening s) i (opening_lane k (maxmem_of s.frames) o.driver)) (sym at) (record {
+        driver = o.driver;
+        there = o.there;
         number = refl;
+        script = refl;
+        pages = refl;
         stands = opens-standing i (maxmem_of s.frames) o.driver;
         agrees = opens-agreeing s i o.driver (opening-may_begin s valid) o.there;
       }))
@@ -29,5 +33,6 @@ module _ (s : Scenario) (valid : IsValid s) where
     valid = valid;
     count = length-opening_lanes 0 (maxmem_of s.frames) s.drivers;
     each = λ i l h. driver i l (opening_at 0 (maxmem_of s.frames) s.drivers i l h);
+    few = λ z. let e = none-bounced 0 (maxmem_of s.frames) s.drivers z in omega (arith, e);
     reached = record { history = []; sound = tt; own = All-nil (λ (e : HoldEntry). e.lane.0 < length s.drivers); leads = refl };
   }

@@ -1,6 +1,6 @@
--- A turn keeps its driver's number, and the entry of its step names the driver and its side.
-use Rattle.std.proofs.Common.{◌≡◌, ℕ, ◌+◌, ◌-◌, ◌==◌, ◌&&◌, Bool, true, false, if◌then◌else◌, List, [], ◌∷◌, length}
-use Rattle.std.proofs.Common.{Option, Some, None, refl, ap, nat_le, nat_lt, slice_get}
+-- What a driver keeps at each turn; and the entry of its step names the driver and its side.
+use Rattle.std.proofs.Common.{◌≡◌, ℕ, ◌+◌, ◌-◌, ◌≤◌, ◌==◌, ◌&&◌, Bool, true, false, if◌then◌else◌, List, [], ◌∷◌, length}
+use Rattle.std.proofs.Common.{Option, Some, None, refl, ap, arith, min, nat_le, nat_lt, slice_get}
 use Rattle.std.specs.FinMap.{get, remove, contains_key}
 use Rattle.busdma_base.specs.declared.bounce.hold.HubCall.TheVariants as call
 use Rattle.busdma_base.specs.declared.bounce.hold.HubReply.{HubReply}
@@ -16,6 +16,7 @@ use Rattle.busdma_base.specs.declared.journals.report.ReportName.TheVariants.{Ma
 use Rattle.busdma_base.specs.declared.journals.report.ReportName.TheVariants.{PastEnd}
 use Rattle.busdma_base.specs.declared.machine.address.Segment.{Segment}
 use Rattle.busdma_base.specs.declared.machine.chunk.Chunk.{Chunk}
+use Rattle.busdma_base.specs.declared.scenarios.scenario.PageRun.{PageRun}
 use Rattle.busdma_base.specs.declared.scenarios.script.Item.{Item}
 use Rattle.busdma_base.specs.declared.scenarios.script.Item.TheVariants as item
 use Rattle.busdma_base.specs.declared.scenarios.script.Op.{Op}
@@ -48,7 +49,7 @@ use Rattle.ideal_lane.specs.Maps.{with_map, created, map, end_map, map_destroy, 
 use Rattle.ideal_lane.specs.Outcomes.{Outcome, gives, refused, unless_absent, unless_refused, unless_busy}
 use Rattle.ideal_lane.specs.Outcomes.{unless_unloaded, unless_past, is_idle, is_loaded, load_length}
 use Rattle.ideal_lane.specs.Places.{virtual_at, reached, bytes_at}
-use Rattle.ideal_lane.specs.Syncs.{sync_part, sync, sync_range}
+use Rattle.ideal_lane.specs.Syncs.{copies, counted, greatest_share, sync_part, sync, sync_range}
 use Rattle.ideal_lane.specs.Tags.{with_tag, attached, tag_or_invalid, tag, tag_destroy, has_maps}
 use Rattle.ideal_lane.specs.Turns.{Turn, Turned, Stepped, Blocked, Ended, stays, operation, load_at_place}
 use Rattle.ideal_lane.specs.Turns.{transfer, waits, advanced, left_queue, next_operation, release, script_turn}
@@ -65,24 +66,49 @@ IsOwnBy id s (Stepped entry) = entry.actor ≡ actor_of s id
 IsOwnBy id s Blocked = Unit {0}
 IsOwnBy id s Ended = Unit {0}
 
--- a turn keeps the driver's number, and its entry is the driver's
-pub record IsOwn (id : ℕ) (s : Side) (t : Turned) : Type 0 where
-  pub same : t.lane.id ≡ id
-  pub actor : IsOwnBy id s t.turn
+-- what a driver keeps at each turn: its number, its script and its pages; and it counts at most one sync more for each
+-- zone
+pub record Kept (l : LaneState) (id : ℕ) (script : List Op) (pages : List PageRun) (shares : ℕ → ℕ) : Type 0 where
+  pub same_id : id ≡ l.id
+  pub same_script : script ≡ l.script
+  pub same_pages : pages ≡ l.pages
+  pub few : (z : ℕ) → shares z ≤ l.shares z + 1
+
+-- a driver's state after a turn
+abbrev pub IsLater : LaneState → LaneState → Type 0
+IsLater l m = Kept l m.id m.script m.pages m.shares
+
+-- a turn leaves a later state of the driver, and its entry is the driver's
+pub record IsOwn (l : LaneState) (s : Side) (t : Turned) : Type 0 where
+  pub later : IsLater l t.lane
+  pub actor : IsOwnBy l.id s t.turn
+
+-- a sync counts at most once
+counted-once : (copied : Bool) (zone : Option ℕ) (shares : ℕ → ℕ) (y : ℕ) → counted copied zone shares y ≤ shares y + 1
+counted-once copied None shares y = omega arith
+counted-once false (Some z) shares y = omega arith
+counted-once true (Some z) shares y = by (y == z)
+  where
+    by : (b : Bool) → (if b then min (shares y + 1) greatest_share else shares y) ≤ shares y + 1
+    by true = omega arith
+    by false = omega arith
 
 module _ (l : LaneState) where
-  -- an operation or an item keeps the driver's number
+  still : IsLater l l
+  still = record { same_id = refl; same_script = refl; same_pages = refl; few = λ z. omega arith }
+
+  -- an operation or an item leaves a later state of the driver
   abbrev Keeps : Asking Outcome → Type 0
-  Keeps x = (r : HubReply) → (by_reply x r).lane.id ≡ l.id
+  Keeps x = (r : HubReply) → IsLater l (by_reply x r).lane
 
   absent : {X : Type 0} (o : Option X) (step : X → Asking Outcome) → ((x : X) → Keeps (step x)) →
       Keeps (unless_absent o l step)
-  absent None step h r = refl
+  absent None step h r = still
   absent (Some x) step h r = h x r
 
   judged : (j : Judged) (x : Asking Outcome) → Keeps x → Keeps (unless_refused j l x)
   judged Fine x h r = h r
-  judged (Refused report) x h r = refl
+  judged (Refused report) x h r = still
 
   either : (b : Bool) (x y : Asking Outcome) → Keeps x → Keeps y → Keeps (if b then x else y)
   either true x y h k = h
@@ -91,40 +117,40 @@ module _ (l : LaneState) where
   busy : (m : ℕ) (step : LaneMap → Asking Outcome) → ((o : LaneMap) → Keeps (step o)) → Keeps (unless_busy m l step)
   busy m step h =
       absent (get l.maps m) (λ o. if is_idle o.stage then step o else refused MapBusy 0 l) (λ o.
-      either (is_idle o.stage) (step o) (refused MapBusy 0 l) (h o) (λ r. refl))
+      either (is_idle o.stage) (step o) (refused MapBusy 0 l) (h o) (λ r. still))
 
   unloaded : (m : ℕ) (step : LaneMap → Asking Outcome) → ((o : LaneMap) → Keeps (step o)) →
       Keeps (unless_unloaded m l step)
   unloaded m step h =
       absent (get l.maps m) (λ o. if is_loaded o.stage then step o else refused NotLoaded 0 l) (λ o.
-      either (is_loaded o.stage) (step o) (refused NotLoaded 0 l) (h o) (λ r. refl))
+      either (is_loaded o.stage) (step o) (refused NotLoaded 0 l) (h o) (λ r. still))
 
   past : (m off len : ℕ) (x : Asking Outcome) → Keeps x → Keeps (unless_past m off len l x)
   past m off len x h =
-      either (nat_le (off + len) (load_length l m)) x (refused PastEnd (load_length l m - off) l) h (λ r. refl)
+      either (nat_le (off + len) (load_length l m)) x (refused PastEnd (load_length l m - off) l) h (λ r. still)
 
   -- ---- tags and maps
 
-  attached-keeps : (t : TagLimits) (r : HubReply) → (attached t l r).lane.id ≡ l.id
+  attached-keeps : (t : TagLimits) (r : HubReply) → IsLater l (attached t l r).lane
   attached-keeps t (reply.Grown g) = by g.made
     where
-      by : (b : Bool) → LaneState.id (if b then with_tag l.place t true l else l) ≡ l.id
-      by true = refl
-      by false = refl
-  attached-keeps t reply.Nothing = refl
-  attached-keeps t (reply.Granted pages) = refl
-  attached-keeps t (reply.Queued have) = refl
-  attached-keeps t reply.NoPages = refl
-  attached-keeps t (reply.Served n) = refl
-  attached-keeps t (reply.Called n pages) = refl
-  attached-keeps t (reply.Run first count) = refl
-  attached-keeps t reply.NoRun = refl
+      by : (b : Bool) → IsLater l (if b then with_tag l.place t true l else l)
+      by true = still
+      by false = still
+  attached-keeps t reply.Nothing = still
+  attached-keeps t (reply.Granted pages) = still
+  attached-keeps t (reply.Queued have) = still
+  attached-keeps t reply.NoPages = still
+  attached-keeps t (reply.Served n) = still
+  attached-keeps t (reply.Called n pages) = still
+  attached-keeps t (reply.Run first count) = still
+  attached-keeps t reply.NoRun = still
 
   tag_or-keeps : (t : Option TagLimits) → Keeps (tag_or_invalid t l)
-  tag_or-keeps None = λ r. refl
+  tag_or-keeps None = λ r. still
   tag_or-keeps (Some t) =
       either (could_bounce t l.maxmem && allocnow t.flags) (Asks (call.AttachTag t) (attached t l))
-      (gives (with_tag l.place t false l) answer.Done) (attached-keeps t) (λ r. refl)
+      (gives (with_tag l.place t false l) answer.Done) (attached-keeps t) (λ r. still)
 
   tag-keeps : (parent : Option ℕ) (limits : TagLimits) → Keeps (tag parent limits l)
   tag-keeps None limits = tag_or-keeps (effective None limits)
@@ -136,70 +162,70 @@ module _ (l : LaneState) where
   tag_destroy-keeps t =
       absent (get l.tags t) _ (λ x.
       either (has_maps l t) (gives l (answer.Refused EBUSY)) (gives (record l { tags = remove l.tags t }) answer.Done)
-      (λ r. refl) (λ r. refl))
+      (λ r. still) (λ r. still))
 
-  created-keeps : (t : ℕ) (o : LaneTag) (r : HubReply) → (created t o l r).lane.id ≡ l.id
+  created-keeps : (t : ℕ) (o : LaneTag) (r : HubReply) → IsLater l (created t o l r).lane
   created-keeps t o (reply.Grown g) = by g.made
     where
       by : (b : Bool) →
-          LaneState.id (if b then with_tag t o.limits true (with_map t (Some g.zone.0) l) else l) ≡ l.id
-      by true = refl
-      by false = refl
-  created-keeps t o reply.Nothing = refl
-  created-keeps t o (reply.Granted pages) = refl
-  created-keeps t o (reply.Queued have) = refl
-  created-keeps t o reply.NoPages = refl
-  created-keeps t o (reply.Served n) = refl
-  created-keeps t o (reply.Called n pages) = refl
-  created-keeps t o (reply.Run first count) = refl
-  created-keeps t o reply.NoRun = refl
+          IsLater l (if b then with_tag t o.limits true (with_map t (Some g.zone.0) l) else l)
+      by true = still
+      by false = still
+  created-keeps t o reply.Nothing = still
+  created-keeps t o (reply.Granted pages) = still
+  created-keeps t o (reply.Queued have) = still
+  created-keeps t o reply.NoPages = still
+  created-keeps t o (reply.Served n) = still
+  created-keeps t o (reply.Called n pages) = still
+  created-keeps t o (reply.Run first count) = still
+  created-keeps t o reply.NoRun = still
 
   map-keeps : (t : ℕ) → Keeps (map t l)
   map-keeps t =
       absent (get l.tags t) _ (λ o.
       either (could_bounce o.limits l.maxmem)
       (Asks (call.CreateMap (named l l.place) o.limits o.first_done) (created t o l))
-      (gives (with_map t None l) answer.Done) (created-keeps t o) (λ r. refl))
+      (gives (with_map t None l) answer.Done) (created-keeps t o) (λ r. still))
 
   end-keeps : (m : ℕ) (zone : Option ℕ) → Keeps (end_map m zone l)
-  end-keeps m None r = refl
-  end-keeps m (Some z) r = refl
+  end-keeps m None r = still
+  end-keeps m (Some z) r = still
 
   map_destroy-keeps : (m : ℕ) → Keeps (map_destroy m l)
   map_destroy-keeps m =
       absent (get l.maps m) _ (λ o.
-      either (is_idle o.stage) (end_map m o.zone l) (gives l (answer.Refused EBUSY)) (end-keeps m o.zone) (λ r. refl))
+      either (is_idle o.stage) (end_map m o.zone l) (gives l (answer.Refused EBUSY)) (end-keeps m o.zone) (λ r. still))
 
   await-keeps : (m : ℕ) → Keeps (await m l)
   await-keeps m =
       absent (get l.maps m) _ (λ o.
-      either o.tried (gives l answer.Done) (refused NotDeferred 0 l) (λ r. refl) (λ r. refl))
+      either o.tried (gives l answer.Done) (refused NotDeferred 0 l) (λ r. still) (λ r. still))
 
   -- ---- loads
 
   finished-keeps : (m : ℕ) (o : LaneMap) (at : ℕ) (x : Asked) (chunks : List Chunk) (pages : List ℕ) →
-      (finished m o at x chunks pages l).lane.id ≡ l.id
-  finished-keeps m o at x chunks pages = by (nat_le (length segments) (limits_of l o).nsegments) _ _ refl refl
+      IsLater l (finished m o at x chunks pages l).lane
+  finished-keeps m o at x chunks pages = by (nat_le (length segments) (limits_of l o).nsegments) _ _ still still
     where
       segments : List Segment
       segments = segmentation (limits_of l o) (placed_pieces (limits_of l o) chunks (as_pages pages))
 
-      by : (b : Bool) (y z : Outcome) → y.lane.id ≡ l.id → z.lane.id ≡ l.id →
-          LaneState.id (Outcome.lane (if b then y else z)) ≡ l.id
+      by : (b : Bool) (y z : Outcome) → IsLater l y.lane → IsLater l z.lane →
+          IsLater l (Outcome.lane (if b then y else z))
       by true y z h k = h
       by false y z h k = k
 
   granted-keeps : (m : ℕ) (o : LaneMap) (x : Asked) (chunks : List Chunk) (r : HubReply) →
-      (granted m o x chunks l r).lane.id ≡ l.id
+      IsLater l (granted m o x chunks l r).lane
   granted-keeps m o x chunks (reply.Granted pages) = finished-keeps m o l.place x chunks (addresses pages)
-  granted-keeps m o x chunks (reply.Queued have) = refl
-  granted-keeps m o x chunks reply.Nothing = refl
-  granted-keeps m o x chunks (reply.Grown g) = refl
-  granted-keeps m o x chunks reply.NoPages = refl
-  granted-keeps m o x chunks (reply.Served n) = refl
-  granted-keeps m o x chunks (reply.Called n pages) = refl
-  granted-keeps m o x chunks (reply.Run first count) = refl
-  granted-keeps m o x chunks reply.NoRun = refl
+  granted-keeps m o x chunks (reply.Queued have) = still
+  granted-keeps m o x chunks reply.Nothing = still
+  granted-keeps m o x chunks (reply.Grown g) = still
+  granted-keeps m o x chunks reply.NoPages = still
+  granted-keeps m o x chunks (reply.Served n) = still
+  granted-keeps m o x chunks (reply.Called n pages) = still
+  granted-keeps m o x chunks (reply.Run first count) = still
+  granted-keeps m o x chunks reply.NoRun = still
 
   chunks-keep : (m : ℕ) (o : LaneMap) (x : Asked) (chunks : List Chunk) → Keeps (load_chunks m o x chunks l)
   chunks-keep m o x chunks =
@@ -212,7 +238,7 @@ module _ (l : LaneState) where
       busy m _ (λ o.
       judged x.judged _ (
       either (nat_lt (limits_of l o).maxsize x.len) (Gives (ended m o (answer.Refused EINVAL) l))
-      (load_chunks m o x (chunks_for l o (contains_key l.mems m) x.entries) l) (λ r. refl)
+      (load_chunks m o x (chunks_for l o (contains_key l.mems m) x.entries) l) (λ r. still)
       (chunks-keep m o x (chunks_for l o (contains_key l.mems m) x.entries))))
 
   load_at-keeps : (m : ℕ) (place : Place) (len flags : ℕ) (items : List Item) →
@@ -221,13 +247,19 @@ module _ (l : LaneState) where
       absent (virtual_at l place) _ (λ va. load-keeps m (asked m (one_span va len) (nowait flags) items l))
 
   unload-keeps : (m : ℕ) → Keeps (unload m l)
-  unload-keeps m = unloaded m _ (λ o r. refl)
+  unload-keeps m = unloaded m _ (λ o r. still)
 
   -- ---- syncs and accesses
 
   part-keeps : (m : ℕ) (o : LaneMap) (off len ops : ℕ) → Keeps (sync_part m o off len ops l)
   part-keeps m o off len ops =
-      either (is_mixed ops) (refused MixedSync 0 l) _ (λ r. refl) (judged (sync_answer l.loans m off len ops) _ (λ r. refl))
+      either (is_mixed ops) (refused MixedSync 0 l) _ (λ r. still)
+      (judged (sync_answer l.loans m off len ops) _ (λ r. record {
+        same_id = refl;
+        same_script = refl;
+        same_pages = refl;
+        few = counted-once (copies off len ops o.stage) o.zone l.shares;
+      }))
 
   sync-keeps : (m ops : ℕ) → Keeps (sync m ops l)
   sync-keeps m ops = unloaded m _ (λ o. part-keeps m o 0 (load_length l m) ops)
@@ -240,26 +272,26 @@ module _ (l : LaneState) where
       absent (virtual_at l place) _ (λ va.
       judged (reached l va len) _ (
       judged (cpu_read_answer (is_known l.memory) l.loans (bytes_at l (run_of va len)))
-      (gives l (answer.Bytes (values l (bytes_at l (run_of va len))))) (λ r. refl)))
+      (gives l (answer.Bytes (values l (bytes_at l (run_of va len))))) (λ r. still)))
 
   cpu_write-keeps : (place : Place) (vs : List ℕ) → Keeps (cpu_write place vs l)
   cpu_write-keeps place vs =
       absent (virtual_at l place) _ (λ va.
       judged (reached l va (length vs)) _ (
       judged (cpu_write_answer l.loans (bytes_at l (run_of va (length vs))))
-      (gives (record l { memory = written (bytes_at l (run_of va (length vs))) vs l.memory }) answer.Done) (λ r. refl)))
+      (gives (record l { memory = written (bytes_at l (run_of va (length vs))) vs l.memory }) answer.Done) (λ r. still)))
 
   dev_read-keeps : (m off len : ℕ) → Keeps (dev_read m off len l)
   dev_read-keeps m off len =
       unloaded m _ (λ o. past m off len _ (
       judged (dev_read_answer (is_known l.memory) (loan_of l.loans m) off len)
-      (gives l (answer.Bytes (values l (load_bytes l m off len)))) (λ r. refl)))
+      (gives l (answer.Bytes (values l (load_bytes l m off len)))) (λ r. still)))
 
   dev_write-keeps : (m off : ℕ) (vs : List ℕ) → Keeps (dev_write m off vs l)
   dev_write-keeps m off vs =
       unloaded m _ (λ o. past m off (length vs) _ (
       judged (dev_write_answer (loan_of l.loans m) off (length vs))
-      (gives (record l { memory = written (load_bytes l m off (length vs)) vs l.memory }) answer.Done) (λ r. refl)))
+      (gives (record l { memory = written (load_bytes l m off (length vs)) vs l.memory }) answer.Done) (λ r. still)))
 
   -- ---- turns
 
@@ -283,18 +315,18 @@ module _ (l : LaneState) where
   transfer-keeps (item.DevWrite m off bytes) = dev_write-keeps m off (bytes_of bytes)
 
   -- an entry is that of a driver with this number
-  names : (s : Side) (o : Outcome) → o.lane.id ≡ l.id →
+  names : (s : Side) (o : Outcome) → IsLater l o.lane →
       actor_of s o.lane.id ≡ actor_of s l.id
-  names s o h = ap (actor_of s) h
+  names s o h = ap (actor_of s) h.same_id
 
   abbrev Owns : Side → Asking Turned → Type 0
-  Owns s x = (r : HubReply) → IsOwn l.id s (by_reply x r)
+  Owns s x = (r : HubReply) → IsOwn l s (by_reply x r)
 
-  advances : (o : Outcome) → o.lane.id ≡ l.id → IsOwn l.id side.Script (advanced l.place o)
-  advances o h = record { same = h; actor = names side.Script o h }
+  advances : (o : Outcome) → IsLater l o.lane → IsOwn l side.Script (advanced l.place o)
+  advances o h = record { later = h; actor = names side.Script o h }
 
   next-own : (o : Option Op) → Owns side.Script (next_operation o l)
-  next-own None = λ r. record { same = refl; actor = tt }
+  next-own None = λ r. record { later = still; actor = tt }
   next-own (Some o) = by (waits o l)
     where
       goes : (x : Asking Outcome) → Keeps x → Owns side.Script (goes_on (advanced l.place) x)
@@ -303,55 +335,55 @@ module _ (l : LaneState) where
 
       by : (b : Bool) →
           Owns side.Script (if b then Gives (stays Blocked l) else goes_on (advanced l.place) (operation o l))
-      by true = λ r. record { same = refl; actor = tt }
+      by true = λ r. record { later = still; actor = tt }
       by false = goes (operation o l) (operation-keeps o)
 
   release-own : (x : Return) (rest : List Return) → Owns side.Script (release x rest l)
   release-own x rest r =
-      let h = same (get l.maps x.map) in record { same = h; actor = ap (actor_of side.Script) h }
+      let h = same (get l.maps x.map) in record { later = h; actor = ap (actor_of side.Script) h.same_id }
     where
-      same : (y : Option LaneMap) → LaneState.id (restaged x.map y (after_return x.map rest) l) ≡ l.id
-      same None = refl
-      same (Some o) = refl
+      same : (y : Option LaneMap) → IsLater l (restaged x.map y (after_return x.map rest) l)
+      same None = still
+      same (Some o) = still
 
   script-own : (rs : List Return) → Owns side.Script (script_turn rs l)
   script-own [] = next-own (slice_get l.script l.place)
   script-own (x ∷ rest) = release-own x rest
 
   queue-own : (qs : List QueuedItem) → Owns side.Transfer (transfer_turn qs l)
-  queue-own [] = λ r. record { same = refl; actor = tt }
+  queue-own [] = λ r. record { later = still; actor = tt }
   queue-own (q ∷ rest) = goes (transfer q.item l) (transfer-keeps q.item)
     where
-      leaves : (o : Outcome) → o.lane.id ≡ l.id → IsOwn l.id side.Transfer (left_queue q rest o)
-      leaves o h = record { same = h; actor = names side.Transfer o h }
+      leaves : (o : Outcome) → IsLater l o.lane → IsOwn l side.Transfer (left_queue q rest o)
+      leaves o h = record { later = h; actor = names side.Transfer o h }
 
       goes : (x : Asking Outcome) → Keeps x → Owns side.Transfer (goes_on (left_queue q rest) x)
       goes (Gives y) h r = leaves y (h r)
       goes (Asks c k) h r = leaves (k r) (h r)
 
-  called-keeps : (m : ℕ) (y : Option LaneMap) (pages : List ℕ) → (called m y pages l).lane.id ≡ l.id
-  called-keeps m None pages = refl
+  called-keeps : (m : ℕ) (y : Option LaneMap) (pages : List ℕ) → IsLater l (called m y pages l).lane
+  called-keeps m None pages = still
   called-keeps m (Some o) pages = by o.stage
     where
-      by : (s : Stage) → (called_in m o s pages l).lane.id ≡ l.id
-      by Idle = refl
+      by : (s : Stage) → IsLater l (called_in m o s pages l).lane
+      by Idle = still
       by (Waiting at need) =
           finished-keeps m o at (asked_at at l) (chunks_for l o (contains_key l.mems m) (asked_at at l).entries) pages
-      by (Loaded cs ss ps) = refl
-      by Returning = refl
+      by (Loaded cs ss ps) = still
+      by Returning = still
 
   callback-own : Owns side.Callback (callback_turn l)
   callback-own (reply.Called m pages) =
       let h = called-keeps m.made_at (get l.maps m.made_at) (addresses pages) in
-      record { same = h; actor = names side.Callback (called m.made_at (get l.maps m.made_at) (addresses pages) l) h }
-  callback-own reply.Nothing = record { same = refl; actor = tt }
-  callback-own (reply.Grown g) = record { same = refl; actor = tt }
-  callback-own (reply.Granted pages) = record { same = refl; actor = tt }
-  callback-own (reply.Queued have) = record { same = refl; actor = tt }
-  callback-own reply.NoPages = record { same = refl; actor = tt }
-  callback-own (reply.Served n) = record { same = refl; actor = tt }
-  callback-own (reply.Run first count) = record { same = refl; actor = tt }
-  callback-own reply.NoRun = record { same = refl; actor = tt }
+      record { later = h; actor = names side.Callback (called m.made_at (get l.maps m.made_at) (addresses pages) l) h }
+  callback-own reply.Nothing = record { later = still; actor = tt }
+  callback-own (reply.Grown g) = record { later = still; actor = tt }
+  callback-own (reply.Granted pages) = record { later = still; actor = tt }
+  callback-own (reply.Queued have) = record { later = still; actor = tt }
+  callback-own reply.NoPages = record { later = still; actor = tt }
+  callback-own (reply.Served n) = record { later = still; actor = tt }
+  callback-own (reply.Run first count) = record { later = still; actor = tt }
+  callback-own reply.NoRun = record { later = still; actor = tt }
 
   pub turn-own : (s : Side) → Owns s (lane_step l s)
   turn-own side.Script = script-own l.returns

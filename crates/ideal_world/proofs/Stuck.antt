@@ -27,7 +27,7 @@ use Rattle.ideal_lane.specs.Turns.{next_operation, script_turn, transfer_turn, c
 use Rattle.ideal_lane.specs.View.{view_of, own_map}
 use Rattle.ideal_lane.proofs.Views.{zoned}
 use Rattle.ideal_world.specs.Ends.{IsAtRest}
-use Rattle.ideal_world.specs.Waiting.{IsAwaiting, EndsOrAwaits, HasEnded, Awaits, IsIdle, OnlyAwaits}
+use Rattle.ideal_world.specs.Waiting.{IsAwaiting, EndsOrAwaits, HasEnded, Awaits, DriverAwaits, OnlyAwaits}
 use Rattle.ideal_world.specs.WellFormed.{IsDriverOf, IsWellFormed}
 use Rattle.ideal_world.specs.World.{WorldState, replied, step_of, entry_of, has_ended}
 use Rattle.ideal_world.proofs.Falling.{advances, leaves}
@@ -133,7 +133,7 @@ module _ (s : Scenario) (w : WorldState) (well : IsWellFormed s w) (rest : IsAtR
   -- ---- each driver
 
   module _ (i : ℕ) (l : LaneState) (there : slice_get w.lanes i ≡ Some l) where
-    driver : IsDriverOf w.account i l
+    driver : IsDriverOf s w.account i l
     driver = well.each i l there
 
     no-turn : (d : Side) → entry_of (replied w i l (lane_step l d)).turn ≡ None
@@ -207,7 +207,7 @@ module _ (s : Scenario) (w : WorldState) (well : IsWellFormed s w) (rest : IsAtR
             blocked true t g = awaits o e t
             blocked false t g = absurd (advances w i l.place l (operation o l) g)
 
-    idle : IsIdle w.account l
+    idle : DriverAwaits w.account l
     idle = record { returns = returns; queue = queue; script = script }
 
   pub only-awaits : OnlyAwaits w

@@ -3,4 +3,5 @@ pub mod Left
 pub mod Legal
 pub mod Waiting
 pub mod WellFormed
+pub mod Wires
 pub mod World

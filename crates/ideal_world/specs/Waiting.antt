@@ -28,12 +28,12 @@ pub data EndsOrAwaits (a : Account) (l : LaneState) : Type 0 where
   Awaits : IsAwaiting a l → EndsOrAwaits a l
 
 -- a driver has no page to give back and no item to transfer, and its script has ended or awaits such a map
-pub record IsIdle (a : Account) (l : LaneState) : Type 0 where
+pub record DriverAwaits (a : Account) (l : LaneState) : Type 0 where
   pub returns : l.returns ≡ []
   pub queue : l.queue ≡ []
   pub script : EndsOrAwaits a l
 
--- each driver is idle, and no callback is to be called
+-- that holds of each driver, and no callback is to be called
 pub record OnlyAwaits (w : WorldState) : Type 0 where
-  pub each : (i : ℕ) (l : LaneState) → slice_get w.lanes i ≡ Some l → IsIdle w.account l
+  pub each : (i : ℕ) (l : LaneState) → slice_get w.lanes i ≡ Some l → DriverAwaits w.account l
   pub ready : w.account.ready ≡ []

@@ -1,21 +1,25 @@
 //! Laws of the ideal world and of its journals.
 
-ghost use Rattle.std.specs.Prelude.{◌≡◌, ◌<◌, ℕ, Some, None, slice_get};
+ghost use Rattle.std.specs.Prelude.{◌≡◌, ◌<◌, ◌^◌, ℕ, Some, None, slice_get};
 ghost use Rattle.busdma_base.specs.declared.journals.journal.Actor.{Actor};
 ghost use Rattle.busdma_base.specs.declared.journals.journal.Journal.{Journal};
 ghost use Rattle.busdma_base.specs.declared.journals.journal.JournalEntry.{JournalEntry};
 ghost use Rattle.busdma_base.specs.declared.journals.journal.Side.{Side};
 ghost use Rattle.busdma_base.specs.declared.scenarios.scenario.Scenario.{Scenario};
+ghost use Rattle.busdma_base.specs.declared.scenarios.script.Place.{Place};
 ghost use Rattle.busdma_base.specs.Scenarios.Valid.{IsValid};
+ghost use Rattle.ideal_lane.specs.Accesses.{cpu_read, dev_read};
 ghost use Rattle.ideal_lane.specs.Agreement.{IsAllowed};
 ghost use Rattle.ideal_lane.specs.State.{LaneState};
 ghost use Rattle.ideal_lane.specs.Turns.{lane_step};
+ghost use Rattle.ideal_wire.specs.WireStep.{IsRead, load_buses, place_bytes};
 ghost use Rattle.ideal_world.specs.Ends.{IsAtRest};
 ghost use Rattle.ideal_world.specs.Left.{left_of};
 ghost use Rattle.ideal_world.specs.Legal.{IsLegal, IsReplayed};
 ghost use Rattle.ideal_world.specs.Waiting.{OnlyAwaits};
 ghost use Rattle.ideal_world.specs.WellFormed.{IsWellFormed};
-ghost use Rattle.ideal_world.specs.World.{WorldState, opening_world, step, step_entry};
+ghost use Rattle.ideal_world.specs.Wires.{AllFaithful, AllInMachine, AllLaid, AreZero, Wires, WiresFollow};
+ghost use Rattle.ideal_world.specs.World.{WorldState, bounced, opening_world, step, step_entry};
 
 /// The world in which a valid scenario opens is well formed.
 pub fn opening_is_well_formed()
@@ -39,6 +43,11 @@ pub fn each_step_falls()
     ensures falls { (s : Scenario) (w : WorldState) (actor : Actor) (e : JournalEntry) → IsWellFormed s w →
         step_entry w actor ≡ Some e → left_of (step w actor).world < left_of w }
     ensures rests { (w : WorldState) (actor : Actor) → step_entry w actor ≡ None → (step w actor).world ≡ w }
+{}
+
+/// The drivers' shares of a zone's total_bounced are together below 2^64, as a count is.
+pub fn counts_fit()
+    ensures { (s : Scenario) (w : WorldState) (z : ℕ) → IsWellFormed s w → bounced w z < 2 ^ 64 }
 {}
 
 /// In a well-formed world in which no actor can step, each driver's script has ended or awaits a map
@@ -71,3 +80,37 @@ pub fn legal_journals_wait()
     ensures { (s : Scenario) (j : Journal) (legal : IsLegal s j) → IsValid s →
         IsWellFormed s legal.last × OnlyAwaits legal.last }
 {}
+
+/// Where a valid scenario opens, and the pages of each driver hold zeros, each driver's wire is
+/// faithful, its loads are laid, and it lies in its machine.
+pub fn wires_open_faithful()
+    ensures faithful { (s : Scenario) (wires : Wires) → IsValid s → AreZero wires (opening_world s) →
+        AllFaithful wires (opening_world s) }
+    ensures laid { (s : Scenario) → IsValid s → AllLaid (opening_world s) }
+    ensures in_machine { (s : Scenario) → IsValid s → AllInMachine (opening_world s) }
+{}
+
+/// Where the loads of each driver are laid, the turn of any actor leaves each driver's wire faithful,
+/// whatever bytes the pages bring that come to the actor's driver.
+pub fn wires_stay_faithful()
+    ensures { (s : Scenario) (w : WorldState) (actor : Actor) (before after : Wires) → IsWellFormed s w → AllLaid w →
+        AllFaithful before w → WiresFollow w actor before after → AllFaithful after (step w actor).world }
+{}
+
+/// The turn of any actor leaves each driver in its machine.
+pub fn drivers_stay_in_machine()
+    ensures { (w : WorldState) (actor : Actor) → AllInMachine w → AllInMachine (step w actor).world }
+{}
+
+/// What is really read is what the ideal memory has: by each driver at the bytes that it names, and
+/// by its device at the bus addresses of its load.
+pub fn drivers_read_faithfully()
+    ensures cpu { (s : Scenario) (w : WorldState) (wires : Wires) (i : ℕ) (l : LaneState) (place : Place) (len : ℕ) →
+        IsWellFormed s w → AllLaid w → AllFaithful wires w → slice_get w.lanes i ≡ Some l →
+        IsRead (cpu_read place len l) (place_bytes l place len) (wires i) }
+    ensures dev { (s : Scenario) (w : WorldState) (wires : Wires) (i : ℕ) (l : LaneState) (m off len : ℕ) →
+        IsWellFormed s w → AllLaid w → AllFaithful wires w → slice_get w.lanes i ≡ Some l →
+        IsRead (dev_read m off len l) (load_buses l m off len) (wires i) }
+{
+    ideal_wire::reads_are_faithful();
+}
