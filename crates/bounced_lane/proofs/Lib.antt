@@ -1,3 +1,4 @@
+mod AfterTurn
 mod Awaiting
 mod Bytes
 mod Changing
