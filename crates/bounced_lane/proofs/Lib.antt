@@ -25,6 +25,7 @@ mod Reaching
 mod Reading
 mod Returned
 mod ReturnSteps
+mod StaysWired
 mod TagSteps
 mod Unloaded
 mod UnloadSteps
