@@ -9,6 +9,7 @@ pub mod Own
 pub mod Reached
 pub mod Replayed
 pub mod Rest
+pub mod Resting
 pub mod Rounds
 pub mod Stuck
 pub mod Waiters

@@ -1,5 +1,6 @@
 -- The wires of all drivers open faithful and stay so, and each driver stays in its machine.
-use Rattle.std.proofs.Common.{◌≡◌, ◌≢◌, ℕ, true, ◌+◌, Option, Some, None, refl, sym, ap, ◌∙◌, subst, arith, slice_get, slice_set}
+use Rattle.std.proofs.Common.{◌≡◌, ◌≢◌, ℕ, true, ◌+◌, Option, Some, None, refl, sym, ap, ◌∙◌, subst, arith, slice_get}
+use Rattle.std.proofs.Common.{slice_set}
 use Rattle.busdma_base.specs.declared.bounce.hold.HubReply.{HubReply}
 use Rattle.busdma_base.specs.declared.bounce.hold.HubReply.TheVariants.{Nothing}
 use Rattle.busdma_base.specs.declared.journals.journal.Actor.{Actor}

@@ -7,7 +7,11 @@ ghost use Rattle.busdma_base.specs.declared.journals.journal.JournalEntry.{Journ
 ghost use Rattle.busdma_base.specs.declared.journals.journal.Side.{Side};
 ghost use Rattle.busdma_base.specs.declared.scenarios.scenario.Scenario.{Scenario};
 ghost use Rattle.busdma_base.specs.declared.scenarios.script.Place.{Place};
+ghost use Rattle.busdma_base.specs.Bounce.EachFrame.{EachFrame, LiesBelowMaxmem};
+ghost use Rattle.busdma_base.specs.Bounce.History.{IsFrame};
+ghost use Rattle.busdma_base.specs.Bounce.LowPages.{PagesLieLow};
 ghost use Rattle.busdma_base.specs.Scenarios.Valid.{IsValid};
+ghost use Rattle.lane_agreement.specs.Agreement.{IsFit};
 ghost use Rattle.ideal_lane.specs.Accesses.{cpu_read, dev_read};
 ghost use Rattle.ideal_lane.specs.Agreement.{IsAllowed};
 ghost use Rattle.ideal_lane.specs.State.{LaneState};
@@ -50,11 +54,21 @@ pub fn counts_fit()
     ensures { (s : Scenario) (w : WorldState) (z : ℕ) → IsWellFormed s w → bounced w z < 2 ^ 64 }
 {}
 
+/// The account of a well-formed world fits; the pages of its zones end at or below their zone's
+/// lowaddr; and its frames are whole ones of the machine.
+pub fn account_fits()
+    ensures fit { (s : Scenario) (w : WorldState) → IsWellFormed s w → IsFit w.account }
+    ensures low { (s : Scenario) (w : WorldState) → IsWellFormed s w → PagesLieLow w.account }
+    ensures whole { (s : Scenario) (w : WorldState) → IsWellFormed s w → EachFrame IsFrame w.account }
+    ensures below { (s : Scenario) (w : WorldState) → IsWellFormed s w → LiesBelowMaxmem w.account }
+{}
+
 /// In a well-formed world in which no actor can step, each driver's script has ended or awaits a map
 /// that waits for pages and stands in the waiting list of its zone; no driver has a page to give back
-/// or an item to transfer, and no callback is to be called.
+/// or an item to transfer, and no callback is to be called. Where all that holds, no actor can step.
 pub fn stuck_worlds_wait()
-    ensures { (s : Scenario) (w : WorldState) → IsWellFormed s w → IsAtRest w → OnlyAwaits w }
+    ensures rests { (w : WorldState) → OnlyAwaits w → IsAtRest w }
+    ensures waits { (s : Scenario) (w : WorldState) → IsWellFormed s w → IsAtRest w → OnlyAwaits w }
 {}
 
 /// Every valid scenario has a replayed journal: after the turns of its order, enough rounds come to
