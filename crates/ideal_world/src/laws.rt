@@ -1,6 +1,6 @@
 //! Laws of the ideal world and of its journals.
 
-ghost use Rattle.std.specs.Prelude.{◌≡◌, ◌<◌, ◌^◌, ℕ, Some, None, slice_get};
+ghost use Rattle.std.specs.Prelude.{◌≡◌, ◌<◌, ◌≤◌, ◌^◌, ℕ, List, Some, None, slice_get};
 ghost use Rattle.busdma_base.specs.declared.journals.journal.Actor.{Actor};
 ghost use Rattle.busdma_base.specs.declared.journals.journal.Journal.{Journal};
 ghost use Rattle.busdma_base.specs.declared.journals.journal.JournalEntry.{JournalEntry};
@@ -17,9 +17,10 @@ ghost use Rattle.ideal_lane.specs.Agreement.{IsAllowed};
 ghost use Rattle.ideal_lane.specs.State.{LaneState};
 ghost use Rattle.ideal_lane.specs.Turns.{lane_step};
 ghost use Rattle.ideal_wire.specs.WireStep.{IsRead, load_buses, place_bytes};
+ghost use Rattle.ideal_world.specs.Callbacks.{times_called};
 ghost use Rattle.ideal_world.specs.Ends.{IsAtRest};
 ghost use Rattle.ideal_world.specs.Left.{left_of};
-ghost use Rattle.ideal_world.specs.Legal.{IsLegal, IsReplayed};
+ghost use Rattle.ideal_world.specs.Legal.{IsLegal, IsReplayed, Leads};
 ghost use Rattle.ideal_world.specs.Waiting.{OnlyAwaits};
 ghost use Rattle.ideal_world.specs.WellFormed.{IsWellFormed};
 ghost use Rattle.ideal_world.specs.Wires.{AllFaithful, AllInMachine, AllLaid, AreZero, Wires, WiresFollow};
@@ -93,6 +94,13 @@ pub fn replay_is_legal()
 pub fn legal_journals_wait()
     ensures { (s : Scenario) (j : Journal) (legal : IsLegal s j) → IsValid s →
         IsWellFormed s legal.last × OnlyAwaits legal.last }
+{}
+
+/// The callback of each load is called at most once in entries that lead on from the opening world of
+/// a scenario, as those of a legal journal do.
+pub fn each_load_is_called_once()
+    ensures { (s : Scenario) (entries : List JournalEntry) (end : WorldState) (i place : ℕ) →
+        Leads (opening_world s) entries end → times_called i place (opening_world s) entries ≤ 1 }
 {}
 
 /// Where a valid scenario opens, and the pages of each driver hold zeros, each driver's wire is
