@@ -1,6 +1,6 @@
 -- A step of any actor leaves the world well formed, and its entry is the actor's.
-use Rattle.std.proofs.Common.{◌≡◌, ◌≢◌, ℕ, ◌+◌, ◌≤◌, ◌<◌, length, Option, Some, None, refl, sym, ap, ◌∙◌, subst, arith, slice_get}
-use Rattle.std.proofs.Common.{slice_set}
+use Rattle.std.proofs.Common.{◌≡◌, ◌≢◌, ℕ, ◌+◌, ◌≤◌, ◌<◌, length, Option, Some, None, refl, sym, ap, ◌∙◌}
+use Rattle.std.proofs.Common.{subst, arith, slice_get, slice_set}
 use Rattle.busdma_base.specs.declared.bounce.hold.HubReply.{HubReply}
 use Rattle.busdma_base.specs.declared.bounce.hold.HubReply.TheVariants.{Nothing}
 use Rattle.busdma_base.specs.declared.journals.journal.Actor.{Actor}
@@ -90,12 +90,14 @@ module _ (s : Scenario) (w : WorldState) (well : IsWellFormed s w) where
         KeepsStanding x → IsAllowed l.id w.account x → KeepsAgreement l.id w.account x →
         IsWellFormed s (replied w i l x).world
     kept (Gives t) later falls stands may agrees =
-        changed w.account t.lane (later Nothing) (spent l t.lane t.turn (later Nothing) falls) stands agrees (λ j n off e. (well.each j n e).agrees) well.reached
+        changed w.account t.lane (later Nothing) (spent l t.lane t.turn (later Nothing) falls) stands agrees
+        (λ j n off e. (well.each j n e).agrees) well.reached
     kept (Asks c k) later falls stands may agrees =
         let r : HubReply = (account_step l.id c w.account).reply in
         changed (account_step l.id c w.account).account (k r).lane (later r)
         (spent l (k r).lane (k r).turn (later r) falls) (stands r) agrees
-        (λ j n off e. others-agree (view_of n) l.id c w.account fits.well (apart j n off e) may (well.each j n e).agrees)
+        (λ j n off e. others-agree (view_of n) l.id c w.account fits.well (apart j n off e) may
+        (well.each j n e).agrees)
         (reached-on s l.id c w.account below may well.reached)
 
     pub driver-keeps : (side : _) → IsWellFormed s (replied w i l (lane_step l side)).world

@@ -82,6 +82,14 @@ set-here [] k m lt = absurd (omega (arith, lt))
 set-here (x ∷ ls) zero m lt = refl
 set-here (x ∷ ls) (suc k) m lt = set-here ls k m (omega (arith, lt))
 
+-- and the others stay
+pub set-other : (ls : List LaneState) (k j : ℕ) (m : LaneState) → j ≢ k → slice_get (slice_set ls k m) j ≡ slice_get ls j
+set-other [] k j m off = refl
+set-other (x ∷ ls) zero zero m off = absurd (off refl)
+set-other (x ∷ ls) zero (suc j) m off = refl
+set-other (x ∷ ls) (suc k) zero m off = refl
+set-other (x ∷ ls) (suc k) (suc j) m off = set-other ls k j m (λ e. off (ap suc e))
+
 -- a driver that is put back as it was
 pub set_same : (ls : List LaneState) (k : ℕ) (l m : LaneState) →
     slice_get ls k ≡ Some l → m ≡ l → slice_set ls k m ≡ ls

@@ -1,3 +1,4 @@
+pub mod Calling
 pub mod Falling
 pub mod Few
 pub mod Going
@@ -9,7 +10,9 @@ pub mod Own
 pub mod Reached
 pub mod Replayed
 pub mod Rest
+pub mod Resting
 pub mod Rounds
 pub mod Stuck
+pub mod Turns
 pub mod Waiters
 pub mod Wiring

@@ -34,5 +34,10 @@ module _ (s : Scenario) (valid : IsValid s) where
     count = length-opening_lanes 0 (maxmem_of s.frames) s.drivers;
     each = λ i l h. driver i l (opening_at 0 (maxmem_of s.frames) s.drivers i l h);
     few = λ z. let e = none-bounced 0 (maxmem_of s.frames) s.drivers z in omega (arith, e);
-    reached = record { history = []; sound = tt; own = All-nil (λ (e : HoldEntry). e.lane.0 < length s.drivers); leads = refl };
+    reached = record {
+      history = [];
+      sound = tt;
+      own = All-nil (λ (e : HoldEntry). e.lane.0 < length s.drivers);
+      leads = refl;
+    };
   }

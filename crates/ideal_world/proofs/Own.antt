@@ -1,6 +1,6 @@
 -- What a driver keeps at each turn; and the entry of its step names the driver and its side.
-use Rattle.std.proofs.Common.{◌≡◌, ℕ, ◌+◌, ◌-◌, ◌≤◌, ◌==◌, ◌&&◌, Bool, true, false, if◌then◌else◌, List, [], ◌∷◌, length}
-use Rattle.std.proofs.Common.{Option, Some, None, refl, ap, arith, min, nat_le, nat_lt, slice_get}
+use Rattle.std.proofs.Common.{◌≡◌, ℕ, ◌+◌, ◌-◌, ◌≤◌, ◌==◌, ◌&&◌, Bool, true, false, if◌then◌else◌, List, [], ◌∷◌}
+use Rattle.std.proofs.Common.{length, Option, Some, None, refl, ap, arith, min, nat_le, nat_lt, slice_get}
 use Rattle.std.specs.FinMap.{get, remove, contains_key}
 use Rattle.busdma_base.specs.declared.bounce.hold.HubCall.TheVariants as call
 use Rattle.busdma_base.specs.declared.bounce.hold.HubReply.{HubReply}
@@ -12,8 +12,8 @@ use Rattle.busdma_base.specs.declared.journals.journal.Side.TheVariants as side
 use Rattle.busdma_base.specs.declared.journals.report.Errno.TheVariants.{EBUSY, EINVAL}
 use Rattle.busdma_base.specs.declared.journals.report.Judged.{Judged}
 use Rattle.busdma_base.specs.declared.journals.report.Judged.TheVariants.{Fine, Refused}
-use Rattle.busdma_base.specs.declared.journals.report.ReportName.TheVariants.{MapBusy, NotLoaded, NotDeferred, MixedSync}
-use Rattle.busdma_base.specs.declared.journals.report.ReportName.TheVariants.{PastEnd}
+use Rattle.busdma_base.specs.declared.journals.report.ReportName.TheVariants.{MapBusy, NotLoaded, NotDeferred, PastEnd}
+use Rattle.busdma_base.specs.declared.journals.report.ReportName.TheVariants.{MixedSync}
 use Rattle.busdma_base.specs.declared.machine.address.Segment.{Segment}
 use Rattle.busdma_base.specs.declared.machine.chunk.Chunk.{Chunk}
 use Rattle.busdma_base.specs.declared.scenarios.scenario.PageRun.{PageRun}
@@ -44,7 +44,8 @@ use Rattle.ideal_lane.specs.State.{LaneState, LaneTag, LaneMap, Stage, Idle, Wai
 use Rattle.ideal_lane.specs.Accesses.{cpu_read, cpu_write, dev_read, dev_write, values, load_bytes}
 use Rattle.ideal_lane.specs.Asking.{Asking, Gives, Asks, by_reply, goes_on}
 use Rattle.ideal_lane.specs.IdealMemory.{is_known, written}
-use Rattle.ideal_lane.specs.Loads.{Asked, asked, limits_of, chunks_for, finished, granted, load_chunks, load, ended, zone_of}
+use Rattle.ideal_lane.specs.Loads.{Asked, asked, limits_of, chunks_for, finished, granted, load_chunks, load, ended}
+use Rattle.ideal_lane.specs.Loads.{zone_of}
 use Rattle.ideal_lane.specs.Maps.{with_map, created, map, end_map, map_destroy, await}
 use Rattle.ideal_lane.specs.Outcomes.{Outcome, gives, refused, unless_absent, unless_refused, unless_busy}
 use Rattle.ideal_lane.specs.Outcomes.{unless_unloaded, unless_past, is_idle, is_loaded, load_length}
@@ -279,7 +280,8 @@ module _ (l : LaneState) where
       absent (virtual_at l place) _ (λ va.
       judged (reached l va (length vs)) _ (
       judged (cpu_write_answer l.loans (bytes_at l (run_of va (length vs))))
-      (gives (record l { memory = written (bytes_at l (run_of va (length vs))) vs l.memory }) answer.Done) (λ r. still)))
+      (gives (record l { memory = written (bytes_at l (run_of va (length vs))) vs l.memory }) answer.Done)
+      (λ r. still)))
 
   dev_read-keeps : (m off len : ℕ) → Keeps (dev_read m off len l)
   dev_read-keeps m off len =

@@ -10,12 +10,17 @@ use Rattle.busdma_base.specs.declared.scenarios.scenario.Scenario.{Scenario}
 use Rattle.busdma_base.specs.Bounce.Account.{Account}
 use Rattle.busdma_base.specs.Bounce.AccountStep.{account_step, called_from}
 use Rattle.busdma_base.specs.Bounce.Conditions.{MayCall}
-use Rattle.busdma_base.specs.Bounce.History.{IsSound, IsSoundEntry, account_of, after_entry, is_kept}
+use Rattle.busdma_base.specs.Bounce.EachFrame.{EachFrame, LiesBelowMaxmem}
+use Rattle.busdma_base.specs.Bounce.History.{IsFrame, IsSound, IsSoundEntry, account_of, after_entry, is_kept}
+use Rattle.busdma_base.specs.Bounce.LowPages.{PagesLieLow}
 use Rattle.busdma_base.specs.Bounce.Opening.{opening}
 use Rattle.busdma_base.specs.Bounce.WellFormed as account
 use Rattle.busdma_base.specs.Scenarios.Valid.{IsValid}
 use Rattle.busdma_base.proofs.Accounts.LaneEntries.{account_of-append}
+use Rattle.busdma_base.proofs.Accounts.EachFrame.{whole-history, below-history, below-opening}
+use Rattle.busdma_base.proofs.Accounts.LowPages.{pages-low}
 use Rattle.busdma_base.proofs.Accounts.Openings.{opening-may_begin}
+use Rattle.busdma_base.proofs.Accounts.WellFormed.{well-opening}
 use Rattle.lane_agreement.specs.Agreement.{Agrees, IsFit}
 use Rattle.lane_agreement.specs.View.{View}
 use Rattle.lane_agreement.proofs.Others.{agrees-stays}
@@ -32,7 +37,8 @@ missed : (ws : List Waiter) (lane : ℕ) (a : Account) → is_kept call.TakeCall
 missed [] lane a h = refl
 missed (w ∷ ws) lane a h = by (w.map.lane.0 == lane) refl h
   where
-    by : (b : Bool) → (w.map.lane.0 == lane) ≡ b → is_kept call.TakeCallback (called_from (w ∷ ws) lane a).reply ≡ false →
+    by : (b : Bool) → (w.map.lane.0 == lane) ≡ b →
+        is_kept call.TakeCallback (called_from (w ∷ ws) lane a).reply ≡ false →
         (called_from (w ∷ ws) lane a).account ≡ a
     by true e h = absurd (cc)
     by false e h = rw e refl
@@ -100,3 +106,19 @@ others-agree l lane c a well off may g = by (entered lane c a may)
 pub reached-fits : (s : Scenario) (a : Account) → IsValid s → IsReached s a → IsFit a
 reached-fits s a valid r =
     subst IsFit r.leads (fit-reached (opening s) r.history (opening-may_begin s valid) r.sound)
+
+-- its zones' pages lie low
+pub reached-low : (s : Scenario) (a : Account) → IsValid s → IsReached s a → PagesLieLow a
+reached-low s a valid r =
+    subst PagesLieLow r.leads (pages-low (opening s) r.history (opening-may_begin s valid) r.sound)
+
+-- its frames are whole ones
+pub reached-whole : (s : Scenario) (a : Account) → IsValid s → IsReached s a → EachFrame IsFrame a
+reached-whole s a valid r =
+    subst (EachFrame IsFrame) r.leads (whole-history (opening s) r.history (opening-may_begin s valid) r.sound)
+
+-- and they lie below the end of memory
+pub reached-below : (s : Scenario) (a : Account) → IsValid s → IsReached s a → LiesBelowMaxmem a
+reached-below s a valid r =
+    subst LiesBelowMaxmem r.leads
+    (below-history (opening s) r.history (well-opening (opening s) (opening-may_begin s valid)) r.sound (below-opening s))

@@ -90,7 +90,8 @@ module _ (m : MapId) (z need : ℕ) where
       omega (arith, whole, ap (count_by test) none)
 
 -- nobody else's map is in a list
-pub unlisted : (s : Scenario) (a : Account) (m : MapId) → IsReached s a → length s.drivers ≤ m.lane.0 → times_listed m a ≡ 0
+pub unlisted : (s : Scenario) (a : Account) (m : MapId) → IsReached s a → length s.drivers ≤ m.lane.0 →
+    times_listed m a ≡ 0
 unlisted s a m r past =
     let others : All (λ e. e.lane.0 ≢ m.lane.0) r.history =
     All-weaker (λ (e : HoldEntry). e.lane.0 < length s.drivers) (λ (e : HoldEntry). e.lane.0 ≢ m.lane.0)

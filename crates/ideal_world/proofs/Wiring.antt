@@ -1,31 +1,28 @@
 -- The wires of all drivers open faithful and stay so, and each driver stays in its machine.
-use Rattle.std.proofs.Common.{◌≡◌, ◌≢◌, ℕ, true, ◌+◌, Option, Some, None, refl, sym, ap, ◌∙◌, subst, arith, slice_get, slice_set}
+use Rattle.std.proofs.Common.{◌≡◌, ◌≢◌, ℕ, true, ◌+◌, Some, sym, subst, arith, slice_get}
 use Rattle.busdma_base.specs.declared.bounce.hold.HubReply.{HubReply}
-use Rattle.busdma_base.specs.declared.bounce.hold.HubReply.TheVariants.{Nothing}
 use Rattle.busdma_base.specs.declared.journals.journal.Actor.{Actor}
 use Rattle.busdma_base.specs.declared.journals.journal.Side.{Side}
 use Rattle.busdma_base.specs.declared.scenarios.scenario.Scenario.{Scenario}
-use Rattle.busdma_base.specs.Bounce.AccountStep.{account_step}
 use Rattle.busdma_base.specs.Bounce.Opening.{maxmem_of}
 use Rattle.busdma_base.specs.Machine.PageRuns.{is_own}
 use Rattle.busdma_base.specs.Scenarios.Valid.{IsValid}
-use Rattle.ideal_lane.specs.Asking.{Asking, Gives, Asks, by_reply}
+use Rattle.ideal_lane.specs.Asking.{by_reply}
 use Rattle.ideal_lane.specs.Opening.{opening_lane}
 use Rattle.ideal_lane.specs.State.{LaneState}
-use Rattle.ideal_lane.specs.Turns.{Turned, lane_step}
+use Rattle.ideal_lane.specs.Turns.{lane_step}
 use Rattle.ideal_wire.specs.Centre.{IsFaithful}
 use Rattle.ideal_wire.specs.Laid.{AreLaid}
 use Rattle.ideal_wire.specs.Machine.{IsInMachine}
-use Rattle.ideal_wire.specs.WireStep.{Follows}
-use Rattle.ideal_wire.specs.WireStep as wire
 use Rattle.ideal_wire.proofs.Machinery.{opens-in-machine}
 use Rattle.ideal_wire.proofs.Machines.{turn-keeps}
 use Rattle.ideal_wire.proofs.Openings.{opens-faithful, opens-laid}
 use Rattle.ideal_wire.proofs.Turns.{turn-stays}
 use Rattle.ideal_world.specs.WellFormed.{IsWellFormed}
 use Rattle.ideal_world.specs.Wires.{Wires, EachDriver, AreZero, AllLaid, AllInMachine, AllFaithful, WiresFollow}
-use Rattle.ideal_world.specs.World.{WorldState, replied, step_of, step, opening_world}
-use Rattle.ideal_world.proofs.Lanes.{OpensAt, opening_at, each_set, set-here, within}
+use Rattle.ideal_world.specs.World.{WorldState, step, opening_world}
+use Rattle.ideal_world.proofs.Lanes.{OpensAt, opening_at}
+use Rattle.ideal_world.proofs.Turns.{OwnStep, each-step}
 
 -- ---- the opening
 
@@ -55,30 +52,14 @@ module _ (s : Scenario) (valid : IsValid s) where
 
 -- ---- a turn
 
--- the drivers after a turn: the actor's by some reply to its call, the others as they were
-pub record Turns (w : WorldState) (i : ℕ) (x : Asking Turned) (after : WorldState) : Type 0 where
-  pub reply : HubReply
-  pub lanes : after.lanes ≡ slice_set w.lanes i (by_reply x reply).lane
-
-turns : (w : WorldState) (i : ℕ) (l : LaneState) (x : Asking Turned) → Turns w i x (replied w i l x).world
-turns w i l (Gives t) = record { reply = Nothing; lanes = refl }
-turns w i l (Asks c k) = record { reply = (account_step l.id c w.account).reply; lanes = refl }
-
 -- what each driver keeps by its turn, whatever the reply, all keep by the turn of any actor
 module _ (P : LaneState → Type 0)
     (keeps : (l : LaneState) (s : Side) (r : HubReply) → P l → P (by_reply (lane_step l s) r).lane) where
   all-keep : (w : WorldState) (actor : Actor) → EachDriver (λ i l. P l) w →
       EachDriver (λ i l. P l) (step w actor).world
-  all-keep w actor all = by (slice_get w.lanes actor.lane.0) refl
-    where
-      by : (o : Option LaneState) → slice_get w.lanes actor.lane.0 ≡ o →
-          EachDriver (λ i l. P l) (step_of w actor o).world
-      by None e = all
-      by (Some l) e = λ i n h.
-          let t = turns w actor.lane.0 l (lane_step l actor.side) in
-          each_set (λ j. P) w.lanes actor.lane.0 (by_reply (lane_step l actor.side) t.reply).lane
-          (keeps l actor.side t.reply (all actor.lane.0 l e)) (λ j k off f. all j k f) i n
-          (sym (ap (λ ls. slice_get ls i) t.lanes) ∙ h)
+  all-keep w actor all =
+      each-step (λ i l. P l) w actor (λ l o e. keeps l actor.side o.reply (all actor.lane.0 l e))
+      (λ j n off e. all j n e)
 
 pub machines-stay : (w : WorldState) (actor : Actor) → AllInMachine w → AllInMachine (step w actor).world
 machines-stay = all-keep IsInMachine (λ l s r m. turn-keeps l m s r)
@@ -92,23 +73,11 @@ module _ (s : Scenario) (w : WorldState) (well : IsWellFormed s w) (laid : AllLa
   others-stay j n off e = subst (IsFaithful n) (sym (follow.others j off)) (faithful j n e)
 
   pub wires-stay : AllFaithful after (step w actor).world
-  wires-stay = by (slice_get w.lanes at) refl follow.own
+  wires-stay i n h = each-step (λ j k. IsFaithful k (after j)) w actor mine others-stay i n h
     where
-      by : (o : Option LaneState) → slice_get w.lanes at ≡ o →
-          ((l m : LaneState) → slice_get w.lanes at ≡ Some l → slice_get (step_of w actor o).world.lanes at ≡ Some m →
-          Follows l m (wire.lane_step l actor.side (before at)) (after at)) →
-          AllFaithful after (step_of w actor o).world
-      by None e own i n h = others-stay i n (λ same. absent (sym (ap (slice_get w.lanes) same) ∙ h)) h
-        where
-          absent : slice_get w.lanes at ≡ Some n → ⊥
-          absent f = let clash : None ≡ Some n = sym e ∙ f in absurd (cc)
-      by (Some l) e own i n h =
-          let t = turns w at l (lane_step l actor.side) in
-          let m : LaneState = (by_reply (lane_step l actor.side) t.reply).lane in
+      mine : (l : LaneState) (o : OwnStep w actor l) → slice_get w.lanes at ≡ Some l →
+          IsFaithful (by_reply (lane_step l actor.side) o.reply).lane (after at)
+      mine l o e =
           let d = well.each at l e in
-          let here : slice_get (step_of w actor (Some l)).world.lanes at ≡ Some m =
-          ap (λ ls. slice_get ls at) t.lanes ∙ set-here w.lanes at m (within w.lanes at l e) in
-          each_set (λ j k. IsFaithful k (after j)) w.lanes at m
-          (turn-stays l w.account (before at) d.stands d.agrees (laid at l e) (faithful at l e) actor.side t.reply
-          (after at) (own l m e here)) others-stay i n
-          (sym (ap (λ ls. slice_get ls i) t.lanes) ∙ h)
+          turn-stays l w.account (before at) d.stands d.agrees (laid at l e) (faithful at l e) actor.side o.reply
+          (after at) (follow.own l (by_reply (lane_step l actor.side) o.reply).lane e o.there)

@@ -1,3 +1,4 @@
+pub mod Callbacks
 pub mod Ends
 pub mod Left
 pub mod Legal

@@ -13,7 +13,8 @@ use Rattle.ideal_lane.specs.State.{LaneState}
 use Rattle.ideal_world.specs.Left.{left_of}
 use Rattle.ideal_world.specs.World.{WorldState, bounced, opening_world}
 
--- the state of the scenario's driver of this number: it has its script and its pages, stands, and agrees with the account
+-- the state of the scenario's driver of this number: it has its script and its pages, stands, and agrees with the
+-- account
 pub record IsDriverOf (s : Scenario) (a : Account) (i : ℕ) (l : LaneState) : Type 0 where
   pub driver : Driver
   pub there : slice_get s.drivers i ≡ Some driver

@@ -1,5 +1,5 @@
 -- The world: all drivers and the account that they share, and its steps.
-use Rattle.std.specs.Prelude.{ℕ, ◌+◌, ◌<◌, Bool, List, [], ◌∷◌, length, Option, Some, None, slice_get, slice_set}
+use Rattle.std.specs.Prelude.{ℕ, ◌+◌, Bool, List, [], ◌∷◌, length, Option, Some, None, slice_get, slice_set}
 use Rattle.std.specs.Prelude.{nat_le}
 use Rattle.std.specs.List.{sum_by}
 use Rattle.busdma_base.specs.declared.journals.journal.Actor.{Actor}
@@ -62,10 +62,6 @@ entry_of Ended = None
 -- the entry of an actor's step; None where the actor cannot step
 abbrev pub step_entry : WorldState → Actor → Option JournalEntry
 step_entry w actor = entry_of (step w actor).turn
-
--- the actor's driver is one of the world's
-abbrev pub HasDriver : WorldState → Actor → Type 0
-HasDriver w actor = actor.lane.0 < length w.lanes
 
 -- how many syncs copied bytes of a zone's maps: all drivers' shares of its total_bounced together
 abbrev pub bounced : WorldState → ℕ → ℕ

@@ -1,21 +1,26 @@
 //! Laws of the ideal world and of its journals.
 
-ghost use Rattle.std.specs.Prelude.{◌≡◌, ◌<◌, ◌^◌, ℕ, Some, None, slice_get};
+ghost use Rattle.std.specs.Prelude.{◌≡◌, ◌<◌, ◌≤◌, ◌^◌, ℕ, List, Some, None, slice_get};
 ghost use Rattle.busdma_base.specs.declared.journals.journal.Actor.{Actor};
 ghost use Rattle.busdma_base.specs.declared.journals.journal.Journal.{Journal};
 ghost use Rattle.busdma_base.specs.declared.journals.journal.JournalEntry.{JournalEntry};
 ghost use Rattle.busdma_base.specs.declared.journals.journal.Side.{Side};
 ghost use Rattle.busdma_base.specs.declared.scenarios.scenario.Scenario.{Scenario};
 ghost use Rattle.busdma_base.specs.declared.scenarios.script.Place.{Place};
+ghost use Rattle.busdma_base.specs.Bounce.EachFrame.{EachFrame, LiesBelowMaxmem};
+ghost use Rattle.busdma_base.specs.Bounce.History.{IsFrame};
+ghost use Rattle.busdma_base.specs.Bounce.LowPages.{PagesLieLow};
 ghost use Rattle.busdma_base.specs.Scenarios.Valid.{IsValid};
+ghost use Rattle.lane_agreement.specs.Agreement.{IsFit};
 ghost use Rattle.ideal_lane.specs.Accesses.{cpu_read, dev_read};
 ghost use Rattle.ideal_lane.specs.Agreement.{IsAllowed};
 ghost use Rattle.ideal_lane.specs.State.{LaneState};
 ghost use Rattle.ideal_lane.specs.Turns.{lane_step};
 ghost use Rattle.ideal_wire.specs.WireStep.{IsRead, load_buses, place_bytes};
+ghost use Rattle.ideal_world.specs.Callbacks.{times_called};
 ghost use Rattle.ideal_world.specs.Ends.{IsAtRest};
 ghost use Rattle.ideal_world.specs.Left.{left_of};
-ghost use Rattle.ideal_world.specs.Legal.{IsLegal, IsReplayed};
+ghost use Rattle.ideal_world.specs.Legal.{IsLegal, IsReplayed, Leads};
 ghost use Rattle.ideal_world.specs.Waiting.{OnlyAwaits};
 ghost use Rattle.ideal_world.specs.WellFormed.{IsWellFormed};
 ghost use Rattle.ideal_world.specs.Wires.{AllFaithful, AllInMachine, AllLaid, AreZero, Wires, WiresFollow};
@@ -50,11 +55,21 @@ pub fn counts_fit()
     ensures { (s : Scenario) (w : WorldState) (z : ℕ) → IsWellFormed s w → bounced w z < 2 ^ 64 }
 {}
 
+/// The account of a well-formed world fits; the pages of its zones end at or below their zone's
+/// lowaddr; and its frames are whole ones of the machine.
+pub fn account_fits()
+    ensures fit { (s : Scenario) (w : WorldState) → IsWellFormed s w → IsFit w.account }
+    ensures low { (s : Scenario) (w : WorldState) → IsWellFormed s w → PagesLieLow w.account }
+    ensures whole { (s : Scenario) (w : WorldState) → IsWellFormed s w → EachFrame IsFrame w.account }
+    ensures below { (s : Scenario) (w : WorldState) → IsWellFormed s w → LiesBelowMaxmem w.account }
+{}
+
 /// In a well-formed world in which no actor can step, each driver's script has ended or awaits a map
 /// that waits for pages and stands in the waiting list of its zone; no driver has a page to give back
-/// or an item to transfer, and no callback is to be called.
+/// or an item to transfer, and no callback is to be called. Where all that holds, no actor can step.
 pub fn stuck_worlds_wait()
-    ensures { (s : Scenario) (w : WorldState) → IsWellFormed s w → IsAtRest w → OnlyAwaits w }
+    ensures rests { (w : WorldState) → OnlyAwaits w → IsAtRest w }
+    ensures waits { (s : Scenario) (w : WorldState) → IsWellFormed s w → IsAtRest w → OnlyAwaits w }
 {}
 
 /// Every valid scenario has a replayed journal: after the turns of its order, enough rounds come to
@@ -79,6 +94,13 @@ pub fn replay_is_legal()
 pub fn legal_journals_wait()
     ensures { (s : Scenario) (j : Journal) (legal : IsLegal s j) → IsValid s →
         IsWellFormed s legal.last × OnlyAwaits legal.last }
+{}
+
+/// The callback of each load is called at most once in entries that lead on from the opening world of
+/// a scenario, as those of a legal journal do.
+pub fn each_load_is_called_once()
+    ensures { (s : Scenario) (entries : List JournalEntry) (end : WorldState) (i place : ℕ) →
+        Leads (opening_world s) entries end → times_called i place (opening_world s) entries ≤ 1 }
 {}
 
 /// Where a valid scenario opens, and the pages of each driver hold zeros, each driver's wire is
