@@ -7,6 +7,7 @@ use Rattle.ideal_lane.specs.Asking.{by_reply}
 use Rattle.ideal_lane.specs.Standing.{Stands}
 use Rattle.ideal_lane.specs.State.{LaneState}
 use Rattle.ideal_lane.specs.Turns.{Turned, lane_step}
+use Rattle.ideal_lane.proofs.Own.{IsLater, turn-own}
 use Rattle.ideal_wire.specs.Apart.{IsApart}
 use Rattle.ideal_wire.specs.Centre.{IsFaithful}
 use Rattle.ideal_wire.specs.Laid.{AreLaid}
@@ -39,9 +40,13 @@ module _ (h k : Holdings) (s : Side) (d e : Seen) (stands : Stands (ideal_of h))
   replied : (by_reply (lane_step (ideal_of h) s) led.reply).lane ≡ ideal_of k
   replied = sym led.is ∙ same
 
-  pub still-served : (ideal_of k).id ≡ (ideal_of h).id → IsServed (ideal_of k) e
-  still-served id = record {
-    served = subst (λ b. IsTrue b) (λ i. (sym led.serves i) (sym id i)) served.served;
+  -- it keeps its number, its script and its pages
+  pub still-own : IsLater (ideal_of h) (ideal_of k)
+  still-own = subst (IsLater (ideal_of h)) replied (turn-own (ideal_of h) s led.reply).later
+
+  pub still-served : IsServed (ideal_of k) e
+  still-served = record {
+    served = subst (λ b. IsTrue b) (λ i. (sym led.serves i) (sym still-own.same_id i)) served.served;
     opening = led.opening;
     sound = led.sound;
     agrees = still-agrees;
