@@ -9,6 +9,7 @@ mod Finding
 mod Following
 mod HeldMemory
 mod Keeping
+mod KeepsWired
 mod Lenders
 mod Lying
 mod MapSteps
@@ -16,6 +17,7 @@ mod MapTables
 mod MapValues
 mod MarkedMemory
 mod Marks
+mod OneStanding
 mod OpeningLane
 mod OpeningPages
 mod OpensWired
@@ -27,6 +29,7 @@ mod Returned
 mod ReturnSteps
 mod StaysWired
 mod TagSteps
+mod TurnEnds
 mod Unloaded
 mod UnloadSteps
 mod Views

@@ -11,6 +11,7 @@ mod returns;
 mod steps;
 mod tags;
 mod turn;
+mod turns;
 mod unloads;
 
 pub use lane::Lane;

@@ -1,6 +1,6 @@
 //! Pages on their way back to their zones.
 
-ghost use Rattle.std.specs.Prelude.{◌≡◌, true, false, Some, [], IfNone, IfSome};
+ghost use Rattle.std.specs.Prelude.{◌≡◌, ◌≤◌, true, false, Some, [], length, IfNone, IfSome};
 ghost use Rattle.std.specs.FinMap.{get, insert};
 ghost use Rattle.busdma_base.specs.declared.journals.answer.Answer.TheVariants as answer;
 ghost use Rattle.busdma_base.specs.declared.journals.journal.Did.TheVariants as did;
@@ -38,6 +38,7 @@ impl Holdings<'_> {
         ensures place { self.new.agenda.place ≡ self.old.agenda.place }
         ensures length { self.new.agenda.length ≡ self.old.agenda.length }
         ensures room { self.new.agenda.room ≡ self.old.agenda.room }
+        ensures some { IfSome result (λ r. 1 ≤ length self.old.agenda.returns) }
         ensures empty { IfNone result (self.old.agenda.returns ≡ []) }
         ensures same { IfNone result (KeepsState self.old self.new) }
         ensures unseen { IfNone result (D.seen door.new ≡ D.seen door.old) }

@@ -1,5 +1,6 @@
 pub mod Accesses
 pub mod Agreement
+pub mod Ahead
 pub mod Asking
 pub mod Callbacks
 pub mod IdealMemory

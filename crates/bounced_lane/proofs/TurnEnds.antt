@@ -1,0 +1,51 @@
+-- How a turn of a lane ends.
+use Rattle.std.proofs.Common.{◌≡◌, ◌⊎◌, inl, inr, Bool, true, false, refl, sym, subst, length, ℕ, ◌∙◌, ap}
+use Rattle.busdma_base.specs.declared.journals.journal.Side.{Side}
+use Rattle.busdma_base.specs.Bounce.Door.{Seen}
+use Rattle.busdma_base.specs.Machine.Wire.{Wire}
+use Rattle.ideal_lane.specs.Asking.{Asking, Gives, Asks}
+use Rattle.ideal_lane.specs.Standing.{Stands}
+use Rattle.ideal_lane.specs.Turns.{Turned, lane_step}
+use Rattle.ideal_lane.proofs.Own.{IsLater}
+use Rattle.ideal_wire.specs.WireStep.{Follows}
+use Rattle.ideal_wire.specs.WireStep as wires
+use Rattle.bounced_lane.specs.declared.holdings.Holdings.{Holdings}
+use Rattle.bounced_lane.specs.Doing.{IsDone, asks}
+use Rattle.bounced_lane.specs.Ideal.{ideal_of}
+use Rattle.bounced_lane.specs.Turning.{IsServed, IsTurned}
+use Rattle.bounced_lane.specs.Wire.{IsWired, wire_of}
+use Rattle.bounced_lane.proofs.AfterTurn.{Led, led}
+use Rattle.bounced_lane.proofs.Following.{KeepsWhatStays, follows}
+use Rattle.bounced_lane.proofs.StaysWired.{still-apart, still-laid, still-own, still-served, still-stands, still-wired}
+
+-- a step that was done is a turn that was made, which tells whether a call was made
+pub done-turned : {X : Type 0} (d : Seen) (lane : ℕ) (step : Asking X) (x : X) (held : Bool) (e : Seen) →
+    IsDone d lane step x e → held ≡ asks step → IsTurned d lane step x held e
+done-turned d lane (Gives y) x held e done is = (done.0, is, done.1)
+done-turned d lane (Asks c k) x held e done is = inl (is, done)
+
+module _ (h k : Holdings) (s : Side) (d e : Seen) (stands : Stands (ideal_of h)) (wired : IsWired h)
+    (served : IsServed (ideal_of h) d) (x : Turned) (held : Bool)
+    (turn : IsTurned d (ideal_of h).id (lane_step (ideal_of h) s) x held e) (same : x.lane ≡ ideal_of k) where
+  the-end : Led (ideal_of h) s d x e
+  the-end =
+      led (ideal_of h) s d stands served wired.machine wired.laid (lane_step (ideal_of h) s) refl x held e turn
+
+  pub end-stands : Stands (ideal_of k)
+  end-stands = still-stands h k s d e stands wired served x the-end same
+
+  pub end-served : IsServed (ideal_of k) e
+  end-served = still-served h k s d e stands wired served x the-end same
+
+  pub end-own : IsLater (ideal_of h) (ideal_of k)
+  end-own = still-own h k s d e stands wired served x the-end same
+
+  -- where the step changes no byte
+  pub end-follows : KeepsWhatStays h k → (w : Wire) → w ≡ wire_of h → Follows (ideal_of h) (ideal_of k) w (wire_of k)
+  end-follows keeps w plain =
+      subst (λ w. Follows (ideal_of h) (ideal_of k) w (wire_of k)) (sym plain)
+      (follows h k wired.laid wired.apart (still-laid h k s d e stands wired served x the-end same)
+      (still-apart h k s d e stands wired served x the-end same) keeps)
+
+  pub end-wired : Follows (ideal_of h) (ideal_of k) (wires.lane_step (ideal_of h) s (wire_of h)) (wire_of k) → IsWired k
+  end-wired = still-wired h k s d e stands wired served x the-end same
