@@ -27,6 +27,7 @@ mod Reaching
 mod Reading
 mod Returned
 mod ReturnSteps
+mod ReturnTurns
 mod StaysWired
 mod TagSteps
 mod TurnEnds

@@ -1,16 +1,18 @@
 -- How a turn of a lane ends.
 use Rattle.std.proofs.Common.{◌≡◌, ◌⊎◌, inl, inr, Bool, true, false, refl, sym, subst, length, ℕ, ◌∙◌, ap}
 use Rattle.busdma_base.specs.declared.journals.journal.Side.{Side}
-use Rattle.busdma_base.specs.Bounce.Door.{Seen}
+use Rattle.busdma_base.specs.Bounce.Door.{Seen, account}
 use Rattle.busdma_base.specs.Machine.Wire.{Wire}
+use Rattle.ideal_lane.specs.Agreement.{IsAllowed}
 use Rattle.ideal_lane.specs.Asking.{Asking, Gives, Asks}
 use Rattle.ideal_lane.specs.Standing.{Stands}
 use Rattle.ideal_lane.specs.Turns.{Turned, lane_step}
 use Rattle.ideal_lane.proofs.Own.{IsLater}
+use Rattle.ideal_lane.proofs.Turning.{turn-allowed}
 use Rattle.ideal_wire.specs.WireStep.{Follows}
 use Rattle.ideal_wire.specs.WireStep as wires
 use Rattle.bounced_lane.specs.declared.holdings.Holdings.{Holdings}
-use Rattle.bounced_lane.specs.Doing.{IsDone, asks}
+use Rattle.bounced_lane.specs.Doing.{IsAllowedBy, IsDone, asks}
 use Rattle.bounced_lane.specs.Ideal.{ideal_of}
 use Rattle.bounced_lane.specs.Turning.{IsServed, IsTurned}
 use Rattle.bounced_lane.specs.Wire.{IsWired, wire_of}
@@ -49,3 +51,13 @@ module _ (h k : Holdings) (s : Side) (d e : Seen) (stands : Stands (ideal_of h))
 
   pub end-wired : Follows (ideal_of h) (ideal_of k) (wires.lane_step (ideal_of h) s (wire_of h)) (wire_of k) → IsWired k
   end-wired = still-wired h k s d e stands wired served x the-end same
+
+-- the account allows the call of a turn, where the driver agrees with it
+pub turn-may : (h : Holdings) (s : Side) (d : Seen) → Stands (ideal_of h) → IsServed (ideal_of h) d →
+    IsAllowedBy d (ideal_of h).id (lane_step (ideal_of h) s)
+turn-may h s d stands served =
+    by (lane_step (ideal_of h) s) (turn-allowed (ideal_of h) s (account d) stands served.agrees)
+  where
+    by : (step : Asking Turned) → IsAllowed (ideal_of h).id (account d) step → IsAllowedBy d (ideal_of h).id step
+    by (Gives t) may = tt
+    by (Asks c k) may = record { served = served.served; sound = served.sound; may = may }

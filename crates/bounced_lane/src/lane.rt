@@ -1,11 +1,11 @@
 //! A driver's lane.
 
 ghost use Rattle.std.specs.Prelude.{◌≡◌, ◌≤◌, ◌+◌, length};
+ghost use Rattle.ideal_lane.specs.Ahead.{items_ahead};
 ghost use Rattle.ideal_lane.specs.Standing.{Stands};
 ghost use Rattle.bounced_lane.specs.Ideal.{ideal_of};
 ghost use Rattle.bounced_lane.specs.OneProof.{IsWired-prop};
 ghost use Rattle.bounced_lane.specs.Wire.{IsWired};
-ghost use Rattle.bounced_lane.specs.Covered.{items_due, items_left};
 
 use crate::holdings::Holdings;
 
@@ -16,6 +16,5 @@ pub struct Lane<'s> {
     ghost wired: { IsWired holdings } by { IsWired-prop holdings },
     ghost stands: { ∥ Stands (ideal_of holdings) ∥₁ },
     ghost length: { holdings.agenda.length ≡ length holdings.script.now },
-    ghost room: { items_left holdings.agenda.place holdings.script.now + items_due holdings.maps.map
-        ≤ holdings.agenda.room },
+    ghost room: { items_ahead (ideal_of holdings) ≤ holdings.agenda.room },
 }

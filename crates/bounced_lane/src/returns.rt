@@ -35,6 +35,7 @@ impl Holdings<'_> {
             (stepped side.Script (did.Release r.map r.page) (given self.new (answer.Served r.served)))
             (D.seen door.new)) }
         ensures bytes { KeepsBytes self.old self.new }
+        ensures queue { self.new.agenda.queue ≡ self.old.agenda.queue }
         ensures place { self.new.agenda.place ≡ self.old.agenda.place }
         ensures length { self.new.agenda.length ≡ self.old.agenda.length }
         ensures room { self.new.agenda.room ≡ self.old.agenda.room }

@@ -21,6 +21,7 @@ impl Holdings<'_> {
     pub(crate) fn unload(&mut self, map: u32) -> Answer
         ensures done { Gives (given self.new result) ≡ unloads.unload map (ideal_of self.old) }
         ensures bytes { KeepsBytesHeld self.old self.new }
+        ensures queue { self.new.agenda.queue ≡ self.old.agenda.queue }
         ensures place { self.new.agenda.place ≡ self.old.agenda.place }
         ensures length { self.new.agenda.length ≡ self.old.agenda.length }
         ensures room { self.new.agenda.room ≡ self.old.agenda.room }
@@ -41,6 +42,7 @@ impl Holdings<'_> {
         ensures done { (o : LaneMap) → get (ideal_of self.old).maps map ≡ Some o →
             ideal_of self.new ≡ unpaged map o (pages_of o.stage) (unlent map (ideal_of self.old)) }
         ensures bytes { KeepsBytesHeld self.old self.new }
+        ensures queue { self.new.agenda.queue ≡ self.old.agenda.queue }
         ensures place { self.new.agenda.place ≡ self.old.agenda.place }
         ensures length { self.new.agenda.length ≡ self.old.agenda.length }
         ensures room { self.new.agenda.room ≡ self.old.agenda.room }

@@ -25,6 +25,7 @@ returns-in_default-state c =
           (image-some map_of h.maps.map c.args.map o (sym c.in-Some.ensures))
           (state-unloaded o.need o.map.stage (λ e. c.in_default-state.not-Loaded (c.state.ensures ∙ e))));
       bytes = record { own = refl; pages = λ m. inl refl };
+      queue = refl;
       place = refl;
       length = refl;
       room = refl;

@@ -4,14 +4,15 @@ use Rattle.std.specs.Ordering.{nat_cmp}
 use Rattle.std.specs.FinMap.{contains_key, get-empty}
 use Rattle.lane_tables.specs.declared.queued.QueuedPage.{QueuedPage}
 use Rattle.lane_tables.specs.Queues.{item_count}
+use Rattle.ideal_lane.specs.Ahead.{awaited_items, maps_items}
+use Rattle.ideal_lane.specs.State.{LaneMap}
 use Rattle.ideal_lane.specs.Opening.{opening_lane}
 use Rattle.ideal_lane.specs.Standing.{Stands}
 use Rattle.ideal_lane.proofs.Openings.{opens-standing}
 use Rattle.ideal_lane.proofs.Weights.{weigh-empty}
-use Rattle.bounced_lane.specs.Covered.{items_left, items_due}
+use Rattle.bounced_lane.specs.Covered.{items_left}
 use Rattle.bounced_lane.specs.Held.{devices_of}
 use Rattle.bounced_lane.specs.Kept.{map_of, memory_of, return_of, share_of, tag_of}
-use Rattle.bounced_lane.specs.Kept as kept
 use Rattle.bounced_lane.specs.MapValues.{map_values}
 use Rattle.bounced_lane.proofs.MapValues.{map_values-empty}
 use Rattle.bounced_lane.proofs.OwnRuns.{AreKnown}
@@ -80,8 +81,10 @@ invariant_of-result-2-clause-room c =
     let left : items_left c.in_ok-new-4.field-0.place c.as_slice-script.result.now ≡ c.in_ok-new-4.field-0.room =
     ap (λ a. items_left a.place c.as_slice-script.result.now) agenda
     ∙ ap item_count script ∙ sym (ap (λ a. a.room) agenda) in
-    let due : items_due c.in_ok-new-2.field-0.map ≡ 0 =
-    ap (λ t. items_due t.map) c.in_ok-new-2.ensures ∙ weigh-empty kept.items_of in
+    let maps = ap (λ t. map_values map_of t.map) c.in_ok-new-2.ensures ∙ map_values-empty map_of in
+    let due : maps_items c.as_slice-script.result.now (map_values map_of c.in_ok-new-2.field-0.map) ≡ 0 =
+    ap (maps_items c.as_slice-script.result.now) maps
+    ∙ weigh-empty (λ (o : LaneMap). awaited_items c.as_slice-script.result.now o.stage) in
     omega (arith, left, due)
 
 pub invariant_of-result-2-clause-wired : goal.invariant_of-result-2-clause-wired
