@@ -17,18 +17,12 @@ use Rattle.ideal_wire.specs.Traces.{is_in_pages, stage_at}
 use Rattle.ideal_wire.specs.WireStep.{Follows}
 use Rattle.ideal_wire.proofs.Lent.{any_found}
 use Rattle.bounced_lane.specs.declared.holdings.Holdings.{Holdings}
-use Rattle.bounced_lane.specs.Changes.{KeepsBytes, KeepsBytesHeld}
+use Rattle.bounced_lane.specs.Changes.{KeepsBytes, KeepsBytesHeld, KeepsWhatStays}
 use Rattle.bounced_lane.specs.Held.{devices_of}
 use Rattle.bounced_lane.specs.Ideal.{ideal_of}
 use Rattle.bounced_lane.specs.Wire.{held_pages, wire_of}
 use Rattle.bounced_lane.proofs.Lying.{own-view, page-mine, pages-same}
 use Rattle.bounced_lane.proofs.Views.{IsMine, under-alike, view-alike}
-
--- the bytes of the driver's frames, and those of the bounce pages of each map that has pages before and after
-pub record KeepsWhatStays (h k : Holdings) : Type 0 where
-  pub own : wire k.memory.memory ≡ wire h.memory.memory
-  pub pages : (m : ℕ) → ((devices_of k.maps.map m).pages ≡ (devices_of h.maps.map m).pages)
-      ⊎ (((devices_of h.maps.map m).pages ≡ []) ⊎ ((devices_of k.maps.map m).pages ≡ []))
 
 pub stays-all : (h k : Holdings) → KeepsBytes h k → KeepsWhatStays h k
 stays-all h k s = record { own = s.own; pages = λ m. inl (s.pages m) }

@@ -17,7 +17,8 @@ use Rattle.bounced_lane.specs.Ideal.{ideal_of}
 use Rattle.bounced_lane.specs.Turning.{IsServed, IsTurned}
 use Rattle.bounced_lane.specs.Wire.{IsWired, wire_of}
 use Rattle.bounced_lane.proofs.AfterTurn.{Led, led}
-use Rattle.bounced_lane.proofs.Following.{KeepsWhatStays, follows}
+use Rattle.bounced_lane.specs.Changes.{KeepsWhatStays}
+use Rattle.bounced_lane.proofs.Following.{follows}
 use Rattle.bounced_lane.proofs.StaysWired.{still-apart, still-laid, still-own, still-served, still-stands, still-wired}
 
 -- a step that was done is a turn that was made, which tells whether a call was made

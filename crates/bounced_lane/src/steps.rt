@@ -1,16 +1,44 @@
 //! What an operation waits for, and what goes on behind a step.
 
-ghost use Rattle.std.specs.Prelude.{◌≡◌, ◌<◌, ◌≤◌, ◌+◌, drop};
+ghost use Rattle.std.specs.Prelude.{◌≡◌, ◌<◌, ◌≤◌, ◌+◌, drop, IfOk, OnErr, OnOk};
 ghost use Rattle.busdma_base.specs.declared.scenarios.script.Op.TheVariants.{Await};
+ghost use Rattle.ideal_lane.specs.Asking.{Gives};
 ghost use Rattle.ideal_lane.specs.Turns as turns;
+ghost use Rattle.ideal_wire.specs.WireStep as wires;
+ghost use Rattle.bounced_lane.specs.Wire.{IsWired, wire_of};
 
 use crate::holdings::Holdings;
-use busdma_base::Op;
+use busdma_base::{Answer, Item, Op};
 use dma_map::MapState;
+use dma_tag::SyncOps;
+use std::alloc::{AllocError, Global};
 
 impl Holdings<'_> {
-    ghost use Rattle.bounced_lane.specs.Changes.{KeepsButAgenda};
-    ghost use Rattle.bounced_lane.specs.Ideal.{ideal_of};
+    ghost use Rattle.bounced_lane.specs.Changes.{KeepsButAgenda, KeepsState};
+    ghost use Rattle.bounced_lane.specs.Ideal.{given, ideal_of};
+
+    /// Does an item, but for its leaving the queue.
+    pub(crate) fn transfer(&mut self, alloc: Global, item: &Item) -> Result<Answer, AllocError>
+        requires { IsWired self.old }
+        ensures done { IfOk result (λ answer.
+            Gives (given self.new answer) ≡ turns.transfer item.now (ideal_of self.old)) }
+        ensures wire { OnOk result (wire_of self.new
+            ≡ wires.transfer item.now (ideal_of self.old) (wire_of self.old)) }
+        ensures agenda { self.new.agenda ≡ self.old.agenda }
+        ensures err { OnErr result (KeepsState self.old self.new) }
+    {
+        match item {
+            Item::Sync { map, ops } => self.sync(alloc, *map, SyncOps(*ops)),
+            Item::SyncRange { map, off, len, ops } => {
+                self.sync_range(alloc, *map, *off, *len, SyncOps(*ops))
+            }
+            Item::DevRead { map, off, len } => self.dev_read(alloc, *map, *off, *len),
+            Item::DevWrite { map, off, bytes } => {
+                let bytes = bytes.to_vec(alloc)?;
+                self.dev_write(alloc, *map, *off, &bytes)
+            }
+        }
+    }
 
     /// Whether an operation cannot step.
     pub(crate) fn waits(&self, op: &Op) -> bool
