@@ -1,12 +1,14 @@
 -- Bounce pages, the frames of the driver's pages and those of its memories are apart, where driver and account agree.
+use mathlib.Core.Logic.{∥∥₁_elim}
 use Rattle.std.proofs.Common.{◌≡◌, ◌≢◌, ℕ, zero, suc, ◌+◌, ◌*◌, ◌/◌, ◌%◌, ◌<◌, ◌≤◌, ◌==◌, ◌&&◌, Bool, true, false}
 use Rattle.std.proofs.Common.{cond, List, [], ◌∷◌, ◌++◌, Option, Some, None, slice_get, refl, ap, sym, ◌∙◌}
 use Rattle.std.proofs.Common.{subst, arith, nat_le, nat_lt, ◌⊎◌, inl, inr, ◌||◌}
 use Rattle.std.proofs.lemmas.Bool.{and_parts, false≢true, leb-true, ltb-true, le-leb, lt-ltb, eqb-true, eq-eqb}
 use Rattle.std.proofs.lemmas.Bool.Decides.{eqb_tells}
 use Rattle.std.proofs.lemmas.List.Sums.{sum_by-cons}
-use Rattle.std.specs.Prelude.{count_by, sum_by}
+use Rattle.std.specs.Prelude.{count_by, sum_by, is_some}
 use Rattle.std.specs.FinMap.{get}
+use Rattle.std.specs.List.{AllZip}
 use Rattle.busdma_base.specs.declared.machine.chunk.Chunk.{Chunk}
 use Rattle.busdma_base.specs.declared.machine.address.Segment.{Segment}
 use Rattle.busdma_base.specs.declared.name.MapId.{MapId}
@@ -18,18 +20,19 @@ use Rattle.busdma_base.specs.Bounce.Places.{times, times_lent}
 use Rattle.busdma_base.specs.Bounce.Serving.{is_holding}
 use Rattle.busdma_base.specs.Machine.PageRuns.{is_own}
 use Rattle.busdma_base.proofs.Accounts.Counting.{count_by-append}
+use Rattle.segment_build.specs.Trace.{bus_extent}
 use Rattle.lane_agreement.specs.OwnShare.{one_if, loaded_page}
 use Rattle.lane_agreement.specs.View as view
 use Rattle.lane_agreement.proofs.Own.{count-one, count-like}
 use Rattle.ideal_lane.specs.Agreement.{AgreesWith}
 use Rattle.ideal_lane.specs.Standing.{IsPageless, Stands}
-use Rattle.ideal_lane.specs.State.{LaneState, LaneMap, LaneMemory, Stage, Loaded, named}
-use Rattle.ideal_lane.specs.Syncs.{bounced_in}
+use Rattle.ideal_lane.specs.State.{LaneState, LaneMap, LaneMemory, Stage, named}
+use Rattle.ideal_lane.specs.State.{Idle, Waiting, Loaded, Returning}
 use Rattle.ideal_lane.specs.Unloads.{pages_of}
 use Rattle.ideal_lane.specs.View.{own_map, own_frames, in_zone, stage_of}
-use Rattle.ideal_wire.specs.Laid.{IsOwnByte, OfPages, OfMemory, IsRun}
+use Rattle.ideal_wire.specs.Apart.{HoldsPage, IsApart}
+use Rattle.ideal_wire.specs.Laid.{IsInPage, IsLaid, LiesIn, IsOwnByte, OfPages, OfMemory, IsRun, AreLaid}
 use Rattle.ideal_wire.specs.Traces.{stage_in, stage_at}
-use Rattle.ideal_wire.proofs.Buses.{IsBounced}
 use Rattle.ideal_wire.proofs.Lent.{counted_two}
 use Rattle.ideal_wire.proofs.Positions.{found_one}
 use Rattle.ideal_wire.proofs.SyncedPositions.{decided}
@@ -166,6 +169,18 @@ own-frame (r ∷ rs) a h = by (within a) refl (own-frame rs a) h
         or-true true y g = refl
         or-true false y g = g
 
+-- each page of chunks is whole
+zip-whole : (cs : List Chunk) (ps : List ℕ) (i page : ℕ) → AllZip IsInPage cs ps → slice_get ps i ≡ Some page →
+    page % 4096 ≡ 0
+zip-whole [] [] i page z has = absurd (cc)
+zip-whole [] (p ∷ ps) i page z has = absurd z
+zip-whole (c ∷ cs) [] i page z has = absurd z
+zip-whole (c ∷ cs) (p ∷ ps) zero page z has =
+    let same : p ≡ page = found_one (Some p) p page refl has in
+    let frame : (bus_extent c).pa.0 / 4096 * 4096 ≡ p = z.0.frame in
+    omega (arith, same, frame)
+zip-whole (c ∷ cs) (p ∷ ps) (suc i) page z has = zip-whole cs ps i page z.1 has
+
 -- ---- a driver that agrees with the account
 module _ (l : LaneState) (a : Account) (agrees : AgreesWith l a) where
   -- a page that a map holds stands with the maps' pages
@@ -187,7 +202,7 @@ module _ (l : LaneState) (a : Account) (agrees : AgreesWith l a) where
       ∙ ap (λ o. Rattle.lane_agreement.specs.OwnShare.mem_frames (own_frames o)) there)
 
   -- a byte of a memory's frames is none of another's, and none of the driver's pages
-  pub memories-apart : (k j : ℕ) (x y : LaneMemory) (b : ℕ) → get l.mems k ≡ Some x → get l.mems j ≡ Some y →
+  memories-apart : (k j : ℕ) (x y : LaneMemory) (b : ℕ) → get l.mems k ≡ Some x → get l.mems j ≡ Some y →
       IsRun x → IsRun y → in_run x.first x.count b ≡ true → in_run y.first y.count b ≡ true → k ≡ j
   memories-apart k j x y b there too rx ry h g = elim (decided k j) as (λ _. k ≡ j) [
     | inl e ↦ e
@@ -205,7 +220,7 @@ module _ (l : LaneState) (a : Account) (agrees : AgreesWith l a) where
         ))
   ]
 
-  pub memory-apart : (k : ℕ) (x : LaneMemory) (b : ℕ) → get l.mems k ≡ Some x → IsRun x →
+  memory-apart : (k : ℕ) (x : LaneMemory) (b : ℕ) → get l.mems k ≡ Some x → IsRun x →
       in_run x.first x.count b ≡ true → is_own l.pages b ≡ true → ⊥
   memory-apart k x b there rx h own =
       let f : ℕ = frame_of b in
@@ -265,16 +280,38 @@ module _ (l : LaneState) (a : Account) (agrees : AgreesWith l a) where
           lent-two (named l m) (next (named l m)) h.zone h.zone p a (off-next (named l m)),
         )
 
-    -- a bus address in a page is none of the driver's own bytes
-    pub page-apart : (m k b : ℕ) (cs : List Chunk) (ss : List Segment) (ps : List ℕ) → stage_at l m ≡ Loaded cs ss ps →
-        IsBounced cs ps k b → ((j : ℕ) (x : LaneMemory) → get l.mems j ≡ Some x → IsRun x) → IsOwnByte l b → ⊥
-    page-apart m k b cs ss ps loaded x runs own = by own
+    -- a page that a map holds
+    record PageOf (m i page : ℕ) : Type 0 where
+      bounced : List Chunk
+      segments : List Segment
+      pages : List ℕ
+      stage : stage_at l m ≡ Loaded bounced segments pages
+      has : slice_get pages i ≡ Some page
+
+    page-of : (m i page : ℕ) → HoldsPage l m i page → PageOf m i page
+    page-of m i page h = by (stage_at l m) refl h
       where
-        frame : frame_of b ≡ x.page
-        frame = omega (arith, x.whole, x.low, x.high)
+        by : (s : Stage) → stage_at l m ≡ s → slice_get (pages_of s) i ≡ Some page → PageOf m i page
+        by Idle e g = absurd (cc)
+        by (Waiting load_at need) e g = absurd (cc)
+        by (Loaded cs ss ps) e g = record { bounced = cs; segments = ss; pages = ps; stage = e; has = g }
+        by Returning e g = absurd (cc)
+
+    -- a byte of such a page is none of the driver's own bytes
+    page-away : (m i page b : ℕ) → HoldsPage l m i page → page % 4096 ≡ 0 → in_run page 1 b ≡ true →
+        ((j : ℕ) (x : LaneMemory) → get l.mems j ≡ Some x → IsRun x) → IsOwnByte l b → ⊥
+    page-away m i page b holds whole inside runs own = by own
+      where
+        frame : frame_of b ≡ page
+        frame =
+            let parts = and_parts (nat_le page b) (nat_lt b (page + 4096 * 1)) inside in
+            let low : page ≤ b = leb-true page b parts.0 in
+            let high : b < page + 4096 * 1 = ltb-true b (page + 4096 * 1) parts.1 in
+            omega (arith, whole, low, high)
 
         placed : 1 ≤ times_lent (frame_of b) a
-        placed = subst (λ p. 1 ≤ times_lent p a) (sym frame) (page-placed m x.index x.page cs ss ps loaded x.has_page)
+        placed = let h = page-of m i page holds in
+            subst (λ p. 1 ≤ times_lent p a) (sym frame) (page-placed m i page h.bounced h.segments h.pages h.stage h.has)
 
         by : IsOwnByte l b → ⊥
         by (OfPages e) = absurd (omega (arith, agrees.apart (frame_of b) (own-frame l.pages b e), placed))
@@ -290,54 +327,69 @@ module _ (l : LaneState) (a : Account) (agrees : AgreesWith l a) where
               run-frame y.count y.first b (runs j y there).whole h,
             ))
 
-    -- a bus address in a page is that of one place of one map
-    pub page-one : (m n k j b d : ℕ) (cs : List Chunk) (ss : List Segment) (ps : List ℕ)
-        (cs' : List Chunk) (ss' : List Segment) (ps' : List ℕ) → stage_at l m ≡ Loaded cs ss ps →
-        stage_at l n ≡ Loaded cs' ss' ps' → IsBounced cs ps k b → IsBounced cs' ps' j d → b ≡ d → (m ≡ n) × (k ≡ j)
-    page-one m n k j b d cs ss ps cs' ss' ps' loaded too x y same = by (decided m n)
+    -- it stands at one place of one map
+    page-one : (m n i j page : ℕ) → HoldsPage l m i page → HoldsPage l n j page → (m ≡ n) × (i ≡ j)
+    page-one m n i j page holds too = by (decided m n)
       where
-        page : y.page ≡ x.page
-        page = omega (arith, x.whole, x.low, x.high, y.whole, y.low, y.high, same)
-
-        twice : (i : ℕ) → slice_get ps i ≡ Some x.page → x.index ≢ i → ⊥
-        twice i has ne =
-            let h = holder-of m x.index x.page cs ss ps loaded x.has_page in
+        twice : PageOf m i page → slice_get (pages_of (stage_at l m)) j ≡ Some page → i ≢ j → ⊥
+        twice x has ne =
+            let h = holder-of m i page x.bounced x.segments x.pages x.stage x.has in
+            let there : slice_get x.pages j ≡ Some page = sym (ap (λ s. slice_get (pages_of s) j) x.stage) ∙ has in
             absurd
             (omega (
               arith,
-              agrees.one x.page,
-              page-times h x.page,
-              lent-two (named l m) (next (named l m)) h.zone h.zone x.page a (off-next (named l m)),
-              counted_two (λ q. q == x.page) ps x.index i x.page x.page x.has_page has
-                  (eq-eqb x.page x.page refl) (eq-eqb x.page x.page refl) ne,
+              agrees.one page,
+              page-times h page,
+              lent-two (named l m) (next (named l m)) h.zone h.zone page a (off-next (named l m)),
+              counted_two (λ q. q == page) x.pages i j page page x.has there
+                  (eq-eqb page page refl) (eq-eqb page page refl) ne,
             ))
 
-        at-index : ps' ≡ ps → cs' ≡ cs → (x.index ≡ y.index) ⊎ (x.index ≢ y.index) → k ≡ j
-        at-index ep ec (inr ne) =
-            absurd (twice y.index (sym (ap (λ q. slice_get q y.index) ep) ∙ y.has_page ∙ ap (λ q. Some q) page) ne)
-        at-index ep ec (inl i) =
-            let there : slice_get cs x.index ≡ Some y.chunk = ap (slice_get cs) i
-            ∙ sym (ap (λ q. slice_get q y.index) ec) ∙ y.has_chunk in
-            let chunk : x.chunk ≡ y.chunk = found_one (slice_get cs x.index) x.chunk y.chunk x.has_chunk there in
-            let base = ap (λ (c : Chunk). (Rattle.segment_build.specs.Trace.bus_extent c).pa.0) chunk in
-            let at = ap (λ (c : Chunk). c.at) chunk in
-            omega (arith, x.bus_is, y.bus_is, x.behind, y.behind, base, at, same)
+        at-index : m ≡ n → (i ≡ j) ⊎ (i ≢ j) → i ≡ j
+        at-index e (inl same) = same
+        at-index e (inr ne) =
+            absurd (twice (page-of m i page holds) (ap (λ k. slice_get (pages_of (stage_at l k)) j) e ∙ too) ne)
 
-        by : (m ≡ n) ⊎ (m ≢ n) → (m ≡ n) × (k ≡ j)
-        by (inl e) =
-            let stages : Loaded cs' ss' ps' ≡ Loaded cs ss ps = sym too ∙ ap (stage_at l) (sym e) ∙ loaded in
-            (e, at-index (ap pages_of stages) (ap bounced_in stages) (decided x.index y.index))
+        by : (m ≡ n) ⊎ (m ≢ n) → (m ≡ n) × (i ≡ j)
+        by (inl e) = (e, at-index e (decided i j))
         by (inr ne) =
-            let h = holder-of m x.index x.page cs ss ps loaded x.has_page in
-            let g = holder-of n y.index y.page cs' ss' ps' too y.has_page in
-            let p = x.page in
+            let x = page-of m i page holds in
+            let y = page-of n j page too in
+            let h = holder-of m i page x.bounced x.segments x.pages x.stage x.has in
+            let g = holder-of n j page y.bounced y.segments y.pages y.stage y.has in
             absurd
             (omega (
               arith,
-              agrees.one p,
-              page-times h p,
-              subst (λ q. times q ps' ≤ times_held (named l n) g.zone q a) page (page-times g y.page),
-              counted-page ps x.index p x.has_page,
-              subst (λ q. 1 ≤ times q ps') page (counted-page ps' y.index y.page y.has_page),
-              lent-two (named l m) (named l n) h.zone g.zone p a ne,
+              agrees.one page,
+              page-times h page,
+              page-times g page,
+              counted-page x.pages i page x.has,
+              counted-page y.pages j page y.has,
+              lent-two (named l m) (named l n) h.zone g.zone page a ne,
             ))
+
+    -- what the driver holds lies apart
+    pub agreeing-apart : AreLaid l → IsApart l
+    agreeing-apart laid = record {
+      away = λ m i page b holds inside. not-own b
+          (page-away m i page b holds (whole-page m i page (page-of m i page holds)) inside laid.runs)
+          (is_some (l.memory b)) refl;
+      one = page-one;
+      pages = λ k b x there h. not-pages k b x there h (is_own l.pages b) refl;
+      memories = λ j k b x y there too h g. memories-apart j k x y b there too (laid.runs j x there)
+          (laid.runs k y too) h g;
+    }
+      where
+        not-own : (b : ℕ) → (IsOwnByte l b → ⊥) → (t : Bool) → is_some (l.memory b) ≡ t → is_some (l.memory b) ≡ false
+        not-own b none true e = absurd (∥∥₁_elim (laid.only b e) (λ x y. absurd x) none)
+        not-own b none false e = e
+
+        not-pages : (k b : ℕ) (x : LaneMemory) → get l.mems k ≡ Some x → in_run x.first x.count b ≡ true →
+            (t : Bool) → is_own l.pages b ≡ t → is_own l.pages b ≡ false
+        not-pages k b x there h true e = absurd (memory-apart k x b there (laid.runs k x there) h e)
+        not-pages k b x there h false e = e
+
+        whole-page : (m i page : ℕ) → PageOf m i page → page % 4096 ≡ 0
+        whole-page m i page h =
+            let load : IsLaid l m h.bounced h.segments h.pages = subst (LiesIn l m) h.stage (laid.each m) in
+            zip-whole h.bounced h.pages i page load.paged h.has

@@ -1,4 +1,4 @@
--- The loads of a driver are placed, where it agrees with the account.
+-- The loads of a driver are placed, where what it holds lies apart.
 use Rattle.std.proofs.Common.{◌≡◌, ℕ, ◌+◌, ◌-◌, ◌*◌, ◌<◌, ◌≤◌, ◌&&◌, ◌||◌, Bool, true, false, cond, List, [], ◌∷◌}
 use Rattle.std.proofs.Common.{Option, Some, None, slice_get, is_some, inl, inr, refl, ap, sym, ◌∙◌, subst, arith}
 use Rattle.std.proofs.Common.{nat_le, nat_lt}
@@ -7,22 +7,21 @@ use Rattle.std.specs.FinMap.{get, entries, entries_sorted, get-entries}
 use Rattle.busdma_base.specs.declared.machine.chunk.Chunk.{Chunk}
 use Rattle.busdma_base.specs.declared.machine.address.Segment.{Segment}
 use Rattle.busdma_base.specs.declared.scenarios.scenario.PageRun.{PageRun}
-use Rattle.busdma_base.specs.Bounce.Account.{Account}
+use Rattle.busdma_base.specs.Bounce.MemoryRuns.{in_run}
 use Rattle.busdma_base.specs.Machine.PageRuns.{is_own, is_in_run, physical_in, pages_end}
 use Rattle.busdma_base.specs.Machine.Wire.{Placed}
 use Rattle.loan_table.specs.declared.position.Position.{Position}
 use Rattle.loan_table.specs.Loans.{Loan, loan_of, no_loan, addresses_of}
-use Rattle.ideal_lane.specs.Agreement.{AgreesWith}
 use Rattle.ideal_lane.specs.Loads.{is_coherent}
 use Rattle.ideal_lane.specs.Places.{physical, or_in_memory, is_memory_byte, is_in_memory}
-use Rattle.ideal_lane.specs.Standing.{Stands}
 use Rattle.ideal_lane.specs.State.{LaneState, LaneMemory, Stage, Idle, Waiting, Loaded, Returning}
 use Rattle.ideal_lane.specs.Syncs.{bounced_in}
+use Rattle.ideal_lane.specs.Unloads.{pages_of}
+use Rattle.ideal_wire.specs.Apart.{HoldsPage, IsApart}
 use Rattle.ideal_wire.specs.Centre.{IsAt, IsPlacedAt}
 use Rattle.ideal_wire.specs.Laid.{is_loadable, IsLaid, LiesIn, IsOwnByte, OfPages, OfMemory, AreLaid}
 use Rattle.ideal_wire.specs.Traces.{stage_at, bus_at, traces_of}
 use Rattle.ideal_wire.proofs.Buses.{IsBounced, bus-cases, placed-at, placed-buffers}
-use Rattle.ideal_wire.proofs.Frames.{memories-apart, memory-apart, page-apart, page-one}
 use Rattle.ideal_wire.proofs.Lent.{any_entry}
 use Rattle.ideal_wire.proofs.Placed.{ArePlaced}
 use Rattle.ideal_wire.proofs.Positions.{found_one, twin_of}
@@ -154,7 +153,43 @@ module _ (l : LaneState) (laid : AreLaid l) where
         | inr e ↦ InPage x (subst (IsBounced x.bounced x.pages i) (sym bus) e)
       ]
 
-  module _ (a : Account) (stands : Stands l) (agrees : AgreesWith l a) where
+  module _ (apart : IsApart l) where
+    -- the page in which a place of a load lies
+    holds-page : (m k b : ℕ) (x : Load m) (e : IsBounced x.bounced x.pages k b) → HoldsPage l m e.index e.page
+    holds-page m k b x e = ap (λ s. slice_get (pages_of s) e.index) x.stage ∙ e.has_page
+
+    -- a bus address in a page is none of the driver's own bytes
+    page-apart : (m k b : ℕ) (x : Load m) → IsBounced x.bounced x.pages k b → is_some (l.memory b) ≡ true → ⊥
+    page-apart m k b x e o = false≢true (sym (apart.away m e.index e.page b (holds-page m k b x e) inside) ∙ o)
+      where
+        inside : in_run e.page 1 b ≡ true
+        inside = let high : b < e.page + 4096 * 1 = omega (arith, e.high) in
+            rw (le-leb e.page b e.low, lt-ltb b (e.page + 4096 * 1) high) refl
+
+    -- it is that of one place of one map
+    page-one : (m n k j b d : ℕ) (x : Load m) (y : Load n) → IsBounced x.bounced x.pages k b →
+        IsBounced y.bounced y.pages j d → b ≡ d → (m ≡ n) × (k ≡ j)
+    page-one m n k j b d x y e g same = (one.0, place)
+      where
+        page : g.page ≡ e.page
+        page = omega (arith, e.whole, e.low, e.high, g.whole, g.low, g.high, same)
+
+        one : (m ≡ n) × (e.index ≡ g.index)
+        one = apart.one m n e.index g.index e.page (holds-page m k b x e)
+            (holds-page n j d y g ∙ ap (λ q. Some q) page)
+
+        chunks : x.bounced ≡ y.bounced
+        chunks = sym (ap bounced_in x.stage) ∙ ap (λ i. bounced_in (stage_at l i)) one.0 ∙ ap bounced_in y.stage
+
+        place : k ≡ j
+        place =
+            let there : slice_get x.bounced e.index ≡ Some g.chunk = ap (slice_get x.bounced) one.1
+            ∙ ap (λ cs. slice_get cs g.index) chunks ∙ g.has_chunk in
+            let chunk : e.chunk ≡ g.chunk = found_one (slice_get x.bounced e.index) e.chunk g.chunk e.has_chunk there in
+            let base = ap (λ (c : Chunk). (Rattle.segment_build.specs.Trace.bus_extent c).pa.0) chunk in
+            let at = ap (λ (c : Chunk). c.at) chunk in
+            omega (arith, e.bus_is, g.bus_is, e.behind, g.behind, base, at, same)
+
     abbrev pub own : ℕ → Bool
     own b = is_some (l.memory b)
 
@@ -165,16 +200,14 @@ module _ (l : LaneState) (laid : AreLaid l) where
     unbounced-at : (m i : ℕ) (t : Placed) → own t.bus ≡ true → Lies m i t → t.bus ≡ t.pa
     unbounced-at m i t o (ItsOwn e) = e
     unbounced-at m i t o (InPage x e) =
-        absurd
-        (page-apart l a agrees stands m i t.bus x.bounced x.segments x.pages x.stage e laid.runs (laid.only t.bus o))
+        absurd (page-apart m i t.bus x e o)
 
     paged-at : (m n i j : ℕ) (t u : Placed) → IsPlacedAt (traces_of l) m i t → IsPlacedAt (traces_of l) n j u →
         t.bus ≡ u.bus → own t.bus ≡ false → Lies m i t → Lies n j u → (m ≡ n) × (i ≡ j)
     paged-at m n i j t u h k e o (ItsOwn s) r = absurd (not-own m i t h o s)
     paged-at m n i j t u h k e o (InPage x s) (ItsOwn r) = absurd (not-own n j u k (sym (ap own e) ∙ o) r)
     paged-at m n i j t u h k e o (InPage x s) (InPage y r) =
-        page-one l a agrees stands m n i j t.bus u.bus x.bounced x.segments x.pages y.bounced y.segments y.pages
-        x.stage y.stage s r e
+        page-one m n i j t.bus u.bus x y s r e
 
     -- a coherent map is that of a memory
     memory-of : (m : ℕ) → is_coherent (get l.mems m) ≡ true → is_some (get l.mems m) ≡ true
@@ -203,9 +236,8 @@ module _ (l : LaneState) (laid : AreLaid l) where
         by : (o r : Option LaneMemory) → get l.mems m ≡ o → get l.mems n ≡ r → is_some o ≡ true →
             is_loadable o l p.pa ≡ true → is_loadable r l p.pa ≡ true → m ≡ n
         by None r s t some first second = absurd (cc)
-        by (Some x) None s t some first second = absurd (memory-apart l a agrees m x p.pa s (laid.runs m x s) first second)
-        by (Some x) (Some y) s t some first second =
-            memories-apart l a agrees m n x y p.pa s t (laid.runs m x s) (laid.runs n y t) first second
+        by (Some x) None s t some first second = absurd (false≢true (sym (apart.pages m p.pa x s first) ∙ second))
+        by (Some x) (Some y) s t some first second = apart.memories m n p.pa x y s t first second
 
     pub are-placed : ArePlaced own l (traces_of l)
     are-placed = record {

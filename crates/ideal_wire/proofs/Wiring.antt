@@ -8,8 +8,7 @@ use Rattle.busdma_base.specs.declared.journals.answer.Answer.TheVariants as answ
 use Rattle.busdma_base.specs.declared.journals.report.Judged.TheVariants.{Fine}
 use Rattle.busdma_base.specs.declared.journals.report.ReportName.TheVariants.{MixedSync, Absent}
 use Rattle.busdma_base.specs.declared.scenarios.script.Place.{Place}
-use Rattle.busdma_base.specs.Bounce.Account.{Account}
-use Rattle.busdma_base.specs.Machine.Wire.{Wire, put, stretch}
+use Rattle.busdma_base.specs.Machine.Wire.{Wire, put}
 use Rattle.busdma_base.specs.Runs.{run_of}
 use Rattle.dma_tag.specs.SyncOps.{is_mixed}
 use Rattle.loan_table.specs.Access.{cpu_read_answer, cpu_write_answer, dev_read_answer, dev_write_answer}
@@ -18,16 +17,15 @@ use Rattle.loan_table.specs.Lending as lending
 use Rattle.loan_table.specs.Loans.{loan_of, addresses_of}
 use Rattle.loan_table.proofs.Marking.{same_bytes, addresses_of-marked_range}
 use Rattle.ideal_lane.specs.Accesses.{cpu_read, cpu_write, dev_read, dev_write, values, load_bytes}
-use Rattle.ideal_lane.specs.Agreement.{AgreesWith}
 use Rattle.ideal_lane.specs.Asking.{Asking, by_reply}
 use Rattle.ideal_lane.specs.IdealMemory.{IdealMemory, Content, Known, Unknown, is_known, is_among, forgotten, written}
 use Rattle.ideal_lane.specs.IdealMemory.{written_at}
 use Rattle.ideal_lane.specs.Outcomes.{Outcome, gives, refused, unless_refused, unless_past, load_length}
 use Rattle.ideal_lane.specs.Places.{virtual_at, reached, bytes_at}
-use Rattle.ideal_lane.specs.Standing.{Stands}
 use Rattle.ideal_lane.specs.State.{LaneState, LaneMap}
 use Rattle.ideal_lane.specs.Syncs.{bounced_in, copies, counted, sync_part}
 use Rattle.ideal_lane.specs.Syncs as syncs
+use Rattle.ideal_wire.specs.Apart.{IsApart}
 use Rattle.ideal_wire.specs.Centre.{IsFaithful, Agrees}
 use Rattle.ideal_wire.specs.Laid.{AreLaid}
 use Rattle.ideal_wire.specs.Traces.{stage_at, placed_from, traces_of}
@@ -43,7 +41,7 @@ use Rattle.ideal_wire.proofs.SyncedPositions.{after}
 
 -- ---- bytes that are the driver's own stay so
 
-own-forgotten : (keys : List ℕ) (memory : IdealMemory) (a : ℕ) → is_some (forgotten keys memory a) ≡ is_some (memory a)
+pub own-forgotten : (keys : List ℕ) (memory : IdealMemory) (a : ℕ) → is_some (forgotten keys memory a) ≡ is_some (memory a)
 own-forgotten keys memory a = by (is_among keys a) (memory a)
   where
     by : (b : Bool) (o : Option Content) → is_some (cond b (option_map (λ c. Unknown) o) o) ≡ is_some o
@@ -51,7 +49,7 @@ own-forgotten keys memory a = by (is_among keys a) (memory a)
     by true (Some c) = refl
     by false o = refl
 
-own-written : (keys vs : List ℕ) (memory : IdealMemory) (a : ℕ) → is_some (written keys vs memory a) ≡ is_some (memory a)
+pub own-written : (keys vs : List ℕ) (memory : IdealMemory) (a : ℕ) → is_some (written keys vs memory a) ≡ is_some (memory a)
 own-written [] vs memory a = refl
 own-written (k ∷ keys) [] memory a = refl
 own-written (k ∷ keys) (v ∷ vs) memory a = own-written keys vs (written_at k v memory) a ∙ by (a == k) (memory a)
@@ -62,11 +60,10 @@ own-written (k ∷ keys) (v ∷ vs) memory a = own-written keys vs (written_at k
     by false o = refl
 
 -- ---- a step that is done, and pages that come and go after it
-module _ (l : LaneState) (a : Account) (w : Wire) (stands : Stands l) (agrees : AgreesWith l a) (laid : AreLaid l)
-    (f : IsFaithful l w) where
-  abbrev pub faithful : Faithful (own l laid a stands agrees) l (traces_of l) w
+module _ (l : LaneState) (w : Wire) (apart : IsApart l) (laid : AreLaid l) (f : IsFaithful l w) where
+  abbrev pub faithful : Faithful (own l laid apart) l (traces_of l) w
   faithful = record {
-    placed = are-placed l laid a stands agrees;
+    placed = are-placed l laid apart;
     exclusive = f.exclusive;
     agrees = f.agrees;
   }
@@ -140,7 +137,7 @@ module _ (l : LaneState) (a : Account) (w : Wire) (stands : Stands l) (agrees : 
 
         synced : sync_answer l.loans m off len ops ≡ Fine → is_mixed ops ≡ false → IsFaithful (after_sync l o) now
         synced fine alone =
-            let g = by_map (own l laid a stands agrees) l (traces_of l) w faithful m off len ops fine alone
+            let g = by_map (own l laid apart) l (traces_of l) w faithful m off len ops fine alone
             (loan_of l.loans m).coherent refl in
             record {
               exclusive = g.exclusive;
@@ -164,7 +161,7 @@ module _ (l : LaneState) (a : Account) (w : Wire) (stands : Stands l) (agrees : 
 
   -- ---- writes
   writes-stay : (bytes vs : List ℕ) (now : Wire) →
-      Faithful (own l laid a stands agrees) (record l { memory = written bytes vs l.memory }) (traces_of l) now →
+      Faithful (own l laid apart) (record l { memory = written bytes vs l.memory }) (traces_of l) now →
       Stays now (gives (record l { memory = written bytes vs l.memory }) answer.Done)
   writes-stay bytes vs now g r w' h =
       done (record l { memory = written bytes vs l.memory }) now w' refl refl (own-written bytes vs l.memory)
@@ -188,8 +185,8 @@ module _ (l : LaneState) (a : Account) (w : Wire) (stands : Stands l) (agrees : 
           judged l (Stays now) (report-stays now) (cpu_write_answer l.loans (bytes va))
           (gives (record l { memory = written (bytes va) vs l.memory }) answer.Done) (λ free.
           writes-stay (bytes va) vs (put (bytes va) vs w)
-          (cpu_written (own l laid a stands agrees) l (traces_of l) w faithful (bytes va) vs
-          (reached_own (own l laid a stands agrees) l (traces_of l) w faithful (run_of va (length vs)) reaches) free)))
+          (cpu_written (own l laid apart) l (traces_of l) w faithful (bytes va) vs
+          (reached_own (own l laid apart) l (traces_of l) w faithful (run_of va (length vs)) reaches) free)))
 
       by : (o : Option ℕ) → virtual_at l place ≡ o →
           Stays (put (bytes (Rattle.std.specs.Prelude.unwrap_or o 0)) vs w)
@@ -206,7 +203,7 @@ module _ (l : LaneState) (a : Account) (w : Wire) (stands : Stands l) (agrees : 
       past l (Stays now) (report-stays now) m off (length vs) step
       (judged l (Stays now) (report-stays now) (dev_write_answer (loan_of l.loans m) off (length vs)) _ (λ allowed.
       writes-stay (load_bytes l m off (length vs)) vs now
-      (dev_written (own l laid a stands agrees) l (traces_of l) w faithful m off (length vs) vs allowed))))
+      (dev_written (own l laid apart) l (traces_of l) w faithful m off (length vs) vs allowed))))
     where
       now : Wire
       now = put (load_buses l m off (length vs)) vs w
@@ -243,7 +240,7 @@ module _ (l : LaneState) (a : Account) (w : Wire) (stands : Stands l) (agrees : 
       unloaded l P (λ x. tt) m (λ o. unless_past m off len l step) (λ o there is.
       past l P (λ x. tt) m off len step
       (judged l P (λ x. tt) (dev_read_answer (is_known l.memory) (loan_of l.loans m) off len) _ (λ allowed.
-      dev_read_of (own l laid a stands agrees) l (traces_of l) w faithful m off len allowed)))
+      dev_read_of (own l laid apart) l (traces_of l) w faithful m off len allowed)))
     where
       P : Asking Outcome → Type 0
       P s = IsRead s (load_buses l m off len) w

@@ -28,7 +28,8 @@ ghost use Rattle.busdma_base.specs.Machine.PageRuns.{is_own};
 ghost use Rattle.busdma_base.specs.Machine.Spans.{span_addresses};
 ghost use Rattle.busdma_base.specs.Machine.Wire.{Wire};
 ghost use Rattle.busdma_base.specs.Scenarios.Valid.{IsValid};
-ghost use Rattle.ideal_lane.specs.Accesses.{cpu_read, dev_read};
+ghost use Rattle.ideal_lane.specs.Accesses.{cpu_read, cpu_write, dev_read, dev_write};
+ghost use Rattle.lane_agreement.specs.Agreement.{IsFit};
 ghost use Rattle.ideal_lane.specs.Agreement.{AgreesWith};
 ghost use Rattle.ideal_lane.specs.Asking.{by_reply};
 ghost use Rattle.ideal_lane.specs.Loads.{asked, chunks_for, finished, limits_of, load_judged};
@@ -36,10 +37,12 @@ ghost use Rattle.ideal_lane.specs.Opening.{opening_lane};
 ghost use Rattle.ideal_lane.specs.Places.{bytes_at};
 ghost use Rattle.ideal_lane.specs.Standing.{Stands};
 ghost use Rattle.ideal_lane.specs.State.{LaneMap, LaneState};
+ghost use Rattle.ideal_lane.specs.Syncs.{sync, sync_range};
 ghost use Rattle.ideal_lane.specs.Turns.{lane_step};
 ghost use Rattle.ideal_wire.specs.Accepted.{HasPages, IfSegments, IsAccepted};
+ghost use Rattle.ideal_wire.specs.Apart.{IsApart};
 ghost use Rattle.ideal_wire.specs.Centre.{IsFaithful};
-ghost use Rattle.ideal_wire.specs.Laid.{AreLaid};
+ghost use Rattle.ideal_wire.specs.Laid.{AreLaid, KeepsLaid};
 ghost use Rattle.ideal_wire.specs.Machine.{IsInMachine};
 ghost use Rattle.ideal_wire.specs.WireStep.{Follows, IsRead, load_buses, place_bytes};
 ghost use Rattle.ideal_wire.specs.WireStep as wire;
@@ -71,6 +74,36 @@ pub fn reads_are_faithful()
         IsRead (dev_read m off len l) (load_buses l m off len) w }
 {}
 
+/// What a driver holds lies apart, where it agrees with the account.
+pub fn agreeing_pages_are_apart()
+    ensures { (l : LaneState) (a : Account) → Stands l → AgreesWith l a → AreLaid l → IsApart l }
+{}
+
+/// A sync or a write leaves the wire faithful, where what the driver holds lies apart. Such a call
+/// asks nothing of the account, so any reply gives the driver after it.
+pub fn calls_stay_faithful()
+    ensures sync { (l : LaneState) (w : Wire) (m ops : ℕ) (r : HubReply) →
+        IsApart l → AreLaid l → IsFaithful l w →
+        IsFaithful (by_reply (sync m ops l) r).lane (wire.sync m ops l w) }
+    ensures sync_range { (l : LaneState) (w : Wire) (m off len ops : ℕ) (r : HubReply) →
+        IsApart l → AreLaid l → IsFaithful l w →
+        IsFaithful (by_reply (sync_range m off len ops l) r).lane (wire.sync_range m off len ops l w) }
+    ensures cpu_write { (l : LaneState) (w : Wire) (place : Place) (vs : List ℕ) (r : HubReply) →
+        IsApart l → AreLaid l → IsFaithful l w →
+        IsFaithful (by_reply (cpu_write place vs l) r).lane (wire.cpu_write place vs l w) }
+    ensures dev_write { (l : LaneState) (w : Wire) (m off : ℕ) (vs : List ℕ) (r : HubReply) →
+        IsApart l → AreLaid l → IsFaithful l w →
+        IsFaithful (by_reply (dev_write m off vs l) r).lane (wire.dev_write m off vs l w) }
+{}
+
+/// What is really read is what the ideal memory has, where what the driver holds lies apart.
+pub fn calls_read_faithfully()
+    ensures cpu { (l : LaneState) (w : Wire) (place : Place) (len : ℕ) → IsApart l → AreLaid l → IsFaithful l w →
+        IsRead (cpu_read place len l) (place_bytes l place len) w }
+    ensures dev { (l : LaneState) (w : Wire) (m off len : ℕ) → IsApart l → AreLaid l → IsFaithful l w →
+        IsRead (dev_read m off len l) (load_buses l m off len) w }
+{}
+
 /// The segments that a load of the driver's pages answers are its bytes, in order, and obey its tag,
 /// where it has as many pages as it needs and its device reaches each of them. The load is of a map
 /// that is not a memory's, and its bytes are judged fine.
@@ -85,6 +118,13 @@ pub fn accepted_loads_obey()
         let end = finished m o load_at x chunks pages l in
         IfSegments end.answer
         (IsAccepted end.lane m (limits_of l o) (bytes_at l (span_addresses spans)) chunks pages) }
+{}
+
+/// A step leaves the loads of a driver laid, by the account's reply to its call, where driver and
+/// account agree. The account is one that a sound history leads to.
+pub fn loads_stay_laid()
+    ensures { (l : LaneState) (s : Side) (a : Account) → Stands l → AgreesWith l a → IsFit a → EachFrame IsFrame a →
+        IsInMachine l → AreLaid l → KeepsLaid l.id a (lane_step l s) }
 {}
 
 /// A driver of a valid scenario opens in its machine, and a step leaves it there, whatever the reply

@@ -9,6 +9,8 @@ use Rattle.busdma_base.proofs.Accounts.Openings.{opening-may_begin}
 use Rattle.ideal_lane.specs.Opening.{opening_lane}
 use Rattle.ideal_lane.specs.State.{LaneState}
 use Rattle.ideal_lane.proofs.Openings.{opens-standing, opens-agreeing}
+use Rattle.ideal_wire.proofs.Machinery.{opens-in-machine}
+use Rattle.ideal_wire.proofs.Openings.{opens-laid}
 use Rattle.ideal_world.specs.WellFormed.{IsDriverOf, IsWellFormed}
 use Rattle.ideal_world.specs.World.{opening_world}
 use Rattle.ideal_world.proofs.Lanes.{OpensAt, opening_at, length-opening_lanes, none-bounced}
@@ -25,6 +27,8 @@ module _ (s : Scenario) (valid : IsValid s) where
         script = refl;
         pages = refl;
         stands = opens-standing i (maxmem_of s.frames) o.driver;
+        machine = opens-in-machine s i o.driver valid o.there;
+        laid = opens-laid i (maxmem_of s.frames) o.driver;
         agrees = opens-agreeing s i o.driver (opening-may_begin s valid) o.there;
       }))
 

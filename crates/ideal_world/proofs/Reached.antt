@@ -121,4 +121,5 @@ reached-whole s a valid r =
 pub reached-below : (s : Scenario) (a : Account) → IsValid s → IsReached s a → LiesBelowMaxmem a
 reached-below s a valid r =
     subst LiesBelowMaxmem r.leads
-    (below-history (opening s) r.history (well-opening (opening s) (opening-may_begin s valid)) r.sound (below-opening s))
+    (below-history (opening s) r.history (well-opening (opening s) (opening-may_begin s valid)) r.sound
+    (below-opening s))

@@ -1,0 +1,14 @@
+use Rattle.ideal_wire.proofs.Calls.{sync-faithful, sync_range-faithful, cpu_write-faithful, dev_write-faithful}
+use Rattle.ideal_wire.proofs.laws.calls_stay_faithful.Goals as goal
+
+pub returns-clause-sync : goal.returns-clause-sync
+returns-clause-sync c = λ l w m ops r apart laid f. sync-faithful l w apart laid f m ops r
+
+pub returns-clause-sync_range : goal.returns-clause-sync_range
+returns-clause-sync_range c = λ l w m off len ops r apart laid f. sync_range-faithful l w apart laid f m off len ops r
+
+pub returns-clause-cpu_write : goal.returns-clause-cpu_write
+returns-clause-cpu_write c = λ l w place vs r apart laid f. cpu_write-faithful l w apart laid f place vs r
+
+pub returns-clause-dev_write : goal.returns-clause-dev_write
+returns-clause-dev_write c = λ l w m off vs r apart laid f. dev_write-faithful l w apart laid f m off vs r
