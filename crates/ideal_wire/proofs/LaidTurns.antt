@@ -64,7 +64,8 @@ use Rattle.ideal_wire.proofs.Refusing.{judged, either, busy}
 use Rattle.ideal_wire.proofs.Returning.{returning-unloaded}
 use Rattle.ideal_wire.proofs.StillLaid.{Still, await-still, back-still, cpu_read-still, cpu_write-still, dev_read-still}
 use Rattle.ideal_wire.proofs.StillLaid.{dev_write-still, idle-unloaded, like, map-still, map_destroy-still, no-loan, put}
-use Rattle.ideal_wire.proofs.StillLaid.{put-there, staged-still, sync-still, sync_range-still, tag-still}
+use Rattle.ideal_wire.proofs.KeptTags.{put-there}
+use Rattle.ideal_wire.proofs.StillLaid.{staged-still, sync-still, sync_range-still, tag-still}
 use Rattle.ideal_wire.proofs.StillLaid.{tag_destroy-still, unload-still}
 
 -- ---- pages as a reply has them

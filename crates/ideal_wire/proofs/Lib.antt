@@ -12,6 +12,8 @@ pub mod FaithfulRanges
 pub mod FaithfulSync
 pub mod Frames
 pub mod HavingChunks
+pub mod KeptMaps
+pub mod KeptTags
 pub mod LaidTurns
 pub mod Lent
 pub mod LoadLaid
@@ -27,6 +29,7 @@ pub mod Positions
 pub mod Reaching
 pub mod Refusing
 pub mod Returning
+pub mod ServedMaps
 pub mod StillLaid
 pub mod SyncedPositions
 pub mod Turns

@@ -34,7 +34,8 @@ use Rattle.ideal_wire.proofs.ChunkExtents.{chunks-extents, placed-extents}
 use Rattle.ideal_wire.proofs.HavingChunks.{has-chunks}
 use Rattle.ideal_wire.proofs.Loading.{Follow, chunks_bytes, follow-of, placed-bytes, placed-follow, zipped}
 use Rattle.ideal_wire.proofs.Positions.{found_one}
-use Rattle.ideal_wire.proofs.StillLaid.{kept-map, put-off, unpaged-still}
+use Rattle.ideal_wire.proofs.KeptTags.{put-off}
+use Rattle.ideal_wire.proofs.StillLaid.{kept-map, unpaged-still}
 
 -- ---- small lists
 

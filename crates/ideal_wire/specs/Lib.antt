@@ -4,5 +4,6 @@ pub mod Centre
 pub mod Laid
 pub mod Machine
 pub mod OneProof
+pub mod Served
 pub mod Traces
 pub mod WireStep

@@ -11,7 +11,8 @@ ghost use Rattle.busdma_base.specs.declared.tags.tag.TagLimits.{TagLimits};
 ghost use Rattle.busdma_base.specs.Bounce.AccountStep.{called_from, grabbed};
 ghost use Rattle.busdma_base.specs.Bounce.EachFrame.{EachFrame};
 ghost use Rattle.busdma_base.specs.Bounce.Growth.{serves_tag};
-ghost use Rattle.busdma_base.specs.Bounce.History.{IsFrame};
+ghost use Rattle.busdma_base.specs.Bounce.History.{IsFrame, account_of};
+ghost use Rattle.busdma_base.specs.declared.bounce.hold.HoldEntry.{HoldEntry};
 ghost use Rattle.busdma_base.specs.Bounce.LowPages.{PagesLieLow};
 ghost use Rattle.segment_build.specs.Obeying.{IsReachable};
 ghost use Rattle.busdma_base.specs.declared.bounce.hold.HubReply.{HubReply};
@@ -44,6 +45,7 @@ ghost use Rattle.ideal_wire.specs.Apart.{IsApart};
 ghost use Rattle.ideal_wire.specs.Centre.{IsFaithful};
 ghost use Rattle.ideal_wire.specs.Laid.{AreLaid, KeepsLaid};
 ghost use Rattle.ideal_wire.specs.Machine.{IsInMachine};
+ghost use Rattle.ideal_wire.specs.Served.{AreServed, KeepsServed};
 ghost use Rattle.ideal_wire.specs.WireStep.{Follows, IsRead, load_buses, place_bytes};
 ghost use Rattle.ideal_wire.specs.WireStep as wire;
 
@@ -134,6 +136,16 @@ pub fn steps_stay_in_machine()
         IsInMachine (opening_lane i (maxmem_of s.frames) driver) }
     ensures stays { (l : LaneState) (s : Side) (r : HubReply) → IsInMachine l →
         IsInMachine (by_reply (lane_step l s) r).lane }
+{}
+
+/// The zone of each map serves the map's tag: in no map at a driver's opening, after each step of
+/// the driver with the account's reply, and whatever others call.
+pub fn zones_serve_their_tags()
+    ensures opens { (id maxmem : ℕ) (driver : Driver) (a : Account) → AreServed (opening_lane id maxmem driver) a }
+    ensures kept { (l : LaneState) (s : Side) (a : Account) → Stands l → IsInMachine l → AreServed l a →
+        KeepsServed l.id a (lane_step l s) }
+    ensures others { (l : LaneState) (a : Account) (es : List HoldEntry) → Stands l → IsInMachine l → AreServed l a →
+        AreServed l (account_of a es) }
 {}
 
 /// The device of a tag reaches each page that a map is given by a zone that serves the tag: at a

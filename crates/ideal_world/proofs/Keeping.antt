@@ -1,6 +1,6 @@
 -- A step of any actor leaves the world well formed, and its entry is the actor's.
 use Rattle.std.proofs.Common.{◌≡◌, ◌≢◌, ℕ, ◌+◌, ◌≤◌, ◌<◌, length, Option, Some, None, refl, sym, ap, ◌∙◌}
-use Rattle.std.proofs.Common.{subst, arith, slice_get, slice_set}
+use Rattle.std.proofs.Common.{subst, arith, slice_get, [], ◌∷◌, slice_set}
 use Rattle.busdma_base.specs.declared.bounce.hold.HubReply.{HubReply}
 use Rattle.busdma_base.specs.declared.bounce.hold.HubReply.TheVariants.{Nothing}
 use Rattle.busdma_base.specs.declared.journals.journal.Actor.{Actor}
@@ -22,13 +22,15 @@ use Rattle.ideal_lane.proofs.Standings.{turn-stands}
 use Rattle.ideal_lane.proofs.Turning.{turn-allowed, turn-kept}
 use Rattle.ideal_wire.specs.Laid.{AreLaid, KeepsLaid}
 use Rattle.ideal_wire.specs.Machine.{IsInMachine}
+use Rattle.ideal_wire.specs.Served.{AreServed, KeepsServed}
 use Rattle.ideal_wire.proofs.LaidTurns.{turn-laid}
 use Rattle.ideal_wire.proofs.Machines.{turn-keeps}
+use Rattle.ideal_wire.proofs.ServedMaps.{served-on, turn-served}
 use Rattle.ideal_world.specs.WellFormed.{IsDriverOf, IsReached, IsWellFormed}
 use Rattle.ideal_world.specs.World.{WorldState, replied, step_of, step, entry_of, step_entry}
 use Rattle.ideal_world.proofs.Lanes.{within, length-slice_set, each_set, sum_set}
 use Rattle.ideal_world.proofs.Own.{IsLater, IsOwn, IsOwnBy, actor_of, turn-own}
-use Rattle.ideal_world.proofs.Reached.{reached-on, reached-fits, reached-whole, others-agree}
+use Rattle.ideal_world.proofs.Reached.{entry, reached-on, reached-fits, reached-whole, others-agree}
 
 -- a driver has no more left, with what it counted of each zone
 abbrev SpendsNoMore : LaneState → LaneState → Type 0
@@ -58,10 +60,12 @@ module _ (s : Scenario) (w : WorldState) (well : IsWellFormed s w) where
       agrees : AgreesWith m a
       machine : IsInMachine m
       laid : AreLaid m
+      served : AreServed m a
 
-    -- the driver is after its step, and the others agree with the account too
+    -- the driver is after its step, and the others agree with the account too, whose zones serve them
     changed : (a : Account) (m : LaneState) → IsAfter a m →
-        ((j : ℕ) (n : LaneState) → j ≢ i → slice_get w.lanes j ≡ Some n → AgreesWith n a) → IsReached s a →
+        ((j : ℕ) (n : LaneState) → j ≢ i → slice_get w.lanes j ≡ Some n → AgreesWith n a × AreServed n a) →
+        IsReached s a →
         IsWellFormed s (record { lanes = slice_set w.lanes i m; account = a })
     changed a m after others reached = record {
       valid = well.valid;
@@ -77,6 +81,7 @@ module _ (s : Scenario) (w : WorldState) (well : IsWellFormed s w) where
             agrees = after.agrees;
             machine = after.machine;
             laid = after.laid;
+            served = after.served;
           })
           (λ j n off e. let d = well.each j n e in record {
             driver = d.driver;
@@ -85,9 +90,10 @@ module _ (s : Scenario) (w : WorldState) (well : IsWellFormed s w) where
             script = d.script;
             pages = d.pages;
             stands = d.stands;
-            agrees = others j n off e;
+            agrees = (others j n off e).0;
             machine = d.machine;
             laid = d.laid;
+            served = (others j n off e).1;
           });
       reached = reached;
       few = λ z.
@@ -112,6 +118,7 @@ module _ (s : Scenario) (w : WorldState) (well : IsWellFormed s w) where
       agrees : KeepsAgreement l.id w.account x
       machine : (r : HubReply) → IsInMachine (by_reply x r).lane
       laid : KeepsLaid l.id w.account x
+      served : KeepsServed l.id w.account x
 
     kept : (x : Asking Turned) → IsStep x → IsWellFormed s (replied w i l x).world
     kept (Gives t) step =
@@ -122,7 +129,8 @@ module _ (s : Scenario) (w : WorldState) (well : IsWellFormed s w) where
           agrees = step.agrees;
           machine = step.machine Nothing;
           laid = step.laid;
-        }) (λ j n off e. (well.each j n e).agrees) well.reached
+          served = step.served;
+        }) (λ j n off e. let d = well.each j n e in (d.agrees, d.served)) well.reached
     kept (Asks c k) step =
         let r : HubReply = (account_step l.id c w.account).reply in
         changed (account_step l.id c w.account).account (k r).lane (record {
@@ -132,8 +140,11 @@ module _ (s : Scenario) (w : WorldState) (well : IsWellFormed s w) where
           agrees = step.agrees;
           machine = step.machine r;
           laid = step.laid;
-        }) (λ j n off e. others-agree (view_of n) l.id c w.account fits.well (apart j n off e) step.may
-        (well.each j n e).agrees)
+          served = step.served;
+        }) (λ j n off e. let d = well.each j n e in (
+          others-agree (view_of n) l.id c w.account fits.well (apart j n off e) step.may d.agrees,
+          served-on n d.stands w.account d.machine d.served (entry l.id c w.account ∷ []),
+        ))
         (reached-on s l.id c w.account below step.may well.reached)
 
     pub driver-keeps : (side : Side) → IsWellFormed s (replied w i l (lane_step l side)).world
@@ -147,6 +158,7 @@ module _ (s : Scenario) (w : WorldState) (well : IsWellFormed s w) where
       laid =
           turn-laid l w.account own.stands own.agrees fits (reached-whole s w.account well.valid well.reached)
           own.machine own.laid side;
+      served = turn-served l own.stands w.account own.machine own.served side;
     })
 
   pub step-keeps : (actor : Actor) → IsWellFormed s (step w actor).world

@@ -28,7 +28,7 @@ use Rattle.lane_agreement.proofs.Whole.{fit-reached}
 use Rattle.ideal_world.specs.WellFormed.{IsReached}
 
 -- the entry of a driver's call
-abbrev entry : ℕ → HubCall → Account → HoldEntry
+abbrev pub entry : ℕ → HubCall → Account → HoldEntry
 entry lane c a = record { lane = record { 0 = lane }; call = c; reply = (account_step lane c a).reply }
 
 -- a callback that is not found changes nothing
