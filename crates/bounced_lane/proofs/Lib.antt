@@ -1,3 +1,4 @@
+mod AfterTurn
 mod Awaiting
 mod Bytes
 mod Changing
@@ -24,6 +25,7 @@ mod Reaching
 mod Reading
 mod Returned
 mod ReturnSteps
+mod StaysWired
 mod TagSteps
 mod Unloaded
 mod UnloadSteps

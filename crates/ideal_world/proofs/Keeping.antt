@@ -29,7 +29,7 @@ use Rattle.ideal_wire.proofs.ServedMaps.{served-on, turn-served}
 use Rattle.ideal_world.specs.WellFormed.{IsDriverOf, IsReached, IsWellFormed}
 use Rattle.ideal_world.specs.World.{WorldState, replied, step_of, step, entry_of, step_entry}
 use Rattle.ideal_world.proofs.Lanes.{within, length-slice_set, each_set, sum_set}
-use Rattle.ideal_world.proofs.Own.{IsLater, IsOwn, IsOwnBy, actor_of, turn-own}
+use Rattle.ideal_lane.proofs.Own.{IsLater, IsOwn, IsOwnBy, actor_of, turn-own}
 use Rattle.ideal_world.proofs.Reached.{entry, reached-on, reached-fits, reached-whole, others-agree}
 
 -- a driver has no more left, with what it counted of each zone

@@ -6,7 +6,6 @@ pub mod Keeping
 pub mod Lanes
 pub mod Legal
 pub mod Opens
-pub mod Own
 pub mod Reached
 pub mod Replayed
 pub mod Rest
