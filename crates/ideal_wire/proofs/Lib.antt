@@ -33,4 +33,5 @@ pub mod ServedMaps
 pub mod StillLaid
 pub mod SyncedPositions
 pub mod Turns
+pub mod Waited
 pub mod Wiring
