@@ -1,5 +1,6 @@
 pub mod Accepting
 pub mod Alike
+pub mod AnsweredLoads
 pub mod Asked
 pub mod Buses
 pub mod Calls
