@@ -1,6 +1,6 @@
 -- The segments that the end of a load answers are its bytes, in order, and obey its tag.
-use Rattle.std.proofs.Common.{◌≡◌, ℕ, ◌<◌, ◌≤◌, ◌==◌, Bool, true, false, cond, if◌then◌else◌, List, [], ◌∷◌, length}
-use Rattle.std.proofs.Common.{Option, Some, None, is_some, refl, ap, sym, ◌∙◌, subst, arith, nat_le}
+use Rattle.std.proofs.Common.{◌≡◌, ℕ, ◌==◌, Bool, true, false, if◌then◌else◌, List, [], ◌∷◌, length}
+use Rattle.std.proofs.Common.{Some, None, refl, ap, sym, ◌∙◌, subst, arith, nat_le, take}
 use Rattle.std.proofs.lemmas.Bool.{eqb-true}
 use Rattle.std.specs.FinMap.{get, contains_key}
 use Rattle.std.specs.List.{AllByRecursion, enumerate_from}
@@ -25,8 +25,9 @@ use Rattle.busdma_base.specs.Bounce.History.{IsFrame}
 use Rattle.busdma_base.specs.Bounce.LowPages.{PagesLieLow}
 use Rattle.busdma_base.specs.Bounce.Serving.{handed}
 use Rattle.busdma_base.specs.Journals.Judging.{judged}
-use Rattle.busdma_base.specs.Machine.PageRuns.{pages_end, physical_in}
+use Rattle.busdma_base.specs.Machine.PageRuns.{physical_in}
 use Rattle.busdma_base.specs.Machine.Spans.{span_addresses}
+use Rattle.busdma_base.specs.Machine.Wire.{buffers, buses}
 use Rattle.lane_agreement.specs.View as view
 use Rattle.lane_agreement.proofs.Places.{head-waits, waits-tells}
 use Rattle.segment_build.specs.Obeying.{IsReachable}
@@ -36,7 +37,7 @@ use Rattle.ideal_lane.specs.Loads.{unpaged}
 use Rattle.ideal_lane.specs.Outcomes.{Outcome}
 use Rattle.ideal_lane.specs.Places.{bytes_at, is_memory_byte, physical}
 use Rattle.ideal_lane.specs.Standing.{Stands}
-use Rattle.ideal_lane.specs.State.{LaneState, LaneMap, LaneMemory}
+use Rattle.ideal_lane.specs.State.{LaneState, LaneMap}
 use Rattle.ideal_lane.specs.Turns.{asked_at}
 use Rattle.ideal_lane.specs.Unloads.{pages_of}
 use Rattle.ideal_lane.specs.View.{view_of}
@@ -133,8 +134,8 @@ module _ (l : LaneState) (laid : AreLaid l) (machine : IsInMachine l) (stands : 
       moved : (bs : List ℕ) (cs : List Chunk) (ps : List ℕ) → IsAccepted with-load m (limits_of l o) bs cs ps ss →
           IsAccepted (after with-load) m (limits_of l o) bs cs ps ss
       moved bs cs ps h = record {
-        buffer = ap (λ ts. Rattle.busdma_base.specs.Machine.Wire.buffers ts) (traces with-load) ∙ h.buffer;
-        trace = h.trace ∙ sym (ap (λ ts. Rattle.busdma_base.specs.Machine.Wire.buses ts) (traces with-load));
+        buffer = ap (λ ts. buffers ts) (traces with-load) ∙ h.buffer;
+        trace = h.trace ∙ sym (ap (λ ts. buses ts) (traces with-load));
         obeys = h.obeys;
       }
 
@@ -170,7 +171,7 @@ module _ (l : LaneState) (a : Account) (agrees : AgreesWith l a) (low : PagesLie
   taken w ws b =
       if b then record {
         account = handed (record a { ready = ws }) w.map w.zone.0 w.need;
-        reply = Called w.map (as_pages (Rattle.std.specs.Prelude.take w.need (zone_at a w.zone.0).avail));
+        reply = Called w.map (as_pages (take w.need (zone_at a w.zone.0).avail));
       }
       else record { account = a; reply = Nothing }
 

@@ -51,10 +51,8 @@ use Rattle.ideal_lane.specs.Turns.{called_back, no_load}
 use Rattle.ideal_lane.specs.Turns as turns
 use Rattle.ideal_lane.specs.View.{view_of}
 use Rattle.ideal_lane.proofs.Turning.{WaitsAt, waits-at}
-use Rattle.ideal_wire.specs.Laid.{IsAwaited, LiesIn, AreLaid, KeepsLaid, pages_alone}
+use Rattle.ideal_wire.specs.Laid.{IsAwaited, AreLaid, KeepsLaid, pages_alone}
 use Rattle.ideal_wire.specs.Machine.{IsInMachine}
-use Rattle.ideal_wire.specs.Traces.{stage_in}
-use Rattle.ideal_wire.proofs.Alike.{no-memory}
 use Rattle.ideal_wire.proofs.Asked.{AreOfPages, alone-fine, direct-bytes, direct-ready, pages-entries}
 use Rattle.ideal_wire.proofs.LoadLaid.{IsReady, finished-laid}
 use Rattle.ideal_wire.proofs.MemoryLoads.{memory-ready}
@@ -97,7 +95,7 @@ module _ (l : LaneState) (a : Account) (stands : Stands l) (agrees : AgreesWith 
   report x = laid
 
   -- ---- the load of the next operation
-  module _ (m : ℕ) (va : Va) (len flags : ℕ) (items : _)
+  module _ (m : ℕ) (va : Va) (len flags : ℕ) (items : List Item)
       (here : slice_get l.script l.place ≡ Some (op.Load m (At va) len flags items)) where
     abbrev spans : List Span
     spans = one_span va.0 len

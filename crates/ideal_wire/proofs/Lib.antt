@@ -1,6 +1,7 @@
 pub mod Accepting
 pub mod Alike
 pub mod AnsweredLoads
+pub mod AnsweredTurns
 pub mod Asked
 pub mod Buses
 pub mod Calls

@@ -1,7 +1,7 @@
 -- What the load at a place of the script asks, and what a load that waited asks.
-use Rattle.std.proofs.Common.{◌≡◌, ℕ, Bool, true, false, List, [], Option, Some, None, slice_get, is_some, refl, ap, sym}
+use Rattle.std.proofs.Common.{◌≡◌, ℕ, Bool, false, List, [], Option, Some, None, slice_get, is_some, refl, ap, sym}
 use Rattle.std.proofs.Common.{◌∙◌, subst, unwrap_or, append-nil}
-use Rattle.std.specs.FinMap.{get, contains_key}
+use Rattle.std.specs.FinMap.{get}
 use Rattle.std.specs.Option.{option_and_then, option_map}
 use Rattle.busdma_base.specs.declared.machine.address.Span.{Span}
 use Rattle.busdma_base.specs.declared.scenarios.script.Item.{Item}

@@ -41,6 +41,7 @@ ghost use Rattle.ideal_lane.specs.State.{LaneMap, LaneState};
 ghost use Rattle.ideal_lane.specs.Syncs.{sync, sync_range};
 ghost use Rattle.ideal_lane.specs.Turns.{lane_step};
 ghost use Rattle.ideal_wire.specs.Accepted.{HasPages, IfSegments, IsAccepted};
+ghost use Rattle.ideal_wire.specs.Answered.{AnswersLoads};
 ghost use Rattle.ideal_wire.specs.Apart.{IsApart};
 ghost use Rattle.ideal_wire.specs.Centre.{IsFaithful};
 ghost use Rattle.ideal_wire.specs.Laid.{AreLaid, KeepsLaid};
@@ -108,9 +109,12 @@ pub fn calls_read_faithfully()
 
 /// The segments that a load of the driver's pages answers are its bytes, in order, and obey its tag,
 /// where it has as many pages as it needs and its device reaches each of them. The load is of a map
-/// that is not a memory's, and its bytes are judged fine.
+/// that is not a memory's, and its bytes are judged fine. So it is of the segments that a turn
+/// answers by the account's reply, where driver and account agree and the zones of maps serve their
+/// tags: it has ended a load in its own step, or at the callback of one that waited. The account is
+/// one that a sound history leads to.
 pub fn accepted_loads_obey()
-    ensures { (l : LaneState) (m : ℕ) (o : LaneMap) (spans : List Span) (load_at : ℕ) (nowait : Bool)
+    ensures load { (l : LaneState) (m : ℕ) (o : LaneMap) (spans : List Span) (load_at : ℕ) (nowait : Bool)
         (items : List Item) (pages : List ℕ) → Stands l → AreLaid l → IsInMachine l →
         get l.maps m ≡ Some o → contains_key l.mems m ≡ false →
         load_judged l m (span_addresses spans) ≡ Fine →
@@ -120,6 +124,9 @@ pub fn accepted_loads_obey()
         let end = finished m o load_at x chunks pages l in
         IfSegments end.answer
         (IsAccepted end.lane m (limits_of l o) (bytes_at l (span_addresses spans)) chunks pages) }
+    ensures turn { (l : LaneState) (s : Side) (a : Account) → Stands l → AgreesWith l a → IsFit a →
+        EachFrame IsFrame a → PagesLieLow a → AreServed l a → IsInMachine l → AreLaid l →
+        AnswersLoads l a (lane_step l s) }
 {}
 
 /// A step leaves the loads of a driver laid, by the account's reply to its call, where driver and
