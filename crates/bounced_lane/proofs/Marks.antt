@@ -35,7 +35,8 @@ pub has_inserted : {X : Type 0} (m : FinMap nat_cmp X) (k : ℕ) (v : X) → IsS
     contains_key (insert m k v) q ≡ contains_key m q
 has_inserted m k v h q = ap is_some (get-put m k v q) ∙ there m q k (q == k) refl h v
 
-kept_in : (m : FinMap nat_cmp Bool) (k : ℕ) (v : Bool) (keys : List ℕ) → AreIn m keys → AreIn (insert m k v) keys
+-- bytes that are there are so with one more mark
+pub kept_in : (m : FinMap nat_cmp Bool) (k : ℕ) (v : Bool) (keys : List ℕ) → AreIn m keys → AreIn (insert m k v) keys
 kept_in m k v [] h = tt
 kept_in m k v (q ∷ keys) h = (ap is_some (get-put m k v q) ∙ some (q == k), kept_in m k v keys h.1)
   where

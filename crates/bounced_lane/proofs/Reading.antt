@@ -73,7 +73,7 @@ unlent-bus cs i (p ∷ ps) a h =
     let parts = either_false ((p.pa == a) && to_write p) (list_any (λ q. (q.pa == a) && to_write q) ps) h in
     ap (λ b. cond b (Some (bus_of cs i p.pa)) (lent_bus cs (i + 1) ps a)) parts.0 ∙ unlent-bus cs (i + 1) ps a parts.1
 
-unlent-byte : (d : ℕ → Device) (m : Memory) (es : List (ℕ × Loan)) (a : ℕ) →
+pub unlent-byte : (d : ℕ → Device) (m : Memory) (es : List (ℕ × Loan)) (a : ℕ) →
     list_any (λ e. lends to_write a e.1) es ≡ false → byte_among d m es a ≡ wire m a
 unlent-byte d m [] a h = refl
 unlent-byte d m (e ∷ es) a h =
@@ -107,15 +107,17 @@ cpu-values bytes loans d m at (a ∷ pas) h =
     (unlent-byte d m (entries loans) a p.0))
     (cpu-values bytes loans d m (at + 1) pas p.2)
 
-passes : (j : Judged) (l : LaneState) (step : Asking Outcome) → j ≡ Fine → unless_refused j l step ≡ step
+-- a judgement that is Fine
+pub passes : (j : Judged) (l : LaneState) (step : Asking Outcome) → j ≡ Fine → unless_refused j l step ≡ step
 passes j l step h = rw h refl
 
 -- what the driver reaches at a place, by its frames
-reached-same : (h : Holdings) (va len : ℕ) →
+pub reached-same : (h : Holdings) (va len : ℕ) →
     reached (ideal_of h) va len ≡ judged (unreached (memory.physical h.memory.memory)) 0 (run_of va len)
 reached-same h va len = ap (λ t. judged (unreached t) 0 (run_of va len)) (physical-same h)
 
-bytes-same : (h : Holdings) (va len : ℕ) →
+-- which bytes it reaches there
+pub bytes-same : (h : Holdings) (va len : ℕ) →
     map (physical_or_0 (memory.physical h.memory.memory)) (run_of va len) ≡ bytes_at (ideal_of h) (run_of va len)
 bytes-same h va len = sym (ap (λ t. map (physical_or_0 t) (run_of va len)) (physical-same h))
 
@@ -126,7 +128,8 @@ answer-same h pas =
     ap (λ k. cpu_read_answer k h.loans.loans pas)
     (sym (known-held h.loans.bytes h.loans.loans (devices_of h.maps.map) h.memory.memory))
 
-refused : (j : Judged) (r : Report) (l : LaneState) (step : Asking Outcome) → j ≡ Refused r →
+-- a judgement that is a refusal
+pub refused : (j : Judged) (r : Report) (l : LaneState) (step : Asking Outcome) → j ≡ Refused r →
     unless_refused j l step ≡ gives l (answer.Report r)
 refused j r l step h = rw h refl
 

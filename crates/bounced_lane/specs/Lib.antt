@@ -6,7 +6,9 @@ pub mod Ideal
 pub mod Kept
 pub mod LaneIdeal
 pub mod MapValues
+pub mod OneProof
 pub mod OpeningMemory
 pub mod TagPlan
+pub mod Turning
 pub mod Virtual
 pub mod Wire

@@ -1,4 +1,5 @@
 -- A map lies as it lay, where a step leaves its stage, the bytes of its load and what its tag says.
+use mathlib.Core.Logic.{∥∥₁_map}
 use Rattle.std.proofs.Common.{◌≡◌, ◌≢◌, ℕ, Bool, true, false, List, Option, Some, None, slice_get, is_some, inl, inr}
 use Rattle.std.proofs.Common.{refl, ap, sym, ◌∙◌, subst}
 use Rattle.std.specs.Option.{option_and_then}
@@ -166,7 +167,7 @@ module _ (l l' : LaneState) (kept : KeepsRest l l') where
   pub all-laid : AreLaid l → ((n : ℕ) → LiesIn l' n (stage_at l' n)) → AreLaid l'
   all-laid laid each = record {
     owned = λ a own. kept.own a ∙ laid.owned a (own-back a own);
-    only = λ a there. own-on a (laid.only a (sym (kept.own a) ∙ there));
+    only = λ a there. ∥∥₁_map (laid.only a (sym (kept.own a) ∙ there)) (own-on a);
     runs = λ k x there. laid.runs k x (sym (λ i. get (kept.mems i) k) ∙ there);
     each = each;
   }

@@ -88,7 +88,7 @@ pub data IsOwnByte (l : LaneState) (a : ℕ) : Type 0 where
 -- lies as it stands
 pub record AreLaid (l : LaneState) : Type 0 where
   pub owned : (a : ℕ) → IsOwnByte l a → is_some (l.memory a) ≡ true
-  pub only : (a : ℕ) → is_some (l.memory a) ≡ true → IsOwnByte l a
+  pub only : (a : ℕ) → is_some (l.memory a) ≡ true → ∥ IsOwnByte l a ∥₁
   pub runs : (k : ℕ) (x : LaneMemory) → get l.mems k ≡ Some x → IsRun x
   pub each : (m : ℕ) → LiesIn l m (stage_at l m)
 
