@@ -22,6 +22,7 @@ pub mod LoadLaid
 pub mod Loading
 pub mod Machinery
 pub mod Machines
+pub mod MemoriesLaid
 pub mod MemoryLoads
 pub mod Openings
 pub mod Pages

@@ -32,14 +32,15 @@ ghost use Rattle.busdma_base.specs.Scenarios.Valid.{IsValid};
 ghost use Rattle.ideal_lane.specs.Accesses.{cpu_read, cpu_write, dev_read, dev_write};
 ghost use Rattle.lane_agreement.specs.Agreement.{IsFit};
 ghost use Rattle.ideal_lane.specs.Agreement.{AgreesWith};
-ghost use Rattle.ideal_lane.specs.Asking.{by_reply};
+ghost use Rattle.ideal_lane.specs.Asking.{by_reply, goes_on};
 ghost use Rattle.ideal_lane.specs.Loads.{asked, chunks_for, finished, limits_of, load_judged};
+ghost use Rattle.ideal_lane.specs.Memories.{dmamem, dmamem_free};
 ghost use Rattle.ideal_lane.specs.Opening.{opening_lane};
 ghost use Rattle.ideal_lane.specs.Places.{bytes_at};
 ghost use Rattle.ideal_lane.specs.Standing.{Stands};
 ghost use Rattle.ideal_lane.specs.State.{LaneMap, LaneState};
 ghost use Rattle.ideal_lane.specs.Syncs.{sync, sync_range};
-ghost use Rattle.ideal_lane.specs.Turns.{lane_step};
+ghost use Rattle.ideal_lane.specs.Turns.{advanced, lane_step};
 ghost use Rattle.ideal_wire.specs.Accepted.{HasPages, IfSegments, IsAccepted};
 ghost use Rattle.ideal_wire.specs.Answered.{AnswersLoads};
 ghost use Rattle.ideal_wire.specs.Apart.{IsApart};
@@ -134,6 +135,15 @@ pub fn accepted_loads_obey()
 pub fn loads_stay_laid()
     ensures { (l : LaneState) (s : Side) (a : Account) → Stands l → AgreesWith l a → IsFit a → EachFrame IsFrame a →
         IsInMachine l → AreLaid l → KeepsLaid l.id a (lane_step l s) }
+{}
+
+/// The making of a memory and its end leave the loads of a driver laid in the same way: the bytes of
+/// the memory's frames come to the driver and leave it.
+pub fn memories_leave_loads_laid()
+    ensures made { (l : LaneState) (t flags : ℕ) (a : Account) → Stands l → EachFrame IsFrame a → AreLaid l →
+        KeepsLaid l.id a (goes_on (advanced l.place) (dmamem t flags l)) }
+    ensures freed { (l : LaneState) (m : ℕ) (a : Account) → Stands l → AgreesWith l a → AreLaid l →
+        KeepsLaid l.id a (goes_on (advanced l.place) (dmamem_free m l)) }
 {}
 
 /// A driver of a valid scenario opens in its machine, and a step leaves it there, whatever the reply
