@@ -1,5 +1,7 @@
 pub mod Accepting
 pub mod Alike
+pub mod AnsweredLoads
+pub mod AnsweredTurns
 pub mod Asked
 pub mod Buses
 pub mod Calls
@@ -20,6 +22,7 @@ pub mod LoadLaid
 pub mod Loading
 pub mod Machinery
 pub mod Machines
+pub mod MemoriesLaid
 pub mod MemoryLoads
 pub mod Openings
 pub mod Pages
@@ -33,4 +36,5 @@ pub mod ServedMaps
 pub mod StillLaid
 pub mod SyncedPositions
 pub mod Turns
+pub mod Waited
 pub mod Wiring

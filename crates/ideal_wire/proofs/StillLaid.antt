@@ -79,7 +79,7 @@ module _ (l : LaneState) (laid : AreLaid l) where
   report x r = laid
 
   -- a map with no load lends nothing
-  no-loan-in : (m : ℕ) (s : Stage) → stage_at l m ≡ s → is_loaded s ≡ false → loan_of l.loans m ≡ no_loan
+  pub no-loan-in : (m : ℕ) (s : Stage) → stage_at l m ≡ s → is_loaded s ≡ false → loan_of l.loans m ≡ no_loan
   no-loan-in m s e none = by s none (subst (LiesIn l m) e (laid.each m))
     where
       by : (s : Stage) → is_loaded s ≡ false → LiesIn l m s → loan_of l.loans m ≡ no_loan

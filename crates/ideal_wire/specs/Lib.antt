@@ -1,4 +1,5 @@
 pub mod Accepted
+pub mod Answered
 pub mod Apart
 pub mod Centre
 pub mod Laid

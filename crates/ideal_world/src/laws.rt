@@ -17,6 +17,7 @@ ghost use Rattle.ideal_lane.specs.Agreement.{IsAllowed};
 ghost use Rattle.ideal_lane.specs.State.{LaneState};
 ghost use Rattle.ideal_lane.specs.Turns.{lane_step};
 ghost use Rattle.ideal_wire.specs.WireStep.{IsRead, load_buses, place_bytes};
+ghost use Rattle.ideal_world.specs.Answered.{AnswerLoads, AnswersLoad};
 ghost use Rattle.ideal_world.specs.Callbacks.{times_called};
 ghost use Rattle.ideal_world.specs.Ends.{IsAtRest};
 ghost use Rattle.ideal_world.specs.Left.{left_of};
@@ -101,6 +102,16 @@ pub fn legal_journals_wait()
 pub fn each_load_is_called_once()
     ensures { (s : Scenario) (entries : List JournalEntry) (end : WorldState) (i place : ℕ) →
         Leads (opening_world s) entries end → times_called i place (opening_world s) entries ≤ 1 }
+{}
+
+/// The segments that a step answers in a well-formed world are those of the load that it ends: they
+/// are the load's bytes, in order, and obey the map's tag. So it is of each entry of those that lead
+/// on from the opening world of a valid scenario, as those of a legal journal do.
+pub fn journals_answer_loads()
+    ensures step { (s : Scenario) (w : WorldState) (e : JournalEntry) → IsWellFormed s w →
+        step_entry w e.actor ≡ Some e → AnswersLoad w e }
+    ensures journal { (s : Scenario) (entries : List JournalEntry) (end : WorldState) → IsValid s →
+        Leads (opening_world s) entries end → AnswerLoads (opening_world s) entries }
 {}
 
 /// Where a valid scenario opens, and the pages of each driver hold zeros, each driver's wire is
