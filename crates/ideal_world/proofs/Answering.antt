@@ -13,7 +13,8 @@ use Rattle.ideal_wire.proofs.AnsweredTurns.{turn-answers}
 use Rattle.ideal_world.specs.Answered.{AnswersLoad, AnswerLoads}
 use Rattle.ideal_world.specs.Legal.{Leads}
 use Rattle.ideal_world.specs.WellFormed.{IsWellFormed}
-use Rattle.ideal_world.specs.World.{WorldState, WorldTurned, replied, step_of, step, entry_of, step_entry, opening_world}
+use Rattle.ideal_world.specs.World.{WorldState, WorldTurned, replied, step_of, step, entry_of, step_entry}
+use Rattle.ideal_world.specs.World.{opening_world}
 use Rattle.ideal_world.proofs.Keeping.{fits, step-keeps}
 use Rattle.ideal_world.proofs.Lanes.{set-here, within}
 use Rattle.ideal_world.proofs.Opens.{opens-well}
