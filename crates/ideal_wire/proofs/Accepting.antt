@@ -183,7 +183,7 @@ module _ (l : LaneState) (laid : AreLaid l) (machine : IsInMachine l) (stands : 
     covers : chunks_bytes chunks ≡ entries_addresses x.entries
     covers = chunks_cover limits l.maxmem x.entries effective are-entries ∙ flat-entries x.entries
 
-    accepted : nat_le (length (segments l m o load_at x chunks pages)) limits.nsegments ≡ true →
+    pub accepted : nat_le (length (segments l m o load_at x chunks pages)) limits.nsegments ≡ true →
         IsAccepted (fits l m o load_at x chunks pages) m limits (bytes_at l (span_addresses spans)) chunks pages
         (segments l m o load_at x chunks pages)
     accepted few = record {

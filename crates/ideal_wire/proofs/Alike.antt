@@ -37,6 +37,12 @@ use Rattle.ideal_wire.specs.Traces.{stage_at, placed_from, traces_of}
 use Rattle.ideal_wire.proofs.Positions.{twin_of}
 use Rattle.ideal_wire.proofs.SyncedPositions.{decided}
 
+-- what no step changes: the script, the pages and the end of memory
+pub record KeepsScript (l l' : LaneState) : Type 0 where
+  pub script : l'.script ≡ l.script
+  pub pages : l'.pages ≡ l.pages
+  pub maxmem : l'.maxmem ≡ l.maxmem
+
 -- what a step leaves of all maps: the script, the pages, the end of memory, which bytes are the driver's own, and its
 -- memories
 pub record KeepsRest (l l' : LaneState) : Type 0 where
@@ -104,12 +110,12 @@ module _ (l l' : LaneState) (pages : l'.pages ≡ l.pages) where
       ap (λ s. unwrap_or (option_and_then (λ p. asked_by p (pages_alone l')) (slice_get s k)) (no_load (pages_alone l')))
       script ∙ asked_in-alike (slice_get l.script k)
 
-module _ (l l' : LaneState) (kept : KeepsRest l l') where
+module _ (l l' : LaneState) (kept : KeepsScript l l') where
   pub loadable-alike : (o : Option LaneMemory) (a : ℕ) → is_loadable o l' a ≡ is_loadable o l a
   loadable-alike None a = ap (λ p. is_own p a) kept.pages
   loadable-alike (Some x) a = refl
 
-  module _ (n : ℕ) (alike : IsAlike l l' n) where
+  module _ (n : ℕ) (memory : get l'.mems n ≡ get l.mems n) (alike : IsAlike l l' n) where
     traces-alike : traces_of l' n ≡ traces_of l n
     traces-alike = λ i. placed_from (bounced_in (alike.stage i)) 0 (alike.bytes i)
 
@@ -121,11 +127,11 @@ module _ (l l' : LaneState) (kept : KeepsRest l l') where
 
     loaded-alike : (cs : List Chunk) (ss : List Segment) (ps : List ℕ) → IsLaid l n cs ss ps → IsLaid l' n cs ss ps
     loaded-alike cs ss ps h = record {
-      coherent = alike.coherent ∙ h.coherent ∙ sym (λ i. is_coherent (get (kept.mems i) n));
+      coherent = alike.coherent ∙ h.coherent ∙ sym (ap is_coherent memory);
       bytes = λ i p at. let w = was-at i p at in
-          loadable-alike (get l'.mems n) p.pa ∙ (λ j. is_loadable (get (kept.mems j) n) l (w.2 j))
+          loadable-alike (get l'.mems n) p.pa ∙ (λ j. is_loadable (memory j) l (w.2 j))
           ∙ h.bytes i w.0 w.1;
-      direct = λ some. h.direct (sym (λ i. is_some (get (kept.mems i) n)) ∙ some);
+      direct = λ some. h.direct (sym (ap is_some memory) ∙ some);
       paged = h.paged;
       extents = h.extents;
       chunks = subst (λ ts. HasChunks 0 ts cs) (sym traces-alike) h.chunks;
@@ -155,6 +161,10 @@ module _ (l l' : LaneState) (kept : KeepsRest l l') where
         by (Loaded cs ss ps) same h = loaded-alike cs ss ps h
         by Returning same h = same refl ∙ h
 
+module _ (l l' : LaneState) (kept : KeepsRest l l') where
+  abbrev pub kept-script : KeepsScript l l'
+  kept-script = record { script = kept.script; pages = kept.pages; maxmem = kept.maxmem }
+
   own-back : (a : ℕ) → IsOwnByte l' a → IsOwnByte l a
   own-back a (OfPages e) = OfPages (sym (ap (λ p. is_own p a) kept.pages) ∙ e)
   own-back a (OfMemory k x there e) = OfMemory k x (sym (λ i. get (kept.mems i) k) ∙ there) e
@@ -179,8 +189,8 @@ module _ (l l' : LaneState) (kept : KeepsRest l l') where
       by : (n : ℕ) → LiesIn l' n (stage_at l' n)
       by n = elim (decided n m) as (λ _. LiesIn l' n (stage_at l' n)) [
         | inl e ↦ subst (λ k. LiesIn l' k (stage_at l' k)) (sym e) here
-        | inr ne ↦ alike-lies n (others n ne) (laid.each n)
+        | inr ne ↦ alike-lies l l' kept-script n (λ i. get (kept.mems i) n) (others n ne) (laid.each n)
       ]
 
   pub none-changed : AreLaid l → ((n : ℕ) → IsAlike l l' n) → AreLaid l'
-  none-changed laid all = all-laid laid (λ n. alike-lies n (all n) (laid.each n))
+  none-changed laid all = all-laid laid (λ n. alike-lies l l' kept-script n (λ i. get (kept.mems i) n) (all n) (laid.each n))

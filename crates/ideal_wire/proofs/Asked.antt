@@ -40,13 +40,13 @@ use Rattle.ideal_wire.proofs.Reaching.{AllReached, all-from, each-byte, entries-
 -- ---- lists
 
 -- what holds of each thing holds of it with its place
-enumerated : {X : Type 0} (P : X → Type 0) (n : ℕ) (xs : List X) → AllByRecursion P xs →
+pub enumerated : {X : Type 0} (P : X → Type 0) (n : ℕ) (xs : List X) → AllByRecursion P xs →
     AllByRecursion (λ b. P b.1) (enumerate_from n xs)
 enumerated P n [] h = tt
 enumerated P n (x ∷ xs) h = (h.0, enumerated P (n + 1) xs h.1)
 
 -- where nothing is refused all is fine
-all-fine : {X : Type 0} (refusal : X → Option ReportName) (at : ℕ) (xs : List X) →
+pub all-fine : {X : Type 0} (refusal : X → Option ReportName) (at : ℕ) (xs : List X) →
     AllByRecursion (λ x. refusal x ≡ None) xs → judged refusal at xs ≡ Fine
 all-fine refusal at [] h = refl
 all-fine refusal at (x ∷ xs) h =
@@ -127,7 +127,7 @@ module _ (l : LaneState) where
       by false e = refl
 
   -- what the driver reaches of its pages, it reaches with and without its memories
-  with-pages : (k : LaneState) (va p : ℕ) → physical_in k.pages va ≡ Some p → physical k va ≡ Some p
+  pub with-pages : (k : LaneState) (va p : ℕ) → physical_in k.pages va ≡ Some p → physical k va ≡ Some p
   with-pages k va p e = ap (or_in_memory k va) e
 
   -- so the entries of such bytes are the same for each driver with these pages

@@ -51,10 +51,8 @@ use Rattle.ideal_lane.specs.Turns.{called_back, no_load}
 use Rattle.ideal_lane.specs.Turns as turns
 use Rattle.ideal_lane.specs.View.{view_of}
 use Rattle.ideal_lane.proofs.Turning.{WaitsAt, waits-at}
-use Rattle.ideal_wire.specs.Laid.{IsAwaited, LiesIn, AreLaid, KeepsLaid, pages_alone}
+use Rattle.ideal_wire.specs.Laid.{IsAwaited, AreLaid, KeepsLaid, pages_alone}
 use Rattle.ideal_wire.specs.Machine.{IsInMachine}
-use Rattle.ideal_wire.specs.Traces.{stage_in}
-use Rattle.ideal_wire.proofs.Alike.{no-memory}
 use Rattle.ideal_wire.proofs.Asked.{AreOfPages, alone-fine, direct-bytes, direct-ready, pages-entries}
 use Rattle.ideal_wire.proofs.LoadLaid.{IsReady, finished-laid}
 use Rattle.ideal_wire.proofs.MemoryLoads.{memory-ready}
@@ -64,65 +62,23 @@ use Rattle.ideal_wire.proofs.Refusing.{judged, either, busy}
 use Rattle.ideal_wire.proofs.Returning.{returning-unloaded}
 use Rattle.ideal_wire.proofs.StillLaid.{Still, await-still, back-still, cpu_read-still, cpu_write-still, dev_read-still}
 use Rattle.ideal_wire.proofs.StillLaid.{dev_write-still, idle-unloaded, like, map-still, map_destroy-still, no-loan, put}
-use Rattle.ideal_wire.proofs.StillLaid.{put-there, staged-still, sync-still, sync_range-still, tag-still}
+use Rattle.ideal_wire.proofs.KeptTags.{put-there}
+use Rattle.ideal_wire.proofs.StillLaid.{staged-still, sync-still, sync_range-still, tag-still}
+use Rattle.ideal_wire.proofs.Waited.{waited, waited-asked, waited-direct, waited-lies, waited-need, waited-own}
 use Rattle.ideal_wire.proofs.StillLaid.{tag_destroy-still, unload-still}
 
 -- ---- pages as a reply has them
 
-paged-again : (pages : List Pa) → as_pages (addresses pages) ≡ pages
+pub paged-again : (pages : List Pa) → as_pages (addresses pages) ≡ pages
 paged-again [] = refl
 paged-again (p ∷ pages) = ap (λ xs. p ∷ xs) (paged-again pages)
 
-as-many : (pages : List Pa) → length (addresses pages) ≡ length pages
+pub as-many : (pages : List Pa) → length (addresses pages) ≡ length pages
 as-many [] = refl
 as-many (p ∷ pages) = ap suc (as-many pages)
 
 whole-again : (pages : List Pa) → AllByRecursion IsPage pages → AllByRecursion IsPage (as_pages (addresses pages))
 whole-again pages h = subst (AllByRecursion IsPage) (sym (paged-again pages)) h
-
--- ---- what the load at a place of the script asks
-record Names (k : ℕ) (l : LaneState) : Type 0 where
-  map : ℕ
-  spans : List Span
-  now : Bool
-  items : List Item
-  is : (s : LaneState) → s.script ≡ l.script → asked_at k s ≡ asked map spans now items s
-
-names-of : (k : ℕ) (l : LaneState) → Names k l
-names-of k l = by (slice_get l.script k) refl
-  where
-    none : (o : Option Op) → slice_get l.script k ≡ o →
-        ((s : LaneState) → unwrap_or (option_and_then (λ p. asked_by p s) o) (no_load s) ≡ no_load s) → Names k l
-    none o e h = record {
-      map = 0;
-      spans = [];
-      now = false;
-      items = [];
-      is = λ s same.
-          ap (λ q. unwrap_or (option_and_then (λ p. asked_by p s) q) (no_load s)) (ap (λ q. slice_get q k) same ∙ e)
-          ∙ h s;
-    }
-
-    by : (o : Option Op) → slice_get l.script k ≡ o → Names k l
-    by None e = none None e (λ s. refl)
-    by (Some (op.Load m (At va) len flags items)) e = record {
-      map = m;
-      spans = one_span va.0 len;
-      now = nowait flags;
-      items = items;
-      is = λ s same.
-          ap (λ q. unwrap_or (option_and_then (λ p. asked_by p s) q) (no_load s)) (ap (λ q. slice_get q k) same ∙ e);
-    }
-    by (Some (op.Tag name parent limits)) e = none (Some (op.Tag name parent limits)) e (λ s. refl)
-    by (Some (op.TagDestroy t)) e = none (Some (op.TagDestroy t)) e (λ s. refl)
-    by (Some (op.Map name t)) e = none (Some (op.Map name t)) e (λ s. refl)
-    by (Some (op.MapDestroy m)) e = none (Some (op.MapDestroy m)) e (λ s. refl)
-    by (Some (op.Unload m)) e = none (Some (op.Unload m)) e (λ s. refl)
-    by (Some (op.Sync m ops)) e = none (Some (op.Sync m ops)) e (λ s. refl)
-    by (Some (op.SyncRange m off len ops)) e = none (Some (op.SyncRange m off len ops)) e (λ s. refl)
-    by (Some (op.CpuRead place len)) e = none (Some (op.CpuRead place len)) e (λ s. refl)
-    by (Some (op.CpuWrite place bytes)) e = none (Some (op.CpuWrite place bytes)) e (λ s. refl)
-    by (Some (op.Await m)) e = none (Some (op.Await m)) e (λ s. refl)
 
 module _ (l : LaneState) (a : Account) (stands : Stands l) (agrees : AgreesWith l a) (fit : IsFit a)
     (frames : EachFrame IsFrame a) (machine : IsInMachine l) (laid : AreLaid l) where
@@ -139,7 +95,7 @@ module _ (l : LaneState) (a : Account) (stands : Stands l) (agrees : AgreesWith 
   report x = laid
 
   -- ---- the load of the next operation
-  module _ (m : ℕ) (va : Va) (len flags : ℕ) (items : _)
+  module _ (m : ℕ) (va : Va) (len flags : ℕ) (items : List Item)
       (here : slice_get l.script l.place ≡ Some (op.Load m (At va) len flags items)) where
     abbrev spans : List Span
     spans = one_span va.0 len
@@ -250,49 +206,26 @@ module _ (l : LaneState) (a : Account) (stands : Stands l) (agrees : AgreesWith 
     at-map z need count w =
         subst (λ y. AreLaid (called k y (addresses pages) l).lane) (sym w.found)
         (subst (λ s. AreLaid (called_in k w.map s (addresses pages) l).lane) (sym w.stage)
-        (subst Ends (sym (n.is l refl)) ends))
+        (subst Ends (sym ((waited l stands laid k z need w).is l refl)) ends))
       where
-        n : Names w.load_at l
-        n = names-of w.load_at l
-
         x : Asked
-        x = asked n.map n.spans n.now n.items l
+        x = waited-asked l stands laid k z need w
 
         Ends : Asked → Type 0
         Ends y = AreLaid (finished k w.map w.load_at y (chunks_for l w.map (contains_key l.mems k) y.entries)
             (addresses pages) l).lane
 
-        lies : IsAwaited l k w.load_at need
-        lies = subst (LiesIn l k) (ap stage_in w.found ∙ w.stage) (laid.each k)
-
-        alone : asked_at w.load_at (pages_alone l) ≡ asked n.map n.spans n.now n.items (pages_alone l)
-        alone = n.is (pages_alone l) refl
-
-        own : AreOfPages l (span_addresses n.spans)
-        own = direct-bytes (pages_alone l) n.map (span_addresses n.spans) (no-memory n.map)
-            (sym (ap (λ (y : Asked). y.judged) alone) ∙ lies.fine)
-
-        entries : (asked_at w.load_at (pages_alone l)).entries ≡ x.entries
-        entries = ap (λ (y : Asked). y.entries) alone ∙ pages-entries l (pages_alone l) refl n.spans own
-
-        enough : length (addresses pages) ≡ need_of (chunks_of (limits_of l w.map) l.maxmem x.entries)
-        enough = as-many pages ∙ count ∙ lies.counted w.map w.found
-            ∙ ap (λ es. need_of (chunks_of (limits_of l w.map) l.maxmem es)) entries
-
-        no-memory-there : (q : Option LaneMemory) → get l.mems k ≡ q → get l.mems k ≡ None
-        no-memory-there None g = g
-        no-memory-there (Some y) g =
-            let gone : Some z ≡ None = sym w.zone ∙ (stands.each k w.map w.found).memory (ap is_some g) in absurd (cc)
-
         ends : Ends x
         ends =
-            let none : get l.mems k ≡ None = no-memory-there (get l.mems k) refl in
+            let none = waited-direct l stands laid k z need w in
             subst (λ b. AreLaid (finished k w.map w.load_at x (chunks_for l w.map b x.entries) (addresses pages) l).lane)
             (sym (ap is_some none))
-            (finished-laid l laid k w.map (lies.unlent) w.load_at x (chunks_for l w.map false x.entries)
-            (addresses pages)
-            (direct-ready l laid machine stands k w.map w.found none n.spans own (addresses pages)
-            (whole-again pages (called-whole a frames l.id a.ready m pages e)) enough))
+            (finished-laid l laid k w.map (waited-lies l stands laid k z need w).unlent w.load_at x
+            (chunks_for l w.map false x.entries) (addresses pages)
+            (direct-ready l laid machine stands k w.map w.found none (waited l stands laid k z need w).spans
+            (waited-own l stands laid k z need w) (addresses pages)
+            (whole-again pages (called-whole a frames l.id a.ready m pages e))
+            (as-many pages ∙ count ∙ waited-need l stands laid k z need w)))
 
     called-keeps : AreLaid (called k (get l.maps k) (addresses pages) l).lane
     called-keeps =

@@ -1,5 +1,7 @@
 pub mod Accepting
 pub mod Alike
+pub mod AnsweredLoads
+pub mod AnsweredTurns
 pub mod Asked
 pub mod Buses
 pub mod Calls
@@ -12,12 +14,15 @@ pub mod FaithfulRanges
 pub mod FaithfulSync
 pub mod Frames
 pub mod HavingChunks
+pub mod KeptMaps
+pub mod KeptTags
 pub mod LaidTurns
 pub mod Lent
 pub mod LoadLaid
 pub mod Loading
 pub mod Machinery
 pub mod Machines
+pub mod MemoriesLaid
 pub mod MemoryLoads
 pub mod Openings
 pub mod Pages
@@ -27,7 +32,9 @@ pub mod Positions
 pub mod Reaching
 pub mod Refusing
 pub mod Returning
+pub mod ServedMaps
 pub mod StillLaid
 pub mod SyncedPositions
 pub mod Turns
+pub mod Waited
 pub mod Wiring

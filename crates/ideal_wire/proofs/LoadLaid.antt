@@ -29,12 +29,13 @@ use Rattle.ideal_wire.specs.Laid.{IsInPage, IsOfExtents, is_loadable, IsLaid, Li
 use Rattle.ideal_wire.specs.Traces.{placed_from, traces_of}
 use Rattle.ideal_wire.proofs.Accepting.{same-pages, count-pages, flat-entries, segments, fits, stage-is, loan-is}
 use Rattle.ideal_wire.proofs.Accepting.{traces-are, trace-is}
-use Rattle.ideal_wire.proofs.Alike.{KeepsRest, loadable-alike, one-changed}
+use Rattle.ideal_wire.proofs.Alike.{KeepsRest, kept-script, loadable-alike, one-changed}
 use Rattle.ideal_wire.proofs.ChunkExtents.{chunks-extents, placed-extents}
 use Rattle.ideal_wire.proofs.HavingChunks.{has-chunks}
 use Rattle.ideal_wire.proofs.Loading.{Follow, chunks_bytes, follow-of, placed-bytes, placed-follow, zipped}
 use Rattle.ideal_wire.proofs.Positions.{found_one}
-use Rattle.ideal_wire.proofs.StillLaid.{kept-map, put-off, unpaged-still}
+use Rattle.ideal_wire.proofs.KeptTags.{put-off}
+use Rattle.ideal_wire.proofs.StillLaid.{kept-map, unpaged-still}
 
 -- ---- small lists
 
@@ -124,7 +125,7 @@ module _ (l : LaneState) (laid : AreLaid l) (m : ℕ) (o : LaneMap) (none : loan
   lies = record {
     coherent = ap (λ (n : Loan). n.coherent) (loan-is l m o load_at x chunks pages);
     bytes = λ i p at.
-        loadable-alike l after rest (get l.mems m) p.pa
+        loadable-alike l after (kept-script l after rest) (get l.mems m) p.pa
         ∙ unlent-at (λ a. is_loadable (get l.mems m) l a ≡ true) (entries_addresses x.entries) i p r.loadable
         (sym (λ j. slice_get (loan-is l m o load_at x chunks pages j).positions i) ∙ at);
     direct = λ some. none-placed (keep_pg_offset t.flags) chunks (as_pages pages)

@@ -47,7 +47,7 @@ unaligned t e = record {
 }
 
 -- no page has an address where those of memories are
-no-page : (maxmem : ℕ) (runs : List PageRun) (va : ℕ) → AllByRecursion (IsOfMachine maxmem) runs → pages_end ≤ va →
+pub no-page : (maxmem : ℕ) (runs : List PageRun) (va : ℕ) → AllByRecursion (IsOfMachine maxmem) runs → pages_end ≤ va →
     physical_in runs va ≡ None
 no-page maxmem [] va all high = refl
 no-page maxmem (r ∷ runs) va all high =

@@ -136,7 +136,7 @@ module _ (l : LaneState) (laid : AreLaid l) (machine : IsInMachine l) where
       let below = machine.mems k x there in
       omega (arith, high, below)
 
-  memory-low : (va : ℕ) → is_memory_byte l va ≡ true → pages_end ≤ va
+  pub memory-low : (va : ℕ) → is_memory_byte l va ≡ true → pages_end ≤ va
   memory-low va e =
       let x = any_entry (λ q. is_in_memory va q.1) (entries l.mems) (entries_sorted l.mems) e in
       let begin : ℕ = pages_end + x.value.first in

@@ -1,9 +1,8 @@
 -- Steps that end no load with pages leave the loads of a driver laid, whatever the reply to their call.
 use Rattle.std.proofs.Common.{◌≡◌, ◌≢◌, ℕ, ◌==◌, ◌&&◌, Bool, true, false, cond, if◌then◌else◌, List, [], ◌∷◌, length}
-use Rattle.std.proofs.Common.{Option, Some, None, refl, ap, sym, ◌∙◌, subst, arith, eq-eqb, unwrap_or, option_map}
-use Rattle.std.proofs.lemmas.Bool.{false≢true, ne_eqb, eqb-true}
-use Rattle.std.specs.Ordering.{nat_cmp}
-use Rattle.std.specs.FinMap.{FinMap, get, insert, remove, entries, get-entries}
+use Rattle.std.proofs.Common.{Option, Some, None, refl, ap, sym, ◌∙◌, subst, arith, unwrap_or, option_map}
+use Rattle.std.proofs.lemmas.Bool.{false≢true, eqb-true}
+use Rattle.std.specs.FinMap.{get, insert, remove}
 use Rattle.busdma_base.specs.declared.bounce.hold.HubCall.TheVariants as call
 use Rattle.busdma_base.specs.declared.bounce.hold.HubReply.{HubReply}
 use Rattle.busdma_base.specs.declared.bounce.hold.HubReply.TheVariants as reply
@@ -25,7 +24,7 @@ use Rattle.loan_table.proofs.Marking.{addresses_of-synced}
 use Rattle.ideal_lane.specs.Accesses.{cpu_read, cpu_write, dev_read, dev_write, values, load_bytes}
 use Rattle.ideal_lane.specs.Asking.{Asking, Asks, by_reply}
 use Rattle.ideal_lane.specs.IdealMemory.{is_known, forgotten, written}
-use Rattle.ideal_lane.specs.Loads.{emptied, limits_of, no_limits, staged, unpaged}
+use Rattle.ideal_lane.specs.Loads.{emptied, no_limits, staged, unpaged}
 use Rattle.ideal_lane.specs.Maps.{created, map, end_map, map_destroy, await, with_map}
 use Rattle.ideal_lane.specs.Outcomes.{Outcome, gives, refused, is_idle, is_loaded, load_length, unless_past}
 use Rattle.ideal_lane.specs.Places.{virtual_at, reached, bytes_at}
@@ -34,32 +33,14 @@ use Rattle.ideal_lane.specs.State.{LaneState, LaneTag, LaneMap, Stage, Idle, Wai
 use Rattle.ideal_lane.specs.Syncs.{copies, counted, sync_part, sync, sync_range}
 use Rattle.ideal_lane.specs.Tags.{with_tag, attached, tag_or_invalid, tag, tag_destroy, has_maps}
 use Rattle.ideal_lane.specs.Unloads.{unload, unlent, pages_of, restaged, given_back, after_return}
-use Rattle.ideal_lane.proofs.Lookups.{get_put, get_cut}
+use Rattle.ideal_lane.proofs.Lookups.{get_put}
 use Rattle.ideal_wire.specs.Laid.{LiesIn, AreLaid}
 use Rattle.ideal_wire.specs.Traces.{stage_in, stage_at}
 use Rattle.ideal_wire.proofs.Alike.{KeepsRest, IsAlike, none-changed, one-changed}
-use Rattle.ideal_wire.proofs.Lent.{find_any}
+use Rattle.ideal_wire.proofs.KeptTags.{KeepsTags, cut-off, cut-there, keeps-put, new-tag, put-off, put-there, untagged}
 use Rattle.ideal_wire.proofs.Positions.{found_one}
 use Rattle.ideal_wire.proofs.Refusing.{absent, judged, either, unloaded, past}
 use Rattle.ideal_wire.proofs.Wiring.{own-forgotten, own-written}
-
--- ---- what is looked up after a change
-
-pub put-there : {X : Type 0} (m : FinMap nat_cmp X) (k : ℕ) (v : X) →
-    get (insert m k v) k ≡ Some v
-put-there m k v = get_put m k v k ∙ ap (λ b. cond b (Some v) (get m k)) (eq-eqb k k refl)
-
-pub put-off : {X : Type 0} (m : FinMap nat_cmp X) (k n : ℕ) (v : X) →
-    n ≢ k → get (insert m k v) n ≡ get m n
-put-off m k n v off = get_put m k v n ∙ ap (λ b. cond b (Some v) (get m n)) (ne_eqb n k off)
-
-cut-there : {X : Type 0} (m : FinMap nat_cmp X) (k : ℕ) →
-    get (remove m k) k ≡ None
-cut-there m k = get_cut m k k ∙ ap (λ b. cond b None (get m k)) (eq-eqb k k refl)
-
-cut-off : {X : Type 0} (m : FinMap nat_cmp X) (k n : ℕ) →
-    n ≢ k → get (remove m k) n ≡ get m n
-cut-off m k n off = get_cut m k n ∙ ap (λ b. cond b None (get m n)) (ne_eqb n k off)
 
 -- a sync leaves which loans are coherent
 coherent-synced : (loans : Loans) (m off len ops n : ℕ) →
@@ -78,10 +59,6 @@ coherent-synced loans m off len ops n = by (loan_of loans m).coherent refl
         (loan_of (cond b loans (insert loans m new)) n).coherent ≡ (loan_of loans n).coherent
     by true e = refl
     by false e = ap (λ o. (unwrap_or o no_loan).coherent) (get_put loans m new n) ∙ here e (n == m) refl
-
--- what the tags of maps say stays
-abbrev pub KeepsTags : LaneState → LaneState → Type 0
-KeepsTags l l' = (n : ℕ) (o : LaneMap) → get l.maps n ≡ Some o → limits_of l' o ≡ limits_of l o
 
 pub kept-map : (l l' : LaneState) (n : ℕ) → KeepsTags l l' → loan_of l'.loans n ≡ loan_of l.loans n →
     get l'.maps n ≡ get l.maps n → IsAlike l l' n
@@ -102,7 +79,7 @@ module _ (l : LaneState) (laid : AreLaid l) where
   report x r = laid
 
   -- a map with no load lends nothing
-  no-loan-in : (m : ℕ) (s : Stage) → stage_at l m ≡ s → is_loaded s ≡ false → loan_of l.loans m ≡ no_loan
+  pub no-loan-in : (m : ℕ) (s : Stage) → stage_at l m ≡ s → is_loaded s ≡ false → loan_of l.loans m ≡ no_loan
   no-loan-in m s e none = by s none (subst (LiesIn l m) e (laid.each m))
     where
       by : (s : Stage) → is_loaded s ≡ false → LiesIn l m s → loan_of l.loans m ≡ no_loan
@@ -303,34 +280,12 @@ module _ (l : LaneState) (laid : AreLaid l) where
 
   -- ---- tags and maps
   module _ (stands : Stands l) where
-    -- another tag at a place, with the limits of the one that was there
-    keeps-put : (l' : LaneState) (at : ℕ) (x : LaneTag) → l'.tags ≡ insert l.tags at x →
-        ((g : LaneTag) → get l.tags at ≡ Some g → g.limits ≡ x.limits) → KeepsTags l l'
-    keeps-put l' at x tags same n o there = by (o.tag == at) refl
-      where
-        limits-in : Option LaneTag → TagLimits
-        limits-in q = unwrap_or (option_map (λ (t : LaneTag). t.limits) q) no_limits
-
-        look : (b : Bool) → (o.tag == at) ≡ b → limits_of l' o ≡ limits-in (cond b (Some x) (get l.tags o.tag))
-        look b e = (λ i. limits-in (get (tags i) o.tag)) ∙ ap limits-in (get_put l.tags at x o.tag
-            ∙ ap (λ b. cond b (Some x) (get l.tags o.tag)) e)
-
-        by : (b : Bool) → (o.tag == at) ≡ b → limits_of l' o ≡ limits_of l o
-        by true e =
-            let st = stands.each n o there in
-            look true e ∙ sym (same st.tag (ap (get l.tags) (sym (eqb-true o.tag at e)) ∙ st.there))
-            ∙ sym (ap limits-in st.there)
-        by false e = look false e
-
-    new-tag : {A : Type 0} (g : LaneTag) → get l.tags l.place ≡ Some g → A
-    new-tag g e = let none = stands.no_tag l.place (omega arith) in absurd (cc)
-
     with_tag-still : (t : TagLimits) (done : Bool) → AreLaid (with_tag l.place t done l)
     with_tag-still t done =
         like (with_tag l.place t done l)
         (record { script = refl; pages = refl; maxmem = refl; own = λ a. refl; mems = refl })
-        (keeps-put (with_tag l.place t done l) l.place (record { limits = t; first_done = done }) refl
-        (λ g e. new-tag g e)) refl refl
+        (keeps-put l stands (with_tag l.place t done l) l.place (record { limits = t; first_done = done }) refl
+        (λ g e. new-tag l stands g e)) refl refl
 
     attached-still : (t : TagLimits) (r : HubReply) → AreLaid (attached t l r).lane
     attached-still t (reply.Grown g) = by g.made
@@ -364,20 +319,7 @@ module _ (l : LaneState) (laid : AreLaid l) where
         absent l Still report (get l.tags t) _ (λ x e.
         either l Still report (has_maps l t) _ _ (λ b r. laid) (λ b r.
         like (record l { tags = remove l.tags t })
-        (record { script = refl; pages = refl; maxmem = refl; own = λ a. refl; mems = refl }) (λ n o there.
-        untagged b n o there (o.tag == t) refl) refl refl))
-      where
-        limits-in : Option LaneTag → TagLimits
-        limits-in q = unwrap_or (option_map (λ (t : LaneTag). t.limits) q) no_limits
-
-        untagged : has_maps l t ≡ false → (n : ℕ) (o : LaneMap) → get l.maps n ≡ Some o → (b : Bool) →
-            (o.tag == t) ≡ b → limits-in (get (remove l.tags t) o.tag) ≡ limits-in (get l.tags o.tag)
-        untagged none n o there true e =
-            absurd
-            (false≢true
-            (sym none ∙ find_any (λ y. y.1.tag == t) (entries l.maps) n o (sym (get-entries l.maps n) ∙ there) e))
-        untagged none n o there false e =
-            ap limits-in (get_cut l.tags t o.tag ∙ ap (λ b. cond b None (get l.tags o.tag)) e)
+        (record { script = refl; pages = refl; maxmem = refl; own = λ a. refl; mems = refl }) (untagged l t b) refl refl))
 
     -- nothing was made yet at the place of the script
     none-here : loan_of l.loans l.place ≡ no_loan
@@ -395,7 +337,7 @@ module _ (l : LaneState) (laid : AreLaid l) where
         by : (b : Bool) → AreLaid (if b then made else l)
         by true =
             put made (record { script = refl; pages = refl; maxmem = refl; own = λ a. refl; mems = refl })
-            (keeps-put made t (record { limits = o.limits; first_done = true }) refl
+            (keeps-put l stands made t (record { limits = o.limits; first_done = true }) refl
             (λ g e. ap (λ (x : LaneTag). x.limits) (found_one (get l.tags t) g o e there)))
             l.place (new-map t (Some g.zone.0)) refl refl none-here
         by false = laid

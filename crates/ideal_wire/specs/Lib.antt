@@ -1,8 +1,10 @@
 pub mod Accepted
+pub mod Answered
 pub mod Apart
 pub mod Centre
 pub mod Laid
 pub mod Machine
 pub mod OneProof
+pub mod Served
 pub mod Traces
 pub mod WireStep

@@ -4,7 +4,7 @@ use Rattle.std.proofs.lemmas.Bool.{cases_lt}
 use Rattle.std.proofs.Math.Pow.{pow-lt}
 use Rattle.std.specs.Int.{IsPowerOfTwo}
 use Rattle.std.specs.Coded.{×_prop, Unit-prop}
-use Rattle.std.specs.List.{AllByRecursion, AllByRecursion-prop, AllZip}
+use Rattle.std.specs.List.{AllByRecursion-prop, AllZip}
 use mathlib.Core.HLevel.{Σ_prop_path}
 use mathlib.Core.List.{is_set}
 use base.Stored.{Coded-set}
@@ -22,8 +22,8 @@ use Rattle.segment_build.specs.Trace.{chunk_len}
 use Rattle.ideal_lane.specs.State.{LaneState, Stage, Idle, Waiting, Loaded, Returning}
 use Rattle.ideal_wire.specs.Apart.{IsApart}
 use Rattle.ideal_wire.specs.Centre.{IsFaithful}
-use Rattle.ideal_wire.specs.Laid.{AreLaid, IsInPage, IsLaid, LiesIn}
-use Rattle.ideal_wire.specs.Machine.{IsInMachine, IsOfMachine}
+use Rattle.ideal_wire.specs.Laid.{AreLaid, IsLaid, LiesIn}
+use Rattle.ideal_wire.specs.Machine.{IsInMachine}
 
 Placed-set : IsSet Placed
 Placed-set = hlevel (props, AllByRecursion-prop)
@@ -70,9 +70,9 @@ one-power : (i j : ℕ) → 2 ^ i ≡ 2 ^ j → i ≡ j
 one-power i j same = elim (cases_lt i j) as (λ _. i ≡ j) [
   | inl less ↦ let off : 2 ^ i < 2 ^ j = pow-lt less in absurd (omega (arith, off, same))
   | inr most ↦ elim (cases_lt j i) as (λ _. i ≡ j) [
-      | inl more ↦ let off : 2 ^ j < 2 ^ i = pow-lt more in absurd (omega (arith, off, same))
-      | inr least ↦ omega (arith, most, least)
-    ]
+    | inl more ↦ let off : 2 ^ j < 2 ^ i = pow-lt more in absurd (omega (arith, off, same))
+    | inr least ↦ omega (arith, most, least)
+  ]
 ]
 
 IsPowerOfTwo-prop : (n : ℕ) → IsProp (IsPowerOfTwo n)

@@ -11,7 +11,8 @@ ghost use Rattle.busdma_base.specs.declared.tags.tag.TagLimits.{TagLimits};
 ghost use Rattle.busdma_base.specs.Bounce.AccountStep.{called_from, grabbed};
 ghost use Rattle.busdma_base.specs.Bounce.EachFrame.{EachFrame};
 ghost use Rattle.busdma_base.specs.Bounce.Growth.{serves_tag};
-ghost use Rattle.busdma_base.specs.Bounce.History.{IsFrame};
+ghost use Rattle.busdma_base.specs.Bounce.History.{IsFrame, account_of};
+ghost use Rattle.busdma_base.specs.declared.bounce.hold.HoldEntry.{HoldEntry};
 ghost use Rattle.busdma_base.specs.Bounce.LowPages.{PagesLieLow};
 ghost use Rattle.segment_build.specs.Obeying.{IsReachable};
 ghost use Rattle.busdma_base.specs.declared.bounce.hold.HubReply.{HubReply};
@@ -31,19 +32,22 @@ ghost use Rattle.busdma_base.specs.Scenarios.Valid.{IsValid};
 ghost use Rattle.ideal_lane.specs.Accesses.{cpu_read, cpu_write, dev_read, dev_write};
 ghost use Rattle.lane_agreement.specs.Agreement.{IsFit};
 ghost use Rattle.ideal_lane.specs.Agreement.{AgreesWith};
-ghost use Rattle.ideal_lane.specs.Asking.{by_reply};
+ghost use Rattle.ideal_lane.specs.Asking.{by_reply, goes_on};
 ghost use Rattle.ideal_lane.specs.Loads.{asked, chunks_for, finished, limits_of, load_judged};
+ghost use Rattle.ideal_lane.specs.Memories.{dmamem, dmamem_free};
 ghost use Rattle.ideal_lane.specs.Opening.{opening_lane};
 ghost use Rattle.ideal_lane.specs.Places.{bytes_at};
 ghost use Rattle.ideal_lane.specs.Standing.{Stands};
 ghost use Rattle.ideal_lane.specs.State.{LaneMap, LaneState};
 ghost use Rattle.ideal_lane.specs.Syncs.{sync, sync_range};
-ghost use Rattle.ideal_lane.specs.Turns.{lane_step};
+ghost use Rattle.ideal_lane.specs.Turns.{advanced, lane_step};
 ghost use Rattle.ideal_wire.specs.Accepted.{HasPages, IfSegments, IsAccepted};
+ghost use Rattle.ideal_wire.specs.Answered.{AnswersLoads};
 ghost use Rattle.ideal_wire.specs.Apart.{IsApart};
 ghost use Rattle.ideal_wire.specs.Centre.{IsFaithful};
 ghost use Rattle.ideal_wire.specs.Laid.{AreLaid, KeepsLaid};
 ghost use Rattle.ideal_wire.specs.Machine.{IsInMachine};
+ghost use Rattle.ideal_wire.specs.Served.{AreServed, KeepsServed};
 ghost use Rattle.ideal_wire.specs.WireStep.{Follows, IsRead, load_buses, place_bytes};
 ghost use Rattle.ideal_wire.specs.WireStep as wire;
 
@@ -106,9 +110,12 @@ pub fn calls_read_faithfully()
 
 /// The segments that a load of the driver's pages answers are its bytes, in order, and obey its tag,
 /// where it has as many pages as it needs and its device reaches each of them. The load is of a map
-/// that is not a memory's, and its bytes are judged fine.
+/// that is not a memory's, and its bytes are judged fine. So it is of the segments that a turn
+/// answers by the account's reply, where driver and account agree and the zones of maps serve their
+/// tags: it has ended a load in its own step, or at the callback of one that waited. The account is
+/// one that a sound history leads to.
 pub fn accepted_loads_obey()
-    ensures { (l : LaneState) (m : ℕ) (o : LaneMap) (spans : List Span) (load_at : ℕ) (nowait : Bool)
+    ensures load { (l : LaneState) (m : ℕ) (o : LaneMap) (spans : List Span) (load_at : ℕ) (nowait : Bool)
         (items : List Item) (pages : List ℕ) → Stands l → AreLaid l → IsInMachine l →
         get l.maps m ≡ Some o → contains_key l.mems m ≡ false →
         load_judged l m (span_addresses spans) ≡ Fine →
@@ -118,6 +125,9 @@ pub fn accepted_loads_obey()
         let end = finished m o load_at x chunks pages l in
         IfSegments end.answer
         (IsAccepted end.lane m (limits_of l o) (bytes_at l (span_addresses spans)) chunks pages) }
+    ensures turn { (l : LaneState) (s : Side) (a : Account) → Stands l → AgreesWith l a → IsFit a →
+        EachFrame IsFrame a → PagesLieLow a → AreServed l a → IsInMachine l → AreLaid l →
+        AnswersLoads l a (lane_step l s) }
 {}
 
 /// A step leaves the loads of a driver laid, by the account's reply to its call, where driver and
@@ -127,6 +137,15 @@ pub fn loads_stay_laid()
         IsInMachine l → AreLaid l → KeepsLaid l.id a (lane_step l s) }
 {}
 
+/// The making of a memory and its end leave the loads of a driver laid in the same way: the bytes of
+/// the memory's frames come to the driver and leave it.
+pub fn memories_leave_loads_laid()
+    ensures made { (l : LaneState) (t flags : ℕ) (a : Account) → Stands l → EachFrame IsFrame a → AreLaid l →
+        KeepsLaid l.id a (goes_on (advanced l.place) (dmamem t flags l)) }
+    ensures freed { (l : LaneState) (m : ℕ) (a : Account) → Stands l → AgreesWith l a → AreLaid l →
+        KeepsLaid l.id a (goes_on (advanced l.place) (dmamem_free m l)) }
+{}
+
 /// A driver of a valid scenario opens in its machine, and a step leaves it there, whatever the reply
 /// to its call: its tags stay effective ones.
 pub fn steps_stay_in_machine()
@@ -134,6 +153,16 @@ pub fn steps_stay_in_machine()
         IsInMachine (opening_lane i (maxmem_of s.frames) driver) }
     ensures stays { (l : LaneState) (s : Side) (r : HubReply) → IsInMachine l →
         IsInMachine (by_reply (lane_step l s) r).lane }
+{}
+
+/// The zone of each map serves the map's tag: in no map at a driver's opening, after each step of
+/// the driver with the account's reply, and whatever others call.
+pub fn zones_serve_their_tags()
+    ensures opens { (id maxmem : ℕ) (driver : Driver) (a : Account) → AreServed (opening_lane id maxmem driver) a }
+    ensures kept { (l : LaneState) (s : Side) (a : Account) → Stands l → IsInMachine l → AreServed l a →
+        KeepsServed l.id a (lane_step l s) }
+    ensures others { (l : LaneState) (a : Account) (es : List HoldEntry) → Stands l → IsInMachine l → AreServed l a →
+        AreServed l (account_of a es) }
 {}
 
 /// The device of a tag reaches each page that a map is given by a zone that serves the tag: at a

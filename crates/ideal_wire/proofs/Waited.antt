@@ -1,0 +1,113 @@
+-- What the load at a place of the script asks, and what a load that waited asks.
+use Rattle.std.proofs.Common.{◌≡◌, ℕ, Bool, false, List, [], Option, Some, None, slice_get, is_some, refl, ap, sym}
+use Rattle.std.proofs.Common.{◌∙◌, subst, unwrap_or, append-nil}
+use Rattle.std.specs.FinMap.{get}
+use Rattle.std.specs.Option.{option_and_then, option_map}
+use Rattle.busdma_base.specs.declared.machine.address.Span.{Span}
+use Rattle.busdma_base.specs.declared.scenarios.script.Item.{Item}
+use Rattle.busdma_base.specs.declared.scenarios.script.Op.{Op}
+use Rattle.busdma_base.specs.declared.scenarios.script.Op.TheVariants as op
+use Rattle.busdma_base.specs.declared.scenarios.script.Place.TheVariants.{At}
+use Rattle.busdma_base.specs.Machine.Spans.{span_addresses}
+use Rattle.busdma_base.specs.Runs.{run_of}
+use Rattle.dma_tag.specs.LoadFlags.{nowait}
+use Rattle.phys_memory.specs.Vector.{one_span}
+use Rattle.segment_build.specs.Chunks.{chunks_of, need_of}
+use Rattle.ideal_lane.specs.Loads.{Asked, asked, limits_of}
+use Rattle.ideal_lane.specs.Places.{bytes_at}
+use Rattle.ideal_lane.specs.Standing.{Stands}
+use Rattle.ideal_lane.specs.State.{LaneState, LaneMemory}
+use Rattle.ideal_lane.specs.Turns.{asked_at, asked_by, no_load}
+use Rattle.ideal_lane.proofs.Turning.{WaitsAt}
+use Rattle.ideal_wire.specs.Answered.{Load, bytes_named, loaded_by}
+use Rattle.ideal_wire.specs.Laid.{IsAwaited, LiesIn, AreLaid, pages_alone}
+use Rattle.ideal_wire.specs.Traces.{stage_in}
+use Rattle.ideal_wire.proofs.Alike.{no-memory}
+use Rattle.ideal_wire.proofs.Asked.{AreOfPages, direct-bytes, pages-entries}
+
+-- the load at a place of the script is one of these spans
+pub record Names (k : ℕ) (l : LaneState) : Type 0 where
+  pub map : ℕ
+  pub spans : List Span
+  pub now : Bool
+  pub items : List Item
+  pub is : (s : LaneState) → s.script ≡ l.script → asked_at k s ≡ asked map spans now items s
+  pub bytes : bytes_named l k ≡ bytes_at l (span_addresses spans)
+
+bytes-in : LaneState → Option Op → List ℕ
+bytes-in l o = unwrap_or (option_map (λ (x : Load). x.bytes) (option_and_then (λ p. loaded_by p l) o)) []
+
+pub names-of : (k : ℕ) (l : LaneState) → Names k l
+unfolding bytes-in
+names-of k l = by (slice_get l.script k) refl
+  where
+    none : (o : Option Op) → slice_get l.script k ≡ o →
+        ((s : LaneState) → unwrap_or (option_and_then (λ p. asked_by p s) o) (no_load s) ≡ no_load s) →
+        bytes-in l o ≡ [] → Names k l
+    none o e h b = record {
+      map = 0;
+      spans = [];
+      now = false;
+      items = [];
+      is = λ s same.
+          ap (λ q. unwrap_or (option_and_then (λ p. asked_by p s) q) (no_load s)) (ap (λ q. slice_get q k) same ∙ e)
+          ∙ h s;
+      bytes = ap (bytes-in l) e ∙ b;
+    }
+
+    by : (o : Option Op) → slice_get l.script k ≡ o → Names k l
+    by None e = none None e (λ s. refl) refl
+    by (Some (op.Load m (At va) len flags items)) e = record {
+      map = m;
+      spans = one_span va.0 len;
+      now = nowait flags;
+      items = items;
+      is = λ s same.
+          ap (λ q. unwrap_or (option_and_then (λ p. asked_by p s) q) (no_load s)) (ap (λ q. slice_get q k) same ∙ e);
+      bytes = ap (bytes-in l) e ∙ ap (bytes_at l) (sym (append-nil (run_of va.0 len)));
+    }
+    by (Some (op.Tag name parent limits)) e = none (Some (op.Tag name parent limits)) e (λ s. refl) refl
+    by (Some (op.TagDestroy t)) e = none (Some (op.TagDestroy t)) e (λ s. refl) refl
+    by (Some (op.Map name t)) e = none (Some (op.Map name t)) e (λ s. refl) refl
+    by (Some (op.MapDestroy m)) e = none (Some (op.MapDestroy m)) e (λ s. refl) refl
+    by (Some (op.Unload m)) e = none (Some (op.Unload m)) e (λ s. refl) refl
+    by (Some (op.Sync m ops)) e = none (Some (op.Sync m ops)) e (λ s. refl) refl
+    by (Some (op.SyncRange m off len ops)) e = none (Some (op.SyncRange m off len ops)) e (λ s. refl) refl
+    by (Some (op.CpuRead place len)) e = none (Some (op.CpuRead place len)) e (λ s. refl) refl
+    by (Some (op.CpuWrite place bytes)) e = none (Some (op.CpuWrite place bytes)) e (λ s. refl) refl
+    by (Some (op.Await m)) e = none (Some (op.Await m)) e (λ s. refl) refl
+
+-- a map that waits
+module _ (l : LaneState) (stands : Stands l) (laid : AreLaid l) (k z need : ℕ) (w : WaitsAt l k z need) where
+  abbrev pub waited : Names w.load_at l
+  waited = names-of w.load_at l
+
+  -- what its load asks
+  abbrev pub waited-asked : Asked
+  waited-asked = asked waited.map waited.spans waited.now waited.items l
+
+  pub waited-lies : IsAwaited l k w.load_at need
+  waited-lies = subst (LiesIn l k) (ap stage_in w.found ∙ w.stage) (laid.each k)
+
+  alone : asked_at w.load_at (pages_alone l) ≡ asked waited.map waited.spans waited.now waited.items (pages_alone l)
+  alone = waited.is (pages_alone l) refl
+
+  -- it is not a memory's, and its load is of the driver's pages
+  pub waited-direct : get l.mems k ≡ None
+  waited-direct = by (get l.mems k) refl
+    where
+      by : (q : Option LaneMemory) → get l.mems k ≡ q → get l.mems k ≡ None
+      by None g = g
+      by (Some y) g =
+          let gone : Some z ≡ None = sym w.zone ∙ (stands.each k w.map w.found).memory (ap is_some g) in absurd (cc)
+
+  pub waited-own : AreOfPages l (span_addresses waited.spans)
+  waited-own = direct-bytes (pages_alone l) waited.map (span_addresses waited.spans) (no-memory waited.map)
+      (sym (ap (λ (y : Asked). y.judged) alone) ∙ waited-lies.fine)
+
+  -- its need is that of its chunks
+  pub waited-need : need ≡ need_of (chunks_of (limits_of l w.map) l.maxmem waited-asked.entries)
+  waited-need =
+      waited-lies.counted w.map w.found
+      ∙ ap (λ es. need_of (chunks_of (limits_of l w.map) l.maxmem es))
+      (ap (λ (y : Asked). y.entries) alone ∙ pages-entries l (pages_alone l) refl waited.spans waited-own)

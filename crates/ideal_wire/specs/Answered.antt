@@ -1,0 +1,88 @@
+-- The load that a step ends, and that the segments which it answers are the load's.
+use Rattle.std.specs.Prelude.{◌≡◌, ℕ, false, List, [], Option, Some, None, slice_get, unwrap_or}
+use Rattle.std.specs.FinMap.{get, contains_key}
+use Rattle.std.specs.Option.{option_and_then, option_map}
+use Rattle.busdma_base.specs.declared.journals.journal.Did.{Did}
+use Rattle.busdma_base.specs.declared.journals.journal.Did.TheVariants as did
+use Rattle.busdma_base.specs.declared.machine.address.Segment.{Segment}
+use Rattle.busdma_base.specs.declared.scenarios.script.Op.{Op}
+use Rattle.busdma_base.specs.declared.scenarios.script.Op.TheVariants as op
+use Rattle.busdma_base.specs.Bounce.Account.{Account}
+use Rattle.busdma_base.specs.Bounce.AccountStep.{account_step}
+use Rattle.ideal_lane.specs.Asking.{Asking, Gives, Asks}
+use Rattle.ideal_lane.specs.Loads.{chunks_for, limits_of}
+use Rattle.ideal_lane.specs.State.{LaneState, LaneMap, Stage, Idle, Waiting, Loaded, Returning}
+use Rattle.ideal_lane.specs.Turns.{Turn, Turned, Stepped, Blocked, Ended, asked_at}
+use Rattle.ideal_lane.specs.Unloads.{pages_of}
+use Rattle.ideal_wire.specs.Accepted.{IfSegments, IsAccepted}
+use Rattle.ideal_wire.specs.Traces.{stage_at}
+use Rattle.ideal_wire.specs.WireStep.{place_bytes}
+
+-- a load: its map, and its bytes in order, by their physical addresses
+pub record Load : Type 0 where
+  pub map : ℕ
+  pub bytes : List ℕ
+
+-- what an operation loads, if it loads
+abbrev pub loaded_by : Op → LaneState → Option Load
+loaded_by (op.Load map place len flags items) l = Some (record { map = map; bytes = place_bytes l place len })
+loaded_by (op.Tag name parent limits) l = None
+loaded_by (op.TagDestroy tag) l = None
+loaded_by (op.Map name tag) l = None
+loaded_by (op.MapDestroy map) l = None
+loaded_by (op.Unload map) l = None
+loaded_by (op.Sync map ops) l = None
+loaded_by (op.SyncRange map off len ops) l = None
+loaded_by (op.CpuRead place len) l = None
+loaded_by (op.CpuWrite place bytes) l = None
+loaded_by (op.Await map) l = None
+
+-- the load at a place of the script, if there is one
+abbrev pub load_at : LaneState → ℕ → Option Load
+load_at l k = option_and_then (λ o. loaded_by o l) (slice_get l.script k)
+
+-- its bytes
+abbrev pub bytes_named : LaneState → ℕ → List ℕ
+bytes_named l k = unwrap_or (option_map (λ (x : Load). x.bytes) (load_at l k)) []
+
+-- the place in the script of the load for which a map waits that stands so
+abbrev pub waited_at : Stage → ℕ
+waited_at Idle = 0
+waited_at (Waiting place need) = place
+waited_at (Loaded bounced segments pages) = 0
+waited_at Returning = 0
+
+-- the segments are the bytes, in order, of the load at a place of the script, of which a map is loaded after the step,
+-- and obey the map's tag
+pub record AreLoaded (before after : LaneState) (m place : ℕ) (segments : List Segment) : Type 0 where
+  pub map : LaneMap
+  pub there : get before.maps m ≡ Some map
+  pub accepted : IsAccepted after m (limits_of before map) (bytes_named before place)
+      (chunks_for before map (contains_key before.mems m) (asked_at place before).entries)
+      (pages_of (stage_at after m)) segments
+
+-- so are those that an operation answers, where its map is not a memory's; one that does not load answers none
+abbrev pub AreAnswered : LaneState → LaneState → ℕ → Option Load → List Segment → Type 0
+AreAnswered before after place None segments = ⊥
+AreAnswered before after place (Some x) segments =
+    contains_key before.mems x.map ≡ false → AreLoaded before after x.map place segments
+
+-- so are those of what was done; neither an item nor the return of a page answers any
+abbrev pub AreOf : LaneState → LaneState → Did → List Segment → Type 0
+AreOf before after (did.Op place) segments = AreAnswered before after place (load_at before place) segments
+AreOf before after (did.Callback m) segments =
+    AreLoaded before after m.made_at (waited_at (stage_at before m.made_at)) segments
+AreOf before after (did.Release m page) segments = ⊥
+AreOf before after (did.Item place at) segments = ⊥
+
+-- so are those of a turn
+abbrev pub AnswersIn : LaneState → LaneState → Turn → Type 0
+AnswersIn before after (Stepped e) = IfSegments e.answer (AreOf before after e.did)
+AnswersIn before after Blocked = Unit {0}
+AnswersIn before after Ended = Unit {0}
+
+-- so are those of a step with the account's reply
+abbrev pub AnswersLoads : LaneState → Account → Asking Turned → Type 0
+AnswersLoads l a (Gives t) = AnswersIn l t.lane t.turn
+AnswersLoads l a (Asks c k) =
+    let t : Turned = k (account_step l.id c a).reply in AnswersIn l t.lane t.turn
