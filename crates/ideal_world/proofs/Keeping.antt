@@ -1,10 +1,11 @@
 -- A step of any actor leaves the world well formed, and its entry is the actor's.
 use Rattle.std.proofs.Common.{◌≡◌, ◌≢◌, ℕ, ◌+◌, ◌≤◌, ◌<◌, length, Option, Some, None, refl, sym, ap, ◌∙◌}
-use Rattle.std.proofs.Common.{subst, arith, slice_get, slice_set}
+use Rattle.std.proofs.Common.{subst, arith, slice_get, [], ◌∷◌, slice_set}
 use Rattle.busdma_base.specs.declared.bounce.hold.HubReply.{HubReply}
 use Rattle.busdma_base.specs.declared.bounce.hold.HubReply.TheVariants.{Nothing}
 use Rattle.busdma_base.specs.declared.journals.journal.Actor.{Actor}
 use Rattle.busdma_base.specs.declared.journals.journal.JournalEntry.{JournalEntry}
+use Rattle.busdma_base.specs.declared.journals.journal.Side.{Side}
 use Rattle.busdma_base.specs.declared.scenarios.scenario.Scenario.{Scenario}
 use Rattle.busdma_base.specs.Bounce.Account.{Account}
 use Rattle.busdma_base.specs.Bounce.AccountStep.{account_step}
@@ -19,11 +20,17 @@ use Rattle.ideal_lane.specs.View.{view_of}
 use Rattle.ideal_lane.proofs.Falling.{turn-falls}
 use Rattle.ideal_lane.proofs.Standings.{turn-stands}
 use Rattle.ideal_lane.proofs.Turning.{turn-allowed, turn-kept}
+use Rattle.ideal_wire.specs.Laid.{AreLaid, KeepsLaid}
+use Rattle.ideal_wire.specs.Machine.{IsInMachine}
+use Rattle.ideal_wire.specs.Served.{AreServed, KeepsServed}
+use Rattle.ideal_wire.proofs.LaidTurns.{turn-laid}
+use Rattle.ideal_wire.proofs.Machines.{turn-keeps}
+use Rattle.ideal_wire.proofs.ServedMaps.{served-on, turn-served}
 use Rattle.ideal_world.specs.WellFormed.{IsDriverOf, IsReached, IsWellFormed}
 use Rattle.ideal_world.specs.World.{WorldState, replied, step_of, step, entry_of, step_entry}
 use Rattle.ideal_world.proofs.Lanes.{within, length-slice_set, each_set, sum_set}
 use Rattle.ideal_lane.proofs.Own.{IsLater, IsOwn, IsOwnBy, actor_of, turn-own}
-use Rattle.ideal_world.proofs.Reached.{reached-on, reached-fits, others-agree}
+use Rattle.ideal_world.proofs.Reached.{entry, reached-on, reached-fits, reached-whole, others-agree}
 
 -- a driver has no more left, with what it counted of each zone
 abbrev SpendsNoMore : LaneState → LaneState → Type 0
@@ -45,22 +52,36 @@ module _ (s : Scenario) (w : WorldState) (well : IsWellFormed s w) where
     pub below : l.id < length s.drivers
     below = omega (arith, within w.lanes i l there, own.number, well.count)
 
-    -- the driver is in a later state, and all agree with this account
-    changed : (a : Account) (m : LaneState) → IsLater l m → SpendsNoMore l m → Stands m → AgreesWith m a →
-        ((j : ℕ) (n : LaneState) → j ≢ i → slice_get w.lanes j ≡ Some n → AgreesWith n a) → IsReached s a →
+    -- the driver's state after its step, with the account after it
+    record IsAfter (a : Account) (m : LaneState) : Type 0 where
+      later : IsLater l m
+      spends : SpendsNoMore l m
+      stands : Stands m
+      agrees : AgreesWith m a
+      machine : IsInMachine m
+      laid : AreLaid m
+      served : AreServed m a
+
+    -- the driver is after its step, and the others agree with the account too, whose zones serve them
+    changed : (a : Account) (m : LaneState) → IsAfter a m →
+        ((j : ℕ) (n : LaneState) → j ≢ i → slice_get w.lanes j ≡ Some n → AgreesWith n a × AreServed n a) →
+        IsReached s a →
         IsWellFormed s (record { lanes = slice_set w.lanes i m; account = a })
-    changed a m later spends stands agrees others reached = record {
+    changed a m after others reached = record {
       valid = well.valid;
       count = length-slice_set w.lanes i m ∙ well.count;
       each = each_set (IsDriverOf s a) w.lanes i m
           (record {
             driver = own.driver;
             there = own.there;
-            number = later.same_id ∙ own.number;
-            script = later.same_script ∙ own.script;
-            pages = later.same_pages ∙ own.pages;
-            stands = stands;
-            agrees = agrees;
+            number = after.later.same_id ∙ own.number;
+            script = after.later.same_script ∙ own.script;
+            pages = after.later.same_pages ∙ own.pages;
+            stands = after.stands;
+            agrees = after.agrees;
+            machine = after.machine;
+            laid = after.laid;
+            served = after.served;
           })
           (λ j n off e. let d = well.each j n e in record {
             driver = d.driver;
@@ -69,14 +90,17 @@ module _ (s : Scenario) (w : WorldState) (well : IsWellFormed s w) where
             script = d.script;
             pages = d.pages;
             stands = d.stands;
-            agrees = others j n off e;
+            agrees = (others j n off e).0;
+            machine = d.machine;
+            laid = d.laid;
+            served = (others j n off e).1;
           });
       reached = reached;
       few = λ z.
           omega (
             arith,
             well.few z,
-            spends z,
+            after.spends z,
             sum_set left w.lanes i l m there,
             sum_set (λ (k : LaneState). k.shares z) w.lanes i l m there,
           );
@@ -85,27 +109,57 @@ module _ (s : Scenario) (w : WorldState) (well : IsWellFormed s w) where
     apart : (j : ℕ) (n : LaneState) → j ≢ i → slice_get w.lanes j ≡ Some n → l.id ≢ n.id
     apart j n off e h = off (omega (arith, h, own.number, (well.each j n e).number))
 
-    -- by a step that the account allows, and that keeps the driver
-    kept : (x : Asking Turned) → ((r : HubReply) → IsLater l (by_reply x r).lane) → FallsOrStays l w.account x →
-        KeepsStanding x → IsAllowed l.id w.account x → KeepsAgreement l.id w.account x →
-        IsWellFormed s (replied w i l x).world
-    kept (Gives t) later falls stands may agrees =
-        changed w.account t.lane (later Nothing) (spent l t.lane t.turn (later Nothing) falls) stands agrees
-        (λ j n off e. (well.each j n e).agrees) well.reached
-    kept (Asks c k) later falls stands may agrees =
-        let r : HubReply = (account_step l.id c w.account).reply in
-        changed (account_step l.id c w.account).account (k r).lane (later r)
-        (spent l (k r).lane (k r).turn (later r) falls) (stands r) agrees
-        (λ j n off e. others-agree (view_of n) l.id c w.account fits.well (apart j n off e) may
-        (well.each j n e).agrees)
-        (reached-on s l.id c w.account below may well.reached)
+    -- what a step of the driver keeps, with the account's reply
+    record IsStep (x : Asking Turned) : Type 0 where
+      later : (r : HubReply) → IsLater l (by_reply x r).lane
+      falls : FallsOrStays l w.account x
+      stands : KeepsStanding x
+      may : IsAllowed l.id w.account x
+      agrees : KeepsAgreement l.id w.account x
+      machine : (r : HubReply) → IsInMachine (by_reply x r).lane
+      laid : KeepsLaid l.id w.account x
+      served : KeepsServed l.id w.account x
 
-    pub driver-keeps : (side : _) → IsWellFormed s (replied w i l (lane_step l side)).world
-    driver-keeps side =
-        kept (lane_step l side) (λ r. (turn-own l side r).later)
-        (turn-falls l side w.account own.stands fits own.agrees) (turn-stands l side own.stands)
-        (turn-allowed l side w.account own.stands own.agrees)
-        (turn-kept l side w.account own.stands fits own.agrees)
+    kept : (x : Asking Turned) → IsStep x → IsWellFormed s (replied w i l x).world
+    kept (Gives t) step =
+        changed w.account t.lane (record {
+          later = step.later Nothing;
+          spends = spent l t.lane t.turn (step.later Nothing) step.falls;
+          stands = step.stands;
+          agrees = step.agrees;
+          machine = step.machine Nothing;
+          laid = step.laid;
+          served = step.served;
+        }) (λ j n off e. let d = well.each j n e in (d.agrees, d.served)) well.reached
+    kept (Asks c k) step =
+        let r : HubReply = (account_step l.id c w.account).reply in
+        changed (account_step l.id c w.account).account (k r).lane (record {
+          later = step.later r;
+          spends = spent l (k r).lane (k r).turn (step.later r) step.falls;
+          stands = step.stands r;
+          agrees = step.agrees;
+          machine = step.machine r;
+          laid = step.laid;
+          served = step.served;
+        }) (λ j n off e. let d = well.each j n e in (
+          others-agree (view_of n) l.id c w.account fits.well (apart j n off e) step.may d.agrees,
+          served-on n d.stands w.account d.machine d.served (entry l.id c w.account ∷ []),
+        ))
+        (reached-on s l.id c w.account below step.may well.reached)
+
+    pub driver-keeps : (side : Side) → IsWellFormed s (replied w i l (lane_step l side)).world
+    driver-keeps side = kept (lane_step l side) (record {
+      later = λ r. (turn-own l side r).later;
+      falls = turn-falls l side w.account own.stands fits own.agrees;
+      stands = turn-stands l side own.stands;
+      may = turn-allowed l side w.account own.stands own.agrees;
+      agrees = turn-kept l side w.account own.stands fits own.agrees;
+      machine = turn-keeps l own.machine side;
+      laid =
+          turn-laid l w.account own.stands own.agrees fits (reached-whole s w.account well.valid well.reached)
+          own.machine own.laid side;
+      served = turn-served l own.stands w.account own.machine own.served side;
+    })
 
   pub step-keeps : (actor : Actor) → IsWellFormed s (step w actor).world
   step-keeps actor = by (slice_get w.lanes actor.lane.0) refl
@@ -115,7 +169,7 @@ module _ (s : Scenario) (w : WorldState) (well : IsWellFormed s w) where
       by (Some l) e = driver-keeps actor.lane.0 l e actor.side
 
   -- the account allows the call of a step
-  pub step-allowed : (i : ℕ) (l : LaneState) (side : _) → slice_get w.lanes i ≡ Some l →
+  pub step-allowed : (i : ℕ) (l : LaneState) (side : Side) → slice_get w.lanes i ≡ Some l →
       IsAllowed l.id w.account (lane_step l side)
   step-allowed i l side e =
       turn-allowed l side w.account (well.each i l e).stands (well.each i l e).agrees

@@ -83,7 +83,8 @@ set-here (x ∷ ls) zero m lt = refl
 set-here (x ∷ ls) (suc k) m lt = set-here ls k m (omega (arith, lt))
 
 -- and the others stay
-pub set-other : (ls : List LaneState) (k j : ℕ) (m : LaneState) → j ≢ k → slice_get (slice_set ls k m) j ≡ slice_get ls j
+pub set-other : (ls : List LaneState) (k j : ℕ) (m : LaneState) → j ≢ k →
+    slice_get (slice_set ls k m) j ≡ slice_get ls j
 set-other [] k j m off = refl
 set-other (x ∷ ls) zero zero m off = absurd (off refl)
 set-other (x ∷ ls) zero (suc j) m off = refl

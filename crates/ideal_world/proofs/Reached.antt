@@ -28,7 +28,7 @@ use Rattle.lane_agreement.proofs.Whole.{fit-reached}
 use Rattle.ideal_world.specs.WellFormed.{IsReached}
 
 -- the entry of a driver's call
-abbrev entry : ℕ → HubCall → Account → HoldEntry
+abbrev pub entry : ℕ → HubCall → Account → HoldEntry
 entry lane c a = record { lane = record { 0 = lane }; call = c; reply = (account_step lane c a).reply }
 
 -- a callback that is not found changes nothing
@@ -121,4 +121,5 @@ reached-whole s a valid r =
 pub reached-below : (s : Scenario) (a : Account) → IsValid s → IsReached s a → LiesBelowMaxmem a
 reached-below s a valid r =
     subst LiesBelowMaxmem r.leads
-    (below-history (opening s) r.history (well-opening (opening s) (opening-may_begin s valid)) r.sound (below-opening s))
+    (below-history (opening s) r.history (well-opening (opening s) (opening-may_begin s valid)) r.sound
+    (below-opening s))

@@ -23,7 +23,8 @@ module _ (w : WorldState) (only : OnlyAwaits w) where
     awaited : (a : IsAwaiting w.account l) → waits (op.Await a.map) l ≡ true
     awaited a = rw (a.there, a.stage) refl
 
-    next : EndsOrAwaits w.account l → entry_of (replied w i l (next_operation (slice_get l.script l.place) l)).turn ≡ None
+    next : EndsOrAwaits w.account l →
+        entry_of (replied w i l (next_operation (slice_get l.script l.place) l)).turn ≡ None
     next (HasEnded e) =
         subst (λ o. entry_of (replied w i l (next_operation o l)).turn ≡ None)
         (sym (slice_get_past l.script l.place (leb-true _ _ e))) refl

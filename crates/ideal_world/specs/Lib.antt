@@ -1,3 +1,4 @@
+pub mod Answered
 pub mod Callbacks
 pub mod Ends
 pub mod Left

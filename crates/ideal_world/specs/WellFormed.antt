@@ -10,11 +10,14 @@ use Rattle.busdma_base.specs.Scenarios.Valid.{IsValid}
 use Rattle.ideal_lane.specs.Agreement.{AgreesWith}
 use Rattle.ideal_lane.specs.Standing.{Stands}
 use Rattle.ideal_lane.specs.State.{LaneState}
+use Rattle.ideal_wire.specs.Laid.{AreLaid}
+use Rattle.ideal_wire.specs.Machine.{IsInMachine}
+use Rattle.ideal_wire.specs.Served.{AreServed}
 use Rattle.ideal_world.specs.Left.{left_of}
 use Rattle.ideal_world.specs.World.{WorldState, bounced, opening_world}
 
--- the state of the scenario's driver of this number: it has its script and its pages, stands, and agrees with the
--- account
+-- the state of the scenario's driver of this number: it has its script and its pages, stands, agrees with the account,
+-- lies in its machine, has its loads laid, and has maps of zones that serve their tags
 pub record IsDriverOf (s : Scenario) (a : Account) (i : ℕ) (l : LaneState) : Type 0 where
   pub driver : Driver
   pub there : slice_get s.drivers i ≡ Some driver
@@ -23,6 +26,9 @@ pub record IsDriverOf (s : Scenario) (a : Account) (i : ℕ) (l : LaneState) : T
   pub pages : l.pages ≡ driver.pages
   pub stands : Stands l
   pub agrees : AgreesWith l a
+  pub machine : IsInMachine l
+  pub laid : AreLaid l
+  pub served : AreServed l a
 
 -- a sound history of calls of the scenario's drivers leads from its opening to this account
 pub record IsReached (s : Scenario) (a : Account) : Type 0 where

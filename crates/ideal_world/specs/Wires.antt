@@ -5,8 +5,6 @@ use Rattle.busdma_base.specs.Machine.PageRuns.{is_own}
 use Rattle.busdma_base.specs.Machine.Wire.{Wire}
 use Rattle.ideal_lane.specs.State.{LaneState}
 use Rattle.ideal_wire.specs.Centre.{IsFaithful}
-use Rattle.ideal_wire.specs.Laid.{AreLaid}
-use Rattle.ideal_wire.specs.Machine.{IsInMachine}
 use Rattle.ideal_wire.specs.WireStep.{Follows, lane_step}
 use Rattle.ideal_world.specs.World.{WorldState, step}
 
@@ -21,14 +19,6 @@ EachDriver P w = (i : ℕ) (l : LaneState) → slice_get w.lanes i ≡ Some l �
 -- the pages of each driver hold zeros
 abbrev pub AreZero : Wires → WorldState → Type 0
 AreZero wires w = EachDriver (λ i l. (a : ℕ) → is_own l.pages a ≡ true → wires i a ≡ 0) w
-
--- the loads of each driver lie as they stand
-abbrev pub AllLaid : WorldState → Type 0
-AllLaid w = EachDriver (λ i l. AreLaid l) w
-
--- each driver lies in its machine
-abbrev pub AllInMachine : WorldState → Type 0
-AllInMachine w = EachDriver (λ i l. IsInMachine l) w
 
 -- each driver's wire is faithful to its ideal memory
 abbrev pub AllFaithful : Wires → WorldState → Type 0

@@ -17,13 +17,14 @@ ghost use Rattle.ideal_lane.specs.Agreement.{IsAllowed};
 ghost use Rattle.ideal_lane.specs.State.{LaneState};
 ghost use Rattle.ideal_lane.specs.Turns.{lane_step};
 ghost use Rattle.ideal_wire.specs.WireStep.{IsRead, load_buses, place_bytes};
+ghost use Rattle.ideal_world.specs.Answered.{AnswerLoads, AnswersLoad};
 ghost use Rattle.ideal_world.specs.Callbacks.{times_called};
 ghost use Rattle.ideal_world.specs.Ends.{IsAtRest};
 ghost use Rattle.ideal_world.specs.Left.{left_of};
 ghost use Rattle.ideal_world.specs.Legal.{IsLegal, IsReplayed, Leads};
 ghost use Rattle.ideal_world.specs.Waiting.{OnlyAwaits};
 ghost use Rattle.ideal_world.specs.WellFormed.{IsWellFormed};
-ghost use Rattle.ideal_world.specs.Wires.{AllFaithful, AllInMachine, AllLaid, AreZero, Wires, WiresFollow};
+ghost use Rattle.ideal_world.specs.Wires.{AllFaithful, AreZero, Wires, WiresFollow};
 ghost use Rattle.ideal_world.specs.World.{WorldState, bounced, opening_world, step, step_entry};
 
 /// The world in which a valid scenario opens is well formed.
@@ -103,36 +104,37 @@ pub fn each_load_is_called_once()
         Leads (opening_world s) entries end → times_called i place (opening_world s) entries ≤ 1 }
 {}
 
+/// The segments that a step answers in a well-formed world are those of the load that it ends: they
+/// are the load's bytes, in order, and obey the map's tag. So it is of each entry of those that lead
+/// on from the opening world of a valid scenario, as those of a legal journal do.
+pub fn journals_answer_loads()
+    ensures step { (s : Scenario) (w : WorldState) (e : JournalEntry) → IsWellFormed s w →
+        step_entry w e.actor ≡ Some e → AnswersLoad w e }
+    ensures journal { (s : Scenario) (entries : List JournalEntry) (end : WorldState) → IsValid s →
+        Leads (opening_world s) entries end → AnswerLoads (opening_world s) entries }
+{}
+
 /// Where a valid scenario opens, and the pages of each driver hold zeros, each driver's wire is
-/// faithful, its loads are laid, and it lies in its machine.
+/// faithful.
 pub fn wires_open_faithful()
-    ensures faithful { (s : Scenario) (wires : Wires) → IsValid s → AreZero wires (opening_world s) →
+    ensures { (s : Scenario) (wires : Wires) → IsValid s → AreZero wires (opening_world s) →
         AllFaithful wires (opening_world s) }
-    ensures laid { (s : Scenario) → IsValid s → AllLaid (opening_world s) }
-    ensures in_machine { (s : Scenario) → IsValid s → AllInMachine (opening_world s) }
 {}
 
-/// Where the loads of each driver are laid, the turn of any actor leaves each driver's wire faithful,
-/// whatever bytes the pages bring that come to the actor's driver.
+/// The turn of any actor leaves each driver's wire faithful, whatever bytes the pages bring that come
+/// to the actor's driver.
 pub fn wires_stay_faithful()
-    ensures { (s : Scenario) (w : WorldState) (actor : Actor) (before after : Wires) → IsWellFormed s w → AllLaid w →
+    ensures { (s : Scenario) (w : WorldState) (actor : Actor) (before after : Wires) → IsWellFormed s w →
         AllFaithful before w → WiresFollow w actor before after → AllFaithful after (step w actor).world }
-{}
-
-/// The turn of any actor leaves each driver in its machine.
-pub fn drivers_stay_in_machine()
-    ensures { (w : WorldState) (actor : Actor) → AllInMachine w → AllInMachine (step w actor).world }
 {}
 
 /// What is really read is what the ideal memory has: by each driver at the bytes that it names, and
 /// by its device at the bus addresses of its load.
 pub fn drivers_read_faithfully()
     ensures cpu { (s : Scenario) (w : WorldState) (wires : Wires) (i : ℕ) (l : LaneState) (place : Place) (len : ℕ) →
-        IsWellFormed s w → AllLaid w → AllFaithful wires w → slice_get w.lanes i ≡ Some l →
+        IsWellFormed s w → AllFaithful wires w → slice_get w.lanes i ≡ Some l →
         IsRead (cpu_read place len l) (place_bytes l place len) (wires i) }
     ensures dev { (s : Scenario) (w : WorldState) (wires : Wires) (i : ℕ) (l : LaneState) (m off len : ℕ) →
-        IsWellFormed s w → AllLaid w → AllFaithful wires w → slice_get w.lanes i ≡ Some l →
+        IsWellFormed s w → AllFaithful wires w → slice_get w.lanes i ≡ Some l →
         IsRead (dev_read m off len l) (load_buses l m off len) (wires i) }
-{
-    ideal_wire::reads_are_faithful();
-}
+{}

@@ -1,13 +1,15 @@
+use Rattle.ideal_wire.proofs.Frames.{agreeing-apart}
+use Rattle.ideal_wire.proofs.Wiring.{cpu_read-reads, dev_read-reads}
 use Rattle.ideal_world.proofs.laws.drivers_read_faithfully.Goals as goal
 
 pub returns-clause-cpu : goal.returns-clause-cpu
-returns-clause-cpu c s w wires i l place len well laid faithful there =
+returns-clause-cpu c = λ s w wires i l place len well faithful there.
     let d = well.each i l there in
-    c.reads_are_faithful.ensures.cpu l w.account (wires i) place len d.stands d.agrees (laid i l there)
-    (faithful i l there)
+    cpu_read-reads l (wires i) (agreeing-apart l w.account d.agrees d.stands d.laid) d.laid (faithful i l there)
+    place len
 
 pub returns-clause-dev : goal.returns-clause-dev
-returns-clause-dev c s w wires i l m off len well laid faithful there =
+returns-clause-dev c = λ s w wires i l m off len well faithful there.
     let d = well.each i l there in
-    c.reads_are_faithful.ensures.dev l w.account (wires i) m off len d.stands d.agrees (laid i l there)
-    (faithful i l there)
+    dev_read-reads l (wires i) (agreeing-apart l w.account d.agrees d.stands d.laid) d.laid (faithful i l there)
+    m off len
