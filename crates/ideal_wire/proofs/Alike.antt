@@ -107,7 +107,8 @@ module _ (l l' : LaneState) (pages : l'.pages ≡ l.pages) where
   -- what a load at a place of the script asks
   pub asked-alike : (k : ℕ) → l'.script ≡ l.script → asked_at k (pages_alone l') ≡ asked_at k (pages_alone l)
   asked-alike k script =
-      ap (λ s. unwrap_or (option_and_then (λ p. asked_by p (pages_alone l')) (slice_get s k)) (no_load (pages_alone l')))
+      ap (λ s. unwrap_or (option_and_then (λ p. asked_by p (pages_alone l')) (slice_get s k))
+      (no_load (pages_alone l')))
       script ∙ asked_in-alike (slice_get l.script k)
 
 module _ (l l' : LaneState) (kept : KeepsScript l l') where
@@ -155,7 +156,8 @@ module _ (l l' : LaneState) (kept : KeepsScript l l') where
     pub alike-lies : LiesIn l n (stage_at l n) → LiesIn l' n (stage_at l' n)
     alike-lies h = subst (LiesIn l' n) (sym alike.stage) (by (stage_at l n) alike.unlent h)
       where
-        by : (s : Stage) → (is_loaded s ≡ false → loan_of l'.loans n ≡ loan_of l.loans n) → LiesIn l n s → LiesIn l' n s
+        by : (s : Stage) → (is_loaded s ≡ false → loan_of l'.loans n ≡ loan_of l.loans n) → LiesIn l n s →
+            LiesIn l' n s
         by Idle same h = same refl ∙ h
         by (Waiting load_at need) same h = awaited-alike load_at need (same refl) h
         by (Loaded cs ss ps) same h = loaded-alike cs ss ps h
@@ -193,4 +195,5 @@ module _ (l l' : LaneState) (kept : KeepsRest l l') where
       ]
 
   pub none-changed : AreLaid l → ((n : ℕ) → IsAlike l l' n) → AreLaid l'
-  none-changed laid all = all-laid laid (λ n. alike-lies l l' kept-script n (λ i. get (kept.mems i) n) (all n) (laid.each n))
+  none-changed laid all =
+      all-laid laid (λ n. alike-lies l l' kept-script n (λ i. get (kept.mems i) n) (all n) (laid.each n))

@@ -32,7 +32,8 @@ use Rattle.lane_agreement.specs.View as view
 use Rattle.lane_agreement.proofs.Places.{head-waits, waits-tells}
 use Rattle.segment_build.specs.Obeying.{IsReachable}
 use Rattle.ideal_lane.specs.Agreement.{AgreesWith}
-use Rattle.ideal_lane.specs.Loads.{Asked, asked, chunks_for, finished, is_foreign_to, limits_of, load_judged, load_refusal}
+use Rattle.ideal_lane.specs.Loads.{Asked, asked, chunks_for, finished, is_foreign_to, limits_of, load_judged}
+use Rattle.ideal_lane.specs.Loads.{load_refusal}
 use Rattle.ideal_lane.specs.Loads.{unpaged}
 use Rattle.ideal_lane.specs.Outcomes.{Outcome}
 use Rattle.ideal_lane.specs.Places.{bytes_at, is_memory_byte, physical}
@@ -146,7 +147,8 @@ module _ (l : LaneState) (laid : AreLaid l) (machine : IsInMachine l) (stands : 
         there = there;
         accepted =
             subst (λ bs. IsAccepted (after with-load) m (limits_of l o) bs
-            (chunks_for l o (contains_key l.mems m) (asked_at at l).entries) (pages_of (stage_at (after with-load) m)) ss)
+            (chunks_for l o (contains_key l.mems m) (asked_at at l).entries)
+            (pages_of (stage_at (after with-load) m)) ss)
             (sym bytes)
             (subst (λ cs. IsAccepted (after with-load) m (limits_of l o) (bytes_at l (span_addresses spans)) cs
             (pages_of (stage_at (after with-load) m)) ss) chunks
@@ -191,7 +193,8 @@ module _ (l : LaneState) (a : Account) (agrees : AgreesWith l a) (low : PagesLie
           (omega (arith, head-waits w ws a is, (agrees.names w.map own).waits w.zone.0 w.need)) in
           let map-is : w.map ≡ m = cc in
           let named : (view_of l).map_at m.made_at ≡ Some (record { zone = w.zone.0; stage = view.Waiting w.need }) =
-          subst (λ (n : MapId). (view_of l).map_at n.made_at ≡ Some (record { zone = w.zone.0; stage = view.Waiting w.need }))
+          subst (λ (n : MapId). (view_of l).map_at n.made_at ≡ Some
+          (record { zone = w.zone.0; stage = view.Waiting w.need }))
           map-is here in
           called-reachable t a l.id w ws m pages low each (serves w.zone.0 w.need named) e
 

@@ -1,6 +1,7 @@
 -- The segments that any turn answers are a load's bytes, in order, and obey its tag.
 use Rattle.std.proofs.Common.{◌≡◌, ℕ, ◌+◌, ◌==◌, ◌&&◌, Bool, true, false, if◌then◌else◌, List, [], ◌∷◌}
-use Rattle.std.proofs.Common.{length, Option, Some, None, is_some, slice_get, refl, ap, sym, ◌∙◌, subst, nat_lt, unwrap_or}
+use Rattle.std.proofs.Common.{length, Option, Some, None, is_some, slice_get, refl, ap, sym, ◌∙◌, subst, nat_lt}
+use Rattle.std.proofs.Common.{unwrap_or}
 use Rattle.std.proofs.Common.{append-nil}
 use Rattle.std.proofs.lemmas.Bool.{eqb-true, false≢true}
 use Rattle.std.specs.FinMap.{get, contains_key}
@@ -57,7 +58,8 @@ use Rattle.ideal_lane.specs.Accesses.{cpu_read, cpu_write, dev_read, dev_write, 
 use Rattle.ideal_lane.specs.Agreement.{AgreesWith}
 use Rattle.ideal_lane.specs.Asking.{Asking, Gives, Asks, by_reply, goes_on}
 use Rattle.ideal_lane.specs.IdealMemory.{is_known}
-use Rattle.ideal_lane.specs.Loads.{Asked, asked, chunks_for, finished, granted, limits_of, load, load_chunks, load_judged}
+use Rattle.ideal_lane.specs.Loads.{Asked, asked, chunks_for, finished, granted, limits_of, load, load_chunks}
+use Rattle.ideal_lane.specs.Loads.{load_judged}
 use Rattle.ideal_lane.specs.Loads.{zone_of}
 use Rattle.ideal_lane.specs.Maps.{created, map, end_map, map_destroy, await}
 use Rattle.ideal_lane.specs.Outcomes.{Outcome, gives, is_idle, load_length, refused, unless_past}
@@ -66,7 +68,8 @@ use Rattle.ideal_lane.specs.Standing.{Stands}
 use Rattle.ideal_lane.specs.State.{LaneState, LaneTag, LaneMap, named}
 use Rattle.ideal_lane.specs.Syncs.{sync_part, sync, sync_range}
 use Rattle.ideal_lane.specs.Tags.{attached, tag_or_invalid, tag, tag_destroy, has_maps}
-use Rattle.ideal_lane.specs.Turns.{Turned, operation, transfer, waits, asked_at, asked_by, called, called_in, called_back}
+use Rattle.ideal_lane.specs.Turns.{Turned, operation, transfer, waits, asked_at, asked_by, called, called_in}
+use Rattle.ideal_lane.specs.Turns.{called_back}
 use Rattle.ideal_lane.specs.Turns.{lane_step, no_load}
 use Rattle.ideal_lane.specs.Turns as turns
 use Rattle.ideal_lane.specs.Unloads.{unload}
@@ -74,7 +77,8 @@ use Rattle.ideal_lane.specs.View.{view_of}
 use Rattle.ideal_lane.proofs.Direct.{need-direct}
 use Rattle.ideal_lane.proofs.Turning.{WaitsAt, waits-at}
 use Rattle.ideal_wire.specs.Accepted.{HasPages, IfSegments}
-use Rattle.ideal_wire.specs.Answered.{Load, AreAnswered, AreLoaded, AreOf, AnswersIn, AnswersLoads, bytes_named, load_at}
+use Rattle.ideal_wire.specs.Answered.{Load, AreAnswered, AreLoaded, AreOf, AnswersIn, AnswersLoads, bytes_named}
+use Rattle.ideal_wire.specs.Answered.{load_at}
 use Rattle.ideal_wire.specs.Answered.{loaded_by, waited_at}
 use Rattle.ideal_wire.specs.Laid.{AreLaid}
 use Rattle.ideal_wire.specs.Machine.{IsInMachine}
@@ -282,14 +286,18 @@ module _ (l : LaneState) (a : Account) (stands : Stands l) (agrees : AgreesWith 
           (λ k. refl) (λ k. refl) bytes-here (ap (λ (y : Asked). y.entries) asked-here) has))
 
       by-reply : (z : ℕ) → o.zone ≡ Some z → (r : HubReply) →
-          (account_step l.id (call.Grab (named l m) (record { 0 = zone_of o }) (need_of chunks) x.nowait) a).reply ≡ r →
+          (account_step l.id (call.Grab (named l m) (record {
+            0 =
+                zone_of o;
+          }) (need_of chunks) x.nowait) a).reply ≡ r →
           Answers (granted m o x chunks l r)
       by-reply z zone (reply.Granted pages) e =
           ended-answers (addresses pages) (record {
             count = as-many pages ∙ granted-length (named l m) (zone_of o) (need_of chunks) x.nowait a pages e;
             reachable =
                 subst (AllByRecursion (IsReachable (limits_of l o))) (sym (paged-again pages))
-                (granted-reachable (limits_of l o) a low frames (zone_of o) serves (named l m) (need_of chunks) x.nowait
+                (granted-reachable (limits_of l o) a low frames (zone_of o) serves (named l m) (need_of chunks)
+                x.nowait
                 pages e);
           })
         where
@@ -353,73 +361,75 @@ module _ (l : LaneState) (a : Account) (stands : Stands l) (agrees : AgreesWith 
   operation-answers (op.Await m) e = quiet-keeps (operation (op.Await m) l) (await-quiet l m)
 
   -- ---- the callback of a load that waited
-  module _ (m : MapId) (pages : List Pa) (e : (account_step l.id call.TakeCallback a).reply ≡ reply.Called m pages) where
-    abbrev k : ℕ
-    k = m.made_at
+  module _ (m : MapId) (pages : List Pa) (e : (account_step l.id call.TakeCallback a).reply ≡ reply.Called m pages)
+    where
+      abbrev k : ℕ
+      k = m.made_at
 
-    at-map : (z need : ℕ) → length pages ≡ need → WaitsAt l k z need →
-        IfSegments (called k (get l.maps k) (addresses pages) l).answer
-        (AreLoaded l (called k (get l.maps k) (addresses pages) l).lane k (waited_at (stage_at l k)))
-    at-map z need count w =
-        subst (λ y. IfSegments (called k y (addresses pages) l).answer
-        (AreLoaded l (called k y (addresses pages) l).lane k (waited_at (stage_at l k)))) (sym w.found)
-        (subst (λ s. IfSegments (called_in k w.map s (addresses pages) l).answer
-        (AreLoaded l (called_in k w.map s (addresses pages) l).lane k (waited_at (stage_at l k)))) (sym w.stage)
-        (subst (λ p. IfSegments ends.answer (AreLoaded l ends.lane k p)) (sym place)
-        (subst Ends (sym (n.is l refl)) ended)))
-      where
-        n : Names w.load_at l
-        n = waited l stands laid k z need w
+      at-map : (z need : ℕ) → length pages ≡ need → WaitsAt l k z need →
+          IfSegments (called k (get l.maps k) (addresses pages) l).answer
+          (AreLoaded l (called k (get l.maps k) (addresses pages) l).lane k (waited_at (stage_at l k)))
+      at-map z need count w =
+          subst (λ y. IfSegments (called k y (addresses pages) l).answer
+          (AreLoaded l (called k y (addresses pages) l).lane k (waited_at (stage_at l k)))) (sym w.found)
+          (subst (λ s. IfSegments (called_in k w.map s (addresses pages) l).answer
+          (AreLoaded l (called_in k w.map s (addresses pages) l).lane k (waited_at (stage_at l k)))) (sym w.stage)
+          (subst (λ p. IfSegments ends.answer (AreLoaded l ends.lane k p)) (sym place)
+          (subst Ends (sym (n.is l refl)) ended)))
+        where
+          n : Names w.load_at l
+          n = waited l stands laid k z need w
 
-        x : Asked
-        x = waited-asked l stands laid k z need w
+          x : Asked
+          x = waited-asked l stands laid k z need w
 
-        ending : Asked → Outcome
-        ending y = finished k w.map w.load_at y (chunks_for l w.map (contains_key l.mems k) y.entries)
-            (addresses pages) l
+          ending : Asked → Outcome
+          ending y = finished k w.map w.load_at y (chunks_for l w.map (contains_key l.mems k) y.entries)
+              (addresses pages) l
 
-        ends : Outcome
-        ends = ending (asked_at w.load_at l)
+          ends : Outcome
+          ends = ending (asked_at w.load_at l)
 
-        place : waited_at (stage_at l k) ≡ w.load_at
-        place = ap waited_at (ap stage_in w.found ∙ w.stage)
+          place : waited_at (stage_at l k) ≡ w.load_at
+          place = ap waited_at (ap stage_in w.found ∙ w.stage)
 
-        Ends : Asked → Type 0
-        Ends y = IfSegments (ending y).answer (AreLoaded l (ending y).lane k w.load_at)
+          Ends : Asked → Type 0
+          Ends y = IfSegments (ending y).answer (AreLoaded l (ending y).lane k w.load_at)
 
-        none : get l.mems k ≡ None
-        none = waited-direct l stands laid k z need w
+          none : get l.mems k ≡ None
+          none = waited-direct l stands laid k z need w
 
-        serves : (y j : ℕ) → (view_of l).map_at k ≡ Some (record { zone = y; stage = view.Waiting j }) →
-            serves_tag (limits_of l w.map) (zone_at a y) ≡ true
-        serves y j is =
-            let v = waits-at l k y j is in
-            let same : w.map ≡ v.map = found_one (get l.maps k) w.map v.map w.found v.found in
-            served k y w.map w.found (ap (λ (q : LaneMap). q.zone) same ∙ v.zone)
+          serves : (y j : ℕ) → (view_of l).map_at k ≡ Some (record { zone = y; stage = view.Waiting j }) →
+              serves_tag (limits_of l w.map) (zone_at a y) ≡ true
+          serves y j is =
+              let v = waits-at l k y j is in
+              let same : w.map ≡ v.map = found_one (get l.maps k) w.map v.map w.found v.found in
+              served k y w.map w.found (ap (λ (q : LaneMap). q.zone) same ∙ v.zone)
 
-        has : HasPages (limits_of l w.map) (chunks_for l w.map false x.entries) (addresses pages)
-        has = record {
-          count = as-many pages ∙ count ∙ waited-need l stands laid k z need w;
-          reachable =
-              subst (AllByRecursion (IsReachable (limits_of l w.map))) (sym (paged-again pages))
-              (callback-reachable l a agrees low frames (limits_of l w.map) m pages serves e);
-        }
+          has : HasPages (limits_of l w.map) (chunks_for l w.map false x.entries) (addresses pages)
+          has = record {
+            count = as-many pages ∙ count ∙ waited-need l stands laid k z need w;
+            reachable =
+                subst (AllByRecursion (IsReachable (limits_of l w.map))) (sym (paged-again pages))
+                (callback-reachable l a agrees low frames (limits_of l w.map) m pages serves e);
+          }
 
-        ended : Ends x
-        ended =
-            subst (λ b. IfSegments (finished k w.map w.load_at x (chunks_for l w.map b x.entries) (addresses pages) l).answer
-            (AreLoaded l (finished k w.map w.load_at x (chunks_for l w.map b x.entries) (addresses pages) l).lane k
-            w.load_at)) (sym (ap is_some none))
-            (ends-answered l laid machine stands k w.map w.found (ap is_some none) n.spans w.load_at n.now n.items
-            (own-fine l laid machine k (span_addresses n.spans) none (waited-own l stands laid k z need w))
-            (addresses pages) (λ s. s) (λ s. refl) (λ s. refl) n.bytes
-            (ap (λ (y : Asked). y.entries) (n.is l refl)) has)
+          ended : Ends x
+          ended =
+              subst (λ b. IfSegments (finished k w.map w.load_at x (chunks_for l w.map b x.entries) (addresses pages)
+              l).answer
+              (AreLoaded l (finished k w.map w.load_at x (chunks_for l w.map b x.entries) (addresses pages) l).lane k
+              w.load_at)) (sym (ap is_some none))
+              (ends-answered l laid machine stands k w.map w.found (ap is_some none) n.spans w.load_at n.now n.items
+              (own-fine l laid machine k (span_addresses n.spans) none (waited-own l stands laid k z need w))
+              (addresses pages) (λ s. s) (λ s. refl) (λ s. refl) n.bytes
+              (ap (λ (y : Asked). y.entries) (n.is l refl)) has)
 
-    called-answers : IfSegments (called k (get l.maps k) (addresses pages) l).answer
-        (AreLoaded l (called k (get l.maps k) (addresses pages) l).lane k (waited_at (stage_at l k)))
-    called-answers =
-        let c = called-length (view_of l) a.ready a m pages fit.well agrees refl e in
-        at-map c.2 c.0 c.4 (waits-at l k c.2 c.0 c.3)
+      called-answers : IfSegments (called k (get l.maps k) (addresses pages) l).answer
+          (AreLoaded l (called k (get l.maps k) (addresses pages) l).lane k (waited_at (stage_at l k)))
+      called-answers =
+          let c = called-length (view_of l) a.ready a m pages fit.well agrees refl e in
+          at-map c.2 c.0 c.4 (waits-at l k c.2 c.0 c.3)
 
   -- ---- the turn
   then-answers : (o : Asking Outcome) → Keeps o → AnswersLoads l a (goes_on (turns.advanced l.place) o)

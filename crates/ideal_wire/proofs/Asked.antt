@@ -57,7 +57,8 @@ pub all-map : {X Y : Type 0} (f : X → Y) (P : Y → Type 0) (xs : List X) → 
 all-map f P [] h = tt
 all-map f P (x ∷ xs) h = (h.0, all-map f P xs h.1)
 
-pub all-of : {X : Type 0} (P Q : X → Type 0) → ((x : X) → P x → Q x) → (xs : List X) → AllByRecursion P xs → AllByRecursion Q xs
+pub all-of : {X : Type 0} (P Q : X → Type 0) → ((x : X) → P x → Q x) → (xs : List X) → AllByRecursion P xs →
+    AllByRecursion Q xs
 all-of P Q f [] h = tt
 all-of P Q f (x ∷ xs) h = (f x h.0, all-of P Q f xs h.1)
 
@@ -105,7 +106,8 @@ module _ (l : LaneState) where
           by : (o : Option ℕ) → physical_in l.pages va ≡ o → or_in_memory l va o ≡ Some r.0 →
               (p : ℕ) × (physical_in l.pages va ≡ Some p)
           by None e g =
-              let gone : None ≡ Some r.0 = sym (ap (λ b. cond b (Some (va - pages_end)) None) outside) ∙ g in absurd (cc)
+              let gone : None ≡ Some r.0 = sym (ap (λ b. cond b (Some (va - pages_end)) None) outside) ∙ g in absurd
+              (cc)
           by (Some q) e g = (q, e)
 
   -- without memories no byte is one of a memory
@@ -163,7 +165,8 @@ module _ (l : LaneState) (laid : AreLaid l) (machine : IsInMachine l) (stands : 
   pub direct-ready : get l.mems m ≡ None → (spans : List Span) → AreOfPages l (span_addresses spans) →
       (pages : List ℕ) → AllByRecursion IsPage (as_pages pages) →
       length pages ≡ need_of (chunks_of t l.maxmem (entries_of true (physical l) spans)) →
-      IsReady l m t (entries_of true (physical l) spans) (chunks_of t l.maxmem (entries_of true (physical l) spans)) pages
+      IsReady l m t (entries_of true (physical l) spans) (chunks_of t l.maxmem (entries_of true (physical l) spans))
+      pages
   direct-ready none spans own pages whole count =
       ready l m t t l.maxmem es pages eff.maxsegsz eff refl
       (entries_are (λ p. Unit {0}) true (physical l) (paged l laid machine) spans) whole count

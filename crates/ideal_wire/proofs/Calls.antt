@@ -21,7 +21,8 @@ module _ (l : LaneState) (w : Wire) (apart : IsApart l) (laid : AreLaid l) (f : 
       IsFaithful (by_reply o r).lane (if_done o now w)
   alone now o stays r = stays r (if_done o now w) (λ b x y. refl, λ m b x y. refl)
 
-  pub sync-faithful : (m ops : ℕ) (r : HubReply) → IsFaithful (by_reply (syncs.sync m ops l) r).lane (wire.sync m ops l w)
+  pub sync-faithful : (m ops : ℕ) (r : HubReply) →
+      IsFaithful (by_reply (syncs.sync m ops l) r).lane (wire.sync m ops l w)
   sync-faithful m ops = alone (wire.synced m 0 (load_length l m) ops l w) (syncs.sync m ops l)
       (sync-stays l w apart laid f m ops)
 

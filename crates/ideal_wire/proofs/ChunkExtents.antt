@@ -21,6 +21,7 @@ use Rattle.segment_build.specs.Trace.{chunk_len, first_page, in_page, placed}
 use Rattle.segment_build.proofs.Chunking.{limit_reaches}
 use Rattle.segment_build.proofs.Sound.{all_append, chunks_sound}
 use Rattle.ideal_wire.specs.Laid.{IsOfExtents}
+use Rattle.ideal_wire.proofs.Positions.{found_one}
 
 -- ---- addresses of bytes that follow one another in frames
 
@@ -107,7 +108,7 @@ rest-begins : (zs : List ℕ) (e : Extent) → First zs → extent_from zs ≡ S
 rest-begins [] e h is = absurd (cc)
 rest-begins (y ∷ ys) e h is =
     let same : record { pa = record { 0 = y }; len = length (y ∷ ys) } ≡ e =
-    Rattle.ideal_wire.proofs.Positions.found_one (extent_from (y ∷ ys)) _ e refl is in
+    found_one (extent_from (y ∷ ys)) _ e refl is in
     let pa : y ≡ e.pa.0 = ap (λ (x : Extent). x.pa.0) same in
     let len : length (y ∷ ys) ≡ e.len = ap (λ (x : Extent). x.len) same in
     (omega (arith, len), omega (arith, h.0, pa), omega (arith, h.1, pa))
@@ -193,7 +194,8 @@ placed-extents keep (c ∷ cs) pages h =
   where
     by : (b : Bool) → c.bounced ≡ b → AllByRecursion IsOfExtents (bounced_of (placed keep cs (drop 1 pages))) →
         AllByRecursion IsOfExtents (bounced_of (placed keep cs pages)) →
-        AllByRecursion IsOfExtents (bounced_of (cond b (in_page keep (first_page pages) c ∷ placed keep cs (drop 1 pages))
+        AllByRecursion IsOfExtents (bounced_of
+        (cond b (in_page keep (first_page pages) c ∷ placed keep cs (drop 1 pages))
         (c ∷ placed keep cs pages)))
     by true e one all =
         subst (λ b. AllByRecursion IsOfExtents (cond b (in_page keep (first_page pages) c

@@ -78,7 +78,8 @@ lent-two m n y z p a ne =
   where
     name : (k : MapId) (x : ℕ) (h : Held) → is_holding k x p h ≡ true → same_map k h.map ≡ true
     name k x h e =
-        (and_parts (h.zone == x) (same_map k h.map) (and_parts (h.page == p) ((h.zone == x) && same_map k h.map) e).1).1
+        (and_parts (h.zone == x) (same_map k h.map)
+        (and_parts (h.page == p) ((h.zone == x) && same_map k h.map) e).1).1
 
 -- two memories have a frame no more often than all do
 mems-two : (m n : MapId) (f : ℕ) (xs : List Memory) → m.made_at ≢ n.made_at →
@@ -311,7 +312,8 @@ module _ (l : LaneState) (a : Account) (agrees : AgreesWith l a) where
 
         placed : 1 ≤ times_lent (frame_of b) a
         placed = let h = page-of m i page holds in
-            subst (λ p. 1 ≤ times_lent p a) (sym frame) (page-placed m i page h.bounced h.segments h.pages h.stage h.has)
+            subst (λ p. 1 ≤ times_lent p a) (sym frame)
+            (page-placed m i page h.bounced h.segments h.pages h.stage h.has)
 
         by : IsOwnByte l b → ⊥
         by (OfPages e) = absurd (omega (arith, agrees.apart (frame_of b) (own-frame l.pages b e), placed))

@@ -1,7 +1,7 @@
 -- The trace of a load has the bytes of its bounced chunks at their places.
 use Rattle.std.proofs.Common.{◌≡◌, ℕ, zero, suc, ◌+◌, ◌-◌, ◌≤◌, ◌==◌, Bool, true, false, not, List, []}
 use Rattle.std.proofs.Common.{◌∷◌, ◌++◌, length, take, drop, Option, Some, None, is_some, refl, ap, sym, ◌∙◌, subst}
-use Rattle.std.proofs.Common.{arith, nat_le, nat_lt, append_assoc, eq-eqb, length-append, cond}
+use Rattle.std.proofs.Common.{unwrap_or, arith, nat_le, nat_lt, append_assoc, eq-eqb, length-append, cond}
 use Rattle.std.proofs.lemmas.Bool.{le-leb, lt-ltb}
 use Rattle.std.proofs.lemmas.List.{take-append-le, take_all}
 use Rattle.std.specs.List.{AllByRecursion}
@@ -66,7 +66,7 @@ chunk-places c cs is e =
     ∙ ap (placed_at (chunk_bytes c)) (sym (paged c.page (is.paged ∙ e)))
   where
     paged : (p : Option Pa) → is_some p ≡ true →
-        bus_from p c ≡ run_of (Rattle.std.specs.Prelude.unwrap_or p c.first.pa).0 (chunk_len c)
+        bus_from p c ≡ run_of (unwrap_or p c.first.pa).0 (chunk_len c)
     paged None some = absurd (cc)
     paged (Some p) some = refl
 
@@ -131,7 +131,8 @@ has-chunks (c ∷ cs) place at u e own h all =
         let long : length v ≡ chunk_len c = placed-length (c ∷ bs) at (chunk_bytes c) ∙ n in
         let here : place + length u ≡ c.at = e ∙ sym h.0 in
         let same : placed_from (c ∷ bs) at (chunk_bytes c ++ chunks_bytes cs) ≡ v ++ w =
-        split (c ∷ bs) ∙ ap (λ ps. v ++ ps) (past-chunk c bs (at + chunk_len c) (chunks_bytes cs) (omega (arith, h.0))) in
+        split (c ∷ bs) ∙ ap (λ ps. v ++ ps)
+        (past-chunk c bs (at + chunk_len c) (chunks_bytes cs) (omega (arith, h.0))) in
         let end : drop (c.at + chunk_len c - place) (u ++ (v ++ w)) ≡ w =
         drop-past u (v ++ w) (c.at + chunk_len c - place) (chunk_len c) (omega (arith, here))
         ∙ drop-past v w (chunk_len c) 0 (omega (arith, long)) in

@@ -84,7 +84,8 @@ module _ (l : LaneState) (stands : Stands l) where
       by false t g = record { map = y; there = g; zone = has; limits = limits y y refl }
 
   -- a map without zone comes
-  pub new-map : (l' : LaneState) → l'.tags ≡ l.tags → (n : ℕ) (x : LaneMap) → x.zone ≡ None → l'.maps ≡ insert l.maps n x →
+  pub new-map : (l' : LaneState) → l'.tags ≡ l.tags → (n : ℕ) (x : LaneMap) → x.zone ≡ None →
+      l'.maps ≡ insert l.maps n x →
       KeepsMaps l'
   new-map l' tags n x none maps m z y e has =
       by (m == n) (sym ((λ i. get (maps i) m) ∙ get_put l.maps n x m) ∙ e)
@@ -274,7 +275,8 @@ module _ (l : LaneState) (stands : Stands l) where
   dev_write-kept m off vs =
       unloaded l Still report m _ (λ o e i.
       past l Still report m off (length vs) _
-      (judged l Still report (dev_write_answer (loan_of l.loans m) off (length vs)) _ (λ allowed r. alike _ refl refl)))
+      (judged l Still report (dev_write_answer (loan_of l.loans m) off (length vs)) _
+      (λ allowed r. alike _ refl refl)))
 
   -- ---- pages that go back, and callbacks
   pub back-kept : (x : Return) (rest : List Return) → KeepsMaps (given_back x rest l)

@@ -41,12 +41,14 @@ use Rattle.segment_build.specs.Chunks.{chunks_of, need_of}
 use Rattle.segment_build.specs.Trace.{IsPage}
 use Rattle.ideal_lane.specs.Agreement.{AgreesWith}
 use Rattle.ideal_lane.specs.Asking.{Asking, Gives, Asks, goes_on}
-use Rattle.ideal_lane.specs.Loads.{Asked, asked, chunks_for, finished, granted, limits_of, load, load_chunks, load_judged}
+use Rattle.ideal_lane.specs.Loads.{Asked, asked, chunks_for, finished, granted, limits_of, load, load_chunks}
+use Rattle.ideal_lane.specs.Loads.{load_judged}
 use Rattle.ideal_lane.specs.Loads.{staged, zone_of}
 use Rattle.ideal_lane.specs.Outcomes.{Outcome, gives}
 use Rattle.ideal_lane.specs.Standing.{Stands}
 use Rattle.ideal_lane.specs.State.{LaneState, LaneMap, LaneMemory, Waiting, named}
-use Rattle.ideal_lane.specs.Turns.{Turned, operation, transfer, waits, asked_at, asked_by, called, called_in, lane_step}
+use Rattle.ideal_lane.specs.Turns.{Turned, operation, transfer, waits, asked_at, asked_by, called, called_in}
+use Rattle.ideal_lane.specs.Turns.{lane_step}
 use Rattle.ideal_lane.specs.Turns.{called_back, no_load}
 use Rattle.ideal_lane.specs.Turns as turns
 use Rattle.ideal_lane.specs.View.{view_of}
@@ -60,8 +62,10 @@ use Rattle.ideal_wire.proofs.Pages.{called-whole, granted-whole}
 use Rattle.ideal_wire.proofs.Positions.{found_one}
 use Rattle.ideal_wire.proofs.Refusing.{judged, either, busy}
 use Rattle.ideal_wire.proofs.Returning.{returning-unloaded}
-use Rattle.ideal_wire.proofs.StillLaid.{Still, await-still, back-still, cpu_read-still, cpu_write-still, dev_read-still}
-use Rattle.ideal_wire.proofs.StillLaid.{dev_write-still, idle-unloaded, like, map-still, map_destroy-still, no-loan, put}
+use Rattle.ideal_wire.proofs.StillLaid.{Still, await-still, back-still, cpu_read-still, cpu_write-still}
+use Rattle.ideal_wire.proofs.StillLaid.{dev_read-still}
+use Rattle.ideal_wire.proofs.StillLaid.{dev_write-still, idle-unloaded, like, map-still, map_destroy-still, no-loan}
+use Rattle.ideal_wire.proofs.StillLaid.{put}
 use Rattle.ideal_wire.proofs.KeptTags.{put-there}
 use Rattle.ideal_wire.proofs.StillLaid.{staged-still, sync-still, sync_range-still, tag-still}
 use Rattle.ideal_wire.proofs.Waited.{waited, waited-asked, waited-direct, waited-lies, waited-need, waited-own}
@@ -106,7 +110,8 @@ module _ (l : LaneState) (a : Account) (stands : Stands l) (agrees : AgreesWith 
     module _ (o : LaneMap) (there : get l.maps m ≡ Some o) (none : loan_of l.loans m ≡ no_loan)
         (fine : load_judged l m (span_addresses spans) ≡ Fine) where
       -- of a memory's own map
-      memory-load : (y : LaneMemory) → get l.mems m ≡ Some y → Keeps (load_chunks m o x (chunks_for l o true x.entries) l)
+      memory-load : (y : LaneMemory) → get l.mems m ≡ Some y →
+          Keeps (load_chunks m o x (chunks_for l o true x.entries) l)
       memory-load y e =
           either l Keeps report (need_of chunks == 0) (Gives (finished m o l.place x chunks [] l))
           (Asks (call.Grab (named l m) (record { 0 = zone_of o }) (need_of chunks) x.nowait) (granted m o x chunks l))
@@ -137,7 +142,8 @@ module _ (l : LaneState) (a : Account) (stands : Stands l) (agrees : AgreesWith 
         -- what is asked of the driver's pages alone
         same-asked : asked_at l.place (pages_alone later) ≡ asked m spans (nowait flags) items (pages_alone later)
         same-asked =
-            ap (λ q. unwrap_or (option_and_then (λ p. asked_by p (pages_alone later)) q) (no_load (pages_alone later))) here
+            ap (λ q. unwrap_or (option_and_then (λ p. asked_by p (pages_alone later)) q)
+            (no_load (pages_alone later))) here
 
         awaited : IsAwaited later m l.place (need_of chunks)
         awaited = record {
@@ -152,7 +158,10 @@ module _ (l : LaneState) (a : Account) (stands : Stands l) (agrees : AgreesWith 
         }
 
         by-reply : (r : HubReply) →
-            (account_step l.id (call.Grab (named l m) (record { 0 = zone_of o }) (need_of chunks) x.nowait) a).reply ≡ r →
+            (account_step l.id (call.Grab (named l m) (record {
+              0 =
+                  zone_of o;
+            }) (need_of chunks) x.nowait) a).reply ≡ r →
             AreLaid (granted m o x chunks l r).lane
         by-reply (reply.Granted pages) e =
             finished-laid l laid m o none l.place x chunks (addresses pages) (is-ready (addresses pages)
@@ -173,7 +182,10 @@ module _ (l : LaneState) (a : Account) (stands : Stands l) (agrees : AgreesWith 
         direct-load : Keeps (load_chunks m o x chunks l)
         direct-load =
             either l Keeps report (need_of chunks == 0) (Gives (finished m o l.place x chunks [] l))
-            (Asks (call.Grab (named l m) (record { 0 = zone_of o }) (need_of chunks) x.nowait) (granted m o x chunks l))
+            (Asks (call.Grab (named l m) (record {
+              0 =
+                  zone_of o;
+            }) (need_of chunks) x.nowait) (granted m o x chunks l))
             (λ zero. finished-laid l laid m o none l.place x chunks [] (is-ready [] tt
             (sym (eqb-true (need_of chunks) 0 zero))))
             (λ some. by-reply _ refl)
@@ -184,9 +196,11 @@ module _ (l : LaneState) (a : Account) (stands : Stands l) (agrees : AgreesWith 
           by : (q : Option LaneMemory) → get l.mems m ≡ q →
               Keeps (load_chunks m o x (chunks_for l o (contains_key l.mems m) x.entries) l)
           by None e =
-              subst (λ b. Keeps (load_chunks m o x (chunks_for l o b x.entries) l)) (sym (ap is_some e)) (direct-load e)
+              subst (λ b. Keeps (load_chunks m o x (chunks_for l o b x.entries) l)) (sym (ap is_some e))
+              (direct-load e)
           by (Some y) e =
-              subst (λ b. Keeps (load_chunks m o x (chunks_for l o b x.entries) l)) (sym (ap is_some e)) (memory-load y e)
+              subst (λ b. Keeps (load_chunks m o x (chunks_for l o b x.entries) l)) (sym (ap is_some e))
+              (memory-load y e)
 
     load-keeps : Keeps (load m x l)
     load-keeps =
@@ -197,40 +211,43 @@ module _ (l : LaneState) (a : Account) (stands : Stands l) (agrees : AgreesWith 
         (λ short. chunked o there (no-loan l laid m o there (idle-unloaded l laid o.stage i)) fine)))
 
   -- ---- the callback of a load that waited
-  module _ (m : MapId) (pages : List Pa) (e : (account_step l.id call.TakeCallback a).reply ≡ reply.Called m pages) where
-    abbrev k : ℕ
-    k = m.made_at
+  module _ (m : MapId) (pages : List Pa) (e : (account_step l.id call.TakeCallback a).reply ≡ reply.Called m pages)
+    where
+      abbrev k : ℕ
+      k = m.made_at
 
-    -- the load of a map that waits, with as many pages as it needs
-    at-map : (z need : ℕ) → length pages ≡ need → WaitsAt l k z need → AreLaid (called k (get l.maps k) (addresses pages) l).lane
-    at-map z need count w =
-        subst (λ y. AreLaid (called k y (addresses pages) l).lane) (sym w.found)
-        (subst (λ s. AreLaid (called_in k w.map s (addresses pages) l).lane) (sym w.stage)
-        (subst Ends (sym ((waited l stands laid k z need w).is l refl)) ends))
-      where
-        x : Asked
-        x = waited-asked l stands laid k z need w
+      -- the load of a map that waits, with as many pages as it needs
+      at-map : (z need : ℕ) → length pages ≡ need → WaitsAt l k z need →
+          AreLaid (called k (get l.maps k) (addresses pages) l).lane
+      at-map z need count w =
+          subst (λ y. AreLaid (called k y (addresses pages) l).lane) (sym w.found)
+          (subst (λ s. AreLaid (called_in k w.map s (addresses pages) l).lane) (sym w.stage)
+          (subst Ends (sym ((waited l stands laid k z need w).is l refl)) ends))
+        where
+          x : Asked
+          x = waited-asked l stands laid k z need w
 
-        Ends : Asked → Type 0
-        Ends y = AreLaid (finished k w.map w.load_at y (chunks_for l w.map (contains_key l.mems k) y.entries)
-            (addresses pages) l).lane
+          Ends : Asked → Type 0
+          Ends y = AreLaid (finished k w.map w.load_at y (chunks_for l w.map (contains_key l.mems k) y.entries)
+              (addresses pages) l).lane
 
-        ends : Ends x
-        ends =
-            let none = waited-direct l stands laid k z need w in
-            subst (λ b. AreLaid (finished k w.map w.load_at x (chunks_for l w.map b x.entries) (addresses pages) l).lane)
-            (sym (ap is_some none))
-            (finished-laid l laid k w.map (waited-lies l stands laid k z need w).unlent w.load_at x
-            (chunks_for l w.map false x.entries) (addresses pages)
-            (direct-ready l laid machine stands k w.map w.found none (waited l stands laid k z need w).spans
-            (waited-own l stands laid k z need w) (addresses pages)
-            (whole-again pages (called-whole a frames l.id a.ready m pages e))
-            (as-many pages ∙ count ∙ waited-need l stands laid k z need w)))
+          ends : Ends x
+          ends =
+              let none = waited-direct l stands laid k z need w in
+              subst (λ b. AreLaid (finished k w.map w.load_at x (chunks_for l w.map b x.entries) (addresses pages)
+              l).lane)
+              (sym (ap is_some none))
+              (finished-laid l laid k w.map (waited-lies l stands laid k z need w).unlent w.load_at x
+              (chunks_for l w.map false x.entries) (addresses pages)
+              (direct-ready l laid machine stands k w.map w.found none (waited l stands laid k z need w).spans
+              (waited-own l stands laid k z need w) (addresses pages)
+              (whole-again pages (called-whole a frames l.id a.ready m pages e))
+              (as-many pages ∙ count ∙ waited-need l stands laid k z need w)))
 
-    called-keeps : AreLaid (called k (get l.maps k) (addresses pages) l).lane
-    called-keeps =
-        let c = called-length (view_of l) a.ready a m pages fit.well agrees refl e in
-        at-map c.2 c.0 c.4 (waits-at l k c.2 c.0 c.3)
+      called-keeps : AreLaid (called k (get l.maps k) (addresses pages) l).lane
+      called-keeps =
+          let c = called-length (view_of l) a.ready a m pages fit.well agrees refl e in
+          at-map c.2 c.0 c.4 (waits-at l k c.2 c.0 c.3)
 
   -- ---- the turn
 
@@ -251,7 +268,8 @@ module _ (l : LaneState) (a : Account) (stands : Stands l) (agrees : AgreesWith 
       (record { script = refl; pages = refl; maxmem = refl; own = λ b. refl; mems = refl }) (λ n o e. refl) refl refl
 
   operation-keeps : (o : Op) → slice_get l.script l.place ≡ Some o → Keeps (operation o l)
-  operation-keeps (op.Tag name parent limits) e = always (operation (op.Tag name parent limits) l) (tag-still l laid stands parent limits)
+  operation-keeps (op.Tag name parent limits) e =
+      always (operation (op.Tag name parent limits) l) (tag-still l laid stands parent limits)
   operation-keeps (op.TagDestroy t) e = always (operation (op.TagDestroy t) l) (tag_destroy-still l laid stands t)
   operation-keeps (op.Map name t) e = always (operation (op.Map name t) l) (map-still l laid stands t)
   operation-keeps (op.MapDestroy m) e = always (operation (op.MapDestroy m) l) (map_destroy-still l laid m)
@@ -260,7 +278,8 @@ module _ (l : LaneState) (a : Account) (stands : Stands l) (agrees : AgreesWith 
   operation-keeps (op.Sync m ops) e = always (operation (op.Sync m ops) l) (sync-still l laid m ops)
   operation-keeps (op.SyncRange m off len ops) e =
       always (operation (op.SyncRange m off len ops) l) (sync_range-still l laid m off len ops)
-  operation-keeps (op.CpuRead place len) e = always (operation (op.CpuRead place len) l) (cpu_read-still l laid place len)
+  operation-keeps (op.CpuRead place len) e =
+      always (operation (op.CpuRead place len) l) (cpu_read-still l laid place len)
   operation-keeps (op.CpuWrite place bytes) e =
       always (operation (op.CpuWrite place bytes) l) (cpu_write-still l laid place (bytes_of bytes))
   operation-keeps (op.Await m) e = always (operation (op.Await m) l) (await-still l laid m)
@@ -269,7 +288,8 @@ module _ (l : LaneState) (a : Account) (stands : Stands l) (agrees : AgreesWith 
   transfer-keeps (item.Sync m ops) = always (transfer (item.Sync m ops) l) (sync-still l laid m ops)
   transfer-keeps (item.SyncRange m off len ops) =
       always (transfer (item.SyncRange m off len ops) l) (sync_range-still l laid m off len ops)
-  transfer-keeps (item.DevRead m off len) = always (transfer (item.DevRead m off len) l) (dev_read-still l laid m off len)
+  transfer-keeps (item.DevRead m off len) =
+      always (transfer (item.DevRead m off len) l) (dev_read-still l laid m off len)
   transfer-keeps (item.DevWrite m off bytes) =
       always (transfer (item.DevWrite m off bytes) l) (dev_write-still l laid m off (bytes_of bytes))
 

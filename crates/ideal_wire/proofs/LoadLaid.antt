@@ -62,7 +62,8 @@ unlent-at : (P : ℕ → Type 0) (bytes : List ℕ) (i : ℕ) (p : Position) →
     slice_get (unlent bytes) i ≡ Some p → P p.pa
 unlent-at P [] i p all h = absurd (cc)
 unlent-at P (a ∷ bytes) zero p all h =
-    subst P (ap (λ (q : Position). q.pa) (found_one (Some _) (record { pa = a; to_read = false; to_write = false }) p refl h))
+    subst P (ap (λ (q : Position). q.pa)
+    (found_one (Some _) (record { pa = a; to_read = false; to_write = false }) p refl h))
     all.0
 unlent-at P (a ∷ bytes) (suc i) p all h = unlent-at P bytes i p all.1 h
 

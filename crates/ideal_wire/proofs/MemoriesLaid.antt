@@ -1,7 +1,8 @@
 -- The loads of a driver stay laid where a memory is made or ends.
 use mathlib.Core.Logic.{∥∥₁_map}
 use Rattle.std.proofs.Common.{◌≡◌, ◌≢◌, ℕ, ◌+◌, Bool, true, false}
-use Rattle.std.proofs.Common.{if◌then◌else◌, List, [], ◌∷◌, Option, Some, None, is_some, All, refl, ap, sym, ◌∙◌, subst}
+use Rattle.std.proofs.Common.{if◌then◌else◌, List, [], ◌∷◌, Option, Some, None, is_some, All, refl, ap, sym, ◌∙◌}
+use Rattle.std.proofs.Common.{subst}
 use Rattle.std.proofs.Common.{arith, inl, inr, ◌⊎◌}
 use Rattle.std.proofs.lemmas.Bool.{false≢true}
 use Rattle.std.proofs.lemmas.List.Elements.{All-head, All-tail}
@@ -114,7 +115,8 @@ module _ (l : LaneState) (a : Account) (stands : Stands l) (laid : AreLaid l) wh
     still-own b (OfMemory k y there h) =
         OfMemory k y (put-off l.mems l.place k x (off-place k y there) ∙ there) h
 
-    made-only : (b : ℕ) (t : Bool) → in_run x.first x.count b ≡ t → is_some (if t then Some content else l.memory b) ≡ true →
+    made-only : (b : ℕ) (t : Bool) → in_run x.first x.count b ≡ t →
+        is_some (if t then Some content else l.memory b) ≡ true →
         ∥ IsOwnByte made b ∥₁
     made-only b true e h = ∣ OfMemory l.place x (put-there l.mems l.place x) e ∣₁
     made-only b false e h = ∥∥₁_map (laid.only b h) (still-own b)
@@ -227,7 +229,8 @@ module _ (l : LaneState) (a : Account) (stands : Stands l) (laid : AreLaid l) wh
   report r = laid
 
   placed-laid : EachFrame IsFrame a → (t : ℕ) (limits : TagLimits) (flags : ℕ) (r : HubReply) →
-      (account_step l.id (call.MemAlloc (named l l.place) limits) a).reply ≡ r → AreLaid (placed t limits flags l r).lane
+      (account_step l.id (call.MemAlloc (named l l.place) limits) a).reply ≡ r → AreLaid
+      (placed t limits flags l r).lane
   placed-laid frames t limits flags (reply.Run first count) e =
       made-laid
       (record { tag = t; first = first.0; count = count; len = limits.maxsize; coherent = coherent flags })
@@ -265,7 +268,8 @@ module _ (l : LaneState) (a : Account) (stands : Stands l) (laid : AreLaid l) wh
   turned (Gives o) h = moved o.lane h
   turned (Asks c k) h = moved (k (account_step l.id c a).reply).lane h
 
-  pub made-turn : EachFrame IsFrame a → (t flags : ℕ) → KeepsLaid l.id a (goes_on (advanced l.place) (dmamem t flags l))
+  pub made-turn : EachFrame IsFrame a → (t flags : ℕ) →
+      KeepsLaid l.id a (goes_on (advanced l.place) (dmamem t flags l))
   made-turn frames t flags = turned (dmamem t flags l) (dmamem-laid frames t flags)
 
   pub freed-turn : AgreesWith l a → (m : ℕ) → KeepsLaid l.id a (goes_on (advanced l.place) (dmamem_free m l))

@@ -87,14 +87,17 @@ whole (x ∷ xs) frames =
     let f : IsFrame x = All-head IsFrame x xs frames in
     ((f.whole, f.numbered), whole xs (All-tail IsFrame x xs frames))
 
-first-whole : (a : Account) → EachFrame IsFrame a → (z n : ℕ) → AllByRecursion IsPage (as_pages (take n (zone_at a z).avail))
-first-whole a each z n = whole (take n (zone_at a z).avail) (All-take IsFrame n (zone_at a z).avail (zone-frames a z each))
+first-whole : (a : Account) → EachFrame IsFrame a → (z n : ℕ) →
+    AllByRecursion IsPage (as_pages (take n (zone_at a z).avail))
+first-whole a each z n =
+    whole (take n (zone_at a z).avail) (All-take IsFrame n (zone_at a z).avail (zone-frames a z each))
 
 pub granted-whole : (a : Account) → EachFrame IsFrame a → (m : MapId) (z need : ℕ) (no_wait : Bool) (pages : List Pa) →
     (grabbed m z need no_wait a).reply ≡ Granted pages → AllByRecursion IsPage pages
 granted-whole a each m z = granted-first a z (AllByRecursion IsPage) (first-whole a each z) m
 
-pub called-whole : (a : Account) → EachFrame IsFrame a → (lane : ℕ) (ready : List Waiter) (m : MapId) (pages : List Pa) →
+pub called-whole : (a : Account) → EachFrame IsFrame a →
+    (lane : ℕ) (ready : List Waiter) (m : MapId) (pages : List Pa) →
     (called_from ready lane a).reply ≡ Called m pages → AllByRecursion IsPage pages
 called-whole a each lane [] m pages e = absurd (cc)
 called-whole a each lane (w ∷ ws) m pages e =

@@ -1,5 +1,6 @@
 -- The map of a page that is on its way back has no load.
-use Rattle.std.proofs.Common.{◌≡◌, ℕ, ◌==◌, Bool, true, false, List, ◌∷◌, Option, Some, None, refl, ap, sym, ◌∙◌, arith}
+use Rattle.std.proofs.Common.{◌≡◌, ℕ, ◌==◌, Bool, true, false, List, ◌∷◌, Option, Some, None, refl, ap, sym, ◌∙◌}
+use Rattle.std.proofs.Common.{arith}
 use Rattle.std.proofs.Common.{eq-eqb}
 use Rattle.std.specs.FinMap.{get}
 use Rattle.busdma_base.specs.Bounce.Account.{Account}

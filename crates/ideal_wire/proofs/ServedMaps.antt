@@ -48,8 +48,10 @@ use Rattle.ideal_lane.proofs.Lookups.{get_put}
 use Rattle.ideal_wire.specs.Machine.{IsInMachine}
 use Rattle.ideal_wire.specs.Served.{AreServed, KeepsServed}
 use Rattle.ideal_wire.proofs.Accepting.{limits-effective}
-use Rattle.ideal_wire.proofs.KeptMaps.{KeepsMaps, Still, await-kept, back-kept, called-kept, cpu_read-kept, cpu_write-kept}
-use Rattle.ideal_wire.proofs.KeptMaps.{dev_read-kept, dev_write-kept, load-kept, map_destroy-kept, new-map, report, same}
+use Rattle.ideal_wire.proofs.KeptMaps.{KeepsMaps, Still, await-kept, back-kept, called-kept, cpu_read-kept}
+use Rattle.ideal_wire.proofs.KeptMaps.{cpu_write-kept}
+use Rattle.ideal_wire.proofs.KeptMaps.{dev_read-kept, dev_write-kept, load-kept, map_destroy-kept, new-map, report}
+use Rattle.ideal_wire.proofs.KeptMaps.{same}
 use Rattle.ideal_wire.proofs.KeptMaps.{sync-kept, sync_range-kept, tag-kept, tag_destroy-kept, unload-kept}
 use Rattle.ideal_wire.proofs.KeptTags.{KeepsTags, keeps-put, put-there}
 use Rattle.ideal_wire.proofs.Positions.{found_one}
@@ -165,7 +167,8 @@ module _ (l : LaneState) (stands : Stands l) (a : Account) (machine : IsInMachin
       absent l Keeps reported (get l.tags t) _ (λ g there.
       either l Keeps reported (could_bounce g.limits l.maxmem) _ _ (λ b. made-by t g there _ refl) (λ b.
       kept-served (with_map t None l) a (keeps-all a a refl)
-      (new-map l stands (with_map t None l) refl l.place (record { tag = t; zone = None; tried = false; stage = Idle }) refl
+      (new-map l stands (with_map t None l) refl l.place
+      (record { tag = t; zone = None; tried = false; stage = Idle }) refl
       refl)))
 
   -- ---- the turn
@@ -181,13 +184,15 @@ module _ (l : LaneState) (stands : Stands l) (a : Account) (machine : IsInMachin
   operation-served (op.Map name t) = map-served t
   operation-served (op.MapDestroy m) = always (operation (op.MapDestroy m) l) (map_destroy-kept l stands m)
   operation-served (op.Load m place len flags items) =
-      always (operation (op.Load m place len flags items) l) (absent l (Still l stands) (report l stands) (virtual_at l place) _ (λ va e.
+      always (operation (op.Load m place len flags items) l)
+      (absent l (Still l stands) (report l stands) (virtual_at l place) _ (λ va e.
       load-kept l stands m (asked m (one_span va len) (nowait flags) items l)))
   operation-served (op.Unload m) = always (operation (op.Unload m) l) (unload-kept l stands m)
   operation-served (op.Sync m ops) = always (operation (op.Sync m ops) l) (sync-kept l stands m ops)
   operation-served (op.SyncRange m off len ops) =
       always (operation (op.SyncRange m off len ops) l) (sync_range-kept l stands m off len ops)
-  operation-served (op.CpuRead place len) = always (operation (op.CpuRead place len) l) (cpu_read-kept l stands place len)
+  operation-served (op.CpuRead place len) =
+      always (operation (op.CpuRead place len) l) (cpu_read-kept l stands place len)
   operation-served (op.CpuWrite place bytes) =
       always (operation (op.CpuWrite place bytes) l) (cpu_write-kept l stands place (bytes_of bytes))
   operation-served (op.Await m) = always (operation (op.Await m) l) (await-kept l stands m)
@@ -196,7 +201,8 @@ module _ (l : LaneState) (stands : Stands l) (a : Account) (machine : IsInMachin
   transfer-served (item.Sync m ops) = always (transfer (item.Sync m ops) l) (sync-kept l stands m ops)
   transfer-served (item.SyncRange m off len ops) =
       always (transfer (item.SyncRange m off len ops) l) (sync_range-kept l stands m off len ops)
-  transfer-served (item.DevRead m off len) = always (transfer (item.DevRead m off len) l) (dev_read-kept l stands m off len)
+  transfer-served (item.DevRead m off len) =
+      always (transfer (item.DevRead m off len) l) (dev_read-kept l stands m off len)
   transfer-served (item.DevWrite m off bytes) =
       always (transfer (item.DevWrite m off bytes) l) (dev_write-kept l stands m off (bytes_of bytes))
 
@@ -207,7 +213,8 @@ module _ (l : LaneState) (stands : Stands l) (a : Account) (machine : IsInMachin
       by : (b : Bool) → KeepsServed l.id a (if b then Gives (turns.stays turns.Blocked l)
           else goes_on (turns.advanced l.place) (operation o l))
       by true = served
-      by false = then-keeps (turns.advanced l.place) (λ x b h m z k e zone. h m z k e zone) (operation o l) (operation-served o)
+      by false = then-keeps (turns.advanced l.place) (λ x b h m z k e zone. h m z k e zone) (operation o l)
+          (operation-served o)
 
   after-call : (c : HubCall) (l' : LaneState) → KeepsMaps l stands l' → AreServed l' (account_step l.id c a).account
   after-call c l' h = kept-served l' (account_step l.id c a).account (keeps-step l.id c a) h
@@ -215,7 +222,10 @@ module _ (l : LaneState) (stands : Stands l) (a : Account) (machine : IsInMachin
   script-served : (rs : List Return) → KeepsServed l.id a (turns.script_turn rs l)
   script-served [] = next-served (slice_get l.script l.place)
   script-served (r ∷ rest) =
-      after-call (call.Release (named l r.map) (record { 0 = r.zone }) (record { 0 = r.page })) (given_back r rest l) (back-kept l stands r rest)
+      after-call (call.Release (named l r.map) (record {
+        0 =
+            r.zone;
+      }) (record { 0 = r.page })) (given_back r rest l) (back-kept l stands r rest)
 
   queue-served : (q : List QueuedItem) → KeepsServed l.id a (turns.transfer_turn q l)
   queue-served [] = served

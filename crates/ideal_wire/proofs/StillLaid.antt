@@ -135,7 +135,8 @@ module _ (l : LaneState) (laid : AreLaid l) where
     }
       where
         off-map : is_loaded (stage_at l n) ≡ false → n ≢ m
-        off-map none e = false≢true (sym none ∙ ap (λ k. is_loaded (stage_at l k)) e ∙ ap (λ y. is_loaded (stage_in y)) there
+        off-map none e =
+            false≢true (sym none ∙ ap (λ k. is_loaded (stage_at l k)) e ∙ ap (λ y. is_loaded (stage_in y)) there
             ∙ is)
 
         new : Loan
@@ -216,7 +217,8 @@ module _ (l : LaneState) (laid : AreLaid l) where
   -- ---- the ends of loads
 
   -- a map whose pages are on their way back, or that has none, lies where it lends nothing
-  pub emptied-lies : (l' : LaneState) (m : ℕ) (pages : List ℕ) → loan_of l'.loans m ≡ no_loan → LiesIn l' m (emptied pages)
+  pub emptied-lies : (l' : LaneState) (m : ℕ) (pages : List ℕ) → loan_of l'.loans m ≡ no_loan →
+      LiesIn l' m (emptied pages)
   emptied-lies l' m [] none = none
   emptied-lies l' m (p ∷ ps) none = none
 
@@ -270,7 +272,8 @@ module _ (l : LaneState) (laid : AreLaid l) where
           AreLaid (record (restaged x.map y (after_return x.map rest) l) { returns = rest })
       by None e =
           like (record l { returns = rest })
-          (record { script = refl; pages = refl; maxmem = refl; own = λ a. refl; mems = refl }) (λ n o e. refl) refl refl
+          (record { script = refl; pages = refl; maxmem = refl; own = λ a. refl; mems = refl }) (λ n o e. refl) refl
+          refl
       by (Some o) e =
           let new : LaneMap = record o { stage = after_return x.map rest } in
           let after : LaneState = record l { maps = insert l.maps x.map new; returns = rest } in
@@ -319,7 +322,8 @@ module _ (l : LaneState) (laid : AreLaid l) where
         absent l Still report (get l.tags t) _ (λ x e.
         either l Still report (has_maps l t) _ _ (λ b r. laid) (λ b r.
         like (record l { tags = remove l.tags t })
-        (record { script = refl; pages = refl; maxmem = refl; own = λ a. refl; mems = refl }) (untagged l t b) refl refl))
+        (record { script = refl; pages = refl; maxmem = refl; own = λ a. refl; mems = refl }) (untagged l t b) refl
+        refl))
 
     -- nothing was made yet at the place of the script
     none-here : loan_of l.loans l.place ≡ no_loan
@@ -360,10 +364,12 @@ module _ (l : LaneState) (laid : AreLaid l) where
   end-still : (m : ℕ) (zone : Option ℕ) → loan_of l.loans m ≡ no_loan → Still (end_map m zone l)
   end-still m None none r =
       cut (record l { maps = remove l.maps m })
-      (record { script = refl; pages = refl; maxmem = refl; own = λ a. refl; mems = refl }) (λ n x e. refl) m refl refl none
+      (record { script = refl; pages = refl; maxmem = refl; own = λ a. refl; mems = refl }) (λ n x e. refl) m refl
+      refl none
   end-still m (Some z) none r =
       cut (record l { maps = remove l.maps m })
-      (record { script = refl; pages = refl; maxmem = refl; own = λ a. refl; mems = refl }) (λ n x e. refl) m refl refl none
+      (record { script = refl; pages = refl; maxmem = refl; own = λ a. refl; mems = refl }) (λ n x e. refl) m refl
+      refl none
 
   pub map_destroy-still : (m : ℕ) → Still (map_destroy m l)
   map_destroy-still m =
