@@ -15,8 +15,10 @@ awaited_items script (Waiting load_at need) = item_count (slice_get script load_
 awaited_items script (Loaded bounced segments pages) = 0
 awaited_items script Returning = 0
 
+-- those of all loads for which maps wait
+abbrev pub maps_items : List Op → FinMap nat_cmp LaneMap → ℕ
+maps_items script maps = sum_by (λ e. awaited_items script e.1.stage) (entries maps)
+
 -- those of the operations that are not yet done, and of the loads that wait
 abbrev pub items_ahead : LaneState → ℕ
-items_ahead l =
-    sum_by (λ o. length (items_of o)) (drop l.place l.script)
-    + sum_by (λ e. awaited_items l.script e.1.stage) (entries l.maps)
+items_ahead l = sum_by (λ o. length (items_of o)) (drop l.place l.script) + maps_items l.script l.maps
