@@ -1,11 +1,10 @@
 -- Each step leaves its driver less to do.
 use Rattle.std.proofs.Common.{◌≡◌, ℕ, suc, ◌+◌, ◌≤◌, ◌<◌, ◌==◌, ◌++◌, ◌&&◌, Bool, true, false, if◌then◌else◌, List, []}
 use Rattle.std.proofs.Common.{◌∷◌, length, Option, Some, None, refl, ap, sym, ◌∙◌, subst, arith, nat_le, nat_lt, drop}
-use Rattle.std.proofs.Common.{slice_get, unwrap_or, add-one}
-use Rattle.std.proofs.Math.Seq.{drop-cons}
+use Rattle.std.proofs.Common.{slice_get, unwrap_or}
 use Rattle.std.proofs.lemmas.List.{length-append}
 use Rattle.std.proofs.lemmas.Option.{slice_get_within, get_or_from_slice_get}
-use Rattle.std.proofs.lemmas.List.Sums.{sum_by-cons}
+use Rattle.std.proofs.lemmas.List.Sums.{sum_by-drop_more}
 use Rattle.std.specs.FinMap.{get, insert, remove, contains_key}
 use Rattle.std.specs.List.{sum_by}
 use Rattle.std.specs.Option.{option_map, option_and_then}
@@ -86,6 +85,11 @@ abbrev pub Lows : LaneState → Account → ℕ → Asking Outcome → Type 0
 Lows l a more (Gives o) = Low l more o.lane
 Lows l a more (Asks c k) = (r : HubReply) → (account_step l.id c a).reply ≡ r → Low l more (k r).lane
 
+-- a load queues each of its items
+pub queued-from : (at place : ℕ) (items : List Item) → length (queued_from at place items) ≡ length items
+queued-from at place [] = refl
+queued-from at place (i ∷ is) = ap suc (queued-from at (place + 1) is)
+
 -- nothing more is to be done
 module _ (l : LaneState) where
   same : (more : ℕ) → Low l more l
@@ -141,10 +145,6 @@ module _ (l : LaneState) where
   empty-weight : (ps : List ℕ) → stage_weight l.script (emptied ps) ≡ 0
   empty-weight [] = refl
   empty-weight (p ∷ ps) = refl
-
-  queued-from : (at place : ℕ) (items : List Item) → length (queued_from at place items) ≡ length items
-  queued-from at place [] = refl
-  queued-from at place (i ∷ is) = ap suc (queued-from at (place + 1) is)
 
   finished-cost : (m : ℕ) (o : LaneMap) (at : ℕ) (x : Asked) (chunks : List Chunk) (pages : List ℕ) →
       get l.maps m ≡ Some o →
@@ -436,13 +436,11 @@ module _ (l : LaneState) where
 
 -- ---- the script
 
-rest-of : (script : List Op) (place : ℕ) (o : Op) → slice_get script place ≡ Some o →
-    sum_by op_weight (drop place script) ≡ op_weight o + sum_by op_weight (drop (place + 1) script)
-rest-of script place o h =
-    let within : place < length script = slice_get_within script place o h in
-    let front : drop place script ≡ o ∷ drop (place + 1) script =
-    rw (drop-cons script place o within, get_or_from_slice_get script place o o h, add-one) refl in
-    ap (sum_by op_weight) front ∙ sum_by-cons op_weight o (drop (place + 1) script)
+pub rest-of : (f : Op → ℕ) (script : List Op) (place : ℕ) (o : Op) → slice_get script place ≡ Some o →
+    sum_by f (drop place script) ≡ f o + sum_by f (drop (place + 1) script)
+rest-of f script place o h =
+    sum_by-drop_more f script place o (slice_get_within script place o h)
+    ∙ ap (λ p. f p + sum_by f (drop (place + 1) script)) (get_or_from_slice_get script place o o h)
 
 falls-next : (l : LaneState) (a : Account) (o : Option Op) → Stands l →
     slice_get l.script l.place ≡ o → FallsOrStays l a (next_operation o l)
@@ -454,7 +452,7 @@ falls-next l a (Some o) s at = by (waits o l)
     done n low =
         let same : sum_by op_weight (drop (l.place + 1) n.script) ≡ sum_by op_weight (drop (l.place + 1) l.script) =
         ap (λ s. sum_by op_weight (drop (l.place + 1) s)) low.script in
-        omega (arith, low.cost_low, same, rest-of l.script l.place o at)
+        omega (arith, low.cost_low, same, rest-of op_weight l.script l.place o at)
 
     over : (x : Asking Outcome) → Lows l a (1 + (length (items_of o) + loaded_by o)) x →
         FallsOrStays l a (goes_on (advanced l.place) x)
@@ -568,7 +566,7 @@ falls-queue l a (q ∷ rest) e = over (transfer q.item l) (unmoves-transfer l a 
 -- ---- callbacks
 
 -- what a load at a place of the script asks has at most the items of the operation there
-asked-items : (l : LaneState) (o : Option Op) →
+pub asked-items : (l : LaneState) (o : Option Op) →
     length (unwrap_or (option_and_then (λ p. asked_by p l) o) (no_load l)).items ≤ item_count o
 asked-items l None = omega arith
 asked-items l (Some (op.Load map place len flags items)) = by (virtual_at l place)

@@ -1,3 +1,4 @@
+pub mod Ahead
 pub mod Calling
 pub mod Direct
 pub mod Falling

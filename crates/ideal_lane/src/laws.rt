@@ -1,6 +1,7 @@
 //! Laws of the ideal driver.
 
-ghost use Rattle.std.specs.Prelude.{◌≡◌, ◌≤◌, ℕ, List, Some, slice_get};
+ghost use Rattle.std.specs.Prelude.{◌≡◌, ◌≤◌, ◌+◌, ℕ, List, Some, length, slice_get};
+ghost use Rattle.busdma_base.specs.declared.bounce.hold.HubReply.{HubReply};
 ghost use Rattle.busdma_base.specs.declared.journals.journal.Side.{Side};
 ghost use Rattle.busdma_base.specs.declared.scenarios.scenario.Driver.{Driver};
 ghost use Rattle.busdma_base.specs.declared.scenarios.scenario.Scenario.{Scenario};
@@ -8,7 +9,10 @@ ghost use Rattle.busdma_base.specs.Bounce.Account.{Account};
 ghost use Rattle.busdma_base.specs.Bounce.Opening.{maxmem_of, opening};
 ghost use Rattle.busdma_base.specs.Scenarios.Valid.{IsValid};
 ghost use Rattle.lane_agreement.specs.Agreement.{IsFit};
+ghost use Rattle.lane_tables.specs.Queues.{item_count};
 ghost use Rattle.ideal_lane.specs.Agreement.{AgreesWith, IsAllowed, KeepsAgreement};
+ghost use Rattle.ideal_lane.specs.Ahead.{items_ahead};
+ghost use Rattle.ideal_lane.specs.Asking.{by_reply};
 ghost use Rattle.ideal_lane.specs.Callbacks.{IsRun, Made, times_called};
 ghost use Rattle.ideal_lane.specs.Left.{FallsOrStays};
 ghost use Rattle.ideal_lane.specs.Opening.{opening_lane};
@@ -52,4 +56,14 @@ pub fn each_load_is_called_once()
     ensures { (place id maxmem : ℕ) (driver : Driver) (steps : List Made) →
         IsRun (opening_lane id maxmem driver) steps →
         times_called place (opening_lane id maxmem driver) steps ≤ 1 }
+{}
+
+/// The items that stand in the transfer queue and those that may still join it never become more,
+/// whatever the reply to a step's call: room for those at the opening is room for all.
+pub fn items_stay_few()
+    ensures opens { (id maxmem : ℕ) (driver : Driver) →
+        items_ahead (opening_lane id maxmem driver) ≡ item_count driver.script }
+    ensures stays { (l : LaneState) (s : Side) (r : HubReply) →
+        let after : LaneState = (by_reply (lane_step l s) r).lane in
+        items_ahead after + length after.queue ≤ items_ahead l + length l.queue }
 {}

@@ -5,6 +5,6 @@
 mod laws;
 
 pub use laws::{
-    each_load_is_called_once, each_step_falls, opening_stands, step_keeps_agreement,
-    step_keeps_standing,
+    each_load_is_called_once, each_step_falls, items_stay_few, opening_stands,
+    step_keeps_agreement, step_keeps_standing,
 };
