@@ -2,6 +2,9 @@ mod Bytes
 mod Changing
 mod Covering
 mod CpuWrites
+mod DeviceReads
+mod Devices
+mod DeviceWrites
 mod Doors
 mod Finding
 mod HeldMemory
@@ -16,9 +19,12 @@ mod Marks
 mod OpeningLane
 mod OpeningPages
 mod OwnRuns
+mod PagesLent
 mod Places
+mod PutBack
 mod Reaching
 mod Reading
+mod Repaging
 mod Returned
 mod ReturnSteps
 mod TagSteps

@@ -7,6 +7,7 @@ pub mod Kept
 pub mod LaneIdeal
 pub mod MapValues
 pub mod OpeningMemory
+pub mod PagesLent
 pub mod TagPlan
 pub mod Virtual
 pub mod Wire
