@@ -104,7 +104,8 @@ module _ (h : Holdings) (k off len : ℕ) (on : has_load (get h.maps.map k) ≡ 
       (sym (known-held h.loans.bytes h.loans.loans (devices_of h.maps.map) h.memory.memory))
 
   -- it is refused
-  pub dev_read-refused : (r : Report) → Refused r ≡ dev_read_answer (is_known h.loans) (loan_of h.loans.loans k) off len →
+  pub dev_read-refused : (r : Report) →
+      Refused r ≡ dev_read_answer (is_known h.loans) (loan_of h.loans.loans k) off len →
       gives l (answer.Report r) ≡ dev_read k off len l
   dev_read-refused r is =
       sym (within ∙ refused _ r l _ (sym (is ∙ answers)))
@@ -133,7 +134,8 @@ module _ (h : Holdings) (k off len : ℕ) (on : has_load (get h.maps.map k) ≡ 
     -- it is what the ideal memory has
     pub dev_read-done : gives l (answer.Bytes out) ≡ dev_read k off len l
     dev_read-done =
-        let allowed : dev_read_answer (ideal.is_known l.memory) (loan_of l.loans k) off len ≡ Fine = sym (fine ∙ answers)
+        let allowed : dev_read_answer (ideal.is_known l.memory) (loan_of l.loans k) off len ≡ Fine =
+        sym (fine ∙ answers)
         in
         ap (λ vs. gives l (answer.Bytes vs))
         (dev_read-reads

@@ -113,7 +113,8 @@ module _ (h : Holdings) (wired : IsWired h) (k : ℕ) (o : KeptMap) (there : get
   stays : IsFaithful after (with_bytes_of (held_pages now) (wire n))
   stays =
       subst (IsFaithful after) (sym dev_write-wire)
-      (subst (λ (s : Asking Outcome). IsFaithful (by_reply s Nothing).lane (wires.dev_write k off vs l (wire_of h))) done
+      (subst (λ (s : Asking Outcome). IsFaithful (by_reply s Nothing).lane (wires.dev_write k off vs l (wire_of h)))
+      done
       (dev_write-faithful l (wire_of h) wired.apart wired.laid wired.faithful k off vs Nothing))
 
   -- it is what was written, where the bytes are marked

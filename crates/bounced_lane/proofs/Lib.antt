@@ -1,5 +1,7 @@
+mod Bouncing
 mod Bytes
 mod Changing
+mod Copying
 mod Covering
 mod CpuWrites
 mod DeviceReads
@@ -27,6 +29,8 @@ mod Reading
 mod Repaging
 mod Returned
 mod ReturnSteps
+mod Shares
+mod Syncing
 mod TagSteps
 mod Unloaded
 mod UnloadSteps

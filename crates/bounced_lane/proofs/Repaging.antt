@@ -4,8 +4,10 @@ use Rattle.std.proofs.Common.{Some, refl, sym, ap, ◌∙◌, subst, arith}
 use Rattle.std.proofs.lemmas.Bool.{eq-eqb, ne_eqb}
 use Rattle.std.proofs.lemmas.List.{length-map}
 use Rattle.std.specs.List.{AllByRecursion}
+use Rattle.std.specs.Option.{option_map}
 use Rattle.std.specs.Ordering.{nat_cmp}
 use Rattle.std.specs.FinMap.{FinMap, contains_key, get, insert}
+use Rattle.busdma_base.specs.declared.name.ZoneId.{ZoneId}
 use Rattle.busdma_base.specs.Machine.Page.{FrameBytes}
 use Rattle.busdma_base.specs.Machine.PageList.{frames_of, page_addresses}
 use Rattle.busdma_base.specs.Machine.Wire.{put, with_bytes_of}
@@ -81,7 +83,7 @@ module _ (h : Holdings) (wired : IsWired h) (k : ℕ) (o : KeptMap) (there : get
   map-same : map_of changed ≡ map_of o
   map-same = λ i. record {
     tag = o.tag;
-    zone = Rattle.std.specs.Option.option_map (λ (z : Rattle.busdma_base.specs.declared.name.ZoneId.ZoneId). z.0) (zones i);
+    zone = option_map (λ (z : ZoneId). z.0) (zones i);
     tried = tries i;
     stage = stages i;
   }
@@ -140,7 +142,9 @@ module _ (h : Holdings) (wired : IsWired h) (k : ℕ) (o : KeptMap) (there : get
 
   -- what each map has, but for the bytes of that one's pages
   device-now : devices_of maps k ≡ device_in next.stage
-  device-now = ap device_of (get_put h.maps.map k changed k ∙ ap (λ b. cond b (Some changed) (get h.maps.map k)) (eq-eqb k k refl))
+  device-now =
+      ap device_of (get_put h.maps.map k changed k
+      ∙ ap (λ b. cond b (Some changed) (get h.maps.map k)) (eq-eqb k k refl))
 
   others : (q : ℕ) → q ≢ k → devices_of maps q ≡ devices_of h.maps.map q
   others q ne = devices-elsewhere h.maps.map k changed q (ne_eqb k q (λ e. ne (sym e)))

@@ -8,6 +8,7 @@ pub mod LaneIdeal
 pub mod MapValues
 pub mod OpeningMemory
 pub mod PagesLent
+pub mod Shares
 pub mod TagPlan
 pub mod Virtual
 pub mod Wire

@@ -8,6 +8,7 @@ mod lane;
 mod maps;
 mod opening;
 mod returns;
+mod syncs;
 mod tags;
 mod unloads;
 

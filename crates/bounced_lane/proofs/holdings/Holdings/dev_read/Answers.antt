@@ -53,7 +53,8 @@ invariant_of-self c =
     let put =
     put-again h.maps c.take.new.self c.put.new.self c.args.map (record o { map = c.read_load-bytes.new.map })
     c.in-Some-take.ensures.taken c.put.ensures in
-    let maps = put.0 ∙ put-same h.maps.map c.args.map o c.read_load-bytes.new.map there c.read_load-bytes.ensures.kept in
+    let maps = put.0 ∙ put-same h.maps.map c.args.map o c.read_load-bytes.new.map there c.read_load-bytes.ensures.kept
+    in
     let are = are-back h c.put.new.self.map maps in
     record {
       covered = h.covered;
@@ -77,7 +78,8 @@ returns-clause-done c =
     let put =
     put-again h.maps c.take.new.self c.put.new.self c.args.map (record o { map = c.read_load-bytes.new.map })
     c.in-Some-take.ensures.taken c.put.ensures in
-    let maps = put.0 ∙ put-same h.maps.map c.args.map o c.read_load-bytes.new.map there c.read_load-bytes.ensures.kept in
+    let maps = put.0 ∙ put-same h.maps.map c.args.map o c.read_load-bytes.new.map there c.read_load-bytes.ensures.kept
+    in
     ap (λ s. gives s (answer.Bytes c.in_ok-bytes.field-0)) (ideal-back h c.put.new.self.map maps)
     ∙ dev_read-done h c.args.map c.args.off c.args.len c.in_default.ensures.loaded
     c.in_default-past_end.ensures.range c.requires o there
@@ -106,7 +108,8 @@ returns-clause-wire c =
     let put =
     put-again h.maps c.take.new.self c.put.new.self c.args.map (record o { map = c.read_load-bytes.new.map })
     c.in-Some-take.ensures.taken c.put.ensures in
-    let maps = put.0 ∙ put-same h.maps.map c.args.map o c.read_load-bytes.new.map there c.read_load-bytes.ensures.kept in
+    let maps = put.0 ∙ put-same h.maps.map c.args.map o c.read_load-bytes.new.map there c.read_load-bytes.ensures.kept
+    in
     wire-back h c.put.new.self.map maps
 
 pub returns-clause-kept : goal.returns-clause-kept
@@ -117,7 +120,8 @@ returns-clause-kept c =
     let put =
     put-again h.maps c.take.new.self c.put.new.self c.args.map (record o { map = c.read_load-bytes.new.map })
     c.in-Some-take.ensures.taken c.put.ensures in
-    let maps = put.0 ∙ put-same h.maps.map c.args.map o c.read_load-bytes.new.map there c.read_load-bytes.ensures.kept in
+    let maps = put.0 ∙ put-same h.maps.map c.args.map o c.read_load-bytes.new.map there c.read_load-bytes.ensures.kept
+    in
     record {
       ideal = ideal-back h c.put.new.self.map maps;
       bytes = record { own = refl; pages = pages-back h c.put.new.self.map maps };
@@ -131,7 +135,8 @@ returns-in_err-bytes-clause-wire c =
     let put =
     put-again h.maps c.take.new.self c.put.new.self c.args.map (record o { map = c.read_load-bytes.new.map })
     c.in-Some-take.ensures.taken c.put.ensures in
-    let maps = put.0 ∙ put-same h.maps.map c.args.map o c.read_load-bytes.new.map there c.read_load-bytes.ensures.kept in
+    let maps = put.0 ∙ put-same h.maps.map c.args.map o c.read_load-bytes.new.map there c.read_load-bytes.ensures.kept
+    in
     wire-back h c.put.new.self.map maps
 
 pub returns-in_err-bytes-clause-kept : goal.returns-in_err-bytes-clause-kept
@@ -142,7 +147,8 @@ returns-in_err-bytes-clause-kept c =
     let put =
     put-again h.maps c.take.new.self c.put.new.self c.args.map (record o { map = c.read_load-bytes.new.map })
     c.in-Some-take.ensures.taken c.put.ensures in
-    let maps = put.0 ∙ put-same h.maps.map c.args.map o c.read_load-bytes.new.map there c.read_load-bytes.ensures.kept in
+    let maps = put.0 ∙ put-same h.maps.map c.args.map o c.read_load-bytes.new.map there c.read_load-bytes.ensures.kept
+    in
     record {
       ideal = ideal-back h c.put.new.self.map maps;
       bytes = record { own = refl; pages = pages-back h c.put.new.self.map maps };

@@ -68,7 +68,8 @@ invariant_of-self-2 c =
       covered = λ a. ap (λ b. contains_key b a) marked
           ∙ has_set_all h.loans.bytes pas true c.in_default-past_end.ensures.inside a
           ∙ h.covered a ∙ sym (c.write_load.ensures.same.frames (a / 4096));
-      reaches = λ va. ap (λ t. t va) (same-physical h.memory.memory c.write_load.new.memory.memory c.write_load.ensures.same)
+      reaches = λ va. ap (λ t. t va) (same-physical h.memory.memory c.write_load.new.memory.memory
+          c.write_load.ensures.same)
           ∙ h.reaches va;
       tag_places = h.tag_places;
       map_places = put.1 ∙ h.map_places;
