@@ -49,7 +49,8 @@ covered-alike : (ps : List FrameBytes) (j : ℕ) (p : FrameBytes) (u w : Wire) (
 covered-alike [] j p u w a at e = absurd (cc)
 covered-alike (q ∷ ps) zero p u w a at e =
     let same : q ≡ p = found_one (Some q) q p refl at in
-    let here : (a / 4096 == q.frame) ≡ true = eq-eqb (a / 4096) q.frame (e ∙ ap (λ (x : FrameBytes). x.frame) (sym same)) in
+    let here : (a / 4096 == q.frame) ≡ true = eq-eqb (a / 4096) q.frame (e ∙ ap (λ (x : FrameBytes). x.frame)
+    (sym same)) in
     ap (λ b. cond b (page_byte q a) (with_bytes_of ps u a)) here
     ∙ sym (ap (λ b. cond b (page_byte q a) (with_bytes_of ps w a)) here)
 covered-alike (q ∷ ps) (suc j) p u w a at e =

@@ -1,5 +1,6 @@
 -- What a write of the driver that is done makes of its ideal state and of what it holds.
-use Rattle.std.proofs.Common.{◌≡◌, ℕ, ◌/◌, Bool, true, List, map, length, slice_get, Some, is_some, refl, sym, ap, ◌∙◌, subst}
+use Rattle.std.proofs.Common.{◌≡◌, ℕ, ◌/◌, Bool, true, List, map, length, slice_get, Some, is_some, refl, sym, ap, ◌∙◌}
+use Rattle.std.proofs.Common.{subst}
 use Rattle.std.specs.Ordering.{nat_cmp}
 use Rattle.std.specs.FinMap.{FinMap}
 use Rattle.busdma_base.specs.declared.bounce.hold.HubReply.TheVariants.{Nothing}
@@ -136,7 +137,8 @@ module _ (h : Holdings) (wired : IsWired h) (place : Place) (vs pas : List ℕ)
   stays : IsFaithful after (with_bytes_of (held_pages h.maps.map) (wire n))
   stays =
       subst (IsFaithful after) (sym cpu_write-wire)
-      (subst (λ (s : Asking Outcome). IsFaithful (by_reply s Nothing).lane (wires.cpu_write place vs l (wire_of h))) step
+      (subst (λ (s : Asking Outcome). IsFaithful (by_reply s Nothing).lane (wires.cpu_write place vs l (wire_of h)))
+      step
       (cpu_write-faithful l (wire_of h) wired.apart wired.laid wired.faithful place vs Nothing))
 
   -- what is held then is what was written, where the bytes are marked
@@ -153,7 +155,8 @@ module _ (h : Holdings) (wired : IsWired h) (place : Place) (vs pas : List ℕ)
       (λ i. held (marked i) (same i) (devices_of h.maps.map) n)
       ∙ held-is l wired.laid wired.apart h.maps.map refl h.unlent n (written pas vs l.memory) h.loans.loans stays
       (λ k. refl)
-      (λ a mine. sym (own-marks h.loans.bytes (set_all h.loans.bytes pas true) l.memory (written pas vs l.memory) marks now
+      (λ a mine. sym (own-marks h.loans.bytes (set_all h.loans.bytes pas true) l.memory (written pas vs l.memory)
+      marks now
       (has_set_all h.loans.bytes pas true are) a) ∙ mine)
       (set_all h.loans.bytes pas true) now in
       (λ i. gives (record l { memory = is i; loans = same i }) answer.Done) ∙ sym step

@@ -77,7 +77,7 @@ marks-forgotten bytes memory keys are marks a = get-set_all bytes keys false a �
     by true e = unknown-mark (memory a) (sym (ap is_some (marks a)) ∙ some_in bytes keys a are e)
     by false e = marks a
 
-some-mark : (o : Option Content) → is_some (mark_of o) ≡ is_some o
+pub some-mark : (o : Option Content) → is_some (mark_of o) ≡ is_some o
 some-mark None = refl
 some-mark (Some c) = refl
 

@@ -8,6 +8,8 @@ pub mod LaneIdeal
 pub mod MapValues
 pub mod OneProof
 pub mod OpeningMemory
+pub mod PagesLent
+pub mod Shares
 pub mod TagPlan
 pub mod Turning
 pub mod Virtual

@@ -1,21 +1,36 @@
 //! Accesses by the driver and by its device.
 
-ghost use Rattle.std.specs.Prelude.{◌≡◌, ◌<◌, ◌^◌, length, map, IfOk, OnErr};
+ghost use Rattle.std.specs.Prelude.{◌≡◌, ◌+◌, ◌≤◌, ◌<◌, ◌^◌, true, length, map, map as mapped, IfOk, IfSome};
+ghost use Rattle.std.specs.Prelude.{IfNone, OnOk, OnErr};
+ghost use Rattle.std.specs.FinMap.{get};
+ghost use Rattle.busdma_base.specs.declared.journals.answer.Answer.TheVariants as answer;
 ghost use Rattle.busdma_base.specs.Runs.{addresses, byte_count};
 ghost use Rattle.busdma_base.specs.Journals.Judging.{judged};
 ghost use Rattle.busdma_base.specs.Machine.Wire.{put};
+ghost use Rattle.device_model.specs.Access.{bus_range};
+ghost use Rattle.dma_map.specs.MapView.{segments_of};
 ghost use Rattle.phys_memory.specs.Frames.{Lie, SamePages};
 ghost use Rattle.phys_memory.specs.Memory.{physical, wire};
 ghost use Rattle.phys_memory.specs.Translation.{physical_or_0, unreached};
 ghost use Rattle.phys_memory.specs.Walk.{IfParts, verdict};
-ghost use Rattle.loan_table.specs.Table.{AreIn};
+ghost use Rattle.loan_table.specs.Table.{AreIn, HasMap, IsSame, buffer_of, bytes_at, extent_count};
 ghost use Rattle.ideal_lane.specs.Accesses as accesses;
-ghost use Rattle.ideal_lane.specs.Asking.{Gives};
+ghost use Rattle.ideal_lane.specs.Asking.{Asking, Gives};
+ghost use Rattle.ideal_lane.specs.Outcomes.{Outcome, gives, unless_past, unless_unloaded};
+ghost use Rattle.ideal_lane.specs.State.{LaneMap};
 ghost use Rattle.ideal_wire.specs.WireStep as wires;
+ghost use Rattle.ideal_wire.specs.WireStep.{Reads, load_buses};
+ghost use Rattle.bounced_lane.specs.Covered.{has_load};
+ghost use Rattle.bounced_lane.specs.Held.{device_view};
+ghost use Rattle.bounced_lane.specs.Kept.{device_in};
+ghost use Rattle.bounced_lane.specs.PagesLent.{IsReached, IsRepaged};
 ghost use Rattle.bounced_lane.specs.Virtual.{virtual};
 
 use crate::holdings::{Holdings, report};
-use busdma_base::{Answer, ByteList, Extent, Judged, Place, ReportName};
+use busdma_base::{Answer, ByteList, Extent, Judged, MapId, PageList, Place, Report, ReportName};
+use device_model::{bus_read, bus_write};
+use dma_map::{DmaMap, MapState, Transfers};
+use loan_table::LoanTable;
 use phys_memory::{LanePages, Walked};
 use std::alloc::{AllocError, Global};
 
@@ -88,6 +103,145 @@ impl Holdings<'_> {
         self.loans.note_write(parts.as_slice());
         Ok(Answer::Done)
     }
+
+    /// The refusal of a map that does not exist or is not loaded.
+    pub(crate) fn unloaded(&self, map: u32) -> Option<Report>
+        ensures refused { IfSome result (λ r. (step : LaneMap → Asking Outcome) →
+            unless_unloaded map (ideal_of self.now) step ≡ gives (ideal_of self.now) (answer.Report r)) }
+        ensures loaded { IfNone result (has_load (get self.now.maps.map map) ≡ true) }
+    {
+        let Some(kept) = self.maps.get(map) else {
+            return Some(Report {
+                name: ReportName::Absent,
+                at: 0,
+            });
+        };
+        let MapState::Loaded = kept.map.state() else {
+            return Some(Report {
+                name: ReportName::NotLoaded,
+                at: 0,
+            });
+        };
+        None
+    }
+
+    /// The refusal of `len` bytes from `off` on that reach past the end of a map's load.
+    pub(crate) fn past_end(&self, map: u32, off: u64, len: u64) -> Option<Report>
+        requires { has_load (get self.now.maps.map map) ≡ true }
+        ensures refused { IfSome result (λ r. (step : Asking Outcome) →
+            unless_past map off len (ideal_of self.now) step ≡ gives (ideal_of self.now) (answer.Report r)) }
+        ensures range { IfNone result (off + len ≤ length (buffer_of self.now.loans map)) }
+        ensures below { IfNone result (off + len < 2 ^ 64) }
+        ensures inside { IfNone result (AreIn self.now.loans.bytes (bytes_at self.now.loans map off len)) }
+    {
+        let end = self.loans.len_of(self.map_id(map));
+        if off <= end && len <= end - off {
+            None
+        } else {
+            Some(Report {
+                name: ReportName::PastEnd,
+                at: end.saturating_sub(off),
+            })
+        }
+    }
+
+    /// The device reads `len` bytes of a map's load, from `off` on.
+    pub(crate) fn dev_read(
+        &mut self,
+        alloc: Global,
+        map: u32,
+        off: u64,
+        len: u64,
+    ) -> Result<Answer, AllocError>
+        requires { IsWired self.old }
+        ensures done { IfOk result (λ answer.
+            Gives (given self.new answer) ≡ accesses.dev_read map off len (ideal_of self.old)) }
+        ensures read { IfOk result (λ answer.
+            Reads answer (load_buses (ideal_of self.old) map off len) (wire_of self.old)) }
+        ensures wire { wire_of self.new ≡ wire_of self.old }
+        ensures kept { KeepsState self.old self.new }
+        ensures agenda { self.new.agenda ≡ self.old.agenda }
+    {
+        if let Some(refusal) = self.unloaded(map) {
+            return Ok(Answer::Report(refusal));
+        }
+        if let Some(refusal) = self.past_end(map, off, len) {
+            return Ok(Answer::Report(refusal));
+        }
+        if let Judged::Refused(refusal) = self.loans.may_dev_read(self.map_id(map), off, len) {
+            return Ok(Answer::Report(refusal));
+        }
+        let Some(mut kept) = self.maps.take(map) else {
+            unreachable!()
+        };
+        let bytes = read_load(&mut kept.map, &self.memory, alloc, off, len);
+        self.maps.put(map, kept);
+        Ok(Answer::Bytes(bytes?))
+    }
+
+    /// The device writes bytes into a map's load, from `off` on.
+    pub(crate) fn dev_write(
+        &mut self,
+        alloc: Global,
+        map: u32,
+        off: u64,
+        bytes: &[u8],
+    ) -> Result<Answer, AllocError>
+        requires { IsWired self.old }
+        ensures done { IfOk result (λ answer.
+            Gives (given self.new answer) ≡ accesses.dev_write map off bytes.now (ideal_of self.old)) }
+        ensures wire { IfOk result (λ answer.
+            wire_of self.new ≡ wires.dev_write map off bytes.now (ideal_of self.old) (wire_of self.old)) }
+        ensures agenda { self.new.agenda ≡ self.old.agenda }
+        ensures err { OnErr result (KeepsState self.old self.new) }
+    {
+        let len = bytes.len() as u64;
+        if let Some(refusal) = self.unloaded(map) {
+            return Ok(Answer::Report(refusal));
+        }
+        if let Some(refusal) = self.past_end(map, off, len) {
+            return Ok(Answer::Report(refusal));
+        }
+        let id = self.map_id(map);
+        if let Judged::Refused(refusal) = self.loans.may_dev_write(id, off, len) {
+            return Ok(Answer::Report(refusal));
+        }
+        reserve_extents(&mut self.loans, alloc, id, off, len)?;
+        let Some(mut kept) = self.maps.take(map) else {
+            unreachable!()
+        };
+        write_load(&mut kept.map, &mut self.memory, off, bytes);
+        self.maps.put(map, kept);
+        self.loans.note_dev_write(id, off, len);
+        Ok(Answer::Done)
+    }
+}
+
+/// `len` bytes of a map's load, from `off` on, at their bus addresses.
+fn read_load(
+    map: &mut DmaMap<Transfers>,
+    memory: &LanePages,
+    alloc: Global,
+    off: u64,
+    len: u64,
+) -> Result<ByteList, AllocError>
+    requires { IsReached memory.now.memory map.old.stage off len }
+    ensures bytes { IfOk result (λ bytes.
+        bytes ≡ mapped (device_view (device_in map.old.stage) memory.now.memory)
+        (bus_range off len (segments_of map.old.stage))) }
+    ensures kept { map.new ≡ map.old }
+{
+    let mut bytes = vec![in alloc; 0; len as usize]?;
+    let pages = map.lend_pages();
+    bus_read(
+        map.segments(),
+        off,
+        bytes.as_mut_slice(),
+        memory,
+        pages.as_slice(),
+    );
+    map.restore_pages(pages);
+    Ok(ByteList::new(bytes))
 }
 
 /// The bytes of extents, `len` of them.
@@ -135,4 +289,35 @@ fn write_parts(memory: &mut LanePages, parts: &[Extent], bytes: &[u8])
         memory.write(part.pa, here);
         done = end;
     }
+}
+
+/// Writes bytes into a map's load at their bus addresses, from `off` on.
+fn write_load(map: &mut DmaMap<Transfers>, memory: &mut LanePages, off: u64, bytes: &[u8])
+    requires { IsReached memory.old.memory map.old.stage off (length bytes.now) }
+    ensures view { device_view (device_in map.new.stage) memory.new.memory
+        ≡ put (bus_range off (length bytes.now) (segments_of map.old.stage)) bytes.now
+        (device_view (device_in map.old.stage) memory.old.memory) }
+    ensures map { IsRepaged map.old map.new }
+    ensures same { SamePages memory.old.memory memory.new.memory }
+{
+    let mut pages = map.lend_pages().into_vec();
+    bus_write(map.segments(), off, bytes, memory, pages.as_mut_slice());
+    map.restore_pages(PageList::from_vec(pages));
+}
+
+/// Makes room to change `len` bytes of a map's load, from `off` on.
+pub(crate) fn reserve_extents(
+    loans: &mut LoanTable,
+    alloc: Global,
+    map: MapId,
+    off: u64,
+    len: u64,
+) -> Result<(), AllocError>
+    requires there { HasMap loans.old map.made_at }
+    requires range { off + len ≤ length (buffer_of loans.old map.made_at) }
+    ensures room { OnOk result (extent_count (bytes_at loans.old map.made_at off len) ≤ loans.new.spare) }
+    ensures same { IsSame loans.old loans.new }
+{
+    let extents = loans.extents(map, off, len);
+    loans.reserve(alloc, u32::try_from(extents).map_err(|_| AllocError)?)
 }

@@ -9,6 +9,7 @@ mod maps;
 mod opening;
 mod returns;
 mod steps;
+mod syncs;
 mod tags;
 mod turn;
 mod turns;

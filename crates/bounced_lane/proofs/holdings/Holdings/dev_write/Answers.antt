@@ -1,0 +1,125 @@
+use Rattle.std.proofs.Common.{◌≡◌, ◌/◌, true, Some, length, ap, sym, ◌∙◌, subst}
+use Rattle.std.specs.FinMap.{contains_key, get}
+use Rattle.busdma_base.specs.declared.name.MapId.{MapId}
+use Rattle.busdma_base.specs.Machine.Wire.{with_bytes_of}
+use Rattle.phys_memory.specs.Memory.{wire}
+use Rattle.bounced_lane.specs.Wire.{held_pages}
+use Rattle.loan_table.specs.Access.{dev_write_answer}
+use Rattle.loan_table.specs.Loans.{loan_of}
+use Rattle.loan_table.specs.Table.{bytes_at, set_all}
+use Rattle.bounced_lane.specs.declared.kept.KeptMap.{KeptMap}
+use Rattle.bounced_lane.specs.Covered.{has_load}
+use Rattle.bounced_lane.specs.Ideal.{ideal_of}
+use Rattle.bounced_lane.specs.Kept.{map_of}
+use Rattle.bounced_lane.proofs.DeviceReads.{load-there}
+use Rattle.bounced_lane.proofs.Devices.{is-reached}
+use Rattle.bounced_lane.proofs.DeviceWrites.{dev_write-done, dev_write-past, dev_write-wire}
+use Rattle.bounced_lane.proofs.MapTables.{AreMaps}
+use Rattle.bounced_lane.proofs.MapValues.{image-some}
+use Rattle.bounced_lane.proofs.Marks.{has_set_all}
+use Rattle.bounced_lane.proofs.Places.{get_removed}
+use Rattle.bounced_lane.proofs.PutBack.{put-again}
+use Rattle.bounced_lane.proofs.Reaching.{same-physical}
+use Rattle.bounced_lane.proofs.Repaging.{are-maps}
+use Rattle.bounced_lane.proofs.holdings.Holdings.dev_write.Goals as goal
+
+pub returns-in-Some-past_end-clause-done : goal.returns-in-Some-past_end-clause-done
+returns-in-Some-past_end-clause-done c =
+    let h = c.args.self.now in
+    let x = load-there (get h.maps.map c.args.map) c.in_default.ensures.loaded in
+    dev_write-past (ideal_of h) c.args.map (map_of x.0) (image-some map_of h.maps.map c.args.map x.0 x.1) x.2 c.args.off
+    c.args.bytes.now c.in-Some-past_end.refusal c.in-Some-past_end.ensures.refused
+
+pub write_load-requires : goal.write_load-requires
+write_load-requires c =
+    let h = c.args.self.now in
+    let o : KeptMap = c.in-Some-take.kept in
+    let there : get h.maps.map c.args.map ≡ Some o = sym c.take.ensures.value ∙ c.in-Some-take.is in
+    let on = sym (ap has_load there) ∙ c.in_default.ensures.loaded in
+    is-reached h c.requires c.args.map o there on c.args.off (length c.args.bytes.now)
+    c.in_default-past_end.ensures.range
+
+pub put-requires-clause-vacant : goal.put-requires-clause-vacant
+put-requires-clause-vacant c =
+    ap (λ t. get t.map c.args.map) c.in-Some-take.ensures.taken ∙ get_removed c.args.self.now.maps.map c.args.map
+
+pub invariant_of-self-2 : goal.invariant_of-self-2
+invariant_of-self-2 c =
+    let h = c.args.self.now in
+    let k = c.args.map in
+    let o : KeptMap = c.in-Some-take.kept in
+    let there : get h.maps.map k ≡ Some o = sym c.take.ensures.value ∙ c.in-Some-take.is in
+    let on = sym (ap has_load there) ∙ c.in_default.ensures.loaded in
+    let put =
+    put-again h.maps c.take.new.self c.put.new.self k (record o { map = c.write_load.new.map })
+    c.in-Some-take.ensures.taken c.put.ensures in
+    let loans = c.note_dev_write.ensures.loans ∙ c.reserve_extents.ensures.same.loans in
+    let pas = bytes_at h.loans k c.args.off (length c.args.bytes.now) in
+    let one = are-maps h c.requires k o there on c.write_load.new.map c.write_load.ensures.map in
+    let two = subst (λ ms. AreMaps ms h.loans.loans h.agenda.returns h.agenda.promised) (sym put.0) one in
+    let are =
+    subst (λ ls. AreMaps c.put.new.self.map ls h.agenda.returns h.agenda.promised) (sym loans) two in
+    let marked =
+    c.note_dev_write.ensures.bytes
+    ∙ (λ i. set_all (c.reserve_extents.ensures.same.bytes i)
+    (bytes_at (record c.reserve_extents.new.loans { loans = c.reserve_extents.ensures.same.loans i })
+    (c.map_id-id.ensures i).made_at c.args.off (length c.args.bytes.now)) true) in
+    record {
+      covered = λ a. ap (λ b. contains_key b a) marked
+          ∙ has_set_all h.loans.bytes pas true c.in_default-past_end.ensures.inside a
+          ∙ h.covered a ∙ sym (c.write_load.ensures.same.frames (a / 4096));
+      reaches = λ va. ap (λ t. t va) (same-physical h.memory.memory c.write_load.new.memory.memory
+          c.write_load.ensures.same)
+          ∙ h.reaches va;
+      tag_places = h.tag_places;
+      map_places = put.1 ∙ h.map_places;
+      memory_places = h.memory_places;
+      loaded = are.loaded;
+      unlent = are.unlent;
+      promised = are.promised;
+      own_returns = h.own_returns;
+      returning = are.returning;
+      tried = are.tried;
+    }
+
+pub returns-clause-done : goal.returns-clause-done
+returns-clause-done c =
+    let h = c.args.self.now in
+    let k = c.args.map in
+    let o : KeptMap = c.in-Some-take.kept in
+    let there : get h.maps.map k ≡ Some o = sym c.take.ensures.value ∙ c.in-Some-take.is in
+    let on = sym (ap has_load there) ∙ c.in_default.ensures.loaded in
+    let put =
+    put-again h.maps c.take.new.self c.put.new.self k (record o { map = c.write_load.new.map })
+    c.in-Some-take.ensures.taken c.put.ensures in
+    let fine =
+    sym c.in_default-may_dev_write.is ∙ c.may_dev_write.ensures
+    ∙ ap (λ (m : MapId). dev_write_answer (loan_of h.loans.loans m.made_at) c.args.off (length c.args.bytes.now))
+    c.map_id-id.ensures in
+    dev_write-done h c.requires k o there on c.args.off c.args.bytes.now c.in_default-past_end.ensures.range fine
+    c.write_load.new.map c.write_load.ensures.map c.write_load.new.memory.memory c.write_load.ensures.view
+    c.note_dev_write.new.self.bytes c.note_dev_write.new.self.loans c.put.new.self.map
+    c.in_default-past_end.ensures.inside
+    (c.note_dev_write.ensures.bytes
+    ∙ (λ i. set_all (c.reserve_extents.ensures.same.bytes i)
+    (bytes_at (record c.reserve_extents.new.loans { loans = c.reserve_extents.ensures.same.loans i })
+    (c.map_id-id.ensures i).made_at c.args.off (length c.args.bytes.now)) true))
+    (c.note_dev_write.ensures.loans ∙ c.reserve_extents.ensures.same.loans) put.0
+
+pub returns-clause-wire : goal.returns-clause-wire
+returns-clause-wire c =
+    let h = c.args.self.now in
+    let k = c.args.map in
+    let o : KeptMap = c.in-Some-take.kept in
+    let there : get h.maps.map k ≡ Some o = sym c.take.ensures.value ∙ c.in-Some-take.is in
+    let on = sym (ap has_load there) ∙ c.in_default.ensures.loaded in
+    let put =
+    put-again h.maps c.take.new.self c.put.new.self k (record o { map = c.write_load.new.map })
+    c.in-Some-take.ensures.taken c.put.ensures in
+    let fine =
+    sym c.in_default-may_dev_write.is ∙ c.may_dev_write.ensures
+    ∙ ap (λ (m : MapId). dev_write_answer (loan_of h.loans.loans m.made_at) c.args.off (length c.args.bytes.now))
+    c.map_id-id.ensures in
+    ap (λ ms. with_bytes_of (held_pages ms) (wire c.write_load.new.memory.memory)) put.0
+    ∙ dev_write-wire h c.requires k o there on c.args.off c.args.bytes.now c.in_default-past_end.ensures.range fine
+    c.write_load.new.map c.write_load.ensures.map c.write_load.new.memory.memory c.write_load.ensures.view
