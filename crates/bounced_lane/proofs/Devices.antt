@@ -2,6 +2,8 @@
 use Rattle.std.proofs.Common.{◌≡◌, ℕ, ◌+◌, ◌*◌, ◌/◌, ◌^◌, ◌<◌, ◌≤◌, ◌==◌, ◌||◌, Bool, true, false, List, []}
 use Rattle.std.proofs.Common.{◌∷◌, zero, suc, length, Some, is_some, slice_get, get_or, refl, sym}
 use Rattle.std.proofs.Common.{ap, ◌∙◌, subst, arith}
+use mathlib.Core.Logic.{∥∥₁_elim}
+use Rattle.std.proofs.Props.{props}
 use Rattle.std.proofs.lemmas.Bool.{le-leb, lt-ltb, eq-eqb}
 use Rattle.std.proofs.lemmas.List.{length-map}
 use Rattle.std.proofs.lemmas.Option.{slice_get-map, slice_get-get_or}
@@ -77,7 +79,9 @@ module _ (h : Holdings) (wired : IsWired h) where
 
   pub own-low : (a : ℕ) → is_some (l.memory a) ≡ true → a < 2 ^ 42
   own-low a own =
-      let below : a < 4096 * l.maxmem = byte-below l wired.laid wired.machine a (wired.laid.only a own) in
+      let one : IsProp (a < 4096 * l.maxmem) = hlevel (props) in
+      let below : a < 4096 * l.maxmem =
+      ∥∥₁_elim (wired.laid.only a own) one (byte-below l wired.laid wired.machine a) in
       let most = wired.machine.numbered in omega (arith, below, most)
 
   module _ (k : ℕ) where

@@ -1,5 +1,5 @@
 -- What is known of a step at a door, by what the step is.
-use Rattle.std.proofs.Common.{◌≡◌, ℕ, Bool, true, false, Result, Ok, Err, IfOk, OnErr, refl, ap, sym, subst}
+use Rattle.std.proofs.Common.{◌≡◌, ℕ, Bool, true, false, Result, Ok, Err, IfOk, OnOk, OnErr, refl, ap, sym, subst}
 use Rattle.busdma_base.specs.declared.bounce.hold.HubCall.{HubCall}
 use Rattle.busdma_base.specs.declared.bounce.hold.HubReply.{HubReply}
 use Rattle.busdma_base.specs.Bounce.Door.{Seen, Allows}
@@ -40,3 +40,8 @@ err-map (Err e) f h = f h
 pub on-err : {T E P : Type 0} (r : Result T E) → P → OnErr r P
 on-err (Ok x) p = tt
 on-err (Err e) p = p
+
+-- what holds anyway holds where a value was made
+pub always-ok : {T E P : Type 0} (r : Result T E) → P → OnOk r P
+always-ok (Ok x) h = h
+always-ok (Err e) h = tt
