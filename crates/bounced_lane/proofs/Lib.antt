@@ -1,7 +1,10 @@
 mod Bytes
 mod Covering
 mod Doors
+mod Earlier
+mod Foreign
 mod Keeping
+mod LoadJudged
 mod MapSteps
 mod MapTables
 mod MapValues

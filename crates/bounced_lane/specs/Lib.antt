@@ -3,6 +3,7 @@ pub mod Covered
 pub mod Doing
 pub mod Held
 pub mod Ideal
+pub mod Judging
 pub mod Kept
 pub mod LaneIdeal
 pub mod MapValues

@@ -3,6 +3,7 @@
 
 mod accesses;
 mod holdings;
+mod judging;
 mod kept;
 mod lane;
 mod maps;
