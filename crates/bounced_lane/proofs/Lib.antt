@@ -4,6 +4,7 @@ mod Doors
 mod Earlier
 mod Foreign
 mod Keeping
+mod Loaded
 mod LoadJudged
 mod MapSteps
 mod MapTables

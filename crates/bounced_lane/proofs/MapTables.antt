@@ -35,7 +35,7 @@ module _ {X : Type 0} (f : Option KeptMap → X) (maps : FinMap nat_cmp KeptMap)
       ap f (get_cut maps k q) ∙ mapped f (q == k) None (get maps q)
       ∙ put_same (λ j. f (get maps j)) k q (f None) same
 
-returns-alike : (maps others : FinMap nat_cmp KeptMap) (returns : List QueuedPage) →
+pub returns-alike : (maps others : FinMap nat_cmp KeptMap) (returns : List QueuedPage) →
     ((q : ℕ) → is_returning (get others q) ≡ is_returning (get maps q)) → AreReturning maps returns →
     AreReturning others returns
 returns-alike maps others returns same are =

@@ -1,5 +1,5 @@
 -- What of a driver's holdings a step leaves as it was.
-use Rattle.std.specs.Prelude.{◌≡◌, ℕ, [], ◌⊎◌}
+use Rattle.std.specs.Prelude.{◌≡◌, ℕ, ◌==◌, false, [], ◌⊎◌}
 use Rattle.phys_memory.specs.Memory.{wire}
 use Rattle.bounced_lane.specs.declared.holdings.Holdings.{Holdings}
 use Rattle.bounced_lane.specs.Held.{devices_of}
@@ -15,6 +15,11 @@ pub record KeepsBytesHeld (h k : Holdings) : Type 0 where
   pub own : wire k.memory.memory ≡ wire h.memory.memory
   pub pages : (m : ℕ) → ((devices_of k.maps.map m).pages ≡ (devices_of h.maps.map m).pages)
       ⊎ ((devices_of k.maps.map m).pages ≡ [])
+
+-- the bytes of the driver's frames, and those of the bounce pages of each map but one
+pub record KeepsBytesBut (one : ℕ) (h k : Holdings) : Type 0 where
+  pub own : wire k.memory.memory ≡ wire h.memory.memory
+  pub pages : (m : ℕ) → (one == m) ≡ false → (devices_of k.maps.map m).pages ≡ (devices_of h.maps.map m).pages
 
 -- what a step leaves for want of memory: the ideal state and all bytes
 pub record KeepsState (h k : Holdings) : Type 0 where

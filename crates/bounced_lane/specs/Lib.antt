@@ -6,6 +6,7 @@ pub mod Ideal
 pub mod Judging
 pub mod Kept
 pub mod LaneIdeal
+pub mod Loading
 pub mod MapValues
 pub mod OpeningMemory
 pub mod TagPlan

@@ -2,6 +2,7 @@
 #![tactic(auto)]
 
 mod accesses;
+mod finishing;
 mod holdings;
 mod judging;
 mod kept;
