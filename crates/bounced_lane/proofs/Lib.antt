@@ -1,4 +1,6 @@
+mod BufferBytes
 mod Bytes
+mod Chunked
 mod Covering
 mod Doors
 mod Earlier
@@ -6,6 +8,7 @@ mod Foreign
 mod Keeping
 mod Loaded
 mod LoadJudged
+mod LoadSteps
 mod MapSteps
 mod MapTables
 mod MapValues
@@ -14,6 +17,7 @@ mod OpeningLane
 mod OpeningPages
 mod OwnRuns
 mod Places
+mod Preparing
 mod Reaching
 mod Reading
 mod Returned

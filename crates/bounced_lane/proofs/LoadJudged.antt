@@ -31,7 +31,7 @@ walk-says es [] = refl
 walk-says es (Of e opens rounded ∷ ps) = walk-says (es ++ e ∷ []) ps
 walk-says es (Unmapped at ∷ ps) = refl
 
-stream-says : (t : Translation) (va n : ℕ) →
+pub stream-says : (t : Translation) (va n : ℕ) →
     unmapped_judged (unmapped_of (flat t va n)) ≡ judged (unreached t) 0 (run_of va n)
 stream-says t va n = walk-says [] (flat t va n) ∙ verdict_is t va n (walked [] (flat t va n)) refl
 

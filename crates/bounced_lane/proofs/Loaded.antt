@@ -13,7 +13,7 @@ use Rattle.phys_memory.specs.Memory.{Memory}
 use Rattle.ideal_lane.proofs.Lookups.{get_put, mapped}
 use Rattle.ideal_lane.proofs.Weights.{weigh-put}
 use Rattle.bounced_lane.specs.declared.kept.KeptMap.{KeptMap}
-use Rattle.bounced_lane.specs.Covered.{AreLoaded, has_load, is_returning, is_tried, lends_pages, pages_due}
+use Rattle.bounced_lane.specs.Covered.{has_load, is_returning, is_tried, lends_pages, pages_due}
 use Rattle.bounced_lane.specs.Held.{bus_of, byte_among, content_of, held, lent_bus}
 use Rattle.bounced_lane.specs.Kept.{Device, due_of}
 use Rattle.bounced_lane.proofs.Bytes.{byte-apart, byte-put}

@@ -2,11 +2,13 @@
 #![tactic(auto)]
 
 mod accesses;
+mod buffers;
 mod finishing;
 mod holdings;
 mod judging;
 mod kept;
 mod lane;
+mod loads;
 mod maps;
 mod opening;
 mod returns;

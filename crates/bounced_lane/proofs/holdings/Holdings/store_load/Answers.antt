@@ -1,17 +1,18 @@
-use Rattle.std.proofs.Common.{◌≡◌, ◌+◌, ◌-◌, ◌≤◌, ◌++◌, length, map, Some, true, is_some, unwrap_or, refl, sym, ap, ◌∙◌, subst}
-use Rattle.std.proofs.Common.{arith}
+use Rattle.std.proofs.Common.{◌≡◌, ◌+◌, ◌≤◌, Some, true, unwrap_or, refl, sym, ap, ◌∙◌, subst}
+use Rattle.std.proofs.Common.{cond}
+use Rattle.std.proofs.lemmas.Bool.{eq-eqb}
 use Rattle.std.specs.FinMap.{get, insert, contains_key}
+use Rattle.ideal_lane.proofs.Lookups.{get_put}
 use Rattle.busdma_base.specs.declared.name.MapId.{MapId}
 use Rattle.busdma_base.specs.Machine.PageList.{page_addresses}
 use Rattle.dma_map.specs.MapView.{loaded}
-use Rattle.lane_tables.specs.Queues.{queued}
-use Rattle.loan_table.specs.Loans.{Loan, loan_of, new_loan, no_loan}
+use Rattle.loan_table.specs.Loans.{loan_of, new_loan, no_loan}
 use Rattle.ideal_lane.specs.State.{LaneMap, Loaded}
 use Rattle.bounced_lane.specs.declared.kept.KeptMap.{KeptMap}
-use Rattle.bounced_lane.specs.Covered.{is_idle_map, pages_due}
+use Rattle.bounced_lane.specs.Covered.{has_load, is_idle_map, pages_due}
 use Rattle.bounced_lane.specs.Held.{devices_of, held}
 use Rattle.bounced_lane.specs.Ideal.{ideal_of}
-use Rattle.bounced_lane.specs.Kept.{device_of, due_of, map_of, return_of}
+use Rattle.bounced_lane.specs.Kept.{due_of, map_of}
 use Rattle.bounced_lane.specs.MapValues.{map_values}
 use Rattle.bounced_lane.proofs.Bytes.{devices-elsewhere}
 use Rattle.bounced_lane.proofs.Keeping.{idle-map, idle-state}
@@ -19,7 +20,7 @@ use Rattle.bounced_lane.proofs.Loaded.{held-loaded, loans-more, maps-staged, non
 use Rattle.bounced_lane.proofs.MapTables.{AreMaps, maps-of}
 use Rattle.bounced_lane.proofs.MapValues.{image-some, map_values-insert}
 use Rattle.bounced_lane.proofs.Places.{get_removed, reput}
-use Rattle.bounced_lane.proofs.holdings.Holdings.finish_load.Goals as goal
+use Rattle.bounced_lane.proofs.holdings.Holdings.store_load.Goals as goal
 
 pub finish-requires : goal.finish-requires
 finish-requires c =
@@ -62,19 +63,18 @@ invariant_of-self c =
     let one =
     subst (λ ms. AreMaps ms (insert h.loans.loans k loan) h.agenda.returns h.agenda.promised) (sym maps) base in
     let are = subst (λ ls. AreMaps c.put.new.self.map ls h.agenda.returns h.agenda.promised) (sym loans) one in
-    let agenda = c.push_items.ensures in
     record {
       covered = λ a. ap (λ b. contains_key b a) c.open_map.ensures.bytes ∙ h.covered a;
       reaches = h.reaches;
-      tag_places = h.tag_places ∙ sym (ap (λ a. a.length) agenda);
+      tag_places = h.tag_places;
       map_places = ap (λ t. t.places) c.put.ensures ∙ ap (λ t. t.places) c.in-Some.ensures.taken
-          ∙ h.map_places ∙ sym (ap (λ a. a.length) agenda);
-      memory_places = h.memory_places ∙ sym (ap (λ a. a.length) agenda);
+          ∙ h.map_places;
+      memory_places = h.memory_places;
       loaded = are.loaded;
       unlent = are.unlent;
-      promised = rw (ap (λ a. a.promised) agenda) are.promised;
-      own_returns = rw (ap (λ a. a.returns) agenda) h.own_returns;
-      returning = rw (ap (λ a. a.returns) agenda) are.returning;
+      promised = are.promised;
+      own_returns = h.own_returns;
+      returning = are.returning;
       tried = are.tried;
     }
 
@@ -103,9 +103,7 @@ returns-in-Some-clause-done c other found =
     let loan_is : loan ≡ new = ap (λ x. unwrap_or x no_loan) c.requires.prepared.is in
     let none =
     none-loaned h.maps.map h.loans.loans h.agenda.returns h.agenda.promised (maps-of h) k o v there idle in
-    let agenda = c.push_items.ensures in
     (λ i. record l {
-      place = (agenda i).place;
       maps = (ap (map_values map_of) maps ∙ map_values-insert map_of h.maps.map k v
           ∙ ap (λ (x : LaneMap). insert l.maps k (record x {
             tried = true;
@@ -117,8 +115,6 @@ returns-in-Some-clause-done c other found =
           (devices_of (insert h.maps.map k v)) k c.requires.prepared.coherent c.requires.prepared.bytes none
           (devices-elsewhere h.maps.map k v)) i;
       loans = loans i;
-      queue = (agenda i).queue;
-      returns = ap (λ a. map return_of a.returns) agenda i;
     })
 
 pub returns-in-Some-clause-bytes : goal.returns-in-Some-clause-bytes
@@ -134,3 +130,18 @@ returns-in-Some-clause-bytes c =
       pages = λ m off. ap (λ ms. (devices_of ms m).pages) maps
           ∙ ap (λ d. d.pages) (devices-elsewhere h.maps.map k after m off);
     }
+
+pub returns-in-Some-clause-loaded : goal.returns-in-Some-clause-loaded
+returns-in-Some-clause-loaded c =
+    let h = c.args.self.now in
+    let k = c.args.map in
+    let o : KeptMap = c.in-Some.kept in
+    let v : KeptMap = record o {
+      map = record o.map { tried = true; stage = loaded c.args.bounced c.args.segments c.args.pages };
+    } in
+    let maps : c.put.new.self.map ≡ insert h.maps.map k v =
+    ap (λ t. t.map) c.put.ensures ∙ ap (λ t. insert t.map k (record o { map = c.finish.new.self })) c.in-Some.ensures.taken
+    ∙ reput h.maps.map k (record o { map = c.finish.new.self })
+    ∙ ap (λ x. insert h.maps.map k (record o { map = x })) c.finish.ensures in
+    ap (λ ms. has_load (get ms k)) maps ∙ ap has_load (get_put h.maps.map k v k)
+    ∙ ap (λ b. has_load (cond b (Some v) (get h.maps.map k))) (eq-eqb k k refl)

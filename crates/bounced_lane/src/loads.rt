@@ -1,0 +1,224 @@
+//! Loading.
+
+ghost use Rattle.std.specs.Prelude.{◌≡◌, ◌+◌, ◌<◌, ◌≤◌, ◌^◌, [], true, false, length, Some, None};
+ghost use Rattle.std.specs.Prelude.{IfNone, IfOk, IfSome, OnErr, OnOk};
+ghost use Rattle.std.specs.FinMap.{get, insert};
+ghost use Rattle.std.specs.List.{AllByRecursion};
+ghost use Rattle.busdma_base.specs.declared.journals.report.Judged.TheVariants.{Fine};
+ghost use Rattle.busdma_base.specs.Bounce.AccountStep.{as_pages};
+ghost use Rattle.busdma_base.specs.Machine.Entry.{entries_addresses};
+ghost use Rattle.busdma_base.specs.Machine.PageList.{page_addresses};
+ghost use Rattle.loan_table.specs.Loans.{new_loan};
+ghost use Rattle.segment_build.specs.Trace.{IsPage};
+ghost use Rattle.ideal_lane.specs.Loads.{Asked, finished, is_coherent, limits_of};
+ghost use Rattle.ideal_lane.specs.Places.{reached};
+ghost use Rattle.ideal_lane.specs.Standing.{Stands};
+ghost use Rattle.ideal_lane.specs.State.{LaneMap};
+ghost use Rattle.bounced_lane.specs.Covered.{is_idle_map, pages_due};
+ghost use Rattle.bounced_lane.specs.Loading.{HasRoomFor, IsFilled, IsOverfull, IsWanted};
+ghost use Rattle.bounced_lane.specs.Loading.{buffer_chunks, buffer_entries};
+
+use crate::buffers::{Buffer, build_buffer, copy_segments, measure_buffer};
+use crate::holdings::Holdings;
+use busdma_base::{Answer, ChunkRoom, Errno, ItemList, Pa, PageList, SegmentRoom};
+use dma_map::LoadRoom;
+use phys_memory::Walked;
+use segment_build::Measured;
+use std::alloc::{AllocError, Global};
+
+/// What the load of a buffer asks: so many bounce pages, and room for so many segments.
+#[derive(Clone, Copy, Debug, PartialEq, Eq)]
+struct Wanted {
+    need: u32,
+    segments: u64,
+}
+
+/// Takes the room of a load, its lists empty.
+fn take_room(alloc: Global, wanted: Wanted) -> Result<LoadRoom, AllocError>
+    ensures list { IfOk result (λ r. r.list.items ≡ []) }
+    ensures shown { IfOk result (λ r. r.shown.items ≡ []) }
+    ensures bounced { IfOk result (λ r. r.bounced.items ≡ []) }
+    ensures list_room { IfOk result (λ r. wanted.segments ≤ r.list.spare) }
+    ensures shown_room { IfOk result (λ r. wanted.segments ≤ r.shown.spare) }
+    ensures bounced_room { IfOk result (λ r. wanted.need ≤ r.bounced.spare) }
+{
+    Ok(LoadRoom {
+        list: SegmentRoom::with_room(alloc, wanted.segments as usize)?,
+        shown: SegmentRoom::with_room(alloc, wanted.segments as usize)?,
+        bounced: ChunkRoom::with_room(alloc, wanted.need as usize)?,
+    })
+}
+
+impl Holdings<'_> {
+    ghost use Rattle.bounced_lane.specs.Changes.{KeepsBytesBut, KeepsState};
+    ghost use Rattle.bounced_lane.specs.Ideal.{given, ideal_of};
+
+    /// What the load of a map with a buffer asks, or None where it is longer than the tag allows.
+    fn measure_load(&self, map: u32, buffer: Buffer) -> Option<Wanted>
+        requires stands { Stands (ideal_of self.now) }
+        requires idle { is_idle_map (get self.now.maps.map map) ≡ true }
+        requires reached { reached (ideal_of self.now) buffer.va.0 buffer.len ≡ Fine }
+        requires small { buffer.len ≤ 2 ^ 20 }
+        ensures long { IfNone result ((o : LaneMap) → get (ideal_of self.now).maps map ≡ Some o →
+            (limits_of (ideal_of self.now) o).maxsize < buffer.len) }
+        ensures wanted { IfSome result (λ w. (o : LaneMap) → get (ideal_of self.now).maps map ≡ Some o →
+            IsWanted (limits_of (ideal_of self.now) o) (buffer_chunks (ideal_of self.now) o buffer.va.0 buffer.len)
+            buffer.len w.need w.segments) }
+    {
+        let kept = self.maps.get(map)?;
+        let made = self.tags.get(kept.tag)?;
+        let limits = made.tag.limits();
+        if limits.maxsize < buffer.len {
+            return None;
+        }
+        let Measured::Fits { need, pieces, .. } = measure_buffer(
+            &made.tag,
+            self.maxmem,
+            &self.memory,
+            buffer,
+        ) else {
+            return None;
+        };
+        let segments = pieces.min(limits.nsegments as u64);
+        Some(Wanted { need, segments })
+    }
+
+    /// Prepares the loan of a map that is not a memory's, over the bytes of a buffer.
+    fn prepare_load(&mut self, alloc: Global, map: u32, buffer: Buffer) -> Result<(), AllocError>
+        requires idle { is_idle_map (get self.old.maps.map map) ≡ true }
+        requires own { get self.old.memories.map map ≡ None }
+        requires unprepared { get self.old.loans.prepared map ≡ None }
+        requires reached { reached (ideal_of self.old) buffer.va.0 buffer.len ≡ Fine }
+        requires small { buffer.len ≤ 2 ^ 20 }
+        ensures prepared { OnOk result (self.new.loans.prepared ≡ insert self.old.loans.prepared map (new_loan
+            (is_coherent (get (ideal_of self.old).mems map))
+            (entries_addresses (buffer_entries (ideal_of self.old) buffer.va.0 buffer.len)))) }
+        ensures err { OnErr result (self.new.loans.prepared ≡ self.old.loans.prepared) }
+        ensures same { KeepsState self.old self.new }
+        ensures maps { self.new.maps ≡ self.old.maps }
+        ensures agenda { self.new.agenda ≡ self.old.agenda }
+    {
+        let id = self.map_id(map);
+        let bytes = match self.memory.translate(alloc, buffer.va, buffer.len)? {
+            Walked::Unmapped(_) => return Ok(()),
+            Walked::Parts(bytes) => bytes,
+        };
+        self.loans.prepare_map(alloc, id, bytes.as_slice(), false)
+    }
+
+    /// Builds the load of a map with a buffer in these pages into its room, and answers whether the segments are few
+    /// enough.
+    fn build_load(&self, map: u32, buffer: Buffer, pages: &[Pa], room: &mut LoadRoom) -> bool
+        requires stands { Stands (ideal_of self.now) }
+        requires idle { is_idle_map (get self.now.maps.map map) ≡ true }
+        requires reached { reached (ideal_of self.now) buffer.va.0 buffer.len ≡ Fine }
+        requires small { buffer.len ≤ 2 ^ 20 }
+        requires pages { AllByRecursion IsPage pages.now }
+        requires room { (o : LaneMap) → get (ideal_of self.now).maps map ≡ Some o →
+            HasRoomFor (limits_of (ideal_of self.now) o)
+            (buffer_chunks (ideal_of self.now) o buffer.va.0 buffer.len) pages.now room.old }
+        ensures few { result ≡ true → (o : LaneMap) → get (ideal_of self.now).maps map ≡ Some o →
+            IsFilled (limits_of (ideal_of self.now) o)
+            (buffer_chunks (ideal_of self.now) o buffer.va.0 buffer.len) pages.now room.new }
+        ensures many { result ≡ false → (o : LaneMap) → get (ideal_of self.now).maps map ≡ Some o →
+            IsOverfull (limits_of (ideal_of self.now) o)
+            (buffer_chunks (ideal_of self.now) o buffer.va.0 buffer.len) pages.now room.new }
+        ensures shown { room.new.shown ≡ room.old.shown }
+    {
+        let Some(kept) = self.maps.get(map) else {
+            return false;
+        };
+        let Some(made) = self.tags.get(kept.tag) else {
+            return false;
+        };
+        build_buffer(&made.tag, self.maxmem, &self.memory, buffer, pages, room)
+    }
+
+    /// Ends the load of an idle map that has its pages, at these addresses: with its segments, or with EFBIG, and then
+    /// the pages join the return queue.
+    fn complete_load(
+        &mut self,
+        map: u32,
+        load_at: u32,
+        buffer: Buffer,
+        addresses: &[Pa],
+        mut room: LoadRoom,
+        pages: PageList,
+        items: ItemList,
+    ) -> Answer
+        requires stands { Stands (ideal_of self.old) }
+        requires idle { is_idle_map (get self.old.maps.map map) ≡ true }
+        requires reached { reached (ideal_of self.old) buffer.va.0 buffer.len ≡ Fine }
+        requires small { buffer.len ≤ 2 ^ 20 }
+        requires at_frames { AllByRecursion IsPage addresses.now }
+        requires addresses { addresses.now ≡ as_pages (page_addresses pages.items) }
+        requires room { (o : LaneMap) → get (ideal_of self.old).maps map ≡ Some o →
+            HasRoomFor (limits_of (ideal_of self.old) o)
+            (buffer_chunks (ideal_of self.old) o buffer.va.0 buffer.len) addresses.now room }
+        requires prepared { get self.old.loans.prepared map ≡ Some (new_loan
+            (is_coherent (get (ideal_of self.old).mems map))
+            (entries_addresses (buffer_entries (ideal_of self.old) buffer.va.0 buffer.len))) }
+        requires few_items { length items ≤ self.old.agenda.room }
+        requires promised { pages_due self.old.maps.map + length pages.items ≤ self.old.agenda.promised }
+        ensures done { (o : LaneMap) (x : Asked) → get (ideal_of self.old).maps map ≡ Some o →
+            x.entries ≡ buffer_entries (ideal_of self.old) buffer.va.0 buffer.len → x.items ≡ items →
+            given self.new result ≡ finished map o load_at x
+            (buffer_chunks (ideal_of self.old) o buffer.va.0 buffer.len) (page_addresses pages.items)
+            (ideal_of self.old) }
+        ensures bytes { KeepsBytesBut map self.old self.new }
+        ensures place { self.new.agenda.place ≡ self.old.agenda.place }
+        ensures length { self.new.agenda.length ≡ self.old.agenda.length }
+    {
+        let few = self.build_load(map, buffer, addresses, &mut room);
+        let LoadRoom {
+            list,
+            mut shown,
+            bounced,
+        } = room;
+        copy_segments(list.as_slice(), &mut shown);
+        self.store_load(map, bounced.into_list(), list.into_list(), pages);
+        if !few {
+            self.end_load(map);
+            return Answer::Refused(Errno::EFBIG);
+        }
+        self.agenda.push_items(load_at, items);
+        Answer::Segments(shown.into_list())
+    }
+
+    /// Loads an idle map with a buffer of which no byte is bounced.
+    fn load_direct(
+        &mut self,
+        alloc: Global,
+        map: u32,
+        buffer: Buffer,
+        wanted: Wanted,
+        items: &ItemList,
+    ) -> Result<Answer, AllocError>
+        requires stands { Stands (ideal_of self.old) }
+        requires idle { is_idle_map (get self.old.maps.map map) ≡ true }
+        requires own { get self.old.memories.map map ≡ None }
+        requires unprepared { get self.old.loans.prepared map ≡ None }
+        requires reached { reached (ideal_of self.old) buffer.va.0 buffer.len ≡ Fine }
+        requires small { buffer.len ≤ 2 ^ 20 }
+        requires wanted { (o : LaneMap) → get (ideal_of self.old).maps map ≡ Some o →
+            IsWanted (limits_of (ideal_of self.old) o) (buffer_chunks (ideal_of self.old) o buffer.va.0 buffer.len)
+            buffer.len wanted.need wanted.segments }
+        requires direct { wanted.need ≡ 0 }
+        requires few_items { length items.now ≤ self.old.agenda.room }
+        ensures done { IfOk result (λ answer. (o : LaneMap) (x : Asked) → get (ideal_of self.old).maps map ≡ Some o →
+            x.entries ≡ buffer_entries (ideal_of self.old) buffer.va.0 buffer.len → x.items ≡ items.now →
+            given self.new answer ≡ finished map o (ideal_of self.old).place x
+            (buffer_chunks (ideal_of self.old) o buffer.va.0 buffer.len) [] (ideal_of self.old)) }
+        ensures err { OnErr result (KeepsState self.old self.new) }
+        ensures bytes { KeepsBytesBut map self.old self.new }
+        ensures place { self.new.agenda.place ≡ self.old.agenda.place }
+        ensures length { self.new.agenda.length ≡ self.old.agenda.length }
+    {
+        let room = take_room(alloc, wanted)?;
+        let pages = PageList::with_room(alloc, 0)?;
+        let items = items.clone()?;
+        self.prepare_load(alloc, map, buffer)?;
+        let load_at = self.agenda.place();
+        Ok(self.complete_load(map, load_at, buffer, &[], room, pages, items))
+    }
+}
