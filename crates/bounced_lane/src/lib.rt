@@ -14,6 +14,7 @@ mod opening;
 mod returns;
 mod tags;
 mod unloads;
+mod waiting;
 
 pub use lane::Lane;
 pub use opening::opening_memory;

@@ -84,7 +84,7 @@ impl Holdings<'_> {
     }
 
     /// Prepares the loan of a map that is not a memory's, over the bytes of a buffer.
-    fn prepare_load(&mut self, alloc: Global, map: u32, buffer: Buffer) -> Result<(), AllocError>
+    pub(crate) fn prepare_load(&mut self, alloc: Global, map: u32, buffer: Buffer) -> Result<(), AllocError>
         requires idle { is_idle_map (get self.old.maps.map map) ≡ true }
         requires own { get self.old.memories.map map ≡ None }
         requires unprepared { get self.old.loans.prepared map ≡ None }
