@@ -2,6 +2,8 @@
 use Rattle.std.specs.Prelude.{◌≡◌, ℕ, ◌≤◌, ◌<◌, Bool, true, false, List, [], length, min, Some}
 use Rattle.std.specs.FinMap.{get}
 use Rattle.std.specs.List.{AllByRecursion}
+use Rattle.busdma_base.specs.declared.bounce.door.Grabbed.{Grabbed}
+use Rattle.busdma_base.specs.declared.bounce.door.Grabbed.TheVariants.{Granted, Queued, NoPages}
 use Rattle.busdma_base.specs.declared.machine.address.Pa.{Pa}
 use Rattle.busdma_base.specs.declared.machine.chunk.Chunk.{Chunk}
 use Rattle.busdma_base.specs.declared.machine.chunk.Entry.{Entry}
@@ -61,3 +63,15 @@ pub record IsWanted (t : TagLimits) (chunks : List Chunk) (len pages_needed room
   pub need : pages_needed ≡ need_of chunks
   pub segments : (pages : List Pa) → AllByRecursion IsPage pages →
       min (length (placed_pieces t chunks pages)) t.nsegments ≤ room
+
+-- empty lists have room for the load of chunks that need so many pages, in whichever pages
+pub record HasRoomForAny (t : TagLimits) (chunks : List Chunk) (pages_needed : ℕ) (room : LoadRoom) : Type 0 where
+  pub need : pages_needed ≡ need_of chunks
+  pub any : (pages : List Pa) → AllByRecursion IsPage pages → length pages ≡ pages_needed →
+      HasRoomFor t chunks pages room
+
+-- where pages came, they are so many
+abbrev pub HasNeed : ℕ → Grabbed → Type 0
+HasNeed n (Granted pages) = length pages.items ≡ n
+HasNeed n (Queued have) = Unit {0}
+HasNeed n NoPages = Unit {0}

@@ -5,22 +5,25 @@ ghost use Rattle.std.specs.Prelude.{IfNone, IfOk, IfSome, OnErr, OnOk};
 ghost use Rattle.std.specs.FinMap.{get, insert};
 ghost use Rattle.std.specs.List.{AllByRecursion};
 ghost use Rattle.busdma_base.specs.declared.journals.report.Judged.TheVariants.{Fine};
+ghost use Rattle.busdma_base.specs.declared.bounce.hold.HubCall.TheVariants.{Grab};
 ghost use Rattle.busdma_base.specs.Bounce.AccountStep.{as_pages};
+ghost use Rattle.busdma_base.specs.Bounce.Door.{Allows};
 ghost use Rattle.busdma_base.specs.Machine.Entry.{entries_addresses};
 ghost use Rattle.busdma_base.specs.Machine.PageList.{page_addresses};
 ghost use Rattle.loan_table.specs.Loans.{new_loan};
 ghost use Rattle.segment_build.specs.Trace.{IsPage};
-ghost use Rattle.ideal_lane.specs.Loads.{Asked, finished, is_coherent, limits_of};
+ghost use Rattle.ideal_lane.specs.Loads.{Asked, finished, granted, is_coherent, limits_of, zone_of};
 ghost use Rattle.ideal_lane.specs.Places.{reached};
 ghost use Rattle.ideal_lane.specs.Standing.{Stands};
-ghost use Rattle.ideal_lane.specs.State.{LaneMap};
+ghost use Rattle.ideal_lane.specs.State.{LaneMap, named};
+ghost use Rattle.bounced_lane.specs.Doing.{IsCalled, IsUndone};
 ghost use Rattle.bounced_lane.specs.Covered.{is_idle_map, pages_due};
 ghost use Rattle.bounced_lane.specs.Loading.{HasRoomFor, IsFilled, IsOverfull, IsWanted};
 ghost use Rattle.bounced_lane.specs.Loading.{buffer_chunks, buffer_entries};
 
 use crate::buffers::{Buffer, build_buffer, copy_segments, measure_buffer};
 use crate::holdings::Holdings;
-use busdma_base::{Answer, ChunkRoom, Errno, ItemList, Pa, PageList, SegmentRoom};
+use busdma_base::{Answer, ChunkRoom, Errno, HubDoor, ItemList, Pa, PageList, SegmentRoom, ZoneId};
 use dma_map::LoadRoom;
 use phys_memory::Walked;
 use segment_build::Measured;
@@ -136,7 +139,7 @@ impl Holdings<'_> {
 
     /// Ends the load of an idle map that has its pages, at these addresses: with its segments, or with EFBIG, and then
     /// the pages join the return queue.
-    fn complete_load(
+    pub(crate) fn complete_load(
         &mut self,
         map: u32,
         load_at: u32,
@@ -220,5 +223,69 @@ impl Holdings<'_> {
         self.prepare_load(alloc, map, buffer)?;
         let load_at = self.agenda.place();
         Ok(self.complete_load(map, load_at, buffer, &[], room, pages, items))
+    }
+
+    /// Loads an idle map with a buffer that needs bounce pages.
+    fn load_bounced<D: HubDoor>(
+        &mut self,
+        alloc: Global,
+        door: &mut D,
+        map: u32,
+        buffer: Buffer,
+        wanted: Wanted,
+        nowait: bool,
+        items: &ItemList,
+    ) -> Result<Answer, AllocError>
+        requires stands { Stands (ideal_of self.old) }
+        requires idle { is_idle_map (get self.old.maps.map map) ≡ true }
+        requires own { get self.old.memories.map map ≡ None }
+        requires unprepared { get self.old.loans.prepared map ≡ None }
+        requires reached { reached (ideal_of self.old) buffer.va.0 buffer.len ≡ Fine }
+        requires small { buffer.len ≤ 2 ^ 20 }
+        requires wanted { (o : LaneMap) → get (ideal_of self.old).maps map ≡ Some o →
+            IsWanted (limits_of (ideal_of self.old) o) (buffer_chunks (ideal_of self.old) o buffer.va.0 buffer.len)
+            buffer.len wanted.need wanted.segments }
+        requires few_items { length items.now ≤ self.old.agenda.room }
+        requires few_pages { self.old.agenda.promised + wanted.need < 2 ^ 32 }
+        requires allowed { (o : LaneMap) → get (ideal_of self.old).maps map ≡ Some o →
+            Allows (D.seen door.old) self.old.id.0
+            (Grab (named (ideal_of self.old) map) (record { 0 = zone_of o }) wanted.need nowait) }
+        ensures done { IfOk result (λ answer. (o : LaneMap) (x : Asked) → get (ideal_of self.old).maps map ≡ Some o →
+            x.entries ≡ buffer_entries (ideal_of self.old) buffer.va.0 buffer.len → x.items ≡ items.now →
+            IsCalled (D.seen door.old) self.old.id.0
+            (Grab (named (ideal_of self.old) map) (record { 0 = zone_of o }) wanted.need nowait)
+            (granted map o x (buffer_chunks (ideal_of self.old) o buffer.va.0 buffer.len) (ideal_of self.old))
+            (given self.new answer) (D.seen door.new)) }
+        ensures err { OnErr result (KeepsState self.old self.new) }
+        ensures undone { OnErr result (IsUndone (D.seen door.old) (D.seen door.new)) }
+        ensures bytes { KeepsBytesBut map self.old self.new }
+        ensures place { self.new.agenda.place ≡ self.old.agenda.place }
+        ensures length { self.new.agenda.length ≡ self.old.agenda.length }
+        ensures fixed { D.fixed door.new ≡ D.fixed door.old }
+    {
+        let room = take_room(alloc, wanted)?;
+        let addresses = Vec::with_capacity(alloc, wanted.need as usize)?;
+        let items = items.clone()?;
+        let zone = self.zone_of(map);
+        let id = self.map_id(map);
+        self.ready_load(alloc, map, buffer, wanted.need)?;
+        let got = match door.grab(alloc, id, zone, wanted.need, nowait) {
+            Ok(got) => got,
+            Err(error) => {
+                self.undo_load(map, wanted.need);
+                return Err(error);
+            }
+        };
+        Ok(self.take_grabbed(map, buffer, wanted.need, room, addresses, items, got))
+    }
+
+    /// The zone of a map's bounce pages, or zone 0 where it has none.
+    fn zone_of(&self, map: u32) -> ZoneId
+        ensures { (o : LaneMap) → get (ideal_of self.now).maps map ≡ Some o → result.0 ≡ zone_of o }
+    {
+        let Some(kept) = self.maps.get(map) else {
+            return ZoneId(0);
+        };
+        kept.map.zone().unwrap_or(ZoneId(0))
     }
 }

@@ -6,27 +6,29 @@ ghost use Rattle.std.specs.FinMap.{get, insert, remove};
 ghost use Rattle.std.specs.List.{AllByRecursion};
 ghost use Rattle.busdma_base.specs.declared.journals.report.Judged.TheVariants.{Fine};
 ghost use Rattle.busdma_base.specs.Bounce.AccountStep.{as_pages};
+ghost use Rattle.busdma_base.specs.Bounce.Door.{grab_reply};
 ghost use Rattle.busdma_base.specs.Machine.Entry.{entries_addresses};
 ghost use Rattle.busdma_base.specs.Machine.PageList.{page_addresses};
 ghost use Rattle.loan_table.specs.Loans.{new_loan};
 ghost use Rattle.loan_table.specs.Table.{IsPrepared};
 ghost use Rattle.segment_build.specs.Trace.{IsPage};
-ghost use Rattle.ideal_lane.specs.Loads.{is_coherent, staged};
+ghost use Rattle.ideal_lane.specs.Loads.{Asked, granted, is_coherent, limits_of, staged};
 ghost use Rattle.ideal_lane.specs.Places.{reached};
+ghost use Rattle.ideal_lane.specs.Standing.{Stands};
 ghost use Rattle.ideal_lane.specs.State.{LaneMap, Waiting};
 ghost use Rattle.bounced_lane.specs.Covered.{is_idle_map, pages_due};
-ghost use Rattle.bounced_lane.specs.Loading.{buffer_entries};
+ghost use Rattle.bounced_lane.specs.Loading.{HasNeed, HasRoomForAny, buffer_chunks, buffer_entries};
 
 use crate::buffers::Buffer;
 use crate::holdings::Holdings;
 use crate::kept::KeptMap;
-use busdma_base::{ItemList, Pa, Page};
+use busdma_base::{Answer, Errno, Grabbed, ItemList, Pa, Page};
 use dma_map::{LoadRoom, Transfers};
 use std::alloc::{AllocError, Global};
 
 impl Holdings<'_> {
-    ghost use Rattle.bounced_lane.specs.Changes.{KeepsBytes, KeepsState};
-    ghost use Rattle.bounced_lane.specs.Ideal.{ideal_of};
+    ghost use Rattle.bounced_lane.specs.Changes.{KeepsBytes, KeepsBytesBut, KeepsState};
+    ghost use Rattle.bounced_lane.specs.Ideal.{given, ideal_of};
 
     /// Promises the pages of a load a place in the return queue, and prepares its loan.
     pub(crate) fn ready_load(
@@ -105,6 +107,59 @@ impl Holdings<'_> {
                     map: waits,
                 },
             );
+        }
+    }
+
+    /// Goes on with the load of an idle map by what its wish for pages got.
+    pub(crate) fn take_grabbed(
+        &mut self,
+        map: u32,
+        buffer: Buffer,
+        need: u32,
+        room: LoadRoom,
+        mut addresses: Vec<Pa>,
+        items: ItemList,
+        got: Grabbed,
+    ) -> Answer
+        requires stands { Stands (ideal_of self.old) }
+        requires idle { is_idle_map (get self.old.maps.map map) ≡ true }
+        requires reached { reached (ideal_of self.old) buffer.va.0 buffer.len ≡ Fine }
+        requires small { buffer.len ≤ 2 ^ 20 }
+        requires room { (o : LaneMap) → get (ideal_of self.old).maps map ≡ Some o →
+            HasRoomForAny (limits_of (ideal_of self.old) o)
+            (buffer_chunks (ideal_of self.old) o buffer.va.0 buffer.len) need room }
+        requires empty { addresses.items ≡ [] }
+        requires capacity { need ≤ vec_capacity addresses }
+        requires prepared { get self.old.loans.prepared map ≡ Some (new_loan
+            (is_coherent (get (ideal_of self.old).mems map))
+            (entries_addresses (buffer_entries (ideal_of self.old) buffer.va.0 buffer.len))) }
+        requires few_items { length items ≤ self.old.agenda.room }
+        requires promised { pages_due self.old.maps.map + need ≤ self.old.agenda.promised }
+        requires granted { HasNeed need got }
+        ensures done { (o : LaneMap) (x : Asked) → get (ideal_of self.old).maps map ≡ Some o →
+            x.entries ≡ buffer_entries (ideal_of self.old) buffer.va.0 buffer.len → x.items ≡ items →
+            given self.new result ≡ granted map o x
+            (buffer_chunks (ideal_of self.old) o buffer.va.0 buffer.len) (ideal_of self.old) (grab_reply got) }
+        ensures bytes { KeepsBytesBut map self.old self.new }
+        ensures place { self.new.agenda.place ≡ self.old.agenda.place }
+        ensures length { self.new.agenda.length ≡ self.old.agenda.length }
+    {
+        let load_at = self.agenda.place();
+        match got {
+            Grabbed::Granted(pages) => {
+                write_addresses(pages.as_slice(), &mut addresses);
+                let at = addresses.as_slice();
+                self.complete_load(map, load_at, buffer, at, room, pages, items)
+            }
+            Grabbed::Queued(have) => {
+                self.wait_load(map, load_at, need, items, room);
+                Answer::InProgress { have, need }
+            }
+            Grabbed::NoPages => {
+                self.undo_load(map, need);
+                self.note_tried(map);
+                Answer::Refused(Errno::ENOMEM)
+            }
         }
     }
 }
