@@ -1,3 +1,4 @@
+mod Asked
 mod BufferBytes
 mod Bytes
 mod Chunked

@@ -6,25 +6,33 @@ ghost use Rattle.std.specs.FinMap.{get, insert};
 ghost use Rattle.std.specs.List.{AllByRecursion};
 ghost use Rattle.busdma_base.specs.declared.journals.report.Judged.TheVariants.{Fine};
 ghost use Rattle.busdma_base.specs.declared.bounce.hold.HubCall.TheVariants.{Grab};
+ghost use Rattle.busdma_base.specs.declared.scenarios.script.Place.TheVariants.{At};
 ghost use Rattle.busdma_base.specs.Bounce.AccountStep.{as_pages};
 ghost use Rattle.busdma_base.specs.Bounce.Door.{Allows};
 ghost use Rattle.busdma_base.specs.Machine.Entry.{entries_addresses};
 ghost use Rattle.busdma_base.specs.Machine.PageList.{page_addresses};
+ghost use Rattle.dma_tag.specs.LoadFlags.{nowait};
 ghost use Rattle.loan_table.specs.Loans.{new_loan};
 ghost use Rattle.segment_build.specs.Trace.{IsPage};
 ghost use Rattle.ideal_lane.specs.Loads.{Asked, finished, granted, is_coherent, limits_of, zone_of};
 ghost use Rattle.ideal_lane.specs.Places.{reached};
 ghost use Rattle.ideal_lane.specs.Standing.{Stands};
 ghost use Rattle.ideal_lane.specs.State.{LaneMap, named};
-ghost use Rattle.bounced_lane.specs.Doing.{IsCalled, IsUndone};
+ghost use Rattle.ideal_lane.specs.Turns.{load_at_place};
+ghost use Rattle.bounced_lane.specs.Doing.{IsAllowedBy, IsCalled, IsDone, IsUndone};
 ghost use Rattle.bounced_lane.specs.Covered.{is_idle_map, pages_due};
 ghost use Rattle.bounced_lane.specs.Loading.{HasRoomFor, IsFilled, IsOverfull, IsWanted};
 ghost use Rattle.bounced_lane.specs.Loading.{buffer_chunks, buffer_entries};
 
 use crate::buffers::{Buffer, build_buffer, copy_segments, measure_buffer};
-use crate::holdings::Holdings;
-use busdma_base::{Answer, ChunkRoom, Errno, HubDoor, ItemList, Pa, PageList, SegmentRoom, ZoneId};
-use dma_map::LoadRoom;
+use crate::holdings::{Holdings, report};
+use bitflags::Flags;
+use busdma_base::{
+    Answer, ChunkRoom, Errno, HubDoor, ItemList, Judged, Pa, PageList, Place, ReportName, SegmentRoom,
+    ZoneId,
+};
+use dma_map::{LoadRoom, MapState};
+use dma_tag::LoadFlags;
 use phys_memory::Walked;
 use segment_build::Measured;
 use std::alloc::{AllocError, Global};
@@ -34,6 +42,13 @@ use std::alloc::{AllocError, Global};
 struct Wanted {
     need: u32,
     segments: u64,
+}
+
+/// Whether a load with these flags is refused where it would have to wait.
+fn never_waits(flags: u32) -> bool
+    ensures { result ≡ nowait flags }
+{
+    LoadFlags(flags).contains(LoadFlags::NOWAIT)
 }
 
 /// Takes the room of a load, its lists empty.
@@ -55,6 +70,91 @@ fn take_room(alloc: Global, wanted: Wanted) -> Result<LoadRoom, AllocError>
 impl Holdings<'_> {
     ghost use Rattle.bounced_lane.specs.Changes.{KeepsBytesBut, KeepsState};
     ghost use Rattle.bounced_lane.specs.Ideal.{given, ideal_of};
+
+    /// Loads a map that is not a memory's with `len` bytes at a place. It takes all its memory before its one call at
+    /// the door, and changes the driver after that.
+    pub(crate) fn load<D: HubDoor>(
+        &mut self,
+        alloc: Global,
+        door: &mut D,
+        map: u32,
+        place: Place,
+        len: u64,
+        flags: u32,
+        items: &ItemList,
+    ) -> Result<Answer, AllocError>
+        requires stands { Stands (ideal_of self.old) }
+        requires own { get self.old.memories.map map ≡ None }
+        requires unprepared { is_idle_map (get self.old.maps.map map) ≡ true →
+            get self.old.loans.prepared map ≡ None }
+        requires small { len ≤ 2 ^ 20 }
+        requires few_items { length items.now ≤ self.old.agenda.room }
+        requires few_pages { self.old.agenda.promised + len < 2 ^ 32 }
+        requires allowed { IsAllowedBy (D.seen door.old) self.old.id.0
+            (load_at_place map place len flags items.now (ideal_of self.old)) }
+        ensures done { IfOk result (λ answer. IsDone (D.seen door.old) self.old.id.0
+            (load_at_place map place len flags items.now (ideal_of self.old))
+            (given self.new answer) (D.seen door.new)) }
+        ensures err { OnErr result (KeepsState self.old self.new) }
+        ensures undone { OnErr result (IsUndone (D.seen door.old) (D.seen door.new)) }
+        ensures bytes { KeepsBytesBut map self.old self.new }
+        ensures place { self.new.agenda.place ≡ self.old.agenda.place }
+        ensures length { self.new.agenda.length ≡ self.old.agenda.length }
+        ensures fixed { D.fixed door.new ≡ D.fixed door.old }
+    {
+        match place {
+            Place::At(va) => self.load_at(alloc, door, map, Buffer { va, len }, flags, items),
+        }
+    }
+
+    /// Loads a map that is not a memory's with a buffer.
+    fn load_at<D: HubDoor>(
+        &mut self,
+        alloc: Global,
+        door: &mut D,
+        map: u32,
+        buffer: Buffer,
+        flags: u32,
+        items: &ItemList,
+    ) -> Result<Answer, AllocError>
+        requires stands { Stands (ideal_of self.old) }
+        requires own { get self.old.memories.map map ≡ None }
+        requires unprepared { is_idle_map (get self.old.maps.map map) ≡ true →
+            get self.old.loans.prepared map ≡ None }
+        requires small { buffer.len ≤ 2 ^ 20 }
+        requires few_items { length items.now ≤ self.old.agenda.room }
+        requires few_pages { self.old.agenda.promised + buffer.len < 2 ^ 32 }
+        requires allowed { IsAllowedBy (D.seen door.old) self.old.id.0
+            (load_at_place map (At buffer.va) buffer.len flags items.now (ideal_of self.old)) }
+        ensures done { IfOk result (λ answer. IsDone (D.seen door.old) self.old.id.0
+            (load_at_place map (At buffer.va) buffer.len flags items.now (ideal_of self.old))
+            (given self.new answer) (D.seen door.new)) }
+        ensures err { OnErr result (KeepsState self.old self.new) }
+        ensures undone { OnErr result (IsUndone (D.seen door.old) (D.seen door.new)) }
+        ensures bytes { KeepsBytesBut map self.old self.new }
+        ensures place { self.new.agenda.place ≡ self.old.agenda.place }
+        ensures length { self.new.agenda.length ≡ self.old.agenda.length }
+        ensures fixed { D.fixed door.new ≡ D.fixed door.old }
+    {
+        let Some(kept) = self.maps.get(map) else {
+            return Ok(report(ReportName::Absent, 0));
+        };
+        let MapState::Idle = kept.map.state() else {
+            return Ok(report(ReportName::MapBusy, 0));
+        };
+        if let Judged::Refused(refusal) = self.judge_load(map, buffer.va, buffer.len) {
+            return Ok(Answer::Report(refusal));
+        }
+        let Some(wanted) = self.measure_load(map, buffer) else {
+            self.note_tried(map);
+            return Ok(Answer::Refused(Errno::EINVAL));
+        };
+        if wanted.need == 0 {
+            return self.load_direct(alloc, map, buffer, wanted, items);
+        }
+        let nowait = never_waits(flags);
+        self.load_bounced(alloc, door, map, buffer, wanted, nowait, items)
+    }
 
     /// What the load of a map with a buffer asks, or None where it is longer than the tag allows.
     fn measure_load(&self, map: u32, buffer: Buffer) -> Option<Wanted>
