@@ -28,8 +28,8 @@ use crate::buffers::{Buffer, build_buffer, copy_segments, measure_buffer};
 use crate::holdings::{Holdings, report};
 use bitflags::Flags;
 use busdma_base::{
-    Answer, ChunkRoom, Errno, HubDoor, ItemList, Judged, Pa, PageList, Place, ReportName, SegmentRoom,
-    ZoneId,
+    Answer, ChunkRoom, Errno, HubDoor, ItemList, Judged, Pa, PageList, Place, ReportName,
+    SegmentRoom, ZoneId,
 };
 use dma_map::{LoadRoom, MapState};
 use dma_tag::LoadFlags;
@@ -187,7 +187,12 @@ impl Holdings<'_> {
     }
 
     /// Prepares the loan of a map that is not a memory's, over the bytes of a buffer.
-    pub(crate) fn prepare_load(&mut self, alloc: Global, map: u32, buffer: Buffer) -> Result<(), AllocError>
+    pub(crate) fn prepare_load(
+        &mut self,
+        alloc: Global,
+        map: u32,
+        buffer: Buffer,
+    ) -> Result<(), AllocError>
         requires idle { is_idle_map (get self.old.maps.map map) ≡ true }
         requires own { get self.old.memories.map map ≡ None }
         requires unprepared { get self.old.loans.prepared map ≡ None }

@@ -1,6 +1,6 @@
-use Rattle.std.proofs.Common.{◌≡◌, ◌+◌, ◌≤◌, true, cond, List, length, Some, is_some, refl, sym, ap, ◌∙◌, subst, arith}
+use Rattle.std.proofs.Common.{◌≡◌, ◌≤◌, cond, List, length, Some, is_some, refl, sym, ap, ◌∙◌, subst, arith}
 use Rattle.std.proofs.lemmas.Bool.{eq-eqb}
-use Rattle.std.specs.FinMap.{get, insert}
+use Rattle.std.specs.FinMap.{get}
 use Rattle.std.specs.List.{each_same}
 use Rattle.busdma_base.specs.declared.bounce.hold.HubCall.TheVariants.{Grab}
 use Rattle.busdma_base.specs.declared.name.MapId.{MapId}
@@ -71,7 +71,7 @@ take_grabbed-requires-clause-room g c =
     let need = c.args.wanted.need in
     let r = c.in_ok-room.ensures in
     let room : (o : LaneMap) → get l.maps k ≡ Some o →
-        HasRoomForAny (limits_of l o) (buffer_chunks l o va len) need c.in_ok-room.room =
+    HasRoomForAny (limits_of l o) (buffer_chunks l o va len) need c.in_ok-room.room =
     λ o found. room-for-any (limits_of l o) (buffer_chunks l o va len) len need c.args.wanted.segments c.in_ok-room.room
     (c.requires.wanted o found) r.list r.shown r.bounced r.list_room r.shown_room r.bounced_room in
     subst (λ (x : LaneState). (o : LaneMap) → get x.maps k ≡ Some o →

@@ -1,4 +1,4 @@
-use Rattle.std.proofs.Common.{◌≡◌, ◌+◌, ◌≤◌, Some, true, refl, sym, ap, ◌∙◌, subst, arith}
+use Rattle.std.proofs.Common.{◌≡◌, ◌+◌, ◌≤◌, Some, true, refl, sym, ap, ◌∙◌, subst}
 use Rattle.std.specs.FinMap.{get, insert}
 use Rattle.dma_map.specs.MapView.{waiting}
 use Rattle.ideal_lane.specs.State.{LaneMap, Waiting}

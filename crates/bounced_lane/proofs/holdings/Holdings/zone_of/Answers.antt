@@ -1,4 +1,4 @@
-use Rattle.std.proofs.Common.{◌≡◌, Some, None, unwrap_or, refl, sym, ap, ◌∙◌}
+use Rattle.std.proofs.Common.{◌≡◌, unwrap_or, sym, ap, ◌∙◌}
 use Rattle.busdma_base.specs.declared.name.ZoneId.{ZoneId}
 use Rattle.ideal_lane.specs.Loads.{zone_of}
 use Rattle.bounced_lane.specs.Kept.{map_of}
