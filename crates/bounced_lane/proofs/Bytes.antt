@@ -52,7 +52,7 @@ devices-elsewhere maps k o q off =
     ap device_of (get_put maps k o q) ∙ ap (λ b. device_of (cond b (Some o) (get maps q))) away
 
 module _ (m : Memory) where
-  byte-apart : (d e : ℕ → Device) (k : ℕ) (es : List (ℕ × Loan)) (a : ℕ) → find nat_cmp k es ≡ None →
+  pub byte-apart : (d e : ℕ → Device) (k : ℕ) (es : List (ℕ × Loan)) (a : ℕ) → find nat_cmp k es ≡ None →
       ((q : ℕ) → (k == q) ≡ false → e q ≡ d q) → byte_among e m es a ≡ byte_among d m es a
   byte-apart d e k [] a none same = refl
   byte-apart d e k (x ∷ es) a none same =
@@ -67,7 +67,7 @@ module _ (m : Memory) where
           let others : byte_among e m es a ≡ byte_among d m es a = rest h in
           λ i. lent_byte (here i) m (lent_bus (here i).chunks 0 x.1.positions a) (others i)
 
-  byte-put : (d : ℕ → Device) (k : ℕ) (loan : Loan) (es : List (ℕ × Loan)) (a : ℕ) → find nat_cmp k es ≡ None →
+  pub byte-put : (d : ℕ → Device) (k : ℕ) (loan : Loan) (es : List (ℕ × Loan)) (a : ℕ) → find nat_cmp k es ≡ None →
       lent_bus (d k).chunks 0 loan.positions a ≡ None →
       byte_among d m (put nat_cmp k loan es) a ≡ byte_among d m es a
   byte-put d k loan [] a none unlent = ap (λ o. lent_byte (d k) m o (wire m a)) unlent

@@ -7,6 +7,7 @@ use Rattle.dma_map.specs.MapView as held
 use Rattle.phys_memory.specs.Memory.{wire}
 use Rattle.bounced_lane.specs.declared.holdings.Holdings.{Holdings}
 use Rattle.ideal_lane.specs.Outcomes.{is_idle, is_loaded}
+use Rattle.ideal_lane.specs.State.{Stage, Idle, Waiting, Loaded, Returning}
 use Rattle.bounced_lane.specs.declared.kept.KeptMap.{KeptMap}
 use Rattle.bounced_lane.specs.Covered.{has_load, is_idle_map, is_returning, is_tried, lends_pages}
 use Rattle.bounced_lane.specs.Kept.{device_of, no_device, due_of, map_of, stage_of}
@@ -109,3 +110,18 @@ state-unloaded need held.returning h = refl
 pub some-there : {X : Type 0} (o : Option X) → is_some o ≡ true → (x : X) × (o ≡ Some x)
 some-there None h = absurd (cc)
 some-there (Some x) h = (x, refl)
+
+-- what an idle map says of its state, and where it stands
+pub idle-state : (need : ℕ) (s : held.Stage Transfers) → is_idle (stage_of need s) ≡ true →
+    held.state_of s ≡ state.Idle
+idle-state need held.idle h = refl
+idle-state need (held.waiting load_at callback room) h = absurd (cc)
+idle-state need (held.loaded bounced segments pages) h = absurd (cc)
+idle-state need (held.lent bounced segments frames) h = absurd (cc)
+idle-state need held.returning h = absurd (cc)
+
+pub idle-stands : (s : Stage) → is_idle s ≡ true → s ≡ Idle
+idle-stands Idle h = refl
+idle-stands (Waiting load_at need) h = absurd (cc)
+idle-stands (Loaded bounced segments pages) h = absurd (cc)
+idle-stands Returning h = absurd (cc)

@@ -1,8 +1,11 @@
 mod AfterTurn
+mod Asked
 mod Awaiting
 mod Bouncing
+mod BufferBytes
 mod Bytes
 mod Changing
+mod Chunked
 mod Copying
 mod Covering
 mod CpuWrites
@@ -10,12 +13,17 @@ mod DeviceReads
 mod Devices
 mod DeviceWrites
 mod Doors
+mod Earlier
 mod Finding
 mod Following
+mod Foreign
 mod HeldMemory
 mod Keeping
 mod KeepsWired
 mod Lenders
+mod Loaded
+mod LoadJudged
+mod LoadSteps
 mod Lying
 mod MapSteps
 mod MapTables
@@ -29,6 +37,7 @@ mod OpensWired
 mod OwnRuns
 mod PagesLent
 mod Places
+mod Preparing
 mod PutBack
 mod Reaching
 mod Reading

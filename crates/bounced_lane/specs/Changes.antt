@@ -1,5 +1,5 @@
 -- What of a driver's holdings a step leaves as it was.
-use Rattle.std.specs.Prelude.{◌≡◌, ℕ, [], ◌⊎◌}
+use Rattle.std.specs.Prelude.{◌≡◌, ℕ, ◌==◌, false, [], ◌⊎◌}
 use Rattle.busdma_base.specs.Machine.Wire.{Wire}
 use Rattle.phys_memory.specs.Memory.{wire}
 use Rattle.bounced_lane.specs.declared.holdings.Holdings.{Holdings}
@@ -27,6 +27,11 @@ pub record KeepsWhatStays (h k : Holdings) : Type 0 where
 -- the wire is this one; or it is as it was, but for pages that came and went
 abbrev pub IsWireOf : Holdings → Holdings → Wire → Type 0
 IsWireOf h k w = (wire_of k ≡ w) ⊎ ((w ≡ wire_of h) × KeepsWhatStays h k)
+
+-- the bytes of the driver's frames, and those of the bounce pages of each map but one
+pub record KeepsBytesBut (one : ℕ) (h k : Holdings) : Type 0 where
+  pub own : wire k.memory.memory ≡ wire h.memory.memory
+  pub pages : (m : ℕ) → (one == m) ≡ false → (devices_of k.maps.map m).pages ≡ (devices_of h.maps.map m).pages
 
 -- what a step leaves for want of memory: the ideal state and all bytes
 pub record KeepsState (h k : Holdings) : Type 0 where

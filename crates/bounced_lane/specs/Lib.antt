@@ -3,8 +3,10 @@ pub mod Covered
 pub mod Doing
 pub mod Held
 pub mod Ideal
+pub mod Judging
 pub mod Kept
 pub mod LaneIdeal
+pub mod Loading
 pub mod MapValues
 pub mod OneProof
 pub mod OpeningMemory

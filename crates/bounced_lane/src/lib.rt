@@ -2,9 +2,13 @@
 #![tactic(auto)]
 
 mod accesses;
+mod buffers;
+mod finishing;
 mod holdings;
+mod judging;
 mod kept;
 mod lane;
+mod loads;
 mod maps;
 mod opening;
 mod returns;
@@ -14,6 +18,7 @@ mod tags;
 mod turn;
 mod turns;
 mod unloads;
+mod waiting;
 
 pub use lane::Lane;
 pub use opening::opening_memory;

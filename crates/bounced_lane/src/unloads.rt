@@ -14,7 +14,7 @@ use busdma_base::{Answer, ReportName, ZoneId};
 use dma_map::MapState;
 
 impl Holdings<'_> {
-    ghost use Rattle.bounced_lane.specs.Changes.{KeepsBytesHeld};
+    ghost use Rattle.bounced_lane.specs.Changes.{KeepsBytesBut, KeepsBytesHeld};
     ghost use Rattle.bounced_lane.specs.Ideal.{given, ideal_of};
 
     /// Unloads a map. Its pages join the return queue.
@@ -37,12 +37,13 @@ impl Holdings<'_> {
     }
 
     /// Ends the load of a map.
-    fn end_load(&mut self, map: u32)
+    pub(crate) fn end_load(&mut self, map: u32)
         requires { has_load (get self.old.maps.map map) ≡ true }
         ensures done { (o : LaneMap) → get (ideal_of self.old).maps map ≡ Some o →
             ideal_of self.new ≡ unpaged map o (pages_of o.stage) (unlent map (ideal_of self.old)) }
         ensures bytes { KeepsBytesHeld self.old self.new }
         ensures queue { self.new.agenda.queue ≡ self.old.agenda.queue }
+        ensures others { KeepsBytesBut map self.old self.new }
         ensures place { self.new.agenda.place ≡ self.old.agenda.place }
         ensures length { self.new.agenda.length ≡ self.old.agenda.length }
         ensures room { self.new.agenda.room ≡ self.old.agenda.room }

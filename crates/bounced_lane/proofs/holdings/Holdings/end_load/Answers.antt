@@ -181,3 +181,17 @@ returns-in-Some-clause-bytes c =
           rw maps (pages-held h.maps.map h.loans.loans h.agenda.returns h.agenda.promised (maps-of h) m o p there
           c.unload-pages.ensures.pages);
     }
+
+pub returns-in-Some-clause-others : goal.returns-in-Some-clause-others
+returns-in-Some-clause-others c =
+    let h = c.args.self.now in
+    let k = c.args.map in
+    let o : KeptMap = c.in-Some.kept in
+    let after : KeptMap = record o { map = c.unload-pages.new.self } in
+    let maps : c.put.new.self.map ≡ insert h.maps.map k after =
+    ap (λ t. t.map) c.put.ensures ∙ ap (λ t. insert t.map k after) c.in-Some.ensures.taken ∙ reput h.maps.map k after in
+    record {
+      own = refl;
+      pages = λ m off. ap (λ ms. (devices_of ms m).pages) maps
+          ∙ ap (λ d. d.pages) (devices-elsewhere h.maps.map k after m off);
+    }

@@ -1,0 +1,158 @@
+use Rattle.std.proofs.Common.{◌≡◌, ◌<◌, ◌≤◌, Bool, true, refl, sym, ap, ◌∙◌, subst, arith}
+use Rattle.busdma_base.specs.declared.bounce.hold.HubCall.{HubCall}
+use Rattle.busdma_base.specs.declared.bounce.hold.HubCall.TheVariants.{Grab}
+use Rattle.dma_tag.specs.LoadFlags.{nowait}
+use Rattle.busdma_base.specs.declared.journals.answer.Answer.TheVariants.{Refused}
+use Rattle.busdma_base.specs.declared.journals.report.Errno.TheVariants.{EINVAL}
+use Rattle.busdma_base.specs.Bounce.Door.{Allows}
+use Rattle.ideal_lane.specs.Loads.{granted, zone_of}
+use Rattle.ideal_lane.specs.Asking.{Gives}
+use Rattle.ideal_lane.specs.Outcomes.{gives, is_idle}
+use Rattle.ideal_lane.specs.State.{LaneMap, named}
+use Rattle.bounced_lane.specs.Doing.{IsCalled}
+use Rattle.bounced_lane.specs.Ideal.{given, ideal_of}
+use Rattle.bounced_lane.specs.Kept.{map_of, memory_of}
+use Rattle.bounced_lane.specs.Loading.{buffer_chunks}
+use Rattle.bounced_lane.proofs.Asked.{few-wanted, load-absent, load-bounced, load-busy, load-direct, load-long, load-refused, x}
+use Rattle.bounced_lane.proofs.Chunked.{all-reached}
+use Rattle.bounced_lane.proofs.Doors.{allowed-asks, done-asks, done-gives, ok-map}
+use Rattle.bounced_lane.proofs.Keeping.{state-busy, state-idle}
+use Rattle.bounced_lane.proofs.MapValues.{image-none, image-some}
+use Rattle.bounced_lane.proofs.holdings.Holdings.load_at.Goals as goal
+
+pub returns-in_default-clause-done : goal.returns-in_default-clause-done
+returns-in_default-clause-done g c =
+    let h = c.args.self.now in
+    let l = ideal_of h in
+    done-gives (g.D.HubDoor.seen c.args.door.now) h.id.0 _ (given h c.report.result)
+    (load-absent l c.args.map c.args.buffer.va c.args.buffer.len c.args.flags c.args.items.now
+    (image-none map_of h.maps.map c.args.map (sym c.in_default.ensures))
+    ∙ ap (gives l) (sym c.report.ensures))
+
+pub returns-in_default-state-clause-done : goal.returns-in_default-state-clause-done
+returns-in_default-state-clause-done g c =
+    let h = c.args.self.now in
+    let l = ideal_of h in
+    let o = c.in-Some.kept.now in
+    done-gives (g.D.HubDoor.seen c.args.door.now) h.id.0 _ (given h c.report-in_default-state.result)
+    (load-busy l c.args.map c.args.buffer.va c.args.buffer.len c.args.flags c.args.items.now (map_of o)
+    (image-some map_of h.maps.map c.args.map o (sym c.in-Some.ensures))
+    (state-busy o.need o.map.stage (λ e. c.in_default-state.not-Idle (c.state.ensures ∙ e)))
+    ∙ ap (gives l) (sym c.report-in_default-state.ensures))
+
+pub returns-in-Refused-clause-done : goal.returns-in-Refused-clause-done
+returns-in-Refused-clause-done g c =
+    let h = c.args.self.now in
+    let l = ideal_of h in
+    let o = c.in-Some.kept.now in
+    done-gives (g.D.HubDoor.seen c.args.door.now) h.id.0 _ _
+    (load-refused l c.args.map c.args.buffer.va c.args.buffer.len c.args.flags c.args.items.now (map_of o)
+    (image-some map_of h.maps.map c.args.map o (sym c.in-Some.ensures))
+    (state-idle o.need o.map.stage (sym c.state.ensures ∙ c.in-Idle.is)) c.in-Refused.refusal
+    (sym c.judge_load.ensures ∙ c.in-Refused.is))
+
+pub measure_load-requires-clause-reached : goal.measure_load-requires-clause-reached
+measure_load-requires-clause-reached g c =
+    all-reached c.args.self.now c.args.map c.args.buffer.va.0 c.args.buffer.len
+    (sym c.judge_load.ensures ∙ c.in_default-judge_load.is)
+
+pub load_direct-requires-clause-reached : goal.load_direct-requires-clause-reached
+load_direct-requires-clause-reached g c =
+    all-reached c.args.self.now c.args.map c.args.buffer.va.0 c.args.buffer.len
+    (sym c.judge_load.ensures ∙ c.in_default-judge_load.is)
+
+pub load_bounced-requires-clause-reached : goal.load_bounced-requires-clause-reached
+load_bounced-requires-clause-reached g c =
+    all-reached c.args.self.now c.args.map c.args.buffer.va.0 c.args.buffer.len
+    (sym c.judge_load.ensures ∙ c.in_default-judge_load.is)
+
+pub returns-in_default-measure_load-clause-done : goal.returns-in_default-measure_load-clause-done
+returns-in_default-measure_load-clause-done g c =
+    let h = c.args.self.now in
+    let l = ideal_of h in
+    let o = c.in-Some.kept.now in
+    let there = image-some map_of h.maps.map c.args.map o (sym c.in-Some.ensures) in
+    done-gives (g.D.HubDoor.seen c.args.door.now) h.id.0 _ _
+    (load-long l c.args.map c.args.buffer.va c.args.buffer.len c.args.flags c.args.items.now (map_of o) there
+    (state-idle o.need o.map.stage (sym c.state.ensures ∙ c.in-Idle.is))
+    (sym c.judge_load.ensures ∙ c.in_default-judge_load.is)
+    (c.in_default-measure_load.ensures.long (map_of o) there)
+    ∙ ap (λ k. gives k (Refused EINVAL)) (sym (c.note_tried.ensures.done (map_of o) there)))
+
+pub returns-then-wanted-eq0-clause-done : goal.returns-then-wanted-eq0-clause-done
+returns-then-wanted-eq0-clause-done g c =
+    let h = c.args.self.now in
+    let l = ideal_of h in
+    let o = c.in-Some.kept.now in
+    let there = image-some map_of h.maps.map c.args.map o (sym c.in-Some.ensures) in
+    let wanted = c.in-Some-measure_load.ensures.wanted (map_of o) there in
+    ok-map c.load_direct.result _ _ (λ answer done.
+    done-gives (g.D.HubDoor.seen c.args.door.now) h.id.0 _ (given c.load_direct.new.self answer)
+    (load-direct l c.args.map c.args.buffer.va c.args.buffer.len c.args.flags c.args.items.now (map_of o) there
+    (state-idle o.need o.map.stage (sym c.state.ensures ∙ c.in-Idle.is))
+    (sym c.judge_load.ensures ∙ c.in_default-judge_load.is) wanted.short
+    (image-none memory_of h.memories.map c.args.map c.requires.own) (sym wanted.need ∙ c.if-wanted-eq0.true)
+    ∙ ap Gives (sym (done (map_of o)
+    (x l c.args.map c.args.buffer.va c.args.buffer.len c.args.flags c.args.items.now) there refl refl))))
+    c.load_direct.ensures.done
+
+pub load_bounced-requires-clause-few_pages : goal.load_bounced-requires-clause-few_pages
+load_bounced-requires-clause-few_pages g c =
+    let h = c.args.self.now in
+    let l = ideal_of h in
+    let o = c.in-Some.kept.now in
+    let va = c.args.buffer.va.0 in
+    let len = c.args.buffer.len in
+    let there = image-some map_of h.maps.map c.args.map o (sym c.in-Some.ensures) in
+    let wanted = c.in-Some-measure_load.ensures.wanted (map_of o) there in
+    let few : c.in-Some-measure_load.wanted.need ≤ len =
+    few-wanted l (map_of o) va len c.in-Some-measure_load.wanted.need wanted.need in
+    let all = c.requires.few_pages in
+    omega (arith, few, all)
+
+pub load_bounced-requires-clause-allowed : goal.load_bounced-requires-clause-allowed
+load_bounced-requires-clause-allowed g c other found =
+    let h = c.args.self.now in
+    let l = ideal_of h in
+    let m = c.args.map in
+    let o = c.in-Some.kept.now in
+    let d = g.D.HubDoor.seen c.args.door.now in
+    let need = c.in-Some-measure_load.wanted.need in
+    let there = image-some map_of h.maps.map m o (sym c.in-Some.ensures) in
+    let same : map_of o ≡ other = cc in
+    let on : is_idle other.stage ≡ true =
+    ap (λ (y : LaneMap). is_idle y.stage) (sym same)
+    ∙ state-idle o.need o.map.stage (sym c.state.ensures ∙ c.in-Idle.is) in
+    let wanted = c.in-Some-measure_load.ensures.wanted other found in
+    let some : 0 < need = omega (arith, c.if-wanted-eq0.false) in
+    subst (λ b. Allows d h.id.0 (Grab (named l m) (record { 0 = zone_of other }) need b)) (sym c.never_waits-nowait.ensures)
+    (allowed-asks d h.id.0 _ (Grab (named l m) (record { 0 = zone_of other }) need (nowait c.args.flags)) _
+    (load-bounced l m c.args.buffer.va c.args.buffer.len c.args.flags c.args.items.now other found on
+    (sym c.judge_load.ensures ∙ c.in_default-judge_load.is) wanted.short
+    (image-none memory_of h.memories.map m c.requires.own) need wanted.need some)
+    c.requires.allowed)
+
+pub returns-clause-done : goal.returns-clause-done
+returns-clause-done g c =
+    let h = c.args.self.now in
+    let l = ideal_of h in
+    let m = c.args.map in
+    let o = c.in-Some.kept.now in
+    let d = g.D.HubDoor.seen c.args.door.now in
+    let e = g.D.HubDoor.seen c.load_bounced.new.door in
+    let need = c.in-Some-measure_load.wanted.need in
+    let there = image-some map_of h.maps.map m o (sym c.in-Some.ensures) in
+    let wanted = c.in-Some-measure_load.ensures.wanted (map_of o) there in
+    let some : 0 < need = omega (arith, c.if-wanted-eq0.false) in
+    let ask = x l m c.args.buffer.va c.args.buffer.len c.args.flags c.args.items.now in
+    let k = granted m (map_of o) ask (buffer_chunks l (map_of o) c.args.buffer.va.0 c.args.buffer.len) l in
+    let call : Bool → HubCall = λ b. Grab (named l m) (record { 0 = zone_of (map_of o) }) need b in
+    ok-map c.load_bounced.result _ _ (λ answer done.
+    done-asks d h.id.0 _ (call (nowait c.args.flags)) k (given c.load_bounced.new.self answer) e
+    (load-bounced l m c.args.buffer.va c.args.buffer.len c.args.flags c.args.items.now (map_of o) there
+    (state-idle o.need o.map.stage (sym c.state.ensures ∙ c.in-Idle.is))
+    (sym c.judge_load.ensures ∙ c.in_default-judge_load.is) wanted.short
+    (image-none memory_of h.memories.map m c.requires.own) need wanted.need some)
+    (subst (λ b. IsCalled d h.id.0 (call b) k (given c.load_bounced.new.self answer) e) c.never_waits-nowait.ensures
+    (done (map_of o) ask there refl refl)))
+    c.load_bounced.ensures.done

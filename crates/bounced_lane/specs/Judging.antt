@@ -1,0 +1,41 @@
+-- What stands in the way of the bytes of a load, by what it is.
+use Rattle.std.specs.Prelude.{ℕ, ◌+◌, ◌==◌, Bool, ◌&&◌, not, List, Option, Some, None, if◌then◌else◌, nat_le, nat_lt}
+use Rattle.std.specs.FinMap.{get}
+use Rattle.std.specs.List.{enumerate_from}
+use Rattle.busdma_base.specs.declared.journals.report.Judged.{Judged}
+use Rattle.busdma_base.specs.declared.journals.report.Judged.TheVariants.{Fine, Refused}
+use Rattle.busdma_base.specs.declared.journals.report.ReportName.{ReportName}
+use Rattle.busdma_base.specs.declared.journals.report.ReportName.TheVariants.{ForeignMemory, Unmapped}
+use Rattle.busdma_base.specs.Journals.Judging.{judged}
+use Rattle.ideal_lane.specs.Loads.{is_foreign_to}
+use Rattle.ideal_lane.specs.Places.{begin_of}
+use Rattle.ideal_lane.specs.State.{LaneState, LaneMemory}
+
+-- the earlier of two refusals, and the first of them where both come at one place
+abbrev pub earlier : Judged → Judged → Judged
+earlier Fine j = j
+earlier (Refused r) Fine = Refused r
+earlier (Refused r) (Refused s) = if nat_le r.at s.at then Refused r else Refused s
+
+-- a byte is refused where it is memory that is not the map's
+abbrev pub foreign_refusal : Bool → Option ReportName
+foreign_refusal foreign = if foreign then Some ForeignMemory else None
+
+-- memory that is not the map's stands at a place
+abbrev pub foreign_at : ℕ → Judged
+foreign_at at = Refused (record { name = ForeignMemory; at = at })
+
+-- the first byte of a load of a map that is memory and not the map's
+abbrev pub foreign_judged : LaneState → ℕ → List ℕ → Judged
+foreign_judged l m vas =
+    judged (λ b. foreign_refusal (is_foreign_to (get l.mems m) l b.0 b.1)) 0 (enumerate_from 0 vas)
+
+-- the first byte that is not this memory's at its place
+abbrev pub own_judged : LaneMemory → List ℕ → Judged
+own_judged x vas =
+    judged (λ b. foreign_refusal (not (b.1 == begin_of x + b.0 && nat_lt b.0 x.len))) 0 (enumerate_from 0 vas)
+
+-- the byte cannot be reached at which a stream ends so
+abbrev pub unmapped_judged : Option ℕ → Judged
+unmapped_judged None = Fine
+unmapped_judged (Some at) = Refused (record { name = Unmapped; at = at })
