@@ -1,5 +1,6 @@
 -- What a turn of a lane makes, at a door to the bounce lock.
-use Rattle.std.specs.Prelude.{◌≡◌, ◌⊎◌, ℕ, Bool, true, false, IsTrue}
+use Rattle.std.specs.Prelude.{◌≡◌, ◌⊎◌, ℕ, ◌+◌, Bool, true, false, IsTrue, length}
+use Rattle.busdma_base.specs.declared.journals.journal.Side.{Side}
 use Rattle.busdma_base.specs.declared.bounce.hold.HubCall.{HubCall}
 use Rattle.busdma_base.specs.declared.bounce.hold.HubCall.TheVariants.{TakeCallback}
 use Rattle.busdma_base.specs.declared.bounce.hold.HubReply.{HubReply}
@@ -10,12 +11,15 @@ use Rattle.ideal_lane.specs.Agreement.{AgreesWith}
 use Rattle.ideal_lane.specs.Asking.{Asking, Gives, Asks}
 use Rattle.ideal_lane.specs.State.{LaneState}
 use Rattle.ideal_lane.specs.Turns as turns
-use Rattle.ideal_lane.specs.Turns.{Turned}
+use Rattle.ideal_lane.specs.Turns.{Turned, lane_step}
+use Rattle.ideal_wire.specs.WireStep as wires
 use Rattle.bounced_lane.specs.declared.holdings.Holdings.{Holdings}
 use Rattle.bounced_lane.specs.declared.turn.Turn.{Turn}
 use Rattle.bounced_lane.specs.declared.turn.Turn.TheVariants.{Stepped, Blocked, Ended}
+use Rattle.bounced_lane.specs.Changes.{IsWireOf}
 use Rattle.bounced_lane.specs.Doing.{IsCalled}
 use Rattle.bounced_lane.specs.Ideal.{ideal_of}
+use Rattle.bounced_lane.specs.Wire.{wire_of}
 
 -- what a turn answers, but for what it tells of its call
 abbrev pub answered : Turn → turns.Turn
@@ -46,6 +50,14 @@ abbrev pub IsTurned : {X : Type 0} → Seen → ℕ → Asking X → X → Bool 
 IsTurned {X} d lane (Gives y) x held e = (x ≡ y) × (held ≡ false) × (e ≡ d)
 IsTurned {X} d lane (Asks c k) x held e =
     ((held ≡ true) × IsCalled d lane c k x e) ⊎ ((held ≡ false) × IsMissed d lane c k x e)
+
+-- a turn of a side made this of a driver between what a door had seen and what it has seen now: the step's end, and the
+-- step's wire, but for pages that came and went; the transfer queue has its room or its items, and the script its length
+pub record IsMade (h k : Holdings) (d e : Seen) (s : Side) (t : Turn) : Type 0 where
+  pub done : IsTurned d h.id.0 (lane_step (ideal_of h) s) (turned k t) (is_held t) e
+  pub wire : IsWireOf h k (wires.lane_step (ideal_of h) s (wire_of h))
+  pub places : k.agenda.length ≡ h.agenda.length
+  pub capacity : k.agenda.room + length k.agenda.queue ≡ h.agenda.room + length h.agenda.queue
 
 -- a door serves a driver, its history is sound, and its account agrees with the driver
 pub record IsServed (l : LaneState) (d : Seen) : Type 0 where

@@ -1,20 +1,19 @@
-//! The turns of a lane.
+//! The turns of a driver's sides, as far as they are made.
 
-ghost use Rattle.std.specs.Prelude.{◌≡◌, [], IfNone, IfSome};
+ghost use Rattle.std.specs.Prelude.{◌≡◌, [], IfNone, IfOk, IfSome, OnErr};
 ghost use Rattle.busdma_base.specs.declared.journals.journal.Side.TheVariants as side;
+ghost use Rattle.busdma_base.specs.Bounce.Door.{Seen};
 ghost use Rattle.ideal_lane.specs.Turns.{lane_step};
-ghost use Rattle.ideal_wire.specs.WireStep as wires;
-ghost use Rattle.ideal_wire.specs.WireStep.{Follows};
 ghost use Rattle.bounced_lane.specs.declared.turn.Turn.TheVariants.{Stepped};
-ghost use Rattle.bounced_lane.specs.Changes.{KeepsState};
-ghost use Rattle.bounced_lane.specs.LaneIdeal.{ideal};
-ghost use Rattle.bounced_lane.specs.Turning.{IsServed, IsTurned, is_held, turned};
-ghost use Rattle.bounced_lane.specs.Wire.{wire_of};
+ghost use Rattle.bounced_lane.specs.Doing.{IsAllowedBy};
+ghost use Rattle.bounced_lane.specs.Turning.{IsMade};
+ghost use Rattle.bounced_lane.specs.Wire.{IsWired};
 
-use crate::lane::Lane;
+use crate::holdings::Holdings;
 use crate::returns::Released;
 use crate::turn::Turn;
 use busdma_base::{Actor, Answer, Did, HubDoor, JournalEntry, LaneId, Side};
+use std::alloc::{AllocError, Global};
 
 /// A step of a side, and whether it made a call under the bounce lock.
 fn stepped(lane: LaneId, side: Side, did: Did, answer: Answer, held: bool) -> Turn
@@ -31,24 +30,41 @@ fn stepped(lane: LaneId, side: Side, did: Did, answer: Answer, held: bool) -> Tu
     }
 }
 
-impl Lane<'_> {
+impl Holdings<'_> {
+    ghost use Rattle.bounced_lane.specs.Changes.{KeepsState};
+    ghost use Rattle.bounced_lane.specs.Ideal.{ideal_of};
+
     /// The first page of the return queue goes back to its zone, if there is one.
-    fn return_turn<D: HubDoor>(&mut self, door: &mut D) -> Option<Turn>
-        requires served { IsServed (ideal self.old) (D.seen door.old) }
-        ensures done { IfSome result (λ turn.
-            IsTurned (D.seen door.old) (ideal self.old).id (lane_step (ideal self.old) side.Script)
-            (turned self.new.holdings turn) (is_held turn) (D.seen door.new)) }
-        ensures wire { IfSome result (λ turn.
-            Follows (ideal self.old) (ideal self.new)
-            (wires.lane_step (ideal self.old) side.Script (wire_of self.old.holdings)) (wire_of self.new.holdings)) }
-        ensures served { IsServed (ideal self.new) (D.seen door.new) }
-        ensures empty { IfNone result ((ideal self.old).returns ≡ []) }
-        ensures same { IfNone result (KeepsState self.old.holdings self.new.holdings) }
+    pub(crate) fn return_turn<D: HubDoor>(&mut self, door: &mut D) -> Option<Turn>
+        requires { IsAllowedBy (D.seen door.old) self.old.id.0 (lane_step (ideal_of self.old) side.Script) }
+        ensures made { IfSome result (IsMade self.old self.new (D.seen door.old) (D.seen door.new) side.Script) }
+        ensures empty { IfNone result (self.old.agenda.returns ≡ []) }
+        ensures same { IfNone result (KeepsState self.old self.new) }
         ensures unseen { IfNone result (D.seen door.new ≡ D.seen door.old) }
         ensures fixed { D.fixed door.new ≡ D.fixed door.old }
     {
-        let Released { map, page, served } = self.holdings.release(door)?;
+        let Released { map, page, served } = self.release(door)?;
         let did = Did::Release { map, page };
-        Some(stepped(self.holdings.id, Side::Script, did, Answer::Served(served), true))
+        Some(stepped(self.id, Side::Script, did, Answer::Served(served), true))
+    }
+
+    /// The first item of the transfer queue, if there is one.
+    pub(crate) fn transfer_turn(&mut self, alloc: Global) -> Result<Turn, AllocError>
+        requires { IsWired self.old }
+        ensures made { IfOk result (λ turn. (d : Seen) → IsMade self.old self.new d d side.Transfer turn) }
+        ensures err { OnErr result (KeepsState self.old self.new) }
+        ensures err_agenda { OnErr result (self.new.agenda ≡ self.old.agenda) }
+    {
+        let Some(queued) = self.agenda.first() else {
+            return Ok(Turn::Blocked);
+        };
+        let did = Did::Item {
+            load_at: queued.load_at,
+            place: queued.place,
+        };
+        let item = queued.item.clone()?;
+        let answer = self.transfer(alloc, &item)?;
+        self.pop_item();
+        Ok(stepped(self.id, Side::Transfer, did, answer, false))
     }
 }
