@@ -1,6 +1,6 @@
 //! What an operation waits for, and what goes on behind a step.
 
-ghost use Rattle.std.specs.Prelude.{◌≡◌, ◌<◌, ◌≤◌, ◌+◌, drop, IfOk, OnErr, OnOk};
+ghost use Rattle.std.specs.Prelude.{◌≡◌, ◌<◌, ◌+◌, drop, length, IfOk, OnErr, OnOk};
 ghost use Rattle.busdma_base.specs.declared.scenarios.script.Op.TheVariants.{Await};
 ghost use Rattle.ideal_lane.specs.Asking.{Gives};
 ghost use Rattle.ideal_lane.specs.Turns as turns;
@@ -84,7 +84,8 @@ impl Holdings<'_> {
     /// Takes the first item out of the transfer queue.
     pub(crate) fn pop_item(&mut self)
         ensures queue { self.new.agenda.queue ≡ drop 1 self.old.agenda.queue }
-        ensures room { self.old.agenda.room ≤ self.new.agenda.room }
+        ensures capacity { self.new.agenda.room + length self.new.agenda.queue
+            ≡ self.old.agenda.room + length self.old.agenda.queue }
         ensures agenda { self.new.agenda
             ≡ record self.old.agenda { queue = self.new.agenda.queue; room = self.new.agenda.room } }
         ensures rest { KeepsButAgenda self.old self.new }

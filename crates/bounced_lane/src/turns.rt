@@ -1,13 +1,14 @@
 //! The turns of a driver's sides, as far as they are made.
 
-ghost use Rattle.std.specs.Prelude.{◌≡◌, [], IfNone, IfOk, IfSome, OnErr};
+ghost use Rattle.std.specs.Prelude.{◌≡◌, ◌+◌, [], false, length, IfNone, IfOk, IfSome, OnErr, OnOk};
 ghost use Rattle.busdma_base.specs.declared.journals.journal.Side.TheVariants as side;
-ghost use Rattle.busdma_base.specs.Bounce.Door.{Seen};
+ghost use Rattle.ideal_lane.specs.Asking.{Gives};
 ghost use Rattle.ideal_lane.specs.Turns.{lane_step};
+ghost use Rattle.ideal_wire.specs.WireStep as wires;
 ghost use Rattle.bounced_lane.specs.declared.turn.Turn.TheVariants.{Stepped};
 ghost use Rattle.bounced_lane.specs.Doing.{IsAllowedBy};
-ghost use Rattle.bounced_lane.specs.Turning.{IsMade};
-ghost use Rattle.bounced_lane.specs.Wire.{IsWired};
+ghost use Rattle.bounced_lane.specs.Turning.{IsMade, is_held, turned};
+ghost use Rattle.bounced_lane.specs.Wire.{IsWired, wire_of};
 
 use crate::holdings::Holdings;
 use crate::returns::Released;
@@ -51,9 +52,15 @@ impl Holdings<'_> {
     /// The first item of the transfer queue, if there is one.
     pub(crate) fn transfer_turn(&mut self, alloc: Global) -> Result<Turn, AllocError>
         requires { IsWired self.old }
-        ensures made { IfOk result (λ turn. (d : Seen) → IsMade self.old self.new d d side.Transfer turn) }
+        ensures done { IfOk result (λ turn.
+            Gives (turned self.new turn) ≡ lane_step (ideal_of self.old) side.Transfer) }
+        ensures unheld { IfOk result (λ turn. is_held turn ≡ false) }
+        ensures wire { OnOk result (wire_of self.new
+            ≡ wires.lane_step (ideal_of self.old) side.Transfer (wire_of self.old)) }
+        ensures places { self.new.agenda.length ≡ self.old.agenda.length }
+        ensures capacity { self.new.agenda.room + length self.new.agenda.queue
+            ≡ self.old.agenda.room + length self.old.agenda.queue }
         ensures err { OnErr result (KeepsState self.old self.new) }
-        ensures err_agenda { OnErr result (self.new.agenda ≡ self.old.agenda) }
     {
         let Some(queued) = self.agenda.first() else {
             return Ok(Turn::Blocked);
