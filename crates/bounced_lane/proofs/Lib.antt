@@ -25,6 +25,7 @@ mod Loaded
 mod LoadJudged
 mod LoadSteps
 mod Lying
+mod MadeTurns
 mod MapSteps
 mod MapTables
 mod MapValues

@@ -1,5 +1,5 @@
 -- How a turn of a lane ends.
-use Rattle.std.proofs.Common.{◌≡◌, ◌⊎◌, inl, inr, Bool, true, false, refl, sym, subst, length, ℕ, ◌∙◌, ap}
+use Rattle.std.proofs.Common.{◌≡◌, ◌+◌, ◌≤◌, ◌⊎◌, inl, inr, Bool, true, false, refl, sym, subst, length, ℕ, ◌∙◌, ap}
 use Rattle.busdma_base.specs.declared.journals.journal.Side.{Side}
 use Rattle.busdma_base.specs.Bounce.Door.{Seen, account}
 use Rattle.busdma_base.specs.Machine.Wire.{Wire}
@@ -7,6 +7,8 @@ use Rattle.ideal_lane.specs.Agreement.{IsAllowed}
 use Rattle.ideal_lane.specs.Asking.{Asking, Gives, Asks}
 use Rattle.ideal_lane.specs.Standing.{Stands}
 use Rattle.ideal_lane.specs.Turns.{Turned, lane_step}
+use Rattle.ideal_lane.specs.Ahead.{items_ahead}
+use Rattle.ideal_lane.proofs.Ahead.{turn-bounded}
 use Rattle.ideal_lane.proofs.Own.{IsLater}
 use Rattle.ideal_lane.proofs.Turning.{turn-allowed}
 use Rattle.ideal_wire.specs.WireStep.{Follows}
@@ -42,6 +44,12 @@ module _ (h k : Holdings) (s : Side) (d e : Seen) (stands : Stands (ideal_of h))
 
   pub end-own : IsLater (ideal_of h) (ideal_of k)
   end-own = still-own h k s d e stands wired served x the-end same
+
+  -- its items and those ahead are no more than before
+  pub end-bounded : items_ahead (ideal_of k) + length (ideal_of k).queue ≤ items_ahead (ideal_of h) + length (ideal_of h).queue
+  end-bounded =
+      subst (λ l. items_ahead l + length l.queue ≤ items_ahead (ideal_of h) + length (ideal_of h).queue)
+      (sym the-end.is ∙ same) (turn-bounded (ideal_of h) s the-end.reply)
 
   -- where the step changes no byte
   pub end-follows : KeepsWhatStays h k → (w : Wire) → w ≡ wire_of h → Follows (ideal_of h) (ideal_of k) w (wire_of k)

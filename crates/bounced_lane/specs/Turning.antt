@@ -1,5 +1,5 @@
 -- What a turn of a lane makes, at a door to the bounce lock.
-use Rattle.std.specs.Prelude.{◌≡◌, ◌⊎◌, ℕ, ◌+◌, Bool, true, false, IsTrue, length}
+use Rattle.std.specs.Prelude.{◌≡◌, ◌⊎◌, ℕ, ◌+◌, ◌≤◌, Bool, true, false, IsTrue, length}
 use Rattle.busdma_base.specs.declared.journals.journal.Side.{Side}
 use Rattle.busdma_base.specs.declared.bounce.hold.HubCall.{HubCall}
 use Rattle.busdma_base.specs.declared.bounce.hold.HubCall.TheVariants.{TakeCallback}
@@ -8,7 +8,9 @@ use Rattle.busdma_base.specs.declared.bounce.hold.HubReply.TheVariants.{Nothing}
 use Rattle.busdma_base.specs.Bounce.Door.{Seen, Misses, account}
 use Rattle.busdma_base.specs.Bounce.History.{IsOpening, IsSound}
 use Rattle.ideal_lane.specs.Agreement.{AgreesWith}
+use Rattle.ideal_lane.specs.Ahead.{items_ahead}
 use Rattle.ideal_lane.specs.Asking.{Asking, Gives, Asks}
+use Rattle.ideal_lane.specs.Standing.{Stands}
 use Rattle.ideal_lane.specs.State.{LaneState}
 use Rattle.ideal_lane.specs.Turns as turns
 use Rattle.ideal_lane.specs.Turns.{Turned, lane_step}
@@ -19,7 +21,7 @@ use Rattle.bounced_lane.specs.declared.turn.Turn.TheVariants.{Stepped, Blocked, 
 use Rattle.bounced_lane.specs.Changes.{IsWireOf}
 use Rattle.bounced_lane.specs.Doing.{IsCalled}
 use Rattle.bounced_lane.specs.Ideal.{ideal_of}
-use Rattle.bounced_lane.specs.Wire.{wire_of}
+use Rattle.bounced_lane.specs.Wire.{IsWired, wire_of}
 
 -- what a turn answers, but for what it tells of its call
 abbrev pub answered : Turn → turns.Turn
@@ -65,3 +67,10 @@ pub record IsServed (l : LaneState) (d : Seen) : Type 0 where
   pub opening : IsOpening d.opening
   pub sound : IsSound d.opening d.history
   pub agrees : AgreesWith l (account d)
+
+-- a driver stands and is wired, its transfer queue has room for the items ahead, and a door serves it
+pub record IsReady (h : Holdings) (d : Seen) : Type 0 where
+  pub stands : Stands (ideal_of h)
+  pub wired : IsWired h
+  pub room : items_ahead (ideal_of h) ≤ h.agenda.room
+  pub served : IsServed (ideal_of h) d

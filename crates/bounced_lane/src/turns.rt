@@ -1,13 +1,18 @@
 //! The turns of a driver's sides, as far as they are made.
 
-ghost use Rattle.std.specs.Prelude.{◌≡◌, ◌+◌, [], false, length, IfNone, IfOk, IfSome, OnErr, OnOk};
+ghost use Rattle.std.specs.Prelude.{◌≡◌, ◌+◌, ◌≤◌, [], false, length, IfNone, IfOk, IfSome, OnErr, OnOk};
+ghost use Rattle.busdma_base.specs.declared.journals.journal.Side.{Side};
 ghost use Rattle.busdma_base.specs.declared.journals.journal.Side.TheVariants as side;
+ghost use Rattle.busdma_base.specs.Bounce.Door.{Seen};
 ghost use Rattle.ideal_lane.specs.Asking.{Gives};
 ghost use Rattle.ideal_lane.specs.Turns.{lane_step};
 ghost use Rattle.ideal_wire.specs.WireStep as wires;
 ghost use Rattle.bounced_lane.specs.declared.turn.Turn.TheVariants.{Stepped};
-ghost use Rattle.bounced_lane.specs.Doing.{IsAllowedBy};
-ghost use Rattle.bounced_lane.specs.Turning.{IsMade, is_held, turned};
+ghost use Rattle.bounced_lane.specs.declared.holdings.Holdings.{Holdings};
+ghost use Rattle.bounced_lane.specs.declared.turn.Turn.{Turn};
+ghost use Rattle.bounced_lane.specs.Changes.{KeepsState};
+ghost use Rattle.bounced_lane.specs.Doing.{IsAllowedBy, IsUndone};
+ghost use Rattle.bounced_lane.specs.Turning.{IsMade, IsReady, is_held, turned};
 ghost use Rattle.bounced_lane.specs.Wire.{IsWired, wire_of};
 
 use crate::holdings::Holdings;
@@ -31,8 +36,15 @@ fn stepped(lane: LaneId, side: Side, did: Did, answer: Answer, held: bool) -> Tu
     }
 }
 
+/// A turn that was made leaves a driver ready for the next. So does one that memory was wanting for.
+pub(crate) fn turns_leave_ready()
+    ensures made { (h k : Holdings) (d e : Seen) (s : Side) (t : Turn) →
+        IsReady h d → IsMade h k d e s t → IsReady k e }
+    ensures wanting { (h k : Holdings) (d e : Seen) →
+        IsReady h d → KeepsState h k → h.agenda.room ≤ k.agenda.room → IsUndone d e → IsReady k e }
+{}
+
 impl Holdings<'_> {
-    ghost use Rattle.bounced_lane.specs.Changes.{KeepsState};
     ghost use Rattle.bounced_lane.specs.Ideal.{ideal_of};
 
     /// The first page of the return queue goes back to its zone, if there is one.
