@@ -1,0 +1,4 @@
+pub mod Generator
+pub mod Scenario
+pub mod Summary
+pub mod Transfer
