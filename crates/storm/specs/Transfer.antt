@@ -5,7 +5,6 @@ use Rattle.busdma_base.specs.declared.scenarios.script.Item.{Item}
 use Rattle.busdma_base.specs.declared.scenarios.script.Item.TheVariants as item
 use Rattle.busdma_base.specs.declared.scenarios.script.Op.{Op}
 use Rattle.busdma_base.specs.declared.scenarios.script.Op.TheVariants as op
-use Rattle.busdma_base.specs.declared.scenarios.script.Place.{Place}
 use Rattle.busdma_base.specs.declared.scenarios.script.Place.TheVariants.{At}
 use Rattle.storm.specs.declared.transfer.Transfer.{Transfer}
 
