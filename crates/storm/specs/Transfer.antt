@@ -6,6 +6,7 @@ use Rattle.busdma_base.specs.declared.scenarios.script.Item.TheVariants as item
 use Rattle.busdma_base.specs.declared.scenarios.script.Op.{Op}
 use Rattle.busdma_base.specs.declared.scenarios.script.Op.TheVariants as op
 use Rattle.busdma_base.specs.declared.scenarios.script.Place.TheVariants.{At}
+use Rattle.dma_tag.specs.SyncOps.{preread_bit, postread_bit, prewrite_bit, postwrite_bit}
 use Rattle.storm.specs.declared.transfer.Transfer.{Transfer}
 
 -- how many bytes a round with the numbers p and q loads
@@ -24,8 +25,7 @@ transfer p q = record {
   byte = q / 2 % 256;
 }
 
--- the load of a transfer, with the device's work on it between the sync before it and the one after it, each
--- of which is told by its bit: PREREAD 1, POSTREAD 2, PREWRITE 4, POSTWRITE 8
+-- the load of a transfer, with the device's work on it between the sync before it and the one after it
 abbrev pub load_with : Transfer → ℕ → Item → ℕ → Op
 load_with t before work after =
     op.Load t.map (At t.va) t.len 0 (item.Sync t.map before ∷ work ∷ item.Sync t.map after ∷ [])
@@ -34,7 +34,7 @@ load_with t before work after =
 abbrev pub to_device : Transfer → List Op
 to_device t =
     op.CpuWrite (At t.va) (Filled t.byte t.touched)
-    ∷ load_with t 4 (item.DevRead t.map 0 t.touched) 8
+    ∷ load_with t prewrite_bit (item.DevRead t.map 0 t.touched) postwrite_bit
     ∷ op.Await t.map
     ∷ op.Unload t.map
     ∷ []
@@ -42,7 +42,7 @@ to_device t =
 -- a round from the device: the device writes bytes, and the driver reads them
 abbrev pub from_device : Transfer → List Op
 from_device t =
-    load_with t 1 (item.DevWrite t.map 0 (Filled t.byte t.touched)) 2
+    load_with t preread_bit (item.DevWrite t.map 0 (Filled t.byte t.touched)) postread_bit
     ∷ op.Await t.map
     ∷ op.CpuRead (At t.va) t.touched
     ∷ op.Unload t.map

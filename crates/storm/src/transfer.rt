@@ -4,16 +4,8 @@ ghost use Rattle.std.specs.Prelude.{◌≡◌, ◌++◌, OnOk, IfOk};
 ghost use Rattle.storm.specs.Transfer as spec;
 
 use busdma_base::{Bytes, Item, ListOf, Op, Place, Va};
+use dma_tag::SyncOps;
 use std::alloc::{AllocError, Global};
-
-/// The bits of a sync's operations, as bus_dma(9) names them.
-const PREREAD: u32 = 1;
-
-const POSTREAD: u32 = 2;
-
-const PREWRITE: u32 = 4;
-
-const POSTWRITE: u32 = 8;
 
 /// What a round moves: a map is loaded with the `len` bytes from a virtual address on, and the first
 /// `touched` of them are filled with a byte on one side and read on the other.
@@ -53,17 +45,17 @@ impl Transfer {
     fn load_with(
         &self,
         alloc: Global,
-        before: u32,
+        before: SyncOps,
         work: Item,
-        after: u32,
+        after: SyncOps,
     ) -> Result<Op, AllocError>
-        ensures { IfOk result (λ o. o ≡ spec.load_with self.now before work after) }
+        ensures { IfOk result (λ o. o ≡ spec.load_with self.now before.0 work after.0) }
     {
         let map = self.map;
         let then = vec![in alloc;
-            Item::Sync { map, ops: before },
+            Item::Sync { map, ops: before.0 },
             work,
-            Item::Sync { map, ops: after },
+            Item::Sync { map, ops: after.0 },
         ]?;
         Ok(Op::Load {
             map,
@@ -83,7 +75,7 @@ impl Transfer {
             off: 0,
             len: self.touched,
         };
-        let load = self.load_with(alloc, PREWRITE, read, POSTWRITE)?;
+        let load = self.load_with(alloc, SyncOps::PREWRITE, read, SyncOps::POSTWRITE)?;
         script.push(Op::CpuWrite {
             place: Place::At(self.va),
             bytes: self.filling(),
@@ -103,7 +95,7 @@ impl Transfer {
             off: 0,
             bytes: self.filling(),
         };
-        script.push(self.load_with(alloc, PREREAD, write, POSTREAD)?)?;
+        script.push(self.load_with(alloc, SyncOps::PREREAD, write, SyncOps::POSTREAD)?)?;
         script.push(Op::Await { map })?;
         script.push(Op::CpuRead {
             place: Place::At(self.va),
