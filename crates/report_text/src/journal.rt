@@ -8,7 +8,8 @@ use crate::zone::push_zones;
 use busdma_base::{ByteList, End, Journal, JournalEntry, ListOf, Scenario};
 use std::alloc::{AllocError, Global};
 
-fn report_count(entries: &[JournalEntry]) -> usize
+/// How many entries have a report as their answer.
+pub fn report_count(entries: &[JournalEntry]) -> usize
     ensures { result ≡ text.report_count entries.now }
 {
     entries
@@ -17,7 +18,8 @@ fn report_count(entries: &[JournalEntry]) -> usize
         .count()
 }
 
-fn end_word(end: End) -> &'static str
+/// The word for how a run ended.
+pub fn end_word(end: End) -> &'static str
     ensures { result.now ≡ text.end_word end }
 {
     match end {

@@ -10,5 +10,5 @@ mod tests;
 mod zone;
 
 pub use entry::entry_line;
-pub use journal::{end_line, report};
+pub use journal::{end_line, end_word, report, report_count};
 pub use zone::zone_lines;

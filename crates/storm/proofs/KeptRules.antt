@@ -1,0 +1,103 @@
+-- A storm keeps the rules on scenarios.
+use Rattle.std.proofs.Common.{◌≡◌, ℕ, ◌+◌, ◌*◌, ◌≤◌, true, false, List}
+use Rattle.std.proofs.Common.{[], ◌++◌, sum_by, map, refl, arith}
+use Rattle.std.specs.List.{AllByRecursion}
+use Rattle.busdma_base.specs.declared.scenarios.scenario.Driver.{Driver}
+use Rattle.busdma_base.specs.Each.{EachAfter}
+use Rattle.busdma_base.specs.Machine.PageRuns.{IsPageRun, all_in, is_taken}
+use Rattle.busdma_base.specs.Runs.{run_of}
+use Rattle.busdma_base.specs.Scenarios.Operations.{loaded_by, read_by}
+use Rattle.busdma_base.specs.Scenarios.Script.{steps_of}
+use Rattle.busdma_base.specs.Scenarios.Valid.{loaded_of, read_of}
+use Rattle.storm.specs.Generator.{drawn}
+use Rattle.storm.specs.Rules.{KeepsScript, KeepsDriver, KeepsRules}
+use Rattle.storm.specs.Scenario.{rounds, opening, pages, frames, driver, driver_after, storm}
+use Rattle.storm.proofs.EachOp.{each_keeps}
+use Rattle.storm.proofs.Totals.{loaded_by_rounds, read_by_rounds, steps_of_rounds}
+
+script_keeps : (n x : ℕ) → n ≤ 256 → KeepsScript (opening ++ rounds n x)
+script_keeps n x few = record { each = each_keeps n x; short = omega (arith, steps_of_rounds n x) }
+
+-- a driver keeps the rules behind others where its pages are its own
+driver_keeps : (number n x : ℕ) → n ≤ 256 → (earlier : List Driver) →
+    EachAfter (IsPageRun frames earlier) [] (pages number) → KeepsDriver frames earlier (driver_after number n x)
+driver_keeps number n x few earlier own = record { pages = own; script = script_keeps n x few }
+
+-- the pages of a driver whose frames no earlier driver has
+own_pages : (earlier : List Driver) (number : ℕ) → 4096 + 16 * number + 16 ≤ 4160 →
+    all_in frames (4096 + 16 * number) 16 ≡ true →
+    is_taken (record { va = record { 0 = 0x100000 }; frame = 4096 + 16 * number; count = 16 }) earlier ≡ false →
+    EachAfter (IsPageRun frames earlier) [] (pages number)
+own_pages earlier number low there untaken = (
+  record {
+    some = omega arith;
+    aligned = refl;
+    low = omega arith;
+    there = there;
+    untaken = untaken;
+    own_frames = refl;
+    own_pages = refl;
+  },
+  tt,
+)
+
+drivers_keep : (n seed : ℕ) → n ≤ 256 → EachAfter (KeepsDriver frames) [] (storm n seed).drivers
+drivers_keep n seed few = (
+  driver_keeps 0 n _ few [] (own_pages [] 0 (omega arith) refl refl),
+  (
+    driver_keeps 1 n _ few _ (own_pages _ 1 (omega arith) refl refl),
+    (
+      driver_keeps 2 n _ few _ (own_pages _ 2 (omega arith) refl refl),
+      (driver_keeps 3 n _ few _ (own_pages _ 3 (omega arith) refl refl), tt),
+    ),
+  ),
+)
+
+loaded_at : (n seed number : ℕ) → sum_by loaded_by (driver n seed number).script ≤ 8192 * n
+loaded_at n seed number = loaded_by_rounds n (drawn (2 * n * number) seed)
+
+read_at : (n seed number : ℕ) → sum_by read_by (driver n seed number).script ≤ 64 * n
+read_at n seed number = read_by_rounds n (drawn (2 * n * number) seed)
+
+four_at_most : (f : Driver → ℕ) (g : ℕ → Driver) (b : ℕ) → ((i : ℕ) → f (g i) ≤ b) →
+    sum_by f (map g (run_of 0 4)) ≤ 4 * b
+four_at_most f g b each =
+    let first : f (g 0) ≤ b = each 0 in
+    let second : f (g 1) ≤ b = each 1 in
+    let third : f (g 2) ≤ b = each 2 in
+    let fourth : f (g 3) ≤ b = each 3 in
+    omega arith
+
+pub storm_keeps : (n seed : ℕ) → n ≤ 256 → KeepsRules (storm n seed)
+storm_keeps n seed few =
+    let loads : loaded_of (storm n seed).drivers ≤ 4 * (8192 * n) =
+    four_at_most (λ d. sum_by loaded_by d.script) (driver n seed) (8192 * n) (loaded_at n seed) in
+    let reads : read_of (storm n seed).drivers ≤ 4 * (64 * n) =
+    four_at_most (λ d. sum_by read_by d.script) (driver n seed) (64 * n) (read_at n seed) in
+    record {
+      frames = (
+        record { some = omega arith; numbered = omega arith; few = omega arith; apart = refl },
+        (record { some = omega arith; numbered = omega arith; few = omega arith; apart = refl }, tt),
+      );
+      some_bpages = omega arith;
+      few_bpages = omega arith;
+      few_drivers = omega arith;
+      drivers = drivers_keep n seed few;
+      loaded = omega arith;
+      read = omega arith;
+      short_order = omega arith;
+      order = tt;
+    }
+
+pub each_has_steps : (n seed : ℕ) →
+    AllByRecursion (λ (d : Driver). steps_of d.script ≡ 3 + 7 * n) (storm n seed).drivers
+each_has_steps n seed = (
+  steps_of_rounds n (drawn (2 * n * 0) seed),
+  (
+    steps_of_rounds n (drawn (2 * n * 1) seed),
+    (
+      steps_of_rounds n (drawn (2 * n * 2) seed),
+      (steps_of_rounds n (drawn (2 * n * 3) seed), tt),
+    ),
+  ),
+)

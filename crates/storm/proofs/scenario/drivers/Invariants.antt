@@ -1,0 +1,11 @@
+use Rattle.std.proofs.Common.{◌≡◌, ◌++◌, ◌*◌, ◌-◌, map}
+use Rattle.busdma_base.specs.Runs.{run_of}
+use Rattle.storm.specs.Generator.{drawn}
+use Rattle.storm.specs.Scenario.{driver, storm}
+use Rattle.storm.proofs.scenario.drivers.Given as goal
+
+abbrev pub invariant-loop-number : goal.invariant-loop-number
+invariant-loop-number l = record {
+  drivers : l.drivers.items ++ map (driver l.n l.seed) (run_of l.number (4 - l.number)) ≡ (storm l.n l.seed).drivers;
+  drawn : l.generator.last ≡ drawn (2 * l.n * l.number) l.seed;
+}

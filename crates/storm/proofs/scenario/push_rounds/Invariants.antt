@@ -1,0 +1,13 @@
+use Rattle.std.proofs.Common.{◌≡◌, ◌++◌, ◌*◌, ◌-◌}
+use Rattle.std.specs.List.{flat_map}
+use Rattle.busdma_base.specs.Runs.{run_of}
+use Rattle.storm.specs.Generator.{drawn}
+use Rattle.storm.specs.Scenario.{round_at, rounds}
+use Rattle.storm.proofs.scenario.push_rounds.Given as goal
+
+abbrev pub invariant-loop-number : goal.invariant-loop-number
+invariant-loop-number l = record {
+  script : l.script.items ++ flat_map (round_at l.initial.generator.last) (run_of l._number (l.n - l._number))
+      ≡ l.initial.script.items ++ rounds l.n l.initial.generator.last;
+  drawn : l.generator.last ≡ drawn (2 * l._number) l.initial.generator.last;
+}

@@ -1,0 +1,5 @@
+pub mod Generator
+pub mod Rules
+pub mod Scenario
+pub mod Summary
+pub mod Transfer

@@ -1,0 +1,17 @@
+//! The storm: a scenario of four drivers that contend for few bounce pages, made of drawn numbers,
+//! and the summary of its journal.
+#![tactic(auto)]
+
+mod generator;
+mod laws;
+mod lines;
+mod scenario;
+#[cfg(test)]
+mod tests;
+mod transfer;
+
+pub use laws::{
+    rules_are_validity_but_for_cuts, storms_have_seven_steps_a_round, storms_keep_rules,
+};
+pub use lines::summary;
+pub use scenario::storm_scenario;
