@@ -21,6 +21,7 @@ mod Marks
 mod OpeningLane
 mod OpeningPages
 mod OwnRuns
+mod PageCounts
 mod PagesLent
 mod Places
 mod PutBack

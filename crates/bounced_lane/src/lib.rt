@@ -7,6 +7,7 @@ mod kept;
 mod lane;
 mod maps;
 mod opening;
+mod page_lists;
 mod returns;
 mod syncs;
 mod tags;
