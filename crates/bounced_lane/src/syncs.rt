@@ -1,7 +1,7 @@
 //! Syncs of a map's load.
 
-ghost use Rattle.std.specs.Prelude.{◌≡◌, ◌+◌, ◌≤◌, ◌<◌, ◌^◌, ◌&&◌, ◌||◌, true, false, [], Some, length, max, min, nat_lt};
-ghost use Rattle.std.specs.Prelude.{IfOk, OnErr, vec_len, vec_capacity};
+ghost use Rattle.std.specs.Prelude.{◌≡◌, ◌+◌, ◌≤◌, ◌<◌, ◌^◌, ◌&&◌, ◌||◌, true, false, [], Some, length, max, min};
+ghost use Rattle.std.specs.Prelude.{nat_lt, IfOk, OnErr, vec_len, vec_capacity};
 ghost use Rattle.std.specs.FinMap.{get};
 ghost use Rattle.std.specs.List.{list_any};
 ghost use Rattle.std.specs.Option.{option_map};
