@@ -8,9 +8,12 @@ mod lane;
 mod maps;
 mod opening;
 mod returns;
+mod steps;
 mod syncs;
 mod tags;
+mod turn;
 mod unloads;
 
 pub use lane::Lane;
 pub use opening::opening_memory;
+pub use turn::Turn;
