@@ -1,8 +1,9 @@
 -- What a driver holds of a load that its device reaches.
+use mathlib.Core.Logic.{∥∥₁_elim}
 use Rattle.std.proofs.Common.{◌≡◌, ℕ, ◌+◌, ◌*◌, ◌/◌, ◌^◌, ◌<◌, ◌≤◌, ◌==◌, ◌||◌, Bool, true, false, List, []}
 use Rattle.std.proofs.Common.{◌∷◌, zero, suc, length, Some, is_some, slice_get, get_or, refl, sym}
-use Rattle.std.proofs.Common.{ap, ◌∙◌, subst, arith}
-use Rattle.std.proofs.lemmas.Bool.{le-leb, lt-ltb, eq-eqb}
+use Rattle.std.proofs.Common.{ap, ◌∙◌, subst, arith, inl, inr}
+use Rattle.std.proofs.lemmas.Bool.{cases_lt, le-leb, lt-ltb, eq-eqb}
 use Rattle.std.proofs.lemmas.List.{length-map}
 use Rattle.std.proofs.lemmas.Option.{slice_get-map, slice_get-get_or}
 use Rattle.std.specs.List.{All, AllByRecursion, AllPairs, AllZip, list_any}
@@ -29,7 +30,7 @@ use Rattle.ideal_lane.specs.State.{LaneState}
 use Rattle.ideal_lane.specs.Syncs.{bounced_in}
 use Rattle.ideal_wire.specs.Apart.{HoldsPage}
 use Rattle.ideal_wire.specs.Centre.{IsPlacedAt}
-use Rattle.ideal_wire.specs.Laid.{IsInPage, IsLaid, LiesIn}
+use Rattle.ideal_wire.specs.Laid.{IsInPage, IsLaid, IsOwnByte, LiesIn}
 use Rattle.ideal_wire.specs.Traces.{stage_in, stage_at, traces_of}
 use Rattle.ideal_wire.specs.WireStep.{load_buses}
 use Rattle.ideal_wire.proofs.Buses.{placed-buffers}
@@ -76,9 +77,15 @@ module _ (h : Holdings) (wired : IsWired h) where
       ∙ some-mark (l.memory a)
 
   pub own-low : (a : ℕ) → is_some (l.memory a) ≡ true → a < 2 ^ 42
-  own-low a own =
-      let below : a < 4096 * l.maxmem = byte-below l wired.laid wired.machine a (wired.laid.only a own) in
-      let most = wired.machine.numbered in omega (arith, below, most)
+  own-low a own = elim (cases_lt a (4096 * l.maxmem)) as (λ _. a < 2 ^ 42) [
+    | inl below ↦ let most = wired.machine.numbered in omega (arith, below, most)
+    | inr past ↦ absurd (∥∥₁_elim (wired.laid.only a own) (λ x y. absurd x) (beyond past))
+  ]
+    where
+      beyond : 4096 * l.maxmem ≤ a → IsOwnByte l a → ⊥
+      beyond past mine =
+          let below : a < 4096 * l.maxmem = byte-below l wired.laid wired.machine a mine in
+          absurd (omega (arith, past, below))
 
   module _ (k : ℕ) where
     abbrev frames : List ℕ

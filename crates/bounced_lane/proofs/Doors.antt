@@ -1,10 +1,10 @@
 -- What is known of a step at a door, by what the step is.
-use Rattle.std.proofs.Common.{◌≡◌, ℕ, Result, Ok, Err, IfOk, OnErr, refl, sym, subst}
+use Rattle.std.proofs.Common.{◌≡◌, ℕ, Bool, true, false, Result, Ok, Err, IfOk, OnErr, refl, ap, sym, subst}
 use Rattle.busdma_base.specs.declared.bounce.hold.HubCall.{HubCall}
 use Rattle.busdma_base.specs.declared.bounce.hold.HubReply.{HubReply}
 use Rattle.busdma_base.specs.Bounce.Door.{Seen, Allows}
 use Rattle.ideal_lane.specs.Asking.{Asking, Gives, Asks}
-use Rattle.bounced_lane.specs.Doing.{IsAllowedBy, IsCalled, IsDone}
+use Rattle.bounced_lane.specs.Doing.{IsAllowedBy, IsCalled, IsDone, asks}
 
 module _ {X : Type 0} (d : Seen) (lane : ℕ) (step : Asking X) where
   -- a step without a call
@@ -18,6 +18,13 @@ module _ {X : Type 0} (d : Seen) (lane : ℕ) (step : Asking X) where
 
   pub allowed-asks : (c : HubCall) (k : HubReply → X) → step ≡ Asks c k → IsAllowedBy d lane step → Allows d lane c
   allowed-asks c k is allowed = let P : Asking X → Type 0 = λ s. IsAllowedBy d lane s in subst P is allowed
+
+-- whether a step makes a call, by what the step is
+pub unasked : {X : Type 0} (step : Asking X) (x : X) → step ≡ Gives x → false ≡ asks step
+unasked step x is = sym (ap asks is)
+
+pub asked : {X : Type 0} (step : Asking X) (c : HubCall) (k : HubReply → X) → step ≡ Asks c k → true ≡ asks step
+asked step c k is = sym (ap asks is)
 
 -- what follows for a value that was made
 pub ok-map : {T E : Type 0} (r : Result T E) (P Q : T → Type 0) → ((x : T) → P x → Q x) → IfOk r P → IfOk r Q

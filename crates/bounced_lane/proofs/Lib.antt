@@ -1,3 +1,5 @@
+mod AfterTurn
+mod Awaiting
 mod Bouncing
 mod Bytes
 mod Changing
@@ -9,6 +11,7 @@ mod Devices
 mod DeviceWrites
 mod Doors
 mod Finding
+mod Following
 mod HeldMemory
 mod Keeping
 mod Lenders
@@ -20,6 +23,7 @@ mod MarkedMemory
 mod Marks
 mod OpeningLane
 mod OpeningPages
+mod OpensWired
 mod OwnRuns
 mod PageCounts
 mod PagesLent
@@ -31,6 +35,7 @@ mod Repaging
 mod Returned
 mod ReturnSteps
 mod Shares
+mod StaysWired
 mod Syncing
 mod TagSteps
 mod Unloaded

@@ -1,5 +1,5 @@
 -- What a step makes at a door to the bounce lock.
-use Rattle.std.specs.Prelude.{◌≡◌, ℕ, ◌⊎◌}
+use Rattle.std.specs.Prelude.{◌≡◌, ℕ, ◌⊎◌, Bool, true, false}
 use Rattle.busdma_base.specs.declared.bounce.hold.HubCall.{HubCall}
 use Rattle.busdma_base.specs.declared.bounce.hold.HubReply.{HubReply}
 use Rattle.busdma_base.specs.Bounce.Door.{Seen, Allows, Holds, Fails}
@@ -21,6 +21,11 @@ module _ {X : Type 0} where
   abbrev pub IsDone : Seen → ℕ → Asking X → X → Seen → Type 0
   IsDone d lane (Gives y) x e = (x ≡ y) × (e ≡ d)
   IsDone d lane (Asks c k) x e = IsCalled d lane c k x e
+
+-- a step makes a call
+abbrev pub asks : {X : Type 0} → Asking X → Bool
+asks {X} (Gives x) = false
+asks {X} (Asks c k) = true
 
 -- memory was wanting: the door has seen nothing new, or it failed
 abbrev pub IsUndone : Seen → Seen → Type 0

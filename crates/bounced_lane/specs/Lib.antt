@@ -6,9 +6,11 @@ pub mod Ideal
 pub mod Kept
 pub mod LaneIdeal
 pub mod MapValues
+pub mod OneProof
 pub mod OpeningMemory
 pub mod PagesLent
 pub mod Shares
 pub mod TagPlan
+pub mod Turning
 pub mod Virtual
 pub mod Wire

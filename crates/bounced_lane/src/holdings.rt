@@ -53,6 +53,13 @@ impl Holdings<'_> {
     }
 }
 
+/// What an operation answers, and whether it made a call under the bounce lock.
+#[derive(Drop)]
+pub(crate) struct Answered {
+    pub(crate) answer: Answer,
+    pub(crate) held: bool,
+}
+
 /// The answer of a step that is not done.
 pub(crate) fn report(name: ReportName, at: u64) -> Answer
     ensures { result ≡ answer.Report (record { name = name; at = at }) }

@@ -1,7 +1,11 @@
 //! A driver's lane.
 
 ghost use Rattle.std.specs.Prelude.{◌≡◌, ◌≤◌, ◌+◌, length};
-ghost use Rattle.bounced_lane.specs.Covered.{IsVacantFrom, items_due, items_left};
+ghost use Rattle.ideal_lane.specs.Standing.{Stands};
+ghost use Rattle.bounced_lane.specs.Ideal.{ideal_of};
+ghost use Rattle.bounced_lane.specs.OneProof.{IsWired-prop};
+ghost use Rattle.bounced_lane.specs.Wire.{IsWired};
+ghost use Rattle.bounced_lane.specs.Covered.{items_due, items_left};
 
 use crate::holdings::Holdings;
 
@@ -9,10 +13,9 @@ use crate::holdings::Holdings;
 #[derive(Drop)]
 pub struct Lane<'s> {
     pub(crate) holdings: Holdings<'s>,
+    ghost wired: { IsWired holdings } by { IsWired-prop holdings },
+    ghost stands: { ∥ Stands (ideal_of holdings) ∥₁ },
     ghost length: { holdings.agenda.length ≡ length holdings.script.now },
     ghost room: { items_left holdings.agenda.place holdings.script.now + items_due holdings.maps.map
         ≤ holdings.agenda.room },
-    ghost new_tags: { IsVacantFrom holdings.agenda.place holdings.tags.map },
-    ghost new_maps: { IsVacantFrom holdings.agenda.place holdings.maps.map },
-    ghost new_memories: { IsVacantFrom holdings.agenda.place holdings.memories.map },
 }

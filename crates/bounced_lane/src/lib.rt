@@ -9,9 +9,12 @@ mod maps;
 mod opening;
 mod page_lists;
 mod returns;
+mod steps;
 mod syncs;
 mod tags;
+mod turn;
 mod unloads;
 
 pub use lane::Lane;
 pub use opening::opening_memory;
+pub use turn::Turn;

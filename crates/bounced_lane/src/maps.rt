@@ -11,10 +11,10 @@ ghost use Rattle.ideal_lane.specs.Maps.{with_map, without_map};
 ghost use Rattle.ideal_lane.specs.Outcomes.{gives};
 ghost use Rattle.ideal_lane.specs.Tags.{with_tag};
 ghost use Rattle.bounced_lane.specs.declared.kept.KeptTag.{KeptTag};
-ghost use Rattle.bounced_lane.specs.Doing.{IsAllowedBy, IsDone, IsUndone};
+ghost use Rattle.bounced_lane.specs.Doing.{IsAllowedBy, IsDone, IsUndone, asks};
 ghost use Rattle.bounced_lane.specs.Covered.{is_idle_map};
 
-use crate::holdings::{Holdings, report};
+use crate::holdings::{Answered, Holdings, report};
 use crate::kept::{KeptMap, KeptTag};
 use busdma_base::{Answer, Errno, Grown, HubDoor, ReportName, ZoneId};
 use dma_map::{DmaMap, MapState};
@@ -30,13 +30,14 @@ impl Holdings<'_> {
         alloc: Global,
         door: &mut D,
         tag: u32,
-    ) -> Result<Answer, AllocError>
+    ) -> Result<Answered, AllocError>
         requires going { self.old.agenda.place < self.old.agenda.length }
         requires vacant { get self.old.maps.map self.old.agenda.place ≡ None }
         requires allowed { IsAllowedBy (D.seen door.old) self.old.id.0 (maps.map tag (ideal_of self.old)) }
-        ensures done { IfOk result (λ answer.
+        ensures done { IfOk result (λ r.
             IsDone (D.seen door.old) self.old.id.0 (maps.map tag (ideal_of self.old))
-            (given self.new answer) (D.seen door.new)) }
+            (given self.new r.answer) (D.seen door.new)) }
+        ensures held { IfOk result (λ r. r.held ≡ asks (maps.map tag (ideal_of self.old))) }
         ensures err { OnErr result (KeepsState self.old self.new) }
         ensures undone { OnErr result (IsUndone (D.seen door.old) (D.seen door.new)) }
         ensures bytes { KeepsBytes self.old self.new }
@@ -44,9 +45,9 @@ impl Holdings<'_> {
         ensures fixed { D.fixed door.new ≡ D.fixed door.old }
     {
         match self.bounces(tag) {
-            None => Ok(report(ReportName::Absent, 0)),
-            Some(false) => self.keep_map(alloc, tag),
-            Some(true) => self.create_map(alloc, door, tag),
+            None => Ok(Answered { answer: report(ReportName::Absent, 0), held: false }),
+            Some(false) => Ok(Answered { answer: self.keep_map(alloc, tag)?, held: false }),
+            Some(true) => Ok(Answered { answer: self.create_map(alloc, door, tag)?, held: true }),
         }
     }
 
@@ -162,27 +163,28 @@ impl Holdings<'_> {
     }
 
     /// Ends a map that is idle.
-    pub(crate) fn destroy_map<D: HubDoor>(&mut self, door: &mut D, map: u32) -> Answer
+    pub(crate) fn destroy_map<D: HubDoor>(&mut self, door: &mut D, map: u32) -> Answered
         requires { IsAllowedBy (D.seen door.old) self.old.id.0 (maps.map_destroy map (ideal_of self.old)) }
         ensures done { IsDone (D.seen door.old) self.old.id.0 (maps.map_destroy map (ideal_of self.old))
-            (given self.new result) (D.seen door.new) }
+            (given self.new result.answer) (D.seen door.new) }
+        ensures held { result.held ≡ asks (maps.map_destroy map (ideal_of self.old)) }
         ensures bytes { KeepsBytes self.old self.new }
         ensures agenda { self.new.agenda ≡ self.old.agenda }
         ensures fixed { D.fixed door.new ≡ D.fixed door.old }
     {
         let Some(kept) = self.maps.get(map) else {
-            return report(ReportName::Absent, 0);
+            return Answered { answer: report(ReportName::Absent, 0), held: false };
         };
         let MapState::Idle = kept.map.state() else {
-            return Answer::Refused(Errno::EBUSY);
+            return Answered { answer: Answer::Refused(Errno::EBUSY), held: false };
         };
         let Some(zone) = kept.map.zone() else {
             self.drop_map(map);
-            return Answer::Done;
+            return Answered { answer: Answer::Done, held: false };
         };
         door.destroy_map(self.map_id(map), zone);
         self.drop_map(map);
-        Answer::Done
+        Answered { answer: Answer::Done, held: true }
     }
 
     /// Drops an idle map.

@@ -2,9 +2,11 @@
 
 ghost use Rattle.std.specs.Prelude.{◌≡◌, ℕ, ◌+◌, ◌*◌, ◌%◌, ◌^◌, ◌≤◌, IfOk, OnOk, Some, None, true, if◌then◌else◌};
 ghost use Rattle.std.specs.FinMap.{empty, get};
+ghost use Rattle.std.specs.List.{AllByRecursion};
 ghost use Rattle.busdma_base.specs.Machine.PageRuns.{pages_end, is_own};
 ghost use Rattle.busdma_base.specs.Scenarios.Script.{IsScript};
 ghost use Rattle.ideal_lane.specs.Opening.{opening_lane};
+ghost use Rattle.ideal_wire.specs.Machine.{IsOfMachine};
 ghost use Rattle.bounced_lane.specs.LaneIdeal.{ideal};
 ghost use Rattle.bounced_lane.specs.OpeningMemory.{ArePages, IsOpeningMemory, HasRun, IsWithout};
 
@@ -29,6 +31,8 @@ impl<'s> Lane<'s> {
         requires script { IsScript driver.now.script }
         requires pages { ArePages driver.now.pages }
         requires memory { IsOpeningMemory driver.now.pages memory.memory }
+        requires numbered { maxmem ≤ 2 ^ 30 }
+        requires inside { AllByRecursion (IsOfMachine maxmem) driver.now.pages }
         ensures { IfOk result (λ lane. ideal lane ≡ opening_lane id.0 maxmem driver.now) }
     {
         let script = driver.script.as_slice();

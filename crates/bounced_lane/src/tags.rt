@@ -12,9 +12,9 @@ ghost use Rattle.ideal_lane.specs.Asking.{Asks, Gives};
 ghost use Rattle.ideal_lane.specs.Outcomes.{gives};
 ghost use Rattle.ideal_lane.specs.Tags as tags;
 ghost use Rattle.ideal_lane.specs.Tags.{attached, tag_or_invalid, with_tag};
-ghost use Rattle.bounced_lane.specs.Doing.{IsAllowedBy, IsCalled, IsDone, IsUndone};
+ghost use Rattle.bounced_lane.specs.Doing.{IsAllowedBy, IsCalled, IsDone, IsUndone, asks};
 
-use crate::holdings::{Holdings, report};
+use crate::holdings::{Answered, Holdings, report};
 use crate::kept::KeptTag;
 use bitflags::Flags;
 use busdma_base::{Answer, Errno, HubDoor, ReportName, TagLimits};
@@ -51,14 +51,15 @@ impl Holdings<'_> {
         door: &mut D,
         parent: Option<u32>,
         limits: &TagLimits,
-    ) -> Result<Answer, AllocError>
+    ) -> Result<Answered, AllocError>
         requires going { self.old.agenda.place < self.old.agenda.length }
         requires vacant { get self.old.tags.map self.old.agenda.place ≡ None }
         requires allowed { IsAllowedBy (D.seen door.old) self.old.id.0
             (tags.tag parent limits.now (ideal_of self.old)) }
-        ensures done { IfOk result (λ answer.
+        ensures done { IfOk result (λ r.
             IsDone (D.seen door.old) self.old.id.0 (tags.tag parent limits.now (ideal_of self.old))
-            (given self.new answer) (D.seen door.new)) }
+            (given self.new r.answer) (D.seen door.new)) }
+        ensures held { IfOk result (λ r. r.held ≡ asks (tags.tag parent limits.now (ideal_of self.old))) }
         ensures err { OnErr result (KeepsState self.old self.new) }
         ensures undone { OnErr result (IsUndone (D.seen door.old) (D.seen door.new)) }
         ensures bytes { KeepsBytes self.old self.new }
@@ -66,9 +67,9 @@ impl Holdings<'_> {
         ensures fixed { D.fixed door.new ≡ D.fixed door.old }
     {
         match self.plan_tag(parent, limits) {
-            TagPlan::Refused(answer) => Ok(answer),
-            TagPlan::Made(tag) => self.keep_tag(alloc, tag),
-            TagPlan::Grown(tag) => self.grow_tag(alloc, door, tag),
+            TagPlan::Refused(answer) => Ok(Answered { answer, held: false }),
+            TagPlan::Made(tag) => Ok(Answered { answer: self.keep_tag(alloc, tag)?, held: false }),
+            TagPlan::Grown(tag) => Ok(Answered { answer: self.grow_tag(alloc, door, tag)?, held: true }),
         }
     }
 

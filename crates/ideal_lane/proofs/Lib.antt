@@ -5,6 +5,7 @@ pub mod Keeping
 pub mod Lookups
 pub mod Needs
 pub mod Openings
+pub mod Own
 pub mod Standings
 pub mod Turning
 pub mod Views

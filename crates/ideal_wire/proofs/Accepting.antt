@@ -54,19 +54,19 @@ use Rattle.ideal_wire.proofs.Reaching.{AllReached, all-reached, byte-below, entr
 
 -- ---- small lists
 
-same-pages : (pages : List ℕ) → after.addresses (as_pages pages) ≡ pages
+pub same-pages : (pages : List ℕ) → after.addresses (as_pages pages) ≡ pages
 same-pages [] = refl
 same-pages (p ∷ pages) = ap (λ xs. p ∷ xs) (same-pages pages)
 
-count-pages : (pages : List ℕ) → length (as_pages pages) ≡ length pages
+pub count-pages : (pages : List ℕ) → length (as_pages pages) ≡ length pages
 count-pages [] = refl
 count-pages (p ∷ pages) = ap suc (count-pages pages)
 
-are-pages : (t : TagLimits) (pages : List Pa) → AllByRecursion (IsReachable t) pages → AllByRecursion IsPage pages
+pub are-pages : (t : TagLimits) (pages : List Pa) → AllByRecursion (IsReachable t) pages → AllByRecursion IsPage pages
 are-pages t [] h = tt
 are-pages t (p ∷ pages) h = (h.0.0, are-pages t pages h.1)
 
-unlent-bytes : (bytes : List ℕ) → addresses_of (unlent bytes) ≡ bytes
+pub unlent-bytes : (bytes : List ℕ) → addresses_of (unlent bytes) ≡ bytes
 unlent-bytes [] = refl
 unlent-bytes (b ∷ bytes) = ap (λ xs. b ∷ xs) (unlent-bytes bytes)
 
@@ -120,6 +120,15 @@ module _ (l : LaneState) (m : ℕ) (o : LaneMap) (load_at : ℕ) (x : Asked) (ch
         ∙ ap (λ xs. buses (placed_from (bounced_of placed) 0 xs)) (placed-bytes keep chunks (as_pages pages) ∙ bytes)
         ∙ ap buses (sym traces-are)
 
+-- the tag of a map is an effective one
+pub limits-effective : (l : LaneState) → IsInMachine l → Stands l → (m : ℕ) (o : LaneMap) → get l.maps m ≡ Some o →
+    IsEffective (limits_of l o)
+limits-effective l machine stands m o there =
+    let st = stands.each m o there in
+    let same : limits_of l o ≡ st.tag.limits =
+    ap (λ q. unwrap_or (option_map (λ (g : LaneTag). g.limits) q) no_limits) st.there in
+    subst IsEffective (sym same) (machine.tags o.tag st.tag st.there)
+
 -- ---- a load of a map that is not a memory's
 module _ (l : LaneState) (laid : AreLaid l) (machine : IsInMachine l) (stands : Stands l) (m : ℕ) (o : LaneMap)
     (there : get l.maps m ≡ Some o) (direct : contains_key l.mems m ≡ false) (spans : List Span) (load_at : ℕ)
@@ -134,11 +143,7 @@ module _ (l : LaneState) (laid : AreLaid l) (machine : IsInMachine l) (stands : 
   chunks = chunks_of limits l.maxmem x.entries
 
   effective : IsEffective limits
-  effective =
-      let st = stands.each m o there in
-      let same : limits ≡ st.tag.limits =
-      ap (λ q. unwrap_or (option_map (λ (g : LaneTag). g.limits) q) no_limits) st.there in
-      subst IsEffective (sym same) (machine.tags o.tag st.tag st.there)
+  effective = limits-effective l machine stands m o there
 
   are-entries : AllByRecursion IsEntry x.entries
   are-entries = entries_are (λ p. Unit {0}) true (physical l) (paged l laid machine) spans

@@ -1,4 +1,5 @@
 -- Bounce pages, the frames of the driver's pages and those of its memories are apart, where driver and account agree.
+use mathlib.Core.Logic.{∥∥₁_elim}
 use Rattle.std.proofs.Common.{◌≡◌, ◌≢◌, ℕ, zero, suc, ◌+◌, ◌*◌, ◌/◌, ◌%◌, ◌<◌, ◌≤◌, ◌==◌, ◌&&◌, Bool, true, false}
 use Rattle.std.proofs.Common.{cond, List, [], ◌∷◌, ◌++◌, Option, Some, None, slice_get, refl, ap, sym, ◌∙◌}
 use Rattle.std.proofs.Common.{subst, arith, nat_le, nat_lt, ◌⊎◌, inl, inr, ◌||◌}
@@ -380,7 +381,7 @@ module _ (l : LaneState) (a : Account) (agrees : AgreesWith l a) where
     }
       where
         not-own : (b : ℕ) → (IsOwnByte l b → ⊥) → (t : Bool) → is_some (l.memory b) ≡ t → is_some (l.memory b) ≡ false
-        not-own b none true e = absurd (none (laid.only b e))
+        not-own b none true e = absurd (∥∥₁_elim (laid.only b e) (λ x y. absurd x) none)
         not-own b none false e = e
 
         not-pages : (k b : ℕ) (x : LaneMemory) → get l.mems k ≡ Some x → in_run x.first x.count b ≡ true →

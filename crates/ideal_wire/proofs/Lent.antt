@@ -56,8 +56,8 @@ any_found test (y ∷ xs) h = by (test y) refl (any_found test xs) h
         rest h in record { place = suc r.place; item = r.item; found = r.found; passes = r.passes }
 
 -- ---- loans among their entries
-find_any : (test : ℕ × Loan → Bool) (es : List (ℕ × Loan)) (m : ℕ) (loan : Loan) → find nat_cmp m es ≡ Some loan →
-    test (m, loan) ≡ true → list_any test es ≡ true
+pub find_any : {X : Type 0} (test : ℕ × X → Bool) (es : List (ℕ × X)) (m : ℕ) (loan : X) →
+    find nat_cmp m es ≡ Some loan → test (m, loan) ≡ true → list_any test es ≡ true
 find_any test [] m loan h k = absurd (cc)
 find_any test (e ∷ es) m loan h k = by (eq_by_cmp nat_cmp m e.0) refl (λ q. find_any test es m loan q k) h
   where

@@ -110,7 +110,7 @@ placed-bytes keep (c ∷ cs) pages = by (placed-bytes keep cs (drop 1 pages)) (p
 
 -- ---- their trace
 
-placed-append : (cs : List Chunk) (at : ℕ) (xs ys : List ℕ) →
+pub placed-append : (cs : List Chunk) (at : ℕ) (xs ys : List ℕ) →
     placed_from cs at (xs ++ ys) ≡ placed_from cs at xs ++ placed_from cs (at + length xs) ys
 placed-append cs at [] ys = let e : at ≡ at + 0 = omega arith in ap (λ k. placed_from cs k ys) e
 placed-append cs at (x ∷ xs) ys =
@@ -123,7 +123,7 @@ buses-append [] ys = refl
 buses-append (x ∷ xs) ys = ap (λ zs. x.bus ∷ zs) (buses-append xs ys)
 
 -- no chunk behind a place has a byte before it
-before-all : (cs : List Chunk) (at k pa : ℕ) → Follow at cs → k < at → bus_at (bounced_of cs) k pa ≡ pa
+pub before-all : (cs : List Chunk) (at k pa : ℕ) → Follow at cs → k < at → bus_at (bounced_of cs) k pa ≡ pa
 before-all [] at k pa h lt = refl
 before-all (c ∷ cs) at k pa h lt = by (before-all cs (at + chunk_len c) k pa h.1 (omega (arith, lt))) c.bounced
   where
@@ -160,7 +160,7 @@ page-buses c cs (pa ∷ pas) k le =
     λ i. here i ∷ rest i
 
 -- the bytes behind a chunk are not in it
-past-chunk : (c : Chunk) (cs : List Chunk) (at : ℕ) (pas : List ℕ) → c.at + chunk_len c ≤ at →
+pub past-chunk : (c : Chunk) (cs : List Chunk) (at : ℕ) (pas : List ℕ) → c.at + chunk_len c ≤ at →
     placed_from (c ∷ cs) at pas ≡ placed_from cs at pas
 past-chunk c cs at [] le = refl
 past-chunk c cs at (pa ∷ pas) le =

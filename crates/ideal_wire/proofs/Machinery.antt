@@ -53,7 +53,7 @@ pages-of : (frames : List FrameRun) (earlier : List Driver) (before pages : List
     EachAfter (IsPageRun frames earlier) before pages → AllByRecursion (IsOfMachine (maxmem_of frames)) pages
 pages-of frames earlier before [] h = tt
 pages-of frames earlier before (r ∷ pages) h = (
-  record { aligned = h.0.aligned; below = frames-below frames r.frame r.count h.0.some h.0.there },
+  record { aligned = h.0.aligned; low = h.0.low; below = frames-below frames r.frame r.count h.0.some h.0.there },
   pages-of frames earlier (before ++ r ∷ []) pages h.1,
 )
 

@@ -49,7 +49,7 @@ no_memory k x e = let none : get (empty {X = LaneMemory} {R = nat_cmp}) k ≡ No
 pub opens-laid : (id maxmem : ℕ) (driver : Driver) → AreLaid (opening_lane id maxmem driver)
 opens-laid id maxmem driver = record {
   owned = λ a own. there a own;
-  only = λ a there. OfPages (own (is_own driver.pages a) there);
+  only = λ a there. ∣ OfPages (own (is_own driver.pages a) there) ∣₁;
   runs = λ k x e. no_memory k x e;
   each = λ m. by m (get (empty {X = LaneMap} {R = nat_cmp}) m) (get-empty nat_cmp m);
 }

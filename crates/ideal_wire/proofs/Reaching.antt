@@ -144,7 +144,7 @@ module _ (l : LaneState) (laid : AreLaid l) (machine : IsInMachine l) where
       omega (arith, low)
 
   -- a byte that is no byte of pages, but one of a memory
-  in-memory : (va p : ℕ) → or_in_memory l va None ≡ Some p → (pages_end ≤ va) × (p ≡ va - pages_end)
+  pub in-memory : (va p : ℕ) → or_in_memory l va None ≡ Some p → (pages_end ≤ va) × (p ≡ va - pages_end)
   in-memory va p h = by (is_memory_byte l va) refl h
     where
       by : (b : Bool) → is_memory_byte l va ≡ b → cond b (Some (va - pages_end)) None ≡ Some p →
@@ -218,7 +218,7 @@ all-split : {X : Type 0} (P : X → Type 0) (xs ys : List X) → AllByRecursion 
 all-split P [] ys h = (tt, h)
 all-split P (x ∷ xs) ys h = let r = all-split P xs ys h.1 in ((h.0, r.0), r.1)
 
-with-bytes : (rounded : Bool) (pas : List ℕ) (es : List Entry) → addresses (extents_of pas) ≡ pas →
+pub with-bytes : (rounded : Bool) (pas : List ℕ) (es : List Entry) → addresses (extents_of pas) ≡ pas →
     entries_addresses (with_entry rounded pas es) ≡ pas ++ entries_addresses es
 with-bytes rounded [] es h = refl
 with-bytes rounded (pa ∷ pas) es h = ap (λ xs. xs ++ entries_addresses es) h

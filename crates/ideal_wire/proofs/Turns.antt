@@ -1,6 +1,6 @@
 -- Any turn leaves the wire faithful, whatever pages come and go.
-use Rattle.std.proofs.Common.{◌≡◌, ◌≢◌, ℕ, ◌==◌, ◌&&◌, Bool, true, false, cond, if◌then◌else◌, List, [], ◌∷◌, ◌++◌, Option}
-use Rattle.std.proofs.Common.{Some, None, refl, ap, sym, ◌∙◌, slice_get, length, nat_le, nat_lt, subst, arith}
+use Rattle.std.proofs.Common.{◌≡◌, ℕ, ◌==◌, ◌&&◌, Bool, true, false, cond, if◌then◌else◌, List, [], ◌∷◌, Option}
+use Rattle.std.proofs.Common.{Some, None, refl, ap, ◌∙◌, slice_get, length, nat_le, nat_lt, subst, arith}
 use Rattle.std.specs.FinMap.{get, contains_key}
 use Rattle.busdma_base.specs.declared.bounce.hold.HubCall.TheVariants as call
 use Rattle.busdma_base.specs.declared.bounce.hold.HubReply.{HubReply}
@@ -27,7 +27,7 @@ use Rattle.busdma_base.specs.Tags.Tag.{could_bounce, effective}
 use Rattle.busdma_base.specs.Tags.TagFlags.{allocnow}
 use Rattle.dma_tag.specs.LoadFlags.{nowait}
 use Rattle.lane_agreement.specs.After.{addresses}
-use Rattle.lane_agreement.specs.View.{Return, returning, is_returning}
+use Rattle.lane_agreement.specs.View.{Return}
 use Rattle.lane_tables.specs.declared.queued.QueuedItem.{QueuedItem}
 use Rattle.loan_table.specs.Access.{cpu_read_answer, dev_read_answer}
 use Rattle.loan_table.specs.Loans.{loan_of, no_loan}
@@ -51,7 +51,6 @@ use Rattle.ideal_lane.specs.Tags.{with_tag, attached, tag_or_invalid, tag, tag_d
 use Rattle.ideal_lane.specs.Turns.{Turned, operation, transfer, waits, asked_at, called, called_in, called_back, lane_step}
 use Rattle.ideal_lane.specs.Turns as turns
 use Rattle.ideal_lane.specs.Unloads.{unload, restaged, given_back, after_return}
-use Rattle.ideal_lane.specs.View.{own_map, in_zone}
 use Rattle.ideal_wire.specs.Apart.{IsApart}
 use Rattle.ideal_wire.specs.Centre.{IsFaithful}
 use Rattle.ideal_wire.specs.Laid.{LiesIn, AreLaid}
@@ -62,6 +61,7 @@ use Rattle.ideal_wire.proofs.Carried.{Carries, are-bused, carried, same-carries,
 use Rattle.ideal_wire.proofs.Carried.{unload-carries, put-stage, cut-stage}
 use Rattle.ideal_wire.proofs.Frames.{agreeing-apart}
 use Rattle.ideal_wire.proofs.Refusing.{absent, judged, either, busy, unloaded, past}
+use Rattle.ideal_wire.proofs.Returning.{returning-unloaded}
 use Rattle.ideal_wire.proofs.Wiring.{sync-stays, sync_range-stays, cpu_write-stays, dev_write-stays}
 
 module _ (l : LaneState) (a : Account) (w : Wire) (stands : Stands l) (agrees : AgreesWith l a) (laid : AreLaid l)
@@ -249,34 +249,11 @@ module _ (l : LaneState) (a : Account) (w : Wire) (stands : Stands l) (agrees : 
   given-idles : (x : Return) (rest : List Return) → l.returns ≡ x ∷ rest → Carries l (given_back x rest l)
   given-idles x rest e = by (get l.maps x.map) refl
     where
-      some : returning x.map l.returns ≡ 0 → ⊥
-      some none =
-          let one = Rattle.lane_agreement.proofs.Own.count-one (λ (r : Return). r.map == x.map) x rest in
-          let here : (x.map == x.map) ≡ true = Rattle.std.proofs.Common.eq-eqb x.map x.map refl in
-          absurd
-          (omega (
-            arith,
-            sym (ap (returning x.map) e) ∙ none,
-            one,
-            ap Rattle.lane_agreement.specs.OwnShare.one_if here,
-          ))
-
-      back : (o : LaneMap) → get l.maps x.map ≡ Some o → (b : Bool) →
-          is_returning (own_map (get l.maps x.map)) ≡ b → is_loaded o.stage ≡ false
-      back o g false r = absurd (some (agrees.returns x.map r))
-      back o g true r = stage o.stage o.zone (sym (ap (λ y. is_returning (own_map y)) g) ∙ r)
-        where
-          stage : (s : Stage) (z : Option ℕ) → is_returning (in_zone s z) ≡ true → is_loaded s ≡ false
-          stage s None h = absurd (cc)
-          stage Idle (Some z) h = refl
-          stage (Waiting load_at need) (Some z) h = refl
-          stage (Loaded cs ss ps) (Some z) h = absurd (cc)
-          stage Returning (Some z) h = refl
-
       by : (y : Option LaneMap) → get l.maps x.map ≡ y →
           Carries l (record (restaged x.map y (after_return x.map rest) l) { returns = rest })
       by None g = kept _ refl refl refl
-      by (Some o) g = put x.map _ _ (no-loan x.map o g (back o g _ refl)) refl refl refl
+      by (Some o) g =
+          put x.map _ _ (no-loan x.map o g (returning-unloaded l a agrees x rest e o g)) refl refl refl
 
   -- ---- callbacks
   called-idles : (m : ℕ) (pages : List ℕ) → Carries l (called m (get l.maps m) pages l).lane

@@ -7,6 +7,8 @@ use Rattle.std.specs.FinMap.{get}
 use Rattle.busdma_base.specs.declared.journals.report.Judged.TheVariants.{Fine}
 use Rattle.busdma_base.specs.declared.machine.chunk.Chunk.{Chunk}
 use Rattle.busdma_base.specs.declared.machine.address.Segment.{Segment}
+use Rattle.busdma_base.specs.Bounce.Account.{Account}
+use Rattle.busdma_base.specs.Bounce.AccountStep.{account_step}
 use Rattle.busdma_base.specs.Bounce.MemoryRuns.{in_run}
 use Rattle.busdma_base.specs.Machine.PageRuns.{is_own}
 use Rattle.busdma_base.specs.Machine.Wire.{buses}
@@ -18,8 +20,9 @@ use Rattle.segment_build.specs.Chunks.{need_of}
 use Rattle.segment_build.specs.Segmentation.{segment_bytes}
 use Rattle.segment_build.specs.Trace.{bus_extent, chunk_extents}
 use Rattle.ideal_lane.specs.State.{LaneState, LaneMap, LaneMemory, Stage, Idle, Waiting, Loaded, Returning}
+use Rattle.ideal_lane.specs.Asking.{Asking, Gives, Asks}
 use Rattle.ideal_lane.specs.Loads.{chunks_for, is_coherent}
-use Rattle.ideal_lane.specs.Turns.{asked_at}
+use Rattle.ideal_lane.specs.Turns.{asked_at, Turned}
 use Rattle.ideal_wire.specs.Centre.{IsAt}
 use Rattle.ideal_wire.specs.Traces.{stage_at, traces_of}
 
@@ -85,6 +88,11 @@ pub data IsOwnByte (l : LaneState) (a : ℕ) : Type 0 where
 -- lies as it stands
 pub record AreLaid (l : LaneState) : Type 0 where
   pub owned : (a : ℕ) → IsOwnByte l a → is_some (l.memory a) ≡ true
-  pub only : (a : ℕ) → is_some (l.memory a) ≡ true → IsOwnByte l a
+  pub only : (a : ℕ) → is_some (l.memory a) ≡ true → ∥ IsOwnByte l a ∥₁
   pub runs : (k : ℕ) (x : LaneMemory) → get l.mems k ≡ Some x → IsRun x
   pub each : (m : ℕ) → LiesIn l m (stage_at l m)
+
+-- after a step with the account's reply, the loads of the driver are laid
+abbrev pub KeepsLaid : ℕ → Account → Asking Turned → Type 0
+KeepsLaid lane a (Gives t) = AreLaid t.lane
+KeepsLaid lane a (Asks c k) = AreLaid (k (account_step lane c a).reply).lane

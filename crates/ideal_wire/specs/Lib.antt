@@ -3,5 +3,6 @@ pub mod Apart
 pub mod Centre
 pub mod Laid
 pub mod Machine
+pub mod OneProof
 pub mod Traces
 pub mod WireStep

@@ -3,12 +3,15 @@ use Rattle.std.specs.Prelude.{◌≡◌, ℕ, ◌+◌, ◌*◌, ◌%◌, ◌^◌
 use Rattle.std.specs.List.{AllByRecursion}
 use Rattle.std.specs.FinMap.{get}
 use Rattle.busdma_base.specs.declared.scenarios.scenario.PageRun.{PageRun}
+use Rattle.busdma_base.specs.Machine.PageRuns.{pages_end}
 use Rattle.busdma_base.specs.Tags.Tag.{IsEffective}
 use Rattle.ideal_lane.specs.State.{LaneState, LaneTag, LaneMemory}
 
--- a run of pages begins a page, and its frames have numbers below the end of the machine's memory
+-- a run of pages begins a page and ends where those of memories begin at the latest, and its frames have numbers below
+-- the end of the machine's memory
 pub record IsOfMachine (maxmem : ℕ) (r : PageRun) : Type 0 where
   pub aligned : r.va.0 % 4096 ≡ 0
+  pub low : r.va.0 + 4096 * r.count ≤ pages_end
   pub below : r.frame + r.count ≤ maxmem
 
 -- the machine's frames have numbers below 2^30, and the driver's pages and memories have frames of the machine; each of

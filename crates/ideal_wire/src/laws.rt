@@ -29,6 +29,7 @@ ghost use Rattle.busdma_base.specs.Machine.Spans.{span_addresses};
 ghost use Rattle.busdma_base.specs.Machine.Wire.{Wire};
 ghost use Rattle.busdma_base.specs.Scenarios.Valid.{IsValid};
 ghost use Rattle.ideal_lane.specs.Accesses.{cpu_read, cpu_write, dev_read, dev_write};
+ghost use Rattle.lane_agreement.specs.Agreement.{IsFit};
 ghost use Rattle.ideal_lane.specs.Agreement.{AgreesWith};
 ghost use Rattle.ideal_lane.specs.Asking.{by_reply};
 ghost use Rattle.ideal_lane.specs.Loads.{asked, chunks_for, finished, limits_of, load_judged};
@@ -41,7 +42,7 @@ ghost use Rattle.ideal_lane.specs.Turns.{lane_step};
 ghost use Rattle.ideal_wire.specs.Accepted.{HasPages, IfSegments, IsAccepted};
 ghost use Rattle.ideal_wire.specs.Apart.{IsApart};
 ghost use Rattle.ideal_wire.specs.Centre.{IsFaithful};
-ghost use Rattle.ideal_wire.specs.Laid.{AreLaid};
+ghost use Rattle.ideal_wire.specs.Laid.{AreLaid, KeepsLaid};
 ghost use Rattle.ideal_wire.specs.Machine.{IsInMachine};
 ghost use Rattle.ideal_wire.specs.WireStep.{Follows, IsRead, load_buses, place_bytes};
 ghost use Rattle.ideal_wire.specs.WireStep as wire;
@@ -117,6 +118,13 @@ pub fn accepted_loads_obey()
         let end = finished m o load_at x chunks pages l in
         IfSegments end.answer
         (IsAccepted end.lane m (limits_of l o) (bytes_at l (span_addresses spans)) chunks pages) }
+{}
+
+/// A step leaves the loads of a driver laid, by the account's reply to its call, where driver and
+/// account agree. The account is one that a sound history leads to.
+pub fn loads_stay_laid()
+    ensures { (l : LaneState) (s : Side) (a : Account) → Stands l → AgreesWith l a → IsFit a → EachFrame IsFrame a →
+        IsInMachine l → AreLaid l → KeepsLaid l.id a (lane_step l s) }
 {}
 
 /// A driver of a valid scenario opens in its machine, and a step leaves it there, whatever the reply

@@ -6,6 +6,7 @@ ghost use Rattle.serde_json.specs.View.{view};
 ghost use Rattle.busdma_base.specs.Each.{EachAfter};
 ghost use Rattle.busdma_base.specs.Machine.FrameRuns.{IsNumbered, is_in as lies_in};
 ghost use Rattle.busdma_base.specs.Machine.PageRuns as base;
+ghost use Rattle.busdma_base.specs.Runs as runs;
 ghost use Rattle.json_fields.specs.Place.{place_of};
 ghost use Rattle.json_fields.specs.Read.{Gives, GivesSeen};
 ghost use Rattle.json_fields.specs.Field.{spot_of};
@@ -77,7 +78,7 @@ fn all_in(frames: &[FrameRun], first: u64, count: u64) -> bool
 
 /// The `m` numbers from `a` on and the `n` numbers from `b` on have one in common.
 fn meet(a: u64, m: u64, b: u64, n: u64) -> bool
-    ensures { result ≡ base.meet a m b n }
+    ensures { result ≡ runs.meet a m b n }
 {
     (b <= a && a - b < n) || (a <= b && b - a < m)
 }

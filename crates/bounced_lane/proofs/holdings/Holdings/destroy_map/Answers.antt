@@ -11,7 +11,7 @@ use Rattle.ideal_lane.specs.Outcomes.{gives}
 use Rattle.ideal_lane.specs.State.{named}
 use Rattle.bounced_lane.specs.Ideal.{given, ideal_of}
 use Rattle.bounced_lane.specs.Kept.{map_of}
-use Rattle.bounced_lane.proofs.Doors.{allowed-asks, done-asks, done-gives}
+use Rattle.bounced_lane.proofs.Doors.{allowed-asks, asked, done-asks, done-gives, unasked}
 use Rattle.bounced_lane.proofs.Keeping.{bytes-same, state-busy, state-idle}
 use Rattle.bounced_lane.proofs.MapSteps.{destroy-absent, destroy-busy, destroy-plain, destroy-zoned}
 use Rattle.bounced_lane.proofs.MapValues.{image-none, image-some}
@@ -25,6 +25,13 @@ returns-in_default-clause-done g c =
     (destroy-absent l c.args.map (image-none map_of h.maps.map c.args.map (sym c.in_default.ensures))
     ∙ ap (gives l) (sym c.report.ensures))
 
+pub returns-in_default-clause-held : goal.returns-in_default-clause-held
+returns-in_default-clause-held g c =
+    let h = c.args.self.now in
+    let l = ideal_of h in
+    unasked (map_destroy c.args.map l) _
+    (destroy-absent l c.args.map (image-none map_of h.maps.map c.args.map (sym c.in_default.ensures)))
+
 pub returns-in_default-state : goal.returns-in_default-state
 returns-in_default-state g c =
     let h = c.args.self.now in
@@ -32,6 +39,10 @@ returns-in_default-state g c =
     let o = c.in-Some.kept.now in
     record {
       done = done-gives (g.D.HubDoor.seen c.args.door.now) h.id.0 (map_destroy c.args.map l) _
+          (destroy-busy l c.args.map (map_of o)
+          (image-some map_of h.maps.map c.args.map o (sym c.in-Some.ensures))
+          (state-busy o.need o.map.stage (λ e. c.in_default-state.not-Idle (c.state.ensures ∙ e))));
+      held = unasked (map_destroy c.args.map l) _
           (destroy-busy l c.args.map (map_of o)
           (image-some map_of h.maps.map c.args.map o (sym c.in-Some.ensures))
           (state-busy o.need o.map.stage (λ e. c.in_default-state.not-Idle (c.state.ensures ∙ e))));
@@ -51,6 +62,17 @@ returns-in_default-zone-clause-done g c =
     (state-idle o.need o.map.stage (sym c.state.ensures ∙ c.in-Idle.is))
     (ap (option_map (λ (z : ZoneId). z.0)) (sym c.zone.ensures ∙ c.in_default-zone.is))
     ∙ ap (λ x. gives x Done) (sym c.drop_map.ensures.done))
+
+pub returns-in_default-zone-clause-held : goal.returns-in_default-zone-clause-held
+returns-in_default-zone-clause-held g c =
+    let h = c.args.self.now in
+    let l = ideal_of h in
+    let o = c.in-Some.kept.now in
+    unasked (map_destroy c.args.map l) _
+    (destroy-plain l c.args.map (map_of o)
+    (image-some map_of h.maps.map c.args.map o (sym c.in-Some.ensures))
+    (state-idle o.need o.map.stage (sym c.state.ensures ∙ c.in-Idle.is))
+    (ap (option_map (λ (z : ZoneId). z.0)) (sym c.zone.ensures ∙ c.in_default-zone.is)))
 
 pub destroy_map-requires : goal.destroy_map-requires
 destroy_map-requires g c =
@@ -87,3 +109,15 @@ returns-clause-done g c =
           c.destroy_map.ensures.held;
       is = λ i. record { lane = c.drop_map-2.ensures.done i; answer = Done };
     })
+
+pub returns-clause-held : goal.returns-clause-held
+returns-clause-held g c =
+    let h = c.args.self.now in
+    let l = ideal_of h in
+    let o = c.in-Some.kept.now in
+    let z = c.in-Some-zone.zone in
+    asked (map_destroy c.args.map l) _ _
+    (destroy-zoned l c.args.map (map_of o) z.0
+    (image-some map_of h.maps.map c.args.map o (sym c.in-Some.ensures))
+    (state-idle o.need o.map.stage (sym c.state.ensures ∙ c.in-Idle.is))
+    (ap (option_map (λ (z : ZoneId). z.0)) (sym c.zone.ensures ∙ c.in-Some-zone.is)))

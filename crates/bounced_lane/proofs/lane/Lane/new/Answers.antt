@@ -4,6 +4,9 @@ use Rattle.std.specs.Ordering.{nat_cmp}
 use Rattle.std.specs.FinMap.{contains_key, get-empty}
 use Rattle.lane_tables.specs.declared.queued.QueuedPage.{QueuedPage}
 use Rattle.lane_tables.specs.Queues.{item_count}
+use Rattle.ideal_lane.specs.Opening.{opening_lane}
+use Rattle.ideal_lane.specs.Standing.{Stands}
+use Rattle.ideal_lane.proofs.Openings.{opens-standing}
 use Rattle.ideal_lane.proofs.Weights.{weigh-empty}
 use Rattle.bounced_lane.specs.Covered.{items_left, items_due}
 use Rattle.bounced_lane.specs.Held.{devices_of}
@@ -12,6 +15,7 @@ use Rattle.bounced_lane.specs.Kept as kept
 use Rattle.bounced_lane.specs.MapValues.{map_values}
 use Rattle.bounced_lane.proofs.MapValues.{map_values-empty}
 use Rattle.bounced_lane.proofs.OwnRuns.{AreKnown}
+use Rattle.bounced_lane.proofs.OpensWired.{opens-wired}
 use Rattle.bounced_lane.proofs.OpeningLane.{held-zeros, opens-covered, opens-mapless, opens-reaching}
 use Rattle.bounced_lane.proofs.lane.Lane.new.Goals as goal
 
@@ -65,8 +69,12 @@ invariant_of-result-clause-tried c =
     (ap (λ t. t.map) c.in_ok-new-2.ensures) c.in_ok-opening_loans.ensures.loans
     (ap (λ a. a.returns) c.in_ok-new-4.ensures)).tried
 
-pub invariant_of-result-2 : goal.invariant_of-result-2
-invariant_of-result-2 c =
+pub invariant_of-result-2-clause-length : goal.invariant_of-result-2-clause-length
+invariant_of-result-2-clause-length c =
+    ap (λ a. a.length) c.in_ok-new-4.ensures ∙ sym (ap length c.as_slice-script.ensures)
+
+pub invariant_of-result-2-clause-room : goal.invariant_of-result-2-clause-room
+invariant_of-result-2-clause-room c =
     let agenda = c.in_ok-new-4.ensures in
     let script = c.as_slice-script.ensures in
     let left : items_left c.in_ok-new-4.field-0.place c.as_slice-script.result.now ≡ c.in_ok-new-4.field-0.room =
@@ -74,13 +82,69 @@ invariant_of-result-2 c =
     ∙ ap item_count script ∙ sym (ap (λ a. a.room) agenda) in
     let due : items_due c.in_ok-new-2.field-0.map ≡ 0 =
     ap (λ t. items_due t.map) c.in_ok-new-2.ensures ∙ weigh-empty kept.items_of in
-    record {
-      length = ap (λ a. a.length) agenda ∙ sym (ap length script);
-      room = omega (arith, left, due);
-      new_tags = λ p le. ap (λ t. contains_key t.map p) c.in_ok-new.ensures ∙ ap is_some (get-empty nat_cmp p);
-      new_maps = λ p le. ap (λ t. contains_key t.map p) c.in_ok-new-2.ensures ∙ ap is_some (get-empty nat_cmp p);
-      new_memories = λ p le. ap (λ t. contains_key t.map p) c.in_ok-new-3.ensures ∙ ap is_some (get-empty nat_cmp p);
-    }
+    omega (arith, left, due)
+
+pub invariant_of-result-2-clause-wired : goal.invariant_of-result-2-clause-wired
+invariant_of-result-2-clause-wired c =
+    let agenda = c.in_ok-new-4.ensures in
+    let loans = c.in_ok-opening_loans.ensures.loans in
+    let known =
+    subst (λ pages. AreKnown pages c.in_ok-opening_loans.field-0.bytes) c.as_slice-pages.ensures
+    c.in_ok-opening_loans.ensures.bytes in
+    let memory =
+    held-zeros c.args.driver.now.pages c.in_ok-opening_loans.field-0.bytes c.args.memory.memory known
+    c.requires.memory c.in_ok-opening_loans.field-0.loans (devices_of c.in_ok-new-2.field-0.map) loans in
+    let tags = ap (λ t. map_values tag_of t.map) c.in_ok-new.ensures ∙ map_values-empty tag_of in
+    let maps = ap (λ t. map_values map_of t.map) c.in_ok-new-2.ensures ∙ map_values-empty map_of in
+    let mems = ap (λ t. map_values memory_of t.map) c.in_ok-new-3.ensures ∙ map_values-empty memory_of in
+    opens-wired c.args.id.0 c.args.maxmem c.args.driver.now _
+    (λ i. record {
+      id = c.args.id.0;
+      maxmem = c.args.maxmem;
+      script = c.as_slice-script.ensures i;
+      place = (agenda i).place;
+      pages = c.as_slice-pages.ensures i;
+      tags = tags i;
+      maps = maps i;
+      mems = mems i;
+      memory = memory i;
+      loans = loans i;
+      queue = (agenda i).queue;
+      returns = map return_of (agenda i).returns;
+      shares = share_of (c.new-5.ensures.items i);
+    })
+    (ap (λ t. t.map) c.in_ok-new-2.ensures) c.requires.memory.zero c.requires.numbered c.requires.inside
+
+pub invariant_of-result-2-clause-stands : goal.invariant_of-result-2-clause-stands
+invariant_of-result-2-clause-stands c =
+    let agenda = c.in_ok-new-4.ensures in
+    let loans = c.in_ok-opening_loans.ensures.loans in
+    let known =
+    subst (λ pages. AreKnown pages c.in_ok-opening_loans.field-0.bytes) c.as_slice-pages.ensures
+    c.in_ok-opening_loans.ensures.bytes in
+    let memory =
+    held-zeros c.args.driver.now.pages c.in_ok-opening_loans.field-0.bytes c.args.memory.memory known
+    c.requires.memory c.in_ok-opening_loans.field-0.loans (devices_of c.in_ok-new-2.field-0.map) loans in
+    let tags = ap (λ t. map_values tag_of t.map) c.in_ok-new.ensures ∙ map_values-empty tag_of in
+    let maps = ap (λ t. map_values map_of t.map) c.in_ok-new-2.ensures ∙ map_values-empty map_of in
+    let mems = ap (λ t. map_values memory_of t.map) c.in_ok-new-3.ensures ∙ map_values-empty memory_of in
+    let is : _ ≡ opening_lane c.args.id.0 c.args.maxmem c.args.driver.now =
+    (λ i. record {
+      id = c.args.id.0;
+      maxmem = c.args.maxmem;
+      script = c.as_slice-script.ensures i;
+      place = (agenda i).place;
+      pages = c.as_slice-pages.ensures i;
+      tags = tags i;
+      maps = maps i;
+      mems = mems i;
+      memory = memory i;
+      loans = loans i;
+      queue = (agenda i).queue;
+      returns = map return_of (agenda i).returns;
+      shares = share_of (c.new-5.ensures.items i);
+    }) in
+    ∣ subst Stands (sym is) (opens-standing c.args.id.0 c.args.maxmem c.args.driver.now) ∣₁
 
 pub returns : goal.returns
 returns c =

@@ -1,0 +1,186 @@
+-- A map lies as it lay, where a step leaves its stage, the bytes of its load and what its tag says.
+use mathlib.Core.Logic.{∥∥₁_map}
+use Rattle.std.proofs.Common.{◌≡◌, ◌≢◌, ℕ, Bool, true, false, List, Option, Some, None, slice_get, is_some, inl, inr}
+use Rattle.std.proofs.Common.{refl, ap, sym, ◌∙◌, subst}
+use Rattle.std.specs.Option.{option_and_then}
+use Rattle.std.specs.Prelude.{unwrap_or}
+use Rattle.std.specs.FinMap.{empty, get, get-empty}
+use Rattle.std.specs.List.{enumerate_from}
+use Rattle.std.specs.Ordering.{nat_cmp}
+use Rattle.busdma_base.specs.declared.machine.address.Segment.{Segment}
+use Rattle.busdma_base.specs.declared.machine.address.Span.{Span}
+use Rattle.busdma_base.specs.declared.machine.chunk.Chunk.{Chunk}
+use Rattle.busdma_base.specs.declared.scenarios.script.Item.{Item}
+use Rattle.busdma_base.specs.declared.scenarios.script.Op.{Op}
+use Rattle.busdma_base.specs.declared.scenarios.script.Op.TheVariants as op
+use Rattle.busdma_base.specs.declared.scenarios.script.Place.TheVariants.{At}
+use Rattle.busdma_base.specs.Journals.Judging.{judged}
+use Rattle.busdma_base.specs.Machine.PageRuns.{is_own}
+use Rattle.busdma_base.specs.Machine.Spans.{span_addresses, span_bytes}
+use Rattle.busdma_base.specs.Machine.Wire.{buses}
+use Rattle.dma_tag.specs.LoadFlags.{nowait}
+use Rattle.loan_table.specs.declared.position.Position.{Position}
+use Rattle.loan_table.specs.Loans.{loan_of, addresses_of}
+use Rattle.map_sync.specs.Traces.{HasChunks}
+use Rattle.phys_memory.specs.Vector.{entries_of, one_span}
+use Rattle.segment_build.specs.Chunks.{chunks_of, need_of}
+use Rattle.ideal_lane.specs.Loads.{Asked, asked, is_coherent, is_foreign_to, limits_of, load_refusal}
+use Rattle.ideal_lane.specs.Places.{physical}
+use Rattle.ideal_lane.specs.Outcomes.{is_loaded}
+use Rattle.ideal_lane.specs.State.{LaneState, LaneMap, LaneMemory, Stage, Idle, Waiting, Loaded, Returning}
+use Rattle.ideal_lane.specs.Syncs.{bounced_in}
+use Rattle.ideal_lane.specs.Turns.{asked_at, asked_by, no_load}
+use Rattle.ideal_wire.specs.Centre.{IsAt}
+use Rattle.ideal_wire.specs.Laid.{is_loadable, IsLaid, IsAwaited, LiesIn, IsOwnByte, OfPages, OfMemory, AreLaid}
+use Rattle.ideal_wire.specs.Laid.{chunks_at, pages_alone}
+use Rattle.ideal_wire.specs.Traces.{stage_at, placed_from, traces_of}
+use Rattle.ideal_wire.proofs.Positions.{twin_of}
+use Rattle.ideal_wire.proofs.SyncedPositions.{decided}
+
+-- what a step leaves of all maps: the script, the pages, the end of memory, which bytes are the driver's own, and its
+-- memories
+pub record KeepsRest (l l' : LaneState) : Type 0 where
+  pub script : l'.script ≡ l.script
+  pub pages : l'.pages ≡ l.pages
+  pub maxmem : l'.maxmem ≡ l.maxmem
+  pub own : (a : ℕ) → is_some (l'.memory a) ≡ is_some (l.memory a)
+  pub mems : l'.mems ≡ l.mems
+
+-- what it leaves of a map: its stage, the bytes of its load, and what its tag says
+pub record IsAlike (l l' : LaneState) (n : ℕ) : Type 0 where
+  pub stage : stage_at l' n ≡ stage_at l n
+  pub coherent : (loan_of l'.loans n).coherent ≡ (loan_of l.loans n).coherent
+  pub bytes : addresses_of (loan_of l'.loans n).positions ≡ addresses_of (loan_of l.loans n).positions
+  pub unlent : is_loaded (stage_at l n) ≡ false → loan_of l'.loans n ≡ loan_of l.loans n
+  pub limits : (o' : LaneMap) → get l'.maps n ≡ Some o' →
+      (o : LaneMap) × (get l.maps n ≡ Some o) × (limits_of l' o' ≡ limits_of l o)
+
+-- a load of spans, of a map that is that of a memory or not
+abbrev pub asked-with : Option LaneMemory → List Span → Bool → List Item → LaneState → Asked
+asked-with o spans now items l = record {
+  judged =
+      judged (λ b. load_refusal (is_foreign_to o l b.0 b.1) (physical l b.1)) 0
+      (enumerate_from 0 (span_addresses spans));
+  entries = entries_of true (physical l) spans;
+  len = span_bytes spans;
+  nowait = now;
+  items = items;
+}
+
+pub no-memory : (m : ℕ) → get (empty {X = LaneMemory} {R = nat_cmp}) m ≡ None
+no-memory m = get-empty nat_cmp m
+
+-- what an operation asks of the driver's pages alone
+module _ (l l' : LaneState) (pages : l'.pages ≡ l.pages) where
+  span-alike : (m va len : ℕ) (now : Bool) (items : List Item) →
+      asked m (one_span va len) now items (pages_alone l') ≡ asked m (one_span va len) now items (pages_alone l)
+  span-alike m va len now items =
+      ap (λ o. asked-with o (one_span va len) now items (pages_alone l')) (no-memory m)
+      ∙ (λ i. asked-with None (one_span va len) now items (record (pages_alone l) { pages = pages i }))
+      ∙ sym (ap (λ o. asked-with o (one_span va len) now items (pages_alone l)) (no-memory m))
+
+  asked_by-alike : (o : Op) → asked_by o (pages_alone l') ≡ asked_by o (pages_alone l)
+  asked_by-alike (op.Load m (At va) len flags items) = ap Some (span-alike m va.0 len (nowait flags) items)
+  asked_by-alike (op.Tag name parent limits) = refl
+  asked_by-alike (op.TagDestroy tag) = refl
+  asked_by-alike (op.Map name tag) = refl
+  asked_by-alike (op.MapDestroy m) = refl
+  asked_by-alike (op.Unload m) = refl
+  asked_by-alike (op.Sync m ops) = refl
+  asked_by-alike (op.SyncRange m off len ops) = refl
+  asked_by-alike (op.CpuRead place len) = refl
+  asked_by-alike (op.CpuWrite place bytes) = refl
+  asked_by-alike (op.Await m) = refl
+
+  asked_in-alike : (o : Option Op) →
+      unwrap_or (option_and_then (λ p. asked_by p (pages_alone l')) o) (no_load (pages_alone l'))
+      ≡ unwrap_or (option_and_then (λ p. asked_by p (pages_alone l)) o) (no_load (pages_alone l))
+  asked_in-alike None = refl
+  asked_in-alike (Some p) = ap (λ q. unwrap_or q (no_load (pages_alone l))) (asked_by-alike p)
+
+  -- what a load at a place of the script asks
+  pub asked-alike : (k : ℕ) → l'.script ≡ l.script → asked_at k (pages_alone l') ≡ asked_at k (pages_alone l)
+  asked-alike k script =
+      ap (λ s. unwrap_or (option_and_then (λ p. asked_by p (pages_alone l')) (slice_get s k)) (no_load (pages_alone l')))
+      script ∙ asked_in-alike (slice_get l.script k)
+
+module _ (l l' : LaneState) (kept : KeepsRest l l') where
+  pub loadable-alike : (o : Option LaneMemory) (a : ℕ) → is_loadable o l' a ≡ is_loadable o l a
+  loadable-alike None a = ap (λ p. is_own p a) kept.pages
+  loadable-alike (Some x) a = refl
+
+  module _ (n : ℕ) (alike : IsAlike l l' n) where
+    traces-alike : traces_of l' n ≡ traces_of l n
+    traces-alike = λ i. placed_from (bounced_in (alike.stage i)) 0 (alike.bytes i)
+
+    was-at : (i : ℕ) (p : Position) → IsAt l'.loans n i p → (q : Position) × IsAt l.loans n i q × (p.pa ≡ q.pa)
+    was-at i p at =
+        let t = twin_of (λ (p : Position). p.pa) (λ (p : Position). p.pa) (loan_of l'.loans n).positions
+        (loan_of l.loans n).positions alike.bytes i p at in
+        (t.twin, t.found, t.same)
+
+    loaded-alike : (cs : List Chunk) (ss : List Segment) (ps : List ℕ) → IsLaid l n cs ss ps → IsLaid l' n cs ss ps
+    loaded-alike cs ss ps h = record {
+      coherent = alike.coherent ∙ h.coherent ∙ sym (λ i. is_coherent (get (kept.mems i) n));
+      bytes = λ i p at. let w = was-at i p at in
+          loadable-alike (get l'.mems n) p.pa ∙ (λ j. is_loadable (get (kept.mems j) n) l (w.2 j))
+          ∙ h.bytes i w.0 w.1;
+      direct = λ some. h.direct (sym (λ i. is_some (get (kept.mems i) n)) ∙ some);
+      paged = h.paged;
+      extents = h.extents;
+      chunks = subst (λ ts. HasChunks 0 ts cs) (sym traces-alike) h.chunks;
+      trace = h.trace ∙ ap buses (sym traces-alike);
+    }
+
+    chunks-alike : (o o' : LaneMap) (load_at : ℕ) → limits_of l' o' ≡ limits_of l o →
+        chunks_at l' o' load_at ≡ chunks_at l o load_at
+    chunks-alike o o' load_at limits =
+        λ i. chunks_of (limits i) (kept.maxmem i) (asked-alike l l' kept.pages load_at kept.script i).entries
+
+    awaited-alike : (load_at need : ℕ) → loan_of l'.loans n ≡ loan_of l.loans n → IsAwaited l n load_at need →
+        IsAwaited l' n load_at need
+    awaited-alike load_at need same h = record {
+      unlent = same ∙ h.unlent;
+      fine = ap (λ (x : Asked). x.judged) (asked-alike l l' kept.pages load_at kept.script) ∙ h.fine;
+      counted = λ o' e. let w = alike.limits o' e in
+          h.counted w.0 w.1 ∙ ap need_of (sym (chunks-alike w.0 o' load_at w.2));
+    }
+
+    pub alike-lies : LiesIn l n (stage_at l n) → LiesIn l' n (stage_at l' n)
+    alike-lies h = subst (LiesIn l' n) (sym alike.stage) (by (stage_at l n) alike.unlent h)
+      where
+        by : (s : Stage) → (is_loaded s ≡ false → loan_of l'.loans n ≡ loan_of l.loans n) → LiesIn l n s → LiesIn l' n s
+        by Idle same h = same refl ∙ h
+        by (Waiting load_at need) same h = awaited-alike load_at need (same refl) h
+        by (Loaded cs ss ps) same h = loaded-alike cs ss ps h
+        by Returning same h = same refl ∙ h
+
+  own-back : (a : ℕ) → IsOwnByte l' a → IsOwnByte l a
+  own-back a (OfPages e) = OfPages (sym (ap (λ p. is_own p a) kept.pages) ∙ e)
+  own-back a (OfMemory k x there e) = OfMemory k x (sym (λ i. get (kept.mems i) k) ∙ there) e
+
+  own-on : (a : ℕ) → IsOwnByte l a → IsOwnByte l' a
+  own-on a (OfPages e) = OfPages (ap (λ p. is_own p a) kept.pages ∙ e)
+  own-on a (OfMemory k x there e) = OfMemory k x ((λ i. get (kept.mems i) k) ∙ there) e
+
+  -- the loads are laid where each map lies
+  pub all-laid : AreLaid l → ((n : ℕ) → LiesIn l' n (stage_at l' n)) → AreLaid l'
+  all-laid laid each = record {
+    owned = λ a own. kept.own a ∙ laid.owned a (own-back a own);
+    only = λ a there. ∥∥₁_map (laid.only a (sym (kept.own a) ∙ there)) (own-on a);
+    runs = λ k x there. laid.runs k x (sym (λ i. get (kept.mems i) k) ∙ there);
+    each = each;
+  }
+
+  -- so they are where one map alone does not lie as it lay
+  pub one-changed : AreLaid l → (m : ℕ) → ((n : ℕ) → n ≢ m → IsAlike l l' n) → LiesIn l' m (stage_at l' m) → AreLaid l'
+  one-changed laid m others here = all-laid laid by
+    where
+      by : (n : ℕ) → LiesIn l' n (stage_at l' n)
+      by n = elim (decided n m) as (λ _. LiesIn l' n (stage_at l' n)) [
+        | inl e ↦ subst (λ k. LiesIn l' k (stage_at l' k)) (sym e) here
+        | inr ne ↦ alike-lies n (others n ne) (laid.each n)
+      ]
+
+  pub none-changed : AreLaid l → ((n : ℕ) → IsAlike l l' n) → AreLaid l'
+  none-changed laid all = all-laid laid (λ n. alike-lies n (all n) (laid.each n))

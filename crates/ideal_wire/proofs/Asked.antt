@@ -1,0 +1,191 @@
+-- What a load asks can end with its pages, now and when it waited.
+use Rattle.std.proofs.Common.{◌≡◌, ℕ, zero, suc, ◌+◌, ◌-◌, ◌==◌, Bool, true, false, cond}
+use Rattle.std.proofs.Common.{if◌then◌else◌, List, [], ◌∷◌, ◌++◌, map, length, Option, Some, None, is_some}
+use Rattle.std.proofs.Common.{refl, ap, sym, ◌∙◌, subst, unwrap_or}
+use Rattle.std.proofs.lemmas.Bool.{false≢true}
+use Rattle.std.specs.FinMap.{FinMap, empty, get, entries, entries_sorted, get-entries}
+use Rattle.std.specs.List.{AllByRecursion, enumerate_from}
+use Rattle.std.specs.Ordering.{nat_cmp}
+use Rattle.busdma_base.specs.declared.journals.report.Judged.TheVariants.{Fine}
+use Rattle.busdma_base.specs.declared.journals.report.ReportName.{ReportName}
+use Rattle.busdma_base.specs.declared.machine.address.Span.{Span}
+use Rattle.busdma_base.specs.declared.machine.chunk.Entry.{Entry}
+use Rattle.busdma_base.specs.declared.tags.tag.TagLimits.{TagLimits}
+use Rattle.busdma_base.specs.Bounce.AccountStep.{as_pages}
+use Rattle.busdma_base.specs.Journals.Judging.{judged, refused_or}
+use Rattle.busdma_base.specs.Machine.Entry.{entries_addresses}
+use Rattle.busdma_base.specs.Machine.PageRuns.{is_own, pages_end, physical_in}
+use Rattle.busdma_base.specs.Machine.Spans.{span_addresses}
+use Rattle.busdma_base.specs.Runs.{run_of}
+use Rattle.busdma_base.specs.Tags.Tag.{IsEffective}
+use Rattle.phys_memory.specs.Extents.{reached, then_reached}
+use Rattle.phys_memory.specs.Translation.{Translation, physical_or_0}
+use Rattle.phys_memory.specs.Vector.{entries_of, with_entry}
+use Rattle.phys_memory.proofs.Vectors.{entries_are}
+use Rattle.segment_build.specs.Chunks.{chunks_of, need_of}
+use Rattle.segment_build.specs.Trace.{IsPage}
+use Rattle.ideal_lane.specs.Loads.{is_foreign_to, limits_of, load_judged, load_refusal}
+use Rattle.ideal_lane.specs.Places.{is_in_memory, is_memory_byte, or_in_memory, physical}
+use Rattle.ideal_lane.specs.Standing.{Stands}
+use Rattle.ideal_lane.specs.State.{LaneState, LaneMap, LaneMemory}
+use Rattle.ideal_wire.specs.Laid.{is_loadable, AreLaid, pages_alone}
+use Rattle.ideal_wire.specs.Machine.{IsInMachine}
+use Rattle.ideal_wire.proofs.Accepting.{limits-effective}
+use Rattle.ideal_wire.proofs.Alike.{no-memory}
+use Rattle.ideal_wire.proofs.Lent.{any_entry}
+use Rattle.ideal_wire.proofs.LoadLaid.{IsReady, ready}
+use Rattle.ideal_wire.proofs.Placing.{reached-own}
+use Rattle.ideal_wire.proofs.Reaching.{AllReached, all-from, each-byte, entries-bytes, paged}
+
+-- ---- lists
+
+-- what holds of each thing holds of it with its place
+enumerated : {X : Type 0} (P : X → Type 0) (n : ℕ) (xs : List X) → AllByRecursion P xs →
+    AllByRecursion (λ b. P b.1) (enumerate_from n xs)
+enumerated P n [] h = tt
+enumerated P n (x ∷ xs) h = (h.0, enumerated P (n + 1) xs h.1)
+
+-- where nothing is refused all is fine
+all-fine : {X : Type 0} (refusal : X → Option ReportName) (at : ℕ) (xs : List X) →
+    AllByRecursion (λ x. refusal x ≡ None) xs → judged refusal at xs ≡ Fine
+all-fine refusal at [] h = refl
+all-fine refusal at (x ∷ xs) h =
+    ap (λ o. refused_or o at (judged refusal (at + 1) xs)) h.0 ∙ all-fine refusal (at + 1) xs h.1
+
+pub all-map : {X Y : Type 0} (f : X → Y) (P : Y → Type 0) (xs : List X) → AllByRecursion (λ x. P (f x)) xs →
+    AllByRecursion P (map f xs)
+all-map f P [] h = tt
+all-map f P (x ∷ xs) h = (h.0, all-map f P xs h.1)
+
+pub all-of : {X : Type 0} (P Q : X → Type 0) → ((x : X) → P x → Q x) → (xs : List X) → AllByRecursion P xs → AllByRecursion Q xs
+all-of P Q f [] h = tt
+all-of P Q f (x ∷ xs) h = (f x h.0, all-of P Q f xs h.1)
+
+all-front : {X : Type 0} (P : X → Type 0) (xs ys : List X) → AllByRecursion P (xs ++ ys) →
+    AllByRecursion P xs × AllByRecursion P ys
+all-front P [] ys h = (tt, h)
+all-front P (x ∷ xs) ys h = let r = all-front P xs ys h.1 in ((h.0, r.0), r.1)
+
+-- ---- translations that agree
+
+module _ (t u : Translation) where
+  abbrev pub AreSame : List ℕ → Type 0
+  AreSame vas = AllByRecursion (λ va. t va ≡ u va) vas
+
+  same-reached : (va n : ℕ) → AreSame (run_of va n) → reached t va n ≡ reached u va n
+  same-reached va zero h = refl
+  same-reached va (suc n) h = let rest = same-reached (va + 1) n h.1 in λ i. then_reached (h.0 i) (rest i)
+
+  pub same-entries : (rounded : Bool) (spans : List Span) → AreSame (span_addresses spans) →
+      entries_of rounded t spans ≡ entries_of rounded u spans
+  same-entries rounded [] h = refl
+  same-entries rounded (s ∷ ss) h =
+      let parts = all-front (λ va. t va ≡ u va) (run_of s.va.0 s.len) (span_addresses ss) h in
+      let one = same-reached s.va.0 s.len parts.0 in
+      let rest = same-entries rounded ss parts.1 in
+      λ i. with_entry rounded (one i) (if length (one i) == s.len then rest i else [])
+
+-- ---- bytes of the driver's pages
+module _ (l : LaneState) where
+  -- each of these bytes is one of the driver's pages
+  abbrev pub AreOfPages : List ℕ → Type 0
+  AreOfPages vas = AllByRecursion (λ va. (p : ℕ) × (physical_in l.pages va ≡ Some p)) vas
+
+  -- so are those of a load that is judged fine, of a map that is not a memory's
+  pub direct-bytes : (m : ℕ) (vas : List ℕ) → get l.mems m ≡ None → load_judged l m vas ≡ Fine → AreOfPages vas
+  direct-bytes m vas none fine = all-from _ vas (λ k va e. one k va (each-byte l m vas fine k va e))
+    where
+      one : (k va : ℕ) → (p : ℕ) × (physical l va ≡ Some p) × (is_foreign_to (get l.mems m) l k va ≡ false) →
+          (p : ℕ) × (physical_in l.pages va ≡ Some p)
+      one k va r = by (physical_in l.pages va) refl r.1
+        where
+          outside : is_memory_byte l va ≡ false
+          outside = sym (ap (λ o. is_foreign_to o l k va) none) ∙ r.2
+
+          by : (o : Option ℕ) → physical_in l.pages va ≡ o → or_in_memory l va o ≡ Some r.0 →
+              (p : ℕ) × (physical_in l.pages va ≡ Some p)
+          by None e g =
+              let gone : None ≡ Some r.0 = sym (ap (λ b. cond b (Some (va - pages_end)) None) outside) ∙ g in absurd (cc)
+          by (Some q) e g = (q, e)
+
+  -- without memories no byte is one of a memory
+  alone-outside : (va : ℕ) → is_memory_byte (pages_alone l) va ≡ false
+  alone-outside va = by (is_memory_byte (pages_alone l) va) refl
+    where
+      none : (b : Bool) → is_memory_byte (pages_alone l) va ≡ b → b ≡ true → ⊥
+      none b e t =
+          let x = any_entry (λ q. is_in_memory va q.1) (entries empty-map) (entries_sorted empty-map) (e ∙ t) in
+          let there : get empty-map x.key ≡ Some x.value = get-entries empty-map x.key ∙ x.found in
+          let gone : None ≡ Some x.value = sym (no-memory x.key) ∙ there in
+          absurd (cc)
+        where
+          empty-map : FinMap nat_cmp LaneMemory
+          empty-map = empty
+
+      by : (b : Bool) → is_memory_byte (pages_alone l) va ≡ b → b ≡ false
+      by true e = absurd (none true e refl)
+      by false e = refl
+
+  -- what the driver reaches of its pages, it reaches with and without its memories
+  with-pages : (k : LaneState) (va p : ℕ) → physical_in k.pages va ≡ Some p → physical k va ≡ Some p
+  with-pages k va p e = ap (or_in_memory k va) e
+
+  -- so the entries of such bytes are the same for each driver with these pages
+  pub pages-entries : (k : LaneState) → k.pages ≡ l.pages → (spans : List Span) → AreOfPages (span_addresses spans) →
+      entries_of true (physical k) spans ≡ entries_of true (physical l) spans
+  pages-entries k same spans h =
+      same-entries (physical k) (physical l) true spans
+      (all-of (λ va. (p : ℕ) × (physical_in l.pages va ≡ Some p)) (λ va. physical k va ≡ physical l va)
+      (λ va r. with-pages k va r.0 ((λ i. physical_in (same i) va) ∙ r.1) ∙ sym (with-pages l va r.0 r.1))
+      (span_addresses spans) h)
+
+  -- they are judged fine without its memories
+  pub alone-fine : (m : ℕ) (vas : List ℕ) → AreOfPages vas → load_judged (pages_alone l) m vas ≡ Fine
+  alone-fine m vas h =
+      ap (λ o. judged (λ b. load_refusal (is_foreign_to o (pages_alone l) b.0 b.1) (physical (pages_alone l) b.1)) 0
+      (enumerate_from 0 vas)) (no-memory m)
+      ∙ all-fine (λ b. load_refusal (is_memory_byte (pages_alone l) b.1) (physical (pages_alone l) b.1)) 0
+      (enumerate_from 0 vas)
+      (enumerated (λ va. load_refusal (is_memory_byte (pages_alone l) va) (physical (pages_alone l) va) ≡ None) 0 vas
+      (all-of (λ va. (p : ℕ) × (physical_in l.pages va ≡ Some p)) _
+      (λ va r i. load_refusal (alone-outside va i) (with-pages (pages_alone l) va r.0 r.1 i)) vas h))
+
+-- ---- loads that can end
+module _ (l : LaneState) (laid : AreLaid l) (machine : IsInMachine l) (stands : Stands l) (m : ℕ) (o : LaneMap)
+    (there : get l.maps m ≡ Some o) where
+  abbrev t : TagLimits
+  t = limits_of l o
+
+  eff : IsEffective t
+  eff = limits-effective l machine stands m o there
+
+  -- of bytes of the driver's pages, with its pages
+  pub direct-ready : get l.mems m ≡ None → (spans : List Span) → AreOfPages l (span_addresses spans) →
+      (pages : List ℕ) → AllByRecursion IsPage (as_pages pages) →
+      length pages ≡ need_of (chunks_of t l.maxmem (entries_of true (physical l) spans)) →
+      IsReady l m t (entries_of true (physical l) spans) (chunks_of t l.maxmem (entries_of true (physical l) spans)) pages
+  direct-ready none spans own pages whole count =
+      ready l m t t l.maxmem es pages eff.maxsegsz eff refl
+      (entries_are (λ p. Unit {0}) true (physical l) (paged l laid machine) spans) whole count
+      (λ some. let gone : false ≡ true = sym (ap is_some none) ∙ some in absurd (false≢true gone)) loadable
+    where
+      es : List Entry
+      es = entries_of true (physical l) spans
+
+      Of : ℕ → Type 0
+      Of va = (p : ℕ) × (physical_in l.pages va ≡ Some p)
+
+      are-reached : AllReached (physical l) (span_addresses spans)
+      are-reached = all-of Of _ (λ va r. (r.0, with-pages l l va r.0 r.1)) (span_addresses spans) own
+
+      loads : (va : ℕ) → Of va → is_loadable (get l.mems m) l (physical_or_0 (physical l) va) ≡ true
+      loads va r =
+          ap (λ q. is_loadable q l (physical_or_0 (physical l) va)) none
+          ∙ ap (λ q. is_own l.pages (unwrap_or q 0)) (with-pages l l va r.0 r.1) ∙ reached-own l.pages va r.0 r.1
+
+      loadable : AllByRecursion (λ a. is_loadable (get l.mems m) l a ≡ true) (entries_addresses es)
+      loadable =
+          subst (AllByRecursion (λ a. is_loadable (get l.mems m) l a ≡ true))
+          (sym (entries-bytes (physical l) (paged l laid machine) true spans are-reached))
+          (all-map (physical_or_0 (physical l)) (λ a. is_loadable (get l.mems m) l a ≡ true) (span_addresses spans)
+          (all-of Of _ loads (span_addresses spans) own))

@@ -1,0 +1,175 @@
+-- A load that has its pages lies in them.
+use Rattle.std.proofs.Common.{◌≡◌, ℕ, zero, suc, ◌≤◌, Bool, true, false, cond, if◌then◌else◌, List, [], ◌∷◌, length}
+use Rattle.std.proofs.Common.{Some, slice_get, is_some, refl, ap, sym, ◌∙◌, subst, arith, nat_le, unwrap_or}
+use Rattle.std.proofs.Common.{drop}
+use Rattle.std.specs.FinMap.{get}
+use Rattle.std.specs.List.{AllByRecursion, AllZip}
+use Rattle.busdma_base.specs.declared.journals.answer.Answer.TheVariants as answer
+use Rattle.busdma_base.specs.declared.journals.report.Errno.TheVariants.{EFBIG}
+use Rattle.busdma_base.specs.declared.machine.address.Pa.{Pa}
+use Rattle.busdma_base.specs.declared.machine.chunk.Chunk.{Chunk}
+use Rattle.busdma_base.specs.declared.machine.chunk.Entry.{Entry}
+use Rattle.busdma_base.specs.declared.tags.tag.TagLimits.{TagLimits}
+use Rattle.busdma_base.specs.Bounce.AccountStep.{as_pages}
+use Rattle.busdma_base.specs.Machine.Entry.{IsEntry, entries_addresses}
+use Rattle.busdma_base.specs.Tags.Tag.{IsEffective}
+use Rattle.busdma_base.specs.Tags.TagFlags.{keep_pg_offset}
+use Rattle.loan_table.specs.declared.position.Position.{Position}
+use Rattle.loan_table.specs.Loans.{Loan, loan_of, no_loan, new_loan, unlent}
+use Rattle.map_sync.specs.Traces.{HasChunks}
+use Rattle.segment_build.specs.Building.{tag_placed}
+use Rattle.segment_build.specs.Chunks.{bounced_of, chunks_of, need_of}
+use Rattle.segment_build.specs.Trace.{IsPage, IsPlaced, first_page, in_page, placed}
+use Rattle.segment_build.proofs.Covering.{chunks_at, chunks_cover}
+use Rattle.segment_build.proofs.Sound.{chunks_sound, placed_are}
+use Rattle.ideal_lane.specs.Loads.{Asked, finished, is_coherent, limits_of, unpaged}
+use Rattle.ideal_lane.specs.Outcomes.{Outcome}
+use Rattle.ideal_lane.specs.State.{LaneState, LaneMap, Loaded}
+use Rattle.ideal_wire.specs.Laid.{IsInPage, IsOfExtents, is_loadable, IsLaid, LiesIn, AreLaid}
+use Rattle.ideal_wire.specs.Traces.{placed_from, traces_of}
+use Rattle.ideal_wire.proofs.Accepting.{same-pages, count-pages, flat-entries, segments, fits, stage-is, loan-is}
+use Rattle.ideal_wire.proofs.Accepting.{traces-are, trace-is}
+use Rattle.ideal_wire.proofs.Alike.{KeepsRest, loadable-alike, one-changed}
+use Rattle.ideal_wire.proofs.ChunkExtents.{chunks-extents, placed-extents}
+use Rattle.ideal_wire.proofs.HavingChunks.{has-chunks}
+use Rattle.ideal_wire.proofs.Loading.{Follow, chunks_bytes, follow-of, placed-bytes, placed-follow, zipped}
+use Rattle.ideal_wire.proofs.Positions.{found_one}
+use Rattle.ideal_wire.proofs.StillLaid.{kept-map, put-off, unpaged-still}
+
+-- ---- small lists
+
+-- a page changes no chunk that is not bounced
+none-placed : (keep : Bool) (cs : List Chunk) (pages : List Pa) → bounced_of cs ≡ [] →
+    bounced_of (placed keep cs pages) ≡ []
+none-placed keep [] pages h = refl
+none-placed keep (c ∷ cs) pages h = by c.bounced refl (λ g. none-placed keep cs pages g) h
+  where
+    by : (b : Bool) → c.bounced ≡ b → (bounced_of cs ≡ [] → bounced_of (placed keep cs pages) ≡ []) →
+        cond b (c ∷ bounced_of cs) (bounced_of cs) ≡ [] →
+        bounced_of (cond b (in_page keep (first_page pages) c ∷ placed keep cs (drop 1 pages))
+        (c ∷ placed keep cs pages)) ≡ []
+    by true e rest g = absurd (cc)
+    by false e rest g =
+        ap (λ b. cond b (c ∷ bounced_of (placed keep cs pages)) (bounced_of (placed keep cs pages))) e ∙ rest g
+
+none-counted : (cs : List Chunk) → length cs ≡ 0 → cs ≡ []
+none-counted [] h = refl
+none-counted (c ∷ cs) h = absurd (omega (arith, h))
+
+-- the byte of a position of a new loan is one of its bytes
+unlent-at : (P : ℕ → Type 0) (bytes : List ℕ) (i : ℕ) (p : Position) → AllByRecursion P bytes →
+    slice_get (unlent bytes) i ≡ Some p → P p.pa
+unlent-at P [] i p all h = absurd (cc)
+unlent-at P (a ∷ bytes) zero p all h =
+    subst P (ap (λ (q : Position). q.pa) (found_one (Some _) (record { pa = a; to_read = false; to_write = false }) p refl h))
+    all.0
+unlent-at P (a ∷ bytes) (suc i) p all h = unlent-at P bytes i p all.1 h
+
+-- ---- what a load has that can end with its pages
+
+-- its chunks follow one another and have its bytes, each in its place and its extents in frames; its pages are as many
+-- as it needs; a memory's needs none; and its bytes are those that its map may load
+pub record IsReady (l : LaneState) (m : ℕ) (t : TagLimits) (es : List Entry) (chunks : List Chunk) (pages : List ℕ)
+    : Type 0 where
+  pub some : 1 ≤ t.maxsegsz
+  pub follow : Follow 0 chunks
+  pub bytes : chunks_bytes chunks ≡ entries_addresses es
+  pub are : AllByRecursion IsPlaced (tag_placed t chunks (as_pages pages))
+  pub extents : AllByRecursion IsOfExtents chunks
+  pub whole : AllByRecursion IsPage (as_pages pages)
+  pub count : length pages ≡ need_of chunks
+  pub direct : is_some (get l.mems m) ≡ true → need_of chunks ≡ 0
+  pub loadable : AllByRecursion (λ a. is_loadable (get l.mems m) l a ≡ true) (entries_addresses es)
+
+-- so it is with the chunks of entries by an effective tag
+pub ready : (l : LaneState) (m : ℕ) (t t' : TagLimits) (maxmem : ℕ) (es : List Entry) (pages : List ℕ) →
+    1 ≤ t.maxsegsz → IsEffective t' → t'.flags ≡ t.flags → AllByRecursion IsEntry es →
+    AllByRecursion IsPage (as_pages pages) → length pages ≡ need_of (chunks_of t' maxmem es) →
+    (is_some (get l.mems m) ≡ true → need_of (chunks_of t' maxmem es) ≡ 0) →
+    AllByRecursion (λ a. is_loadable (get l.mems m) l a ≡ true) (entries_addresses es) →
+    IsReady l m t es (chunks_of t' maxmem es) pages
+ready l m t t' maxmem es pages some eff flags entries whole count direct loadable = record {
+  some = some;
+  follow = follow-of [] chunks 0 refl (chunks_at t' maxmem es eff);
+  bytes = chunks_cover t' maxmem es eff entries ∙ flat-entries es;
+  are =
+      subst (λ f. AllByRecursion IsPlaced (placed (keep_pg_offset f) chunks (as_pages pages))) flags
+      (placed_are t' chunks (as_pages pages) (chunks_sound t' maxmem es eff entries) whole);
+  extents = chunks-extents t' maxmem es eff entries;
+  whole = whole;
+  count = count;
+  direct = direct;
+  loadable = loadable;
+}
+  where
+    chunks : List Chunk
+    chunks = chunks_of t' maxmem es
+
+module _ (l : LaneState) (laid : AreLaid l) (m : ℕ) (o : LaneMap) (none : loan_of l.loans m ≡ no_loan)
+    (load_at : ℕ) (x : Asked) (chunks : List Chunk) (pages : List ℕ)
+    (r : IsReady l m (limits_of l o) x.entries chunks pages) where
+  abbrev t : TagLimits
+  t = limits_of l o
+
+  abbrev in_pages : List Chunk
+  in_pages = tag_placed t chunks (as_pages pages)
+
+  abbrev after : LaneState
+  after = fits l m o load_at x chunks pages
+
+  rest : KeepsRest l after
+  rest = record { script = refl; pages = refl; maxmem = refl; own = λ a. refl; mems = refl }
+
+  lies : IsLaid after m (bounced_of in_pages) (segments l m o load_at x chunks pages) pages
+  lies = record {
+    coherent = ap (λ (n : Loan). n.coherent) (loan-is l m o load_at x chunks pages);
+    bytes = λ i p at.
+        loadable-alike l after rest (get l.mems m) p.pa
+        ∙ unlent-at (λ a. is_loadable (get l.mems m) l a ≡ true) (entries_addresses x.entries) i p r.loadable
+        (sym (λ j. slice_get (loan-is l m o load_at x chunks pages j).positions i) ∙ at);
+    direct = λ some. none-placed (keep_pg_offset t.flags) chunks (as_pages pages)
+        (none-counted (bounced_of chunks) (r.direct some));
+    paged =
+        subst (AllZip IsInPage (bounced_of in_pages)) (same-pages pages)
+        (zipped (keep_pg_offset t.flags) chunks (as_pages pages) r.are r.whole (count-pages pages ∙ r.count));
+    extents = placed-extents (keep_pg_offset t.flags) chunks (as_pages pages) r.extents;
+    chunks = subst (λ ts. HasChunks 0 ts (bounced_of in_pages)) (sym traces) there;
+    trace = trace-is l m o load_at x chunks pages r.some r.are r.follow r.bytes;
+  }
+    where
+      traces : traces_of after m
+          ≡ placed_from (bounced_of in_pages) 0 (chunks_bytes in_pages)
+      traces = traces-are l m o load_at x chunks pages
+          ∙ ap (placed_from (bounced_of in_pages) 0)
+          (sym (placed-bytes (keep_pg_offset t.flags) chunks (as_pages pages) ∙ r.bytes))
+
+      there : HasChunks 0 (placed_from (bounced_of in_pages) 0 (chunks_bytes in_pages)) (bounced_of in_pages)
+      there = has-chunks in_pages 0 0 [] refl tt
+          (placed-follow (keep_pg_offset t.flags) chunks (as_pages pages) 0 r.follow) r.are
+
+  fits-laid : AreLaid after
+  fits-laid =
+      one-changed l after rest laid m
+      (λ n off. kept-map l after n (λ k y e. refl) (ap (λ y. unwrap_or y no_loan) (put-off l.loans m n new off))
+      (put-off l.maps m n loaded-map off))
+      (subst (LiesIn after m) (sym (stage-is l m o load_at x chunks pages)) lies)
+    where
+      new : Loan
+      new = new_loan (is_coherent (get l.mems m)) (entries_addresses x.entries)
+
+      loaded-map : LaneMap
+      loaded-map = record o {
+        tried = true;
+        stage = Loaded (bounced_of in_pages) (segments l m o load_at x chunks pages) pages;
+      }
+
+  pub finished-laid : AreLaid (finished m o load_at x chunks pages l).lane
+  finished-laid = by (nat_le (length (segments l m o load_at x chunks pages)) t.nsegments)
+    where
+      by : (b : Bool) → AreLaid (Outcome.lane (if b then record {
+        lane = after;
+        answer = answer.Segments (segments l m o load_at x chunks pages);
+      }
+          else record { lane = unpaged m o pages l; answer = answer.Refused EFBIG }))
+      by true = fits-laid
+      by false = unpaged-still l laid m o pages none

@@ -1,0 +1,87 @@
+-- That what a driver keeps of its wire has one proof at most, so that a lane can keep it.
+use Rattle.std.proofs.Common.{◌≡◌, ◌<◌, ℕ, ◌+◌, ◌-◌, ◌^◌, List, [], ◌∷◌, drop, inl, inr, sym, ◌∙◌, arith}
+use Rattle.std.proofs.lemmas.Bool.{cases_lt}
+use Rattle.std.proofs.Math.Pow.{pow-lt}
+use Rattle.std.specs.Int.{IsPowerOfTwo}
+use Rattle.std.specs.Coded.{×_prop, Unit-prop}
+use Rattle.std.specs.List.{AllByRecursion, AllByRecursion-prop, AllZip}
+use mathlib.Core.HLevel.{Σ_prop_path}
+use mathlib.Core.List.{is_set}
+use base.Stored.{Coded-set}
+use denote.Struct.Props.{props}
+use Rattle.busdma_base.specs.contracts.journals.report.Judged as judged
+use Rattle.busdma_base.specs.declared.machine.chunk.Chunk.{Chunk}
+use Rattle.busdma_base.specs.declared.machine.address.Segment.{Segment}
+use Rattle.busdma_base.specs.declared.tags.tag.TagLimits.{TagLimits}
+use Rattle.busdma_base.specs.Tags.Tag.{IsEffective}
+use Rattle.busdma_base.specs.Machine.Wire.{Placed, Wire}
+use Rattle.loan_table.specs.contracts.position.Position as position
+use Rattle.loan_table.specs.Loans.{Loan}
+use Rattle.map_sync.specs.Traces.{HasChunk, HasChunks}
+use Rattle.segment_build.specs.Trace.{chunk_len}
+use Rattle.ideal_lane.specs.State.{LaneState, Stage, Idle, Waiting, Loaded, Returning}
+use Rattle.ideal_wire.specs.Apart.{IsApart}
+use Rattle.ideal_wire.specs.Centre.{IsFaithful}
+use Rattle.ideal_wire.specs.Laid.{AreLaid, IsInPage, IsLaid, LiesIn}
+use Rattle.ideal_wire.specs.Machine.{IsInMachine, IsOfMachine}
+
+Placed-set : IsSet Placed
+Placed-set = hlevel (props, AllByRecursion-prop)
+
+Loan-set : IsSet Loan
+Loan-set = hlevel (props, is_set, Coded-set position.the_row.coded)
+
+zip-prop : {A B : Type 0} (R : A → B → Type 0) → ((x : A) (y : B) → IsProp (R x y)) → (xs : List A) (ys : List B) →
+    IsProp (AllZip R xs ys)
+zip-prop R each [] [] = Unit-prop
+zip-prop R each [] (y ∷ ys) = λ p q. absurd p
+zip-prop R each (x ∷ xs) [] = λ p q. absurd p
+zip-prop R each (x ∷ xs) (y ∷ ys) = ×_prop (each x y) (zip-prop R each xs ys)
+
+HasChunk-prop : (place : ℕ) (ps : List Placed) (c : Chunk) → IsProp (HasChunk place ps c)
+HasChunk-prop place ps c = hlevel (props, AllByRecursion-prop, is_set, Placed-set)
+
+HasChunks-prop : (place : ℕ) (ps : List Placed) (cs : List Chunk) → IsProp (HasChunks place ps cs)
+HasChunks-prop place ps [] = hlevel (props, AllByRecursion-prop)
+HasChunks-prop place ps (c ∷ cs) =
+    ×_prop (HasChunk-prop place ps c)
+    (HasChunks-prop (c.at + chunk_len c) (drop (c.at + chunk_len c - place) ps) cs)
+
+IsLaid-prop : (l : LaneState) (m : ℕ) (cs : List Chunk) (ss : List Segment) (ps : List ℕ) → IsProp (IsLaid l m cs ss ps)
+IsLaid-prop l m cs ss ps = hlevel (props, AllByRecursion-prop, zip-prop, HasChunks-prop, is_set)
+
+LiesIn-prop : (l : LaneState) (m : ℕ) (s : Stage) → IsProp (LiesIn l m s)
+LiesIn-prop l m Idle = Loan-set _ _
+LiesIn-prop l m (Waiting load_at need) = hlevel (props, Loan-set, Coded-set judged.the_row.coded)
+LiesIn-prop l m (Loaded bounced segments pages) = IsLaid-prop l m bounced segments pages
+LiesIn-prop l m Returning = Loan-set _ _
+
+pub AreLaid-prop : (l : LaneState) → IsProp (AreLaid l)
+AreLaid-prop l = hlevel (props, LiesIn-prop)
+
+pub IsApart-prop : (l : LaneState) → IsProp (IsApart l)
+IsApart-prop l = hlevel (props, AllByRecursion-prop)
+
+pub IsFaithful-prop : (l : LaneState) (w : Wire) → IsProp (IsFaithful l w)
+IsFaithful-prop l w = hlevel (props, AllByRecursion-prop)
+
+-- a number is one power of two
+one-power : (i j : ℕ) → 2 ^ i ≡ 2 ^ j → i ≡ j
+one-power i j same = elim (cases_lt i j) as (λ _. i ≡ j) [
+  | inl less ↦ let off : 2 ^ i < 2 ^ j = pow-lt less in absurd (omega (arith, off, same))
+  | inr most ↦ elim (cases_lt j i) as (λ _. i ≡ j) [
+      | inl more ↦ let off : 2 ^ j < 2 ^ i = pow-lt more in absurd (omega (arith, off, same))
+      | inr least ↦ omega (arith, most, least)
+    ]
+]
+
+IsPowerOfTwo-prop : (n : ℕ) → IsProp (IsPowerOfTwo n)
+IsPowerOfTwo-prop n x y =
+    Σ_prop_path (λ (k : ℕ). let one : IsProp (n ≡ 2 ^ k) = hlevel (props) in one)
+    (one-power x.0 y.0 (sym x.1 ∙ y.1))
+
+IsEffective-prop : (t : TagLimits) → IsProp (IsEffective t)
+IsEffective-prop t = hlevel (props, IsPowerOfTwo-prop)
+
+pub IsInMachine-prop : (l : LaneState) → IsProp (IsInMachine l)
+IsInMachine-prop l = hlevel (props, AllByRecursion-prop, IsEffective-prop)

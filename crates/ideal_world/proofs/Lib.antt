@@ -1,0 +1,17 @@
+pub mod Calling
+pub mod Falling
+pub mod Few
+pub mod Going
+pub mod Keeping
+pub mod Lanes
+pub mod Legal
+pub mod Opens
+pub mod Reached
+pub mod Replayed
+pub mod Rest
+pub mod Resting
+pub mod Rounds
+pub mod Stuck
+pub mod Turns
+pub mod Waiters
+pub mod Wiring

@@ -1,0 +1,16 @@
+-- How often the entries of a journal call the callback of a load.
+use Rattle.std.specs.Prelude.{ℕ, ◌+◌, ◌==◌, ◌&&◌, List, [], ◌∷◌, Option, Some, None, if◌then◌else◌, slice_get}
+use Rattle.busdma_base.specs.declared.journals.journal.JournalEntry.{JournalEntry}
+use Rattle.ideal_lane.specs.Callbacks.{calls}
+use Rattle.ideal_lane.specs.State.{LaneState}
+use Rattle.ideal_world.specs.World.{WorldState, step}
+
+-- how often an entry calls the callback of the load at a place of the script of a driver, in this state before it
+abbrev pub called_by : ℕ → ℕ → JournalEntry → Option LaneState → ℕ
+called_by i p e None = 0
+called_by i p e (Some l) = if (e.actor.lane.0 == i) && calls p l e.did e.answer then 1 else 0
+
+-- how often entries do that lead on from a world
+abbrev pub times_called : ℕ → ℕ → WorldState → List JournalEntry → ℕ
+times_called i p w [] = 0
+times_called i p w (e ∷ es) = called_by i p e (slice_get w.lanes i) + times_called i p (step w e.actor).world es

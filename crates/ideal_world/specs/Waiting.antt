@@ -1,0 +1,39 @@
+-- What a world waits for in which no actor can step.
+use Rattle.std.specs.Prelude.{◌≡◌, ℕ, true, [], Some, slice_get}
+use Rattle.std.specs.List.{count_by}
+use Rattle.std.specs.FinMap.{get}
+use Rattle.busdma_base.specs.declared.scenarios.script.Op.TheVariants.{Await}
+use Rattle.busdma_base.specs.Bounce.Account.{Account, zone_at}
+use Rattle.busdma_base.specs.Bounce.Share.{is_waiting}
+use Rattle.ideal_lane.specs.State.{LaneState, LaneMap, Waiting, named}
+use Rattle.ideal_world.specs.World.{WorldState, has_ended}
+
+-- the script of a driver awaits a map whose load waits for pages, and which stands once, with the load's need, in the
+-- waiting list of its zone
+pub record IsAwaiting (a : Account) (l : LaneState) : Type 0 where
+  pub map : ℕ
+  pub operation : slice_get l.script l.place ≡ Some (Await map)
+  pub own : LaneMap
+  pub there : get l.maps map ≡ Some own
+  pub load_at : ℕ
+  pub need : ℕ
+  pub stage : own.stage ≡ Waiting load_at need
+  pub zone : ℕ
+  pub bounces : own.zone ≡ Some zone
+  pub listed : count_by (is_waiting (named l map) zone need) (zone_at a zone).wait ≡ 1
+
+-- the script of a driver has ended, or awaits such a map
+pub data EndsOrAwaits (a : Account) (l : LaneState) : Type 0 where
+  HasEnded : has_ended l ≡ true → EndsOrAwaits a l
+  Awaits : IsAwaiting a l → EndsOrAwaits a l
+
+-- a driver has no page to give back and no item to transfer, and its script has ended or awaits such a map
+pub record DriverAwaits (a : Account) (l : LaneState) : Type 0 where
+  pub returns : l.returns ≡ []
+  pub queue : l.queue ≡ []
+  pub script : EndsOrAwaits a l
+
+-- that holds of each driver, and no callback is to be called
+pub record OnlyAwaits (w : WorldState) : Type 0 where
+  pub each : (i : ℕ) (l : LaneState) → slice_get w.lanes i ≡ Some l → DriverAwaits w.account l
+  pub ready : w.account.ready ≡ []

@@ -1,0 +1,43 @@
+-- The wires of all drivers of a world: the bytes that the frames and the bounce pages of each really hold.
+use Rattle.std.specs.Prelude.{◌≡◌, ◌≢◌, ℕ, true, Some, slice_get}
+use Rattle.busdma_base.specs.declared.journals.journal.Actor.{Actor}
+use Rattle.busdma_base.specs.Machine.PageRuns.{is_own}
+use Rattle.busdma_base.specs.Machine.Wire.{Wire}
+use Rattle.ideal_lane.specs.State.{LaneState}
+use Rattle.ideal_wire.specs.Centre.{IsFaithful}
+use Rattle.ideal_wire.specs.Laid.{AreLaid}
+use Rattle.ideal_wire.specs.Machine.{IsInMachine}
+use Rattle.ideal_wire.specs.WireStep.{Follows, lane_step}
+use Rattle.ideal_world.specs.World.{WorldState, step}
+
+-- the wire of each driver, by its number
+abbrev pub Wires : Type 0
+Wires = ℕ → Wire
+
+-- each driver has this, with its number
+abbrev pub EachDriver : (ℕ → LaneState → Type 0) → WorldState → Type 0
+EachDriver P w = (i : ℕ) (l : LaneState) → slice_get w.lanes i ≡ Some l → P i l
+
+-- the pages of each driver hold zeros
+abbrev pub AreZero : Wires → WorldState → Type 0
+AreZero wires w = EachDriver (λ i l. (a : ℕ) → is_own l.pages a ≡ true → wires i a ≡ 0) w
+
+-- the loads of each driver lie as they stand
+abbrev pub AllLaid : WorldState → Type 0
+AllLaid w = EachDriver (λ i l. AreLaid l) w
+
+-- each driver lies in its machine
+abbrev pub AllInMachine : WorldState → Type 0
+AllInMachine w = EachDriver (λ i l. IsInMachine l) w
+
+-- each driver's wire is faithful to its ideal memory
+abbrev pub AllFaithful : Wires → WorldState → Type 0
+AllFaithful wires w = EachDriver (λ i l. IsFaithful l (wires i)) w
+
+-- what an actor's turn makes of the wires: its driver's follows the turn, with pages that come with any bytes and leave
+-- with theirs, and each other's stays
+pub record WiresFollow (w : WorldState) (actor : Actor) (before after : Wires) : Type 0 where
+  pub own : (l m : LaneState) → slice_get w.lanes actor.lane.0 ≡ Some l →
+      slice_get (step w actor).world.lanes actor.lane.0 ≡ Some m →
+      Follows l m (lane_step l actor.side (before actor.lane.0)) (after actor.lane.0)
+  pub others : (i : ℕ) → i ≢ actor.lane.0 → after i ≡ before i

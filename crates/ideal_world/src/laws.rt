@@ -1,0 +1,138 @@
+//! Laws of the ideal world and of its journals.
+
+ghost use Rattle.std.specs.Prelude.{◌≡◌, ◌<◌, ◌≤◌, ◌^◌, ℕ, List, Some, None, slice_get};
+ghost use Rattle.busdma_base.specs.declared.journals.journal.Actor.{Actor};
+ghost use Rattle.busdma_base.specs.declared.journals.journal.Journal.{Journal};
+ghost use Rattle.busdma_base.specs.declared.journals.journal.JournalEntry.{JournalEntry};
+ghost use Rattle.busdma_base.specs.declared.journals.journal.Side.{Side};
+ghost use Rattle.busdma_base.specs.declared.scenarios.scenario.Scenario.{Scenario};
+ghost use Rattle.busdma_base.specs.declared.scenarios.script.Place.{Place};
+ghost use Rattle.busdma_base.specs.Bounce.EachFrame.{EachFrame, LiesBelowMaxmem};
+ghost use Rattle.busdma_base.specs.Bounce.History.{IsFrame};
+ghost use Rattle.busdma_base.specs.Bounce.LowPages.{PagesLieLow};
+ghost use Rattle.busdma_base.specs.Scenarios.Valid.{IsValid};
+ghost use Rattle.lane_agreement.specs.Agreement.{IsFit};
+ghost use Rattle.ideal_lane.specs.Accesses.{cpu_read, dev_read};
+ghost use Rattle.ideal_lane.specs.Agreement.{IsAllowed};
+ghost use Rattle.ideal_lane.specs.State.{LaneState};
+ghost use Rattle.ideal_lane.specs.Turns.{lane_step};
+ghost use Rattle.ideal_wire.specs.WireStep.{IsRead, load_buses, place_bytes};
+ghost use Rattle.ideal_world.specs.Callbacks.{times_called};
+ghost use Rattle.ideal_world.specs.Ends.{IsAtRest};
+ghost use Rattle.ideal_world.specs.Left.{left_of};
+ghost use Rattle.ideal_world.specs.Legal.{IsLegal, IsReplayed, Leads};
+ghost use Rattle.ideal_world.specs.Waiting.{OnlyAwaits};
+ghost use Rattle.ideal_world.specs.WellFormed.{IsWellFormed};
+ghost use Rattle.ideal_world.specs.Wires.{AllFaithful, AllInMachine, AllLaid, AreZero, Wires, WiresFollow};
+ghost use Rattle.ideal_world.specs.World.{WorldState, bounced, opening_world, step, step_entry};
+
+/// The world in which a valid scenario opens is well formed.
+pub fn opening_is_well_formed()
+    ensures { (s : Scenario) → IsValid s → IsWellFormed s (opening_world s) }
+{}
+
+/// The turn of any actor leaves a well-formed world well formed. The account allows the call of each
+/// driver's step, and the entry of a step is that of its actor.
+pub fn steps_keep_it()
+    ensures kept { (s : Scenario) (w : WorldState) (actor : Actor) → IsWellFormed s w →
+        IsWellFormed s (step w actor).world }
+    ensures allowed { (s : Scenario) (w : WorldState) (i : ℕ) (l : LaneState) (side : Side) → IsWellFormed s w →
+        slice_get w.lanes i ≡ Some l → IsAllowed l.id w.account (lane_step l side) }
+    ensures named { (s : Scenario) (w : WorldState) (actor : Actor) (e : JournalEntry) → IsWellFormed s w →
+        step_entry w actor ≡ Some e → e.actor ≡ actor }
+{}
+
+/// A turn that is a step leaves all drivers together less to do, so every run ends; any other turn
+/// leaves the world as it was, its account too.
+pub fn each_step_falls()
+    ensures falls { (s : Scenario) (w : WorldState) (actor : Actor) (e : JournalEntry) → IsWellFormed s w →
+        step_entry w actor ≡ Some e → left_of (step w actor).world < left_of w }
+    ensures rests { (w : WorldState) (actor : Actor) → step_entry w actor ≡ None → (step w actor).world ≡ w }
+{}
+
+/// The drivers' shares of a zone's total_bounced are together below 2^64, as a count is.
+pub fn counts_fit()
+    ensures { (s : Scenario) (w : WorldState) (z : ℕ) → IsWellFormed s w → bounced w z < 2 ^ 64 }
+{}
+
+/// The account of a well-formed world fits; the pages of its zones end at or below their zone's
+/// lowaddr; and its frames are whole ones of the machine.
+pub fn account_fits()
+    ensures fit { (s : Scenario) (w : WorldState) → IsWellFormed s w → IsFit w.account }
+    ensures low { (s : Scenario) (w : WorldState) → IsWellFormed s w → PagesLieLow w.account }
+    ensures whole { (s : Scenario) (w : WorldState) → IsWellFormed s w → EachFrame IsFrame w.account }
+    ensures below { (s : Scenario) (w : WorldState) → IsWellFormed s w → LiesBelowMaxmem w.account }
+{}
+
+/// In a well-formed world in which no actor can step, each driver's script has ended or awaits a map
+/// that waits for pages and stands in the waiting list of its zone; no driver has a page to give back
+/// or an item to transfer, and no callback is to be called. Where all that holds, no actor can step.
+pub fn stuck_worlds_wait()
+    ensures rests { (w : WorldState) → OnlyAwaits w → IsAtRest w }
+    ensures waits { (s : Scenario) (w : WorldState) → IsWellFormed s w → IsAtRest w → OnlyAwaits w }
+{}
+
+/// Every valid scenario has a replayed journal: after the turns of its order, enough rounds come to
+/// rest.
+pub fn each_scenario_is_replayed()
+    ensures { (s : Scenario) → IsValid s → (j : Journal) × IsReplayed s j }
+{}
+
+/// A scenario has at most one replayed journal.
+pub fn one_replayed()
+    ensures { (s : Scenario) (j k : Journal) → IsReplayed s j → IsReplayed s k → j ≡ k }
+{}
+
+/// The replayed journal of a valid scenario is legal: its entries lead from the opening world to a
+/// world at rest.
+pub fn replay_is_legal()
+    ensures { (s : Scenario) (j : Journal) → IsValid s → IsReplayed s j → IsLegal s j }
+{}
+
+/// A legal journal of a valid scenario ends in a well-formed world, which only awaits maps that wait
+/// for pages.
+pub fn legal_journals_wait()
+    ensures { (s : Scenario) (j : Journal) (legal : IsLegal s j) → IsValid s →
+        IsWellFormed s legal.last × OnlyAwaits legal.last }
+{}
+
+/// The callback of each load is called at most once in entries that lead on from the opening world of
+/// a scenario, as those of a legal journal do.
+pub fn each_load_is_called_once()
+    ensures { (s : Scenario) (entries : List JournalEntry) (end : WorldState) (i place : ℕ) →
+        Leads (opening_world s) entries end → times_called i place (opening_world s) entries ≤ 1 }
+{}
+
+/// Where a valid scenario opens, and the pages of each driver hold zeros, each driver's wire is
+/// faithful, its loads are laid, and it lies in its machine.
+pub fn wires_open_faithful()
+    ensures faithful { (s : Scenario) (wires : Wires) → IsValid s → AreZero wires (opening_world s) →
+        AllFaithful wires (opening_world s) }
+    ensures laid { (s : Scenario) → IsValid s → AllLaid (opening_world s) }
+    ensures in_machine { (s : Scenario) → IsValid s → AllInMachine (opening_world s) }
+{}
+
+/// Where the loads of each driver are laid, the turn of any actor leaves each driver's wire faithful,
+/// whatever bytes the pages bring that come to the actor's driver.
+pub fn wires_stay_faithful()
+    ensures { (s : Scenario) (w : WorldState) (actor : Actor) (before after : Wires) → IsWellFormed s w → AllLaid w →
+        AllFaithful before w → WiresFollow w actor before after → AllFaithful after (step w actor).world }
+{}
+
+/// The turn of any actor leaves each driver in its machine.
+pub fn drivers_stay_in_machine()
+    ensures { (w : WorldState) (actor : Actor) → AllInMachine w → AllInMachine (step w actor).world }
+{}
+
+/// What is really read is what the ideal memory has: by each driver at the bytes that it names, and
+/// by its device at the bus addresses of its load.
+pub fn drivers_read_faithfully()
+    ensures cpu { (s : Scenario) (w : WorldState) (wires : Wires) (i : ℕ) (l : LaneState) (place : Place) (len : ℕ) →
+        IsWellFormed s w → AllLaid w → AllFaithful wires w → slice_get w.lanes i ≡ Some l →
+        IsRead (cpu_read place len l) (place_bytes l place len) (wires i) }
+    ensures dev { (s : Scenario) (w : WorldState) (wires : Wires) (i : ℕ) (l : LaneState) (m off len : ℕ) →
+        IsWellFormed s w → AllLaid w → AllFaithful wires w → slice_get w.lanes i ≡ Some l →
+        IsRead (dev_read m off len l) (load_buses l m off len) (wires i) }
+{
+    ideal_wire::reads_are_faithful();
+}
