@@ -36,6 +36,7 @@ mod OpeningLane
 mod OpeningPages
 mod OpensWired
 mod OwnRuns
+mod PageCounts
 mod PagesLent
 mod Places
 mod Preparing

@@ -1,6 +1,6 @@
 //! Accesses by the driver and by its device.
 
-ghost use Rattle.std.specs.Prelude.{◌≡◌, ◌+◌, ◌≤◌, ◌<◌, ◌^◌, true, length, map, map as mapped, IfOk, IfSome};
+ghost use Rattle.std.specs.Prelude.{◌≡◌, ◌+◌, ◌≤◌, ◌<◌, ◌^◌, true, [], length, map, map as mapped, IfOk, IfSome};
 ghost use Rattle.std.specs.Prelude.{IfNone, OnOk, OnErr};
 ghost use Rattle.std.specs.FinMap.{get};
 ghost use Rattle.busdma_base.specs.declared.journals.answer.Answer.TheVariants as answer;
@@ -27,6 +27,7 @@ ghost use Rattle.bounced_lane.specs.PagesLent.{IsReached, IsRepaged};
 ghost use Rattle.bounced_lane.specs.Virtual.{virtual};
 
 use crate::holdings::{Holdings, report};
+use crate::page_lists::refilled;
 use busdma_base::{Answer, ByteList, Extent, Judged, MapId, PageList, Place, Report, ReportName};
 use device_model::{bus_read, bus_write};
 use dma_map::{DmaMap, MapState, Transfers};
@@ -206,11 +207,12 @@ impl Holdings<'_> {
         if let Judged::Refused(refusal) = self.loans.may_dev_write(id, off, len) {
             return Ok(Answer::Report(refusal));
         }
+        let spare = PageList::with_room(alloc, self.page_count(map))?;
         reserve_extents(&mut self.loans, alloc, id, off, len)?;
         let Some(mut kept) = self.maps.take(map) else {
             unreachable!()
         };
-        write_load(&mut kept.map, &mut self.memory, off, bytes);
+        write_load(&mut kept.map, &mut self.memory, off, bytes, spare);
         self.maps.put(map, kept);
         self.loans.note_dev_write(id, off, len);
         Ok(Answer::Done)
@@ -291,9 +293,17 @@ fn write_parts(memory: &mut LanePages, parts: &[Extent], bytes: &[u8])
     }
 }
 
-/// Writes bytes into a map's load at their bus addresses, from `off` on.
-fn write_load(map: &mut DmaMap<Transfers>, memory: &mut LanePages, off: u64, bytes: &[u8])
-    requires { IsReached memory.old.memory map.old.stage off (length bytes.now) }
+/// Writes bytes into a map's load at their bus addresses, from `off` on. The pages then stand in the spare list.
+fn write_load(
+    map: &mut DmaMap<Transfers>,
+    memory: &mut LanePages,
+    off: u64,
+    bytes: &[u8],
+    spare: PageList,
+)
+    requires reached { IsReached memory.old.memory map.old.stage off (length bytes.now) }
+    requires empty { spare.items ≡ [] }
+    requires room { length (device_in map.old.stage).pages ≤ spare.room }
     ensures view { device_view (device_in map.new.stage) memory.new.memory
         ≡ put (bus_range off (length bytes.now) (segments_of map.old.stage)) bytes.now
         (device_view (device_in map.old.stage) memory.old.memory) }
@@ -302,7 +312,7 @@ fn write_load(map: &mut DmaMap<Transfers>, memory: &mut LanePages, off: u64, byt
 {
     let mut pages = map.lend_pages().into_vec();
     bus_write(map.segments(), off, bytes, memory, pages.as_mut_slice());
-    map.restore_pages(PageList::from_vec(pages));
+    map.restore_pages(refilled(spare, pages));
 }
 
 /// Makes room to change `len` bytes of a map's load, from `off` on.

@@ -11,6 +11,7 @@ mod lane;
 mod loads;
 mod maps;
 mod opening;
+mod page_lists;
 mod returns;
 mod steps;
 mod syncs;

@@ -1,7 +1,7 @@
 //! Syncs of a map's load.
 
-ghost use Rattle.std.specs.Prelude.{◌≡◌, ◌+◌, ◌≤◌, ◌<◌, ◌^◌, ◌&&◌, ◌||◌, true, false, Some, length, max, min, nat_lt};
-ghost use Rattle.std.specs.Prelude.{IfOk, OnErr, vec_len, vec_capacity};
+ghost use Rattle.std.specs.Prelude.{◌≡◌, ◌+◌, ◌≤◌, ◌<◌, ◌^◌, ◌&&◌, ◌||◌, true, false, [], Some, length, max, min};
+ghost use Rattle.std.specs.Prelude.{nat_lt, IfOk, OnErr, vec_len, vec_capacity};
 ghost use Rattle.std.specs.FinMap.{get};
 ghost use Rattle.std.specs.List.{list_any};
 ghost use Rattle.std.specs.Option.{option_map};
@@ -28,6 +28,7 @@ ghost use Rattle.bounced_lane.specs.Shares.{place_in};
 use crate::accesses::reserve_extents;
 use crate::holdings::{Holdings, report};
 use crate::kept::KeptShare;
+use crate::page_lists::refilled;
 use bitflags::Flags;
 use busdma_base::{Answer, Chunk, Judged, MapId, PageList, ReportName, ZoneId};
 use dma_map::{DmaMap, Transfers};
@@ -115,6 +116,7 @@ impl Holdings<'_> {
             return Ok(report(ReportName::MixedSync, 0));
         }
         let id = self.map_id(map);
+        let spare = PageList::with_room(alloc, self.page_count(map))?;
         reserve_extents(&mut self.loans, alloc, id, off, len)?;
         self.shares.reserve(1)?;
         if let Judged::Refused(refusal) = sync_loans(&mut self.loans, id, off, len, ops) {
@@ -130,6 +132,7 @@ impl Holdings<'_> {
             off,
             len,
             ops,
+            spare,
         );
         self.maps.put(map, kept);
         Ok(Answer::Done)
@@ -162,9 +165,12 @@ fn copy_part(
     off: u64,
     len: u64,
     ops: SyncOps,
+    spare: PageList,
 )
     requires bounced { IsBounced memory.old.memory map.old.stage }
     requires range { off + len < 2 ^ 64 }
+    requires empty { spare.items ≡ [] }
+    requires pages { length (device_in map.old.stage).pages ≤ spare.room }
     requires room { vec_len shares.old < vec_capacity shares.old }
     ensures view { device_view (device_in map.new.stage) memory.new.memory
         ≡ copied_by ops.0 (range_of_chunks off len (chunks_of map.old.stage))
@@ -177,7 +183,7 @@ fn copy_part(
         ≡ counted copied (option_map (λ z. z.0) map.old.zone) (share_of shares.old.items) }
 {
     if copies(map.chunks(), off, len, ops) {
-        copy_load(map, memory, off, len, ops);
+        copy_load(map, memory, off, len, ops, spare);
         count_copy(shares, map.zone());
     }
 }
@@ -214,10 +220,19 @@ fn has_byte(chunk: &Chunk, off: u64, end: u64) -> bool
     off.max(chunk.at) < end.min(behind)
 }
 
-/// Copies a range of a map's load into its bounce pages or back from them.
-fn copy_load(map: &mut DmaMap<Transfers>, memory: &mut LanePages, off: u64, len: u64, ops: SyncOps)
+/// Copies a range of a map's load into its bounce pages or back from them. The pages then stand in the spare list.
+fn copy_load(
+    map: &mut DmaMap<Transfers>,
+    memory: &mut LanePages,
+    off: u64,
+    len: u64,
+    ops: SyncOps,
+    spare: PageList,
+)
     requires bounced { IsBounced memory.old.memory map.old.stage }
     requires range { off + len < 2 ^ 64 }
+    requires empty { spare.items ≡ [] }
+    requires room { length (device_in map.old.stage).pages ≤ spare.room }
     ensures view { device_view (device_in map.new.stage) memory.new.memory
         ≡ copied_by ops.0 (range_of_chunks off len (chunks_of map.old.stage))
         (device_view (device_in map.old.stage) memory.old.memory) }
@@ -230,7 +245,7 @@ fn copy_load(map: &mut DmaMap<Transfers>, memory: &mut LanePages, off: u64, len:
     } else if ops.contains(SyncOps::POSTREAD) {
         copy_out(map.chunks(), off, len, memory, pages.as_slice());
     }
-    map.restore_pages(PageList::from_vec(pages));
+    map.restore_pages(refilled(spare, pages));
 }
 
 /// Counts a sync that copied in the share of its map's zone, up to the greatest number.

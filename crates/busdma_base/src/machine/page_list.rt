@@ -66,13 +66,6 @@ impl PageList {
         self.pages.is_empty()
     }
 
-    /// The list of the pages of a vector, with its room.
-    pub fn from_vec(pages: Vec<Page>) -> PageList
-        ensures { result ≡ record { items = pages.items; room = vec_capacity pages } }
-    {
-        PageList { pages }
-    }
-
     /// The pages as a vector, which keeps the room.
     pub fn into_vec(self) -> Vec<Page>
         ensures pages { result.items ≡ self.items }

@@ -30,8 +30,8 @@ returns-in-Some-past_end-clause-done c =
     dev_write-past (ideal_of h) c.args.map (map_of x.0) (image-some map_of h.maps.map c.args.map x.0 x.1) x.2 c.args.off
     c.args.bytes.now c.in-Some-past_end.refusal c.in-Some-past_end.ensures.refused
 
-pub write_load-requires : goal.write_load-requires
-write_load-requires c =
+pub write_load-requires-clause-reached : goal.write_load-requires-clause-reached
+write_load-requires-clause-reached c =
     let h = c.args.self.now in
     let o : KeptMap = c.in-Some-take.kept in
     let there : get h.maps.map c.args.map ≡ Some o = sym c.take.ensures.value ∙ c.in-Some-take.is in
