@@ -2,8 +2,6 @@
 use Rattle.std.proofs.Common.{◌≡◌, ◌⊎◌, inl, inr, ℕ, ◌==◌, Bool, true, false, cond, List, [], ◌∷◌, ◌++◌, refl, sym, ap}
 use Rattle.std.proofs.Common.{◌∙◌, subst, IsTrue}
 use Rattle.busdma_base.specs.declared.bounce.hold.HoldEntry.{HoldEntry}
-use Rattle.busdma_base.specs.declared.bounce.hold.HubCall.{HubCall}
-use Rattle.busdma_base.specs.declared.bounce.hold.HubCall.TheVariants.{TakeCallback}
 use Rattle.busdma_base.specs.declared.bounce.hold.HubReply.{HubReply}
 use Rattle.busdma_base.specs.declared.bounce.hold.HubReply.TheVariants.{Nothing, Called}
 use Rattle.busdma_base.specs.declared.bounce.zone.Waiter.{Waiter}
@@ -29,8 +27,7 @@ use Rattle.ideal_lane.proofs.Turning.{turn-kept}
 use Rattle.ideal_wire.specs.Laid.{AreLaid, KeepsLaid}
 use Rattle.ideal_wire.specs.Machine.{IsInMachine}
 use Rattle.ideal_wire.proofs.LaidTurns.{turn-laid}
-use Rattle.bounced_lane.specs.Doing.{IsCalled}
-use Rattle.bounced_lane.specs.Turning.{IsMissed, IsServed, IsTurned}
+use Rattle.bounced_lane.specs.Turning.{IsServed, IsTurned}
 
 -- ---- the account after entries, and where no callback was found
 

@@ -1,6 +1,6 @@
 -- Whether an operation that awaits a map cannot step, by what is there.
-use Rattle.std.proofs.Common.{◌≡◌, ℕ, true, false, ◌||◌, Some, None, refl, ◌∙◌, sym, ap}
-use Rattle.std.specs.FinMap.{get, contains_key}
+use Rattle.std.proofs.Common.{◌≡◌, ℕ, true, false, ◌||◌, Some, None, refl}
+use Rattle.std.specs.FinMap.{get}
 use Rattle.busdma_base.specs.declared.scenarios.script.Op.TheVariants.{Await}
 use Rattle.dma_map.specs.declared.callback.Transfers.{Transfers}
 use Rattle.dma_map.specs.declared.state.MapState.TheVariants as state

@@ -31,7 +31,7 @@ use Rattle.ideal_lane.specs.State.{LaneState}
 use Rattle.ideal_lane.specs.Syncs.{bounced_in}
 use Rattle.ideal_wire.specs.Apart.{HoldsPage}
 use Rattle.ideal_wire.specs.Centre.{IsPlacedAt}
-use Rattle.ideal_wire.specs.Laid.{IsInPage, IsLaid, IsOwnByte, LiesIn}
+use Rattle.ideal_wire.specs.Laid.{IsInPage, IsLaid, LiesIn}
 use Rattle.ideal_wire.specs.Traces.{stage_in, stage_at, traces_of}
 use Rattle.ideal_wire.specs.WireStep.{load_buses}
 use Rattle.ideal_wire.proofs.Buses.{placed-buffers}

@@ -1,10 +1,9 @@
 -- The wire after a step that changes no byte: pages came with any bytes and left with theirs.
 use Rattle.std.proofs.Common.{◌≡◌, ◌⊎◌, inl, inr, ℕ, ◌+◌, ◌*◌, ◌/◌, ◌<◌, ◌≤◌, true, false, List, [], Option, Some, None}
-use Rattle.std.proofs.Common.{is_some, slice_get, nat_le, nat_lt, refl, sym, ap, ◌∙◌, subst, arith}
+use Rattle.std.proofs.Common.{is_some, slice_get, nat_le, nat_lt, refl, sym, ap, ◌∙◌, arith}
 use Rattle.std.proofs.lemmas.Bool.{and_parts, leb-true, ltb-true}
 use Rattle.std.proofs.lemmas.Option.{slice_get-map}
 use Rattle.std.specs.Option.{option_map}
-use Rattle.std.specs.FinMap.{get}
 use Rattle.busdma_base.specs.Bounce.MemoryRuns.{in_run}
 use Rattle.busdma_base.specs.Machine.Page.{FrameBytes}
 use Rattle.busdma_base.specs.Machine.PageList.{page_address, page_addresses}
@@ -20,9 +19,9 @@ use Rattle.bounced_lane.specs.declared.holdings.Holdings.{Holdings}
 use Rattle.bounced_lane.specs.Changes.{KeepsBytes, KeepsBytesHeld, KeepsWhatStays}
 use Rattle.bounced_lane.specs.Held.{devices_of}
 use Rattle.bounced_lane.specs.Ideal.{ideal_of}
-use Rattle.bounced_lane.specs.Wire.{held_pages, wire_of}
+use Rattle.bounced_lane.specs.Wire.{wire_of}
 use Rattle.bounced_lane.proofs.Lying.{own-view, page-mine, pages-same}
-use Rattle.bounced_lane.proofs.Views.{IsMine, under-alike, view-alike}
+use Rattle.bounced_lane.proofs.Views.{view-alike}
 
 pub stays-all : (h k : Holdings) → KeepsBytes h k → KeepsWhatStays h k
 stays-all h k s = record { own = s.own; pages = λ m. inl (s.pages m) }

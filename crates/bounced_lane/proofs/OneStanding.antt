@@ -1,5 +1,5 @@
 -- That a driver stands has one proof at most, so it comes out of what a lane keeps.
-use Rattle.std.proofs.Common.{◌≡◌, ℕ, true, Option, Some, None, refl, sym, ap, ◌∙◌, unwrap_or}
+use Rattle.std.proofs.Common.{◌≡◌, ℕ, true, Option, Some, None, sym, ap, ◌∙◌, unwrap_or}
 use Rattle.std.proofs.Props.{props}
 use mathlib.Core.HLevel.{is_prop→PathP}
 use mathlib.Core.Logic.{∥∥₁_elim}
@@ -8,7 +8,7 @@ use Rattle.std.specs.Ordering.{nat_cmp}
 use Rattle.std.specs.FinMap.{FinMap, contains_key, get}
 use Rattle.busdma_base.specs.contracts.tags.tag.TagLimits as limits
 use Rattle.ideal_lane.specs.State.{LaneState, LaneMap, LaneMemory, LaneTag, Stage, Idle, Waiting, Loaded, Returning}
-use Rattle.ideal_lane.specs.Standing.{IsPageless, Stands, StandsAt, StandsFrom, is_direct}
+use Rattle.ideal_lane.specs.Standing.{IsPageless, Stands, StandsAt, is_direct}
 
 LaneTag-set : IsSet LaneTag
 LaneTag-set = hlevel (props, Coded-set limits.the_row.coded)

@@ -1,6 +1,6 @@
 -- A driver opens wired.
-use Rattle.std.proofs.Common.{◌≡◌, ℕ, ◌^◌, ◌≤◌, true, List, [], ◌∷◌, Some, None, slice_get, ap, sym, ◌∙◌, subst}
-use Rattle.std.specs.FinMap.{FinMap, empty, get, get-empty}
+use Rattle.std.proofs.Common.{◌≡◌, ℕ, ◌^◌, ◌≤◌, true, [], Some, None, slice_get, ap, sym, ◌∙◌, subst}
+use Rattle.std.specs.FinMap.{empty, get, get-empty}
 use Rattle.std.specs.List.{AllByRecursion, flat_map}
 use Rattle.std.specs.Ordering.{nat_cmp}
 use Rattle.busdma_base.specs.declared.scenarios.scenario.Driver.{Driver}
@@ -8,7 +8,7 @@ use Rattle.busdma_base.specs.Machine.PageRuns.{is_own}
 use Rattle.busdma_base.specs.Machine.Wire.{with_bytes_of}
 use Rattle.phys_memory.specs.Memory.{wire}
 use Rattle.ideal_lane.specs.Opening.{opening_lane}
-use Rattle.ideal_lane.specs.State.{LaneMap, LaneMemory, LaneState, LaneTag}
+use Rattle.ideal_lane.specs.State.{LaneMemory}
 use Rattle.ideal_lane.specs.Unloads.{pages_of}
 use Rattle.ideal_wire.specs.Apart.{HoldsPage, IsApart}
 use Rattle.ideal_wire.specs.Centre.{IsFaithful}

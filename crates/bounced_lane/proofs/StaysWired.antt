@@ -1,11 +1,10 @@
 -- A driver is wired and served after a turn, where its wire follows the wire of the step.
-use Rattle.std.proofs.Common.{◌≡◌, ℕ, sym, ap, ◌∙◌, subst, IsTrue}
+use Rattle.std.proofs.Common.{◌≡◌, sym, ◌∙◌, subst, IsTrue}
 use Rattle.busdma_base.specs.declared.journals.journal.Side.{Side}
 use Rattle.busdma_base.specs.Bounce.Door.{Seen, account}
 use Rattle.ideal_lane.specs.Agreement.{AgreesWith}
 use Rattle.ideal_lane.specs.Asking.{by_reply}
 use Rattle.ideal_lane.specs.Standing.{Stands}
-use Rattle.ideal_lane.specs.State.{LaneState}
 use Rattle.ideal_lane.specs.Turns.{Turned, lane_step}
 use Rattle.ideal_lane.proofs.Own.{IsLater, turn-own}
 use Rattle.ideal_wire.specs.Apart.{IsApart}

@@ -1,5 +1,5 @@
 -- How a turn of a lane ends.
-use Rattle.std.proofs.Common.{◌≡◌, ◌+◌, ◌≤◌, ◌⊎◌, inl, inr, Bool, true, false, refl, sym, subst, length, ℕ, ◌∙◌, ap}
+use Rattle.std.proofs.Common.{◌≡◌, ◌+◌, ◌≤◌, inl, Bool, refl, sym, subst, length, ℕ, ◌∙◌}
 use Rattle.busdma_base.specs.declared.journals.journal.Side.{Side}
 use Rattle.busdma_base.specs.Bounce.Door.{Seen, account}
 use Rattle.busdma_base.specs.Machine.Wire.{Wire}

@@ -41,10 +41,10 @@ turned h t = record { lane = ideal_of h; turn = answered t }
 
 -- a callback was asked for, and the turn went on with that there is none
 pub record IsMissed {X : Type 0} (d : Seen) (lane : ℕ) (c : HubCall) (k : HubReply → X) (x : X) (e : Seen) : Type 0
-    where
-  pub callback : c ≡ TakeCallback
-  pub misses : Misses d lane e
-  pub is : x ≡ k Nothing
+  where
+    pub callback : c ≡ TakeCallback
+    pub misses : Misses d lane e
+    pub is : x ≡ k Nothing
 
 -- a turn was made, and tells so: without a call, where the door has seen nothing new; with one that the history keeps;
 -- or with a callback that was not there

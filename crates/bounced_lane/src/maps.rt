@@ -45,9 +45,18 @@ impl Holdings<'_> {
         ensures fixed { D.fixed door.new ≡ D.fixed door.old }
     {
         match self.bounces(tag) {
-            None => Ok(Answered { answer: report(ReportName::Absent, 0), held: false }),
-            Some(false) => Ok(Answered { answer: self.keep_map(alloc, tag)?, held: false }),
-            Some(true) => Ok(Answered { answer: self.create_map(alloc, door, tag)?, held: true }),
+            None => Ok(Answered {
+                answer: report(ReportName::Absent, 0),
+                held: false,
+            }),
+            Some(false) => Ok(Answered {
+                answer: self.keep_map(alloc, tag)?,
+                held: false,
+            }),
+            Some(true) => Ok(Answered {
+                answer: self.create_map(alloc, door, tag)?,
+                held: true,
+            }),
         }
     }
 
@@ -173,18 +182,30 @@ impl Holdings<'_> {
         ensures fixed { D.fixed door.new ≡ D.fixed door.old }
     {
         let Some(kept) = self.maps.get(map) else {
-            return Answered { answer: report(ReportName::Absent, 0), held: false };
+            return Answered {
+                answer: report(ReportName::Absent, 0),
+                held: false,
+            };
         };
         let MapState::Idle = kept.map.state() else {
-            return Answered { answer: Answer::Refused(Errno::EBUSY), held: false };
+            return Answered {
+                answer: Answer::Refused(Errno::EBUSY),
+                held: false,
+            };
         };
         let Some(zone) = kept.map.zone() else {
             self.drop_map(map);
-            return Answered { answer: Answer::Done, held: false };
+            return Answered {
+                answer: Answer::Done,
+                held: false,
+            };
         };
         door.destroy_map(self.map_id(map), zone);
         self.drop_map(map);
-        Answered { answer: Answer::Done, held: true }
+        Answered {
+            answer: Answer::Done,
+            held: true,
+        }
     }
 
     /// Drops an idle map.

@@ -67,9 +67,18 @@ impl Holdings<'_> {
         ensures fixed { D.fixed door.new ≡ D.fixed door.old }
     {
         match self.plan_tag(parent, limits) {
-            TagPlan::Refused(answer) => Ok(Answered { answer, held: false }),
-            TagPlan::Made(tag) => Ok(Answered { answer: self.keep_tag(alloc, tag)?, held: false }),
-            TagPlan::Grown(tag) => Ok(Answered { answer: self.grow_tag(alloc, door, tag)?, held: true }),
+            TagPlan::Refused(answer) => Ok(Answered {
+                answer,
+                held: false,
+            }),
+            TagPlan::Made(tag) => Ok(Answered {
+                answer: self.keep_tag(alloc, tag)?,
+                held: false,
+            }),
+            TagPlan::Grown(tag) => Ok(Answered {
+                answer: self.grow_tag(alloc, door, tag)?,
+                held: true,
+            }),
         }
     }
 
