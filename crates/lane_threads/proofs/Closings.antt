@@ -15,7 +15,7 @@ use Rattle.busdma_base.proofs.Accounts.LaneEntries.{of_lane-append}
 use Rattle.bounce_hub.specs.Seen.{HubSeen}
 use Rattle.turnstile.specs.declared.view.Start.{Start}
 use Rattle.turnstile.specs.TurnHistory.{entries, calls_of, IsOfOthers}
-use Rattle.turnstile.specs.Start.{history_after, IsSound}
+use Rattle.turnstile.specs.Start.{history_after, IsLawful}
 use Rattle.turnstile.specs.Pass.{own_calls, TakesIn, Closes}
 use Rattle.turnstile.proofs.Logs.{prefix_then, between, silent}
 use Rattle.lane_threads.specs.Closing.{LanePass, IsJoined, Joins, HasOwnCalls, OthersCame, ClosesAfter, hub_seen}
@@ -108,8 +108,8 @@ module _ (first all : LanePass) (hub : HubSeen)
       let rest : List (ℕ × HoldEntry) = w.begins.0 in
       let others : IsOfOthers p.name rest =
       silent p.name rest (between p.name (own_calls p) p.front c.turns w.begins refl w.calls) in
-      let sound : IsSound IsLegal IsOfName c.start (p.front ++ rest) =
-      subst (IsSound IsLegal IsOfName c.start) (sym w.begins.1) c.sound in
+      let sound : IsLawful IsLegal IsOfName c.start (p.front ++ rest) =
+      subst (IsLawful IsLegal IsOfName c.start) (sym w.begins.1) c.sound in
       let here : Passes (at c.start p.name p.front) (entries rest) (at c.start p.name (p.front ++ rest)) =
       passes_to c.start p.name p.front rest (p.front ++ rest) ([], append-nil (p.front ++ rest)) others sound in
       let here_started : p.start ≡ Some c.start = same ∙ started in

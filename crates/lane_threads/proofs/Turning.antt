@@ -16,7 +16,7 @@ use Rattle.busdma_base.specs.Bounce.History.{account_of}
 use Rattle.busdma_base.specs.Bounce.Door.{Seen, Allows, Passes, Holds, Fails, Misses, account}
 use Rattle.turnstile.specs.declared.view.Start.{Start}
 use Rattle.turnstile.specs.TurnHistory.{entries, turns_of, IsOfOthers}
-use Rattle.turnstile.specs.Start.{history_after, IsSound}
+use Rattle.turnstile.specs.Start.{history_after, IsLawful}
 use Rattle.turnstile.specs.Pass.{PassView, MayCall, IsSoundPass, HasTurn}
 use Rattle.turnstile.proofs.Logs.{entries-append, All_prefix}
 use Rattle.lane_threads.specs.declared.call.DoorCall.{DoorCall}
@@ -71,7 +71,7 @@ at start name turns = seen_from (Some start) name turns
 -- turns of others came after the front, in a whole turn history that is sound
 module _ (start : Start HoldEntry Account) (name : ℕ) (front between whole : List (ℕ × HoldEntry))
     (begins : IsPrefix (front ++ between) whole) (others : IsOfOthers name between)
-    (sound : IsSound IsLegal IsOfName start whole) where
+    (sound : IsLawful IsLegal IsOfName start whole) where
   pub passes : Passes (at start name front) (entries between) (at start name (front ++ between))
   passes =
       let legal = sound.lawful (front ++ between) begins in
@@ -157,8 +157,8 @@ turn_replied old new c r t s =
     let again : new.start ≡ Some t.start = ap (λ (p : LanePass). p.start) t.rest ∙ t.started in
     let same : s.start ≡ t.start = Some-inj t.start s.start t.start (sym s.started ∙ again) in
     let named : new.name ≡ old.name = ap (λ (p : LanePass). p.name) t.rest in
-    let sound : IsSound IsLegal IsOfName t.start new.front =
-    subst (λ b. IsSound IsLegal IsOfName b new.front) same s.front in
+    let sound : IsLawful IsLegal IsOfName t.start new.front =
+    subst (λ b. IsLawful IsLegal IsOfName b new.front) same s.front in
     let here =
     replied t.start old.name old.front t.between new.front (
       turns_of old.name t.gain,

@@ -8,7 +8,7 @@ use Rattle.std.proofs.Common.{is_some, IfSome}
 use Rattle.atomic_table.specs.Seated.{TableId}
 use Rattle.turnstile.specs.TurnHistory.{calls_of, turns_of, IsOfOthers}
 use Rattle.turnstile.specs.TurnObject.{Grows, IsGain, OutlastsOthers, IsActed}
-use Rattle.turnstile.specs.Start.{history_after, IsSound}
+use Rattle.turnstile.specs.Start.{history_after, IsLawful}
 use Rattle.turnstile.specs.Pass.{HasTurn}
 use Rattle.turnstile.specs.View.{pass_view, ticket_view, served_view, view_after}
 use Rattle.turnstile.specs.Rule.{IsAt}
@@ -85,9 +85,9 @@ module _ {O C Q E F : Type 0} (history : O → List E) (fixed : O → F) (legal 
   begins_from b stays v c1 k m call is named none can (b', log, between, x, e, joins, others, at, knows) =
       let same : b' ≡ b = same_start b b' v m.0 is knows.started (ap (λ (z : Held O E F). z.0.start) e) in
       let at' : IsAt history fixed b log x = subst (λ z. IsAt history fixed z log x) same at in
-      let sound : IsSound legal fits b log =
-      subst (λ z. IsSound legal fits z log) same
-      (subst (IsSound legal fits b') (ap (λ (z : Held O E F). z.0.front) e) knows.sound) in
+      let sound : IsLawful legal fits b log =
+      subst (λ z. IsLawful legal fits z log) same
+      (subst (IsLawful legal fits b') (ap (λ (z : Held O E F). z.0.front) e) knows.sound) in
       let lawful = sound.lawful log (prefix_self log) in
       let can' : may b.fixed (history_after b log) v.name call =
       subst (λ l. may b.fixed (history_after b l) v.name call) joins

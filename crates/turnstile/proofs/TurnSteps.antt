@@ -18,7 +18,7 @@ use Rattle.std.proofs.lemmas.Bool.{cases_Bool}
 use Rattle.std.proofs.lemmas.List.Elements.{All-push}
 use Rattle.turnstile.specs.TurnHistory.{entries, calls_of, turns_of}
 use Rattle.turnstile.specs.TurnObject.{IsGain}
-use Rattle.turnstile.specs.Start.{history_after, IsSound}
+use Rattle.turnstile.specs.Start.{history_after, IsLawful}
 use Rattle.turnstile.specs.View.{pass_view, ticket_view, served_view, view_after}
 use Rattle.turnstile.specs.Rule.{Fits, IsAt, IsHome, IsAway, IsRuled}
 use Rattle.turnstile.specs.Steps.{Knows, DrawsTicket, added_since, EndsTurn, Sees, SeesTurn, SeesLastTurn, Carries}
@@ -208,16 +208,16 @@ module _ {O E F : Type 0} (history : O → List E) (fixed : O → F) (legal : F 
         ((λ hit. absurd (miss hit)), λ _. refl),
       ))
 
-  sound_after : (log : List (ℕ × E)) (n : ℕ) (es : List E) → IsSound legal fits b log → n < b.names →
+  sound_after : (log : List (ℕ × E)) (n : ℕ) (es : List E) → IsLawful legal fits b log → n < b.names →
       IsGain fits n es → legal b.fixed (history_after b (log ++ turns_of n es)) →
-      IsSound legal fits b (log ++ turns_of n es)
+      IsLawful legal fits b (log ++ turns_of n es)
   sound_after log n es f small adds lawful = ⊎_elim
-      (λ (none : es ≡ []). subst (λ l. IsSound legal fits b (log ++ turns_of n l)) (sym none)
-      (subst (IsSound legal fits b) (sym (append-nil log)) f))
+      (λ (none : es ≡ []). subst (λ l. IsLawful legal fits b (log ++ turns_of n l)) (sym none)
+      (subst (IsLawful legal fits b) (sym (append-nil log)) f))
       (λ (one : (e : E) × fits n e × (es ≡ e ∷ [])). let lawful' : legal b.fixed
       (history_after b (log ++ (n, one.0) ∷ [])) =
       subst (λ l. legal b.fixed (history_after b (log ++ turns_of n l))) one.2 lawful in
-      subst (λ l. IsSound legal fits b (log ++ turns_of n l)) (sym one.2) record {
+      subst (λ l. IsLawful legal fits b (log ++ turns_of n l)) (sym one.2) record {
         pairs = All-push (λ p. (p.0 < b.names) × fits p.0 p.1) log (n, one.0) f.pairs (small, one.1);
         lawful =
             λ xs p. ⊎_elim (λ (q : IsPrefix xs log). f.lawful xs q)
@@ -257,8 +257,8 @@ module _ {O E F : Type 0} (history : O → List E) (fixed : O → F) (legal : F 
       f.named named in let lim = (f.waits k.0).1 in let wide = r.wide in let len = nm.1 in
       let whole : v.front ≡ r.log = k.2 in let mine : v.ticket ≡ r.serving = k.1 in
       let log' : List (ℕ × E) = v.front ++ turns_of v.name es in
-      let sound' : IsSound legal fits b log' =
-      sound_after v.front v.name es (subst (IsSound legal fits b) (sym whole) r.sound) (omega arith) adds lawful in
+      let sound' : IsLawful legal fits b log' =
+      sound_after v.front v.name es (subst (IsLawful legal fits b) (sym whole) r.sound) (omega arith) adds lawful in
       let own' = own_after v.name v.front v.own es nm.2 in
       let still : (i : ℕ) (z : ℕ × List E) → i < length v.ended →
       calls_of (get_or v.ended i z).0 log' ≡ (get_or v.ended i z).1 =

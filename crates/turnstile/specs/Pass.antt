@@ -4,7 +4,7 @@ use mathlib.Core.List.{IsPrefix}
 use Rattle.atomic_table.specs.Seated.{TableId}
 use Rattle.turnstile.specs.TurnHistory.{calls_of, turns_of, IsOfOthers, longer}
 use Rattle.turnstile.specs.TurnObject.{IsGain}
-use Rattle.turnstile.specs.Start.{history_after, IsSound}
+use Rattle.turnstile.specs.Start.{history_after, IsLawful}
 use Rattle.turnstile.specs.declared.view.Start.{Start}
 
 -- which turnstile it is of, how that started, its name, its front (the turn history as far as it knows it), the names
@@ -64,7 +64,7 @@ pub record IsSoundPass {E F : Type 0} (legal : F → List E → Type 0) (fits : 
     Type 0) (pass : PassView E F) : Type 0 where
   pub start : Start E F
   pub started : pass.start ≡ Some start
-  pub front : IsSound legal fits start pass.front
+  pub front : IsLawful legal fits start pass.front
   pub name : pass.name < start.names
   pub ended : All (λ other. calls_of other.0 pass.front ≡ other.1) pass.ended
 
@@ -93,7 +93,7 @@ pub record Closes {O E F : Type 0} (history : O → List E) (fixed : O → F) (l
   pub started : pass.start ≡ Some start
   pub turns : List (ℕ × E)
   pub begins : IsPrefix pass.front turns
-  pub sound : IsSound legal fits start turns
+  pub sound : IsLawful legal fits start turns
   pub fixed_part : fixed object ≡ start.fixed
   pub whole : history object ≡ history_after start turns
   pub own : calls_of pass.name turns ≡ own_calls pass

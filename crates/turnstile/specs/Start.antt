@@ -14,7 +14,7 @@ module _ {E F : Type 0} where
 
 -- a turn history that an object can have had: each name is below the number of names, each entry fits its name, and
 -- the object's history was legal after each turn
-pub record IsSound {E F : Type 0} (legal : F → List E → Type 0) (fits : ℕ → E →
+pub record IsLawful {E F : Type 0} (legal : F → List E → Type 0) (fits : ℕ → E →
     Type 0) (start : Start E F) (turns : List (ℕ × E)) : Type 0 where
   pub pairs : All (λ turn. (turn.0 < start.names) × fits turn.0 turn.1) turns
   pub lawful : (first : List (ℕ × E)) → IsPrefix first turns → legal start.fixed (history_after start first)

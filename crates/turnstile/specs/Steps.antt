@@ -5,7 +5,7 @@ use mathlib.Core.List.{IsPrefix}
 use Rattle.atomic_table.specs.Table.{Me, Step, rest}
 use Rattle.turnstile.specs.TurnHistory.{calls_of, IsOfOthers}
 use Rattle.turnstile.specs.TurnObject.{IsGain}
-use Rattle.turnstile.specs.Start.{history_after, IsSound}
+use Rattle.turnstile.specs.Start.{history_after, IsLawful}
 use Rattle.turnstile.specs.View.{ticket_view, served_view, view_after, named_view, refused_view}
 use Rattle.turnstile.specs.Rule.{IsAt}
 use Rattle.turnstile.specs.declared.view.Start.{Start}
@@ -39,7 +39,7 @@ module _ {E F : Type 0} (legal : F → List E → Type 0) (fits : ℕ → E → 
   -- what a view says is true of the object
   pub record Knows (start : Start E F) (v : View E F) : Type 0 where
     pub started : v.start ≡ Some start
-    pub sound : IsSound legal fits start v.front
+    pub sound : IsLawful legal fits start v.front
     pub own : v.named ≡ true → (v.name < start.names) × (calls_of v.name v.front ≡ v.own)
     pub ended : All (λ x. calls_of x.0 v.front ≡ x.1) v.ended
 
