@@ -14,8 +14,8 @@ use Rattle.dma_map.specs.declared.callback.Transfers.{Transfers}
 use Rattle.dma_map.specs.MapView as held
 use Rattle.loan_table.specs.declared.position.Position.{Position}
 use Rattle.loan_table.specs.Access.{dev_write_answer}
-use Rattle.loan_table.specs.Loans.{Loans, addresses_of, loan_of}
-use Rattle.loan_table.specs.Table.{AreIn, buffer_of, bytes_at, set_all}
+use Rattle.loan_table.specs.Loans.{Loans, addresses_of, load_bytes, loan_of}
+use Rattle.loan_table.specs.Table.{AreIn, buffer_of, set_all}
 use Rattle.phys_memory.specs.Memory.{Memory, wire}
 use Rattle.ideal_lane.specs.Accesses.{dev_write, load_bytes}
 use Rattle.ideal_lane.specs.Asking.{Asking, by_reply}
@@ -119,8 +119,8 @@ module _ (h : Holdings) (wired : IsWired h) (k : ℕ) (o : KeptMap) (there : get
 
   -- it is what was written, where the bytes are marked
   pub dev_write-done : (marks : FinMap nat_cmp Bool) (loans : Loans) (table : FinMap nat_cmp KeptMap) →
-      AreIn h.loans.bytes (bytes_at h.loans k off (length vs)) →
-      marks ≡ set_all h.loans.bytes (bytes_at h.loans k off (length vs)) true → loans ≡ h.loans.loans → table ≡ now →
+      AreIn h.loans.bytes (load_bytes h.loans.loans k off (length vs)) →
+      marks ≡ set_all h.loans.bytes (load_bytes h.loans.loans k off (length vs)) true → loans ≡ h.loans.loans → table ≡ now →
       gives (record l {
         maps = map_values map_of table;
         memory = bytes.held marks loans (devices_of table) n;

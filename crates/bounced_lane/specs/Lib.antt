@@ -1,3 +1,4 @@
+pub mod Awaiting
 pub mod Changes
 pub mod Covered
 pub mod Doing

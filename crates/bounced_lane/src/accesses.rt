@@ -13,7 +13,8 @@ ghost use Rattle.phys_memory.specs.Frames.{Lie, SamePages};
 ghost use Rattle.phys_memory.specs.Memory.{physical, wire};
 ghost use Rattle.phys_memory.specs.Translation.{physical_or_0, unreached};
 ghost use Rattle.phys_memory.specs.Walk.{IfParts, verdict};
-ghost use Rattle.loan_table.specs.Table.{AreIn, HasMap, IsSame, buffer_of, bytes_at, extent_count};
+ghost use Rattle.loan_table.specs.Loans.{load_bytes};
+ghost use Rattle.loan_table.specs.Table.{AreIn, HasMap, IsSame, buffer_of, extent_count};
 ghost use Rattle.ideal_lane.specs.Accesses as accesses;
 ghost use Rattle.ideal_lane.specs.Asking.{Asking, Gives};
 ghost use Rattle.ideal_lane.specs.Outcomes.{Outcome, gives, unless_past, unless_unloaded};
@@ -133,7 +134,7 @@ impl Holdings<'_> {
             unless_past map off len (ideal_of self.now) step ≡ gives (ideal_of self.now) (answer.Report r)) }
         ensures range { IfNone result (off + len ≤ length (buffer_of self.now.loans map)) }
         ensures below { IfNone result (off + len < 2 ^ 64) }
-        ensures inside { IfNone result (AreIn self.now.loans.bytes (bytes_at self.now.loans map off len)) }
+        ensures inside { IfNone result (AreIn self.now.loans.bytes (load_bytes self.now.loans.loans map off len)) }
     {
         let end = self.loans.len_of(self.map_id(map));
         if off <= end && len <= end - off {
@@ -325,7 +326,7 @@ pub(crate) fn reserve_extents(
 ) -> Result<(), AllocError>
     requires there { HasMap loans.old map.made_at }
     requires range { off + len ≤ length (buffer_of loans.old map.made_at) }
-    ensures room { OnOk result (extent_count (bytes_at loans.old map.made_at off len) ≤ loans.new.spare) }
+    ensures room { OnOk result (extent_count (load_bytes loans.old.loans map.made_at off len) ≤ loans.new.spare) }
     ensures same { IsSame loans.old loans.new }
 {
     let extents = loans.extents(map, off, len);

@@ -8,7 +8,8 @@ ghost use Rattle.std.specs.Option.{option_map};
 ghost use Rattle.dma_map.specs.MapView.{chunks_of};
 ghost use Rattle.dma_tag.specs.SyncOps.{is_mixed, postread, prewrite};
 ghost use Rattle.loan_table.specs.Lending.{lost, sync_answer};
-ghost use Rattle.loan_table.specs.Table.{AreIn, HasMap, IsSame, IsSynced, OnFine, OnRefused, buffer_of, bytes_at};
+ghost use Rattle.loan_table.specs.Loans.{load_bytes};
+ghost use Rattle.loan_table.specs.Table.{AreIn, HasMap, IsSame, IsSynced, OnFine, OnRefused, buffer_of};
 ghost use Rattle.loan_table.specs.Table.{extent_count};
 ghost use Rattle.map_sync.specs.Ranges.{range_of_chunks};
 ghost use Rattle.phys_memory.specs.Frames.{SamePages};
@@ -144,7 +145,7 @@ fn sync_loans(loans: &mut LoanTable, map: MapId, off: u64, len: u64, ops: SyncOp
     requires there { HasMap loans.old map.made_at }
     requires range { off + len ≤ length (buffer_of loans.old map.made_at) }
     requires alone { is_mixed ops.0 ≡ false }
-    requires room { extent_count (bytes_at loans.old map.made_at off len) ≤ loans.old.spare }
+    requires room { extent_count (load_bytes loans.old.loans map.made_at off len) ≤ loans.old.spare }
     ensures answer { result ≡ sync_answer loans.old.loans map.made_at off len ops.0 }
     ensures done { OnFine result (IsSynced loans.old loans.new map.made_at off len ops.0) }
     ensures refused { OnRefused result (IsSame loans.old loans.new) }

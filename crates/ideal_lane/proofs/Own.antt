@@ -35,13 +35,13 @@ use Rattle.lane_agreement.specs.View.{Return}
 use Rattle.lane_tables.specs.declared.queued.QueuedItem.{QueuedItem}
 use Rattle.loan_table.specs.Access.{cpu_read_answer, cpu_write_answer, dev_read_answer, dev_write_answer}
 use Rattle.loan_table.specs.Lending.{sync_answer}
-use Rattle.loan_table.specs.Loans.{loan_of}
+use Rattle.loan_table.specs.Loans.{loan_of, load_bytes}
 use Rattle.phys_memory.specs.Vector.{one_span}
 use Rattle.segment_build.specs.Building.{placed_pieces}
 use Rattle.segment_build.specs.Chunks.{need_of}
 use Rattle.segment_build.specs.Segmentation.{segmentation}
 use Rattle.ideal_lane.specs.State.{LaneState, LaneTag, LaneMap, Stage, Idle, Waiting, Loaded, Returning, named}
-use Rattle.ideal_lane.specs.Accesses.{cpu_read, cpu_write, dev_read, dev_write, values, load_bytes}
+use Rattle.ideal_lane.specs.Accesses.{cpu_read, cpu_write, dev_read, dev_write, values}
 use Rattle.ideal_lane.specs.Asking.{Asking, Gives, Asks, by_reply, goes_on}
 use Rattle.ideal_lane.specs.IdealMemory.{is_known, written}
 use Rattle.ideal_lane.specs.Loads.{Asked, asked, limits_of, chunks_for, finished, granted, load_chunks, load, ended}
@@ -287,13 +287,13 @@ module _ (l : LaneState) where
   dev_read-keeps m off len =
       unloaded m _ (λ o. past m off len _ (
       judged (dev_read_answer (is_known l.memory) (loan_of l.loans m) off len)
-      (gives l (answer.Bytes (values l (load_bytes l m off len)))) (λ r. still)))
+      (gives l (answer.Bytes (values l (load_bytes l.loans m off len)))) (λ r. still)))
 
   dev_write-keeps : (m off : ℕ) (vs : List ℕ) → Keeps (dev_write m off vs l)
   dev_write-keeps m off vs =
       unloaded m _ (λ o. past m off (length vs) _ (
       judged (dev_write_answer (loan_of l.loans m) off (length vs))
-      (gives (record l { memory = written (load_bytes l m off (length vs)) vs l.memory }) answer.Done) (λ r. still)))
+      (gives (record l { memory = written (load_bytes l.loans m off (length vs)) vs l.memory }) answer.Done) (λ r. still)))
 
   -- ---- turns
 

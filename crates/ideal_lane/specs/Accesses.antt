@@ -4,8 +4,7 @@ use Rattle.busdma_base.specs.declared.journals.answer.Answer.TheVariants.{Done, 
 use Rattle.busdma_base.specs.declared.scenarios.script.Place.{Place}
 use Rattle.busdma_base.specs.Runs.{run_of}
 use Rattle.loan_table.specs.Access.{cpu_read_answer, cpu_write_answer, dev_read_answer, dev_write_answer}
-use Rattle.busdma_base.specs.Machine.Wire.{stretch}
-use Rattle.loan_table.specs.Loans.{loan_of, addresses_of}
+use Rattle.loan_table.specs.Loans.{loan_of, load_bytes}
 use Rattle.ideal_lane.specs.IdealMemory.{is_known, value, written}
 use Rattle.ideal_lane.specs.State.{LaneState}
 use Rattle.ideal_lane.specs.Asking.{Asking}
@@ -32,20 +31,16 @@ cpu_write place vs l =
     unless_refused (cpu_write_answer l.loans (bytes_at l (run_of va (length vs)))) l (
     gives (record l { memory = written (bytes_at l (run_of va (length vs))) vs l.memory }) Done)))
 
--- the bytes of a range of a map's load
-abbrev pub load_bytes : LaneState → ℕ → ℕ → ℕ → List ℕ
-load_bytes l m off len = addresses_of (stretch off len (loan_of l.loans m).positions)
-
 -- dev_read
 abbrev pub dev_read : ℕ → ℕ → ℕ → LaneState → Asking Outcome
 dev_read m off len l =
     unless_unloaded m l (λ o. unless_past m off len l (
     unless_refused (dev_read_answer (is_known l.memory) (loan_of l.loans m) off len) l (
-    gives l (Bytes (values l (load_bytes l m off len))))))
+    gives l (Bytes (values l (load_bytes l.loans m off len))))))
 
 -- dev_write
 abbrev pub dev_write : ℕ → ℕ → List ℕ → LaneState → Asking Outcome
 dev_write m off vs l =
     unless_unloaded m l (λ o. unless_past m off (length vs) l (
     unless_refused (dev_write_answer (loan_of l.loans m) off (length vs)) l (
-    gives (record l { memory = written (load_bytes l m off (length vs)) vs l.memory }) Done)))
+    gives (record l { memory = written (load_bytes l.loans m off (length vs)) vs l.memory }) Done)))

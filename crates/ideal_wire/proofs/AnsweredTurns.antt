@@ -50,11 +50,11 @@ use Rattle.lane_agreement.proofs.Whole.{called-length, granted-length}
 use Rattle.lane_tables.specs.declared.queued.QueuedItem.{QueuedItem}
 use Rattle.loan_table.specs.Access.{cpu_read_answer, cpu_write_answer, dev_read_answer, dev_write_answer}
 use Rattle.loan_table.specs.Lending.{sync_answer}
-use Rattle.loan_table.specs.Loans.{loan_of}
+use Rattle.loan_table.specs.Loans.{loan_of, load_bytes}
 use Rattle.phys_memory.specs.Vector.{one_span}
 use Rattle.segment_build.specs.Chunks.{need_of}
 use Rattle.segment_build.specs.Obeying.{IsReachable}
-use Rattle.ideal_lane.specs.Accesses.{cpu_read, cpu_write, dev_read, dev_write, values, load_bytes}
+use Rattle.ideal_lane.specs.Accesses.{cpu_read, cpu_write, dev_read, dev_write, values}
 use Rattle.ideal_lane.specs.Agreement.{AgreesWith}
 use Rattle.ideal_lane.specs.Asking.{Asking, Gives, Asks, by_reply, goes_on}
 use Rattle.ideal_lane.specs.IdealMemory.{is_known}
@@ -189,7 +189,7 @@ module _ (l : LaneState) where
       unloaded l Quiet report m _ (λ o e i.
       past l Quiet report m off len _
       (judged l Quiet report (dev_read_answer (is_known l.memory) (loan_of l.loans m) off len)
-      (gives l (answer.Bytes (values l (load_bytes l m off len)))) (λ allowed r. tt)))
+      (gives l (answer.Bytes (values l (load_bytes l.loans m off len)))) (λ allowed r. tt)))
 
   dev_write-quiet : (m off : ℕ) (vs : List ℕ) → Quiet (dev_write m off vs l)
   dev_write-quiet m off vs =

@@ -14,7 +14,7 @@ use Rattle.busdma_base.specs.declared.tags.tag.TagLimits.{TagLimits}
 use Rattle.busdma_base.specs.Machine.Entry.{AreJoined, IsEntry, entry_addresses}
 use Rattle.busdma_base.specs.Runs.{IsExtent, addresses, byte_count, run_of}
 use Rattle.busdma_base.specs.Tags.Tag.{IsEffective}
-use Rattle.segment_build.specs.Building.{IsSound}
+use Rattle.segment_build.specs.Building.{IsPlaceable}
 use Rattle.segment_build.specs.Chunks.{bounced_of, chunk_limit, chunk_of, chunks_from, chunks_of, chunks_of_bytes}
 use Rattle.segment_build.specs.Chunks.{chunks_within, extent_from, to_frame_end}
 use Rattle.segment_build.specs.Trace.{chunk_len, first_page, in_page, placed}
@@ -155,7 +155,7 @@ from-cut t m at (x ∷ xs) eff h =
     (parts-steps x.parts h.0.extents h.0.joined)) (from-cut t m (at + byte_count x.parts) xs eff h.1)
 
 -- a sound chunk that is cut so has its extents in frames
-chunk-extents : (t : TagLimits) (c : Chunk) → IsSound t c → IsCut c → IsOfExtents c
+chunk-extents : (t : TagLimits) (c : Chunk) → IsPlaceable t c → IsCut c → IsOfExtents c
 chunk-extents t c sound cut = by c.rest refl
   where
     two : (e : Extent) → byte_count (c.first ∷ e ∷ []) ≡ c.first.len + e.len
@@ -176,7 +176,7 @@ chunk-extents t c sound cut = by c.rest refl
           (record { some = b.0; in_frame = omega (arith, b.1, small e is c.bounced refl); numbered = b.2 }, tt),
         )
 
-all-extents : (t : TagLimits) (cs : List Chunk) → AllByRecursion (IsSound t) cs → AllByRecursion IsCut cs →
+all-extents : (t : TagLimits) (cs : List Chunk) → AllByRecursion (IsPlaceable t) cs → AllByRecursion IsCut cs →
     AllByRecursion IsOfExtents cs
 all-extents t [] sound cut = tt
 all-extents t (c ∷ cs) sound cut = (chunk-extents t c sound.0 cut.0, all-extents t cs sound.1 cut.1)

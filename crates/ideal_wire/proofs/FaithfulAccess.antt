@@ -13,10 +13,10 @@ use Rattle.busdma_base.specs.Journals.Judging.{judged}
 use Rattle.busdma_base.specs.Machine.Wire.{Wire, Traces, Placed, buffers, buses, stretch, put}
 use Rattle.phys_memory.specs.Translation.{missing, unreached, physical_or_0}
 use Rattle.loan_table.specs.declared.position.Position.{Position}
-use Rattle.loan_table.specs.Loans.{loan_of, to_write, in_any_way, lent, addresses_of}
+use Rattle.loan_table.specs.Loans.{loan_of, to_write, in_any_way, lent, addresses_of, load_bytes}
 use Rattle.loan_table.specs.Access.{cpu_read_answer, cpu_write_answer, dev_read_answer, dev_write_answer}
 use Rattle.loan_table.specs.Access.{cpu_read_refusal, cpu_write_refusal, dev_read_refusal, dev_write_refusal}
-use Rattle.ideal_lane.specs.Accesses.{values, load_bytes}
+use Rattle.ideal_lane.specs.Accesses.{values}
 use Rattle.ideal_lane.specs.IdealMemory.{Known, is_known, value, written}
 use Rattle.ideal_lane.specs.Places.{physical, bytes_at}
 use Rattle.ideal_lane.specs.State.{LaneState}
@@ -199,7 +199,7 @@ module _ (own : ℕ → Bool) (l : LaneState) (traces : Traces) (w : Wire)
 
   -- what the device reads
   pub dev_read_of : dev_read_answer (is_known l.memory) (loan_of l.loans m) off len ≡ Fine →
-      values l (load_bytes l m off len) ≡ map w (buses (stretch off len (traces m)))
+      values l (load_bytes l.loans m off len) ≡ map w (buses (stretch off len (traces m)))
   dev_read_of fine =
       ap (map (λ a. value (l.memory a))) range_alike
       ∙ same_values (stretch off len (traces m)) (λ a. value (l.memory a)) w (read_at fine)
@@ -249,23 +249,23 @@ module _ (own : ℕ → Bool) (l : LaneState) (traces : Traces) (w : Wire)
 
     both_at : (a b : ℕ) → ((k : ℕ) (t : Placed) → slice_get (stretch off len (traces m)) k ≡ Some t →
         (a == t.pa) ≡ (b == t.bus)) → ((v : ℕ) → l.memory a ≡ Some (Known v) → w b ≡ v)
-        → (v : ℕ) → written (load_bytes l m off len) vs l.memory a ≡ Some (Known v) →
+        → (v : ℕ) → written (load_bytes l.loans m off len) vs l.memory a ≡ Some (Known v) →
         put (buses (stretch off len (traces m))) vs w b ≡ v
     both_at a b same h v is =
         both_written (λ (t : Placed). t.pa) (λ (t : Placed). t.bus) a b (stretch off len (traces m)) vs l.memory w same
         h v (ap (λ ks. written ks vs l.memory a) (sym range_alike) ∙ is)
 
-    known_own : (a v : ℕ) → written (load_bytes l m off len) vs l.memory a ≡ Some (Known v) → own a ≡ true
+    known_own : (a v : ℕ) → written (load_bytes l.loans m off len) vs l.memory a ≡ Some (Known v) → own a ≡ true
     known_own a v is =
-        written_known (load_bytes l m off len) vs l.memory a (own a ≡ true) one (λ u h. f.placed.known a u h) v is
+        written_known (load_bytes l.loans m off len) vs l.memory a (own a ≡ true) one (λ u h. f.placed.known a u h) v is
       where
-        one : (k x : ℕ) → slice_get (load_bytes l m off len) k ≡ Some x → a ≡ x → own a ≡ true
+        one : (k x : ℕ) → slice_get (load_bytes l.loans m off len) k ≡ Some x → a ≡ x → own a ≡ true
         one k x at e =
-            let q = twin_of (λ (b : ℕ). b) (λ (t : Placed). t.pa) (load_bytes l m off len) (stretch off len (traces m))
-            (map_own (load_bytes l m off len) ∙ range_alike) k x at in
+            let q = twin_of (λ (b : ℕ). b) (λ (t : Placed). t.pa) (load_bytes l.loans m off len) (stretch off len (traces m))
+            (map_own (load_bytes l.loans m off len) ∙ range_alike) k x at in
             ap own (e ∙ q.same) ∙ f.placed.lies m (off + k) q.twin (of_range (traces m) off len k q.twin q.found).whole
 
-    pub dev_written : Faithful own (record l { memory = written (load_bytes l m off len) vs l.memory }) traces
+    pub dev_written : Faithful own (record l { memory = written (load_bytes l.loans m off len) vs l.memory }) traces
         (put (buses (stretch off len (traces m))) vs w)
     dev_written = record {
       placed = record {

@@ -24,11 +24,11 @@ use Rattle.lane_agreement.specs.After.{addresses}
 use Rattle.lane_agreement.specs.View.{Return}
 use Rattle.loan_table.specs.Access.{cpu_read_answer, cpu_write_answer, dev_read_answer, dev_write_answer}
 use Rattle.loan_table.specs.Lending.{sync_answer}
-use Rattle.loan_table.specs.Loans.{loan_of}
+use Rattle.loan_table.specs.Loans.{loan_of, load_bytes}
 use Rattle.segment_build.specs.Building.{tag_placed, placed_pieces}
 use Rattle.segment_build.specs.Chunks.{need_of}
 use Rattle.segment_build.specs.Segmentation.{segmentation}
-use Rattle.ideal_lane.specs.Accesses.{cpu_read, cpu_write, dev_read, dev_write, values, load_bytes}
+use Rattle.ideal_lane.specs.Accesses.{cpu_read, cpu_write, dev_read, dev_write, values}
 use Rattle.ideal_lane.specs.Asking.{Asking, Gives, Asks, by_reply}
 use Rattle.ideal_lane.specs.IdealMemory.{is_known}
 use Rattle.ideal_lane.specs.Loads.{Asked, chunks_for, emptied, finished, granted, limits_of, load, load_chunks}
@@ -269,7 +269,7 @@ module _ (l : LaneState) (stands : Stands l) where
       unloaded l Still report m _ (λ o e i.
       past l Still report m off len _
       (judged l Still report (dev_read_answer (is_known l.memory) (loan_of l.loans m) off len)
-      (gives l (answer.Bytes (values l (load_bytes l m off len)))) (λ allowed r. same)))
+      (gives l (answer.Bytes (values l (load_bytes l.loans m off len)))) (λ allowed r. same)))
 
   pub dev_write-kept : (m off : ℕ) (vs : List ℕ) → Still (dev_write m off vs l)
   dev_write-kept m off vs =

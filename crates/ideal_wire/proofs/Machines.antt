@@ -38,13 +38,13 @@ use Rattle.lane_agreement.specs.View.{Return}
 use Rattle.lane_tables.specs.declared.queued.QueuedItem.{QueuedItem}
 use Rattle.loan_table.specs.Access.{cpu_read_answer, cpu_write_answer, dev_read_answer, dev_write_answer}
 use Rattle.loan_table.specs.Lending.{sync_answer, synced, lost}
-use Rattle.loan_table.specs.Loans.{loan_of}
+use Rattle.loan_table.specs.Loans.{loan_of, load_bytes}
 use Rattle.phys_memory.specs.Vector.{one_span}
 use Rattle.segment_build.specs.Building.{tag_placed, placed_pieces}
 use Rattle.segment_build.specs.Chunks.{need_of}
 use Rattle.segment_build.specs.Segmentation.{segmentation}
 use Rattle.ideal_lane.specs.State.{LaneState, LaneTag, LaneMap, Stage, Idle, Waiting, Loaded, Returning, named}
-use Rattle.ideal_lane.specs.Accesses.{cpu_read, cpu_write, dev_read, dev_write, values, load_bytes}
+use Rattle.ideal_lane.specs.Accesses.{cpu_read, cpu_write, dev_read, dev_write, values}
 use Rattle.ideal_lane.specs.Asking.{Asking, Gives, Asks, by_reply}
 use Rattle.ideal_lane.specs.Asking as asking
 use Rattle.ideal_lane.specs.IdealMemory.{is_known, forgotten, written}
@@ -345,14 +345,14 @@ module _ (l : LaneState) (m : IsInMachine l) where
   dev_read-keeps n off len =
       unloaded l Keeps report n _ (λ o e i. past l Keeps report n off len _
       (judged l Keeps report (dev_read_answer (is_known l.memory) (loan_of l.loans n) off len)
-      (gives l (answer.Bytes (values l (load_bytes l n off len)))) (λ allowed r. m)))
+      (gives l (answer.Bytes (values l (load_bytes l.loans n off len)))) (λ allowed r. m)))
 
   dev_write-keeps : (n off : ℕ) (vs : List ℕ) → Keeps (dev_write n off vs l)
   dev_write-keeps n off vs =
       unloaded l Keeps report n _ (λ o e i. past l Keeps report n off (length vs) _
       (judged l Keeps report (dev_write_answer (loan_of l.loans n) off (length vs))
-      (gives (record l { memory = written (load_bytes l n off (length vs)) vs l.memory }) answer.Done)
-      (λ allowed. write-keeps (load_bytes l n off (length vs)) vs)))
+      (gives (record l { memory = written (load_bytes l.loans n off (length vs)) vs l.memory }) answer.Done)
+      (λ allowed. write-keeps (load_bytes l.loans n off (length vs)) vs)))
 
   operation-keeps : (o : Op) → Keeps (operation o l)
   operation-keeps (op.Tag name parent limits) = tag-keeps parent limits

@@ -19,9 +19,9 @@ use Rattle.lane_agreement.specs.View.{Return, returning}
 use Rattle.loan_table.specs.Access.{cpu_read_answer, cpu_write_answer, dev_read_answer, dev_write_answer}
 use Rattle.loan_table.specs.Lending.{sync_answer, lost, lost_by_forgetting, marked_range}
 use Rattle.loan_table.specs.Lending as lending
-use Rattle.loan_table.specs.Loans.{Loan, Loans, addresses_of, loan_of, no_loan}
+use Rattle.loan_table.specs.Loans.{Loan, Loans, addresses_of, loan_of, no_loan, load_bytes}
 use Rattle.loan_table.proofs.Marking.{addresses_of-synced}
-use Rattle.ideal_lane.specs.Accesses.{cpu_read, cpu_write, dev_read, dev_write, values, load_bytes}
+use Rattle.ideal_lane.specs.Accesses.{cpu_read, cpu_write, dev_read, dev_write, values}
 use Rattle.ideal_lane.specs.Asking.{Asking, Asks, by_reply}
 use Rattle.ideal_lane.specs.IdealMemory.{is_known, forgotten, written}
 use Rattle.ideal_lane.specs.Loads.{emptied, no_limits, staged, unpaged}
@@ -205,14 +205,14 @@ module _ (l : LaneState) (laid : AreLaid l) where
       unloaded l Still report m _ (λ o e i.
       past l Still report m off len _
       (judged l Still report (dev_read_answer (is_known l.memory) (loan_of l.loans m) off len)
-      (gives l (answer.Bytes (values l (load_bytes l m off len)))) (λ allowed r. laid)))
+      (gives l (answer.Bytes (values l (load_bytes l.loans m off len)))) (λ allowed r. laid)))
 
   pub dev_write-still : (m off : ℕ) (vs : List ℕ) → Still (dev_write m off vs l)
   dev_write-still m off vs =
       unloaded l Still report m _ (λ o e i.
       past l Still report m off (length vs) _
       (judged l Still report (dev_write_answer (loan_of l.loans m) off (length vs)) _ (λ allowed r.
-      written-still (load_bytes l m off (length vs)) vs)))
+      written-still (load_bytes l.loans m off (length vs)) vs)))
 
   -- ---- the ends of loads
 

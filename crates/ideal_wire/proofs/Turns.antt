@@ -30,14 +30,14 @@ use Rattle.lane_agreement.specs.After.{addresses}
 use Rattle.lane_agreement.specs.View.{Return}
 use Rattle.lane_tables.specs.declared.queued.QueuedItem.{QueuedItem}
 use Rattle.loan_table.specs.Access.{cpu_read_answer, dev_read_answer}
-use Rattle.loan_table.specs.Loans.{loan_of, no_loan}
+use Rattle.loan_table.specs.Loans.{loan_of, no_loan, load_bytes}
 use Rattle.phys_memory.specs.Vector.{one_span}
 use Rattle.segment_build.specs.Building.{tag_placed, placed_pieces}
 use Rattle.segment_build.specs.Chunks.{need_of}
 use Rattle.segment_build.specs.Segmentation.{segmentation}
 use Rattle.ideal_lane.specs.State.{LaneState, LaneTag, LaneMap, Stage, Idle, Waiting, Loaded, Returning}
 use Rattle.ideal_lane.specs.State.{named}
-use Rattle.ideal_lane.specs.Accesses.{cpu_read, dev_read, values, load_bytes}
+use Rattle.ideal_lane.specs.Accesses.{cpu_read, dev_read, values}
 use Rattle.ideal_lane.specs.IdealMemory.{is_known}
 use Rattle.ideal_lane.specs.Agreement.{AgreesWith}
 use Rattle.ideal_lane.specs.Asking.{Asking, Gives, Asks, by_reply}
@@ -331,7 +331,7 @@ module _ (l : LaneState) (a : Account) (w : Wire) (stands : Stands l) (agrees : 
       unloaded l Idles report m _ (λ o e i.
       past l Idles report m off len _
       (judged l Idles report (dev_read_answer (is_known l.memory) (loan_of l.loans m) off len)
-      (gives l (answer.Bytes (values l (load_bytes l m off len)))) (λ allowed r. same)))
+      (gives l (answer.Bytes (values l (load_bytes l.loans m off len)))) (λ allowed r. same)))
 
   transfer-stays : (i : Item) → Outcomes (wire.transfer i l w) (transfer i l)
   transfer-stays (item.Sync m ops) = sync-stays l w apart laid f m ops

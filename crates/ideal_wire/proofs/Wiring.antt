@@ -14,9 +14,9 @@ use Rattle.dma_tag.specs.SyncOps.{is_mixed}
 use Rattle.loan_table.specs.Access.{cpu_read_answer, cpu_write_answer, dev_read_answer, dev_write_answer}
 use Rattle.loan_table.specs.Lending.{sync_answer, marked_range, loses, lost}
 use Rattle.loan_table.specs.Lending as lending
-use Rattle.loan_table.specs.Loans.{loan_of, addresses_of}
+use Rattle.loan_table.specs.Loans.{loan_of, addresses_of, load_bytes}
 use Rattle.loan_table.proofs.Marking.{same_bytes, addresses_of-marked_range}
-use Rattle.ideal_lane.specs.Accesses.{cpu_read, cpu_write, dev_read, dev_write, values, load_bytes}
+use Rattle.ideal_lane.specs.Accesses.{cpu_read, cpu_write, dev_read, dev_write, values}
 use Rattle.ideal_lane.specs.Asking.{Asking, by_reply}
 use Rattle.ideal_lane.specs.IdealMemory.{IdealMemory, Content, Known, Unknown, is_known, is_among, forgotten, written}
 use Rattle.ideal_lane.specs.IdealMemory.{written_at}
@@ -202,7 +202,7 @@ module _ (l : LaneState) (w : Wire) (apart : IsApart l) (laid : AreLaid l) (f : 
       unloaded l (Stays now) (report-stays now) m (λ o. unless_past m off (length vs) l step) (λ o there is.
       past l (Stays now) (report-stays now) m off (length vs) step
       (judged l (Stays now) (report-stays now) (dev_write_answer (loan_of l.loans m) off (length vs)) _ (λ allowed.
-      writes-stay (load_bytes l m off (length vs)) vs now
+      writes-stay (load_bytes l.loans m off (length vs)) vs now
       (dev_written (own l laid apart) l (traces_of l) w faithful m off (length vs) vs allowed))))
     where
       now : Wire
@@ -210,7 +210,7 @@ module _ (l : LaneState) (w : Wire) (apart : IsApart l) (laid : AreLaid l) (f : 
 
       step : Asking Outcome
       step = unless_refused (dev_write_answer (loan_of l.loans m) off (length vs)) l
-          (gives (record l { memory = written (load_bytes l m off (length vs)) vs l.memory }) answer.Done)
+          (gives (record l { memory = written (load_bytes l.loans m off (length vs)) vs l.memory }) answer.Done)
 
   -- ---- reads
   pub cpu_read-reads : (place : Place) (len : ℕ) → IsRead (cpu_read place len l) (place_bytes l place len) w
@@ -247,4 +247,4 @@ module _ (l : LaneState) (w : Wire) (apart : IsApart l) (laid : AreLaid l) (f : 
 
       step : Asking Outcome
       step = unless_refused (dev_read_answer (is_known l.memory) (loan_of l.loans m) off len) l
-          (gives l (answer.Bytes (values l (load_bytes l m off len))))
+          (gives l (answer.Bytes (values l (load_bytes l.loans m off len))))

@@ -13,10 +13,10 @@ use Rattle.busdma_base.specs.declared.journals.report.ReportName.TheVariants.{St
 use Rattle.busdma_base.specs.declared.journals.answer.Answer.TheVariants.{Done, Bytes}
 use Rattle.phys_memory.specs.Translation.{missing, unreached}
 use Rattle.loan_table.specs.declared.position.Position.{Position}
-use Rattle.loan_table.specs.Loans.{loan_of, to_write, in_any_way, lent, addresses_of}
+use Rattle.loan_table.specs.Loans.{loan_of, to_write, in_any_way, lent, addresses_of, load_bytes}
 use Rattle.loan_table.specs.Access.{cpu_read_answer, cpu_write_answer, dev_read_answer, dev_write_answer}
 use Rattle.loan_table.specs.Access.{cpu_read_refusal, cpu_write_refusal, dev_read_refusal, dev_write_refusal}
-use Rattle.lane_core.specs.Accesses.{values, load_bytes}
+use Rattle.lane_core.specs.Accesses.{values}
 use Rattle.lane_core.specs.Centre.{IsAt, IsPlacedAt, IsFaithful}
 use Rattle.lane_core.specs.IdealMemory.{Known, is_known, value, written}
 use Rattle.lane_core.specs.Lane.{LaneState, Outcome, gives, refused, has_map, is_loaded, load_length, unless_refused}
@@ -217,7 +217,7 @@ module _ (own : ℕ → Bool) (l : LaneState) (traces : Traces) (w : Wire)
       (known_value (l.memory p.pa) passes.1) (lent to_write p.pa l.loans) refl)
 
   dev_read_of : (j : Judged) → j ≡ dev_read_answer (is_known l.memory) (loan_of l.loans m) off len →
-      Reads (unless_refused j l (gives l (Bytes (values l (load_bytes l m off len))))).answer
+      Reads (unless_refused j l (gives l (Bytes (values l (load_bytes l.loans m off len))))).answer
       (buses (stretch off len (traces m))) w
   dev_read_of (Refused r) e = tt
   dev_read_of Fine e =
@@ -269,23 +269,23 @@ module _ (own : ℕ → Bool) (l : LaneState) (traces : Traces) (w : Wire)
 
     both_at : (a b : ℕ) → ((k : ℕ) (t : Placed) → slice_get (stretch off len (traces m)) k ≡ Some t →
         (a == t.pa) ≡ (b == t.bus)) → ((v : ℕ) → l.memory a ≡ Known v → w b ≡ v)
-        → (v : ℕ) → written (load_bytes l m off len) vs l.memory a ≡ Known v →
+        → (v : ℕ) → written (load_bytes l.loans m off len) vs l.memory a ≡ Known v →
         put (buses (stretch off len (traces m))) vs w b ≡ v
     both_at a b same h v is =
         both_written (λ (t : Placed). t.pa) (λ (t : Placed). t.bus) a b (stretch off len (traces m)) vs l.memory w same
         h v (ap (λ ks. written ks vs l.memory a) (sym range_alike) ∙ is)
 
-    known_own : (a v : ℕ) → written (load_bytes l m off len) vs l.memory a ≡ Known v → own a ≡ true
+    known_own : (a v : ℕ) → written (load_bytes l.loans m off len) vs l.memory a ≡ Known v → own a ≡ true
     known_own a v is =
-        written_known (load_bytes l m off len) vs l.memory a (own a ≡ true) one (λ u h. f.placed.known a u h) v is
+        written_known (load_bytes l.loans m off len) vs l.memory a (own a ≡ true) one (λ u h. f.placed.known a u h) v is
       where
-        one : (k x : ℕ) → slice_get (load_bytes l m off len) k ≡ Some x → a ≡ x → own a ≡ true
+        one : (k x : ℕ) → slice_get (load_bytes l.loans m off len) k ≡ Some x → a ≡ x → own a ≡ true
         one k x at e =
-            let q = twin_of (λ (b : ℕ). b) (λ (t : Placed). t.pa) (load_bytes l m off len) (stretch off len (traces m))
-            (map_own (load_bytes l m off len) ∙ range_alike) k x at in
+            let q = twin_of (λ (b : ℕ). b) (λ (t : Placed). t.pa) (load_bytes l.loans m off len) (stretch off len (traces m))
+            (map_own (load_bytes l.loans m off len) ∙ range_alike) k x at in
             ap own (e ∙ q.same) ∙ f.placed.lies m (off + k) q.twin (of_range (traces m) off len k q.twin q.found).whole
 
-    dev_written : IsFaithful own (record l { memory = written (load_bytes l m off len) vs l.memory }) traces
+    dev_written : IsFaithful own (record l { memory = written (load_bytes l.loans m off len) vs l.memory }) traces
         (put (buses (stretch off len (traces m))) vs w)
     dev_written = record {
       placed = record {
@@ -330,7 +330,7 @@ pub dev_reads : DevReadIsFaithful
 dev_reads own l traces w f m off len =
     let o =
     unless_refused (dev_read_answer (is_known l.memory) (loan_of l.loans m) off len) l
-    (gives l (Bytes (values l (load_bytes l m off len)))) in
+    (gives l (Bytes (values l (load_bytes l.loans m off len)))) in
     let at = buses (stretch off len (traces m)) in
     unloaded_reads m l (unless_past m off len l o) at w
     (past_reads m off len l o at w (dev_read_of own l traces w f m off len _ refl))
@@ -338,7 +338,7 @@ dev_reads own l traces w f m off len =
 pub dev_writes : DevWriteStaysFaithful
 dev_writes own l traces w f m off vs =
     let len = length vs in
-    let done = gives (record l { memory = written (load_bytes l m off len) vs l.memory }) Done in
+    let done = gives (record l { memory = written (load_bytes l.loans m off len) vs l.memory }) Done in
     let o = unless_refused (dev_write_answer (loan_of l.loans m) off len) l done in
     let after = put (buses (stretch off len (traces m))) vs w in
     unloaded_stays own l traces w f m (unless_past m off len l o) after

@@ -16,7 +16,7 @@ use Rattle.busdma_base.specs.Scenarios.Operations.{bytes_of}
 use Rattle.busdma_base.specs.Tags.Tag.{effective}
 use Rattle.dma_tag.specs.SyncOps.{is_mixed}
 use Rattle.lane_tables.specs.declared.queued.QueuedItem.{QueuedItem}
-use Rattle.loan_table.specs.Loans.{Loan, loan_of, addresses_of}
+use Rattle.loan_table.specs.Loans.{Loan, loan_of, addresses_of, load_bytes}
 use Rattle.loan_table.specs.Lending.{sync_answer, synced, lost, marked_range}
 use Rattle.loan_table.specs.Access.{cpu_read_answer, cpu_write_answer, dev_read_answer, dev_write_answer}
 use Rattle.busdma_base.specs.declared.scenarios.script.Place.{Place}
@@ -27,7 +27,7 @@ use Rattle.busdma_base.specs.declared.journals.report.Errno.TheVariants.{EBUSY}
 use Rattle.busdma_base.specs.declared.journals.answer.Answer.TheVariants.{Done, Bytes}
 use Rattle.busdma_base.specs.declared.journals.answer.Answer.TheVariants.{Refused as errno}
 use Rattle.lane_core.specs.declared.turn.Turn.TheVariants.{Blocked}
-use Rattle.lane_core.specs.Accesses.{cpu_read, cpu_write, dev_read, dev_write, values, load_bytes}
+use Rattle.lane_core.specs.Accesses.{cpu_read, cpu_write, dev_read, dev_write, values}
 use Rattle.lane_core.specs.IdealMemory.{is_known, written, forgotten}
 use Rattle.lane_core.specs.Syncs.{sync, sync_range, sync_part}
 use Rattle.lane_core.specs.Maps.{map_of}
@@ -111,7 +111,7 @@ module _ (l : LaneState) where
 
   dev_write_was : (m off : ℕ) (vs : List ℕ) → Was (dev_write m off vs l)
   dev_write_was m off vs =
-      let done = gives (record l { memory = written (load_bytes l m off (length vs)) vs l.memory }) Done in
+      let done = gives (record l { memory = written (load_bytes l.loans m off (length vs)) vs l.memory }) Done in
       let o = unless_refused (dev_write_answer (loan_of l.loans m) off (length vs)) l done in
       unloaded_was m (unless_past m off (length vs) l o)
       (λ there. past_was m off (length vs) o
@@ -152,7 +152,7 @@ module _ (own : ℕ → Bool) (l : LaneState) (traces traces' : Traces) (w w' : 
 
   dev_read_idle : (m off len : ℕ) → Idle (dev_read m off len l)
   dev_read_idle m off len =
-      let done = gives l (Bytes (values l (load_bytes l m off len))) in
+      let done = gives l (Bytes (values l (load_bytes l.loans m off len))) in
       let o = unless_refused (dev_read_answer (is_known l.memory) (loan_of l.loans m) off len) l done in
       let past = refused PastEnd (load_length l m - off) l in
       let idle = refused NotLoaded 0 l in

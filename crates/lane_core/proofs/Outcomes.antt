@@ -8,7 +8,7 @@ use Rattle.busdma_base.specs.declared.journals.answer.Answer.TheVariants.{Done}
 use Rattle.dma_tag.specs.SyncOps.{is_mixed}
 use Rattle.phys_memory.specs.Memory.{Memory, physical}
 use Rattle.loan_table.specs.Lending.{sync_answer, synced, lost}
-use Rattle.loan_table.specs.Loans.{Loans}
+use Rattle.loan_table.specs.Loans.{Loans, load_bytes}
 use Rattle.loan_table.specs.Table.{Table, AreIn, IsSame, IsSynced, OnFine, OnRefused, set_all}
 use Rattle.lane_core.specs.Covered.{IsCovered, SamePages}
 use Rattle.busdma_base.specs.Machine.Wire.{put, stretch}
@@ -21,7 +21,6 @@ use Rattle.loan_table.specs.declared.position.Position.{Position}
 use Rattle.loan_table.specs.Access.{cpu_read_answer, cpu_write_answer, dev_read_answer, dev_write_answer}
 use Rattle.loan_table.specs.Loans.{loan_of, addresses_of}
 use Rattle.loan_table.specs.Table.{is_marked}
-use Rattle.lane_core.specs.Accesses.{load_bytes}
 use Rattle.lane_core.specs.Calls.{cpu_read, cpu_write, dev_read, dev_write, unless_foreign}
 use Rattle.lane_core.specs.IdealMemory.{IdealMemory, forgotten, written, is_known, value}
 use Rattle.lane_core.specs.Lane.{LaneState, Outcome, gives, reached, bytes_at, unless_past, unless_refused}
@@ -117,14 +116,14 @@ pub dev_read_done : (l : LaneState) (marks : FinMap nat_cmp Bool) (w : ℕ → �
     → ((o : Outcome) → unless_foreign m l (unless_unloaded m.made_at l o) ≡ o) →
     ((o : Outcome) → unless_past m.made_at off len l o ≡ o)
     → Fine ≡ dev_read_answer (is_marked marks) (loan_of l.loans m.made_at) off len →
-    bytes ≡ map w (load_bytes l m.made_at off len) → gives l (Bytes bytes) ≡ dev_read m off len l
+    bytes ≡ map w (load_bytes l.loans m.made_at off len) → gives l (Bytes bytes) ≡ dev_read m off len l
 dev_read_done l marks w m off len bytes known loads ends fine is =
     let loan = loan_of l.loans m.made_at in
     let knows : is_known l.memory ≡ is_marked marks = ap (λ x. is_known x) known ∙ known_shown marks w in
     let answer : dev_read_answer (is_known l.memory) loan off len ≡ Fine =
     ap (λ k. dev_read_answer k loan off len) knows ∙ sym fine in
     ap (λ vs. gives l (Bytes vs)) (is ∙ dev_values marks w loan.coherent 0 (stretch off len loan.positions) (sym fine)
-    ∙ sym (ap (λ x. map (λ a. value (x a)) (load_bytes l m.made_at off len)) known))
+    ∙ sym (ap (λ x. map (λ a. value (x a)) (load_bytes l.loans m.made_at off len)) known))
     ∙ sym (loads _ ∙ ends _ ∙ passes _ l _ answer)
 
 -- a write by the device that is done
@@ -132,7 +131,7 @@ pub dev_write_done : (l o : LaneState) (m : MapId) (off : ℕ) (vs : List ℕ)
     → ((x : Outcome) → unless_foreign m l (unless_unloaded m.made_at l x) ≡ x) →
     ((x : Outcome) → unless_past m.made_at off (length vs) l x ≡ x)
     → Fine ≡ dev_write_answer (loan_of l.loans m.made_at) off (length vs) →
-    gives o Done ≡ gives (record l { memory = written (load_bytes l m.made_at off (length vs)) vs l.memory })
+    gives o Done ≡ gives (record l { memory = written (load_bytes l.loans m.made_at off (length vs)) vs l.memory })
     Done → gives o Done ≡ dev_write m off vs l
 dev_write_done l o m off vs loads ends fine is = is ∙ sym (loads _ ∙ ends _ ∙ passes _ l _ (sym fine))
 

@@ -13,9 +13,9 @@ use Rattle.busdma_base.specs.declared.journals.report.Judged.TheVariants.{Fine, 
 use Rattle.busdma_base.specs.declared.journals.report.ReportName.TheVariants.{Absent, DeviceReadUnlent, StaleByte}
 use Rattle.busdma_base.specs.declared.journals.answer.Answer.TheVariants.{Bytes}
 use Rattle.loan_table.specs.declared.position.Position.{Position}
-use Rattle.loan_table.specs.Loans.{Loans, loan_of, addresses_of}
+use Rattle.loan_table.specs.Loans.{Loans, loan_of, addresses_of, load_bytes}
 use Rattle.loan_table.specs.Access.{dev_read_answer, dev_read_refusal}
-use Rattle.lane_core.specs.Accesses.{load_bytes, values}
+use Rattle.lane_core.specs.Accesses.{values}
 use Rattle.lane_core.specs.Calls as calls
 use Rattle.lane_core.specs.IdealMemory.{Known, Unknown, is_known, value}
 use Rattle.lane_core.specs.Lane.{LaneState, gives, refused, reached, bytes_at, unless_refused, unless_past}
@@ -92,19 +92,19 @@ module _ (l : LaneState) (w : Wire) (held : (a v : ℕ) → l.memory a ≡ Known
 
   dev_read_held_of : (m off len : ℕ) (j : Judged) →
       j ≡ dev_read_answer (is_known l.memory) (loan_of l.loans m) off len →
-      Reads (unless_refused j l (gives l (Bytes (values l (load_bytes l m off len))))).answer (load_bytes l m off len)
+      Reads (unless_refused j l (gives l (Bytes (values l (load_bytes l.loans m off len))))).answer (load_bytes l.loans m off len)
       w
   dev_read_held_of m off len (Refused r) e = tt
-  dev_read_held_of m off len Fine e = same_reads (load_bytes l m off len) (λ a. value (l.memory a)) w at
+  dev_read_held_of m off len Fine e = same_reads (load_bytes l.loans m off len) (λ a. value (l.memory a)) w at
     where
       range : List Position
       range = stretch off len (loan_of l.loans m).positions
 
-      at : (k a : ℕ) → slice_get (load_bytes l m off len) k ≡ Some a → value (l.memory a) ≡ w a
+      at : (k a : ℕ) → slice_get (load_bytes l.loans m off len) k ≡ Some a → value (l.memory a) ≡ w a
       at k a h =
           let q =
-          twin_of (λ (b : ℕ). b) (λ (p : Position). p.pa) (load_bytes l m off len) range
-          (map_own (load_bytes l m off len)) k a h in
+          twin_of (λ (b : ℕ). b) (λ (p : Position). p.pa) (load_bytes l.loans m off len) range
+          (map_own (load_bytes l.loans m off len)) k a h in
           let passes =
           dev_read_passes (loan_of l.loans m).coherent q.twin.to_read
           (is_known l.memory q.twin.pa) DeviceReadUnlent StaleByte
@@ -118,8 +118,8 @@ module _ (l : LaneState) (w : Wire) (held : (a v : ℕ) → l.memory a ≡ Known
       let k = m.made_at in
       let o =
       unless_refused (dev_read_answer (is_known l.memory) (loan_of l.loans k) off len) l
-      (gives l (Bytes (values l (load_bytes l k off len)))) in
-      let at = load_bytes l k off len in
+      (gives l (Bytes (values l (load_bytes l.loans k off len)))) in
+      let at = load_bytes l.loans k off len in
       subst (λ xs. Reads (calls.dev_read m off len l).answer xs w) (sym (unbounced_buses l.loans k off len))
       (if_reads (m.lane.0 == l.id) (Rattle.lane_core.specs.Accesses.dev_read k off len l) (refused Absent 0 l) at w
       (unloaded_reads k l (unless_past k off len l o) at w

@@ -5,9 +5,9 @@ use Rattle.busdma_base.specs.declared.scenarios.script.Op.{Op}
 use Rattle.busdma_base.specs.declared.scenarios.script.Op.TheVariants as op
 use Rattle.busdma_base.specs.declared.scenarios.script.Place.TheVariants.{At}
 use Rattle.busdma_base.specs.declared.tags.tag.TagLimits.{TagLimits}
-use Rattle.busdma_base.specs.Scenarios.Script.{IsPlain, IsScript, IsOp}
+use Rattle.busdma_base.specs.Scenarios.Script.{IsScript, IsOp}
 
-module _ (limits : TagLimits) (plain : IsPlain limits) where
+module _ (limits : TagLimits) where
   tag_is : IsOp [] (op.Tag (codes "t") None limits)
   tag_is = record {
     new = record { well_formed = refl; fresh = refl };
@@ -15,7 +15,7 @@ module _ (limits : TagLimits) (plain : IsPlain limits) where
     read = omega arith;
     written = omega arith;
     items = tt;
-    uncut = plain;
+    loaded = omega arith;
   }
 
   map_is : IsOp (op.Tag (codes "t") None limits ∷ []) (op.Map (codes "m") 0)
@@ -25,7 +25,7 @@ module _ (limits : TagLimits) (plain : IsPlain limits) where
     read = omega arith;
     written = omega arith;
     items = tt;
-    uncut = tt;
+    loaded = omega arith;
   }
 
   load_is : IsOp (op.Tag (codes "t") None limits ∷ op.Map (codes "m") 0 ∷ [])
@@ -36,7 +36,7 @@ module _ (limits : TagLimits) (plain : IsPlain limits) where
     read = omega arith;
     written = omega arith;
     items = tt;
-    uncut = omega arith;
+    loaded = omega arith;
   }
 
   -- a tag without limits, a map of it, and a load of 16 bytes without items

@@ -1,7 +1,7 @@
 //! The calls on a lane, each with ample memory. The answers are worked out by hand.
 
 ghost use Rattle.std.specs.Prelude.{◌≡◌, IfOk};
-ghost use Rattle.busdma_base.specs.Scenarios.Script.{IsPlain, IsScript};
+ghost use Rattle.busdma_base.specs.Scenarios.Script.{IsScript};
 ghost use Rattle.lane_core.specs.OpeningMemory.{ArePages};
 
 use busdma_base::{
@@ -26,9 +26,7 @@ fn name(alloc: Global, text: &str) -> Result<Name, AllocError>
     Ok(Name::new(String::from_str(alloc, text)?))
 }
 
-fn no_limits() -> TagLimits
-    ensures { IsPlain result }
-{
+fn no_limits() -> TagLimits {
     TagLimits {
         alignment: 1,
         boundary: 0,

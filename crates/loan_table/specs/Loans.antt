@@ -4,6 +4,7 @@ use Rattle.std.specs.Prelude.{ℕ, Bool, false, ◌&&◌, ◌||◌, not, ◌==�
 use Rattle.std.specs.List.{list_any}
 use Rattle.std.specs.Ordering.{nat_cmp}
 use Rattle.std.specs.FinMap.{FinMap, get, entries}
+use Rattle.busdma_base.specs.Machine.Wire.{stretch}
 use Rattle.loan_table.specs.declared.position.Position.{Position}
 
 -- a loaded map: the positions of its buffer, in order; a coherent map lends nothing
@@ -56,6 +57,10 @@ stands_twice a loan = nat_lt 1 (count_by (is_at a) loan.positions)
 -- the physical addresses of positions
 abbrev pub addresses_of : List Position → List ℕ
 addresses_of ps = map (λ p. p.pa) ps
+
+-- the bytes of a range of a map's buffer, in order
+abbrev pub load_bytes : Loans → ℕ → ℕ → ℕ → List ℕ
+load_bytes loans m off len = addresses_of (stretch off len (loan_of loans m).positions)
 
 -- a buffer of these bytes that lends nothing
 abbrev pub unlent : List ℕ → List Position

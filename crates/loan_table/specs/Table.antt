@@ -7,8 +7,7 @@ use Rattle.std.specs.FinMap.{FinMap, get, insert, remove}
 use Rattle.busdma_base.specs.declared.journals.report.Judged.{Judged}
 use Rattle.busdma_base.specs.declared.journals.report.Judged.TheVariants.{Fine, Refused}
 use Rattle.loan_table.specs.declared.position.Position.{Position}
-use Rattle.loan_table.specs.Loans.{Loans, loan_of, addresses_of}
-use Rattle.busdma_base.specs.Machine.Wire.{stretch}
+use Rattle.loan_table.specs.Loans.{Loans, loan_of}
 use Rattle.loan_table.specs.Lending.{synced, lost}
 
 -- the driver's bytes by physical address, each Known or not; the loans of its loaded maps; those that are prepared
@@ -38,10 +37,6 @@ IsPrepared t m = IsSome (get t.prepared m)
 -- the positions of a map's buffer
 abbrev pub buffer_of : Table → ℕ → List Position
 buffer_of t m = (loan_of t.loans m).positions
-
--- the bytes of a range of a map's buffer, in order
-abbrev pub bytes_at : Table → ℕ → ℕ → ℕ → List ℕ
-bytes_at t m off len = addresses_of (stretch off len (buffer_of t m))
 
 -- each of these bytes is in the table
 abbrev pub AreIn : FinMap nat_cmp Bool → List ℕ → Type 0

@@ -8,8 +8,8 @@ ghost use Rattle.busdma_base.specs.Runs.{run_of, addresses, byte_count, IsExtent
 ghost use Rattle.dma_tag.specs.SyncOps.{has_pre, has_post};
 ghost use Rattle.loan_table.specs.Access.{cpu_read_answer, cpu_write_answer, dev_read_answer, dev_write_answer};
 ghost use Rattle.loan_table.specs.Lending.{sync_answer, lost, lost_by_forgetting};
-ghost use Rattle.loan_table.specs.Loans.{loan_of, addresses_of, new_loan};
-ghost use Rattle.loan_table.specs.Table.{HasMap, buffer_of, bytes_at, is_known, AreFree, AreIn, AreNew, set_all};
+ghost use Rattle.loan_table.specs.Loans.{loan_of, load_bytes, addresses_of, new_loan};
+ghost use Rattle.loan_table.specs.Table.{HasMap, buffer_of, is_known, AreFree, AreIn, AreNew, set_all};
 ghost use Rattle.loan_table.specs.Table.{without, IsPrepared, IsSame, IsSynced, OnFine, OnRefused, extent_count};
 ghost use Rattle.loan_table.specs.Trees.{with_value};
 
@@ -259,7 +259,7 @@ impl LoanTable {
         requires there { HasMap self.old map.made_at }
         requires range { off + len ≤ length (buffer_of self.old map.made_at) }
         requires pre_alone { has_post ops.0 ≡ false }
-        requires room { extent_count (bytes_at self.old map.made_at off len) ≤ self.old.spare }
+        requires room { extent_count (load_bytes self.old.loans map.made_at off len) ≤ self.old.spare }
         ensures answer { result ≡ sync_answer self.old.loans map.made_at off len ops.0 }
         ensures done { OnFine result (IsSynced self.old self.new map.made_at off len ops.0) }
         ensures refused { OnRefused result (IsSame self.old self.new) }
@@ -275,7 +275,7 @@ impl LoanTable {
         requires there { HasMap self.old map.made_at }
         requires range { off + len ≤ length (buffer_of self.old map.made_at) }
         requires post_alone { has_pre ops.0 ≡ false }
-        requires room { extent_count (bytes_at self.old map.made_at off len) ≤ self.old.spare }
+        requires room { extent_count (load_bytes self.old.loans map.made_at off len) ≤ self.old.spare }
         ensures answer { result ≡ sync_answer self.old.loans map.made_at off len ops.0 }
         ensures done { OnFine result (IsSynced self.old self.new map.made_at off len ops.0) }
         ensures refused { OnRefused result (IsSame self.old self.new) }
@@ -289,7 +289,7 @@ impl LoanTable {
     fn sync(&mut self, map: MapId, off: u64, len: u64, ops: SyncOps) -> Judged
         requires there { HasMap self.old map.made_at }
         requires range { off + len ≤ length (buffer_of self.old map.made_at) }
-        requires room { extent_count (bytes_at self.old map.made_at off len) ≤ self.old.spare }
+        requires room { extent_count (load_bytes self.old.loans map.made_at off len) ≤ self.old.spare }
         ensures answer { result ≡ sync_answer self.old.loans map.made_at off len ops.0 }
         ensures done { OnFine result (IsSynced self.old self.new map.made_at off len ops.0) }
         ensures refused { OnRefused result (IsSame self.old self.new) }
@@ -376,9 +376,9 @@ impl LoanTable {
     pub fn note_dev_write(&mut self, map: MapId, off: u64, len: u64)
         requires there { HasMap self.old map.made_at }
         requires range { off + len ≤ length (buffer_of self.old map.made_at) }
-        requires room { extent_count (bytes_at self.old map.made_at off len) ≤ self.old.spare }
+        requires room { extent_count (load_bytes self.old.loans map.made_at off len) ≤ self.old.spare }
         ensures bytes { self.new.bytes
-            ≡ set_all self.old.bytes (bytes_at self.old map.made_at off len) true }
+            ≡ set_all self.old.bytes (load_bytes self.old.loans map.made_at off len) true }
         ensures loans { self.new.loans ≡ self.old.loans }
         ensures prepared { self.new.prepared ≡ self.old.prepared }
         ensures spare { self.new.spare ≤ self.old.spare }
@@ -432,12 +432,12 @@ impl LoanTable {
     ) -> Result<ExtentList, AllocError>
         requires there { HasMap self.now map.made_at }
         requires range { off + len ≤ length (buffer_of self.now map.made_at) }
-        ensures bytes { IfOk result (λ list. addresses list ≡ bytes_at self.now map.made_at off len) }
+        ensures bytes { IfOk result (λ list. addresses list ≡ load_bytes self.now.loans map.made_at off len) }
         ensures extents { IfOk result (λ list. All IsExtent list) }
         ensures there { IfOk result (λ list. AreIn self.now.bytes (addresses list)) }
         ensures total { IfOk result (λ list. byte_count list ≡ len) }
         ensures count { IfOk result (λ list. length list
-            ≡ extent_count (bytes_at self.now map.made_at off len)) }
+            ≡ extent_count (load_bytes self.now.loans map.made_at off len)) }
     {
         let row = row_of(&self.loans, map.made_at);
         let extents = extents::extents_of(alloc, row.range(off, len))?;
@@ -449,7 +449,7 @@ impl LoanTable {
     pub fn extents(&self, map: MapId, off: u64, len: u64) -> u64
         requires there { HasMap self.now map.made_at }
         requires range { off + len ≤ length (buffer_of self.now map.made_at) }
-        ensures { result ≡ extent_count (bytes_at self.now map.made_at off len) }
+        ensures { result ≡ extent_count (load_bytes self.now.loans map.made_at off len) }
     {
         extents::extent_count(row_of(&self.loans, map.made_at).range(off, len))
     }

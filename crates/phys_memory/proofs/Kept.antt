@@ -10,7 +10,7 @@ use Rattle.std.proofs.lemmas.Map.Made.{lookup-map_values}
 use Rattle.std.proofs.lemmas.Bool.{eq-eqb, ne_eqb}
 use Rattle.busdma_base.specs.Machine.Page.{FrameBytes}
 use Rattle.phys_memory.specs.declared.reach.Reach.{Reach}
-use Rattle.phys_memory.specs.Memory.{Memory, IsMemory, IsRow, has_frame, has_page, with_page, without_row}
+use Rattle.phys_memory.specs.Memory.{Memory, IsMemory, IsReachOf, has_frame, has_page, with_page, without_row}
 use Rattle.phys_memory.specs.Kept.{contents, memory_of, AtTheirFrames}
 use Rattle.phys_memory.proofs.Tables.{get_made, get_removed, got_inserted, got_removed, is_some-inserted}
 use Rattle.phys_memory.proofs.Tables.{made_inserted, made_removed, made_same}
@@ -168,7 +168,7 @@ memory_with_bytes m f bytes is has whole = record {
     number (Some old) e s = is.numbered f old e
 
 -- what is known of a row that was found
-pub row_is : (m : Memory) (v : ℕ) (o : Option Reach) → IsMemory m → get m.table v ≡ o → IfSome o (IsRow m)
+pub row_is : (m : Memory) (v : ℕ) (o : Option Reach) → IsMemory m → get m.table v ≡ o → IfSome o (IsReachOf m)
 row_is m v None is here = tt
 row_is m v (Some r) is here = record {
   reached = is.reached v r here;

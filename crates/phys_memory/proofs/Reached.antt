@@ -5,7 +5,7 @@ use Rattle.std.specs.Prelude.{Option, Some, None, nat_lt, if◌then◌else◌}
 use Rattle.std.specs.FinMap.{get}
 use Rattle.std.proofs.lemmas.Bool.{lt-ltb, le-ltb, cases_lt}
 use Rattle.phys_memory.specs.declared.reach.Reach.{Reach}
-use Rattle.phys_memory.specs.Memory.{Memory, IsMemory, IsRow, has_frame, physical, reached_in, row_at}
+use Rattle.phys_memory.specs.Memory.{Memory, IsMemory, IsReachOf, has_frame, physical, reached_in, row_at}
 use Rattle.phys_memory.specs.Extents.{IsNext}
 use Rattle.phys_memory.proofs.Kept.{row_is}
 use Rattle.phys_memory.proofs.Paged.{HasPage, IsPaged, KeepsPlaces, next_in_page}
@@ -50,7 +50,7 @@ memory_places m a p h = placed (row_at m a) h
     placed (Some r) e = inside r.frame (nat_lt (a % 4096) r.reach) e
 
 -- the extent that a row gives
-pub next_is : (m : Memory) (at n left : ℕ) (r : Reach) → row_at m at ≡ Some r → IsRow m r → at % 4096 < r.reach →
+pub next_is : (m : Memory) (at n left : ℕ) (r : Reach) → row_at m at ≡ Some r → IsReachOf m r → at % 4096 < r.reach →
     0 < left → n ≡ min (r.reach - at % 4096) left →
     IsNext (physical m) at left (record { pa = record { 0 = r.frame * 4096 + at % 4096 }; len = n })
 next_is m at n left r here is inside some e =
@@ -89,7 +89,7 @@ IsHeld m pa = has_frame m (pa / 4096) ≡ true
 address_of : (m : Memory) (va p : ℕ) → IsMemory m → physical m va ≡ Some p → (p < 2 ^ 42) × IsHeld m p
 address_of m va p is h = in_row (row_at m va) refl h
   where
-    inside : (r : Reach) (t : Bool) → IsRow m r →
+    inside : (r : Reach) (t : Bool) → IsReachOf m r →
         ◌≡◌ {A = Option ℕ} (if t then Some (4096 * r.frame + va % 4096) else None) (Some p) → (p < 2 ^ 42) × IsHeld m p
     inside r true row e =
         let a : 4096 * r.frame + va % 4096 ≡ p = cc in
@@ -99,7 +99,7 @@ address_of m va p is h = in_row (row_at m va) refl h
     inside r false row e = absurd (cc)
 
     found : (t : Bool) (r : Reach) → ◌≡◌ {A = Option Reach} (if t then get m.table (va / 4096) else None) (Some r) →
-        IsRow m r
+        IsReachOf m r
     found true r e = row_is m (va / 4096) (Some r) is e
     found false r e = absurd (cc)
 

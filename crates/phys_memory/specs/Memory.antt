@@ -99,7 +99,7 @@ pub record IsMemory (m : Memory) : Type 0 where
   pub whole : (f : ℕ) (bytes : List ℕ) → get m.frames f ≡ Some bytes → length bytes ≡ 4096
 
 -- what is known of a row of a memory
-pub record IsRow (m : Memory) (r : Reach) : Type 0 where
+pub record IsReachOf (m : Memory) (r : Reach) : Type 0 where
   pub reached : r.reach ≤ 4096
   pub there : has_frame m r.frame ≡ true
   pub numbered : r.frame < 2 ^ 30

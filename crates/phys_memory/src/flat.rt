@@ -4,7 +4,7 @@ ghost use Rattle.std.specs.Prelude.{◌≡◌, ℕ, ◌+◌, ◌-◌, ◌*◌, �
 ghost use Rattle.std.specs.Prelude.{[]};
 ghost use Rattle.std.specs.Iterator.{HoldsAlong, YieldsFirst, item_count};
 ghost use Rattle.busdma_base.specs.Machine.Entry.{IsStream, parts_of};
-ghost use Rattle.phys_memory.specs.Memory.{IsMemory, IsRow, physical, row_at};
+ghost use Rattle.phys_memory.specs.Memory.{IsMemory, IsReachOf, physical, row_at};
 ghost use Rattle.phys_memory.specs.Extents.{IsNext, reached};
 ghost use Rattle.phys_memory.specs.Walk.{flat, flat_at, run_stream};
 ghost use Rattle.phys_memory.specs.Vector.{IfAll, one_span, vector, vector_walk};
@@ -131,7 +131,7 @@ impl LanePages {
     // The row of the page of a virtual address.
     fn row_at(&self, at: u128) -> Option<Reach>
         ensures is { result ≡ row_at self.now.memory at }
-        ensures row { IfSome result (IsRow self.now.memory) }
+        ensures row { IfSome result (IsReachOf self.now.memory) }
     {
         if at >= 1 << 64 {
             return None;

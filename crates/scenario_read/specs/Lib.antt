@@ -11,4 +11,5 @@ pub mod Order
 pub mod Pages
 pub mod Scenario
 pub mod Script
+pub mod Uncut
 pub mod Words

@@ -4,7 +4,6 @@ use Rattle.busdma_base.specs.declared.scenarios.script.Op.{Op}
 use Rattle.busdma_base.specs.declared.scenarios.script.Op.TheVariants as op
 use Rattle.busdma_base.specs.declared.tags.tag.TagLimits.{TagLimits}
 use Rattle.busdma_base.specs.Scenarios.Operations.{bytes_of}
-use Rattle.busdma_base.specs.Scenarios.Script.{cuts_no_page}
 use Rattle.json_fields.specs.Place.{Place, key}
 use Rattle.json_fields.specs.Read.{Read, ◌>>=◌, refuse}
 use Rattle.json_fields.specs.declared.refusal.RefusalKind.TheVariants.{BadField}
@@ -19,6 +18,7 @@ use Rattle.scenario_read.specs.Counts.{having_loaded, access_judged, read_judged
 use Rattle.scenario_read.specs.Flags.{flags_field, ops_field}
 use Rattle.scenario_read.specs.Items.{then_field}
 use Rattle.scenario_read.specs.Names.{new_name, used_name, parent_or_none}
+use Rattle.scenario_read.specs.Uncut.{cuts_no_page}
 
 -- a tag that limits nothing but its exclusion window's end, the size of its loads and that of a segment
 abbrev pub limits_of : ℕ → ℕ → ℕ → ℕ → TagLimits

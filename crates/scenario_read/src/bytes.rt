@@ -2,10 +2,10 @@
 
 ghost use Rattle.std.specs.Prelude.{◌≡◌, length, IfOk};
 ghost use Rattle.busdma_base.specs.Scenarios.Operations.{bytes_of};
-ghost use Rattle.busdma_base.specs.Scenarios.Script.{LiesInPage};
 ghost use Rattle.json_fields.specs.Read.{Gives};
 ghost use Rattle.json_fields.specs.Field.{spot_of};
 ghost use Rattle.scenario_read.specs.Bytes as bytes;
+ghost use Rattle.scenario_read.specs.Uncut.{LiesInPage};
 
 use crate::pages::PAGE;
 use busdma_base::{Bytes, Place, Va};

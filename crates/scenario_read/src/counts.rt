@@ -1,7 +1,7 @@
 //! What is counted for the limits.
 
 ghost use Rattle.std.specs.Prelude.{◌≡◌, ◌≤◌, OnOk};
-ghost use Rattle.busdma_base.specs.Scenarios.Limits.{access_limit};
+ghost use Rattle.busdma_base.specs.Scenarios.Limits.{access_limit, buffer_limit};
 ghost use Rattle.json_fields.specs.Place.{place_of};
 ghost use Rattle.json_fields.specs.Read.{Gives};
 ghost use Rattle.scenario_read.specs.Counts.{IsWithin, stepped, having_read, having_loaded};
@@ -53,6 +53,7 @@ impl Counts {
     pub fn load(&mut self, here: &Node, len: u64) -> Result<(), Stop>
         requires { IsWithin self.old }
         ensures value { Gives result (load_judged self.old len (place_of here.now.path)) }
+        ensures small { OnOk result (len ≤ buffer_limit) }
         ensures counted { OnOk result (self.new ≡ having_loaded self.old len) }
         ensures within { OnOk result (IsWithin self.new) }
     {

@@ -3,11 +3,12 @@
 ghost use Rattle.std.specs.Prelude.{◌≡◌, ◌≤◌, length, IfOk};
 ghost use Rattle.busdma_base.specs.Scenarios.Names.{IsMade};
 ghost use Rattle.busdma_base.specs.Scenarios.Operations.{map_at};
-ghost use Rattle.busdma_base.specs.Scenarios.Script.{IsOp, LiesInPage};
+ghost use Rattle.busdma_base.specs.Scenarios.Script.{IsOp};
 ghost use Rattle.json_fields.specs.Read.{Gives};
 ghost use Rattle.json_fields.specs.Field.{spot_of};
 ghost use Rattle.scenario_read.specs.Counts.{IsWithin, with_op};
 ghost use Rattle.scenario_read.specs.Ops.{load_head_at, load_at};
+ghost use Rattle.scenario_read.specs.Uncut.{LiesInPage};
 ghost use Rattle.busdma_base.specs.Scenarios.Limits.{steps_limit};
 
 use crate::bytes::{load_length, target};

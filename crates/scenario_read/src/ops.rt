@@ -1,11 +1,12 @@
 //! The operations of a script.
 
 ghost use Rattle.std.specs.Prelude.{◌≡◌, ◌≤◌, length, IfOk, true};
-ghost use Rattle.busdma_base.specs.Scenarios.Script.{IsOp, IsPlain, cuts_no_page};
+ghost use Rattle.busdma_base.specs.Scenarios.Script.{IsOp};
 ghost use Rattle.json_fields.specs.Read.{Gives};
 ghost use Rattle.json_fields.specs.Field.{spot_of};
 ghost use Rattle.scenario_read.specs.Counts.{IsWithin, IsQuiet, with_op};
 ghost use Rattle.scenario_read.specs.Ops as ops;
+ghost use Rattle.scenario_read.specs.Uncut.{IsPlain, cuts_no_page};
 ghost use Rattle.busdma_base.specs.Scenarios.Limits.{steps_limit};
 
 use crate::bytes::{count_of, target, written};

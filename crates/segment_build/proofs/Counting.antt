@@ -15,7 +15,7 @@ use Rattle.busdma_base.specs.Runs.{addresses, byte_count, run_of}
 use Rattle.busdma_base.specs.Machine.Entry.{entries_bytes, entry_addresses}
 use Rattle.busdma_base.specs.Tags.Tag.{IsEffective}
 use Rattle.busdma_base.specs.Tags.TagFlags.{keep_pg_offset}
-use Rattle.segment_build.specs.Building.{IsSound, placed_pieces, tag_placed}
+use Rattle.segment_build.specs.Building.{IsPlaceable, placed_pieces, tag_placed}
 use Rattle.segment_build.specs.Chunks.{bounced_of, chunk_limit, chunk_of, chunks_from, chunks_of, chunks_of_bytes}
 use Rattle.segment_build.specs.Chunks.{chunks_within, need_of}
 use Rattle.segment_build.specs.Pieces.{chunk_pieces, pieces_of}
@@ -135,7 +135,7 @@ pub chunks_bytes : (t : TagLimits) (m : ℕ) (es : List Entry) → IsEffective t
 chunks_bytes t m es e = from_bytes t m 0 es e
 
 -- no more pages than bytes
-pub need_small : (t : TagLimits) (cs : List Chunk) → AllByRecursion (IsSound t) cs → need_of cs ≤ chunk_bytes cs
+pub need_small : (t : TagLimits) (cs : List Chunk) → AllByRecursion (IsPlaceable t) cs → need_of cs ≤ chunk_bytes cs
 need_small t [] h = omega arith
 need_small t (c ∷ cs) h =
     let some = h.0.some in
@@ -146,6 +146,6 @@ need_small t (c ∷ cs) h =
     ]
 
 -- no more chunks than bytes
-pub chunks_few : (t : TagLimits) (cs : List Chunk) → AllByRecursion (IsSound t) cs → length cs ≤ chunk_bytes cs
+pub chunks_few : (t : TagLimits) (cs : List Chunk) → AllByRecursion (IsPlaceable t) cs → length cs ≤ chunk_bytes cs
 chunks_few t [] h = omega arith
 chunks_few t (c ∷ cs) h = let some = h.0.some in omega (arith, chunks_few t cs h.1, sum_by-cons chunk_len c cs)

@@ -13,7 +13,7 @@ use Rattle.busdma_base.specs.declared.tags.tag.TagLimits.{TagLimits}
 use Rattle.busdma_base.specs.Runs.{run_of}
 use Rattle.busdma_base.specs.Tags.Tag.{IsEffective}
 use Rattle.busdma_base.specs.Tags.TagFlags.{keep_pg_offset}
-use Rattle.segment_build.specs.Building.{IsSound, placed_pieces}
+use Rattle.segment_build.specs.Building.{IsPlaceable, placed_pieces}
 use Rattle.segment_build.specs.Pieces.{chunk_pieces, piece_len, pieces_of}
 use Rattle.segment_build.specs.Trace.{IsPage, bus_addresses, chunk_len, first_page, in_page, page_offset, placed}
 use Rattle.segment_build.proofs.Places.{pieces_step, piece_some, piece_fits}
@@ -96,7 +96,7 @@ as_many_pieces (suc n) t f q (suc left) eff l i =
 -- ---- chunks
 
 -- a bounced chunk in some page, and in the page at 0
-in_any_page : (t : TagLimits) (c : Chunk) (page other : Pa) → IsEffective t → IsSound t c → c.bounced ≡ true →
+in_any_page : (t : TagLimits) (c : Chunk) (page other : Pa) → IsEffective t → IsPlaceable t c → c.bounced ≡ true →
     IsPage page → IsPage other → length (pieces_of t (bus_addresses (in_page (keep_pg_offset t.flags) page c)))
     ≡ length (pieces_of t (bus_addresses (in_page (keep_pg_offset t.flags) other c)))
 in_any_page t c page other eff sound b p o =
@@ -119,7 +119,7 @@ pages_later [] h = tt
 pages_later (p ∷ ps) h = h.1
 
 -- chunks have as many pieces in whichever pages
-pub as_many : (t : TagLimits) (cs : List Chunk) (xs ys : List Pa) → IsEffective t → AllByRecursion (IsSound t) cs →
+pub as_many : (t : TagLimits) (cs : List Chunk) (xs ys : List Pa) → IsEffective t → AllByRecursion (IsPlaceable t) cs →
     AllByRecursion IsPage xs → AllByRecursion IsPage ys →
     length (placed_pieces t cs xs) ≡ length (placed_pieces t cs ys)
 as_many t [] xs ys eff h p q = refl

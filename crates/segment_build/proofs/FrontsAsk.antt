@@ -17,7 +17,7 @@ use Rattle.busdma_base.specs.Machine.Entry.{part_bytes, parts_of}
 use Rattle.busdma_base.specs.Runs.{IsExtent, addresses, byte_count, run_of}
 use Rattle.busdma_base.specs.Tags.Tag.{IsEffective}
 use Rattle.busdma_base.specs.Tags.TagFlags.{keep_pg_offset}
-use Rattle.segment_build.specs.Building.{IsSound, placed_pieces}
+use Rattle.segment_build.specs.Building.{IsPlaceable, placed_pieces}
 use Rattle.segment_build.specs.Chunks.{chunks_from, chunks_of, chunks_of_bytes, need_of}
 use Rattle.segment_build.specs.Conditions.{HasRooms}
 use Rattle.segment_build.specs.Pieces.{chunk_pieces, pieces_of}
@@ -163,8 +163,8 @@ front_need cs ds f =
       last_need f.last f.other f.longer,
     )
 
-longer_pieces : (t : TagLimits) (c d : Chunk) (ds : List Chunk) (pages : List Pa) → IsEffective t → IsSound t c →
-    IsSound t d → IsLonger c d → length (placed_pieces t (c ∷ []) pages) ≤ length (placed_pieces t (d ∷ ds) pages)
+longer_pieces : (t : TagLimits) (c d : Chunk) (ds : List Chunk) (pages : List Pa) → IsEffective t → IsPlaceable t c →
+    IsPlaceable t d → IsLonger c d → length (placed_pieces t (c ∷ []) pages) ≤ length (placed_pieces t (d ∷ ds) pages)
 longer_pieces t c d ds pages eff sc sd l =
     let keep = keep_pg_offset t.flags in
     let len = l.len in
@@ -204,21 +204,21 @@ longer_pieces t c d ds pages eff sc sd l =
     ]) refl
 
 last_pieces : (t : TagLimits) (o : Option Chunk) (other : List Chunk) (pages : List Pa) → IsEffective t →
-    AllByRecursion (IsSound t) (option_to_list o) → AllByRecursion (IsSound t) other →
+    AllByRecursion (IsPlaceable t) (option_to_list o) → AllByRecursion (IsPlaceable t) other →
     IfSome o (λ c. BeginsLonger c other) →
     length (placed_pieces t (option_to_list o) pages) ≤ length (placed_pieces t other pages)
 last_pieces t None other pages eff x y h = omega arith
 last_pieces t (Some c) [] pages eff x y h = absurd h
 last_pieces t (Some c) (d ∷ ds) pages eff x y h = longer_pieces t c d ds pages eff x.0 y.0 h
 
-front_pieces : (t : TagLimits) (cs ds : List Chunk) (pages : List Pa) → IsEffective t → AllByRecursion (IsSound t) cs →
-    AllByRecursion (IsSound t) ds → IsFront cs ds →
+front_pieces : (t : TagLimits) (cs ds : List Chunk) (pages : List Pa) → IsEffective t → AllByRecursion (IsPlaceable t) cs →
+    AllByRecursion (IsPlaceable t) ds → IsFront cs ds →
     length (placed_pieces t cs pages) ≤ length (placed_pieces t ds pages)
 front_pieces t cs ds pages eff x y f =
     let own = option_to_list f.last in
     let left = drop (need_of f.shared) pages in
-    let a = all_second (IsSound t) f.shared own (subst (AllByRecursion (IsSound t)) f.front_is x) in
-    let b = all_second (IsSound t) f.shared f.other (subst (AllByRecursion (IsSound t)) f.whole_is y) in
+    let a = all_second (IsPlaceable t) f.shared own (subst (AllByRecursion (IsPlaceable t)) f.front_is x) in
+    let b = all_second (IsPlaceable t) f.shared f.other (subst (AllByRecursion (IsPlaceable t)) f.whole_is y) in
     omega (
       arith,
       ap (λ xs. length (placed_pieces t xs pages)) f.front_is,

@@ -15,7 +15,7 @@ use Rattle.busdma_base.specs.Machine.Entry.{IsEntry, entry_addresses}
 use Rattle.busdma_base.specs.Runs.{byte_count, run_of}
 use Rattle.busdma_base.specs.Tags.Tag.{IsEffective, could_bounce, excluded, needs_bounce}
 use Rattle.busdma_base.specs.Tags.TagFlags.{keep_pg_offset}
-use Rattle.segment_build.specs.Building.{IsSound, placed_pieces, tag_placed}
+use Rattle.segment_build.specs.Building.{IsPlaceable, placed_pieces, tag_placed}
 use Rattle.segment_build.specs.Built.{IsFew}
 use Rattle.segment_build.specs.Chunks.{chunk_limit, chunk_of, chunks_from, chunks_of, chunks_of_bytes, chunks_within}
 use Rattle.segment_build.specs.Obeying.{BeginsWith, HasAlignedSizes, IsObeying, IsReachable, Obeys, segments_bytes}
@@ -136,7 +136,7 @@ record StartsWell (t : TagLimits) (c : Chunk) : Type 0 where
   reached : AllByRecursion (IsReachedAt t) (bus_addresses c)
   is_placed : IsPlaced c
 
-own_well : (t : TagLimits) (m : ℕ) (c : Chunk) → IsEffective t → IsSound t c →
+own_well : (t : TagLimits) (m : ℕ) (c : Chunk) → IsEffective t → IsPlaceable t c →
     IsJudged t m c → c.bounced ≡ false → StartsWell t c
 own_well t m c eff sound judged b =
     let own = sound.own b in
@@ -167,7 +167,7 @@ own_well t m c eff sound judged b =
     first_inside c own b = let inside =
         own.inside.in_frame in omega (arith, ap (λ (a : Pa). a.0 % 4096) (own_start c own b))
 
-paged_well : (t : TagLimits) (c : Chunk) (page : Pa) → IsEffective t → IsSound t c → c.bounced ≡ true →
+paged_well : (t : TagLimits) (c : Chunk) (page : Pa) → IsEffective t → IsPlaceable t c → c.bounced ≡ true →
     IsReachable t page → StartsWell t (in_page (keep_pg_offset t.flags) page c)
 paged_well t c page eff sound b p =
     let keep = keep_pg_offset t.flags in
@@ -213,7 +213,7 @@ pages_later t [] h = tt
 pages_later t (p ∷ ps) h = h.1
 
 all_well : (t : TagLimits) (m : ℕ) (cs : List Chunk) (pages : List Pa) → IsEffective t →
-    AllByRecursion (IsSound t) cs → AllByRecursion (IsJudged t m) cs → AllByRecursion (IsReachable t) pages →
+    AllByRecursion (IsPlaceable t) cs → AllByRecursion (IsJudged t m) cs → AllByRecursion (IsReachable t) pages →
     AllByRecursion (StartsWell t) (tag_placed t cs pages)
 all_well t m [] pages eff s j p = tt
 all_well t m (c ∷ cs) pages eff s j p =

@@ -18,7 +18,7 @@ use Rattle.busdma_base.specs.Machine.Entry.{part_bytes, unmapped_of}
 use Rattle.busdma_base.specs.Tags.Tag.{IsEffective}
 use Rattle.busdma_base.specs.Tags.TagFlags.{keep_pg_offset}
 use Rattle.segment_build.specs.declared.cutter.Cutter.{Cutter}
-use Rattle.segment_build.specs.Building.{IsSound, placed_pieces}
+use Rattle.segment_build.specs.Building.{IsPlaceable, placed_pieces}
 use Rattle.segment_build.specs.Chunks.{chunks_of, need_of}
 use Rattle.segment_build.specs.Cutting.{after, after_part, closed, closed_part, opened, uncut}
 use Rattle.segment_build.specs.Pieces.{chunk_pieces, piece_len, pieces_of}
@@ -96,8 +96,8 @@ stream_at t m ps h = omega (arith, after_at t m uncut ps, bytes_split ps, ap byt
 -- what holds of a stream's chunks
 pub record Holds (t : TagLimits) (m : ℕ) (ps : List Part) : Type 0 where
   pub chunks : closed t m uncut ps ++ option_to_list (after t m uncut ps).last ≡ chunks_of t m (entries_of ps)
-  pub sound : AllByRecursion (IsSound t) (closed t m uncut ps)
-  pub last_sound : IfSome (after t m uncut ps).last (IsSound t)
+  pub sound : AllByRecursion (IsPlaceable t) (closed t m uncut ps)
+  pub last_sound : IfSome (after t m uncut ps).last (IsPlaceable t)
   pub at : (after t m uncut ps).at ≡ entries_bytes (entries_of ps)
   pub bytes : chunk_bytes (closed t m uncut ps) + chunk_bytes (option_to_list (after t m uncut ps).last) ≤ 2 ^ 20
   pub need : need_of (closed t m uncut ps) ≤ 2 ^ 20
@@ -107,7 +107,7 @@ holds t m ps eff h =
     let cs = closed t m uncut ps in
     let last = option_to_list (after t m uncut ps).last in
     let all = chunks_are t m ps eff h in
-    let sound = subst (AllByRecursion (IsSound t)) (sym all) (chunks_sound t m (entries_of ps) eff h.entries) in
+    let sound = subst (AllByRecursion (IsPlaceable t)) (sym all) (chunks_sound t m (entries_of ps) eff h.entries) in
     let small = h.bytes in
     let bytes : chunk_bytes cs + chunk_bytes last ≤ 2 ^ 20 =
     omega (
@@ -119,22 +119,22 @@ holds t m ps eff h =
     ) in
     record {
       chunks = all;
-      sound = all_first (IsSound t) cs last sound;
-      last_sound = if_listed (IsSound t) (after t m uncut ps).last (all_second (IsSound t) cs last sound);
+      sound = all_first (IsPlaceable t) cs last sound;
+      last_sound = if_listed (IsPlaceable t) (after t m uncut ps).last (all_second (IsPlaceable t) cs last sound);
       at = stream_at t m ps h;
       bytes = bytes;
-      need = omega (arith, need_small t cs (all_first (IsSound t) cs last sound), bytes);
+      need = omega (arith, need_small t cs (all_first (IsPlaceable t) cs last sound), bytes);
     }
 
 -- what holds at the next part of a stream
 pub record HoldsAt (t : TagLimits) (m : ℕ) (ps : List Part) (p : Part) : Type 0 where
   pub part : IsPart p
   pub fits : (after t m uncut ps).at + part_bytes p ≤ 2 ^ 20
-  pub sound : IfSome (closed_part (after t m uncut ps) p) (IsSound t)
+  pub sound : IfSome (closed_part (after t m uncut ps) p) (IsPlaceable t)
   pub closed_are : closed t m uncut (ps ++ p ∷ []) ≡ closed t m uncut ps
       ++ option_to_list (closed_part (after t m uncut ps) p)
   pub after_is : after t m uncut (ps ++ p ∷ []) ≡ after_part t m (after t m uncut ps) p
-  pub chunks : AllByRecursion (IsSound t) (closed t m uncut ps)
+  pub chunks : AllByRecursion (IsPlaceable t) (closed t m uncut ps)
   pub bytes : chunk_bytes (closed t m uncut ps) ≤ 2 ^ 20
   pub need : need_of (closed t m uncut ps) ≤ 2 ^ 20
 
@@ -148,7 +148,7 @@ holds_at t m ps p eff h =
     closed_append t m uncut ps (p ∷ []) ∙ ap (λ xs. cs ++ xs) (append-nil one) in
     let next = after_append t m uncut ps (p ∷ []) in
     let small = h.bytes in
-    let sound = subst (AllByRecursion (IsSound t)) more all.sound in
+    let sound = subst (AllByRecursion (IsPlaceable t)) more all.sound in
     let bytes : chunk_bytes cs ≤ 2 ^ 20 =
     omega (arith, sum_by-append chunk_len cs one, ap chunk_bytes more, all.bytes) in
     record {
@@ -156,12 +156,12 @@ holds_at t m ps p eff h =
           last_of_all IsPart ps p (each_part (ps ++ p ∷ [])
           (subst (AllByRecursion IsExtent) (sym h.opens) tt) h.entries);
       fits = omega (arith, all.at, ap (λ (s : Cutter). s.at) next, part_at t m (after t m uncut ps) p, small);
-      sound = if_listed (IsSound t) (closed_part (after t m uncut ps) p) (all_second (IsSound t) cs one sound);
+      sound = if_listed (IsPlaceable t) (closed_part (after t m uncut ps) p) (all_second (IsPlaceable t) cs one sound);
       closed_are = more;
       after_is = next;
-      chunks = all_first (IsSound t) cs one sound;
+      chunks = all_first (IsPlaceable t) cs one sound;
       bytes = bytes;
-      need = omega (arith, need_small t cs (all_first (IsSound t) cs one sound), bytes);
+      need = omega (arith, need_small t cs (all_first (IsPlaceable t) cs one sound), bytes);
     }
 
 -- ---- how many pieces
@@ -175,7 +175,7 @@ run_few : (t : TagLimits) (a n : ℕ) → IsEffective t → length (pieces_of t 
 run_few t a n eff = omega (arith, ap length (pieces_are_from t a n eff.maxsegsz), from_few n t a n)
 
 -- a chunk that is not bounced lies on the bus where its bytes are
-pub own_run : (t : TagLimits) (c : Chunk) → IsSound t c → c.bounced ≡ false →
+pub own_run : (t : TagLimits) (c : Chunk) → IsPlaceable t c → c.bounced ≡ false →
     bus_addresses c ≡ run_of c.first.pa.0 (chunk_len c)
 own_run t c h b =
     let own = h.own b in
@@ -189,7 +189,7 @@ own_run t c h b =
     no_page (Some x) e = absurd cc
 
 -- no more pieces than bytes
-pub pieces_few : (t : TagLimits) (cs : List Chunk) (pages : List Pa) → IsEffective t → AllByRecursion (IsSound t) cs →
+pub pieces_few : (t : TagLimits) (cs : List Chunk) (pages : List Pa) → IsEffective t → AllByRecursion (IsPlaceable t) cs →
     length (placed_pieces t cs pages) ≤ chunk_bytes cs
 pieces_few t [] pages eff h = omega arith
 pieces_few t (c ∷ cs) pages eff h =

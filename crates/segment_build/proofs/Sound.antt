@@ -17,7 +17,7 @@ use Rattle.busdma_base.specs.Runs.{IsExtent, run_of, addresses, byte_count}
 use Rattle.busdma_base.specs.Machine.Entry.{IsEntry, entry_addresses}
 use Rattle.busdma_base.specs.Tags.Tag.{IsEffective, needs_bounce}
 use Rattle.busdma_base.specs.Tags.TagFlags.{keep_pg_offset}
-use Rattle.segment_build.specs.Building.{IsSound, tag_placed}
+use Rattle.segment_build.specs.Building.{IsPlaceable, tag_placed}
 use Rattle.segment_build.specs.Chunks.{rounded_up, to_frame_end, chunk_limit, first_extent, extent_from, chunk_of}
 use Rattle.segment_build.specs.Chunks.{chunks_within, chunks_of_bytes, chunks_from, chunks_of}
 use Rattle.segment_build.specs.Trace.{IsPage, IsPlaced, chunk_len, first_page, in_page, page_offset, placed}
@@ -91,7 +91,7 @@ made_len t m at a bs =
     omega (arith, two_extents (first_extent (a ∷ bs)) (drop n (a ∷ bs)), length-drop n (a ∷ bs))
 
 made_sound : (t : TagLimits) (m : ℕ) (r : Bool) (at a : ℕ) (bs : List ℕ) → IsEffective t → IsLow a →
-    length (a ∷ bs) ≤ chunk_limit t m r a → IsSound t (chunk_of t m at (a ∷ bs))
+    length (a ∷ bs) ≤ chunk_limit t m r a → IsPlaceable t (chunk_of t m at (a ∷ bs))
 made_sound t m r at a bs e low h =
     let len = made_len t m at a bs in
     record {
@@ -131,16 +131,16 @@ all_append P [] ys h i = i
 all_append P (x ∷ xs) ys h i = (h.0, all_append P xs ys h.1 i)
 
 first_sound : (t : TagLimits) (m : ℕ) (r : Bool) (at a : ℕ) (bs : List ℕ) → IsEffective t → IsLow a →
-    IsSound t (chunk_of t m at (take (chunk_limit t m r a) (a ∷ bs)))
+    IsPlaceable t (chunk_of t m at (take (chunk_limit t m r a) (a ∷ bs)))
 first_sound t m r at a bs e low =
     let most = chunk_limit t m r a in
     let reaches = limit_reaches t m r a e in
     let is : most ≡ suc (most - 1) = omega arith in
-    subst (λ (k : ℕ). IsSound t (chunk_of t m at (take k (a ∷ bs)))) (sym is)
+    subst (λ (k : ℕ). IsPlaceable t (chunk_of t m at (take k (a ∷ bs)))) (sym is)
     (made_sound t m r at a (take (most - 1) bs) e low (omega (arith, length-take (most - 1) bs)))
 
 within_sound : (n : ℕ) (t : TagLimits) (m : ℕ) (r : Bool) (at : ℕ) (bs : List ℕ) → IsEffective t →
-    AllByRecursion IsLow bs → AllByRecursion (IsSound t) (chunks_within n t m r at bs)
+    AllByRecursion IsLow bs → AllByRecursion (IsPlaceable t) (chunks_within n t m r at bs)
 within_sound zero t m r at bs e h = tt
 within_sound (suc n) t m r at [] e h = tt
 within_sound (suc n) t m r at (a ∷ bs) e h = (
@@ -161,16 +161,16 @@ addresses_low (e ∷ es) h =
     all_append IsLow (run_of e.pa.0 e.len) (addresses es) (run_low e.pa.0 e.len (omega arith)) (addresses_low es h.1)
 
 from_sound : (t : TagLimits) (m at : ℕ) (es : List Entry) → IsEffective t → AllByRecursion IsEntry es →
-    AllByRecursion (IsSound t) (chunks_from t m at es)
+    AllByRecursion (IsPlaceable t) (chunks_from t m at es)
 from_sound t m at [] e h = tt
 from_sound t m at (x ∷ xs) e h =
-    all_append (IsSound t) (chunks_of_bytes t m x.rounded at (entry_addresses x))
+    all_append (IsPlaceable t) (chunks_of_bytes t m x.rounded at (entry_addresses x))
     (chunks_from t m (at + byte_count x.parts) xs)
     (within_sound (length (entry_addresses x)) t m x.rounded at (entry_addresses x) e
     (addresses_low x.parts h.0.extents)) (from_sound t m (at + byte_count x.parts) xs e h.1)
 
 pub chunks_sound : (t : TagLimits) (m : ℕ) (es : List Entry) → IsEffective t → AllByRecursion IsEntry es →
-    AllByRecursion (IsSound t) (chunks_of t m es)
+    AllByRecursion (IsPlaceable t) (chunks_of t m es)
 chunks_sound t m es e h = from_sound t m 0 es e h
 
 -- ---- chunks in their pages
@@ -183,7 +183,7 @@ pages_later : (pages : List Pa) → AllByRecursion IsPage pages → AllByRecursi
 pages_later [] h = tt
 pages_later (p ∷ ps) h = h.1
 
-in_page_placed : (t : TagLimits) (c : Chunk) (page : Pa) → IsSound t c → c.bounced ≡ true → IsPage page →
+in_page_placed : (t : TagLimits) (c : Chunk) (page : Pa) → IsPlaceable t c → c.bounced ≡ true → IsPage page →
     IsPlaced (in_page (keep_pg_offset t.flags) page c)
 in_page_placed t c page sound b p =
     let fits = sound.fits b in
@@ -197,7 +197,7 @@ in_page_placed t c page sound b p =
     }
 
 -- chunks in their pages are in their places
-pub placed_are : (t : TagLimits) (cs : List Chunk) (pages : List Pa) → AllByRecursion (IsSound t) cs →
+pub placed_are : (t : TagLimits) (cs : List Chunk) (pages : List Pa) → AllByRecursion (IsPlaceable t) cs →
     AllByRecursion IsPage pages → AllByRecursion IsPlaced (tag_placed t cs pages)
 placed_are t [] pages h p = tt
 placed_are t (c ∷ cs) pages h p =

@@ -19,7 +19,7 @@ abbrev pub placed_pieces : TagLimits → List Chunk → List Pa → List Segment
 placed_pieces t cs pages = chunk_pieces t (tag_placed t cs pages)
 
 -- a chunk that is not bounced is in its place, and one that is bounced fits into a page
-pub record IsSound (t : TagLimits) (c : Chunk) : Type 0 where
+pub record IsPlaceable (t : TagLimits) (c : Chunk) : Type 0 where
   pub own : c.bounced ≡ false → IsPlaced c
   pub some : 0 < chunk_len c
   pub fits : c.bounced ≡ true → page_offset (keep_pg_offset t.flags) c.first.pa.0 + chunk_len c ≤ 4096

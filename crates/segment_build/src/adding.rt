@@ -2,7 +2,7 @@
 
 ghost use Rattle.std.specs.Prelude.{◌≡◌, ◌+◌, ◌<◌, ◌≤◌, [], ◌∷◌, ◌++◌, drop, length, min, true, false, Ok, OnOk, IsOk};
 ghost use Rattle.std.specs.List.{AllByRecursion};
-ghost use Rattle.segment_build.specs.Building.{IsSound, placed_pieces, tag_placed};
+ghost use Rattle.segment_build.specs.Building.{IsPlaceable, placed_pieces, tag_placed};
 ghost use Rattle.segment_build.specs.Chunks.{bounced_of, need_of};
 ghost use Rattle.segment_build.specs.Joining.{added_all};
 ghost use Rattle.segment_build.specs.Trace.{IsPage, IsPlaced};
@@ -25,7 +25,7 @@ pub(crate) fn add_chunk(
 ) -> Result<bool, AllocError>
     requires size { 0 < limits.now.maxsegsz }
     requires pages { AllByRecursion IsPage pages.now }
-    requires sound { IsSound limits.now chunk }
+    requires sound { IsPlaceable limits.now chunk }
     requires page { chunk.bounced ≡ true → length bounced.old.items < length pages.now }
     requires few { length list.old.items ≤ limits.now.nsegments }
     ensures bounced { let own = tag_placed limits.now (chunk ∷ []) (drop (length bounced.old.items) pages.now) in

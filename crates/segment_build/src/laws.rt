@@ -6,7 +6,7 @@ ghost use Rattle.busdma_base.specs.Each.{EachAfter};
 ghost use Rattle.busdma_base.specs.Machine.Entry.{IsEntry, entry_addresses};
 ghost use Rattle.busdma_base.specs.Runs.{addresses};
 ghost use Rattle.busdma_base.specs.Tags.Tag.{IsEffective};
-ghost use Rattle.segment_build.specs.Building.{IsSound, placed_pieces, tag_placed};
+ghost use Rattle.segment_build.specs.Building.{IsPlaceable, placed_pieces, tag_placed};
 ghost use Rattle.segment_build.specs.Built.{IsFew};
 ghost use Rattle.segment_build.specs.Chunks.{chunks_of};
 ghost use Rattle.segment_build.specs.Obeying.{IsReachable, Obeys};
@@ -34,7 +34,7 @@ pub fn chunks_cover(tag: &Tag, maxmem: u64, entries: &[Entry], pages: &[Pa])
     ensures bytes { flat_map (λ c. addresses (chunk_extents c)) (chunks_of tag.now maxmem entries.now)
         ≡ flat_map entry_addresses entries.now }
     ensures at { EachAfter (λ before c. c.at ≡ sum_by chunk_len before) [] (chunks_of tag.now maxmem entries.now) }
-    ensures sound { AllByRecursion (IsSound tag.now) (chunks_of tag.now maxmem entries.now) }
+    ensures sound { AllByRecursion (IsPlaceable tag.now) (chunks_of tag.now maxmem entries.now) }
     ensures placed { AllByRecursion IsPlaced (tag_placed tag.now (chunks_of tag.now maxmem entries.now) pages.now) }
 {
     tag_is_effective(tag);

@@ -5,7 +5,7 @@ ghost use Rattle.std.specs.Iterator.{Drains, HoldsAlong, IsFinite};
 ghost use Rattle.std.specs.Option.{option_to_list, option_or};
 ghost use Rattle.busdma_base.specs.declared.machine.chunk.Part.{Part};
 ghost use Rattle.busdma_base.specs.Machine.Entry.{IsStream, unmapped_of};
-ghost use Rattle.segment_build.specs.Building.{IsSound, placed_pieces};
+ghost use Rattle.segment_build.specs.Building.{IsPlaceable, placed_pieces};
 ghost use Rattle.segment_build.specs.Chunks.{need_of};
 ghost use Rattle.segment_build.specs.Streams.{IsMeasured};
 
@@ -66,7 +66,7 @@ impl Tally {
     // Counts a chunk, where there is one.
     fn add(&mut self, limits: &TagLimits, chunk: Option<Chunk>)
         requires size { 0 < limits.now.maxsegsz }
-        requires sound { IfSome chunk (IsSound limits.now) }
+        requires sound { IfSome chunk (IsPlaceable limits.now) }
         requires need { self.old.need < 2 ^ 32 - 1 }
         requires pieces { self.old.pieces < 2 ^ 63 }
         ensures need { self.new.need ≡ self.old.need + need_of (option_to_list chunk) }

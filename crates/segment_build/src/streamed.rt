@@ -8,7 +8,7 @@ ghost use Rattle.std.specs.Option.{option_to_list};
 ghost use Rattle.busdma_base.specs.declared.machine.chunk.Chunk.{Chunk};
 ghost use Rattle.busdma_base.specs.declared.machine.chunk.Part.{Part};
 ghost use Rattle.busdma_base.specs.Machine.Entry.{IsStream};
-ghost use Rattle.segment_build.specs.Building.{IsSoFar, IsSound, placed_pieces};
+ghost use Rattle.segment_build.specs.Building.{IsSoFar, IsPlaceable, placed_pieces};
 ghost use Rattle.segment_build.specs.Chunks.{need_of};
 ghost use Rattle.segment_build.specs.Conditions.{CanBuild};
 ghost use Rattle.segment_build.specs.Streams.{IsBuiltFrom, IsStreamed, OverflowsFrom, stream_chunks};
@@ -145,7 +145,7 @@ fn add_next(
 ) -> Result<bool, AllocError>
     requires size { 0 < limits.now.maxsegsz }
     requires pages { AllByRecursion IsPage pages.now }
-    requires sound { IfSome next (IsSound limits.now) }
+    requires sound { IfSome next (IsPlaceable limits.now) }
     requires so_far { (cs : List Chunk) × IsSoFar limits.now pages.now cs list.old.items bounced.old.items few
         × (need_of (cs ++ option_to_list next) ≤ length pages.now) }
     ensures so_far { (cs : List Chunk) → IsSoFar limits.now pages.now cs list.old.items bounced.old.items few

@@ -3,26 +3,17 @@
 ghost use Rattle.std.specs.Prelude.{ℕ, ◌≡◌, ◌≤◌, ◌+◌, ◌*◌, ◌↔◌};
 ghost use Rattle.std.specs.List.{AllByRecursion};
 ghost use Rattle.busdma_base.specs.declared.scenarios.scenario.Driver.{Driver};
-ghost use Rattle.busdma_base.specs.declared.scenarios.scenario.Scenario.{Scenario};
 ghost use Rattle.busdma_base.specs.Scenarios.Script.{steps_of};
 ghost use Rattle.busdma_base.specs.Scenarios.Valid.{IsValid};
-ghost use Rattle.storm.specs.Rules.{KeepsRules, IsNowhereCut};
 ghost use Rattle.storm.specs.Scenario.{storm};
 
-/// A storm of up to 256 rounds keeps every limit, and every rule on names, frames, pages and places.
-pub fn storms_keep_rules()
-    ensures { (n seed : ℕ) → n ≤ 256 → KeepsRules (storm n seed) }
+/// A storm of up to 256 rounds is a valid scenario.
+pub fn storms_are_valid()
+    ensures { (n seed : ℕ) → n ≤ 256 → IsValid (storm n seed) }
 {}
 
 /// Each driver of a storm has three operations and, for each round, seven operations and items: 1795
 /// where it has 256 rounds.
 pub fn storms_have_seven_steps_a_round()
     ensures { (n seed : ℕ) → AllByRecursion (λ (d : Driver). steps_of d.script ≡ 3 + 7 * n) (storm n seed).drivers }
-{}
-
-/// The scenarios that keep those rules and in which no load is cut are the valid ones.
-pub fn rules_are_validity_but_for_cuts()
-    ensures valid { (s : Scenario) → KeepsRules s → IsNowhereCut s → IsValid s }
-    ensures kept { (s : Scenario) → IsValid s → KeepsRules s }
-    ensures uncut { (s : Scenario) → IsValid s → IsNowhereCut s }
 {}

@@ -11,7 +11,7 @@ mod tests;
 mod transfer;
 
 pub use laws::{
-    rules_are_validity_but_for_cuts, storms_have_seven_steps_a_round, storms_keep_rules,
+    storms_are_valid, storms_have_seven_steps_a_round,
 };
 pub use lines::summary;
 pub use scenario::storm_scenario;

@@ -45,6 +45,13 @@ impl PageList {
         })
     }
 
+    /// The list of these pages, with the room of the vector.
+    pub fn from_vec(pages: Vec<Page>) -> PageList
+        ensures { result ≡ record { items = pages.items; room = vec_capacity pages } }
+    {
+        PageList { pages }
+    }
+
     /// The pages, in order.
     pub fn as_slice(&self) -> &[Page]
         ensures { result.now ≡ self.now.items }

@@ -4,7 +4,7 @@ ghost use Rattle.std.specs.Prelude.{◌≡◌, ◌≤◌, ◌^◌, length};
 ghost use Rattle.std.specs.Iterator.{YieldsFirst, item_count};
 ghost use Rattle.std.specs.List.{AllByRecursion};
 ghost use Rattle.busdma_base.specs.Machine.Entry.{IsEntry, entries_bytes};
-ghost use Rattle.segment_build.specs.Building.{IsSound};
+ghost use Rattle.segment_build.specs.Building.{IsPlaceable};
 ghost use Rattle.segment_build.specs.Chunks.{chunks_of, need_of};
 ghost use Rattle.segment_build.specs.Trace.{IsPage};
 
@@ -75,7 +75,7 @@ fn by_chunks(
     chunks: &mut [Chunk],
     pages: &[Pa],
 ) -> Result<Outcome, AllocError>
-    requires sound { AllByRecursion (IsSound tag.now) chunks.old }
+    requires sound { AllByRecursion (IsPlaceable tag.now) chunks.old }
     requires pages { AllByRecursion IsPage pages.now }
     requires need { need_of chunks.old ≡ length pages.now }
 {

@@ -5,7 +5,7 @@ use Rattle.busdma_base.specs.declared.machine.chunk.Chunk.{Chunk}
 use Rattle.busdma_base.specs.declared.tags.tag.TagLimits.{TagLimits}
 use Rattle.busdma_base.specs.Machine.Entry.{IsStream, entries_of}
 use Rattle.segment_build.specs.declared.cutter.Cutter.{Cutter}
-use Rattle.segment_build.specs.Building.{IsSound, placed_pieces}
+use Rattle.segment_build.specs.Building.{IsPlaceable, placed_pieces}
 use Rattle.segment_build.specs.Chunks.{chunks_of, need_of}
 use Rattle.segment_build.specs.Cutting.{after, after_part, closed, closed_part, uncut}
 use Rattle.segment_build.proofs.Counting.{need_append}
@@ -42,8 +42,8 @@ add-requires-clause-sound g c =
     holds_at c.args.tag.now c.args.maxmem c.loop-part.yielded c.in-Some.part
     c.limits-limits.ensures.effective stream in
     let one = c.take.ensures.closed ∙ ap (λ (s : Cutter). closed_part s c.in-Some.part) c.loop-part.invariant.cutter in
-    subst (λ (t : TagLimits). IfSome c.take.result (IsSound t)) (sym c.limits-limits.ensures.limits)
-    (subst (λ (o : Option Chunk). IfSome o (IsSound c.args.tag.now)) (sym one) at.sound)
+    subst (λ (t : TagLimits). IfSome c.take.result (IsPlaceable t)) (sym c.limits-limits.ensures.limits)
+    (subst (λ (o : Option Chunk). IfSome o (IsPlaceable c.args.tag.now)) (sym one) at.sound)
 
 pub add-requires-clause-need : goal.add-requires-clause-need
 add-requires-clause-need g c =
@@ -118,8 +118,8 @@ add-requires-2-clause-sound g c =
     c.loop-part.part-iterator c.into_iter-part-iterator.ensures.into_iter_gives
     c.requires.stream c.loop-part.yielded_by in
     let all = holds c.args.tag.now c.args.maxmem c.loop-part.yielded c.limits-limits.ensures.effective stream in
-    subst (λ (t : TagLimits). IfSome c.loop-part.cutter.last (IsSound t)) (sym c.limits-limits.ensures.limits)
-    (subst (λ (s : Cutter). IfSome s.last (IsSound c.args.tag.now))
+    subst (λ (t : TagLimits). IfSome c.loop-part.cutter.last (IsPlaceable t)) (sym c.limits-limits.ensures.limits)
+    (subst (λ (s : Cutter). IfSome s.last (IsPlaceable c.args.tag.now))
     (sym c.loop-part.invariant.cutter) all.last_sound)
 
 pub add-requires-2-clause-need : goal.add-requires-2-clause-need

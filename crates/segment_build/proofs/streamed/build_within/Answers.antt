@@ -5,7 +5,7 @@ use Rattle.busdma_base.specs.declared.machine.chunk.Chunk.{Chunk}
 use Rattle.busdma_base.specs.declared.tags.tag.TagLimits.{TagLimits}
 use Rattle.busdma_base.specs.Machine.Entry.{IsStream}
 use Rattle.segment_build.specs.declared.cutter.Cutter.{Cutter}
-use Rattle.segment_build.specs.Building.{IsSoFar, IsSound, placed_pieces}
+use Rattle.segment_build.specs.Building.{IsSoFar, IsPlaceable, placed_pieces}
 use Rattle.segment_build.specs.Chunks.{need_of}
 use Rattle.segment_build.specs.Cutting.{after_part, closed, closed_part, uncut}
 use Rattle.segment_build.specs.Streams.{IsBuiltFrom, OverflowsFrom, stream_chunks}
@@ -62,8 +62,8 @@ add_next-requires-clause-sound g c =
     c.requires.stream c.loop-part.yielded_by c.in-Some.ensures.steps in
     let at = holds_at t m ps p eff stream in
     let one = c.take-closed.ensures.closed ∙ ap (λ (s : Cutter). closed_part s p) inv.cutter in
-    subst (λ (u : TagLimits). IfSome c.take-closed.result (IsSound u)) (sym same)
-    (subst (λ (o : Option Chunk). IfSome o (IsSound t)) (sym one) at.sound)
+    subst (λ (u : TagLimits). IfSome c.take-closed.result (IsPlaceable u)) (sym same)
+    (subst (λ (o : Option Chunk). IfSome o (IsPlaceable t)) (sym one) at.sound)
 
 pub add_next-requires-clause-so_far : goal.add_next-requires-clause-so_far
 add_next-requires-clause-so_far g c =
@@ -189,8 +189,8 @@ add_next-requires-2-clause-sound g c =
     c.requires.stream c.loop-part.yielded_by in
     let all = holds t m ps eff stream in
     let is = ap (λ (s : Cutter). s.last) inv.cutter in
-    subst (λ (u : TagLimits). IfSome c.loop-part.cutter.last (IsSound u)) (sym same)
-    (subst (λ (s : Cutter). IfSome s.last (IsSound t)) (sym inv.cutter) all.last_sound)
+    subst (λ (u : TagLimits). IfSome c.loop-part.cutter.last (IsPlaceable u)) (sym same)
+    (subst (λ (s : Cutter). IfSome s.last (IsPlaceable t)) (sym inv.cutter) all.last_sound)
 
 pub add_next-requires-2-clause-so_far : goal.add_next-requires-2-clause-so_far
 add_next-requires-2-clause-so_far g c =

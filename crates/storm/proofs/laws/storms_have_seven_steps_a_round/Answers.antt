@@ -1,4 +1,4 @@
-use Rattle.storm.proofs.KeptRules.{each_has_steps}
+use Rattle.storm.proofs.Validity.{each_has_steps}
 use Rattle.storm.proofs.laws.storms_have_seven_steps_a_round.Goals as goal
 
 pub returns : goal.returns

@@ -5,8 +5,8 @@ use Rattle.busdma_base.specs.Machine.Wire.{with_bytes_of}
 use Rattle.phys_memory.specs.Memory.{wire}
 use Rattle.bounced_lane.specs.Wire.{held_pages}
 use Rattle.loan_table.specs.Access.{dev_write_answer}
-use Rattle.loan_table.specs.Loans.{loan_of}
-use Rattle.loan_table.specs.Table.{bytes_at, set_all}
+use Rattle.loan_table.specs.Loans.{load_bytes, loan_of}
+use Rattle.loan_table.specs.Table.{set_all}
 use Rattle.bounced_lane.specs.declared.kept.KeptMap.{KeptMap}
 use Rattle.bounced_lane.specs.Covered.{has_load}
 use Rattle.bounced_lane.specs.Ideal.{ideal_of}
@@ -54,7 +54,7 @@ invariant_of-self-2 c =
     put-again h.maps c.take.new.self c.put.new.self k (record o { map = c.write_load.new.map })
     c.in-Some-take.ensures.taken c.put.ensures in
     let loans = c.note_dev_write.ensures.loans ∙ c.reserve_extents.ensures.same.loans in
-    let pas = bytes_at h.loans k c.args.off (length c.args.bytes.now) in
+    let pas = load_bytes h.loans.loans k c.args.off (length c.args.bytes.now) in
     let one = are-maps h c.requires k o there on c.write_load.new.map c.write_load.ensures.map in
     let two = subst (λ ms. AreMaps ms h.loans.loans h.agenda.returns h.agenda.promised) (sym put.0) one in
     let are =
@@ -62,7 +62,7 @@ invariant_of-self-2 c =
     let marked =
     c.note_dev_write.ensures.bytes
     ∙ (λ i. set_all (c.reserve_extents.ensures.same.bytes i)
-    (bytes_at (record c.reserve_extents.new.loans { loans = c.reserve_extents.ensures.same.loans i })
+    (load_bytes (c.reserve_extents.ensures.same.loans i)
     (c.map_id-id.ensures i).made_at c.args.off (length c.args.bytes.now)) true) in
     record {
       covered = λ a. ap (λ b. contains_key b a) marked
@@ -102,7 +102,7 @@ returns-clause-done c =
     c.in_default-past_end.ensures.inside
     (c.note_dev_write.ensures.bytes
     ∙ (λ i. set_all (c.reserve_extents.ensures.same.bytes i)
-    (bytes_at (record c.reserve_extents.new.loans { loans = c.reserve_extents.ensures.same.loans i })
+    (load_bytes (c.reserve_extents.ensures.same.loans i)
     (c.map_id-id.ensures i).made_at c.args.off (length c.args.bytes.now)) true))
     (c.note_dev_write.ensures.loans ∙ c.reserve_extents.ensures.same.loans) put.0
 

@@ -2,7 +2,7 @@ use Rattle.std.proofs.Common.{ap, sym, ◌∙◌, refl, length}
 use Rattle.phys_memory.specs.Memory.{wire}
 use Rattle.loan_table.specs.Table.{buffer_of}
 use Rattle.loan_table.proofs.Marking.{AreIn-range}
-use Rattle.lane_core.specs.Accesses.{load_bytes}
+use Rattle.loan_table.specs.Loans.{load_bytes}
 use Rattle.lane_core.specs.Ideal.{ideal_of}
 use Rattle.lane_core.proofs.Held.{shown, same_ideal, on_err}
 use Rattle.lane_core.proofs.Outcomes.{dev_write_done, write_done, covered_written, range_size}
@@ -13,7 +13,7 @@ use Rattle.lane_core.proofs.holdings.Holdings.dev_write.Goals as goal
 pub invariant_of-self-2 : goal.invariant_of-self-2
 invariant_of-self-2 c =
     let l = ideal_of c.args.self.now in
-    let keys = load_bytes l c.args.map.made_at c.args.off (length c.args.bytes.now) in
+    let keys = load_bytes l.loans c.args.map.made_at c.args.off (length c.args.bytes.now) in
     record {
       covered =
           covered_written c.args.self.now.memory.memory c.write_load.new.memory.memory
@@ -30,7 +30,7 @@ returns-clause-done c =
     let l = ideal_of c.args.self.now in
     let w = wire c.args.self.now.memory.memory in
     let same = c.reserve_extents.ensures.same in
-    let keys = load_bytes l c.args.map.made_at c.args.off (length c.args.bytes.now) in
+    let keys = load_bytes l.loans c.args.map.made_at c.args.off (length c.args.bytes.now) in
     dev_write_done l _ c.args.map c.args.off c.args.bytes.now c.in_default.ensures.passed
     c.in_default-past_end.ensures.passed (sym c.in_default-may_dev_write.is ∙ c.may_dev_write.ensures)
     (write_done l c.args.self.now.memory.memory c.write_load.new.memory.memory w (wire c.write_load.new.memory.memory)

@@ -2,7 +2,7 @@ use Rattle.std.proofs.Common.{◌≡◌, ◌/◌, ◌^◌, Bool, true, ap, sym, 
 use Rattle.std.specs.Prelude.{None, IfSome, if◌then◌else◌, nat_lt}
 use Rattle.std.specs.FinMap.{get}
 use Rattle.std.proofs.lemmas.Bool.{lt-ltb}
-use Rattle.phys_memory.specs.Memory.{Roomy, IsRow}
+use Rattle.phys_memory.specs.Memory.{Roomy, IsReachOf}
 use Rattle.phys_memory.proofs.Kept.{row_is}
 use Rattle.phys_memory.proofs.Changes.{row_found}
 use Rattle.phys_memory.proofs.pages.LanePages.row_at.Goals as goal
@@ -24,5 +24,5 @@ returns-clause-row c =
     let found =
     row_found m.table.entries m.frames.entries at c.copied.result
     (sym c.get.ensures.value ∙ sym c.copied.ensures) in
-    subst (λ (r : Roomy). IfSome c.copied.result (IsRow r.memory)) c.self.view_is
+    subst (λ (r : Roomy). IfSome c.copied.result (IsReachOf r.memory)) c.self.view_is
     (row_is _ (at / 4096) c.copied.result c.self.invariant.memory found)

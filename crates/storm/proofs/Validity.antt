@@ -1,4 +1,4 @@
--- A storm keeps the rules on scenarios.
+-- A storm is a valid scenario.
 use Rattle.std.proofs.Common.{◌≡◌, ℕ, ◌+◌, ◌*◌, ◌≤◌, true, false, List}
 use Rattle.std.proofs.Common.{[], ◌++◌, sum_by, map, refl, arith}
 use Rattle.std.specs.List.{AllByRecursion}
@@ -7,21 +7,20 @@ use Rattle.busdma_base.specs.Each.{EachAfter}
 use Rattle.busdma_base.specs.Machine.PageRuns.{IsPageRun, all_in, is_taken}
 use Rattle.busdma_base.specs.Runs.{run_of}
 use Rattle.busdma_base.specs.Scenarios.Operations.{loaded_by, read_by}
-use Rattle.busdma_base.specs.Scenarios.Script.{steps_of}
-use Rattle.busdma_base.specs.Scenarios.Valid.{loaded_of, read_of}
+use Rattle.busdma_base.specs.Scenarios.Script.{IsScript, steps_of}
+use Rattle.busdma_base.specs.Scenarios.Valid.{IsDriver, IsValid, loaded_of, read_of}
 use Rattle.storm.specs.Generator.{drawn}
-use Rattle.storm.specs.Rules.{KeepsScript, KeepsDriver, KeepsRules}
 use Rattle.storm.specs.Scenario.{rounds, opening, pages, frames, driver, driver_after, storm}
-use Rattle.storm.proofs.EachOp.{each_keeps}
+use Rattle.storm.proofs.EachOp.{each_valid}
 use Rattle.storm.proofs.Totals.{loaded_by_rounds, read_by_rounds, steps_of_rounds}
 
-script_keeps : (n x : ℕ) → n ≤ 256 → KeepsScript (opening ++ rounds n x)
-script_keeps n x few = record { each = each_keeps n x; short = omega (arith, steps_of_rounds n x) }
+script_valid : (n x : ℕ) → n ≤ 256 → IsScript (opening ++ rounds n x)
+script_valid n x few = record { each = each_valid n x; short = omega (arith, steps_of_rounds n x) }
 
--- a driver keeps the rules behind others where its pages are its own
-driver_keeps : (number n x : ℕ) → n ≤ 256 → (earlier : List Driver) →
-    EachAfter (IsPageRun frames earlier) [] (pages number) → KeepsDriver frames earlier (driver_after number n x)
-driver_keeps number n x few earlier own = record { pages = own; script = script_keeps n x few }
+-- a driver is valid behind others where its pages are its own
+driver_valid : (number n x : ℕ) → n ≤ 256 → (earlier : List Driver) →
+    EachAfter (IsPageRun frames earlier) [] (pages number) → IsDriver frames earlier (driver_after number n x)
+driver_valid number n x few earlier own = record { pages = own; script = script_valid n x few }
 
 -- the pages of a driver whose frames no earlier driver has
 own_pages : (earlier : List Driver) (number : ℕ) → 4096 + 16 * number + 16 ≤ 4160 →
@@ -41,14 +40,14 @@ own_pages earlier number low there untaken = (
   tt,
 )
 
-drivers_keep : (n seed : ℕ) → n ≤ 256 → EachAfter (KeepsDriver frames) [] (storm n seed).drivers
-drivers_keep n seed few = (
-  driver_keeps 0 n _ few [] (own_pages [] 0 (omega arith) refl refl),
+drivers_valid : (n seed : ℕ) → n ≤ 256 → EachAfter (IsDriver frames) [] (storm n seed).drivers
+drivers_valid n seed few = (
+  driver_valid 0 n _ few [] (own_pages [] 0 (omega arith) refl refl),
   (
-    driver_keeps 1 n _ few _ (own_pages _ 1 (omega arith) refl refl),
+    driver_valid 1 n _ few _ (own_pages _ 1 (omega arith) refl refl),
     (
-      driver_keeps 2 n _ few _ (own_pages _ 2 (omega arith) refl refl),
-      (driver_keeps 3 n _ few _ (own_pages _ 3 (omega arith) refl refl), tt),
+      driver_valid 2 n _ few _ (own_pages _ 2 (omega arith) refl refl),
+      (driver_valid 3 n _ few _ (own_pages _ 3 (omega arith) refl refl), tt),
     ),
   ),
 )
@@ -68,8 +67,8 @@ four_at_most f g b each =
     let fourth : f (g 3) ≤ b = each 3 in
     omega arith
 
-pub storm_keeps : (n seed : ℕ) → n ≤ 256 → KeepsRules (storm n seed)
-storm_keeps n seed few =
+pub storm_valid : (n seed : ℕ) → n ≤ 256 → IsValid (storm n seed)
+storm_valid n seed few =
     let loads : loaded_of (storm n seed).drivers ≤ 4 * (8192 * n) =
     four_at_most (λ d. sum_by loaded_by d.script) (driver n seed) (8192 * n) (loaded_at n seed) in
     let reads : read_of (storm n seed).drivers ≤ 4 * (64 * n) =
@@ -82,7 +81,7 @@ storm_keeps n seed few =
       some_bpages = omega arith;
       few_bpages = omega arith;
       few_drivers = omega arith;
-      drivers = drivers_keep n seed few;
+      drivers = drivers_valid n seed few;
       loaded = omega arith;
       read = omega arith;
       short_order = omega arith;
