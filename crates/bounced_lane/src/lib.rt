@@ -3,6 +3,7 @@
 
 mod accesses;
 mod buffers;
+mod ended;
 mod finishing;
 mod holdings;
 mod judging;
