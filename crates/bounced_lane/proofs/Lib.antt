@@ -1,6 +1,7 @@
 mod AfterTurn
 mod Asked
 mod Awaiting
+mod AwaitingLoads
 mod Bouncing
 mod BufferBytes
 mod Bytes
