@@ -5,6 +5,9 @@ mod AwaitingLoads
 mod Bouncing
 mod BufferBytes
 mod Bytes
+mod CallbackTurns
+mod Called
+mod CalledLoads
 mod Changing
 mod Chunked
 mod Copying
@@ -15,6 +18,7 @@ mod Devices
 mod DeviceWrites
 mod Doors
 mod Earlier
+mod EndedWaits
 mod Finding
 mod Following
 mod Foreign
@@ -50,8 +54,10 @@ mod ReturnSteps
 mod ReturnTurns
 mod Shares
 mod StaysWired
+mod StillAwaiting
 mod Syncing
 mod TagSteps
+mod TakenLoads
 mod TurnEnds
 mod Unloaded
 mod UnloadSteps
