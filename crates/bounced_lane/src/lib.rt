@@ -4,3 +4,25 @@
 mod accesses;
 mod buffers;
 mod callbacks;
+mod ended;
+mod finishing;
+mod holdings;
+mod judging;
+mod kept;
+mod lane;
+mod loads;
+mod maps;
+mod opening;
+mod page_lists;
+mod returns;
+mod steps;
+mod syncs;
+mod tags;
+mod turn;
+mod turns;
+mod unloads;
+mod waiting;
+
+pub use lane::Lane;
+pub use opening::opening_memory;
+pub use turn::Turn;
