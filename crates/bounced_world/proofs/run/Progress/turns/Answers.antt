@@ -1,0 +1,20 @@
+use Rattle.std.proofs.Common.{refl, ap, ◌∙◌}
+use Rattle.std.proofs.lemmas.List.{take_all}
+use Rattle.bounced_world.specs.Ideal.{ideal_run}
+use Rattle.ideal_world.specs.Legal.{turns}
+use Rattle.bounced_world.proofs.Going.{next_turn}
+use Rattle.bounced_world.proofs.run.Progress.turns.Goals as goal
+
+pub loop-actor-init : goal.loop-actor-init
+loop-actor-init c = refl
+
+pub loop-actor-preserved : goal.loop-actor-preserved
+loop-actor-preserved c =
+    next_turn (ideal_run c.args.self.now) (ideal_run c.loop-actor.self) (ideal_run c.turn.new.self) c.args.order.now
+    c.loop-actor.actor-index _ c.loop-actor-test.true c.loop-actor.invariant c.in_ok-turn.ensures
+
+pub returns : goal.returns
+returns c =
+    c.loop-actor.invariant
+    ∙ ap (turns (ideal_run c.args.self.now))
+    (take_all c.loop-actor.actor-index c.args.order.now c.loop-actor-test.false)

@@ -1,0 +1,20 @@
+-- The ideal state of a world of the program, and of its run.
+use Rattle.std.specs.Prelude.{List}
+use Rattle.busdma_base.specs.declared.bounce.hold.HoldEntry.{HoldEntry}
+use Rattle.ideal_world.specs.Legal.{Run}
+use Rattle.ideal_world.specs.World.{WorldState}
+use Rattle.bounced_world.specs.declared.run.Progress.{Progress}
+use Rattle.bounced_world.specs.declared.world.World.{World}
+use Rattle.bounced_world.specs.Kept.{world_of}
+
+-- the lanes' ideal states, and the account that the hub's history leads to
+abbrev pub ideal_world : World → WorldState
+ideal_world w = world_of w.lanes.items w.hub
+
+-- the holds of the bounce lock so far
+abbrev pub holds : World → List HoldEntry
+holds w = w.hub.history
+
+-- the run that a replay has come to
+abbrev pub ideal_run : Progress → Run
+ideal_run p = record { world = ideal_world p.world; entries = p.entries.items }

@@ -1,0 +1,3 @@
+pub mod Ideal
+pub mod Kept
+pub mod Wires

@@ -1,0 +1,13 @@
+//! What holds of every world of the program.
+
+ghost use Rattle.ideal_world.specs.Wires.{AllFaithful};
+ghost use Rattle.bounced_world.specs.Ideal.{ideal_world};
+ghost use Rattle.bounced_world.specs.Wires.{wires_of};
+
+use crate::world::World;
+
+/// The bytes that the frames and the bounce pages of each driver really hold are those of its ideal
+/// memory, in every world.
+pub fn wires_are_faithful(world: &World)
+    ensures { AllFaithful (wires_of world.now) (ideal_world world.now) }
+{}

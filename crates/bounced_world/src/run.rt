@@ -1,0 +1,97 @@
+//! The replay of a scenario.
+
+ghost use Rattle.std.specs.Prelude.{◌≡◌, IfOk, OnOk};
+ghost use Rattle.busdma_base.specs.Scenarios.Valid.{IsValid};
+ghost use Rattle.ideal_world.specs.Legal as legal;
+ghost use Rattle.ideal_world.specs.Legal.{ComesToRest, IsReplayed, round_from};
+ghost use Rattle.bounced_world.specs.Ideal.{ideal_run};
+
+use crate::world::World;
+use bounced_lane::Turn;
+use busdma_base::{Actor, Journal, JournalEntry, LaneId, ListOf, Scenario, Side};
+use std::alloc::{AllocError, Global};
+
+/// How far a replay has come.
+#[derive(Drop)]
+struct Progress<'s> {
+    world: World<'s>,
+    entries: Vec<JournalEntry>,
+}
+
+impl Progress<'_> {
+    /// An actor's turn.
+    fn turn(&mut self, alloc: Global, actor: Actor) -> Result<(), AllocError>
+        ensures { OnOk result (ideal_run self.new ≡ legal.turn (ideal_run self.old) actor) }
+    {
+        if let Turn::Stepped { entry, .. } = self.world.step(alloc, actor)? {
+            self.entries.push(entry)?;
+        }
+        Ok(())
+    }
+
+    /// The turns of actors, in order.
+    fn turns(&mut self, alloc: Global, order: &[Actor]) -> Result<(), AllocError>
+        ensures { OnOk result (ideal_run self.new ≡ legal.turns (ideal_run self.old) order.now) }
+    {
+        for actor in order {
+            self.turn(alloc, *actor)?;
+        }
+        Ok(())
+    }
+
+    /// Rounds over all drivers until a whole round makes no step.
+    fn rounds(&mut self, alloc: Global, round: &[Actor]) -> Result<(), AllocError>
+        ensures { OnOk result (ComesToRest round.now (ideal_run self.old) (ideal_run self.new)) }
+    {
+        'rounds: loop {
+            let before = self.entries.len();
+            self.turns(alloc, round)?;
+            if self.entries.len() == before {
+                return Ok(());
+            }
+        }
+    }
+}
+
+/// The actors of a round over so many drivers: of each its callback, its transfer and its script.
+fn round_of(alloc: Global, drivers: u32) -> Result<Vec<Actor>, AllocError>
+    ensures { IfOk result (λ round. round.items ≡ round_from 0 drivers) }
+{
+    let mut round = Vec::new(alloc);
+    for number in 0..drivers {
+        let lane = LaneId(number);
+        round.push(Actor {
+            lane,
+            side: Side::Callback,
+        })?;
+        round.push(Actor {
+            lane,
+            side: Side::Transfer,
+        })?;
+        round.push(Actor {
+            lane,
+            side: Side::Script,
+        })?;
+    }
+    Ok(round)
+}
+
+/// The journal of the scenario's replay: the turns of its order, and then rounds until a whole
+/// round makes no step.
+pub fn replay(alloc: Global, scenario: &Scenario) -> Result<Journal, AllocError>
+    requires { IsValid scenario.now }
+    ensures { IfOk result (IsReplayed scenario.now) }
+{
+    let world = World::new(alloc, scenario)?;
+    let entries = Vec::new(alloc);
+    let mut progress = Progress { world, entries };
+    progress.turns(alloc, scenario.order.as_slice())?;
+    let round = round_of(alloc, scenario.drivers.len() as u32)?;
+    progress.rounds(alloc, &round)?;
+    let Progress { world, entries } = progress;
+    Ok(Journal {
+        zones: world.zones(alloc)?,
+        end: world.end(),
+        entries: ListOf::new(entries),
+    })
+}

@@ -1,0 +1,16 @@
+//! All drivers at work, and the hub that they share.
+
+ghost use Rattle.bounced_world.specs.Kept.{IsKept};
+
+use bounce_hub::Hub;
+use bounced_lane::Lane;
+use busdma_base::Scenario;
+
+/// The drivers of a scenario at work, in the order of their numbers, and the hub that they share.
+#[derive(Drop)]
+pub struct World<'s> {
+    pub(crate) scenario: &'s Scenario,
+    pub(crate) lanes: Vec<Lane<'s>>,
+    pub(crate) hub: Hub,
+    ghost kept: { ∥ IsKept scenario.now lanes.items hub ∥₁ },
+}
