@@ -16,6 +16,7 @@ mod segments;
 use busdma_cmd::{Outcome, plain_command};
 use io_edge::{MemSink, MemSource};
 use std::alloc::{AllocError, Global};
+use std::process::Abort;
 use std::test::Fail;
 
 /// How a call ended, and the bytes that its sink holds.
@@ -69,8 +70,13 @@ fn call(
 }
 
 /// Replays a scenario, and compares its report and the status.
-fn replays(rt: &HostRuntime, scenario: &str, want: &str, status: u8) -> Result<(), Fail> {
-    let alloc = rt.alloc();
+fn replays(
+    rt: &impl Abort,
+    alloc: Global,
+    scenario: &str,
+    want: &str,
+    status: u8,
+) -> Result<(), Fail> {
     let input = scenario.as_bytes().to_vec(alloc)?;
     let ended = call(alloc, &["replay"], input, WHOLE, WHOLE)?;
     assert_eq!(rt; ended.outcome.status, status);

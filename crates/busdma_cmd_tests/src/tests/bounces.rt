@@ -276,7 +276,7 @@ fn bounces(rt: HostRuntime) -> Result<(), Fail> {
         (SHORT_DEVICE_WRITE_OVER_KNOWN_BYTES, SHORT_DEVICE_WRITE_OVER_KNOWN_BYTES_REPORT, 0),
     ];
     for (scenario, want, status) in table {
-        replays(&rt, scenario, want, status)?;
+        replays(&rt, rt.alloc(), scenario, want, status)?;
     }
     Ok(())
 }

@@ -203,7 +203,7 @@ fn deferrals(rt: HostRuntime) -> Result<(), Fail> {
         (TWO_DRIVERS, TWO_DRIVERS_REPORT, 0),
     ];
     for (scenario, want, status) in table {
-        replays(&rt, scenario, want, status)?;
+        replays(&rt, rt.alloc(), scenario, want, status)?;
     }
     Ok(())
 }

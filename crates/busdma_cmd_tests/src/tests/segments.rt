@@ -50,7 +50,7 @@ fn segments(rt: HostRuntime) -> Result<(), Fail> {
         (ONE_SEGMENT_TOO_FEW, ONE_SEGMENT_TOO_FEW_REPORT, 0),
     ];
     for (scenario, want, status) in table {
-        replays(&rt, scenario, want, status)?;
+        replays(&rt, rt.alloc(), scenario, want, status)?;
     }
     Ok(())
 }
