@@ -14,7 +14,7 @@ use io_edge::{Input, Sink, Source, read_up_to, write_all};
 use report_text::report;
 use scenario_read::{Reading, scenario_of};
 use std::alloc::Global;
-use world_core::{replay, status};
+use bounced_world::{replay, status};
 
 /// How many bytes the program reads at the most.
 const INPUT_LIMIT: usize = 16_777_216;

@@ -2,17 +2,22 @@
 
 ghost use Rattle.std.specs.Prelude.{◌≤◌};
 
+mod bounces;
 mod causes;
+mod deferrals;
 mod large;
 mod lines;
 mod refusals;
 mod reports;
 mod rows;
 mod rows_with_reports;
+mod segments;
 
 use busdma_cmd::{Outcome, plain_command};
 use io_edge::{MemSink, MemSource};
 use std::alloc::{AllocError, Global};
+use std::process::Abort;
+use std::test::Fail;
 
 /// How a call ended, and the bytes that its sink holds.
 #[derive(Drop)]
@@ -62,4 +67,20 @@ fn call(
         outcome,
         written: sink.held().to_vec(alloc)?,
     })
+}
+
+/// Replays a scenario, and compares its report and the status.
+fn replays(
+    rt: &impl Abort,
+    alloc: Global,
+    scenario: &str,
+    want: &str,
+    status: u8,
+) -> Result<(), Fail> {
+    let input = scenario.as_bytes().to_vec(alloc)?;
+    let ended = call(alloc, &["replay"], input, WHOLE, WHOLE)?;
+    assert_eq!(rt; ended.outcome.status, status);
+    assert_eq!(rt; str::from_utf8(&ended.written)?, want);
+    assert!(rt; ended.outcome.fault.is_none());
+    Ok(())
 }

@@ -1,5 +1,5 @@
 -- Where an operation works, and what it writes.
-use Rattle.std.specs.Prelude.{ℕ, ◌+◌, ◌%◌, Bool, true, false, Option, Some, None, Ok, if◌then◌else◌, nat_lt, is_some}
+use Rattle.std.specs.Prelude.{ℕ, Bool, true, false, Option, Some, None, Ok, if◌then◌else◌, nat_lt, is_some}
 use Rattle.std.specs.Prelude.{codes}
 use Rattle.busdma_base.specs.declared.scenarios.script.Place.{Place as Target}
 use Rattle.busdma_base.specs.declared.scenarios.script.Place.TheVariants.{At}
@@ -20,14 +20,6 @@ target_or place (Some spot) = number_at spot >>= (λ va. Ok (At (record { 0 = va
 -- the place of an operation: a virtual address
 unfoldable pub target_at : Spot → Read Target
 target_at here = target_or here.place (field (codes "va") here)
-
--- a load's length: the bytes lie in one page
-abbrev pub length_in_page : Place → Target → ℕ → Read ℕ
-length_in_page place (At va) n = if nat_lt 4096 (va.0 % 4096 + n) then refuse BadField place else Ok n
-
--- the length of a load of these bytes
-unfoldable pub load_length : Target → Spot → Read ℕ
-load_length target here = number_field (codes "len") here >>= length_in_page (key here.place (codes "len")) target
 
 -- a byte that is given as a number
 abbrev pub byte_or : Place → ℕ → Read ℕ

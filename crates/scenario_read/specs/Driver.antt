@@ -5,6 +5,7 @@ use Rattle.busdma_base.specs.declared.scenarios.scenario.FrameRun.{FrameRun}
 use Rattle.busdma_base.specs.declared.scenarios.scenario.PageRun.{PageRun}
 use Rattle.busdma_base.specs.declared.scenarios.scenario.Driver.{Driver}
 use Rattle.busdma_base.specs.declared.scenarios.script.Op.{Op}
+use Rattle.busdma_base.specs.Scenarios.Limits.{drivers_limit}
 use Rattle.json_fields.specs.Place.{Place}
 use Rattle.json_fields.specs.Read.{Read, ◌>>=◌, refuse}
 use Rattle.json_fields.specs.Field.{Spot, field, required, only_keys, one_of}
@@ -13,7 +14,6 @@ use Rattle.json_fields.specs.declared.refusal.RefusalKind.TheVariants.{Limit}
 use Rattle.json_fields.specs.declared.refusal.LimitName.TheVariants.{Drivers}
 use Rattle.scenario_read.specs.declared.counts.Counts.{Counts}
 use Rattle.scenario_read.specs.Counts.{counts_of}
-use Rattle.scenario_read.specs.Limits.{drivers_read}
 use Rattle.scenario_read.specs.Pages.{pages_at}
 use Rattle.scenario_read.specs.Script.{script_at}
 
@@ -36,7 +36,7 @@ driver_at frames earlier here =
 
 -- the drivers are counted before the first of them is read
 abbrev pub drivers_judged : Place → List Data → Read (List Data)
-drivers_judged place ds = if nat_lt drivers_read (length ds) then refuse (Limit Drivers) place else Ok ds
+drivers_judged place ds = if nat_lt drivers_limit (length ds) then refuse (Limit Drivers) place else Ok ds
 
 -- the list of drivers
 unfoldable pub drivers_at : List FrameRun → Spot → Read (List Driver)

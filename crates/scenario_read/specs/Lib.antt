@@ -4,12 +4,10 @@ pub mod Driver
 pub mod Flags
 pub mod Frames
 pub mod Items
-pub mod Limits
 pub mod Names
 pub mod Ops
 pub mod Order
 pub mod Pages
 pub mod Scenario
 pub mod Script
-pub mod Uncut
 pub mod Words

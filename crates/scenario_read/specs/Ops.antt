@@ -1,5 +1,5 @@
 -- The operations of a script, each read by itself and by the operations before it.
-use Rattle.std.specs.Prelude.{ℕ, ◌-◌, ◌^◌, if◌then◌else◌, List, [], ◌∷◌, length, Ok, codes}
+use Rattle.std.specs.Prelude.{ℕ, ◌-◌, ◌^◌, if◌then◌else◌, nat_lt, List, [], ◌∷◌, length, Ok, codes}
 use Rattle.busdma_base.specs.declared.scenarios.script.Op.{Op}
 use Rattle.busdma_base.specs.declared.scenarios.script.Op.TheVariants as op
 use Rattle.busdma_base.specs.declared.tags.tag.TagLimits.{TagLimits}
@@ -13,48 +13,48 @@ use Rattle.scenario_read.specs.declared.counts.Counts.{Counts}
 use Rattle.scenario_read.specs.declared.flags.FlagSet.TheVariants as set
 use Rattle.scenario_read.specs.declared.load.LoadHead.{LoadHead}
 use Rattle.busdma_base.specs.declared.scenarios.operations.NameKind.TheVariants as kind
-use Rattle.scenario_read.specs.Bytes.{target_at, load_length, written_at}
+use Rattle.scenario_read.specs.Bytes.{target_at, written_at}
 use Rattle.scenario_read.specs.Counts.{having_loaded, access_judged, read_judged, load_judged}
 use Rattle.scenario_read.specs.Flags.{flags_field, ops_field}
 use Rattle.scenario_read.specs.Items.{then_field}
 use Rattle.scenario_read.specs.Names.{new_name, used_name, parent_or_none}
-use Rattle.scenario_read.specs.Uncut.{cuts_no_page}
 
--- a tag that limits nothing but its exclusion window's end, the size of its loads and that of a segment
-abbrev pub limits_of : ℕ → ℕ → ℕ → ℕ → TagLimits
-limits_of highaddr maxsize maxsegsz flags = record {
-  alignment = 1;
-  boundary = 0;
-  lowaddr = record { 0 = 2 ^ 64 - 1 };
-  highaddr = record { 0 = highaddr };
-  maxsize = maxsize;
-  nsegments = 65536;
-  maxsegsz = maxsegsz;
-  flags = flags;
-}
+-- a number of segments has 32 bits
+abbrev pub nsegments_or : Place → ℕ → Read ℕ
+nsegments_or place n = if nat_lt n (2 ^ 32) then Ok n else refuse BadField place
 
--- a greatest length of a segment that cuts a load of one page is refused
-abbrev pub uncut_or : Place → ℕ → Read ℕ
-uncut_or place n = if cuts_no_page n then Ok n else refuse BadField place
+-- the greatest number of segments
+unfoldable pub nsegments_at : Spot → Read ℕ
+nsegments_at here = number_or (codes "nsegments") 65536 here >>= nsegments_or (key here.place (codes "nsegments"))
 
--- the greatest length of a segment
-unfoldable pub maxsegsz_at : Spot → Read ℕ
-maxsegsz_at here = number_or (codes "maxsegsz") (2 ^ 32 - 1) here >>= uncut_or (key here.place (codes "maxsegsz"))
-
--- the fields of a tag's limits that can be given
+-- the limits of a tag; one that is not given limits nothing that a machine has
 unfoldable pub limits_at : Spot → Read TagLimits
 limits_at here =
+    number_or (codes "alignment") 1 here >>= (λ alignment.
+    number_or (codes "boundary") 0 here >>= (λ boundary.
+    number_or (codes "lowaddr") (2 ^ 64 - 1) here >>= (λ lowaddr.
     number_or (codes "highaddr") (2 ^ 64 - 1) here >>= (λ highaddr.
     number_or (codes "maxsize") (2 ^ 32 - 1) here >>= (λ maxsize.
-    maxsegsz_at here >>= (λ maxsegsz.
+    nsegments_at here >>= (λ nsegments.
+    number_or (codes "maxsegsz") (2 ^ 32 - 1) here >>= (λ maxsegsz.
     flags_field set.Tag here >>= (λ flags.
-    Ok (limits_of highaddr maxsize maxsegsz flags)))))
+    Ok (record {
+      alignment = alignment;
+      boundary = boundary;
+      lowaddr = record { 0 = lowaddr };
+      highaddr = record { 0 = highaddr };
+      maxsize = maxsize;
+      nsegments = nsegments;
+      maxsegsz = maxsegsz;
+      flags = flags;
+    })))))))))
 
 -- the making of a tag
 unfoldable pub tag_at : List Op → Spot → Read Op
 tag_at before here =
-    only_keys (one_of (codes "op" ∷ codes "name" ∷ codes "parent" ∷ codes "highaddr" ∷ codes "maxsize"
-    ∷ codes "maxsegsz" ∷ codes "flags" ∷ [])) here >>= (λ _.
+    only_keys (one_of (codes "op" ∷ codes "name" ∷ codes "parent" ∷ codes "alignment" ∷ codes "boundary"
+    ∷ codes "lowaddr" ∷ codes "highaddr" ∷ codes "maxsize" ∷ codes "nsegments" ∷ codes "maxsegsz" ∷ codes "flags" ∷ []))
+    here >>= (λ _.
     new_name (codes "name") before here >>= (λ name.
     parent_or_none before (field (codes "parent") here) >>= (λ parent.
     limits_at here >>= (λ limits.
@@ -87,7 +87,7 @@ unfoldable pub load_head_at : List Op → Spot → Read LoadHead
 load_head_at before here =
     used_name kind.Map (codes "map") before here >>= (λ map.
     target_at here >>= (λ target.
-    load_length target here >>= (λ n.
+    number_field (codes "len") here >>= (λ n.
     flags_field set.Load here >>= (λ flags.
     Ok (record { map = map; target = target; len = n; flags = flags })))))
 

@@ -5,9 +5,7 @@ ghost use Rattle.busdma_base.specs.Scenarios.Operations.{bytes_of};
 ghost use Rattle.json_fields.specs.Read.{Gives};
 ghost use Rattle.json_fields.specs.Field.{spot_of};
 ghost use Rattle.scenario_read.specs.Bytes as bytes;
-ghost use Rattle.scenario_read.specs.Uncut.{LiesInPage};
 
-use crate::pages::PAGE;
 use busdma_base::{Bytes, Place, Va};
 use json_fields::{Node, RefusalKind, Stop};
 
@@ -20,20 +18,6 @@ pub(crate) fn target(here: &Node) -> Result<Place, Stop>
         Some(node) => Ok(Place::At(Va(node.number()?))),
         None => Err(here.refuse(RefusalKind::BadField)),
     }
-}
-
-/// The length of a load, whose bytes lie in one page.
-#[tactic(auto, unfolding(crate::specs::Bytes::load_length))]
-pub(crate) fn load_length(here: &Node, target: Place) -> Result<u64, Stop>
-    ensures value { Gives result (bytes.load_length target (spot_of here.now)) }
-    ensures in_page { IfOk result (LiesInPage target) }
-{
-    let len = here.number_field("len")?;
-    let Place::At(va) = target;
-    if len > PAGE - va.0 % PAGE {
-        return Err(here.refuse_key(RefusalKind::BadField, "len"));
-    }
-    Ok(len)
 }
 
 #[tactic(auto, unfolding(crate::specs::Bytes::fill_at))]

@@ -13,8 +13,7 @@ ghost use Rattle.json_fields.specs.Field.{spot_of, field};
 ghost use Rattle.json_fields.specs.Items.{each};
 ghost use Rattle.scenario_read.specs.Counts.{IsWithin, counts_of, with_ops};
 ghost use Rattle.scenario_read.specs.Driver as driver;
-ghost use Rattle.busdma_base.specs.Scenarios.Limits.{reads_limit, loaded_limit};
-ghost use Rattle.scenario_read.specs.Limits.{drivers_read};
+ghost use Rattle.busdma_base.specs.Scenarios.Limits.{drivers_limit, loaded_limit, reads_limit};
 
 use crate::counts::Counts;
 use crate::limits::DRIVERS;
@@ -106,7 +105,7 @@ pub(crate) fn drivers(here: &Node, frames: &[FrameRun]) -> Result<DriverList, St
     requires { AllByRecursion IsNumbered frames.now }
     ensures value { Gives result (driver.drivers_at frames.now (spot_of here.now)) }
     ensures valid { IfOk result (EachAfter (IsDriver frames.now) []) }
-    ensures count { IfOk result (λ v. length v ≤ drivers_read) }
+    ensures count { IfOk result (λ v. length v ≤ drivers_limit) }
     ensures read { IfOk result (λ v. read_of v ≤ reads_limit) }
     ensures loaded { IfOk result (λ v. loaded_of v ≤ loaded_limit) }
 {

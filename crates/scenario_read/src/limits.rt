@@ -10,7 +10,7 @@ pub(crate) const FRAME_NUMBERS: u64 = 1 << 30;
 pub(crate) const MAX_BPAGES: u64 = 8192;
 
 /// Drivers.
-pub(crate) const DRIVERS: usize = 1;
+pub(crate) const DRIVERS: usize = 16;
 
 /// Actors of the order.
 pub(crate) const ORDER: usize = 65536;

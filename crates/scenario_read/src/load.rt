@@ -8,10 +8,9 @@ ghost use Rattle.json_fields.specs.Read.{Gives};
 ghost use Rattle.json_fields.specs.Field.{spot_of};
 ghost use Rattle.scenario_read.specs.Counts.{IsWithin, with_op};
 ghost use Rattle.scenario_read.specs.Ops.{load_head_at, load_at};
-ghost use Rattle.scenario_read.specs.Uncut.{LiesInPage};
 ghost use Rattle.busdma_base.specs.Scenarios.Limits.{steps_limit};
 
-use crate::bytes::{load_length, target};
+use crate::bytes::target;
 use crate::counts::Counts;
 use crate::flags::{FlagSet, flags_field};
 use crate::items::then_field;
@@ -33,11 +32,10 @@ fn load_head(here: &Node, before: &[Op]) -> Result<LoadHead, Stop>
     requires { length before.now ≤ steps_limit }
     ensures value { Gives result (load_head_at before.now (spot_of here.now)) }
     ensures made { IfOk result (λ h. IsMade before.now (map_at h.map)) }
-    ensures in_page { IfOk result (λ h. LiesInPage h.target h.len) }
 {
     let map = used_name(here, NameKind::Map, "map", before)?;
     let target = target(here)?;
-    let len = load_length(here, target)?;
+    let len = here.number_field("len")?;
     let flags = flags_field(here, FlagSet::Load)?;
     Ok(LoadHead {
         map,

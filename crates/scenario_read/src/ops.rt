@@ -6,7 +6,6 @@ ghost use Rattle.json_fields.specs.Read.{Gives};
 ghost use Rattle.json_fields.specs.Field.{spot_of};
 ghost use Rattle.scenario_read.specs.Counts.{IsWithin, IsQuiet, with_op};
 ghost use Rattle.scenario_read.specs.Ops as ops;
-ghost use Rattle.scenario_read.specs.Uncut.{IsPlain, cuts_no_page};
 ghost use Rattle.busdma_base.specs.Scenarios.Limits.{steps_limit};
 
 use crate::bytes::{count_of, target, written};
@@ -16,35 +15,36 @@ use crate::names::{new_name, parent, used_name};
 use busdma_base::{NameKind, Op, Pa, TagLimits};
 use json_fields::{Node, RefusalKind, Stop};
 
-// The greatest length of a segment. One below a page is refused as long as loads are not cut.
-#[tactic(auto, unfolding(crate::specs::Ops::maxsegsz_at))]
-fn maxsegsz(here: &Node) -> Result<u64, Stop>
-    ensures value { Gives result (ops.maxsegsz_at (spot_of here.now)) }
-    ensures uncut { IfOk result (λ n. cuts_no_page n ≡ true) }
+// The greatest number of segments.
+#[tactic(auto, unfolding(crate::specs::Ops::nsegments_at))]
+fn nsegments(here: &Node) -> Result<u32, Stop>
+    ensures { Gives result (ops.nsegments_at (spot_of here.now)) }
 {
-    let maxsegsz = here.number_or("maxsegsz", u64::from(u32::MAX))?;
-    if 0 < maxsegsz && maxsegsz < 4096 {
-        return Err(here.refuse_key(RefusalKind::BadField, "maxsegsz"));
+    match u32::try_from(here.number_or("nsegments", 65536)?) {
+        Ok(nsegments) => Ok(nsegments),
+        Err(_) => Err(here.refuse_key(RefusalKind::BadField, "nsegments")),
     }
-    Ok(maxsegsz)
 }
 
 #[tactic(auto, unfolding(crate::specs::Ops::limits_at))]
 fn limits(here: &Node) -> Result<TagLimits, Stop>
-    ensures value { Gives result (ops.limits_at (spot_of here.now)) }
-    ensures plain { IfOk result IsPlain }
+    ensures { Gives result (ops.limits_at (spot_of here.now)) }
 {
+    let alignment = here.number_or("alignment", 1)?;
+    let boundary = here.number_or("boundary", 0)?;
+    let lowaddr = here.number_or("lowaddr", u64::MAX)?;
     let highaddr = here.number_or("highaddr", u64::MAX)?;
     let maxsize = here.number_or("maxsize", u64::from(u32::MAX))?;
-    let maxsegsz = maxsegsz(here)?;
+    let nsegments = nsegments(here)?;
+    let maxsegsz = here.number_or("maxsegsz", u64::from(u32::MAX))?;
     let flags = flags_field(here, FlagSet::Tag)?;
     Ok(TagLimits {
-        alignment: 1,
-        boundary: 0,
-        lowaddr: Pa(u64::MAX),
+        alignment,
+        boundary,
+        lowaddr: Pa(lowaddr),
         highaddr: Pa(highaddr),
         maxsize,
-        nsegments: 65536,
+        nsegments,
         maxsegsz,
         flags,
     })
@@ -58,7 +58,17 @@ pub(crate) fn tag(here: &Node, before: &[Op]) -> Result<Op, Stop>
     ensures quiet { IfOk result IsQuiet }
 {
     here.only_keys(&[
-        "op", "name", "parent", "highaddr", "maxsize", "maxsegsz", "flags",
+        "op",
+        "name",
+        "parent",
+        "alignment",
+        "boundary",
+        "lowaddr",
+        "highaddr",
+        "maxsize",
+        "nsegments",
+        "maxsegsz",
+        "flags",
     ])?;
     let name = new_name(here, "name", before)?;
     let parent = parent(here, before)?;

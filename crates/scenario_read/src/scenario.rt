@@ -8,8 +8,7 @@ ghost use Rattle.busdma_base.specs.Machine.FrameRuns.{IsNumbered, IsFrameRun};
 ghost use Rattle.busdma_base.specs.Scenarios.Valid.{IsDriver, IsValid, read_of, loaded_of};
 ghost use Rattle.json_fields.specs.Read.{Gives};
 ghost use Rattle.json_fields.specs.Field.{spot_of};
-ghost use Rattle.busdma_base.specs.Scenarios.Limits.{bpages_limit};
-ghost use Rattle.scenario_read.specs.Limits.{drivers_read};
+ghost use Rattle.busdma_base.specs.Scenarios.Limits.{bpages_limit, drivers_limit};
 ghost use Rattle.busdma_base.specs.Scenarios.Limits.{reads_limit, loaded_limit};
 ghost use Rattle.scenario_read.specs.Scenario as scenario;
 ghost use Rattle.scenario_read.specs.Scenario.{IsValidIfGood};
@@ -51,7 +50,7 @@ fn drivers_field(here: &Node, frames: &[FrameRun]) -> Result<DriverList, Stop>
     requires { AllByRecursion IsNumbered frames.now }
     ensures value { Gives result (scenario.drivers_field frames.now (spot_of here.now)) }
     ensures valid { IfOk result (EachAfter (IsDriver frames.now) []) }
-    ensures count { IfOk result (λ v. length v ≤ drivers_read) }
+    ensures count { IfOk result (λ v. length v ≤ drivers_limit) }
     ensures read { IfOk result (λ v. read_of v ≤ reads_limit) }
     ensures loaded { IfOk result (λ v. loaded_of v ≤ loaded_limit) }
 {

@@ -49,7 +49,9 @@ good <- {"frames":[],"max_bpages":"0x0000000000000001","drivers":[]}
 BadField max_bpages <- {"frames":[],"max_bpages":"0x00000000000000001","drivers":[]}
 BadField max_bpages <- {"frames":[],"max_bpages":"0x1g","drivers":[]}
 BadField drivers[0] <- {"frames":[],"drivers":[7]}
-Limit(drivers) drivers <- {"frames":[],"drivers":[7,7]}
+BadField drivers[1] <- {"frames":[],"drivers":[{"script":[]},7]}
+Limit(drivers) drivers <- {"frames":[],"drivers":[7,7,7,7,7,7,7,7,7,7,7,7,7,7,7,7,7]}
+good <- {"frames":[],"drivers":[{"script":[]},{"script":[]},{"script":[]},{"script":[]},{"script":[]},{"script":[]},{"script":[]},{"script":[]},{"script":[]},{"script":[]},{"script":[]},{"script":[]},{"script":[]},{"script":[]},{"script":[]},{"script":[]}]}
 BadField drivers[0].x <- {"frames":[],"drivers":[{"script":[],"x":1}]}
 BadField drivers[0].script <- {"frames":[],"drivers":[{"pages":[]}]}
 BadField drivers[0].pages <- {"frames":[],"drivers":[{"pages":7}]}
@@ -58,6 +60,9 @@ good <- {"frames":[],"drivers":[{"script":[]}]}
 BadField order[0] <- {"frames":[],"drivers":[],"order":["s0"]}
 BadField order <- {"frames":[],"drivers":[],"order":7}
 good <- {"frames":[],"drivers":[{"script":[]}],"order":["s0","d0","c0","s0"]}
+good <- {"frames":[],"drivers":[{"script":[]},{"script":[]}],"order":["s1","d0","c1"]}
+BadField order[0] <- {"frames":[],"drivers":[{"script":[]},{"script":[]}],"order":["s2"]}
+FrameTwice drivers[1].pages[0] <- {"frames":[[1,2]],"drivers":[{"pages":[[0,1,1]],"script":[]},{"pages":[[4096,1,1]],"script":[]}]}
 BadField order[1] <- {"frames":[],"drivers":[{"script":[]}],"order":["s0","s1"]}
 BadField order[0] <- {"frames":[],"drivers":[{"script":[]}],"order":["s00"]}
 BadField order[0] <- {"frames":[],"drivers":[{"script":[]}],"order":["x0"]}

@@ -21,6 +21,8 @@ Limit(steps) [4096] <- 4095 times {"op":"await","map":"m"}
 good <- 2047 times {"op":"load","map":"m","va":0,"len":4096,"then":[{"op":"sync","map":"m","ops":[]}]}
 Limit(steps) [2049] <- 2048 times {"op":"load","map":"m","va":0,"len":4096,"then":[{"op":"sync","map":"m","ops":[]}]}
 BadField [2].then[1] <- 1 times {"op":"load","map":"m","va":0,"len":4096,"then":[{"op":"sync","map":"m","ops":[]},7]}
+good <- 16 times {"op":"load","map":"m","va":0,"len":1048576}
+Limit(loaded) [18] <- 17 times {"op":"load","map":"m","va":0,"len":1048576}
 good <- 256 times {"op":"cpu_read","va":0,"len":4096}
 good <- 256 times {"op":"cpu_read","va":0,"len":4096},{"op":"cpu_read","va":0,"len":0}
 Limit(reads) [258] <- 257 times {"op":"cpu_read","va":0,"len":4096}

@@ -30,16 +30,22 @@ BadField [2].parent <- {"op":"tag","name":"x","parent":null}
 good <- {"op":"tag","name":"x","highaddr":"0xffffffffffffffff","maxsize":0}
 BadField [2].highaddr <- {"op":"tag","name":"x","highaddr":"x","maxsize":"y"}
 BadField [2].maxsize <- {"op":"tag","name":"x","maxsize":1.0}
-BadField [2].alignment <- {"op":"tag","name":"x","alignment":1}
-BadField [2].boundary <- {"op":"tag","name":"x","lowaddr":1,"boundary":0}
+good <- {"op":"tag","name":"x","alignment":4096,"boundary":65536,"lowaddr":"0xffffff"}
+good <- {"op":"tag","name":"x","alignment":0,"boundary":3,"lowaddr":"0xffffffffffffffff"}
+BadField [2].alignment <- {"op":"tag","name":"x","boundary":"x","alignment":-1}
+BadField [2].boundary <- {"op":"tag","name":"x","lowaddr":"x","boundary":"x"}
+BadField [2].lowaddr <- {"op":"tag","name":"x","highaddr":"x","lowaddr":1.5}
 good <- {"op":"tag","name":"x","maxsegsz":0}
 good <- {"op":"tag","name":"x","maxsegsz":4096}
 good <- {"op":"tag","name":"x","maxsegsz":"0xffffffffffffffff"}
-BadField [2].maxsegsz <- {"op":"tag","name":"x","maxsegsz":1,"flags":7}
-BadField [2].maxsegsz <- {"op":"tag","name":"x","maxsegsz":4095}
+BadField [2].flags <- {"op":"tag","name":"x","maxsegsz":1,"flags":7}
+good <- {"op":"tag","name":"x","maxsegsz":4095}
 BadField [2].maxsegsz <- {"op":"tag","name":"x","maxsegsz":0.0}
 BadField [2].maxsize <- {"op":"tag","name":"x","maxsegsz":1,"maxsize":"x"}
-BadField [2].nsegments <- {"op":"tag","name":"x","nsegments":1}
+good <- {"op":"tag","name":"x","nsegments":0}
+good <- {"op":"tag","name":"x","nsegments":4294967295}
+BadField [2].nsegments <- {"op":"tag","name":"x","maxsegsz":"x","nsegments":4294967296}
+BadField [2].maxsize <- {"op":"tag","name":"x","nsegments":4294967296,"maxsize":"x"}
 BadFlag [2].flags[0] <- {"op":"tag","name":"x","flags":["WAIT"]}
 good <- {"op":"tag","name":"x","flags":["ALLOCNOW","WAITOK","KEEP_PG_OFFSET","ALLOCNOW"]}
 BadFlag [2].flags[1] <- {"op":"tag","name":"x","flags":["ALLOCNOW","NOWAIT"]}
@@ -58,11 +64,12 @@ BadField [2].name <- {"op":"map","name":"N","tag":"x"}
 good <- {"op":"map_destroy","map":"m"}
 UnknownName [2].map <- {"op":"map_destroy","map":"t"}
 good <- {"op":"load","map":"m","va":"0x1000","len":4096}
-BadField [2].len <- {"op":"load","map":"m","va":"0x1000","len":4097}
+good <- {"op":"load","map":"m","va":"0x1000","len":1048576}
+Limit(buffer) [2] <- {"op":"load","map":"m","va":"0x1000","len":1048577}
 good <- {"op":"load","map":"m","va":"0x1fff","len":1}
-BadField [2].len <- {"op":"load","map":"m","va":"0x1fff","len":2}
-BadField [2].len <- {"op":"load","map":"m","va":"0x1001","len":"0xffffffffffffffff"}
-BadField [2].len <- {"op":"load","map":"m","va":"0x1000","len":4097,"flags":7}
+good <- {"op":"load","map":"m","va":"0x1fff","len":2}
+Limit(buffer) [2] <- {"op":"load","map":"m","va":"0x1001","len":"0xffffffffffffffff","then":7}
+BadField [2].flags <- {"op":"load","map":"m","va":"0x1000","len":1048577,"flags":7}
 UnknownName [2].map <- {"op":"load","map":"x","len":0}
 BadField [2] <- {"op":"load","map":"m","len":"x"}
 BadField [2].va <- {"op":"load","map":"m","va":"x","len":"x"}
