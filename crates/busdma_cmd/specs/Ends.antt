@@ -9,7 +9,7 @@ use Rattle.scenario_read.specs.declared.reading.Reading.TheVariants.{Good, Bad}
 use Rattle.scenario_read.specs.Scenario.{scenario_of}
 use Rattle.report_text.specs.Report.{report}
 use Rattle.ideal_world.specs.Legal.{IsReplayed}
-use Rattle.bounced_world.specs.Status.{status}
+use Rattle.ideal_world.specs.Ends.{status}
 use Rattle.busdma_cmd.specs.declared.cause.Cause.{Cause}
 use Rattle.busdma_cmd.specs.declared.cause.Cause.TheVariants as cause
 use Rattle.busdma_cmd.specs.declared.outcome.Outcome.{Outcome}
