@@ -31,8 +31,7 @@ fn a_round_is_replayed(rt: HostRuntime) -> Result<(), Fail> {
 #[test]
 fn the_greatest_seed_is_replayed(rt: HostRuntime) -> Result<(), Fail> {
     let lines = replayed(rt.alloc(), 2, u64::MAX)?;
-    let want =
-        "storm 2 18446744073709551615\nentries 89\nreports 0\ndeferred 5\nend finished\n";
+    let want = "storm 2 18446744073709551615\nentries 89\nreports 0\ndeferred 5\nend finished\n";
     assert_eq!(rt; lines.as_slice(), want.as_bytes());
     Ok(())
 }

@@ -266,14 +266,30 @@ fn bounces(rt: HostRuntime) -> Result<(), Fail> {
     let table = [
         (ABOVE_MAXSIZE, ABOVE_MAXSIZE_REPORT, 0),
         (ALIGNMENT, ALIGNMENT_REPORT, 0),
-        (DEVICE_WRITE_PAST_THE_END, DEVICE_WRITE_PAST_THE_END_REPORT, 1),
+        (
+            DEVICE_WRITE_PAST_THE_END,
+            DEVICE_WRITE_PAST_THE_END_REPORT,
+            1,
+        ),
         (INHERITANCE, INHERITANCE_REPORT, 0),
         (KEPT_PAGE_OFFSET, KEPT_PAGE_OFFSET_REPORT, 0),
-        (KEPT_PAGE_OFFSET_OF_AN_ALIGNMENT, KEPT_PAGE_OFFSET_OF_AN_ALIGNMENT_REPORT, 0),
+        (
+            KEPT_PAGE_OFFSET_OF_AN_ALIGNMENT,
+            KEPT_PAGE_OFFSET_OF_AN_ALIGNMENT_REPORT,
+            0,
+        ),
         (RANGES_SYNCED, RANGES_SYNCED_REPORT, 0),
-        (SCATTERED_BECOMES_ONE_SEGMENT, SCATTERED_BECOMES_ONE_SEGMENT_REPORT, 0),
+        (
+            SCATTERED_BECOMES_ONE_SEGMENT,
+            SCATTERED_BECOMES_ONE_SEGMENT_REPORT,
+            0,
+        ),
         (SHORT_DEVICE_WRITE, SHORT_DEVICE_WRITE_REPORT, 1),
-        (SHORT_DEVICE_WRITE_OVER_KNOWN_BYTES, SHORT_DEVICE_WRITE_OVER_KNOWN_BYTES_REPORT, 0),
+        (
+            SHORT_DEVICE_WRITE_OVER_KNOWN_BYTES,
+            SHORT_DEVICE_WRITE_OVER_KNOWN_BYTES_REPORT,
+            0,
+        ),
     ];
     for (scenario, want, status) in table {
         replays(&rt, rt.alloc(), scenario, want, status)?;

@@ -199,7 +199,11 @@ fn deferrals(rt: HostRuntime) -> Result<(), Fail> {
         (GROWTH_WHILE_ONE_WAITS, GROWTH_WHILE_ONE_WAITS_REPORT, 0),
         (NOWAIT, NOWAIT_REPORT, 0),
         (STUCK, STUCK_REPORT, 2),
-        (TOO_MANY_SEGMENTS_AT_A_CALLBACK, TOO_MANY_SEGMENTS_AT_A_CALLBACK_REPORT, 0),
+        (
+            TOO_MANY_SEGMENTS_AT_A_CALLBACK,
+            TOO_MANY_SEGMENTS_AT_A_CALLBACK_REPORT,
+            0,
+        ),
         (TWO_DRIVERS, TWO_DRIVERS_REPORT, 0),
     ];
     for (scenario, want, status) in table {
