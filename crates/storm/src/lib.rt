@@ -10,8 +10,6 @@ mod scenario;
 mod tests;
 mod transfer;
 
-pub use laws::{
-    storms_are_valid, storms_have_seven_steps_a_round,
-};
+pub use laws::{storms_are_valid, storms_have_seven_steps_a_round};
 pub use lines::summary;
 pub use scenario::storm_scenario;
