@@ -20,6 +20,7 @@ mod Foreign
 mod HeldMemory
 mod Keeping
 mod KeepsWired
+mod LaneCalls
 mod Lenders
 mod Loaded
 mod LoadJudged
@@ -31,9 +32,11 @@ mod MapTables
 mod MapValues
 mod MarkedMemory
 mod Marks
+mod OneProvided
 mod OneStanding
 mod OpeningLane
 mod OpeningPages
+mod OpensProvided
 mod OpensWired
 mod OwnRuns
 mod PageCounts
@@ -47,7 +50,10 @@ mod Repaging
 mod Returned
 mod ReturnSteps
 mod ReturnTurns
+mod SameHoldings
+mod ScriptTurns
 mod Shares
+mod SmallLoads
 mod StaysWired
 mod Syncing
 mod TagSteps

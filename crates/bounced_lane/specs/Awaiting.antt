@@ -42,7 +42,7 @@ pub record IsAwaiting (h : Holdings) (m load_at : ℕ) (items : List Item) (room
   pub load : slice_get h.script.now load_at ≡ Some (Load m (At va) len flags items)
   pub own : get h.memories.map m ≡ None
   pub reached : reached (ideal_of h) va.0 len ≡ Fine
-  pub room : (o : LaneMap) (need : ℕ) → get (ideal_of h).maps m ≡ Some o → o.stage ≡ Waiting load_at need →
+  pub fits : (o : LaneMap) (need : ℕ) → get (ideal_of h).maps m ≡ Some o → o.stage ≡ Waiting load_at need →
       HasRoomForAny (limits_of (ideal_of h) o) (buffer_chunks (ideal_of h) o va.0 len) need room
   pub prepared : get h.loans.prepared m
       ≡ Some (new_loan (is_coherent (get (ideal_of h).mems m))

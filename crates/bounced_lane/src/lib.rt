@@ -3,6 +3,7 @@
 
 mod accesses;
 mod buffers;
+mod calls;
 mod finishing;
 mod holdings;
 mod judging;
@@ -11,8 +12,10 @@ mod lane;
 mod loads;
 mod maps;
 mod opening;
+mod operations;
 mod page_lists;
 mod returns;
+mod stepping;
 mod steps;
 mod syncs;
 mod tags;

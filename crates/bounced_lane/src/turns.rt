@@ -1,4 +1,4 @@
-//! The turns of a driver's sides, as far as they are made.
+//! The turns of a driver's sides.
 
 ghost use Rattle.std.specs.Prelude.{◌≡◌, ◌+◌, ◌≤◌, [], false, length, IfNone, IfOk, IfSome, OnErr, OnOk};
 ghost use Rattle.busdma_base.specs.declared.journals.journal.Side.{Side};
@@ -15,7 +15,7 @@ ghost use Rattle.bounced_lane.specs.Doing.{IsAllowedBy, IsUndone};
 ghost use Rattle.bounced_lane.specs.Turning.{IsMade, IsReady, is_held, turned};
 ghost use Rattle.bounced_lane.specs.Wire.{IsWired, wire_of};
 
-use crate::holdings::Holdings;
+use crate::holdings::{Answered, Holdings};
 use crate::returns::Released;
 use crate::turn::Turn;
 use busdma_base::{Actor, Answer, Did, HubDoor, JournalEntry, LaneId, Side};
@@ -46,6 +46,7 @@ pub(crate) fn turns_leave_ready()
 
 impl Holdings<'_> {
     ghost use Rattle.bounced_lane.specs.Ideal.{ideal_of};
+    ghost use Rattle.bounced_lane.specs.Provided.{IsProvided};
 
     /// The first page of the return queue goes back to its zone, if there is one.
     pub(crate) fn return_turn<D: HubDoor>(&mut self, door: &mut D) -> Option<Turn>
@@ -59,6 +60,78 @@ impl Holdings<'_> {
         let Released { map, page, served } = self.release(door)?;
         let did = Did::Release { map, page };
         Some(stepped(self.id, Side::Script, did, Answer::Served(served), true))
+    }
+
+    /// The next operation of the script, where no page goes back.
+    fn operation_turn<D: HubDoor>(
+        &mut self,
+        alloc: Global,
+        door: &mut D,
+    ) -> Result<Turn, AllocError>
+        requires ready { IsReady self.old (D.seen door.old) }
+        requires provided { IsProvided self.old }
+        requires length { self.old.agenda.length ≡ length self.old.script.now }
+        requires empty { self.old.agenda.returns ≡ [] }
+        ensures made { IfOk result (IsMade self.old self.new (D.seen door.old) (D.seen door.new) side.Script) }
+        ensures err { OnErr result (KeepsState self.old self.new) }
+        ensures undone { OnErr result (IsUndone (D.seen door.old) (D.seen door.new)) }
+        ensures room { OnErr result (self.old.agenda.room ≤ self.new.agenda.room) }
+        ensures provided { IsProvided self.new }
+        ensures fixed { D.fixed door.new ≡ D.fixed door.old }
+    {
+        let place = self.agenda.place();
+        let Some(op) = self.script.get(place as usize) else {
+            return Ok(Turn::Ended);
+        };
+        if self.waits(op) {
+            return Ok(Turn::Blocked);
+        }
+        let Answered { answer, held } = self.operation(alloc, door, op)?;
+        self.advance();
+        Ok(stepped(self.id, Side::Script, Did::Op(place), answer, held))
+    }
+
+    /// The script: a page goes back, or else the next operation is done.
+    fn script_turn<D: HubDoor>(&mut self, alloc: Global, door: &mut D) -> Result<Turn, AllocError>
+        requires ready { IsReady self.old (D.seen door.old) }
+        requires provided { IsProvided self.old }
+        requires length { self.old.agenda.length ≡ length self.old.script.now }
+        ensures made { IfOk result (IsMade self.old self.new (D.seen door.old) (D.seen door.new) side.Script) }
+        ensures err { OnErr result (KeepsState self.old self.new) }
+        ensures undone { OnErr result (IsUndone (D.seen door.old) (D.seen door.new)) }
+        ensures room { OnErr result (self.old.agenda.room ≤ self.new.agenda.room) }
+        ensures provided { IsProvided self.new }
+        ensures fixed { D.fixed door.new ≡ D.fixed door.old }
+    {
+        match self.return_turn(door) {
+            Some(turn) => Ok(turn),
+            None => self.operation_turn(alloc, door),
+        }
+    }
+
+    /// A turn of a side.
+    pub(crate) fn turn<D: HubDoor>(
+        &mut self,
+        alloc: Global,
+        door: &mut D,
+        side: Side,
+    ) -> Result<Turn, AllocError>
+        requires ready { IsReady self.old (D.seen door.old) }
+        requires provided { IsProvided self.old }
+        requires length { self.old.agenda.length ≡ length self.old.script.now }
+        ensures made { IfOk result (IsMade self.old self.new (D.seen door.old) (D.seen door.new) side) }
+        ensures err { OnErr result (KeepsState self.old self.new) }
+        ensures undone { OnErr result (IsUndone (D.seen door.old) (D.seen door.new)) }
+        ensures ready { IsReady self.new (D.seen door.new) }
+        ensures provided { IsProvided self.new }
+        ensures length { self.new.agenda.length ≡ length self.new.script.now }
+        ensures fixed { D.fixed door.new ≡ D.fixed door.old }
+    {
+        match side {
+            Side::Script => self.script_turn(alloc, door),
+            Side::Transfer => self.transfer_turn(alloc),
+            Side::Callback => Ok(self.call_back(door)),
+        }
     }
 
     /// The first item of the transfer queue, if there is one.
