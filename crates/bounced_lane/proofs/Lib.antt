@@ -1,9 +1,13 @@
 mod AfterTurn
 mod Asked
 mod Awaiting
+mod AwaitingLoads
 mod Bouncing
 mod BufferBytes
 mod Bytes
+mod CallbackTurns
+mod Called
+mod CalledLoads
 mod Changing
 mod Chunked
 mod Copying
@@ -14,6 +18,7 @@ mod Devices
 mod DeviceWrites
 mod Doors
 mod Earlier
+mod EndedWaits
 mod Finding
 mod Following
 mod Foreign
@@ -55,8 +60,10 @@ mod ScriptTurns
 mod Shares
 mod SmallLoads
 mod StaysWired
+mod StillAwaiting
 mod Syncing
 mod TagSteps
+mod TakenLoads
 mod TurnEnds
 mod Unloaded
 mod UnloadSteps

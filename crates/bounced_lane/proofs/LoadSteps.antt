@@ -59,7 +59,7 @@ over : {X : Type 0} (b : Bool) (x y z : X) → cond b x (cond b y z) ≡ cond b 
 over true x y z = refl
 over false x y z = refl
 
-put-over : {X : Type 0} (m : FinMap nat_cmp X) (k : ℕ) (x v : X) → insert (insert m k x) k v ≡ insert m k v
+pub put-over : {X : Type 0} (m : FinMap nat_cmp X) (k : ℕ) (x v : X) → insert (insert m k x) k v ≡ insert m k v
 put-over m k x v = same_map nat_cmp_total exact_unsigned (insert (insert m k x) k v) (insert m k v) (λ q.
     get-insert nat_cmp_total (insert m k x) k v q
     ∙ ap (cond (eq_by_cmp nat_cmp q k) (Some v)) (get-insert nat_cmp_total m k x q)

@@ -51,6 +51,19 @@ pub record KeepsButTags (h k : Holdings) : Type 0 where
   pub agenda : k.agenda ≡ h.agenda
   pub shares : k.shares ≡ h.shares
 
+-- all but the maps
+pub record KeepsButMaps (h k : Holdings) : Type 0 where
+  pub script : k.script ≡ h.script
+  pub pages : k.pages ≡ h.pages
+  pub id : k.id ≡ h.id
+  pub maxmem : k.maxmem ≡ h.maxmem
+  pub memory : k.memory ≡ h.memory
+  pub tags : k.tags ≡ h.tags
+  pub memories : k.memories ≡ h.memories
+  pub loans : k.loans ≡ h.loans
+  pub agenda : k.agenda ≡ h.agenda
+  pub shares : k.shares ≡ h.shares
+
 -- all but the agenda
 pub record KeepsButAgenda (h k : Holdings) : Type 0 where
   pub script : k.script ≡ h.script

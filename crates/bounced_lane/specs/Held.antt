@@ -6,7 +6,7 @@ use Rattle.std.specs.Prelude.{nat_le, nat_lt, slice_index}
 use Rattle.std.specs.Ordering.{nat_cmp}
 use Rattle.std.specs.FinMap.{FinMap, get, entries}
 use Rattle.busdma_base.specs.declared.machine.chunk.Chunk.{Chunk}
-use Rattle.busdma_base.specs.Machine.Wire.{Wire, Placed, with_bytes_of}
+use Rattle.busdma_base.specs.Machine.Wire.{Wire, with_bytes_of}
 use Rattle.loan_table.specs.declared.position.Position.{Position}
 use Rattle.loan_table.specs.Loans.{Loan, Loans}
 use Rattle.phys_memory.specs.Memory.{Memory, wire}
@@ -21,11 +21,6 @@ abbrev pub bus_of : List Chunk → ℕ → ℕ → ℕ
 bus_of [] i pa = pa
 bus_of (c ∷ cs) i pa =
     if nat_le c.at i && nat_lt i (c.at + chunk_len c) then slice_index (bus_addresses c) (i - c.at) else bus_of cs i pa
-
--- the trace of a load with these bounced chunks, of its positions from a place on
-abbrev pub trace_from : List Chunk → ℕ → List Position → List Placed
-trace_from cs i [] = []
-trace_from cs i (p ∷ ps) = record { pa = p.pa; bus = bus_of cs i p.pa } ∷ trace_from cs (i + 1) ps
 
 -- the bus address of the first of these positions, from a place on, that lends a byte to write, if one does
 abbrev pub lent_bus : List Chunk → ℕ → List Position → ℕ → Option ℕ

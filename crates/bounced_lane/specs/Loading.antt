@@ -64,9 +64,11 @@ pub record IsWanted (t : TagLimits) (chunks : List Chunk) (len pages_needed room
   pub segments : (pages : List Pa) → AllByRecursion IsPage pages →
       min (length (placed_pieces t chunks pages)) t.nsegments ≤ room
 
--- empty lists have room for the load of chunks that need so many pages, in whichever pages
+-- empty lists have room for the load of chunks that need so many pages, in whichever pages, and for their addresses
 pub record HasRoomForAny (t : TagLimits) (chunks : List Chunk) (pages_needed : ℕ) (room : LoadRoom) : Type 0 where
   pub need : pages_needed ≡ need_of chunks
+  pub empty_addresses : room.addresses.items ≡ []
+  pub addresses : pages_needed ≤ room.addresses.spare
   pub any : (pages : List Pa) → AllByRecursion IsPage pages → length pages ≡ pages_needed →
       HasRoomFor t chunks pages room
 

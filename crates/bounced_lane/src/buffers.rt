@@ -2,6 +2,8 @@
 
 ghost use Rattle.std.specs.Prelude.{◌≡◌, ◌≤◌, ◌^◌, ◌++◌, ◌+◌, [], length, min, true, false};
 ghost use Rattle.std.specs.List.{AllByRecursion};
+ghost use Rattle.busdma_base.specs.Bounce.AccountStep.{as_pages};
+ghost use Rattle.busdma_base.specs.Machine.PageList.{page_addresses};
 ghost use Rattle.phys_memory.specs.Memory.{physical};
 ghost use Rattle.phys_memory.specs.Walk.{flat};
 ghost use Rattle.segment_build.specs.Building.{placed_pieces};
@@ -9,7 +11,7 @@ ghost use Rattle.segment_build.specs.Chunks.{need_of};
 ghost use Rattle.segment_build.specs.Streams.{IsBuiltFrom, IsMeasured, OverflowsFrom, stream_chunks};
 ghost use Rattle.segment_build.specs.Trace.{IsPage};
 
-use busdma_base::{Pa, Segment, SegmentRoom, Va};
+use busdma_base::{Pa, Page, RoomyList, Segment, SegmentRoom, Va};
 use dma_map::LoadRoom;
 use dma_tag::Tag;
 use phys_memory::LanePages;
@@ -30,37 +32,49 @@ pub(crate) fn measure_buffer(tag: &Tag, maxmem: u64, memory: &LanePages, buffer:
     measure(tag, maxmem, memory.parts_flat(buffer.va, buffer.len))
 }
 
-/// Builds the segments and the bounced chunks of the load of a buffer into its room, and answers whether the segments
-/// are few enough. Where they are not, both lists are empty.
+/// Builds the segments and the bounced chunks of the load of a buffer into its room, in the pages whose addresses stand
+/// there, and answers whether the segments are few enough. Where they are not, both lists are empty.
 pub(crate) fn build_buffer(
     tag: &Tag,
     maxmem: u64,
     memory: &LanePages,
     buffer: Buffer,
-    pages: &[Pa],
     room: &mut LoadRoom,
 ) -> bool
     requires small { buffer.len ≤ 2 ^ 20 }
-    requires pages { AllByRecursion IsPage pages.now }
+    requires pages { AllByRecursion IsPage room.old.addresses.items }
     requires empty { room.old.list.items ≡ [] }
     requires empty_bounced { room.old.bounced.items ≡ [] }
     requires paged { let ps = flat (physical memory.now.memory) buffer.va.0 buffer.len in
-        need_of (stream_chunks tag.now maxmem ps) ≤ length pages.now }
+        need_of (stream_chunks tag.now maxmem ps) ≤ length room.old.addresses.items }
     requires fits { let ps = flat (physical memory.now.memory) buffer.va.0 buffer.len in
-        min (length (placed_pieces tag.now (stream_chunks tag.now maxmem ps) pages.now)) tag.now.nsegments
-        ≤ room.old.list.spare }
+        min (length (placed_pieces tag.now (stream_chunks tag.now maxmem ps) room.old.addresses.items))
+        tag.now.nsegments ≤ room.old.list.spare }
     requires bounced_fit { let ps = flat (physical memory.now.memory) buffer.va.0 buffer.len in
         need_of (stream_chunks tag.now maxmem ps) ≤ room.old.bounced.spare }
-    ensures few { result ≡ true → IsBuiltFrom tag.now maxmem pages.now
+    ensures few { result ≡ true → IsBuiltFrom tag.now maxmem room.old.addresses.items
         (flat (physical memory.now.memory) buffer.va.0 buffer.len) room.new.list.items room.new.bounced.items }
-    ensures many { result ≡ false → OverflowsFrom tag.now maxmem pages.now
+    ensures many { result ≡ false → OverflowsFrom tag.now maxmem room.old.addresses.items
         (flat (physical memory.now.memory) buffer.va.0 buffer.len) }
     ensures none { result ≡ false → room.new.list.items ≡ [] }
     ensures shown { room.new.shown ≡ room.old.shown }
 {
+    let pages = room.addresses.as_slice();
     fronts_ask_no_more(tag, maxmem, pages);
     let parts = memory.parts_flat(buffer.va, buffer.len);
     build_into(tag, maxmem, parts, pages, &mut room.list, &mut room.bounced)
+}
+
+/// The addresses of pages, in order, in an empty list that has room for them.
+pub(crate) fn write_addresses(pages: &[Page], list: &mut RoomyList<Pa>)
+    requires empty { list.old.items ≡ [] }
+    requires room { length pages.now ≤ list.old.spare }
+    ensures addresses { list.new.items ≡ as_pages (page_addresses pages.now) }
+    ensures at_frames { AllByRecursion IsPage list.new.items }
+{
+    for page in pages {
+        list.push(Pa(page.frame() * 4096)).unwrap();
+    }
 }
 
 /// Copies segments behind those of a list that has room for them.

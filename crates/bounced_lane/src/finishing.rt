@@ -1,11 +1,12 @@
 //! What a load leaves in its map.
 
-ghost use Rattle.std.specs.Prelude.{◌≡◌, ◌+◌, ◌≤◌, true, Some, length};
-ghost use Rattle.std.specs.FinMap.{get, insert};
+ghost use Rattle.std.specs.Prelude.{◌≡◌, ℕ, ◌+◌, ◌≤◌, true, Some, length};
+ghost use Rattle.std.specs.FinMap.{get, insert, remove};
 ghost use Rattle.busdma_base.specs.Machine.PageList.{page_addresses};
 ghost use Rattle.loan_table.specs.Loans.{loan_of};
 ghost use Rattle.ideal_lane.specs.Loads.{staged};
 ghost use Rattle.ideal_lane.specs.State.{Idle, LaneMap, Loaded};
+ghost use Rattle.bounced_lane.specs.Awaiting.{kept_load};
 ghost use Rattle.bounced_lane.specs.Covered.{has_load, is_idle_map, pages_due};
 ghost use Rattle.bounced_lane.specs.Loading.{HasPrepared};
 
@@ -13,6 +14,7 @@ use crate::holdings::Holdings;
 use busdma_base::{ChunkList, PageList, SegmentList};
 
 impl Holdings<'_> {
+    ghost use Rattle.bounced_lane.specs.Awaiting.{KeepsWaiting};
     ghost use Rattle.bounced_lane.specs.Changes.{KeepsBytes, KeepsBytesBut};
     ghost use Rattle.bounced_lane.specs.Ideal.{ideal_of};
 
@@ -23,6 +25,8 @@ impl Holdings<'_> {
             ideal_of self.new ≡ staged map o Idle (ideal_of self.old) }
         ensures bytes { KeepsBytes self.old self.new }
         ensures agenda { self.new.agenda ≡ self.old.agenda }
+        ensures memories { self.new.memories ≡ self.old.memories }
+        ensures waiting { KeepsWaiting self.old self.new }
     {
         if let Some(mut kept) = self.maps.take(map) {
             kept.map.note_tried();
@@ -48,6 +52,9 @@ impl Holdings<'_> {
         ensures loaded { has_load (get self.new.maps.map map) ≡ true }
         ensures bytes { KeepsBytesBut map self.old self.new }
         ensures agenda { self.new.agenda ≡ self.old.agenda }
+        ensures memories { self.new.memories ≡ self.old.memories }
+        ensures kept { (m : ℕ) → kept_load (get self.new.maps.map m) ≡ kept_load (get self.old.maps.map m) }
+        ensures prepared { self.new.loans.prepared ≡ remove self.old.loans.prepared map }
     {
         let id = self.map_id(map);
         if let Some(mut kept) = self.maps.take(map) {

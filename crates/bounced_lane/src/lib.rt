@@ -3,6 +3,7 @@
 
 mod accesses;
 mod buffers;
+mod callbacks;
 mod calls;
 mod finishing;
 mod holdings;

@@ -21,15 +21,15 @@ ghost use Rattle.ideal_lane.specs.State.{LaneMap, named};
 ghost use Rattle.ideal_lane.specs.Turns.{load_at_place};
 ghost use Rattle.bounced_lane.specs.Doing.{IsAllowedBy, IsCalled, IsDone, IsUndone};
 ghost use Rattle.bounced_lane.specs.Covered.{is_idle_map, pages_due};
-ghost use Rattle.bounced_lane.specs.Loading.{HasRoomFor, IsFilled, IsOverfull, IsWanted};
+ghost use Rattle.bounced_lane.specs.Loading.{HasRoomForAny, IsFilled, IsOverfull, IsWanted};
 ghost use Rattle.bounced_lane.specs.Loading.{buffer_chunks, buffer_entries};
 
-use crate::buffers::{Buffer, build_buffer, copy_segments, measure_buffer};
+use crate::buffers::{Buffer, build_buffer, copy_segments, measure_buffer, write_addresses};
 use crate::holdings::{Holdings, report};
 use bitflags::Flags;
 use busdma_base::{
-    Answer, ChunkRoom, Errno, HubDoor, ItemList, Judged, Pa, PageList, Place, ReportName,
-    SegmentRoom, ZoneId,
+    Answer, ChunkRoom, Errno, HubDoor, ItemList, Judged, Page, PageList, Place, ReportName,
+    RoomyList, SegmentRoom, ZoneId,
 };
 use dma_map::{LoadRoom, MapState};
 use dma_tag::LoadFlags;
@@ -56,14 +56,17 @@ fn take_room(alloc: Global, wanted: Wanted) -> Result<LoadRoom, AllocError>
     ensures list { IfOk result (λ r. r.list.items ≡ []) }
     ensures shown { IfOk result (λ r. r.shown.items ≡ []) }
     ensures bounced { IfOk result (λ r. r.bounced.items ≡ []) }
+    ensures addresses { IfOk result (λ r. r.addresses.items ≡ []) }
     ensures list_room { IfOk result (λ r. wanted.segments ≤ r.list.spare) }
     ensures shown_room { IfOk result (λ r. wanted.segments ≤ r.shown.spare) }
     ensures bounced_room { IfOk result (λ r. wanted.need ≤ r.bounced.spare) }
+    ensures addresses_room { IfOk result (λ r. wanted.need ≤ r.addresses.spare) }
 {
     Ok(LoadRoom {
         list: SegmentRoom::with_room(alloc, wanted.segments as usize)?,
         shown: SegmentRoom::with_room(alloc, wanted.segments as usize)?,
         bounced: ChunkRoom::with_room(alloc, wanted.need as usize)?,
+        addresses: RoomyList::with_room(alloc, wanted.need as usize)?,
     })
 }
 
@@ -98,8 +101,12 @@ impl Holdings<'_> {
         ensures err { OnErr result (KeepsState self.old self.new) }
         ensures undone { OnErr result (IsUndone (D.seen door.old) (D.seen door.new)) }
         ensures bytes { KeepsBytesBut map self.old self.new }
+        ensures memories { self.new.memories ≡ self.old.memories }
         ensures place { self.new.agenda.place ≡ self.old.agenda.place }
         ensures length { self.new.agenda.length ≡ self.old.agenda.length }
+        ensures capacity { self.new.agenda.room + length self.new.agenda.queue
+            ≡ self.old.agenda.room + length self.old.agenda.queue }
+        ensures promised { self.new.agenda.promised ≤ self.old.agenda.promised + len }
         ensures fixed { D.fixed door.new ≡ D.fixed door.old }
     {
         match place {
@@ -132,8 +139,12 @@ impl Holdings<'_> {
         ensures err { OnErr result (KeepsState self.old self.new) }
         ensures undone { OnErr result (IsUndone (D.seen door.old) (D.seen door.new)) }
         ensures bytes { KeepsBytesBut map self.old self.new }
+        ensures memories { self.new.memories ≡ self.old.memories }
         ensures place { self.new.agenda.place ≡ self.old.agenda.place }
         ensures length { self.new.agenda.length ≡ self.old.agenda.length }
+        ensures capacity { self.new.agenda.room + length self.new.agenda.queue
+            ≡ self.old.agenda.room + length self.old.agenda.queue }
+        ensures promised { self.new.agenda.promised ≤ self.old.agenda.promised + buffer.len }
         ensures fixed { D.fixed door.new ≡ D.fixed door.old }
     {
         let Some(kept) = self.maps.get(map) else {
@@ -205,6 +216,7 @@ impl Holdings<'_> {
         ensures same { KeepsState self.old self.new }
         ensures maps { self.new.maps ≡ self.old.maps }
         ensures agenda { self.new.agenda ≡ self.old.agenda }
+        ensures memories { self.new.memories ≡ self.old.memories }
     {
         let id = self.map_id(map);
         let bytes = match self.memory.translate(alloc, buffer.va, buffer.len)? {
@@ -216,21 +228,23 @@ impl Holdings<'_> {
 
     /// Builds the load of a map with a buffer in these pages into its room, and answers whether the segments are few
     /// enough.
-    fn build_load(&self, map: u32, buffer: Buffer, pages: &[Pa], room: &mut LoadRoom) -> bool
+    fn build_load(&self, map: u32, buffer: Buffer, pages: &[Page], room: &mut LoadRoom) -> bool
         requires stands { Stands (ideal_of self.now) }
         requires idle { is_idle_map (get self.now.maps.map map) ≡ true }
         requires reached { reached (ideal_of self.now) buffer.va.0 buffer.len ≡ Fine }
         requires small { buffer.len ≤ 2 ^ 20 }
-        requires pages { AllByRecursion IsPage pages.now }
         requires room { (o : LaneMap) → get (ideal_of self.now).maps map ≡ Some o →
-            HasRoomFor (limits_of (ideal_of self.now) o)
-            (buffer_chunks (ideal_of self.now) o buffer.va.0 buffer.len) pages.now room.old }
+            HasRoomForAny (limits_of (ideal_of self.now) o)
+            (buffer_chunks (ideal_of self.now) o buffer.va.0 buffer.len) (length pages.now) room.old }
+        ensures at_frames { AllByRecursion IsPage (as_pages (page_addresses pages.now)) }
         ensures few { result ≡ true → (o : LaneMap) → get (ideal_of self.now).maps map ≡ Some o →
             IsFilled (limits_of (ideal_of self.now) o)
-            (buffer_chunks (ideal_of self.now) o buffer.va.0 buffer.len) pages.now room.new }
+            (buffer_chunks (ideal_of self.now) o buffer.va.0 buffer.len) (as_pages (page_addresses pages.now))
+            room.new }
         ensures many { result ≡ false → (o : LaneMap) → get (ideal_of self.now).maps map ≡ Some o →
             IsOverfull (limits_of (ideal_of self.now) o)
-            (buffer_chunks (ideal_of self.now) o buffer.va.0 buffer.len) pages.now room.new }
+            (buffer_chunks (ideal_of self.now) o buffer.va.0 buffer.len) (as_pages (page_addresses pages.now))
+            room.new }
         ensures shown { room.new.shown ≡ room.old.shown }
     {
         let Some(kept) = self.maps.get(map) else {
@@ -239,17 +253,17 @@ impl Holdings<'_> {
         let Some(made) = self.tags.get(kept.tag) else {
             return false;
         };
-        build_buffer(&made.tag, self.maxmem, &self.memory, buffer, pages, room)
+        write_addresses(pages, &mut room.addresses);
+        build_buffer(&made.tag, self.maxmem, &self.memory, buffer, room)
     }
 
-    /// Ends the load of an idle map that has its pages, at these addresses: with its segments, or with EFBIG, and then
-    /// the pages join the return queue.
+    /// Ends the load of an idle map that has its pages: with its segments, or with EFBIG, and then the pages join the
+    /// return queue.
     pub(crate) fn complete_load(
         &mut self,
         map: u32,
         load_at: u32,
         buffer: Buffer,
-        addresses: &[Pa],
         mut room: LoadRoom,
         pages: PageList,
         items: ItemList,
@@ -258,11 +272,9 @@ impl Holdings<'_> {
         requires idle { is_idle_map (get self.old.maps.map map) ≡ true }
         requires reached { reached (ideal_of self.old) buffer.va.0 buffer.len ≡ Fine }
         requires small { buffer.len ≤ 2 ^ 20 }
-        requires at_frames { AllByRecursion IsPage addresses.now }
-        requires addresses { addresses.now ≡ as_pages (page_addresses pages.items) }
         requires room { (o : LaneMap) → get (ideal_of self.old).maps map ≡ Some o →
-            HasRoomFor (limits_of (ideal_of self.old) o)
-            (buffer_chunks (ideal_of self.old) o buffer.va.0 buffer.len) addresses.now room }
+            HasRoomForAny (limits_of (ideal_of self.old) o)
+            (buffer_chunks (ideal_of self.old) o buffer.va.0 buffer.len) (length pages.items) room }
         requires prepared { get self.old.loans.prepared map ≡ Some (new_loan
             (is_coherent (get (ideal_of self.old).mems map))
             (entries_addresses (buffer_entries (ideal_of self.old) buffer.va.0 buffer.len))) }
@@ -274,14 +286,19 @@ impl Holdings<'_> {
             (buffer_chunks (ideal_of self.old) o buffer.va.0 buffer.len) (page_addresses pages.items)
             (ideal_of self.old) }
         ensures bytes { KeepsBytesBut map self.old self.new }
+        ensures memories { self.new.memories ≡ self.old.memories }
         ensures place { self.new.agenda.place ≡ self.old.agenda.place }
         ensures length { self.new.agenda.length ≡ self.old.agenda.length }
+        ensures capacity { self.new.agenda.room + length self.new.agenda.queue
+            ≡ self.old.agenda.room + length self.old.agenda.queue }
+        ensures promised { self.new.agenda.promised ≤ self.old.agenda.promised }
     {
-        let few = self.build_load(map, buffer, addresses, &mut room);
+        let few = self.build_load(map, buffer, pages.as_slice(), &mut room);
         let LoadRoom {
             list,
             mut shown,
             bounced,
+            addresses: _,
         } = room;
         copy_segments(list.as_slice(), &mut shown);
         self.store_load(map, bounced.into_list(), list.into_list(), pages);
@@ -319,15 +336,19 @@ impl Holdings<'_> {
             (buffer_chunks (ideal_of self.old) o buffer.va.0 buffer.len) [] (ideal_of self.old)) }
         ensures err { OnErr result (KeepsState self.old self.new) }
         ensures bytes { KeepsBytesBut map self.old self.new }
+        ensures memories { self.new.memories ≡ self.old.memories }
         ensures place { self.new.agenda.place ≡ self.old.agenda.place }
         ensures length { self.new.agenda.length ≡ self.old.agenda.length }
+        ensures capacity { self.new.agenda.room + length self.new.agenda.queue
+            ≡ self.old.agenda.room + length self.old.agenda.queue }
+        ensures promised { self.new.agenda.promised ≤ self.old.agenda.promised }
     {
         let room = take_room(alloc, wanted)?;
         let pages = PageList::with_room(alloc, 0)?;
         let items = items.clone()?;
         self.prepare_load(alloc, map, buffer)?;
         let load_at = self.agenda.place();
-        Ok(self.complete_load(map, load_at, buffer, &[], room, pages, items))
+        Ok(self.complete_load(map, load_at, buffer, room, pages, items))
     }
 
     /// Loads an idle map with a buffer that needs bounce pages.
@@ -364,12 +385,15 @@ impl Holdings<'_> {
         ensures err { OnErr result (KeepsState self.old self.new) }
         ensures undone { OnErr result (IsUndone (D.seen door.old) (D.seen door.new)) }
         ensures bytes { KeepsBytesBut map self.old self.new }
+        ensures memories { self.new.memories ≡ self.old.memories }
         ensures place { self.new.agenda.place ≡ self.old.agenda.place }
         ensures length { self.new.agenda.length ≡ self.old.agenda.length }
+        ensures capacity { self.new.agenda.room + length self.new.agenda.queue
+            ≡ self.old.agenda.room + length self.old.agenda.queue }
+        ensures promised { self.new.agenda.promised ≤ self.old.agenda.promised + wanted.need }
         ensures fixed { D.fixed door.new ≡ D.fixed door.old }
     {
         let room = take_room(alloc, wanted)?;
-        let addresses = Vec::with_capacity(alloc, wanted.need as usize)?;
         let items = items.clone()?;
         let zone = self.zone_of(map);
         let id = self.map_id(map);
@@ -381,7 +405,7 @@ impl Holdings<'_> {
                 return Err(error);
             }
         };
-        Ok(self.take_grabbed(map, buffer, wanted.need, room, addresses, items, got))
+        Ok(self.take_grabbed(map, buffer, wanted.need, room, items, got))
     }
 
     /// The zone of a map's bounce pages, or zone 0 where it has none.

@@ -7,7 +7,6 @@ ghost use Rattle.busdma_base.specs.Bounce.Door.{Seen};
 ghost use Rattle.ideal_lane.specs.Asking.{Gives};
 ghost use Rattle.ideal_lane.specs.Turns.{lane_step};
 ghost use Rattle.ideal_wire.specs.WireStep as wires;
-ghost use Rattle.bounced_lane.specs.declared.turn.Turn.TheVariants.{Stepped};
 ghost use Rattle.bounced_lane.specs.declared.holdings.Holdings.{Holdings};
 ghost use Rattle.bounced_lane.specs.declared.turn.Turn.{Turn};
 ghost use Rattle.bounced_lane.specs.Changes.{KeepsState};
@@ -17,24 +16,9 @@ ghost use Rattle.bounced_lane.specs.Wire.{IsWired, wire_of};
 
 use crate::holdings::{Answered, Holdings};
 use crate::returns::Released;
-use crate::turn::Turn;
-use busdma_base::{Actor, Answer, Did, HubDoor, JournalEntry, LaneId, Side};
+use crate::turn::{Turn, stepped};
+use busdma_base::{Answer, Did, HubDoor, Side};
 use std::alloc::{AllocError, Global};
-
-/// A step of a side, and whether it made a call under the bounce lock.
-fn stepped(lane: LaneId, side: Side, did: Did, answer: Answer, held: bool) -> Turn
-    ensures { result
-        ≡ Stepped (record { actor = record { lane = lane; side = side }; did = did; answer = answer }) held }
-{
-    Turn::Stepped {
-        entry: JournalEntry {
-            actor: Actor { lane, side },
-            did,
-            answer,
-        },
-        held,
-    }
-}
 
 /// A turn that was made leaves a driver ready for the next. So does one that memory was wanting for.
 pub(crate) fn turns_leave_ready()

@@ -1,17 +1,12 @@
 //! Loads that need bounce pages, from their wish for pages on.
 
-ghost use Rattle.std.specs.Prelude.{◌≡◌, ◌+◌, ◌-◌, ◌<◌, ◌≤◌, ◌^◌, [], true, length, Some, None, OnErr, OnOk};
-ghost use Rattle.std.specs.Vec.{vec_capacity};
+ghost use Rattle.std.specs.Prelude.{◌≡◌, ◌+◌, ◌-◌, ◌<◌, ◌≤◌, ◌^◌, true, length, Some, None, OnErr, OnOk};
 ghost use Rattle.std.specs.FinMap.{get, insert, remove};
-ghost use Rattle.std.specs.List.{AllByRecursion};
 ghost use Rattle.busdma_base.specs.declared.journals.report.Judged.TheVariants.{Fine};
-ghost use Rattle.busdma_base.specs.Bounce.AccountStep.{as_pages};
 ghost use Rattle.busdma_base.specs.Bounce.Door.{grab_reply};
 ghost use Rattle.busdma_base.specs.Machine.Entry.{entries_addresses};
-ghost use Rattle.busdma_base.specs.Machine.PageList.{page_addresses};
 ghost use Rattle.loan_table.specs.Loans.{new_loan};
 ghost use Rattle.loan_table.specs.Table.{IsPrepared};
-ghost use Rattle.segment_build.specs.Trace.{IsPage};
 ghost use Rattle.ideal_lane.specs.Loads.{Asked, granted, is_coherent, limits_of, staged};
 ghost use Rattle.ideal_lane.specs.Places.{reached};
 ghost use Rattle.ideal_lane.specs.Standing.{Stands};
@@ -22,7 +17,7 @@ ghost use Rattle.bounced_lane.specs.Loading.{HasNeed, HasRoomForAny, buffer_chun
 use crate::buffers::Buffer;
 use crate::holdings::Holdings;
 use crate::kept::KeptMap;
-use busdma_base::{Answer, Errno, Grabbed, ItemList, Pa, Page};
+use busdma_base::{Answer, Errno, Grabbed, ItemList};
 use dma_map::{LoadRoom, Transfers};
 use std::alloc::{AllocError, Global};
 
@@ -53,6 +48,7 @@ impl Holdings<'_> {
         ensures unpromised { OnErr result (self.new.agenda ≡ self.old.agenda) }
         ensures same { KeepsState self.old self.new }
         ensures maps { self.new.maps ≡ self.old.maps }
+        ensures memories { self.new.memories ≡ self.old.memories }
     {
         self.agenda.promise(alloc, need)?;
         let ready = self.prepare_load(alloc, map, buffer);
@@ -70,6 +66,7 @@ impl Holdings<'_> {
         ensures agenda { self.new.agenda ≡ record self.old.agenda { promised = self.old.agenda.promised - need } }
         ensures same { KeepsState self.old self.new }
         ensures maps { self.new.maps ≡ self.old.maps }
+        ensures memories { self.new.memories ≡ self.old.memories }
     {
         let id = self.map_id(map);
         self.loans.drop_prepared(id);
@@ -91,6 +88,7 @@ impl Holdings<'_> {
             ideal_of self.new ≡ staged map o (Waiting load_at need) (ideal_of self.old) }
         ensures bytes { KeepsBytes self.old self.new }
         ensures agenda { self.new.agenda ≡ self.old.agenda }
+        ensures memories { self.new.memories ≡ self.old.memories }
     {
         if let Some(kept) = self.maps.take(map) {
             let KeptMap {
@@ -117,7 +115,6 @@ impl Holdings<'_> {
         buffer: Buffer,
         need: u32,
         room: LoadRoom,
-        mut addresses: Vec<Pa>,
         items: ItemList,
         got: Grabbed,
     ) -> Answer
@@ -128,8 +125,6 @@ impl Holdings<'_> {
         requires room { (o : LaneMap) → get (ideal_of self.old).maps map ≡ Some o →
             HasRoomForAny (limits_of (ideal_of self.old) o)
             (buffer_chunks (ideal_of self.old) o buffer.va.0 buffer.len) need room }
-        requires empty { addresses.items ≡ [] }
-        requires capacity { need ≤ vec_capacity addresses }
         requires prepared { get self.old.loans.prepared map ≡ Some (new_loan
             (is_coherent (get (ideal_of self.old).mems map))
             (entries_addresses (buffer_entries (ideal_of self.old) buffer.va.0 buffer.len))) }
@@ -141,16 +136,16 @@ impl Holdings<'_> {
             given self.new result ≡ granted map o x
             (buffer_chunks (ideal_of self.old) o buffer.va.0 buffer.len) (ideal_of self.old) (grab_reply got) }
         ensures bytes { KeepsBytesBut map self.old self.new }
+        ensures memories { self.new.memories ≡ self.old.memories }
         ensures place { self.new.agenda.place ≡ self.old.agenda.place }
         ensures length { self.new.agenda.length ≡ self.old.agenda.length }
+        ensures capacity { self.new.agenda.room + length self.new.agenda.queue
+            ≡ self.old.agenda.room + length self.old.agenda.queue }
+        ensures promised { self.new.agenda.promised ≤ self.old.agenda.promised }
     {
         let load_at = self.agenda.place();
         match got {
-            Grabbed::Granted(pages) => {
-                write_addresses(pages.as_slice(), &mut addresses);
-                let at = addresses.as_slice();
-                self.complete_load(map, load_at, buffer, at, room, pages, items)
-            }
+            Grabbed::Granted(pages) => self.complete_load(map, load_at, buffer, room, pages, items),
             Grabbed::Queued(have) => {
                 self.wait_load(map, load_at, need, items, room);
                 Answer::InProgress { have, need }
@@ -161,17 +156,5 @@ impl Holdings<'_> {
                 Answer::Refused(Errno::ENOMEM)
             }
         }
-    }
-}
-
-/// The addresses of pages, in order, in an empty list that has room for them.
-pub(crate) fn write_addresses(pages: &[Page], list: &mut Vec<Pa>)
-    requires empty { list.old.items ≡ [] }
-    requires room { length pages.now ≤ vec_capacity list.old }
-    ensures addresses { list.new.items ≡ as_pages (page_addresses pages.now) }
-    ensures at_frames { AllByRecursion IsPage list.new.items }
-{
-    for page in pages {
-        list.push_reserved(Pa(page.frame() * 4096));
     }
 }

@@ -1,6 +1,6 @@
 //! The room of a load that waits.
 
-use busdma_base::{ChunkRoom, SegmentRoom};
+use busdma_base::{ChunkRoom, Pa, RoomyList, SegmentRoom};
 
 /// The empty lists that a load fills where it is completed without memory.
 #[derive(Debug, Drop)]
@@ -11,4 +11,6 @@ pub struct LoadRoom {
     pub shown: SegmentRoom,
     /// For the bounced chunks that the map keeps.
     pub bounced: ChunkRoom,
+    /// For the physical addresses of its pages, while the segments are built.
+    pub addresses: RoomyList<Pa>,
 }

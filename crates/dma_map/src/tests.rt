@@ -3,7 +3,7 @@
 use crate::{Callback, DmaMap, LoadEnd, LoadRoom, MapState, Transfers};
 use busdma_base::{
     Chunk, ChunkList, ChunkRoom, Errno, Extent, Item, ItemList, LaneId, MapId, Pa, Page, PageList,
-    Segment, SegmentList, SegmentRoom, ZoneId,
+    RoomyList, Segment, SegmentList, SegmentRoom, ZoneId,
 };
 use std::alloc::{AllocError, Global};
 use std::test::Fail;
@@ -77,6 +77,7 @@ fn room(alloc: Global) -> Result<LoadRoom, AllocError> {
         list: SegmentRoom::with_room(alloc, 2)?,
         shown: SegmentRoom::with_room(alloc, 2)?,
         bounced: ChunkRoom::with_room(alloc, 1)?,
+        addresses: RoomyList::with_room(alloc, 1)?,
     })
 }
 

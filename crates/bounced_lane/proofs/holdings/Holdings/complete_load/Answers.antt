@@ -1,13 +1,15 @@
 use Rattle.std.proofs.Common.{◌≡◌, ◌≤◌, ◌<◌, ◌++◌, List, length, map, Some, true, unwrap_or, refl, sym, ap}
-use Rattle.std.proofs.Common.{◌∙◌, subst, cond}
+use Rattle.std.proofs.Common.{◌∙◌, subst, cond, arith, length-append}
 use Rattle.std.specs.FinMap.{get, insert}
 use Rattle.busdma_base.specs.declared.journals.answer.Answer.TheVariants.{Refused, Segments}
 use Rattle.busdma_base.specs.declared.journals.report.Errno.TheVariants.{EFBIG}
 use Rattle.busdma_base.specs.declared.machine.address.Pa.{Pa}
 use Rattle.busdma_base.specs.declared.machine.address.Segment.{Segment}
 use Rattle.busdma_base.specs.Bounce.AccountStep.{as_pages}
+use Rattle.busdma_base.specs.Machine.Page.{FrameBytes}
 use Rattle.busdma_base.specs.Room.{Roomy}
 use Rattle.std.proofs.lemmas.Bool.{eq-eqb}
+use Rattle.ideal_lane.proofs.Falling.{queued-from}
 use Rattle.ideal_lane.proofs.Lookups.{get_put}
 use Rattle.busdma_base.specs.Machine.Entry.{entries_addresses}
 use Rattle.busdma_base.specs.Machine.PageList.{page_addresses}
@@ -28,7 +30,14 @@ use Rattle.bounced_lane.proofs.Loaded.{none-loaned}
 use Rattle.bounced_lane.proofs.LoadSteps.{finished-few, finished-many, stored-ended}
 use Rattle.bounced_lane.proofs.MapTables.{maps-of}
 use Rattle.bounced_lane.proofs.MapValues.{image-some}
+use Rattle.bounced_lane.proofs.Preparing.{pages-count}
 use Rattle.bounced_lane.proofs.holdings.Holdings.complete_load.Goals as goal
+
+pages-at : {ps qs : List FrameBytes} → ps ≡ qs → as_pages (page_addresses ps) ≡ as_pages (page_addresses qs)
+pages-at e = ap (λ ps. as_pages (page_addresses ps)) e
+
+many-pages : {ps qs : List FrameBytes} → ps ≡ qs → length (as_pages (page_addresses ps)) ≡ length qs
+many-pages {ps} {qs} e = pages-count ps ∙ ap length e
 
 pub copy_segments-requires : goal.copy_segments-requires
 copy_segments-requires c =
@@ -37,10 +46,13 @@ copy_segments-requires c =
     let idle = idle-there (get h.maps.map c.args.map) c.requires.idle in
     let o = map_of idle.0 in
     let is = image-some map_of h.maps.map c.args.map idle.0 idle.1 in
-    subst (λ (ss : List Segment). length ss ≤ c.build_load-few.new.room.shown.spare) (sym c.as_slice.ensures)
-    (copy-fits (limits_of l o) (buffer_chunks l o c.args.buffer.va.0 c.args.buffer.len) c.args.addresses.now c.args.room
+    subst (λ (ss : List Segment). length ss ≤ c.build_load-few.new.room.shown.spare) (sym c.as_slice-2.ensures)
+    (copy-fits (limits_of l o) (buffer_chunks l o c.args.buffer.va.0 c.args.buffer.len)
+    (as_pages (page_addresses c.as_slice.result.now)) c.args.room
     c.build_load-few.new.room c.build_load-few.result (λ e. c.build_load-few.ensures.few e o is)
-    (λ e. c.build_load-few.ensures.many e o is) (c.requires.room o is) c.build_load-few.ensures.shown)
+    (λ e. c.build_load-few.ensures.many e o is)
+    ((c.requires.room o is).any _ c.build_load-few.ensures.at_frames (many-pages c.as_slice.ensures))
+    c.build_load-few.ensures.shown)
 
 pub store_load-requires-clause-prepared : goal.store_load-requires-clause-prepared
 store_load-requires-clause-prepared c = record {
@@ -59,7 +71,7 @@ returns-then-not-few-clause-done c o x found entries items =
     let chunks = buffer_chunks l o c.args.buffer.va.0 c.args.buffer.len in
     let many = c.build_load-few.ensures.many c.if-not-few.true o found in
     let over : t.nsegments < length (segmentation t (placed_pieces t chunks (as_pages pas))) =
-    subst (λ (ps : List Pa). t.nsegments < length (segmentation t (placed_pieces t chunks ps))) c.requires.addresses
+    subst (λ (ps : List Pa). t.nsegments < length (segmentation t (placed_pieces t chunks ps))) (pages-at c.as_slice.ensures)
     many.many in
     let coherent = is_coherent (get l.mems m) in
     let bytes = entries_addresses (buffer_entries l c.args.buffer.va.0 c.args.buffer.len) in
@@ -92,9 +104,9 @@ returns-clause-done c o x found entries items =
     let filled = c.build_load-few.ensures.few c.if-not-few.false o found in
     let built = segmentation t (placed_pieces t chunks (as_pages pas)) in
     let segments : c.build_load-few.new.room.list.items ≡ built =
-    filled.segments ∙ ap (λ ps. segmentation t (placed_pieces t chunks ps)) c.requires.addresses in
+    filled.segments ∙ ap (λ ps. segmentation t (placed_pieces t chunks ps)) (pages-at c.as_slice.ensures) in
     let bounced : c.into_list.result ≡ bounced_of (tag_placed t chunks (as_pages pas)) =
-    c.into_list.ensures ∙ filled.bounced ∙ ap (λ ps. bounced_of (tag_placed t chunks ps)) c.requires.addresses in
+    c.into_list.ensures ∙ filled.bounced ∙ ap (λ ps. bounced_of (tag_placed t chunks ps)) (pages-at c.as_slice.ensures) in
     let few : length built ≤ t.nsegments = subst (λ (ss : List Segment). length ss ≤ t.nsegments) segments filled.few in
     let coherent = is_coherent (get l.mems m) in
     let loan : loan_of h.loans.prepared m ≡ new_loan coherent (entries_addresses x.entries) =
@@ -102,9 +114,10 @@ returns-clause-done c o x found entries items =
     ∙ ap (λ es. new_loan coherent (entries_addresses es)) (sym entries) in
     let shown : c.into_list-3.result ≡ built =
     c.into_list-3.ensures ∙ c.copy_segments.ensures
-    ∙ ap (λ (r : Roomy Segment). r.items ++ c.as_slice.result.now) c.build_load-few.ensures.shown
-    ∙ ap (λ ss. ss ++ c.as_slice.result.now) (c.requires.room o found).empty_copy
-    ∙ c.as_slice.ensures ∙ segments in
+    ∙ ap (λ (r : Roomy Segment). r.items ++ c.as_slice-2.result.now) c.build_load-few.ensures.shown
+    ∙ ap (λ ss. ss ++ c.as_slice-2.result.now) ((c.requires.room o found).any _ c.build_load-few.ensures.at_frames
+    (many-pages c.as_slice.ensures)).empty_copy
+    ∙ c.as_slice-2.ensures ∙ segments in
     let s = c.store_load.new.self in
     let push = c.push_items.ensures in
     let pushed : LaneState = record (ideal_of s) {
@@ -126,3 +139,19 @@ returns-clause-done c o x found entries items =
     }) in
     (λ i. record { lane = lane i; answer = Segments (shown i) })
     ∙ sym (finished-few m o c.args.load_at x chunks pas l few)
+
+pub returns-clause-capacity : goal.returns-clause-capacity
+returns-clause-capacity c =
+    let s = c.store_load.new.self in
+    let items = queued c.args.load_at c.args.items in
+    let push = c.push_items.ensures in
+    omega (
+      arith,
+      c.requires.few_items,
+      ap (λ a. a.room) c.store_load.ensures.agenda,
+      ap (λ a. length a.queue) c.store_load.ensures.agenda,
+      ap (λ a. a.room) push,
+      ap (λ a. length a.queue) push,
+      length-append s.agenda.queue items,
+      queued-from c.args.load_at 0 c.args.items,
+    )

@@ -12,14 +12,16 @@ use Rattle.ideal_lane.specs.Loads.{emptied, unpaged}
 use Rattle.ideal_lane.specs.State.{LaneState}
 use Rattle.ideal_lane.specs.Unloads.{pages_of, unlent}
 use Rattle.bounced_lane.specs.declared.kept.KeptMap.{KeptMap}
+use Rattle.bounced_lane.specs.Awaiting.{kept_load}
 use Rattle.bounced_lane.specs.Covered.{AreOwn, has_load, is_tried}
 use Rattle.bounced_lane.specs.Held.{devices_of, held as held_memory}
 use Rattle.bounced_lane.specs.Ideal.{ideal_of}
 use Rattle.bounced_lane.specs.Kept.{map_of, return_of}
 use Rattle.bounced_lane.specs.MapValues.{map_values}
+use Rattle.bounced_lane.proofs.AwaitingLoads.{left-unkept, loaded-unkept}
 use Rattle.bounced_lane.proofs.Bytes.{devices-elsewhere, held-forgotten}
 use Rattle.bounced_lane.proofs.Keeping.{some-there}
-use Rattle.bounced_lane.proofs.MapTables.{AreMaps, maps-of}
+use Rattle.bounced_lane.proofs.MapTables.{AreMaps, maps-of, told-put}
 use Rattle.bounced_lane.proofs.MapValues.{image-some, map_values-insert}
 use Rattle.bounced_lane.proofs.Marks.{has_set_all}
 use Rattle.bounced_lane.proofs.Places.{get_removed, reput}
@@ -194,4 +196,21 @@ returns-in-Some-clause-others c =
       own = refl;
       pages = λ m off. ap (λ ms. (devices_of ms m).pages) maps
           ∙ ap (λ d. d.pages) (devices-elsewhere h.maps.map k after m off);
+    }
+
+pub returns-in-Some-clause-waiting : goal.returns-in-Some-clause-waiting
+returns-in-Some-clause-waiting c =
+    let h = c.args.self.now in
+    let k = c.args.map in
+    let o : KeptMap = c.in-Some.kept in
+    let p = c.unload-pages.result in
+    let after : KeptMap = record o { map = c.unload-pages.new.self } in
+    let maps : c.put.new.self.map ≡ insert h.maps.map k (left o p.items) =
+    ap (λ t. t.map) c.put.ensures ∙ ap (λ t. insert t.map k after) c.in-Some.ensures.taken
+    ∙ reput h.maps.map k after ∙ ap (λ v. insert h.maps.map k (record o { map = v })) c.unload-pages.ensures.left in
+    record {
+      kept = λ m. ap (λ ms. kept_load (get ms m)) maps
+          ∙ told-put kept_load h.maps.map k (left o p.items)
+          (left-unkept o p.items ∙ sym (loaded-unkept (get h.maps.map k) c.requires)) m;
+      prepared = c.forget.ensures.prepared;
     }

@@ -156,3 +156,16 @@ returns-clause-done g c =
     (subst (λ b. IsCalled d h.id.0 (call b) k (given c.load_bounced.new.self answer) e) c.never_waits-nowait.ensures
     (done (map_of o) ask there refl refl)))
     c.load_bounced.ensures.done
+
+pub returns-clause-promised : goal.returns-clause-promised
+returns-clause-promised g c =
+    let l = ideal_of c.args.self.now in
+    let o = c.in-Some.kept.now in
+    let va = c.args.buffer.va.0 in
+    let len = c.args.buffer.len in
+    let there = image-some map_of c.args.self.now.maps.map c.args.map o (sym c.in-Some.ensures) in
+    let wanted = c.in-Some-measure_load.ensures.wanted (map_of o) there in
+    let few : c.in-Some-measure_load.wanted.need ≤ len =
+    few-wanted l (map_of o) va len c.in-Some-measure_load.wanted.need wanted.need in
+    let more = c.load_bounced.ensures.promised in
+    omega (arith, few, more)

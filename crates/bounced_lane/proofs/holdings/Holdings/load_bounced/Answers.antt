@@ -73,7 +73,8 @@ take_grabbed-requires-clause-room g c =
     let room : (o : LaneMap) → get l.maps k ≡ Some o →
     HasRoomForAny (limits_of l o) (buffer_chunks l o va len) need c.in_ok-room.room =
     λ o found. room-for-any (limits_of l o) (buffer_chunks l o va len) len need c.args.wanted.segments c.in_ok-room.room
-    (c.requires.wanted o found) r.list r.shown r.bounced r.list_room r.shown_room r.bounced_room in
+    (c.requires.wanted o found) r.list r.shown r.bounced r.list_room r.shown_room r.bounced_room r.addresses
+    r.addresses_room in
     subst (λ (x : LaneState). (o : LaneMap) → get x.maps k ≡ Some o →
     HasRoomForAny (limits_of x o) (buffer_chunks x o va len) need c.in_ok-room.room)
     (sym c.in_ok-ready_load.ensures.same.ideal) room

@@ -3,7 +3,6 @@ use Rattle.std.proofs.lemmas.Bool.{eq-eqb}
 use Rattle.std.specs.FinMap.{get}
 use Rattle.std.specs.List.{each_same}
 use Rattle.busdma_base.specs.declared.scenarios.script.Item.{Item}
-use Rattle.busdma_base.specs.Bounce.AccountStep.{as_pages}
 use Rattle.busdma_base.specs.Machine.Entry.{entries_addresses}
 use Rattle.busdma_base.specs.Machine.Page.{FrameBytes}
 use Rattle.busdma_base.specs.Machine.PageList.{RoomyPages, page_addresses}
@@ -15,8 +14,8 @@ use Rattle.ideal_lane.specs.Standing.{Stands}
 use Rattle.ideal_lane.specs.State.{LaneMap, LaneState}
 use Rattle.bounced_lane.specs.Covered.{is_idle_map}
 use Rattle.bounced_lane.specs.Ideal.{ideal_of}
-use Rattle.bounced_lane.specs.Loading.{HasRoomFor, buffer_chunks, buffer_entries}
-use Rattle.bounced_lane.proofs.Preparing.{room-for}
+use Rattle.bounced_lane.specs.Loading.{HasRoomForAny, buffer_chunks, buffer_entries}
+use Rattle.bounced_lane.proofs.Preparing.{room-for-any}
 use Rattle.bounced_lane.proofs.holdings.Holdings.load_direct.Goals as goal
 
 pub complete_load-requires : goal.complete_load-requires
@@ -31,12 +30,15 @@ complete_load-requires c =
     let e : ideal_of mid ≡ l = done.same.ideal in
     let none : c.in_ok-pages.pages.items ≡ [] = ap (λ (p : RoomyPages). p.items) c.in_ok-pages.ensures in
     let items : c.in_ok-items.items ≡ c.args.items.now = each_same _ _ c.in_ok-items.ensures.cases in
+    let r = c.in_ok-room.ensures in
+    let need : c.args.wanted.need ≡ length c.in_ok-pages.pages.items =
+    c.requires.direct ∙ sym (ap (λ (ps : List FrameBytes). length ps) none) in
     let room : (o : LaneMap) → get l.maps k ≡ Some o →
-    HasRoomFor (limits_of l o) (buffer_chunks l o va len) [] c.in_ok-room.room =
-    λ o found. room-for (limits_of l o) (buffer_chunks l o va len) [] len c.args.wanted.need c.args.wanted.segments
-    c.in_ok-room.room (c.requires.wanted o found) c.requires.direct tt c.in_ok-room.ensures.list
-    c.in_ok-room.ensures.shown c.in_ok-room.ensures.bounced c.in_ok-room.ensures.list_room
-    c.in_ok-room.ensures.shown_room c.in_ok-room.ensures.bounced_room in
+    HasRoomForAny (limits_of l o) (buffer_chunks l o va len) (length c.in_ok-pages.pages.items) c.in_ok-room.room =
+    λ o found. subst (λ n. HasRoomForAny (limits_of l o) (buffer_chunks l o va len) n c.in_ok-room.room) need
+    (room-for-any (limits_of l o) (buffer_chunks l o va len) len c.args.wanted.need c.args.wanted.segments
+    c.in_ok-room.room (c.requires.wanted o found) r.list r.shown r.bounced r.list_room r.shown_room r.bounced_room
+    r.addresses r.addresses_room) in
     let loan = new_loan (is_coherent (get l.mems k)) (entries_addresses (buffer_entries l va len)) in
     let prepared : get mid.loans.prepared k ≡ Some loan =
     ap (λ p. get p k) done.prepared ∙ get_put h.loans.prepared k loan k
@@ -46,10 +48,9 @@ complete_load-requires c =
       idle = ap (λ t. is_idle_map (get t.map k)) done.maps ∙ c.requires.idle;
       reached = ap (λ (x : LaneState). reached x va len) e ∙ c.requires.reached;
       small = c.requires.small;
-      at_frames = tt;
-      addresses = sym (ap (λ ps. as_pages (page_addresses ps)) none);
       room = subst (λ (x : LaneState). (o : LaneMap) → get x.maps k ≡ Some o →
-          HasRoomFor (limits_of x o) (buffer_chunks x o va len) [] c.in_ok-room.room) (sym e) room;
+          HasRoomForAny (limits_of x o) (buffer_chunks x o va len) (length c.in_ok-pages.pages.items) c.in_ok-room.room)
+          (sym e) room;
       prepared = subst (λ (x : LaneState). get mid.loans.prepared k
           ≡ Some (new_loan (is_coherent (get x.mems k)) (entries_addresses (buffer_entries x va len)))) (sym e) prepared;
       few_items = subst (λ (is : List Item). length is ≤ mid.agenda.room) (sym items)

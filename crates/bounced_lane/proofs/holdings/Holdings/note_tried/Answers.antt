@@ -2,6 +2,7 @@ use Rattle.std.proofs.Common.{◌≡◌, ◌+◌, ◌≤◌, Some, true, refl, s
 use Rattle.std.specs.FinMap.{get, insert}
 use Rattle.ideal_lane.specs.State.{Idle, LaneMap}
 use Rattle.bounced_lane.specs.declared.kept.KeptMap.{KeptMap}
+use Rattle.bounced_lane.specs.Awaiting.{kept_load}
 use Rattle.bounced_lane.specs.Covered.{is_idle_map, pages_due}
 use Rattle.bounced_lane.specs.Held.{devices_of, held}
 use Rattle.bounced_lane.specs.Ideal.{ideal_of}
@@ -10,7 +11,7 @@ use Rattle.bounced_lane.specs.MapValues.{map_values}
 use Rattle.bounced_lane.proofs.Bytes.{devices-put, held-alike}
 use Rattle.bounced_lane.proofs.Keeping.{idle-map, idle-stands, idle-state}
 use Rattle.bounced_lane.proofs.Loaded.{loans-stay, maps-staged}
-use Rattle.bounced_lane.proofs.MapTables.{AreMaps, maps-of}
+use Rattle.bounced_lane.proofs.MapTables.{AreMaps, maps-of, told-put}
 use Rattle.bounced_lane.proofs.MapValues.{image-some, map_values-insert}
 use Rattle.bounced_lane.proofs.Places.{get_removed, reput}
 use Rattle.bounced_lane.proofs.holdings.Holdings.note_tried.Goals as goal
@@ -103,4 +104,21 @@ returns-in-Some-clause-bytes c =
     record {
       own = refl;
       pages = λ m. ap (λ ms. (devices_of ms m).pages) maps ∙ ap (λ d. d.pages) (devices-put h.maps.map k v bare m);
+    }
+
+pub returns-in-Some-clause-waiting : goal.returns-in-Some-clause-waiting
+returns-in-Some-clause-waiting c =
+    let h = c.args.self.now in
+    let k = c.args.map in
+    let o : KeptMap = c.in-Some.kept in
+    let there : get h.maps.map k ≡ Some o = sym c.take.ensures.value ∙ c.in-Some.is in
+    let v : KeptMap = record o { map = record o.map { tried = true } } in
+    let maps : c.put.new.self.map ≡ insert h.maps.map k v =
+    ap (λ t. t.map) c.put.ensures ∙ ap (λ t. insert t.map k (record o { map = c.note_tried.new.self })) c.in-Some.ensures.taken
+    ∙ reput h.maps.map k (record o { map = c.note_tried.new.self })
+    ∙ ap (λ x. insert h.maps.map k (record o { map = x })) c.note_tried.ensures in
+    record {
+      kept = λ m. ap (λ ms. kept_load (get ms m)) maps
+          ∙ told-put kept_load h.maps.map k v (sym (ap kept_load there)) m;
+      prepared = refl;
     }

@@ -1,7 +1,7 @@
 use Rattle.std.proofs.Common.{◌≡◌, ◌+◌, ◌≤◌, Some, true, unwrap_or, refl, sym, ap, ◌∙◌, subst}
 use Rattle.std.proofs.Common.{cond}
 use Rattle.std.proofs.lemmas.Bool.{eq-eqb}
-use Rattle.std.specs.FinMap.{get, insert, contains_key}
+use Rattle.std.specs.FinMap.{get, insert, remove, contains_key}
 use Rattle.ideal_lane.proofs.Lookups.{get_put}
 use Rattle.busdma_base.specs.declared.name.MapId.{MapId}
 use Rattle.busdma_base.specs.Machine.PageList.{page_addresses}
@@ -9,15 +9,17 @@ use Rattle.dma_map.specs.MapView.{loaded}
 use Rattle.loan_table.specs.Loans.{loan_of, new_loan, no_loan}
 use Rattle.ideal_lane.specs.State.{LaneMap, Loaded}
 use Rattle.bounced_lane.specs.declared.kept.KeptMap.{KeptMap}
+use Rattle.bounced_lane.specs.Awaiting.{kept_load}
 use Rattle.bounced_lane.specs.Covered.{has_load, is_idle_map, pages_due}
 use Rattle.bounced_lane.specs.Held.{devices_of, held}
 use Rattle.bounced_lane.specs.Ideal.{ideal_of}
 use Rattle.bounced_lane.specs.Kept.{due_of, map_of}
 use Rattle.bounced_lane.specs.MapValues.{map_values}
+use Rattle.bounced_lane.proofs.AwaitingLoads.{idle-unkept}
 use Rattle.bounced_lane.proofs.Bytes.{devices-elsewhere}
 use Rattle.bounced_lane.proofs.Keeping.{idle-map, idle-state}
 use Rattle.bounced_lane.proofs.Loaded.{held-loaded, loans-more, maps-staged, none-loaned}
-use Rattle.bounced_lane.proofs.MapTables.{AreMaps, maps-of}
+use Rattle.bounced_lane.proofs.MapTables.{AreMaps, maps-of, told-put}
 use Rattle.bounced_lane.proofs.MapValues.{image-some, map_values-insert}
 use Rattle.bounced_lane.proofs.Places.{get_removed, reput}
 use Rattle.bounced_lane.proofs.holdings.Holdings.store_load.Goals as goal
@@ -145,3 +147,23 @@ returns-in-Some-clause-loaded c =
     ∙ ap (λ x. insert h.maps.map k (record o { map = x })) c.finish.ensures in
     ap (λ ms. has_load (get ms k)) maps ∙ ap has_load (get_put h.maps.map k v k)
     ∙ ap (λ b. has_load (cond b (Some v) (get h.maps.map k))) (eq-eqb k k refl)
+
+pub returns-in-Some-clause-kept : goal.returns-in-Some-clause-kept
+returns-in-Some-clause-kept c m =
+    let h = c.args.self.now in
+    let k = c.args.map in
+    let o : KeptMap = c.in-Some.kept in
+    let v : KeptMap = record o {
+      map = record o.map { tried = true; stage = loaded c.args.bounced c.args.segments c.args.pages };
+    } in
+    let maps : c.put.new.self.map ≡ insert h.maps.map k v =
+    ap (λ t. t.map) c.put.ensures ∙ ap (λ t. insert t.map k (record o { map = c.finish.new.self })) c.in-Some.ensures.taken
+    ∙ reput h.maps.map k (record o { map = c.finish.new.self })
+    ∙ ap (λ x. insert h.maps.map k (record o { map = x })) c.finish.ensures in
+    ap (λ ms. kept_load (get ms m)) maps
+    ∙ told-put kept_load h.maps.map k v (sym (idle-unkept (get h.maps.map k) c.requires.idle)) m
+
+pub returns-in-Some-clause-prepared : goal.returns-in-Some-clause-prepared
+returns-in-Some-clause-prepared c =
+    c.open_map.ensures.prepared
+    ∙ ap (λ (x : MapId). remove c.args.self.now.loans.prepared x.made_at) c.map_id-id.ensures

@@ -1,21 +1,18 @@
-use Rattle.std.proofs.Common.{◌≡◌, ℕ, List, [], ◌∷◌, length, refl, sym, ap, ◌∙◌, subst}
-use Rattle.std.proofs.lemmas.List.{length-map}
+use Rattle.std.proofs.Common.{◌≡◌, ℕ, List, [], ◌∷◌, refl, sym, ap, ◌∙◌, subst}
 use Rattle.std.specs.FinMap.{get}
-use Rattle.std.specs.List.{AllByRecursion}
 use Rattle.busdma_base.specs.declared.bounce.door.Grabbed.{Grabbed}
 use Rattle.busdma_base.specs.declared.bounce.door.Grabbed.TheVariants.{Granted}
 use Rattle.busdma_base.specs.declared.journals.answer.Answer.TheVariants.{InProgress, Refused}
 use Rattle.busdma_base.specs.declared.journals.report.Errno.TheVariants.{ENOMEM}
 use Rattle.busdma_base.specs.Bounce.AccountStep.{as_pages}
 use Rattle.busdma_base.specs.Bounce.Door.{grab_reply}
-use Rattle.busdma_base.specs.Machine.PageList.{page_address, page_addresses}
+use Rattle.busdma_base.specs.Machine.PageList.{page_addresses}
 use Rattle.lane_agreement.specs.After.{addresses}
 use Rattle.segment_build.specs.Chunks.{need_of}
-use Rattle.segment_build.specs.Trace.{IsPage}
-use Rattle.ideal_lane.specs.Loads.{finished, granted, staged}
+use Rattle.ideal_lane.specs.Loads.{finished, granted, limits_of, staged}
 use Rattle.ideal_lane.specs.State.{LaneState, Idle, Waiting}
 use Rattle.bounced_lane.specs.Ideal.{ideal_of}
-use Rattle.bounced_lane.specs.Loading.{HasNeed, buffer_chunks}
+use Rattle.bounced_lane.specs.Loading.{HasNeed, HasRoomForAny, buffer_chunks}
 use Rattle.bounced_lane.proofs.holdings.Holdings.take_grabbed.Goals as goal
 
 same-pages : (pas : List ℕ) → addresses (as_pages pas) ≡ pas
@@ -24,17 +21,11 @@ same-pages (p ∷ pas) = ap (λ ps. p ∷ ps) (same-pages pas)
 
 pub complete_load-requires-clause-room : goal.complete_load-requires-clause-room
 complete_load-requires-clause-room c o found =
-    let pages = c.in-Granted.pages.items in
+    let l = ideal_of c.args.self.now in
+    let chunks = buffer_chunks l o c.args.buffer.va.0 c.args.buffer.len in
     let all : HasNeed c.args.need (Granted c.in-Granted.pages) =
     subst (λ (g : Grabbed). HasNeed c.args.need g) c.in-Granted.is c.requires.granted in
-    let at : c.as_slice-at.result.now ≡ as_pages (page_addresses pages) =
-    c.as_slice-at.ensures.value ∙ c.write_addresses.ensures.addresses
-    ∙ ap (λ ps. as_pages (page_addresses ps)) c.as_slice.ensures in
-    let count : length c.as_slice-at.result.now ≡ c.args.need =
-    ap length at ∙ length-map (page_addresses pages) _ ∙ length-map pages page_address ∙ all in
-    let frames : AllByRecursion IsPage c.as_slice-at.result.now =
-    subst (AllByRecursion IsPage) (sym c.as_slice-at.ensures.value) c.write_addresses.ensures.at_frames in
-    (c.requires.room o found).any c.as_slice-at.result.now frames count
+    subst (λ n. HasRoomForAny (limits_of l o) chunks n c.args.room) (sym all) (c.requires.room o found)
 
 pub returns-in-Granted-clause-done : goal.returns-in-Granted-clause-done
 returns-in-Granted-clause-done c o x found entries items =
