@@ -1,6 +1,8 @@
 mod AfterTurn
 mod Asked
-mod Awaiting
+mod AwaitedMaps
+mod AwaitingStays
+mod AwaitingSteps
 mod Bouncing
 mod BufferBytes
 mod Bytes
@@ -36,7 +38,6 @@ mod OpeningLane
 mod OpeningPages
 mod OpensWired
 mod OwnRuns
-mod PageCounts
 mod PagesLent
 mod Places
 mod Preparing

@@ -2,6 +2,7 @@
 #![tactic(auto)]
 
 mod accesses;
+mod awaiting;
 mod buffers;
 mod finishing;
 mod holdings;
@@ -11,7 +12,6 @@ mod lane;
 mod loads;
 mod maps;
 mod opening;
-mod page_lists;
 mod returns;
 mod steps;
 mod syncs;
