@@ -2,6 +2,9 @@ mod AfterTurn
 mod Asked
 mod Awaiting
 mod AwaitingLoads
+mod AwaitedMaps
+mod AwaitingStays
+mod AwaitingSteps
 mod Bouncing
 mod BufferBytes
 mod Bytes
@@ -44,7 +47,6 @@ mod OpeningPages
 mod OpensProvided
 mod OpensWired
 mod OwnRuns
-mod PageCounts
 mod PagesLent
 mod Places
 mod Preparing

@@ -2,6 +2,7 @@
 #![tactic(auto)]
 
 mod accesses;
+mod awaiting;
 mod buffers;
 mod callbacks;
 mod calls;
@@ -14,7 +15,6 @@ mod loads;
 mod maps;
 mod opening;
 mod operations;
-mod page_lists;
 mod returns;
 mod stepping;
 mod steps;

@@ -24,6 +24,7 @@ pub(crate) struct Released {
 }
 
 impl Holdings<'_> {
+    ghost use Rattle.bounced_lane.specs.Awaiting.{AreAwaiting};
     ghost use Rattle.bounced_lane.specs.Changes.{KeepsBytes, KeepsState};
     ghost use Rattle.bounced_lane.specs.Ideal.{given, ideal_of};
 
@@ -35,6 +36,10 @@ impl Holdings<'_> {
             (stepped side.Script (did.Release r.map r.page) (given self.new (answer.Served r.served)))
             (D.seen door.new)) }
         ensures bytes { KeepsBytes self.old self.new }
+        ensures awaiting { AreAwaiting self.old → AreAwaiting self.new }
+        ensures script { self.new.script ≡ self.old.script }
+        ensures memories { self.new.memories ≡ self.old.memories }
+        ensures promised { self.new.agenda.promised ≤ self.old.agenda.promised }
         ensures queue { self.new.agenda.queue ≡ self.old.agenda.queue }
         ensures place { self.new.agenda.place ≡ self.old.agenda.place }
         ensures length { self.new.agenda.length ≡ self.old.agenda.length }

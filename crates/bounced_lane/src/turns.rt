@@ -9,6 +9,7 @@ ghost use Rattle.ideal_lane.specs.Turns.{lane_step};
 ghost use Rattle.ideal_wire.specs.WireStep as wires;
 ghost use Rattle.bounced_lane.specs.declared.holdings.Holdings.{Holdings};
 ghost use Rattle.bounced_lane.specs.declared.turn.Turn.{Turn};
+ghost use Rattle.bounced_lane.specs.Awaiting.{AreAwaiting};
 ghost use Rattle.bounced_lane.specs.Changes.{KeepsState};
 ghost use Rattle.bounced_lane.specs.Doing.{IsAllowedBy, IsUndone};
 ghost use Rattle.bounced_lane.specs.Turning.{IsMade, IsReady, is_held, turned};
@@ -36,6 +37,11 @@ impl Holdings<'_> {
     pub(crate) fn return_turn<D: HubDoor>(&mut self, door: &mut D) -> Option<Turn>
         requires { IsAllowedBy (D.seen door.old) self.old.id.0 (lane_step (ideal_of self.old) side.Script) }
         ensures made { IfSome result (IsMade self.old self.new (D.seen door.old) (D.seen door.new) side.Script) }
+        ensures awaiting { AreAwaiting self.old → AreAwaiting self.new }
+        ensures script { self.new.script ≡ self.old.script }
+        ensures memories { self.new.memories ≡ self.old.memories }
+        ensures place { self.new.agenda.place ≡ self.old.agenda.place }
+        ensures promised { self.new.agenda.promised ≤ self.old.agenda.promised }
         ensures empty { IfNone result (self.old.agenda.returns ≡ []) }
         ensures same { IfNone result (KeepsState self.old self.new) }
         ensures unseen { IfNone result (D.seen door.new ≡ D.seen door.old) }
@@ -126,6 +132,11 @@ impl Holdings<'_> {
         ensures unheld { IfOk result (λ turn. is_held turn ≡ false) }
         ensures wire { OnOk result (wire_of self.new
             ≡ wires.lane_step (ideal_of self.old) side.Transfer (wire_of self.old)) }
+        ensures awaiting { AreAwaiting self.old → AreAwaiting self.new }
+        ensures script { self.new.script ≡ self.old.script }
+        ensures memories { self.new.memories ≡ self.old.memories }
+        ensures place { self.new.agenda.place ≡ self.old.agenda.place }
+        ensures promised { self.new.agenda.promised ≤ self.old.agenda.promised }
         ensures places { self.new.agenda.length ≡ self.old.agenda.length }
         ensures capacity { self.new.agenda.room + length self.new.agenda.queue
             ≡ self.old.agenda.room + length self.old.agenda.queue }
