@@ -1,6 +1,6 @@
 //! The hub: the bounce zones that all lanes share, and all holds so far.
 
-ghost use Rattle.std.specs.Prelude.{◌≡◌, [], IfOk};
+ghost use Rattle.std.specs.Prelude.{◌≡◌, [], IfOk, length};
 ghost use Rattle.busdma_base.specs.Bounce.History.{IsOpening, IsSound, account_of};
 ghost use Rattle.frame_bank.specs.FrameBank.{IsBank};
 ghost use Rattle.bounce_hub.specs.Opening.{opening};
@@ -58,6 +58,13 @@ impl Hub {
         ensures sound { IsSound self.now.opening self.now.history }
     {
         self.history.as_slice()
+    }
+
+    /// The number of zones.
+    pub fn zone_count(&self) -> usize
+        ensures { result ≡ length (account_of self.now.opening self.now.history).zones }
+    {
+        self.pool.zones.len()
     }
 
     /// The counts of the zones, in the order of their making. `bounced` has, zone by zone, how many

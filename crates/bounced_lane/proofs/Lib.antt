@@ -1,6 +1,5 @@
 mod AfterTurn
 mod Asked
-mod Awaiting
 mod AwaitingLoads
 mod AwaitedMaps
 mod AwaitingStays

@@ -6,6 +6,7 @@ mod awaiting;
 mod buffers;
 mod callbacks;
 mod calls;
+mod ended;
 mod finishing;
 mod holdings;
 mod judging;

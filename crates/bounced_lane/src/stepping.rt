@@ -1,6 +1,6 @@
 //! The turns of a lane.
 
-ghost use Rattle.std.specs.Prelude.{◌≡◌, length, nat_le, IfOk, OnErr, OnOk};
+ghost use Rattle.std.specs.Prelude.{◌≡◌, IfOk, OnErr, OnOk};
 ghost use Rattle.ideal_lane.specs.Turns.{lane_step};
 ghost use Rattle.ideal_wire.specs.Centre.{IsFaithful};
 ghost use Rattle.ideal_wire.specs.WireStep.{Follows};
@@ -51,13 +51,6 @@ impl Lane<'_> {
         ensures fixed { D.fixed door.new ≡ D.fixed door.old }
     {
         self.holdings.turn(alloc, door, side)
-    }
-
-    /// Whether the script has ended.
-    pub fn has_ended(&self) -> bool
-        ensures { result ≡ nat_le (length (ideal self.now).script) (ideal self.now).place }
-    {
-        self.holdings.script.len() <= self.holdings.agenda.place() as usize
     }
 
     /// The lane's share of total_bounced of a zone: how many of its syncs copied to or from a page of the zone.

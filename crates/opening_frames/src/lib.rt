@@ -1,0 +1,7 @@
+//! The frames of the machine in which a scenario opens: where they end, and the bank of those that
+//! no driver has.
+#![tactic(auto)]
+
+mod frames;
+
+pub use frames::{free_bank, memory_end};
