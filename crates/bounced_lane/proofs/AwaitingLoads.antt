@@ -28,13 +28,13 @@ use Rattle.busdma_base.specs.Runs.{run_of}
 use Rattle.dma_map.specs.declared.callback.Transfers.{Transfers}
 use Rattle.dma_map.specs.declared.room.LoadRoom.{LoadRoom}
 use Rattle.dma_map.specs.MapView as held
-use Rattle.loan_table.specs.Loans.{Loan, new_loan}
+use Rattle.loan_table.specs.Loans.{Loan, Loans, new_loan}
 use Rattle.phys_memory.specs.Translation.{unreached}
 use Rattle.phys_memory.specs.Vector.{entries_of, one_span}
 use Rattle.segment_build.specs.Building.{placed_pieces, tag_placed}
 use Rattle.segment_build.specs.Chunks.{bounced_of, chunks_of}
 use Rattle.segment_build.specs.Segmentation.{segmentation}
-use Rattle.ideal_lane.proofs.Lookups.{get_put, get_cut}
+use Rattle.ideal_lane.proofs.Lookups.{get_cut}
 use Rattle.ideal_lane.specs.Loads.{Asked, emptied, finished, is_coherent, limits_of, loaded, no_limits, staged, unpaged}
 use Rattle.ideal_lane.specs.Outcomes.{Outcome, is_idle, is_loaded}
 use Rattle.ideal_lane.specs.Places.{is_in_memory, or_in_memory, physical, physical_of, reached}
@@ -49,6 +49,7 @@ use Rattle.bounced_lane.specs.Loading.{HasRoomForAny, buffer_chunks, buffer_entr
 use Rattle.bounced_lane.proofs.Keeping.{told-none}
 use Rattle.bounced_lane.proofs.LoadSteps.{taken-out}
 use Rattle.bounced_lane.proofs.MapValues.{get-map_values, image-none}
+use Rattle.bounced_lane.proofs.TakenLoads.{put-here, put-other}
 use Rattle.bounced_lane.proofs.Unloaded.{left}
 
 idle-waits : (need : ℕ) (s : held.Stage Transfers) → is_idle (stage_of need s) ≡ true → held.waiting_load s ≡ None
@@ -93,13 +94,6 @@ pub record StaysBut (one : ℕ) (l k : LaneState) : Type 0 where
   pub rest : Stays l k
   pub maps : (q : ℕ) → (q == one) ≡ false → get k.maps q ≡ get l.maps q
 
-module _ {X : Type 0} (m : FinMap nat_cmp X) (one q : ℕ) (off : (q == one) ≡ false) where
-  put-off : (x : X) → get (insert m one x) q ≡ get m q
-  put-off x = get_put m one x q ∙ ap (λ b. cond b (Some x) (get m q)) off
-
-  cut-off : get (remove m one) q ≡ get m q
-  cut-off = get_cut m one q ∙ ap (λ b. cond b None (get m q)) off
-
 pub cut-at : {X : Type 0} (m : FinMap nat_cmp X) (one : ℕ) → get (remove m one) one ≡ None
 cut-at m one = get_cut m one one ∙ ap (λ b. cond b None (get m one)) (eq-eqb one one refl)
 
@@ -112,10 +106,11 @@ stays-same l k e = record {
   mems = ap (λ (s : LaneState). s.mems) e;
 }
 
-put-stays : (one : ℕ) (x : LaneMap) (l k : LaneState) → Stays l k → k.maps ≡ insert l.maps one x → StaysBut one l k
+-- a map has another stage
+pub put-stays : (one : ℕ) (x : LaneMap) (l k : LaneState) → Stays l k → k.maps ≡ insert l.maps one x → StaysBut one l k
 put-stays one x l k rest maps = record {
   rest = rest;
-  maps = λ q off. ap (λ ms. get ms q) maps ∙ put-off l.maps one q off x;
+  maps = λ q off. ap (λ ms. get ms q) maps ∙ put-other l.maps one q x off;
 }
 
 pub stays-staged : (one : ℕ) (o : LaneMap) (s : Stage) (l k : LaneState) → k ≡ staged one o s l → StaysBut one l k
@@ -231,8 +226,7 @@ module _ (h k : Holdings) (m load_at need : ℕ) (o : LaneMap) (items : List Ite
       let l = ideal_of h in
       let v : LaneMap = record o { tried = true; stage = Waiting load_at need } in
       let put : get (ideal_of k).maps m ≡ Some v =
-      ap (λ (n : LaneState). get n.maps m) e ∙ get_put l.maps m v m
-      ∙ ap (λ b. cond b (Some v) (get l.maps m)) (eq-eqb m m refl) in
+      ap (λ (n : LaneState). get n.maps m) e ∙ put-here l.maps m v in
       let a : IsAwaiting h m load_at items room = record {
         va = ready.va;
         len = ready.len;
@@ -352,13 +346,14 @@ module _ (h k : Holdings) (same : ideal_of k ≡ ideal_of h) (maps : k.maps.map 
       }) are
 
 -- a loan is prepared for one map, or is not any more
-pub put-other : {X : Type 0} (m k : FinMap nat_cmp X) (one : ℕ) (x : X) → k ≡ insert m one x →
-    (q : ℕ) → (q == one) ≡ false → get k q ≡ get m q
-put-other m k one x e q off = ap (λ ps. get ps q) e ∙ put-off m one q off x
+pub prepared-more : (ps qs : Loans) (one : ℕ) (x : Loan) → qs ≡ insert ps one x → (m : ℕ) → (m == one) ≡ false →
+    get qs m ≡ get ps m
+prepared-more ps qs one x e m off = ap (λ rs. get rs m) e ∙ put-other ps one m x off
 
-pub cut-other : {X : Type 0} (m k : FinMap nat_cmp X) (one : ℕ) → k ≡ remove m one →
-    (q : ℕ) → (q == one) ≡ false → get k q ≡ get m q
-cut-other m k one e q off = ap (λ ps. get ps q) e ∙ cut-off m one q off
+pub prepared-less : (ps qs : Loans) (one : ℕ) → qs ≡ remove ps one → (m : ℕ) → (m == one) ≡ false →
+    get qs m ≡ get ps m
+prepared-less ps qs one e m off =
+    ap (λ rs. get rs m) e ∙ get_cut ps one m ∙ ap (λ b. cond b None (get ps m)) off
 
 -- what is prepared for an idle map, if no load waits that keeps it
 pub idle-unprepared : (h : Holdings) (m : ℕ) → AreAwaiting h → is_idle_map (get h.maps.map m) ≡ true →
@@ -389,5 +384,5 @@ awaiting-finished h k one o load_at x chunks pages e kept prepared idle are =
     (awaiting-others h k one (record {
       stays = stays-finished one o load_at x chunks pages (ideal_of h) (ideal_of k) e;
       kept = λ m off. kept m;
-      prepared = cut-other h.loans.prepared k.loans.prepared one prepared;
+      prepared = prepared-less h.loans.prepared k.loans.prepared one prepared;
     }) are)

@@ -54,7 +54,6 @@ mod ReturnSteps
 mod ReturnTurns
 mod Shares
 mod StaysWired
-mod StillAwaiting
 mod Syncing
 mod TagSteps
 mod TakenLoads

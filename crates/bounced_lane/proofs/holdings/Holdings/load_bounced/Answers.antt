@@ -20,7 +20,7 @@ use Rattle.bounced_lane.specs.Covered.{is_idle_map, pages_due}
 use Rattle.bounced_lane.specs.Ideal.{ideal_of}
 use Rattle.bounced_lane.specs.Kept.{map_of}
 use Rattle.bounced_lane.specs.Loading.{HasRoomForAny, buffer_chunks, buffer_entries}
-use Rattle.bounced_lane.proofs.AwaitingLoads.{awaiting-but, awaiting-ready, awaiting-same, idle-unprepared, put-other}
+use Rattle.bounced_lane.proofs.AwaitingLoads.{awaiting-but, awaiting-ready, awaiting-same, idle-unprepared, prepared-more}
 use Rattle.bounced_lane.proofs.Keeping.{idle-there}
 use Rattle.bounced_lane.proofs.LoadSteps.{taken-out}
 use Rattle.bounced_lane.proofs.MapValues.{image-some}
@@ -188,7 +188,7 @@ take_grabbed-requires-clause-awaiting g c =
     (entries_addresses (buffer_entries l c.args.buffer.va.0 c.args.buffer.len)) in
     let ready = c.in_ok-ready_load.ensures in
     awaiting-ready h mid ready.same.ideal (ap (λ t. t.map) ready.maps) k
-    (put-other h.loans.prepared mid.loans.prepared k loan ready.prepared) (awaiting-but h k c.requires.awaiting)
+    (prepared-more h.loans.prepared mid.loans.prepared k loan ready.prepared) (awaiting-but h k c.requires.awaiting)
 
 pub take_grabbed-requires-clause-next : goal.take_grabbed-requires-clause-next
 take_grabbed-requires-clause-next g c =

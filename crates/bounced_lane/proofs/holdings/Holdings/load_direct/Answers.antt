@@ -15,7 +15,7 @@ use Rattle.ideal_lane.specs.State.{LaneMap, LaneState}
 use Rattle.bounced_lane.specs.Covered.{is_idle_map}
 use Rattle.bounced_lane.specs.Ideal.{ideal_of}
 use Rattle.bounced_lane.specs.Loading.{HasRoomForAny, buffer_chunks, buffer_entries}
-use Rattle.bounced_lane.proofs.AwaitingLoads.{awaiting-but, awaiting-ready, awaiting-same, idle-unprepared, put-other}
+use Rattle.bounced_lane.proofs.AwaitingLoads.{awaiting-but, awaiting-ready, awaiting-same, idle-unprepared, prepared-more}
 use Rattle.bounced_lane.proofs.Preparing.{room-for-any}
 use Rattle.bounced_lane.proofs.holdings.Holdings.load_direct.Goals as goal
 
@@ -48,7 +48,7 @@ complete_load-requires c =
       stands = subst Stands (sym e) c.requires.stands;
       idle = ap (λ t. is_idle_map (get t.map k)) done.maps ∙ c.requires.idle;
       awaiting = awaiting-ready h mid e (ap (λ t. t.map) done.maps) k
-          (put-other h.loans.prepared mid.loans.prepared k loan done.prepared) (awaiting-but h k c.requires.awaiting);
+          (prepared-more h.loans.prepared mid.loans.prepared k loan done.prepared) (awaiting-but h k c.requires.awaiting);
       reached = ap (λ (x : LaneState). reached x va len) e ∙ c.requires.reached;
       small = c.requires.small;
       room = subst (λ (x : LaneState). (o : LaneMap) → get x.maps k ≡ Some o →

@@ -17,7 +17,7 @@ use Rattle.bounced_lane.specs.Ideal.{ideal_of}
 use Rattle.bounced_lane.specs.Kept.{map_of}
 use Rattle.bounced_lane.specs.Loading.{HasNeed, HasRoomForAny, buffer_chunks}
 use Rattle.bounced_lane.proofs.AwaitingLoads.{IsReadyLoad, KeepsOthers, awaiting-none, awaiting-one, awaiting-others}
-use Rattle.bounced_lane.proofs.AwaitingLoads.{awaiting-ready, awaiting-tried, begins-waiting, cut-at, cut-other}
+use Rattle.bounced_lane.proofs.AwaitingLoads.{awaiting-ready, awaiting-tried, begins-waiting, cut-at, prepared-less}
 use Rattle.bounced_lane.proofs.AwaitingLoads.{idle-unkept, stays-staged}
 use Rattle.bounced_lane.proofs.Keeping.{idle-there}
 use Rattle.bounced_lane.proofs.MapValues.{image-some}
@@ -118,6 +118,6 @@ returns-in-NoPages-clause-awaiting c =
     ap (λ ps. get ps m) undone.prepared ∙ cut-at h.loans.prepared m in
     let are : AreAwaiting n =
     awaiting-none n m none unprepared (awaiting-ready h n e maps m
-    (cut-other h.loans.prepared n.loans.prepared m undone.prepared) c.requires.awaiting) in
+    (prepared-less h.loans.prepared n.loans.prepared m undone.prepared) c.requires.awaiting) in
     awaiting-tried n k m o (c.note_tried.ensures.done o (ap (λ (y : LaneState). get y.maps m) e ∙ is))
     c.note_tried.ensures.waiting (ap (λ ms. is_idle_map (get ms m)) maps ∙ c.requires.idle) are
