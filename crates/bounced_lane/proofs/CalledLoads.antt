@@ -71,43 +71,6 @@ pub asked-is : (l : LaneState) (at m : ℕ) (va : Va) (len flags : ℕ) (items :
 asked-is l at m va len flags items load =
     ap (λ (o : Option Op). unwrap_or (option_and_then (λ p. asked_by p l) o) (no_load l)) load
 
--- ---- what a load that ends leaves of its driver
-
--- the script, the tags, the pages, the memories and all maps but one are as they were
-pub record KeepsGround (one : ℕ) (l n : LaneState) : Type 0 where
-  pub script : n.script ≡ l.script
-  pub maxmem : n.maxmem ≡ l.maxmem
-  pub pages : n.pages ≡ l.pages
-  pub tags : n.tags ≡ l.tags
-  pub mems : n.mems ≡ l.mems
-  pub maps : (q : ℕ) → (q == one) ≡ false → get n.maps q ≡ get l.maps q
-
-ground-if : (one : ℕ) (l : LaneState) (b : Bool) (x y : Outcome) → KeepsGround one l x.lane →
-    KeepsGround one l y.lane → KeepsGround one l (if b then x else y).lane
-ground-if one l true x y h k = h
-ground-if one l false x y h k = k
-
-module _ (l : LaneState) (m : ℕ) (o : LaneMap) (at : ℕ) (x : Asked) (chunks : List Chunk) (pages : List ℕ) where
-  pub finished-ground : KeepsGround m l (finished m o at x chunks pages l).lane
-  finished-ground =
-      ground-if m l (fits l m o at x chunks pages) (fitting l m o at x chunks pages) (too_big l m o at x chunks pages)
-      (record {
-        script = refl;
-        maxmem = refl;
-        pages = refl;
-        tags = refl;
-        mems = refl;
-        maps = λ q off. put-other l.maps m q _ off;
-      })
-      (record {
-        script = refl;
-        maxmem = refl;
-        pages = refl;
-        tags = refl;
-        mems = refl;
-        maps = λ q off. put-other l.maps m q _ off;
-      })
-
 -- ---- the room of the transfer queue
 
 -- the items of a load that waits are among those ahead

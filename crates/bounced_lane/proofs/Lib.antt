@@ -61,7 +61,6 @@ mod ScriptTurns
 mod Shares
 mod SmallLoads
 mod StaysWired
-mod StillAwaiting
 mod Syncing
 mod TagSteps
 mod TakenLoads

@@ -1,5 +1,6 @@
 -- What a load that waits keeps by it until its callback, which takes no memory.
-use Rattle.std.specs.Prelude.{◌≡◌, ℕ, ◌+◌, ◌≤◌, ◌^◌, List, Option, Some, None, slice_get, drop, unwrap_or}
+use Rattle.std.specs.Prelude.{◌≡◌, ℕ, ◌+◌, ◌≤◌, ◌^◌, ◌==◌, false, List, Option, Some, None, slice_get, drop}
+use Rattle.std.specs.Prelude.{unwrap_or}
 use Rattle.std.specs.List.{sum_by}
 use Rattle.std.specs.Option.{option_map}
 use Rattle.std.specs.Ordering.{nat_cmp}
@@ -74,6 +75,18 @@ pub record AreAwaiting (h : Holdings) : Type 0 where
   pub each : (m load_at : ℕ) (callback : Transfers) (room : LoadRoom) →
       kept_load (get h.maps.map m) ≡ Some (load_at, callback, room) → IsAwaiting h m load_at callback.items room
   pub prepared : (m : ℕ) → kept_load (get h.maps.map m) ≡ None → get h.loans.prepared m ≡ None
+
+-- each load but that of one map has, where it waits, what its callback takes, and a loan is prepared for no other map
+pub record AreAwaitingBut (one : ℕ) (h : Holdings) : Type 0 where
+  pub each : (m load_at : ℕ) (callback : Transfers) (room : LoadRoom) → (m == one) ≡ false →
+      kept_load (get h.maps.map m) ≡ Some (load_at, callback, room) → IsAwaiting h m load_at callback.items room
+  pub prepared : (m : ℕ) → (m == one) ≡ false → kept_load (get h.maps.map m) ≡ None →
+      get h.loans.prepared m ≡ None
+
+-- the next operation loads a map with the bytes of a buffer, and its load has these items
+pub record IsNextLoad (h : Holdings) (m : ℕ) (va : Va) (len : ℕ) (items : List Item) : Type 0 where
+  pub flags : ℕ
+  pub load : slice_get h.script.now h.agenda.place ≡ Some (Load m (At va) len flags items)
 
 -- how many bytes the operations from a place on load
 abbrev pub bytes_ahead : ℕ → List Op → ℕ

@@ -1,11 +1,12 @@
 //! Loading.
 
 ghost use Rattle.std.specs.Prelude.{◌≡◌, ◌+◌, ◌<◌, ◌≤◌, ◌^◌, [], true, false, length, Some, None};
-ghost use Rattle.std.specs.Prelude.{IfNone, IfOk, IfSome, OnErr, OnOk};
+ghost use Rattle.std.specs.Prelude.{IfNone, IfOk, IfSome, OnErr, OnOk, slice_get};
 ghost use Rattle.std.specs.FinMap.{get, insert};
 ghost use Rattle.std.specs.List.{AllByRecursion};
 ghost use Rattle.busdma_base.specs.declared.journals.report.Judged.TheVariants.{Fine};
 ghost use Rattle.busdma_base.specs.declared.bounce.hold.HubCall.TheVariants.{Grab};
+ghost use Rattle.busdma_base.specs.declared.scenarios.script.Op.TheVariants.{Load};
 ghost use Rattle.busdma_base.specs.declared.scenarios.script.Place.TheVariants.{At};
 ghost use Rattle.busdma_base.specs.Bounce.AccountStep.{as_pages};
 ghost use Rattle.busdma_base.specs.Bounce.Door.{Allows};
@@ -71,6 +72,7 @@ fn take_room(alloc: Global, wanted: Wanted) -> Result<LoadRoom, AllocError>
 }
 
 impl Holdings<'_> {
+    ghost use Rattle.bounced_lane.specs.Awaiting.{AreAwaiting, AreAwaitingBut, IsNextLoad};
     ghost use Rattle.bounced_lane.specs.Changes.{KeepsBytesBut, KeepsState};
     ghost use Rattle.bounced_lane.specs.Ideal.{given, ideal_of};
 
@@ -88,8 +90,9 @@ impl Holdings<'_> {
     ) -> Result<Answer, AllocError>
         requires stands { Stands (ideal_of self.old) }
         requires own { get self.old.memories.map map ≡ None }
-        requires unprepared { is_idle_map (get self.old.maps.map map) ≡ true →
-            get self.old.loans.prepared map ≡ None }
+        requires awaiting { AreAwaiting self.old }
+        requires here { slice_get self.old.script.now self.old.agenda.place
+            ≡ Some (Load map place len flags items.now) }
         requires small { len ≤ 2 ^ 20 }
         requires few_items { length items.now ≤ self.old.agenda.room }
         requires few_pages { self.old.agenda.promised + len < 2 ^ 32 }
@@ -100,6 +103,7 @@ impl Holdings<'_> {
             (given self.new answer) (D.seen door.new)) }
         ensures err { OnErr result (KeepsState self.old self.new) }
         ensures undone { OnErr result (IsUndone (D.seen door.old) (D.seen door.new)) }
+        ensures awaiting { AreAwaiting self.new }
         ensures bytes { KeepsBytesBut map self.old self.new }
         ensures memories { self.new.memories ≡ self.old.memories }
         ensures place { self.new.agenda.place ≡ self.old.agenda.place }
@@ -126,8 +130,9 @@ impl Holdings<'_> {
     ) -> Result<Answer, AllocError>
         requires stands { Stands (ideal_of self.old) }
         requires own { get self.old.memories.map map ≡ None }
-        requires unprepared { is_idle_map (get self.old.maps.map map) ≡ true →
-            get self.old.loans.prepared map ≡ None }
+        requires awaiting { AreAwaiting self.old }
+        requires here { slice_get self.old.script.now self.old.agenda.place
+            ≡ Some (Load map (At buffer.va) buffer.len flags items.now) }
         requires small { buffer.len ≤ 2 ^ 20 }
         requires few_items { length items.now ≤ self.old.agenda.room }
         requires few_pages { self.old.agenda.promised + buffer.len < 2 ^ 32 }
@@ -138,6 +143,7 @@ impl Holdings<'_> {
             (given self.new answer) (D.seen door.new)) }
         ensures err { OnErr result (KeepsState self.old self.new) }
         ensures undone { OnErr result (IsUndone (D.seen door.old) (D.seen door.new)) }
+        ensures awaiting { AreAwaiting self.new }
         ensures bytes { KeepsBytesBut map self.old self.new }
         ensures memories { self.new.memories ≡ self.old.memories }
         ensures place { self.new.agenda.place ≡ self.old.agenda.place }
@@ -270,6 +276,7 @@ impl Holdings<'_> {
     ) -> Answer
         requires stands { Stands (ideal_of self.old) }
         requires idle { is_idle_map (get self.old.maps.map map) ≡ true }
+        requires awaiting { AreAwaitingBut map self.old }
         requires reached { reached (ideal_of self.old) buffer.va.0 buffer.len ≡ Fine }
         requires small { buffer.len ≤ 2 ^ 20 }
         requires room { (o : LaneMap) → get (ideal_of self.old).maps map ≡ Some o →
@@ -285,6 +292,7 @@ impl Holdings<'_> {
             given self.new result ≡ finished map o load_at x
             (buffer_chunks (ideal_of self.old) o buffer.va.0 buffer.len) (page_addresses pages.items)
             (ideal_of self.old) }
+        ensures awaiting { AreAwaiting self.new }
         ensures bytes { KeepsBytesBut map self.old self.new }
         ensures memories { self.new.memories ≡ self.old.memories }
         ensures place { self.new.agenda.place ≡ self.old.agenda.place }
@@ -322,7 +330,7 @@ impl Holdings<'_> {
         requires stands { Stands (ideal_of self.old) }
         requires idle { is_idle_map (get self.old.maps.map map) ≡ true }
         requires own { get self.old.memories.map map ≡ None }
-        requires unprepared { get self.old.loans.prepared map ≡ None }
+        requires awaiting { AreAwaiting self.old }
         requires reached { reached (ideal_of self.old) buffer.va.0 buffer.len ≡ Fine }
         requires small { buffer.len ≤ 2 ^ 20 }
         requires wanted { (o : LaneMap) → get (ideal_of self.old).maps map ≡ Some o →
@@ -335,6 +343,7 @@ impl Holdings<'_> {
             given self.new answer ≡ finished map o (ideal_of self.old).place x
             (buffer_chunks (ideal_of self.old) o buffer.va.0 buffer.len) [] (ideal_of self.old)) }
         ensures err { OnErr result (KeepsState self.old self.new) }
+        ensures awaiting { AreAwaiting self.new }
         ensures bytes { KeepsBytesBut map self.old self.new }
         ensures memories { self.new.memories ≡ self.old.memories }
         ensures place { self.new.agenda.place ≡ self.old.agenda.place }
@@ -365,7 +374,8 @@ impl Holdings<'_> {
         requires stands { Stands (ideal_of self.old) }
         requires idle { is_idle_map (get self.old.maps.map map) ≡ true }
         requires own { get self.old.memories.map map ≡ None }
-        requires unprepared { get self.old.loans.prepared map ≡ None }
+        requires awaiting { AreAwaiting self.old }
+        requires next { IsNextLoad self.old map buffer.va buffer.len items.now }
         requires reached { reached (ideal_of self.old) buffer.va.0 buffer.len ≡ Fine }
         requires small { buffer.len ≤ 2 ^ 20 }
         requires wanted { (o : LaneMap) → get (ideal_of self.old).maps map ≡ Some o →
@@ -384,6 +394,7 @@ impl Holdings<'_> {
             (given self.new answer) (D.seen door.new)) }
         ensures err { OnErr result (KeepsState self.old self.new) }
         ensures undone { OnErr result (IsUndone (D.seen door.old) (D.seen door.new)) }
+        ensures awaiting { AreAwaiting self.new }
         ensures bytes { KeepsBytesBut map self.old self.new }
         ensures memories { self.new.memories ≡ self.old.memories }
         ensures place { self.new.agenda.place ≡ self.old.agenda.place }

@@ -5,7 +5,7 @@ use Rattle.dma_map.specs.declared.callback.Transfers.{Transfers}
 use Rattle.dma_map.specs.declared.room.LoadRoom.{LoadRoom}
 use Rattle.bounced_lane.specs.Awaiting.{kept_load}
 use Rattle.bounced_lane.proofs.Called.{waits-kept}
-use Rattle.bounced_lane.proofs.EndedWaits.{ends-bytes, ends-done, ends-idle, ends-items, ends-prepared}
+use Rattle.bounced_lane.proofs.EndedWaits.{ends-bytes, ends-done, ends-idle, ends-items, ends-others, ends-prepared}
 use Rattle.bounced_lane.proofs.EndedWaits.{ends-promised, ends-reached, ends-room, ends-small, ends-stands}
 use Rattle.bounced_lane.proofs.holdings.Holdings.end_wait.Goals as goal
 
@@ -88,3 +88,14 @@ returns-clause-bytes c =
     let found : kept_load (get c.args.self.now.maps.map c.args.map) ≡ Some load = sym c.in-Some.ensures.load in
     ends-bytes c.args.self.now c.take_load.new.self c.args.map load.0 load.1 load.2 found c.take_load.ensures.maps
     c.take_load.ensures.rest c.complete_load.new.self c.complete_load.ensures.bytes
+
+pub returns-in_default-clause-awaiting : goal.returns-in_default-clause-awaiting
+returns-in_default-clause-awaiting c =
+    absurd (waits-kept c.args.self.now c.args.map c.requires.waits (sym c.take_load.ensures.load ∙ c.in_default.is))
+
+pub complete_load-requires-clause-awaiting : goal.complete_load-requires-clause-awaiting
+complete_load-requires-clause-awaiting c =
+    let load : ℕ × Transfers × LoadRoom = c.in-Some.load in
+    let found : kept_load (get c.args.self.now.maps.map c.args.map) ≡ Some load = sym c.in-Some.ensures.load in
+    ends-others c.args.self.now c.take_load.new.self c.args.map load.0 load.1 load.2 found c.take_load.ensures.maps
+    c.take_load.ensures.rest c.requires.awaiting

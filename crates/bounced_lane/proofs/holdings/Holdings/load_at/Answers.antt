@@ -1,4 +1,5 @@
 use Rattle.std.proofs.Common.{◌≡◌, ◌<◌, ◌≤◌, Bool, true, refl, sym, ap, ◌∙◌, subst, arith}
+use Rattle.std.specs.FinMap.{get}
 use Rattle.busdma_base.specs.declared.bounce.hold.HubCall.{HubCall}
 use Rattle.busdma_base.specs.declared.bounce.hold.HubCall.TheVariants.{Grab}
 use Rattle.dma_tag.specs.LoadFlags.{nowait}
@@ -9,10 +10,12 @@ use Rattle.ideal_lane.specs.Loads.{granted, zone_of}
 use Rattle.ideal_lane.specs.Asking.{Gives}
 use Rattle.ideal_lane.specs.Outcomes.{gives, is_idle}
 use Rattle.ideal_lane.specs.State.{LaneMap, named}
+use Rattle.bounced_lane.specs.Covered.{is_idle_map}
 use Rattle.bounced_lane.specs.Doing.{IsCalled}
 use Rattle.bounced_lane.specs.Ideal.{given, ideal_of}
 use Rattle.bounced_lane.specs.Kept.{map_of, memory_of}
 use Rattle.bounced_lane.specs.Loading.{buffer_chunks}
+use Rattle.bounced_lane.proofs.AwaitingLoads.{awaiting-tried}
 use Rattle.bounced_lane.proofs.Asked.{few-wanted, load-absent, load-bounced, load-busy, load-direct, load-long, load-refused, x}
 use Rattle.bounced_lane.proofs.Chunked.{all-reached}
 use Rattle.bounced_lane.proofs.Doors.{allowed-asks, done-asks, done-gives, ok-map}
@@ -169,3 +172,16 @@ returns-clause-promised g c =
     few-wanted l (map_of o) va len c.in-Some-measure_load.wanted.need wanted.need in
     let more = c.load_bounced.ensures.promised in
     omega (arith, few, more)
+
+pub returns-in_default-measure_load-clause-awaiting : goal.returns-in_default-measure_load-clause-awaiting
+returns-in_default-measure_load-clause-awaiting g c =
+    let h = c.args.self.now in
+    let o = c.in-Some.kept.now in
+    let there = image-some map_of h.maps.map c.args.map o (sym c.in-Some.ensures) in
+    let idle : is_idle_map (get h.maps.map c.args.map) ≡ true =
+    ap is_idle_map (sym c.in-Some.ensures) ∙ state-idle o.need o.map.stage (sym c.state.ensures ∙ c.in-Idle.is) in
+    awaiting-tried h c.note_tried.new.self c.args.map (map_of o) (c.note_tried.ensures.done (map_of o) there)
+    c.note_tried.ensures.waiting idle c.requires.awaiting
+
+pub load_bounced-requires-clause-next : goal.load_bounced-requires-clause-next
+load_bounced-requires-clause-next g c = record { flags = c.args.flags; load = c.requires.here }
