@@ -49,6 +49,7 @@ mod OwnRuns
 mod PagesLent
 mod Places
 mod Preparing
+mod Providing
 mod PutBack
 mod Reaching
 mod Reading

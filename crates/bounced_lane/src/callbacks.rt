@@ -34,6 +34,7 @@ impl Holdings<'_> {
         ensures made { IsMade self.old self.new (D.seen door.old) (D.seen door.new) side.Callback result }
         ensures awaiting { AreAwaiting self.new }
         ensures promised { self.new.agenda.promised ≤ self.old.agenda.promised }
+        ensures place { self.new.agenda.place ≡ self.old.agenda.place }
         ensures memories { self.new.memories ≡ self.old.memories }
         ensures fixed { D.fixed door.new ≡ D.fixed door.old }
     {
@@ -58,6 +59,7 @@ impl Holdings<'_> {
         ensures awaiting { AreAwaiting self.new }
         ensures promised { self.new.agenda.promised ≤ self.old.agenda.promised }
         ensures memories { self.new.memories ≡ self.old.memories }
+        ensures place { self.new.agenda.place ≡ self.old.agenda.place }
         ensures length { self.new.agenda.length ≡ self.old.agenda.length }
         ensures capacity { self.new.agenda.room + length self.new.agenda.queue
             ≡ self.old.agenda.room + length self.old.agenda.queue }

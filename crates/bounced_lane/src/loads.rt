@@ -20,13 +20,13 @@ ghost use Rattle.ideal_lane.specs.Places.{reached};
 ghost use Rattle.ideal_lane.specs.Standing.{Stands};
 ghost use Rattle.ideal_lane.specs.State.{LaneMap, named};
 ghost use Rattle.ideal_lane.specs.Turns.{load_at_place};
-ghost use Rattle.bounced_lane.specs.Doing.{IsAllowedBy, IsCalled, IsDone, IsUndone};
+ghost use Rattle.bounced_lane.specs.Doing.{IsAllowedBy, IsCalled, IsDone, IsUndone, asks};
 ghost use Rattle.bounced_lane.specs.Covered.{is_idle_map, pages_due};
 ghost use Rattle.bounced_lane.specs.Loading.{HasRoomForAny, IsFilled, IsOverfull, IsWanted};
 ghost use Rattle.bounced_lane.specs.Loading.{buffer_chunks, buffer_entries};
 
 use crate::buffers::{Buffer, build_buffer, copy_segments, measure_buffer, write_addresses};
-use crate::holdings::{Holdings, report};
+use crate::holdings::{Answered, Holdings, report};
 use bitflags::Flags;
 use busdma_base::{
     Answer, ChunkRoom, Errno, HubDoor, ItemList, Judged, Page, PageList, Place, ReportName,
@@ -87,7 +87,7 @@ impl Holdings<'_> {
         len: u64,
         flags: u32,
         items: &ItemList,
-    ) -> Result<Answer, AllocError>
+    ) -> Result<Answered, AllocError>
         requires stands { Stands (ideal_of self.old) }
         requires own { get self.old.memories.map map ≡ None }
         requires awaiting { AreAwaiting self.old }
@@ -98,9 +98,11 @@ impl Holdings<'_> {
         requires few_pages { self.old.agenda.promised + len < 2 ^ 32 }
         requires allowed { IsAllowedBy (D.seen door.old) self.old.id.0
             (load_at_place map place len flags items.now (ideal_of self.old)) }
-        ensures done { IfOk result (λ answer. IsDone (D.seen door.old) self.old.id.0
+        ensures done { IfOk result (λ r. IsDone (D.seen door.old) self.old.id.0
             (load_at_place map place len flags items.now (ideal_of self.old))
-            (given self.new answer) (D.seen door.new)) }
+            (given self.new r.answer) (D.seen door.new)) }
+        ensures held { IfOk result (λ r. r.held ≡ asks
+            (load_at_place map place len flags items.now (ideal_of self.old))) }
         ensures err { OnErr result (KeepsState self.old self.new) }
         ensures undone { OnErr result (IsUndone (D.seen door.old) (D.seen door.new)) }
         ensures awaiting { AreAwaiting self.new }
@@ -127,7 +129,7 @@ impl Holdings<'_> {
         buffer: Buffer,
         flags: u32,
         items: &ItemList,
-    ) -> Result<Answer, AllocError>
+    ) -> Result<Answered, AllocError>
         requires stands { Stands (ideal_of self.old) }
         requires own { get self.old.memories.map map ≡ None }
         requires awaiting { AreAwaiting self.old }
@@ -138,9 +140,11 @@ impl Holdings<'_> {
         requires few_pages { self.old.agenda.promised + buffer.len < 2 ^ 32 }
         requires allowed { IsAllowedBy (D.seen door.old) self.old.id.0
             (load_at_place map (At buffer.va) buffer.len flags items.now (ideal_of self.old)) }
-        ensures done { IfOk result (λ answer. IsDone (D.seen door.old) self.old.id.0
+        ensures done { IfOk result (λ r. IsDone (D.seen door.old) self.old.id.0
             (load_at_place map (At buffer.va) buffer.len flags items.now (ideal_of self.old))
-            (given self.new answer) (D.seen door.new)) }
+            (given self.new r.answer) (D.seen door.new)) }
+        ensures held { IfOk result (λ r. r.held ≡ asks
+            (load_at_place map (At buffer.va) buffer.len flags items.now (ideal_of self.old))) }
         ensures err { OnErr result (KeepsState self.old self.new) }
         ensures undone { OnErr result (IsUndone (D.seen door.old) (D.seen door.new)) }
         ensures awaiting { AreAwaiting self.new }
@@ -154,23 +158,40 @@ impl Holdings<'_> {
         ensures fixed { D.fixed door.new ≡ D.fixed door.old }
     {
         let Some(kept) = self.maps.get(map) else {
-            return Ok(report(ReportName::Absent, 0));
+            return Ok(Answered {
+                answer: report(ReportName::Absent, 0),
+                held: false,
+            });
         };
         let MapState::Idle = kept.map.state() else {
-            return Ok(report(ReportName::MapBusy, 0));
+            return Ok(Answered {
+                answer: report(ReportName::MapBusy, 0),
+                held: false,
+            });
         };
         if let Judged::Refused(refusal) = self.judge_load(map, buffer.va, buffer.len) {
-            return Ok(Answer::Report(refusal));
+            return Ok(Answered {
+                answer: Answer::Report(refusal),
+                held: false,
+            });
         }
         let Some(wanted) = self.measure_load(map, buffer) else {
             self.note_tried(map);
-            return Ok(Answer::Refused(Errno::EINVAL));
+            return Ok(Answered {
+                answer: Answer::Refused(Errno::EINVAL),
+                held: false,
+            });
         };
         if wanted.need == 0 {
-            return self.load_direct(alloc, map, buffer, wanted, items);
+            let answer = self.load_direct(alloc, map, buffer, wanted, items)?;
+            return Ok(Answered {
+                answer,
+                held: false,
+            });
         }
         let nowait = never_waits(flags);
-        self.load_bounced(alloc, door, map, buffer, wanted, nowait, items)
+        let answer = self.load_bounced(alloc, door, map, buffer, wanted, nowait, items)?;
+        Ok(Answered { answer, held: true })
     }
 
     /// What the load of a map with a buffer asks, or None where it is longer than the tag allows.

@@ -25,7 +25,7 @@ pub(crate) struct Released {
 
 impl Holdings<'_> {
     ghost use Rattle.bounced_lane.specs.Awaiting.{AreAwaiting};
-    ghost use Rattle.bounced_lane.specs.Changes.{KeepsBytes, KeepsState};
+    ghost use Rattle.bounced_lane.specs.Changes.{KeepsBytes};
     ghost use Rattle.bounced_lane.specs.Ideal.{given, ideal_of};
 
     /// Gives the first page of the return queue back to its zone, or answers None where there is none.
@@ -46,7 +46,7 @@ impl Holdings<'_> {
         ensures room { self.new.agenda.room ≡ self.old.agenda.room }
         ensures some { IfSome result (λ r. 1 ≤ length self.old.agenda.returns) }
         ensures empty { IfNone result (self.old.agenda.returns ≡ []) }
-        ensures same { IfNone result (KeepsState self.old self.new) }
+        ensures same { IfNone result (self.new ≡ self.old) }
         ensures unseen { IfNone result (D.seen door.new ≡ D.seen door.old) }
         ensures fixed { D.fixed door.new ≡ D.fixed door.old }
     {

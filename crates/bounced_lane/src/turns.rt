@@ -43,7 +43,7 @@ impl Holdings<'_> {
         ensures place { self.new.agenda.place ≡ self.old.agenda.place }
         ensures promised { self.new.agenda.promised ≤ self.old.agenda.promised }
         ensures empty { IfNone result (self.old.agenda.returns ≡ []) }
-        ensures same { IfNone result (KeepsState self.old self.new) }
+        ensures same { IfNone result (self.new ≡ self.old) }
         ensures unseen { IfNone result (D.seen door.new ≡ D.seen door.old) }
         ensures fixed { D.fixed door.new ≡ D.fixed door.old }
     {
@@ -66,6 +66,7 @@ impl Holdings<'_> {
         ensures err { OnErr result (KeepsState self.old self.new) }
         ensures undone { OnErr result (IsUndone (D.seen door.old) (D.seen door.new)) }
         ensures room { OnErr result (self.old.agenda.room ≤ self.new.agenda.room) }
+        ensures places { self.new.agenda.length ≡ self.old.agenda.length }
         ensures provided { IsProvided self.new }
         ensures fixed { D.fixed door.new ≡ D.fixed door.old }
     {
@@ -90,6 +91,7 @@ impl Holdings<'_> {
         ensures err { OnErr result (KeepsState self.old self.new) }
         ensures undone { OnErr result (IsUndone (D.seen door.old) (D.seen door.new)) }
         ensures room { OnErr result (self.old.agenda.room ≤ self.new.agenda.room) }
+        ensures places { self.new.agenda.length ≡ self.old.agenda.length }
         ensures provided { IsProvided self.new }
         ensures fixed { D.fixed door.new ≡ D.fixed door.old }
     {

@@ -22,13 +22,14 @@ use Rattle.bounced_lane.specs.Ideal.{ideal_of}
 use Rattle.bounced_lane.specs.Kept.{map_of, return_of}
 use Rattle.bounced_lane.specs.MapValues.{map_values}
 use Rattle.bounced_lane.proofs.Bytes.{held-alike}
-use Rattle.bounced_lane.proofs.Doors.{done-asks}
+use Rattle.bounced_lane.proofs.Doors.{done-asks, on-none}
 use Rattle.bounced_lane.proofs.MapTables.{AreMaps}
 use Rattle.bounced_lane.proofs.MapValues.{image-some}
 use Rattle.bounced_lane.proofs.Returned.{devices-after, maps-back}
 use Rattle.bounced_lane.proofs.ReturnSteps.{back-in, given-back-is, last-is, noted, own-head, returning-there}
 use Rattle.bounced_lane.proofs.AwaitingSteps.{awaits-put-if, awaits-same, returning-unkept}
 use Rattle.bounced_lane.proofs.Returned.{idled}
+use Rattle.bounced_lane.proofs.SameHoldings.{same-all}
 use Rattle.bounced_lane.proofs.holdings.Holdings.release.Goals as goal
 
 pub invariant_of-self-2 : goal.invariant_of-self-2
@@ -207,3 +208,18 @@ returns-clause-awaiting g c =
 
 pub returns-in_err-map-clause-awaiting : goal.returns-in_err-map-clause-awaiting
 returns-in_err-map-clause-awaiting g c = awaits-same c.args.self.now _ refl refl refl refl refl refl refl
+
+pub returns-in_err-map-clause-same : goal.returns-in_err-map-clause-same
+returns-in_err-map-clause-same g c =
+    on-none c.from_residual.result (same-all c.args.self.now _ (record {
+      script = refl;
+      pages = refl;
+      id = refl;
+      maxmem = refl;
+      memory = refl;
+      tags = refl;
+      maps = refl;
+      memories = refl;
+      loans = refl;
+      shares = refl;
+    }) c.in_err-map.ensures.none)
