@@ -25,6 +25,7 @@ mod Finding
 mod Following
 mod Foreign
 mod HeldMemory
+mod IdlePages
 mod Keeping
 mod KeepsWired
 mod LaneCalls
@@ -45,6 +46,7 @@ mod OpeningLane
 mod OpeningPages
 mod OpensProvided
 mod OpensWired
+mod OperationSteps
 mod OwnRuns
 mod PagesLent
 mod Places

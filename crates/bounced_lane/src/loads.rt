@@ -73,7 +73,7 @@ fn take_room(alloc: Global, wanted: Wanted) -> Result<LoadRoom, AllocError>
 
 impl Holdings<'_> {
     ghost use Rattle.bounced_lane.specs.Awaiting.{AreAwaiting, AreAwaitingBut, IsNextLoad};
-    ghost use Rattle.bounced_lane.specs.Changes.{KeepsBytesBut, KeepsState};
+    ghost use Rattle.bounced_lane.specs.Changes.{KeepsBytesBut, KeepsState, KeepsWhatStays};
     ghost use Rattle.bounced_lane.specs.Ideal.{given, ideal_of};
 
     /// Loads a map that is not a memory's with `len` bytes at a place. It takes all its memory before its one call at
@@ -106,7 +106,7 @@ impl Holdings<'_> {
         ensures err { OnErr result (KeepsState self.old self.new) }
         ensures undone { OnErr result (IsUndone (D.seen door.old) (D.seen door.new)) }
         ensures awaiting { AreAwaiting self.new }
-        ensures bytes { KeepsBytesBut map self.old self.new }
+        ensures bytes { KeepsWhatStays self.old self.new }
         ensures memories { self.new.memories ≡ self.old.memories }
         ensures place { self.new.agenda.place ≡ self.old.agenda.place }
         ensures length { self.new.agenda.length ≡ self.old.agenda.length }
@@ -148,7 +148,7 @@ impl Holdings<'_> {
         ensures err { OnErr result (KeepsState self.old self.new) }
         ensures undone { OnErr result (IsUndone (D.seen door.old) (D.seen door.new)) }
         ensures awaiting { AreAwaiting self.new }
-        ensures bytes { KeepsBytesBut map self.old self.new }
+        ensures bytes { KeepsWhatStays self.old self.new }
         ensures memories { self.new.memories ≡ self.old.memories }
         ensures place { self.new.agenda.place ≡ self.old.agenda.place }
         ensures length { self.new.agenda.length ≡ self.old.agenda.length }

@@ -19,6 +19,8 @@ use Rattle.bounced_lane.proofs.AwaitingLoads.{awaiting-tried}
 use Rattle.bounced_lane.proofs.Asked.{few-wanted, load-absent, load-bounced, load-busy, load-direct, load-long, load-refused, x}
 use Rattle.bounced_lane.proofs.Chunked.{all-reached}
 use Rattle.bounced_lane.proofs.Doors.{allowed-asks, asked, done-asks, done-gives, unasked}
+use Rattle.bounced_lane.proofs.Following.{stays-all}
+use Rattle.bounced_lane.proofs.IdlePages.{stays-idle, stays-same}
 use Rattle.bounced_lane.proofs.Keeping.{state-busy, state-idle}
 use Rattle.bounced_lane.proofs.MapValues.{image-none, image-some}
 use Rattle.bounced_lane.proofs.holdings.Holdings.load_at.Goals as goal
@@ -240,3 +242,44 @@ returns-clause-held g c =
     c.args.items.now (map_of o) there (state-idle o.need o.map.stage (sym c.state.ensures ∙ c.in-Idle.is))
     (sym c.judge_load.ensures ∙ c.in_default-judge_load.is) wanted.short
     (image-none memory_of h.memories.map c.args.map c.requires.own) need wanted.need some)
+
+pub returns-in_default-clause-bytes : goal.returns-in_default-clause-bytes
+returns-in_default-clause-bytes g c = stays-same c.args.self.now
+
+pub returns-in_default-state-clause-bytes : goal.returns-in_default-state-clause-bytes
+returns-in_default-state-clause-bytes g c = stays-same c.args.self.now
+
+pub returns-in-Refused-clause-bytes : goal.returns-in-Refused-clause-bytes
+returns-in-Refused-clause-bytes g c = stays-same c.args.self.now
+
+pub returns-in_default-measure_load-clause-bytes : goal.returns-in_default-measure_load-clause-bytes
+returns-in_default-measure_load-clause-bytes g c =
+    stays-all c.args.self.now c.note_tried.new.self c.note_tried.ensures.bytes
+
+pub returns-then-wanted-eq0-clause-bytes : goal.returns-then-wanted-eq0-clause-bytes
+returns-then-wanted-eq0-clause-bytes g c =
+    let o = c.in-Some.kept.now in
+    stays-idle c.args.self.now c.load_direct-answer.new.self c.args.map
+    (ap is_idle_map (sym c.in-Some.ensures) ∙ state-idle o.need o.map.stage (sym c.state.ensures ∙ c.in-Idle.is))
+    c.load_direct-answer.ensures.bytes
+
+pub returns-in_err-answer-clause-bytes : goal.returns-in_err-answer-clause-bytes
+returns-in_err-answer-clause-bytes g c =
+    let o = c.in-Some.kept.now in
+    stays-idle c.args.self.now c.load_direct-answer.new.self c.args.map
+    (ap is_idle_map (sym c.in-Some.ensures) ∙ state-idle o.need o.map.stage (sym c.state.ensures ∙ c.in-Idle.is))
+    c.load_direct-answer.ensures.bytes
+
+pub returns-clause-bytes : goal.returns-clause-bytes
+returns-clause-bytes g c =
+    let o = c.in-Some.kept.now in
+    stays-idle c.args.self.now c.load_bounced-answer.new.self c.args.map
+    (ap is_idle_map (sym c.in-Some.ensures) ∙ state-idle o.need o.map.stage (sym c.state.ensures ∙ c.in-Idle.is))
+    c.load_bounced-answer.ensures.bytes
+
+pub returns-in_err-answer-2-clause-bytes : goal.returns-in_err-answer-2-clause-bytes
+returns-in_err-answer-2-clause-bytes g c =
+    let o = c.in-Some.kept.now in
+    stays-idle c.args.self.now c.load_bounced-answer.new.self c.args.map
+    (ap is_idle_map (sym c.in-Some.ensures) ∙ state-idle o.need o.map.stage (sym c.state.ensures ∙ c.in-Idle.is))
+    c.load_bounced-answer.ensures.bytes
