@@ -1,5 +1,6 @@
 -- What a call on a lane leaves, which takes no door.
-use Rattle.std.proofs.Common.{◌≡◌, ℕ, ◌==◌, Bool, true, false, List, length, if◌then◌else◌, is_some, refl, ap, sym, ◌∙◌, subst}
+use Rattle.std.proofs.Common.{◌≡◌, ℕ, ◌≤◌, ◌==◌, Bool, true, false, List, Result, Ok, Err, IfOk, OnErr, length, if◌then◌else◌}
+use Rattle.std.proofs.Common.{is_some, refl, ap, sym, ◌∙◌, subst, arith}
 use Rattle.busdma_base.specs.declared.bounce.hold.HubReply.{HubReply}
 use Rattle.busdma_base.specs.declared.bounce.hold.HubReply.TheVariants.{Nothing}
 use Rattle.busdma_base.specs.declared.journals.answer.Answer.{Answer}
@@ -14,7 +15,7 @@ use Rattle.dma_tag.specs.SyncOps.{is_mixed}
 use Rattle.loan_table.specs.Access.{cpu_write_answer, dev_write_answer}
 use Rattle.loan_table.specs.Lending.{lost, sync_answer}
 use Rattle.loan_table.specs.Loans.{loan_of, load_bytes}
-use Rattle.ideal_lane.specs.Accesses.{cpu_write, dev_write}
+use Rattle.ideal_lane.specs.Accesses.{cpu_read, cpu_write, dev_write}
 use Rattle.ideal_lane.specs.Ahead.{items_ahead}
 use Rattle.ideal_lane.specs.Asking.{Asking, Gives, by_reply}
 use Rattle.ideal_lane.specs.Outcomes.{Outcome, gives, load_length, refused}
@@ -27,14 +28,23 @@ use Rattle.ideal_wire.specs.Centre.{IsFaithful}
 use Rattle.ideal_wire.specs.Laid.{AreLaid}
 use Rattle.ideal_wire.specs.Machine.{IsInMachine}
 use Rattle.ideal_wire.specs.WireStep as wires
+use Rattle.ideal_wire.specs.WireStep.{IsRead, Reads, place_bytes}
 use Rattle.ideal_wire.proofs.Calls.{cpu_write-faithful, dev_write-faithful, sync-faithful, sync_range-faithful}
 use Rattle.ideal_wire.proofs.Refusing.{absent, either, judged, past, unloaded}
 use Rattle.ideal_wire.proofs.StillLaid.{cpu_write-still, dev_write-still, sync-still, sync_range-still}
 use Rattle.ideal_wire.proofs.Wiring.{own-forgotten, own-written}
+use Rattle.ideal_wire.proofs.Wiring.{cpu_read-reads as reads}
 use Rattle.bounced_lane.specs.declared.holdings.Holdings.{Holdings}
+use Rattle.bounced_lane.specs.Awaiting.{AreAwaiting}
 use Rattle.bounced_lane.specs.Calls.{unless_foreign, wire_unless_foreign}
+use Rattle.bounced_lane.specs.Changes.{KeepsState}
 use Rattle.bounced_lane.specs.Ideal.{given, ideal_of}
+use Rattle.bounced_lane.specs.Provided.{IsProvided}
 use Rattle.bounced_lane.specs.Wire.{IsWired, wire_of}
+use Rattle.bounced_lane.proofs.KeepsWired.{kept-wired}
+use Rattle.bounced_lane.proofs.OneProvided.{provided-of}
+use Rattle.bounced_lane.proofs.OneStanding.{stands-of}
+use Rattle.bounced_lane.proofs.Providing.{provided-same}
 
 -- ---- what is left
 
@@ -170,6 +180,79 @@ module _ (h k : Holdings) (wired : IsWired h) (x : Answer) where
       called-on (dev_write m off vs l) done (dev_write-touches l m off vs) (dev_write-still l wired.laid m off vs)
       (λ r. subst (IsFaithful (by_reply (dev_write m off vs l) r).lane) (sym wire)
       (dev_write-faithful l (wire_of h) wired.apart wired.laid wired.faithful m off vs r))
+
+-- want of memory leaves it as it was
+kept-on : (h k : Holdings) → IsWired h → KeepsState h k → IsCalledOn h k
+kept-on h k wired s = record {
+  stands = subst Stands (sym s.ideal);
+  wired = kept-wired h k s wired;
+  ahead = ap items_ahead s.ideal;
+}
+
+module _ {E : Type 0} (h k : Holdings) (wired : IsWired h) where
+  pub sync-after : (m ops : ℕ) (r : Result Answer E) → IfOk r (λ a. Gives (given k a) ≡ sync m ops (ideal_of h)) →
+      IfOk r (λ a. wire_of k ≡ wires.sync m ops (ideal_of h) (wire_of h)) → OnErr r (KeepsState h k) → IsCalledOn h k
+  sync-after m ops (Ok a) done wire err = synced h k wired a m ops done wire
+  sync-after m ops (Err x) done wire err = kept-on h k wired err
+
+  pub sync_range-after : (m off len ops : ℕ) (r : Result Answer E) →
+      IfOk r (λ a. Gives (given k a) ≡ sync_range m off len ops (ideal_of h)) →
+      IfOk r (λ a. wire_of k ≡ wires.sync_range m off len ops (ideal_of h) (wire_of h)) →
+      OnErr r (KeepsState h k) → IsCalledOn h k
+  sync_range-after m off len ops (Ok a) done wire err = synced_range h k wired a m off len ops done wire
+  sync_range-after m off len ops (Err x) done wire err = kept-on h k wired err
+
+  pub cpu_write-after : (place : Place) (vs : List ℕ) (r : Result Answer E) →
+      IfOk r (λ a. Gives (given k a) ≡ cpu_write place vs (ideal_of h)) →
+      IfOk r (λ a. wire_of k ≡ wires.cpu_write place vs (ideal_of h) (wire_of h)) → OnErr r (KeepsState h k) →
+      IsCalledOn h k
+  cpu_write-after place vs (Ok a) done wire err = cpu_written h k wired a place vs done wire
+  cpu_write-after place vs (Err x) done wire err = kept-on h k wired err
+
+  pub dev_write-after : (m off : ℕ) (vs : List ℕ) (r : Result Answer E) →
+      IfOk r (λ a. Gives (given k a) ≡ dev_write m off vs (ideal_of h)) →
+      IfOk r (λ a. wire_of k ≡ wires.dev_write m off vs (ideal_of h) (wire_of h)) → OnErr r (KeepsState h k) →
+      IsCalledOn h k
+  dev_write-after m off vs (Ok a) done wire err = dev_written h k wired a m off vs done wire
+  dev_write-after m off vs (Err x) done wire err = kept-on h k wired err
+
+  pub dev_read-after : KeepsState h k → IsCalledOn h k
+  dev_read-after s = kept-on h k wired s
+
+-- ---- what a lane keeps
+
+pub record IsLane (h : Holdings) : Type 0 where
+  pub wired : IsWired h
+  pub stands : ∥ Stands (ideal_of h) ∥₁
+  pub provided : ∥ IsProvided h ∥₁
+  pub length : h.agenda.length ≡ length h.script.now
+  pub room : items_ahead (ideal_of h) ≤ h.agenda.room
+
+pub called-lane : (h k : Holdings) → IsLane h → IsCalledOn h k → (AreAwaiting h → AreAwaiting k) →
+    k.script ≡ h.script → k.memories ≡ h.memories → k.agenda ≡ h.agenda → IsLane k
+called-lane h k lane on awaiting script memories agenda =
+    let provided = provided-of h lane.provided in
+    let ahead = on.ahead in
+    let room = lane.room in
+    let same : k.agenda.room ≡ h.agenda.room = ap (λ a. a.room) agenda in
+    let promised : k.agenda.promised ≡ h.agenda.promised = ap (λ a. a.promised) agenda in
+    record {
+      wired = on.wired;
+      stands = ∣ on.stands (stands-of (ideal_of h) lane.stands) ∣₁;
+      provided = ∣ provided-same h k provided (awaiting provided.awaiting) (ap (λ s. s.now) script) memories
+          (ap (λ a. a.place) agenda) (omega (arith, promised)) ∣₁;
+      length = ap (λ a. a.length) agenda ∙ lane.length ∙ sym (ap (λ s. length s.now) script);
+      room = omega (arith, ahead, room, same);
+    }
+
+-- what is read is what is held
+pub cpu-reads : {E : Type 0} (h : Holdings) → IsWired h → (place : Place) (len : ℕ) (r : Result Answer E) →
+    IfOk r (λ a. Gives (given h a) ≡ cpu_read place len (ideal_of h)) →
+    IfOk r (λ a. Reads a (place_bytes (ideal_of h) place len) (wire_of h))
+cpu-reads h wired place len (Ok a) done =
+    subst (λ o. IsRead o (place_bytes (ideal_of h) place len) (wire_of h)) (sym done)
+    (reads (ideal_of h) (wire_of h) wired.apart wired.laid wired.faithful place len)
+cpu-reads h wired place len (Err x) done = tt
 
 -- ---- a map of another lane
 

@@ -42,6 +42,7 @@ impl Holdings<'_> {
         ensures wire { OnOk result (IsWireOf self.old self.new
             (wires.operation op.now (ideal_of self.old) (wire_of self.old))) }
         ensures err { OnErr result (KeepsState self.old self.new) }
+        ensures unpromised { OnErr result (self.new.agenda ≡ self.old.agenda) }
         ensures undone { OnErr result (IsUndone (D.seen door.old) (D.seen door.new)) }
         ensures awaiting { AreAwaiting self.new }
         ensures place { self.new.agenda.place ≡ self.old.agenda.place }

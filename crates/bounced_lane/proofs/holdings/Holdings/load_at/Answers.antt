@@ -91,7 +91,7 @@ returns-then-wanted-eq0-clause-done g c =
     let o = c.in-Some.kept.now in
     let there = image-some map_of h.maps.map c.args.map o (sym c.in-Some.ensures) in
     let wanted = c.in-Some-measure_load.ensures.wanted (map_of o) there in
-    done-gives (g.D.HubDoor.seen c.args.door.now) h.id.0 _ (given c.load_direct-answer.new.self c.in_ok-answer.answer)
+    done-gives (g.D.HubDoor.seen c.args.door.now) h.id.0 _ (given c.load_direct.new.self c.in_ok-answer.answer)
     (load-direct l c.args.map c.args.buffer.va c.args.buffer.len c.args.flags c.args.items.now (map_of o) there
     (state-idle o.need o.map.stage (sym c.state.ensures ∙ c.in-Idle.is))
     (sym c.judge_load.ensures ∙ c.in_default-judge_load.is) wanted.short
@@ -142,7 +142,7 @@ returns-clause-done g c =
     let m = c.args.map in
     let o = c.in-Some.kept.now in
     let d = g.D.HubDoor.seen c.args.door.now in
-    let k_door = c.load_bounced-answer.new.door in
+    let k_door = c.load_bounced.new.door in
     let e = g.D.HubDoor.seen k_door in
     let need = c.in-Some-measure_load.wanted.need in
     let there = image-some map_of h.maps.map m o (sym c.in-Some.ensures) in
@@ -151,7 +151,7 @@ returns-clause-done g c =
     let ask = x l m c.args.buffer.va c.args.buffer.len c.args.flags c.args.items.now in
     let k = granted m (map_of o) ask (buffer_chunks l (map_of o) c.args.buffer.va.0 c.args.buffer.len) l in
     let call : Bool → HubCall = λ b. Grab (named l m) (record { 0 = zone_of (map_of o) }) need b in
-    let end = given c.load_bounced-answer.new.self c.in_ok-answer-2.answer in
+    let end = given c.load_bounced.new.self c.in_ok-answer-2.answer in
     done-asks d h.id.0 _ (call (nowait c.args.flags)) k end e
     (load-bounced l m c.args.buffer.va c.args.buffer.len c.args.flags c.args.items.now (map_of o) there
     (state-idle o.need o.map.stage (sym c.state.ensures ∙ c.in-Idle.is))
@@ -259,27 +259,40 @@ returns-in_default-measure_load-clause-bytes g c =
 pub returns-then-wanted-eq0-clause-bytes : goal.returns-then-wanted-eq0-clause-bytes
 returns-then-wanted-eq0-clause-bytes g c =
     let o = c.in-Some.kept.now in
-    stays-idle c.args.self.now c.load_direct-answer.new.self c.args.map
+    stays-idle c.args.self.now c.load_direct.new.self c.args.map
     (ap is_idle_map (sym c.in-Some.ensures) ∙ state-idle o.need o.map.stage (sym c.state.ensures ∙ c.in-Idle.is))
-    c.load_direct-answer.ensures.bytes
+    c.load_direct.ensures.bytes
 
 pub returns-in_err-answer-clause-bytes : goal.returns-in_err-answer-clause-bytes
 returns-in_err-answer-clause-bytes g c =
     let o = c.in-Some.kept.now in
-    stays-idle c.args.self.now c.load_direct-answer.new.self c.args.map
+    stays-idle c.args.self.now c.load_direct.new.self c.args.map
     (ap is_idle_map (sym c.in-Some.ensures) ∙ state-idle o.need o.map.stage (sym c.state.ensures ∙ c.in-Idle.is))
-    c.load_direct-answer.ensures.bytes
+    c.load_direct.ensures.bytes
 
 pub returns-clause-bytes : goal.returns-clause-bytes
 returns-clause-bytes g c =
     let o = c.in-Some.kept.now in
-    stays-idle c.args.self.now c.load_bounced-answer.new.self c.args.map
+    stays-idle c.args.self.now c.load_bounced.new.self c.args.map
     (ap is_idle_map (sym c.in-Some.ensures) ∙ state-idle o.need o.map.stage (sym c.state.ensures ∙ c.in-Idle.is))
-    c.load_bounced-answer.ensures.bytes
+    c.load_bounced.ensures.bytes
 
 pub returns-in_err-answer-2-clause-bytes : goal.returns-in_err-answer-2-clause-bytes
 returns-in_err-answer-2-clause-bytes g c =
     let o = c.in-Some.kept.now in
-    stays-idle c.args.self.now c.load_bounced-answer.new.self c.args.map
+    stays-idle c.args.self.now c.load_bounced.new.self c.args.map
     (ap is_idle_map (sym c.in-Some.ensures) ∙ state-idle o.need o.map.stage (sym c.state.ensures ∙ c.in-Idle.is))
-    c.load_bounced-answer.ensures.bytes
+    c.load_bounced.ensures.bytes
+
+pub returns-in_err-answer-2-clause-promised : goal.returns-in_err-answer-2-clause-promised
+returns-in_err-answer-2-clause-promised g c =
+    let l = ideal_of c.args.self.now in
+    let o = c.in-Some.kept.now in
+    let va = c.args.buffer.va.0 in
+    let len = c.args.buffer.len in
+    let there = image-some map_of c.args.self.now.maps.map c.args.map o (sym c.in-Some.ensures) in
+    let wanted = c.in-Some-measure_load.ensures.wanted (map_of o) there in
+    let few : c.in-Some-measure_load.wanted.need ≤ len =
+    few-wanted l (map_of o) va len c.in-Some-measure_load.wanted.need wanted.need in
+    let more = c.load_bounced.ensures.promised in
+    omega (arith, few, more)

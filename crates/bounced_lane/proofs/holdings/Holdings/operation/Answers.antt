@@ -1,12 +1,20 @@
 use Rattle.std.proofs.Common.{◌≡◌, ◌≤◌, ◌<◌, ◌+◌, ◌^◌, None, IfOk, length, refl, ap, sym, ◌∙◌, subst, arith}
 use Rattle.busdma_base.specs.declared.scenarios.script.Op.{Op}
-use Rattle.busdma_base.specs.Scenarios.Operations.{items_of}
+use Rattle.busdma_base.specs.Scenarios.Limits.{buffer_limit}
+use Rattle.busdma_base.specs.Scenarios.Operations.{items_of, loaded_by}
+use Rattle.ideal_lane.specs.Accesses.{cpu_write}
 use Rattle.ideal_lane.specs.Turns.{operation}
+use Rattle.ideal_wire.specs.WireStep as wires
 use Rattle.bounced_lane.specs.Doing.{IsAllowedBy, IsDone, asks}
 use Rattle.bounced_lane.specs.Ideal.{given, ideal_of}
+use Rattle.bounced_lane.specs.Kept.{map_of, tag_of}
+use Rattle.bounced_lane.specs.Wire.{wire_of}
 use Rattle.bounced_lane.proofs.Doors.{always-ok}
 use Rattle.bounced_lane.proofs.Following.{stays-all, stays-held}
 use Rattle.bounced_lane.proofs.IdlePages.{stays-same}
+use Rattle.bounced_lane.proofs.MapValues.{vacant}
+use Rattle.bounced_lane.proofs.ScriptTurns.{few-items}
+use Rattle.bounced_lane.proofs.SmallLoads.{few-promised}
 use Rattle.bounced_lane.proofs.OperationSteps.{done-wire, paged-wire, quiet-done, quiet-held}
 use Rattle.bounced_lane.proofs.holdings.Holdings.operation.Goals as goal
 
@@ -137,41 +145,41 @@ returns-in-Unload-clause-wire g c =
 
 pub returns-in_ok-sync-in-Sync-clause-done : goal.returns-in_ok-sync-in-Sync-clause-done
 returns-in_ok-sync-in-Sync-clause-done g c =
-    quiet-done c.args.self.now c.sync.new.self c.args.op.now _ c.in-Sync.is c.in_ok-sync.field-0 c.unheld-in-Sync.result
-    c.unheld-in-Sync.ensures c.in_ok-sync.ensures.done (g.D.HubDoor.seen c.args.door.now)
+    quiet-done c.args.self.now c.sync.new.self c.args.op.now _ c.in-Sync.is c.in_ok-sync-in-Sync.field-0 c.unheld-in-Sync.result
+    c.unheld-in-Sync.ensures c.in_ok-sync-in-Sync.ensures.done (g.D.HubDoor.seen c.args.door.now)
 
 pub returns-in_ok-sync-in-Sync-clause-held : goal.returns-in_ok-sync-in-Sync-clause-held
 returns-in_ok-sync-in-Sync-clause-held g c =
-    quiet-held c.args.self.now c.sync.new.self c.args.op.now _ c.in-Sync.is c.in_ok-sync.field-0 c.unheld-in-Sync.result
-    c.unheld-in-Sync.ensures c.in_ok-sync.ensures.done
+    quiet-held c.args.self.now c.sync.new.self c.args.op.now _ c.in-Sync.is c.in_ok-sync-in-Sync.field-0 c.unheld-in-Sync.result
+    c.unheld-in-Sync.ensures c.in_ok-sync-in-Sync.ensures.done
 
 pub returns-in_ok-sync-in-Sync-clause-wire : goal.returns-in_ok-sync-in-Sync-clause-wire
 returns-in_ok-sync-in-Sync-clause-wire g c =
-    done-wire c.args.self.now c.sync.new.self c.args.op.now _ c.in-Sync.is c.in_ok-sync.ensures.wire
+    done-wire c.args.self.now c.sync.new.self c.args.op.now _ c.in-Sync.is c.in_ok-sync-in-Sync.ensures.wire
 
 pub returns-in_ok-sync_range-in-SyncRange-clause-done : goal.returns-in_ok-sync_range-in-SyncRange-clause-done
 returns-in_ok-sync_range-in-SyncRange-clause-done g c =
-    quiet-done c.args.self.now c.sync_range.new.self c.args.op.now _ c.in-SyncRange.is c.in_ok-sync_range.field-0 c.unheld-in-SyncRange.result
-    c.unheld-in-SyncRange.ensures c.in_ok-sync_range.ensures.done (g.D.HubDoor.seen c.args.door.now)
+    quiet-done c.args.self.now c.sync_range.new.self c.args.op.now _ c.in-SyncRange.is c.in_ok-sync_range-in-SyncRange.field-0 c.unheld-in-SyncRange.result
+    c.unheld-in-SyncRange.ensures c.in_ok-sync_range-in-SyncRange.ensures.done (g.D.HubDoor.seen c.args.door.now)
 
 pub returns-in_ok-sync_range-in-SyncRange-clause-held : goal.returns-in_ok-sync_range-in-SyncRange-clause-held
 returns-in_ok-sync_range-in-SyncRange-clause-held g c =
-    quiet-held c.args.self.now c.sync_range.new.self c.args.op.now _ c.in-SyncRange.is c.in_ok-sync_range.field-0 c.unheld-in-SyncRange.result
-    c.unheld-in-SyncRange.ensures c.in_ok-sync_range.ensures.done
+    quiet-held c.args.self.now c.sync_range.new.self c.args.op.now _ c.in-SyncRange.is c.in_ok-sync_range-in-SyncRange.field-0 c.unheld-in-SyncRange.result
+    c.unheld-in-SyncRange.ensures c.in_ok-sync_range-in-SyncRange.ensures.done
 
 pub returns-in_ok-sync_range-in-SyncRange-clause-wire : goal.returns-in_ok-sync_range-in-SyncRange-clause-wire
 returns-in_ok-sync_range-in-SyncRange-clause-wire g c =
-    done-wire c.args.self.now c.sync_range.new.self c.args.op.now _ c.in-SyncRange.is c.in_ok-sync_range.ensures.wire
+    done-wire c.args.self.now c.sync_range.new.self c.args.op.now _ c.in-SyncRange.is c.in_ok-sync_range-in-SyncRange.ensures.wire
 
 pub returns-in_ok-cpu_read-in-CpuRead-clause-done : goal.returns-in_ok-cpu_read-in-CpuRead-clause-done
 returns-in_ok-cpu_read-in-CpuRead-clause-done g c =
-    quiet-done c.args.self.now c.args.self.now c.args.op.now _ c.in-CpuRead.is c.in_ok-cpu_read.field-0 c.unheld-in-CpuRead.result
-    c.unheld-in-CpuRead.ensures c.in_ok-cpu_read.ensures (g.D.HubDoor.seen c.args.door.now)
+    quiet-done c.args.self.now c.args.self.now c.args.op.now _ c.in-CpuRead.is c.in_ok-cpu_read-in-CpuRead.field-0 c.unheld-in-CpuRead.result
+    c.unheld-in-CpuRead.ensures c.in_ok-cpu_read-in-CpuRead.ensures (g.D.HubDoor.seen c.args.door.now)
 
 pub returns-in_ok-cpu_read-in-CpuRead-clause-held : goal.returns-in_ok-cpu_read-in-CpuRead-clause-held
 returns-in_ok-cpu_read-in-CpuRead-clause-held g c =
-    quiet-held c.args.self.now c.args.self.now c.args.op.now _ c.in-CpuRead.is c.in_ok-cpu_read.field-0 c.unheld-in-CpuRead.result
-    c.unheld-in-CpuRead.ensures c.in_ok-cpu_read.ensures
+    quiet-held c.args.self.now c.args.self.now c.args.op.now _ c.in-CpuRead.is c.in_ok-cpu_read-in-CpuRead.field-0 c.unheld-in-CpuRead.result
+    c.unheld-in-CpuRead.ensures c.in_ok-cpu_read-in-CpuRead.ensures
 
 pub returns-in_ok-cpu_read-in-CpuRead-clause-wire : goal.returns-in_ok-cpu_read-in-CpuRead-clause-wire
 returns-in_ok-cpu_read-in-CpuRead-clause-wire g c =
@@ -179,17 +187,21 @@ returns-in_ok-cpu_read-in-CpuRead-clause-wire g c =
 
 pub returns-in_ok-cpu_write-in-CpuWrite-clause-done : goal.returns-in_ok-cpu_write-in-CpuWrite-clause-done
 returns-in_ok-cpu_write-in-CpuWrite-clause-done g c =
-    quiet-done c.args.self.now c.cpu_write.new.self c.args.op.now _ c.in-CpuWrite.is c.in_ok-cpu_write.field-0 c.unheld-in-CpuWrite.result
-    c.unheld-in-CpuWrite.ensures ? (g.D.HubDoor.seen c.args.door.now)
+    quiet-done c.args.self.now c.cpu_write.new.self c.args.op.now _ c.in-CpuWrite.is c.in_ok-cpu_write-in-CpuWrite.field-0 c.unheld-in-CpuWrite.result
+    c.unheld-in-CpuWrite.ensures (c.in_ok-cpu_write-in-CpuWrite.ensures.done
+    ∙ ap (λ vs. cpu_write c.in-CpuWrite.place vs (ideal_of c.args.self.now)) (c.deref.ensures.value ∙ c.in_ok-bytes-in-CpuWrite.ensures)) (g.D.HubDoor.seen c.args.door.now)
 
 pub returns-in_ok-cpu_write-in-CpuWrite-clause-held : goal.returns-in_ok-cpu_write-in-CpuWrite-clause-held
 returns-in_ok-cpu_write-in-CpuWrite-clause-held g c =
-    quiet-held c.args.self.now c.cpu_write.new.self c.args.op.now _ c.in-CpuWrite.is c.in_ok-cpu_write.field-0 c.unheld-in-CpuWrite.result
-    c.unheld-in-CpuWrite.ensures ?
+    quiet-held c.args.self.now c.cpu_write.new.self c.args.op.now _ c.in-CpuWrite.is c.in_ok-cpu_write-in-CpuWrite.field-0 c.unheld-in-CpuWrite.result
+    c.unheld-in-CpuWrite.ensures (c.in_ok-cpu_write-in-CpuWrite.ensures.done
+    ∙ ap (λ vs. cpu_write c.in-CpuWrite.place vs (ideal_of c.args.self.now)) (c.deref.ensures.value ∙ c.in_ok-bytes-in-CpuWrite.ensures))
 
 pub returns-in_ok-cpu_write-in-CpuWrite-clause-wire : goal.returns-in_ok-cpu_write-in-CpuWrite-clause-wire
 returns-in_ok-cpu_write-in-CpuWrite-clause-wire g c =
-    done-wire c.args.self.now c.cpu_write.new.self c.args.op.now _ c.in-CpuWrite.is ?
+    done-wire c.args.self.now c.cpu_write.new.self c.args.op.now _ c.in-CpuWrite.is (c.in_ok-cpu_write-in-CpuWrite.ensures.wire
+    ∙ ap (λ vs. wires.cpu_write c.in-CpuWrite.place vs (ideal_of c.args.self.now) (wire_of c.args.self.now))
+    (c.deref.ensures.value ∙ c.in_ok-bytes-in-CpuWrite.ensures))
 
 pub returns-in-Await-clause-done : goal.returns-in-Await-clause-done
 returns-in-Await-clause-done g c =
@@ -204,3 +216,31 @@ returns-in-Await-clause-held g c =
 pub returns-in-Await-clause-wire : goal.returns-in-Await-clause-wire
 returns-in-Await-clause-wire g c =
     done-wire c.args.self.now c.args.self.now c.args.op.now _ c.in-Await.is refl
+
+pub make_tag-requires-clause-vacant : goal.make_tag-requires-clause-vacant
+make_tag-requires-clause-vacant g c =
+    let h = c.args.self.now in
+    vacant tag_of h.tags.map h.agenda.place (c.requires.stands.no_tag h.agenda.place (omega arith))
+
+pub make_map-requires-clause-vacant : goal.make_map-requires-clause-vacant
+make_map-requires-clause-vacant g c =
+    let h = c.args.self.now in
+    vacant map_of h.maps.map h.agenda.place (c.requires.stands.no_map h.agenda.place (omega arith))
+
+pub load-requires-clause-small : goal.load-requires-clause-small
+load-requires-clause-small g c =
+    let h = c.args.self.now in
+    subst (λ (o : Op). loaded_by o ≤ buffer_limit) c.in-Load.is
+    (c.requires.provided.small.each h.agenda.place c.args.op.now c.requires.here)
+
+pub load-requires-clause-few_items : goal.load-requires-clause-few_items
+load-requires-clause-few_items g c =
+    let h = c.args.self.now in
+    subst (λ (o : Op). length (items_of o) ≤ h.agenda.room) c.in-Load.is
+    (few-items h c.args.op.now c.requires.here c.requires.room)
+
+pub load-requires-clause-few_pages : goal.load-requires-clause-few_pages
+load-requires-clause-few_pages g c =
+    let h = c.args.self.now in
+    subst (λ (o : Op). h.agenda.promised + loaded_by o < 2 ^ 32) c.in-Load.is
+    (few-promised h c.requires.provided.small c.args.op.now c.requires.here)
