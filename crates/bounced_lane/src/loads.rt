@@ -104,6 +104,7 @@ impl Holdings<'_> {
         ensures held { IfOk result (λ r. r.held ≡ asks
             (load_at_place map place len flags items.now (ideal_of self.old))) }
         ensures err { OnErr result (KeepsState self.old self.new) }
+        ensures unpromised { OnErr result (self.new.agenda ≡ self.old.agenda) }
         ensures undone { OnErr result (IsUndone (D.seen door.old) (D.seen door.new)) }
         ensures awaiting { AreAwaiting self.new }
         ensures bytes { KeepsWhatStays self.old self.new }
@@ -146,6 +147,7 @@ impl Holdings<'_> {
         ensures held { IfOk result (λ r. r.held ≡ asks
             (load_at_place map (At buffer.va) buffer.len flags items.now (ideal_of self.old))) }
         ensures err { OnErr result (KeepsState self.old self.new) }
+        ensures unpromised { OnErr result (self.new.agenda ≡ self.old.agenda) }
         ensures undone { OnErr result (IsUndone (D.seen door.old) (D.seen door.new)) }
         ensures awaiting { AreAwaiting self.new }
         ensures bytes { KeepsWhatStays self.old self.new }
@@ -364,6 +366,7 @@ impl Holdings<'_> {
             given self.new answer ≡ finished map o (ideal_of self.old).place x
             (buffer_chunks (ideal_of self.old) o buffer.va.0 buffer.len) [] (ideal_of self.old)) }
         ensures err { OnErr result (KeepsState self.old self.new) }
+        ensures unpromised { OnErr result (self.new.agenda ≡ self.old.agenda) }
         ensures awaiting { AreAwaiting self.new }
         ensures bytes { KeepsBytesBut map self.old self.new }
         ensures memories { self.new.memories ≡ self.old.memories }
@@ -414,6 +417,7 @@ impl Holdings<'_> {
             (granted map o x (buffer_chunks (ideal_of self.old) o buffer.va.0 buffer.len) (ideal_of self.old))
             (given self.new answer) (D.seen door.new)) }
         ensures err { OnErr result (KeepsState self.old self.new) }
+        ensures unpromised { OnErr result (self.new.agenda ≡ self.old.agenda) }
         ensures undone { OnErr result (IsUndone (D.seen door.old) (D.seen door.new)) }
         ensures awaiting { AreAwaiting self.new }
         ensures bytes { KeepsBytesBut map self.old self.new }

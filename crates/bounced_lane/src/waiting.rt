@@ -1,6 +1,7 @@
 //! Loads that need bounce pages, from their wish for pages on.
 
-ghost use Rattle.std.specs.Prelude.{◌≡◌, ℕ, ◌+◌, ◌-◌, ◌<◌, ◌≤◌, ◌^◌, ◌==◌, true, false, length, Some, None, OnErr, OnOk};
+ghost use Rattle.std.specs.Prelude.{◌≡◌, ℕ, ◌+◌, ◌-◌, ◌<◌, ◌≤◌, ◌^◌, ◌==◌, true, false, length, Some, None};
+ghost use Rattle.std.specs.Prelude.{OnErr, OnOk};
 ghost use Rattle.std.specs.FinMap.{get, insert, remove};
 ghost use Rattle.busdma_base.specs.declared.journals.report.Judged.TheVariants.{Fine};
 ghost use Rattle.busdma_base.specs.Bounce.Door.{grab_reply};

@@ -1,4 +1,4 @@
-use Rattle.std.proofs.Common.{◌≡◌, ◌≤◌, cond, List, length, Some, is_some, slice_get, refl, sym, ap, ◌∙◌, subst, arith}
+use Rattle.std.proofs.Common.{◌≡◌, ◌+◌, ◌-◌, ◌≤◌, cond, List, length, Some, is_some, slice_get, refl, sym, ap, ◌∙◌, subst, arith}
 use Rattle.std.proofs.lemmas.Bool.{eq-eqb}
 use Rattle.std.specs.FinMap.{get, remove}
 use Rattle.std.specs.List.{each_same}
@@ -10,6 +10,7 @@ use Rattle.busdma_base.specs.declared.scenarios.script.Op.TheVariants.{Load}
 use Rattle.busdma_base.specs.declared.scenarios.script.Place.TheVariants.{At}
 use Rattle.busdma_base.specs.Bounce.Door.{Allows, Holds, account, grab_reply}
 use Rattle.busdma_base.specs.Machine.Entry.{entries_addresses}
+use Rattle.lane_tables.specs.Schedule.{Schedule}
 use Rattle.loan_table.specs.Loans.{new_loan}
 use Rattle.ideal_lane.proofs.Lookups.{get_put}
 use Rattle.ideal_lane.specs.Loads.{granted, is_coherent, limits_of, zone_of}
@@ -203,3 +204,12 @@ take_grabbed-requires-clause-next g c =
       load = (λ i. slice_get (script i) (place i)) ∙ next.load
           ∙ ap (λ is. Some (Load c.args.map (At c.args.buffer.va) c.args.buffer.len next.flags is)) (sym items);
     }
+
+pub returns-in-Err-clause-unpromised : goal.returns-in-Err-clause-unpromised
+returns-in-Err-clause-unpromised g c =
+    let a = c.args.self.now.agenda in
+    let need = c.args.wanted.need in
+    let back : a.promised + need - need ≡ a.promised = omega arith in
+    c.undo_load.ensures.agenda
+    ∙ ap (λ (b : Schedule). record b { promised = b.promised - need }) c.in_ok-ready_load.ensures.promised
+    ∙ ap (λ p. record a { promised = p }) back
