@@ -10,7 +10,7 @@ use Rattle.busdma_base.specs.declared.journals.journal.Did.TheVariants as did
 use Rattle.busdma_base.specs.declared.journals.journal.Side.TheVariants as side
 use Rattle.busdma_base.specs.declared.name.MapId.{MapId}
 use Rattle.busdma_base.specs.Bounce.AccountStep.{as_pages}
-use Rattle.busdma_base.specs.Bounce.Door.{Seen, Holds, Misses}
+use Rattle.busdma_base.specs.Bounce.Door.{Seen, Holds}
 use Rattle.ideal_lane.specs.Turns.{called, stepped}
 use Rattle.ideal_wire.proofs.Accepting.{same-pages}
 use Rattle.bounced_lane.specs.declared.holdings.Holdings.{Holdings}
@@ -22,15 +22,6 @@ use Rattle.bounced_lane.specs.Ideal.{given, ideal_of}
 use Rattle.bounced_lane.specs.Kept.{Device, device_of, device_in}
 use Rattle.bounced_lane.specs.Turning.{IsMade}
 use Rattle.bounced_lane.proofs.Called.{WaitsFor, kept-load}
-
--- a callback was not there
-pub missed-made : (h : Holdings) (d e : Seen) → Misses d h.id.0 e → IsMade h h d e side.Callback turn.Blocked
-missed-made h d e misses = record {
-  done = inr (refl, record { callback = refl; misses = misses; is = refl });
-  wire = inl refl;
-  places = refl;
-  capacity = refl;
-}
 
 module _ (h k : Holdings) (m count : ℕ) (waits : WaitsFor h m count) (bytes : KeepsBytesBut m h k) where
   -- the map had no page before

@@ -76,9 +76,6 @@ asked-is l at m va len flags items load =
 -- the items of a load that waits are among those ahead
 module _ (l : LaneState) (m : ℕ) (o : LaneMap) (there : get l.maps m ≡ Some o) (load_at need : ℕ)
     (waits : o.stage ≡ Waiting load_at need) where
-  awaited : LaneMap → ℕ
-  awaited x = awaited_items l.script x.stage
-
   pub items-within : item_count (slice_get l.script load_at) ≤ items_ahead l
   items-within =
       let free : LaneMap = record o { stage = Idle } in
