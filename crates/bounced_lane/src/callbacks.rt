@@ -33,6 +33,7 @@ impl Holdings<'_> {
         requires small { HasSmallLoads self.old }
         ensures made { IsMade self.old self.new (D.seen door.old) (D.seen door.new) side.Callback result }
         ensures awaiting { AreAwaiting self.new }
+        ensures small { HasSmallLoads self.new }
         ensures promised { self.new.agenda.promised ≤ self.old.agenda.promised }
         ensures memories { self.new.memories ≡ self.old.memories }
         ensures fixed { D.fixed door.new ≡ D.fixed door.old }
@@ -56,6 +57,7 @@ impl Holdings<'_> {
             ≡ called map (get (ideal_of self.old).maps map) (page_addresses pages.items) (ideal_of self.old) }
         ensures bytes { KeepsBytesBut map self.old self.new }
         ensures awaiting { AreAwaiting self.new }
+        ensures small { HasSmallLoads self.new }
         ensures promised { self.new.agenda.promised ≤ self.old.agenda.promised }
         ensures memories { self.new.memories ≡ self.old.memories }
         ensures length { self.new.agenda.length ≡ self.old.agenda.length }
