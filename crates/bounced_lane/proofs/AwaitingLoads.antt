@@ -12,13 +12,10 @@ use Rattle.busdma_base.specs.declared.journals.report.Errno.TheVariants.{EFBIG}
 use Rattle.busdma_base.specs.declared.journals.report.Judged.TheVariants.{Fine}
 use Rattle.busdma_base.specs.declared.machine.address.Va.{Va}
 use Rattle.busdma_base.specs.declared.machine.chunk.Chunk.{Chunk}
-use Rattle.busdma_base.specs.declared.machine.chunk.Entry.{Entry}
-use Rattle.busdma_base.specs.declared.scenarios.scenario.PageRun.{PageRun}
 use Rattle.busdma_base.specs.declared.scenarios.script.Item.{Item}
 use Rattle.busdma_base.specs.declared.scenarios.script.Op.{Op}
 use Rattle.busdma_base.specs.declared.scenarios.script.Op.TheVariants.{Load}
 use Rattle.busdma_base.specs.declared.scenarios.script.Place.TheVariants.{At}
-use Rattle.busdma_base.specs.declared.tags.tag.TagLimits.{TagLimits}
 use Rattle.busdma_base.specs.Bounce.AccountStep.{as_pages}
 use Rattle.busdma_base.specs.Journals.Judging.{judged}
 use Rattle.busdma_base.specs.Machine.Entry.{entries_addresses}
@@ -38,7 +35,7 @@ use Rattle.ideal_lane.proofs.Lookups.{get_cut}
 use Rattle.ideal_lane.specs.Loads.{Asked, emptied, finished, is_coherent, limits_of, loaded, no_limits, staged, unpaged}
 use Rattle.ideal_lane.specs.Outcomes.{Outcome, is_idle, is_loaded}
 use Rattle.ideal_lane.specs.Places.{is_in_memory, or_in_memory, physical, physical_of, reached}
-use Rattle.ideal_lane.specs.State.{LaneMap, LaneMemory, LaneState, LaneTag, Stage, Idle, Loaded, Waiting}
+use Rattle.ideal_lane.specs.State.{LaneMap, LaneState, LaneTag, Stage, Idle, Loaded, Waiting}
 use Rattle.bounced_lane.specs.declared.holdings.Holdings.{Holdings}
 use Rattle.bounced_lane.specs.declared.kept.KeptMap.{KeptMap}
 use Rattle.bounced_lane.specs.Awaiting.{AreAwaiting, AreAwaitingBut, IsAwaiting, KeepsWaiting, kept_load}
@@ -47,7 +44,6 @@ use Rattle.bounced_lane.specs.Ideal.{ideal_of}
 use Rattle.bounced_lane.specs.Kept.{memory_of, stage_of}
 use Rattle.bounced_lane.specs.Loading.{HasRoomForAny, buffer_chunks, buffer_entries}
 use Rattle.bounced_lane.proofs.Keeping.{told-none}
-use Rattle.bounced_lane.proofs.LoadSteps.{taken-out}
 use Rattle.bounced_lane.proofs.MapValues.{get-map_values, image-none}
 use Rattle.bounced_lane.proofs.TakenLoads.{put-here, put-other}
 use Rattle.bounced_lane.proofs.Unloaded.{left}

@@ -1,5 +1,5 @@
 -- The turn of the callbacks, which finds one that is the driver's or does not.
-use Rattle.std.proofs.Common.{◌≡◌, ◌⊎◌, inl, inr, ◌+◌, ℕ, ◌==◌, Bool, true, false, List, [], length, Some, refl, sym, ap}
+use Rattle.std.proofs.Common.{◌≡◌, ◌⊎◌, inl, inr, ◌+◌, ℕ, ◌==◌, Bool, true, false, List, [], length, refl, sym, ap}
 use Rattle.std.proofs.Common.{◌∙◌, subst}
 use Rattle.std.proofs.lemmas.Map.Views.{exact_unsigned_eq}
 use Rattle.std.specs.FinMap.{get}
@@ -19,7 +19,7 @@ use Rattle.bounced_lane.specs.declared.turn.Turn.TheVariants as turn
 use Rattle.bounced_lane.specs.Changes.{KeepsBytesBut, KeepsWhatStays}
 use Rattle.bounced_lane.specs.Held.{devices_of}
 use Rattle.bounced_lane.specs.Ideal.{given, ideal_of}
-use Rattle.bounced_lane.specs.Kept.{Device, device_of, device_in}
+use Rattle.bounced_lane.specs.Kept.{device_of, device_in}
 use Rattle.bounced_lane.specs.Turning.{IsMade}
 use Rattle.bounced_lane.proofs.Called.{WaitsFor, kept-load}
 
@@ -53,12 +53,15 @@ called-made h k d e m pas count a holds waits done bytes same_length capacity t 
     let l = ideal_of h in
     let step = stepped side.Callback (did.Callback m) in
     subst (IsMade h k d e side.Callback) (sym is) (record {
-      done = inl (refl, record {
-        reply = reply.Called m (as_pages pas);
-        holds = holds;
-        is = ap step done
-            ∙ ap (λ ps. step (called m.made_at (get l.maps m.made_at) ps l)) (sym (same-pages pas));
-      });
+      done = inl (
+        refl,
+        record {
+          reply = reply.Called m (as_pages pas);
+          holds = holds;
+          is = ap step done
+              ∙ ap (λ ps. step (called m.made_at (get l.maps m.made_at) ps l)) (sym (same-pages pas));
+        },
+      );
       wire = inr (refl, called-keeps h k m.made_at count waits bytes);
       places = same_length;
       capacity = capacity;

@@ -1,7 +1,7 @@
 -- The load of a map that waited ends: what its end is asked, and what it leaves.
-use Rattle.std.proofs.Common.{◌≡◌, ℕ, ◌+◌, ◌≤◌, ◌^◌, ◌==◌, true, false, cond, List, length, Some, None, refl, sym, ap}
+use Rattle.std.proofs.Common.{◌≡◌, ℕ, ◌+◌, ◌≤◌, ◌^◌, true, false, List, length, Some, refl, sym, ap}
 use Rattle.std.proofs.Common.{◌∙◌, subst, arith, is_some, slice_get}
-use Rattle.std.specs.FinMap.{get, insert, remove, contains_key}
+use Rattle.std.specs.FinMap.{get, insert, contains_key}
 use Rattle.busdma_base.specs.declared.journals.answer.Answer.{Answer}
 use Rattle.busdma_base.specs.declared.journals.report.Judged.TheVariants.{Fine}
 use Rattle.busdma_base.specs.declared.machine.address.Va.{Va}
@@ -22,7 +22,6 @@ use Rattle.ideal_lane.specs.Places.{reached}
 use Rattle.ideal_lane.specs.Standing.{Stands}
 use Rattle.ideal_lane.specs.State.{LaneMap, LaneState, Waiting}
 use Rattle.ideal_lane.specs.Turns.{asked_at, called}
-use Rattle.ideal_lane.proofs.Lookups.{get_cut}
 use Rattle.bounced_lane.specs.declared.buffers.Buffer.{Buffer}
 use Rattle.bounced_lane.specs.declared.holdings.Holdings.{Holdings}
 use Rattle.bounced_lane.specs.declared.kept.KeptMap.{KeptMap}
@@ -36,7 +35,6 @@ use Rattle.bounced_lane.proofs.AwaitingLoads.{StaysBut, awaiting-but, awaiting-o
 use Rattle.bounced_lane.proofs.Called.{KeepsLoad, load-kept}
 use Rattle.bounced_lane.proofs.CalledLoads.{asked-is, called-is, finished-free, items-within}
 use Rattle.bounced_lane.proofs.MapValues.{image-none}
-use Rattle.bounced_lane.proofs.Places.{get_removed}
 use Rattle.bounced_lane.proofs.Returned.{idled}
 use Rattle.bounced_lane.proofs.TakenLoads.{put-other, taken, taken-bytes, taken-ideal, taken-idle, taken-promised}
 use Rattle.bounced_lane.proofs.TakenLoads.{taken-stands, taken-there}

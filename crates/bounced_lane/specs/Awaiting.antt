@@ -1,5 +1,5 @@
 -- What a load that waits keeps by it until its callback, which takes no memory.
-use Rattle.std.specs.Prelude.{◌≡◌, ℕ, ◌+◌, ◌≤◌, ◌^◌, ◌==◌, false, List, Option, Some, None, slice_get, drop}
+use Rattle.std.specs.Prelude.{◌≡◌, ℕ, ◌+◌, ◌≤◌, ◌==◌, false, List, Option, Some, None, slice_get, drop}
 use Rattle.std.specs.List.{sum_by}
 use Rattle.std.specs.FinMap.{get}
 use Rattle.busdma_base.specs.declared.journals.report.Judged.TheVariants.{Fine}

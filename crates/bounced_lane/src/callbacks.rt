@@ -92,17 +92,16 @@ impl Holdings<'_> {
             slice_get self.now.script.now load_at ≡ Some (Load m (At va) len flags items) →
             result ≡ record { va = va; len = len } }
     {
-        let Some(Op::Load {
-            place: Place::At(va),
-            len,
-            ..
-        }) = self.script.get(load_at as usize)
+        let Some(
+            Op::Load {
+                place: Place::At(va),
+                len,
+                ..
+            },
+        ) = self.script.get(load_at as usize)
         else {
             return Buffer { va: Va(0), len: 0 };
         };
-        Buffer {
-            va: *va,
-            len: *len,
-        }
+        Buffer { va: *va, len: *len }
     }
 }

@@ -1,4 +1,4 @@
-use Rattle.std.proofs.Common.{◌≡◌, ℕ, length, Some, None, sym, ◌∙◌}
+use Rattle.std.proofs.Common.{◌≡◌, ℕ, length, Some, sym, ◌∙◌}
 use Rattle.std.specs.FinMap.{get}
 use Rattle.busdma_base.specs.Machine.PageList.{page_addresses}
 use Rattle.dma_map.specs.declared.callback.Transfers.{Transfers}
