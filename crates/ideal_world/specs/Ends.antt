@@ -1,9 +1,12 @@
--- How a run ends.
-use Rattle.std.specs.Prelude.{◌≡◌, Bool, None, if◌then◌else◌}
-use Rattle.std.specs.List.{list_all}
+-- How a run ends, and the status of a journal.
+use Rattle.std.specs.Prelude.{◌≡◌, ℕ, Bool, List, None, if◌then◌else◌}
+use Rattle.std.specs.List.{list_all, list_any}
 use Rattle.busdma_base.specs.declared.journals.journal.Actor.{Actor}
+use Rattle.busdma_base.specs.declared.journals.journal.JournalEntry.{JournalEntry}
+use Rattle.busdma_base.specs.declared.journals.journal.Journal.{Journal}
 use Rattle.busdma_base.specs.declared.journals.journal.End.{End}
 use Rattle.busdma_base.specs.declared.journals.journal.End.TheVariants.{Finished, Stuck}
+use Rattle.busdma_base.specs.Journals.Reports.{is_report}
 use Rattle.ideal_world.specs.World.{WorldState, step_entry, has_ended}
 
 -- no actor can step
@@ -17,3 +20,15 @@ all_ended w = list_all has_ended w.lanes
 -- a world at rest is finished where every script has ended, and stuck where one has not
 abbrev pub end_of : WorldState → End
 end_of w = if all_ended w then Finished else Stuck
+
+-- some entry's answer is a report
+abbrev pub has_report : List JournalEntry → Bool
+has_report entries = list_any (λ e. is_report e.answer) entries
+
+-- 2 where the run is stuck, else 1 where some entry is a report, else 0
+abbrev pub status_by : End → List JournalEntry → ℕ
+status_by Stuck entries = 2
+status_by Finished entries = if has_report entries then 1 else 0
+
+abbrev pub status : Journal → ℕ
+status j = status_by j.end j.entries

@@ -1,5 +1,6 @@
 -- How often a frame stands among those that no driver has.
-use Rattle.std.proofs.Common.{◌≡◌, ◌≢◌, ℕ, zero, suc, ◌+◌, ◌<◌, ◌≤◌, ◌==◌, ◌&&◌, ◌||◌, not, Bool, true, false, cond, max}
+use Rattle.std.proofs.Common.{◌≡◌, ◌≢◌, ℕ, zero, suc, ◌+◌, ◌<◌, ◌≤◌, ◌==◌, ◌&&◌, ◌||◌, not, Bool, true, false, cond}
+use Rattle.std.proofs.Common.{max}
 use Rattle.std.proofs.Common.{List, [], ◌∷◌, ◌++◌, refl, sym, ap, ◌∙◌, arith, nat_le, ◌⊎◌, inl, inr}
 use Rattle.std.specs.List.{count_by, filter, list_any}
 use Rattle.std.proofs.lemmas.Bool.{cases_lt, eqb-true, and_parts, false≢true, false_from_ne_true, leb-true, ltb-true}
@@ -267,5 +268,6 @@ same-times s each n = unowned-times n s.drivers [] s.frames each ∙ by (cases_l
     by (inl low) = sym (below-times n s (maxmem_of s.frames) low)
     by (inr past) =
         let out : list_any (is_in n) s.frames ≡ false =
-        false_from_ne_true (list_any (is_in n) s.frames) (λ e. absurd (omega (arith, past, frame-below s.frames n e))) in
+        false_from_ne_true (list_any (is_in n) s.frames)
+        (λ e. absurd (omega (arith, past, frame-below s.frames n e))) in
         ap (λ b. weight (b && not (is_owned s.drivers n))) out ∙ sym (past-none n s (maxmem_of s.frames) past)

@@ -1,5 +1,6 @@
 -- The frames that no driver has, as far as a loop has come, and what a new bank needs of them.
-use Rattle.std.proofs.Common.{◌≡◌, ℕ, zero, suc, ◌+◌, ◌*◌, ◌^◌, ◌<◌, ◌≤◌, Bool, true, false, not, max, List, [], ◌∷◌, ◌++◌, length, map}
+use Rattle.std.proofs.Common.{◌≡◌, ℕ, zero, suc, ◌+◌, ◌*◌, ◌^◌, ◌<◌, ◌≤◌, Bool, true, false, not, max, List, [], ◌∷◌}
+use Rattle.std.proofs.Common.{◌++◌, length, map}
 use Rattle.std.proofs.Common.{take, drop, get_or, refl, sym, ap, ◌∙◌, arith, subst, append_assoc, append-nil, add-one}
 use Rattle.std.specs.List.{All, AllPairs, filter}
 use Rattle.std.proofs.Math.Seq.{drop-cons, take-suc}
