@@ -182,7 +182,7 @@ module _ (h k : Holdings) (wired : IsWired h) (x : Answer) where
       (dev_write-faithful l (wire_of h) wired.apart wired.laid wired.faithful m off vs r))
 
 -- want of memory leaves it as it was
-kept-on : (h k : Holdings) → IsWired h → KeepsState h k → IsCalledOn h k
+pub kept-on : (h k : Holdings) → IsWired h → KeepsState h k → IsCalledOn h k
 kept-on h k wired s = record {
   stands = subst Stands (sym s.ideal);
   wired = kept-wired h k s wired;
@@ -215,9 +215,6 @@ module _ {E : Type 0} (h k : Holdings) (wired : IsWired h) where
       IsCalledOn h k
   dev_write-after m off vs (Ok a) done wire err = dev_written h k wired a m off vs done wire
   dev_write-after m off vs (Err x) done wire err = kept-on h k wired err
-
-  pub dev_read-after : KeepsState h k → IsCalledOn h k
-  dev_read-after s = kept-on h k wired s
 
 -- ---- what a lane keeps
 

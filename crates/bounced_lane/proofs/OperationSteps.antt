@@ -1,5 +1,7 @@
 -- What an operation is that makes no call, and one that changes no byte.
-use Rattle.std.proofs.Common.{◌≡◌, ℕ, inl, inr, false, ap, sym, ◌∙◌}
+use Rattle.std.proofs.Common.{◌≡◌, ℕ, inl, inr, false, None, ap, sym, ◌∙◌}
+use Rattle.std.specs.FinMap.{FinMap, get}
+use Rattle.std.specs.Ordering.{nat_cmp}
 use Rattle.busdma_base.specs.declared.journals.answer.Answer.{Answer}
 use Rattle.busdma_base.specs.declared.scenarios.script.Op.{Op}
 use Rattle.busdma_base.specs.Bounce.Door.{Seen}
@@ -13,7 +15,14 @@ use Rattle.bounced_lane.specs.Changes.{IsWireOf, KeepsWhatStays}
 use Rattle.bounced_lane.specs.Doing.{IsDone, asks}
 use Rattle.bounced_lane.specs.Ideal.{given, ideal_of}
 use Rattle.bounced_lane.specs.Wire.{wire_of}
+use Rattle.bounced_lane.specs.MapValues.{map_values}
 use Rattle.bounced_lane.proofs.Doors.{done-gives, unasked}
+use Rattle.bounced_lane.proofs.Keeping.{told-none}
+use Rattle.bounced_lane.proofs.MapValues.{get-map_values}
+
+-- nothing was made at a place, by the ideal table
+pub vacant : {X Y : Type 0} (f : X → Y) (m : FinMap nat_cmp X) (k : ℕ) → get (map_values f m) k ≡ None → get m k ≡ None
+vacant f m k none = told-none f (get m k) (sym (get-map_values f m k) ∙ none)
 
 -- by another name of the operation
 module _ (h k : Holdings) (o p : Op) (same : o ≡ p) where

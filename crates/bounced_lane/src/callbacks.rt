@@ -35,7 +35,6 @@ impl Holdings<'_> {
         ensures awaiting { AreAwaiting self.new }
         ensures small { HasSmallLoads self.new }
         ensures promised { self.new.agenda.promised ≤ self.old.agenda.promised }
-        ensures place { self.new.agenda.place ≡ self.old.agenda.place }
         ensures memories { self.new.memories ≡ self.old.memories }
         ensures fixed { D.fixed door.new ≡ D.fixed door.old }
     {
@@ -61,7 +60,6 @@ impl Holdings<'_> {
         ensures small { HasSmallLoads self.new }
         ensures promised { self.new.agenda.promised ≤ self.old.agenda.promised }
         ensures memories { self.new.memories ≡ self.old.memories }
-        ensures place { self.new.agenda.place ≡ self.old.agenda.place }
         ensures length { self.new.agenda.length ≡ self.old.agenda.length }
         ensures capacity { self.new.agenda.room + length self.new.agenda.queue
             ≡ self.old.agenda.room + length self.old.agenda.queue }

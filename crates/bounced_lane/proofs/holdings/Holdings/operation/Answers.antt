@@ -12,10 +12,9 @@ use Rattle.bounced_lane.specs.Wire.{wire_of}
 use Rattle.bounced_lane.proofs.Doors.{always-ok}
 use Rattle.bounced_lane.proofs.Following.{stays-all, stays-held}
 use Rattle.bounced_lane.proofs.IdlePages.{stays-same}
-use Rattle.bounced_lane.proofs.MapValues.{vacant}
 use Rattle.bounced_lane.proofs.ScriptTurns.{few-items}
 use Rattle.bounced_lane.proofs.SmallLoads.{few-promised}
-use Rattle.bounced_lane.proofs.OperationSteps.{done-wire, paged-wire, quiet-done, quiet-held}
+use Rattle.bounced_lane.proofs.OperationSteps.{done-wire, paged-wire, quiet-done, quiet-held, vacant}
 use Rattle.bounced_lane.proofs.holdings.Holdings.operation.Goals as goal
 
 pub make_tag-requires-clause-allowed : goal.make_tag-requires-clause-allowed

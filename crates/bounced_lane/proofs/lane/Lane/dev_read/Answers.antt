@@ -6,7 +6,7 @@ use Rattle.ideal_wire.specs.WireStep.{Reads, load_buses}
 use Rattle.bounced_lane.specs.Ideal.{ideal_of}
 use Rattle.bounced_lane.specs.Wire.{wire_of}
 use Rattle.bounced_lane.proofs.Doors.{ok-map}
-use Rattle.bounced_lane.proofs.LaneCalls.{called-lane, dev_read-after, foreign-call, own-call}
+use Rattle.bounced_lane.proofs.LaneCalls.{called-lane, foreign-call, kept-on, own-call}
 use Rattle.bounced_lane.proofs.lane.Lane.dev_read.Goals as goal
 
 pub invariant_of-self : goal.invariant_of-self
@@ -18,7 +18,7 @@ invariant_of-self c =
     let lane =
     called-lane h k
     (record { wired = l.wired; stands = l.stands; provided = l.provided; length = l.length; room = l.room })
-    (dev_read-after h k l.wired r.kept) r.awaiting r.script r.memories r.agenda in
+    (kept-on h k l.wired r.kept) r.awaiting r.script r.memories r.agenda in
     record {
       wired = lane.wired;
       stands = lane.stands;
