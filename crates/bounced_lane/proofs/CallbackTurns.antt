@@ -1,5 +1,5 @@
 -- The turn of the callbacks, which finds one that is the driver's or does not.
-use Rattle.std.proofs.Common.{◌≡◌, ◌⊎◌, inl, inr, ◌+◌, ℕ, ◌==◌, Bool, true, false, List, [], length, Some, refl, sym, ap}
+use Rattle.std.proofs.Common.{◌≡◌, ◌⊎◌, inl, inr, ◌+◌, ℕ, ◌==◌, Bool, true, false, List, [], length, refl, sym, ap}
 use Rattle.std.proofs.Common.{◌∙◌, subst}
 use Rattle.std.proofs.lemmas.Map.Views.{exact_unsigned_eq}
 use Rattle.std.specs.FinMap.{get}
@@ -10,7 +10,7 @@ use Rattle.busdma_base.specs.declared.journals.journal.Did.TheVariants as did
 use Rattle.busdma_base.specs.declared.journals.journal.Side.TheVariants as side
 use Rattle.busdma_base.specs.declared.name.MapId.{MapId}
 use Rattle.busdma_base.specs.Bounce.AccountStep.{as_pages}
-use Rattle.busdma_base.specs.Bounce.Door.{Seen, Holds, Misses}
+use Rattle.busdma_base.specs.Bounce.Door.{Seen, Holds}
 use Rattle.ideal_lane.specs.Turns.{called, stepped}
 use Rattle.ideal_wire.proofs.Accepting.{same-pages}
 use Rattle.bounced_lane.specs.declared.holdings.Holdings.{Holdings}
@@ -19,18 +19,9 @@ use Rattle.bounced_lane.specs.declared.turn.Turn.TheVariants as turn
 use Rattle.bounced_lane.specs.Changes.{KeepsBytesBut, KeepsWhatStays}
 use Rattle.bounced_lane.specs.Held.{devices_of}
 use Rattle.bounced_lane.specs.Ideal.{given, ideal_of}
-use Rattle.bounced_lane.specs.Kept.{Device, device_of, device_in}
+use Rattle.bounced_lane.specs.Kept.{device_of, device_in}
 use Rattle.bounced_lane.specs.Turning.{IsMade}
 use Rattle.bounced_lane.proofs.Called.{WaitsFor, kept-load}
-
--- a callback was not there
-pub missed-made : (h : Holdings) (d e : Seen) → Misses d h.id.0 e → IsMade h h d e side.Callback turn.Blocked
-missed-made h d e misses = record {
-  done = inr (refl, record { callback = refl; misses = misses; is = refl });
-  wire = inl refl;
-  places = refl;
-  capacity = refl;
-}
 
 module _ (h k : Holdings) (m count : ℕ) (waits : WaitsFor h m count) (bytes : KeepsBytesBut m h k) where
   -- the map had no page before
@@ -62,12 +53,15 @@ called-made h k d e m pas count a holds waits done bytes same_length capacity t 
     let l = ideal_of h in
     let step = stepped side.Callback (did.Callback m) in
     subst (IsMade h k d e side.Callback) (sym is) (record {
-      done = inl (refl, record {
-        reply = reply.Called m (as_pages pas);
-        holds = holds;
-        is = ap step done
-            ∙ ap (λ ps. step (called m.made_at (get l.maps m.made_at) ps l)) (sym (same-pages pas));
-      });
+      done = inl (
+        refl,
+        record {
+          reply = reply.Called m (as_pages pas);
+          holds = holds;
+          is = ap step done
+              ∙ ap (λ ps. step (called m.made_at (get l.maps m.made_at) ps l)) (sym (same-pages pas));
+        },
+      );
       wire = inr (refl, called-keeps h k m.made_at count waits bytes);
       places = same_length;
       capacity = capacity;

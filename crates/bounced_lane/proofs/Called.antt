@@ -5,7 +5,6 @@ use Rattle.std.specs.FinMap.{get}
 use Rattle.std.specs.Option.{option_map}
 use Rattle.busdma_base.specs.declared.bounce.hold.HubCall.TheVariants.{TakeCallback}
 use Rattle.busdma_base.specs.declared.bounce.hold.HubReply.TheVariants as reply
-use Rattle.busdma_base.specs.declared.machine.address.Pa.{Pa}
 use Rattle.busdma_base.specs.declared.name.MapId.{MapId}
 use Rattle.busdma_base.specs.Bounce.AccountStep.{as_pages}
 use Rattle.busdma_base.specs.Bounce.Door.{Seen, Holds, account}

@@ -1,9 +1,8 @@
 -- How the load of a map ends that waited, from where its map is idle.
-use Rattle.std.proofs.Common.{◌≡◌, ℕ, ◌+◌, ◌≤◌, ◌==◌, Bool, true, false, if◌then◌else◌, List, length, Option, Some, None}
-use Rattle.std.proofs.Common.{refl, sym, ap, ◌∙◌, arith, is_some, slice_get, unwrap_or, nat_le}
+use Rattle.std.proofs.Common.{◌≡◌, ℕ, ◌≤◌, true, if◌then◌else◌, List, length, Option, Some}
+use Rattle.std.proofs.Common.{ap, ◌∙◌, arith, slice_get, unwrap_or, nat_le}
 use Rattle.std.specs.Option.{option_and_then}
-use Rattle.std.specs.FinMap.{get, insert, contains_key}
-use Rattle.busdma_base.specs.declared.journals.answer.Answer.{Answer}
+use Rattle.std.specs.FinMap.{get, insert}
 use Rattle.busdma_base.specs.declared.journals.answer.Answer.TheVariants.{Segments, Refused}
 use Rattle.busdma_base.specs.declared.journals.report.Errno.TheVariants.{EFBIG}
 use Rattle.busdma_base.specs.declared.machine.address.Segment.{Segment}
@@ -20,18 +19,13 @@ use Rattle.phys_memory.specs.Vector.{one_span}
 use Rattle.segment_build.specs.Building.{placed_pieces, tag_placed}
 use Rattle.segment_build.specs.Chunks.{bounced_of}
 use Rattle.segment_build.specs.Segmentation.{segmentation}
-use Rattle.ideal_lane.specs.Ahead.{awaited_items, items_ahead, maps_items}
+use Rattle.ideal_lane.specs.Ahead.{awaited_items, items_ahead}
 use Rattle.ideal_lane.specs.Left.{item_count}
-use Rattle.ideal_lane.specs.Loads.{Asked, asked, chunks_for, emptied, finished, limits_of, loaded, unpaged}
-use Rattle.ideal_lane.specs.Outcomes.{Outcome}
+use Rattle.ideal_lane.specs.Loads.{Asked, asked, emptied, finished, limits_of, loaded, unpaged}
 use Rattle.ideal_lane.specs.State.{Idle, LaneMap, LaneState, Loaded, Waiting}
 use Rattle.ideal_lane.specs.Turns.{asked_at, asked_by, called, called_at, called_in, no_load}
-use Rattle.ideal_lane.proofs.Keeping.{fits, fitting, too_big}
-use Rattle.ideal_lane.proofs.Lookups.{get_put}
 use Rattle.ideal_lane.proofs.Weights.{weigh-put}
-use Rattle.bounced_lane.specs.Loading.{buffer_chunks, buffer_entries}
 use Rattle.bounced_lane.proofs.LoadSteps.{put-over}
-use Rattle.bounced_lane.proofs.TakenLoads.{put-other}
 
 module _ (l : LaneState) (m : ℕ) (o : LaneMap) where
   abbrev pub free : LaneMap
@@ -71,51 +65,11 @@ pub asked-is : (l : LaneState) (at m : ℕ) (va : Va) (len flags : ℕ) (items :
 asked-is l at m va len flags items load =
     ap (λ (o : Option Op). unwrap_or (option_and_then (λ p. asked_by p l) o) (no_load l)) load
 
--- ---- what a load that ends leaves of its driver
-
--- the script, the tags, the pages, the memories and all maps but one are as they were
-pub record KeepsGround (one : ℕ) (l n : LaneState) : Type 0 where
-  pub script : n.script ≡ l.script
-  pub maxmem : n.maxmem ≡ l.maxmem
-  pub pages : n.pages ≡ l.pages
-  pub tags : n.tags ≡ l.tags
-  pub mems : n.mems ≡ l.mems
-  pub maps : (q : ℕ) → (q == one) ≡ false → get n.maps q ≡ get l.maps q
-
-ground-if : (one : ℕ) (l : LaneState) (b : Bool) (x y : Outcome) → KeepsGround one l x.lane →
-    KeepsGround one l y.lane → KeepsGround one l (if b then x else y).lane
-ground-if one l true x y h k = h
-ground-if one l false x y h k = k
-
-module _ (l : LaneState) (m : ℕ) (o : LaneMap) (at : ℕ) (x : Asked) (chunks : List Chunk) (pages : List ℕ) where
-  pub finished-ground : KeepsGround m l (finished m o at x chunks pages l).lane
-  finished-ground =
-      ground-if m l (fits l m o at x chunks pages) (fitting l m o at x chunks pages) (too_big l m o at x chunks pages)
-      (record {
-        script = refl;
-        maxmem = refl;
-        pages = refl;
-        tags = refl;
-        mems = refl;
-        maps = λ q off. put-other l.maps m q _ off;
-      })
-      (record {
-        script = refl;
-        maxmem = refl;
-        pages = refl;
-        tags = refl;
-        mems = refl;
-        maps = λ q off. put-other l.maps m q _ off;
-      })
-
 -- ---- the room of the transfer queue
 
 -- the items of a load that waits are among those ahead
 module _ (l : LaneState) (m : ℕ) (o : LaneMap) (there : get l.maps m ≡ Some o) (load_at need : ℕ)
     (waits : o.stage ≡ Waiting load_at need) where
-  awaited : LaneMap → ℕ
-  awaited x = awaited_items l.script x.stage
-
   pub items-within : item_count (slice_get l.script load_at) ≤ items_ahead l
   items-within =
       let free : LaneMap = record o { stage = Idle } in

@@ -7,11 +7,11 @@ use Rattle.busdma_base.specs.declared.journals.report.Judged.TheVariants.{Fine, 
 use Rattle.busdma_base.specs.declared.journals.report.Report.{Report}
 use Rattle.busdma_base.specs.declared.journals.report.ReportName.TheVariants.{Absent, NotLoaded}
 use Rattle.loan_table.specs.Access.{dev_read_answer}
-use Rattle.loan_table.specs.Loans.{loan_of}
+use Rattle.loan_table.specs.Loans.{load_bytes, loan_of}
 use Rattle.loan_table.specs.Table.{buffer_of, is_known}
 use Rattle.device_model.specs.Access.{bus_range}
 use Rattle.dma_map.specs.MapView.{segments_of}
-use Rattle.ideal_lane.specs.Accesses.{dev_read, load_bytes, values}
+use Rattle.ideal_lane.specs.Accesses.{dev_read, values}
 use Rattle.ideal_lane.specs.Asking.{Asking}
 use Rattle.ideal_lane.specs.IdealMemory as ideal
 use Rattle.ideal_lane.specs.Outcomes.{Outcome, gives, is_loaded, load_length, unless_past, unless_refused}
@@ -65,7 +65,7 @@ module _ (l : LaneState) (k : ℕ) where
       gives l (answer.Report r) ≡ dev_read k off len l
   dev_read-unloaded off len r h = sym (h (λ o. unless_past k off len l
       (unless_refused (dev_read_answer (ideal.is_known l.memory) (loan_of l.loans k) off len) l
-      (gives l (answer.Bytes (values l (load_bytes l k off len)))))))
+      (gives l (answer.Bytes (values l (load_bytes l.loans k off len)))))))
 
   module _ (o : LaneMap) (there : get l.maps k ≡ Some o) (on : is_loaded o.stage ≡ true) where
     pub dev_read-past : (off len : ℕ) (r : Report) →
@@ -73,14 +73,14 @@ module _ (l : LaneState) (k : ℕ) where
         gives l (answer.Report r) ≡ dev_read k off len l
     dev_read-past off len r h =
         sym (h (unless_refused (dev_read_answer (ideal.is_known l.memory) (loan_of l.loans k) off len) l
-        (gives l (answer.Bytes (values l (load_bytes l k off len))))))
+        (gives l (answer.Bytes (values l (load_bytes l.loans k off len))))))
         ∙ sym (loads o there on _)
 
     -- the step of a read within the load
     pub dev_read-within : (off len : ℕ) → off + len ≤ load_length l k →
         dev_read k off len l
         ≡ unless_refused (dev_read_answer (ideal.is_known l.memory) (loan_of l.loans k) off len) l
-        (gives l (answer.Bytes (values l (load_bytes l k off len))))
+        (gives l (answer.Bytes (values l (load_bytes l.loans k off len))))
     dev_read-within off len h = loads o there on _ ∙ ends off len h _
 
 -- ---- a read within the load of a map
@@ -94,7 +94,7 @@ module _ (h : Holdings) (k off len : ℕ) (on : has_load (get h.maps.map k) ≡ 
 
   within : dev_read k off len l
       ≡ unless_refused (dev_read_answer (ideal.is_known l.memory) (loan_of l.loans k) off len) l
-      (gives l (answer.Bytes (values l (load_bytes l k off len))))
+      (gives l (answer.Bytes (values l (load_bytes l.loans k off len))))
   within = dev_read-within l k (map_of kept.0) (image-some map_of h.maps.map k kept.0 kept.1) kept.2 off len range
 
   answers : dev_read_answer (is_known h.loans) (loan_of h.loans.loans k) off len

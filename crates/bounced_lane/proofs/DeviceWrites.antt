@@ -17,7 +17,7 @@ use Rattle.loan_table.specs.Access.{dev_write_answer}
 use Rattle.loan_table.specs.Loans.{Loans, addresses_of, load_bytes, loan_of}
 use Rattle.loan_table.specs.Table.{AreIn, buffer_of, set_all}
 use Rattle.phys_memory.specs.Memory.{Memory, wire}
-use Rattle.ideal_lane.specs.Accesses.{dev_write, load_bytes}
+use Rattle.ideal_lane.specs.Accesses.{dev_write}
 use Rattle.ideal_lane.specs.Asking.{Asking, by_reply}
 use Rattle.ideal_lane.specs.IdealMemory.{written}
 use Rattle.ideal_lane.specs.Outcomes.{Outcome, gives, is_loaded, unless_past, unless_refused}
@@ -52,7 +52,7 @@ module _ (l : LaneState) (k : ℕ) (o : LaneMap) (there : get l.maps k ≡ Some 
     (off : ℕ) (vs : List ℕ) where
   abbrev step : Asking Outcome
   step = unless_refused (dev_write_answer (loan_of l.loans k) off (length vs)) l
-      (gives (record l { memory = written (load_bytes l k off (length vs)) vs l.memory }) answer.Done)
+      (gives (record l { memory = written (load_bytes l.loans k off (length vs)) vs l.memory }) answer.Done)
 
   pub dev_write-past : (r : Report) →
       ((s : Asking Outcome) → unless_past k off (length vs) l s ≡ gives l (answer.Report r)) →
@@ -83,7 +83,7 @@ module _ (h : Holdings) (wired : IsWired h) (k : ℕ) (o : KeptMap) (there : get
   l = ideal_of h
 
   abbrev pas : List ℕ
-  pas = load_bytes l k off (length vs)
+  pas = load_bytes l.loans k off (length vs)
 
   abbrev after : LaneState
   after = record l { memory = written pas vs l.memory }
@@ -120,7 +120,8 @@ module _ (h : Holdings) (wired : IsWired h) (k : ℕ) (o : KeptMap) (there : get
   -- it is what was written, where the bytes are marked
   pub dev_write-done : (marks : FinMap nat_cmp Bool) (loans : Loans) (table : FinMap nat_cmp KeptMap) →
       AreIn h.loans.bytes (load_bytes h.loans.loans k off (length vs)) →
-      marks ≡ set_all h.loans.bytes (load_bytes h.loans.loans k off (length vs)) true → loans ≡ h.loans.loans → table ≡ now →
+      marks ≡ set_all h.loans.bytes (load_bytes h.loans.loans k off (length vs)) true → loans ≡ h.loans.loans →
+      table ≡ now →
       gives (record l {
         maps = map_values map_of table;
         memory = bytes.held marks loans (devices_of table) n;

@@ -1,5 +1,6 @@
 -- What is known of a step at a door, by what the step is.
-use Rattle.std.proofs.Common.{◌≡◌, ℕ, true, false, Result, Ok, Err, IfOk, OnOk, OnErr, refl, ap, sym, subst}
+use Rattle.std.proofs.Common.{◌≡◌, ℕ, true, false, Option, Some, None, Result, Ok, Err, IfNone, IfOk, OnOk, OnErr}
+use Rattle.std.proofs.Common.{refl, ap, sym, subst}
 use Rattle.busdma_base.specs.declared.bounce.hold.HubCall.{HubCall}
 use Rattle.busdma_base.specs.declared.bounce.hold.HubReply.{HubReply}
 use Rattle.busdma_base.specs.Bounce.Door.{Seen, Allows}
@@ -45,3 +46,8 @@ on-err (Err e) p = p
 pub always-ok : {T E P : Type 0} (r : Result T E) → P → OnOk r P
 always-ok (Ok x) h = h
 always-ok (Err e) h = tt
+
+-- what holds anyway holds where there is nothing
+pub on-none : {T P : Type 0} (o : Option T) → P → IfNone o P
+on-none None p = p
+on-none (Some x) p = tt

@@ -1,7 +1,7 @@
 -- The load of a map that waited ends: what its end is asked, and what it leaves.
-use Rattle.std.proofs.Common.{◌≡◌, ℕ, ◌+◌, ◌≤◌, ◌^◌, ◌==◌, true, false, cond, List, length, Some, None, refl, sym, ap}
+use Rattle.std.proofs.Common.{◌≡◌, ℕ, ◌+◌, ◌≤◌, ◌^◌, true, false, List, length, Some, refl, sym, ap}
 use Rattle.std.proofs.Common.{◌∙◌, subst, arith, is_some, slice_get}
-use Rattle.std.specs.FinMap.{get, insert, remove, contains_key}
+use Rattle.std.specs.FinMap.{get, insert, contains_key}
 use Rattle.busdma_base.specs.declared.journals.answer.Answer.{Answer}
 use Rattle.busdma_base.specs.declared.journals.report.Judged.TheVariants.{Fine}
 use Rattle.busdma_base.specs.declared.machine.address.Va.{Va}
@@ -9,7 +9,7 @@ use Rattle.busdma_base.specs.declared.scenarios.script.Item.{Item}
 use Rattle.busdma_base.specs.declared.scenarios.script.Op.TheVariants.{Load}
 use Rattle.busdma_base.specs.declared.scenarios.script.Place.TheVariants.{At}
 use Rattle.busdma_base.specs.Machine.Entry.{entries_addresses}
-use Rattle.busdma_base.specs.Scenarios.Limits.{buffer_limit}
+use Rattle.busdma_base.specs.Scenarios.Limits.{buffer_limit, loaded_limit}
 use Rattle.dma_map.specs.declared.callback.Transfers.{Transfers}
 use Rattle.dma_map.specs.declared.room.LoadRoom.{LoadRoom}
 use Rattle.dma_map.specs.MapView as held
@@ -22,22 +22,20 @@ use Rattle.ideal_lane.specs.Places.{reached}
 use Rattle.ideal_lane.specs.Standing.{Stands}
 use Rattle.ideal_lane.specs.State.{LaneMap, LaneState, Waiting}
 use Rattle.ideal_lane.specs.Turns.{asked_at, called}
-use Rattle.ideal_lane.proofs.Lookups.{get_cut}
 use Rattle.bounced_lane.specs.declared.buffers.Buffer.{Buffer}
 use Rattle.bounced_lane.specs.declared.holdings.Holdings.{Holdings}
 use Rattle.bounced_lane.specs.declared.kept.KeptMap.{KeptMap}
-use Rattle.bounced_lane.specs.Awaiting.{AreAwaiting, HasSmallLoads, IsAwaiting, kept_load}
+use Rattle.bounced_lane.specs.Awaiting.{AreAwaiting, AreAwaitingBut, HasSmallLoads, IsAwaiting, bytes_ahead, kept_load}
 use Rattle.bounced_lane.specs.Changes.{KeepsButMaps, KeepsBytesBut}
 use Rattle.bounced_lane.specs.Covered.{is_idle_map, pages_due}
 use Rattle.bounced_lane.specs.Ideal.{given, ideal_of}
 use Rattle.bounced_lane.specs.Kept.{map_of, memory_of, stage_of}
 use Rattle.bounced_lane.specs.Loading.{HasRoomForAny, buffer_chunks, buffer_entries}
+use Rattle.bounced_lane.proofs.AwaitingLoads.{StaysBut, awaiting-but, awaiting-others, put-stays, stays-finished}
 use Rattle.bounced_lane.proofs.Called.{KeepsLoad, load-kept}
-use Rattle.bounced_lane.proofs.CalledLoads.{KeepsGround, asked-is, called-is, finished-free, finished-ground, items-within}
+use Rattle.bounced_lane.proofs.CalledLoads.{asked-is, called-is, finished-free, items-within}
 use Rattle.bounced_lane.proofs.MapValues.{image-none}
-use Rattle.bounced_lane.proofs.Places.{get_removed}
 use Rattle.bounced_lane.proofs.Returned.{idled}
-use Rattle.bounced_lane.proofs.StillAwaiting.{awaiting-others}
 use Rattle.bounced_lane.proofs.TakenLoads.{put-other, taken, taken-bytes, taken-ideal, taken-idle, taken-promised}
 use Rattle.bounced_lane.proofs.TakenLoads.{taken-stands, taken-there}
 use Rattle.bounced_lane.proofs.TakenLoads as freed
@@ -85,6 +83,17 @@ module _ (h k : Holdings) (m at : ℕ) (callback : Transfers) (room : LoadRoom)
   ends-bytes n bytes =
       let same = taken-bytes h k m o kept.1 load (maps o kept.1) rest in
       record { own = bytes.own ∙ same.own; pages = λ q off. bytes.pages q off ∙ same.pages q }
+
+  pub ends-others : AreAwaiting h → AreAwaitingBut m k
+  ends-others awaiting =
+      awaiting-others h k m (record {
+        stays = subst (StaysBut m l) (sym now)
+            (put-stays m idle l (taken h k m o kept.1 load (maps o kept.1) rest)
+            (record { script = refl; maxmem = refl; pages = refl; tags = refl; mems = refl }) refl);
+        kept = λ q off. ap (λ ms. kept_load (get ms q)) (maps o kept.1)
+            ∙ ap kept_load (put-other h.maps.map m q (idled o) off);
+        prepared = λ q off. ap (λ t. get t.prepared q) rest.loans;
+      }) (awaiting-but h m awaiting)
 
   module _ (awaiting : AreAwaiting h) where
     abbrev is : IsAwaiting h m at callback.items room
@@ -157,19 +166,19 @@ module _ (h k : Holdings) (m at : ℕ) (callback : Transfers) (room : LoadRoom)
         pub ends-done : given n a ≡ called m (get l.maps m) pages l
         ends-done = ended ∙ sym (called-is l m (map_of o) at o.need pages image waits)
 
-        ground : KeepsGround m l (ideal_of n)
-        ground =
-            subst (λ (x : Outcome). KeepsGround m l x.lane) (sym ended)
-            (finished-ground l m (map_of o) at asks (chunks_for l (map_of o) (contains_key l.mems m) asks.entries)
-            pages)
-
-        pub ends-awaiting : n.memories ≡ k.memories → kept_load (get n.maps.map m) ≡ None →
-            ((q : ℕ) → (q == m) ≡ false → kept_load (get n.maps.map q) ≡ kept_load (get k.maps.map q)) →
-            n.loans.prepared ≡ remove k.loans.prepared m → AreAwaiting n
-        ends-awaiting memories over others opened =
-            awaiting-others h n m ground (memories ∙ rest.memories)
-            (λ q off. others q off ∙ ap (λ ms. kept_load (get ms q)) (maps o kept.1)
-            ∙ ap kept_load (put-other h.maps.map m q (idled o) off))
-            (λ q off. ap (λ ps. get ps q) opened ∙ get_cut k.loans.prepared m q
-            ∙ ap (λ t. cond t None (get k.loans.prepared q)) off ∙ ap (λ t. get t.prepared q) rest.loans) over
-            (ap (λ ps. get ps m) opened ∙ get_removed k.loans.prepared m) awaiting
+        pub ends-few : HasSmallLoads h → n.agenda.place ≡ k.agenda.place → n.agenda.promised ≤ k.agenda.promised →
+            HasSmallLoads n
+        ends-few small same less =
+            let chunks = chunks_for l (map_of o) (contains_key l.mems m) asks.entries in
+            let stays =
+            stays-finished m (map_of o) at asks chunks pages l (ideal_of n) (ap (λ (x : Outcome). x.lane) ended) in
+            let script : n.script.now ≡ h.script.now = stays.rest.script in
+            let place : n.agenda.place ≡ h.agenda.place = same ∙ ap (λ a. a.place) rest.agenda in
+            let promised : k.agenda.promised ≡ h.agenda.promised = ap (λ a. a.promised) rest.agenda in
+            let ahead : bytes_ahead n.agenda.place n.script.now ≡ bytes_ahead h.agenda.place h.script.now =
+            (λ i. bytes_ahead (place i) (script i)) in
+            let few : h.agenda.promised + bytes_ahead h.agenda.place h.script.now ≤ loaded_limit = small.few in
+            record {
+              each = λ p x found. small.each p x (sym (ap (λ s. slice_get s p) script) ∙ found);
+              few = omega (arith, few, ahead, less, promised);
+            }

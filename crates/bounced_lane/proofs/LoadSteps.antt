@@ -65,7 +65,7 @@ put-over m k x v = same_map nat_cmp_total exact_unsigned (insert (insert m k x) 
     ∙ ap (cond (eq_by_cmp nat_cmp q k) (Some v)) (get-insert nat_cmp_total m k x q)
     ∙ over (eq_by_cmp nat_cmp q k) (Some v) (Some x) (get m q) ∙ sym (get-insert nat_cmp_total m k v q))
 
-taken-out : {X : Type 0} (m : FinMap nat_cmp X) (k : ℕ) (x : X) → get m k ≡ None → remove (insert m k x) k ≡ m
+pub taken-out : {X : Type 0} (m : FinMap nat_cmp X) (k : ℕ) (x : X) → get m k ≡ None → remove (insert m k x) k ≡ m
 taken-out m k x none = same_map nat_cmp_total exact_unsigned (remove (insert m k x) k) m (λ q.
     get-remove nat_cmp_total (insert m k x) k q
     ∙ ap (cond (eq_by_cmp nat_cmp q k) None) (get-insert nat_cmp_total m k x q)

@@ -19,7 +19,7 @@ use Rattle.bounced_lane.proofs.KeepsWired.{kept-wired}
 use Rattle.bounced_lane.proofs.TurnEnds.{end-bounded, end-follows, end-served, end-stands, end-wired}
 
 module _ (h k : Holdings) (d e : Seen) (s : Side) (t : Turn) (ready : IsReady h d) (made : IsMade h k d e s t) where
-  end-wire : IsWireOf h k (wires.lane_step (ideal_of h) s (wire_of h)) →
+  pub end-wire : IsWireOf h k (wires.lane_step (ideal_of h) s (wire_of h)) →
       Follows (ideal_of h) (ideal_of k) (wires.lane_step (ideal_of h) s (wire_of h)) (wire_of k)
   end-wire (inl is) = (λ a before after. ap (λ w. w a) is, λ m a before after. ap (λ w. w a) is)
   end-wire (inr (plain, keeps)) =

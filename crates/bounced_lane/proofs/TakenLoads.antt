@@ -17,7 +17,7 @@ use Rattle.bounced_lane.specs.declared.holdings.Holdings.{Holdings}
 use Rattle.bounced_lane.specs.declared.kept.KeptMap.{KeptMap}
 use Rattle.bounced_lane.specs.Changes.{KeepsButMaps, KeepsBytes}
 use Rattle.bounced_lane.specs.Covered.{has_load, is_idle_map, is_returning, is_tried, lends_pages, pages_due}
-use Rattle.bounced_lane.specs.Covered.{is_lent, returns_in}
+use Rattle.bounced_lane.specs.Covered.{returns_in}
 use Rattle.bounced_lane.specs.Held.{devices_of, held}
 use Rattle.bounced_lane.specs.Ideal.{ideal_of}
 use Rattle.bounced_lane.specs.Kept.{device_in, device_of, due_in, due_of, map_of, memory_of, return_of, share_of, stage_of}

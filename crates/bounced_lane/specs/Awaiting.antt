@@ -1,13 +1,17 @@
 -- What a load that waits keeps by it until its callback, which takes no memory.
-use Rattle.std.specs.Prelude.{◌≡◌, ℕ, ◌+◌, ◌≤◌, ◌^◌, List, Option, Some, None, slice_get, drop}
+use Rattle.std.specs.Prelude.{◌≡◌, ℕ, ◌+◌, ◌≤◌, ◌==◌, false, List, Option, Some, None, slice_get, drop}
+use Rattle.std.specs.Prelude.{unwrap_or}
 use Rattle.std.specs.List.{sum_by}
-use Rattle.std.specs.FinMap.{get}
+use Rattle.std.specs.Option.{option_map}
+use Rattle.std.specs.Ordering.{nat_cmp}
+use Rattle.std.specs.FinMap.{FinMap, get}
 use Rattle.busdma_base.specs.declared.journals.report.Judged.TheVariants.{Fine}
 use Rattle.busdma_base.specs.declared.machine.address.Va.{Va}
 use Rattle.busdma_base.specs.declared.scenarios.script.Item.{Item}
 use Rattle.busdma_base.specs.declared.scenarios.script.Op.{Op}
 use Rattle.busdma_base.specs.declared.scenarios.script.Op.TheVariants.{Load}
 use Rattle.busdma_base.specs.declared.scenarios.script.Place.TheVariants.{At}
+use Rattle.busdma_base.specs.declared.tags.tag.TagLimits.{TagLimits}
 use Rattle.busdma_base.specs.Machine.Entry.{entries_addresses}
 use Rattle.busdma_base.specs.Scenarios.Limits.{buffer_limit, loaded_limit}
 use Rattle.busdma_base.specs.Scenarios.Operations.{loaded_by}
@@ -15,11 +19,12 @@ use Rattle.dma_map.specs.declared.callback.Transfers.{Transfers}
 use Rattle.dma_map.specs.declared.room.LoadRoom.{LoadRoom}
 use Rattle.dma_map.specs.MapView.{waiting_load}
 use Rattle.loan_table.specs.Loans.{new_loan}
-use Rattle.ideal_lane.specs.Loads.{is_coherent, limits_of}
+use Rattle.ideal_lane.specs.Loads.{is_coherent, limits_of, no_limits}
 use Rattle.ideal_lane.specs.Places.{reached}
 use Rattle.ideal_lane.specs.State.{LaneMap, Waiting}
 use Rattle.bounced_lane.specs.declared.holdings.Holdings.{Holdings}
 use Rattle.bounced_lane.specs.declared.kept.KeptMap.{KeptMap}
+use Rattle.bounced_lane.specs.declared.kept.KeptTag.{KeptTag}
 use Rattle.bounced_lane.specs.Ideal.{ideal_of}
 use Rattle.bounced_lane.specs.Loading.{HasRoomForAny, buffer_chunks, buffer_entries}
 
@@ -32,6 +37,23 @@ kept_load (Some o) = waiting_load o.map.stage
 pub record KeepsWaiting (h k : Holdings) : Type 0 where
   pub kept : (m : ℕ) → kept_load (get k.maps.map m) ≡ kept_load (get h.maps.map m)
   pub prepared : k.loans.prepared ≡ h.loans.prepared
+
+-- the limits of the tag that was made at a place, or what stands for those of none
+abbrev pub limits_at : FinMap nat_cmp KeptTag → ℕ → TagLimits
+limits_at tags place = unwrap_or (option_map (λ (t : KeptTag). t.tag) (get tags place)) no_limits
+
+-- what the load of a map is built by that waits: how many pages it needs, and the limits of its tag
+abbrev pub awaited_by : FinMap nat_cmp KeptTag → Option KeptMap → Option (ℕ × TagLimits)
+awaited_by tags None = None
+awaited_by tags (Some o) = option_map (λ kept. (o.need, limits_at tags o.tag)) (waiting_load o.map.stage)
+
+-- a step leaves the script, what the driver reaches, and what each load is built by that waits
+pub record KeepsReach (h k : Holdings) : Type 0 where
+  pub script : k.script ≡ h.script
+  pub pages : k.pages ≡ h.pages
+  pub memories : k.memories.map ≡ h.memories.map
+  pub maxmem : k.maxmem ≡ h.maxmem
+  pub awaited : (m : ℕ) → awaited_by k.tags.map (get k.maps.map m) ≡ awaited_by h.tags.map (get h.maps.map m)
 
 -- the load of a map stands at a place of the script and has these items; the driver reaches its bytes; the room has
 -- space for what its callback makes of them, in whichever pages; and its loan is prepared
@@ -53,6 +75,18 @@ pub record AreAwaiting (h : Holdings) : Type 0 where
   pub each : (m load_at : ℕ) (callback : Transfers) (room : LoadRoom) →
       kept_load (get h.maps.map m) ≡ Some (load_at, callback, room) → IsAwaiting h m load_at callback.items room
   pub prepared : (m : ℕ) → kept_load (get h.maps.map m) ≡ None → get h.loans.prepared m ≡ None
+
+-- each load but that of one map has, where it waits, what its callback takes, and a loan is prepared for no other map
+pub record AreAwaitingBut (one : ℕ) (h : Holdings) : Type 0 where
+  pub each : (m load_at : ℕ) (callback : Transfers) (room : LoadRoom) → (m == one) ≡ false →
+      kept_load (get h.maps.map m) ≡ Some (load_at, callback, room) → IsAwaiting h m load_at callback.items room
+  pub prepared : (m : ℕ) → (m == one) ≡ false → kept_load (get h.maps.map m) ≡ None →
+      get h.loans.prepared m ≡ None
+
+-- the next operation loads a map with the bytes of a buffer, and its load has these items
+pub record IsNextLoad (h : Holdings) (m : ℕ) (va : Va) (len : ℕ) (items : List Item) : Type 0 where
+  pub flags : ℕ
+  pub load : slice_get h.script.now h.agenda.place ≡ Some (Load m (At va) len flags items)
 
 -- how many bytes the operations from a place on load
 abbrev pub bytes_ahead : ℕ → List Op → ℕ

@@ -1,4 +1,5 @@
 pub mod Awaiting
+pub mod Calls
 pub mod Changes
 pub mod Covered
 pub mod Doing
@@ -12,6 +13,7 @@ pub mod MapValues
 pub mod OneProof
 pub mod OpeningMemory
 pub mod PagesLent
+pub mod Provided
 pub mod Shares
 pub mod TagPlan
 pub mod Turning

@@ -28,7 +28,6 @@ ghost use Rattle.bounced_lane.specs.PagesLent.{IsReached, IsRepaged};
 ghost use Rattle.bounced_lane.specs.Virtual.{virtual};
 
 use crate::holdings::{Holdings, report};
-use crate::page_lists::refilled;
 use busdma_base::{Answer, ByteList, Extent, Judged, MapId, PageList, Place, Report, ReportName};
 use device_model::{bus_read, bus_write};
 use dma_map::{DmaMap, MapState, Transfers};
@@ -37,6 +36,7 @@ use phys_memory::{LanePages, Walked};
 use std::alloc::{AllocError, Global};
 
 impl Holdings<'_> {
+    ghost use Rattle.bounced_lane.specs.Awaiting.{AreAwaiting};
     ghost use Rattle.bounced_lane.specs.Changes.{KeepsState};
     ghost use Rattle.bounced_lane.specs.Ideal.{given, ideal_of};
     ghost use Rattle.bounced_lane.specs.Wire.{IsWired, wire_of};
@@ -89,6 +89,9 @@ impl Holdings<'_> {
             Gives (given self.new answer) ≡ accesses.cpu_write place bytes.now (ideal_of self.old)) }
         ensures wire { IfOk result (λ answer.
             wire_of self.new ≡ wires.cpu_write place bytes.now (ideal_of self.old) (wire_of self.old)) }
+        ensures awaiting { AreAwaiting self.old → AreAwaiting self.new }
+        ensures script { self.new.script ≡ self.old.script }
+        ensures memories { self.new.memories ≡ self.old.memories }
         ensures agenda { self.new.agenda ≡ self.old.agenda }
         ensures err { OnErr result (KeepsState self.old self.new) }
     {
@@ -162,6 +165,9 @@ impl Holdings<'_> {
             Reads answer (load_buses (ideal_of self.old) map off len) (wire_of self.old)) }
         ensures wire { wire_of self.new ≡ wire_of self.old }
         ensures kept { KeepsState self.old self.new }
+        ensures awaiting { AreAwaiting self.old → AreAwaiting self.new }
+        ensures script { self.new.script ≡ self.old.script }
+        ensures memories { self.new.memories ≡ self.old.memories }
         ensures agenda { self.new.agenda ≡ self.old.agenda }
     {
         if let Some(refusal) = self.unloaded(map) {
@@ -194,6 +200,9 @@ impl Holdings<'_> {
             Gives (given self.new answer) ≡ accesses.dev_write map off bytes.now (ideal_of self.old)) }
         ensures wire { IfOk result (λ answer.
             wire_of self.new ≡ wires.dev_write map off bytes.now (ideal_of self.old) (wire_of self.old)) }
+        ensures awaiting { AreAwaiting self.old → AreAwaiting self.new }
+        ensures script { self.new.script ≡ self.old.script }
+        ensures memories { self.new.memories ≡ self.old.memories }
         ensures agenda { self.new.agenda ≡ self.old.agenda }
         ensures err { OnErr result (KeepsState self.old self.new) }
     {
@@ -208,12 +217,11 @@ impl Holdings<'_> {
         if let Judged::Refused(refusal) = self.loans.may_dev_write(id, off, len) {
             return Ok(Answer::Report(refusal));
         }
-        let spare = PageList::with_room(alloc, self.page_count(map))?;
         reserve_extents(&mut self.loans, alloc, id, off, len)?;
         let Some(mut kept) = self.maps.take(map) else {
             unreachable!()
         };
-        write_load(&mut kept.map, &mut self.memory, off, bytes, spare);
+        write_load(&mut kept.map, &mut self.memory, off, bytes);
         self.maps.put(map, kept);
         self.loans.note_dev_write(id, off, len);
         Ok(Answer::Done)
@@ -294,17 +302,9 @@ fn write_parts(memory: &mut LanePages, parts: &[Extent], bytes: &[u8])
     }
 }
 
-/// Writes bytes into a map's load at their bus addresses, from `off` on. The pages then stand in the spare list.
-fn write_load(
-    map: &mut DmaMap<Transfers>,
-    memory: &mut LanePages,
-    off: u64,
-    bytes: &[u8],
-    spare: PageList,
-)
-    requires reached { IsReached memory.old.memory map.old.stage off (length bytes.now) }
-    requires empty { spare.items ≡ [] }
-    requires room { length (device_in map.old.stage).pages ≤ spare.room }
+/// Writes bytes into a map's load at their bus addresses, from `off` on.
+fn write_load(map: &mut DmaMap<Transfers>, memory: &mut LanePages, off: u64, bytes: &[u8])
+    requires { IsReached memory.old.memory map.old.stage off (length bytes.now) }
     ensures view { device_view (device_in map.new.stage) memory.new.memory
         ≡ put (bus_range off (length bytes.now) (segments_of map.old.stage)) bytes.now
         (device_view (device_in map.old.stage) memory.old.memory) }
@@ -313,7 +313,7 @@ fn write_load(
 {
     let mut pages = map.lend_pages().into_vec();
     bus_write(map.segments(), off, bytes, memory, pages.as_mut_slice());
-    map.restore_pages(refilled(spare, pages));
+    map.restore_pages(PageList::from_vec(pages));
 }
 
 /// Makes room to change `len` bytes of a map's load, from `off` on.

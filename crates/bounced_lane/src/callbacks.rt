@@ -32,6 +32,8 @@ impl Holdings<'_> {
         requires awaiting { AreAwaiting self.old }
         requires small { HasSmallLoads self.old }
         ensures made { IsMade self.old self.new (D.seen door.old) (D.seen door.new) side.Callback result }
+        ensures awaiting { AreAwaiting self.new }
+        ensures small { HasSmallLoads self.new }
         ensures promised { self.new.agenda.promised ≤ self.old.agenda.promised }
         ensures memories { self.new.memories ≡ self.old.memories }
         ensures fixed { D.fixed door.new ≡ D.fixed door.old }
@@ -54,6 +56,8 @@ impl Holdings<'_> {
         ensures done { given self.new result
             ≡ called map (get (ideal_of self.old).maps map) (page_addresses pages.items) (ideal_of self.old) }
         ensures bytes { KeepsBytesBut map self.old self.new }
+        ensures awaiting { AreAwaiting self.new }
+        ensures small { HasSmallLoads self.new }
         ensures promised { self.new.agenda.promised ≤ self.old.agenda.promised }
         ensures memories { self.new.memories ≡ self.old.memories }
         ensures length { self.new.agenda.length ≡ self.old.agenda.length }
@@ -88,17 +92,16 @@ impl Holdings<'_> {
             slice_get self.now.script.now load_at ≡ Some (Load m (At va) len flags items) →
             result ≡ record { va = va; len = len } }
     {
-        let Some(Op::Load {
-            place: Place::At(va),
-            len,
-            ..
-        }) = self.script.get(load_at as usize)
+        let Some(
+            Op::Load {
+                place: Place::At(va),
+                len,
+                ..
+            },
+        ) = self.script.get(load_at as usize)
         else {
             return Buffer { va: Va(0), len: 0 };
         };
-        Buffer {
-            va: *va,
-            len: *len,
-        }
+        Buffer { va: *va, len: *len }
     }
 }

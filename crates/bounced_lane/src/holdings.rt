@@ -60,6 +60,16 @@ pub(crate) struct Answered {
     pub(crate) held: bool,
 }
 
+/// What a step answers that makes no call.
+pub(crate) fn unheld(answer: Answer) -> Answered
+    ensures { result ≡ record { answer = answer; held = false } }
+{
+    Answered {
+        answer,
+        held: false,
+    }
+}
+
 /// The answer of a step that is not done.
 pub(crate) fn report(name: ReportName, at: u64) -> Answer
     ensures { result ≡ answer.Report (record { name = name; at = at }) }

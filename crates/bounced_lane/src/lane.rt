@@ -1,10 +1,11 @@
 //! A driver's lane.
 
-ghost use Rattle.std.specs.Prelude.{◌≡◌, ◌≤◌, ◌+◌, length};
+ghost use Rattle.std.specs.Prelude.{◌≡◌, ◌≤◌, ◌+◌, length, IfOk, OnErr, OnOk};
 ghost use Rattle.ideal_lane.specs.Ahead.{items_ahead};
 ghost use Rattle.ideal_lane.specs.Standing.{Stands};
 ghost use Rattle.bounced_lane.specs.Ideal.{ideal_of};
 ghost use Rattle.bounced_lane.specs.OneProof.{IsWired-prop};
+ghost use Rattle.bounced_lane.specs.Provided.{IsProvided};
 ghost use Rattle.bounced_lane.specs.Wire.{IsWired};
 
 use crate::holdings::Holdings;
@@ -15,6 +16,7 @@ pub struct Lane<'s> {
     pub(crate) holdings: Holdings<'s>,
     ghost wired: { IsWired holdings } by { IsWired-prop holdings },
     ghost stands: { ∥ Stands (ideal_of holdings) ∥₁ },
+    ghost provided: { ∥ IsProvided holdings ∥₁ },
     ghost length: { holdings.agenda.length ≡ length holdings.script.now },
     ghost room: { items_ahead (ideal_of holdings) ≤ holdings.agenda.room },
 }

@@ -2,8 +2,10 @@
 #![tactic(auto)]
 
 mod accesses;
+mod awaiting;
 mod buffers;
 mod callbacks;
+mod calls;
 mod ended;
 mod finishing;
 mod holdings;
@@ -13,8 +15,9 @@ mod lane;
 mod loads;
 mod maps;
 mod opening;
-mod page_lists;
+mod operations;
 mod returns;
+mod stepping;
 mod steps;
 mod syncs;
 mod tags;

@@ -1,11 +1,12 @@
 //! Loading.
 
 ghost use Rattle.std.specs.Prelude.{◌≡◌, ◌+◌, ◌<◌, ◌≤◌, ◌^◌, [], true, false, length, Some, None};
-ghost use Rattle.std.specs.Prelude.{IfNone, IfOk, IfSome, OnErr, OnOk};
+ghost use Rattle.std.specs.Prelude.{IfNone, IfOk, IfSome, OnErr, OnOk, slice_get};
 ghost use Rattle.std.specs.FinMap.{get, insert};
 ghost use Rattle.std.specs.List.{AllByRecursion};
 ghost use Rattle.busdma_base.specs.declared.journals.report.Judged.TheVariants.{Fine};
 ghost use Rattle.busdma_base.specs.declared.bounce.hold.HubCall.TheVariants.{Grab};
+ghost use Rattle.busdma_base.specs.declared.scenarios.script.Op.TheVariants.{Load};
 ghost use Rattle.busdma_base.specs.declared.scenarios.script.Place.TheVariants.{At};
 ghost use Rattle.busdma_base.specs.Bounce.AccountStep.{as_pages};
 ghost use Rattle.busdma_base.specs.Bounce.Door.{Allows};
@@ -19,13 +20,13 @@ ghost use Rattle.ideal_lane.specs.Places.{reached};
 ghost use Rattle.ideal_lane.specs.Standing.{Stands};
 ghost use Rattle.ideal_lane.specs.State.{LaneMap, named};
 ghost use Rattle.ideal_lane.specs.Turns.{load_at_place};
-ghost use Rattle.bounced_lane.specs.Doing.{IsAllowedBy, IsCalled, IsDone, IsUndone};
+ghost use Rattle.bounced_lane.specs.Doing.{IsAllowedBy, IsCalled, IsDone, IsUndone, asks};
 ghost use Rattle.bounced_lane.specs.Covered.{is_idle_map, pages_due};
 ghost use Rattle.bounced_lane.specs.Loading.{HasRoomForAny, IsFilled, IsOverfull, IsWanted};
 ghost use Rattle.bounced_lane.specs.Loading.{buffer_chunks, buffer_entries};
 
 use crate::buffers::{Buffer, build_buffer, copy_segments, measure_buffer, write_addresses};
-use crate::holdings::{Holdings, report};
+use crate::holdings::{Answered, Holdings, report};
 use bitflags::Flags;
 use busdma_base::{
     Answer, ChunkRoom, Errno, HubDoor, ItemList, Judged, Page, PageList, Place, ReportName,
@@ -71,7 +72,8 @@ fn take_room(alloc: Global, wanted: Wanted) -> Result<LoadRoom, AllocError>
 }
 
 impl Holdings<'_> {
-    ghost use Rattle.bounced_lane.specs.Changes.{KeepsBytesBut, KeepsState};
+    ghost use Rattle.bounced_lane.specs.Awaiting.{AreAwaiting, AreAwaitingBut, IsNextLoad};
+    ghost use Rattle.bounced_lane.specs.Changes.{KeepsBytesBut, KeepsState, KeepsWhatStays};
     ghost use Rattle.bounced_lane.specs.Ideal.{given, ideal_of};
 
     /// Loads a map that is not a memory's with `len` bytes at a place. It takes all its memory before its one call at
@@ -85,22 +87,27 @@ impl Holdings<'_> {
         len: u64,
         flags: u32,
         items: &ItemList,
-    ) -> Result<Answer, AllocError>
+    ) -> Result<Answered, AllocError>
         requires stands { Stands (ideal_of self.old) }
         requires own { get self.old.memories.map map ≡ None }
-        requires unprepared { is_idle_map (get self.old.maps.map map) ≡ true →
-            get self.old.loans.prepared map ≡ None }
+        requires awaiting { AreAwaiting self.old }
+        requires here { slice_get self.old.script.now self.old.agenda.place
+            ≡ Some (Load map place len flags items.now) }
         requires small { len ≤ 2 ^ 20 }
         requires few_items { length items.now ≤ self.old.agenda.room }
         requires few_pages { self.old.agenda.promised + len < 2 ^ 32 }
         requires allowed { IsAllowedBy (D.seen door.old) self.old.id.0
             (load_at_place map place len flags items.now (ideal_of self.old)) }
-        ensures done { IfOk result (λ answer. IsDone (D.seen door.old) self.old.id.0
+        ensures done { IfOk result (λ r. IsDone (D.seen door.old) self.old.id.0
             (load_at_place map place len flags items.now (ideal_of self.old))
-            (given self.new answer) (D.seen door.new)) }
+            (given self.new r.answer) (D.seen door.new)) }
+        ensures held { IfOk result (λ r. r.held ≡ asks
+            (load_at_place map place len flags items.now (ideal_of self.old))) }
         ensures err { OnErr result (KeepsState self.old self.new) }
+        ensures unpromised { OnErr result (self.new.agenda ≡ self.old.agenda) }
         ensures undone { OnErr result (IsUndone (D.seen door.old) (D.seen door.new)) }
-        ensures bytes { KeepsBytesBut map self.old self.new }
+        ensures awaiting { AreAwaiting self.new }
+        ensures bytes { KeepsWhatStays self.old self.new }
         ensures memories { self.new.memories ≡ self.old.memories }
         ensures place { self.new.agenda.place ≡ self.old.agenda.place }
         ensures length { self.new.agenda.length ≡ self.old.agenda.length }
@@ -123,22 +130,27 @@ impl Holdings<'_> {
         buffer: Buffer,
         flags: u32,
         items: &ItemList,
-    ) -> Result<Answer, AllocError>
+    ) -> Result<Answered, AllocError>
         requires stands { Stands (ideal_of self.old) }
         requires own { get self.old.memories.map map ≡ None }
-        requires unprepared { is_idle_map (get self.old.maps.map map) ≡ true →
-            get self.old.loans.prepared map ≡ None }
+        requires awaiting { AreAwaiting self.old }
+        requires here { slice_get self.old.script.now self.old.agenda.place
+            ≡ Some (Load map (At buffer.va) buffer.len flags items.now) }
         requires small { buffer.len ≤ 2 ^ 20 }
         requires few_items { length items.now ≤ self.old.agenda.room }
         requires few_pages { self.old.agenda.promised + buffer.len < 2 ^ 32 }
         requires allowed { IsAllowedBy (D.seen door.old) self.old.id.0
             (load_at_place map (At buffer.va) buffer.len flags items.now (ideal_of self.old)) }
-        ensures done { IfOk result (λ answer. IsDone (D.seen door.old) self.old.id.0
+        ensures done { IfOk result (λ r. IsDone (D.seen door.old) self.old.id.0
             (load_at_place map (At buffer.va) buffer.len flags items.now (ideal_of self.old))
-            (given self.new answer) (D.seen door.new)) }
+            (given self.new r.answer) (D.seen door.new)) }
+        ensures held { IfOk result (λ r. r.held ≡ asks
+            (load_at_place map (At buffer.va) buffer.len flags items.now (ideal_of self.old))) }
         ensures err { OnErr result (KeepsState self.old self.new) }
+        ensures unpromised { OnErr result (self.new.agenda ≡ self.old.agenda) }
         ensures undone { OnErr result (IsUndone (D.seen door.old) (D.seen door.new)) }
-        ensures bytes { KeepsBytesBut map self.old self.new }
+        ensures awaiting { AreAwaiting self.new }
+        ensures bytes { KeepsWhatStays self.old self.new }
         ensures memories { self.new.memories ≡ self.old.memories }
         ensures place { self.new.agenda.place ≡ self.old.agenda.place }
         ensures length { self.new.agenda.length ≡ self.old.agenda.length }
@@ -148,23 +160,40 @@ impl Holdings<'_> {
         ensures fixed { D.fixed door.new ≡ D.fixed door.old }
     {
         let Some(kept) = self.maps.get(map) else {
-            return Ok(report(ReportName::Absent, 0));
+            return Ok(Answered {
+                answer: report(ReportName::Absent, 0),
+                held: false,
+            });
         };
         let MapState::Idle = kept.map.state() else {
-            return Ok(report(ReportName::MapBusy, 0));
+            return Ok(Answered {
+                answer: report(ReportName::MapBusy, 0),
+                held: false,
+            });
         };
         if let Judged::Refused(refusal) = self.judge_load(map, buffer.va, buffer.len) {
-            return Ok(Answer::Report(refusal));
+            return Ok(Answered {
+                answer: Answer::Report(refusal),
+                held: false,
+            });
         }
         let Some(wanted) = self.measure_load(map, buffer) else {
             self.note_tried(map);
-            return Ok(Answer::Refused(Errno::EINVAL));
+            return Ok(Answered {
+                answer: Answer::Refused(Errno::EINVAL),
+                held: false,
+            });
         };
         if wanted.need == 0 {
-            return self.load_direct(alloc, map, buffer, wanted, items);
+            let answer = self.load_direct(alloc, map, buffer, wanted, items)?;
+            return Ok(Answered {
+                answer,
+                held: false,
+            });
         }
         let nowait = never_waits(flags);
-        self.load_bounced(alloc, door, map, buffer, wanted, nowait, items)
+        let answer = self.load_bounced(alloc, door, map, buffer, wanted, nowait, items)?;
+        Ok(Answered { answer, held: true })
     }
 
     /// What the load of a map with a buffer asks, or None where it is longer than the tag allows.
@@ -270,6 +299,7 @@ impl Holdings<'_> {
     ) -> Answer
         requires stands { Stands (ideal_of self.old) }
         requires idle { is_idle_map (get self.old.maps.map map) ≡ true }
+        requires awaiting { AreAwaitingBut map self.old }
         requires reached { reached (ideal_of self.old) buffer.va.0 buffer.len ≡ Fine }
         requires small { buffer.len ≤ 2 ^ 20 }
         requires room { (o : LaneMap) → get (ideal_of self.old).maps map ≡ Some o →
@@ -285,6 +315,7 @@ impl Holdings<'_> {
             given self.new result ≡ finished map o load_at x
             (buffer_chunks (ideal_of self.old) o buffer.va.0 buffer.len) (page_addresses pages.items)
             (ideal_of self.old) }
+        ensures awaiting { AreAwaiting self.new }
         ensures bytes { KeepsBytesBut map self.old self.new }
         ensures memories { self.new.memories ≡ self.old.memories }
         ensures place { self.new.agenda.place ≡ self.old.agenda.place }
@@ -322,7 +353,7 @@ impl Holdings<'_> {
         requires stands { Stands (ideal_of self.old) }
         requires idle { is_idle_map (get self.old.maps.map map) ≡ true }
         requires own { get self.old.memories.map map ≡ None }
-        requires unprepared { get self.old.loans.prepared map ≡ None }
+        requires awaiting { AreAwaiting self.old }
         requires reached { reached (ideal_of self.old) buffer.va.0 buffer.len ≡ Fine }
         requires small { buffer.len ≤ 2 ^ 20 }
         requires wanted { (o : LaneMap) → get (ideal_of self.old).maps map ≡ Some o →
@@ -335,6 +366,8 @@ impl Holdings<'_> {
             given self.new answer ≡ finished map o (ideal_of self.old).place x
             (buffer_chunks (ideal_of self.old) o buffer.va.0 buffer.len) [] (ideal_of self.old)) }
         ensures err { OnErr result (KeepsState self.old self.new) }
+        ensures unpromised { OnErr result (self.new.agenda ≡ self.old.agenda) }
+        ensures awaiting { AreAwaiting self.new }
         ensures bytes { KeepsBytesBut map self.old self.new }
         ensures memories { self.new.memories ≡ self.old.memories }
         ensures place { self.new.agenda.place ≡ self.old.agenda.place }
@@ -365,7 +398,8 @@ impl Holdings<'_> {
         requires stands { Stands (ideal_of self.old) }
         requires idle { is_idle_map (get self.old.maps.map map) ≡ true }
         requires own { get self.old.memories.map map ≡ None }
-        requires unprepared { get self.old.loans.prepared map ≡ None }
+        requires awaiting { AreAwaiting self.old }
+        requires next { IsNextLoad self.old map buffer.va buffer.len items.now }
         requires reached { reached (ideal_of self.old) buffer.va.0 buffer.len ≡ Fine }
         requires small { buffer.len ≤ 2 ^ 20 }
         requires wanted { (o : LaneMap) → get (ideal_of self.old).maps map ≡ Some o →
@@ -383,7 +417,9 @@ impl Holdings<'_> {
             (granted map o x (buffer_chunks (ideal_of self.old) o buffer.va.0 buffer.len) (ideal_of self.old))
             (given self.new answer) (D.seen door.new)) }
         ensures err { OnErr result (KeepsState self.old self.new) }
+        ensures unpromised { OnErr result (self.new.agenda ≡ self.old.agenda) }
         ensures undone { OnErr result (IsUndone (D.seen door.old) (D.seen door.new)) }
+        ensures awaiting { AreAwaiting self.new }
         ensures bytes { KeepsBytesBut map self.old self.new }
         ensures memories { self.new.memories ≡ self.old.memories }
         ensures place { self.new.agenda.place ≡ self.old.agenda.place }

@@ -21,6 +21,7 @@ use dma_map::{DmaMap, MapState};
 use std::alloc::{AllocError, Global};
 
 impl Holdings<'_> {
+    ghost use Rattle.bounced_lane.specs.Awaiting.{AreAwaiting};
     ghost use Rattle.bounced_lane.specs.Changes.{KeepsBytes, KeepsState};
     ghost use Rattle.bounced_lane.specs.Ideal.{given, ideal_of};
 
@@ -41,6 +42,9 @@ impl Holdings<'_> {
         ensures err { OnErr result (KeepsState self.old self.new) }
         ensures undone { OnErr result (IsUndone (D.seen door.old) (D.seen door.new)) }
         ensures bytes { KeepsBytes self.old self.new }
+        ensures awaiting { AreAwaiting self.old → AreAwaiting self.new }
+        ensures script { self.new.script ≡ self.old.script }
+        ensures memories { self.new.memories ≡ self.old.memories }
         ensures agenda { self.new.agenda ≡ self.old.agenda }
         ensures fixed { D.fixed door.new ≡ D.fixed door.old }
     {
@@ -77,6 +81,9 @@ impl Holdings<'_> {
             ≡ gives (with_map tag None (ideal_of self.old)) Done) }
         ensures err { OnErr result (KeepsState self.old self.new) }
         ensures bytes { KeepsBytes self.old self.new }
+        ensures awaiting { AreAwaiting self.old → AreAwaiting self.new }
+        ensures script { self.new.script ≡ self.old.script }
+        ensures memories { self.new.memories ≡ self.old.memories }
         ensures agenda { self.new.agenda ≡ self.old.agenda }
     {
         self.maps.reserve(alloc)?;
@@ -103,6 +110,9 @@ impl Holdings<'_> {
         ensures err { OnErr result (KeepsState self.old self.new) }
         ensures undone { OnErr result (IsUndone (D.seen door.old) (D.seen door.new)) }
         ensures bytes { KeepsBytes self.old self.new }
+        ensures awaiting { AreAwaiting self.old → AreAwaiting self.new }
+        ensures script { self.new.script ≡ self.old.script }
+        ensures memories { self.new.memories ≡ self.old.memories }
         ensures agenda { self.new.agenda ≡ self.old.agenda }
         ensures fixed { D.fixed door.new ≡ D.fixed door.old }
     {
@@ -126,6 +136,9 @@ impl Holdings<'_> {
             then with_tag tag t.tag true (with_map tag (Some grown.zone.0) (ideal_of self.old))
             else ideal_of self.old) }
         ensures bytes { KeepsBytes self.old self.new }
+        ensures awaiting { AreAwaiting self.old → AreAwaiting self.new }
+        ensures script { self.new.script ≡ self.old.script }
+        ensures memories { self.new.memories ≡ self.old.memories }
         ensures agenda { self.new.agenda ≡ self.old.agenda }
     {
         if grown.made {
@@ -143,6 +156,9 @@ impl Holdings<'_> {
         ensures tags { self.new.tags ≡ self.old.tags }
         ensures agenda { self.new.agenda ≡ self.old.agenda }
         ensures bytes { KeepsBytes self.old self.new }
+        ensures awaiting { AreAwaiting self.old → AreAwaiting self.new }
+        ensures script { self.new.script ≡ self.old.script }
+        ensures memories { self.new.memories ≡ self.old.memories }
     {
         let place = self.agenda.place();
         let map = DmaMap::new(self.map_id(place), zone);
@@ -155,6 +171,9 @@ impl Holdings<'_> {
             ideal_of self.new ≡ with_tag tag t.tag true (ideal_of self.old) }
         ensures agenda { self.new.agenda ≡ self.old.agenda }
         ensures bytes { KeepsBytes self.old self.new }
+        ensures awaiting { AreAwaiting self.old → AreAwaiting self.new }
+        ensures script { self.new.script ≡ self.old.script }
+        ensures memories { self.new.memories ≡ self.old.memories }
     {
         if let Some(kept) = self.tags.take(tag) {
             let KeptTag {
@@ -178,6 +197,9 @@ impl Holdings<'_> {
             (given self.new result.answer) (D.seen door.new) }
         ensures held { result.held ≡ asks (maps.map_destroy map (ideal_of self.old)) }
         ensures bytes { KeepsBytes self.old self.new }
+        ensures awaiting { AreAwaiting self.old → AreAwaiting self.new }
+        ensures script { self.new.script ≡ self.old.script }
+        ensures memories { self.new.memories ≡ self.old.memories }
         ensures agenda { self.new.agenda ≡ self.old.agenda }
         ensures fixed { D.fixed door.new ≡ D.fixed door.old }
     {
@@ -213,6 +235,9 @@ impl Holdings<'_> {
         requires { is_idle_map (get self.old.maps.map map) ≡ true }
         ensures done { ideal_of self.new ≡ without_map map (ideal_of self.old) }
         ensures bytes { KeepsBytes self.old self.new }
+        ensures awaiting { AreAwaiting self.old → AreAwaiting self.new }
+        ensures script { self.new.script ≡ self.old.script }
+        ensures memories { self.new.memories ≡ self.old.memories }
         ensures agenda { self.new.agenda ≡ self.old.agenda }
     {
         self.maps.take(map);

@@ -2,8 +2,10 @@
 
 ghost use Rattle.std.specs.Prelude.{◌≡◌, ℕ, ◌+◌, ◌*◌, ◌%◌, ◌^◌, ◌≤◌, IfOk, OnOk, Some, None, true, if◌then◌else◌};
 ghost use Rattle.std.specs.FinMap.{empty, get};
-ghost use Rattle.std.specs.List.{AllByRecursion};
+ghost use Rattle.std.specs.List.{AllByRecursion, sum_by};
 ghost use Rattle.busdma_base.specs.Machine.PageRuns.{pages_end, is_own};
+ghost use Rattle.busdma_base.specs.Scenarios.Limits.{loaded_limit};
+ghost use Rattle.busdma_base.specs.Scenarios.Operations.{loaded_by};
 ghost use Rattle.busdma_base.specs.Scenarios.Script.{IsScript};
 ghost use Rattle.ideal_lane.specs.Opening.{opening_lane};
 ghost use Rattle.ideal_wire.specs.Machine.{IsOfMachine};
@@ -33,6 +35,7 @@ impl<'s> Lane<'s> {
         requires memory { IsOpeningMemory driver.now.pages memory.memory }
         requires numbered { maxmem ≤ 2 ^ 30 }
         requires inside { AllByRecursion (IsOfMachine maxmem) driver.now.pages }
+        requires small { sum_by loaded_by driver.now.script ≤ loaded_limit }
         ensures { IfOk result (λ lane. ideal lane ≡ opening_lane id.0 maxmem driver.now) }
     {
         let script = driver.script.as_slice();
@@ -59,6 +62,7 @@ impl<'s> Lane<'s> {
 fn opening_loans(alloc: Global, pages: &[PageRun]) -> Result<LoanTable, AllocError>
     requires { ArePages pages.now }
     ensures loans { IfOk result (λ t. t.loans ≡ empty) }
+    ensures prepared { IfOk result (λ t. t.prepared ≡ empty) }
     ensures bytes { IfOk result (λ t. (a : ℕ) → get t.bytes a ≡ (if is_own pages.now a then Some true else None)) }
 {
     let mut loans = LoanTable::new(alloc);

@@ -24,7 +24,8 @@ pub(crate) struct Released {
 }
 
 impl Holdings<'_> {
-    ghost use Rattle.bounced_lane.specs.Changes.{KeepsBytes, KeepsState};
+    ghost use Rattle.bounced_lane.specs.Awaiting.{AreAwaiting};
+    ghost use Rattle.bounced_lane.specs.Changes.{KeepsBytes};
     ghost use Rattle.bounced_lane.specs.Ideal.{given, ideal_of};
 
     /// Gives the first page of the return queue back to its zone, or answers None where there is none.
@@ -35,13 +36,17 @@ impl Holdings<'_> {
             (stepped side.Script (did.Release r.map r.page) (given self.new (answer.Served r.served)))
             (D.seen door.new)) }
         ensures bytes { KeepsBytes self.old self.new }
+        ensures awaiting { AreAwaiting self.old → AreAwaiting self.new }
+        ensures script { self.new.script ≡ self.old.script }
+        ensures memories { self.new.memories ≡ self.old.memories }
+        ensures promised { self.new.agenda.promised ≤ self.old.agenda.promised }
         ensures queue { self.new.agenda.queue ≡ self.old.agenda.queue }
         ensures place { self.new.agenda.place ≡ self.old.agenda.place }
         ensures length { self.new.agenda.length ≡ self.old.agenda.length }
         ensures room { self.new.agenda.room ≡ self.old.agenda.room }
         ensures some { IfSome result (λ r. 1 ≤ length self.old.agenda.returns) }
         ensures empty { IfNone result (self.old.agenda.returns ≡ []) }
-        ensures same { IfNone result (KeepsState self.old self.new) }
+        ensures same { IfNone result (self.new ≡ self.old) }
         ensures unseen { IfNone result (D.seen door.new ≡ D.seen door.old) }
         ensures fixed { D.fixed door.new ≡ D.fixed door.old }
     {

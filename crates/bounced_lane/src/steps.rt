@@ -14,6 +14,7 @@ use dma_tag::SyncOps;
 use std::alloc::{AllocError, Global};
 
 impl Holdings<'_> {
+    ghost use Rattle.bounced_lane.specs.Awaiting.{AreAwaiting};
     ghost use Rattle.bounced_lane.specs.Changes.{KeepsButAgenda, KeepsState};
     ghost use Rattle.bounced_lane.specs.Ideal.{given, ideal_of};
 
@@ -24,6 +25,9 @@ impl Holdings<'_> {
             Gives (given self.new answer) ≡ turns.transfer item.now (ideal_of self.old)) }
         ensures wire { OnOk result (wire_of self.new
             ≡ wires.transfer item.now (ideal_of self.old) (wire_of self.old)) }
+        ensures awaiting { AreAwaiting self.old → AreAwaiting self.new }
+        ensures script { self.new.script ≡ self.old.script }
+        ensures memories { self.new.memories ≡ self.old.memories }
         ensures agenda { self.new.agenda ≡ self.old.agenda }
         ensures err { OnErr result (KeepsState self.old self.new) }
     {
@@ -76,6 +80,7 @@ impl Holdings<'_> {
     pub(crate) fn advance(&mut self)
         requires { self.old.agenda.place < self.old.agenda.length }
         ensures agenda { self.new.agenda ≡ record self.old.agenda { place = self.old.agenda.place + 1 } }
+        ensures awaiting { AreAwaiting self.old → AreAwaiting self.new }
         ensures rest { KeepsButAgenda self.old self.new }
     {
         self.agenda.advance();
@@ -88,6 +93,7 @@ impl Holdings<'_> {
             ≡ self.old.agenda.room + length self.old.agenda.queue }
         ensures agenda { self.new.agenda
             ≡ record self.old.agenda { queue = self.new.agenda.queue; room = self.new.agenda.room } }
+        ensures awaiting { AreAwaiting self.old → AreAwaiting self.new }
         ensures rest { KeepsButAgenda self.old self.new }
     {
         self.agenda.pop();

@@ -29,7 +29,6 @@ ghost use Rattle.bounced_lane.specs.Shares.{place_in};
 use crate::accesses::reserve_extents;
 use crate::holdings::{Holdings, report};
 use crate::kept::KeptShare;
-use crate::page_lists::refilled;
 use bitflags::Flags;
 use busdma_base::{Answer, Chunk, Judged, MapId, PageList, ReportName, ZoneId};
 use dma_map::{DmaMap, Transfers};
@@ -40,6 +39,7 @@ use phys_memory::LanePages;
 use std::alloc::{AllocError, Global};
 
 impl Holdings<'_> {
+    ghost use Rattle.bounced_lane.specs.Awaiting.{AreAwaiting};
     ghost use Rattle.bounced_lane.specs.Changes.{KeepsState};
     ghost use Rattle.bounced_lane.specs.Ideal.{given, ideal_of};
     ghost use Rattle.bounced_lane.specs.Wire.{IsWired, wire_of};
@@ -56,6 +56,9 @@ impl Holdings<'_> {
             Gives (given self.new answer) ≡ syncs.sync map ops.0 (ideal_of self.old)) }
         ensures wire { IfOk result (λ answer.
             wire_of self.new ≡ wires.sync map ops.0 (ideal_of self.old) (wire_of self.old)) }
+        ensures awaiting { AreAwaiting self.old → AreAwaiting self.new }
+        ensures script { self.new.script ≡ self.old.script }
+        ensures memories { self.new.memories ≡ self.old.memories }
         ensures agenda { self.new.agenda ≡ self.old.agenda }
         ensures err { OnErr result (KeepsState self.old self.new) }
     {
@@ -80,6 +83,9 @@ impl Holdings<'_> {
             Gives (given self.new answer) ≡ syncs.sync_range map off len ops.0 (ideal_of self.old)) }
         ensures wire { IfOk result (λ answer.
             wire_of self.new ≡ wires.sync_range map off len ops.0 (ideal_of self.old) (wire_of self.old)) }
+        ensures awaiting { AreAwaiting self.old → AreAwaiting self.new }
+        ensures script { self.new.script ≡ self.old.script }
+        ensures memories { self.new.memories ≡ self.old.memories }
         ensures agenda { self.new.agenda ≡ self.old.agenda }
         ensures err { OnErr result (KeepsState self.old self.new) }
     {
@@ -110,6 +116,9 @@ impl Holdings<'_> {
         ensures wire { IfOk result (λ answer. (o : LaneMap) → get (ideal_of self.old).maps map ≡ Some o →
             wire_of self.new ≡ if_done (syncs.sync_part map o off len ops.0 (ideal_of self.old))
             (wires.synced map off len ops.0 (ideal_of self.old) (wire_of self.old)) (wire_of self.old)) }
+        ensures awaiting { AreAwaiting self.old → AreAwaiting self.new }
+        ensures script { self.new.script ≡ self.old.script }
+        ensures memories { self.new.memories ≡ self.old.memories }
         ensures agenda { self.new.agenda ≡ self.old.agenda }
         ensures err { OnErr result (KeepsState self.old self.new) }
     {
@@ -117,7 +126,6 @@ impl Holdings<'_> {
             return Ok(report(ReportName::MixedSync, 0));
         }
         let id = self.map_id(map);
-        let spare = PageList::with_room(alloc, self.page_count(map))?;
         reserve_extents(&mut self.loans, alloc, id, off, len)?;
         self.shares.reserve(1)?;
         if let Judged::Refused(refusal) = sync_loans(&mut self.loans, id, off, len, ops) {
@@ -133,7 +141,6 @@ impl Holdings<'_> {
             off,
             len,
             ops,
-            spare,
         );
         self.maps.put(map, kept);
         Ok(Answer::Done)
@@ -166,12 +173,9 @@ fn copy_part(
     off: u64,
     len: u64,
     ops: SyncOps,
-    spare: PageList,
 )
     requires bounced { IsBounced memory.old.memory map.old.stage }
     requires range { off + len < 2 ^ 64 }
-    requires empty { spare.items ≡ [] }
-    requires pages { length (device_in map.old.stage).pages ≤ spare.room }
     requires room { vec_len shares.old < vec_capacity shares.old }
     ensures view { device_view (device_in map.new.stage) memory.new.memory
         ≡ copied_by ops.0 (range_of_chunks off len (chunks_of map.old.stage))
@@ -184,7 +188,7 @@ fn copy_part(
         ≡ counted copied (option_map (λ z. z.0) map.old.zone) (share_of shares.old.items) }
 {
     if copies(map.chunks(), off, len, ops) {
-        copy_load(map, memory, off, len, ops, spare);
+        copy_load(map, memory, off, len, ops);
         count_copy(shares, map.zone());
     }
 }
@@ -221,19 +225,16 @@ fn has_byte(chunk: &Chunk, off: u64, end: u64) -> bool
     off.max(chunk.at) < end.min(behind)
 }
 
-/// Copies a range of a map's load into its bounce pages or back from them. The pages then stand in the spare list.
+/// Copies a range of a map's load into its bounce pages or back from them.
 fn copy_load(
     map: &mut DmaMap<Transfers>,
     memory: &mut LanePages,
     off: u64,
     len: u64,
     ops: SyncOps,
-    spare: PageList,
 )
     requires bounced { IsBounced memory.old.memory map.old.stage }
     requires range { off + len < 2 ^ 64 }
-    requires empty { spare.items ≡ [] }
-    requires room { length (device_in map.old.stage).pages ≤ spare.room }
     ensures view { device_view (device_in map.new.stage) memory.new.memory
         ≡ copied_by ops.0 (range_of_chunks off len (chunks_of map.old.stage))
         (device_view (device_in map.old.stage) memory.old.memory) }
@@ -246,7 +247,7 @@ fn copy_load(
     } else if ops.contains(SyncOps::POSTREAD) {
         copy_out(map.chunks(), off, len, memory, pages.as_slice());
     }
-    map.restore_pages(refilled(spare, pages));
+    map.restore_pages(PageList::from_vec(pages));
 }
 
 /// Counts a sync that copied in the share of its map's zone, up to the greatest number.

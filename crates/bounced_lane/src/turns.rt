@@ -1,4 +1,4 @@
-//! The turns of a driver's sides, as far as they are made.
+//! The turns of a driver's sides.
 
 ghost use Rattle.std.specs.Prelude.{◌≡◌, ◌+◌, ◌≤◌, [], false, length, IfNone, IfOk, IfSome, OnErr, OnOk};
 ghost use Rattle.busdma_base.specs.declared.journals.journal.Side.{Side};
@@ -9,12 +9,13 @@ ghost use Rattle.ideal_lane.specs.Turns.{lane_step};
 ghost use Rattle.ideal_wire.specs.WireStep as wires;
 ghost use Rattle.bounced_lane.specs.declared.holdings.Holdings.{Holdings};
 ghost use Rattle.bounced_lane.specs.declared.turn.Turn.{Turn};
+ghost use Rattle.bounced_lane.specs.Awaiting.{AreAwaiting};
 ghost use Rattle.bounced_lane.specs.Changes.{KeepsState};
 ghost use Rattle.bounced_lane.specs.Doing.{IsAllowedBy, IsUndone};
 ghost use Rattle.bounced_lane.specs.Turning.{IsMade, IsReady, is_held, turned};
 ghost use Rattle.bounced_lane.specs.Wire.{IsWired, wire_of};
 
-use crate::holdings::Holdings;
+use crate::holdings::{Answered, Holdings};
 use crate::returns::Released;
 use crate::turn::{Turn, stepped};
 use busdma_base::{Answer, Did, HubDoor, Side};
@@ -30,19 +31,99 @@ pub(crate) fn turns_leave_ready()
 
 impl Holdings<'_> {
     ghost use Rattle.bounced_lane.specs.Ideal.{ideal_of};
+    ghost use Rattle.bounced_lane.specs.Provided.{IsProvided};
 
     /// The first page of the return queue goes back to its zone, if there is one.
     pub(crate) fn return_turn<D: HubDoor>(&mut self, door: &mut D) -> Option<Turn>
         requires { IsAllowedBy (D.seen door.old) self.old.id.0 (lane_step (ideal_of self.old) side.Script) }
         ensures made { IfSome result (IsMade self.old self.new (D.seen door.old) (D.seen door.new) side.Script) }
+        ensures awaiting { AreAwaiting self.old → AreAwaiting self.new }
+        ensures script { self.new.script ≡ self.old.script }
+        ensures memories { self.new.memories ≡ self.old.memories }
+        ensures place { self.new.agenda.place ≡ self.old.agenda.place }
+        ensures promised { self.new.agenda.promised ≤ self.old.agenda.promised }
         ensures empty { IfNone result (self.old.agenda.returns ≡ []) }
-        ensures same { IfNone result (KeepsState self.old self.new) }
+        ensures same { IfNone result (self.new ≡ self.old) }
         ensures unseen { IfNone result (D.seen door.new ≡ D.seen door.old) }
         ensures fixed { D.fixed door.new ≡ D.fixed door.old }
     {
         let Released { map, page, served } = self.release(door)?;
         let did = Did::Release { map, page };
         Some(stepped(self.id, Side::Script, did, Answer::Served(served), true))
+    }
+
+    /// The next operation of the script, where no page goes back.
+    fn operation_turn<D: HubDoor>(
+        &mut self,
+        alloc: Global,
+        door: &mut D,
+    ) -> Result<Turn, AllocError>
+        requires ready { IsReady self.old (D.seen door.old) }
+        requires provided { IsProvided self.old }
+        requires length { self.old.agenda.length ≡ length self.old.script.now }
+        requires empty { self.old.agenda.returns ≡ [] }
+        ensures made { IfOk result (IsMade self.old self.new (D.seen door.old) (D.seen door.new) side.Script) }
+        ensures err { OnErr result (KeepsState self.old self.new) }
+        ensures undone { OnErr result (IsUndone (D.seen door.old) (D.seen door.new)) }
+        ensures room { OnErr result (self.old.agenda.room ≤ self.new.agenda.room) }
+        ensures places { self.new.agenda.length ≡ self.old.agenda.length }
+        ensures provided { IsProvided self.new }
+        ensures fixed { D.fixed door.new ≡ D.fixed door.old }
+    {
+        let place = self.agenda.place();
+        let Some(op) = self.script.get(place as usize) else {
+            return Ok(Turn::Ended);
+        };
+        if self.waits(op) {
+            return Ok(Turn::Blocked);
+        }
+        let Answered { answer, held } = self.operation(alloc, door, op)?;
+        self.advance();
+        Ok(stepped(self.id, Side::Script, Did::Op(place), answer, held))
+    }
+
+    /// The script: a page goes back, or else the next operation is done.
+    fn script_turn<D: HubDoor>(&mut self, alloc: Global, door: &mut D) -> Result<Turn, AllocError>
+        requires ready { IsReady self.old (D.seen door.old) }
+        requires provided { IsProvided self.old }
+        requires length { self.old.agenda.length ≡ length self.old.script.now }
+        ensures made { IfOk result (IsMade self.old self.new (D.seen door.old) (D.seen door.new) side.Script) }
+        ensures err { OnErr result (KeepsState self.old self.new) }
+        ensures undone { OnErr result (IsUndone (D.seen door.old) (D.seen door.new)) }
+        ensures room { OnErr result (self.old.agenda.room ≤ self.new.agenda.room) }
+        ensures places { self.new.agenda.length ≡ self.old.agenda.length }
+        ensures provided { IsProvided self.new }
+        ensures fixed { D.fixed door.new ≡ D.fixed door.old }
+    {
+        match self.return_turn(door) {
+            Some(turn) => Ok(turn),
+            None => self.operation_turn(alloc, door),
+        }
+    }
+
+    /// A turn of a side.
+    pub(crate) fn turn<D: HubDoor>(
+        &mut self,
+        alloc: Global,
+        door: &mut D,
+        side: Side,
+    ) -> Result<Turn, AllocError>
+        requires ready { IsReady self.old (D.seen door.old) }
+        requires provided { IsProvided self.old }
+        requires length { self.old.agenda.length ≡ length self.old.script.now }
+        ensures made { IfOk result (IsMade self.old self.new (D.seen door.old) (D.seen door.new) side) }
+        ensures err { OnErr result (KeepsState self.old self.new) }
+        ensures undone { OnErr result (IsUndone (D.seen door.old) (D.seen door.new)) }
+        ensures ready { IsReady self.new (D.seen door.new) }
+        ensures provided { IsProvided self.new }
+        ensures length { self.new.agenda.length ≡ length self.new.script.now }
+        ensures fixed { D.fixed door.new ≡ D.fixed door.old }
+    {
+        match side {
+            Side::Script => self.script_turn(alloc, door),
+            Side::Transfer => self.transfer_turn(alloc),
+            Side::Callback => Ok(self.call_back(door)),
+        }
     }
 
     /// The first item of the transfer queue, if there is one.
@@ -53,6 +134,11 @@ impl Holdings<'_> {
         ensures unheld { IfOk result (λ turn. is_held turn ≡ false) }
         ensures wire { OnOk result (wire_of self.new
             ≡ wires.lane_step (ideal_of self.old) side.Transfer (wire_of self.old)) }
+        ensures awaiting { AreAwaiting self.old → AreAwaiting self.new }
+        ensures script { self.new.script ≡ self.old.script }
+        ensures memories { self.new.memories ≡ self.old.memories }
+        ensures place { self.new.agenda.place ≡ self.old.agenda.place }
+        ensures promised { self.new.agenda.promised ≤ self.old.agenda.promised }
         ensures places { self.new.agenda.length ≡ self.old.agenda.length }
         ensures capacity { self.new.agenda.room + length self.new.agenda.queue
             ≡ self.old.agenda.room + length self.old.agenda.queue }

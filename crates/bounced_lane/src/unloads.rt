@@ -14,7 +14,7 @@ use busdma_base::{Answer, ReportName, ZoneId};
 use dma_map::MapState;
 
 impl Holdings<'_> {
-    ghost use Rattle.bounced_lane.specs.Awaiting.{KeepsWaiting};
+    ghost use Rattle.bounced_lane.specs.Awaiting.{AreAwaiting, KeepsReach, KeepsWaiting};
     ghost use Rattle.bounced_lane.specs.Changes.{KeepsBytesBut, KeepsBytesHeld};
     ghost use Rattle.bounced_lane.specs.Ideal.{given, ideal_of};
 
@@ -22,6 +22,10 @@ impl Holdings<'_> {
     pub(crate) fn unload(&mut self, map: u32) -> Answer
         ensures done { Gives (given self.new result) ≡ unloads.unload map (ideal_of self.old) }
         ensures bytes { KeepsBytesHeld self.old self.new }
+        ensures awaiting { AreAwaiting self.old → AreAwaiting self.new }
+        ensures script { self.new.script ≡ self.old.script }
+        ensures memories { self.new.memories ≡ self.old.memories }
+        ensures promised { self.new.agenda.promised ≤ self.old.agenda.promised }
         ensures queue { self.new.agenda.queue ≡ self.old.agenda.queue }
         ensures place { self.new.agenda.place ≡ self.old.agenda.place }
         ensures length { self.new.agenda.length ≡ self.old.agenda.length }
@@ -44,6 +48,7 @@ impl Holdings<'_> {
             ideal_of self.new ≡ unpaged map o (pages_of o.stage) (unlent map (ideal_of self.old)) }
         ensures bytes { KeepsBytesHeld self.old self.new }
         ensures waiting { KeepsWaiting self.old self.new }
+        ensures reach { KeepsReach self.old self.new }
         ensures memories { self.new.memories ≡ self.old.memories }
         ensures promised { self.new.agenda.promised ≤ self.old.agenda.promised }
         ensures queue { self.new.agenda.queue ≡ self.old.agenda.queue }

@@ -1,6 +1,7 @@
 //! Loads that need bounce pages, from their wish for pages on.
 
-ghost use Rattle.std.specs.Prelude.{◌≡◌, ◌+◌, ◌-◌, ◌<◌, ◌≤◌, ◌^◌, true, length, Some, None, OnErr, OnOk};
+ghost use Rattle.std.specs.Prelude.{◌≡◌, ℕ, ◌+◌, ◌-◌, ◌<◌, ◌≤◌, ◌^◌, ◌==◌, true, false, length, Some, None};
+ghost use Rattle.std.specs.Prelude.{OnErr, OnOk};
 ghost use Rattle.std.specs.FinMap.{get, insert, remove};
 ghost use Rattle.busdma_base.specs.declared.journals.report.Judged.TheVariants.{Fine};
 ghost use Rattle.busdma_base.specs.Bounce.Door.{grab_reply};
@@ -11,6 +12,7 @@ ghost use Rattle.ideal_lane.specs.Loads.{Asked, granted, is_coherent, limits_of,
 ghost use Rattle.ideal_lane.specs.Places.{reached};
 ghost use Rattle.ideal_lane.specs.Standing.{Stands};
 ghost use Rattle.ideal_lane.specs.State.{LaneMap, Waiting};
+ghost use Rattle.bounced_lane.specs.Awaiting.{kept_load};
 ghost use Rattle.bounced_lane.specs.Covered.{is_idle_map, pages_due};
 ghost use Rattle.bounced_lane.specs.Loading.{HasNeed, HasRoomForAny, buffer_chunks, buffer_entries};
 
@@ -22,6 +24,7 @@ use dma_map::{LoadRoom, Transfers};
 use std::alloc::{AllocError, Global};
 
 impl Holdings<'_> {
+    ghost use Rattle.bounced_lane.specs.Awaiting.{AreAwaiting, AreAwaitingBut, IsNextLoad};
     ghost use Rattle.bounced_lane.specs.Changes.{KeepsBytes, KeepsBytesBut, KeepsState};
     ghost use Rattle.bounced_lane.specs.Ideal.{given, ideal_of};
 
@@ -89,6 +92,10 @@ impl Holdings<'_> {
         ensures bytes { KeepsBytes self.old self.new }
         ensures agenda { self.new.agenda ≡ self.old.agenda }
         ensures memories { self.new.memories ≡ self.old.memories }
+        ensures waits { kept_load (get self.new.maps.map map) ≡ Some (load_at, record { items = items }, room) }
+        ensures others { (m : ℕ) → (m == map) ≡ false →
+            kept_load (get self.new.maps.map m) ≡ kept_load (get self.old.maps.map m) }
+        ensures prepared { self.new.loans.prepared ≡ self.old.loans.prepared }
     {
         if let Some(kept) = self.maps.take(map) {
             let KeptMap {
@@ -120,6 +127,9 @@ impl Holdings<'_> {
     ) -> Answer
         requires stands { Stands (ideal_of self.old) }
         requires idle { is_idle_map (get self.old.maps.map map) ≡ true }
+        requires own { get self.old.memories.map map ≡ None }
+        requires awaiting { AreAwaitingBut map self.old }
+        requires next { IsNextLoad self.old map buffer.va buffer.len items }
         requires reached { reached (ideal_of self.old) buffer.va.0 buffer.len ≡ Fine }
         requires small { buffer.len ≤ 2 ^ 20 }
         requires room { (o : LaneMap) → get (ideal_of self.old).maps map ≡ Some o →
@@ -135,6 +145,7 @@ impl Holdings<'_> {
             x.entries ≡ buffer_entries (ideal_of self.old) buffer.va.0 buffer.len → x.items ≡ items →
             given self.new result ≡ granted map o x
             (buffer_chunks (ideal_of self.old) o buffer.va.0 buffer.len) (ideal_of self.old) (grab_reply got) }
+        ensures awaiting { AreAwaiting self.new }
         ensures bytes { KeepsBytesBut map self.old self.new }
         ensures memories { self.new.memories ≡ self.old.memories }
         ensures place { self.new.agenda.place ≡ self.old.agenda.place }

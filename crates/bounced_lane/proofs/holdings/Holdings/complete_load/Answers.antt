@@ -1,8 +1,9 @@
-use Rattle.std.proofs.Common.{◌≡◌, ◌≤◌, ◌<◌, ◌++◌, List, length, map, Some, true, unwrap_or, refl, sym, ap}
+use Rattle.std.proofs.Common.{◌≡◌, ◌≤◌, ◌<◌, ◌++◌, List, length, map, Some, true, false, unwrap_or, refl, sym, ap}
 use Rattle.std.proofs.Common.{◌∙◌, subst, cond, arith, length-append}
 use Rattle.std.specs.FinMap.{get, insert}
 use Rattle.busdma_base.specs.declared.journals.answer.Answer.TheVariants.{Refused, Segments}
 use Rattle.busdma_base.specs.declared.journals.report.Errno.TheVariants.{EFBIG}
+use Rattle.busdma_base.specs.declared.journals.report.Judged.TheVariants.{Fine}
 use Rattle.busdma_base.specs.declared.machine.address.Pa.{Pa}
 use Rattle.busdma_base.specs.declared.machine.address.Segment.{Segment}
 use Rattle.busdma_base.specs.Bounce.AccountStep.{as_pages}
@@ -18,12 +19,14 @@ use Rattle.loan_table.specs.Loans.{loan_of, new_loan, no_loan}
 use Rattle.segment_build.specs.Building.{placed_pieces, tag_placed}
 use Rattle.segment_build.specs.Chunks.{bounced_of}
 use Rattle.segment_build.specs.Segmentation.{segmentation}
-use Rattle.ideal_lane.specs.Loads.{is_coherent, limits_of, loaded, staged, unpaged}
+use Rattle.ideal_lane.specs.Loads.{Asked, is_coherent, limits_of, loaded, staged, unpaged}
+use Rattle.ideal_lane.specs.Outcomes.{Outcome}
 use Rattle.ideal_lane.specs.State.{LaneState, Loaded}
 use Rattle.ideal_lane.specs.Unloads.{unlent}
 use Rattle.bounced_lane.specs.Ideal.{ideal_of}
 use Rattle.bounced_lane.specs.Kept.{map_of, return_of}
 use Rattle.bounced_lane.specs.Loading.{buffer_chunks, buffer_entries}
+use Rattle.bounced_lane.proofs.AwaitingLoads.{awaiting-finished}
 use Rattle.bounced_lane.proofs.Chunked.{copy-fits}
 use Rattle.bounced_lane.proofs.Keeping.{idle-there}
 use Rattle.bounced_lane.proofs.Loaded.{none-loaned}
@@ -155,3 +158,45 @@ returns-clause-capacity c =
       length-append s.agenda.queue items,
       queued-from c.args.load_at 0 c.args.items,
     )
+
+pub returns-then-not-few-clause-awaiting : goal.returns-then-not-few-clause-awaiting
+returns-then-not-few-clause-awaiting c =
+    let h = c.args.self.now in
+    let l = ideal_of h in
+    let m = c.args.map in
+    let idle = idle-there (get h.maps.map m) c.requires.idle in
+    let o = map_of idle.0 in
+    let is = image-some map_of h.maps.map m idle.0 idle.1 in
+    let chunks = buffer_chunks l o c.args.buffer.va.0 c.args.buffer.len in
+    let x : Asked = record {
+      judged = Fine;
+      entries = buffer_entries l c.args.buffer.va.0 c.args.buffer.len;
+      len = c.args.buffer.len;
+      nowait = false;
+      items = c.args.items;
+    } in
+    let then = c.end_load.ensures.waiting in
+    awaiting-finished h _ m o c.args.load_at x chunks (page_addresses c.args.pages.items)
+    (ap (λ (y : Outcome). y.lane) (returns-then-not-few-clause-done c o x is refl refl))
+    (λ q. then.kept q ∙ c.store_load.ensures.kept q) (then.prepared ∙ c.store_load.ensures.prepared) c.requires.idle
+    c.requires.awaiting
+
+pub returns-clause-awaiting : goal.returns-clause-awaiting
+returns-clause-awaiting c =
+    let h = c.args.self.now in
+    let l = ideal_of h in
+    let m = c.args.map in
+    let idle = idle-there (get h.maps.map m) c.requires.idle in
+    let o = map_of idle.0 in
+    let is = image-some map_of h.maps.map m idle.0 idle.1 in
+    let chunks = buffer_chunks l o c.args.buffer.va.0 c.args.buffer.len in
+    let x : Asked = record {
+      judged = Fine;
+      entries = buffer_entries l c.args.buffer.va.0 c.args.buffer.len;
+      len = c.args.buffer.len;
+      nowait = false;
+      items = c.args.items;
+    } in
+    awaiting-finished h _ m o c.args.load_at x chunks (page_addresses c.args.pages.items)
+    (ap (λ (y : Outcome). y.lane) (returns-clause-done c o x is refl refl)) c.store_load.ensures.kept
+    c.store_load.ensures.prepared c.requires.idle c.requires.awaiting

@@ -9,6 +9,8 @@ use Rattle.bounced_lane.proofs.CpuWrites.{cpu_write-done, cpu_write-refused, cpu
 use Rattle.bounced_lane.proofs.CpuWrites.{wire-idle}
 use Rattle.bounced_lane.proofs.Marks.{has_set_all}
 use Rattle.bounced_lane.proofs.Reaching.{same-physical}
+use Rattle.std.proofs.Common.{refl}
+use Rattle.bounced_lane.proofs.AwaitingSteps.{awaits-same}
 use Rattle.bounced_lane.proofs.holdings.Holdings.cpu_write.Goals as goal
 
 pub returns-in-Unmapped-clause-done : goal.returns-in-Unmapped-clause-done
@@ -78,3 +80,12 @@ returns-clause-wire c =
     (rw c.in-Parts.is at c.in_ok-at.ensures.verdict) (rw c.in-Parts.is at c.in_ok-at.ensures.addresses)
     (rw c.as_slice.ensures at (sym c.in_default.is ∙ c.may_cpu_write.ensures))
     c.write_parts.new.memory.memory (rw c.as_slice-2.ensures at c.write_parts.ensures.wire)
+
+pub returns-clause-awaiting : goal.returns-clause-awaiting
+returns-clause-awaiting c =
+    awaits-same c.args.self.now _ refl refl refl refl (c.note_write.ensures.prepared ∙ c.reserve.ensures.same.prepared)
+    refl refl
+
+pub returns-in_err-reserve-clause-awaiting : goal.returns-in_err-reserve-clause-awaiting
+returns-in_err-reserve-clause-awaiting c =
+    awaits-same c.args.self.now _ refl refl refl refl c.reserve.ensures.same.prepared refl refl

@@ -9,6 +9,10 @@ use Rattle.bounced_lane.specs.MapValues.{map_values}
 use Rattle.bounced_lane.proofs.Keeping.{on-some}
 use Rattle.bounced_lane.proofs.MapValues.{image-none, image-some, map_values-remove}
 use Rattle.bounced_lane.proofs.TagSteps.{destroy-absent, destroy-busy, destroy-done}
+use Rattle.std.proofs.Common.{refl}
+use Rattle.std.specs.FinMap.{remove}
+use Rattle.ideal_wire.proofs.KeptTags.{untagged}
+use Rattle.bounced_lane.proofs.AwaitingSteps.{awaits-tags}
 use Rattle.bounced_lane.proofs.holdings.Holdings.destroy_tag.Goals as goal
 
 pub returns-in_default-clause-done : goal.returns-in_default-clause-done
@@ -36,3 +40,13 @@ returns-clause-done c =
     ∙ sym (destroy-done l c.args.tag (tag_of c.in-Some.field-0.now)
     (image-some tag_of h.tags.map c.args.tag c.in-Some.field-0.now there)
     (sym c.has_maps.ensures ∙ c.if-has_maps.false))
+
+pub returns-clause-awaiting : goal.returns-clause-awaiting
+returns-clause-awaiting c =
+    let h = c.args.self.now in
+    let l = ideal_of h in
+    let there : get h.tags.map c.args.tag ≡ Some c.in-Some.field-0.now = sym c.in-Some.ensures in
+    let taken = on-some c.take.result c.in-Some.field-0.now (c.take.ensures.value ∙ there) c.take.ensures.taken in
+    awaits-tags h _ refl refl refl refl refl (remove l.tags c.args.tag)
+    (ap (λ t. map_values tag_of t.map) taken ∙ map_values-remove tag_of h.tags.map c.args.tag)
+    (untagged l c.args.tag (sym c.has_maps.ensures ∙ c.if-has_maps.false)) refl

@@ -15,6 +15,7 @@ use Rattle.bounced_lane.proofs.Devices.{is-reached}
 use Rattle.bounced_lane.proofs.MapValues.{image-some}
 use Rattle.bounced_lane.proofs.Places.{get_removed}
 use Rattle.bounced_lane.proofs.PutBack.{are-back, ideal-back, pages-back, put-again, put-same, wire-back}
+use Rattle.bounced_lane.proofs.AwaitingSteps.{awaits-same}
 use Rattle.bounced_lane.proofs.holdings.Holdings.dev_read.Goals as goal
 
 pub returns-in-Some-past_end-clause-done : goal.returns-in-Some-past_end-clause-done
@@ -153,3 +154,25 @@ returns-in_err-bytes-clause-kept c =
       ideal = ideal-back h c.put.new.self.map maps;
       bytes = record { own = refl; pages = pages-back h c.put.new.self.map maps };
     }
+
+pub returns-clause-awaiting : goal.returns-clause-awaiting
+returns-clause-awaiting c =
+    let h = c.args.self.now in
+    let o : KeptMap = c.in-Some-take.kept in
+    let there : get h.maps.map c.args.map ≡ Some o = sym c.take.ensures.value ∙ c.in-Some-take.is in
+    let put =
+    put-again h.maps c.take.new.self c.put.new.self c.args.map (record o { map = c.read_load-bytes.new.map })
+    c.in-Some-take.ensures.taken c.put.ensures in
+    awaits-same h _ refl refl refl refl refl refl
+    (put.0 ∙ put-same h.maps.map c.args.map o c.read_load-bytes.new.map there c.read_load-bytes.ensures.kept)
+
+pub returns-in_err-bytes-clause-awaiting : goal.returns-in_err-bytes-clause-awaiting
+returns-in_err-bytes-clause-awaiting c =
+    let h = c.args.self.now in
+    let o : KeptMap = c.in-Some-take.kept in
+    let there : get h.maps.map c.args.map ≡ Some o = sym c.take.ensures.value ∙ c.in-Some-take.is in
+    let put =
+    put-again h.maps c.take.new.self c.put.new.self c.args.map (record o { map = c.read_load-bytes.new.map })
+    c.in-Some-take.ensures.taken c.put.ensures in
+    awaits-same h _ refl refl refl refl refl refl
+    (put.0 ∙ put-same h.maps.map c.args.map o c.read_load-bytes.new.map there c.read_load-bytes.ensures.kept)

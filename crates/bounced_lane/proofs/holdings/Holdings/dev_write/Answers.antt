@@ -21,6 +21,9 @@ use Rattle.bounced_lane.proofs.Places.{get_removed}
 use Rattle.bounced_lane.proofs.PutBack.{put-again}
 use Rattle.bounced_lane.proofs.Reaching.{same-physical}
 use Rattle.bounced_lane.proofs.Repaging.{are-maps}
+use Rattle.std.proofs.Common.{refl}
+use Rattle.dma_map.specs.MapView.{waiting_load}
+use Rattle.bounced_lane.proofs.AwaitingSteps.{awaits-put, awaits-same, loaded-unkept}
 use Rattle.bounced_lane.proofs.holdings.Holdings.dev_write.Goals as goal
 
 pub returns-in-Some-past_end-clause-done : goal.returns-in-Some-past_end-clause-done
@@ -30,8 +33,8 @@ returns-in-Some-past_end-clause-done c =
     dev_write-past (ideal_of h) c.args.map (map_of x.0) (image-some map_of h.maps.map c.args.map x.0 x.1) x.2 c.args.off
     c.args.bytes.now c.in-Some-past_end.refusal c.in-Some-past_end.ensures.refused
 
-pub write_load-requires-clause-reached : goal.write_load-requires-clause-reached
-write_load-requires-clause-reached c =
+pub write_load-requires : goal.write_load-requires
+write_load-requires c =
     let h = c.args.self.now in
     let o : KeptMap = c.in-Some-take.kept in
     let there : get h.maps.map c.args.map ≡ Some o = sym c.take.ensures.value ∙ c.in-Some-take.is in
@@ -123,3 +126,20 @@ returns-clause-wire c =
     ap (λ ms. with_bytes_of (held_pages ms) (wire c.write_load.new.memory.memory)) put.0
     ∙ dev_write-wire h c.requires k o there on c.args.off c.args.bytes.now c.in_default-past_end.ensures.range fine
     c.write_load.new.map c.write_load.ensures.map c.write_load.new.memory.memory c.write_load.ensures.view
+
+pub returns-in_err-reserve_extents-clause-awaiting : goal.returns-in_err-reserve_extents-clause-awaiting
+returns-in_err-reserve_extents-clause-awaiting c =
+    awaits-same c.args.self.now _ refl refl refl refl c.reserve_extents.ensures.same.prepared refl refl
+
+pub returns-clause-awaiting : goal.returns-clause-awaiting
+returns-clause-awaiting c =
+    let h = c.args.self.now in
+    let k = c.args.map in
+    let o : KeptMap = c.in-Some-take.kept in
+    let put =
+    put-again h.maps c.take.new.self c.put.new.self k (record o { map = c.write_load.new.map })
+    c.in-Some-take.ensures.taken c.put.ensures in
+    awaits-put h _ refl refl refl refl
+    (c.note_dev_write.ensures.prepared ∙ c.reserve_extents.ensures.same.prepared) refl k
+    (loaded-unkept (get h.maps.map k) c.in_default.ensures.loaded) (record o { map = c.write_load.new.map }) put.0
+    (ap (λ m. waiting_load m.stage) c.write_load.ensures.map.is)

@@ -8,6 +8,7 @@ use Rattle.bounced_lane.proofs.Bytes.{devices-cut, held-alike}
 use Rattle.bounced_lane.proofs.Keeping.{idle-there, on-some}
 use Rattle.bounced_lane.proofs.MapTables.{AreMaps, maps-gone, maps-of}
 use Rattle.bounced_lane.proofs.MapValues.{map_values-remove}
+use Rattle.bounced_lane.proofs.AwaitingSteps.{awaits-cut, idle-unkept}
 use Rattle.bounced_lane.proofs.holdings.Holdings.drop_map.Goals as goal
 
 pub invariant_of-self : goal.invariant_of-self
@@ -60,3 +61,12 @@ returns-clause-bytes c =
       own = refl;
       pages = λ m. ap (λ t. (devices_of t.map m).pages) taken ∙ ap (λ d. d.pages) (devices-cut h.maps.map k none m);
     }
+
+pub returns-clause-awaiting : goal.returns-clause-awaiting
+returns-clause-awaiting c =
+    let h = c.args.self.now in
+    let k = c.args.map in
+    let idle = idle-there (get h.maps.map k) c.requires in
+    let taken = on-some c.take.result idle.0 (c.take.ensures.value ∙ idle.1) c.take.ensures.taken in
+    awaits-cut h _ refl refl refl refl refl refl k (idle-unkept (get h.maps.map k) c.requires)
+    (ap (λ t. t.map) taken)

@@ -1,5 +1,5 @@
 use Rattle.std.proofs.Common.{◌≡◌, ◌-◌, ◌++◌, Some, true, false, length, map, unwrap_or, refl, sym, ap, ◌∙◌}
-use Rattle.std.proofs.Common.{subst}
+use Rattle.std.proofs.Common.{subst, arith}
 use Rattle.std.proofs.lemmas.Bool.{eq-eqb}
 use Rattle.std.specs.FinMap.{get, insert, remove, contains_key}
 use Rattle.busdma_base.specs.declared.name.MapId.{MapId}
@@ -12,21 +12,21 @@ use Rattle.ideal_lane.specs.Loads.{emptied, unpaged}
 use Rattle.ideal_lane.specs.State.{LaneState}
 use Rattle.ideal_lane.specs.Unloads.{pages_of, unlent}
 use Rattle.bounced_lane.specs.declared.kept.KeptMap.{KeptMap}
-use Rattle.bounced_lane.specs.Awaiting.{kept_load}
 use Rattle.bounced_lane.specs.Covered.{AreOwn, has_load, is_tried}
 use Rattle.bounced_lane.specs.Held.{devices_of, held as held_memory}
 use Rattle.bounced_lane.specs.Ideal.{ideal_of}
 use Rattle.bounced_lane.specs.Kept.{map_of, return_of}
 use Rattle.bounced_lane.specs.MapValues.{map_values}
-use Rattle.bounced_lane.proofs.AwaitingLoads.{left-unkept, loaded-unkept}
 use Rattle.bounced_lane.proofs.Bytes.{devices-elsewhere, held-forgotten}
 use Rattle.bounced_lane.proofs.Keeping.{some-there}
-use Rattle.bounced_lane.proofs.MapTables.{AreMaps, maps-of, told-put}
+use Rattle.bounced_lane.proofs.MapTables.{AreMaps, maps-of}
 use Rattle.bounced_lane.proofs.MapValues.{image-some, map_values-insert}
 use Rattle.bounced_lane.proofs.Marks.{has_set_all}
 use Rattle.bounced_lane.proofs.Places.{get_removed, reput}
 use Rattle.bounced_lane.proofs.Unloaded.{left, maps-unloaded, own-more, pages-few, pages-held}
 use Rattle.bounced_lane.proofs.UnloadSteps.{left-is, loaded-tried, pages-are, returns-are, zone-is}
+use Rattle.bounced_lane.specs.Awaiting.{KeepsReach, KeepsWaiting}
+use Rattle.bounced_lane.proofs.AwaitingSteps.{left-unkept, loaded-unkept, put-reach, put-waiting}
 use Rattle.bounced_lane.proofs.holdings.Holdings.end_load.Goals as goal
 
 pub push_returns-requires : goal.push_returns-requires
@@ -208,9 +208,23 @@ returns-in-Some-clause-waiting c =
     let maps : c.put.new.self.map ≡ insert h.maps.map k (left o p.items) =
     ap (λ t. t.map) c.put.ensures ∙ ap (λ t. insert t.map k after) c.in-Some.ensures.taken
     ∙ reput h.maps.map k after ∙ ap (λ v. insert h.maps.map k (record o { map = v })) c.unload-pages.ensures.left in
-    record {
-      kept = λ m. ap (λ ms. kept_load (get ms m)) maps
-          ∙ told-put kept_load h.maps.map k (left o p.items)
-          (left-unkept o p.items ∙ sym (loaded-unkept (get h.maps.map k) c.requires)) m;
-      prepared = c.forget.ensures.prepared;
-    }
+    put-waiting h _ refl refl refl refl c.forget.ensures.prepared refl k
+    (loaded-unkept (get h.maps.map k) c.requires) (left o p.items) maps (left-unkept p.items)
+
+pub returns-in-Some-clause-reach : goal.returns-in-Some-clause-reach
+returns-in-Some-clause-reach c =
+    let h = c.args.self.now in
+    let k = c.args.map in
+    let o : KeptMap = c.in-Some.kept in
+    let p = c.unload-pages.result in
+    let after : KeptMap = record o { map = c.unload-pages.new.self } in
+    let maps : c.put.new.self.map ≡ insert h.maps.map k (left o p.items) =
+    ap (λ t. t.map) c.put.ensures ∙ ap (λ t. insert t.map k after) c.in-Some.ensures.taken
+    ∙ reput h.maps.map k after ∙ ap (λ v. insert h.maps.map k (record o { map = v })) c.unload-pages.ensures.left in
+    put-reach h _ refl refl refl refl c.forget.ensures.prepared refl k
+    (loaded-unkept (get h.maps.map k) c.requires) (left o p.items) maps (left-unkept p.items)
+
+pub returns-in-Some-clause-promised : goal.returns-in-Some-clause-promised
+returns-in-Some-clause-promised c =
+    let less = ap (λ a. a.promised) c.push_returns.ensures in
+    omega (arith, less)

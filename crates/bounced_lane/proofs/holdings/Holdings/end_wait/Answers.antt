@@ -1,11 +1,11 @@
-use Rattle.std.proofs.Common.{◌≡◌, ℕ, length, Some, None, sym, ◌∙◌}
+use Rattle.std.proofs.Common.{◌≡◌, ℕ, length, Some, sym, ◌∙◌}
 use Rattle.std.specs.FinMap.{get}
 use Rattle.busdma_base.specs.Machine.PageList.{page_addresses}
 use Rattle.dma_map.specs.declared.callback.Transfers.{Transfers}
 use Rattle.dma_map.specs.declared.room.LoadRoom.{LoadRoom}
 use Rattle.bounced_lane.specs.Awaiting.{kept_load}
 use Rattle.bounced_lane.proofs.Called.{waits-kept}
-use Rattle.bounced_lane.proofs.EndedWaits.{ends-bytes, ends-done, ends-idle, ends-items, ends-prepared}
+use Rattle.bounced_lane.proofs.EndedWaits.{ends-bytes, ends-done, ends-few, ends-idle, ends-items, ends-others, ends-prepared}
 use Rattle.bounced_lane.proofs.EndedWaits.{ends-promised, ends-reached, ends-room, ends-small, ends-stands}
 use Rattle.bounced_lane.proofs.holdings.Holdings.end_wait.Goals as goal
 
@@ -88,3 +88,27 @@ returns-clause-bytes c =
     let found : kept_load (get c.args.self.now.maps.map c.args.map) ≡ Some load = sym c.in-Some.ensures.load in
     ends-bytes c.args.self.now c.take_load.new.self c.args.map load.0 load.1 load.2 found c.take_load.ensures.maps
     c.take_load.ensures.rest c.complete_load.new.self c.complete_load.ensures.bytes
+
+pub returns-in_default-clause-awaiting : goal.returns-in_default-clause-awaiting
+returns-in_default-clause-awaiting c =
+    absurd (waits-kept c.args.self.now c.args.map c.requires.waits (sym c.take_load.ensures.load ∙ c.in_default.is))
+
+pub complete_load-requires-clause-awaiting : goal.complete_load-requires-clause-awaiting
+complete_load-requires-clause-awaiting c =
+    let load : ℕ × Transfers × LoadRoom = c.in-Some.load in
+    let found : kept_load (get c.args.self.now.maps.map c.args.map) ≡ Some load = sym c.in-Some.ensures.load in
+    ends-others c.args.self.now c.take_load.new.self c.args.map load.0 load.1 load.2 found c.take_load.ensures.maps
+    c.take_load.ensures.rest c.requires.awaiting
+
+pub returns-in_default-clause-small : goal.returns-in_default-clause-small
+returns-in_default-clause-small c =
+    absurd (waits-kept c.args.self.now c.args.map c.requires.waits (sym c.take_load.ensures.load ∙ c.in_default.is))
+
+pub returns-clause-small : goal.returns-clause-small
+returns-clause-small c =
+    let load : ℕ × Transfers × LoadRoom = c.in-Some.load in
+    let found : kept_load (get c.args.self.now.maps.map c.args.map) ≡ Some load = sym c.in-Some.ensures.load in
+    ends-few c.args.self.now c.take_load.new.self c.args.map load.0 load.1 load.2 found c.take_load.ensures.maps
+    c.take_load.ensures.rest c.requires.awaiting c.buffer_at-buffer.result c.buffer_at-buffer.ensures
+    c.complete_load.new.self c.complete_load.result (page_addresses c.args.pages.items) c.complete_load.ensures.done
+    c.requires.small c.complete_load.ensures.place c.complete_load.ensures.promised

@@ -2,7 +2,7 @@ use Rattle.std.proofs.Common.{ap, sym, ◌∙◌, ◌||◌}
 use Rattle.lane_tables.specs.Queues.{queue_names}
 use Rattle.bounced_lane.specs.Ideal.{ideal_of}
 use Rattle.bounced_lane.specs.Kept.{map_of}
-use Rattle.bounced_lane.proofs.Awaiting.{awaits-none, awaits-some, state-goes, state-waits}
+use Rattle.bounced_lane.proofs.AwaitedMaps.{awaits-none, awaits-some, state-goes, state-waits}
 use Rattle.bounced_lane.proofs.MapValues.{image-none, image-some}
 use Rattle.bounced_lane.proofs.holdings.Holdings.is_awaited.Goals as goal
 

@@ -1,13 +1,16 @@
-use Rattle.std.proofs.Common.{◌≡◌, ◌≤◌, cond, List, length, Some, is_some, refl, sym, ap, ◌∙◌, subst, arith}
+use Rattle.std.proofs.Common.{◌≡◌, ◌+◌, ◌-◌, ◌≤◌, cond, List, length, Some, is_some, slice_get, refl, sym, ap, ◌∙◌, subst, arith}
 use Rattle.std.proofs.lemmas.Bool.{eq-eqb}
-use Rattle.std.specs.FinMap.{get}
+use Rattle.std.specs.FinMap.{get, remove}
 use Rattle.std.specs.List.{each_same}
 use Rattle.busdma_base.specs.declared.bounce.hold.HubCall.TheVariants.{Grab}
 use Rattle.busdma_base.specs.declared.name.MapId.{MapId}
 use Rattle.busdma_base.specs.declared.name.ZoneId.{ZoneId}
 use Rattle.busdma_base.specs.declared.scenarios.script.Item.{Item}
+use Rattle.busdma_base.specs.declared.scenarios.script.Op.TheVariants.{Load}
+use Rattle.busdma_base.specs.declared.scenarios.script.Place.TheVariants.{At}
 use Rattle.busdma_base.specs.Bounce.Door.{Allows, Holds, account, grab_reply}
 use Rattle.busdma_base.specs.Machine.Entry.{entries_addresses}
+use Rattle.lane_tables.specs.Schedule.{Schedule}
 use Rattle.loan_table.specs.Loans.{new_loan}
 use Rattle.ideal_lane.proofs.Lookups.{get_put}
 use Rattle.ideal_lane.specs.Loads.{granted, is_coherent, limits_of, zone_of}
@@ -18,7 +21,9 @@ use Rattle.bounced_lane.specs.Covered.{is_idle_map, pages_due}
 use Rattle.bounced_lane.specs.Ideal.{ideal_of}
 use Rattle.bounced_lane.specs.Kept.{map_of}
 use Rattle.bounced_lane.specs.Loading.{HasRoomForAny, buffer_chunks, buffer_entries}
+use Rattle.bounced_lane.proofs.AwaitingLoads.{awaiting-but, awaiting-ready, awaiting-same, idle-unprepared, prepared-more}
 use Rattle.bounced_lane.proofs.Keeping.{idle-there}
+use Rattle.bounced_lane.proofs.LoadSteps.{taken-out}
 use Rattle.bounced_lane.proofs.MapValues.{image-some}
 use Rattle.bounced_lane.proofs.Preparing.{has-need, room-for-any}
 use Rattle.bounced_lane.proofs.holdings.Holdings.load_bounced.Goals as goal
@@ -145,3 +150,66 @@ returns-clause-done g c o x found entries items =
           (entries ∙ sym (ap (λ (y : LaneState). buffer_entries y va len) same)) (items ∙ sym cloned)
           ∙ ap (λ (y : LaneState). granted k o x (buffer_chunks y o va len) y reply) same;
     }
+
+pub ready_load-requires-clause-unprepared : goal.ready_load-requires-clause-unprepared
+ready_load-requires-clause-unprepared g c =
+    idle-unprepared c.args.self.now c.args.map c.requires.awaiting c.requires.idle
+
+pub returns-in_err-ready_load-clause-awaiting : goal.returns-in_err-ready_load-clause-awaiting
+returns-in_err-ready_load-clause-awaiting g c =
+    let done = c.in_err-ready_load.ensures in
+    awaiting-same c.args.self.now c.ready_load.new.self done.same.ideal (ap (λ t. t.map) done.maps) done.err
+    c.requires.awaiting
+
+pub returns-in-Err-clause-awaiting : goal.returns-in-Err-clause-awaiting
+returns-in-Err-clause-awaiting g c =
+    let h = c.args.self.now in
+    let l = ideal_of h in
+    let k = c.args.map in
+    let loan = new_loan (is_coherent (get l.mems k))
+    (entries_addresses (buffer_entries l c.args.buffer.va.0 c.args.buffer.len)) in
+    let ready = c.in_ok-ready_load.ensures in
+    let undone = c.undo_load.ensures in
+    awaiting-same h c.undo_load.new.self (undone.same.ideal ∙ ready.same.ideal)
+    (ap (λ t. t.map) undone.maps ∙ ap (λ t. t.map) ready.maps)
+    (undone.prepared ∙ ap (λ ps. remove ps k) ready.prepared
+    ∙ taken-out h.loans.prepared k loan (idle-unprepared h k c.requires.awaiting c.requires.idle)) c.requires.awaiting
+
+pub take_grabbed-requires-clause-own : goal.take_grabbed-requires-clause-own
+take_grabbed-requires-clause-own g c =
+    ap (λ t. get t.map c.args.map) c.in_ok-ready_load.ensures.memories ∙ c.requires.own
+
+pub take_grabbed-requires-clause-awaiting : goal.take_grabbed-requires-clause-awaiting
+take_grabbed-requires-clause-awaiting g c =
+    let h = c.args.self.now in
+    let l = ideal_of h in
+    let k = c.args.map in
+    let mid = c.ready_load.new.self in
+    let loan = new_loan (is_coherent (get l.mems k))
+    (entries_addresses (buffer_entries l c.args.buffer.va.0 c.args.buffer.len)) in
+    let ready = c.in_ok-ready_load.ensures in
+    awaiting-ready h mid ready.same.ideal (ap (λ t. t.map) ready.maps) k
+    (prepared-more h.loans.prepared mid.loans.prepared k loan ready.prepared) (awaiting-but h k c.requires.awaiting)
+
+pub take_grabbed-requires-clause-next : goal.take_grabbed-requires-clause-next
+take_grabbed-requires-clause-next g c =
+    let ready = c.in_ok-ready_load.ensures in
+    let next = c.requires.next in
+    let items : c.in_ok-items.items ≡ c.args.items.now = each_same _ _ c.in_ok-items.ensures.cases in
+    let script : c.ready_load.new.self.script.now ≡ c.args.self.now.script.now =
+    ap (λ (y : LaneState). y.script) ready.same.ideal in
+    let place : c.ready_load.new.self.agenda.place ≡ c.args.self.now.agenda.place = ap (λ a. a.place) ready.promised in
+    record {
+      flags = next.flags;
+      load = (λ i. slice_get (script i) (place i)) ∙ next.load
+          ∙ ap (λ is. Some (Load c.args.map (At c.args.buffer.va) c.args.buffer.len next.flags is)) (sym items);
+    }
+
+pub returns-in-Err-clause-unpromised : goal.returns-in-Err-clause-unpromised
+returns-in-Err-clause-unpromised g c =
+    let a = c.args.self.now.agenda in
+    let need = c.args.wanted.need in
+    let back : a.promised + need - need ≡ a.promised = omega arith in
+    c.undo_load.ensures.agenda
+    ∙ ap (λ (b : Schedule). record b { promised = b.promised - need }) c.in_ok-ready_load.ensures.promised
+    ∙ ap (λ p. record a { promised = p }) back

@@ -15,6 +15,7 @@ use Rattle.ideal_lane.specs.State.{LaneMap, LaneState}
 use Rattle.bounced_lane.specs.Covered.{is_idle_map}
 use Rattle.bounced_lane.specs.Ideal.{ideal_of}
 use Rattle.bounced_lane.specs.Loading.{HasRoomForAny, buffer_chunks, buffer_entries}
+use Rattle.bounced_lane.proofs.AwaitingLoads.{awaiting-but, awaiting-ready, awaiting-same, idle-unprepared, prepared-more}
 use Rattle.bounced_lane.proofs.Preparing.{room-for-any}
 use Rattle.bounced_lane.proofs.holdings.Holdings.load_direct.Goals as goal
 
@@ -46,6 +47,8 @@ complete_load-requires c =
     record {
       stands = subst Stands (sym e) c.requires.stands;
       idle = ap (λ t. is_idle_map (get t.map k)) done.maps ∙ c.requires.idle;
+      awaiting = awaiting-ready h mid e (ap (λ t. t.map) done.maps) k
+          (prepared-more h.loans.prepared mid.loans.prepared k loan done.prepared) (awaiting-but h k c.requires.awaiting);
       reached = ap (λ (x : LaneState). reached x va len) e ∙ c.requires.reached;
       small = c.requires.small;
       room = subst (λ (x : LaneState). (o : LaneMap) → get x.maps k ≡ Some o →
@@ -83,3 +86,13 @@ returns-clause-bytes c =
       own = then.own ∙ kept.own;
       pages = λ m off. then.pages m off ∙ kept.pages m;
     }
+
+pub prepare_load-requires-clause-unprepared : goal.prepare_load-requires-clause-unprepared
+prepare_load-requires-clause-unprepared c =
+    idle-unprepared c.args.self.now c.args.map c.requires.awaiting c.requires.idle
+
+pub returns-in_err-prepare_load-clause-awaiting : goal.returns-in_err-prepare_load-clause-awaiting
+returns-in_err-prepare_load-clause-awaiting c =
+    let done = c.in_err-prepare_load.ensures in
+    awaiting-same c.args.self.now c.prepare_load.new.self done.same.ideal (ap (λ t. t.map) done.maps) done.err
+    c.requires.awaiting

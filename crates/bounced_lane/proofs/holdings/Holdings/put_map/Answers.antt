@@ -13,6 +13,9 @@ use Rattle.bounced_lane.proofs.Bytes.{devices-put, held-alike}
 use Rattle.bounced_lane.proofs.Keeping.{idle-map}
 use Rattle.bounced_lane.proofs.MapTables.{AreMaps, maps-new, maps-of}
 use Rattle.bounced_lane.proofs.MapValues.{map_values-insert}
+use Rattle.dma_map.specs.MapView.{waiting_load}
+use Rattle.bounced_lane.specs.Awaiting.{kept_load}
+use Rattle.bounced_lane.proofs.AwaitingSteps.{awaits-put}
 use Rattle.bounced_lane.proofs.holdings.Holdings.put_map.Goals as goal
 
 pub invariant_of-self : goal.invariant_of-self
@@ -76,3 +79,12 @@ returns-clause-bytes c =
       pages = λ m. ap (λ t. (devices_of t.map m).pages) c.put.ensures
           ∙ ap (λ d. d.pages) (devices-put h.maps.map k o same m);
     }
+
+pub returns-clause-awaiting : goal.returns-clause-awaiting
+returns-clause-awaiting c =
+    let h = c.args.self.now in
+    let k = c.place-place.result in
+    let o : KeptMap = record { tag = c.args.tag; need = 0; map = c.new-map.result } in
+    let none : get h.maps.map k ≡ None = ap (get h.maps.map) c.place-place.ensures ∙ c.requires.vacant in
+    awaits-put h _ refl refl refl refl refl refl k (ap kept_load none) o (ap (λ t. t.map) c.put.ensures)
+    (ap (λ m. waiting_load m.stage) c.new-map.ensures)

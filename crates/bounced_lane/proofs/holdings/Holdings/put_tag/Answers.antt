@@ -5,6 +5,9 @@ use Rattle.bounced_lane.specs.Ideal.{ideal_of}
 use Rattle.bounced_lane.specs.Kept.{tag_of}
 use Rattle.bounced_lane.specs.MapValues.{map_values}
 use Rattle.bounced_lane.proofs.MapValues.{map_values-insert}
+use Rattle.std.proofs.Common.{refl}
+use Rattle.ideal_wire.proofs.KeptTags.{keeps-put, new-tag}
+use Rattle.bounced_lane.proofs.AwaitingSteps.{awaits-tags}
 use Rattle.bounced_lane.proofs.holdings.Holdings.put_tag.Goals as goal
 
 pub returns-clause-done : goal.returns-clause-done
@@ -17,3 +20,15 @@ returns-clause-done c =
           ∙ map_values-insert tag_of h.tags.map c.place-place.result t
           ∙ ap (λ p. insert l.tags p (tag_of t)) c.place-place.ensures) i;
     })
+
+pub returns-clause-awaiting : goal.returns-clause-awaiting
+returns-clause-awaiting c stands =
+    let h = c.args.self.now in
+    let l = ideal_of h in
+    let t : KeptTag = record { tag = c.args.tag; first_done = c.args.first_done } in
+    let tags = insert l.tags l.place (tag_of t) in
+    awaits-tags h _ refl refl refl refl refl tags
+    (ap (λ ts. map_values tag_of ts.map) c.put.ensures
+    ∙ map_values-insert tag_of h.tags.map c.place-place.result t
+    ∙ ap (λ p. insert l.tags p (tag_of t)) c.place-place.ensures)
+    (keeps-put l stands (record l { tags = tags }) l.place (tag_of t) refl (λ g there. new-tag l stands g there)) refl

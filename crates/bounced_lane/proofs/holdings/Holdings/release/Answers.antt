@@ -22,11 +22,14 @@ use Rattle.bounced_lane.specs.Ideal.{ideal_of}
 use Rattle.bounced_lane.specs.Kept.{map_of, return_of}
 use Rattle.bounced_lane.specs.MapValues.{map_values}
 use Rattle.bounced_lane.proofs.Bytes.{held-alike}
-use Rattle.bounced_lane.proofs.Doors.{done-asks}
+use Rattle.bounced_lane.proofs.Doors.{done-asks, on-none}
 use Rattle.bounced_lane.proofs.MapTables.{AreMaps}
 use Rattle.bounced_lane.proofs.MapValues.{image-some}
 use Rattle.bounced_lane.proofs.Returned.{devices-after, maps-back}
 use Rattle.bounced_lane.proofs.ReturnSteps.{back-in, given-back-is, last-is, noted, own-head, returning-there}
+use Rattle.bounced_lane.proofs.AwaitingSteps.{awaits-put-if, awaits-same, returning-unkept}
+use Rattle.bounced_lane.proofs.Returned.{idled}
+use Rattle.bounced_lane.proofs.SameHoldings.{same-all}
 use Rattle.bounced_lane.proofs.holdings.Holdings.release.Goals as goal
 
 pub invariant_of-self-2 : goal.invariant_of-self-2
@@ -184,3 +187,39 @@ returns-clause-bytes g c =
           ∙ ap (λ d. d.pages) (devices-after h.maps.map h.loans.loans h.agenda.promised rest are h.id.0 r.map found.0
           found.1 found.2 mine own.1 r.last m);
     }
+
+pub returns-clause-awaiting : goal.returns-clause-awaiting
+returns-clause-awaiting g c =
+    let h = c.args.self.now in
+    let r = c.in_ok-map.field-0 in
+    let k = r.map.made_at in
+    let rest = c.pop_return.new.self.returns in
+    let back =
+    own-head (is_returning (get h.maps.map k))
+    (list_any (λ (p : QueuedPage). not (is_returning (get h.maps.map p.map.made_at))) rest)
+    (sym (ap (λ qs. list_any (λ (p : QueuedPage). not (is_returning (get h.maps.map p.map.made_at))) qs)
+    c.in_ok-map.ensures.page) ∙ h.returning) in
+    let found = returning-there (get h.maps.map k) back.0 in
+    let maps =
+    noted h.maps c.note_returned.new.maps k found.0 r.last found.1 c.note_returned.ensures.last
+    c.note_returned.ensures.more in
+    awaits-put-if h _ refl refl refl refl refl refl k (returning-unkept (get h.maps.map k) back.0) r.last
+    (idled found.0) (ap (λ t. t.map) maps) refl
+
+pub returns-in_err-map-clause-awaiting : goal.returns-in_err-map-clause-awaiting
+returns-in_err-map-clause-awaiting g c = awaits-same c.args.self.now _ refl refl refl refl refl refl refl
+
+pub returns-in_err-map-clause-same : goal.returns-in_err-map-clause-same
+returns-in_err-map-clause-same g c =
+    on-none c.from_residual.result (same-all c.args.self.now _ (record {
+      script = refl;
+      pages = refl;
+      id = refl;
+      maxmem = refl;
+      memory = refl;
+      tags = refl;
+      maps = refl;
+      memories = refl;
+      loans = refl;
+      shares = refl;
+    }) c.in_err-map.ensures.none)

@@ -10,7 +10,7 @@ use Rattle.dma_map.specs.MapView.{chunks_of}
 use Rattle.dma_tag.specs.SyncOps.{is_mixed, postread, prewrite}
 use Rattle.loan_table.specs.Lending.{lost, sync_answer}
 use Rattle.loan_table.specs.Lending as lending
-use Rattle.loan_table.specs.Table.{AreIn, IsSynced, set_all}
+use Rattle.loan_table.specs.Table.{AreIn, IsSame, IsSynced, set_all}
 use Rattle.phys_memory.specs.Memory.{wire}
 use Rattle.ideal_lane.specs.Syncs.{counted, has_byte_of, sync_part}
 use Rattle.ideal_wire.specs.WireStep as wires
@@ -28,6 +28,9 @@ use Rattle.bounced_lane.proofs.Places.{get_removed}
 use Rattle.bounced_lane.proofs.PutBack.{put-again}
 use Rattle.bounced_lane.proofs.Reaching.{same-physical}
 use Rattle.bounced_lane.proofs.Syncing.{are-synced, part-done, part-wire}
+use Rattle.std.proofs.Common.{refl}
+use Rattle.dma_map.specs.MapView.{waiting_load}
+use Rattle.bounced_lane.proofs.AwaitingSteps.{awaits-put, awaits-same, loaded-unkept}
 use Rattle.bounced_lane.proofs.holdings.Holdings.sync_part.Goals as goal
 
 pub copy_part-requires-clause-bounced : goal.copy_part-requires-clause-bounced
@@ -165,3 +168,34 @@ returns-clause-wire c other found =
     c.copy_part.new.memory.memory c.args.off c.args.len ops c.copy_part.ensures.view c.requires.range alone fine
     ∙ ap (λ y. if_done (sync_part k y c.args.off c.args.len ops (ideal_of h))
     (wires.synced k c.args.off c.args.len ops (ideal_of h) (wire_of h)) (wire_of h)) is
+
+pub returns-clause-awaiting : goal.returns-clause-awaiting
+returns-clause-awaiting c =
+    let h = c.args.self.now in
+    let k = c.args.map in
+    let ops = c.args.ops.0 in
+    let o : KeptMap = c.in-Some.kept in
+    let put =
+    put-again h.maps c.take.new.self c.put.new.self k (record o { map = c.copy_part.new.map })
+    c.in-Some.ensures.taken c.put.ensures in
+    let synced : IsSynced c.reserve_extents.new.loans c.sync_loans.new.loans c.map_id-id.result.made_at c.args.off
+        c.args.len ops =
+    rw c.in_default.is at c.sync_loans.ensures.done in
+    awaits-put h _ refl refl refl refl (synced.prepared ∙ c.reserve_extents.ensures.same.prepared) refl k
+    (loaded-unkept (get h.maps.map k) c.requires.loaded) (record o { map = c.copy_part.new.map }) put.0
+    (ap (λ m. waiting_load m.stage) c.copy_part.ensures.map.is)
+
+pub returns-in_err-reserve_extents-clause-awaiting : goal.returns-in_err-reserve_extents-clause-awaiting
+returns-in_err-reserve_extents-clause-awaiting c =
+    awaits-same c.args.self.now _ refl refl refl refl c.reserve_extents.ensures.same.prepared refl refl
+
+pub returns-in_err-reserve-clause-awaiting : goal.returns-in_err-reserve-clause-awaiting
+returns-in_err-reserve-clause-awaiting c =
+    awaits-same c.args.self.now _ refl refl refl refl c.reserve_extents.ensures.same.prepared refl refl
+
+pub returns-in-Refused-clause-awaiting : goal.returns-in-Refused-clause-awaiting
+returns-in-Refused-clause-awaiting c =
+    let refused : IsSame c.reserve_extents.new.loans c.sync_loans.new.loans =
+    rw c.in-Refused.is at c.sync_loans.ensures.refused in
+    awaits-same c.args.self.now _ refl refl refl refl (refused.prepared ∙ c.reserve_extents.ensures.same.prepared) refl
+    refl

@@ -1,4 +1,4 @@
-use Rattle.std.proofs.Common.{◌≡◌, ℕ, List, [], ◌∷◌, refl, sym, ap, ◌∙◌, subst}
+use Rattle.std.proofs.Common.{◌≡◌, ℕ, List, [], ◌∷◌, None, refl, slice_get, sym, ap, ◌∙◌, subst}
 use Rattle.std.specs.FinMap.{get}
 use Rattle.busdma_base.specs.declared.bounce.door.Grabbed.{Grabbed}
 use Rattle.busdma_base.specs.declared.bounce.door.Grabbed.TheVariants.{Granted}
@@ -11,8 +11,16 @@ use Rattle.lane_agreement.specs.After.{addresses}
 use Rattle.segment_build.specs.Chunks.{need_of}
 use Rattle.ideal_lane.specs.Loads.{finished, granted, limits_of, staged}
 use Rattle.ideal_lane.specs.State.{LaneState, Idle, Waiting}
+use Rattle.bounced_lane.specs.Awaiting.{AreAwaiting, kept_load}
+use Rattle.bounced_lane.specs.Covered.{is_idle_map}
 use Rattle.bounced_lane.specs.Ideal.{ideal_of}
+use Rattle.bounced_lane.specs.Kept.{map_of}
 use Rattle.bounced_lane.specs.Loading.{HasNeed, HasRoomForAny, buffer_chunks}
+use Rattle.bounced_lane.proofs.AwaitingLoads.{IsReadyLoad, KeepsOthers, awaiting-none, awaiting-one, awaiting-others}
+use Rattle.bounced_lane.proofs.AwaitingLoads.{awaiting-ready, awaiting-tried, begins-waiting, cut-at, prepared-less}
+use Rattle.bounced_lane.proofs.AwaitingLoads.{idle-unkept, stays-staged}
+use Rattle.bounced_lane.proofs.Keeping.{idle-there}
+use Rattle.bounced_lane.proofs.MapValues.{image-some}
 use Rattle.bounced_lane.proofs.holdings.Holdings.take_grabbed.Goals as goal
 
 same-pages : (pas : List ℕ) → addresses (as_pages pas) ≡ pas
@@ -59,3 +67,57 @@ returns-in-NoPages-clause-done c o x found entries items =
       answer = Refused ENOMEM;
     })
     ∙ sym (ap (λ g. granted c.args.map o x chunks l (grab_reply g)) c.in-NoPages.is)
+
+pub returns-in-Queued-clause-awaiting : goal.returns-in-Queued-clause-awaiting
+returns-in-Queued-clause-awaiting c =
+    let h = c.args.self.now in
+    let k = c.wait_load.new.self in
+    let m = c.args.map in
+    let at = c.place-load_at.result in
+    let need = c.args.need in
+    let idle = idle-there (get h.maps.map m) c.requires.idle in
+    let o = map_of idle.0 in
+    let is = image-some map_of h.maps.map m idle.0 idle.1 in
+    let lane = c.wait_load.ensures.done o is in
+    let others : KeepsOthers m h k = record {
+      stays = stays-staged m o (Waiting at need) (ideal_of h) (ideal_of k) lane;
+      kept = c.wait_load.ensures.others;
+      prepared = λ q off. ap (λ ps. get ps q) c.wait_load.ensures.prepared;
+    } in
+    let ready : IsReadyLoad h m at need o c.args.items c.args.room = record {
+      va = c.args.buffer.va;
+      len = c.args.buffer.len;
+      flags = c.requires.next.flags;
+      there = is;
+      idle = sym (ap is_idle_map idle.1) ∙ c.requires.idle;
+      load = ap (slice_get h.script.now) c.place-load_at.ensures ∙ c.requires.next.load;
+      own = c.requires.own;
+      reached = c.requires.reached;
+      fits = c.requires.room o is;
+      prepared = c.requires.prepared;
+    } in
+    awaiting-one k m at (record { items = c.args.items }) c.args.room c.wait_load.ensures.waits
+    (begins-waiting h k m at need o c.args.items c.args.room ready lane c.wait_load.ensures.prepared)
+    (awaiting-others h k m others c.requires.awaiting)
+
+pub returns-in-NoPages-clause-awaiting : goal.returns-in-NoPages-clause-awaiting
+returns-in-NoPages-clause-awaiting c =
+    let h = c.args.self.now in
+    let n = c.undo_load.new.self in
+    let k = c.note_tried.new.self in
+    let m = c.args.map in
+    let undone = c.undo_load.ensures in
+    let e : ideal_of n ≡ ideal_of h = undone.same.ideal in
+    let maps : n.maps.map ≡ h.maps.map = ap (λ t. t.map) undone.maps in
+    let idle = idle-there (get h.maps.map m) c.requires.idle in
+    let o = map_of idle.0 in
+    let is = image-some map_of h.maps.map m idle.0 idle.1 in
+    let none : kept_load (get n.maps.map m) ≡ None =
+    ap (λ ms. kept_load (get ms m)) maps ∙ idle-unkept (get h.maps.map m) c.requires.idle in
+    let unprepared : get n.loans.prepared m ≡ None =
+    ap (λ ps. get ps m) undone.prepared ∙ cut-at h.loans.prepared m in
+    let are : AreAwaiting n =
+    awaiting-none n m none unprepared (awaiting-ready h n e maps m
+    (prepared-less h.loans.prepared n.loans.prepared m undone.prepared) c.requires.awaiting) in
+    awaiting-tried n k m o (c.note_tried.ensures.done o (ap (λ (y : LaneState). get y.maps m) e ∙ is))
+    c.note_tried.ensures.waiting (ap (λ ms. is_idle_map (get ms m)) maps ∙ c.requires.idle) are

@@ -1,4 +1,4 @@
-use Rattle.std.proofs.Common.{refl, ap, sym, ◌∙◌, inl}
+use Rattle.std.proofs.Common.{refl, ap, sym, ◌∙◌, inl, arith}
 use Rattle.ideal_lane.specs.Asking.{Gives}
 use Rattle.ideal_lane.specs.Outcomes.{gives}
 use Rattle.busdma_base.specs.declared.journals.answer.Answer.TheVariants.{Done}
@@ -7,6 +7,7 @@ use Rattle.bounced_lane.specs.Kept.{map_of}
 use Rattle.bounced_lane.proofs.Keeping.{state-loaded, state-unloaded}
 use Rattle.bounced_lane.proofs.MapValues.{image-none, image-some}
 use Rattle.bounced_lane.proofs.UnloadSteps.{unload-absent, unload-unloaded, unload-done}
+use Rattle.bounced_lane.proofs.AwaitingStays.{awaiting-stays}
 use Rattle.bounced_lane.proofs.holdings.Holdings.unload.Goals as goal
 
 pub returns-in_default-clause-done : goal.returns-in_default-clause-done
@@ -25,6 +26,10 @@ returns-in_default-state c =
           (image-some map_of h.maps.map c.args.map o (sym c.in-Some.ensures))
           (state-unloaded o.need o.map.stage (λ e. c.in_default-state.not-Loaded (c.state.ensures ∙ e))));
       bytes = record { own = refl; pages = λ m. inl refl };
+      awaiting = λ are. are;
+      script = refl;
+      memories = refl;
+      promised = omega arith;
       queue = refl;
       place = refl;
       length = refl;
@@ -40,3 +45,7 @@ returns-clause-done c =
     ap (λ x. gives x Done) (c.end_load.ensures.done (map_of o) there)
     ∙ sym (unload-done l c.args.map (map_of o) there
     (state-loaded o.need o.map.stage (sym c.state.ensures ∙ c.in-Loaded.is)))
+
+pub returns-clause-awaiting : goal.returns-clause-awaiting
+returns-clause-awaiting c =
+    awaiting-stays c.args.self.now c.end_load.new.self c.end_load.ensures.waiting c.end_load.ensures.reach

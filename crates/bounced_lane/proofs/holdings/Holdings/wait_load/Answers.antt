@@ -1,8 +1,11 @@
-use Rattle.std.proofs.Common.{◌≡◌, ◌+◌, ◌≤◌, Some, true, refl, sym, ap, ◌∙◌, subst}
+use Rattle.std.proofs.Common.{◌≡◌, ◌+◌, ◌≤◌, Some, true, cond, refl, sym, ap, ◌∙◌, subst}
+use Rattle.std.proofs.lemmas.Bool.{eq-eqb}
 use Rattle.std.specs.FinMap.{get, insert}
 use Rattle.dma_map.specs.MapView.{waiting}
+use Rattle.ideal_lane.proofs.Lookups.{get_put}
 use Rattle.ideal_lane.specs.State.{LaneMap, Waiting}
 use Rattle.bounced_lane.specs.declared.kept.KeptMap.{KeptMap}
+use Rattle.bounced_lane.specs.Awaiting.{kept_load}
 use Rattle.bounced_lane.specs.Covered.{is_idle_map, pages_due}
 use Rattle.bounced_lane.specs.Held.{devices_of, held}
 use Rattle.bounced_lane.specs.Ideal.{ideal_of}
@@ -112,3 +115,37 @@ returns-in-Some-clause-bytes c =
       own = refl;
       pages = λ m. ap (λ ms. (devices_of ms m).pages) maps ∙ ap (λ d. d.pages) (devices-put h.maps.map k v bare m);
     }
+
+pub returns-in-Some-clause-waits : goal.returns-in-Some-clause-waits
+returns-in-Some-clause-waits c =
+    let h = c.args.self.now in
+    let k = c.args.map in
+    let o : KeptMap = c.in-Some.kept in
+    let v : KeptMap = record {
+      tag = o.tag;
+      need = c.args.need;
+      map = record o.map { tried = true; stage = waiting c.args.load_at (record { items = c.args.items }) c.args.room };
+    } in
+    let after : KeptMap = record { tag = o.tag; need = c.args.need; map = c.wait.new.self } in
+    let maps : c.put.new.self.map ≡ insert h.maps.map k v =
+    ap (λ t. t.map) c.put.ensures ∙ ap (λ t. insert t.map k after) c.in-Some.ensures.taken
+    ∙ reput h.maps.map k after ∙ ap (λ x. insert h.maps.map k (record { tag = o.tag; need = c.args.need; map = x })) c.wait.ensures in
+    ap (λ ms. kept_load (get ms k)) maps ∙ ap kept_load (get_put h.maps.map k v k)
+    ∙ ap (λ b. kept_load (cond b (Some v) (get h.maps.map k))) (eq-eqb k k refl)
+
+pub returns-in-Some-clause-others : goal.returns-in-Some-clause-others
+returns-in-Some-clause-others c m off =
+    let h = c.args.self.now in
+    let k = c.args.map in
+    let o : KeptMap = c.in-Some.kept in
+    let v : KeptMap = record {
+      tag = o.tag;
+      need = c.args.need;
+      map = record o.map { tried = true; stage = waiting c.args.load_at (record { items = c.args.items }) c.args.room };
+    } in
+    let after : KeptMap = record { tag = o.tag; need = c.args.need; map = c.wait.new.self } in
+    let maps : c.put.new.self.map ≡ insert h.maps.map k v =
+    ap (λ t. t.map) c.put.ensures ∙ ap (λ t. insert t.map k after) c.in-Some.ensures.taken
+    ∙ reput h.maps.map k after ∙ ap (λ x. insert h.maps.map k (record { tag = o.tag; need = c.args.need; map = x })) c.wait.ensures in
+    ap (λ ms. kept_load (get ms m)) maps ∙ ap kept_load (get_put h.maps.map k v m)
+    ∙ ap (λ b. kept_load (cond b (Some v) (get h.maps.map m))) off

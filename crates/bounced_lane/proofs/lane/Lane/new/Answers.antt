@@ -14,6 +14,7 @@ use Rattle.bounced_lane.specs.Kept.{map_of, memory_of, return_of, share_of, tag_
 use Rattle.bounced_lane.specs.MapValues.{map_values}
 use Rattle.bounced_lane.proofs.MapValues.{map_values-empty}
 use Rattle.bounced_lane.proofs.OwnRuns.{AreKnown}
+use Rattle.bounced_lane.proofs.OpensProvided.{opens-provided}
 use Rattle.bounced_lane.proofs.OpensWired.{opens-wired}
 use Rattle.bounced_lane.proofs.OpeningLane.{held-zeros, opens-covered, opens-mapless, opens-reaching}
 use Rattle.bounced_lane.proofs.lane.Lane.new.Goals as goal
@@ -146,6 +147,13 @@ invariant_of-result-2-clause-stands c =
       shares = share_of (c.new-5.ensures.items i);
     }) in
     ∣ subst Stands (sym is) (opens-standing c.args.id.0 c.args.maxmem c.args.driver.now) ∣₁
+
+pub invariant_of-result-2-clause-provided : goal.invariant_of-result-2-clause-provided
+invariant_of-result-2-clause-provided c =
+    ∣ opens-provided c.args.driver.now _ c.requires.script c.requires.small c.as_slice-script.ensures
+    (ap (λ a. a.place) c.in_ok-new-4.ensures) (ap (λ a. a.promised) c.in_ok-new-4.ensures)
+    (ap (λ t. t.map) c.in_ok-new-2.ensures) (ap (λ t. t.map) c.in_ok-new-3.ensures)
+    c.in_ok-opening_loans.ensures.prepared ∣₁
 
 pub returns : goal.returns
 returns c =

@@ -1,0 +1,31 @@
+-- The calls on a lane that take no door, so they hold and wait for nothing. A map of another lane is one that this lane
+-- does not have.
+use Rattle.std.specs.Prelude.{ℕ, ◌==◌, List, if◌then◌else◌}
+use Rattle.busdma_base.specs.declared.journals.report.ReportName.TheVariants.{Absent}
+use Rattle.busdma_base.specs.declared.name.MapId.{MapId}
+use Rattle.busdma_base.specs.Machine.Wire.{Wire}
+use Rattle.ideal_lane.specs.Accesses as accesses
+use Rattle.ideal_lane.specs.Asking.{Asking}
+use Rattle.ideal_lane.specs.Outcomes.{Outcome, refused}
+use Rattle.ideal_lane.specs.State.{LaneState}
+use Rattle.ideal_lane.specs.Syncs as syncs
+
+-- the step, unless the map is another lane's
+abbrev pub unless_foreign : MapId → LaneState → Asking Outcome → Asking Outcome
+unless_foreign m l step = if m.lane.0 == l.id then step else refused Absent 0 l
+
+-- the wire after it, unless the map is another lane's
+abbrev pub wire_unless_foreign : MapId → LaneState → Wire → Wire → Wire
+wire_unless_foreign m l after w = if m.lane.0 == l.id then after else w
+
+abbrev pub sync : MapId → ℕ → LaneState → Asking Outcome
+sync m ops l = unless_foreign m l (syncs.sync m.made_at ops l)
+
+abbrev pub sync_range : MapId → ℕ → ℕ → ℕ → LaneState → Asking Outcome
+sync_range m off len ops l = unless_foreign m l (syncs.sync_range m.made_at off len ops l)
+
+abbrev pub dev_read : MapId → ℕ → ℕ → LaneState → Asking Outcome
+dev_read m off len l = unless_foreign m l (accesses.dev_read m.made_at off len l)
+
+abbrev pub dev_write : MapId → ℕ → List ℕ → LaneState → Asking Outcome
+dev_write m off vs l = unless_foreign m l (accesses.dev_write m.made_at off vs l)
