@@ -8,17 +8,14 @@ use Rattle.bounced_world.proofs.Turning.{undone-opening}
 use Rattle.bounced_world.proofs.Wiring.{wires-follow, wires-stay}
 use Rattle.bounced_world.proofs.world.World.step.Goals as goal
 
-pub turn-requires-clause-served : goal.turn-requires-clause-served
-turn-requires-clause-served c =
+pub turn-requires : goal.turn-requires
+turn-requires c =
     let w = c.args.self.now in
     let i = c.args.actor.lane.0 in
     let lt : i < length w.lanes.items = omega (arith, c.if-at-len.false, c.len.ensures, w.lanes.ok.0) in
     serves w.scenario.now w.lanes.items w.hub i c.index_mut.result.now
     (lane_found w.lanes.items i c.index_mut.result.now lt c.index_mut.ensures.value) w.kept
     c.hub_is_sound.ensures.form c.hub_is_sound.ensures.sound
-
-pub turn-requires-clause-stub : goal.turn-requires-clause-stub
-turn-requires-clause-stub c = ?
 
 pub invariant_of-self-2 : goal.invariant_of-self-2
 invariant_of-self-2 c =
