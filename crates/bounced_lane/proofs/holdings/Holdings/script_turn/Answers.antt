@@ -1,4 +1,4 @@
-use Rattle.std.proofs.Common.{◌≡◌, ◌≤◌, [], length, refl, sym, ap, ◌∙◌, subst}
+use Rattle.std.proofs.Common.{◌≡◌, ◌≤◌, [], length, sym, ap, ◌∙◌, subst}
 use Rattle.busdma_base.specs.declared.journals.journal.Side.TheVariants as side
 use Rattle.busdma_base.specs.Bounce.Door.{Seen}
 use Rattle.bounced_lane.specs.declared.holdings.Holdings.{Holdings}

@@ -1,4 +1,4 @@
-use Rattle.std.proofs.Common.{◌≡◌, inl, IfOk, Ok, length, refl, sym, ap, ◌∙◌, subst}
+use Rattle.std.proofs.Common.{inl, IfOk, length, refl, sym, ap, ◌∙◌, subst}
 use Rattle.busdma_base.specs.declared.journals.journal.Side.{Side}
 use Rattle.busdma_base.specs.declared.journals.journal.Side.TheVariants as side
 use Rattle.bounced_lane.specs.Covered.{IsVacantFrom}

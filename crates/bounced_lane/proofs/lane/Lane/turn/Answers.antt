@@ -1,4 +1,3 @@
-use Rattle.std.proofs.Common.{refl}
 use Rattle.bounced_lane.specs.Ideal.{ideal_of}
 use Rattle.bounced_lane.proofs.Doors.{err-map, ok-map}
 use Rattle.bounced_lane.proofs.OneProvided.{provided-of}
