@@ -1,13 +1,10 @@
 -- What waiting loads keep stays with a driver whose step leaves it, and what the driver reaches.
-use Rattle.std.proofs.Common.{◌≡◌, ℕ, List, Option, Some, None, refl, sym, ap, ◌∙◌, subst, unwrap_or, slice_get, true}
+use Rattle.std.proofs.Common.{◌≡◌, ℕ, Option, Some, None, refl, sym, ap, ◌∙◌, subst, unwrap_or, slice_get, true}
 use Rattle.std.specs.Prelude.{if◌then◌else◌}
 use Rattle.std.specs.List.{list_any}
 use Rattle.std.specs.Option.{option_map}
 use Rattle.std.specs.Ordering.{nat_cmp}
 use Rattle.std.specs.FinMap.{FinMap, get, entries}
-use Rattle.busdma_base.specs.declared.scenarios.script.Item.{Item}
-use Rattle.busdma_base.specs.declared.scenarios.script.Op.TheVariants.{Load}
-use Rattle.busdma_base.specs.declared.scenarios.script.Place.TheVariants.{At}
 use Rattle.busdma_base.specs.declared.tags.tag.TagLimits.{TagLimits}
 use Rattle.busdma_base.specs.Journals.Judging.{judged}
 use Rattle.busdma_base.specs.Machine.Entry.{entries_addresses}
@@ -22,7 +19,7 @@ use Rattle.phys_memory.specs.Vector.{entries_of, one_span}
 use Rattle.segment_build.specs.Chunks.{chunks_of}
 use Rattle.ideal_lane.specs.Loads.{is_coherent, limits_of, no_limits}
 use Rattle.ideal_lane.specs.Places.{is_in_memory, or_in_memory, physical, physical_of}
-use Rattle.ideal_lane.specs.State.{LaneMap, LaneMemory, LaneState, LaneTag, Stage, Waiting}
+use Rattle.ideal_lane.specs.State.{LaneMap, LaneMemory, LaneState, LaneTag, Waiting}
 use Rattle.ideal_wire.proofs.Positions.{found_one}
 use Rattle.bounced_lane.specs.declared.holdings.Holdings.{Holdings}
 use Rattle.bounced_lane.specs.declared.kept.KeptMap.{KeptMap}
@@ -33,7 +30,6 @@ use Rattle.bounced_lane.specs.Ideal.{ideal_of}
 use Rattle.bounced_lane.specs.Kept.{map_of, memory_of, stage_of, tag_of}
 use Rattle.bounced_lane.specs.Loading.{HasRoomForAny}
 use Rattle.bounced_lane.specs.MapValues.{map_values}
-use Rattle.bounced_lane.proofs.Keeping.{told-some}
 use Rattle.bounced_lane.proofs.MapValues.{get-map_values, image-some}
 
 -- a driver with the same pages and memories reaches the same bytes

@@ -11,7 +11,7 @@ use Rattle.dma_map.specs.declared.callback.Transfers.{Transfers}
 use Rattle.dma_map.specs.MapView as held
 use Rattle.ideal_lane.specs.Loads.{no_limits}
 use Rattle.ideal_lane.specs.Outcomes.{is_idle, is_loaded}
-use Rattle.ideal_lane.specs.State.{LaneMap, LaneState, LaneTag}
+use Rattle.ideal_lane.specs.State.{LaneState, LaneTag}
 use Rattle.ideal_lane.proofs.Lookups.{get_put}
 use Rattle.ideal_wire.proofs.KeptTags.{KeepsTags}
 use Rattle.bounced_lane.specs.declared.holdings.Holdings.{Holdings}

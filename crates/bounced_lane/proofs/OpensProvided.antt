@@ -1,19 +1,16 @@
 -- A driver opens with all that its turns take.
-use Rattle.std.proofs.Common.{◌≡◌, ℕ, zero, suc, ◌+◌, ◌≤◌, List, [], ◌∷◌, Some, None, is_some, slice_get, ap, sym, ◌∙◌, subst, arith}
-use Rattle.std.specs.FinMap.{FinMap, empty, get, get-empty}
+use Rattle.std.proofs.Common.{◌≡◌, ℕ, zero, suc, ◌≤◌, List, [], ◌∷◌, Some, None, is_some, slice_get, ap, sym, ◌∙◌, subst, arith}
+use Rattle.std.specs.FinMap.{empty, get, get-empty}
 use Rattle.std.specs.List.{sum_by}
 use Rattle.std.specs.Ordering.{nat_cmp}
 use Rattle.busdma_base.specs.declared.scenarios.scenario.Driver.{Driver}
-use Rattle.busdma_base.specs.declared.scenarios.script.Item.{Item}
 use Rattle.busdma_base.specs.declared.scenarios.script.Op.{Op}
 use Rattle.busdma_base.specs.Each.{EachAfter}
 use Rattle.busdma_base.specs.Scenarios.Limits.{buffer_limit, loaded_limit}
 use Rattle.busdma_base.specs.Scenarios.Operations.{loaded_by}
 use Rattle.busdma_base.specs.Scenarios.Script.{IsOp, IsScript}
-use Rattle.dma_map.specs.declared.callback.Transfers.{Transfers}
-use Rattle.dma_map.specs.declared.room.LoadRoom.{LoadRoom}
 use Rattle.bounced_lane.specs.declared.holdings.Holdings.{Holdings}
-use Rattle.bounced_lane.specs.Awaiting.{AreAwaiting, HasSmallLoads, IsAwaiting, bytes_ahead, kept_load}
+use Rattle.bounced_lane.specs.Awaiting.{AreAwaiting, HasSmallLoads, bytes_ahead, kept_load}
 use Rattle.bounced_lane.specs.Provided.{IsProvided}
 
 -- each load of a script is small

@@ -5,7 +5,6 @@ use Rattle.std.specs.Ordering.{nat_cmp}
 use Rattle.busdma_base.specs.declared.journals.answer.Answer.{Answer}
 use Rattle.busdma_base.specs.declared.scenarios.script.Op.{Op}
 use Rattle.busdma_base.specs.Bounce.Door.{Seen}
-use Rattle.busdma_base.specs.Machine.Wire.{Wire}
 use Rattle.ideal_lane.specs.Asking.{Gives}
 use Rattle.ideal_lane.specs.Turns.{operation}
 use Rattle.ideal_wire.specs.WireStep as wires

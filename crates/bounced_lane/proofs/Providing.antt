@@ -1,5 +1,5 @@
 -- A driver is provided for its next turn after one that was made.
-use Rattle.std.proofs.Common.{◌≡◌, ℕ, ◌+◌, ◌≤◌, inl, false, Some, Result, Ok, Err, IfOk, OnOk, OnErr, length, slice_get}
+use Rattle.std.proofs.Common.{◌≡◌, ◌+◌, ◌≤◌, inl, false, Some, Result, Ok, Err, IfOk, OnOk, OnErr, length, slice_get}
 use Rattle.std.proofs.Common.{refl, sym, ap, ◌∙◌, subst, arith}
 use Rattle.busdma_base.specs.declared.journals.journal.Side.{Side}
 use Rattle.busdma_base.specs.declared.journals.journal.Side.TheVariants as side

@@ -1,5 +1,5 @@
 -- The turn of the script, in which the next operation is done.
-use Rattle.std.proofs.Common.{◌≡◌, ◌⊎◌, ℕ, ◌+◌, ◌≤◌, inl, inr, Bool, true, false, List, [], Option, Some, None, length}
+use Rattle.std.proofs.Common.{◌≡◌, ◌⊎◌, ℕ, ◌+◌, ◌≤◌, inl, inr, true, false, [], Some, None, length}
 use Rattle.std.proofs.Common.{map, slice_get, if◌then◌else◌, refl, ap, sym, ◌∙◌, subst, arith}
 use Rattle.busdma_base.specs.declared.journals.journal.Did.TheVariants as did
 use Rattle.busdma_base.specs.declared.journals.journal.Side.{Side}
@@ -9,7 +9,7 @@ use Rattle.busdma_base.specs.Bounce.Door.{Seen}
 use Rattle.busdma_base.specs.Machine.Wire.{Wire, with_bytes_of}
 use Rattle.busdma_base.specs.Scenarios.Operations.{items_of}
 use Rattle.phys_memory.specs.Memory.{wire}
-use Rattle.ideal_lane.specs.Ahead.{items_ahead, maps_items}
+use Rattle.ideal_lane.specs.Ahead.{items_ahead}
 use Rattle.ideal_lane.specs.Asking.{Asking, Gives, Asks, goes_on}
 use Rattle.ideal_lane.specs.Standing.{Stands}
 use Rattle.ideal_lane.specs.State.{LaneState}
@@ -142,12 +142,15 @@ module _ (h : Holdings) (empty : h.agenda.returns ≡ []) where
         wired-on : (w : Wire) → IsWireOf h k w → IsWireOf h n w
         wired-on w (inl is) = inl (same-wire ∙ is)
         wired-on w (inr (plain, keeps)) =
-            inr (plain, record {
-              own = ap (λ m. wire m.memory) rest.memory ∙ keeps.own;
-              pages = λ m. subst (λ t. ((devices_of t.map m).pages ≡ (devices_of h.maps.map m).pages)
-                  ⊎ (((devices_of h.maps.map m).pages ≡ []) ⊎ ((devices_of t.map m).pages ≡ [])))
-                  (sym rest.maps) (keeps.pages m);
-            })
+            inr (
+              plain,
+              record {
+                own = ap (λ m. wire m.memory) rest.memory ∙ keeps.own;
+                pages = λ m. subst (λ t. ((devices_of t.map m).pages ≡ (devices_of h.maps.map m).pages)
+                    ⊎ (((devices_of h.maps.map m).pages ≡ []) ⊎ ((devices_of t.map m).pages ≡ [])))
+                    (sym rest.maps) (keeps.pages m);
+              },
+            )
 
         pub next-made : (d e : Seen) (r : Answered) (t : Turn) →
             IsDone d h.id.0 (operation o l) (given k r.answer) e → r.held ≡ asks (operation o l) →

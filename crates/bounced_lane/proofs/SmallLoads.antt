@@ -1,9 +1,8 @@
 -- The loads of a driver stay small, and the pages that are promised few.
 use Rattle.std.proofs.Common.{◌≡◌, ℕ, ◌+◌, ◌^◌, ◌<◌, ◌≤◌, List, Some, slice_get, sym, arith, subst}
-use Rattle.std.specs.List.{sum_by}
 use Rattle.busdma_base.specs.declared.scenarios.script.Op.{Op}
 use Rattle.busdma_base.specs.Scenarios.Limits.{buffer_limit}
-use Rattle.busdma_base.specs.Scenarios.Operations.{items_of, loaded_by}
+use Rattle.busdma_base.specs.Scenarios.Operations.{loaded_by}
 use Rattle.ideal_lane.proofs.Falling.{rest-of}
 use Rattle.bounced_lane.specs.declared.holdings.Holdings.{Holdings}
 use Rattle.bounced_lane.specs.Awaiting.{HasSmallLoads, bytes_ahead}

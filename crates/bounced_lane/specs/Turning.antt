@@ -1,6 +1,7 @@
 -- What a turn of a lane makes, at a door to the bounce lock.
-use Rattle.std.specs.Prelude.{◌≡◌, ◌⊎◌, ℕ, ◌+◌, ◌≤◌, Bool, true, false, IsTrue, length}
+use Rattle.std.specs.Prelude.{◌≡◌, ◌⊎◌, ℕ, ◌+◌, ◌≤◌, Bool, true, false, IsTrue, [], length}
 use Rattle.busdma_base.specs.declared.journals.journal.Side.{Side}
+use Rattle.busdma_base.specs.declared.journals.journal.Side.TheVariants as side
 use Rattle.busdma_base.specs.declared.bounce.hold.HubCall.{HubCall}
 use Rattle.busdma_base.specs.declared.bounce.hold.HubCall.TheVariants.{TakeCallback}
 use Rattle.busdma_base.specs.declared.bounce.hold.HubReply.{HubReply}
@@ -60,6 +61,12 @@ pub record IsMade (h k : Holdings) (d e : Seen) (s : Side) (t : Turn) : Type 0 w
   pub wire : IsWireOf h k (wires.lane_step (ideal_of h) s (wire_of h))
   pub places : k.agenda.length ≡ h.agenda.length
   pub capacity : k.agenda.room + length k.agenda.queue ≡ h.agenda.room + length h.agenda.queue
+
+-- a turn of a side may want memory: that of the callbacks does not, nor that of the script while a page is to go back
+abbrev pub MayWant : LaneState → Side → Type 0
+MayWant l side.Script = l.returns ≡ []
+MayWant l side.Transfer = Unit {0}
+MayWant l side.Callback = ⊥
 
 -- a door serves a driver, its history is sound, and its account agrees with the driver
 pub record IsServed (l : LaneState) (d : Seen) : Type 0 where

@@ -8,7 +8,7 @@ ghost use Rattle.ideal_wire.specs.WireStep as wires;
 ghost use Rattle.bounced_lane.specs.Doing.{IsUndone};
 ghost use Rattle.bounced_lane.specs.Kept.{share_of};
 ghost use Rattle.bounced_lane.specs.LaneIdeal.{ideal, turned, wire};
-ghost use Rattle.bounced_lane.specs.Turning.{IsServed, IsTurned, is_held};
+ghost use Rattle.bounced_lane.specs.Turning.{IsServed, IsTurned, MayWant, is_held};
 
 use crate::kept::KeptShare;
 use crate::lane::Lane;
@@ -31,14 +31,15 @@ fn share_of(shares: &[KeptShare], zone: ZoneId) -> u64
 impl Lane<'_> {
     /// A turn of a side, at a door to the bounce lock that serves the driver. Its step is the ideal driver's, by the
     /// reply to its call; its bytes are those of the step, but for pages that came and went. Want of memory leaves the
-    /// driver as it was, and adds no own entry to the door's history.
+    /// driver as it was, and adds no own entry to the door's history. The callbacks, and the script while a page is on
+    /// its way back, want none.
     pub fn turn<D: HubDoor>(
         &mut self,
         alloc: Global,
         door: &mut D,
         side: Side,
     ) -> Result<Turn, AllocError>
-        requires { IsServed (ideal self.old) (D.seen door.old) }
+        requires served { IsServed (ideal self.old) (D.seen door.old) }
         ensures done { IfOk result (λ turn.
             IsTurned (D.seen door.old) (ideal self.old).id (lane_step (ideal self.old) side)
             (turned self.new turn) (is_held turn) (D.seen door.new)) }
@@ -48,6 +49,7 @@ impl Lane<'_> {
         ensures err { OnErr result (ideal self.new ≡ ideal self.old) }
         ensures err_wire { OnErr result (Follows (ideal self.old) (ideal self.new) (wire self.old) (wire self.new)) }
         ensures undone { OnErr result (IsUndone (D.seen door.old) (D.seen door.new)) }
+        ensures wanting { OnErr result (MayWant (ideal self.old) side) }
         ensures fixed { D.fixed door.new ≡ D.fixed door.old }
     {
         self.holdings.turn(alloc, door, side)

@@ -226,13 +226,7 @@ fn has_byte(chunk: &Chunk, off: u64, end: u64) -> bool
 }
 
 /// Copies a range of a map's load into its bounce pages or back from them.
-fn copy_load(
-    map: &mut DmaMap<Transfers>,
-    memory: &mut LanePages,
-    off: u64,
-    len: u64,
-    ops: SyncOps,
-)
+fn copy_load(map: &mut DmaMap<Transfers>, memory: &mut LanePages, off: u64, len: u64, ops: SyncOps)
     requires bounced { IsBounced memory.old.memory map.old.stage }
     requires range { off + len < 2 ^ 64 }
     ensures view { device_view (device_in map.new.stage) memory.new.memory

@@ -12,7 +12,7 @@ ghost use Rattle.bounced_lane.specs.declared.turn.Turn.{Turn};
 ghost use Rattle.bounced_lane.specs.Awaiting.{AreAwaiting};
 ghost use Rattle.bounced_lane.specs.Changes.{KeepsState};
 ghost use Rattle.bounced_lane.specs.Doing.{IsAllowedBy, IsUndone};
-ghost use Rattle.bounced_lane.specs.Turning.{IsMade, IsReady, is_held, turned};
+ghost use Rattle.bounced_lane.specs.Turning.{IsMade, IsReady, MayWant, is_held, turned};
 ghost use Rattle.bounced_lane.specs.Wire.{IsWired, wire_of};
 
 use crate::holdings::{Answered, Holdings};
@@ -90,6 +90,7 @@ impl Holdings<'_> {
         ensures made { IfOk result (IsMade self.old self.new (D.seen door.old) (D.seen door.new) side.Script) }
         ensures err { OnErr result (KeepsState self.old self.new) }
         ensures undone { OnErr result (IsUndone (D.seen door.old) (D.seen door.new)) }
+        ensures wanting { OnErr result (self.old.agenda.returns ≡ []) }
         ensures room { OnErr result (self.old.agenda.room ≤ self.new.agenda.room) }
         ensures places { self.new.agenda.length ≡ self.old.agenda.length }
         ensures provided { IsProvided self.new }
@@ -114,6 +115,7 @@ impl Holdings<'_> {
         ensures made { IfOk result (IsMade self.old self.new (D.seen door.old) (D.seen door.new) side) }
         ensures err { OnErr result (KeepsState self.old self.new) }
         ensures undone { OnErr result (IsUndone (D.seen door.old) (D.seen door.new)) }
+        ensures wanting { OnErr result (MayWant (ideal_of self.old) side) }
         ensures ready { IsReady self.new (D.seen door.new) }
         ensures provided { IsProvided self.new }
         ensures length { self.new.agenda.length ≡ length self.new.script.now }

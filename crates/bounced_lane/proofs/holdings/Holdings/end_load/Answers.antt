@@ -25,7 +25,6 @@ use Rattle.bounced_lane.proofs.Marks.{has_set_all}
 use Rattle.bounced_lane.proofs.Places.{get_removed, reput}
 use Rattle.bounced_lane.proofs.Unloaded.{left, maps-unloaded, own-more, pages-few, pages-held}
 use Rattle.bounced_lane.proofs.UnloadSteps.{left-is, loaded-tried, pages-are, returns-are, zone-is}
-use Rattle.bounced_lane.specs.Awaiting.{KeepsReach, KeepsWaiting}
 use Rattle.bounced_lane.proofs.AwaitingSteps.{left-unkept, loaded-unkept, put-reach, put-waiting}
 use Rattle.bounced_lane.proofs.holdings.Holdings.end_load.Goals as goal
 

@@ -1,4 +1,4 @@
-use Rattle.std.proofs.Common.{◌≡◌, ◌≤◌, ◌<◌, ◌+◌, ◌^◌, None, IfOk, length, refl, ap, sym, ◌∙◌, subst, arith}
+use Rattle.std.proofs.Common.{◌≡◌, ◌≤◌, ◌<◌, ◌+◌, ◌^◌, IfOk, length, refl, ap, sym, ◌∙◌, subst, arith}
 use Rattle.busdma_base.specs.declared.scenarios.script.Op.{Op}
 use Rattle.busdma_base.specs.Scenarios.Limits.{buffer_limit}
 use Rattle.busdma_base.specs.Scenarios.Operations.{items_of, loaded_by}
@@ -11,7 +11,6 @@ use Rattle.bounced_lane.specs.Kept.{map_of, tag_of}
 use Rattle.bounced_lane.specs.Wire.{wire_of}
 use Rattle.bounced_lane.proofs.Doors.{always-ok}
 use Rattle.bounced_lane.proofs.Following.{stays-all, stays-held}
-use Rattle.bounced_lane.proofs.IdlePages.{stays-same}
 use Rattle.bounced_lane.proofs.ScriptTurns.{few-items}
 use Rattle.bounced_lane.proofs.SmallLoads.{few-promised}
 use Rattle.bounced_lane.proofs.OperationSteps.{done-wire, paged-wire, quiet-done, quiet-held, vacant}

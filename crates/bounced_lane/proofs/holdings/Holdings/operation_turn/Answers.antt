@@ -1,13 +1,11 @@
-use Rattle.std.proofs.Common.{◌≡◌, ◌+◌, ◌<◌, ◌≤◌, true, false, None, Some, slice_get, length, refl, sym, ap, ◌∙◌, arith}
+use Rattle.std.proofs.Common.{◌≡◌, ◌+◌, ◌<◌, ◌≤◌, Some, slice_get, length, refl, sym, ap, ◌∙◌, arith}
 use Rattle.std.proofs.lemmas.Bool.Decides.{nat_tests}
 use Rattle.std.proofs.lemmas.Option.{slice_get_past, slice_get_read}
 use Rattle.busdma_base.specs.declared.journals.journal.Did.TheVariants as did
 use Rattle.busdma_base.specs.declared.journals.journal.Side.TheVariants as side
 use Rattle.busdma_base.specs.Scenarios.Operations.{loaded_by}
-use Rattle.ideal_lane.specs.Turns.{waits}
 use Rattle.bounced_lane.specs.declared.turn.Turn.TheVariants as turn
-use Rattle.bounced_lane.specs.Ideal.{ideal_of}
-use Rattle.bounced_lane.proofs.Providing.{made-script, provided-next, provided-same, same-room}
+use Rattle.bounced_lane.proofs.Providing.{made-script, provided-next, provided-same}
 use Rattle.bounced_lane.proofs.ScriptTurns.{blocked-made, ended-made, next-made, next-may}
 use Rattle.bounced_lane.proofs.holdings.Holdings.operation_turn.Goals as goal
 

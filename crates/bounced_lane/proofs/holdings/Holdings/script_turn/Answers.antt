@@ -1,4 +1,4 @@
-use Rattle.std.proofs.Common.{◌≡◌, ◌≤◌, [], length, refl, sym, ap, ◌∙◌, subst}
+use Rattle.std.proofs.Common.{◌≡◌, ◌≤◌, [], length, sym, ap, ◌∙◌, subst}
 use Rattle.busdma_base.specs.declared.journals.journal.Side.TheVariants as side
 use Rattle.busdma_base.specs.Bounce.Door.{Seen}
 use Rattle.bounced_lane.specs.declared.holdings.Holdings.{Holdings}
@@ -6,7 +6,7 @@ use Rattle.bounced_lane.specs.Changes.{KeepsState}
 use Rattle.bounced_lane.specs.Doing.{IsUndone}
 use Rattle.bounced_lane.specs.Provided.{IsProvided}
 use Rattle.bounced_lane.specs.Turning.{IsReady}
-use Rattle.bounced_lane.proofs.Doors.{err-map}
+use Rattle.bounced_lane.proofs.Doors.{err-map, on-err}
 use Rattle.bounced_lane.proofs.Providing.{made-from, provided-same}
 use Rattle.bounced_lane.proofs.TurnEnds.{turn-may}
 use Rattle.bounced_lane.proofs.holdings.Holdings.script_turn.Goals as goal
@@ -69,3 +69,6 @@ returns-in-None-clause-room g c =
 pub returns-in-None-clause-places : goal.returns-in-None-clause-places
 returns-in-None-clause-places g c =
     c.operation_turn.ensures.places ∙ ap (λ (x : Holdings). x.agenda.length) c.in-None.ensures.same
+
+pub returns-in-None-clause-wanting : goal.returns-in-None-clause-wanting
+returns-in-None-clause-wanting g c = on-err c.operation_turn.result c.in-None.ensures.empty

@@ -179,7 +179,7 @@ returns-clause-awaiting c =
     put-again h.maps c.take.new.self c.put.new.self k (record o { map = c.copy_part.new.map })
     c.in-Some.ensures.taken c.put.ensures in
     let synced : IsSynced c.reserve_extents.new.loans c.sync_loans.new.loans c.map_id-id.result.made_at c.args.off
-        c.args.len ops =
+    c.args.len ops =
     rw c.in_default.is at c.sync_loans.ensures.done in
     awaits-put h _ refl refl refl refl (synced.prepared ∙ c.reserve_extents.ensures.same.prepared) refl k
     (loaded-unkept (get h.maps.map k) c.requires.loaded) (record o { map = c.copy_part.new.map }) put.0

@@ -1,8 +1,10 @@
-use Rattle.std.proofs.Common.{◌≡◌, inl, IfOk, Ok, length, refl, sym, ap, ◌∙◌, subst}
+use Rattle.std.proofs.Common.{◌≡◌, inl, IfOk, [], length, map, refl, sym, ap, ◌∙◌, subst}
 use Rattle.busdma_base.specs.declared.journals.journal.Side.{Side}
 use Rattle.busdma_base.specs.declared.journals.journal.Side.TheVariants as side
 use Rattle.bounced_lane.specs.Covered.{IsVacantFrom}
-use Rattle.bounced_lane.specs.Turning.{IsMade}
+use Rattle.bounced_lane.specs.Ideal.{ideal_of}
+use Rattle.bounced_lane.specs.Kept.{return_of}
+use Rattle.bounced_lane.specs.Turning.{IsMade, MayWant}
 use Rattle.bounced_lane.proofs.Doors.{err-map, on-err}
 use Rattle.bounced_lane.proofs.MadeTurns.{made-ready}
 use Rattle.bounced_lane.proofs.Providing.{length-after, made-script, provided-same, ready-after, same-room, transfer-all}
@@ -87,3 +89,14 @@ returns-in-Callback-clause-length g c =
     made-script c.args.self.now c.call_back.new.self (g.D.HubDoor.seen c.args.door.now)
     (g.D.HubDoor.seen c.call_back.new.door) side.Callback c.call_back.result c.requires.ready c.call_back.ensures.made in
     c.call_back.ensures.made.places ∙ c.requires.length ∙ sym (ap length script)
+
+pub returns-in-Script-clause-wanting : goal.returns-in-Script-clause-wanting
+returns-in-Script-clause-wanting g c =
+    let l = ideal_of c.args.self.now in
+    err-map c.script_turn.result
+    (λ (none : c.args.self.now.agenda.returns ≡ []). subst (MayWant l) (sym c.in-Script.is) (ap (map return_of) none))
+    c.script_turn.ensures.wanting
+
+pub returns-in-Transfer-clause-wanting : goal.returns-in-Transfer-clause-wanting
+returns-in-Transfer-clause-wanting g c =
+    on-err c.transfer_turn.result (subst (MayWant (ideal_of c.args.self.now)) (sym c.in-Transfer.is) tt)

@@ -1,4 +1,3 @@
-use Rattle.std.proofs.Common.{refl}
 use Rattle.bounced_lane.proofs.Doors.{err-map}
 use Rattle.bounced_lane.proofs.LaneCalls.{called-lane, cpu_write-after}
 use Rattle.bounced_lane.proofs.lane.Lane.cpu_write.Goals as goal

@@ -1,4 +1,4 @@
-use Rattle.std.proofs.Common.{refl, ap, sym, ◌∙◌}
+use Rattle.std.proofs.Common.{ap, sym, ◌∙◌}
 use Rattle.ideal_lane.specs.Syncs as syncs
 use Rattle.ideal_lane.specs.Outcomes.{gives}
 use Rattle.ideal_wire.specs.WireStep as wires

@@ -1,4 +1,3 @@
-use Rattle.std.proofs.Common.{refl}
 use Rattle.bounced_lane.specs.Ideal.{ideal_of}
 use Rattle.bounced_lane.proofs.Doors.{err-map, ok-map}
 use Rattle.bounced_lane.proofs.OneProvided.{provided-of}
@@ -13,7 +12,7 @@ turn-requires-clause-ready g c =
       stands = stands-of (ideal_of l.holdings) l.stands;
       wired = l.wired;
       room = l.room;
-      served = c.requires;
+      served = c.requires.served;
     }
 
 pub turn-requires-clause-provided : goal.turn-requires-clause-provided
@@ -41,7 +40,7 @@ returns-clause-wire g c =
       stands = stands-of (ideal_of l.holdings) l.stands;
       wired = l.wired;
       room = l.room;
-      served = c.requires;
+      served = c.requires.served;
     }) c.turn.result c.turn.ensures.made
 
 pub returns-clause-served : goal.returns-clause-served
@@ -54,3 +53,6 @@ pub returns-clause-err_wire : goal.returns-clause-err_wire
 returns-clause-err_wire g c =
     err-map c.turn.result (kept-follows c.args.self.now.holdings c.turn.new.self c.args.self.now.wired)
     c.turn.ensures.err
+
+pub returns-clause-wanting : goal.returns-clause-wanting
+returns-clause-wanting g c = c.turn.ensures.wanting
