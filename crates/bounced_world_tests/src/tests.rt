@@ -35,11 +35,3 @@ fn the_greatest_seed_is_replayed(rt: HostRuntime) -> Result<(), Fail> {
     assert_eq!(rt; lines.as_slice(), want.as_bytes());
     Ok(())
 }
-
-#[test]
-fn the_longest_storm_is_replayed(rt: HostRuntime) -> Result<(), Fail> {
-    let lines = replayed(rt.alloc(), 256, 1)?;
-    let want = "storm 256 1\nentries 9889\nreports 0\ndeferred 661\nend finished\n";
-    assert_eq!(rt; lines.as_slice(), want.as_bytes());
-    Ok(())
-}
