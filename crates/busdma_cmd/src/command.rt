@@ -9,7 +9,7 @@ ghost use Rattle.busdma_cmd.specs.Ends.{Reads, CountsReads, EndsBy, outcome};
 use crate::cause::Cause;
 use crate::outcome::Outcome;
 use crate::words::{Command, command_of};
-use bounced_world::{replay, status};
+use world_core::{replay, status};
 use busdma_base::{Journal, Scenario};
 use io_edge::{Input, Sink, Source, read_up_to, write_all};
 use report_text::report;

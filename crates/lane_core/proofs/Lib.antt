@@ -1,30 +1,74 @@
-pub mod Actors
-pub mod Copies
-pub mod Covering
-pub mod Faithful
-pub mod FaithfulAccess
-pub mod FaithfulLoad
-pub mod FaithfulOpening
-pub mod FaithfulRanges
-pub mod FaithfulSync
-pub mod FaithfulTurn
-pub mod Falls
-pub mod Fresh
-pub mod Held
-pub mod Lent
-pub mod Moves
-pub mod OneSegment
-pub mod OpeningLane
-pub mod OpeningPages
-pub mod Outcomes
-pub mod OwnPages
-pub mod OwnRuns
-pub mod Passing
-pub mod Places
-pub mod Positions
-pub mod Reaching
-pub mod Reading
-pub mod ScriptTurn
-pub mod SyncedPositions
-pub mod Unbounced
-pub mod Wires
+mod AfterTurn
+mod Asked
+mod AwaitingLoads
+mod AwaitedMaps
+mod AwaitingStays
+mod AwaitingSteps
+mod Bouncing
+mod BufferBytes
+mod Bytes
+mod CallbackTurns
+mod Called
+mod CalledLoads
+mod Changing
+mod Chunked
+mod Copying
+mod Covering
+mod CpuWrites
+mod DeviceReads
+mod Devices
+mod DeviceWrites
+mod Doors
+mod Earlier
+mod EndedWaits
+mod Finding
+mod Following
+mod Foreign
+mod HeldMemory
+mod IdlePages
+mod Keeping
+mod KeepsWired
+mod LaneCalls
+mod Lenders
+mod Loaded
+mod LoadJudged
+mod LoadSteps
+mod Lying
+mod MadeTurns
+mod MapSteps
+mod MapTables
+mod MapValues
+mod MarkedMemory
+mod Marks
+mod OneProvided
+mod OneStanding
+mod OpeningLane
+mod OpeningPages
+mod OpensProvided
+mod OpensWired
+mod OperationSteps
+mod OwnRuns
+mod PagesLent
+mod Places
+mod Preparing
+mod Providing
+mod PutBack
+mod Reaching
+mod Reading
+mod Repaging
+mod Returned
+mod ReturnSteps
+mod ReturnTurns
+mod SameHoldings
+mod ScriptTurns
+mod Shares
+mod SmallLoads
+mod StaysWired
+mod Syncing
+mod TagSteps
+mod TakenLoads
+mod TurnEnds
+mod Unloaded
+mod UnloadSteps
+mod Views
+mod Wires

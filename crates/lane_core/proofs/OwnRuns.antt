@@ -11,9 +11,9 @@ use Rattle.busdma_base.specs.declared.scenarios.scenario.PageRun.{PageRun}
 use Rattle.busdma_base.specs.Each.{EachAfter}
 use Rattle.busdma_base.specs.Runs.{meet, run_of}
 use Rattle.loan_table.specs.Table.{AreNew, set_all}
-use Rattle.lane_core.specs.Opening.{is_own}
+use Rattle.busdma_base.specs.Machine.PageRuns.{is_own}
 use Rattle.lane_core.specs.OpeningMemory.{IsOwnRun, ArePages, is_one_of}
-use Rattle.lane_core.proofs.Held.{get-set_all}
+use Rattle.lane_core.proofs.Marks.{get-set_all}
 
 -- what stands for a run that a list does not have
 abbrev pub no_run : PageRun

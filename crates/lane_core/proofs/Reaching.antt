@@ -7,7 +7,8 @@ use Rattle.std.proofs.lemmas.List.{length-map}
 use Rattle.busdma_base.specs.Runs.{run_of, addresses, byte_count, IsExtent}
 use Rattle.phys_memory.specs.declared.walk.Walked.{Walked}
 use Rattle.phys_memory.specs.declared.walk.Walked.TheVariants.{Parts, Unmapped}
-use Rattle.phys_memory.specs.Memory.{Memory}
+use Rattle.phys_memory.specs.Frames.{SamePages}
+use Rattle.phys_memory.specs.Memory.{Memory, physical}
 use Rattle.phys_memory.specs.Extents.{LiesIn}
 use Rattle.phys_memory.specs.Walk.{IfParts}
 use Rattle.loan_table.specs.Table.{AreIn}
@@ -38,3 +39,7 @@ pub reach_total : {E : Type 0} (len : ℕ) (r : Result Walked E) → len < 2 ^ 6
 reach_total len (Ok (Parts es)) b h = omega (arith, b, byte_count_addresses es, h)
 reach_total len (Ok (Unmapped at)) b h = tt
 reach_total len (Err e) b h = tt
+
+-- a memory with the same pages is reached the same way
+pub same-physical : (m n : Memory) → SamePages m n → physical n ≡ physical m
+same-physical m n s = ap (λ t. λ va. physical (record { table = t; frames = n.frames }) va) s.table

@@ -18,9 +18,10 @@ use Rattle.loan_table.specs.Loans.{addresses_of}
 use Rattle.loan_table.proofs.Addresses.{no_extent}
 use Rattle.loan_table.proofs.Marking.{no_position}
 use Rattle.loan_table.proofs.Judgement.{length-run_of}
-use Rattle.lane_core.specs.Covered.{IsCovered, Lie, SamePages}
+use Rattle.lane_core.specs.Covered.{IsCovered}
+use Rattle.phys_memory.specs.Frames.{Lie, SamePages}
 use Rattle.busdma_base.specs.Machine.Wire.{put, stretch}
-use Rattle.lane_core.proofs.Held.{has_inserted}
+use Rattle.lane_core.proofs.Marks.{has_inserted}
 
 -- nothing is written without values
 wired_none : (xs : List ℕ) (w : ℕ → ℕ) → put xs [] w ≡ w

@@ -1,40 +1,78 @@
--- What of a driver's holdings a call leaves as it was.
-use Rattle.std.specs.Prelude.{◌≡◌}
+-- What of a driver's holdings a step leaves as it was.
+use Rattle.std.specs.Prelude.{◌≡◌, ℕ, ◌==◌, false, [], ◌⊎◌}
+use Rattle.busdma_base.specs.Machine.Wire.{Wire}
+use Rattle.phys_memory.specs.Memory.{wire}
 use Rattle.lane_core.specs.declared.holdings.Holdings.{Holdings}
-use Rattle.lane_core.specs.declared.lane.Lane.{Lane}
-use Rattle.lane_core.specs.Ideal.{ideal_of, wire_held}
+use Rattle.lane_core.specs.Held.{devices_of}
+use Rattle.lane_core.specs.Ideal.{ideal_of}
+use Rattle.lane_core.specs.Wire.{wire_of}
+
+-- the bytes of the driver's frames, and those of the bounce pages of each map
+pub record KeepsBytes (h k : Holdings) : Type 0 where
+  pub own : wire k.memory.memory ≡ wire h.memory.memory
+  pub pages : (m : ℕ) → (devices_of k.maps.map m).pages ≡ (devices_of h.maps.map m).pages
+
+-- the bytes of the driver's frames, and those of the bounce pages of each map that still has its pages
+pub record KeepsBytesHeld (h k : Holdings) : Type 0 where
+  pub own : wire k.memory.memory ≡ wire h.memory.memory
+  pub pages : (m : ℕ) → ((devices_of k.maps.map m).pages ≡ (devices_of h.maps.map m).pages)
+      ⊎ ((devices_of k.maps.map m).pages ≡ [])
+
+-- the bytes of the driver's frames, and those of the bounce pages of each map that has pages before and after
+pub record KeepsWhatStays (h k : Holdings) : Type 0 where
+  pub own : wire k.memory.memory ≡ wire h.memory.memory
+  pub pages : (m : ℕ) → ((devices_of k.maps.map m).pages ≡ (devices_of h.maps.map m).pages)
+      ⊎ (((devices_of h.maps.map m).pages ≡ []) ⊎ ((devices_of k.maps.map m).pages ≡ []))
+
+-- the wire is this one; or it is as it was, but for pages that came and went
+abbrev pub IsWireOf : Holdings → Holdings → Wire → Type 0
+IsWireOf h k w = (wire_of k ≡ w) ⊎ ((w ≡ wire_of h) × KeepsWhatStays h k)
+
+-- the bytes of the driver's frames, and those of the bounce pages of each map but one
+pub record KeepsBytesBut (one : ℕ) (h k : Holdings) : Type 0 where
+  pub own : wire k.memory.memory ≡ wire h.memory.memory
+  pub pages : (m : ℕ) → (one == m) ≡ false → (devices_of k.maps.map m).pages ≡ (devices_of h.maps.map m).pages
+
+-- what a step leaves for want of memory: the ideal state and all bytes
+pub record KeepsState (h k : Holdings) : Type 0 where
+  pub ideal : ideal_of k ≡ ideal_of h
+  pub bytes : KeepsBytes h k
+
+-- all but the tags
+pub record KeepsButTags (h k : Holdings) : Type 0 where
+  pub script : k.script ≡ h.script
+  pub pages : k.pages ≡ h.pages
+  pub id : k.id ≡ h.id
+  pub maxmem : k.maxmem ≡ h.maxmem
+  pub memory : k.memory ≡ h.memory
+  pub maps : k.maps ≡ h.maps
+  pub memories : k.memories ≡ h.memories
+  pub loans : k.loans ≡ h.loans
+  pub agenda : k.agenda ≡ h.agenda
+  pub shares : k.shares ≡ h.shares
 
 -- all but the maps
 pub record KeepsButMaps (h k : Holdings) : Type 0 where
   pub script : k.script ≡ h.script
+  pub pages : k.pages ≡ h.pages
   pub id : k.id ≡ h.id
+  pub maxmem : k.maxmem ≡ h.maxmem
   pub memory : k.memory ≡ h.memory
   pub tags : k.tags ≡ h.tags
+  pub memories : k.memories ≡ h.memories
   pub loans : k.loans ≡ h.loans
   pub agenda : k.agenda ≡ h.agenda
+  pub shares : k.shares ≡ h.shares
 
 -- all but the agenda
 pub record KeepsButAgenda (h k : Holdings) : Type 0 where
   pub script : k.script ≡ h.script
+  pub pages : k.pages ≡ h.pages
   pub id : k.id ≡ h.id
+  pub maxmem : k.maxmem ≡ h.maxmem
   pub memory : k.memory ≡ h.memory
   pub tags : k.tags ≡ h.tags
   pub maps : k.maps ≡ h.maps
+  pub memories : k.memories ≡ h.memories
   pub loans : k.loans ≡ h.loans
-
--- what no sync and no access changes
-pub record KeepsOwn (h k : Holdings) : Type 0 where
-  pub script : k.script ≡ h.script
-  pub id : k.id ≡ h.id
-  pub tags : k.tags ≡ h.tags
-  pub maps : k.maps ≡ h.maps
-  pub agenda : k.agenda ≡ h.agenda
-
--- what a call leaves for want of memory: the ideal state and the wire
-pub record SameState (h k : Holdings) : Type 0 where
-  pub ideal : ideal_of k ≡ ideal_of h
-  pub wire : wire_held k ≡ wire_held h
-
--- the same of a lane
-abbrev pub SameLane : Lane → Lane → Type 0
-SameLane l k = SameState l.holdings k.holdings
+  pub shares : k.shares ≡ h.shares

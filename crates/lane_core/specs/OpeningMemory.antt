@@ -8,7 +8,7 @@ use Rattle.busdma_base.specs.Each.{EachAfter}
 use Rattle.busdma_base.specs.Machine.PageRuns.{pages_end, share_frame, share_page}
 use Rattle.phys_memory.specs.declared.reach.Reach.{Reach}
 use Rattle.phys_memory.specs.Memory.{Memory, physical, wire, has_frame}
-use Rattle.lane_core.specs.Opening.{physical_in, is_own}
+use Rattle.busdma_base.specs.Machine.PageRuns.{physical_in, is_own}
 
 -- a run has a page, lies on page boundaries below the end of pages and in frames of numbers below
 -- 2^30, and shares no frame and no virtual page with a run before it

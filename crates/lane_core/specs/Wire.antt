@@ -1,8 +1,32 @@
--- What syncs make of the bytes that are really held.
-use Rattle.std.specs.Prelude.{ℕ, List, if◌then◌else◌}
-use Rattle.dma_tag.specs.SyncOps.{prewrite, postread}
-use Rattle.busdma_base.specs.Machine.Wire.{Wire, Placed, copied_in, copied_out}
+-- The bytes that a lane really holds, by their bus addresses.
+use Rattle.std.specs.Prelude.{List, Some}
+use Rattle.std.specs.List.{flat_map}
+use Rattle.std.specs.Ordering.{nat_cmp}
+use Rattle.std.specs.FinMap.{FinMap, entries}
+use Rattle.busdma_base.specs.Machine.Page.{FrameBytes}
+use Rattle.busdma_base.specs.Machine.Wire.{Wire, with_bytes_of}
+use Rattle.phys_memory.specs.Memory.{wire}
+use Rattle.ideal_wire.specs.Apart.{IsApart}
+use Rattle.ideal_wire.specs.Centre.{IsFaithful}
+use Rattle.ideal_wire.specs.Laid.{AreLaid}
+use Rattle.ideal_wire.specs.Machine.{IsInMachine}
+use Rattle.lane_core.specs.declared.holdings.Holdings.{Holdings}
+use Rattle.lane_core.specs.declared.kept.KeptMap.{KeptMap}
+use Rattle.lane_core.specs.Ideal.{ideal_of}
+use Rattle.lane_core.specs.Kept.{device_of}
 
--- a sync of these positions: PREWRITE copies in and POSTREAD copies back; PREREAD and POSTWRITE copy nothing
-abbrev pub copied_by : ℕ → List Placed → Wire → Wire
-copied_by ops ps w = if prewrite ops then copied_in ps w else if postread ops then copied_out ps w else w
+-- the bounce pages of maps
+abbrev pub held_pages : FinMap nat_cmp KeptMap → List FrameBytes
+held_pages maps = flat_map (λ e. (device_of (Some e.1)).pages) (entries maps)
+
+-- the bytes of the bounce pages of a driver's maps, and of its own frames
+abbrev pub wire_of : Holdings → Wire
+wire_of h = with_bytes_of (held_pages h.maps.map) (wire h.memory.memory)
+
+-- a driver lies in its machine; its loads are laid in its memory and in their pages, which lie apart; and its wire is
+-- faithful
+pub record IsWired (h : Holdings) : Type 0 where
+  pub machine : IsInMachine (ideal_of h)
+  pub laid : AreLaid (ideal_of h)
+  pub apart : IsApart (ideal_of h)
+  pub faithful : IsFaithful (ideal_of h) (wire_of h)

@@ -1,31 +1,45 @@
 //! Accesses by the driver and by its device.
 
-ghost use Rattle.std.specs.Prelude.{◌≡◌, ◌+◌, ◌≤◌, ◌<◌, ◌^◌, length, map, map as mapped};
-ghost use Rattle.std.specs.Prelude.{IfOk, OnOk, OnErr, IfSome, IfNone};
+ghost use Rattle.std.specs.Prelude.{◌≡◌, ◌+◌, ◌≤◌, ◌<◌, ◌^◌, true, [], length, map, map as mapped, IfOk, IfSome};
+ghost use Rattle.std.specs.Prelude.{IfNone, OnOk, OnErr};
+ghost use Rattle.std.specs.FinMap.{get};
+ghost use Rattle.busdma_base.specs.declared.journals.answer.Answer.TheVariants as answer;
 ghost use Rattle.busdma_base.specs.Runs.{addresses, byte_count};
 ghost use Rattle.busdma_base.specs.Journals.Judging.{judged};
+ghost use Rattle.busdma_base.specs.Machine.Wire.{put};
+ghost use Rattle.device_model.specs.Access.{bus_range};
+ghost use Rattle.dma_map.specs.MapView.{segments_of};
+ghost use Rattle.phys_memory.specs.Frames.{Lie, SamePages};
 ghost use Rattle.phys_memory.specs.Memory.{physical, wire};
 ghost use Rattle.phys_memory.specs.Translation.{physical_or_0, unreached};
 ghost use Rattle.phys_memory.specs.Walk.{IfParts, verdict};
-ghost use Rattle.loan_table.specs.Loans.{addresses_of};
+ghost use Rattle.loan_table.specs.Loans.{load_bytes};
 ghost use Rattle.loan_table.specs.Table.{AreIn, HasMap, IsSame, buffer_of, extent_count};
-ghost use Rattle.lane_core.specs.Calls.{unless_foreign};
-ghost use Rattle.lane_core.specs.Covered.{IsCovered, Lie, SamePages};
-ghost use Rattle.busdma_base.specs.Machine.Wire.{put, stretch};
-ghost use Rattle.lane_core.specs.Lane.{Outcome, gives, virtual, unless_unloaded, unless_past};
-ghost use Rattle.lane_core.specs.Calls as calls;
-ghost use Rattle.lane_core.specs.WireStep as wires;
-ghost use Rattle.lane_core.specs.WireStep.{ChangesNoByte};
+ghost use Rattle.ideal_lane.specs.Accesses as accesses;
+ghost use Rattle.ideal_lane.specs.Asking.{Asking, Gives};
+ghost use Rattle.ideal_lane.specs.Outcomes.{Outcome, gives, unless_past, unless_unloaded};
+ghost use Rattle.ideal_lane.specs.State.{LaneMap};
+ghost use Rattle.ideal_wire.specs.WireStep as wires;
+ghost use Rattle.ideal_wire.specs.WireStep.{Reads, load_buses};
+ghost use Rattle.lane_core.specs.Covered.{has_load};
+ghost use Rattle.lane_core.specs.Held.{device_view};
+ghost use Rattle.lane_core.specs.Kept.{device_in};
+ghost use Rattle.lane_core.specs.PagesLent.{IsReached, IsRepaged};
+ghost use Rattle.lane_core.specs.Virtual.{virtual};
 
 use crate::holdings::{Holdings, report};
-use busdma_base::{Answer, ByteList, Extent, Judged, MapId, Place, ReportName};
+use busdma_base::{Answer, ByteList, Extent, Judged, MapId, PageList, Place, Report, ReportName};
+use device_model::{bus_read, bus_write};
+use dma_map::{DmaMap, MapState, Transfers};
 use loan_table::LoanTable;
 use phys_memory::{LanePages, Walked};
 use std::alloc::{AllocError, Global};
 
 impl Holdings<'_> {
-    ghost use Rattle.lane_core.specs.Changes.{KeepsOwn, SameState};
-    ghost use Rattle.lane_core.specs.Ideal.{ideal_of, traces_of, wire_held};
+    ghost use Rattle.lane_core.specs.Awaiting.{AreAwaiting};
+    ghost use Rattle.lane_core.specs.Changes.{KeepsState};
+    ghost use Rattle.lane_core.specs.Ideal.{given, ideal_of};
+    ghost use Rattle.lane_core.specs.Wire.{IsWired, wire_of};
 
     /// Where `len` bytes at a place lie.
     pub(crate) fn reach(&self, alloc: Global, place: Place, len: u64) -> Result<Walked, AllocError>
@@ -43,46 +57,6 @@ impl Holdings<'_> {
         }
     }
 
-    /// The refusal of a map that does not exist or is not loaded.
-    pub(crate) fn unloaded(&self, map: MapId) -> Option<Answer>
-        ensures refused { IfSome result (λ a.
-            (o : Outcome) → unless_foreign map (ideal_of self.now) (unless_unloaded map.made_at (ideal_of self.now) o)
-            ≡ gives (ideal_of self.now) a) }
-        ensures passed { IfNone result ((o : Outcome) →
-            unless_foreign map (ideal_of self.now) (unless_unloaded map.made_at (ideal_of self.now) o)
-            ≡ o) }
-        ensures there { IfNone result (HasMap self.now.loans map.made_at) }
-        ensures idle { IfSome result ChangesNoByte }
-    {
-        if map.lane != self.id || self.maps.get(map.made_at).is_none() {
-            return Some(report(ReportName::Absent, 0));
-        }
-        if !self.loans.has_map(map) {
-            return Some(report(ReportName::NotLoaded, 0));
-        }
-        None
-    }
-
-    /// The refusal of `len` bytes from `off` on that reach past the end of a map's load.
-    pub(crate) fn past_end(&self, map: MapId, off: u64, len: u64) -> Option<Answer>
-        requires { HasMap self.now.loans map.made_at }
-        ensures refused { IfSome result (λ a.
-            (o : Outcome) → unless_past map.made_at off len (ideal_of self.now) o ≡ gives (ideal_of self.now) a) }
-        ensures passed { IfNone result ((o : Outcome) → unless_past map.made_at off len (ideal_of self.now) o ≡ o) }
-        ensures range { IfNone result (off + len ≤ length (buffer_of self.now.loans map.made_at)) }
-        ensures idle { IfSome result ChangesNoByte }
-        ensures below { IfNone result (off + len < 2 ^ 64) }
-        ensures inside { IfNone result
-            (AreIn self.now.loans.bytes (addresses_of (buffer_of self.now.loans map.made_at))) }
-    {
-        let end = self.loans.len_of(map);
-        if off <= end && len <= end - off {
-            None
-        } else {
-            Some(report(ReportName::PastEnd, end.saturating_sub(off)))
-        }
-    }
-
     /// The driver reads `len` bytes at a place.
     pub(crate) fn cpu_read(
         &self,
@@ -91,7 +65,7 @@ impl Holdings<'_> {
         len: u64,
     ) -> Result<Answer, AllocError>
         ensures { IfOk result (λ answer.
-            gives (ideal_of self.now) answer ≡ calls.cpu_read place len (ideal_of self.now)) }
+            Gives (given self.now answer) ≡ accesses.cpu_read place len (ideal_of self.now)) }
     {
         let bytes = match self.reach(alloc, place, len)? {
             Walked::Unmapped(at) => return Ok(report(ReportName::Unmapped, at)),
@@ -110,12 +84,16 @@ impl Holdings<'_> {
         place: Place,
         bytes: &[u8],
     ) -> Result<Answer, AllocError>
+        requires { IsWired self.old }
         ensures done { IfOk result (λ answer.
-            gives (ideal_of self.new) answer ≡ calls.cpu_write place bytes.now (ideal_of self.old)) }
+            Gives (given self.new answer) ≡ accesses.cpu_write place bytes.now (ideal_of self.old)) }
         ensures wire { IfOk result (λ answer.
-            wire_held self.new ≡ wires.cpu_write answer place bytes.now (ideal_of self.old) (wire_held self.old)) }
-        ensures rest { KeepsOwn self.old self.new }
-        ensures err { OnErr result (SameState self.old self.new) }
+            wire_of self.new ≡ wires.cpu_write place bytes.now (ideal_of self.old) (wire_of self.old)) }
+        ensures awaiting { AreAwaiting self.old → AreAwaiting self.new }
+        ensures script { self.new.script ≡ self.old.script }
+        ensures memories { self.new.memories ≡ self.old.memories }
+        ensures agenda { self.new.agenda ≡ self.old.agenda }
+        ensures err { OnErr result (KeepsState self.old self.new) }
     {
         let parts = match self.reach(alloc, place, bytes.len() as u64)? {
             Walked::Unmapped(at) => return Ok(report(ReportName::Unmapped, at)),
@@ -131,60 +109,150 @@ impl Holdings<'_> {
         Ok(Answer::Done)
     }
 
+    /// The refusal of a map that does not exist or is not loaded.
+    pub(crate) fn unloaded(&self, map: u32) -> Option<Report>
+        ensures refused { IfSome result (λ r. (step : LaneMap → Asking Outcome) →
+            unless_unloaded map (ideal_of self.now) step ≡ gives (ideal_of self.now) (answer.Report r)) }
+        ensures loaded { IfNone result (has_load (get self.now.maps.map map) ≡ true) }
+    {
+        let Some(kept) = self.maps.get(map) else {
+            return Some(Report {
+                name: ReportName::Absent,
+                at: 0,
+            });
+        };
+        let MapState::Loaded = kept.map.state() else {
+            return Some(Report {
+                name: ReportName::NotLoaded,
+                at: 0,
+            });
+        };
+        None
+    }
+
+    /// The refusal of `len` bytes from `off` on that reach past the end of a map's load.
+    pub(crate) fn past_end(&self, map: u32, off: u64, len: u64) -> Option<Report>
+        requires { has_load (get self.now.maps.map map) ≡ true }
+        ensures refused { IfSome result (λ r. (step : Asking Outcome) →
+            unless_past map off len (ideal_of self.now) step ≡ gives (ideal_of self.now) (answer.Report r)) }
+        ensures range { IfNone result (off + len ≤ length (buffer_of self.now.loans map)) }
+        ensures below { IfNone result (off + len < 2 ^ 64) }
+        ensures inside { IfNone result (AreIn self.now.loans.bytes (load_bytes self.now.loans.loans map off len)) }
+    {
+        let end = self.loans.len_of(self.map_id(map));
+        if off <= end && len <= end - off {
+            None
+        } else {
+            Some(Report {
+                name: ReportName::PastEnd,
+                at: end.saturating_sub(off),
+            })
+        }
+    }
+
     /// The device reads `len` bytes of a map's load, from `off` on.
     pub(crate) fn dev_read(
-        &self,
+        &mut self,
         alloc: Global,
-        map: MapId,
+        map: u32,
         off: u64,
         len: u64,
     ) -> Result<Answer, AllocError>
-        ensures { IfOk result (λ answer.
-            gives (ideal_of self.now) answer ≡ calls.dev_read map off len (ideal_of self.now)) }
+        requires { IsWired self.old }
+        ensures done { IfOk result (λ answer.
+            Gives (given self.new answer) ≡ accesses.dev_read map off len (ideal_of self.old)) }
+        ensures read { IfOk result (λ answer.
+            Reads answer (load_buses (ideal_of self.old) map off len) (wire_of self.old)) }
+        ensures wire { wire_of self.new ≡ wire_of self.old }
+        ensures kept { KeepsState self.old self.new }
+        ensures awaiting { AreAwaiting self.old → AreAwaiting self.new }
+        ensures script { self.new.script ≡ self.old.script }
+        ensures memories { self.new.memories ≡ self.old.memories }
+        ensures agenda { self.new.agenda ≡ self.old.agenda }
     {
         if let Some(refusal) = self.unloaded(map) {
-            return Ok(refusal);
-        }
-        if let Some(refusal) = self.past_end(map, off, len) {
-            return Ok(refusal);
-        }
-        if let Judged::Refused(refusal) = self.loans.may_dev_read(map, off, len) {
             return Ok(Answer::Report(refusal));
         }
-        Ok(Answer::Bytes(read_load(&self.memory, &self.loans, alloc, map, off, len)?))
+        if let Some(refusal) = self.past_end(map, off, len) {
+            return Ok(Answer::Report(refusal));
+        }
+        if let Judged::Refused(refusal) = self.loans.may_dev_read(self.map_id(map), off, len) {
+            return Ok(Answer::Report(refusal));
+        }
+        let Some(mut kept) = self.maps.take(map) else {
+            unreachable!()
+        };
+        let bytes = read_load(&mut kept.map, &self.memory, alloc, off, len);
+        self.maps.put(map, kept);
+        Ok(Answer::Bytes(bytes?))
     }
 
     /// The device writes bytes into a map's load, from `off` on.
     pub(crate) fn dev_write(
         &mut self,
         alloc: Global,
-        map: MapId,
+        map: u32,
         off: u64,
         bytes: &[u8],
     ) -> Result<Answer, AllocError>
+        requires { IsWired self.old }
         ensures done { IfOk result (λ answer.
-            gives (ideal_of self.new) answer ≡ calls.dev_write map off bytes.now (ideal_of self.old)) }
+            Gives (given self.new answer) ≡ accesses.dev_write map off bytes.now (ideal_of self.old)) }
         ensures wire { IfOk result (λ answer.
-            wire_held self.new
-            ≡ wires.dev_write answer map.made_at off bytes.now (traces_of (ideal_of self.old)) (wire_held self.old)) }
-        ensures rest { KeepsOwn self.old self.new }
-        ensures err { OnErr result (SameState self.old self.new) }
+            wire_of self.new ≡ wires.dev_write map off bytes.now (ideal_of self.old) (wire_of self.old)) }
+        ensures awaiting { AreAwaiting self.old → AreAwaiting self.new }
+        ensures script { self.new.script ≡ self.old.script }
+        ensures memories { self.new.memories ≡ self.old.memories }
+        ensures agenda { self.new.agenda ≡ self.old.agenda }
+        ensures err { OnErr result (KeepsState self.old self.new) }
     {
         let len = bytes.len() as u64;
         if let Some(refusal) = self.unloaded(map) {
-            return Ok(refusal);
-        }
-        if let Some(refusal) = self.past_end(map, off, len) {
-            return Ok(refusal);
-        }
-        if let Judged::Refused(refusal) = self.loans.may_dev_write(map, off, len) {
             return Ok(Answer::Report(refusal));
         }
-        reserve_extents(&mut self.loans, alloc, map, off, len)?;
-        write_load(&mut self.memory, &self.loans, map, off, bytes);
-        self.loans.note_dev_write(map, off, len);
+        if let Some(refusal) = self.past_end(map, off, len) {
+            return Ok(Answer::Report(refusal));
+        }
+        let id = self.map_id(map);
+        if let Judged::Refused(refusal) = self.loans.may_dev_write(id, off, len) {
+            return Ok(Answer::Report(refusal));
+        }
+        reserve_extents(&mut self.loans, alloc, id, off, len)?;
+        let Some(mut kept) = self.maps.take(map) else {
+            unreachable!()
+        };
+        write_load(&mut kept.map, &mut self.memory, off, bytes);
+        self.maps.put(map, kept);
+        self.loans.note_dev_write(id, off, len);
         Ok(Answer::Done)
     }
+}
+
+/// `len` bytes of a map's load, from `off` on, at their bus addresses.
+fn read_load(
+    map: &mut DmaMap<Transfers>,
+    memory: &LanePages,
+    alloc: Global,
+    off: u64,
+    len: u64,
+) -> Result<ByteList, AllocError>
+    requires { IsReached memory.now.memory map.old.stage off len }
+    ensures bytes { IfOk result (λ bytes.
+        bytes ≡ mapped (device_view (device_in map.old.stage) memory.now.memory)
+        (bus_range off len (segments_of map.old.stage))) }
+    ensures kept { map.new ≡ map.old }
+{
+    let mut bytes = vec![in alloc; 0; len as usize]?;
+    let pages = map.lend_pages();
+    bus_read(
+        map.segments(),
+        off,
+        bytes.as_mut_slice(),
+        memory,
+        pages.as_slice(),
+    );
+    map.restore_pages(pages);
+    Ok(ByteList::new(bytes))
 }
 
 /// The bytes of extents, `len` of them.
@@ -234,47 +302,18 @@ fn write_parts(memory: &mut LanePages, parts: &[Extent], bytes: &[u8])
     }
 }
 
-/// `len` bytes of a map's load, from `off` on.
-fn read_load(
-    memory: &LanePages,
-    loans: &LoanTable,
-    alloc: Global,
-    map: MapId,
-    off: u64,
-    len: u64,
-) -> Result<ByteList, AllocError>
-    requires covered { IsCovered memory.now.memory loans.now.bytes }
-    requires there { HasMap loans.now map.made_at }
-    requires range { off + len ≤ length (buffer_of loans.now map.made_at) }
-    requires below { off + len < 2 ^ 64 }
-    ensures { IfOk result (λ bytes.
-        bytes ≡ mapped (wire memory.now.memory) (addresses_of (stretch off len (buffer_of loans.now map.made_at)))) }
-{
-    let mut bytes = Vec::with_capacity(alloc, len as usize)?;
-    for at in off..off + len {
-        let mut held = [0];
-        memory.read(loans.byte_at(map, at), &mut held);
-        bytes.push(held[0])?;
-    }
-    Ok(ByteList::new(bytes))
-}
-
-/// Writes bytes into a map's load, from `off` on.
-fn write_load(memory: &mut LanePages, loans: &LoanTable, map: MapId, off: u64, bytes: &[u8])
-    requires covered { IsCovered memory.old.memory loans.now.bytes }
-    requires there { HasMap loans.now map.made_at }
-    requires range { off + length bytes.now ≤ length (buffer_of loans.now map.made_at) }
-    requires below { off + length bytes.now < 2 ^ 64 }
-    ensures wire { wire memory.new.memory
-        ≡ put (addresses_of (stretch off (length bytes.now) (buffer_of loans.now map.made_at))) bytes.now
-        (wire memory.old.memory) }
+/// Writes bytes into a map's load at their bus addresses, from `off` on.
+fn write_load(map: &mut DmaMap<Transfers>, memory: &mut LanePages, off: u64, bytes: &[u8])
+    requires { IsReached memory.old.memory map.old.stage off (length bytes.now) }
+    ensures view { device_view (device_in map.new.stage) memory.new.memory
+        ≡ put (bus_range off (length bytes.now) (segments_of map.old.stage)) bytes.now
+        (device_view (device_in map.old.stage) memory.old.memory) }
+    ensures map { IsRepaged map.old map.new }
     ensures same { SamePages memory.old.memory memory.new.memory }
 {
-    let mut at = off;
-    for byte in bytes {
-        memory.write(loans.byte_at(map, at), &[*byte]);
-        at += 1;
-    }
+    let mut pages = map.lend_pages().into_vec();
+    bus_write(map.segments(), off, bytes, memory, pages.as_mut_slice());
+    map.restore_pages(PageList::from_vec(pages));
 }
 
 /// Makes room to change `len` bytes of a map's load, from `off` on.
@@ -287,8 +326,7 @@ pub(crate) fn reserve_extents(
 ) -> Result<(), AllocError>
     requires there { HasMap loans.old map.made_at }
     requires range { off + len ≤ length (buffer_of loans.old map.made_at) }
-    ensures room { OnOk result
-        (extent_count (addresses_of (stretch off len (buffer_of loans.old map.made_at))) ≤ loans.new.spare) }
+    ensures room { OnOk result (extent_count (load_bytes loans.old.loans map.made_at off len) ≤ loans.new.spare) }
     ensures same { IsSame loans.old loans.new }
 {
     let extents = loans.extents(map, off, len);

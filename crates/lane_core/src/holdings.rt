@@ -1,36 +1,48 @@
 //! What a driver holds.
 
-ghost use Rattle.std.specs.Prelude.{◌≡◌, ◌/◌, ℕ, true};
-ghost use Rattle.std.specs.FinMap.{contains_key};
-ghost use Rattle.phys_memory.specs.Memory.{has_frame};
+ghost use Rattle.std.specs.Prelude.{◌≡◌, ◌≤◌, ℕ, true, false};
+ghost use Rattle.std.specs.FinMap.{get};
 ghost use Rattle.busdma_base.specs.declared.journals.answer.Answer.TheVariants as answer;
-ghost use Rattle.lane_core.specs.Covered.{IsCovered};
+ghost use Rattle.lane_core.specs.Covered.{AreLoaded, AreOwn, AreReturning, IsCovered, Reaches};
+ghost use Rattle.lane_core.specs.Covered.{is_tried, lends_pages, pages_due};
 
-use crate::map::LaneMap;
-use busdma_base::{Answer, LaneId, MapId, Op, Report, ReportName};
-use dma_tag::Tag;
+use crate::kept::{KeptMap, KeptMemory, KeptShare, KeptTag};
+use busdma_base::{Answer, LaneId, MapId, Op, PageRun, Report, ReportName};
 use lane_tables::{Agenda, PlaceTable};
 use loan_table::LoanTable;
 use phys_memory::LanePages;
 
-/// A driver's script, and all that its steps change: its memory, its tags and maps by the places that made them,
-/// what its maps lend, and its place and queues.
+/// A driver's number, script and pages, the end of the machine's memory in frames, and all that its steps change: its
+/// memory; its tags, maps and dmamem memories by the places that made them, where the map of a memory has the memory's
+/// place; what its maps lend; its place and queues; and its shares of what zones copied.
 #[derive(Drop)]
 pub(crate) struct Holdings<'s> {
     pub(crate) script: &'s [Op],
+    pub(crate) pages: &'s [PageRun],
     pub(crate) id: LaneId,
+    pub(crate) maxmem: u64,
     pub(crate) memory: LanePages,
-    pub(crate) tags: PlaceTable<Tag>,
-    pub(crate) maps: PlaceTable<LaneMap>,
+    pub(crate) tags: PlaceTable<KeptTag>,
+    pub(crate) maps: PlaceTable<KeptMap>,
+    pub(crate) memories: PlaceTable<KeptMemory>,
     pub(crate) loans: LoanTable,
     pub(crate) agenda: Agenda,
+    pub(crate) shares: Vec<KeptShare>,
     ghost covered: { IsCovered memory.memory loans.bytes },
+    ghost reaches: { Reaches pages.now memories.map memory.memory },
     ghost tag_places: { tags.places ≡ agenda.length },
     ghost map_places: { maps.places ≡ agenda.length },
+    ghost memory_places: { memories.places ≡ agenda.length },
+    ghost loaded: { AreLoaded maps.map loans.loans },
+    ghost unlent: { (k : ℕ) → lends_pages (get maps.map k) ≡ false },
+    ghost promised: { pages_due maps.map ≤ agenda.promised },
+    ghost own_returns: { AreOwn id.0 agenda.returns },
+    ghost returning: { AreReturning maps.map agenda.returns },
+    ghost tried: { (k : ℕ) → is_tried (get maps.map k) ≡ true },
 }
 
 impl Holdings<'_> {
-    /// The map that was made at a place.
+    /// The map or the memory that was made at a place.
     pub(crate) fn map_id(&self, made_at: u32) -> MapId
         ensures { result ≡ record { lane = self.now.id; made_at = made_at } }
     {
@@ -38,6 +50,23 @@ impl Holdings<'_> {
             lane: self.id,
             made_at,
         }
+    }
+}
+
+/// What an operation answers, and whether it made a call under the bounce lock.
+#[derive(Drop)]
+pub(crate) struct Answered {
+    pub(crate) answer: Answer,
+    pub(crate) held: bool,
+}
+
+/// What a step answers that makes no call.
+pub(crate) fn unheld(answer: Answer) -> Answered
+    ensures { result ≡ record { answer = answer; held = false } }
+{
+    Answered {
+        answer,
+        held: false,
     }
 }
 

@@ -1,8 +1,12 @@
 //! A driver's lane.
 
-ghost use Rattle.std.specs.Prelude.{◌≡◌, ◌≤◌, length};
-ghost use Rattle.std.specs.FinMap.{contains_key};
-ghost use Rattle.lane_core.specs.Covered.{IsVacantFrom, items_left};
+ghost use Rattle.std.specs.Prelude.{◌≡◌, ◌≤◌, ◌+◌, length, IfOk, OnErr, OnOk};
+ghost use Rattle.ideal_lane.specs.Ahead.{items_ahead};
+ghost use Rattle.ideal_lane.specs.Standing.{Stands};
+ghost use Rattle.lane_core.specs.Ideal.{ideal_of};
+ghost use Rattle.lane_core.specs.OneProof.{IsWired-prop};
+ghost use Rattle.lane_core.specs.Provided.{IsProvided};
+ghost use Rattle.lane_core.specs.Wire.{IsWired};
 
 use crate::holdings::Holdings;
 
@@ -10,8 +14,9 @@ use crate::holdings::Holdings;
 #[derive(Drop)]
 pub struct Lane<'s> {
     pub(crate) holdings: Holdings<'s>,
+    ghost wired: { IsWired holdings } by { IsWired-prop holdings },
+    ghost stands: { ∥ Stands (ideal_of holdings) ∥₁ },
+    ghost provided: { ∥ IsProvided holdings ∥₁ },
     ghost length: { holdings.agenda.length ≡ length holdings.script.now },
-    ghost room: { items_left holdings.agenda.place holdings.script.now ≤ holdings.agenda.room },
-    ghost new_tags: { IsVacantFrom holdings.agenda.place holdings.tags.map },
-    ghost new_maps: { IsVacantFrom holdings.agenda.place holdings.maps.map },
+    ghost room: { items_ahead (ideal_of holdings) ≤ holdings.agenda.room },
 }

@@ -1,25 +1,31 @@
-//! One driver: its ideal state, its step, and the lane that makes it.
+//! One driver over the bounce lock: the lane that makes the steps of the ideal driver.
 #![tactic(auto)]
 
 mod accesses;
+mod awaiting;
+mod buffers;
+mod callbacks;
+mod calls;
+mod ended;
+mod finishing;
 mod holdings;
+mod judging;
+mod kept;
 mod lane;
-mod laws;
-mod map;
+mod loads;
 mod maps;
 mod opening;
-mod step;
+mod operations;
+mod returns;
+mod stepping;
+mod steps;
 mod syncs;
 mod tags;
 mod turn;
 mod turns;
+mod unloads;
+mod waiting;
 
 pub use lane::Lane;
-pub use laws::{
-    cpu_read_is_faithful, cpu_write_stays_faithful, dev_read_is_faithful, dev_write_stays_faithful,
-    lane_agrees, load_stays_faithful, opening_is_faithful, sync_range_stays_faithful,
-    sync_stays_faithful, turn_stays_faithful, unload_stays_faithful,
-};
-pub use map::LaneMap;
 pub use opening::opening_memory;
 pub use turn::Turn;

@@ -1,190 +1,256 @@
-//! Operations on maps.
+//! Operations on maps that are not loaded.
 
-ghost use Rattle.std.specs.Prelude.{◌≡◌, ◌<◌, ◌≤◌, ◌+◌, true, false, IfOk, OnOk, OnErr, length};
-ghost use Rattle.std.specs.List.{AllByRecursion};
-ghost use Rattle.busdma_base.specs.declared.journals.answer.Answer.TheVariants.{Segments};
-ghost use Rattle.busdma_base.specs.Runs.{IsExtent, addresses};
-ghost use Rattle.std.specs.FinMap.{contains_key};
-ghost use Rattle.lane_core.specs.Covered.{Lie};
-ghost use Rattle.lane_core.specs.Lane.{gives};
-ghost use Rattle.lane_core.specs.Maps as maps;
+ghost use Rattle.std.specs.Prelude.{◌≡◌, ◌<◌, ◌≤◌, true, Some, None, IfOk, OnErr, if◌then◌else◌};
+ghost use Rattle.std.specs.FinMap.{get};
+ghost use Rattle.std.specs.Option.{option_map};
+ghost use Rattle.busdma_base.specs.declared.journals.answer.Answer.TheVariants.{Done};
+ghost use Rattle.busdma_base.specs.Tags.Tag.{could_bounce};
+ghost use Rattle.ideal_lane.specs.Asking.{Gives};
+ghost use Rattle.ideal_lane.specs.Maps as maps;
+ghost use Rattle.ideal_lane.specs.Maps.{with_map, without_map};
+ghost use Rattle.ideal_lane.specs.Outcomes.{gives};
+ghost use Rattle.ideal_lane.specs.Tags.{with_tag};
+ghost use Rattle.lane_core.specs.declared.kept.KeptTag.{KeptTag};
+ghost use Rattle.lane_core.specs.Doing.{IsAllowedBy, IsDone, IsUndone, asks};
+ghost use Rattle.lane_core.specs.Covered.{is_idle_map};
 
-use crate::holdings::{Holdings, report};
-use crate::map::LaneMap;
-use busdma_base::{Answer, Errno, Extent, Item, ItemList, Place, ReportName, Segment, SegmentList};
-use phys_memory::Walked;
+use crate::holdings::{Answered, Holdings, report};
+use crate::kept::{KeptMap, KeptTag};
+use busdma_base::{Answer, Errno, Grown, HubDoor, ReportName, ZoneId};
+use dma_map::{DmaMap, MapState};
 use std::alloc::{AllocError, Global};
 
 impl Holdings<'_> {
-    ghost use Rattle.lane_core.specs.Changes.{KeepsButMaps};
-    ghost use Rattle.lane_core.specs.Ideal.{ideal_of, wire_held};
+    ghost use Rattle.lane_core.specs.Awaiting.{AreAwaiting};
+    ghost use Rattle.lane_core.specs.Changes.{KeepsBytes, KeepsState};
+    ghost use Rattle.lane_core.specs.Ideal.{given, ideal_of};
 
     /// Makes the map of this place, of a tag.
-    pub(crate) fn make_map(&mut self, alloc: Global, tag: u32) -> Result<Answer, AllocError>
+    pub(crate) fn make_map<D: HubDoor>(
+        &mut self,
+        alloc: Global,
+        door: &mut D,
+        tag: u32,
+    ) -> Result<Answered, AllocError>
         requires going { self.old.agenda.place < self.old.agenda.length }
-        requires vacant { contains_key self.old.maps.map self.old.agenda.place ≡ false }
-        ensures done { IfOk result (λ answer. gives (ideal_of self.new) answer ≡ maps.map tag (ideal_of self.old)) }
-        ensures wire { wire_held self.new ≡ wire_held self.old }
+        requires vacant { get self.old.maps.map self.old.agenda.place ≡ None }
+        requires allowed { IsAllowedBy (D.seen door.old) self.old.id.0 (maps.map tag (ideal_of self.old)) }
+        ensures done { IfOk result (λ r.
+            IsDone (D.seen door.old) self.old.id.0 (maps.map tag (ideal_of self.old))
+            (given self.new r.answer) (D.seen door.new)) }
+        ensures held { IfOk result (λ r. r.held ≡ asks (maps.map tag (ideal_of self.old))) }
+        ensures err { OnErr result (KeepsState self.old self.new) }
+        ensures undone { OnErr result (IsUndone (D.seen door.old) (D.seen door.new)) }
+        ensures bytes { KeepsBytes self.old self.new }
+        ensures awaiting { AreAwaiting self.old → AreAwaiting self.new }
+        ensures script { self.new.script ≡ self.old.script }
+        ensures memories { self.new.memories ≡ self.old.memories }
         ensures agenda { self.new.agenda ≡ self.old.agenda }
-        ensures err { OnErr result (ideal_of self.new ≡ ideal_of self.old) }
+        ensures fixed { D.fixed door.new ≡ D.fixed door.old }
     {
-        if self.tags.get(tag).is_none() {
-            return Ok(report(ReportName::Absent, 0));
+        match self.bounces(tag) {
+            None => Ok(Answered {
+                answer: report(ReportName::Absent, 0),
+                held: false,
+            }),
+            Some(false) => Ok(Answered {
+                answer: self.keep_map(alloc, tag)?,
+                held: false,
+            }),
+            Some(true) => Ok(Answered {
+                answer: self.create_map(alloc, door, tag)?,
+                held: true,
+            }),
         }
+    }
+
+    /// Whether a tag could bounce, if it exists.
+    fn bounces(&self, tag: u32) -> Option<bool>
+        ensures { result
+            ≡ option_map (λ (t : KeptTag). could_bounce t.tag self.now.maxmem) (get self.now.tags.map tag) }
+    {
+        let kept = self.tags.get(tag)?;
+        Some(kept.tag.could_bounce(self.maxmem))
+    }
+
+    /// Makes a map without a call.
+    fn keep_map(&mut self, alloc: Global, tag: u32) -> Result<Answer, AllocError>
+        requires going { self.old.agenda.place < self.old.agenda.length }
+        requires vacant { get self.old.maps.map self.old.agenda.place ≡ None }
+        ensures done { IfOk result (λ answer. Gives (given self.new answer)
+            ≡ gives (with_map tag None (ideal_of self.old)) Done) }
+        ensures err { OnErr result (KeepsState self.old self.new) }
+        ensures bytes { KeepsBytes self.old self.new }
+        ensures awaiting { AreAwaiting self.old → AreAwaiting self.new }
+        ensures script { self.new.script ≡ self.old.script }
+        ensures memories { self.new.memories ≡ self.old.memories }
+        ensures agenda { self.new.agenda ≡ self.old.agenda }
+    {
         self.maps.reserve(alloc)?;
-        let place = self.agenda.place();
-        self.maps.put(place, LaneMap { tag, tried: false });
+        self.put_map(tag, None);
         Ok(Answer::Done)
     }
 
-    /// Ends a map that is idle.
-    pub(crate) fn destroy_map(&mut self, map: u32) -> Answer
-        ensures done { gives (ideal_of self.new) result ≡ maps.map_destroy map (ideal_of self.old) }
-        ensures wire { wire_held self.new ≡ wire_held self.old }
+    /// Makes a map in the zone of its tag, where all pages came that are wanted. The tag's first allocation is then
+    /// done.
+    fn create_map<D: HubDoor>(
+        &mut self,
+        alloc: Global,
+        door: &mut D,
+        tag: u32,
+    ) -> Result<Answer, AllocError>
+        requires going { self.old.agenda.place < self.old.agenda.length }
+        requires vacant { get self.old.maps.map self.old.agenda.place ≡ None }
+        requires bounces { option_map (λ (t : KeptTag). could_bounce t.tag self.old.maxmem) (get self.old.tags.map tag)
+            ≡ Some true }
+        requires allowed { IsAllowedBy (D.seen door.old) self.old.id.0 (maps.map tag (ideal_of self.old)) }
+        ensures done { IfOk result (λ answer.
+            IsDone (D.seen door.old) self.old.id.0 (maps.map tag (ideal_of self.old))
+            (given self.new answer) (D.seen door.new)) }
+        ensures err { OnErr result (KeepsState self.old self.new) }
+        ensures undone { OnErr result (IsUndone (D.seen door.old) (D.seen door.new)) }
+        ensures bytes { KeepsBytes self.old self.new }
+        ensures awaiting { AreAwaiting self.old → AreAwaiting self.new }
+        ensures script { self.new.script ≡ self.old.script }
+        ensures memories { self.new.memories ≡ self.old.memories }
+        ensures agenda { self.new.agenda ≡ self.old.agenda }
+        ensures fixed { D.fixed door.new ≡ D.fixed door.old }
+    {
+        self.maps.reserve(alloc)?;
+        let id = self.map_id(self.agenda.place());
+        let Some(kept) = self.tags.get(tag) else {
+            return Ok(report(ReportName::Absent, 0));
+        };
+        let grown = door.create_map(alloc, id, kept.tag.limits(), kept.first_done)?;
+        self.keep_created(tag, grown);
+        Ok(Answer::Grown(grown))
+    }
+
+    /// Keeps the map of this place, of a tag, where it was made in its zone.
+    fn keep_created(&mut self, tag: u32, grown: Grown)
+        requires room { 1 ≤ self.old.maps.spare }
+        requires going { self.old.agenda.place < self.old.agenda.length }
+        requires vacant { get self.old.maps.map self.old.agenda.place ≡ None }
+        ensures done { (t : KeptTag) → get self.old.tags.map tag ≡ Some t →
+            ideal_of self.new ≡ (if grown.made
+            then with_tag tag t.tag true (with_map tag (Some grown.zone.0) (ideal_of self.old))
+            else ideal_of self.old) }
+        ensures bytes { KeepsBytes self.old self.new }
+        ensures awaiting { AreAwaiting self.old → AreAwaiting self.new }
+        ensures script { self.new.script ≡ self.old.script }
+        ensures memories { self.new.memories ≡ self.old.memories }
         ensures agenda { self.new.agenda ≡ self.old.agenda }
     {
-        if self.maps.get(map).is_none() {
-            return report(ReportName::Absent, 0);
+        if grown.made {
+            self.put_map(tag, Some(grown.zone));
+            self.note_first(tag);
         }
-        if self.loans.has_map(self.map_id(map)) {
-            return Answer::Refused(Errno::EBUSY);
-        }
-        self.maps.take(map);
-        Answer::Done
     }
 
-    /// Loads a map with `len` bytes at a place, and calls its callback, which appends the items.
-    pub(crate) fn load(
-        &mut self,
-        alloc: Global,
-        map: u32,
-        place: Place,
-        len: u64,
-        then: &ItemList,
-    ) -> Result<Answer, AllocError>
-        requires room { length then.now ≤ self.old.agenda.room }
-        ensures done { IfOk result (λ answer.
-            gives (ideal_of self.new) answer ≡ maps.load map place len then.now (ideal_of self.old)) }
-        ensures wire { wire_held self.new ≡ wire_held self.old }
-        ensures length { self.new.agenda.length ≡ self.old.agenda.length }
-        ensures room { self.old.agenda.room ≤ self.new.agenda.room + length then.now }
-        ensures err { OnErr result (ideal_of self.new ≡ ideal_of self.old) }
-        ensures err_room { OnErr result (self.new.agenda ≡ self.old.agenda) }
+    /// Puts the idle map of this place, of a tag.
+    fn put_map(&mut self, tag: u32, zone: Option<ZoneId>)
+        requires room { 1 ≤ self.old.maps.spare }
+        requires going { self.old.agenda.place < self.old.agenda.length }
+        requires vacant { get self.old.maps.map self.old.agenda.place ≡ None }
+        ensures done { ideal_of self.new ≡ with_map tag (option_map (λ z. z.0) zone) (ideal_of self.old) }
+        ensures tags { self.new.tags ≡ self.old.tags }
+        ensures agenda { self.new.agenda ≡ self.old.agenda }
+        ensures bytes { KeepsBytes self.old self.new }
+        ensures awaiting { AreAwaiting self.old → AreAwaiting self.new }
+        ensures script { self.new.script ≡ self.old.script }
+        ensures memories { self.new.memories ≡ self.old.memories }
     {
-        if self.maps.get(map).is_none() {
-            return Ok(report(ReportName::Absent, 0));
-        }
-        if self.loans.has_map(self.map_id(map)) {
-            return Ok(report(ReportName::MapBusy, 0));
-        }
-        let bytes = match self.reach(alloc, place, len)? {
-            Walked::Unmapped(at) => return Ok(report(ReportName::Unmapped, at)),
-            Walked::Parts(bytes) => bytes,
-        };
-        if self.greatest_load(map) < len {
-            self.note_tried(map);
-            return Ok(Answer::Refused(Errno::EINVAL));
-        }
-        self.load_bytes(alloc, map, bytes.as_slice(), len, then)
+        let place = self.agenda.place();
+        let map = DmaMap::new(self.map_id(place), zone);
+        self.maps.put(place, KeptMap { tag, need: 0, map });
     }
 
-    /// Loads an idle map with bytes.
-    fn load_bytes(
-        &mut self,
-        alloc: Global,
-        map: u32,
-        bytes: &[Extent],
-        len: u64,
-        then: &ItemList,
-    ) -> Result<Answer, AllocError>
-        requires made { contains_key self.old.maps.map map ≡ true }
-        requires idle { contains_key self.old.loans.loans map ≡ false }
-        requires lie { Lie self.old.memory.memory bytes.now }
-        requires len { length (addresses bytes.now) ≡ len }
-        requires room { length then.now ≤ self.old.agenda.room }
-        ensures done { IfOk result (λ answer. gives (ideal_of self.new) answer
-            ≡ gives (maps.loaded map (addresses bytes.now) then.now (ideal_of self.old))
-            (Segments (maps.one_segment (addresses bytes.now)))) }
-        ensures wire { wire_held self.new ≡ wire_held self.old }
-        ensures length { self.new.agenda.length ≡ self.old.agenda.length }
-        ensures room { OnOk result (self.new.agenda.room + length then.now ≡ self.old.agenda.room) }
-        ensures err { OnErr result (ideal_of self.new ≡ ideal_of self.old) }
-        ensures err_room { OnErr result (self.new.agenda ≡ self.old.agenda) }
+    /// Notes that the first allocation of a tag is done.
+    fn note_first(&mut self, tag: u32)
+        ensures done { (t : _) → get self.old.tags.map tag ≡ Some t →
+            ideal_of self.new ≡ with_tag tag t.tag true (ideal_of self.old) }
+        ensures agenda { self.new.agenda ≡ self.old.agenda }
+        ensures bytes { KeepsBytes self.old self.new }
+        ensures awaiting { AreAwaiting self.old → AreAwaiting self.new }
+        ensures script { self.new.script ≡ self.old.script }
+        ensures memories { self.new.memories ≡ self.old.memories }
     {
-        let segments = one_segment(alloc, bytes, len)?;
-        let items = then.clone()?;
-        let id = self.map_id(map);
-        self.loans.add_map(alloc, id, bytes, false)?;
-        self.note_tried(map);
-        let load_at = self.agenda.place();
-        self.agenda.push_items(load_at, items);
-        Ok(Answer::Segments(segments))
-    }
-
-    /// The greatest length of a load of a map.
-    fn greatest_load(&self, map: u32) -> u64
-        ensures { result ≡ maps.greatest_load (ideal_of self.now) map }
-    {
-        let tag = self.maps.get(map).map_or(0, |map| map.tag);
-        self.tags.get(tag).map_or(0, |tag| tag.limits().maxsize)
-    }
-
-    /// Notes that a load of a map has called its callback.
-    fn note_tried(&mut self, map: u32)
-        requires { contains_key self.old.maps.map map ≡ true }
-        ensures done { ideal_of self.new ≡ maps.tried map (ideal_of self.old) }
-        ensures rest { KeepsButMaps self.old self.new }
-    {
-        if let Some(made) = self.maps.take(map) {
-            self.maps.put(
-                map,
-                LaneMap {
-                    tried: true,
-                    ..made
+        if let Some(kept) = self.tags.take(tag) {
+            let KeptTag {
+                tag: limits,
+                first_done: _,
+            } = kept;
+            self.tags.put(
+                tag,
+                KeptTag {
+                    tag: limits,
+                    first_done: true,
                 },
             );
         }
     }
 
-    /// Unloads a map.
-    pub(crate) fn unload(&mut self, map: u32) -> Answer
-        ensures done { gives (ideal_of self.new) result ≡ maps.unload map (ideal_of self.old) }
-        ensures wire { wire_held self.new ≡ wire_held self.old }
+    /// Ends a map that is idle.
+    pub(crate) fn destroy_map<D: HubDoor>(&mut self, door: &mut D, map: u32) -> Answered
+        requires { IsAllowedBy (D.seen door.old) self.old.id.0 (maps.map_destroy map (ideal_of self.old)) }
+        ensures done { IsDone (D.seen door.old) self.old.id.0 (maps.map_destroy map (ideal_of self.old))
+            (given self.new result.answer) (D.seen door.new) }
+        ensures held { result.held ≡ asks (maps.map_destroy map (ideal_of self.old)) }
+        ensures bytes { KeepsBytes self.old self.new }
+        ensures awaiting { AreAwaiting self.old → AreAwaiting self.new }
+        ensures script { self.new.script ≡ self.old.script }
+        ensures memories { self.new.memories ≡ self.old.memories }
+        ensures agenda { self.new.agenda ≡ self.old.agenda }
+        ensures fixed { D.fixed door.new ≡ D.fixed door.old }
+    {
+        let Some(kept) = self.maps.get(map) else {
+            return Answered {
+                answer: report(ReportName::Absent, 0),
+                held: false,
+            };
+        };
+        let MapState::Idle = kept.map.state() else {
+            return Answered {
+                answer: Answer::Refused(Errno::EBUSY),
+                held: false,
+            };
+        };
+        let Some(zone) = kept.map.zone() else {
+            self.drop_map(map);
+            return Answered {
+                answer: Answer::Done,
+                held: false,
+            };
+        };
+        door.destroy_map(self.map_id(map), zone);
+        self.drop_map(map);
+        Answered {
+            answer: Answer::Done,
+            held: true,
+        }
+    }
+
+    /// Drops an idle map.
+    fn drop_map(&mut self, map: u32)
+        requires { is_idle_map (get self.old.maps.map map) ≡ true }
+        ensures done { ideal_of self.new ≡ without_map map (ideal_of self.old) }
+        ensures bytes { KeepsBytes self.old self.new }
+        ensures awaiting { AreAwaiting self.old → AreAwaiting self.new }
+        ensures script { self.new.script ≡ self.old.script }
+        ensures memories { self.new.memories ≡ self.old.memories }
         ensures agenda { self.new.agenda ≡ self.old.agenda }
     {
-        if self.maps.get(map).is_none() {
-            return report(ReportName::Absent, 0);
-        }
-        let id = self.map_id(map);
-        if !self.loans.has_map(id) {
-            return report(ReportName::NotLoaded, 0);
-        }
-        self.loans.forget(id);
-        Answer::Done
+        self.maps.take(map);
     }
 
     /// The end of a wait for a map.
     pub(crate) fn await_map(&self, map: u32) -> Answer
-        ensures { gives (ideal_of self.now) result ≡ maps.await map (ideal_of self.now) }
+        ensures { Gives (given self.now result) ≡ maps.await map (ideal_of self.now) }
     {
         match self.maps.get(map) {
             None => report(ReportName::Absent, 0),
-            Some(map) if map.tried => Answer::Done,
+            Some(kept) if kept.map.tried() => Answer::Done,
             Some(_) => report(ReportName::NotDeferred, 0),
         }
     }
-}
-
-/// The segments of `len` bytes that follow one another: one, or none for no byte.
-fn one_segment(alloc: Global, bytes: &[Extent], len: u64) -> Result<SegmentList, AllocError>
-    requires len { length (addresses bytes.now) ≡ len }
-    requires extents { AllByRecursion IsExtent bytes.now }
-    ensures { IfOk result (λ segments. segments ≡ maps.one_segment (addresses bytes.now)) }
-{
-    let Some(first) = bytes.first() else {
-        return Ok(SegmentList::new(Vec::new(alloc)));
-    };
-    let addr = first.pa;
-    let segments = vec![in alloc; Segment { addr, len }]?;
-    Ok(SegmentList::new(segments))
 }

@@ -2,10 +2,14 @@
 
 ghost use Rattle.std.specs.Prelude.{◌≡◌, ℕ, ◌+◌, ◌*◌, ◌%◌, ◌^◌, ◌≤◌, IfOk, OnOk, Some, None, true, if◌then◌else◌};
 ghost use Rattle.std.specs.FinMap.{empty, get};
-ghost use Rattle.busdma_base.specs.Machine.PageRuns.{pages_end};
+ghost use Rattle.std.specs.List.{AllByRecursion, sum_by};
+ghost use Rattle.busdma_base.specs.Machine.PageRuns.{pages_end, is_own};
+ghost use Rattle.busdma_base.specs.Scenarios.Limits.{loaded_limit};
+ghost use Rattle.busdma_base.specs.Scenarios.Operations.{loaded_by};
 ghost use Rattle.busdma_base.specs.Scenarios.Script.{IsScript};
-ghost use Rattle.lane_core.specs.Ideal.{ideal};
-ghost use Rattle.lane_core.specs.Opening.{opening_lane, is_own};
+ghost use Rattle.ideal_lane.specs.Opening.{opening_lane};
+ghost use Rattle.ideal_wire.specs.Machine.{IsOfMachine};
+ghost use Rattle.lane_core.specs.LaneIdeal.{ideal};
 ghost use Rattle.lane_core.specs.OpeningMemory.{ArePages, IsOpeningMemory, HasRun, IsWithout};
 
 use crate::holdings::Holdings;
@@ -17,38 +21,48 @@ use phys_memory::LanePages;
 use std::alloc::{AllocError, Global};
 
 impl<'s> Lane<'s> {
-    /// The lane of a driver that has done nothing, with a memory of the driver's pages.
+    /// The lane of a driver that has done nothing, with a memory of the driver's pages, in a machine whose frames have
+    /// numbers below `maxmem`.
     pub fn new(
         alloc: Global,
         id: LaneId,
+        maxmem: u64,
         driver: &'s Driver,
         memory: LanePages,
     ) -> Result<Lane<'s>, AllocError>
         requires script { IsScript driver.now.script }
         requires pages { ArePages driver.now.pages }
         requires memory { IsOpeningMemory driver.now.pages memory.memory }
-        ensures { IfOk result (λ lane. ideal lane ≡ opening_lane id.0 driver.now) }
+        requires numbered { maxmem ≤ 2 ^ 30 }
+        requires inside { AllByRecursion (IsOfMachine maxmem) driver.now.pages }
+        requires small { sum_by loaded_by driver.now.script ≤ loaded_limit }
+        ensures { IfOk result (λ lane. ideal lane ≡ opening_lane id.0 maxmem driver.now) }
     {
         let script = driver.script.as_slice();
+        let pages = driver.pages.as_slice();
         let places = script.len() as u32;
         Ok(Lane {
             holdings: Holdings {
                 script,
+                pages,
                 id,
+                maxmem,
                 memory,
                 tags: PlaceTable::new(alloc, places)?,
                 maps: PlaceTable::new(alloc, places)?,
-                loans: opening_loans(alloc, driver.pages.as_slice())?,
+                memories: PlaceTable::new(alloc, places)?,
+                loans: opening_loans(alloc, pages)?,
                 agenda: Agenda::new(alloc, driver)?,
+                shares: Vec::new(alloc),
             },
         })
     }
 }
-
 /// A table in which every byte of the pages is Known, with no map.
 fn opening_loans(alloc: Global, pages: &[PageRun]) -> Result<LoanTable, AllocError>
     requires { ArePages pages.now }
     ensures loans { IfOk result (λ t. t.loans ≡ empty) }
+    ensures prepared { IfOk result (λ t. t.prepared ≡ empty) }
     ensures bytes { IfOk result (λ t. (a : ℕ) → get t.bytes a ≡ (if is_own pages.now a then Some true else None)) }
 {
     let mut loans = LoanTable::new(alloc);

@@ -1,6 +1,9 @@
 //! What a turn of a side does.
 
-use busdma_base::JournalEntry;
+ghost use Rattle.std.specs.Prelude.{◌≡◌};
+ghost use Rattle.lane_core.specs.declared.turn.Turn.TheVariants.{Stepped};
+
+use busdma_base::{Actor, Answer, Did, JournalEntry, LaneId, Side};
 
 /// What a turn of a side did.
 #[derive(Debug, Drop)]
@@ -12,4 +15,19 @@ pub enum Turn {
     Blocked,
     /// The script has ended.
     Ended,
+}
+
+/// A step of a side, and whether it made a call under the bounce lock.
+pub(crate) fn stepped(lane: LaneId, side: Side, did: Did, answer: Answer, held: bool) -> Turn
+    ensures { result
+        ≡ Stepped (record { actor = record { lane = lane; side = side }; did = did; answer = answer }) held }
+{
+    Turn::Stepped {
+        entry: JournalEntry {
+            actor: Actor { lane, side },
+            did,
+            answer,
+        },
+        held,
+    }
 }

@@ -1,90 +1,152 @@
-//! The turns of a lane, and the calls that they use.
+//! The turns of a driver's sides.
 
-ghost use Rattle.std.specs.Prelude.{◌≡◌, false, IfOk, OnOk, OnErr, length, nat_le};
+ghost use Rattle.std.specs.Prelude.{◌≡◌, ◌+◌, ◌≤◌, [], false, length, IfNone, IfOk, IfSome, OnErr, OnOk};
+ghost use Rattle.busdma_base.specs.declared.journals.journal.Side.{Side};
 ghost use Rattle.busdma_base.specs.declared.journals.journal.Side.TheVariants as side;
-ghost use Rattle.lane_core.specs.declared.turn.Turn.TheVariants.{Stepped};
-ghost use Rattle.lane_core.specs.Lane.{gives, bytes_at};
-ghost use Rattle.busdma_base.specs.Machine.Wire.{buses, stretch};
-ghost use Rattle.lane_core.specs.Step.{lane_step, stays};
-ghost use Rattle.lane_core.specs.Opening.{opening_lane};
-ghost use Rattle.lane_core.specs.Calls as calls;
-ghost use Rattle.lane_core.specs.Changes.{SameLane};
-ghost use Rattle.lane_core.specs.WireStep as wires;
-ghost use Rattle.lane_core.specs.WireStep.{Reads};
-ghost use Rattle.lane_core.specs.Ideal.{ideal, traces_of, wire_of};
-ghost use Rattle.lane_core.specs.Laws.{LaneAgrees};
+ghost use Rattle.busdma_base.specs.Bounce.Door.{Seen};
+ghost use Rattle.ideal_lane.specs.Asking.{Gives};
+ghost use Rattle.ideal_lane.specs.Turns.{lane_step};
+ghost use Rattle.ideal_wire.specs.WireStep as wires;
+ghost use Rattle.lane_core.specs.declared.holdings.Holdings.{Holdings};
+ghost use Rattle.lane_core.specs.declared.turn.Turn.{Turn};
+ghost use Rattle.lane_core.specs.Awaiting.{AreAwaiting};
+ghost use Rattle.lane_core.specs.Changes.{KeepsState};
+ghost use Rattle.lane_core.specs.Doing.{IsAllowedBy, IsUndone};
+ghost use Rattle.lane_core.specs.Turning.{IsMade, IsReady, MayWant, is_held, turned};
+ghost use Rattle.lane_core.specs.Wire.{IsWired, wire_of};
 
-use crate::lane::Lane;
-use crate::turn::Turn;
-use busdma_base::{Actor, Answer, Did, JournalEntry, LaneId, MapId, Place, Side};
-use dma_tag::SyncOps;
+use crate::holdings::{Answered, Holdings};
+use crate::returns::Released;
+use crate::turn::{Turn, stepped};
+use busdma_base::{Answer, Did, HubDoor, Side};
 use std::alloc::{AllocError, Global};
 
-/// A step without a call under the bounce lock.
-fn stepped(lane: LaneId, side: Side, did: Did, answer: Answer) -> Turn
-    ensures { result
-        ≡ Stepped (record { actor = record { lane = lane; side = side }; did = did; answer = answer }) false }
-{
-    Turn::Stepped {
-        entry: JournalEntry {
-            actor: Actor { lane, side },
-            did,
-            answer,
-        },
-        held: false,
-    }
-}
+/// A turn that was made leaves a driver ready for the next. So does one that memory was wanting for.
+pub(crate) fn turns_leave_ready()
+    ensures made { (h k : Holdings) (d e : Seen) (s : Side) (t : Turn) →
+        IsReady h d → IsMade h k d e s t → IsReady k e }
+    ensures wanting { (h k : Holdings) (d e : Seen) →
+        IsReady h d → KeepsState h k → h.agenda.room ≤ k.agenda.room → IsUndone d e → IsReady k e }
+{}
 
-impl Lane<'_> {
-    /// The turn of a side. Want of memory leaves the lane as it was.
-    pub fn turn(&mut self, alloc: Global, side: Side) -> Result<Turn, AllocError>
-        ensures done { IfOk result (λ turn. stays turn (ideal self.new) ≡ lane_step (ideal self.old) side) }
-        ensures wire { OnOk result (wire_of self.new
-            ≡ wires.lane_step (ideal self.old) side (traces_of (ideal self.old)) (wire_of self.old)) }
-        ensures centre { LaneAgrees self.new }
-        ensures err { OnErr result (SameLane self.old self.new) }
-    {
-        match side {
-            Side::Script => self.script_turn(alloc),
-            Side::Transfer => self.transfer_turn(alloc),
-            Side::Callback => Ok(Turn::Blocked),
-        }
-    }
+impl Holdings<'_> {
+    ghost use Rattle.lane_core.specs.Ideal.{ideal_of};
+    ghost use Rattle.lane_core.specs.Provided.{IsProvided};
 
-    /// Whether the script has ended.
-    pub fn has_ended(&self) -> bool
-        ensures { result ≡ nat_le (length (ideal self.now).script) (ideal self.now).place }
+    /// The first page of the return queue goes back to its zone, if there is one.
+    pub(crate) fn return_turn<D: HubDoor>(&mut self, door: &mut D) -> Option<Turn>
+        requires { IsAllowedBy (D.seen door.old) self.old.id.0 (lane_step (ideal_of self.old) side.Script) }
+        ensures made { IfSome result (IsMade self.old self.new (D.seen door.old) (D.seen door.new) side.Script) }
+        ensures awaiting { AreAwaiting self.old → AreAwaiting self.new }
+        ensures script { self.new.script ≡ self.old.script }
+        ensures memories { self.new.memories ≡ self.old.memories }
+        ensures place { self.new.agenda.place ≡ self.old.agenda.place }
+        ensures promised { self.new.agenda.promised ≤ self.old.agenda.promised }
+        ensures empty { IfNone result (self.old.agenda.returns ≡ []) }
+        ensures same { IfNone result (self.new ≡ self.old) }
+        ensures unseen { IfNone result (D.seen door.new ≡ D.seen door.old) }
+        ensures fixed { D.fixed door.new ≡ D.fixed door.old }
     {
-        self.holdings.script.len() <= self.holdings.agenda.place() as usize
+        let Released { map, page, served } = self.release(door)?;
+        let did = Did::Release { map, page };
+        Some(stepped(self.id, Side::Script, did, Answer::Served(served), true))
     }
 
-    /// The next operation of the script.
-    fn script_turn(&mut self, alloc: Global) -> Result<Turn, AllocError>
-        ensures done { IfOk result (λ turn. stays turn (ideal self.new) ≡ lane_step (ideal self.old) side.Script) }
-        ensures wire { OnOk result (wire_of self.new
-            ≡ wires.lane_step (ideal self.old) side.Script (traces_of (ideal self.old)) (wire_of self.old)) }
-        ensures err { OnErr result (SameLane self.old self.new) }
+    /// The next operation of the script, where no page goes back.
+    fn operation_turn<D: HubDoor>(
+        &mut self,
+        alloc: Global,
+        door: &mut D,
+    ) -> Result<Turn, AllocError>
+        requires ready { IsReady self.old (D.seen door.old) }
+        requires provided { IsProvided self.old }
+        requires length { self.old.agenda.length ≡ length self.old.script.now }
+        requires empty { self.old.agenda.returns ≡ [] }
+        ensures made { IfOk result (IsMade self.old self.new (D.seen door.old) (D.seen door.new) side.Script) }
+        ensures err { OnErr result (KeepsState self.old self.new) }
+        ensures undone { OnErr result (IsUndone (D.seen door.old) (D.seen door.new)) }
+        ensures room { OnErr result (self.old.agenda.room ≤ self.new.agenda.room) }
+        ensures places { self.new.agenda.length ≡ self.old.agenda.length }
+        ensures provided { IsProvided self.new }
+        ensures fixed { D.fixed door.new ≡ D.fixed door.old }
     {
-        let place = self.holdings.agenda.place();
-        let Some(op) = self.holdings.script.get(place as usize) else {
+        let place = self.agenda.place();
+        let Some(op) = self.script.get(place as usize) else {
             return Ok(Turn::Ended);
         };
-        if self.holdings.waits(op) {
+        if self.waits(op) {
             return Ok(Turn::Blocked);
         }
-        let answer = self.holdings.operation(alloc, op)?;
-        self.holdings.advance();
-        Ok(stepped(self.holdings.id, Side::Script, Did::Op(place), answer))
+        let Answered { answer, held } = self.operation(alloc, door, op)?;
+        self.advance();
+        Ok(stepped(self.id, Side::Script, Did::Op(place), answer, held))
     }
 
-    /// The first item of the transfer queue.
-    fn transfer_turn(&mut self, alloc: Global) -> Result<Turn, AllocError>
-        ensures done { IfOk result (λ turn. stays turn (ideal self.new) ≡ lane_step (ideal self.old) side.Transfer) }
-        ensures wire { OnOk result (wire_of self.new
-            ≡ wires.lane_step (ideal self.old) side.Transfer (traces_of (ideal self.old)) (wire_of self.old)) }
-        ensures err { OnErr result (SameLane self.old self.new) }
+    /// The script: a page goes back, or else the next operation is done.
+    fn script_turn<D: HubDoor>(&mut self, alloc: Global, door: &mut D) -> Result<Turn, AllocError>
+        requires ready { IsReady self.old (D.seen door.old) }
+        requires provided { IsProvided self.old }
+        requires length { self.old.agenda.length ≡ length self.old.script.now }
+        ensures made { IfOk result (IsMade self.old self.new (D.seen door.old) (D.seen door.new) side.Script) }
+        ensures err { OnErr result (KeepsState self.old self.new) }
+        ensures undone { OnErr result (IsUndone (D.seen door.old) (D.seen door.new)) }
+        ensures wanting { OnErr result (self.old.agenda.returns ≡ []) }
+        ensures room { OnErr result (self.old.agenda.room ≤ self.new.agenda.room) }
+        ensures places { self.new.agenda.length ≡ self.old.agenda.length }
+        ensures provided { IsProvided self.new }
+        ensures fixed { D.fixed door.new ≡ D.fixed door.old }
     {
-        let Some(queued) = self.holdings.agenda.first() else {
+        match self.return_turn(door) {
+            Some(turn) => Ok(turn),
+            None => self.operation_turn(alloc, door),
+        }
+    }
+
+    /// A turn of a side.
+    pub(crate) fn turn<D: HubDoor>(
+        &mut self,
+        alloc: Global,
+        door: &mut D,
+        side: Side,
+    ) -> Result<Turn, AllocError>
+        requires ready { IsReady self.old (D.seen door.old) }
+        requires provided { IsProvided self.old }
+        requires length { self.old.agenda.length ≡ length self.old.script.now }
+        ensures made { IfOk result (IsMade self.old self.new (D.seen door.old) (D.seen door.new) side) }
+        ensures err { OnErr result (KeepsState self.old self.new) }
+        ensures undone { OnErr result (IsUndone (D.seen door.old) (D.seen door.new)) }
+        ensures wanting { OnErr result (MayWant (ideal_of self.old) side) }
+        ensures ready { IsReady self.new (D.seen door.new) }
+        ensures provided { IsProvided self.new }
+        ensures length { self.new.agenda.length ≡ length self.new.script.now }
+        ensures fixed { D.fixed door.new ≡ D.fixed door.old }
+    {
+        match side {
+            Side::Script => self.script_turn(alloc, door),
+            Side::Transfer => self.transfer_turn(alloc),
+            Side::Callback => Ok(self.call_back(door)),
+        }
+    }
+
+    /// The first item of the transfer queue, if there is one.
+    pub(crate) fn transfer_turn(&mut self, alloc: Global) -> Result<Turn, AllocError>
+        requires { IsWired self.old }
+        ensures done { IfOk result (λ turn.
+            Gives (turned self.new turn) ≡ lane_step (ideal_of self.old) side.Transfer) }
+        ensures unheld { IfOk result (λ turn. is_held turn ≡ false) }
+        ensures wire { OnOk result (wire_of self.new
+            ≡ wires.lane_step (ideal_of self.old) side.Transfer (wire_of self.old)) }
+        ensures awaiting { AreAwaiting self.old → AreAwaiting self.new }
+        ensures script { self.new.script ≡ self.old.script }
+        ensures memories { self.new.memories ≡ self.old.memories }
+        ensures place { self.new.agenda.place ≡ self.old.agenda.place }
+        ensures promised { self.new.agenda.promised ≤ self.old.agenda.promised }
+        ensures places { self.new.agenda.length ≡ self.old.agenda.length }
+        ensures capacity { self.new.agenda.room + length self.new.agenda.queue
+            ≡ self.old.agenda.room + length self.old.agenda.queue }
+        ensures err { OnErr result (KeepsState self.old self.new) }
+    {
+        let Some(queued) = self.agenda.first() else {
             return Ok(Turn::Blocked);
         };
         let did = Did::Item {
@@ -92,102 +154,8 @@ impl Lane<'_> {
             place: queued.place,
         };
         let item = queued.item.clone()?;
-        let answer = self.holdings.transfer(alloc, &item)?;
-        self.holdings.pop_item();
-        Ok(stepped(self.holdings.id, Side::Transfer, did, answer))
-    }
-
-    /// A sync of the whole load of a map.
-    pub fn sync(&mut self, alloc: Global, map: MapId, ops: SyncOps) -> Result<Answer, AllocError>
-        ensures done { IfOk result (λ answer. gives (ideal self.new) answer ≡ calls.sync map ops.0 (ideal self.old)) }
-        ensures wire { IfOk result (λ answer.
-            wire_of self.new
-            ≡ wires.sync answer map.made_at ops.0 (ideal self.old) (traces_of (ideal self.old)) (wire_of self.old)) }
-        ensures err { OnErr result (SameLane self.old self.new) }
-    {
-        self.holdings.sync(alloc, map, ops)
-    }
-
-    /// A sync of `len` bytes of the load of a map, from `off` on.
-    pub fn sync_range(
-        &mut self,
-        alloc: Global,
-        map: MapId,
-        off: u64,
-        len: u64,
-        ops: SyncOps,
-    ) -> Result<Answer, AllocError>
-        ensures done { IfOk result (λ answer.
-            gives (ideal self.new) answer ≡ calls.sync_range map off len ops.0 (ideal self.old)) }
-        ensures wire { IfOk result (λ answer.
-            wire_of self.new
-            ≡ wires.sync_range answer map.made_at off len ops.0 (ideal self.old)
-            (traces_of (ideal self.old)) (wire_of self.old)) }
-        ensures err { OnErr result (SameLane self.old self.new) }
-    {
-        self.holdings.sync_range(alloc, map, off, len, ops)
-    }
-
-    /// The driver reads `len` bytes at a place.
-    pub fn cpu_read(&mut self, alloc: Global, place: Place, len: u64) -> Result<Answer, AllocError>
-        ensures done { IfOk result (λ answer.
-            gives (ideal self.new) answer ≡ calls.cpu_read place len (ideal self.old)) }
-        ensures read { IfOk result (λ answer. Reads answer (bytes_at (ideal self.old) place len) (wire_of self.old)) }
-        ensures wire { wire_of self.new ≡ wire_of self.old }
-        ensures err { OnErr result (ideal self.new ≡ ideal self.old) }
-    {
-        self.holdings.cpu_read(alloc, place, len)
-    }
-
-    /// The driver writes bytes at a place.
-    pub fn cpu_write(
-        &mut self,
-        alloc: Global,
-        place: Place,
-        bytes: &[u8],
-    ) -> Result<Answer, AllocError>
-        ensures done { IfOk result (λ answer.
-            gives (ideal self.new) answer ≡ calls.cpu_write place bytes.now (ideal self.old)) }
-        ensures wire { IfOk result (λ answer.
-            wire_of self.new ≡ wires.cpu_write answer place bytes.now (ideal self.old) (wire_of self.old)) }
-        ensures err { OnErr result (SameLane self.old self.new) }
-    {
-        self.holdings.cpu_write(alloc, place, bytes)
-    }
-
-    /// The device reads `len` bytes of a map's load, from `off` on.
-    pub fn dev_read(
-        &mut self,
-        alloc: Global,
-        map: MapId,
-        off: u64,
-        len: u64,
-    ) -> Result<Answer, AllocError>
-        ensures done { IfOk result (λ answer.
-            gives (ideal self.new) answer ≡ calls.dev_read map off len (ideal self.old)) }
-        ensures read { IfOk result (λ answer.
-            Reads answer (buses (stretch off len (traces_of (ideal self.old) map.made_at))) (wire_of self.old)) }
-        ensures wire { wire_of self.new ≡ wire_of self.old }
-        ensures err { OnErr result (ideal self.new ≡ ideal self.old) }
-    {
-        self.holdings.dev_read(alloc, map, off, len)
-    }
-
-    /// The device writes bytes into a map's load, from `off` on.
-    pub fn dev_write(
-        &mut self,
-        alloc: Global,
-        map: MapId,
-        off: u64,
-        bytes: &[u8],
-    ) -> Result<Answer, AllocError>
-        ensures done { IfOk result (λ answer.
-            gives (ideal self.new) answer ≡ calls.dev_write map off bytes.now (ideal self.old)) }
-        ensures wire { IfOk result (λ answer.
-            wire_of self.new
-            ≡ wires.dev_write answer map.made_at off bytes.now (traces_of (ideal self.old)) (wire_of self.old)) }
-        ensures err { OnErr result (SameLane self.old self.new) }
-    {
-        self.holdings.dev_write(alloc, map, off, bytes)
+        let answer = self.transfer(alloc, &item)?;
+        self.pop_item();
+        Ok(stepped(self.id, Side::Transfer, did, answer, false))
     }
 }

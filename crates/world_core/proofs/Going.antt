@@ -2,15 +2,20 @@
 use Rattle.std.proofs.Common.{◌≡◌, ℕ, zero, suc, ◌+◌, ◌<◌, ◌≤◌, List, [], ◌∷◌, ◌++◌, length, take, get_or, Option}
 use Rattle.std.proofs.Common.{Some, None, refl, sym, ap, ◌∙◌, arith, add-one, length-append, ◌⊎◌, inl, inr}
 use Rattle.std.proofs.Math.Seq.{take-suc}
+use Rattle.std.proofs.Props.{props}
+use mathlib.Core.Logic.{∥∥₁_elim}
 use Rattle.busdma_base.specs.declared.journals.journal.Actor.{Actor}
 use Rattle.busdma_base.specs.declared.journals.journal.JournalEntry.{JournalEntry}
 use Rattle.busdma_base.specs.declared.journals.journal.Side.TheVariants.{Script, Transfer, Callback}
-use Rattle.world_core.specs.World.{step, step_entry}
-use Rattle.world_core.specs.Legal.{Run, noted, turn, turns, rounds, round_from}
-use Rattle.world_core.specs.Laws.{left_of}
-use Rattle.world_core.proofs.Steps.{step_keeps}
-use Rattle.world_core.proofs.Rest.{turns_grow}
-use Rattle.world_core.proofs.Rounds.{rounds-add}
+use Rattle.busdma_base.specs.declared.scenarios.scenario.Scenario.{Scenario}
+use Rattle.world_core.specs.declared.run.Progress.{Progress}
+use Rattle.ideal_world.specs.Left.{left_of}
+use Rattle.ideal_world.specs.Legal.{Run, noted, turn, turns, rounds, round_from}
+use Rattle.ideal_world.specs.World.{step, step_entry}
+use Rattle.ideal_world.proofs.Going.{rests-or-falls}
+use Rattle.ideal_world.proofs.Rest.{turns_grow}
+use Rattle.ideal_world.proofs.Rounds.{rounds-add}
+use Rattle.world_core.specs.Ideal.{ideal_run}
 
 turns-snoc : (r : Run) (order : List Actor) (a : Actor) → turns r (order ++ a ∷ []) ≡ turn (turns r order) a
 turns-snoc r [] a = refl
@@ -29,37 +34,45 @@ pub next_round : (n : ℕ) (round : List Actor) (r x y : Run) → rounds n round
     y ≡ turns x round → rounds (n + 1) round r ≡ y
 next_round n round r x y h k = sym (rounds-add n 1 round r) ∙ (ap (λ z. turns z round) h ∙ sym k)
 
--- a turn leaves no more to do
-noted_falls : (r : Run) (a : Actor) (o : Option JournalEntry) → step_entry r.world a ≡ o →
-    left_of (noted r (step r.world a).world o).world ≤ left_of r.world
-noted_falls r a None is = omega arith
-noted_falls r a (Some e) is = let f = (step_keeps r.world a e is).falls in omega (arith, f)
-
-turns_fall : (actors : List Actor) (r : Run) → left_of (turns r actors).world ≤ left_of r.world
-turns_fall [] r = omega arith
-turns_fall (a ∷ actors) r = omega (arith, turns_fall actors (turn r a), noted_falls r a (step_entry r.world a) refl)
-
--- turns that note an entry, and leave less to do
-pub record Goes (before after : Run) : Type 0 where
-  pub notes : length before.entries < length after.entries
-  pub falls : left_of after.world < left_of before.world
-
 -- turns leave the run as it is, or note an entry
-pub rests_or_goes : (actors : List Actor) (r : Run) → (turns r actors ≡ r) ⊎ Goes r (turns r actors)
-rests_or_goes [] r = inl refl
-rests_or_goes (a ∷ actors) r = first (step_entry r.world a) refl (rests_or_goes actors r)
+rests-or-notes : (actors : List Actor) (r : Run) →
+    (turns r actors ≡ r) ⊎ (length r.entries < length (turns r actors).entries)
+rests-or-notes [] r = inl refl
+rests-or-notes (a ∷ actors) r = first (step_entry r.world a) (rests-or-notes actors r)
   where
-    first : (o : Option JournalEntry) → step_entry r.world a ≡ o → (turns r actors ≡ r) ⊎ Goes r (turns r actors)
-        → (turns (noted r (step r.world a).world o) actors ≡ r) ⊎ Goes r
-        (turns (noted r (step r.world a).world o) actors)
-    first None is rest = rest
-    first (Some e) is rest =
+    first : (o : Option JournalEntry) → (turns r actors ≡ r) ⊎ (length r.entries < length (turns r actors).entries) →
+        (turns (noted r (step r.world a).world o) actors ≡ r)
+        ⊎ (length r.entries < length (turns (noted r (step r.world a).world o) actors).entries)
+    first None others = others
+    first (Some e) others =
         let next : Run = noted r (step r.world a).world (Some e) in
-        let f = (step_keeps r.world a e is).falls in
-        inr (record {
-          notes = omega (arith, turns_grow actors next, length-append r.entries (e ∷ []));
-          falls = omega (arith, f, turns_fall actors next);
-        })
+        inr (omega (arith, turns_grow actors next, length-append r.entries (e ∷ [])))
+
+-- a round that noted no entry comes to rest
+pub rests : (round : List Actor) (x y : Run) → y ≡ turns x round →
+    length y.entries ≡ length x.entries → turns y round ≡ y
+rests round x y h none = by_way (rests-or-notes round x)
+  where
+    by_way : (turns x round ≡ x) ⊎ (length x.entries < length (turns x round).entries) → turns y round ≡ y
+    by_way (inl same) = ap (λ z. turns z round) (h ∙ same) ∙ sym h
+    by_way (inr more) = absurd (omega (arith, more, none, ap (λ (z : Run). length z.entries) h))
+
+-- a round of a world that noted an entry leaves less to do
+pub falls : (round : List Actor) (p : Progress) (y : Run) → y ≡ turns (ideal_run p) round →
+    (length y.entries ≡ length p.entries.items → ⊥) → left_of y.world < left_of (ideal_run p).world
+falls round p y h some =
+    ∥∥₁_elim p.world.kept less-prop (λ k. by_way (rests-or-falls p.world.scenario.now round x k.well))
+  where
+    x : Run
+    x = ideal_run p
+
+    less-prop : IsProp (left_of y.world < left_of x.world)
+    less-prop = hlevel (props)
+
+    by_way : (turns x round ≡ x) ⊎ (left_of (turns x round).world < left_of x.world) →
+        left_of y.world < left_of x.world
+    by_way (inl same) = absurd (some (ap (λ (z : Run). length z.entries) (h ∙ same)))
+    by_way (inr less) = omega (arith, less, ap (λ (z : Run). left_of z.world) h)
 
 -- the round over one driver more
 round_from-snoc : (i n : ℕ) → round_from i (suc n) ≡ round_from i n
@@ -94,25 +107,6 @@ script n = record { lane = record { 0 = n }; side = Script }
 three_more : (r : List Actor) (a b c : Actor) → ((r ++ a ∷ []) ++ b ∷ []) ++ c ∷ [] ≡ r ++ (a ∷ b ∷ c ∷ [])
 three_more [] a b c = refl
 three_more (x ∷ r) a b c = ap (λ t. x ∷ t) (three_more r a b c)
-
--- a round that noted no entry comes to rest
-pub rests : (round : List Actor) (x y : Run) → y ≡ turns x round →
-    length y.entries ≡ length x.entries → turns y round ≡ y
-rests round x y h none = by_way (rests_or_goes round x)
-  where
-    by_way : (turns x round ≡ x) ⊎ Goes x (turns x round) → turns y round ≡ y
-    by_way (inl same) = ap (λ z. turns z round) (h ∙ same) ∙ sym h
-    by_way (inr goes) = let more =
-        goes.notes in absurd (omega (arith, more, none, ap (λ (z : Run). length z.entries) h))
-
--- a round that noted an entry leaves less to do
-pub falls : (round : List Actor) (x y : Run) → y ≡ turns x round →
-    (length y.entries ≡ length x.entries → ⊥) → left_of y.world < left_of x.world
-falls round x y h some = by_way (rests_or_goes round x)
-  where
-    by_way : (turns x round ≡ x) ⊎ Goes x (turns x round) → left_of y.world < left_of x.world
-    by_way (inl same) = absurd (some (ap (λ (z : Run). length z.entries) (h ∙ same)))
-    by_way (inr goes) = let less = goes.falls in omega (arith, less, ap (λ (z : Run). left_of z.world) h)
 
 -- the round over one driver more, by pushes
 pub round_pushed : (n : ℕ) (r x y z : List Actor) → r ≡ round_from 0 n → x ≡ r ++ callback n ∷ [] →

@@ -1,11 +1,8 @@
-pub mod Drivers
-pub mod Ended
+pub mod Agreeing
+pub mod Counting
+pub mod Faithful
 pub mod Going
-pub mod Lanes
-pub mod Legal
 pub mod OpeningWorld
-pub mod Replayed
-pub mod Rest
-pub mod Rounds
-pub mod Steps
 pub mod Taking
+pub mod Turning
+pub mod Wiring

@@ -1,5 +1,3 @@
-pub mod Ends
 pub mod Ideal
-pub mod Laws
-pub mod Legal
-pub mod World
+pub mod Kept
+pub mod Wires

@@ -1,29 +1,13 @@
-//! Laws of worlds and replays.
+//! What holds of every world of the program.
 
-ghost use Rattle.world_core.specs.Laws.{EachScenarioIsReplayed, EachStepFalls, NoneIsStuck};
-ghost use Rattle.world_core.specs.Laws.{OneIsReplayed, ReplayIsLegal};
+ghost use Rattle.ideal_world.specs.Wires.{AllFaithful};
+ghost use Rattle.world_core.specs.Ideal.{ideal_world};
+ghost use Rattle.world_core.specs.Wires.{wires_of};
 
-/// Every step leaves less to do, so every run ends.
-pub fn each_step_falls()
-    ensures { EachStepFalls }
-{}
+use crate::world::World;
 
-/// No world is stuck: where no actor can step, every script has ended.
-pub fn none_is_stuck()
-    ensures { NoneIsStuck }
-{}
-
-/// Every scenario has a replayed journal: after the turns of its order, enough rounds come to rest.
-pub fn each_scenario_is_replayed()
-    ensures { EachScenarioIsReplayed }
-{}
-
-/// A scenario has at most one replayed journal.
-pub fn one_replayed()
-    ensures { OneIsReplayed }
-{}
-
-/// The replayed journal is legal: its entries lead from the opening world to a world at rest.
-pub fn replay_is_legal()
-    ensures { ReplayIsLegal }
+/// The bytes that the frames and the bounce pages of each driver really hold are those of its ideal
+/// memory, in every world.
+pub fn wires_are_faithful(world: &World)
+    ensures { AllFaithful (wires_of world.now) (ideal_world world.now) }
 {}

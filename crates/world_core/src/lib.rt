@@ -1,12 +1,16 @@
-//! All drivers together, and the journal of their steps.
+//! All drivers at work over the hub that they share, and the journal of their steps.
 #![tactic(auto)]
 
+mod counts;
+mod ending;
 mod laws;
+mod opening;
+mod parts;
 mod run;
+mod steps;
 mod world;
 
-pub use laws::{
-    each_scenario_is_replayed, each_step_falls, none_is_stuck, one_replayed, replay_is_legal,
-};
-pub use run::{replay, status};
+pub use ending::status;
+pub use laws::wires_are_faithful;
+pub use run::replay;
 pub use world::World;

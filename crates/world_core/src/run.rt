@@ -1,17 +1,14 @@
 //! The replay of a scenario.
 
 ghost use Rattle.std.specs.Prelude.{◌≡◌, IfOk, OnOk};
-ghost use Rattle.std.specs.List.{AllByRecursion};
 ghost use Rattle.busdma_base.specs.Scenarios.Valid.{IsValid};
-ghost use Rattle.world_core.specs.Ends as ends;
-ghost use Rattle.world_core.specs.Ideal.{ideal_run, ideal_world};
-ghost use Rattle.world_core.specs.Legal as legal;
-ghost use Rattle.world_core.specs.Legal.{ComesToRest, IsReplayed, round_from};
-ghost use Rattle.world_core.specs.World.{HasDriver};
+ghost use Rattle.ideal_world.specs.Legal as legal;
+ghost use Rattle.ideal_world.specs.Legal.{ComesToRest, IsReplayed, round_from};
+ghost use Rattle.world_core.specs.Ideal.{ideal_run};
 
 use crate::world::World;
-use busdma_base::{Actor, End, Journal, JournalEntry, LaneId, ListOf, Scenario, Side};
 use lane_core::Turn;
+use busdma_base::{Actor, Journal, JournalEntry, LaneId, ListOf, Scenario, Side};
 use std::alloc::{AllocError, Global};
 
 /// How far a replay has come.
@@ -24,7 +21,6 @@ struct Progress<'s> {
 impl Progress<'_> {
     /// An actor's turn.
     fn turn(&mut self, alloc: Global, actor: Actor) -> Result<(), AllocError>
-        requires { HasDriver (ideal_world self.old.world) actor }
         ensures { OnOk result (ideal_run self.new ≡ legal.turn (ideal_run self.old) actor) }
     {
         if let Turn::Stepped { entry, .. } = self.world.step(alloc, actor)? {
@@ -35,7 +31,6 @@ impl Progress<'_> {
 
     /// The turns of actors, in order.
     fn turns(&mut self, alloc: Global, order: &[Actor]) -> Result<(), AllocError>
-        requires { AllByRecursion (HasDriver (ideal_world self.old.world)) order.now }
         ensures { OnOk result (ideal_run self.new ≡ legal.turns (ideal_run self.old) order.now) }
     {
         for actor in order {
@@ -46,7 +41,6 @@ impl Progress<'_> {
 
     /// Rounds over all drivers until a whole round makes no step.
     fn rounds(&mut self, alloc: Global, round: &[Actor]) -> Result<(), AllocError>
-        requires { AllByRecursion (HasDriver (ideal_world self.old.world)) round.now }
         ensures { OnOk result (ComesToRest round.now (ideal_run self.old) (ideal_run self.new)) }
     {
         'rounds: loop {
@@ -100,26 +94,4 @@ pub fn replay(alloc: Global, scenario: &Scenario) -> Result<Journal, AllocError>
         end: world.end(),
         entries: ListOf::new(entries),
     })
-}
-
-/// The status of a journal: 2 where the run is stuck, else 1 where some step is a report, else 0.
-pub fn status(journal: &Journal) -> u8
-    ensures { result ≡ ends.status journal.now }
-{
-    match journal.end {
-        End::Stuck => 2,
-        End::Finished => {
-            if has_report(journal.entries.as_slice()) {
-                1
-            } else {
-                0
-            }
-        }
-    }
-}
-
-fn has_report(entries: &[JournalEntry]) -> bool
-    ensures { result ≡ ends.has_report entries.now }
-{
-    entries.iter().any(|entry| entry.answer.is_report())
 }

@@ -1,7 +1,7 @@
 use Rattle.std.proofs.Common.{◌≡◌, ◌+◌, ◌++◌, drop, take, map, length}
 use Rattle.busdma_base.specs.Runs.{addresses}
 use Rattle.phys_memory.specs.Memory.{wire}
-use Rattle.lane_core.specs.Covered.{Lie}
+use Rattle.phys_memory.specs.Frames.{Lie}
 use Rattle.lane_core.proofs.accesses.fill.Given as goal
 
 abbrev pub invariant-loop-part : goal.invariant-loop-part

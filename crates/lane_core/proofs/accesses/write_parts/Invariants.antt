@@ -1,7 +1,7 @@
 use Rattle.std.proofs.Common.{◌≡◌, ◌+◌, drop, length}
 use Rattle.busdma_base.specs.Runs.{addresses}
 use Rattle.phys_memory.specs.Memory.{wire}
-use Rattle.lane_core.specs.Covered.{Lie, SamePages}
+use Rattle.phys_memory.specs.Frames.{Lie, SamePages}
 use Rattle.busdma_base.specs.Machine.Wire.{put}
 use Rattle.lane_core.proofs.accesses.write_parts.Given as goal
 

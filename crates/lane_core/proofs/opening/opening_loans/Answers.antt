@@ -8,6 +8,7 @@ use Rattle.lane_core.proofs.opening.opening_loans.Goals as goal
 pub loop-run-init : goal.loop-run-init
 loop-run-init c = record {
   loans = c.new-loans.ensures.loans;
+  prepared = c.new-loans.ensures.prepared;
   bytes = λ a. ap (λ m. get m a) c.new-loans.ensures.bytes ∙ get-empty nat_cmp a;
 }
 
@@ -32,6 +33,7 @@ add_bytes-requires-clause-fresh c =
 pub loop-run-preserved : goal.loop-run-preserved
 loop-run-preserved c = record {
   loans = c.in_ok-add_bytes.ensures.loans ∙ c.loop-run.invariant.loans;
+  prepared = c.in_ok-add_bytes.ensures.prepared ∙ c.loop-run.invariant.prepared;
   bytes = λ a. ap (λ m. get m a) c.in_ok-add_bytes.ensures.bytes
       ∙ run_is_known c.args.pages.now c.loop-run.run-index c.loop-run.loans.bytes
       c.loop-run-test.true c.loop-run.invariant.bytes a;

@@ -5,4 +5,8 @@ use Rattle.lane_core.proofs.opening.opening_loans.Given as goal
 
 abbrev pub invariant-loop-run : goal.invariant-loop-run
 invariant-loop-run l =
-    record { loans : l.loans.loans ≡ empty; bytes : AreKnown (take l.run-index l.pages) l.loans.bytes }
+    record {
+      loans : l.loans.loans ≡ empty;
+      prepared : l.loans.prepared ≡ empty;
+      bytes : AreKnown (take l.run-index l.pages) l.loans.bytes;
+    }

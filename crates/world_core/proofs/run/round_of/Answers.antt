@@ -1,5 +1,5 @@
 use Rattle.std.proofs.Common.{◌≡◌, ap, ◌∙◌, arith}
-use Rattle.world_core.specs.Legal.{round_from}
+use Rattle.ideal_world.specs.Legal.{round_from}
 use Rattle.world_core.proofs.Going.{round_pushed}
 use Rattle.world_core.proofs.run.round_of.Goals as goal
 

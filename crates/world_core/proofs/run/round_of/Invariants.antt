@@ -1,5 +1,5 @@
 use Rattle.std.proofs.Common.{◌≡◌}
-use Rattle.world_core.specs.Legal.{round_from}
+use Rattle.ideal_world.specs.Legal.{round_from}
 use Rattle.world_core.proofs.run.round_of.Given as goal
 
 abbrev pub invariant-loop-number : goal.invariant-loop-number

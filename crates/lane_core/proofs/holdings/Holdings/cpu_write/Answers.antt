@@ -1,42 +1,91 @@
-use Rattle.std.proofs.Common.{ap, sym, ◌∙◌, refl}
-use Rattle.phys_memory.specs.Memory.{wire}
+use Rattle.std.proofs.Common.{◌/◌, ap, sym, ◌∙◌}
+use Rattle.std.specs.FinMap.{contains_key}
 use Rattle.busdma_base.specs.Runs.{addresses}
+use Rattle.loan_table.specs.Table.{set_all}
+use Rattle.ideal_lane.specs.Outcomes.{gives}
 use Rattle.lane_core.specs.Ideal.{ideal_of}
-use Rattle.lane_core.proofs.Held.{shown, same_ideal, on_err}
-use Rattle.lane_core.proofs.Outcomes.{cpu_write_done, write_done, covered_written}
+use Rattle.lane_core.specs.Wire.{wire_of}
+use Rattle.lane_core.proofs.CpuWrites.{cpu_write-done, cpu_write-refused, cpu_write-unmapped, cpu_write-wire}
+use Rattle.lane_core.proofs.CpuWrites.{wire-idle}
+use Rattle.lane_core.proofs.Marks.{has_set_all}
+use Rattle.lane_core.proofs.Reaching.{same-physical}
+use Rattle.std.proofs.Common.{refl}
+use Rattle.lane_core.proofs.AwaitingSteps.{awaits-same}
 use Rattle.lane_core.proofs.holdings.Holdings.cpu_write.Goals as goal
 
-pub invariant_of-self-2 : goal.invariant_of-self-2
-invariant_of-self-2 c = record {
-  covered = covered_written c.args.self.now.memory.memory c.write_parts.new.memory.memory c.reserve.new.self.bytes
-      c.note_write.new.self.bytes (addresses c.in-Parts.parts) c.write_parts.ensures.same
-      (rw c.reserve.ensures.same.bytes (rw c.in-Parts.is at c.in_ok-at.ensures.inside))
-      (rw c.as_slice-3.ensures at c.note_write.ensures.bytes)
-      (rw c.reserve.ensures.same.bytes c.args.self.now.covered);
-  tag_places = c.args.self.now.tag_places;
-  map_places = c.args.self.now.map_places;
-}
+pub returns-in-Unmapped-clause-done : goal.returns-in-Unmapped-clause-done
+returns-in-Unmapped-clause-done c =
+    ap (gives (ideal_of c.args.self.now)) c.report.ensures
+    ∙ cpu_write-unmapped c.args.self.now c.args.place c.args.bytes.now _
+    (rw c.in-Unmapped.is at c.in_ok-at.ensures.verdict)
+
+pub returns-in-Unmapped-clause-wire : goal.returns-in-Unmapped-clause-wire
+returns-in-Unmapped-clause-wire c =
+    wire-idle (ideal_of c.args.self.now) _ _ _ (wire_of c.args.self.now)
+    (cpu_write-unmapped c.args.self.now c.args.place c.args.bytes.now _
+    (rw c.in-Unmapped.is at c.in_ok-at.ensures.verdict))
+
+pub returns-in-Refused-clause-done : goal.returns-in-Refused-clause-done
+returns-in-Refused-clause-done c =
+    cpu_write-refused c.args.self.now c.args.place c.args.bytes.now (addresses c.in-Parts.parts) c.in-Refused.refusal
+    (rw c.in-Parts.is at c.in_ok-at.ensures.verdict) (rw c.in-Parts.is at c.in_ok-at.ensures.addresses)
+    (rw c.as_slice.ensures at (sym c.in-Refused.is ∙ c.may_cpu_write.ensures))
+
+pub returns-in-Refused-clause-wire : goal.returns-in-Refused-clause-wire
+returns-in-Refused-clause-wire c =
+    wire-idle (ideal_of c.args.self.now) c.in-Refused.refusal _ _ (wire_of c.args.self.now)
+    (cpu_write-refused c.args.self.now c.args.place c.args.bytes.now (addresses c.in-Parts.parts)
+    c.in-Refused.refusal
+    (rw c.in-Parts.is at c.in_ok-at.ensures.verdict) (rw c.in-Parts.is at c.in_ok-at.ensures.addresses)
+    (rw c.as_slice.ensures at (sym c.in-Refused.is ∙ c.may_cpu_write.ensures)))
+
+pub invariant_of-self-2-clause-covered : goal.invariant_of-self-2-clause-covered
+invariant_of-self-2-clause-covered c =
+    let h = c.args.self.now in
+    let pas = addresses c.in-Parts.parts in
+    λ a. ap (λ b. contains_key b a) (rw c.as_slice-3.ensures at c.note_write.ensures.bytes)
+    ∙ ap (λ b. contains_key (set_all b pas _) a) c.reserve.ensures.same.bytes
+    ∙ has_set_all h.loans.bytes pas _ (rw c.in-Parts.is at c.in_ok-at.ensures.inside) a
+    ∙ h.covered a ∙ sym (c.write_parts.ensures.same.frames (a / 4096))
+
+pub invariant_of-self-2-clause-reaches : goal.invariant_of-self-2-clause-reaches
+invariant_of-self-2-clause-reaches c =
+    let h = c.args.self.now in
+    λ va. ap (λ t. t va) (same-physical h.memory.memory c.write_parts.new.memory.memory c.write_parts.ensures.same)
+    ∙ h.reaches va
+
+pub invariant_of-self-2-clause-loaded : goal.invariant_of-self-2-clause-loaded
+invariant_of-self-2-clause-loaded c =
+    let h = c.args.self.now in
+    λ k. ap (λ b. contains_key b k) (c.note_write.ensures.loans ∙ c.reserve.ensures.same.loans) ∙ h.loaded k
 
 pub returns-clause-done : goal.returns-clause-done
 returns-clause-done c =
-    let l = ideal_of c.args.self.now in
-    let w = wire c.args.self.now.memory.memory in
-    cpu_write_done l _ c.args.place c.args.bytes.now (addresses c.in-Parts.parts)
+    let h = c.args.self.now in
+    let pas = addresses c.in-Parts.parts in
+    cpu_write-done h c.requires c.args.place c.args.bytes.now pas
     (rw c.in-Parts.is at c.in_ok-at.ensures.verdict) (rw c.in-Parts.is at c.in_ok-at.ensures.addresses)
     (rw c.as_slice.ensures at (sym c.in_default.is ∙ c.may_cpu_write.ensures))
-    (write_done l c.args.self.now.memory.memory c.write_parts.new.memory.memory w
-    (wire c.write_parts.new.memory.memory) c.reserve.new.self c.note_write.new.self
-    (addresses c.in-Parts.parts) c.args.bytes.now refl
-    c.write_parts.ensures.same c.reserve.ensures.same.loans (ap (λ b. shown b w) c.reserve.ensures.same.bytes)
-    c.note_write.ensures.loans (rw c.as_slice-3.ensures at c.note_write.ensures.bytes)
-    (rw c.as_slice-2.ensures at c.write_parts.ensures.wire) (rw c.in-Parts.is at c.in_ok-at.ensures.len))
+    c.write_parts.new.memory.memory (rw c.as_slice-2.ensures at c.write_parts.ensures.wire)
+    c.note_write.new.self.bytes c.note_write.new.self.loans
+    (rw c.in-Parts.is at c.in_ok-at.ensures.len) (rw c.in-Parts.is at c.in_ok-at.ensures.inside)
+    ((rw c.as_slice-3.ensures at c.note_write.ensures.bytes)
+    ∙ ap (λ b. set_all b pas _) c.reserve.ensures.same.bytes)
+    (c.note_write.ensures.loans ∙ c.reserve.ensures.same.loans)
 
-pub returns-in_err-reserve-clause-err : goal.returns-in_err-reserve-clause-err
-returns-in_err-reserve-clause-err c =
+pub returns-clause-wire : goal.returns-clause-wire
+returns-clause-wire c =
     let h = c.args.self.now in
-    let same = c.reserve.ensures.same in
-    on_err c.from_residual-in_err-reserve.result (record {
-      ideal = same_ideal (ideal_of h) h.loans.bytes c.reserve.new.self.bytes (wire h.memory.memory) h.loans.loans
-          c.reserve.new.self.loans same.bytes same.loans;
-      wire = refl;
-    })
+    cpu_write-wire h c.requires c.args.place c.args.bytes.now (addresses c.in-Parts.parts)
+    (rw c.in-Parts.is at c.in_ok-at.ensures.verdict) (rw c.in-Parts.is at c.in_ok-at.ensures.addresses)
+    (rw c.as_slice.ensures at (sym c.in_default.is ∙ c.may_cpu_write.ensures))
+    c.write_parts.new.memory.memory (rw c.as_slice-2.ensures at c.write_parts.ensures.wire)
+
+pub returns-clause-awaiting : goal.returns-clause-awaiting
+returns-clause-awaiting c =
+    awaits-same c.args.self.now _ refl refl refl refl (c.note_write.ensures.prepared ∙ c.reserve.ensures.same.prepared)
+    refl refl
+
+pub returns-in_err-reserve-clause-awaiting : goal.returns-in_err-reserve-clause-awaiting
+returns-in_err-reserve-clause-awaiting c =
+    awaits-same c.args.self.now _ refl refl refl refl c.reserve.ensures.same.prepared refl refl

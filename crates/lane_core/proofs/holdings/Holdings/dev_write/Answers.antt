@@ -1,60 +1,145 @@
-use Rattle.std.proofs.Common.{ap, sym, ◌∙◌, refl, length}
+use Rattle.std.proofs.Common.{◌≡◌, ◌/◌, true, Some, length, ap, sym, ◌∙◌, subst}
+use Rattle.std.specs.FinMap.{contains_key, get}
+use Rattle.busdma_base.specs.declared.name.MapId.{MapId}
+use Rattle.busdma_base.specs.Machine.Wire.{with_bytes_of}
 use Rattle.phys_memory.specs.Memory.{wire}
-use Rattle.loan_table.specs.Table.{buffer_of}
-use Rattle.loan_table.proofs.Marking.{AreIn-range}
-use Rattle.loan_table.specs.Loans.{load_bytes}
+use Rattle.lane_core.specs.Wire.{held_pages}
+use Rattle.loan_table.specs.Access.{dev_write_answer}
+use Rattle.loan_table.specs.Loans.{load_bytes, loan_of}
+use Rattle.loan_table.specs.Table.{set_all}
+use Rattle.lane_core.specs.declared.kept.KeptMap.{KeptMap}
+use Rattle.lane_core.specs.Covered.{has_load}
 use Rattle.lane_core.specs.Ideal.{ideal_of}
-use Rattle.lane_core.proofs.Held.{shown, same_ideal, on_err}
-use Rattle.lane_core.proofs.Outcomes.{dev_write_done, write_done, covered_written, range_size}
-use Rattle.busdma_base.specs.Machine.Wire.{put}
-use Rattle.lane_core.proofs.Unbounced.{unbounced_buses}
+use Rattle.lane_core.specs.Kept.{map_of}
+use Rattle.lane_core.proofs.DeviceReads.{load-there}
+use Rattle.lane_core.proofs.Devices.{is-reached}
+use Rattle.lane_core.proofs.DeviceWrites.{dev_write-done, dev_write-past, dev_write-wire}
+use Rattle.lane_core.proofs.MapTables.{AreMaps}
+use Rattle.lane_core.proofs.MapValues.{image-some}
+use Rattle.lane_core.proofs.Marks.{has_set_all}
+use Rattle.lane_core.proofs.Places.{get_removed}
+use Rattle.lane_core.proofs.PutBack.{put-again}
+use Rattle.lane_core.proofs.Reaching.{same-physical}
+use Rattle.lane_core.proofs.Repaging.{are-maps}
+use Rattle.std.proofs.Common.{refl}
+use Rattle.dma_map.specs.MapView.{waiting_load}
+use Rattle.lane_core.proofs.AwaitingSteps.{awaits-put, awaits-same, loaded-unkept}
 use Rattle.lane_core.proofs.holdings.Holdings.dev_write.Goals as goal
+
+pub returns-in-Some-past_end-clause-done : goal.returns-in-Some-past_end-clause-done
+returns-in-Some-past_end-clause-done c =
+    let h = c.args.self.now in
+    let x = load-there (get h.maps.map c.args.map) c.in_default.ensures.loaded in
+    dev_write-past (ideal_of h) c.args.map (map_of x.0) (image-some map_of h.maps.map c.args.map x.0 x.1) x.2 c.args.off
+    c.args.bytes.now c.in-Some-past_end.refusal c.in-Some-past_end.ensures.refused
+
+pub write_load-requires : goal.write_load-requires
+write_load-requires c =
+    let h = c.args.self.now in
+    let o : KeptMap = c.in-Some-take.kept in
+    let there : get h.maps.map c.args.map ≡ Some o = sym c.take.ensures.value ∙ c.in-Some-take.is in
+    let on = sym (ap has_load there) ∙ c.in_default.ensures.loaded in
+    is-reached h c.requires c.args.map o there on c.args.off (length c.args.bytes.now)
+    c.in_default-past_end.ensures.range
+
+pub put-requires-clause-vacant : goal.put-requires-clause-vacant
+put-requires-clause-vacant c =
+    ap (λ t. get t.map c.args.map) c.in-Some-take.ensures.taken ∙ get_removed c.args.self.now.maps.map c.args.map
 
 pub invariant_of-self-2 : goal.invariant_of-self-2
 invariant_of-self-2 c =
-    let l = ideal_of c.args.self.now in
-    let keys = load_bytes l.loans c.args.map.made_at c.args.off (length c.args.bytes.now) in
+    let h = c.args.self.now in
+    let k = c.args.map in
+    let o : KeptMap = c.in-Some-take.kept in
+    let there : get h.maps.map k ≡ Some o = sym c.take.ensures.value ∙ c.in-Some-take.is in
+    let on = sym (ap has_load there) ∙ c.in_default.ensures.loaded in
+    let put =
+    put-again h.maps c.take.new.self c.put.new.self k (record o { map = c.write_load.new.map })
+    c.in-Some-take.ensures.taken c.put.ensures in
+    let loans = c.note_dev_write.ensures.loans ∙ c.reserve_extents.ensures.same.loans in
+    let pas = load_bytes h.loans.loans k c.args.off (length c.args.bytes.now) in
+    let one = are-maps h c.requires k o there on c.write_load.new.map c.write_load.ensures.map in
+    let two = subst (λ ms. AreMaps ms h.loans.loans h.agenda.returns h.agenda.promised) (sym put.0) one in
+    let are =
+    subst (λ ls. AreMaps c.put.new.self.map ls h.agenda.returns h.agenda.promised) (sym loans) two in
+    let marked =
+    c.note_dev_write.ensures.bytes
+    ∙ (λ i. set_all (c.reserve_extents.ensures.same.bytes i)
+    (load_bytes (c.reserve_extents.ensures.same.loans i)
+    (c.map_id-id.ensures i).made_at c.args.off (length c.args.bytes.now)) true) in
     record {
-      covered =
-          covered_written c.args.self.now.memory.memory c.write_load.new.memory.memory
-          c.reserve_extents.new.loans.bytes c.note_dev_write.new.self.bytes keys c.write_load.ensures.same
-          (rw c.reserve_extents.ensures.same.bytes (AreIn-range _ _ _ _ c.in_default-past_end.ensures.inside))
-          (rw c.reserve_extents.ensures.same.loans at c.note_dev_write.ensures.bytes)
-          (rw c.reserve_extents.ensures.same.bytes c.args.self.now.covered);
-      tag_places = c.args.self.now.tag_places;
-      map_places = c.args.self.now.map_places;
+      covered = λ a. ap (λ b. contains_key b a) marked
+          ∙ has_set_all h.loans.bytes pas true c.in_default-past_end.ensures.inside a
+          ∙ h.covered a ∙ sym (c.write_load.ensures.same.frames (a / 4096));
+      reaches = λ va. ap (λ t. t va) (same-physical h.memory.memory c.write_load.new.memory.memory
+          c.write_load.ensures.same)
+          ∙ h.reaches va;
+      tag_places = h.tag_places;
+      map_places = put.1 ∙ h.map_places;
+      memory_places = h.memory_places;
+      loaded = are.loaded;
+      unlent = are.unlent;
+      promised = are.promised;
+      own_returns = h.own_returns;
+      returning = are.returning;
+      tried = are.tried;
     }
 
 pub returns-clause-done : goal.returns-clause-done
 returns-clause-done c =
-    let l = ideal_of c.args.self.now in
-    let w = wire c.args.self.now.memory.memory in
-    let same = c.reserve_extents.ensures.same in
-    let keys = load_bytes l.loans c.args.map.made_at c.args.off (length c.args.bytes.now) in
-    dev_write_done l _ c.args.map c.args.off c.args.bytes.now c.in_default.ensures.passed
-    c.in_default-past_end.ensures.passed (sym c.in_default-may_dev_write.is ∙ c.may_dev_write.ensures)
-    (write_done l c.args.self.now.memory.memory c.write_load.new.memory.memory w (wire c.write_load.new.memory.memory)
-    c.reserve_extents.new.loans c.note_dev_write.new.self keys c.args.bytes.now refl
-    c.write_load.ensures.same same.loans (ap (λ b. shown b w) same.bytes) c.note_dev_write.ensures.loans
-    (rw same.loans at c.note_dev_write.ensures.bytes)
-    (rw same.loans at c.write_load.ensures.wire)
-    (range_size c.args.off (length c.args.bytes.now) (buffer_of c.args.self.now.loans c.args.map.made_at)
-    c.in_default-past_end.ensures.range))
+    let h = c.args.self.now in
+    let k = c.args.map in
+    let o : KeptMap = c.in-Some-take.kept in
+    let there : get h.maps.map k ≡ Some o = sym c.take.ensures.value ∙ c.in-Some-take.is in
+    let on = sym (ap has_load there) ∙ c.in_default.ensures.loaded in
+    let put =
+    put-again h.maps c.take.new.self c.put.new.self k (record o { map = c.write_load.new.map })
+    c.in-Some-take.ensures.taken c.put.ensures in
+    let fine =
+    sym c.in_default-may_dev_write.is ∙ c.may_dev_write.ensures
+    ∙ ap (λ (m : MapId). dev_write_answer (loan_of h.loans.loans m.made_at) c.args.off (length c.args.bytes.now))
+    c.map_id-id.ensures in
+    dev_write-done h c.requires k o there on c.args.off c.args.bytes.now c.in_default-past_end.ensures.range fine
+    c.write_load.new.map c.write_load.ensures.map c.write_load.new.memory.memory c.write_load.ensures.view
+    c.note_dev_write.new.self.bytes c.note_dev_write.new.self.loans c.put.new.self.map
+    c.in_default-past_end.ensures.inside
+    (c.note_dev_write.ensures.bytes
+    ∙ (λ i. set_all (c.reserve_extents.ensures.same.bytes i)
+    (load_bytes (c.reserve_extents.ensures.same.loans i)
+    (c.map_id-id.ensures i).made_at c.args.off (length c.args.bytes.now)) true))
+    (c.note_dev_write.ensures.loans ∙ c.reserve_extents.ensures.same.loans) put.0
 
 pub returns-clause-wire : goal.returns-clause-wire
 returns-clause-wire c =
-    let w = wire c.args.self.now.memory.memory in
-    (rw c.reserve_extents.ensures.same.loans at c.write_load.ensures.wire)
-    ∙ ap (λ ks. put ks c.args.bytes.now w)
-    (sym (unbounced_buses c.args.self.now.loans.loans c.args.map.made_at c.args.off (length c.args.bytes.now)))
-
-pub returns-in_err-reserve_extents-clause-err : goal.returns-in_err-reserve_extents-clause-err
-returns-in_err-reserve_extents-clause-err c =
     let h = c.args.self.now in
-    let same = c.reserve_extents.ensures.same in
-    on_err c.from_residual.result (record {
-      ideal =
-          same_ideal (ideal_of h) h.loans.bytes c.reserve_extents.new.loans.bytes (wire h.memory.memory) h.loans.loans
-          c.reserve_extents.new.loans.loans same.bytes same.loans;
-      wire = refl;
-    })
+    let k = c.args.map in
+    let o : KeptMap = c.in-Some-take.kept in
+    let there : get h.maps.map k ≡ Some o = sym c.take.ensures.value ∙ c.in-Some-take.is in
+    let on = sym (ap has_load there) ∙ c.in_default.ensures.loaded in
+    let put =
+    put-again h.maps c.take.new.self c.put.new.self k (record o { map = c.write_load.new.map })
+    c.in-Some-take.ensures.taken c.put.ensures in
+    let fine =
+    sym c.in_default-may_dev_write.is ∙ c.may_dev_write.ensures
+    ∙ ap (λ (m : MapId). dev_write_answer (loan_of h.loans.loans m.made_at) c.args.off (length c.args.bytes.now))
+    c.map_id-id.ensures in
+    ap (λ ms. with_bytes_of (held_pages ms) (wire c.write_load.new.memory.memory)) put.0
+    ∙ dev_write-wire h c.requires k o there on c.args.off c.args.bytes.now c.in_default-past_end.ensures.range fine
+    c.write_load.new.map c.write_load.ensures.map c.write_load.new.memory.memory c.write_load.ensures.view
+
+pub returns-in_err-reserve_extents-clause-awaiting : goal.returns-in_err-reserve_extents-clause-awaiting
+returns-in_err-reserve_extents-clause-awaiting c =
+    awaits-same c.args.self.now _ refl refl refl refl c.reserve_extents.ensures.same.prepared refl refl
+
+pub returns-clause-awaiting : goal.returns-clause-awaiting
+returns-clause-awaiting c =
+    let h = c.args.self.now in
+    let k = c.args.map in
+    let o : KeptMap = c.in-Some-take.kept in
+    let put =
+    put-again h.maps c.take.new.self c.put.new.self k (record o { map = c.write_load.new.map })
+    c.in-Some-take.ensures.taken c.put.ensures in
+    awaits-put h _ refl refl refl refl
+    (c.note_dev_write.ensures.prepared ∙ c.reserve_extents.ensures.same.prepared) refl k
+    (loaded-unkept (get h.maps.map k) c.in_default.ensures.loaded) (record o { map = c.write_load.new.map }) put.0
+    (ap (λ m. waiting_load m.stage) c.write_load.ensures.map.is)

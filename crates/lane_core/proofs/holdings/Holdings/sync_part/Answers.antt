@@ -1,41 +1,201 @@
-use Rattle.std.proofs.Common.{ap, sym, ◌∙◌, refl}
+use Rattle.std.proofs.Common.{◌≡◌, ◌/◌, ◌&&◌, ◌||◌, false, Some, ap, sym, ◌∙◌, subst}
+use Rattle.std.specs.List.{list_any}
+use Rattle.std.specs.Option.{option_map}
+use Rattle.std.specs.FinMap.{contains_key, get}
+use Rattle.busdma_base.specs.declared.journals.report.Judged.TheVariants.{Fine}
+use Rattle.busdma_base.specs.declared.name.MapId.{MapId}
+use Rattle.busdma_base.specs.declared.name.ZoneId.{ZoneId}
+use Rattle.busdma_base.specs.Machine.Wire.{with_bytes_of}
+use Rattle.dma_map.specs.MapView.{chunks_of}
+use Rattle.dma_tag.specs.SyncOps.{is_mixed, postread, prewrite}
+use Rattle.loan_table.specs.Lending.{lost, sync_answer}
+use Rattle.loan_table.specs.Lending as lending
+use Rattle.loan_table.specs.Table.{AreIn, IsSame, IsSynced, set_all}
 use Rattle.phys_memory.specs.Memory.{wire}
+use Rattle.ideal_lane.specs.Syncs.{counted, has_byte_of, sync_part}
+use Rattle.ideal_wire.specs.WireStep as wires
+use Rattle.ideal_wire.specs.WireStep.{if_done}
+use Rattle.ideal_wire.proofs.Positions.{found_one}
+use Rattle.lane_core.specs.declared.kept.KeptMap.{KeptMap}
+use Rattle.lane_core.specs.Covered.{has_load}
 use Rattle.lane_core.specs.Ideal.{ideal_of}
-use Rattle.lane_core.proofs.Held.{shown, same_ideal, on_err}
-use Rattle.lane_core.proofs.Outcomes.{sync_done, covered_synced}
-use Rattle.lane_core.proofs.Unbounced.{unbounced_sync}
+use Rattle.lane_core.specs.Kept.{map_of, share_of}
+use Rattle.lane_core.specs.Wire.{held_pages, wire_of}
+use Rattle.lane_core.proofs.Bouncing.{is-bounced}
+use Rattle.lane_core.proofs.MapValues.{image-some}
+use Rattle.lane_core.proofs.Marks.{has_set_all}
+use Rattle.lane_core.proofs.Places.{get_removed}
+use Rattle.lane_core.proofs.PutBack.{put-again}
+use Rattle.lane_core.proofs.Reaching.{same-physical}
+use Rattle.lane_core.proofs.Syncing.{are-synced, part-done, part-wire}
+use Rattle.std.proofs.Common.{refl}
+use Rattle.dma_map.specs.MapView.{waiting_load}
+use Rattle.lane_core.proofs.AwaitingSteps.{awaits-put, awaits-same, loaded-unkept}
 use Rattle.lane_core.proofs.holdings.Holdings.sync_part.Goals as goal
 
-pub invariant_of-self-2 : goal.invariant_of-self-2
-invariant_of-self-2 c = record {
-  covered = covered_synced c.args.self.now.memory.memory c.reserve_extents.new.loans c.sync_loans.new.loans
-      c.sync_loans.result c.args.map.made_at c.args.off c.args.len c.args.ops.0 c.sync_loans.ensures.done
-      c.sync_loans.ensures.refused c.sync_loans.ensures.there
-      (rw c.reserve_extents.ensures.same.bytes c.args.self.now.covered);
-  tag_places = c.args.self.now.tag_places;
-  map_places = c.args.self.now.map_places;
-}
-
-pub returns-in-Fine-clause-done : goal.returns-in-Fine-clause-done
-returns-in-Fine-clause-done c =
-    let w = wire c.args.self.now.memory.memory in
-    sync_done (ideal_of c.args.self.now) c.reserve_extents.new.loans c.sync_loans.new.loans w
-    c.args.map.made_at c.args.off c.args.len c.args.ops.0
-    c.reserve_extents.ensures.same.loans (ap (λ b. shown b w) c.reserve_extents.ensures.same.bytes)
-    (sym c.is_mixed.ensures ∙ c.if-is_mixed.false) (sym c.in-Fine.ensures.answer) c.in-Fine.ensures.done
-
-pub returns-in-Fine-clause-wire : goal.returns-in-Fine-clause-wire
-returns-in-Fine-clause-wire c =
-    unbounced_sync c.args.self.now.loans.loans c.args.map.made_at c.args.off c.args.len
-    c.args.ops.0 (wire c.args.self.now.memory.memory)
-
-pub returns-in_err-reserve_extents-clause-err : goal.returns-in_err-reserve_extents-clause-err
-returns-in_err-reserve_extents-clause-err c =
+pub copy_part-requires-clause-bounced : goal.copy_part-requires-clause-bounced
+copy_part-requires-clause-bounced c =
     let h = c.args.self.now in
+    let o : KeptMap = c.in-Some.kept in
+    let there : get h.maps.map c.args.map ≡ Some o = sym c.take.ensures.value ∙ c.in-Some.is in
+    is-bounced h c.requires.wired c.args.map o there (sym (ap has_load there) ∙ c.requires.loaded)
+
+pub put-requires-clause-vacant : goal.put-requires-clause-vacant
+put-requires-clause-vacant c =
+    ap (λ t. get t.map c.args.map) c.in-Some.ensures.taken ∙ get_removed c.args.self.now.maps.map c.args.map
+
+pub invariant_of-self-2 : goal.invariant_of-self-2
+invariant_of-self-2 c =
+    let h = c.args.self.now in
+    let k = c.args.map in
+    let ops = c.args.ops.0 in
+    let o : KeptMap = c.in-Some.kept in
+    let there : get h.maps.map k ≡ Some o = sym c.take.ensures.value ∙ c.in-Some.is in
+    let on = sym (ap has_load there) ∙ c.requires.loaded in
+    let put =
+    put-again h.maps c.take.new.self c.put.new.self k (record o { map = c.copy_part.new.map })
+    c.in-Some.ensures.taken c.put.ensures in
+    let alone : is_mixed ops ≡ false = sym c.is_mixed.ensures ∙ c.if-is_mixed.false in
     let same = c.reserve_extents.ensures.same in
-    on_err c.from_residual.result (record {
-      ideal =
-          same_ideal (ideal_of h) h.loans.bytes c.reserve_extents.new.loans.bytes (wire h.memory.memory) h.loans.loans
-          c.reserve_extents.new.loans.loans same.bytes same.loans;
-      wire = refl;
-    })
+    let answer = c.sync_loans.ensures.answer
+    ∙ (λ i. sync_answer (same.loans i) (c.map_id-id.ensures i).made_at c.args.off c.args.len ops) in
+    let fine : sync_answer h.loans.loans k c.args.off c.args.len ops ≡ Fine = sym answer ∙ c.in_default.is in
+    let before = c.reserve_extents.new.loans in
+    let synced : IsSynced before c.sync_loans.new.loans c.map_id-id.result.made_at c.args.off c.args.len ops =
+    rw c.in_default.is at c.sync_loans.ensures.done in
+    let marks : c.sync_loans.new.loans.bytes
+    ≡ set_all h.loans.bytes (lost h.loans.loans k c.args.off c.args.len ops) false =
+    synced.bytes
+    ∙ (λ i. set_all (same.bytes i) (lost (same.loans i) (c.map_id-id.ensures i).made_at c.args.off c.args.len ops)
+    false)
+    in
+    let loans : c.sync_loans.new.loans.loans ≡ lending.synced h.loans.loans k c.args.off c.args.len ops =
+    synced.loans
+    ∙ (λ i. lending.synced (same.loans i) (c.map_id-id.ensures i).made_at c.args.off c.args.len ops) in
+    let are : AreIn h.loans.bytes (lost h.loans.loans k c.args.off c.args.len ops) =
+    subst (λ b. AreIn b (lost h.loans.loans k c.args.off c.args.len ops)) same.bytes
+    (subst (λ ls. AreIn before.bytes (lost ls k c.args.off c.args.len ops)) same.loans
+    (subst (λ (m : MapId). AreIn before.bytes (lost before.loans m.made_at c.args.off c.args.len ops))
+    c.map_id-id.ensures
+    c.sync_loans.ensures.there)) in
+    let maps =
+    are-synced h c.requires.wired k o there on c.copy_part.new.map c.copy_part.ensures.map
+    c.copy_part.new.memory.memory c.args.off c.args.len ops c.copy_part.ensures.view c.requires.range alone fine
+    c.put.new.self.map c.sync_loans.new.loans.loans put.0 loans in
+    record {
+      covered = λ a. ap (λ b. contains_key b a) marks
+          ∙ has_set_all h.loans.bytes (lost h.loans.loans k c.args.off c.args.len ops) false are a
+          ∙ h.covered a ∙ sym (c.copy_part.ensures.same.frames (a / 4096));
+      reaches = λ va. ap (λ t. t va)
+          (same-physical h.memory.memory c.copy_part.new.memory.memory c.copy_part.ensures.same) ∙ h.reaches va;
+      tag_places = h.tag_places;
+      map_places = put.1 ∙ h.map_places;
+      memory_places = h.memory_places;
+      loaded = maps.loaded;
+      unlent = maps.unlent;
+      promised = maps.promised;
+      own_returns = h.own_returns;
+      returning = maps.returning;
+      tried = maps.tried;
+    }
+
+pub returns-clause-done : goal.returns-clause-done
+returns-clause-done c other found =
+    let h = c.args.self.now in
+    let k = c.args.map in
+    let ops = c.args.ops.0 in
+    let o : KeptMap = c.in-Some.kept in
+    let there : get h.maps.map k ≡ Some o = sym c.take.ensures.value ∙ c.in-Some.is in
+    let on = sym (ap has_load there) ∙ c.requires.loaded in
+    let put =
+    put-again h.maps c.take.new.self c.put.new.self k (record o { map = c.copy_part.new.map })
+    c.in-Some.ensures.taken c.put.ensures in
+    let alone : is_mixed ops ≡ false = sym c.is_mixed.ensures ∙ c.if-is_mixed.false in
+    let same = c.reserve_extents.ensures.same in
+    let answer = c.sync_loans.ensures.answer
+    ∙ (λ i. sync_answer (same.loans i) (c.map_id-id.ensures i).made_at c.args.off c.args.len ops) in
+    let fine : sync_answer h.loans.loans k c.args.off c.args.len ops ≡ Fine = sym answer ∙ c.in_default.is in
+    let before = c.reserve_extents.new.loans in
+    let synced : IsSynced before c.sync_loans.new.loans c.map_id-id.result.made_at c.args.off c.args.len ops =
+    rw c.in_default.is at c.sync_loans.ensures.done in
+    let marks : c.sync_loans.new.loans.bytes
+    ≡ set_all h.loans.bytes (lost h.loans.loans k c.args.off c.args.len ops) false =
+    synced.bytes
+    ∙ (λ i. set_all (same.bytes i) (lost (same.loans i) (c.map_id-id.ensures i).made_at c.args.off c.args.len ops)
+    false)
+    in
+    let loans : c.sync_loans.new.loans.loans ≡ lending.synced h.loans.loans k c.args.off c.args.len ops =
+    synced.loans
+    ∙ (λ i. lending.synced (same.loans i) (c.map_id-id.ensures i).made_at c.args.off c.args.len ops) in
+    let are : AreIn h.loans.bytes (lost h.loans.loans k c.args.off c.args.len ops) =
+    subst (λ b. AreIn b (lost h.loans.loans k c.args.off c.args.len ops)) same.bytes
+    (subst (λ ls. AreIn before.bytes (lost ls k c.args.off c.args.len ops)) same.loans
+    (subst (λ (m : MapId). AreIn before.bytes (lost before.loans m.made_at c.args.off c.args.len ops))
+    c.map_id-id.ensures
+    c.sync_loans.ensures.there)) in
+    let shares = c.copy_part.ensures.shares
+    ∙ ap (λ xs. counted ((prewrite ops || postread ops)
+    && list_any (has_byte_of c.args.off c.args.len) (chunks_of o.map.stage))
+    (option_map (λ (z : ZoneId). z.0) o.map.zone) (share_of xs)) c.reserve.ensures.items in
+    let is : map_of o ≡ other =
+    found_one (get (ideal_of h).maps k) (map_of o) other (image-some map_of h.maps.map k o there) found in
+    part-done h c.requires.wired k o there on c.copy_part.new.map c.copy_part.ensures.map
+    c.copy_part.new.memory.memory c.args.off c.args.len ops c.copy_part.ensures.view c.requires.range alone fine
+    c.sync_loans.new.loans.bytes c.sync_loans.new.loans.loans c.put.new.self.map c.copy_part.new.shares.items are marks
+    loans put.0 shares
+    ∙ ap (λ y. sync_part k y c.args.off c.args.len ops (ideal_of h)) is
+
+pub returns-clause-wire : goal.returns-clause-wire
+returns-clause-wire c other found =
+    let h = c.args.self.now in
+    let k = c.args.map in
+    let ops = c.args.ops.0 in
+    let o : KeptMap = c.in-Some.kept in
+    let there : get h.maps.map k ≡ Some o = sym c.take.ensures.value ∙ c.in-Some.is in
+    let on = sym (ap has_load there) ∙ c.requires.loaded in
+    let put =
+    put-again h.maps c.take.new.self c.put.new.self k (record o { map = c.copy_part.new.map })
+    c.in-Some.ensures.taken c.put.ensures in
+    let alone : is_mixed ops ≡ false = sym c.is_mixed.ensures ∙ c.if-is_mixed.false in
+    let same = c.reserve_extents.ensures.same in
+    let answer = c.sync_loans.ensures.answer
+    ∙ (λ i. sync_answer (same.loans i) (c.map_id-id.ensures i).made_at c.args.off c.args.len ops) in
+    let fine : sync_answer h.loans.loans k c.args.off c.args.len ops ≡ Fine = sym answer ∙ c.in_default.is in
+    let is : map_of o ≡ other =
+    found_one (get (ideal_of h).maps k) (map_of o) other (image-some map_of h.maps.map k o there) found in
+    ap (λ ms. with_bytes_of (held_pages ms) (wire c.copy_part.new.memory.memory)) put.0
+    ∙ part-wire h c.requires.wired k o there on c.copy_part.new.map c.copy_part.ensures.map
+    c.copy_part.new.memory.memory c.args.off c.args.len ops c.copy_part.ensures.view c.requires.range alone fine
+    ∙ ap (λ y. if_done (sync_part k y c.args.off c.args.len ops (ideal_of h))
+    (wires.synced k c.args.off c.args.len ops (ideal_of h) (wire_of h)) (wire_of h)) is
+
+pub returns-clause-awaiting : goal.returns-clause-awaiting
+returns-clause-awaiting c =
+    let h = c.args.self.now in
+    let k = c.args.map in
+    let ops = c.args.ops.0 in
+    let o : KeptMap = c.in-Some.kept in
+    let put =
+    put-again h.maps c.take.new.self c.put.new.self k (record o { map = c.copy_part.new.map })
+    c.in-Some.ensures.taken c.put.ensures in
+    let synced : IsSynced c.reserve_extents.new.loans c.sync_loans.new.loans c.map_id-id.result.made_at c.args.off
+    c.args.len ops =
+    rw c.in_default.is at c.sync_loans.ensures.done in
+    awaits-put h _ refl refl refl refl (synced.prepared ∙ c.reserve_extents.ensures.same.prepared) refl k
+    (loaded-unkept (get h.maps.map k) c.requires.loaded) (record o { map = c.copy_part.new.map }) put.0
+    (ap (λ m. waiting_load m.stage) c.copy_part.ensures.map.is)
+
+pub returns-in_err-reserve_extents-clause-awaiting : goal.returns-in_err-reserve_extents-clause-awaiting
+returns-in_err-reserve_extents-clause-awaiting c =
+    awaits-same c.args.self.now _ refl refl refl refl c.reserve_extents.ensures.same.prepared refl refl
+
+pub returns-in_err-reserve-clause-awaiting : goal.returns-in_err-reserve-clause-awaiting
+returns-in_err-reserve-clause-awaiting c =
+    awaits-same c.args.self.now _ refl refl refl refl c.reserve_extents.ensures.same.prepared refl refl
+
+pub returns-in-Refused-clause-awaiting : goal.returns-in-Refused-clause-awaiting
+returns-in-Refused-clause-awaiting c =
+    let refused : IsSame c.reserve_extents.new.loans c.sync_loans.new.loans =
+    rw c.in-Refused.is at c.sync_loans.ensures.refused in
+    awaits-same c.args.self.now _ refl refl refl refl (refused.prepared ∙ c.reserve_extents.ensures.same.prepared) refl
+    refl

@@ -1,37 +1,51 @@
-use Rattle.std.proofs.Common.{ap, sym, ◌∙◌, false}
-use Rattle.std.specs.FinMap.{contains_key, remove}
-use Rattle.busdma_base.specs.declared.name.MapId.{MapId}
-use Rattle.loan_table.specs.Table.{set_all}
-use Rattle.loan_table.specs.Lending.{lost_by_forgetting}
+use Rattle.std.proofs.Common.{refl, ap, sym, ◌∙◌, inl, arith}
+use Rattle.ideal_lane.specs.Asking.{Gives}
+use Rattle.ideal_lane.specs.Outcomes.{gives}
 use Rattle.busdma_base.specs.declared.journals.answer.Answer.TheVariants.{Done}
-use Rattle.lane_core.specs.Ideal.{ideal_of}
-use Rattle.lane_core.specs.Lane.{gives}
-use Rattle.lane_core.proofs.Held.{has_set_all, shown, shown_forgotten}
-use Rattle.lane_core.proofs.Passing.{unloaded_passes, found}
-use Rattle.phys_memory.specs.Memory.{wire}
+use Rattle.lane_core.specs.Ideal.{given, ideal_of}
+use Rattle.lane_core.specs.Kept.{map_of}
+use Rattle.lane_core.proofs.Keeping.{state-loaded, state-unloaded}
+use Rattle.lane_core.proofs.MapValues.{image-none, image-some}
+use Rattle.lane_core.proofs.UnloadSteps.{unload-absent, unload-unloaded, unload-done}
+use Rattle.lane_core.proofs.AwaitingStays.{awaiting-stays}
 use Rattle.lane_core.proofs.holdings.Holdings.unload.Goals as goal
 
-pub invariant_of-self : goal.invariant_of-self
-invariant_of-self c = record {
-  covered = λ a. ap (λ b. contains_key b a) c.forget.ensures.bytes
-      ∙ has_set_all _ _ _ c.forget.ensures.there a ∙ c.args.self.now.covered a;
-  tag_places = c.args.self.now.tag_places;
-  map_places = c.args.self.now.map_places;
-}
+pub returns-in_default-clause-done : goal.returns-in_default-clause-done
+returns-in_default-clause-done c =
+    let h = c.args.self.now in
+    ap (λ a. Gives (given h a)) c.report.ensures
+    ∙ sym (unload-absent (ideal_of h) c.args.map (image-none map_of h.maps.map c.args.map (sym c.in_default.ensures)))
+
+pub returns-in_default-state : goal.returns-in_default-state
+returns-in_default-state c =
+    let h = c.args.self.now in
+    let o = c.in-Some.kept.now in
+    record {
+      done = ap (λ a. Gives (given h a)) c.report-in_default-state.ensures
+          ∙ sym (unload-unloaded (ideal_of h) c.args.map (map_of o)
+          (image-some map_of h.maps.map c.args.map o (sym c.in-Some.ensures))
+          (state-unloaded o.need o.map.stage (λ e. c.in_default-state.not-Loaded (c.state.ensures ∙ e))));
+      bytes = record { own = refl; pages = λ m. inl refl };
+      awaiting = λ are. are;
+      script = refl;
+      memories = refl;
+      promised = omega arith;
+      queue = refl;
+      place = refl;
+      length = refl;
+      room = refl;
+    }
 
 pub returns-clause-done : goal.returns-clause-done
 returns-clause-done c =
-    let l = ideal_of c.args.self.now in
-    let id = ap (λ (x : MapId). x.made_at) c.map_id-id.ensures in
-    let made = found c.get.result _ _ c.get.ensures c.is_none.ensures c.if-is_none.false in
-    let loaded =
-    ap (contains_key c.args.self.now.loans.loans) (sym id) ∙ sym c.has_map.ensures ∙ c.if-not-has_map.false in
-    let bytes =
-    c.forget.ensures.bytes
-    ∙ ap (λ m. set_all c.args.self.now.loans.bytes (lost_by_forgetting c.args.self.now.loans.loans m) false) id in
-    let memory = ap (λ b. shown b (wire c.args.self.now.memory.memory)) bytes
-    ∙ shown_forgotten c.args.self.now.loans.bytes (wire c.args.self.now.memory.memory)
-    (lost_by_forgetting c.args.self.now.loans.loans c.args.map) in
-    let loans = c.forget.ensures.loans ∙ ap (remove c.args.self.now.loans.loans) id in
-    (λ i. gives (record l { loans = loans i; memory = memory i }) Done)
-    ∙ sym (unloaded_passes c.args.map l _ made loaded)
+    let h = c.args.self.now in
+    let l = ideal_of h in
+    let o = c.in-Some.kept.now in
+    let there = image-some map_of h.maps.map c.args.map o (sym c.in-Some.ensures) in
+    ap (λ x. gives x Done) (c.end_load.ensures.done (map_of o) there)
+    ∙ sym (unload-done l c.args.map (map_of o) there
+    (state-loaded o.need o.map.stage (sym c.state.ensures ∙ c.in-Loaded.is)))
+
+pub returns-clause-awaiting : goal.returns-clause-awaiting
+returns-clause-awaiting c =
+    awaiting-stays c.args.self.now c.end_load.new.self c.end_load.ensures.waiting c.end_load.ensures.reach

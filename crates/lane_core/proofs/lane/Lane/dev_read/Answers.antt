@@ -1,20 +1,51 @@
-use Rattle.std.proofs.Common.{◌≡◌, sym, ap, subst}
-use Rattle.lane_core.specs.Ideal.{ideal, wire_of, traces_of}
-use Rattle.lane_core.specs.Lane.{gives}
-use Rattle.lane_core.specs.Calls as calls
-use Rattle.busdma_base.specs.Machine.Wire.{buses, stretch}
-use Rattle.lane_core.specs.WireStep.{Reads}
-use Rattle.lane_core.proofs.Passing.{ok_map}
-use Rattle.lane_core.proofs.Unbounced.{dev_read_held, known_held}
+use Rattle.std.proofs.Common.{ap, sym, ◌∙◌, subst}
+use Rattle.busdma_base.specs.declared.journals.answer.Answer.{Answer}
+use Rattle.ideal_lane.specs.Accesses as accesses
+use Rattle.ideal_lane.specs.Outcomes.{gives}
+use Rattle.ideal_wire.specs.WireStep.{Reads, load_buses}
+use Rattle.lane_core.specs.Ideal.{ideal_of}
+use Rattle.lane_core.specs.Wire.{wire_of}
+use Rattle.lane_core.proofs.Doors.{ok-map}
+use Rattle.lane_core.proofs.LaneCalls.{called-lane, foreign-call, kept-on, own-call}
 use Rattle.lane_core.proofs.lane.Lane.dev_read.Goals as goal
 
-pub returns-clause-read : goal.returns-clause-read
-returns-clause-read c =
-    let l = ideal c.args.self.now in
-    let w = wire_of c.args.self.now in
-    let at = buses (stretch c.args.off c.args.len (traces_of l c.args.map.made_at)) in
-    ok_map c.dev_read.result (λ answer. gives l answer
-    ≡ calls.dev_read c.args.map c.args.off c.args.len l) (λ answer. Reads answer at w)
-    (λ answer h. subst (λ a. Reads a at w) (sym (ap (λ o. o.answer) h))
-    (dev_read_held l w (known_held c.args.self.now.holdings.loans.bytes w) c.args.map c.args.off c.args.len))
-    c.dev_read.ensures
+pub invariant_of-self : goal.invariant_of-self
+invariant_of-self c =
+    let l = c.args.self.now in
+    let h = l.holdings in
+    let k = c.dev_read.new.self in
+    let r = c.dev_read.ensures in
+    let lane =
+    called-lane h k
+    (record { wired = l.wired; stands = l.stands; provided = l.provided; length = l.length; room = l.room })
+    (kept-on h k l.wired r.kept) r.awaiting r.script r.memories r.agenda in
+    record {
+      wired = lane.wired;
+      stands = lane.stands;
+      provided = lane.provided;
+      length = lane.length;
+      room = lane.room;
+    }
+
+pub returns-then-not-owns-clause-done : goal.returns-then-not-owns-clause-done
+returns-then-not-owns-clause-done c =
+    let l = ideal_of c.args.self.now.holdings in
+    ap (gives l) c.report.ensures
+    ∙ sym (foreign-call c.args.map l (accesses.dev_read c.args.map.made_at c.args.off c.args.len l)
+    (sym c.owns.ensures ∙ c.if-not-owns.true))
+
+pub returns-then-not-owns-clause-read : goal.returns-then-not-owns-clause-read
+returns-then-not-owns-clause-read c =
+    let h = c.args.self.now.holdings in
+    subst (λ (a : Answer). Reads a (load_buses (ideal_of h) c.args.map.made_at c.args.off c.args.len) (wire_of h))
+    (sym c.report.ensures) tt
+
+pub returns-clause-done : goal.returns-clause-done
+returns-clause-done c =
+    let l = ideal_of c.args.self.now.holdings in
+    ok-map c.dev_read.result _ _ (λ a done. done
+    ∙ sym (own-call c.args.map l (accesses.dev_read c.args.map.made_at c.args.off c.args.len l)
+    (sym c.owns.ensures ∙ c.if-not-owns.false))) c.dev_read.ensures.done
+
+pub returns-clause-same : goal.returns-clause-same
+returns-clause-same c = c.dev_read.ensures.kept.ideal

@@ -1,42 +1,185 @@
-use Rattle.std.proofs.Common.{◌≡◌, length, is_some, ap, sym, ◌∙◌, subst, arith}
-use Rattle.std.specs.Ordering.{nat_cmp}
-use Rattle.std.specs.FinMap.{contains_key, get-empty}
+use Rattle.std.proofs.Common.{◌≡◌, ◌==◌, not, length, map, ap, sym, ◌∙◌, subst, arith}
+use Rattle.std.specs.List.{list_any}
+use Rattle.lane_tables.specs.declared.queued.QueuedPage.{QueuedPage}
 use Rattle.lane_tables.specs.Queues.{item_count}
+use Rattle.ideal_lane.specs.Ahead.{awaited_items, maps_items}
+use Rattle.ideal_lane.specs.State.{LaneMap}
+use Rattle.ideal_lane.specs.Opening.{opening_lane}
+use Rattle.ideal_lane.specs.Standing.{Stands}
+use Rattle.ideal_lane.proofs.Openings.{opens-standing}
+use Rattle.ideal_lane.proofs.Weights.{weigh-empty}
 use Rattle.lane_core.specs.Covered.{items_left}
+use Rattle.lane_core.specs.Held.{devices_of}
+use Rattle.lane_core.specs.Kept.{map_of, memory_of, return_of, share_of, tag_of}
+use Rattle.lane_core.specs.MapValues.{map_values}
+use Rattle.lane_core.proofs.MapValues.{map_values-empty}
 use Rattle.lane_core.proofs.OwnRuns.{AreKnown}
-use Rattle.lane_core.proofs.OpeningLane.{held_zeros}
+use Rattle.lane_core.proofs.OpensProvided.{opens-provided}
+use Rattle.lane_core.proofs.OpensWired.{opens-wired}
+use Rattle.lane_core.proofs.OpeningLane.{held-zeros, opens-covered, opens-mapless, opens-reaching}
 use Rattle.lane_core.proofs.lane.Lane.new.Goals as goal
 
-pub invariant_of-result-2 : goal.invariant_of-result-2
-invariant_of-result-2 c =
-    let agenda = c.in_ok-new-3.ensures in
+pub invariant_of-result-clause-covered : goal.invariant_of-result-clause-covered
+invariant_of-result-clause-covered c =
+    let known =
+    subst (λ pages. AreKnown pages c.in_ok-opening_loans.field-0.bytes) c.as_slice-pages.ensures
+    c.in_ok-opening_loans.ensures.bytes in
+    opens-covered c.args.driver.now.pages c.in_ok-opening_loans.field-0.bytes c.args.memory.memory known
+    c.requires.memory
+
+pub invariant_of-result-clause-reaches : goal.invariant_of-result-clause-reaches
+invariant_of-result-clause-reaches c =
+    opens-reaching c.as_slice-pages.result.now c.in_ok-new-3.field-0.map c.args.memory.memory
+    (ap (λ t. t.map) c.in_ok-new-3.ensures)
+    (rw c.as_slice-pages.ensures c.requires.memory)
+
+pub invariant_of-result-clause-loaded : goal.invariant_of-result-clause-loaded
+invariant_of-result-clause-loaded c =
+    (opens-mapless c.in_ok-new-2.field-0.map c.in_ok-opening_loans.field-0.loans c.in_ok-new-4.field-0.returns 0
+    (ap (λ t. t.map) c.in_ok-new-2.ensures) c.in_ok-opening_loans.ensures.loans
+    (ap (λ a. a.returns) c.in_ok-new-4.ensures)).loaded
+
+pub invariant_of-result-clause-unlent : goal.invariant_of-result-clause-unlent
+invariant_of-result-clause-unlent c =
+    (opens-mapless c.in_ok-new-2.field-0.map c.in_ok-opening_loans.field-0.loans c.in_ok-new-4.field-0.returns 0
+    (ap (λ t. t.map) c.in_ok-new-2.ensures) c.in_ok-opening_loans.ensures.loans
+    (ap (λ a. a.returns) c.in_ok-new-4.ensures)).unlent
+
+pub invariant_of-result-clause-promised : goal.invariant_of-result-clause-promised
+invariant_of-result-clause-promised c =
+    (opens-mapless c.in_ok-new-2.field-0.map c.in_ok-opening_loans.field-0.loans c.in_ok-new-4.field-0.returns
+    c.in_ok-new-4.field-0.promised
+    (ap (λ t. t.map) c.in_ok-new-2.ensures) c.in_ok-opening_loans.ensures.loans
+    (ap (λ a. a.returns) c.in_ok-new-4.ensures)).promised
+
+pub invariant_of-result-clause-own_returns : goal.invariant_of-result-clause-own_returns
+invariant_of-result-clause-own_returns c =
+    ap (λ rs. list_any (λ (q : QueuedPage). not (q.map.lane.0 == c.args.id.0)) rs)
+    (ap (λ a. a.returns) c.in_ok-new-4.ensures)
+
+pub invariant_of-result-clause-returning : goal.invariant_of-result-clause-returning
+invariant_of-result-clause-returning c =
+    (opens-mapless c.in_ok-new-2.field-0.map c.in_ok-opening_loans.field-0.loans c.in_ok-new-4.field-0.returns 0
+    (ap (λ t. t.map) c.in_ok-new-2.ensures) c.in_ok-opening_loans.ensures.loans
+    (ap (λ a. a.returns) c.in_ok-new-4.ensures)).returning
+
+pub invariant_of-result-clause-tried : goal.invariant_of-result-clause-tried
+invariant_of-result-clause-tried c =
+    (opens-mapless c.in_ok-new-2.field-0.map c.in_ok-opening_loans.field-0.loans c.in_ok-new-4.field-0.returns 0
+    (ap (λ t. t.map) c.in_ok-new-2.ensures) c.in_ok-opening_loans.ensures.loans
+    (ap (λ a. a.returns) c.in_ok-new-4.ensures)).tried
+
+pub invariant_of-result-2-clause-length : goal.invariant_of-result-2-clause-length
+invariant_of-result-2-clause-length c =
+    ap (λ a. a.length) c.in_ok-new-4.ensures ∙ sym (ap length c.as_slice-script.ensures)
+
+pub invariant_of-result-2-clause-room : goal.invariant_of-result-2-clause-room
+invariant_of-result-2-clause-room c =
+    let agenda = c.in_ok-new-4.ensures in
     let script = c.as_slice-script.ensures in
-    let left : items_left c.in_ok-new-3.field-0.place c.as_slice-script.result.now ≡ c.in_ok-new-3.field-0.room =
+    let left : items_left c.in_ok-new-4.field-0.place c.as_slice-script.result.now ≡ c.in_ok-new-4.field-0.room =
     ap (λ a. items_left a.place c.as_slice-script.result.now) agenda
     ∙ ap item_count script ∙ sym (ap (λ a. a.room) agenda) in
-    record {
-      length = ap (λ a. a.length) agenda ∙ sym (ap length script);
-      room = omega (arith, left);
-      new_tags = λ p le. ap (λ t. contains_key t.map p) c.in_ok-new.ensures ∙ ap is_some (get-empty nat_cmp p);
-      new_maps = λ p le. ap (λ t. contains_key t.map p) c.in_ok-new-2.ensures ∙ ap is_some (get-empty nat_cmp p);
-    }
+    let maps = ap (λ t. map_values map_of t.map) c.in_ok-new-2.ensures ∙ map_values-empty map_of in
+    let due : maps_items c.as_slice-script.result.now (map_values map_of c.in_ok-new-2.field-0.map) ≡ 0 =
+    ap (maps_items c.as_slice-script.result.now) maps
+    ∙ weigh-empty (λ (o : LaneMap). awaited_items c.as_slice-script.result.now o.stage) in
+    omega (arith, left, due)
+
+pub invariant_of-result-2-clause-wired : goal.invariant_of-result-2-clause-wired
+invariant_of-result-2-clause-wired c =
+    let agenda = c.in_ok-new-4.ensures in
+    let loans = c.in_ok-opening_loans.ensures.loans in
+    let known =
+    subst (λ pages. AreKnown pages c.in_ok-opening_loans.field-0.bytes) c.as_slice-pages.ensures
+    c.in_ok-opening_loans.ensures.bytes in
+    let memory =
+    held-zeros c.args.driver.now.pages c.in_ok-opening_loans.field-0.bytes c.args.memory.memory known
+    c.requires.memory c.in_ok-opening_loans.field-0.loans (devices_of c.in_ok-new-2.field-0.map) loans in
+    let tags = ap (λ t. map_values tag_of t.map) c.in_ok-new.ensures ∙ map_values-empty tag_of in
+    let maps = ap (λ t. map_values map_of t.map) c.in_ok-new-2.ensures ∙ map_values-empty map_of in
+    let mems = ap (λ t. map_values memory_of t.map) c.in_ok-new-3.ensures ∙ map_values-empty memory_of in
+    opens-wired c.args.id.0 c.args.maxmem c.args.driver.now _
+    (λ i. record {
+      id = c.args.id.0;
+      maxmem = c.args.maxmem;
+      script = c.as_slice-script.ensures i;
+      place = (agenda i).place;
+      pages = c.as_slice-pages.ensures i;
+      tags = tags i;
+      maps = maps i;
+      mems = mems i;
+      memory = memory i;
+      loans = loans i;
+      queue = (agenda i).queue;
+      returns = map return_of (agenda i).returns;
+      shares = share_of (c.new-5.ensures.items i);
+    })
+    (ap (λ t. t.map) c.in_ok-new-2.ensures) c.requires.memory.zero c.requires.numbered c.requires.inside
+
+pub invariant_of-result-2-clause-stands : goal.invariant_of-result-2-clause-stands
+invariant_of-result-2-clause-stands c =
+    let agenda = c.in_ok-new-4.ensures in
+    let loans = c.in_ok-opening_loans.ensures.loans in
+    let known =
+    subst (λ pages. AreKnown pages c.in_ok-opening_loans.field-0.bytes) c.as_slice-pages.ensures
+    c.in_ok-opening_loans.ensures.bytes in
+    let memory =
+    held-zeros c.args.driver.now.pages c.in_ok-opening_loans.field-0.bytes c.args.memory.memory known
+    c.requires.memory c.in_ok-opening_loans.field-0.loans (devices_of c.in_ok-new-2.field-0.map) loans in
+    let tags = ap (λ t. map_values tag_of t.map) c.in_ok-new.ensures ∙ map_values-empty tag_of in
+    let maps = ap (λ t. map_values map_of t.map) c.in_ok-new-2.ensures ∙ map_values-empty map_of in
+    let mems = ap (λ t. map_values memory_of t.map) c.in_ok-new-3.ensures ∙ map_values-empty memory_of in
+    let is : _ ≡ opening_lane c.args.id.0 c.args.maxmem c.args.driver.now =
+    (λ i. record {
+      id = c.args.id.0;
+      maxmem = c.args.maxmem;
+      script = c.as_slice-script.ensures i;
+      place = (agenda i).place;
+      pages = c.as_slice-pages.ensures i;
+      tags = tags i;
+      maps = maps i;
+      mems = mems i;
+      memory = memory i;
+      loans = loans i;
+      queue = (agenda i).queue;
+      returns = map return_of (agenda i).returns;
+      shares = share_of (c.new-5.ensures.items i);
+    }) in
+    ∣ subst Stands (sym is) (opens-standing c.args.id.0 c.args.maxmem c.args.driver.now) ∣₁
+
+pub invariant_of-result-2-clause-provided : goal.invariant_of-result-2-clause-provided
+invariant_of-result-2-clause-provided c =
+    ∣ opens-provided c.args.driver.now _ c.requires.script c.requires.small c.as_slice-script.ensures
+    (ap (λ a. a.place) c.in_ok-new-4.ensures) (ap (λ a. a.promised) c.in_ok-new-4.ensures)
+    (ap (λ t. t.map) c.in_ok-new-2.ensures) (ap (λ t. t.map) c.in_ok-new-3.ensures)
+    c.in_ok-opening_loans.ensures.prepared ∣₁
 
 pub returns : goal.returns
 returns c =
-    let agenda = c.in_ok-new-3.ensures in
-    let memory = c.requires.memory in
+    let agenda = c.in_ok-new-4.ensures in
+    let loans = c.in_ok-opening_loans.ensures.loans in
     let known =
-    subst (λ pages. AreKnown pages c.in_ok-opening_loans.field-0.bytes) c.as_slice.ensures
+    subst (λ pages. AreKnown pages c.in_ok-opening_loans.field-0.bytes) c.as_slice-pages.ensures
     c.in_ok-opening_loans.ensures.bytes in
-    let held = held_zeros c.args.driver.now.pages c.in_ok-opening_loans.field-0 _ known memory in
+    let memory =
+    held-zeros c.args.driver.now.pages c.in_ok-opening_loans.field-0.bytes c.args.memory.memory known
+    c.requires.memory c.in_ok-opening_loans.field-0.loans (devices_of c.in_ok-new-2.field-0.map) loans in
+    let tags = ap (λ t. map_values tag_of t.map) c.in_ok-new.ensures ∙ map_values-empty tag_of in
+    let maps = ap (λ t. map_values map_of t.map) c.in_ok-new-2.ensures ∙ map_values-empty map_of in
+    let mems = ap (λ t. map_values memory_of t.map) c.in_ok-new-3.ensures ∙ map_values-empty memory_of in
     (λ i. record {
       id = c.args.id.0;
+      maxmem = c.args.maxmem;
       script = c.as_slice-script.ensures i;
       place = (agenda i).place;
-      tags = (c.in_ok-new.ensures i).map;
-      maps = (c.in_ok-new-2.ensures i).map;
-      physical = memory.physical i;
-      memory = held i;
-      loans = c.in_ok-opening_loans.ensures.loans i;
+      pages = c.as_slice-pages.ensures i;
+      tags = tags i;
+      maps = maps i;
+      mems = mems i;
+      memory = memory i;
+      loans = loans i;
       queue = (agenda i).queue;
+      returns = map return_of (agenda i).returns;
+      shares = share_of (c.new-5.ensures.items i);
     })

@@ -1,7 +1,6 @@
 use Rattle.std.proofs.Common.{◌+◌, refl, sym, ◌∙◌}
 use Rattle.world_core.specs.Ideal.{ideal_run}
 use Rattle.world_core.proofs.Going.{next_round, rests, falls}
-use Rattle.world_core.proofs.Drivers.{round_has_drivers}
 use Rattle.world_core.proofs.run.Progress.rounds.Goals as goal
 
 pub rounds-init : goal.rounds-init
@@ -19,7 +18,7 @@ returns-then-len-before c = record {
 }
 
 pub rounds-smaller : goal.rounds-smaller
-rounds-smaller c = falls c.args.round.now (ideal_run c.rounds.self) (ideal_run c.turns.new.self) c.in_ok-turns.ensures
+rounds-smaller c = falls c.args.round.now c.rounds.self (ideal_run c.turns.new.self) c.in_ok-turns.ensures
     (λ h. c.if-len-before.false (c.len.ensures
     ∙ (c.turns.new.self.entries.ok.0 ∙ (h ∙ sym (c.len-before.ensures ∙ c.rounds.self.entries.ok.0)))))
 
@@ -29,7 +28,3 @@ rounds-preserved c = (
   next_round c.rounds.invariant.0 c.args.round.now _ (ideal_run c.rounds.self) _
       c.rounds.invariant.1 c.in_ok-turns.ensures,
 )
-
-pub turns-requires : goal.turns-requires
-turns-requires c =
-    round_has_drivers c.rounds.invariant.0 c.args.round.now _ (ideal_run c.rounds.self) c.rounds.invariant.1 c.requires

@@ -1,7 +1,7 @@
 use Rattle.std.proofs.Common.{◌≡◌, ℕ}
 use Rattle.world_core.specs.Ideal.{ideal_run}
-use Rattle.world_core.specs.Laws.{left_of}
-use Rattle.world_core.specs.Legal.{rounds}
+use Rattle.ideal_world.specs.Left.{left_of}
+use Rattle.ideal_world.specs.Legal.{rounds}
 use Rattle.world_core.proofs.run.Progress.rounds.Given as goal
 
 abbrev pub invariant-rounds : goal.invariant-rounds

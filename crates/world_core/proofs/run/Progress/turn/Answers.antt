@@ -1,8 +1,9 @@
+use Rattle.lane_core.specs.Turning.{answered}
 use Rattle.world_core.specs.Ideal.{ideal_run, ideal_world}
 use Rattle.world_core.proofs.Taking.{skips, no_entry}
 use Rattle.world_core.proofs.run.Progress.turn.Goals as goal
 
 pub returns-in_default : goal.returns-in_default
 returns-in_default c =
-    skips (ideal_run c.args.self.now) c.args.actor (ideal_world c.step.new.self) c.in_ok-entry.field-0
+    skips (ideal_run c.args.self.now) c.args.actor (ideal_world c.step.new.self) (answered c.in_ok-entry.field-0)
     c.in_ok-entry.ensures.done (no_entry _ c.in_default.not-Stepped)

@@ -1,9 +1,8 @@
 use Rattle.std.proofs.Common.{refl, ap, ◌∙◌}
 use Rattle.std.proofs.lemmas.List.{take_all}
 use Rattle.world_core.specs.Ideal.{ideal_run}
-use Rattle.world_core.specs.Legal.{turns}
+use Rattle.ideal_world.specs.Legal.{turns}
 use Rattle.world_core.proofs.Going.{next_turn}
-use Rattle.world_core.proofs.Drivers.{next_has_driver}
 use Rattle.world_core.proofs.run.Progress.turns.Goals as goal
 
 pub loop-actor-init : goal.loop-actor-init
@@ -19,8 +18,3 @@ returns c =
     c.loop-actor.invariant
     ∙ ap (turns (ideal_run c.args.self.now))
     (take_all c.loop-actor.actor-index c.args.order.now c.loop-actor-test.false)
-
-pub turn-requires : goal.turn-requires
-turn-requires c =
-    next_has_driver (ideal_run c.args.self.now) (ideal_run c.loop-actor.self) c.args.order.now c.loop-actor.actor-index
-    _ c.requires c.loop-actor.invariant c.loop-actor-test.true

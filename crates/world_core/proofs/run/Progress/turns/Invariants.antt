@@ -1,6 +1,6 @@
 use Rattle.std.proofs.Common.{◌≡◌, take}
 use Rattle.world_core.specs.Ideal.{ideal_run}
-use Rattle.world_core.specs.Legal.{turns}
+use Rattle.ideal_world.specs.Legal.{turns}
 use Rattle.world_core.proofs.run.Progress.turns.Given as goal
 
 abbrev pub invariant-loop-actor : goal.invariant-loop-actor

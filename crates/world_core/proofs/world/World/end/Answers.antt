@@ -1,8 +1,8 @@
 use Rattle.std.proofs.Common.{sym, ap, ◌∙◌, cond}
 use Rattle.std.proofs.lemmas.List.Folds.{list_all-map}
 use Rattle.busdma_base.specs.declared.journals.journal.End.TheVariants.{Finished, Stuck}
-use Rattle.lane_core.specs.Ideal.{ideal}
-use Rattle.world_core.specs.World.{has_ended}
+use Rattle.lane_core.specs.LaneIdeal.{ideal}
+use Rattle.ideal_world.specs.World.{has_ended}
 use Rattle.world_core.proofs.world.World.end.Goals as goal
 
 pub returns-then-all_ended : goal.returns-then-all_ended

@@ -1,41 +1,86 @@
-use Rattle.std.proofs.Common.{ap, ◌∙◌, arith, map}
-use Rattle.std.proofs.lemmas.List.{length-map, map-set}
-use Rattle.std.proofs.Math.Seq.{map-set_same}
+use Rattle.std.proofs.Common.{◌≡◌, ◌<◌, ◌∙◌, length, ap, sym, arith, slice_set}
 use Rattle.std.proofs.lemmas.Result.{IfOk-weaker, on_err_weaker}
-use Rattle.lane_core.specs.Ideal.{ideal, wire_of}
-use Rattle.world_core.specs.Ideal.{ideal_world}
-use Rattle.world_core.proofs.Lanes.{set_same}
-use Rattle.world_core.proofs.Taking.{lane_found, took}
+use Rattle.lane_core.specs.Turning.{answered}
+use Rattle.world_core.proofs.Taking.{at_either, lane_found, ok_both, on_both, serves, stay-kept, took, took-holds}
+use Rattle.world_core.proofs.Taking.{took-none}
+use Rattle.world_core.proofs.Taking.{took-opening, turn-kept}
+use Rattle.world_core.proofs.Turning.{undone-opening}
+use Rattle.world_core.proofs.Wiring.{wires-follow, wires-stay}
 use Rattle.world_core.proofs.world.World.step.Goals as goal
+
+pub turn-requires-clause-served : goal.turn-requires-clause-served
+turn-requires-clause-served c =
+    let w = c.args.self.now in
+    let i = c.args.actor.lane.0 in
+    let lt : i < length w.lanes.items = omega (arith, c.if-at-len.false, c.len.ensures, w.lanes.ok.0) in
+    serves w.scenario.now w.lanes.items w.hub i c.index_mut.result.now
+    (lane_found w.lanes.items i c.index_mut.result.now lt c.index_mut.ensures.value) w.kept
+    c.hub_is_sound.ensures.form c.hub_is_sound.ensures.sound
+
+pub invariant_of-self-2 : goal.invariant_of-self-2
+invariant_of-self-2 c =
+    let w = c.args.self.now in
+    let i = c.args.actor.lane.0 in
+    let lt : i < length w.lanes.items = omega (arith, c.if-at-len.false, c.len.ensures, w.lanes.ok.0) in
+    let l = c.index_mut.result.now in
+    let m = c.turn.new.self in
+    let hub = c.turn.new.door in
+    record {
+      kept = at_either c.turn.result _ _ _ c.turn.ensures.done c.turn.ensures.err c.turn.ensures.undone
+          (λ t done. turn-kept w.scenario.now w.lanes.items w.hub (slice_set w.lanes.items i m) hub c.args.actor
+          (answered t) (took w.lanes.items w.hub hub c.args.actor l m lt c.index_mut.ensures.value t done)
+          (took-opening w.lanes.items w.hub hub c.args.actor l m lt c.index_mut.ensures.value t done) w.kept)
+          (λ same undone. stay-kept w.scenario.now w.lanes.items w.hub (slice_set w.lanes.items i m) hub
+          (took-none w.lanes.items w.hub hub c.args.actor l m lt c.index_mut.ensures.value same undone)
+          (undone-opening w.hub hub undone) w.kept);
+    }
 
 pub returns-clause-done : goal.returns-clause-done
 returns-clause-done c =
-    let lanes = c.args.self.now.lanes.items in
-    let i = c.args.actor.lane.0 in
-    let world = ideal_world c.args.self.now in
-    let found =
-    lane_found lanes i c.index_mut.result.now
-    (omega (arith, c.requires, length-map lanes ideal)) c.index_mut.ensures.value in
+    let w = c.args.self.now in
+    let lt : c.args.actor.lane.0 < length w.lanes.items =
+    omega (arith, c.if-at-len.false, c.len.ensures, w.lanes.ok.0) in
     IfOk-weaker c.turn.result _ _
-    (λ turn done. ap (λ ls. record { world = record world { lanes = ls }; turn = turn })
-    (map-set ideal lanes i c.turn.new.self) ∙ took world c.args.actor _ (ideal c.turn.new.self) turn found done)
+    (λ t done. took w.lanes.items w.hub c.turn.new.door c.args.actor c.index_mut.result.now c.turn.new.self lt
+    c.index_mut.ensures.value t done)
+    c.turn.ensures.done
+
+pub returns-clause-held : goal.returns-clause-held
+returns-clause-held c =
+    let w = c.args.self.now in
+    let lt : c.args.actor.lane.0 < length w.lanes.items =
+    omega (arith, c.if-at-len.false, c.len.ensures, w.lanes.ok.0) in
+    IfOk-weaker c.turn.result _ _
+    (λ t done. took-holds w.lanes.items w.hub c.turn.new.door c.args.actor c.index_mut.result.now c.turn.new.self lt
+    c.index_mut.ensures.value t done)
     c.turn.ensures.done
 
 pub returns-clause-err : goal.returns-clause-err
 returns-clause-err c =
-    let lanes = c.args.self.now.lanes.items in
+    let w = c.args.self.now in
+    let lt : c.args.actor.lane.0 < length w.lanes.items =
+    omega (arith, c.if-at-len.false, c.len.ensures, w.lanes.ok.0) in
+    on_both c.turn.result _ _ _ c.turn.ensures.err c.turn.ensures.undone
+    (λ same undone. took-none w.lanes.items w.hub c.turn.new.door c.args.actor c.index_mut.result.now c.turn.new.self
+    lt c.index_mut.ensures.value same undone)
+
+pub returns-clause-wires : goal.returns-clause-wires
+returns-clause-wires c =
+    let w = c.args.self.now in
     let i = c.args.actor.lane.0 in
-    let found =
-    lane_found lanes i c.index_mut.result.now
-    (omega (arith, c.requires, length-map lanes ideal)) c.index_mut.ensures.value in
-    on_err_weaker c.turn.result
-    (λ same. ap (λ ls. record (ideal_world c.args.self.now) { lanes = ls }) (map-set ideal lanes i c.turn.new.self
-    ∙ set_same (map ideal lanes) i _ _ found same.ideal))
-    c.turn.ensures.err
+    let lt : i < length w.lanes.items = omega (arith, c.if-at-len.false, c.len.ensures, w.lanes.ok.0) in
+    let l = c.index_mut.result.now in
+    let m = c.turn.new.self in
+    let hub = c.turn.new.door in
+    ok_both c.turn.result _ _ _ c.turn.ensures.done c.turn.ensures.wire
+    (λ t done follows. wires-follow w.lanes.items w.hub hub c.args.actor l m lt c.index_mut.ensures.value (answered t)
+    (took w.lanes.items w.hub hub c.args.actor l m lt c.index_mut.ensures.value t done) follows)
 
 pub returns-clause-err_wires : goal.returns-clause-err_wires
 returns-clause-err_wires c =
-    on_err_weaker c.turn.result
-    (λ same. map-set_same wire_of c.args.self.now.lanes.items c.args.actor.lane.0 c.turn.new.self
-    c.index_mut.result.now (same.wire ∙ ap wire_of c.index_mut.ensures.value))
-    c.turn.ensures.err
+    let w = c.args.self.now in
+    let i = c.args.actor.lane.0 in
+    let lt : i < length w.lanes.items = omega (arith, c.if-at-len.false, c.len.ensures, w.lanes.ok.0) in
+    on_both c.turn.result _ _ _ c.turn.ensures.err_wire c.turn.ensures.err
+    (wires-stay w.lanes.items w.hub c.turn.new.door c.args.actor c.index_mut.result.now c.turn.new.self lt
+    c.index_mut.ensures.value)

@@ -1,7 +1,0 @@
--- That a driver is wired has one proof at most, so that a lane can keep it.
-use Rattle.ideal_wire.specs.OneProof.{AreLaid-prop, IsApart-prop, IsFaithful-prop, IsInMachine-prop}
-use Rattle.bounced_lane.specs.declared.holdings.Holdings.{Holdings}
-use Rattle.bounced_lane.specs.Wire.{IsWired}
-
-pub IsWired-prop : (h : Holdings) → IsProp (IsWired h)
-IsWired-prop h = hlevel (AreLaid-prop, IsApart-prop, IsFaithful-prop, IsInMachine-prop)

@@ -1,8 +1,0 @@
-pub mod Agreeing
-pub mod Counting
-pub mod Faithful
-pub mod Going
-pub mod OpeningWorld
-pub mod Taking
-pub mod Turning
-pub mod Wiring

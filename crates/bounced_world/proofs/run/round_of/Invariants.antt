@@ -1,6 +1,0 @@
-use Rattle.std.proofs.Common.{◌≡◌}
-use Rattle.ideal_world.specs.Legal.{round_from}
-use Rattle.bounced_world.proofs.run.round_of.Given as goal
-
-abbrev pub invariant-loop-number : goal.invariant-loop-number
-invariant-loop-number l = l.round.items ≡ round_from 0 l.number

@@ -1,3 +1,0 @@
-pub mod Ideal
-pub mod Kept
-pub mod Wires

@@ -1,0 +1,184 @@
+-- The load of a map that waited ends: what its end is asked, and what it leaves.
+use Rattle.std.proofs.Common.{◌≡◌, ℕ, ◌+◌, ◌≤◌, ◌^◌, true, false, List, length, Some, refl, sym, ap}
+use Rattle.std.proofs.Common.{◌∙◌, subst, arith, is_some, slice_get}
+use Rattle.std.specs.FinMap.{get, insert, contains_key}
+use Rattle.busdma_base.specs.declared.journals.answer.Answer.{Answer}
+use Rattle.busdma_base.specs.declared.journals.report.Judged.TheVariants.{Fine}
+use Rattle.busdma_base.specs.declared.machine.address.Va.{Va}
+use Rattle.busdma_base.specs.declared.scenarios.script.Item.{Item}
+use Rattle.busdma_base.specs.declared.scenarios.script.Op.TheVariants.{Load}
+use Rattle.busdma_base.specs.declared.scenarios.script.Place.TheVariants.{At}
+use Rattle.busdma_base.specs.Machine.Entry.{entries_addresses}
+use Rattle.busdma_base.specs.Scenarios.Limits.{buffer_limit, loaded_limit}
+use Rattle.dma_map.specs.declared.callback.Transfers.{Transfers}
+use Rattle.dma_map.specs.declared.room.LoadRoom.{LoadRoom}
+use Rattle.dma_map.specs.MapView as held
+use Rattle.loan_table.specs.Loans.{new_loan}
+use Rattle.ideal_lane.specs.Ahead.{items_ahead}
+use Rattle.ideal_lane.specs.Left.{item_count}
+use Rattle.ideal_lane.specs.Loads.{Asked, chunks_for, finished, is_coherent, limits_of}
+use Rattle.ideal_lane.specs.Outcomes.{Outcome}
+use Rattle.ideal_lane.specs.Places.{reached}
+use Rattle.ideal_lane.specs.Standing.{Stands}
+use Rattle.ideal_lane.specs.State.{LaneMap, LaneState, Waiting}
+use Rattle.ideal_lane.specs.Turns.{asked_at, called}
+use Rattle.lane_core.specs.declared.buffers.Buffer.{Buffer}
+use Rattle.lane_core.specs.declared.holdings.Holdings.{Holdings}
+use Rattle.lane_core.specs.declared.kept.KeptMap.{KeptMap}
+use Rattle.lane_core.specs.Awaiting.{AreAwaiting, AreAwaitingBut, HasSmallLoads, IsAwaiting, bytes_ahead, kept_load}
+use Rattle.lane_core.specs.Changes.{KeepsButMaps, KeepsBytesBut}
+use Rattle.lane_core.specs.Covered.{is_idle_map, pages_due}
+use Rattle.lane_core.specs.Ideal.{given, ideal_of}
+use Rattle.lane_core.specs.Kept.{map_of, memory_of, stage_of}
+use Rattle.lane_core.specs.Loading.{HasRoomForAny, buffer_chunks, buffer_entries}
+use Rattle.lane_core.proofs.AwaitingLoads.{StaysBut, awaiting-but, awaiting-others, put-stays, stays-finished}
+use Rattle.lane_core.proofs.Called.{KeepsLoad, load-kept}
+use Rattle.lane_core.proofs.CalledLoads.{asked-is, called-is, finished-free, items-within}
+use Rattle.lane_core.proofs.MapValues.{image-none}
+use Rattle.lane_core.proofs.Returned.{idled}
+use Rattle.lane_core.proofs.TakenLoads.{put-other, taken, taken-bytes, taken-ideal, taken-idle, taken-promised}
+use Rattle.lane_core.proofs.TakenLoads.{taken-stands, taken-there}
+use Rattle.lane_core.proofs.TakenLoads as freed
+
+module _ (h k : Holdings) (m at : ℕ) (callback : Transfers) (room : LoadRoom)
+    (found : kept_load (get h.maps.map m) ≡ Some (at, callback, room))
+    (maps : (o : KeptMap) → get h.maps.map m ≡ Some o → k.maps.map ≡ insert h.maps.map m (idled o))
+    (rest : KeepsButMaps h k) where
+  abbrev l : LaneState
+  l = ideal_of h
+
+  abbrev kept : (x : KeptMap) × (get h.maps.map m ≡ Some x) × (x.map.stage ≡ held.waiting at callback room)
+  kept = load-kept (get h.maps.map m) at callback room found
+
+  abbrev o : KeptMap
+  o = kept.0
+
+  abbrev load : KeepsLoad o.map.stage
+  load = record { load_at = at; callback = callback; room = room; is = kept.2 }
+
+  abbrev idle : LaneMap
+  idle = freed.idle h k m o kept.1 load (maps o kept.1) rest
+
+  now : ideal_of k ≡ taken h k m o kept.1 load (maps o kept.1) rest
+  now = taken-ideal h k m o kept.1 load (maps o kept.1) rest
+
+  image : get l.maps m ≡ Some (map_of o)
+  image = freed.image h k m o kept.1 load (maps o kept.1) rest
+
+  waits : (map_of o).stage ≡ Waiting at o.need
+  waits = ap (stage_of o.need) kept.2
+
+  pub ends-stands : Stands l → Stands (ideal_of k)
+  ends-stands = taken-stands h k m o kept.1 load (maps o kept.1) rest
+
+  pub ends-idle : is_idle_map (get k.maps.map m) ≡ true
+  ends-idle = taken-idle h k m o kept.1 load (maps o kept.1) rest
+
+  pub ends-promised : (count : ℕ) → ((x : KeptMap) → get h.maps.map m ≡ Some x → count ≡ x.need) →
+      pages_due k.maps.map + count ≤ k.agenda.promised
+  ends-promised count need =
+      taken-promised h k m o kept.1 load (maps o kept.1) rest count (need o kept.1)
+
+  pub ends-bytes : (n : Holdings) → KeepsBytesBut m k n → KeepsBytesBut m h n
+  ends-bytes n bytes =
+      let same = taken-bytes h k m o kept.1 load (maps o kept.1) rest in
+      record { own = bytes.own ∙ same.own; pages = λ q off. bytes.pages q off ∙ same.pages q }
+
+  pub ends-others : AreAwaiting h → AreAwaitingBut m k
+  ends-others awaiting =
+      awaiting-others h k m (record {
+        stays = subst (StaysBut m l) (sym now)
+            (put-stays m idle l (taken h k m o kept.1 load (maps o kept.1) rest)
+            (record { script = refl; maxmem = refl; pages = refl; tags = refl; mems = refl }) refl);
+        kept = λ q off. ap (λ ms. kept_load (get ms q)) (maps o kept.1)
+            ∙ ap kept_load (put-other h.maps.map m q (idled o) off);
+        prepared = λ q off. ap (λ t. get t.prepared q) rest.loans;
+      }) (awaiting-but h m awaiting)
+
+  module _ (awaiting : AreAwaiting h) where
+    abbrev is : IsAwaiting h m at callback.items room
+    is = awaiting.each m at callback room found
+
+    pub ends-items : items_ahead l ≤ h.agenda.room → length callback.items ≤ k.agenda.room
+    ends-items few =
+        let within = items-within l m (map_of o) image at o.need waits in
+        let count : item_count (slice_get l.script at) ≡ length callback.items = ap item_count is.load in
+        let same : k.agenda.room ≡ h.agenda.room = ap (λ a. a.room) rest.agenda in
+        omega (arith, within, count, same, few)
+
+    module _ (b : Buffer) (told : (m : ℕ) (va : Va) (len flags : ℕ) (items : List Item) →
+        slice_get k.script.now at ≡ Some (Load m (At va) len flags items) → b ≡ record { va = va; len = len }) where
+      buffer : b ≡ record { va = is.va; len = is.len }
+      buffer =
+          told m is.va is.len is.flags callback.items (ap (λ s. slice_get s.now at) rest.script ∙ is.load)
+
+      pub ends-reached : reached (ideal_of k) b.va.0 b.len ≡ Fine
+      ends-reached = (λ i. reached (now i) (buffer i).va.0 (buffer i).len) ∙ is.reached
+
+      pub ends-small : HasSmallLoads h → b.len ≤ 2 ^ 20
+      ends-small small =
+          let few : is.len ≤ buffer_limit =
+          small.each at (Load m (At is.va) is.len is.flags callback.items) is.load in
+          let same : b.len ≡ is.len = ap (λ (x : Buffer). x.len) buffer in
+          omega (arith, few, same)
+
+      pub ends-room : (count : ℕ) → ((x : KeptMap) → get h.maps.map m ≡ Some x → count ≡ x.need) →
+          (y : LaneMap) → get (ideal_of k).maps m ≡ Some y →
+          HasRoomForAny (limits_of (ideal_of k) y) (buffer_chunks (ideal_of k) y b.va.0 b.len) count room
+      ends-room count need y there =
+          let at_hand = taken-there h k m o kept.1 load (maps o kept.1) rest in
+          let same : idle ≡ y = cc in
+          subst (λ (p : LaneState × LaneMap × Buffer × ℕ). HasRoomForAny (limits_of p.0 p.1)
+          (buffer_chunks p.0 p.1 p.2.va.0 p.2.len) p.3 room)
+          (λ i. (sym now i, same i, sym buffer i, sym (need o kept.1) i)) (is.fits (map_of o) o.need image waits)
+
+      pub ends-prepared : get k.loans.prepared m ≡ Some (new_loan (is_coherent (get (ideal_of k).mems m))
+          (entries_addresses (buffer_entries (ideal_of k) b.va.0 b.len)))
+      ends-prepared =
+          ap (λ t. get t.prepared m) rest.loans ∙ is.prepared
+          ∙ sym (λ i. Some (new_loan (is_coherent (get (now i).mems m))
+          (entries_addresses (buffer_entries (now i) (buffer i).va.0 (buffer i).len))))
+
+      module _ (n : Holdings) (a : Answer) (pages : List ℕ) (done : (y : LaneMap) (x : Asked) →
+          get (ideal_of k).maps m ≡ Some y → x.entries ≡ buffer_entries (ideal_of k) b.va.0 b.len →
+          x.items ≡ callback.items →
+          given n a ≡ finished m y at x (buffer_chunks (ideal_of k) y b.va.0 b.len) pages (ideal_of k)) where
+        abbrev asks : Asked
+        asks = asked_at at l
+
+        entries-are : asks.entries ≡ buffer_entries l is.va.0 is.len
+        entries-are = ap (λ (x : Asked). x.entries) (asked-is l at m is.va is.len is.flags callback.items is.load)
+
+        no-memory : contains_key l.mems m ≡ false
+        no-memory = ap is_some (image-none memory_of h.memories.map m is.own)
+
+        ended : given n a ≡ finished m (map_of o) at asks
+            (chunks_for l (map_of o) (contains_key l.mems m) asks.entries) pages l
+        ended =
+            done idle asks (taken-there h k m o kept.1 load (maps o kept.1) rest)
+            (entries-are ∙ sym (λ i. buffer_entries (now i) (buffer i).va.0 (buffer i).len))
+            (ap (λ (x : Asked). x.items) (asked-is l at m is.va is.len is.flags callback.items is.load))
+            ∙ (λ i. finished m idle at asks (buffer_chunks (now i) idle (buffer i).va.0 (buffer i).len) pages (now i))
+            ∙ finished-free l m (map_of o) at asks (buffer_chunks l (map_of o) is.va.0 is.len) pages
+            ∙ (λ i. finished m (map_of o) at asks
+            (chunks_for l (map_of o) (sym no-memory i) (sym entries-are i)) pages l)
+
+        pub ends-done : given n a ≡ called m (get l.maps m) pages l
+        ends-done = ended ∙ sym (called-is l m (map_of o) at o.need pages image waits)
+
+        pub ends-few : HasSmallLoads h → n.agenda.place ≡ k.agenda.place → n.agenda.promised ≤ k.agenda.promised →
+            HasSmallLoads n
+        ends-few small same less =
+            let chunks = chunks_for l (map_of o) (contains_key l.mems m) asks.entries in
+            let stays =
+            stays-finished m (map_of o) at asks chunks pages l (ideal_of n) (ap (λ (x : Outcome). x.lane) ended) in
+            let script : n.script.now ≡ h.script.now = stays.rest.script in
+            let place : n.agenda.place ≡ h.agenda.place = same ∙ ap (λ a. a.place) rest.agenda in
+            let promised : k.agenda.promised ≡ h.agenda.promised = ap (λ a. a.promised) rest.agenda in
+            let ahead : bytes_ahead n.agenda.place n.script.now ≡ bytes_ahead h.agenda.place h.script.now =
+            (λ i. bytes_ahead (place i) (script i)) in
+            let few : h.agenda.promised + bytes_ahead h.agenda.place h.script.now ≤ loaded_limit = small.few in
+            record {
+              each = λ p x found. small.each p x (sym (ap (λ s. slice_get s p) script) ∙ found);
+              few = omega (arith, few, ahead, less, promised);
+            }

@@ -1,0 +1,109 @@
+-- The wire after a step that changes no byte: pages came with any bytes and left with theirs.
+use Rattle.std.proofs.Common.{◌≡◌, ◌⊎◌, inl, inr, ℕ, ◌+◌, ◌*◌, ◌/◌, ◌<◌, ◌≤◌, true, false, List, [], Option, Some, None}
+use Rattle.std.proofs.Common.{is_some, slice_get, nat_le, nat_lt, refl, sym, ap, ◌∙◌, arith}
+use Rattle.std.proofs.lemmas.Bool.{and_parts, leb-true, ltb-true}
+use Rattle.std.proofs.lemmas.Option.{slice_get-map}
+use Rattle.std.specs.Option.{option_map}
+use Rattle.busdma_base.specs.Bounce.MemoryRuns.{in_run}
+use Rattle.busdma_base.specs.Machine.Page.{FrameBytes}
+use Rattle.busdma_base.specs.Machine.PageList.{page_address, page_addresses}
+use Rattle.busdma_base.specs.Machine.Wire.{with_bytes_of}
+use Rattle.phys_memory.specs.Memory.{wire}
+use Rattle.ideal_lane.specs.Unloads.{pages_of}
+use Rattle.ideal_wire.specs.Apart.{HoldsPage, IsApart}
+use Rattle.ideal_wire.specs.Laid.{AreLaid}
+use Rattle.ideal_wire.specs.Traces.{is_in_pages, stage_at}
+use Rattle.ideal_wire.specs.WireStep.{Follows}
+use Rattle.ideal_wire.proofs.Lent.{any_found}
+use Rattle.lane_core.specs.declared.holdings.Holdings.{Holdings}
+use Rattle.lane_core.specs.Changes.{KeepsBytes, KeepsBytesHeld, KeepsWhatStays}
+use Rattle.lane_core.specs.Held.{devices_of}
+use Rattle.lane_core.specs.Ideal.{ideal_of}
+use Rattle.lane_core.specs.Wire.{wire_of}
+use Rattle.lane_core.proofs.Lying.{own-view, page-mine, pages-same}
+use Rattle.lane_core.proofs.Views.{view-alike}
+
+pub stays-all : (h k : Holdings) → KeepsBytes h k → KeepsWhatStays h k
+stays-all h k s = record { own = s.own; pages = λ m. inl (s.pages m) }
+
+pub stays-held : (h k : Holdings) → KeepsBytesHeld h k → KeepsWhatStays h k
+stays-held h k s = record {
+  own = s.own;
+  pages = λ m. (elim (s.pages m) [ inl e ↦ inl e | inr e ↦ inr (inr e) ]);
+}
+
+-- the page of an address is held by a map
+record Holding (h : Holdings) (m a : ℕ) : Type 0 where
+  place : ℕ
+  page : ℕ
+  holds : HoldsPage (ideal_of h) m place page
+  is : page ≡ 4096 * (a / 4096)
+
+holding : (h : Holdings) → AreLaid (ideal_of h) → IsApart (ideal_of h) → (m a : ℕ) →
+    is_in_pages (pages_of (stage_at (ideal_of h) m)) a ≡ true → Holding h m a
+holding h laid apart m a inside =
+    let l = ideal_of h in
+    let p = any_found (λ (q : ℕ). in_run q 1 a) (pages_of (stage_at l m)) inside in
+    let same = pages-same l laid apart h.maps.map refl h.unlent m in
+    let parts = and_parts (nat_le p.item a) (nat_lt a (p.item + 4096 * 1)) p.passes in
+    let low : p.item ≤ a = leb-true p.item a parts.0 in
+    let high : a < p.item + 4096 * 1 = ltb-true a (p.item + 4096 * 1) parts.1 in
+    let whole = found-address (devices_of h.maps.map m).pages p.place p.item
+    (ap (λ ps. slice_get ps p.place) same ∙ p.found) in
+    record {
+      place = p.place;
+      page = p.item;
+      holds = p.found;
+      is = omega (arith, low, high, whole.1);
+    }
+  where
+    found-address : (ps : List FrameBytes) (i x : ℕ) → slice_get (page_addresses ps) i ≡ Some x →
+        (f : ℕ) × (x ≡ 4096 * f)
+    found-address ps i x e = by (slice_get ps i) (sym (slice_get-map page_address ps i) ∙ e)
+      where
+        by : (o : Option FrameBytes) → option_map page_address o ≡ Some x → (f : ℕ) × (x ≡ 4096 * f)
+        by None e = absurd (cc)
+        by (Some p) e = (p.frame, (let there : 4096 * p.frame ≡ x = cc in sym there))
+
+-- what stands in a page that a map holds is told by the pages of that map
+held-view : (h : Holdings) → AreLaid (ideal_of h) → IsApart (ideal_of h) → (m a : ℕ) →
+    is_in_pages (pages_of (stage_at (ideal_of h) m)) a ≡ true →
+    wire_of h a ≡ with_bytes_of (devices_of h.maps.map m).pages (wire h.memory.memory) a
+held-view h laid apart m a inside =
+    let p = holding h laid apart m a inside in
+    view-alike h.maps.map m (wire h.memory.memory) a
+    (page-mine (ideal_of h) laid apart h.maps.map refl h.unlent m p.place p.page a p.holds p.is)
+
+no-page : (h : Holdings) → AreLaid (ideal_of h) → IsApart (ideal_of h) → (m a : ℕ) →
+    (devices_of h.maps.map m).pages ≡ [] → is_in_pages (pages_of (stage_at (ideal_of h) m)) a ≡ false
+no-page h laid apart m a none =
+    ap (λ ps. is_in_pages ps a)
+    (sym (pages-same (ideal_of h) laid apart h.maps.map refl h.unlent m) ∙ ap page_addresses none)
+
+module _ (h k : Holdings) (laid : AreLaid (ideal_of h)) (apart : IsApart (ideal_of h)) (laid' : AreLaid (ideal_of k))
+    (apart' : IsApart (ideal_of k)) (keeps : KeepsWhatStays h k) where
+  own : (a : ℕ) → is_some ((ideal_of h).memory a) ≡ true → is_some ((ideal_of k).memory a) ≡ true →
+      wire_of k a ≡ wire_of h a
+  own a before after =
+      own-view (ideal_of k) laid' apart' k.maps.map refl k.unlent (wire k.memory.memory) a after
+      ∙ ap (λ w. w a) keeps.own
+      ∙ sym (own-view (ideal_of h) laid apart h.maps.map refl h.unlent (wire h.memory.memory) a before)
+
+  page : (m a : ℕ) → is_in_pages (pages_of (stage_at (ideal_of h) m)) a ≡ true →
+      is_in_pages (pages_of (stage_at (ideal_of k) m)) a ≡ true → wire_of k a ≡ wire_of h a
+  page m a before after = by (keeps.pages m)
+    where
+      by : ((devices_of k.maps.map m).pages ≡ (devices_of h.maps.map m).pages)
+          ⊎ (((devices_of h.maps.map m).pages ≡ []) ⊎ ((devices_of k.maps.map m).pages ≡ [])) →
+          wire_of k a ≡ wire_of h a
+      by (inl same) =
+          held-view k laid' apart' m a after
+          ∙ (λ i. with_bytes_of (same i) (keeps.own i) a)
+          ∙ sym (held-view h laid apart m a before)
+      by (inr (inl none)) =
+          let off = no-page h laid apart m a none in absurd (cc)
+      by (inr (inr none)) =
+          let off = no-page k laid' apart' m a none in absurd (cc)
+
+  pub follows : Follows (ideal_of h) (ideal_of k) (wire_of h) (wire_of k)
+  follows = (own, page)

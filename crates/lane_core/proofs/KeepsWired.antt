@@ -1,0 +1,30 @@
+-- A driver that memory was wanting for is as it was.
+use Rattle.std.proofs.Common.{refl, sym, subst}
+use Rattle.ideal_wire.specs.Apart.{IsApart}
+use Rattle.ideal_wire.specs.Centre.{IsFaithful}
+use Rattle.ideal_wire.specs.Laid.{AreLaid}
+use Rattle.ideal_wire.specs.Machine.{IsInMachine}
+use Rattle.ideal_wire.specs.WireStep.{Follows}
+use Rattle.ideal_wire.proofs.Carried.{are-bused, carried, same-carries}
+use Rattle.lane_core.specs.declared.holdings.Holdings.{Holdings}
+use Rattle.lane_core.specs.Changes.{KeepsState}
+use Rattle.lane_core.specs.Ideal.{ideal_of}
+use Rattle.lane_core.specs.Wire.{IsWired, wire_of}
+use Rattle.lane_core.proofs.Following.{follows, stays-all}
+
+pub kept-wired : (h k : Holdings) → KeepsState h k → IsWired h → IsWired k
+kept-wired h k s wired =
+    let l = ideal_of h in
+    let back = sym s.ideal in
+    let laid = subst AreLaid back wired.laid in
+    let apart = subst IsApart back wired.apart in
+    let there = follows h k wired.laid wired.apart laid apart (stays-all h k s.bytes) in
+    let here = subst (λ n. Follows l n (wire_of h) (wire_of k)) s.ideal there in
+    record {
+      machine = subst IsInMachine back wired.machine;
+      laid = laid;
+      apart = apart;
+      faithful = subst (λ n. IsFaithful n (wire_of k)) back
+          (carried l l (wire_of h) (wire_of k) (are-bused l wired.laid) wired.faithful
+          (same-carries l l wired.faithful.exclusive refl refl (λ n i p at. refl)) here);
+    }

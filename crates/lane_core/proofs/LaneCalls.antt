@@ -1,0 +1,268 @@
+-- What a call on a lane leaves, which takes no door.
+use Rattle.std.proofs.Common.{◌≡◌, ℕ, ◌≤◌, ◌==◌, true, false, List, Result, Ok, Err, IfOk, OnErr, length, if◌then◌else◌}
+use Rattle.std.proofs.Common.{is_some, refl, ap, sym, ◌∙◌, subst, arith}
+use Rattle.busdma_base.specs.declared.bounce.hold.HubReply.{HubReply}
+use Rattle.busdma_base.specs.declared.bounce.hold.HubReply.TheVariants.{Nothing}
+use Rattle.busdma_base.specs.declared.journals.answer.Answer.{Answer}
+use Rattle.busdma_base.specs.declared.journals.answer.Answer.TheVariants as answer
+use Rattle.busdma_base.specs.declared.journals.report.Report.{Report}
+use Rattle.busdma_base.specs.declared.journals.report.ReportName.TheVariants.{Absent, MixedSync}
+use Rattle.busdma_base.specs.declared.name.MapId.{MapId}
+use Rattle.busdma_base.specs.declared.scenarios.script.Place.{Place}
+use Rattle.busdma_base.specs.Machine.Wire.{Wire}
+use Rattle.busdma_base.specs.Runs.{run_of}
+use Rattle.dma_tag.specs.SyncOps.{is_mixed}
+use Rattle.loan_table.specs.Access.{cpu_write_answer, dev_write_answer}
+use Rattle.loan_table.specs.Lending.{lost, sync_answer}
+use Rattle.loan_table.specs.Loans.{loan_of, load_bytes}
+use Rattle.ideal_lane.specs.Accesses.{cpu_read, cpu_write, dev_write}
+use Rattle.ideal_lane.specs.Ahead.{items_ahead}
+use Rattle.ideal_lane.specs.Asking.{Asking, Gives, by_reply}
+use Rattle.ideal_lane.specs.Outcomes.{Outcome, gives, load_length, refused}
+use Rattle.ideal_lane.specs.Places.{bytes_at, reached, virtual_at}
+use Rattle.ideal_lane.specs.Standing.{Stands}
+use Rattle.ideal_lane.specs.State.{LaneState, LaneMap}
+use Rattle.ideal_lane.specs.Syncs.{sync, sync_part, sync_range}
+use Rattle.ideal_wire.specs.Apart.{IsApart}
+use Rattle.ideal_wire.specs.Centre.{IsFaithful}
+use Rattle.ideal_wire.specs.Laid.{AreLaid}
+use Rattle.ideal_wire.specs.Machine.{IsInMachine}
+use Rattle.ideal_wire.specs.WireStep as wires
+use Rattle.ideal_wire.specs.WireStep.{IsRead, Reads, place_bytes}
+use Rattle.ideal_wire.proofs.Calls.{cpu_write-faithful, dev_write-faithful, sync-faithful, sync_range-faithful}
+use Rattle.ideal_wire.proofs.Refusing.{absent, either, judged, past, unloaded}
+use Rattle.ideal_wire.proofs.StillLaid.{cpu_write-still, dev_write-still, sync-still, sync_range-still}
+use Rattle.ideal_wire.proofs.Wiring.{own-forgotten, own-written}
+use Rattle.ideal_wire.proofs.Wiring.{cpu_read-reads as reads}
+use Rattle.lane_core.specs.declared.holdings.Holdings.{Holdings}
+use Rattle.lane_core.specs.Awaiting.{AreAwaiting}
+use Rattle.lane_core.specs.Calls.{unless_foreign, wire_unless_foreign}
+use Rattle.lane_core.specs.Changes.{KeepsState}
+use Rattle.lane_core.specs.Ideal.{given, ideal_of}
+use Rattle.lane_core.specs.Provided.{IsProvided}
+use Rattle.lane_core.specs.Wire.{IsWired, wire_of}
+use Rattle.lane_core.proofs.KeepsWired.{kept-wired}
+use Rattle.lane_core.proofs.OneProvided.{provided-of}
+use Rattle.lane_core.proofs.OneStanding.{stands-of}
+use Rattle.lane_core.proofs.Providing.{provided-same}
+
+-- ---- what is left
+
+-- a call leaves all of a driver but the values of its memory, what it lends and its shares
+record IsTouched (l n : LaneState) : Type 0 where
+  rest : n ≡ record l { memory = n.memory; loans = n.loans; shares = n.shares }
+  own : (a : ℕ) → is_some (n.memory a) ≡ is_some (l.memory a)
+
+still-touched : (l : LaneState) → IsTouched l l
+still-touched l = record { rest = refl; own = λ a. refl }
+
+module _ (l : LaneState) where
+  -- so does each end of a step
+  abbrev Touches : Asking Outcome → Type 0
+  Touches o = (r : HubReply) → IsTouched l (by_reply o r).lane
+
+  report : (x : Report) → Touches (gives l (answer.Report x))
+  report x r = still-touched l
+
+  part-touches : (m : ℕ) (o : LaneMap) (off len ops : ℕ) → Touches (sync_part m o off len ops l)
+  part-touches m o off len ops =
+      either l Touches report (is_mixed ops) (refused MixedSync 0 l) _ (λ mixed r. still-touched l) (λ alone.
+      judged l Touches report (sync_answer l.loans m off len ops) _ (λ fine r.
+      record { rest = refl; own = own-forgotten (lost l.loans m off len ops) l.memory }))
+
+  sync-touches : (m ops : ℕ) → Touches (sync m ops l)
+  sync-touches m ops = unloaded l Touches report m _ (λ o there is. part-touches m o 0 (load_length l m) ops)
+
+  sync_range-touches : (m off len ops : ℕ) → Touches (sync_range m off len ops l)
+  sync_range-touches m off len ops =
+      unloaded l Touches report m _ (λ o there is.
+      past l Touches report m off len (sync_part m o off len ops l) (part-touches m o off len ops))
+
+  cpu_write-touches : (place : Place) (vs : List ℕ) → Touches (cpu_write place vs l)
+  cpu_write-touches place vs =
+      absent l Touches report (virtual_at l place) _ (λ va e.
+      judged l Touches report (reached l va (length vs)) _ (λ reaches.
+      judged l Touches report (cpu_write_answer l.loans (bytes_at l (run_of va (length vs)))) _ (λ fine r.
+      record { rest = refl; own = own-written (bytes_at l (run_of va (length vs))) vs l.memory })))
+
+  dev_write-touches : (m off : ℕ) (vs : List ℕ) → Touches (dev_write m off vs l)
+  dev_write-touches m off vs =
+      unloaded l Touches report m _ (λ o e i.
+      past l Touches report m off (length vs) _
+      (judged l Touches report (dev_write_answer (loan_of l.loans m) off (length vs)) _ (λ allowed r.
+      record { rest = refl; own = own-written (load_bytes l.loans m off (length vs)) vs l.memory })))
+
+-- ---- the driver after a call
+
+-- a driver is wired, stands and has as many items ahead
+pub record IsCalledOn (h k : Holdings) : Type 0 where
+  pub stands : Stands (ideal_of h) → Stands (ideal_of k)
+  pub wired : IsWired k
+  pub ahead : items_ahead (ideal_of k) ≡ items_ahead (ideal_of h)
+
+module _ (h k : Holdings) (wired : IsWired h) (x : Answer) where
+  abbrev l : LaneState
+  l = ideal_of h
+
+  module _ (o : Asking Outcome) (done : Gives (given k x) ≡ o) (touches : Touches l o)
+      (laid : (r : HubReply) → AreLaid (by_reply o r).lane)
+      (faithful : (r : HubReply) → IsFaithful (by_reply o r).lane (wire_of k)) where
+    ends : (by_reply o Nothing).lane ≡ ideal_of k
+    ends = ap (λ (s : Asking Outcome). (by_reply s Nothing).lane) (sym done)
+
+    touched : IsTouched l (ideal_of k)
+    touched = subst (IsTouched l) ends (touches Nothing)
+
+    back : record l { memory = (ideal_of k).memory; loans = (ideal_of k).loans; shares = (ideal_of k).shares } ≡ ideal_of k
+    back = sym touched.rest
+
+    apart : IsApart (record l {
+      memory = (ideal_of k).memory;
+      loans = (ideal_of k).loans;
+      shares = (ideal_of k).shares;
+    })
+    apart = record {
+      away = λ m i page a holds inside. touched.own a ∙ wired.apart.away m i page a holds inside;
+      one = wired.apart.one;
+      pages = wired.apart.pages;
+      memories = wired.apart.memories;
+    }
+
+    machine : IsInMachine (record l {
+      memory = (ideal_of k).memory;
+      loans = (ideal_of k).loans;
+      shares = (ideal_of k).shares;
+    })
+    machine = record {
+      numbered = wired.machine.numbered;
+      pages = wired.machine.pages;
+      mems = wired.machine.mems;
+      tags = wired.machine.tags;
+    }
+
+    called-on : IsCalledOn h k
+    called-on = record {
+      stands = subst Stands back;
+      wired = record {
+        machine = subst IsInMachine back machine;
+        laid = subst AreLaid ends (laid Nothing);
+        apart = subst IsApart back apart;
+        faithful = subst (λ n. IsFaithful n (wire_of k)) ends (faithful Nothing);
+      };
+      ahead = ap items_ahead touched.rest;
+    }
+
+  pub synced : (m ops : ℕ) → Gives (given k x) ≡ sync m ops l → wire_of k ≡ wires.sync m ops l (wire_of h) →
+      IsCalledOn h k
+  synced m ops done wire =
+      called-on (sync m ops l) done (sync-touches l m ops) (sync-still l wired.laid m ops)
+      (λ r. subst (IsFaithful (by_reply (sync m ops l) r).lane) (sym wire)
+      (sync-faithful l (wire_of h) wired.apart wired.laid wired.faithful m ops r))
+
+  pub synced_range : (m off len ops : ℕ) → Gives (given k x) ≡ sync_range m off len ops l →
+      wire_of k ≡ wires.sync_range m off len ops l (wire_of h) → IsCalledOn h k
+  synced_range m off len ops done wire =
+      called-on (sync_range m off len ops l) done (sync_range-touches l m off len ops)
+      (sync_range-still l wired.laid m off len ops)
+      (λ r. subst (IsFaithful (by_reply (sync_range m off len ops l) r).lane) (sym wire)
+      (sync_range-faithful l (wire_of h) wired.apart wired.laid wired.faithful m off len ops r))
+
+  pub cpu_written : (place : Place) (vs : List ℕ) → Gives (given k x) ≡ cpu_write place vs l →
+      wire_of k ≡ wires.cpu_write place vs l (wire_of h) → IsCalledOn h k
+  cpu_written place vs done wire =
+      called-on (cpu_write place vs l) done (cpu_write-touches l place vs) (cpu_write-still l wired.laid place vs)
+      (λ r. subst (IsFaithful (by_reply (cpu_write place vs l) r).lane) (sym wire)
+      (cpu_write-faithful l (wire_of h) wired.apart wired.laid wired.faithful place vs r))
+
+  pub dev_written : (m off : ℕ) (vs : List ℕ) → Gives (given k x) ≡ dev_write m off vs l →
+      wire_of k ≡ wires.dev_write m off vs l (wire_of h) → IsCalledOn h k
+  dev_written m off vs done wire =
+      called-on (dev_write m off vs l) done (dev_write-touches l m off vs) (dev_write-still l wired.laid m off vs)
+      (λ r. subst (IsFaithful (by_reply (dev_write m off vs l) r).lane) (sym wire)
+      (dev_write-faithful l (wire_of h) wired.apart wired.laid wired.faithful m off vs r))
+
+-- want of memory leaves it as it was
+pub kept-on : (h k : Holdings) → IsWired h → KeepsState h k → IsCalledOn h k
+kept-on h k wired s = record {
+  stands = subst Stands (sym s.ideal);
+  wired = kept-wired h k s wired;
+  ahead = ap items_ahead s.ideal;
+}
+
+module _ {E : Type 0} (h k : Holdings) (wired : IsWired h) where
+  pub sync-after : (m ops : ℕ) (r : Result Answer E) → IfOk r (λ a. Gives (given k a) ≡ sync m ops (ideal_of h)) →
+      IfOk r (λ a. wire_of k ≡ wires.sync m ops (ideal_of h) (wire_of h)) → OnErr r (KeepsState h k) → IsCalledOn h k
+  sync-after m ops (Ok a) done wire err = synced h k wired a m ops done wire
+  sync-after m ops (Err x) done wire err = kept-on h k wired err
+
+  pub sync_range-after : (m off len ops : ℕ) (r : Result Answer E) →
+      IfOk r (λ a. Gives (given k a) ≡ sync_range m off len ops (ideal_of h)) →
+      IfOk r (λ a. wire_of k ≡ wires.sync_range m off len ops (ideal_of h) (wire_of h)) →
+      OnErr r (KeepsState h k) → IsCalledOn h k
+  sync_range-after m off len ops (Ok a) done wire err = synced_range h k wired a m off len ops done wire
+  sync_range-after m off len ops (Err x) done wire err = kept-on h k wired err
+
+  pub cpu_write-after : (place : Place) (vs : List ℕ) (r : Result Answer E) →
+      IfOk r (λ a. Gives (given k a) ≡ cpu_write place vs (ideal_of h)) →
+      IfOk r (λ a. wire_of k ≡ wires.cpu_write place vs (ideal_of h) (wire_of h)) → OnErr r (KeepsState h k) →
+      IsCalledOn h k
+  cpu_write-after place vs (Ok a) done wire err = cpu_written h k wired a place vs done wire
+  cpu_write-after place vs (Err x) done wire err = kept-on h k wired err
+
+  pub dev_write-after : (m off : ℕ) (vs : List ℕ) (r : Result Answer E) →
+      IfOk r (λ a. Gives (given k a) ≡ dev_write m off vs (ideal_of h)) →
+      IfOk r (λ a. wire_of k ≡ wires.dev_write m off vs (ideal_of h) (wire_of h)) → OnErr r (KeepsState h k) →
+      IsCalledOn h k
+  dev_write-after m off vs (Ok a) done wire err = dev_written h k wired a m off vs done wire
+  dev_write-after m off vs (Err x) done wire err = kept-on h k wired err
+
+-- ---- what a lane keeps
+
+pub record IsLane (h : Holdings) : Type 0 where
+  pub wired : IsWired h
+  pub stands : ∥ Stands (ideal_of h) ∥₁
+  pub provided : ∥ IsProvided h ∥₁
+  pub length : h.agenda.length ≡ length h.script.now
+  pub room : items_ahead (ideal_of h) ≤ h.agenda.room
+
+pub called-lane : (h k : Holdings) → IsLane h → IsCalledOn h k → (AreAwaiting h → AreAwaiting k) →
+    k.script ≡ h.script → k.memories ≡ h.memories → k.agenda ≡ h.agenda → IsLane k
+called-lane h k lane on awaiting script memories agenda =
+    let provided = provided-of h lane.provided in
+    let ahead = on.ahead in
+    let room = lane.room in
+    let same : k.agenda.room ≡ h.agenda.room = ap (λ a. a.room) agenda in
+    let promised : k.agenda.promised ≡ h.agenda.promised = ap (λ a. a.promised) agenda in
+    record {
+      wired = on.wired;
+      stands = ∣ on.stands (stands-of (ideal_of h) lane.stands) ∣₁;
+      provided = ∣ provided-same h k provided (awaiting provided.awaiting) (ap (λ s. s.now) script) memories
+          (ap (λ a. a.place) agenda) (omega (arith, promised)) ∣₁;
+      length = ap (λ a. a.length) agenda ∙ lane.length ∙ sym (ap (λ s. length s.now) script);
+      room = omega (arith, ahead, room, same);
+    }
+
+-- what is read is what is held
+pub cpu-reads : {E : Type 0} (h : Holdings) → IsWired h → (place : Place) (len : ℕ) (r : Result Answer E) →
+    IfOk r (λ a. Gives (given h a) ≡ cpu_read place len (ideal_of h)) →
+    IfOk r (λ a. Reads a (place_bytes (ideal_of h) place len) (wire_of h))
+cpu-reads h wired place len (Ok a) done =
+    subst (λ o. IsRead o (place_bytes (ideal_of h) place len) (wire_of h)) (sym done)
+    (reads (ideal_of h) (wire_of h) wired.apart wired.laid wired.faithful place len)
+cpu-reads h wired place len (Err x) done = tt
+
+-- ---- a map of another lane
+
+module _ (m : MapId) (l : LaneState) (o : Asking Outcome) where
+  pub own-call : (m.lane.0 == l.id) ≡ true → unless_foreign m l o ≡ o
+  own-call is = ap (λ b. if b then o else refused Absent 0 l) is
+
+  pub foreign-call : (m.lane.0 == l.id) ≡ false → unless_foreign m l o ≡ refused Absent 0 l
+  foreign-call is = ap (λ b. if b then o else refused Absent 0 l) is
+
+module _ (m : MapId) (l : LaneState) (after w : Wire) where
+  pub own-wire : (m.lane.0 == l.id) ≡ true → wire_unless_foreign m l after w ≡ after
+  own-wire is = ap (λ b. if b then after else w) is
+
+  pub foreign-wire : (m.lane.0 == l.id) ≡ false → wire_unless_foreign m l after w ≡ w
+  foreign-wire is = ap (λ b. if b then after else w) is

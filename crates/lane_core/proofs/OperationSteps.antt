@@ -1,0 +1,48 @@
+-- What an operation is that makes no call, and one that changes no byte.
+use Rattle.std.proofs.Common.{◌≡◌, ℕ, inl, inr, false, None, ap, sym, ◌∙◌}
+use Rattle.std.specs.FinMap.{FinMap, get}
+use Rattle.std.specs.Ordering.{nat_cmp}
+use Rattle.busdma_base.specs.declared.journals.answer.Answer.{Answer}
+use Rattle.busdma_base.specs.declared.scenarios.script.Op.{Op}
+use Rattle.busdma_base.specs.Bounce.Door.{Seen}
+use Rattle.ideal_lane.specs.Asking.{Gives}
+use Rattle.ideal_lane.specs.Turns.{operation}
+use Rattle.ideal_wire.specs.WireStep as wires
+use Rattle.lane_core.specs.declared.holdings.Answered.{Answered}
+use Rattle.lane_core.specs.declared.holdings.Holdings.{Holdings}
+use Rattle.lane_core.specs.Changes.{IsWireOf, KeepsWhatStays}
+use Rattle.lane_core.specs.Doing.{IsDone, asks}
+use Rattle.lane_core.specs.Ideal.{given, ideal_of}
+use Rattle.lane_core.specs.Wire.{wire_of}
+use Rattle.lane_core.specs.MapValues.{map_values}
+use Rattle.lane_core.proofs.Doors.{done-gives, unasked}
+use Rattle.lane_core.proofs.Keeping.{told-none}
+use Rattle.lane_core.proofs.MapValues.{get-map_values}
+
+-- nothing was made at a place, by the ideal table
+pub vacant : {X Y : Type 0} (f : X → Y) (m : FinMap nat_cmp X) (k : ℕ) → get (map_values f m) k ≡ None → get m k ≡ None
+vacant f m k none = told-none f (get m k) (sym (get-map_values f m k) ∙ none)
+
+-- by another name of the operation
+module _ (h k : Holdings) (o p : Op) (same : o ≡ p) where
+  module _ (a : Answer) (r : Answered) (is : r ≡ record { answer = a; held = false })
+      (done : Gives (given k a) ≡ operation p (ideal_of h)) where
+    pub quiet-done : (d : Seen) → IsDone d h.id.0 (operation o (ideal_of h)) (given k r.answer) d
+    quiet-done d =
+        done-gives d h.id.0 (operation o (ideal_of h)) (given k r.answer)
+        (ap (λ q. operation q (ideal_of h)) same ∙ sym done ∙ ap (λ (x : Answered). Gives (given k x.answer)) (sym is))
+
+    pub quiet-held : r.held ≡ asks (operation o (ideal_of h))
+    quiet-held =
+        ap (λ (x : Answered). x.held) is
+        ∙ unasked (operation o (ideal_of h)) (given k a) (ap (λ q. operation q (ideal_of h)) same ∙ sym done)
+
+  -- its bytes came and went with their pages
+  pub paged-wire : wires.operation p (ideal_of h) (wire_of h) ≡ wire_of h → KeepsWhatStays h k →
+      IsWireOf h k (wires.operation o (ideal_of h) (wire_of h))
+  paged-wire plain keeps = inr (ap (λ q. wires.operation q (ideal_of h) (wire_of h)) same ∙ plain, keeps)
+
+  -- they are those of the operation
+  pub done-wire : wire_of k ≡ wires.operation p (ideal_of h) (wire_of h) →
+      IsWireOf h k (wires.operation o (ideal_of h) (wire_of h))
+  done-wire is = inl (is ∙ ap (λ q. wires.operation q (ideal_of h) (wire_of h)) (sym same))

@@ -1,0 +1,127 @@
+-- A driver is provided for its next turn after one that was made.
+use Rattle.std.proofs.Common.{◌≡◌, ◌+◌, ◌≤◌, inl, false, Some, Result, Ok, Err, IfOk, OnOk, OnErr, length, slice_get}
+use Rattle.std.proofs.Common.{refl, sym, ap, ◌∙◌, subst, arith}
+use Rattle.busdma_base.specs.declared.journals.journal.Side.{Side}
+use Rattle.busdma_base.specs.declared.journals.journal.Side.TheVariants as side
+use Rattle.busdma_base.specs.declared.scenarios.script.Op.{Op}
+use Rattle.busdma_base.specs.Bounce.Door.{Seen}
+use Rattle.busdma_base.specs.Scenarios.Operations.{loaded_by}
+use Rattle.ideal_lane.specs.Asking.{Gives}
+use Rattle.ideal_lane.specs.Turns.{lane_step}
+use Rattle.ideal_wire.specs.Apart.{IsApart}
+use Rattle.ideal_wire.specs.Laid.{AreLaid}
+use Rattle.ideal_wire.specs.WireStep.{Follows}
+use Rattle.ideal_wire.specs.WireStep as wires
+use Rattle.lane_core.specs.declared.holdings.Holdings.{Holdings}
+use Rattle.lane_core.specs.declared.turn.Turn.{Turn}
+use Rattle.lane_core.specs.Awaiting.{AreAwaiting}
+use Rattle.lane_core.specs.Changes.{KeepsState}
+use Rattle.lane_core.specs.Covered.{IsVacantFrom}
+use Rattle.lane_core.specs.Doing.{IsUndone}
+use Rattle.lane_core.specs.Ideal.{ideal_of}
+use Rattle.lane_core.specs.Provided.{IsProvided}
+use Rattle.lane_core.specs.Turning.{IsMade, IsReady, IsTurned, is_held, turned}
+use Rattle.lane_core.specs.Wire.{IsWired, wire_of}
+use Rattle.lane_core.proofs.Following.{follows, stays-all}
+use Rattle.lane_core.proofs.MadeTurns.{end-wire, made-ready, wanting-ready}
+use Rattle.lane_core.proofs.SmallLoads.{small-next, small-same}
+use Rattle.lane_core.proofs.TurnEnds.{end-own}
+
+-- a turn that was made keeps the script
+pub made-script : (h k : Holdings) (d e : Seen) (s : Side) (t : Turn) → IsReady h d → IsMade h k d e s t →
+    k.script.now ≡ h.script.now
+made-script h k d e s t ready made =
+    let own = end-own h k s d e ready.stands ready.wired ready.served (turned k t) (is_held t) made.done refl in
+    own.same_script
+
+-- what follows from the same driver at the same door
+module _ {E : Type 0} (h k n : Holdings) (d e f : Seen) (s : Side) (same : k ≡ h) (seen : e ≡ d) where
+  pub made-from : (r : Result Turn E) → IfOk r (IsMade k n e f s) → IfOk r (IsMade h n d f s)
+  made-from (Ok t) made = subst (λ (x : Holdings). IsMade x n d f s t) same (subst (λ y. IsMade k n y f s t) seen made)
+  made-from (Err x) made = tt
+
+module _ (h k : Holdings) (p : IsProvided h) (awaiting : AreAwaiting k) (script : k.script.now ≡ h.script.now)
+    (memories : k.memories ≡ h.memories) where
+  plain : IsVacantFrom 0 k.memories.map
+  plain = subst (λ t. IsVacantFrom 0 t.map) (sym memories) p.plain
+
+  -- where no operation was done
+  pub provided-same : k.agenda.place ≡ h.agenda.place → k.agenda.promised ≤ h.agenda.promised → IsProvided k
+  provided-same place promised = record {
+    awaiting = awaiting;
+    small = small-same h k p.small script place promised;
+    plain = plain;
+  }
+
+  -- after the next operation
+  pub provided-next : (o : Op) → slice_get h.script.now h.agenda.place ≡ Some o →
+      k.agenda.place ≡ h.agenda.place + 1 → k.agenda.promised ≤ h.agenda.promised + loaded_by o → IsProvided k
+  provided-next o here place promised = record {
+    awaiting = awaiting;
+    small = small-next h p.small o here k script place promised;
+    plain = plain;
+  }
+
+-- the turn of the device, which makes no call
+pub transfer-made : (h k : Holdings) (d : Seen) (t : Turn) →
+    Gives (turned k t) ≡ lane_step (ideal_of h) side.Transfer → is_held t ≡ false →
+    wire_of k ≡ wires.lane_step (ideal_of h) side.Transfer (wire_of h) → k.agenda.length ≡ h.agenda.length →
+    k.agenda.room + length k.agenda.queue ≡ h.agenda.room + length h.agenda.queue →
+    IsMade h k d d side.Transfer t
+transfer-made h k d t done unheld wire places capacity = record {
+  done = subst (λ step. IsTurned d h.id.0 step (turned k t) (is_held t) d) done (refl, unheld, refl);
+  wire = inl wire;
+  places = places;
+  capacity = capacity;
+}
+
+-- what it gives where it was made
+pub transfer-all : {E : Type 0} (h k : Holdings) (d : Seen) (r : Result Turn E) →
+    IfOk r (λ t. Gives (turned k t) ≡ lane_step (ideal_of h) side.Transfer) → IfOk r (λ t. is_held t ≡ false) →
+    OnOk r (wire_of k ≡ wires.lane_step (ideal_of h) side.Transfer (wire_of h)) → k.agenda.length ≡ h.agenda.length →
+    k.agenda.room + length k.agenda.queue ≡ h.agenda.room + length h.agenda.queue →
+    IfOk r (IsMade h k d d side.Transfer)
+transfer-all h k d (Ok t) done unheld wire places capacity = transfer-made h k d t done unheld wire places capacity
+transfer-all h k d (Err x) done unheld wire places capacity = tt
+
+-- where memory was wanting, the transfer queue has its room
+pub same-room : (h k : Holdings) → KeepsState h k →
+    k.agenda.room + length k.agenda.queue ≡ h.agenda.room + length h.agenda.queue → h.agenda.room ≤ k.agenda.room
+same-room h k s capacity =
+    let queue : length k.agenda.queue ≡ length h.agenda.queue = ap (λ l. length l.queue) s.ideal in
+    omega (arith, queue, capacity)
+
+-- ---- after any turn
+
+module _ {E : Type 0} (h k : Holdings) (d e : Seen) (s : Side) (ready : IsReady h d) where
+  -- the driver is ready
+  pub ready-after : (r : Result Turn E) → IfOk r (IsMade h k d e s) → OnErr r (KeepsState h k) →
+      OnErr r (h.agenda.room ≤ k.agenda.room) → OnErr r (IsUndone d e) → IsReady k e
+  ready-after (Ok t) made same room undone = made-ready h k d e s t ready made
+  ready-after (Err x) made same room undone = wanting-ready h k d e ready same room undone
+
+  -- its script is the same
+  pub script-after : (r : Result Turn E) → IfOk r (IsMade h k d e s) → OnErr r (KeepsState h k) →
+      k.script.now ≡ h.script.now
+  script-after (Ok t) made same = made-script h k d e s t ready made
+  script-after (Err x) made same = ap (λ l. l.script) same.ideal
+
+  -- and as long as it was
+  pub length-after : (r : Result Turn E) → IfOk r (IsMade h k d e s) → OnErr r (KeepsState h k) →
+      k.agenda.length ≡ h.agenda.length → h.agenda.length ≡ length h.script.now →
+      k.agenda.length ≡ length k.script.now
+  length-after r made same places before = places ∙ before ∙ sym (ap length (script-after r made same))
+
+  -- its wire is the step's, but for pages that came and went
+  pub follows-after : (r : Result Turn E) → IfOk r (IsMade h k d e s) →
+      OnOk r (Follows (ideal_of h) (ideal_of k) (wires.lane_step (ideal_of h) s (wire_of h)) (wire_of k))
+  follows-after (Ok t) made = end-wire h k d e s t ready made made.wire
+  follows-after (Err x) made = tt
+
+-- where memory was wanting, no byte changed
+pub kept-follows : (h k : Holdings) → IsWired h → KeepsState h k →
+    Follows (ideal_of h) (ideal_of k) (wire_of h) (wire_of k)
+kept-follows h k wired s =
+    let back = sym s.ideal in
+    follows h k wired.laid wired.apart (subst AreLaid back wired.laid) (subst IsApart back wired.apart)
+    (stays-all h k s.bytes)

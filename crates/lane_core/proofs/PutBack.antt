@@ -1,0 +1,56 @@
+-- Holdings of which a map was taken and put back as it was.
+use Rattle.std.proofs.Common.{◌≡◌, ℕ, ◌+◌, ◌-◌, Some, sym, ap, ◌∙◌, subst}
+use Rattle.std.specs.Ordering.{nat_cmp}
+use Rattle.std.specs.FinMap.{FinMap, get, insert, remove}
+use Rattle.busdma_base.specs.Machine.Wire.{with_bytes_of}
+use Rattle.dma_map.specs.declared.callback.Transfers.{Transfers}
+use Rattle.dma_map.specs.MapView as held
+use Rattle.lane_tables.specs.Places.{Places}
+use Rattle.phys_memory.specs.Memory.{wire}
+use Rattle.lane_core.specs.declared.holdings.Holdings.{Holdings}
+use Rattle.lane_core.specs.declared.kept.KeptMap.{KeptMap}
+use Rattle.lane_core.specs.Held.{devices_of}
+use Rattle.lane_core.specs.Held as bytes
+use Rattle.lane_core.specs.Ideal.{ideal_of}
+use Rattle.lane_core.specs.Kept.{map_of}
+use Rattle.lane_core.specs.MapValues.{map_values}
+use Rattle.lane_core.specs.Wire.{held_pages, wire_of}
+use Rattle.lane_core.proofs.MapTables.{AreMaps, maps-of}
+use Rattle.lane_core.proofs.Places.{put-back, reput}
+
+-- a table of which a value was taken, and one put in its place
+pub put-again : (table took after : Places KeptMap) (k : ℕ) (v : KeptMap) →
+    took ≡ record table { map = remove table.map k; spare = table.spare + 1 } →
+    after ≡ record took { map = insert took.map k v; spare = took.spare - 1 } →
+    (after.map ≡ insert table.map k v) × (after.places ≡ table.places)
+put-again table took after k v taken put = (
+  ap (λ (t : Places KeptMap). t.map) put ∙ ap (λ (t : Places KeptMap). insert t.map k v) taken ∙ reput table.map k v,
+  ap (λ (t : Places KeptMap). t.places) put ∙ ap (λ (t : Places KeptMap). t.places) taken,
+)
+
+-- a map with what it had
+pub put-same : (maps : FinMap nat_cmp KeptMap) (k : ℕ) (o : KeptMap) (v : held.MapView Transfers) →
+    get maps k ≡ Some o → v ≡ o.map → insert maps k (record o { map = v }) ≡ maps
+put-same maps k o v there same = ap (λ x. insert maps k (record o { map = x })) same ∙ put-back maps k o there
+
+module _ (h : Holdings) (maps : FinMap nat_cmp KeptMap) (same : maps ≡ h.maps.map) where
+  -- the maps hold as they held
+  pub are-back : AreMaps maps h.loans.loans h.agenda.returns h.agenda.promised
+  are-back = subst (λ ms. AreMaps ms h.loans.loans h.agenda.returns h.agenda.promised) (sym same) (maps-of h)
+
+  pub ideal-back :
+      record (ideal_of h) {
+        maps = map_values map_of maps;
+        memory = bytes.held h.loans.bytes h.loans.loans (devices_of maps) h.memory.memory;
+      }
+      ≡ ideal_of h
+  ideal-back = λ i. record (ideal_of h) {
+    maps = map_values map_of (same i);
+    memory = bytes.held h.loans.bytes h.loans.loans (devices_of (same i)) h.memory.memory;
+  }
+
+  pub wire-back : with_bytes_of (held_pages maps) (wire h.memory.memory) ≡ wire_of h
+  wire-back = ap (λ ms. with_bytes_of (held_pages ms) (wire h.memory.memory)) same
+
+  pub pages-back : (m : ℕ) → (devices_of maps m).pages ≡ (devices_of h.maps.map m).pages
+  pages-back m = ap (λ ms. (devices_of ms m).pages) same

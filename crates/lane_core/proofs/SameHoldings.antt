@@ -1,0 +1,45 @@
+-- Holdings that agree in all that stands in them are the same.
+use Rattle.std.proofs.Common.{◌≡◌, ℕ, ◌≤◌, true, false}
+use Rattle.std.proofs.Props.{props}
+use mathlib.Core.HLevel.{is_prop→PathP}
+use Rattle.std.specs.FinMap.{get}
+use Rattle.lane_core.specs.declared.holdings.Holdings.{Holdings}
+use Rattle.lane_core.specs.Changes.{KeepsButAgenda}
+use Rattle.lane_core.specs.Covered.{AreLoaded, AreOwn, AreReturning, IsCovered, Reaches}
+use Rattle.lane_core.specs.Covered.{is_tried, lends_pages, pages_due}
+
+pub same-all : (h k : Holdings) → KeepsButAgenda h k → k.agenda ≡ h.agenda → k ≡ h
+same-all h k s agenda = λ i. record {
+  script = s.script i;
+  pages = s.pages i;
+  id = s.id i;
+  maxmem = s.maxmem i;
+  memory = s.memory i;
+  tags = s.tags i;
+  maps = s.maps i;
+  memories = s.memories i;
+  loans = s.loans i;
+  agenda = agenda i;
+  shares = s.shares i;
+  covered = is_prop→PathP (λ j. IsCovered (s.memory j).memory (s.loans j).bytes) (λ j. hlevel (props)) k.covered
+      h.covered i;
+  reaches = is_prop→PathP (λ j. Reaches (s.pages j).now (s.memories j).map (s.memory j).memory) (λ j. hlevel (props))
+      k.reaches h.reaches i;
+  tag_places = is_prop→PathP (λ j. (s.tags j).places ≡ (agenda j).length) (λ j. hlevel (props)) k.tag_places
+      h.tag_places i;
+  map_places = is_prop→PathP (λ j. (s.maps j).places ≡ (agenda j).length) (λ j. hlevel (props)) k.map_places
+      h.map_places i;
+  memory_places = is_prop→PathP (λ j. (s.memories j).places ≡ (agenda j).length) (λ j. hlevel (props))
+      k.memory_places h.memory_places i;
+  loaded = is_prop→PathP (λ j. AreLoaded (s.maps j).map (s.loans j).loans) (λ j. hlevel (props)) k.loaded h.loaded i;
+  unlent = is_prop→PathP (λ j. (m : ℕ) → lends_pages (get (s.maps j).map m) ≡ false) (λ j. hlevel (props)) k.unlent
+      h.unlent i;
+  promised = is_prop→PathP (λ j. pages_due (s.maps j).map ≤ (agenda j).promised) (λ j. hlevel (props)) k.promised
+      h.promised i;
+  own_returns = is_prop→PathP (λ j. AreOwn (s.id j).0 (agenda j).returns) (λ j. hlevel (props)) k.own_returns
+      h.own_returns i;
+  returning = is_prop→PathP (λ j. AreReturning (s.maps j).map (agenda j).returns) (λ j. hlevel (props)) k.returning
+      h.returning i;
+  tried = is_prop→PathP (λ j. (m : ℕ) → is_tried (get (s.maps j).map m) ≡ true) (λ j. hlevel (props)) k.tried
+      h.tried i;
+}

@@ -1,0 +1,52 @@
+use Rattle.std.proofs.Common.{◌≡◌, Some, ap, sym, ◌∙◌}
+use Rattle.std.specs.FinMap.{get}
+use Rattle.busdma_base.specs.declared.journals.answer.Answer.TheVariants.{Done}
+use Rattle.ideal_lane.specs.Asking.{Gives}
+use Rattle.ideal_lane.specs.Outcomes.{gives}
+use Rattle.lane_core.specs.Ideal.{given, ideal_of}
+use Rattle.lane_core.specs.Kept.{tag_of}
+use Rattle.lane_core.specs.MapValues.{map_values}
+use Rattle.lane_core.proofs.Keeping.{on-some}
+use Rattle.lane_core.proofs.MapValues.{image-none, image-some, map_values-remove}
+use Rattle.lane_core.proofs.TagSteps.{destroy-absent, destroy-busy, destroy-done}
+use Rattle.std.proofs.Common.{refl}
+use Rattle.std.specs.FinMap.{remove}
+use Rattle.ideal_wire.proofs.KeptTags.{untagged}
+use Rattle.lane_core.proofs.AwaitingSteps.{awaits-tags}
+use Rattle.lane_core.proofs.holdings.Holdings.destroy_tag.Goals as goal
+
+pub returns-in_default-clause-done : goal.returns-in_default-clause-done
+returns-in_default-clause-done c =
+    let h = c.args.self.now in
+    ap (λ a. Gives (given h a)) c.report.ensures
+    ∙ sym (destroy-absent (ideal_of h) c.args.tag (image-none tag_of h.tags.map c.args.tag (sym c.in_default.ensures)))
+
+pub returns-then-has_maps-clause-done : goal.returns-then-has_maps-clause-done
+returns-then-has_maps-clause-done c =
+    let h = c.args.self.now in
+    sym (destroy-busy (ideal_of h) c.args.tag (tag_of c.in-Some.field-0.now)
+    (image-some tag_of h.tags.map c.args.tag c.in-Some.field-0.now (sym c.in-Some.ensures))
+    (sym c.has_maps.ensures ∙ c.if-has_maps.true))
+
+pub returns-clause-done : goal.returns-clause-done
+returns-clause-done c =
+    let h = c.args.self.now in
+    let l = ideal_of h in
+    let there : get h.tags.map c.args.tag ≡ Some c.in-Some.field-0.now = sym c.in-Some.ensures in
+    let taken = on-some c.take.result c.in-Some.field-0.now (c.take.ensures.value ∙ there) c.take.ensures.taken in
+    (λ i. gives (record l {
+      tags = (ap (λ t. map_values tag_of t.map) taken ∙ map_values-remove tag_of h.tags.map c.args.tag) i;
+    }) Done)
+    ∙ sym (destroy-done l c.args.tag (tag_of c.in-Some.field-0.now)
+    (image-some tag_of h.tags.map c.args.tag c.in-Some.field-0.now there)
+    (sym c.has_maps.ensures ∙ c.if-has_maps.false))
+
+pub returns-clause-awaiting : goal.returns-clause-awaiting
+returns-clause-awaiting c =
+    let h = c.args.self.now in
+    let l = ideal_of h in
+    let there : get h.tags.map c.args.tag ≡ Some c.in-Some.field-0.now = sym c.in-Some.ensures in
+    let taken = on-some c.take.result c.in-Some.field-0.now (c.take.ensures.value ∙ there) c.take.ensures.taken in
+    awaits-tags h _ refl refl refl refl refl (remove l.tags c.args.tag)
+    (ap (λ t. map_values tag_of t.map) taken ∙ map_values-remove tag_of h.tags.map c.args.tag)
+    (untagged l c.args.tag (sym c.has_maps.ensures ∙ c.if-has_maps.false)) refl

@@ -1,0 +1,298 @@
+use Rattle.std.proofs.Common.{◌≡◌, ◌<◌, ◌≤◌, Bool, true, refl, sym, ap, ◌∙◌, subst, arith}
+use Rattle.std.specs.FinMap.{get}
+use Rattle.busdma_base.specs.declared.bounce.hold.HubCall.{HubCall}
+use Rattle.busdma_base.specs.declared.bounce.hold.HubCall.TheVariants.{Grab}
+use Rattle.dma_tag.specs.LoadFlags.{nowait}
+use Rattle.busdma_base.specs.declared.journals.answer.Answer.TheVariants.{Refused}
+use Rattle.busdma_base.specs.declared.journals.report.Errno.TheVariants.{EINVAL}
+use Rattle.busdma_base.specs.Bounce.Door.{Allows}
+use Rattle.ideal_lane.specs.Loads.{granted, zone_of}
+use Rattle.ideal_lane.specs.Asking.{Gives}
+use Rattle.ideal_lane.specs.Outcomes.{gives, is_idle}
+use Rattle.ideal_lane.specs.State.{LaneMap, named}
+use Rattle.lane_core.specs.Covered.{is_idle_map}
+use Rattle.lane_core.specs.Doing.{IsCalled}
+use Rattle.lane_core.specs.Ideal.{given, ideal_of}
+use Rattle.lane_core.specs.Kept.{map_of, memory_of}
+use Rattle.lane_core.specs.Loading.{buffer_chunks}
+use Rattle.lane_core.proofs.AwaitingLoads.{awaiting-tried}
+use Rattle.lane_core.proofs.Asked.{few-wanted, load-absent, load-bounced, load-busy, load-direct, load-long, load-refused, x}
+use Rattle.lane_core.proofs.Chunked.{all-reached}
+use Rattle.lane_core.proofs.Doors.{allowed-asks, asked, done-asks, done-gives, unasked}
+use Rattle.lane_core.proofs.Following.{stays-all}
+use Rattle.lane_core.proofs.IdlePages.{stays-idle, stays-same}
+use Rattle.lane_core.proofs.Keeping.{state-busy, state-idle}
+use Rattle.lane_core.proofs.MapValues.{image-none, image-some}
+use Rattle.lane_core.proofs.holdings.Holdings.load_at.Goals as goal
+
+pub returns-in_default-clause-done : goal.returns-in_default-clause-done
+returns-in_default-clause-done g c =
+    let h = c.args.self.now in
+    let l = ideal_of h in
+    done-gives (g.D.HubDoor.seen c.args.door.now) h.id.0 _ (given h c.report.result)
+    (load-absent l c.args.map c.args.buffer.va c.args.buffer.len c.args.flags c.args.items.now
+    (image-none map_of h.maps.map c.args.map (sym c.in_default.ensures))
+    ∙ ap (gives l) (sym c.report.ensures))
+
+pub returns-in_default-state-clause-done : goal.returns-in_default-state-clause-done
+returns-in_default-state-clause-done g c =
+    let h = c.args.self.now in
+    let l = ideal_of h in
+    let o = c.in-Some.kept.now in
+    done-gives (g.D.HubDoor.seen c.args.door.now) h.id.0 _ (given h c.report-in_default-state.result)
+    (load-busy l c.args.map c.args.buffer.va c.args.buffer.len c.args.flags c.args.items.now (map_of o)
+    (image-some map_of h.maps.map c.args.map o (sym c.in-Some.ensures))
+    (state-busy o.need o.map.stage (λ e. c.in_default-state.not-Idle (c.state.ensures ∙ e)))
+    ∙ ap (gives l) (sym c.report-in_default-state.ensures))
+
+pub returns-in-Refused-clause-done : goal.returns-in-Refused-clause-done
+returns-in-Refused-clause-done g c =
+    let h = c.args.self.now in
+    let l = ideal_of h in
+    let o = c.in-Some.kept.now in
+    done-gives (g.D.HubDoor.seen c.args.door.now) h.id.0 _ _
+    (load-refused l c.args.map c.args.buffer.va c.args.buffer.len c.args.flags c.args.items.now (map_of o)
+    (image-some map_of h.maps.map c.args.map o (sym c.in-Some.ensures))
+    (state-idle o.need o.map.stage (sym c.state.ensures ∙ c.in-Idle.is)) c.in-Refused.refusal
+    (sym c.judge_load.ensures ∙ c.in-Refused.is))
+
+pub measure_load-requires-clause-reached : goal.measure_load-requires-clause-reached
+measure_load-requires-clause-reached g c =
+    all-reached c.args.self.now c.args.map c.args.buffer.va.0 c.args.buffer.len
+    (sym c.judge_load.ensures ∙ c.in_default-judge_load.is)
+
+pub load_direct-requires-clause-reached : goal.load_direct-requires-clause-reached
+load_direct-requires-clause-reached g c =
+    all-reached c.args.self.now c.args.map c.args.buffer.va.0 c.args.buffer.len
+    (sym c.judge_load.ensures ∙ c.in_default-judge_load.is)
+
+pub load_bounced-requires-clause-reached : goal.load_bounced-requires-clause-reached
+load_bounced-requires-clause-reached g c =
+    all-reached c.args.self.now c.args.map c.args.buffer.va.0 c.args.buffer.len
+    (sym c.judge_load.ensures ∙ c.in_default-judge_load.is)
+
+pub returns-in_default-measure_load-clause-done : goal.returns-in_default-measure_load-clause-done
+returns-in_default-measure_load-clause-done g c =
+    let h = c.args.self.now in
+    let l = ideal_of h in
+    let o = c.in-Some.kept.now in
+    let there = image-some map_of h.maps.map c.args.map o (sym c.in-Some.ensures) in
+    done-gives (g.D.HubDoor.seen c.args.door.now) h.id.0 _ _
+    (load-long l c.args.map c.args.buffer.va c.args.buffer.len c.args.flags c.args.items.now (map_of o) there
+    (state-idle o.need o.map.stage (sym c.state.ensures ∙ c.in-Idle.is))
+    (sym c.judge_load.ensures ∙ c.in_default-judge_load.is)
+    (c.in_default-measure_load.ensures.long (map_of o) there)
+    ∙ ap (λ k. gives k (Refused EINVAL)) (sym (c.note_tried.ensures.done (map_of o) there)))
+
+pub returns-then-wanted-eq0-clause-done : goal.returns-then-wanted-eq0-clause-done
+returns-then-wanted-eq0-clause-done g c =
+    let h = c.args.self.now in
+    let l = ideal_of h in
+    let o = c.in-Some.kept.now in
+    let there = image-some map_of h.maps.map c.args.map o (sym c.in-Some.ensures) in
+    let wanted = c.in-Some-measure_load.ensures.wanted (map_of o) there in
+    done-gives (g.D.HubDoor.seen c.args.door.now) h.id.0 _ (given c.load_direct.new.self c.in_ok-answer.answer)
+    (load-direct l c.args.map c.args.buffer.va c.args.buffer.len c.args.flags c.args.items.now (map_of o) there
+    (state-idle o.need o.map.stage (sym c.state.ensures ∙ c.in-Idle.is))
+    (sym c.judge_load.ensures ∙ c.in_default-judge_load.is) wanted.short
+    (image-none memory_of h.memories.map c.args.map c.requires.own) (sym wanted.need ∙ c.if-wanted-eq0.true)
+    ∙ ap Gives (sym (c.in_ok-answer.ensures.done (map_of o)
+    (x l c.args.map c.args.buffer.va c.args.buffer.len c.args.flags c.args.items.now) there refl refl)))
+
+pub load_bounced-requires-clause-few_pages : goal.load_bounced-requires-clause-few_pages
+load_bounced-requires-clause-few_pages g c =
+    let h = c.args.self.now in
+    let l = ideal_of h in
+    let o = c.in-Some.kept.now in
+    let va = c.args.buffer.va.0 in
+    let len = c.args.buffer.len in
+    let there = image-some map_of h.maps.map c.args.map o (sym c.in-Some.ensures) in
+    let wanted = c.in-Some-measure_load.ensures.wanted (map_of o) there in
+    let few : c.in-Some-measure_load.wanted.need ≤ len =
+    few-wanted l (map_of o) va len c.in-Some-measure_load.wanted.need wanted.need in
+    let all = c.requires.few_pages in
+    omega (arith, few, all)
+
+pub load_bounced-requires-clause-allowed : goal.load_bounced-requires-clause-allowed
+load_bounced-requires-clause-allowed g c other found =
+    let h = c.args.self.now in
+    let l = ideal_of h in
+    let m = c.args.map in
+    let o = c.in-Some.kept.now in
+    let d = g.D.HubDoor.seen c.args.door.now in
+    let need = c.in-Some-measure_load.wanted.need in
+    let there = image-some map_of h.maps.map m o (sym c.in-Some.ensures) in
+    let same : map_of o ≡ other = cc in
+    let on : is_idle other.stage ≡ true =
+    ap (λ (y : LaneMap). is_idle y.stage) (sym same)
+    ∙ state-idle o.need o.map.stage (sym c.state.ensures ∙ c.in-Idle.is) in
+    let wanted = c.in-Some-measure_load.ensures.wanted other found in
+    let some : 0 < need = omega (arith, c.if-wanted-eq0.false) in
+    subst (λ b. Allows d h.id.0 (Grab (named l m) (record { 0 = zone_of other }) need b)) (sym c.never_waits-nowait.ensures)
+    (allowed-asks d h.id.0 _ (Grab (named l m) (record { 0 = zone_of other }) need (nowait c.args.flags)) _
+    (load-bounced l m c.args.buffer.va c.args.buffer.len c.args.flags c.args.items.now other found on
+    (sym c.judge_load.ensures ∙ c.in_default-judge_load.is) wanted.short
+    (image-none memory_of h.memories.map m c.requires.own) need wanted.need some)
+    c.requires.allowed)
+
+pub returns-clause-done : goal.returns-clause-done
+returns-clause-done g c =
+    let h = c.args.self.now in
+    let l = ideal_of h in
+    let m = c.args.map in
+    let o = c.in-Some.kept.now in
+    let d = g.D.HubDoor.seen c.args.door.now in
+    let k_door = c.load_bounced.new.door in
+    let e = g.D.HubDoor.seen k_door in
+    let need = c.in-Some-measure_load.wanted.need in
+    let there = image-some map_of h.maps.map m o (sym c.in-Some.ensures) in
+    let wanted = c.in-Some-measure_load.ensures.wanted (map_of o) there in
+    let some : 0 < need = omega (arith, c.if-wanted-eq0.false) in
+    let ask = x l m c.args.buffer.va c.args.buffer.len c.args.flags c.args.items.now in
+    let k = granted m (map_of o) ask (buffer_chunks l (map_of o) c.args.buffer.va.0 c.args.buffer.len) l in
+    let call : Bool → HubCall = λ b. Grab (named l m) (record { 0 = zone_of (map_of o) }) need b in
+    let end = given c.load_bounced.new.self c.in_ok-answer-2.answer in
+    done-asks d h.id.0 _ (call (nowait c.args.flags)) k end e
+    (load-bounced l m c.args.buffer.va c.args.buffer.len c.args.flags c.args.items.now (map_of o) there
+    (state-idle o.need o.map.stage (sym c.state.ensures ∙ c.in-Idle.is))
+    (sym c.judge_load.ensures ∙ c.in_default-judge_load.is) wanted.short
+    (image-none memory_of h.memories.map m c.requires.own) need wanted.need some)
+    (subst (λ b. IsCalled d h.id.0 (call b) k end e) c.never_waits-nowait.ensures
+    (c.in_ok-answer-2.ensures.done (map_of o) ask there refl refl))
+
+pub returns-clause-promised : goal.returns-clause-promised
+returns-clause-promised g c =
+    let l = ideal_of c.args.self.now in
+    let o = c.in-Some.kept.now in
+    let va = c.args.buffer.va.0 in
+    let len = c.args.buffer.len in
+    let there = image-some map_of c.args.self.now.maps.map c.args.map o (sym c.in-Some.ensures) in
+    let wanted = c.in-Some-measure_load.ensures.wanted (map_of o) there in
+    let few : c.in-Some-measure_load.wanted.need ≤ len =
+    few-wanted l (map_of o) va len c.in-Some-measure_load.wanted.need wanted.need in
+    let more = c.load_bounced.ensures.promised in
+    omega (arith, few, more)
+
+pub returns-in_default-measure_load-clause-awaiting : goal.returns-in_default-measure_load-clause-awaiting
+returns-in_default-measure_load-clause-awaiting g c =
+    let h = c.args.self.now in
+    let o = c.in-Some.kept.now in
+    let there = image-some map_of h.maps.map c.args.map o (sym c.in-Some.ensures) in
+    let idle : is_idle_map (get h.maps.map c.args.map) ≡ true =
+    ap is_idle_map (sym c.in-Some.ensures) ∙ state-idle o.need o.map.stage (sym c.state.ensures ∙ c.in-Idle.is) in
+    awaiting-tried h c.note_tried.new.self c.args.map (map_of o) (c.note_tried.ensures.done (map_of o) there)
+    c.note_tried.ensures.waiting idle c.requires.awaiting
+
+pub load_bounced-requires-clause-next : goal.load_bounced-requires-clause-next
+load_bounced-requires-clause-next g c = record { flags = c.args.flags; load = c.requires.here }
+
+pub returns-in_default-clause-held : goal.returns-in_default-clause-held
+returns-in_default-clause-held g c =
+    let h = c.args.self.now in
+    unasked _ _ (load-absent (ideal_of h) c.args.map c.args.buffer.va c.args.buffer.len c.args.flags c.args.items.now
+    (image-none map_of h.maps.map c.args.map (sym c.in_default.ensures)))
+
+pub returns-in_default-state-clause-held : goal.returns-in_default-state-clause-held
+returns-in_default-state-clause-held g c =
+    let h = c.args.self.now in
+    let o = c.in-Some.kept.now in
+    unasked _ _ (load-busy (ideal_of h) c.args.map c.args.buffer.va c.args.buffer.len c.args.flags c.args.items.now
+    (map_of o) (image-some map_of h.maps.map c.args.map o (sym c.in-Some.ensures))
+    (state-busy o.need o.map.stage (λ e. c.in_default-state.not-Idle (c.state.ensures ∙ e))))
+
+pub returns-in-Refused-clause-held : goal.returns-in-Refused-clause-held
+returns-in-Refused-clause-held g c =
+    let h = c.args.self.now in
+    let o = c.in-Some.kept.now in
+    unasked _ _ (load-refused (ideal_of h) c.args.map c.args.buffer.va c.args.buffer.len c.args.flags
+    c.args.items.now (map_of o) (image-some map_of h.maps.map c.args.map o (sym c.in-Some.ensures))
+    (state-idle o.need o.map.stage (sym c.state.ensures ∙ c.in-Idle.is)) c.in-Refused.refusal
+    (sym c.judge_load.ensures ∙ c.in-Refused.is))
+
+pub returns-in_default-measure_load-clause-held : goal.returns-in_default-measure_load-clause-held
+returns-in_default-measure_load-clause-held g c =
+    let h = c.args.self.now in
+    let o = c.in-Some.kept.now in
+    let there = image-some map_of h.maps.map c.args.map o (sym c.in-Some.ensures) in
+    unasked _ _ (load-long (ideal_of h) c.args.map c.args.buffer.va c.args.buffer.len c.args.flags c.args.items.now
+    (map_of o) there (state-idle o.need o.map.stage (sym c.state.ensures ∙ c.in-Idle.is))
+    (sym c.judge_load.ensures ∙ c.in_default-judge_load.is)
+    (c.in_default-measure_load.ensures.long (map_of o) there))
+
+pub returns-then-wanted-eq0-clause-held : goal.returns-then-wanted-eq0-clause-held
+returns-then-wanted-eq0-clause-held g c =
+    let h = c.args.self.now in
+    let o = c.in-Some.kept.now in
+    let there = image-some map_of h.maps.map c.args.map o (sym c.in-Some.ensures) in
+    let wanted = c.in-Some-measure_load.ensures.wanted (map_of o) there in
+    unasked _ _ (load-direct (ideal_of h) c.args.map c.args.buffer.va c.args.buffer.len c.args.flags c.args.items.now
+    (map_of o) there (state-idle o.need o.map.stage (sym c.state.ensures ∙ c.in-Idle.is))
+    (sym c.judge_load.ensures ∙ c.in_default-judge_load.is) wanted.short
+    (image-none memory_of h.memories.map c.args.map c.requires.own) (sym wanted.need ∙ c.if-wanted-eq0.true))
+
+pub returns-clause-held : goal.returns-clause-held
+returns-clause-held g c =
+    let h = c.args.self.now in
+    let o = c.in-Some.kept.now in
+    let need = c.in-Some-measure_load.wanted.need in
+    let there = image-some map_of h.maps.map c.args.map o (sym c.in-Some.ensures) in
+    let wanted = c.in-Some-measure_load.ensures.wanted (map_of o) there in
+    let some : 0 < need = omega (arith, c.if-wanted-eq0.false) in
+    asked _ _ _ (load-bounced (ideal_of h) c.args.map c.args.buffer.va c.args.buffer.len c.args.flags
+    c.args.items.now (map_of o) there (state-idle o.need o.map.stage (sym c.state.ensures ∙ c.in-Idle.is))
+    (sym c.judge_load.ensures ∙ c.in_default-judge_load.is) wanted.short
+    (image-none memory_of h.memories.map c.args.map c.requires.own) need wanted.need some)
+
+pub returns-in_default-clause-bytes : goal.returns-in_default-clause-bytes
+returns-in_default-clause-bytes g c = stays-same c.args.self.now
+
+pub returns-in_default-state-clause-bytes : goal.returns-in_default-state-clause-bytes
+returns-in_default-state-clause-bytes g c = stays-same c.args.self.now
+
+pub returns-in-Refused-clause-bytes : goal.returns-in-Refused-clause-bytes
+returns-in-Refused-clause-bytes g c = stays-same c.args.self.now
+
+pub returns-in_default-measure_load-clause-bytes : goal.returns-in_default-measure_load-clause-bytes
+returns-in_default-measure_load-clause-bytes g c =
+    stays-all c.args.self.now c.note_tried.new.self c.note_tried.ensures.bytes
+
+pub returns-then-wanted-eq0-clause-bytes : goal.returns-then-wanted-eq0-clause-bytes
+returns-then-wanted-eq0-clause-bytes g c =
+    let o = c.in-Some.kept.now in
+    stays-idle c.args.self.now c.load_direct.new.self c.args.map
+    (ap is_idle_map (sym c.in-Some.ensures) ∙ state-idle o.need o.map.stage (sym c.state.ensures ∙ c.in-Idle.is))
+    c.load_direct.ensures.bytes
+
+pub returns-in_err-answer-clause-bytes : goal.returns-in_err-answer-clause-bytes
+returns-in_err-answer-clause-bytes g c =
+    let o = c.in-Some.kept.now in
+    stays-idle c.args.self.now c.load_direct.new.self c.args.map
+    (ap is_idle_map (sym c.in-Some.ensures) ∙ state-idle o.need o.map.stage (sym c.state.ensures ∙ c.in-Idle.is))
+    c.load_direct.ensures.bytes
+
+pub returns-clause-bytes : goal.returns-clause-bytes
+returns-clause-bytes g c =
+    let o = c.in-Some.kept.now in
+    stays-idle c.args.self.now c.load_bounced.new.self c.args.map
+    (ap is_idle_map (sym c.in-Some.ensures) ∙ state-idle o.need o.map.stage (sym c.state.ensures ∙ c.in-Idle.is))
+    c.load_bounced.ensures.bytes
+
+pub returns-in_err-answer-2-clause-bytes : goal.returns-in_err-answer-2-clause-bytes
+returns-in_err-answer-2-clause-bytes g c =
+    let o = c.in-Some.kept.now in
+    stays-idle c.args.self.now c.load_bounced.new.self c.args.map
+    (ap is_idle_map (sym c.in-Some.ensures) ∙ state-idle o.need o.map.stage (sym c.state.ensures ∙ c.in-Idle.is))
+    c.load_bounced.ensures.bytes
+
+pub returns-in_err-answer-2-clause-promised : goal.returns-in_err-answer-2-clause-promised
+returns-in_err-answer-2-clause-promised g c =
+    let l = ideal_of c.args.self.now in
+    let o = c.in-Some.kept.now in
+    let va = c.args.buffer.va.0 in
+    let len = c.args.buffer.len in
+    let there = image-some map_of c.args.self.now.maps.map c.args.map o (sym c.in-Some.ensures) in
+    let wanted = c.in-Some-measure_load.ensures.wanted (map_of o) there in
+    let few : c.in-Some-measure_load.wanted.need ≤ len =
+    few-wanted l (map_of o) va len c.in-Some-measure_load.wanted.need wanted.need in
+    let more = c.load_bounced.ensures.promised in
+    omega (arith, few, more)

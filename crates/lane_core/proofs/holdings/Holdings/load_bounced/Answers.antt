@@ -1,0 +1,215 @@
+use Rattle.std.proofs.Common.{◌≡◌, ◌+◌, ◌-◌, ◌≤◌, cond, List, length, Some, is_some, slice_get, refl, sym, ap, ◌∙◌, subst, arith}
+use Rattle.std.proofs.lemmas.Bool.{eq-eqb}
+use Rattle.std.specs.FinMap.{get, remove}
+use Rattle.std.specs.List.{each_same}
+use Rattle.busdma_base.specs.declared.bounce.hold.HubCall.TheVariants.{Grab}
+use Rattle.busdma_base.specs.declared.name.MapId.{MapId}
+use Rattle.busdma_base.specs.declared.name.ZoneId.{ZoneId}
+use Rattle.busdma_base.specs.declared.scenarios.script.Item.{Item}
+use Rattle.busdma_base.specs.declared.scenarios.script.Op.TheVariants.{Load}
+use Rattle.busdma_base.specs.declared.scenarios.script.Place.TheVariants.{At}
+use Rattle.busdma_base.specs.Bounce.Door.{Allows, Holds, account, grab_reply}
+use Rattle.busdma_base.specs.Machine.Entry.{entries_addresses}
+use Rattle.lane_tables.specs.Schedule.{Schedule}
+use Rattle.loan_table.specs.Loans.{new_loan}
+use Rattle.ideal_lane.proofs.Lookups.{get_put}
+use Rattle.ideal_lane.specs.Loads.{granted, is_coherent, limits_of, zone_of}
+use Rattle.ideal_lane.specs.Places.{reached}
+use Rattle.ideal_lane.specs.Standing.{Stands}
+use Rattle.ideal_lane.specs.State.{LaneMap, LaneState, named}
+use Rattle.lane_core.specs.Covered.{is_idle_map, pages_due}
+use Rattle.lane_core.specs.Ideal.{ideal_of}
+use Rattle.lane_core.specs.Kept.{map_of}
+use Rattle.lane_core.specs.Loading.{HasRoomForAny, buffer_chunks, buffer_entries}
+use Rattle.lane_core.proofs.AwaitingLoads.{awaiting-but, awaiting-ready, awaiting-same, idle-unprepared, prepared-more}
+use Rattle.lane_core.proofs.Keeping.{idle-there}
+use Rattle.lane_core.proofs.LoadSteps.{taken-out}
+use Rattle.lane_core.proofs.MapValues.{image-some}
+use Rattle.lane_core.proofs.Preparing.{has-need, room-for-any}
+use Rattle.lane_core.proofs.holdings.Holdings.load_bounced.Goals as goal
+
+pub grab-requires : goal.grab-requires
+grab-requires g c =
+    let h = c.args.self.now in
+    let l = ideal_of h in
+    let k = c.args.map in
+    let d = g.D.HubDoor.seen c.args.door.now in
+    let need = c.args.wanted.need in
+    let idle = idle-there (get h.maps.map k) c.requires.idle in
+    let o = map_of idle.0 in
+    let is = image-some map_of h.maps.map k idle.0 idle.1 in
+    let id : c.map_id-id.result ≡ named l k = c.map_id-id.ensures in
+    let zone : c.zone_of-zone.result ≡ record { 0 = zone_of o } =
+    ap (λ n. record { 0 = n }) (c.zone_of-zone.ensures o is) in
+    subst (λ (m : MapId). Allows d m.lane.0 (Grab m c.zone_of-zone.result need c.args.nowait)) (sym id)
+    (subst (λ (z : ZoneId). Allows d h.id.0 (Grab (named l k) z need c.args.nowait)) (sym zone)
+    (c.requires.allowed o is))
+
+pub undo_load-requires-clause-prepared : goal.undo_load-requires-clause-prepared
+undo_load-requires-clause-prepared g c =
+    let h = c.args.self.now in
+    let l = ideal_of h in
+    let k = c.args.map in
+    let loan = new_loan (is_coherent (get l.mems k))
+    (entries_addresses (buffer_entries l c.args.buffer.va.0 c.args.buffer.len)) in
+    ap is_some (ap (λ p. get p k) c.in_ok-ready_load.ensures.prepared ∙ get_put h.loans.prepared k loan k
+    ∙ ap (λ b. cond b (Some loan) (get h.loans.prepared k)) (eq-eqb k k refl))
+
+pub take_grabbed-requires-clause-stands : goal.take_grabbed-requires-clause-stands
+take_grabbed-requires-clause-stands g c = subst Stands (sym c.in_ok-ready_load.ensures.same.ideal) c.requires.stands
+
+pub take_grabbed-requires-clause-idle : goal.take_grabbed-requires-clause-idle
+take_grabbed-requires-clause-idle g c =
+    ap (λ t. is_idle_map (get t.map c.args.map)) c.in_ok-ready_load.ensures.maps ∙ c.requires.idle
+
+pub take_grabbed-requires-clause-reached : goal.take_grabbed-requires-clause-reached
+take_grabbed-requires-clause-reached g c =
+    ap (λ (x : LaneState). reached x c.args.buffer.va.0 c.args.buffer.len) c.in_ok-ready_load.ensures.same.ideal
+    ∙ c.requires.reached
+
+pub take_grabbed-requires-clause-room : goal.take_grabbed-requires-clause-room
+take_grabbed-requires-clause-room g c =
+    let l = ideal_of c.args.self.now in
+    let k = c.args.map in
+    let va = c.args.buffer.va.0 in
+    let len = c.args.buffer.len in
+    let need = c.args.wanted.need in
+    let r = c.in_ok-room.ensures in
+    let room : (o : LaneMap) → get l.maps k ≡ Some o →
+    HasRoomForAny (limits_of l o) (buffer_chunks l o va len) need c.in_ok-room.room =
+    λ o found. room-for-any (limits_of l o) (buffer_chunks l o va len) len need c.args.wanted.segments c.in_ok-room.room
+    (c.requires.wanted o found) r.list r.shown r.bounced r.list_room r.shown_room r.bounced_room r.addresses
+    r.addresses_room in
+    subst (λ (x : LaneState). (o : LaneMap) → get x.maps k ≡ Some o →
+    HasRoomForAny (limits_of x o) (buffer_chunks x o va len) need c.in_ok-room.room)
+    (sym c.in_ok-ready_load.ensures.same.ideal) room
+
+pub take_grabbed-requires-clause-prepared : goal.take_grabbed-requires-clause-prepared
+take_grabbed-requires-clause-prepared g c =
+    let h = c.args.self.now in
+    let l = ideal_of h in
+    let k = c.args.map in
+    let va = c.args.buffer.va.0 in
+    let len = c.args.buffer.len in
+    let mid = c.ready_load.new.self in
+    let loan = new_loan (is_coherent (get l.mems k)) (entries_addresses (buffer_entries l va len)) in
+    let prepared : get mid.loans.prepared k ≡ Some loan =
+    ap (λ p. get p k) c.in_ok-ready_load.ensures.prepared ∙ get_put h.loans.prepared k loan k
+    ∙ ap (λ b. cond b (Some loan) (get h.loans.prepared k)) (eq-eqb k k refl) in
+    subst (λ (x : LaneState). get mid.loans.prepared k
+    ≡ Some (new_loan (is_coherent (get x.mems k)) (entries_addresses (buffer_entries x va len))))
+    (sym c.in_ok-ready_load.ensures.same.ideal) prepared
+
+pub take_grabbed-requires-clause-few_items : goal.take_grabbed-requires-clause-few_items
+take_grabbed-requires-clause-few_items g c =
+    let items : c.in_ok-items.items ≡ c.args.items.now = each_same _ _ c.in_ok-items.ensures.cases in
+    subst (λ (is : List Item). length is ≤ c.ready_load.new.self.agenda.room) (sym items)
+    (subst (λ n. length c.args.items.now ≤ n) (sym (ap (λ a. a.room) c.in_ok-ready_load.ensures.promised))
+    c.requires.few_items)
+
+pub take_grabbed-requires-clause-promised : goal.take_grabbed-requires-clause-promised
+take_grabbed-requires-clause-promised g c =
+    let h = c.args.self.now in
+    let fits = h.promised in
+    omega (
+      arith,
+      fits,
+      ap (λ t. pages_due t.map) c.in_ok-ready_load.ensures.maps,
+      ap (λ a. a.promised) c.in_ok-ready_load.ensures.promised,
+    )
+
+pub take_grabbed-requires-clause-granted : goal.take_grabbed-requires-clause-granted
+take_grabbed-requires-clause-granted g c =
+    let held = c.in-Ok.ensures.held in
+    has-need c.in-Ok.got c.map_id-id.result c.zone_of-zone.result.0 c.args.wanted.need c.args.nowait
+    (account held.between) held.reply
+
+pub returns-clause-done : goal.returns-clause-done
+returns-clause-done g c o x found entries items =
+    let h = c.args.self.now in
+    let l = ideal_of h in
+    let k = c.args.map in
+    let va = c.args.buffer.va.0 in
+    let len = c.args.buffer.len in
+    let need = c.args.wanted.need in
+    let d = g.D.HubDoor.seen c.args.door.now in
+    let e = g.D.HubDoor.seen c.grab.new.self in
+    let reply = grab_reply c.in-Ok.got in
+    let id : c.map_id-id.result ≡ named l k = c.map_id-id.ensures in
+    let zone : c.zone_of-zone.result ≡ record { 0 = zone_of o } =
+    ap (λ n. record { 0 = n }) (c.zone_of-zone.ensures o found) in
+    let same = c.in_ok-ready_load.ensures.same.ideal in
+    let cloned : c.in_ok-items.items ≡ c.args.items.now = each_same _ _ c.in_ok-items.ensures.cases in
+    record {
+      reply = reply;
+      holds =
+          subst (λ (m : MapId). Holds d m.lane.0 (Grab m (record { 0 = zone_of o }) need c.args.nowait) reply e) id
+          (subst (λ (z : ZoneId). Holds d c.map_id-id.result.lane.0 (Grab c.map_id-id.result z need c.args.nowait) reply e)
+          zone c.in-Ok.ensures.held);
+      is = c.take_grabbed.ensures.done o x (ap (λ (y : LaneState). get y.maps k) same ∙ found)
+          (entries ∙ sym (ap (λ (y : LaneState). buffer_entries y va len) same)) (items ∙ sym cloned)
+          ∙ ap (λ (y : LaneState). granted k o x (buffer_chunks y o va len) y reply) same;
+    }
+
+pub ready_load-requires-clause-unprepared : goal.ready_load-requires-clause-unprepared
+ready_load-requires-clause-unprepared g c =
+    idle-unprepared c.args.self.now c.args.map c.requires.awaiting c.requires.idle
+
+pub returns-in_err-ready_load-clause-awaiting : goal.returns-in_err-ready_load-clause-awaiting
+returns-in_err-ready_load-clause-awaiting g c =
+    let done = c.in_err-ready_load.ensures in
+    awaiting-same c.args.self.now c.ready_load.new.self done.same.ideal (ap (λ t. t.map) done.maps) done.err
+    c.requires.awaiting
+
+pub returns-in-Err-clause-awaiting : goal.returns-in-Err-clause-awaiting
+returns-in-Err-clause-awaiting g c =
+    let h = c.args.self.now in
+    let l = ideal_of h in
+    let k = c.args.map in
+    let loan = new_loan (is_coherent (get l.mems k))
+    (entries_addresses (buffer_entries l c.args.buffer.va.0 c.args.buffer.len)) in
+    let ready = c.in_ok-ready_load.ensures in
+    let undone = c.undo_load.ensures in
+    awaiting-same h c.undo_load.new.self (undone.same.ideal ∙ ready.same.ideal)
+    (ap (λ t. t.map) undone.maps ∙ ap (λ t. t.map) ready.maps)
+    (undone.prepared ∙ ap (λ ps. remove ps k) ready.prepared
+    ∙ taken-out h.loans.prepared k loan (idle-unprepared h k c.requires.awaiting c.requires.idle)) c.requires.awaiting
+
+pub take_grabbed-requires-clause-own : goal.take_grabbed-requires-clause-own
+take_grabbed-requires-clause-own g c =
+    ap (λ t. get t.map c.args.map) c.in_ok-ready_load.ensures.memories ∙ c.requires.own
+
+pub take_grabbed-requires-clause-awaiting : goal.take_grabbed-requires-clause-awaiting
+take_grabbed-requires-clause-awaiting g c =
+    let h = c.args.self.now in
+    let l = ideal_of h in
+    let k = c.args.map in
+    let mid = c.ready_load.new.self in
+    let loan = new_loan (is_coherent (get l.mems k))
+    (entries_addresses (buffer_entries l c.args.buffer.va.0 c.args.buffer.len)) in
+    let ready = c.in_ok-ready_load.ensures in
+    awaiting-ready h mid ready.same.ideal (ap (λ t. t.map) ready.maps) k
+    (prepared-more h.loans.prepared mid.loans.prepared k loan ready.prepared) (awaiting-but h k c.requires.awaiting)
+
+pub take_grabbed-requires-clause-next : goal.take_grabbed-requires-clause-next
+take_grabbed-requires-clause-next g c =
+    let ready = c.in_ok-ready_load.ensures in
+    let next = c.requires.next in
+    let items : c.in_ok-items.items ≡ c.args.items.now = each_same _ _ c.in_ok-items.ensures.cases in
+    let script : c.ready_load.new.self.script.now ≡ c.args.self.now.script.now =
+    ap (λ (y : LaneState). y.script) ready.same.ideal in
+    let place : c.ready_load.new.self.agenda.place ≡ c.args.self.now.agenda.place = ap (λ a. a.place) ready.promised in
+    record {
+      flags = next.flags;
+      load = (λ i. slice_get (script i) (place i)) ∙ next.load
+          ∙ ap (λ is. Some (Load c.args.map (At c.args.buffer.va) c.args.buffer.len next.flags is)) (sym items);
+    }
+
+pub returns-in-Err-clause-unpromised : goal.returns-in-Err-clause-unpromised
+returns-in-Err-clause-unpromised g c =
+    let a = c.args.self.now.agenda in
+    let need = c.args.wanted.need in
+    let back : a.promised + need - need ≡ a.promised = omega arith in
+    c.undo_load.ensures.agenda
+    ∙ ap (λ (b : Schedule). record b { promised = b.promised - need }) c.in_ok-ready_load.ensures.promised
+    ∙ ap (λ p. record a { promised = p }) back

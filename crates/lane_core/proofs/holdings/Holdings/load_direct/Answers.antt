@@ -1,0 +1,98 @@
+use Rattle.std.proofs.Common.{◌≡◌, ◌≤◌, cond, List, [], length, Some, refl, sym, ap, ◌∙◌, subst, arith}
+use Rattle.std.proofs.lemmas.Bool.{eq-eqb}
+use Rattle.std.specs.FinMap.{get}
+use Rattle.std.specs.List.{each_same}
+use Rattle.busdma_base.specs.declared.scenarios.script.Item.{Item}
+use Rattle.busdma_base.specs.Machine.Entry.{entries_addresses}
+use Rattle.busdma_base.specs.Machine.Page.{FrameBytes}
+use Rattle.busdma_base.specs.Machine.PageList.{RoomyPages, page_addresses}
+use Rattle.loan_table.specs.Loans.{new_loan}
+use Rattle.ideal_lane.proofs.Lookups.{get_put}
+use Rattle.ideal_lane.specs.Loads.{finished, is_coherent, limits_of}
+use Rattle.ideal_lane.specs.Places.{reached}
+use Rattle.ideal_lane.specs.Standing.{Stands}
+use Rattle.ideal_lane.specs.State.{LaneMap, LaneState}
+use Rattle.lane_core.specs.Covered.{is_idle_map}
+use Rattle.lane_core.specs.Ideal.{ideal_of}
+use Rattle.lane_core.specs.Loading.{HasRoomForAny, buffer_chunks, buffer_entries}
+use Rattle.lane_core.proofs.AwaitingLoads.{awaiting-but, awaiting-ready, awaiting-same, idle-unprepared, prepared-more}
+use Rattle.lane_core.proofs.Preparing.{room-for-any}
+use Rattle.lane_core.proofs.holdings.Holdings.load_direct.Goals as goal
+
+pub complete_load-requires : goal.complete_load-requires
+complete_load-requires c =
+    let h = c.args.self.now in
+    let mid = c.prepare_load.new.self in
+    let l = ideal_of h in
+    let k = c.args.map in
+    let va = c.args.buffer.va.0 in
+    let len = c.args.buffer.len in
+    let done = c.in_ok-prepare_load.ensures in
+    let e : ideal_of mid ≡ l = done.same.ideal in
+    let none : c.in_ok-pages.pages.items ≡ [] = ap (λ (p : RoomyPages). p.items) c.in_ok-pages.ensures in
+    let items : c.in_ok-items.items ≡ c.args.items.now = each_same _ _ c.in_ok-items.ensures.cases in
+    let r = c.in_ok-room.ensures in
+    let need : c.args.wanted.need ≡ length c.in_ok-pages.pages.items =
+    c.requires.direct ∙ sym (ap (λ (ps : List FrameBytes). length ps) none) in
+    let room : (o : LaneMap) → get l.maps k ≡ Some o →
+    HasRoomForAny (limits_of l o) (buffer_chunks l o va len) (length c.in_ok-pages.pages.items) c.in_ok-room.room =
+    λ o found. subst (λ n. HasRoomForAny (limits_of l o) (buffer_chunks l o va len) n c.in_ok-room.room) need
+    (room-for-any (limits_of l o) (buffer_chunks l o va len) len c.args.wanted.need c.args.wanted.segments
+    c.in_ok-room.room (c.requires.wanted o found) r.list r.shown r.bounced r.list_room r.shown_room r.bounced_room
+    r.addresses r.addresses_room) in
+    let loan = new_loan (is_coherent (get l.mems k)) (entries_addresses (buffer_entries l va len)) in
+    let prepared : get mid.loans.prepared k ≡ Some loan =
+    ap (λ p. get p k) done.prepared ∙ get_put h.loans.prepared k loan k
+    ∙ ap (λ b. cond b (Some loan) (get h.loans.prepared k)) (eq-eqb k k refl) in
+    record {
+      stands = subst Stands (sym e) c.requires.stands;
+      idle = ap (λ t. is_idle_map (get t.map k)) done.maps ∙ c.requires.idle;
+      awaiting = awaiting-ready h mid e (ap (λ t. t.map) done.maps) k
+          (prepared-more h.loans.prepared mid.loans.prepared k loan done.prepared) (awaiting-but h k c.requires.awaiting);
+      reached = ap (λ (x : LaneState). reached x va len) e ∙ c.requires.reached;
+      small = c.requires.small;
+      room = subst (λ (x : LaneState). (o : LaneMap) → get x.maps k ≡ Some o →
+          HasRoomForAny (limits_of x o) (buffer_chunks x o va len) (length c.in_ok-pages.pages.items) c.in_ok-room.room)
+          (sym e) room;
+      prepared = subst (λ (x : LaneState). get mid.loans.prepared k
+          ≡ Some (new_loan (is_coherent (get x.mems k)) (entries_addresses (buffer_entries x va len)))) (sym e) prepared;
+      few_items = subst (λ (is : List Item). length is ≤ mid.agenda.room) (sym items)
+          (subst (λ n. length c.args.items.now ≤ n) (sym (ap (λ a. a.room) done.agenda)) c.requires.few_items);
+      promised = let fits = mid.promised in omega (arith, fits, ap (λ (ps : List FrameBytes). length ps) none);
+    }
+
+pub returns-clause-done : goal.returns-clause-done
+returns-clause-done c o x found entries items =
+    let h = c.args.self.now in
+    let mid = c.prepare_load.new.self in
+    let l = ideal_of h in
+    let k = c.args.map in
+    let va = c.args.buffer.va.0 in
+    let len = c.args.buffer.len in
+    let done = c.in_ok-prepare_load.ensures in
+    let e : ideal_of mid ≡ l = done.same.ideal in
+    let none : c.in_ok-pages.pages.items ≡ [] = ap (λ (p : RoomyPages). p.items) c.in_ok-pages.ensures in
+    let same : c.in_ok-items.items ≡ c.args.items.now = each_same _ _ c.in_ok-items.ensures.cases in
+    c.complete_load.ensures.done o x (ap (λ (y : LaneState). get y.maps k) e ∙ found)
+    (entries ∙ sym (ap (λ (y : LaneState). buffer_entries y va len) e)) (items ∙ sym same)
+    ∙ (λ i. finished k o ((c.place-load_at.ensures ∙ ap (λ a. a.place) done.agenda) i) x (buffer_chunks (e i) o va len)
+    (page_addresses (none i)) (e i))
+
+pub returns-clause-bytes : goal.returns-clause-bytes
+returns-clause-bytes c =
+    let kept = c.in_ok-prepare_load.ensures.same.bytes in
+    let then = c.complete_load.ensures.bytes in
+    record {
+      own = then.own ∙ kept.own;
+      pages = λ m off. then.pages m off ∙ kept.pages m;
+    }
+
+pub prepare_load-requires-clause-unprepared : goal.prepare_load-requires-clause-unprepared
+prepare_load-requires-clause-unprepared c =
+    idle-unprepared c.args.self.now c.args.map c.requires.awaiting c.requires.idle
+
+pub returns-in_err-prepare_load-clause-awaiting : goal.returns-in_err-prepare_load-clause-awaiting
+returns-in_err-prepare_load-clause-awaiting c =
+    let done = c.in_err-prepare_load.ensures in
+    awaiting-same c.args.self.now c.prepare_load.new.self done.same.ideal (ap (λ t. t.map) done.maps) done.err
+    c.requires.awaiting

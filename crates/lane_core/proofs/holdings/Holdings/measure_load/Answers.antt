@@ -1,0 +1,71 @@
+use Rattle.std.proofs.Common.{◌≡◌, ◌<◌, ◌≤◌, length, sym, ap, ◌∙◌, subst, arith}
+use Rattle.busdma_base.specs.declared.tags.tag.TagLimits.{TagLimits}
+use Rattle.segment_build.specs.Building.{placed_pieces}
+use Rattle.segment_build.specs.Chunks.{need_of}
+use Rattle.ideal_lane.specs.Loads.{limits_of}
+use Rattle.ideal_lane.specs.State.{LaneMap}
+use Rattle.lane_core.specs.Ideal.{ideal_of}
+use Rattle.lane_core.specs.Kept.{map_of, tag_of}
+use Rattle.lane_core.specs.Loading.{IsWanted, buffer_chunks}
+use Rattle.lane_core.proofs.BufferBytes.{none-unmapped}
+use Rattle.lane_core.proofs.Chunked.{load-chunks, kept-limits}
+use Rattle.lane_core.proofs.MapValues.{image-none, image-some}
+use Rattle.lane_core.proofs.holdings.Holdings.measure_load.Goals as goal
+
+pub returns-in_err-made-clause-long : goal.returns-in_err-made-clause-long
+returns-in_err-made-clause-long c =
+    let h = c.args.self.now in
+    let o = c.in_ok-kept.kept.now in
+    let is = image-some map_of h.maps.map c.args.map o (sym c.in_ok-kept.ensures) in
+    let stands = (c.requires.stands.each c.args.map (map_of o) is).there in
+    let none = image-none tag_of h.tags.map o.tag (sym c.in_err-made.ensures) in
+    absurd (cc)
+
+pub returns-then-limits-buffer-clause-long : goal.returns-then-limits-buffer-clause-long
+returns-then-limits-buffer-clause-long c other found =
+    let h = c.args.self.now in
+    let l = ideal_of h in
+    let o = c.in_ok-kept.kept.now in
+    let made = c.in_ok-made.made.now in
+    let is = image-some map_of h.maps.map c.args.map o (sym c.in_ok-kept.ensures) in
+    let same : map_of o ≡ other = cc in
+    let limits = kept-limits h (map_of o) made (sym c.in_ok-made.ensures) in
+    subst (λ (x : LaneMap). (limits_of l x).maxsize < c.args.buffer.len) same
+    (subst (λ (u : TagLimits). u.maxsize < c.args.buffer.len) (c.limits-limits.ensures.limits ∙ sym limits)
+    c.if-limits-buffer.true)
+
+pub returns-in_default-clause-long : goal.returns-in_default-clause-long
+returns-in_default-clause-long c other found =
+    absurd (none-unmapped c.args.self.now c.args.buffer.va.0 c.args.buffer.len c.requires.reached c.in_default.field-0
+    c.in_default.ensures)
+
+pub returns-clause-wanted : goal.returns-clause-wanted
+returns-clause-wanted c other found =
+    let h = c.args.self.now in
+    let l = ideal_of h in
+    let o = c.in_ok-kept.kept.now in
+    let made = c.in_ok-made.made.now in
+    let va = c.args.buffer.va.0 in
+    let len = c.args.buffer.len in
+    let is = image-some map_of h.maps.map c.args.map o (sym c.in_ok-kept.ensures) in
+    let same : map_of o ≡ other = cc in
+    let limits = kept-limits h (map_of o) made (sym c.in_ok-made.ensures) in
+    let chunks = load-chunks h va len (map_of o) made.tag c.requires.reached limits in
+    let measured = c.in-Fits.ensures in
+    let tag : c.limits-limits.result.now ≡ made.tag = c.limits-limits.ensures.limits in
+    let base : IsWanted made.tag (buffer_chunks l (map_of o) va len) len c.in-Fits.need c.min-segments.result =
+    record {
+      short = subst (λ (u : TagLimits). len ≤ u.maxsize) tag c.if-limits-buffer.false;
+      need = measured.need ∙ ap need_of chunks;
+      segments = λ pages are. omega (
+        arith,
+        measured.pieces pages are,
+        ap (λ cs. length (placed_pieces made.tag cs pages)) chunks,
+        c.min-segments.ensures,
+        ap (λ (u : TagLimits). u.nsegments) tag,
+      );
+    } in
+    subst (λ (x : LaneMap). IsWanted (limits_of l x) (buffer_chunks l x va len) len c.in-Fits.need c.min-segments.result)
+    same
+    (subst (λ (u : TagLimits). IsWanted u (buffer_chunks l (map_of o) va len) len c.in-Fits.need c.min-segments.result)
+    (sym limits) base)

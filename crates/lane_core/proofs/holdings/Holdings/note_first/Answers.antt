@@ -1,0 +1,48 @@
+use Rattle.std.proofs.Common.{◌≡◌, Some, true, refl, ap, sym, ◌∙◌}
+use Rattle.std.specs.FinMap.{get, insert}
+use Rattle.lane_core.specs.declared.kept.KeptTag.{KeptTag}
+use Rattle.lane_core.specs.Ideal.{ideal_of}
+use Rattle.lane_core.specs.Kept.{tag_of}
+use Rattle.lane_core.specs.MapValues.{map_values}
+use Rattle.lane_core.proofs.MapValues.{image-some, map_values-insert}
+use Rattle.lane_core.proofs.Places.{reput, get_removed}
+use Rattle.lane_core.proofs.AwaitingSteps.{awaits-same, awaits-tags, tag-again}
+use Rattle.lane_core.proofs.holdings.Holdings.note_first.Goals as goal
+
+pub put-requires-clause-vacant : goal.put-requires-clause-vacant
+put-requires-clause-vacant c =
+    ap (λ t. get t.map c.args.tag) c.in-Some.ensures.taken ∙ get_removed c.args.self.now.tags.map c.args.tag
+
+pub returns-in-Some-clause-done : goal.returns-in-Some-clause-done
+returns-in-Some-clause-done c t found =
+    let h = c.args.self.now in
+    let l = ideal_of h in
+    let k = c.args.tag in
+    let v : KeptTag = record { tag = c.in-Some.kept.tag; first_done = true } in
+    let was : Some c.in-Some.kept ≡ get h.tags.map k = sym c.in-Some.is ∙ c.take.ensures.value in
+    let same : c.in-Some.kept ≡ t = cc in
+    (λ i. record l {
+      tags = (ap (λ ts. map_values tag_of ts.map) c.put.ensures
+          ∙ ap (λ ts. map_values tag_of (insert ts.map k v)) c.in-Some.ensures.taken
+          ∙ ap (map_values tag_of) (reput h.tags.map k v)
+          ∙ map_values-insert tag_of h.tags.map k v
+          ∙ ap (λ (x : KeptTag). insert l.tags k (record { limits = x.tag; first_done = true })) same) i;
+    })
+
+pub returns-in-Some-clause-awaiting : goal.returns-in-Some-clause-awaiting
+returns-in-Some-clause-awaiting c =
+    let h = c.args.self.now in
+    let l = ideal_of h in
+    let k = c.args.tag in
+    let t = c.in-Some.kept in
+    let v : KeptTag = record { tag = t.tag; first_done = true } in
+    let there : get h.tags.map k ≡ Some t = sym c.take.ensures.value ∙ c.in-Some.is in
+    awaits-tags h _ refl refl refl refl refl (insert l.tags k (tag_of v))
+    (ap (λ ts. map_values tag_of ts.map) c.put.ensures
+    ∙ ap (λ ts. map_values tag_of (insert ts.map k v)) c.in-Some.ensures.taken
+    ∙ ap (map_values tag_of) (reput h.tags.map k v) ∙ map_values-insert tag_of h.tags.map k v)
+    (tag-again l k (tag_of t) (tag_of v) (image-some tag_of h.tags.map k t there) refl) refl
+
+pub returns-in_default-clause-awaiting : goal.returns-in_default-clause-awaiting
+returns-in_default-clause-awaiting c =
+    awaits-same c.args.self.now _ refl refl refl refl refl (ap (λ t. t.map) c.in_default.ensures.none) refl

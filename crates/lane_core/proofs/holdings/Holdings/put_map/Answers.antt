@@ -1,0 +1,90 @@
+use Rattle.std.proofs.Common.{◌≡◌, None, Some, false, refl, sym, ap, ◌∙◌, subst}
+use Rattle.std.specs.FinMap.{get, insert}
+use Rattle.std.specs.Option.{option_map}
+use Rattle.busdma_base.specs.declared.name.ZoneId.{ZoneId}
+use Rattle.ideal_lane.specs.Outcomes.{is_idle}
+use Rattle.ideal_lane.specs.State.{Idle}
+use Rattle.lane_core.specs.declared.kept.KeptMap.{KeptMap}
+use Rattle.lane_core.specs.Held.{devices_of, held}
+use Rattle.lane_core.specs.Ideal.{ideal_of}
+use Rattle.lane_core.specs.Kept.{device_of, map_of, stage_of}
+use Rattle.lane_core.specs.MapValues.{map_values}
+use Rattle.lane_core.proofs.Bytes.{devices-put, held-alike}
+use Rattle.lane_core.proofs.Keeping.{idle-map}
+use Rattle.lane_core.proofs.MapTables.{AreMaps, maps-new, maps-of}
+use Rattle.lane_core.proofs.MapValues.{map_values-insert}
+use Rattle.dma_map.specs.MapView.{waiting_load}
+use Rattle.lane_core.specs.Awaiting.{kept_load}
+use Rattle.lane_core.proofs.AwaitingSteps.{awaits-put}
+use Rattle.lane_core.proofs.holdings.Holdings.put_map.Goals as goal
+
+pub invariant_of-self : goal.invariant_of-self
+invariant_of-self c =
+    let h = c.args.self.now in
+    let k = c.place-place.result in
+    let o : KeptMap = record { tag = c.args.tag; need = 0; map = c.new-map.result } in
+    let idle = idle-map o (ap (λ m. is_idle (stage_of 0 m.stage)) c.new-map.ensures) in
+    let none : get h.maps.map k ≡ None = ap (get h.maps.map) c.place-place.ensures ∙ c.requires.vacant in
+    let are =
+    subst (λ t. AreMaps t.map h.loans.loans h.agenda.returns h.agenda.promised) (sym c.put.ensures)
+    (maps-new h.maps.map h.loans.loans h.agenda.returns h.agenda.promised (maps-of h) k o none
+    idle.unloaded idle.unlent idle.undue idle.still idle.tried) in
+    record {
+      covered = h.covered;
+      reaches = h.reaches;
+      tag_places = h.tag_places;
+      map_places = ap (λ t. t.places) c.put.ensures ∙ h.map_places;
+      memory_places = h.memory_places;
+      loaded = are.loaded;
+      unlent = are.unlent;
+      promised = are.promised;
+      own_returns = h.own_returns;
+      returning = are.returning;
+      tried = are.tried;
+    }
+
+pub returns-clause-done : goal.returns-clause-done
+returns-clause-done c =
+    let h = c.args.self.now in
+    let l = ideal_of h in
+    let k = c.place-place.result in
+    let o : KeptMap = record { tag = c.args.tag; need = 0; map = c.new-map.result } in
+    let idle = idle-map o (ap (λ m. is_idle (stage_of 0 m.stage)) c.new-map.ensures) in
+    let none : get h.maps.map k ≡ None = ap (get h.maps.map) c.place-place.ensures ∙ c.requires.vacant in
+    let same : device_of (Some o) ≡ device_of (get h.maps.map k) = idle.unheld ∙ sym (ap device_of none) in
+    (λ i. record l {
+      maps = (ap (λ t. map_values map_of t.map) c.put.ensures ∙ map_values-insert map_of h.maps.map k o
+          ∙ ap (λ m. insert l.maps k (map_of (record { tag = c.args.tag; need = 0; map = m }))) c.new-map.ensures
+          ∙ ap (λ p. insert l.maps p (record {
+            tag = c.args.tag;
+            zone = option_map (λ (z : ZoneId). z.0) c.args.zone;
+            tried = false;
+            stage = Idle;
+          })) c.place-place.ensures) i;
+      memory = (ap (λ t. held h.loans.bytes h.loans.loans (devices_of t.map) h.memory.memory) c.put.ensures
+          ∙ held-alike h.loans.bytes h.loans.loans (devices_of h.maps.map) (devices_of (insert h.maps.map k o))
+          h.memory.memory (devices-put h.maps.map k o same)) i;
+    })
+
+pub returns-clause-bytes : goal.returns-clause-bytes
+returns-clause-bytes c =
+    let h = c.args.self.now in
+    let k = c.place-place.result in
+    let o : KeptMap = record { tag = c.args.tag; need = 0; map = c.new-map.result } in
+    let idle = idle-map o (ap (λ m. is_idle (stage_of 0 m.stage)) c.new-map.ensures) in
+    let none : get h.maps.map k ≡ None = ap (get h.maps.map) c.place-place.ensures ∙ c.requires.vacant in
+    let same : device_of (Some o) ≡ device_of (get h.maps.map k) = idle.unheld ∙ sym (ap device_of none) in
+    record {
+      own = refl;
+      pages = λ m. ap (λ t. (devices_of t.map m).pages) c.put.ensures
+          ∙ ap (λ d. d.pages) (devices-put h.maps.map k o same m);
+    }
+
+pub returns-clause-awaiting : goal.returns-clause-awaiting
+returns-clause-awaiting c =
+    let h = c.args.self.now in
+    let k = c.place-place.result in
+    let o : KeptMap = record { tag = c.args.tag; need = 0; map = c.new-map.result } in
+    let none : get h.maps.map k ≡ None = ap (get h.maps.map) c.place-place.ensures ∙ c.requires.vacant in
+    awaits-put h _ refl refl refl refl refl refl k (ap kept_load none) o (ap (λ t. t.map) c.put.ensures)
+    (ap (λ m. waiting_load m.stage) c.new-map.ensures)

@@ -1,0 +1,123 @@
+use Rattle.std.proofs.Common.{◌≡◌, ℕ, List, [], ◌∷◌, None, refl, slice_get, sym, ap, ◌∙◌, subst}
+use Rattle.std.specs.FinMap.{get}
+use Rattle.busdma_base.specs.declared.bounce.door.Grabbed.{Grabbed}
+use Rattle.busdma_base.specs.declared.bounce.door.Grabbed.TheVariants.{Granted}
+use Rattle.busdma_base.specs.declared.journals.answer.Answer.TheVariants.{InProgress, Refused}
+use Rattle.busdma_base.specs.declared.journals.report.Errno.TheVariants.{ENOMEM}
+use Rattle.busdma_base.specs.Bounce.AccountStep.{as_pages}
+use Rattle.busdma_base.specs.Bounce.Door.{grab_reply}
+use Rattle.busdma_base.specs.Machine.PageList.{page_addresses}
+use Rattle.lane_agreement.specs.After.{addresses}
+use Rattle.segment_build.specs.Chunks.{need_of}
+use Rattle.ideal_lane.specs.Loads.{finished, granted, limits_of, staged}
+use Rattle.ideal_lane.specs.State.{LaneState, Idle, Waiting}
+use Rattle.lane_core.specs.Awaiting.{AreAwaiting, kept_load}
+use Rattle.lane_core.specs.Covered.{is_idle_map}
+use Rattle.lane_core.specs.Ideal.{ideal_of}
+use Rattle.lane_core.specs.Kept.{map_of}
+use Rattle.lane_core.specs.Loading.{HasNeed, HasRoomForAny, buffer_chunks}
+use Rattle.lane_core.proofs.AwaitingLoads.{IsReadyLoad, KeepsOthers, awaiting-none, awaiting-one, awaiting-others}
+use Rattle.lane_core.proofs.AwaitingLoads.{awaiting-ready, awaiting-tried, begins-waiting, cut-at, prepared-less}
+use Rattle.lane_core.proofs.AwaitingLoads.{idle-unkept, stays-staged}
+use Rattle.lane_core.proofs.Keeping.{idle-there}
+use Rattle.lane_core.proofs.MapValues.{image-some}
+use Rattle.lane_core.proofs.holdings.Holdings.take_grabbed.Goals as goal
+
+same-pages : (pas : List ℕ) → addresses (as_pages pas) ≡ pas
+same-pages [] = refl
+same-pages (p ∷ pas) = ap (λ ps. p ∷ ps) (same-pages pas)
+
+pub complete_load-requires-clause-room : goal.complete_load-requires-clause-room
+complete_load-requires-clause-room c o found =
+    let l = ideal_of c.args.self.now in
+    let chunks = buffer_chunks l o c.args.buffer.va.0 c.args.buffer.len in
+    let all : HasNeed c.args.need (Granted c.in-Granted.pages) =
+    subst (λ (g : Grabbed). HasNeed c.args.need g) c.in-Granted.is c.requires.granted in
+    subst (λ n. HasRoomForAny (limits_of l o) chunks n c.args.room) (sym all) (c.requires.room o found)
+
+pub returns-in-Granted-clause-done : goal.returns-in-Granted-clause-done
+returns-in-Granted-clause-done c o x found entries items =
+    let l = ideal_of c.args.self.now in
+    let chunks = buffer_chunks l o c.args.buffer.va.0 c.args.buffer.len in
+    let pas = page_addresses c.in-Granted.pages.items in
+    c.complete_load.ensures.done o x found entries items
+    ∙ (λ i. finished c.args.map o (c.place-load_at.ensures i) x chunks (sym (same-pages pas) i) l)
+    ∙ sym (ap (λ g. granted c.args.map o x chunks l (grab_reply g)) c.in-Granted.is)
+
+pub returns-in-Queued-clause-done : goal.returns-in-Queued-clause-done
+returns-in-Queued-clause-done c o x found entries items =
+    let l = ideal_of c.args.self.now in
+    let chunks = buffer_chunks l o c.args.buffer.va.0 c.args.buffer.len in
+    let need : c.args.need ≡ need_of chunks = (c.requires.room o found).need in
+    (λ i. record {
+      lane = (c.wait_load.ensures.done o found
+          ∙ (λ j. staged c.args.map o (Waiting (c.place-load_at.ensures j) (need j)) l)) i;
+      answer = InProgress c.in-Queued.have (need i);
+    })
+    ∙ sym (ap (λ g. granted c.args.map o x chunks l (grab_reply g)) c.in-Queued.is)
+
+pub returns-in-NoPages-clause-done : goal.returns-in-NoPages-clause-done
+returns-in-NoPages-clause-done c o x found entries items =
+    let l = ideal_of c.args.self.now in
+    let chunks = buffer_chunks l o c.args.buffer.va.0 c.args.buffer.len in
+    let e : ideal_of c.undo_load.new.self ≡ l = c.undo_load.ensures.same.ideal in
+    (λ i. record {
+      lane = (c.note_tried.ensures.done o (ap (λ (y : LaneState). get y.maps c.args.map) e ∙ found)
+          ∙ ap (staged c.args.map o Idle) e) i;
+      answer = Refused ENOMEM;
+    })
+    ∙ sym (ap (λ g. granted c.args.map o x chunks l (grab_reply g)) c.in-NoPages.is)
+
+pub returns-in-Queued-clause-awaiting : goal.returns-in-Queued-clause-awaiting
+returns-in-Queued-clause-awaiting c =
+    let h = c.args.self.now in
+    let k = c.wait_load.new.self in
+    let m = c.args.map in
+    let at = c.place-load_at.result in
+    let need = c.args.need in
+    let idle = idle-there (get h.maps.map m) c.requires.idle in
+    let o = map_of idle.0 in
+    let is = image-some map_of h.maps.map m idle.0 idle.1 in
+    let lane = c.wait_load.ensures.done o is in
+    let others : KeepsOthers m h k = record {
+      stays = stays-staged m o (Waiting at need) (ideal_of h) (ideal_of k) lane;
+      kept = c.wait_load.ensures.others;
+      prepared = λ q off. ap (λ ps. get ps q) c.wait_load.ensures.prepared;
+    } in
+    let ready : IsReadyLoad h m at need o c.args.items c.args.room = record {
+      va = c.args.buffer.va;
+      len = c.args.buffer.len;
+      flags = c.requires.next.flags;
+      there = is;
+      idle = sym (ap is_idle_map idle.1) ∙ c.requires.idle;
+      load = ap (slice_get h.script.now) c.place-load_at.ensures ∙ c.requires.next.load;
+      own = c.requires.own;
+      reached = c.requires.reached;
+      fits = c.requires.room o is;
+      prepared = c.requires.prepared;
+    } in
+    awaiting-one k m at (record { items = c.args.items }) c.args.room c.wait_load.ensures.waits
+    (begins-waiting h k m at need o c.args.items c.args.room ready lane c.wait_load.ensures.prepared)
+    (awaiting-others h k m others c.requires.awaiting)
+
+pub returns-in-NoPages-clause-awaiting : goal.returns-in-NoPages-clause-awaiting
+returns-in-NoPages-clause-awaiting c =
+    let h = c.args.self.now in
+    let n = c.undo_load.new.self in
+    let k = c.note_tried.new.self in
+    let m = c.args.map in
+    let undone = c.undo_load.ensures in
+    let e : ideal_of n ≡ ideal_of h = undone.same.ideal in
+    let maps : n.maps.map ≡ h.maps.map = ap (λ t. t.map) undone.maps in
+    let idle = idle-there (get h.maps.map m) c.requires.idle in
+    let o = map_of idle.0 in
+    let is = image-some map_of h.maps.map m idle.0 idle.1 in
+    let none : kept_load (get n.maps.map m) ≡ None =
+    ap (λ ms. kept_load (get ms m)) maps ∙ idle-unkept (get h.maps.map m) c.requires.idle in
+    let unprepared : get n.loans.prepared m ≡ None =
+    ap (λ ps. get ps m) undone.prepared ∙ cut-at h.loans.prepared m in
+    let are : AreAwaiting n =
+    awaiting-none n m none unprepared (awaiting-ready h n e maps m
+    (prepared-less h.loans.prepared n.loans.prepared m undone.prepared) c.requires.awaiting) in
+    awaiting-tried n k m o (c.note_tried.ensures.done o (ap (λ (y : LaneState). get y.maps m) e ∙ is))
+    c.note_tried.ensures.waiting (ap (λ ms. is_idle_map (get ms m)) maps ∙ c.requires.idle) are

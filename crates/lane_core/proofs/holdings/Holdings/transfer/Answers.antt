@@ -1,0 +1,12 @@
+use Rattle.std.proofs.Common.{ap, sym, ◌∙◌}
+use Rattle.ideal_wire.specs.WireStep as wires
+use Rattle.lane_core.specs.Ideal.{ideal_of}
+use Rattle.lane_core.specs.Wire.{wire_of}
+use Rattle.lane_core.proofs.Doors.{always-ok}
+use Rattle.lane_core.proofs.holdings.Holdings.transfer.Goals as goal
+
+pub returns-in-DevRead-clause-wire : goal.returns-in-DevRead-clause-wire
+returns-in-DevRead-clause-wire c =
+    let h = c.args.self.now in
+    always-ok c.dev_read.result (c.dev_read.ensures.wire
+    ∙ sym (ap (λ i. wires.transfer i (ideal_of h) (wire_of h)) c.in-DevRead.is))

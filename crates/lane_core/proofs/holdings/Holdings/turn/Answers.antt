@@ -1,0 +1,102 @@
+use Rattle.std.proofs.Common.{◌≡◌, inl, IfOk, [], length, map, refl, sym, ap, ◌∙◌, subst}
+use Rattle.busdma_base.specs.declared.journals.journal.Side.{Side}
+use Rattle.busdma_base.specs.declared.journals.journal.Side.TheVariants as side
+use Rattle.lane_core.specs.Covered.{IsVacantFrom}
+use Rattle.lane_core.specs.Ideal.{ideal_of}
+use Rattle.lane_core.specs.Kept.{return_of}
+use Rattle.lane_core.specs.Turning.{IsMade, MayWant}
+use Rattle.lane_core.proofs.Doors.{err-map, on-err}
+use Rattle.lane_core.proofs.MadeTurns.{made-ready}
+use Rattle.lane_core.proofs.Providing.{length-after, made-script, provided-same, ready-after, same-room, transfer-all}
+use Rattle.lane_core.proofs.holdings.Holdings.turn.Goals as goal
+
+pub returns-in-Script-clause-made : goal.returns-in-Script-clause-made
+returns-in-Script-clause-made g c =
+    subst (λ (s : Side). IfOk c.script_turn.result (IsMade c.args.self.now c.script_turn.new.self
+    (g.D.HubDoor.seen c.args.door.now) (g.D.HubDoor.seen c.script_turn.new.door) s)) (sym c.in-Script.is)
+    c.script_turn.ensures.made
+
+pub returns-in-Script-clause-ready : goal.returns-in-Script-clause-ready
+returns-in-Script-clause-ready g c =
+    let r = c.script_turn.ensures in
+    ready-after c.args.self.now c.script_turn.new.self (g.D.HubDoor.seen c.args.door.now)
+    (g.D.HubDoor.seen c.script_turn.new.door) side.Script c.requires.ready c.script_turn.result r.made r.err r.room
+    r.undone
+
+pub returns-in-Script-clause-length : goal.returns-in-Script-clause-length
+returns-in-Script-clause-length g c =
+    let r = c.script_turn.ensures in
+    length-after c.args.self.now c.script_turn.new.self (g.D.HubDoor.seen c.args.door.now)
+    (g.D.HubDoor.seen c.script_turn.new.door) side.Script c.requires.ready c.script_turn.result r.made r.err r.places
+    c.requires.length
+
+pub returns-in-Transfer-clause-made : goal.returns-in-Transfer-clause-made
+returns-in-Transfer-clause-made g c =
+    let h = c.args.self.now in
+    let k = c.transfer_turn.new.self in
+    let d = g.D.HubDoor.seen c.args.door.now in
+    let r = c.transfer_turn.ensures in
+    subst (λ (s : Side). IfOk c.transfer_turn.result (IsMade h k d d s)) (sym c.in-Transfer.is)
+    (transfer-all h k d c.transfer_turn.result r.done r.unheld r.wire r.places r.capacity)
+
+pub returns-in-Transfer-clause-undone : goal.returns-in-Transfer-clause-undone
+returns-in-Transfer-clause-undone g c = on-err c.transfer_turn.result (inl refl)
+
+pub returns-in-Transfer-clause-ready : goal.returns-in-Transfer-clause-ready
+returns-in-Transfer-clause-ready g c =
+    let h = c.args.self.now in
+    let k = c.transfer_turn.new.self in
+    let d = g.D.HubDoor.seen c.args.door.now in
+    let r = c.transfer_turn.ensures in
+    ready-after h k d d side.Transfer c.requires.ready c.transfer_turn.result
+    (transfer-all h k d c.transfer_turn.result r.done r.unheld r.wire r.places r.capacity) r.err
+    (err-map c.transfer_turn.result (λ s. same-room h k s r.capacity) r.err)
+    (on-err c.transfer_turn.result (inl refl))
+
+pub returns-in-Transfer-clause-provided : goal.returns-in-Transfer-clause-provided
+returns-in-Transfer-clause-provided g c =
+    let r = c.transfer_turn.ensures in
+    provided-same c.args.self.now c.transfer_turn.new.self c.requires.provided
+    (r.awaiting c.requires.provided.awaiting) (ap (λ s. s.now) r.script) r.memories r.place r.promised
+
+pub returns-in-Transfer-clause-length : goal.returns-in-Transfer-clause-length
+returns-in-Transfer-clause-length g c =
+    let r = c.transfer_turn.ensures in
+    r.places ∙ c.requires.length ∙ sym (ap (λ s. length s.now) r.script)
+
+pub returns-in-Callback-clause-made : goal.returns-in-Callback-clause-made
+returns-in-Callback-clause-made g c =
+    subst (λ (s : Side). IsMade c.args.self.now c.call_back.new.self (g.D.HubDoor.seen c.args.door.now)
+    (g.D.HubDoor.seen c.call_back.new.door) s c.call_back.result) (sym c.in-Callback.is) c.call_back.ensures.made
+
+pub returns-in-Callback-clause-ready : goal.returns-in-Callback-clause-ready
+returns-in-Callback-clause-ready g c =
+    made-ready c.args.self.now c.call_back.new.self (g.D.HubDoor.seen c.args.door.now)
+    (g.D.HubDoor.seen c.call_back.new.door) side.Callback c.call_back.result c.requires.ready c.call_back.ensures.made
+
+pub returns-in-Callback-clause-provided : goal.returns-in-Callback-clause-provided
+returns-in-Callback-clause-provided g c =
+    let r = c.call_back.ensures in
+    record {
+      awaiting = r.awaiting;
+      small = r.small;
+      plain = subst (λ t. IsVacantFrom 0 t.map) (sym r.memories) c.requires.provided.plain;
+    }
+
+pub returns-in-Callback-clause-length : goal.returns-in-Callback-clause-length
+returns-in-Callback-clause-length g c =
+    let script =
+    made-script c.args.self.now c.call_back.new.self (g.D.HubDoor.seen c.args.door.now)
+    (g.D.HubDoor.seen c.call_back.new.door) side.Callback c.call_back.result c.requires.ready c.call_back.ensures.made in
+    c.call_back.ensures.made.places ∙ c.requires.length ∙ sym (ap length script)
+
+pub returns-in-Script-clause-wanting : goal.returns-in-Script-clause-wanting
+returns-in-Script-clause-wanting g c =
+    let l = ideal_of c.args.self.now in
+    err-map c.script_turn.result
+    (λ (none : c.args.self.now.agenda.returns ≡ []). subst (MayWant l) (sym c.in-Script.is) (ap (map return_of) none))
+    c.script_turn.ensures.wanting
+
+pub returns-in-Transfer-clause-wanting : goal.returns-in-Transfer-clause-wanting
+returns-in-Transfer-clause-wanting g c =
+    on-err c.transfer_turn.result (subst (MayWant (ideal_of c.args.self.now)) (sym c.in-Transfer.is) tt)

@@ -1,0 +1,24 @@
+use Rattle.lane_core.proofs.Doors.{err-map}
+use Rattle.lane_core.proofs.LaneCalls.{called-lane, cpu_write-after}
+use Rattle.lane_core.proofs.lane.Lane.cpu_write.Goals as goal
+
+pub invariant_of-self : goal.invariant_of-self
+invariant_of-self c =
+    let l = c.args.self.now in
+    let h = l.holdings in
+    let k = c.cpu_write.new.self in
+    let r = c.cpu_write.ensures in
+    let lane =
+    called-lane h k
+    (record { wired = l.wired; stands = l.stands; provided = l.provided; length = l.length; room = l.room })
+    (cpu_write-after h k l.wired c.args.place c.args.bytes.now c.cpu_write.result r.done r.wire r.err) r.awaiting r.script r.memories r.agenda in
+    record {
+      wired = lane.wired;
+      stands = lane.stands;
+      provided = lane.provided;
+      length = lane.length;
+      room = lane.room;
+    }
+
+pub returns-clause-err : goal.returns-clause-err
+returns-clause-err c = err-map c.cpu_write.result (λ s. s.ideal) c.cpu_write.ensures.err

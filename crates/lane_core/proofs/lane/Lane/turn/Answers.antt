@@ -1,0 +1,58 @@
+use Rattle.lane_core.specs.Ideal.{ideal_of}
+use Rattle.lane_core.proofs.Doors.{err-map, ok-map}
+use Rattle.lane_core.proofs.OneProvided.{provided-of}
+use Rattle.lane_core.proofs.OneStanding.{stands-of}
+use Rattle.lane_core.proofs.Providing.{follows-after, kept-follows}
+use Rattle.lane_core.proofs.lane.Lane.turn.Goals as goal
+
+pub turn-requires-clause-ready : goal.turn-requires-clause-ready
+turn-requires-clause-ready g c =
+    let l = c.args.self.now in
+    record {
+      stands = stands-of (ideal_of l.holdings) l.stands;
+      wired = l.wired;
+      room = l.room;
+      served = c.requires.served;
+    }
+
+pub turn-requires-clause-provided : goal.turn-requires-clause-provided
+turn-requires-clause-provided g c = provided-of c.args.self.now.holdings c.args.self.now.provided
+
+pub invariant_of-self : goal.invariant_of-self
+invariant_of-self g c =
+    let r = c.turn.ensures in
+    record {
+      wired = r.ready.wired;
+      stands = ∣ r.ready.stands ∣₁;
+      provided = ∣ r.provided ∣₁;
+      length = r.length;
+      room = r.ready.room;
+    }
+
+pub returns-clause-done : goal.returns-clause-done
+returns-clause-done g c = ok-map c.turn.result _ _ (λ t made. made.done) c.turn.ensures.made
+
+pub returns-clause-wire : goal.returns-clause-wire
+returns-clause-wire g c =
+    let l = c.args.self.now in
+    follows-after l.holdings c.turn.new.self (g.D.HubDoor.seen c.args.door.now) (g.D.HubDoor.seen c.turn.new.door)
+    c.args.side (record {
+      stands = stands-of (ideal_of l.holdings) l.stands;
+      wired = l.wired;
+      room = l.room;
+      served = c.requires.served;
+    }) c.turn.result c.turn.ensures.made
+
+pub returns-clause-served : goal.returns-clause-served
+returns-clause-served g c = c.turn.ensures.ready.served
+
+pub returns-clause-err : goal.returns-clause-err
+returns-clause-err g c = err-map c.turn.result (λ s. s.ideal) c.turn.ensures.err
+
+pub returns-clause-err_wire : goal.returns-clause-err_wire
+returns-clause-err_wire g c =
+    err-map c.turn.result (kept-follows c.args.self.now.holdings c.turn.new.self c.args.self.now.wired)
+    c.turn.ensures.err
+
+pub returns-clause-wanting : goal.returns-clause-wanting
+returns-clause-wanting g c = c.turn.ensures.wanting

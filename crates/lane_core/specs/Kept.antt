@@ -1,0 +1,99 @@
+-- What the tags, maps, memories and shares that a lane keeps mean to the ideal driver.
+use Rattle.std.specs.Prelude.{ℕ, ◌*◌, ◌==◌, List, [], ◌∷◌, map, length, Option, Some, None, if◌then◌else◌}
+use Rattle.std.specs.Option.{option_map}
+use Rattle.busdma_base.specs.declared.machine.chunk.Chunk.{Chunk}
+use Rattle.busdma_base.specs.Machine.Page.{FrameBytes}
+use Rattle.busdma_base.specs.Machine.PageList.{page_address, page_addresses}
+use Rattle.dma_map.specs.declared.callback.Transfers.{Transfers}
+use Rattle.dma_map.specs.MapView as held
+use Rattle.lane_agreement.specs.View.{Return}
+use Rattle.lane_tables.specs.declared.queued.QueuedPage.{QueuedPage}
+use Rattle.ideal_lane.specs.State.{LaneTag, LaneMap, LaneMemory, Stage, Idle, Waiting, Loaded, Returning}
+use Rattle.lane_core.specs.declared.kept.KeptTag.{KeptTag}
+use Rattle.lane_core.specs.declared.kept.KeptMap.{KeptMap}
+use Rattle.lane_core.specs.declared.kept.KeptMemory.{KeptMemory}
+use Rattle.lane_core.specs.declared.kept.KeptShare.{KeptShare}
+
+-- a tag: its effective limits, and whether its first allocation is done
+abbrev pub tag_of : KeptTag → LaneTag
+tag_of t = record { limits = t.tag; first_done = t.first_done }
+
+-- where a map stands, of which a load that waits has this need; pages that are lent out are still the map's
+abbrev pub stage_of : ℕ → held.Stage Transfers → Stage
+stage_of need held.idle = Idle
+stage_of need (held.waiting load_at callback room) = Waiting load_at need
+stage_of need (held.loaded bounced segments pages) = Loaded bounced segments (page_addresses pages.items)
+stage_of need (held.lent bounced segments frames) = Loaded bounced segments (map (λ f. 4096 * f) frames)
+stage_of need held.returning = Returning
+
+-- a map
+abbrev pub map_of : KeptMap → LaneMap
+map_of o = record {
+  tag = o.tag;
+  zone = option_map (λ z. z.0) o.map.zone;
+  tried = o.map.tried;
+  stage = stage_of o.need o.map.stage;
+}
+
+-- a memory
+abbrev pub memory_of : KeptMemory → LaneMemory
+memory_of x = record {
+  tag = x.tag;
+  first = x.first.0;
+  count = x.count;
+  len = x.memory.len;
+  coherent = x.memory.coherent;
+}
+
+-- a page of the return queue
+abbrev pub return_of : QueuedPage → Return
+return_of q = record { map = q.map.made_at; zone = q.zone.0; page = page_address q.page }
+
+-- the share of a zone, or 0 where none is kept
+abbrev pub share_of : List KeptShare → ℕ → ℕ
+share_of [] z = 0
+share_of (s ∷ shares) z = if z == s.zone.0 then s.count else share_of shares z
+
+-- what the load of a map has beside its buffer: its bounced chunks, and its bounce pages with the bytes that they hold
+pub record Device : Type 0 where
+  pub chunks : List Chunk
+  pub pages : List FrameBytes
+
+-- no load, or none that is ended
+abbrev pub no_device : Device
+no_device = record { chunks = []; pages = [] }
+
+-- those of a map that stands so
+abbrev pub device_in : held.Stage Transfers → Device
+device_in held.idle = no_device
+device_in (held.waiting load_at callback room) = no_device
+device_in (held.loaded bounced segments pages) = record { chunks = bounced; pages = pages.items }
+device_in (held.lent bounced segments frames) = record { chunks = bounced; pages = [] }
+device_in held.returning = no_device
+
+-- those of a map, if there is one
+abbrev pub device_of : Option KeptMap → Device
+device_of None = no_device
+device_of (Some o) = device_in o.map.stage
+
+-- how many pages a map that stands so gives to the return queue at last: those that it holds, or the need of its load
+abbrev pub due_in : ℕ → held.Stage Transfers → ℕ
+due_in need held.idle = 0
+due_in need (held.waiting load_at callback room) = need
+due_in need (held.loaded bounced segments pages) = length pages.items
+due_in need (held.lent bounced segments frames) = length frames
+due_in need held.returning = 0
+
+abbrev pub due_of : KeptMap → ℕ
+due_of o = due_in o.need o.map.stage
+
+-- how many items the load of a map brings that waits
+abbrev pub items_in : held.Stage Transfers → ℕ
+items_in held.idle = 0
+items_in (held.waiting load_at callback room) = length callback.items
+items_in (held.loaded bounced segments pages) = 0
+items_in (held.lent bounced segments frames) = 0
+items_in held.returning = 0
+
+abbrev pub items_of : KeptMap → ℕ
+items_of o = items_in o.map.stage

@@ -1,0 +1,26 @@
+-- The ideal state of a lane, and its wire.
+use Rattle.busdma_base.specs.declared.journals.answer.Answer.{Answer}
+use Rattle.busdma_base.specs.Machine.Wire.{Wire}
+use Rattle.ideal_lane.specs.Outcomes.{Outcome}
+use Rattle.ideal_lane.specs.State.{LaneState}
+use Rattle.ideal_lane.specs.Turns.{Turned}
+use Rattle.lane_core.specs.declared.lane.Lane.{Lane}
+use Rattle.lane_core.specs.declared.turn.Turn.{Turn}
+use Rattle.lane_core.specs.Ideal.{ideal_of}
+use Rattle.lane_core.specs.Turning.{answered}
+use Rattle.lane_core.specs.Wire.{wire_of}
+
+abbrev pub ideal : Lane → LaneState
+ideal l = ideal_of l.holdings
+
+-- the bytes that a lane really holds, by their bus addresses
+abbrev pub wire : Lane → Wire
+wire l = wire_of l.holdings
+
+-- a lane after a call, and what the call answers
+abbrev pub given : Lane → Answer → Outcome
+given l a = record { lane = ideal l; answer = a }
+
+-- a lane after a turn, and what the turn answers
+abbrev pub turned : Lane → Turn → Turned
+turned l t = record { lane = ideal l; turn = answered t }

@@ -1,0 +1,107 @@
+//! The callbacks of loads that waited.
+
+ghost use Rattle.std.specs.Prelude.{◌≡◌, ◌+◌, ◌≤◌, ℕ, List, true, length, Some, slice_get};
+ghost use Rattle.std.specs.FinMap.{get, insert};
+ghost use Rattle.busdma_base.specs.declared.journals.journal.Side.TheVariants as side;
+ghost use Rattle.busdma_base.specs.declared.machine.address.Va.{Va};
+ghost use Rattle.busdma_base.specs.declared.scenarios.script.Item.{Item};
+ghost use Rattle.busdma_base.specs.declared.scenarios.script.Op.TheVariants.{Load};
+ghost use Rattle.busdma_base.specs.declared.scenarios.script.Place.TheVariants.{At};
+ghost use Rattle.busdma_base.specs.Machine.PageList.{page_addresses};
+ghost use Rattle.dma_map.specs.MapView.{idle};
+ghost use Rattle.ideal_lane.specs.Ahead.{items_ahead};
+ghost use Rattle.ideal_lane.specs.Standing.{Stands};
+ghost use Rattle.ideal_lane.specs.Turns.{called, is_waiting};
+ghost use Rattle.lane_core.specs.declared.kept.KeptMap.{KeptMap};
+ghost use Rattle.lane_core.specs.Awaiting.{AreAwaiting, HasSmallLoads, kept_load};
+ghost use Rattle.lane_core.specs.Turning.{IsMade, IsReady};
+
+use crate::buffers::Buffer;
+use crate::holdings::Holdings;
+use crate::turn::{Turn, stepped};
+use busdma_base::{Answer, Called, Did, HubDoor, Op, PageList, Place, Side, Va};
+use dma_map::{LoadRoom, Transfers};
+
+impl Holdings<'_> {
+    ghost use Rattle.lane_core.specs.Changes.{KeepsButMaps, KeepsBytesBut};
+    ghost use Rattle.lane_core.specs.Ideal.{given, ideal_of};
+
+    /// The callback at the head of the callback list, where it is this driver's: its load ends with its pages.
+    pub(crate) fn call_back<D: HubDoor>(&mut self, door: &mut D) -> Turn
+        requires ready { IsReady self.old (D.seen door.old) }
+        requires awaiting { AreAwaiting self.old }
+        requires small { HasSmallLoads self.old }
+        ensures made { IsMade self.old self.new (D.seen door.old) (D.seen door.new) side.Callback result }
+        ensures awaiting { AreAwaiting self.new }
+        ensures small { HasSmallLoads self.new }
+        ensures promised { self.new.agenda.promised ≤ self.old.agenda.promised }
+        ensures memories { self.new.memories ≡ self.old.memories }
+        ensures fixed { D.fixed door.new ≡ D.fixed door.old }
+    {
+        let Some(Called { map, pages }) = door.take_callback(self.id) else {
+            return Turn::Blocked;
+        };
+        let answer = self.end_wait(map.made_at, pages);
+        stepped(self.id, Side::Callback, Did::Callback { map }, answer, true)
+    }
+
+    /// Ends the load of a map that waits, with its pages.
+    fn end_wait(&mut self, map: u32, pages: PageList) -> Answer
+        requires stands { Stands (ideal_of self.old) }
+        requires awaiting { AreAwaiting self.old }
+        requires small { HasSmallLoads self.old }
+        requires room { items_ahead (ideal_of self.old) ≤ self.old.agenda.room }
+        requires waits { is_waiting (get (ideal_of self.old).maps map) ≡ true }
+        requires need { (o : KeptMap) → get self.old.maps.map map ≡ Some o → length pages.items ≡ o.need }
+        ensures done { given self.new result
+            ≡ called map (get (ideal_of self.old).maps map) (page_addresses pages.items) (ideal_of self.old) }
+        ensures bytes { KeepsBytesBut map self.old self.new }
+        ensures awaiting { AreAwaiting self.new }
+        ensures small { HasSmallLoads self.new }
+        ensures promised { self.new.agenda.promised ≤ self.old.agenda.promised }
+        ensures memories { self.new.memories ≡ self.old.memories }
+        ensures length { self.new.agenda.length ≡ self.old.agenda.length }
+        ensures capacity { self.new.agenda.room + length self.new.agenda.queue
+            ≡ self.old.agenda.room + length self.old.agenda.queue }
+    {
+        let Some(load) = self.take_load(map) else {
+            return Answer::Done;
+        };
+        let (load_at, callback, room) = load;
+        let buffer = self.buffer_at(load_at);
+        self.complete_load(map, load_at, buffer, room, pages, callback.items)
+    }
+
+    /// Takes the load of a map that waits out of it, and leaves the map idle.
+    fn take_load(&mut self, map: u32) -> Option<(u32, Transfers, LoadRoom)>
+        requires { is_waiting (get (ideal_of self.old).maps map) ≡ true }
+        ensures load { result ≡ kept_load (get self.old.maps.map map) }
+        ensures maps { (o : KeptMap) → get self.old.maps.map map ≡ Some o → self.new.maps.map
+            ≡ insert self.old.maps.map map (record o { map = record o.map { stage = idle } }) }
+        ensures rest { KeepsButMaps self.old self.new }
+    {
+        let mut kept = self.maps.take(map)?;
+        let load = kept.map.take_waiting();
+        self.maps.put(map, kept);
+        Some(load)
+    }
+
+    /// The buffer of the load at a place of the script; one of no byte where no load stands there.
+    fn buffer_at(&self, load_at: u32) -> Buffer
+        ensures { (m : ℕ) (va : Va) (len flags : ℕ) (items : List Item) →
+            slice_get self.now.script.now load_at ≡ Some (Load m (At va) len flags items) →
+            result ≡ record { va = va; len = len } }
+    {
+        let Some(
+            Op::Load {
+                place: Place::At(va),
+                len,
+                ..
+            },
+        ) = self.script.get(load_at as usize)
+        else {
+            return Buffer { va: Va(0), len: 0 };
+        };
+        Buffer { va: *va, len: *len }
+    }
+}

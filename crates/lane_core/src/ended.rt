@@ -1,0 +1,15 @@
+//! The end of a driver's script.
+
+ghost use Rattle.std.specs.Prelude.{◌≡◌, length, nat_le};
+ghost use Rattle.lane_core.specs.LaneIdeal.{ideal};
+
+use crate::lane::Lane;
+
+impl Lane<'_> {
+    /// Whether the script has ended.
+    pub fn has_ended(&self) -> bool
+        ensures { result ≡ nat_le (length (ideal self.now).script) (ideal self.now).place }
+    {
+        self.holdings.script.len() <= self.holdings.agenda.place() as usize
+    }
+}

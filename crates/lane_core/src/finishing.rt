@@ -1,0 +1,66 @@
+//! What a load leaves in its map.
+
+ghost use Rattle.std.specs.Prelude.{◌≡◌, ℕ, ◌+◌, ◌≤◌, true, Some, length};
+ghost use Rattle.std.specs.FinMap.{get, insert, remove};
+ghost use Rattle.busdma_base.specs.Machine.PageList.{page_addresses};
+ghost use Rattle.loan_table.specs.Loans.{loan_of};
+ghost use Rattle.ideal_lane.specs.Loads.{staged};
+ghost use Rattle.ideal_lane.specs.State.{Idle, LaneMap, Loaded};
+ghost use Rattle.lane_core.specs.Awaiting.{kept_load};
+ghost use Rattle.lane_core.specs.Covered.{has_load, is_idle_map, pages_due};
+ghost use Rattle.lane_core.specs.Loading.{HasPrepared};
+
+use crate::holdings::Holdings;
+use busdma_base::{ChunkList, PageList, SegmentList};
+
+impl Holdings<'_> {
+    ghost use Rattle.lane_core.specs.Awaiting.{KeepsWaiting};
+    ghost use Rattle.lane_core.specs.Changes.{KeepsBytes, KeepsBytesBut};
+    ghost use Rattle.lane_core.specs.Ideal.{ideal_of};
+
+    /// Notes a load of an idle map that ended without one.
+    pub(crate) fn note_tried(&mut self, map: u32)
+        requires { is_idle_map (get self.old.maps.map map) ≡ true }
+        ensures done { (o : LaneMap) → get (ideal_of self.old).maps map ≡ Some o →
+            ideal_of self.new ≡ staged map o Idle (ideal_of self.old) }
+        ensures bytes { KeepsBytes self.old self.new }
+        ensures agenda { self.new.agenda ≡ self.old.agenda }
+        ensures memories { self.new.memories ≡ self.old.memories }
+        ensures waiting { KeepsWaiting self.old self.new }
+    {
+        if let Some(mut kept) = self.maps.take(map) {
+            kept.map.note_tried();
+            self.maps.put(map, kept);
+        }
+    }
+
+    /// Keeps what the load of an idle map has ended with, and opens the loan that is prepared for the map.
+    pub(crate) fn store_load(
+        &mut self,
+        map: u32,
+        bounced: ChunkList,
+        segments: SegmentList,
+        pages: PageList,
+    )
+        requires idle { is_idle_map (get self.old.maps.map map) ≡ true }
+        requires prepared { HasPrepared self.old.loans map }
+        requires promised { pages_due self.old.maps.map + length pages.items ≤ self.old.agenda.promised }
+        ensures done { (o : LaneMap) → get (ideal_of self.old).maps map ≡ Some o → ideal_of self.new
+            ≡ record (staged map o (Loaded bounced segments (page_addresses pages.items)) (ideal_of self.old)) {
+              loans = insert (ideal_of self.old).loans map (loan_of self.old.loans.prepared map);
+            } }
+        ensures loaded { has_load (get self.new.maps.map map) ≡ true }
+        ensures bytes { KeepsBytesBut map self.old self.new }
+        ensures agenda { self.new.agenda ≡ self.old.agenda }
+        ensures memories { self.new.memories ≡ self.old.memories }
+        ensures kept { (m : ℕ) → kept_load (get self.new.maps.map m) ≡ kept_load (get self.old.maps.map m) }
+        ensures prepared { self.new.loans.prepared ≡ remove self.old.loans.prepared map }
+    {
+        let id = self.map_id(map);
+        if let Some(mut kept) = self.maps.take(map) {
+            kept.map.finish(bounced, segments, pages);
+            self.maps.put(map, kept);
+            self.loans.open_map(id);
+        }
+    }
+}

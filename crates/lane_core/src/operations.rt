@@ -1,0 +1,81 @@
+//! What an operation does.
+
+ghost use Rattle.std.specs.Prelude.{◌≡◌, ◌+◌, ◌<◌, ◌≤◌, Some, length, slice_get, IfOk, OnErr, OnOk};
+ghost use Rattle.busdma_base.specs.Scenarios.Operations.{loaded_by};
+ghost use Rattle.ideal_lane.specs.Standing.{Stands};
+ghost use Rattle.ideal_lane.specs.Turns as turns;
+ghost use Rattle.ideal_wire.specs.WireStep as wires;
+ghost use Rattle.lane_core.specs.Doing.{IsAllowedBy, IsDone, IsUndone, asks};
+
+use crate::holdings::{Answered, Holdings, unheld};
+use busdma_base::{HubDoor, Op};
+use dma_tag::SyncOps;
+use std::alloc::{AllocError, Global};
+
+impl Holdings<'_> {
+    ghost use Rattle.lane_core.specs.Awaiting.{AreAwaiting};
+    ghost use Rattle.lane_core.specs.Changes.{IsWireOf, KeepsState};
+    ghost use Rattle.lane_core.specs.Ideal.{given, ideal_of};
+    ghost use Rattle.lane_core.specs.Provided.{IsProvided};
+    ghost use Rattle.lane_core.specs.Wire.{IsWired, wire_of};
+    ghost use Rattle.ideal_lane.specs.Ahead.{items_ahead};
+
+    /// Does the next operation of the script, but for the step to the next place. A load of a memory's own map is not
+    /// built: no operation makes a memory yet, and a driver keeps that it has none.
+    pub(crate) fn operation<D: HubDoor>(
+        &mut self,
+        alloc: Global,
+        door: &mut D,
+        op: &Op,
+    ) -> Result<Answered, AllocError>
+        requires stands { Stands (ideal_of self.old) }
+        requires wired { IsWired self.old }
+        requires provided { IsProvided self.old }
+        requires room { items_ahead (ideal_of self.old) ≤ self.old.agenda.room }
+        requires going { self.old.agenda.place < self.old.agenda.length }
+        requires here { slice_get self.old.script.now self.old.agenda.place ≡ Some op.now }
+        requires allowed { IsAllowedBy (D.seen door.old) self.old.id.0 (turns.operation op.now (ideal_of self.old)) }
+        ensures done { IfOk result (λ r.
+            IsDone (D.seen door.old) self.old.id.0 (turns.operation op.now (ideal_of self.old))
+            (given self.new r.answer) (D.seen door.new)) }
+        ensures held { IfOk result (λ r. r.held ≡ asks (turns.operation op.now (ideal_of self.old))) }
+        ensures wire { OnOk result (IsWireOf self.old self.new
+            (wires.operation op.now (ideal_of self.old) (wire_of self.old))) }
+        ensures err { OnErr result (KeepsState self.old self.new) }
+        ensures unpromised { OnErr result (self.new.agenda ≡ self.old.agenda) }
+        ensures undone { OnErr result (IsUndone (D.seen door.old) (D.seen door.new)) }
+        ensures awaiting { AreAwaiting self.new }
+        ensures place { self.new.agenda.place ≡ self.old.agenda.place }
+        ensures length { self.new.agenda.length ≡ self.old.agenda.length }
+        ensures capacity { self.new.agenda.room + length self.new.agenda.queue
+            ≡ self.old.agenda.room + length self.old.agenda.queue }
+        ensures promised { self.new.agenda.promised ≤ self.old.agenda.promised + loaded_by op.now }
+        ensures memories { self.new.memories ≡ self.old.memories }
+        ensures fixed { D.fixed door.new ≡ D.fixed door.old }
+    {
+        match op {
+            Op::Tag { parent, limits, .. } => self.make_tag(alloc, door, *parent, limits),
+            Op::TagDestroy { tag } => Ok(unheld(self.destroy_tag(*tag))),
+            Op::Map { tag, .. } => self.make_map(alloc, door, *tag),
+            Op::MapDestroy { map } => Ok(self.destroy_map(door, *map)),
+            Op::Load {
+                map,
+                place,
+                len,
+                flags,
+                then,
+            } => self.load(alloc, door, *map, *place, *len, *flags, then),
+            Op::Unload { map } => Ok(unheld(self.unload(*map))),
+            Op::Sync { map, ops } => Ok(unheld(self.sync(alloc, *map, SyncOps(*ops))?)),
+            Op::SyncRange { map, off, len, ops } => {
+                Ok(unheld(self.sync_range(alloc, *map, *off, *len, SyncOps(*ops))?))
+            }
+            Op::CpuRead { place, len } => Ok(unheld(self.cpu_read(alloc, *place, *len)?)),
+            Op::CpuWrite { place, bytes } => {
+                let bytes = bytes.to_vec(alloc)?;
+                Ok(unheld(self.cpu_write(alloc, *place, &bytes)?))
+            }
+            Op::Await { map } => Ok(unheld(self.await_map(*map))),
+        }
+    }
+}

@@ -1,0 +1,69 @@
+//! The turns of a lane.
+
+ghost use Rattle.std.specs.Prelude.{◌≡◌, IfOk, OnErr, OnOk};
+ghost use Rattle.ideal_lane.specs.Turns.{lane_step};
+ghost use Rattle.ideal_wire.specs.Centre.{IsFaithful};
+ghost use Rattle.ideal_wire.specs.WireStep.{Follows};
+ghost use Rattle.ideal_wire.specs.WireStep as wires;
+ghost use Rattle.lane_core.specs.Doing.{IsUndone};
+ghost use Rattle.lane_core.specs.Kept.{share_of};
+ghost use Rattle.lane_core.specs.LaneIdeal.{ideal, turned, wire};
+ghost use Rattle.lane_core.specs.Turning.{IsServed, IsTurned, MayWant, is_held};
+
+use crate::kept::KeptShare;
+use crate::lane::Lane;
+use crate::turn::Turn;
+use busdma_base::{HubDoor, Side, ZoneId};
+use std::alloc::{AllocError, Global};
+
+/// The share of a zone, or 0 where none is kept.
+fn share_of(shares: &[KeptShare], zone: ZoneId) -> u64
+    ensures { result ≡ share_of shares.now zone.0 }
+{
+    for share in shares {
+        if share.zone == zone {
+            return share.count;
+        }
+    }
+    0
+}
+
+impl Lane<'_> {
+    /// A turn of a side, at a door to the bounce lock that serves the driver. Its step is the ideal driver's, by the
+    /// reply to its call; its bytes are those of the step, but for pages that came and went. Want of memory leaves the
+    /// driver as it was, and adds no own entry to the door's history. The callbacks, and the script while a page is on
+    /// its way back, want none.
+    pub fn turn<D: HubDoor>(
+        &mut self,
+        alloc: Global,
+        door: &mut D,
+        side: Side,
+    ) -> Result<Turn, AllocError>
+        requires served { IsServed (ideal self.old) (D.seen door.old) }
+        ensures done { IfOk result (λ turn.
+            IsTurned (D.seen door.old) (ideal self.old).id (lane_step (ideal self.old) side)
+            (turned self.new turn) (is_held turn) (D.seen door.new)) }
+        ensures wire { OnOk result (Follows (ideal self.old) (ideal self.new)
+            (wires.lane_step (ideal self.old) side (wire self.old)) (wire self.new)) }
+        ensures served { IsServed (ideal self.new) (D.seen door.new) }
+        ensures err { OnErr result (ideal self.new ≡ ideal self.old) }
+        ensures err_wire { OnErr result (Follows (ideal self.old) (ideal self.new) (wire self.old) (wire self.new)) }
+        ensures undone { OnErr result (IsUndone (D.seen door.old) (D.seen door.new)) }
+        ensures wanting { OnErr result (MayWant (ideal self.old) side) }
+        ensures fixed { D.fixed door.new ≡ D.fixed door.old }
+    {
+        self.holdings.turn(alloc, door, side)
+    }
+
+    /// The lane's share of total_bounced of a zone: how many of its syncs copied to or from a page of the zone.
+    pub fn bounced(&self, zone: ZoneId) -> u64
+        ensures { result ≡ (ideal self.now).shares zone.0 }
+    {
+        share_of(self.holdings.shares.as_slice(), zone)
+    }
+
+    /// What the lane really holds is faithful to its ideal memory, at any time.
+    pub fn is_faithful(&self)
+        ensures { IsFaithful (ideal self.now) (wire self.now) }
+    {}
+}

@@ -1,0 +1,101 @@
+//! What an operation waits for, and what goes on behind a step.
+
+ghost use Rattle.std.specs.Prelude.{◌≡◌, ◌<◌, ◌+◌, drop, length, IfOk, OnErr, OnOk};
+ghost use Rattle.busdma_base.specs.declared.scenarios.script.Op.TheVariants.{Await};
+ghost use Rattle.ideal_lane.specs.Asking.{Gives};
+ghost use Rattle.ideal_lane.specs.Turns as turns;
+ghost use Rattle.ideal_wire.specs.WireStep as wires;
+ghost use Rattle.lane_core.specs.Wire.{IsWired, wire_of};
+
+use crate::holdings::Holdings;
+use busdma_base::{Answer, Item, Op};
+use dma_map::MapState;
+use dma_tag::SyncOps;
+use std::alloc::{AllocError, Global};
+
+impl Holdings<'_> {
+    ghost use Rattle.lane_core.specs.Awaiting.{AreAwaiting};
+    ghost use Rattle.lane_core.specs.Changes.{KeepsButAgenda, KeepsState};
+    ghost use Rattle.lane_core.specs.Ideal.{given, ideal_of};
+
+    /// Does an item, but for its leaving the queue.
+    pub(crate) fn transfer(&mut self, alloc: Global, item: &Item) -> Result<Answer, AllocError>
+        requires { IsWired self.old }
+        ensures done { IfOk result (λ answer.
+            Gives (given self.new answer) ≡ turns.transfer item.now (ideal_of self.old)) }
+        ensures wire { OnOk result (wire_of self.new
+            ≡ wires.transfer item.now (ideal_of self.old) (wire_of self.old)) }
+        ensures awaiting { AreAwaiting self.old → AreAwaiting self.new }
+        ensures script { self.new.script ≡ self.old.script }
+        ensures memories { self.new.memories ≡ self.old.memories }
+        ensures agenda { self.new.agenda ≡ self.old.agenda }
+        ensures err { OnErr result (KeepsState self.old self.new) }
+    {
+        match item {
+            Item::Sync { map, ops } => self.sync(alloc, *map, SyncOps(*ops)),
+            Item::SyncRange { map, off, len, ops } => {
+                self.sync_range(alloc, *map, *off, *len, SyncOps(*ops))
+            }
+            Item::DevRead { map, off, len } => self.dev_read(alloc, *map, *off, *len),
+            Item::DevWrite { map, off, bytes } => {
+                let bytes = bytes.to_vec(alloc)?;
+                self.dev_write(alloc, *map, *off, &bytes)
+            }
+        }
+    }
+
+    /// Whether an operation cannot step.
+    pub(crate) fn waits(&self, op: &Op) -> bool
+        ensures { result ≡ turns.waits op.now (ideal_of self.now) }
+    {
+        match op {
+            Op::Await { map } => self.is_awaited(*map),
+            Op::Tag { .. }
+            | Op::TagDestroy { .. }
+            | Op::Map { .. }
+            | Op::MapDestroy { .. }
+            | Op::Load { .. }
+            | Op::Unload { .. }
+            | Op::Sync { .. }
+            | Op::SyncRange { .. }
+            | Op::CpuRead { .. }
+            | Op::CpuWrite { .. } => false,
+        }
+    }
+
+    /// Whether a map exists whose load waits, or that an item of the transfer queue names.
+    fn is_awaited(&self, map: u32) -> bool
+        ensures { result ≡ turns.waits (Await map) (ideal_of self.now) }
+    {
+        let Some(kept) = self.maps.get(map) else {
+            return false;
+        };
+        let MapState::Waiting = kept.map.state() else {
+            return self.agenda.names(map);
+        };
+        true
+    }
+
+    /// Goes on to the next operation.
+    pub(crate) fn advance(&mut self)
+        requires { self.old.agenda.place < self.old.agenda.length }
+        ensures agenda { self.new.agenda ≡ record self.old.agenda { place = self.old.agenda.place + 1 } }
+        ensures awaiting { AreAwaiting self.old → AreAwaiting self.new }
+        ensures rest { KeepsButAgenda self.old self.new }
+    {
+        self.agenda.advance();
+    }
+
+    /// Takes the first item out of the transfer queue.
+    pub(crate) fn pop_item(&mut self)
+        ensures queue { self.new.agenda.queue ≡ drop 1 self.old.agenda.queue }
+        ensures capacity { self.new.agenda.room + length self.new.agenda.queue
+            ≡ self.old.agenda.room + length self.old.agenda.queue }
+        ensures agenda { self.new.agenda
+            ≡ record self.old.agenda { queue = self.new.agenda.queue; room = self.new.agenda.room } }
+        ensures awaiting { AreAwaiting self.old → AreAwaiting self.new }
+        ensures rest { KeepsButAgenda self.old self.new }
+    {
+        self.agenda.pop();
+    }
+}

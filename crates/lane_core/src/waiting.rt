@@ -1,0 +1,171 @@
+//! Loads that need bounce pages, from their wish for pages on.
+
+ghost use Rattle.std.specs.Prelude.{◌≡◌, ℕ, ◌+◌, ◌-◌, ◌<◌, ◌≤◌, ◌^◌, ◌==◌, true, false, length, Some, None};
+ghost use Rattle.std.specs.Prelude.{OnErr, OnOk};
+ghost use Rattle.std.specs.FinMap.{get, insert, remove};
+ghost use Rattle.busdma_base.specs.declared.journals.report.Judged.TheVariants.{Fine};
+ghost use Rattle.busdma_base.specs.Bounce.Door.{grab_reply};
+ghost use Rattle.busdma_base.specs.Machine.Entry.{entries_addresses};
+ghost use Rattle.loan_table.specs.Loans.{new_loan};
+ghost use Rattle.loan_table.specs.Table.{IsPrepared};
+ghost use Rattle.ideal_lane.specs.Loads.{Asked, granted, is_coherent, limits_of, staged};
+ghost use Rattle.ideal_lane.specs.Places.{reached};
+ghost use Rattle.ideal_lane.specs.Standing.{Stands};
+ghost use Rattle.ideal_lane.specs.State.{LaneMap, Waiting};
+ghost use Rattle.lane_core.specs.Awaiting.{kept_load};
+ghost use Rattle.lane_core.specs.Covered.{is_idle_map, pages_due};
+ghost use Rattle.lane_core.specs.Loading.{HasNeed, HasRoomForAny, buffer_chunks, buffer_entries};
+
+use crate::buffers::Buffer;
+use crate::holdings::Holdings;
+use crate::kept::KeptMap;
+use busdma_base::{Answer, Errno, Grabbed, ItemList};
+use dma_map::{LoadRoom, Transfers};
+use std::alloc::{AllocError, Global};
+
+impl Holdings<'_> {
+    ghost use Rattle.lane_core.specs.Awaiting.{AreAwaiting, AreAwaitingBut, IsNextLoad};
+    ghost use Rattle.lane_core.specs.Changes.{KeepsBytes, KeepsBytesBut, KeepsState};
+    ghost use Rattle.lane_core.specs.Ideal.{given, ideal_of};
+
+    /// Promises the pages of a load a place in the return queue, and prepares its loan.
+    pub(crate) fn ready_load(
+        &mut self,
+        alloc: Global,
+        map: u32,
+        buffer: Buffer,
+        need: u32,
+    ) -> Result<(), AllocError>
+        requires idle { is_idle_map (get self.old.maps.map map) ≡ true }
+        requires own { get self.old.memories.map map ≡ None }
+        requires unprepared { get self.old.loans.prepared map ≡ None }
+        requires reached { reached (ideal_of self.old) buffer.va.0 buffer.len ≡ Fine }
+        requires small { buffer.len ≤ 2 ^ 20 }
+        requires few { self.old.agenda.promised + need < 2 ^ 32 }
+        ensures prepared { OnOk result (self.new.loans.prepared ≡ insert self.old.loans.prepared map (new_loan
+            (is_coherent (get (ideal_of self.old).mems map))
+            (entries_addresses (buffer_entries (ideal_of self.old) buffer.va.0 buffer.len)))) }
+        ensures promised { OnOk result (self.new.agenda
+            ≡ record self.old.agenda { promised = self.old.agenda.promised + need }) }
+        ensures err { OnErr result (self.new.loans.prepared ≡ self.old.loans.prepared) }
+        ensures unpromised { OnErr result (self.new.agenda ≡ self.old.agenda) }
+        ensures same { KeepsState self.old self.new }
+        ensures maps { self.new.maps ≡ self.old.maps }
+        ensures memories { self.new.memories ≡ self.old.memories }
+    {
+        self.agenda.promise(alloc, need)?;
+        let ready = self.prepare_load(alloc, map, buffer);
+        if ready.is_err() {
+            self.agenda.unpromise(need);
+        }
+        ready
+    }
+
+    /// Takes back what was made ready for a load.
+    pub(crate) fn undo_load(&mut self, map: u32, need: u32)
+        requires prepared { IsPrepared self.old.loans map }
+        requires promised { pages_due self.old.maps.map + need ≤ self.old.agenda.promised }
+        ensures prepared { self.new.loans.prepared ≡ remove self.old.loans.prepared map }
+        ensures agenda { self.new.agenda ≡ record self.old.agenda { promised = self.old.agenda.promised - need } }
+        ensures same { KeepsState self.old self.new }
+        ensures maps { self.new.maps ≡ self.old.maps }
+        ensures memories { self.new.memories ≡ self.old.memories }
+    {
+        let id = self.map_id(map);
+        self.loans.drop_prepared(id);
+        self.agenda.unpromise(need);
+    }
+
+    /// Has the load of an idle map wait for its pages.
+    pub(crate) fn wait_load(
+        &mut self,
+        map: u32,
+        load_at: u32,
+        need: u32,
+        items: ItemList,
+        room: LoadRoom,
+    )
+        requires idle { is_idle_map (get self.old.maps.map map) ≡ true }
+        requires promised { pages_due self.old.maps.map + need ≤ self.old.agenda.promised }
+        ensures done { (o : LaneMap) → get (ideal_of self.old).maps map ≡ Some o →
+            ideal_of self.new ≡ staged map o (Waiting load_at need) (ideal_of self.old) }
+        ensures bytes { KeepsBytes self.old self.new }
+        ensures agenda { self.new.agenda ≡ self.old.agenda }
+        ensures memories { self.new.memories ≡ self.old.memories }
+        ensures waits { kept_load (get self.new.maps.map map) ≡ Some (load_at, record { items = items }, room) }
+        ensures others { (m : ℕ) → (m == map) ≡ false →
+            kept_load (get self.new.maps.map m) ≡ kept_load (get self.old.maps.map m) }
+        ensures prepared { self.new.loans.prepared ≡ self.old.loans.prepared }
+    {
+        if let Some(kept) = self.maps.take(map) {
+            let KeptMap {
+                tag,
+                need: _,
+                map: mut waits,
+            } = kept;
+            waits.wait(load_at, Transfers { items }, room);
+            self.maps.put(
+                map,
+                KeptMap {
+                    tag,
+                    need,
+                    map: waits,
+                },
+            );
+        }
+    }
+
+    /// Goes on with the load of an idle map by what its wish for pages got.
+    pub(crate) fn take_grabbed(
+        &mut self,
+        map: u32,
+        buffer: Buffer,
+        need: u32,
+        room: LoadRoom,
+        items: ItemList,
+        got: Grabbed,
+    ) -> Answer
+        requires stands { Stands (ideal_of self.old) }
+        requires idle { is_idle_map (get self.old.maps.map map) ≡ true }
+        requires own { get self.old.memories.map map ≡ None }
+        requires awaiting { AreAwaitingBut map self.old }
+        requires next { IsNextLoad self.old map buffer.va buffer.len items }
+        requires reached { reached (ideal_of self.old) buffer.va.0 buffer.len ≡ Fine }
+        requires small { buffer.len ≤ 2 ^ 20 }
+        requires room { (o : LaneMap) → get (ideal_of self.old).maps map ≡ Some o →
+            HasRoomForAny (limits_of (ideal_of self.old) o)
+            (buffer_chunks (ideal_of self.old) o buffer.va.0 buffer.len) need room }
+        requires prepared { get self.old.loans.prepared map ≡ Some (new_loan
+            (is_coherent (get (ideal_of self.old).mems map))
+            (entries_addresses (buffer_entries (ideal_of self.old) buffer.va.0 buffer.len))) }
+        requires few_items { length items ≤ self.old.agenda.room }
+        requires promised { pages_due self.old.maps.map + need ≤ self.old.agenda.promised }
+        requires granted { HasNeed need got }
+        ensures done { (o : LaneMap) (x : Asked) → get (ideal_of self.old).maps map ≡ Some o →
+            x.entries ≡ buffer_entries (ideal_of self.old) buffer.va.0 buffer.len → x.items ≡ items →
+            given self.new result ≡ granted map o x
+            (buffer_chunks (ideal_of self.old) o buffer.va.0 buffer.len) (ideal_of self.old) (grab_reply got) }
+        ensures awaiting { AreAwaiting self.new }
+        ensures bytes { KeepsBytesBut map self.old self.new }
+        ensures memories { self.new.memories ≡ self.old.memories }
+        ensures place { self.new.agenda.place ≡ self.old.agenda.place }
+        ensures length { self.new.agenda.length ≡ self.old.agenda.length }
+        ensures capacity { self.new.agenda.room + length self.new.agenda.queue
+            ≡ self.old.agenda.room + length self.old.agenda.queue }
+        ensures promised { self.new.agenda.promised ≤ self.old.agenda.promised }
+    {
+        let load_at = self.agenda.place();
+        match got {
+            Grabbed::Granted(pages) => self.complete_load(map, load_at, buffer, room, pages, items),
+            Grabbed::Queued(have) => {
+                self.wait_load(map, load_at, need, items, room);
+                Answer::InProgress { have, need }
+            }
+            Grabbed::NoPages => {
+                self.undo_load(map, need);
+                self.note_tried(map);
+                Answer::Refused(Errno::ENOMEM)
+            }
+        }
+    }
+}

@@ -1,0 +1,45 @@
+//! The counts of the bounce zones.
+
+ghost use Rattle.std.specs.Prelude.{◌≡◌, IfOk};
+ghost use Rattle.ideal_world.specs.World as world;
+ghost use Rattle.ideal_world.specs.World.{zone_counts};
+ghost use Rattle.world_core.specs.Ideal.{ideal_world};
+
+use crate::world::World;
+use busdma_base::{ZoneId, ZoneList};
+use std::alloc::{AllocError, Global};
+
+impl World<'_> {
+    /// The counts of every bounce zone, in the order of their making.
+    pub fn zones(&self, alloc: Global) -> Result<ZoneList, AllocError>
+        ensures { IfOk result (λ zones. zones ≡ zone_counts (ideal_world self.now)) }
+    {
+        let mut bounced = Vec::new(alloc);
+        for place in 0..self.hub.zone_count() {
+            let zone = number_of(place)?;
+            bounced.push(self.bounced(zone))?;
+        }
+        self.hub.counts(alloc, &bounced)
+    }
+
+    /// How many syncs copied bytes of a zone's maps.
+    fn bounced(&self, zone: ZoneId) -> u64
+        ensures { result ≡ world.bounced (ideal_world self.now) zone.0 }
+    {
+        let mut syncs = 0;
+        for lane in &self.lanes {
+            syncs += lane.bounced(zone);
+        }
+        syncs
+    }
+}
+
+/// The number of a zone, which has 32 bits.
+fn number_of(place: usize) -> Result<ZoneId, AllocError>
+    ensures { IfOk result (λ zone. zone ≡ record { 0 = place }) }
+{
+    match u32::try_from(place) {
+        Ok(number) => Ok(ZoneId(number)),
+        Err(_) => Err(AllocError),
+    }
+}

@@ -1,0 +1,54 @@
+//! The world in which a scenario opens.
+
+ghost use Rattle.std.specs.Prelude.{◌≡◌, map, IfOk};
+ghost use Rattle.busdma_base.specs.Bounce.Opening.{maxmem_of};
+ghost use Rattle.busdma_base.specs.Scenarios.Valid.{IsValid};
+ghost use Rattle.lane_core.specs.LaneIdeal.{ideal};
+ghost use Rattle.ideal_world.specs.World as world;
+ghost use Rattle.ideal_world.specs.World.{opening_world};
+ghost use Rattle.world_core.specs.Ideal.{ideal_world};
+
+use crate::world::World;
+use bounce_hub::Hub;
+use lane_core::{Lane, opening_memory};
+use busdma_base::{LaneId, Scenario};
+use opening_frames::{free_bank, memory_end};
+use std::alloc::{AllocError, Global};
+
+impl<'s> World<'s> {
+    /// The world in which a scenario opens. Its hub has the frames that no driver's pages have.
+    pub fn new(alloc: Global, scenario: &'s Scenario) -> Result<World<'s>, AllocError>
+        requires { IsValid scenario.now }
+        ensures { IfOk result (λ world. ideal_world world ≡ opening_world scenario.now) }
+    {
+        let maxmem = memory_end(scenario.frames.as_slice());
+        let bank = free_bank(alloc, scenario)?;
+        let lanes = opening_lanes(alloc, scenario, maxmem)?;
+        Ok(World {
+            scenario,
+            lanes,
+            hub: Hub::new(alloc, bank, scenario.max_bpages, maxmem),
+        })
+    }
+}
+
+/// The lanes of a scenario's drivers, which have done nothing, in the order of their numbers, in a
+/// machine whose frames have numbers below `maxmem`.
+fn opening_lanes<'s>(
+    alloc: Global,
+    scenario: &'s Scenario,
+    maxmem: u64,
+) -> Result<Vec<Lane<'s>>, AllocError>
+    requires valid { IsValid scenario.now }
+    requires end { maxmem ≡ maxmem_of scenario.now.frames }
+    ensures { IfOk result (λ lanes. map ideal lanes.items
+        ≡ world.opening_lanes 0 maxmem scenario.now.drivers) }
+{
+    let mut lanes = Vec::new(alloc);
+    for driver in scenario.drivers.as_slice() {
+        let memory = opening_memory(alloc, driver.pages.as_slice())?;
+        let id = LaneId(lanes.len() as u32);
+        lanes.push(Lane::new(alloc, id, maxmem, driver, memory)?)?;
+    }
+    Ok(lanes)
+}

@@ -1,0 +1,47 @@
+//! The turns of actors.
+
+ghost use Rattle.std.specs.Prelude.{◌≡◌, ◌+◌, IfOk, OnErr, OnOk, if◌then◌else◌, length};
+ghost use Rattle.busdma_base.specs.Bounce.History.{IsOpening, IsSound};
+ghost use Rattle.lane_core.specs.Turning.{answered, is_held};
+ghost use Rattle.ideal_world.specs.Wires.{WiresFollow};
+ghost use Rattle.ideal_world.specs.World.{step};
+ghost use Rattle.world_core.specs.Ideal.{holds, ideal_world};
+ghost use Rattle.world_core.specs.Wires.{WiresStay, wires_of};
+
+use crate::world::World;
+use bounce_hub::Hub;
+use lane_core::Turn;
+use busdma_base::Actor;
+use std::alloc::{AllocError, Global};
+
+impl World<'_> {
+    /// An actor's turn, which is its driver's: a step with its entry, Blocked, or Ended; an actor
+    /// that has no driver is Blocked. A step tells whether it made a call under the bounce lock that
+    /// is kept in the hub's history. The bytes of the actor's driver are those of the step, but for pages
+    /// that came and went, and those of the others stay. Want of memory leaves the world as it was.
+    pub fn step(&mut self, alloc: Global, actor: Actor) -> Result<Turn, AllocError>
+        ensures done { IfOk result (λ turn.
+            record { world = ideal_world self.new; turn = answered turn } ≡ step (ideal_world self.old) actor) }
+        ensures held { IfOk result (λ turn.
+            length (holds self.new) ≡ length (holds self.old) + (if is_held turn then 1 else 0)) }
+        ensures wires { OnOk result
+            (WiresFollow (ideal_world self.old) actor (wires_of self.old) (wires_of self.new)) }
+        ensures err { OnErr result (ideal_world self.new ≡ ideal_world self.old) }
+        ensures err_wires { OnErr result (WiresStay (ideal_world self.old) (wires_of self.old) (wires_of self.new)) }
+    {
+        let at = actor.lane.0 as usize;
+        if at >= self.lanes.len() {
+            return Ok(Turn::Blocked);
+        }
+        hub_is_sound(&self.hub);
+        self.lanes[at].turn(alloc, &mut self.hub, actor.side)
+    }
+}
+
+/// The history of every hub is sound. A proof knows it of a hub only once the hub was asked for it.
+pub(crate) fn hub_is_sound(hub: &Hub)
+    ensures form { IsOpening hub.now.opening }
+    ensures sound { IsSound hub.now.opening hub.now.history }
+{
+    hub.history();
+}
