@@ -9,12 +9,12 @@ ghost use Rattle.busdma_cmd.specs.Ends.{Reads, CountsReads, EndsBy, outcome};
 use crate::cause::Cause;
 use crate::outcome::Outcome;
 use crate::words::{Command, command_of};
-use world_core::{replay, status};
 use busdma_base::{Journal, Scenario};
 use io_edge::{Input, Sink, Source, read_up_to, write_all};
 use report_text::report;
 use scenario_read::{Reading, scenario_of};
 use std::alloc::Global;
+use world_core::{replay, status};
 
 /// How many bytes the program reads at the most.
 const INPUT_LIMIT: usize = 16_777_216;

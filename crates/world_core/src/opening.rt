@@ -10,8 +10,8 @@ ghost use Rattle.world_core.specs.Ideal.{ideal_world};
 
 use crate::world::World;
 use bounce_hub::Hub;
-use lane_core::{Lane, opening_memory};
 use busdma_base::{LaneId, Scenario};
+use lane_core::{Lane, opening_memory};
 use opening_frames::{free_bank, memory_end};
 use std::alloc::{AllocError, Global};
 

@@ -7,8 +7,8 @@ ghost use Rattle.ideal_world.specs.Legal.{ComesToRest, IsReplayed, round_from};
 ghost use Rattle.world_core.specs.Ideal.{ideal_run};
 
 use crate::world::World;
-use lane_core::Turn;
 use busdma_base::{Actor, Journal, JournalEntry, LaneId, ListOf, Scenario, Side};
+use lane_core::Turn;
 use std::alloc::{AllocError, Global};
 
 /// How far a replay has come.

@@ -10,8 +10,8 @@ ghost use Rattle.world_core.specs.Wires.{WiresStay, wires_of};
 
 use crate::world::World;
 use bounce_hub::Hub;
-use lane_core::Turn;
 use busdma_base::Actor;
+use lane_core::Turn;
 use std::alloc::{AllocError, Global};
 
 impl World<'_> {

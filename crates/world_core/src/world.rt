@@ -3,8 +3,8 @@
 ghost use Rattle.world_core.specs.Kept.{IsKept};
 
 use bounce_hub::Hub;
-use lane_core::Lane;
 use busdma_base::Scenario;
+use lane_core::Lane;
 
 /// The drivers of a scenario at work, in the order of their numbers, and the hub that they share.
 #[derive(Drop)]

@@ -2,11 +2,11 @@
 
 ghost use Rattle.std.specs.Prelude.{◌≤◌};
 
-use world_core::replay;
 use busdma_base::ByteList;
 use std::alloc::{AllocError, Global};
 use std::test::Fail;
 use storm::{storm_scenario, storms_are_valid, summary};
+use world_core::replay;
 
 /// The summary of the replay of a storm of `n` rounds.
 fn replayed(alloc: Global, n: u32, seed: u64) -> Result<ByteList, AllocError>
