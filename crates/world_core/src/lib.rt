@@ -5,7 +5,6 @@ mod counts;
 mod ending;
 mod laws;
 mod opening;
-mod parts;
 mod run;
 mod steps;
 mod world;
