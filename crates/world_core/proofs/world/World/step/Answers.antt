@@ -8,8 +8,8 @@ use Rattle.world_core.proofs.Turning.{undone-opening}
 use Rattle.world_core.proofs.Wiring.{wires-follow, wires-stay}
 use Rattle.world_core.proofs.world.World.step.Goals as goal
 
-pub turn-requires-clause-served : goal.turn-requires-clause-served
-turn-requires-clause-served c =
+pub turn-requires : goal.turn-requires
+turn-requires c =
     let w = c.args.self.now in
     let i = c.args.actor.lane.0 in
     let lt : i < length w.lanes.items = omega (arith, c.if-at-len.false, c.len.ensures, w.lanes.ok.0) in
