@@ -13,9 +13,11 @@ turn-requires c =
     let w = c.args.self.now in
     let i = c.args.actor.lane.0 in
     let lt : i < length w.lanes.items = omega (arith, c.if-at-len.false, c.len.ensures, w.lanes.ok.0) in
-    serves w.scenario.now w.lanes.items w.hub i c.index_mut.result.now
-    (lane_found w.lanes.items i c.index_mut.result.now lt c.index_mut.ensures.value) w.kept
-    c.hub_is_sound.ensures.form c.hub_is_sound.ensures.sound
+    record {
+      served = serves w.scenario.now w.lanes.items w.hub i c.index_mut.result.now
+          (lane_found w.lanes.items i c.index_mut.result.now lt c.index_mut.ensures.value) w.kept
+          c.hub_is_sound.ensures.form c.hub_is_sound.ensures.sound;
+    }
 
 pub invariant_of-self-2 : goal.invariant_of-self-2
 invariant_of-self-2 c =
