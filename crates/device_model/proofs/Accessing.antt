@@ -1,6 +1,6 @@
 -- What an access does run by run.
 use Rattle.std.proofs.Common.{◌≡◌, ◌≢◌, ℕ, zero, suc, ◌+◌, ◌-◌, ◌/◌, ◌%◌, ◌<◌, ◌≤◌, ◌==◌, true, false, List, [], ◌∷◌}
-use Rattle.std.proofs.Common.{◌++◌, length, map, take, drop, get_or, set, refl, ap, sym, ◌∙◌, subst, arith}
+use Rattle.std.proofs.Common.{◌++◌, length, map, take, drop, get_or, set, refl, ap, sym, ◌∙◌, arith}
 use Rattle.std.specs.Prelude.{◌||◌, Bool}
 use Rattle.std.specs.List.{AllByRecursion, list_any}
 use Rattle.std.proofs.Common.{inl, inr, length-append, length-drop, length-take}
@@ -108,10 +108,6 @@ there_now m n fs now a s e t = record {
   found = ap (λ b. b || list_any (λ f. a / 4096 == f) now) (s.frames (a / 4096))
       ∙ (ap (λ xs. has_frame m (a / 4096) || list_any (λ f. a / 4096 == f) xs) e ∙ t.found);
 }
-
-pub apart_now : (m n : Memory) (fs now : List ℕ) → SamePages m n → now ≡ fs → AreApart m fs → AreApart n now
-apart_now m n fs now s e h =
-    subst (AreApart n) (sym e) (record { differ = h.differ; away = λ k d l. s.frames (get_or fs k d) ∙ h.away k d l })
 
 -- ---- how many bytes a slice has, and what is left of the segments
 pub slice_size : (n done k : ℕ) (bytes : List ℕ) → k ≡ n →

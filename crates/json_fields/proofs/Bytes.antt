@@ -26,11 +26,6 @@ pub hex_bytes-more : (out s : List ℕ) (i x : ℕ) → 2 * i + 1 < length s →
     ≡ option_map (λ ys. out ++ ys) (hex_bytes (drop (2 * i) s))
 hex_bytes-more out s i x h e = rw (pair_at s i h, e) (more_behind out x (hex_bytes (drop (2 * (i + 1)) s)))
 
-pub hex_bytes-bad : (out s : List ℕ) (i : ℕ) → 2 * i + 1 < length s →
-    hex_byte (get_or s (2 * i) 0) (get_or s (2 * i + 1) 0) ≡ None
-    → option_map (λ ys. out ++ ys) (hex_bytes (drop (2 * i) s)) ≡ None
-hex_bytes-bad out s i h e = rw (pair_at s i h, e) refl
-
 pub hex_bytes-one : (s : List ℕ) → length s ≡ 1 → hex_bytes s ≡ None
 hex_bytes-one [] h = absurd (omega arith)
 hex_bytes-one (a ∷ []) h = refl

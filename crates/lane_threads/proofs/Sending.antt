@@ -1,6 +1,4 @@
 -- A hub as an object, its passes and a lane's door may go to another thread, and threads may share its turnstile.
-use denote.RattleType.{RattleType}
-use denote.Ref.{NamedLft}
 use denote.Param.Send.{IsSend, IsSync, sendable}
 use Rattle.std.proofs.Crossing.{crosses}
 use Rattle.busdma_base.specs.contracts.bounce.hold.HoldEntry as Entry
@@ -11,7 +9,6 @@ use Rattle.turnstile.specs.contracts.lock.Turnstile as Turnstile
 use Rattle.turnstile.proofs.Sending.{pass_send, turnstile_sync}
 use Rattle.lane_threads.specs.contracts.call.DoorCall as Call
 use Rattle.lane_threads.specs.contracts.call.DoorReply as Reply
-use Rattle.lane_threads.specs.contracts.door.PassDoor as PassDoor
 use Rattle.lane_threads.specs.contracts.object.HubObject as Object
 use Rattle.lane_threads.specs.contracts.object.HubObjectTurnObject as Acts
 
@@ -28,7 +25,3 @@ pub lane_turnstile_sync : IsSync (Turnstile.the_row Object.the_row Call.the_row 
 lane_turnstile_sync =
     turnstile_sync Object.the_row Call.the_row Reply.the_row Entry.the_row
     Opening.the_row Acts.TheImpl.ghosts object_send
-
--- where the handle may be shared
-pub door_send : (a : NamedLft) (Rt : RattleType) → IsSync Rt → IsSend (PassDoor.the_row a Rt)
-door_send a Rt s = search (lane_pass_send, lane_turnstile_sync, sendable, crosses) depth 60 fits 20000

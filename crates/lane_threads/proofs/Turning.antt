@@ -2,7 +2,7 @@
 use Rattle.std.proofs.Common.{◌≡◌, ◌≢◌, ℕ, ◌+◌, ◌==◌, ◌<◌, false, IsTrue, List, [], ◌∷◌, ◌++◌, All}
 use Rattle.std.proofs.Common.{Ok, Err, Option, Some, None, IfSome, refl, sym, ap, ◌∙◌, subst, arith, append_assoc}
 use Rattle.std.proofs.Common.{append-nil, unwrap_or}
-use Rattle.std.proofs.lemmas.List.Elements.{All-nil, All-cons, All-head, All-tail, All-weaker}
+use Rattle.std.proofs.lemmas.List.Elements.{All-nil, All-cons, All-head, All-tail}
 use Rattle.std.proofs.lemmas.Bool.Decides.{nat_tests}
 use mathlib.Core.List.{IsPrefix}
 use Rattle.busdma_base.specs.declared.bounce.hold.HubCall.{HubCall}
@@ -17,7 +17,7 @@ use Rattle.busdma_base.specs.Bounce.Door.{Seen, Allows, Passes, Holds, Fails, Mi
 use Rattle.turnstile.specs.declared.view.Start.{Start}
 use Rattle.turnstile.specs.TurnHistory.{entries, turns_of, IsOfOthers}
 use Rattle.turnstile.specs.Start.{history_after, IsLawful}
-use Rattle.turnstile.specs.Pass.{PassView, MayCall, IsSoundPass, HasTurn}
+use Rattle.turnstile.specs.Pass.{IsSoundPass, HasTurn}
 use Rattle.turnstile.proofs.Logs.{entries-append, All_prefix}
 use Rattle.lane_threads.specs.declared.call.DoorCall.{DoorCall}
 use Rattle.lane_threads.specs.declared.call.DoorCall.TheVariants as call
@@ -41,10 +41,6 @@ may_from : (o : Option (Start HoldEntry Account)) (name : ℕ) (front : List (�
 may_from None name front c pages allowed = tt
 may_from (Some start) name front c pages allowed =
     record { lane = same_number _ _ allowed.served; may = allowed.may; pages = pages }
-
-pub may_call : (p : LanePass) (c : DoorCall) → GivesBack c (account (seen p))
-    → Allows (seen p) (lane_of c) (hub_call c) → MayCall MayAct p c
-may_call p c pages allowed = may_from p.start p.name p.front c pages allowed
 
 -- a turn of a lane: its name is one of the names, and is that of the entry's lane
 abbrev IsPair : Start HoldEntry Account → ℕ × HoldEntry → Type 0

@@ -1,13 +1,8 @@
 -- A lane whose pass made no call knows that it has nothing.
-use Rattle.std.proofs.Common.{◌≡◌, ℕ, ◌+◌, ◌==◌, false, [], ◌++◌, Some, None, refl, sym, ap, ◌∙◌, subst, eq-eqb}
+use Rattle.std.proofs.Common.{◌≡◌, ℕ, ◌+◌, ◌==◌, false, [], ◌++◌, Some, None, refl, sym, ◌∙◌, subst, eq-eqb}
 use Rattle.std.proofs.lemmas.Bool.{false≢true}
-use Rattle.frame_bank.specs.FrameBank.{Bank}
-use Rattle.busdma_base.specs.Bounce.History.{IsOpening}
 use Rattle.bounce_hub.specs.Opening.{opening}
-use Rattle.bounce_hub.specs.Seen.{HubSeen}
 use Rattle.atomic_table.specs.Seated.{TableId}
-use Rattle.turnstile.specs.Start.{start_of}
-use Rattle.turnstile.specs.Pass.{SplitsOff, first_pass}
 use Rattle.lane_agreement.specs.View.{View}
 use Rattle.lane_agreement.proofs.Whole.{agrees-opening}
 use Rattle.lane_threads.specs.Closing.{LanePass}
@@ -59,30 +54,3 @@ pub starts_with_no_maps : (id : TableId) (p : LanePass) → StartsAt id p → p.
 starts_with_no_maps id p s named =
     starts 0 id p (HasMaps None None []) s named
     (record { maxmem = refl; one = refl; two = refl; three = refl; four = refl; returns = refl })
-
--- a pass that was cut off from one that made no call
-pub splits : (id : TableId) (name : ℕ) (old p : LanePass) → StartsAt id old → SplitsOff name old p → StartsAt id p
-splits id name old p s off = record {
-  here = ap (λ (q : LanePass). q.turnstile) off.is ∙ s.here;
-  start = s.start;
-  started = ap (λ (q : LanePass). q.start) off.is ∙ s.started;
-  empty = s.empty;
-  form = s.form;
-  maxmem = s.maxmem;
-  front = ap (λ (q : LanePass). q.front) off.is ∙ s.front;
-}
-
--- the first pass of a turnstile round a hub that was asked nothing
-pub first_starts : (p : LanePass) (id : TableId) (names : ℕ) (hub : HubSeen) (bank : Bank) (max_bpages : ℕ)
-    → p ≡ first_pass id (start_of names hub.history hub.opening)
-    → hub ≡ record { opening = opening bank max_bpages 0x1010; history = [] } → IsOpening hub.opening
-    → StartsAt id p
-first_starts p id names hub bank max_bpages first made form = record {
-  here = ap (λ (q : LanePass). q.turnstile) first;
-  start = start_of names hub.history hub.opening;
-  started = ap (λ (q : LanePass). q.start) first;
-  empty = ap (λ (h : HubSeen). h.history) made;
-  form = form;
-  maxmem = ap (λ (h : HubSeen). h.opening.maxmem) made;
-  front = ap (λ (q : LanePass). q.front) first;
-}

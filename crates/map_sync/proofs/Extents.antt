@@ -1,5 +1,5 @@
 -- The copies of the extents of a chunk, one after the other.
-use Rattle.std.proofs.Common.{◌≡◌, ℕ, ◌+◌, ◌-◌, ◌*◌, ◌/◌, ◌%◌, ◌<◌, ◌≤◌, min, List, [], ◌∷◌, ◌++◌, length, map, refl}
+use Rattle.std.proofs.Common.{◌≡◌, ℕ, ◌+◌, ◌-◌, ◌/◌, ◌%◌, ◌<◌, ◌≤◌, min, List, [], ◌∷◌, ◌++◌, length, map}
 use Rattle.std.proofs.Common.{ap, sym, ◌∙◌, arith}
 use Rattle.std.proofs.Common.{subst}
 use Rattle.std.specs.Prelude.{Option, Some}
@@ -24,10 +24,6 @@ one_count e = sum_by-cons (λ (x : Extent). x.len) e [] ∙ (omega arith)
 
 two_count : (e r : Extent) → byte_count (e ∷ r ∷ []) ≡ e.len + r.len
 two_count e r = sum_by-cons (λ (x : Extent). x.len) e (r ∷ []) ∙ ap (λ n. e.len + n) (one_count r)
-
-pub keys_one : (from to bus : ℕ) (e : Extent) →
-    part from to (run_of bus (byte_count (e ∷ []))) ≡ part from to (run_of bus e.len)
-keys_one from to bus e = ap (λ n. part from to (run_of bus n)) (one_count e)
 
 pub keys_two : (from to bus : ℕ) (e r : Extent) →
     part from to (run_of bus (byte_count (e ∷ r ∷ []))) ≡ part from to (run_of bus e.len)

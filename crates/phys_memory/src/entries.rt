@@ -50,6 +50,7 @@ impl LanePages {
         ensures frames { let lies = LiesIn self.now.memory in
             IfOk result (λ w. IfAll w (AllByRecursion (λ e. AllByRecursion lies e.parts))) }
     {
+        // For what is true of every memory.
         let _ = &self.table;
         let mut entries = Vec::new(alloc);
         let mut offset = 0;

@@ -101,6 +101,7 @@ impl LanePages {
         ensures parts { result ≡ flat_at true (physical self.now.memory) offset va.0 len }
         ensures sound { IsMemory self.now.memory }
     {
+        // For what is true of every memory.
         let _ = &self.table;
         FlatParts {
             memory: self,

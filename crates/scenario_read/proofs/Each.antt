@@ -1,13 +1,10 @@
 -- One more element that is read, and that may stand behind those before it.
-use Rattle.std.proofs.Common.{◌≡◌, ℕ, ◌+◌, ◌<◌, List, [], ◌∷◌, ◌++◌, length, get_or, drop, map, Ok, refl, add-one}
+use Rattle.std.proofs.Common.{◌≡◌, ℕ, ◌+◌, ◌<◌, List, [], ◌∷◌, ◌++◌, length, get_or, drop, map, refl, add-one}
 use Rattle.std.proofs.Common.{append-nil, append_assoc}
 use Rattle.std.proofs.Math.Seq.{drop-cons}
 use Rattle.serde_json.specs.View.{view}
 use Rattle.serde_json.specs.declared.value.Value.{Value}
 use Rattle.busdma_base.specs.Each.{EachAfter}
-use Rattle.json_fields.specs.Read.{Read}
-use Rattle.json_fields.specs.Field.{Spot, item_of}
-use Rattle.json_fields.specs.Items.{each}
 
 pub EachAfter-append : {A : Type 0} (P : List A → A → Type 0) (before xs : List A) (x : A)
     → EachAfter P before xs → P (before ++ xs) x → EachAfter P before (xs ++ x ∷ [])
@@ -17,9 +14,3 @@ EachAfter-append P before (y ∷ ys) x h p = (h.0, EachAfter-append P (before ++
 at : (vs : List Value) (i : ℕ) (v : Value) → i < length vs → v ≡ get_or vs i v →
     map view (drop i vs) ≡ view v ∷ map view (drop (i + 1) vs)
 at vs i v h is = rw (add-one, drop-cons vs i v h, ← is) refl
-
-pub each_more : {A : Type 0} (read : List A → Spot → Read A) (here : Spot) (before : List A)
-    (vs : List Value) (i : ℕ) (v : Value) (x : A)
-    → i < length vs → v ≡ get_or vs i v → read before (item_of here (length before) (view v)) ≡ Ok x
-    → each read here (before ++ x ∷ []) (map view (drop (i + 1) vs)) ≡ each read here before (map view (drop i vs))
-each_more read here before vs i v x h is e = rw (at vs i v h is, e) refl

@@ -1,5 +1,5 @@
 -- The rounds of a driver, and the drivers of a storm, one after the other.
-use Rattle.std.proofs.Common.{◌≡◌, ℕ, zero, suc, ◌+◌, ◌*◌, ◌-◌, ◌<◌, ◌≤◌, List, [], ◌∷◌, ◌++◌, map, ap, arith}
+use Rattle.std.proofs.Common.{◌≡◌, ℕ, zero, suc, ◌+◌, ◌*◌, ◌-◌, ◌<◌, List, [], ◌∷◌, ◌++◌, map, ap, arith}
 use Rattle.std.proofs.Common.{append_assoc}
 use Rattle.std.specs.List.{flat_map}
 use Rattle.busdma_base.specs.declared.scenarios.script.Op.{Op}
@@ -12,12 +12,6 @@ use Rattle.storm.specs.Scenario.{round_at, round_after, driver, driver_after}
 pub run_of_next : (i n : ℕ) → i < n → run_of i (n - i) ≡ i ∷ run_of (i + 1) (n - (i + 1))
 run_of_next i n h =
     let e : n - i ≡ suc (n - (i + 1)) = omega arith in
-    rw e
-
--- there is none from n on
-pub run_of_none : (i n : ℕ) → n ≤ i → run_of i (n - i) ≡ []
-run_of_none i n h =
-    let e : n - i ≡ 0 = omega arith in
     rw e
 
 -- two more numbers are drawn in a round

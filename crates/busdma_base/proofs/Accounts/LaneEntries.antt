@@ -2,11 +2,9 @@
 use Rattle.std.proofs.Common.{◌≡◌, ◌≢◌, ℕ, Bool, true, false, IsTrue, ◌==◌, List, [], ◌∷◌, ◌++◌, All}
 use Rattle.std.proofs.Common.{refl, sym, ap, ◌∙◌, append-nil, eq-eqb, ne_eqb}
 use Rattle.std.proofs.lemmas.List.Elements.{All-nil, All-cons, All-head, All-tail, filter-append}
-use Rattle.busdma_base.specs.declared.bounce.hold.HubCall.{HubCall}
-use Rattle.busdma_base.specs.declared.bounce.hold.HubReply.{HubReply}
 use Rattle.busdma_base.specs.declared.bounce.hold.HoldEntry.{HoldEntry}
 use Rattle.busdma_base.specs.Bounce.Account.{Account}
-use Rattle.busdma_base.specs.Bounce.Door.{Seen, Passes, Holds}
+use Rattle.busdma_base.specs.Bounce.Door.{Seen, Passes}
 use Rattle.busdma_base.specs.Bounce.History.{IsSound, account_of, after_entry}
 use Rattle.busdma_base.specs.Bounce.LaneEntries.{of_lane}
 
@@ -57,14 +55,3 @@ own-passes lane d e others served p =
     ∙ of_lane-append lane d.history others
     ∙ ap (λ es. of_lane lane d.history ++ es) none
     ∙ append-nil (of_lane lane d.history)
-
--- a call that it made adds its own entry, and no other of the lane
-pub own-holds : (lane : ℕ) (d e : Seen) (c : HubCall) (r : HubReply) → IsTrue (d.serves lane) → Holds d lane c r e
-    → of_lane lane e.history
-    ≡ of_lane lane d.history ++ record { lane = record { 0 = lane }; call = c; reply = r } ∷ []
-own-holds lane d e c r served h =
-    let entry : HoldEntry = record { lane = record { 0 = lane }; call = c; reply = r } in
-    ap (of_lane lane) h.history
-    ∙ of_lane-append lane h.between.history (entry ∷ [])
-    ∙ ap (λ es. es ++ of_lane lane (entry ∷ [])) (own-passes lane d h.between h.others served h.passes)
-    ∙ ap (λ es. of_lane lane d.history ++ es) (of_lane-own lane entry refl)
