@@ -14,27 +14,17 @@ use Rattle.busdma_base.specs.declared.scenarios.words.ItemWord.{ItemWord}
 use Rattle.busdma_base.specs.declared.scenarios.words.ItemWord.TheVariants as word
 use Rattle.scenario_read.specs.Bytes.{written_at}
 use Rattle.scenario_read.specs.Counts.{with_items, stepped, step_judged, access_judged, read_judged}
-use Rattle.scenario_read.specs.Flags.{ops_field}
 use Rattle.scenario_read.specs.Names.{used_name}
+use Rattle.scenario_read.specs.Syncs.{sync_fields_at, range_fields_at}
 use Rattle.scenario_read.specs.Words.{item_word_at}
 
 -- a sync of the whole load
 unfoldable pub sync_item_at : List Op → Spot → Read Item
-sync_item_at before here =
-    only_keys (one_of (codes "op" ∷ codes "map" ∷ codes "ops" ∷ [])) here >>= (λ _.
-    used_name kind.Map (codes "map") before here >>= (λ map.
-    ops_field here >>= (λ ops.
-    Ok (item.Sync map ops))))
+sync_item_at before here = sync_fields_at before here >>= (λ s. Ok (item.Sync s.map s.ops))
 
 -- a sync of a range of the load
 unfoldable pub sync_range_item_at : List Op → Spot → Read Item
-sync_range_item_at before here =
-    only_keys (one_of (codes "op" ∷ codes "map" ∷ codes "off" ∷ codes "len" ∷ codes "ops" ∷ [])) here >>= (λ _.
-    used_name kind.Map (codes "map") before here >>= (λ map.
-    number_field (codes "off") here >>= (λ off.
-    number_field (codes "len") here >>= (λ n.
-    ops_field here >>= (λ ops.
-    Ok (item.SyncRange map off n ops))))))
+sync_range_item_at before here = range_fields_at before here >>= (λ s. Ok (item.SyncRange s.map s.off s.len s.ops))
 
 -- a read of the device
 unfoldable pub dev_read_at : List Op → Counts → Spot → Read Item

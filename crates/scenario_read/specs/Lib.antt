@@ -10,4 +10,5 @@ pub mod Order
 pub mod Pages
 pub mod Scenario
 pub mod Script
+pub mod Syncs
 pub mod Words

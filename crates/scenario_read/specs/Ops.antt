@@ -15,9 +15,10 @@ use Rattle.scenario_read.specs.declared.load.LoadHead.{LoadHead}
 use Rattle.busdma_base.specs.declared.scenarios.operations.NameKind.TheVariants as kind
 use Rattle.scenario_read.specs.Bytes.{target_at, written_at}
 use Rattle.scenario_read.specs.Counts.{having_loaded, access_judged, read_judged, load_judged}
-use Rattle.scenario_read.specs.Flags.{flags_field, ops_field}
+use Rattle.scenario_read.specs.Flags.{flags_field}
 use Rattle.scenario_read.specs.Items.{then_field}
 use Rattle.scenario_read.specs.Names.{new_name, used_name, parent_or_none}
+use Rattle.scenario_read.specs.Syncs.{sync_fields_at, range_fields_at}
 
 -- a number of segments has 32 bits
 abbrev pub nsegments_or : Place → ℕ → Read ℕ
@@ -110,21 +111,11 @@ unload_at before here =
 
 -- a sync of the whole load
 unfoldable pub sync_at : List Op → Spot → Read Op
-sync_at before here =
-    only_keys (one_of (codes "op" ∷ codes "map" ∷ codes "ops" ∷ [])) here >>= (λ _.
-    used_name kind.Map (codes "map") before here >>= (λ map.
-    ops_field here >>= (λ ops.
-    Ok (op.Sync map ops))))
+sync_at before here = sync_fields_at before here >>= (λ s. Ok (op.Sync s.map s.ops))
 
 -- a sync of a range of the load
 unfoldable pub sync_range_at : List Op → Spot → Read Op
-sync_range_at before here =
-    only_keys (one_of (codes "op" ∷ codes "map" ∷ codes "off" ∷ codes "len" ∷ codes "ops" ∷ [])) here >>= (λ _.
-    used_name kind.Map (codes "map") before here >>= (λ map.
-    number_field (codes "off") here >>= (λ off.
-    number_field (codes "len") here >>= (λ n.
-    ops_field here >>= (λ ops.
-    Ok (op.SyncRange map off n ops))))))
+sync_range_at before here = range_fields_at before here >>= (λ s. Ok (op.SyncRange s.map s.off s.len s.ops))
 
 -- a read of the driver
 unfoldable pub cpu_read_at : Counts → Spot → Read Op

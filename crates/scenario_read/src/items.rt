@@ -15,8 +15,8 @@ ghost use Rattle.busdma_base.specs.Scenarios.Limits.{steps_limit};
 
 use crate::bytes::{count_of, written};
 use crate::counts::{Counts, access};
-use crate::flags::ops_field;
 use crate::names::used_name;
+use crate::syncs::{range_fields, sync_fields};
 use crate::words::item_word;
 use busdma_base::{Item, ItemList, ItemWord, ListOf, NameKind, Op};
 use json_fields::{Node, Stop};
@@ -29,10 +29,11 @@ fn sync(here: &Node, before: &[Op]) -> Result<Item, Stop>
     ensures valid { IfOk result (IsItem before.now) }
     ensures reads_nothing { IfOk result (λ i. read_by_item i ≡ 0) }
 {
-    here.only_keys(&["op", "map", "ops"])?;
-    let map = used_name(here, NameKind::Map, "map", before)?;
-    let ops = ops_field(here)?;
-    Ok(Item::Sync { map, ops })
+    let sync = sync_fields(here, before)?;
+    Ok(Item::Sync {
+        map: sync.map,
+        ops: sync.ops,
+    })
 }
 
 #[tactic(auto, unfolding(crate::specs::Items::sync_range_item_at))]
@@ -42,12 +43,13 @@ fn sync_range(here: &Node, before: &[Op]) -> Result<Item, Stop>
     ensures valid { IfOk result (IsItem before.now) }
     ensures reads_nothing { IfOk result (λ i. read_by_item i ≡ 0) }
 {
-    here.only_keys(&["op", "map", "off", "len", "ops"])?;
-    let map = used_name(here, NameKind::Map, "map", before)?;
-    let off = here.number_field("off")?;
-    let len = here.number_field("len")?;
-    let ops = ops_field(here)?;
-    Ok(Item::SyncRange { map, off, len, ops })
+    let sync = range_fields(here, before)?;
+    Ok(Item::SyncRange {
+        map: sync.map,
+        off: sync.off,
+        len: sync.len,
+        ops: sync.ops,
+    })
 }
 
 #[tactic(auto, unfolding(crate::specs::Items::dev_read_at))]

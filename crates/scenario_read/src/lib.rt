@@ -16,6 +16,7 @@ mod pages;
 mod reading;
 mod scenario;
 mod script;
+mod syncs;
 mod words;
 
 pub use json_fields::{LimitName, PathText, Refusal, RefusalKind};

@@ -10,8 +10,9 @@ ghost use Rattle.busdma_base.specs.Scenarios.Limits.{steps_limit};
 
 use crate::bytes::{count_of, target, written};
 use crate::counts::{Counts, access};
-use crate::flags::{FlagSet, flags_field, ops_field};
+use crate::flags::{FlagSet, flags_field};
 use crate::names::{new_name, parent, used_name};
+use crate::syncs::{range_fields, sync_fields};
 use busdma_base::{NameKind, Op, Pa, TagLimits};
 use json_fields::{Node, RefusalKind, Stop};
 
@@ -136,10 +137,11 @@ pub(crate) fn sync(here: &Node, before: &[Op]) -> Result<Op, Stop>
     ensures valid { IfOk result (IsOp before.now) }
     ensures quiet { IfOk result IsQuiet }
 {
-    here.only_keys(&["op", "map", "ops"])?;
-    let map = used_name(here, NameKind::Map, "map", before)?;
-    let ops = ops_field(here)?;
-    Ok(Op::Sync { map, ops })
+    let sync = sync_fields(here, before)?;
+    Ok(Op::Sync {
+        map: sync.map,
+        ops: sync.ops,
+    })
 }
 
 #[tactic(auto, unfolding(crate::specs::Ops::sync_range_at))]
@@ -149,12 +151,13 @@ pub(crate) fn sync_range(here: &Node, before: &[Op]) -> Result<Op, Stop>
     ensures valid { IfOk result (IsOp before.now) }
     ensures quiet { IfOk result IsQuiet }
 {
-    here.only_keys(&["op", "map", "off", "len", "ops"])?;
-    let map = used_name(here, NameKind::Map, "map", before)?;
-    let off = here.number_field("off")?;
-    let len = here.number_field("len")?;
-    let ops = ops_field(here)?;
-    Ok(Op::SyncRange { map, off, len, ops })
+    let sync = range_fields(here, before)?;
+    Ok(Op::SyncRange {
+        map: sync.map,
+        off: sync.off,
+        len: sync.len,
+        ops: sync.ops,
+    })
 }
 
 #[tactic(auto, unfolding(crate::specs::Ops::cpu_read_at))]
