@@ -8,9 +8,13 @@ use Rattle.bounce_hub.specs.declared.hub_zone.HubZone.{HubZone}
 abbrev pub room_after : HubZone → ℕ
 room_after s = length s.zone.pages + 1 - s.zone.reserved
 
+-- the counts of a zone, where so many syncs copied
+abbrev pub counts_of : ℕ → HubZone → ZoneCounts
+counts_of bounced s = zone_counts s.zone bounced s.deferred
+
 -- the counts of the zone of a number, where so many syncs copied in each zone
 abbrev pub counts_at : List ℕ → ℕ → HubZone → ZoneCounts
-counts_at bounced z s = zone_counts s.zone (slice_index bounced z) s.deferred
+counts_at bounced z s = counts_of (slice_index bounced z) s
 
 -- the counts of zones, in order
 pub record HaveCounts (zones : List HubZone) (bounced : List ℕ) (cs : List ZoneCounts) : Type 0 where

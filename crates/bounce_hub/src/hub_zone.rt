@@ -5,8 +5,8 @@ ghost use Rattle.std.specs.Prelude.{vec_capacity, IfOk, OnOk, OnErr};
 ghost use Rattle.busdma_base.specs.Bounce.AccountStep.{as_pages};
 ghost use Rattle.busdma_base.specs.Machine.PageList.{page_addresses};
 ghost use Rattle.busdma_base.specs.Bounce.Serving.{completed, left_waiting, promised};
-ghost use Rattle.bounce_zone.specs.ZonePages.{free_pages, zone_counts};
-ghost use Rattle.bounce_hub.specs.HubZones.{room_after};
+ghost use Rattle.bounce_zone.specs.ZonePages.{free_pages, no_pages, reserving, handing_out, taking_back};
+ghost use Rattle.bounce_hub.specs.HubZones.{counts_of, room_after};
 
 use bounce_zone::Zone;
 use busdma_base::{MapId, Pa, PaList, Page, PageList, ZoneCounts, ZoneId};
@@ -27,7 +27,7 @@ impl HubZone {
     /// A zone with no page and no map.
     pub fn new(alloc: Global, lowaddr: Pa, alignment: u64) -> HubZone
         ensures { result ≡ record {
-          zone = record { lowaddr = lowaddr.0; alignment = alignment; pages = []; reserved = 0; active = 0 };
+          zone = no_pages lowaddr.0 alignment;
           wait = [];
           maps = 0;
           deferred = 0;
@@ -43,7 +43,7 @@ impl HubZone {
 
     /// The counts of the zone, where so many syncs copied.
     pub fn counts(&self, bounced: u64) -> ZoneCounts
-        ensures { result ≡ zone_counts self.now.zone bounced self.now.deferred }
+        ensures { result ≡ counts_of bounced self.now }
     {
         self.zone.counts(bounced, self.deferred)
     }
@@ -52,10 +52,7 @@ impl HubZone {
     pub fn hand_out(&mut self, alloc: Global, need: u32) -> Result<(PageList, PaList), AllocError>
         requires { need ≤ free_pages self.old.zone }
         ensures zone { OnOk result (self.new ≡ record self.old {
-          zone = record self.old.zone {
-            pages = drop need self.old.zone.pages;
-            active = self.old.zone.active + need;
-          };
+          zone = record (handing_out need self.old.zone) { reserved = self.old.zone.reserved };
         }) }
         ensures pages { IfOk result (λ r. r.0.items ≡ take need self.old.zone.pages) }
         ensures addresses { IfOk result (λ r.
@@ -78,11 +75,7 @@ impl HubZone {
         requires no_address { addresses.items ≡ [] }
         requires address_room { need ≤ vec_capacity addresses }
         ensures zone { self.new ≡ record self.old {
-          zone = record self.old.zone {
-            pages = drop need self.old.zone.pages;
-            reserved = self.old.zone.reserved - need;
-            active = self.old.zone.active + need;
-          };
+          zone = handing_out need self.old.zone;
         } }
         ensures pages { pages.new.items ≡ take need self.old.zone.pages }
         ensures addresses { result ≡ as_pages (page_addresses (take need self.old.zone.pages)) }
@@ -104,7 +97,7 @@ impl HubZone {
     ) -> Result<u32, AllocError>
         requires { free_pages self.old.zone < need }
         ensures zone { let free = free_pages self.old.zone in OnOk result (self.new ≡ record self.old {
-          zone = record self.old.zone { reserved = self.old.zone.reserved + free };
+          zone = reserving free self.old.zone;
           wait = self.old.wait ++ record { map = map; zone = zone; need = need; have = free } ∷ [];
         }) }
         ensures room { OnOk result (ready.new ≡ record ready.old { spare = ready.old.spare + 1 }) }
@@ -124,11 +117,7 @@ impl HubZone {
         requires lacks { All (λ w. w.have < w.need) self.old.wait }
         requires few { self.old.deferred + length self.old.wait < 2 ^ 64 }
         ensures zone { let room = room_after self.old in self.new ≡ record self.old {
-          zone = record self.old.zone {
-            pages = page ∷ self.old.zone.pages;
-            active = self.old.zone.active - 1;
-            reserved = self.old.zone.reserved + promised room self.old.wait;
-          };
+          zone = reserving (promised room self.old.wait) (taking_back page self.old.zone);
           wait = left_waiting room self.old.wait;
           deferred = self.old.deferred + length (completed room self.old.wait);
         } }

@@ -1,5 +1,5 @@
 -- What contracts see of a bounce zone.
-use Rattle.std.specs.Prelude.{◌≡◌, ℕ, ◌+◌, ◌-◌, ◌^◌, ◌<◌, ◌≤◌, List, length}
+use Rattle.std.specs.Prelude.{◌≡◌, ℕ, ◌+◌, ◌-◌, ◌^◌, ◌<◌, ◌≤◌, List, [], ◌∷◌, length, drop}
 use Rattle.busdma_base.specs.declared.bounce.zone.ZoneCounts.{ZoneCounts}
 use Rattle.busdma_base.specs.Machine.Page.{FrameBytes}
 
@@ -10,6 +10,24 @@ pub record ZonePages : Type 0 where
   pub pages : List FrameBytes
   pub reserved : ℕ
   pub active : ℕ
+
+-- a zone of this lowaddr and alignment with no page
+abbrev pub no_pages : ℕ → ℕ → ZonePages
+no_pages lowaddr alignment =
+    record { lowaddr = lowaddr; alignment = alignment; pages = []; reserved = 0; active = 0 }
+
+-- the zone with so many more pages reserved
+abbrev pub reserving : ℕ → ZonePages → ZonePages
+reserving count z = record z { reserved = z.reserved + count }
+
+-- the zone without so many reserved pages from the head of its list, which are with maps
+abbrev pub handing_out : ℕ → ZonePages → ZonePages
+handing_out count z =
+    record z { pages = drop count z.pages; reserved = z.reserved - count; active = z.active + count }
+
+-- the zone with a page back at the head of its list
+abbrev pub taking_back : FrameBytes → ZonePages → ZonePages
+taking_back page z = record z { pages = page ∷ z.pages; active = z.active - 1 }
 
 -- the pages that are reserved for nobody
 abbrev pub free_pages : ZonePages → ℕ

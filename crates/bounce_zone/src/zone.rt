@@ -5,6 +5,7 @@ ghost use Rattle.std.specs.VecDeque.{deque_capacity};
 ghost use Rattle.busdma_base.specs.Bounce.Growth.{frames_below};
 ghost use Rattle.frame_bank.specs.FrameBank.{free_frames};
 ghost use Rattle.bounce_zone.specs.ZonePages.{free_pages, total_pages, zone_counts};
+ghost use Rattle.bounce_zone.specs.ZonePages.{no_pages, reserving, handing_out, taking_back};
 
 use busdma_base::{Pa, Page, PageList, ZoneCounts};
 use frame_bank::FrameBank;
@@ -45,13 +46,7 @@ impl Model for Zone {
 impl Zone {
     /// A zone with no page.
     pub fn new(alloc: Global, lowaddr: Pa, alignment: u64) -> Zone
-        ensures { result ≡ record {
-          lowaddr = lowaddr.0;
-          alignment = alignment;
-          pages = [];
-          reserved = 0;
-          active = 0;
-        } }
+        ensures { result ≡ no_pages lowaddr.0 alignment }
     {
         Zone {
             lowaddr,
@@ -90,7 +85,7 @@ impl Zone {
     /// Reserves as many of the free pages as are wanted.
     pub fn reserve(&mut self, wanted: u32) -> u32
         ensures got { result ≡ min (free_pages self.old) wanted }
-        ensures zone { self.new ≡ record self.old { reserved = self.old.reserved + result } }
+        ensures zone { self.new ≡ reserving result self.old }
     {
         let got = self.free.min(wanted);
         self.free -= got;
@@ -102,11 +97,7 @@ impl Zone {
     pub fn take(&mut self, count: u32, into: &mut PageList)
         requires reserved { count ≤ self.old.reserved }
         requires room { length into.old.items + count ≤ into.old.room }
-        ensures zone { self.new ≡ record self.old {
-          pages = drop count self.old.pages;
-          reserved = self.old.reserved - count;
-          active = self.old.active + count;
-        } }
+        ensures zone { self.new ≡ handing_out count self.old }
         ensures pages { into.new
             ≡ record into.old { items = into.old.items ++ take count self.old.pages } }
     {
@@ -118,10 +109,7 @@ impl Zone {
     /// Takes a page back, to the head of the list.
     pub fn put_back(&mut self, page: Page)
         requires { 1 ≤ self.old.active }
-        ensures { self.new ≡ record self.old {
-          pages = page ∷ self.old.pages;
-          active = self.old.active - 1;
-        } }
+        ensures { self.new ≡ taking_back page self.old }
     {
         self.pages.push_front_reserved(page);
         self.free += 1;
