@@ -92,7 +92,7 @@ module _ (h k : Holdings) (m at : ℕ) (callback : Transfers) (room : LoadRoom)
             (record { script = refl; maxmem = refl; pages = refl; tags = refl; mems = refl }) refl);
         kept = λ q off. ap (λ ms. kept_load (get ms q)) (maps o kept.1)
             ∙ ap kept_load (put-other h.maps.map m q (idled o) off);
-        prepared = λ q off. ap (λ t. get t.prepared q) rest.loans;
+        prepared = λ q off. ap (λ t. get t.prepared q) rest.most.loans;
       }) (awaiting-but h m awaiting)
 
   module _ (awaiting : AreAwaiting h) where
@@ -110,7 +110,7 @@ module _ (h k : Holdings) (m at : ℕ) (callback : Transfers) (room : LoadRoom)
         slice_get k.script.now at ≡ Some (Load m (At va) len flags items) → b ≡ record { va = va; len = len }) where
       buffer : b ≡ record { va = is.va; len = is.len }
       buffer =
-          told m is.va is.len is.flags callback.items (ap (λ s. slice_get s.now at) rest.script ∙ is.load)
+          told m is.va is.len is.flags callback.items (ap (λ s. slice_get s.now at) rest.most.script ∙ is.load)
 
       pub ends-reached : reached (ideal_of k) b.va.0 b.len ≡ Fine
       ends-reached = (λ i. reached (now i) (buffer i).va.0 (buffer i).len) ∙ is.reached
@@ -135,7 +135,7 @@ module _ (h k : Holdings) (m at : ℕ) (callback : Transfers) (room : LoadRoom)
       pub ends-prepared : get k.loans.prepared m ≡ Some (new_loan (is_coherent (get (ideal_of k).mems m))
           (entries_addresses (buffer_entries (ideal_of k) b.va.0 b.len)))
       ends-prepared =
-          ap (λ t. get t.prepared m) rest.loans ∙ is.prepared
+          ap (λ t. get t.prepared m) rest.most.loans ∙ is.prepared
           ∙ sym (λ i. Some (new_loan (is_coherent (get (now i).mems m))
           (entries_addresses (buffer_entries (now i) (buffer i).va.0 (buffer i).len))))
 
@@ -172,7 +172,7 @@ module _ (h k : Holdings) (m at : ℕ) (callback : Transfers) (room : LoadRoom)
             let chunks = chunks_for l (map_of o) (contains_key l.mems m) asks.entries in
             let stays =
             stays-finished m (map_of o) at asks chunks pages l (ideal_of n) (ap (λ (x : Outcome). x.lane) ended) in
-            let script : n.script.now ≡ h.script.now = stays.rest.script in
+            let script : n.script.now ≡ h.script.now = stays.rest.most.script in
             let place : n.agenda.place ≡ h.agenda.place = same ∙ ap (λ a. a.place) rest.agenda in
             let promised : k.agenda.promised ≡ h.agenda.promised = ap (λ a. a.promised) rest.agenda in
             let ahead : bytes_ahead n.agenda.place n.script.now ≡ bytes_ahead h.agenda.place h.script.now =

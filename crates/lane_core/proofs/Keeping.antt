@@ -1,32 +1,20 @@
 -- What a change of one part of a driver's holdings leaves as it was.
-use Rattle.std.proofs.Common.{◌≡◌, ℕ, true, false, Option, Some, None, is_some, OnSome, refl, ap, subst}
+use Rattle.std.proofs.Common.{◌≡◌, ℕ, true, false, Option, Some, None, is_some, OnSome, refl, subst}
 use Rattle.std.specs.Option.{option_map}
 use Rattle.dma_map.specs.declared.callback.Transfers.{Transfers}
 use Rattle.dma_map.specs.declared.state.MapState.TheVariants as state
 use Rattle.dma_map.specs.MapView as held
-use Rattle.phys_memory.specs.Memory.{wire}
 use Rattle.lane_core.specs.declared.holdings.Holdings.{Holdings}
 use Rattle.ideal_lane.specs.Outcomes.{is_idle, is_loaded}
 use Rattle.ideal_lane.specs.State.{Stage, Idle, Waiting, Loaded, Returning}
 use Rattle.lane_core.specs.declared.kept.KeptMap.{KeptMap}
 use Rattle.lane_core.specs.Covered.{has_load, is_idle_map, is_returning, is_tried, lends_pages}
 use Rattle.lane_core.specs.Kept.{device_of, no_device, due_of, map_of, stage_of}
-use Rattle.lane_core.specs.Changes.{KeepsBytes, KeepsState, KeepsButTags}
-use Rattle.lane_core.specs.Held.{devices_of}
+use Rattle.lane_core.specs.Changes.{KeepsBytes}
 
 -- nothing changed
 pub bytes-same : (h : Holdings) → KeepsBytes h h
 bytes-same h = record { own = refl; pages = λ m. refl }
-
-pub state-same : (h : Holdings) → KeepsState h h
-state-same h = record { ideal = refl; bytes = bytes-same h }
-
--- the tags alone changed
-pub bytes-tags : (h k : Holdings) → KeepsButTags h k → KeepsBytes h k
-bytes-tags h k s = record {
-  own = ap (λ m. wire m.memory) s.memory;
-  pages = λ m. ap (λ t. (devices_of t.map m).pages) s.maps;
-}
 
 -- what holds of a value that is there
 pub on-some : {T P : Type 0} (r : Option T) (x : T) → r ≡ Some x → OnSome r P → P

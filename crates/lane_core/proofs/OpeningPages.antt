@@ -19,7 +19,7 @@ use Rattle.phys_memory.proofs.Tables.{get_inserted}
 use Rattle.busdma_base.specs.Machine.PageRuns.{physical_in}
 use Rattle.lane_core.specs.OpeningMemory.{IsOwnRun, ArePages, IsOpeningMemory, is_one_of, row_of, HasRun, IsWithout}
 use Rattle.lane_core.proofs.OwnRuns.{no_run, own_at, same_tests, one_of_is, one_of_lo, one_of_hi, no_meeting}
-use Rattle.lane_core.proofs.OwnRuns.{either_false, in_none, own_frame, none_of, twice}
+use Rattle.lane_core.proofs.OwnRuns.{either_false, in_none, own_frame, twice}
 
 -- the first pages of a run
 abbrev pub first_of : PageRun → ℕ → PageRun
@@ -41,13 +41,6 @@ extend base i k v new old rest e is = at (nat_eq v k) refl
         let more : is_one_of base i v ≡ is_one_of base (i + 1) v =
         same_tests _ _ (λ t. grind (arith, nat_tests)) (λ t. grind (arith, nat_tests)) in
         ap (λ b. cond b (Some (old v)) rest) more
-
--- no page of a run is added yet
-pub has_none : (run : PageRun) (m : Memory) → HasRun (first_of run 0) m m
-has_none run m = record {
-  table = λ v. sym (ap (λ b. cond b (Some (row_of run v)) (get m.table v)) (none_of (run.va.0 / 4096) v));
-  frames = λ f. sym (ap (λ b. cond b (Some (replicate 4096 0)) (get m.frames f)) (none_of run.frame f));
-}
 
 -- one page more
 pub has_more : (run : PageRun) (i : ℕ) (m n : Memory) (page : FrameBytes) → run.va.0 % 4096 ≡ 0 →

@@ -1,13 +1,18 @@
 -- What an operation is that makes no call, and one that changes no byte.
-use Rattle.std.proofs.Common.{◌≡◌, ℕ, inl, inr, false, None, ap, sym, ◌∙◌}
+use Rattle.std.proofs.Common.{◌≡◌, ℕ, List, inl, inr, false, None, ap, sym, ◌∙◌}
 use Rattle.std.specs.FinMap.{FinMap, get}
 use Rattle.std.specs.Ordering.{nat_cmp}
 use Rattle.busdma_base.specs.declared.journals.answer.Answer.{Answer}
+use Rattle.busdma_base.specs.declared.scenarios.script.Item.{Item}
 use Rattle.busdma_base.specs.declared.scenarios.script.Op.{Op}
+use Rattle.busdma_base.specs.declared.scenarios.script.Op.TheVariants as op
+use Rattle.busdma_base.specs.declared.scenarios.script.Place.{Place}
+use Rattle.busdma_base.specs.declared.scenarios.script.Place.TheVariants.{At}
 use Rattle.busdma_base.specs.Bounce.Door.{Seen}
 use Rattle.ideal_lane.specs.Asking.{Gives}
 use Rattle.ideal_lane.specs.Turns.{operation}
 use Rattle.ideal_wire.specs.WireStep as wires
+use Rattle.lane_core.specs.declared.buffers.Buffer.{Buffer}
 use Rattle.lane_core.specs.declared.holdings.Answered.{Answered}
 use Rattle.lane_core.specs.declared.holdings.Holdings.{Holdings}
 use Rattle.lane_core.specs.Changes.{IsWireOf, KeepsWhatStays}
@@ -46,3 +51,8 @@ module _ (h k : Holdings) (o p : Op) (same : o ≡ p) where
   pub done-wire : wire_of k ≡ wires.operation p (ideal_of h) (wire_of h) →
       IsWireOf h k (wires.operation o (ideal_of h) (wire_of h))
   done-wire is = inl (is ∙ ap (λ q. wires.operation q (ideal_of h) (wire_of h)) (sym same))
+
+-- a load of the bytes from a place on
+pub load_here : (o : Op) (m : ℕ) (place : Place) (len flags : ℕ) (items : List Item) (b : Buffer) →
+    o ≡ op.Load m place len flags items → At b.va ≡ place → b.len ≡ len → o ≡ op.Load m (At b.va) b.len flags items
+load_here o m place len flags items b is p l = is ∙ (λ i. op.Load m (sym p i) (sym l i) flags items)

@@ -1,6 +1,6 @@
 -- A map whose pages are lent out and taken back.
 use Rattle.std.proofs.Common.{◌≡◌, Some, sym, ap}
-use Rattle.busdma_base.specs.Machine.PageList.{RoomyPages, frames_of}
+use Rattle.busdma_base.specs.Machine.PageList.{RoomyPages}
 use Rattle.dma_map.specs.declared.callback.Transfers.{Transfers}
 use Rattle.dma_map.specs.MapView as held
 use Rattle.lane_core.specs.Kept.{device_in}
@@ -14,10 +14,6 @@ lent-pages (held.loaded bounced segments pages) p h =
     let same : pages ≡ p = cc in ap (λ (q : RoomyPages). q.items) same
 lent-pages (held.lent bounced segments frames) p h = absurd (cc)
 lent-pages held.returning p h = absurd (cc)
-
-pub lent-frames : (s : held.Stage Transfers) (p : RoomyPages) → held.pages_of s ≡ Some p →
-    frames_of (device_in s).pages ≡ frames_of p.items
-lent-frames s p h = ap frames_of (lent-pages s p h)
 
 -- a load whose pages are taken back as they were is what it was
 pub lent-back : (s : held.Stage Transfers) (p : RoomyPages) → held.pages_of s ≡ Some p →

@@ -6,7 +6,7 @@ use Rattle.std.proofs.lemmas.List.{length-map}
 use Rattle.std.specs.List.{AllByRecursion}
 use Rattle.std.specs.Option.{option_map}
 use Rattle.std.specs.Ordering.{nat_cmp}
-use Rattle.std.specs.FinMap.{FinMap, contains_key, get, insert}
+use Rattle.std.specs.FinMap.{FinMap, get, insert}
 use Rattle.busdma_base.specs.declared.name.ZoneId.{ZoneId}
 use Rattle.busdma_base.specs.Machine.Page.{FrameBytes}
 use Rattle.busdma_base.specs.Machine.PageList.{frames_of, page_addresses}

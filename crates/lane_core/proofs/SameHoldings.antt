@@ -10,33 +10,33 @@ use Rattle.lane_core.specs.Covered.{is_tried, lends_pages, pages_due}
 
 pub same-all : (h k : Holdings) → KeepsButAgenda h k → k.agenda ≡ h.agenda → k ≡ h
 same-all h k s agenda = λ i. record {
-  script = s.script i;
-  pages = s.pages i;
-  id = s.id i;
-  maxmem = s.maxmem i;
-  memory = s.memory i;
+  script = s.most.script i;
+  pages = s.most.pages i;
+  id = s.most.id i;
+  maxmem = s.most.maxmem i;
+  memory = s.most.memory i;
   tags = s.tags i;
   maps = s.maps i;
-  memories = s.memories i;
-  loans = s.loans i;
+  memories = s.most.memories i;
+  loans = s.most.loans i;
   agenda = agenda i;
-  shares = s.shares i;
-  covered = is_prop→PathP (λ j. IsCovered (s.memory j).memory (s.loans j).bytes) (λ j. hlevel (props)) k.covered
+  shares = s.most.shares i;
+  covered = is_prop→PathP (λ j. IsCovered (s.most.memory j).memory (s.most.loans j).bytes) (λ j. hlevel (props)) k.covered
       h.covered i;
-  reaches = is_prop→PathP (λ j. Reaches (s.pages j).now (s.memories j).map (s.memory j).memory) (λ j. hlevel (props))
+  reaches = is_prop→PathP (λ j. Reaches (s.most.pages j).now (s.most.memories j).map (s.most.memory j).memory) (λ j. hlevel (props))
       k.reaches h.reaches i;
   tag_places = is_prop→PathP (λ j. (s.tags j).places ≡ (agenda j).length) (λ j. hlevel (props)) k.tag_places
       h.tag_places i;
   map_places = is_prop→PathP (λ j. (s.maps j).places ≡ (agenda j).length) (λ j. hlevel (props)) k.map_places
       h.map_places i;
-  memory_places = is_prop→PathP (λ j. (s.memories j).places ≡ (agenda j).length) (λ j. hlevel (props))
+  memory_places = is_prop→PathP (λ j. (s.most.memories j).places ≡ (agenda j).length) (λ j. hlevel (props))
       k.memory_places h.memory_places i;
-  loaded = is_prop→PathP (λ j. AreLoaded (s.maps j).map (s.loans j).loans) (λ j. hlevel (props)) k.loaded h.loaded i;
+  loaded = is_prop→PathP (λ j. AreLoaded (s.maps j).map (s.most.loans j).loans) (λ j. hlevel (props)) k.loaded h.loaded i;
   unlent = is_prop→PathP (λ j. (m : ℕ) → lends_pages (get (s.maps j).map m) ≡ false) (λ j. hlevel (props)) k.unlent
       h.unlent i;
   promised = is_prop→PathP (λ j. pages_due (s.maps j).map ≤ (agenda j).promised) (λ j. hlevel (props)) k.promised
       h.promised i;
-  own_returns = is_prop→PathP (λ j. AreOwn (s.id j).0 (agenda j).returns) (λ j. hlevel (props)) k.own_returns
+  own_returns = is_prop→PathP (λ j. AreOwn (s.most.id j).0 (agenda j).returns) (λ j. hlevel (props)) k.own_returns
       h.own_returns i;
   returning = is_prop→PathP (λ j. AreReturning (s.maps j).map (agenda j).returns) (λ j. hlevel (props)) k.returning
       h.returning i;

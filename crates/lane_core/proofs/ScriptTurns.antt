@@ -119,25 +119,25 @@ module _ (h : Holdings) (empty : h.agenda.returns ≡ []) where
         gone-on : ideal_of n ≡ record (ideal_of k) { place = h.agenda.place + 1 }
         gone-on =
             (λ i. record {
-              id = (rest.id i).0;
-              maxmem = rest.maxmem i;
-              script = (rest.script i).now;
+              id = (rest.most.id i).0;
+              maxmem = rest.most.maxmem i;
+              script = (rest.most.script i).now;
               place = (agenda i).place;
-              pages = (rest.pages i).now;
+              pages = (rest.most.pages i).now;
               tags = map_values tag_of (rest.tags i).map;
               maps = map_values map_of (rest.maps i).map;
-              mems = map_values memory_of (rest.memories i).map;
-              memory = held (rest.loans i).bytes (rest.loans i).loans (devices_of (rest.maps i).map)
-                  (rest.memory i).memory;
-              loans = (rest.loans i).loans;
+              mems = map_values memory_of (rest.most.memories i).map;
+              memory = held (rest.most.loans i).bytes (rest.most.loans i).loans (devices_of (rest.maps i).map)
+                  (rest.most.memory i).memory;
+              loans = (rest.most.loans i).loans;
               queue = (agenda i).queue;
               returns = map return_of (agenda i).returns;
-              shares = share_of (rest.shares i).items;
+              shares = share_of (rest.most.shares i).items;
             })
             ∙ (λ i. record (ideal_of k) { place = place i + 1 })
 
         same-wire : wire_of n ≡ wire_of k
-        same-wire = (λ i. with_bytes_of (held_pages (rest.maps i).map) (wire (rest.memory i).memory))
+        same-wire = (λ i. with_bytes_of (held_pages (rest.maps i).map) (wire (rest.most.memory i).memory))
 
         wired-on : (w : Wire) → IsWireOf h k w → IsWireOf h n w
         wired-on w (inl is) = inl (same-wire ∙ is)
@@ -145,7 +145,7 @@ module _ (h : Holdings) (empty : h.agenda.returns ≡ []) where
             inr (
               plain,
               record {
-                own = ap (λ m. wire m.memory) rest.memory ∙ keeps.own;
+                own = ap (λ m. wire m.memory) rest.most.memory ∙ keeps.own;
                 pages = λ m. subst (λ t. ((devices_of t.map m).pages ≡ (devices_of h.maps.map m).pages)
                     ⊎ (((devices_of h.maps.map m).pages ≡ []) ⊎ ((devices_of t.map m).pages ≡ [])))
                     (sym rest.maps) (keeps.pages m);
@@ -180,7 +180,7 @@ module _ (h : Holdings) (empty : h.agenda.returns ≡ []) where
             made = (λ i. record {
               lane = gone-on i;
               turn = turns.Stepped (record {
-                actor = record { lane = rest.id i; side = side.Script };
+                actor = record { lane = rest.most.id i; side = side.Script };
                 did = did.Op h.agenda.place;
                 answer = r.answer;
               });

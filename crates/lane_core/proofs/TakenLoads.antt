@@ -119,26 +119,26 @@ module _ (h k : Holdings) (m : ℕ) (o : KeptMap) (there : get h.maps.map m ≡ 
 
   pub taken-ideal : ideal_of k ≡ taken
   taken-ideal i = record {
-    id = (rest.id i).0;
-    maxmem = rest.maxmem i;
-    script = (rest.script i).now;
+    id = (rest.most.id i).0;
+    maxmem = rest.most.maxmem i;
+    script = (rest.most.script i).now;
     place = (rest.agenda i).place;
-    pages = (rest.pages i).now;
+    pages = (rest.most.pages i).now;
     tags = map_values tag_of (rest.tags i).map;
     maps = (ap (map_values map_of) maps ∙ map_values-insert map_of h.maps.map m (idled o)) i;
-    mems = map_values memory_of (rest.memories i).map;
-    memory = ((λ j. held (rest.loans j).bytes (rest.loans j).loans (devices_of (maps j)) (rest.memory j).memory)
+    mems = map_values memory_of (rest.most.memories i).map;
+    memory = ((λ j. held (rest.most.loans j).bytes (rest.most.loans j).loans (devices_of (maps j)) (rest.most.memory j).memory)
         ∙ held-alike h.loans.bytes h.loans.loans (devices_of h.maps.map) (devices_of (insert h.maps.map m (idled o)))
         h.memory.memory (devices-put h.maps.map m (idled o) bare)) i;
-    loans = (rest.loans i).loans;
+    loans = (rest.most.loans i).loans;
     queue = (rest.agenda i).queue;
     returns = map return_of (rest.agenda i).returns;
-    shares = share_of (rest.shares i).items;
+    shares = share_of (rest.most.shares i).items;
   }
 
   pub taken-bytes : KeepsBytes h k
   taken-bytes = record {
-    own = ap (λ x. wire x.memory) rest.memory;
+    own = ap (λ x. wire x.memory) rest.most.memory;
     pages = λ q. ap (λ ms. (devices_of ms q).pages) maps
         ∙ ap (λ d. d.pages) (devices-put h.maps.map m (idled o) bare q);
   }

@@ -7,7 +7,7 @@ use Rattle.std.specs.List.{AllByRecursion}
 use Rattle.std.specs.Ordering.{nat_cmp}
 use Rattle.std.specs.FinMap.{FinMap, get}
 use Rattle.std.proofs.lemmas.Bool.{eq-eqb, ne_eqb, lt-ltb, le-leb, lt-leb, le-ltb, cases_lt}
-use Rattle.std.proofs.lemmas.List.{at_drop_more, drop_more, drop_all, drop-drop, get_or-map, map-append}
+use Rattle.std.proofs.lemmas.List.{at_drop_more, drop_more, drop-drop, get_or-map, map-append}
 use Rattle.std.proofs.lemmas.List.Sums.{sum_by-cons}
 use Rattle.busdma_base.specs.declared.machine.address.Extent.{Extent}
 use Rattle.busdma_base.specs.Runs.{run_of, addresses, byte_count}
@@ -20,7 +20,7 @@ use Rattle.loan_table.proofs.Marking.{no_position}
 use Rattle.loan_table.proofs.Judgement.{length-run_of}
 use Rattle.lane_core.specs.Covered.{IsCovered}
 use Rattle.phys_memory.specs.Frames.{Lie, SamePages}
-use Rattle.busdma_base.specs.Machine.Wire.{put, stretch}
+use Rattle.busdma_base.specs.Machine.Wire.{put}
 use Rattle.lane_core.proofs.Marks.{has_inserted}
 
 -- nothing is written without values
@@ -149,24 +149,6 @@ load_more buffer at h =
     ∙ ap (λ a. a ∷ addresses_of (drop (at + 1) buffer))
     (sym (get_or-map (λ (p : Position). p.pa) buffer at no_position 0 h))
 
--- one byte of a load is written, and the others are left to write
-pub byte_written : (buffer : List Position) (at : ℕ) (bytes : List ℕ) (i a : ℕ) (w now : ℕ → ℕ) → at < length buffer →
-    i < length bytes → a ≡ slice_index (addresses_of buffer) at → now ≡ written a (slice_index bytes i ∷ []) w
-    → put (addresses_of (drop (at + 1) buffer)) (drop (i + 1) bytes) now
-    ≡ put (addresses_of (drop at buffer)) (drop i bytes) w
-byte_written buffer at bytes i a w now h k e is =
-    ap (put (addresses_of (drop (at + 1) buffer)) (drop (i + 1) bytes)) (is
-    ∙ written_run a (slice_index bytes i ∷ []) w)
-    ∙ sym (ap (λ vs. put (a ∷ addresses_of (drop (at + 1) buffer)) vs w) (drop_more bytes i 0 k))
-    ∙ ap (λ q. put (q ∷ addresses_of (drop (at + 1) buffer)) (drop i bytes) w) e
-    ∙ sym (ap (λ ks. put ks (drop i bytes) w) (load_more buffer at h))
-
--- no byte is left to write
-pub wired_end : (keys bytes : List ℕ) (i : ℕ) (now w : ℕ → ℕ) → length bytes ≤ i →
-    put keys (drop i bytes) now ≡ w → now ≡ w
-wired_end keys bytes i now w h e =
-    sym (wired_none keys now) ∙ sym (ap (λ vs. put keys vs now) (drop_all i bytes h)) ∙ e
-
 -- no more addresses are written than there are bytes
 front : (ps : List Position) (vs : List ℕ) (w : ℕ → ℕ) →
     put (addresses_of ps) vs w ≡ put (addresses_of (take (length vs) ps)) vs w
@@ -175,30 +157,10 @@ front [] (v ∷ vs) w = refl
 front (p ∷ ps) [] w = refl
 front (p ∷ ps) (v ∷ vs) w = front ps vs (λ b. cond (b == p.pa) v (w b))
 
-pub wired_front : (buffer : List Position) (off : ℕ) (bytes : List ℕ) (w : ℕ → ℕ) →
-    put (addresses_of (drop off buffer)) bytes w ≡ put (addresses_of (stretch off (length bytes) buffer)) bytes w
-wired_front buffer off bytes w = front (drop off buffer) bytes w
-
 -- a byte of the lane's table lies in a frame
 pub in_frame : (m : Memory) (bytes : FinMap nat_cmp Bool) (a : ℕ) → IsCovered m bytes →
     IsSome (get bytes a) → has_frame m (a / 4096) ≡ true
 in_frame m bytes a c h = sym (c a) ∙ h
-
--- one byte of a load is read, and the others are left to read
-pub byte_read : (buffer : List Position) (at end : ℕ) (items now : List ℕ) (w : ℕ → ℕ) (v : ℕ) → at < end →
-    end ≤ length buffer → now ≡ items ++ v ∷ [] → v ≡ w (slice_index (addresses_of buffer) at)
-    → now ++ map w (addresses_of (stretch (at + 1) (end - (at + 1)) buffer)) ≡ items
-    ++ map w (addresses_of (stretch at (end - at) buffer))
-byte_read buffer at end items now w v h k is e =
-    let more : end - at ≡ suc (end - (at + 1)) = omega arith in
-    let left = take (end - (at + 1)) (drop (at + 1) buffer) in
-    let all : addresses_of (stretch at (end - at) buffer) ≡ slice_index (addresses_of buffer) at ∷ addresses_of left =
-    ap (λ n. addresses_of (take n (drop at buffer))) more
-    ∙ ap (λ ps. addresses_of (take (suc (end - (at + 1))) ps)) (drop_more buffer at no_position (omega arith))
-    ∙ ap (λ a. a ∷ addresses_of left) (sym (get_or-map (λ (p : Position). p.pa) buffer at no_position 0 (omega arith)))
-    in
-    ap (λ xs. xs ++ map w (addresses_of left)) is ∙ append_assoc items (v ∷ []) (map w (addresses_of left))
-    ∙ ap (λ b. items ++ b ∷ map w (addresses_of left)) e ∙ sym (ap (λ ks. items ++ map w ks) all)
 
 -- a part of the bytes is read, and the others are left to read
 pub part_read : (keys rest : List ℕ) (pa n done : ℕ) (out now filled : List ℕ) (w : ℕ → ℕ) →

@@ -38,41 +38,31 @@ pub record KeepsState (h k : Holdings) : Type 0 where
   pub ideal : ideal_of k ≡ ideal_of h
   pub bytes : KeepsBytes h k
 
--- all but the tags
-pub record KeepsButTags (h k : Holdings) : Type 0 where
+-- all but the tags, the maps and the agenda
+pub record KeepsMost (h k : Holdings) : Type 0 where
   pub script : k.script ≡ h.script
   pub pages : k.pages ≡ h.pages
   pub id : k.id ≡ h.id
   pub maxmem : k.maxmem ≡ h.maxmem
   pub memory : k.memory ≡ h.memory
-  pub maps : k.maps ≡ h.maps
   pub memories : k.memories ≡ h.memories
   pub loans : k.loans ≡ h.loans
-  pub agenda : k.agenda ≡ h.agenda
   pub shares : k.shares ≡ h.shares
+
+-- all but the tags
+pub record KeepsButTags (h k : Holdings) : Type 0 where
+  pub most : KeepsMost h k
+  pub maps : k.maps ≡ h.maps
+  pub agenda : k.agenda ≡ h.agenda
 
 -- all but the maps
 pub record KeepsButMaps (h k : Holdings) : Type 0 where
-  pub script : k.script ≡ h.script
-  pub pages : k.pages ≡ h.pages
-  pub id : k.id ≡ h.id
-  pub maxmem : k.maxmem ≡ h.maxmem
-  pub memory : k.memory ≡ h.memory
+  pub most : KeepsMost h k
   pub tags : k.tags ≡ h.tags
-  pub memories : k.memories ≡ h.memories
-  pub loans : k.loans ≡ h.loans
   pub agenda : k.agenda ≡ h.agenda
-  pub shares : k.shares ≡ h.shares
 
 -- all but the agenda
 pub record KeepsButAgenda (h k : Holdings) : Type 0 where
-  pub script : k.script ≡ h.script
-  pub pages : k.pages ≡ h.pages
-  pub id : k.id ≡ h.id
-  pub maxmem : k.maxmem ≡ h.maxmem
-  pub memory : k.memory ≡ h.memory
+  pub most : KeepsMost h k
   pub tags : k.tags ≡ h.tags
   pub maps : k.maps ≡ h.maps
-  pub memories : k.memories ≡ h.memories
-  pub loans : k.loans ≡ h.loans
-  pub shares : k.shares ≡ h.shares

@@ -2,6 +2,7 @@
 
 ghost use Rattle.std.specs.Prelude.{◌≡◌, ◌≤◌, ◌^◌, ◌++◌, ◌+◌, [], length, min, true, false};
 ghost use Rattle.std.specs.List.{AllByRecursion};
+ghost use Rattle.busdma_base.specs.declared.scenarios.script.Place.TheVariants.{At};
 ghost use Rattle.busdma_base.specs.Bounce.AccountStep.{as_pages};
 ghost use Rattle.busdma_base.specs.Machine.PageList.{page_addresses};
 ghost use Rattle.phys_memory.specs.Memory.{physical};
@@ -11,7 +12,7 @@ ghost use Rattle.segment_build.specs.Chunks.{need_of};
 ghost use Rattle.segment_build.specs.Streams.{IsBuiltFrom, IsMeasured, OverflowsFrom, stream_chunks};
 ghost use Rattle.segment_build.specs.Trace.{IsPage};
 
-use busdma_base::{Pa, Page, RoomyList, Segment, SegmentRoom, Va};
+use busdma_base::{Pa, Page, Place, RoomyList, Segment, SegmentRoom, Va};
 use dma_map::LoadRoom;
 use dma_tag::Tag;
 use phys_memory::LanePages;
@@ -22,6 +23,18 @@ use segment_build::{Measured, build_into, fronts_ask_no_more, measure};
 pub(crate) struct Buffer {
     pub(crate) va: Va,
     pub(crate) len: u64,
+}
+
+impl Buffer {
+    /// `len` bytes from a place on.
+    pub(crate) fn at(place: Place, len: u64) -> Buffer
+        ensures place { At result.va ≡ place }
+        ensures len { result.len ≡ len }
+    {
+        match place {
+            Place::At(va) => Buffer { va, len },
+        }
+    }
 }
 
 /// The measure of the load of a buffer, without memory.

@@ -19,7 +19,7 @@ ghost use Rattle.lane_core.specs.Turning.{IsMade, IsReady};
 use crate::buffers::Buffer;
 use crate::holdings::Holdings;
 use crate::turn::{Turn, stepped};
-use busdma_base::{Answer, Called, Did, HubDoor, Op, PageList, Place, Side, Va};
+use busdma_base::{Answer, Called, Did, HubDoor, Op, PageList, Side, Va};
 use dma_map::{LoadRoom, Transfers};
 
 impl Holdings<'_> {
@@ -92,16 +92,32 @@ impl Holdings<'_> {
             slice_get self.now.script.now load_at ≡ Some (Load m (At va) len flags items) →
             result ≡ record { va = va; len = len } }
     {
-        let Some(
-            Op::Load {
-                place: Place::At(va),
-                len,
-                ..
-            },
-        ) = self.script.get(load_at as usize)
-        else {
-            return Buffer { va: Va(0), len: 0 };
-        };
-        Buffer { va: *va, len: *len }
+        match self.script.get(load_at as usize) {
+            Some(op) => buffer_of(op),
+            None => NO_BYTE,
+        }
+    }
+}
+
+/// The buffer of no byte.
+const NO_BYTE: Buffer = Buffer { va: Va(0), len: 0 };
+
+/// The buffer that an operation loads; one of no byte where it loads none.
+fn buffer_of(op: &Op) -> Buffer
+    ensures { (m : ℕ) (va : Va) (len flags : ℕ) (items : List Item) → op.now ≡ Load m (At va) len flags items →
+        result ≡ record { va = va; len = len } }
+{
+    match op {
+        Op::Load { place, len, .. } => Buffer::at(*place, *len),
+        Op::Tag { .. }
+        | Op::TagDestroy { .. }
+        | Op::Map { .. }
+        | Op::MapDestroy { .. }
+        | Op::Unload { .. }
+        | Op::Sync { .. }
+        | Op::SyncRange { .. }
+        | Op::CpuRead { .. }
+        | Op::CpuWrite { .. }
+        | Op::Await { .. } => NO_BYTE,
     }
 }

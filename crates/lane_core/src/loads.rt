@@ -29,8 +29,8 @@ use crate::buffers::{Buffer, build_buffer, copy_segments, measure_buffer, write_
 use crate::holdings::{Answered, Holdings, report};
 use bitflags::Flags;
 use busdma_base::{
-    Answer, ChunkRoom, Errno, HubDoor, ItemList, Judged, Page, PageList, Place, ReportName,
-    RoomyList, SegmentRoom, ZoneId,
+    Answer, ChunkRoom, Errno, HubDoor, ItemList, Judged, Page, PageList, ReportName, RoomyList,
+    SegmentRoom, ZoneId,
 };
 use dma_map::{LoadRoom, MapState};
 use dma_tag::LoadFlags;
@@ -76,53 +76,9 @@ impl Holdings<'_> {
     ghost use Rattle.lane_core.specs.Changes.{KeepsBytesBut, KeepsState, KeepsWhatStays};
     ghost use Rattle.lane_core.specs.Ideal.{given, ideal_of};
 
-    /// Loads a map that is not a memory's with `len` bytes at a place. It takes all its memory before its one call at
-    /// the door, and changes the driver after that.
+    /// Loads a map that is not a memory's with a buffer. It takes all its memory before its one call at the door, and
+    /// changes the driver after that.
     pub(crate) fn load<D: HubDoor>(
-        &mut self,
-        alloc: Global,
-        door: &mut D,
-        map: u32,
-        place: Place,
-        len: u64,
-        flags: u32,
-        items: &ItemList,
-    ) -> Result<Answered, AllocError>
-        requires stands { Stands (ideal_of self.old) }
-        requires own { get self.old.memories.map map ≡ None }
-        requires awaiting { AreAwaiting self.old }
-        requires here { slice_get self.old.script.now self.old.agenda.place
-            ≡ Some (Load map place len flags items.now) }
-        requires small { len ≤ 2 ^ 20 }
-        requires few_items { length items.now ≤ self.old.agenda.room }
-        requires few_pages { self.old.agenda.promised + len < 2 ^ 32 }
-        requires allowed { IsAllowedBy (D.seen door.old) self.old.id.0
-            (load_at_place map place len flags items.now (ideal_of self.old)) }
-        ensures done { IfOk result (λ r. IsDone (D.seen door.old) self.old.id.0
-            (load_at_place map place len flags items.now (ideal_of self.old))
-            (given self.new r.answer) (D.seen door.new)) }
-        ensures held { IfOk result (λ r. r.held ≡ asks
-            (load_at_place map place len flags items.now (ideal_of self.old))) }
-        ensures err { OnErr result (KeepsState self.old self.new) }
-        ensures unpromised { OnErr result (self.new.agenda ≡ self.old.agenda) }
-        ensures undone { OnErr result (IsUndone (D.seen door.old) (D.seen door.new)) }
-        ensures awaiting { AreAwaiting self.new }
-        ensures bytes { KeepsWhatStays self.old self.new }
-        ensures memories { self.new.memories ≡ self.old.memories }
-        ensures place { self.new.agenda.place ≡ self.old.agenda.place }
-        ensures length { self.new.agenda.length ≡ self.old.agenda.length }
-        ensures capacity { self.new.agenda.room + length self.new.agenda.queue
-            ≡ self.old.agenda.room + length self.old.agenda.queue }
-        ensures promised { self.new.agenda.promised ≤ self.old.agenda.promised + len }
-        ensures fixed { D.fixed door.new ≡ D.fixed door.old }
-    {
-        match place {
-            Place::At(va) => self.load_at(alloc, door, map, Buffer { va, len }, flags, items),
-        }
-    }
-
-    /// Loads a map that is not a memory's with a buffer.
-    fn load_at<D: HubDoor>(
         &mut self,
         alloc: Global,
         door: &mut D,

@@ -7,6 +7,7 @@ ghost use Rattle.ideal_lane.specs.Turns as turns;
 ghost use Rattle.ideal_wire.specs.WireStep as wires;
 ghost use Rattle.lane_core.specs.Doing.{IsAllowedBy, IsDone, IsUndone, asks};
 
+use crate::buffers::Buffer;
 use crate::holdings::{Answered, Holdings, unheld};
 use busdma_base::{HubDoor, Op};
 use dma_tag::SyncOps;
@@ -64,7 +65,10 @@ impl Holdings<'_> {
                 len,
                 flags,
                 then,
-            } => self.load(alloc, door, *map, *place, *len, *flags, then),
+            } => {
+                let buffer = Buffer::at(*place, *len);
+                self.load(alloc, door, *map, buffer, *flags, then)
+            }
             Op::Unload { map } => Ok(unheld(self.unload(*map))),
             Op::Sync { map, ops } => Ok(unheld(self.sync(alloc, *map, SyncOps(*ops))?)),
             Op::SyncRange { map, off, len, ops } => {

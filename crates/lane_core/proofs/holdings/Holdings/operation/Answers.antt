@@ -1,4 +1,4 @@
-use Rattle.std.proofs.Common.{◌≡◌, ◌≤◌, ◌<◌, ◌+◌, ◌^◌, IfOk, length, refl, ap, sym, ◌∙◌, subst, arith}
+use Rattle.std.proofs.Common.{◌≡◌, ◌≤◌, ◌<◌, ◌+◌, ◌^◌, IfOk, Some, length, refl, ap, sym, ◌∙◌, subst, arith}
 use Rattle.busdma_base.specs.declared.scenarios.script.Op.{Op}
 use Rattle.busdma_base.specs.Scenarios.Limits.{buffer_limit}
 use Rattle.busdma_base.specs.Scenarios.Operations.{items_of, loaded_by}
@@ -13,7 +13,7 @@ use Rattle.lane_core.proofs.Doors.{always-ok}
 use Rattle.lane_core.proofs.Following.{stays-all, stays-held}
 use Rattle.lane_core.proofs.ScriptTurns.{few-items}
 use Rattle.lane_core.proofs.SmallLoads.{few-promised}
-use Rattle.lane_core.proofs.OperationSteps.{done-wire, paged-wire, quiet-done, quiet-held, vacant}
+use Rattle.lane_core.proofs.OperationSteps.{done-wire, load_here, paged-wire, quiet-done, quiet-held, vacant}
 use Rattle.lane_core.proofs.holdings.Holdings.operation.Goals as goal
 
 pub make_tag-requires-clause-allowed : goal.make_tag-requires-clause-allowed
@@ -67,7 +67,8 @@ returns-in-Map-clause-wire g c =
 pub load-requires-clause-allowed : goal.load-requires-clause-allowed
 load-requires-clause-allowed g c =
     let h = c.args.self.now in
-    subst (λ (o : Op). IsAllowedBy (g.D.HubDoor.seen c.args.door.now) h.id.0 (operation o (ideal_of h))) c.in-Load.is
+    subst (λ (o : Op). IsAllowedBy (g.D.HubDoor.seen c.args.door.now) h.id.0 (operation o (ideal_of h)))
+    (load_here c.args.op.now _ _ _ _ _ c.at-buffer.result c.in-Load.is c.at-buffer.ensures.place c.at-buffer.ensures.len)
     c.requires.allowed
 
 pub returns-in-Load-clause-done : goal.returns-in-Load-clause-done
@@ -75,17 +76,17 @@ returns-in-Load-clause-done g c =
     let h = c.args.self.now in
     subst (λ (o : Op). IfOk c.load.result (λ r. IsDone (g.D.HubDoor.seen c.args.door.now) h.id.0
     (operation o (ideal_of h)) (given c.load.new.self r.answer) (g.D.HubDoor.seen c.load.new.door)))
-    (sym c.in-Load.is) c.load.ensures.done
+    (sym (load_here c.args.op.now _ _ _ _ _ c.at-buffer.result c.in-Load.is c.at-buffer.ensures.place c.at-buffer.ensures.len)) c.load.ensures.done
 
 pub returns-in-Load-clause-held : goal.returns-in-Load-clause-held
 returns-in-Load-clause-held g c =
     let h = c.args.self.now in
-    subst (λ (o : Op). IfOk c.load.result (λ r. r.held ≡ asks (operation o (ideal_of h)))) (sym c.in-Load.is)
+    subst (λ (o : Op). IfOk c.load.result (λ r. r.held ≡ asks (operation o (ideal_of h)))) (sym (load_here c.args.op.now _ _ _ _ _ c.at-buffer.result c.in-Load.is c.at-buffer.ensures.place c.at-buffer.ensures.len))
     c.load.ensures.held
 
 pub returns-in-Load-clause-wire : goal.returns-in-Load-clause-wire
 returns-in-Load-clause-wire g c =
-    always-ok c.load.result (paged-wire c.args.self.now c.load.new.self c.args.op.now _ c.in-Load.is refl
+    always-ok c.load.result (paged-wire c.args.self.now c.load.new.self c.args.op.now _ (load_here c.args.op.now _ _ _ _ _ c.at-buffer.result c.in-Load.is c.at-buffer.ensures.place c.at-buffer.ensures.len) refl
     c.load.ensures.bytes)
 
 pub destroy_map-requires : goal.destroy_map-requires
@@ -225,20 +226,27 @@ make_map-requires-clause-vacant g c =
     let h = c.args.self.now in
     vacant map_of h.maps.map h.agenda.place (c.requires.stands.no_map h.agenda.place (omega arith))
 
+pub load-requires-clause-here : goal.load-requires-clause-here
+load-requires-clause-here g c =
+    c.requires.here ∙ ap (λ (o : Op). Some o) (load_here c.args.op.now _ _ _ _ _ c.at-buffer.result c.in-Load.is c.at-buffer.ensures.place c.at-buffer.ensures.len)
+
 pub load-requires-clause-small : goal.load-requires-clause-small
 load-requires-clause-small g c =
     let h = c.args.self.now in
-    subst (λ (o : Op). loaded_by o ≤ buffer_limit) c.in-Load.is
+    subst (λ (o : Op). loaded_by o ≤ buffer_limit)
+    (load_here c.args.op.now _ _ _ _ _ c.at-buffer.result c.in-Load.is c.at-buffer.ensures.place c.at-buffer.ensures.len)
     (c.requires.provided.small.each h.agenda.place c.args.op.now c.requires.here)
 
 pub load-requires-clause-few_items : goal.load-requires-clause-few_items
 load-requires-clause-few_items g c =
     let h = c.args.self.now in
-    subst (λ (o : Op). length (items_of o) ≤ h.agenda.room) c.in-Load.is
+    subst (λ (o : Op). length (items_of o) ≤ h.agenda.room)
+    (load_here c.args.op.now _ _ _ _ _ c.at-buffer.result c.in-Load.is c.at-buffer.ensures.place c.at-buffer.ensures.len)
     (few-items h c.args.op.now c.requires.here c.requires.room)
 
 pub load-requires-clause-few_pages : goal.load-requires-clause-few_pages
 load-requires-clause-few_pages g c =
     let h = c.args.self.now in
-    subst (λ (o : Op). h.agenda.promised + loaded_by o < 2 ^ 32) c.in-Load.is
+    subst (λ (o : Op). h.agenda.promised + loaded_by o < 2 ^ 32)
+    (load_here c.args.op.now _ _ _ _ _ c.at-buffer.result c.in-Load.is c.at-buffer.ensures.place c.at-buffer.ensures.len)
     (few-promised h c.requires.provided.small c.args.op.now c.requires.here)

@@ -113,5 +113,5 @@ returns-clause-provided g c =
     provided-next h n c.requires.provided (c.advance.ensures.awaiting done.awaiting)
     (made-script h n (g.D.HubDoor.seen c.args.door.now) (g.D.HubDoor.seen c.operation.new.door) side.Script
     c.stepped.result c.requires.ready (returns-clause-made g c))
-    (c.advance.ensures.rest.memories ∙ done.memories) c.in-Some.op.now here
+    (c.advance.ensures.rest.most.memories ∙ done.memories) c.in-Some.op.now here
     (ap (λ a. a.place) on ∙ ap (λ p. p + 1) done.place) (omega (arith, promised, few))

@@ -23,7 +23,7 @@ use Rattle.lane_core.proofs.Following.{stays-all}
 use Rattle.lane_core.proofs.IdlePages.{stays-idle, stays-same}
 use Rattle.lane_core.proofs.Keeping.{state-busy, state-idle}
 use Rattle.lane_core.proofs.MapValues.{image-none, image-some}
-use Rattle.lane_core.proofs.holdings.Holdings.load_at.Goals as goal
+use Rattle.lane_core.proofs.holdings.Holdings.load.Goals as goal
 
 pub returns-in_default-clause-done : goal.returns-in_default-clause-done
 returns-in_default-clause-done g c =
