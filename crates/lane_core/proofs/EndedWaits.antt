@@ -172,7 +172,7 @@ module _ (h k : Holdings) (m at : ℕ) (callback : Transfers) (room : LoadRoom)
             let chunks = chunks_for l (map_of o) (contains_key l.mems m) asks.entries in
             let stays =
             stays-finished m (map_of o) at asks chunks pages l (ideal_of n) (ap (λ (x : Outcome). x.lane) ended) in
-            let script : n.script.now ≡ h.script.now = stays.rest.most.script in
+            let script : n.script.now ≡ h.script.now = stays.rest.script in
             let place : n.agenda.place ≡ h.agenda.place = same ∙ ap (λ a. a.place) rest.agenda in
             let promised : k.agenda.promised ≡ h.agenda.promised = ap (λ a. a.promised) rest.agenda in
             let ahead : bytes_ahead n.agenda.place n.script.now ≡ bytes_ahead h.agenda.place h.script.now =

@@ -76,12 +76,15 @@ map_at before here =
     used_name kind.Tag (codes "tag") before here >>= (λ tag.
     Ok (op.Map name tag))))
 
+-- the map of an operation that says nothing else
+unfoldable pub only_map_at : List Op → Spot → Read ℕ
+only_map_at before here =
+    only_keys (one_of (codes "op" ∷ codes "map" ∷ [])) here >>= (λ _.
+    used_name kind.Map (codes "map") before here)
+
 -- the end of a map
 unfoldable pub map_destroy_at : List Op → Spot → Read Op
-map_destroy_at before here =
-    only_keys (one_of (codes "op" ∷ codes "map" ∷ [])) here >>= (λ _.
-    used_name kind.Map (codes "map") before here >>= (λ map.
-    Ok (op.MapDestroy map)))
+map_destroy_at before here = only_map_at before here >>= (λ map. Ok (op.MapDestroy map))
 
 -- what a load says before its items
 unfoldable pub load_head_at : List Op → Spot → Read LoadHead
@@ -104,10 +107,7 @@ load_at before c here =
 
 -- an unload
 unfoldable pub unload_at : List Op → Spot → Read Op
-unload_at before here =
-    only_keys (one_of (codes "op" ∷ codes "map" ∷ [])) here >>= (λ _.
-    used_name kind.Map (codes "map") before here >>= (λ map.
-    Ok (op.Unload map)))
+unload_at before here = only_map_at before here >>= (λ map. Ok (op.Unload map))
 
 -- a sync of the whole load
 unfoldable pub sync_at : List Op → Spot → Read Op
@@ -137,7 +137,4 @@ cpu_write_at here =
 
 -- a wait for a map
 unfoldable pub await_at : List Op → Spot → Read Op
-await_at before here =
-    only_keys (one_of (codes "op" ∷ codes "map" ∷ [])) here >>= (λ _.
-    used_name kind.Map (codes "map") before here >>= (λ map.
-    Ok (op.Await map)))
+await_at before here = only_map_at before here >>= (λ map. Ok (op.Await map))

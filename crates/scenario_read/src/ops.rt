@@ -1,6 +1,8 @@
 //! The operations of a script.
 
 ghost use Rattle.std.specs.Prelude.{◌≡◌, ◌≤◌, length, IfOk, true};
+ghost use Rattle.busdma_base.specs.Scenarios.Names.{IsMade};
+ghost use Rattle.busdma_base.specs.Scenarios.Operations.{map_at};
 ghost use Rattle.busdma_base.specs.Scenarios.Script.{IsOp};
 ghost use Rattle.json_fields.specs.Read.{Gives};
 ghost use Rattle.json_fields.specs.Field.{spot_of};
@@ -106,6 +108,17 @@ pub(crate) fn map(here: &Node, before: &[Op]) -> Result<Op, Stop>
     Ok(Op::Map { name, tag })
 }
 
+// The map of an operation that says nothing else.
+#[tactic(auto, unfolding(crate::specs::Ops::only_map_at))]
+fn only_map(here: &Node, before: &[Op]) -> Result<u32, Stop>
+    requires { length before.now ≤ steps_limit }
+    ensures value { Gives result (ops.only_map_at before.now (spot_of here.now)) }
+    ensures made { IfOk result (λ m. IsMade before.now (map_at m)) }
+{
+    here.only_keys(&["op", "map"])?;
+    used_name(here, NameKind::Map, "map", before)
+}
+
 #[tactic(auto, unfolding(crate::specs::Ops::map_destroy_at))]
 pub(crate) fn map_destroy(here: &Node, before: &[Op]) -> Result<Op, Stop>
     requires { length before.now ≤ steps_limit }
@@ -113,8 +126,7 @@ pub(crate) fn map_destroy(here: &Node, before: &[Op]) -> Result<Op, Stop>
     ensures valid { IfOk result (IsOp before.now) }
     ensures quiet { IfOk result IsQuiet }
 {
-    here.only_keys(&["op", "map"])?;
-    let map = used_name(here, NameKind::Map, "map", before)?;
+    let map = only_map(here, before)?;
     Ok(Op::MapDestroy { map })
 }
 
@@ -125,8 +137,7 @@ pub(crate) fn unload(here: &Node, before: &[Op]) -> Result<Op, Stop>
     ensures valid { IfOk result (IsOp before.now) }
     ensures quiet { IfOk result IsQuiet }
 {
-    here.only_keys(&["op", "map"])?;
-    let map = used_name(here, NameKind::Map, "map", before)?;
+    let map = only_map(here, before)?;
     Ok(Op::Unload { map })
 }
 
@@ -195,7 +206,6 @@ pub(crate) fn await_op(here: &Node, before: &[Op]) -> Result<Op, Stop>
     ensures valid { IfOk result (IsOp before.now) }
     ensures quiet { IfOk result IsQuiet }
 {
-    here.only_keys(&["op", "map"])?;
-    let map = used_name(here, NameKind::Map, "map", before)?;
+    let map = only_map(here, before)?;
     Ok(Op::Await { map })
 }

@@ -212,14 +212,16 @@ returns-in_err-map-clause-awaiting g c = awaits-same c.args.self.now _ refl refl
 pub returns-in_err-map-clause-same : goal.returns-in_err-map-clause-same
 returns-in_err-map-clause-same g c =
     on-none c.from_residual.result (same-all c.args.self.now _ (record {
-      script = refl;
-      pages = refl;
-      id = refl;
-      maxmem = refl;
-      memory = refl;
+      most = record {
+        script = refl;
+        pages = refl;
+        id = refl;
+        maxmem = refl;
+        memory = refl;
+        memories = refl;
+        loans = refl;
+        shares = refl;
+      };
       tags = refl;
       maps = refl;
-      memories = refl;
-      loans = refl;
-      shares = refl;
     }) c.in_err-map.ensures.none)
