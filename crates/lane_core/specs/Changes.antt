@@ -1,5 +1,5 @@
 -- What of a driver's holdings a step leaves as it was.
-use Rattle.std.specs.Prelude.{◌≡◌, ℕ, ◌==◌, false, [], ◌⊎◌}
+use Rattle.std.specs.Prelude.{◌≡◌, ℕ, ◌+◌, ◌==◌, false, [], ◌⊎◌, length}
 use Rattle.busdma_base.specs.Machine.Wire.{Wire}
 use Rattle.phys_memory.specs.Memory.{wire}
 use Rattle.lane_core.specs.declared.holdings.Holdings.{Holdings}
@@ -66,3 +66,9 @@ pub record KeepsButAgenda (h k : Holdings) : Type 0 where
   pub most : KeepsMost h k
   pub tags : k.tags ≡ h.tags
   pub maps : k.maps ≡ h.maps
+
+-- the place in the script and its end, and the room for items with those that are queued
+pub record KeepsAgenda (h k : Holdings) : Type 0 where
+  pub place : k.agenda.place ≡ h.agenda.place
+  pub end : k.agenda.length ≡ h.agenda.length
+  pub capacity : k.agenda.room + length k.agenda.queue ≡ h.agenda.room + length h.agenda.queue

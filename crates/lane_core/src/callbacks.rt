@@ -23,7 +23,7 @@ use busdma_base::{Answer, Called, Did, HubDoor, Op, PageList, Side, Va};
 use dma_map::{LoadRoom, Transfers};
 
 impl Holdings<'_> {
-    ghost use Rattle.lane_core.specs.Changes.{KeepsButMaps, KeepsBytesBut};
+    ghost use Rattle.lane_core.specs.Changes.{KeepsAgenda, KeepsButMaps, KeepsBytesBut};
     ghost use Rattle.lane_core.specs.Ideal.{given, ideal_of};
 
     /// The callback at the head of the callback list, where it is this driver's: its load ends with its pages.
@@ -60,9 +60,7 @@ impl Holdings<'_> {
         ensures small { HasSmallLoads self.new }
         ensures promised { self.new.agenda.promised ≤ self.old.agenda.promised }
         ensures memories { self.new.memories ≡ self.old.memories }
-        ensures length { self.new.agenda.length ≡ self.old.agenda.length }
-        ensures capacity { self.new.agenda.room + length self.new.agenda.queue
-            ≡ self.old.agenda.room + length self.old.agenda.queue }
+        ensures agenda { KeepsAgenda self.old self.new }
     {
         let Some(load) = self.take_load(map) else {
             return Answer::Done;

@@ -73,7 +73,7 @@ fn take_room(alloc: Global, wanted: Wanted) -> Result<LoadRoom, AllocError>
 
 impl Holdings<'_> {
     ghost use Rattle.lane_core.specs.Awaiting.{AreAwaiting, AreAwaitingBut, IsNextLoad};
-    ghost use Rattle.lane_core.specs.Changes.{KeepsBytesBut, KeepsState, KeepsWhatStays};
+    ghost use Rattle.lane_core.specs.Changes.{KeepsAgenda, KeepsBytesBut, KeepsState, KeepsWhatStays};
     ghost use Rattle.lane_core.specs.Ideal.{given, ideal_of};
 
     /// Loads a map that is not a memory's with a buffer. It takes all its memory before its one call at the door, and
@@ -108,10 +108,7 @@ impl Holdings<'_> {
         ensures awaiting { AreAwaiting self.new }
         ensures bytes { KeepsWhatStays self.old self.new }
         ensures memories { self.new.memories ≡ self.old.memories }
-        ensures place { self.new.agenda.place ≡ self.old.agenda.place }
-        ensures length { self.new.agenda.length ≡ self.old.agenda.length }
-        ensures capacity { self.new.agenda.room + length self.new.agenda.queue
-            ≡ self.old.agenda.room + length self.old.agenda.queue }
+        ensures agenda { KeepsAgenda self.old self.new }
         ensures promised { self.new.agenda.promised ≤ self.old.agenda.promised + buffer.len }
         ensures fixed { D.fixed door.new ≡ D.fixed door.old }
     {
@@ -274,10 +271,7 @@ impl Holdings<'_> {
         ensures awaiting { AreAwaiting self.new }
         ensures bytes { KeepsBytesBut map self.old self.new }
         ensures memories { self.new.memories ≡ self.old.memories }
-        ensures place { self.new.agenda.place ≡ self.old.agenda.place }
-        ensures length { self.new.agenda.length ≡ self.old.agenda.length }
-        ensures capacity { self.new.agenda.room + length self.new.agenda.queue
-            ≡ self.old.agenda.room + length self.old.agenda.queue }
+        ensures agenda { KeepsAgenda self.old self.new }
         ensures promised { self.new.agenda.promised ≤ self.old.agenda.promised }
     {
         let few = self.build_load(map, buffer, pages.as_slice(), &mut room);
@@ -326,10 +320,7 @@ impl Holdings<'_> {
         ensures awaiting { AreAwaiting self.new }
         ensures bytes { KeepsBytesBut map self.old self.new }
         ensures memories { self.new.memories ≡ self.old.memories }
-        ensures place { self.new.agenda.place ≡ self.old.agenda.place }
-        ensures length { self.new.agenda.length ≡ self.old.agenda.length }
-        ensures capacity { self.new.agenda.room + length self.new.agenda.queue
-            ≡ self.old.agenda.room + length self.old.agenda.queue }
+        ensures agenda { KeepsAgenda self.old self.new }
         ensures promised { self.new.agenda.promised ≤ self.old.agenda.promised }
     {
         let room = take_room(alloc, wanted)?;
@@ -378,10 +369,7 @@ impl Holdings<'_> {
         ensures awaiting { AreAwaiting self.new }
         ensures bytes { KeepsBytesBut map self.old self.new }
         ensures memories { self.new.memories ≡ self.old.memories }
-        ensures place { self.new.agenda.place ≡ self.old.agenda.place }
-        ensures length { self.new.agenda.length ≡ self.old.agenda.length }
-        ensures capacity { self.new.agenda.room + length self.new.agenda.queue
-            ≡ self.old.agenda.room + length self.old.agenda.queue }
+        ensures agenda { KeepsAgenda self.old self.new }
         ensures promised { self.new.agenda.promised ≤ self.old.agenda.promised + wanted.need }
         ensures fixed { D.fixed door.new ≡ D.fixed door.old }
     {

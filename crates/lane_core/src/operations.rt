@@ -15,7 +15,7 @@ use std::alloc::{AllocError, Global};
 
 impl Holdings<'_> {
     ghost use Rattle.lane_core.specs.Awaiting.{AreAwaiting};
-    ghost use Rattle.lane_core.specs.Changes.{IsWireOf, KeepsState};
+    ghost use Rattle.lane_core.specs.Changes.{IsWireOf, KeepsAgenda, KeepsState};
     ghost use Rattle.lane_core.specs.Ideal.{given, ideal_of};
     ghost use Rattle.lane_core.specs.Provided.{IsProvided};
     ghost use Rattle.lane_core.specs.Wire.{IsWired, wire_of};
@@ -46,10 +46,7 @@ impl Holdings<'_> {
         ensures unpromised { OnErr result (self.new.agenda ≡ self.old.agenda) }
         ensures undone { OnErr result (IsUndone (D.seen door.old) (D.seen door.new)) }
         ensures awaiting { AreAwaiting self.new }
-        ensures place { self.new.agenda.place ≡ self.old.agenda.place }
-        ensures length { self.new.agenda.length ≡ self.old.agenda.length }
-        ensures capacity { self.new.agenda.room + length self.new.agenda.queue
-            ≡ self.old.agenda.room + length self.old.agenda.queue }
+        ensures agenda { KeepsAgenda self.old self.new }
         ensures promised { self.new.agenda.promised ≤ self.old.agenda.promised + loaded_by op.now }
         ensures memories { self.new.memories ≡ self.old.memories }
         ensures fixed { D.fixed door.new ≡ D.fixed door.old }

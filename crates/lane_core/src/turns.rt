@@ -10,7 +10,7 @@ ghost use Rattle.ideal_wire.specs.WireStep as wires;
 ghost use Rattle.lane_core.specs.declared.holdings.Holdings.{Holdings};
 ghost use Rattle.lane_core.specs.declared.turn.Turn.{Turn};
 ghost use Rattle.lane_core.specs.Awaiting.{AreAwaiting};
-ghost use Rattle.lane_core.specs.Changes.{KeepsState};
+ghost use Rattle.lane_core.specs.Changes.{KeepsAgenda, KeepsState};
 ghost use Rattle.lane_core.specs.Doing.{IsAllowedBy, IsUndone};
 ghost use Rattle.lane_core.specs.Turning.{IsMade, IsReady, MayWant, is_held, turned};
 ghost use Rattle.lane_core.specs.Wire.{IsWired, wire_of};
@@ -139,11 +139,8 @@ impl Holdings<'_> {
         ensures awaiting { AreAwaiting self.old → AreAwaiting self.new }
         ensures script { self.new.script ≡ self.old.script }
         ensures memories { self.new.memories ≡ self.old.memories }
-        ensures place { self.new.agenda.place ≡ self.old.agenda.place }
+        ensures agenda { KeepsAgenda self.old self.new }
         ensures promised { self.new.agenda.promised ≤ self.old.agenda.promised }
-        ensures places { self.new.agenda.length ≡ self.old.agenda.length }
-        ensures capacity { self.new.agenda.room + length self.new.agenda.queue
-            ≡ self.old.agenda.room + length self.old.agenda.queue }
         ensures err { OnErr result (KeepsState self.old self.new) }
     {
         let Some(queued) = self.agenda.first() else {

@@ -25,7 +25,7 @@ use std::alloc::{AllocError, Global};
 
 impl Holdings<'_> {
     ghost use Rattle.lane_core.specs.Awaiting.{AreAwaiting, AreAwaitingBut, IsNextLoad};
-    ghost use Rattle.lane_core.specs.Changes.{KeepsBytes, KeepsBytesBut, KeepsState};
+    ghost use Rattle.lane_core.specs.Changes.{KeepsAgenda, KeepsBytes, KeepsBytesBut, KeepsState};
     ghost use Rattle.lane_core.specs.Ideal.{given, ideal_of};
 
     /// Promises the pages of a load a place in the return queue, and prepares its loan.
@@ -148,10 +148,7 @@ impl Holdings<'_> {
         ensures awaiting { AreAwaiting self.new }
         ensures bytes { KeepsBytesBut map self.old self.new }
         ensures memories { self.new.memories ≡ self.old.memories }
-        ensures place { self.new.agenda.place ≡ self.old.agenda.place }
-        ensures length { self.new.agenda.length ≡ self.old.agenda.length }
-        ensures capacity { self.new.agenda.room + length self.new.agenda.queue
-            ≡ self.old.agenda.room + length self.old.agenda.queue }
+        ensures agenda { KeepsAgenda self.old self.new }
         ensures promised { self.new.agenda.promised ≤ self.old.agenda.promised }
     {
         let load_at = self.agenda.place();

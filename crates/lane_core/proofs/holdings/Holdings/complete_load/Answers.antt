@@ -143,21 +143,25 @@ returns-clause-done c o x found entries items =
     (λ i. record { lane = lane i; answer = Segments (shown i) })
     ∙ sym (finished-few m o c.args.load_at x chunks pas l few)
 
-pub returns-clause-capacity : goal.returns-clause-capacity
-returns-clause-capacity c =
+pub returns-clause-agenda : goal.returns-clause-agenda
+returns-clause-agenda c =
     let s = c.store_load.new.self in
     let items = queued c.args.load_at c.args.items in
     let push = c.push_items.ensures in
-    omega (
-      arith,
-      c.requires.few_items,
-      ap (λ a. a.room) c.store_load.ensures.agenda,
-      ap (λ a. length a.queue) c.store_load.ensures.agenda,
-      ap (λ a. a.room) push,
-      ap (λ a. length a.queue) push,
-      length-append s.agenda.queue items,
-      queued-from c.args.load_at 0 c.args.items,
-    )
+    record {
+      place = ap (λ a. a.place) push ∙ ap (λ a. a.place) c.store_load.ensures.agenda;
+      end = ap (λ a. a.length) push ∙ ap (λ a. a.length) c.store_load.ensures.agenda;
+      capacity = omega (
+        arith,
+        c.requires.few_items,
+        ap (λ a. a.room) c.store_load.ensures.agenda,
+        ap (λ a. length a.queue) c.store_load.ensures.agenda,
+        ap (λ a. a.room) push,
+        ap (λ a. length a.queue) push,
+        length-append s.agenda.queue items,
+        queued-from c.args.load_at 0 c.args.items,
+      );
+    }
 
 pub returns-then-not-few-clause-awaiting : goal.returns-then-not-few-clause-awaiting
 returns-then-not-few-clause-awaiting c =

@@ -111,4 +111,4 @@ returns-clause-small c =
     ends-few c.args.self.now c.take_load.new.self c.args.map load.0 load.1 load.2 found c.take_load.ensures.maps
     c.take_load.ensures.rest c.requires.awaiting c.buffer_at-buffer.result c.buffer_at-buffer.ensures
     c.complete_load.new.self c.complete_load.result (page_addresses c.args.pages.items) c.complete_load.ensures.done
-    c.requires.small c.complete_load.ensures.place c.complete_load.ensures.promised
+    c.requires.small c.complete_load.ensures.agenda.place c.complete_load.ensures.promised

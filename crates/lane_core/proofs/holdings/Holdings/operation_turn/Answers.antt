@@ -44,8 +44,8 @@ advance-requires g c =
     let within : c.place-place.result < length h.script.now = grind (arith, nat_tests, k.0) in
     let all = c.requires.length in
     let at = c.place-place.ensures in
-    let place = c.operation.ensures.place in
-    let same = c.operation.ensures.length in
+    let place = c.operation.ensures.agenda.place in
+    let same = c.operation.ensures.agenda.end in
     omega (arith, within, all, at, place, same)
 
 pub returns-in_default-clause-made : goal.returns-in_default-clause-made
@@ -78,10 +78,10 @@ returns-clause-made g c =
     ∙ slice_get_read h.script.now (length h.script.now) c.place-place.result c.in-Some.op.now refl within k.1 in
     let done = c.operation.ensures in
     next-made h c.requires.empty c.in-Some.op.now here (sym c.waits.ensures ∙ c.if-waits.false) c.operation.new.self
-    c.advance.new.self done.place c.advance.ensures.rest c.advance.ensures.agenda
+    c.advance.new.self done.agenda.place c.advance.ensures.rest c.advance.ensures.agenda
     (g.D.HubDoor.seen c.args.door.now) (g.D.HubDoor.seen c.operation.new.door) c.in_ok-answer.field-0
-    c.stepped.result c.in_ok-answer.ensures.done c.in_ok-answer.ensures.held c.in_ok-answer.ensures.wire done.length
-    done.capacity
+    c.stepped.result c.in_ok-answer.ensures.done c.in_ok-answer.ensures.held c.in_ok-answer.ensures.wire done.agenda.end
+    done.agenda.capacity
     (c.stepped.ensures ∙ ap (λ p. turn.Stepped (record {
       actor = record { lane = c.advance.new.self.id; side = side.Script };
       did = did.Op p;
@@ -93,7 +93,7 @@ returns-in_err-answer-clause-provided g c =
     let agenda = c.in_err-answer.ensures.unpromised in
     let promised = ap (λ a. a.promised) agenda in
     provided-same c.args.self.now c.operation.new.self c.requires.provided c.operation.ensures.awaiting
-    (ap (λ l. l.script) c.in_err-answer.ensures.err.ideal) c.operation.ensures.memories c.operation.ensures.place
+    (ap (λ l. l.script) c.in_err-answer.ensures.err.ideal) c.operation.ensures.memories c.operation.ensures.agenda.place
     (omega (arith, promised))
 
 pub returns-clause-provided : goal.returns-clause-provided
@@ -114,4 +114,4 @@ returns-clause-provided g c =
     (made-script h n (g.D.HubDoor.seen c.args.door.now) (g.D.HubDoor.seen c.operation.new.door) side.Script
     c.stepped.result c.requires.ready (returns-clause-made g c))
     (c.advance.ensures.rest.most.memories ∙ done.memories) c.in-Some.op.now here
-    (ap (λ a. a.place) on ∙ ap (λ p. p + 1) done.place) (omega (arith, promised, few))
+    (ap (λ a. a.place) on ∙ ap (λ p. p + 1) done.agenda.place) (omega (arith, promised, few))

@@ -37,7 +37,7 @@ returns-in-Transfer-clause-made g c =
     let d = g.D.HubDoor.seen c.args.door.now in
     let r = c.transfer_turn.ensures in
     subst (λ (s : Side). IfOk c.transfer_turn.result (IsMade h k d d s)) (sym c.in-Transfer.is)
-    (transfer-all h k d c.transfer_turn.result r.done r.unheld r.wire r.places r.capacity)
+    (transfer-all h k d c.transfer_turn.result r.done r.unheld r.wire r.agenda.end r.agenda.capacity)
 
 pub returns-in-Transfer-clause-undone : goal.returns-in-Transfer-clause-undone
 returns-in-Transfer-clause-undone g c = on-err c.transfer_turn.result (inl refl)
@@ -49,20 +49,20 @@ returns-in-Transfer-clause-ready g c =
     let d = g.D.HubDoor.seen c.args.door.now in
     let r = c.transfer_turn.ensures in
     ready-after h k d d side.Transfer c.requires.ready c.transfer_turn.result
-    (transfer-all h k d c.transfer_turn.result r.done r.unheld r.wire r.places r.capacity) r.err
-    (err-map c.transfer_turn.result (λ s. same-room h k s r.capacity) r.err)
+    (transfer-all h k d c.transfer_turn.result r.done r.unheld r.wire r.agenda.end r.agenda.capacity) r.err
+    (err-map c.transfer_turn.result (λ s. same-room h k s r.agenda.capacity) r.err)
     (on-err c.transfer_turn.result (inl refl))
 
 pub returns-in-Transfer-clause-provided : goal.returns-in-Transfer-clause-provided
 returns-in-Transfer-clause-provided g c =
     let r = c.transfer_turn.ensures in
     provided-same c.args.self.now c.transfer_turn.new.self c.requires.provided
-    (r.awaiting c.requires.provided.awaiting) (ap (λ s. s.now) r.script) r.memories r.place r.promised
+    (r.awaiting c.requires.provided.awaiting) (ap (λ s. s.now) r.script) r.memories r.agenda.place r.promised
 
 pub returns-in-Transfer-clause-length : goal.returns-in-Transfer-clause-length
 returns-in-Transfer-clause-length g c =
     let r = c.transfer_turn.ensures in
-    r.places ∙ c.requires.length ∙ sym (ap (λ s. length s.now) r.script)
+    r.agenda.end ∙ c.requires.length ∙ sym (ap (λ s. length s.now) r.script)
 
 pub returns-in-Callback-clause-made : goal.returns-in-Callback-clause-made
 returns-in-Callback-clause-made g c =
