@@ -1,4 +1,6 @@
--- That a driver agrees with an account has one proof at most, so it comes out of what a world keeps.
+-- That a driver agrees with an account, and that it has a number, have one proof at most, so they come out of what a
+-- world keeps.
+use Rattle.std.proofs.Common.{◌≡◌, ℕ}
 use Rattle.std.proofs.Props.{props}
 use mathlib.Core.Logic.{∥∥₁_elim}
 use Rattle.busdma_base.specs.Bounce.Account.{Account}
@@ -10,3 +12,9 @@ AgreesWith-prop l a = hlevel (props)
 
 pub agrees-of : {X : Type 0} (l : LaneState) (a : Account) → ∥ X ∥₁ → (X → AgreesWith l a) → AgreesWith l a
 agrees-of {X} l a kept by = ∥∥₁_elim kept (AgreesWith-prop l a) by
+
+number-prop : (l : LaneState) (i : ℕ) → IsProp (l.id ≡ i)
+number-prop l i = hlevel (props)
+
+pub number-of : {X : Type 0} (l : LaneState) (i : ℕ) → ∥ X ∥₁ → (X → l.id ≡ i) → l.id ≡ i
+number-of {X} l i kept by = ∥∥₁_elim kept (number-prop l i) by

@@ -1,5 +1,5 @@
 -- Turns in order, and rounds until one makes no step.
-use Rattle.std.proofs.Common.{◌≡◌, ℕ, zero, suc, ◌+◌, ◌<◌, ◌≤◌, List, [], ◌∷◌, ◌++◌, length, take, get_or, Option}
+use Rattle.std.proofs.Common.{◌≡◌, ℕ, zero, suc, ◌+◌, ◌<◌, List, [], ◌∷◌, ◌++◌, length, take, get_or, Option}
 use Rattle.std.proofs.Common.{Some, None, refl, sym, ap, ◌∙◌, arith, add-one, length-append, ◌⊎◌, inl, inr}
 use Rattle.std.proofs.Math.Seq.{take-suc}
 use Rattle.std.proofs.Props.{props}
@@ -7,7 +7,6 @@ use mathlib.Core.Logic.{∥∥₁_elim}
 use Rattle.busdma_base.specs.declared.journals.journal.Actor.{Actor}
 use Rattle.busdma_base.specs.declared.journals.journal.JournalEntry.{JournalEntry}
 use Rattle.busdma_base.specs.declared.journals.journal.Side.TheVariants.{Script, Transfer, Callback}
-use Rattle.busdma_base.specs.declared.scenarios.scenario.Scenario.{Scenario}
 use Rattle.world_core.specs.declared.run.Progress.{Progress}
 use Rattle.ideal_world.specs.Left.{left_of}
 use Rattle.ideal_world.specs.Legal.{Run, noted, turn, turns, rounds, round_from}

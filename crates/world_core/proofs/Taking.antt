@@ -1,10 +1,10 @@
 -- What a driver's turn makes of the world and of a run.
-use Rattle.std.proofs.Common.{◌≡◌, ℕ, ◌+◌, ◌<◌, ◌≤◌, Bool, List, ◌∷◌, [], ◌++◌, length, get_or, Some, None, map, refl}
+use Rattle.std.proofs.Common.{◌≡◌, ℕ, ◌+◌, ◌<◌, Bool, List, length, get_or, Some, None, map, refl}
 use Rattle.std.proofs.Common.{sym}
 use Rattle.std.proofs.Common.{ap, ◌∙◌, subst, slice_get, slice_set, if◌then◌else◌}
 use Rattle.std.specs.Prelude.{option_map, Result, Ok, Err, IfOk, OnErr, OnOk}
-use Rattle.std.proofs.lemmas.List.{length-map, map-set}
-use Rattle.std.proofs.lemmas.Option.{slice_get-map, slice_get_past, slice_get_read}
+use Rattle.std.proofs.lemmas.List.{map-set}
+use Rattle.std.proofs.lemmas.Option.{slice_get-map, slice_get_read}
 use mathlib.Core.Logic.{∥∥₁_map}
 use Rattle.busdma_base.specs.declared.journals.journal.Actor.{Actor}
 use Rattle.busdma_base.specs.declared.journals.journal.JournalEntry.{JournalEntry}
@@ -27,7 +27,7 @@ use Rattle.ideal_world.proofs.Keeping.{step-keeps}
 use Rattle.ideal_world.proofs.Lanes.{set_same}
 use Rattle.world_core.specs.Kept.{IsKept, world_of}
 use Rattle.world_core.proofs.Agreeing.{agrees-of}
-use Rattle.world_core.proofs.Turning.{Makes, makes, undone-account, undone-opening}
+use Rattle.world_core.proofs.Turning.{Makes, makes, undone-account}
 
 -- the driver in a world, by its number
 pub lane_found : (lanes : List Lane) (i : ℕ) (l : Lane) → i < length lanes → l ≡ get_or lanes i l →

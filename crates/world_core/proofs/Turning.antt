@@ -1,18 +1,16 @@
 -- What a turn at the hub, which serves every driver, makes of the world.
-use Rattle.std.proofs.Common.{◌≡◌, ◌⊎◌, inl, inr, ℕ, ◌+◌, Bool, true, false, List, [], ◌∷◌, ◌++◌, length, All, refl}
+use Rattle.std.proofs.Common.{◌≡◌, inl, inr, ℕ, ◌+◌, Bool, true, false, List, [], ◌∷◌, ◌++◌, length, All, refl}
 use Rattle.std.proofs.Common.{sym}
-use Rattle.std.proofs.Common.{ap, ◌∙◌, subst, slice_set, if◌then◌else◌, arith, length-append}
+use Rattle.std.proofs.Common.{ap, ◌∙◌, if◌then◌else◌, arith, length-append}
 use Rattle.std.proofs.lemmas.Bool.{false≢true}
 use Rattle.std.proofs.lemmas.List.{append-nil}
 use Rattle.std.proofs.lemmas.List.Elements.{All-head}
 use Rattle.busdma_base.specs.declared.bounce.hold.HoldEntry.{HoldEntry}
-use Rattle.busdma_base.specs.declared.bounce.hold.HubCall.{HubCall}
 use Rattle.busdma_base.specs.declared.bounce.hold.HubCall.TheVariants.{TakeCallback}
-use Rattle.busdma_base.specs.declared.bounce.hold.HubReply.{HubReply}
 use Rattle.busdma_base.specs.declared.bounce.hold.HubReply.TheVariants.{Nothing}
 use Rattle.busdma_base.specs.Bounce.Account.{Account}
 use Rattle.busdma_base.specs.Bounce.AccountStep.{Outcome, account_step}
-use Rattle.busdma_base.specs.Bounce.Door.{Seen, Passes, Fails, account}
+use Rattle.busdma_base.specs.Bounce.Door.{Seen, Passes, account}
 use Rattle.busdma_base.specs.Bounce.History.{account_of, is_kept}
 use Rattle.busdma_base.proofs.Accounts.LaneEntries.{account_of-append}
 use Rattle.bounce_hub.specs.Seen.{HubSeen, door}

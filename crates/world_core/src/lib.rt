@@ -5,6 +5,7 @@ mod counts;
 mod ending;
 mod laws;
 mod opening;
+mod parts;
 mod run;
 mod steps;
 mod world;

@@ -39,7 +39,7 @@ impl World<'_> {
 }
 
 /// The history of every hub is sound. A proof knows it of a hub only once the hub was asked for it.
-fn hub_is_sound(hub: &Hub)
+pub(crate) fn hub_is_sound(hub: &Hub)
     ensures form { IsOpening hub.now.opening }
     ensures sound { IsSound hub.now.opening hub.now.history }
 {

@@ -1,5 +1,5 @@
-use Rattle.std.proofs.Common.{◌≡◌, ◌<◌, ◌∙◌, length, ap, sym, arith, slice_set}
-use Rattle.std.proofs.lemmas.Result.{IfOk-weaker, on_err_weaker}
+use Rattle.std.proofs.Common.{◌<◌, length, arith, slice_set}
+use Rattle.std.proofs.lemmas.Result.{IfOk-weaker}
 use Rattle.lane_core.specs.Turning.{answered}
 use Rattle.world_core.proofs.Taking.{at_either, lane_found, ok_both, on_both, serves, stay-kept, took, took-holds}
 use Rattle.world_core.proofs.Taking.{took-none}

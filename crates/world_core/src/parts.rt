@@ -1,0 +1,27 @@
+//! A world taken apart.
+
+ghost use Rattle.std.specs.Prelude.{ℕ, ◌≡◌, Some, slice_get};
+ghost use Rattle.bounce_hub.specs.Seen.{door};
+ghost use Rattle.lane_core.specs.declared.lane.Lane.{Lane};
+ghost use Rattle.lane_core.specs.LaneIdeal.{ideal};
+ghost use Rattle.lane_core.specs.Turning.{IsServed};
+ghost use Rattle.world_core.specs.Ideal.{ideal_world};
+ghost use Rattle.world_core.specs.Kept.{world_of};
+
+use crate::steps::hub_is_sound;
+use crate::world::World;
+use bounce_hub::Hub;
+use lane_core::Lane;
+
+impl<'s> World<'s> {
+    /// The drivers, in the order of their numbers, and the hub that they share, which serves each of them.
+    pub fn into_parts(self) -> (Vec<Lane<'s>>, Hub)
+        ensures world { world_of result.0.items result.1 ≡ ideal_world self.entry }
+        ensures served { (i : ℕ) (lane : Lane) → slice_get result.0.items i ≡ Some lane →
+            IsServed (ideal lane) (door result.1) }
+        ensures numbered { (i : ℕ) (lane : Lane) → slice_get result.0.items i ≡ Some lane → (ideal lane).id ≡ i }
+    {
+        hub_is_sound(&self.hub);
+        (self.lanes, self.hub)
+    }
+}
