@@ -12,21 +12,19 @@ use Rattle.busdma_base.specs.declared.scenarios.script.Op.{Op}
 use Rattle.busdma_base.specs.declared.scenarios.script.Op.TheVariants.{Load}
 use Rattle.busdma_base.specs.declared.scenarios.script.Place.TheVariants.{At}
 use Rattle.busdma_base.specs.declared.tags.tag.TagLimits.{TagLimits}
-use Rattle.busdma_base.specs.Machine.Entry.{entries_addresses}
 use Rattle.busdma_base.specs.Scenarios.Limits.{buffer_limit, loaded_limit}
 use Rattle.busdma_base.specs.Scenarios.Operations.{loaded_by}
 use Rattle.dma_map.specs.declared.callback.Transfers.{Transfers}
 use Rattle.dma_map.specs.declared.room.LoadRoom.{LoadRoom}
 use Rattle.dma_map.specs.MapView.{waiting_load}
-use Rattle.loan_table.specs.Loans.{new_loan}
-use Rattle.ideal_lane.specs.Loads.{is_coherent, limits_of, no_limits}
+use Rattle.ideal_lane.specs.Loads.{limits_of, no_limits}
 use Rattle.ideal_lane.specs.Places.{reached}
 use Rattle.ideal_lane.specs.State.{LaneMap, Waiting}
 use Rattle.lane_core.specs.declared.holdings.Holdings.{Holdings}
 use Rattle.lane_core.specs.declared.kept.KeptMap.{KeptMap}
 use Rattle.lane_core.specs.declared.kept.KeptTag.{KeptTag}
 use Rattle.lane_core.specs.Ideal.{ideal_of}
-use Rattle.lane_core.specs.Loading.{HasRoomForAny, buffer_chunks, buffer_entries}
+use Rattle.lane_core.specs.Loading.{HasRoomForAny, buffer_chunks, buffer_loan}
 
 -- the load of a map that waits: its place in the script, its callback and its room
 abbrev pub kept_load : Option KeptMap → Option (ℕ × Transfers × LoadRoom)
@@ -66,9 +64,7 @@ pub record IsAwaiting (h : Holdings) (m load_at : ℕ) (items : List Item) (room
   pub reached : reached (ideal_of h) va.0 len ≡ Fine
   pub fits : (o : LaneMap) (need : ℕ) → get (ideal_of h).maps m ≡ Some o → o.stage ≡ Waiting load_at need →
       HasRoomForAny (limits_of (ideal_of h) o) (buffer_chunks (ideal_of h) o va.0 len) need room
-  pub prepared : get h.loans.prepared m
-      ≡ Some (new_loan (is_coherent (get (ideal_of h).mems m))
-      (entries_addresses (buffer_entries (ideal_of h) va.0 len)))
+  pub prepared : get h.loans.prepared m ≡ Some (buffer_loan (ideal_of h) m va.0 len)
 
 -- each load that waits has what its callback takes, and a loan is prepared for no other map
 pub record AreAwaiting (h : Holdings) : Type 0 where

@@ -9,14 +9,15 @@ use Rattle.busdma_base.specs.declared.machine.chunk.Chunk.{Chunk}
 use Rattle.busdma_base.specs.declared.machine.chunk.Entry.{Entry}
 use Rattle.busdma_base.specs.declared.tags.tag.TagLimits.{TagLimits}
 use Rattle.dma_map.specs.declared.room.LoadRoom.{LoadRoom}
-use Rattle.loan_table.specs.Loans.{new_loan}
+use Rattle.busdma_base.specs.Machine.Entry.{entries_addresses}
+use Rattle.loan_table.specs.Loans.{Loan, new_loan}
 use Rattle.loan_table.specs.Table.{Table}
 use Rattle.phys_memory.specs.Vector.{entries_of, one_span}
 use Rattle.segment_build.specs.Building.{placed_pieces, tag_placed}
 use Rattle.segment_build.specs.Chunks.{bounced_of, need_of}
 use Rattle.segment_build.specs.Segmentation.{segmentation}
 use Rattle.segment_build.specs.Trace.{IsPage}
-use Rattle.ideal_lane.specs.Loads.{chunks_for}
+use Rattle.ideal_lane.specs.Loads.{chunks_for, is_coherent}
 use Rattle.ideal_lane.specs.Places.{physical}
 use Rattle.ideal_lane.specs.State.{LaneMap, LaneState}
 
@@ -29,6 +30,10 @@ pub record HasPrepared (t : Table) (m : ℕ) : Type 0 where
 -- the entries of `len` bytes from a virtual address on
 abbrev pub buffer_entries : LaneState → ℕ → ℕ → List Entry
 buffer_entries l va len = entries_of true (physical l) (one_span va len)
+
+-- the loan of a map that is loaded with these bytes, of which none is lent yet
+abbrev pub buffer_loan : LaneState → ℕ → ℕ → ℕ → Loan
+buffer_loan l m va len = new_loan (is_coherent (get l.mems m)) (entries_addresses (buffer_entries l va len))
 
 -- the chunks of a load of a map that is not a memory's, with these bytes
 abbrev pub buffer_chunks : LaneState → LaneMap → ℕ → ℕ → List Chunk

@@ -10,12 +10,10 @@ ghost use Rattle.busdma_base.specs.declared.scenarios.script.Op.TheVariants.{Loa
 ghost use Rattle.busdma_base.specs.declared.scenarios.script.Place.TheVariants.{At};
 ghost use Rattle.busdma_base.specs.Bounce.AccountStep.{as_pages};
 ghost use Rattle.busdma_base.specs.Bounce.Door.{Allows};
-ghost use Rattle.busdma_base.specs.Machine.Entry.{entries_addresses};
 ghost use Rattle.busdma_base.specs.Machine.PageList.{page_addresses};
 ghost use Rattle.dma_tag.specs.LoadFlags.{nowait};
-ghost use Rattle.loan_table.specs.Loans.{new_loan};
 ghost use Rattle.segment_build.specs.Trace.{IsPage};
-ghost use Rattle.ideal_lane.specs.Loads.{Asked, finished, granted, is_coherent, limits_of, zone_of};
+ghost use Rattle.ideal_lane.specs.Loads.{Asked, finished, granted, limits_of, zone_of};
 ghost use Rattle.ideal_lane.specs.Places.{reached};
 ghost use Rattle.ideal_lane.specs.Standing.{Stands};
 ghost use Rattle.ideal_lane.specs.State.{LaneMap, named};
@@ -23,7 +21,7 @@ ghost use Rattle.ideal_lane.specs.Turns.{load_at_place};
 ghost use Rattle.lane_core.specs.Doing.{IsAllowedBy, IsCalled, IsDone, IsUndone, asks};
 ghost use Rattle.lane_core.specs.Covered.{is_idle_map, pages_due};
 ghost use Rattle.lane_core.specs.Loading.{HasRoomForAny, IsFilled, IsOverfull, IsWanted};
-ghost use Rattle.lane_core.specs.Loading.{buffer_chunks, buffer_entries};
+ghost use Rattle.lane_core.specs.Loading.{buffer_chunks, buffer_entries, buffer_loan};
 
 use crate::buffers::{Buffer, build_buffer, copy_segments, measure_buffer, write_addresses};
 use crate::holdings::{Answered, Holdings, report};
@@ -191,9 +189,8 @@ impl Holdings<'_> {
         requires unprepared { get self.old.loans.prepared map ≡ None }
         requires reached { reached (ideal_of self.old) buffer.va.0 buffer.len ≡ Fine }
         requires small { buffer.len ≤ 2 ^ 20 }
-        ensures prepared { OnOk result (self.new.loans.prepared ≡ insert self.old.loans.prepared map (new_loan
-            (is_coherent (get (ideal_of self.old).mems map))
-            (entries_addresses (buffer_entries (ideal_of self.old) buffer.va.0 buffer.len)))) }
+        ensures prepared { OnOk result (self.new.loans.prepared ≡ insert self.old.loans.prepared map
+            (buffer_loan (ideal_of self.old) map buffer.va.0 buffer.len)) }
         ensures err { OnErr result (self.new.loans.prepared ≡ self.old.loans.prepared) }
         ensures same { KeepsState self.old self.new }
         ensures maps { self.new.maps ≡ self.old.maps }
@@ -258,9 +255,8 @@ impl Holdings<'_> {
         requires room { (o : LaneMap) → get (ideal_of self.old).maps map ≡ Some o →
             HasRoomForAny (limits_of (ideal_of self.old) o)
             (buffer_chunks (ideal_of self.old) o buffer.va.0 buffer.len) (length pages.items) room }
-        requires prepared { get self.old.loans.prepared map ≡ Some (new_loan
-            (is_coherent (get (ideal_of self.old).mems map))
-            (entries_addresses (buffer_entries (ideal_of self.old) buffer.va.0 buffer.len))) }
+        requires prepared { get self.old.loans.prepared map ≡ Some
+            (buffer_loan (ideal_of self.old) map buffer.va.0 buffer.len) }
         requires few_items { length items ≤ self.old.agenda.room }
         requires promised { pages_due self.old.maps.map + length pages.items ≤ self.old.agenda.promised }
         ensures done { (o : LaneMap) (x : Asked) → get (ideal_of self.old).maps map ≡ Some o →

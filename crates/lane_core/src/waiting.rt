@@ -5,16 +5,14 @@ ghost use Rattle.std.specs.Prelude.{OnErr, OnOk};
 ghost use Rattle.std.specs.FinMap.{get, insert, remove};
 ghost use Rattle.busdma_base.specs.declared.journals.report.Judged.TheVariants.{Fine};
 ghost use Rattle.busdma_base.specs.Bounce.Door.{grab_reply};
-ghost use Rattle.busdma_base.specs.Machine.Entry.{entries_addresses};
-ghost use Rattle.loan_table.specs.Loans.{new_loan};
 ghost use Rattle.loan_table.specs.Table.{IsPrepared};
-ghost use Rattle.ideal_lane.specs.Loads.{Asked, granted, is_coherent, limits_of, staged};
+ghost use Rattle.ideal_lane.specs.Loads.{Asked, granted, limits_of, staged};
 ghost use Rattle.ideal_lane.specs.Places.{reached};
 ghost use Rattle.ideal_lane.specs.Standing.{Stands};
 ghost use Rattle.ideal_lane.specs.State.{LaneMap, Waiting};
 ghost use Rattle.lane_core.specs.Awaiting.{kept_load};
 ghost use Rattle.lane_core.specs.Covered.{is_idle_map, pages_due};
-ghost use Rattle.lane_core.specs.Loading.{HasNeed, HasRoomForAny, buffer_chunks, buffer_entries};
+ghost use Rattle.lane_core.specs.Loading.{HasNeed, HasRoomForAny, buffer_chunks, buffer_entries, buffer_loan};
 
 use crate::buffers::Buffer;
 use crate::holdings::Holdings;
@@ -42,9 +40,8 @@ impl Holdings<'_> {
         requires reached { reached (ideal_of self.old) buffer.va.0 buffer.len ≡ Fine }
         requires small { buffer.len ≤ 2 ^ 20 }
         requires few { self.old.agenda.promised + need < 2 ^ 32 }
-        ensures prepared { OnOk result (self.new.loans.prepared ≡ insert self.old.loans.prepared map (new_loan
-            (is_coherent (get (ideal_of self.old).mems map))
-            (entries_addresses (buffer_entries (ideal_of self.old) buffer.va.0 buffer.len)))) }
+        ensures prepared { OnOk result (self.new.loans.prepared ≡ insert self.old.loans.prepared map
+            (buffer_loan (ideal_of self.old) map buffer.va.0 buffer.len)) }
         ensures promised { OnOk result (self.new.agenda
             ≡ record self.old.agenda { promised = self.old.agenda.promised + need }) }
         ensures err { OnErr result (self.new.loans.prepared ≡ self.old.loans.prepared) }
@@ -135,9 +132,8 @@ impl Holdings<'_> {
         requires room { (o : LaneMap) → get (ideal_of self.old).maps map ≡ Some o →
             HasRoomForAny (limits_of (ideal_of self.old) o)
             (buffer_chunks (ideal_of self.old) o buffer.va.0 buffer.len) need room }
-        requires prepared { get self.old.loans.prepared map ≡ Some (new_loan
-            (is_coherent (get (ideal_of self.old).mems map))
-            (entries_addresses (buffer_entries (ideal_of self.old) buffer.va.0 buffer.len))) }
+        requires prepared { get self.old.loans.prepared map ≡ Some
+            (buffer_loan (ideal_of self.old) map buffer.va.0 buffer.len) }
         requires few_items { length items ≤ self.old.agenda.room }
         requires promised { pages_due self.old.maps.map + need ≤ self.old.agenda.promised }
         requires granted { HasNeed need got }
