@@ -2,7 +2,6 @@ pub mod Answering
 pub mod Calling
 pub mod Falling
 pub mod Few
-pub mod Going
 pub mod Keeping
 pub mod Lanes
 pub mod Legal
@@ -12,6 +11,7 @@ pub mod Replayed
 pub mod Rest
 pub mod Resting
 pub mod Rounds
+pub mod RunTurns
 pub mod Stuck
 pub mod Turns
 pub mod Waiters

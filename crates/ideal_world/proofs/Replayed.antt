@@ -7,7 +7,7 @@ use Rattle.busdma_base.specs.Scenarios.Valid.{IsValid}
 use Rattle.ideal_world.specs.Left.{left_of}
 use Rattle.ideal_world.specs.Legal.{Run, ComesToRest, turns, round_of, opening_run, journal_of, IsReplayed}
 use Rattle.ideal_world.specs.WellFormed.{IsWellFormed}
-use Rattle.ideal_world.proofs.Going.{turns-keep, rests-or-falls}
+use Rattle.ideal_world.proofs.RunTurns.{turns-keep, rests-or-falls}
 use Rattle.ideal_world.proofs.Opens.{opens-well}
 
 -- some rounds lead from a run to one at rest

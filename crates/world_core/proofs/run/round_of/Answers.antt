@@ -1,6 +1,6 @@
 use Rattle.std.proofs.Common.{◌≡◌, ap, ◌∙◌, arith}
 use Rattle.ideal_world.specs.Legal.{round_from}
-use Rattle.world_core.proofs.Going.{round_pushed}
+use Rattle.world_core.proofs.TurnsInOrder.{round_pushed}
 use Rattle.world_core.proofs.run.round_of.Goals as goal
 
 pub loop-number-init : goal.loop-number-init

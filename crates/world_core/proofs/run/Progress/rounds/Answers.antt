@@ -1,6 +1,6 @@
 use Rattle.std.proofs.Common.{◌+◌, refl, sym, ◌∙◌}
 use Rattle.world_core.specs.Ideal.{ideal_run}
-use Rattle.world_core.proofs.Going.{next_round, rests, falls}
+use Rattle.world_core.proofs.TurnsInOrder.{next_round, rests, falls}
 use Rattle.world_core.proofs.run.Progress.rounds.Goals as goal
 
 pub rounds-init : goal.rounds-init

@@ -2,7 +2,7 @@ use Rattle.std.proofs.Common.{refl, ap, ◌∙◌}
 use Rattle.std.proofs.lemmas.List.{take_all}
 use Rattle.world_core.specs.Ideal.{ideal_run}
 use Rattle.ideal_world.specs.Legal.{turns}
-use Rattle.world_core.proofs.Going.{next_turn}
+use Rattle.world_core.proofs.TurnsInOrder.{next_turn}
 use Rattle.world_core.proofs.run.Progress.turns.Goals as goal
 
 pub loop-actor-init : goal.loop-actor-init
