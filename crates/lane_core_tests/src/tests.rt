@@ -4,3 +4,4 @@ mod answers;
 mod calls;
 mod opened;
 mod refusals;
+mod wanted;

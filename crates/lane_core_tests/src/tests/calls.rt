@@ -5,8 +5,9 @@ ghost use Rattle.bounce_hub.specs.Seen.{door};
 ghost use Rattle.lane_core.specs.LaneIdeal.{ideal};
 ghost use Rattle.lane_core.specs.Turning.{IsServed};
 
-use crate::tests::answers::{has_read, is_done, is_grown, is_refused, is_segment};
+use crate::tests::answers::{is_done, is_grown, is_segment};
 use crate::tests::opened::{open, read, step};
+use crate::tests::wanted::{Want, cpu_read, cpu_write, dev_read, dev_write, sync, sync_range};
 use bounce_hub::Hub;
 use busdma_base::{LaneId, MapId, Place, ReportName, Side, Va, ZoneId};
 use dma_tag::SyncOps;
@@ -59,37 +60,40 @@ pub fn load(rt: &impl Abort, alloc: Global, lane: &mut Lane, hub: &mut Hub) -> R
 
 /// The device reads what the driver wrote.
 fn bytes_go(rt: &impl Abort, alloc: Global, lane: &mut Lane) -> Result<(), Fail> {
-    let written = lane.cpu_write(alloc, PAGE, &[1, 2, 3, 4])?;
-    assert!(rt; is_done(&written));
+    cpu_write(rt, alloc, lane, PAGE, &[1, 2, 3, 4], Want::Done)?;
     assert!(rt; lane.bounced(ZoneId(0)) == 0);
-    let lent = lane.sync(alloc, MAP, SyncOps::PREWRITE)?;
-    assert!(rt; is_done(&lent));
+    sync(rt, alloc, lane, MAP, SyncOps::PREWRITE, Want::Done)?;
     assert!(rt; lane.bounced(ZoneId(0)) == 1);
-    let gone = lane.dev_read(alloc, MAP, 1, 3)?;
-    assert!(rt; has_read(&gone, &[2, 3, 4]));
-    let still = lane.cpu_read(alloc, PAGE, 2)?;
-    assert!(rt; has_read(&still, &[1, 2]));
-    let back = lane.sync(alloc, MAP, SyncOps::POSTWRITE)?;
-    assert!(rt; is_done(&back));
+    dev_read(rt, alloc, lane, MAP, (1, 3), Want::Read(&[2, 3, 4]))?;
+    cpu_read(rt, alloc, lane, PAGE, 2, Want::Read(&[1, 2]))?;
+    sync(rt, alloc, lane, MAP, SyncOps::POSTWRITE, Want::Done)?;
     assert!(rt; lane.bounced(ZoneId(0)) == 1);
     Ok(())
 }
 
 /// The driver reads what the device wrote, beside the bytes that it wrote itself.
 fn bytes_come(rt: &impl Abort, alloc: Global, lane: &mut Lane) -> Result<(), Fail> {
-    let lent = lane.sync_range(alloc, MAP, 4, 2, SyncOps::PREREAD)?;
-    assert!(rt; is_done(&lent));
+    sync_range(rt, alloc, lane, MAP, (4, 2), SyncOps::PREREAD, Want::Done)?;
     assert!(rt; lane.bounced(ZoneId(0)) == 1);
-    let early = lane.cpu_read(alloc, PAGE, 8)?;
-    assert!(rt; is_refused(&early, ReportName::CpuReadLent, 4));
-    let come = lane.dev_write(alloc, MAP, 4, &[5, 6])?;
-    assert!(rt; is_done(&come));
-    let back = lane.sync_range(alloc, MAP, 4, 2, SyncOps::POSTREAD)?;
-    assert!(rt; is_done(&back));
+    cpu_read(
+        rt,
+        alloc,
+        lane,
+        PAGE,
+        8,
+        Want::Refused(ReportName::CpuReadLent, 4),
+    )?;
+    dev_write(rt, alloc, lane, MAP, 4, &[5, 6], Want::Done)?;
+    sync_range(rt, alloc, lane, MAP, (4, 2), SyncOps::POSTREAD, Want::Done)?;
     assert!(rt; lane.bounced(ZoneId(0)) == 2);
-    let all = lane.cpu_read(alloc, PAGE, 8)?;
-    assert!(rt; has_read(&all, &[1, 2, 3, 4, 5, 6, 0, 0]));
-    Ok(())
+    cpu_read(
+        rt,
+        alloc,
+        lane,
+        PAGE,
+        8,
+        Want::Read(&[1, 2, 3, 4, 5, 6, 0, 0]),
+    )
 }
 
 #[test]

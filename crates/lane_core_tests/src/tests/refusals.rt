@@ -4,9 +4,10 @@ ghost use Rattle.bounce_hub.specs.Seen.{door};
 ghost use Rattle.lane_core.specs.LaneIdeal.{ideal};
 ghost use Rattle.lane_core.specs.Turning.{IsServed};
 
-use crate::tests::answers::{has_read, is_done, is_grown, is_refused, is_segment};
+use crate::tests::answers::{is_grown, is_segment};
 use crate::tests::calls::{MAP, PAGE, SCENARIO, load, make};
 use crate::tests::opened::{open, read, step};
+use crate::tests::wanted::{Want, cpu_read, cpu_write, dev_read, dev_write, sync, sync_range};
 use bounce_hub::Hub;
 use busdma_base::{LaneId, MapId, Place, ReportName, Side, Va};
 use dma_tag::SyncOps;
@@ -38,68 +39,145 @@ fn map_is_refused(
     map: MapId,
     name: ReportName,
 ) -> Result<(), Fail> {
-    let sync = lane.sync(alloc, map, SyncOps::PREWRITE)?;
-    assert!(rt; is_refused(&sync, name, 0));
-    let sync_range = lane.sync_range(alloc, map, 4, 2, SyncOps::PREWRITE)?;
-    assert!(rt; is_refused(&sync_range, name, 0));
-    let dev_read = lane.dev_read(alloc, map, 4, 2)?;
-    assert!(rt; is_refused(&dev_read, name, 0));
-    let dev_write = lane.dev_write(alloc, map, 4, &[5, 6])?;
-    assert!(rt; is_refused(&dev_write, name, 0));
-    Ok(())
+    let want = Want::Refused(name, 0);
+    sync(rt, alloc, lane, map, SyncOps::PREWRITE, want)?;
+    sync_range(rt, alloc, lane, map, (4, 2), SyncOps::PREWRITE, want)?;
+    dev_read(rt, alloc, lane, map, (4, 2), want)?;
+    dev_write(rt, alloc, lane, map, 4, &[5, 6], want)
 }
 
 /// What lies past the ends of the page and of the load.
 fn ends_are_kept(rt: &impl Abort, alloc: Global, lane: &mut Lane) -> Result<(), Fail> {
-    let cpu_read = lane.cpu_read(alloc, END, 4)?;
-    assert!(rt; is_refused(&cpu_read, ReportName::Unmapped, 2));
-    let cpu_write = lane.cpu_write(alloc, END, &[1, 2, 3])?;
-    assert!(rt; is_refused(&cpu_write, ReportName::Unmapped, 2));
-    let sync_range = lane.sync_range(alloc, MAP, 10, 10, SyncOps::PREREAD)?;
-    assert!(rt; is_refused(&sync_range, ReportName::PastEnd, 6));
-    let dev_read = lane.dev_read(alloc, MAP, 15, 2)?;
-    assert!(rt; is_refused(&dev_read, ReportName::PastEnd, 1));
-    let dev_write = lane.dev_write(alloc, MAP, 17, &[1])?;
-    assert!(rt; is_refused(&dev_write, ReportName::PastEnd, 0));
-    Ok(())
+    cpu_read(
+        rt,
+        alloc,
+        lane,
+        END,
+        4,
+        Want::Refused(ReportName::Unmapped, 2),
+    )?;
+    cpu_write(
+        rt,
+        alloc,
+        lane,
+        END,
+        &[1, 2, 3],
+        Want::Refused(ReportName::Unmapped, 2),
+    )?;
+    sync_range(
+        rt,
+        alloc,
+        lane,
+        MAP,
+        (10, 10),
+        SyncOps::PREREAD,
+        Want::Refused(ReportName::PastEnd, 6),
+    )?;
+    dev_read(
+        rt,
+        alloc,
+        lane,
+        MAP,
+        (15, 2),
+        Want::Refused(ReportName::PastEnd, 1),
+    )?;
+    dev_write(
+        rt,
+        alloc,
+        lane,
+        MAP,
+        17,
+        &[1],
+        Want::Refused(ReportName::PastEnd, 0),
+    )
 }
 
 /// What is not lent to the device, and what the driver has lent to it to read.
 fn read_loans_are_kept(rt: &impl Abort, alloc: Global, lane: &mut Lane) -> Result<(), Fail> {
-    let dev_read = lane.dev_read(alloc, MAP, 0, 4)?;
-    assert!(rt; is_refused(&dev_read, ReportName::DeviceReadUnlent, 0));
-    let lent = lane.sync_range(alloc, MAP, 0, 4, SyncOps::PREWRITE)?;
-    assert!(rt; is_done(&lent));
-    let dev_read = lane.dev_read(alloc, MAP, 1, 4)?;
-    assert!(rt; is_refused(&dev_read, ReportName::DeviceReadUnlent, 3));
-    let dev_write = lane.dev_write(alloc, MAP, 0, &[9])?;
-    assert!(rt; is_refused(&dev_write, ReportName::DeviceWriteUnlent, 0));
-    let cpu_write = lane.cpu_write(alloc, PAGE, &[9])?;
-    assert!(rt; is_refused(&cpu_write, ReportName::CpuWriteLent, 0));
-    let back = lane.sync(alloc, MAP, SyncOps::POSTWRITE)?;
-    assert!(rt; is_done(&back));
-    Ok(())
+    dev_read(
+        rt,
+        alloc,
+        lane,
+        MAP,
+        (0, 4),
+        Want::Refused(ReportName::DeviceReadUnlent, 0),
+    )?;
+    sync_range(rt, alloc, lane, MAP, (0, 4), SyncOps::PREWRITE, Want::Done)?;
+    dev_read(
+        rt,
+        alloc,
+        lane,
+        MAP,
+        (1, 4),
+        Want::Refused(ReportName::DeviceReadUnlent, 3),
+    )?;
+    dev_write(
+        rt,
+        alloc,
+        lane,
+        MAP,
+        0,
+        &[9],
+        Want::Refused(ReportName::DeviceWriteUnlent, 0),
+    )?;
+    cpu_write(
+        rt,
+        alloc,
+        lane,
+        PAGE,
+        &[9],
+        Want::Refused(ReportName::CpuWriteLent, 0),
+    )?;
+    sync(rt, alloc, lane, MAP, SyncOps::POSTWRITE, Want::Done)
 }
 
 /// What the driver has lent to the device to write, and the bytes that nobody knows afterwards.
 fn write_loans_are_kept(rt: &impl Abort, alloc: Global, lane: &mut Lane) -> Result<(), Fail> {
-    let lent = lane.sync_range(alloc, MAP, 4, 2, SyncOps::PREREAD)?;
-    assert!(rt; is_done(&lent));
-    let dev_write = lane.dev_write(alloc, MAP, 4, &[5, 6, 7])?;
-    assert!(rt; is_refused(&dev_write, ReportName::DeviceWriteUnlent, 2));
-    let cpu_read = lane.cpu_read(alloc, PAGE, 8)?;
-    assert!(rt; is_refused(&cpu_read, ReportName::CpuReadLent, 4));
-    let again = lane.sync(alloc, MAP, SyncOps::PREWRITE)?;
-    assert!(rt; is_refused(&again, ReportName::SyncOrder, 4));
-    let mixed = lane.sync_range(alloc, MAP, 4, 2, SyncOps(1 + 2))?;
-    assert!(rt; is_refused(&mixed, ReportName::MixedSync, 0));
-    let back = lane.sync_range(alloc, MAP, 4, 2, SyncOps::POSTREAD)?;
-    assert!(rt; is_done(&back));
-    let stale = lane.cpu_read(alloc, PAGE, 8)?;
-    assert!(rt; is_refused(&stale, ReportName::StaleByte, 4));
-    let before = lane.cpu_read(alloc, PAGE, 4)?;
-    assert!(rt; has_read(&before, &[0, 0, 0, 0]));
-    Ok(())
+    sync_range(rt, alloc, lane, MAP, (4, 2), SyncOps::PREREAD, Want::Done)?;
+    dev_write(
+        rt,
+        alloc,
+        lane,
+        MAP,
+        4,
+        &[5, 6, 7],
+        Want::Refused(ReportName::DeviceWriteUnlent, 2),
+    )?;
+    cpu_read(
+        rt,
+        alloc,
+        lane,
+        PAGE,
+        8,
+        Want::Refused(ReportName::CpuReadLent, 4),
+    )?;
+    sync(
+        rt,
+        alloc,
+        lane,
+        MAP,
+        SyncOps::PREWRITE,
+        Want::Refused(ReportName::SyncOrder, 4),
+    )?;
+    sync_range(
+        rt,
+        alloc,
+        lane,
+        MAP,
+        (4, 2),
+        SyncOps(1 + 2),
+        Want::Refused(ReportName::MixedSync, 0),
+    )?;
+    sync_range(rt, alloc, lane, MAP, (4, 2), SyncOps::POSTREAD, Want::Done)?;
+    cpu_read(
+        rt,
+        alloc,
+        lane,
+        PAGE,
+        8,
+        Want::Refused(ReportName::StaleByte, 4),
+    )?;
+    cpu_read(rt, alloc, lane, PAGE, 4, Want::Read(&[0, 0, 0, 0]))
 }
 
 /// The second map is made, and loaded with the bytes of the first.
@@ -149,11 +227,30 @@ fn no_byte_is_lent_twice(rt: HostRuntime) -> Result<(), Fail> {
     let (mut lane, mut hub) = open(&rt, alloc, &scenario)?;
     load(&rt, alloc, &mut lane, &mut hub)?;
     load_other(&rt, alloc, &mut lane, &mut hub)?;
-    let lent = lane.sync_range(alloc, OTHER, 6, 2, SyncOps::PREREAD)?;
-    assert!(rt; is_done(&lent));
-    let sync = lane.sync(alloc, MAP, SyncOps::PREWRITE)?;
-    assert!(rt; is_refused(&sync, ReportName::Overlap, 6));
-    let sync_range = lane.sync_range(alloc, MAP, 7, 2, SyncOps::PREREAD)?;
-    assert!(rt; is_refused(&sync_range, ReportName::Overlap, 7));
-    Ok(())
+    sync_range(
+        &rt,
+        alloc,
+        &mut lane,
+        OTHER,
+        (6, 2),
+        SyncOps::PREREAD,
+        Want::Done,
+    )?;
+    sync(
+        &rt,
+        alloc,
+        &mut lane,
+        MAP,
+        SyncOps::PREWRITE,
+        Want::Refused(ReportName::Overlap, 6),
+    )?;
+    sync_range(
+        &rt,
+        alloc,
+        &mut lane,
+        MAP,
+        (7, 2),
+        SyncOps::PREREAD,
+        Want::Refused(ReportName::Overlap, 7),
+    )
 }
