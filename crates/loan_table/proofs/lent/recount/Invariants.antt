@@ -1,0 +1,16 @@
+use Rattle.std.proofs.Common.{◌≡◌, ℕ, ◌+◌, ◌≤◌, drop, map}
+use Rattle.run_set.specs.Counts.{count}
+use Rattle.loan_table.specs.Counted.{places}
+use Rattle.loan_table.specs.Kinds.{test_of}
+use Rattle.loan_table.specs.Lending.{marked}
+use Rattle.loan_table.proofs.lent.recount.Given as goal
+
+abbrev pub invariant-loop-position : goal.invariant-loop-position
+invariant-loop-position l = record {
+  counted : (a : ℕ) → count l.counts a + places (test_of l.way) a l.positions
+      + places (test_of l.way) a (map (marked l.ops.0) (drop l.position-index l.positions))
+      ≡ count l.initial.counts a + places (test_of l.way) a (map (marked l.ops.0) l.positions)
+      + places (test_of l.way) a (drop l.position-index l.positions);
+  held : (a : ℕ) → places (test_of l.way) a (drop l.position-index l.positions) ≤ count l.counts a;
+  in_room : l.initial.counts.room ≤ l.counts.room + l.position-index;
+}
