@@ -13,3 +13,4 @@ pub mod Rooms
 pub mod RunMarks
 pub mod Totals
 pub mod Trees
+pub mod Turns

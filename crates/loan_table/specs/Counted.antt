@@ -2,6 +2,7 @@
 use Rattle.std.specs.Prelude.{◌≡◌, ℕ, ◌+◌, ◌≤◌, ◌<◌, ◌&&◌, false, if◌then◌else◌, Bool, List, count_by, sum_by}
 use Rattle.std.specs.FinMap.{entries}
 use Rattle.run_set.specs.Counts.{Counts, count}
+use Rattle.run_set.specs.Edges.{in_run}
 use Rattle.loan_table.specs.declared.position.Position.{Position}
 use Rattle.loan_table.specs.declared.lent.LentCounts.{LentCounts}
 use Rattle.loan_table.specs.declared.row.Way.{Way}
@@ -17,6 +18,10 @@ pub record Lender : Type 0 where
 -- at how many positions the byte at an address is lent, in a way
 abbrev pub places : (Position → Bool) → ℕ → List Position → ℕ
 places way a ps = count_by (λ p. is_at a p && way p) ps
+
+-- at how many positions of a run the byte is lent, where each or none of them lends its byte
+abbrev pub places_in : ℕ → ℕ → Bool → ℕ → ℕ
+places_in start len is_lent a = if in_run start (start + len) a && is_lent then 1 else 0
 
 -- at how many positions of all maps
 abbrev pub lent_places : (Position → Bool) → ℕ → Loans → ℕ

@@ -1,9 +1,9 @@
 //! How often the bytes of a driver are lent.
 
-ghost use Rattle.std.specs.Prelude.{◌≡◌, ℕ, ◌+◌, ◌≤◌, ◌<◌, ◌^◌, ◌&&◌, ◌==◌, if◌then◌else◌, length, map, OnOk, true, []};
+ghost use Rattle.std.specs.Prelude.{◌≡◌, ℕ, ◌+◌, ◌≤◌, ◌<◌, ◌^◌, length, map, OnOk, true, []};
 ghost use Rattle.std.specs.List.{All};
 ghost use Rattle.run_set.specs.Counts.{count};
-ghost use Rattle.loan_table.specs.Counted.{counts_of, places, HasChanges, Holds, IsAlike, IsRecounted};
+ghost use Rattle.loan_table.specs.Counted.{counts_of, places, places_in, HasChanges, Holds, IsAlike, IsRecounted};
 ghost use Rattle.loan_table.specs.Counted.{UsesChanges};
 ghost use Rattle.loan_table.specs.Kinds.{test_of};
 ghost use Rattle.loan_table.specs.Lending.{marked};
@@ -80,6 +80,47 @@ impl LentCounts {
     }
 }
 
+/// Bytes that follow one another, of positions that a call marks alike: whether each was lent, and
+/// whether each is.
+#[derive(Clone, Copy)]
+struct Turn {
+    start: u64,
+    len: u64,
+    was_lent: bool,
+    is_lent: bool,
+}
+
+/// What a call does to one position.
+fn turn_of(way: Way, position: &Position, ops: SyncOps) -> Turn
+    ensures start { result.start ≡ position.now.pa }
+    ensures len { result.len ≡ 1 }
+    ensures was { result.was_lent ≡ test_of way position.now }
+    ensures is { result.is_lent ≡ test_of way (marked ops.0 position.now) }
+{
+    Turn {
+        start: position.pa,
+        len: 1,
+        was_lent: way.passes(position),
+        is_lent: way.passes(&marked(*position, ops)),
+    }
+}
+
+/// Whether a turn goes on with the byte right behind it.
+fn joins(turn: &Turn, next: &Turn) -> bool
+    requires { turn.now.start + turn.now.len < 2 ^ 64 }
+    ensures start { result ≡ true → next.now.start ≡ turn.now.start + turn.now.len }
+    ensures was { result ≡ true → next.now.was_lent ≡ turn.now.was_lent }
+    ensures is { result ≡ true → next.now.is_lent ≡ turn.now.is_lent }
+{
+    if next.start != turn.start + turn.len {
+        return false;
+    }
+    if next.was_lent != turn.was_lent {
+        return false;
+    }
+    next.is_lent == turn.is_lent
+}
+
 /// Counts positions as a call marks them, in one way.
 fn recount(counts: &mut RunCounts, way: Way, positions: &[Position], ops: SyncOps)
     requires low { All (λ p. p.pa < 2 ^ 42) positions.now }
@@ -89,23 +130,33 @@ fn recount(counts: &mut RunCounts, way: Way, positions: &[Position], ops: SyncOp
         ≡ count counts.old a + places (test_of way) a (map (marked ops.0) positions.now) }
     ensures room { counts.old.room ≤ counts.new.room + length positions.now }
 {
-    for position in positions {
-        let is_lent = way.passes(&marked(*position, ops));
-        turn(counts, position.pa, way.passes(position), is_lent);
+    let Some((first, rest)) = positions.split_first() else {
+        return;
+    };
+    let mut turn = turn_of(way, first, ops);
+    for position in rest {
+        let next = turn_of(way, position, ops);
+        if joins(&turn, &next) {
+            turn.len += 1;
+        } else {
+            make(counts, &turn);
+            turn = next;
+        }
     }
+    make(counts, &turn);
 }
 
-/// Counts a position once more or once less, where it is lent now and was not before, or was and is
-/// not.
-fn turn(counts: &mut RunCounts, pa: u64, was_lent: bool, is_lent: bool)
-    requires low { pa < 2 ^ 42 }
-    requires held { was_lent ≡ true → 0 < count counts.old pa }
+/// Counts the bytes of a turn once more or once less, where they are lent now and were not before, or
+/// were and are not.
+fn make(counts: &mut RunCounts, turn: &Turn)
+    requires low { turn.now.start + turn.now.len ≤ 2 ^ 42 }
+    requires held { (a : ℕ) → places_in turn.now.start turn.now.len turn.now.was_lent a ≤ count counts.old a }
     requires room { 1 ≤ counts.old.room }
-    ensures counts { (a : ℕ) → count counts.new a + (if pa == a && was_lent then 1 else 0)
-        ≡ count counts.old a + (if pa == a && is_lent then 1 else 0) }
+    ensures counts { (a : ℕ) → count counts.new a + places_in turn.now.start turn.now.len turn.now.was_lent a
+        ≡ count counts.old a + places_in turn.now.start turn.now.len turn.now.is_lent a }
     ensures room { counts.old.room ≤ counts.new.room + 1 }
 {
-    if was_lent != is_lent {
-        counts.change(pa, pa + 1, is_lent);
+    if turn.was_lent != turn.is_lent {
+        counts.change(turn.start, turn.start + turn.len, turn.is_lent);
     }
 }
