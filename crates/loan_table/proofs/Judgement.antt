@@ -38,6 +38,13 @@ pub length-run_of : (at n : ℕ) → length (run_of at n) ≡ n
 length-run_of at zero = refl
 length-run_of at (suc n) = ap suc (length-run_of (at + 1) n)
 
+-- one that is refused
+pub judged-some : {X : Type 0} (f : X → Option ReportName) (at : ℕ) (xs rest : List X) (x : X) (name : ReportName)
+    (answer : Judged) → xs ≡ x ∷ rest → f x ≡ Some name → judged f at xs ≡ answer →
+    Refused (record { name = name; at = at }) ≡ answer
+judged-some f at xs rest x name answer e some h =
+    sym (ap (λ o. refused_or o at (judged f (at + 1) rest)) some) ∙ sym (ap (judged f at) e) ∙ h
+
 -- one that is not refused: what is left is judged
 pub judged-none : {X : Type 0} (f : X → Option ReportName) (at : ℕ) (xs rest : List X) (x : X) (answer : Judged) →
     xs ≡ x ∷ rest → f x ≡ None → judged f at xs ≡ answer → judged f (at + 1) rest ≡ answer

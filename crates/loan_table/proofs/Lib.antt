@@ -2,11 +2,15 @@ pub mod Addresses
 pub mod Extending
 pub mod Inside
 pub mod Judgement
+pub mod Keeping
 pub mod LoansInTree
 pub mod Marking
 pub mod Places
+pub mod Recounting
 pub mod Removal
 pub mod Results
 pub mod Rooms
 pub mod RunMarks
+pub mod Totals
 pub mod Trees
+pub mod Turns

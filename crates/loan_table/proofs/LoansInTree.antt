@@ -1,8 +1,6 @@
 -- Loans in a tree map: a loan that is found, a test over all loans, and marks that are set.
-use Rattle.std.proofs.Common.{◌≡◌, ℕ, ◌||◌, ◌&&◌, not, ◌==◌, arith, Bool, true, false, List, [], ◌∷◌, Some, None}
-use Rattle.std.proofs.Common.{unwrap_or, cond, refl, sym, ap, ◌∙◌}
-use Rattle.std.proofs.lemmas.Bool.Decides.{nat_tests}
-use Rattle.std.specs.List.{list_any}
+use Rattle.std.proofs.Common.{◌≡◌, ℕ, Bool, true, false, List, [], Some, None}
+use Rattle.std.proofs.Common.{unwrap_or, cond, refl, ap, ◌∙◌}
 use Rattle.std.specs.Ordering.{nat_cmp}
 use Rattle.std.specs.Map.{lookup}
 use Rattle.std.specs.BTreeMap.{is_at}
@@ -33,15 +31,6 @@ pub loan_prepared : (es : List (ℕ × Slot)) (m : ℕ) (slot : Slot) → lookup
 loan_prepared es m slot h o = ap (λ x. unwrap_or x no_loan)
     (get-loans_in false es m ∙ ap (loan_at false) h ∙ ap (λ b. cond b None (Some slot.row)) o)
 
--- what is left to test gives the answer: at an element that passes, and at the end
-pub any_here : {X : Type 0} (p : X → Bool) (all rest tail : List X) (x : X) → list_any p rest ≡ list_any p all →
-    rest ≡ x ∷ tail → p x ≡ true → true ≡ list_any p all
-any_here p all rest tail x e r h = sym (ap (λ b. b || list_any p tail) h) ∙ sym (ap (list_any p) r) ∙ e
-
-pub any_nowhere : {X : Type 0} (p : X → Bool) (all rest : List X) →
-    list_any p rest ≡ list_any p all → rest ≡ [] → false ≡ list_any p all
-any_nowhere p all rest e r = sym (ap (list_any p) r) ∙ e
-
 same_loan : (a b : Loan) → a.coherent ≡ b.coherent → a.positions ≡ b.positions → a ≡ b
 same_loan a b p q = λ i. record { coherent = p i; positions = q i }
 
@@ -54,9 +43,6 @@ synced_open loans m off len ops row new e closed c p =
 pub synced_coherent : (loans : Loans) (m off len : ℕ) (ops : ℕ) (row : Loan) → loan_of loans m ≡ row →
     row.coherent ≡ true → loans ≡ synced loans m off len ops
 synced_coherent loans m off len ops row e open_ = rw (e, open_) refl
-
-pub other_lends : (a b : ℕ) (x : Bool) → (a ≡ b → ⊥) → x ≡ true → (not (a == b) && x) ≡ true
-other_lends a b x ne h = grind (arith, nat_tests)
 
 pub answer_coherent : (loans : Loans) (m off len : ℕ) (ops : ℕ) (row : Loan) → loan_of loans m ≡ row →
     row.coherent ≡ true → Fine ≡ sync_answer loans m off len ops

@@ -1,15 +1,14 @@
 -- At how many places of a list a byte stands.
-use Rattle.std.proofs.Common.{◌≡◌, ℕ, zero, suc, ◌+◌, ◌==◌, Bool, true, false, cond, ◌&&◌, List, [], ◌∷◌, ◌++◌, refl}
+use Rattle.std.proofs.Common.{◌≡◌, ℕ, zero, suc, ◌+◌, ◌==◌, Bool, true, false, cond, List, [], ◌∷◌, ◌++◌, refl}
 use Rattle.std.proofs.Common.{sym, ap, ◌∙◌, arith}
 use Rattle.std.proofs.lemmas.Bool.Decides.{nat_tests}
-use Rattle.std.specs.List.{list_any, count_by}
+use Rattle.std.specs.List.{count_by}
 use Rattle.std.proofs.lemmas.List.Sums.{sum_by-cons, sum_by-append}
 use Rattle.run_set.specs.Counts.{Counts, count, changed}
 use Rattle.run_set.specs.Edges.{in_run}
 use Rattle.busdma_base.specs.Runs.{run_of}
 use Rattle.loan_table.specs.declared.position.Position.{Position}
-use Rattle.loan_table.specs.Rows.{CountsPlaces}
-use Rattle.loan_table.specs.Loans.{Loan, addresses_of, is_at, lends}
+use Rattle.loan_table.specs.Loans.{addresses_of, is_at}
 
 -- how often a byte stands in a list that begins with another byte
 places-cons : (a b : ℕ) (bs : List ℕ) → count_by (λ x. x == a) (b ∷ bs) ≡ cond (b == a) 1 0 + count_by (λ x. x == a) bs
@@ -57,27 +56,3 @@ places_of : (a : ℕ) (ps : List Position) → count_by (λ x. x == a) (addresse
 places_of a [] = refl
 places_of a (p ∷ ps) = places-cons a p.pa (addresses_of ps) ∙ ap (λ k. cond (p.pa == a) 1 0 + k) (places_of a ps)
     ∙ sym (sum_by-cons (λ (x : Position). cond (x.pa == a) 1 0) p ps)
-
--- a byte that stands nowhere is not lent
-count_first : (a : ℕ) (p : Position) (ps : List Position) (b : Bool) → (p.pa == a) ≡ b →
-    count_by (is_at a) (p ∷ ps) ≡ 0 → cond b 1 0 + count_by (is_at a) ps ≡ 0
-count_first a p ps b e h = ap (λ t. cond t 1 0 + count_by (is_at a) ps) (sym e)
-    ∙ sym (sum_by-cons (λ (x : Position). cond (x.pa == a) 1 0) p ps) ∙ h
-
-none_first : (way : Position → Bool) (a : ℕ) (p : Position) (ps : List Position) (b : Bool) →
-    (p.pa == a) ≡ b → cond b 1 0 + count_by (is_at a) ps ≡ 0
-    → (count_by (is_at a) ps ≡ 0 → false ≡ list_any (λ q. is_at a q && way q) ps) →
-    false ≡ list_any (λ q. is_at a q && way q) (p ∷ ps)
-none_first way a p ps true e h rest = absurd (omega arith)
-none_first way a p ps false e h rest = rw e (rest (omega arith))
-
-none_lends : (way : Position → Bool) (a : ℕ) (ps : List Position) → count_by (is_at a) ps ≡ 0 →
-    false ≡ list_any (λ q. is_at a q && way q) ps
-none_lends way a [] h = refl
-none_lends way a (p ∷ ps) h =
-    none_first way a p ps (p.pa == a) refl (count_first a p ps (p.pa == a) refl h) (none_lends way a ps)
-
-pub lends_nowhere : (way : Position → Bool) (places : Counts) (loan : Loan) (a : ℕ) →
-    CountsPlaces places (addresses_of loan.positions) → count places a ≡ 0 → false ≡ lends way a loan
-lends_nowhere way places loan a h none =
-    none_lends way a loan.positions (sym (places_of a loan.positions) ∙ sym (h a) ∙ none)

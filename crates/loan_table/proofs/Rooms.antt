@@ -11,6 +11,8 @@ use Rattle.std.proofs.lemmas.List.{length-take}
 use Rattle.std.proofs.lemmas.Map.Entries.{sum_by-remove_entry, sum_by-set_value, sum_by-insert_entry}
 use Rattle.loan_table.specs.declared.position.Position.{Position}
 use Rattle.loan_table.specs.declared.slot.Slot.{Slot}
+use Rattle.loan_table.specs.declared.lent.LentCounts.{LentCounts}
+use Rattle.loan_table.specs.Counted.{counts_of, HasChanges, HasCountRoom, UsesChanges}
 use Rattle.loan_table.specs.Kept.{HasRoom, position_count}
 use Rattle.busdma_base.specs.Machine.Wire.{stretch}
 use Rattle.loan_table.specs.Lending.{marked_range}
@@ -141,3 +143,39 @@ pub room_left : (b c : Marks) (p s : ℕ) → HasRoom b p s → 1 ≤ s → b.ro
 room_left b c p s h some r =
     let all : p + p + (p + p) + (s + s) ≤ b.room = h.changes some in
     record { forgets = omega arith; changes = λ q. absurd (omega arith); drops = λ q. absurd (omega arith) }
+
+-- the room of the counts: as it was made, where less may change, after a map goes, and after n bytes are changed
+pub count_room_made : (l : LentCounts) (p s : ℕ) → HasChanges l (p + p) → HasCountRoom l p s
+count_room_made l p s h =
+    record { forgets = λ way. let all : p + p ≤ (counts_of l way).room = h way in omega arith; changes = λ some. h }
+
+pub room_kept : (l : LentCounts) (p s t : ℕ) → t ≤ s → HasCountRoom l p s → HasCountRoom l p t
+room_kept l p s t le h = record { forgets = h.forgets; changes = λ some. h.changes (omega arith) }
+
+pub count_room_less : (l m : LentCounts) (p q s n : ℕ) → HasCountRoom l p s → q + n ≡ p → UsesChanges l m n →
+    HasCountRoom m q s
+count_room_less l m p q s n h e used = record {
+  forgets = λ way.
+      let all : p ≤ (counts_of l way).room = h.forgets way in
+      let less : (counts_of l way).room ≤ (counts_of m way).room + n = used way in omega arith;
+  changes = λ some way.
+      let all : p + p ≤ (counts_of l way).room = h.changes some way in
+      let less : (counts_of l way).room ≤ (counts_of m way).room + n = used way in omega arith;
+}
+
+pub count_room_used : (l m : LentCounts) (p s n left : ℕ) → HasCountRoom l p s → n ≤ p → (0 < n → 0 < s) →
+    UsesChanges l m n → left ≤ s → (0 < left → n ≡ 0) → HasCountRoom m p left
+count_room_used l m p s zero left h small k used le z = record {
+  forgets = λ way.
+      let all : p ≤ (counts_of l way).room = h.forgets way in
+      let less : (counts_of l way).room ≤ (counts_of m way).room + 0 = used way in omega arith;
+  changes = λ some way.
+      let all : p + p ≤ (counts_of l way).room = h.changes (omega arith) way in
+      let less : (counts_of l way).room ≤ (counts_of m way).room + 0 = used way in omega arith;
+}
+count_room_used l m p s (suc n) left h small k used le z = record {
+  forgets = λ way.
+      let all : p + p ≤ (counts_of l way).room = h.changes (k (omega arith)) way in
+      let less : (counts_of l way).room ≤ (counts_of m way).room + suc n = used way in omega arith;
+  changes = λ some. absurd (let none : suc n ≡ 0 = z some in omega arith);
+}

@@ -7,6 +7,8 @@ use Rattle.std.specs.FinMap.{FinMap, get}
 use Rattle.std.specs.FinMap as map
 use Rattle.busdma_base.specs.declared.machine.address.Extent.{Extent}
 use Rattle.loan_table.specs.declared.slot.Slot.{Slot}
+use Rattle.loan_table.specs.declared.lent.LentCounts.{LentCounts}
+use Rattle.loan_table.specs.Counted.{LendsNothing, IsCounted, HasCountRoom}
 use Rattle.std.specs.Map.{values_of}
 use Rattle.loan_table.specs.Marks.{Marks}
 use Rattle.loan_table.specs.Loans.{Loans, loan_of, addresses_of}
@@ -37,14 +39,21 @@ pub record HasRoom (bytes : Marks) (positions spare : ℕ) : Type 0 where
   pub changes : 0 < spare → positions + positions + (positions + positions) + (spare + spare) ≤ bytes.room
   pub drops : 0 < spare → 2 ≤ bytes.there_room
 
+-- maps that are prepared alone lend nothing
+abbrev pub AreIdle : Loans → Type 0
+AreIdle loans = (m : ℕ) → LendsNothing (loan_of loans m).positions
+
 -- what is true of the fields of each table
-pub record IsKept (bytes : Marks) (loans : BTreeMap ℕ Slot) (positions spare : ℕ) : Type 0 where
+pub record IsKept (bytes : Marks) (loans : BTreeMap ℕ Slot) (lent : LentCounts) (positions spare : ℕ) : Type 0 where
   pub ordered : IsOrdered nat_cmp loans
   pub inside : HasItsBytes bytes.bytes (opened loans)
   pub prepared : HasItsBytes bytes.bytes (closed loans)
   pub low : AreLow bytes.bytes
   pub counted : position_count loans.entries ≡ positions
   pub room : HasRoom bytes positions spare
+  pub lent_counted : IsCounted lent (opened loans)
+  pub idle : AreIdle (closed loans)
+  pub count_room : HasCountRoom lent positions spare
 
 abbrev pub table_code : Coded Table
 table_code =

@@ -1,4 +1,5 @@
 pub mod Access
+pub mod Counted
 pub mod Kinds
 pub mod Kept
 pub mod Lending

@@ -1,11 +1,10 @@
 -- Tree maps of slots as finite maps: the loans of the open maps, and of those that are prepared.
-use Rattle.std.specs.Prelude.{ℕ, Bool, true, false, ◌&&◌, if◌then◌else◌, List, [], ◌∷◌, Option, Some, None}
+use Rattle.std.specs.Prelude.{ℕ, Bool, true, false, if◌then◌else◌, List, [], ◌∷◌, Option, Some, None}
 use Rattle.std.specs.Ordering.{nat_cmp}
 use Rattle.std.specs.BTreeMap.{BTreeMap}
 use Rattle.std.specs.FinMap.{FinMap, empty, insert, remove}
-use Rattle.loan_table.specs.declared.position.Position.{Position}
 use Rattle.loan_table.specs.declared.slot.Slot.{Slot}
-use Rattle.loan_table.specs.Loans.{Loan, Loans, lends}
+use Rattle.loan_table.specs.Loans.{Loan, Loans}
 
 -- a finite map with a value at a key, or with none there
 abbrev pub with_value : {X : Type 0} → FinMap nat_cmp X → ℕ → Option X → FinMap nat_cmp X
@@ -29,7 +28,3 @@ opened t = loans_in true t.entries
 -- the prepared maps of a tree
 abbrev pub closed : BTreeMap ℕ Slot → Loans
 closed t = loans_in false t.entries
-
--- the map of a slot is open and lends the byte at an address, in a way
-abbrev pub slot_lends : (Position → Bool) → ℕ → Slot → Bool
-slot_lends way a slot = slot.is_open && lends way a slot.row

@@ -2,23 +2,20 @@
 
 ghost use Rattle.std.specs.Prelude.{◌≡◌, ◌+◌, ◌<◌, ◌^◌};
 ghost use Rattle.std.specs.List.{All};
-ghost use Rattle.std.specs.Ordering.{nat_cmp};
-ghost use Rattle.std.specs.BTreeMap as tree;
 ghost use Rattle.busdma_base.specs.Journals.Judging.{judged};
 ghost use Rattle.busdma_base.specs.Runs.{run_of, addresses, byte_count};
 ghost use Rattle.loan_table.specs.Access.{cpu_read_refusal, cpu_write_refusal, dev_read_refusal, dev_write_refusal};
+ghost use Rattle.loan_table.specs.Counted.{IsCounted};
 ghost use Rattle.loan_table.specs.Kept.{Ends};
 ghost use Rattle.loan_table.specs.Kinds.{cpu_refusal, dev_refusal};
+ghost use Rattle.loan_table.specs.Loans.{Loans};
 ghost use Rattle.loan_table.specs.Table.{is_marked};
-ghost use Rattle.loan_table.specs.Trees.{opened};
 
-use crate::loans::lent;
+use crate::lent::LentCounts;
 use crate::marks::ByteMarks;
 use crate::position::Position;
 use crate::row::Way;
-use crate::slot::Slot;
 use busdma_base::{Extent, Judged, Report, ReportName};
-use std::collections::BTreeMap;
 
 /// What is done to bytes.
 #[derive(Clone, Copy)]
@@ -28,11 +25,10 @@ pub enum Access {
 }
 
 /// What the driver meets where it reads a byte.
-fn cpu_read_refusal(bytes: &ByteMarks, loans: &BTreeMap<u32, Slot>, pa: u64) -> Option<ReportName>
-    requires { tree.IsOrdered nat_cmp loans.now }
-    ensures { result ≡ cpu_read_refusal (is_marked bytes.now.bytes) (opened loans.now) pa }
+fn cpu_read_refusal(bytes: &ByteMarks, lent: &LentCounts, pa: u64) -> Option<ReportName>
+    ensures { (loans : Loans) → IsCounted lent.now loans → result ≡ cpu_read_refusal (is_marked bytes.now.bytes) loans pa }
 {
-    if lent(loans, Way::ToWrite, pa) {
+    if lent.count(Way::ToWrite, pa) > 0 {
         Some(ReportName::CpuReadLent)
     } else if bytes.is_known(pa) {
         None
@@ -42,11 +38,10 @@ fn cpu_read_refusal(bytes: &ByteMarks, loans: &BTreeMap<u32, Slot>, pa: u64) -> 
 }
 
 /// What the driver meets where it writes a byte.
-fn cpu_write_refusal(loans: &BTreeMap<u32, Slot>, pa: u64) -> Option<ReportName>
-    requires { tree.IsOrdered nat_cmp loans.now }
-    ensures { result ≡ cpu_write_refusal (opened loans.now) pa }
+fn cpu_write_refusal(lent: &LentCounts, pa: u64) -> Option<ReportName>
+    ensures { (loans : Loans) → IsCounted lent.now loans → result ≡ cpu_write_refusal loans pa }
 {
-    if lent(loans, Way::Any, pa) {
+    if lent.count(Way::Any, pa) > 0 {
         Some(ReportName::CpuWriteLent)
     } else {
         None
@@ -54,38 +49,31 @@ fn cpu_write_refusal(loans: &BTreeMap<u32, Slot>, pa: u64) -> Option<ReportName>
 }
 
 /// What the driver meets at a byte.
-fn cpu_refusal(
-    bytes: &ByteMarks,
-    loans: &BTreeMap<u32, Slot>,
-    access: Access,
-    pa: u64,
-) -> Option<ReportName>
-    requires { tree.IsOrdered nat_cmp loans.now }
-    ensures { result ≡ cpu_refusal access (is_marked bytes.now.bytes) (opened loans.now) pa }
+fn cpu_refusal(bytes: &ByteMarks, lent: &LentCounts, access: Access, pa: u64) -> Option<ReportName>
+    ensures { (loans : Loans) → IsCounted lent.now loans → result ≡ cpu_refusal access (is_marked bytes.now.bytes) loans pa }
 {
     match access {
-        Access::Read => cpu_read_refusal(bytes, loans, pa),
-        Access::Write => cpu_write_refusal(loans, pa),
+        Access::Read => cpu_read_refusal(bytes, lent, pa),
+        Access::Write => cpu_write_refusal(lent, pa),
     }
 }
 
 /// The judgement of the driver's access of a run, whose first byte stands at a place.
 fn judge_run(
     bytes: &ByteMarks,
-    loans: &BTreeMap<u32, Slot>,
+    lent: &LentCounts,
     access: Access,
     run: &Extent,
     place: u64,
 ) -> Judged
-    requires ordered { tree.IsOrdered nat_cmp loans.now }
     requires ends { Ends run.now }
     requires place { place + run.now.len < 2 ^ 64 }
-    ensures { let refusal = cpu_refusal access (is_marked bytes.now.bytes) (opened loans.now) in
-        result ≡ judged refusal place (run_of run.now.pa.0 run.now.len) }
+    ensures { (loans : Loans) → IsCounted lent.now loans →
+        let refusal = cpu_refusal access (is_marked bytes.now.bytes) loans in result ≡ judged refusal place (run_of run.now.pa.0 run.now.len) }
 {
     let mut at = place;
     for pa in run.pa.0..run.pa.0 + run.len {
-        if let Some(name) = cpu_refusal(bytes, loans, access, pa) {
+        if let Some(name) = cpu_refusal(bytes, lent, access, pa) {
             return Judged::Refused(Report { name, at });
         }
         at += 1;
@@ -96,19 +84,18 @@ fn judge_run(
 /// The judgement of the driver's access of extents.
 pub fn judge_extents(
     bytes: &ByteMarks,
-    loans: &BTreeMap<u32, Slot>,
+    lent: &LentCounts,
     access: Access,
     extents: &[Extent],
 ) -> Judged
-    requires ordered { tree.IsOrdered nat_cmp loans.now }
     requires ends { All Ends extents.now }
     requires total { byte_count extents.now < 2 ^ 64 }
-    ensures { let refusal = cpu_refusal access (is_marked bytes.now.bytes) (opened loans.now) in
-        result ≡ judged refusal 0 (addresses extents.now) }
+    ensures { (loans : Loans) → IsCounted lent.now loans →
+        let refusal = cpu_refusal access (is_marked bytes.now.bytes) loans in result ≡ judged refusal 0 (addresses extents.now) }
 {
     let mut at = 0;
     for extent in extents {
-        if let Judged::Refused(report) = judge_run(bytes, loans, access, extent, at) {
+        if let Judged::Refused(report) = judge_run(bytes, lent, access, extent, at) {
             return Judged::Refused(report);
         }
         at += extent.len;

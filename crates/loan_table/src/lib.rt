@@ -3,6 +3,7 @@
 
 mod access;
 mod extents;
+mod lent;
 mod loans;
 mod marks;
 mod position;

@@ -5,11 +5,10 @@ ghost use Rattle.std.specs.Ordering.{nat_cmp};
 ghost use Rattle.std.specs.BTreeMap as tree;
 ghost use Rattle.std.specs.FinMap as finmap;
 ghost use Rattle.loan_table.specs.Kept.{position_count};
-ghost use Rattle.loan_table.specs.Kinds.{test_of};
-ghost use Rattle.loan_table.specs.Loans.{loan_of, lent, lent_elsewhere};
+ghost use Rattle.loan_table.specs.Loans.{loan_of};
 ghost use Rattle.loan_table.specs.Trees.{closed, opened};
 
-use crate::row::{LoanRow, Way};
+use crate::row::LoanRow;
 use crate::slot::Slot;
 use std::collections::BTreeMap;
 
@@ -53,30 +52,4 @@ pub fn positions_of(slot: Option<Slot>) -> u64
         Some(slot) => slot.row.len(),
         None => 0,
     }
-}
-
-/// Whether some open map lends a byte.
-pub fn lent(loans: &BTreeMap<u32, Slot>, way: Way, pa: u64) -> bool
-    requires { tree.IsOrdered nat_cmp loans.now }
-    ensures { result ≡ lent (test_of way) pa (opened loans.now) }
-{
-    for (_id, slot) in loans {
-        if slot.lends(way, pa) {
-            return true;
-        }
-    }
-    false
-}
-
-/// Whether some open map other than this one lends a byte.
-pub fn lent_elsewhere(loans: &BTreeMap<u32, Slot>, way: Way, map: u32, pa: u64) -> bool
-    requires { tree.IsOrdered nat_cmp loans.now }
-    ensures { result ≡ lent_elsewhere (test_of way) map pa (opened loans.now) }
-{
-    for (id, slot) in loans {
-        if *id != map && slot.lends(way, pa) {
-            return true;
-        }
-    }
-    false
 }

@@ -17,6 +17,18 @@ pub fn edges_for(positions: u64, parts: u64) -> Result<usize, AllocError>
     Ok((positions * 4 + parts * 2 + 2) as usize)
 }
 
+/// The changes of counts to forget and to change each of so many positions once. Numbers that no
+/// memory can hold are refused.
+pub fn changes_for(positions: u64) -> Result<usize, AllocError>
+    ensures { IfOk result (λ changes. changes ≡ positions + positions) }
+{
+    const MOST: u64 = 0x1000_0000_0000_0000;
+    if positions > MOST {
+        return Err(AllocError);
+    }
+    Ok((positions * 2) as usize)
+}
+
 /// A sum, where it is a number that memory can hold.
 pub fn sum_of(a: u64, b: u64) -> Result<u64, AllocError>
     ensures { IfOk result (λ sum. sum ≡ a + b) }

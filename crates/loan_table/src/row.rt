@@ -1,18 +1,20 @@
 //! What one map lends.
 
-ghost use Rattle.std.specs.Prelude.{◌≡◌, ℕ, ◌+◌, ◌<◌, ◌≤◌, ◌^◌, ◌++◌, length, slice_index, IfOk, OnOk, false, true};
+ghost use Rattle.std.specs.Prelude.{◌≡◌, ℕ, ◌+◌, ◌<◌, ◌≤◌, ◌^◌, ◌++◌, length, slice_index, IfOk, OnOk, false, true, []};
 ghost use Rattle.std.specs.List.{filter, All};
 ghost use Rattle.busdma_base.specs.Runs.{run_of, addresses};
+ghost use Rattle.loan_table.specs.Counted.{places, HasChanges, Holds, IsPlaced, IsRecounted, UsesChanges};
 ghost use Rattle.loan_table.specs.Kept.{Ends};
 ghost use Rattle.loan_table.specs.Kinds.{test_of};
 ghost use Rattle.busdma_base.specs.Machine.Wire.{stretch};
 ghost use Rattle.loan_table.specs.Lending.{marked, marked_range, loses};
-ghost use Rattle.loan_table.specs.Loans.{lends, stands_twice, addresses_of, unlent, to_write, new_loan};
+ghost use Rattle.loan_table.specs.Loans.{stands_twice, addresses_of, unlent, to_write, new_loan};
 ghost use Rattle.loan_table.specs.Rows.{CountsPlaces};
 ghost use Rattle.loan_table.specs.Table.{AreIn, set_all};
 ghost use Rattle.run_set.specs.Counts.{changed, count};
 ghost use Rattle.run_set.specs.Edges.{in_run};
 
+use crate::lent::LentCounts;
 use crate::marks::ByteMarks;
 use crate::position::Position;
 use bitflags::Flags;
@@ -31,7 +33,7 @@ pub enum Way {
 
 impl Way {
     /// Whether a position is lent in this way.
-    fn passes(self, position: &Position) -> bool
+    pub fn passes(self, position: &Position) -> bool
         ensures { result ≡ test_of self position.now }
     {
         match self {
@@ -109,26 +111,36 @@ impl LoanRow {
         self.positions[at as usize].pa
     }
 
-    /// Whether some position lends the byte.
-    pub fn lends(&self, way: Way, pa: u64) -> bool
-        ensures { result ≡ lends (test_of way) pa self.now }
-    {
-        if self.places.count(pa) == 0 {
-            return false;
-        }
-        for position in &self.positions {
-            if position.pa == pa && way.passes(position) {
-                return true;
-            }
-        }
-        false
-    }
-
     /// Whether the byte stands at more than one position.
     pub fn stands_twice(&self, pa: u64) -> bool
         ensures { result ≡ stands_twice pa self.now }
     {
         self.places.count(pa) > 1
+    }
+
+    /// At how many positions the map lends the byte of a position.
+    pub fn lent_places(&self, way: Way, position: Position) -> u64
+        requires { IsPlaced self.now position }
+        ensures { result ≡ places (test_of way) position.pa self.now.positions }
+    {
+        if self.stands_twice(position.pa) {
+            count_lent(&self.positions, way, position.pa)
+        } else if way.passes(&position) {
+            1
+        } else {
+            0
+        }
+    }
+
+    /// The positions are counted no more among those that are lent.
+    pub fn uncount(&self, lent: &mut LentCounts)
+        requires low { All (λ p. p.pa < 2 ^ 42) self.now.positions }
+        requires held { Holds lent.old self.now.positions }
+        requires room { HasChanges lent.old (length self.now.positions) }
+        ensures counts { IsRecounted lent.old lent.new self.now.positions [] }
+        ensures room { UsesChanges lent.old lent.new (length self.now.positions) }
+    {
+        lent.forget(&self.positions);
     }
 
     /// Makes Unknown the bytes that the map lends to write.
@@ -152,6 +164,19 @@ impl LoanRow {
     {
         mark_range(&mut self.positions, off, len, ops);
     }
+}
+
+/// How many of the positions lend a byte.
+fn count_lent(positions: &[Position], way: Way, pa: u64) -> u64
+    ensures { result ≡ places (test_of way) pa positions.now }
+{
+    let mut count = 0;
+    for position in positions {
+        if position.pa == pa && way.passes(position) {
+            count += 1;
+        }
+    }
+    count
 }
 
 /// Sets the marks of a range of positions.
@@ -198,7 +223,7 @@ fn lose_lent(bytes: &mut ByteMarks, positions: &[Position])
 }
 
 /// The marks of a position after a call.
-fn marked(position: Position, ops: SyncOps) -> Position
+pub fn marked(position: Position, ops: SyncOps) -> Position
     ensures { result ≡ marked ops.0 position }
 {
     Position {

@@ -1,18 +1,22 @@
 //! The judgement of a sync of a range of a map's buffer, and what it does.
 
 ghost use Rattle.std.specs.Prelude.{◌≡◌, ◌+◌, ◌<◌, ◌≤◌, ◌^◌, length, IsSome, false};
+ghost use Rattle.std.specs.List.{All};
 ghost use Rattle.std.specs.Ordering.{nat_cmp};
 ghost use Rattle.std.specs.BTreeMap as tree;
 ghost use Rattle.std.specs.FinMap as finmap;
 ghost use Rattle.busdma_base.specs.Journals.Judging.{judged};
 ghost use Rattle.loan_table.specs.Lending.{lost, synced, sync_answer, sync_refusal, prewrite_refusal, preread_refusal};
 ghost use Rattle.loan_table.specs.Lending.{postread_refusal};
+ghost use Rattle.loan_table.specs.Counted.{HasChanges, IsCounted, IsOf, IsPlaced, Lender, UsesChanges};
 ghost use Rattle.loan_table.specs.Kept.{position_count};
-ghost use Rattle.loan_table.specs.Loans.{loan_of, addresses_of};
+ghost use Rattle.loan_table.specs.Kinds.{test_of};
+ghost use Rattle.loan_table.specs.Loans.{loan_of, addresses_of, lent_elsewhere};
 ghost use Rattle.loan_table.specs.Table.{AreIn, set_all};
 ghost use Rattle.loan_table.specs.Trees.{closed, opened};
 
-use crate::loans::{lent_elsewhere, row_of};
+use crate::lent::LentCounts;
+use crate::loans::row_of;
 use crate::marks::ByteMarks;
 use crate::position::Position;
 use crate::row::{self, LoanRow, Way};
@@ -22,14 +26,24 @@ use busdma_base::{Judged, Report, ReportName};
 use dma_tag::SyncOps;
 use std::collections::BTreeMap;
 
+/// Whether some map other than this one lends the byte of one of its positions.
+fn lent_elsewhere(lent: &LentCounts, row: &LoanRow, way: Way, position: Position) -> bool
+    requires placed { IsPlaced row.now position }
+    ensures { (lender : Lender) → IsOf lent.now row.now lender →
+        result ≡ lent_elsewhere (test_of way) lender.map position.pa lender.loans }
+{
+    lent.count(way, position.pa) > row.lent_places(way, position)
+}
+
 /// What PREWRITE meets at a position.
-fn prewrite_refusal(loans: &BTreeMap<u32, Slot>, map: u32, position: Position) -> Option<ReportName>
-    requires { tree.IsOrdered nat_cmp loans.now }
-    ensures { result ≡ prewrite_refusal (opened loans.now) map position }
+fn prewrite_refusal(lent: &LentCounts, row: &LoanRow, position: Position) -> Option<ReportName>
+    requires placed { IsPlaced row.now position }
+    ensures { (lender : Lender) → IsOf lent.now row.now lender →
+        result ≡ prewrite_refusal lender.loans lender.map position }
 {
     if position.to_write {
         Some(ReportName::SyncOrder)
-    } else if lent_elsewhere(loans, Way::ToWrite, map, position.pa) {
+    } else if lent_elsewhere(lent, row, Way::ToWrite, position) {
         Some(ReportName::Overlap)
     } else {
         None
@@ -37,19 +51,14 @@ fn prewrite_refusal(loans: &BTreeMap<u32, Slot>, map: u32, position: Position) -
 }
 
 /// What PREREAD meets at a position.
-fn preread_refusal(
-    loans: &BTreeMap<u32, Slot>,
-    map: u32,
-    row: &LoanRow,
-    position: Position,
-) -> Option<ReportName>
-    requires ordered { tree.IsOrdered nat_cmp loans.now }
-    requires row { row.now ≡ loan_of (opened loans.now) map }
-    ensures { result ≡ preread_refusal (opened loans.now) map position }
+fn preread_refusal(lent: &LentCounts, row: &LoanRow, position: Position) -> Option<ReportName>
+    requires placed { IsPlaced row.now position }
+    ensures { (lender : Lender) → IsOf lent.now row.now lender →
+        result ≡ preread_refusal lender.loans lender.map position }
 {
     if position.to_write {
         None
-    } else if lent_elsewhere(loans, Way::Any, map, position.pa) || row.stands_twice(position.pa) {
+    } else if row.stands_twice(position.pa) || lent_elsewhere(lent, row, Way::Any, position) {
         Some(ReportName::Overlap)
     } else {
         None
@@ -65,15 +74,14 @@ fn postread_refusal(position: Position) -> Option<ReportName>
 
 /// What a call meets at a position: SyncOrder before Overlap, whatever the operations.
 fn sync_refusal(
-    loans: &BTreeMap<u32, Slot>,
-    map: u32,
+    lent: &LentCounts,
     row: &LoanRow,
     ops: SyncOps,
     position: Position,
 ) -> Option<ReportName>
-    requires ordered { tree.IsOrdered nat_cmp loans.now }
-    requires row { row.now ≡ loan_of (opened loans.now) map }
-    ensures { result ≡ sync_refusal (opened loans.now) map ops.0 position }
+    requires placed { IsPlaced row.now position }
+    ensures { (lender : Lender) → IsOf lent.now row.now lender →
+        result ≡ sync_refusal lender.loans lender.map ops.0 position }
 {
     if ops.contains(SyncOps::POSTREAD) {
         if let Some(name) = postread_refusal(position) {
@@ -81,12 +89,12 @@ fn sync_refusal(
         }
     }
     if ops.contains(SyncOps::PREWRITE) {
-        if let Some(name) = prewrite_refusal(loans, map, position) {
+        if let Some(name) = prewrite_refusal(lent, row, position) {
             return Some(name);
         }
     }
     if ops.contains(SyncOps::PREREAD) {
-        preread_refusal(loans, map, row, position)
+        preread_refusal(lent, row, position)
     } else {
         None
     }
@@ -94,20 +102,19 @@ fn sync_refusal(
 
 /// The judgement of positions, the first of which stands at a place.
 fn judge(
-    loans: &BTreeMap<u32, Slot>,
-    map: u32,
+    lent: &LentCounts,
     row: &LoanRow,
     ops: SyncOps,
     positions: &[Position],
     place: u64,
 ) -> Judged
-    requires ordered { tree.IsOrdered nat_cmp loans.now }
-    requires row { row.now ≡ loan_of (opened loans.now) map }
+    requires placed { All (IsPlaced row.now) positions.now }
     requires fits { place + length positions.now < 2 ^ 64 }
-    ensures { result ≡ judged (sync_refusal (opened loans.now) map ops.0) place positions.now }
+    ensures { (lender : Lender) → IsOf lent.now row.now lender →
+        result ≡ judged (sync_refusal lender.loans lender.map ops.0) place positions.now }
 {
     for (i, position) in positions.iter().enumerate() {
-        if let Some(name) = sync_refusal(loans, map, row, ops, *position) {
+        if let Some(name) = sync_refusal(lent, row, ops, *position) {
             return Judged::Refused(Report {
                 name,
                 at: place + i as u64,
@@ -118,8 +125,15 @@ fn judge(
 }
 
 /// The answer of a call on a range.
-pub fn answer(loans: &BTreeMap<u32, Slot>, map: u32, off: u64, len: u64, ops: SyncOps) -> Judged
-    requires ordered { tree.IsOrdered nat_cmp loans.now }
+pub fn answer(
+    lent: &LentCounts,
+    loans: &BTreeMap<u32, Slot>,
+    map: u32,
+    off: u64,
+    len: u64,
+    ops: SyncOps,
+) -> Judged
+    requires counted { IsCounted lent.now (opened loans.now) }
     requires there { IsSome (finmap.get (opened loans.now) map) }
     requires range { off + len ≤ length (loan_of (opened loans.now) map).positions }
     ensures { result ≡ sync_answer (opened loans.now) map off len ops.0 }
@@ -128,7 +142,7 @@ pub fn answer(loans: &BTreeMap<u32, Slot>, map: u32, off: u64, len: u64, ops: Sy
     if row.is_coherent() {
         Judged::Fine
     } else {
-        judge(loans, map, row, ops, row.range(off, len), off)
+        judge(lent, row, ops, row.range(off, len), off)
     }
 }
 
@@ -154,6 +168,29 @@ pub fn lose(
     let row = row_of(loans, map);
     if !row.is_coherent() {
         row::lose(bytes, row.range(off, len), ops);
+    }
+}
+
+/// Counts what the positions of a range lend after a call.
+pub fn count(
+    lent: &mut LentCounts,
+    loans: &BTreeMap<u32, Slot>,
+    map: u32,
+    off: u64,
+    len: u64,
+    ops: SyncOps,
+)
+    requires there { IsSome (finmap.get (opened loans.now) map) }
+    requires range { off + len ≤ length (loan_of (opened loans.now) map).positions }
+    requires low { All (λ p. p.pa < 2 ^ 42) (loan_of (opened loans.now) map).positions }
+    requires counted { IsCounted lent.old (opened loans.now) }
+    requires room { HasChanges lent.old len }
+    ensures counted { IsCounted lent.new (synced (opened loans.now) map off len ops.0) }
+    ensures room { UsesChanges lent.old lent.new len }
+{
+    let row = row_of(loans, map);
+    if !row.is_coherent() {
+        lent.mark(row.range(off, len), ops);
     }
 }
 

@@ -14,9 +14,10 @@ ghost use Rattle.loan_table.specs.Table.{without, IsPrepared, IsSame, IsSynced, 
 ghost use Rattle.loan_table.specs.Trees.{with_value};
 
 use crate::access::{self, Access};
+use crate::lent::LentCounts;
 use crate::loans::{is_open, open, positions_of, row_of};
 use crate::marks::ByteMarks;
-use crate::room::{edges_for, spare_after, sum_of};
+use crate::room::{changes_for, edges_for, spare_after, sum_of};
 use crate::row::LoanRow;
 use crate::slot::Slot;
 use crate::{extents, marks, sync};
@@ -34,6 +35,7 @@ use std::marker::Model;
 pub struct LoanTable {
     bytes: ByteMarks,
     loans: BTreeMap<u32, Slot>,
+    lent: LentCounts,
     positions: u64,
     spare: u64,
 }
@@ -54,7 +56,7 @@ impl Model for LoanTable {
       spare = t.spare;
     } };
 
-    ghost invariant = { λ t. IsKept t.bytes t.loans t.positions t.spare };
+    ghost invariant = { λ t. IsKept t.bytes t.loans t.lent t.positions t.spare };
 }
 
 impl LoanTable {
@@ -68,6 +70,7 @@ impl LoanTable {
         LoanTable {
             bytes: ByteMarks::new(alloc),
             loans: BTreeMap::new(alloc),
+            lent: LentCounts::new(alloc),
             positions: 0,
             spare: 0,
         }
@@ -205,6 +208,7 @@ impl LoanTable {
         let row = LoanRow::over(alloc, coherent, bytes)?;
         let positions = sum_of(self.positions, row.len())?;
         self.bytes.reserve(edges_for(positions, self.spare)?)?;
+        self.lent.reserve(changes_for(positions)?)?;
         let gone = loans.insert(map.made_at, Slot { is_open, row })?;
         self.positions = positions - positions_of(gone);
         Ok(())
@@ -222,6 +226,7 @@ impl LoanTable {
     {
         let slot = self.loans.remove(&map.made_at).unwrap();
         slot.row.lose_lent(&mut self.bytes);
+        slot.row.uncount(&mut self.lent);
         self.positions -= slot.row.len();
     }
 
@@ -249,6 +254,7 @@ impl LoanTable {
             return Ok(());
         }
         self.bytes.reserve(edges_for(self.positions, parts)?)?;
+        self.lent.reserve(changes_for(self.positions)?)?;
         self.spare = parts;
         Ok(())
     }
@@ -296,9 +302,10 @@ impl LoanTable {
         ensures there { AreIn self.old.bytes (lost self.old.loans map.made_at off len ops.0) }
         ensures spare { self.new.spare ≤ self.old.spare }
     {
-        let answer = sync::answer(&self.loans, map.made_at, off, len, ops);
+        let answer = sync::answer(&self.lent, &self.loans, map.made_at, off, len, ops);
         if let Judged::Fine = answer {
             sync::lose(&mut self.bytes, &self.loans, map.made_at, off, len, ops);
+            sync::count(&mut self.lent, &self.loans, map.made_at, off, len, ops);
             sync::mark(&mut self.loans, map.made_at, off, len, ops);
             self.spare = spare_after(self.spare, len);
         }
@@ -312,7 +319,7 @@ impl LoanTable {
         requires total { byte_count bytes.now < 2 ^ 64 }
         ensures { result ≡ cpu_read_answer (is_known self.now) self.now.loans (addresses bytes.now) }
     {
-        access::judge_extents(&self.bytes, &self.loans, Access::Read, bytes)
+        access::judge_extents(&self.bytes, &self.lent, Access::Read, bytes)
     }
 
     /// Whether the driver may write bytes. A refusal names the first byte that stands in the way,
@@ -322,7 +329,7 @@ impl LoanTable {
         requires total { byte_count bytes.now < 2 ^ 64 }
         ensures { result ≡ cpu_write_answer self.now.loans (addresses bytes.now) }
     {
-        access::judge_extents(&self.bytes, &self.loans, Access::Write, bytes)
+        access::judge_extents(&self.bytes, &self.lent, Access::Write, bytes)
     }
 
     /// Whether the device may read `len` bytes from `off` on in a map's buffer. A refusal names the

@@ -3,14 +3,15 @@ use Rattle.busdma_base.specs.Journals.Judging.{judged}
 use Rattle.busdma_base.specs.Runs.{run_of}
 use Rattle.loan_table.specs.Kinds.{cpu_refusal}
 use Rattle.loan_table.specs.Table.{is_marked}
-use Rattle.loan_table.specs.Trees.{opened}
+use Rattle.loan_table.specs.Counted.{IsCounted}
+use Rattle.loan_table.specs.Loans.{Loans}
 use Rattle.loan_table.proofs.access.judge_run.Given as goal
 
 abbrev pub invariant-loop-pa : goal.invariant-loop-pa
 invariant-loop-pa l =
-    let refusal = cpu_refusal l.access (is_marked l.bytes.bytes) (opened l.loans) in
     record {
-      judged_so_far : judged refusal l.at (run_of l.pa (l.pa-end - l.pa))
-          ≡ judged refusal l.place (run_of l.run.pa.0 l.run.len);
+      judged_so_far : (loans : Loans) → IsCounted l.lent loans →
+          judged (cpu_refusal l.access (is_marked l.bytes.bytes) loans) l.at (run_of l.pa (l.pa-end - l.pa))
+          ≡ judged (cpu_refusal l.access (is_marked l.bytes.bytes) loans) l.place (run_of l.run.pa.0 l.run.len);
       in_place : l.at + (l.pa-end - l.pa) ≡ l.place + l.run.len;
     }

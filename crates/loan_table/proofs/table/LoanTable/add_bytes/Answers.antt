@@ -26,4 +26,7 @@ invariant_of-self-2 c =
           room_made c.add_run.new.self c.self.inside.positions c.self.inside.spare
           (omega (arith, c.in_ok-edges_for.ensures, c.in_ok-reserve.ensures.ok, c.add_run.ensures.room))
           (omega (arith, c.in_ok-reserve.ensures.there_ok, c.add_run.ensures.there_room));
+      lent_counted = c.self.invariant.lent_counted;
+      idle = c.self.invariant.idle;
+      count_room = c.self.invariant.count_room;
     }

@@ -1,11 +1,11 @@
-use Rattle.std.proofs.Common.{sym, subst}
+use Rattle.std.proofs.Common.{sym, subst, arith}
 use Rattle.busdma_base.specs.Runs.{run_of}
 use Rattle.loan_table.specs.Kept.{AreLow}
 use Rattle.loan_table.specs.Loans.{loan_of, addresses_of}
 use Rattle.loan_table.specs.Table.{AreIn}
 use Rattle.loan_table.specs.Trees.{closed, opened}
 use Rattle.loan_table.proofs.Addresses.{AreIn-set_all, AreLow-add}
-use Rattle.loan_table.proofs.Rooms.{one_run, two_edges, room_left}
+use Rattle.loan_table.proofs.Rooms.{one_run, two_edges, room_left, room_kept}
 use Rattle.loan_table.proofs.table.LoanTable.add_reserved.Goals as goal
 
 pub add_run-requires-clause-room : goal.add_run-requires-clause-room
@@ -33,4 +33,8 @@ invariant_of-self c =
       room =
           room_left c.self.inside.bytes c.add_run.new.self c.self.inside.positions c.self.inside.spare
           c.self.invariant.room (rw (← c.self.view_is) at c.requires.room) c.add_run.ensures.room;
+      lent_counted = c.self.invariant.lent_counted;
+      idle = c.self.invariant.idle;
+      count_room = room_kept c.self.inside.lent c.self.inside.positions c.self.inside.spare 0 (omega arith)
+          c.self.invariant.count_room;
     }

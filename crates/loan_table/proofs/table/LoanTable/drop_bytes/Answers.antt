@@ -4,6 +4,7 @@ use Rattle.loan_table.specs.Kept.{AreLow, HasItsBytes}
 use Rattle.loan_table.specs.Trees.{closed, opened}
 use Rattle.loan_table.proofs.Addresses.{run_fits}
 use Rattle.loan_table.proofs.Removal.{HasItsBytes-without, AreLow-without}
+use Rattle.loan_table.proofs.Rooms.{room_kept}
 use Rattle.loan_table.proofs.table.LoanTable.drop_bytes.Goals as goal
 
 pub remove_run-requires-clause-fits : goal.remove_run-requires-clause-fits
@@ -32,6 +33,10 @@ invariant_of-self c =
         changes = λ some. absurd (omega arith);
         drops = λ some. absurd (omega arith);
       };
+      lent_counted = c.self.invariant.lent_counted;
+      idle = c.self.invariant.idle;
+      count_room = room_kept c.self.inside.lent c.self.inside.positions c.self.inside.spare 0 (omega arith)
+          c.self.invariant.count_room;
     }
 
 pub returns-clause-bytes : goal.returns-clause-bytes

@@ -1,10 +1,11 @@
-use Rattle.std.proofs.Common.{◌≡◌, ◌+◌, ◌∙◌, false, refl, None, arith}
+use Rattle.std.proofs.Common.{◌≡◌, ◌+◌, ◌∙◌, false, refl, None, arith, sym, subst}
+use Rattle.loan_table.specs.Counted.{IsCounted, LendsNothing}
 use Rattle.loan_table.specs.Kept.{position_count}
 use Rattle.loan_table.specs.Loans.{addresses_of}
 use Rattle.loan_table.specs.Table.{AreIn}
 use Rattle.loan_table.specs.Trees.{closed}
 use Rattle.loan_table.proofs.Marking.{take_loan}
-use Rattle.loan_table.proofs.Rooms.{count_taken, left_by_map}
+use Rattle.loan_table.proofs.Rooms.{count_taken, left_by_map, count_room_less}
 use Rattle.loan_table.proofs.Trees.{loans_in-change, opened_stay}
 use Rattle.loan_table.proofs.table.LoanTable.drop_prepared.Goals as goal
 
@@ -35,6 +36,13 @@ invariant_of-self c =
       counted = omega (arith, sum);
       room = left_by_map c.self.inside.bytes c.self.inside.bytes c.self.inside.positions _ c.self.inside.spare
           c.positions_of.result c.self.invariant.room (omega (arith, sum)) (omega arith) refl;
+      lent_counted = subst (IsCounted c.self.inside.lent) (sym (opened_stay es c.remove-gone.new.self.entries map
+          (rw (← c.self.view_is) at c.requires) c.remove-gone.ensures.updates.0)) c.self.invariant.lent_counted;
+      idle = λ m. rw (loans_in-change false es c.remove-gone.new.self.entries map None
+          c.remove-gone.ensures.updates.0)
+          (take_loan LendsNothing (closed c.self.inside.loans) map (λ way a. refl) c.self.invariant.idle m);
+      count_room = count_room_less c.self.inside.lent c.self.inside.lent c.self.inside.positions _ c.self.inside.spare
+          c.positions_of.result c.self.invariant.count_room (omega (arith, sum)) (λ way. omega arith);
     }
 
 pub returns-clause-prepared : goal.returns-clause-prepared

@@ -1,12 +1,16 @@
-use Rattle.std.proofs.Common.{◌≡◌, ◌+◌, length, ap, sym, ◌∙◌, subst, true, false, is_some, refl, None, arith}
+use Rattle.std.proofs.Common.{◌≡◌, ◌+◌, length, ap, sym, ◌∙◌, subst, true, false, is_some, refl, None, arith, []}
+use Rattle.loan_table.specs.Counted.{IsCounted, IsRecounted, Holds}
+use Rattle.loan_table.proofs.Recounting.{counted_without, held_loan}
+use Rattle.loan_table.proofs.Extending.{AllLow}
 use Rattle.std.specs.List.{filter}
 use Rattle.loan_table.specs.Kept.{AreLow, position_count}
 use Rattle.loan_table.specs.Loans.{Loan, to_write, addresses_of}
 use Rattle.loan_table.specs.Table.{AreIn, set_all}
+use Rattle.loan_table.specs.Trees.{loans_in}
 use Rattle.loan_table.proofs.Addresses.{AreIn-set_all, AreLow-set_all}
 use Rattle.loan_table.proofs.LoansInTree.{loan_found}
 use Rattle.loan_table.proofs.Marking.{take_loan, AreIn-filter}
-use Rattle.loan_table.proofs.Rooms.{count_removed, left_by_map}
+use Rattle.loan_table.proofs.Rooms.{count_removed, left_by_map, count_room_less}
 use Rattle.loan_table.proofs.Trees.{closed_stay, is_there, loans_in-change, open_there}
 use Rattle.loan_table.proofs.table.LoanTable.forget.Goals as goal
 
@@ -30,6 +34,33 @@ lose_lent-requires-clause-room c =
     ∙ count_removed c.self.inside.loans.entries _ c.unwrap-slot.result (sym c.remove.ensures.value
     ∙ c.unwrap-slot.ensures) ∙ c.self.invariant.counted in
     omega (arith, sum, c.self.invariant.room.forgets)
+
+pub uncount-requires-clause-low : goal.uncount-requires-clause-low
+uncount-requires-clause-low c =
+    let at = sym c.remove.ensures.value ∙ c.unwrap-slot.ensures in
+    AllLow c.self.inside.bytes.bytes c.self.invariant.low c.unwrap-slot.result.row.positions
+    (subst (λ (l : Loan). AreIn c.self.inside.bytes.bytes (addresses_of l.positions))
+    (loan_found c.self.inside.loans.entries c.args.map.made_at _ at
+    (open_there _ _ _ at (rw (← c.self.view_is) at c.requires)))
+    (c.self.invariant.inside c.args.map.made_at))
+
+pub uncount-requires-clause-held : goal.uncount-requires-clause-held
+uncount-requires-clause-held c =
+    let at = sym c.remove.ensures.value ∙ c.unwrap-slot.ensures in
+    subst (λ (l : Loan). Holds c.self.inside.lent l.positions)
+    (loan_found c.self.inside.loans.entries c.args.map.made_at _ at
+    (open_there _ _ _ at (rw (← c.self.view_is) at c.requires)))
+    (held_loan c.self.inside.lent (loans_in true c.self.inside.loans.entries) c.args.map.made_at
+    c.self.invariant.lent_counted)
+
+pub uncount-requires-clause-room : goal.uncount-requires-clause-room
+uncount-requires-clause-room c way =
+    let sum : position_count c.remove.new.self.entries
+    + length c.unwrap-slot.result.row.positions ≡ c.self.inside.positions =
+    ap (λ es. position_count es + length c.unwrap-slot.result.row.positions) c.remove.ensures.entries
+    ∙ count_removed c.self.inside.loans.entries _ c.unwrap-slot.result (sym c.remove.ensures.value
+    ∙ c.unwrap-slot.ensures) ∙ c.self.invariant.counted in
+    omega (arith, sum, c.self.invariant.count_room.forgets way)
 
 pub overflow_sub-self : goal.overflow_sub-self
 overflow_sub-self c =
@@ -77,6 +108,16 @@ invariant_of-self c =
       room = left_by_map c.self.inside.bytes c.lose_lent.new.bytes c.self.inside.positions _ c.self.inside.spare
           (length slot.row.positions) c.self.invariant.room (omega (arith, sum, c.len.ensures))
           c.lose_lent.ensures.room c.lose_lent.ensures.there_room;
+      lent_counted = subst (IsCounted c.uncount.new.lent)
+          (sym (loans_in-change true es c.remove.new.self.entries map None c.remove.ensures.updates.0))
+          (counted_without c.self.inside.lent c.uncount.new.lent (loans_in true es) map c.self.invariant.lent_counted
+          (subst (λ (l : Loan). IsRecounted c.self.inside.lent c.uncount.new.lent l.positions []) (sym found)
+          c.uncount.ensures.counts));
+      idle = λ m. rw (closed_stay es c.remove.new.self.entries map slot None at is_open refl
+          c.remove.ensures.updates.0) (c.self.invariant.idle m);
+      count_room = count_room_less c.self.inside.lent c.uncount.new.lent c.self.inside.positions _ c.self.inside.spare
+          (length slot.row.positions) c.self.invariant.count_room (omega (arith, sum, c.len.ensures))
+          c.uncount.ensures.room;
     }
 
 pub returns-clause-bytes : goal.returns-clause-bytes

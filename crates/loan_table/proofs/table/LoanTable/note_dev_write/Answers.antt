@@ -5,7 +5,7 @@ use Rattle.loan_table.specs.Loans.{loan_of, addresses_of}
 use Rattle.loan_table.specs.Trees.{opened}
 use Rattle.loan_table.proofs.Addresses.{AreIn-set_all, AreLow-set_all}
 use Rattle.loan_table.proofs.Marking.{AreIn-range}
-use Rattle.loan_table.proofs.Rooms.{count_bound, needs_spare, range_small, used_bytes}
+use Rattle.loan_table.proofs.Rooms.{count_bound, needs_spare, range_small, used_bytes, room_kept}
 use Rattle.loan_table.proofs.table.LoanTable.note_dev_write.Goals as goal
 
 pub set_positions-requires-clause-there : goal.set_positions-requires-clause-there
@@ -50,4 +50,8 @@ invariant_of-self c =
           (needs_spare c.args.off c.args.len c.self.inside.spare ps range (rw (← c.self.view_is) at c.requires.room))
           (omega (arith, small, used)) c.spare_after-self-inside.ensures.small
           c.spare_after-self-inside.ensures.some c.set_positions.ensures.there_room;
+      lent_counted = c.self.invariant.lent_counted;
+      idle = c.self.invariant.idle;
+      count_room = room_kept c.self.inside.lent c.self.inside.positions c.self.inside.spare _
+          c.spare_after-self-inside.ensures.small c.self.invariant.count_room;
     }

@@ -1,4 +1,7 @@
-use Rattle.std.proofs.Common.{◌∙◌}
+use Rattle.std.proofs.Common.{◌∙◌, sym, subst, refl, Some}
+use Rattle.loan_table.specs.Counted.{IsCounted, LendsNothing}
+use Rattle.loan_table.proofs.Recounting.{counted_with}
+use Rattle.loan_table.proofs.Trees.{not_open}
 use Rattle.loan_table.specs.Loans.{loan_of, addresses_of}
 use Rattle.loan_table.specs.Table.{AreIn}
 use Rattle.loan_table.specs.Trees.{closed, opened}
@@ -20,4 +23,11 @@ invariant_of-self c =
       low = c.self.invariant.low;
       counted = c.open.ensures.count ∙ c.self.invariant.counted;
       room = c.self.invariant.room;
+      lent_counted = subst (IsCounted c.self.inside.lent) (sym c.open.ensures.opened)
+          (counted_with c.self.inside.lent (opened loans) map (Some (loan_of (closed loans) map))
+          c.self.invariant.lent_counted
+          (not_open loans.entries map (rw (← c.self.view_is) at c.requires)) (c.self.invariant.idle map));
+      idle = λ m. rw c.open.ensures.closed
+          (take_loan LendsNothing (closed loans) map (λ way a. refl) c.self.invariant.idle m);
+      count_room = c.self.invariant.count_room;
     }

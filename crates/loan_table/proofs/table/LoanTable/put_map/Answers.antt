@@ -7,12 +7,16 @@ use Rattle.std.specs.FinMap.{FinMap}
 use Rattle.busdma_base.specs.Runs.{addresses}
 use Rattle.loan_table.specs.declared.slot.Slot.{Slot}
 use Rattle.loan_table.specs.Kept.{AreLow, position_count}
+use Rattle.loan_table.proofs.Keeping.{kept_more}
 use Rattle.loan_table.specs.Loans.{Loan, addresses_of, no_loan}
 use Rattle.loan_table.specs.Table.{AreIn}
-use Rattle.loan_table.specs.Trees.{closed, opened, with_value, loan_if}
+use Rattle.loan_table.specs.Trees.{closed, opened, with_value, loan_if, loans_in}
 use Rattle.loan_table.proofs.Addresses.{AllEnd}
 use Rattle.loan_table.proofs.Marking.{with_loan, addresses_of-unlent}
-use Rattle.loan_table.proofs.Rooms.{count_put, room_made}
+use Rattle.loan_table.proofs.Rooms.{count_put, room_made, count_room_made}
+use Rattle.loan_table.specs.Counted.{IsCounted, LendsNothing}
+use Rattle.loan_table.proofs.Recounting.{counted_with, none_lent}
+use Rattle.loan_table.proofs.Results.{is_none}
 use Rattle.loan_table.proofs.Trees.{loans_in-change}
 use Rattle.loan_table.proofs.table.LoanTable.put_map.Goals as goal
 
@@ -36,6 +40,16 @@ inside_closed : (m : FinMap nat_cmp Bool) (b : Bool) (row : Loan) → AreIn m (a
     AreIn m (addresses_of (unwrap_or (loan_if false (record { is_open = b; row = row })) no_loan).positions)
 inside_closed m true row h = tt
 inside_closed m false row h = h
+
+idle_open : (b : Bool) (row : Loan) → LendsNothing row.positions →
+    LendsNothing (unwrap_or (loan_if true (record { is_open = b; row = row })) no_loan).positions
+idle_open true row h = h
+idle_open false row h = λ way a. refl
+
+idle_closed : (b : Bool) (row : Loan) → LendsNothing row.positions →
+    LendsNothing (unwrap_or (loan_if false (record { is_open = b; row = row })) no_loan).positions
+idle_closed true row h = λ way a. refl
+idle_closed false row h = h
 
 pub over-requires : goal.over-requires
 over-requires c = AllEnd _ c.self.invariant.low _ (rw (← c.self.view_is) at c.requires.there)
@@ -66,6 +80,8 @@ invariant_of-self-2 c =
     let there : AreIn bytes (addresses_of c.in_ok-row.row.positions) =
     rw (c.in_ok-row.ensures, addresses_of-unlent (addresses c.args.bytes.now))
     (rw (← c.self.view_is) at c.requires.there) in
+    let idle : LendsNothing c.in_ok-row.row.positions =
+    rw c.in_ok-row.ensures (λ way a. none_lent way a (addresses c.args.bytes.now)) in
     record {
       ordered = c.in_ok-gone.ensures.ordered;
       inside = λ m.
@@ -88,6 +104,17 @@ invariant_of-self-2 c =
           room_made c.reserve.new.self (c.in_ok-positions.positions - c.positions_of.result) c.self.inside.spare
           (omega (arith, c.in_ok-edges_for.ensures, c.in_ok-reserve.ensures.ok))
           (omega (arith, c.in_ok-reserve.ensures.there_ok));
+      lent_counted = subst (IsCounted c.reserve-2.new.self)
+          (sym (loans_in-change true es c.insert.new.self.entries map (Some slot) c.in_ok-gone.ensures.updates.0))
+          (counted_with c.reserve-2.new.self (loans_in true es) map (loan_if true slot)
+          (λ way a. c.reserve-2.ensures.same way a ∙ c.self.invariant.lent_counted way a)
+          (is_none _ (rw (← c.self.view_is) at c.requires.fresh)) (idle_open c.args.is_open c.in_ok-row.row idle));
+      idle = λ m.
+          rw (loans_in-change false es c.insert.new.self.entries map (Some slot) c.in_ok-gone.ensures.updates.0)
+          (with_loan LendsNothing (loans_in false es) map (loan_if false slot)
+          (idle_closed c.args.is_open c.in_ok-row.row idle) c.self.invariant.idle m);
+      count_room = count_room_made c.reserve-2.new.self (c.in_ok-positions.positions - c.positions_of.result)
+          c.self.inside.spare (λ way. omega (arith, c.in_ok-changes_for.ensures, c.in_ok-reserve-2.ensures.ok way));
     }
 
 pub returns-clause-loans : goal.returns-clause-loans
@@ -107,3 +134,10 @@ returns-clause-prepared c =
     (Some slot) c.in_ok-gone.ensures.updates.0
     ∙ ap (with_value (closed c.self.inside.loans) c.args.map.made_at)
     (if_closed c.args.is_open c.in_ok-row.row _ c.in_ok-row.ensures))
+
+pub invariant_of-self-in_err-gone : goal.invariant_of-self-in_err-gone
+invariant_of-self-in_err-gone c =
+    kept_more c.self.inside.bytes c.reserve.new.self c.self.inside.loans c.insert.new.self c.self.inside.lent
+    c.reserve-2.new.self c.self.inside.positions c.self.inside.spare c.self.invariant (sym c.in_err-gone.ensures.err)
+    c.reserve.ensures.bytes c.reserve.ensures.room c.reserve.ensures.there_room c.reserve-2.ensures.same
+    c.reserve-2.ensures.room

@@ -5,7 +5,8 @@ use Rattle.loan_table.specs.Loans.{loan_of}
 use Rattle.loan_table.specs.Trees.{opened}
 use Rattle.loan_table.proofs.Addresses.{AreIn-set_all, AreLow-set_all}
 use Rattle.loan_table.proofs.Marking.{addresses_of-synced, AreIn-lost}
-use Rattle.loan_table.proofs.Rooms.{count_bound, needs_spare, used_bytes}
+use Rattle.loan_table.proofs.Rooms.{count_bound, needs_spare, used_bytes, count_room_used}
+use Rattle.loan_table.proofs.Extending.{AllLow}
 use Rattle.loan_table.proofs.table.LoanTable.sync.Goals as goal
 
 pub lose-requires-clause-room : goal.lose-requires-clause-room
@@ -15,6 +16,18 @@ lose-requires-clause-room c =
     let all : length ps ≤ c.self.inside.positions =
     rw c.self.invariant.counted at (count_bound c.self.inside.loans.entries c.args.map.made_at) in
     omega (arith, range, all, c.self.invariant.room.forgets)
+
+pub count-requires-clause-low : goal.count-requires-clause-low
+count-requires-clause-low c =
+    AllLow c.self.inside.bytes.bytes c.self.invariant.low _ (c.self.invariant.inside c.args.map.made_at)
+
+pub count-requires-clause-room : goal.count-requires-clause-room
+count-requires-clause-room c way =
+    let ps = (loan_of (opened c.self.inside.loans) c.args.map.made_at).positions in
+    let range : c.args.off + c.args.len ≤ length ps = rw (← c.self.view_is) at c.requires.range in
+    let all : length ps ≤ c.self.inside.positions =
+    rw c.self.invariant.counted at (count_bound c.self.inside.loans.entries c.args.map.made_at) in
+    omega (arith, range, all, c.self.invariant.count_room.forgets way)
 
 pub invariant_of-self : goal.invariant_of-self
 invariant_of-self c =
@@ -48,6 +61,12 @@ invariant_of-self c =
           (needs_spare c.args.off c.args.len c.self.inside.spare ps range (rw (← c.self.view_is) at c.requires.room))
           c.lose.ensures.room c.spare_after-self-inside.ensures.small
           c.spare_after-self-inside.ensures.some c.lose.ensures.there_room;
+      lent_counted = rw c.mark.ensures.marks c.count.ensures.counted;
+      idle = λ m. rw c.mark.ensures.prepared (c.self.invariant.idle m);
+      count_room = count_room_used c.self.inside.lent c.count.new.lent c.self.inside.positions c.self.inside.spare
+          c.args.len c.spare_after-self-inside.result c.self.invariant.count_room (omega (arith, range, all))
+          (needs_spare c.args.off c.args.len c.self.inside.spare ps range (rw (← c.self.view_is) at c.requires.room))
+          c.count.ensures.room c.spare_after-self-inside.ensures.small c.spare_after-self-inside.ensures.some;
     }
 
 pub returns-in-Fine-clause-there : goal.returns-in-Fine-clause-there

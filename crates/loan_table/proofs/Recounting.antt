@@ -1,0 +1,219 @@
+-- Counts of positions that are lent, as marks are set and positions go.
+use Rattle.std.proofs.Common.{◌≡◌, ℕ, zero, suc, ◌+◌, ◌-◌, ◌≤◌, ◌<◌, ◌&&◌, ◌==◌, Bool, true, false, cond, length}
+use Rattle.std.proofs.Common.{List, [], ◌∷◌, ◌++◌, map, take, drop, get_or, nat_lt, refl, sym, ap, ◌∙◌, arith, Some, None, Option, unwrap_or}
+use Rattle.std.proofs.lemmas.Bool.Decides.{nat_tests}
+use Rattle.std.specs.List.{All, sum_by, count_by}
+use Rattle.std.proofs.lemmas.List.{drop-drop}
+use Rattle.std.proofs.lemmas.List.Sums.{sum_by-cons, sum_by-append, sum_by-take-drop}
+use Rattle.std.proofs.lemmas.List.Elements.{All-from_get_or}
+use Rattle.std.specs.Ordering.{nat_cmp}
+use Rattle.std.specs.FinMap.{get, insert, remove, entries, empty, len-entries, len-empty}
+use Rattle.std.proofs.lemmas.List.{nil_from_length}
+use Rattle.run_set.specs.Numbers.{count_le}
+use Rattle.run_set.specs.Counts.{count}
+use Rattle.busdma_base.specs.Machine.Wire.{stretch}
+use Rattle.loan_table.specs.declared.position.Position.{Position}
+use Rattle.loan_table.specs.declared.lent.LentCounts.{LentCounts}
+use Rattle.loan_table.specs.declared.row.Way.{Way}
+use Rattle.loan_table.specs.declared.row.Way.TheVariants.{ToWrite, Any}
+use Rattle.loan_table.specs.Loans.{Loan, Loans, loan_of, no_loan, is_at, unlent}
+use Rattle.loan_table.specs.Kinds.{test_of}
+use Rattle.loan_table.specs.Lending.{marked, marked_range, synced}
+use Rattle.loan_table.specs.Counted.{places, lent_places, counts_of, IsCounted, IsPlaced, LendsNothing, Holds, IsRecounted}
+use Rattle.loan_table.specs.Trees.{with_value}
+use Rattle.loan_table.proofs.Marking.{no_position}
+use Rattle.loan_table.proofs.Totals.{places-insert, places-remove}
+
+abbrev here : (Position → Bool) → ℕ → Position → ℕ
+here way a p = cond (p.pa == a && way p) 1 0
+
+pub places-cons : (way : Position → Bool) (a : ℕ) (p : Position) (ps : List Position) →
+    places way a (p ∷ ps) ≡ cond (p.pa == a && way p) 1 0 + places way a ps
+places-cons way a p ps = sum_by-cons (here way a) p ps
+
+places-append : (way : Position → Bool) (a : ℕ) (ps qs : List Position) →
+    places way a (ps ++ qs) ≡ places way a ps + places way a qs
+places-append way a ps qs = sum_by-append (here way a) ps qs
+
+-- no position is lent after POSTREAD and POSTWRITE
+pub all_back : (way : Way) (a : ℕ) (ps : List Position) → places (test_of way) a (map (marked 10) ps) ≡ 0
+all_back way a [] = refl
+all_back way a (p ∷ ps) =
+    let one : cond {A = ℕ} (p.pa == a && test_of way (marked 10 p)) 1 0 ≡ 0 = ap (λ b. cond b 1 0) (none way) in
+    omega (arith, one, places-cons (test_of way) a (marked 10 p) (map (marked 10) ps), all_back way a ps)
+  where
+    none : (way : Way) → (p.pa == a && test_of way (marked 10 p)) ≡ false
+    none ToWrite = by (p.pa == a)
+      where
+        by : (b : Bool) → (b && false) ≡ false
+        by true = refl
+        by false = refl
+    none Any = by (p.pa == a)
+      where
+        by : (b : Bool) → (b && false) ≡ false
+        by true = refl
+        by false = refl
+
+pub none_lent : (way : Way) (a : ℕ) (bytes : List ℕ) → places (test_of way) a (unlent bytes) ≡ 0
+none_lent way a [] = refl
+none_lent way a (b ∷ bytes) =
+    let p : Position = record { pa = b; to_read = false; to_write = false } in
+    let one : cond {A = ℕ} (b == a && test_of way p) 1 0 ≡ 0 = ap (λ t. cond t 1 0) (none way) in
+    omega (arith, one, places-cons (test_of way) a p (unlent bytes), none_lent way a bytes)
+  where
+    none : (way : Way) → (b == a && test_of way (record { pa = b; to_read = false; to_write = false })) ≡ false
+    none ToWrite = by (b == a)
+      where
+        by : (b : Bool) → (b && false) ≡ false
+        by true = refl
+        by false = refl
+    none Any = by (b == a)
+      where
+        by : (b : Bool) → (b && false) ≡ false
+        by true = refl
+        by false = refl
+
+-- a range of positions is counted among all
+pub range_places : (way : Position → Bool) (a off len : ℕ) (ps : List Position) →
+    places way a (take off ps) + places way a (stretch off len ps) + places way a (drop (off + len) ps) ≡ places way a ps
+range_places way a off len ps =
+    let whole : places way a (take off ps) + places way a (drop off ps) ≡ places way a ps =
+    sum_by-take-drop (here way a) ps off in
+    let back : places way a (stretch off len ps) + places way a (drop len (drop off ps)) ≡ places way a (drop off ps) =
+    sum_by-take-drop (here way a) (drop off ps) len in
+    let same : places way a (drop len (drop off ps)) ≡ places way a (drop (off + len) ps) =
+    ap (places way a) (drop-drop len off ps) in
+    omega arith
+
+pub held_range : (lent : LentCounts) (loans : Loans) (m off len : ℕ) → IsCounted lent loans →
+    Holds lent (stretch off len (loan_of loans m).positions)
+held_range lent loans m off len counted way a =
+    let all : lent_places (test_of way) a (remove loans m) + places (test_of way) a (loan_of loans m).positions
+    ≡ lent_places (test_of way) a loans = places-remove (test_of way) a loans m in
+    omega (arith, counted way a, all, range_places (test_of way) a off len (loan_of loans m).positions)
+
+pub held_loan : (lent : LentCounts) (loans : Loans) (m : ℕ) → IsCounted lent loans →
+    Holds lent (loan_of loans m).positions
+held_loan lent loans m counted way a =
+    let all : lent_places (test_of way) a (remove loans m) + places (test_of way) a (loan_of loans m).positions
+    ≡ lent_places (test_of way) a loans = places-remove (test_of way) a loans m in
+    omega (arith, counted way a, all)
+
+pub counted_without : (old new : LentCounts) (loans : Loans) (m : ℕ) → IsCounted old loans →
+    IsRecounted old new (loan_of loans m).positions [] → IsCounted new (remove loans m)
+counted_without old new loans m counted re way a =
+    let all : lent_places (test_of way) a (remove loans m) + places (test_of way) a (loan_of loans m).positions
+    ≡ lent_places (test_of way) a loans = places-remove (test_of way) a loans m in
+    omega (arith, counted way a, all, re way a)
+
+pub counted_synced : (old new : LentCounts) (loans : Loans) (m off len ops : ℕ) →
+    (loan_of loans m).coherent ≡ false → IsCounted old loans →
+    IsRecounted old new (stretch off len (loan_of loans m).positions)
+    (map (marked ops) (stretch off len (loan_of loans m).positions)) →
+    IsCounted new (synced loans m off len ops)
+counted_synced old new loans m off len ops closed counted re way a = rw closed (
+    let ps = (loan_of loans m).positions in
+    let put = places-insert (test_of way) a loans m
+    (record { coherent = false; positions = marked_range ops off len ps }) in
+    let parts : places (test_of way) a (marked_range ops off len ps)
+    ≡ places (test_of way) a (take off ps) + places (test_of way) a (map (marked ops) (stretch off len ps))
+    + places (test_of way) a (drop (off + len) ps) =
+    places-append (test_of way) a (take off ps ++ map (marked ops) (stretch off len ps)) (drop (off + len) ps)
+    ∙ ap (λ n. n + places (test_of way) a (drop (off + len) ps))
+    (places-append (test_of way) a (take off ps) (map (marked ops) (stretch off len ps))) in
+    omega (arith, counted way a, re way a, put, parts, range_places (test_of way) a off len ps))
+
+-- a map that lends nothing comes, or one that is not there goes
+pub counted_with : (lent : LentCounts) (loans : Loans) (m : ℕ) (o : Option Loan) → IsCounted lent loans →
+    get loans m ≡ None → LendsNothing (unwrap_or o no_loan).positions → IsCounted lent (with_value loans m o)
+counted_with lent loans m None counted gone none way a =
+    let all : lent_places (test_of way) a (remove loans m) + places (test_of way) a (loan_of loans m).positions
+    ≡ lent_places (test_of way) a loans = places-remove (test_of way) a loans m in
+    let zero_here : places (test_of way) a (loan_of loans m).positions ≡ 0 =
+    ap (λ x. places (test_of way) a (unwrap_or x no_loan).positions) gone in
+    omega (arith, counted way a, all, zero_here)
+counted_with lent loans m (Some new) counted gone none way a =
+    let put : lent_places (test_of way) a (insert loans m new) + places (test_of way) a (loan_of loans m).positions
+    ≡ lent_places (test_of way) a loans + places (test_of way) a new.positions = places-insert (test_of way) a loans m new in
+    let zero_here : places (test_of way) a (loan_of loans m).positions ≡ 0 =
+    ap (λ x. places (test_of way) a (unwrap_or x no_loan).positions) gone in
+    omega (arith, counted way a, put, zero_here, none way a)
+
+-- each position of a loan is placed
+less : (b w : Bool) → cond (b && w) 1 0 ≤ cond b 1 0
+less true true = omega arith
+less true false = omega arith
+less false w = omega arith
+
+fewer : (way : Position → Bool) (a : ℕ) (ps : List Position) → places way a ps ≤ count_by (is_at a) ps
+fewer way a [] = omega arith
+fewer way a (p ∷ ps) =
+    let one : places way a (p ∷ ps) ≡ cond (p.pa == a && way p) 1 0 + places way a ps = places-cons way a p ps in
+    let two : count_by (is_at a) (p ∷ ps) ≡ cond (p.pa == a) 1 0 + count_by (is_at a) ps =
+    sum_by-cons (λ (x : Position). cond (x.pa == a) 1 0) p ps in
+    let small : cond (p.pa == a && way p) 1 0 ≤ cond (p.pa == a) 1 0 = less (p.pa == a) (way p) in
+    omega (arith, one, two, small, fewer way a ps)
+
+count-cons : (a : ℕ) (p : Position) (ps : List Position) →
+    count_by (is_at a) (p ∷ ps) ≡ cond (p.pa == a) 1 0 + count_by (is_at a) ps
+count-cons a p ps = sum_by-cons (λ (x : Position). cond (x.pa == a) 1 0) p ps
+
+same_byte : (n : ℕ) → (n == n) ≡ true
+same_byte n = grind (arith, nat_tests)
+
+stands : (ps : List Position) (i : ℕ) → i < length ps → 0 < count_by (is_at (get_or ps i no_position).pa) ps
+stands [] i lt = absurd (omega arith)
+stands (p ∷ ps) zero lt =
+    let one : count_by (is_at p.pa) (p ∷ ps) ≡ 1 + count_by (is_at p.pa) ps =
+    count-cons p.pa p ps ∙ ap (λ b. cond b 1 0 + count_by (is_at p.pa) ps) (same_byte p.pa) in omega arith
+stands (p ∷ ps) (suc i) lt =
+    omega (arith, count-cons (get_or ps i no_position).pa p ps, stands ps i (omega arith))
+
+placed_at : (way : Position → Bool) (ps : List Position) (i : ℕ) → i < length ps →
+    count_by (is_at (get_or ps i no_position).pa) ps ≤ 1 →
+    places way (get_or ps i no_position).pa ps ≡ cond (way (get_or ps i no_position)) 1 0
+placed_at way [] i lt once = absurd (omega arith)
+placed_at way (p ∷ ps) zero lt once =
+    let first : places way p.pa (p ∷ ps) ≡ cond (way p) 1 0 + places way p.pa ps =
+    places-cons way p.pa p ps ∙ ap (λ b. cond (b && way p) 1 0 + places way p.pa ps) (same_byte p.pa) in
+    let one : count_by (is_at p.pa) (p ∷ ps) ≡ 1 + count_by (is_at p.pa) ps =
+    count-cons p.pa p ps ∙ ap (λ b. cond b 1 0 + count_by (is_at p.pa) ps) (same_byte p.pa) in
+    omega (arith, first, one, once, fewer way p.pa ps)
+placed_at way (p ∷ ps) (suc i) lt once =
+    by (p.pa == (get_or ps i no_position).pa) refl (placed_at way ps i (omega arith))
+  where
+    a : ℕ
+    a = (get_or ps i no_position).pa
+
+    by : (b : Bool) → (p.pa == a) ≡ b →
+        (count_by (is_at a) ps ≤ 1 → places way a ps ≡ cond (way (get_or ps i no_position)) 1 0) →
+        places way a (p ∷ ps) ≡ cond (way (get_or ps i no_position)) 1 0
+    by true e later =
+        let one : count_by (is_at a) (p ∷ ps) ≡ 1 + count_by (is_at a) ps =
+        count-cons a p ps ∙ ap (λ b. cond b 1 0 + count_by (is_at a) ps) e in
+        absurd (omega (arith, one, once, stands ps i (omega arith)))
+    by false e later =
+        let one : count_by (is_at a) (p ∷ ps) ≡ 0 + count_by (is_at a) ps =
+        count-cons a p ps ∙ ap (λ b. cond b 1 0 + count_by (is_at a) ps) e in
+        let first : places way a (p ∷ ps) ≡ 0 + places way a ps =
+        places-cons way a p ps ∙ ap (λ b. cond (b && way p) 1 0 + places way a ps) e in
+        omega (arith, first, later (omega (arith, one, once)))
+
+once_at : (n : ℕ) → nat_lt 1 n ≡ false → n ≤ 1
+once_at n e = grind (arith, nat_tests)
+
+pub all_placed : (loan : Loan) → All (IsPlaced loan) loan.positions
+all_placed loan = All-from_get_or (IsPlaced loan) loan.positions no_position
+    (λ i lt once way. placed_at (test_of way) loan.positions i lt (once_at _ once))
+
+-- no map
+pub none_counted : (lent : LentCounts) (way : Way) (a : ℕ) → lent.to_write.starts ≡ [] → lent.any.starts ≡ [] →
+    count (counts_of lent way) a ≡ lent_places (test_of way) a empty
+none_counted lent way a e f = none lent way a e f ∙ sym (ap (sum_by (λ (x : ℕ × Loan). places (test_of way) a x.1.positions)) entries-empty)
+  where
+    none : (lent : LentCounts) (way : Way) (a : ℕ) → lent.to_write.starts ≡ [] → lent.any.starts ≡ [] → count (counts_of lent way) a ≡ 0
+    none lent ToWrite a e f = ap (λ xs. count_le xs a - count_le lent.to_write.ends a) e ∙ (omega arith)
+    none lent Any a e f = ap (λ xs. count_le xs a - count_le lent.any.ends a) f ∙ (omega arith)
+
+    entries-empty : entries (empty {X = Loan} {R = nat_cmp}) ≡ []
+    entries-empty = nil_from_length _ (sym (len-entries (empty {X = Loan} {R = nat_cmp})) ∙ len-empty nat_cmp Loan)
