@@ -4,6 +4,7 @@ pub mod Inside
 pub mod Judgement
 pub mod Keeping
 pub mod LoansInTree
+pub mod MarkedRuns
 pub mod Marking
 pub mod Places
 pub mod Recounting
@@ -13,4 +14,3 @@ pub mod Rooms
 pub mod RunMarks
 pub mod Totals
 pub mod Trees
-pub mod Turns

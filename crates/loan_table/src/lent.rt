@@ -83,21 +83,21 @@ impl LentCounts {
 /// Bytes that follow one another, of positions that a call marks alike: whether each was lent, and
 /// whether each is.
 #[derive(Clone, Copy)]
-struct Turn {
+struct MarkedRun {
     start: u64,
     len: u64,
     was_lent: bool,
     is_lent: bool,
 }
 
-/// What a call does to one position.
-fn turn_of(way: Way, position: &Position, ops: SyncOps) -> Turn
+/// The run of one position.
+fn marked_run(way: Way, position: &Position, ops: SyncOps) -> MarkedRun
     ensures start { result.start ≡ position.now.pa }
     ensures len { result.len ≡ 1 }
     ensures was { result.was_lent ≡ test_of way position.now }
     ensures is { result.is_lent ≡ test_of way (marked ops.0 position.now) }
 {
-    Turn {
+    MarkedRun {
         start: position.pa,
         len: 1,
         was_lent: way.passes(position),
@@ -105,20 +105,20 @@ fn turn_of(way: Way, position: &Position, ops: SyncOps) -> Turn
     }
 }
 
-/// Whether a turn goes on with the byte right behind it.
-fn joins(turn: &Turn, next: &Turn) -> bool
-    requires { turn.now.start + turn.now.len < 2 ^ 64 }
-    ensures start { result ≡ true → next.now.start ≡ turn.now.start + turn.now.len }
-    ensures was { result ≡ true → next.now.was_lent ≡ turn.now.was_lent }
-    ensures is { result ≡ true → next.now.is_lent ≡ turn.now.is_lent }
+/// Whether a run goes on with the byte right behind it.
+fn joins(run: &MarkedRun, next: &MarkedRun) -> bool
+    requires { run.now.start + run.now.len < 2 ^ 64 }
+    ensures start { result ≡ true → next.now.start ≡ run.now.start + run.now.len }
+    ensures was { result ≡ true → next.now.was_lent ≡ run.now.was_lent }
+    ensures is { result ≡ true → next.now.is_lent ≡ run.now.is_lent }
 {
-    if next.start != turn.start + turn.len {
+    if next.start != run.start + run.len {
         return false;
     }
-    if next.was_lent != turn.was_lent {
+    if next.was_lent != run.was_lent {
         return false;
     }
-    next.is_lent == turn.is_lent
+    next.is_lent == run.is_lent
 }
 
 /// Counts positions as a call marks them, in one way.
@@ -133,30 +133,30 @@ fn recount(counts: &mut RunCounts, way: Way, positions: &[Position], ops: SyncOp
     let Some((first, rest)) = positions.split_first() else {
         return;
     };
-    let mut turn = turn_of(way, first, ops);
+    let mut run = marked_run(way, first, ops);
     for position in rest {
-        let next = turn_of(way, position, ops);
-        if joins(&turn, &next) {
-            turn.len += 1;
+        let next = marked_run(way, position, ops);
+        if joins(&run, &next) {
+            run.len += 1;
         } else {
-            make(counts, &turn);
-            turn = next;
+            count_marked(counts, &run);
+            run = next;
         }
     }
-    make(counts, &turn);
+    count_marked(counts, &run);
 }
 
-/// Counts the bytes of a turn once more or once less, where they are lent now and were not before, or
+/// Counts the bytes of a run once more or once less, where they are lent now and were not before, or
 /// were and are not.
-fn make(counts: &mut RunCounts, turn: &Turn)
-    requires low { turn.now.start + turn.now.len ≤ 2 ^ 42 }
-    requires held { (a : ℕ) → places_in turn.now.start turn.now.len turn.now.was_lent a ≤ count counts.old a }
+fn count_marked(counts: &mut RunCounts, run: &MarkedRun)
+    requires low { run.now.start + run.now.len ≤ 2 ^ 42 }
+    requires held { (a : ℕ) → places_in run.now.start run.now.len run.now.was_lent a ≤ count counts.old a }
     requires room { 1 ≤ counts.old.room }
-    ensures counts { (a : ℕ) → count counts.new a + places_in turn.now.start turn.now.len turn.now.was_lent a
-        ≡ count counts.old a + places_in turn.now.start turn.now.len turn.now.is_lent a }
+    ensures counts { (a : ℕ) → count counts.new a + places_in run.now.start run.now.len run.now.was_lent a
+        ≡ count counts.old a + places_in run.now.start run.now.len run.now.is_lent a }
     ensures room { counts.old.room ≤ counts.new.room + 1 }
 {
-    if turn.was_lent != turn.is_lent {
-        counts.change(turn.start, turn.start + turn.len, turn.is_lent);
+    if run.was_lent != run.is_lent {
+        counts.change(run.start, run.start + run.len, run.is_lent);
     }
 }

@@ -1,4 +1,4 @@
--- Turns: runs of positions that are counted at once.
+-- Runs of positions that are counted at once.
 use Rattle.std.proofs.Common.{◌≡◌, ℕ, ◌+◌, ◌&&◌, ◌==◌, Bool, true, false, cond, List, ◌∷◌, map, refl, ap, ◌∙◌, sym, arith}
 use Rattle.std.proofs.lemmas.Bool.Decides.{nat_tests}
 use Rattle.run_set.specs.Edges.{in_run}
@@ -10,11 +10,11 @@ use Rattle.loan_table.proofs.Recounting.{places-cons}
 one_run : (s a : ℕ) → in_run s (s + 1) a ≡ (s == a)
 one_run s a = grind (arith, nat_tests)
 
--- a turn of one position
+-- a run of one position
 pub first_place : (s a : ℕ) (w : Bool) → places_in s 1 w a ≡ cond (s == a && w) 1 0
 first_place s a w = ap (λ b. cond (b && w) 1 0) (one_run s a)
 
--- a turn that goes on
+-- a run that goes on
 pub next_place : (s n a : ℕ) (w : Bool) → places_in s (n + 1) w a ≡ places_in s n w a + cond (s + n == a && w) 1 0
 next_place s n a false = by (in_run s (s + (n + 1)) a) (in_run s (s + n) a) (s + n == a)
   where
