@@ -1,0 +1,4 @@
+pub mod Flags
+pub mod Matches
+pub mod Numerals
+pub mod Reading

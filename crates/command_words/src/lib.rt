@@ -1,0 +1,10 @@
+//! What the words of the program ask for.
+#![tactic(auto)]
+
+mod command;
+mod line;
+mod number;
+#[cfg(test)]
+mod tests;
+
+pub use command::{Command, command_of};
