@@ -1,5 +1,5 @@
 -- From how a run ends to what a call of the program keeps.
-use Rattle.std.proofs.Common.{◌≡◌, ◌≢◌, ℕ, ◌+◌, ◌≤◌, ◌<◌, ◌↔◌, inl, inr, cond, Bool, true, false, arith}
+use Rattle.std.proofs.Common.{◌≡◌, ◌≢◌, ℕ, ◌+◌, ◌≤◌, ◌<◌, inl, inr, cond, Bool, true, false, arith}
 use Rattle.std.proofs.Common.{List, length, drop, length-drop, Option, Some, None, Result, Ok, Err, refl, sym, ap, ◌∙◌}
 use Rattle.std.proofs.Common.{subst}
 use Rattle.std.proofs.Math.Seq.{drop-length}
@@ -14,7 +14,6 @@ use Rattle.busdma_base.specs.declared.journals.journal.End.TheVariants.{Finished
 use Rattle.json_fields.specs.declared.refusal.Refusal.{Refusal}
 use Rattle.scenario_read.specs.declared.reading.Reading.TheVariants.{Good, Bad}
 use Rattle.scenario_read.specs.Scenario.{scenario_of}
-use Rattle.report_text.specs.Report.{report}
 use Rattle.std.specs.Prelude.{IfSome, IsSomeAnd}
 use Rattle.ideal_world.specs.Legal.{IsReplayed}
 use Rattle.ideal_world.specs.Ends.{status, status_by, has_report}
@@ -23,13 +22,11 @@ use Rattle.busdma_cmd.specs.declared.cause.Cause.TheVariants as cause
 use Rattle.command_words.specs.declared.command.Command.{Command}
 use Rattle.command_words.specs.declared.command.Command.TheVariants.{Replay, Storm}
 use Rattle.command_words.specs.Command.{command}
-use Rattle.storm.specs.Scenario.{storm}
-use Rattle.storm.specs.Summary.{summary}
 use Rattle.busdma_cmd.specs.Edges.{Edges, ReadFailed, NoReadFailed, ReadNothing, ReadAll, ReadAtMost, ReadTooMany, input_limit}
 use Rattle.busdma_cmd.specs.Edges.{WriteFailed, NoWriteFailed, WroteNothing, WroteAll, WrotePart}
 use Rattle.busdma_cmd.specs.Ends.{OfInput, Reads, CountsReads, Replays, EndsBy, outcome}
-use Rattle.busdma_cmd.specs.Outcome.{IsDone, IsOfReading, HasJournal, OrNoMemory, Ran, RanAndWrote, RanUnwritten, AnswersReading, AnswersInput, GaveTooMany, IsComplete, Keeps}
-use Rattle.busdma_cmd.specs.Runs.{IsRead, IsMade, Runs, text_of}
+use Rattle.busdma_cmd.specs.Outcome.{IsDone, IsOfReading, HasJournal, Ran, RanAndWrote, RanUnwritten, AnswersReading, GaveTooMany, IsComplete, Keeps}
+use Rattle.busdma_cmd.specs.Runs.{Runs, text_of}
 
 -- ---- what is taken
 

@@ -1,6 +1,5 @@
 -- What a command runs and writes.
-use Rattle.std.specs.Prelude.{◌≡◌, ◌≤◌, ℕ, List, length}
-use Rattle.io_edge.specs.Reading.{TakesAll}
+use Rattle.std.specs.Prelude.{◌≡◌, ℕ, List}
 use Rattle.busdma_base.specs.declared.scenarios.scenario.Scenario.{Scenario}
 use Rattle.busdma_base.specs.declared.journals.journal.Journal.{Journal}
 use Rattle.scenario_read.specs.declared.reading.Reading.TheVariants.{Good}

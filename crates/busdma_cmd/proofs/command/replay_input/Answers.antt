@@ -1,7 +1,7 @@
 use Rattle.std.proofs.Common.{rules, ◌∙◌}
 use Rattle.busdma_cmd.specs.Edges.{Edges, edges}
 use Rattle.command_words.specs.declared.command.Command.TheVariants.{Replay}
-use Rattle.busdma_cmd.proofs.Endings.{all_written, ran_out, ran_out_after, runs_input, sink_failed}
+use Rattle.busdma_cmd.proofs.Endings.{ran_out, ran_out_after, runs_input, sink_failed}
 use Rattle.busdma_cmd.proofs.command.replay_input.Goals as goal
 
 pub returns-in_err-journal-clause-ends : goal.returns-in_err-journal-clause-ends
