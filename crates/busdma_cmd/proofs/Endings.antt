@@ -1,5 +1,5 @@
--- From how a replay ends to what a call of the program keeps.
-use Rattle.std.proofs.Common.{◌≡◌, ◌≢◌, ℕ, ◌+◌, ◌≤◌, ◌<◌, ◌↔◌, inl, inr, cond, Bool, true, false, arith}
+-- From how a run ends to what a call of the program keeps.
+use Rattle.std.proofs.Common.{◌≡◌, ◌≢◌, ℕ, ◌+◌, ◌≤◌, ◌<◌, inl, inr, cond, Bool, true, false, arith}
 use Rattle.std.proofs.Common.{List, length, drop, length-drop, Option, Some, None, Result, Ok, Err, refl, sym, ap, ◌∙◌}
 use Rattle.std.proofs.Common.{subst}
 use Rattle.std.proofs.Math.Seq.{drop-length}
@@ -14,16 +14,19 @@ use Rattle.busdma_base.specs.declared.journals.journal.End.TheVariants.{Finished
 use Rattle.json_fields.specs.declared.refusal.Refusal.{Refusal}
 use Rattle.scenario_read.specs.declared.reading.Reading.TheVariants.{Good, Bad}
 use Rattle.scenario_read.specs.Scenario.{scenario_of}
-use Rattle.report_text.specs.Report.{report}
+use Rattle.std.specs.Prelude.{IfSome, IsSomeAnd}
 use Rattle.ideal_world.specs.Legal.{IsReplayed}
 use Rattle.ideal_world.specs.Ends.{status, status_by, has_report}
 use Rattle.busdma_cmd.specs.declared.cause.Cause.{Cause}
 use Rattle.busdma_cmd.specs.declared.cause.Cause.TheVariants as cause
-use Rattle.busdma_cmd.specs.Command.{command}
-use Rattle.busdma_cmd.specs.Edges.{Edges, ReadFailed, NoReadFailed, ReadAll, ReadAtMost, ReadTooMany, input_limit}
+use Rattle.command_words.specs.declared.command.Command.{Command}
+use Rattle.command_words.specs.declared.command.Command.TheVariants.{Replay, Storm}
+use Rattle.command_words.specs.Command.{command}
+use Rattle.busdma_cmd.specs.Edges.{Edges, ReadFailed, NoReadFailed, ReadNothing, ReadAll, ReadAtMost, ReadTooMany, input_limit}
 use Rattle.busdma_cmd.specs.Edges.{WriteFailed, NoWriteFailed, WroteNothing, WroteAll, WrotePart}
 use Rattle.busdma_cmd.specs.Ends.{OfInput, Reads, CountsReads, Replays, EndsBy, outcome}
-use Rattle.busdma_cmd.specs.Outcome.{IsDone, HasJournal, Ran, AnswersReading, GaveTooMany, Keeps}
+use Rattle.busdma_cmd.specs.Outcome.{IsDone, IsOfReading, HasJournal, Ran, RanAndWrote, RanUnwritten, AnswersReading, GaveTooMany, IsComplete, Keeps}
+use Rattle.busdma_cmd.specs.Runs.{Runs, text_of}
 
 -- ---- what is taken
 
@@ -50,11 +53,17 @@ nothing_at_most (Some left) after same = (0, omega arith, (omega arith, same))
 -- memory ran out after the whole input was read
 pub ran_out : (e : Edges) (scenario : Scenario) (ran : Result Journal Cause)
     → IsErrAnd ran (λ why. why ≡ cause.OutOfMemory)
-    → Reads e.left e.left_after (Ok scenario) → WroteNothing e → EndsBy e ran
+    → Reads e.left e.left_after (Ok scenario) → WroteNothing e → EndsBy Replay e ran
 ran_out e scenario (Ok journal) is reads nothing = absurd is
 ran_out e scenario (Err why) is reads nothing =
-    subst (λ w. EndsBy e (Err w)) (sym is)
+    subst (λ w. EndsBy Replay e (Err w)) (sym is)
     (all_at_most reads.0 e.left e.left_after reads.1 reads.2, nothing)
+
+-- the scenario of the whole input is the one that the replay runs
+pub runs_input : (e : Edges) (scenario : Scenario) → Reads e.left e.left_after (Ok scenario)
+    → Runs Replay e scenario
+runs_input e scenario reads =
+    record { bytes = reads.0; read = record { all = reads.1; short = reads.2 }; good = reads.3 }
 
 -- and no read had failed
 pub ran_out_after : (before now : ℕ) (ran : Result Journal Cause)
@@ -63,14 +72,29 @@ ran_out_after before now (Ok journal) is stayed = absurd is
 ran_out_after before now (Err why) is stayed =
     subst (λ w. CountsReads {A = Journal} before now (Err w)) (sym is) stayed
 
--- the sink failed before the report's last byte
-pub sink_failed : (e : Edges) (scenario : Scenario) (journal : Journal) (text : List ℕ)
-    → Reads e.left e.left_after (Ok scenario) → IsValid scenario
-    → IsReplayed scenario journal → text ≡ report scenario journal
-    → WrotePart text e → WriteFailed e → EndsBy e (Err (cause.WriteFailed journal))
-sink_failed e scenario journal text reads valid replayed is part failed =
-    let wrote : WrotePart (report scenario journal) e = subst (λ t. WrotePart t e) is part in
-    (failed, (reads.0, reads.1, reads.2, (scenario, reads.3, valid, replayed, wrote)))
+-- the whole text was written
+pub all_written : (c : Command) (e : Edges) (scenario : Scenario) (journal : Journal) (text : List ℕ)
+    → Runs c e scenario → IsValid scenario
+    → IsReplayed scenario journal → text ≡ text_of c scenario journal
+    → WroteAll text e → NoWriteFailed e → EndsBy c e (Ok journal)
+all_written c e scenario journal text runs valid replayed is all well =
+    (well, (scenario, runs, valid, replayed, subst (λ t. WroteAll t e) is all))
+
+-- the sink failed before the text's last byte
+pub sink_failed : (c : Command) (e : Edges) (scenario : Scenario) (journal : Journal) (text : List ℕ)
+    → Runs c e scenario → IsValid scenario
+    → IsReplayed scenario journal → text ≡ text_of c scenario journal
+    → WrotePart text e → WriteFailed e → EndsBy c e (Err (cause.WriteFailed journal))
+sink_failed c e scenario journal text runs valid replayed is part failed =
+    (failed, (scenario, runs, valid, replayed, subst (λ t. WrotePart t e) is part))
+
+-- memory ran out for a storm
+pub storm_ran_out : (n seed : ℕ) (e : Edges) (ran : Result Journal Cause)
+    → IsErrAnd ran (λ why. why ≡ cause.OutOfMemory) → ReadNothing e → WroteNothing e
+    → EndsBy (Storm n seed) e ran
+storm_ran_out n seed e (Ok journal) is read nothing = absurd is
+storm_ran_out n seed e (Err why) is read nothing =
+    subst (λ w. EndsBy (Storm n seed) e (Err w)) (sym is) ((refl, read), nothing)
 
 -- ---- too many bytes
 
@@ -100,6 +124,35 @@ all_not_too_many bytes (Some left) after all short input rest was is more =
 not_gave_too_many : (bytes : List ℕ) (e : Edges) → ReadAll bytes e → GaveTooMany e → ⊥
 not_gave_too_many bytes e read more =
     all_not_too_many bytes e.left e.left_after read.all read.short more.0 more.1 more.2 more.3 more.4
+
+same_length : (before after : Option (List ℕ)) → after ≡ before → (input rest : List ℕ)
+    → before ≡ Some input → after ≡ Some rest → length rest + input_limit < length input → ⊥
+same_length before after same input rest was is more =
+    let one : Some rest ≡ Some input = sym is ∙ (same ∙ was) in
+    let equal : rest ≡ input = cc in
+    let long : length rest ≡ length input = ap length equal in
+    absurd (omega arith)
+
+-- nor are none
+not_gave_unread : (e : Edges) → ReadNothing e → GaveTooMany e → ⊥
+not_gave_unread e read more =
+    same_length e.left e.left_after read.bytes more.0 more.1 more.2 more.3 more.4
+
+-- what a command runs was not too many bytes
+runs_few : (c : Command) (e : Edges) (scenario : Scenario) → Runs c e scenario → GaveTooMany e → ⊥
+runs_few Replay e scenario runs more = not_gave_too_many runs.bytes e runs.read more
+runs_few (Storm n seed) e scenario runs more = not_gave_unread e runs.read more
+
+runs_read : (c : Command) (e : Edges) (scenario : Scenario) → Runs c e scenario → ReadAtMost e
+runs_read Replay e scenario runs =
+    all_at_most runs.bytes e.left e.left_after runs.read.all runs.read.short
+runs_read (Storm n seed) e scenario runs = nothing_at_most e.left e.left_after runs.read.bytes
+
+-- a command that does not read took nothing
+runs_unread : (words : List (List ℕ)) (c : Command) (e : Edges) (scenario : Scenario)
+    → command words ≡ Some c → Runs c e scenario → command words ≢ Some Replay → ReadNothing e
+runs_unread words Replay e scenario asked runs other = absurd (other asked)
+runs_unread words (Storm n seed) e scenario asked runs other = runs.read
 
 -- the bytes that were all of the input are the input
 same_input : (bytes : List ℕ) (before after : Option (List ℕ)) (input : List ℕ)
@@ -157,9 +210,30 @@ no_journal : (n : ℕ) → 2 < n → n ≢ 73 → HasJournal n → ⊥
 no_journal n large other (inl done) = not_done n large done
 no_journal n large other (inr is) = other is
 
-no_usage : (words : List (List ℕ)) (n : ℕ) → command words ≢ None → n ≢ 64
-    → (n ≡ 64) ↔ (command words ≡ None)
-no_usage words n some other = (λ is. absurd (other is), λ none. absurd (some none))
+-- the words ask for this command
+abbrev Asks : List (List ℕ) → Command → Type 0
+Asks words c = command words ≡ Some c
+
+some_command : (words : List (List ℕ)) (c : Command) → Asks words c → command words ≢ None
+some_command words c asked none = let bad : Some c ≡ None = sym asked ∙ none in absurd (cc)
+
+of_command : (words : List (List ℕ)) (c : Command) (P : Command → Type 0) → Asks words c → P c
+    → IsSomeAnd (command words) P
+of_command words c P asked holds = subst (λ o. IsSomeAnd o P) (sym asked) holds
+
+if_command : (words : List (List ℕ)) (c : Command) (P : Command → Type 0) → Asks words c → P c
+    → IfSome (command words) P
+if_command words c P asked holds = subst (λ o. IfSome o P) (sym asked) holds
+
+done_of_reading : (n : ℕ) → IsDone n → IsOfReading n → ⊥
+done_of_reading n done (inl is) = not_done n (omega arith) done
+done_of_reading n done (inr (inl is)) = not_done n (omega arith) done
+done_of_reading n done (inr (inr is)) = not_done n (omega arith) done
+
+other_of_reading : (n : ℕ) → n ≢ 65 → n ≢ 66 → n ≢ 74 → IsOfReading n → ⊥
+other_of_reading n first second third (inl is) = first is
+other_of_reading n first second third (inr (inl is)) = second is
+other_of_reading n first second third (inr (inr is)) = third is
 
 -- a scenario is not good and refused
 not_both : (bytes : List ℕ) (s : Scenario) (r : Refusal) → scenario_of bytes ≡ Good s
@@ -177,30 +251,45 @@ none_is_some is = absurd (cc)
 
 -- ---- each ending
 
-done_keeps : (words : List (List ℕ)) (e : Edges) (j : Journal) → command words ≢ None
-    → NoReadFailed e → NoWriteFailed e → Replays e j WroteAll → Keeps words e (outcome (Ok j))
-done_keeps words e j some well_read well_written ends =
+-- a run that is done and written is complete
+done_complete : (c : Command) (e : Edges) (j : Journal) (scenario : Scenario) → Runs c e scenario
+    → IsDone (status j) → IsComplete c e (outcome (Ok j))
+done_complete Replay e j scenario runs done = record {
+  short = λ input is short unread unwritten.
+      let good : scenario_of input ≡ Good scenario =
+      same_scenario runs.bytes e input runs.read is ∙ runs.good in
+      inl (subst (AnswersReading (outcome (Ok j))) (sym good) done);
+  long = λ input is long unread. absurd (not_long runs.bytes e input runs.read is long);
+  refused = λ input r is short bad unread.
+      absurd (not_both runs.bytes scenario r runs.good
+      (sym (same_scenario runs.bytes e input runs.read is) ∙ bad));
+}
+done_complete (Storm n seed) e j scenario runs done = λ unwritten. inl done
+
+done_keeps : (words : List (List ℕ)) (c : Command) (e : Edges) (j : Journal) → Asks words c
+    → NoReadFailed e → NoWriteFailed e → Replays c e j WroteAll → Keeps words e (outcome (Ok j))
+done_keeps words c e j asked well_read well_written ends =
     let done : IsDone (status j) = status_is_done j in
     let small : status j ≤ 2 = done_is_small (status j) done in
-    let all : ReadAll ends.0 e = record { all = ends.1; short = ends.2 } in
-    let ran : Ran e (outcome (Ok j)) = record {
-      bytes = ends.0;
-      scenario = ends.3.0;
+    let ran : Ran c e (outcome (Ok j)) = record {
+      scenario = ends.0;
       journal = j;
-      read = all;
-      good = ends.3.1;
-      valid = ends.3.2;
+      runs = ends.1;
+      valid = ends.2;
       kept = refl;
-      replayed = ends.3.3;
+      replayed = ends.3;
     } in
     record {
       known = inl done;
-      usage = no_usage words (status j) some (λ is. absurd (omega arith));
-      words_first = λ is. absurd (omega arith);
-      done = λ _. record { ran = ran; wrote = ends.3.4; status = refl };
+      no_command = λ is. absurd (omega arith);
+      usage = λ none. absurd (some_command words c asked none);
+      reads = λ is. absurd (done_of_reading (status j) done is);
+      reads_nothing = λ other. runs_unread words c e ends.0 asked ends.1 other;
+      done = λ _. of_command words c (λ x. RanAndWrote x e (outcome (Ok j))) asked
+          (record { ran = ran; wrote = ends.4; status = refl });
       refused = λ is. absurd (omega arith);
       too_long = λ is. absurd (omega arith);
-      too_many = λ more. absurd (not_gave_too_many ends.0 e all more);
+      too_many = λ more. absurd (runs_few c e ends.0 ends.1 more);
       unwritten = λ is. absurd (omega arith);
       unread = λ is. absurd (omega arith);
       no_read_failed = λ _. well_read;
@@ -208,66 +297,71 @@ done_keeps words e j some well_read well_written ends =
       nothing = inl (inl done);
       journal = (λ _. inl done, λ _. refl);
       fault = (λ is. absurd (none_is_some is), λ is. absurd (omega arith));
-      read_most = all_at_most ends.0 e.left e.left_after ends.1 ends.2;
-      complete = λ _. record {
-        short = λ input is short unread unwritten.
-            let good : scenario_of input ≡ Good ends.3.0 =
-            same_scenario ends.0 e input all is ∙ ends.3.1 in
-            inl (subst (AnswersReading (outcome (Ok j))) (sym good) done);
-        long = λ input is long unread. absurd (not_long ends.0 e input all is long);
-        refused = λ input r is short bad unread.
-            absurd (not_both ends.0 ends.3.0 r ends.3.1 (sym (same_scenario ends.0 e input all is) ∙ bad));
-      };
+      read_most = runs_read c e ends.0 ends.1;
+      complete = if_command words c (λ x. IsComplete x e (outcome (Ok j))) asked
+          (done_complete c e j ends.0 ends.1 done);
     }
 
-unwritten_keeps : (words : List (List ℕ)) (e : Edges) (j : Journal) → command words ≢ None
-    → NoReadFailed e → WriteFailed e → Replays e j WrotePart
+-- where the sink failed, nothing is asked of it
+unwritten_complete : (c : Command) (e : Edges) (j : Journal) (scenario : Scenario)
+    → Runs c e scenario → WriteFailed e → IsComplete c e (outcome (Err (cause.WriteFailed j)))
+unwritten_complete Replay e j scenario runs failed = record {
+  short = λ input is short unread unwritten. absurd (unwritten failed);
+  long = λ input is long unread. absurd (not_long runs.bytes e input runs.read is long);
+  refused = λ input r is short bad unread.
+      absurd (not_both runs.bytes scenario r runs.good
+      (sym (same_scenario runs.bytes e input runs.read is) ∙ bad));
+}
+unwritten_complete (Storm n seed) e j scenario runs failed = λ unwritten. absurd (unwritten failed)
+
+unwritten_keeps : (words : List (List ℕ)) (c : Command) (e : Edges) (j : Journal) → Asks words c
+    → NoReadFailed e → WriteFailed e → Replays c e j WrotePart
     → Keeps words e (outcome (Err (cause.WriteFailed j)))
-unwritten_keeps words e j some well_read failed ends =
-    let all : ReadAll ends.0 e = record { all = ends.1; short = ends.2 } in
-    let ran : Ran e (outcome (Err (cause.WriteFailed j))) = record {
-      bytes = ends.0;
-      scenario = ends.3.0;
+unwritten_keeps words c e j asked well_read failed ends =
+    let ran : Ran c e (outcome (Err (cause.WriteFailed j))) = record {
+      scenario = ends.0;
       journal = j;
-      read = all;
-      good = ends.3.1;
-      valid = ends.3.2;
+      runs = ends.1;
+      valid = ends.2;
       kept = refl;
-      replayed = ends.3.3;
+      replayed = ends.3;
     } in
     record {
       known = inr (inr (inr (inr (inr (inl refl)))));
-      usage = no_usage words 73 some (λ is. absurd (omega arith));
-      words_first = λ is. absurd (omega arith);
+      no_command = λ is. absurd (omega arith);
+      usage = λ none. absurd (some_command words c asked none);
+      reads = λ is. absurd (other_of_reading 73 (λ is. absurd (omega arith))
+          (λ is. absurd (omega arith)) (λ is. absurd (omega arith)) is);
+      reads_nothing = λ other. runs_unread words c e ends.0 asked ends.1 other;
       done = λ is. absurd (not_done 73 (omega arith) is);
       refused = λ is. absurd (omega arith);
       too_long = λ is. absurd (omega arith);
-      too_many = λ more. absurd (not_gave_too_many ends.0 e all more);
-      unwritten = λ _. record { ran = ran; wrote = ends.3.4; cause = failed };
+      too_many = λ more. absurd (runs_few c e ends.0 ends.1 more);
+      unwritten = λ _. of_command words c
+          (λ x. RanUnwritten x e (outcome (Err (cause.WriteFailed j)))) asked
+          (record { ran = ran; wrote = ends.4; cause = failed });
       unread = λ is. absurd (omega arith);
       no_read_failed = λ _. well_read;
       no_write_failed = λ other. absurd (other refl);
       nothing = inl (inr refl);
       journal = (λ _. inr refl, λ _. refl);
       fault = (λ is. absurd (none_is_some is), λ is. absurd (omega arith));
-      read_most = all_at_most ends.0 e.left e.left_after ends.1 ends.2;
-      complete = λ _. record {
-        short = λ input is short unread unwritten. absurd (unwritten failed);
-        long = λ input is long unread. absurd (not_long ends.0 e input all is long);
-        refused = λ input r is short bad unread.
-            absurd (not_both ends.0 ends.3.0 r ends.3.1 (sym (same_scenario ends.0 e input all is) ∙ bad));
-      };
+      read_most = runs_read c e ends.0 ends.1;
+      complete = if_command words c (λ x. IsComplete x e (outcome (Err (cause.WriteFailed j)))) asked
+          (unwritten_complete c e j ends.0 ends.1 failed);
     }
 
-refused_keeps : (words : List (List ℕ)) (e : Edges) (r : Refusal) → command words ≢ None
+refused_keeps : (words : List (List ℕ)) (e : Edges) (r : Refusal) → Asks words Replay
     → NoReadFailed e → OfInput e.left e.left_after (λ bytes. scenario_of bytes ≡ Bad r)
     → WroteNothing e → Keeps words e (outcome (Err (cause.Refused r)))
-refused_keeps words e r some well_read ends nothing =
+refused_keeps words e r asked well_read ends nothing =
     let all : ReadAll ends.0 e = record { all = ends.1; short = ends.2 } in
     record {
       known = inr (inr (inl refl));
-      usage = no_usage words 65 some (λ is. absurd (omega arith));
-      words_first = λ is. absurd (omega arith);
+      no_command = λ is. absurd (omega arith);
+      usage = λ none. absurd (some_command words Replay asked none);
+      reads = λ _. asked;
+      reads_nothing = λ other. absurd (other asked);
       done = λ is. absurd (not_done 65 (omega arith) is);
       refused = λ _. record { bytes = ends.0; refusal = r; read = all; bad = ends.3; kept = refl };
       too_long = λ is. absurd (omega arith);
@@ -283,7 +377,7 @@ refused_keeps words e r some well_read ends nothing =
       );
       fault = (λ _. refl, λ _. refl);
       read_most = all_at_most ends.0 e.left e.left_after ends.1 ends.2;
-      complete = λ _. record {
+      complete = if_command words Replay (λ x. IsComplete x e (outcome (Err (cause.Refused r)))) asked (record {
         short = λ input is short unread unwritten.
             let bad : scenario_of input ≡ Bad r = same_scenario ends.0 e input all is ∙ ends.3 in
             inl (subst (AnswersReading (outcome (Err (cause.Refused r)))) (sym bad) (refl, refl));
@@ -291,18 +385,20 @@ refused_keeps words e r some well_read ends nothing =
         refused = λ input q is short bad unread.
             let same : scenario_of ends.0 ≡ Bad q = sym (same_scenario ends.0 e input all is) ∙ bad in
             inl (refl, ap Some (same_refusal ends.0 r q ends.3 same));
-      };
+      });
     }
 
-long_keeps : (words : List (List ℕ)) (e : Edges) → command words ≢ None → NoReadFailed e
+long_keeps : (words : List (List ℕ)) (e : Edges) → Asks words Replay → NoReadFailed e
     → ReadTooMany e → WroteNothing e → Keeps words e (outcome (Err cause.TooLong))
-long_keeps words e some well_read takes nothing =
+long_keeps words e asked well_read takes nothing =
     let long : (input : List ℕ) → e.left ≡ Some input → input_limit < length input =
     λ input is. is_long e.left e.left_after input takes is in
     record {
       known = inr (inr (inr (inl refl)));
-      usage = no_usage words 66 some (λ is. absurd (omega arith));
-      words_first = λ is. absurd (omega arith);
+      no_command = λ is. absurd (omega arith);
+      usage = λ none. absurd (some_command words Replay asked none);
+      reads = λ _. asked;
+      reads_nothing = λ other. absurd (other asked);
       done = λ is. absurd (not_done 66 (omega arith) is);
       refused = λ is. absurd (omega arith);
       too_long = λ _. takes;
@@ -318,20 +414,22 @@ long_keeps words e some well_read takes nothing =
       );
       fault = (λ is. absurd (none_is_some is), λ is. absurd (omega arith));
       read_most = (input_limit + 1, omega arith, takes);
-      complete = λ _. record {
+      complete = if_command words Replay (λ x. IsComplete x e (outcome (Err cause.TooLong))) asked (record {
         short = λ input is short unread unwritten. absurd (omega (arith, short, long input is));
         long = λ input is long unread. inl refl;
         refused = λ input r is short bad unread. absurd (omega (arith, short, long input is));
-      };
+      });
     }
 
-unread_keeps : (words : List (List ℕ)) (e : Edges) → command words ≢ None → ReadFailed e
+unread_keeps : (words : List (List ℕ)) (e : Edges) → Asks words Replay → ReadFailed e
     → TakesAtMost input_limit e.left e.left_after → WroteNothing e
     → Keeps words e (outcome (Err cause.ReadFailed))
-unread_keeps words e some failed most nothing = record {
+unread_keeps words e asked failed most nothing = record {
   known = inr (inr (inr (inr (inr (inr refl)))));
-  usage = no_usage words 74 some (λ is. absurd (omega arith));
-  words_first = λ is. absurd (omega arith);
+  no_command = λ is. absurd (omega arith);
+  usage = λ none. absurd (some_command words Replay asked none);
+  reads = λ _. asked;
+  reads_nothing = λ other. absurd (other asked);
   done = λ is. absurd (not_done 74 (omega arith) is);
   refused = λ is. absurd (omega arith);
   too_long = λ is. absurd (omega arith);
@@ -348,19 +446,38 @@ unread_keeps words e some failed most nothing = record {
   );
   fault = (λ is. absurd (none_is_some is), λ is. absurd (omega arith));
   read_most = one_more_at_most e.left e.left_after most;
-  complete = λ _. record {
+  complete = if_command words Replay (λ x. IsComplete x e (outcome (Err cause.ReadFailed))) asked (record {
     short = λ input is short unread unwritten. absurd (unread failed);
     long = λ input is long unread. absurd (unread failed);
     refused = λ input r is short bad unread. absurd (unread failed);
-  };
+  });
 }
 
-no_memory_keeps : (words : List (List ℕ)) (e : Edges) → command words ≢ None → NoReadFailed e
-    → ReadAtMost e → WroteNothing e → Keeps words e (outcome (Err cause.OutOfMemory))
-no_memory_keeps words e some well_read most nothing = record {
+-- where memory ran out, nothing is asked
+no_memory_complete : (c : Command) (e : Edges) → IsComplete c e (outcome (Err cause.OutOfMemory))
+no_memory_complete Replay e = record {
+  short = λ input is short unread unwritten. inr refl;
+  long = λ input is long unread. inr refl;
+  refused = λ input r is short bad unread. inr refl;
+}
+no_memory_complete (Storm n seed) e = λ unwritten. inr refl
+
+each_complete : (o : Option Command) (e : Edges)
+    → IfSome o (λ c. IsComplete c e (outcome (Err cause.OutOfMemory)))
+each_complete None e = tt
+each_complete (Some c) e = no_memory_complete c e
+
+-- whatever the words ask for, memory may run out
+pub no_memory_keeps : (words : List (List ℕ)) (e : Edges) → NoReadFailed e → ReadAtMost e
+    → (command words ≢ Some Replay → ReadNothing e) → WroteNothing e
+    → Keeps words e (outcome (Err cause.OutOfMemory))
+no_memory_keeps words e well_read most unread nothing = record {
   known = inr (inr (inr (inr (inl refl))));
-  usage = no_usage words 71 some (λ is. absurd (omega arith));
-  words_first = λ is. absurd (omega arith);
+  no_command = λ is. absurd (omega arith);
+  usage = λ none. inr refl;
+  reads = λ is. absurd (other_of_reading 71 (λ is. absurd (omega arith))
+      (λ is. absurd (omega arith)) (λ is. absurd (omega arith)) is);
+  reads_nothing = unread;
   done = λ is. absurd (not_done 71 (omega arith) is);
   refused = λ is. absurd (omega arith);
   too_long = λ is. absurd (omega arith);
@@ -376,23 +493,66 @@ no_memory_keeps words e some well_read most nothing = record {
   );
   fault = (λ is. absurd (none_is_some is), λ is. absurd (omega arith));
   read_most = most;
-  complete = λ _. record {
-    short = λ input is short unread unwritten. inr refl;
-    long = λ input is long unread. inr refl;
-    refused = λ input r is short bad unread. inr refl;
-  };
+  complete = each_complete (command words) e;
 }
 
+-- there was no memory for the words
+pub unjudged_keeps : (words : List (List ℕ)) (e : Edges) → ReadNothing e → WroteNothing e
+    → Keeps words e (outcome (Err cause.OutOfMemory))
+unjudged_keeps words e read nothing =
+    no_memory_keeps words e read.faults (nothing_at_most e.left e.left_after read.bytes) (λ _. read) nothing
+
 -- what a replay keeps, however it ends
-pub keeps : (words : List (List ℕ)) (e : Edges) (ran : Result Journal Cause)
-    → command words ≢ None → EndsBy e ran → CountsReads e.read_faults e.read_faults_after ran
-    → Keeps words e (outcome ran)
-keeps words e (Ok j) some ends read = done_keeps words e j some read ends.0 ends.1
-keeps words e (Err (cause.WriteFailed j)) some ends read =
-    unwritten_keeps words e j some read ends.0 ends.1
-keeps words e (Err (cause.Refused r)) some ends read =
-    refused_keeps words e r some read ends.0 ends.1
-keeps words e (Err cause.TooLong) some ends read = long_keeps words e some read ends.0 ends.1
-keeps words e (Err cause.OutOfMemory) some ends read =
-    no_memory_keeps words e some read ends.0 ends.1
-keeps words e (Err cause.ReadFailed) some ends read = unread_keeps words e some read ends.0 ends.1
+pub replay_keeps : (words : List (List ℕ)) (e : Edges) (ran : Result Journal Cause)
+    → Asks words Replay → EndsBy Replay e ran
+    → CountsReads e.read_faults e.read_faults_after ran → Keeps words e (outcome ran)
+replay_keeps words e (Ok j) asked ends read = done_keeps words Replay e j asked read ends.0 ends.1
+replay_keeps words e (Err (cause.WriteFailed j)) asked ends read =
+    unwritten_keeps words Replay e j asked read ends.0 ends.1
+replay_keeps words e (Err (cause.Refused r)) asked ends read =
+    refused_keeps words e r asked read ends.0 ends.1
+replay_keeps words e (Err cause.TooLong) asked ends read = long_keeps words e asked read ends.0 ends.1
+replay_keeps words e (Err cause.OutOfMemory) asked ends read =
+    no_memory_keeps words e read ends.0 (λ other. absurd (other asked)) ends.1
+replay_keeps words e (Err cause.ReadFailed) asked ends read =
+    unread_keeps words e asked read ends.0 ends.1
+
+-- what a storm keeps
+pub storm_keeps : (words : List (List ℕ)) (n seed : ℕ) (e : Edges) (ran : Result Journal Cause)
+    → Asks words (Storm n seed) → EndsBy (Storm n seed) e ran → Keeps words e (outcome ran)
+storm_keeps words n seed e (Ok j) asked ends =
+    done_keeps words (Storm n seed) e j asked ends.1.1.read.faults ends.0 ends.1
+storm_keeps words n seed e (Err (cause.WriteFailed j)) asked ends =
+    unwritten_keeps words (Storm n seed) e j asked ends.1.1.read.faults ends.0 ends.1
+storm_keeps words n seed e (Err (cause.Refused r)) asked ends = absurd (cc (ends.0.0))
+storm_keeps words n seed e (Err cause.TooLong) asked ends = absurd (cc (ends.0.0))
+storm_keeps words n seed e (Err cause.OutOfMemory) asked ends = unjudged_keeps words e ends.0.1 ends.1
+storm_keeps words n seed e (Err cause.ReadFailed) asked ends = absurd (cc (ends.0.0))
+
+-- what a call keeps whose words ask for nothing
+pub usage_keeps : (words : List (List ℕ)) (e : Edges) → command words ≡ None → ReadNothing e
+    → WroteNothing e → Keeps words e (record { status = 64; journal = None; fault = None })
+usage_keeps words e none read nothing = record {
+  known = inr (inl refl);
+  no_command = λ _. none;
+  usage = λ _. inl refl;
+  reads = λ is. absurd (other_of_reading 64 (λ is. absurd (omega arith))
+      (λ is. absurd (omega arith)) (λ is. absurd (omega arith)) is);
+  reads_nothing = λ _. read;
+  done = λ is. absurd (not_done 64 (omega arith) is);
+  refused = λ is. absurd (omega arith);
+  too_long = λ is. absurd (omega arith);
+  too_many = λ more. absurd (not_gave_unread e read more);
+  unwritten = λ is. absurd (omega arith);
+  unread = λ is. absurd (omega arith);
+  no_read_failed = λ _. read.faults;
+  no_write_failed = λ _. nothing.faults;
+  nothing = inr nothing;
+  journal = (
+    λ is. absurd (none_is_some is),
+    λ is. absurd (no_journal 64 (omega arith) (λ is. absurd (omega arith)) is),
+  );
+  fault = (λ is. absurd (none_is_some is), λ is. absurd (omega arith));
+  read_most = nothing_at_most e.left e.left_after read.bytes;
+  complete = subst (λ o. IfSome o (λ c. IsComplete c e (record { status = 64; journal = None; fault = None }))) (sym none) tt;
+}

@@ -6,12 +6,11 @@ use Rattle.std.proofs.lemmas.Bool.Decides.{nat_tests}
 use Rattle.std.specs.Io.KnownBytes.{Appends}
 use Rattle.io_edge.specs.Faults.{Rose}
 use Rattle.io_edge.specs.Writing.{WritesPart}
-use Rattle.json_fields.specs.declared.refusal.Refusal.{Refusal}
 use Rattle.busdma_cmd.specs.declared.outcome.Outcome.{Outcome}
 use Rattle.busdma_cmd.specs.Edges.{Edges}
 use Rattle.busdma_cmd.specs.Outcome.{IsStatus}
 use Rattle.busdma_cmd.specs.ProgramCall.{Answers}
-use Rattle.busdma_cmd.specs.Line.{Writes, Prints, PrintsLine, ended_line, line_of, refused_line}
+use Rattle.busdma_cmd.specs.Line.{Writes, Prints, PrintsLine, ended_line, line_of}
 
 -- a text was written as the answer of the writing says
 pub writes : {A B : Type 0} (ran : Result A B) (text : List ℕ) (before after : Option (List ℕ))

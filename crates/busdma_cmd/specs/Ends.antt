@@ -1,4 +1,4 @@
--- How reading ends, and how the whole replay ends, by the cause.
+-- How reading ends, and how the whole run of a command ends, by the cause.
 use Rattle.std.specs.Prelude.{◌≡◌, ℕ, ◌+◌, ◌≤◌, List, length, Option, Some, None, Result, Ok, Err}
 use Rattle.io_edge.specs.Faults.{Rose}
 use Rattle.io_edge.specs.Reading.{Takes, TakesAtMost, TakesAll}
@@ -7,13 +7,15 @@ use Rattle.busdma_base.specs.declared.scenarios.scenario.Scenario.{Scenario}
 use Rattle.busdma_base.specs.declared.journals.journal.Journal.{Journal}
 use Rattle.scenario_read.specs.declared.reading.Reading.TheVariants.{Good, Bad}
 use Rattle.scenario_read.specs.Scenario.{scenario_of}
-use Rattle.report_text.specs.Report.{report}
 use Rattle.ideal_world.specs.Legal.{IsReplayed}
 use Rattle.ideal_world.specs.Ends.{status}
 use Rattle.busdma_cmd.specs.declared.cause.Cause.{Cause}
 use Rattle.busdma_cmd.specs.declared.cause.Cause.TheVariants as cause
 use Rattle.busdma_cmd.specs.declared.outcome.Outcome.{Outcome}
-use Rattle.busdma_cmd.specs.Edges.{Edges, WriteFailed, NoWriteFailed, WroteNothing, WroteAll, WrotePart, input_limit}
+use Rattle.command_words.specs.declared.command.Command.{Command}
+use Rattle.command_words.specs.declared.command.Command.TheVariants.{Replay, Storm}
+use Rattle.busdma_cmd.specs.Edges.{Edges, ReadNothing, WriteFailed, NoWriteFailed, WroteNothing, WroteAll, WrotePart, input_limit}
+use Rattle.busdma_cmd.specs.Runs.{Runs, text_of}
 
 -- P holds of all the bytes that were left, which are not too many, and nothing is left
 abbrev pub OfInput : Option (List ℕ) → Option (List ℕ) → (List ℕ → Type 0) → Type 0
@@ -41,20 +43,25 @@ CountsReads before now (Ok done) = now ≡ before
 CountsReads before now (Err cause.ReadFailed) = Rose before now
 CountsReads before now (Err why) = now ≡ before
 
--- all the bytes were read, the journal is the one that the order of their scenario, a valid one,
--- replays, and this was written of its report
-abbrev pub Replays : Edges → Journal → (List ℕ → Edges → Type 0) → Type 0
-Replays e journal Wrote = OfInput e.left e.left_after (λ bytes.
-    (scenario : Scenario) × (scenario_of bytes ≡ Good scenario) × IsValid scenario
-    × IsReplayed scenario journal × Wrote (report scenario journal) e)
+-- the journal is the one that the order of the command's scenario, a valid one, replays, and this
+-- was written of its text
+abbrev pub Replays : Command → Edges → Journal → (List ℕ → Edges → Type 0) → Type 0
+Replays c e journal Wrote =
+    (scenario : Scenario) × Runs c e scenario × IsValid scenario × IsReplayed scenario journal
+    × Wrote (text_of c scenario journal) e
 
--- how the whole replay ends
-abbrev pub EndsBy : Edges → Result Journal Cause → Type 0
-EndsBy e (Ok journal) = NoWriteFailed e × Replays e journal WroteAll
-EndsBy e (Err (cause.WriteFailed journal)) = WriteFailed e × Replays e journal WrotePart
-EndsBy e (Err why) = StopsReading e.left e.left_after why × WroteNothing e
+-- why a command that wrote nothing stopped; a storm stops for want of memory alone
+abbrev pub Stops : Command → Edges → Cause → Type 0
+Stops Replay e why = StopsReading e.left e.left_after why
+Stops (Storm n seed) e why = (why ≡ cause.OutOfMemory) × ReadNothing e
 
--- the outcome of a replay that ended so
+-- how the whole run of a command ends
+abbrev pub EndsBy : Command → Edges → Result Journal Cause → Type 0
+EndsBy c e (Ok journal) = NoWriteFailed e × Replays c e journal WroteAll
+EndsBy c e (Err (cause.WriteFailed journal)) = WriteFailed e × Replays c e journal WrotePart
+EndsBy c e (Err why) = Stops c e why × WroteNothing e
+
+-- the outcome of a run that ended so
 abbrev pub outcome : Result Journal Cause → Outcome
 outcome (Ok journal) = record { status = status journal; journal = Some journal; fault = None }
 outcome (Err (cause.Refused refusal)) =

@@ -1,5 +1,5 @@
 -- How a call of the program ends, and why.
-use Rattle.std.specs.Prelude.{◌≡◌, ◌≢◌, ℕ, ◌+◌, ◌≤◌, ◌<◌, ◌⊎◌, ◌↔◌, List, length, Some, None, IsSome}
+use Rattle.std.specs.Prelude.{◌≡◌, ◌≢◌, ℕ, ◌+◌, ◌≤◌, ◌<◌, ◌⊎◌, ◌↔◌, List, length, Some, None, IfSome, IsSome, IsSomeAnd}
 use Rattle.busdma_base.specs.Scenarios.Valid.{IsValid}
 use Rattle.busdma_base.specs.declared.scenarios.scenario.Scenario.{Scenario}
 use Rattle.busdma_base.specs.declared.journals.journal.Journal.{Journal}
@@ -7,14 +7,16 @@ use Rattle.json_fields.specs.declared.refusal.Refusal.{Refusal}
 use Rattle.scenario_read.specs.declared.reading.Reading.{Reading}
 use Rattle.scenario_read.specs.declared.reading.Reading.TheVariants.{Good, Bad}
 use Rattle.scenario_read.specs.Scenario.{scenario_of}
-use Rattle.report_text.specs.Report.{report}
 use Rattle.ideal_world.specs.Legal.{IsReplayed}
 use Rattle.ideal_world.specs.Ends.{status}
 use Rattle.busdma_cmd.specs.declared.outcome.Outcome.{Outcome}
-use Rattle.busdma_cmd.specs.Command.{command}
+use Rattle.command_words.specs.declared.command.Command.{Command}
+use Rattle.command_words.specs.declared.command.Command.TheVariants.{Replay, Storm}
+use Rattle.command_words.specs.Command.{command}
 use Rattle.busdma_cmd.specs.Edges.{Edges, ReadFailed, NoReadFailed, ReadNothing, ReadAll, ReadTooMany, ReadAtMost}
 use Rattle.busdma_cmd.specs.Edges.{input_limit}
 use Rattle.busdma_cmd.specs.Edges.{WriteFailed, NoWriteFailed, WroteNothing, WroteAll, WrotePart}
+use Rattle.busdma_cmd.specs.Runs.{Runs, text_of}
 
 -- the statuses of a run that was done and written
 abbrev pub IsDone : ℕ → Type 0
@@ -28,28 +30,26 @@ HasJournal n = IsDone n ⊎ (n ≡ 73)
 abbrev pub IsStatus : ℕ → Type 0
 IsStatus n = IsDone n ⊎ ((n ≡ 64) ⊎ ((n ≡ 65) ⊎ ((n ≡ 66) ⊎ ((n ≡ 71) ⊎ ((n ≡ 73) ⊎ (n ≡ 74))))))
 
--- The run of a scenario that was read: all the bytes that were left are the scenario's, the
--- scenario is valid, and the journal of the outcome is the one that its order replays.
-pub record Ran (e : Edges) (o : Outcome) : Type 0 where
-  pub bytes : List ℕ
+-- The run of a command: its scenario is valid, and the journal of the outcome is the one that the
+-- scenario's order replays.
+pub record Ran (c : Command) (e : Edges) (o : Outcome) : Type 0 where
   pub scenario : Scenario
   pub journal : Journal
-  pub read : ReadAll bytes e
-  pub good : scenario_of bytes ≡ Good scenario
+  pub runs : Runs c e scenario
   pub valid : IsValid scenario
   pub kept : o.journal ≡ Some journal
   pub replayed : IsReplayed scenario journal
 
--- it was written whole, and the status is its journal's
-pub record RanAndWrote (e : Edges) (o : Outcome) : Type 0 where
-  pub ran : Ran e o
-  pub wrote : WroteAll (report ran.scenario ran.journal) e
+-- its text was written whole, and the status is its journal's
+pub record RanAndWrote (c : Command) (e : Edges) (o : Outcome) : Type 0 where
+  pub ran : Ran c e o
+  pub wrote : WroteAll (text_of c ran.scenario ran.journal) e
   pub status : o.status ≡ status ran.journal
 
--- the sink failed, and a front of the report was written, and not the whole
-pub record RanUnwritten (e : Edges) (o : Outcome) : Type 0 where
-  pub ran : Ran e o
-  pub wrote : WrotePart (report ran.scenario ran.journal) e
+-- the sink failed, and a front of the text was written, and not the whole
+pub record RanUnwritten (c : Command) (e : Edges) (o : Outcome) : Type 0 where
+  pub ran : Ran c e o
+  pub wrote : WrotePart (text_of c ran.scenario ran.journal) e
   pub cause : WriteFailed e
 
 -- all the bytes were read, and they are no scenario, for the reason that the outcome has
@@ -70,7 +70,7 @@ AnswersReading o (Good s) = IsDone o.status
 AnswersReading o (Bad r) = (o.status ≡ 65) × (o.fault ≡ Some r)
 
 -- where neither source nor sink failed, the outcome is that of the bytes that were left
-pub record IsComplete (e : Edges) (o : Outcome) : Type 0 where
+pub record AnswersInput (e : Edges) (o : Outcome) : Type 0 where
   pub short : (input : List ℕ) → e.left ≡ Some input → length input ≤ input_limit
       → (ReadFailed e → ⊥) → (WriteFailed e → ⊥)
       → OrNoMemory o (AnswersReading o (scenario_of input))
@@ -80,6 +80,15 @@ pub record IsComplete (e : Edges) (o : Outcome) : Type 0 where
       → scenario_of input ≡ Bad r → (ReadFailed e → ⊥)
       → OrNoMemory o ((o.status ≡ 65) × (o.fault ≡ Some r))
 
+-- where nothing failed that the command calls, the outcome is that of the command
+abbrev pub IsComplete : Command → Edges → Outcome → Type 0
+IsComplete Replay e o = AnswersInput e o
+IsComplete (Storm n seed) e o = (WriteFailed e → ⊥) → OrNoMemory o (IsDone o.status)
+
+-- the statuses of commands that read
+abbrev pub IsOfReading : ℕ → Type 0
+IsOfReading n = (n ≡ 65) ⊎ ((n ≡ 66) ⊎ (n ≡ 74))
+
 -- more bytes were given than the program reads
 abbrev pub GaveTooMany : Edges → Type 0
 GaveTooMany e =
@@ -87,17 +96,19 @@ GaveTooMany e =
     × (length rest + input_limit < length input)
 
 -- What a call of the program with these words keeps. Words are judged before reading, reading is
--- done before judging and judging before the work, and the whole report is made before the first
+-- done before judging and judging before the work, and the whole text is made before the first
 -- write.
 pub record Keeps (words : List (List ℕ)) (e : Edges) (o : Outcome) : Type 0 where
   pub known : IsStatus o.status
-  pub usage : (o.status ≡ 64) ↔ (command words ≡ None)
-  pub words_first : o.status ≡ 64 → ReadNothing e
-  pub done : IsDone o.status → RanAndWrote e o
+  pub no_command : o.status ≡ 64 → command words ≡ None
+  pub usage : command words ≡ None → OrNoMemory o (o.status ≡ 64)
+  pub reads : IsOfReading o.status → command words ≡ Some Replay
+  pub reads_nothing : command words ≢ Some Replay → ReadNothing e
+  pub done : IsDone o.status → IsSomeAnd (command words) (λ c. RanAndWrote c e o)
   pub refused : o.status ≡ 65 → WasRefused e o
   pub too_long : o.status ≡ 66 → ReadTooMany e
   pub too_many : GaveTooMany e → OrNoMemory o (o.status ≡ 66)
-  pub unwritten : o.status ≡ 73 → RanUnwritten e o
+  pub unwritten : o.status ≡ 73 → IsSomeAnd (command words) (λ c. RanUnwritten c e o)
   pub unread : o.status ≡ 74 → ReadFailed e
   pub no_read_failed : o.status ≢ 74 → NoReadFailed e
   pub no_write_failed : o.status ≢ 73 → NoWriteFailed e
@@ -105,4 +116,4 @@ pub record Keeps (words : List (List ℕ)) (e : Edges) (o : Outcome) : Type 0 wh
   pub journal : IsSome o.journal ↔ HasJournal o.status
   pub fault : IsSome o.fault ↔ (o.status ≡ 65)
   pub read_most : ReadAtMost e
-  pub complete : command words ≢ None → IsComplete e o
+  pub complete : IfSome (command words) (λ c. IsComplete c e o)

@@ -1,19 +1,21 @@
 //! The commands that wait for nobody.
 
-ghost use Rattle.std.specs.Prelude.{◌≡◌, IfOk, map, string_bytes};
+ghost use Rattle.std.specs.Prelude.{◌≡◌, ◌≤◌, ℕ, IfOk, List, Option, map, string_bytes};
 ghost use Rattle.busdma_base.specs.Scenarios.Valid.{IsValid};
+ghost use Rattle.command_words.specs.declared.command.Command.TheVariants.{Replay, Storm};
 ghost use Rattle.busdma_cmd.specs.Edges.{edges};
 ghost use Rattle.busdma_cmd.specs.Outcome.{Keeps};
 ghost use Rattle.busdma_cmd.specs.Ends.{Reads, CountsReads, EndsBy, outcome};
 
 use crate::cause::Cause;
 use crate::outcome::Outcome;
-use crate::words::{Command, command_of};
 use busdma_base::{Journal, Scenario};
+use command_words::{Command, command_of, storms_are_small};
 use io_edge::{Input, Sink, Source, read_up_to, write_all};
 use report_text::report;
 use scenario_read::{Reading, scenario_of};
-use std::alloc::Global;
+use std::alloc::{AllocError, Global};
+use storm::{storm_scenario, storms_are_valid, summary};
 use world_core::{replay, status};
 
 /// How many bytes the program reads at the most.
@@ -41,7 +43,7 @@ fn replay_input<S: Source, K: Sink>(
     source: &mut S,
     sink: &mut K,
 ) -> Result<Journal, Cause>
-    ensures ends { EndsBy
+    ensures ends { EndsBy Replay
         (edges S.left S.faults K.held K.faults source.old source.new sink.old sink.new)
         result }
     ensures faults { CountsReads (S.faults source.old) (S.faults source.new) result }
@@ -49,6 +51,26 @@ fn replay_input<S: Source, K: Sink>(
     let scenario = read_scenario(alloc, source)?;
     let journal = replay(alloc, &scenario)?;
     let text = report(alloc, &scenario, &journal)?;
+    match write_all(sink, text.as_slice()) {
+        Ok(()) => Ok(journal),
+        Err(_) => Err(Cause::WriteFailed(journal)),
+    }
+}
+
+/// Makes a storm, replays it and writes its summary. Of a source, which it has none, nothing
+/// changes.
+fn run_storm<K: Sink>(alloc: Global, n: u32, seed: u64, sink: &mut K) -> Result<Journal, Cause>
+    requires rounds { 1 ≤ n }
+    requires few { n ≤ 256 }
+    requires seed { 1 ≤ seed }
+    ensures { (left : Option (List ℕ)) (faults : ℕ) → EndsBy (Storm n seed)
+        (edges (λ (l : Option (List ℕ)). l) (λ _. faults) K.held K.faults left left sink.old sink.new)
+        result }
+{
+    let scenario = storm_scenario(alloc, n, seed)?;
+    storms_are_valid();
+    let journal = replay(alloc, &scenario)?;
+    let text = summary(alloc, n, seed, &journal)?;
     match write_all(sink, text.as_slice()) {
         Ok(()) => Ok(journal),
         Err(_) => Err(Cause::WriteFailed(journal)),
@@ -85,12 +107,17 @@ pub fn plain_command<S: Source, K: Sink>(
         (edges S.left S.faults K.held K.faults source.old source.new sink.old sink.new)
         result }
 {
-    match command_of(words) {
-        Some(Command::Replay) => outcome_of(replay_input(alloc, source, sink)),
-        None => Outcome {
+    match command_of(alloc, words) {
+        Ok(Some(Command::Replay)) => outcome_of(replay_input(alloc, source, sink)),
+        Ok(Some(Command::Storm { n, seed })) => {
+            storms_are_small();
+            outcome_of(run_storm(alloc, n, seed, sink))
+        }
+        Ok(None) => Outcome {
             status: 64,
             journal: None,
             fault: None,
         },
+        Err(AllocError) => outcome_of(Err(Cause::OutOfMemory)),
     }
 }

@@ -8,12 +8,11 @@ mod line;
 mod outcome;
 mod program_call;
 mod top_call;
-mod words;
 
 pub use command::plain_command;
+pub use command_words::{Command, command_of};
 pub use gate::Gate;
 pub use line::fault_line;
 pub use outcome::Outcome;
 pub use program_call::{program, program_words};
 pub use top_call::top;
-pub use words::{Command, command_of};

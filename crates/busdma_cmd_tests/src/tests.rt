@@ -12,6 +12,7 @@ mod reports;
 mod rows;
 mod rows_with_reports;
 mod segments;
+mod storms;
 
 use busdma_cmd::{Outcome, plain_command};
 use io_edge::{MemSink, MemSource};

@@ -5,17 +5,27 @@ use busdma_cmd::plain_command;
 use io_edge::{Input, MemSink, MemSource, read_up_to};
 use std::test::Fail;
 
-/// No list of words but `replay` alone is a command, and nothing is read.
+/// Lists of words that are no command; nothing is read.
 #[test]
 fn words_come_first(rt: HostRuntime) -> Result<(), Fail> {
     let alloc = rt.alloc();
-    let lists: [&[&str]; 6] = [
+    let lists: [&[&str]; 16] = [
         &[],
         &["help"],
         &["run"],
         &["replay", "replay"],
         &["--replay"],
         &["Replay"],
+        &["run", "x"],
+        &["replay", "x"],
+        &["storm", "1"],
+        &["storm", "0", "1"],
+        &["storm", "257", "1"],
+        &["storm", "1", "0"],
+        &["storm", "1", "18446744073709551616"],
+        &["storm", "-1", "1"],
+        &["storm", "1", "1", "1"],
+        &["storm", "1", "000000000000000000001"],
     ];
     for list in lists {
         let words = words_of(alloc, list)?;

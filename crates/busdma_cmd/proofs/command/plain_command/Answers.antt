@@ -1,17 +1,30 @@
-use Rattle.std.proofs.Common.{◌≢◌, sym, None, subst, map, string_bytes}
-use Rattle.busdma_cmd.specs.Command.{command}
+use Rattle.std.proofs.Common.{◌≡◌, sym, Some, subst, map, string_bytes}
+use Rattle.command_words.specs.declared.command.Command.TheVariants.{Replay, Storm}
+use Rattle.command_words.specs.Command.{command}
 use Rattle.busdma_cmd.specs.Edges.{Edges, edges}
 use Rattle.busdma_cmd.specs.Outcome.{Keeps}
-use Rattle.busdma_cmd.proofs.Endings.{keeps}
+use Rattle.busdma_cmd.proofs.Endings.{replay_keeps, storm_keeps}
 use Rattle.busdma_cmd.proofs.command.plain_command.Goals as goal
 
-pub returns-in-Some-Replay : goal.returns-in-Some-Replay
-returns-in-Some-Replay g c =
+pub returns-in-Ok-Some-Replay : goal.returns-in-Ok-Some-Replay
+returns-in-Ok-Some-Replay g c =
     let words = map string_bytes c.args.words.now in
-    let some : command words ≢ None =
-    λ none. absurd (cc (c.in-Some-Replay.is, c.command_of.ensures)) in
+    let met = c.in-Ok-Some-Replay in
+    let asked : command words ≡ Some Replay = cc (met.ensures, met.field-0-is, met.field-0-0-is) in
     let e : Edges = edges g.S.Source.left g.S.Source.faults g.K.Sink.held g.K.Sink.faults
     c.args.source.now c.replay_input.new.source c.args.sink.now c.replay_input.new.sink in
     let ran = c.replay_input.ensures in
     subst (Keeps words _) (sym c.outcome_of.ensures)
-    (keeps words e c.replay_input.result some ran.ends ran.faults)
+    (replay_keeps words e c.replay_input.result asked ran.ends ran.faults)
+
+pub returns-in-Ok-Some-Storm : goal.returns-in-Ok-Some-Storm
+returns-in-Ok-Some-Storm g c =
+    let words = map string_bytes c.args.words.now in
+    let met = c.in-Ok-Some-Storm in
+    let asked : command words ≡ Some (Storm met.n met.seed) =
+    cc (met.ensures, met.field-0-is, met.field-0-0-is, met.n-is, met.seed-is) in
+    let e : Edges = edges g.S.Source.left g.S.Source.faults g.K.Sink.held g.K.Sink.faults
+    c.args.source.now c.args.source.now c.args.sink.now c.run_storm.new.sink in
+    subst (Keeps words _) (sym c.outcome_of-in-Ok-Some-Storm.ensures)
+    (storm_keeps words met.n met.seed e c.run_storm.result asked
+    (c.run_storm.ensures (g.S.Source.left c.args.source.now) (g.S.Source.faults c.args.source.now)))

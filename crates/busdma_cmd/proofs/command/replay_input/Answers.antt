@@ -1,6 +1,7 @@
 use Rattle.std.proofs.Common.{rules, ◌∙◌}
 use Rattle.busdma_cmd.specs.Edges.{Edges, edges}
-use Rattle.busdma_cmd.proofs.Endings.{ran_out, ran_out_after, sink_failed}
+use Rattle.command_words.specs.declared.command.Command.TheVariants.{Replay}
+use Rattle.busdma_cmd.proofs.Endings.{ran_out, ran_out_after, runs_input, sink_failed}
 use Rattle.busdma_cmd.proofs.command.replay_input.Goals as goal
 
 pub returns-in_err-journal-clause-ends : goal.returns-in_err-journal-clause-ends
@@ -31,6 +32,6 @@ returns-clause-ends g c =
     let read = c.in_ok-scenario.ensures in
     let e : Edges = edges g.S.Source.left g.S.Source.faults g.K.Sink.held g.K.Sink.faults
     c.args.source.now c.read_scenario.new.source c.args.sink.now c.write_all.new.sink in
-    sink_failed e c.in_ok-scenario.scenario c.in_ok-journal.journal c.as_slice.result.now
-    read.reads read.valid c.in_ok-journal.ensures (c.as_slice.ensures ∙ c.in_ok-text.ensures)
+    sink_failed Replay e c.in_ok-scenario.scenario c.in_ok-journal.journal c.as_slice.result.now
+    (runs_input e c.in_ok-scenario.scenario read.reads) read.valid c.in_ok-journal.ensures (c.as_slice.ensures ∙ c.in_ok-text.ensures)
     failed.unwritten failed.failed

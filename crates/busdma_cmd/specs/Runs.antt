@@ -1,0 +1,33 @@
+-- What a command runs and writes.
+use Rattle.std.specs.Prelude.{◌≡◌, ℕ, List}
+use Rattle.busdma_base.specs.declared.scenarios.scenario.Scenario.{Scenario}
+use Rattle.busdma_base.specs.declared.journals.journal.Journal.{Journal}
+use Rattle.scenario_read.specs.declared.reading.Reading.TheVariants.{Good}
+use Rattle.scenario_read.specs.Scenario.{scenario_of}
+use Rattle.report_text.specs.Report.{report}
+use Rattle.storm.specs.Scenario.{storm}
+use Rattle.storm.specs.Summary.{summary}
+use Rattle.command_words.specs.declared.command.Command.{Command}
+use Rattle.command_words.specs.declared.command.Command.TheVariants.{Replay, Storm}
+use Rattle.busdma_cmd.specs.Edges.{Edges, ReadAll, ReadNothing}
+
+-- all the bytes that were left are the scenario's
+pub record IsRead (e : Edges) (scenario : Scenario) : Type 0 where
+  pub bytes : List ℕ
+  pub read : ReadAll bytes e
+  pub good : scenario_of bytes ≡ Good scenario
+
+-- nothing was read, and the scenario is the storm of n rounds and this seed
+pub record IsMade (n seed : ℕ) (e : Edges) (scenario : Scenario) : Type 0 where
+  pub read : ReadNothing e
+  pub made : scenario ≡ storm n seed
+
+-- the scenario is the one that the command runs
+abbrev pub Runs : Command → Edges → Scenario → Type 0
+Runs Replay e scenario = IsRead e scenario
+Runs (Storm n seed) e scenario = IsMade n seed e scenario
+
+-- the text that the command writes of the journal of its scenario
+abbrev pub text_of : Command → Scenario → Journal → List ℕ
+text_of Replay scenario journal = report scenario journal
+text_of (Storm n seed) scenario journal = summary n seed journal

@@ -1,0 +1,65 @@
+//! Storms: whole runs, whose summaries were worked out apart, and words that ask for none.
+
+ghost use Rattle.std.specs.Prelude.{◌≤◌};
+
+use super::{Edge, Ended, WHOLE, call};
+use std::alloc::{AllocError, Global};
+use std::test::Fail;
+
+const LEADING_ZEROS: &str = "storm 1 1\nentries 48\nreports 0\ndeferred 1\nend finished\n";
+
+const MOST_ROUNDS: &str = "storm 256 1\nentries 9889\nreports 0\ndeferred 661\nend finished\n";
+
+const GREATEST_SEED: &str =
+    "storm 2 18446744073709551615\nentries 89\nreports 0\ndeferred 5\nend finished\n";
+
+/// A source whose every read fails.
+const UNREADABLE: Edge<'static> = Edge {
+    piece: 1,
+    failing: &[0, 1, 2],
+};
+
+fn storm(alloc: Global, n: &str, seed: &str, to: Edge) -> Result<Ended, AllocError>
+    requires taken { 1 ≤ to.piece }
+{
+    call(
+        alloc,
+        &["storm", n, seed],
+        b"{}".to_vec(alloc)?,
+        UNREADABLE,
+        to,
+    )
+}
+
+/// The source is not read: it would fail.
+#[test]
+fn summaries(rt: HostRuntime) -> Result<(), Fail> {
+    let alloc = rt.alloc();
+    let table = [
+        ("01", "01", LEADING_ZEROS),
+        ("256", "1", MOST_ROUNDS),
+        ("2", "18446744073709551615", GREATEST_SEED),
+    ];
+    for (n, seed, want) in table {
+        let ended = storm(alloc, n, seed, WHOLE)?;
+        assert_eq!(rt; ended.outcome.status, 0, "at {n} {seed}");
+        assert_eq!(rt; str::from_utf8(&ended.written)?, want);
+        assert!(rt; ended.outcome.journal.is_some(), "at {n} {seed}");
+    }
+    Ok(())
+}
+
+/// The sink takes four bytes and fails then.
+#[test]
+fn writes_a_front_of_a_summary(rt: HostRuntime) -> Result<(), Fail> {
+    let alloc = rt.alloc();
+    let to = Edge {
+        piece: 4,
+        failing: &[1],
+    };
+    let ended = storm(alloc, "1", "1", to)?;
+    assert_eq!(rt; ended.outcome.status, 73);
+    assert_eq!(rt; str::from_utf8(&ended.written)?, "stor");
+    assert!(rt; ended.outcome.journal.is_some());
+    Ok(())
+}

@@ -1,0 +1,48 @@
+-- The command line, as clap sees it.
+use Rattle.std.specs.Prelude.{◌==◌, Bool, List, Option, Some, None, codes, slice_index, true, if◌then◌else◌}
+use Rattle.std.specs.Str.{bytes_eq}
+use Rattle.clap.specs.Words.{App, Row, Rule, Text, first_of, new_app, new_rule, with_rule, with_subcommand}
+use Rattle.command_words.specs.declared.command.Command.{Command}
+use Rattle.command_words.specs.declared.command.Command.TheVariants.{Replay}
+use Rattle.command_words.specs.Command.{storm}
+
+-- the word begins with a hyphen
+abbrev pub is_flag : Text → Bool
+is_flag word = slice_index word 0 == 45
+
+-- an argument that has to be given
+abbrev pub required : Text → Rule
+required id = record (new_rule id) { required = true }
+
+-- `storm N SEED`
+abbrev pub storm_line : App
+storm_line =
+    with_rule (with_rule (new_app (codes "storm")) (required (codes "N"))) (required (codes "SEED"))
+
+-- the program, without its commands
+abbrev pub program : App
+program = record (new_app (codes "busdma_run")) {
+  top = record (new_app (codes "busdma_run")).top {
+    no_binary_name = true;
+    disable_help_flag = true;
+    disable_help_subcommand = true;
+    subcommand_required = true;
+  };
+}
+
+-- the program and its two commands
+abbrev pub line : App
+line = with_subcommand (with_subcommand program (new_app (codes "replay")).top) storm_line.top
+
+-- the storm of two words that may have been given
+abbrev pub storm_asked : Option Text → Option Text → Option Command
+storm_asked (Some n) (Some seed) = storm n seed
+storm_asked (Some n) None = None
+storm_asked None seed = None
+
+-- the command whose subcommand was met with these matches
+abbrev pub met : Option (Text × List Row) → Option Command
+met None = None
+met (Some found) =
+    if bytes_eq found.0 (codes "replay") then Some Replay
+    else storm_asked (first_of (codes "N") found.1) (first_of (codes "SEED") found.1)

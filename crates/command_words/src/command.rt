@@ -1,0 +1,72 @@
+//! The command that the words of the program ask for.
+
+ghost use Rattle.std.specs.Prelude.{◌≡◌, IfOk, map, option_map, string_bytes};
+ghost use Rattle.std.specs.List.{list_any};
+ghost use Rattle.clap.specs.Words.{subcommand_rows_of};
+ghost use Rattle.command_words.specs.Command as spec;
+ghost use Rattle.command_words.specs.Line as line;
+
+use crate::line::command_line;
+use crate::number::number;
+use clap::ArgMatches;
+use clap::error::ErrorKind;
+use std::alloc::{AllocError, Global};
+
+/// A command of the program.
+#[derive(Clone, Copy, Debug, PartialEq, Eq)]
+pub enum Command {
+    /// Reads a scenario, replays its order and writes the report.
+    Replay,
+    /// Makes the storm of `n` rounds of each driver and a seed, replays it and writes its summary.
+    Storm { n: u32, seed: u64 },
+}
+
+/// The storm that two words ask for.
+fn storm_of(rounds: Option<&str>, seed: Option<&str>) -> Option<Command>
+    ensures { result ≡ line.storm_asked (option_map (λ s. s.now) rounds.entry) (option_map (λ s. s.now) seed.entry) }
+{
+    let n = number(256, rounds?)?;
+    let seed = number(u64::MAX, seed?)?;
+    Some(Command::Storm { n: n as u32, seed })
+}
+
+/// The command that was met.
+fn met(matches: &ArgMatches) -> Option<Command>
+    ensures { result ≡ line.met (subcommand_rows_of matches.now) }
+{
+    match matches.subcommand()? {
+        ("replay", _) => Some(Command::Replay),
+        (_, storm) => storm_of(storm.get_str("N"), storm.get_str("SEED")),
+    }
+}
+
+/// Whether the word begins with a hyphen, so that clap might take it for a flag.
+fn is_flag(word: &str) -> bool
+    ensures { result ≡ line.is_flag word.now }
+{
+    matches!(word.as_bytes(), [b'-', ..])
+}
+
+fn has_flag(words: &[String]) -> bool
+    ensures { result ≡ list_any (λ word. line.is_flag (string_bytes word)) words.now }
+{
+    words.iter().any(|word| is_flag(word))
+}
+
+/// The command that the words ask for, or None where they ask for none. The only error is want of
+/// memory.
+pub fn command_of(alloc: Global, words: &[String]) -> Result<Option<Command>, AllocError>
+    ensures { IfOk result (λ c. c ≡ spec.command (map string_bytes words.now)) }
+{
+    if has_flag(words) {
+        return Ok(None);
+    }
+    let line = command_line(alloc)?;
+    match line.try_get_matches_from(words) {
+        Ok(matches) => Ok(met(&matches)),
+        Err(error) => match error.kind() {
+            ErrorKind::OutOfMemory => Err(AllocError),
+            _ => Ok(None),
+        },
+    }
+}

@@ -1,0 +1,20 @@
+//! Numbers in words.
+
+ghost use Rattle.std.specs.Prelude.{◌≡◌};
+ghost use Rattle.command_words.specs.Command as spec;
+
+/// How many digits a number has at the most; those that lead with 0 count.
+const MOST_DIGITS: usize = 20;
+
+/// The number that a word of 1 to 20 decimal digits writes, where it is 1 to `most`.
+pub(crate) fn number(most: u64, word: &str) -> Option<u64>
+    ensures { result ≡ spec.number most word.now }
+{
+    if word.len() > MOST_DIGITS || word.as_bytes().first() == Some(&b'+') {
+        return None;
+    }
+    match word.parse::<u64>() {
+        Ok(number) if 1 <= number && number <= most => Some(number),
+        _ => None,
+    }
+}
