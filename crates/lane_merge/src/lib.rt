@@ -3,6 +3,8 @@
 
 mod laws;
 mod merging;
+#[cfg(test)]
+mod tests;
 
 pub use laws::{merged_journals_are_legal, merged_journals_lead};
 pub use merging::{LaneLog, LoggedStep, merge};
