@@ -1,0 +1,5 @@
+pub mod Leading
+pub mod Logged
+pub mod OneTurn
+pub mod Seams
+pub mod Taking

@@ -1,0 +1,10 @@
+//! How the journals of drivers that shared one history of the bounce lock become one.
+#![tactic(auto)]
+
+mod laws;
+mod merging;
+#[cfg(test)]
+mod tests;
+
+pub use laws::{merged_journals_are_legal, merged_journals_lead};
+pub use merging::{LaneLog, LoggedStep, merge};

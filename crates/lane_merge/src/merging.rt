@@ -1,0 +1,86 @@
+//! The logs of drivers, and the one journal that they and the history are merged to.
+
+ghost use Rattle.std.specs.Prelude.{◌≡◌, ◌++◌, ◌<◌, All, IfOk, OnOk, length, map};
+ghost use Rattle.lane_merge.specs.Merged.{all_entries, entries_of, logged_entry, merged, past_hold, through_hold};
+
+use busdma_base::{HoldEntry, JournalEntry};
+use std::alloc::{AllocError, Global};
+use std::collections::VecDeque;
+
+/// A step of a driver, by its entry of the journal.
+#[derive(Debug, Drop)]
+pub enum LoggedStep {
+    /// It added no entry to the history of the bounce lock.
+    Local(JournalEntry),
+    /// It added the driver's next entry to the history of the bounce lock.
+    Held(JournalEntry),
+}
+
+/// The log of a driver: its steps, in order.
+pub type LaneLog = VecDeque<LoggedStep>;
+
+/// Merges the logs of drivers, which stand in the order of the drivers' numbers, by the history of
+/// the bounce lock that they shared: for each hold the next steps of its driver up to the one that
+/// held, or all that are left where none held, and at the end the rest, driver by driver. An error
+/// is want of memory.
+pub fn merge(
+    alloc: Global,
+    holds: &[HoldEntry],
+    mut logs: Vec<LaneLog>,
+) -> Result<Vec<JournalEntry>, AllocError>
+    requires { All (λ h. h.lane.0 < length logs.items) holds.now }
+    ensures { IfOk result (λ v. v.items ≡ merged holds.now (map (λ l. l.items) logs.items)) }
+{
+    let mut entries = Vec::new(alloc);
+    for hold in holds {
+        take_through_hold(&mut logs[hold.lane.0 as usize], &mut entries)?;
+    }
+    take_all(logs, &mut entries)?;
+    Ok(entries)
+}
+
+/// Moves a log's steps up to the first that held, with that one, to the end of a journal.
+fn take_through_hold(log: &mut LaneLog, entries: &mut Vec<JournalEntry>) -> Result<(), AllocError>
+    ensures entries { OnOk result (entries.new.items ≡ entries.old.items ++ through_hold log.old.items) }
+    ensures log { OnOk result (log.new.items ≡ past_hold log.old.items) }
+{
+    while let Some(step) = log.pop_front() {
+        match step {
+            LoggedStep::Local(entry) => entries.push(entry)?,
+            LoggedStep::Held(entry) => {
+                entries.push(entry)?;
+                break;
+            }
+        }
+    }
+    Ok(())
+}
+
+/// Adds the steps of all logs to the end of a journal.
+fn take_all(logs: Vec<LaneLog>, entries: &mut Vec<JournalEntry>) -> Result<(), AllocError>
+    ensures { OnOk result (entries.new.items ≡ entries.old.items ++ all_entries (map (λ l. l.items) logs.items)) }
+{
+    for log in logs {
+        take_log(log, entries)?;
+    }
+    Ok(())
+}
+
+/// Adds a log's steps to the end of a journal.
+fn take_log(log: LaneLog, entries: &mut Vec<JournalEntry>) -> Result<(), AllocError>
+    ensures { OnOk result (entries.new.items ≡ entries.old.items ++ entries_of log.items) }
+{
+    for step in log {
+        entries.push(entry_of(step))?;
+    }
+    Ok(())
+}
+
+/// The entry of a step.
+fn entry_of(step: LoggedStep) -> JournalEntry
+    ensures { result ≡ logged_entry step }
+{
+    match step {
+        LoggedStep::Local(entry) | LoggedStep::Held(entry) => entry,
+    }
+}
