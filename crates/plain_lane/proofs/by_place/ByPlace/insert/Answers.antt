@@ -1,0 +1,17 @@
+use Rattle.std.specs.FinMap.{get-from_sorted, entries-from_sorted}
+use Rattle.std.specs.Ordering.{nat_cmp}
+use Rattle.std.proofs.Common.{◌≡◌, refl, sym, ◌∙◌, subst, ap}
+use Rattle.std.specs.Prelude.{T}
+use Rattle.std.specs.FinMap.{is_sorted, from_sorted, insert, remove}
+use Rattle.plain_lane.proofs.Rows.{no_rows, put_map, put_sorted, filter_map, filter_sorted}
+use Rattle.plain_lane.proofs.by_place.ByPlace.insert.Goals as goal
+
+pub invariant_of-self-2 : goal.invariant_of-self-2
+invariant_of-self-2 g c =
+    let e = c.in_ok-self-inside.ensures in
+    rw (e, c.replace-rows.ensures.value) (put_sorted c.args.place c.args.value c.self.inside.rows.items c.self.invariant)
+
+pub returns : goal.returns
+returns g c =
+    let e = c.in_ok-self-inside.ensures in
+    rw (e, c.replace-rows.ensures.value, ← c.self.view_is) (put_map _ _ _ c.self.invariant)

@@ -1,0 +1,15 @@
+//! One driver's step as plain lists: slow, to be read beside the definitions of `ideal_lane` and to
+//! be run beside the fast lane.
+#![tactic(auto)]
+
+mod by_place;
+mod content;
+mod lane;
+mod lending;
+mod lists;
+mod maps;
+mod places;
+mod tags;
+mod unloads;
+
+pub use lane::PlainLane;
