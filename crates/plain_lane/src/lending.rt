@@ -234,6 +234,17 @@ fn loses(ops: u32, position: &Position) -> bool
         && !(SyncOps(ops).contains(SyncOps::PREWRITE) || position.to_read)
 }
 
+/// The bytes of these positions that become Unknown by a sync.
+fn losing(alloc: Global, ops: u32, positions: &[Position]) -> Result<Vec<u64>, AllocError>
+    ensures { IfOk result (λ v. v.items ≡ addresses_of (filter (lending.loses ops) positions.now)) }
+{
+    positions
+        .iter()
+        .filter(|position| loses(ops, position))
+        .map(|position| position.pa)
+        .collect(alloc)
+}
+
 /// The bytes that become Unknown by a sync of a range.
 pub(crate) fn lost(
     alloc: Global,
@@ -249,11 +260,7 @@ pub(crate) fn lost(
         return Ok(Vec::new(alloc));
     }
     let range = stretch(alloc, off, len, positions(loans, map))?;
-    range
-        .iter()
-        .filter(|position| loses(ops, position))
-        .map(|position| position.pa)
-        .collect(alloc)
+    losing(alloc, ops, &range)
 }
 
 /// The bytes that become Unknown where a map is forgotten.

@@ -2,6 +2,7 @@
 //! be run beside the fast lane.
 #![tactic(auto)]
 
+mod accesses;
 mod by_place;
 mod content;
 mod lane;
@@ -9,6 +10,7 @@ mod lending;
 mod lists;
 mod maps;
 mod places;
+mod syncs;
 mod tags;
 mod unloads;
 

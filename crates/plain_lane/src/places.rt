@@ -92,7 +92,8 @@ impl PlainLane {
         }
         let first = small(self.physical(va).unwrap_or(0))?;
         let others = self.bytes_at(alloc, va + 1, len - 1)?;
-        joined(alloc, &[first], &others)
+        let bytes = joined(alloc, &[first], &others)?;
+        Ok(bytes)
     }
 
     /// The physical addresses of bytes, up to the first that the driver does not reach. Err also
@@ -107,7 +108,9 @@ impl PlainLane {
         let Some(first) = self.physical(va) else {
             return Ok(Vec::new(alloc));
         };
+        let first = small(first)?;
         let others = self.reached(alloc, va + 1, len - 1)?;
-        joined(alloc, &[small(first)?], &others)
+        let bytes = joined(alloc, &[first], &others)?;
+        Ok(bytes)
     }
 }
