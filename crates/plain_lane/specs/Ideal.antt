@@ -10,13 +10,13 @@ abbrev pub ideal : PlainLane → LaneState
 ideal l = record {
   id = l.id.0;
   maxmem = l.maxmem;
-  script = l.script;
+  script = l.script.now;
   place = l.place;
-  pages = l.pages;
+  pages = l.pages.now;
   tags = l.tags;
   maps = l.maps;
   mems = l.mems;
-  memory = changed l.changes.items (zeros l.pages);
+  memory = changed l.changes.items (zeros l.pages.now);
   loans = l.loans;
   queue = l.queue.items;
   returns = l.returns.items;

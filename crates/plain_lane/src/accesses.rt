@@ -26,7 +26,7 @@ fn refused(name: ReportName, at: u128) -> Judged
     })
 }
 
-impl PlainLane {
+impl PlainLane<'_> {
     /// The judgement of the driver's reading of bytes, the first of them at a place.
     fn judge_cpu_read(&self, at: u128, bytes: &[u64]) -> Judged
         requires { at + length bytes.now ≤ 2 ^ 64 }

@@ -110,12 +110,12 @@ fn is_own(runs: &[PageRun], pa: u64) -> bool
     })
 }
 
-impl PlainLane {
+impl PlainLane<'_> {
     /// What stands at an address.
     fn byte_at(&self, pa: u64) -> Byte
         ensures { (ideal self.now).memory pa ≡ content_of result }
     {
-        let opening = if is_own(self.pages.as_slice(), pa) {
+        let opening = if is_own(self.pages, pa) {
             Byte::Known(0)
         } else {
             Byte::None

@@ -11,8 +11,7 @@ ghost use Rattle.plain_lane.specs.Ideal.{ideal};
 use crate::by_place::ByPlace;
 use crate::content::Change;
 use busdma_base::{
-    Answer, Chunk, Driver, LaneId, ListOf, MapId, Op, PageRun, Report, ReportName, Segment,
-    TagLimits,
+    Answer, Chunk, Driver, LaneId, MapId, Op, PageRun, Report, ReportName, Segment, TagLimits,
 };
 use lane_tables::QueuedItem;
 use loan_table::Position;
@@ -198,12 +197,12 @@ impl Model for PlainReturn {
 /// A driver as plain lists: tags, maps, memories and loans by place; what has happened to the bytes
 /// of its memory, from the opening on; and the zone of each sync that copied.
 #[derive(Debug, Drop)]
-pub struct PlainLane {
+pub struct PlainLane<'s> {
     pub(crate) id: LaneId,
     pub(crate) maxmem: u64,
-    pub(crate) script: ListOf<Op>,
+    pub(crate) script: &'s [Op],
     pub(crate) place: u32,
-    pub(crate) pages: ListOf<PageRun>,
+    pub(crate) pages: &'s [PageRun],
     pub(crate) tags: ByPlace<PlainTag>,
     pub(crate) maps: ByPlace<PlainMap>,
     pub(crate) mems: ByPlace<PlainMemory>,
@@ -214,17 +213,17 @@ pub struct PlainLane {
     pub(crate) copied: Vec<u32>,
 }
 
-impl PlainLane {
+impl<'s> PlainLane<'s> {
     /// A driver at the first operation of its script, in a machine with so many frames.
-    pub fn new(alloc: Global, id: LaneId, maxmem: u64, driver: Driver) -> PlainLane
-        ensures { ideal result ≡ opening_lane id.0 maxmem driver }
+    pub fn new(alloc: Global, id: LaneId, maxmem: u64, driver: &'s Driver) -> PlainLane<'s>
+        ensures { ideal result ≡ opening_lane id.0 maxmem driver.now }
     {
         PlainLane {
             id,
             maxmem,
-            script: driver.script,
+            script: driver.script.as_slice(),
             place: 0,
-            pages: driver.pages,
+            pages: driver.pages.as_slice(),
             tags: ByPlace::new(alloc),
             maps: ByPlace::new(alloc),
             mems: ByPlace::new(alloc),

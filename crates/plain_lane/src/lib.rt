@@ -4,6 +4,7 @@
 
 mod accesses;
 mod by_place;
+mod chunks;
 mod content;
 mod lane;
 mod lending;

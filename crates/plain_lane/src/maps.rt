@@ -10,7 +10,7 @@ use crate::tags::could_bounce;
 use busdma_base::{Answer, Errno, HubCall, HubReply, ReportName, ZoneId};
 use std::alloc::{AllocError, Global};
 
-impl PlainLane {
+impl PlainLane<'_> {
     /// There is an idle map of a tag at the place of the script.
     fn add_map(&mut self, alloc: Global, tag: u32, zone: Option<u32>) -> Result<(), AllocError>
         ensures { OnOk result (ideal self.new ≡ maps.with_map tag zone (ideal self.old)) }

@@ -44,7 +44,7 @@ fn is_in_memory(va: u128, memory: PlainMemory) -> bool
     begin_of(memory) <= va && va < begin_of(memory) + memory.len as u128
 }
 
-impl PlainLane {
+impl PlainLane<'_> {
     /// The address is one of the bytes of the driver's memories.
     pub(crate) fn is_memory_byte(&self, va: u128) -> bool
         ensures { result ≡ places.is_memory_byte (ideal self.now) va }
@@ -56,7 +56,7 @@ impl PlainLane {
     pub(crate) fn physical(&self, va: u128) -> Option<u128>
         ensures { result ≡ places.physical (ideal self.now) va }
     {
-        match physical_in(self.pages.as_slice(), va) {
+        match physical_in(self.pages, va) {
             Some(pa) => Some(pa),
             None if self.is_memory_byte(va) => Some(va.saturating_sub(PAGES_END)),
             None => None,

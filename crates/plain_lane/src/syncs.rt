@@ -34,16 +34,21 @@ fn has_byte_of(off: u64, len: u64, chunk: &Chunk) -> bool
     (off.max(chunk.at) as u128) < end
 }
 
-/// A sync of a range copies a byte of one of these bounced chunks.
-fn copies(off: u64, len: u64, ops: u32, bounced: &[Chunk]) -> bool
-    ensures { result ≡ ((prewrite ops || postread ops) && list_any (syncs.has_byte_of off len) bounced.now) }
+/// A sync with these operations moves bytes.
+fn moves(ops: u32) -> bool
+    ensures { result ≡ (prewrite ops || postread ops) }
 {
-    let ops = SyncOps(ops);
-    (ops.contains(SyncOps::PREWRITE) || ops.contains(SyncOps::POSTREAD))
-        && bounced.iter().any(|chunk| has_byte_of(off, len, chunk))
+    SyncOps(ops).contains(SyncOps::PREWRITE) || SyncOps(ops).contains(SyncOps::POSTREAD)
 }
 
-impl PlainLane {
+/// One of these chunks has one of the `len` bytes of a load from `off` on.
+fn has_bytes_of(off: u64, len: u64, bounced: &[Chunk]) -> bool
+    ensures { result ≡ list_any (syncs.has_byte_of off len) bounced.now }
+{
+    bounced.iter().any(|chunk| has_byte_of(off, len, chunk))
+}
+
+impl PlainLane<'_> {
     /// The number of bytes of a map's load.
     pub(crate) fn load_length(&self, map: u32) -> u64
         ensures { result ≡ load_length (ideal self.now) map }
@@ -109,7 +114,7 @@ impl PlainLane {
         if SyncOps(ops).is_mixed() {
             return Ok(report(ReportName::MixedSync, 0));
         }
-        let copied = copies(off, len, ops, held.bounced());
+        let copied = moves(ops) && has_bytes_of(off, len, held.bounced());
         let zone = held.zone();
         if let Judged::Refused(refusal) = sync_answer(alloc, &self.loans, map, off, len, ops)? {
             return Ok(Answer::Report(refusal));

@@ -57,7 +57,7 @@ fn effective(parent: Option<&PlainTag>, limits: &TagLimits) -> Option<TagLimits>
     })
 }
 
-impl PlainLane {
+impl PlainLane<'_> {
     /// There is a tag at this place.
     pub(crate) fn add_tag(
         &mut self,

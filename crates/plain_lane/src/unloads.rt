@@ -88,7 +88,7 @@ fn after_return(map: u32, rest: &[PlainReturn]) -> PlainStage
     }
 }
 
-impl PlainLane {
+impl PlainLane<'_> {
     /// The map has another stage, and a load of it has called or stored a callback.
     pub(crate) fn stage(
         &mut self,
