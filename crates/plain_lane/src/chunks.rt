@@ -42,7 +42,7 @@ fn extents_of(alloc: Global, bytes: &[u64]) -> Result<Vec<Extent>, AllocError>
 }
 
 /// So many addresses from one on. Err where one has more than 64 bits.
-fn run_of(alloc: Global, first: u128, count: u64) -> Result<Vec<u64>, AllocError>
+pub(crate) fn run_of(alloc: Global, first: u128, count: u64) -> Result<Vec<u64>, AllocError>
     requires { first + count ≤ 2 ^ 65 }
     ensures { IfOk result (λ v. v.items ≡ run_of first count) }
 {
@@ -56,13 +56,14 @@ fn run_of(alloc: Global, first: u128, count: u64) -> Result<Vec<u64>, AllocError
 }
 
 /// The addresses of the bytes of extents.
-fn addresses(alloc: Global, extents: &[Extent]) -> Result<Vec<u64>, AllocError>
+pub(crate) fn addresses(alloc: Global, extents: &[Extent]) -> Result<Vec<u64>, AllocError>
     ensures { IfOk result (λ v. v.items ≡ addresses extents.now) }
 {
     let Some((first, rest)) = extents.split_first() else {
         return Ok(Vec::new(alloc));
     };
-    let head = run_of(alloc, first.pa.0 as u128, first.len)?;
+    let Extent { pa, len } = *first;
+    let head = run_of(alloc, pa.0 as u128, len)?;
     let others = addresses(alloc, rest)?;
     joined(alloc, &head, &others)
 }
@@ -183,7 +184,7 @@ pub(crate) fn chunks_within(
     if count == 0 {
         return Ok(Vec::new(alloc));
     }
-    let Some(first) = bytes.first() else {
+    let Some((first, _)) = bytes.split_first() else {
         return Ok(Vec::new(alloc));
     };
     let most = chunk_limit(tag, maxmem, *first);

@@ -10,6 +10,7 @@ mod lane;
 mod lending;
 mod lists;
 mod maps;
+mod pieces;
 mod places;
 mod syncs;
 mod tags;
