@@ -1,14 +1,14 @@
 -- How a sorted list of rows is the map that it is seen as.
-use Rattle.std.proofs.Common.{◌≡◌, ℕ, suc, ◌==◌, nat_lt, Bool, true, false, not, cond, List, [], ◌∷◌, Option, Some, None, refl}
+use Rattle.std.proofs.Common.{◌≡◌, ℕ, suc, ◌==◌, nat_lt, Bool, true, false, not, cond, List, [], ◌∷◌, Option, None, refl}
 use Rattle.std.proofs.Common.{ap, sym, ◌∙◌, subst, arith, length}
 use Rattle.std.specs.Prelude.{T, if◌then◌else◌, slice_get, slice_set}
 use Rattle.std.specs.declared.cmp.Ordering.TheVariants.{Less, Equal, Greater}
 use Rattle.std.specs.List.{insert as insert_at, filter}
 use Rattle.std.specs.Ordering.{nat_cmp, eq_by_cmp}
 use Rattle.std.specs.Cmp.{nat_cmp_total, unsigned_tied}
-use Rattle.std.specs.FinMap.{FinMap, get, insert, remove, empty, entries, find, put, is_sorted, from_sorted}
+use Rattle.std.specs.FinMap.{insert, remove, empty, find, put, is_sorted, from_sorted}
 use Rattle.std.specs.FinMap.{get-from_sorted, get-remove, entries-from_sorted, entries-insert, same_entries_map, empty_of_len}
-use Rattle.std.specs.FinMap.{len-entries, same_map, nat_cmp-IsAntisymmetric, entries_sorted}
+use Rattle.std.specs.FinMap.{len-entries, same_map, nat_cmp-IsAntisymmetric}
 use Rattle.std.specs.FinMap.Entries.{by_order, is_sorted-put, is_sorted-where_key, find-where_key}
 use Rattle.plain_lane.specs.Rows.{below, has_key, put_row}
 

@@ -1,5 +1,5 @@
 -- The ways in which a position may be lent.
-use Rattle.std.specs.Prelude.{ℕ, Bool}
+use Rattle.std.specs.Prelude.{Bool}
 use Rattle.loan_table.specs.declared.position.Position.{Position}
 use Rattle.loan_table.specs.Loans.{in_any_way, to_write}
 use Rattle.plain_lane.specs.declared.lending.Way.{Way}

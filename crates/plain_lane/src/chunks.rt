@@ -170,6 +170,7 @@ fn chunk_of(tag: &TagLimits, maxmem: u64, at: u64, bytes: &[u64]) -> Chunk
 
 /// The chunks of these bytes of a rounded entry, at most so many, of which the first is at a place of
 /// the load. Err also where a place has more than 64 bits.
+#[tactic(auto, using(crate::proofs::Cutting::next_chunk))]
 pub(crate) fn chunks_within(
     alloc: Global,
     count: usize,

@@ -1,6 +1,7 @@
 //! The segments of chunks, by lists.
 
 ghost use Rattle.std.specs.Prelude.{◌≡◌, ◌+◌, ◌≤◌, ◌<◌, ◌^◌, drop, IfOk, IsTrue, slice_index};
+ghost use Rattle.busdma_base.specs.Runs.{run_of};
 ghost use Rattle.segment_build.specs.Pieces as cut;
 ghost use Rattle.segment_build.specs.Segmentation as joins;
 ghost use Rattle.segment_build.specs.Trace as trace;
@@ -80,14 +81,22 @@ fn chunk_len(chunk: &Chunk) -> Result<u64, AllocError>
     chunk.first.len.checked_add(rest).ok_or(AllocError)
 }
 
+/// So many addresses from one on.
+fn run_from(alloc: Global, first: Pa, count: u64) -> Result<Vec<u64>, AllocError>
+    ensures { IfOk result (λ v. v.items ≡ run_of first.0 count) }
+{
+    run_of(alloc, first.0 as u128, count)
+}
+
 /// The bus addresses of the bytes of a chunk.
 fn bus_addresses(alloc: Global, chunk: &Chunk) -> Result<Vec<u64>, AllocError>
     ensures { IfOk result (λ v. v.items ≡ trace.bus_addresses chunk.now) }
 {
+    let chunk = *chunk;
     match chunk.page {
-        Some(page) => run_of(alloc, page.0 as u128, chunk_len(chunk)?),
+        Some(page) => run_from(alloc, page, chunk_len(&chunk)?),
         None => {
-            let extents = chunk_extents(alloc, chunk)?;
+            let extents = chunk_extents(alloc, &chunk)?;
             addresses(alloc, &extents)
         }
     }
