@@ -1,0 +1,4 @@
+pub mod Ideal
+pub mod Rows
+pub mod Stages
+pub mod Ways

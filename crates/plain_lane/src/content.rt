@@ -1,0 +1,169 @@
+//! What stands in the driver's memory, by what has happened to its bytes.
+
+ghost use Rattle.std.specs.Prelude.{◌≡◌, IfOk, OnOk};
+ghost use Rattle.std.specs.List.{list_any};
+ghost use Rattle.std.specs.Option.{option_map};
+ghost use Rattle.busdma_base.specs.Machine.PageRuns.{is_own};
+ghost use Rattle.ideal_lane.specs.IdealMemory.{IdealMemory, Known, Unknown, forgotten, is_among, is_known, known, value, written};
+ghost use Rattle.ideal_lane.specs.Opening.{zeros};
+ghost use Rattle.ideal_lane.specs.Accesses.{values};
+ghost use Rattle.plain_lane.specs.Ideal.{ideal};
+ghost use Rattle.plain_lane.specs.Stages.{change, changed, content_of};
+
+use crate::lane::PlainLane;
+use busdma_base::PageRun;
+use std::alloc::{AllocError, Global};
+
+/// What has happened to bytes, by their physical addresses in order.
+#[derive(Debug, Drop)]
+pub(crate) enum Change {
+    /// They became Unknown.
+    Forgot(Vec<u64>),
+    /// They were written with these values.
+    Wrote(Vec<u64>, Vec<u8>),
+}
+
+/// What stands at an address; None where the byte is not the driver's own.
+#[derive(Clone, Copy, Debug)]
+pub(crate) enum Byte {
+    Known(u8),
+    Unknown,
+    None,
+}
+
+/// The byte is Known with this value, where it is the driver's own.
+fn write(before: Byte, value: u8) -> Byte
+    ensures { content_of result ≡ option_map (λ c. Known value) (content_of before) }
+{
+    match before {
+        Byte::Known(_) | Byte::Unknown => Byte::Known(value),
+        Byte::None => Byte::None,
+    }
+}
+
+/// The byte is Unknown, where it is the driver's own.
+fn forget(before: Byte) -> Byte
+    ensures { content_of result ≡ option_map (λ c. Unknown) (content_of before) }
+{
+    match before {
+        Byte::Known(_) | Byte::Unknown => Byte::Unknown,
+        Byte::None => Byte::None,
+    }
+}
+
+/// An address is one of these.
+fn is_among(addresses: &[u64], pa: u64) -> bool
+    ensures { result ≡ is_among addresses.now pa }
+{
+    addresses.iter().any(|other| pa == *other)
+}
+
+/// What stands at an address after these were written with these values.
+fn written(addresses: &[u64], values: &[u8], before: Byte, pa: u64) -> Byte
+    ensures { (memory : IdealMemory) → memory pa ≡ content_of before →
+        written addresses.now values.now memory pa ≡ content_of result }
+{
+    let Some((first, rest)) = addresses.split_first() else {
+        return before;
+    };
+    let Some((value, values)) = values.split_first() else {
+        return before;
+    };
+    let after = if pa == *first {
+        write(before, *value)
+    } else {
+        before
+    };
+    written(rest, values, after, pa)
+}
+
+/// What stands at an address after a change.
+fn after(one: &Change, before: Byte, pa: u64) -> Byte
+    ensures { (memory : IdealMemory) → memory pa ≡ content_of before →
+        change one.now memory pa ≡ content_of result }
+{
+    match one {
+        Change::Forgot(addresses) if is_among(addresses, pa) => forget(before),
+        Change::Forgot(_) => before,
+        Change::Wrote(addresses, values) => written(addresses, values, before, pa),
+    }
+}
+
+/// What stands at an address after changes, in order.
+fn after_all(changes: &[Change], before: Byte, pa: u64) -> Byte
+    ensures { (memory : IdealMemory) → memory pa ≡ content_of before →
+        changed changes.now memory pa ≡ content_of result }
+{
+    match changes.split_first() {
+        Some((first, rest)) => after_all(rest, after(first, before, pa), pa),
+        None => before,
+    }
+}
+
+/// The address is a byte of the driver's pages.
+fn is_own(runs: &[PageRun], pa: u64) -> bool
+    ensures { result ≡ is_own runs.now pa }
+{
+    runs.iter().any(|run| {
+        4096 * run.frame as u128 <= pa as u128
+            && (pa as u128) < 4096 * (run.frame as u128 + run.count as u128)
+    })
+}
+
+impl PlainLane<'_> {
+    /// What stands at an address.
+    fn byte_at(&self, pa: u64) -> Byte
+        ensures { (ideal self.now).memory pa ≡ content_of result }
+    {
+        let opening = if is_own(self.pages, pa) {
+            Byte::Known(0)
+        } else {
+            Byte::None
+        };
+        after_all(&self.changes, opening, pa)
+    }
+
+    /// The byte is Known.
+    pub(crate) fn is_known(&self, pa: u64) -> bool
+        ensures { result ≡ is_known (ideal self.now).memory pa }
+    {
+        matches!(self.byte_at(pa), Byte::Known(_))
+    }
+
+    /// The value of the byte, or 0 where it is not Known.
+    pub(crate) fn value(&self, pa: u64) -> u8
+        ensures { result ≡ value ((ideal self.now).memory pa) }
+    {
+        match self.byte_at(pa) {
+            Byte::Known(value) => value,
+            Byte::Unknown | Byte::None => 0,
+        }
+    }
+
+    /// The values of bytes.
+    pub(crate) fn values(&self, alloc: Global, bytes: &[u64]) -> Result<Vec<u8>, AllocError>
+        ensures { IfOk result (λ v. v.items ≡ values (ideal self.now) bytes.now) }
+    {
+        bytes.iter().map(|pa| self.value(*pa)).collect(alloc)
+    }
+
+    /// These bytes become Unknown.
+    #[tactic(auto, using(crate::proofs::Changes::one_more))]
+    pub(crate) fn forget(&mut self, bytes: Vec<u64>) -> Result<(), AllocError>
+        ensures { OnOk result (ideal self.new
+            ≡ record (ideal self.old) { memory = forgotten bytes.items (ideal self.old).memory }) }
+    {
+        self.changes.push(Change::Forgot(bytes))?;
+        Ok(())
+    }
+
+    /// These bytes are written with these values.
+    #[tactic(auto, using(crate::proofs::Changes::one_more))]
+    pub(crate) fn write(&mut self, bytes: Vec<u64>, values: Vec<u8>) -> Result<(), AllocError>
+        ensures { OnOk result (ideal self.new
+            ≡ record (ideal self.old) { memory = written bytes.items values.items (ideal self.old).memory }) }
+    {
+        self.changes.push(Change::Wrote(bytes, values))?;
+        Ok(())
+    }
+}

@@ -1,0 +1,254 @@
+//! A driver as plain lists.
+
+ghost use Rattle.std.specs.Prelude.{◌≡◌, [], ◌+◌};
+ghost use Rattle.ideal_lane.specs.Opening.{opening_lane};
+ghost use Rattle.ideal_lane.specs.Outcomes.{is_idle, is_loaded};
+ghost use Rattle.ideal_lane.specs.State.{named};
+ghost use Rattle.ideal_lane.specs.Syncs.{bounced_in};
+ghost use Rattle.ideal_lane.specs.Unloads.{pages_of};
+ghost use Rattle.plain_lane.specs.Ideal.{ideal};
+
+use crate::by_place::ByPlace;
+use crate::content::Change;
+use busdma_base::{
+    Answer, Chunk, Driver, LaneId, MapId, Op, PageRun, Report, ReportName, Segment, TagLimits,
+};
+use lane_tables::QueuedItem;
+use loan_table::Position;
+use std::alloc::Global;
+use std::marker::Model;
+
+/// A tag, by its effective limits, and whether its first allocation is done.
+#[derive(Clone, Copy, Debug)]
+pub(crate) struct PlainTag {
+    pub(crate) limits: TagLimits,
+    pub(crate) first_done: bool,
+}
+
+impl Model for PlainTag {
+    ghost use Rattle.std.specs.Prelude.{◌≤◌};
+    ghost use Rattle.ideal_lane.specs.State.{LaneTag};
+
+    ghost Value = { LaneTag };
+
+    ghost view = { λ t. record { limits = t.limits; first_done = t.first_done } };
+
+    ghost inverse = { λ t. record { limits = t.limits; first_done = t.first_done } };
+
+    ghost invariant = { λ t. record {
+      alignment : 1 ≤ t.limits.alignment;
+      maxsegsz : 1 ≤ t.limits.maxsegsz;
+    } };
+}
+
+/// Where a map stands. Pages are physical addresses.
+#[derive(Debug, Drop)]
+pub(crate) enum PlainStage {
+    Idle,
+    Waiting {
+        load_at: u32,
+        need: u32,
+    },
+    Loaded {
+        bounced: Vec<Chunk>,
+        segments: Vec<Segment>,
+        pages: Vec<u64>,
+    },
+    Returning,
+}
+
+/// A map: the place of its tag, its zone, whether a load of it has called or stored a callback, and
+/// where it stands.
+#[derive(Debug, Drop)]
+pub(crate) struct PlainMap {
+    pub(crate) tag: u32,
+    pub(crate) zone: Option<u32>,
+    pub(crate) tried: bool,
+    pub(crate) stage: PlainStage,
+}
+
+impl Model for PlainMap {
+    ghost use Rattle.ideal_lane.specs.State.{LaneMap};
+    ghost use Rattle.plain_lane.specs.Stages.{stage_of};
+
+    ghost Value = { LaneMap };
+
+    ghost view = { λ o. record { tag = o.tag; zone = o.zone; tried = o.tried; stage = stage_of o.stage } };
+}
+
+impl PlainMap {
+    pub(crate) fn is_idle(&self) -> bool
+        ensures { result ≡ is_idle self.now.stage }
+    {
+        matches!(self.stage, PlainStage::Idle)
+    }
+
+    pub(crate) fn is_loaded(&self) -> bool
+        ensures { result ≡ is_loaded self.now.stage }
+    {
+        matches!(self.stage, PlainStage::Loaded { .. })
+    }
+
+    /// The pages that the map holds.
+    pub(crate) fn pages(&self) -> &[u64]
+        ensures { result.now ≡ pages_of self.now.stage }
+    {
+        match &self.stage {
+            PlainStage::Loaded { pages, .. } => pages,
+            PlainStage::Idle | PlainStage::Waiting { .. } | PlainStage::Returning => &[],
+        }
+    }
+
+    /// The bounced chunks of the map's load.
+    pub(crate) fn bounced(&self) -> &[Chunk]
+        ensures { result.now ≡ bounced_in self.now.stage }
+    {
+        match &self.stage {
+            PlainStage::Loaded { bounced, .. } => bounced,
+            PlainStage::Idle | PlainStage::Waiting { .. } | PlainStage::Returning => &[],
+        }
+    }
+
+    pub(crate) fn tag(&self) -> u32
+        ensures { result ≡ self.now.tag }
+    {
+        self.tag
+    }
+
+    pub(crate) fn zone(&self) -> Option<u32>
+        ensures { result ≡ self.now.zone }
+    {
+        self.zone
+    }
+
+    pub(crate) fn tried(&self) -> bool
+        ensures { result ≡ self.now.tried }
+    {
+        self.tried
+    }
+}
+
+/// A dmamem memory: the place of its tag, the physical address of its first byte, its frames, the
+/// bytes that the driver reaches, and whether it is coherent.
+#[derive(Clone, Copy, Debug)]
+pub(crate) struct PlainMemory {
+    pub(crate) tag: u32,
+    pub(crate) first: u64,
+    pub(crate) count: u32,
+    pub(crate) len: u64,
+    pub(crate) coherent: bool,
+}
+
+impl Model for PlainMemory {
+    ghost use Rattle.ideal_lane.specs.State.{LaneMemory};
+
+    ghost Value = { LaneMemory };
+
+    ghost view = { λ x. record {
+      tag = x.tag;
+      first = x.first;
+      count = x.count;
+      len = x.len;
+      coherent = x.coherent;
+    } };
+
+    ghost inverse = { λ x. record {
+      tag = x.tag;
+      first = x.first;
+      count = x.count;
+      len = x.len;
+      coherent = x.coherent;
+    } };
+}
+
+/// What a loaded map lends.
+#[derive(Debug, Drop)]
+pub(crate) struct PlainLoan {
+    pub(crate) coherent: bool,
+    pub(crate) positions: Vec<Position>,
+}
+
+impl Model for PlainLoan {
+    ghost use Rattle.loan_table.specs.Loans.{Loan};
+
+    ghost Value = { Loan };
+
+    ghost view = { λ x. record { coherent = x.coherent; positions = x.positions.items } };
+}
+
+/// A page of the return queue, by its physical address.
+#[derive(Clone, Copy, Debug)]
+pub(crate) struct PlainReturn {
+    pub(crate) map: u32,
+    pub(crate) zone: u32,
+    pub(crate) page: u64,
+}
+
+impl Model for PlainReturn {
+    ghost use Rattle.lane_agreement.specs.View.{Return};
+
+    ghost Value = { Return };
+
+    ghost view = { λ r. record { map = r.map; zone = r.zone; page = r.page } };
+
+    ghost inverse = { λ r. record { map = r.map; zone = r.zone; page = r.page } };
+}
+
+/// A driver as plain lists: tags, maps, memories and loans by place; what has happened to the bytes
+/// of its memory, from the opening on; and the zone of each sync that copied.
+#[derive(Debug, Drop)]
+pub struct PlainLane<'s> {
+    pub(crate) id: LaneId,
+    pub(crate) maxmem: u64,
+    pub(crate) script: &'s [Op],
+    pub(crate) place: u32,
+    pub(crate) pages: &'s [PageRun],
+    pub(crate) tags: ByPlace<PlainTag>,
+    pub(crate) maps: ByPlace<PlainMap>,
+    pub(crate) mems: ByPlace<PlainMemory>,
+    pub(crate) changes: Vec<Change>,
+    pub(crate) loans: ByPlace<PlainLoan>,
+    pub(crate) queue: Vec<QueuedItem>,
+    pub(crate) returns: Vec<PlainReturn>,
+    pub(crate) copied: Vec<u32>,
+}
+
+impl<'s> PlainLane<'s> {
+    /// A driver at the first operation of its script, in a machine with so many frames.
+    pub fn new(alloc: Global, id: LaneId, maxmem: u64, driver: &'s Driver) -> PlainLane<'s>
+        ensures { ideal result ≡ opening_lane id.0 maxmem driver.now }
+    {
+        PlainLane {
+            id,
+            maxmem,
+            script: driver.script.as_slice(),
+            place: 0,
+            pages: driver.pages.as_slice(),
+            tags: ByPlace::new(alloc),
+            maps: ByPlace::new(alloc),
+            mems: ByPlace::new(alloc),
+            changes: Vec::new(alloc),
+            loans: ByPlace::new(alloc),
+            queue: Vec::new(alloc),
+            returns: Vec::new(alloc),
+            copied: Vec::new(alloc),
+        }
+    }
+
+    /// The name of what the driver made at a place.
+    pub(crate) fn named(&self, made_at: u32) -> MapId
+        ensures { result ≡ named (ideal self.now) made_at }
+    {
+        MapId {
+            lane: self.id,
+            made_at,
+        }
+    }
+}
+
+/// A refusal with its place.
+pub(crate) fn report(name: ReportName, at: u64) -> Answer
+    ensures { result ≡ Answer.Report (record { name = name; at = at }) }
+{
+    Answer::Report(Report { name, at })
+}

@@ -1,0 +1,160 @@
+//! Operations on tags.
+
+ghost use Rattle.std.specs.Prelude.{◌≡◌, ◌&&◌, ◌≤◌, IfOk, IfSome, OnOk, option_copied, option_map};
+ghost use Rattle.busdma_base.specs.Tags.Tag.{could_bounce, effective, inherit};
+ghost use Rattle.busdma_base.specs.Tags.TagFlags.{allocnow};
+ghost use Rattle.ideal_lane.specs.Asking.{Gives, by_reply, call_of};
+ghost use Rattle.ideal_lane.specs.Tags as tags;
+ghost use Rattle.plain_lane.specs.Ideal.{given, ideal};
+
+use crate::lane::{PlainLane, PlainTag, report};
+use bitflags::Flags;
+use busdma_base::{Answer, Errno, HubCall, HubReply, Pa, ReportName, TagLimits};
+use dma_tag::{Tag, TagFlags};
+use std::alloc::{AllocError, Global};
+
+/// Some address could need a bounce page, where frame numbers are below `maxmem`.
+pub(crate) fn could_bounce(limits: &TagLimits, maxmem: u64) -> bool
+    ensures { result ≡ could_bounce limits.now maxmem }
+{
+    limits.lowaddr.0 / 4096 < maxmem || limits.alignment > 1
+}
+
+/// The making of the tag brings pages to its zone.
+fn allocates(limits: &TagLimits, maxmem: u64) -> bool
+    ensures { result ≡ (could_bounce limits.now maxmem && allocnow limits.now.flags) }
+{
+    could_bounce(limits, maxmem) && TagFlags(limits.flags).contains(TagFlags::ALLOCNOW)
+}
+
+/// A child's limits, narrowed by its parent's.
+fn inherit(parent: &TagLimits, child: TagLimits) -> TagLimits
+    ensures is { result ≡ inherit parent.now child }
+    ensures alignment { child.alignment ≤ result.alignment }
+{
+    TagLimits {
+        alignment: parent.alignment.max(child.alignment),
+        boundary: match (parent.boundary, child.boundary) {
+            (0, boundary) | (boundary, 0) => boundary,
+            (one, other) => one.min(other),
+        },
+        lowaddr: Pa(parent.lowaddr.0.min(child.lowaddr.0)),
+        highaddr: Pa(parent.highaddr.0.max(child.highaddr.0)),
+        ..child
+    }
+}
+
+/// The effective limits, or None where they are refused.
+fn effective(parent: Option<&PlainTag>, limits: &TagLimits) -> Option<TagLimits>
+    ensures alignment { IfSome result (λ t. 1 ≤ t.alignment) }
+    ensures maxsegsz { IfSome result (λ t. 1 ≤ t.maxsegsz) }
+    ensures is { result ≡ effective (option_map (λ p. p.limits) (option_copied parent.entry)) limits.now }
+{
+    let own = *Tag::create(None, limits).ok()?.limits();
+    Some(match parent {
+        Some(parent) => inherit(&parent.limits, own),
+        None => own,
+    })
+}
+
+impl PlainLane<'_> {
+    /// There is a tag at this place.
+    pub(crate) fn add_tag(
+        &mut self,
+        alloc: Global,
+        place: u32,
+        limits: TagLimits,
+        first_done: bool,
+    ) -> Result<(), AllocError>
+        requires alignment { 1 ≤ limits.alignment }
+        requires maxsegsz { 1 ≤ limits.maxsegsz }
+        ensures { OnOk result (ideal self.new ≡ tags.with_tag place limits first_done (ideal self.old)) }
+    {
+        self.tags
+            .insert(alloc, place, PlainTag { limits, first_done })
+    }
+
+    /// A tag's first allocation has grown its zone.
+    fn attach(
+        &mut self,
+        alloc: Global,
+        limits: TagLimits,
+        reply: &HubReply,
+    ) -> Result<Answer, AllocError>
+        requires alignment { 1 ≤ limits.alignment }
+        requires maxsegsz { 1 ≤ limits.maxsegsz }
+        ensures { IfOk result (λ a. given self.new a ≡ tags.attached limits (ideal self.old) reply.now) }
+    {
+        let HubReply::Grown(grown) = reply else {
+            return Ok(Answer::Refused(Errno::ENOMEM));
+        };
+        if grown.made {
+            self.add_tag(alloc, self.place, limits, true)?;
+        }
+        Ok(Answer::Grown(*grown))
+    }
+
+    /// The call of `tag`.
+    pub(crate) fn tag_call(&self, parent: Option<u32>, limits: &TagLimits) -> Option<HubCall>
+        ensures { result ≡ call_of (tags.tag parent limits.now (ideal self.now)) }
+    {
+        let limits = match parent {
+            Some(place) => effective(Some(self.tags.get(place)?), limits)?,
+            None => effective(None, limits)?,
+        };
+        if allocates(&limits, self.maxmem) {
+            Some(HubCall::AttachTag(limits))
+        } else {
+            None
+        }
+    }
+
+    /// `tag`, with this reply to its call.
+    pub(crate) fn tag(
+        &mut self,
+        alloc: Global,
+        parent: Option<u32>,
+        limits: &TagLimits,
+        reply: &HubReply,
+    ) -> Result<Answer, AllocError>
+        ensures { IfOk result (λ a. given self.new a
+            ≡ by_reply (tags.tag parent limits.now (ideal self.old)) reply.now) }
+    {
+        let made = match parent {
+            Some(place) => match self.tags.get(place) {
+                Some(parent) => effective(Some(parent), limits),
+                None => return Ok(report(ReportName::Absent, 0)),
+            },
+            None => effective(None, limits),
+        };
+        let Some(limits) = made else {
+            return Ok(Answer::Refused(Errno::EINVAL));
+        };
+        if allocates(&limits, self.maxmem) {
+            return self.attach(alloc, limits, reply);
+        }
+        self.add_tag(alloc, self.place, limits, false)?;
+        Ok(Answer::Done)
+    }
+
+    /// A tag has a map.
+    fn has_maps(&self, tag: u32) -> bool
+        ensures { result ≡ tags.has_maps (ideal self.now) tag }
+    {
+        self.maps.rows().iter().any(|row| row.1.tag() == tag)
+    }
+
+    /// `tag_destroy`.
+    pub(crate) fn tag_destroy(&mut self, alloc: Global, tag: u32) -> Result<Answer, AllocError>
+        ensures { IfOk result (λ a. Gives (given self.new a) ≡ tags.tag_destroy tag (ideal self.old)) }
+    {
+        if self.tags.get(tag).is_none() {
+            return Ok(report(ReportName::Absent, 0));
+        }
+        if self.has_maps(tag) {
+            return Ok(Answer::Refused(Errno::EBUSY));
+        }
+        self.tags.remove(alloc, tag)?;
+        Ok(Answer::Done)
+    }
+}
