@@ -1,11 +1,9 @@
 -- A merged journal leads through the logs of all drivers and the history.
-use Rattle.std.proofs.Common.{◌≡◌, ◌≢◌, ℕ, suc, ◌+◌, ◌<◌, List, [], ◌∷◌, ◌++◌, length, All, Some, None, refl, sym}
+use Rattle.std.proofs.Common.{◌≡◌, ◌≢◌, ℕ, suc, ◌+◌, ◌<◌, List, [], ◌∷◌, ◌++◌, length, All, Some, refl, sym}
 use Rattle.std.proofs.Common.{ap, ◌∙◌, subst, arith, slice_get, slice_set, append_assoc, add-zero, eq-eqb, ne_eqb}
 use Rattle.std.proofs.Common.{unwrap_or, length-append}
 use Rattle.std.proofs.lemmas.List.Elements.{All-head, All-tail}
 use Rattle.std.proofs.lemmas.List.{get_or-set_same, get_or-set_other}
-use mathlib.Core.Logic.{dite}
-use native.Mathlib.Decide.{ℕ_discrete}
 use Rattle.busdma_base.specs.declared.bounce.hold.HoldEntry.{HoldEntry}
 use Rattle.busdma_base.specs.declared.journals.journal.JournalEntry.{JournalEntry}
 use Rattle.busdma_base.specs.declared.scenarios.scenario.Scenario.{Scenario}
@@ -17,7 +15,7 @@ use Rattle.ideal_lane.specs.State.{LaneState}
 use Rattle.ideal_world.specs.Ends.{IsAtRest}
 use Rattle.ideal_world.specs.Legal.{IsLegal, Leads, journal_of}
 use Rattle.ideal_world.specs.World.{WorldState, opening_world, step}
-use Rattle.ideal_world.proofs.Lanes.{found, set-here, set-other, each_set, opening_at}
+use Rattle.ideal_world.proofs.Lanes.{found, each_set, opening_at}
 use Rattle.lane_merge.specs.Merged.{AllRun, AreNumbered, all_entries, entries_of, log_of, merged, merged_run}
 use Rattle.lane_merge.specs.Merged.{past_hold, through_hold, world_of}
 use Rattle.lane_merge.specs.Runs.{Log, Runs}

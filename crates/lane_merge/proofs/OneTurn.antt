@@ -1,7 +1,6 @@
 -- The turn of a driver whose step is known is that of the world.
-use Rattle.std.proofs.Common.{◌≡◌, ℕ, List, ◌∷◌, Option, Some, None, refl, sym, ap, ◌∙◌, subst, slice_get, slice_set, unwrap_or}
+use Rattle.std.proofs.Common.{◌≡◌, ℕ, List, ◌∷◌, Some, sym, ap, ◌∙◌, subst, slice_get, slice_set, unwrap_or}
 use Rattle.busdma_base.specs.declared.bounce.hold.HoldEntry.{HoldEntry}
-use Rattle.busdma_base.specs.declared.bounce.hold.HubCall.{HubCall}
 use Rattle.busdma_base.specs.declared.bounce.hold.HubReply.{HubReply}
 use Rattle.busdma_base.specs.declared.bounce.hold.HubReply.TheVariants.{Nothing}
 use Rattle.busdma_base.specs.declared.journals.journal.Actor.{Actor}
@@ -12,7 +11,7 @@ use Rattle.busdma_base.specs.Bounce.History.{IsSoundEntry, after_entry}
 use Rattle.ideal_lane.specs.Asking.{Asking, Gives, Asks, call_of, by_reply}
 use Rattle.ideal_lane.specs.State.{LaneState}
 use Rattle.ideal_lane.specs.Turns.{Turned, Stepped, lane_step}
-use Rattle.ideal_lane.proofs.Own.{IsOwn, actor_of, turn-own}
+use Rattle.ideal_lane.proofs.Own.{IsOwn, turn-own}
 use Rattle.ideal_world.specs.Legal.{Leads}
 use Rattle.ideal_world.specs.World.{WorldState, WorldTurned, turned, replied, step_of, step, entry_of}
 use Rattle.lane_merge.specs.Merged.{world_of}
