@@ -1,3 +1,4 @@
+pub mod Buffers
 pub mod Limits
 pub mod Names
 pub mod Operations

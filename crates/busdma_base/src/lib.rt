@@ -10,6 +10,7 @@ mod name;
 mod room;
 mod scenarios;
 mod tags;
+mod text;
 
 pub use bounce::{
     Called, Grabbed, Grown, HoldEntry, HubCall, HubDoor, HubReply, Opening, Waiter, ZoneCounts,
@@ -23,13 +24,17 @@ pub use journals::{
 };
 pub use list::ListOf;
 pub use machine::{Bio, Chunk, Entry, Extent, Mbuf, Pa, Page, PageList, Part, Segment, Span, Va};
-pub use name::{LaneId, MapId, Name, ZoneId};
+pub use name::{LaneId, MapId, ZoneId};
 pub use room::RoomyList;
 pub use scenarios::{
-    Bytes, Driver, FrameRun, Item, ItemAbout, ItemWord, MadeName, NameKind, Object, Op, OpAbout,
-    OpWord, PageRun, Place, Scenario, UsedName,
+    Buffer, Bytes, Driver, FrameRun, Item, ItemAbout, ItemWord, MadeName, NameKind, Object, Op,
+    OpAbout, OpWord, PageRun, Place, Scenario, UsedName,
 };
 pub use tags::TagLimits;
+pub use text::Text;
+
+/// A name that a script gives.
+pub type Name = Text;
 
 /// Addresses, in order.
 pub type PaList = ListOf<Pa>;

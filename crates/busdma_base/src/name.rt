@@ -1,8 +1,4 @@
-//! Names of drivers, zones and maps, and the names that a script gives.
-
-ghost use Rattle.std.specs.Prelude.{◌≡◌, string_bytes};
-
-use std::marker::Model;
+//! Names of drivers, zones and maps.
 
 /// A driver, by its place in the scenario.
 #[derive(Clone, Copy, Debug, PartialEq, Eq, PartialOrd, Ord)]
@@ -18,34 +14,4 @@ pub struct ZoneId(pub u32);
 pub struct MapId {
     pub lane: LaneId,
     pub made_at: u32,
-}
-
-/// A name in a script, seen by contracts as its bytes.
-#[derive(Debug, Drop)]
-pub struct Name {
-    text: String,
-}
-
-impl Model for Name {
-    ghost use Rattle.std.specs.Prelude.{ℕ, List, string_bytes};
-
-    ghost Value = { List ℕ };
-
-    ghost view = { λ n. string_bytes n.text };
-}
-
-impl Name {
-    /// The name that is this text.
-    pub fn new(text: String) -> Name
-        ensures { result ≡ string_bytes text }
-    {
-        Name { text }
-    }
-
-    /// The name's text.
-    pub fn as_str(&self) -> &str
-        ensures { result.now ≡ self.now }
-    {
-        self.text.as_str()
-    }
 }

@@ -29,7 +29,7 @@ use Rattle.busdma_base.specs.Tags.Tag.{could_bounce, effective}
 use Rattle.busdma_base.specs.Tags.TagFlags.{allocnow}
 use Rattle.dma_tag.specs.LoadFlags.{nowait}
 use Rattle.dma_tag.specs.MemFlags.{coherent}
-use Rattle.phys_memory.specs.Vector.{one_span}
+use Rattle.busdma_base.specs.Machine.Spans.{one_span}
 use Rattle.dma_tag.specs.SyncOps.{is_mixed}
 use Rattle.lane_agreement.specs.View as view
 use Rattle.lane_agreement.specs.View.{Return}

@@ -25,7 +25,7 @@ use Rattle.lane_agreement.proofs.Asking.{agrees-may}
 use Rattle.lane_agreement.proofs.Left.{agrees-like}
 use Rattle.lane_agreement.proofs.Whole.{agrees-step, called-length}
 use Rattle.dma_tag.specs.LoadFlags.{nowait}
-use Rattle.phys_memory.specs.Vector.{one_span}
+use Rattle.busdma_base.specs.Machine.Spans.{one_span}
 use Rattle.lane_tables.specs.declared.queued.QueuedItem.{QueuedItem}
 use Rattle.ideal_lane.specs.State.{LaneState, LaneMap, Stage, Idle, Waiting, Loaded, Returning, named}
 use Rattle.ideal_lane.specs.Asking.{Asking, Gives, Asks, goes_on}

@@ -1,6 +1,6 @@
 -- Loads: what they name, how they are cut, and how they end. After bus_dmamap_load(9) and the x86 bounce code.
 use Rattle.std.specs.Prelude.{ℕ, ◌+◌, ◌==◌, Bool, true, false, not, ◌&&◌, List, [], ◌∷◌, ◌++◌, length, Option, Some, None}
-use Rattle.std.specs.Prelude.{if◌then◌else◌, nat_le, nat_lt, unwrap_or}
+use Rattle.std.specs.Prelude.{if◌then◌else◌, is_some, map, nat_le, nat_lt, unwrap_or}
 use Rattle.std.specs.FinMap.{get, insert, contains_key}
 use Rattle.std.specs.List.{enumerate_from}
 use Rattle.std.specs.Option.{option_map}
@@ -12,9 +12,10 @@ use Rattle.busdma_base.specs.declared.journals.answer.Answer.TheVariants.{Segmen
 use Rattle.busdma_base.specs.declared.journals.report.Errno.TheVariants.{EINVAL, ENOMEM, EFBIG}
 use Rattle.busdma_base.specs.declared.journals.report.Judged.{Judged}
 use Rattle.busdma_base.specs.declared.journals.report.ReportName.{ReportName}
-use Rattle.busdma_base.specs.declared.journals.report.ReportName.TheVariants.{Unmapped, ForeignMemory}
+use Rattle.busdma_base.specs.declared.journals.report.ReportName.TheVariants as name
 use Rattle.busdma_base.specs.declared.machine.address.Segment.{Segment}
-use Rattle.busdma_base.specs.declared.machine.address.Span.{Span}
+use Rattle.busdma_base.specs.declared.machine.bio.Bio.{Bio}
+use Rattle.busdma_base.specs.declared.machine.bio.Bio.TheVariants.{Mapped, Vector, Unmapped}
 use Rattle.busdma_base.specs.declared.machine.chunk.Chunk.{Chunk}
 use Rattle.busdma_base.specs.declared.machine.chunk.Entry.{Entry}
 use Rattle.busdma_base.specs.declared.scenarios.script.Item.{Item}
@@ -22,11 +23,13 @@ use Rattle.busdma_base.specs.declared.tags.tag.TagLimits.{TagLimits}
 use Rattle.busdma_base.specs.Bounce.AccountStep.{as_pages}
 use Rattle.busdma_base.specs.Journals.Judging.{judged}
 use Rattle.busdma_base.specs.Machine.Entry.{entries_addresses}
-use Rattle.busdma_base.specs.Machine.Spans.{span_addresses, span_bytes}
+use Rattle.busdma_base.specs.Machine.Spans.{bio_spans, span_addresses, span_bytes}
 use Rattle.lane_agreement.specs.View.{queued_back}
 use Rattle.lane_agreement.specs.After.{addresses}
 use Rattle.lane_tables.specs.Queues.{queued}
+use Rattle.load_bio.specs.Bio.{bio_translation, is_rounded}
 use Rattle.loan_table.specs.Loans.{new_loan}
+use Rattle.phys_memory.specs.Translation.{Translation, physical_or_0}
 use Rattle.phys_memory.specs.Vector.{entries_of, with_entry}
 use Rattle.segment_build.specs.Building.{tag_placed, placed_pieces}
 use Rattle.segment_build.specs.Chunks.{chunks_of, bounced_of, need_of}
@@ -54,22 +57,41 @@ abbrev pub is_foreign_to : Option LaneMemory → LaneState → ℕ → ℕ → B
 is_foreign_to None l at va = is_memory_byte l va
 is_foreign_to (Some x) l at va = not (va == begin_of x + at && nat_lt at x.len)
 
+-- so it is of a load of a bio: the bytes of a bio that is not mapped are of the driver's pages, and so no memory's
+abbrev pub is_foreign_in : Bio → Option LaneMemory → LaneState → ℕ → ℕ → Bool
+is_foreign_in (Mapped span) o l at va = is_foreign_to o l at va
+is_foreign_in (Vector spans) o l at va = is_foreign_to o l at va
+is_foreign_in (Unmapped frames off len) o l at va = is_some o
+
 -- what stands in the way of a byte of a load of a map
 abbrev pub load_refusal : Bool → Option ℕ → Option ReportName
-load_refusal foreign None = Some Unmapped
-load_refusal foreign (Some pa) = if foreign then Some ForeignMemory else None
+load_refusal foreign None = Some name.Unmapped
+load_refusal foreign (Some pa) = if foreign then Some name.ForeignMemory else None
 
--- the bytes of a load of a map, by their virtual addresses in order
-abbrev pub load_judged : LaneState → ℕ → List ℕ → Judged
-load_judged l m vas =
-    judged (λ b. load_refusal (is_foreign_to (get l.mems m) l b.0 b.1) (physical l b.1)) 0 (enumerate_from 0 vas)
+-- where the driver's bytes lie that a bio names
+abbrev pub load_translation : LaneState → Bio → Translation
+load_translation l b = bio_translation (physical l) b
 
--- a load of spans
-abbrev pub asked : ℕ → List Span → Bool → List Item → LaneState → Asked
-asked m spans nowait items l = record {
-  judged = load_judged l m (span_addresses spans);
-  entries = entries_of true (physical l) spans;
-  len = span_bytes spans;
+-- what stands in the way of the bytes of a load of a map, in order
+abbrev pub load_judged : LaneState → ℕ → Bio → Judged
+load_judged l m b =
+    judged (λ x. load_refusal (is_foreign_in b (get l.mems m) l x.0 x.1) (load_translation l b x.1)) 0
+    (enumerate_from 0 (span_addresses (bio_spans b)))
+
+-- the entries of a load
+abbrev pub load_entries : LaneState → Bio → List Entry
+load_entries l b = entries_of (is_rounded b) (load_translation l b) (bio_spans b)
+
+-- the bytes of a load by their physical addresses, in order
+abbrev pub load_addresses : LaneState → Bio → List ℕ
+load_addresses l b = map (physical_or_0 (load_translation l b)) (span_addresses (bio_spans b))
+
+-- a load of a bio
+abbrev pub asked : ℕ → Bio → Bool → List Item → LaneState → Asked
+asked m b nowait items l = record {
+  judged = load_judged l m b;
+  entries = load_entries l b;
+  len = span_bytes (bio_spans b);
   nowait = nowait;
   items = items;
 }

@@ -14,18 +14,20 @@ use Rattle.busdma_base.specs.declared.journals.journal.JournalEntry.{JournalEntr
 use Rattle.busdma_base.specs.declared.journals.journal.Side.{Side}
 use Rattle.busdma_base.specs.declared.journals.journal.Side.TheVariants as side
 use Rattle.busdma_base.specs.declared.machine.address.Pa.{Pa}
+use Rattle.busdma_base.specs.declared.machine.bio.Bio.{Bio}
+use Rattle.busdma_base.specs.declared.machine.bio.Bio.TheVariants as bio
+use Rattle.busdma_base.specs.declared.scenarios.buffer.Buffer.{Buffer}
+use Rattle.busdma_base.specs.declared.scenarios.buffer.Buffer.TheVariants as buffer
 use Rattle.busdma_base.specs.declared.scenarios.script.Item.{Item}
 use Rattle.busdma_base.specs.declared.scenarios.script.Item.TheVariants as item
 use Rattle.busdma_base.specs.declared.scenarios.script.Op.{Op}
 use Rattle.busdma_base.specs.declared.scenarios.script.Op.TheVariants as op
-use Rattle.busdma_base.specs.declared.scenarios.script.Place.{Place}
 use Rattle.busdma_base.specs.Scenarios.Operations.{bytes_of}
 use Rattle.dma_tag.specs.LoadFlags.{nowait}
 use Rattle.lane_agreement.specs.After.{addresses}
 use Rattle.lane_agreement.specs.View.{Return}
 use Rattle.lane_tables.specs.declared.queued.QueuedItem.{QueuedItem}
 use Rattle.lane_tables.specs.Queues.{queue_names}
-use Rattle.phys_memory.specs.Vector.{one_span}
 use Rattle.ideal_lane.specs.State.{LaneState, LaneMap, Stage, Idle, Waiting, Loaded, Returning, named}
 use Rattle.ideal_lane.specs.Asking.{Asking, Gives, Asks, goes_on}
 use Rattle.ideal_lane.specs.Outcomes.{Outcome, unless_absent}
@@ -61,11 +63,28 @@ stepped s d o = record {
 
 -- The script
 
--- a load of the bytes at a place
-abbrev pub load_at_place : ℕ → Place → ℕ → ℕ → List Item → LaneState → Asking Outcome
-load_at_place m place len flags items l =
-    unless_absent (virtual_at l place) l (λ va. loads.load m
-    (loads.asked m (one_span va len) (nowait flags) items l) l)
+-- the `len` bytes from a virtual address on, as a bio
+abbrev pub flat_bio : ℕ → ℕ → Bio
+flat_bio len va = bio.Mapped (record { va = record { 0 = va }; len = len })
+
+-- the bytes of a buffer as those of a bio, unless the memory of its place does not exist
+abbrev pub bio_at : LaneState → Buffer → Option Bio
+bio_at l (buffer.Flat place len) = option_map (flat_bio len) (virtual_at l place)
+bio_at l (buffer.Vector spans) = Some (bio.Vector spans)
+bio_at l (buffer.Mbuf chain) = Some (bio.Vector chain)
+bio_at l (buffer.Bio b) = Some b
+
+-- the load of a buffer with these flags is refused where it would have to wait, as that of a chain always is
+abbrev pub never_waits : Buffer → ℕ → Bool
+never_waits (buffer.Flat place len) flags = nowait flags
+never_waits (buffer.Vector spans) flags = nowait flags
+never_waits (buffer.Mbuf chain) flags = true
+never_waits (buffer.Bio b) flags = nowait flags
+
+-- a load of a buffer
+abbrev pub load_buffer : ℕ → Buffer → ℕ → List Item → LaneState → Asking Outcome
+load_buffer m x flags items l =
+    unless_absent (bio_at l x) l (λ b. loads.load m (loads.asked m b (never_waits x flags) items l) l)
 
 -- what an operation does
 abbrev pub operation : Op → LaneState → Asking Outcome
@@ -73,7 +92,7 @@ operation (op.Tag name parent limits) l = tags.tag parent limits l
 operation (op.TagDestroy tag) l = tags.tag_destroy tag l
 operation (op.Map name tag) l = maps.map tag l
 operation (op.MapDestroy map) l = maps.map_destroy map l
-operation (op.Load map place len flags items) l = load_at_place map place len flags items l
+operation (op.Load map buffer flags items) l = load_buffer map buffer flags items l
 operation (op.Unload map) l = unloads.unload map l
 operation (op.Sync map ops) l = syncs.sync map ops l
 operation (op.SyncRange map off len ops) l = syncs.sync_range map off len ops l
@@ -100,7 +119,7 @@ waits (op.Tag name parent limits) l = false
 waits (op.TagDestroy tag) l = false
 waits (op.Map name tag) l = false
 waits (op.MapDestroy map) l = false
-waits (op.Load map place len flags items) l = false
+waits (op.Load map buffer flags items) l = false
 waits (op.Unload map) l = false
 waits (op.Sync map ops) l = false
 waits (op.SyncRange map off len ops) l = false
@@ -159,12 +178,12 @@ transfer_turn (q ∷ rest) l = goes_on (left_queue q rest) (transfer q.item l)
 
 -- a load of no byte
 abbrev pub no_load : LaneState → loads.Asked
-no_load l = loads.asked 0 [] false [] l
+no_load l = loads.asked 0 (bio.Vector []) false [] l
 
 -- what an operation asks that loads a map, where its memory exists
 abbrev pub asked_by : Op → LaneState → Option loads.Asked
-asked_by (op.Load map place len flags items) l =
-    option_map (λ va. loads.asked map (one_span va len) (nowait flags) items l) (virtual_at l place)
+asked_by (op.Load map buffer flags items) l =
+    option_map (λ b. loads.asked map b (never_waits buffer flags) items l) (bio_at l buffer)
 asked_by (op.Tag name parent limits) l = None
 asked_by (op.TagDestroy tag) l = None
 asked_by (op.Map name tag) l = None

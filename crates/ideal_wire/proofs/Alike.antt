@@ -16,13 +16,13 @@ use Rattle.busdma_base.specs.declared.scenarios.script.Op.TheVariants as op
 use Rattle.busdma_base.specs.declared.scenarios.script.Place.TheVariants.{At}
 use Rattle.busdma_base.specs.Journals.Judging.{judged}
 use Rattle.busdma_base.specs.Machine.PageRuns.{is_own}
-use Rattle.busdma_base.specs.Machine.Spans.{span_addresses, span_bytes}
+use Rattle.busdma_base.specs.Machine.Spans.{one_span, span_addresses, span_bytes}
 use Rattle.busdma_base.specs.Machine.Wire.{buses}
 use Rattle.dma_tag.specs.LoadFlags.{nowait}
 use Rattle.loan_table.specs.declared.position.Position.{Position}
 use Rattle.loan_table.specs.Loans.{loan_of, addresses_of}
 use Rattle.map_sync.specs.Traces.{HasChunks}
-use Rattle.phys_memory.specs.Vector.{entries_of, one_span}
+use Rattle.phys_memory.specs.Vector.{entries_of}
 use Rattle.segment_build.specs.Chunks.{chunks_of, need_of}
 use Rattle.ideal_lane.specs.Loads.{Asked, asked, is_coherent, is_foreign_to, limits_of, load_refusal}
 use Rattle.ideal_lane.specs.Places.{physical}

@@ -35,7 +35,7 @@ use Rattle.busdma_base.specs.Bounce.EachFrame.{EachFrame}
 use Rattle.busdma_base.specs.Bounce.Growth.{serves_tag}
 use Rattle.busdma_base.specs.Bounce.History.{IsFrame}
 use Rattle.busdma_base.specs.Bounce.LowPages.{PagesLieLow}
-use Rattle.busdma_base.specs.Machine.Spans.{span_addresses}
+use Rattle.busdma_base.specs.Machine.Spans.{one_span, span_addresses}
 use Rattle.busdma_base.specs.Runs.{run_of}
 use Rattle.busdma_base.specs.Scenarios.Operations.{bytes_of}
 use Rattle.busdma_base.specs.Tags.Tag.{could_bounce, effective}
@@ -51,7 +51,6 @@ use Rattle.lane_tables.specs.declared.queued.QueuedItem.{QueuedItem}
 use Rattle.loan_table.specs.Access.{cpu_read_answer, cpu_write_answer, dev_read_answer, dev_write_answer}
 use Rattle.loan_table.specs.Lending.{sync_answer}
 use Rattle.loan_table.specs.Loans.{loan_of, load_bytes}
-use Rattle.phys_memory.specs.Vector.{one_span}
 use Rattle.segment_build.specs.Chunks.{need_of}
 use Rattle.segment_build.specs.Obeying.{IsReachable}
 use Rattle.ideal_lane.specs.Accesses.{cpu_read, cpu_write, dev_read, dev_write, values}

@@ -27,7 +27,7 @@ use Rattle.busdma_base.specs.Bounce.Account.{Account}
 use Rattle.busdma_base.specs.Bounce.AccountStep.{account_step, as_pages}
 use Rattle.busdma_base.specs.Bounce.EachFrame.{EachFrame}
 use Rattle.busdma_base.specs.Bounce.History.{IsFrame}
-use Rattle.busdma_base.specs.Machine.Spans.{span_addresses}
+use Rattle.busdma_base.specs.Machine.Spans.{one_span, span_addresses}
 use Rattle.busdma_base.specs.Scenarios.Operations.{bytes_of}
 use Rattle.dma_tag.specs.LoadFlags.{nowait}
 use Rattle.lane_agreement.specs.After.{addresses}
@@ -36,7 +36,6 @@ use Rattle.lane_agreement.specs.View.{Return}
 use Rattle.lane_agreement.proofs.Whole.{called-length, granted-length}
 use Rattle.lane_tables.specs.declared.queued.QueuedItem.{QueuedItem}
 use Rattle.loan_table.specs.Loans.{loan_of, no_loan}
-use Rattle.phys_memory.specs.Vector.{one_span}
 use Rattle.segment_build.specs.Chunks.{chunks_of, need_of}
 use Rattle.segment_build.specs.Trace.{IsPage}
 use Rattle.ideal_lane.specs.Agreement.{AgreesWith}

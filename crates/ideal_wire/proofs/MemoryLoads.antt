@@ -16,7 +16,8 @@ use Rattle.busdma_base.specs.Runs.{run_of}
 use Rattle.busdma_base.specs.Tags.Tag.{IsEffective}
 use Rattle.phys_memory.specs.Extents.{reached}
 use Rattle.phys_memory.specs.Translation.{physical_or_0}
-use Rattle.phys_memory.specs.Vector.{entries_of, one_span, with_entry}
+use Rattle.busdma_base.specs.Machine.Spans.{one_span}
+use Rattle.phys_memory.specs.Vector.{entries_of, with_entry}
 use Rattle.phys_memory.proofs.Extents.{reached_extents}
 use Rattle.phys_memory.proofs.Vectors.{entries_are}
 use Rattle.segment_build.specs.Chunks.{chunks_of, need_of}

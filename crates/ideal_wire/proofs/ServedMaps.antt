@@ -31,7 +31,7 @@ use Rattle.dma_tag.specs.LoadFlags.{nowait}
 use Rattle.lane_agreement.specs.After.{addresses}
 use Rattle.lane_agreement.specs.View.{Return}
 use Rattle.lane_tables.specs.declared.queued.QueuedItem.{QueuedItem}
-use Rattle.phys_memory.specs.Vector.{one_span}
+use Rattle.busdma_base.specs.Machine.Spans.{one_span}
 use Rattle.ideal_lane.specs.Asking.{Asking, Gives, Asks, goes_on}
 use Rattle.ideal_lane.specs.Loads.{asked, limits_of}
 use Rattle.ideal_lane.specs.Loads.{no_limits}

@@ -31,7 +31,7 @@ use Rattle.lane_agreement.specs.View.{Return}
 use Rattle.lane_tables.specs.declared.queued.QueuedItem.{QueuedItem}
 use Rattle.loan_table.specs.Access.{cpu_read_answer, dev_read_answer}
 use Rattle.loan_table.specs.Loans.{loan_of, no_loan, load_bytes}
-use Rattle.phys_memory.specs.Vector.{one_span}
+use Rattle.busdma_base.specs.Machine.Spans.{one_span}
 use Rattle.segment_build.specs.Building.{tag_placed, placed_pieces}
 use Rattle.segment_build.specs.Chunks.{need_of}
 use Rattle.segment_build.specs.Segmentation.{segmentation}

@@ -8,10 +8,9 @@ use Rattle.busdma_base.specs.declared.scenarios.script.Item.{Item}
 use Rattle.busdma_base.specs.declared.scenarios.script.Op.{Op}
 use Rattle.busdma_base.specs.declared.scenarios.script.Op.TheVariants as op
 use Rattle.busdma_base.specs.declared.scenarios.script.Place.TheVariants.{At}
-use Rattle.busdma_base.specs.Machine.Spans.{span_addresses}
+use Rattle.busdma_base.specs.Machine.Spans.{one_span, span_addresses}
 use Rattle.busdma_base.specs.Runs.{run_of}
 use Rattle.dma_tag.specs.LoadFlags.{nowait}
-use Rattle.phys_memory.specs.Vector.{one_span}
 use Rattle.segment_build.specs.Chunks.{chunks_of, need_of}
 use Rattle.ideal_lane.specs.Loads.{Asked, asked, limits_of}
 use Rattle.ideal_lane.specs.Places.{bytes_at}

@@ -10,13 +10,12 @@ use Rattle.busdma_base.specs.declared.scenarios.script.Op.TheVariants as op
 use Rattle.busdma_base.specs.Bounce.Account.{Account}
 use Rattle.busdma_base.specs.Bounce.AccountStep.{account_step}
 use Rattle.ideal_lane.specs.Asking.{Asking, Gives, Asks}
-use Rattle.ideal_lane.specs.Loads.{chunks_for, limits_of}
+use Rattle.ideal_lane.specs.Loads.{chunks_for, limits_of, load_addresses}
 use Rattle.ideal_lane.specs.State.{LaneState, LaneMap, Stage, Idle, Waiting, Loaded, Returning}
-use Rattle.ideal_lane.specs.Turns.{Turn, Turned, Stepped, Blocked, Ended, asked_at}
+use Rattle.ideal_lane.specs.Turns.{Turn, Turned, Stepped, Blocked, Ended, asked_at, bio_at}
 use Rattle.ideal_lane.specs.Unloads.{pages_of}
 use Rattle.ideal_wire.specs.Accepted.{IfSegments, IsAccepted}
 use Rattle.ideal_wire.specs.Traces.{stage_at}
-use Rattle.ideal_wire.specs.WireStep.{place_bytes}
 
 -- a load: its map, and its bytes in order, by their physical addresses
 pub record Load : Type 0 where
@@ -25,7 +24,8 @@ pub record Load : Type 0 where
 
 -- what an operation loads, if it loads
 abbrev pub loaded_by : Op → LaneState → Option Load
-loaded_by (op.Load map place len flags items) l = Some (record { map = map; bytes = place_bytes l place len })
+loaded_by (op.Load map buffer flags items) l =
+    option_map (λ b. record { map = map; bytes = load_addresses l b }) (bio_at l buffer)
 loaded_by (op.Tag name parent limits) l = None
 loaded_by (op.TagDestroy tag) l = None
 loaded_by (op.Map name tag) l = None

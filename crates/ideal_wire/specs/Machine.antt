@@ -4,6 +4,7 @@ use Rattle.std.specs.List.{AllByRecursion}
 use Rattle.std.specs.FinMap.{get}
 use Rattle.busdma_base.specs.declared.scenarios.scenario.PageRun.{PageRun}
 use Rattle.busdma_base.specs.Machine.PageRuns.{pages_end}
+use Rattle.busdma_base.specs.Scenarios.Valid.{LoadsFrom}
 use Rattle.busdma_base.specs.Tags.Tag.{IsEffective}
 use Rattle.ideal_lane.specs.State.{LaneState, LaneTag, LaneMemory}
 
@@ -15,9 +16,10 @@ pub record IsOfMachine (maxmem : ℕ) (r : PageRun) : Type 0 where
   pub below : r.frame + r.count ≤ maxmem
 
 -- the machine's frames have numbers below 2^30, and the driver's pages and memories have frames of the machine; each of
--- its tags is an effective one
+-- its tags is an effective one; and the frames that its script names are of its pages
 pub record IsInMachine (l : LaneState) : Type 0 where
   pub numbered : l.maxmem ≤ 2 ^ 30
   pub pages : AllByRecursion (IsOfMachine l.maxmem) l.pages
   pub mems : (k : ℕ) (x : LaneMemory) → get l.mems k ≡ Some x → x.first + 4096 * x.count ≤ 4096 * l.maxmem
   pub tags : (k : ℕ) (t : LaneTag) → get l.tags k ≡ Some t → IsEffective t.limits
+  pub bios : AllByRecursion (LoadsFrom l.pages) l.script

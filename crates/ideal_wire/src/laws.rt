@@ -18,7 +18,7 @@ ghost use Rattle.segment_build.specs.Obeying.{IsReachable};
 ghost use Rattle.busdma_base.specs.declared.bounce.hold.HubReply.{HubReply};
 ghost use Rattle.busdma_base.specs.declared.journals.journal.Side.{Side};
 ghost use Rattle.busdma_base.specs.declared.journals.report.Judged.TheVariants.{Fine};
-ghost use Rattle.busdma_base.specs.declared.machine.address.Span.{Span};
+ghost use Rattle.busdma_base.specs.declared.machine.bio.Bio.{Bio};
 ghost use Rattle.busdma_base.specs.declared.scenarios.scenario.Driver.{Driver};
 ghost use Rattle.busdma_base.specs.declared.scenarios.scenario.Scenario.{Scenario};
 ghost use Rattle.busdma_base.specs.declared.scenarios.script.Item.{Item};
@@ -26,17 +26,16 @@ ghost use Rattle.busdma_base.specs.declared.scenarios.script.Place.{Place};
 ghost use Rattle.busdma_base.specs.Bounce.Account.{Account, zone_at};
 ghost use Rattle.busdma_base.specs.Bounce.Opening.{maxmem_of};
 ghost use Rattle.busdma_base.specs.Machine.PageRuns.{is_own};
-ghost use Rattle.busdma_base.specs.Machine.Spans.{span_addresses};
 ghost use Rattle.busdma_base.specs.Machine.Wire.{Wire};
+ghost use Rattle.busdma_base.specs.Scenarios.Buffers.{IsBioOf};
 ghost use Rattle.busdma_base.specs.Scenarios.Valid.{IsValid};
 ghost use Rattle.ideal_lane.specs.Accesses.{cpu_read, cpu_write, dev_read, dev_write};
 ghost use Rattle.lane_agreement.specs.Agreement.{IsFit};
 ghost use Rattle.ideal_lane.specs.Agreement.{AgreesWith};
 ghost use Rattle.ideal_lane.specs.Asking.{by_reply, goes_on};
-ghost use Rattle.ideal_lane.specs.Loads.{asked, chunks_for, finished, limits_of, load_judged};
+ghost use Rattle.ideal_lane.specs.Loads.{asked, chunks_for, finished, limits_of, load_addresses, load_judged};
 ghost use Rattle.ideal_lane.specs.Memories.{dmamem, dmamem_free};
 ghost use Rattle.ideal_lane.specs.Opening.{opening_lane};
-ghost use Rattle.ideal_lane.specs.Places.{bytes_at};
 ghost use Rattle.ideal_lane.specs.Standing.{Stands};
 ghost use Rattle.ideal_lane.specs.State.{LaneMap, LaneState};
 ghost use Rattle.ideal_lane.specs.Syncs.{sync, sync_range};
@@ -110,21 +109,20 @@ pub fn calls_read_faithfully()
 
 /// The segments that a load of the driver's pages answers are its bytes, in order, and obey its tag,
 /// where it has as many pages as it needs and its device reaches each of them. The load is of a map
-/// that is not a memory's, and its bytes are judged fine. So it is of the segments that a turn
+/// that is not a memory's, its bytes are judged fine, and the frames that it names are the driver's. So it is of the segments that a turn
 /// answers by the account's reply, where driver and account agree and the zones of maps serve their
 /// tags: it has ended a load in its own step, or at the callback of one that waited. The account is
 /// one that a sound history leads to.
 pub fn accepted_loads_obey()
-    ensures load { (l : LaneState) (m : ℕ) (o : LaneMap) (spans : List Span) (load_at : ℕ) (nowait : Bool)
-        (items : List Item) (pages : List ℕ) → Stands l → AreLaid l → IsInMachine l →
-        get l.maps m ≡ Some o → contains_key l.mems m ≡ false →
-        load_judged l m (span_addresses spans) ≡ Fine →
-        let x = asked m spans nowait items l in
+    ensures load { (l : LaneState) (m : ℕ) (o : LaneMap) (b : Bio) (load_at : ℕ) (nowait : Bool)
+        (items : List Item) (pages : List ℕ) → Stands l → AreLaid l → IsInMachine l → IsBioOf l.pages b →
+        get l.maps m ≡ Some o → contains_key l.mems m ≡ false → load_judged l m b ≡ Fine →
+        let x = asked m b nowait items l in
         let chunks = chunks_for l o false x.entries in
         HasPages (limits_of l o) chunks pages →
         let end = finished m o load_at x chunks pages l in
         IfSegments end.answer
-        (IsAccepted end.lane m (limits_of l o) (bytes_at l (span_addresses spans)) chunks pages) }
+        (IsAccepted end.lane m (limits_of l o) (load_addresses l b) chunks pages) }
     ensures turn { (l : LaneState) (s : Side) (a : Account) → Stands l → AgreesWith l a → IsFit a →
         EachFrame IsFrame a → PagesLieLow a → AreServed l a → IsInMachine l → AreLaid l →
         AnswersLoads l a (lane_step l s) }

@@ -1,11 +1,11 @@
 //! Why a scenario is refused.
 
-ghost use Rattle.std.specs.Prelude.{◌≡◌, string_bytes};
+ghost use Rattle.std.specs.Prelude.{◌≡◌};
 ghost use Rattle.json_fields.specs.declared.refusal.Stop.TheVariants.{OutOfMemory};
 
+use busdma_base::Text;
 use std::alloc::{AllocError, AllocFailed};
 use std::fmt;
-use std::marker::Model;
 
 /// The limits of a scenario.
 #[derive(Clone, Copy, Debug, PartialEq, Eq)]
@@ -53,35 +53,8 @@ pub enum RefusalKind {
     UnknownName,
 }
 
-/// The text of a path, seen by contracts as its bytes.
-#[derive(Debug, Drop)]
-pub struct PathText {
-    text: String,
-}
-
-impl Model for PathText {
-    ghost use Rattle.std.specs.Prelude.{ℕ, List, string_bytes};
-
-    ghost Value = { List ℕ };
-
-    ghost view = { λ p. string_bytes p.text };
-}
-
-impl PathText {
-    /// The path of this text.
-    pub fn new(text: String) -> PathText
-        ensures { result ≡ string_bytes text }
-    {
-        PathText { text }
-    }
-
-    /// The text.
-    pub fn as_str(&self) -> &str
-        ensures { result.now ≡ self.now }
-    {
-        self.text.as_str()
-    }
-}
+/// The text of a path.
+pub type PathText = Text;
 
 /// The first thing that is wrong, and where it stands. The path is empty where the whole document
 /// is wrong.

@@ -27,7 +27,8 @@ use Rattle.dma_map.specs.declared.room.LoadRoom.{LoadRoom}
 use Rattle.dma_map.specs.MapView as held
 use Rattle.loan_table.specs.Loans.{Loan, Loans, new_loan}
 use Rattle.phys_memory.specs.Translation.{unreached}
-use Rattle.phys_memory.specs.Vector.{entries_of, one_span}
+use Rattle.busdma_base.specs.Machine.Spans.{one_span}
+use Rattle.phys_memory.specs.Vector.{entries_of}
 use Rattle.segment_build.specs.Building.{placed_pieces, tag_placed}
 use Rattle.segment_build.specs.Chunks.{bounced_of, chunks_of}
 use Rattle.segment_build.specs.Segmentation.{segmentation}

@@ -15,7 +15,8 @@ use Rattle.dma_map.specs.declared.room.LoadRoom.{LoadRoom}
 use Rattle.dma_map.specs.MapView as held
 use Rattle.loan_table.specs.Loans.{new_loan}
 use Rattle.phys_memory.specs.Translation.{Translation, unreached}
-use Rattle.phys_memory.specs.Vector.{entries_of, one_span}
+use Rattle.busdma_base.specs.Machine.Spans.{one_span}
+use Rattle.phys_memory.specs.Vector.{entries_of}
 use Rattle.segment_build.specs.Chunks.{chunks_of}
 use Rattle.ideal_lane.specs.Loads.{is_coherent, limits_of, no_limits}
 use Rattle.ideal_lane.specs.Places.{is_in_memory, or_in_memory, physical, physical_of}

@@ -12,7 +12,8 @@ use Rattle.phys_memory.specs.declared.walk.Walked.TheVariants.{Parts, Unmapped}
 use Rattle.phys_memory.specs.Extents.{extents_of, reached as reached_bytes}
 use Rattle.phys_memory.specs.Memory as memory
 use Rattle.phys_memory.specs.Translation.{Translation, unreached}
-use Rattle.phys_memory.specs.Vector.{entries_of, one_span, with_entry}
+use Rattle.busdma_base.specs.Machine.Spans.{one_span}
+use Rattle.phys_memory.specs.Vector.{entries_of, with_entry}
 use Rattle.phys_memory.specs.Walk.{flat, verdict, walk_of}
 use Rattle.ideal_lane.specs.Places.{reached}
 use Rattle.lane_core.specs.declared.holdings.Holdings.{Holdings}

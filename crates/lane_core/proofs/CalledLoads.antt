@@ -15,7 +15,7 @@ use Rattle.busdma_base.specs.declared.scenarios.script.Place.TheVariants.{At}
 use Rattle.busdma_base.specs.declared.tags.tag.TagLimits.{TagLimits}
 use Rattle.busdma_base.specs.Bounce.AccountStep.{as_pages}
 use Rattle.dma_tag.specs.LoadFlags.{nowait}
-use Rattle.phys_memory.specs.Vector.{one_span}
+use Rattle.busdma_base.specs.Machine.Spans.{one_span}
 use Rattle.segment_build.specs.Building.{placed_pieces, tag_placed}
 use Rattle.segment_build.specs.Chunks.{bounced_of}
 use Rattle.segment_build.specs.Segmentation.{segmentation}

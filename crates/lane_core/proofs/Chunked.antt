@@ -16,7 +16,8 @@ use Rattle.busdma_base.specs.Runs.{run_of}
 use Rattle.dma_map.specs.declared.room.LoadRoom.{LoadRoom}
 use Rattle.phys_memory.specs.Memory as memory
 use Rattle.phys_memory.specs.Translation.{Translation, unreached}
-use Rattle.phys_memory.specs.Vector.{IfAll, entries_of, one_span, walk_unless}
+use Rattle.busdma_base.specs.Machine.Spans.{one_span}
+use Rattle.phys_memory.specs.Vector.{IfAll, entries_of, walk_unless}
 use Rattle.phys_memory.specs.Walk.{flat}
 use Rattle.phys_memory.proofs.Vectors.{spans_one, walk_stream}
 use Rattle.segment_build.specs.Building.{placed_pieces}

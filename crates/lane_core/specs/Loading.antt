@@ -12,7 +12,8 @@ use Rattle.dma_map.specs.declared.room.LoadRoom.{LoadRoom}
 use Rattle.busdma_base.specs.Machine.Entry.{entries_addresses}
 use Rattle.loan_table.specs.Loans.{Loan, new_loan}
 use Rattle.loan_table.specs.Table.{Table}
-use Rattle.phys_memory.specs.Vector.{entries_of, one_span}
+use Rattle.busdma_base.specs.Machine.Spans.{one_span}
+use Rattle.phys_memory.specs.Vector.{entries_of}
 use Rattle.segment_build.specs.Building.{placed_pieces, tag_placed}
 use Rattle.segment_build.specs.Chunks.{bounced_of, need_of}
 use Rattle.segment_build.specs.Segmentation.{segmentation}

@@ -5,14 +5,14 @@ use Rattle.busdma_base.specs.declared.machine.address.Extent.{Extent}
 use Rattle.busdma_base.specs.declared.machine.address.Span.{Span}
 use Rattle.busdma_base.specs.declared.machine.chunk.Entry.{Entry}
 use Rattle.busdma_base.specs.Machine.Entry.{HasPart, IsEntry, IsStream, entries_addresses}
-use Rattle.busdma_base.specs.Machine.Spans.{span_addresses}
+use Rattle.busdma_base.specs.Machine.Spans.{one_span, span_addresses}
 use Rattle.phys_memory.specs.declared.entries.Entries.{Entries}
 use Rattle.phys_memory.specs.declared.entries.Entries.TheVariants as walk
 use Rattle.phys_memory.specs.declared.walk.Walked.{Walked}
 use Rattle.phys_memory.specs.declared.walk.Walked.TheVariants.{Parts, Unmapped}
 use Rattle.phys_memory.specs.Extents.{reached}
 use Rattle.phys_memory.specs.Translation.{physical_or_0}
-use Rattle.phys_memory.specs.Vector.{IfAll, one_span, spans_stream, spans_walk}
+use Rattle.phys_memory.specs.Vector.{IfAll, spans_stream, spans_walk}
 use Rattle.phys_memory.specs.Walk.{walk_of, walked}
 use Rattle.phys_memory.proofs.Loads.{one_bytes, spans_load}
 use Rattle.phys_memory.proofs.Vectors.{past_entry, past_none, spans_one, stopped, walk_bytes, walk_entries, walk_have}

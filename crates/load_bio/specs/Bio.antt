@@ -1,7 +1,6 @@
 -- The bytes of bios, and the walks over them.
 use Rattle.std.specs.Prelude.{◌<◌, Bool, true, false, List, [], ◌∷◌}
 use Rattle.busdma_base.specs.declared.machine.address.Extent.{Extent}
-use Rattle.busdma_base.specs.declared.machine.address.Span.{Span}
 use Rattle.busdma_base.specs.declared.machine.bio.Bio.{Bio}
 use Rattle.busdma_base.specs.declared.machine.bio.Bio.TheVariants.{Mapped, Vector, Unmapped}
 use Rattle.busdma_base.specs.declared.machine.chunk.Part.{Part}
@@ -9,7 +8,8 @@ use Rattle.phys_memory.specs.declared.entries.Entries.{Entries}
 use Rattle.phys_memory.specs.Extents.{LiesIn}
 use Rattle.phys_memory.specs.Memory.{Memory}
 use Rattle.phys_memory.specs.Translation.{Translation}
-use Rattle.phys_memory.specs.Vector.{one_span, spans_stream, spans_walk}
+use Rattle.busdma_base.specs.Machine.Spans.{bio_spans}
+use Rattle.phys_memory.specs.Vector.{spans_stream, spans_walk}
 use Rattle.load_bio.specs.Frames.{AreFrames, LiesInOneOf, in_frames}
 
 -- an unmapped bio begins in its first frame, and its frames have numbers below 2^30
@@ -18,13 +18,7 @@ IsBio (Mapped span) = Unit {0}
 IsBio (Vector spans) = Unit {0}
 IsBio (Unmapped frames off len) = (off < 4096) × AreFrames frames
 
--- the spans of a bio, in order; that of an unmapped one is of the bytes of its frames
-abbrev pub bio_spans : Bio → List Span
-bio_spans (Mapped span) = span ∷ []
-bio_spans (Vector spans) = spans
-bio_spans (Unmapped frames off len) = one_span off len
-
--- where the bytes of those spans lie, for a driver with this translation
+-- where the bytes of a bio's spans lie, for a driver with this translation
 abbrev pub bio_translation : Translation → Bio → Translation
 bio_translation t (Mapped span) = t
 bio_translation t (Vector spans) = t

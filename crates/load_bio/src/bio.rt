@@ -4,11 +4,11 @@ ghost use Rattle.std.specs.Prelude.{◌≡◌, ◌^◌, ◌<◌, ◌≤◌, IfOk
 ghost use Rattle.std.specs.Iterator.{HoldsAlong, YieldsFirst, item_count};
 ghost use Rattle.std.specs.List.{AllByRecursion};
 ghost use Rattle.busdma_base.specs.Machine.Entry.{HasPart, IsEntry, IsStream, entries_addresses, parts_of};
-ghost use Rattle.busdma_base.specs.Machine.Spans.{span_addresses, span_bytes};
+ghost use Rattle.busdma_base.specs.Machine.Spans.{bio_spans, span_addresses, span_bytes};
 ghost use Rattle.phys_memory.specs.Memory.{physical};
 ghost use Rattle.phys_memory.specs.Translation.{physical_or_0};
 ghost use Rattle.phys_memory.specs.Vector.{IfAll};
-ghost use Rattle.load_bio.specs.Bio.{IsBio, LiesInBio, bio_spans, bio_stream, bio_translation, bio_walk};
+ghost use Rattle.load_bio.specs.Bio.{IsBio, LiesInBio, bio_stream, bio_translation, bio_walk};
 
 use crate::frame_walk::walk_frames;
 use crate::frames::{FrameParts, frame_parts};

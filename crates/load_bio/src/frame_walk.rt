@@ -1,7 +1,8 @@
 //! The entry of bytes of frames that are not mapped.
 
 ghost use Rattle.std.specs.Prelude.{◌≡◌, ◌<◌, false, IfOk};
-ghost use Rattle.phys_memory.specs.Vector.{one_span, spans_walk};
+ghost use Rattle.busdma_base.specs.Machine.Spans.{one_span};
+ghost use Rattle.phys_memory.specs.Vector.{spans_walk};
 ghost use Rattle.load_bio.specs.Frames.{AreFrames, in_frames};
 
 use crate::frames::frame_parts;

@@ -3,7 +3,8 @@
 ghost use Rattle.std.specs.Prelude.{◌≡◌, ℕ, ◌^◌, ◌<◌, ◌≤◌, false};
 ghost use Rattle.std.specs.Iterator.{YieldsFirst, item_count};
 ghost use Rattle.busdma_base.specs.Machine.Entry.{IsStream};
-ghost use Rattle.phys_memory.specs.Vector.{one_span, spans_stream};
+ghost use Rattle.busdma_base.specs.Machine.Spans.{one_span};
+ghost use Rattle.phys_memory.specs.Vector.{spans_stream};
 ghost use Rattle.load_bio.specs.Frames.{AreFrames, in_frames};
 
 use busdma_base::{Extent, Pa, Part};

@@ -15,10 +15,10 @@ use Rattle.busdma_base.specs.declared.journals.report.Judged.TheVariants.{Fine, 
 use Rattle.busdma_base.specs.Machine.Entry.{AreJoined, HasPart, IsEntry, IsStream, entries_bytes, entries_of}
 use Rattle.busdma_base.specs.Machine.Entry.{entry_parts, extent_parts, others_of, parts_of}
 use Rattle.busdma_base.specs.Runs.{IsExtent, addresses, byte_count, run_of}
-use Rattle.busdma_base.specs.Machine.Spans.{span_bytes}
+use Rattle.busdma_base.specs.Machine.Spans.{one_span, span_bytes}
 use Rattle.phys_memory.specs.Translation.{Translation}
 use Rattle.phys_memory.specs.Extents.{extents_of, reached}
-use Rattle.phys_memory.specs.Vector.{ending, judged_spans, one_span, spans_stream, with_entry}
+use Rattle.phys_memory.specs.Vector.{ending, judged_spans, spans_stream, with_entry}
 use Rattle.phys_memory.specs.Vector.{entries_of as walk_entries}
 use Rattle.phys_memory.proofs.Extents.{length-run_of, reached_extents}
 use Rattle.phys_memory.proofs.Paged.{IsPaged}

@@ -16,13 +16,13 @@ use Rattle.busdma_base.specs.declared.journals.report.Judged.{Judged}
 use Rattle.busdma_base.specs.declared.journals.report.Judged.TheVariants.{Fine, Refused}
 use Rattle.busdma_base.specs.Machine.Entry.{HasPart, IsEntry, entries_addresses, extent_parts, parts_of}
 use Rattle.busdma_base.specs.Runs.{addresses, run_of}
-use Rattle.busdma_base.specs.Machine.Spans.{span_addresses, span_bytes}
+use Rattle.busdma_base.specs.Machine.Spans.{one_span, span_addresses, span_bytes}
 use Rattle.phys_memory.specs.declared.entries.Entries.{Entries}
 use Rattle.phys_memory.specs.declared.entries.Entries.TheVariants as walk
 use Rattle.phys_memory.specs.declared.walk.Walked.TheVariants.{Parts, Unmapped}
 use Rattle.phys_memory.specs.Translation.{Translation, physical_or_0}
 use Rattle.phys_memory.specs.Extents.{extents_of, reached, then_reached}
-use Rattle.phys_memory.specs.Vector.{IfAll, ending, entries_of, judged_spans, one_span, spans_at, spans_stream}
+use Rattle.phys_memory.specs.Vector.{IfAll, ending, entries_of, judged_spans, spans_at, spans_stream}
 use Rattle.phys_memory.specs.Vector.{spans_walk, then_parts, walk_unless, with_entry}
 use Rattle.phys_memory.specs.Walk.{flat_at, walk_of}
 use Rattle.phys_memory.proofs.Extents.{AreExtents, begins, reached_extents}

@@ -60,10 +60,6 @@ spans_stream rounded t spans = spans_at rounded t 0 spans
 abbrev pub vector : Translation → List Span → List Part
 vector t spans = spans_stream true t spans
 
--- the vector of one span
-abbrev pub one_span : ℕ → ℕ → List Span
-one_span va n = record { va = record { 0 = va }; len = n } ∷ []
-
 -- P holds of the entries, where the walk has them
 abbrev pub IfAll : Entries → (List Entry → Type 0) → Type 0
 IfAll (All es) P = P es

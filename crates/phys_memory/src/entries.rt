@@ -4,11 +4,11 @@ ghost use Rattle.std.specs.Prelude.{◌≡◌, ◌+◌, ◌^◌, ◌<◌, IfOk, 
 ghost use Rattle.std.specs.List.{AllByRecursion};
 ghost use Rattle.busdma_base.specs.Machine.Entry.{HasPart, IsEntry, entries_addresses};
 ghost use Rattle.busdma_base.specs.Runs.{run_of};
-ghost use Rattle.busdma_base.specs.Machine.Spans.{span_addresses, span_bytes};
+ghost use Rattle.busdma_base.specs.Machine.Spans.{one_span, span_addresses, span_bytes};
 ghost use Rattle.phys_memory.specs.Extents.{LiesIn};
 ghost use Rattle.phys_memory.specs.Memory.{physical};
 ghost use Rattle.phys_memory.specs.Translation.{physical_or_0};
-ghost use Rattle.phys_memory.specs.Vector.{IfAll, one_span, vector_walk};
+ghost use Rattle.phys_memory.specs.Vector.{IfAll, vector_walk};
 
 use crate::pages::LanePages;
 use crate::walk::Walked;

@@ -7,7 +7,8 @@ ghost use Rattle.busdma_base.specs.Machine.Entry.{IsStream, parts_of};
 ghost use Rattle.phys_memory.specs.Memory.{IsMemory, IsReachOf, physical, row_at};
 ghost use Rattle.phys_memory.specs.Extents.{IsNext, reached};
 ghost use Rattle.phys_memory.specs.Walk.{flat, flat_at, run_stream};
-ghost use Rattle.phys_memory.specs.Vector.{IfAll, one_span, vector, vector_walk};
+ghost use Rattle.busdma_base.specs.Machine.Spans.{one_span};
+ghost use Rattle.phys_memory.specs.Vector.{IfAll, vector, vector_walk};
 
 use crate::pages::LanePages;
 use crate::reach::Reach;

@@ -26,11 +26,11 @@ fn numbers_of_seed_1()
 {}
 
 const OPENING: &str = "\
-Tag { name: Name { text: \"t\" }, parent: None, limits: TagLimits { \
+Tag { name: Text { text: \"t\" }, parent: None, limits: TagLimits { \
 alignment: 1, boundary: 0, lowaddr: Pa(16777215), highaddr: Pa(18446744073709551615), \
 maxsize: 8192, nsegments: 4, maxsegsz: 4294967295, flags: 0 } }
-Map { name: Name { text: \"m0\" }, tag: 0 }
-Map { name: Name { text: \"m1\" }, tag: 0 }
+Map { name: Text { text: \"m0\" }, tag: 0 }
+Map { name: Text { text: \"m1\" }, tag: 0 }
 ";
 
 const SEED_1_ROUND_0: &str = "\

@@ -56,3 +56,7 @@ physical_in (run ∷ runs) va =
 abbrev pub is_own : List PageRun → ℕ → Bool
 is_own runs pa =
     list_any (λ run. nat_le (4096 * run.frame) pa && nat_lt pa (4096 * (run.frame + run.count))) runs
+
+-- the frame is one of the driver's pages
+abbrev pub has_frame : List PageRun → ℕ → Bool
+has_frame runs frame = list_any (λ run. nat_le run.frame frame && nat_lt frame (run.frame + run.count)) runs

@@ -25,6 +25,10 @@ order_limit = 65536
 abbrev pub steps_limit : ℕ
 steps_limit = 4096
 
+-- spans or frames of one load
+abbrev pub entries_limit : ℕ
+entries_limit = 4096
+
 -- bytes of one access
 abbrev pub access_limit : ℕ
 access_limit = 4096

@@ -1,6 +1,7 @@
 -- What an operation and an item are about, each told once.
 use Rattle.std.specs.Prelude.{ℕ, List, [], ◌∷◌, Option, Some, None, length, replicate, sum_by, ◌+◌, slice_get}
 use Rattle.std.specs.Option.{option_map, option_map_or}
+use Rattle.busdma_base.specs.declared.scenarios.buffer.Buffer.{Buffer}
 use Rattle.busdma_base.specs.declared.scenarios.script.Bytes.{Bytes}
 use Rattle.busdma_base.specs.declared.scenarios.script.Bytes.TheVariants as bytes
 use Rattle.busdma_base.specs.declared.scenarios.script.Item.{Item}
@@ -17,20 +18,21 @@ use Rattle.busdma_base.specs.declared.scenarios.words.OpWord.{OpWord}
 use Rattle.busdma_base.specs.declared.scenarios.words.OpWord.TheVariants as op_word
 use Rattle.busdma_base.specs.declared.scenarios.words.ItemWord.{ItemWord}
 use Rattle.busdma_base.specs.declared.scenarios.words.ItemWord.TheVariants as item_word
+use Rattle.busdma_base.specs.Scenarios.Buffers.{buffer_bytes, buffer_word}
 
 -- a name that an operation makes, and what it stands for
 pub record Made : Type 0 where
   pub kind : NameKind
   pub name : List ℕ
 
--- what an operation is about: its word, the name that it makes, the names that it uses, its items,
--- and how many bytes it loads, reads and writes
+-- what an operation is about: its word, the name that it makes, the names that it uses, its items, what it loads, and
+-- how many bytes it reads and writes
 pub record About : Type 0 where
   pub word : OpWord
   pub makes : Option Made
   pub uses : List UsedName
   pub items : List Item
-  pub loads : ℕ
+  pub loads : Option Buffer
   pub reads : ℕ
   pub writes : ℕ
 
@@ -68,7 +70,7 @@ parents (Some place) = tag_at place ∷ []
 -- an operation that makes and uses names and does nothing else
 abbrev pub with_names : OpWord → Option Made → List UsedName → About
 with_names word makes uses =
-    record { word = word; makes = makes; uses = uses; items = []; loads = 0; reads = 0; writes = 0 }
+    record { word = word; makes = makes; uses = uses; items = []; loads = None; reads = 0; writes = 0 }
 
 -- what each operation is about
 abbrev pub about : Op → About
@@ -76,8 +78,8 @@ about (op.Tag name parent limits) = with_names op_word.Tag (new_tag name) (paren
 about (op.TagDestroy tag) = with_names op_word.TagDestroy None (tag_at tag ∷ [])
 about (op.Map name tag) = with_names op_word.Map (new_map name) (tag_at tag ∷ [])
 about (op.MapDestroy map) = with_names op_word.MapDestroy None (map_at map ∷ [])
-about (op.Load map place len flags items) =
-    record (with_names op_word.Load None (map_at map ∷ [])) { items = items; loads = len }
+about (op.Load map buffer flags items) =
+    record (with_names (buffer_word buffer) None (map_at map ∷ [])) { items = items; loads = Some buffer }
 about (op.Unload map) = with_names op_word.Unload None (map_at map ∷ [])
 about (op.Sync map ops) = with_names op_word.Sync None (map_at map ∷ [])
 about (op.SyncRange map off len ops) = with_names op_word.SyncRange None (map_at map ∷ [])
@@ -100,7 +102,7 @@ items_of o = (about o).items
 
 -- how many bytes an operation counts for the limit on all loads
 abbrev pub loaded_by : Op → ℕ
-loaded_by o = (about o).loads
+loaded_by o = option_map_or buffer_bytes (about o).loads 0
 
 -- how many bytes an item reads
 abbrev pub read_by_item : Item → ℕ

@@ -1,12 +1,14 @@
 -- Which scripts are valid.
 use Rattle.std.specs.Prelude.{ℕ, ◌+◌, ◌≤◌, List, [], length, sum_by}
 use Rattle.std.specs.List.{AllByRecursion}
+use Rattle.std.specs.Option.{option_map_or}
 use Rattle.busdma_base.specs.declared.scenarios.script.Op.{Op}
 use Rattle.busdma_base.specs.declared.scenarios.script.Item.{Item}
 use Rattle.busdma_base.specs.Each.{EachAfter}
-use Rattle.busdma_base.specs.Scenarios.Limits.{access_limit, buffer_limit, steps_limit}
+use Rattle.busdma_base.specs.Scenarios.Buffers.{buffer_entries}
+use Rattle.busdma_base.specs.Scenarios.Limits.{access_limit, buffer_limit, entries_limit, steps_limit}
 use Rattle.busdma_base.specs.Scenarios.Names.{IsMade, MakesNewName}
-use Rattle.busdma_base.specs.Scenarios.Operations.{about, about_item, items_of}
+use Rattle.busdma_base.specs.Scenarios.Operations.{about, about_item, items_of, loaded_by}
 
 -- how many operations and items a script has
 abbrev pub steps_of : List Op → ℕ
@@ -19,14 +21,15 @@ pub record IsItem (before : List Op) (i : Item) : Type 0 where
   pub written : (about_item i).writes ≤ access_limit
 
 -- an operation makes a new name, uses those that operations before it make, and keeps the limits on
--- an access and on a load, and so do its items
+-- an access and on what it loads, and so do its items
 pub record IsOp (before : List Op) (o : Op) : Type 0 where
   pub new : MakesNewName before (about o).makes
   pub made : AllByRecursion (IsMade before) (about o).uses
   pub read : (about o).reads ≤ access_limit
   pub written : (about o).writes ≤ access_limit
   pub items : AllByRecursion (IsItem before) (about o).items
-  pub loaded : (about o).loads ≤ buffer_limit
+  pub listed : option_map_or buffer_entries (about o).loads 0 ≤ entries_limit
+  pub loaded : loaded_by o ≤ buffer_limit
 
 -- each operation is one that may stand behind those before it, and there are at most 4096 steps
 pub record IsScript (script : List Op) : Type 0 where

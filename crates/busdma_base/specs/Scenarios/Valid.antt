@@ -1,21 +1,29 @@
 -- Which scenarios are valid: they keep every limit, and every rule on names, frames, pages and places.
-use Rattle.std.specs.Prelude.{ℕ, ◌≤◌, ◌<◌, List, [], length, sum_by}
+use Rattle.std.specs.Prelude.{ℕ, ◌≤◌, ◌<◌, List, [], length, sum_by, IfSome}
 use Rattle.std.specs.List.{AllByRecursion}
 use Rattle.busdma_base.specs.declared.scenarios.scenario.FrameRun.{FrameRun}
 use Rattle.busdma_base.specs.declared.scenarios.scenario.Driver.{Driver}
+use Rattle.busdma_base.specs.declared.scenarios.scenario.PageRun.{PageRun}
 use Rattle.busdma_base.specs.declared.scenarios.scenario.Scenario.{Scenario}
+use Rattle.busdma_base.specs.declared.scenarios.script.Op.{Op}
 use Rattle.busdma_base.specs.declared.journals.journal.Actor.{Actor}
 use Rattle.busdma_base.specs.Each.{EachAfter}
 use Rattle.busdma_base.specs.Machine.FrameRuns.{IsFrameRun}
 use Rattle.busdma_base.specs.Machine.PageRuns.{IsPageRun}
+use Rattle.busdma_base.specs.Scenarios.Buffers.{IsBufferOf}
 use Rattle.busdma_base.specs.Scenarios.Limits.{bpages_limit, drivers_limit, loaded_limit, reads_limit, order_limit}
-use Rattle.busdma_base.specs.Scenarios.Operations.{loaded_by, read_by}
+use Rattle.busdma_base.specs.Scenarios.Operations.{about, loaded_by, read_by}
 use Rattle.busdma_base.specs.Scenarios.Script.{IsScript}
 
--- a driver's pages are its own, and its script is valid
+-- what an operation loads has frames of these pages alone
+abbrev pub LoadsFrom : List PageRun → Op → Type 0
+LoadsFrom pages o = IfSome (about o).loads (IsBufferOf pages)
+
+-- a driver's pages are its own, its script is valid, and the frames that its bios name are of its pages
 pub record IsDriver (frames : List FrameRun) (earlier : List Driver) (driver : Driver) : Type 0 where
   pub pages : EachAfter (IsPageRun frames earlier) [] driver.pages
   pub script : IsScript driver.script
+  pub bios : AllByRecursion (LoadsFrom driver.pages) driver.script
 
 -- how many bytes the loads of drivers have, all together
 abbrev pub loaded_of : List Driver → ℕ

@@ -14,6 +14,9 @@ op_text op.TagDestroy = codes "tag_destroy"
 op_text op.Map = codes "map"
 op_text op.MapDestroy = codes "map_destroy"
 op_text op.Load = codes "load"
+op_text op.LoadVector = codes "load_vector"
+op_text op.LoadMbuf = codes "load_mbuf"
+op_text op.LoadBio = codes "load_bio"
 op_text op.Unload = codes "unload"
 op_text op.Sync = codes "sync"
 op_text op.SyncRange = codes "sync_range"
@@ -24,8 +27,8 @@ op_text op.Await = codes "await"
 -- the words of a script
 abbrev pub op_words : List OpWord
 op_words =
-    op.Tag ∷ op.TagDestroy ∷ op.Map ∷ op.MapDestroy ∷ op.Load ∷ op.Unload ∷ op.Sync ∷ op.SyncRange ∷ op.CpuRead
-    ∷ op.CpuWrite ∷ op.Await ∷ []
+    op.Tag ∷ op.TagDestroy ∷ op.Map ∷ op.MapDestroy ∷ op.Load ∷ op.LoadVector ∷ op.LoadMbuf ∷ op.LoadBio ∷ op.Unload
+    ∷ op.Sync ∷ op.SyncRange ∷ op.CpuRead ∷ op.CpuWrite ∷ op.Await ∷ []
 
 -- the word of a script that has this text
 abbrev pub op_word_of : List ℕ → Option OpWord

@@ -1,10 +1,12 @@
 //! Scenarios: frames, drivers with their pages and scripts, and an order of steps.
 
+mod buffer;
 mod operations;
 mod scenario;
 mod script;
 mod words;
 
+pub use buffer::Buffer;
 pub use operations::{ItemAbout, MadeName, NameKind, Object, OpAbout, UsedName};
 pub use scenario::{Driver, FrameRun, PageRun, Scenario};
 pub use script::{Bytes, Item, Op, Place};

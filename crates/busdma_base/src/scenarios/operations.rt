@@ -1,11 +1,11 @@
 //! What an operation and an item are about, each told once.
 
-ghost use Rattle.std.specs.Prelude.{◌≡◌, [], Some, option_map, slice_get};
+ghost use Rattle.std.specs.Prelude.{◌≡◌, [], None, Some, option_map, slice_get};
 ghost use Rattle.busdma_base.specs.Scenarios.Names as names;
 ghost use Rattle.busdma_base.specs.Scenarios.Operations as operations;
 
-use crate::name::Name;
-use crate::scenarios::{Item, ItemWord, Op, OpWord};
+use crate::Name;
+use crate::scenarios::{Buffer, Item, ItemWord, Op, OpWord};
 
 /// What a name of a script stands for.
 #[derive(Clone, Copy, Debug, PartialEq, Eq)]
@@ -29,14 +29,15 @@ pub struct UsedName {
     pub made_at: u32,
 }
 
-/// What an operation is about: its word, the name that it makes, the first name that it uses, and
-/// its items.
+/// What an operation is about: its word, the name that it makes, the first name that it uses, its
+/// items, and what it loads.
 #[derive(Clone, Copy, Debug)]
 pub struct OpAbout<'s> {
     pub word: OpWord,
     pub makes: Option<MadeName<'s>>,
     pub uses: Option<UsedName>,
     pub items: &'s [Item],
+    pub loads: Option<&'s Buffer>,
 }
 
 /// What an item is about: its word, and the name that it uses.
@@ -98,12 +99,14 @@ impl<'s> OpAbout<'s> {
         ensures makes { option_map operations.made result.makes ≡ option_map operations.made makes.entry }
         ensures uses { result.uses ≡ uses }
         ensures items { result.items.now ≡ [] }
+        ensures loads { result.loads ≡ None }
     {
         OpAbout {
             word,
             makes,
             uses,
             items: &[],
+            loads: None,
         }
     }
 }
@@ -131,6 +134,7 @@ impl Op {
         ensures makes { option_map operations.made result.makes ≡ (operations.about self.now).makes }
         ensures uses { result.uses ≡ slice_get (operations.about self.now).uses 0 }
         ensures items { result.items.now ≡ operations.items_of self.now }
+        ensures loads { option_map (λ buffer. buffer.now) result.loads ≡ (operations.about self.now).loads }
     {
         match self {
             Op::Tag { name, parent, .. } => {
@@ -141,9 +145,12 @@ impl Op {
                 OpAbout::with_names(OpWord::Map, made(NameKind::Map, name), tag_at(*tag))
             }
             Op::MapDestroy { map } => OpAbout::with_names(OpWord::MapDestroy, None, map_at(*map)),
-            Op::Load { map, then, .. } => OpAbout {
+            Op::Load {
+                map, buffer, then, ..
+            } => OpAbout {
                 items: then.as_slice(),
-                ..OpAbout::with_names(OpWord::Load, None, map_at(*map))
+                loads: Some(buffer),
+                ..OpAbout::with_names(buffer.word(), None, map_at(*map))
             },
             Op::Unload { map } => OpAbout::with_names(OpWord::Unload, None, map_at(*map)),
             Op::Sync { map, .. } => OpAbout::with_names(OpWord::Sync, None, map_at(*map)),
@@ -166,6 +173,13 @@ impl Op {
         ensures { result.now ≡ operations.items_of self.now }
     {
         self.about().items
+    }
+
+    /// What the operation loads, or None where it does not load.
+    pub fn loads(&self) -> Option<&Buffer>
+        ensures { option_map (λ buffer. buffer.now) result ≡ (operations.about self.now).loads }
+    {
+        self.about().loads
     }
 
     /// The name that a line of a journal shows for the operation, or None for an access of the

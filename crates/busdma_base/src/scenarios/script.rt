@@ -5,7 +5,8 @@
 
 use crate::list::ListOf;
 use crate::machine::Va;
-use crate::name::Name;
+use crate::Name;
+use crate::scenarios::Buffer;
 use crate::tags::TagLimits;
 use std::alloc::{AllocError, Global};
 
@@ -47,11 +48,10 @@ pub enum Op {
     MapDestroy {
         map: u32,
     },
-    /// Loads a map with the `len` bytes at a place; its callback appends the items of `then`.
+    /// Loads a map with a buffer; its callback appends the items of `then`.
     Load {
         map: u32,
-        place: Place,
-        len: u64,
+        buffer: Buffer,
         flags: u32,
         then: ListOf<Item>,
     },

@@ -11,6 +11,9 @@ pub enum OpWord {
     Map,
     MapDestroy,
     Load,
+    LoadVector,
+    LoadMbuf,
+    LoadBio,
     Unload,
     Sync,
     SyncRange,
@@ -28,12 +31,15 @@ pub enum ItemWord {
     DevWrite,
 }
 
-const OP_WORDS: [OpWord; 11] = [
+const OP_WORDS: [OpWord; 14] = [
     OpWord::Tag,
     OpWord::TagDestroy,
     OpWord::Map,
     OpWord::MapDestroy,
     OpWord::Load,
+    OpWord::LoadVector,
+    OpWord::LoadMbuf,
+    OpWord::LoadBio,
     OpWord::Unload,
     OpWord::Sync,
     OpWord::SyncRange,
@@ -61,6 +67,9 @@ impl OpWord {
             OpWord::Map => "map",
             OpWord::MapDestroy => "map_destroy",
             OpWord::Load => "load",
+            OpWord::LoadVector => "load_vector",
+            OpWord::LoadMbuf => "load_mbuf",
+            OpWord::LoadBio => "load_bio",
             OpWord::Unload => "unload",
             OpWord::Sync => "sync",
             OpWord::SyncRange => "sync_range",

@@ -2,13 +2,13 @@ use Rattle.std.proofs.Common.{◌≡◌, List, ap, sym, ◌∙◌, subst, arith}
 use Rattle.busdma_base.specs.declared.machine.chunk.Part.{Part}
 use Rattle.busdma_base.specs.declared.machine.bio.Bio.{Bio}
 use Rattle.busdma_base.specs.Machine.Entry.{IsStream, parts_of}
-use Rattle.busdma_base.specs.Machine.Spans.{span_bytes}
+use Rattle.busdma_base.specs.Machine.Spans.{bio_spans, span_bytes}
 use Rattle.phys_memory.specs.Memory.{physical}
 use Rattle.phys_memory.specs.Vector.{IfAll}
 use Rattle.phys_memory.proofs.Loads.{along_loads, one_bytes}
 use Rattle.phys_memory.proofs.Vectors.{walk_stream}
 use Rattle.load_bio.specs.declared.bio.Kind.{Kind}
-use Rattle.load_bio.specs.Bio.{bio_spans, bio_stream, bio_translation, bio_walk, is_rounded}
+use Rattle.load_bio.specs.Bio.{bio_stream, bio_translation, bio_walk, is_rounded}
 use Rattle.load_bio.specs.Kinds.{kind_parts}
 use Rattle.load_bio.proofs.bio.parts.Goals.{in-Mapped, in-Vector, in-Unmapped}
 use Rattle.load_bio.proofs.bio.parts.Goals as goal

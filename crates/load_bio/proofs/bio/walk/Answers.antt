@@ -4,13 +4,13 @@ use Rattle.std.specs.List.{AllByRecursion}
 use Rattle.std.proofs.lemmas.Result.{IfOk-weaker}
 use Rattle.busdma_base.specs.declared.machine.bio.Bio.{Bio}
 use Rattle.busdma_base.specs.Machine.Entry.{IsEntry, entries_addresses}
-use Rattle.busdma_base.specs.Machine.Spans.{span_addresses}
+use Rattle.busdma_base.specs.Machine.Spans.{bio_spans, one_span, span_addresses}
 use Rattle.busdma_base.specs.Runs.{run_of}
 use Rattle.phys_memory.specs.declared.entries.Entries.{Entries}
 use Rattle.phys_memory.specs.Memory.{physical}
 use Rattle.phys_memory.specs.Translation.{physical_or_0}
-use Rattle.phys_memory.specs.Vector.{IfAll, one_span, spans_walk}
-use Rattle.load_bio.specs.Bio.{IsBio, LiesInBio, bio_spans, bio_translation, bio_walk}
+use Rattle.phys_memory.specs.Vector.{IfAll, spans_walk}
+use Rattle.load_bio.specs.Bio.{IsBio, LiesInBio, bio_translation, bio_walk}
 use Rattle.load_bio.specs.Frames.{LiesInOneOf, in_frames}
 use Rattle.load_bio.proofs.FrameWalks.{frame_bytes, frame_entries, frame_lie}
 use Rattle.load_bio.proofs.bio.walk.Goals as goal

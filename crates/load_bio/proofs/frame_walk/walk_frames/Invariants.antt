@@ -1,5 +1,6 @@
 use Rattle.std.proofs.Common.{◌≡◌, false, []}
-use Rattle.phys_memory.specs.Vector.{one_span, spans_stream}
+use Rattle.busdma_base.specs.Machine.Spans.{one_span}
+use Rattle.phys_memory.specs.Vector.{spans_stream}
 use Rattle.phys_memory.specs.Walk.{walked}
 use Rattle.load_bio.specs.Frames.{in_frames}
 use Rattle.load_bio.proofs.frame_walk.walk_frames.Given as goal

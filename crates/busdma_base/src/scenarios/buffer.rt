@@ -1,0 +1,36 @@
+//! What a load loads.
+
+ghost use Rattle.std.specs.Prelude.{◌≡◌};
+ghost use Rattle.busdma_base.specs.Scenarios.Buffers.{buffer_word};
+
+use crate::list::ListOf;
+use crate::machine::{Bio, Mbuf, Span};
+use crate::scenarios::{OpWord, Place};
+
+/// What a load loads, and so which of bus_dma(9)'s loads it is: `bus_dmamap_load`, a vector,
+/// `bus_dmamap_load_mbuf` or `bus_dmamap_load_bio`. Lengths are in bytes.
+#[derive(Debug, Drop)]
+pub enum Buffer {
+    /// `len` bytes from a place on.
+    Flat { place: Place, len: u64 },
+    /// The bytes of spans of virtual addresses, in order.
+    Vector(ListOf<Span>),
+    /// The bytes of an mbuf chain, in order. Its load never waits for pages.
+    Mbuf(ListOf<Mbuf>),
+    /// The bytes of a bio.
+    Bio(Bio),
+}
+
+impl Buffer {
+    /// The word of the operation that loads it.
+    pub fn word(&self) -> OpWord
+        ensures { result ≡ buffer_word self.now }
+    {
+        match self {
+            Buffer::Flat { .. } => OpWord::Load,
+            Buffer::Vector(_) => OpWord::LoadVector,
+            Buffer::Mbuf(_) => OpWord::LoadMbuf,
+            Buffer::Bio(_) => OpWord::LoadBio,
+        }
+    }
+}
