@@ -2,7 +2,9 @@ ghost use Rattle.std.specs.Prelude.{◌≡◌, ◌^◌, ◌<◌, length, IfOk};
 ghost use Rattle.busdma_base.specs.Scenarios.Operations.{items_of};
 
 use crate::{Agenda, PlaceTable};
-use busdma_base::{Driver, Item, LaneId, ListOf, MapId, Op, Page, PageList, Place, Va, ZoneId};
+use busdma_base::{
+    Buffer, Driver, Item, LaneId, ListOf, MapId, Op, Page, PageList, Place, Va, ZoneId,
+};
 use std::alloc::{AllocError, Global};
 use std::test::Fail;
 
@@ -44,8 +46,10 @@ fn load(map: u32, then: ListOf<Item>) -> Op
 {
     Op::Load {
         map,
-        place: Place::At(Va(0)),
-        len: 4,
+        buffer: Buffer::Flat {
+            place: Place::At(Va(0)),
+            len: 4,
+        },
         flags: 0,
         then,
     }

@@ -5,9 +5,9 @@ ghost use Rattle.std.specs.Prelude.{◌≡◌, IfOk, codes, string_bytes};
 use crate::answer::push_answer;
 use crate::{end_line, entry_line, report, zone_lines};
 use busdma_base::{
-    Actor, Answer, ByteList, Bytes, Did, Driver, End, Errno, Grown, Item, Journal, JournalEntry,
-    LaneId, ListOf, MapId, Name, Op, Pa, Place, Report, ReportName, Scenario, Segment, Side,
-    TagLimits, Va, ZoneCounts, ZoneId,
+    Actor, Answer, Buffer, ByteList, Bytes, Did, Driver, End, Errno, Grown, Item, Journal,
+    JournalEntry, LaneId, ListOf, MapId, Name, Op, Pa, Place, Report, ReportName, Scenario,
+    Segment, Side, TagLimits, Va, ZoneCounts, ZoneId,
 };
 use std::alloc::{AllocError, Global};
 use std::test::Fail;
@@ -59,8 +59,7 @@ fn first_script(alloc: Global) -> Result<Vec<Op>, AllocError> {
     let then = ListOf::new(vec![in alloc; before, read, after]?);
     let load = Op::Load {
         map: 1,
-        place,
-        len: 5,
+        buffer: Buffer::Flat { place, len: 5 },
         flags: 0,
         then,
     };
@@ -99,8 +98,7 @@ fn second_script(alloc: Global) -> Result<Vec<Op>, AllocError> {
     };
     let load = Op::Load {
         map: 1,
-        place,
-        len: 5,
+        buffer: Buffer::Flat { place, len: 5 },
         flags: 0,
         then: ListOf::new(vec![in alloc; before, write]?),
     };

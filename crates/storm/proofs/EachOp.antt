@@ -3,6 +3,7 @@ use Rattle.std.proofs.Common.{◌≡◌, ℕ, ◌≤◌, List}
 use Rattle.std.proofs.Common.{[], ◌∷◌, ◌++◌, ◌⊎◌, inl, inr, refl, arith}
 use Rattle.std.proofs.lemmas.List.{length-replicate}
 use Rattle.std.specs.List.{flat_map, AllByRecursion}
+use Rattle.busdma_base.specs.declared.scenarios.scenario.PageRun.{PageRun}
 use Rattle.busdma_base.specs.declared.scenarios.script.Item.{Item}
 use Rattle.busdma_base.specs.declared.scenarios.script.Op.{Op}
 use Rattle.busdma_base.specs.declared.scenarios.script.Op.TheVariants as op
@@ -11,6 +12,7 @@ use Rattle.busdma_base.specs.Runs.{run_of}
 use Rattle.busdma_base.specs.Scenarios.Names.{IsMade}
 use Rattle.busdma_base.specs.Scenarios.Operations.{about_item, map_at}
 use Rattle.busdma_base.specs.Scenarios.Script.{IsItem, IsOp}
+use Rattle.busdma_base.specs.Scenarios.Valid.{LoadsFrom}
 use Rattle.storm.specs.declared.transfer.Transfer.{Transfer}
 use Rattle.storm.specs.Scenario.{round_at, rounds, opening}
 use Rattle.storm.specs.Transfer.{to_device, from_device}
@@ -44,11 +46,27 @@ OfMap make = (m : ℕ) → (m ≡ 1) ⊎ (m ≡ 2) → IsValidBehind (make m)
 
 await_valid : OfMap op.Await
 await_valid m is rest =
-    record { new = tt; made = (map_made m rest is, tt); read = omega arith; written = omega arith; items = tt; loaded = omega arith }
+    record {
+      new = tt;
+      made = (map_made m rest is, tt);
+      read = omega arith;
+      written = omega arith;
+      items = tt;
+      listed = omega arith;
+      loaded = omega arith;
+    }
 
 unload_valid : OfMap op.Unload
 unload_valid m is rest =
-    record { new = tt; made = (map_made m rest is, tt); read = omega arith; written = omega arith; items = tt; loaded = omega arith }
+    record {
+      new = tt;
+      made = (map_made m rest is, tt);
+      read = omega arith;
+      written = omega arith;
+      items = tt;
+      listed = omega arith;
+      loaded = omega arith;
+    }
 
 item_valid : (i : Item) (m : ℕ) (rest : List Op) → (m ≡ 1) ⊎ (m ≡ 2) → (about_item i).uses ≡ map_at m →
     (about_item i).reads ≤ 4096 → (about_item i).writes ≤ 4096 → IsItem (opening ++ rest) i
@@ -63,6 +81,7 @@ to_device_valid t small = (
     read = omega arith;
     written = rw (length-replicate t.touched t.byte) (omega arith);
     items = tt;
+    listed = omega arith;
     loaded = omega arith;
   },
   (
@@ -78,6 +97,7 @@ to_device_valid t small = (
           (item_valid _ t.map rest small.map refl (omega arith) (omega arith), tt),
         ),
       );
+      listed = omega arith;
       loaded = omega (arith, small.short);
     },
     (
@@ -102,12 +122,21 @@ from_device_valid t small = (
         (item_valid _ t.map rest small.map refl (omega arith) (omega arith), tt),
       ),
     );
+    listed = omega arith;
     loaded = omega (arith, small.short);
   },
   (
     await_valid t.map small.map,
     (
-      λ rest. record { new = tt; made = tt; read = omega arith; written = omega arith; items = tt; loaded = omega arith },
+      λ rest. record {
+        new = tt;
+        made = tt;
+        read = omega arith;
+        written = omega arith;
+        items = tt;
+        listed = omega arith;
+        loaded = omega arith;
+      },
       (unload_valid t.map small.map, tt),
     ),
   ),
@@ -122,6 +151,7 @@ opening_valid ops behind = (
     read = omega arith;
     written = omega arith;
     items = tt;
+    listed = omega arith;
     loaded = omega arith;
   },
   (
@@ -131,6 +161,7 @@ opening_valid ops behind = (
       read = omega arith;
       written = omega arith;
       items = tt;
+      listed = omega arith;
       loaded = omega arith;
     },
     (
@@ -140,6 +171,7 @@ opening_valid ops behind = (
         read = omega arith;
         written = omega arith;
         items = tt;
+        listed = omega arith;
         loaded = omega arith;
       },
       behind,
@@ -153,3 +185,14 @@ each_valid n x =
     (each_behind (rounds n x) []
     (all_rounds IsValidBehind (round_at x)
     (λ r. round_cases (AllByRecursion IsValidBehind) to_device_valid from_device_valid _ _) (run_of 0 n)))
+
+-- no load of a storm is of a bio
+pub each_loads_from : (pages : List PageRun) (n x : ℕ) → AllByRecursion (LoadsFrom pages) (opening ++ rounds n x)
+each_loads_from pages n x =
+    let ops : List Op = rounds n x in
+    let each : AllByRecursion (LoadsFrom pages) ops =
+        all_rounds (LoadsFrom pages) (round_at x)
+        (λ r. round_cases (AllByRecursion (LoadsFrom pages)) (λ t small. (tt, (tt, (tt, (tt, tt)))))
+        (λ t small. (tt, (tt, (tt, (tt, tt))))) _ _)
+        (run_of 0 n) in
+    (tt, (tt, (tt, each)))

@@ -11,7 +11,7 @@ use Rattle.busdma_base.specs.Scenarios.Script.{IsScript, steps_of}
 use Rattle.busdma_base.specs.Scenarios.Valid.{IsDriver, IsValid, loaded_of, read_of}
 use Rattle.storm.specs.Generator.{drawn}
 use Rattle.storm.specs.Scenario.{rounds, opening, pages, frames, driver, driver_after, storm}
-use Rattle.storm.proofs.EachOp.{each_valid}
+use Rattle.storm.proofs.EachOp.{each_loads_from, each_valid}
 use Rattle.storm.proofs.Totals.{loaded_by_rounds, read_by_rounds, steps_of_rounds}
 
 script_valid : (n x : ℕ) → n ≤ 256 → IsScript (opening ++ rounds n x)
@@ -20,7 +20,8 @@ script_valid n x few = record { each = each_valid n x; short = omega (arith, ste
 -- a driver is valid behind others where its pages are its own
 driver_valid : (number n x : ℕ) → n ≤ 256 → (earlier : List Driver) →
     EachAfter (IsPageRun frames earlier) [] (pages number) → IsDriver frames earlier (driver_after number n x)
-driver_valid number n x few earlier own = record { pages = own; script = script_valid n x few }
+driver_valid number n x few earlier own =
+    record { pages = own; script = script_valid n x few; bios = each_loads_from (pages number) n x }
 
 -- the pages of a driver whose frames no earlier driver has
 own_pages : (earlier : List Driver) (number : ℕ) → 4096 + 16 * number + 16 ≤ 4160 →

@@ -1,5 +1,6 @@
 -- The operations of one round of a storm.
 use Rattle.std.specs.Prelude.{ℕ, ◌+◌, ◌*◌, ◌/◌, ◌%◌, ◌==◌, List, [], ◌∷◌, min, if◌then◌else◌}
+use Rattle.busdma_base.specs.declared.scenarios.buffer.Buffer.TheVariants.{Flat}
 use Rattle.busdma_base.specs.declared.scenarios.script.Bytes.TheVariants.{Filled}
 use Rattle.busdma_base.specs.declared.scenarios.script.Item.{Item}
 use Rattle.busdma_base.specs.declared.scenarios.script.Item.TheVariants as item
@@ -28,7 +29,7 @@ transfer p q = record {
 -- the load of a transfer, with the device's work on it between the sync before it and the one after it
 abbrev pub load_with : Transfer → ℕ → Item → ℕ → Op
 load_with t before work after =
-    op.Load t.map (At t.va) t.len 0 (item.Sync t.map before ∷ work ∷ item.Sync t.map after ∷ [])
+    op.Load t.map (Flat (At t.va) t.len) 0 (item.Sync t.map before ∷ work ∷ item.Sync t.map after ∷ [])
 
 -- a round to the device: the driver writes its bytes, and the device reads them
 abbrev pub to_device : Transfer → List Op

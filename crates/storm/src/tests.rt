@@ -34,7 +34,7 @@ Map { name: Text { text: \"m1\" }, tag: 0 }
 ";
 
 const SEED_1_ROUND_0: &str = "\
-Load { map: 2, place: At(Va(1093664)), len: 1042, flags: 0, then: ListOf { items: [\
+Load { map: 2, buffer: Flat { place: At(Va(1093664)), len: 1042 }, flags: 0, then: ListOf { items: [\
 Sync { map: 2, ops: 1 }, \
 DevWrite { map: 2, off: 0, bytes: Filled { byte: 32, len: 64 } }, \
 Sync { map: 2, ops: 2 }] } }
@@ -44,7 +44,7 @@ Unload { map: 2 }
 ";
 
 const SEED_1_ROUND_1: &str = "\
-Load { map: 2, place: At(Va(1073940)), len: 5170, flags: 0, then: ListOf { items: [\
+Load { map: 2, buffer: Flat { place: At(Va(1073940)), len: 5170 }, flags: 0, then: ListOf { items: [\
 Sync { map: 2, ops: 1 }, \
 DevWrite { map: 2, off: 0, bytes: Filled { byte: 18, len: 64 } }, \
 Sync { map: 2, ops: 2 }] } }
@@ -54,7 +54,7 @@ Unload { map: 2 }
 ";
 
 const SEED_1_ROUND_2: &str = "\
-Load { map: 2, place: At(Va(1059122)), len: 717, flags: 0, then: ListOf { items: [\
+Load { map: 2, buffer: Flat { place: At(Va(1059122)), len: 717 }, flags: 0, then: ListOf { items: [\
 Sync { map: 2, ops: 1 }, \
 DevWrite { map: 2, off: 0, bytes: Filled { byte: 0, len: 64 } }, \
 Sync { map: 2, ops: 2 }] } }
@@ -64,7 +64,7 @@ Unload { map: 2 }
 ";
 
 const SEED_1_ROUND_3: &str = "\
-Load { map: 2, place: At(Va(1077048)), len: 7661, flags: 0, then: ListOf { items: [\
+Load { map: 2, buffer: Flat { place: At(Va(1077048)), len: 7661 }, flags: 0, then: ListOf { items: [\
 Sync { map: 2, ops: 1 }, \
 DevWrite { map: 2, off: 0, bytes: Filled { byte: 134, len: 64 } }, \
 Sync { map: 2, ops: 2 }] } }
@@ -75,7 +75,7 @@ Unload { map: 2 }
 
 const SEED_76_ROUND_0: &str = "\
 CpuWrite { place: At(Va(1075622)), bytes: Filled { byte: 181, len: 64 } }
-Load { map: 1, place: At(Va(1075622)), len: 5261, flags: 0, then: ListOf { items: [\
+Load { map: 1, buffer: Flat { place: At(Va(1075622)), len: 5261 }, flags: 0, then: ListOf { items: [\
 Sync { map: 1, ops: 4 }, \
 DevRead { map: 1, off: 0, len: 64 }, \
 Sync { map: 1, ops: 8 }] } }
@@ -85,7 +85,7 @@ Unload { map: 1 }
 
 const SEED_76_ROUND_2: &str = "\
 CpuWrite { place: At(Va(1073997)), bytes: Filled { byte: 203, len: 64 } }
-Load { map: 2, place: At(Va(1073997)), len: 5848, flags: 0, then: ListOf { items: [\
+Load { map: 2, buffer: Flat { place: At(Va(1073997)), len: 5848 }, flags: 0, then: ListOf { items: [\
 Sync { map: 2, ops: 4 }, \
 DevRead { map: 2, off: 0, len: 64 }, \
 Sync { map: 2, ops: 8 }] } }
@@ -94,7 +94,7 @@ Unload { map: 2 }
 ";
 
 const SEED_76_ROUND_3: &str = "\
-Load { map: 2, place: At(Va(1089950)), len: 20, flags: 0, then: ListOf { items: [\
+Load { map: 2, buffer: Flat { place: At(Va(1089950)), len: 20 }, flags: 0, then: ListOf { items: [\
 Sync { map: 2, ops: 1 }, \
 DevWrite { map: 2, off: 0, bytes: Filled { byte: 93, len: 20 } }, \
 Sync { map: 2, ops: 2 }] } }

@@ -3,7 +3,7 @@
 ghost use Rattle.std.specs.Prelude.{◌≡◌, ◌++◌, OnOk, IfOk};
 ghost use Rattle.storm.specs.Transfer as spec;
 
-use busdma_base::{Bytes, Item, ListOf, Op, Place, Va};
+use busdma_base::{Buffer, Bytes, Item, ListOf, Op, Place, Va};
 use dma_tag::SyncOps;
 use std::alloc::{AllocError, Global};
 
@@ -59,8 +59,10 @@ impl Transfer {
         ]?;
         Ok(Op::Load {
             map,
-            place: Place::At(self.va),
-            len: self.len,
+            buffer: Buffer::Flat {
+                place: Place::At(self.va),
+                len: self.len,
+            },
             flags: 0,
             then: ListOf::new(then),
         })
