@@ -72,14 +72,6 @@ ran_out_after before now (Ok journal) is stayed = absurd is
 ran_out_after before now (Err why) is stayed =
     subst (λ w. CountsReads {A = Journal} before now (Err w)) (sym is) stayed
 
--- the whole text was written
-pub all_written : (c : Command) (e : Edges) (scenario : Scenario) (journal : Journal) (text : List ℕ)
-    → Runs c e scenario → IsValid scenario
-    → IsReplayed scenario journal → text ≡ text_of c scenario journal
-    → WroteAll text e → NoWriteFailed e → EndsBy c e (Ok journal)
-all_written c e scenario journal text runs valid replayed is all well =
-    (well, (scenario, runs, valid, replayed, subst (λ t. WroteAll t e) is all))
-
 -- the sink failed before the text's last byte
 pub sink_failed : (c : Command) (e : Edges) (scenario : Scenario) (journal : Journal) (text : List ℕ)
     → Runs c e scenario → IsValid scenario
@@ -528,31 +520,3 @@ storm_keeps words n seed e (Err (cause.Refused r)) asked ends = absurd (cc (ends
 storm_keeps words n seed e (Err cause.TooLong) asked ends = absurd (cc (ends.0.0))
 storm_keeps words n seed e (Err cause.OutOfMemory) asked ends = unjudged_keeps words e ends.0.1 ends.1
 storm_keeps words n seed e (Err cause.ReadFailed) asked ends = absurd (cc (ends.0.0))
-
--- what a call keeps whose words ask for nothing
-pub usage_keeps : (words : List (List ℕ)) (e : Edges) → command words ≡ None → ReadNothing e
-    → WroteNothing e → Keeps words e (record { status = 64; journal = None; fault = None })
-usage_keeps words e none read nothing = record {
-  known = inr (inl refl);
-  no_command = λ _. none;
-  usage = λ _. inl refl;
-  reads = λ is. absurd (other_of_reading 64 (λ is. absurd (omega arith))
-      (λ is. absurd (omega arith)) (λ is. absurd (omega arith)) is);
-  reads_nothing = λ _. read;
-  done = λ is. absurd (not_done 64 (omega arith) is);
-  refused = λ is. absurd (omega arith);
-  too_long = λ is. absurd (omega arith);
-  too_many = λ more. absurd (not_gave_unread e read more);
-  unwritten = λ is. absurd (omega arith);
-  unread = λ is. absurd (omega arith);
-  no_read_failed = λ _. read.faults;
-  no_write_failed = λ _. nothing.faults;
-  nothing = inr nothing;
-  journal = (
-    λ is. absurd (none_is_some is),
-    λ is. absurd (no_journal 64 (omega arith) (λ is. absurd (omega arith)) is),
-  );
-  fault = (λ is. absurd (none_is_some is), λ is. absurd (omega arith));
-  read_most = nothing_at_most e.left e.left_after read.bytes;
-  complete = subst (λ o. IfSome o (λ c. IsComplete c e (record { status = 64; journal = None; fault = None }))) (sym none) tt;
-}

@@ -141,14 +141,6 @@ same_rewritten m pa bs h = record { table = refl; frames = λ f. has_inserted m.
 pub same_trans : (m n o : Memory) → SamePages m n → SamePages n o → SamePages m o
 same_trans m n o h k = record { table = k.table ∙ h.table; frames = λ f. k.frames f ∙ h.frames f }
 
--- the addresses of positions from one on
-load_more : (buffer : List Position) (at : ℕ) → at < length buffer →
-    addresses_of (drop at buffer) ≡ slice_index (addresses_of buffer) at ∷ addresses_of (drop (at + 1) buffer)
-load_more buffer at h =
-    ap (λ ps. addresses_of ps) (drop_more buffer at no_position h)
-    ∙ ap (λ a. a ∷ addresses_of (drop (at + 1) buffer))
-    (sym (get_or-map (λ (p : Position). p.pa) buffer at no_position 0 h))
-
 -- no more addresses are written than there are bytes
 front : (ps : List Position) (vs : List ℕ) (w : ℕ → ℕ) →
     put (addresses_of ps) vs w ≡ put (addresses_of (take (length vs) ps)) vs w
