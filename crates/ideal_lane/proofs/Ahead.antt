@@ -24,7 +24,6 @@ use Rattle.busdma_base.specs.Runs.{run_of}
 use Rattle.busdma_base.specs.Scenarios.Operations.{bytes_of, items_of}
 use Rattle.busdma_base.specs.Tags.Tag.{could_bounce, effective}
 use Rattle.busdma_base.specs.Tags.TagFlags.{allocnow}
-use Rattle.dma_tag.specs.LoadFlags.{nowait}
 use Rattle.dma_tag.specs.SyncOps.{is_mixed}
 use Rattle.lane_agreement.specs.After.{addresses}
 use Rattle.lane_agreement.specs.View as view
@@ -34,7 +33,6 @@ use Rattle.lane_tables.specs.Queues.{queued}
 use Rattle.loan_table.specs.Access.{cpu_read_answer, cpu_write_answer, dev_read_answer, dev_write_answer}
 use Rattle.loan_table.specs.Lending.{sync_answer}
 use Rattle.loan_table.specs.Loans.{loan_of}
-use Rattle.busdma_base.specs.Machine.Spans.{one_span}
 use Rattle.segment_build.specs.Chunks.{need_of}
 use Rattle.ideal_lane.specs.State.{LaneState, LaneTag, LaneMap, Stage, Idle, Waiting, Loaded, Returning}
 use Rattle.ideal_lane.specs.Ahead.{awaited_items, maps_items, items_ahead}
@@ -53,8 +51,8 @@ use Rattle.ideal_lane.specs.Unloads.{unload, pages_of, restaged, after_return}
 use Rattle.ideal_lane.specs.Syncs.{sync_part, sync, sync_range}
 use Rattle.ideal_lane.specs.Accesses.{cpu_read, cpu_write}
 use Rattle.ideal_lane.specs.Turns.{Turned, Blocked, stays, operation, transfer, waits, advanced, next_operation}
-use Rattle.ideal_lane.specs.Turns.{release, script_turn, left_queue, transfer_turn, asked_at, called, called_in}
-use Rattle.ideal_lane.specs.Turns.{callback_turn, lane_step}
+use Rattle.ideal_lane.specs.Turns.{release, script_turn, left_queue, transfer_turn, asked_at, bio_at, called}
+use Rattle.ideal_lane.specs.Turns.{called_in, callback_turn, lane_step, never_waits}
 use Rattle.ideal_lane.proofs.Falling.{asked-items, queued-from, rest-of}
 use Rattle.ideal_lane.proofs.Keeping.{fits, fitting, too_big, bounced_in, segments_of}
 use Rattle.ideal_lane.proofs.Weights.{weigh, weigh-new, weigh-put, weigh-cut, weigh-empty}
@@ -318,11 +316,11 @@ module _ (l : LaneState) where
   brings-operation (op.TagDestroy tag) at = brings-tag_destroy 0 tag
   brings-operation (op.Map name tag) at = brings-map 0 tag
   brings-operation (op.MapDestroy map) at = brings-map_destroy 0 map
-  brings-operation (op.Load map place len flags items) at =
+  brings-operation (op.Load map x flags items) at =
       let here : item_count (slice_get l.script l.place) ≡ length items = ap item_count at in
-      brings-absent (length items) (virtual_at l place) _
-      (λ va e. brings-load (length items) (omega (arith, here)) map
-      (asked map (one_span va len) (nowait flags) items l) (omega arith))
+      brings-absent (length items) (bio_at l x) _
+      (λ b e. brings-load (length items) (omega (arith, here)) map
+      (asked map b (never_waits x flags) items l) (omega arith))
   brings-operation (op.Unload map) at = brings-unload 0 map
   brings-operation (op.Sync map ops) at = brings-sync 0 map ops
   brings-operation (op.SyncRange map off len ops) at = brings-sync_range 0 map off len ops

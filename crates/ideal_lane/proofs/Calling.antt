@@ -23,7 +23,6 @@ use Rattle.busdma_base.specs.Runs.{run_of}
 use Rattle.busdma_base.specs.Scenarios.Operations.{bytes_of}
 use Rattle.busdma_base.specs.Tags.Tag.{could_bounce, effective}
 use Rattle.busdma_base.specs.Tags.TagFlags.{allocnow}
-use Rattle.dma_tag.specs.LoadFlags.{nowait}
 use Rattle.dma_tag.specs.SyncOps.{is_mixed}
 use Rattle.lane_agreement.specs.After.{addresses}
 use Rattle.lane_agreement.specs.View as view
@@ -32,7 +31,6 @@ use Rattle.lane_tables.specs.declared.queued.QueuedItem.{QueuedItem}
 use Rattle.loan_table.specs.Access.{cpu_read_answer, cpu_write_answer, dev_read_answer, dev_write_answer}
 use Rattle.loan_table.specs.Lending.{sync_answer}
 use Rattle.loan_table.specs.Loans.{loan_of}
-use Rattle.busdma_base.specs.Machine.Spans.{one_span}
 use Rattle.segment_build.specs.Chunks.{need_of}
 use Rattle.ideal_lane.specs.State.{LaneState, LaneTag, LaneMap, Stage, Idle, Waiting, Loaded, Returning}
 use Rattle.ideal_lane.specs.Asking.{Asking, Gives, Asks, goes_on, by_reply}
@@ -51,7 +49,7 @@ use Rattle.ideal_lane.specs.Syncs.{sync_part, sync, sync_range}
 use Rattle.ideal_lane.specs.Accesses.{cpu_read, cpu_write}
 use Rattle.ideal_lane.specs.Turns.{Turned, Turn, Blocked, Ended, stays, operation, transfer, waits, advanced}
 use Rattle.ideal_lane.specs.Turns.{next_operation, release, script_turn, left_queue, transfer_turn, asked_at}
-use Rattle.ideal_lane.specs.Turns.{called, called_in, callback_turn, lane_step}
+use Rattle.ideal_lane.specs.Turns.{bio_at, called, called_in, callback_turn, lane_step, never_waits}
 use Rattle.ideal_lane.specs.Opening.{opening_lane}
 use Rattle.ideal_lane.proofs.Keeping.{fits, fitting, too_big, bounced_in, segments_of}
 use Rattle.ideal_lane.proofs.Openings.{opens-standing}
@@ -316,9 +314,8 @@ module _ (p : ℕ) where
       pays-operation (op.TagDestroy tag) none = pays-tag_destroy tag
       pays-operation (op.Map name tag) none = pays-map tag none
       pays-operation (op.MapDestroy map) none = pays-map_destroy map
-      pays-operation (op.Load map place len flags items) none =
-          pays-absent (virtual_at l place) _
-          (λ va e. pays-load map (asked map (one_span va len) (nowait flags) items l))
+      pays-operation (op.Load map x flags items) none =
+          pays-absent (bio_at l x) _ (λ b e. pays-load map (asked map b (never_waits x flags) items l))
       pays-operation (op.Unload map) none = pays-unload map
       pays-operation (op.Sync map ops) none = pays-sync map ops
       pays-operation (op.SyncRange map off len ops) none = pays-sync_range map off len ops

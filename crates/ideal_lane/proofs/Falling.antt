@@ -16,6 +16,7 @@ use Rattle.busdma_base.specs.declared.journals.journal.Side.TheVariants as side
 use Rattle.busdma_base.specs.declared.journals.report.Judged.{Judged}
 use Rattle.busdma_base.specs.declared.journals.report.Judged.TheVariants.{Fine, Refused}
 use Rattle.busdma_base.specs.declared.journals.report.ReportName.TheVariants.{MapBusy, NotLoaded}
+use Rattle.busdma_base.specs.declared.machine.bio.Bio.{Bio}
 use Rattle.busdma_base.specs.declared.machine.chunk.Chunk.{Chunk}
 use Rattle.busdma_base.specs.declared.scenarios.script.Item.{Item}
 use Rattle.busdma_base.specs.declared.scenarios.script.Item.TheVariants as item
@@ -27,10 +28,10 @@ use Rattle.busdma_base.specs.Bounce.Account.{Account}
 use Rattle.busdma_base.specs.Bounce.AccountStep.{account_step}
 use Rattle.busdma_base.specs.Machine.Entry.{entries_addresses}
 use Rattle.busdma_base.specs.Runs.{run_of}
+use Rattle.busdma_base.specs.Scenarios.Buffers.{buffer_bytes}
 use Rattle.busdma_base.specs.Scenarios.Operations.{bytes_of, items_of, loaded_by}
 use Rattle.busdma_base.specs.Tags.Tag.{could_bounce, effective}
 use Rattle.busdma_base.specs.Tags.TagFlags.{allocnow}
-use Rattle.dma_tag.specs.LoadFlags.{nowait}
 use Rattle.dma_tag.specs.SyncOps.{is_mixed}
 use Rattle.lane_agreement.specs.View as view
 use Rattle.lane_agreement.specs.View.{Return, queued_back}
@@ -43,7 +44,6 @@ use Rattle.lane_tables.specs.Queues.{queued, queued_from}
 use Rattle.loan_table.specs.Access.{cpu_read_answer, cpu_write_answer, dev_read_answer, dev_write_answer}
 use Rattle.loan_table.specs.Lending.{sync_answer}
 use Rattle.loan_table.specs.Loans.{loan_of}
-use Rattle.busdma_base.specs.Machine.Spans.{one_span}
 use Rattle.segment_build.specs.Chunks.{need_of}
 use Rattle.ideal_lane.specs.State.{LaneState, LaneTag, LaneMap, Stage, Idle, Waiting, Loaded, Returning, named}
 use Rattle.ideal_lane.specs.Asking.{Asking, Gives, Asks, goes_on}
@@ -51,7 +51,7 @@ use Rattle.ideal_lane.specs.IdealMemory.{is_known}
 use Rattle.ideal_lane.specs.Outcomes.{Outcome, refused, unless_absent, unless_refused, unless_busy, unless_unloaded}
 use Rattle.ideal_lane.specs.Outcomes.{unless_past, is_idle, is_loaded, load_length}
 use Rattle.ideal_lane.specs.Standing.{Stands}
-use Rattle.ideal_lane.specs.Places.{virtual_at, reached, bytes_at, physical}
+use Rattle.ideal_lane.specs.Places.{virtual_at, reached, bytes_at}
 use Rattle.ideal_lane.specs.Tags.{with_tag, attached, tag_or_invalid, tag, has_maps, tag_destroy}
 use Rattle.ideal_lane.specs.Maps.{with_map, created, map, end_map, map_destroy, await}
 use Rattle.ideal_lane.specs.Memories.{placed, dmamem, dmamem_free}
@@ -62,11 +62,11 @@ use Rattle.ideal_lane.specs.Syncs.{sync_part, sync, sync_range}
 use Rattle.ideal_lane.specs.Accesses.{cpu_read, cpu_write}
 use Rattle.ideal_lane.specs.Turns.{Blocked, stays, operation, transfer, waits, advanced, next_operation, release}
 use Rattle.ideal_lane.specs.Turns.{script_turn, left_queue, transfer_turn, asked_by, asked_at, no_load, called}
-use Rattle.ideal_lane.specs.Turns.{called_in, called_back, callback_turn, lane_step}
+use Rattle.ideal_lane.specs.Turns.{bio_at, called_in, called_back, callback_turn, lane_step, never_waits}
 use Rattle.ideal_lane.specs.View.{view_of}
 use Rattle.ideal_lane.specs.Left.{op_weight, item_count, stage_weight, maps_weight, left, Falls, FallsOrStays}
 use Rattle.ideal_lane.proofs.Keeping.{fits, fitting, too_big, bounced_in, segments_of}
-use Rattle.ideal_lane.proofs.Needs.{need-few, entries-length}
+use Rattle.ideal_lane.proofs.Needs.{need-few, bytes-few}
 use Rattle.ideal_lane.proofs.Turning.{WaitsAt, waits-at}
 use Rattle.ideal_lane.proofs.Weights.{weigh-new, weigh-put, weigh-cut}
 
@@ -422,11 +422,11 @@ module _ (l : LaneState) where
   lows-operation a (op.TagDestroy tag) s at = lows-tag_destroy a 1 tag
   lows-operation a (op.Map name tag) s at = lows-map a 1 tag (s.no_map l.place (omega arith))
   lows-operation a (op.MapDestroy map) s at = lows-map_destroy a 1 map
-  lows-operation a (op.Load map place len flags items) s at =
-      lows-absent a _ (virtual_at l place) _ (λ va e.
-      lows-load a (1 + (length items + len)) map
-      (asked map (one_span va len) (nowait flags) items l) (ap item_count at)
-      (omega (arith, entries-length true (physical l) (one_span va len))))
+  lows-operation a (op.Load map x flags items) s at =
+      lows-absent a _ (bio_at l x) _ (λ b e.
+      lows-load a (1 + (length items + buffer_bytes x)) map
+      (asked map b (never_waits x flags) items l) (ap item_count at)
+      (omega (arith, bytes-few l x b e)))
   lows-operation a (op.Unload map) s at = lows-unload a 1 map
   lows-operation a (op.Sync map ops) s at = lows-sync a 1 map ops
   lows-operation a (op.SyncRange map off len ops) s at = lows-sync_range a 1 map off len ops
@@ -569,13 +569,13 @@ falls-queue l a (q ∷ rest) e = over (transfer q.item l) (unmoves-transfer l a 
 pub asked-items : (l : LaneState) (o : Option Op) →
     length (unwrap_or (option_and_then (λ p. asked_by p l) o) (no_load l)).items ≤ item_count o
 asked-items l None = omega arith
-asked-items l (Some (op.Load map place len flags items)) = by (virtual_at l place)
+asked-items l (Some (op.Load map x flags items)) = by (bio_at l x)
   where
-    by : (x : Option ℕ) →
-        length (unwrap_or (option_map (λ va. asked map (one_span va len) (nowait flags) items l) x) (no_load l)).items
+    by : (o : Option Bio) →
+        length (unwrap_or (option_map (λ b. asked map b (never_waits x flags) items l) o) (no_load l)).items
         ≤ length items
     by None = omega arith
-    by (Some va) = omega arith
+    by (Some b) = omega arith
 asked-items l (Some (op.Tag name parent limits)) = omega arith
 asked-items l (Some (op.TagDestroy tag)) = omega arith
 asked-items l (Some (op.Map name tag)) = omega arith

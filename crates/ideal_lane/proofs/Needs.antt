@@ -1,23 +1,31 @@
 -- A load needs no more pages than it has bytes.
 use Rattle.std.proofs.Common.{◌≡◌, ℕ, zero, suc, ◌+◌, ◌≤◌, ◌==◌, Bool, true, false, cond, if◌then◌else◌, List, [], ◌∷◌}
-use Rattle.std.proofs.Common.{length, refl, arith, drop, Option, Some, None, ◌%◌}
+use Rattle.std.proofs.Common.{length, refl, ap, sym, ◌∙◌, arith, drop, Option, Some, None, ◌%◌}
 use Rattle.std.proofs.lemmas.List.{length-append}
 use Rattle.std.proofs.lemmas.List.Sums.{sum_by-cons}
+use Rattle.std.specs.Option.{option_map, option_map_or}
+use Rattle.busdma_base.specs.declared.machine.bio.Bio.{Bio}
 use Rattle.busdma_base.specs.declared.machine.chunk.Chunk.{Chunk}
 use Rattle.busdma_base.specs.declared.machine.chunk.Entry.{Entry}
 use Rattle.busdma_base.specs.declared.machine.address.Extent.{Extent}
 use Rattle.busdma_base.specs.declared.machine.address.Span.{Span}
+use Rattle.busdma_base.specs.declared.scenarios.buffer.Buffer.{Buffer}
+use Rattle.busdma_base.specs.declared.scenarios.buffer.Buffer.TheVariants as buffer
 use Rattle.busdma_base.specs.declared.tags.tag.TagLimits.{TagLimits}
 use Rattle.busdma_base.specs.Machine.Entry.{entry_addresses, entries_addresses}
-use Rattle.busdma_base.specs.Machine.Spans.{span_bytes}
+use Rattle.busdma_base.specs.Machine.Spans.{bio_spans, span_bytes}
 use Rattle.busdma_base.specs.Runs.{addresses, byte_count, run_of}
+use Rattle.busdma_base.specs.Scenarios.Buffers.{buffer_bytes}
+use Rattle.load_bio.specs.Bio.{is_rounded}
 use Rattle.phys_memory.specs.Extents.{extents_of, with_byte, reached, then_reached}
 use Rattle.phys_memory.specs.Translation.{Translation}
 use Rattle.phys_memory.specs.Vector.{entries_of, with_entry}
 use Rattle.segment_build.specs.Chunks.{chunk_limit, chunks_within, chunks_of_bytes, chunks_from, chunks_of, bounced_of}
 use Rattle.segment_build.specs.Chunks.{need_of}
 use Rattle.ideal_lane.specs.State.{LaneState, LaneMap}
-use Rattle.ideal_lane.specs.Loads.{limits_of, chunks_for, one_entry}
+use Rattle.ideal_lane.specs.Loads.{limits_of, chunks_for, load_entries, load_translation, one_entry}
+use Rattle.ideal_lane.specs.Places.{virtual_at}
+use Rattle.ideal_lane.specs.Turns.{bio_at, flat_bio}
 
 few-bounced : (cs : List Chunk) → length (bounced_of cs) ≤ length cs
 few-bounced [] = omega arith
@@ -90,7 +98,7 @@ reached-length t va (suc n) = by (t va) (reached-length t (va + 1) n)
     by None h = omega arith
     by (Some pa) h = omega (arith, h)
 
-pub entries-length : (rounded : Bool) (t : Translation) (spans : List Span) →
+entries-length : (rounded : Bool) (t : Translation) (spans : List Span) →
     length (entries_addresses (entries_of rounded t spans)) ≤ span_bytes spans
 entries-length rounded t [] = omega arith
 entries-length rounded t (s ∷ ss) = by (length (reached t s.va.0 s.len) == s.len) (entries-length rounded t ss)
@@ -114,6 +122,30 @@ entries-length rounded t (s ∷ ss) = by (length (reached t s.va.0 s.len) == s.l
           reached-length t s.va.0 s.len,
           sum_by-cons (λ (x : Span). x.len) s ss,
         )
+
+-- how many bytes a bio has, where there is one
+abbrev bytes_of : Option Bio → ℕ
+bytes_of o = option_map_or (λ b. span_bytes (bio_spans b)) o 0
+
+abbrev span_at : ℕ → ℕ → Span
+span_at va len = record { va = record { 0 = va }; len = len }
+
+-- a buffer has the bytes of its bio
+bio-bytes : (l : LaneState) (x : Buffer) (b : Bio) → bio_at l x ≡ Some b → span_bytes (bio_spans b) ≡ buffer_bytes x
+bio-bytes l (buffer.Flat place len) b e = by (virtual_at l place) e
+  where
+    by : (va : Option ℕ) → option_map (flat_bio len) va ≡ Some b → span_bytes (bio_spans b) ≡ len
+    by None e = absurd (cc)
+    by (Some va) e = sym (ap bytes_of e) ∙ omega (arith, sum_by-cons (λ (s : Span). s.len) (span_at va len) [])
+bio-bytes l (buffer.Vector spans) b e = sym (ap bytes_of e)
+bio-bytes l (buffer.Mbuf chain) b e = sym (ap bytes_of e)
+bio-bytes l (buffer.Bio bio) b e = sym (ap bytes_of e)
+
+-- the entries of a load have at most the bytes of its buffer
+pub bytes-few : (l : LaneState) (x : Buffer) (b : Bio) → bio_at l x ≡ Some b →
+    length (entries_addresses (load_entries l b)) ≤ buffer_bytes x
+bytes-few l x b e =
+    omega (arith, bio-bytes l x b e, entries-length (is_rounded b) (load_translation l b) (bio_spans b))
 
 -- the chunks of a load of a map need at most as many pages as the load's entries have bytes
 pub need-few : (l : LaneState) (o : LaneMap) (memory : Bool) (es : List Entry) →

@@ -21,6 +21,7 @@ use Rattle.busdma_base.specs.declared.scenarios.script.Item.{Item}
 use Rattle.busdma_base.specs.declared.scenarios.script.Item.TheVariants as item
 use Rattle.busdma_base.specs.declared.scenarios.script.Op.{Op}
 use Rattle.busdma_base.specs.declared.scenarios.script.Op.TheVariants as op
+use Rattle.busdma_base.specs.declared.scenarios.buffer.Buffer.{Buffer}
 use Rattle.busdma_base.specs.declared.scenarios.script.Place.{Place}
 use Rattle.busdma_base.specs.declared.tags.tag.TagLimits.{TagLimits}
 use Rattle.busdma_base.specs.Bounce.AccountStep.{as_pages}
@@ -28,7 +29,6 @@ use Rattle.busdma_base.specs.Runs.{run_of}
 use Rattle.busdma_base.specs.Scenarios.Operations.{bytes_of}
 use Rattle.busdma_base.specs.Tags.Tag.{effective, could_bounce}
 use Rattle.busdma_base.specs.Tags.TagFlags.{allocnow}
-use Rattle.dma_tag.specs.LoadFlags.{nowait}
 use Rattle.dma_tag.specs.SyncOps.{is_mixed}
 use Rattle.lane_agreement.specs.After.{addresses}
 use Rattle.lane_agreement.specs.View.{Return}
@@ -36,7 +36,6 @@ use Rattle.lane_tables.specs.declared.queued.QueuedItem.{QueuedItem}
 use Rattle.loan_table.specs.Access.{cpu_read_answer, cpu_write_answer, dev_read_answer, dev_write_answer}
 use Rattle.loan_table.specs.Lending.{sync_answer}
 use Rattle.loan_table.specs.Loans.{loan_of, load_bytes}
-use Rattle.busdma_base.specs.Machine.Spans.{one_span}
 use Rattle.segment_build.specs.Building.{placed_pieces}
 use Rattle.segment_build.specs.Chunks.{need_of}
 use Rattle.segment_build.specs.Segmentation.{segmentation}
@@ -52,7 +51,8 @@ use Rattle.ideal_lane.specs.Outcomes.{unless_unloaded, unless_past, is_idle, is_
 use Rattle.ideal_lane.specs.Places.{virtual_at, reached, bytes_at}
 use Rattle.ideal_lane.specs.Syncs.{copies, counted, greatest_share, sync_part, sync, sync_range}
 use Rattle.ideal_lane.specs.Tags.{with_tag, attached, tag_or_invalid, tag, tag_destroy, has_maps}
-use Rattle.ideal_lane.specs.Turns.{Turn, Turned, Stepped, Blocked, Ended, stays, operation, load_at_place}
+use Rattle.ideal_lane.specs.Turns.{Turn, Turned, Stepped, Blocked, Ended, stays, operation, bio_at}
+use Rattle.ideal_lane.specs.Turns.{load_buffer, never_waits}
 use Rattle.ideal_lane.specs.Turns.{transfer, waits, advanced, left_queue, next_operation, release, script_turn}
 use Rattle.ideal_lane.specs.Turns.{transfer_turn, asked_at, called, called_in, callback_turn, lane_step}
 use Rattle.ideal_lane.specs.Unloads.{unload, restaged, after_return}
@@ -242,10 +242,9 @@ module _ (l : LaneState) where
       (load_chunks m o x (chunks_for l o (contains_key l.mems m) x.entries) l) (λ r. still)
       (chunks-keep m o x (chunks_for l o (contains_key l.mems m) x.entries))))
 
-  load_at-keeps : (m : ℕ) (place : Place) (len flags : ℕ) (items : List Item) →
-      Keeps (load_at_place m place len flags items l)
-  load_at-keeps m place len flags items =
-      absent (virtual_at l place) _ (λ va. load-keeps m (asked m (one_span va len) (nowait flags) items l))
+  buffer-keeps : (m : ℕ) (x : Buffer) (flags : ℕ) (items : List Item) → Keeps (load_buffer m x flags items l)
+  buffer-keeps m x flags items =
+      absent (bio_at l x) _ (λ b. load-keeps m (asked m b (never_waits x flags) items l))
 
   unload-keeps : (m : ℕ) → Keeps (unload m l)
   unload-keeps m = unloaded m _ (λ o r. still)
@@ -302,7 +301,7 @@ module _ (l : LaneState) where
   operation-keeps (op.TagDestroy t) = tag_destroy-keeps t
   operation-keeps (op.Map name t) = map-keeps t
   operation-keeps (op.MapDestroy m) = map_destroy-keeps m
-  operation-keeps (op.Load m place len flags items) = load_at-keeps m place len flags items
+  operation-keeps (op.Load m x flags items) = buffer-keeps m x flags items
   operation-keeps (op.Unload m) = unload-keeps m
   operation-keeps (op.Sync m ops) = sync-keeps m ops
   operation-keeps (op.SyncRange m off len ops) = sync_range-keeps m off len ops

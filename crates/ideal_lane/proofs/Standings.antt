@@ -27,9 +27,7 @@ use Rattle.busdma_base.specs.Runs.{run_of}
 use Rattle.busdma_base.specs.Scenarios.Operations.{bytes_of}
 use Rattle.busdma_base.specs.Tags.Tag.{could_bounce, effective}
 use Rattle.busdma_base.specs.Tags.TagFlags.{allocnow}
-use Rattle.dma_tag.specs.LoadFlags.{nowait}
 use Rattle.dma_tag.specs.MemFlags.{coherent}
-use Rattle.busdma_base.specs.Machine.Spans.{one_span}
 use Rattle.dma_tag.specs.SyncOps.{is_mixed}
 use Rattle.lane_agreement.specs.View as view
 use Rattle.lane_agreement.specs.View.{Return}
@@ -56,7 +54,7 @@ use Rattle.ideal_lane.specs.Syncs.{sync_part, sync, sync_range}
 use Rattle.ideal_lane.specs.Accesses.{cpu_read, cpu_write, dev_read, dev_write}
 use Rattle.ideal_lane.specs.Turns.{Turned, stays, Blocked, operation, transfer, waits, advanced, next_operation}
 use Rattle.ideal_lane.specs.Turns.{release, script_turn, left_queue, transfer_turn, asked_at, called, called_in}
-use Rattle.ideal_lane.specs.Turns.{called_back, callback_turn, lane_step}
+use Rattle.ideal_lane.specs.Turns.{bio_at, called_back, callback_turn, lane_step, never_waits}
 use Rattle.ideal_lane.proofs.Lookups.{get_put, get_cut}
 use Rattle.ideal_lane.proofs.Direct.{need-direct}
 use Rattle.ideal_lane.proofs.Keeping.{fits, fitting, too_big, bounced_in, segments_of, pageless-pages}
@@ -631,9 +629,9 @@ module _ (l : LaneState) (s : Stands l) where
   leaves-operation (op.TagDestroy tag) = leaves-tag_destroy (l.place + 1) l next.0 tag
   leaves-operation (op.Map name tag) = leaves-map tag
   leaves-operation (op.MapDestroy map) = leaves-map_destroy (l.place + 1) l next.0 map
-  leaves-operation (op.Load map place len flags items) =
-      leaves-absent (l.place + 1) l next.0 (virtual_at l place) _
-      (λ va e. leaves-load (l.place + 1) l next.0 map (asked map (one_span va len) (nowait flags) items l))
+  leaves-operation (op.Load map x flags items) =
+      leaves-absent (l.place + 1) l next.0 (bio_at l x) _
+      (λ b e. leaves-load (l.place + 1) l next.0 map (asked map b (never_waits x flags) items l))
   leaves-operation (op.Unload map) = leaves-unload (l.place + 1) l next.0 map
   leaves-operation (op.Sync map ops) = leaves-sync (l.place + 1) l next.0 map ops
   leaves-operation (op.SyncRange map off len ops) = leaves-sync_range (l.place + 1) l next.0 map off len ops

@@ -24,8 +24,6 @@ use Rattle.lane_agreement.specs.Agreement.{Agrees, IsFit}
 use Rattle.lane_agreement.proofs.Asking.{agrees-may}
 use Rattle.lane_agreement.proofs.Left.{agrees-like}
 use Rattle.lane_agreement.proofs.Whole.{agrees-step, called-length}
-use Rattle.dma_tag.specs.LoadFlags.{nowait}
-use Rattle.busdma_base.specs.Machine.Spans.{one_span}
 use Rattle.lane_tables.specs.declared.queued.QueuedItem.{QueuedItem}
 use Rattle.ideal_lane.specs.State.{LaneState, LaneMap, Stage, Idle, Waiting, Loaded, Returning, named}
 use Rattle.ideal_lane.specs.Asking.{Asking, Gives, Asks, goes_on}
@@ -34,10 +32,9 @@ use Rattle.ideal_lane.specs.Agreement.{IsAllowed, KeepsAgreement}
 use Rattle.ideal_lane.specs.Standing.{Stands}
 use Rattle.ideal_lane.specs.View.{view_of, own_map, own_frames, in_zone, stage_of}
 use Rattle.ideal_lane.specs.Loads.{Asked, asked, chunks_for, finished}
-use Rattle.ideal_lane.specs.Places.{virtual_at}
 use Rattle.ideal_lane.specs.Turns.{Turned, stays, Blocked, operation, transfer, waits, advanced, next_operation}
 use Rattle.ideal_lane.specs.Turns.{release, script_turn, left_queue, transfer_turn, asked_at, called, called_in}
-use Rattle.ideal_lane.specs.Turns.{called_back, callback_turn, lane_step}
+use Rattle.ideal_lane.specs.Turns.{bio_at, called_back, callback_turn, lane_step, never_waits}
 use Rattle.ideal_lane.specs.Unloads.{given_back, restaged, after_return}
 use Rattle.ideal_lane.proofs.Keeping.{Following, Keeps, keeps-absent, keeps-tag, keeps-tag_destroy, keeps-map}
 use Rattle.ideal_lane.proofs.Keeping.{keeps-map_destroy, keeps-await, keeps-load, keeps-unload, keeps-sync}
@@ -78,9 +75,8 @@ keeps-operation l (op.Tag name parent limits) s = keeps-tag l parent limits
 keeps-operation l (op.TagDestroy tag) s = keeps-tag_destroy l tag
 keeps-operation l (op.Map name tag) s = keeps-map l tag s
 keeps-operation l (op.MapDestroy map) s = keeps-map_destroy l map
-keeps-operation l (op.Load map place len flags items) s =
-    keeps-absent l (virtual_at l place) _ (λ va e. keeps-load l map
-    (asked map (one_span va len) (nowait flags) items l) s)
+keeps-operation l (op.Load map x flags items) s =
+    keeps-absent l (bio_at l x) _ (λ b e. keeps-load l map (asked map b (never_waits x flags) items l) s)
 keeps-operation l (op.Unload map) s = keeps-unload l map s
 keeps-operation l (op.Sync map ops) s = keeps-sync l map ops
 keeps-operation l (op.SyncRange map off len ops) s = keeps-sync_range l map off len ops

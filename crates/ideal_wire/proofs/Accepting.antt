@@ -1,6 +1,6 @@
 -- A load that has its pages lies in them, and its segments are its bytes and obey its tag.
 use Rattle.std.proofs.Common.{◌≡◌, ℕ, suc, ◌*◌, ◌<◌, ◌≤◌, Bool, true, false, cond, List, [], ◌∷◌, ◌++◌}
-use Rattle.std.proofs.Common.{length, Option, Some, refl, ap, sym, ◌∙◌, subst}
+use Rattle.std.proofs.Common.{length, map, Option, Some, refl, ap, sym, ◌∙◌, subst}
 use Rattle.std.proofs.Common.{unwrap_or, nat_le, eq-eqb, if◌then◌else◌}
 use Rattle.std.proofs.lemmas.Bool.{leb-true}
 use Rattle.std.specs.Option.{option_map}
@@ -11,19 +11,21 @@ use Rattle.busdma_base.specs.declared.journals.report.Errno.TheVariants.{EFBIG}
 use Rattle.busdma_base.specs.declared.journals.report.Judged.TheVariants.{Fine}
 use Rattle.busdma_base.specs.declared.machine.address.Pa.{Pa}
 use Rattle.busdma_base.specs.declared.machine.address.Segment.{Segment}
-use Rattle.busdma_base.specs.declared.machine.address.Span.{Span}
+use Rattle.busdma_base.specs.declared.machine.bio.Bio.{Bio}
 use Rattle.busdma_base.specs.declared.machine.chunk.Chunk.{Chunk}
 use Rattle.busdma_base.specs.declared.machine.chunk.Entry.{Entry}
 use Rattle.busdma_base.specs.declared.scenarios.script.Item.{Item}
 use Rattle.busdma_base.specs.declared.tags.tag.TagLimits.{TagLimits}
 use Rattle.busdma_base.specs.Bounce.AccountStep.{as_pages}
 use Rattle.busdma_base.specs.Machine.Entry.{IsEntry, entry_addresses, entries_addresses}
-use Rattle.busdma_base.specs.Machine.Spans.{span_addresses}
+use Rattle.busdma_base.specs.Machine.Spans.{bio_spans}
 use Rattle.busdma_base.specs.Machine.Wire.{buffers, buses}
+use Rattle.busdma_base.specs.Scenarios.Buffers.{IsBioOf}
 use Rattle.busdma_base.specs.Tags.Tag.{IsEffective}
 use Rattle.busdma_base.specs.Tags.TagFlags.{keep_pg_offset}
 use Rattle.lane_agreement.specs.After as after
 use Rattle.loan_table.specs.Loans.{Loan, loan_of, no_loan, addresses_of, unlent, new_loan}
+use Rattle.load_bio.specs.Bio.{is_rounded}
 use Rattle.phys_memory.specs.Translation.{physical_or_0}
 use Rattle.phys_memory.proofs.Vectors.{entries_are}
 use Rattle.segment_build.specs.Building.{tag_placed, placed_pieces}
@@ -37,9 +39,8 @@ use Rattle.segment_build.proofs.Cuts.{cut_is}
 use Rattle.segment_build.proofs.Obeys as obeying
 use Rattle.segment_build.proofs.Sound.{chunks_sound, placed_are}
 use Rattle.ideal_lane.specs.Loads.{Asked, asked, limits_of, no_limits, finished, loaded, unpaged, is_coherent}
-use Rattle.ideal_lane.specs.Loads.{load_judged}
+use Rattle.ideal_lane.specs.Loads.{load_addresses, load_judged, load_translation}
 use Rattle.ideal_lane.specs.Outcomes.{Outcome}
-use Rattle.ideal_lane.specs.Places.{physical, bytes_at}
 use Rattle.ideal_lane.specs.Standing.{Stands}
 use Rattle.ideal_lane.specs.State.{LaneState, LaneTag, LaneMap, Loaded}
 use Rattle.ideal_lane.proofs.Lookups.{get_put}
@@ -47,10 +48,10 @@ use Rattle.ideal_wire.specs.Accepted.{HasPages, IsAccepted, IfSegments}
 use Rattle.ideal_wire.specs.Laid.{AreLaid}
 use Rattle.ideal_wire.specs.Machine.{IsInMachine}
 use Rattle.ideal_wire.specs.Traces.{stage_in, stage_at, placed_from, traces_of}
+use Rattle.ideal_wire.proofs.Bios.{bio-own, bio-paged, bio_places}
 use Rattle.ideal_wire.proofs.Buses.{placed-buffers}
 use Rattle.ideal_wire.proofs.Loading.{chunks_bytes, Follow, follow-of, placed-follow, placed-bytes, traced}
-use Rattle.ideal_wire.proofs.Placing.{reaches}
-use Rattle.ideal_wire.proofs.Reaching.{AllReached, all-reached, byte-below, entries-bytes, paged}
+use Rattle.ideal_wire.proofs.Reaching.{AllReached, all-reached, byte-below, entries-bytes}
 
 -- ---- small lists
 
@@ -131,10 +132,10 @@ limits-effective l machine stands m o there =
 
 -- ---- a load of a map that is not a memory's
 module _ (l : LaneState) (laid : AreLaid l) (machine : IsInMachine l) (stands : Stands l) (m : ℕ) (o : LaneMap)
-    (there : get l.maps m ≡ Some o) (direct : contains_key l.mems m ≡ false) (spans : List Span) (load_at : ℕ)
-    (no_wait : Bool) (items : List Item) (fine : load_judged l m (span_addresses spans) ≡ Fine) (pages : List ℕ) where
+    (there : get l.maps m ≡ Some o) (direct : contains_key l.mems m ≡ false) (b : Bio) (named : IsBioOf l.pages b)
+    (load_at : ℕ) (no_wait : Bool) (items : List Item) (fine : load_judged l m b ≡ Fine) (pages : List ℕ) where
   abbrev x : Asked
-  x = asked m spans no_wait items l
+  x = asked m b no_wait items l
 
   abbrev limits : TagLimits
   limits = limits_of l o
@@ -146,27 +147,31 @@ module _ (l : LaneState) (laid : AreLaid l) (machine : IsInMachine l) (stands : 
   effective = limits-effective l machine stands m o there
 
   are-entries : AllByRecursion IsEntry x.entries
-  are-entries = entries_are (λ p. Unit {0}) true (physical l) (paged l laid machine) spans
+  are-entries =
+      entries_are (λ p. Unit {0}) (is_rounded b) (load_translation l b) (bio-paged l laid machine b named) (bio_spans b)
 
-  reached-all : AllReached (physical l) (span_addresses spans)
-  reached-all = all-reached l m (span_addresses spans) fine
+  reached-all : AllReached (load_translation l b) (bio_places b)
+  reached-all = all-reached l m b fine
 
-  are-bytes : entries_addresses x.entries ≡ bytes_at l (span_addresses spans)
-  are-bytes = entries-bytes (physical l) (paged l laid machine) true spans reached-all
+  are-bytes : entries_addresses x.entries ≡ load_addresses l b
+  are-bytes =
+      entries-bytes (load_translation l b) (bio-paged l laid machine b named) (is_rounded b) (bio_spans b) reached-all
 
-  all-below : (vas : List ℕ) → AllReached (physical l) vas → AllByRecursion (λ a. a < 4096 * l.maxmem) (bytes_at l vas)
+  all-below : (vas : List ℕ) → AllReached (load_translation l b) vas →
+      AllByRecursion (λ a. a < 4096 * l.maxmem) (map (physical_or_0 (load_translation l b)) vas)
   all-below [] h = tt
   all-below (va ∷ vas) h =
       let e = h.0.1 in
-      let is : physical_or_0 (physical l) va ≡ h.0.0 = ap (λ (q : Option ℕ). unwrap_or q 0) e in (
-        subst (λ a. a < 4096 * l.maxmem) (sym is) (byte-below l laid machine h.0.0 (reaches l laid va h.0.0 e)),
+      let is : physical_or_0 (load_translation l b) va ≡ h.0.0 = ap (λ (q : Option ℕ). unwrap_or q 0) e in (
+        subst (λ a. a < 4096 * l.maxmem) (sym is)
+            (byte-below l laid machine h.0.0 (bio-own l laid b named va h.0.0 e)),
         all-below vas h.1,
       )
 
   inside : AllByRecursion (λ a. a < 4096 * l.maxmem) (flat_map entry_addresses x.entries)
   inside =
       subst (AllByRecursion (λ a. a < 4096 * l.maxmem)) (sym (flat-entries x.entries ∙ are-bytes))
-      (all-below (span_addresses spans) reached-all)
+      (all-below (bio_places b) reached-all)
 
   module _ (has : HasPages limits chunks pages) where
     whole : AllByRecursion IsPage (as_pages pages)
@@ -184,7 +189,7 @@ module _ (l : LaneState) (laid : AreLaid l) (machine : IsInMachine l) (stands : 
     covers = chunks_cover limits l.maxmem x.entries effective are-entries ∙ flat-entries x.entries
 
     pub accepted : nat_le (length (segments l m o load_at x chunks pages)) limits.nsegments ≡ true →
-        IsAccepted (fits l m o load_at x chunks pages) m limits (bytes_at l (span_addresses spans)) chunks pages
+        IsAccepted (fits l m o load_at x chunks pages) m limits (load_addresses l b) chunks pages
         (segments l m o load_at x chunks pages)
     accepted few = record {
       buffer =
@@ -202,7 +207,7 @@ module _ (l : LaneState) (laid : AreLaid l) (machine : IsInMachine l) (stands : 
 
     abbrev answered : LaneState → List Segment → Type 0
     answered l' ss =
-        IsAccepted l' m limits (bytes_at l (span_addresses spans)) chunks pages ss
+        IsAccepted l' m limits (load_addresses l b) chunks pages ss
 
     pub finished-accepted : IfSegments (finished m o load_at x chunks pages l).answer
         (answered (finished m o load_at x chunks pages l).lane)

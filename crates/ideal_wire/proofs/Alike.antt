@@ -1,6 +1,6 @@
 -- A map lies as it lay, where a step leaves its stage, the bytes of its load and what its tag says.
 use mathlib.Core.Logic.{∥∥₁_map}
-use Rattle.std.proofs.Common.{◌≡◌, ◌≢◌, ℕ, Bool, true, false, List, Option, Some, None, slice_get, is_some, inl, inr}
+use Rattle.std.proofs.Common.{◌≡◌, ◌≢◌, ℕ, Bool, false, List, Option, Some, None, slice_get, is_some, inl, inr}
 use Rattle.std.proofs.Common.{refl, ap, sym, ◌∙◌, subst}
 use Rattle.std.specs.Option.{option_and_then}
 use Rattle.std.specs.Prelude.{unwrap_or}
@@ -8,32 +8,31 @@ use Rattle.std.specs.FinMap.{empty, get, get-empty}
 use Rattle.std.specs.List.{enumerate_from}
 use Rattle.std.specs.Ordering.{nat_cmp}
 use Rattle.busdma_base.specs.declared.machine.address.Segment.{Segment}
-use Rattle.busdma_base.specs.declared.machine.address.Span.{Span}
+use Rattle.busdma_base.specs.declared.machine.bio.Bio.{Bio}
+use Rattle.busdma_base.specs.declared.machine.bio.Bio.TheVariants.{Mapped, Vector, Unmapped}
 use Rattle.busdma_base.specs.declared.machine.chunk.Chunk.{Chunk}
 use Rattle.busdma_base.specs.declared.scenarios.script.Item.{Item}
 use Rattle.busdma_base.specs.declared.scenarios.script.Op.{Op}
 use Rattle.busdma_base.specs.declared.scenarios.script.Op.TheVariants as op
-use Rattle.busdma_base.specs.declared.scenarios.script.Place.TheVariants.{At}
 use Rattle.busdma_base.specs.Journals.Judging.{judged}
 use Rattle.busdma_base.specs.Machine.PageRuns.{is_own}
-use Rattle.busdma_base.specs.Machine.Spans.{one_span, span_addresses, span_bytes}
+use Rattle.busdma_base.specs.Machine.Spans.{bio_spans, span_addresses, span_bytes}
 use Rattle.busdma_base.specs.Machine.Wire.{buses}
-use Rattle.dma_tag.specs.LoadFlags.{nowait}
 use Rattle.loan_table.specs.declared.position.Position.{Position}
 use Rattle.loan_table.specs.Loans.{loan_of, addresses_of}
 use Rattle.map_sync.specs.Traces.{HasChunks}
-use Rattle.phys_memory.specs.Vector.{entries_of}
 use Rattle.segment_build.specs.Chunks.{chunks_of, need_of}
-use Rattle.ideal_lane.specs.Loads.{Asked, asked, is_coherent, is_foreign_to, limits_of, load_refusal}
-use Rattle.ideal_lane.specs.Places.{physical}
+use Rattle.ideal_lane.specs.Loads.{Asked, asked, is_coherent, is_foreign_in, limits_of, load_entries, load_refusal}
+use Rattle.ideal_lane.specs.Loads.{load_translation}
 use Rattle.ideal_lane.specs.Outcomes.{is_loaded}
 use Rattle.ideal_lane.specs.State.{LaneState, LaneMap, LaneMemory, Stage, Idle, Waiting, Loaded, Returning}
 use Rattle.ideal_lane.specs.Syncs.{bounced_in}
-use Rattle.ideal_lane.specs.Turns.{asked_at, asked_by, no_load}
+use Rattle.ideal_lane.specs.Turns.{asked_at, asked_by, never_waits, no_load}
 use Rattle.ideal_wire.specs.Centre.{IsAt}
 use Rattle.ideal_wire.specs.Laid.{is_loadable, IsLaid, IsAwaited, LiesIn, IsOwnByte, OfPages, OfMemory, AreLaid}
 use Rattle.ideal_wire.specs.Laid.{chunks_at, pages_alone}
 use Rattle.ideal_wire.specs.Traces.{stage_at, placed_from, traces_of}
+use Rattle.ideal_wire.proofs.Buffers.{asks-bio, bio-of}
 use Rattle.ideal_wire.proofs.Positions.{twin_of}
 use Rattle.ideal_wire.proofs.SyncedPositions.{decided}
 
@@ -61,14 +60,14 @@ pub record IsAlike (l l' : LaneState) (n : ℕ) : Type 0 where
   pub limits : (o' : LaneMap) → get l'.maps n ≡ Some o' →
       (o : LaneMap) × (get l.maps n ≡ Some o) × (limits_of l' o' ≡ limits_of l o)
 
--- a load of spans, of a map that is that of a memory or not
-abbrev pub asked-with : Option LaneMemory → List Span → Bool → List Item → LaneState → Asked
-asked-with o spans now items l = record {
+-- a load of a bio, of a map that is that of a memory or not
+abbrev pub asked-with : Option LaneMemory → Bio → Bool → List Item → LaneState → Asked
+asked-with o b now items l = record {
   judged =
-      judged (λ b. load_refusal (is_foreign_to o l b.0 b.1) (physical l b.1)) 0
-      (enumerate_from 0 (span_addresses spans));
-  entries = entries_of true (physical l) spans;
-  len = span_bytes spans;
+      judged (λ x. load_refusal (is_foreign_in b o l x.0 x.1) (load_translation l b x.1)) 0
+      (enumerate_from 0 (span_addresses (bio_spans b)));
+  entries = load_entries l b;
+  len = span_bytes (bio_spans b);
   nowait = now;
   items = items;
 }
@@ -78,15 +77,25 @@ no-memory m = get-empty nat_cmp m
 
 -- what an operation asks of the driver's pages alone
 module _ (l l' : LaneState) (pages : l'.pages ≡ l.pages) where
-  span-alike : (m va len : ℕ) (now : Bool) (items : List Item) →
-      asked m (one_span va len) now items (pages_alone l') ≡ asked m (one_span va len) now items (pages_alone l)
-  span-alike m va len now items =
-      ap (λ o. asked-with o (one_span va len) now items (pages_alone l')) (no-memory m)
-      ∙ (λ i. asked-with None (one_span va len) now items (record (pages_alone l) { pages = pages i }))
-      ∙ sym (ap (λ o. asked-with o (one_span va len) now items (pages_alone l)) (no-memory m))
+  alone-alike : (b : Bio) (now : Bool) (items : List Item) →
+      asked-with None b now items (pages_alone l') ≡ asked-with None b now items (pages_alone l)
+  alone-alike (Mapped span) now items =
+      λ i. asked-with None (Mapped span) now items (record (pages_alone l) { pages = pages i })
+  alone-alike (Vector spans) now items =
+      λ i. asked-with None (Vector spans) now items (record (pages_alone l) { pages = pages i })
+  alone-alike (Unmapped frames off len) now items = refl
+
+  bio-alike : (m : ℕ) (b : Bio) (now : Bool) (items : List Item) →
+      asked m b now items (pages_alone l') ≡ asked m b now items (pages_alone l)
+  bio-alike m b now items =
+      ap (λ o. asked-with o b now items (pages_alone l')) (no-memory m)
+      ∙ alone-alike b now items
+      ∙ sym (ap (λ o. asked-with o b now items (pages_alone l)) (no-memory m))
 
   asked_by-alike : (o : Op) → asked_by o (pages_alone l') ≡ asked_by o (pages_alone l)
-  asked_by-alike (op.Load m (At va) len flags items) = ap Some (span-alike m va.0 len (nowait flags) items)
+  asked_by-alike (op.Load m x flags items) =
+      asks-bio m x flags items (pages_alone l') ∙ ap Some (bio-alike m (bio-of x).bio (never_waits x flags) items)
+      ∙ sym (asks-bio m x flags items (pages_alone l))
   asked_by-alike (op.Tag name parent limits) = refl
   asked_by-alike (op.TagDestroy tag) = refl
   asked_by-alike (op.Map name tag) = refl

@@ -3,7 +3,7 @@ use Rattle.std.proofs.Common.{◌≡◌, ℕ, ◌==◌, Bool, true, false, if◌
 use Rattle.std.proofs.Common.{Some, None, refl, ap, sym, ◌∙◌, subst, arith, nat_le, take}
 use Rattle.std.proofs.lemmas.Bool.{eqb-true}
 use Rattle.std.specs.FinMap.{get, contains_key}
-use Rattle.std.specs.List.{AllByRecursion, enumerate_from}
+use Rattle.std.specs.List.{AllByRecursion}
 use Rattle.busdma_base.specs.declared.bounce.hold.HubReply.TheVariants.{Called, Nothing}
 use Rattle.busdma_base.specs.declared.bounce.zone.Waiter.{Waiter}
 use Rattle.busdma_base.specs.declared.journals.answer.Answer.{Answer}
@@ -12,7 +12,7 @@ use Rattle.busdma_base.specs.declared.journals.report.Errno.TheVariants.{EFBIG}
 use Rattle.busdma_base.specs.declared.journals.report.Judged.TheVariants.{Fine}
 use Rattle.busdma_base.specs.declared.machine.address.Pa.{Pa}
 use Rattle.busdma_base.specs.declared.machine.address.Segment.{Segment}
-use Rattle.busdma_base.specs.declared.machine.address.Span.{Span}
+use Rattle.busdma_base.specs.declared.machine.bio.Bio.{Bio}
 use Rattle.busdma_base.specs.declared.machine.chunk.Chunk.{Chunk}
 use Rattle.busdma_base.specs.declared.name.MapId.{MapId}
 use Rattle.busdma_base.specs.declared.scenarios.script.Item.{Item}
@@ -24,19 +24,17 @@ use Rattle.busdma_base.specs.Bounce.Growth.{serves_tag}
 use Rattle.busdma_base.specs.Bounce.History.{IsFrame}
 use Rattle.busdma_base.specs.Bounce.LowPages.{PagesLieLow}
 use Rattle.busdma_base.specs.Bounce.Serving.{handed}
-use Rattle.busdma_base.specs.Journals.Judging.{judged}
 use Rattle.busdma_base.specs.Machine.PageRuns.{physical_in}
-use Rattle.busdma_base.specs.Machine.Spans.{span_addresses}
 use Rattle.busdma_base.specs.Machine.Wire.{buffers, buses}
+use Rattle.busdma_base.specs.Scenarios.Buffers.{IsBioOf}
 use Rattle.lane_agreement.specs.View as view
 use Rattle.lane_agreement.proofs.Places.{head-waits, waits-tells}
 use Rattle.segment_build.specs.Obeying.{IsReachable}
 use Rattle.ideal_lane.specs.Agreement.{AgreesWith}
-use Rattle.ideal_lane.specs.Loads.{Asked, asked, chunks_for, finished, is_foreign_to, limits_of, load_judged}
-use Rattle.ideal_lane.specs.Loads.{load_refusal}
+use Rattle.ideal_lane.specs.Loads.{Asked, asked, chunks_for, finished, limits_of, load_addresses, load_judged}
 use Rattle.ideal_lane.specs.Loads.{unpaged}
 use Rattle.ideal_lane.specs.Outcomes.{Outcome}
-use Rattle.ideal_lane.specs.Places.{bytes_at, is_memory_byte, physical}
+use Rattle.ideal_lane.specs.Places.{is_memory_byte}
 use Rattle.ideal_lane.specs.Standing.{Stands}
 use Rattle.ideal_lane.specs.State.{LaneState, LaneMap}
 use Rattle.ideal_lane.specs.Turns.{asked_at}
@@ -48,7 +46,8 @@ use Rattle.ideal_wire.specs.Laid.{AreLaid}
 use Rattle.ideal_wire.specs.Machine.{IsInMachine}
 use Rattle.ideal_wire.specs.Traces.{stage_at, traces_of}
 use Rattle.ideal_wire.proofs.Accepting.{accepted, fits, segments, stage-is}
-use Rattle.ideal_wire.proofs.Asked.{AreOfPages, all-fine, all-of, enumerated, with-pages}
+use Rattle.ideal_wire.proofs.Asked.{pages-fine}
+use Rattle.ideal_wire.proofs.Bios.{AreOfPages}
 use Rattle.ideal_wire.proofs.MemoryLoads.{no-page}
 use Rattle.ideal_wire.proofs.Pages.{called-reachable}
 use Rattle.ideal_wire.proofs.Reaching.{memory-low}
@@ -81,31 +80,26 @@ if-so (answer.Report r) P Q h p = tt
 
 -- ---- bytes of the driver's pages are judged fine, of a map that is not a memory's
 module _ (l : LaneState) (laid : AreLaid l) (machine : IsInMachine l) where
-  outside : (va : ℕ) → (p : ℕ) × (physical_in l.pages va ≡ Some p) → is_memory_byte l va ≡ false
-  outside va r = by (is_memory_byte l va) refl
+  outside : (va p : ℕ) → physical_in l.pages va ≡ Some p → is_memory_byte l va ≡ false
+  outside va p at = by (is_memory_byte l va) refl
     where
       by : (b : Bool) → is_memory_byte l va ≡ b → is_memory_byte l va ≡ false
       by false e = e
       by true e =
           let none : physical_in l.pages va ≡ None =
           no-page l.maxmem l.pages va machine.pages (memory-low l laid machine va e) in
-          let gone : None ≡ Some r.0 = sym none ∙ r.1 in
+          let gone : None ≡ Some p = sym none ∙ at in
           absurd (cc)
 
-  pub own-fine : (m : ℕ) (vas : List ℕ) → get l.mems m ≡ None → AreOfPages l vas → load_judged l m vas ≡ Fine
-  own-fine m vas none own =
-      ap (λ o. judged (λ b. load_refusal (is_foreign_to o l b.0 b.1) (physical l b.1)) 0 (enumerate_from 0 vas)) none
-      ∙ all-fine (λ b. load_refusal (is_memory_byte l b.1) (physical l b.1)) 0 (enumerate_from 0 vas)
-      (enumerated (λ va. load_refusal (is_memory_byte l va) (physical l va) ≡ None) 0 vas
-      (all-of (λ va. (p : ℕ) × (physical_in l.pages va ≡ Some p)) _
-      (λ va r i. load_refusal (outside va r i) (with-pages l l va r.0 r.1 i)) vas own))
+  pub own-fine : (m : ℕ) (b : Bio) → get l.mems m ≡ None → AreOfPages l b → load_judged l m b ≡ Fine
+  own-fine m b none own = pages-fine l outside m b none own
 
 -- ---- the end of a load that has its pages
 module _ (l : LaneState) (laid : AreLaid l) (machine : IsInMachine l) (stands : Stands l) (m : ℕ) (o : LaneMap)
-    (there : get l.maps m ≡ Some o) (direct : contains_key l.mems m ≡ false) (spans : List Span) (at : ℕ)
-    (now : Bool) (items : List Item) (fine : load_judged l m (span_addresses spans) ≡ Fine) (pages : List ℕ) where
+    (there : get l.maps m ≡ Some o) (direct : contains_key l.mems m ≡ false) (b : Bio) (named : IsBioOf l.pages b)
+    (at : ℕ) (now : Bool) (items : List Item) (fine : load_judged l m b ≡ Fine) (pages : List ℕ) where
   abbrev x : Asked
-  x = asked m spans now items l
+  x = asked m b now items l
 
   abbrev pub ending-chunks : List Chunk
   ending-chunks = chunks_for l o false x.entries
@@ -113,7 +107,7 @@ module _ (l : LaneState) (laid : AreLaid l) (machine : IsInMachine l) (stands : 
   -- `after` is the driver that the step leaves of the one with the load
   pub ends-answered : (after : LaneState → LaneState) → ((k : LaneState) → traces_of (after k) m ≡ traces_of k m) →
       ((k : LaneState) → stage_at (after k) m ≡ stage_at k m) →
-      bytes_named l at ≡ bytes_at l (span_addresses spans) → (asked_at at l).entries ≡ x.entries →
+      bytes_named l at ≡ load_addresses l b → (asked_at at l).entries ≡ x.entries →
       HasPages (limits_of l o) ending-chunks pages →
       IfSegments (finished m o at x ending-chunks pages l).answer
       (AreLoaded l (after (finished m o at x ending-chunks pages l).lane) m at)
@@ -140,7 +134,7 @@ module _ (l : LaneState) (laid : AreLaid l) (machine : IsInMachine l) (stands : 
         obeys = h.obeys;
       }
 
-      load-is : IsAccepted with-load m (limits_of l o) (bytes_at l (span_addresses spans)) ending-chunks pages ss →
+      load-is : IsAccepted with-load m (limits_of l o) (load_addresses l b) ending-chunks pages ss →
           AreLoaded l (after with-load) m at ss
       load-is h = record {
         map = o;
@@ -150,18 +144,18 @@ module _ (l : LaneState) (laid : AreLaid l) (machine : IsInMachine l) (stands : 
             (chunks_for l o (contains_key l.mems m) (asked_at at l).entries)
             (pages_of (stage_at (after with-load) m)) ss)
             (sym bytes)
-            (subst (λ cs. IsAccepted (after with-load) m (limits_of l o) (bytes_at l (span_addresses spans)) cs
+            (subst (λ cs. IsAccepted (after with-load) m (limits_of l o) (load_addresses l b) cs
             (pages_of (stage_at (after with-load) m)) ss) chunks
-            (subst (λ ps. IsAccepted (after with-load) m (limits_of l o) (bytes_at l (span_addresses spans))
-            ending-chunks ps ss) held (moved (bytes_at l (span_addresses spans)) ending-chunks pages h)));
+            (subst (λ ps. IsAccepted (after with-load) m (limits_of l o) (load_addresses l b)
+            ending-chunks ps ss) held (moved (load_addresses l b) ending-chunks pages h)));
       }
 
-      by : (b : Bool) → nat_le (length ss) (limits_of l o).nsegments ≡ b →
-          IfSegments (Outcome.answer (if b then record { lane = with-load; answer = answer.Segments ss }
+      by : (c : Bool) → nat_le (length ss) (limits_of l o).nsegments ≡ c →
+          IfSegments (Outcome.answer (if c then record { lane = with-load; answer = answer.Segments ss }
           else record { lane = unpaged m o pages l; answer = answer.Refused EFBIG }))
-          (AreLoaded l (after (Outcome.lane (if b then record { lane = with-load; answer = answer.Segments ss }
+          (AreLoaded l (after (Outcome.lane (if c then record { lane = with-load; answer = answer.Segments ss }
           else record { lane = unpaged m o pages l; answer = answer.Refused EFBIG }))) m at)
-      by true few = load-is (accepted l laid machine stands m o there direct spans at now items fine pages has few)
+      by true few = load-is (accepted l laid machine stands m o there direct b named at now items fine pages has few)
       by false many = tt
 
 -- ---- the pages that a callback brings

@@ -2,7 +2,6 @@
 use Rattle.std.proofs.Common.{◌≡◌, ℕ, ◌+◌, ◌==◌, ◌&&◌, Bool, true, false, if◌then◌else◌, List, [], ◌∷◌}
 use Rattle.std.proofs.Common.{length, Option, Some, None, is_some, slice_get, refl, ap, sym, ◌∙◌, subst, nat_lt}
 use Rattle.std.proofs.Common.{unwrap_or}
-use Rattle.std.proofs.Common.{append-nil}
 use Rattle.std.proofs.lemmas.Bool.{eqb-true, false≢true}
 use Rattle.std.specs.FinMap.{get, contains_key}
 use Rattle.std.specs.List.{AllByRecursion}
@@ -18,16 +17,15 @@ use Rattle.busdma_base.specs.declared.journals.report.Judged.TheVariants.{Fine}
 use Rattle.busdma_base.specs.declared.journals.report.Report.{Report}
 use Rattle.busdma_base.specs.declared.journals.report.ReportName.TheVariants.{MixedSync}
 use Rattle.busdma_base.specs.declared.machine.address.Pa.{Pa}
-use Rattle.busdma_base.specs.declared.machine.address.Span.{Span}
-use Rattle.busdma_base.specs.declared.machine.address.Va.{Va}
+use Rattle.busdma_base.specs.declared.machine.bio.Bio.{Bio}
 use Rattle.busdma_base.specs.declared.machine.chunk.Chunk.{Chunk}
 use Rattle.busdma_base.specs.declared.name.MapId.{MapId}
+use Rattle.busdma_base.specs.declared.scenarios.buffer.Buffer.{Buffer}
 use Rattle.busdma_base.specs.declared.scenarios.script.Item.{Item}
 use Rattle.busdma_base.specs.declared.scenarios.script.Item.TheVariants as item
 use Rattle.busdma_base.specs.declared.scenarios.script.Op.{Op}
 use Rattle.busdma_base.specs.declared.scenarios.script.Op.TheVariants as op
 use Rattle.busdma_base.specs.declared.scenarios.script.Place.{Place}
-use Rattle.busdma_base.specs.declared.scenarios.script.Place.TheVariants.{At}
 use Rattle.busdma_base.specs.declared.tags.tag.TagLimits.{TagLimits}
 use Rattle.busdma_base.specs.Bounce.Account.{Account, zone_at}
 use Rattle.busdma_base.specs.Bounce.AccountStep.{account_step}
@@ -35,12 +33,11 @@ use Rattle.busdma_base.specs.Bounce.EachFrame.{EachFrame}
 use Rattle.busdma_base.specs.Bounce.Growth.{serves_tag}
 use Rattle.busdma_base.specs.Bounce.History.{IsFrame}
 use Rattle.busdma_base.specs.Bounce.LowPages.{PagesLieLow}
-use Rattle.busdma_base.specs.Machine.Spans.{one_span, span_addresses}
 use Rattle.busdma_base.specs.Runs.{run_of}
+use Rattle.busdma_base.specs.Scenarios.Buffers.{IsBioOf}
 use Rattle.busdma_base.specs.Scenarios.Operations.{bytes_of}
 use Rattle.busdma_base.specs.Tags.Tag.{could_bounce, effective}
 use Rattle.busdma_base.specs.Tags.TagFlags.{allocnow}
-use Rattle.dma_tag.specs.LoadFlags.{nowait}
 use Rattle.dma_tag.specs.SyncOps.{is_mixed}
 use Rattle.lane_agreement.specs.After.{addresses}
 use Rattle.lane_agreement.specs.Agreement.{IsFit}
@@ -58,18 +55,16 @@ use Rattle.ideal_lane.specs.Agreement.{AgreesWith}
 use Rattle.ideal_lane.specs.Asking.{Asking, Gives, Asks, by_reply, goes_on}
 use Rattle.ideal_lane.specs.IdealMemory.{is_known}
 use Rattle.ideal_lane.specs.Loads.{Asked, asked, chunks_for, finished, granted, limits_of, load, load_chunks}
-use Rattle.ideal_lane.specs.Loads.{load_judged}
-use Rattle.ideal_lane.specs.Loads.{zone_of}
+use Rattle.ideal_lane.specs.Loads.{load_addresses, load_judged, zone_of}
 use Rattle.ideal_lane.specs.Maps.{created, map, end_map, map_destroy, await}
-use Rattle.ideal_lane.specs.Outcomes.{Outcome, gives, is_idle, load_length, refused, unless_past}
+use Rattle.ideal_lane.specs.Outcomes.{Outcome, gives, is_idle, load_length, refused, unless_absent, unless_past}
 use Rattle.ideal_lane.specs.Places.{virtual_at, reached, bytes_at}
 use Rattle.ideal_lane.specs.Standing.{Stands}
 use Rattle.ideal_lane.specs.State.{LaneState, LaneTag, LaneMap, named}
 use Rattle.ideal_lane.specs.Syncs.{sync_part, sync, sync_range}
 use Rattle.ideal_lane.specs.Tags.{attached, tag_or_invalid, tag, tag_destroy, has_maps}
 use Rattle.ideal_lane.specs.Turns.{Turned, operation, transfer, waits, asked_at, asked_by, called, called_in}
-use Rattle.ideal_lane.specs.Turns.{called_back}
-use Rattle.ideal_lane.specs.Turns.{lane_step, no_load}
+use Rattle.ideal_lane.specs.Turns.{called_back, lane_step, load_buffer, never_waits, no_load}
 use Rattle.ideal_lane.specs.Turns as turns
 use Rattle.ideal_lane.specs.Unloads.{unload}
 use Rattle.ideal_lane.specs.View.{view_of}
@@ -84,6 +79,7 @@ use Rattle.ideal_wire.specs.Machine.{IsInMachine}
 use Rattle.ideal_wire.specs.Served.{AreServed}
 use Rattle.ideal_wire.specs.Traces.{stage_in, stage_at}
 use Rattle.ideal_wire.proofs.AnsweredLoads.{callback-reachable, ends-answered, if-all, if-so, own-fine}
+use Rattle.ideal_wire.proofs.Buffers.{asks-bio, bio-of, loads-from}
 use Rattle.ideal_wire.proofs.LaidTurns.{as-many, paged-again}
 use Rattle.ideal_wire.proofs.Pages.{granted-reachable}
 use Rattle.ideal_wire.proofs.Positions.{found_one}
@@ -230,19 +226,22 @@ module _ (l : LaneState) (a : Account) (stands : Stands l) (agrees : AgreesWith 
   reported x = tt
 
   -- ---- the load of the next operation
-  module _ (m : ℕ) (va : Va) (len flags : ℕ) (items : List Item)
-      (here : slice_get l.script l.place ≡ Some (op.Load m (At va) len flags items)) where
-    abbrev spans : List Span
-    spans = one_span va.0 len
+  module _ (m : ℕ) (buffer : Buffer) (flags : ℕ) (items : List Item)
+      (here : slice_get l.script l.place ≡ Some (op.Load m buffer flags items)) where
+    abbrev b : Bio
+    b = (bio-of buffer).bio
+
+    is-bio : IsBioOf l.pages b
+    is-bio = loads-from l.pages l.script l.place m buffer flags items machine.bios here
 
     abbrev x : Asked
-    x = asked m spans (nowait flags) items l
+    x = asked m b (never_waits buffer flags) items l
 
-    abbrev the-load : Load
-    the-load = record { map = m; bytes = bytes_at l (run_of va.0 len) }
+    abbrev loaded : Bio → Load
+    loaded y = record { map = m; bytes = load_addresses l y }
 
-    load-here : load_at l l.place ≡ Some the-load
-    load-here = ap (option_and_then (λ p. loaded_by p l)) here
+    load-here : load_at l l.place ≡ Some (loaded b)
+    load-here = ap (option_and_then (λ p. loaded_by p l)) here ∙ ap (option_map loaded) ((bio-of buffer).is l)
 
     -- of the load's map it is enough to say what is loaded
     answers-load : (k : Outcome) → IfSegments k.answer (λ ss. contains_key l.mems m ≡ false →
@@ -262,17 +261,17 @@ module _ (l : LaneState) (a : Account) (stands : Stands l) (agrees : AgreesWith 
     always-memory has (Asks c k) = of-memory has (k (account_step l.id c a).reply)
 
     module _ (direct : contains_key l.mems m ≡ false) (o : LaneMap) (there : get l.maps m ≡ Some o)
-        (fine : load_judged l m (span_addresses spans) ≡ Fine) where
+        (fine : load_judged l m b ≡ Fine) where
       abbrev chunks : List Chunk
       chunks = chunks_for l o false x.entries
 
-      bytes-here : bytes_named l l.place ≡ bytes_at l (span_addresses spans)
-      bytes-here =
-          ap (λ q. unwrap_or (option_map (λ (y : Load). y.bytes) q) []) load-here
-          ∙ ap (bytes_at l) (sym (append-nil (run_of va.0 len)))
+      bytes-here : bytes_named l l.place ≡ load_addresses l b
+      bytes-here = ap (λ q. unwrap_or (option_map (λ (y : Load). y.bytes) q) []) load-here
 
       asked-here : asked_at l.place l ≡ x
-      asked-here = ap (λ q. unwrap_or (option_and_then (λ p. asked_by p l) q) (no_load l)) here
+      asked-here =
+          ap (λ q. unwrap_or (option_and_then (λ p. asked_by p l) q) (no_load l)) here
+          ∙ ap (λ q. unwrap_or q (no_load l)) (asks-bio m buffer flags items l)
 
       -- it ends with pages that the device reaches
       ended-answers : (pages : List ℕ) → HasPages (limits_of l o) chunks pages →
@@ -281,7 +280,7 @@ module _ (l : LaneState) (a : Account) (stands : Stands l) (agrees : AgreesWith 
           answers-load (finished m o l.place x chunks pages l)
           (if-so (finished m o l.place x chunks pages l).answer
           (AreLoaded l (moved (finished m o l.place x chunks pages l).lane) m l.place) _ (λ ss g none. g)
-          (ends-answered l laid machine stands m o there direct spans l.place (nowait flags) items fine pages moved
+          (ends-answered l laid machine stands m o there direct b is-bio l.place (never_waits buffer flags) items fine pages moved
           (λ k. refl) (λ k. refl) bytes-here (ap (λ (y : Asked). y.entries) asked-here) has))
 
       by-reply : (z : ℕ) → o.zone ≡ Some z → (r : HubReply) →
@@ -318,7 +317,7 @@ module _ (l : LaneState) (a : Account) (stands : Stands l) (agrees : AgreesWith 
           Answers (granted m o x chunks l
           (account_step l.id (call.Grab (named l m) (record { 0 = zone_of o }) (need_of chunks) x.nowait) a).reply)
       zoned None zone some =
-          let none : need_of chunks ≡ 0 = sym (ap (λ b. need_of (chunks_for l o b x.entries)) direct)
+          let none : need_of chunks ≡ 0 = sym (ap (λ c. need_of (chunks_for l o c x.entries)) direct)
           ∙ need-direct l m o x.entries (stands.each m o there) zone in
           absurd (false≢true (sym some ∙ ap (λ n. n == 0) none))
       zoned (Some z) zone some = by-reply z zone _ refl
@@ -330,16 +329,18 @@ module _ (l : LaneState) (a : Account) (stands : Stands l) (agrees : AgreesWith 
           (λ none. ended-answers [] (record { count = sym (eqb-true (need_of chunks) 0 none); reachable = tt }))
           (λ some. zoned o.zone refl some)
 
-    load-answers : Keeps (load m x l)
-    load-answers = by (contains_key l.mems m) refl
+    load-answers : Keeps (load_buffer m buffer flags items l)
+    load-answers =
+        subst (λ q. Keeps (unless_absent q l (λ y. load m (asked m y (never_waits buffer flags) items l) l)))
+        (sym ((bio-of buffer).is l)) (by (contains_key l.mems m) refl)
       where
-        by : (b : Bool) → contains_key l.mems m ≡ b → Keeps (load m x l)
+        by : (c : Bool) → contains_key l.mems m ≡ c → Keeps (load m x l)
         by true has = always-memory has (load m x l)
         by false direct =
             busy l Keeps reported m _ (λ o there i.
             judged l Keeps reported x.judged _ (λ fine.
             either l Keeps reported (nat_lt (limits_of l o).maxsize x.len) _ _ (λ long. tt) (λ short.
-            subst (λ b. Keeps (load_chunks m o x (chunks_for l o b x.entries) l)) (sym direct)
+            subst (λ c. Keeps (load_chunks m o x (chunks_for l o c x.entries) l)) (sym direct)
             (direct-answers direct o there fine))))
 
   operation-answers : (o : Op) → slice_get l.script l.place ≡ Some o → Keeps (operation o l)
@@ -348,7 +349,7 @@ module _ (l : LaneState) (a : Account) (stands : Stands l) (agrees : AgreesWith 
   operation-answers (op.TagDestroy t) e = quiet-keeps (operation (op.TagDestroy t) l) (tag_destroy-quiet l t)
   operation-answers (op.Map name t) e = quiet-keeps (operation (op.Map name t) l) (map-quiet l t)
   operation-answers (op.MapDestroy m) e = quiet-keeps (operation (op.MapDestroy m) l) (map_destroy-quiet l m)
-  operation-answers (op.Load m (At va) len flags items) e = load-answers m va len flags items e
+  operation-answers (op.Load m buffer flags items) e = load-answers m buffer flags items e
   operation-answers (op.Unload m) e = quiet-keeps (operation (op.Unload m) l) (unload-quiet l m)
   operation-answers (op.Sync m ops) e = quiet-keeps (operation (op.Sync m ops) l) (sync-quiet l m ops)
   operation-answers (op.SyncRange m off len ops) e =
@@ -377,10 +378,10 @@ module _ (l : LaneState) (a : Account) (stands : Stands l) (agrees : AgreesWith 
           (subst Ends (sym (n.is l refl)) ended)))
         where
           n : Names w.load_at l
-          n = waited l stands laid k z need w
+          n = waited l stands laid machine k z need w
 
           x : Asked
-          x = waited-asked l stands laid k z need w
+          x = waited-asked l stands laid machine k z need w
 
           ending : Asked → Outcome
           ending y = finished k w.map w.load_at y (chunks_for l w.map (contains_key l.mems k) y.entries)
@@ -396,7 +397,7 @@ module _ (l : LaneState) (a : Account) (stands : Stands l) (agrees : AgreesWith 
           Ends y = IfSegments (ending y).answer (AreLoaded l (ending y).lane k w.load_at)
 
           none : get l.mems k ≡ None
-          none = waited-direct l stands laid k z need w
+          none = waited-direct l stands laid machine k z need w
 
           serves : (y j : ℕ) → (view_of l).map_at k ≡ Some (record { zone = y; stage = view.Waiting j }) →
               serves_tag (limits_of l w.map) (zone_at a y) ≡ true
@@ -407,7 +408,7 @@ module _ (l : LaneState) (a : Account) (stands : Stands l) (agrees : AgreesWith 
 
           has : HasPages (limits_of l w.map) (chunks_for l w.map false x.entries) (addresses pages)
           has = record {
-            count = as-many pages ∙ count ∙ waited-need l stands laid k z need w;
+            count = as-many pages ∙ count ∙ waited-need l stands laid machine k z need w;
             reachable =
                 subst (AllByRecursion (IsReachable (limits_of l w.map))) (sym (paged-again pages))
                 (callback-reachable l a agrees low frames (limits_of l w.map) m pages serves e);
@@ -419,8 +420,8 @@ module _ (l : LaneState) (a : Account) (stands : Stands l) (agrees : AgreesWith 
               l).answer
               (AreLoaded l (finished k w.map w.load_at x (chunks_for l w.map b x.entries) (addresses pages) l).lane k
               w.load_at)) (sym (ap is_some none))
-              (ends-answered l laid machine stands k w.map w.found (ap is_some none) n.spans w.load_at n.now n.items
-              (own-fine l laid machine k (span_addresses n.spans) none (waited-own l stands laid k z need w))
+              (ends-answered l laid machine stands k w.map w.found (ap is_some none) n.bio n.named w.load_at n.now n.items
+              (own-fine l laid machine k n.bio none (waited-own l stands laid machine k z need w))
               (addresses pages) (λ s. s) (λ s. refl) (λ s. refl) n.bytes
               (ap (λ (y : Asked). y.entries) (n.is l refl)) has)
 

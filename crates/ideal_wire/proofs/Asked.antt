@@ -9,22 +9,27 @@ use Rattle.std.specs.Ordering.{nat_cmp}
 use Rattle.busdma_base.specs.declared.journals.report.Judged.TheVariants.{Fine}
 use Rattle.busdma_base.specs.declared.journals.report.ReportName.{ReportName}
 use Rattle.busdma_base.specs.declared.machine.address.Span.{Span}
-use Rattle.busdma_base.specs.declared.machine.chunk.Entry.{Entry}
+use Rattle.busdma_base.specs.declared.machine.bio.Bio.{Bio}
+use Rattle.busdma_base.specs.declared.machine.bio.Bio.TheVariants.{Mapped, Vector, Unmapped}
 use Rattle.busdma_base.specs.declared.tags.tag.TagLimits.{TagLimits}
 use Rattle.busdma_base.specs.Bounce.AccountStep.{as_pages}
 use Rattle.busdma_base.specs.Journals.Judging.{judged, refused_or}
 use Rattle.busdma_base.specs.Machine.Entry.{entries_addresses}
 use Rattle.busdma_base.specs.Machine.PageRuns.{is_own, pages_end, physical_in}
-use Rattle.busdma_base.specs.Machine.Spans.{span_addresses}
+use Rattle.busdma_base.specs.Machine.Spans.{bio_spans, span_addresses}
 use Rattle.busdma_base.specs.Runs.{run_of}
+use Rattle.busdma_base.specs.Scenarios.Buffers.{IsBioOf}
 use Rattle.busdma_base.specs.Tags.Tag.{IsEffective}
+use Rattle.load_bio.specs.Bio.{bio_translation, is_rounded}
 use Rattle.phys_memory.specs.Extents.{reached, then_reached}
 use Rattle.phys_memory.specs.Translation.{Translation, physical_or_0}
 use Rattle.phys_memory.specs.Vector.{entries_of, with_entry}
+use Rattle.phys_memory.proofs.Paged.{IsPaged}
 use Rattle.phys_memory.proofs.Vectors.{entries_are}
 use Rattle.segment_build.specs.Chunks.{chunks_of, need_of}
 use Rattle.segment_build.specs.Trace.{IsPage}
-use Rattle.ideal_lane.specs.Loads.{is_foreign_to, limits_of, load_judged, load_refusal}
+use Rattle.ideal_lane.specs.Loads.{is_foreign_in, is_foreign_to, limits_of, load_entries, load_judged, load_refusal}
+use Rattle.ideal_lane.specs.Loads.{load_translation}
 use Rattle.ideal_lane.specs.Places.{is_in_memory, is_memory_byte, or_in_memory, physical}
 use Rattle.ideal_lane.specs.Standing.{Stands}
 use Rattle.ideal_lane.specs.State.{LaneState, LaneMap, LaneMemory}
@@ -32,10 +37,10 @@ use Rattle.ideal_wire.specs.Laid.{is_loadable, AreLaid, pages_alone}
 use Rattle.ideal_wire.specs.Machine.{IsInMachine}
 use Rattle.ideal_wire.proofs.Accepting.{limits-effective}
 use Rattle.ideal_wire.proofs.Alike.{no-memory}
+use Rattle.ideal_wire.proofs.Bios.{AreOfPages, IsOfPages, bio-paged, bio_places, pages-own, pages_translation, with-pages}
 use Rattle.ideal_wire.proofs.Lent.{any_entry}
 use Rattle.ideal_wire.proofs.LoadLaid.{IsReady, ready}
-use Rattle.ideal_wire.proofs.Placing.{reached-own}
-use Rattle.ideal_wire.proofs.Reaching.{AllReached, all-from, each-byte, entries-bytes, paged}
+use Rattle.ideal_wire.proofs.Reaching.{AllReached, all-from, each-byte, entries-bytes}
 
 -- ---- lists
 
@@ -87,29 +92,49 @@ module _ (t u : Translation) where
       λ i. with_entry rounded (one i) (if length (one i) == s.len then rest i else [])
 
 -- ---- bytes of the driver's pages
+
+-- the bytes of a load that is judged fine, of a map that is not a memory's, are of the driver's pages
+pub direct-bytes : (l : LaneState) (m : ℕ) (b : Bio) → get l.mems m ≡ None → load_judged l m b ≡ Fine → AreOfPages l b
+direct-bytes l m b none fine = all-from _ (bio_places b) (λ k va e. one b k va (each-byte l m b fine k va e))
+  where
+    mapped : (k va : ℕ) → (p : ℕ) × (physical l va ≡ Some p) × (is_foreign_to (get l.mems m) l k va ≡ false) →
+        (p : ℕ) × (physical_in l.pages va ≡ Some p)
+    mapped k va r = by (physical_in l.pages va) refl r.1
+      where
+        outside : is_memory_byte l va ≡ false
+        outside = sym (ap (λ o. is_foreign_to o l k va) none) ∙ r.2
+
+        by : (o : Option ℕ) → physical_in l.pages va ≡ o → or_in_memory l va o ≡ Some r.0 →
+            (p : ℕ) × (physical_in l.pages va ≡ Some p)
+        by None e g =
+            let gone : None ≡ Some r.0 = sym (ap (λ c. cond c (Some (va - pages_end)) None) outside) ∙ g in absurd (cc)
+        by (Some q) e g = (q, e)
+
+    one : (x : Bio) (k va : ℕ) →
+        (p : ℕ) × (load_translation l x va ≡ Some p) × (is_foreign_in x (get l.mems m) l k va ≡ false) →
+        IsOfPages l x va
+    one (Mapped span) k va r = mapped k va r
+    one (Vector spans) k va r = mapped k va r
+    one (Unmapped frames off len) k va r = (r.0, r.1)
+
+-- such bytes are judged fine, where no byte of pages is one of a memory
+module _ (l : LaneState) (outside : (va p : ℕ) → physical_in l.pages va ≡ Some p → is_memory_byte l va ≡ false) where
+  not-foreign : (b : Bio) (k va p : ℕ) → pages_translation l b va ≡ Some p → is_foreign_in b None l k va ≡ false
+  not-foreign (Mapped span) k va p e = outside va p e
+  not-foreign (Vector spans) k va p e = outside va p e
+  not-foreign (Unmapped frames off len) k va p e = refl
+
+  pub pages-fine : (m : ℕ) (b : Bio) → get l.mems m ≡ None → AreOfPages l b → load_judged l m b ≡ Fine
+  pages-fine m b none own =
+      ap (λ o. judged (λ x. load_refusal (is_foreign_in b o l x.0 x.1) (load_translation l b x.1)) 0
+      (enumerate_from 0 (bio_places b))) none
+      ∙ all-fine (λ x. load_refusal (is_foreign_in b None l x.0 x.1) (load_translation l b x.1)) 0
+      (enumerate_from 0 (bio_places b))
+      (all-of (λ x. IsOfPages l b x.1) _
+      (λ x r i. load_refusal (not-foreign b x.0 x.1 r.0 r.1 i) (with-pages l b x.1 r.0 r.1 i))
+      (enumerate_from 0 (bio_places b)) (enumerated (IsOfPages l b) 0 (bio_places b) own))
+
 module _ (l : LaneState) where
-  -- each of these bytes is one of the driver's pages
-  abbrev pub AreOfPages : List ℕ → Type 0
-  AreOfPages vas = AllByRecursion (λ va. (p : ℕ) × (physical_in l.pages va ≡ Some p)) vas
-
-  -- so are those of a load that is judged fine, of a map that is not a memory's
-  pub direct-bytes : (m : ℕ) (vas : List ℕ) → get l.mems m ≡ None → load_judged l m vas ≡ Fine → AreOfPages vas
-  direct-bytes m vas none fine = all-from _ vas (λ k va e. one k va (each-byte l m vas fine k va e))
-    where
-      one : (k va : ℕ) → (p : ℕ) × (physical l va ≡ Some p) × (is_foreign_to (get l.mems m) l k va ≡ false) →
-          (p : ℕ) × (physical_in l.pages va ≡ Some p)
-      one k va r = by (physical_in l.pages va) refl r.1
-        where
-          outside : is_memory_byte l va ≡ false
-          outside = sym (ap (λ o. is_foreign_to o l k va) none) ∙ r.2
-
-          by : (o : Option ℕ) → physical_in l.pages va ≡ o → or_in_memory l va o ≡ Some r.0 →
-              (p : ℕ) × (physical_in l.pages va ≡ Some p)
-          by None e g =
-              let gone : None ≡ Some r.0 = sym (ap (λ b. cond b (Some (va - pages_end)) None) outside) ∙ g in absurd
-              (cc)
-          by (Some q) e g = (q, e)
-
   -- without memories no byte is one of a memory
   alone-outside : (va : ℕ) → is_memory_byte (pages_alone l) va ≡ false
   alone-outside va = by (is_memory_byte (pages_alone l) va) refl
@@ -128,29 +153,19 @@ module _ (l : LaneState) where
       by true e = absurd (none true e refl)
       by false e = refl
 
-  -- what the driver reaches of its pages, it reaches with and without its memories
-  pub with-pages : (k : LaneState) (va p : ℕ) → physical_in k.pages va ≡ Some p → physical k va ≡ Some p
-  with-pages k va p e = ap (or_in_memory k va) e
-
-  -- so the entries of such bytes are the same for each driver with these pages
-  pub pages-entries : (k : LaneState) → k.pages ≡ l.pages → (spans : List Span) → AreOfPages (span_addresses spans) →
-      entries_of true (physical k) spans ≡ entries_of true (physical l) spans
-  pages-entries k same spans h =
-      same-entries (physical k) (physical l) true spans
-      (all-of (λ va. (p : ℕ) × (physical_in l.pages va ≡ Some p)) (λ va. physical k va ≡ physical l va)
-      (λ va r. with-pages k va r.0 ((λ i. physical_in (same i) va) ∙ r.1) ∙ sym (with-pages l va r.0 r.1))
-      (span_addresses spans) h)
+  -- the entries of bytes of its pages are the same for each driver with these pages
+  pub pages-entries : (k : LaneState) → k.pages ≡ l.pages → (b : Bio) → AreOfPages l b →
+      load_entries k b ≡ load_entries l b
+  pages-entries k same b own =
+      same-entries (load_translation k b) (load_translation l b) (is_rounded b) (bio_spans b)
+      (all-of (IsOfPages l b) (λ va. load_translation k b va ≡ load_translation l b va)
+      (λ va r. with-pages k b va r.0 ((λ i. bio_translation (physical_in (same i)) b va) ∙ r.1)
+      ∙ sym (with-pages l b va r.0 r.1))
+      (bio_places b) own)
 
   -- they are judged fine without its memories
-  pub alone-fine : (m : ℕ) (vas : List ℕ) → AreOfPages vas → load_judged (pages_alone l) m vas ≡ Fine
-  alone-fine m vas h =
-      ap (λ o. judged (λ b. load_refusal (is_foreign_to o (pages_alone l) b.0 b.1) (physical (pages_alone l) b.1)) 0
-      (enumerate_from 0 vas)) (no-memory m)
-      ∙ all-fine (λ b. load_refusal (is_memory_byte (pages_alone l) b.1) (physical (pages_alone l) b.1)) 0
-      (enumerate_from 0 vas)
-      (enumerated (λ va. load_refusal (is_memory_byte (pages_alone l) va) (physical (pages_alone l) va) ≡ None) 0 vas
-      (all-of (λ va. (p : ℕ) × (physical_in l.pages va ≡ Some p)) _
-      (λ va r i. load_refusal (alone-outside va i) (with-pages (pages_alone l) va r.0 r.1 i)) vas h))
+  pub alone-fine : (m : ℕ) (b : Bio) → AreOfPages l b → load_judged (pages_alone l) m b ≡ Fine
+  alone-fine m b own = pages-fine (pages_alone l) (λ va p e. alone-outside va) m b (no-memory m) own
 
 -- ---- loads that can end
 module _ (l : LaneState) (laid : AreLaid l) (machine : IsInMachine l) (stands : Stands l) (m : ℕ) (o : LaneMap)
@@ -162,33 +177,33 @@ module _ (l : LaneState) (laid : AreLaid l) (machine : IsInMachine l) (stands : 
   eff = limits-effective l machine stands m o there
 
   -- of bytes of the driver's pages, with its pages
-  pub direct-ready : get l.mems m ≡ None → (spans : List Span) → AreOfPages l (span_addresses spans) →
+  pub direct-ready : get l.mems m ≡ None → (b : Bio) → IsBioOf l.pages b → AreOfPages l b →
       (pages : List ℕ) → AllByRecursion IsPage (as_pages pages) →
-      length pages ≡ need_of (chunks_of t l.maxmem (entries_of true (physical l) spans)) →
-      IsReady l m t (entries_of true (physical l) spans) (chunks_of t l.maxmem (entries_of true (physical l) spans))
-      pages
-  direct-ready none spans own pages whole count =
-      ready l m t t l.maxmem es pages eff.maxsegsz eff refl
-      (entries_are (λ p. Unit {0}) true (physical l) (paged l laid machine) spans) whole count
+      length pages ≡ need_of (chunks_of t l.maxmem (load_entries l b)) →
+      IsReady l m t (load_entries l b) (chunks_of t l.maxmem (load_entries l b)) pages
+  direct-ready none b named own pages whole count =
+      ready l m t t l.maxmem (load_entries l b) pages eff.maxsegsz eff refl
+      (entries_are (λ p. Unit {0}) (is_rounded b) u are-paged (bio_spans b)) whole count
       (λ some. let gone : false ≡ true = sym (ap is_some none) ∙ some in absurd (false≢true gone)) loadable
     where
-      es : List Entry
-      es = entries_of true (physical l) spans
+      u : Translation
+      u = load_translation l b
 
-      Of : ℕ → Type 0
-      Of va = (p : ℕ) × (physical_in l.pages va ≡ Some p)
+      are-paged : IsPaged (λ p. Unit {0}) u
+      are-paged = bio-paged l laid machine b named
 
-      are-reached : AllReached (physical l) (span_addresses spans)
-      are-reached = all-of Of _ (λ va r. (r.0, with-pages l l va r.0 r.1)) (span_addresses spans) own
+      are-reached : AllReached u (bio_places b)
+      are-reached = all-of (IsOfPages l b) _ (λ va r. (r.0, with-pages l b va r.0 r.1)) (bio_places b) own
 
-      loads : (va : ℕ) → Of va → is_loadable (get l.mems m) l (physical_or_0 (physical l) va) ≡ true
+      loads : (va : ℕ) → IsOfPages l b va → is_loadable (get l.mems m) l (physical_or_0 u va) ≡ true
       loads va r =
-          ap (λ q. is_loadable q l (physical_or_0 (physical l) va)) none
-          ∙ ap (λ q. is_own l.pages (unwrap_or q 0)) (with-pages l l va r.0 r.1) ∙ reached-own l.pages va r.0 r.1
+          ap (λ q. is_loadable q l (physical_or_0 u va)) none
+          ∙ ap (λ q. is_own l.pages (unwrap_or q 0)) (with-pages l b va r.0 r.1)
+          ∙ pages-own l b named va r.0 r.1
 
-      loadable : AllByRecursion (λ a. is_loadable (get l.mems m) l a ≡ true) (entries_addresses es)
+      loadable : AllByRecursion (λ a. is_loadable (get l.mems m) l a ≡ true) (entries_addresses (load_entries l b))
       loadable =
           subst (AllByRecursion (λ a. is_loadable (get l.mems m) l a ≡ true))
-          (sym (entries-bytes (physical l) (paged l laid machine) true spans are-reached))
-          (all-map (physical_or_0 (physical l)) (λ a. is_loadable (get l.mems m) l a ≡ true) (span_addresses spans)
-          (all-of Of _ loads (span_addresses spans) own))
+          (sym (entries-bytes u are-paged (is_rounded b) (bio_spans b) are-reached))
+          (all-map (physical_or_0 u) (λ a. is_loadable (get l.mems m) l a ≡ true) (bio_places b)
+          (all-of (IsOfPages l b) _ loads (bio_places b) own))

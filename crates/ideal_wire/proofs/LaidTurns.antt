@@ -14,22 +14,20 @@ use Rattle.busdma_base.specs.declared.journals.journal.Side.TheVariants as side
 use Rattle.busdma_base.specs.declared.journals.report.Judged.TheVariants.{Fine}
 use Rattle.busdma_base.specs.declared.journals.report.Report.{Report}
 use Rattle.busdma_base.specs.declared.machine.address.Pa.{Pa}
-use Rattle.busdma_base.specs.declared.machine.address.Span.{Span}
-use Rattle.busdma_base.specs.declared.machine.address.Va.{Va}
+use Rattle.busdma_base.specs.declared.machine.bio.Bio.{Bio}
 use Rattle.busdma_base.specs.declared.machine.chunk.Chunk.{Chunk}
 use Rattle.busdma_base.specs.declared.name.MapId.{MapId}
+use Rattle.busdma_base.specs.declared.scenarios.buffer.Buffer.{Buffer}
 use Rattle.busdma_base.specs.declared.scenarios.script.Item.{Item}
 use Rattle.busdma_base.specs.declared.scenarios.script.Item.TheVariants as item
 use Rattle.busdma_base.specs.declared.scenarios.script.Op.{Op}
 use Rattle.busdma_base.specs.declared.scenarios.script.Op.TheVariants as op
-use Rattle.busdma_base.specs.declared.scenarios.script.Place.TheVariants.{At}
 use Rattle.busdma_base.specs.Bounce.Account.{Account}
 use Rattle.busdma_base.specs.Bounce.AccountStep.{account_step, as_pages}
 use Rattle.busdma_base.specs.Bounce.EachFrame.{EachFrame}
 use Rattle.busdma_base.specs.Bounce.History.{IsFrame}
-use Rattle.busdma_base.specs.Machine.Spans.{one_span, span_addresses}
+use Rattle.busdma_base.specs.Scenarios.Buffers.{IsBioOf}
 use Rattle.busdma_base.specs.Scenarios.Operations.{bytes_of}
-use Rattle.dma_tag.specs.LoadFlags.{nowait}
 use Rattle.lane_agreement.specs.After.{addresses}
 use Rattle.lane_agreement.specs.Agreement.{IsFit}
 use Rattle.lane_agreement.specs.View.{Return}
@@ -43,18 +41,19 @@ use Rattle.ideal_lane.specs.Asking.{Asking, Gives, Asks, goes_on}
 use Rattle.ideal_lane.specs.Loads.{Asked, asked, chunks_for, finished, granted, limits_of, load, load_chunks}
 use Rattle.ideal_lane.specs.Loads.{load_judged}
 use Rattle.ideal_lane.specs.Loads.{staged, zone_of}
-use Rattle.ideal_lane.specs.Outcomes.{Outcome, gives}
+use Rattle.ideal_lane.specs.Outcomes.{Outcome, gives, unless_absent}
 use Rattle.ideal_lane.specs.Standing.{Stands}
 use Rattle.ideal_lane.specs.State.{LaneState, LaneMap, LaneMemory, Waiting, named}
 use Rattle.ideal_lane.specs.Turns.{Turned, operation, transfer, waits, asked_at, asked_by, called, called_in}
-use Rattle.ideal_lane.specs.Turns.{lane_step}
-use Rattle.ideal_lane.specs.Turns.{called_back, no_load}
+use Rattle.ideal_lane.specs.Turns.{called_back, lane_step, load_buffer, never_waits, no_load}
 use Rattle.ideal_lane.specs.Turns as turns
 use Rattle.ideal_lane.specs.View.{view_of}
 use Rattle.ideal_lane.proofs.Turning.{WaitsAt, waits-at}
 use Rattle.ideal_wire.specs.Laid.{IsAwaited, AreLaid, KeepsLaid, pages_alone}
 use Rattle.ideal_wire.specs.Machine.{IsInMachine}
-use Rattle.ideal_wire.proofs.Asked.{AreOfPages, alone-fine, direct-bytes, direct-ready, pages-entries}
+use Rattle.ideal_wire.proofs.Asked.{alone-fine, direct-bytes, direct-ready, pages-entries}
+use Rattle.ideal_wire.proofs.Bios.{AreOfPages}
+use Rattle.ideal_wire.proofs.Buffers.{asks-bio, bio-of, loads-from}
 use Rattle.ideal_wire.proofs.LoadLaid.{IsReady, finished-laid}
 use Rattle.ideal_wire.proofs.MemoryLoads.{memory-ready}
 use Rattle.ideal_wire.proofs.Pages.{called-whole, granted-whole}
@@ -98,16 +97,19 @@ module _ (l : LaneState) (a : Account) (stands : Stands l) (agrees : AgreesWith 
   report x = laid
 
   -- ---- the load of the next operation
-  module _ (m : ℕ) (va : Va) (len flags : ℕ) (items : List Item)
-      (here : slice_get l.script l.place ≡ Some (op.Load m (At va) len flags items)) where
-    abbrev spans : List Span
-    spans = one_span va.0 len
+  module _ (m : ℕ) (buffer : Buffer) (flags : ℕ) (items : List Item)
+      (here : slice_get l.script l.place ≡ Some (op.Load m buffer flags items)) where
+    abbrev b : Bio
+    b = (bio-of buffer).bio
+
+    is-bio : IsBioOf l.pages b
+    is-bio = loads-from l.pages l.script l.place m buffer flags items machine.bios here
 
     abbrev x : Asked
-    x = asked m spans (nowait flags) items l
+    x = asked m b (never_waits buffer flags) items l
 
     module _ (o : LaneMap) (there : get l.maps m ≡ Some o) (none : loan_of l.loans m ≡ no_loan)
-        (fine : load_judged l m (span_addresses spans) ≡ Fine) where
+        (fine : load_judged l m b ≡ Fine) where
       -- of a memory's own map
       memory-load : (y : LaneMemory) → get l.mems m ≡ Some y →
           Keeps (load_chunks m o x (chunks_for l o true x.entries) l)
@@ -121,38 +123,40 @@ module _ (l : LaneState) (a : Account) (stands : Stands l) (agrees : AgreesWith 
           chunks = chunks_for l o true x.entries
 
           is : IsReady l m (limits_of l o) x.entries chunks []
-          is = memory-ready l laid machine stands m o there y e va.0 len fine
+          is = memory-ready l laid machine stands m o there y e b fine
 
       -- of another map
       module _ (e : get l.mems m ≡ None) where
         abbrev chunks : List Chunk
         chunks = chunks_for l o false x.entries
 
-        own : AreOfPages l (span_addresses spans)
-        own = direct-bytes l m (span_addresses spans) e fine
+        own : AreOfPages l b
+        own = direct-bytes l m b e fine
 
         is-ready : (pages : List ℕ) → AllByRecursion IsPage (as_pages pages) → length pages ≡ need_of chunks →
             IsReady l m (limits_of l o) x.entries chunks pages
-        is-ready pages whole count = direct-ready l laid machine stands m o there e spans own pages whole count
+        is-ready pages whole count = direct-ready l laid machine stands m o there e b is-bio own pages whole count
 
         abbrev later : LaneState
         later = staged m o (Waiting l.place (need_of chunks)) l
 
         -- what is asked of the driver's pages alone
-        same-asked : asked_at l.place (pages_alone later) ≡ asked m spans (nowait flags) items (pages_alone later)
+        same-asked : asked_at l.place (pages_alone later)
+            ≡ asked m b (never_waits buffer flags) items (pages_alone later)
         same-asked =
             ap (λ q. unwrap_or (option_and_then (λ p. asked_by p (pages_alone later)) q)
             (no_load (pages_alone later))) here
+            ∙ ap (λ q. unwrap_or q (no_load (pages_alone later))) (asks-bio m buffer flags items (pages_alone later))
 
         awaited : IsAwaited later m l.place (need_of chunks)
         awaited = record {
           unlent = none;
-          fine = ap (λ (y : Asked). y.judged) same-asked ∙ alone-fine later m (span_addresses spans) own;
+          fine = ap (λ (y : Asked). y.judged) same-asked ∙ alone-fine later m b own;
           counted = λ o' found.
               let same : record o { tried = true; stage = Waiting l.place (need_of chunks) } ≡ o' =
               found_one (get later.maps m) _ o' (put-there l.maps m _) found in
               let entries : (asked_at l.place (pages_alone later)).entries ≡ x.entries =
-              ap (λ (y : Asked). y.entries) same-asked ∙ pages-entries l (pages_alone later) refl spans own in
+              ap (λ (y : Asked). y.entries) same-asked ∙ pages-entries l (pages_alone later) refl b own in
               λ i. need_of (chunks_of (limits_of later (same i)) l.maxmem (sym entries i));
         }
 
@@ -201,13 +205,15 @@ module _ (l : LaneState) (a : Account) (stands : Stands l) (agrees : AgreesWith 
               subst (λ b. Keeps (load_chunks m o x (chunks_for l o b x.entries) l)) (sym (ap is_some e))
               (memory-load y e)
 
-    load-keeps : Keeps (load m x l)
+    load-keeps : Keeps (load_buffer m buffer flags items l)
     load-keeps =
-        busy l Keeps report m _ (λ o there i.
+        subst (λ q. Keeps (unless_absent q l (λ y. load m (asked m y (never_waits buffer flags) items l) l)))
+        (sym ((bio-of buffer).is l))
+        (busy l Keeps report m _ (λ o there i.
         judged l Keeps report x.judged _ (λ fine.
         either l Keeps report (nat_lt (limits_of l o).maxsize x.len) _ _
         (λ long. staged-still l laid m o (no-loan l laid m o there (idle-unloaded l laid o.stage i)))
-        (λ short. chunked o there (no-loan l laid m o there (idle-unloaded l laid o.stage i)) fine)))
+        (λ short. chunked o there (no-loan l laid m o there (idle-unloaded l laid o.stage i)) fine))))
 
   -- ---- the callback of a load that waited
   module _ (m : MapId) (pages : List Pa) (e : (account_step l.id call.TakeCallback a).reply ≡ reply.Called m pages)
@@ -221,10 +227,10 @@ module _ (l : LaneState) (a : Account) (stands : Stands l) (agrees : AgreesWith 
       at-map z need count w =
           subst (λ y. AreLaid (called k y (addresses pages) l).lane) (sym w.found)
           (subst (λ s. AreLaid (called_in k w.map s (addresses pages) l).lane) (sym w.stage)
-          (subst Ends (sym ((waited l stands laid k z need w).is l refl)) ends))
+          (subst Ends (sym ((waited l stands laid machine k z need w).is l refl)) ends))
         where
           x : Asked
-          x = waited-asked l stands laid k z need w
+          x = waited-asked l stands laid machine k z need w
 
           Ends : Asked → Type 0
           Ends y = AreLaid (finished k w.map w.load_at y (chunks_for l w.map (contains_key l.mems k) y.entries)
@@ -232,16 +238,17 @@ module _ (l : LaneState) (a : Account) (stands : Stands l) (agrees : AgreesWith 
 
           ends : Ends x
           ends =
-              let none = waited-direct l stands laid k z need w in
+              let none = waited-direct l stands laid machine k z need w in
               subst (λ b. AreLaid (finished k w.map w.load_at x (chunks_for l w.map b x.entries) (addresses pages)
               l).lane)
               (sym (ap is_some none))
-              (finished-laid l laid k w.map (waited-lies l stands laid k z need w).unlent w.load_at x
+              (finished-laid l laid k w.map (waited-lies l stands laid machine k z need w).unlent w.load_at x
               (chunks_for l w.map false x.entries) (addresses pages)
-              (direct-ready l laid machine stands k w.map w.found none (waited l stands laid k z need w).spans
-              (waited-own l stands laid k z need w) (addresses pages)
+              (direct-ready l laid machine stands k w.map w.found none (waited l stands laid machine k z need w).bio
+              (waited l stands laid machine k z need w).named
+              (waited-own l stands laid machine k z need w) (addresses pages)
               (whole-again pages (called-whole a frames l.id a.ready m pages e))
-              (as-many pages ∙ count ∙ waited-need l stands laid k z need w)))
+              (as-many pages ∙ count ∙ waited-need l stands laid machine k z need w)))
 
       called-keeps : AreLaid (called k (get l.maps k) (addresses pages) l).lane
       called-keeps =
@@ -272,7 +279,7 @@ module _ (l : LaneState) (a : Account) (stands : Stands l) (agrees : AgreesWith 
   operation-keeps (op.TagDestroy t) e = always (operation (op.TagDestroy t) l) (tag_destroy-still l laid stands t)
   operation-keeps (op.Map name t) e = always (operation (op.Map name t) l) (map-still l laid stands t)
   operation-keeps (op.MapDestroy m) e = always (operation (op.MapDestroy m) l) (map_destroy-still l laid m)
-  operation-keeps (op.Load m (At va) len flags items) e = load-keeps m va len flags items e
+  operation-keeps (op.Load m buffer flags items) e = load-keeps m buffer flags items e
   operation-keeps (op.Unload m) e = always (operation (op.Unload m) l) (unload-still l laid m)
   operation-keeps (op.Sync m ops) e = always (operation (op.Sync m ops) l) (sync-still l laid m ops)
   operation-keeps (op.SyncRange m off len ops) e =

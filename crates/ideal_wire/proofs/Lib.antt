@@ -3,6 +3,8 @@ pub mod Alike
 pub mod AnsweredLoads
 pub mod AnsweredTurns
 pub mod Asked
+pub mod Bios
+pub mod Buffers
 pub mod Buses
 pub mod Calls
 pub mod Carried

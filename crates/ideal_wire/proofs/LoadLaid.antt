@@ -107,6 +107,21 @@ ready l m t t' maxmem es pages some eff flags entries whole count direct loadabl
     chunks : List Chunk
     chunks = chunks_of t' maxmem es
 
+-- so it is with other entries of the same bytes
+pub of-bytes : (l : LaneState) (m : ℕ) (t : TagLimits) (es fs : List Entry) (chunks : List Chunk) (pages : List ℕ) →
+    entries_addresses es ≡ entries_addresses fs → IsReady l m t es chunks pages → IsReady l m t fs chunks pages
+of-bytes l m t es fs chunks pages same r = record {
+  some = r.some;
+  follow = r.follow;
+  bytes = r.bytes ∙ same;
+  are = r.are;
+  extents = r.extents;
+  whole = r.whole;
+  count = r.count;
+  direct = r.direct;
+  loadable = subst (AllByRecursion (λ a. is_loadable (get l.mems m) l a ≡ true)) same r.loadable;
+}
+
 module _ (l : LaneState) (laid : AreLaid l) (m : ℕ) (o : LaneMap) (none : loan_of l.loans m ≡ no_loan)
     (load_at : ℕ) (x : Asked) (chunks : List Chunk) (pages : List ℕ)
     (r : IsReady l m (limits_of l o) x.entries chunks pages) where

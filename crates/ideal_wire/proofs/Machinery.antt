@@ -13,7 +13,7 @@ use Rattle.busdma_base.specs.Bounce.Opening.{maxmem_of}
 use Rattle.busdma_base.specs.Each.{EachAfter}
 use Rattle.busdma_base.specs.Machine.FrameRuns.{IsFrameRun, is_in}
 use Rattle.busdma_base.specs.Machine.PageRuns.{IsPageRun, all_in}
-use Rattle.busdma_base.specs.Scenarios.Valid.{IsDriver, IsValid}
+use Rattle.busdma_base.specs.Scenarios.Valid.{IsDriver, IsValid, LoadsFrom}
 use Rattle.ideal_lane.specs.Opening.{opening_lane}
 use Rattle.ideal_lane.specs.State.{LaneTag, LaneMemory}
 use Rattle.ideal_wire.specs.Machine.{IsOfMachine, IsInMachine}
@@ -57,25 +57,29 @@ pages-of frames earlier before (r ∷ pages) h = (
   pages-of frames earlier (before ++ r ∷ []) pages h.1,
 )
 
--- each driver of a valid scenario has such pages
-driver-pages : (frames : List FrameRun) (before drivers : List Driver) (i : ℕ) (d : Driver) →
-    EachAfter (IsDriver frames) before drivers → slice_get drivers i ≡ Some d →
-    AllByRecursion (IsOfMachine (maxmem_of frames)) d.pages
-driver-pages frames before [] i d h at = absurd (cc)
-driver-pages frames before (e ∷ drivers) zero d h at =
+-- a driver's pages are of the machine, and the frames that its script names are of its pages
+record IsOfDriver (frames : List FrameRun) (d : Driver) : Type 0 where
+  pub pages : AllByRecursion (IsOfMachine (maxmem_of frames)) d.pages
+  pub bios : AllByRecursion (LoadsFrom d.pages) d.script
+
+-- so is each driver of a valid scenario
+of-driver : (frames : List FrameRun) (before drivers : List Driver) (i : ℕ) (d : Driver) →
+    EachAfter (IsDriver frames) before drivers → slice_get drivers i ≡ Some d → IsOfDriver frames d
+of-driver frames before [] i d h at = absurd (cc)
+of-driver frames before (e ∷ drivers) zero d h at =
     let same : e ≡ d = Rattle.ideal_wire.proofs.Positions.found_one (Some e) e d refl at in
-    subst (λ (x : Driver). AllByRecursion (IsOfMachine (maxmem_of frames)) x.pages) same
-    (pages-of frames before [] e.pages h.0.pages)
-driver-pages frames before (e ∷ drivers) (suc i) d h at =
-    driver-pages frames (before ++ e ∷ []) drivers i d h.1 at
+    subst (IsOfDriver frames) same
+    (record { pages = pages-of frames before [] e.pages h.0.pages; bios = h.0.bios })
+of-driver frames before (e ∷ drivers) (suc i) d h at = of-driver frames (before ++ e ∷ []) drivers i d h.1 at
 
 pub opens-in-machine : (s : Scenario) (i : ℕ) (driver : Driver) → IsValid s → slice_get s.drivers i ≡ Some driver →
     IsInMachine (opening_lane i (maxmem_of s.frames) driver)
 opens-in-machine s i driver valid at = record {
   numbered = numbered [] s.frames valid.frames;
-  pages = driver-pages s.frames [] s.drivers i driver valid.drivers at;
+  pages = (of-driver s.frames [] s.drivers i driver valid.drivers at).pages;
   mems = λ k x e. no_memory k x e;
   tags = λ k t e. no_tag k t e;
+  bios = (of-driver s.frames [] s.drivers i driver valid.drivers at).bios;
 }
   where
     no_memory : {A : Type 0} (k : ℕ) (x : LaneMemory) → get (empty {X = LaneMemory} {R = nat_cmp}) k ≡ Some x → A

@@ -6,6 +6,7 @@ use Rattle.std.proofs.lemmas.Bool.{and_parts, or_cases, eqb-true, leb-true}
 use Rattle.std.proofs.lemmas.Bool.Decides.{nat_tests}
 use Rattle.std.specs.FinMap.{get, insert, remove, contains_key}
 use Rattle.std.specs.Int.{IsPowerOfTwo}
+use Rattle.std.specs.List.{AllByRecursion}
 use Rattle.busdma_base.specs.declared.bounce.hold.HubCall.TheVariants as call
 use Rattle.busdma_base.specs.declared.bounce.hold.HubReply.{HubReply}
 use Rattle.busdma_base.specs.declared.bounce.hold.HubReply.TheVariants as reply
@@ -17,6 +18,7 @@ use Rattle.busdma_base.specs.declared.journals.report.Report.{Report}
 use Rattle.busdma_base.specs.declared.journals.report.ReportName.TheVariants.{MixedSync}
 use Rattle.busdma_base.specs.declared.machine.address.Segment.{Segment}
 use Rattle.busdma_base.specs.declared.machine.chunk.Chunk.{Chunk}
+use Rattle.busdma_base.specs.declared.scenarios.buffer.Buffer.{Buffer}
 use Rattle.busdma_base.specs.declared.scenarios.script.Item.{Item}
 use Rattle.busdma_base.specs.declared.scenarios.script.Item.TheVariants as item
 use Rattle.busdma_base.specs.declared.scenarios.script.Op.{Op}
@@ -26,10 +28,10 @@ use Rattle.busdma_base.specs.declared.tags.tag.TagLimits.{TagLimits}
 use Rattle.busdma_base.specs.Bounce.AccountStep.{as_pages}
 use Rattle.busdma_base.specs.Runs.{run_of}
 use Rattle.busdma_base.specs.Scenarios.Operations.{bytes_of}
+use Rattle.busdma_base.specs.Scenarios.Valid.{LoadsFrom}
 use Rattle.busdma_base.specs.Tags.Tag.{IsAccepted, IsEffective, is_accepted, is_alignment, is_boundary, is_power_of_two}
 use Rattle.busdma_base.specs.Tags.Tag.{segment_limit, rounded, inherit, effective, could_bounce}
 use Rattle.busdma_base.specs.Tags.TagFlags.{allocnow}
-use Rattle.dma_tag.specs.LoadFlags.{nowait}
 use Rattle.dma_tag.specs.SyncOps.{is_mixed}
 use Rattle.dma_tag.proofs.Effective.{IsEffective-rounded, IsEffective-inherit}
 use Rattle.dma_tag.proofs.Powers.{power_of_divisor}
@@ -39,7 +41,6 @@ use Rattle.lane_tables.specs.declared.queued.QueuedItem.{QueuedItem}
 use Rattle.loan_table.specs.Access.{cpu_read_answer, cpu_write_answer, dev_read_answer, dev_write_answer}
 use Rattle.loan_table.specs.Lending.{sync_answer, synced, lost}
 use Rattle.loan_table.specs.Loans.{loan_of, load_bytes}
-use Rattle.busdma_base.specs.Machine.Spans.{one_span}
 use Rattle.segment_build.specs.Building.{tag_placed, placed_pieces}
 use Rattle.segment_build.specs.Chunks.{need_of}
 use Rattle.segment_build.specs.Segmentation.{segmentation}
@@ -56,10 +57,11 @@ use Rattle.ideal_lane.specs.Places.{virtual_at, reached, bytes_at}
 use Rattle.ideal_lane.specs.Syncs.{copies, counted, sync_part, sync, sync_range}
 use Rattle.ideal_lane.specs.Tags.{with_tag, attached, tag_or_invalid, tag, tag_destroy, has_maps}
 use Rattle.ideal_lane.specs.Turns.{Turned, operation, transfer, waits, asked_at, called, called_in, lane_step}
+use Rattle.ideal_lane.specs.Turns.{bio_at, load_buffer, never_waits}
 use Rattle.ideal_lane.specs.Turns as turns
 use Rattle.ideal_lane.specs.Unloads.{unload, restaged, given_back, after_return}
 use Rattle.ideal_lane.proofs.Lookups.{get_put, get_cut}
-use Rattle.ideal_wire.specs.Machine.{IsInMachine}
+use Rattle.ideal_wire.specs.Machine.{IsOfMachine, IsInMachine}
 use Rattle.ideal_wire.proofs.Refusing.{absent, judged, either, busy, unloaded, past}
 
 -- ---- effective tags
@@ -117,30 +119,38 @@ effective-below p s t parent h = by (is_accepted s) refl h
     by false e g = absurd (cc)
 
 -- ---- steps
+
+-- a step that changes neither the machine nor a tag
+like-of : (k j : LaneState) → IsInMachine k → j.maxmem ≡ k.maxmem → j.pages ≡ k.pages → j.script ≡ k.script →
+    j.mems ≡ k.mems → j.tags ≡ k.tags → IsInMachine j
+like-of k j h maxmem pages script mems tags = record {
+  numbered = subst (λ n. n ≤ 2 ^ 30) (sym maxmem) h.numbered;
+  pages =
+      subst (λ n. AllByRecursion (IsOfMachine n) j.pages) (sym maxmem)
+      (subst (AllByRecursion (IsOfMachine k.maxmem)) (sym pages) h.pages);
+  mems = λ i x e. subst (λ n. x.first + 4096 * x.count ≤ 4096 * n) (sym maxmem)
+      (h.mems i x (sym (λ q. get (mems q) i) ∙ e));
+  tags = λ i t e. h.tags i t (sym (λ q. get (tags q) i) ∙ e);
+  bios =
+      subst (λ ops. AllByRecursion (LoadsFrom j.pages) ops) (sym script)
+      (subst (λ runs. AllByRecursion (LoadsFrom runs) k.script) (sym pages) h.bios);
+}
+
 module _ (l : LaneState) (m : IsInMachine l) where
-  -- a step that changes no tag
-  like : (k : LaneState) → k.maxmem ≡ l.maxmem → k.pages ≡ l.pages → k.mems ≡ l.mems → k.tags ≡ l.tags → IsInMachine k
-  like k maxmem pages mems tags = record {
-    numbered = subst (λ n. n ≤ 2 ^ 30) (sym maxmem) m.numbered;
-    pages =
-        subst (λ n. Rattle.std.specs.List.AllByRecursion (Rattle.ideal_wire.specs.Machine.IsOfMachine n) k.pages)
-        (sym maxmem)
-        (subst (Rattle.std.specs.List.AllByRecursion (Rattle.ideal_wire.specs.Machine.IsOfMachine l.maxmem)) (sym pages)
-        m.pages);
-    mems = λ j x e. subst (λ n. x.first + 4096 * x.count ≤ 4096 * n) (sym maxmem)
-        (m.mems j x (sym (λ i. get (mems i) j) ∙ e));
-    tags = λ j t e. m.tags j t (sym (λ i. get (tags i) j) ∙ e);
-  }
+  like : (k : LaneState) → k.maxmem ≡ l.maxmem → k.pages ≡ l.pages → k.script ≡ l.script → k.mems ≡ l.mems →
+      k.tags ≡ l.tags → IsInMachine k
+  like k = like-of l k m
 
   -- a step that puts a tag
   put : (k : LaneState) (at : ℕ) (t : LaneTag) → IsEffective t.limits → k.maxmem ≡ l.maxmem → k.pages ≡ l.pages →
-      k.mems ≡ l.mems → k.tags ≡ insert l.tags at t → IsInMachine k
-  put k at t good maxmem pages mems tags =
-      let old = like (record k { tags = l.tags }) maxmem pages mems refl in
+      k.script ≡ l.script → k.mems ≡ l.mems → k.tags ≡ insert l.tags at t → IsInMachine k
+  put k at t good maxmem pages script mems tags =
+      let old = like (record k { tags = l.tags }) maxmem pages script mems refl in
       record {
         numbered = old.numbered;
         pages = old.pages;
         mems = old.mems;
+        bios = old.bios;
         tags = λ j x e. by j x (j == at) (sym (get_put l.tags at t j) ∙ (sym (λ i. get (tags i) j) ∙ e));
       }
     where
@@ -149,14 +159,15 @@ module _ (l : LaneState) (m : IsInMachine l) where
           subst (λ (y : LaneTag). IsEffective y.limits) same good
       by j x false e = m.tags j x e
 
-  cut : (k : LaneState) (at : ℕ) → k.maxmem ≡ l.maxmem → k.pages ≡ l.pages → k.mems ≡ l.mems →
+  cut : (k : LaneState) (at : ℕ) → k.maxmem ≡ l.maxmem → k.pages ≡ l.pages → k.script ≡ l.script → k.mems ≡ l.mems →
       k.tags ≡ remove l.tags at → IsInMachine k
-  cut k at maxmem pages mems tags =
-      let old = like (record k { tags = l.tags }) maxmem pages mems refl in
+  cut k at maxmem pages script mems tags =
+      let old = like (record k { tags = l.tags }) maxmem pages script mems refl in
       record {
         numbered = old.numbered;
         pages = old.pages;
         mems = old.mems;
+        bios = old.bios;
         tags = λ j x e. by j x (j == at) (sym (get_cut l.tags at j) ∙ (sym (λ i. get (tags i) j) ∙ e));
       }
     where
@@ -174,7 +185,7 @@ module _ (l : LaneState) (m : IsInMachine l) where
   attached-keeps t good (reply.Grown g) = by g.made
     where
       by : (b : Bool) → IsInMachine (if b then with_tag l.place t true l else l)
-      by true = put (with_tag l.place t true l) l.place (record { limits = t; first_done = true }) good refl refl refl refl
+      by true = put (with_tag l.place t true l) l.place (record { limits = t; first_done = true }) good refl refl refl refl refl
       by false = m
   attached-keeps t good reply.Nothing = m
   attached-keeps t good (reply.Granted pages) = m
@@ -192,7 +203,7 @@ module _ (l : LaneState) (m : IsInMachine l) where
       (gives (with_tag l.place t false l) answer.Done)
       (λ b r. attached-keeps t (good t refl) r)
       (λ b r. put (with_tag l.place t false l) l.place (record { limits = t; first_done = false }) (good t refl)
-      refl refl refl refl) r
+      refl refl refl refl refl) r
 
   tag-keeps : (parent : Option ℕ) (limits : TagLimits) → Keeps (tag parent limits l)
   tag-keeps None limits = tag_or-keeps (effective None limits) (λ s e. effective-alone limits s e)
@@ -205,7 +216,7 @@ module _ (l : LaneState) (m : IsInMachine l) where
   tag_destroy-keeps t =
       absent l Keeps report (get l.tags t) _ (λ x e.
       either l Keeps report (has_maps l t) _ _ (λ b r. m)
-      (λ b r. cut (record l { tags = remove l.tags t }) t refl refl refl refl))
+      (λ b r. cut (record l { tags = remove l.tags t }) t refl refl refl refl refl))
 
   created-keeps : (t : ℕ) (o : LaneTag) → get l.tags t ≡ Some o → (r : HubReply) → IsInMachine (created t o l r).lane
   created-keeps t o there (reply.Grown g) = by g.made
@@ -214,7 +225,7 @@ module _ (l : LaneState) (m : IsInMachine l) where
       made = with_tag t o.limits true (with_map t (Some g.zone.0) l)
 
       by : (b : Bool) → IsInMachine (if b then made else l)
-      by true = put made t (record { limits = o.limits; first_done = true }) (m.tags t o there) refl refl refl refl
+      by true = put made t (record { limits = o.limits; first_done = true }) (m.tags t o there) refl refl refl refl refl
       by false = m
   created-keeps t o there reply.Nothing = m
   created-keeps t o there (reply.Granted pages) = m
@@ -229,11 +240,11 @@ module _ (l : LaneState) (m : IsInMachine l) where
   map-keeps t =
       absent l Keeps report (get l.tags t) _ (λ o e.
       either l Keeps report (could_bounce o.limits l.maxmem) _ _
-      (λ b r. created-keeps t o e r) (λ b r. like (with_map t None l) refl refl refl refl))
+      (λ b r. created-keeps t o e r) (λ b r. like (with_map t None l) refl refl refl refl refl))
 
   end-keeps : (n : ℕ) (zone : Option ℕ) → Keeps (end_map n zone l)
-  end-keeps n None r = like (record l { maps = remove l.maps n }) refl refl refl refl
-  end-keeps n (Some z) r = like (record l { maps = remove l.maps n }) refl refl refl refl
+  end-keeps n None r = like (record l { maps = remove l.maps n }) refl refl refl refl refl
+  end-keeps n (Some z) r = like (record l { maps = remove l.maps n }) refl refl refl refl refl
 
   map_destroy-keeps : (n : ℕ) → Keeps (map_destroy n l)
   map_destroy-keeps n =
@@ -257,22 +268,22 @@ module _ (l : LaneState) (m : IsInMachine l) where
 
       by : (b : Bool) → IsInMachine (Outcome.lane (if b then record { lane = fits; answer = answer.Segments segments }
           else record { lane = unpaged n o pages l; answer = answer.Refused EFBIG }))
-      by true = like fits refl refl refl refl
-      by false = like (unpaged n o pages l) refl refl refl refl
+      by true = like fits refl refl refl refl refl
+      by false = like (unpaged n o pages l) refl refl refl refl refl
 
   granted-keeps : (n : ℕ) (o : LaneMap) (x : Asked) (chunks : List Chunk) (r : HubReply) →
       IsInMachine (granted n o x chunks l r).lane
   granted-keeps n o x chunks (reply.Granted pages) = finished-keeps n o l.place x chunks (addresses pages)
-  granted-keeps n o x chunks (reply.Queued have) = like (granted n o x chunks l (reply.Queued have)).lane refl refl refl refl
-  granted-keeps n o x chunks reply.Nothing = like (granted n o x chunks l reply.Nothing).lane refl refl refl refl
-  granted-keeps n o x chunks (reply.Grown g) = like (granted n o x chunks l (reply.Grown g)).lane refl refl refl refl
-  granted-keeps n o x chunks reply.NoPages = like (granted n o x chunks l reply.NoPages).lane refl refl refl refl
-  granted-keeps n o x chunks (reply.Served k) = like (granted n o x chunks l (reply.Served k)).lane refl refl refl refl
+  granted-keeps n o x chunks (reply.Queued have) = like (granted n o x chunks l (reply.Queued have)).lane refl refl refl refl refl
+  granted-keeps n o x chunks reply.Nothing = like (granted n o x chunks l reply.Nothing).lane refl refl refl refl refl
+  granted-keeps n o x chunks (reply.Grown g) = like (granted n o x chunks l (reply.Grown g)).lane refl refl refl refl refl
+  granted-keeps n o x chunks reply.NoPages = like (granted n o x chunks l reply.NoPages).lane refl refl refl refl refl
+  granted-keeps n o x chunks (reply.Served k) = like (granted n o x chunks l (reply.Served k)).lane refl refl refl refl refl
   granted-keeps n o x chunks (reply.Called k pages) =
-      like (granted n o x chunks l (reply.Called k pages)).lane refl refl refl refl
+      like (granted n o x chunks l (reply.Called k pages)).lane refl refl refl refl refl
   granted-keeps n o x chunks (reply.Run first count) =
-      like (granted n o x chunks l (reply.Run first count)).lane refl refl refl refl
-  granted-keeps n o x chunks reply.NoRun = like (granted n o x chunks l reply.NoRun).lane refl refl refl refl
+      like (granted n o x chunks l (reply.Run first count)).lane refl refl refl refl refl
+  granted-keeps n o x chunks reply.NoRun = like (granted n o x chunks l reply.NoRun).lane refl refl refl refl refl
 
   chunks-keep : (n : ℕ) (o : LaneMap) (x : Asked) (chunks : List Chunk) → Keeps (load_chunks n o x chunks l)
   chunks-keep n o x chunks =
@@ -285,18 +296,16 @@ module _ (l : LaneState) (m : IsInMachine l) where
       busy l Keeps report n _ (λ o e i.
       judged l Keeps report x.judged _ (λ fine.
       either l Keeps report (nat_lt (limits_of l o).maxsize x.len) _ _
-      (λ b r. like (record l { maps = insert l.maps n (record o { tried = true; stage = Idle }) }) refl refl refl refl)
+      (λ b r. like (record l { maps = insert l.maps n (record o { tried = true; stage = Idle }) }) refl refl refl refl refl)
       (λ b. chunks-keep n o x (chunks_for l o (contains_key l.mems n) x.entries))))
 
-  load-at-keeps : (n : ℕ) (place : Place) (len flags : ℕ) (items : List Item) →
-      Keeps (turns.load_at_place n place len flags items l)
-  load-at-keeps n place len flags items =
-      absent l Keeps report (virtual_at l place)
-      (λ va. load n (asked n (one_span va len) (nowait flags) items l) l)
-      (λ va e. load-keeps n (asked n (one_span va len) (nowait flags) items l))
+  buffer-keeps : (n : ℕ) (x : Buffer) (flags : ℕ) (items : List Item) → Keeps (load_buffer n x flags items l)
+  buffer-keeps n x flags items =
+      absent l Keeps report (bio_at l x) (λ b. load n (asked n b (never_waits x flags) items l) l)
+      (λ b e. load-keeps n (asked n b (never_waits x flags) items l))
 
   unload-keeps : (n : ℕ) → Keeps (unload n l)
-  unload-keeps n = unloaded l Keeps report n _ (λ o e i r. like _ refl refl refl refl)
+  unload-keeps n = unloaded l Keeps report n _ (λ o e i r. like _ refl refl refl refl refl)
 
   part-keeps : (n : ℕ) (o : LaneMap) (off len ops : ℕ) → Keeps (sync_part n o off len ops l)
   part-keeps n o off len ops =
@@ -304,7 +313,7 @@ module _ (l : LaneState) (m : IsInMachine l) where
       (gives after answer.Done))
       (λ mixed r. m)
       (λ alone. judged l Keeps report (sync_answer l.loans n off len ops) (gives after answer.Done)
-      (λ fine r. like after refl refl refl refl))
+      (λ fine r. like after refl refl refl refl refl))
     where
       after : LaneState
       after = record l {
@@ -331,7 +340,7 @@ module _ (l : LaneState) (m : IsInMachine l) where
       (gives l (answer.Bytes (values l (bytes_at l (run_of va len))))) (λ allowed r. m)))
 
   write-keeps : (bytes vs : List ℕ) → Keeps (gives (record l { memory = written bytes vs l.memory }) answer.Done)
-  write-keeps bytes vs r = like (record l { memory = written bytes vs l.memory }) refl refl refl refl
+  write-keeps bytes vs r = like (record l { memory = written bytes vs l.memory }) refl refl refl refl refl
 
   cpu_write-keeps : (place : Place) (vs : List ℕ) → Keeps (cpu_write place vs l)
   cpu_write-keeps place vs =
@@ -359,7 +368,7 @@ module _ (l : LaneState) (m : IsInMachine l) where
   operation-keeps (op.TagDestroy t) = tag_destroy-keeps t
   operation-keeps (op.Map name t) = map-keeps t
   operation-keeps (op.MapDestroy n) = map_destroy-keeps n
-  operation-keeps (op.Load n place len flags items) = load-at-keeps n place len flags items
+  operation-keeps (op.Load n x flags items) = buffer-keeps n x flags items
   operation-keeps (op.Unload n) = unload-keeps n
   operation-keeps (op.Sync n ops) = sync-keeps n ops
   operation-keeps (op.SyncRange n off len ops) = sync_range-keeps n off len ops
@@ -377,33 +386,15 @@ module _ (l : LaneState) (m : IsInMachine l) where
   abbrev Turns : Asking Turned → Type 0
   Turns t = (r : HubReply) → IsInMachine (by_reply t r).lane
 
-  moved : (k j : LaneState) → IsInMachine k → j.maxmem ≡ k.maxmem → j.pages ≡ k.pages → j.mems ≡ k.mems →
-      j.tags ≡ k.tags → IsInMachine j
-  moved k j h maxmem pages mems tags = like-of k h j maxmem pages mems tags
-    where
-      like-of : (k : LaneState) → IsInMachine k → (j : LaneState) → j.maxmem ≡ k.maxmem → j.pages ≡ k.pages →
-          j.mems ≡ k.mems → j.tags ≡ k.tags → IsInMachine j
-      like-of k h j maxmem pages mems tags = record {
-        numbered = subst (λ n. n ≤ 2 ^ 30) (sym maxmem) h.numbered;
-        pages =
-            subst (λ n. Rattle.std.specs.List.AllByRecursion (Rattle.ideal_wire.specs.Machine.IsOfMachine n) j.pages)
-            (sym maxmem)
-            (subst (Rattle.std.specs.List.AllByRecursion (Rattle.ideal_wire.specs.Machine.IsOfMachine k.maxmem))
-            (sym pages) h.pages);
-        mems = λ i x e. subst (λ n. x.first + 4096 * x.count ≤ 4096 * n) (sym maxmem)
-            (h.mems i x (sym (λ q. get (mems q) i) ∙ e));
-        tags = λ i t e. h.tags i t (sym (λ q. get (tags q) i) ∙ e);
-      }
-
   goes-on : (place : ℕ) (o : Asking Outcome) → Keeps o → Turns (asking.goes_on (turns.advanced place) o)
-  goes-on place (Gives x) h r = moved x.lane (record x.lane { place = place + 1 }) (h r) refl refl refl refl
+  goes-on place (Gives x) h r = like-of x.lane (record x.lane { place = place + 1 }) (h r) refl refl refl refl refl
   goes-on place (Asks c k) h r =
-      moved (k r).lane (record (k r).lane { place = place + 1 }) (h r) refl refl refl refl
+      like-of (k r).lane (record (k r).lane { place = place + 1 }) (h r) refl refl refl refl refl
 
   leaves : (q : QueuedItem) (rest : List QueuedItem) (o : Asking Outcome) → Keeps o →
       Turns (asking.goes_on (turns.left_queue q rest) o)
-  leaves q rest (Gives x) h r = moved x.lane (record x.lane { queue = rest }) (h r) refl refl refl refl
-  leaves q rest (Asks c k) h r = moved (k r).lane (record (k r).lane { queue = rest }) (h r) refl refl refl refl
+  leaves q rest (Gives x) h r = like-of x.lane (record x.lane { queue = rest }) (h r) refl refl refl refl refl
+  leaves q rest (Asks c k) h r = like-of (k r).lane (record (k r).lane { queue = rest }) (h r) refl refl refl refl refl
 
   nothing : (t : turns.Turn) → Turns (Gives (turns.stays t l))
   nothing t r = m
@@ -422,9 +413,9 @@ module _ (l : LaneState) (m : IsInMachine l) where
     where
       by : (y : Option LaneMap) →
           IsInMachine (record (restaged x.map y (after_return x.map rest) l) { returns = rest })
-      by None = like (record l { returns = rest }) refl refl refl refl
+      by None = like (record l { returns = rest }) refl refl refl refl refl
       by (Some o) =
-          like (record (restaged x.map (Some o) (after_return x.map rest) l) { returns = rest }) refl refl refl refl
+          like (record (restaged x.map (Some o) (after_return x.map rest) l) { returns = rest }) refl refl refl refl refl
 
   release-keeps : (x : Return) (rest : List Return) → Turns (turns.release x rest l)
   release-keeps x rest r = given-keeps x rest

@@ -1,11 +1,14 @@
 -- What a load of a memory's own map asks can end without pages.
 use Rattle.std.proofs.Common.{◌≡◌, ℕ, ◌+◌, ◌-◌, ◌*◌, ◌<◌, ◌≤◌, ◌==◌, ◌&&◌, not, Bool, true, false, cond}
-use Rattle.std.proofs.Common.{List, [], ◌∷◌, ◌++◌, length, Some, None, slice_get, is_some, append-nil}
+use Rattle.std.proofs.Common.{List, [], ◌∷◌, map, length, zero, suc, Some, None, slice_get, is_some, append-nil}
 use Rattle.std.proofs.Common.{refl, ap, sym, ◌∙◌, subst, arith, nat_le, nat_lt, unwrap_or}
-use Rattle.std.proofs.lemmas.Bool.{and_parts, ltb-true, le-leb, lt-ltb, eqb-true, le-ltb}
+use Rattle.std.proofs.lemmas.Bool.{and_parts, ltb-true, le-leb, lt-ltb, eqb-true, false≢true, le-ltb}
 use Rattle.std.specs.FinMap.{get, contains_key}
 use Rattle.std.specs.List.{AllByRecursion}
 use Rattle.busdma_base.specs.declared.journals.report.Judged.TheVariants.{Fine}
+use Rattle.busdma_base.specs.declared.machine.address.Span.{Span}
+use Rattle.busdma_base.specs.declared.machine.bio.Bio.{Bio}
+use Rattle.busdma_base.specs.declared.machine.bio.Bio.TheVariants.{Mapped, Vector, Unmapped}
 use Rattle.busdma_base.specs.declared.machine.chunk.Entry.{Entry}
 use Rattle.busdma_base.specs.declared.scenarios.scenario.PageRun.{PageRun}
 use Rattle.busdma_base.specs.declared.tags.tag.TagLimits.{TagLimits}
@@ -16,12 +19,12 @@ use Rattle.busdma_base.specs.Runs.{run_of}
 use Rattle.busdma_base.specs.Tags.Tag.{IsEffective}
 use Rattle.phys_memory.specs.Extents.{reached}
 use Rattle.phys_memory.specs.Translation.{physical_or_0}
-use Rattle.busdma_base.specs.Machine.Spans.{one_span}
+use Rattle.busdma_base.specs.Machine.Spans.{one_span, span_addresses}
 use Rattle.phys_memory.specs.Vector.{entries_of, with_entry}
 use Rattle.phys_memory.proofs.Extents.{reached_extents}
 use Rattle.phys_memory.proofs.Vectors.{entries_are}
 use Rattle.segment_build.specs.Chunks.{chunks_of, need_of}
-use Rattle.ideal_lane.specs.Loads.{chunks_for, is_foreign_to, limits_of, load_judged, one_entry}
+use Rattle.ideal_lane.specs.Loads.{chunks_for, is_foreign_to, limits_of, load_entries, load_judged, one_entry}
 use Rattle.ideal_lane.specs.Places.{begin_of, or_in_memory, physical}
 use Rattle.ideal_lane.specs.Standing.{Stands}
 use Rattle.ideal_lane.specs.State.{LaneState, LaneMap, LaneMemory}
@@ -30,9 +33,9 @@ use Rattle.ideal_wire.specs.Laid.{is_loadable, AreLaid}
 use Rattle.ideal_wire.specs.Machine.{IsOfMachine, IsInMachine}
 use Rattle.ideal_wire.proofs.Accepting.{limits-effective}
 use Rattle.ideal_wire.proofs.Asked.{all-map}
-use Rattle.ideal_wire.proofs.LoadLaid.{IsReady, ready}
-use Rattle.ideal_wire.proofs.Reaching.{all-from, all-reached, each-byte, entries-bytes, in-memory, paged}
-use Rattle.ideal_wire.proofs.Reaching.{with-bytes}
+use Rattle.ideal_wire.proofs.LoadLaid.{IsReady, of-bytes, ready}
+use Rattle.ideal_wire.proofs.Reaching.{AllReached, all-from, all-reached, each-byte, entries-bytes, in-memory, paged}
+use Rattle.ideal_wire.proofs.Reaching.{reached-run, with-bytes}
 
 -- a tag whose alignment is 1 is as effective
 unaligned : (t : TagLimits) → IsEffective t → IsEffective (record t { alignment = 1 })
@@ -63,81 +66,140 @@ no-page maxmem (r ∷ runs) va all high =
     outside = let end : r.va.0 + 4096 * r.count ≤ va = omega (arith, all.0.low, high) in
         ap (λ b. nat_le r.va.0 va && b) (le-ltb va (r.va.0 + 4096 * r.count) end) ∙ off (nat_le r.va.0 va)
 
+-- bytes that stand at their places from a first one on are a run
+run-of-places : (begin : ℕ) (vas : List ℕ) → ((k va : ℕ) → slice_get vas k ≡ Some va → va ≡ begin + k) →
+    vas ≡ run_of begin (length vas)
+run-of-places begin [] h = refl
+run-of-places begin (va ∷ vas) h =
+    let first : va ≡ begin = h 0 va refl ∙ omega arith in
+    let rest : vas ≡ run_of (begin + 1) (length vas) =
+    run-of-places (begin + 1) vas (λ k x e. h (suc k) x e ∙ omega arith) in
+    λ i. first i ∷ rest i
+
 module _ (l : LaneState) (laid : AreLaid l) (machine : IsInMachine l) (stands : Stands l) (m : ℕ) (o : LaneMap)
-    (there : get l.maps m ≡ Some o) (y : LaneMemory) (memory : get l.mems m ≡ Some y) (va len : ℕ)
-    (fine : load_judged l m (run_of va len ++ []) ≡ Fine) where
+    (there : get l.maps m ≡ Some o) (y : LaneMemory) (memory : get l.mems m ≡ Some y) where
   abbrev t : TagLimits
   t = limits_of l o
 
-  abbrev es : List Entry
-  es = entries_of true (physical l) (one_span va len)
+  -- ---- a load of spans
+  module _ (spans : List Span) (fine : load_judged l m (Vector spans) ≡ Fine) where
+    abbrev es : List Entry
+    es = entries_of true (physical l) spans
 
-  -- each byte is the memory's
-  abbrev Own : ℕ → Type 0
-  Own b = is_loadable (get l.mems m) l (physical_or_0 (physical l) b) ≡ true
+    abbrev vas : List ℕ
+    vas = span_addresses spans
 
-  own-byte : (k b : ℕ) → slice_get (run_of va len ++ []) k ≡ Some b → Own b
-  own-byte k b e =
-      let r = each-byte l m (run_of va len ++ []) fine k b e in
-      by r.0 r.1 (yes (b == begin_of y + k && nat_lt k y.len) (sym (ap (λ q. is_foreign_to q l k b) memory) ∙ r.2))
-    where
-      yes : (c : Bool) → not c ≡ false → c ≡ true
-      yes true h = refl
-      yes false h = absurd (cc)
+    -- each byte is the memory's, at its place
+    record IsOwn (k va : ℕ) : Type 0 where
+      pub place : va ≡ begin_of y + k
+      pub loadable : is_loadable (get l.mems m) l (physical_or_0 (physical l) va) ≡ true
 
-      by : (p : ℕ) → physical l b ≡ Some p → (b == begin_of y + k && nat_lt k y.len) ≡ true → Own b
-      by p at both =
-          let parts = and_parts (b == begin_of y + k) (nat_lt k y.len) both in
-          let is : b ≡ pages_end + y.first + k = eqb-true b (begin_of y + k) parts.0 in
-          let inside : k < y.len = ltb-true k y.len parts.1 in
-          let none : physical_in l.pages b ≡ None = no-page l.maxmem l.pages b machine.pages (omega (arith, is)) in
-          let found = in-memory l laid machine b p (sym (ap (or_in_memory l b) none) ∙ at) in
-          let place : p ≡ y.first + k = omega (arith, found.1, is) in
-          let room : y.len ≤ 4096 * y.count = (laid.runs m y memory).room in
-          let here : in_run y.first y.count p ≡ true =
-          rw (
-            le-leb y.first p (omega (arith, place)),
-            lt-ltb p (y.first + 4096 * y.count) (omega (arith, place, inside, room)),
-          ) refl in
-          ap (λ q. is_loadable q l (physical_or_0 (physical l) b)) memory
-          ∙ ap (λ q. in_run y.first y.count (unwrap_or q 0)) at ∙ here
+    own-byte : (k va : ℕ) → slice_get vas k ≡ Some va → IsOwn k va
+    own-byte k va e =
+        let r = each-byte l m (Vector spans) fine k va e in
+        by r.0 r.1 (yes (va == begin_of y + k && nat_lt k y.len) (sym (ap (λ q. is_foreign_to q l k va) memory) ∙ r.2))
+      where
+        yes : (c : Bool) → not c ≡ false → c ≡ true
+        yes true h = refl
+        yes false h = absurd (cc)
 
-  loadable : AllByRecursion (λ a. is_loadable (get l.mems m) l a ≡ true) (entries_addresses es)
-  loadable =
-      subst (AllByRecursion (λ a. is_loadable (get l.mems m) l a ≡ true))
-      (sym (entries-bytes (physical l) (paged l laid machine) true (one_span va len)
-      (all-reached l m (run_of va len ++ []) fine)))
-      (all-map (physical_or_0 (physical l)) (λ a. is_loadable (get l.mems m) l a ≡ true) (run_of va len ++ [])
-      (all-from Own (run_of va len ++ []) own-byte))
+        by : (p : ℕ) → physical l va ≡ Some p → (va == begin_of y + k && nat_lt k y.len) ≡ true → IsOwn k va
+        by p at both =
+            let parts = and_parts (va == begin_of y + k) (nat_lt k y.len) both in
+            let is : va ≡ pages_end + y.first + k = eqb-true va (begin_of y + k) parts.0 in
+            let inside : k < y.len = ltb-true k y.len parts.1 in
+            let none : physical_in l.pages va ≡ None =
+            no-page l.maxmem l.pages va machine.pages (omega (arith, is)) in
+            let found = in-memory l laid machine va p (sym (ap (or_in_memory l va) none) ∙ at) in
+            let place : p ≡ y.first + k = omega (arith, found.1, is) in
+            let room : y.len ≤ 4096 * y.count = (laid.runs m y memory).room in
+            let here : in_run y.first y.count p ≡ true =
+            rw (
+              le-leb y.first p (omega (arith, place)),
+              lt-ltb p (y.first + 4096 * y.count) (omega (arith, place, inside, room)),
+            ) refl in
+            record {
+              place = is;
+              loadable =
+                  ap (λ q. is_loadable q l (physical_or_0 (physical l) va)) memory
+                  ∙ ap (λ q. in_run y.first y.count (unwrap_or q 0)) at ∙ here;
+            }
 
-  -- its bytes are one entry as they are
-  one-entry : one_entry es ≡ es
-  one-entry = by (length (reached (physical l) va len) == len)
-    where
-      pas : List ℕ
-      pas = reached (physical l) va len
+    reached-all : AllReached (physical l) vas
+    reached-all = all-reached l m (Vector spans) fine
 
-      bytes : entries_addresses (with_entry true pas []) ≡ pas
-      bytes = with-bytes true pas [] (reached_extents (λ p. Unit {0}) (physical l) (paged l laid machine) va len).bytes
-          ∙ append-nil pas
+    are-bytes : entries_addresses es ≡ map (physical_or_0 (physical l)) vas
+    are-bytes = entries-bytes (physical l) (paged l laid machine) true spans reached-all
 
-      by : (b : Bool) → one_entry (with_entry true pas (cond b [] [])) ≡ with_entry true pas (cond b [] [])
-      by true = ap (λ xs. with_entry true xs []) bytes
-      by false = ap (λ xs. with_entry true xs []) bytes
+    loadable : AllByRecursion (λ a. is_loadable (get l.mems m) l a ≡ true) (entries_addresses es)
+    loadable =
+        subst (AllByRecursion (λ a. is_loadable (get l.mems m) l a ≡ true)) (sym are-bytes)
+        (all-map (physical_or_0 (physical l)) (λ a. is_loadable (get l.mems m) l a ≡ true) vas
+        (all-from _ vas (λ k va e. (own-byte k va e).loadable)))
 
-  no-need : need_of (chunks_of (record t { alignment = 1 }) 0 es) ≡ 0
-  no-need =
-      let s = stands.each m o there in
-      let has : contains_key l.mems m ≡ true = ap is_some memory in
-      ap (λ xs. need_of (chunks_of (record t { alignment = 1 }) 0 xs)) (sym one-entry)
-      ∙ sym (ap (λ b. need_of (chunks_for l o b es)) has) ∙ need-direct l m o es s (s.memory has)
+    -- together they are one span
+    abbrev one : List Span
+    one = one_span (begin_of y) (length vas)
 
-  pub memory-ready : IsReady l m t es (chunks_for l o true es) []
-  memory-ready =
-      subst (λ xs. IsReady l m t es (chunks_of (record t { alignment = 1 }) 0 xs) []) (sym one-entry)
-      (ready l m t (record t { alignment = 1 }) 0 es [] eff.maxsegsz (unaligned t eff) refl
-      (entries_are (λ p. Unit {0}) true (physical l) (paged l laid machine) (one_span va len)) tt (sym no-need)
-      (λ some. no-need) loadable)
-    where
-      eff : IsEffective t
-      eff = limits-effective l machine stands m o there
+    abbrev together : List Entry
+    together = entries_of true (physical l) one
+
+    run : vas ≡ run_of (begin_of y) (length vas)
+    run = run-of-places (begin_of y) vas (λ k va e. (own-byte k va e).place)
+
+    abbrev pas : List ℕ
+    pas = reached (physical l) (begin_of y) (length vas)
+
+    run-bytes : entries_addresses es ≡ pas
+    run-bytes =
+        are-bytes ∙ ap (map (physical_or_0 (physical l))) run
+        ∙ sym (reached-run (physical l) (begin_of y) (length vas) (subst (AllReached (physical l)) run reached-all))
+
+    one-entry : one_entry es ≡ together
+    one-entry = ap (λ xs. with_entry true xs []) run-bytes ∙ by (length pas == length vas)
+      where
+        by : (b : Bool) → with_entry true pas [] ≡ with_entry true pas (cond b [] [])
+        by true = refl
+        by false = refl
+
+    same-bytes : entries_addresses together ≡ entries_addresses es
+    same-bytes =
+        ap entries_addresses (sym one-entry)
+        ∙ ap (λ xs. entries_addresses (with_entry true xs [])) run-bytes
+        ∙ with-bytes true pas []
+        (reached_extents (λ p. Unit {0}) (physical l) (paged l laid machine) (begin_of y) (length vas)).bytes
+        ∙ append-nil pas ∙ sym run-bytes
+
+    no-need : need_of (chunks_of (record t { alignment = 1 }) 0 together) ≡ 0
+    no-need =
+        let s = stands.each m o there in
+        let has : contains_key l.mems m ≡ true = ap is_some memory in
+        ap (λ xs. need_of (chunks_of (record t { alignment = 1 }) 0 xs)) (sym one-entry)
+        ∙ sym (ap (λ b. need_of (chunks_for l o b es)) has) ∙ need-direct l m o es s (s.memory has)
+
+    spans-ready : IsReady l m t es (chunks_for l o true es) []
+    spans-ready =
+        subst (λ xs. IsReady l m t es (chunks_of (record t { alignment = 1 }) 0 xs) []) (sym one-entry)
+        (of-bytes l m t together es (chunks_of (record t { alignment = 1 }) 0 together) [] same-bytes
+        (ready l m t (record t { alignment = 1 }) 0 together [] eff.maxsegsz (unaligned t eff) refl
+        (entries_are (λ p. Unit {0}) true (physical l) (paged l laid machine) one) tt (sym no-need)
+        (λ some. no-need)
+        (subst (AllByRecursion (λ a. is_loadable (get l.mems m) l a ≡ true)) (sym same-bytes) loadable)))
+      where
+        eff : IsEffective t
+        eff = limits-effective l machine stands m o there
+
+  -- ---- a load of a bio
+
+  -- no byte of frames is a memory's
+  no-frames : (frames : List ℕ) (off n : ℕ) → load_judged l m (Unmapped frames off (suc n)) ≡ Fine → ⊥
+  no-frames frames off n fine =
+      let r = each-byte l m (Unmapped frames off (suc n)) fine 0 off refl in
+      false≢true (sym r.2 ∙ ap is_some memory)
+
+  pub memory-ready : (b : Bio) → load_judged l m b ≡ Fine →
+      IsReady l m t (load_entries l b) (chunks_for l o true (load_entries l b)) []
+  memory-ready (Mapped span) fine = spans-ready (span ∷ []) fine
+  memory-ready (Vector spans) fine = spans-ready spans fine
+  memory-ready (Unmapped frames off zero) fine = spans-ready [] refl
+  memory-ready (Unmapped frames off (suc n)) fine = absurd (no-frames frames off n fine)

@@ -8,18 +8,19 @@ use Rattle.std.specs.List.{AllByRecursion, enumerate_from}
 use Rattle.std.specs.FinMap.{get, entries, entries_sorted, get-entries}
 use Rattle.busdma_base.specs.declared.journals.report.Judged.TheVariants.{Fine}
 use Rattle.busdma_base.specs.declared.machine.address.Span.{Span}
+use Rattle.busdma_base.specs.declared.machine.bio.Bio.{Bio}
 use Rattle.busdma_base.specs.declared.machine.chunk.Entry.{Entry}
 use Rattle.busdma_base.specs.declared.scenarios.scenario.PageRun.{PageRun}
 use Rattle.busdma_base.specs.Machine.Entry.{entries_addresses}
 use Rattle.busdma_base.specs.Machine.PageRuns.{is_own, is_in_run, physical_in, pages_end}
-use Rattle.busdma_base.specs.Machine.Spans.{span_addresses}
+use Rattle.busdma_base.specs.Machine.Spans.{bio_spans, span_addresses}
 use Rattle.busdma_base.specs.Runs.{addresses, run_of}
 use Rattle.phys_memory.specs.Extents.{extents_of, reached, then_reached}
 use Rattle.phys_memory.specs.Translation.{Translation, physical_or_0}
 use Rattle.phys_memory.specs.Vector.{entries_of, with_entry}
 use Rattle.phys_memory.proofs.Extents.{reached_extents}
 use Rattle.phys_memory.proofs.Paged.{KeepsPlaces, IsPaged}
-use Rattle.ideal_lane.specs.Loads.{is_foreign_to, load_refusal, load_judged}
+use Rattle.ideal_lane.specs.Loads.{is_foreign_in, load_refusal, load_judged, load_translation}
 use Rattle.ideal_lane.specs.Places.{physical, or_in_memory, is_memory_byte, is_in_memory}
 use Rattle.ideal_lane.specs.State.{LaneState}
 use Rattle.ideal_wire.specs.Laid.{IsOwnByte, OfPages, OfMemory, AreLaid}
@@ -192,7 +193,7 @@ module _ (l : LaneState) (laid : AreLaid l) (machine : IsInMachine l) where
 abbrev pub AllReached : Translation → List ℕ → Type 0
 AllReached t vas = AllByRecursion (λ va. (p : ℕ) × (t va ≡ Some p)) vas
 
-reached-run : (t : Translation) (va n : ℕ) → AllReached t (run_of va n) →
+pub reached-run : (t : Translation) (va n : ℕ) → AllReached t (run_of va n) →
     reached t va n ≡ map (physical_or_0 t) (run_of va n)
 reached-run t va zero h = refl
 reached-run t va (suc n) h =
@@ -256,20 +257,23 @@ passes foreign None h = absurd (cc)
 passes true (Some p) h = absurd (cc)
 passes false (Some p) h = (p, refl, refl)
 
-pub each-byte : (l : LaneState) (m : ℕ) (vas : List ℕ) → load_judged l m vas ≡ Fine → (k va : ℕ) →
-    slice_get vas k ≡ Some va → (p : ℕ) × (physical l va ≡ Some p) × (is_foreign_to (get l.mems m) l k va ≡ false)
-each-byte l m vas fine k va h =
-    let f = fine_at (λ b. load_refusal (is_foreign_to (get l.mems m) l b.0 b.1) (physical l b.1)) 0
-    (enumerate_from 0 vas) fine k (0 + k, va) (at-place 0 k vas va h) in
+pub each-byte : (l : LaneState) (m : ℕ) (b : Bio) → load_judged l m b ≡ Fine → (k va : ℕ) →
+    slice_get (span_addresses (bio_spans b)) k ≡ Some va →
+    (p : ℕ) × (load_translation l b va ≡ Some p) × (is_foreign_in b (get l.mems m) l k va ≡ false)
+each-byte l m b fine k va h =
+    let f = fine_at (λ x. load_refusal (is_foreign_in b (get l.mems m) l x.0 x.1) (load_translation l b x.1)) 0
+    (enumerate_from 0 (span_addresses (bio_spans b))) fine k (0 + k, va)
+    (at-place 0 k (span_addresses (bio_spans b)) va h) in
     let e : 0 + k ≡ k = omega arith in
-    let r = passes (is_foreign_to (get l.mems m) l (0 + k) va) (physical l va) f in
-    (r.0, r.1, sym (ap (λ j. is_foreign_to (get l.mems m) l j va) e) ∙ r.2)
+    let r = passes (is_foreign_in b (get l.mems m) l (0 + k) va) (load_translation l b va) f in
+    (r.0, r.1, sym (ap (λ j. is_foreign_in b (get l.mems m) l j va) e) ∙ r.2)
 
 pub all-from : {X : Type 0} (P : X → Type 0) (xs : List X) → ((k : ℕ) (x : X) → slice_get xs k ≡ Some x → P x) →
     AllByRecursion P xs
 all-from P [] h = tt
 all-from P (x ∷ xs) h = (h 0 x refl, all-from P xs (λ k y e. h (suc k) y e))
 
-pub all-reached : (l : LaneState) (m : ℕ) (vas : List ℕ) → load_judged l m vas ≡ Fine → AllReached (physical l) vas
-all-reached l m vas fine =
-    all-from _ vas (λ k va e. let r = each-byte l m vas fine k va e in (r.0, r.1))
+pub all-reached : (l : LaneState) (m : ℕ) (b : Bio) → load_judged l m b ≡ Fine →
+    AllReached (load_translation l b) (span_addresses (bio_spans b))
+all-reached l m b fine =
+    all-from _ (span_addresses (bio_spans b)) (λ k va e. let r = each-byte l m b fine k va e in (r.0, r.1))

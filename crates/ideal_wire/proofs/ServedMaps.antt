@@ -27,21 +27,19 @@ use Rattle.busdma_base.specs.Bounce.KeptZones.{KeepsZones}
 use Rattle.busdma_base.specs.Scenarios.Operations.{bytes_of}
 use Rattle.busdma_base.specs.Tags.Tag.{could_bounce}
 use Rattle.busdma_base.proofs.Accounts.KeptZones.{keeps-all, keeps-history, keeps-step, serves-created}
-use Rattle.dma_tag.specs.LoadFlags.{nowait}
 use Rattle.lane_agreement.specs.After.{addresses}
 use Rattle.lane_agreement.specs.View.{Return}
 use Rattle.lane_tables.specs.declared.queued.QueuedItem.{QueuedItem}
-use Rattle.busdma_base.specs.Machine.Spans.{one_span}
 use Rattle.ideal_lane.specs.Asking.{Asking, Gives, Asks, goes_on}
 use Rattle.ideal_lane.specs.Loads.{asked, limits_of}
 use Rattle.ideal_lane.specs.Loads.{no_limits}
 use Rattle.ideal_lane.specs.Maps.{created, map, with_map}
 use Rattle.ideal_lane.specs.Outcomes.{Outcome, gives}
-use Rattle.ideal_lane.specs.Places.{virtual_at}
 use Rattle.ideal_lane.specs.Standing.{Stands}
 use Rattle.ideal_lane.specs.State.{LaneState, LaneTag, LaneMap, Idle, named}
 use Rattle.ideal_lane.specs.Tags.{with_tag}
 use Rattle.ideal_lane.specs.Turns.{Turned, operation, transfer, waits, asked_at, called, called_in, lane_step}
+use Rattle.ideal_lane.specs.Turns.{bio_at, never_waits}
 use Rattle.ideal_lane.specs.Turns as turns
 use Rattle.ideal_lane.specs.Unloads.{given_back}
 use Rattle.ideal_lane.proofs.Lookups.{get_put}
@@ -183,10 +181,10 @@ module _ (l : LaneState) (stands : Stands l) (a : Account) (machine : IsInMachin
   operation-served (op.TagDestroy t) = always (operation (op.TagDestroy t) l) (tag_destroy-kept l stands t)
   operation-served (op.Map name t) = map-served t
   operation-served (op.MapDestroy m) = always (operation (op.MapDestroy m) l) (map_destroy-kept l stands m)
-  operation-served (op.Load m place len flags items) =
-      always (operation (op.Load m place len flags items) l)
-      (absent l (Still l stands) (report l stands) (virtual_at l place) _ (λ va e.
-      load-kept l stands m (asked m (one_span va len) (nowait flags) items l)))
+  operation-served (op.Load m x flags items) =
+      always (operation (op.Load m x flags items) l)
+      (absent l (Still l stands) (report l stands) (bio_at l x) _ (λ b e.
+      load-kept l stands m (asked m b (never_waits x flags) items l)))
   operation-served (op.Unload m) = always (operation (op.Unload m) l) (unload-kept l stands m)
   operation-served (op.Sync m ops) = always (operation (op.Sync m ops) l) (sync-kept l stands m ops)
   operation-served (op.SyncRange m off len ops) =

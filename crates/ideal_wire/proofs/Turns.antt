@@ -11,6 +11,7 @@ use Rattle.busdma_base.specs.declared.journals.journal.Side.TheVariants as side
 use Rattle.busdma_base.specs.declared.journals.report.Report.{Report}
 use Rattle.busdma_base.specs.declared.machine.address.Segment.{Segment}
 use Rattle.busdma_base.specs.declared.machine.chunk.Chunk.{Chunk}
+use Rattle.busdma_base.specs.declared.scenarios.buffer.Buffer.{Buffer}
 use Rattle.busdma_base.specs.declared.scenarios.script.Item.{Item}
 use Rattle.busdma_base.specs.declared.scenarios.script.Item.TheVariants as item
 use Rattle.busdma_base.specs.declared.scenarios.script.Op.{Op}
@@ -25,13 +26,11 @@ use Rattle.busdma_base.specs.Runs.{run_of}
 use Rattle.busdma_base.specs.Scenarios.Operations.{bytes_of}
 use Rattle.busdma_base.specs.Tags.Tag.{could_bounce, effective}
 use Rattle.busdma_base.specs.Tags.TagFlags.{allocnow}
-use Rattle.dma_tag.specs.LoadFlags.{nowait}
 use Rattle.lane_agreement.specs.After.{addresses}
 use Rattle.lane_agreement.specs.View.{Return}
 use Rattle.lane_tables.specs.declared.queued.QueuedItem.{QueuedItem}
 use Rattle.loan_table.specs.Access.{cpu_read_answer, dev_read_answer}
 use Rattle.loan_table.specs.Loans.{loan_of, no_loan, load_bytes}
-use Rattle.busdma_base.specs.Machine.Spans.{one_span}
 use Rattle.segment_build.specs.Building.{tag_placed, placed_pieces}
 use Rattle.segment_build.specs.Chunks.{need_of}
 use Rattle.segment_build.specs.Segmentation.{segmentation}
@@ -49,6 +48,7 @@ use Rattle.ideal_lane.specs.Places.{virtual_at, reached, bytes_at}
 use Rattle.ideal_lane.specs.Standing.{Stands}
 use Rattle.ideal_lane.specs.Tags.{with_tag, attached, tag_or_invalid, tag, tag_destroy, has_maps}
 use Rattle.ideal_lane.specs.Turns.{Turned, operation, transfer, waits, asked_at, called, called_in, called_back, lane_step}
+use Rattle.ideal_lane.specs.Turns.{bio_at, load_buffer, never_waits}
 use Rattle.ideal_lane.specs.Turns as turns
 use Rattle.ideal_lane.specs.Unloads.{unload, restaged, given_back, after_return}
 use Rattle.ideal_wire.specs.Apart.{IsApart}
@@ -305,20 +305,18 @@ module _ (l : LaneState) (a : Account) (w : Wire) (stands : Stands l) (agrees : 
       judged l Idles report (cpu_read_answer (is_known l.memory) l.loans (bytes_at l (run_of va len)))
       (gives l (answer.Bytes (values l (bytes_at l (run_of va len))))) (λ allowed r. same)))
 
-  load-at-idles : (m : ℕ) (place : Place) (len flags : ℕ) (items : List Item) →
-      Idles (turns.load_at_place m place len flags items l)
-  load-at-idles m place len flags items =
-      absent l Idles report (virtual_at l place)
-      (λ va. load m (asked m (one_span va len) (nowait flags) items l) l)
-      (λ va e. load-idles m (asked m (one_span va len) (nowait flags) items l))
+  buffer-idles : (m : ℕ) (x : Buffer) (flags : ℕ) (items : List Item) → Idles (load_buffer m x flags items l)
+  buffer-idles m x flags items =
+      absent l Idles report (bio_at l x) (λ b. load m (asked m b (never_waits x flags) items l) l)
+      (λ b e. load-idles m (asked m b (never_waits x flags) items l))
 
   operation-stays : (o : Op) → Outcomes (wire.operation o l w) (operation o l)
   operation-stays (op.Tag name parent limits) = idle (tag parent limits l) (tag-idles parent limits)
   operation-stays (op.TagDestroy t) = idle (tag_destroy t l) (tag_destroy-idles t)
   operation-stays (op.Map name t) = idle (map t l) (map-idles t)
   operation-stays (op.MapDestroy m) = idle (map_destroy m l) (map_destroy-idles m)
-  operation-stays (op.Load m place len flags items) =
-      idle (turns.load_at_place m place len flags items l) (load-at-idles m place len flags items)
+  operation-stays (op.Load m x flags items) =
+      idle (load_buffer m x flags items l) (buffer-idles m x flags items)
   operation-stays (op.Unload m) = idle (unload m l) (unload-idles m)
   operation-stays (op.Sync m ops) = sync-stays l w apart laid f m ops
   operation-stays (op.SyncRange m off len ops) = sync_range-stays l w apart laid f m off len ops

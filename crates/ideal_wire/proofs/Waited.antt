@@ -1,53 +1,59 @@
 -- What the load at a place of the script asks, and what a load that waited asks.
 use Rattle.std.proofs.Common.{◌≡◌, ℕ, Bool, false, List, [], Option, Some, None, slice_get, is_some, refl, ap, sym}
-use Rattle.std.proofs.Common.{◌∙◌, subst, unwrap_or, append-nil}
+use Rattle.std.proofs.Common.{◌∙◌, subst, unwrap_or}
 use Rattle.std.specs.FinMap.{get}
 use Rattle.std.specs.Option.{option_and_then, option_map}
-use Rattle.busdma_base.specs.declared.machine.address.Span.{Span}
+use Rattle.busdma_base.specs.declared.machine.bio.Bio.{Bio}
+use Rattle.busdma_base.specs.declared.machine.bio.Bio.TheVariants as bio
 use Rattle.busdma_base.specs.declared.scenarios.script.Item.{Item}
 use Rattle.busdma_base.specs.declared.scenarios.script.Op.{Op}
 use Rattle.busdma_base.specs.declared.scenarios.script.Op.TheVariants as op
-use Rattle.busdma_base.specs.declared.scenarios.script.Place.TheVariants.{At}
-use Rattle.busdma_base.specs.Machine.Spans.{one_span, span_addresses}
-use Rattle.busdma_base.specs.Runs.{run_of}
-use Rattle.dma_tag.specs.LoadFlags.{nowait}
+use Rattle.busdma_base.specs.Scenarios.Buffers.{IsBioOf}
 use Rattle.segment_build.specs.Chunks.{chunks_of, need_of}
-use Rattle.ideal_lane.specs.Loads.{Asked, asked, limits_of}
-use Rattle.ideal_lane.specs.Places.{bytes_at}
+use Rattle.ideal_lane.specs.Loads.{Asked, asked, limits_of, load_addresses}
 use Rattle.ideal_lane.specs.Standing.{Stands}
 use Rattle.ideal_lane.specs.State.{LaneState, LaneMemory}
-use Rattle.ideal_lane.specs.Turns.{asked_at, asked_by, no_load}
+use Rattle.ideal_lane.specs.Turns.{asked_at, asked_by, never_waits, no_load}
 use Rattle.ideal_lane.proofs.Turning.{WaitsAt}
 use Rattle.ideal_wire.specs.Answered.{Load, bytes_named, loaded_by}
 use Rattle.ideal_wire.specs.Laid.{IsAwaited, LiesIn, AreLaid, pages_alone}
+use Rattle.ideal_wire.specs.Machine.{IsInMachine}
 use Rattle.ideal_wire.specs.Traces.{stage_in}
 use Rattle.ideal_wire.proofs.Alike.{no-memory}
-use Rattle.ideal_wire.proofs.Asked.{AreOfPages, direct-bytes, pages-entries}
+use Rattle.ideal_wire.proofs.Asked.{direct-bytes, pages-entries}
+use Rattle.ideal_wire.proofs.Bios.{AreOfPages}
+use Rattle.ideal_wire.proofs.Buffers.{asks-bio, bio-of, loads-from}
 
--- the load at a place of the script is one of these spans
+-- the load at a place of the script is one of this bio
 pub record Names (k : ℕ) (l : LaneState) : Type 0 where
   pub map : ℕ
-  pub spans : List Span
+  pub bio : Bio
   pub now : Bool
   pub items : List Item
-  pub is : (s : LaneState) → s.script ≡ l.script → asked_at k s ≡ asked map spans now items s
-  pub bytes : bytes_named l k ≡ bytes_at l (span_addresses spans)
+  pub named : IsBioOf l.pages bio
+  pub is : (s : LaneState) → s.script ≡ l.script → asked_at k s ≡ asked map bio now items s
+  pub bytes : bytes_named l k ≡ load_addresses l bio
+
+-- the load of a bio
+abbrev loaded : ℕ → LaneState → Bio → Load
+loaded m l b = record { map = m; bytes = load_addresses l b }
 
 bytes-in : LaneState → Option Op → List ℕ
 bytes-in l o = unwrap_or (option_map (λ (x : Load). x.bytes) (option_and_then (λ p. loaded_by p l) o)) []
 
-pub names-of : (k : ℕ) (l : LaneState) → Names k l
+pub names-of : (k : ℕ) (l : LaneState) → IsInMachine l → Names k l
 unfolding bytes-in
-names-of k l = by (slice_get l.script k) refl
+names-of k l machine = by (slice_get l.script k) refl
   where
     none : (o : Option Op) → slice_get l.script k ≡ o →
         ((s : LaneState) → unwrap_or (option_and_then (λ p. asked_by p s) o) (no_load s) ≡ no_load s) →
         bytes-in l o ≡ [] → Names k l
     none o e h b = record {
       map = 0;
-      spans = [];
+      bio = bio.Vector [];
       now = false;
       items = [];
+      named = tt;
       is = λ s same.
           ap (λ q. unwrap_or (option_and_then (λ p. asked_by p s) q) (no_load s)) (ap (λ q. slice_get q k) same ∙ e)
           ∙ h s;
@@ -56,14 +62,17 @@ names-of k l = by (slice_get l.script k) refl
 
     by : (o : Option Op) → slice_get l.script k ≡ o → Names k l
     by None e = none None e (λ s. refl) refl
-    by (Some (op.Load m (At va) len flags items)) e = record {
+    by (Some (op.Load m x flags items)) e = record {
       map = m;
-      spans = one_span va.0 len;
-      now = nowait flags;
+      bio = (bio-of x).bio;
+      now = never_waits x flags;
       items = items;
+      named = loads-from l.pages l.script k m x flags items machine.bios e;
       is = λ s same.
-          ap (λ q. unwrap_or (option_and_then (λ p. asked_by p s) q) (no_load s)) (ap (λ q. slice_get q k) same ∙ e);
-      bytes = ap (bytes-in l) e ∙ ap (bytes_at l) (sym (append-nil (run_of va.0 len)));
+          ap (λ q. unwrap_or (option_and_then (λ p. asked_by p s) q) (no_load s)) (ap (λ q. slice_get q k) same ∙ e)
+          ∙ ap (λ q. unwrap_or q (no_load s)) (asks-bio m x flags items s);
+      bytes = ap (bytes-in l) e
+          ∙ ap (λ q. unwrap_or (option_map (λ (y : Load). y.bytes) (option_map (loaded m l) q)) []) ((bio-of x).is l);
     }
     by (Some (op.Tag name parent limits)) e = none (Some (op.Tag name parent limits)) e (λ s. refl) refl
     by (Some (op.TagDestroy t)) e = none (Some (op.TagDestroy t)) e (λ s. refl) refl
@@ -77,18 +86,19 @@ names-of k l = by (slice_get l.script k) refl
     by (Some (op.Await m)) e = none (Some (op.Await m)) e (λ s. refl) refl
 
 -- a map that waits
-module _ (l : LaneState) (stands : Stands l) (laid : AreLaid l) (k z need : ℕ) (w : WaitsAt l k z need) where
+module _ (l : LaneState) (stands : Stands l) (laid : AreLaid l) (machine : IsInMachine l) (k z need : ℕ)
+    (w : WaitsAt l k z need) where
   abbrev pub waited : Names w.load_at l
-  waited = names-of w.load_at l
+  waited = names-of w.load_at l machine
 
   -- what its load asks
   abbrev pub waited-asked : Asked
-  waited-asked = asked waited.map waited.spans waited.now waited.items l
+  waited-asked = asked waited.map waited.bio waited.now waited.items l
 
   pub waited-lies : IsAwaited l k w.load_at need
   waited-lies = subst (LiesIn l k) (ap stage_in w.found ∙ w.stage) (laid.each k)
 
-  alone : asked_at w.load_at (pages_alone l) ≡ asked waited.map waited.spans waited.now waited.items (pages_alone l)
+  alone : asked_at w.load_at (pages_alone l) ≡ asked waited.map waited.bio waited.now waited.items (pages_alone l)
   alone = waited.is (pages_alone l) refl
 
   -- it is not a memory's, and its load is of the driver's pages
@@ -100,8 +110,8 @@ module _ (l : LaneState) (stands : Stands l) (laid : AreLaid l) (k z need : ℕ)
       by (Some y) g =
           let gone : Some z ≡ None = sym w.zone ∙ (stands.each k w.map w.found).memory (ap is_some g) in absurd (cc)
 
-  pub waited-own : AreOfPages l (span_addresses waited.spans)
-  waited-own = direct-bytes (pages_alone l) waited.map (span_addresses waited.spans) (no-memory waited.map)
+  pub waited-own : AreOfPages l waited.bio
+  waited-own = direct-bytes (pages_alone l) waited.map waited.bio (no-memory waited.map)
       (sym (ap (λ (y : Asked). y.judged) alone) ∙ waited-lies.fine)
 
   -- its need is that of its chunks
@@ -109,4 +119,4 @@ module _ (l : LaneState) (stands : Stands l) (laid : AreLaid l) (k z need : ℕ)
   waited-need =
       waited-lies.counted w.map w.found
       ∙ ap (λ es. need_of (chunks_of (limits_of l w.map) l.maxmem es))
-      (ap (λ (y : Asked). y.entries) alone ∙ pages-entries l (pages_alone l) refl waited.spans waited-own)
+      (ap (λ (y : Asked). y.entries) alone ∙ pages-entries l (pages_alone l) refl waited.bio waited-own)

@@ -1,5 +1,6 @@
 -- That what a driver keeps of its wire has one proof at most, so that a lane can keep it.
 use Rattle.std.proofs.Common.{◌≡◌, ◌<◌, ℕ, ◌+◌, ◌-◌, ◌^◌, List, [], ◌∷◌, drop, inl, inr, sym, ◌∙◌, arith}
+use Rattle.std.specs.Prelude.{IfSome, Option, Some, None}
 use Rattle.std.proofs.lemmas.Bool.{cases_lt}
 use Rattle.std.proofs.Math.Pow.{pow-lt}
 use Rattle.std.specs.Int.{IsPowerOfTwo}
@@ -10,11 +11,19 @@ use mathlib.Core.List.{is_set}
 use base.Stored.{Coded-set}
 use denote.Struct.Props.{props}
 use Rattle.busdma_base.specs.contracts.journals.report.Judged as judged
+use Rattle.busdma_base.specs.declared.machine.bio.Bio.TheVariants as bio
 use Rattle.busdma_base.specs.declared.machine.chunk.Chunk.{Chunk}
 use Rattle.busdma_base.specs.declared.machine.address.Segment.{Segment}
+use Rattle.busdma_base.specs.declared.scenarios.buffer.Buffer.{Buffer}
+use Rattle.busdma_base.specs.declared.scenarios.buffer.Buffer.TheVariants as buffer
+use Rattle.busdma_base.specs.declared.scenarios.scenario.PageRun.{PageRun}
+use Rattle.busdma_base.specs.declared.scenarios.script.Op.{Op}
 use Rattle.busdma_base.specs.declared.tags.tag.TagLimits.{TagLimits}
 use Rattle.busdma_base.specs.Tags.Tag.{IsEffective}
 use Rattle.busdma_base.specs.Machine.Wire.{Placed, Wire}
+use Rattle.busdma_base.specs.Scenarios.Buffers.{IsBufferOf}
+use Rattle.busdma_base.specs.Scenarios.Operations.{about}
+use Rattle.busdma_base.specs.Scenarios.Valid.{LoadsFrom}
 use Rattle.loan_table.specs.contracts.position.Position as position
 use Rattle.loan_table.specs.Loans.{Loan}
 use Rattle.map_sync.specs.Traces.{HasChunk, HasChunks}
@@ -83,5 +92,20 @@ IsPowerOfTwo-prop n x y =
 IsEffective-prop : (t : TagLimits) → IsProp (IsEffective t)
 IsEffective-prop t = hlevel (props, IsPowerOfTwo-prop)
 
+IsBufferOf-prop : (pages : List PageRun) (x : Buffer) → IsProp (IsBufferOf pages x)
+IsBufferOf-prop pages (buffer.Flat place len) = Unit-prop
+IsBufferOf-prop pages (buffer.Vector spans) = Unit-prop
+IsBufferOf-prop pages (buffer.Mbuf chain) = Unit-prop
+IsBufferOf-prop pages (buffer.Bio (bio.Mapped span)) = Unit-prop
+IsBufferOf-prop pages (buffer.Bio (bio.Vector spans)) = Unit-prop
+IsBufferOf-prop pages (buffer.Bio (bio.Unmapped frames off len)) = hlevel (props, AllByRecursion-prop)
+
+loads-prop : (pages : List PageRun) (x : Option Buffer) → IsProp (IfSome x (IsBufferOf pages))
+loads-prop pages None = hlevel (props)
+loads-prop pages (Some x) = IsBufferOf-prop pages x
+
+LoadsFrom-prop : (pages : List PageRun) (o : Op) → IsProp (LoadsFrom pages o)
+LoadsFrom-prop pages o = loads-prop pages (about o).loads
+
 pub IsInMachine-prop : (l : LaneState) → IsProp (IsInMachine l)
-IsInMachine-prop l = hlevel (props, AllByRecursion-prop, IsEffective-prop)
+IsInMachine-prop l = hlevel (props, AllByRecursion-prop, IsEffective-prop, LoadsFrom-prop)

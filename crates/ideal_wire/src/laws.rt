@@ -109,10 +109,10 @@ pub fn calls_read_faithfully()
 
 /// The segments that a load of the driver's pages answers are its bytes, in order, and obey its tag,
 /// where it has as many pages as it needs and its device reaches each of them. The load is of a map
-/// that is not a memory's, its bytes are judged fine, and the frames that it names are the driver's. So it is of the segments that a turn
-/// answers by the account's reply, where driver and account agree and the zones of maps serve their
-/// tags: it has ended a load in its own step, or at the callback of one that waited. The account is
-/// one that a sound history leads to.
+/// that is not a memory's, its bytes are judged fine, and the frames that it names are the driver's.
+/// So it is of the segments that a turn answers by the account's reply, where driver and account
+/// agree and the zones of maps serve their tags: it has ended a load in its own step, or at the
+/// callback of one that waited. The account is one that a sound history leads to.
 pub fn accepted_loads_obey()
     ensures load { (l : LaneState) (m : ℕ) (o : LaneMap) (b : Bio) (load_at : ℕ) (nowait : Bool)
         (items : List Item) (pages : List ℕ) → Stands l → AreLaid l → IsInMachine l → IsBioOf l.pages b →

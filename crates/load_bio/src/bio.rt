@@ -5,14 +5,16 @@ ghost use Rattle.std.specs.Iterator.{HoldsAlong, YieldsFirst, item_count};
 ghost use Rattle.std.specs.List.{AllByRecursion};
 ghost use Rattle.busdma_base.specs.Machine.Entry.{HasPart, IsEntry, IsStream, entries_addresses, parts_of};
 ghost use Rattle.busdma_base.specs.Machine.Spans.{bio_spans, span_addresses, span_bytes};
-ghost use Rattle.phys_memory.specs.Memory.{physical};
-ghost use Rattle.phys_memory.specs.Translation.{physical_or_0};
+ghost use Rattle.busdma_base.specs.declared.machine.bio.Bio.TheVariants.{Mapped, Unmapped, Vector};
+ghost use Rattle.phys_memory.specs.Memory.{IsMemory, physical};
+ghost use Rattle.phys_memory.specs.Translation.{Translation, physical_or_0};
 ghost use Rattle.phys_memory.specs.Vector.{IfAll};
 ghost use Rattle.load_bio.specs.Bio.{IsBio, LiesInBio, bio_stream, bio_translation, bio_walk};
+ghost use Rattle.load_bio.specs.Frames.{AreFrames};
 
 use crate::frame_walk::walk_frames;
 use crate::frames::{FrameParts, frame_parts};
-use busdma_base::{Bio, Part};
+use busdma_base::{Bio, Part, Span};
 use phys_memory::{Entries, FlatParts, LanePages, VectorParts};
 use std::alloc::{AllocError, Global};
 use std::marker::Model;
@@ -91,12 +93,51 @@ pub fn parts<'a>(memory: &'a LanePages, bio: &'a Bio) -> BioParts<'a>
     ensures stream { span_bytes (bio_spans bio.now) ≤ 2 ^ 20 → IsStream result }
     ensures along { span_bytes (bio_spans bio.now) ≤ 2 ^ 20 → HoldsAlong (YieldsFirst (λ ps. ps)) result IsStream }
 {
-    let kind = match bio {
-        Bio::Mapped(span) => Kind::Mapped(memory.parts_flat(span.va, span.len)),
-        Bio::Vector(spans) => Kind::Vector(memory.parts_vector(spans.as_slice())),
-        Bio::Unmapped { frames, off, len } => {
-            Kind::Unmapped(frame_parts(frames.as_slice(), *off, *len))
-        }
-    };
-    BioParts { kind }
+    match bio {
+        Bio::Mapped(span) => parts_of_span(memory, *span),
+        Bio::Vector(spans) => parts_of_spans(memory, spans.as_slice()),
+        Bio::Unmapped { frames, off, len } => parts_of_frames(frames.as_slice(), *off, *len),
+    }
+}
+
+/// The parts of a span of a driver, which are those of a bio that is mapped there.
+pub fn parts_of_span(memory: &LanePages, span: Span) -> BioParts<'_>
+    ensures parts { result ≡ bio_stream (physical memory.now.memory) (Mapped span) }
+    ensures walk { IfAll (bio_walk (physical memory.now.memory) (Mapped span)) (λ es. result ≡ parts_of es) }
+    ensures sound { IsMemory memory.now.memory }
+    ensures stream { span.len ≤ 2 ^ 20 → IsStream result }
+    ensures along { span.len ≤ 2 ^ 20 → HoldsAlong (YieldsFirst (λ ps. ps)) result IsStream }
+{
+    BioParts {
+        kind: Kind::Mapped(memory.parts_flat(span.va, span.len)),
+    }
+}
+
+/// The parts of spans of a driver, which are those of a bio that is mapped there.
+pub fn parts_of_spans<'a>(memory: &'a LanePages, spans: &'a [Span]) -> BioParts<'a>
+    requires { span_bytes spans.now < 2 ^ 64 }
+    ensures parts { result ≡ bio_stream (physical memory.now.memory) (Vector spans.now) }
+    ensures walk { IfAll (bio_walk (physical memory.now.memory) (Vector spans.now)) (λ es. result ≡ parts_of es) }
+    ensures sound { IsMemory memory.now.memory }
+    ensures stream { span_bytes spans.now ≤ 2 ^ 20 → IsStream result }
+    ensures along { span_bytes spans.now ≤ 2 ^ 20 → HoldsAlong (YieldsFirst (λ ps. ps)) result IsStream }
+{
+    BioParts {
+        kind: Kind::Vector(memory.parts_vector(spans)),
+    }
+}
+
+/// The parts of `len` bytes of frames, from `off` in the first on, which are those of a bio that is not
+/// mapped, whatever a driver reaches.
+pub fn parts_of_frames(frames: &[u64], off: u64, len: u64) -> BioParts<'_>
+    requires off { off < 4096 }
+    requires frames { AreFrames frames.now }
+    ensures parts { (t : Translation) → result ≡ bio_stream t (Unmapped frames.now off len) }
+    ensures walk { (t : Translation) → IfAll (bio_walk t (Unmapped frames.now off len)) (λ es. result ≡ parts_of es) }
+    ensures stream { len ≤ 2 ^ 20 → IsStream result }
+    ensures along { len ≤ 2 ^ 20 → HoldsAlong (YieldsFirst (λ ps. ps)) result IsStream }
+{
+    BioParts {
+        kind: Kind::Unmapped(frame_parts(frames, off, len)),
+    }
 }

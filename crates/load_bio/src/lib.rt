@@ -8,4 +8,4 @@ mod frames;
 #[cfg(test)]
 mod tests;
 
-pub use bio::{BioParts, parts, walk};
+pub use bio::{BioParts, parts, parts_of_frames, parts_of_span, parts_of_spans, walk};

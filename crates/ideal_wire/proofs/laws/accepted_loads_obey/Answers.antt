@@ -3,8 +3,8 @@ use Rattle.ideal_wire.proofs.AnsweredTurns.{turn-answers}
 use Rattle.ideal_wire.proofs.laws.accepted_loads_obey.Goals as goal
 
 pub returns-clause-load : goal.returns-clause-load
-returns-clause-load c = λ l m o spans load_at nowait items pages stands laid machine there direct fine has.
-    finished-accepted l laid machine stands m o there direct spans load_at nowait items fine pages has
+returns-clause-load c = λ l m o b load_at nowait items pages stands laid machine named there direct fine has.
+    finished-accepted l laid machine stands m o there direct b named load_at nowait items fine pages has
 
 pub returns-clause-turn : goal.returns-clause-turn
 returns-clause-turn c = λ l s a stands agrees fit frames low served machine laid.

@@ -1,54 +1,36 @@
-use Rattle.std.proofs.Common.{◌≡◌, List, ap, sym, ◌∙◌, subst, arith}
-use Rattle.busdma_base.specs.declared.machine.chunk.Part.{Part}
+use Rattle.std.proofs.Common.{◌≡◌, List, ap, sym, ◌∙◌, subst}
 use Rattle.busdma_base.specs.declared.machine.bio.Bio.{Bio}
-use Rattle.busdma_base.specs.Machine.Entry.{IsStream, parts_of}
-use Rattle.busdma_base.specs.Machine.Spans.{bio_spans, span_bytes}
+use Rattle.busdma_base.specs.Machine.Entry.{parts_of}
+use Rattle.busdma_base.specs.Machine.Spans.{span_bytes}
 use Rattle.phys_memory.specs.Memory.{physical}
 use Rattle.phys_memory.specs.Vector.{IfAll}
-use Rattle.phys_memory.proofs.Loads.{along_loads, one_bytes}
-use Rattle.phys_memory.proofs.Vectors.{walk_stream}
-use Rattle.load_bio.specs.declared.bio.Kind.{Kind}
-use Rattle.load_bio.specs.Bio.{bio_stream, bio_translation, bio_walk, is_rounded}
-use Rattle.load_bio.specs.Kinds.{kind_parts}
-use Rattle.load_bio.proofs.bio.parts.Goals.{in-Mapped, in-Vector, in-Unmapped}
+use Rattle.load_bio.specs.Bio.{bio_stream, bio_walk}
 use Rattle.load_bio.proofs.bio.parts.Goals as goal
 
-pub returns-clause-parts : goal.returns-clause-parts
-returns-clause-parts c =
+pub returns-in-Mapped-clause-walk : goal.returns-in-Mapped-clause-walk
+returns-in-Mapped-clause-walk c =
     let t = physical c.args.memory.now.memory in
-    elim c.match-bio.branch [
-      | in-Mapped w ↦ ap kind_parts w.kind-is ∙ w.parts_flat.ensures.vector ∙ ap (bio_stream t) (sym w.in-Mapped.is)
-      | in-Vector w ↦ ap kind_parts w.kind-is ∙ rw w.as_slice.ensures at w.parts_vector.ensures.parts
-          ∙ ap (bio_stream t) (sym w.in-Vector.is)
-      | in-Unmapped w ↦ ap kind_parts w.kind-is ∙ rw w.as_slice-in-Unmapped.ensures at w.frame_parts.ensures.parts
-          ∙ ap (bio_stream t) (sym w.in-Unmapped.is)
-    ]
+    subst (λ (bio : Bio). IfAll (bio_walk t bio) (λ es. c.parts_of_span.result ≡ parts_of es)) (sym c.in-Mapped.is)
+    c.parts_of_span.ensures.walk
 
-pub returns-clause-walk : goal.returns-clause-walk
-returns-clause-walk c =
+pub returns-in-Vector-clause-walk : goal.returns-in-Vector-clause-walk
+returns-in-Vector-clause-walk c =
     let t = physical c.args.memory.now.memory in
-    let bio = c.args.bio.now in
-    subst (λ (ps : List Part). IfAll (bio_walk t bio) (λ es. ps ≡ parts_of es)) (sym (returns-clause-parts c))
-    (walk_stream (is_rounded bio) (bio_translation t bio) (bio_spans bio))
+    subst (λ (bio : Bio). IfAll (bio_walk t bio) (λ es. c.parts_of_spans.result ≡ parts_of es)) (sym c.in-Vector.is)
+    (rw c.as_slice.ensures at c.parts_of_spans.ensures.walk)
 
-pub returns-clause-stream : goal.returns-clause-stream
-returns-clause-stream c = λ small.
-    elim c.match-bio.branch [
-      | in-Mapped w ↦
-          let s = w.in-Mapped.span in
-          let bytes = ap (λ (bio : Bio). span_bytes (bio_spans bio)) w.in-Mapped.is in
-          subst (λ (kind : Kind). IsStream (kind_parts kind)) (sym w.kind-is)
-          (w.parts_flat.ensures.stream (omega (arith, small, bytes, one_bytes s.va.0 s.len)))
-      | in-Vector w ↦
-          let stream = rw w.as_slice.ensures at w.parts_vector.ensures.stream in
-          let bytes = ap (λ (bio : Bio). span_bytes (bio_spans bio)) w.in-Vector.is in
-          subst (λ (kind : Kind). IsStream (kind_parts kind)) (sym w.kind-is) (stream (omega (arith, small, bytes)))
-      | in-Unmapped w ↦
-          let bytes = ap (λ (bio : Bio). span_bytes (bio_spans bio)) w.in-Unmapped.is in
-          subst (λ (kind : Kind). IsStream (kind_parts kind)) (sym w.kind-is)
-          (w.frame_parts.ensures.stream
-          (omega (arith, small, bytes, one_bytes w.in-Unmapped.off w.in-Unmapped.len)))
-    ]
+pub returns-in-Vector-clause-along : goal.returns-in-Vector-clause-along
+returns-in-Vector-clause-along c = λ small.
+    let along = rw c.as_slice.ensures at c.parts_of_spans.ensures.along in
+    along (rw c.in-Vector.is at small)
 
-pub returns-clause-along : goal.returns-clause-along
-returns-clause-along c = λ small. along_loads (kind_parts c.match-bio.kind) (returns-clause-stream c small)
+pub returns-in-Unmapped-clause-parts : goal.returns-in-Unmapped-clause-parts
+returns-in-Unmapped-clause-parts c =
+    let t = physical c.args.memory.now.memory in
+    (rw c.as_slice-in-Unmapped.ensures at c.parts_of_frames.ensures.parts) t ∙ ap (bio_stream t) (sym c.in-Unmapped.is)
+
+pub returns-in-Unmapped-clause-walk : goal.returns-in-Unmapped-clause-walk
+returns-in-Unmapped-clause-walk c =
+    let t = physical c.args.memory.now.memory in
+    subst (λ (bio : Bio). IfAll (bio_walk t bio) (λ es. c.parts_of_frames.result ≡ parts_of es)) (sym c.in-Unmapped.is)
+    ((rw c.as_slice-in-Unmapped.ensures at c.parts_of_frames.ensures.walk) t)
