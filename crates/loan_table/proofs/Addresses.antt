@@ -10,7 +10,8 @@ use Rattle.std.proofs.lemmas.Map.Views.{exact_unsigned_eq}
 use Rattle.std.specs.FinMap.{FinMap, get, insert, get-insert}
 use Rattle.busdma_base.specs.declared.machine.address.Extent.{Extent}
 use Rattle.busdma_base.specs.Runs.{run_of, addresses}
-use Rattle.loan_table.specs.Kept.{AreLow, Ends}
+use Rattle.loan_table.specs.Ends.{Ends}
+use Rattle.loan_table.specs.Kept.{AreLow}
 use Rattle.loan_table.specs.Table.{AreIn, set_all}
 
 -- what stands for an extent that a list does not have

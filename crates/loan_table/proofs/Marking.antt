@@ -23,7 +23,7 @@ addresses_of-marked : (ops : ℕ) (ps : List Position) → addresses_of (map (ma
 addresses_of-marked ops [] = refl
 addresses_of-marked ops (p ∷ ps) = ap (λ xs. p.pa ∷ xs) (addresses_of-marked ops ps)
 
-three_parts : (off len : ℕ) (ps : List Position) → take off ps ++ stretch off len ps ++ drop (off + len) ps ≡ ps
+pub three_parts : (off len : ℕ) (ps : List Position) → take off ps ++ stretch off len ps ++ drop (off + len) ps ≡ ps
 three_parts off len ps =
     append_assoc (take off ps) _ _
     ∙ ap (λ xs. take off ps ++ (stretch off len ps ++ xs)) (sym (drop-drop len off ps))

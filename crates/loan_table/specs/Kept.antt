@@ -24,10 +24,6 @@ HasItsBytes bytes loans = (m : ℕ) → AreIn bytes (addresses_of (loan_of loans
 abbrev pub AreLow : FinMap nat_cmp Bool → Type 0
 AreLow bytes = (a : ℕ) → IsSome (get bytes a) → a < 2 ^ 42
 
--- an extent that has a byte ends below 2^64
-abbrev pub Ends : Extent → Type 0
-Ends e = 0 < e.len → e.pa.0 + e.len < 2 ^ 64
-
 -- how many positions the maps of a table have, open or prepared
 abbrev pub position_count : List (ℕ × Slot) → ℕ
 position_count entries = sum_by (λ s. length s.row.positions) (values_of entries)
