@@ -5,7 +5,6 @@ pub mod Inside
 pub mod Judgement
 pub mod Keeping
 pub mod LoansInTree
-pub mod MarkedRuns
 pub mod Marking
 pub mod Pieces
 pub mod PlacedBytes

@@ -1,6 +1,7 @@
 -- Positions of a piece that meet the same.
 use Rattle.std.proofs.Common.{◌≡◌, ℕ, ◌+◌, ◌-◌, ◌<◌, ◌≤◌, ◌||◌, Bool, true, false, cond, if◌then◌else◌, nat_lt, None, Some, Option}
-use Rattle.std.proofs.Common.{List, ◌++◌, map, refl, sym, ap, ◌∙◌, arith}
+use Rattle.std.proofs.Common.{◌++◌, refl, sym, ap, ◌∙◌, arith}
+use Rattle.std.proofs.lemmas.Bool.Decides.{nat_tests}
 use Rattle.std.proofs.lemmas.List.{map-id}
 use Rattle.busdma_base.specs.declared.journals.report.ReportName.{ReportName}
 use Rattle.busdma_base.specs.declared.journals.report.ReportName.TheVariants.{DeviceReadUnlent, StaleByte}
@@ -13,7 +14,7 @@ use Rattle.loan_table.specs.declared.row.Way.{Way}
 use Rattle.loan_table.specs.declared.row.Way.TheVariants.{ToWrite, Any}
 use Rattle.loan_table.specs.declared.access.Access.{Access}
 use Rattle.loan_table.specs.declared.access.Access.TheVariants.{Read, Write}
-use Rattle.loan_table.specs.Counted.{counts_of, places, lent_places, IsCounted, IsOf, IsPlaced, Lender}
+use Rattle.loan_table.specs.Counted.{counts_of, places, lent_places, IsCounted, IsOf, IsPlaced, IsUnlent, Lender}
 use Rattle.loan_table.specs.Kinds.{cpu_refusal, dev_refusal, test_of}
 use Rattle.loan_table.specs.Lending.{sync_refusal}
 use Rattle.loan_table.specs.Loans.{Loan, Loans, in_any_way, lent, lent_elsewhere, loan_of, stands_twice, to_write}
@@ -24,6 +25,7 @@ use Rattle.loan_table.proofs.Totals.{elsewhere_counted, lent_counted}
 -- what a sync meets at two bytes that are lent alike
 module _ (counts : LentCounts) (loan : Loan) (lender : Lender) (of : IsOf counts loan lender) (p : Position) (a : ℕ)
     (here : IsPlaced loan (lent_as p p.pa)) (there : IsPlaced loan (lent_as p a))
+    (alone : stands_twice p.pa loan ≡ true → IsUnlent counts p.pa)
     (twice : stands_twice a loan ≡ stands_twice p.pa loan)
     (same : (way : Way) → count (counts_of counts way) a ≡ count (counts_of counts way) p.pa) where
   own : stands_twice p.pa loan ≡ false → (way : Way) →
@@ -46,14 +48,31 @@ module _ (counts : LentCounts) (loan : Loan) (lender : Lender) (of : IsOf counts
       of.1
       ∙ sym (elsewhere_counted (test_of way) p.pa lender.loans lender.map)
 
-  pub same_refusal : stands_twice p.pa loan ≡ false → (ops : ℕ) →
+  none_above : (m n : ℕ) → n ≡ 0 → nat_lt m n ≡ false
+  none_above m n e = grind (arith, nat_tests)
+
+  unlent : (b : ℕ) → ((way : Way) → count (counts_of counts way) b ≡ 0) → (way : Way) →
+      lent_elsewhere (test_of way) lender.map b lender.loans ≡ false
+  unlent b none way =
+      elsewhere_counted (test_of way) b lender.loans lender.map
+      ∙ none_above (places (test_of way) b (loan_of lender.loans lender.map).positions)
+      (lent_places (test_of way) b lender.loans) (sym (of.0 way b) ∙ none way)
+
+  either : (t : Bool) → stands_twice p.pa loan ≡ t → (way : Way) →
+      lent_elsewhere (test_of way) lender.map a lender.loans
+      ≡ lent_elsewhere (test_of way) lender.map p.pa lender.loans
+  either false once way = elsewhere once way
+  either true two way =
+      unlent a (λ w. same w ∙ alone two w) way ∙ sym (unlent p.pa (alone two) way)
+
+  pub same_refusal : (ops : ℕ) →
       sync_refusal lender.loans lender.map ops (lent_as p a)
       ≡ sync_refusal lender.loans lender.map ops (lent_as p p.pa)
-  same_refusal once ops =
+  same_refusal ops =
       let write : lent_elsewhere to_write lender.map a lender.loans
-      ≡ lent_elsewhere to_write lender.map p.pa lender.loans = elsewhere once ToWrite in
+      ≡ lent_elsewhere to_write lender.map p.pa lender.loans = either (stands_twice p.pa loan) refl ToWrite in
       let any : lent_elsewhere in_any_way lender.map a lender.loans
-      ≡ lent_elsewhere in_any_way lender.map p.pa lender.loans = elsewhere once Any in
+      ≡ lent_elsewhere in_any_way lender.map p.pa lender.loans = either (stands_twice p.pa loan) refl Any in
       let stands : stands_twice a (loan_of lender.loans lender.map)
       ≡ stands_twice p.pa (loan_of lender.loans lender.map) =
       ap (stands_twice a) (sym of.1) ∙ twice ∙ ap (stands_twice p.pa) of.1 in

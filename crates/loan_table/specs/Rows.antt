@@ -18,9 +18,15 @@ stands a bytes = count_by (λ b. b == a) bytes
 abbrev pub CountsPlaces : Counts → List ℕ → Type 0
 CountsPlaces places bytes = (a : ℕ) → count places a ≡ stands a bytes
 
+-- at which positions stretches begin, the first of them at one
+abbrev pub starts_from : ℕ → List Extent → List ℕ
+starts_from at [] = []
+starts_from at (e ∷ es) = at ∷ starts_from (at + e.len) es
+
 -- what is true of the fields of each buffer
-pub record IsBuffer (stretches : List Extent) (len : ℕ) (places : Counts) : Type 0 where
+pub record IsBuffer (stretches : List Extent) (starts : List ℕ) (len : ℕ) (places : Counts) : Type 0 where
   pub ends : All Ends stretches
+  pub begun : starts ≡ starts_from 0 stretches
   pub long : byte_count stretches ≡ len
   pub small : byte_count stretches < 2 ^ 64
   pub counted : CountsPlaces places (addresses stretches)

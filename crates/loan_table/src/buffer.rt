@@ -5,12 +5,13 @@ ghost use Rattle.std.specs.List.{All};
 ghost use Rattle.busdma_base.specs.Machine.Wire.{stretch};
 ghost use Rattle.busdma_base.specs.Runs.{run_of, addresses, byte_count};
 ghost use Rattle.loan_table.specs.Ends.{Ends};
-ghost use Rattle.loan_table.specs.Rows.{stands, CountsPlaces};
+ghost use Rattle.loan_table.specs.Rows.{stands, starts_from, CountsPlaces};
 ghost use Rattle.run_set.specs.Counts.{changed, count};
 ghost use Rattle.run_set.specs.Edges.{in_run};
 
 use busdma_base::{Extent, Pa};
 use run_set::RunCounts;
+use run_set::numbers::count_at;
 use std::alloc::{AllocError, Global};
 use std::marker::Model;
 
@@ -19,6 +20,7 @@ use std::marker::Model;
 #[derive(Drop)]
 pub struct Buffer {
     stretches: Vec<Extent>,
+    starts: Vec<u64>,
     len: u64,
     places: RunCounts,
 }
@@ -35,7 +37,7 @@ impl Model for Buffer {
 
     ghost view = { λ b. addresses b.stretches.items };
 
-    ghost invariant = { λ b. IsBuffer b.stretches.items b.len b.places };
+    ghost invariant = { λ b. IsBuffer b.stretches.items b.starts.items b.len b.places };
 }
 
 impl Buffer {
@@ -46,10 +48,12 @@ impl Buffer {
         ensures { IfOk result (λ buffer. buffer ≡ addresses extents.now) }
     {
         let stretches = stretches_of(alloc, extents)?;
+        let starts = starts_of(alloc, &stretches)?;
         let places = places_over(alloc, extents)?;
         let len = len_of(extents);
         Ok(Buffer {
             stretches,
+            starts,
             len,
             places,
         })
@@ -71,7 +75,7 @@ impl Buffer {
         ensures fits { result.pa.0 + result.len < 2 ^ 64 }
         ensures bytes { stretch at result.len self.now ≡ run_of result.pa.0 result.len }
     {
-        stretch_at(&self.stretches, at, end)
+        stretch_at(&self.stretches, &self.starts, at, end)
     }
 
     /// At how many positions a byte stands.
@@ -94,25 +98,18 @@ impl Buffer {
 }
 
 /// The bytes from a position on, up to `end` or to the end of their stretch.
-fn stretch_at(stretches: &[Extent], at: u64, end: u64) -> Extent
+fn stretch_at(stretches: &[Extent], starts: &[u64], at: u64, end: u64) -> Extent
     requires ends { All Ends stretches.now }
+    requires starts { starts.now ≡ starts_from 0 stretches.now }
     requires some { at < end }
     requires range { end ≤ byte_count stretches.now }
-    requires total { byte_count stretches.now < 2 ^ 64 }
     ensures some { 0 < result.len }
     ensures within { at + result.len ≤ end }
     ensures fits { result.pa.0 + result.len < 2 ^ 64 }
     ensures bytes { stretch at result.len (addresses stretches.now) ≡ run_of result.pa.0 result.len }
 {
-    let mut before = 0;
-    for run in stretches {
-        let skipped = at - before;
-        if skipped < run.len {
-            return part_of(run, skipped, end - at);
-        }
-        before += run.len;
-    }
-    Extent { pa: Pa(0), len: 0 }
+    let last = count_at(starts, at) - 1;
+    part_of(&stretches[last], at - starts[last], end - at)
 }
 
 /// At most so many bytes of a stretch, without the first of them.
@@ -180,6 +177,20 @@ fn join(run: &mut Extent, next: &Extent) -> bool
     }
     run.len += next.len;
     true
+}
+
+/// At which positions stretches begin.
+fn starts_of(alloc: Global, stretches: &[Extent]) -> Result<Vec<u64>, AllocError>
+    requires { byte_count stretches.now < 2 ^ 64 }
+    ensures { IfOk result (λ starts. starts.items ≡ starts_from 0 stretches.now) }
+{
+    let mut starts = Vec::new(alloc);
+    let mut before = 0;
+    for run in stretches {
+        starts.push(before)?;
+        before += run.len;
+    }
+    Ok(starts)
 }
 
 /// At how many positions of a buffer each byte stands.

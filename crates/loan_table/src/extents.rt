@@ -14,7 +14,12 @@ use std::alloc::{AllocError, Global};
 
 /// The extents that hold the bytes of a range of a map's buffer, in order: a byte that comes right
 /// behind the one before it, in the same frame, is in the same extent.
-pub fn extents_of(alloc: Global, row: &LoanRow, off: u64, len: u64) -> Result<Vec<Extent>, AllocError>
+pub fn extents_of(
+    alloc: Global,
+    row: &LoanRow,
+    off: u64,
+    len: u64,
+) -> Result<Vec<Extent>, AllocError>
     requires range { off + len ≤ length row.now.positions }
     requires low { All (λ p. p.pa < 2 ^ 42) row.now.positions }
     ensures bytes { IfOk result (λ list. let range = stretch off len row.now.positions in
@@ -107,5 +112,9 @@ fn more_extents(before: u64, piece: &Piece) -> u64
     let first = piece.first.pa;
     let last = first + piece.len - 1;
     let frames = last / 4096 - first / 4096;
-    if is_next(before, first) { frames } else { 1 + frames }
+    if is_next(before, first) {
+        frames
+    } else {
+        1 + frames
+    }
 }

@@ -1,10 +1,10 @@
 //! How often the bytes of a driver are lent.
 
-ghost use Rattle.std.specs.Prelude.{◌≡◌, ℕ, ◌+◌, ◌≤◌, ◌<◌, ◌^◌, length, map, OnOk, true, []};
+ghost use Rattle.std.specs.Prelude.{◌≡◌, ℕ, ◌+◌, ◌≤◌, ◌<◌, ◌^◌, length, map, OnOk, true, false, []};
 ghost use Rattle.busdma_base.specs.Machine.Wire.{stretch};
 ghost use Rattle.run_set.specs.Counts.{count};
 ghost use Rattle.loan_table.specs.Counted.{counts_of, places, places_in, HasChanges, Holds, IsAlike, IsRecounted};
-ghost use Rattle.loan_table.specs.Counted.{UsesChanges};
+ghost use Rattle.loan_table.specs.Counted.{IsUnlent, UsesChanges};
 ghost use Rattle.loan_table.specs.Kinds.{test_of};
 ghost use Rattle.loan_table.specs.Lending.{marked};
 
@@ -51,6 +51,13 @@ impl LentCounts {
             Way::ToWrite => self.to_write.count(pa),
             Way::Any => self.any.count(pa),
         }
+    }
+
+    /// Whether a byte is lent.
+    pub fn is_lent(&self, pa: u64) -> bool
+        ensures { result ≡ false → IsUnlent self.now pa }
+    {
+        self.count(Way::ToWrite, pa) > 0 || self.count(Way::Any, pa) > 0
     }
 
     /// The byte up to which all bytes from `start` on are lent at as many positions as it is; `end`

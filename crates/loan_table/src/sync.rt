@@ -9,7 +9,7 @@ ghost use Rattle.busdma_base.specs.Machine.Wire.{stretch};
 ghost use Rattle.run_set.specs.Counts.{count};
 ghost use Rattle.loan_table.specs.Lending.{lost, synced, sync_answer, sync_refusal, prewrite_refusal, preread_refusal};
 ghost use Rattle.loan_table.specs.Lending.{postread_refusal};
-ghost use Rattle.loan_table.specs.Counted.{counts_of, HasChanges, IsCounted, IsOf, IsPlaced, Lender, UsesChanges};
+ghost use Rattle.loan_table.specs.Counted.{counts_of, HasChanges, IsCounted, IsUnlent, IsOf, IsPlaced, Lender, UsesChanges};
 ghost use Rattle.loan_table.specs.Kept.{position_count};
 ghost use Rattle.loan_table.specs.Kinds.{test_of};
 ghost use Rattle.loan_table.specs.Loans.{loan_of, addresses_of, lent_elsewhere, stands_twice};
@@ -35,7 +35,11 @@ fn lent_elsewhere(lent: &LentCounts, row: &LoanRow, way: Way, position: Position
     ensures { (lender : Lender) → IsOf lent.now row.now lender →
         result ≡ lent_elsewhere (test_of way) lender.map position.pa lender.loans }
 {
-    lent.count(way, position.pa) > row.lent_places(way, position)
+    let count = lent.count(way, position.pa);
+    if count == 0 {
+        return false;
+    }
+    count > row.lent_places(way, position)
 }
 
 /// What PREWRITE meets at a position.
@@ -109,14 +113,15 @@ fn same_len(lent: &LentCounts, row: &LoanRow, piece: &Piece) -> u64
     requires fits { piece.now.first.pa + piece.now.len < 2 ^ 64 }
     ensures some { 0 < result }
     ensures within { result ≤ piece.now.len }
-    ensures alone { stands_twice piece.now.first.pa row.now ≡ true → result ≡ 1 }
+    ensures alone { 1 < result → stands_twice piece.now.first.pa row.now ≡ true →
+        IsUnlent lent.now piece.now.first.pa }
     ensures stands { (a : ℕ) → piece.now.first.pa ≤ a → a < piece.now.first.pa + result →
         stands_twice a row.now ≡ stands_twice piece.now.first.pa row.now }
     ensures counts { (way : Way) (a : ℕ) → piece.now.first.pa ≤ a → a < piece.now.first.pa + result →
         count (counts_of lent.now way) a ≡ count (counts_of lent.now way) piece.now.first.pa }
 {
     let start = piece.first.pa;
-    if row.stands_twice(start) {
+    if row.stands_twice(start) && lent.is_lent(start) {
         return 1;
     }
     let turn = row.turn(start, start + piece.len);

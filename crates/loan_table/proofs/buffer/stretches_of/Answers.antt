@@ -1,4 +1,4 @@
-use Rattle.std.proofs.Common.{◌≡◌, ◌+◌, ◌++◌, ◌∷◌, [], drop, slice_index_or, subst, ap, sym, ◌∙◌}
+use Rattle.std.proofs.Common.{◌≡◌, ◌++◌, ◌∷◌, [], slice_index_or, subst, ap, sym, ◌∙◌}
 use Rattle.std.specs.List.{All}
 use Rattle.std.proofs.lemmas.List.{at_drop_more, at_drop_all}
 use Rattle.std.proofs.lemmas.List.Elements.{All-append, All-cons, All-nil, All-get_or, All-head, All-rest}
@@ -38,15 +38,15 @@ loop-extent-preserved c =
           w.in_ok-push.ensures.items ∙ ap (λ r. t.stretches.items ++ r ∷ []) same in
           record {
             bytes = rw (w.stretches-is, w.run-is) (stretch_begins t.stretches.items t.run e _ _ _ first t.invariant.bytes
-            _ pushed);
+                _ pushed);
             ends = rw w.stretches-is (subst (All Ends) (sym pushed) (All-append Ends t.stretches.items (t.run ∷ [])
-            t.invariant.ends (All-cons Ends t.run [] t.invariant.here (All-nil Ends))));
+                t.invariant.ends (All-cons Ends t.run [] t.invariant.here (All-nil Ends))));
             here = rw w.run-is (All-get_or Ends rest i no_extent c.loop-extent-test.true t.invariant.later);
             later = t.invariant.later;
           }
       | else-not-join w ↦ record {
         bytes = rw (w.stretches-is, w.run-is) (stretch_joins t.stretches.items t.run e _ _ _ first t.invariant.bytes
-        c.join.new.run (c.join.ensures.joined w.if-not-join.false));
+            c.join.new.run (c.join.ensures.joined w.if-not-join.false));
         ends = rw w.stretches-is t.invariant.ends;
         here = rw w.run-is c.join.ensures.ends;
         later = t.invariant.later;

@@ -1,5 +1,4 @@
-use Rattle.std.proofs.Common.{◌≡◌, ◌+◌, ◌++◌, ap, sym, ◌∙◌, arith}
-use Rattle.busdma_base.specs.Machine.Wire.{stretch}
+use Rattle.std.proofs.Common.{ap, sym, ◌∙◌, arith}
 use Rattle.loan_table.specs.Loans.{addresses_of}
 use Rattle.loan_table.specs.Table.{extent_count, more_extents}
 use Rattle.loan_table.proofs.Frames.{count_from, more_behind}

@@ -1,10 +1,9 @@
 use Rattle.std.proofs.Common.{◌≡◌, ℕ, ◌+◌, ◌-◌, ◌%◌, ◌<◌, ◌≤◌, ◌^◌, ◌++◌, List, true, ap, sym, ◌∙◌, cond, length, subst, arith}
-use Rattle.std.specs.List.{All}
 use Rattle.std.proofs.lemmas.List.{length-append}
 use Rattle.std.proofs.lemmas.List.Elements.{All-push, All-nil}
 use Rattle.busdma_base.specs.declared.machine.address.Extent.{Extent}
 use Rattle.busdma_base.specs.Machine.Wire.{stretch}
-use Rattle.busdma_base.specs.Runs.{addresses, run_of, IsExtent}
+use Rattle.busdma_base.specs.Runs.{run_of, IsExtent}
 use Rattle.loan_table.specs.declared.position.Position.{Position}
 use Rattle.loan_table.specs.Loans.{addresses_of}
 use Rattle.loan_table.specs.Rows.{alike}
@@ -93,7 +92,7 @@ loop-at-preserved c =
           let zero = more ∙ ap (λ b. cond b 0 1 + later) is in
           record {
             bytes = rw (w.extents-is, w.run-is) (stretch_joins t.extents.items run next _ _ _ ahead t.invariant.bytes
-            (record { pa = run.pa; len = run.len + next.len }) joined);
+                (record { pa = run.pa; len = run.len + next.len }) joined);
             count = rw (w.extents-is, w.run-is, same) (omega (arith, zero, t.invariant.count));
             extents = rw w.extents-is t.invariant.extents;
             run = subst IsExtent (sym w.run-is) (longer run next t.invariant.run extent is);
@@ -105,7 +104,7 @@ loop-at-preserved c =
           let long = ap length w.in_ok-push.ensures.items ∙ length-append t.extents.items _ in
           record {
             bytes = rw (w.extents-is, w.run-is) (stretch_begins t.extents.items run next _ _ _ ahead t.invariant.bytes
-            _ w.in_ok-push.ensures.items);
+                _ w.in_ok-push.ensures.items);
             count = rw (w.extents-is, w.run-is) (omega (arith, one, long, t.invariant.count));
             extents =
                 rw (w.extents-is, w.in_ok-push.ensures.items)

@@ -1,11 +1,10 @@
-use Rattle.std.proofs.Common.{◌+◌, ◌-◌, false, ap, sym, refl, ◌∙◌, arith}
+use Rattle.std.proofs.Common.{false, ap, sym, refl, ◌∙◌, arith}
 use Rattle.std.specs.List.{filter}
-use Rattle.busdma_base.specs.Machine.Wire.{stretch}
 use Rattle.busdma_base.specs.Runs.{run_of}
 use Rattle.loan_table.specs.Kinds.{losing_test}
 use Rattle.loan_table.specs.Loans.{addresses_of}
 use Rattle.loan_table.specs.Rows.{alike}
-use Rattle.loan_table.specs.Table.{AreIn, set_all}
+use Rattle.loan_table.specs.Table.{set_all}
 use Rattle.loan_table.proofs.Addresses.{AreIn-set_all}
 use Rattle.loan_table.proofs.Pieces.{addresses_ahead, filter_ahead, marked_front, nothing, there_back, there_front, whole}
 use Rattle.loan_table.proofs.losing.lose.Goals as goal

@@ -1,4 +1,4 @@
-use Rattle.std.proofs.Common.{◌≡◌, ◌∙◌, sym, ap, cond, ℕ, refl, false, List, []}
+use Rattle.std.proofs.Common.{◌≡◌, ◌∙◌, sym, ap, cond, ℕ, refl, false, []}
 use Rattle.std.specs.List.{filter}
 use Rattle.loan_table.specs.declared.losing.Losing.{Losing}
 use Rattle.loan_table.specs.declared.losing.Losing.TheVariants.{Call, Forgetting}

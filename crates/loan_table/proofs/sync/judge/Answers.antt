@@ -1,10 +1,9 @@
-use Rattle.std.proofs.Common.{◌≡◌, ◌+◌, ◌-◌, ◌<◌, ◌≤◌, ℕ, true, false, refl, ap, sym, ◌∙◌, None, arith}
+use Rattle.std.proofs.Common.{◌≡◌, leb, ◌+◌, ◌-◌, ◌<◌, ◌≤◌, ℕ, true, false, refl, ap, sym, ◌∙◌, None, arith}
+use Rattle.std.proofs.lemmas.Bool.{leb-true, leb-false}
 use Rattle.busdma_base.specs.Journals.Judging.{judged}
 use Rattle.busdma_base.specs.Machine.Wire.{stretch}
-use Rattle.loan_table.specs.Counted.{IsOf, IsPlaced, Lender}
+use Rattle.loan_table.specs.Counted.{IsPlaced}
 use Rattle.loan_table.specs.Lending.{sync_refusal}
-use Rattle.loan_table.specs.Loans.{stands_twice}
-use Rattle.loan_table.specs.Rows.{alike}
 use Rattle.loan_table.proofs.Marking.{no_position}
 use Rattle.loan_table.proofs.Pieces.{first_refused, in_piece, lent_as, none_refused, nothing, shorter, whole}
 use Rattle.loan_table.proofs.Recounting.{all_placed}
@@ -57,18 +56,19 @@ loop-at-preserved c =
           let passed : refusal (lent_as first first.pa) ≡ None =
           sym (c.sync_refusal.ensures lender of) ∙ c.in_default.is in
           let each : (a : ℕ) → first.pa ≤ a → a < first.pa + m → refusal (lent_as first a) ≡ None =
-          λ a from to. elim (stands_twice first.pa row) as (λ b. stands_twice first.pa row ≡ b →
-          refusal (lent_as first a) ≡ None) [
-            | true ↦ λ twice.
-                let one : m ≡ 1 = c.same_len-at.ensures.alone twice in
-                let same : a ≡ first.pa = omega (arith, one) in
+          λ a from to. elim (leb m 1) as (λ b. leb m 1 ≡ b → refusal (lent_as first a) ≡ None) [
+            | true ↦ λ e.
+                let few : m ≤ 1 = leb-true m 1 e in
+                let same : a ≡ first.pa = omega (arith, few) in
                 ap (λ k. refusal (lent_as first k)) same ∙ passed
-            | false ↦ λ once.
+            | false ↦ λ e.
+                let more : 1 < m = leb-false m 1 e in
                 same_refusal c.args.lent.now row lender of first a
                 (here first.pa (omega arith) (omega (arith, c.piece-piece.ensures.some)))
                 (here a from (omega (arith, c.same_len-at.ensures.within)))
-                (c.same_len-at.ensures.stands a from to) (λ way. c.same_len-at.ensures.counts way a from to) once c.args.ops.0
-                ∙ passed
+                (c.same_len-at.ensures.alone more)
+                (c.same_len-at.ensures.stands a from to) (λ way. c.same_len-at.ensures.counts way a from to)
+                c.args.ops.0 ∙ passed
           ] refl in
           sym (ap (judged refusal c.loop-at.at) (shorter c.loop-at.at end piece.len m first row.positions
           c.piece-piece.ensures.is c.same_len-at.ensures.within c.piece-piece.ensures.within)

@@ -7,5 +7,5 @@ stretch_at-requires-clause-range c =
     let range = rw (← c.self.view_is) at c.requires.range in
     rw c.deref.ensures.value (omega (arith, range, length-addresses c.self.inside.stretches.items))
 
-pub stretch_at-requires-clause-total : goal.stretch_at-requires-clause-total
-stretch_at-requires-clause-total c = rw c.deref.ensures.value c.self.invariant.small
+pub stretch_at-requires-clause-starts : goal.stretch_at-requires-clause-starts
+stretch_at-requires-clause-starts c = rw (c.deref.ensures.value, c.deref-2.ensures.value) c.self.invariant.begun

@@ -1,4 +1,4 @@
-use Rattle.std.proofs.Common.{Bool, ◌&&◌, ap, sym, ◌∙◌, arith}
+use Rattle.std.proofs.Common.{◌&&◌, ap, sym, ◌∙◌, arith}
 use Rattle.run_set.specs.Edges.{member}
 use Rattle.loan_table.proofs.RunMarks.{known_by_marks}
 use Rattle.loan_table.proofs.marks.ByteMarks.turn.Goals as goal

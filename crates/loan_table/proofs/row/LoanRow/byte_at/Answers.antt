@@ -1,4 +1,4 @@
-use Rattle.std.proofs.Common.{ap, nat_lt, sym, ◌∙◌, arith}
+use Rattle.std.proofs.Common.{arith}
 use Rattle.run_set.specs.Edges.{member}
 use Rattle.loan_table.proofs.PlacedBytes.{byte_of, length-placed}
 use Rattle.loan_table.proofs.row.LoanRow.byte_at.Goals as goal
