@@ -1,6 +1,6 @@
 -- Many bytes at once.
 use Rattle.std.proofs.Common.{◌≡◌, ℕ, zero, suc, length, slice_index, ◌+◌, ◌-◌, ◌<◌, ◌≤◌, ◌^◌, Bool, true, false, cond}
-use Rattle.std.proofs.Common.{List, [], ◌∷◌, ◌++◌, ◌==◌, Option, Some, IsSome, refl, sym, ap, ◌∙◌, subst, add-zero}
+use Rattle.std.proofs.Common.{List, [], ◌∷◌, ◌++◌, ◌==◌, Option, Some, IsSome, refl, sym, ap, ◌∙◌, subst}
 use Rattle.std.proofs.Common.{arith}
 use Rattle.std.specs.List.{All, AllByRecursion}
 use Rattle.std.proofs.lemmas.List.Elements.{All-from_recursion}
@@ -10,7 +10,8 @@ use Rattle.std.proofs.lemmas.Map.Views.{exact_unsigned_eq}
 use Rattle.std.specs.FinMap.{FinMap, get, insert, get-insert}
 use Rattle.busdma_base.specs.declared.machine.address.Extent.{Extent}
 use Rattle.busdma_base.specs.Runs.{run_of, addresses}
-use Rattle.loan_table.specs.Kept.{AreLow, Ends}
+use Rattle.loan_table.specs.Ends.{Ends}
+use Rattle.loan_table.specs.Kept.{AreLow}
 use Rattle.loan_table.specs.Table.{AreIn, set_all}
 
 -- what stands for an extent that a list does not have
@@ -56,13 +57,6 @@ run_of_zero at n e = rw e refl
 
 pub run_none : (at end : ℕ) → end ≤ at → run_of at (end - at) ≡ []
 run_none at end h = run_of_zero at (end - at) (omega arith)
-
--- a loop that marks bytes, at one byte, at several and at its end
-pub write_step : (m n w : FinMap nat_cmp Bool) (a : ℕ) (v : Bool) (keys rest : List ℕ) → keys ≡ a ∷ rest →
-    n ≡ insert m a v → (set_all m keys v ≡ w) × AreIn m keys → (set_all n rest v ≡ w) × AreIn n rest
-write_step m n w a v keys rest e is h =
-    let g = rw e at h in
-    (ap (λ x. set_all x rest v) is ∙ g.0, rw is (AreIn-insert m a v rest g.1.1))
 
 pub writes_step : (m n w : FinMap nat_cmp Bool) (v : Bool) (keys front rest : List ℕ) → keys ≡ front ++ rest →
     n ≡ set_all m front v → (set_all m keys v ≡ w) × AreIn m keys → (set_all n rest v ≡ w) × AreIn n rest
@@ -121,25 +115,6 @@ extents_end m low (e ∷ es) h =
 
 pub AllEnd : (m : FinMap nat_cmp Bool) → AreLow m → (es : List Extent) → AreIn m (addresses es) → All Ends es
 AllEnd m low es h = All-from_recursion Ends es (extents_end m low es h)
-
--- a run that has one more byte
-pub run_of-push : (a n : ℕ) → run_of a (suc n) ≡ run_of a n ++ (a + n) ∷ []
-run_of-push a zero = ap (λ x. x ∷ []) (sym (add-zero a))
-run_of-push a (suc n) = let e : a + 1 + n ≡ a + suc n =
-    omega arith in ap (λ xs. a ∷ xs) (run_of-push (a + 1) n ∙ ap (λ x. run_of (a + 1) n ++ x ∷ []) e)
-
-pub run_grows : (pa at : ℕ) → pa ≤ at → run_of pa (at + 1 - pa) ≡ run_of pa (at - pa) ++ at ∷ []
-run_grows pa at h =
-    let more : at + 1 - pa ≡ suc (at - pa) = omega arith in
-    let last : pa + (at - pa) ≡ at = omega arith in
-    ap (run_of pa) more ∙ run_of-push pa (at - pa) ∙ ap (λ x. run_of pa (at - pa) ++ x ∷ []) last
-
--- a loop that adds the bytes of a run, at one byte
-pub add_step : (m n w : FinMap nat_cmp Bool) (pa at : ℕ) (v : Bool) → pa ≤ at → n ≡ insert m at v →
-    m ≡ set_all w (run_of pa (at - pa)) v → n ≡ set_all w (run_of pa (at + 1 - pa)) v
-add_step m n w pa at v h is e = is ∙ ap (λ x. insert x at v) e
-    ∙ sym (set_all-append w (run_of pa (at - pa)) (at ∷ []) v)
-    ∙ sym (ap (λ keys. set_all w keys v) (run_grows pa at h))
 
 pub AreIn-at : (m : FinMap nat_cmp Bool) (xs : List ℕ) (i : ℕ) → AreIn m xs →
     i < length xs → IsSome (get m (slice_index xs i))

@@ -44,9 +44,3 @@ pub judged-some : {X : Type 0} (f : X → Option ReportName) (at : ℕ) (xs rest
     Refused (record { name = name; at = at }) ≡ answer
 judged-some f at xs rest x name answer e some h =
     sym (ap (λ o. refused_or o at (judged f (at + 1) rest)) some) ∙ sym (ap (judged f at) e) ∙ h
-
--- one that is not refused: what is left is judged
-pub judged-none : {X : Type 0} (f : X → Option ReportName) (at : ℕ) (xs rest : List X) (x : X) (answer : Judged) →
-    xs ≡ x ∷ rest → f x ≡ None → judged f at xs ≡ answer → judged f (at + 1) rest ≡ answer
-judged-none f at xs rest x answer e none h =
-    sym (ap (λ o. refused_or o at (judged f (at + 1) rest)) none) ∙ sym (ap (judged f at) e) ∙ h

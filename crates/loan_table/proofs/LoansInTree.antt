@@ -1,17 +1,14 @@
 -- Loans in a tree map: a loan that is found, a test over all loans, and marks that are set.
-use Rattle.std.proofs.Common.{◌≡◌, ℕ, Bool, true, false, List, [], Some, None}
+use Rattle.std.proofs.Common.{◌≡◌, ℕ, Bool, true, false, List, Some, None}
 use Rattle.std.proofs.Common.{unwrap_or, cond, refl, ap, ◌∙◌}
 use Rattle.std.specs.Ordering.{nat_cmp}
 use Rattle.std.specs.Map.{lookup}
 use Rattle.std.specs.BTreeMap.{is_at}
 use Rattle.std.specs.FinMap.{insert}
 use Rattle.loan_table.specs.Loans.{Loan, Loans, loan_of, no_loan}
-use Rattle.busdma_base.specs.declared.journals.report.Judged.TheVariants.{Fine}
 use Rattle.busdma_base.specs.Journals.Judging.{judged}
-use Rattle.loan_table.specs.Loans.{addresses_of}
 use Rattle.busdma_base.specs.Machine.Wire.{stretch}
-use Rattle.loan_table.specs.Lending.{synced, marked_range, sync_answer, sync_refusal, lost, loses}
-use Rattle.std.specs.List.{filter}
+use Rattle.loan_table.specs.Lending.{synced, marked_range, sync_answer, sync_refusal}
 use Rattle.loan_table.specs.declared.slot.Slot.{Slot}
 use Rattle.loan_table.specs.Trees.{loans_in}
 use Rattle.loan_table.proofs.Trees.{get-loans_in, loan_at}
@@ -44,22 +41,10 @@ pub synced_coherent : (loans : Loans) (m off len : ℕ) (ops : ℕ) (row : Loan)
     row.coherent ≡ true → loans ≡ synced loans m off len ops
 synced_coherent loans m off len ops row e open_ = rw (e, open_) refl
 
-pub answer_coherent : (loans : Loans) (m off len : ℕ) (ops : ℕ) (row : Loan) → loan_of loans m ≡ row →
-    row.coherent ≡ true → Fine ≡ sync_answer loans m off len ops
-answer_coherent loans m off len ops row e h = rw (e, h) refl
-
 pub answer_judged : (loans : Loans) (m off len : ℕ) (ops : ℕ) (row : Loan) → loan_of loans m ≡ row →
     row.coherent ≡ false → judged (sync_refusal loans m ops) off (stretch off len row.positions)
     ≡ sync_answer loans m off len ops
 answer_judged loans m off len ops row e h = rw (e, h) refl
-
-pub lost_coherent : (loans : Loans) (m off len : ℕ) (ops : ℕ) (row : Loan) → loan_of loans m ≡ row →
-    row.coherent ≡ true → [] ≡ lost loans m off len ops
-lost_coherent loans m off len ops row e h = rw (e, h) refl
-
-pub lost_open : (loans : Loans) (m off len : ℕ) (ops : ℕ) (row : Loan) → loan_of loans m ≡ row → row.coherent ≡ false →
-    addresses_of (filter (loses ops) (stretch off len row.positions)) ≡ lost loans m off len ops
-lost_open loans m off len ops row e h = rw (e, h) refl
 
 pub loan_missing : (is_open : Bool) (es : List (ℕ × Slot)) (m : ℕ) →
     lookup (is_at (nat_cmp m)) es ≡ None → loan_of (loans_in is_open es) m ≡ no_loan

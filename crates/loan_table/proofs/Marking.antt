@@ -8,12 +8,11 @@ use Rattle.std.specs.Cmp.{nat_cmp_total, unsigned_tied}
 use Rattle.std.proofs.lemmas.Map.Views.{exact_unsigned_eq}
 use Rattle.std.specs.FinMap.{FinMap, get, insert, remove, get-insert, get-remove}
 use Rattle.loan_table.specs.declared.position.Position.{Position}
-use Rattle.loan_table.specs.Table.{AreIn, set_all}
+use Rattle.loan_table.specs.Table.{AreIn}
 use Rattle.loan_table.specs.Loans.{Loan, Loans, loan_of, no_loan, addresses_of, unlent}
 use Rattle.busdma_base.specs.Machine.Wire.{stretch}
 use Rattle.loan_table.specs.Lending.{marked, marked_range, loses, lost, synced}
 use Rattle.loan_table.specs.Trees.{with_value}
-use Rattle.loan_table.proofs.Addresses.{AreIn-insert}
 
 -- what stands for a position that a buffer does not have
 abbrev pub no_position : Position
@@ -23,7 +22,7 @@ addresses_of-marked : (ops : ℕ) (ps : List Position) → addresses_of (map (ma
 addresses_of-marked ops [] = refl
 addresses_of-marked ops (p ∷ ps) = ap (λ xs. p.pa ∷ xs) (addresses_of-marked ops ps)
 
-three_parts : (off len : ℕ) (ps : List Position) → take off ps ++ stretch off len ps ++ drop (off + len) ps ≡ ps
+pub three_parts : (off len : ℕ) (ps : List Position) → take off ps ++ stretch off len ps ++ drop (off + len) ps ≡ ps
 three_parts off len ps =
     append_assoc (take off ps) _ _
     ∙ ap (λ xs. take off ps ++ (stretch off len ps ++ xs)) (sym (drop-drop len off ps))
@@ -66,30 +65,6 @@ pub AreIn-range : (m : FinMap nat_cmp Bool) (off len : ℕ) (ps : List Position)
     AreIn m (addresses_of (stretch off len ps))
 AreIn-range m off len ps h = AreIn-take m len (drop off ps) (AreIn-drop m off ps h)
 
--- a loop that makes Unknown the bytes of the positions that pass a test, at a position that does and at one that does
--- not
-module _ (m n w : FinMap nat_cmp Bool) (test : Position → Bool) (ps rest : List Position)
-    (p : Position) (e : ps ≡ p ∷ rest) where
-  pub lose_yes : test p ≡ true → n ≡ insert m p.pa false → (set_all m (addresses_of (filter test ps)) false ≡ w)
-      × AreIn m (addresses_of ps) → (set_all n (addresses_of (filter test rest)) false ≡ w)
-      × AreIn n (addresses_of rest)
-  lose_yes passes is h = (
-    ap (λ x. set_all x (addresses_of (filter test rest)) false) is
-        ∙ sym (ap (λ b. set_all m (addresses_of (cond b (p ∷ filter test rest) (filter test rest))) false) passes)
-        ∙ sym (ap (λ xs. set_all m (addresses_of (filter test xs)) false) e) ∙ h.0,
-    rw is (AreIn-insert m p.pa false (addresses_of rest) (rw e at h.1).1),
-  )
-
-  pub lose_no : test p ≡ false → n ≡ m → (set_all m (addresses_of (filter test ps)) false ≡ w)
-      × AreIn m (addresses_of ps) → (set_all n (addresses_of (filter test rest)) false ≡ w)
-      × AreIn n (addresses_of rest)
-  lose_no fails is h = (
-    ap (λ x. set_all x (addresses_of (filter test rest)) false) is
-        ∙ sym (ap (λ b. set_all m (addresses_of (cond b (p ∷ filter test rest) (filter test rest))) false) fails)
-        ∙ sym (ap (λ xs. set_all m (addresses_of (filter test xs)) false) e) ∙ h.0,
-    rw is (rw e at h.1).1,
-  )
-
 pub same_bytes : (loans : Loans) (m : ℕ) (new : Loan) →
     addresses_of new.positions ≡ addresses_of (loan_of loans m).positions → (q : ℕ) →
     addresses_of (loan_of (insert loans m new) q).positions ≡ addresses_of (loan_of loans q).positions
@@ -121,9 +96,6 @@ addresses_of-synced loans m off len ops q =
 pub addresses_of-unlent : (keys : List ℕ) → addresses_of (unlent keys) ≡ keys
 addresses_of-unlent [] = refl
 addresses_of-unlent (a ∷ keys) = ap (λ xs. a ∷ xs) (addresses_of-unlent keys)
-
-pub unlent-append : (front back : List ℕ) → unlent (front ++ back) ≡ unlent front ++ unlent back
-unlent-append front back = map-append _ front back
 
 -- what holds of the loan that is put and of each other one holds of all
 pub put_loan : (P : List Position → Type 0) (loans : Loans) (m : ℕ) (new : Loan) → P new.positions →

@@ -14,7 +14,7 @@ use Rattle.loan_table.specs.Loans.{addresses_of, is_at}
 places-cons : (a b : ℕ) (bs : List ℕ) → count_by (λ x. x == a) (b ∷ bs) ≡ cond (b == a) 1 0 + count_by (λ x. x == a) bs
 places-cons a b bs = sum_by-cons (λ x. cond (x == a) 1 0) b bs
 
-places-run : (a s n : ℕ) → count_by (λ x. x == a) (run_of s n) ≡ cond (in_run s (s + n) a) 1 0
+pub places-run : (a s n : ℕ) → count_by (λ x. x == a) (run_of s n) ≡ cond (in_run s (s + n) a) 1 0
 places-run a s zero = ap (λ b. cond b 1 0) (let x : false ≡ in_run s (s + 0) a = grind (arith, nat_tests) in x)
 places-run a s (suc n) =
     places-cons a s (run_of (s + 1) n) ∙ ap (λ k. cond (s == a) 1 0 + k) (places-run a (s + 1) n)
@@ -52,7 +52,7 @@ places_end places a all bytes e h =
     let none : count_by (λ x. x == a) bytes ≡ 0 = ap (λ xs. count_by (λ x. x == a) xs) e in
     omega arith
 
-places_of : (a : ℕ) (ps : List Position) → count_by (λ x. x == a) (addresses_of ps) ≡ count_by (is_at a) ps
+pub places_of : (a : ℕ) (ps : List Position) → count_by (λ x. x == a) (addresses_of ps) ≡ count_by (is_at a) ps
 places_of a [] = refl
 places_of a (p ∷ ps) = places-cons a p.pa (addresses_of ps) ∙ ap (λ k. cond (p.pa == a) 1 0 + k) (places_of a ps)
     ∙ sym (sum_by-cons (λ (x : Position). cond (x.pa == a) 1 0) p ps)

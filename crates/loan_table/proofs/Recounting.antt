@@ -31,7 +31,7 @@ pub places-cons : (way : Position → Bool) (a : ℕ) (p : Position) (ps : List 
     places way a (p ∷ ps) ≡ cond (p.pa == a && way p) 1 0 + places way a ps
 places-cons way a p ps = sum_by-cons (here way a) p ps
 
-places-append : (way : Position → Bool) (a : ℕ) (ps qs : List Position) →
+pub places-append : (way : Position → Bool) (a : ℕ) (ps qs : List Position) →
     places way a (ps ++ qs) ≡ places way a ps + places way a qs
 places-append way a ps qs = sum_by-append (here way a) ps qs
 

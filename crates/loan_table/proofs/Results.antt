@@ -1,19 +1,11 @@
 -- What a result says, by its variant.
-use Rattle.std.proofs.Common.{◌≡◌, true, false, Option, Some, None, IsSome, Result, Ok, Err, OnOk, OnErr, is_err, Bor}
+use Rattle.std.proofs.Common.{◌≡◌, Option, Some, None, IsSome, Result, Ok, Err, OnOk, OnErr, Bor}
 use Rattle.std.proofs.Common.{refl, IsNone}
 use Rattle.std.specs.Option.{option_copied}
 
 pub copied_some : {X : Type 0} (o : Option (Bor X)) → IsSome (option_copied o) → IsSome o
 copied_some None h = h
 copied_some (Some x) h = refl
-
-pub on_ok : {T E : Type 0} (r : Result T E) (P : Type 0) → is_err r ≡ false → OnOk r P → P
-on_ok (Ok x) P e h = h
-on_ok (Err x) P e h = absurd (cc)
-
-pub on_err : {T E : Type 0} (r : Result T E) (P : Type 0) → is_err r ≡ true → OnErr r P → P
-on_err (Ok x) P e h = absurd (cc)
-on_err (Err x) P e h = h
 
 -- a fact that holds either way
 pub either_way : {T E : Type 0} (r : Result T E) (A B P : Type 0) → OnOk r A → OnErr r B → (A → P) → (B → P) → P

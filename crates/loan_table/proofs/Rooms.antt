@@ -1,5 +1,5 @@
 -- How many positions the maps of a table have, and the room that is left after a change.
-use Rattle.std.proofs.Common.{◌≡◌, ℕ, zero, suc, ◌+◌, ◌-◌, ◌<◌, ◌≤◌, Bool, true, false, List, [], ◌∷◌, length, drop, Option, Some}
+use Rattle.std.proofs.Common.{◌≡◌, ℕ, zero, suc, ◌+◌, ◌-◌, ◌<◌, ◌≤◌, Bool, true, false, List, [], ◌∷◌, length, Option, Some}
 use Rattle.std.proofs.Common.{None, unwrap_or, refl, sym, ap, subst, ◌∙◌, arith}
 use Rattle.std.specs.Option.{option_map}
 use Rattle.std.specs.Ordering.{nat_cmp}
@@ -7,7 +7,6 @@ use Rattle.std.specs.Cmp.{nat_cmp_total}
 use Rattle.std.specs.Map.{lookup, keys_of, remove_entry, set_value}
 use Rattle.std.specs.BTreeMap.{is_at, insert_entry}
 use Rattle.std.specs.List.Sorted.{IsStrictlySortedBy}
-use Rattle.std.proofs.lemmas.List.{length-take}
 use Rattle.std.proofs.lemmas.Map.Entries.{sum_by-remove_entry, sum_by-set_value, sum_by-insert_entry}
 use Rattle.loan_table.specs.declared.position.Position.{Position}
 use Rattle.loan_table.specs.declared.slot.Slot.{Slot}
@@ -79,9 +78,6 @@ length-addresses_of (p ∷ ps) = ap suc (length-addresses_of ps)
 pub length-marked_range : (ops off len : ℕ) (ps : List Position) → length (marked_range ops off len ps) ≡ length ps
 length-marked_range ops off len ps = sym (length-addresses_of (marked_range ops off len ps))
     ∙ ap length (addresses_of-marked_range ops off len ps) ∙ length-addresses_of ps
-
-pub range_small : (off len : ℕ) (ps : List Position) → length (stretch off len ps) ≤ len
-range_small off len ps = omega (arith, length-take len (drop off ps))
 
 -- bytes need room for an extent
 extent_some : (bytes : List ℕ) → 0 < length bytes → 0 < extent_count bytes

@@ -1,9 +1,8 @@
 -- Marks by two sets of addresses change as a finite map does.
 use Rattle.std.proofs.Common.{◌≡◌, ℕ, zero, suc, ◌+◌, ◌≤◌, ◌<◌, Bool, true, false, not, cond, if◌then◌else◌, ◌||◌, eqb}
-use Rattle.std.proofs.Common.{ltb, leb, ◌&&◌, ◌^◌, unwrap_or, IsSome, List, [], ◌∷◌, length, Option, Some, None}
+use Rattle.std.proofs.Common.{ltb, ◌&&◌, unwrap_or, List, [], ◌∷◌, length, Option, Some, None}
 use Rattle.std.proofs.Common.{is_some, refl, sym, ap, ◌∙◌, arith}
 use Rattle.std.proofs.lemmas.Bool.{le-leb, ltb-true, ltb-false, lt-ltb, le-ltb}
-use mathlib.Core.Bool.{beq}
 use Rattle.std.proofs.lemmas.Bool.Decides.{nat_tests}
 use Rattle.std.specs.Ordering.{nat_cmp}
 use Rattle.std.specs.Cmp.{nat_cmp_total, unsigned_tied}
@@ -12,9 +11,7 @@ use Rattle.std.specs.FinMap.{FinMap, get, insert, remove, get-insert, get-remove
 use Rattle.std.specs.FinMap.{nat_cmp-IsAntisymmetric}
 use Rattle.busdma_base.specs.Runs.{run_of}
 use Rattle.loan_table.specs.Table.{AreIn, is_marked, set_all, without}
-use Rattle.std.proofs.lemmas.Bool.{leb-true, leb-false, false≢true}
 use Rattle.run_set.specs.Edges.{member, differ, odd, in_run, IsKept}
-use Rattle.run_set.proofs.Sets.{member_below}
 use Rattle.loan_table.specs.Marks.{with_option, tabulated, top, mark_of, marks}
 
 in_run_step : (s n a : ℕ) → in_run s (s + suc n) a ≡ (in_run (s + 1) (s + 1 + n) a || eqb a s)
@@ -152,17 +149,6 @@ run_stays there known kept s n h a = at_test (in_run s (s + n) a) refl
     at_test true e = run_is_there there known kept s n h a (grind (arith, nat_tests)) (grind (arith, nat_tests))
     at_test false e = refl
 
--- a byte that is there is not the last number
-below_last : (es : List ℕ) → IsKept es → (a : ℕ) (b : Bool) →
-    leb (2 ^ 64) (a + 1) ≡ b → member es a ≡ true → a + 1 < 2 ^ 64
-below_last es kept a true e h =
-    absurd (false≢true (sym (member_below 0 (2 ^ 64) a es kept.rise (leb-true (2 ^ 64) (a + 1) e) ∙ kept.finite) ∙ h))
-below_last es kept a false e h = leb-false (2 ^ 64) (a + 1) e
-
-pub there_below : (there known : List ℕ) → IsKept there → (a : ℕ) → IsSome (get (marks there known) a) → a + 1 < 2 ^ 64
-there_below there known kept a h =
-    below_last there kept a (leb (2 ^ 64) (a + 1)) refl (sym (there_by_marks there known kept a) ∙ h)
-
 -- a byte has the mark of a Known one
 pub known_by_marks : (there known : List ℕ) → IsKept there → (a : ℕ) →
     (member there a && member known a) ≡ is_marked (marks there known) a
@@ -172,26 +158,3 @@ known_by_marks there known kept a =
     both : (b : Bool) → (b && member known a) ≡ unwrap_or (if b then Some (member known a) else None) false
     both true = refl
     both false = refl
-
--- a byte that has the mark already
-pub mark_stands : (there known : List ℕ) → IsKept there → (a : ℕ) (v : Bool) → IsSome (get (marks there known) a) →
-    member known a ≡ v → marks there known ≡ insert (marks there known) a v
-mark_stands there known kept a v h is =
-    same_map nat_cmp_total nat_cmp-IsAntisymmetric _ _ (λ q. at_test q (eqb q a) refl
-    ∙ sym (get_inserted (marks there known) a v q))
-  where
-    here : get (marks there known) a ≡ Some v
-    here =
-        get-marks there known kept a ∙ ap (λ b. if b then Some (member known a) else None)
-        (sym (there_by_marks there known kept a) ∙ h) ∙ ap Some is
-
-    at_test : (q : ℕ) (b : Bool) → eqb q a ≡ b →
-        get (marks there known) q ≡ cond b (Some v) (get (marks there known) q)
-    at_test q true e = ap (get (marks there known)) (exact_unsigned_eq q a e) ∙ here
-    at_test q false e = refl
-
-pub alike : (a b : Bool) → not (beq a b) ≡ false → a ≡ b
-alike false false e = refl
-alike false true e = absurd (cc)
-alike true false e = absurd (cc)
-alike true true e = refl

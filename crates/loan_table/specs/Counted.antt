@@ -64,6 +64,10 @@ IsRecounted old new ps qs =
 abbrev pub IsAlike : LentCounts → LentCounts → Type 0
 IsAlike old new = (way : Way) (a : ℕ) → count (counts_of new way) a ≡ count (counts_of old way) a
 
+-- no position lends the byte at an address
+abbrev pub IsUnlent : LentCounts → ℕ → Type 0
+IsUnlent lent a = (way : Way) → count (counts_of lent way) a ≡ 0
+
 -- there is room for so many changes
 abbrev pub HasChanges : LentCounts → ℕ → Type 0
 HasChanges lent n = (way : Way) → n ≤ (counts_of lent way).room

@@ -5,7 +5,6 @@ use Rattle.std.specs.Ordering.{nat_cmp}
 use Rattle.std.specs.BTreeMap.{BTreeMap, IsOrdered}
 use Rattle.std.specs.FinMap.{FinMap, get}
 use Rattle.std.specs.FinMap as map
-use Rattle.busdma_base.specs.declared.machine.address.Extent.{Extent}
 use Rattle.loan_table.specs.declared.slot.Slot.{Slot}
 use Rattle.loan_table.specs.declared.lent.LentCounts.{LentCounts}
 use Rattle.loan_table.specs.Counted.{LendsNothing, IsCounted, HasCountRoom}
@@ -23,10 +22,6 @@ HasItsBytes bytes loans = (m : ℕ) → AreIn bytes (addresses_of (loan_of loans
 -- the bytes of a table are memory
 abbrev pub AreLow : FinMap nat_cmp Bool → Type 0
 AreLow bytes = (a : ℕ) → IsSome (get bytes a) → a < 2 ^ 42
-
--- an extent that has a byte ends below 2^64
-abbrev pub Ends : Extent → Type 0
-Ends e = 0 < e.len → e.pa.0 + e.len < 2 ^ 64
 
 -- how many positions the maps of a table have, open or prepared
 abbrev pub position_count : List (ℕ × Slot) → ℕ

@@ -4,9 +4,12 @@ use Rattle.busdma_base.specs.declared.journals.report.ReportName.{ReportName}
 use Rattle.loan_table.specs.declared.position.Position.{Position}
 use Rattle.loan_table.specs.declared.row.Way.{Way}
 use Rattle.loan_table.specs.declared.row.Way.TheVariants.{ToWrite, Any}
+use Rattle.loan_table.specs.declared.losing.Losing.{Losing}
+use Rattle.loan_table.specs.declared.losing.Losing.TheVariants.{Call, Forgetting}
 use Rattle.loan_table.specs.declared.access.Access.{Access}
 use Rattle.loan_table.specs.declared.access.Access.TheVariants.{Read, Write}
 use Rattle.loan_table.specs.Loans.{Loans, to_write, in_any_way}
+use Rattle.loan_table.specs.Lending.{loses}
 use Rattle.loan_table.specs.Access.{cpu_read_refusal, cpu_write_refusal, dev_read_refusal, dev_write_refusal}
 
 -- a way of lending, as a test on positions
@@ -23,3 +26,8 @@ cpu_refusal Write known loans a = cpu_write_refusal loans a
 abbrev pub dev_refusal : Access → (ℕ → Bool) → Bool → Position → Option ReportName
 dev_refusal Read known coherent p = dev_read_refusal known coherent p
 dev_refusal Write known coherent p = dev_write_refusal coherent p
+
+-- what makes bytes Unknown, as a test on positions
+abbrev pub losing_test : Losing → Position → Bool
+losing_test (Call ops) p = loses ops.0 p
+losing_test Forgetting p = to_write p

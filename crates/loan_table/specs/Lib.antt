@@ -1,5 +1,6 @@
 pub mod Access
 pub mod Counted
+pub mod Ends
 pub mod Kinds
 pub mod Kept
 pub mod Lending

@@ -1,13 +1,56 @@
 -- What each row of a table keeps, and its value as a code.
-use Rattle.std.specs.Prelude.{◌≡◌, ◌==◌, count_by, ℕ, Bool, List, refl}
+use Rattle.std.specs.Prelude.{◌≡◌, ◌==◌, ◌+◌, ◌≤◌, ◌<◌, ◌^◌, count_by, length, map, ℕ, Bool, List, [], ◌∷◌, refl}
+use Rattle.std.specs.List.{All}
 use Rattle.std.specs.Coded.{Coded, code_by, coded×, coded_ℕ, coded_bool, coded_list}
 use Rattle.run_set.specs.Counts.{Counts, count}
+use Rattle.run_set.specs.Edges.{Edges, Rises}
+use Rattle.busdma_base.specs.declared.machine.address.Extent.{Extent}
+use Rattle.busdma_base.specs.Runs.{addresses, byte_count, run_of}
+use Rattle.loan_table.specs.Ends.{Ends}
 use Rattle.loan_table.specs.declared.position.Position.{Position}
 use Rattle.loan_table.specs.Loans.{Loan}
 
--- counts say at how many places of a list each number stands
+-- at how many places of a list a number stands
+abbrev pub stands : ℕ → List ℕ → ℕ
+stands a bytes = count_by (λ b. b == a) bytes
+
+-- counts say so of each number
 abbrev pub CountsPlaces : Counts → List ℕ → Type 0
-CountsPlaces places bytes = (a : ℕ) → count places a ≡ count_by (λ b. b == a) bytes
+CountsPlaces places bytes = (a : ℕ) → count places a ≡ stands a bytes
+
+-- at which positions stretches begin, the first of them at one
+abbrev pub starts_from : ℕ → List Extent → List ℕ
+starts_from at [] = []
+starts_from at (e ∷ es) = at ∷ starts_from (at + e.len) es
+
+-- what is true of the fields of each buffer
+pub record IsBuffer (stretches : List Extent) (starts : List ℕ) (len : ℕ) (places : Counts) : Type 0 where
+  pub ends : All Ends stretches
+  pub begun : starts ≡ starts_from 0 stretches
+  pub long : byte_count stretches ≡ len
+  pub small : byte_count stretches < 2 ^ 64
+  pub counted : CountsPlaces places (addresses stretches)
+
+-- positions from a place on, over bytes in order, each lent as the sets of places say
+abbrev pub placed : (ℕ → Bool) → (ℕ → Bool) → ℕ → List ℕ → List Position
+placed reads writes at [] = []
+placed reads writes at (a ∷ rest) =
+    record { pa = a; to_read = reads at; to_write = writes at } ∷ placed reads writes (at + 1) rest
+
+-- a set of places among n, with room for each change
+pub record IsRoomy (set : Edges) (n : ℕ) : Type 0 where
+  pub rise : Rises 0 (n + 1) set.edges
+  pub room : n + 3 ≤ length set.edges + set.room
+
+-- what is true of the fields of each row
+pub record IsRow (to_read to_write : Edges) (buffer : List ℕ) : Type 0 where
+  pub read : IsRoomy to_read (length buffer)
+  pub write : IsRoomy to_write (length buffer)
+  pub small : length buffer < 2 ^ 64
+
+-- n positions of bytes that follow one another, lent alike, from the first of them on
+abbrev pub alike : Position → ℕ → List Position
+alike p n = map (λ a. record { pa = a; to_read = p.to_read; to_write = p.to_write }) (run_of p.pa n)
 
 abbrev pub position_code : Coded Position
 position_code =

@@ -1,12 +1,13 @@
 //! The judgement of accesses by the driver and by a device.
 
-ghost use Rattle.std.specs.Prelude.{◌≡◌, ◌+◌, ◌<◌, ◌^◌};
+ghost use Rattle.std.specs.Prelude.{◌≡◌, ◌+◌, ◌≤◌, ◌<◌, ◌^◌, length};
 ghost use Rattle.std.specs.List.{All};
 ghost use Rattle.busdma_base.specs.Journals.Judging.{judged};
+ghost use Rattle.busdma_base.specs.Machine.Wire.{stretch};
 ghost use Rattle.busdma_base.specs.Runs.{run_of, addresses, byte_count};
 ghost use Rattle.loan_table.specs.Access.{cpu_read_refusal, cpu_write_refusal, dev_read_refusal, dev_write_refusal};
 ghost use Rattle.loan_table.specs.Counted.{IsCounted};
-ghost use Rattle.loan_table.specs.Kept.{Ends};
+ghost use Rattle.loan_table.specs.Ends.{Ends};
 ghost use Rattle.loan_table.specs.Kinds.{cpu_refusal, dev_refusal};
 ghost use Rattle.loan_table.specs.Loans.{Loans};
 ghost use Rattle.loan_table.specs.Table.{is_marked};
@@ -14,7 +15,7 @@ ghost use Rattle.loan_table.specs.Table.{is_marked};
 use crate::lent::LentCounts;
 use crate::marks::ByteMarks;
 use crate::position::Position;
-use crate::row::Way;
+use crate::row::{LoanRow, Way};
 use busdma_base::{Extent, Judged, Report, ReportName};
 
 /// What is done to bytes.
@@ -71,12 +72,17 @@ fn judge_run(
     ensures { (loans : Loans) → IsCounted lent.now loans →
         let refusal = cpu_refusal access (is_marked bytes.now.bytes) loans in result ≡ judged refusal place (run_of run.now.pa.0 run.now.len) }
 {
+    let end = run.pa.0 + run.len;
     let mut at = place;
-    for pa in run.pa.0..run.pa.0 + run.len {
+    let mut pa = run.pa.0;
+    while pa < end {
         if let Some(name) = cpu_refusal(bytes, lent, access, pa) {
             return Judged::Refused(Report { name, at });
         }
-        at += 1;
+        let turn = bytes.turn(pa, end);
+        let turn = lent.turn(pa, turn);
+        at += turn - pa;
+        pa = turn;
     }
     Judged::Fine
 }
@@ -142,20 +148,21 @@ fn dev_refusal(
     }
 }
 
-/// The judgement of the device's access of positions.
-pub fn judge_positions(
-    bytes: &ByteMarks,
-    coherent: bool,
-    access: Access,
-    positions: &[Position],
-) -> Judged
-    ensures { result
-        ≡ judged (dev_refusal access (is_marked bytes.now.bytes) coherent) 0 positions.now }
+/// The judgement of the device's access of a range of a map's buffer.
+pub fn judge_range(bytes: &ByteMarks, row: &LoanRow, access: Access, off: u64, len: u64) -> Judged
+    requires range { off + len ≤ length row.now.positions }
+    ensures { let refusal = dev_refusal access (is_marked bytes.now.bytes) row.now.coherent in
+        result ≡ judged refusal 0 (stretch off len row.now.positions) }
 {
-    for (i, position) in positions.iter().enumerate() {
-        if let Some(name) = dev_refusal(bytes, coherent, access, *position) {
-            return Judged::Refused(Report { name, at: i as u64 });
+    let end = row.end_of(off, len);
+    let mut at = off;
+    while at < end {
+        let piece = row.piece(at, end);
+        if let Some(name) = dev_refusal(bytes, row.is_coherent(), access, piece.first) {
+            return Judged::Refused(Report { name, at: at - off });
         }
+        let start = piece.first.pa;
+        at += bytes.turn(start, start + piece.len) - start;
     }
     Judged::Fine
 }

@@ -1,48 +1,69 @@
-//! The extents that hold positions.
+//! The extents that hold a range of a map's buffer.
 
-ghost use Rattle.std.specs.Prelude.{◌≡◌, ◌+◌, ◌-◌, ◌<◌, ◌≤◌, ◌^◌, length, [], ◌∷◌, IfOk};
+ghost use Rattle.std.specs.Prelude.{◌≡◌, ◌+◌, ◌-◌, ◌<◌, ◌≤◌, ◌^◌, length, IfOk};
 ghost use Rattle.std.specs.List.{All};
+ghost use Rattle.busdma_base.specs.Machine.Wire.{stretch};
 ghost use Rattle.busdma_base.specs.Runs.{addresses, IsExtent, run_of};
 ghost use Rattle.loan_table.specs.Loans.{addresses_of};
 ghost use Rattle.loan_table.specs.Table.{extent_count, is_next, more_extents};
 
-use crate::position::Position;
+use crate::piece::Piece;
+use crate::row::LoanRow;
 use busdma_base::{Extent, Pa};
 use std::alloc::{AllocError, Global};
 
-/// The extents that hold the bytes of positions, in order: a byte that comes right behind the one
-/// before it, in the same frame, is in the same extent.
-pub fn extents_of(alloc: Global, positions: &[Position]) -> Result<Vec<Extent>, AllocError>
-    requires { All (λ p. p.pa < 2 ^ 42) positions.now }
-    ensures bytes { IfOk result (λ list. addresses list.items ≡ addresses_of positions.now) }
+/// The extents that hold the bytes of a range of a map's buffer, in order: a byte that comes right
+/// behind the one before it, in the same frame, is in the same extent.
+pub fn extents_of(
+    alloc: Global,
+    row: &LoanRow,
+    off: u64,
+    len: u64,
+) -> Result<Vec<Extent>, AllocError>
+    requires range { off + len ≤ length row.now.positions }
+    requires low { All (λ p. p.pa < 2 ^ 42) row.now.positions }
+    ensures bytes { IfOk result (λ list. let range = stretch off len row.now.positions in
+        addresses list.items ≡ addresses_of range) }
     ensures extents { IfOk result (λ list. All IsExtent list.items) }
-    ensures count { IfOk result (λ list. length list.items ≡ extent_count (addresses_of positions.now)) }
+    ensures count { IfOk result (λ list. let range = stretch off len row.now.positions in
+        length list.items ≡ extent_count (addresses_of range)) }
 {
     let mut extents = Vec::new(alloc);
-    let Some((first, rest)) = positions.split_first() else {
+    if len == 0 {
         return Ok(extents);
-    };
-    let mut run = byte(first.pa);
-    for position in rest {
-        if is_next(last_of(&run), position.pa) {
-            run.len += 1;
+    }
+    let end = row.end_of(off, len);
+    let first = row.piece(off, end);
+    let mut run = in_frame(&first);
+    let mut at = off + run.len;
+    while at < end {
+        let piece = row.piece(at, end);
+        let next = in_frame(&piece);
+        if is_next(last_of(&run), next.pa.0) {
+            run.len += next.len;
         } else {
             extents.push(run)?;
-            run = byte(position.pa);
+            run = next;
         }
+        at += next.len;
     }
     extents.push(run)?;
     Ok(extents)
 }
 
-/// The extent of one byte.
-fn byte(pa: u64) -> Extent
-    requires { pa < 2 ^ 42 }
-    ensures bytes { run_of result.pa.0 result.len ≡ pa ∷ [] }
+/// The bytes of a piece that lie in the frame of its first byte.
+fn in_frame(piece: &Piece) -> Extent
+    requires some { 0 < piece.now.len }
+    requires low { piece.now.first.pa < 2 ^ 42 }
+    ensures pa { result.pa.0 ≡ piece.now.first.pa }
+    ensures within { result.len ≤ piece.now.len }
     ensures extent { IsExtent result }
-    ensures last { result.pa.0 + result.len ≡ pa + 1 }
 {
-    Extent { pa: Pa(pa), len: 1 }
+    let pa = piece.first.pa;
+    Extent {
+        pa: Pa(pa),
+        len: piece.len.min(4096 - pa % 4096),
+    }
 }
 
 /// The last byte of an extent.
@@ -60,28 +81,40 @@ fn is_next(before: u64, pa: u64) -> bool
     pa > before && pa - before == 1 && pa % 4096 != 0
 }
 
-/// How many extents hold the bytes of positions, in order.
-pub fn extent_count(positions: &[Position]) -> u64
-    ensures { result ≡ extent_count (addresses_of positions.now) }
+/// How many extents hold the bytes of a range of a map's buffer, in order.
+pub fn extent_count(row: &LoanRow, off: u64, len: u64) -> u64
+    requires { off + len ≤ length row.now.positions }
+    ensures { result ≡ extent_count (addresses_of (stretch off len row.now.positions)) }
 {
-    match positions.split_first() {
-        Some((first, rest)) => 1 + more_extents(first.pa, rest),
-        None => 0,
+    if len == 0 {
+        return 0;
     }
-}
-
-/// How many extents begin at these positions, behind a byte.
-fn more_extents(before: u64, positions: &[Position]) -> u64
-    ensures is { result ≡ more_extents before (addresses_of positions.now) }
-    ensures small { result ≤ length positions.now }
-{
+    let end = row.end_of(off, len);
     let mut count = 0;
-    let mut last = before;
-    for position in positions {
-        if !is_next(last, position.pa) {
-            count += 1;
-        }
-        last = position.pa;
+    let mut last = row.piece(off, end).first.pa;
+    let mut at = off;
+    while at < end {
+        let piece = row.piece(at, end);
+        count += more_extents(last, &piece);
+        last = piece.first.pa + piece.len - 1;
+        at += piece.len;
     }
     count
+}
+
+/// How many extents begin at the bytes of a piece, behind a byte.
+fn more_extents(before: u64, piece: &Piece) -> u64
+    requires some { 0 < piece.now.len }
+    requires fits { piece.now.first.pa + piece.now.len < 2 ^ 64 }
+    ensures is { result ≡ more_extents before (run_of piece.now.first.pa piece.now.len) }
+    ensures small { result ≤ piece.now.len }
+{
+    let first = piece.first.pa;
+    let last = first + piece.len - 1;
+    let frames = last / 4096 - first / 4096;
+    if is_next(before, first) {
+        frames
+    } else {
+        1 + frames
+    }
 }

@@ -1,15 +1,15 @@
 //! How often the bytes of a driver are lent.
 
-ghost use Rattle.std.specs.Prelude.{◌≡◌, ℕ, ◌+◌, ◌≤◌, ◌<◌, ◌^◌, length, map, OnOk, true, []};
-ghost use Rattle.std.specs.List.{All};
+ghost use Rattle.std.specs.Prelude.{◌≡◌, ℕ, ◌+◌, ◌≤◌, ◌<◌, ◌^◌, length, map, OnOk, true, false, []};
+ghost use Rattle.busdma_base.specs.Machine.Wire.{stretch};
 ghost use Rattle.run_set.specs.Counts.{count};
 ghost use Rattle.loan_table.specs.Counted.{counts_of, places, places_in, HasChanges, Holds, IsAlike, IsRecounted};
-ghost use Rattle.loan_table.specs.Counted.{UsesChanges};
+ghost use Rattle.loan_table.specs.Counted.{IsUnlent, UsesChanges};
 ghost use Rattle.loan_table.specs.Kinds.{test_of};
 ghost use Rattle.loan_table.specs.Lending.{marked};
 
-use crate::position::Position;
-use crate::row::{Way, marked};
+use crate::piece::Piece;
+use crate::row::{LoanRow, Way, marked};
 use dma_tag::SyncOps;
 use run_set::RunCounts;
 use std::alloc::{AllocError, Global};
@@ -53,110 +53,86 @@ impl LentCounts {
         }
     }
 
-    /// Counts positions as a call marks them.
-    pub fn mark(&mut self, positions: &[Position], ops: SyncOps)
-        requires low { All (λ p. p.pa < 2 ^ 42) positions.now }
-        requires held { Holds self.old positions.now }
-        requires room { HasChanges self.old (length positions.now) }
-        ensures counts { IsRecounted self.old self.new positions.now (map (marked ops.0) positions.now) }
-        ensures room { UsesChanges self.old self.new (length positions.now) }
+    /// Whether a byte is lent.
+    pub fn is_lent(&self, pa: u64) -> bool
+        ensures { result ≡ false → IsUnlent self.now pa }
     {
-        recount(&mut self.to_write, Way::ToWrite, positions, ops);
-        recount(&mut self.any, Way::Any, positions, ops);
+        self.count(Way::ToWrite, pa) > 0 || self.count(Way::Any, pa) > 0
     }
 
-    /// Counts positions no more.
-    pub fn forget(&mut self, positions: &[Position])
-        requires low { All (λ p. p.pa < 2 ^ 42) positions.now }
-        requires held { Holds self.old positions.now }
-        requires room { HasChanges self.old (length positions.now) }
-        ensures counts { IsRecounted self.old self.new positions.now [] }
-        ensures room { UsesChanges self.old self.new (length positions.now) }
+    /// The byte up to which all bytes from `start` on are lent at as many positions as it is; `end`
+    /// where none comes before it.
+    pub fn turn(&self, start: u64, end: u64) -> u64
+        requires { start < end }
+        ensures from { start < result }
+        ensures to { result ≤ end }
+        ensures same { (way : Way) (a : ℕ) → start ≤ a → a < result →
+            count (counts_of self.now way) a ≡ count (counts_of self.now way) start }
     {
-        self.mark(
-            positions,
-            SyncOps(SyncOps::POSTREAD.0 | SyncOps::POSTWRITE.0),
-        );
+        let turn = self.to_write.turn(start, end);
+        self.any.turn(start, turn)
+    }
+
+    /// Counts the positions of a range as a call marks them.
+    pub fn mark(&mut self, row: &LoanRow, off: u64, len: u64, ops: SyncOps)
+        requires range { off + len ≤ length row.now.positions }
+        requires held { Holds self.old (stretch off len row.now.positions) }
+        requires room { HasChanges self.old len }
+        ensures counts { let range = stretch off len row.now.positions in
+            IsRecounted self.old self.new range (map (marked ops.0) range) }
+        ensures room { UsesChanges self.old self.new len }
+    {
+        recount(&mut self.to_write, Way::ToWrite, row, off, len, ops);
+        recount(&mut self.any, Way::Any, row, off, len, ops);
+    }
+
+    /// Counts the positions of a map no more.
+    pub fn forget(&mut self, row: &LoanRow)
+        requires held { Holds self.old row.now.positions }
+        requires room { HasChanges self.old (length row.now.positions) }
+        ensures counts { IsRecounted self.old self.new row.now.positions [] }
+        ensures room { UsesChanges self.old self.new (length row.now.positions) }
+    {
+        let ops = SyncOps(SyncOps::POSTREAD.0 | SyncOps::POSTWRITE.0);
+        self.mark(row, 0, row.len(), ops);
     }
 }
 
-/// Bytes that follow one another, of positions that a call marks alike: whether each was lent, and
-/// whether each is.
-#[derive(Clone, Copy)]
-struct MarkedRun {
-    start: u64,
-    len: u64,
-    was_lent: bool,
-    is_lent: bool,
-}
-
-/// The run of one position.
-fn marked_run(way: Way, position: &Position, ops: SyncOps) -> MarkedRun
-    ensures start { result.start ≡ position.now.pa }
-    ensures len { result.len ≡ 1 }
-    ensures was { result.was_lent ≡ test_of way position.now }
-    ensures is { result.is_lent ≡ test_of way (marked ops.0 position.now) }
+/// Counts the positions of a range as a call marks them, in one way.
+fn recount(counts: &mut RunCounts, way: Way, row: &LoanRow, off: u64, len: u64, ops: SyncOps)
+    requires range { off + len ≤ length row.now.positions }
+    requires held { (a : ℕ) → places (test_of way) a (stretch off len row.now.positions) ≤ count counts.old a }
+    requires room { len ≤ counts.old.room }
+    ensures counts { (a : ℕ) → let range = stretch off len row.now.positions in
+        count counts.new a + places (test_of way) a range
+        ≡ count counts.old a + places (test_of way) a (map (marked ops.0) range) }
+    ensures room { counts.old.room ≤ counts.new.room + len }
 {
-    MarkedRun {
-        start: position.pa,
-        len: 1,
-        was_lent: way.passes(position),
-        is_lent: way.passes(&marked(*position, ops)),
+    let end = row.end_of(off, len);
+    let mut at = off;
+    while at < end {
+        let piece = row.piece(at, end);
+        recount_piece(counts, way, &piece, ops);
+        at += piece.len;
     }
 }
 
-/// Whether a run goes on with the byte right behind it.
-fn joins(run: &MarkedRun, next: &MarkedRun) -> bool
-    requires { run.now.start + run.now.len < 2 ^ 64 }
-    ensures start { result ≡ true → next.now.start ≡ run.now.start + run.now.len }
-    ensures was { result ≡ true → next.now.was_lent ≡ run.now.was_lent }
-    ensures is { result ≡ true → next.now.is_lent ≡ run.now.is_lent }
-{
-    if next.start != run.start + run.len {
-        return false;
-    }
-    if next.was_lent != run.was_lent {
-        return false;
-    }
-    next.is_lent == run.is_lent
-}
-
-/// Counts positions as a call marks them, in one way.
-fn recount(counts: &mut RunCounts, way: Way, positions: &[Position], ops: SyncOps)
-    requires low { All (λ p. p.pa < 2 ^ 42) positions.now }
-    requires held { (a : ℕ) → places (test_of way) a positions.now ≤ count counts.old a }
-    requires room { length positions.now ≤ counts.old.room }
-    ensures counts { (a : ℕ) → count counts.new a + places (test_of way) a positions.now
-        ≡ count counts.old a + places (test_of way) a (map (marked ops.0) positions.now) }
-    ensures room { counts.old.room ≤ counts.new.room + length positions.now }
-{
-    let Some((first, rest)) = positions.split_first() else {
-        return;
-    };
-    let mut run = marked_run(way, first, ops);
-    for position in rest {
-        let next = marked_run(way, position, ops);
-        if joins(&run, &next) {
-            run.len += 1;
-        } else {
-            count_marked(counts, &run);
-            run = next;
-        }
-    }
-    count_marked(counts, &run);
-}
-
-/// Counts the bytes of a run once more or once less, where they are lent now and were not before, or
-/// were and are not.
-fn count_marked(counts: &mut RunCounts, run: &MarkedRun)
-    requires low { run.now.start + run.now.len ≤ 2 ^ 42 }
-    requires held { (a : ℕ) → places_in run.now.start run.now.len run.now.was_lent a ≤ count counts.old a }
+/// Counts the bytes of a piece once more or once less, where a call begins to lend them or ends that.
+fn recount_piece(counts: &mut RunCounts, way: Way, piece: &Piece, ops: SyncOps)
+    requires fits { piece.now.first.pa + piece.now.len < 2 ^ 64 }
+    requires held { (a : ℕ) → places_in piece.now.first.pa piece.now.len (test_of way piece.now.first) a
+        ≤ count counts.old a }
     requires room { 1 ≤ counts.old.room }
-    ensures counts { (a : ℕ) → count counts.new a + places_in run.now.start run.now.len run.now.was_lent a
-        ≡ count counts.old a + places_in run.now.start run.now.len run.now.is_lent a }
+    ensures counts { (a : ℕ) →
+        count counts.new a + places_in piece.now.first.pa piece.now.len (test_of way piece.now.first) a
+        ≡ count counts.old a
+        + places_in piece.now.first.pa piece.now.len (test_of way (marked ops.0 piece.now.first)) a }
     ensures room { counts.old.room ≤ counts.new.room + 1 }
 {
-    if run.was_lent != run.is_lent {
-        counts.change(run.start, run.start + run.len, run.is_lent);
+    let start = piece.first.pa;
+    let was_lent = way.passes(&piece.first);
+    let is_lent = way.passes(&marked(piece.first, ops));
+    if was_lent != is_lent {
+        counts.change(start, start + piece.len, is_lent);
     }
 }

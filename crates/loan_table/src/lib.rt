@@ -2,10 +2,13 @@
 #![tactic(auto)]
 
 mod access;
+mod buffer;
 mod extents;
 mod lent;
 mod loans;
+mod losing;
 mod marks;
+mod piece;
 mod position;
 mod room;
 mod row;

@@ -1,14 +1,15 @@
 //! Known marks by the physical addresses of bytes.
 
-ghost use Rattle.std.specs.Prelude.{◌≡◌, ◌+◌, ◌≤◌, ◌<◌, ◌^◌, IsSome, OnOk, length};
+ghost use Rattle.std.specs.Prelude.{◌≡◌, ℕ, ◌+◌, ◌≤◌, ◌<◌, ◌^◌, OnOk, length};
 ghost use Rattle.std.specs.List.{All};
 ghost use Rattle.std.specs.FinMap as map;
+ghost use Rattle.busdma_base.specs.Machine.Wire.{stretch};
 ghost use Rattle.busdma_base.specs.Runs.{run_of, addresses};
-ghost use Rattle.loan_table.specs.Kept.{Ends};
+ghost use Rattle.loan_table.specs.Ends.{Ends};
 ghost use Rattle.loan_table.specs.Loans.{addresses_of};
 ghost use Rattle.loan_table.specs.Table.{AreIn, set_all, without, is_marked};
 
-use crate::position::Position;
+use crate::row::LoanRow;
 use busdma_base::Extent;
 use run_set::RunSet;
 use std::alloc::{AllocError, Global};
@@ -70,6 +71,19 @@ impl ByteMarks {
         self.there.contains(pa) && self.known.contains(pa)
     }
 
+    /// The byte up to which all bytes from `start` on are Known, or all are not; `end` where none comes
+    /// before it.
+    pub fn turn(&self, start: u64, end: u64) -> u64
+        requires { start < end }
+        ensures from { start < result }
+        ensures to { result ≤ end }
+        ensures same { (a : ℕ) → start ≤ a → a < result →
+            is_marked self.now.bytes a ≡ is_marked self.now.bytes start }
+    {
+        let turn = self.there.turn(start, end);
+        self.known.turn(start, turn)
+    }
+
     /// Marks `len` bytes from `pa` on that are there.
     pub fn set_run(&mut self, pa: u64, len: u64, known: bool)
         requires there { AreIn self.old.bytes (run_of pa len) }
@@ -80,19 +94,6 @@ impl ByteMarks {
         ensures there_room { self.new.there_room ≡ self.old.there_room }
     {
         self.known.set(pa, pa + len, known);
-    }
-
-    /// Marks a byte that is there.
-    pub fn set_known(&mut self, pa: u64, known: bool)
-        requires there { IsSome (map.get self.old.bytes pa) }
-        requires room { 2 ≤ self.old.room }
-        ensures bytes { self.new.bytes ≡ map.insert self.old.bytes pa known }
-        ensures room { self.old.room ≤ self.new.room + 2 }
-        ensures there_room { self.new.there_room ≡ self.old.there_room }
-    {
-        if self.known.contains(pa) != known {
-            self.known.set(pa, pa + 1, known);
-        }
     }
 
     /// Adds `len` bytes from `pa` on, each Known or each Unknown.
@@ -145,15 +146,21 @@ pub fn set_extents(bytes: &mut ByteMarks, extents: &[Extent], known: bool)
     }
 }
 
-/// Marks the bytes of positions.
-pub fn set_positions(bytes: &mut ByteMarks, positions: &[Position], known: bool)
-    requires there { AreIn bytes.old.bytes (addresses_of positions.now) }
-    requires room { length positions.now + length positions.now ≤ bytes.old.room }
-    ensures bytes { bytes.new.bytes ≡ set_all bytes.old.bytes (addresses_of positions.now) known }
-    ensures room { bytes.old.room ≤ bytes.new.room + (length positions.now + length positions.now) }
+/// Marks the bytes of a range of a map's buffer.
+pub fn set_range(bytes: &mut ByteMarks, row: &LoanRow, off: u64, len: u64, known: bool)
+    requires range { off + len ≤ length row.now.positions }
+    requires there { AreIn bytes.old.bytes (addresses_of (stretch off len row.now.positions)) }
+    requires room { len + len ≤ bytes.old.room }
+    ensures bytes { bytes.new.bytes
+        ≡ set_all bytes.old.bytes (addresses_of (stretch off len row.now.positions)) known }
+    ensures room { bytes.old.room ≤ bytes.new.room + (len + len) }
     ensures there_room { bytes.new.there_room ≡ bytes.old.there_room }
 {
-    for position in positions {
-        bytes.set_known(position.pa, known);
+    let end = row.end_of(off, len);
+    let mut at = off;
+    while at < end {
+        let piece = row.piece(at, end);
+        bytes.set_run(piece.first.pa, piece.len, known);
+        at += piece.len;
     }
 }

@@ -1,26 +1,29 @@
 //! What one map lends.
 
-ghost use Rattle.std.specs.Prelude.{◌≡◌, ℕ, ◌+◌, ◌<◌, ◌≤◌, ◌^◌, ◌++◌, length, slice_index, IfOk, OnOk, false, true, []};
-ghost use Rattle.std.specs.List.{filter, All};
-ghost use Rattle.busdma_base.specs.Runs.{run_of, addresses};
-ghost use Rattle.loan_table.specs.Counted.{places, HasChanges, Holds, IsPlaced, IsRecounted, UsesChanges};
-ghost use Rattle.loan_table.specs.Kept.{Ends};
-ghost use Rattle.loan_table.specs.Kinds.{test_of};
+ghost use Rattle.std.specs.Prelude.{◌≡◌, ℕ, ◌+◌, ◌-◌, ◌≤◌, ◌<◌, ◌^◌, ◌++◌, ◌&&◌, ◌||◌, not, length};
+ghost use Rattle.std.specs.Prelude.{if◌then◌else◌, slice_index, IfOk, [], false};
+ghost use Rattle.std.specs.List.{All, filter};
 ghost use Rattle.busdma_base.specs.Machine.Wire.{stretch};
-ghost use Rattle.loan_table.specs.Lending.{marked, marked_range, loses};
-ghost use Rattle.loan_table.specs.Loans.{stands_twice, addresses_of, unlent, to_write, new_loan};
-ghost use Rattle.loan_table.specs.Rows.{CountsPlaces};
+ghost use Rattle.busdma_base.specs.Runs.{addresses, byte_count};
+ghost use Rattle.loan_table.specs.Counted.{places, places_in, HasChanges, Holds, IsPlaced, IsRecounted, UsesChanges};
+ghost use Rattle.loan_table.specs.Ends.{Ends};
+ghost use Rattle.loan_table.specs.Kinds.{test_of};
+ghost use Rattle.loan_table.specs.Lending.{marked, marked_range};
+ghost use Rattle.loan_table.specs.Loans.{stands_twice, addresses_of, to_write, new_loan};
+ghost use Rattle.loan_table.specs.Rows.{alike, IsRoomy};
 ghost use Rattle.loan_table.specs.Table.{AreIn, set_all};
-ghost use Rattle.run_set.specs.Counts.{changed, count};
-ghost use Rattle.run_set.specs.Edges.{in_run};
+ghost use Rattle.run_set.specs.Edges.{in_run, member};
 
+use crate::buffer::Buffer;
 use crate::lent::LentCounts;
+use crate::losing::{self, Losing};
 use crate::marks::ByteMarks;
+use crate::piece::Piece;
 use crate::position::Position;
 use bitflags::Flags;
 use busdma_base::Extent;
 use dma_tag::SyncOps;
-use run_set::RunCounts;
+use run_set::RunSet;
 use std::alloc::{AllocError, Global};
 use std::marker::Model;
 
@@ -43,39 +46,48 @@ impl Way {
     }
 }
 
-/// One map's positions, and how many of them each byte stands at.
+/// One map's positions: the bytes of its buffer, and the sets of those positions that it lends to read
+/// and to write.
 #[derive(Drop)]
 pub struct LoanRow {
     coherent: bool,
-    positions: Vec<Position>,
-    places: RunCounts,
+    buffer: Buffer,
+    to_read: RunSet,
+    to_write: RunSet,
 }
 
 impl Model for LoanRow {
-    ghost use Rattle.loan_table.specs.Loans.{Loan, addresses_of};
-    ghost use Rattle.loan_table.specs.Rows.{loan_code, CountsPlaces};
+    ghost use Rattle.run_set.specs.Edges.{member};
+    ghost use Rattle.loan_table.specs.Loans.{Loan};
+    ghost use Rattle.loan_table.specs.Rows.{loan_code, placed, IsRow};
 
     ghost Value = { Loan };
 
     ghost coded = { loan_code };
 
-    ghost view = { λ r. record { coherent = r.coherent; positions = r.positions.items } };
+    ghost view = { λ r. record {
+      coherent = r.coherent;
+      positions = placed (member r.to_read.edges) (member r.to_write.edges) 0 r.buffer;
+    } };
 
-    ghost invariant = { λ r. CountsPlaces r.places (addresses_of r.positions.items) };
+    ghost invariant = { λ r. IsRow r.to_read r.to_write r.buffer };
 }
 
 impl LoanRow {
     /// A map over bytes that lends nothing.
-    pub fn over(alloc: Global, coherent: bool, buffer: &[Extent]) -> Result<Self, AllocError>
-        requires { All Ends buffer.now }
-        ensures { IfOk result (λ row. row ≡ new_loan coherent (addresses buffer.now)) }
+    pub fn over(alloc: Global, coherent: bool, bytes: &[Extent]) -> Result<Self, AllocError>
+        requires ends { All Ends bytes.now }
+        requires total { byte_count bytes.now < 2 ^ 64 }
+        ensures { IfOk result (λ row. row ≡ new_loan coherent (addresses bytes.now)) }
     {
-        let positions = unlent_over(alloc, buffer)?;
-        let places = places_over(alloc, buffer)?;
+        let buffer = Buffer::over(alloc, bytes)?;
+        let to_read = places_among(alloc, buffer.len())?;
+        let to_write = places_among(alloc, buffer.len())?;
         Ok(LoanRow {
             coherent,
-            positions,
-            places,
+            buffer,
+            to_read,
+            to_write,
         })
     }
 
@@ -90,17 +102,39 @@ impl LoanRow {
     pub fn len(&self) -> u64
         ensures { result ≡ length self.now.positions }
     {
-        self.positions.len() as u64
+        self.buffer.len()
     }
 
-    /// The positions of a range.
-    pub fn range(&self, off: u64, len: u64) -> &[Position]
+    /// The position behind a range.
+    pub fn end_of(&self, off: u64, len: u64) -> u64
         requires { off + len ≤ length self.now.positions }
-        ensures is { result.now ≡ stretch off len self.now.positions }
-        ensures small { off + length result.now < 2 ^ 64 }
+        ensures { result ≡ off + len }
     {
-        let start = off as usize;
-        &self.positions[start..start + len as usize]
+        self.buffer.len().min(off + len)
+    }
+
+    /// The positions from one on that follow one another, of bytes that follow one another, and are
+    /// lent alike, as many as there are before `end`.
+    pub fn piece(&self, at: u64, end: u64) -> Piece
+        requires some { at < end }
+        requires range { end ≤ length self.now.positions }
+        ensures some { 0 < result.len }
+        ensures within { at + result.len ≤ end }
+        ensures fits { result.first.pa + result.len < 2 ^ 64 }
+        ensures is { stretch at (end - at) self.now.positions
+            ≡ alike result.first result.len ++ stretch (at + result.len) (end - (at + result.len)) self.now.positions }
+    {
+        let run = self.buffer.stretch(at, end);
+        let turn = self.to_read.turn(at, at + run.len);
+        let turn = self.to_write.turn(at, turn);
+        Piece {
+            first: Position {
+                pa: run.pa.0,
+                to_read: self.to_read.contains(at),
+                to_write: self.to_write.contains(at),
+            },
+            len: turn - at,
+        }
     }
 
     /// The byte at a position.
@@ -108,14 +142,25 @@ impl LoanRow {
         requires { at < length self.now.positions }
         ensures { result ≡ slice_index (addresses_of self.now.positions) at }
     {
-        self.positions[at as usize].pa
+        self.buffer.stretch(at, self.buffer.len()).pa.0
     }
 
     /// Whether the byte stands at more than one position.
     pub fn stands_twice(&self, pa: u64) -> bool
         ensures { result ≡ stands_twice pa self.now }
     {
-        self.places.count(pa) > 1
+        self.buffer.places(pa) > 1
+    }
+
+    /// The byte up to which all bytes from `start` on stand at more than one position, or all do not;
+    /// `end` where none comes before it.
+    pub fn turn(&self, start: u64, end: u64) -> u64
+        requires { start < end }
+        ensures from { start < result }
+        ensures to { result ≤ end }
+        ensures same { (a : ℕ) → start ≤ a → a < result → stands_twice a self.now ≡ stands_twice start self.now }
+    {
+        self.buffer.turn(start, end)
     }
 
     /// At how many positions the map lends the byte of a position.
@@ -124,7 +169,7 @@ impl LoanRow {
         ensures { result ≡ places (test_of way) position.pa self.now.positions }
     {
         if self.stands_twice(position.pa) {
-            count_lent(&self.positions, way, position.pa)
+            count_lent(self, way, position.pa)
         } else if way.passes(&position) {
             1
         } else {
@@ -134,13 +179,12 @@ impl LoanRow {
 
     /// The positions are counted no more among those that are lent.
     pub fn uncount(&self, lent: &mut LentCounts)
-        requires low { All (λ p. p.pa < 2 ^ 42) self.now.positions }
         requires held { Holds lent.old self.now.positions }
         requires room { HasChanges lent.old (length self.now.positions) }
         ensures counts { IsRecounted lent.old lent.new self.now.positions [] }
         ensures room { UsesChanges lent.old lent.new (length self.now.positions) }
     {
-        lent.forget(&self.positions);
+        lent.forget(self);
     }
 
     /// Makes Unknown the bytes that the map lends to write.
@@ -153,7 +197,7 @@ impl LoanRow {
             ≤ bytes.new.room + (length self.now.positions + length self.now.positions) }
         ensures there_room { bytes.new.there_room ≡ bytes.old.there_room }
     {
-        lose_lent(bytes, &self.positions);
+        losing::lose(bytes, self, 0, self.len(), Losing::Forgetting);
     }
 
     /// Sets the marks of a range.
@@ -162,63 +206,71 @@ impl LoanRow {
         ensures coherent { self.new.coherent ≡ self.old.coherent }
         ensures positions { self.new.positions ≡ marked_range ops.0 off len self.old.positions }
     {
-        mark_range(&mut self.positions, off, len, ops);
+        let count = self.buffer.len();
+        let end = off + len;
+        let begins = ops.contains(SyncOps::PREWRITE);
+        let ends = ops.contains(SyncOps::POSTWRITE);
+        mark_places(&mut self.to_read, count, off, end, begins, ends);
+        let begins = ops.contains(SyncOps::PREREAD);
+        let ends = ops.contains(SyncOps::POSTREAD);
+        mark_places(&mut self.to_write, count, off, end, begins, ends);
     }
 }
 
-/// How many of the positions lend a byte.
-fn count_lent(positions: &[Position], way: Way, pa: u64) -> u64
-    ensures { result ≡ places (test_of way) pa positions.now }
+/// At how many of a map's positions it lends a byte.
+fn count_lent(row: &LoanRow, way: Way, pa: u64) -> u64
+    ensures { result ≡ places (test_of way) pa row.now.positions }
 {
+    let end = row.len();
     let mut count = 0;
-    for position in positions {
-        if position.pa == pa && way.passes(position) {
-            count += 1;
-        }
+    let mut at = 0;
+    while at < end {
+        let piece = row.piece(at, end);
+        count += lent_in(&piece, way, pa);
+        at += piece.len;
     }
     count
 }
 
-/// Sets the marks of a range of positions.
-fn mark_range(positions: &mut Vec<Position>, off: u64, len: u64, ops: SyncOps)
-    requires { off + len ≤ length positions.old.items }
-    ensures { positions.new.items ≡ marked_range ops.0 off len positions.old.items }
+/// At how many positions of a piece a byte is lent: at one, or at none.
+fn lent_in(piece: &Piece, way: Way, pa: u64) -> u64
+    requires { piece.now.first.pa + piece.now.len < 2 ^ 64 }
+    ensures is { result ≡ places_in piece.now.first.pa piece.now.len (test_of way piece.now.first) pa }
+    ensures small { result ≤ 1 }
 {
-    let start = off as usize;
-    for position in &mut positions[start..start + len as usize] {
-        *position = marked(*position, ops);
+    let first = &piece.first;
+    if first.pa <= pa && pa < first.pa + piece.len && way.passes(first) {
+        1
+    } else {
+        0
     }
 }
 
-/// Makes Unknown those bytes of positions that a call loses.
-pub fn lose(bytes: &mut ByteMarks, positions: &[Position], ops: SyncOps)
-    requires there { AreIn bytes.old.bytes (addresses_of positions.now) }
-    requires room { length positions.now + length positions.now ≤ bytes.old.room }
-    ensures bytes { bytes.new.bytes
-        ≡ set_all bytes.old.bytes (addresses_of (filter (loses ops.0) positions.now)) false }
-    ensures room { bytes.old.room ≤ bytes.new.room + (length positions.now + length positions.now) }
-    ensures there_room { bytes.new.there_room ≡ bytes.old.there_room }
+/// The empty set of places among `len`, with room for each change.
+fn places_among(alloc: Global, len: u64) -> Result<RunSet, AllocError>
+    ensures none { IfOk result (λ set. set.edges ≡ []) }
+    ensures room { IfOk result (λ set. IsRoomy set len) }
 {
-    for position in positions {
-        if loses(position, ops) {
-            bytes.set_known(position.pa, false);
-        }
+    const MOST: u64 = 0x1000_0000_0000_0000;
+    if len > MOST {
+        return Err(AllocError);
     }
+    let mut places = RunSet::new(alloc);
+    places.reserve((len + 3) as usize)?;
+    Ok(places)
 }
 
-/// Makes Unknown the bytes of the positions that are lent to write.
-fn lose_lent(bytes: &mut ByteMarks, positions: &[Position])
-    requires there { AreIn bytes.old.bytes (addresses_of positions.now) }
-    requires room { length positions.now + length positions.now ≤ bytes.old.room }
-    ensures bytes { bytes.new.bytes
-        ≡ set_all bytes.old.bytes (addresses_of (filter to_write positions.now)) false }
-    ensures room { bytes.old.room ≤ bytes.new.room + (length positions.now + length positions.now) }
-    ensures there_room { bytes.new.there_room ≡ bytes.old.there_room }
+/// Puts the places of a range into a set where a call begins to lend them, or takes them out of it
+/// where a call ends that.
+fn mark_places(places: &mut RunSet, len: u64, start: u64, end: u64, begins: bool, ends: bool)
+    requires within { end ≤ len }
+    requires room { IsRoomy places.old len }
+    ensures members { (n : ℕ) → member places.new.edges n ≡ (if in_run start end n
+        then not ends && (begins || member places.old.edges n) else member places.old.edges n) }
+    ensures room { IsRoomy places.new len }
 {
-    for position in positions {
-        if position.to_write {
-            bytes.set_known(position.pa, false);
-        }
+    if begins || ends {
+        places.set(start, end, !ends);
     }
 }
 
@@ -233,64 +285,4 @@ pub fn marked(position: Position, ops: SyncOps) -> Position
         to_write: !ops.contains(SyncOps::POSTREAD)
             && (ops.contains(SyncOps::PREREAD) || position.to_write),
     }
-}
-
-/// Whether the byte of a position becomes Unknown.
-fn loses(position: &Position, ops: SyncOps) -> bool
-    ensures { result ≡ loses ops.0 position.now }
-{
-    ops.contains(SyncOps::PREREAD)
-        && !position.to_write
-        && !(ops.contains(SyncOps::PREWRITE) || position.to_read)
-}
-
-/// The positions of a buffer, none of them lent.
-fn unlent_over(alloc: Global, buffer: &[Extent]) -> Result<Vec<Position>, AllocError>
-    requires { All Ends buffer.now }
-    ensures { IfOk result (λ positions. positions.items ≡ unlent (addresses buffer.now)) }
-{
-    let mut positions = Vec::new(alloc);
-    for extent in buffer {
-        push_run(&mut positions, extent)?;
-    }
-    Ok(positions)
-}
-
-/// At how many positions of a buffer each byte stands.
-fn places_over(alloc: Global, buffer: &[Extent]) -> Result<RunCounts, AllocError>
-    requires { All Ends buffer.now }
-    ensures { IfOk result (λ places. CountsPlaces places (addresses buffer.now)) }
-{
-    let mut places = RunCounts::new(alloc);
-    for extent in buffer {
-        count_run(&mut places, extent)?;
-    }
-    Ok(places)
-}
-
-/// Counts each byte of a run once more.
-fn count_run(places: &mut RunCounts, run: &Extent) -> Result<(), AllocError>
-    requires { Ends run.now }
-    ensures { OnOk result ((a : ℕ) → count places.new a
-        ≡ changed true (in_run run.now.pa.0 (run.now.pa.0 + run.now.len) a) (count places.old a)) }
-{
-    places.reserve(1)?;
-    places.change(run.pa.0, run.pa.0 + run.len, true);
-    Ok(())
-}
-
-/// Appends the positions of a run.
-fn push_run(positions: &mut Vec<Position>, run: &Extent) -> Result<(), AllocError>
-    requires { Ends run.now }
-    ensures { OnOk result (positions.new.items
-        ≡ positions.old.items ++ unlent (run_of run.now.pa.0 run.now.len)) }
-{
-    for pa in run.pa.0..run.pa.0 + run.len {
-        positions.push(Position {
-            pa,
-            to_read: false,
-            to_write: false,
-        })?;
-    }
-    Ok(())
 }

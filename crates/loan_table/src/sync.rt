@@ -1,25 +1,28 @@
 //! The judgement of a sync of a range of a map's buffer, and what it does.
 
-ghost use Rattle.std.specs.Prelude.{◌≡◌, ◌+◌, ◌<◌, ◌≤◌, ◌^◌, length, IsSome, false};
-ghost use Rattle.std.specs.List.{All};
+ghost use Rattle.std.specs.Prelude.{◌≡◌, ℕ, ◌+◌, ◌<◌, ◌≤◌, ◌^◌, length, IsSome, true, false};
 ghost use Rattle.std.specs.Ordering.{nat_cmp};
 ghost use Rattle.std.specs.BTreeMap as tree;
 ghost use Rattle.std.specs.FinMap as finmap;
 ghost use Rattle.busdma_base.specs.Journals.Judging.{judged};
+ghost use Rattle.busdma_base.specs.Machine.Wire.{stretch};
+ghost use Rattle.run_set.specs.Counts.{count};
 ghost use Rattle.loan_table.specs.Lending.{lost, synced, sync_answer, sync_refusal, prewrite_refusal, preread_refusal};
 ghost use Rattle.loan_table.specs.Lending.{postread_refusal};
-ghost use Rattle.loan_table.specs.Counted.{HasChanges, IsCounted, IsOf, IsPlaced, Lender, UsesChanges};
+ghost use Rattle.loan_table.specs.Counted.{counts_of, HasChanges, IsCounted, IsUnlent, IsOf, IsPlaced, Lender, UsesChanges};
 ghost use Rattle.loan_table.specs.Kept.{position_count};
 ghost use Rattle.loan_table.specs.Kinds.{test_of};
-ghost use Rattle.loan_table.specs.Loans.{loan_of, addresses_of, lent_elsewhere};
+ghost use Rattle.loan_table.specs.Loans.{loan_of, addresses_of, lent_elsewhere, stands_twice};
 ghost use Rattle.loan_table.specs.Table.{AreIn, set_all};
 ghost use Rattle.loan_table.specs.Trees.{closed, opened};
 
 use crate::lent::LentCounts;
 use crate::loans::row_of;
+use crate::losing::{self, Losing};
 use crate::marks::ByteMarks;
+use crate::piece::Piece;
 use crate::position::Position;
-use crate::row::{self, LoanRow, Way};
+use crate::row::{LoanRow, Way};
 use crate::slot::Slot;
 use bitflags::Flags;
 use busdma_base::{Judged, Report, ReportName};
@@ -32,7 +35,11 @@ fn lent_elsewhere(lent: &LentCounts, row: &LoanRow, way: Way, position: Position
     ensures { (lender : Lender) → IsOf lent.now row.now lender →
         result ≡ lent_elsewhere (test_of way) lender.map position.pa lender.loans }
 {
-    lent.count(way, position.pa) > row.lent_places(way, position)
+    let count = lent.count(way, position.pa);
+    if count == 0 {
+        return false;
+    }
+    count > row.lent_places(way, position)
 }
 
 /// What PREWRITE meets at a position.
@@ -100,26 +107,41 @@ fn sync_refusal(
     }
 }
 
-/// The judgement of positions, the first of which stands at a place.
-fn judge(
-    lent: &LentCounts,
-    row: &LoanRow,
-    ops: SyncOps,
-    positions: &[Position],
-    place: u64,
-) -> Judged
-    requires placed { All (IsPlaced row.now) positions.now }
-    requires fits { place + length positions.now < 2 ^ 64 }
-    ensures { (lender : Lender) → IsOf lent.now row.now lender →
-        result ≡ judged (sync_refusal lender.loans lender.map ops.0) place positions.now }
+/// How many bytes of a piece, from the first on, meet what the first meets.
+fn same_len(lent: &LentCounts, row: &LoanRow, piece: &Piece) -> u64
+    requires some { 0 < piece.now.len }
+    requires fits { piece.now.first.pa + piece.now.len < 2 ^ 64 }
+    ensures some { 0 < result }
+    ensures within { result ≤ piece.now.len }
+    ensures alone { 1 < result → stands_twice piece.now.first.pa row.now ≡ true →
+        IsUnlent lent.now piece.now.first.pa }
+    ensures stands { (a : ℕ) → piece.now.first.pa ≤ a → a < piece.now.first.pa + result →
+        stands_twice a row.now ≡ stands_twice piece.now.first.pa row.now }
+    ensures counts { (way : Way) (a : ℕ) → piece.now.first.pa ≤ a → a < piece.now.first.pa + result →
+        count (counts_of lent.now way) a ≡ count (counts_of lent.now way) piece.now.first.pa }
 {
-    for (i, position) in positions.iter().enumerate() {
-        if let Some(name) = sync_refusal(lent, row, ops, *position) {
-            return Judged::Refused(Report {
-                name,
-                at: place + i as u64,
-            });
+    let start = piece.first.pa;
+    if row.stands_twice(start) && lent.is_lent(start) {
+        return 1;
+    }
+    let turn = row.turn(start, start + piece.len);
+    lent.turn(start, turn) - start
+}
+
+/// The judgement of a range of a map's positions.
+fn judge(lent: &LentCounts, row: &LoanRow, ops: SyncOps, off: u64, len: u64) -> Judged
+    requires range { off + len ≤ length row.now.positions }
+    ensures { (lender : Lender) → IsOf lent.now row.now lender → let range = stretch off len row.now.positions in
+        result ≡ judged (sync_refusal lender.loans lender.map ops.0) off range }
+{
+    let end = row.end_of(off, len);
+    let mut at = off;
+    while at < end {
+        let piece = row.piece(at, end);
+        if let Some(name) = sync_refusal(lent, row, ops, piece.first) {
+            return Judged::Refused(Report { name, at });
         }
+        at += same_len(lent, row, &piece);
     }
     Judged::Fine
 }
@@ -142,7 +164,7 @@ pub fn answer(
     if row.is_coherent() {
         Judged::Fine
     } else {
-        judge(lent, row, ops, row.range(off, len), off)
+        judge(lent, row, ops, off, len)
     }
 }
 
@@ -167,7 +189,7 @@ pub fn lose(
 {
     let row = row_of(loans, map);
     if !row.is_coherent() {
-        row::lose(bytes, row.range(off, len), ops);
+        losing::lose(bytes, row, off, len, Losing::Call(ops));
     }
 }
 
@@ -182,7 +204,6 @@ pub fn count(
 )
     requires there { IsSome (finmap.get (opened loans.now) map) }
     requires range { off + len ≤ length (loan_of (opened loans.now) map).positions }
-    requires low { All (λ p. p.pa < 2 ^ 42) (loan_of (opened loans.now) map).positions }
     requires counted { IsCounted lent.old (opened loans.now) }
     requires room { HasChanges lent.old len }
     ensures counted { IsCounted lent.new (synced (opened loans.now) map off len ops.0) }
@@ -190,7 +211,7 @@ pub fn count(
 {
     let row = row_of(loans, map);
     if !row.is_coherent() {
-        lent.mark(row.range(off, len), ops);
+        lent.mark(row, off, len, ops);
     }
 }
 

@@ -341,12 +341,7 @@ impl LoanTable {
             ≡ dev_read_answer (is_known self.now) (loan_of self.now.loans map.made_at) off len }
     {
         let row = row_of(&self.loans, map.made_at);
-        access::judge_positions(
-            &self.bytes,
-            row.is_coherent(),
-            Access::Read,
-            row.range(off, len),
-        )
+        access::judge_range(&self.bytes, row, Access::Read, off, len)
     }
 
     /// Whether the device may write `len` bytes from `off` on in a map's buffer. A refusal names
@@ -357,12 +352,7 @@ impl LoanTable {
         ensures { result ≡ dev_write_answer (loan_of self.now.loans map.made_at) off len }
     {
         let row = row_of(&self.loans, map.made_at);
-        access::judge_positions(
-            &self.bytes,
-            row.is_coherent(),
-            Access::Write,
-            row.range(off, len),
-        )
+        access::judge_range(&self.bytes, row, Access::Write, off, len)
     }
 
     /// Marks bytes Known that the driver has written.
@@ -391,7 +381,7 @@ impl LoanTable {
         ensures spare { self.new.spare ≤ self.old.spare }
     {
         let row = row_of(&self.loans, map.made_at);
-        marks::set_positions(&mut self.bytes, row.range(off, len), true);
+        marks::set_range(&mut self.bytes, row, off, len, true);
         self.spare = spare_after(self.spare, len);
     }
 
@@ -447,7 +437,7 @@ impl LoanTable {
             ≡ extent_count (load_bytes self.now.loans map.made_at off len)) }
     {
         let row = row_of(&self.loans, map.made_at);
-        let extents = extents::extents_of(alloc, row.range(off, len))?;
+        let extents = extents::extents_of(alloc, row, off, len)?;
         Ok(ExtentList::new(extents))
     }
 
@@ -458,6 +448,6 @@ impl LoanTable {
         requires range { off + len ≤ length (buffer_of self.now map.made_at) }
         ensures { result ≡ extent_count (load_bytes self.now.loans map.made_at off len) }
     {
-        extents::extent_count(row_of(&self.loans, map.made_at).range(off, len))
+        extents::extent_count(row_of(&self.loans, map.made_at), off, len)
     }
 }

@@ -1,7 +1,7 @@
 //! A set of numbers, as runs.
 
 ghost use Rattle.std.specs.Prelude.{◌≡◌, ℕ, ◌+◌, ◌≤◌, ◌<◌, [], if◌then◌else◌, length, IsOk, OnOk, OnErr};
-ghost use Rattle.run_set.specs.Edges.{member, in_run, IsFirst, IsKept};
+ghost use Rattle.run_set.specs.Edges.{member, in_run, IsFirst, IsKept, Rises};
 ghost use Rattle.run_set.specs.Numbers.{count_le};
 
 use crate::edges::{count_below, count_to, differ, is_odd, replace};
@@ -111,6 +111,8 @@ impl RunSet {
         ensures kept { IsKept self.new.edges }
         ensures edges { length self.new.edges ≤ length self.old.edges + 2 }
         ensures room { self.old.room ≤ self.new.room + 2 }
+        ensures capacity { length self.new.edges + self.new.room ≡ length self.old.edges + self.old.room }
+        ensures within { (top : ℕ) → end < top → Rises 0 top self.old.edges → Rises 0 top self.new.edges }
     {
         let edges = &self.edges;
         if end <= start {

@@ -1,86 +1,128 @@
-use Rattle.std.proofs.Common.{ℕ, ◌+◌, ◌%◌, ◌<◌, ◌^◌, ◌++◌, ap, sym, ◌∙◌, subst, get_or, arith}
-use Rattle.std.proofs.lemmas.List.{at_drop_more, at_drop_all}
-use Rattle.std.proofs.lemmas.List.Elements.{All-push, All-get_or, All-nil, All-rest}
-use Rattle.busdma_base.specs.declared.machine.address.Pa.{Pa}
-use Rattle.busdma_base.specs.Runs.{addresses, run_of, IsExtent}
+use Rattle.std.proofs.Common.{◌≡◌, ℕ, ◌+◌, ◌-◌, ◌%◌, ◌<◌, ◌≤◌, ◌^◌, ◌++◌, List, true, ap, sym, ◌∙◌, cond, length, subst, arith}
+use Rattle.std.proofs.lemmas.List.{length-append}
+use Rattle.std.proofs.lemmas.List.Elements.{All-push, All-nil}
+use Rattle.busdma_base.specs.declared.machine.address.Extent.{Extent}
+use Rattle.busdma_base.specs.Machine.Wire.{stretch}
+use Rattle.busdma_base.specs.Runs.{run_of, IsExtent}
+use Rattle.loan_table.specs.declared.position.Position.{Position}
 use Rattle.loan_table.specs.Loans.{addresses_of}
-use Rattle.loan_table.specs.Table.{is_next}
-use Rattle.loan_table.proofs.Extending.{joins, begins, ends, next_is, next_fits, count_first, count_joins}
-use Rattle.loan_table.proofs.Extending.{count_begins, count_ends}
+use Rattle.loan_table.specs.Rows.{alike}
+use Rattle.loan_table.specs.Table.{extent_count, is_next, more_extents}
+use Rattle.loan_table.proofs.Extending.{ends, next_is, next_fits}
+use Rattle.loan_table.proofs.Frames.{extents_first, extents_more}
 use Rattle.loan_table.proofs.Marking.{no_position}
+use Rattle.loan_table.proofs.Pieces.{addresses_ahead, in_piece, nothing, shorter, whole}
+use Rattle.loan_table.proofs.Stretches.{run_of_sum, stretch_begins, stretch_joins}
 use Rattle.loan_table.proofs.extents.extents_of.Goals as goal
 use Rattle.loan_table.proofs.extents.extents_of.Goals.{then-is_next, else-is_next+in_ok-push}
 
-longer : (pa : Pa) (n : ℕ) → IsExtent (record { pa = pa; len = n }) → pa.0 % 4096 + n < 4096 →
-    IsExtent (record { pa = pa; len = n + 1 })
-longer pa n h room = record { some = omega arith; in_frame = omega arith; numbered = h.numbered }
+-- the bytes from a piece on begin with those of an extent in it
+begins_with : (at end n : ℕ) (p : Position) (ps : List Position) (e : Extent) →
+    stretch at (end - at) ps ≡ alike p n ++ stretch (at + n) (end - (at + n)) ps → at + n ≤ end → e.len ≤ n →
+    e.pa.0 ≡ p.pa → addresses_of (stretch at (end - at) ps)
+    ≡ run_of e.pa.0 e.len ++ addresses_of (stretch (at + e.len) (end - (at + e.len)) ps)
+begins_with at end n p ps e is within short same =
+    addresses_ahead p e.len _ _ (shorter at end n e.len p ps is short within)
+    ∙ ap (λ a. run_of a e.len ++ addresses_of (stretch (at + e.len) (end - (at + e.len)) ps)) (sym same)
 
-pub byte-run-requires-else-is_next : goal.byte-run-requires-else-is_next
-byte-run-requires-else-is_next c =
-    All-get_or (λ p. p.pa < 2 ^ 42) c.in-Some.rest.now c.loop-position.position-index no_position
-    c.loop-position-test.true c.loop-position.invariant.low
+longer : (run next : Extent) → IsExtent run → IsExtent next → is_next (run.pa.0 + run.len - 1) next.pa.0 ≡ true →
+    IsExtent (record { pa = run.pa; len = run.len + next.len })
+longer run next h k is =
+    let behind : next.pa.0 ≡ run.pa.0 + run.len = next_is run.pa.0 run.len next.pa.0 h.some is in
+    let room : run.pa.0 % 4096 + run.len < 4096 = next_fits run.pa.0 run.len next.pa.0 h.some is h.in_frame in
+    record { some = omega (arith, h.some); in_frame = omega (arith, behind, room, k.in_frame); numbered = h.numbered }
 
-pub loop-position-preserved : goal.loop-position-preserved
-loop-position-preserved c =
-    let rest = c.in-Some.rest.now in
-    let i = c.loop-position.position-index in
-    let e = at_drop_more addresses_of rest i no_position c.loop-position-test.true in
-    let run = c.loop-position.invariant.run in
-    let before =
-    sym (ap (λ xs. addresses c.loop-position.extents.items
-    ++ (run_of c.loop-position.run.pa.0 c.loop-position.run.len ++ xs)) e) ∙ c.loop-position.invariant.bytes in
+pub in_frame-run-requires-clause-low : goal.in_frame-run-requires-clause-low
+in_frame-run-requires-clause-low c =
+    let first = c.piece-first.result.first in
+    in_piece (λ p. p.pa < 2 ^ 42) no_position c.args.off c.end_of-end.result c.piece-first.result.len first
+    c.args.row.now.positions c.piece-first.ensures.is c.piece-first.ensures.within
+    (omega (arith, c.end_of-end.ensures, c.requires.range)) c.requires.low first.pa (omega arith)
+    (omega (arith, c.piece-first.ensures.some))
+
+pub in_frame-next-requires-clause-low : goal.in_frame-next-requires-clause-low
+in_frame-next-requires-clause-low c =
+    let first = c.piece-piece.result.first in
+    in_piece (λ p. p.pa < 2 ^ 42) no_position c.loop-at.at c.end_of-end.result c.piece-piece.result.len first
+    c.args.row.now.positions c.piece-piece.ensures.is c.piece-piece.ensures.within
+    (omega (arith, c.end_of-end.ensures, c.requires.range)) c.requires.low first.pa (omega arith)
+    (omega (arith, c.piece-piece.ensures.some))
+
+pub loop-at-init : goal.loop-at-init
+loop-at-init c =
+    let ps = c.args.row.now.positions in
+    let run = c.in_frame-run.result in
+    let all = whole c.args.off c.args.len c.end_of-end.result ps c.end_of-end.ensures in
+    let ahead = begins_with c.args.off c.end_of-end.result c.piece-first.result.len c.piece-first.result.first ps run
+    c.piece-first.ensures.is c.piece-first.ensures.within c.in_frame-run.ensures.within c.in_frame-run.ensures.pa in
+    let extent = c.in_frame-run.ensures.extent in
+    record {
+      bytes = rw c.new-extents.ensures.items (sym ahead ∙ ap addresses_of all);
+      count =
+          rw c.new-extents.ensures.items
+          (let first = sym (extents_first run.pa.0 run.len _ extent.some extent.in_frame) ∙ sym (ap extent_count ahead)
+          ∙ ap (λ xs. extent_count (addresses_of xs)) all in omega (arith, first));
+      extents = rw c.new-extents.ensures.items (All-nil IsExtent);
+      run = extent;
+      to = omega (arith, c.in_frame-run.ensures.within, c.piece-first.ensures.within);
+    }
+
+pub loop-at-preserved : goal.loop-at-preserved
+loop-at-preserved c =
+    let ps = c.args.row.now.positions in
+    let end = c.end_of-end.result in
+    let t = c.loop-at in
+    let run = t.run in
+    let next = c.in_frame-next.result in
+    let extent = c.in_frame-next.ensures.extent in
+    let ahead = begins_with t.at end c.piece-piece.result.len c.piece-piece.result.first ps next
+    c.piece-piece.ensures.is c.piece-piece.ensures.within c.in_frame-next.ensures.within c.in_frame-next.ensures.pa in
+    let last = c.is_next.ensures ∙ ap (λ k. is_next k next.pa.0) c.last_of.ensures in
+    let later = more_extents (next.pa.0 + next.len - 1)
+    (addresses_of (stretch (t.at + next.len) (end - (t.at + next.len)) ps)) in
+    let more = ap (more_extents (run.pa.0 + run.len - 1)) ahead
+    ∙ extents_more next.pa.0 next.len _ extent.some extent.in_frame (run.pa.0 + run.len - 1) in
     elim c.if-is_next.branch [
-      | then-is_next w ↦ let next =
-          sym (c.is_next.ensures ∙ ap (λ k. is_next k (get_or rest i no_position).pa) c.last_of.ensures)
-          ∙ w.if-is_next.true in record {
-            bytes =
-                rw (w.extents-is, w.run-is) (joins (addresses c.loop-position.extents.items) c.loop-position.run.pa.0
-                c.loop-position.run.len _ _ _ (next_is _ _ _ run.some next) before);
-            count =
-                rw (w.extents-is, w.run-is) (count_joins _ _ _ _ _ _ _ e run.some next c.loop-position.invariant.count);
-            extents = rw w.extents-is c.loop-position.invariant.extents;
-            run = subst IsExtent (sym w.run-is) (longer _ _ run (next_fits _ _ _ run.some next run.in_frame));
-            low = c.loop-position.invariant.low;
+      | then-is_next w ↦
+          let is = sym last ∙ w.if-is_next.true in
+          let behind : next.pa.0 ≡ run.pa.0 + run.len = next_is run.pa.0 run.len next.pa.0 t.invariant.run.some is in
+          let joined = run_of_sum run.pa.0 run.len next.len
+          ∙ ap (λ a. run_of run.pa.0 run.len ++ run_of a next.len) (sym behind) in
+          let same : run.pa.0 + (run.len + next.len) - 1 ≡ next.pa.0 + next.len - 1 = omega (arith, behind) in
+          let zero = more ∙ ap (λ b. cond b 0 1 + later) is in
+          record {
+            bytes = rw (w.extents-is, w.run-is) (stretch_joins t.extents.items run next _ _ _ ahead t.invariant.bytes
+                (record { pa = run.pa; len = run.len + next.len }) joined);
+            count = rw (w.extents-is, w.run-is, same) (omega (arith, zero, t.invariant.count));
+            extents = rw w.extents-is t.invariant.extents;
+            run = subst IsExtent (sym w.run-is) (longer run next t.invariant.run extent is);
+            to = omega (arith, c.in_frame-next.ensures.within, c.piece-piece.ensures.within);
           }
-      | else-is_next+in_ok-push w ↦ let apart =
-          sym (c.is_next.ensures ∙ ap (λ k. is_next k (get_or rest i no_position).pa) c.last_of.ensures)
-          ∙ w.if-is_next.false in record {
-            bytes =
-                rw (w.extents-is, w.run-is) (begins c.loop-position.extents.items w.push.new.self.items c.loop-position.run
-                w.byte-run-else-is_next.result _ _ _ w.in_ok-push.ensures.items
-                w.byte-run-else-is_next.ensures.bytes before);
-            count =
-                rw (w.extents-is, w.run-is) (count_begins c.loop-position.extents.items w.push.new.self.items
-                c.loop-position.run w.byte-run-else-is_next.result _ _ _ _ w.in_ok-push.ensures.items
-                w.byte-run-else-is_next.ensures.last e apart c.loop-position.invariant.count);
+      | else-is_next+in_ok-push w ↦
+          let apart = sym last ∙ w.if-is_next.false in
+          let one = more ∙ ap (λ b. cond b 0 1 + later) apart in
+          let long = ap length w.in_ok-push.ensures.items ∙ length-append t.extents.items _ in
+          record {
+            bytes = rw (w.extents-is, w.run-is) (stretch_begins t.extents.items run next _ _ _ ahead t.invariant.bytes
+                _ w.in_ok-push.ensures.items);
+            count = rw (w.extents-is, w.run-is) (omega (arith, one, long, t.invariant.count));
             extents =
                 rw (w.extents-is, w.in_ok-push.ensures.items)
-                (All-push IsExtent c.loop-position.extents.items c.loop-position.run
-                c.loop-position.invariant.extents c.loop-position.invariant.run);
-            run = subst IsExtent (sym w.run-is) w.byte-run-else-is_next.ensures.extent;
-            low = c.loop-position.invariant.low;
+                (All-push IsExtent t.extents.items run t.invariant.extents t.invariant.run);
+            run = subst IsExtent (sym w.run-is) extent;
+            to = omega (arith, c.in_frame-next.ensures.within, c.piece-piece.ensures.within);
           }
     ]
 
 pub returns-clause-bytes : goal.returns-clause-bytes
 returns-clause-bytes c =
-    ends c.loop-position.extents.items _ c.loop-position.run _ _ c.in_ok-push-2.ensures.items
-    (at_drop_all addresses_of c.in-Some.rest.now c.loop-position.position-index c.loop-position-test.false)
-    c.loop-position.invariant.bytes
+    ends c.loop-at.extents.items _ c.loop-at.run _ _ c.in_ok-push-2.ensures.items
+    (ap addresses_of (nothing c.loop-at.at c.end_of-end.result c.args.row.now.positions (omega arith)))
+    c.loop-at.invariant.bytes
 
 pub returns-clause-count : goal.returns-clause-count
 returns-clause-count c =
-    count_ends c.loop-position.extents.items _ c.loop-position.run _ _ _ c.in_ok-push-2.ensures.items
-    (at_drop_all addresses_of c.in-Some.rest.now c.loop-position.position-index c.loop-position-test.false)
-    c.loop-position.invariant.count
-
-pub loop-position-init : goal.loop-position-init
-loop-position-init c = let parts = c.in-Some.ensures.cases in record {
-  bytes = rw (c.new-extents.ensures.items, c.byte-run.ensures.bytes) (sym (ap addresses_of parts.0));
-  count =
-      count_first _ _ _ c.in-Some.first.now.pa _ _ c.new-extents.ensures.items
-      c.byte-run.ensures.last (ap addresses_of parts.0);
-  extents = rw c.new-extents.ensures.items (All-nil IsExtent);
-  run = c.byte-run.ensures.extent;
-  low = All-rest (λ p. p.pa < 2 ^ 42) c.in-Some.first.now c.in-Some.rest.now c.args.positions.now parts.0 c.requires;
-}
+    let none = ap (λ xs. more_extents (c.loop-at.run.pa.0 + c.loop-at.run.len - 1) (addresses_of xs))
+    (nothing c.loop-at.at c.end_of-end.result c.args.row.now.positions (omega arith)) in
+    let long = ap length c.in_ok-push-2.ensures.items ∙ length-append c.loop-at.extents.items _ in
+    omega (arith, none, long, c.loop-at.invariant.count)

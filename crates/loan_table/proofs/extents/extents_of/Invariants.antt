@@ -1,18 +1,23 @@
-use Rattle.std.proofs.Common.{◌≡◌, ◌+◌, ◌-◌, ◌<◌, ◌^◌, ◌++◌, drop, length}
+use Rattle.std.proofs.Common.{◌≡◌, ◌+◌, ◌-◌, ◌≤◌, ◌++◌, length}
 use Rattle.std.specs.List.{All}
+use Rattle.busdma_base.specs.Machine.Wire.{stretch}
 use Rattle.busdma_base.specs.Runs.{addresses, run_of, IsExtent}
 use Rattle.loan_table.specs.Loans.{addresses_of}
-use Rattle.loan_table.specs.Table.{more_extents, extent_count}
+use Rattle.loan_table.specs.Table.{extent_count, more_extents}
 use Rattle.loan_table.proofs.extents.extents_of.Given as goal
 
-abbrev pub invariant-loop-position : goal.invariant-loop-position
-invariant-loop-position l = record {
-  bytes : addresses l.extents.items ++ (run_of l.run.pa.0 l.run.len ++ addresses_of (drop l.position-index l.rest))
-      ≡ addresses_of l.positions;
-  count : length l.extents.items
-      + (1 + more_extents (l.run.pa.0 + l.run.len - 1) (addresses_of (drop l.position-index l.rest)))
-      ≡ extent_count (addresses_of l.positions);
+abbrev pub invariant-loop-at : goal.invariant-loop-at
+invariant-loop-at l = record {
+  bytes : addresses l.extents.items ++ (run_of l.run.pa.0 l.run.len
+      ++ addresses_of (stretch l.at (l.end - l.at) l.row.positions))
+      ≡ addresses_of (stretch l.off l.len l.row.positions);
+  count : length l.extents.items + (1 + more_extents (l.run.pa.0 + l.run.len - 1)
+      (addresses_of (stretch l.at (l.end - l.at) l.row.positions)))
+      ≡ extent_count (addresses_of (stretch l.off l.len l.row.positions));
   extents : All IsExtent l.extents.items;
   run : IsExtent l.run;
-  low : All (λ p. p.pa < 2 ^ 42) l.rest;
+  to : l.at ≤ l.end;
 }
+
+abbrev pub decreases-loop-at : goal.decreases-loop-at
+decreases-loop-at l = l.end - l.at

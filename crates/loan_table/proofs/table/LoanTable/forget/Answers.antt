@@ -1,7 +1,6 @@
 use Rattle.std.proofs.Common.{◌≡◌, ◌+◌, length, ap, sym, ◌∙◌, subst, true, false, is_some, refl, None, arith, []}
 use Rattle.loan_table.specs.Counted.{IsCounted, IsRecounted, Holds}
 use Rattle.loan_table.proofs.Recounting.{counted_without, held_loan}
-use Rattle.loan_table.proofs.Extending.{AllLow}
 use Rattle.std.specs.List.{filter}
 use Rattle.loan_table.specs.Kept.{AreLow, position_count}
 use Rattle.loan_table.specs.Loans.{Loan, to_write, addresses_of}
@@ -34,15 +33,6 @@ lose_lent-requires-clause-room c =
     ∙ count_removed c.self.inside.loans.entries _ c.unwrap-slot.result (sym c.remove.ensures.value
     ∙ c.unwrap-slot.ensures) ∙ c.self.invariant.counted in
     omega (arith, sum, c.self.invariant.room.forgets)
-
-pub uncount-requires-clause-low : goal.uncount-requires-clause-low
-uncount-requires-clause-low c =
-    let at = sym c.remove.ensures.value ∙ c.unwrap-slot.ensures in
-    AllLow c.self.inside.bytes.bytes c.self.invariant.low c.unwrap-slot.result.row.positions
-    (subst (λ (l : Loan). AreIn c.self.inside.bytes.bytes (addresses_of l.positions))
-    (loan_found c.self.inside.loans.entries c.args.map.made_at _ at
-    (open_there _ _ _ at (rw (← c.self.view_is) at c.requires)))
-    (c.self.invariant.inside c.args.map.made_at))
 
 pub uncount-requires-clause-held : goal.uncount-requires-clause-held
 uncount-requires-clause-held c =

@@ -51,8 +51,8 @@ idle_closed : (b : Bool) (row : Loan) → LendsNothing row.positions →
 idle_closed true row h = λ way a. refl
 idle_closed false row h = h
 
-pub over-requires : goal.over-requires
-over-requires c = AllEnd _ c.self.invariant.low _ (rw (← c.self.view_is) at c.requires.there)
+pub over-requires-clause-ends : goal.over-requires-clause-ends
+over-requires-clause-ends c = AllEnd _ c.self.invariant.low _ (rw (← c.self.view_is) at c.requires.there)
 
 pub overflow_sub-self : goal.overflow_sub-self
 overflow_sub-self c =

@@ -6,7 +6,6 @@ use Rattle.loan_table.specs.Trees.{opened}
 use Rattle.loan_table.proofs.Addresses.{AreIn-set_all, AreLow-set_all}
 use Rattle.loan_table.proofs.Marking.{addresses_of-synced, AreIn-lost}
 use Rattle.loan_table.proofs.Rooms.{count_bound, needs_spare, used_bytes, count_room_used}
-use Rattle.loan_table.proofs.Extending.{AllLow}
 use Rattle.loan_table.proofs.table.LoanTable.sync.Goals as goal
 
 pub lose-requires-clause-room : goal.lose-requires-clause-room
@@ -16,10 +15,6 @@ lose-requires-clause-room c =
     let all : length ps ≤ c.self.inside.positions =
     rw c.self.invariant.counted at (count_bound c.self.inside.loans.entries c.args.map.made_at) in
     omega (arith, range, all, c.self.invariant.room.forgets)
-
-pub count-requires-clause-low : goal.count-requires-clause-low
-count-requires-clause-low c =
-    AllLow c.self.inside.bytes.bytes c.self.invariant.low _ (c.self.invariant.inside c.args.map.made_at)
 
 pub count-requires-clause-room : goal.count-requires-clause-room
 count-requires-clause-room c way =

@@ -1,0 +1,181 @@
+-- The positions of bytes, by the sets of places at which they are lent.
+use Rattle.std.proofs.Common.{◌≡◌, ℕ, zero, suc, ◌+◌, ◌-◌, ◌<◌, ◌≤◌, ◌&&◌, ◌||◌, not, Bool, true, false, if◌then◌else◌}
+use Rattle.std.proofs.Common.{List, [], ◌∷◌, ◌++◌, map, take, drop, length, slice_index, nat_lt, refl, sym, ap, ◌∙◌, arith}
+use Rattle.std.proofs.lemmas.Bool.Decides.{nat_tests}
+use Rattle.std.proofs.lemmas.List.{length-take, take-take}
+use Rattle.busdma_base.specs.Machine.Wire.{stretch}
+use Rattle.busdma_base.specs.Runs.{run_of}
+use Rattle.dma_tag.specs.SyncOps.{preread, prewrite, postread, postwrite}
+use Rattle.run_set.specs.Edges.{in_run, member, Rises}
+use Rattle.loan_table.specs.declared.position.Position.{Position}
+use Rattle.loan_table.specs.Loans.{Loan, addresses_of, new_loan, stands_twice, unlent}
+use Rattle.loan_table.specs.Lending.{marked, marked_range}
+use Rattle.loan_table.specs.Rows.{alike, placed, stands}
+use Rattle.loan_table.proofs.Marking.{three_parts}
+use Rattle.loan_table.proofs.Pieces.{two_parts}
+use Rattle.loan_table.proofs.Places.{places_of}
+use Rattle.loan_table.proofs.Stretches.{take_run}
+
+abbrev pub position : ℕ → Bool → Bool → Position
+position a r w = record { pa = a; to_read = r; to_write = w }
+
+pub length-placed : (r w : ℕ → Bool) (at : ℕ) (bytes : List ℕ) → length (placed r w at bytes) ≡ length bytes
+length-placed r w at [] = refl
+length-placed r w at (a ∷ bytes) = ap suc (length-placed r w (at + 1) bytes)
+
+pub addresses_of-placed : (r w : ℕ → Bool) (at : ℕ) (bytes : List ℕ) → addresses_of (placed r w at bytes) ≡ bytes
+addresses_of-placed r w at [] = refl
+addresses_of-placed r w at (a ∷ bytes) = ap (λ xs. a ∷ xs) (addresses_of-placed r w (at + 1) bytes)
+
+take-placed : (r w : ℕ → Bool) (n at : ℕ) (bytes : List ℕ) → take n (placed r w at bytes) ≡ placed r w at (take n bytes)
+take-placed r w zero at bytes = refl
+take-placed r w (suc n) at [] = refl
+take-placed r w (suc n) at (a ∷ bytes) = ap (λ xs. position a (r at) (w at) ∷ xs) (take-placed r w n (at + 1) bytes)
+
+drop-placed : (r w : ℕ → Bool) (n at : ℕ) (bytes : List ℕ) → drop n (placed r w at bytes) ≡ placed r w (at + n) (drop n bytes)
+drop-placed r w zero at bytes = let on : at ≡ at + zero = omega arith in ap (λ k. placed r w k bytes) on
+drop-placed r w (suc n) at [] = refl
+drop-placed r w (suc n) at (a ∷ bytes) =
+    let on : at + 1 + n ≡ at + suc n = omega arith in
+    drop-placed r w n (at + 1) bytes ∙ ap (λ k. placed r w k (drop n bytes)) on
+
+drop_from : (r w : ℕ → Bool) (n : ℕ) (bytes : List ℕ) → drop n (placed r w 0 bytes) ≡ placed r w n (drop n bytes)
+drop_from r w n bytes =
+    let on : 0 + n ≡ n = omega arith in drop-placed r w n 0 bytes ∙ ap (λ k. placed r w k (drop n bytes)) on
+
+pub stretch-placed : (r w : ℕ → Bool) (at n : ℕ) (bytes : List ℕ) →
+    stretch at n (placed r w 0 bytes) ≡ placed r w at (stretch at n bytes)
+stretch-placed r w at n bytes = ap (take n) (drop_from r w at bytes) ∙ take-placed r w n at (drop at bytes)
+
+-- sets that agree on the places
+abbrev Agree : (ℕ → Bool) → (ℕ → Bool) → ℕ → ℕ → Type 0
+Agree r s at n = (i : ℕ) → at ≤ i → i < at + n → r i ≡ s i
+
+same_places : (r w s v : ℕ → Bool) (at : ℕ) (bytes : List ℕ) → Agree r s at (length bytes) → Agree w v at (length bytes) →
+    placed r w at bytes ≡ placed s v at bytes
+same_places r w s v at [] p q = refl
+same_places r w s v at (a ∷ bytes) p q =
+    ap (λ b. position a b (w at) ∷ placed r w (at + 1) bytes) (p at (omega arith) (omega arith))
+    ∙ ap (λ b. position a (s at) b ∷ placed r w (at + 1) bytes) (q at (omega arith) (omega arith))
+    ∙ ap (λ xs. position a (s at) (v at) ∷ xs) (same_places r w s v (at + 1) bytes
+    (λ i from to. p i (omega arith) (omega arith)) (λ i from to. q i (omega arith) (omega arith)))
+
+-- a run of bytes at places that are alike
+pub alike_places : (r w : ℕ → Bool) (b c : Bool) (at s n : ℕ) →
+    ((i : ℕ) → at ≤ i → i < at + n → r i ≡ b) → ((i : ℕ) → at ≤ i → i < at + n → w i ≡ c) →
+    placed r w at (run_of s n) ≡ map (λ a. position a b c) (run_of s n)
+alike_places r w b c at s zero p q = refl
+alike_places r w b c at s (suc n) p q =
+    ap (λ x. position s x (w at) ∷ placed r w (at + 1) (run_of (s + 1) n)) (p at (omega arith) (omega arith))
+    ∙ ap (λ x. position s b x ∷ placed r w (at + 1) (run_of (s + 1) n)) (q at (omega arith) (omega arith))
+    ∙ ap (λ xs. position s b c ∷ xs) (alike_places r w b c (at + 1) (s + 1) n
+    (λ i from to. p i (omega arith) (omega arith)) (λ i from to. q i (omega arith) (omega arith)))
+
+-- the empty sets
+pub none_placed : (at : ℕ) (bytes : List ℕ) → placed (member []) (member []) at bytes ≡ unlent bytes
+none_placed at [] = refl
+none_placed at (a ∷ bytes) = ap (λ xs. position a false false ∷ xs) (none_placed (at + 1) bytes)
+
+-- positions as a call marks them
+abbrev read_after : ℕ → (ℕ → Bool) → ℕ → Bool
+read_after ops r n = not (postwrite ops) && (prewrite ops || r n)
+
+abbrev write_after : ℕ → (ℕ → Bool) → ℕ → Bool
+write_after ops w n = not (postread ops) && (preread ops || w n)
+
+map-marked : (ops : ℕ) (r w : ℕ → Bool) (at : ℕ) (bytes : List ℕ) →
+    map (marked ops) (placed r w at bytes) ≡ placed (read_after ops r) (write_after ops w) at bytes
+map-marked ops r w at [] = refl
+map-marked ops r w at (a ∷ bytes) =
+    ap (λ xs. position a (read_after ops r at) (write_after ops w at) ∷ xs) (map-marked ops r w (at + 1) bytes)
+
+inside : (s e a : ℕ) → s ≤ a → a + 1 ≤ e → in_run s e a ≡ true
+inside s e a p q = grind (arith, nat_tests)
+
+before : (s e a : ℕ) → a + 1 ≤ s → in_run s e a ≡ false
+before s e a p = grind (arith, nat_tests)
+
+behind : (s e a : ℕ) → e ≤ a → in_run s e a ≡ false
+behind s e a p = grind (arith, nat_tests)
+
+module _ (ops off len : ℕ) (r w s v : ℕ → Bool) (bytes : List ℕ)
+    (p : (n : ℕ) → s n ≡ (if in_run off (off + len) n then read_after ops r n else r n))
+    (q : (n : ℕ) → v n ≡ (if in_run off (off + len) n then write_after ops w n else w n)) where
+  chosen : (f g : ℕ → Bool) (n : ℕ) (b c : Bool) → b ≡ c → (if b then f n else g n) ≡ (if c then f n else g n)
+  chosen f g n b c e = ap (λ t. if t then f n else g n) e
+
+  front : take off (placed r w 0 bytes) ≡ take off (placed s v 0 bytes)
+  front =
+      let long = length-take off bytes in
+      take-placed r w off 0 bytes ∙ same_places r w s v 0 (take off bytes)
+      (λ i from to. sym (p i ∙ chosen (read_after ops r) r i _ false (before off (off + len) i (omega (arith, long)))))
+      (λ i from to. sym (q i ∙ chosen (write_after ops w) w i _ false (before off (off + len) i (omega (arith, long)))))
+      ∙ sym (take-placed s v off 0 bytes)
+
+  middle : map (marked ops) (stretch off len (placed r w 0 bytes)) ≡ stretch off len (placed s v 0 bytes)
+  middle =
+      let long = length-take len (drop off bytes) in
+      ap (map (marked ops)) (stretch-placed r w off len bytes) ∙ map-marked ops r w off (stretch off len bytes)
+      ∙ same_places (read_after ops r) (write_after ops w) s v off (stretch off len bytes)
+      (λ i from to. sym (p i ∙ chosen (read_after ops r) r i _ true (inside off (off + len) i from (omega (arith, long)))))
+      (λ i from to. sym (q i ∙ chosen (write_after ops w) w i _ true (inside off (off + len) i from (omega (arith, long)))))
+      ∙ sym (stretch-placed s v off len bytes)
+
+  back : drop (off + len) (placed r w 0 bytes) ≡ drop (off + len) (placed s v 0 bytes)
+  back =
+      drop_from r w (off + len) bytes ∙ same_places r w s v (off + len) (drop (off + len) bytes)
+      (λ i from to. sym (p i ∙ chosen (read_after ops r) r i _ false (behind off (off + len) i from)))
+      (λ i from to. sym (q i ∙ chosen (write_after ops w) w i _ false (behind off (off + len) i from)))
+      ∙ sym (drop_from s v (off + len) bytes)
+
+  pub marked_places : placed s v 0 bytes ≡ marked_range ops off len (placed r w 0 bytes)
+  marked_places =
+      sym (three_parts off len (placed s v 0 bytes))
+      ∙ ap (λ xs. xs ++ stretch off len (placed s v 0 bytes) ++ drop (off + len) (placed s v 0 bytes)) (sym front)
+      ∙ ap (λ xs. take off (placed r w 0 bytes) ++ xs ++ drop (off + len) (placed s v 0 bytes)) (sym middle)
+      ∙ ap (λ xs. take off (placed r w 0 bytes) ++ map (marked ops) (stretch off len (placed r w 0 bytes)) ++ xs) (sym back)
+
+-- numbers that rise to a bound are no more than it
+pub few_edges : (lo hi : ℕ) (es : List ℕ) → Rises lo hi es → lo + length es ≤ hi
+few_edges lo hi [] h = omega (arith, h)
+few_edges lo hi (e ∷ es) h = let rest : e + 1 + length es ≤ hi = few_edges (e + 1) hi es h.1 in omega (arith, rest, h.0)
+
+-- whether a byte stands twice in a row
+pub twice_by : (a : ℕ) (coherent : Bool) (r w : ℕ → Bool) (bytes : List ℕ) →
+    nat_lt 1 (stands a bytes) ≡ stands_twice a (record { coherent = coherent; positions = placed r w 0 bytes })
+twice_by a coherent r w bytes =
+    ap (λ xs. nat_lt 1 (stands a xs)) (sym (addresses_of-placed r w 0 bytes))
+    ∙ ap (nat_lt 1) (places_of a (placed r w 0 bytes))
+
+-- the byte of a stretch's first place
+first_byte : (xs : List ℕ) (at n pa : ℕ) → 0 < n → take n (drop at xs) ≡ run_of pa n → pa ≡ slice_index xs at
+first_byte xs at zero pa some e = absurd (omega arith)
+first_byte [] zero (suc n) pa some e = absurd (cc)
+first_byte [] (suc at) (suc n) pa some e = absurd (cc)
+first_byte (x ∷ xs) zero (suc n) pa some e = ap (λ l. slice_index l 0) (sym e)
+first_byte (x ∷ xs) (suc at) (suc n) pa some e = first_byte xs at (suc n) pa some e
+
+pub byte_of : (r w : ℕ → Bool) (bytes : List ℕ) (at n pa : ℕ) → 0 < n → stretch at n bytes ≡ run_of pa n →
+    pa ≡ slice_index (addresses_of (placed r w 0 bytes)) at
+byte_of r w bytes at n pa some e =
+    first_byte bytes at n pa some e ∙ ap (λ xs. slice_index xs at) (sym (addresses_of-placed r w 0 bytes))
+
+-- a row over bytes that lends nothing
+pub new_row : (coherent : Bool) (r w bytes buffer : List ℕ) → r ≡ [] → w ≡ [] → buffer ≡ bytes →
+    ◌≡◌ {A = Loan} (record { coherent = coherent; positions = placed (member r) (member w) 0 buffer })
+    (new_loan coherent bytes)
+new_row coherent r w bytes buffer e f g =
+    rw (e, f, g) (ap (λ ps. record { coherent = coherent; positions = ps }) (none_placed 0 bytes))
+
+-- the positions from one on, of which those of a run of bytes are lent alike
+pub piece_ahead : (r w : ℕ → Bool) (bytes : List ℕ) (at end n len pa : ℕ) (b c : Bool) → n ≤ len → at + n ≤ end →
+    stretch at len bytes ≡ run_of pa len → ((i : ℕ) → at ≤ i → i < at + n → r i ≡ b) →
+    ((i : ℕ) → at ≤ i → i < at + n → w i ≡ c) →
+    stretch at (end - at) (placed r w 0 bytes)
+    ≡ alike (position pa b c) n ++ stretch (at + n) (end - (at + n)) (placed r w 0 bytes)
+piece_ahead r w bytes at end n len pa b c short within run p q =
+    two_parts at n end (placed r w 0 bytes) within
+    ∙ ap (λ xs. xs ++ stretch (at + n) (end - (at + n)) (placed r w 0 bytes))
+    (stretch-placed r w at n bytes
+    ∙ ap (placed r w at) (sym (take-take n len (drop at bytes) short) ∙ ap (take n) run ∙ take_run pa len n short)
+    ∙ alike_places r w b c at pa n p q)

@@ -1,0 +1,217 @@
+//! The bytes of a map's buffer.
+
+ghost use Rattle.std.specs.Prelude.{◌≡◌, ℕ, ◌+◌, ◌≤◌, ◌<◌, ◌^◌, ◌++◌, length, IfOk, OnOk, true, false};
+ghost use Rattle.std.specs.List.{All};
+ghost use Rattle.busdma_base.specs.Machine.Wire.{stretch};
+ghost use Rattle.busdma_base.specs.Runs.{run_of, addresses, byte_count};
+ghost use Rattle.loan_table.specs.Ends.{Ends};
+ghost use Rattle.loan_table.specs.Rows.{stands, starts_from, CountsPlaces};
+ghost use Rattle.run_set.specs.Counts.{changed, count};
+ghost use Rattle.run_set.specs.Edges.{in_run};
+
+use busdma_base::{Extent, Pa};
+use run_set::RunCounts;
+use run_set::numbers::count_at;
+use std::alloc::{AllocError, Global};
+use std::marker::Model;
+
+/// The bytes of a buffer, in order, and at how many of its positions each stands. Bytes that follow
+/// one another are one stretch.
+#[derive(Drop)]
+pub struct Buffer {
+    stretches: Vec<Extent>,
+    starts: Vec<u64>,
+    len: u64,
+    places: RunCounts,
+}
+
+impl Model for Buffer {
+    ghost use Rattle.std.specs.Prelude.{List, ℕ};
+    ghost use Rattle.std.specs.Coded.{coded_list, coded_ℕ};
+    ghost use Rattle.busdma_base.specs.Runs.{addresses};
+    ghost use Rattle.loan_table.specs.Rows.{IsBuffer};
+
+    ghost Value = { List ℕ };
+
+    ghost coded = { coded_list coded_ℕ };
+
+    ghost view = { λ b. addresses b.stretches.items };
+
+    ghost invariant = { λ b. IsBuffer b.stretches.items b.starts.items b.len b.places };
+}
+
+impl Buffer {
+    /// The bytes of extents, in order.
+    pub fn over(alloc: Global, extents: &[Extent]) -> Result<Self, AllocError>
+        requires ends { All Ends extents.now }
+        requires total { byte_count extents.now < 2 ^ 64 }
+        ensures { IfOk result (λ buffer. buffer ≡ addresses extents.now) }
+    {
+        let stretches = stretches_of(alloc, extents)?;
+        let starts = starts_of(alloc, &stretches)?;
+        let places = places_over(alloc, extents)?;
+        let len = len_of(extents);
+        Ok(Buffer {
+            stretches,
+            starts,
+            len,
+            places,
+        })
+    }
+
+    /// The number of positions.
+    pub fn len(&self) -> u64
+        ensures { result ≡ length self.now }
+    {
+        self.len
+    }
+
+    /// Bytes that follow one another: those from a position on, as many as there are before `end`.
+    pub fn stretch(&self, at: u64, end: u64) -> Extent
+        requires some { at < end }
+        requires range { end ≤ length self.now }
+        ensures some { 0 < result.len }
+        ensures within { at + result.len ≤ end }
+        ensures fits { result.pa.0 + result.len < 2 ^ 64 }
+        ensures bytes { stretch at result.len self.now ≡ run_of result.pa.0 result.len }
+    {
+        stretch_at(&self.stretches, &self.starts, at, end)
+    }
+
+    /// At how many positions a byte stands.
+    pub fn places(&self, pa: u64) -> u64
+        ensures { result ≡ stands pa self.now }
+    {
+        self.places.count(pa)
+    }
+
+    /// The byte up to which all bytes from `start` on stand at as many positions as it does; `end`
+    /// where none comes before it.
+    pub fn turn(&self, start: u64, end: u64) -> u64
+        requires { start < end }
+        ensures from { start < result }
+        ensures to { result ≤ end }
+        ensures same { (a : ℕ) → start ≤ a → a < result → stands a self.now ≡ stands start self.now }
+    {
+        self.places.turn(start, end)
+    }
+}
+
+/// The bytes from a position on, up to `end` or to the end of their stretch.
+fn stretch_at(stretches: &[Extent], starts: &[u64], at: u64, end: u64) -> Extent
+    requires ends { All Ends stretches.now }
+    requires starts { starts.now ≡ starts_from 0 stretches.now }
+    requires some { at < end }
+    requires range { end ≤ byte_count stretches.now }
+    ensures some { 0 < result.len }
+    ensures within { at + result.len ≤ end }
+    ensures fits { result.pa.0 + result.len < 2 ^ 64 }
+    ensures bytes { stretch at result.len (addresses stretches.now) ≡ run_of result.pa.0 result.len }
+{
+    let last = count_at(starts, at) - 1;
+    part_of(&stretches[last], at - starts[last], end - at)
+}
+
+/// At most so many bytes of a stretch, without the first of them.
+fn part_of(run: &Extent, skipped: u64, most: u64) -> Extent
+    requires ends { Ends run.now }
+    requires skipped { skipped < run.now.len }
+    requires some { 0 < most }
+    ensures some { 0 < result.len }
+    ensures most { result.len ≤ most }
+    ensures pa { result.pa.0 ≡ run.now.pa.0 + skipped }
+    ensures within { skipped + result.len ≤ run.now.len }
+    ensures fits { result.pa.0 + result.len < 2 ^ 64 }
+{
+    let left = run.len - skipped;
+    Extent {
+        pa: Pa(run.pa.0 + skipped),
+        len: left.min(most),
+    }
+}
+
+/// How many bytes extents have.
+fn len_of(extents: &[Extent]) -> u64
+    requires { byte_count extents.now < 2 ^ 64 }
+    ensures { result ≡ byte_count extents.now }
+{
+    let mut len = 0;
+    for extent in extents {
+        len += extent.len;
+    }
+    len
+}
+
+/// Extents as stretches: where the bytes of one follow those of the one before it, they are one.
+fn stretches_of(alloc: Global, extents: &[Extent]) -> Result<Vec<Extent>, AllocError>
+    requires { All Ends extents.now }
+    ensures bytes { IfOk result (λ stretches. addresses stretches.items ≡ addresses extents.now) }
+    ensures ends { IfOk result (λ stretches. All Ends stretches.items) }
+{
+    let mut stretches = Vec::new(alloc);
+    let Some((first, rest)) = extents.split_first() else {
+        return Ok(stretches);
+    };
+    let mut run = *first;
+    for extent in rest {
+        if !join(&mut run, extent) {
+            stretches.push(run)?;
+            run = *extent;
+        }
+    }
+    stretches.push(run)?;
+    Ok(stretches)
+}
+
+/// Adds the bytes of an extent to a run that ends right before them. Whether it could is told.
+fn join(run: &mut Extent, next: &Extent) -> bool
+    requires run { Ends run.old }
+    requires next { Ends next.now }
+    ensures ends { Ends run.new }
+    ensures joined { result ≡ true → run_of run.new.pa.0 run.new.len
+        ≡ run_of run.old.pa.0 run.old.len ++ run_of next.now.pa.0 next.now.len }
+    ensures apart { result ≡ false → run.new ≡ run.old }
+{
+    if run.len == 0 || next.len == 0 || next.pa.0 != run.pa.0 + run.len {
+        return false;
+    }
+    run.len += next.len;
+    true
+}
+
+/// At which positions stretches begin.
+fn starts_of(alloc: Global, stretches: &[Extent]) -> Result<Vec<u64>, AllocError>
+    requires { byte_count stretches.now < 2 ^ 64 }
+    ensures { IfOk result (λ starts. starts.items ≡ starts_from 0 stretches.now) }
+{
+    let mut starts = Vec::new(alloc);
+    let mut before = 0;
+    for run in stretches {
+        starts.push(before)?;
+        before += run.len;
+    }
+    Ok(starts)
+}
+
+/// At how many positions of a buffer each byte stands.
+fn places_over(alloc: Global, extents: &[Extent]) -> Result<RunCounts, AllocError>
+    requires { All Ends extents.now }
+    ensures { IfOk result (λ places. CountsPlaces places (addresses extents.now)) }
+{
+    let mut places = RunCounts::new(alloc);
+    for extent in extents {
+        count_run(&mut places, extent)?;
+    }
+    Ok(places)
+}
+
+/// Counts each byte of a run once more.
+fn count_run(places: &mut RunCounts, run: &Extent) -> Result<(), AllocError>
+    requires { Ends run.now }
+    ensures { OnOk result ((a : ℕ) → count places.new a
+        ≡ changed true (in_run run.now.pa.0 (run.now.pa.0 + run.now.len) a) (count places.old a)) }
+{
+    places.reserve(1)?;
+    places.change(run.pa.0, run.pa.0 + run.len, true);
+    Ok(())
+}

@@ -1,0 +1,80 @@
+//! Bytes that become Unknown.
+
+ghost use Rattle.std.specs.Prelude.{◌≡◌, ◌+◌, ◌≤◌, ◌<◌, ◌^◌, length, false};
+ghost use Rattle.std.specs.List.{filter};
+ghost use Rattle.busdma_base.specs.Machine.Wire.{stretch};
+ghost use Rattle.busdma_base.specs.Runs.{run_of};
+ghost use Rattle.loan_table.specs.Kinds.{losing_test};
+ghost use Rattle.loan_table.specs.Lending.{loses};
+ghost use Rattle.loan_table.specs.Loans.{addresses_of};
+ghost use Rattle.loan_table.specs.Rows.{alike};
+ghost use Rattle.loan_table.specs.Table.{AreIn, set_all};
+
+use crate::marks::ByteMarks;
+use crate::piece::Piece;
+use crate::position::Position;
+use crate::row::LoanRow;
+use bitflags::Flags;
+use dma_tag::SyncOps;
+
+/// What makes bytes Unknown: a call on them, or that their map is forgotten.
+#[derive(Clone, Copy)]
+pub enum Losing {
+    Call(SyncOps),
+    Forgetting,
+}
+
+impl Losing {
+    /// Whether the byte of a position becomes Unknown.
+    fn takes(self, position: &Position) -> bool
+        ensures { result ≡ losing_test self position.now }
+    {
+        match self {
+            Losing::Call(ops) => loses(position, ops),
+            Losing::Forgetting => position.to_write,
+        }
+    }
+}
+
+/// Whether the byte of a position becomes Unknown by a call.
+fn loses(position: &Position, ops: SyncOps) -> bool
+    ensures { result ≡ loses ops.0 position.now }
+{
+    ops.contains(SyncOps::PREREAD)
+        && !position.to_write
+        && !(ops.contains(SyncOps::PREWRITE) || position.to_read)
+}
+
+/// Makes Unknown those bytes of a range that are lost.
+pub fn lose(bytes: &mut ByteMarks, row: &LoanRow, off: u64, len: u64, losing: Losing)
+    requires range { off + len ≤ length row.now.positions }
+    requires there { AreIn bytes.old.bytes (addresses_of (stretch off len row.now.positions)) }
+    requires room { len + len ≤ bytes.old.room }
+    ensures bytes { let lost = filter (losing_test losing) (stretch off len row.now.positions) in
+        bytes.new.bytes ≡ set_all bytes.old.bytes (addresses_of lost) false }
+    ensures room { bytes.old.room ≤ bytes.new.room + (len + len) }
+    ensures there_room { bytes.new.there_room ≡ bytes.old.there_room }
+{
+    let end = row.end_of(off, len);
+    let mut at = off;
+    while at < end {
+        let piece = row.piece(at, end);
+        lose_piece(bytes, &piece, losing);
+        at += piece.len;
+    }
+}
+
+/// Makes Unknown the bytes of a piece, where they are lost.
+fn lose_piece(bytes: &mut ByteMarks, piece: &Piece, losing: Losing)
+    requires there { AreIn bytes.old.bytes (run_of piece.now.first.pa piece.now.len) }
+    requires fits { piece.now.first.pa + piece.now.len < 2 ^ 64 }
+    requires room { 2 ≤ bytes.old.room }
+    ensures bytes { let lost = filter (losing_test losing) (alike piece.now.first piece.now.len) in
+        bytes.new.bytes ≡ set_all bytes.old.bytes (addresses_of lost) false }
+    ensures room { bytes.old.room ≤ bytes.new.room + 2 }
+    ensures there_room { bytes.new.there_room ≡ bytes.old.there_room }
+{
+    if losing.takes(&piece.first) {
+        bytes.set_run(piece.first.pa, piece.len, false);
+    }
+}

@@ -1,0 +1,11 @@
+//! A piece of a map's buffer.
+
+use crate::position::Position;
+
+/// Positions that follow one another, of bytes that follow one another, all lent alike: the first of
+/// them, and how many they are.
+#[derive(Clone, Copy)]
+pub struct Piece {
+    pub first: Position,
+    pub len: u64,
+}
