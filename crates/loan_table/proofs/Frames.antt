@@ -49,10 +49,12 @@ more_behind before a (suc (suc n)) rest some =
     omega (arith, later, same)
 
 -- the first byte begins an extent
-pub count_from : (a n : ℕ) (rest : List ℕ) → 0 < n → more_extents a (run_of a n ++ rest) ≡ extent_count (run_of a n ++ rest)
+pub count_from : (a n : ℕ) (rest : List ℕ) → 0 < n →
+    more_extents a (run_of a n ++ rest) ≡ extent_count (run_of a n ++ rest)
 count_from a zero rest some = absurd (omega arith)
 count_from a (suc n) rest some =
-    ap (λ b. cond b 0 1 + more_extents a (run_of (a + 1) n ++ rest)) (let e : is_next a a ≡ false = grind (arith, nat_tests) in e)
+    ap (λ b. cond b 0 1 + more_extents a (run_of (a + 1) n ++ rest))
+    (let e : is_next a a ≡ false = grind (arith, nat_tests) in e)
 
 -- a run of one frame, first or behind other bytes
 module _ (a n : ℕ) (rest : List ℕ) (some : 0 < n) (one : a % 4096 + n ≤ 4096) where

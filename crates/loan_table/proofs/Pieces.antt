@@ -1,7 +1,9 @@
 -- Pieces of a list of positions.
 use Rattle.std.proofs.Common.{◌≡◌, ℕ, zero, suc, ◌+◌, ◌-◌, ◌<◌, ◌≤◌, ◌&&◌, ◌==◌, Bool, true, false, cond, length}
-use Rattle.std.proofs.Common.{List, [], ◌∷◌, ◌++◌, map, take, drop, get_or, Option, Some, None, refl, sym, ap, ◌∙◌, subst, arith}
-use Rattle.std.proofs.lemmas.List.{drop-drop, take-take, take_all, take-append-le, length-map, map-append, get_or-drop, get_or-take}
+use Rattle.std.proofs.Common.{List, [], ◌∷◌, ◌++◌, map, take, drop, get_or, Option, Some, None, refl}
+use Rattle.std.proofs.Common.{sym, ap, ◌∙◌, subst, arith}
+use Rattle.std.proofs.lemmas.List.{drop-drop, take-take, take_all, take-append-le, length-map, map-append}
+use Rattle.std.proofs.lemmas.List.{get_or-drop, get_or-take}
 use Rattle.std.proofs.lemmas.List.{get_or_append_left}
 use Rattle.std.specs.List.{All, filter, count_by}
 use Rattle.std.proofs.lemmas.List.Sums.{sum_by-cons}
@@ -148,7 +150,8 @@ both false false = refl
 pub places-alike : (way : Position → Bool) (p : Position) (n a : ℕ) → ((x : ℕ) → way (lent_as p x) ≡ way p) →
     places way a (alike p n) ≡ places_in p.pa n (way p) a
 places-alike way p n a same =
-    each (run_of p.pa n) ∙ ap (λ k. cond (way p) k 0) (places-run a p.pa n) ∙ sym (both (in_run p.pa (p.pa + n) a) (way p))
+    each (run_of p.pa n) ∙ ap (λ k. cond (way p) k 0) (places-run a p.pa n)
+    ∙ sym (both (in_run p.pa (p.pa + n) a) (way p))
   where
     more : (w : Bool) (k m : ℕ) → ◌≡◌ {A = ℕ} (cond w k 0 + cond w m 0) (cond w (k + m) 0)
     more true k m = refl
@@ -181,7 +184,8 @@ none_refused f g at s (suc m) ys h =
     ∙ none_refused f g (at + 1) (s + 1) m ys (λ a p q. h a (omega arith) (omega arith))
     ∙ ap (λ k. judged f k ys) on
 
-pub first_refused : {X : Type 0} (f : X → Option ReportName) (g : ℕ → X) (at s n : ℕ) (ys : List X) (name : ReportName) →
+pub first_refused : {X : Type 0} (f : X → Option ReportName) (g : ℕ → X) (at s n : ℕ) (ys : List X)
+    (name : ReportName) →
     0 < n → f (g s) ≡ Some name → judged f at (map g (run_of s n) ++ ys) ≡ Refused (record { name = name; at = at })
 first_refused f g at s zero ys name some h = absurd (omega arith)
 first_refused f g at s (suc n) ys name some h =
@@ -220,7 +224,8 @@ module _ (m new w : FinMap nat_cmp Bool) (v : Bool) (all front back : List ℕ) 
   marked_front is h = ap (λ x. set_all x back v) is ∙ sym (set_all-append m front back v)
       ∙ sym (ap (λ xs. set_all m xs v) e) ∙ h
 
-pub there_front : (m : FinMap nat_cmp Bool) (all front back : List ℕ) → all ≡ front ++ back → AreIn m all → AreIn m front
+pub there_front : (m : FinMap nat_cmp Bool) (all front back : List ℕ) → all ≡ front ++ back → AreIn m all →
+    AreIn m front
 there_front m all front back e h = (AreIn-append m front back (subst (AreIn m) e h)).0
 
 pub there_back : (m : FinMap nat_cmp Bool) (all front back : List ℕ) → all ≡ front ++ back → AreIn m all → AreIn m back

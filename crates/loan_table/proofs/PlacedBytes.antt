@@ -1,6 +1,7 @@
 -- The positions of bytes, by the sets of places at which they are lent.
 use Rattle.std.proofs.Common.{◌≡◌, ℕ, zero, suc, ◌+◌, ◌-◌, ◌<◌, ◌≤◌, ◌&&◌, ◌||◌, not, Bool, true, false, if◌then◌else◌}
-use Rattle.std.proofs.Common.{List, [], ◌∷◌, ◌++◌, map, take, drop, length, slice_index, nat_lt, refl, sym, ap, ◌∙◌, arith}
+use Rattle.std.proofs.Common.{List, [], ◌∷◌, ◌++◌, map, take, drop, length, slice_index, nat_lt, refl}
+use Rattle.std.proofs.Common.{sym, ap, ◌∙◌, arith}
 use Rattle.std.proofs.lemmas.Bool.Decides.{nat_tests}
 use Rattle.std.proofs.lemmas.List.{length-take, take-take}
 use Rattle.busdma_base.specs.Machine.Wire.{stretch}
@@ -32,7 +33,8 @@ take-placed r w zero at bytes = refl
 take-placed r w (suc n) at [] = refl
 take-placed r w (suc n) at (a ∷ bytes) = ap (λ xs. position a (r at) (w at) ∷ xs) (take-placed r w n (at + 1) bytes)
 
-drop-placed : (r w : ℕ → Bool) (n at : ℕ) (bytes : List ℕ) → drop n (placed r w at bytes) ≡ placed r w (at + n) (drop n bytes)
+drop-placed : (r w : ℕ → Bool) (n at : ℕ) (bytes : List ℕ) →
+    drop n (placed r w at bytes) ≡ placed r w (at + n) (drop n bytes)
 drop-placed r w zero at bytes = let on : at ≡ at + zero = omega arith in ap (λ k. placed r w k bytes) on
 drop-placed r w (suc n) at [] = refl
 drop-placed r w (suc n) at (a ∷ bytes) =
@@ -51,7 +53,8 @@ stretch-placed r w at n bytes = ap (take n) (drop_from r w at bytes) ∙ take-pl
 abbrev Agree : (ℕ → Bool) → (ℕ → Bool) → ℕ → ℕ → Type 0
 Agree r s at n = (i : ℕ) → at ≤ i → i < at + n → r i ≡ s i
 
-same_places : (r w s v : ℕ → Bool) (at : ℕ) (bytes : List ℕ) → Agree r s at (length bytes) → Agree w v at (length bytes) →
+same_places : (r w s v : ℕ → Bool) (at : ℕ) (bytes : List ℕ) → Agree r s at (length bytes) →
+    Agree w v at (length bytes) →
     placed r w at bytes ≡ placed s v at bytes
 same_places r w s v at [] p q = refl
 same_places r w s v at (a ∷ bytes) p q =
@@ -117,8 +120,10 @@ module _ (ops off len : ℕ) (r w s v : ℕ → Bool) (bytes : List ℕ)
       let long = length-take len (drop off bytes) in
       ap (map (marked ops)) (stretch-placed r w off len bytes) ∙ map-marked ops r w off (stretch off len bytes)
       ∙ same_places (read_after ops r) (write_after ops w) s v off (stretch off len bytes)
-      (λ i from to. sym (p i ∙ chosen (read_after ops r) r i _ true (inside off (off + len) i from (omega (arith, long)))))
-      (λ i from to. sym (q i ∙ chosen (write_after ops w) w i _ true (inside off (off + len) i from (omega (arith, long)))))
+      (λ i from to. sym (p i
+      ∙ chosen (read_after ops r) r i _ true (inside off (off + len) i from (omega (arith, long)))))
+      (λ i from to. sym (q i
+      ∙ chosen (write_after ops w) w i _ true (inside off (off + len) i from (omega (arith, long)))))
       ∙ sym (stretch-placed s v off len bytes)
 
   back : drop (off + len) (placed r w 0 bytes) ≡ drop (off + len) (placed s v 0 bytes)
@@ -133,7 +138,8 @@ module _ (ops off len : ℕ) (r w s v : ℕ → Bool) (bytes : List ℕ)
       sym (three_parts off len (placed s v 0 bytes))
       ∙ ap (λ xs. xs ++ stretch off len (placed s v 0 bytes) ++ drop (off + len) (placed s v 0 bytes)) (sym front)
       ∙ ap (λ xs. take off (placed r w 0 bytes) ++ xs ++ drop (off + len) (placed s v 0 bytes)) (sym middle)
-      ∙ ap (λ xs. take off (placed r w 0 bytes) ++ map (marked ops) (stretch off len (placed r w 0 bytes)) ++ xs) (sym back)
+      ∙ ap (λ xs. take off (placed r w 0 bytes) ++ map (marked ops) (stretch off len (placed r w 0 bytes)) ++ xs)
+      (sym back)
 
 -- numbers that rise to a bound are no more than it
 pub few_edges : (lo hi : ℕ) (es : List ℕ) → Rises lo hi es → lo + length es ≤ hi

@@ -1,5 +1,6 @@
 -- Positions of a piece that meet the same.
-use Rattle.std.proofs.Common.{◌≡◌, ℕ, ◌+◌, ◌-◌, ◌<◌, ◌≤◌, ◌||◌, Bool, true, false, cond, if◌then◌else◌, nat_lt, None, Some, Option}
+use Rattle.std.proofs.Common.{◌≡◌, ℕ, ◌+◌, ◌-◌, ◌<◌, ◌≤◌, ◌||◌, Bool, true, false, cond, if◌then◌else◌, nat_lt, None}
+use Rattle.std.proofs.Common.{Some, Option}
 use Rattle.std.proofs.Common.{◌++◌, refl, sym, ap, ◌∙◌, arith}
 use Rattle.std.proofs.lemmas.Bool.Decides.{nat_tests}
 use Rattle.std.proofs.lemmas.List.{map-id}
@@ -79,7 +80,8 @@ module _ (counts : LentCounts) (loan : Loan) (lender : Lender) (of : IsOf counts
       rw (write, any, stands) refl
 
 -- what the device meets at two bytes that are Known alike
-pub same_for_device : (access : Access) (known : ℕ → Bool) (coherent : Bool) (p : Position) (a b : ℕ) → known a ≡ known b →
+pub same_for_device : (access : Access) (known : ℕ → Bool) (coherent : Bool) (p : Position) (a b : ℕ) →
+    known a ≡ known b →
     dev_refusal access known coherent (lent_as p a) ≡ dev_refusal access known coherent (lent_as p b)
 same_for_device Read known coherent p a b e =
     ap (λ k. if coherent || p.to_read then if k then None else Some StaleByte
@@ -107,7 +109,8 @@ same_for_driver counts loans counted access known a b e same = by access
         rw any refl
 
 -- the bytes of a run up to one: none of them is refused
-pub run_passed : (f : ℕ → Option ReportName) (at pa t end : ℕ) → pa ≤ t → t ≤ end → ((a : ℕ) → pa ≤ a → a < t → f a ≡ None) →
+pub run_passed : (f : ℕ → Option ReportName) (at pa t end : ℕ) → pa ≤ t → t ≤ end →
+    ((a : ℕ) → pa ≤ a → a < t → f a ≡ None) →
     judged f at (run_of pa (end - pa)) ≡ judged f (at + (t - pa)) (run_of t (end - t))
 run_passed f at pa t end from to h =
     let m : ℕ = t - pa in

@@ -1,8 +1,10 @@
 -- Stretches of bytes that follow one another.
-use Rattle.std.proofs.Common.{◌≡◌, ℕ, zero, suc, ◌+◌, ◌-◌, ◌<◌, ◌≤◌, ◌^◌, length, List, [], ◌∷◌, ◌++◌, take, drop, get_or, Bool, true, false, ltb}
+use Rattle.std.proofs.Common.{◌≡◌, ℕ, zero, suc, ◌+◌, ◌-◌, ◌<◌, ◌≤◌, ◌^◌, length, List, [], ◌∷◌, ◌++◌}
+use Rattle.std.proofs.Common.{take, drop, get_or, Bool, true, false, ltb}
 use Rattle.std.proofs.Common.{refl, sym, ap, ◌∙◌, arith}
 use Rattle.std.specs.List.{All}
-use Rattle.std.proofs.lemmas.List.{append_assoc, at_drop_more, take_all, drop-drop, drop-append-le, take-append-le, length-drop}
+use Rattle.std.proofs.lemmas.List.{append_assoc, at_drop_more, take_all, drop-drop, drop-append-le}
+use Rattle.std.proofs.lemmas.List.{take-append-le, length-drop}
 use Rattle.busdma_base.specs.declared.machine.address.Extent.{Extent}
 use Rattle.busdma_base.specs.Runs.{addresses, byte_count, run_of}
 use Rattle.busdma_base.specs.Machine.Wire.{stretch}
@@ -69,7 +71,8 @@ module _ (es : List Extent) (run e : Extent) (ahead tail all : List ℕ) (first 
       ∙ append_assoc (addresses es) (run_of run.pa.0 run.len) (run_of e.pa.0 e.len ++ tail)
       ∙ ap (λ xs. addresses es ++ (run_of run.pa.0 run.len ++ xs)) (sym first) ∙ h
 
-  pub stretch_joins : (longer : Extent) → run_of longer.pa.0 longer.len ≡ run_of run.pa.0 run.len ++ run_of e.pa.0 e.len →
+  pub stretch_joins : (longer : Extent) →
+      run_of longer.pa.0 longer.len ≡ run_of run.pa.0 run.len ++ run_of e.pa.0 e.len →
       addresses es ++ (run_of longer.pa.0 longer.len ++ tail) ≡ all
   stretch_joins longer joined =
       ap (λ xs. addresses es ++ (xs ++ tail)) joined
@@ -83,7 +86,8 @@ as_many stretches extents same =
     sym (length-addresses stretches) ∙ ap length same ∙ length-addresses extents
 
 pub stretches_kept : (stretches extents : List Extent) (starts : List ℕ) (len : ℕ) (places : Counts) →
-    All Ends stretches → starts ≡ starts_from 0 stretches → addresses stretches ≡ addresses extents → len ≡ byte_count extents → byte_count extents < 2 ^ 64 →
+    All Ends stretches → starts ≡ starts_from 0 stretches → addresses stretches ≡ addresses extents →
+    len ≡ byte_count extents → byte_count extents < 2 ^ 64 →
     CountsPlaces places (addresses extents) → IsBuffer stretches starts len places
 stretches_kept stretches extents starts len places ends begun same long small counted =
     let many = as_many stretches extents same in
@@ -124,7 +128,8 @@ bytes_behind (e ∷ es) (suc k) =
     ∙ ap (drop (byte_count (take k es))) (behind_run e.pa.0 e.len (addresses es)) ∙ bytes_behind es k
 
 -- a loop that adds starts, at one stretch
-pub start_added : (old new all : List ℕ) (before : ℕ) (ahead rest : List Extent) (e : Extent) → new ≡ old ++ before ∷ [] →
+pub start_added : (old new all : List ℕ) (before : ℕ) (ahead rest : List Extent) (e : Extent) →
+    new ≡ old ++ before ∷ [] →
     ahead ≡ e ∷ rest → old ++ starts_from before ahead ≡ all → new ++ starts_from (before + e.len) rest ≡ all
 start_added old new all before ahead rest e pushed first h =
     ap (λ xs. xs ++ starts_from (before + e.len) rest) pushed

@@ -12,7 +12,9 @@ loop-at-init c =
     let refusal = dev_refusal c.args.access (is_marked c.args.bytes.now.bytes) c.args.row.now.coherent in
     let start : c.args.off - c.args.off ≡ 0 = omega arith in
     record {
-      judged_so_far = ap (λ k. judged refusal k (stretch c.args.off (c.end_of-end.result - c.args.off) c.args.row.now.positions)) start ∙ ap (judged refusal 0)
+      judged_so_far = ap (λ k. judged refusal k
+          (stretch c.args.off (c.end_of-end.result - c.args.off) c.args.row.now.positions)) start
+          ∙ ap (judged refusal 0)
           (whole c.args.off c.args.len c.end_of-end.result c.args.row.now.positions c.end_of-end.ensures);
       from = omega arith;
       to = omega arith;

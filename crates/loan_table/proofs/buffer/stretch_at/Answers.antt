@@ -1,7 +1,8 @@
 use Rattle.std.proofs.Common.{◌≡◌, ◌+◌, ◌-◌, get_or, ap, ◌∙◌, arith}
 use Rattle.busdma_base.specs.Runs.{run_of}
 use Rattle.loan_table.proofs.Addresses.{no_extent}
-use Rattle.loan_table.proofs.Stretches.{found_before, found_bytes, found_index, found_within, length-starts, some_found, starts_climb}
+use Rattle.loan_table.proofs.Stretches.{found_before, found_bytes, found_index, found_within, length-starts}
+use Rattle.loan_table.proofs.Stretches.{some_found, starts_climb}
 use Rattle.loan_table.proofs.buffer.stretch_at.Goals as goal
 
 pub count_at-last-requires : goal.count_at-last-requires

@@ -37,7 +37,8 @@ loop-extent-preserved c =
           let pushed : w.push.new.self.items ≡ t.stretches.items ++ t.run ∷ [] =
           w.in_ok-push.ensures.items ∙ ap (λ r. t.stretches.items ++ r ∷ []) same in
           record {
-            bytes = rw (w.stretches-is, w.run-is) (stretch_begins t.stretches.items t.run e _ _ _ first t.invariant.bytes
+            bytes = rw (w.stretches-is, w.run-is)
+                (stretch_begins t.stretches.items t.run e _ _ _ first t.invariant.bytes
                 _ pushed);
             ends = rw w.stretches-is (subst (All Ends) (sym pushed) (All-append Ends t.stretches.items (t.run ∷ [])
                 t.invariant.ends (All-cons Ends t.run [] t.invariant.here (All-nil Ends))));

@@ -6,7 +6,8 @@ use Rattle.loan_table.specs.Loans.{addresses_of}
 use Rattle.loan_table.specs.Rows.{alike}
 use Rattle.loan_table.specs.Table.{set_all}
 use Rattle.loan_table.proofs.Addresses.{AreIn-set_all}
-use Rattle.loan_table.proofs.Pieces.{addresses_ahead, filter_ahead, marked_front, nothing, there_back, there_front, whole}
+use Rattle.loan_table.proofs.Pieces.{addresses_ahead, filter_ahead, marked_front, nothing, there_back, there_front}
+use Rattle.loan_table.proofs.Pieces.{whole}
 use Rattle.loan_table.proofs.losing.lose.Goals as goal
 
 pub loop-at-init : goal.loop-at-init
@@ -14,7 +15,8 @@ loop-at-init c =
     let ps = c.args.row.now.positions in
     let all = whole c.args.off c.args.len c.end_of-end.result ps c.end_of-end.ensures in
     record {
-      marked = ap (λ xs. set_all c.args.bytes.now.bytes (addresses_of (filter (losing_test c.args.losing) xs)) false) all;
+      marked =
+          ap (λ xs. set_all c.args.bytes.now.bytes (addresses_of (filter (losing_test c.args.losing) xs)) false) all;
       there = rw all c.requires.there;
       in_room = omega arith;
       same_room = refl;

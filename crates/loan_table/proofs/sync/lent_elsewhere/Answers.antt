@@ -12,7 +12,8 @@ returns-then-count-eq0 c lender of =
     let a = c.args.position.pa in
     let none : lent_places way a lender.loans ≡ 0 = omega (arith, c.count-count.ensures, of.0 c.args.way a) in
     sym (elsewhere_counted way a lender.loans lender.map
-    ∙ le-ltb (places way a (loan_of lender.loans lender.map).positions) (lent_places way a lender.loans) (omega (arith, none)))
+    ∙ le-ltb (places way a (loan_of lender.loans lender.map).positions) (lent_places way a lender.loans)
+    (omega (arith, none)))
 
 pub returns : goal.returns
 returns c lender of =

@@ -14,6 +14,7 @@ pub returns-clause-is : goal.returns-clause-is
 returns-clause-is c =
     rw (← c.self.view_is) (piece_ahead (member c.self.inside.to_read.edges) (member c.self.inside.to_write.edges)
     c.self.inside.buffer c.args.at c.args.end (c.turn-turn-2.result - c.args.at) c.stretch-run.result.len
-    c.stretch-run.result.pa.0 c.contains.result c.contains-2.result (omega arith) (omega arith) c.stretch-run.ensures.bytes
+    c.stretch-run.result.pa.0 c.contains.result c.contains-2.result (omega arith) (omega arith)
+    c.stretch-run.ensures.bytes
     (λ i from to. c.turn-turn.ensures.same i from (omega arith) ∙ sym c.contains.ensures)
     (λ i from to. c.turn-turn-2.ensures.same i from (omega arith) ∙ sym c.contains-2.ensures))

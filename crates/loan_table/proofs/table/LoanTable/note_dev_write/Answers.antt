@@ -34,10 +34,12 @@ invariant_of-self c =
       ordered = c.self.invariant.ordered;
       inside =
           λ m. rw c.set_range.ensures.bytes
-          (AreIn-set_all _ (addresses_of (stretch c.args.off c.args.len c.row_of-row.result.now.positions)) _ _ (c.self.invariant.inside m));
+          (AreIn-set_all _ (addresses_of (stretch c.args.off c.args.len c.row_of-row.result.now.positions)) _ _
+          (c.self.invariant.inside m));
       prepared =
           λ m. rw c.set_range.ensures.bytes
-          (AreIn-set_all _ (addresses_of (stretch c.args.off c.args.len c.row_of-row.result.now.positions)) _ _ (c.self.invariant.prepared m));
+          (AreIn-set_all _ (addresses_of (stretch c.args.off c.args.len c.row_of-row.result.now.positions)) _ _
+          (c.self.invariant.prepared m));
       low = subst AreLow (sym c.set_range.ensures.bytes)
           (AreLow-set_all _ (addresses_of (stretch c.args.off c.args.len c.row_of-row.result.now.positions)) _
           (rw c.row_of-row.ensures
