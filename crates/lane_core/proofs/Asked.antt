@@ -1,5 +1,5 @@
 -- The steps of a load, by what stands in its way and by what it needs.
-use Rattle.std.proofs.Common.{◌≡◌, ℕ, ◌≤◌, ◌<◌, ◌==◌, true, false, List, [], Some, None, sym, ap, ◌∙◌, append-nil}
+use Rattle.std.proofs.Common.{◌≡◌, ℕ, ◌≤◌, ◌<◌, ◌==◌, Bool, true, false, List, [], Some, None, refl, sym, ap, ◌∙◌}
 use Rattle.std.proofs.Common.{is_some, nat_lt, if◌then◌else◌, arith}
 use Rattle.std.proofs.lemmas.Bool.Decides.{nat_tests}
 use Rattle.std.specs.FinMap.{get}
@@ -9,31 +9,25 @@ use Rattle.busdma_base.specs.declared.journals.report.Errno.TheVariants.{EINVAL}
 use Rattle.busdma_base.specs.declared.journals.report.Judged.TheVariants as judged
 use Rattle.busdma_base.specs.declared.journals.report.Report.{Report}
 use Rattle.busdma_base.specs.declared.journals.report.ReportName.TheVariants.{Absent, MapBusy}
-use Rattle.busdma_base.specs.declared.machine.address.Va.{Va}
+use Rattle.busdma_base.specs.declared.machine.bio.Bio.{Bio}
 use Rattle.busdma_base.specs.declared.machine.chunk.Chunk.{Chunk}
+use Rattle.busdma_base.specs.declared.scenarios.buffer.Buffer.TheVariants as buffer
 use Rattle.busdma_base.specs.declared.scenarios.script.Item.{Item}
-use Rattle.busdma_base.specs.declared.scenarios.script.Place.TheVariants.{At}
-use Rattle.busdma_base.specs.Runs.{run_of}
-use Rattle.dma_tag.specs.LoadFlags.{nowait}
-use Rattle.busdma_base.specs.Machine.Spans.{one_span}
-use Rattle.phys_memory.proofs.Loads.{one_bytes}
 use Rattle.segment_build.specs.Chunks.{need_of}
 use Rattle.ideal_lane.specs.Asking.{Asking, Gives, Asks}
-use Rattle.ideal_lane.specs.Loads.{Asked, asked, chunks_for, ended, finished, granted, limits_of, load_chunks, load_judged}
-use Rattle.ideal_lane.specs.Loads.{zone_of}
+use Rattle.ideal_lane.specs.Loads.{Asked, asked, chunks_for, ended, finished, granted, limits_of, load, load_chunks}
+use Rattle.ideal_lane.specs.Loads.{load_entries, load_judged, zone_of}
 use Rattle.ideal_lane.specs.Outcomes.{Outcome, gives, is_idle, refused, unless_absent, unless_refused}
 use Rattle.ideal_lane.specs.State.{LaneMap, LaneState, named}
-use Rattle.ideal_lane.specs.Turns.{load_at_place}
-use Rattle.lane_core.specs.Loading.{buffer_chunks, buffer_entries}
-use Rattle.ideal_lane.specs.Places.{physical}
-use Rattle.ideal_lane.proofs.Needs.{entries-length, need-few}
+use Rattle.lane_core.specs.Loading.{bio_bytes, bio_chunks}
+use Rattle.ideal_lane.proofs.Needs.{bytes-few, need-few}
 
-module _ (l : LaneState) (m : ℕ) (va : Va) (len flags : ℕ) (items : List Item) where
+module _ (l : LaneState) (m : ℕ) (b : Bio) (nowait : Bool) (items : List Item) where
   abbrev pub x : Asked
-  x = asked m (one_span va.0 len) (nowait flags) items l
+  x = asked m b nowait items l
 
   abbrev step : Asking Outcome
-  step = load_at_place m (At va) len flags items l
+  step = load m x l
 
   abbrev long : LaneMap → Asking Outcome
   long o =
@@ -53,35 +47,32 @@ module _ (l : LaneState) (m : ℕ) (va : Va) (len flags : ℕ) (items : List Ite
         ∙ ap (λ b. if b then unless_refused x.judged l (long o) else refused MapBusy 0 l) busy
 
     module _ (on : is_idle o.stage ≡ true) where
-      judging : step ≡ unless_refused (load_judged l m (run_of va.0 len)) l (long o)
+      judging : step ≡ unless_refused (load_judged l m b) l (long o)
       judging =
           ap (λ q. unless_absent q l idle) there
-          ∙ ap (λ b. if b then unless_refused x.judged l (long o) else refused MapBusy 0 l) on
-          ∙ ap (λ vas. unless_refused (load_judged l m vas) l (long o)) (append-nil (run_of va.0 len))
+          ∙ ap (λ t. if t then unless_refused x.judged l (long o) else refused MapBusy 0 l) on
 
-      pub load-refused : (r : Report) → load_judged l m (run_of va.0 len) ≡ judged.Refused r →
+      pub load-refused : (r : Report) → load_judged l m b ≡ judged.Refused r →
           step ≡ gives l (answer.Report r)
       load-refused r is = judging ∙ ap (λ j. unless_refused j l (long o)) is
 
-      module _ (fine : load_judged l m (run_of va.0 len) ≡ judged.Fine) where
+      module _ (fine : load_judged l m b ≡ judged.Fine) where
         passed : step ≡ long o
         passed = judging ∙ ap (λ j. unless_refused j l (long o)) fine
 
-        pub load-long : (limits_of l o).maxsize < len → step ≡ gives (ended m o (answer.Refused EINVAL) l).lane (answer.Refused EINVAL)
+        pub load-long : (limits_of l o).maxsize < bio_bytes b → step ≡ gives (ended m o (answer.Refused EINVAL) l).lane (answer.Refused EINVAL)
         load-long over =
-            let bytes : x.len ≡ len = one_bytes va.0 len in
-            let test : nat_lt (limits_of l o).maxsize x.len ≡ true = grind (arith, nat_tests, bytes, over) in
+            let test : nat_lt (limits_of l o).maxsize x.len ≡ true = grind (arith, nat_tests, over) in
             passed ∙ ap (λ b. if b then Gives (ended m o (answer.Refused EINVAL) l)
             else load_chunks m o x (chunks_for l o (is_some (get l.mems m)) x.entries) l) test
 
-        module _ (short : len ≤ (limits_of l o).maxsize) (own : get l.mems m ≡ None) where
+        module _ (short : bio_bytes b ≤ (limits_of l o).maxsize) (own : get l.mems m ≡ None) where
           abbrev chunks : List Chunk
-          chunks = buffer_chunks l o va.0 len
+          chunks = bio_chunks l o b
 
           cut : step ≡ load_chunks m o x chunks l
           cut =
-              let bytes : x.len ≡ len = one_bytes va.0 len in
-              let test : nat_lt (limits_of l o).maxsize x.len ≡ false = grind (arith, nat_tests, bytes, short) in
+              let test : nat_lt (limits_of l o).maxsize x.len ≡ false = grind (arith, nat_tests, short) in
               passed ∙ ap (λ b. if b then Gives (ended m o (answer.Refused EINVAL) l)
               else load_chunks m o x (chunks_for l o (is_some (get l.mems m)) x.entries) l) test
               ∙ ap (λ q. load_chunks m o x (chunks_for l o (is_some q) x.entries) l) own
@@ -93,20 +84,19 @@ module _ (l : LaneState) (m : ℕ) (va : Va) (len flags : ℕ) (items : List Ite
               else Asks (Grab (named l m) (record { 0 = zone_of o }) (need_of chunks) x.nowait) (granted m o x chunks l)) test
 
           pub load-bounced : (n : ℕ) → n ≡ need_of chunks → 0 < n →
-              step ≡ Asks (Grab (named l m) (record { 0 = zone_of o }) n (nowait flags)) (granted m o x chunks l)
+              step ≡ Asks (Grab (named l m) (record { 0 = zone_of o }) n nowait) (granted m o x chunks l)
           load-bounced n is some =
               let test : (need_of chunks == 0) ≡ false = grind (arith, nat_tests) in
               cut ∙ ap (λ b. if b then Gives (finished m o l.place x chunks [] l)
               else Asks (Grab (named l m) (record { 0 = zone_of o }) (need_of chunks) x.nowait) (granted m o x chunks l)) test
-              ∙ ap (λ k. Asks (Grab (named l m) (record { 0 = zone_of o }) k (nowait flags)) (granted m o x chunks l)) (sym is)
+              ∙ ap (λ k. Asks (Grab (named l m) (record { 0 = zone_of o }) k nowait) (granted m o x chunks l)) (sym is)
 
 -- a load wants no more pages than it has bytes
-pub few-wanted : (l : LaneState) (o : LaneMap) (va len n : ℕ) → n ≡ need_of (buffer_chunks l o va len) → n ≤ len
-few-wanted l o va len n is =
+pub few-wanted : (l : LaneState) (o : LaneMap) (b : Bio) (n : ℕ) → n ≡ need_of (bio_chunks l o b) → n ≤ bio_bytes b
+few-wanted l o b n is =
     omega (
       arith,
       is,
-      need-few l o false (buffer_entries l va len),
-      entries-length true (physical l) (one_span va len),
-      one_bytes va len,
+      need-few l o false (load_entries l b),
+      bytes-few l (buffer.Bio b) b refl,
     )

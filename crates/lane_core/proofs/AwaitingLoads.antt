@@ -10,41 +10,37 @@ use Rattle.std.specs.Option.{option_map}
 use Rattle.busdma_base.specs.declared.journals.answer.Answer.TheVariants.{Refused, Segments}
 use Rattle.busdma_base.specs.declared.journals.report.Errno.TheVariants.{EFBIG}
 use Rattle.busdma_base.specs.declared.journals.report.Judged.TheVariants.{Fine}
-use Rattle.busdma_base.specs.declared.machine.address.Va.{Va}
+use Rattle.busdma_base.specs.declared.machine.bio.Bio.{Bio}
 use Rattle.busdma_base.specs.declared.machine.chunk.Chunk.{Chunk}
 use Rattle.busdma_base.specs.declared.scenarios.script.Item.{Item}
-use Rattle.busdma_base.specs.declared.scenarios.script.Op.{Op}
-use Rattle.busdma_base.specs.declared.scenarios.script.Op.TheVariants.{Load}
-use Rattle.busdma_base.specs.declared.scenarios.script.Place.TheVariants.{At}
 use Rattle.busdma_base.specs.Bounce.AccountStep.{as_pages}
-use Rattle.busdma_base.specs.Journals.Judging.{judged}
 use Rattle.busdma_base.specs.Machine.Entry.{entries_addresses}
 use Rattle.busdma_base.specs.Machine.Page.{FrameBytes}
 use Rattle.busdma_base.specs.Machine.PageRuns.{physical_in}
-use Rattle.busdma_base.specs.Runs.{run_of}
+use Rattle.busdma_base.specs.Machine.Spans.{bio_spans}
 use Rattle.dma_map.specs.declared.callback.Transfers.{Transfers}
 use Rattle.dma_map.specs.declared.room.LoadRoom.{LoadRoom}
 use Rattle.dma_map.specs.MapView as held
+use Rattle.load_bio.specs.Bio.{bio_translation, is_rounded}
 use Rattle.loan_table.specs.Loans.{Loan, Loans, new_loan}
-use Rattle.phys_memory.specs.Translation.{unreached}
-use Rattle.busdma_base.specs.Machine.Spans.{one_span}
-use Rattle.phys_memory.specs.Vector.{entries_of}
+use Rattle.phys_memory.specs.Vector.{entries_of, judged_spans}
 use Rattle.segment_build.specs.Building.{placed_pieces, tag_placed}
 use Rattle.segment_build.specs.Chunks.{bounced_of, chunks_of}
 use Rattle.segment_build.specs.Segmentation.{segmentation}
 use Rattle.ideal_lane.proofs.Lookups.{get_cut}
-use Rattle.ideal_lane.specs.Loads.{Asked, emptied, finished, is_coherent, limits_of, loaded, no_limits, staged, unpaged}
+use Rattle.ideal_lane.specs.Loads.{Asked, emptied, finished, is_coherent, limits_of, load_entries, loaded, no_limits, staged, unpaged}
 use Rattle.ideal_lane.specs.Outcomes.{Outcome, is_idle, is_loaded}
-use Rattle.ideal_lane.specs.Places.{is_in_memory, or_in_memory, physical, physical_of, reached}
+use Rattle.ideal_lane.specs.Places.{is_in_memory, or_in_memory, physical, physical_of}
 use Rattle.ideal_lane.specs.State.{LaneMap, LaneState, LaneTag, Stage, Idle, Loaded, Waiting}
 use Rattle.lane_core.specs.declared.holdings.Holdings.{Holdings}
 use Rattle.lane_core.specs.declared.kept.KeptMap.{KeptMap}
-use Rattle.lane_core.specs.Awaiting.{AreAwaiting, AreAwaitingBut, IsAwaiting, KeepsWaiting, kept_load}
+use Rattle.lane_core.specs.Awaiting.{AreAwaiting, AreAwaitingBut, IsAwaiting, IsLoadAt, KeepsWaiting, kept_load}
 use Rattle.lane_core.specs.Covered.{has_load, is_idle_map}
 use Rattle.lane_core.specs.Ideal.{ideal_of}
 use Rattle.lane_core.specs.Kept.{memory_of, stage_of}
-use Rattle.lane_core.specs.Loading.{HasRoomForAny, buffer_chunks, buffer_entries}
+use Rattle.lane_core.specs.Loading.{HasRoomForAny, bio_chunks, bio_reached, load_loan}
 use Rattle.lane_core.proofs.Keeping.{told-none}
+use Rattle.lane_core.proofs.LoadsAt.{at-same}
 use Rattle.lane_core.proofs.MapValues.{get-map_values, image-none}
 use Rattle.lane_core.proofs.TakenLoads.{put-here, put-other}
 use Rattle.lane_core.proofs.Unloaded.{left}
@@ -151,38 +147,39 @@ module _ (l k : LaneState) (stays : Stays l k) where
   limits : (o : LaneMap) → limits_of k o ≡ limits_of l o
   limits o = ap (λ ts. unwrap_or (option_map (λ (t : LaneTag). t.limits) (get ts o.tag)) no_limits) stays.tags
 
-  buffers : (va len : ℕ) → buffer_entries k va len ≡ buffer_entries l va len
-  buffers va len = ap (λ t. entries_of true t (one_span va len)) reaches
+  entered : (b : Bio) → load_entries k b ≡ load_entries l b
+  entered b = ap (λ t. entries_of (is_rounded b) (bio_translation t b) (bio_spans b)) reaches
 
-  chunked : (o : LaneMap) (va len : ℕ) → buffer_chunks k o va len ≡ buffer_chunks l o va len
-  chunked o va len = λ i. chunks_of (limits o i) (stays.maxmem i) (buffers va len i)
+  reached : (b : Bio) → bio_reached k b ≡ bio_reached l b
+  reached b = ap (λ t. judged_spans (bio_translation t b) 0 (bio_spans b)) reaches
+
+  chunked : (o : LaneMap) (b : Bio) → bio_chunks k o b ≡ bio_chunks l o b
+  chunked o b = λ i. chunks_of (limits o i) (stays.maxmem i) (entered b i)
+
+  loaned : (m : ℕ) (b : Bio) → load_loan k m b ≡ load_loan l m b
+  loaned m b = λ i. new_loan (is_coherent (get (stays.mems i) m)) (entries_addresses (entered b i))
 
 module _ (h k : Holdings) (stays : Stays (ideal_of h) (ideal_of k)) (m load_at : ℕ) (items : List Item)
     (room : LoadRoom) where
   awaits-with : get k.loans.prepared m ≡ get h.loans.prepared m → (a : IsAwaiting h m load_at items room) →
       ((o : LaneMap) (need : ℕ) → get (ideal_of k).maps m ≡ Some o → o.stage ≡ Waiting load_at need →
-      HasRoomForAny (limits_of (ideal_of h) o) (buffer_chunks (ideal_of h) o a.va.0 a.len) need room) →
+      HasRoomForAny (limits_of (ideal_of h) o) (bio_chunks (ideal_of h) o a.bio) need room) →
       IsAwaiting k m load_at items room
   awaits-with prepared a fits =
       let l = ideal_of h in
       let n = ideal_of k in
-      let loan : Some (new_loan (is_coherent (get n.mems m)) (entries_addresses (buffer_entries n a.va.0 a.len)))
-      ≡ Some (new_loan (is_coherent (get l.mems m)) (entries_addresses (buffer_entries l a.va.0 a.len))) =
-      λ i. Some (new_loan (is_coherent (get (stays.mems i) m)) (entries_addresses (buffers l n stays a.va.0 a.len i))) in
       record {
-        va = a.va;
-        len = a.len;
-        flags = a.flags;
-        load = ap (λ (s : List Op). slice_get s load_at) stays.script ∙ a.load;
+        bio = a.bio;
+        at = at-same h k load_at m a.bio items stays.script a.at;
         own = told-none memory_of (get k.memories.map m)
             (sym (get-map_values memory_of k.memories.map m) ∙ ap (λ ms. get ms m) stays.mems
             ∙ image-none memory_of h.memories.map m a.own);
-        reached = ap (λ t. judged (unreached t) 0 (run_of a.va.0 a.len)) (reaches l n stays) ∙ a.reached;
+        reached = reached l n stays a.bio ∙ a.reached;
         fits = λ o need found stage.
-            subst (λ t. HasRoomForAny t (buffer_chunks n o a.va.0 a.len) need room) (sym (limits l n stays o))
-            (subst (λ cs. HasRoomForAny (limits_of l o) cs need room) (sym (chunked l n stays o a.va.0 a.len))
+            subst (λ t. HasRoomForAny t (bio_chunks n o a.bio) need room) (sym (limits l n stays o))
+            (subst (λ cs. HasRoomForAny (limits_of l o) cs need room) (sym (chunked l n stays o a.bio))
             (fits o need found stage));
-        prepared = prepared ∙ a.prepared ∙ sym loan;
+        prepared = prepared ∙ a.prepared ∙ ap (λ (x : Loan). Some x) (sym (loaned l n stays m a.bio));
       }
 
   pub awaits-still : get (ideal_of k).maps m ≡ get (ideal_of h).maps m →
@@ -195,17 +192,14 @@ module _ (h k : Holdings) (stays : Stays (ideal_of h) (ideal_of k)) (m load_at :
 -- what is ready for the load of an idle map that needs so many pages
 pub record IsReadyLoad (h : Holdings) (m load_at need : ℕ) (o : LaneMap) (items : List Item) (room : LoadRoom)
     : Type 0 where
-  pub va : Va
-  pub len : ℕ
-  pub flags : ℕ
+  pub bio : Bio
   pub there : get (ideal_of h).maps m ≡ Some o
   pub idle : is_idle o.stage ≡ true
-  pub load : slice_get h.script.now load_at ≡ Some (Load m (At va) len flags items)
+  pub at : IsLoadAt h load_at m bio items
   pub own : get h.memories.map m ≡ None
-  pub reached : reached (ideal_of h) va.0 len ≡ Fine
-  pub fits : HasRoomForAny (limits_of (ideal_of h) o) (buffer_chunks (ideal_of h) o va.0 len) need room
-  pub prepared : get h.loans.prepared m ≡ Some (new_loan (is_coherent (get (ideal_of h).mems m))
-      (entries_addresses (buffer_entries (ideal_of h) va.0 len)))
+  pub reached : bio_reached (ideal_of h) bio ≡ Fine
+  pub fits : HasRoomForAny (limits_of (ideal_of h) o) (bio_chunks (ideal_of h) o bio) need room
+  pub prepared : get h.loans.prepared m ≡ Some (load_loan (ideal_of h) m bio)
 
 module _ (h k : Holdings) (m load_at need : ℕ) (o : LaneMap) (items : List Item) (room : LoadRoom)
     (ready : IsReadyLoad h m load_at need o items room) where
@@ -225,10 +219,8 @@ module _ (h k : Holdings) (m load_at need : ℕ) (o : LaneMap) (items : List Ite
       let put : get (ideal_of k).maps m ≡ Some v =
       ap (λ (n : LaneState). get n.maps m) e ∙ put-here l.maps m v in
       let a : IsAwaiting h m load_at items room = record {
-        va = ready.va;
-        len = ready.len;
-        flags = ready.flags;
-        load = ready.load;
+        bio = ready.bio;
+        at = ready.at;
         own = ready.own;
         reached = ready.reached;
         fits = λ p n found stage. absurd (not-yet p n found stage);
@@ -240,8 +232,8 @@ module _ (h k : Holdings) (m load_at need : ℕ) (o : LaneMap) (items : List Ite
       let same : v ≡ p = let both = sym put ∙ found in cc in
       let waits : Waiting load_at need ≡ Waiting load_at n = ap (λ (y : LaneMap). y.stage) same ∙ stage in
       let needs : need ≡ n = cc in
-      subst (λ q. HasRoomForAny (limits_of l p) (buffer_chunks l p ready.va.0 ready.len) q room) needs
-      (subst (λ (y : LaneMap). HasRoomForAny (limits_of l y) (buffer_chunks l y ready.va.0 ready.len) need room) same
+      subst (λ q. HasRoomForAny (limits_of l p) (bio_chunks l p ready.bio) q room) needs
+      (subst (λ (y : LaneMap). HasRoomForAny (limits_of l y) (bio_chunks l y ready.bio) need room) same
       ready.fits))
 
 -- ---- all loads wait as they did, but that of one map

@@ -1,22 +1,21 @@
 -- What waiting loads keep stays with a driver whose step leaves it, and what the driver reaches.
-use Rattle.std.proofs.Common.{◌≡◌, ℕ, Option, Some, None, refl, sym, ap, ◌∙◌, subst, unwrap_or, slice_get, true}
+use Rattle.std.proofs.Common.{◌≡◌, ℕ, Option, Some, None, refl, sym, ap, ◌∙◌, subst, unwrap_or}
 use Rattle.std.specs.Prelude.{if◌then◌else◌}
 use Rattle.std.specs.List.{list_any}
 use Rattle.std.specs.Option.{option_map}
 use Rattle.std.specs.Ordering.{nat_cmp}
 use Rattle.std.specs.FinMap.{FinMap, get, entries}
 use Rattle.busdma_base.specs.declared.tags.tag.TagLimits.{TagLimits}
-use Rattle.busdma_base.specs.Journals.Judging.{judged}
 use Rattle.busdma_base.specs.Machine.Entry.{entries_addresses}
 use Rattle.busdma_base.specs.Machine.PageRuns.{physical_in}
-use Rattle.busdma_base.specs.Runs.{run_of}
+use Rattle.busdma_base.specs.Machine.Spans.{bio_spans}
 use Rattle.dma_map.specs.declared.callback.Transfers.{Transfers}
 use Rattle.dma_map.specs.declared.room.LoadRoom.{LoadRoom}
 use Rattle.dma_map.specs.MapView as held
+use Rattle.load_bio.specs.Bio.{bio_translation, is_rounded}
 use Rattle.loan_table.specs.Loans.{new_loan}
-use Rattle.phys_memory.specs.Translation.{Translation, unreached}
-use Rattle.busdma_base.specs.Machine.Spans.{one_span}
-use Rattle.phys_memory.specs.Vector.{entries_of}
+use Rattle.phys_memory.specs.Translation.{Translation}
+use Rattle.phys_memory.specs.Vector.{entries_of, judged_spans}
 use Rattle.segment_build.specs.Chunks.{chunks_of}
 use Rattle.ideal_lane.specs.Loads.{is_coherent, limits_of, no_limits}
 use Rattle.ideal_lane.specs.Places.{is_in_memory, or_in_memory, physical, physical_of}
@@ -31,6 +30,7 @@ use Rattle.lane_core.specs.Ideal.{ideal_of}
 use Rattle.lane_core.specs.Kept.{map_of, memory_of, stage_of, tag_of}
 use Rattle.lane_core.specs.Loading.{HasRoomForAny}
 use Rattle.lane_core.specs.MapValues.{map_values}
+use Rattle.lane_core.proofs.LoadsAt.{at-same}
 use Rattle.lane_core.proofs.MapValues.{get-map_values, image-some}
 
 -- a driver with the same pages and memories reaches the same bytes
@@ -116,7 +116,8 @@ module _ (h k : Holdings) (keeps : KeepsWaiting h k) (reach : KeepsReach h k) wh
 
     abbrev Room : TagLimits → ℕ → Translation → ℕ → Type 0
     Room t maxmem f need =
-        HasRoomForAny t (chunks_of t maxmem (entries_of true f (one_span was.va.0 was.len))) need room
+        HasRoomForAny t (chunks_of t maxmem (entries_of (is_rounded was.bio) (bio_translation f was.bio)
+        (bio_spans was.bio))) need room
 
     roomy : (o : LaneMap) (need : ℕ) → get (ideal_of k).maps m ≡ Some o → o.stage ≡ Waiting load_at need →
         Room (limits_of (ideal_of k) o) k.maxmem (physical (ideal_of k)) need
@@ -136,16 +137,15 @@ module _ (h k : Holdings) (keeps : KeepsWaiting h k) (reach : KeepsReach h k) wh
 
     awaits : IsAwaiting k m load_at callback.items room
     awaits = record {
-      va = was.va;
-      len = was.len;
-      flags = was.flags;
-      load = ap (λ s. slice_get s.now load_at) reach.script ∙ was.load;
+      bio = was.bio;
+      at = at-same h k load_at m was.bio callback.items (ap (λ s. s.now) reach.script) was.at;
       own = ap (λ ms. get ms m) reach.memories ∙ was.own;
-      reached = ap (λ f. judged (unreached f) 0 (run_of was.va.0 was.len)) reaches ∙ was.reached;
+      reached = ap (λ f. judged_spans (bio_translation f was.bio) 0 (bio_spans was.bio)) reaches ∙ was.reached;
       fits = roomy;
       prepared = ap (λ ls. get ls m) keeps.prepared ∙ was.prepared
           ∙ (λ i. Some (new_loan (is_coherent (get (map_values memory_of (sym reach.memories i)) m))
-          (entries_addresses (entries_of true (sym reaches i) (one_span was.va.0 was.len)))));
+          (entries_addresses (entries_of (is_rounded was.bio) (bio_translation (sym reaches i) was.bio)
+          (bio_spans was.bio)))));
     }
 
   pub awaiting-stays : AreAwaiting h → AreAwaiting k

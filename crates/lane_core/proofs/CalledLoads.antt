@@ -1,21 +1,19 @@
 -- How the load of a map ends that waited, from where its map is idle.
 use Rattle.std.proofs.Common.{◌≡◌, ℕ, ◌≤◌, true, if◌then◌else◌, List, length, Option, Some}
 use Rattle.std.proofs.Common.{ap, ◌∙◌, arith, slice_get, unwrap_or, nat_le}
-use Rattle.std.specs.Option.{option_and_then}
+use Rattle.std.specs.Option.{option_and_then, option_map}
 use Rattle.std.specs.FinMap.{get, insert}
 use Rattle.busdma_base.specs.declared.journals.answer.Answer.TheVariants.{Segments, Refused}
 use Rattle.busdma_base.specs.declared.journals.report.Errno.TheVariants.{EFBIG}
 use Rattle.busdma_base.specs.declared.machine.address.Segment.{Segment}
-use Rattle.busdma_base.specs.declared.machine.address.Va.{Va}
+use Rattle.busdma_base.specs.declared.machine.bio.Bio.{Bio}
 use Rattle.busdma_base.specs.declared.machine.chunk.Chunk.{Chunk}
+use Rattle.busdma_base.specs.declared.scenarios.buffer.Buffer.{Buffer}
 use Rattle.busdma_base.specs.declared.scenarios.script.Item.{Item}
 use Rattle.busdma_base.specs.declared.scenarios.script.Op.{Op}
 use Rattle.busdma_base.specs.declared.scenarios.script.Op.TheVariants.{Load}
-use Rattle.busdma_base.specs.declared.scenarios.script.Place.TheVariants.{At}
 use Rattle.busdma_base.specs.declared.tags.tag.TagLimits.{TagLimits}
 use Rattle.busdma_base.specs.Bounce.AccountStep.{as_pages}
-use Rattle.dma_tag.specs.LoadFlags.{nowait}
-use Rattle.busdma_base.specs.Machine.Spans.{one_span}
 use Rattle.segment_build.specs.Building.{placed_pieces, tag_placed}
 use Rattle.segment_build.specs.Chunks.{bounced_of}
 use Rattle.segment_build.specs.Segmentation.{segmentation}
@@ -23,7 +21,7 @@ use Rattle.ideal_lane.specs.Ahead.{awaited_items, items_ahead}
 use Rattle.ideal_lane.specs.Left.{item_count}
 use Rattle.ideal_lane.specs.Loads.{Asked, asked, emptied, finished, limits_of, loaded, unpaged}
 use Rattle.ideal_lane.specs.State.{Idle, LaneMap, LaneState, Loaded, Waiting}
-use Rattle.ideal_lane.specs.Turns.{asked_at, asked_by, called, called_at, called_in, no_load}
+use Rattle.ideal_lane.specs.Turns.{asked_at, asked_by, bio_at, called, called_at, called_in, never_waits, no_load}
 use Rattle.ideal_lane.proofs.Weights.{weigh-put}
 use Rattle.lane_core.proofs.LoadSteps.{put-over}
 
@@ -59,11 +57,12 @@ module _ (l : LaneState) (m : ℕ) (o : LaneMap) where
       ap (λ x. called m x pages l) there ∙ ap (λ s. called_in m o s pages l) waits
 
 -- what the load at a place of the script asks
-pub asked-is : (l : LaneState) (at m : ℕ) (va : Va) (len flags : ℕ) (items : List Item) →
-    slice_get l.script at ≡ Some (Load m (At va) len flags items) →
-    asked_at at l ≡ asked m (one_span va.0 len) (nowait flags) items l
-asked-is l at m va len flags items load =
+pub asked-is : (l : LaneState) (at m : ℕ) (x : Buffer) (b : Bio) (flags : ℕ) (items : List Item) →
+    slice_get l.script at ≡ Some (Load m x flags items) → bio_at l x ≡ Some b →
+    asked_at at l ≡ asked m b (never_waits x flags) items l
+asked-is l at m x b flags items load bytes =
     ap (λ (o : Option Op). unwrap_or (option_and_then (λ p. asked_by p l) o) (no_load l)) load
+    ∙ ap (λ (o : Option Bio). unwrap_or (option_map (λ c. asked m c (never_waits x flags) items l) o) (no_load l)) bytes
 
 -- ---- the room of the transfer queue
 

@@ -1,63 +1,48 @@
 -- The chunks of a load's stream are those of the load, and what is built of them.
-use Rattle.std.proofs.Common.{◌≡◌, ℕ, ◌≤◌, List, [], length, Some, refl, sym, ap, ◌∙◌, subst, arith, append-nil, ◌++◌, Bool, true, false, cond}
+use Rattle.std.proofs.Common.{◌≡◌, ℕ, ◌≤◌, List, [], length, Some, refl, sym, ap, ◌∙◌, subst, arith, Bool, true, false, cond}
 use Rattle.std.proofs.Common.{nat_le}
 use Rattle.std.specs.FinMap.{get}
 use Rattle.busdma_base.specs.declared.journals.report.Judged.{Judged}
 use Rattle.busdma_base.specs.declared.journals.report.Judged.TheVariants.{Fine, Refused}
 use Rattle.busdma_base.specs.declared.machine.address.Pa.{Pa}
+use Rattle.busdma_base.specs.declared.machine.address.Span.{Span}
+use Rattle.busdma_base.specs.declared.machine.bio.Bio.{Bio}
 use Rattle.busdma_base.specs.declared.machine.address.Segment.{Segment}
 use Rattle.busdma_base.specs.declared.machine.chunk.Chunk.{Chunk}
 use Rattle.busdma_base.specs.declared.machine.chunk.Part.{Part}
 use Rattle.busdma_base.specs.declared.tags.tag.TagLimits.{TagLimits}
-use Rattle.busdma_base.specs.Journals.Judging.{judged}
 use Rattle.busdma_base.specs.Machine.Entry.{parts_of}
+use Rattle.busdma_base.specs.Machine.Spans.{bio_spans}
 use Rattle.busdma_base.specs.Room.{Roomy}
-use Rattle.busdma_base.specs.Runs.{run_of}
 use Rattle.dma_map.specs.declared.room.LoadRoom.{LoadRoom}
-use Rattle.phys_memory.specs.Memory as memory
-use Rattle.phys_memory.specs.Translation.{Translation, unreached}
-use Rattle.busdma_base.specs.Machine.Spans.{one_span}
-use Rattle.phys_memory.specs.Vector.{IfAll, entries_of, walk_unless}
-use Rattle.phys_memory.specs.Walk.{flat}
-use Rattle.phys_memory.proofs.Vectors.{spans_one, walk_stream}
+use Rattle.load_bio.specs.Bio.{is_rounded}
+use Rattle.phys_memory.specs.Translation.{Translation}
+use Rattle.phys_memory.specs.Vector.{IfAll, entries_of, spans_stream, walk_unless}
+use Rattle.phys_memory.proofs.Vectors.{walk_stream}
 use Rattle.segment_build.specs.Building.{placed_pieces}
 use Rattle.segment_build.specs.Chunks.{chunks_of}
 use Rattle.segment_build.specs.Segmentation.{segmentation}
 use Rattle.segment_build.specs.Streams.{IsBuiltFrom, OverflowsFrom, stream_chunks}
 use Rattle.segment_build.proofs.Chunking.{chunks_of_parts}
 use Rattle.segment_build.proofs.Cuts.{cut_shorter, one_segmentation}
-use Rattle.ideal_lane.specs.Loads.{limits_of, load_judged}
-use Rattle.ideal_lane.specs.Places.{reached}
-use Rattle.ideal_lane.specs.State.{LaneMap}
+use Rattle.ideal_lane.specs.Loads.{limits_of, load_entries, load_judged, load_translation}
+use Rattle.ideal_lane.specs.State.{LaneMap, LaneState}
 use Rattle.lane_core.specs.declared.holdings.Holdings.{Holdings}
 use Rattle.lane_core.specs.declared.kept.KeptTag.{KeptTag}
 use Rattle.lane_core.specs.Ideal.{ideal_of}
 use Rattle.lane_core.specs.Judging.{earlier, foreign_judged}
 use Rattle.lane_core.specs.Kept.{tag_of}
-use Rattle.lane_core.specs.Loading.{HasRoomFor, IsFilled, IsOverfull, buffer_chunks, buffer_entries}
-use Rattle.lane_core.proofs.LoadJudged.{load-judged, stream-says}
+use Rattle.lane_core.specs.Loading.{HasRoomFor, IsFilled, IsOverfull, bio_chunks, bio_reached, load_stream}
+use Rattle.lane_core.proofs.LoadJudged.{load-judged}
+use Rattle.lane_core.proofs.LoadStreams.{stream-says}
 use Rattle.lane_core.proofs.MapValues.{image-some}
-use Rattle.lane_core.proofs.Reading.{physical-same}
 
 -- the chunks of a stream in which each byte is reached
-stream-is : (t : Translation) (va n : ℕ) (j : Judged) → j ≡ Fine →
-    IfAll (walk_unless j (entries_of true t (one_span va n))) (λ es. flat t va n ≡ parts_of es)
-    → flat t va n ≡ parts_of (entries_of true t (one_span va n))
-stream-is t va n Fine e h = h
-stream-is t va n (Refused r) e h = absurd (cc)
-
-pub flat-chunks : (t : TagLimits) (m : ℕ) (tr : Translation) (va n : ℕ) →
-    judged (unreached tr) 0 (run_of va n) ≡ Fine →
-    stream_chunks t m (flat tr va n) ≡ chunks_of t m (entries_of true tr (one_span va n))
-flat-chunks t m tr va n fine =
-    let es = entries_of true tr (one_span va n) in
-    let walk = walk_stream true tr (one_span va n) in
-    let all = ap (judged (unreached tr) 0) (append-nil (run_of va n)) ∙ fine in
-    let stream =
-    stream-is tr va n _ all
-    (subst (λ (ps : List Part). IfAll (walk_unless (judged (unreached tr) 0 (run_of va n ++ [])) es) (λ es. ps ≡ parts_of es))
-    (spans_one true tr va n) walk) in
-    ap (stream_chunks t m) stream ∙ chunks_of_parts t m es
+stream-is : (rounded : Bool) (t : Translation) (spans : List Span) (j : Judged) → j ≡ Fine →
+    IfAll (walk_unless j (entries_of rounded t spans)) (λ es. spans_stream rounded t spans ≡ parts_of es)
+    → spans_stream rounded t spans ≡ parts_of (entries_of rounded t spans)
+stream-is rounded t spans Fine e h = h
+stream-is rounded t spans (Refused r) e h = absurd (cc)
 
 -- no byte of a load is refused, and so each is reached
 first-fine : (a b : Judged) → earlier a b ≡ Fine → a ≡ Fine
@@ -69,21 +54,20 @@ first-fine (Refused r) (Refused s) h = by (nat_le r.at s.at) h
     by true k = absurd (cc)
     by false k = absurd (cc)
 
-pub all-reached : (h : Holdings) (m va len : ℕ) → load_judged (ideal_of h) m (run_of va len) ≡ Fine →
-    reached (ideal_of h) va len ≡ Fine
-all-reached h m va len fine =
-    ap (λ t. judged (unreached t) 0 (run_of va len)) (physical-same h)
-    ∙ sym (stream-says (memory.physical h.memory.memory) va len)
-    ∙ first-fine _ (foreign_judged (ideal_of h) m (run_of va len)) (load-judged h m va len ∙ fine)
+pub all-reached : (l : LaneState) (m : ℕ) (b : Bio) → load_judged l m b ≡ Fine → bio_reached l b ≡ Fine
+all-reached l m b fine =
+    sym (stream-says (is_rounded b) (load_translation l b) (bio_spans b))
+    ∙ first-fine _ (foreign_judged l m b) (load-judged l m b ∙ fine)
 
 -- the chunks of a load of a map, by its tag
-pub load-chunks : (h : Holdings) (va len : ℕ) (o : LaneMap) (t : TagLimits) →
-    reached (ideal_of h) va len ≡ Fine → limits_of (ideal_of h) o ≡ t →
-    stream_chunks t h.maxmem (flat (memory.physical h.memory.memory) va len) ≡ buffer_chunks (ideal_of h) o va len
-load-chunks h va len o t fine is =
-    flat-chunks t h.maxmem (memory.physical h.memory.memory) va len (sym (ap (λ t. judged (unreached t) 0 (run_of va len)) (physical-same h)) ∙ fine)
-    ∙ ap (λ tr. chunks_of t h.maxmem (entries_of true tr (one_span va len))) (sym (physical-same h))
-    ∙ ap (λ t. chunks_of t h.maxmem (buffer_entries (ideal_of h) va len)) (sym is)
+pub load-chunks : (l : LaneState) (b : Bio) (o : LaneMap) (t : TagLimits) → bio_reached l b ≡ Fine →
+    limits_of l o ≡ t → stream_chunks t l.maxmem (load_stream l b) ≡ bio_chunks l o b
+load-chunks l b o t fine is =
+    let tr = load_translation l b in
+    ap (stream_chunks t l.maxmem)
+    (stream-is (is_rounded b) tr (bio_spans b) _ fine (walk_stream (is_rounded b) tr (bio_spans b)))
+    ∙ chunks_of_parts t l.maxmem (load_entries l b)
+    ∙ ap (λ t. chunks_of t l.maxmem (load_entries l b)) (sym is)
 
 -- the limits of a map's tag are those of the tag that is kept
 pub kept-limits : (h : Holdings) (o : LaneMap) (t : KeptTag) → get h.tags.map o.tag ≡ Some t →

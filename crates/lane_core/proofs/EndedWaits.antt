@@ -1,28 +1,27 @@
 -- The load of a map that waited ends: what its end is asked, and what it leaves.
-use Rattle.std.proofs.Common.{◌≡◌, ℕ, ◌+◌, ◌≤◌, ◌^◌, true, false, List, length, Some, refl, sym, ap}
-use Rattle.std.proofs.Common.{◌∙◌, subst, arith, is_some, slice_get}
+use Rattle.std.proofs.Common.{◌≡◌, ℕ, ◌+◌, ◌≤◌, true, false, List, length, Some, refl, sym, ap}
+use Rattle.std.proofs.Common.{◌∙◌, subst, arith, is_some, slice_get, unwrap_or}
 use Rattle.std.specs.FinMap.{get, insert, contains_key}
 use Rattle.busdma_base.specs.declared.journals.answer.Answer.{Answer}
 use Rattle.busdma_base.specs.declared.journals.report.Judged.TheVariants.{Fine}
-use Rattle.busdma_base.specs.declared.machine.address.Va.{Va}
+use Rattle.busdma_base.specs.declared.machine.bio.Bio.{Bio}
+use Rattle.busdma_base.specs.declared.scenarios.buffer.Buffer.{Buffer}
+use Rattle.busdma_base.specs.declared.scenarios.scenario.PageRun.{PageRun}
 use Rattle.busdma_base.specs.declared.scenarios.script.Item.{Item}
 use Rattle.busdma_base.specs.declared.scenarios.script.Op.TheVariants.{Load}
-use Rattle.busdma_base.specs.declared.scenarios.script.Place.TheVariants.{At}
-use Rattle.busdma_base.specs.Machine.Entry.{entries_addresses}
-use Rattle.busdma_base.specs.Scenarios.Limits.{buffer_limit, loaded_limit}
+use Rattle.busdma_base.specs.Scenarios.Limits.{loaded_limit}
 use Rattle.dma_map.specs.declared.callback.Transfers.{Transfers}
 use Rattle.dma_map.specs.declared.room.LoadRoom.{LoadRoom}
 use Rattle.dma_map.specs.MapView as held
-use Rattle.loan_table.specs.Loans.{new_loan}
 use Rattle.ideal_lane.specs.Ahead.{items_ahead}
 use Rattle.ideal_lane.specs.Left.{item_count}
-use Rattle.ideal_lane.specs.Loads.{Asked, chunks_for, finished, is_coherent, limits_of}
+use Rattle.ideal_lane.specs.Loads.{Asked, asked, chunks_for, finished, limits_of, load_entries}
 use Rattle.ideal_lane.specs.Outcomes.{Outcome}
-use Rattle.ideal_lane.specs.Places.{reached}
 use Rattle.ideal_lane.specs.Standing.{Stands}
 use Rattle.ideal_lane.specs.State.{LaneMap, LaneState, Waiting}
-use Rattle.ideal_lane.specs.Turns.{asked_at, called}
-use Rattle.lane_core.specs.declared.buffers.Buffer.{Buffer}
+use Rattle.ideal_lane.specs.Turns.{asked_at, bio_at, called, never_waits}
+use Rattle.ideal_wire.specs.Machine.{IsInMachine}
+use Rattle.lane_core.specs.declared.buffers.LoadBytes.{LoadBytes}
 use Rattle.lane_core.specs.declared.holdings.Holdings.{Holdings}
 use Rattle.lane_core.specs.declared.kept.KeptMap.{KeptMap}
 use Rattle.lane_core.specs.Awaiting.{AreAwaiting, AreAwaitingBut, HasSmallLoads, IsAwaiting, bytes_ahead, kept_load}
@@ -30,10 +29,11 @@ use Rattle.lane_core.specs.Changes.{KeepsButMaps, KeepsBytesBut}
 use Rattle.lane_core.specs.Covered.{is_idle_map, pages_due}
 use Rattle.lane_core.specs.Ideal.{given, ideal_of}
 use Rattle.lane_core.specs.Kept.{map_of, memory_of, stage_of}
-use Rattle.lane_core.specs.Loading.{HasRoomForAny, buffer_chunks, buffer_entries}
+use Rattle.lane_core.specs.Loading.{HasRoomForAny, IsLoadable, bio_chunks, bio_of, bio_reached, load_loan}
 use Rattle.lane_core.proofs.AwaitingLoads.{StaysBut, awaiting-but, awaiting-others, put-stays, stays-finished}
 use Rattle.lane_core.proofs.Called.{KeepsLoad, load-kept}
 use Rattle.lane_core.proofs.CalledLoads.{asked-is, called-is, finished-free, items-within}
+use Rattle.lane_core.proofs.LoadsAt.{loadable-at}
 use Rattle.lane_core.proofs.MapValues.{image-none}
 use Rattle.lane_core.proofs.Returned.{idled}
 use Rattle.lane_core.proofs.TakenLoads.{put-other, taken, taken-bytes, taken-ideal, taken-idle, taken-promised}
@@ -102,52 +102,57 @@ module _ (h k : Holdings) (m at : ℕ) (callback : Transfers) (room : LoadRoom)
     pub ends-items : items_ahead l ≤ h.agenda.room → length callback.items ≤ k.agenda.room
     ends-items few =
         let within = items-within l m (map_of o) image at o.need waits in
-        let count : item_count (slice_get l.script at) ≡ length callback.items = ap item_count is.load in
+        let count : item_count (slice_get l.script at) ≡ length callback.items = ap item_count is.at.load in
         let same : k.agenda.room ≡ h.agenda.room = ap (λ a. a.room) rest.agenda in
         omega (arith, within, count, same, few)
 
-    module _ (b : Buffer) (told : (m : ℕ) (va : Va) (len flags : ℕ) (items : List Item) →
-        slice_get k.script.now at ≡ Some (Load m (At va) len flags items) → b ≡ record { va = va; len = len }) where
-      buffer : b ≡ record { va = is.va; len = is.len }
-      buffer =
-          told m is.va is.len is.flags callback.items (ap (λ s. slice_get s.now at) rest.most.script ∙ is.load)
+    module _ (b : LoadBytes) (told : (l : LaneState) (m : ℕ) (x : Buffer) (flags : ℕ) (items : List Item) →
+        slice_get k.script.now at ≡ Some (Load m x flags items) → bio_at l x ≡ Some (bio_of b)) where
+      abbrev bio : Bio
+      bio = bio_of b
 
-      pub ends-reached : reached (ideal_of k) b.va.0 b.len ≡ Fine
-      ends-reached = (λ i. reached (now i) (buffer i).va.0 (buffer i).len) ∙ is.reached
+      same-bio : is.bio ≡ bio
+      same-bio =
+          let named : bio_at l is.at.buffer ≡ Some bio =
+          told l m is.at.buffer is.at.flags callback.items
+          (ap (λ s. slice_get s.now at) rest.most.script ∙ is.at.load) in
+          let both : Some is.bio ≡ Some bio = sym is.at.bytes ∙ named in
+          ap (λ o. unwrap_or o is.bio) both
 
-      pub ends-small : HasSmallLoads h → b.len ≤ 2 ^ 20
-      ends-small small =
-          let few : is.len ≤ buffer_limit =
-          small.each at (Load m (At is.va) is.len is.flags callback.items) is.load in
-          let same : b.len ≡ is.len = ap (λ (x : Buffer). x.len) buffer in
-          omega (arith, few, same)
+      pub ends-reached : bio_reached (ideal_of k) bio ≡ Fine
+      ends-reached = (λ i. bio_reached (now i) (sym same-bio i)) ∙ is.reached
+
+      pub ends-loadable : IsInMachine l → HasSmallLoads h → IsLoadable k.pages.now bio
+      ends-loadable machine small =
+          subst (λ (p : List PageRun × Bio). IsLoadable p.0 p.1) (λ i. ((sym rest.most.pages i).now, same-bio i))
+          (loadable-at h at m is.bio callback.items machine small is.at)
 
       pub ends-room : (count : ℕ) → ((x : KeptMap) → get h.maps.map m ≡ Some x → count ≡ x.need) →
           (y : LaneMap) → get (ideal_of k).maps m ≡ Some y →
-          HasRoomForAny (limits_of (ideal_of k) y) (buffer_chunks (ideal_of k) y b.va.0 b.len) count room
+          HasRoomForAny (limits_of (ideal_of k) y) (bio_chunks (ideal_of k) y bio) count room
       ends-room count need y there =
           let at_hand = taken-there h k m o kept.1 load (maps o kept.1) rest in
           let same : idle ≡ y = cc in
-          subst (λ (p : LaneState × LaneMap × Buffer × ℕ). HasRoomForAny (limits_of p.0 p.1)
-          (buffer_chunks p.0 p.1 p.2.va.0 p.2.len) p.3 room)
-          (λ i. (sym now i, same i, sym buffer i, sym (need o kept.1) i)) (is.fits (map_of o) o.need image waits)
+          subst (λ (p : LaneState × LaneMap × Bio × ℕ). HasRoomForAny (limits_of p.0 p.1)
+          (bio_chunks p.0 p.1 p.2) p.3 room)
+          (λ i. (sym now i, same i, same-bio i, sym (need o kept.1) i)) (is.fits (map_of o) o.need image waits)
 
-      pub ends-prepared : get k.loans.prepared m ≡ Some (new_loan (is_coherent (get (ideal_of k).mems m))
-          (entries_addresses (buffer_entries (ideal_of k) b.va.0 b.len)))
+      pub ends-prepared : get k.loans.prepared m ≡ Some (load_loan (ideal_of k) m bio)
       ends-prepared =
           ap (λ t. get t.prepared m) rest.most.loans ∙ is.prepared
-          ∙ sym (λ i. Some (new_loan (is_coherent (get (now i).mems m))
-          (entries_addresses (buffer_entries (now i) (buffer i).va.0 (buffer i).len))))
+          ∙ sym (λ i. Some (load_loan (now i) m (sym same-bio i)))
 
       module _ (n : Holdings) (a : Answer) (pages : List ℕ) (done : (y : LaneMap) (x : Asked) →
-          get (ideal_of k).maps m ≡ Some y → x.entries ≡ buffer_entries (ideal_of k) b.va.0 b.len →
-          x.items ≡ callback.items →
-          given n a ≡ finished m y at x (buffer_chunks (ideal_of k) y b.va.0 b.len) pages (ideal_of k)) where
+          get (ideal_of k).maps m ≡ Some y → x.entries ≡ load_entries (ideal_of k) bio → x.items ≡ callback.items →
+          given n a ≡ finished m y at x (bio_chunks (ideal_of k) y bio) pages (ideal_of k)) where
         abbrev asks : Asked
         asks = asked_at at l
 
-        entries-are : asks.entries ≡ buffer_entries l is.va.0 is.len
-        entries-are = ap (λ (x : Asked). x.entries) (asked-is l at m is.va is.len is.flags callback.items is.load)
+        asks-is : asks ≡ asked m is.bio (never_waits is.at.buffer is.at.flags) callback.items l
+        asks-is = asked-is l at m is.at.buffer is.bio is.at.flags callback.items is.at.load is.at.bytes
+
+        entries-are : asks.entries ≡ load_entries l is.bio
+        entries-are = ap (λ (x : Asked). x.entries) asks-is
 
         no-memory : contains_key l.mems m ≡ false
         no-memory = ap is_some (image-none memory_of h.memories.map m is.own)
@@ -156,10 +161,10 @@ module _ (h k : Holdings) (m at : ℕ) (callback : Transfers) (room : LoadRoom)
             (chunks_for l (map_of o) (contains_key l.mems m) asks.entries) pages l
         ended =
             done idle asks (taken-there h k m o kept.1 load (maps o kept.1) rest)
-            (entries-are ∙ sym (λ i. buffer_entries (now i) (buffer i).va.0 (buffer i).len))
-            (ap (λ (x : Asked). x.items) (asked-is l at m is.va is.len is.flags callback.items is.load))
-            ∙ (λ i. finished m idle at asks (buffer_chunks (now i) idle (buffer i).va.0 (buffer i).len) pages (now i))
-            ∙ finished-free l m (map_of o) at asks (buffer_chunks l (map_of o) is.va.0 is.len) pages
+            (entries-are ∙ sym (λ i. load_entries (now i) (sym same-bio i)))
+            (ap (λ (x : Asked). x.items) asks-is)
+            ∙ (λ i. finished m idle at asks (bio_chunks (now i) idle (sym same-bio i)) pages (now i))
+            ∙ finished-free l m (map_of o) at asks (bio_chunks l (map_of o) is.bio) pages
             ∙ (λ i. finished m (map_of o) at asks
             (chunks_for l (map_of o) (sym no-memory i) (sym entries-are i)) pages l)
 

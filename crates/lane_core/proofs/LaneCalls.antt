@@ -138,6 +138,7 @@ module _ (h k : Holdings) (wired : IsWired h) (x : Answer) where
       pages = wired.machine.pages;
       mems = wired.machine.mems;
       tags = wired.machine.tags;
+      bios = wired.machine.bios;
     }
 
     called-on : IsCalledOn h k

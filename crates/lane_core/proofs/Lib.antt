@@ -5,7 +5,6 @@ mod AwaitedMaps
 mod AwaitingStays
 mod AwaitingSteps
 mod Bouncing
-mod BufferBytes
 mod Bytes
 mod CallbackTurns
 mod Called
@@ -32,7 +31,9 @@ mod LaneCalls
 mod Lenders
 mod Loaded
 mod LoadJudged
+mod LoadsAt
 mod LoadSteps
+mod LoadStreams
 mod Lying
 mod MadeTurns
 mod MapSteps

@@ -1,5 +1,5 @@
 -- The ideal memory of a driver that opens.
-use Rattle.std.proofs.Common.{◌≡◌, ℕ, Bool, true, false, cond, List, [], Option, Some, None}
+use Rattle.std.proofs.Common.{◌≡◌, ℕ, ◌*◌, ◌/◌, Bool, true, false, cond, List, [], Option, Some, None}
 use Rattle.std.proofs.Common.{is_some, not, refl, ap, sym, ◌∙◌, arith}
 use Rattle.std.specs.FinMap.{FinMap, empty, entries, get, get-empty}
 use Rattle.std.specs.List.{list_any}
@@ -8,21 +8,21 @@ use Rattle.busdma_base.specs.declared.scenarios.scenario.PageRun.{PageRun}
 use Rattle.busdma_base.specs.Machine.PageRuns.{is_own, physical_in}
 use Rattle.lane_tables.specs.declared.queued.QueuedPage.{QueuedPage}
 use Rattle.loan_table.specs.Loans.{Loans}
-use Rattle.phys_memory.specs.Memory.{Memory, wire}
+use Rattle.phys_memory.specs.Memory.{Memory, has_frame, wire}
 use Rattle.ideal_lane.specs.IdealMemory.{Known}
 use Rattle.ideal_lane.specs.Opening.{zeros}
 use Rattle.ideal_lane.specs.Places.{is_in_memory, physical_of}
 use Rattle.ideal_lane.proofs.Weights.{weigh-empty}
 use Rattle.lane_core.specs.declared.kept.KeptMap.{KeptMap}
 use Rattle.lane_core.specs.declared.kept.KeptMemory.{KeptMemory}
-use Rattle.lane_core.specs.Covered.{IsCovered, Reaches, reached_in, has_load, lends_pages, is_returning, is_tried}
-use Rattle.lane_core.specs.Covered.{pages_due}
+use Rattle.lane_core.specs.Covered.{HasFramesOf, IsCovered, Reaches, reached_in, has_load, lends_pages, is_returning}
+use Rattle.lane_core.specs.Covered.{is_tried, pages_due}
 use Rattle.lane_core.specs.Held.{held, content_of, byte_among}
 use Rattle.lane_core.specs.Kept.{Device, memory_of, due_of}
-use Rattle.lane_core.specs.OpeningMemory.{IsOpeningMemory}
+use Rattle.lane_core.specs.OpeningMemory.{IsOpeningMemory, is_one_of}
 use Rattle.lane_core.proofs.MapTables.{AreMaps}
 use Rattle.lane_core.proofs.MapValues.{entries-empty}
-use Rattle.lane_core.proofs.OwnRuns.{AreKnown}
+use Rattle.lane_core.proofs.OwnRuns.{AreKnown, own_frame}
 
 module _ (pages : List PageRun) (bytes : FinMap nat_cmp Bool) (m : Memory) (known : AreKnown pages bytes)
     (opening : IsOpeningMemory pages m) where
@@ -47,6 +47,13 @@ module _ (pages : List PageRun) (bytes : FinMap nat_cmp Bool) (m : Memory) (know
   -- the bytes of the pages are marked, and no others
   pub opens-covered : IsCovered m bytes
   opens-covered a = ap is_some (known a) ∙ some_at (is_own pages a) ∙ sym (opening.frames a)
+
+-- the frames of the pages are in the memory
+pub opens-framed : (pages : List PageRun) (m : Memory) → IsOpeningMemory pages m → HasFramesOf pages m
+opens-framed pages m opening f h =
+    let same : 4096 * f / 4096 ≡ f = omega arith in
+    ap (has_frame m) (sym same) ∙ opening.frames (4096 * f) ∙ own_frame pages (4096 * f)
+    ∙ ap (λ x. list_any (λ r. is_one_of r.frame r.count x) pages) same ∙ h
 
 -- with no memory, the driver reaches what its pages have
 pub opens-reaching : (pages : List PageRun) (memories : FinMap nat_cmp KeptMemory) (m : Memory) → memories ≡ empty →

@@ -6,6 +6,7 @@ use Rattle.std.specs.Ordering.{nat_cmp}
 use Rattle.busdma_base.specs.declared.scenarios.scenario.Driver.{Driver}
 use Rattle.busdma_base.specs.Machine.PageRuns.{is_own}
 use Rattle.busdma_base.specs.Machine.Wire.{with_bytes_of}
+use Rattle.busdma_base.specs.Scenarios.Valid.{LoadsFrom}
 use Rattle.phys_memory.specs.Memory.{wire}
 use Rattle.ideal_lane.specs.Opening.{opening_lane}
 use Rattle.ideal_lane.specs.State.{LaneMemory}
@@ -41,23 +42,25 @@ module _ (id maxmem : ℕ) (driver : Driver) where
   }
 
   opens-in-machine : maxmem ≤ 2 ^ 30 → AllByRecursion (IsOfMachine maxmem) driver.pages →
-      IsInMachine (opening_lane id maxmem driver)
-  opens-in-machine numbered inside = record {
+      AllByRecursion (LoadsFrom driver.pages) driver.script → IsInMachine (opening_lane id maxmem driver)
+  opens-in-machine numbered inside bios = record {
     numbered = numbered;
     pages = inside;
     mems = λ k x h. no-memory k x h;
     tags = λ k t h. (let none : None ≡ Some t = sym (get-empty nat_cmp k) ∙ h in absurd (cc));
+    bios = bios;
   }
 
   pub opens-wired : (h : Holdings) → ideal_of h ≡ opening_lane id maxmem driver → h.maps.map ≡ empty →
       ((a : ℕ) → is_own driver.pages a ≡ true → wire h.memory.memory a ≡ 0) → maxmem ≤ 2 ^ 30 →
-      AllByRecursion (IsOfMachine maxmem) driver.pages → IsWired h
-  opens-wired h is mapless zeros numbered inside =
+      AllByRecursion (IsOfMachine maxmem) driver.pages → AllByRecursion (LoadsFrom driver.pages) driver.script →
+      IsWired h
+  opens-wired h is mapless zeros numbered inside bios =
       let none : held_pages h.maps.map ≡ [] =
       ap held_pages mapless ∙ ap (flat_map (λ (e : ℕ × KeptMap). (device_of (Some e.1)).pages)) entries-empty in
       let back : opening_lane id maxmem driver ≡ ideal_of h = sym is in
       record {
-        machine = subst IsInMachine back (opens-in-machine numbered inside);
+        machine = subst IsInMachine back (opens-in-machine numbered inside bios);
         laid = subst AreLaid back (opens-laid id maxmem driver);
         apart = subst IsApart back opens-apart;
         faithful = subst (λ l. IsFaithful l (wire_of h)) back

@@ -1,18 +1,20 @@
 -- What an operation is that makes no call, and one that changes no byte.
-use Rattle.std.proofs.Common.{◌≡◌, ℕ, List, inl, inr, false, None, ap, sym, ◌∙◌}
+use Rattle.std.proofs.Common.{◌≡◌, ℕ, Bool, List, Option, inl, inr, false, None, Some, ap, sym, ◌∙◌}
 use Rattle.std.specs.FinMap.{FinMap, get}
 use Rattle.std.specs.Ordering.{nat_cmp}
 use Rattle.busdma_base.specs.declared.journals.answer.Answer.{Answer}
+use Rattle.busdma_base.specs.declared.machine.bio.Bio.{Bio}
+use Rattle.busdma_base.specs.declared.scenarios.buffer.Buffer.{Buffer}
 use Rattle.busdma_base.specs.declared.scenarios.script.Item.{Item}
 use Rattle.busdma_base.specs.declared.scenarios.script.Op.{Op}
 use Rattle.busdma_base.specs.declared.scenarios.script.Op.TheVariants as op
-use Rattle.busdma_base.specs.declared.scenarios.script.Place.{Place}
-use Rattle.busdma_base.specs.declared.scenarios.script.Place.TheVariants.{At}
 use Rattle.busdma_base.specs.Bounce.Door.{Seen}
 use Rattle.ideal_lane.specs.Asking.{Gives}
-use Rattle.ideal_lane.specs.Turns.{operation}
+use Rattle.ideal_lane.specs.Loads.{asked, load}
+use Rattle.ideal_lane.specs.Outcomes.{unless_absent}
+use Rattle.ideal_lane.specs.State.{LaneState}
+use Rattle.ideal_lane.specs.Turns.{bio_at, never_waits, operation}
 use Rattle.ideal_wire.specs.WireStep as wires
-use Rattle.lane_core.specs.declared.buffers.Buffer.{Buffer}
 use Rattle.lane_core.specs.declared.holdings.Answered.{Answered}
 use Rattle.lane_core.specs.declared.holdings.Holdings.{Holdings}
 use Rattle.lane_core.specs.Changes.{IsWireOf, KeepsWhatStays}
@@ -52,7 +54,11 @@ module _ (h k : Holdings) (o p : Op) (same : o ≡ p) where
       IsWireOf h k (wires.operation o (ideal_of h) (wire_of h))
   done-wire is = inl (is ∙ ap (λ q. wires.operation q (ideal_of h) (wire_of h)) (sym same))
 
--- a load of the bytes from a place on
-pub load_here : (o : Op) (m : ℕ) (place : Place) (len flags : ℕ) (items : List Item) (b : Buffer) →
-    o ≡ op.Load m place len flags items → At b.va ≡ place → b.len ≡ len → o ≡ op.Load m (At b.va) b.len flags items
-load_here o m place len flags items b is p l = is ∙ (λ i. op.Load m (sym p i) (sym l i) flags items)
+-- a load of the bytes of a buffer
+pub load-named : (l : LaneState) (o : Op) (m : ℕ) (x : Buffer) (flags : ℕ) (items : List Item) (b : Bio) (nowait : Bool) →
+    o ≡ op.Load m x flags items → bio_at l x ≡ Some b → nowait ≡ never_waits x flags →
+    operation o l ≡ load m (asked m b nowait items l) l
+load-named l o m x flags items b nowait is bytes waits =
+    ap (λ q. operation q l) is
+    ∙ ap (λ (c : Option Bio). unless_absent c l (λ d. load m (asked m d (never_waits x flags) items l) l)) bytes
+    ∙ ap (λ w. load m (asked m b w items l) l) (sym waits)

@@ -5,7 +5,7 @@ use mathlib.Core.HLevel.{is_prop→PathP}
 use Rattle.std.specs.FinMap.{get}
 use Rattle.lane_core.specs.declared.holdings.Holdings.{Holdings}
 use Rattle.lane_core.specs.Changes.{KeepsButAgenda}
-use Rattle.lane_core.specs.Covered.{AreLoaded, AreOwn, AreReturning, IsCovered, Reaches}
+use Rattle.lane_core.specs.Covered.{AreLoaded, AreOwn, AreReturning, HasFramesOf, IsCovered, Reaches}
 use Rattle.lane_core.specs.Covered.{is_tried, lends_pages, pages_due}
 
 pub same-all : (h k : Holdings) → KeepsButAgenda h k → k.agenda ≡ h.agenda → k ≡ h
@@ -25,6 +25,8 @@ same-all h k s agenda = λ i. record {
       h.covered i;
   reaches = is_prop→PathP (λ j. Reaches (s.most.pages j).now (s.most.memories j).map (s.most.memory j).memory) (λ j. hlevel (props))
       k.reaches h.reaches i;
+  framed = is_prop→PathP (λ j. HasFramesOf (s.most.pages j).now (s.most.memory j).memory) (λ j. hlevel (props)) k.framed
+      h.framed i;
   tag_places = is_prop→PathP (λ j. (s.tags j).places ≡ (agenda j).length) (λ j. hlevel (props)) k.tag_places
       h.tag_places i;
   map_places = is_prop→PathP (λ j. (s.maps j).places ≡ (agenda j).length) (λ j. hlevel (props)) k.map_places

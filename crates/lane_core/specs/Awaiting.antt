@@ -6,11 +6,11 @@ use Rattle.std.specs.Option.{option_map}
 use Rattle.std.specs.Ordering.{nat_cmp}
 use Rattle.std.specs.FinMap.{FinMap, get}
 use Rattle.busdma_base.specs.declared.journals.report.Judged.TheVariants.{Fine}
-use Rattle.busdma_base.specs.declared.machine.address.Va.{Va}
+use Rattle.busdma_base.specs.declared.machine.bio.Bio.{Bio}
+use Rattle.busdma_base.specs.declared.scenarios.buffer.Buffer.{Buffer}
 use Rattle.busdma_base.specs.declared.scenarios.script.Item.{Item}
 use Rattle.busdma_base.specs.declared.scenarios.script.Op.{Op}
 use Rattle.busdma_base.specs.declared.scenarios.script.Op.TheVariants.{Load}
-use Rattle.busdma_base.specs.declared.scenarios.script.Place.TheVariants.{At}
 use Rattle.busdma_base.specs.declared.tags.tag.TagLimits.{TagLimits}
 use Rattle.busdma_base.specs.Scenarios.Limits.{buffer_limit, loaded_limit}
 use Rattle.busdma_base.specs.Scenarios.Operations.{loaded_by}
@@ -18,13 +18,13 @@ use Rattle.dma_map.specs.declared.callback.Transfers.{Transfers}
 use Rattle.dma_map.specs.declared.room.LoadRoom.{LoadRoom}
 use Rattle.dma_map.specs.MapView.{waiting_load}
 use Rattle.ideal_lane.specs.Loads.{limits_of, no_limits}
-use Rattle.ideal_lane.specs.Places.{reached}
 use Rattle.ideal_lane.specs.State.{LaneMap, Waiting}
+use Rattle.ideal_lane.specs.Turns.{bio_at}
 use Rattle.lane_core.specs.declared.holdings.Holdings.{Holdings}
 use Rattle.lane_core.specs.declared.kept.KeptMap.{KeptMap}
 use Rattle.lane_core.specs.declared.kept.KeptTag.{KeptTag}
 use Rattle.lane_core.specs.Ideal.{ideal_of}
-use Rattle.lane_core.specs.Loading.{HasRoomForAny, buffer_chunks, buffer_loan}
+use Rattle.lane_core.specs.Loading.{HasRoomForAny, bio_chunks, bio_reached, load_loan}
 
 -- the load of a map that waits: its place in the script, its callback and its room
 abbrev pub kept_load : Option KeptMap → Option (ℕ × Transfers × LoadRoom)
@@ -53,18 +53,23 @@ pub record KeepsReach (h k : Holdings) : Type 0 where
   pub maxmem : k.maxmem ≡ h.maxmem
   pub awaited : (m : ℕ) → awaited_by k.tags.map (get k.maps.map m) ≡ awaited_by h.tags.map (get h.maps.map m)
 
+-- the load of a map with a bio stands at a place of the script and has these items
+pub record IsLoadAt (h : Holdings) (place m : ℕ) (b : Bio) (items : List Item) : Type 0 where
+  pub buffer : Buffer
+  pub flags : ℕ
+  pub load : slice_get h.script.now place ≡ Some (Load m buffer flags items)
+  pub bytes : bio_at (ideal_of h) buffer ≡ Some b
+
 -- the load of a map stands at a place of the script and has these items; the driver reaches its bytes; the room has
 -- space for what its callback makes of them, in whichever pages; and its loan is prepared
 pub record IsAwaiting (h : Holdings) (m load_at : ℕ) (items : List Item) (room : LoadRoom) : Type 0 where
-  pub va : Va
-  pub len : ℕ
-  pub flags : ℕ
-  pub load : slice_get h.script.now load_at ≡ Some (Load m (At va) len flags items)
+  pub bio : Bio
+  pub at : IsLoadAt h load_at m bio items
   pub own : get h.memories.map m ≡ None
-  pub reached : reached (ideal_of h) va.0 len ≡ Fine
+  pub reached : bio_reached (ideal_of h) bio ≡ Fine
   pub fits : (o : LaneMap) (need : ℕ) → get (ideal_of h).maps m ≡ Some o → o.stage ≡ Waiting load_at need →
-      HasRoomForAny (limits_of (ideal_of h) o) (buffer_chunks (ideal_of h) o va.0 len) need room
-  pub prepared : get h.loans.prepared m ≡ Some (buffer_loan (ideal_of h) m va.0 len)
+      HasRoomForAny (limits_of (ideal_of h) o) (bio_chunks (ideal_of h) o bio) need room
+  pub prepared : get h.loans.prepared m ≡ Some (load_loan (ideal_of h) m bio)
 
 -- each load that waits has what its callback takes, and a loan is prepared for no other map
 pub record AreAwaiting (h : Holdings) : Type 0 where
@@ -79,10 +84,9 @@ pub record AreAwaitingBut (one : ℕ) (h : Holdings) : Type 0 where
   pub prepared : (m : ℕ) → (m == one) ≡ false → kept_load (get h.maps.map m) ≡ None →
       get h.loans.prepared m ≡ None
 
--- the next operation loads a map with the bytes of a buffer, and its load has these items
-pub record IsNextLoad (h : Holdings) (m : ℕ) (va : Va) (len : ℕ) (items : List Item) : Type 0 where
-  pub flags : ℕ
-  pub load : slice_get h.script.now h.agenda.place ≡ Some (Load m (At va) len flags items)
+-- the next operation loads a map with a bio, and its load has these items
+abbrev pub IsNextLoad : Holdings → ℕ → Bio → List Item → Type 0
+IsNextLoad h m b items = IsLoadAt h h.agenda.place m b items
 
 -- how many bytes the operations from a place on load
 abbrev pub bytes_ahead : ℕ → List Op → ℕ

@@ -8,6 +8,7 @@ use Rattle.std.specs.FinMap.{FinMap, get, contains_key, entries}
 use Rattle.busdma_base.specs.declared.scenarios.scenario.PageRun.{PageRun}
 use Rattle.busdma_base.specs.declared.scenarios.script.Op.{Op}
 use Rattle.busdma_base.specs.Machine.PageRuns.{physical_in}
+use Rattle.busdma_base.specs.Machine.PageRuns as pages
 use Rattle.busdma_base.specs.Scenarios.Operations.{items_of}
 use Rattle.dma_map.specs.declared.callback.Transfers.{Transfers}
 use Rattle.dma_map.specs.MapView as held
@@ -25,6 +26,10 @@ use Rattle.lane_core.specs.Kept as kept
 -- the bytes that are marked as Known or not are those of the lane's frames
 abbrev pub IsCovered : Memory → FinMap nat_cmp Bool → Type 0
 IsCovered m bytes = (a : ℕ) → contains_key bytes a ≡ has_frame m (a / 4096)
+
+-- the frames of pages are those of the memory, beside others
+abbrev pub HasFramesOf : List PageRun → Memory → Type 0
+HasFramesOf runs m = (f : ℕ) → pages.has_frame runs f ≡ true → has_frame m f ≡ true
 
 -- where the byte at a virtual address lies that pages have there, or else memories
 abbrev pub reached_in : Option ℕ → FinMap nat_cmp KeptMemory → ℕ → Option ℕ

@@ -6,8 +6,10 @@ use Rattle.busdma_base.specs.declared.journals.report.Judged.{Judged}
 use Rattle.busdma_base.specs.declared.journals.report.Judged.TheVariants.{Fine, Refused}
 use Rattle.busdma_base.specs.declared.journals.report.ReportName.{ReportName}
 use Rattle.busdma_base.specs.declared.journals.report.ReportName.TheVariants.{ForeignMemory, Unmapped}
+use Rattle.busdma_base.specs.declared.machine.bio.Bio.{Bio}
 use Rattle.busdma_base.specs.Journals.Judging.{judged}
-use Rattle.ideal_lane.specs.Loads.{is_foreign_to}
+use Rattle.busdma_base.specs.Machine.Spans.{bio_spans, span_addresses}
+use Rattle.ideal_lane.specs.Loads.{is_foreign_in, is_foreign_to}
 use Rattle.ideal_lane.specs.Places.{begin_of}
 use Rattle.ideal_lane.specs.State.{LaneState, LaneMemory}
 
@@ -25,15 +27,21 @@ foreign_refusal foreign = if foreign then Some ForeignMemory else None
 abbrev pub foreign_at : ℕ → Judged
 foreign_at at = Refused (record { name = ForeignMemory; at = at })
 
--- the first byte of a load of a map that is memory and not the map's
-abbrev pub foreign_judged : LaneState → ℕ → List ℕ → Judged
-foreign_judged l m vas =
-    judged (λ b. foreign_refusal (is_foreign_to (get l.mems m) l b.0 b.1)) 0 (enumerate_from 0 vas)
+-- the first byte of a load of a map with a bio that is memory and not the map's
+abbrev pub foreign_judged : LaneState → ℕ → Bio → Judged
+foreign_judged l m b =
+    judged (λ x. foreign_refusal (is_foreign_in b (get l.mems m) l x.0 x.1)) 0
+    (enumerate_from 0 (span_addresses (bio_spans b)))
 
--- the first byte that is not this memory's at its place
-abbrev pub own_judged : LaneMemory → List ℕ → Judged
-own_judged x vas =
-    judged (λ b. foreign_refusal (not (b.1 == begin_of x + b.0 && nat_lt b.0 x.len))) 0 (enumerate_from 0 vas)
+-- the first of virtual bytes that is so, where the first of them stands at an offset of the load
+abbrev pub foreign_bytes : LaneState → ℕ → ℕ → List ℕ → Judged
+foreign_bytes l m offset vas =
+    judged (λ x. foreign_refusal (is_foreign_to (get l.mems m) l x.0 x.1)) offset (enumerate_from offset vas)
+
+-- the first of them that is not this memory's at its place
+abbrev pub own_judged : LaneMemory → ℕ → List ℕ → Judged
+own_judged x offset vas =
+    judged (λ b. foreign_refusal (not (b.1 == begin_of x + b.0 && nat_lt b.0 x.len))) offset (enumerate_from offset vas)
 
 -- the byte cannot be reached at which a stream ends so
 abbrev pub unmapped_judged : Option ℕ → Judged

@@ -1,26 +1,36 @@
--- What a load has made ready before it changes its driver, and what is built of its bytes.
-use Rattle.std.specs.Prelude.{◌≡◌, ℕ, ◌≤◌, ◌<◌, Bool, true, false, List, [], length, min, Some}
+-- What a load names, what it has made ready before it changes its driver, and what is built of its bytes.
+use Rattle.std.specs.Prelude.{◌≡◌, ℕ, ◌≤◌, ◌<◌, ◌^◌, Bool, true, false, List, [], ◌∷◌, length, min, Some}
 use Rattle.std.specs.FinMap.{get}
 use Rattle.std.specs.List.{AllByRecursion}
 use Rattle.busdma_base.specs.declared.bounce.door.Grabbed.{Grabbed}
 use Rattle.busdma_base.specs.declared.bounce.door.Grabbed.TheVariants.{Granted, Queued, NoPages}
+use Rattle.busdma_base.specs.declared.journals.report.Judged.{Judged}
+use Rattle.busdma_base.specs.declared.machine.address.Extent.{Extent}
 use Rattle.busdma_base.specs.declared.machine.address.Pa.{Pa}
+use Rattle.busdma_base.specs.declared.machine.bio.Bio.{Bio}
+use Rattle.busdma_base.specs.declared.machine.bio.Bio.TheVariants as bio
 use Rattle.busdma_base.specs.declared.machine.chunk.Chunk.{Chunk}
-use Rattle.busdma_base.specs.declared.machine.chunk.Entry.{Entry}
+use Rattle.busdma_base.specs.declared.machine.chunk.Part.{Part}
+use Rattle.busdma_base.specs.declared.machine.chunk.Part.TheVariants.{Of, Unmapped}
+use Rattle.busdma_base.specs.declared.scenarios.scenario.PageRun.{PageRun}
 use Rattle.busdma_base.specs.declared.tags.tag.TagLimits.{TagLimits}
 use Rattle.dma_map.specs.declared.room.LoadRoom.{LoadRoom}
 use Rattle.busdma_base.specs.Machine.Entry.{entries_addresses}
+use Rattle.busdma_base.specs.Machine.Spans.{bio_spans, span_bytes}
+use Rattle.busdma_base.specs.Scenarios.Buffers.{IsBioOf}
+use Rattle.load_bio.specs.Bio.{IsBio, bio_stream}
 use Rattle.loan_table.specs.Loans.{Loan, new_loan}
 use Rattle.loan_table.specs.Table.{Table}
-use Rattle.busdma_base.specs.Machine.Spans.{one_span}
-use Rattle.phys_memory.specs.Vector.{entries_of}
+use Rattle.phys_memory.specs.Vector.{judged_spans}
 use Rattle.segment_build.specs.Building.{placed_pieces, tag_placed}
 use Rattle.segment_build.specs.Chunks.{bounced_of, need_of}
 use Rattle.segment_build.specs.Segmentation.{segmentation}
 use Rattle.segment_build.specs.Trace.{IsPage}
-use Rattle.ideal_lane.specs.Loads.{chunks_for, is_coherent}
+use Rattle.ideal_lane.specs.Loads.{chunks_for, is_coherent, load_entries, load_translation}
 use Rattle.ideal_lane.specs.Places.{physical}
 use Rattle.ideal_lane.specs.State.{LaneMap, LaneState}
+use Rattle.lane_core.specs.declared.buffers.LoadBytes.{LoadBytes}
+use Rattle.lane_core.specs.declared.buffers.LoadBytes.TheVariants as bytes
 
 -- a loan that lends nothing is prepared for a map
 pub record HasPrepared (t : Table) (m : ℕ) : Type 0 where
@@ -28,17 +38,44 @@ pub record HasPrepared (t : Table) (m : ℕ) : Type 0 where
   pub bytes : List ℕ
   pub is : get t.prepared m ≡ Some (new_loan coherent bytes)
 
--- the entries of `len` bytes from a virtual address on
-abbrev pub buffer_entries : LaneState → ℕ → ℕ → List Entry
-buffer_entries l va len = entries_of true (physical l) (one_span va len)
+-- the bytes that a load names, as those of a bio
+abbrev pub bio_of : LoadBytes → Bio
+bio_of (bytes.Span span) = bio.Mapped span
+bio_of (bytes.Spans spans) = bio.Vector spans.now
+bio_of (bytes.Frames frames off len) = bio.Unmapped frames.now off len
 
--- the loan of a map that is loaded with these bytes, of which none is lent yet
-abbrev pub buffer_loan : LaneState → ℕ → ℕ → ℕ → Loan
-buffer_loan l m va len = new_loan (is_coherent (get l.mems m)) (entries_addresses (buffer_entries l va len))
+-- how many bytes a bio has
+abbrev pub bio_bytes : Bio → ℕ
+bio_bytes b = span_bytes (bio_spans b)
 
--- the chunks of a load of a map that is not a memory's, with these bytes
-abbrev pub buffer_chunks : LaneState → LaneMap → ℕ → ℕ → List Chunk
-buffer_chunks l o va len = chunks_for l o false (buffer_entries l va len)
+-- a bio of a driver of these pages: it is small, and one that is not mapped begins in its first frame, and is of frames
+-- of the pages
+pub record IsLoadable (pages : List PageRun) (b : Bio) : Type 0 where
+  pub small : bio_bytes b ≤ 2 ^ 20
+  pub bio : IsBio b
+  pub own : IsBioOf pages b
+
+-- the first byte of a bio that the driver does not reach
+abbrev pub bio_reached : LaneState → Bio → Judged
+bio_reached l b = judged_spans (load_translation l b) 0 (bio_spans b)
+
+-- the stream of a load
+abbrev pub load_stream : LaneState → Bio → List Part
+load_stream l b = bio_stream (physical l) b
+
+-- the extents of a stream, in order
+abbrev pub stream_extents : List Part → List Extent
+stream_extents [] = []
+stream_extents (Of e opens rounded ∷ ps) = e ∷ stream_extents ps
+stream_extents (Unmapped at ∷ ps) = stream_extents ps
+
+-- the loan of a map that is loaded with a bio, of which no byte is lent yet
+abbrev pub load_loan : LaneState → ℕ → Bio → Loan
+load_loan l m b = new_loan (is_coherent (get l.mems m)) (entries_addresses (load_entries l b))
+
+-- the chunks of a load of a map that is not a memory's, with a bio
+abbrev pub bio_chunks : LaneState → LaneMap → Bio → List Chunk
+bio_chunks l o b = chunks_for l o false (load_entries l b)
 
 -- empty lists have room for the segments of chunks in these pages, for their copy and for the bounced chunks, and the
 -- pages are enough

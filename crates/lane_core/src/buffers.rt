@@ -1,80 +1,170 @@
-//! The bytes of a load: their measure, and the segments that are built of them.
+//! The bytes that a load names: their parts, their measure, and the segments that are built of them.
 
-ghost use Rattle.std.specs.Prelude.{◌≡◌, ◌≤◌, ◌^◌, ◌++◌, ◌+◌, [], length, min, true, false};
+ghost use Rattle.std.specs.Prelude.{◌≡◌, ◌≤◌, ◌^◌, ◌++◌, ◌+◌, [], length, min, true, false, IfOk, Some};
 ghost use Rattle.std.specs.List.{AllByRecursion};
-ghost use Rattle.busdma_base.specs.declared.scenarios.script.Place.TheVariants.{At};
 ghost use Rattle.busdma_base.specs.Bounce.AccountStep.{as_pages};
+ghost use Rattle.busdma_base.specs.Machine.Entry.{IsStream};
 ghost use Rattle.busdma_base.specs.Machine.PageList.{page_addresses};
-ghost use Rattle.phys_memory.specs.Memory.{physical};
-ghost use Rattle.phys_memory.specs.Walk.{flat};
+ghost use Rattle.busdma_base.specs.Runs.{addresses, byte_count};
+ghost use Rattle.dma_tag.specs.LoadFlags.{nowait};
+ghost use Rattle.loan_table.specs.Table.{AreIn};
 ghost use Rattle.segment_build.specs.Building.{placed_pieces};
 ghost use Rattle.segment_build.specs.Chunks.{need_of};
 ghost use Rattle.segment_build.specs.Streams.{IsBuiltFrom, IsMeasured, OverflowsFrom, stream_chunks};
 ghost use Rattle.segment_build.specs.Trace.{IsPage};
+ghost use Rattle.ideal_lane.specs.State.{LaneState};
+ghost use Rattle.ideal_lane.specs.Turns as turns;
+ghost use Rattle.ideal_lane.specs.Turns.{bio_at};
+ghost use Rattle.lane_core.specs.Ideal.{ideal_of};
+ghost use Rattle.lane_core.specs.Loading.{IsLoadable, bio_bytes, bio_of, load_stream, stream_extents};
 
-use busdma_base::{Pa, Page, Place, RoomyList, Segment, SegmentRoom, Va};
+use crate::holdings::Holdings;
+use bitflags::Flags;
+use busdma_base::{
+    Bio, Buffer, Extent, Pa, Page, Part, Place, RoomyList, Segment, SegmentRoom, Span,
+};
 use dma_map::LoadRoom;
-use dma_tag::Tag;
-use phys_memory::LanePages;
+use dma_tag::{LoadFlags, Tag};
+use load_bio::{BioParts, parts_of_frames, parts_of_span, parts_of_spans};
+use load_mbuf::total;
 use segment_build::{Measured, build_into, fronts_ask_no_more, measure};
+use std::alloc::{AllocError, Global};
 
-/// `len` bytes from a virtual address on.
-#[derive(Clone, Copy, Debug, PartialEq, Eq)]
-pub(crate) struct Buffer {
-    pub(crate) va: Va,
-    pub(crate) len: u64,
+/// The bytes that a load names, where its operation has them in the script: those of a span, of spans one behind the
+/// other, or `len` bytes of frames that are not mapped, from `off` in the first on.
+#[derive(Clone, Copy)]
+pub(crate) enum LoadBytes<'s> {
+    Span(Span),
+    Spans(&'s [Span]),
+    Frames {
+        frames: &'s [u64],
+        off: u64,
+        len: u64,
+    },
 }
 
-impl Buffer {
-    /// `len` bytes from a place on.
-    pub(crate) fn at(place: Place, len: u64) -> Buffer
-        ensures place { At result.va ≡ place }
-        ensures len { result.len ≡ len }
+impl<'s> LoadBytes<'s> {
+    /// The bytes of a buffer.
+    pub(crate) fn of(buffer: &'s Buffer) -> LoadBytes<'s>
+        ensures { (l : LaneState) → bio_at l buffer.now ≡ Some (bio_of result) }
     {
-        match place {
-            Place::At(va) => Buffer { va, len },
+        match buffer {
+            Buffer::Flat {
+                place: Place::At(va),
+                len,
+            } => LoadBytes::Span(Span { va: *va, len: *len }),
+            Buffer::Vector(spans) => LoadBytes::Spans(spans.as_slice()),
+            Buffer::Mbuf(chain) => LoadBytes::Spans(chain.as_slice()),
+            Buffer::Bio(bio) => LoadBytes::of_bio(bio),
+        }
+    }
+
+    fn of_bio(bio: &'s Bio) -> LoadBytes<'s>
+        ensures { bio_of result ≡ bio.now }
+    {
+        match bio {
+            Bio::Mapped(span) => LoadBytes::Span(*span),
+            Bio::Vector(spans) => LoadBytes::Spans(spans.as_slice()),
+            Bio::Unmapped { frames, off, len } => LoadBytes::Frames {
+                frames: frames.as_slice(),
+                off: *off,
+                len: *len,
+            },
+        }
+    }
+
+    /// How many they are.
+    pub(crate) fn len(self) -> u64
+        requires { bio_bytes (bio_of self) ≤ 2 ^ 20 }
+        ensures { result ≡ bio_bytes (bio_of self.entry) }
+    {
+        match self {
+            LoadBytes::Span(span) => span.len,
+            LoadBytes::Spans(spans) => total(spans) as u64,
+            LoadBytes::Frames { len, .. } => len,
         }
     }
 }
 
-/// The measure of the load of a buffer, without memory.
-pub(crate) fn measure_buffer(tag: &Tag, maxmem: u64, memory: &LanePages, buffer: Buffer) -> Measured
-    requires { buffer.len ≤ 2 ^ 20 }
-    ensures { IsMeasured tag.now maxmem (flat (physical memory.now.memory) buffer.va.0 buffer.len) result }
+/// Whether the load of a buffer with these flags is refused where it would have to wait.
+pub(crate) fn never_waits(buffer: &Buffer, flags: u32) -> bool
+    ensures { result ≡ turns.never_waits buffer.now flags }
 {
-    measure(tag, maxmem, memory.parts_flat(buffer.va, buffer.len))
+    match buffer {
+        Buffer::Mbuf(_) => true,
+        Buffer::Flat { .. } | Buffer::Vector(_) | Buffer::Bio(_) => is_nowait(flags),
+    }
 }
 
-/// Builds the segments and the bounced chunks of the load of a buffer into its room, in the pages whose addresses stand
+fn is_nowait(flags: u32) -> bool
+    ensures { result ≡ nowait flags }
+{
+    LoadFlags(flags).contains(LoadFlags::NOWAIT)
+}
+
+impl Holdings<'_> {
+    /// The parts of the bytes of a load, in order, up to the first that the driver does not reach.
+    pub(crate) fn parts<'a>(&'a self, bytes: LoadBytes<'a>) -> BioParts<'a>
+        requires { IsLoadable self.now.pages.now (bio_of bytes) }
+        ensures parts { result ≡ load_stream (ideal_of self.now) (bio_of bytes.entry) }
+        ensures stream { IsStream result }
+        ensures there { AreIn self.now.loans.bytes (addresses (stream_extents result)) }
+        ensures total { byte_count (stream_extents result) ≤ 2 ^ 20 }
+    {
+        match bytes {
+            LoadBytes::Span(span) => parts_of_span(&self.memory, span),
+            LoadBytes::Spans(spans) => parts_of_spans(&self.memory, spans),
+            LoadBytes::Frames { frames, off, len } => parts_of_frames(frames, off, len),
+        }
+    }
+}
+
+/// The extents of the parts of a load, in order.
+pub(crate) fn extents_of(alloc: Global, parts: BioParts<'_>) -> Result<Vec<Extent>, AllocError>
+    ensures { IfOk result (λ extents. extents.items ≡ stream_extents parts.entry) }
+{
+    let mut extents = Vec::new(alloc);
+    for part in parts {
+        if let Part::Of { extent, .. } = part {
+            extents.push(extent)?;
+        }
+    }
+    Ok(extents)
+}
+
+/// The measure of the parts of a load, without memory.
+pub(crate) fn measure_parts(tag: &Tag, maxmem: u64, parts: BioParts<'_>) -> Measured
+    requires { IsStream parts }
+    ensures { IsMeasured tag.now maxmem parts.entry result }
+{
+    measure(tag, maxmem, parts)
+}
+
+/// Builds the segments and the bounced chunks of the parts of a load into its room, in the pages whose addresses stand
 /// there, and answers whether the segments are few enough. Where they are not, both lists are empty.
-pub(crate) fn build_buffer(
+pub(crate) fn build_parts(
     tag: &Tag,
     maxmem: u64,
-    memory: &LanePages,
-    buffer: Buffer,
+    parts: BioParts<'_>,
     room: &mut LoadRoom,
 ) -> bool
-    requires small { buffer.len ≤ 2 ^ 20 }
+    requires stream { IsStream parts }
     requires pages { AllByRecursion IsPage room.old.addresses.items }
     requires empty { room.old.list.items ≡ [] }
     requires empty_bounced { room.old.bounced.items ≡ [] }
-    requires paged { let ps = flat (physical memory.now.memory) buffer.va.0 buffer.len in
-        need_of (stream_chunks tag.now maxmem ps) ≤ length room.old.addresses.items }
-    requires fits { let ps = flat (physical memory.now.memory) buffer.va.0 buffer.len in
-        min (length (placed_pieces tag.now (stream_chunks tag.now maxmem ps) room.old.addresses.items))
+    requires paged { need_of (stream_chunks tag.now maxmem parts) ≤ length room.old.addresses.items }
+    requires fits { min
+        (length (placed_pieces tag.now (stream_chunks tag.now maxmem parts) room.old.addresses.items))
         tag.now.nsegments ≤ room.old.list.spare }
-    requires bounced_fit { let ps = flat (physical memory.now.memory) buffer.va.0 buffer.len in
-        need_of (stream_chunks tag.now maxmem ps) ≤ room.old.bounced.spare }
-    ensures few { result ≡ true → IsBuiltFrom tag.now maxmem room.old.addresses.items
-        (flat (physical memory.now.memory) buffer.va.0 buffer.len) room.new.list.items room.new.bounced.items }
-    ensures many { result ≡ false → OverflowsFrom tag.now maxmem room.old.addresses.items
-        (flat (physical memory.now.memory) buffer.va.0 buffer.len) }
+    requires bounced_fit { need_of (stream_chunks tag.now maxmem parts) ≤ room.old.bounced.spare }
+    ensures few { result ≡ true →
+        IsBuiltFrom tag.now maxmem room.old.addresses.items parts.entry room.new.list.items room.new.bounced.items }
+    ensures many { result ≡ false → OverflowsFrom tag.now maxmem room.old.addresses.items parts.entry }
     ensures none { result ≡ false → room.new.list.items ≡ [] }
     ensures shown { room.new.shown ≡ room.old.shown }
 {
     let pages = room.addresses.as_slice();
     fronts_ask_no_more(tag, maxmem, pages);
-    let parts = memory.parts_flat(buffer.va, buffer.len);
     build_into(tag, maxmem, parts, pages, &mut room.list, &mut room.bounced)
 }
 

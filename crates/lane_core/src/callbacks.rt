@@ -3,26 +3,28 @@
 ghost use Rattle.std.specs.Prelude.{◌≡◌, ◌+◌, ◌≤◌, ℕ, List, true, length, Some, slice_get};
 ghost use Rattle.std.specs.FinMap.{get, insert};
 ghost use Rattle.busdma_base.specs.declared.journals.journal.Side.TheVariants as side;
-ghost use Rattle.busdma_base.specs.declared.machine.address.Va.{Va};
+ghost use Rattle.busdma_base.specs.declared.scenarios.buffer.Buffer.{Buffer};
 ghost use Rattle.busdma_base.specs.declared.scenarios.script.Item.{Item};
 ghost use Rattle.busdma_base.specs.declared.scenarios.script.Op.TheVariants.{Load};
-ghost use Rattle.busdma_base.specs.declared.scenarios.script.Place.TheVariants.{At};
 ghost use Rattle.busdma_base.specs.Machine.PageList.{page_addresses};
 ghost use Rattle.dma_map.specs.MapView.{idle};
 ghost use Rattle.ideal_lane.specs.Ahead.{items_ahead};
 ghost use Rattle.ideal_lane.specs.Standing.{Stands};
-ghost use Rattle.ideal_lane.specs.Turns.{called, is_waiting};
+ghost use Rattle.ideal_lane.specs.State.{LaneState};
+ghost use Rattle.ideal_lane.specs.Turns.{bio_at, called, is_waiting};
+ghost use Rattle.ideal_wire.specs.Machine.{IsInMachine};
 ghost use Rattle.lane_core.specs.declared.kept.KeptMap.{KeptMap};
 ghost use Rattle.lane_core.specs.Awaiting.{AreAwaiting, HasSmallLoads, kept_load};
+ghost use Rattle.lane_core.specs.Loading.{bio_of};
 ghost use Rattle.lane_core.specs.Turning.{IsMade, IsReady};
 
-use crate::buffers::Buffer;
+use crate::buffers::LoadBytes;
 use crate::holdings::Holdings;
 use crate::turn::{Turn, stepped};
-use busdma_base::{Answer, Called, Did, HubDoor, Op, PageList, Side, Va};
+use busdma_base::{Answer, Called, Did, HubDoor, PageList, Side};
 use dma_map::{LoadRoom, Transfers};
 
-impl Holdings<'_> {
+impl<'s> Holdings<'s> {
     ghost use Rattle.lane_core.specs.Changes.{KeepsAgenda, KeepsButMaps, KeepsBytesBut};
     ghost use Rattle.lane_core.specs.Ideal.{given, ideal_of};
 
@@ -50,6 +52,7 @@ impl Holdings<'_> {
         requires stands { Stands (ideal_of self.old) }
         requires awaiting { AreAwaiting self.old }
         requires small { HasSmallLoads self.old }
+        requires machine { IsInMachine (ideal_of self.old) }
         requires room { items_ahead (ideal_of self.old) ≤ self.old.agenda.room }
         requires waits { is_waiting (get (ideal_of self.old).maps map) ≡ true }
         requires need { (o : KeptMap) → get self.old.maps.map map ≡ Some o → length pages.items ≡ o.need }
@@ -66,8 +69,8 @@ impl Holdings<'_> {
             return Answer::Done;
         };
         let (load_at, callback, room) = load;
-        let buffer = self.buffer_at(load_at);
-        self.complete_load(map, load_at, buffer, room, pages, callback.items)
+        let bytes = self.bytes_at(load_at);
+        self.complete_load(map, load_at, bytes, room, pages, callback.items)
     }
 
     /// Takes the load of a map that waits out of it, and leaves the map idle.
@@ -84,38 +87,18 @@ impl Holdings<'_> {
         Some(load)
     }
 
-    /// The buffer of the load at a place of the script; one of no byte where no load stands there.
-    fn buffer_at(&self, load_at: u32) -> Buffer
-        ensures { (m : ℕ) (va : Va) (len flags : ℕ) (items : List Item) →
-            slice_get self.now.script.now load_at ≡ Some (Load m (At va) len flags items) →
-            result ≡ record { va = va; len = len } }
+    /// The bytes of the load at a place of the script; none where no load stands there.
+    fn bytes_at(&self, load_at: u32) -> LoadBytes<'s>
+        ensures { (l : LaneState) (m : ℕ) (x : Buffer) (flags : ℕ) (items : List Item) →
+            slice_get self.now.script.now load_at ≡ Some (Load m x flags items) →
+            bio_at l x ≡ Some (bio_of result) }
     {
-        match self.script.get(load_at as usize) {
-            Some(op) => buffer_of(op),
-            None => NO_BYTE,
+        let Some(op) = self.script.get(load_at as usize) else {
+            return LoadBytes::Spans(&[]);
+        };
+        match op.loads() {
+            Some(buffer) => LoadBytes::of(buffer),
+            None => LoadBytes::Spans(&[]),
         }
-    }
-}
-
-/// The buffer of no byte.
-const NO_BYTE: Buffer = Buffer { va: Va(0), len: 0 };
-
-/// The buffer that an operation loads; one of no byte where it loads none.
-fn buffer_of(op: &Op) -> Buffer
-    ensures { (m : ℕ) (va : Va) (len flags : ℕ) (items : List Item) → op.now ≡ Load m (At va) len flags items →
-        result ≡ record { va = va; len = len } }
-{
-    match op {
-        Op::Load { place, len, .. } => Buffer::at(*place, *len),
-        Op::Tag { .. }
-        | Op::TagDestroy { .. }
-        | Op::Map { .. }
-        | Op::MapDestroy { .. }
-        | Op::Unload { .. }
-        | Op::Sync { .. }
-        | Op::SyncRange { .. }
-        | Op::CpuRead { .. }
-        | Op::CpuWrite { .. }
-        | Op::Await { .. } => NO_BYTE,
     }
 }

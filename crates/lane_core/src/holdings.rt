@@ -3,7 +3,7 @@
 ghost use Rattle.std.specs.Prelude.{◌≡◌, ◌≤◌, ℕ, true, false};
 ghost use Rattle.std.specs.FinMap.{get};
 ghost use Rattle.busdma_base.specs.declared.journals.answer.Answer.TheVariants as answer;
-ghost use Rattle.lane_core.specs.Covered.{AreLoaded, AreOwn, AreReturning, IsCovered, Reaches};
+ghost use Rattle.lane_core.specs.Covered.{AreLoaded, AreOwn, AreReturning, HasFramesOf, IsCovered, Reaches};
 ghost use Rattle.lane_core.specs.Covered.{is_tried, lends_pages, pages_due};
 
 use crate::kept::{KeptMap, KeptMemory, KeptShare, KeptTag};
@@ -30,6 +30,7 @@ pub(crate) struct Holdings<'s> {
     pub(crate) shares: Vec<KeptShare>,
     ghost covered: { IsCovered memory.memory loans.bytes },
     ghost reaches: { Reaches pages.now memories.map memory.memory },
+    ghost framed: { HasFramesOf pages.now memory.memory },
     ghost tag_places: { tags.places ≡ agenda.length },
     ghost map_places: { maps.places ≡ agenda.length },
     ghost memory_places: { memories.places ≡ agenda.length },

@@ -1,83 +1,138 @@
 //! What stands in the way of the bytes of a load.
 
-ghost use Rattle.std.specs.Prelude.{◌≡◌, ◌+◌, ◌<◌, ◌^◌};
+ghost use Rattle.std.specs.Prelude.{◌≡◌, ℕ, ◌+◌, ◌<◌, ◌≤◌, ◌^◌, is_some};
+ghost use Rattle.std.specs.FinMap.{get};
+ghost use Rattle.std.specs.List.{enumerate_from};
 ghost use Rattle.busdma_base.specs.Journals.Judging.{judged};
 ghost use Rattle.busdma_base.specs.Machine.Entry.{unmapped_of};
+ghost use Rattle.busdma_base.specs.Machine.Spans.{span_addresses, span_bytes};
 ghost use Rattle.busdma_base.specs.Runs.{run_of};
 ghost use Rattle.dmamem.specs.Memory.{virtual_of};
 ghost use Rattle.ideal_lane.specs.Loads.{load_judged};
 ghost use Rattle.ideal_lane.specs.Places.{is_in_memory, is_memory_byte};
-ghost use Rattle.lane_core.specs.Judging.{earlier, foreign_at, foreign_judged, foreign_refusal, own_judged};
-ghost use Rattle.lane_core.specs.Judging.{unmapped_judged};
+ghost use Rattle.lane_core.specs.Judging.{earlier, foreign_at, foreign_bytes, foreign_judged, foreign_refusal};
+ghost use Rattle.lane_core.specs.Judging.{own_judged, unmapped_judged};
 ghost use Rattle.lane_core.specs.Kept.{memory_of};
+ghost use Rattle.lane_core.specs.Loading.{IsLoadable, bio_bytes, bio_of};
 
+use crate::buffers::LoadBytes;
 use crate::holdings::Holdings;
 use crate::kept::KeptMemory;
-use busdma_base::{Judged, Pa, Part, Report, ReportName, Va};
+use busdma_base::{Judged, Pa, Part, Report, ReportName, Span};
 use dmamem::va_of;
-use phys_memory::FlatParts;
+use load_bio::BioParts;
 
 impl Holdings<'_> {
     ghost use Rattle.lane_core.specs.Ideal.{ideal_of};
 
-    /// What stands in the way of a load of a map with `len` bytes from a virtual address on, at the first such byte:
-    /// the driver does not reach it, or it is memory that is not the map's.
-    pub(crate) fn judge_load(&self, map: u32, va: Va, len: u64) -> Judged
-        ensures { result ≡ load_judged (ideal_of self.now) map (run_of va.0 len) }
+    /// What stands in the way of a load of a map, at the first such byte: the driver does not reach it, or it is memory
+    /// that is not the map's.
+    pub(crate) fn judge_load(&self, map: u32, bytes: LoadBytes<'_>) -> Judged
+        requires { IsLoadable self.now.pages.now (bio_of bytes) }
+        ensures { result ≡ load_judged (ideal_of self.now) map (bio_of bytes.entry) }
     {
-        let unreached = judge_parts(self.memory.parts_flat(va, len));
-        let foreign = self.judge_memory(map, va, len);
+        let unreached = judge_parts(self.parts(bytes));
+        let foreign = self.judge_memory(map, bytes);
         earlier(unreached, foreign)
     }
 
     /// The first byte of memory that is not the map's.
-    fn judge_memory(&self, map: u32, va: Va, len: u64) -> Judged
-        ensures { result ≡ foreign_judged (ideal_of self.now) map (run_of va.0 len) }
+    fn judge_memory(&self, map: u32, bytes: LoadBytes<'_>) -> Judged
+        requires { bio_bytes (bio_of bytes) ≤ 2 ^ 20 }
+        ensures { result ≡ foreign_judged (ideal_of self.now) map (bio_of bytes.entry) }
     {
-        match self.memories.get(map) {
-            None => self.judge_shared(va, len),
-            Some(kept) => judge_own(kept, va, len),
+        match bytes {
+            LoadBytes::Span(span) => self.judge_span(map, span, 0),
+            LoadBytes::Spans(spans) => self.judge_spans(map, spans),
+            LoadBytes::Frames { off, len, .. } => self.judge_frames(map, off, len),
         }
     }
 
-    /// The first byte of a memory.
-    fn judge_shared(&self, va: Va, len: u64) -> Judged
-        ensures { result ≡ judged (λ v. foreign_refusal (is_memory_byte (ideal_of self.now) v)) 0 (run_of va.0 len) }
+    /// The first byte of spans that is memory and not the map's.
+    fn judge_spans(&self, map: u32, spans: &[Span]) -> Judged
+        requires { span_bytes spans.now < 2 ^ 64 }
+        ensures { result ≡ foreign_bytes (ideal_of self.now) map 0 (span_addresses spans.now) }
+    {
+        let mut offset = 0;
+        for span in spans {
+            let foreign = self.judge_span(map, *span, offset);
+            if let Judged::Refused(_) = foreign {
+                return foreign;
+            }
+            offset += span.len;
+        }
+        Judged::Fine
+    }
+
+    /// The first such byte of a span, of which the first stands at an offset of the load.
+    fn judge_span(&self, map: u32, span: Span, offset: u64) -> Judged
+        requires { offset + span.len < 2 ^ 64 }
+        ensures { result ≡ foreign_bytes (ideal_of self.now) map offset (run_of span.va.0 span.len) }
+    {
+        match self.memories.get(map) {
+            None => self.judge_shared(span, offset),
+            Some(kept) => judge_own(kept, span, offset),
+        }
+    }
+
+    /// The first of `len` bytes of frames, which are no memory's.
+    fn judge_frames(&self, map: u32, off: u64, len: u64) -> Judged
+        ensures { result ≡ judged (λ (x : ℕ × ℕ). foreign_refusal (is_some (get (ideal_of self.now).mems map))) 0
+            (enumerate_from 0 (run_of off len)) }
+    {
+        let Some(_) = self.memories.get(map) else {
+            return Judged::Fine;
+        };
+        if len == 0 {
+            return Judged::Fine;
+        }
+        foreign(0)
+    }
+
+    /// The first byte of a memory in a span, of which the first stands at an offset of the load.
+    fn judge_shared(&self, span: Span, offset: u64) -> Judged
+        requires { offset + span.len < 2 ^ 64 }
+        ensures { result ≡ judged (λ v. foreign_refusal (is_memory_byte (ideal_of self.now) v)) offset
+            (run_of span.va.0 span.len) }
     {
         let mut first = Judged::Fine;
         for (_, kept) in self.memories.iter() {
-            first = earlier(first, judge_inside(kept, va, len));
+            first = earlier(first, judge_inside(kept, span, offset));
         }
         first
     }
 }
 
-/// The first byte of one memory.
-fn judge_inside(kept: &KeptMemory, va: Va, len: u64) -> Judged
-    ensures { result ≡ judged (λ v. foreign_refusal (is_in_memory v (memory_of kept.now))) 0 (run_of va.0 len) }
+/// The first byte of one memory in a span, of which the first stands at an offset of the load.
+fn judge_inside(kept: &KeptMemory, span: Span, offset: u64) -> Judged
+    requires { offset + span.len < 2 ^ 64 }
+    ensures { result ≡ judged (λ v. foreign_refusal (is_in_memory v (memory_of kept.now))) offset
+        (run_of span.va.0 span.len) }
 {
     let begin = begin_of(kept.first);
     let end = begin + kept.memory.len as u128;
-    let from = va.0 as u128;
+    let from = span.va.0 as u128;
     let first = begin.max(from);
-    if first < end && first < from + len as u128 {
-        foreign((first - from) as u64)
+    if first < end && first < from + span.len as u128 {
+        foreign(offset + (first - from) as u64)
     } else {
         Judged::Fine
     }
 }
 
-/// The first byte of the load of a memory's map that is not the memory's byte at its place.
-fn judge_own(kept: &KeptMemory, va: Va, len: u64) -> Judged
-    ensures { result ≡ own_judged (memory_of kept.now) (run_of va.0 len) }
+/// The first byte of a span in the load of a memory's map that is not the memory's byte at its place; the span's first
+/// stands at an offset of the load.
+fn judge_own(kept: &KeptMemory, span: Span, offset: u64) -> Judged
+    requires { offset + span.len < 2 ^ 64 }
+    ensures { result ≡ own_judged (memory_of kept.now) offset (run_of span.va.0 span.len) }
 {
-    let own = if va.0 as u128 == begin_of(kept.first) {
-        kept.memory.len
+    let end = if span.va.0 as u128 == begin_of(kept.first) + offset as u128 {
+        kept.memory.len.max(offset)
     } else {
-        0
+        offset
     };
-    if own < len {
-        foreign(own)
+    if end < offset + span.len {
+        foreign(end)
     } else {
         Judged::Fine
     }
@@ -101,7 +156,7 @@ fn foreign(at: u64) -> Judged
 }
 
 /// The byte at which a stream ends that cannot be reached.
-fn judge_parts(parts: FlatParts<'_>) -> Judged
+fn judge_parts(parts: BioParts<'_>) -> Judged
     ensures { result ≡ unmapped_judged (unmapped_of parts.entry) }
 {
     for part in parts {

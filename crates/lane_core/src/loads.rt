@@ -6,48 +6,35 @@ ghost use Rattle.std.specs.FinMap.{get, insert};
 ghost use Rattle.std.specs.List.{AllByRecursion};
 ghost use Rattle.busdma_base.specs.declared.journals.report.Judged.TheVariants.{Fine};
 ghost use Rattle.busdma_base.specs.declared.bounce.hold.HubCall.TheVariants.{Grab};
-ghost use Rattle.busdma_base.specs.declared.scenarios.script.Op.TheVariants.{Load};
-ghost use Rattle.busdma_base.specs.declared.scenarios.script.Place.TheVariants.{At};
 ghost use Rattle.busdma_base.specs.Bounce.AccountStep.{as_pages};
 ghost use Rattle.busdma_base.specs.Bounce.Door.{Allows};
 ghost use Rattle.busdma_base.specs.Machine.PageList.{page_addresses};
-ghost use Rattle.dma_tag.specs.LoadFlags.{nowait};
 ghost use Rattle.segment_build.specs.Trace.{IsPage};
-ghost use Rattle.ideal_lane.specs.Loads.{Asked, finished, granted, limits_of, zone_of};
-ghost use Rattle.ideal_lane.specs.Places.{reached};
+ghost use Rattle.ideal_lane.specs.Loads.{Asked, asked, finished, granted, limits_of, load, load_entries, zone_of};
 ghost use Rattle.ideal_lane.specs.Standing.{Stands};
 ghost use Rattle.ideal_lane.specs.State.{LaneMap, named};
-ghost use Rattle.ideal_lane.specs.Turns.{load_at_place};
 ghost use Rattle.lane_core.specs.Doing.{IsAllowedBy, IsCalled, IsDone, IsUndone, asks};
 ghost use Rattle.lane_core.specs.Covered.{is_idle_map, pages_due};
-ghost use Rattle.lane_core.specs.Loading.{HasRoomForAny, IsFilled, IsOverfull, IsWanted};
-ghost use Rattle.lane_core.specs.Loading.{buffer_chunks, buffer_entries, buffer_loan};
+ghost use Rattle.lane_core.specs.Loading.{HasRoomForAny, IsFilled, IsLoadable, IsOverfull, IsWanted};
+ghost use Rattle.lane_core.specs.Loading.{bio_bytes, bio_chunks, bio_of, bio_reached, load_loan};
 
-use crate::buffers::{Buffer, build_buffer, copy_segments, measure_buffer, write_addresses};
+use crate::buffers::{
+    LoadBytes, build_parts, copy_segments, extents_of, measure_parts, write_addresses,
+};
 use crate::holdings::{Answered, Holdings, report};
-use bitflags::Flags;
 use busdma_base::{
     Answer, ChunkRoom, Errno, HubDoor, ItemList, Judged, Page, PageList, ReportName, RoomyList,
     SegmentRoom, ZoneId,
 };
 use dma_map::{LoadRoom, MapState};
-use dma_tag::LoadFlags;
-use phys_memory::Walked;
 use segment_build::Measured;
 use std::alloc::{AllocError, Global};
 
-/// What the load of a buffer asks: so many bounce pages, and room for so many segments.
+/// What a load asks: so many bounce pages, and room for so many segments.
 #[derive(Clone, Copy, Debug, PartialEq, Eq)]
 struct Wanted {
     need: u32,
     segments: u64,
-}
-
-/// Whether a load with these flags is refused where it would have to wait.
-fn never_waits(flags: u32) -> bool
-    ensures { result ≡ nowait flags }
-{
-    LoadFlags(flags).contains(LoadFlags::NOWAIT)
 }
 
 /// Takes the room of a load, its lists empty.
@@ -74,32 +61,31 @@ impl Holdings<'_> {
     ghost use Rattle.lane_core.specs.Changes.{KeepsAgenda, KeepsBytesBut, KeepsState, KeepsWhatStays};
     ghost use Rattle.lane_core.specs.Ideal.{given, ideal_of};
 
-    /// Loads a map that is not a memory's with a buffer. It takes all its memory before its one call at the door, and
+    /// Loads a map that is not a memory's. It takes all its memory before its one call at the door, and
     /// changes the driver after that.
     pub(crate) fn load<D: HubDoor>(
         &mut self,
         alloc: Global,
         door: &mut D,
         map: u32,
-        buffer: Buffer,
-        flags: u32,
+        bytes: LoadBytes<'_>,
+        nowait: bool,
         items: &ItemList,
     ) -> Result<Answered, AllocError>
         requires stands { Stands (ideal_of self.old) }
         requires own { get self.old.memories.map map ≡ None }
         requires awaiting { AreAwaiting self.old }
-        requires here { slice_get self.old.script.now self.old.agenda.place
-            ≡ Some (Load map (At buffer.va) buffer.len flags items.now) }
-        requires small { buffer.len ≤ 2 ^ 20 }
+        requires next { IsNextLoad self.old map (bio_of bytes) items.now }
+        requires loadable { IsLoadable self.old.pages.now (bio_of bytes) }
         requires few_items { length items.now ≤ self.old.agenda.room }
-        requires few_pages { self.old.agenda.promised + buffer.len < 2 ^ 32 }
+        requires few_pages { self.old.agenda.promised + bio_bytes (bio_of bytes) < 2 ^ 32 }
         requires allowed { IsAllowedBy (D.seen door.old) self.old.id.0
-            (load_at_place map (At buffer.va) buffer.len flags items.now (ideal_of self.old)) }
+            (load map (asked map (bio_of bytes) nowait items.now (ideal_of self.old)) (ideal_of self.old)) }
         ensures done { IfOk result (λ r. IsDone (D.seen door.old) self.old.id.0
-            (load_at_place map (At buffer.va) buffer.len flags items.now (ideal_of self.old))
+            (load map (asked map (bio_of bytes.entry) nowait items.now (ideal_of self.old)) (ideal_of self.old))
             (given self.new r.answer) (D.seen door.new)) }
         ensures held { IfOk result (λ r. r.held ≡ asks
-            (load_at_place map (At buffer.va) buffer.len flags items.now (ideal_of self.old))) }
+            (load map (asked map (bio_of bytes.entry) nowait items.now (ideal_of self.old)) (ideal_of self.old))) }
         ensures err { OnErr result (KeepsState self.old self.new) }
         ensures unpromised { OnErr result (self.new.agenda ≡ self.old.agenda) }
         ensures undone { OnErr result (IsUndone (D.seen door.old) (D.seen door.new)) }
@@ -107,7 +93,7 @@ impl Holdings<'_> {
         ensures bytes { KeepsWhatStays self.old self.new }
         ensures memories { self.new.memories ≡ self.old.memories }
         ensures agenda { KeepsAgenda self.old self.new }
-        ensures promised { self.new.agenda.promised ≤ self.old.agenda.promised + buffer.len }
+        ensures promised { self.new.agenda.promised ≤ self.old.agenda.promised + bio_bytes (bio_of bytes.entry) }
         ensures fixed { D.fixed door.new ≡ D.fixed door.old }
     {
         let Some(kept) = self.maps.get(map) else {
@@ -122,13 +108,13 @@ impl Holdings<'_> {
                 held: false,
             });
         };
-        if let Judged::Refused(refusal) = self.judge_load(map, buffer.va, buffer.len) {
+        if let Judged::Refused(refusal) = self.judge_load(map, bytes) {
             return Ok(Answered {
                 answer: Answer::Report(refusal),
                 held: false,
             });
         }
-        let Some(wanted) = self.measure_load(map, buffer) else {
+        let Some(wanted) = self.measure_load(map, bytes) else {
             self.note_tried(map);
             return Ok(Answered {
                 answer: Answer::Refused(Errno::EINVAL),
@@ -136,40 +122,38 @@ impl Holdings<'_> {
             });
         };
         if wanted.need == 0 {
-            let answer = self.load_direct(alloc, map, buffer, wanted, items)?;
+            let answer = self.load_direct(alloc, map, bytes, wanted, items)?;
             return Ok(Answered {
                 answer,
                 held: false,
             });
         }
-        let nowait = never_waits(flags);
-        let answer = self.load_bounced(alloc, door, map, buffer, wanted, nowait, items)?;
+        let answer = self.load_bounced(alloc, door, map, bytes, wanted, nowait, items)?;
         Ok(Answered { answer, held: true })
     }
 
-    /// What the load of a map with a buffer asks, or None where it is longer than the tag allows.
-    fn measure_load(&self, map: u32, buffer: Buffer) -> Option<Wanted>
+    /// What the load of a map asks, or None where it is longer than the tag allows.
+    fn measure_load(&self, map: u32, bytes: LoadBytes<'_>) -> Option<Wanted>
         requires stands { Stands (ideal_of self.now) }
         requires idle { is_idle_map (get self.now.maps.map map) ≡ true }
-        requires reached { reached (ideal_of self.now) buffer.va.0 buffer.len ≡ Fine }
-        requires small { buffer.len ≤ 2 ^ 20 }
+        requires reached { bio_reached (ideal_of self.now) (bio_of bytes) ≡ Fine }
+        requires loadable { IsLoadable self.now.pages.now (bio_of bytes) }
         ensures long { IfNone result ((o : LaneMap) → get (ideal_of self.now).maps map ≡ Some o →
-            (limits_of (ideal_of self.now) o).maxsize < buffer.len) }
+            (limits_of (ideal_of self.now) o).maxsize < bio_bytes (bio_of bytes.entry)) }
         ensures wanted { IfSome result (λ w. (o : LaneMap) → get (ideal_of self.now).maps map ≡ Some o →
-            IsWanted (limits_of (ideal_of self.now) o) (buffer_chunks (ideal_of self.now) o buffer.va.0 buffer.len)
-            buffer.len w.need w.segments) }
+            IsWanted (limits_of (ideal_of self.now) o) (bio_chunks (ideal_of self.now) o (bio_of bytes.entry))
+            (bio_bytes (bio_of bytes.entry)) w.need w.segments) }
     {
         let kept = self.maps.get(map)?;
         let made = self.tags.get(kept.tag)?;
         let limits = made.tag.limits();
-        if limits.maxsize < buffer.len {
+        if limits.maxsize < bytes.len() {
             return None;
         }
-        let Measured::Fits { need, pieces, .. } = measure_buffer(
+        let Measured::Fits { need, pieces, .. } = measure_parts(
             &made.tag,
             self.maxmem,
-            &self.memory,
-            buffer,
+            self.parts(bytes),
         ) else {
             return None;
         };
@@ -177,20 +161,20 @@ impl Holdings<'_> {
         Some(Wanted { need, segments })
     }
 
-    /// Prepares the loan of a map that is not a memory's, over the bytes of a buffer.
+    /// Prepares the loan of a map that is not a memory's, over the bytes of its load.
     pub(crate) fn prepare_load(
         &mut self,
         alloc: Global,
         map: u32,
-        buffer: Buffer,
+        bytes: LoadBytes<'_>,
     ) -> Result<(), AllocError>
         requires idle { is_idle_map (get self.old.maps.map map) ≡ true }
         requires own { get self.old.memories.map map ≡ None }
         requires unprepared { get self.old.loans.prepared map ≡ None }
-        requires reached { reached (ideal_of self.old) buffer.va.0 buffer.len ≡ Fine }
-        requires small { buffer.len ≤ 2 ^ 20 }
+        requires reached { bio_reached (ideal_of self.old) (bio_of bytes) ≡ Fine }
+        requires loadable { IsLoadable self.old.pages.now (bio_of bytes) }
         ensures prepared { OnOk result (self.new.loans.prepared ≡ insert self.old.loans.prepared map
-            (buffer_loan (ideal_of self.old) map buffer.va.0 buffer.len)) }
+            (load_loan (ideal_of self.old) map (bio_of bytes.entry))) }
         ensures err { OnErr result (self.new.loans.prepared ≡ self.old.loans.prepared) }
         ensures same { KeepsState self.old self.new }
         ensures maps { self.new.maps ≡ self.old.maps }
@@ -198,31 +182,27 @@ impl Holdings<'_> {
         ensures memories { self.new.memories ≡ self.old.memories }
     {
         let id = self.map_id(map);
-        let bytes = match self.memory.translate(alloc, buffer.va, buffer.len)? {
-            Walked::Unmapped(_) => return Ok(()),
-            Walked::Parts(bytes) => bytes,
-        };
-        self.loans.prepare_map(alloc, id, bytes.as_slice(), false)
+        let extents = extents_of(alloc, self.parts(bytes))?;
+        self.loans.prepare_map(alloc, id, &extents, false)
     }
 
-    /// Builds the load of a map with a buffer in these pages into its room, and answers whether the segments are few
-    /// enough.
-    fn build_load(&self, map: u32, buffer: Buffer, pages: &[Page], room: &mut LoadRoom) -> bool
+    /// Builds the load of a map in these pages into its room, and answers whether the segments are few enough.
+    fn build_load(&self, map: u32, bytes: LoadBytes<'_>, pages: &[Page], room: &mut LoadRoom) -> bool
         requires stands { Stands (ideal_of self.now) }
         requires idle { is_idle_map (get self.now.maps.map map) ≡ true }
-        requires reached { reached (ideal_of self.now) buffer.va.0 buffer.len ≡ Fine }
-        requires small { buffer.len ≤ 2 ^ 20 }
+        requires reached { bio_reached (ideal_of self.now) (bio_of bytes) ≡ Fine }
+        requires loadable { IsLoadable self.now.pages.now (bio_of bytes) }
         requires room { (o : LaneMap) → get (ideal_of self.now).maps map ≡ Some o →
             HasRoomForAny (limits_of (ideal_of self.now) o)
-            (buffer_chunks (ideal_of self.now) o buffer.va.0 buffer.len) (length pages.now) room.old }
+            (bio_chunks (ideal_of self.now) o (bio_of bytes)) (length pages.now) room.old }
         ensures at_frames { AllByRecursion IsPage (as_pages (page_addresses pages.now)) }
         ensures few { result ≡ true → (o : LaneMap) → get (ideal_of self.now).maps map ≡ Some o →
             IsFilled (limits_of (ideal_of self.now) o)
-            (buffer_chunks (ideal_of self.now) o buffer.va.0 buffer.len) (as_pages (page_addresses pages.now))
+            (bio_chunks (ideal_of self.now) o (bio_of bytes.entry)) (as_pages (page_addresses pages.now))
             room.new }
         ensures many { result ≡ false → (o : LaneMap) → get (ideal_of self.now).maps map ≡ Some o →
             IsOverfull (limits_of (ideal_of self.now) o)
-            (buffer_chunks (ideal_of self.now) o buffer.va.0 buffer.len) (as_pages (page_addresses pages.now))
+            (bio_chunks (ideal_of self.now) o (bio_of bytes.entry)) (as_pages (page_addresses pages.now))
             room.new }
         ensures shown { room.new.shown ≡ room.old.shown }
     {
@@ -233,7 +213,7 @@ impl Holdings<'_> {
             return false;
         };
         write_addresses(pages, &mut room.addresses);
-        build_buffer(&made.tag, self.maxmem, &self.memory, buffer, room)
+        build_parts(&made.tag, self.maxmem, self.parts(bytes), room)
     }
 
     /// Ends the load of an idle map that has its pages: with its segments, or with EFBIG, and then the pages join the
@@ -242,7 +222,7 @@ impl Holdings<'_> {
         &mut self,
         map: u32,
         load_at: u32,
-        buffer: Buffer,
+        bytes: LoadBytes<'_>,
         mut room: LoadRoom,
         pages: PageList,
         items: ItemList,
@@ -250,19 +230,19 @@ impl Holdings<'_> {
         requires stands { Stands (ideal_of self.old) }
         requires idle { is_idle_map (get self.old.maps.map map) ≡ true }
         requires awaiting { AreAwaitingBut map self.old }
-        requires reached { reached (ideal_of self.old) buffer.va.0 buffer.len ≡ Fine }
-        requires small { buffer.len ≤ 2 ^ 20 }
+        requires reached { bio_reached (ideal_of self.old) (bio_of bytes) ≡ Fine }
+        requires loadable { IsLoadable self.old.pages.now (bio_of bytes) }
         requires room { (o : LaneMap) → get (ideal_of self.old).maps map ≡ Some o →
             HasRoomForAny (limits_of (ideal_of self.old) o)
-            (buffer_chunks (ideal_of self.old) o buffer.va.0 buffer.len) (length pages.items) room }
+            (bio_chunks (ideal_of self.old) o (bio_of bytes)) (length pages.items) room }
         requires prepared { get self.old.loans.prepared map ≡ Some
-            (buffer_loan (ideal_of self.old) map buffer.va.0 buffer.len) }
+            (load_loan (ideal_of self.old) map (bio_of bytes)) }
         requires few_items { length items ≤ self.old.agenda.room }
         requires promised { pages_due self.old.maps.map + length pages.items ≤ self.old.agenda.promised }
         ensures done { (o : LaneMap) (x : Asked) → get (ideal_of self.old).maps map ≡ Some o →
-            x.entries ≡ buffer_entries (ideal_of self.old) buffer.va.0 buffer.len → x.items ≡ items →
+            x.entries ≡ load_entries (ideal_of self.old) (bio_of bytes.entry) → x.items ≡ items →
             given self.new result ≡ finished map o load_at x
-            (buffer_chunks (ideal_of self.old) o buffer.va.0 buffer.len) (page_addresses pages.items)
+            (bio_chunks (ideal_of self.old) o (bio_of bytes.entry)) (page_addresses pages.items)
             (ideal_of self.old) }
         ensures awaiting { AreAwaiting self.new }
         ensures bytes { KeepsBytesBut map self.old self.new }
@@ -270,7 +250,7 @@ impl Holdings<'_> {
         ensures agenda { KeepsAgenda self.old self.new }
         ensures promised { self.new.agenda.promised ≤ self.old.agenda.promised }
     {
-        let few = self.build_load(map, buffer, pages.as_slice(), &mut room);
+        let few = self.build_load(map, bytes, pages.as_slice(), &mut room);
         let LoadRoom {
             list,
             mut shown,
@@ -287,12 +267,12 @@ impl Holdings<'_> {
         Answer::Segments(shown.into_list())
     }
 
-    /// Loads an idle map with a buffer of which no byte is bounced.
+    /// Loads an idle map with bytes of which none is bounced.
     fn load_direct(
         &mut self,
         alloc: Global,
         map: u32,
-        buffer: Buffer,
+        bytes: LoadBytes<'_>,
         wanted: Wanted,
         items: &ItemList,
     ) -> Result<Answer, AllocError>
@@ -300,17 +280,17 @@ impl Holdings<'_> {
         requires idle { is_idle_map (get self.old.maps.map map) ≡ true }
         requires own { get self.old.memories.map map ≡ None }
         requires awaiting { AreAwaiting self.old }
-        requires reached { reached (ideal_of self.old) buffer.va.0 buffer.len ≡ Fine }
-        requires small { buffer.len ≤ 2 ^ 20 }
+        requires reached { bio_reached (ideal_of self.old) (bio_of bytes) ≡ Fine }
+        requires loadable { IsLoadable self.old.pages.now (bio_of bytes) }
         requires wanted { (o : LaneMap) → get (ideal_of self.old).maps map ≡ Some o →
-            IsWanted (limits_of (ideal_of self.old) o) (buffer_chunks (ideal_of self.old) o buffer.va.0 buffer.len)
-            buffer.len wanted.need wanted.segments }
+            IsWanted (limits_of (ideal_of self.old) o) (bio_chunks (ideal_of self.old) o (bio_of bytes))
+            (bio_bytes (bio_of bytes)) wanted.need wanted.segments }
         requires direct { wanted.need ≡ 0 }
         requires few_items { length items.now ≤ self.old.agenda.room }
         ensures done { IfOk result (λ answer. (o : LaneMap) (x : Asked) → get (ideal_of self.old).maps map ≡ Some o →
-            x.entries ≡ buffer_entries (ideal_of self.old) buffer.va.0 buffer.len → x.items ≡ items.now →
+            x.entries ≡ load_entries (ideal_of self.old) (bio_of bytes.entry) → x.items ≡ items.now →
             given self.new answer ≡ finished map o (ideal_of self.old).place x
-            (buffer_chunks (ideal_of self.old) o buffer.va.0 buffer.len) [] (ideal_of self.old)) }
+            (bio_chunks (ideal_of self.old) o (bio_of bytes.entry)) [] (ideal_of self.old)) }
         ensures err { OnErr result (KeepsState self.old self.new) }
         ensures unpromised { OnErr result (self.new.agenda ≡ self.old.agenda) }
         ensures awaiting { AreAwaiting self.new }
@@ -322,18 +302,18 @@ impl Holdings<'_> {
         let room = take_room(alloc, wanted)?;
         let pages = PageList::with_room(alloc, 0)?;
         let items = items.clone()?;
-        self.prepare_load(alloc, map, buffer)?;
+        self.prepare_load(alloc, map, bytes)?;
         let load_at = self.agenda.place();
-        Ok(self.complete_load(map, load_at, buffer, room, pages, items))
+        Ok(self.complete_load(map, load_at, bytes, room, pages, items))
     }
 
-    /// Loads an idle map with a buffer that needs bounce pages.
+    /// Loads an idle map with bytes that need bounce pages.
     fn load_bounced<D: HubDoor>(
         &mut self,
         alloc: Global,
         door: &mut D,
         map: u32,
-        buffer: Buffer,
+        bytes: LoadBytes<'_>,
         wanted: Wanted,
         nowait: bool,
         items: &ItemList,
@@ -342,22 +322,22 @@ impl Holdings<'_> {
         requires idle { is_idle_map (get self.old.maps.map map) ≡ true }
         requires own { get self.old.memories.map map ≡ None }
         requires awaiting { AreAwaiting self.old }
-        requires next { IsNextLoad self.old map buffer.va buffer.len items.now }
-        requires reached { reached (ideal_of self.old) buffer.va.0 buffer.len ≡ Fine }
-        requires small { buffer.len ≤ 2 ^ 20 }
+        requires next { IsNextLoad self.old map (bio_of bytes) items.now }
+        requires reached { bio_reached (ideal_of self.old) (bio_of bytes) ≡ Fine }
+        requires loadable { IsLoadable self.old.pages.now (bio_of bytes) }
         requires wanted { (o : LaneMap) → get (ideal_of self.old).maps map ≡ Some o →
-            IsWanted (limits_of (ideal_of self.old) o) (buffer_chunks (ideal_of self.old) o buffer.va.0 buffer.len)
-            buffer.len wanted.need wanted.segments }
+            IsWanted (limits_of (ideal_of self.old) o) (bio_chunks (ideal_of self.old) o (bio_of bytes))
+            (bio_bytes (bio_of bytes)) wanted.need wanted.segments }
         requires few_items { length items.now ≤ self.old.agenda.room }
         requires few_pages { self.old.agenda.promised + wanted.need < 2 ^ 32 }
         requires allowed { (o : LaneMap) → get (ideal_of self.old).maps map ≡ Some o →
             Allows (D.seen door.old) self.old.id.0
             (Grab (named (ideal_of self.old) map) (record { 0 = zone_of o }) wanted.need nowait) }
         ensures done { IfOk result (λ answer. (o : LaneMap) (x : Asked) → get (ideal_of self.old).maps map ≡ Some o →
-            x.entries ≡ buffer_entries (ideal_of self.old) buffer.va.0 buffer.len → x.items ≡ items.now →
+            x.entries ≡ load_entries (ideal_of self.old) (bio_of bytes.entry) → x.items ≡ items.now →
             IsCalled (D.seen door.old) self.old.id.0
             (Grab (named (ideal_of self.old) map) (record { 0 = zone_of o }) wanted.need nowait)
-            (granted map o x (buffer_chunks (ideal_of self.old) o buffer.va.0 buffer.len) (ideal_of self.old))
+            (granted map o x (bio_chunks (ideal_of self.old) o (bio_of bytes.entry)) (ideal_of self.old))
             (given self.new answer) (D.seen door.new)) }
         ensures err { OnErr result (KeepsState self.old self.new) }
         ensures unpromised { OnErr result (self.new.agenda ≡ self.old.agenda) }
@@ -373,7 +353,7 @@ impl Holdings<'_> {
         let items = items.clone()?;
         let zone = self.zone_of(map);
         let id = self.map_id(map);
-        self.ready_load(alloc, map, buffer, wanted.need)?;
+        self.ready_load(alloc, map, bytes, wanted.need)?;
         let got = match door.grab(alloc, id, zone, wanted.need, nowait) {
             Ok(got) => got,
             Err(error) => {
@@ -381,7 +361,7 @@ impl Holdings<'_> {
                 return Err(error);
             }
         };
-        Ok(self.take_grabbed(map, buffer, wanted.need, room, items, got))
+        Ok(self.take_grabbed(map, bytes, wanted.need, room, items, got))
     }
 
     /// The zone of a map's bounce pages, or zone 0 where it has none.

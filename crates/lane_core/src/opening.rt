@@ -7,6 +7,7 @@ ghost use Rattle.busdma_base.specs.Machine.PageRuns.{pages_end, is_own};
 ghost use Rattle.busdma_base.specs.Scenarios.Limits.{loaded_limit};
 ghost use Rattle.busdma_base.specs.Scenarios.Operations.{loaded_by};
 ghost use Rattle.busdma_base.specs.Scenarios.Script.{IsScript};
+ghost use Rattle.busdma_base.specs.Scenarios.Valid.{LoadsFrom};
 ghost use Rattle.ideal_lane.specs.Opening.{opening_lane};
 ghost use Rattle.ideal_wire.specs.Machine.{IsOfMachine};
 ghost use Rattle.lane_core.specs.LaneIdeal.{ideal};
@@ -36,6 +37,7 @@ impl<'s> Lane<'s> {
         requires numbered { maxmem ≤ 2 ^ 30 }
         requires inside { AllByRecursion (IsOfMachine maxmem) driver.now.pages }
         requires small { sum_by loaded_by driver.now.script ≤ loaded_limit }
+        requires bios { AllByRecursion (LoadsFrom driver.now.pages) driver.now.script }
         ensures { IfOk result (λ lane. ideal lane ≡ opening_lane id.0 maxmem driver.now) }
     {
         let script = driver.script.as_slice();

@@ -7,7 +7,7 @@ ghost use Rattle.ideal_lane.specs.Turns as turns;
 ghost use Rattle.ideal_wire.specs.WireStep as wires;
 ghost use Rattle.lane_core.specs.Doing.{IsAllowedBy, IsDone, IsUndone, asks};
 
-use crate::buffers::Buffer;
+use crate::buffers::{LoadBytes, never_waits};
 use crate::holdings::{Answered, Holdings, unheld};
 use busdma_base::{HubDoor, Op};
 use dma_tag::SyncOps;
@@ -58,13 +58,12 @@ impl Holdings<'_> {
             Op::MapDestroy { map } => Ok(self.destroy_map(door, *map)),
             Op::Load {
                 map,
-                place,
-                len,
+                buffer,
                 flags,
                 then,
             } => {
-                let buffer = Buffer::at(*place, *len);
-                self.load(alloc, door, *map, buffer, *flags, then)
+                let nowait = never_waits(buffer, *flags);
+                self.load(alloc, door, *map, LoadBytes::of(buffer), nowait, then)
             }
             Op::Unload { map } => Ok(unheld(self.unload(*map))),
             Op::Sync { map, ops } => Ok(unheld(self.sync(alloc, *map, SyncOps(*ops))?)),

@@ -6,15 +6,15 @@ ghost use Rattle.std.specs.FinMap.{get, insert, remove};
 ghost use Rattle.busdma_base.specs.declared.journals.report.Judged.TheVariants.{Fine};
 ghost use Rattle.busdma_base.specs.Bounce.Door.{grab_reply};
 ghost use Rattle.loan_table.specs.Table.{IsPrepared};
-ghost use Rattle.ideal_lane.specs.Loads.{Asked, granted, limits_of, staged};
-ghost use Rattle.ideal_lane.specs.Places.{reached};
+ghost use Rattle.ideal_lane.specs.Loads.{Asked, granted, limits_of, load_entries, staged};
 ghost use Rattle.ideal_lane.specs.Standing.{Stands};
 ghost use Rattle.ideal_lane.specs.State.{LaneMap, Waiting};
 ghost use Rattle.lane_core.specs.Awaiting.{kept_load};
 ghost use Rattle.lane_core.specs.Covered.{is_idle_map, pages_due};
-ghost use Rattle.lane_core.specs.Loading.{HasNeed, HasRoomForAny, buffer_chunks, buffer_entries, buffer_loan};
+ghost use Rattle.lane_core.specs.Loading.{HasNeed, HasRoomForAny, IsLoadable, bio_chunks, bio_of, bio_reached};
+ghost use Rattle.lane_core.specs.Loading.{load_loan};
 
-use crate::buffers::Buffer;
+use crate::buffers::LoadBytes;
 use crate::holdings::Holdings;
 use crate::kept::KeptMap;
 use busdma_base::{Answer, Errno, Grabbed, ItemList};
@@ -31,17 +31,17 @@ impl Holdings<'_> {
         &mut self,
         alloc: Global,
         map: u32,
-        buffer: Buffer,
+        bytes: LoadBytes<'_>,
         need: u32,
     ) -> Result<(), AllocError>
         requires idle { is_idle_map (get self.old.maps.map map) ≡ true }
         requires own { get self.old.memories.map map ≡ None }
         requires unprepared { get self.old.loans.prepared map ≡ None }
-        requires reached { reached (ideal_of self.old) buffer.va.0 buffer.len ≡ Fine }
-        requires small { buffer.len ≤ 2 ^ 20 }
+        requires reached { bio_reached (ideal_of self.old) (bio_of bytes) ≡ Fine }
+        requires loadable { IsLoadable self.old.pages.now (bio_of bytes) }
         requires few { self.old.agenda.promised + need < 2 ^ 32 }
         ensures prepared { OnOk result (self.new.loans.prepared ≡ insert self.old.loans.prepared map
-            (buffer_loan (ideal_of self.old) map buffer.va.0 buffer.len)) }
+            (load_loan (ideal_of self.old) map (bio_of bytes.entry))) }
         ensures promised { OnOk result (self.new.agenda
             ≡ record self.old.agenda { promised = self.old.agenda.promised + need }) }
         ensures err { OnErr result (self.new.loans.prepared ≡ self.old.loans.prepared) }
@@ -51,7 +51,7 @@ impl Holdings<'_> {
         ensures memories { self.new.memories ≡ self.old.memories }
     {
         self.agenda.promise(alloc, need)?;
-        let ready = self.prepare_load(alloc, map, buffer);
+        let ready = self.prepare_load(alloc, map, bytes);
         if ready.is_err() {
             self.agenda.unpromise(need);
         }
@@ -116,7 +116,7 @@ impl Holdings<'_> {
     pub(crate) fn take_grabbed(
         &mut self,
         map: u32,
-        buffer: Buffer,
+        bytes: LoadBytes<'_>,
         need: u32,
         room: LoadRoom,
         items: ItemList,
@@ -126,21 +126,21 @@ impl Holdings<'_> {
         requires idle { is_idle_map (get self.old.maps.map map) ≡ true }
         requires own { get self.old.memories.map map ≡ None }
         requires awaiting { AreAwaitingBut map self.old }
-        requires next { IsNextLoad self.old map buffer.va buffer.len items }
-        requires reached { reached (ideal_of self.old) buffer.va.0 buffer.len ≡ Fine }
-        requires small { buffer.len ≤ 2 ^ 20 }
+        requires next { IsNextLoad self.old map (bio_of bytes) items }
+        requires reached { bio_reached (ideal_of self.old) (bio_of bytes) ≡ Fine }
+        requires loadable { IsLoadable self.old.pages.now (bio_of bytes) }
         requires room { (o : LaneMap) → get (ideal_of self.old).maps map ≡ Some o →
             HasRoomForAny (limits_of (ideal_of self.old) o)
-            (buffer_chunks (ideal_of self.old) o buffer.va.0 buffer.len) need room }
+            (bio_chunks (ideal_of self.old) o (bio_of bytes)) need room }
         requires prepared { get self.old.loans.prepared map ≡ Some
-            (buffer_loan (ideal_of self.old) map buffer.va.0 buffer.len) }
+            (load_loan (ideal_of self.old) map (bio_of bytes)) }
         requires few_items { length items ≤ self.old.agenda.room }
         requires promised { pages_due self.old.maps.map + need ≤ self.old.agenda.promised }
         requires granted { HasNeed need got }
         ensures done { (o : LaneMap) (x : Asked) → get (ideal_of self.old).maps map ≡ Some o →
-            x.entries ≡ buffer_entries (ideal_of self.old) buffer.va.0 buffer.len → x.items ≡ items →
+            x.entries ≡ load_entries (ideal_of self.old) (bio_of bytes.entry) → x.items ≡ items →
             given self.new result ≡ granted map o x
-            (buffer_chunks (ideal_of self.old) o buffer.va.0 buffer.len) (ideal_of self.old) (grab_reply got) }
+            (bio_chunks (ideal_of self.old) o (bio_of bytes.entry)) (ideal_of self.old) (grab_reply got) }
         ensures awaiting { AreAwaiting self.new }
         ensures bytes { KeepsBytesBut map self.old self.new }
         ensures memories { self.new.memories ≡ self.old.memories }
@@ -149,7 +149,7 @@ impl Holdings<'_> {
     {
         let load_at = self.agenda.place();
         match got {
-            Grabbed::Granted(pages) => self.complete_load(map, load_at, buffer, room, pages, items),
+            Grabbed::Granted(pages) => self.complete_load(map, load_at, bytes, room, pages, items),
             Grabbed::Queued(have) => {
                 self.wait_load(map, load_at, need, items, room);
                 Answer::InProgress { have, need }

@@ -16,7 +16,7 @@ use Rattle.busdma_base.specs.Machine.PageRuns.{IsPageRun}
 use Rattle.busdma_base.specs.Scenarios.Limits.{loaded_limit}
 use Rattle.busdma_base.specs.Scenarios.Operations.{loaded_by}
 use Rattle.busdma_base.specs.Scenarios.Script.{IsScript}
-use Rattle.busdma_base.specs.Scenarios.Valid.{IsDriver, IsValid, loaded_of}
+use Rattle.busdma_base.specs.Scenarios.Valid.{IsDriver, IsValid, LoadsFrom, loaded_of}
 use Rattle.bounce_hub.specs.Seen.{HubSeen}
 use Rattle.lane_core.specs.declared.lane.Lane.{Lane}
 use Rattle.lane_core.specs.LaneIdeal.{ideal}
@@ -79,6 +79,7 @@ pub record MayOpen (maxmem : ℕ) (d : Driver) : Type 0 where
   pub numbered : maxmem ≤ 2 ^ 30
   pub inside : AllByRecursion (IsOfMachine maxmem) d.pages
   pub small : sum_by loaded_by d.script ≤ loaded_limit
+  pub bios : AllByRecursion (LoadsFrom d.pages) d.script
 
 may-open-at : (s : Scenario) (i : ℕ) (d : Driver) → IsValid s → i < length s.drivers →
     MayOpen (maxmem_of s.frames) (get_or s.drivers i d)
@@ -93,6 +94,7 @@ may-open-at s i d valid lt =
       numbered = machine.numbered;
       inside = machine.pages;
       small = omega (arith, loaded-at s.drivers i d lt, valid.loaded);
+      bios = at.1.bios;
     }
 
 -- the driver that a turn of the loop reads

@@ -8,9 +8,9 @@ use Rattle.lane_core.proofs.judging.judge_inside.Goals.{else-first-end-via-then-
 pub returns-then-first-from : goal.returns-then-first-from
 returns-then-first-from c =
     let first = c.max-first.result in
-    let place : first - c.args.va.0 ≡ 0 + (first - c.args.va.0) = omega arith in
-    c.foreign.ensures ∙ ap foreign_at place
-    ∙ sym (first-within (virtual_of c.args.kept.now.first.0) c.args.kept.now.memory.len c.args.va.0 c.args.len 0 first
+    c.foreign.ensures
+    ∙ sym (first-within (virtual_of c.args.kept.now.first.0) c.args.kept.now.memory.len c.args.span.va.0 c.args.span.len
+    c.args.offset first
     (grind (arith, c.max-first.ensures, c.begin_of-begin.ensures.is))
     (grind (arith, c.max-first.ensures, c.begin_of-begin.ensures.is))
     (grind (arith, c.max-first.ensures, c.begin_of-begin.ensures.is))
@@ -21,12 +21,12 @@ pub returns-else-first-end : goal.returns-else-first-end
 returns-else-first-end c =
     let b = virtual_of c.args.kept.now.first.0 in
     let n = c.args.kept.now.memory.len in
-    let v = c.args.va.0 in
-    let len = c.args.len in
+    let v = c.args.span.va.0 in
+    let len = c.args.span.len in
     let apart : (b + n ≤ v) ⊎ ((v + len ≤ b) ⊎ ((n ≡ 0) ⊎ (len ≡ 0))) = elim c.else-first-end.branch [
       | else-first-end-via-then-first-end+else-first-from w ↦
           grind (arith, c.max-first.ensures, c.begin_of-begin.ensures.is, w.if-first-from.false)
       | else-first-end-via-else-first-end w ↦
           grind (arith, c.max-first.ensures, c.begin_of-begin.ensures.is, w.if-first-end.false)
     ] in
-    sym (none-within b n v len 0 apart)
+    sym (none-within b n v len c.args.offset apart)

@@ -1,39 +1,47 @@
-use Rattle.std.proofs.Common.{◌≡◌, sym, ap, ◌∙◌, arith}
+use Rattle.std.proofs.Common.{◌≡◌, ◌+◌, ◌≤◌, ◌<◌, sym, ap, ◌∙◌, arith}
 use Rattle.std.specs.List.{enumerate_from}
+use Rattle.busdma_base.specs.declared.journals.report.Judged.TheVariants.{Fine}
 use Rattle.busdma_base.specs.Journals.Judging.{judged}
 use Rattle.busdma_base.specs.Runs.{run_of}
 use Rattle.dmamem.specs.Memory.{virtual_of}
 use Rattle.lane_core.specs.Judging.{foreign_at}
-use Rattle.lane_core.proofs.Foreign.{first-off, none-off, away-off, off_place}
+use Rattle.lane_core.proofs.Foreign.{away-off, max-off, none-off, none-past, off_place}
 use Rattle.lane_core.proofs.judging.judge_own.Goals as goal
-use Rattle.lane_core.proofs.judging.judge_own.Goals.{then-va-begin_of, else-va-begin_of}
+use Rattle.lane_core.proofs.judging.judge_own.Goals.{then-span-begin_of, else-span-begin_of}
 
-pub returns-then-own-len : goal.returns-then-own-len
-returns-then-own-len c =
+pub returns-then-end-offset : goal.returns-then-end-offset
+returns-then-end-offset c =
     let b = virtual_of c.args.kept.now.first.0 in
     let n = c.args.kept.now.memory.len in
-    elim c.if-va-begin_of.branch [
-      | then-va-begin_of w ↦
-          c.foreign.ensures ∙ ap foreign_at w.own-is
-          ∙ sym (first-off b n c.args.va.0 c.args.len 0
-          (grind (arith, w.if-va-begin_of.true, c.begin_of.ensures.is)) (omega arith)
-          (omega (arith, w.own-is, c.if-own-len.true)))
-      | else-va-begin_of w ↦
-          c.foreign.ensures ∙ ap foreign_at w.own-is
-          ∙ sym (away-off b n c.args.va.0 c.args.len
-          (λ e. w.if-va-begin_of.false (e ∙ sym c.begin_of.ensures.is)) (omega (arith, w.own-is, c.if-own-len.true)))
+    let v = c.args.span.va.0 in
+    let len = c.args.span.len in
+    let i = c.args.offset in
+    elim c.if-span-begin_of.branch [
+      | then-span-begin_of w ↦
+          let inside : w.max-end.result < i + len = omega (arith, w.end-is, c.if-end-offset.true) in
+          c.foreign.ensures ∙ ap foreign_at w.end-is
+          ∙ sym (max-off b n v len i w.max-end.result (grind (arith, w.if-span-begin_of.true, c.begin_of.ensures.is))
+          (grind (arith, w.max-end.ensures)) (grind (arith, w.max-end.ensures)) (grind (arith, w.max-end.ensures)) inside)
+      | else-span-begin_of w ↦
+          let some : 0 < len = omega (arith, w.end-is, c.if-end-offset.true) in
+          c.foreign.ensures ∙ ap foreign_at w.end-is
+          ∙ sym (away-off b n v len i
+          (λ e. w.if-span-begin_of.false (grind (arith, e, c.begin_of.ensures.is))) some)
     ]
 
-pub returns-else-own-len : goal.returns-else-own-len
-returns-else-own-len c =
+pub returns-else-end-offset : goal.returns-else-end-offset
+returns-else-end-offset c =
     let b = virtual_of c.args.kept.now.first.0 in
     let n = c.args.kept.now.memory.len in
-    elim c.if-va-begin_of.branch [
-      | then-va-begin_of w ↦
-          sym (none-off b n c.args.va.0 c.args.len 0
-          (grind (arith, w.if-va-begin_of.true, c.begin_of.ensures.is))
-          (omega (arith, w.own-is, c.if-own-len.false)))
-      | else-va-begin_of w ↦
-          let none : c.args.len ≡ 0 = omega (arith, w.own-is, c.if-own-len.false) in
-          sym (ap (λ k. judged (off_place b n) 0 (enumerate_from 0 (run_of c.args.va.0 k))) none)
+    let v = c.args.span.va.0 in
+    let len = c.args.span.len in
+    let i = c.args.offset in
+    elim c.if-span-begin_of.branch [
+      | then-span-begin_of w ↦
+          let past : i + len ≤ w.max-end.result = omega (arith, w.end-is, c.if-end-offset.false) in
+          sym (none-past b n v len i w.max-end.result (grind (arith, w.if-span-begin_of.true, c.begin_of.ensures.is))
+          (grind (arith, w.max-end.ensures)) (grind (arith, w.max-end.ensures)) (grind (arith, w.max-end.ensures)) past)
+      | else-span-begin_of w ↦
+          let none : len ≡ 0 = omega (arith, w.end-is, c.if-end-offset.false) in
+          sym (ap (λ k. judged (off_place b n) i (enumerate_from i (run_of v k))) none)
     ]

@@ -43,6 +43,7 @@ new-requires c =
       numbered = may.numbered;
       inside = may.inside;
       small = may.small;
+      bios = may.bios;
     }
 
 pub loop-driver-preserved : goal.loop-driver-preserved

@@ -5,15 +5,14 @@ use Rattle.busdma_base.specs.declared.tags.tag.TagLimits.{TagLimits}
 use Rattle.busdma_base.specs.declared.machine.address.Pa.{Pa}
 use Rattle.busdma_base.specs.Bounce.AccountStep.{as_pages}
 use Rattle.busdma_base.specs.Machine.PageList.{page_addresses}
-use Rattle.phys_memory.specs.Memory.{physical}
-use Rattle.phys_memory.specs.Walk.{flat}
 use Rattle.segment_build.specs.Building.{placed_pieces}
 use Rattle.segment_build.specs.Chunks.{need_of}
+use Rattle.segment_build.specs.Streams.{stream_chunks}
 use Rattle.ideal_lane.specs.Loads.{limits_of}
 use Rattle.ideal_lane.specs.State.{LaneMap}
 use Rattle.lane_core.specs.Ideal.{ideal_of}
 use Rattle.lane_core.specs.Kept.{map_of, tag_of}
-use Rattle.lane_core.specs.Loading.{HasRoomFor, IsFilled, IsOverfull, buffer_chunks}
+use Rattle.lane_core.specs.Loading.{HasRoomFor, IsFilled, IsOverfull, bio_chunks, bio_of}
 use Rattle.lane_core.proofs.Chunked.{load-chunks, kept-limits, filled-with, overfull-with}
 use Rattle.lane_core.proofs.Keeping.{idle-there}
 use Rattle.lane_core.proofs.MapValues.{image-none, image-some}
@@ -54,25 +53,25 @@ write_addresses-requires c =
     let has = c.requires.room (map_of o) (image-some map_of h.maps.map c.args.map o (sym c.in-Some.ensures)) in
     record { empty = has.empty_addresses; room = has.addresses }
 
-pub build_buffer-requires : goal.build_buffer-requires
-build_buffer-requires c =
+pub build_parts-requires : goal.build_parts-requires
+build_parts-requires c =
     let h = c.args.self.now in
     let l = ideal_of h in
     let o = c.in-Some.kept.now in
     let t = c.in-Some-get.made.now.tag in
-    let va = c.args.buffer.va.0 in
-    let len = c.args.buffer.len in
+    let b = bio_of c.args.bytes in
     let is = image-some map_of h.maps.map c.args.map o (sym c.in-Some.ensures) in
     let limits = kept-limits h (map_of o) c.in-Some-get.made.now (sym c.in-Some-get.ensures) in
-    let chunks = load-chunks h va len (map_of o) t c.requires.reached limits in
+    let chunks = ap (stream_chunks t h.maxmem) c.parts.ensures.parts
+    ∙ load-chunks l b (map_of o) t c.requires.reached limits in
     let pages = c.write_addresses.new.list.items in
     let count : length pages ≡ length c.args.pages.now =
     ap length c.write_addresses.ensures.addresses ∙ pages-count c.args.pages.now in
     let has =
-    subst (λ (u : TagLimits). HasRoomFor u (buffer_chunks l (map_of o) va len) pages c.args.room.now) limits
+    subst (λ (u : TagLimits). HasRoomFor u (bio_chunks l (map_of o) b) pages c.args.room.now) limits
     ((c.requires.room (map_of o) is).any pages c.write_addresses.ensures.at_frames count) in
     record {
-      small = c.requires.small;
+      stream = c.parts.ensures.stream;
       pages = c.write_addresses.ensures.at_frames;
       empty = has.empty;
       empty_bounced = has.empty_bounced;
@@ -88,21 +87,21 @@ returns-clause-few c few other found =
     let l = ideal_of h in
     let o = c.in-Some.kept.now in
     let t = c.in-Some-get.made.now.tag in
-    let va = c.args.buffer.va.0 in
-    let len = c.args.buffer.len in
+    let b = bio_of c.args.bytes in
     let is = image-some map_of h.maps.map c.args.map o (sym c.in-Some.ensures) in
     let same : map_of o ≡ other = cc in
     let limits = kept-limits h (map_of o) c.in-Some-get.made.now (sym c.in-Some-get.ensures) in
-    let chunks = load-chunks h va len (map_of o) t c.requires.reached limits in
+    let chunks = ap (stream_chunks t h.maxmem) c.parts.ensures.parts
+    ∙ load-chunks l b (map_of o) t c.requires.reached limits in
     let pages = as_pages (page_addresses c.args.pages.now) in
     let at = c.write_addresses.new.list.items in
-    let room = c.build_buffer.new.room in
-    subst (λ (x : LaneMap). IsFilled (limits_of l x) (buffer_chunks l x va len) pages room) same
-    (subst (λ (u : TagLimits). IsFilled u (buffer_chunks l (map_of o) va len) pages room) (sym limits)
-    (subst (λ (ps : List Pa). IsFilled t (buffer_chunks l (map_of o) va len) ps room)
+    let room = c.build_parts.new.room in
+    subst (λ (x : LaneMap). IsFilled (limits_of l x) (bio_chunks l x b) pages room) same
+    (subst (λ (u : TagLimits). IsFilled u (bio_chunks l (map_of o) b) pages room) (sym limits)
+    (subst (λ (ps : List Pa). IsFilled t (bio_chunks l (map_of o) b) ps room)
     c.write_addresses.ensures.addresses
-    (filled-with t h.maxmem (flat (physical h.memory.memory) va len) (buffer_chunks l (map_of o) va len) at chunks room
-    (c.build_buffer.ensures.few few))))
+    (filled-with t h.maxmem c.parts.result (bio_chunks l (map_of o) b) at chunks room
+    (c.build_parts.ensures.few few))))
 
 pub returns-clause-many : goal.returns-clause-many
 returns-clause-many c many other found =
@@ -110,18 +109,18 @@ returns-clause-many c many other found =
     let l = ideal_of h in
     let o = c.in-Some.kept.now in
     let t = c.in-Some-get.made.now.tag in
-    let va = c.args.buffer.va.0 in
-    let len = c.args.buffer.len in
+    let b = bio_of c.args.bytes in
     let is = image-some map_of h.maps.map c.args.map o (sym c.in-Some.ensures) in
     let same : map_of o ≡ other = cc in
     let limits = kept-limits h (map_of o) c.in-Some-get.made.now (sym c.in-Some-get.ensures) in
-    let chunks = load-chunks h va len (map_of o) t c.requires.reached limits in
+    let chunks = ap (stream_chunks t h.maxmem) c.parts.ensures.parts
+    ∙ load-chunks l b (map_of o) t c.requires.reached limits in
     let pages = as_pages (page_addresses c.args.pages.now) in
     let at = c.write_addresses.new.list.items in
-    let room = c.build_buffer.new.room in
-    subst (λ (x : LaneMap). IsOverfull (limits_of l x) (buffer_chunks l x va len) pages room) same
-    (subst (λ (u : TagLimits). IsOverfull u (buffer_chunks l (map_of o) va len) pages room) (sym limits)
-    (subst (λ (ps : List Pa). IsOverfull t (buffer_chunks l (map_of o) va len) ps room)
+    let room = c.build_parts.new.room in
+    subst (λ (x : LaneMap). IsOverfull (limits_of l x) (bio_chunks l x b) pages room) same
+    (subst (λ (u : TagLimits). IsOverfull u (bio_chunks l (map_of o) b) pages room) (sym limits)
+    (subst (λ (ps : List Pa). IsOverfull t (bio_chunks l (map_of o) b) ps room)
     c.write_addresses.ensures.addresses
-    (overfull-with t h.maxmem (flat (physical h.memory.memory) va len) (buffer_chunks l (map_of o) va len) at chunks room
-    (c.build_buffer.ensures.many many) (c.build_buffer.ensures.none many))))
+    (overfull-with t h.maxmem c.parts.result (bio_chunks l (map_of o) b) at chunks room
+    (c.build_parts.ensures.many many) (c.build_parts.ensures.none many))))

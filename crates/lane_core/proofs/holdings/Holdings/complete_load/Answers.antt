@@ -19,13 +19,13 @@ use Rattle.loan_table.specs.Loans.{loan_of, new_loan, no_loan}
 use Rattle.segment_build.specs.Building.{placed_pieces, tag_placed}
 use Rattle.segment_build.specs.Chunks.{bounced_of}
 use Rattle.segment_build.specs.Segmentation.{segmentation}
-use Rattle.ideal_lane.specs.Loads.{Asked, is_coherent, limits_of, loaded, staged, unpaged}
+use Rattle.ideal_lane.specs.Loads.{Asked, is_coherent, limits_of, load_entries, loaded, staged, unpaged}
 use Rattle.ideal_lane.specs.Outcomes.{Outcome}
 use Rattle.ideal_lane.specs.State.{LaneState, Loaded}
 use Rattle.ideal_lane.specs.Unloads.{unlent}
 use Rattle.lane_core.specs.Ideal.{ideal_of}
 use Rattle.lane_core.specs.Kept.{map_of, return_of}
-use Rattle.lane_core.specs.Loading.{buffer_chunks, buffer_entries}
+use Rattle.lane_core.specs.Loading.{bio_bytes, bio_chunks, bio_of}
 use Rattle.lane_core.proofs.AwaitingLoads.{awaiting-finished}
 use Rattle.lane_core.proofs.Chunked.{copy-fits}
 use Rattle.lane_core.proofs.Keeping.{idle-there}
@@ -50,7 +50,7 @@ copy_segments-requires c =
     let o = map_of idle.0 in
     let is = image-some map_of h.maps.map c.args.map idle.0 idle.1 in
     subst (λ (ss : List Segment). length ss ≤ c.build_load-few.new.room.shown.spare) (sym c.as_slice-2.ensures)
-    (copy-fits (limits_of l o) (buffer_chunks l o c.args.buffer.va.0 c.args.buffer.len)
+    (copy-fits (limits_of l o) (bio_chunks l o (bio_of c.args.bytes))
     (as_pages (page_addresses c.as_slice.result.now)) c.args.room
     c.build_load-few.new.room c.build_load-few.result (λ e. c.build_load-few.ensures.few e o is)
     (λ e. c.build_load-few.ensures.many e o is)
@@ -60,7 +60,7 @@ copy_segments-requires c =
 pub store_load-requires-clause-prepared : goal.store_load-requires-clause-prepared
 store_load-requires-clause-prepared c = record {
   coherent = is_coherent (get (ideal_of c.args.self.now).mems c.args.map);
-  bytes = entries_addresses (buffer_entries (ideal_of c.args.self.now) c.args.buffer.va.0 c.args.buffer.len);
+  bytes = entries_addresses (load_entries (ideal_of c.args.self.now) (bio_of c.args.bytes));
   is = c.requires.prepared;
 }
 
@@ -71,13 +71,13 @@ returns-then-not-few-clause-done c o x found entries items =
     let m = c.args.map in
     let t = limits_of l o in
     let pas = page_addresses c.args.pages.items in
-    let chunks = buffer_chunks l o c.args.buffer.va.0 c.args.buffer.len in
+    let chunks = bio_chunks l o (bio_of c.args.bytes) in
     let many = c.build_load-few.ensures.many c.if-not-few.true o found in
     let over : t.nsegments < length (segmentation t (placed_pieces t chunks (as_pages pas))) =
     subst (λ (ps : List Pa). t.nsegments < length (segmentation t (placed_pieces t chunks ps))) (pages-at c.as_slice.ensures)
     many.many in
     let coherent = is_coherent (get l.mems m) in
-    let bytes = entries_addresses (buffer_entries l c.args.buffer.va.0 c.args.buffer.len) in
+    let bytes = entries_addresses (load_entries l (bio_of c.args.bytes)) in
     let stage = Loaded c.into_list.result c.into_list-2.result pas in
     let after : LaneState = record (staged m o stage l) { loans = insert l.loans m (new_loan coherent bytes) } in
     let stored : ideal_of c.store_load.new.self ≡ after =
@@ -103,7 +103,7 @@ returns-clause-done c o x found entries items =
     let m = c.args.map in
     let t = limits_of l o in
     let pas = page_addresses c.args.pages.items in
-    let chunks = buffer_chunks l o c.args.buffer.va.0 c.args.buffer.len in
+    let chunks = bio_chunks l o (bio_of c.args.bytes) in
     let filled = c.build_load-few.ensures.few c.if-not-few.false o found in
     let built = segmentation t (placed_pieces t chunks (as_pages pas)) in
     let segments : c.build_load-few.new.room.list.items ≡ built =
@@ -171,11 +171,11 @@ returns-then-not-few-clause-awaiting c =
     let idle = idle-there (get h.maps.map m) c.requires.idle in
     let o = map_of idle.0 in
     let is = image-some map_of h.maps.map m idle.0 idle.1 in
-    let chunks = buffer_chunks l o c.args.buffer.va.0 c.args.buffer.len in
+    let chunks = bio_chunks l o (bio_of c.args.bytes) in
     let x : Asked = record {
       judged = Fine;
-      entries = buffer_entries l c.args.buffer.va.0 c.args.buffer.len;
-      len = c.args.buffer.len;
+      entries = load_entries l (bio_of c.args.bytes);
+      len = bio_bytes (bio_of c.args.bytes);
       nowait = false;
       items = c.args.items;
     } in
@@ -193,11 +193,11 @@ returns-clause-awaiting c =
     let idle = idle-there (get h.maps.map m) c.requires.idle in
     let o = map_of idle.0 in
     let is = image-some map_of h.maps.map m idle.0 idle.1 in
-    let chunks = buffer_chunks l o c.args.buffer.va.0 c.args.buffer.len in
+    let chunks = bio_chunks l o (bio_of c.args.bytes) in
     let x : Asked = record {
       judged = Fine;
-      entries = buffer_entries l c.args.buffer.va.0 c.args.buffer.len;
-      len = c.args.buffer.len;
+      entries = load_entries l (bio_of c.args.bytes);
+      len = bio_bytes (bio_of c.args.bytes);
       nowait = false;
       items = c.args.items;
     } in

@@ -54,6 +54,10 @@ invariant_of-self-2-clause-reaches c =
     λ va. ap (λ t. t va) (same-physical h.memory.memory c.write_parts.new.memory.memory c.write_parts.ensures.same)
     ∙ h.reaches va
 
+pub invariant_of-self-2-clause-framed : goal.invariant_of-self-2-clause-framed
+invariant_of-self-2-clause-framed c =
+    λ f own. c.write_parts.ensures.same.frames f ∙ c.args.self.now.framed f own
+
 pub invariant_of-self-2-clause-loaded : goal.invariant_of-self-2-clause-loaded
 invariant_of-self-2-clause-loaded c =
     let h = c.args.self.now in

@@ -60,6 +60,7 @@ invariant_of-self c =
     record {
       covered = h.covered;
       reaches = h.reaches;
+      framed = h.framed;
       tag_places = h.tag_places;
       map_places = put.1 ∙ h.map_places;
       memory_places = h.memory_places;

@@ -74,6 +74,7 @@ invariant_of-self-2 c =
       reaches = λ va. ap (λ t. t va) (same-physical h.memory.memory c.write_load.new.memory.memory
           c.write_load.ensures.same)
           ∙ h.reaches va;
+      framed = λ f own. c.write_load.ensures.same.frames f ∙ h.framed f own;
       tag_places = h.tag_places;
       map_places = put.1 ∙ h.map_places;
       memory_places = h.memory_places;

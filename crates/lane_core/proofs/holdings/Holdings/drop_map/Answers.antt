@@ -24,6 +24,7 @@ invariant_of-self c =
     record {
       covered = h.covered;
       reaches = h.reaches;
+      framed = h.framed;
       tag_places = h.tag_places;
       map_places = ap (λ t. t.places) taken ∙ h.map_places;
       memory_places = h.memory_places;

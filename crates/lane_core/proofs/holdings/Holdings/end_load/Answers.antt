@@ -80,6 +80,7 @@ invariant_of-self c =
       covered = λ a. ap (λ b. contains_key b a) c.forget.ensures.bytes
           ∙ has_set_all _ _ _ c.forget.ensures.there a ∙ h.covered a;
       reaches = h.reaches;
+      framed = h.framed;
       tag_places = h.tag_places ∙ sym (ap (λ a. a.length) agenda);
       map_places = ap (λ t. t.places) c.put.ensures ∙ ap (λ t. t.places) c.in-Some.ensures.taken
           ∙ h.map_places ∙ sym (ap (λ a. a.length) agenda);

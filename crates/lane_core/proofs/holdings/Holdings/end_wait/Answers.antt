@@ -6,7 +6,7 @@ use Rattle.dma_map.specs.declared.room.LoadRoom.{LoadRoom}
 use Rattle.lane_core.specs.Awaiting.{kept_load}
 use Rattle.lane_core.proofs.Called.{waits-kept}
 use Rattle.lane_core.proofs.EndedWaits.{ends-bytes, ends-done, ends-few, ends-idle, ends-items, ends-others, ends-prepared}
-use Rattle.lane_core.proofs.EndedWaits.{ends-promised, ends-reached, ends-room, ends-small, ends-stands}
+use Rattle.lane_core.proofs.EndedWaits.{ends-loadable, ends-promised, ends-reached, ends-room, ends-stands}
 use Rattle.lane_core.proofs.holdings.Holdings.end_wait.Goals as goal
 
 pub returns-in_default-clause-done : goal.returns-in_default-clause-done
@@ -36,21 +36,22 @@ complete_load-requires-clause-reached c =
     let load : ℕ × Transfers × LoadRoom = c.in-Some.load in
     let found : kept_load (get c.args.self.now.maps.map c.args.map) ≡ Some load = sym c.in-Some.ensures.load in
     ends-reached c.args.self.now c.take_load.new.self c.args.map load.0 load.1 load.2 found c.take_load.ensures.maps
-    c.take_load.ensures.rest c.requires.awaiting c.buffer_at-buffer.result c.buffer_at-buffer.ensures
+    c.take_load.ensures.rest c.requires.awaiting c.bytes_at-bytes.result c.bytes_at-bytes.ensures
 
-pub complete_load-requires-clause-small : goal.complete_load-requires-clause-small
-complete_load-requires-clause-small c =
+pub complete_load-requires-clause-loadable : goal.complete_load-requires-clause-loadable
+complete_load-requires-clause-loadable c =
     let load : ℕ × Transfers × LoadRoom = c.in-Some.load in
     let found : kept_load (get c.args.self.now.maps.map c.args.map) ≡ Some load = sym c.in-Some.ensures.load in
-    ends-small c.args.self.now c.take_load.new.self c.args.map load.0 load.1 load.2 found c.take_load.ensures.maps
-    c.take_load.ensures.rest c.requires.awaiting c.buffer_at-buffer.result c.buffer_at-buffer.ensures c.requires.small
+    ends-loadable c.args.self.now c.take_load.new.self c.args.map load.0 load.1 load.2 found c.take_load.ensures.maps
+    c.take_load.ensures.rest c.requires.awaiting c.bytes_at-bytes.result c.bytes_at-bytes.ensures
+    c.requires.machine c.requires.small
 
 pub complete_load-requires-clause-room : goal.complete_load-requires-clause-room
 complete_load-requires-clause-room c =
     let load : ℕ × Transfers × LoadRoom = c.in-Some.load in
     let found : kept_load (get c.args.self.now.maps.map c.args.map) ≡ Some load = sym c.in-Some.ensures.load in
     ends-room c.args.self.now c.take_load.new.self c.args.map load.0 load.1 load.2 found c.take_load.ensures.maps
-    c.take_load.ensures.rest c.requires.awaiting c.buffer_at-buffer.result c.buffer_at-buffer.ensures (length c.args.pages.items)
+    c.take_load.ensures.rest c.requires.awaiting c.bytes_at-bytes.result c.bytes_at-bytes.ensures (length c.args.pages.items)
     c.requires.need
 
 pub complete_load-requires-clause-prepared : goal.complete_load-requires-clause-prepared
@@ -58,7 +59,7 @@ complete_load-requires-clause-prepared c =
     let load : ℕ × Transfers × LoadRoom = c.in-Some.load in
     let found : kept_load (get c.args.self.now.maps.map c.args.map) ≡ Some load = sym c.in-Some.ensures.load in
     ends-prepared c.args.self.now c.take_load.new.self c.args.map load.0 load.1 load.2 found c.take_load.ensures.maps
-    c.take_load.ensures.rest c.requires.awaiting c.buffer_at-buffer.result c.buffer_at-buffer.ensures
+    c.take_load.ensures.rest c.requires.awaiting c.bytes_at-bytes.result c.bytes_at-bytes.ensures
 
 pub complete_load-requires-clause-few_items : goal.complete_load-requires-clause-few_items
 complete_load-requires-clause-few_items c =
@@ -79,7 +80,7 @@ returns-clause-done c =
     let load : ℕ × Transfers × LoadRoom = c.in-Some.load in
     let found : kept_load (get c.args.self.now.maps.map c.args.map) ≡ Some load = sym c.in-Some.ensures.load in
     ends-done c.args.self.now c.take_load.new.self c.args.map load.0 load.1 load.2 found c.take_load.ensures.maps
-    c.take_load.ensures.rest c.requires.awaiting c.buffer_at-buffer.result c.buffer_at-buffer.ensures c.complete_load.new.self c.complete_load.result
+    c.take_load.ensures.rest c.requires.awaiting c.bytes_at-bytes.result c.bytes_at-bytes.ensures c.complete_load.new.self c.complete_load.result
     (page_addresses c.args.pages.items) c.complete_load.ensures.done
 
 pub returns-clause-bytes : goal.returns-clause-bytes
@@ -109,6 +110,6 @@ returns-clause-small c =
     let load : ℕ × Transfers × LoadRoom = c.in-Some.load in
     let found : kept_load (get c.args.self.now.maps.map c.args.map) ≡ Some load = sym c.in-Some.ensures.load in
     ends-few c.args.self.now c.take_load.new.self c.args.map load.0 load.1 load.2 found c.take_load.ensures.maps
-    c.take_load.ensures.rest c.requires.awaiting c.buffer_at-buffer.result c.buffer_at-buffer.ensures
+    c.take_load.ensures.rest c.requires.awaiting c.bytes_at-bytes.result c.bytes_at-bytes.ensures
     c.complete_load.new.self c.complete_load.result (page_addresses c.args.pages.items) c.complete_load.ensures.done
     c.requires.small c.complete_load.ensures.agenda.place c.complete_load.ensures.promised

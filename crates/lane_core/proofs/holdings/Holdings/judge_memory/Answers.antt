@@ -1,22 +1,23 @@
-use Rattle.std.proofs.Common.{sym, ◌∙◌}
-use Rattle.busdma_base.specs.Runs.{run_of}
+use Rattle.std.proofs.Common.{sym, ap, ◌∙◌}
 use Rattle.lane_core.specs.Ideal.{ideal_of}
-use Rattle.lane_core.specs.Kept.{memory_of}
-use Rattle.lane_core.proofs.LoadJudged.{own-judged, shared-judged}
-use Rattle.lane_core.proofs.MapValues.{image-none, image-some}
+use Rattle.lane_core.specs.Judging.{foreign_judged}
+use Rattle.lane_core.specs.Loading.{bio_of}
+use Rattle.lane_core.proofs.LoadJudged.{frames-foreign, span-foreign}
 use Rattle.lane_core.proofs.holdings.Holdings.judge_memory.Goals as goal
 
-pub returns-in-None : goal.returns-in-None
-returns-in-None c =
-    let h = c.args.self.now in
-    c.judge_shared.ensures
-    ∙ shared-judged (ideal_of h) c.args.map (run_of c.args.va.0 c.args.len)
-    (image-none memory_of h.memories.map c.args.map (sym c.in-None.ensures))
+pub returns-in-Span : goal.returns-in-Span
+returns-in-Span c =
+    let l = ideal_of c.args.self.now in
+    c.judge_span.ensures ∙ span-foreign l c.args.map c.in-Span.span
+    ∙ ap (λ b. foreign_judged l c.args.map (bio_of b)) (sym c.in-Span.is)
 
-pub returns-in-Some : goal.returns-in-Some
-returns-in-Some c =
-    let h = c.args.self.now in
-    let x = c.in-Some.kept.now in
-    c.judge_own.ensures
-    ∙ own-judged (ideal_of h) c.args.map (memory_of x) (run_of c.args.va.0 c.args.len)
-    (image-some memory_of h.memories.map c.args.map x (sym c.in-Some.ensures))
+pub returns-in-Spans : goal.returns-in-Spans
+returns-in-Spans c =
+    let l = ideal_of c.args.self.now in
+    c.judge_spans.ensures ∙ ap (λ b. foreign_judged l c.args.map (bio_of b)) (sym c.in-Spans.is)
+
+pub returns-in-Frames : goal.returns-in-Frames
+returns-in-Frames c =
+    let l = ideal_of c.args.self.now in
+    c.judge_frames.ensures ∙ frames-foreign l c.args.map c.in-Frames.frames.now c.in-Frames.off c.in-Frames.len
+    ∙ ap (λ b. foreign_judged l c.args.map (bio_of b)) (sym c.in-Frames.is)

@@ -2,7 +2,6 @@ use Rattle.std.proofs.Common.{◌≡◌, ◌<◌, ◌≤◌, Bool, true, refl, s
 use Rattle.std.specs.FinMap.{get}
 use Rattle.busdma_base.specs.declared.bounce.hold.HubCall.{HubCall}
 use Rattle.busdma_base.specs.declared.bounce.hold.HubCall.TheVariants.{Grab}
-use Rattle.dma_tag.specs.LoadFlags.{nowait}
 use Rattle.busdma_base.specs.declared.journals.answer.Answer.TheVariants.{Refused}
 use Rattle.busdma_base.specs.declared.journals.report.Errno.TheVariants.{EINVAL}
 use Rattle.busdma_base.specs.Bounce.Door.{Allows}
@@ -11,10 +10,9 @@ use Rattle.ideal_lane.specs.Asking.{Gives}
 use Rattle.ideal_lane.specs.Outcomes.{gives, is_idle}
 use Rattle.ideal_lane.specs.State.{LaneMap, named}
 use Rattle.lane_core.specs.Covered.{is_idle_map}
-use Rattle.lane_core.specs.Doing.{IsCalled}
 use Rattle.lane_core.specs.Ideal.{given, ideal_of}
 use Rattle.lane_core.specs.Kept.{map_of, memory_of}
-use Rattle.lane_core.specs.Loading.{buffer_chunks}
+use Rattle.lane_core.specs.Loading.{bio_bytes, bio_chunks, bio_of}
 use Rattle.lane_core.proofs.AwaitingLoads.{awaiting-tried}
 use Rattle.lane_core.proofs.Asked.{few-wanted, load-absent, load-bounced, load-busy, load-direct, load-long, load-refused, x}
 use Rattle.lane_core.proofs.Chunked.{all-reached}
@@ -30,7 +28,7 @@ returns-in_default-clause-done g c =
     let h = c.args.self.now in
     let l = ideal_of h in
     done-gives (g.D.HubDoor.seen c.args.door.now) h.id.0 _ (given h c.report.result)
-    (load-absent l c.args.map c.args.buffer.va c.args.buffer.len c.args.flags c.args.items.now
+    (load-absent l c.args.map (bio_of c.args.bytes) c.args.nowait c.args.items.now
     (image-none map_of h.maps.map c.args.map (sym c.in_default.ensures))
     ∙ ap (gives l) (sym c.report.ensures))
 
@@ -40,7 +38,7 @@ returns-in_default-state-clause-done g c =
     let l = ideal_of h in
     let o = c.in-Some.kept.now in
     done-gives (g.D.HubDoor.seen c.args.door.now) h.id.0 _ (given h c.report-in_default-state.result)
-    (load-busy l c.args.map c.args.buffer.va c.args.buffer.len c.args.flags c.args.items.now (map_of o)
+    (load-busy l c.args.map (bio_of c.args.bytes) c.args.nowait c.args.items.now (map_of o)
     (image-some map_of h.maps.map c.args.map o (sym c.in-Some.ensures))
     (state-busy o.need o.map.stage (λ e. c.in_default-state.not-Idle (c.state.ensures ∙ e)))
     ∙ ap (gives l) (sym c.report-in_default-state.ensures))
@@ -51,24 +49,24 @@ returns-in-Refused-clause-done g c =
     let l = ideal_of h in
     let o = c.in-Some.kept.now in
     done-gives (g.D.HubDoor.seen c.args.door.now) h.id.0 _ _
-    (load-refused l c.args.map c.args.buffer.va c.args.buffer.len c.args.flags c.args.items.now (map_of o)
+    (load-refused l c.args.map (bio_of c.args.bytes) c.args.nowait c.args.items.now (map_of o)
     (image-some map_of h.maps.map c.args.map o (sym c.in-Some.ensures))
     (state-idle o.need o.map.stage (sym c.state.ensures ∙ c.in-Idle.is)) c.in-Refused.refusal
     (sym c.judge_load.ensures ∙ c.in-Refused.is))
 
 pub measure_load-requires-clause-reached : goal.measure_load-requires-clause-reached
 measure_load-requires-clause-reached g c =
-    all-reached c.args.self.now c.args.map c.args.buffer.va.0 c.args.buffer.len
+    all-reached (ideal_of c.args.self.now) c.args.map (bio_of c.args.bytes)
     (sym c.judge_load.ensures ∙ c.in_default-judge_load.is)
 
 pub load_direct-requires-clause-reached : goal.load_direct-requires-clause-reached
 load_direct-requires-clause-reached g c =
-    all-reached c.args.self.now c.args.map c.args.buffer.va.0 c.args.buffer.len
+    all-reached (ideal_of c.args.self.now) c.args.map (bio_of c.args.bytes)
     (sym c.judge_load.ensures ∙ c.in_default-judge_load.is)
 
 pub load_bounced-requires-clause-reached : goal.load_bounced-requires-clause-reached
 load_bounced-requires-clause-reached g c =
-    all-reached c.args.self.now c.args.map c.args.buffer.va.0 c.args.buffer.len
+    all-reached (ideal_of c.args.self.now) c.args.map (bio_of c.args.bytes)
     (sym c.judge_load.ensures ∙ c.in_default-judge_load.is)
 
 pub returns-in_default-measure_load-clause-done : goal.returns-in_default-measure_load-clause-done
@@ -78,7 +76,7 @@ returns-in_default-measure_load-clause-done g c =
     let o = c.in-Some.kept.now in
     let there = image-some map_of h.maps.map c.args.map o (sym c.in-Some.ensures) in
     done-gives (g.D.HubDoor.seen c.args.door.now) h.id.0 _ _
-    (load-long l c.args.map c.args.buffer.va c.args.buffer.len c.args.flags c.args.items.now (map_of o) there
+    (load-long l c.args.map (bio_of c.args.bytes) c.args.nowait c.args.items.now (map_of o) there
     (state-idle o.need o.map.stage (sym c.state.ensures ∙ c.in-Idle.is))
     (sym c.judge_load.ensures ∙ c.in_default-judge_load.is)
     (c.in_default-measure_load.ensures.long (map_of o) there)
@@ -92,24 +90,23 @@ returns-then-wanted-eq0-clause-done g c =
     let there = image-some map_of h.maps.map c.args.map o (sym c.in-Some.ensures) in
     let wanted = c.in-Some-measure_load.ensures.wanted (map_of o) there in
     done-gives (g.D.HubDoor.seen c.args.door.now) h.id.0 _ (given c.load_direct.new.self c.in_ok-answer.answer)
-    (load-direct l c.args.map c.args.buffer.va c.args.buffer.len c.args.flags c.args.items.now (map_of o) there
+    (load-direct l c.args.map (bio_of c.args.bytes) c.args.nowait c.args.items.now (map_of o) there
     (state-idle o.need o.map.stage (sym c.state.ensures ∙ c.in-Idle.is))
     (sym c.judge_load.ensures ∙ c.in_default-judge_load.is) wanted.short
     (image-none memory_of h.memories.map c.args.map c.requires.own) (sym wanted.need ∙ c.if-wanted-eq0.true)
     ∙ ap Gives (sym (c.in_ok-answer.ensures.done (map_of o)
-    (x l c.args.map c.args.buffer.va c.args.buffer.len c.args.flags c.args.items.now) there refl refl)))
+    (x l c.args.map (bio_of c.args.bytes) c.args.nowait c.args.items.now) there refl refl)))
 
 pub load_bounced-requires-clause-few_pages : goal.load_bounced-requires-clause-few_pages
 load_bounced-requires-clause-few_pages g c =
     let h = c.args.self.now in
     let l = ideal_of h in
     let o = c.in-Some.kept.now in
-    let va = c.args.buffer.va.0 in
-    let len = c.args.buffer.len in
+    let b = bio_of c.args.bytes in
     let there = image-some map_of h.maps.map c.args.map o (sym c.in-Some.ensures) in
     let wanted = c.in-Some-measure_load.ensures.wanted (map_of o) there in
-    let few : c.in-Some-measure_load.wanted.need ≤ len =
-    few-wanted l (map_of o) va len c.in-Some-measure_load.wanted.need wanted.need in
+    let few : c.in-Some-measure_load.wanted.need ≤ bio_bytes b =
+    few-wanted l (map_of o) b c.in-Some-measure_load.wanted.need wanted.need in
     let all = c.requires.few_pages in
     omega (arith, few, all)
 
@@ -128,12 +125,11 @@ load_bounced-requires-clause-allowed g c other found =
     ∙ state-idle o.need o.map.stage (sym c.state.ensures ∙ c.in-Idle.is) in
     let wanted = c.in-Some-measure_load.ensures.wanted other found in
     let some : 0 < need = omega (arith, c.if-wanted-eq0.false) in
-    subst (λ b. Allows d h.id.0 (Grab (named l m) (record { 0 = zone_of other }) need b)) (sym c.never_waits-nowait.ensures)
-    (allowed-asks d h.id.0 _ (Grab (named l m) (record { 0 = zone_of other }) need (nowait c.args.flags)) _
-    (load-bounced l m c.args.buffer.va c.args.buffer.len c.args.flags c.args.items.now other found on
+    allowed-asks d h.id.0 _ (Grab (named l m) (record { 0 = zone_of other }) need c.args.nowait) _
+    (load-bounced l m (bio_of c.args.bytes) c.args.nowait c.args.items.now other found on
     (sym c.judge_load.ensures ∙ c.in_default-judge_load.is) wanted.short
     (image-none memory_of h.memories.map m c.requires.own) need wanted.need some)
-    c.requires.allowed)
+    c.requires.allowed
 
 pub returns-clause-done : goal.returns-clause-done
 returns-clause-done g c =
@@ -148,28 +144,26 @@ returns-clause-done g c =
     let there = image-some map_of h.maps.map m o (sym c.in-Some.ensures) in
     let wanted = c.in-Some-measure_load.ensures.wanted (map_of o) there in
     let some : 0 < need = omega (arith, c.if-wanted-eq0.false) in
-    let ask = x l m c.args.buffer.va c.args.buffer.len c.args.flags c.args.items.now in
-    let k = granted m (map_of o) ask (buffer_chunks l (map_of o) c.args.buffer.va.0 c.args.buffer.len) l in
-    let call : Bool → HubCall = λ b. Grab (named l m) (record { 0 = zone_of (map_of o) }) need b in
+    let ask = x l m (bio_of c.args.bytes) c.args.nowait c.args.items.now in
+    let k = granted m (map_of o) ask (bio_chunks l (map_of o) (bio_of c.args.bytes)) l in
+    let call : HubCall = Grab (named l m) (record { 0 = zone_of (map_of o) }) need c.args.nowait in
     let end = given c.load_bounced.new.self c.in_ok-answer-2.answer in
-    done-asks d h.id.0 _ (call (nowait c.args.flags)) k end e
-    (load-bounced l m c.args.buffer.va c.args.buffer.len c.args.flags c.args.items.now (map_of o) there
+    done-asks d h.id.0 _ call k end e
+    (load-bounced l m (bio_of c.args.bytes) c.args.nowait c.args.items.now (map_of o) there
     (state-idle o.need o.map.stage (sym c.state.ensures ∙ c.in-Idle.is))
     (sym c.judge_load.ensures ∙ c.in_default-judge_load.is) wanted.short
     (image-none memory_of h.memories.map m c.requires.own) need wanted.need some)
-    (subst (λ b. IsCalled d h.id.0 (call b) k end e) c.never_waits-nowait.ensures
-    (c.in_ok-answer-2.ensures.done (map_of o) ask there refl refl))
+    (c.in_ok-answer-2.ensures.done (map_of o) ask there refl refl)
 
 pub returns-clause-promised : goal.returns-clause-promised
 returns-clause-promised g c =
     let l = ideal_of c.args.self.now in
     let o = c.in-Some.kept.now in
-    let va = c.args.buffer.va.0 in
-    let len = c.args.buffer.len in
+    let b = bio_of c.args.bytes in
     let there = image-some map_of c.args.self.now.maps.map c.args.map o (sym c.in-Some.ensures) in
     let wanted = c.in-Some-measure_load.ensures.wanted (map_of o) there in
-    let few : c.in-Some-measure_load.wanted.need ≤ len =
-    few-wanted l (map_of o) va len c.in-Some-measure_load.wanted.need wanted.need in
+    let few : c.in-Some-measure_load.wanted.need ≤ bio_bytes b =
+    few-wanted l (map_of o) b c.in-Some-measure_load.wanted.need wanted.need in
     let more = c.load_bounced.ensures.promised in
     omega (arith, few, more)
 
@@ -183,20 +177,17 @@ returns-in_default-measure_load-clause-awaiting g c =
     awaiting-tried h c.note_tried.new.self c.args.map (map_of o) (c.note_tried.ensures.done (map_of o) there)
     c.note_tried.ensures.waiting idle c.requires.awaiting
 
-pub load_bounced-requires-clause-next : goal.load_bounced-requires-clause-next
-load_bounced-requires-clause-next g c = record { flags = c.args.flags; load = c.requires.here }
-
 pub returns-in_default-clause-held : goal.returns-in_default-clause-held
 returns-in_default-clause-held g c =
     let h = c.args.self.now in
-    unasked _ _ (load-absent (ideal_of h) c.args.map c.args.buffer.va c.args.buffer.len c.args.flags c.args.items.now
+    unasked _ _ (load-absent (ideal_of h) c.args.map (bio_of c.args.bytes) c.args.nowait c.args.items.now
     (image-none map_of h.maps.map c.args.map (sym c.in_default.ensures)))
 
 pub returns-in_default-state-clause-held : goal.returns-in_default-state-clause-held
 returns-in_default-state-clause-held g c =
     let h = c.args.self.now in
     let o = c.in-Some.kept.now in
-    unasked _ _ (load-busy (ideal_of h) c.args.map c.args.buffer.va c.args.buffer.len c.args.flags c.args.items.now
+    unasked _ _ (load-busy (ideal_of h) c.args.map (bio_of c.args.bytes) c.args.nowait c.args.items.now
     (map_of o) (image-some map_of h.maps.map c.args.map o (sym c.in-Some.ensures))
     (state-busy o.need o.map.stage (λ e. c.in_default-state.not-Idle (c.state.ensures ∙ e))))
 
@@ -204,7 +195,7 @@ pub returns-in-Refused-clause-held : goal.returns-in-Refused-clause-held
 returns-in-Refused-clause-held g c =
     let h = c.args.self.now in
     let o = c.in-Some.kept.now in
-    unasked _ _ (load-refused (ideal_of h) c.args.map c.args.buffer.va c.args.buffer.len c.args.flags
+    unasked _ _ (load-refused (ideal_of h) c.args.map (bio_of c.args.bytes) c.args.nowait
     c.args.items.now (map_of o) (image-some map_of h.maps.map c.args.map o (sym c.in-Some.ensures))
     (state-idle o.need o.map.stage (sym c.state.ensures ∙ c.in-Idle.is)) c.in-Refused.refusal
     (sym c.judge_load.ensures ∙ c.in-Refused.is))
@@ -214,7 +205,7 @@ returns-in_default-measure_load-clause-held g c =
     let h = c.args.self.now in
     let o = c.in-Some.kept.now in
     let there = image-some map_of h.maps.map c.args.map o (sym c.in-Some.ensures) in
-    unasked _ _ (load-long (ideal_of h) c.args.map c.args.buffer.va c.args.buffer.len c.args.flags c.args.items.now
+    unasked _ _ (load-long (ideal_of h) c.args.map (bio_of c.args.bytes) c.args.nowait c.args.items.now
     (map_of o) there (state-idle o.need o.map.stage (sym c.state.ensures ∙ c.in-Idle.is))
     (sym c.judge_load.ensures ∙ c.in_default-judge_load.is)
     (c.in_default-measure_load.ensures.long (map_of o) there))
@@ -225,7 +216,7 @@ returns-then-wanted-eq0-clause-held g c =
     let o = c.in-Some.kept.now in
     let there = image-some map_of h.maps.map c.args.map o (sym c.in-Some.ensures) in
     let wanted = c.in-Some-measure_load.ensures.wanted (map_of o) there in
-    unasked _ _ (load-direct (ideal_of h) c.args.map c.args.buffer.va c.args.buffer.len c.args.flags c.args.items.now
+    unasked _ _ (load-direct (ideal_of h) c.args.map (bio_of c.args.bytes) c.args.nowait c.args.items.now
     (map_of o) there (state-idle o.need o.map.stage (sym c.state.ensures ∙ c.in-Idle.is))
     (sym c.judge_load.ensures ∙ c.in_default-judge_load.is) wanted.short
     (image-none memory_of h.memories.map c.args.map c.requires.own) (sym wanted.need ∙ c.if-wanted-eq0.true))
@@ -238,7 +229,7 @@ returns-clause-held g c =
     let there = image-some map_of h.maps.map c.args.map o (sym c.in-Some.ensures) in
     let wanted = c.in-Some-measure_load.ensures.wanted (map_of o) there in
     let some : 0 < need = omega (arith, c.if-wanted-eq0.false) in
-    asked _ _ _ (load-bounced (ideal_of h) c.args.map c.args.buffer.va c.args.buffer.len c.args.flags
+    asked _ _ _ (load-bounced (ideal_of h) c.args.map (bio_of c.args.bytes) c.args.nowait
     c.args.items.now (map_of o) there (state-idle o.need o.map.stage (sym c.state.ensures ∙ c.in-Idle.is))
     (sym c.judge_load.ensures ∙ c.in_default-judge_load.is) wanted.short
     (image-none memory_of h.memories.map c.args.map c.requires.own) need wanted.need some)
@@ -288,11 +279,10 @@ pub returns-in_err-answer-2-clause-promised : goal.returns-in_err-answer-2-claus
 returns-in_err-answer-2-clause-promised g c =
     let l = ideal_of c.args.self.now in
     let o = c.in-Some.kept.now in
-    let va = c.args.buffer.va.0 in
-    let len = c.args.buffer.len in
+    let b = bio_of c.args.bytes in
     let there = image-some map_of c.args.self.now.maps.map c.args.map o (sym c.in-Some.ensures) in
     let wanted = c.in-Some-measure_load.ensures.wanted (map_of o) there in
-    let few : c.in-Some-measure_load.wanted.need ≤ len =
-    few-wanted l (map_of o) va len c.in-Some-measure_load.wanted.need wanted.need in
+    let few : c.in-Some-measure_load.wanted.need ≤ bio_bytes b =
+    few-wanted l (map_of o) b c.in-Some-measure_load.wanted.need wanted.need in
     let more = c.load_bounced.ensures.promised in
     omega (arith, few, more)

@@ -1,28 +1,26 @@
-use Rattle.std.proofs.Common.{◌≡◌, ◌+◌, ◌-◌, ◌≤◌, cond, List, length, Some, is_some, slice_get, refl, sym, ap, ◌∙◌, subst, arith}
+use Rattle.std.proofs.Common.{◌≡◌, ℕ, ◌+◌, ◌-◌, ◌≤◌, cond, List, length, Some, is_some, refl, sym, ap, ◌∙◌, subst, arith}
 use Rattle.std.proofs.lemmas.Bool.{eq-eqb}
 use Rattle.std.specs.FinMap.{get, remove}
 use Rattle.std.specs.List.{each_same}
 use Rattle.busdma_base.specs.declared.bounce.hold.HubCall.TheVariants.{Grab}
 use Rattle.busdma_base.specs.declared.name.MapId.{MapId}
 use Rattle.busdma_base.specs.declared.name.ZoneId.{ZoneId}
+use Rattle.busdma_base.specs.declared.scenarios.scenario.PageRun.{PageRun}
 use Rattle.busdma_base.specs.declared.scenarios.script.Item.{Item}
-use Rattle.busdma_base.specs.declared.scenarios.script.Op.TheVariants.{Load}
-use Rattle.busdma_base.specs.declared.scenarios.script.Place.TheVariants.{At}
 use Rattle.busdma_base.specs.Bounce.Door.{Allows, Holds, account, grab_reply}
-use Rattle.busdma_base.specs.Machine.Entry.{entries_addresses}
 use Rattle.lane_tables.specs.Schedule.{Schedule}
-use Rattle.loan_table.specs.Loans.{new_loan}
 use Rattle.ideal_lane.proofs.Lookups.{get_put}
-use Rattle.ideal_lane.specs.Loads.{granted, is_coherent, limits_of, zone_of}
-use Rattle.ideal_lane.specs.Places.{reached}
+use Rattle.ideal_lane.specs.Loads.{granted, limits_of, load_entries, zone_of}
 use Rattle.ideal_lane.specs.Standing.{Stands}
 use Rattle.ideal_lane.specs.State.{LaneMap, LaneState, named}
+use Rattle.lane_core.specs.Awaiting.{IsLoadAt}
 use Rattle.lane_core.specs.Covered.{is_idle_map, pages_due}
 use Rattle.lane_core.specs.Ideal.{ideal_of}
 use Rattle.lane_core.specs.Kept.{map_of}
-use Rattle.lane_core.specs.Loading.{HasRoomForAny, buffer_chunks, buffer_entries}
+use Rattle.lane_core.specs.Loading.{HasRoomForAny, IsLoadable, bio_bytes, bio_chunks, bio_of, bio_reached, load_loan}
 use Rattle.lane_core.proofs.AwaitingLoads.{awaiting-but, awaiting-ready, awaiting-same, idle-unprepared, prepared-more}
 use Rattle.lane_core.proofs.Keeping.{idle-there}
+use Rattle.lane_core.proofs.LoadsAt.{at-same}
 use Rattle.lane_core.proofs.LoadSteps.{taken-out}
 use Rattle.lane_core.proofs.MapValues.{image-some}
 use Rattle.lane_core.proofs.Preparing.{has-need, room-for-any}
@@ -50,8 +48,7 @@ undo_load-requires-clause-prepared g c =
     let h = c.args.self.now in
     let l = ideal_of h in
     let k = c.args.map in
-    let loan = new_loan (is_coherent (get l.mems k))
-    (entries_addresses (buffer_entries l c.args.buffer.va.0 c.args.buffer.len)) in
+    let loan = load_loan l k (bio_of c.args.bytes) in
     ap is_some (ap (λ p. get p k) c.in_ok-ready_load.ensures.prepared ∙ get_put h.loans.prepared k loan k
     ∙ ap (λ b. cond b (Some loan) (get h.loans.prepared k)) (eq-eqb k k refl))
 
@@ -64,24 +61,28 @@ take_grabbed-requires-clause-idle g c =
 
 pub take_grabbed-requires-clause-reached : goal.take_grabbed-requires-clause-reached
 take_grabbed-requires-clause-reached g c =
-    ap (λ (x : LaneState). reached x c.args.buffer.va.0 c.args.buffer.len) c.in_ok-ready_load.ensures.same.ideal
+    ap (λ (x : LaneState). bio_reached x (bio_of c.args.bytes)) c.in_ok-ready_load.ensures.same.ideal
     ∙ c.requires.reached
+
+pub take_grabbed-requires-clause-loadable : goal.take_grabbed-requires-clause-loadable
+take_grabbed-requires-clause-loadable g c =
+    subst (λ (ps : List PageRun). IsLoadable ps (bio_of c.args.bytes))
+    (sym (ap (λ (x : LaneState). x.pages) c.in_ok-ready_load.ensures.same.ideal)) c.requires.loadable
 
 pub take_grabbed-requires-clause-room : goal.take_grabbed-requires-clause-room
 take_grabbed-requires-clause-room g c =
     let l = ideal_of c.args.self.now in
     let k = c.args.map in
-    let va = c.args.buffer.va.0 in
-    let len = c.args.buffer.len in
+    let b = bio_of c.args.bytes in
     let need = c.args.wanted.need in
     let r = c.in_ok-room.ensures in
     let room : (o : LaneMap) → get l.maps k ≡ Some o →
-    HasRoomForAny (limits_of l o) (buffer_chunks l o va len) need c.in_ok-room.room =
-    λ o found. room-for-any (limits_of l o) (buffer_chunks l o va len) len need c.args.wanted.segments c.in_ok-room.room
+    HasRoomForAny (limits_of l o) (bio_chunks l o b) need c.in_ok-room.room =
+    λ o found. room-for-any (limits_of l o) (bio_chunks l o b) (bio_bytes b) need c.args.wanted.segments c.in_ok-room.room
     (c.requires.wanted o found) r.list r.shown r.bounced r.list_room r.shown_room r.bounced_room r.addresses
     r.addresses_room in
     subst (λ (x : LaneState). (o : LaneMap) → get x.maps k ≡ Some o →
-    HasRoomForAny (limits_of x o) (buffer_chunks x o va len) need c.in_ok-room.room)
+    HasRoomForAny (limits_of x o) (bio_chunks x o b) need c.in_ok-room.room)
     (sym c.in_ok-ready_load.ensures.same.ideal) room
 
 pub take_grabbed-requires-clause-prepared : goal.take_grabbed-requires-clause-prepared
@@ -89,15 +90,13 @@ take_grabbed-requires-clause-prepared g c =
     let h = c.args.self.now in
     let l = ideal_of h in
     let k = c.args.map in
-    let va = c.args.buffer.va.0 in
-    let len = c.args.buffer.len in
+    let b = bio_of c.args.bytes in
     let mid = c.ready_load.new.self in
-    let loan = new_loan (is_coherent (get l.mems k)) (entries_addresses (buffer_entries l va len)) in
+    let loan = load_loan l k b in
     let prepared : get mid.loans.prepared k ≡ Some loan =
     ap (λ p. get p k) c.in_ok-ready_load.ensures.prepared ∙ get_put h.loans.prepared k loan k
     ∙ ap (λ b. cond b (Some loan) (get h.loans.prepared k)) (eq-eqb k k refl) in
-    subst (λ (x : LaneState). get mid.loans.prepared k
-    ≡ Some (new_loan (is_coherent (get x.mems k)) (entries_addresses (buffer_entries x va len))))
+    subst (λ (x : LaneState). get mid.loans.prepared k ≡ Some (load_loan x k b))
     (sym c.in_ok-ready_load.ensures.same.ideal) prepared
 
 pub take_grabbed-requires-clause-few_items : goal.take_grabbed-requires-clause-few_items
@@ -129,8 +128,7 @@ returns-clause-done g c o x found entries items =
     let h = c.args.self.now in
     let l = ideal_of h in
     let k = c.args.map in
-    let va = c.args.buffer.va.0 in
-    let len = c.args.buffer.len in
+    let b = bio_of c.args.bytes in
     let need = c.args.wanted.need in
     let d = g.D.HubDoor.seen c.args.door.now in
     let e = g.D.HubDoor.seen c.grab.new.self in
@@ -147,8 +145,8 @@ returns-clause-done g c o x found entries items =
           (subst (λ (z : ZoneId). Holds d c.map_id-id.result.lane.0 (Grab c.map_id-id.result z need c.args.nowait) reply e)
           zone c.in-Ok.ensures.held);
       is = c.take_grabbed.ensures.done o x (ap (λ (y : LaneState). get y.maps k) same ∙ found)
-          (entries ∙ sym (ap (λ (y : LaneState). buffer_entries y va len) same)) (items ∙ sym cloned)
-          ∙ ap (λ (y : LaneState). granted k o x (buffer_chunks y o va len) y reply) same;
+          (entries ∙ sym (ap (λ (y : LaneState). load_entries y b) same)) (items ∙ sym cloned)
+          ∙ ap (λ (y : LaneState). granted k o x (bio_chunks y o b) y reply) same;
     }
 
 pub ready_load-requires-clause-unprepared : goal.ready_load-requires-clause-unprepared
@@ -166,8 +164,7 @@ returns-in-Err-clause-awaiting g c =
     let h = c.args.self.now in
     let l = ideal_of h in
     let k = c.args.map in
-    let loan = new_loan (is_coherent (get l.mems k))
-    (entries_addresses (buffer_entries l c.args.buffer.va.0 c.args.buffer.len)) in
+    let loan = load_loan l k (bio_of c.args.bytes) in
     let ready = c.in_ok-ready_load.ensures in
     let undone = c.undo_load.ensures in
     awaiting-same h c.undo_load.new.self (undone.same.ideal ∙ ready.same.ideal)
@@ -185,8 +182,7 @@ take_grabbed-requires-clause-awaiting g c =
     let l = ideal_of h in
     let k = c.args.map in
     let mid = c.ready_load.new.self in
-    let loan = new_loan (is_coherent (get l.mems k))
-    (entries_addresses (buffer_entries l c.args.buffer.va.0 c.args.buffer.len)) in
+    let loan = load_loan l k (bio_of c.args.bytes) in
     let ready = c.in_ok-ready_load.ensures in
     awaiting-ready h mid ready.same.ideal (ap (λ t. t.map) ready.maps) k
     (prepared-more h.loans.prepared mid.loans.prepared k loan ready.prepared) (awaiting-but h k c.requires.awaiting)
@@ -199,11 +195,11 @@ take_grabbed-requires-clause-next g c =
     let script : c.ready_load.new.self.script.now ≡ c.args.self.now.script.now =
     ap (λ (y : LaneState). y.script) ready.same.ideal in
     let place : c.ready_load.new.self.agenda.place ≡ c.args.self.now.agenda.place = ap (λ a. a.place) ready.promised in
-    record {
-      flags = next.flags;
-      load = (λ i. slice_get (script i) (place i)) ∙ next.load
-          ∙ ap (λ is. Some (Load c.args.map (At c.args.buffer.va) c.args.buffer.len next.flags is)) (sym items);
-    }
+    let at =
+    at-same c.args.self.now c.ready_load.new.self c.args.self.now.agenda.place c.args.map (bio_of c.args.bytes)
+    c.args.items.now script next in
+    subst (λ (p : ℕ × List Item). IsLoadAt c.ready_load.new.self p.0 c.args.map (bio_of c.args.bytes) p.1)
+    (λ i. (sym place i, sym items i)) at
 
 pub returns-in-Err-clause-unpromised : goal.returns-in-Err-clause-unpromised
 returns-in-Err-clause-unpromised g c =

@@ -2,19 +2,17 @@ use Rattle.std.proofs.Common.{◌≡◌, ◌≤◌, cond, List, [], length, Some
 use Rattle.std.proofs.lemmas.Bool.{eq-eqb}
 use Rattle.std.specs.FinMap.{get}
 use Rattle.std.specs.List.{each_same}
+use Rattle.busdma_base.specs.declared.scenarios.scenario.PageRun.{PageRun}
 use Rattle.busdma_base.specs.declared.scenarios.script.Item.{Item}
-use Rattle.busdma_base.specs.Machine.Entry.{entries_addresses}
 use Rattle.busdma_base.specs.Machine.Page.{FrameBytes}
 use Rattle.busdma_base.specs.Machine.PageList.{RoomyPages, page_addresses}
-use Rattle.loan_table.specs.Loans.{new_loan}
 use Rattle.ideal_lane.proofs.Lookups.{get_put}
-use Rattle.ideal_lane.specs.Loads.{finished, is_coherent, limits_of}
-use Rattle.ideal_lane.specs.Places.{reached}
+use Rattle.ideal_lane.specs.Loads.{finished, limits_of, load_entries}
 use Rattle.ideal_lane.specs.Standing.{Stands}
 use Rattle.ideal_lane.specs.State.{LaneMap, LaneState}
 use Rattle.lane_core.specs.Covered.{is_idle_map}
 use Rattle.lane_core.specs.Ideal.{ideal_of}
-use Rattle.lane_core.specs.Loading.{HasRoomForAny, buffer_chunks, buffer_entries}
+use Rattle.lane_core.specs.Loading.{HasRoomForAny, IsLoadable, bio_bytes, bio_chunks, bio_of, bio_reached, load_loan}
 use Rattle.lane_core.proofs.AwaitingLoads.{awaiting-but, awaiting-ready, awaiting-same, idle-unprepared, prepared-more}
 use Rattle.lane_core.proofs.Preparing.{room-for-any}
 use Rattle.lane_core.proofs.holdings.Holdings.load_direct.Goals as goal
@@ -25,8 +23,7 @@ complete_load-requires c =
     let mid = c.prepare_load.new.self in
     let l = ideal_of h in
     let k = c.args.map in
-    let va = c.args.buffer.va.0 in
-    let len = c.args.buffer.len in
+    let b = bio_of c.args.bytes in
     let done = c.in_ok-prepare_load.ensures in
     let e : ideal_of mid ≡ l = done.same.ideal in
     let none : c.in_ok-pages.pages.items ≡ [] = ap (λ (p : RoomyPages). p.items) c.in_ok-pages.ensures in
@@ -35,12 +32,12 @@ complete_load-requires c =
     let need : c.args.wanted.need ≡ length c.in_ok-pages.pages.items =
     c.requires.direct ∙ sym (ap (λ (ps : List FrameBytes). length ps) none) in
     let room : (o : LaneMap) → get l.maps k ≡ Some o →
-    HasRoomForAny (limits_of l o) (buffer_chunks l o va len) (length c.in_ok-pages.pages.items) c.in_ok-room.room =
-    λ o found. subst (λ n. HasRoomForAny (limits_of l o) (buffer_chunks l o va len) n c.in_ok-room.room) need
-    (room-for-any (limits_of l o) (buffer_chunks l o va len) len c.args.wanted.need c.args.wanted.segments
+    HasRoomForAny (limits_of l o) (bio_chunks l o b) (length c.in_ok-pages.pages.items) c.in_ok-room.room =
+    λ o found. subst (λ n. HasRoomForAny (limits_of l o) (bio_chunks l o b) n c.in_ok-room.room) need
+    (room-for-any (limits_of l o) (bio_chunks l o b) (bio_bytes b) c.args.wanted.need c.args.wanted.segments
     c.in_ok-room.room (c.requires.wanted o found) r.list r.shown r.bounced r.list_room r.shown_room r.bounced_room
     r.addresses r.addresses_room) in
-    let loan = new_loan (is_coherent (get l.mems k)) (entries_addresses (buffer_entries l va len)) in
+    let loan = load_loan l k b in
     let prepared : get mid.loans.prepared k ≡ Some loan =
     ap (λ p. get p k) done.prepared ∙ get_put h.loans.prepared k loan k
     ∙ ap (λ b. cond b (Some loan) (get h.loans.prepared k)) (eq-eqb k k refl) in
@@ -49,13 +46,13 @@ complete_load-requires c =
       idle = ap (λ t. is_idle_map (get t.map k)) done.maps ∙ c.requires.idle;
       awaiting = awaiting-ready h mid e (ap (λ t. t.map) done.maps) k
           (prepared-more h.loans.prepared mid.loans.prepared k loan done.prepared) (awaiting-but h k c.requires.awaiting);
-      reached = ap (λ (x : LaneState). reached x va len) e ∙ c.requires.reached;
-      small = c.requires.small;
+      reached = ap (λ (x : LaneState). bio_reached x b) e ∙ c.requires.reached;
+      loadable = subst (λ (ps : List PageRun). IsLoadable ps b) (sym (ap (λ (x : LaneState). x.pages) e))
+          c.requires.loadable;
       room = subst (λ (x : LaneState). (o : LaneMap) → get x.maps k ≡ Some o →
-          HasRoomForAny (limits_of x o) (buffer_chunks x o va len) (length c.in_ok-pages.pages.items) c.in_ok-room.room)
+          HasRoomForAny (limits_of x o) (bio_chunks x o b) (length c.in_ok-pages.pages.items) c.in_ok-room.room)
           (sym e) room;
-      prepared = subst (λ (x : LaneState). get mid.loans.prepared k
-          ≡ Some (new_loan (is_coherent (get x.mems k)) (entries_addresses (buffer_entries x va len)))) (sym e) prepared;
+      prepared = subst (λ (x : LaneState). get mid.loans.prepared k ≡ Some (load_loan x k b)) (sym e) prepared;
       few_items = subst (λ (is : List Item). length is ≤ mid.agenda.room) (sym items)
           (subst (λ n. length c.args.items.now ≤ n) (sym (ap (λ a. a.room) done.agenda)) c.requires.few_items);
       promised = let fits = mid.promised in omega (arith, fits, ap (λ (ps : List FrameBytes). length ps) none);
@@ -67,15 +64,14 @@ returns-clause-done c o x found entries items =
     let mid = c.prepare_load.new.self in
     let l = ideal_of h in
     let k = c.args.map in
-    let va = c.args.buffer.va.0 in
-    let len = c.args.buffer.len in
+    let b = bio_of c.args.bytes in
     let done = c.in_ok-prepare_load.ensures in
     let e : ideal_of mid ≡ l = done.same.ideal in
     let none : c.in_ok-pages.pages.items ≡ [] = ap (λ (p : RoomyPages). p.items) c.in_ok-pages.ensures in
     let same : c.in_ok-items.items ≡ c.args.items.now = each_same _ _ c.in_ok-items.ensures.cases in
     c.complete_load.ensures.done o x (ap (λ (y : LaneState). get y.maps k) e ∙ found)
-    (entries ∙ sym (ap (λ (y : LaneState). buffer_entries y va len) e)) (items ∙ sym same)
-    ∙ (λ i. finished k o ((c.place-load_at.ensures ∙ ap (λ a. a.place) done.agenda) i) x (buffer_chunks (e i) o va len)
+    (entries ∙ sym (ap (λ (y : LaneState). load_entries y b) e)) (items ∙ sym same)
+    ∙ (λ i. finished k o ((c.place-load_at.ensures ∙ ap (λ a. a.place) done.agenda) i) x (bio_chunks (e i) o b)
     (page_addresses (none i)) (e i))
 
 pub returns-clause-bytes : goal.returns-clause-bytes

@@ -1,14 +1,16 @@
 use Rattle.std.proofs.Common.{◌≡◌, ◌<◌, ◌≤◌, length, sym, ap, ◌∙◌, subst, arith}
 use Rattle.busdma_base.specs.declared.tags.tag.TagLimits.{TagLimits}
+use Rattle.busdma_base.specs.Machine.Entry.{unmapped_of}
 use Rattle.segment_build.specs.Building.{placed_pieces}
 use Rattle.segment_build.specs.Chunks.{need_of}
+use Rattle.segment_build.specs.Streams.{stream_chunks}
 use Rattle.ideal_lane.specs.Loads.{limits_of}
 use Rattle.ideal_lane.specs.State.{LaneMap}
 use Rattle.lane_core.specs.Ideal.{ideal_of}
 use Rattle.lane_core.specs.Kept.{map_of, tag_of}
-use Rattle.lane_core.specs.Loading.{IsWanted, buffer_chunks}
-use Rattle.lane_core.proofs.BufferBytes.{none-unmapped}
+use Rattle.lane_core.specs.Loading.{IsWanted, bio_bytes, bio_chunks, bio_of}
 use Rattle.lane_core.proofs.Chunked.{load-chunks, kept-limits}
+use Rattle.lane_core.proofs.LoadStreams.{none-unmapped}
 use Rattle.lane_core.proofs.MapValues.{image-none, image-some}
 use Rattle.lane_core.proofs.holdings.Holdings.measure_load.Goals as goal
 
@@ -21,8 +23,8 @@ returns-in_err-made-clause-long c =
     let none = image-none tag_of h.tags.map o.tag (sym c.in_err-made.ensures) in
     absurd (cc)
 
-pub returns-then-limits-buffer-clause-long : goal.returns-then-limits-buffer-clause-long
-returns-then-limits-buffer-clause-long c other found =
+pub returns-then-limits-len-clause-long : goal.returns-then-limits-len-clause-long
+returns-then-limits-len-clause-long c other found =
     let h = c.args.self.now in
     let l = ideal_of h in
     let o = c.in_ok-kept.kept.now in
@@ -30,14 +32,16 @@ returns-then-limits-buffer-clause-long c other found =
     let is = image-some map_of h.maps.map c.args.map o (sym c.in_ok-kept.ensures) in
     let same : map_of o ≡ other = cc in
     let limits = kept-limits h (map_of o) made (sym c.in_ok-made.ensures) in
-    subst (λ (x : LaneMap). (limits_of l x).maxsize < c.args.buffer.len) same
-    (subst (λ (u : TagLimits). u.maxsize < c.args.buffer.len) (c.limits-limits.ensures.limits ∙ sym limits)
-    c.if-limits-buffer.true)
+    let long : c.limits-limits.result.now.maxsize < bio_bytes (bio_of c.args.bytes) =
+    subst (λ n. c.limits-limits.result.now.maxsize < n) c.len.ensures c.if-limits-len.true in
+    subst (λ (x : LaneMap). (limits_of l x).maxsize < bio_bytes (bio_of c.args.bytes)) same
+    (subst (λ (u : TagLimits). u.maxsize < bio_bytes (bio_of c.args.bytes)) (c.limits-limits.ensures.limits ∙ sym limits)
+    long)
 
 pub returns-in_default-clause-long : goal.returns-in_default-clause-long
 returns-in_default-clause-long c other found =
-    absurd (none-unmapped c.args.self.now c.args.buffer.va.0 c.args.buffer.len c.requires.reached c.in_default.field-0
-    c.in_default.ensures)
+    absurd (none-unmapped (ideal_of c.args.self.now) (bio_of c.args.bytes) c.requires.reached c.in_default.field-0
+    (sym (ap unmapped_of c.parts.ensures.parts) ∙ c.in_default.ensures))
 
 pub returns-clause-wanted : goal.returns-clause-wanted
 returns-clause-wanted c other found =
@@ -45,17 +49,18 @@ returns-clause-wanted c other found =
     let l = ideal_of h in
     let o = c.in_ok-kept.kept.now in
     let made = c.in_ok-made.made.now in
-    let va = c.args.buffer.va.0 in
-    let len = c.args.buffer.len in
+    let b = bio_of c.args.bytes in
     let is = image-some map_of h.maps.map c.args.map o (sym c.in_ok-kept.ensures) in
     let same : map_of o ≡ other = cc in
     let limits = kept-limits h (map_of o) made (sym c.in_ok-made.ensures) in
-    let chunks = load-chunks h va len (map_of o) made.tag c.requires.reached limits in
+    let chunks = ap (stream_chunks made.tag h.maxmem) c.parts.ensures.parts
+    ∙ load-chunks l b (map_of o) made.tag c.requires.reached limits in
     let measured = c.in-Fits.ensures in
     let tag : c.limits-limits.result.now ≡ made.tag = c.limits-limits.ensures.limits in
-    let base : IsWanted made.tag (buffer_chunks l (map_of o) va len) len c.in-Fits.need c.min-segments.result =
+    let base : IsWanted made.tag (bio_chunks l (map_of o) b) (bio_bytes b) c.in-Fits.need c.min-segments.result =
     record {
-      short = subst (λ (u : TagLimits). len ≤ u.maxsize) tag c.if-limits-buffer.false;
+      short = subst (λ (u : TagLimits). bio_bytes b ≤ u.maxsize) tag
+          (subst (λ n. n ≤ c.limits-limits.result.now.maxsize) c.len.ensures c.if-limits-len.false);
       need = measured.need ∙ ap need_of chunks;
       segments = λ pages are. omega (
         arith,
@@ -65,7 +70,7 @@ returns-clause-wanted c other found =
         ap (λ (u : TagLimits). u.nsegments) tag,
       );
     } in
-    subst (λ (x : LaneMap). IsWanted (limits_of l x) (buffer_chunks l x va len) len c.in-Fits.need c.min-segments.result)
-    same
-    (subst (λ (u : TagLimits). IsWanted u (buffer_chunks l (map_of o) va len) len c.in-Fits.need c.min-segments.result)
+    subst (λ (x : LaneMap). IsWanted (limits_of l x) (bio_chunks l x b) (bio_bytes b) c.in-Fits.need
+    c.min-segments.result) same
+    (subst (λ (u : TagLimits). IsWanted u (bio_chunks l (map_of o) b) (bio_bytes b) c.in-Fits.need c.min-segments.result)
     (sym limits) base)

@@ -1,19 +1,22 @@
 use Rattle.std.proofs.Common.{◌≡◌, ◌≤◌, ◌<◌, ◌+◌, ◌^◌, IfOk, Some, length, refl, ap, sym, ◌∙◌, subst, arith}
 use Rattle.busdma_base.specs.declared.scenarios.script.Op.{Op}
-use Rattle.busdma_base.specs.Scenarios.Limits.{buffer_limit}
 use Rattle.busdma_base.specs.Scenarios.Operations.{items_of, loaded_by}
 use Rattle.ideal_lane.specs.Accesses.{cpu_write}
+use Rattle.ideal_lane.specs.Asking.{Asking}
+use Rattle.ideal_lane.specs.Outcomes.{Outcome}
 use Rattle.ideal_lane.specs.Turns.{operation}
 use Rattle.ideal_wire.specs.WireStep as wires
 use Rattle.lane_core.specs.Doing.{IsAllowedBy, IsDone, asks}
 use Rattle.lane_core.specs.Ideal.{given, ideal_of}
 use Rattle.lane_core.specs.Kept.{map_of, tag_of}
+use Rattle.lane_core.specs.Loading.{bio_of}
 use Rattle.lane_core.specs.Wire.{wire_of}
 use Rattle.lane_core.proofs.Doors.{always-ok}
 use Rattle.lane_core.proofs.Following.{stays-all, stays-held}
+use Rattle.lane_core.proofs.LoadsAt.{bytes-is, loadable-at}
 use Rattle.lane_core.proofs.ScriptTurns.{few-items}
 use Rattle.lane_core.proofs.SmallLoads.{few-promised}
-use Rattle.lane_core.proofs.OperationSteps.{done-wire, load_here, paged-wire, quiet-done, quiet-held, vacant}
+use Rattle.lane_core.proofs.OperationSteps.{done-wire, load-named, paged-wire, quiet-done, quiet-held, vacant}
 use Rattle.lane_core.proofs.holdings.Holdings.operation.Goals as goal
 
 pub make_tag-requires-clause-allowed : goal.make_tag-requires-clause-allowed
@@ -67,26 +70,29 @@ returns-in-Map-clause-wire g c =
 pub load-requires-clause-allowed : goal.load-requires-clause-allowed
 load-requires-clause-allowed g c =
     let h = c.args.self.now in
-    subst (λ (o : Op). IsAllowedBy (g.D.HubDoor.seen c.args.door.now) h.id.0 (operation o (ideal_of h)))
-    (load_here c.args.op.now _ _ _ _ _ c.at-buffer.result c.in-Load.is c.at-buffer.ensures.place c.at-buffer.ensures.len)
+    subst (IsAllowedBy (g.D.HubDoor.seen c.args.door.now) h.id.0)
+    (load-named (ideal_of h) c.args.op.now _ _ _ _ (bio_of c.of.result) c.never_waits-nowait.result c.in-Load.is
+    (c.of.ensures (ideal_of h)) c.never_waits-nowait.ensures)
     c.requires.allowed
 
 pub returns-in-Load-clause-done : goal.returns-in-Load-clause-done
 returns-in-Load-clause-done g c =
     let h = c.args.self.now in
-    subst (λ (o : Op). IfOk c.load.result (λ r. IsDone (g.D.HubDoor.seen c.args.door.now) h.id.0
-    (operation o (ideal_of h)) (given c.load.new.self r.answer) (g.D.HubDoor.seen c.load.new.door)))
-    (sym (load_here c.args.op.now _ _ _ _ _ c.at-buffer.result c.in-Load.is c.at-buffer.ensures.place c.at-buffer.ensures.len)) c.load.ensures.done
+    subst (λ (step : Asking Outcome). IfOk c.load.result (λ r. IsDone (g.D.HubDoor.seen c.args.door.now) h.id.0
+    step (given c.load.new.self r.answer) (g.D.HubDoor.seen c.load.new.door)))
+    (sym (load-named (ideal_of h) c.args.op.now _ _ _ _ (bio_of c.of.result) c.never_waits-nowait.result c.in-Load.is
+    (c.of.ensures (ideal_of h)) c.never_waits-nowait.ensures)) c.load.ensures.done
 
 pub returns-in-Load-clause-held : goal.returns-in-Load-clause-held
 returns-in-Load-clause-held g c =
     let h = c.args.self.now in
-    subst (λ (o : Op). IfOk c.load.result (λ r. r.held ≡ asks (operation o (ideal_of h)))) (sym (load_here c.args.op.now _ _ _ _ _ c.at-buffer.result c.in-Load.is c.at-buffer.ensures.place c.at-buffer.ensures.len))
-    c.load.ensures.held
+    subst (λ (step : Asking Outcome). IfOk c.load.result (λ r. r.held ≡ asks step))
+    (sym (load-named (ideal_of h) c.args.op.now _ _ _ _ (bio_of c.of.result) c.never_waits-nowait.result c.in-Load.is
+    (c.of.ensures (ideal_of h)) c.never_waits-nowait.ensures)) c.load.ensures.held
 
 pub returns-in-Load-clause-wire : goal.returns-in-Load-clause-wire
 returns-in-Load-clause-wire g c =
-    always-ok c.load.result (paged-wire c.args.self.now c.load.new.self c.args.op.now _ (load_here c.args.op.now _ _ _ _ _ c.at-buffer.result c.in-Load.is c.at-buffer.ensures.place c.at-buffer.ensures.len) refl
+    always-ok c.load.result (paged-wire c.args.self.now c.load.new.self c.args.op.now _ c.in-Load.is refl
     c.load.ensures.bytes)
 
 pub destroy_map-requires : goal.destroy_map-requires
@@ -226,27 +232,36 @@ make_map-requires-clause-vacant g c =
     let h = c.args.self.now in
     vacant map_of h.maps.map h.agenda.place (c.requires.stands.no_map h.agenda.place (omega arith))
 
-pub load-requires-clause-here : goal.load-requires-clause-here
-load-requires-clause-here g c =
-    c.requires.here ∙ ap (λ (o : Op). Some o) (load_here c.args.op.now _ _ _ _ _ c.at-buffer.result c.in-Load.is c.at-buffer.ensures.place c.at-buffer.ensures.len)
+pub load-requires-clause-next : goal.load-requires-clause-next
+load-requires-clause-next g c = record {
+  buffer = c.in-Load.buffer;
+  flags = c.in-Load.flags;
+  load = c.requires.here ∙ ap (λ (o : Op). Some o) c.in-Load.is;
+  bytes = c.of.ensures (ideal_of c.args.self.now);
+}
 
-pub load-requires-clause-small : goal.load-requires-clause-small
-load-requires-clause-small g c =
+pub load-requires-clause-loadable : goal.load-requires-clause-loadable
+load-requires-clause-loadable g c =
     let h = c.args.self.now in
-    subst (λ (o : Op). loaded_by o ≤ buffer_limit)
-    (load_here c.args.op.now _ _ _ _ _ c.at-buffer.result c.in-Load.is c.at-buffer.ensures.place c.at-buffer.ensures.len)
-    (c.requires.provided.small.each h.agenda.place c.args.op.now c.requires.here)
+    loadable-at h h.agenda.place _ (bio_of c.of.result) _ c.requires.wired.machine c.requires.provided.small
+    (load-requires-clause-next g c)
 
 pub load-requires-clause-few_items : goal.load-requires-clause-few_items
 load-requires-clause-few_items g c =
     let h = c.args.self.now in
-    subst (λ (o : Op). length (items_of o) ≤ h.agenda.room)
-    (load_here c.args.op.now _ _ _ _ _ c.at-buffer.result c.in-Load.is c.at-buffer.ensures.place c.at-buffer.ensures.len)
+    subst (λ (o : Op). length (items_of o) ≤ h.agenda.room) c.in-Load.is
     (few-items h c.args.op.now c.requires.here c.requires.room)
 
 pub load-requires-clause-few_pages : goal.load-requires-clause-few_pages
 load-requires-clause-few_pages g c =
     let h = c.args.self.now in
-    subst (λ (o : Op). h.agenda.promised + loaded_by o < 2 ^ 32)
-    (load_here c.args.op.now _ _ _ _ _ c.at-buffer.result c.in-Load.is c.at-buffer.ensures.place c.at-buffer.ensures.len)
+    let bytes = bytes-is (ideal_of h) c.in-Load.buffer (bio_of c.of.result) (c.of.ensures (ideal_of h)) in
+    subst (λ n. h.agenda.promised + n < 2 ^ 32) (ap loaded_by c.in-Load.is ∙ sym bytes)
     (few-promised h c.requires.provided.small c.args.op.now c.requires.here)
+
+pub returns-in-Load-clause-promised : goal.returns-in-Load-clause-promised
+returns-in-Load-clause-promised g c =
+    let h = c.args.self.now in
+    let bytes = bytes-is (ideal_of h) c.in-Load.buffer (bio_of c.of.result) (c.of.ensures (ideal_of h)) in
+    subst (λ n. c.load.new.self.agenda.promised ≤ h.agenda.promised + n) (bytes ∙ sym (ap loaded_by c.in-Load.is))
+    c.load.ensures.promised

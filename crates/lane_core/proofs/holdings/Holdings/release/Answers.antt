@@ -69,6 +69,7 @@ invariant_of-self-2 g c =
     record {
       covered = h.covered;
       reaches = h.reaches;
+      framed = h.framed;
       tag_places = h.tag_places ∙ length;
       map_places = ap (λ t. t.places) maps ∙ h.map_places ∙ length;
       memory_places = h.memory_places ∙ length;

@@ -68,6 +68,7 @@ invariant_of-self c =
     record {
       covered = λ a. ap (λ b. contains_key b a) c.open_map.ensures.bytes ∙ h.covered a;
       reaches = h.reaches;
+      framed = h.framed;
       tag_places = h.tag_places;
       map_places = ap (λ t. t.places) c.put.ensures ∙ ap (λ t. t.places) c.in-Some.ensures.taken
           ∙ h.map_places;

@@ -88,6 +88,7 @@ invariant_of-self-2 c =
           ∙ h.covered a ∙ sym (c.copy_part.ensures.same.frames (a / 4096));
       reaches = λ va. ap (λ t. t va)
           (same-physical h.memory.memory c.copy_part.new.memory.memory c.copy_part.ensures.same) ∙ h.reaches va;
+      framed = λ f own. c.copy_part.ensures.same.frames f ∙ h.framed f own;
       tag_places = h.tag_places;
       map_places = put.1 ∙ h.map_places;
       memory_places = h.memory_places;

@@ -1,4 +1,4 @@
-use Rattle.std.proofs.Common.{◌≡◌, ℕ, List, [], ◌∷◌, None, refl, slice_get, sym, ap, ◌∙◌, subst}
+use Rattle.std.proofs.Common.{◌≡◌, ℕ, List, [], ◌∷◌, None, refl, sym, ap, ◌∙◌, subst}
 use Rattle.std.specs.FinMap.{get}
 use Rattle.busdma_base.specs.declared.bounce.door.Grabbed.{Grabbed}
 use Rattle.busdma_base.specs.declared.bounce.door.Grabbed.TheVariants.{Granted}
@@ -11,11 +11,11 @@ use Rattle.lane_agreement.specs.After.{addresses}
 use Rattle.segment_build.specs.Chunks.{need_of}
 use Rattle.ideal_lane.specs.Loads.{finished, granted, limits_of, staged}
 use Rattle.ideal_lane.specs.State.{LaneState, Idle, Waiting}
-use Rattle.lane_core.specs.Awaiting.{AreAwaiting, kept_load}
+use Rattle.lane_core.specs.Awaiting.{AreAwaiting, IsLoadAt, kept_load}
 use Rattle.lane_core.specs.Covered.{is_idle_map}
 use Rattle.lane_core.specs.Ideal.{ideal_of}
 use Rattle.lane_core.specs.Kept.{map_of}
-use Rattle.lane_core.specs.Loading.{HasNeed, HasRoomForAny, buffer_chunks}
+use Rattle.lane_core.specs.Loading.{HasNeed, HasRoomForAny, bio_chunks, bio_of}
 use Rattle.lane_core.proofs.AwaitingLoads.{IsReadyLoad, KeepsOthers, awaiting-none, awaiting-one, awaiting-others}
 use Rattle.lane_core.proofs.AwaitingLoads.{awaiting-ready, awaiting-tried, begins-waiting, cut-at, prepared-less}
 use Rattle.lane_core.proofs.AwaitingLoads.{idle-unkept, stays-staged}
@@ -30,7 +30,7 @@ same-pages (p ∷ pas) = ap (λ ps. p ∷ ps) (same-pages pas)
 pub complete_load-requires-clause-room : goal.complete_load-requires-clause-room
 complete_load-requires-clause-room c o found =
     let l = ideal_of c.args.self.now in
-    let chunks = buffer_chunks l o c.args.buffer.va.0 c.args.buffer.len in
+    let chunks = bio_chunks l o (bio_of c.args.bytes) in
     let all : HasNeed c.args.need (Granted c.in-Granted.pages) =
     subst (λ (g : Grabbed). HasNeed c.args.need g) c.in-Granted.is c.requires.granted in
     subst (λ n. HasRoomForAny (limits_of l o) chunks n c.args.room) (sym all) (c.requires.room o found)
@@ -38,7 +38,7 @@ complete_load-requires-clause-room c o found =
 pub returns-in-Granted-clause-done : goal.returns-in-Granted-clause-done
 returns-in-Granted-clause-done c o x found entries items =
     let l = ideal_of c.args.self.now in
-    let chunks = buffer_chunks l o c.args.buffer.va.0 c.args.buffer.len in
+    let chunks = bio_chunks l o (bio_of c.args.bytes) in
     let pas = page_addresses c.in-Granted.pages.items in
     c.complete_load.ensures.done o x found entries items
     ∙ (λ i. finished c.args.map o (c.place-load_at.ensures i) x chunks (sym (same-pages pas) i) l)
@@ -47,7 +47,7 @@ returns-in-Granted-clause-done c o x found entries items =
 pub returns-in-Queued-clause-done : goal.returns-in-Queued-clause-done
 returns-in-Queued-clause-done c o x found entries items =
     let l = ideal_of c.args.self.now in
-    let chunks = buffer_chunks l o c.args.buffer.va.0 c.args.buffer.len in
+    let chunks = bio_chunks l o (bio_of c.args.bytes) in
     let need : c.args.need ≡ need_of chunks = (c.requires.room o found).need in
     (λ i. record {
       lane = (c.wait_load.ensures.done o found
@@ -59,7 +59,7 @@ returns-in-Queued-clause-done c o x found entries items =
 pub returns-in-NoPages-clause-done : goal.returns-in-NoPages-clause-done
 returns-in-NoPages-clause-done c o x found entries items =
     let l = ideal_of c.args.self.now in
-    let chunks = buffer_chunks l o c.args.buffer.va.0 c.args.buffer.len in
+    let chunks = bio_chunks l o (bio_of c.args.bytes) in
     let e : ideal_of c.undo_load.new.self ≡ l = c.undo_load.ensures.same.ideal in
     (λ i. record {
       lane = (c.note_tried.ensures.done o (ap (λ (y : LaneState). get y.maps c.args.map) e ∙ found)
@@ -85,12 +85,10 @@ returns-in-Queued-clause-awaiting c =
       prepared = λ q off. ap (λ ps. get ps q) c.wait_load.ensures.prepared;
     } in
     let ready : IsReadyLoad h m at need o c.args.items c.args.room = record {
-      va = c.args.buffer.va;
-      len = c.args.buffer.len;
-      flags = c.requires.next.flags;
+      bio = bio_of c.args.bytes;
       there = is;
       idle = sym (ap is_idle_map idle.1) ∙ c.requires.idle;
-      load = ap (slice_get h.script.now) c.place-load_at.ensures ∙ c.requires.next.load;
+      at = subst (λ p. IsLoadAt h p m (bio_of c.args.bytes) c.args.items) (sym c.place-load_at.ensures) c.requires.next;
       own = c.requires.own;
       reached = c.requires.reached;
       fits = c.requires.room o is;

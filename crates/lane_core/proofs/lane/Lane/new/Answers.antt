@@ -16,7 +16,7 @@ use Rattle.lane_core.proofs.MapValues.{map_values-empty}
 use Rattle.lane_core.proofs.OwnRuns.{AreKnown}
 use Rattle.lane_core.proofs.OpensProvided.{opens-provided}
 use Rattle.lane_core.proofs.OpensWired.{opens-wired}
-use Rattle.lane_core.proofs.OpeningLane.{held-zeros, opens-covered, opens-mapless, opens-reaching}
+use Rattle.lane_core.proofs.OpeningLane.{held-zeros, opens-covered, opens-framed, opens-mapless, opens-reaching}
 use Rattle.lane_core.proofs.lane.Lane.new.Goals as goal
 
 pub invariant_of-result-clause-covered : goal.invariant_of-result-clause-covered
@@ -32,6 +32,10 @@ invariant_of-result-clause-reaches c =
     opens-reaching c.as_slice-pages.result.now c.in_ok-new-3.field-0.map c.args.memory.memory
     (ap (λ t. t.map) c.in_ok-new-3.ensures)
     (rw c.as_slice-pages.ensures c.requires.memory)
+
+pub invariant_of-result-clause-framed : goal.invariant_of-result-clause-framed
+invariant_of-result-clause-framed c =
+    opens-framed c.as_slice-pages.result.now c.args.memory.memory (rw c.as_slice-pages.ensures c.requires.memory)
 
 pub invariant_of-result-clause-loaded : goal.invariant_of-result-clause-loaded
 invariant_of-result-clause-loaded c =
@@ -116,6 +120,7 @@ invariant_of-result-2-clause-wired c =
       shares = share_of (c.new-5.ensures.items i);
     })
     (ap (λ t. t.map) c.in_ok-new-2.ensures) c.requires.memory.zero c.requires.numbered c.requires.inside
+    c.requires.bios
 
 pub invariant_of-result-2-clause-stands : goal.invariant_of-result-2-clause-stands
 invariant_of-result-2-clause-stands c =
