@@ -5,6 +5,7 @@ ghost use Rattle.std.specs.Prelude.{◌≤◌};
 mod bounces;
 mod causes;
 mod deferrals;
+mod kinds;
 mod large;
 mod lines;
 mod refusals;

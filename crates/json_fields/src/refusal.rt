@@ -22,6 +22,8 @@ pub enum LimitName {
     Order,
     /// The operations and items of a driver.
     Steps,
+    /// The spans or frames of one load.
+    Entries,
     /// The bytes of one access.
     Access,
     /// The bytes that all drivers and devices read.
@@ -78,6 +80,7 @@ impl fmt::Display for LimitName {
             LimitName::Drivers => "drivers",
             LimitName::Order => "order",
             LimitName::Steps => "steps",
+            LimitName::Entries => "entries",
             LimitName::Access => "access",
             LimitName::Reads => "reads",
             LimitName::Buffer => "buffer",

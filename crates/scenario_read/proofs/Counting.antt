@@ -16,7 +16,7 @@ same a b c a' b' c' p q r = cc
 
 pub with_op_quiet : (c : Counts) (o : Op) → IsQuiet o → c ≡ with_op c o
 with_op_quiet c o h =
-    same _ _ _ _ _ _ (omega (arith, h.no_items)) (omega (arith, h.reads_nothing)) (omega (arith, h.loads_nothing))
+    same _ _ _ _ _ _ (omega (arith, h.no_items)) (omega (arith, h.reads_nothing)) (rw h.loads_nothing (omega arith))
 
 pub with_ops_more : (c : Counts) (ops : List Op) (o : Op) →
     with_op (stepped (with_ops c ops)) o ≡ with_ops c (ops ++ o ∷ [])

@@ -1,10 +1,10 @@
 -- What is counted for the limits: the steps of a script, and the bytes that all scripts read and load.
-use Rattle.std.specs.Prelude.{◌≡◌, ℕ, ◌+◌, ◌≤◌, List, length, sum_by, Ok, if◌then◌else◌, nat_lt, ⊤}
+use Rattle.std.specs.Prelude.{◌≡◌, ℕ, ◌+◌, ◌≤◌, List, length, sum_by, None, Ok, if◌then◌else◌, nat_lt, ⊤}
 use Rattle.busdma_base.specs.declared.scenarios.script.Op.{Op}
 use Rattle.busdma_base.specs.declared.scenarios.script.Item.{Item}
 use Rattle.busdma_base.specs.declared.scenarios.scenario.Driver.{Driver}
 use Rattle.busdma_base.specs.Scenarios.Limits.{access_limit}
-use Rattle.busdma_base.specs.Scenarios.Operations.{items_of, read_by, read_by_item, loaded_by}
+use Rattle.busdma_base.specs.Scenarios.Operations.{about, items_of, read_by, read_by_item, loaded_by}
 use Rattle.busdma_base.specs.Scenarios.Script.{steps_of}
 use Rattle.busdma_base.specs.Scenarios.Valid.{read_of, loaded_of}
 use Rattle.json_fields.specs.Place.{Place}
@@ -59,7 +59,7 @@ pub record IsWithin (c : Counts) : Type 0 where
 pub record IsQuiet (o : Op) : Type 0 where
   pub no_items : length (items_of o) ≡ 0
   pub reads_nothing : read_by o ≡ 0
-  pub loads_nothing : loaded_by o ≡ 0
+  pub loads_nothing : (about o).loads ≡ None
 
 -- one more step of the script
 abbrev pub step_judged : Counts → Place → Read ⊤

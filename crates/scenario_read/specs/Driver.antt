@@ -23,15 +23,15 @@ pages_or_none frames earlier None = Ok []
 pages_or_none frames earlier (Some spot) = pages_at frames earlier spot
 
 -- the script of a driver, which has to be there
-unfoldable pub script_field : Counts → Spot → Read (List Op)
-script_field c here = required (codes "script") here >>= script_at c
+unfoldable pub script_field : List PageRun → Counts → Spot → Read (List Op)
+script_field pages c here = required (codes "script") here >>= script_at pages c
 
--- a driver: its pages, and its script, counted behind those of the drivers before it
+-- a driver: its pages, and its script, whose bios are of these pages, counted behind those of the drivers before it
 unfoldable pub driver_at : List FrameRun → List Driver → Spot → Read Driver
 driver_at frames earlier here =
     only_keys (one_of (codes "pages" ∷ codes "script" ∷ [])) here >>= (λ _.
     pages_or_none frames earlier (field (codes "pages") here) >>= (λ pages.
-    script_field (counts_of earlier) here >>= (λ script.
+    script_field pages (counts_of earlier) here >>= (λ script.
     Ok (record { pages = pages; script = script }))))
 
 -- the drivers are counted before the first of them is read

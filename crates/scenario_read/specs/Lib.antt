@@ -1,14 +1,17 @@
+pub mod Bios
 pub mod Bytes
 pub mod Counts
 pub mod Driver
 pub mod Flags
 pub mod Frames
 pub mod Items
+pub mod Loads
 pub mod Names
 pub mod Ops
 pub mod Order
 pub mod Pages
 pub mod Scenario
 pub mod Script
+pub mod Spans
 pub mod Syncs
 pub mod Words

@@ -1,4 +1,4 @@
--- The operations of a script, each read by itself and by the operations before it.
+-- The operations of a script but its loads, each read by itself and by the operations before it.
 use Rattle.std.specs.Prelude.{ℕ, ◌-◌, ◌^◌, if◌then◌else◌, nat_lt, List, [], ◌∷◌, length, Ok, codes}
 use Rattle.busdma_base.specs.declared.scenarios.script.Op.{Op}
 use Rattle.busdma_base.specs.declared.scenarios.script.Op.TheVariants as op
@@ -11,12 +11,10 @@ use Rattle.json_fields.specs.Field.{Spot, field, only_keys, one_of}
 use Rattle.json_fields.specs.Number.{number_field, number_or}
 use Rattle.scenario_read.specs.declared.counts.Counts.{Counts}
 use Rattle.scenario_read.specs.declared.flags.FlagSet.TheVariants as set
-use Rattle.scenario_read.specs.declared.load.LoadHead.{LoadHead}
 use Rattle.busdma_base.specs.declared.scenarios.operations.NameKind.TheVariants as kind
 use Rattle.scenario_read.specs.Bytes.{target_at, written_at}
-use Rattle.scenario_read.specs.Counts.{having_loaded, access_judged, read_judged, load_judged}
+use Rattle.scenario_read.specs.Counts.{access_judged, read_judged}
 use Rattle.scenario_read.specs.Flags.{flags_field}
-use Rattle.scenario_read.specs.Items.{then_field}
 use Rattle.scenario_read.specs.Names.{new_name, used_name, parent_or_none}
 use Rattle.scenario_read.specs.Syncs.{sync_fields_at, range_fields_at}
 
@@ -85,25 +83,6 @@ only_map_at before here =
 -- the end of a map
 unfoldable pub map_destroy_at : List Op → Spot → Read Op
 map_destroy_at before here = only_map_at before here >>= (λ map. Ok (op.MapDestroy map))
-
--- what a load says before its items
-unfoldable pub load_head_at : List Op → Spot → Read LoadHead
-load_head_at before here =
-    used_name kind.Map (codes "map") before here >>= (λ map.
-    target_at here >>= (λ target.
-    number_field (codes "len") here >>= (λ n.
-    flags_field set.Load here >>= (λ flags.
-    Ok (record { map = map; target = target; len = n; flags = flags })))))
-
--- a load: its length is judged behind its other fields, and before its items
-unfoldable pub load_at : List Op → Counts → Spot → Read Op
-load_at before c here =
-    only_keys (one_of (codes "op" ∷ codes "map" ∷ codes "va" ∷ codes "len" ∷ codes "flags" ∷ codes "then" ∷ [])) here
-    >>= (λ _.
-    load_head_at before here >>= (λ head.
-    load_judged c head.len here.place >>= (λ _.
-    then_field before (having_loaded c head.len) here >>= (λ items.
-    Ok (op.Load head.map head.target head.len head.flags items)))))
 
 -- an unload
 unfoldable pub unload_at : List Op → Spot → Read Op

@@ -1,5 +1,6 @@
--- A script: its operations, each counted behind those before it.
+-- A script of a driver with these pages: its operations, each counted behind those before it.
 use Rattle.std.specs.Prelude.{List, []}
+use Rattle.busdma_base.specs.declared.scenarios.scenario.PageRun.{PageRun}
 use Rattle.busdma_base.specs.declared.scenarios.script.Op.{Op}
 use Rattle.json_fields.specs.Read.{Read, ◌>>=◌}
 use Rattle.json_fields.specs.Field.{Spot, members_of}
@@ -8,32 +9,36 @@ use Rattle.scenario_read.specs.declared.counts.Counts.{Counts}
 use Rattle.busdma_base.specs.declared.scenarios.words.OpWord.{OpWord}
 use Rattle.busdma_base.specs.declared.scenarios.words.OpWord.TheVariants as word
 use Rattle.scenario_read.specs.Counts.{with_ops, stepped, step_judged}
-use Rattle.scenario_read.specs.Ops.{tag_at, tag_destroy_at, map_at, map_destroy_at, load_at, unload_at, sync_at}
+use Rattle.scenario_read.specs.Loads.{load_at, load_vector_at, load_mbuf_at, load_bio_at}
+use Rattle.scenario_read.specs.Ops.{tag_at, tag_destroy_at, map_at, map_destroy_at, unload_at, sync_at}
 use Rattle.scenario_read.specs.Ops.{sync_range_at, cpu_read_at, cpu_write_at, await_at}
 use Rattle.scenario_read.specs.Words.{op_word_at}
 
 -- the operation of a word
-abbrev pub op_by : OpWord → List Op → Counts → Spot → Read Op
-op_by word.Tag before c here = tag_at before here
-op_by word.TagDestroy before c here = tag_destroy_at before here
-op_by word.Map before c here = map_at before here
-op_by word.MapDestroy before c here = map_destroy_at before here
-op_by word.Load before c here = load_at before c here
-op_by word.Unload before c here = unload_at before here
-op_by word.Sync before c here = sync_at before here
-op_by word.SyncRange before c here = sync_range_at before here
-op_by word.CpuRead before c here = cpu_read_at c here
-op_by word.CpuWrite before c here = cpu_write_at here
-op_by word.Await before c here = await_at before here
+abbrev pub op_by : OpWord → List PageRun → List Op → Counts → Spot → Read Op
+op_by word.Tag pages before c here = tag_at before here
+op_by word.TagDestroy pages before c here = tag_destroy_at before here
+op_by word.Map pages before c here = map_at before here
+op_by word.MapDestroy pages before c here = map_destroy_at before here
+op_by word.Load pages before c here = load_at before c here
+op_by word.LoadVector pages before c here = load_vector_at before c here
+op_by word.LoadMbuf pages before c here = load_mbuf_at before c here
+op_by word.LoadBio pages before c here = load_bio_at pages before c here
+op_by word.Unload pages before c here = unload_at before here
+op_by word.Sync pages before c here = sync_at before here
+op_by word.SyncRange pages before c here = sync_range_at before here
+op_by word.CpuRead pages before c here = cpu_read_at c here
+op_by word.CpuWrite pages before c here = cpu_write_at here
+op_by word.Await pages before c here = await_at before here
 
 -- an operation is an object, is counted as a step, and is then read by its word
-unfoldable pub op_at : List Op → Counts → Spot → Read Op
-op_at before c here =
+unfoldable pub op_at : List PageRun → List Op → Counts → Spot → Read Op
+op_at pages before c here =
     members_of here >>= (λ _.
     step_judged c here.place >>= (λ _.
     op_word_at here >>= (λ w.
-    op_by w before (stepped c) here)))
+    op_by w pages before (stepped c) here)))
 
 -- the operations of a script
-unfoldable pub script_at : Counts → Spot → Read (List Op)
-script_at c here = items_at here >>= each (λ before. op_at before (with_ops c before)) here []
+unfoldable pub script_at : List PageRun → Counts → Spot → Read (List Op)
+script_at pages c here = items_at here >>= each (λ before. op_at pages before (with_ops c before)) here []

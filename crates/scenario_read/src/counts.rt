@@ -50,16 +50,17 @@ impl Counts {
     }
 
     /// Counts the bytes of a load.
-    pub fn load(&mut self, here: &Node, len: u64) -> Result<(), Stop>
+    pub fn load(&mut self, here: &Node, len: u128) -> Result<(), Stop>
         requires { IsWithin self.old }
         ensures value { Gives result (load_judged self.old len (place_of here.now.path)) }
         ensures small { OnOk result (len ≤ buffer_limit) }
         ensures counted { OnOk result (self.new ≡ having_loaded self.old len) }
         ensures within { OnOk result (IsWithin self.new) }
     {
-        if len > BUFFER {
+        if len > u128::from(BUFFER) {
             return Err(here.refuse(RefusalKind::Limit(LimitName::Buffer)));
         }
+        let len = len as u64;
         if len > LOADED - self.loaded {
             return Err(here.refuse(RefusalKind::Limit(LimitName::Loaded)));
         }

@@ -7,7 +7,7 @@ ghost use Rattle.busdma_base.specs.Each.{EachAfter};
 ghost use Rattle.busdma_base.specs.Machine.FrameRuns.{IsNumbered};
 ghost use Rattle.busdma_base.specs.Machine.PageRuns.{IsPageRun};
 ghost use Rattle.busdma_base.specs.Scenarios.Script.{IsScript, IsOp};
-ghost use Rattle.busdma_base.specs.Scenarios.Valid.{IsDriver, read_of, loaded_of};
+ghost use Rattle.busdma_base.specs.Scenarios.Valid.{IsDriver, LoadsFrom, read_of, loaded_of};
 ghost use Rattle.json_fields.specs.Read.{Gives, GivesSeen};
 ghost use Rattle.json_fields.specs.Field.{spot_of, field};
 ghost use Rattle.json_fields.specs.Items.{each};
@@ -19,7 +19,7 @@ use crate::counts::Counts;
 use crate::limits::DRIVERS;
 use crate::pages::pages;
 use crate::script::script;
-use busdma_base::{Driver, DriverList, FrameRun, ListOf, OpList, PageRunList};
+use busdma_base::{Driver, DriverList, FrameRun, ListOf, OpList, PageRun, PageRunList};
 use json_fields::{LimitName, Node, RefusalKind, Stop};
 use serde_json::Value;
 
@@ -36,14 +36,15 @@ fn pages_field(here: &Node, frames: &[FrameRun], earlier: &[Driver]) -> Result<P
 }
 
 #[tactic(auto, unfolding(crate::specs::Driver::script_field))]
-fn script_field(here: &Node, counts: &mut Counts) -> Result<OpList, Stop>
+fn script_field(here: &Node, pages: &[PageRun], counts: &mut Counts) -> Result<OpList, Stop>
     requires within { IsWithin counts.old }
-    ensures value { Gives result (driver.script_field counts.old (spot_of here.now)) }
+    ensures value { Gives result (driver.script_field pages.now counts.old (spot_of here.now)) }
     ensures valid { IfOk result (EachAfter IsOp []) }
+    ensures own { IfOk result (AllByRecursion (LoadsFrom pages.now)) }
     ensures counted { IfOk result (λ v. counts.new ≡ with_ops counts.old v) }
     ensures within { IfOk result (λ _. IsWithin counts.new) }
 {
-    script(&here.required("script")?, counts)
+    script(&here.required("script")?, pages, counts)
 }
 
 #[tactic(auto, unfolding(crate::specs::Driver::driver_at))]
@@ -63,7 +64,7 @@ fn driver(
 {
     here.only_keys(&["pages", "script"])?;
     let pages = pages_field(here, frames, earlier)?;
-    let script = script_field(here, counts)?;
+    let script = script_field(here, pages.as_slice(), counts)?;
     Ok(Driver { pages, script })
 }
 

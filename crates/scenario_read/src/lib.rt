@@ -1,6 +1,7 @@
 //! From the bytes of a JSON text to a valid scenario, or to the first refusal.
 #![tactic(auto)]
 
+mod bios;
 mod bytes;
 mod counts;
 mod driver;
@@ -16,6 +17,7 @@ mod pages;
 mod reading;
 mod scenario;
 mod script;
+mod spans;
 mod syncs;
 mod words;
 

@@ -18,6 +18,9 @@ pub(crate) const ORDER: usize = 65536;
 /// Operations and items of a driver.
 pub(crate) const STEPS: u64 = 4096;
 
+/// Spans or frames of one load.
+pub(crate) const ENTRIES: usize = 4096;
+
 /// Bytes of one access.
 pub(crate) const ACCESS: u64 = 4096;
 

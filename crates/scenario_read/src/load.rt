@@ -1,69 +1,161 @@
-//! The load of a map.
+//! The loads of a map.
 
-ghost use Rattle.std.specs.Prelude.{◌≡◌, ◌≤◌, length, IfOk};
+ghost use Rattle.std.specs.Prelude.{◌≡◌, ◌≤◌, List, length, IfOk, Some};
+ghost use Rattle.busdma_base.specs.Scenarios.Buffers.{IsBufferOf, buffer_bytes as bytes_in, buffer_entries};
 ghost use Rattle.busdma_base.specs.Scenarios.Names.{IsMade};
-ghost use Rattle.busdma_base.specs.Scenarios.Operations.{map_at};
+ghost use Rattle.busdma_base.specs.Scenarios.Operations.{about, map_at};
 ghost use Rattle.busdma_base.specs.Scenarios.Script.{IsOp};
+ghost use Rattle.busdma_base.specs.Scenarios.Valid.{LoadsFrom};
+ghost use Rattle.busdma_base.specs.declared.scenarios.scenario.PageRun.{PageRun};
 ghost use Rattle.json_fields.specs.Read.{Gives};
 ghost use Rattle.json_fields.specs.Field.{spot_of};
 ghost use Rattle.scenario_read.specs.Counts.{IsWithin, with_op};
-ghost use Rattle.scenario_read.specs.Ops.{load_head_at, load_at};
-ghost use Rattle.busdma_base.specs.Scenarios.Limits.{steps_limit};
+ghost use Rattle.scenario_read.specs.Loads as loads;
+ghost use Rattle.busdma_base.specs.Scenarios.Limits.{entries_limit, steps_limit};
 
+use crate::bios::bio_field;
 use crate::bytes::target;
 use crate::counts::Counts;
 use crate::flags::{FlagSet, flags_field};
 use crate::items::then_field;
 use crate::names::used_name;
-use busdma_base::{NameKind, Op, Place};
+use crate::spans::{entries_field, span_bytes};
+use busdma_base::{Bio, Buffer, NameKind, Op, PageRun};
 use json_fields::{Node, Stop};
 
-/// What a load says before its items.
-#[derive(Clone, Copy, Debug)]
-pub(crate) struct LoadHead {
-    pub map: u32,
-    pub target: Place,
-    pub len: u64,
-    pub flags: u32,
-}
-
-#[tactic(auto, unfolding(crate::specs::Ops::load_head_at))]
-fn load_head(here: &Node, before: &[Op]) -> Result<LoadHead, Stop>
-    requires { length before.now ≤ steps_limit }
-    ensures value { Gives result (load_head_at before.now (spot_of here.now)) }
-    ensures made { IfOk result (λ h. IsMade before.now (map_at h.map)) }
+/// How many bytes a buffer has.
+fn buffer_bytes(buffer: &Buffer) -> u128
+    ensures { result ≡ bytes_in buffer.now }
 {
-    let map = used_name(here, NameKind::Map, "map", before)?;
-    let target = target(here)?;
-    let len = here.number_field("len")?;
-    let flags = flags_field(here, FlagSet::Load)?;
-    Ok(LoadHead {
-        map,
-        target,
-        len,
-        flags,
-    })
+    match buffer {
+        Buffer::Flat { len, .. } => u128::from(*len),
+        Buffer::Vector(spans) => span_bytes(spans.as_slice()),
+        Buffer::Mbuf(chain) => span_bytes(chain.as_slice()),
+        Buffer::Bio(Bio::Mapped(span)) => u128::from(span.len),
+        Buffer::Bio(Bio::Vector(spans)) => span_bytes(spans.as_slice()),
+        Buffer::Bio(Bio::Unmapped { len, .. }) => u128::from(*len),
+    }
 }
 
-/// The load that stands here, whose own step is counted.
-#[tactic(auto, unfolding(crate::specs::Ops::load_at))]
-pub(crate) fn load(here: &Node, before: &[Op], counts: &mut Counts) -> Result<Op, Stop>
+#[tactic(auto, unfolding(crate::specs::Loads::flat_at))]
+fn flat(here: &Node) -> Result<Buffer, Stop>
+    ensures value { Gives result (loads.flat_at (spot_of here.now)) }
+    ensures own { IfOk result (λ b. (pages : List PageRun) → IsBufferOf pages b) }
+    ensures few { IfOk result (λ b. buffer_entries b ≤ entries_limit) }
+{
+    let place = target(here)?;
+    let len = here.number_field("len")?;
+    Ok(Buffer::Flat { place, len })
+}
+
+#[tactic(auto, unfolding(crate::specs::Loads::loaded_map_at))]
+fn loaded_map(here: &Node, before: &[Op]) -> Result<u32, Stop>
+    requires { length before.now ≤ steps_limit }
+    ensures value { Gives result (loads.loaded_map_at before.now (spot_of here.now)) }
+    ensures made { IfOk result (λ map. IsMade before.now (map_at map)) }
+{
+    used_name(here, NameKind::Map, "map", before)
+}
+
+/// The load of a map with a buffer. What stands here says its flags and its items.
+#[tactic(auto, unfolding(crate::specs::Loads::load_of))]
+fn load_of(
+    here: &Node,
+    before: &[Op],
+    counts: &mut Counts,
+    map: u32,
+    buffer: Buffer,
+) -> Result<Op, Stop>
     requires few { length before.now ≤ steps_limit }
     requires within { IsWithin counts.old }
-    ensures value { Gives result (load_at before.now counts.old (spot_of here.now)) }
+    requires made { IsMade before.now (map_at map) }
+    requires listed { buffer_entries buffer ≤ entries_limit }
+    ensures value { Gives result (loads.load_of before.now counts.old (spot_of here.now) map buffer) }
     ensures valid { IfOk result (IsOp before.now) }
     ensures counted { IfOk result (λ o. counts.new ≡ with_op counts.old o) }
     ensures within { IfOk result (λ _. IsWithin counts.new) }
+    ensures loads { IfOk result (λ o. (about o).loads ≡ Some buffer) }
 {
-    here.only_keys(&["op", "map", "va", "len", "flags", "then"])?;
-    let head = load_head(here, before)?;
-    counts.load(here, head.len)?;
+    let flags = flags_field(here, FlagSet::Load)?;
+    counts.load(here, buffer_bytes(&buffer))?;
     let then = then_field(here, before, counts)?;
     Ok(Op::Load {
-        map: head.map,
-        place: head.target,
-        len: head.len,
-        flags: head.flags,
+        map,
+        buffer,
+        flags,
         then,
     })
+}
+
+/// A load of bytes from a place on, whose own step is counted.
+#[tactic(auto, unfolding(crate::specs::Loads::load_at))]
+pub(crate) fn load(here: &Node, before: &[Op], counts: &mut Counts) -> Result<Op, Stop>
+    requires few { length before.now ≤ steps_limit }
+    requires within { IsWithin counts.old }
+    ensures value { Gives result (loads.load_at before.now counts.old (spot_of here.now)) }
+    ensures valid { IfOk result (IsOp before.now) }
+    ensures counted { IfOk result (λ o. counts.new ≡ with_op counts.old o) }
+    ensures within { IfOk result (λ _. IsWithin counts.new) }
+    ensures frameless { IfOk result (λ o. (pages : List PageRun) → LoadsFrom pages o) }
+{
+    here.only_keys(&["op", "map", "va", "len", "flags", "then"])?;
+    let map = loaded_map(here, before)?;
+    let buffer = flat(here)?;
+    load_of(here, before, counts, map, buffer)
+}
+
+/// A load of a vector, whose own step is counted.
+#[tactic(auto, unfolding(crate::specs::Loads::load_vector_at))]
+pub(crate) fn load_vector(here: &Node, before: &[Op], counts: &mut Counts) -> Result<Op, Stop>
+    requires few { length before.now ≤ steps_limit }
+    requires within { IsWithin counts.old }
+    ensures value { Gives result (loads.load_vector_at before.now counts.old (spot_of here.now)) }
+    ensures valid { IfOk result (IsOp before.now) }
+    ensures counted { IfOk result (λ o. counts.new ≡ with_op counts.old o) }
+    ensures within { IfOk result (λ _. IsWithin counts.new) }
+    ensures frameless { IfOk result (λ o. (pages : List PageRun) → LoadsFrom pages o) }
+{
+    here.only_keys(&["op", "map", "entries", "flags", "then"])?;
+    let map = loaded_map(here, before)?;
+    let spans = entries_field(here)?;
+    load_of(here, before, counts, map, Buffer::Vector(spans))
+}
+
+/// A load of an mbuf chain, whose own step is counted. It has no flags.
+#[tactic(auto, unfolding(crate::specs::Loads::load_mbuf_at))]
+pub(crate) fn load_mbuf(here: &Node, before: &[Op], counts: &mut Counts) -> Result<Op, Stop>
+    requires few { length before.now ≤ steps_limit }
+    requires within { IsWithin counts.old }
+    ensures value { Gives result (loads.load_mbuf_at before.now counts.old (spot_of here.now)) }
+    ensures valid { IfOk result (IsOp before.now) }
+    ensures counted { IfOk result (λ o. counts.new ≡ with_op counts.old o) }
+    ensures within { IfOk result (λ _. IsWithin counts.new) }
+    ensures frameless { IfOk result (λ o. (pages : List PageRun) → LoadsFrom pages o) }
+{
+    here.only_keys(&["op", "map", "entries", "then"])?;
+    let map = loaded_map(here, before)?;
+    let chain = entries_field(here)?;
+    load_of(here, before, counts, map, Buffer::Mbuf(chain))
+}
+
+/// A load of a bio of a driver with these pages, whose own step is counted.
+#[tactic(auto, unfolding(crate::specs::Loads::load_bio_at))]
+pub(crate) fn load_bio(
+    here: &Node,
+    pages: &[PageRun],
+    before: &[Op],
+    counts: &mut Counts,
+) -> Result<Op, Stop>
+    requires few { length before.now ≤ steps_limit }
+    requires within { IsWithin counts.old }
+    ensures value { Gives result (loads.load_bio_at pages.now before.now counts.old (spot_of here.now)) }
+    ensures valid { IfOk result (IsOp before.now) }
+    ensures counted { IfOk result (λ o. counts.new ≡ with_op counts.old o) }
+    ensures within { IfOk result (λ _. IsWithin counts.new) }
+    ensures own { IfOk result (LoadsFrom pages.now) }
+{
+    here.only_keys(&["op", "map", "bio", "flags", "then"])?;
+    let map = loaded_map(here, before)?;
+    let bio = bio_field(here, pages)?;
+    load_of(here, before, counts, map, Buffer::Bio(bio))
 }

@@ -1,8 +1,8 @@
-//! The operations of a script.
+//! The operations of a script but its loads.
 
-ghost use Rattle.std.specs.Prelude.{◌≡◌, ◌≤◌, length, IfOk, true};
+ghost use Rattle.std.specs.Prelude.{◌≡◌, ◌≤◌, length, IfOk, None, true};
 ghost use Rattle.busdma_base.specs.Scenarios.Names.{IsMade};
-ghost use Rattle.busdma_base.specs.Scenarios.Operations.{map_at};
+ghost use Rattle.busdma_base.specs.Scenarios.Operations.{about, map_at};
 ghost use Rattle.busdma_base.specs.Scenarios.Script.{IsOp};
 ghost use Rattle.json_fields.specs.Read.{Gives};
 ghost use Rattle.json_fields.specs.Field.{spot_of};
@@ -176,6 +176,7 @@ pub(crate) fn cpu_read(here: &Node, before: &[Op], counts: &mut Counts) -> Resul
     requires { IsWithin counts.old }
     ensures value { Gives result (ops.cpu_read_at counts.old (spot_of here.now)) }
     ensures valid { IfOk result (IsOp before.now) }
+    ensures loads_nothing { IfOk result (λ o. (about o).loads ≡ None) }
     ensures counted { IfOk result (λ o. counts.new ≡ with_op counts.old o) }
     ensures within { IfOk result (λ _. IsWithin counts.new) }
 {

@@ -1,9 +1,11 @@
 //! A script: its operations, one after another.
 
 ghost use Rattle.std.specs.Prelude.{◌≡◌, ◌≤◌, ◌+◌, [], length, map, IfOk};
+ghost use Rattle.std.specs.List.{AllByRecursion};
 ghost use Rattle.serde_json.specs.View.{view};
 ghost use Rattle.busdma_base.specs.Each.{EachAfter};
 ghost use Rattle.busdma_base.specs.Scenarios.Script.{IsOp};
+ghost use Rattle.busdma_base.specs.Scenarios.Valid.{LoadsFrom};
 ghost use Rattle.json_fields.specs.Read.{Gives, GivesSeen};
 ghost use Rattle.json_fields.specs.Field.{spot_of};
 ghost use Rattle.json_fields.specs.Items.{each};
@@ -12,20 +14,27 @@ ghost use Rattle.scenario_read.specs.Script.{op_by, op_at, script_at};
 ghost use Rattle.busdma_base.specs.Scenarios.Limits.{steps_limit};
 
 use crate::counts::Counts;
-use crate::load::load;
+use crate::load::{load, load_bio, load_mbuf, load_vector};
 use crate::ops;
 use crate::words::op_word;
-use busdma_base::{ListOf, Op, OpList, OpWord};
+use busdma_base::{ListOf, Op, OpList, OpWord, PageRun};
 use json_fields::{Node, Stop};
 use serde_json::Value;
 
 /// The operation of a word, whose own step is counted.
 #[tactic(auto, using(crate::proofs::Counting::with_op_quiet))]
-fn op_by(word: OpWord, here: &Node, before: &[Op], counts: &mut Counts) -> Result<Op, Stop>
+fn op_by(
+    word: OpWord,
+    here: &Node,
+    pages: &[PageRun],
+    before: &[Op],
+    counts: &mut Counts,
+) -> Result<Op, Stop>
     requires few { length before.now ≤ steps_limit }
     requires within { IsWithin counts.old }
-    ensures value { Gives result (op_by word before.now counts.old (spot_of here.now)) }
+    ensures value { Gives result (op_by word pages.now before.now counts.old (spot_of here.now)) }
     ensures valid { IfOk result (IsOp before.now) }
+    ensures own { IfOk result (LoadsFrom pages.now) }
     ensures counted { IfOk result (λ o. counts.new ≡ with_op counts.old o) }
     ensures within { IfOk result (λ _. IsWithin counts.new) }
 {
@@ -35,6 +44,9 @@ fn op_by(word: OpWord, here: &Node, before: &[Op], counts: &mut Counts) -> Resul
         OpWord::Map => ops::map(here, before),
         OpWord::MapDestroy => ops::map_destroy(here, before),
         OpWord::Load => load(here, before, counts),
+        OpWord::LoadVector => load_vector(here, before, counts),
+        OpWord::LoadMbuf => load_mbuf(here, before, counts),
+        OpWord::LoadBio => load_bio(here, pages, before, counts),
         OpWord::Unload => ops::unload(here, before),
         OpWord::Sync => ops::sync(here, before),
         OpWord::SyncRange => ops::sync_range(here, before),
@@ -45,46 +57,54 @@ fn op_by(word: OpWord, here: &Node, before: &[Op], counts: &mut Counts) -> Resul
 }
 
 #[tactic(auto, unfolding(crate::specs::Script::op_at))]
-fn op(here: &Node, before: &[Op], counts: &mut Counts) -> Result<Op, Stop>
+fn op(here: &Node, pages: &[PageRun], before: &[Op], counts: &mut Counts) -> Result<Op, Stop>
     requires few { length before.now ≤ steps_limit }
     requires within { IsWithin counts.old }
-    ensures value { Gives result (op_at before.now counts.old (spot_of here.now)) }
+    ensures value { Gives result (op_at pages.now before.now counts.old (spot_of here.now)) }
     ensures valid { IfOk result (IsOp before.now) }
+    ensures own { IfOk result (LoadsFrom pages.now) }
     ensures counted { IfOk result (λ o. counts.new ≡ with_op (stepped counts.old) o) }
     ensures within { IfOk result (λ _. IsWithin counts.new) }
 {
     here.members()?;
     counts.step(here)?;
     let word = op_word(here)?;
-    op_by(word, here, before, counts)
+    op_by(word, here, pages, before, counts)
 }
 
-fn each_op<'v>(here: &'v Node<'v>, items: &'v [Value], counts: &mut Counts) -> Result<Vec<Op>, Stop>
+fn each_op<'v>(
+    here: &'v Node<'v>,
+    items: &'v [Value],
+    pages: &[PageRun],
+    counts: &mut Counts,
+) -> Result<Vec<Op>, Stop>
     requires within { IsWithin counts.old }
     ensures value { GivesSeen (λ v. v.items) result
-        (each (λ before. op_at before (with_ops counts.old before)) (spot_of here.now) []
+        (each (λ before. op_at pages.now before (with_ops counts.old before)) (spot_of here.now) []
         (map view items.now)) }
     ensures valid { IfOk result (λ v. EachAfter IsOp [] v.items) }
+    ensures own { IfOk result (λ v. AllByRecursion (LoadsFrom pages.now) v.items) }
     ensures counted { IfOk result (λ v. counts.new ≡ with_ops counts.old v.items) }
     ensures within { IfOk result (λ _. IsWithin counts.new) }
 {
     let mut before = Vec::new(here.alloc);
     for value in items {
-        let op = op(&here.item(before.len(), value), &before, counts)?;
+        let op = op(&here.item(before.len(), value), pages, &before, counts)?;
         before.push(op)?;
     }
     Ok(before)
 }
 
-/// The operations of the script that stands here.
+/// The operations of the script that stands here, of a driver with these pages.
 #[tactic(auto, unfolding(crate::specs::Script::script_at))]
-pub(crate) fn script(here: &Node, counts: &mut Counts) -> Result<OpList, Stop>
+pub(crate) fn script(here: &Node, pages: &[PageRun], counts: &mut Counts) -> Result<OpList, Stop>
     requires within { IsWithin counts.old }
-    ensures value { Gives result (script_at counts.old (spot_of here.now)) }
+    ensures value { Gives result (script_at pages.now counts.old (spot_of here.now)) }
     ensures valid { IfOk result (EachAfter IsOp []) }
+    ensures own { IfOk result (AllByRecursion (LoadsFrom pages.now)) }
     ensures counted { IfOk result (λ v. counts.new ≡ with_ops counts.old v) }
     ensures within { IfOk result (λ _. IsWithin counts.new) }
 {
     let items = here.items()?;
-    Ok(ListOf::new(each_op(here, items, counts)?))
+    Ok(ListOf::new(each_op(here, items, pages, counts)?))
 }

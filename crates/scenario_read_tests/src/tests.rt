@@ -1,5 +1,6 @@
 mod documents;
 mod limits;
+mod loads;
 mod operations;
 mod values;
 
@@ -27,4 +28,16 @@ fn wanted(alloc: Global, outer: &str, want: &str) -> Result<String, AllocError> 
         Some((kind, path)) => format!(in alloc; "{kind} drivers[0].script{outer}{path}"),
         None => String::from_str(alloc, want),
     }
+}
+
+/// A part so many times, with commas between.
+fn repeated(alloc: Global, part: &str, times: usize) -> Result<String, AllocError> {
+    let mut text = String::new(alloc);
+    for n in 0..times {
+        if n > 0 {
+            text.push_str(",")?;
+        }
+        text.push_str(part)?;
+    }
+    Ok(text)
 }

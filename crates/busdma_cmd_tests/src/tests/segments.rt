@@ -42,12 +42,29 @@ const ONE_SEGMENT_TOO_FEW_REPORT: &str = r#"0 s0 tag t -> ok
 end finished, 3 entries, 0 reports
 "#;
 
+const EMPTY_ENTRY: &str = r#"{"frames": [["0x10", 8], ["0x1000", 16]],
+ "drivers": [
+  {"pages": [["0x100000", "0x1000", 1]], "script": [
+    {"op": "tag", "name": "t"},
+    {"op": "map", "name": "m", "tag": "t"},
+    {"op": "load_vector", "map": "m", "entries": [
+     {"va": "0x100000", "len": 8},
+     {"va": "0x100008", "len": 0},
+     {"va": "0x100008", "len": 8}]}]}]}"#;
+
+const EMPTY_ENTRY_REPORT: &str = r#"0 s0 tag t -> ok
+1 s0 map m -> ok
+2 s0 load_vector m -> ok 0x1000000+16
+end finished, 3 entries, 0 reports
+"#;
+
 #[test]
 fn segments(rt: HostRuntime) -> Result<(), Fail> {
     let table = [
         (BOUNDARY, BOUNDARY_REPORT, 0),
         (GREATEST_LENGTH, GREATEST_LENGTH_REPORT, 0),
         (ONE_SEGMENT_TOO_FEW, ONE_SEGMENT_TOO_FEW_REPORT, 0),
+        (EMPTY_ENTRY, EMPTY_ENTRY_REPORT, 0),
     ];
     for (scenario, want, status) in table {
         replays(&rt, rt.alloc(), scenario, want, status)?;

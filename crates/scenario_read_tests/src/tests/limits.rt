@@ -1,18 +1,5 @@
-use crate::tests::{scripted, told, wanted};
-use std::alloc::{AllocError, Global};
+use crate::tests::{repeated, scripted, told, wanted};
 use std::test::Fail;
-
-/// A part so many times, with commas between.
-fn repeated(alloc: Global, part: &str, times: usize) -> Result<String, AllocError> {
-    let mut text = String::new(alloc);
-    for n in 0..times {
-        if n > 0 {
-            text.push_str(",")?;
-        }
-        text.push_str(part)?;
-    }
-    Ok(text)
-}
 
 /// What is said of operations that are repeated behind a tag `t` and a map `m`.
 const REPEATED: &str = r#"
@@ -23,6 +10,9 @@ Limit(steps) [2049] <- 2048 times {"op":"load","map":"m","va":0,"len":4096,"then
 BadField [2].then[1] <- 1 times {"op":"load","map":"m","va":0,"len":4096,"then":[{"op":"sync","map":"m","ops":[]},7]}
 good <- 16 times {"op":"load","map":"m","va":0,"len":1048576}
 Limit(loaded) [18] <- 17 times {"op":"load","map":"m","va":0,"len":1048576}
+good <- 16 times {"op":"load_mbuf","map":"m","entries":[{"va":0,"len":524287},{"va":0,"len":524288}]},{"op":"load_bio","map":"m","bio":{"kind":"unmapped","frames":[],"off":0,"len":1}}
+Limit(loaded) [34] <- 17 times {"op":"load_mbuf","map":"m","entries":[{"va":0,"len":524287},{"va":0,"len":524288}]},{"op":"load_bio","map":"m","bio":{"kind":"unmapped","frames":[],"off":0,"len":1}}
+Limit(loaded) [18] <- 17 times {"op":"load_vector","map":"m","entries":[{"va":0,"len":1048575},{"va":0,"len":1}],"then":[]}
 good <- 256 times {"op":"cpu_read","va":0,"len":4096}
 good <- 256 times {"op":"cpu_read","va":0,"len":4096},{"op":"cpu_read","va":0,"len":0}
 Limit(reads) [258] <- 257 times {"op":"cpu_read","va":0,"len":4096}

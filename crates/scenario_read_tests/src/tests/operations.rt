@@ -9,6 +9,8 @@ BadField [2].op <- {}
 BadField [2].op <- {"op":7}
 BadOp [2].op <- {"op":"Tag","zz":1}
 BadOp [2].op <- {"op":"dmamem","name":"x","tag":"t"}
+BadOp [2].op <- {"op":"dmamem_free","mem":"m"}
+BadOp [2].op <- {"op":"load_uio","map":"m","entries":[]}
 BadOp [2].op <- {"op":"dev_read","map":"m","off":0,"len":1}
 good <- {"op":"tag","name":"x"}
 BadField [2].name <- {"op":"tag","name":"t"}
@@ -145,6 +147,7 @@ const ITEMS: &str = r#"
 good <- {"op":"sync","map":"m","ops":["PREWRITE"]},{"op":"dev_read","map":"m","off":0,"len":4096}
 BadField [1] <- {"op":"sync","map":"m","ops":[]},7
 BadOp [0].op <- {"op":"load","map":"m","va":0,"len":0}
+BadOp [0].op <- {"op":"load_mbuf","map":"m","entries":[]}
 BadOp [0].op <- {"op":"cpu_read","va":0,"len":0}
 BadOp [0].op <- {"op":"x","zz":1}
 BadField [0].op <- {"zz":1}

@@ -1,4 +1,4 @@
-use busdma_base::{Bytes, Driver, Item, Op, Pa, Place, Side, TagLimits, Va};
+use busdma_base::{Bio, Buffer, Bytes, Driver, Item, Op, Pa, Place, Side, Span, TagLimits, Va};
 use scenario_read::{Reading, scenario_of};
 use std::process::Abort;
 use std::test::Fail;
@@ -64,8 +64,10 @@ fn values(rt: &impl Abort, driver: &Driver) {
     match load {
         Op::Load {
             map: 1,
-            place: Place::At(va),
-            len: 5,
+            buffer: Buffer::Flat {
+                place: Place::At(va),
+                len: 5,
+            },
             flags: 1,
             then,
         } => {
@@ -155,6 +157,96 @@ fn a_scenario(rt: HostRuntime) -> Result<(), Fail> {
                 other => panic!(rt; "{other:?}"),
             }
         }
+        Reading::Bad(refusal) => panic!(rt; "{refusal}"),
+    }
+    Ok(())
+}
+
+const FIVE_BUFFERS: &str =
+    r#"{"frames":[["0x1000",16]],"drivers":[{"pages":[["0x100000","0x1000",3]],"script":[
+ {"op":"tag","name":"t"},
+ {"op":"map","name":"m","tag":"t"},
+ {"op":"load_vector","map":"m","entries":[{"va":"0x100000","len":8},{"va":"0x100008","len":0}],"flags":["NOWAIT"]},
+ {"op":"load_mbuf","map":"m","entries":[{"va":"0x101000","len":54}],"then":[{"op":"sync","map":"m","ops":[]}]},
+ {"op":"load_bio","map":"m","bio":{"kind":"mapped","va":"0x100000","len":9}},
+ {"op":"load_bio","map":"m","bio":{"kind":"vector","entries":[{"va":"0x100000","len":7}]},"flags":["WAITOK"]},
+ {"op":"load_bio","map":"m","bio":{"kind":"unmapped","frames":["0x1002","0x1000"],"off":4000,"len":200}}]}]}"#;
+
+/// What is loaded, with its flags and the number of its items.
+fn loaded<'a>(rt: &impl Abort, op: &'a Op) -> (&'a Buffer, u32, usize) {
+    match op {
+        Op::Load {
+            map: 1,
+            buffer,
+            flags,
+            then,
+        } => (buffer, *flags, then.len()),
+        other => panic!(rt; "{other:?}"),
+    }
+}
+
+/// A span of these numbers.
+fn span(va: u64, len: u64) -> Span {
+    Span { va: Va(va), len }
+}
+
+/// What a good reading says of the loads of the scenario of five buffers.
+fn buffers(rt: &impl Abort, script: &[Op]) {
+    let [_, _, vector, chain, mapped, spans, unmapped] = script else {
+        panic!(rt; "a script of {} operations", script.len());
+    };
+    match loaded(rt, vector) {
+        (Buffer::Vector(spans), 1, 0) => {
+            assert_eq!(rt;
+                spans.as_slice(),
+                [span(0x100000, 8), span(0x100008, 0)].as_slice()
+            );
+        }
+        other => panic!(rt; "{other:?}"),
+    }
+    match loaded(rt, chain) {
+        (Buffer::Mbuf(chain), 0, 1) => {
+            assert_eq!(rt; chain.as_slice(), [span(0x101000, 54)].as_slice());
+        }
+        other => panic!(rt; "{other:?}"),
+    }
+    match loaded(rt, mapped) {
+        (Buffer::Bio(Bio::Mapped(bytes)), 0, 0) => {
+            assert_eq!(rt; *bytes, span(0x100000, 9));
+        }
+        other => panic!(rt; "{other:?}"),
+    }
+    match loaded(rt, spans) {
+        (Buffer::Bio(Bio::Vector(spans)), 0, 0) => {
+            assert_eq!(rt; spans.as_slice(), [span(0x100000, 7)].as_slice());
+        }
+        other => panic!(rt; "{other:?}"),
+    }
+    match loaded(rt, unmapped) {
+        (
+            Buffer::Bio(
+                Bio::Unmapped {
+                    frames,
+                    off: 4000,
+                    len: 200,
+                },
+            ),
+            0,
+            0,
+        ) => {
+            assert_eq!(rt; frames.as_slice(), [0x1002, 0x1000].as_slice());
+        }
+        other => panic!(rt; "{other:?}"),
+    }
+}
+
+#[test]
+fn a_scenario_of_buffers(rt: HostRuntime) -> Result<(), Fail> {
+    match scenario_of(rt.alloc(), FIVE_BUFFERS.as_bytes())? {
+        Reading::Good(scenario) => match scenario.drivers.as_slice() {
+            [driver] => buffers(&rt, driver.script.as_slice()),
+            other => panic!(rt; "{other:?}"),
+        },
         Reading::Bad(refusal) => panic!(rt; "{refusal}"),
     }
     Ok(())

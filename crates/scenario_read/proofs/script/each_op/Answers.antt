@@ -12,6 +12,7 @@ loop-value-preserved c = record {
   valid = rw c.in_ok-push.ensures.items
       (EachAfter-append IsOp _ _ c.in_ok-op.op c.loop-value.invariant.valid
       (rw (← c.deref.ensures.value) c.in_ok-op.ensures.valid));
+  own = grind (arith, common_steps);
   counted = rw c.in_ok-push.ensures.items
       (c.in_ok-op.ensures.counted ∙ ap (λ k. with_op (stepped k) c.in_ok-op.op) c.loop-value.invariant.counted
       ∙ with_ops_more _ _ _);

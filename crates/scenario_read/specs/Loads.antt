@@ -1,0 +1,74 @@
+-- The four loads of a map, each read by itself and by the operations before it. They differ in what they load and in
+-- the keys that they may have; what they share is told once.
+use Rattle.std.specs.Prelude.{ℕ, List, [], ◌∷◌, Ok, codes}
+use Rattle.busdma_base.specs.declared.scenarios.buffer.Buffer.{Buffer}
+use Rattle.busdma_base.specs.declared.scenarios.buffer.Buffer.TheVariants as buffer
+use Rattle.busdma_base.specs.declared.scenarios.operations.NameKind.TheVariants as kind
+use Rattle.busdma_base.specs.declared.scenarios.scenario.PageRun.{PageRun}
+use Rattle.busdma_base.specs.declared.scenarios.script.Op.{Op}
+use Rattle.busdma_base.specs.declared.scenarios.script.Op.TheVariants as op
+use Rattle.busdma_base.specs.Scenarios.Buffers.{buffer_bytes}
+use Rattle.json_fields.specs.Read.{Read, ◌>>=◌}
+use Rattle.json_fields.specs.Field.{Spot, only_keys, one_of}
+use Rattle.json_fields.specs.Number.{number_field}
+use Rattle.scenario_read.specs.declared.counts.Counts.{Counts}
+use Rattle.scenario_read.specs.declared.flags.FlagSet.TheVariants as set
+use Rattle.scenario_read.specs.Bios.{bio_field}
+use Rattle.scenario_read.specs.Bytes.{target_at}
+use Rattle.scenario_read.specs.Counts.{having_loaded, load_judged}
+use Rattle.scenario_read.specs.Flags.{flags_field}
+use Rattle.scenario_read.specs.Items.{then_field}
+use Rattle.scenario_read.specs.Names.{used_name}
+use Rattle.scenario_read.specs.Spans.{entries_field}
+
+-- `len` bytes from a place on
+unfoldable pub flat_at : Spot → Read Buffer
+flat_at here =
+    target_at here >>= (λ target.
+    number_field (codes "len") here >>= (λ n.
+    Ok (buffer.Flat target n)))
+
+-- the map that a load names
+unfoldable pub loaded_map_at : List Op → Spot → Read ℕ
+loaded_map_at before here = used_name kind.Map (codes "map") before here
+
+-- the load of a map with a buffer: its flags; then its bytes are judged, behind all its other fields; then its items
+unfoldable pub load_of : List Op → Counts → Spot → ℕ → Buffer → Read Op
+load_of before c here map buffer =
+    flags_field set.Load here >>= (λ flags.
+    load_judged c (buffer_bytes buffer) here.place >>= (λ _.
+    then_field before (having_loaded c (buffer_bytes buffer)) here >>= (λ items.
+    Ok (op.Load map buffer flags items))))
+
+-- a load of bytes from a place on
+unfoldable pub load_at : List Op → Counts → Spot → Read Op
+load_at before c here =
+    only_keys (one_of (codes "op" ∷ codes "map" ∷ codes "va" ∷ codes "len" ∷ codes "flags" ∷ codes "then" ∷ [])) here
+    >>= (λ _.
+    loaded_map_at before here >>= (λ map.
+    flat_at here >>= (λ buffer.
+    load_of before c here map buffer)))
+
+-- a load of a vector
+unfoldable pub load_vector_at : List Op → Counts → Spot → Read Op
+load_vector_at before c here =
+    only_keys (one_of (codes "op" ∷ codes "map" ∷ codes "entries" ∷ codes "flags" ∷ codes "then" ∷ [])) here >>= (λ _.
+    loaded_map_at before here >>= (λ map.
+    entries_field here >>= (λ spans.
+    load_of before c here map (buffer.Vector spans))))
+
+-- a load of an mbuf chain, which may not have the key `flags`, and so has no flags
+unfoldable pub load_mbuf_at : List Op → Counts → Spot → Read Op
+load_mbuf_at before c here =
+    only_keys (one_of (codes "op" ∷ codes "map" ∷ codes "entries" ∷ codes "then" ∷ [])) here >>= (λ _.
+    loaded_map_at before here >>= (λ map.
+    entries_field here >>= (λ chain.
+    load_of before c here map (buffer.Mbuf chain))))
+
+-- a load of a bio of the driver's pages
+unfoldable pub load_bio_at : List PageRun → List Op → Counts → Spot → Read Op
+load_bio_at pages before c here =
+    only_keys (one_of (codes "op" ∷ codes "map" ∷ codes "bio" ∷ codes "flags" ∷ codes "then" ∷ [])) here >>= (λ _.
+    loaded_map_at before here >>= (λ map.
+    bio_field pages here >>= (λ b.
+    load_of before c here map (buffer.Bio b))))

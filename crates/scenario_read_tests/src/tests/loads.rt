@@ -1,0 +1,174 @@
+use crate::tests::{repeated, scripted, told, wanted};
+use std::test::Fail;
+
+/// What is said of a load of a vector, a chain or a bio behind the making of a tag `t` and a map `m`, for a driver
+/// whose one page has the frame 16, with the path behind the script's.
+const LOADS: &str = r#"
+good <- {"op":"load_vector","map":"m","entries":[]}
+good <- {"op":"load_vector","map":"m","entries":[{"va":"0x1000","len":8},{"len":0,"va":0}],"flags":["WAITOK","NOWAIT"],"then":[]}
+good <- {"op":"load_vector","map":"m","entries":[{"va":0,"len":1}],"then":[{"op":"dev_read","map":"m","off":0,"len":1}]}
+BadField [2].entries <- {"op":"load_vector","map":"m"}
+BadField [2].entries <- {"op":"load_vector","map":"m","entries":{}}
+BadField [2].entries <- {"op":"load_vector","map":"m","entries":7,"flags":7}
+BadField [2].entries[1] <- {"op":"load_vector","map":"m","entries":[{"va":0,"len":0},7]}
+BadField [2].entries[0].off <- {"op":"load_vector","map":"m","entries":[{"va":0,"off":0}]}
+BadField [2].entries[0].va <- {"op":"load_vector","map":"m","entries":[{"len":"x"}]}
+BadField [2].entries[0].va <- {"op":"load_vector","map":"m","entries":[{"va":"x","len":"x"}]}
+BadField [2].entries[0].len <- {"op":"load_vector","map":"m","entries":[{"va":0}]}
+BadField [2].entries[0].len <- {"op":"load_vector","map":"m","entries":[{"va":0,"len":1.0},7]}
+BadField [2].len <- {"op":"load_vector","map":"m","len":0}
+BadField [2].va <- {"op":"load_vector","map":"m","entries":[],"va":0}
+BadField [2].bio <- {"op":"load_vector","map":"m","entries":[],"bio":{}}
+BadField [2].mem <- {"op":"load_vector","map":"m","entries":[],"mem":"x"}
+UnknownName [2].map <- {"op":"load_vector","map":"t","entries":7}
+BadField [2].map <- {"op":"load_vector","entries":7}
+BadFlag [2].flags[0] <- {"op":"load_vector","map":"m","entries":[],"flags":["ALLOCNOW"],"then":7}
+BadField [2].then <- {"op":"load_vector","map":"m","entries":[],"then":7}
+BadField [2].then[0] <- {"op":"load_vector","map":"m","entries":[],"then":[7]}
+BadOp [2].then[0].op <- {"op":"load_vector","map":"m","entries":[],"then":[{"op":"load_vector","map":"m","entries":[]}]}
+good <- {"op":"load_vector","map":"m","entries":[{"va":0,"len":524288},{"va":0,"len":524288}]}
+Limit(buffer) [2] <- {"op":"load_vector","map":"m","entries":[{"va":0,"len":524288},{"va":0,"len":524289}],"then":7}
+Limit(buffer) [2] <- {"op":"load_vector","map":"m","entries":[{"va":0,"len":1048577}]}
+Limit(buffer) [2] <- {"op":"load_vector","map":"m","entries":[{"va":0,"len":"0xffffffffffffffff"},{"va":0,"len":1}]}
+Limit(buffer) [2] <- {"op":"load_vector","map":"m","entries":[{"va":0,"len":"0xffffffffffffffff"},{"va":0,"len":"0xffffffffffffffff"},{"va":0,"len":2}]}
+BadField [2].flags <- {"op":"load_vector","map":"m","entries":[{"va":0,"len":1048577}],"flags":7}
+good <- {"op":"load_mbuf","map":"m","entries":[]}
+good <- {"op":"load_mbuf","map":"m","entries":[{"va":"0x1000","len":54},{"va":"0x1100","len":0}],"then":[{"op":"sync","map":"m","ops":["PREWRITE"]}]}
+BadField [2].flags <- {"op":"load_mbuf","map":"m","entries":[],"flags":[]}
+BadField [2].flags <- {"op":"load_mbuf","map":"x","entries":7,"flags":["NOWAIT"]}
+BadField [2].entries <- {"op":"load_mbuf","map":"m"}
+BadField [2].entries[0].len <- {"op":"load_mbuf","map":"m","entries":[{"va":0}]}
+UnknownName [2].map <- {"op":"load_mbuf","map":"x"}
+BadField [2].then <- {"op":"load_mbuf","map":"m","entries":[],"then":{}}
+good <- {"op":"load_mbuf","map":"m","entries":[{"va":0,"len":1048575},{"va":0,"len":1}]}
+Limit(buffer) [2] <- {"op":"load_mbuf","map":"m","entries":[{"va":0,"len":1048575},{"va":0,"len":2}],"then":7}
+BadField [2].bio <- {"op":"load_bio","map":"m"}
+BadField [2].bio <- {"op":"load_bio","map":"m","bio":7}
+BadField [2].bio <- {"op":"load_bio","map":"m","bio":["kind"]}
+BadField [2].bio.kind <- {"op":"load_bio","map":"m","bio":{}}
+BadField [2].bio.kind <- {"op":"load_bio","map":"m","bio":{"a":1,"va":0,"len":0}}
+BadField [2].bio.kind <- {"op":"load_bio","map":"m","bio":{"kind":7}}
+BadField [2].bio.kind <- {"op":"load_bio","map":"m","bio":{"kind":null,"a":1}}
+BadField [2].bio.kind <- {"op":"load_bio","map":"m","bio":{"kind":"Mapped","a":1}}
+BadField [2].bio.kind <- {"op":"load_bio","map":"m","bio":{"kind":"","va":0,"len":0}}
+BadField [2].bio.kind <- {"op":"load_bio","map":"m","bio":{"kind":"mappe","va":0,"len":0}}
+good <- {"op":"load_bio","map":"m","bio":{"kind":"mapped","va":0,"len":0}}
+good <- {"op":"load_bio","map":"m","bio":{"va":"0x1000","len":1048576,"kind":"mapped"},"flags":["NOWAIT"],"then":[]}
+BadField [2].bio.a <- {"op":"load_bio","map":"m","bio":{"kind":"mapped","a":1,"va":"x","b":1}}
+BadField [2].bio.entries <- {"op":"load_bio","map":"m","bio":{"kind":"mapped","entries":[],"va":0,"len":0}}
+BadField [2].bio.va <- {"op":"load_bio","map":"m","bio":{"kind":"mapped","len":"x"}}
+BadField [2].bio.len <- {"op":"load_bio","map":"m","bio":{"kind":"mapped","va":0}}
+BadField [2].bio.len <- {"op":"load_bio","map":"m","bio":{"kind":"mapped","va":0,"len":"4096"}}
+Limit(buffer) [2] <- {"op":"load_bio","map":"m","bio":{"kind":"mapped","va":0,"len":1048577},"then":7}
+BadField [2].flags <- {"op":"load_bio","map":"m","bio":{"kind":"mapped","va":0,"len":1048577},"flags":7}
+good <- {"op":"load_bio","map":"m","bio":{"kind":"vector","entries":[]}}
+good <- {"op":"load_bio","map":"m","bio":{"kind":"vector","entries":[{"va":0,"len":1048576}]}}
+BadField [2].bio.len <- {"op":"load_bio","map":"m","bio":{"kind":"vector","va":0,"len":0}}
+BadField [2].bio.entries <- {"op":"load_bio","map":"m","bio":{"kind":"vector"}}
+BadField [2].bio.entries[0].len <- {"op":"load_bio","map":"m","bio":{"kind":"vector","entries":[{"va":0}]}}
+Limit(buffer) [2] <- {"op":"load_bio","map":"m","bio":{"kind":"vector","entries":[{"va":0,"len":1048576},{"va":0,"len":1}]}}
+good <- {"op":"load_bio","map":"m","bio":{"kind":"unmapped","frames":[],"off":0,"len":0}}
+good <- {"op":"load_bio","map":"m","bio":{"kind":"unmapped","frames":[],"off":0,"len":1}}
+good <- {"op":"load_bio","map":"m","bio":{"kind":"unmapped","frames":[16,"0x10",16],"off":4095,"len":1048576}}
+BadField [2].bio.va <- {"op":"load_bio","map":"m","bio":{"kind":"unmapped","frames":[16],"off":0,"len":0,"va":0}}
+BadField [2].bio.frames <- {"op":"load_bio","map":"m","bio":{"kind":"unmapped","off":4096}}
+BadField [2].bio.frames <- {"op":"load_bio","map":"m","bio":{"kind":"unmapped","frames":16,"off":4096}}
+FrameAbsent [2].bio.frames[1] <- {"op":"load_bio","map":"m","bio":{"kind":"unmapped","frames":[16,17],"off":0,"len":0}}
+FrameAbsent [2].bio.frames[0] <- {"op":"load_bio","map":"m","bio":{"kind":"unmapped","frames":[15,"x"],"off":4096}}
+FrameAbsent [2].bio.frames[0] <- {"op":"load_bio","map":"m","bio":{"kind":"unmapped","frames":["0xffffffffffffffff"],"off":0,"len":0}}
+BadField [2].bio.frames[0] <- {"op":"load_bio","map":"m","bio":{"kind":"unmapped","frames":["16",17],"off":0,"len":0}}
+BadField [2].bio.frames[1] <- {"op":"load_bio","map":"m","bio":{"kind":"unmapped","frames":[16,[16]],"off":0,"len":0}}
+BadField [2].bio.off <- {"op":"load_bio","map":"m","bio":{"kind":"unmapped","frames":[16],"len":"x"}}
+BadField [2].bio.off <- {"op":"load_bio","map":"m","bio":{"kind":"unmapped","frames":[16],"off":4096,"len":"x"}}
+BadField [2].bio.off <- {"op":"load_bio","map":"m","bio":{"kind":"unmapped","frames":[16],"off":"x","len":"x"}}
+BadField [2].bio.len <- {"op":"load_bio","map":"m","bio":{"kind":"unmapped","frames":[16],"off":4095}}
+Limit(buffer) [2] <- {"op":"load_bio","map":"m","bio":{"kind":"unmapped","frames":[16],"off":0,"len":1048577},"then":7}
+BadField [2].entries <- {"op":"load_bio","map":"m","bio":{"kind":"vector","entries":[]},"entries":[]}
+BadField [2].len <- {"op":"load_bio","map":"m","bio":7,"len":0}
+UnknownName [2].map <- {"op":"load_bio","map":"t","bio":7}
+BadFlag [2].flags[0] <- {"op":"load_bio","map":"m","bio":{"kind":"vector","entries":[]},"flags":["ZERO"],"then":7}
+BadField [2].then[0] <- {"op":"load_bio","map":"m","bio":{"kind":"vector","entries":[]},"then":[7]}
+"#;
+
+#[test]
+fn loads(rt: HostRuntime) -> Result<(), Fail> {
+    let alloc = rt.alloc();
+    for line in LOADS.trim().lines() {
+        let Some((want, op)) = line.split_once(" <- ") else {
+            panic!(rt; "{line}");
+        };
+        let input = scripted(alloc, op)?;
+        let told = told(alloc, input.as_bytes())?;
+        let want = wanted(alloc, "", want)?;
+        assert_eq!(rt; told, want, "{op}");
+    }
+    Ok(())
+}
+
+/// Lists of loads: where each stands behind the script, and the text around its elements, which are those that are
+/// given.
+const LISTS: &str = r#"
+[2].entries <- {"va":0,"len":0} in {"op":"load_vector","map":"m","entries":[*]}
+[2].entries <- {"va":0,"len":0} in {"op":"load_mbuf","map":"m","entries":[*]}
+[2].bio.entries <- {"va":0,"len":256} in {"op":"load_bio","map":"m","bio":{"kind":"vector","entries":[*]}}
+[2].bio.frames <- 16 in {"op":"load_bio","map":"m","bio":{"kind":"unmapped","frames":[*],"off":0,"len":0}}
+"#;
+
+/// At the limit a list is read, and one element past it the list is refused, whatever its elements are.
+#[test]
+fn lists(rt: HostRuntime) -> Result<(), Fail> {
+    let alloc = rt.alloc();
+    for line in LISTS.trim().lines() {
+        let Some((path, rest)) = line.split_once(" <- ") else {
+            panic!(rt; "{line}");
+        };
+        let Some((element, around)) = rest.split_once(" in ") else {
+            panic!(rt; "{line}");
+        };
+        let Some((before, behind)) = around.split_once("*") else {
+            panic!(rt; "{line}");
+        };
+        let limit = format!(in alloc; "Limit(entries) {path}")?;
+        for (element, times, want) in [
+            (element, 4096, "good"),
+            (element, 4097, limit.as_str()),
+            ("[]", 4097, limit.as_str()),
+        ] {
+            let list = repeated(alloc, element, times)?;
+            let op = format!(in alloc; "{before}{list}{behind}")?;
+            let input = scripted(alloc, op.as_str())?;
+            let told = told(alloc, input.as_bytes())?;
+            let want = wanted(alloc, "", want)?;
+            assert_eq!(rt; told, want, "{times} {element} in {around}");
+        }
+    }
+    Ok(())
+}
+
+/// What is said of the frames of a bio, where the first driver has the frame 1 and the second the frame 2.
+const FRAMES: &str = r#"
+good <- "pages":[[0,2,1]] 2
+FrameAbsent drivers[1].script[2].bio.frames[0] <- "pages":[[0,2,1]] 1
+FrameAbsent drivers[1].script[2].bio.frames[0] <- "pages":[[0,2,1]] 0
+good <- "pages":[[0,3,2],[8192,2,1]] 2
+FrameAbsent drivers[1].script[2].bio.frames[0] <- "pages":[] 2
+"#;
+
+#[test]
+fn frames_of_other_drivers(rt: HostRuntime) -> Result<(), Fail> {
+    let alloc = rt.alloc();
+    for line in FRAMES.trim().lines() {
+        let Some((want, rest)) = line.split_once(" <- ") else {
+            panic!(rt; "{line}");
+        };
+        let Some((pages, frame)) = rest.split_once(" ") else {
+            panic!(rt; "{line}");
+        };
+        let input = format!(in alloc;
+            r#"{{"frames":[[0,8]],"drivers":[{{"pages":[[0,1,1]],"script":[]}},{{{pages},"script":[{{"op":"tag","name":"t"}},{{"op":"map","name":"m","tag":"t"}},{{"op":"load_bio","map":"m","bio":{{"kind":"unmapped","frames":[{frame}],"off":0,"len":1}}}}]}}]}}"#
+        )?;
+        let told = told(alloc, input.as_bytes())?;
+        assert_eq!(rt; told.as_str(), want, "{rest}");
+    }
+    Ok(())
+}
