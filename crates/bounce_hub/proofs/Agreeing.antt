@@ -54,7 +54,8 @@ matches-set hub_zones a b z s inside each here others y d below =
     (elim (eqb_tells y z) as (λ _. Matches (get_or (set hub_zones z s) y d) b y) [
       | inl h ↦ subst (λ k. Matches (get_or (set hub_zones z s) k d) b k) (sym h.1)
           (rw (get_or-set_same hub_zones z s d inside) here)
-      | inr h ↦ (let old : Matches (get_or hub_zones y d) a y = each y d (omega (arith, below, length-set hub_zones z s)) in
+      | inr h ↦ (let old : Matches (get_or hub_zones y d) a y = each y d
+          (omega (arith, below, length-set hub_zones z s)) in
           let same : SameZone a b y = others y h.1 in
           rw (get_or-set_other hub_zones z y s d h.1) (record {
             lowaddr = old.lowaddr ∙ sym (ap (λ (k : Zone). k.lowaddr) same.zone);
@@ -73,7 +74,8 @@ pub zones-set : (p q : Pool) (a b : Account) (z : ℕ) (s : HubZone) → Agrees 
     q.zones.items ≡ set p.zones.items z s → Matches s b z → ((y : ℕ) → y ≢ z → SameZone a b y)
     → (y : ℕ) (d : HubZone) → y < length q.zones.items → Matches (get_or q.zones.items y d) b y
 zones-set p q a b z s agrees inside is here others =
-    subst (λ (hub_zones : List HubZone). (y : ℕ) (d : HubZone) → y < length hub_zones → Matches (get_or hub_zones y d) b y) (sym is)
+    subst (λ (hub_zones : List HubZone). (y : ℕ) (d : HubZone) → y < length hub_zones → Matches (get_or hub_zones y d)
+    b y) (sym is)
     (matches-set p.zones.items a b z s (omega (arith, inside, agrees.count)) agrees.zones here others)
 
 pub count-set : (p q : Pool) (a : Account) (z : ℕ) (s : HubZone) (k : Zone) → Agrees p a →

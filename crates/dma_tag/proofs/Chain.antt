@@ -138,7 +138,8 @@ chain_push first rest t s child h made accepted =
     subst (IsChainEnd first (rest ++ s ∷ [])) (made_child t s child made) (record {
       narrowest = narrowest_child (first ∷ rest) t s h.narrowest;
       own =
-          subst (λ (last : TagLimits). IsOwn last (inherit t (rounded s))) (sym (last_push first rest s)) (own_child t s);
+          subst (λ (last : TagLimits). IsOwn last (inherit t (rounded s))) (sym (last_push first rest s))
+          (own_child t s);
       accepted = All-push IsAccepted (first ∷ rest) s h.accepted accepted;
     })
 

@@ -292,7 +292,8 @@ module _ (l : LaneState) where
   dev_write-keeps m off vs =
       unloaded m _ (λ o. past m off (length vs) _ (
       judged (dev_write_answer (loan_of l.loans m) off (length vs))
-      (gives (record l { memory = written (load_bytes l.loans m off (length vs)) vs l.memory }) answer.Done) (λ r. still)))
+      (gives (record l { memory = written (load_bytes l.loans m off (length vs)) vs l.memory }) answer.Done)
+      (λ r. still)))
 
   -- ---- turns
 

@@ -1,5 +1,6 @@
 -- Loads: what they name, how they are cut, and how they end. After bus_dmamap_load(9) and the x86 bounce code.
-use Rattle.std.specs.Prelude.{ℕ, ◌+◌, ◌==◌, Bool, true, false, not, ◌&&◌, List, [], ◌∷◌, ◌++◌, length, Option, Some, None}
+use Rattle.std.specs.Prelude.{ℕ, ◌+◌, ◌==◌, Bool, true, false, not, ◌&&◌, List, [], ◌∷◌, ◌++◌, length, Option, Some}
+use Rattle.std.specs.Prelude.{None}
 use Rattle.std.specs.Prelude.{if◌then◌else◌, is_some, map, nat_le, nat_lt, unwrap_or}
 use Rattle.std.specs.FinMap.{get, insert, contains_key}
 use Rattle.std.specs.List.{enumerate_from}

@@ -148,7 +148,8 @@ module _ (l : LaneState) (laid : AreLaid l) (machine : IsInMachine l) (stands : 
 
   are-entries : AllByRecursion IsEntry x.entries
   are-entries =
-      entries_are (λ p. Unit {0}) (is_rounded b) (load_translation l b) (bio-paged l laid machine b named) (bio_spans b)
+      entries_are (λ p. Unit {0}) (is_rounded b) (load_translation l b) (bio-paged l laid machine b named)
+      (bio_spans b)
 
   reached-all : AllReached (load_translation l b) (bio_places b)
   reached-all = all-reached l m b fine

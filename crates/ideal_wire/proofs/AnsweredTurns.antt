@@ -280,7 +280,8 @@ module _ (l : LaneState) (a : Account) (stands : Stands l) (agrees : AgreesWith 
           answers-load (finished m o l.place x chunks pages l)
           (if-so (finished m o l.place x chunks pages l).answer
           (AreLoaded l (moved (finished m o l.place x chunks pages l).lane) m l.place) _ (λ ss g none. g)
-          (ends-answered l laid machine stands m o there direct b is-bio l.place (never_waits buffer flags) items fine pages moved
+          (ends-answered l laid machine stands m o there direct b is-bio l.place (never_waits buffer flags) items fine
+          pages moved
           (λ k. refl) (λ k. refl) bytes-here (ap (λ (y : Asked). y.entries) asked-here) has))
 
       by-reply : (z : ℕ) → o.zone ≡ Some z → (r : HubReply) →
@@ -420,7 +421,8 @@ module _ (l : LaneState) (a : Account) (stands : Stands l) (agrees : AgreesWith 
               l).answer
               (AreLoaded l (finished k w.map w.load_at x (chunks_for l w.map b x.entries) (addresses pages) l).lane k
               w.load_at)) (sym (ap is_some none))
-              (ends-answered l laid machine stands k w.map w.found (ap is_some none) n.bio n.named w.load_at n.now n.items
+              (ends-answered l laid machine stands k w.map w.found (ap is_some none) n.bio n.named w.load_at n.now
+              n.items
               (own-fine l laid machine k n.bio none (waited-own l stands laid machine k z need w))
               (addresses pages) (λ s. s) (λ s. refl) (λ s. refl) n.bytes
               (ap (λ (y : Asked). y.entries) (n.is l refl)) has)

@@ -37,7 +37,8 @@ use Rattle.ideal_wire.specs.Laid.{is_loadable, AreLaid, pages_alone}
 use Rattle.ideal_wire.specs.Machine.{IsInMachine}
 use Rattle.ideal_wire.proofs.Accepting.{limits-effective}
 use Rattle.ideal_wire.proofs.Alike.{no-memory}
-use Rattle.ideal_wire.proofs.Bios.{AreOfPages, IsOfPages, bio-paged, bio_places, pages-own, pages_translation, with-pages}
+use Rattle.ideal_wire.proofs.Bios.{AreOfPages, IsOfPages, bio-paged, bio_places, pages-own, pages_translation}
+use Rattle.ideal_wire.proofs.Bios.{with-pages}
 use Rattle.ideal_wire.proofs.Lent.{any_entry}
 use Rattle.ideal_wire.proofs.LoadLaid.{IsReady, ready}
 use Rattle.ideal_wire.proofs.Reaching.{AllReached, all-from, each-byte, entries-bytes}

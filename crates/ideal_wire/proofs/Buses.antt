@@ -84,7 +84,8 @@ pub placed-at : (cs : List Chunk) (at : ℕ) (pas : List ℕ) (i : ℕ) (t : Pla
     (slice_get pas i ≡ Some t.pa) × (t.bus ≡ bus_at cs (at + i) t.pa)
 placed-at cs at [] i t h = absurd (cc)
 placed-at cs at (pa ∷ pas) zero t h =
-    let e : record { pa = pa; bus = bus_at cs at pa } ≡ t = found_one (Some _) (record { pa = pa; bus = bus_at cs at pa }) t refl h in
+    let e : record { pa = pa; bus = bus_at cs at pa } ≡ t = found_one (Some _)
+    (record { pa = pa; bus = bus_at cs at pa }) t refl h in
     let here : at + 0 ≡ at = omega arith in (
       ap (λ (u : Placed). Some u.pa) e,
       sym (ap (λ (u : Placed). u.bus) e) ∙ ap (λ k. bus_at cs k pa) (sym here)
@@ -95,6 +96,7 @@ placed-at cs at (pa ∷ pas) (suc i) t h =
     let there : at + 1 + i ≡ at + suc i = omega arith in
     (r.0, r.1 ∙ ap (λ k. bus_at cs k t.pa) there)
 
-pub placed-buffers : (cs : List Chunk) (at : ℕ) (pas : List ℕ) → map (λ (t : Placed). t.pa) (placed_from cs at pas) ≡ pas
+pub placed-buffers : (cs : List Chunk) (at : ℕ) (pas : List ℕ) → map (λ (t : Placed). t.pa) (placed_from cs at pas) ≡
+    pas
 placed-buffers cs at [] = refl
 placed-buffers cs at (pa ∷ pas) = ap (λ xs. pa ∷ xs) (placed-buffers cs (at + 1) pas)

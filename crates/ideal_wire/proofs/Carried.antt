@@ -45,7 +45,8 @@ are-bused l laid m i t h = by (lies-of l laid m i t h)
         inr (ap (λ s. is_in_pages (pages_of s) t.bus) x.stage
         ∙ any_at (λ p. in_run p 1 t.bus) x.pages e.index e.page e.has_page inside)
 
--- a map that lends after the step has the loan that it had and stands as it stood, and a byte that is Known after it was
+-- a map that lends after the step has the loan that it had and stands as it stood, and a byte that is Known after it
+-- was
 -- Known, and is lent to write where it was
 pub record Carries (l l' : LaneState) : Type 0 where
   pub loan : (n i : ℕ) (p : Position) → IsAt l'.loans n i p → in_any_way p ≡ true →
@@ -183,7 +184,8 @@ module _ (l l' : LaneState) (m : ℕ) (e : IsExclusive l.loans) (loans : l'.loan
   still_at : (n i : ℕ) (p : Position) → n ≢ m → IsAt l.loans n i p → IsAt l'.loans n i p
   still_at n i p ne at = (λ x. slice_get (loan_removed n false (ne_eqb n m ne) x).positions i) ∙ at
 
-  forgot : (a v : ℕ) → l'.memory a ≡ Some (Known v) → forgotten (lost_by_forgetting l.loans m) l.memory a ≡ Some (Known v)
+  forgot : (a v : ℕ) → l'.memory a ≡ Some (Known v) → forgotten (lost_by_forgetting l.loans m) l.memory a ≡ Some
+      (Known v)
   forgot a v is = sym (λ x. memory x a) ∙ is
 
   pub unload-carries : Carries l l'

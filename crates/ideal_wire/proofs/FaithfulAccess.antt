@@ -257,11 +257,13 @@ module _ (own : ℕ → Bool) (l : LaneState) (traces : Traces) (w : Wire)
 
     known_own : (a v : ℕ) → written (load_bytes l.loans m off len) vs l.memory a ≡ Some (Known v) → own a ≡ true
     known_own a v is =
-        written_known (load_bytes l.loans m off len) vs l.memory a (own a ≡ true) one (λ u h. f.placed.known a u h) v is
+        written_known (load_bytes l.loans m off len) vs l.memory a (own a ≡ true) one (λ u h. f.placed.known a u h) v
+        is
       where
         one : (k x : ℕ) → slice_get (load_bytes l.loans m off len) k ≡ Some x → a ≡ x → own a ≡ true
         one k x at e =
-            let q = twin_of (λ (b : ℕ). b) (λ (t : Placed). t.pa) (load_bytes l.loans m off len) (stretch off len (traces m))
+            let q = twin_of (λ (b : ℕ). b) (λ (t : Placed). t.pa) (load_bytes l.loans m off len)
+            (stretch off len (traces m))
             (map_own (load_bytes l.loans m off len) ∙ range_alike) k x at in
             ap own (e ∙ q.same) ∙ f.placed.lies m (off + k) q.twin (of_range (traces m) off len k q.twin q.found).whole
 

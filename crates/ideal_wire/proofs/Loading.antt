@@ -87,7 +87,8 @@ pub placed-follow : (keep : Bool) (cs : List Chunk) (pages : List Pa) (at : ℕ)
     Follow at (placed keep cs pages)
 placed-follow keep [] pages at h = tt
 placed-follow keep (c ∷ cs) pages at h =
-    by (placed-follow keep cs (drop 1 pages) (at + chunk_len c) h.1) (placed-follow keep cs pages (at + chunk_len c) h.1)
+    by (placed-follow keep cs (drop 1 pages) (at + chunk_len c) h.1)
+    (placed-follow keep cs pages (at + chunk_len c) h.1)
     c.bounced
   where
     by : Follow (at + chunk_len c) (placed keep cs (drop 1 pages)) → Follow (at + chunk_len c) (placed keep cs pages) →
@@ -97,7 +98,8 @@ placed-follow keep (c ∷ cs) pages at h =
     by one all true = (h.0, one)
     by one all false = (h.0, all)
 
-pub placed-bytes : (keep : Bool) (cs : List Chunk) (pages : List Pa) → chunks_bytes (placed keep cs pages) ≡ chunks_bytes cs
+pub placed-bytes : (keep : Bool) (cs : List Chunk) (pages : List Pa) → chunks_bytes (placed keep cs pages) ≡
+    chunks_bytes cs
 placed-bytes keep [] pages = refl
 placed-bytes keep (c ∷ cs) pages = by (placed-bytes keep cs (drop 1 pages)) (placed-bytes keep cs pages) c.bounced
   where

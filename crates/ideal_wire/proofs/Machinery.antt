@@ -42,7 +42,8 @@ frames-below : (frames : List FrameRun) (first n : ℕ) → 1 ≤ n → all_in f
     first + n ≤ maxmem_of frames
 frames-below frames first zero some h = absurd (omega (arith, some))
 frames-below frames first (suc zero) some h =
-    let here = frame-below frames first (and_parts (list_any (is_in first) frames) (all_in frames (first + 1) 0) h).0 in
+    let here = frame-below frames first (and_parts (list_any (is_in first) frames) (all_in frames (first + 1) 0)
+    h).0 in
     omega (arith, here)
 frames-below frames first (suc (suc n)) some h =
     let parts = and_parts (list_any (is_in first) frames) (all_in frames (first + 1) (suc n)) h in

@@ -29,7 +29,8 @@ use Rattle.busdma_base.specs.Bounce.AccountStep.{as_pages}
 use Rattle.busdma_base.specs.Runs.{run_of}
 use Rattle.busdma_base.specs.Scenarios.Operations.{bytes_of}
 use Rattle.busdma_base.specs.Scenarios.Valid.{LoadsFrom}
-use Rattle.busdma_base.specs.Tags.Tag.{IsAccepted, IsEffective, is_accepted, is_alignment, is_boundary, is_power_of_two}
+use Rattle.busdma_base.specs.Tags.Tag.{IsAccepted, IsEffective, is_accepted, is_alignment, is_boundary}
+use Rattle.busdma_base.specs.Tags.Tag.{is_power_of_two}
 use Rattle.busdma_base.specs.Tags.Tag.{segment_limit, rounded, inherit, effective, could_bounce}
 use Rattle.busdma_base.specs.Tags.TagFlags.{allocnow}
 use Rattle.dma_tag.specs.SyncOps.{is_mixed}
@@ -49,7 +50,8 @@ use Rattle.ideal_lane.specs.Accesses.{cpu_read, cpu_write, dev_read, dev_write, 
 use Rattle.ideal_lane.specs.Asking.{Asking, Gives, Asks, by_reply}
 use Rattle.ideal_lane.specs.Asking as asking
 use Rattle.ideal_lane.specs.IdealMemory.{is_known, forgotten, written}
-use Rattle.ideal_lane.specs.Loads.{Asked, asked, limits_of, chunks_for, loaded, unpaged, finished, granted, load_chunks}
+use Rattle.ideal_lane.specs.Loads.{Asked, asked, limits_of, chunks_for, loaded, unpaged, finished, granted}
+use Rattle.ideal_lane.specs.Loads.{load_chunks}
 use Rattle.ideal_lane.specs.Loads.{load, zone_of}
 use Rattle.ideal_lane.specs.Maps.{with_map, created, map, end_map, map_destroy, await}
 use Rattle.ideal_lane.specs.Outcomes.{Outcome, gives, refused, unless_refused, unless_past, is_idle, load_length}
@@ -111,7 +113,8 @@ effective-alone s t h = normal-effective s t (is_accepted s) refl h
 effective-below : (p s t : TagLimits) → IsEffective p → effective (Some p) s ≡ Some t → IsEffective t
 effective-below p s t parent h = by (is_accepted s) refl h
   where
-    by : (b : Bool) → is_accepted s ≡ b → option_map (inherit p) (cond b (Some (rounded s)) None) ≡ Some t → IsEffective t
+    by : (b : Bool) → is_accepted s ≡ b → option_map (inherit p) (cond b (Some (rounded s)) None) ≡ Some t →
+        IsEffective t
     by true e g =
         let same : inherit p (rounded s) ≡ t =
         Rattle.ideal_wire.proofs.Positions.found_one (Some (inherit p (rounded s))) (inherit p (rounded s)) t refl g in
@@ -185,7 +188,8 @@ module _ (l : LaneState) (m : IsInMachine l) where
   attached-keeps t good (reply.Grown g) = by g.made
     where
       by : (b : Bool) → IsInMachine (if b then with_tag l.place t true l else l)
-      by true = put (with_tag l.place t true l) l.place (record { limits = t; first_done = true }) good refl refl refl refl refl
+      by true = put (with_tag l.place t true l) l.place (record { limits = t; first_done = true }) good refl refl refl
+          refl refl
       by false = m
   attached-keeps t good reply.Nothing = m
   attached-keeps t good (reply.Granted pages) = m
@@ -225,7 +229,8 @@ module _ (l : LaneState) (m : IsInMachine l) where
       made = with_tag t o.limits true (with_map t (Some g.zone.0) l)
 
       by : (b : Bool) → IsInMachine (if b then made else l)
-      by true = put made t (record { limits = o.limits; first_done = true }) (m.tags t o there) refl refl refl refl refl
+      by true = put made t (record { limits = o.limits; first_done = true }) (m.tags t o there) refl refl refl refl
+          refl
       by false = m
   created-keeps t o there reply.Nothing = m
   created-keeps t o there (reply.Granted pages) = m
@@ -274,11 +279,14 @@ module _ (l : LaneState) (m : IsInMachine l) where
   granted-keeps : (n : ℕ) (o : LaneMap) (x : Asked) (chunks : List Chunk) (r : HubReply) →
       IsInMachine (granted n o x chunks l r).lane
   granted-keeps n o x chunks (reply.Granted pages) = finished-keeps n o l.place x chunks (addresses pages)
-  granted-keeps n o x chunks (reply.Queued have) = like (granted n o x chunks l (reply.Queued have)).lane refl refl refl refl refl
+  granted-keeps n o x chunks (reply.Queued have) = like (granted n o x chunks l (reply.Queued have)).lane refl refl
+      refl refl refl
   granted-keeps n o x chunks reply.Nothing = like (granted n o x chunks l reply.Nothing).lane refl refl refl refl refl
-  granted-keeps n o x chunks (reply.Grown g) = like (granted n o x chunks l (reply.Grown g)).lane refl refl refl refl refl
+  granted-keeps n o x chunks (reply.Grown g) = like (granted n o x chunks l (reply.Grown g)).lane refl refl refl refl
+      refl
   granted-keeps n o x chunks reply.NoPages = like (granted n o x chunks l reply.NoPages).lane refl refl refl refl refl
-  granted-keeps n o x chunks (reply.Served k) = like (granted n o x chunks l (reply.Served k)).lane refl refl refl refl refl
+  granted-keeps n o x chunks (reply.Served k) = like (granted n o x chunks l (reply.Served k)).lane refl refl refl
+      refl refl
   granted-keeps n o x chunks (reply.Called k pages) =
       like (granted n o x chunks l (reply.Called k pages)).lane refl refl refl refl refl
   granted-keeps n o x chunks (reply.Run first count) =
@@ -296,7 +304,8 @@ module _ (l : LaneState) (m : IsInMachine l) where
       busy l Keeps report n _ (λ o e i.
       judged l Keeps report x.judged _ (λ fine.
       either l Keeps report (nat_lt (limits_of l o).maxsize x.len) _ _
-      (λ b r. like (record l { maps = insert l.maps n (record o { tried = true; stage = Idle }) }) refl refl refl refl refl)
+      (λ b r. like (record l { maps = insert l.maps n (record o { tried = true; stage = Idle }) }) refl refl refl refl
+      refl)
       (λ b. chunks-keep n o x (chunks_for l o (contains_key l.mems n) x.entries))))
 
   buffer-keeps : (n : ℕ) (x : Buffer) (flags : ℕ) (items : List Item) → Keeps (load_buffer n x flags items l)
@@ -309,7 +318,8 @@ module _ (l : LaneState) (m : IsInMachine l) where
 
   part-keeps : (n : ℕ) (o : LaneMap) (off len ops : ℕ) → Keeps (sync_part n o off len ops l)
   part-keeps n o off len ops =
-      either l Keeps report (is_mixed ops) (refused MixedSync 0 l) (unless_refused (sync_answer l.loans n off len ops) l
+      either l Keeps report (is_mixed ops) (refused MixedSync 0 l)
+      (unless_refused (sync_answer l.loans n off len ops) l
       (gives after answer.Done))
       (λ mixed r. m)
       (λ alone. judged l Keeps report (sync_answer l.loans n off len ops) (gives after answer.Done)
@@ -415,7 +425,8 @@ module _ (l : LaneState) (m : IsInMachine l) where
           IsInMachine (record (restaged x.map y (after_return x.map rest) l) { returns = rest })
       by None = like (record l { returns = rest }) refl refl refl refl refl
       by (Some o) =
-          like (record (restaged x.map (Some o) (after_return x.map rest) l) { returns = rest }) refl refl refl refl refl
+          like (record (restaged x.map (Some o) (after_return x.map rest) l) { returns = rest }) refl refl refl refl
+          refl
 
   release-keeps : (x : Return) (rest : List Return) → Turns (turns.release x rest l)
   release-keeps x rest r = given-keeps x rest

@@ -185,7 +185,8 @@ module _ (l : LaneState) (laid : AreLaid l) where
         place =
             let there : slice_get x.bounced e.index ≡ Some g.chunk = ap (slice_get x.bounced) one.1
             ∙ ap (λ cs. slice_get cs g.index) chunks ∙ g.has_chunk in
-            let chunk : e.chunk ≡ g.chunk = found_one (slice_get x.bounced e.index) e.chunk g.chunk e.has_chunk there in
+            let chunk : e.chunk ≡ g.chunk = found_one (slice_get x.bounced e.index) e.chunk g.chunk e.has_chunk
+            there in
             let base = ap (λ (c : Chunk). (Rattle.segment_build.specs.Trace.bus_extent c).pa.0) chunk in
             let at = ap (λ (c : Chunk). c.at) chunk in
             omega (arith, e.bus_is, g.bus_is, e.behind, g.behind, base, at, same)

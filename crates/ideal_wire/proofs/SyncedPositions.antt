@@ -209,7 +209,8 @@ module _ (loans : Loans) (m off len ops : ℕ) where
   ]
 
 -- ---- the bytes that a sync makes Unknown
-forgot : (b : Bool) (c : Option Content) (v : ℕ) → cond b (option_map (λ (k : Content). Unknown) c) c ≡ Some (Known v) →
+forgot : (b : Bool) (c : Option Content) (v : ℕ) → cond b (option_map (λ (k : Content). Unknown) c) c ≡ Some (Known v)
+    →
     (b ≡ false) × (c ≡ Some (Known v))
 forgot true None v h = absurd (cc)
 forgot true (Some c) v h = absurd (cc)

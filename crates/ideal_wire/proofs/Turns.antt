@@ -40,14 +40,16 @@ use Rattle.ideal_lane.specs.Accesses.{cpu_read, dev_read, values}
 use Rattle.ideal_lane.specs.IdealMemory.{is_known}
 use Rattle.ideal_lane.specs.Agreement.{AgreesWith}
 use Rattle.ideal_lane.specs.Asking.{Asking, Gives, Asks, by_reply}
-use Rattle.ideal_lane.specs.Loads.{Asked, asked, limits_of, is_coherent, loaded, unpaged, finished, granted, load_chunks}
+use Rattle.ideal_lane.specs.Loads.{Asked, asked, limits_of, is_coherent, loaded, unpaged, finished, granted}
+use Rattle.ideal_lane.specs.Loads.{load_chunks}
 use Rattle.ideal_lane.specs.Loads.{load, chunks_for, zone_of}
 use Rattle.ideal_lane.specs.Maps.{created, map, end_map, map_destroy, await}
 use Rattle.ideal_lane.specs.Outcomes.{Outcome, gives, is_idle, is_loaded}
 use Rattle.ideal_lane.specs.Places.{virtual_at, reached, bytes_at}
 use Rattle.ideal_lane.specs.Standing.{Stands}
 use Rattle.ideal_lane.specs.Tags.{with_tag, attached, tag_or_invalid, tag, tag_destroy, has_maps}
-use Rattle.ideal_lane.specs.Turns.{Turned, operation, transfer, waits, asked_at, called, called_in, called_back, lane_step}
+use Rattle.ideal_lane.specs.Turns.{Turned, operation, transfer, waits, asked_at, called, called_in, called_back}
+use Rattle.ideal_lane.specs.Turns.{lane_step}
 use Rattle.ideal_lane.specs.Turns.{bio_at, load_buffer, never_waits}
 use Rattle.ideal_lane.specs.Turns as turns
 use Rattle.ideal_lane.specs.Unloads.{unload, restaged, given_back, after_return}
@@ -141,7 +143,8 @@ module _ (l : LaneState) (a : Account) (w : Wire) (stands : Stands l) (agrees : 
 
   tag-idles : (parent : Option ℕ) (limits : TagLimits) → Idles (tag parent limits l)
   tag-idles None limits = tag_or-idles (effective None limits)
-  tag-idles (Some p) limits = absent l Idles report (get l.tags p) _ (λ x e. tag_or-idles (effective (Some x.limits) limits))
+  tag-idles (Some p) limits = absent l Idles report (get l.tags p) _
+      (λ x e. tag_or-idles (effective (Some x.limits) limits))
 
   tag_destroy-idles : (t : ℕ) → Idles (tag_destroy t l)
   tag_destroy-idles t =
@@ -234,7 +237,8 @@ module _ (l : LaneState) (a : Account) (w : Wire) (stands : Stands l) (agrees : 
       (λ b. chunked o (no-loan m o e (idle-unloaded o.stage i))
       (chunks_for l o (contains_key l.mems m) x.entries))))
     where
-      chunked : (o : LaneMap) → loan_of l.loans m ≡ no_loan → (chunks : List Chunk) → Idles (load_chunks m o x chunks l)
+      chunked : (o : LaneMap) → loan_of l.loans m ≡ no_loan → (chunks : List Chunk) → Idles
+          (load_chunks m o x chunks l)
       chunked o none chunks =
           either l Idles report (need_of chunks == 0) (Gives (finished m o l.place x chunks [] l))
           (Asks (call.Grab (named l m) (record { 0 = zone_of o }) (need_of chunks) x.nowait) (granted m o x chunks l))
@@ -283,7 +287,8 @@ module _ (l : LaneState) (a : Account) (w : Wire) (stands : Stands l) (agrees : 
 
   -- what an operation gives, the script goes on with, and an item has left the queue
   abbrev Outcomes : Wire → Asking Outcome → Type 0
-  Outcomes now o = (r : HubReply) (w' : Wire) → Follows l (by_reply o r).lane now w' → IsFaithful (by_reply o r).lane w'
+  Outcomes now o = (r : HubReply) (w' : Wire) → Follows l (by_reply o r).lane now w' → IsFaithful (by_reply o r).lane
+      w'
 
   idle : (o : Asking Outcome) → Idles o → Outcomes w o
   idle o c r w' h = idle-stays (by_reply o r).lane w' (c r) h

@@ -41,7 +41,8 @@ use Rattle.ideal_wire.proofs.SyncedPositions.{after}
 
 -- ---- bytes that are the driver's own stay so
 
-pub own-forgotten : (keys : List ℕ) (memory : IdealMemory) (a : ℕ) → is_some (forgotten keys memory a) ≡ is_some (memory a)
+pub own-forgotten : (keys : List ℕ) (memory : IdealMemory) (a : ℕ) → is_some (forgotten keys memory a) ≡ is_some
+    (memory a)
 own-forgotten keys memory a = by (is_among keys a) (memory a)
   where
     by : (b : Bool) (o : Option Content) → is_some (cond b (option_map (λ c. Unknown) o) o) ≡ is_some o
@@ -49,7 +50,8 @@ own-forgotten keys memory a = by (is_among keys a) (memory a)
     by true (Some c) = refl
     by false o = refl
 
-pub own-written : (keys vs : List ℕ) (memory : IdealMemory) (a : ℕ) → is_some (written keys vs memory a) ≡ is_some (memory a)
+pub own-written : (keys vs : List ℕ) (memory : IdealMemory) (a : ℕ) → is_some (written keys vs memory a) ≡ is_some
+    (memory a)
 own-written [] vs memory a = refl
 own-written (k ∷ keys) [] memory a = refl
 own-written (k ∷ keys) (v ∷ vs) memory a = own-written keys vs (written_at k v memory) a ∙ by (a == k) (memory a)

@@ -11,7 +11,8 @@ use Rattle.ideal_wire.specs.Traces.{stage_at}
 abbrev pub HoldsPage : LaneState → ℕ → ℕ → ℕ → Type 0
 HoldsPage l m i page = slice_get (pages_of (stage_at l m)) i ≡ Some page
 
--- a page that a map holds has no byte of the driver's own, and stands at one place of one map alone; a byte of a memory is none of the driver's pages, and of no other memory
+-- a page that a map holds has no byte of the driver's own, and stands at one place of one map alone; a byte of a
+-- memory is none of the driver's pages, and of no other memory
 pub record IsApart (l : LaneState) : Type 0 where
   pub away : (m i page a : ℕ) → HoldsPage l m i page → in_run page 1 a ≡ true → is_some (l.memory a) ≡ false
   pub one : (m n i j page : ℕ) → HoldsPage l m i page → HoldsPage l n j page → (m ≡ n) × (i ≡ j)

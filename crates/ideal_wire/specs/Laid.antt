@@ -42,7 +42,8 @@ is_loadable None l a = is_own l.pages a
 is_loadable (Some x) l a = in_run x.first x.count a
 
 -- the load of a map has bytes of its memory alone, of which none is bounced, or of the driver's pages; its bounced
--- chunks lie in its pages, one in each, and have the bytes at their places; and the bytes of its segments are its trace
+-- chunks lie in its pages, one in each, and have the bytes at their places; and the bytes of its segments are its
+-- trace
 pub record IsLaid (l : LaneState) (m : ℕ) (bounced : List Chunk) (segments : List Segment) (pages : List ℕ)
     : Type 0 where
   pub coherent : (loan_of l.loans m).coherent ≡ is_coherent (get l.mems m)

@@ -56,7 +56,8 @@ HasChunks-prop place ps (c ∷ cs) =
     ×_prop (HasChunk-prop place ps c)
     (HasChunks-prop (c.at + chunk_len c) (drop (c.at + chunk_len c - place) ps) cs)
 
-IsLaid-prop : (l : LaneState) (m : ℕ) (cs : List Chunk) (ss : List Segment) (ps : List ℕ) → IsProp (IsLaid l m cs ss ps)
+IsLaid-prop : (l : LaneState) (m : ℕ) (cs : List Chunk) (ss : List Segment) (ps : List ℕ) → IsProp
+    (IsLaid l m cs ss ps)
 IsLaid-prop l m cs ss ps = hlevel (props, AllByRecursion-prop, zip-prop, HasChunks-prop, is_set)
 
 LiesIn-prop : (l : LaneState) (m : ℕ) (s : Stage) → IsProp (LiesIn l m s)

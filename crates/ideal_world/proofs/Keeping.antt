@@ -38,7 +38,8 @@ SpendsNoMore l m = (z : ℕ) → m.shares z + left m ≤ l.shares z + left l
 
 spent : (l m : LaneState) (t : Turn) → IsLater l m → Falls l m t → SpendsNoMore l m
 spent l m (Stepped entry) later f z = omega (arith, f, later.few z)
-spent l m Blocked later f z = subst (λ (k : LaneState). k.shares z + left k ≤ l.shares z + left l) (sym f) (omega arith)
+spent l m Blocked later f z = subst (λ (k : LaneState). k.shares z + left k ≤ l.shares z + left l) (sym f)
+    (omega arith)
 spent l m Ended later f z = subst (λ (k : LaneState). k.shares z + left k ≤ l.shares z + left l) (sym f) (omega arith)
 
 module _ (s : Scenario) (w : WorldState) (well : IsWellFormed s w) where

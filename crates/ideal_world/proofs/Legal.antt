@@ -9,7 +9,8 @@ use Rattle.busdma_base.specs.declared.journals.journal.Journal.{Journal}
 use Rattle.busdma_base.specs.declared.scenarios.scenario.Scenario.{Scenario}
 use Rattle.busdma_base.specs.Scenarios.Valid.{IsValid}
 use Rattle.ideal_world.specs.Ends.{IsAtRest}
-use Rattle.ideal_world.specs.Legal.{Run, Leads, noted, turn, turns, rounds, round_of, opening_run, IsReplay, IsReplayed}
+use Rattle.ideal_world.specs.Legal.{Run, Leads, noted, turn, turns, rounds, round_of, opening_run, IsReplay}
+use Rattle.ideal_world.specs.Legal.{IsReplayed}
 use Rattle.ideal_world.specs.Legal.{IsLegal}
 use Rattle.ideal_world.specs.Waiting.{OnlyAwaits}
 use Rattle.ideal_world.specs.WellFormed.{IsWellFormed}

@@ -32,7 +32,8 @@ abbrev pub entry : ℕ → HubCall → Account → HoldEntry
 entry lane c a = record { lane = record { 0 = lane }; call = c; reply = (account_step lane c a).reply }
 
 -- a callback that is not found changes nothing
-missed : (ws : List Waiter) (lane : ℕ) (a : Account) → is_kept call.TakeCallback (called_from ws lane a).reply ≡ false →
+missed : (ws : List Waiter) (lane : ℕ) (a : Account) → is_kept call.TakeCallback (called_from ws lane a).reply ≡ false
+    →
     (called_from ws lane a).account ≡ a
 missed [] lane a h = refl
 missed (w ∷ ws) lane a h = by (w.map.lane.0 == lane) refl h

@@ -28,7 +28,8 @@ module _ (s : Scenario) (round : List Actor) where
   come-to-rest : (most : ℕ) (r : Run) → IsWellFormed s r.world → left_of r.world ≤ most → Rests round r
   come-to-rest zero r well few = rests-by r well (λ less. absurd (omega (arith, less, few)))
   come-to-rest (suc most) r well few =
-      rests-by r well (λ less. come-to-rest most (turns r round) (turns-keep s round r well) (omega (arith, less, few)))
+      rests-by r well (λ less. come-to-rest most (turns r round) (turns-keep s round r well)
+      (omega (arith, less, few)))
 
 pub each-replayed : (s : Scenario) → IsValid s → (j : Journal) × IsReplayed s j
 each-replayed s valid =

@@ -1,4 +1,5 @@
--- Where no actor can step, each script has ended or awaits a map that waits for pages, and no callback is to be called.
+-- Where no actor can step, each script has ended or awaits a map that waits for pages, and no callback is to be
+-- called.
 use Rattle.std.proofs.Common.{◌≡◌, ℕ, zero, suc, ◌<◌, ◌≤◌, ◌==◌, ◌&&◌, ◌||◌, Bool, true, false, List, [], ◌∷◌}
 use Rattle.std.proofs.Common.{length, Option, Some, None, if◌then◌else◌, refl, sym, ap, ◌∙◌, subst, arith, slice_get}
 use Rattle.std.proofs.Common.{nat_lt}
@@ -182,7 +183,8 @@ module _ (s : Scenario) (w : WorldState) (well : IsWellFormed s w) (rest : IsAtR
           stage = x.stage;
           zone = z;
           bounces = e;
-          listed = in-zone (named l m) z x.need w.account (fits s w well).well none-ready ∙ (same.waits z x.need ∙ one);
+          listed = in-zone (named l m) z x.need w.account (fits s w well).well none-ready ∙
+              (same.waits z x.need ∙ one);
         }
 
     awaits : (o : Op) → slice_get l.script l.place ≡ Some o → waits o l ≡ true → EndsOrAwaits w.account l

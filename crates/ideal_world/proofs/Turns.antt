@@ -23,7 +23,8 @@ turns w i l (Asks c k) = record { reply = (account_step l.id c w.account).reply;
 -- the actor's driver does the step of its side
 pub record OwnStep (w : WorldState) (actor : Actor) (l : LaneState) : Type 0 where
   pub reply : HubReply
-  pub lanes : (step w actor).world.lanes ≡ slice_set w.lanes actor.lane.0 (by_reply (lane_step l actor.side) reply).lane
+  pub lanes : (step w actor).world.lanes ≡ slice_set w.lanes actor.lane.0
+      (by_reply (lane_step l actor.side) reply).lane
   pub there : slice_get (step w actor).world.lanes actor.lane.0 ≡ Some (by_reply (lane_step l actor.side) reply).lane
   pub turn : (step w actor).turn ≡ (by_reply (lane_step l actor.side) reply).turn
 

@@ -43,7 +43,8 @@ none-taken (w ∷ ws) lane a h = by (w.map.lane.0 == lane) h
     taken : Bool → Outcome
     taken b = cond b (record {
       account = handed (record a { ready = ws }) w.map w.zone.0 w.need;
-      reply = Called w.map (as_pages (Rattle.std.proofs.Common.take w.need (zone_at (record a { ready = ws }) w.zone.0).avail));
+      reply = Called w.map (as_pages (Rattle.std.proofs.Common.take w.need
+          (zone_at (record a { ready = ws }) w.zone.0).avail));
     }) (record { account = a; reply = Nothing })
 
     by : (b : Bool) → (taken b).reply ≡ Nothing → (taken b).account ≡ a
@@ -143,7 +144,8 @@ module _ (l : LaneState) (s : Side) (d : Seen) (stands : Stands l) (served : IsS
       let misses = missed.misses in
       let a = account e in
       let r = passed misses.others e misses.passes in
-      let call : account_step l.id c a ≡ called_from a.ready l.id a = ap (λ y. account_step l.id y a) missed.callback in
+      let call : account_step l.id c a ≡ called_from a.ready l.id a = ap (λ y. account_step l.id y a)
+      missed.callback in
       let none : (account_step l.id c a).reply ≡ Nothing = ap (λ (y : Outcome). y.reply) call ∙ misses.reply in
       let still : (account_step l.id c a).account ≡ a =
       ap (λ (y : Outcome). y.account) call ∙ none-taken a.ready l.id a misses.reply in

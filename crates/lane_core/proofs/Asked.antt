@@ -60,7 +60,8 @@ module _ (l : LaneState) (m : ℕ) (b : Bio) (nowait : Bool) (items : List Item)
         passed : step ≡ long o
         passed = judging ∙ ap (λ j. unless_refused j l (long o)) fine
 
-        pub load-long : (limits_of l o).maxsize < bio_bytes b → step ≡ gives (ended m o (answer.Refused EINVAL) l).lane (answer.Refused EINVAL)
+        pub load-long : (limits_of l o).maxsize < bio_bytes b → step ≡ gives
+            (ended m o (answer.Refused EINVAL) l).lane (answer.Refused EINVAL)
         load-long over =
             let test : nat_lt (limits_of l o).maxsize x.len ≡ true = grind (arith, nat_tests, over) in
             passed ∙ ap (λ b. if b then Gives (ended m o (answer.Refused EINVAL) l)
@@ -81,14 +82,16 @@ module _ (l : LaneState) (m : ℕ) (b : Bio) (nowait : Bool) (items : List Item)
           load-direct none =
               let test : (need_of chunks == 0) ≡ true = grind (arith, nat_tests) in
               cut ∙ ap (λ b. if b then Gives (finished m o l.place x chunks [] l)
-              else Asks (Grab (named l m) (record { 0 = zone_of o }) (need_of chunks) x.nowait) (granted m o x chunks l)) test
+              else Asks (Grab (named l m) (record { 0 = zone_of o }) (need_of chunks) x.nowait)
+              (granted m o x chunks l)) test
 
           pub load-bounced : (n : ℕ) → n ≡ need_of chunks → 0 < n →
               step ≡ Asks (Grab (named l m) (record { 0 = zone_of o }) n nowait) (granted m o x chunks l)
           load-bounced n is some =
               let test : (need_of chunks == 0) ≡ false = grind (arith, nat_tests) in
               cut ∙ ap (λ b. if b then Gives (finished m o l.place x chunks [] l)
-              else Asks (Grab (named l m) (record { 0 = zone_of o }) (need_of chunks) x.nowait) (granted m o x chunks l)) test
+              else Asks (Grab (named l m) (record { 0 = zone_of o }) (need_of chunks) x.nowait)
+              (granted m o x chunks l)) test
               ∙ ap (λ k. Asks (Grab (named l m) (record { 0 = zone_of o }) k nowait) (granted m o x chunks l)) (sym is)
 
 -- a load wants no more pages than it has bytes

@@ -28,7 +28,8 @@ use Rattle.segment_build.specs.Building.{placed_pieces, tag_placed}
 use Rattle.segment_build.specs.Chunks.{bounced_of, chunks_of}
 use Rattle.segment_build.specs.Segmentation.{segmentation}
 use Rattle.ideal_lane.proofs.Lookups.{get_cut}
-use Rattle.ideal_lane.specs.Loads.{Asked, emptied, finished, is_coherent, limits_of, load_entries, loaded, no_limits, staged, unpaged}
+use Rattle.ideal_lane.specs.Loads.{Asked, emptied, finished, is_coherent, limits_of, load_entries, loaded, no_limits}
+use Rattle.ideal_lane.specs.Loads.{staged, unpaged}
 use Rattle.ideal_lane.specs.Outcomes.{Outcome, is_idle, is_loaded}
 use Rattle.ideal_lane.specs.Places.{is_in_memory, or_in_memory, physical, physical_of}
 use Rattle.ideal_lane.specs.State.{LaneMap, LaneState, LaneTag, Stage, Idle, Loaded, Waiting}
@@ -142,7 +143,8 @@ module _ (l k : LaneState) (stays : Stays l k) where
       ap (λ ms. if list_any (λ e. is_in_memory va e.1) (entries ms) then Some (physical_of va) else None) stays.mems
 
   reaches : physical k ≡ physical l
-  reaches i va = (reaches-in va (physical_in k.pages va) ∙ ap (λ ps. or_in_memory l va (physical_in ps va)) stays.pages) i
+  reaches i va = (reaches-in va (physical_in k.pages va) ∙ ap (λ ps. or_in_memory l va (physical_in ps va))
+      stays.pages) i
 
   limits : (o : LaneMap) → limits_of k o ≡ limits_of l o
   limits o = ap (λ ts. unwrap_or (option_map (λ (t : LaneTag). t.limits) (get ts o.tag)) no_limits) stays.tags
@@ -270,7 +272,8 @@ awaiting-none k one none unprepared are = record {
         kept_load (get k.maps.map m) ≡ Some (load_at, callback, room) → (b : Bool) → (m == one) ≡ b →
         IsAwaiting k m load_at callback.items room
     each m load_at callback room kept true e =
-        let no = sym none ∙ ap (λ q. kept_load (get k.maps.map q)) (sym (exact_unsigned_eq m one e)) ∙ kept in absurd (cc)
+        let no = sym none ∙ ap (λ q. kept_load (get k.maps.map q)) (sym (exact_unsigned_eq m one e)) ∙ kept in absurd
+        (cc)
     each m load_at callback room kept false e = are.each m load_at callback room e kept
 
     prepared : (m : ℕ) → kept_load (get k.maps.map m) ≡ None → (b : Bool) → (m == one) ≡ b →

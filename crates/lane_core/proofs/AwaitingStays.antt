@@ -67,7 +67,8 @@ module _ (load_at : ℕ) (callback : Transfers) (room : LoadRoom) where
       stage_of need s ≡ Waiting load_at need
   staged need held.idle e = absurd (cc)
   staged need (held.waiting at own own_room) e =
-      ap (λ n. Waiting n need) (ap (λ (q : Option (ℕ × Transfers × LoadRoom)). unwrap_or (option_map (λ p. p.0) q) 0) e)
+      ap (λ n. Waiting n need) (ap (λ (q : Option (ℕ × Transfers × LoadRoom)). unwrap_or (option_map (λ p. p.0) q) 0)
+      e)
   staged need (held.loaded bounced segments pages) e = absurd (cc)
   staged need (held.lent bounced segments frames) e = absurd (cc)
   staged need held.returning e = absurd (cc)

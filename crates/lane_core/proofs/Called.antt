@@ -113,7 +113,8 @@ module _ (h : Holdings) (d : Seen) (served : IsServed (ideal_of h) d) (m : MapId
         map = x.0;
         there = x.1;
         waits = ap is_waiting w.found ∙ ap waits_in w.stage;
-        need = sym (length-map pas (λ p. record { 0 = p })) ∙ c.4 ∙ sym (need-kept x.0.need x.0.map.stage w.load_at c.0 stage);
+        need = sym (length-map pas (λ p. record { 0 = p })) ∙ c.4 ∙ sym
+            (need-kept x.0.need x.0.map.stage w.load_at c.0 stage);
       }
 
 -- so it needs as many pages as it gets

@@ -62,7 +62,8 @@ pub asked-is : (l : LaneState) (at m : ℕ) (x : Buffer) (b : Bio) (flags : ℕ)
     asked_at at l ≡ asked m b (never_waits x flags) items l
 asked-is l at m x b flags items load bytes =
     ap (λ (o : Option Op). unwrap_or (option_and_then (λ p. asked_by p l) o) (no_load l)) load
-    ∙ ap (λ (o : Option Bio). unwrap_or (option_map (λ c. asked m c (never_waits x flags) items l) o) (no_load l)) bytes
+    ∙ ap (λ (o : Option Bio). unwrap_or (option_map (λ c. asked m c (never_waits x flags) items l) o) (no_load l))
+    bytes
 
 -- ---- the room of the transfer queue
 

@@ -1,5 +1,6 @@
 -- The chunks of a load's stream are those of the load, and what is built of them.
-use Rattle.std.proofs.Common.{◌≡◌, ℕ, ◌≤◌, List, [], length, Some, refl, sym, ap, ◌∙◌, subst, arith, Bool, true, false, cond}
+use Rattle.std.proofs.Common.{◌≡◌, ℕ, ◌≤◌, List, [], length, Some, refl, sym, ap, ◌∙◌, subst, arith, Bool, true}
+use Rattle.std.proofs.Common.{false, cond}
 use Rattle.std.proofs.Common.{nat_le}
 use Rattle.std.specs.FinMap.{get}
 use Rattle.busdma_base.specs.declared.journals.report.Judged.{Judged}
@@ -79,7 +80,8 @@ module _ (t : TagLimits) (m : ℕ) (parts : List Part) (chunks : List Chunk) (pa
   pub filled-with : (room : LoadRoom) → IsBuiltFrom t m pages parts room.list.items room.bounced.items →
       IsFilled t chunks pages room
   filled-with room built = record {
-    segments = one_segmentation t room.list.items (placed_pieces t (stream_chunks t m parts) pages) built.segments_are.0
+    segments = one_segmentation t room.list.items (placed_pieces t (stream_chunks t m parts) pages)
+        built.segments_are.0
         ∙ ap (λ cs. segmentation t (placed_pieces t cs pages)) are;
     few = built.segments_are.1;
     bounced = rw (sym are) built.bounced_are;

@@ -56,7 +56,8 @@ module _ (l : LaneState) (k : ℕ) where
       unless_unloaded k l step ≡ step o
   loads o there on step = rw (there, on) refl
 
-  pub ends : (off len : ℕ) → off + len ≤ load_length l k → (step : Asking Outcome) → unless_past k off len l step ≡ step
+  pub ends : (off len : ℕ) → off + len ≤ load_length l k → (step : Asking Outcome) → unless_past k off len l step ≡
+      step
   ends off len h step = rw (le-leb (off + len) (load_length l k) h) refl
 
   -- the map is not loaded, or the range reaches past the end

@@ -1,6 +1,7 @@
 -- Which byte of a load is the first that is memory and not the map's.
 use Rattle.std.proofs.Common.{◌≡◌, ℕ, zero, suc, ◌+◌, ◌-◌, ◌≤◌, ◌<◌, ◌==◌, ◌&&◌, ◌||◌, not, Bool, true, false}
-use Rattle.std.proofs.Common.{List, [], ◌∷◌, ◌++◌, drop, slice_index_or, length, Option, Some, None, refl, sym, ap, ◌∙◌, arith, nat_le, nat_lt, inl, inr, ◌⊎◌}
+use Rattle.std.proofs.Common.{List, [], ◌∷◌, ◌++◌, drop, slice_index_or, length, Option, Some, None, refl, sym, ap}
+use Rattle.std.proofs.Common.{◌∙◌, arith, nat_le, nat_lt, inl, inr, ◌⊎◌}
 use Rattle.std.proofs.lemmas.Bool.Decides.{nat_tests}
 use Rattle.std.specs.List.{enumerate_from, list_any}
 use Rattle.std.specs.Option.{option_or}
@@ -62,7 +63,8 @@ pub none-off : (b n v len i : ℕ) → v ≡ b + i → i + len ≤ n →
 none-off b n v zero i e h = refl
 none-off b n v (suc len) i e h =
     let on : not (v == b + i && nat_lt i n) ≡ false = grind (arith, nat_tests, e, h) in
-    ap (λ t. refused_or (foreign_refusal t) i (judged (off_place b n) (i + 1) (enumerate_from (i + 1) (run_of (v + 1) len)))) on
+    ap (λ t. refused_or (foreign_refusal t) i (judged (off_place b n) (i + 1)
+    (enumerate_from (i + 1) (run_of (v + 1) len)))) on
     ∙ none-off b n (v + 1) len (i + 1) (omega (arith, e)) (omega (arith, h))
 
 pub first-off : (b n v len i : ℕ) → v ≡ b + i → i ≤ n → n < i + len →
@@ -78,12 +80,14 @@ first-off b n v (suc len) i e h k =
     by true t rest =
         let lt : i < n = grind (arith, nat_tests) in
         let on : not (v == b + i && true) ≡ false = grind (arith, nat_tests, e) in
-        ap (λ t. refused_or (foreign_refusal t) i (judged (off_place b n) (i + 1) (enumerate_from (i + 1) (run_of (v + 1) len)))) on
+        ap (λ t. refused_or (foreign_refusal t) i
+        (judged (off_place b n) (i + 1) (enumerate_from (i + 1) (run_of (v + 1) len)))) on
         ∙ rest (omega (arith, e)) (omega (arith, lt)) (omega (arith, k))
     by false t rest =
         let here : i ≡ n = grind (arith, nat_tests, h) in
         let off : not (v == b + i && false) ≡ true = grind (arith, nat_tests) in
-        ap (λ t. refused_or (foreign_refusal t) i (judged (off_place b n) (i + 1) (enumerate_from (i + 1) (run_of (v + 1) len)))) off
+        ap (λ t. refused_or (foreign_refusal t) i
+        (judged (off_place b n) (i + 1) (enumerate_from (i + 1) (run_of (v + 1) len)))) off
         ∙ ap foreign_at here
 
 pub away-off : (b n v len i : ℕ) → ¬ (v ≡ b + i) → 0 < len →

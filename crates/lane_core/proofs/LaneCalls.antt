@@ -1,5 +1,6 @@
 -- What a call on a lane leaves, which takes no door.
-use Rattle.std.proofs.Common.{◌≡◌, ℕ, ◌≤◌, ◌==◌, true, false, List, Result, Ok, Err, IfOk, OnErr, length, if◌then◌else◌}
+use Rattle.std.proofs.Common.{◌≡◌, ℕ, ◌≤◌, ◌==◌, true, false, List, Result, Ok, Err, IfOk, OnErr, length}
+use Rattle.std.proofs.Common.{if◌then◌else◌}
 use Rattle.std.proofs.Common.{is_some, refl, ap, sym, ◌∙◌, subst, arith}
 use Rattle.busdma_base.specs.declared.bounce.hold.HubReply.{HubReply}
 use Rattle.busdma_base.specs.declared.bounce.hold.HubReply.TheVariants.{Nothing}
@@ -113,7 +114,8 @@ module _ (h k : Holdings) (wired : IsWired h) (x : Answer) where
     touched : IsTouched l (ideal_of k)
     touched = subst (IsTouched l) ends (touches Nothing)
 
-    back : record l { memory = (ideal_of k).memory; loans = (ideal_of k).loans; shares = (ideal_of k).shares } ≡ ideal_of k
+    back : record l { memory = (ideal_of k).memory; loans = (ideal_of k).loans; shares = (ideal_of k).shares } ≡
+        ideal_of k
     back = sym touched.rest
 
     apart : IsApart (record l {

@@ -17,7 +17,8 @@ use Rattle.ideal_lane.specs.Places.{is_in_memory, is_memory_byte}
 use Rattle.ideal_lane.specs.State.{LaneState, LaneMemory}
 use Rattle.lane_core.specs.declared.holdings.Holdings.{Holdings}
 use Rattle.lane_core.specs.Ideal.{ideal_of}
-use Rattle.lane_core.specs.Judging.{earlier, foreign_bytes, foreign_judged, foreign_refusal, own_judged, unmapped_judged}
+use Rattle.lane_core.specs.Judging.{earlier, foreign_bytes, foreign_judged, foreign_refusal, own_judged}
+use Rattle.lane_core.specs.Judging.{unmapped_judged}
 use Rattle.lane_core.specs.Kept.{memory_of}
 use Rattle.lane_core.specs.Loading.{load_stream}
 use Rattle.lane_core.proofs.Earlier.{judged-alike, judged-either, judged-placed}

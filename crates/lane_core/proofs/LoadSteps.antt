@@ -89,11 +89,13 @@ stored-ended m o bounced segments pages coherent bytes l none =
     let stage = Loaded bounced segments pages in
     let loan = new_loan coherent bytes in
     let found : loan_of (insert l.loans m loan) m ≡ loan =
-    ap (λ x. unwrap_or x no_loan) (get_put l.loans m loan m ∙ ap (λ b. cond b (Some loan) (get l.loans m)) (eq-eqb m m refl)) in
+    ap (λ x. unwrap_or x no_loan) (get_put l.loans m loan m ∙ ap (λ b. cond b (Some loan) (get l.loans m))
+    (eq-eqb m m refl)) in
     let lost : lost_by_forgetting (insert l.loans m loan) m ≡ [] =
     ap (λ (x : Loan). addresses_of (filter to_write x.positions)) found ∙ nothing-lost bytes in
     (λ i. record (unpaged m o pages l) {
-      maps = put-over l.maps m (record o { tried = true; stage = stage }) (record o { tried = true; stage = emptied pages }) i;
+      maps = put-over l.maps m (record o { tried = true; stage = stage })
+          (record o { tried = true; stage = emptied pages }) i;
       loans = taken-out l.loans m loan none i;
       memory = ap (λ ks. forgotten ks l.memory) lost i;
     })

@@ -1,5 +1,6 @@
 -- The stream of a load: its extents, and the byte that stops it.
-use Rattle.std.proofs.Common.{◌≡◌, ℕ, ◌+◌, ◌≤◌, ◌^◌, Bool, true, false, List, [], ◌∷◌, ◌++◌, Option, Some, None, refl, sym, ap}
+use Rattle.std.proofs.Common.{◌≡◌, ℕ, ◌+◌, ◌≤◌, ◌^◌, Bool, true, false, List, [], ◌∷◌, ◌++◌, Option, Some, None, refl}
+use Rattle.std.proofs.Common.{sym, ap}
 use Rattle.std.proofs.Common.{zero, suc, ◌<◌, ◌∙◌, subst, arith, append_assoc, length, slice_index_or}
 use Rattle.std.specs.List.{Contains}
 use Rattle.std.specs.List.{AllByRecursion}
@@ -144,7 +145,8 @@ all-append : (P : Extent → Type 0) (xs ys : List Extent) → AllByRecursion P 
 all-append P [] ys h k = k
 all-append P (x ∷ xs) ys h k = (h.0, all-append P xs ys h.1 k)
 
-all-extents : (P : Extent → Type 0) (es : List Entry) (j : Judged) → AllByRecursion (λ e. AllByRecursion P e.parts) es →
+all-extents : (P : Extent → Type 0) (es : List Entry) (j : Judged) → AllByRecursion (λ e. AllByRecursion P e.parts) es
+    →
     AllByRecursion P (stream_extents (parts_of es ++ ending j))
 all-extents P [] j h = subst (AllByRecursion P) (sym (no-extents j)) tt
 all-extents P (e ∷ es) j h =
@@ -193,7 +195,8 @@ frame-held pages m fs f framed own h =
     each-held (g ∷ gs) zero d lt all = framed g all.0
     each-held (g ∷ gs) (suc k) d lt all = each-held gs k d (omega arith) all.1
 
-pub frames-inside : (pages : List PageRun) (m : Memory) (bytes : FinMap nat_cmp Bool) (fs : List ℕ) (spans : List Span) →
+pub frames-inside : (pages : List PageRun) (m : Memory) (bytes : FinMap nat_cmp Bool) (fs : List ℕ)
+    (spans : List Span) →
     AreFrames fs → AllByRecursion (λ frame. runs.has_frame pages frame ≡ true) fs → HasFramesOf pages m →
     IsCovered m bytes → AreIn bytes (addresses (stream_extents (spans_stream false (in_frames fs) spans)))
 frames-inside pages m bytes fs spans are own framed covered =

@@ -29,7 +29,8 @@ module _ (maps : FinMap nat_cmp KeptMap) (loans : Loans) (returns : List QueuedP
       lends_pages (Some v) ≡ false → is_returning (Some v) ≡ false → is_tried (Some v) ≡ true →
       pages_due maps + due_of v ≤ owed → AreMaps (insert maps k v) others returns owed
   maps-staged others has kept still tried fits =
-      let weight : pages_due (insert maps k v) + due_of o ≡ pages_due maps + due_of v = weigh-put due_of maps k o v there in
+      let weight : pages_due (insert maps k v) + due_of o ≡ pages_due maps + due_of v = weigh-put due_of maps k o v
+      there in
       record {
         loaded = λ q. has q ∙ by (q == k) (are.loaded q)
             ∙ sym (ap has_load (get_put maps k v q) ∙ mapped has_load (q == k) (Some v) (get maps q));
@@ -49,7 +50,8 @@ module _ (maps : FinMap nat_cmp KeptMap) (loans : Loans) (returns : List QueuedP
   loans-stay not q = by (q == k) refl
     where
       by : (b : Bool) → (q == k) ≡ b → contains_key loans q ≡ cond b (has_load (Some v)) (contains_key loans q)
-      by true e = ap (contains_key loans) (exact_unsigned_eq q k e) ∙ are.loaded k ∙ ap has_load there ∙ idle.unloaded ∙ sym not
+      by true e = ap (contains_key loans) (exact_unsigned_eq q k e) ∙ are.loaded k ∙ ap has_load there ∙ idle.unloaded
+          ∙ sym not
       by false e = refl
 
   -- a loan more, where it is
@@ -82,6 +84,7 @@ pub held-loaded : (bytes : FinMap nat_cmp Bool) (loans : Loans) (m : Memory) (d 
     held bytes (insert loans k (new_loan coherent pas)) e m ≡ held bytes loans d m
 held-loaded bytes loans m d e k coherent pas none same =
     let gone = sym (get-entries loans k) ∙ none in
-    λ i a. content_of (get bytes a) ((ap (λ es. byte_among e m es a) (entries-insert nat_cmp_total loans k (new_loan coherent pas))
+    λ i a. content_of (get bytes a) ((ap (λ es. byte_among e m es a)
+    (entries-insert nat_cmp_total loans k (new_loan coherent pas))
     ∙ byte-put m e k (new_loan coherent pas) (entries loans) a gone (unlent-all (e k).chunks 0 pas a)
     ∙ byte-apart m d e k (entries loans) a gone same) i)

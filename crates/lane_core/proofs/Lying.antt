@@ -66,7 +66,8 @@ pages-in (Some o) h = pages-stage o.need o.map.stage h
 run-at : (a n i : ℕ) → i < n → slice_index (run_of a n) i ≡ a + i
 run-at a zero i h = absurd (omega arith)
 run-at a (suc n) zero h = omega arith
-run-at a (suc n) (suc i) h = let there : a + 1 + i ≡ a + suc i = omega arith in run-at (a + 1) n i (omega arith) ∙ there
+run-at a (suc n) (suc i) h = let there : a + 1 + i ≡ a + suc i = omega arith in run-at (a + 1) n i (omega arith) ∙
+    there
 
 bus-in : (c : Chunk) (i : ℕ) → is_some c.page ≡ true → has_place i c ≡ true →
     slice_index (bus_addresses c) (i - c.at) ≡ (bus_extent c).pa.0 + (i - c.at)

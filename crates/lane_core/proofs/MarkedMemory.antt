@@ -9,7 +9,8 @@ use Rattle.std.proofs.lemmas.Map.Views.{exact_unsigned_eq}
 use Rattle.loan_table.specs.Loans.{Loans}
 use Rattle.loan_table.specs.Table.{AreIn, set_all}
 use Rattle.phys_memory.specs.Memory.{Memory}
-use Rattle.ideal_lane.specs.IdealMemory.{IdealMemory, Content, Known, Unknown, forgotten, is_among, written, written_at}
+use Rattle.ideal_lane.specs.IdealMemory.{IdealMemory, Content, Known, Unknown, forgotten, is_among, written}
+use Rattle.ideal_lane.specs.IdealMemory.{written_at}
 use Rattle.lane_core.specs.Held.{byte_among, content_of, held}
 use Rattle.lane_core.specs.Kept.{Device}
 use Rattle.lane_core.proofs.HeldMemory.{AreMarks, mark_of}

@@ -37,9 +37,11 @@ module _ (maxmem : ℕ) (tags : FinMap nat_cmp LaneTag) (mems : FinMap nat_cmp L
       let p : x.tag ≡ y.tag = ap (λ (t : Option LaneTag). unwrap_or t x.tag) (sym x.there ∙ y.there) in
       λ i. record {
         tag = p i;
-        there = is_prop→PathP (λ j. get tags o.tag ≡ Some (p j)) (λ j. found-prop (get tags o.tag) (p j)) x.there y.there i;
+        there = is_prop→PathP (λ j. get tags o.tag ≡ Some (p j)) (λ j. found-prop (get tags o.tag) (p j)) x.there
+            y.there i;
         memory = memory-prop x.memory y.memory i;
-        direct = is_prop→PathP (λ j. o.zone ≡ None → is_direct maxmem mems k (p j) ≡ true) (λ j. direct-prop (p j)) x.direct y.direct i;
+        direct = is_prop→PathP (λ j. o.zone ≡ None → is_direct maxmem mems k (p j) ≡ true) (λ j. direct-prop (p j))
+            x.direct y.direct i;
         pageless = pageless-prop x.pageless y.pageless i;
       }
 

@@ -55,7 +55,8 @@ module _ (h k : Holdings) (o p : Op) (same : o ≡ p) where
   done-wire is = inl (is ∙ ap (λ q. wires.operation q (ideal_of h) (wire_of h)) (sym same))
 
 -- a load of the bytes of a buffer
-pub load-named : (l : LaneState) (o : Op) (m : ℕ) (x : Buffer) (flags : ℕ) (items : List Item) (b : Bio) (nowait : Bool) →
+pub load-named : (l : LaneState) (o : Op) (m : ℕ) (x : Buffer) (flags : ℕ) (items : List Item) (b : Bio)
+    (nowait : Bool) →
     o ≡ op.Load m x flags items → bio_at l x ≡ Some b → nowait ≡ never_waits x flags →
     operation o l ≡ load m (asked m b nowait items l) l
 load-named l o m x flags items b nowait is bytes waits =

@@ -45,13 +45,15 @@ pub room-for-any : (t : TagLimits) (chunks : List Chunk) (len need segments : �
     IsWanted t chunks len need segments → room.list.items ≡ [] → room.shown.items ≡ [] → room.bounced.items ≡ [] →
     segments ≤ room.list.spare → segments ≤ room.shown.spare → need ≤ room.bounced.spare →
     room.addresses.items ≡ [] → need ≤ room.addresses.spare → HasRoomForAny t chunks need room
-room-for-any t chunks len need segments room wanted list shown bounced more shown_more bounced_more addresses few = record {
-  need = wanted.need;
-  empty_addresses = addresses;
-  addresses = few;
-  any = λ pages are count. room-for t chunks pages len need segments room wanted (sym count) are list shown bounced more
-      shown_more bounced_more;
-}
+room-for-any t chunks len need segments room wanted list shown bounced more shown_more bounced_more addresses few =
+    record {
+      need = wanted.need;
+      empty_addresses = addresses;
+      addresses = few;
+      any = λ pages are count. room-for t chunks pages len need segments room wanted (sym count) are list shown bounced
+          more
+          shown_more bounced_more;
+    }
 
 -- a load gets as many pages as it needs
 pub has-need : (got : Grabbed) (m : MapId) (z need : ℕ) (nowait : Bool) (a : Account) →

@@ -43,10 +43,11 @@ pub back-made : (h k : Holdings) (d e : Seen) (r : Released) →
       did = did.Release r.map r.page;
       answer = answer.Served r.served;
     }) true → IsMade h k d e side.Script t
-back-made h k d e r done there bytes same_length same_room same_queue t is = subst (IsMade h k d e side.Script) (sym is) (record {
-  done = done-turned d h.id.0 (lane_step (ideal_of h) side.Script) _ true e done
-      (sym (asks-there h.agenda.returns (ideal_of h) there));
-  wire = inr (still-there h.agenda.returns (ideal_of h) (wire_of h) there, stays-all h k bytes);
-  places = same_length;
-  capacity = λ i. same_room i + length (same_queue i);
-})
+back-made h k d e r done there bytes same_length same_room same_queue t is = subst (IsMade h k d e side.Script)
+    (sym is) (record {
+      done = done-turned d h.id.0 (lane_step (ideal_of h) side.Script) _ true e done
+          (sym (asks-there h.agenda.returns (ideal_of h) there));
+      wire = inr (still-there h.agenda.returns (ideal_of h) (wire_of h) there, stays-all h k bytes);
+      places = same_length;
+      capacity = λ i. same_room i + length (same_queue i);
+    })

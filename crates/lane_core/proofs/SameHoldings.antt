@@ -21,11 +21,14 @@ same-all h k s agenda = λ i. record {
   loans = s.most.loans i;
   agenda = agenda i;
   shares = s.most.shares i;
-  covered = is_prop→PathP (λ j. IsCovered (s.most.memory j).memory (s.most.loans j).bytes) (λ j. hlevel (props)) k.covered
+  covered = is_prop→PathP (λ j. IsCovered (s.most.memory j).memory (s.most.loans j).bytes) (λ j. hlevel (props))
+      k.covered
       h.covered i;
-  reaches = is_prop→PathP (λ j. Reaches (s.most.pages j).now (s.most.memories j).map (s.most.memory j).memory) (λ j. hlevel (props))
+  reaches = is_prop→PathP (λ j. Reaches (s.most.pages j).now (s.most.memories j).map (s.most.memory j).memory)
+      (λ j. hlevel (props))
       k.reaches h.reaches i;
-  framed = is_prop→PathP (λ j. HasFramesOf (s.most.pages j).now (s.most.memory j).memory) (λ j. hlevel (props)) k.framed
+  framed = is_prop→PathP (λ j. HasFramesOf (s.most.pages j).now (s.most.memory j).memory) (λ j. hlevel (props))
+      k.framed
       h.framed i;
   tag_places = is_prop→PathP (λ j. (s.tags j).places ≡ (agenda j).length) (λ j. hlevel (props)) k.tag_places
       h.tag_places i;
@@ -33,7 +36,8 @@ same-all h k s agenda = λ i. record {
       h.map_places i;
   memory_places = is_prop→PathP (λ j. (s.most.memories j).places ≡ (agenda j).length) (λ j. hlevel (props))
       k.memory_places h.memory_places i;
-  loaded = is_prop→PathP (λ j. AreLoaded (s.maps j).map (s.most.loans j).loans) (λ j. hlevel (props)) k.loaded h.loaded i;
+  loaded = is_prop→PathP (λ j. AreLoaded (s.maps j).map (s.most.loans j).loans) (λ j. hlevel (props)) k.loaded
+      h.loaded i;
   unlent = is_prop→PathP (λ j. (m : ℕ) → lends_pages (get (s.maps j).map m) ≡ false) (λ j. hlevel (props)) k.unlent
       h.unlent i;
   promised = is_prop→PathP (λ j. pages_due (s.maps j).map ≤ (agenda j).promised) (λ j. hlevel (props)) k.promised

@@ -186,7 +186,8 @@ module _ (h : Holdings) (empty : h.agenda.returns ≡ []) where
               });
             })
 
-            turn_done : IsTurned d h.id.0 (lane_step l side.Script) (advanced h.agenda.place (given k r.answer)) r.held e
+            turn_done : IsTurned d h.id.0 (lane_step l side.Script) (advanced h.agenda.place (given k r.answer))
+                r.held e
             turn_done =
                 subst (λ step. IsTurned d h.id.0 step (advanced h.agenda.place (given k r.answer)) r.held e)
                 (sym step-is)

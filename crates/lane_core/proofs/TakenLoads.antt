@@ -20,7 +20,8 @@ use Rattle.lane_core.specs.Covered.{has_load, is_idle_map, is_returning, is_trie
 use Rattle.lane_core.specs.Covered.{returns_in}
 use Rattle.lane_core.specs.Held.{devices_of, held}
 use Rattle.lane_core.specs.Ideal.{ideal_of}
-use Rattle.lane_core.specs.Kept.{device_in, device_of, due_in, due_of, map_of, memory_of, return_of, share_of, stage_of}
+use Rattle.lane_core.specs.Kept.{device_in, device_of, due_in, due_of, map_of, memory_of, return_of, share_of}
+use Rattle.lane_core.specs.Kept.{stage_of}
 use Rattle.lane_core.specs.Kept.{tag_of}
 use Rattle.lane_core.specs.MapValues.{map_values}
 use Rattle.lane_core.proofs.Bytes.{devices-put, held-alike}
@@ -127,7 +128,8 @@ module _ (h k : Holdings) (m : ℕ) (o : KeptMap) (there : get h.maps.map m ≡ 
     tags = map_values tag_of (rest.tags i).map;
     maps = (ap (map_values map_of) maps ∙ map_values-insert map_of h.maps.map m (idled o)) i;
     mems = map_values memory_of (rest.most.memories i).map;
-    memory = ((λ j. held (rest.most.loans j).bytes (rest.most.loans j).loans (devices_of (maps j)) (rest.most.memory j).memory)
+    memory = ((λ j. held (rest.most.loans j).bytes (rest.most.loans j).loans (devices_of (maps j))
+        (rest.most.memory j).memory)
         ∙ held-alike h.loans.bytes h.loans.loans (devices_of h.maps.map) (devices_of (insert h.maps.map m (idled o)))
         h.memory.memory (devices-put h.maps.map m (idled o) bare)) i;
     loans = (rest.most.loans i).loans;

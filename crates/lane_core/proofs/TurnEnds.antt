@@ -46,7 +46,8 @@ module _ (h k : Holdings) (s : Side) (d e : Seen) (stands : Stands (ideal_of h))
   end-own = still-own h k s d e stands wired served x the-end same
 
   -- its items and those ahead are no more than before
-  pub end-bounded : items_ahead (ideal_of k) + length (ideal_of k).queue ≤ items_ahead (ideal_of h) + length (ideal_of h).queue
+  pub end-bounded : items_ahead (ideal_of k) + length (ideal_of k).queue ≤ items_ahead (ideal_of h) + length
+      (ideal_of h).queue
   end-bounded =
       subst (λ l. items_ahead l + length l.queue ≤ items_ahead (ideal_of h) + length (ideal_of h).queue)
       (sym the-end.is ∙ same) (turn-bounded (ideal_of h) s the-end.reply)
@@ -58,7 +59,8 @@ module _ (h k : Holdings) (s : Side) (d e : Seen) (stands : Stands (ideal_of h))
       (follows h k wired.laid wired.apart (still-laid h k s d e stands wired served x the-end same)
       (still-apart h k s d e stands wired served x the-end same) keeps)
 
-  pub end-wired : Follows (ideal_of h) (ideal_of k) (wires.lane_step (ideal_of h) s (wire_of h)) (wire_of k) → IsWired k
+  pub end-wired : Follows (ideal_of h) (ideal_of k) (wires.lane_step (ideal_of h) s (wire_of h)) (wire_of k) → IsWired
+      k
   end-wired = still-wired h k s d e stands wired served x the-end same
 
 -- the account allows the call of a turn, where the driver agrees with it

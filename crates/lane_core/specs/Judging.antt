@@ -41,7 +41,8 @@ foreign_bytes l m offset vas =
 -- the first of them that is not this memory's at its place
 abbrev pub own_judged : LaneMemory → ℕ → List ℕ → Judged
 own_judged x offset vas =
-    judged (λ b. foreign_refusal (not (b.1 == begin_of x + b.0 && nat_lt b.0 x.len))) offset (enumerate_from offset vas)
+    judged (λ b. foreign_refusal (not (b.1 == begin_of x + b.0 && nat_lt b.0 x.len))) offset
+    (enumerate_from offset vas)
 
 -- the byte cannot be reached at which a stream ends so
 abbrev pub unmapped_judged : Option ℕ → Judged

@@ -187,7 +187,13 @@ impl Holdings<'_> {
     }
 
     /// Builds the load of a map in these pages into its room, and answers whether the segments are few enough.
-    fn build_load(&self, map: u32, bytes: LoadBytes<'_>, pages: &[Page], room: &mut LoadRoom) -> bool
+    fn build_load(
+        &self,
+        map: u32,
+        bytes: LoadBytes<'_>,
+        pages: &[Page],
+        room: &mut LoadRoom,
+    ) -> bool
         requires stands { Stands (ideal_of self.now) }
         requires idle { is_idle_map (get self.now.maps.map map) ≡ true }
         requires reached { bio_reached (ideal_of self.now) (bio_of bytes) ≡ Fine }

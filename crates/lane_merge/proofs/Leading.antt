@@ -33,20 +33,23 @@ Some-inj l m e = ap (λ o. unwrap_or o l) e
 rest-leads : (done firsts lasts : List LaneState) (logs : List Log) (a : Account) →
     length logs ≡ length firsts → length lasts ≡ length firsts →
     ((k : ℕ) (l : LaneState) → slice_get firsts k ≡ Some l → l.id ≡ length done + k) →
-    ((k : ℕ) (l m : LaneState) → slice_get firsts k ≡ Some l → slice_get lasts k ≡ Some m → Runs l (log_of logs k) [] m) →
+    ((k : ℕ) (l m : LaneState) → slice_get firsts k ≡ Some l → slice_get lasts k ≡ Some m → Runs l (log_of logs k) []
+    m) →
     Leads (world_of (done ++ firsts) a) (all_entries logs) (world_of (done ++ lasts) a)
 rest-leads done [] [] [] a p q numbers run = refl
 rest-leads done [] (m ∷ lasts) [] a p q numbers run = absurd (let z : suc (length lasts) ≡ 0 = q in omega arith)
 rest-leads done (l ∷ firsts) lasts [] a p q numbers run = absurd (let z : 0 ≡ suc (length firsts) = p in omega arith)
 rest-leads done [] lasts (log ∷ logs) a p q numbers run = absurd (let z : suc (length logs) ≡ 0 = p in omega arith)
-rest-leads done (l ∷ firsts) [] (log ∷ logs) a p q numbers run = absurd (let z : 0 ≡ suc (length firsts) = q in omega arith)
+rest-leads done (l ∷ firsts) [] (log ∷ logs) a p q numbers run = absurd
+    (let z : 0 ≡ suc (length firsts) = q in omega arith)
 rest-leads done (l ∷ firsts) (m ∷ lasts) (log ∷ logs) a p q numbers run =
     let n : ℕ = length done in
     let more : List LaneState = done ++ m ∷ [] in
     let number : l.id ≡ n = numbers 0 l refl ∙ add-zero n in
     let w : WorldState = world_of (done ++ l ∷ firsts) a in
     let v : WorldState = world_of (done ++ m ∷ firsts) a in
-    let first : Leads w (entries_of log) v = subst (λ ls. Leads w (entries_of log) (world_of ls a)) (set-seam done firsts l m)
+    let first : Leads w (entries_of log) v = subst (λ ls. Leads w (entries_of log) (world_of ls a))
+    (set-seam done firsts l m)
     (no-hold n m log l w number (get-seam done firsts l) (run 0 l m refl refl)) in
     let longer : (k : ℕ) → length more + k ≡ n + suc k = (λ k. omega (arith, length-append done (m ∷ []))) in
     let later : Leads (world_of (more ++ firsts) a) (all_entries logs) (world_of (more ++ lasts) a) =
@@ -82,12 +85,14 @@ module _ (h : HoldEntry) (hs : List HoldEntry) (firsts lasts : List LaneState) (
         own = subst (λ n. All (λ (x : HoldEntry). x.lane.0 < n) hs) (sym same)
             (All-tail (λ (x : HoldEntry). x.lane.0 < length firsts) h hs all.own);
         each = λ j l m there end.
-            each_set (λ j l. (m : LaneState) → slice_get lasts j ≡ Some m → Runs l (log_of (slice_set logs i past) j) (of_lane j hs) m)
+            each_set (λ j l. (m : LaneState) → slice_get lasts j ≡ Some m → Runs l (log_of (slice_set logs i past) j)
+            (of_lane j hs) m)
             firsts i k
             (λ m end. subst (λ log. Runs k log (of_lane i hs) m)
             (sym (get_or-set_same logs i past [] (let e = all.logged in omega arith))) (runs m end))
             (λ j l other there m end.
-            let same_log : log_of (slice_set logs i past) j ≡ log_of logs j = get_or-set_other logs i j past [] other in
+            let same_log : log_of (slice_set logs i past) j ≡ log_of logs j = get_or-set_other logs i j past []
+            other in
             subst (λ (z : Log × List HoldEntry). Runs l z.0 z.1 m)
             (λ t. (sym same_log t, other-entry j h hs (λ e. other (sym e)) t)) (all.each j l m there end))
             j l there m end;
@@ -106,14 +111,17 @@ merged-leads a (h ∷ hs) logs firsts lasts numbers sound all =
     let log : Log = log_of logs i in
     let run : Runs first.0 log (h ∷ of_lane i hs) last.0 =
     subst (λ es. Runs first.0 log es last.0) (own-entry i h hs refl) (all.each i first.0 last.0 first.1 last.1) in
-    let one = one-hold i last.0 log first.0 (world_of firsts a) h (of_lane i hs) (numbers i first.0 first.1) first.1 refl sound.0 run in
+    let one = one-hold i last.0 log first.0 (world_of firsts a) h (of_lane i hs) (numbers i first.0 first.1) first.1
+    refl sound.0 run in
     let firsts' : List LaneState = slice_set firsts i one.next in
     let logs' : List Log = slice_set logs i (past_hold log) in
     let on : AllRun firsts' logs' hs lasts = all-run-on h hs firsts lasts logs one.next all
     (λ m end. subst (Runs one.next (past_hold log) (of_lane i hs)) (Some-inj last.0 m (sym last.1 ∙ end)) one.runs) in
     let b : Account = after_entry h a in
-    let numbers' : AreNumbered firsts' = each_set (λ j (l : LaneState). l.id ≡ j) firsts i one.next one.number (λ j l other there. numbers j l there) in
-    leads-append (world_of firsts a) (world_of firsts' b) (world_of lasts (account_of b hs)) (through_hold log) (merged hs logs') one.leads
+    let numbers' : AreNumbered firsts' = each_set (λ j (l : LaneState). l.id ≡ j) firsts i one.next one.number
+    (λ j l other there. numbers j l there) in
+    leads-append (world_of firsts a) (world_of firsts' b) (world_of lasts (account_of b hs)) (through_hold log)
+    (merged hs logs') one.leads
     (merged-leads b hs logs' firsts' lasts numbers' sound.1 on)
 
 -- the drivers of a scenario open with the numbers of their places

@@ -14,7 +14,8 @@ use Rattle.lane_merge.proofs.OneTurn.{leads-first, alone-owned, by-owned, alone-
 use Rattle.lane_merge.proofs.Seams.{set-again}
 
 -- the driver of a number, after its entries up to its next hold
-pub record IsThroughHold (w : WorldState) (i : ℕ) (log : Log) (h : HoldEntry) (hs : List HoldEntry) (m : LaneState) : Type 0 where
+pub record IsThroughHold (w : WorldState) (i : ℕ) (log : Log) (h : HoldEntry) (hs : List HoldEntry) (m : LaneState) :
+    Type 0 where
   pub next : LaneState
   pub number : next.id ≡ i
   pub leads : Leads w (through_hold log) (world_of (slice_set w.lanes i next) (after_entry h w.account))
@@ -22,7 +23,8 @@ pub record IsThroughHold (w : WorldState) (i : ℕ) (log : Log) (h : HoldEntry) 
 
 module _ (i : ℕ) (m : LaneState) where
   -- a driver put in its place is there
-  put : (w : WorldState) (l k : LaneState) → slice_get w.lanes i ≡ Some l → slice_get (slice_set w.lanes i k) i ≡ Some k
+  put : (w : WorldState) (l k : LaneState) → slice_get w.lanes i ≡ Some l → slice_get (slice_set w.lanes i k) i ≡ Some
+      k
   put w l k there = set-here w.lanes i k (within w.lanes i l there)
 
   pub one-hold : (log : Log) (l : LaneState) (w : WorldState) (h : HoldEntry) (hs : List HoldEntry) →

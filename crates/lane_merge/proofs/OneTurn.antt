@@ -70,7 +70,10 @@ module _ (l m : LaneState) (e : JournalEntry) where
 
     -- a step by a sound hold makes the hold's change of the account
     pub by-turns : (h : HoldEntry) → h.lane.0 ≡ i → IsSoundEntry h w.account → StepsBy h l e m →
-        step w e.actor ≡ record { world = world_of (slice_set w.lanes i m) (after_entry h w.account); turn = Stepped e }
+        step w e.actor ≡ record {
+          world = world_of (slice_set w.lanes i m) (after_entry h w.account);
+          turn = Stepped e;
+        }
     by-turns h lane sound by =
         let own : l.id ≡ h.lane.0 = number ∙ sym lane in
         actors-turn (by-owned h by)

@@ -19,7 +19,8 @@ module _ {Q : Type 0} (items : Q → Log) where
   map-slice_set (x ∷ xs) zero q = refl
   map-slice_set (x ∷ xs) (suc i) q = ap (λ l. items x ∷ l) (map-slice_set xs i q)
 
-  pub taken : (before after : List JournalEntry) (h : HoldEntry) (holds rest : List HoldEntry) (logs : List Q) (q new : Q) →
+  pub taken : (before after : List JournalEntry) (h : HoldEntry) (holds rest : List HoldEntry) (logs : List Q)
+      (q new : Q) →
       holds ≡ h ∷ rest → h.lane.0 < length logs → q ≡ slice_index_or logs h.lane.0 q →
       after ≡ before ++ through_hold (items q) → items new ≡ past_hold (items q) →
       after ++ merged rest (map items (slice_set logs h.lane.0 new)) ≡ before ++ merged holds (map items logs)

@@ -58,7 +58,8 @@ AreNumbered lanes = (i : ℕ) (l : LaneState) → slice_get lanes i ≡ Some l �
 
 -- each driver has a log, which runs it from the first to the last of these states by its own entries of the history,
 -- and each entry is a driver's
-pub record AllRun (firsts : List LaneState) (logs : List Log) (history : List HoldEntry) (lasts : List LaneState) : Type 0 where
+pub record AllRun (firsts : List LaneState) (logs : List Log) (history : List HoldEntry) (lasts : List LaneState) :
+    Type 0 where
   pub logged : length logs ≡ length firsts
   pub last : length lasts ≡ length firsts
   pub own : All (λ h. h.lane.0 < length firsts) history

@@ -77,7 +77,8 @@ module _ (d e : Seen) (one two : Option OwnMap) where
       granted 0 (HasMaps idle two []) (HasMaps (in_zone 0 (Loaded pages)) two []) d e k (of_table 1) zone 2 false
       pages asks_one (λ l id has. first_in idle two [] l has 0 (Loaded pages)) h
 
-  pub may_load_second : (nowait : Bool) → Knows 0 (HasMaps one idle []) d → Allows d 0 (Grab (of_table 2) zone 2 nowait)
+  pub may_load_second : (nowait : Bool) → Knows 0 (HasMaps one idle []) d → Allows d 0
+      (Grab (of_table 2) zone 2 nowait)
   may_load_second nowait k = allows 0 (HasMaps one idle []) d k (Grab (of_table 2) zone 2 nowait) (asks_two nowait)
 
   pub second_refused : Knows 0 (HasMaps one idle []) d → Holds d 0 (Grab (of_table 2) zone 2 true) NoPages e
@@ -106,7 +107,8 @@ module _ (d e : Seen) (one two : Option OwnMap) where
   may_give_back p rs k =
       allows 0 (HasMaps one two (back p ∷ rs)) d k (Release (of_table 1) zone (record { 0 = p })) (asks_back p rs)
 
-  pub second_called : Knows 0 (HasMaps one (in_zone 0 (Waiting 2)) []) d → (m : MapId) (pages : List ℕ) → m ≡ of_table 2
+  pub second_called : Knows 0 (HasMaps one (in_zone 0 (Waiting 2)) []) d → (m : MapId) (pages : List ℕ) → m ≡ of_table
+      2
       → Holds d 0 TakeCallback (Called m (as_pages pages)) e
       → Knows 0 (HasMaps one (in_zone 0 (Loaded pages)) []) e
   second_called k m pages is h =

@@ -12,7 +12,8 @@ use Rattle.loan_table.specs.Marks.{Marks}
 use Rattle.loan_table.specs.Trees.{closed, loans_in, opened}
 
 pub kept_more : (b c : Marks) (loans same_loans : BTreeMap ℕ Slot) (l m : LentCounts) (p s : ℕ) →
-    IsKept b loans l p s → loans.entries ≡ same_loans.entries → c.bytes ≡ b.bytes → b.room ≤ c.room → b.there_room ≤ c.there_room → IsAlike l m → UsesChanges l m 0 →
+    IsKept b loans l p s → loans.entries ≡ same_loans.entries → c.bytes ≡ b.bytes → b.room ≤ c.room → b.there_room ≤
+    c.there_room → IsAlike l m → UsesChanges l m 0 →
     IsKept c same_loans m p s
 kept_more b c loans same_loans l m p s h e same more more_there alike used = record {
   ordered = subst (λ es. IsStrictlySortedBy nat_cmp (keys_of es)) e h.ordered;

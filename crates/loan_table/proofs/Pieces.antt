@@ -157,7 +157,8 @@ places-alike way p n a same =
     more true k m = refl
     more false k m = omega arith
 
-    count-cons : (x : ℕ) (xs : List ℕ) → count_by (λ b. b == a) (x ∷ xs) ≡ cond (x == a) 1 0 + count_by (λ b. b == a) xs
+    count-cons : (x : ℕ) (xs : List ℕ) → count_by (λ b. b == a) (x ∷ xs) ≡ cond (x == a) 1 0 + count_by (λ b. b == a)
+        xs
     count-cons x xs = sum_by-cons (λ b. cond (b == a) 1 0) x xs
 
     each : (xs : List ℕ) → places way a (map (lent_as p) xs) ≡ cond (way p) (count_by (λ b. b == a) xs) 0

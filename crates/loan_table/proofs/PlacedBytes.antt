@@ -28,7 +28,8 @@ pub addresses_of-placed : (r w : ℕ → Bool) (at : ℕ) (bytes : List ℕ) →
 addresses_of-placed r w at [] = refl
 addresses_of-placed r w at (a ∷ bytes) = ap (λ xs. a ∷ xs) (addresses_of-placed r w (at + 1) bytes)
 
-take-placed : (r w : ℕ → Bool) (n at : ℕ) (bytes : List ℕ) → take n (placed r w at bytes) ≡ placed r w at (take n bytes)
+take-placed : (r w : ℕ → Bool) (n at : ℕ) (bytes : List ℕ) → take n (placed r w at bytes) ≡ placed r w at
+    (take n bytes)
 take-placed r w zero at bytes = refl
 take-placed r w (suc n) at [] = refl
 take-placed r w (suc n) at (a ∷ bytes) = ap (λ xs. position a (r at) (w at) ∷ xs) (take-placed r w n (at + 1) bytes)
@@ -112,7 +113,8 @@ module _ (ops off len : ℕ) (r w s v : ℕ → Bool) (bytes : List ℕ)
       let long = length-take off bytes in
       take-placed r w off 0 bytes ∙ same_places r w s v 0 (take off bytes)
       (λ i from to. sym (p i ∙ chosen (read_after ops r) r i _ false (before off (off + len) i (omega (arith, long)))))
-      (λ i from to. sym (q i ∙ chosen (write_after ops w) w i _ false (before off (off + len) i (omega (arith, long)))))
+      (λ i from to. sym (q i ∙ chosen (write_after ops w) w i _ false
+      (before off (off + len) i (omega (arith, long)))))
       ∙ sym (take-placed s v off 0 bytes)
 
   middle : map (marked ops) (stretch off len (placed r w 0 bytes)) ≡ stretch off len (placed s v 0 bytes)
@@ -144,7 +146,8 @@ module _ (ops off len : ℕ) (r w s v : ℕ → Bool) (bytes : List ℕ)
 -- numbers that rise to a bound are no more than it
 pub few_edges : (lo hi : ℕ) (es : List ℕ) → Rises lo hi es → lo + length es ≤ hi
 few_edges lo hi [] h = omega (arith, h)
-few_edges lo hi (e ∷ es) h = let rest : e + 1 + length es ≤ hi = few_edges (e + 1) hi es h.1 in omega (arith, rest, h.0)
+few_edges lo hi (e ∷ es) h = let rest : e + 1 + length es ≤ hi = few_edges (e + 1) hi es h.1 in omega
+    (arith, rest, h.0)
 
 -- whether a byte stands twice in a row
 pub twice_by : (a : ℕ) (coherent : Bool) (r w : ℕ → Bool) (bytes : List ℕ) →

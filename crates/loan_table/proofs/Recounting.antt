@@ -1,6 +1,7 @@
 -- Counts of positions that are lent, as marks are set and positions go.
 use Rattle.std.proofs.Common.{◌≡◌, ℕ, zero, suc, ◌+◌, ◌-◌, ◌≤◌, ◌<◌, ◌&&◌, ◌==◌, Bool, true, false, cond, length}
-use Rattle.std.proofs.Common.{List, [], ◌∷◌, ◌++◌, map, take, drop, get_or, nat_lt, refl, sym, ap, ◌∙◌, arith, Some, None, Option, unwrap_or}
+use Rattle.std.proofs.Common.{List, [], ◌∷◌, ◌++◌, map, take, drop, get_or, nat_lt, refl, sym, ap, ◌∙◌, arith, Some}
+use Rattle.std.proofs.Common.{None, Option, unwrap_or}
 use Rattle.std.proofs.lemmas.Bool.Decides.{nat_tests}
 use Rattle.std.specs.List.{All, sum_by, count_by}
 use Rattle.std.proofs.lemmas.List.{drop-drop}
@@ -19,7 +20,8 @@ use Rattle.loan_table.specs.declared.row.Way.TheVariants.{ToWrite, Any}
 use Rattle.loan_table.specs.Loans.{Loan, Loans, loan_of, no_loan, is_at, unlent}
 use Rattle.loan_table.specs.Kinds.{test_of}
 use Rattle.loan_table.specs.Lending.{marked, marked_range, synced}
-use Rattle.loan_table.specs.Counted.{places, lent_places, counts_of, IsCounted, IsPlaced, LendsNothing, Holds, IsRecounted}
+use Rattle.loan_table.specs.Counted.{places, lent_places, counts_of, IsCounted, IsPlaced, LendsNothing, Holds}
+use Rattle.loan_table.specs.Counted.{IsRecounted}
 use Rattle.loan_table.specs.Trees.{with_value}
 use Rattle.loan_table.proofs.Marking.{no_position}
 use Rattle.loan_table.proofs.Totals.{places-insert, places-remove}
@@ -75,7 +77,8 @@ none_lent way a (b ∷ bytes) =
 
 -- a range of positions is counted among all
 pub range_places : (way : Position → Bool) (a off len : ℕ) (ps : List Position) →
-    places way a (take off ps) + places way a (stretch off len ps) + places way a (drop (off + len) ps) ≡ places way a ps
+    places way a (take off ps) + places way a (stretch off len ps) + places way a (drop (off + len) ps) ≡ places way a
+    ps
 range_places way a off len ps =
     let whole : places way a (take off ps) + places way a (drop off ps) ≡ places way a ps =
     sum_by-take-drop (here way a) ps off in
@@ -134,7 +137,8 @@ counted_with lent loans m None counted gone none way a =
     omega (arith, counted way a, all, zero_here)
 counted_with lent loans m (Some new) counted gone none way a =
     let put : lent_places (test_of way) a (insert loans m new) + places (test_of way) a (loan_of loans m).positions
-    ≡ lent_places (test_of way) a loans + places (test_of way) a new.positions = places-insert (test_of way) a loans m new in
+    ≡ lent_places (test_of way) a loans + places (test_of way) a new.positions = places-insert (test_of way) a loans m
+    new in
     let zero_here : places (test_of way) a (loan_of loans m).positions ≡ 0 =
     ap (λ x. places (test_of way) a (unwrap_or x no_loan).positions) gone in
     omega (arith, counted way a, put, zero_here, none way a)
@@ -209,9 +213,11 @@ all_placed loan = All-from_get_or (IsPlaced loan) loan.positions no_position
 -- no map
 pub none_counted : (lent : LentCounts) (way : Way) (a : ℕ) → lent.to_write.starts ≡ [] → lent.any.starts ≡ [] →
     count (counts_of lent way) a ≡ lent_places (test_of way) a empty
-none_counted lent way a e f = none lent way a e f ∙ sym (ap (sum_by (λ (x : ℕ × Loan). places (test_of way) a x.1.positions)) entries-empty)
+none_counted lent way a e f = none lent way a e f ∙ sym
+    (ap (sum_by (λ (x : ℕ × Loan). places (test_of way) a x.1.positions)) entries-empty)
   where
-    none : (lent : LentCounts) (way : Way) (a : ℕ) → lent.to_write.starts ≡ [] → lent.any.starts ≡ [] → count (counts_of lent way) a ≡ 0
+    none : (lent : LentCounts) (way : Way) (a : ℕ) → lent.to_write.starts ≡ [] → lent.any.starts ≡ [] → count
+        (counts_of lent way) a ≡ 0
     none lent ToWrite a e f = ap (λ xs. count_le xs a - count_le lent.to_write.ends a) e ∙ (omega arith)
     none lent Any a e f = ap (λ xs. count_le xs a - count_le lent.any.ends a) f ∙ (omega arith)
 

@@ -1,5 +1,6 @@
 -- How many positions the maps of a table have, and the room that is left after a change.
-use Rattle.std.proofs.Common.{◌≡◌, ℕ, zero, suc, ◌+◌, ◌-◌, ◌<◌, ◌≤◌, Bool, true, false, List, [], ◌∷◌, length, Option, Some}
+use Rattle.std.proofs.Common.{◌≡◌, ℕ, zero, suc, ◌+◌, ◌-◌, ◌<◌, ◌≤◌, Bool, true, false, List, [], ◌∷◌, length, Option}
+use Rattle.std.proofs.Common.{Some}
 use Rattle.std.proofs.Common.{None, unwrap_or, refl, sym, ap, subst, ◌∙◌, arith}
 use Rattle.std.specs.Option.{option_map}
 use Rattle.std.specs.Ordering.{nat_cmp}
@@ -29,7 +30,8 @@ size slot = length slot.row.positions
 -- a map that goes, one that stays with as many positions, and one that comes
 pub count_removed : (es : List (ℕ × Slot)) (test : ℕ → Bool) (slot : Slot) → lookup test es ≡ Some slot →
     position_count (remove_entry test es) + length slot.row.positions ≡ position_count es
-count_removed es test slot h = ap (λ o. position_count (remove_entry test es) + unwrap_or (option_map size o) 0) (sym h)
+count_removed es test slot h = ap (λ o. position_count (remove_entry test es) + unwrap_or (option_map size o) 0)
+    (sym h)
     ∙ sum_by-remove_entry size test es
 
 pub count_taken : (es ds : List (ℕ × Slot)) (test : ℕ → Bool) (left : Option Slot) (n : ℕ) →
@@ -93,7 +95,8 @@ needs_spare off len spare ps range room some =
     omega arith
 
 -- the room after a change of n extents, of n bytes, and after a map of n positions goes
-pub used_extents : (b c : Marks) (p s n : ℕ) → HasRoom b p s → n ≤ s → b.room ≤ c.room + (n + n) → c.there_room ≡ b.there_room → HasRoom c p (s - n)
+pub used_extents : (b c : Marks) (p s n : ℕ) → HasRoom b p s → n ≤ s → b.room ≤ c.room + (n + n) → c.there_room ≡
+    b.there_room → HasRoom c p (s - n)
 used_extents b c p zero n h l r t =
     record {
       forgets = omega (arith, h.forgets);
@@ -105,7 +108,8 @@ used_extents b c p (suc s) n h l r t =
     let two : 2 ≤ b.there_room = h.drops (omega arith) in
     record { forgets = omega arith; changes = λ q. omega arith; drops = λ q. omega arith }
 
-pub used_bytes : (b c : Marks) (p s n left : ℕ) → HasRoom b p s → n ≤ p → (0 < n → 0 < s) → b.room ≤ c.room + (n + n) → left ≤ s → (0 < left → n ≡ 0) → c.there_room ≡ b.there_room → HasRoom c p left
+pub used_bytes : (b c : Marks) (p s n left : ℕ) → HasRoom b p s → n ≤ p → (0 < n → 0 < s) → b.room ≤ c.room + (n + n)
+    → left ≤ s → (0 < left → n ≡ 0) → c.there_room ≡ b.there_room → HasRoom c p left
 used_bytes b c p s zero left h l k r le z t = record {
   forgets = omega (arith, h.forgets);
   changes = λ q. let all : p + p + (p + p) + (s + s) ≤ b.room = h.changes (omega arith) in omega arith;

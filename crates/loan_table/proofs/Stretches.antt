@@ -64,7 +64,8 @@ run_of_sum a (suc m) k =
 -- an extent begins a stretch, or joins the last one
 module _ (es : List Extent) (run e : Extent) (ahead tail all : List ℕ) (first : ahead ≡ run_of e.pa.0 e.len ++ tail)
     (h : addresses es ++ (run_of run.pa.0 run.len ++ ahead) ≡ all) where
-  pub stretch_begins : (new : List Extent) → new ≡ es ++ run ∷ [] → addresses new ++ (run_of e.pa.0 e.len ++ tail) ≡ all
+  pub stretch_begins : (new : List Extent) → new ≡ es ++ run ∷ [] → addresses new ++ (run_of e.pa.0 e.len ++ tail) ≡
+      all
   stretch_begins new pushed =
       ap (λ xs. addresses xs ++ (run_of e.pa.0 e.len ++ tail)) pushed
       ∙ ap (λ xs. xs ++ (run_of e.pa.0 e.len ++ tail)) (addresses-push es run)

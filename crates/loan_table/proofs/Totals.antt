@@ -9,7 +9,8 @@ use Rattle.std.specs.declared.cmp.Ordering.TheVariants.{Less, Equal, Greater}
 use Rattle.std.specs.Ordering.{nat_cmp, eq_by_cmp, is_eq, is_lt}
 use Rattle.std.specs.Cmp.{nat_cmp_total, unsigned_tied, eq_by_cmp_equiv, nat_eq_equiv}
 use Rattle.std.specs.FinMap.Entries.{find, where_key, below_all, is_sorted, find-where_key, is_sorted-where_key}
-use Rattle.std.specs.FinMap.{get, insert, remove, entries, entries_sorted, from_sorted, entries-from_sorted, get-from_sorted, get-entries, get-insert, get-remove}
+use Rattle.std.specs.FinMap.{get, insert, remove, entries, entries_sorted, from_sorted, entries-from_sorted}
+use Rattle.std.specs.FinMap.{get-from_sorted, get-entries, get-insert, get-remove}
 use Rattle.std.specs.FinMap.{same_map, nat_cmp-IsAntisymmetric}
 use Rattle.loan_table.specs.declared.position.Position.{Position}
 use Rattle.loan_table.specs.Loans.{Loan, Loans, loan_of, no_loan, is_at, lends, lent, lent_elsewhere}
@@ -30,7 +31,8 @@ one : (b : Bool) → b ≡ nat_lt 0 (cond b 1 0)
 one true = refl
 one false = refl
 
-pub lends_places : (way : Position → Bool) (a : ℕ) (loan : Loan) → lends way a loan ≡ nat_lt 0 (places way a loan.positions)
+pub lends_places : (way : Position → Bool) (a : ℕ) (loan : Loan) → lends way a loan ≡ nat_lt 0
+    (places way a loan.positions)
 lends_places way a loan = any_sum (λ p. is_at a p && way p) (λ p. cond (is_at a p && way p) 1 0)
     (λ p. one (is_at a p && way p)) loan.positions
 
@@ -76,9 +78,21 @@ module _ (f : Loan → ℕ) (none : f no_loan ≡ 0) where
           total (cond (not (is_eq r)) (e ∷ where_key nat_cmp (others m) es) (where_key nat_cmp (others m) es))
           + f (unwrap_or (cond (is_eq r) (Some e.1) (find nat_cmp m es)) no_loan) ≡ total (e ∷ es)
       by Less p later here =
-          omega (arith, later, sum_by-cons (λ x. f x.1) e (where_key nat_cmp (others m) es), sum_by-cons (λ x. f x.1) e es)
+          omega (
+            arith,
+            later,
+            sum_by-cons (λ x. f x.1) e (where_key nat_cmp (others m) es),
+            sum_by-cons (λ x. f x.1)
+                e es,
+          )
       by Greater p later here =
-          omega (arith, later, sum_by-cons (λ x. f x.1) e (where_key nat_cmp (others m) es), sum_by-cons (λ x. f x.1) e es)
+          omega (
+            arith,
+            later,
+            sum_by-cons (λ x. f x.1) e (where_key nat_cmp (others m) es),
+            sum_by-cons (λ x. f x.1)
+                e es,
+          )
       by Equal p later here = let same : total (where_key nat_cmp (others m) es) ≡ total es =
           here (nat_cmp-IsAntisymmetric m e.0 p) in
           omega (arith, same, sum_by-cons (λ x. f x.1) e es)
@@ -90,13 +104,15 @@ turned false x y = refl
 entries-remove : (loans : Loans) (m : ℕ) → entries (remove loans m) ≡ where_key nat_cmp (others m) (entries loans)
 entries-remove loans m =
     let es = where_key nat_cmp (others m) (entries loans) in
-    let sorted : T (is_sorted nat_cmp es) = is_sorted-where_key nat_cmp (others m) (entries loans) (entries_sorted loans) in
+    let sorted : T (is_sorted nat_cmp es) = is_sorted-where_key nat_cmp (others m) (entries loans)
+    (entries_sorted loans) in
     ap entries (same_map nat_cmp_total nat_cmp-IsAntisymmetric (remove loans m) (from_sorted es) (λ q.
     get-remove nat_cmp_total loans m q
     ∙ ap (λ b. cond b None (get loans q)) ((eq_by_cmp_equiv nat_cmp_total).symm q m)
     ∙ sym (turned (eq_by_cmp nat_cmp m q) (get loans q) None)
     ∙ ap (λ o. cond (others m q) o None) (get-entries loans q)
-    ∙ sym (find-where_key nat_cmp (others m) q (λ x e. ap (others m) (sym (nat_cmp-IsAntisymmetric q x e))) (entries loans))
+    ∙ sym (find-where_key nat_cmp (others m) q (λ x e. ap (others m) (sym (nat_cmp-IsAntisymmetric q x e)))
+    (entries loans))
     ∙ sym (get-from_sorted nat_cmp es q sorted)))
     ∙ entries-from_sorted nat_cmp es sorted
 
@@ -128,14 +144,17 @@ pub places-insert : (way : Position → Bool) (a : ℕ) (loans : Loans) (m : ℕ
     lent_places way a (insert loans m new) + places way a (loan_of loans m).positions
     ≡ lent_places way a loans + places way a new.positions
 places-insert way a loans m new =
-    let put : lent_places way a (remove loans m) + places way a new.positions ≡ lent_places way a (insert loans m new) =
+    let put : lent_places way a (remove loans m) + places way a new.positions ≡ lent_places way a
+    (insert loans m new) =
     ap (λ ls. lent_places way a ls + places way a new.positions) (sym (back way a loans m new))
-    ∙ ap (λ l. lent_places way a (remove (insert loans m new) m) + places way a l.positions) (sym (here way a loans m new))
+    ∙ ap (λ l. lent_places way a (remove (insert loans m new) m) + places way a l.positions)
+    (sym (here way a loans m new))
     ∙ places-remove way a (insert loans m new) m in
     omega (arith, put, places-remove way a loans m)
 
 -- a byte is lent where it is counted, and elsewhere where it is counted more often than here
-pub lent_counted : (way : Position → Bool) (a : ℕ) (loans : Loans) → lent way a loans ≡ nat_lt 0 (lent_places way a loans)
+pub lent_counted : (way : Position → Bool) (a : ℕ) (loans : Loans) → lent way a loans ≡ nat_lt 0
+    (lent_places way a loans)
 lent_counted way a loans = any_sum (λ e. lends way a e.1) (λ e. places way a e.1.positions)
     (λ e. lends_places way a e.1) (entries loans)
 
@@ -158,7 +177,8 @@ any_where q m (e ∷ es) =
     (sym ((eq_by_cmp_equiv nat_cmp_total).symm m e.0 ∙ unsigned_tied e.0 m))
     ∙ by (eq_by_cmp nat_cmp m e.0) (any_where q m es)
   where
-    by : (b : Bool) → list_any (λ x. not (x.0 == m) && q x.1) es ≡ list_any (λ x. q x.1) (where_key nat_cmp (others m) es) →
+    by : (b : Bool) → list_any (λ x. not (x.0 == m) && q x.1) es ≡ list_any (λ x. q x.1)
+        (where_key nat_cmp (others m) es) →
         ((not b && q e.1) || list_any (λ x. not (x.0 == m) && q x.1) es)
         ≡ list_any (λ x. q x.1) (cond (not b) (e ∷ where_key nat_cmp (others m) es) (where_key nat_cmp (others m) es))
     by true rest = rest

@@ -174,7 +174,8 @@ module _ (n : ℕ) where
   -- ---- among those that no driver has
 
   module _ (ds : List Driver) where
-    run-kept : (runs : List FrameRun) → not (is_owned ds n) ≡ true → times n (unowned ds runs) ≡ count_by (is_in n) runs
+    run-kept : (runs : List FrameRun) → not (is_owned ds n) ≡ true → times n (unowned ds runs) ≡ count_by (is_in n)
+        runs
     run-kept [] e = refl
     run-kept (r ∷ runs) e =
         ap (times n) (flat_map-cons (unowned_in ds) r runs)

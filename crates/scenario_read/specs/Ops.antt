@@ -52,7 +52,8 @@ limits_at here =
 unfoldable pub tag_at : List Op → Spot → Read Op
 tag_at before here =
     only_keys (one_of (codes "op" ∷ codes "name" ∷ codes "parent" ∷ codes "alignment" ∷ codes "boundary"
-    ∷ codes "lowaddr" ∷ codes "highaddr" ∷ codes "maxsize" ∷ codes "nsegments" ∷ codes "maxsegsz" ∷ codes "flags" ∷ []))
+    ∷ codes "lowaddr" ∷ codes "highaddr" ∷ codes "maxsize" ∷ codes "nsegments" ∷ codes "maxsegsz" ∷ codes "flags" ∷
+    []))
     here >>= (λ _.
     new_name (codes "name") before here >>= (λ name.
     parent_or_none before (field (codes "parent") here) >>= (λ parent.

@@ -211,7 +211,8 @@ last_pieces t None other pages eff x y h = omega arith
 last_pieces t (Some c) [] pages eff x y h = absurd h
 last_pieces t (Some c) (d ∷ ds) pages eff x y h = longer_pieces t c d ds pages eff x.0 y.0 h
 
-front_pieces : (t : TagLimits) (cs ds : List Chunk) (pages : List Pa) → IsEffective t → AllByRecursion (IsPlaceable t) cs →
+front_pieces : (t : TagLimits) (cs ds : List Chunk) (pages : List Pa) → IsEffective t → AllByRecursion (IsPlaceable t)
+    cs →
     AllByRecursion (IsPlaceable t) ds → IsFront cs ds →
     length (placed_pieces t cs pages) ≤ length (placed_pieces t ds pages)
 front_pieces t cs ds pages eff x y f =

@@ -189,7 +189,8 @@ own_run t c h b =
     no_page (Some x) e = absurd cc
 
 -- no more pieces than bytes
-pub pieces_few : (t : TagLimits) (cs : List Chunk) (pages : List Pa) → IsEffective t → AllByRecursion (IsPlaceable t) cs →
+pub pieces_few : (t : TagLimits) (cs : List Chunk) (pages : List Pa) → IsEffective t → AllByRecursion (IsPlaceable t)
+    cs →
     length (placed_pieces t cs pages) ≤ chunk_bytes cs
 pieces_few t [] pages eff h = omega arith
 pieces_few t (c ∷ cs) pages eff h =

@@ -15,7 +15,8 @@ use Rattle.segment_build.proofs.Counting.{bounced_append, need_append, pieces_ap
 use Rattle.segment_build.proofs.Cuts.{added_all_longer, cut_all, cut_is, cut_shorter, one_segmentation}
 
 -- so many chunks are in their pages
-pub used_pages : (t : TagLimits) (pages : List Pa) (cs : List Chunk) (segs : List Segment) (bounced : List Chunk) → IsSoFar t pages cs segs bounced true → length bounced ≡ need_of cs
+pub used_pages : (t : TagLimits) (pages : List Pa) (cs : List Chunk) (segs : List Segment) (bounced : List Chunk) →
+    IsSoFar t pages cs segs bounced true → length bounced ≡ need_of cs
 used_pages t pages cs segs bounced h = ap length (h.bounced_are refl) ∙ placed_need (keep_pg_offset t.flags) cs pages
 
 -- the segments with the pieces of a chunk more
@@ -41,7 +42,8 @@ more_few t pages cs segs next bounced later c h e l f =
       segments_are =
           λ _. (
             subst (λ xs. IsSegmentation t xs (placed_pieces t (cs ++ c ∷ []) pages))
-                (sym (e ∙ segments_more t pages cs segs bounced c h)) (cut_is t (placed_pieces t (cs ++ c ∷ []) pages)),
+                (sym (e ∙ segments_more t pages cs segs bounced c h))
+                (cut_is t (placed_pieces t (cs ++ c ∷ []) pages)),
             l,
           );
       bounced_are = λ _. f

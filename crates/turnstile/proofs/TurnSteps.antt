@@ -173,12 +173,16 @@ module _ {O E F : Type 0} (history : O → List E) (fixed : O → F) (legal : F 
                   one_ticket_set s.views id w r.one_ticket
                   (λ j d other p _ e same. other (r.one_ticket j id d me.0 p at e waits (sym same)));
               one_name =
-                  one_name_back s.views (set s.views id w) (back_set s.views id me.0 w at (refl, refl, refl)) r.one_name;
+                  one_name_back s.views (set s.views id w) (back_set s.views id me.0 w at (refl, refl, refl))
+                  r.one_name;
               over = over_back s.views (set s.views id w) (back_set s.views id me.0 w at (refl, refl, refl)) r.over;
               unmarked = r.unmarked;
               sound = r.sound;
               object =
-                  inr (ap (λ (hs : List (maybe.Option O)). set hs 0 none) h.1, (id, w, set_at s.views id me.0 w at, refl));
+                  inr (
+                    ap (λ (hs : List (maybe.Option O)). set hs 0 none) h.1,
+                    (id, w, set_at s.views id me.0 w at, refl),
+                  );
             },
         (
           b,
@@ -392,7 +396,8 @@ module _ {O E F : Type 0} (history : O → List E) (fixed : O → F) (legal : F 
                   one_ticket_set s.views id w r.one_ticket
                   (λ j d other p _ e same. other (r.one_ticket j id d me.0 p at e waits (sym same)));
               one_name =
-                  one_name_back s.views (set s.views id w) (back_set s.views id me.0 w at (refl, refl, refl)) r.one_name;
+                  one_name_back s.views (set s.views id w) (back_set s.views id me.0 w at (refl, refl, refl))
+                  r.one_name;
               over = over_back s.views (set s.views id w) (back_set s.views id me.0 w at (refl, refl, refl)) r.over;
               unmarked = r.unmarked;
               sound = r.sound;

@@ -107,7 +107,8 @@ module _ (a : Account) (m : MapId) (z need : ℕ) (inside : z < length a.zones) 
     enough =
         λ y.
         (elim (eqb_tells y z) as (λ _. reserved (handed a m z need) y ≤ length (zone_at (handed a m z need) y).avail) [
-          | inl h ↦ subst (λ k. reserved (handed a m z need) k ≤ length (zone_at (handed a m z need) k).avail) (sym h.1)
+          | inl h ↦ subst (λ k. reserved (handed a m z need) k ≤ length (zone_at (handed a m z need) k).avail)
+              (sym h.1)
               (rw handed-zone (omega (arith, handed-reserved z, well.enough z, length-drop need (zone_at a z).avail)))
           | inr h ↦ omega (
             arith,
@@ -161,7 +162,8 @@ module _ (a : Account) (m : MapId) (z need : ℕ) (inside : z < length a.zones)
     enough =
         λ y.
         (elim (eqb_tells y z) as (λ _. reserved (queued a m z need) y ≤ length (zone_at (queued a m z need) y).avail) [
-          | inl h ↦ subst (λ k. reserved (queued a m z need) k ≤ length (zone_at (queued a m z need) k).avail) (sym h.1)
+          | inl h ↦ subst (λ k. reserved (queued a m z need) k ≤ length (zone_at (queued a m z need) k).avail)
+              (sym h.1)
               (omega (arith, queued-reserved, well.enough z, ap (λ (s : Zone). length s.avail) queued-zone))
           | inr h ↦ omega (
             arith,

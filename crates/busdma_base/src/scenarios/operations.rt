@@ -146,7 +146,10 @@ impl Op {
             }
             Op::MapDestroy { map } => OpAbout::with_names(OpWord::MapDestroy, None, map_at(*map)),
             Op::Load {
-                map, buffer, then, ..
+                map,
+                buffer,
+                then,
+                ..
             } => OpAbout {
                 items: then.as_slice(),
                 loads: Some(buffer),

@@ -69,5 +69,6 @@ give-requires-2-clause-apart c =
     may_return c.args.bank.now.pages c.take_lowest.new.self.pages left c.in_ok-first.first c.in_ok-second.second
     c.take_lowest.ensures.sound.rising c.in_ok-first.ensures.lowest c.in_ok-second.ensures.lowest in
     ap (λ (b : Bank). count_by (λ p. p.frame == written.frame) b.pages) c.give.ensures.bank
-    ∙ ap (λ (q : FrameBytes). count_by (λ p. p.frame == q.frame) (put_page c.in_ok-first.first left)) c.write.ensures.page
+    ∙ ap (λ (q : FrameBytes). count_by (λ p. p.frame == q.frame) (put_page c.in_ok-first.first left))
+    c.write.ensures.page
     ∙ may.second

@@ -3,13 +3,15 @@ use Rattle.dmamem.specs.Memory.{virtual_of}
 use Rattle.lane_core.specs.Judging.{foreign_at}
 use Rattle.lane_core.proofs.Foreign.{first-within, none-within}
 use Rattle.lane_core.proofs.judging.judge_inside.Goals as goal
-use Rattle.lane_core.proofs.judging.judge_inside.Goals.{else-first-end-via-then-first-end+else-first-from, else-first-end-via-else-first-end}
+use Rattle.lane_core.proofs.judging.judge_inside.Goals.{else-first-end-via-then-first-end+else-first-from}
+use Rattle.lane_core.proofs.judging.judge_inside.Goals.{else-first-end-via-else-first-end}
 
 pub returns-then-first-from : goal.returns-then-first-from
 returns-then-first-from c =
     let first = c.max-first.result in
     c.foreign.ensures
-    ∙ sym (first-within (virtual_of c.args.kept.now.first.0) c.args.kept.now.memory.len c.args.span.va.0 c.args.span.len
+    ∙ sym (first-within (virtual_of c.args.kept.now.first.0) c.args.kept.now.memory.len c.args.span.va.0
+    c.args.span.len
     c.args.offset first
     (grind (arith, c.max-first.ensures, c.begin_of-begin.ensures.is))
     (grind (arith, c.max-first.ensures, c.begin_of-begin.ensures.is))

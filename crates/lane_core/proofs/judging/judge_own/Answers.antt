@@ -21,7 +21,8 @@ returns-then-end-offset c =
           let inside : w.max-end.result < i + len = omega (arith, w.end-is, c.if-end-offset.true) in
           c.foreign.ensures ∙ ap foreign_at w.end-is
           ∙ sym (max-off b n v len i w.max-end.result (grind (arith, w.if-span-begin_of.true, c.begin_of.ensures.is))
-          (grind (arith, w.max-end.ensures)) (grind (arith, w.max-end.ensures)) (grind (arith, w.max-end.ensures)) inside)
+          (grind (arith, w.max-end.ensures)) (grind (arith, w.max-end.ensures)) (grind (arith, w.max-end.ensures))
+          inside)
       | else-span-begin_of w ↦
           let some : 0 < len = omega (arith, w.end-is, c.if-end-offset.true) in
           c.foreign.ensures ∙ ap foreign_at w.end-is
@@ -40,7 +41,8 @@ returns-else-end-offset c =
       | then-span-begin_of w ↦
           let past : i + len ≤ w.max-end.result = omega (arith, w.end-is, c.if-end-offset.false) in
           sym (none-past b n v len i w.max-end.result (grind (arith, w.if-span-begin_of.true, c.begin_of.ensures.is))
-          (grind (arith, w.max-end.ensures)) (grind (arith, w.max-end.ensures)) (grind (arith, w.max-end.ensures)) past)
+          (grind (arith, w.max-end.ensures)) (grind (arith, w.max-end.ensures)) (grind (arith, w.max-end.ensures))
+          past)
       | else-span-begin_of w ↦
           let none : len ≡ 0 = omega (arith, w.end-is, c.if-end-offset.false) in
           sym (ap (λ k. judged (off_place b n) i (enumerate_from i (run_of v k))) none)

@@ -13,5 +13,6 @@ returns-else-copies-clause-view c =
     let ops = c.args.ops.0 in
     idle-copy c.args.off c.args.len ops (chunks_of c.args.map.now.stage)
     (device_view (device_in c.args.map.now.stage) c.args.memory.now.memory)
-    (ap (λ cs. (prewrite ops || postread ops) && list_any (has_byte_of c.args.off c.args.len) cs) (sym c.chunks.ensures)
+    (ap (λ cs. (prewrite ops || postread ops) && list_any (has_byte_of c.args.off c.args.len) cs)
+    (sym c.chunks.ensures)
     ∙ sym c.copies.ensures ∙ c.if-copies.false)

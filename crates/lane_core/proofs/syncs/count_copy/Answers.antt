@@ -18,7 +18,8 @@ returns-then-place-len c =
     let inside : c.place_of-place.result < length shares = omega (arith, size, less) in
     share-counted shares c.in-Some.zone.0 c.place_of-place.result c.saturating_add.result c.index.result.now
     c.index_mut.result.now at inside c.index.ensures c.index_mut.ensures.value c.saturating_add.ensures
-    ∙ sym (ap (λ (o : Option ZoneId). counted true (option_map (λ (z : ZoneId). z.0) o) (share_of shares)) c.in-Some.is)
+    ∙ sym (ap (λ (o : Option ZoneId). counted true (option_map (λ (z : ZoneId). z.0) o) (share_of shares))
+    c.in-Some.is)
 
 pub returns-else-place-len : goal.returns-else-place-len
 returns-else-place-len c =
@@ -30,4 +31,5 @@ returns-else-place-len c =
     let past : length shares ≤ c.place_of-place.result = omega (arith, size, more) in
     ap share_of c.push_reserved.ensures.items
     ∙ share-new shares c.in-Some.zone (subst (λ q. length shares ≤ q) at past)
-    ∙ sym (ap (λ (o : Option ZoneId). counted true (option_map (λ (z : ZoneId). z.0) o) (share_of shares)) c.in-Some.is)
+    ∙ sym (ap (λ (o : Option ZoneId). counted true (option_map (λ (z : ZoneId). z.0) o) (share_of shares))
+    c.in-Some.is)

@@ -11,7 +11,8 @@ abbrev pub invariant-loop-extent : goal.invariant-loop-extent
 invariant-loop-extent l =
     record {
       judged_so_far : (loans : Loans) → IsCounted l.lent loans →
-          judged (cpu_refusal l.access (is_marked l.bytes.bytes) loans) l.at (addresses (drop l.extent-index l.extents))
+          judged (cpu_refusal l.access (is_marked l.bytes.bytes) loans) l.at
+          (addresses (drop l.extent-index l.extents))
           ≡ judged (cpu_refusal l.access (is_marked l.bytes.bytes) loans) 0 (addresses l.extents);
       in_place : l.at + byte_count (drop l.extent-index l.extents) ≡ byte_count l.extents;
     }

@@ -21,5 +21,6 @@ returns c lender of =
     let a = c.args.position.pa in
     ap (λ n. nat_lt n c.count-count.result)
     (c.lent_places.ensures ∙ ap (λ (l : Loan). places way a l.positions) of.1)
-    ∙ ap (nat_lt (places way a (loan_of lender.loans lender.map).positions)) (c.count-count.ensures ∙ of.0 c.args.way a)
+    ∙ ap (nat_lt (places way a (loan_of lender.loans lender.map).positions))
+    (c.count-count.ensures ∙ of.0 c.args.way a)
     ∙ sym (elsewhere_counted way a lender.loans lender.map)

@@ -90,7 +90,8 @@ add_next-requires-clause-so_far g c =
         ap (λ (o : Option Chunk). need_of (closed t m uncut ps ++ option_to_list o)) one,
         front_need t m ps p eff stream,
         (holds_so_far g.I.Iterator.next_gives (λ xs. need_of (stream_chunks t m xs) ≤ length c.args.pages.now)
-            c.into_iter-part-iterator.result c.loop-part.yielded c.loop-part.part-iterator c.in-Some.part c.next.new.self
+            c.into_iter-part-iterator.result c.loop-part.yielded c.loop-part.part-iterator c.in-Some.part
+            c.next.new.self
             c.into_iter-part-iterator.ensures.into_iter_gives c.requires.need
             c.loop-part.yielded_by c.in-Some.ensures.steps),
       ),

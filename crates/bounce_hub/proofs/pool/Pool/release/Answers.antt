@@ -23,7 +23,8 @@ index_mut-hub_zone-requires c =
     )
 
 here : (c : goal.After-take_back-arg-1) → Matches c.index_mut-hub_zone.result.now c.requires.account c.args.zone.0
-here c = zone-matches c.args.self.now c.requires.account c.args.zone.0 c.index_mut-hub_zone.result.now c.requires.agrees
+here c = zone-matches c.args.self.now c.requires.account c.args.zone.0 c.index_mut-hub_zone.result.now
+    c.requires.agrees
     (held-inside c.requires.account c.args.map c.args.zone.0 (page_address c.args.page) c.requires.may.1
     c.requires.fits.well) c.index_mut-hub_zone.ensures.value
 

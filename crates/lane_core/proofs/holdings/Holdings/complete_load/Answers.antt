@@ -74,7 +74,8 @@ returns-then-not-few-clause-done c o x found entries items =
     let chunks = bio_chunks l o (bio_of c.args.bytes) in
     let many = c.build_load-few.ensures.many c.if-not-few.true o found in
     let over : t.nsegments < length (segmentation t (placed_pieces t chunks (as_pages pas))) =
-    subst (λ (ps : List Pa). t.nsegments < length (segmentation t (placed_pieces t chunks ps))) (pages-at c.as_slice.ensures)
+    subst (λ (ps : List Pa). t.nsegments < length (segmentation t (placed_pieces t chunks ps)))
+    (pages-at c.as_slice.ensures)
     many.many in
     let coherent = is_coherent (get l.mems m) in
     let bytes = entries_addresses (load_entries l (bio_of c.args.bytes)) in
@@ -89,7 +90,8 @@ returns-then-not-few-clause-done c o x found entries items =
     ∙ ap (λ b. cond b (Some (record o { tried = true; stage = stage })) (get l.maps m)) (eq-eqb m m refl) in
     let idle = idle-there (get h.maps.map m) c.requires.idle in
     let none =
-    none-loaned h.maps.map h.loans.loans h.agenda.returns h.agenda.promised (maps-of h) m idle.0 idle.0 idle.1 idle.2 in
+    none-loaned h.maps.map h.loans.loans h.agenda.returns h.agenda.promised (maps-of h) m idle.0 idle.0 idle.1
+    idle.2 in
     ap (λ k. record { lane = k; answer = Refused EFBIG })
     (c.end_load.ensures.done (record o { tried = true; stage = stage }) there
     ∙ ap (λ k. unpaged m (record o { tried = true; stage = stage }) pas (unlent m k)) stored
@@ -109,8 +111,10 @@ returns-clause-done c o x found entries items =
     let segments : c.build_load-few.new.room.list.items ≡ built =
     filled.segments ∙ ap (λ ps. segmentation t (placed_pieces t chunks ps)) (pages-at c.as_slice.ensures) in
     let bounced : c.into_list.result ≡ bounced_of (tag_placed t chunks (as_pages pas)) =
-    c.into_list.ensures ∙ filled.bounced ∙ ap (λ ps. bounced_of (tag_placed t chunks ps)) (pages-at c.as_slice.ensures) in
-    let few : length built ≤ t.nsegments = subst (λ (ss : List Segment). length ss ≤ t.nsegments) segments filled.few in
+    c.into_list.ensures ∙ filled.bounced ∙ ap (λ ps. bounced_of (tag_placed t chunks ps))
+    (pages-at c.as_slice.ensures) in
+    let few : length built ≤ t.nsegments = subst (λ (ss : List Segment). length ss ≤ t.nsegments) segments
+    filled.few in
     let coherent = is_coherent (get l.mems m) in
     let loan : loan_of h.loans.prepared m ≡ new_loan coherent (entries_addresses x.entries) =
     ap (λ p. unwrap_or p no_loan) c.requires.prepared

@@ -30,7 +30,8 @@ pub returns-in-Some-past_end-clause-done : goal.returns-in-Some-past_end-clause-
 returns-in-Some-past_end-clause-done c =
     let h = c.args.self.now in
     let x = load-there (get h.maps.map c.args.map) c.in_default.ensures.loaded in
-    dev_write-past (ideal_of h) c.args.map (map_of x.0) (image-some map_of h.maps.map c.args.map x.0 x.1) x.2 c.args.off
+    dev_write-past (ideal_of h) c.args.map (map_of x.0) (image-some map_of h.maps.map c.args.map x.0 x.1) x.2
+    c.args.off
     c.args.bytes.now c.in-Some-past_end.refusal c.in-Some-past_end.ensures.refused
 
 pub write_load-requires : goal.write_load-requires

@@ -191,7 +191,8 @@ returns-in-Some-clause-others c =
     let o : KeptMap = c.in-Some.kept in
     let after : KeptMap = record o { map = c.unload-pages.new.self } in
     let maps : c.put.new.self.map ≡ insert h.maps.map k after =
-    ap (λ t. t.map) c.put.ensures ∙ ap (λ t. insert t.map k after) c.in-Some.ensures.taken ∙ reput h.maps.map k after in
+    ap (λ t. t.map) c.put.ensures ∙ ap (λ t. insert t.map k after) c.in-Some.ensures.taken ∙ reput h.maps.map k
+    after in
     record {
       own = refl;
       pages = λ m off. ap (λ ms. (devices_of ms m).pages) maps

@@ -5,7 +5,8 @@ use Rattle.dma_map.specs.declared.callback.Transfers.{Transfers}
 use Rattle.dma_map.specs.declared.room.LoadRoom.{LoadRoom}
 use Rattle.lane_core.specs.Awaiting.{kept_load}
 use Rattle.lane_core.proofs.Called.{waits-kept}
-use Rattle.lane_core.proofs.EndedWaits.{ends-bytes, ends-done, ends-few, ends-idle, ends-items, ends-others, ends-prepared}
+use Rattle.lane_core.proofs.EndedWaits.{ends-bytes, ends-done, ends-few, ends-idle, ends-items, ends-others}
+use Rattle.lane_core.proofs.EndedWaits.{ends-prepared}
 use Rattle.lane_core.proofs.EndedWaits.{ends-loadable, ends-promised, ends-reached, ends-room, ends-stands}
 use Rattle.lane_core.proofs.holdings.Holdings.end_wait.Goals as goal
 
@@ -51,7 +52,8 @@ complete_load-requires-clause-room c =
     let load : ℕ × Transfers × LoadRoom = c.in-Some.load in
     let found : kept_load (get c.args.self.now.maps.map c.args.map) ≡ Some load = sym c.in-Some.ensures.load in
     ends-room c.args.self.now c.take_load.new.self c.args.map load.0 load.1 load.2 found c.take_load.ensures.maps
-    c.take_load.ensures.rest c.requires.awaiting c.bytes_at-bytes.result c.bytes_at-bytes.ensures (length c.args.pages.items)
+    c.take_load.ensures.rest c.requires.awaiting c.bytes_at-bytes.result c.bytes_at-bytes.ensures
+    (length c.args.pages.items)
     c.requires.need
 
 pub complete_load-requires-clause-prepared : goal.complete_load-requires-clause-prepared
@@ -80,7 +82,8 @@ returns-clause-done c =
     let load : ℕ × Transfers × LoadRoom = c.in-Some.load in
     let found : kept_load (get c.args.self.now.maps.map c.args.map) ≡ Some load = sym c.in-Some.ensures.load in
     ends-done c.args.self.now c.take_load.new.self c.args.map load.0 load.1 load.2 found c.take_load.ensures.maps
-    c.take_load.ensures.rest c.requires.awaiting c.bytes_at-bytes.result c.bytes_at-bytes.ensures c.complete_load.new.self c.complete_load.result
+    c.take_load.ensures.rest c.requires.awaiting c.bytes_at-bytes.result c.bytes_at-bytes.ensures
+    c.complete_load.new.self c.complete_load.result
     (page_addresses c.args.pages.items) c.complete_load.ensures.done
 
 pub returns-clause-bytes : goal.returns-clause-bytes

@@ -17,18 +17,24 @@ loop-kept-init c =
     let h = c.args.self.now in
     let vas = run_of c.args.span.va.0 c.args.span.len in
     let same : c.into_iter-kept-iterator.result ≡ entries h.memories.map = cc in
-    ap (λ (es : List (ℕ × KeptMemory)). judged (λ v. foreign_refusal (list_any (λ e. is_in_memory v (memory_of e.1)) es)) c.args.offset vas) same
+    ap (λ (es : List (ℕ × KeptMemory)). judged (λ v. foreign_refusal
+    (list_any (λ e. is_in_memory v (memory_of e.1)) es)) c.args.offset vas) same
     ∙ memory-bytes h c.args.offset vas
 
 pub loop-kept-preserved : goal.loop-kept-preserved
 loop-kept-preserved c =
     let vas = run_of c.args.span.va.0 c.args.span.len in
-    let all : c.loop-kept.kept-iterator ≡ (c.in-Some.field-0-0, c.in-Some.kept.now) ∷ c.next.new.self = c.in-Some.ensures.steps in
-    let rest = judged (λ v. foreign_refusal (list_any (λ e. is_in_memory v (memory_of e.1)) c.next.new.self)) c.args.offset vas in
+    let all : c.loop-kept.kept-iterator ≡ (c.in-Some.field-0-0, c.in-Some.kept.now) ∷ c.next.new.self =
+    c.in-Some.ensures.steps in
+    let rest = judged (λ v. foreign_refusal (list_any (λ e. is_in_memory v (memory_of e.1)) c.next.new.self))
+    c.args.offset vas in
     ap (λ j. earlier j rest) (c.earlier-first.ensures ∙ ap (earlier c.loop-kept.first) c.judge_inside.ensures)
     ∙ earlier-three c.loop-kept.first _ rest
-    ∙ ap (earlier c.loop-kept.first) (sym (any-within (λ (e : ℕ × KeptMemory) v. is_in_memory v (memory_of e.1)) (c.in-Some.field-0-0, c.in-Some.kept.now) c.next.new.self c.args.offset vas))
-    ∙ ap (λ (es : List (ℕ × KeptMemory)). earlier c.loop-kept.first (judged (λ v. foreign_refusal (list_any (λ e. is_in_memory v (memory_of e.1)) es)) c.args.offset vas)) (sym all)
+    ∙ ap (earlier c.loop-kept.first) (sym (any-within (λ (e : ℕ × KeptMemory) v. is_in_memory v (memory_of e.1))
+    (c.in-Some.field-0-0, c.in-Some.kept.now) c.next.new.self c.args.offset vas))
+    ∙ ap (λ (es : List (ℕ × KeptMemory)). earlier c.loop-kept.first
+    (judged (λ v. foreign_refusal (list_any (λ e. is_in_memory v (memory_of e.1)) es)) c.args.offset vas))
+    (sym all)
     ∙ c.loop-kept.invariant
 
 pub returns : goal.returns
@@ -36,5 +42,6 @@ returns c =
     let vas = run_of c.args.span.va.0 c.args.span.len in
     let none : c.loop-kept.kept-iterator ≡ [] = c.in-None.ensures.steps.0 in
     sym (ap (earlier c.loop-kept.first) (nothing-foreign c.args.offset vas) ∙ fine-last c.loop-kept.first)
-    ∙ sym (ap (λ (es : List (ℕ × KeptMemory)). earlier c.loop-kept.first (judged (λ v. foreign_refusal (list_any (λ e. is_in_memory v (memory_of e.1)) es)) c.args.offset vas)) none)
+    ∙ sym (ap (λ (es : List (ℕ × KeptMemory)). earlier c.loop-kept.first
+    (judged (λ v. foreign_refusal (list_any (λ e. is_in_memory v (memory_of e.1)) es)) c.args.offset vas)) none)
     ∙ c.loop-kept.invariant

@@ -10,6 +10,7 @@ use Rattle.lane_core.proofs.holdings.Holdings.judge_shared.Given as goal
 
 abbrev pub invariant-loop-kept : goal.invariant-loop-kept
 invariant-loop-kept l =
-    earlier l.first (judged (λ v. foreign_refusal (list_any (λ e. is_in_memory v (memory_of e.1)) l.kept-iterator)) l.offset
+    earlier l.first (judged (λ v. foreign_refusal (list_any (λ e. is_in_memory v (memory_of e.1)) l.kept-iterator))
+    l.offset
     (run_of l.span.va.0 l.span.len))
     ≡ judged (λ v. foreign_refusal (is_memory_byte (ideal_of l.self) v)) l.offset (run_of l.span.va.0 l.span.len)

@@ -36,14 +36,19 @@ loop-span-preserved c =
     let spans = c.args.spans.now in
     let s = slice_index_or spans loop.span-index no_span in
     let rest = drop (loop.span-index + 1) spans in
-    let fine : c.judge_span-foreign.result ≡ Fine = only-fine c.judge_span-foreign.result (λ r e. c.in_default.not-Refused r e) in
+    let fine : c.judge_span-foreign.result ≡ Fine = only-fine c.judge_span-foreign.result
+    (λ r e. c.in_default.not-Refused r e) in
     let len = length-run_of s.va.0 s.len in
     record {
-      total = omega (arith, loop.invariant.total,
-          bytes_here (physical m) [] loop.offset spans loop.span-index no_span c.loop-span-test.true);
+      total = omega (
+        arith,
+        loop.invariant.total,
+        bytes_here (physical m) [] loop.offset spans loop.span-index no_span c.loop-span-test.true,
+      );
       judged = ap (λ n. foreign_bytes l c.args.map (loop.offset + n) (span_addresses rest)) (sym len)
           ∙ sym (then-judged _ loop.offset (run_of s.va.0 s.len) (span_addresses rest)
           (sym c.judge_span-foreign.ensures ∙ fine))
-          ∙ sym (ap (foreign_bytes l c.args.map loop.offset) (rest-of-spans spans loop.span-index c.loop-span-test.true))
+          ∙ sym (ap (foreign_bytes l c.args.map loop.offset)
+          (rest-of-spans spans loop.span-index c.loop-span-test.true))
           ∙ loop.invariant.judged;
     }

@@ -14,7 +14,8 @@ use Rattle.lane_core.specs.Ideal.{given, ideal_of}
 use Rattle.lane_core.specs.Kept.{map_of, memory_of}
 use Rattle.lane_core.specs.Loading.{bio_bytes, bio_chunks, bio_of}
 use Rattle.lane_core.proofs.AwaitingLoads.{awaiting-tried}
-use Rattle.lane_core.proofs.Asked.{few-wanted, load-absent, load-bounced, load-busy, load-direct, load-long, load-refused, x}
+use Rattle.lane_core.proofs.Asked.{few-wanted, load-absent, load-bounced, load-busy, load-direct, load-long}
+use Rattle.lane_core.proofs.Asked.{load-refused, x}
 use Rattle.lane_core.proofs.Chunked.{all-reached}
 use Rattle.lane_core.proofs.Doors.{allowed-asks, asked, done-asks, done-gives, unasked}
 use Rattle.lane_core.proofs.Following.{stays-all}

@@ -1,4 +1,5 @@
-use Rattle.std.proofs.Common.{◌≡◌, ℕ, ◌+◌, ◌-◌, ◌≤◌, cond, List, length, Some, is_some, refl, sym, ap, ◌∙◌, subst, arith}
+use Rattle.std.proofs.Common.{◌≡◌, ℕ, ◌+◌, ◌-◌, ◌≤◌, cond, List, length, Some, is_some, refl, sym, ap, ◌∙◌, subst}
+use Rattle.std.proofs.Common.{arith}
 use Rattle.std.proofs.lemmas.Bool.{eq-eqb}
 use Rattle.std.specs.FinMap.{get, remove}
 use Rattle.std.specs.List.{each_same}
@@ -78,7 +79,8 @@ take_grabbed-requires-clause-room g c =
     let r = c.in_ok-room.ensures in
     let room : (o : LaneMap) → get l.maps k ≡ Some o →
     HasRoomForAny (limits_of l o) (bio_chunks l o b) need c.in_ok-room.room =
-    λ o found. room-for-any (limits_of l o) (bio_chunks l o b) (bio_bytes b) need c.args.wanted.segments c.in_ok-room.room
+    λ o found. room-for-any (limits_of l o) (bio_chunks l o b) (bio_bytes b) need c.args.wanted.segments
+    c.in_ok-room.room
     (c.requires.wanted o found) r.list r.shown r.bounced r.list_room r.shown_room r.bounced_room r.addresses
     r.addresses_room in
     subst (λ (x : LaneState). (o : LaneMap) → get x.maps k ≡ Some o →
@@ -142,7 +144,8 @@ returns-clause-done g c o x found entries items =
       reply = reply;
       holds =
           subst (λ (m : MapId). Holds d m.lane.0 (Grab m (record { 0 = zone_of o }) need c.args.nowait) reply e) id
-          (subst (λ (z : ZoneId). Holds d c.map_id-id.result.lane.0 (Grab c.map_id-id.result z need c.args.nowait) reply e)
+          (subst (λ (z : ZoneId). Holds d c.map_id-id.result.lane.0 (Grab c.map_id-id.result z need c.args.nowait)
+          reply e)
           zone c.in-Ok.ensures.held);
       is = c.take_grabbed.ensures.done o x (ap (λ (y : LaneState). get y.maps k) same ∙ found)
           (entries ∙ sym (ap (λ (y : LaneState). load_entries y b) same)) (items ∙ sym cloned)

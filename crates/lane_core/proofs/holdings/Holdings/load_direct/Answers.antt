@@ -45,7 +45,8 @@ complete_load-requires c =
       stands = subst Stands (sym e) c.requires.stands;
       idle = ap (λ t. is_idle_map (get t.map k)) done.maps ∙ c.requires.idle;
       awaiting = awaiting-ready h mid e (ap (λ t. t.map) done.maps) k
-          (prepared-more h.loans.prepared mid.loans.prepared k loan done.prepared) (awaiting-but h k c.requires.awaiting);
+          (prepared-more h.loans.prepared mid.loans.prepared k loan done.prepared)
+          (awaiting-but h k c.requires.awaiting);
       reached = ap (λ (x : LaneState). bio_reached x b) e ∙ c.requires.reached;
       loadable = subst (λ (ps : List PageRun). IsLoadable ps b) (sym (ap (λ (x : LaneState). x.pages) e))
           c.requires.loadable;

@@ -35,7 +35,8 @@ returns-then-limits-len-clause-long c other found =
     let long : c.limits-limits.result.now.maxsize < bio_bytes (bio_of c.args.bytes) =
     subst (λ n. c.limits-limits.result.now.maxsize < n) c.len.ensures c.if-limits-len.true in
     subst (λ (x : LaneMap). (limits_of l x).maxsize < bio_bytes (bio_of c.args.bytes)) same
-    (subst (λ (u : TagLimits). u.maxsize < bio_bytes (bio_of c.args.bytes)) (c.limits-limits.ensures.limits ∙ sym limits)
+    (subst (λ (u : TagLimits). u.maxsize < bio_bytes (bio_of c.args.bytes))
+    (c.limits-limits.ensures.limits ∙ sym limits)
     long)
 
 pub returns-in_default-clause-long : goal.returns-in_default-clause-long
@@ -72,5 +73,6 @@ returns-clause-wanted c other found =
     } in
     subst (λ (x : LaneMap). IsWanted (limits_of l x) (bio_chunks l x b) (bio_bytes b) c.in-Fits.need
     c.min-segments.result) same
-    (subst (λ (u : TagLimits). IsWanted u (bio_chunks l (map_of o) b) (bio_bytes b) c.in-Fits.need c.min-segments.result)
+    (subst (λ (u : TagLimits). IsWanted u (bio_chunks l (map_of o) b) (bio_bytes b) c.in-Fits.need
+    c.min-segments.result)
     (sym limits) base)

@@ -36,7 +36,8 @@ invariant_of-self c =
     let v : KeptMap = record o { map = record o.map { tried = true } } in
     let now = idle-map v (sym (ap is_idle_map there) ∙ c.requires) in
     let maps : c.put.new.self.map ≡ insert h.maps.map k v =
-    ap (λ t. t.map) c.put.ensures ∙ ap (λ t. insert t.map k (record o { map = c.note_tried.new.self })) c.in-Some.ensures.taken
+    ap (λ t. t.map) c.put.ensures ∙ ap (λ t. insert t.map k (record o { map = c.note_tried.new.self }))
+    c.in-Some.ensures.taken
     ∙ reput h.maps.map k (record o { map = c.note_tried.new.self })
     ∙ ap (λ x. insert h.maps.map k (record o { map = x })) c.note_tried.ensures in
     let fits : pages_due h.maps.map + due_of v ≤ h.agenda.promised = omega (arith, now.undue, h.promised) in
@@ -72,12 +73,14 @@ returns-in-Some-clause-done c other found =
     let v : KeptMap = record o { map = record o.map { tried = true } } in
     let now = idle-map v on in
     let maps : c.put.new.self.map ≡ insert h.maps.map k v =
-    ap (λ t. t.map) c.put.ensures ∙ ap (λ t. insert t.map k (record o { map = c.note_tried.new.self })) c.in-Some.ensures.taken
+    ap (λ t. t.map) c.put.ensures ∙ ap (λ t. insert t.map k (record o { map = c.note_tried.new.self }))
+    c.in-Some.ensures.taken
     ∙ reput h.maps.map k (record o { map = c.note_tried.new.self })
     ∙ ap (λ x. insert h.maps.map k (record o { map = x })) c.note_tried.ensures in
     let is : get l.maps k ≡ Some (map_of o) = image-some map_of h.maps.map k o there in
     let same : map_of o ≡ other = cc in
-    let bare : device_of (Some v) ≡ device_of (get h.maps.map k) = now.unheld ∙ sym (ap device_of there ∙ idle.unheld) in
+    let bare : device_of (Some v) ≡ device_of (get h.maps.map k) = now.unheld ∙ sym
+    (ap device_of there ∙ idle.unheld) in
     (λ i. record l {
       maps = (ap (map_values map_of) maps ∙ map_values-insert map_of h.maps.map k v
           ∙ ap (λ s. insert l.maps k (record (map_of o) { tried = true; stage = s })) (idle-stands (map_of o).stage on)
@@ -98,10 +101,12 @@ returns-in-Some-clause-bytes c =
     let v : KeptMap = record o { map = record o.map { tried = true } } in
     let now = idle-map v on in
     let maps : c.put.new.self.map ≡ insert h.maps.map k v =
-    ap (λ t. t.map) c.put.ensures ∙ ap (λ t. insert t.map k (record o { map = c.note_tried.new.self })) c.in-Some.ensures.taken
+    ap (λ t. t.map) c.put.ensures ∙ ap (λ t. insert t.map k (record o { map = c.note_tried.new.self }))
+    c.in-Some.ensures.taken
     ∙ reput h.maps.map k (record o { map = c.note_tried.new.self })
     ∙ ap (λ x. insert h.maps.map k (record o { map = x })) c.note_tried.ensures in
-    let bare : device_of (Some v) ≡ device_of (get h.maps.map k) = now.unheld ∙ sym (ap device_of there ∙ idle.unheld) in
+    let bare : device_of (Some v) ≡ device_of (get h.maps.map k) = now.unheld ∙ sym
+    (ap device_of there ∙ idle.unheld) in
     record {
       own = refl;
       pages = λ m. ap (λ ms. (devices_of ms m).pages) maps ∙ ap (λ d. d.pages) (devices-put h.maps.map k v bare m);
@@ -115,7 +120,8 @@ returns-in-Some-clause-waiting c =
     let there : get h.maps.map k ≡ Some o = sym c.take.ensures.value ∙ c.in-Some.is in
     let v : KeptMap = record o { map = record o.map { tried = true } } in
     let maps : c.put.new.self.map ≡ insert h.maps.map k v =
-    ap (λ t. t.map) c.put.ensures ∙ ap (λ t. insert t.map k (record o { map = c.note_tried.new.self })) c.in-Some.ensures.taken
+    ap (λ t. t.map) c.put.ensures ∙ ap (λ t. insert t.map k (record o { map = c.note_tried.new.self }))
+    c.in-Some.ensures.taken
     ∙ reput h.maps.map k (record o { map = c.note_tried.new.self })
     ∙ ap (λ x. insert h.maps.map k (record o { map = x })) c.note_tried.ensures in
     record {

@@ -98,19 +98,22 @@ returns-in-Load-clause-wire g c =
 pub destroy_map-requires : goal.destroy_map-requires
 destroy_map-requires g c =
     let h = c.args.self.now in
-    subst (λ (o : Op). IsAllowedBy (g.D.HubDoor.seen c.args.door.now) h.id.0 (operation o (ideal_of h))) c.in-MapDestroy.is
+    subst (λ (o : Op). IsAllowedBy (g.D.HubDoor.seen c.args.door.now) h.id.0 (operation o (ideal_of h)))
+    c.in-MapDestroy.is
     c.requires.allowed
 
 pub returns-in-MapDestroy-clause-done : goal.returns-in-MapDestroy-clause-done
 returns-in-MapDestroy-clause-done g c =
     let h = c.args.self.now in
     subst (λ (o : Op). IsDone (g.D.HubDoor.seen c.args.door.now) h.id.0 (operation o (ideal_of h))
-    (given c.destroy_map.new.self c.destroy_map.result.answer) (g.D.HubDoor.seen c.destroy_map.new.door)) (sym c.in-MapDestroy.is)
+    (given c.destroy_map.new.self c.destroy_map.result.answer) (g.D.HubDoor.seen c.destroy_map.new.door))
+    (sym c.in-MapDestroy.is)
     c.destroy_map.ensures.done
 
 pub returns-in-MapDestroy-clause-held : goal.returns-in-MapDestroy-clause-held
 returns-in-MapDestroy-clause-held g c =
-    subst (λ (o : Op). c.destroy_map.result.held ≡ asks (operation o (ideal_of c.args.self.now))) (sym c.in-MapDestroy.is)
+    subst (λ (o : Op). c.destroy_map.result.held ≡ asks (operation o (ideal_of c.args.self.now)))
+    (sym c.in-MapDestroy.is)
     c.destroy_map.ensures.held
 
 pub returns-in-MapDestroy-clause-wire : goal.returns-in-MapDestroy-clause-wire
@@ -120,12 +123,14 @@ returns-in-MapDestroy-clause-wire g c =
 
 pub returns-in-TagDestroy-clause-done : goal.returns-in-TagDestroy-clause-done
 returns-in-TagDestroy-clause-done g c =
-    quiet-done c.args.self.now c.destroy_tag.new.self c.args.op.now _ c.in-TagDestroy.is c.destroy_tag.result c.unheld.result
+    quiet-done c.args.self.now c.destroy_tag.new.self c.args.op.now _ c.in-TagDestroy.is c.destroy_tag.result
+    c.unheld.result
     c.unheld.ensures c.destroy_tag.ensures.done (g.D.HubDoor.seen c.args.door.now)
 
 pub returns-in-TagDestroy-clause-held : goal.returns-in-TagDestroy-clause-held
 returns-in-TagDestroy-clause-held g c =
-    quiet-held c.args.self.now c.destroy_tag.new.self c.args.op.now _ c.in-TagDestroy.is c.destroy_tag.result c.unheld.result
+    quiet-held c.args.self.now c.destroy_tag.new.self c.args.op.now _ c.in-TagDestroy.is c.destroy_tag.result
+    c.unheld.result
     c.unheld.ensures c.destroy_tag.ensures.done
 
 pub returns-in-TagDestroy-clause-wire : goal.returns-in-TagDestroy-clause-wire
@@ -135,12 +140,14 @@ returns-in-TagDestroy-clause-wire g c =
 
 pub returns-in-Unload-clause-done : goal.returns-in-Unload-clause-done
 returns-in-Unload-clause-done g c =
-    quiet-done c.args.self.now c.unload.new.self c.args.op.now _ c.in-Unload.is c.unload.result c.unheld-in-Unload.result
+    quiet-done c.args.self.now c.unload.new.self c.args.op.now _ c.in-Unload.is c.unload.result
+    c.unheld-in-Unload.result
     c.unheld-in-Unload.ensures c.unload.ensures.done (g.D.HubDoor.seen c.args.door.now)
 
 pub returns-in-Unload-clause-held : goal.returns-in-Unload-clause-held
 returns-in-Unload-clause-held g c =
-    quiet-held c.args.self.now c.unload.new.self c.args.op.now _ c.in-Unload.is c.unload.result c.unheld-in-Unload.result
+    quiet-held c.args.self.now c.unload.new.self c.args.op.now _ c.in-Unload.is c.unload.result
+    c.unheld-in-Unload.result
     c.unheld-in-Unload.ensures c.unload.ensures.done
 
 pub returns-in-Unload-clause-wire : goal.returns-in-Unload-clause-wire
@@ -150,12 +157,14 @@ returns-in-Unload-clause-wire g c =
 
 pub returns-in_ok-sync-in-Sync-clause-done : goal.returns-in_ok-sync-in-Sync-clause-done
 returns-in_ok-sync-in-Sync-clause-done g c =
-    quiet-done c.args.self.now c.sync.new.self c.args.op.now _ c.in-Sync.is c.in_ok-sync-in-Sync.field-0 c.unheld-in-Sync.result
+    quiet-done c.args.self.now c.sync.new.self c.args.op.now _ c.in-Sync.is c.in_ok-sync-in-Sync.field-0
+    c.unheld-in-Sync.result
     c.unheld-in-Sync.ensures c.in_ok-sync-in-Sync.ensures.done (g.D.HubDoor.seen c.args.door.now)
 
 pub returns-in_ok-sync-in-Sync-clause-held : goal.returns-in_ok-sync-in-Sync-clause-held
 returns-in_ok-sync-in-Sync-clause-held g c =
-    quiet-held c.args.self.now c.sync.new.self c.args.op.now _ c.in-Sync.is c.in_ok-sync-in-Sync.field-0 c.unheld-in-Sync.result
+    quiet-held c.args.self.now c.sync.new.self c.args.op.now _ c.in-Sync.is c.in_ok-sync-in-Sync.field-0
+    c.unheld-in-Sync.result
     c.unheld-in-Sync.ensures c.in_ok-sync-in-Sync.ensures.done
 
 pub returns-in_ok-sync-in-Sync-clause-wire : goal.returns-in_ok-sync-in-Sync-clause-wire
@@ -164,26 +173,31 @@ returns-in_ok-sync-in-Sync-clause-wire g c =
 
 pub returns-in_ok-sync_range-in-SyncRange-clause-done : goal.returns-in_ok-sync_range-in-SyncRange-clause-done
 returns-in_ok-sync_range-in-SyncRange-clause-done g c =
-    quiet-done c.args.self.now c.sync_range.new.self c.args.op.now _ c.in-SyncRange.is c.in_ok-sync_range-in-SyncRange.field-0 c.unheld-in-SyncRange.result
+    quiet-done c.args.self.now c.sync_range.new.self c.args.op.now _ c.in-SyncRange.is
+    c.in_ok-sync_range-in-SyncRange.field-0 c.unheld-in-SyncRange.result
     c.unheld-in-SyncRange.ensures c.in_ok-sync_range-in-SyncRange.ensures.done (g.D.HubDoor.seen c.args.door.now)
 
 pub returns-in_ok-sync_range-in-SyncRange-clause-held : goal.returns-in_ok-sync_range-in-SyncRange-clause-held
 returns-in_ok-sync_range-in-SyncRange-clause-held g c =
-    quiet-held c.args.self.now c.sync_range.new.self c.args.op.now _ c.in-SyncRange.is c.in_ok-sync_range-in-SyncRange.field-0 c.unheld-in-SyncRange.result
+    quiet-held c.args.self.now c.sync_range.new.self c.args.op.now _ c.in-SyncRange.is
+    c.in_ok-sync_range-in-SyncRange.field-0 c.unheld-in-SyncRange.result
     c.unheld-in-SyncRange.ensures c.in_ok-sync_range-in-SyncRange.ensures.done
 
 pub returns-in_ok-sync_range-in-SyncRange-clause-wire : goal.returns-in_ok-sync_range-in-SyncRange-clause-wire
 returns-in_ok-sync_range-in-SyncRange-clause-wire g c =
-    done-wire c.args.self.now c.sync_range.new.self c.args.op.now _ c.in-SyncRange.is c.in_ok-sync_range-in-SyncRange.ensures.wire
+    done-wire c.args.self.now c.sync_range.new.self c.args.op.now _ c.in-SyncRange.is
+    c.in_ok-sync_range-in-SyncRange.ensures.wire
 
 pub returns-in_ok-cpu_read-in-CpuRead-clause-done : goal.returns-in_ok-cpu_read-in-CpuRead-clause-done
 returns-in_ok-cpu_read-in-CpuRead-clause-done g c =
-    quiet-done c.args.self.now c.args.self.now c.args.op.now _ c.in-CpuRead.is c.in_ok-cpu_read-in-CpuRead.field-0 c.unheld-in-CpuRead.result
+    quiet-done c.args.self.now c.args.self.now c.args.op.now _ c.in-CpuRead.is c.in_ok-cpu_read-in-CpuRead.field-0
+    c.unheld-in-CpuRead.result
     c.unheld-in-CpuRead.ensures c.in_ok-cpu_read-in-CpuRead.ensures (g.D.HubDoor.seen c.args.door.now)
 
 pub returns-in_ok-cpu_read-in-CpuRead-clause-held : goal.returns-in_ok-cpu_read-in-CpuRead-clause-held
 returns-in_ok-cpu_read-in-CpuRead-clause-held g c =
-    quiet-held c.args.self.now c.args.self.now c.args.op.now _ c.in-CpuRead.is c.in_ok-cpu_read-in-CpuRead.field-0 c.unheld-in-CpuRead.result
+    quiet-held c.args.self.now c.args.self.now c.args.op.now _ c.in-CpuRead.is c.in_ok-cpu_read-in-CpuRead.field-0
+    c.unheld-in-CpuRead.result
     c.unheld-in-CpuRead.ensures c.in_ok-cpu_read-in-CpuRead.ensures
 
 pub returns-in_ok-cpu_read-in-CpuRead-clause-wire : goal.returns-in_ok-cpu_read-in-CpuRead-clause-wire
@@ -192,30 +206,37 @@ returns-in_ok-cpu_read-in-CpuRead-clause-wire g c =
 
 pub returns-in_ok-cpu_write-in-CpuWrite-clause-done : goal.returns-in_ok-cpu_write-in-CpuWrite-clause-done
 returns-in_ok-cpu_write-in-CpuWrite-clause-done g c =
-    quiet-done c.args.self.now c.cpu_write.new.self c.args.op.now _ c.in-CpuWrite.is c.in_ok-cpu_write-in-CpuWrite.field-0 c.unheld-in-CpuWrite.result
+    quiet-done c.args.self.now c.cpu_write.new.self c.args.op.now _ c.in-CpuWrite.is
+    c.in_ok-cpu_write-in-CpuWrite.field-0 c.unheld-in-CpuWrite.result
     c.unheld-in-CpuWrite.ensures (c.in_ok-cpu_write-in-CpuWrite.ensures.done
-    ∙ ap (λ vs. cpu_write c.in-CpuWrite.place vs (ideal_of c.args.self.now)) (c.deref.ensures.value ∙ c.in_ok-bytes-in-CpuWrite.ensures)) (g.D.HubDoor.seen c.args.door.now)
+    ∙ ap (λ vs. cpu_write c.in-CpuWrite.place vs (ideal_of c.args.self.now))
+    (c.deref.ensures.value ∙ c.in_ok-bytes-in-CpuWrite.ensures)) (g.D.HubDoor.seen c.args.door.now)
 
 pub returns-in_ok-cpu_write-in-CpuWrite-clause-held : goal.returns-in_ok-cpu_write-in-CpuWrite-clause-held
 returns-in_ok-cpu_write-in-CpuWrite-clause-held g c =
-    quiet-held c.args.self.now c.cpu_write.new.self c.args.op.now _ c.in-CpuWrite.is c.in_ok-cpu_write-in-CpuWrite.field-0 c.unheld-in-CpuWrite.result
+    quiet-held c.args.self.now c.cpu_write.new.self c.args.op.now _ c.in-CpuWrite.is
+    c.in_ok-cpu_write-in-CpuWrite.field-0 c.unheld-in-CpuWrite.result
     c.unheld-in-CpuWrite.ensures (c.in_ok-cpu_write-in-CpuWrite.ensures.done
-    ∙ ap (λ vs. cpu_write c.in-CpuWrite.place vs (ideal_of c.args.self.now)) (c.deref.ensures.value ∙ c.in_ok-bytes-in-CpuWrite.ensures))
+    ∙ ap (λ vs. cpu_write c.in-CpuWrite.place vs (ideal_of c.args.self.now))
+    (c.deref.ensures.value ∙ c.in_ok-bytes-in-CpuWrite.ensures))
 
 pub returns-in_ok-cpu_write-in-CpuWrite-clause-wire : goal.returns-in_ok-cpu_write-in-CpuWrite-clause-wire
 returns-in_ok-cpu_write-in-CpuWrite-clause-wire g c =
-    done-wire c.args.self.now c.cpu_write.new.self c.args.op.now _ c.in-CpuWrite.is (c.in_ok-cpu_write-in-CpuWrite.ensures.wire
+    done-wire c.args.self.now c.cpu_write.new.self c.args.op.now _ c.in-CpuWrite.is
+    (c.in_ok-cpu_write-in-CpuWrite.ensures.wire
     ∙ ap (λ vs. wires.cpu_write c.in-CpuWrite.place vs (ideal_of c.args.self.now) (wire_of c.args.self.now))
     (c.deref.ensures.value ∙ c.in_ok-bytes-in-CpuWrite.ensures))
 
 pub returns-in-Await-clause-done : goal.returns-in-Await-clause-done
 returns-in-Await-clause-done g c =
-    quiet-done c.args.self.now c.args.self.now c.args.op.now _ c.in-Await.is c.await_map.result c.unheld-in-Await.result
+    quiet-done c.args.self.now c.args.self.now c.args.op.now _ c.in-Await.is c.await_map.result
+    c.unheld-in-Await.result
     c.unheld-in-Await.ensures c.await_map.ensures (g.D.HubDoor.seen c.args.door.now)
 
 pub returns-in-Await-clause-held : goal.returns-in-Await-clause-held
 returns-in-Await-clause-held g c =
-    quiet-held c.args.self.now c.args.self.now c.args.op.now _ c.in-Await.is c.await_map.result c.unheld-in-Await.result
+    quiet-held c.args.self.now c.args.self.now c.args.op.now _ c.in-Await.is c.await_map.result
+    c.unheld-in-Await.result
     c.unheld-in-Await.ensures c.await_map.ensures
 
 pub returns-in-Await-clause-wire : goal.returns-in-Await-clause-wire

@@ -80,7 +80,8 @@ returns-clause-made g c =
     next-made h c.requires.empty c.in-Some.op.now here (sym c.waits.ensures ∙ c.if-waits.false) c.operation.new.self
     c.advance.new.self done.agenda.place c.advance.ensures.rest c.advance.ensures.agenda
     (g.D.HubDoor.seen c.args.door.now) (g.D.HubDoor.seen c.operation.new.door) c.in_ok-answer.field-0
-    c.stepped.result c.in_ok-answer.ensures.done c.in_ok-answer.ensures.held c.in_ok-answer.ensures.wire done.agenda.end
+    c.stepped.result c.in_ok-answer.ensures.done c.in_ok-answer.ensures.held c.in_ok-answer.ensures.wire
+    done.agenda.end
     done.agenda.capacity
     (c.stepped.ensures ∙ ap (λ p. turn.Stepped (record {
       actor = record { lane = c.advance.new.self.id; side = side.Script };
@@ -93,7 +94,8 @@ returns-in_err-answer-clause-provided g c =
     let agenda = c.in_err-answer.ensures.unpromised in
     let promised = ap (λ a. a.promised) agenda in
     provided-same c.args.self.now c.operation.new.self c.requires.provided c.operation.ensures.awaiting
-    (ap (λ l. l.script) c.in_err-answer.ensures.err.ideal) c.operation.ensures.memories c.operation.ensures.agenda.place
+    (ap (λ l. l.script) c.in_err-answer.ensures.err.ideal) c.operation.ensures.memories
+    c.operation.ensures.agenda.place
     (omega (arith, promised))
 
 pub returns-clause-provided : goal.returns-clause-provided

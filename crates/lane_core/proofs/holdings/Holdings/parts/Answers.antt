@@ -42,7 +42,8 @@ returns-in-Spans-clause-parts c =
 pub returns-in-Spans-clause-there : goal.returns-in-Spans-clause-there
 returns-in-Spans-clause-there c =
     let h = c.args.self.now in
-    subst (λ (ps : List Part). AreIn h.loans.bytes (addresses (stream_extents ps))) (sym c.parts_of_spans.ensures.parts)
+    subst (λ (ps : List Part). AreIn h.loans.bytes (addresses (stream_extents ps)))
+    (sym c.parts_of_spans.ensures.parts)
     (mapped-inside h.memory.memory h.loans.bytes c.in-Spans.spans.now c.parts_of_spans.ensures.sound h.covered)
 
 pub returns-in-Spans-clause-total : goal.returns-in-Spans-clause-total

@@ -36,7 +36,8 @@ put-requires-clause-vacant c =
 
 pub open_map-requires : goal.open_map-requires
 open_map-requires c =
-    rw (ap (λ (x : MapId). get c.args.self.now.loans.prepared x.made_at) c.map_id-id.ensures ∙ c.requires.prepared.is) refl
+    rw (ap (λ (x : MapId). get c.args.self.now.loans.prepared x.made_at) c.map_id-id.ensures ∙ c.requires.prepared.is)
+    refl
 
 pub invariant_of-self : goal.invariant_of-self
 invariant_of-self c =
@@ -49,7 +50,8 @@ invariant_of-self c =
       map = record o.map { tried = true; stage = loaded c.args.bounced c.args.segments c.args.pages };
     } in
     let maps : c.put.new.self.map ≡ insert h.maps.map k v =
-    ap (λ t. t.map) c.put.ensures ∙ ap (λ t. insert t.map k (record o { map = c.finish.new.self })) c.in-Some.ensures.taken
+    ap (λ t. t.map) c.put.ensures ∙ ap (λ t. insert t.map k (record o { map = c.finish.new.self }))
+    c.in-Some.ensures.taken
     ∙ reput h.maps.map k (record o { map = c.finish.new.self })
     ∙ ap (λ x. insert h.maps.map k (record o { map = x })) c.finish.ensures in
     let loan = loan_of h.loans.prepared k in
@@ -93,7 +95,8 @@ returns-in-Some-clause-done c other found =
       map = record o.map { tried = true; stage = loaded c.args.bounced c.args.segments c.args.pages };
     } in
     let maps : c.put.new.self.map ≡ insert h.maps.map k v =
-    ap (λ t. t.map) c.put.ensures ∙ ap (λ t. insert t.map k (record o { map = c.finish.new.self })) c.in-Some.ensures.taken
+    ap (λ t. t.map) c.put.ensures ∙ ap (λ t. insert t.map k (record o { map = c.finish.new.self }))
+    c.in-Some.ensures.taken
     ∙ reput h.maps.map k (record o { map = c.finish.new.self })
     ∙ ap (λ x. insert h.maps.map k (record o { map = x })) c.finish.ensures in
     let loan = loan_of h.loans.prepared k in
@@ -127,7 +130,8 @@ returns-in-Some-clause-bytes c =
     let o : KeptMap = c.in-Some.kept in
     let after : KeptMap = record o { map = c.finish.new.self } in
     let maps : c.put.new.self.map ≡ insert h.maps.map k after =
-    ap (λ t. t.map) c.put.ensures ∙ ap (λ t. insert t.map k after) c.in-Some.ensures.taken ∙ reput h.maps.map k after in
+    ap (λ t. t.map) c.put.ensures ∙ ap (λ t. insert t.map k after) c.in-Some.ensures.taken ∙ reput h.maps.map k
+    after in
     record {
       own = refl;
       pages = λ m off. ap (λ ms. (devices_of ms m).pages) maps
@@ -143,7 +147,8 @@ returns-in-Some-clause-loaded c =
       map = record o.map { tried = true; stage = loaded c.args.bounced c.args.segments c.args.pages };
     } in
     let maps : c.put.new.self.map ≡ insert h.maps.map k v =
-    ap (λ t. t.map) c.put.ensures ∙ ap (λ t. insert t.map k (record o { map = c.finish.new.self })) c.in-Some.ensures.taken
+    ap (λ t. t.map) c.put.ensures ∙ ap (λ t. insert t.map k (record o { map = c.finish.new.self }))
+    c.in-Some.ensures.taken
     ∙ reput h.maps.map k (record o { map = c.finish.new.self })
     ∙ ap (λ x. insert h.maps.map k (record o { map = x })) c.finish.ensures in
     ap (λ ms. has_load (get ms k)) maps ∙ ap has_load (get_put h.maps.map k v k)
@@ -158,7 +163,8 @@ returns-in-Some-clause-kept c m =
       map = record o.map { tried = true; stage = loaded c.args.bounced c.args.segments c.args.pages };
     } in
     let maps : c.put.new.self.map ≡ insert h.maps.map k v =
-    ap (λ t. t.map) c.put.ensures ∙ ap (λ t. insert t.map k (record o { map = c.finish.new.self })) c.in-Some.ensures.taken
+    ap (λ t. t.map) c.put.ensures ∙ ap (λ t. insert t.map k (record o { map = c.finish.new.self }))
+    c.in-Some.ensures.taken
     ∙ reput h.maps.map k (record o { map = c.finish.new.self })
     ∙ ap (λ x. insert h.maps.map k (record o { map = x })) c.finish.ensures in
     ap (λ ms. kept_load (get ms m)) maps

@@ -88,7 +88,8 @@ returns-in-Queued-clause-awaiting c =
       bio = bio_of c.args.bytes;
       there = is;
       idle = sym (ap is_idle_map idle.1) ∙ c.requires.idle;
-      at = subst (λ p. IsLoadAt h p m (bio_of c.args.bytes) c.args.items) (sym c.place-load_at.ensures) c.requires.next;
+      at = subst (λ p. IsLoadAt h p m (bio_of c.args.bytes) c.args.items) (sym c.place-load_at.ensures)
+          c.requires.next;
       own = c.requires.own;
       reached = c.requires.reached;
       fits = c.requires.room o is;

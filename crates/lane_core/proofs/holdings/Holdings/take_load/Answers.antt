@@ -29,7 +29,8 @@ invariant_of-self-2 c =
     let after : KeptMap = record o { map = c.take_waiting-load.new.self } in
     let maps : c.put.new.self.map ≡ insert h.maps.map k (idled o) =
     ap (λ t. t.map) c.put.ensures ∙ ap (λ t. insert t.map k after) c.in_ok-kept.ensures.taken
-    ∙ reput h.maps.map k after ∙ ap (λ x. insert h.maps.map k (record o { map = x })) c.take_waiting-load.ensures.idle in
+    ∙ reput h.maps.map k after ∙ ap (λ x. insert h.maps.map k (record o { map = x }))
+    c.take_waiting-load.ensures.idle in
     let are =
     subst (λ ms. AreMaps ms h.loans.loans h.agenda.returns h.agenda.promised) (sym maps)
     (maps-taken h.maps.map h.loans.loans h.agenda.returns h.agenda.promised (maps-of h) k o there load) in

@@ -87,7 +87,8 @@ pub returns-in-Callback-clause-length : goal.returns-in-Callback-clause-length
 returns-in-Callback-clause-length g c =
     let script =
     made-script c.args.self.now c.call_back.new.self (g.D.HubDoor.seen c.args.door.now)
-    (g.D.HubDoor.seen c.call_back.new.door) side.Callback c.call_back.result c.requires.ready c.call_back.ensures.made in
+    (g.D.HubDoor.seen c.call_back.new.door) side.Callback c.call_back.result c.requires.ready
+    c.call_back.ensures.made in
     c.call_back.ensures.made.places ∙ c.requires.length ∙ sym (ap length script)
 
 pub returns-in-Script-clause-wanting : goal.returns-in-Script-clause-wanting

@@ -39,12 +39,16 @@ invariant_of-self c =
     let v : KeptMap = record {
       tag = o.tag;
       need = c.args.need;
-      map = record o.map { tried = true; stage = waiting c.args.load_at (record { items = c.args.items }) c.args.room };
+      map = record o.map {
+        tried = true;
+        stage = waiting c.args.load_at (record { items = c.args.items }) c.args.room;
+      };
     } in
     let after : KeptMap = record { tag = o.tag; need = c.args.need; map = c.wait.new.self } in
     let maps : c.put.new.self.map ≡ insert h.maps.map k v =
     ap (λ t. t.map) c.put.ensures ∙ ap (λ t. insert t.map k after) c.in-Some.ensures.taken
-    ∙ reput h.maps.map k after ∙ ap (λ x. insert h.maps.map k (record { tag = o.tag; need = c.args.need; map = x })) c.wait.ensures in
+    ∙ reput h.maps.map k after ∙ ap (λ x. insert h.maps.map k (record { tag = o.tag; need = c.args.need; map = x }))
+    c.wait.ensures in
     let fits : pages_due h.maps.map + due_of v ≤ h.agenda.promised = c.requires.promised in
     let are =
     subst (λ ms. AreMaps ms h.loans.loans h.agenda.returns h.agenda.promised) (sym maps)
@@ -78,18 +82,23 @@ returns-in-Some-clause-done c other found =
     let v : KeptMap = record {
       tag = o.tag;
       need = c.args.need;
-      map = record o.map { tried = true; stage = waiting c.args.load_at (record { items = c.args.items }) c.args.room };
+      map = record o.map {
+        tried = true;
+        stage = waiting c.args.load_at (record { items = c.args.items }) c.args.room;
+      };
     } in
     let after : KeptMap = record { tag = o.tag; need = c.args.need; map = c.wait.new.self } in
     let maps : c.put.new.self.map ≡ insert h.maps.map k v =
     ap (λ t. t.map) c.put.ensures ∙ ap (λ t. insert t.map k after) c.in-Some.ensures.taken
-    ∙ reput h.maps.map k after ∙ ap (λ x. insert h.maps.map k (record { tag = o.tag; need = c.args.need; map = x })) c.wait.ensures in
+    ∙ reput h.maps.map k after ∙ ap (λ x. insert h.maps.map k (record { tag = o.tag; need = c.args.need; map = x }))
+    c.wait.ensures in
     let is : get l.maps k ≡ Some (map_of o) = image-some map_of h.maps.map k o there in
     let same : map_of o ≡ other = cc in
     let bare : device_of (Some v) ≡ device_of (get h.maps.map k) = sym (ap device_of there ∙ idle.unheld) in
     (λ i. record l {
       maps = (ap (map_values map_of) maps ∙ map_values-insert map_of h.maps.map k v
-          ∙ ap (λ (x : LaneMap). insert l.maps k (record x { tried = true; stage = Waiting c.args.load_at c.args.need })) same) i;
+          ∙ ap (λ (x : LaneMap). insert l.maps k (record x
+          { tried = true; stage = Waiting c.args.load_at c.args.need })) same) i;
       memory = (ap (λ ms. held h.loans.bytes h.loans.loans (devices_of ms) h.memory.memory) maps
           ∙ held-alike h.loans.bytes h.loans.loans (devices_of h.maps.map) (devices_of (insert h.maps.map k v))
           h.memory.memory (devices-put h.maps.map k v bare)) i;
@@ -105,12 +114,16 @@ returns-in-Some-clause-bytes c =
     let v : KeptMap = record {
       tag = o.tag;
       need = c.args.need;
-      map = record o.map { tried = true; stage = waiting c.args.load_at (record { items = c.args.items }) c.args.room };
+      map = record o.map {
+        tried = true;
+        stage = waiting c.args.load_at (record { items = c.args.items }) c.args.room;
+      };
     } in
     let after : KeptMap = record { tag = o.tag; need = c.args.need; map = c.wait.new.self } in
     let maps : c.put.new.self.map ≡ insert h.maps.map k v =
     ap (λ t. t.map) c.put.ensures ∙ ap (λ t. insert t.map k after) c.in-Some.ensures.taken
-    ∙ reput h.maps.map k after ∙ ap (λ x. insert h.maps.map k (record { tag = o.tag; need = c.args.need; map = x })) c.wait.ensures in
+    ∙ reput h.maps.map k after ∙ ap (λ x. insert h.maps.map k (record { tag = o.tag; need = c.args.need; map = x }))
+    c.wait.ensures in
     let bare : device_of (Some v) ≡ device_of (get h.maps.map k) = sym (ap device_of there ∙ idle.unheld) in
     record {
       own = refl;
@@ -125,12 +138,16 @@ returns-in-Some-clause-waits c =
     let v : KeptMap = record {
       tag = o.tag;
       need = c.args.need;
-      map = record o.map { tried = true; stage = waiting c.args.load_at (record { items = c.args.items }) c.args.room };
+      map = record o.map {
+        tried = true;
+        stage = waiting c.args.load_at (record { items = c.args.items }) c.args.room;
+      };
     } in
     let after : KeptMap = record { tag = o.tag; need = c.args.need; map = c.wait.new.self } in
     let maps : c.put.new.self.map ≡ insert h.maps.map k v =
     ap (λ t. t.map) c.put.ensures ∙ ap (λ t. insert t.map k after) c.in-Some.ensures.taken
-    ∙ reput h.maps.map k after ∙ ap (λ x. insert h.maps.map k (record { tag = o.tag; need = c.args.need; map = x })) c.wait.ensures in
+    ∙ reput h.maps.map k after ∙ ap (λ x. insert h.maps.map k (record { tag = o.tag; need = c.args.need; map = x }))
+    c.wait.ensures in
     ap (λ ms. kept_load (get ms k)) maps ∙ ap kept_load (get_put h.maps.map k v k)
     ∙ ap (λ b. kept_load (cond b (Some v) (get h.maps.map k))) (eq-eqb k k refl)
 
@@ -142,11 +159,15 @@ returns-in-Some-clause-others c m off =
     let v : KeptMap = record {
       tag = o.tag;
       need = c.args.need;
-      map = record o.map { tried = true; stage = waiting c.args.load_at (record { items = c.args.items }) c.args.room };
+      map = record o.map {
+        tried = true;
+        stage = waiting c.args.load_at (record { items = c.args.items }) c.args.room;
+      };
     } in
     let after : KeptMap = record { tag = o.tag; need = c.args.need; map = c.wait.new.self } in
     let maps : c.put.new.self.map ≡ insert h.maps.map k v =
     ap (λ t. t.map) c.put.ensures ∙ ap (λ t. insert t.map k after) c.in-Some.ensures.taken
-    ∙ reput h.maps.map k after ∙ ap (λ x. insert h.maps.map k (record { tag = o.tag; need = c.args.need; map = x })) c.wait.ensures in
+    ∙ reput h.maps.map k after ∙ ap (λ x. insert h.maps.map k (record { tag = o.tag; need = c.args.need; map = x }))
+    c.wait.ensures in
     ap (λ ms. kept_load (get ms m)) maps ∙ ap kept_load (get_put h.maps.map k v m)
     ∙ ap (λ b. kept_load (cond b (Some v) (get h.maps.map m))) off

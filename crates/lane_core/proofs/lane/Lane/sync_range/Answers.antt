@@ -17,7 +17,8 @@ invariant_of-self c =
     let lane =
     called-lane h k
     (record { wired = l.wired; stands = l.stands; provided = l.provided; length = l.length; room = l.room })
-    (sync_range-after h k l.wired c.args.map.made_at c.args.off c.args.len c.args.ops.0 c.sync_range.result r.done r.wire r.err) r.awaiting r.script r.memories r.agenda in
+    (sync_range-after h k l.wired c.args.map.made_at c.args.off c.args.len c.args.ops.0 c.sync_range.result r.done
+    r.wire r.err) r.awaiting r.script r.memories r.agenda in
     record {
       wired = lane.wired;
       stands = lane.stands;
@@ -30,26 +31,30 @@ pub returns-then-not-owns-clause-done : goal.returns-then-not-owns-clause-done
 returns-then-not-owns-clause-done c =
     let l = ideal_of c.args.self.now.holdings in
     ap (gives l) c.report.ensures
-    ∙ sym (foreign-call c.args.map l (syncs.sync_range c.args.map.made_at c.args.off c.args.len c.args.ops.0 l) (sym c.owns.ensures ∙ c.if-not-owns.true))
+    ∙ sym (foreign-call c.args.map l (syncs.sync_range c.args.map.made_at c.args.off c.args.len c.args.ops.0 l)
+    (sym c.owns.ensures ∙ c.if-not-owns.true))
 
 pub returns-then-not-owns-clause-wire : goal.returns-then-not-owns-clause-wire
 returns-then-not-owns-clause-wire c =
     let h = c.args.self.now.holdings in
-    sym (foreign-wire c.args.map (ideal_of h) (wires.sync_range c.args.map.made_at c.args.off c.args.len c.args.ops.0 (ideal_of h) (wire_of h)) (wire_of h)
+    sym (foreign-wire c.args.map (ideal_of h) (wires.sync_range c.args.map.made_at c.args.off c.args.len c.args.ops.0
+    (ideal_of h) (wire_of h)) (wire_of h)
     (sym c.owns.ensures ∙ c.if-not-owns.true))
 
 pub returns-clause-done : goal.returns-clause-done
 returns-clause-done c =
     let l = ideal_of c.args.self.now.holdings in
     ok-map c.sync_range.result _ _ (λ a done. done
-    ∙ sym (own-call c.args.map l (syncs.sync_range c.args.map.made_at c.args.off c.args.len c.args.ops.0 l) (sym c.owns.ensures ∙ c.if-not-owns.false)))
+    ∙ sym (own-call c.args.map l (syncs.sync_range c.args.map.made_at c.args.off c.args.len c.args.ops.0 l)
+    (sym c.owns.ensures ∙ c.if-not-owns.false)))
     c.sync_range.ensures.done
 
 pub returns-clause-wire : goal.returns-clause-wire
 returns-clause-wire c =
     let h = c.args.self.now.holdings in
     ok-map c.sync_range.result _ _ (λ a wire. wire
-    ∙ sym (own-wire c.args.map (ideal_of h) (wires.sync_range c.args.map.made_at c.args.off c.args.len c.args.ops.0 (ideal_of h) (wire_of h)) (wire_of h)
+    ∙ sym (own-wire c.args.map (ideal_of h) (wires.sync_range c.args.map.made_at c.args.off c.args.len c.args.ops.0
+    (ideal_of h) (wire_of h)) (wire_of h)
     (sym c.owns.ensures ∙ c.if-not-owns.false))) c.sync_range.ensures.wire
 
 pub returns-clause-err : goal.returns-clause-err

@@ -13,7 +13,8 @@ waits = in_zone 0 (Waiting 2)
 
 pub release-requires : goal.release-requires
 release-requires g c =
-    let d = seen c.args.door.now in let p = page_address c.in-Some-pop.first in let q = page_address c.in-Some.second in
+    let d = seen c.args.door.now in let p = page_address c.in-Some-pop.first in let q = page_address
+    c.in-Some.second in
     let none : c.pop-2.new.self.items ≡ [] = search rules in
     let are : page_addresses c.args.pages.items ≡ p ∷ q ∷ [] =
     two_pages c.args.pages.items c.pop.new.self.items c.pop-2.new.self.items c.in-Some-pop.first c.in-Some.second

@@ -93,7 +93,8 @@ invariant_of-self c =
           (AreIn-set_all _ gone false _ (c.self.invariant.prepared m));
       low =
           subst AreLow (sym c.lose_lent.ensures.bytes)
-          (AreLow-set_all bytes gone false (AreIn-filter bytes to_write slot.row.positions there) c.self.invariant.low);
+          (AreLow-set_all bytes gone false (AreIn-filter bytes to_write slot.row.positions there)
+          c.self.invariant.low);
       counted = omega (arith, sum, c.len.ensures);
       room = left_by_map c.self.inside.bytes c.lose_lent.new.bytes c.self.inside.positions _ c.self.inside.spare
           (length slot.row.positions) c.self.invariant.room (omega (arith, sum, c.len.ensures))
