@@ -1,6 +1,6 @@
 -- The chunks of a load's stream are those of the load, and what is built of them.
-use Rattle.std.proofs.Common.{◌≡◌, ℕ, ◌≤◌, List, [], length, Some, refl, sym, ap, ◌∙◌, subst, arith, Bool, true}
-use Rattle.std.proofs.Common.{false, cond}
+use Rattle.std.proofs.Common.{◌≡◌, ℕ, ◌≤◌, List, [], length, Some, refl, sym, ap, ◌∙◌, arith, Bool, true, false}
+use Rattle.std.proofs.Common.{cond}
 use Rattle.std.proofs.Common.{nat_le}
 use Rattle.std.specs.FinMap.{get}
 use Rattle.busdma_base.specs.declared.journals.report.Judged.{Judged}

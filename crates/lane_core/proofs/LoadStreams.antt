@@ -16,7 +16,6 @@ use Rattle.busdma_base.specs.declared.machine.address.Span.{Span}
 use Rattle.busdma_base.specs.declared.machine.bio.Bio.{Bio}
 use Rattle.busdma_base.specs.declared.machine.chunk.Entry.{Entry}
 use Rattle.busdma_base.specs.declared.machine.chunk.Part.{Part}
-use Rattle.busdma_base.specs.declared.machine.chunk.Part.TheVariants.{Of, Unmapped}
 use Rattle.busdma_base.specs.declared.scenarios.buffer.Buffer.TheVariants as buffer
 use Rattle.busdma_base.specs.declared.scenarios.scenario.PageRun.{PageRun}
 use Rattle.busdma_base.specs.Journals.Judging.{judged, refused_or}

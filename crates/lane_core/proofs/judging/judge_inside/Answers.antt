@@ -1,6 +1,5 @@
-use Rattle.std.proofs.Common.{◌≡◌, ◌+◌, ◌≤◌, ◌-◌, sym, ap, ◌∙◌, arith, ◌⊎◌}
+use Rattle.std.proofs.Common.{◌≡◌, ◌+◌, ◌≤◌, sym, ◌∙◌, arith, ◌⊎◌}
 use Rattle.dmamem.specs.Memory.{virtual_of}
-use Rattle.lane_core.specs.Judging.{foreign_at}
 use Rattle.lane_core.proofs.Foreign.{first-within, none-within}
 use Rattle.lane_core.proofs.judging.judge_inside.Goals as goal
 use Rattle.lane_core.proofs.judging.judge_inside.Goals.{else-first-end-via-then-first-end+else-first-from}

@@ -1,11 +1,10 @@
 use Rattle.std.proofs.Common.{◌≡◌, ◌+◌, ◌≤◌, ◌<◌, sym, ap, ◌∙◌, arith}
 use Rattle.std.specs.List.{enumerate_from}
-use Rattle.busdma_base.specs.declared.journals.report.Judged.TheVariants.{Fine}
 use Rattle.busdma_base.specs.Journals.Judging.{judged}
 use Rattle.busdma_base.specs.Runs.{run_of}
 use Rattle.dmamem.specs.Memory.{virtual_of}
 use Rattle.lane_core.specs.Judging.{foreign_at}
-use Rattle.lane_core.proofs.Foreign.{away-off, max-off, none-off, none-past, off_place}
+use Rattle.lane_core.proofs.Foreign.{away-off, max-off, none-past, off_place}
 use Rattle.lane_core.proofs.judging.judge_own.Goals as goal
 use Rattle.lane_core.proofs.judging.judge_own.Goals.{then-span-begin_of, else-span-begin_of}
 

@@ -1,5 +1,4 @@
 use Rattle.std.proofs.Common.{◌≡◌, ◌∷◌, [], List, ◌≤◌, ◌^◌, sym, ap, ◌∙◌, subst}
-use Rattle.busdma_base.specs.declared.machine.bio.Bio.{Bio}
 use Rattle.busdma_base.specs.declared.machine.bio.Bio.TheVariants.{Unmapped}
 use Rattle.busdma_base.specs.declared.machine.chunk.Part.{Part}
 use Rattle.busdma_base.specs.Machine.Spans.{one_span}
@@ -8,7 +7,6 @@ use Rattle.busdma_base.specs.Scenarios.Buffers.{IsBioOf}
 use Rattle.load_bio.specs.Bio.{IsBio, bio_stream}
 use Rattle.loan_table.specs.Table.{AreIn}
 use Rattle.ideal_lane.specs.Places.{physical}
-use Rattle.lane_core.specs.declared.buffers.LoadBytes.{LoadBytes}
 use Rattle.lane_core.specs.Ideal.{ideal_of}
 use Rattle.lane_core.specs.Loading.{bio_of, stream_extents}
 use Rattle.lane_core.proofs.LoadStreams.{frames-inside, mapped-inside, stream-total}
