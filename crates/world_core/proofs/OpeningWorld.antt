@@ -147,19 +147,24 @@ pub record OpensWith (s : Scenario) (lanes : List Lane) (hub : HubSeen) : Type 0
   pub world : world_of lanes hub ≡ opening_world s
   pub opening : hub.opening ≡ opening s
 
-pub opens-with : (s : Scenario) (lanes : List Lane) (hub : HubSeen) (frames : List ℕ) (maxmem : ℕ) →
-    maxmem ≡ maxmem_of s.frames → frames ≡ (opening s).bank → map ideal lanes ≡ opening_lanes 0 maxmem s.drivers →
-    hub ≡ record { opening = fresh_account frames maxmem s.max_bpages; history = [] } → OpensWith s lanes hub
-opens-with s lanes hub frames maxmem end free opened made =
-    let account : fresh_account frames maxmem s.max_bpages ≡ opening s =
-    (λ i. fresh_account (free i) (end i) s.max_bpages) in
-    record {
-      world = λ i. record {
-        lanes = (opened ∙ ap (λ n. opening_lanes 0 n s.drivers) end) i;
-        account = (ap (λ (h : HubSeen). account_of h.opening h.history) made ∙ account) i;
-      };
-      opening = ap (λ (h : HubSeen). h.opening) made ∙ account;
-    }
+pub opens-with : (s : Scenario) (lanes : List Lane) (hub : HubSeen) → map ideal lanes ≡ (opening_world s).lanes →
+    hub ≡ record { opening = opening s; history = [] } → OpensWith s lanes hub
+opens-with s lanes hub opened made = record {
+  world = λ i. record { lanes = opened i; account = ap (λ (h : HubSeen). account_of h.opening h.history) made i };
+  opening = ap (λ (h : HubSeen). h.opening) made;
+}
+
+-- the lanes and the hub that are made of a scenario, by its end of memory and its free frames
+pub opened-lanes : (s : Scenario) (lanes : List Lane) (maxmem : ℕ) → maxmem ≡ maxmem_of s.frames →
+    map ideal lanes ≡ opening_lanes 0 maxmem s.drivers → map ideal lanes ≡ (opening_world s).lanes
+opened-lanes s lanes maxmem end opened = opened ∙ ap (λ n. opening_lanes 0 n s.drivers) end
+
+pub opened-hub : (s : Scenario) (hub : HubSeen) (frames : List ℕ) (maxmem : ℕ) →
+    maxmem ≡ maxmem_of s.frames → frames ≡ (opening s).bank →
+    hub ≡ record { opening = fresh_account frames maxmem s.max_bpages; history = [] } →
+    hub ≡ record { opening = opening s; history = [] }
+opened-hub s hub frames maxmem end free made =
+    made ∙ (λ i. record { opening = fresh_account (free i) (end i) s.max_bpages; history = [] })
 
 -- it is kept
 pub opens-kept : (s : Scenario) (lanes : List Lane) (hub : HubSeen) → IsValid s → OpensWith s lanes hub →

@@ -57,7 +57,8 @@ module _ (lanes : List Lane) (hub hub-new : HubSeen) (actor : Actor) (l m : Lane
   there = lane_found lanes k l lt found
 
   pub wires-follow : (t : Turn) →
-      record { world = world_of (slice_set lanes actor.lane.0 m) hub-new; turn = t } ≡ step (world_of lanes hub) actor →
+      record { world = world_of (slice_set lanes actor.lane.0 m) hub-new; turn = t } ≡ step (world_of lanes hub) actor
+      →
       Follows (ideal l) (ideal m) (lane_step (ideal l) actor.side (wire l)) (wire m) →
       WiresFollow (world_of lanes hub) actor (wires-in lanes) (wires-in (slice_set lanes actor.lane.0 m))
   wires-follow t done follows = record {

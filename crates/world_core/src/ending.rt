@@ -13,7 +13,7 @@ use busdma_base::{End, Journal, JournalEntry};
 
 impl World<'_> {
     /// How a run ends that has come to rest here.
-    pub(crate) fn end(&self) -> End
+    pub fn end(&self) -> End
         ensures { result ≡ end_of (ideal_world self.now) }
     {
         if self.all_ended() {

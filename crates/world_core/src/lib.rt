@@ -12,5 +12,6 @@ mod world;
 
 pub use ending::status;
 pub use laws::wires_are_faithful;
-pub use run::replay;
+pub use opening::opening_parts;
+pub use run::{replay, round_of};
 pub use world::World;

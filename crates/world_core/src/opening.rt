@@ -1,7 +1,7 @@
 //! The world in which a scenario opens.
 
-ghost use Rattle.std.specs.Prelude.{◌≡◌, map, IfOk};
-ghost use Rattle.busdma_base.specs.Bounce.Opening.{maxmem_of};
+ghost use Rattle.std.specs.Prelude.{◌≡◌, [], map, IfOk};
+ghost use Rattle.busdma_base.specs.Bounce.Opening.{maxmem_of, opening};
 ghost use Rattle.busdma_base.specs.Scenarios.Valid.{IsValid};
 ghost use Rattle.lane_core.specs.LaneIdeal.{ideal};
 ghost use Rattle.ideal_world.specs.World as world;
@@ -21,15 +21,29 @@ impl<'s> World<'s> {
         requires { IsValid scenario.now }
         ensures { IfOk result (λ world. ideal_world world ≡ opening_world scenario.now) }
     {
-        let maxmem = memory_end(scenario.frames.as_slice());
-        let bank = free_bank(alloc, scenario)?;
-        let lanes = opening_lanes(alloc, scenario, maxmem)?;
+        let (lanes, hub) = opening_parts(alloc, scenario)?;
         Ok(World {
             scenario,
             lanes,
-            hub: Hub::new(alloc, bank, scenario.max_bpages, maxmem),
+            hub,
         })
     }
+}
+
+/// The drivers with which a scenario opens, in the order of their numbers, and the hub that they are
+/// to share. It has the frames that no driver's pages have, and no hold was made.
+pub fn opening_parts<'s>(
+    alloc: Global,
+    scenario: &'s Scenario,
+) -> Result<(Vec<Lane<'s>>, Hub), AllocError>
+    requires { IsValid scenario.now }
+    ensures lanes { IfOk result (λ parts. map ideal parts.0.items ≡ (opening_world scenario.now).lanes) }
+    ensures hub { IfOk result (λ parts. parts.1 ≡ record { opening = opening scenario.now; history = [] }) }
+{
+    let maxmem = memory_end(scenario.frames.as_slice());
+    let bank = free_bank(alloc, scenario)?;
+    let lanes = opening_lanes(alloc, scenario, maxmem)?;
+    Ok((lanes, Hub::new(alloc, bank, scenario.max_bpages, maxmem)))
 }
 
 /// The lanes of a scenario's drivers, which have done nothing, in the order of their numbers, in a

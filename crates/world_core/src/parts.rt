@@ -1,4 +1,4 @@
-//! A world taken apart.
+//! A world taken apart and put together.
 
 ghost use Rattle.std.specs.Prelude.{ℕ, ◌≡◌, Some, slice_get};
 ghost use Rattle.bounce_hub.specs.Seen.{door};
@@ -6,14 +6,28 @@ ghost use Rattle.lane_core.specs.declared.lane.Lane.{Lane};
 ghost use Rattle.lane_core.specs.LaneIdeal.{ideal};
 ghost use Rattle.lane_core.specs.Turning.{IsServed};
 ghost use Rattle.world_core.specs.Ideal.{ideal_world};
-ghost use Rattle.world_core.specs.Kept.{world_of};
+ghost use Rattle.world_core.specs.Kept.{IsKept, world_of};
 
 use crate::steps::hub_is_sound;
 use crate::world::World;
 use bounce_hub::Hub;
+use busdma_base::Scenario;
 use lane_core::Lane;
 
 impl<'s> World<'s> {
+    /// The world of drivers of a scenario, in the order of their numbers, and of the hub that they
+    /// share. Takes no memory.
+    pub fn from_parts(scenario: &'s Scenario, lanes: Vec<Lane<'s>>, hub: Hub) -> World<'s>
+        requires { IsKept scenario.now lanes.items hub }
+        ensures { ideal_world result ≡ world_of lanes.entry.items hub }
+    {
+        World {
+            scenario,
+            lanes,
+            hub,
+        }
+    }
+
     /// The drivers, in the order of their numbers, and the hub that they share, which serves each of them.
     pub fn into_parts(self) -> (Vec<Lane<'s>>, Hub)
         ensures world { world_of result.0.items result.1 ≡ ideal_world self.entry }

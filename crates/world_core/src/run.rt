@@ -54,7 +54,7 @@ impl Progress<'_> {
 }
 
 /// The actors of a round over so many drivers: of each its callback, its transfer and its script.
-fn round_of(alloc: Global, drivers: u32) -> Result<Vec<Actor>, AllocError>
+pub fn round_of(alloc: Global, drivers: u32) -> Result<Vec<Actor>, AllocError>
     ensures { IfOk result (λ round. round.items ≡ round_from 0 drivers) }
 {
     let mut round = Vec::new(alloc);

@@ -1,19 +1,15 @@
-use Rattle.std.proofs.Common.{◌∙◌, ap}
-use Rattle.busdma_base.specs.Bounce.Opening.{maxmem_of}
-use Rattle.frame_bank.specs.FrameBank.{free_frames}
 use Rattle.world_core.proofs.OpeningWorld.{opens-with, opens-kept}
 use Rattle.world_core.proofs.world.World.new.Goals as goal
 
 pub invariant_of-result : goal.invariant_of-result
-invariant_of-result c = record {
-  kept = opens-kept c.args.scenario.now c.in_ok-lanes.lanes.items c.new.result c.requires
-      (opens-with c.args.scenario.now c.in_ok-lanes.lanes.items c.new.result (free_frames c.in_ok-bank.bank)
-      c.memory_end-maxmem.result (c.memory_end-maxmem.ensures ∙ ap maxmem_of c.as_slice.ensures)
-      c.in_ok-bank.ensures.free c.in_ok-lanes.ensures c.new.ensures.made);
-}
+invariant_of-result c =
+    let s = c.args.scenario.now in
+    let lanes = c.in_ok-lanes.lanes.items in
+    let hub = c.in_ok-lanes.hub in
+    let made = c.in_ok-lanes.ensures in
+    record { kept = opens-kept s lanes hub c.requires (opens-with s lanes hub made.lanes made.hub) }
 
 pub returns : goal.returns
 returns c =
-    (opens-with c.args.scenario.now c.in_ok-lanes.lanes.items c.new.result (free_frames c.in_ok-bank.bank)
-    c.memory_end-maxmem.result (c.memory_end-maxmem.ensures ∙ ap maxmem_of c.as_slice.ensures)
-    c.in_ok-bank.ensures.free c.in_ok-lanes.ensures c.new.ensures.made).world
+    let made = c.in_ok-lanes.ensures in
+    (opens-with c.args.scenario.now c.in_ok-lanes.lanes.items c.in_ok-lanes.hub made.lanes made.hub).world

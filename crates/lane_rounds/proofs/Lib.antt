@@ -1,0 +1,3 @@
+pub mod Sending
+pub mod Shapes
+pub mod Working

@@ -1,0 +1,68 @@
+-- A driver at work may go to another thread where its door may.
+use denote.RattleType.{RattleType}
+use denote.Ref.{NamedLft}
+use denote.Param.Send.{IsSend, IsSync, sendable}
+use denote.Param.SendFields.{declared_send}
+use Rattle.std.proofs.Crossing.{crosses}
+use Rattle.std.proofs.MapsCrossing.{BTreeMap-send, HashMap-send}
+use Rattle.busdma_base.specs.contracts.machine.page.Page as Page
+use Rattle.busdma_base.specs.contracts.scenarios.script.Op as Op
+use Rattle.dma_map.specs.contracts.map.DmaMap as Map
+use Rattle.dma_map.specs.declared.callback.Callback as Callback
+use Rattle.lane_tables.specs.contracts.agenda.Agenda as Agenda
+use Rattle.lane_tables.specs.contracts.place_table.PlaceTable as Table
+use Rattle.loan_table.specs.contracts.table.LoanTable as Loans
+use Rattle.phys_memory.specs.contracts.pages.LanePages as Pages
+use Rattle.lane_core.specs.contracts.lane.Lane as Lane
+use Rattle.lane_merge.specs.contracts.merging.LoggedStep as Step
+use Rattle.lane_rounds.specs.contracts.worker.Worker as Worker
+
+step_send : IsSend Step.the_row
+step_send = search (sendable, crosses) depth 60 fits 20000
+
+op_sync : IsSync Op.the_row
+op_sync = search (sendable, crosses) depth 60 fits 40000
+
+page_send : IsSend Page.the_row
+page_send = search (sendable, crosses) depth 60 fits 20000
+
+pages_send : IsSend Pages.the_row
+pages_send = search (page_send, HashMap-send, sendable, crosses) depth 60 fits 20000
+
+table_send : (T : RattleType) → IsSend T → IsSend (Table.the_row T)
+table_send T s = search (sendable, crosses) depth 60 fits 20000
+
+agenda_send : IsSend Agenda.the_row
+agenda_send = search (page_send, sendable, crosses) depth 60 fits 40000
+
+loans_send : IsSend Loans.the_row
+loans_send = search (BTreeMap-send, sendable, crosses) depth 60 fits 40000
+
+map_send : (T : RattleType) (g : Callback.Ghosts T.Denot) → IsSend T → IsSend (Map.the_row T g)
+map_send T g s = search (sendable, crosses) depth 60 fits 40000
+
+lane_send : (s : NamedLft) → IsSend (Lane.the_row s)
+lane_send s =
+    search (op_sync, pages_send, table_send, agenda_send, loans_send, map_send, sendable, crosses) depth 60 fits 40000
+
+pub worker_send : (s : NamedLft) (T F : RattleType) → IsSend T → IsSend (Worker.the_row s T F)
+worker_send s T F sent =
+    declared_send (Worker.the_type s T F) (
+      search (sendable, crosses) depth 20,
+      (
+        search (sendable, crosses) depth 20,
+        (
+          lane_send s,
+          (
+            search (sendable, crosses) depth 20,
+            (
+              search (step_send, sendable, crosses) depth 20,
+              (
+                search (sendable, crosses) depth 20,
+                (search (sendable, crosses) depth 20, (search (sendable, crosses) depth 20, tt)),
+              ),
+            ),
+          ),
+        ),
+      ),
+    )

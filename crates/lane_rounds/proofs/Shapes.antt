@@ -1,0 +1,264 @@
+-- What a turn is: it steps or leaves its driver as it was, and only the turn of the callbacks asks for a callback.
+use Rattle.std.proofs.Common.{◌≡◌, ℕ, ◌+◌, ◌-◌, ◌==◌, ◌&&◌, Bool, true, false, List, [], ◌∷◌, length, nat_le, nat_lt}
+use Rattle.std.proofs.Common.{Option, Some, None, if◌then◌else◌, inl, inr, ◌⊎◌, refl, slice_get}
+use Rattle.std.specs.FinMap.{get, remove, contains_key}
+use Rattle.busdma_base.specs.declared.bounce.hold.HubCall.{HubCall}
+use Rattle.busdma_base.specs.declared.bounce.hold.HubCall.TheVariants as call
+use Rattle.busdma_base.specs.declared.bounce.hold.HubReply.{HubReply}
+use Rattle.busdma_base.specs.declared.bounce.zone.Waiter.{Waiter}
+use Rattle.busdma_base.specs.declared.journals.answer.Answer.TheVariants as answer
+use Rattle.busdma_base.specs.declared.journals.journal.Side.{Side}
+use Rattle.busdma_base.specs.declared.journals.journal.Side.TheVariants as side
+use Rattle.busdma_base.specs.declared.journals.report.Judged.{Judged}
+use Rattle.busdma_base.specs.declared.journals.report.Judged.TheVariants.{Fine, Refused}
+use Rattle.busdma_base.specs.declared.journals.report.ReportName.TheVariants.{MapBusy, NotLoaded, PastEnd}
+use Rattle.busdma_base.specs.declared.machine.chunk.Chunk.{Chunk}
+use Rattle.busdma_base.specs.declared.scenarios.buffer.Buffer.{Buffer}
+use Rattle.busdma_base.specs.declared.scenarios.script.Item.{Item}
+use Rattle.busdma_base.specs.declared.scenarios.script.Item.TheVariants as item
+use Rattle.busdma_base.specs.declared.scenarios.script.Op.{Op}
+use Rattle.busdma_base.specs.declared.scenarios.script.Op.TheVariants as op
+use Rattle.busdma_base.specs.declared.scenarios.script.Place.{Place}
+use Rattle.busdma_base.specs.declared.tags.tag.TagLimits.{TagLimits}
+use Rattle.busdma_base.specs.Bounce.Account.{Account}
+use Rattle.busdma_base.specs.Bounce.AccountStep.{called_from}
+use Rattle.busdma_base.specs.Bounce.History.{is_kept}
+use Rattle.busdma_base.specs.Runs.{run_of}
+use Rattle.busdma_base.specs.Scenarios.Operations.{bytes_of}
+use Rattle.busdma_base.specs.Tags.Tag.{effective, could_bounce}
+use Rattle.busdma_base.specs.Tags.TagFlags.{allocnow}
+use Rattle.dma_tag.specs.SyncOps.{is_mixed}
+use Rattle.lane_agreement.specs.View.{Return}
+use Rattle.lane_tables.specs.declared.queued.QueuedItem.{QueuedItem}
+use Rattle.loan_table.specs.Access.{cpu_read_answer, cpu_write_answer, dev_read_answer, dev_write_answer}
+use Rattle.loan_table.specs.Lending.{lost, sync_answer, synced}
+use Rattle.loan_table.specs.Loans.{load_bytes, loan_of}
+use Rattle.segment_build.specs.Chunks.{need_of}
+use Rattle.ideal_lane.specs.State.{LaneState, LaneMap, LaneTag}
+use Rattle.ideal_lane.specs.Accesses.{cpu_read, cpu_write, dev_read, dev_write, values}
+use Rattle.ideal_lane.specs.Asking.{Asking, Gives, Asks, goes_on}
+use Rattle.ideal_lane.specs.IdealMemory.{forgotten, is_known, written}
+use Rattle.ideal_lane.specs.Loads.{Asked, asked, limits_of, chunks_for, load_chunks, load}
+use Rattle.ideal_lane.specs.Maps.{map, end_map, map_destroy, await}
+use Rattle.ideal_lane.specs.Outcomes.{Outcome, gives, refused, unless_absent, unless_refused, unless_busy}
+use Rattle.ideal_lane.specs.Outcomes.{unless_unloaded}
+use Rattle.ideal_lane.specs.Outcomes.{unless_past, is_idle, is_loaded, load_length}
+use Rattle.ideal_lane.specs.Places.{bytes_at, reached, virtual_at}
+use Rattle.ideal_lane.specs.Syncs.{copies, counted, sync_part, sync, sync_range}
+use Rattle.ideal_lane.specs.Tags.{tag_or_invalid, tag, tag_destroy, has_maps}
+use Rattle.ideal_lane.specs.Turns.{Turn, Turned, Stepped, Blocked, Ended, stays, bio_at, load_buffer, never_waits}
+use Rattle.ideal_lane.specs.Turns.{operation, transfer}
+use Rattle.ideal_lane.specs.Turns.{waits, advanced, left_queue, next_operation, script_turn, transfer_turn}
+use Rattle.ideal_lane.specs.Turns.{called_back, lane_step}
+use Rattle.ideal_lane.specs.Unloads.{unload}
+
+-- a call takes a callback
+abbrev takes : HubCall → Bool
+takes call.TakeCallback = true
+takes (call.AttachTag t) = false
+takes (call.CreateMap m t first_done) = false
+takes (call.DestroyMap m z) = false
+takes (call.Grab m z need nowait) = false
+takes (call.Release m z page) = false
+takes (call.MemAlloc m t) = false
+takes (call.MemFree m) = false
+
+-- an answer of a turn is a step
+abbrev pub is_step : Turn → Bool
+is_step (Stepped e) = true
+is_step Blocked = false
+is_step Ended = false
+
+-- what is made asks for a callback
+abbrev taking : {X : Type 0} → Asking X → Bool
+taking {X} (Gives x) = false
+taking {X} (Asks c k) = takes c
+
+-- what is made asks for none
+record IsFree {X : Type 0} (x : Asking X) : Type 0 where
+  is : taking x ≡ false
+
+-- what is known of a turn without a call, and of one with a call
+abbrev pub Shape : LaneState → Asking Turned → Type 0
+Shape l (Gives t) = (is_step t.turn ≡ true) ⊎ (t.lane ≡ l)
+Shape l (Asks c k) =
+    ((c ≡ call.TakeCallback) × (k ≡ called_back l)) ⊎
+    ((takes c ≡ false) × ((r : HubReply) → is_step (k r).turn ≡ true))
+
+module _ (l : LaneState) where
+  absent : {X : Type 0} (o : Option X) (step : X → Asking Outcome) → ((x : X) → IsFree (step x)) →
+      IsFree (unless_absent o l step)
+  absent None step h = (record { is = refl })
+  absent (Some x) step h = h x
+
+  judged : (j : Judged) (x : Asking Outcome) → IsFree x → IsFree (unless_refused j l x)
+  judged Fine x h = h
+  judged (Refused report) x h = (record { is = refl })
+
+  either : (b : Bool) (x y : Asking Outcome) → IsFree x → IsFree y → IsFree (if b then x else y)
+  either true x y h k = h
+  either false x y h k = k
+
+  busy : (m : ℕ) (step : LaneMap → Asking Outcome) → ((o : LaneMap) → IsFree (step o)) → IsFree (unless_busy m l step)
+  busy m step h =
+      absent (get l.maps m) (λ o. if is_idle o.stage then step o else refused MapBusy 0 l) (λ o.
+      either (is_idle o.stage) (step o) (refused MapBusy 0 l) (h o) (record { is = refl }))
+
+  unloaded : (m : ℕ) (step : LaneMap → Asking Outcome) → ((o : LaneMap) → IsFree (step o)) →
+      IsFree (unless_unloaded m l step)
+  unloaded m step h =
+      absent (get l.maps m) (λ o. if is_loaded o.stage then step o else refused NotLoaded 0 l) (λ o.
+      either (is_loaded o.stage) (step o) (refused NotLoaded 0 l) (h o) (record { is = refl }))
+
+  past : (m off len : ℕ) (x : Asking Outcome) → IsFree x → IsFree (unless_past m off len l x)
+  past m off len x h =
+      either (nat_le (off + len) (load_length l m)) x (refused PastEnd (load_length l m - off) l) h
+      (record { is = refl })
+
+  -- ---- operations and items
+
+  tag_or-free : (t : Option TagLimits) → IsFree (tag_or_invalid t l)
+  tag_or-free None = (record { is = refl })
+  tag_or-free (Some t) = either (could_bounce t l.maxmem && allocnow t.flags) _ _ (record { is = refl })
+      (record { is = refl })
+
+  tag-free : (parent : Option ℕ) (limits : TagLimits) → IsFree (tag parent limits l)
+  tag-free None limits = tag_or-free (effective None limits)
+  tag-free (Some p) limits = absent (get l.tags p) _ (λ (x : LaneTag). tag_or-free (effective (Some x.limits) limits))
+
+  tag_destroy-free : (t : ℕ) → IsFree (tag_destroy t l)
+  tag_destroy-free t = absent (get l.tags t) _ (λ x. either (has_maps l t) _ _ (record { is = refl })
+      (record { is = refl }))
+
+  map-free : (t : ℕ) → IsFree (map t l)
+  map-free t = absent (get l.tags t) _ (λ (o : LaneTag). either (could_bounce o.limits l.maxmem) _ _
+      (record { is = refl }) (record { is = refl }))
+
+  end-free : (m : ℕ) (zone : Option ℕ) → IsFree (end_map m zone l)
+  end-free m None = (record { is = refl })
+  end-free m (Some z) = (record { is = refl })
+
+  map_destroy-free : (m : ℕ) → IsFree (map_destroy m l)
+  map_destroy-free m =
+      absent (get l.maps m) _ (λ (o : LaneMap). either (is_idle o.stage) _ _ (end-free m o.zone)
+      (record { is = refl }))
+
+  await-free : (m : ℕ) → IsFree (await m l)
+  await-free m = absent (get l.maps m) _ (λ (o : LaneMap). either o.tried _ _ (record { is = refl })
+      (record { is = refl }))
+
+  load-free : (m : ℕ) (x : Asked) → IsFree (load m x l)
+  load-free m x =
+      busy m _ (λ o.
+      judged x.judged _ (
+      either (nat_lt (limits_of l o).maxsize x.len) _ _ (record { is = refl })
+      (either (need_of (chunks_for l o (contains_key l.mems m) x.entries) == 0) _ _ (record { is = refl })
+      (record { is = refl }))))
+
+  load_buffer-free : (m : ℕ) (x : Buffer) (flags : ℕ) (items : List Item) → IsFree (load_buffer m x flags items l)
+  load_buffer-free m x flags items = absent (bio_at l x) _ (λ b. load-free m (asked m b (never_waits x flags) items l))
+
+  part-free : (m : ℕ) (o : LaneMap) (off len ops : ℕ) → IsFree (sync_part m o off len ops l)
+  part-free m o off len ops =
+      either (is_mixed ops) _ _ (record { is = refl }) (judged (sync_answer l.loans m off len ops)
+      (gives (record l {
+        loans = synced l.loans m off len ops;
+        memory = forgotten (lost l.loans m off len ops) l.memory;
+        shares = counted (copies off len ops o.stage) o.zone l.shares;
+      }) answer.Done) (record { is = refl }))
+
+  sync-free : (m ops : ℕ) → IsFree (sync m ops l)
+  sync-free m ops = unloaded m _ (λ o. part-free m o 0 (load_length l m) ops)
+
+  sync_range-free : (m off len ops : ℕ) → IsFree (sync_range m off len ops l)
+  sync_range-free m off len ops = unloaded m _ (λ o. past m off len _ (part-free m o off len ops))
+
+  cpu_read-free : (place : Place) (len : ℕ) → IsFree (cpu_read place len l)
+  cpu_read-free place len =
+      absent (virtual_at l place) _ (λ va.
+      judged (reached l va len) _ (
+      judged (cpu_read_answer (is_known l.memory) l.loans (bytes_at l (run_of va len)))
+      (gives l (answer.Bytes (values l (bytes_at l (run_of va len))))) (record { is = refl })))
+
+  cpu_write-free : (place : Place) (vs : List ℕ) → IsFree (cpu_write place vs l)
+  cpu_write-free place vs =
+      absent (virtual_at l place) _ (λ va.
+      judged (reached l va (length vs)) _ (
+      judged (cpu_write_answer l.loans (bytes_at l (run_of va (length vs))))
+      (gives (record l { memory = written (bytes_at l (run_of va (length vs))) vs l.memory }) answer.Done)
+      (record { is = refl })))
+
+  dev_read-free : (m off len : ℕ) → IsFree (dev_read m off len l)
+  dev_read-free m off len =
+      unloaded m _ (λ o. past m off len _ (
+      judged (dev_read_answer (is_known l.memory) (loan_of l.loans m) off len)
+      (gives l (answer.Bytes (values l (load_bytes l.loans m off len)))) (record { is = refl })))
+
+  dev_write-free : (m off : ℕ) (vs : List ℕ) → IsFree (dev_write m off vs l)
+  dev_write-free m off vs =
+      unloaded m _ (λ o. past m off (length vs) _ (
+      judged (dev_write_answer (loan_of l.loans m) off (length vs))
+      (gives (record l { memory = written (load_bytes l.loans m off (length vs)) vs l.memory }) answer.Done)
+      (record { is = refl })))
+
+  operation-free : (o : Op) → IsFree (operation o l)
+  operation-free (op.Tag name parent limits) = tag-free parent limits
+  operation-free (op.TagDestroy t) = tag_destroy-free t
+  operation-free (op.Map name t) = map-free t
+  operation-free (op.MapDestroy m) = map_destroy-free m
+  operation-free (op.Load m buffer flags items) = load_buffer-free m buffer flags items
+  operation-free (op.Unload m) = unloaded m _ (λ o. (record { is = refl }))
+  operation-free (op.Sync m ops) = sync-free m ops
+  operation-free (op.SyncRange m off len ops) = sync_range-free m off len ops
+  operation-free (op.CpuRead place len) = cpu_read-free place len
+  operation-free (op.CpuWrite place bytes) = cpu_write-free place (bytes_of bytes)
+  operation-free (op.Await m) = await-free m
+
+  transfer-free : (i : Item) → IsFree (transfer i l)
+  transfer-free (item.Sync m ops) = sync-free m ops
+  transfer-free (item.SyncRange m off len ops) = sync_range-free m off len ops
+  transfer-free (item.DevRead m off len) = dev_read-free m off len
+  transfer-free (item.DevWrite m off bytes) = dev_write-free m off (bytes_of bytes)
+
+  -- ---- turns
+
+  next-shape : (o : Option Op) → Shape l (next_operation o l)
+  next-shape None = inr refl
+  next-shape (Some o) = by (waits o l)
+    where
+      goes : (x : Asking Outcome) → IsFree x → Shape l (goes_on (advanced l.place) x)
+      goes (Gives y) h = inl refl
+      goes (Asks c k) h = inr (h.is, λ r. refl)
+
+      by : (b : Bool) → Shape l (if b then Gives (stays Blocked l) else goes_on (advanced l.place) (operation o l))
+      by true = inr refl
+      by false = goes (operation o l) (operation-free o)
+
+  script-shape : (rs : List Return) → Shape l (script_turn rs l)
+  script-shape [] = next-shape (slice_get l.script l.place)
+  script-shape (x ∷ rest) = inr (refl, λ r. refl)
+
+  queue-shape : (qs : List QueuedItem) → Shape l (transfer_turn qs l)
+  queue-shape [] = inr refl
+  queue-shape (q ∷ rest) = goes (transfer q.item l) (transfer-free q.item)
+    where
+      goes : (x : Asking Outcome) → IsFree x → Shape l (goes_on (left_queue q rest) x)
+      goes (Gives y) h = inl refl
+      goes (Asks c k) h = inr (h.is, λ r. refl)
+
+  pub turn-shape : (s : Side) → Shape l (lane_step l s)
+  turn-shape side.Script = script-shape l.returns
+  turn-shape side.Transfer = queue-shape l.queue
+  turn-shape side.Callback = inl (refl, refl)
+
+  -- a callback that was taken is a step
+  pub taken-steps : (ws : List Waiter) (a : Account) → is_kept call.TakeCallback (called_from ws l.id a).reply ≡ true →
+      is_step (called_back l (called_from ws l.id a).reply).turn ≡ true
+  taken-steps [] a h = absurd (cc)
+  taken-steps (x ∷ ws) a h = by (x.map.lane.0 == l.id) refl h
+    where
+      by : (b : Bool) → (x.map.lane.0 == l.id) ≡ b →
+          is_kept call.TakeCallback (called_from (x ∷ ws) l.id a).reply ≡ true →
+          is_step (called_back l (called_from (x ∷ ws) l.id a).reply).turn ≡ true
+      by true e h = rw e refl
+      by false e h = absurd (cc)

@@ -1,0 +1,159 @@
+//! A driver at work at a door.
+
+ghost use Rattle.std.specs.Prelude.{◌≡◌, []};
+ghost use Rattle.busdma_base.specs.Bounce.LaneEntries.{of_lane};
+ghost use Rattle.lane_core.specs.LaneIdeal.{ideal};
+ghost use Rattle.lane_core.specs.Turning.{IsServed};
+ghost use Rattle.lane_rounds.specs.AtWork.{IsAtWork, Works, logged, place_of};
+
+use crate::gate::Gate;
+use busdma_base::{HubDoor, JournalEntry, LaneId, Side};
+use lane_core::{Lane, Turn};
+use lane_merge::{LaneLog, LoggedStep};
+use std::alloc::{AllocError, Global};
+use std::collections::VecDeque;
+use std::snapshot::Snapshot;
+use std::sync::Wait;
+
+/// A driver, its door to the bounce lock, and the log of its steps.
+#[derive(Drop)]
+pub struct Worker<'s, D: HubDoor + Drop> {
+    pub(crate) first: Snapshot<Lane<'s>>,
+    id: LaneId,
+    pub(crate) lane: Lane<'s>,
+    pub(crate) door: D,
+    pub(crate) log: LaneLog,
+    turns: u64,
+    stepped: bool,
+    failed: bool,
+}
+
+/// A step as a log has it, with whether it held.
+fn logged(entry: JournalEntry, held: bool) -> LoggedStep
+    ensures { result ≡ logged entry held }
+{
+    if held {
+        LoggedStep::Held(entry)
+    } else {
+        LoggedStep::Local(entry)
+    }
+}
+
+/// What is left of a worker that has done its work.
+#[derive(Drop)]
+pub struct Finished<'s, D: Drop> {
+    pub lane: Lane<'s>,
+    pub door: D,
+    pub log: LaneLog,
+    pub turns: u64,
+}
+
+impl<'s, D: HubDoor + Drop> Worker<'s, D> {
+    /// A driver of this number that has made no step yet. Takes no memory.
+    pub fn new(alloc: Global, id: LaneId, lane: Lane<'s>, door: D) -> Worker<'s, D>
+        requires served { IsServed (ideal lane) (D.seen door) }
+        requires none { of_lane (ideal lane).id (D.seen door).history ≡ [] }
+        ensures works { Works D.seen result }
+        ensures place { place_of D.fixed result ≡ record { first = ideal lane.entry; fixed = D.fixed door } }
+    {
+        Worker {
+            first: Snapshot::of(&lane),
+            id,
+            lane,
+            door,
+            log: VecDeque::new(alloc),
+            turns: 0,
+            stepped: false,
+            failed: false,
+        }
+    }
+
+    /// The turn of a side, behind the gate. Tells whether it was a step. Want of memory leaves the
+    /// driver and its log as they were.
+    fn turn<G: Gate>(&mut self, alloc: Global, gate: &G, side: Side) -> Result<bool, AllocError>
+        requires { Works D.seen self.old }
+        ensures works { Works D.seen self.new }
+        ensures place { place_of D.fixed self.new ≡ place_of D.fixed self.old }
+    {
+        gate.at(self.id, self.turns);
+        self.turns = self.turns.saturating_add(1);
+        self.log.reserve(1)?;
+        let turn = self.lane.turn(alloc, &mut self.door, side)?;
+        match turn {
+            Turn::Stepped { entry, held } => {
+                self.log.push_back_reserved(logged(entry, held));
+                Ok(true)
+            }
+            Turn::Blocked | Turn::Ended => Ok(false),
+        }
+    }
+
+    /// A turn of each side. Tells whether any was a step.
+    fn cycle<G: Gate>(&mut self, alloc: Global, gate: &G) -> Result<bool, AllocError>
+        requires { Works D.seen self.old }
+        ensures works { Works D.seen self.new }
+        ensures place { place_of D.fixed self.new ≡ place_of D.fixed self.old }
+    {
+        let called = self.turn(alloc, gate, Side::Callback)?;
+        let moved = self.turn(alloc, gate, Side::Transfer)?;
+        let went_on = self.turn(alloc, gate, Side::Script)?;
+        Ok(called || moved || went_on)
+    }
+
+    /// Cycles until one makes no step. Tells whether any did.
+    fn cycles<R: Wait, G: Gate>(
+        &mut self,
+        rt: &R,
+        alloc: Global,
+        gate: &G,
+    ) -> Result<bool, AllocError>
+        requires { Works D.seen self.old }
+        ensures works { Works D.seen self.new }
+        ensures place { place_of D.fixed self.new ≡ place_of D.fixed self.old }
+    {
+        let mut stepped = false;
+        for _ in rt.forever() {
+            if !self.cycle(alloc, gate)? {
+                break;
+            }
+            stepped = true;
+        }
+        Ok(stepped)
+    }
+
+    /// The driver's round: cycles until one makes no step, or memory is wanting.
+    pub fn round<R: Wait, G: Gate>(&mut self, rt: &R, alloc: Global, gate: &G)
+        requires { Works D.seen self.old }
+        ensures works { Works D.seen self.new }
+        ensures place { place_of D.fixed self.new ≡ place_of D.fixed self.old }
+    {
+        match self.cycles(rt, alloc, gate) {
+            Ok(stepped) => self.stepped = stepped,
+            Err(AllocError) => self.failed = true,
+        }
+    }
+
+    /// Whether the last round made a step.
+    pub fn has_stepped(&self) -> bool {
+        self.stepped
+    }
+
+    /// Whether memory was wanting in a round.
+    pub fn has_failed(&self) -> bool {
+        self.failed
+    }
+
+    /// The driver, its door, its log and the number of its turns.
+    pub fn finish(self) -> Finished<'s, D>
+        requires { Works D.seen self }
+        ensures work { IsAtWork (place_of D.fixed self.entry).first (ideal result.lane) result.log.items (D.seen result.door) }
+        ensures fixed { D.fixed result.door ≡ (place_of D.fixed self.entry).fixed }
+    {
+        Finished {
+            lane: self.lane,
+            door: self.door,
+            log: self.log,
+            turns: self.turns,
+        }
+    }
+}
