@@ -1,7 +1,7 @@
 -- What a turn is: it steps or leaves its driver as it was, and only the turn of the callbacks asks for a callback.
 use Rattle.std.proofs.Common.{◌≡◌, ℕ, ◌+◌, ◌-◌, ◌==◌, ◌&&◌, Bool, true, false, List, [], ◌∷◌, length, nat_le, nat_lt}
 use Rattle.std.proofs.Common.{Option, Some, None, if◌then◌else◌, inl, inr, ◌⊎◌, refl, slice_get}
-use Rattle.std.specs.FinMap.{get, remove, contains_key}
+use Rattle.std.specs.FinMap.{get, contains_key}
 use Rattle.busdma_base.specs.declared.bounce.hold.HubCall.{HubCall}
 use Rattle.busdma_base.specs.declared.bounce.hold.HubCall.TheVariants as call
 use Rattle.busdma_base.specs.declared.bounce.hold.HubReply.{HubReply}
@@ -12,7 +12,6 @@ use Rattle.busdma_base.specs.declared.journals.journal.Side.TheVariants as side
 use Rattle.busdma_base.specs.declared.journals.report.Judged.{Judged}
 use Rattle.busdma_base.specs.declared.journals.report.Judged.TheVariants.{Fine, Refused}
 use Rattle.busdma_base.specs.declared.journals.report.ReportName.TheVariants.{MapBusy, NotLoaded, PastEnd}
-use Rattle.busdma_base.specs.declared.machine.chunk.Chunk.{Chunk}
 use Rattle.busdma_base.specs.declared.scenarios.buffer.Buffer.{Buffer}
 use Rattle.busdma_base.specs.declared.scenarios.script.Item.{Item}
 use Rattle.busdma_base.specs.declared.scenarios.script.Item.TheVariants as item
@@ -38,7 +37,7 @@ use Rattle.ideal_lane.specs.State.{LaneState, LaneMap, LaneTag}
 use Rattle.ideal_lane.specs.Accesses.{cpu_read, cpu_write, dev_read, dev_write, values}
 use Rattle.ideal_lane.specs.Asking.{Asking, Gives, Asks, goes_on}
 use Rattle.ideal_lane.specs.IdealMemory.{forgotten, is_known, written}
-use Rattle.ideal_lane.specs.Loads.{Asked, asked, limits_of, chunks_for, load_chunks, load}
+use Rattle.ideal_lane.specs.Loads.{Asked, asked, limits_of, chunks_for, load}
 use Rattle.ideal_lane.specs.Maps.{map, end_map, map_destroy, await}
 use Rattle.ideal_lane.specs.Outcomes.{Outcome, gives, refused, unless_absent, unless_refused, unless_busy}
 use Rattle.ideal_lane.specs.Outcomes.{unless_unloaded}
@@ -50,7 +49,6 @@ use Rattle.ideal_lane.specs.Turns.{Turn, Turned, Stepped, Blocked, Ended, stays,
 use Rattle.ideal_lane.specs.Turns.{operation, transfer}
 use Rattle.ideal_lane.specs.Turns.{waits, advanced, left_queue, next_operation, script_turn, transfer_turn}
 use Rattle.ideal_lane.specs.Turns.{called_back, lane_step}
-use Rattle.ideal_lane.specs.Unloads.{unload}
 
 -- a call takes a callback
 abbrev takes : HubCall → Bool
