@@ -191,8 +191,8 @@ pub each_loads_from : (pages : List PageRun) (n x : ℕ) → AllByRecursion (Loa
 each_loads_from pages n x =
     let ops : List Op = rounds n x in
     let each : AllByRecursion (LoadsFrom pages) ops =
-        all_rounds (LoadsFrom pages) (round_at x)
-        (λ r. round_cases (AllByRecursion (LoadsFrom pages)) (λ t small. (tt, (tt, (tt, (tt, tt)))))
-        (λ t small. (tt, (tt, (tt, (tt, tt))))) _ _)
-        (run_of 0 n) in
+    all_rounds (LoadsFrom pages) (round_at x)
+    (λ r. round_cases (AllByRecursion (LoadsFrom pages)) (λ t small. (tt, (tt, (tt, (tt, tt)))))
+    (λ t small. (tt, (tt, (tt, (tt, tt))))) _ _)
+    (run_of 0 n) in
     (tt, (tt, (tt, each)))
