@@ -1,3 +1,4 @@
 mod Changes
 mod Cutting
 mod Rows
+mod Silent

@@ -1,4 +1,6 @@
 pub mod Ideal
+pub mod Loading
 pub mod Rows
 pub mod Stages
+pub mod Turning
 pub mod Ways

@@ -1,7 +1,7 @@
 //! How the bytes of a load are cut, by lists.
 
-ghost use Rattle.std.specs.Prelude.{◌≡◌, ◌+◌, ◌^◌, ◌≤◌, ◌<◌, true, take, drop, IfOk};
-ghost use Rattle.busdma_base.specs.Runs.{addresses, run_of};
+ghost use Rattle.std.specs.Prelude.{◌≡◌, ◌+◌, ◌^◌, ◌≤◌, take, drop, IfOk};
+ghost use Rattle.busdma_base.specs.Runs.{addresses, byte_count, run_of};
 ghost use Rattle.busdma_base.specs.Tags.Tag.{needs_bounce};
 ghost use Rattle.busdma_base.specs.Tags.TagFlags.{keep_pg_offset};
 ghost use Rattle.phys_memory.specs.Extents.{extents_of, with_byte};
@@ -10,7 +10,7 @@ ghost use Rattle.segment_build.specs.Chunks as cut;
 use crate::lists::{joined, small};
 use crate::tags::could_bounce;
 use bitflags::Flags;
-use busdma_base::{Chunk, Extent, Pa, TagLimits};
+use busdma_base::{Chunk, Entry, Extent, Pa, TagLimits};
 use dma_tag::TagFlags;
 use std::alloc::{AllocError, Global};
 
@@ -31,7 +31,7 @@ fn with_byte(alloc: Global, pa: u64, extents: &[Extent]) -> Result<Vec<Extent>, 
 }
 
 /// The extents of the bytes at these physical addresses.
-fn extents_of(alloc: Global, bytes: &[u64]) -> Result<Vec<Extent>, AllocError>
+pub(crate) fn extents_of(alloc: Global, bytes: &[u64]) -> Result<Vec<Extent>, AllocError>
     ensures { IfOk result (λ v. v.items ≡ extents_of bytes.now) }
 {
     let Some((first, rest)) = bytes.split_first() else {
@@ -68,14 +68,6 @@ pub(crate) fn addresses(alloc: Global, extents: &[Extent]) -> Result<Vec<u64>, A
     joined(alloc, &head, &others)
 }
 
-/// The bytes of the entry of these bytes.
-pub(crate) fn entry_bytes(alloc: Global, bytes: &[u64]) -> Result<Vec<u64>, AllocError>
-    ensures { IfOk result (λ v. v.items ≡ addresses (extents_of bytes.now)) }
-{
-    let extents = extents_of(alloc, bytes)?;
-    addresses(alloc, &extents)
-}
-
 /// The device cannot use the byte at an address where it is.
 fn needs_bounce(tag: &TagLimits, maxmem: u64, pa: u64) -> bool
     requires { 1 ≤ tag.now.alignment }
@@ -101,14 +93,14 @@ fn to_frame_end(pa: u64) -> u64
     4096 - pa % 4096
 }
 
-/// The most bytes of a chunk of a rounded entry whose first address is this.
-fn chunk_limit(tag: &TagLimits, maxmem: u64, pa: u64) -> u128
+/// The most bytes of a chunk whose first address is this, in an entry that is rounded or not.
+fn chunk_limit(tag: &TagLimits, maxmem: u64, rounded: bool, pa: u64) -> u128
     requires { 1 ≤ tag.now.alignment }
-    ensures is { result ≡ cut.chunk_limit tag.now maxmem true pa }
+    ensures is { result ≡ cut.chunk_limit tag.now maxmem rounded pa }
     ensures low { result ≤ 2 ^ 66 }
 {
     let left = to_frame_end(pa);
-    if needs_bounce(tag, maxmem, pa) && !keeps(tag) {
+    if needs_bounce(tag, maxmem, pa) && rounded && !keeps(tag) {
         let alignment = tag.alignment as u128;
         (left as u128 + alignment - 1) / alignment * alignment
     } else {
@@ -168,19 +160,20 @@ fn chunk_of(tag: &TagLimits, maxmem: u64, at: u64, bytes: &[u64]) -> Chunk
     }
 }
 
-/// The chunks of these bytes of a rounded entry, at most so many, of which the first is at a place of
-/// the load. Err also where a place has more than 64 bits.
+/// The chunks of these bytes of an entry, at most so many, of which the first is at a place of the
+/// load. Err also where a place has more than 64 bits.
 #[tactic(auto, using(crate::proofs::Cutting::next_chunk))]
-pub(crate) fn chunks_within(
+fn chunks_within(
     alloc: Global,
     count: usize,
     tag: &TagLimits,
     maxmem: u64,
+    rounded: bool,
     at: u64,
     bytes: &[u64],
 ) -> Result<Vec<Chunk>, AllocError>
     requires { 1 ≤ tag.now.alignment }
-    ensures { IfOk result (λ v. v.items ≡ cut.chunks_within count tag.now maxmem true at bytes.now) }
+    ensures { IfOk result (λ v. v.items ≡ cut.chunks_within count tag.now maxmem rounded at bytes.now) }
 {
     if count == 0 {
         return Ok(Vec::new(alloc));
@@ -188,12 +181,60 @@ pub(crate) fn chunks_within(
     let Some((first, _)) = bytes.split_first() else {
         return Ok(Vec::new(alloc));
     };
-    let most = chunk_limit(tag, maxmem, *first);
+    let most = chunk_limit(tag, maxmem, rounded, *first);
     let head = chunk_of(tag, maxmem, at, front(bytes, most));
     let next = small(at as u128 + most)?;
-    let others = chunks_within(alloc, count - 1, tag, maxmem, next, behind(bytes, most))?;
+    let rest = behind(bytes, most);
+    let others = chunks_within(alloc, count - 1, tag, maxmem, rounded, next, rest)?;
     let chunks = joined(alloc, &[head], &others)?;
     Ok(chunks)
+}
+
+/// How many bytes extents have. Err where the number has more than 64 bits.
+fn byte_count(extents: &[Extent]) -> Result<u64, AllocError>
+    ensures { IfOk result (λ n. n ≡ byte_count extents.now) }
+{
+    let Some((first, rest)) = extents.split_first() else {
+        return Ok(0);
+    };
+    let others = byte_count(rest)?;
+    first.len.checked_add(others).ok_or(AllocError)
+}
+
+/// The chunks of entries, of which the first begins at a place of the load. Err also where a place has
+/// more than 64 bits.
+fn chunks_from(
+    alloc: Global,
+    tag: &TagLimits,
+    maxmem: u64,
+    at: u64,
+    entries: &[Entry],
+) -> Result<Vec<Chunk>, AllocError>
+    requires { 1 ≤ tag.now.alignment }
+    ensures { IfOk result (λ v. v.items ≡ cut.chunks_from tag.now maxmem at entries.now) }
+{
+    let Some((first, rest)) = entries.split_first() else {
+        return Ok(Vec::new(alloc));
+    };
+    let bytes = addresses(alloc, first.parts.as_slice())?;
+    let count = bytes.len();
+    let head = chunks_within(alloc, count, tag, maxmem, first.rounded, at, &bytes)?;
+    let next = at.checked_add(byte_count(first.parts.as_slice())?);
+    let others = chunks_from(alloc, tag, maxmem, next.ok_or(AllocError)?, rest)?;
+    joined(alloc, &head, &others)
+}
+
+/// The chunks of the entries of a load.
+pub(crate) fn chunks_of(
+    alloc: Global,
+    tag: &TagLimits,
+    maxmem: u64,
+    entries: &[Entry],
+) -> Result<Vec<Chunk>, AllocError>
+    requires { 1 ≤ tag.now.alignment }
+    ensures { IfOk result (λ v. v.items ≡ cut.chunks_of tag.now maxmem entries.now) }
+{
+    chunks_from(alloc, tag, maxmem, 0, entries)
 }
 
 /// How many of these chunks are bounced.

@@ -3,17 +3,24 @@
 #![tactic(auto)]
 
 mod accesses;
+mod asked;
+mod bios;
 mod by_place;
 mod chunks;
 mod content;
+mod items;
 mod lane;
 mod lending;
 mod lists;
+mod loads;
 mod maps;
+mod operations;
 mod pieces;
 mod places;
 mod syncs;
 mod tags;
+mod turns;
 mod unloads;
 
 pub use lane::PlainLane;
+pub use turns::{PlainStep, PlainTurn};

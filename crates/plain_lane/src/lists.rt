@@ -2,6 +2,7 @@
 
 ghost use Rattle.std.specs.Prelude.{◌≡◌, ◌++◌, IfOk};
 ghost use Rattle.lane_agreement.specs.After.{addresses};
+ghost use Rattle.busdma_base.specs.Bounce.AccountStep.{as_pages};
 
 use busdma_base::Pa;
 use std::alloc::{AllocError, Global};
@@ -32,4 +33,11 @@ pub(crate) fn addresses(alloc: Global, pages: &[Pa]) -> Result<Vec<u64>, AllocEr
     ensures { IfOk result (λ v. v.items ≡ addresses pages.now) }
 {
     pages.iter().map(|page| page.0).collect(alloc)
+}
+
+/// These addresses as physical ones.
+pub(crate) fn as_pages(alloc: Global, pages: &[u64]) -> Result<Vec<Pa>, AllocError>
+    ensures { IfOk result (λ v. v.items ≡ as_pages pages.now) }
+{
+    pages.iter().map(|page| Pa(*page)).collect(alloc)
 }

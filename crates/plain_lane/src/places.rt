@@ -4,7 +4,6 @@ ghost use Rattle.std.specs.Prelude.{◌≡◌, ◌+◌, ◌^◌, ◌<◌, ◌≤
 ghost use Rattle.busdma_base.specs.Journals.Judging.{judged};
 ghost use Rattle.busdma_base.specs.Machine.PageRuns.{is_in_run, physical_in};
 ghost use Rattle.busdma_base.specs.Runs.{run_of};
-ghost use Rattle.phys_memory.specs.Extents.{reached};
 ghost use Rattle.phys_memory.specs.Translation.{unreached};
 ghost use Rattle.ideal_lane.specs.Places as places;
 ghost use Rattle.plain_lane.specs.Ideal.{ideal};
@@ -92,24 +91,6 @@ impl PlainLane<'_> {
         }
         let first = small(self.physical(va).unwrap_or(0))?;
         let others = self.bytes_at(alloc, va + 1, len - 1)?;
-        let bytes = joined(alloc, &[first], &others)?;
-        Ok(bytes)
-    }
-
-    /// The physical addresses of bytes, up to the first that the driver does not reach. Err also
-    /// where one has more than 64 bits.
-    pub(crate) fn reached(&self, alloc: Global, va: u128, len: u64) -> Result<Vec<u64>, AllocError>
-        requires { va + len ≤ 2 ^ 65 }
-        ensures { IfOk result (λ v. v.items ≡ reached (places.physical (ideal self.now)) va len) }
-    {
-        if len == 0 {
-            return Ok(Vec::new(alloc));
-        }
-        let Some(first) = self.physical(va) else {
-            return Ok(Vec::new(alloc));
-        };
-        let first = small(first)?;
-        let others = self.reached(alloc, va + 1, len - 1)?;
         let bytes = joined(alloc, &[first], &others)?;
         Ok(bytes)
     }

@@ -1,6 +1,6 @@
 //! Syncs of a map's load.
 
-ghost use Rattle.std.specs.Prelude.{◌≡◌, ◌+◌, ◌-◌, ◌^◌, ◌<◌, ◌&&◌, ◌||◌, nat_le, IfOk, IfSome, IsTrue, OnOk};
+ghost use Rattle.std.specs.Prelude.{◌≡◌, ℕ, ◌+◌, ◌-◌, ◌^◌, ◌<◌, ◌&&◌, ◌||◌, nat_le, IfOk, IfSome, IsTrue, OnOk};
 ghost use Rattle.std.specs.List.{list_any};
 ghost use Rattle.std.specs.FinMap.{get};
 ghost use Rattle.dma_tag.specs.SyncOps.{postread, prewrite};
@@ -10,11 +10,12 @@ ghost use Rattle.ideal_lane.specs.Asking.{Gives};
 ghost use Rattle.ideal_lane.specs.Outcomes.{load_length};
 ghost use Rattle.ideal_lane.specs.Syncs as syncs;
 ghost use Rattle.plain_lane.specs.Ideal.{given, ideal};
+ghost use Rattle.plain_lane.specs.Stages.{shares_from};
 
 use crate::lane::{PlainLane, PlainLoan, report};
 use crate::lending::{is_coherent, lost, marked_range, positions, sync_answer};
 use bitflags::Flags;
-use busdma_base::{Answer, Chunk, Judged, ReportName};
+use busdma_base::{Answer, Chunk, Judged, ReportName, ZoneId};
 use dma_tag::SyncOps;
 use std::alloc::{AllocError, Global};
 
@@ -46,6 +47,20 @@ fn has_bytes_of(off: u64, len: u64, bounced: &[Chunk]) -> bool
     ensures { result ≡ list_any (syncs.has_byte_of off len) bounced.now }
 {
     bounced.iter().any(|chunk| has_byte_of(off, len, chunk))
+}
+
+/// The share of a zone after further syncs that copied, each by its zone, in order.
+fn share_after(copied: &[u32], before: u64, zone: u32) -> u64
+    ensures { (shares : ℕ → ℕ) → shares zone ≡ before → shares_from copied.now shares zone ≡ result }
+{
+    let Some((first, rest)) = copied.split_first() else {
+        return before;
+    };
+    if zone == *first {
+        share_after(rest, before.saturating_add(1), zone)
+    } else {
+        share_after(rest, before, zone)
+    }
 }
 
 impl PlainLane<'_> {
@@ -177,5 +192,12 @@ impl PlainLane<'_> {
             Some(_) => Ok(self.past_end(map, off)),
             None => Ok(report(ReportName::Absent, 0)),
         }
+    }
+
+    /// The driver's share of a zone's total_bounced: how many of its syncs copied.
+    pub fn bounced(&self, zone: ZoneId) -> u64
+        ensures { result ≡ (ideal self.now).shares zone.0 }
+    {
+        share_after(&self.copied, 0, zone.0)
     }
 }

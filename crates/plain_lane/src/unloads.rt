@@ -78,7 +78,7 @@ fn returning(map: u32, returns: &[PlainReturn]) -> usize
 }
 
 /// Where a map stands of which a page left the return queue.
-fn after_return(map: u32, rest: &[PlainReturn]) -> PlainStage
+pub(crate) fn after_return(map: u32, rest: &[PlainReturn]) -> PlainStage
     ensures { stage_of result ≡ unloads.after_return map rest.now }
 {
     if returning(map, rest) == 0 {

@@ -1,0 +1,154 @@
+//! What a load asks.
+
+ghost use Rattle.std.specs.Prelude.{◌≡◌, Some, None, [], option_map, IfOk};
+ghost use Rattle.dma_tag.specs.LoadFlags.{nowait};
+ghost use Rattle.ideal_lane.specs.Loads as loads;
+ghost use Rattle.ideal_lane.specs.State.{LaneState};
+ghost use Rattle.ideal_lane.specs.Turns as turns;
+ghost use Rattle.plain_lane.specs.Ideal.{ideal};
+ghost use Rattle.plain_lane.specs.Loading.{asked_of};
+
+use crate::bios::{bio_spans, span_bytes};
+use crate::lane::PlainLane;
+use bitflags::Flags;
+use busdma_base::{Bio, Buffer, Entry, Item, Judged, ListOf, Op, Place, Span};
+use dma_tag::LoadFlags;
+use std::alloc::{AllocError, Global};
+
+/// The judgement of the bytes of a load, its entries and how many bytes it has, whether it must not
+/// wait, and the items that its callback appends.
+#[derive(Debug, Drop)]
+pub(crate) struct PlainAsked<'s> {
+    pub(crate) judged: Judged,
+    pub(crate) entries: Vec<Entry>,
+    pub(crate) len: u64,
+    pub(crate) nowait: bool,
+    pub(crate) items: &'s [Item],
+}
+
+/// The same list again.
+fn listed<T: Copy>(alloc: Global, list: &ListOf<T>) -> Result<ListOf<T>, AllocError>
+    ensures { IfOk result (λ l. l ≡ list.now) }
+{
+    Ok(ListOf::new(Vec::from_slice(alloc, list.as_slice())?))
+}
+
+/// The same bio again.
+fn same_bio(alloc: Global, bio: &Bio) -> Result<Bio, AllocError>
+    ensures { IfOk result (λ b. b ≡ bio.now) }
+{
+    match bio {
+        Bio::Mapped(span) => Ok(Bio::Mapped(*span)),
+        Bio::Vector(spans) => Ok(Bio::Vector(listed(alloc, spans)?)),
+        Bio::Unmapped { frames, off, len } => Ok(Bio::Unmapped {
+            frames: listed(alloc, frames)?,
+            off: *off,
+            len: *len,
+        }),
+    }
+}
+
+/// The bytes of a buffer as those of a bio.
+fn bio_at(alloc: Global, buffer: &Buffer) -> Result<Bio, AllocError>
+    ensures { IfOk result (λ b. (l : LaneState) → turns.bio_at l buffer.now ≡ Some b) }
+{
+    match buffer {
+        Buffer::Flat { place, len } => {
+            let Place::At(va) = *place;
+            Ok(Bio::Mapped(Span { va, len: *len }))
+        }
+        Buffer::Vector(spans) => Ok(Bio::Vector(listed(alloc, spans)?)),
+        Buffer::Mbuf(chain) => Ok(Bio::Vector(listed(alloc, chain)?)),
+        Buffer::Bio(bio) => same_bio(alloc, bio),
+    }
+}
+
+/// The load of a buffer with these flags does not wait.
+fn never_waits(buffer: &Buffer, flags: u32) -> bool
+    ensures { result ≡ turns.never_waits buffer.now flags }
+{
+    match buffer {
+        Buffer::Flat { .. } | Buffer::Vector(_) | Buffer::Bio(_) => {
+            LoadFlags(flags).contains(LoadFlags::NOWAIT)
+        }
+        Buffer::Mbuf(_) => true,
+    }
+}
+
+impl<'s> PlainLane<'s> {
+    /// What a load of a bio asks.
+    fn asked(
+        &self,
+        alloc: Global,
+        map: u32,
+        bio: &Bio,
+        nowait: bool,
+        items: &'s [Item],
+    ) -> Result<PlainAsked<'s>, AllocError>
+        ensures { IfOk result (λ x. asked_of x ≡ loads.asked map bio.now nowait items.entry.now (ideal self.now)) }
+    {
+        let spans = bio_spans(alloc, bio)?;
+        Ok(PlainAsked {
+            judged: self.load_judged(alloc, map, bio)?,
+            entries: self.load_entries(alloc, bio)?,
+            len: span_bytes(&spans)?,
+            nowait,
+            items,
+        })
+    }
+
+    /// What the load of a buffer asks.
+    pub(crate) fn buffer_asked(
+        &self,
+        alloc: Global,
+        map: u32,
+        buffer: &Buffer,
+        flags: u32,
+        items: &'s [Item],
+    ) -> Result<PlainAsked<'s>, AllocError>
+        ensures { IfOk result (λ x. Some (asked_of x) ≡ option_map
+            (λ b. loads.asked map b (turns.never_waits buffer.now flags) items.entry.now (ideal self.now))
+            (turns.bio_at (ideal self.now) buffer.now)) }
+    {
+        let bio = bio_at(alloc, buffer)?;
+        self.asked(alloc, map, &bio, never_waits(buffer, flags), items)
+    }
+
+    /// What a load of no byte asks.
+    fn no_load(&self, alloc: Global) -> Result<PlainAsked<'s>, AllocError>
+        ensures { IfOk result (λ x. asked_of x ≡ turns.no_load (ideal self.now)) }
+    {
+        let bio = Bio::Vector(ListOf::new(Vec::new(alloc)));
+        self.asked(alloc, 0, &bio, false, &[])
+    }
+
+    /// What the load at a place of the script asks.
+    pub(crate) fn asked_at(&self, alloc: Global, load_at: u32) -> Result<PlainAsked<'s>, AllocError>
+        ensures { IfOk result (λ x. asked_of x ≡ turns.asked_at load_at (ideal self.now)) }
+    {
+        let script = self.script;
+        match script.get(load_at as usize) {
+            Some(
+                Op::Load {
+                    map,
+                    buffer,
+                    flags,
+                    then,
+                },
+            ) => self.buffer_asked(alloc, *map, buffer, *flags, then.as_slice()),
+            Some(
+                Op::Tag { .. }
+                | Op::TagDestroy { .. }
+                | Op::Map { .. }
+                | Op::MapDestroy { .. }
+                | Op::Unload { .. }
+                | Op::Sync { .. }
+                | Op::SyncRange { .. }
+                | Op::CpuRead { .. }
+                | Op::CpuWrite { .. }
+                | Op::Await { .. },
+            ) => self.no_load(alloc),
+            None => self.no_load(alloc),
+        }
+    }
+}
