@@ -1,4 +1,4 @@
+mod Calls
 mod Changes
 mod Cutting
 mod Rows
-mod Silent

@@ -115,7 +115,7 @@ impl PlainLane<'_> {
     }
 
     /// The call of the next operation of the script.
-    #[tactic(auto, using(crate::proofs::Silent::call_goes_on))]
+    #[tactic(auto, using(crate::proofs::Calls::call_goes_on))]
     fn next_call(&self, alloc: Global) -> Result<Option<HubCall>, AllocError>
         ensures { let l = ideal self.now in IfOk result (λ c. c
             ≡ call_of (turns.next_operation (slice_get l.script l.place) l)) }
@@ -249,7 +249,7 @@ impl PlainLane<'_> {
 
     /// The turn of a side where it makes no call, or else the call that it makes, and then the driver
     /// stays as it is. Err as in `go_on`.
-    #[tactic(auto, using(crate::proofs::Silent::gives_at_once))]
+    #[tactic(auto, using(crate::proofs::Calls::gives_at_once))]
     pub fn step(&mut self, alloc: Global, side: Side) -> Result<PlainStep, AllocError>
         ensures { IfOk result (IsStep self.old self.new (turns.lane_step (ideal self.old) side)) }
     {
