@@ -1,7 +1,7 @@
 -- What a table of values by script place finds, and how a put and a take change it.
 use Rattle.std.proofs.Common.{T, ◌≡◌, ◌≢◌, ◌⊎◌, ℕ, zero, suc, ◌+◌, ◌<◌, Bool, true, false, cond, ◌&&◌, List, [], ◌∷◌}
 use Rattle.std.proofs.Common.{length, get_or, set, replicate, Option, Some, None, IsSome, refl, sym, ap, subst, ◌∙◌}
-use Rattle.std.proofs.Common.{inl, inr, zero-add, arith}
+use Rattle.std.proofs.Common.{inl, inr, zero-add, arith, count_by, is_some}
 use Rattle.std.proofs.lemmas.Bool.{cases_eq, lt-ltb}
 use Rattle.std.proofs.lemmas.Bool.Decides.{nat_tests}
 use Rattle.std.proofs.lemmas.List.{get_or-set_same, get_or-set_other, get_or_past, length-set}
@@ -11,7 +11,8 @@ use Rattle.std.specs.Cmp.{nat_cmp_total}
 use Rattle.std.specs.FinMap.{FinMap, find, is_sorted, empty, get, get-empty, insert, remove, get-from_sorted}
 use Rattle.std.specs.FinMap.{get-insert, get-remove, same_map, nat_cmp-IsAntisymmetric}
 use Rattle.std.specs.FinMap.Entries.{below_all}
-use Rattle.slab.specs.Slab.{Slab, get as under, ContainsKey, Updates, entries_from}
+use Rattle.busdma_base.proofs.Accounts.Counting.{count_by-append}
+use Rattle.slab.specs.Slab.{Slab, get as under, ContainsKey, Updates, entries_from, slab_len}
 use Rattle.lane_tables.specs.Slots.{value_under, slots, by_place, IsKept}
 
 both : (a b : Bool) → T a → T b → T (a && b)
@@ -73,6 +74,22 @@ module _ {X : Type 0} where
       let later : find nat_cmp (first + suc at) (entries_from (first + 1) rest) ≡ get_or rest at None =
       rw shift (find-entries_from (first + 1) at rest) in
       rw (other_key (first + suc at) first (omega arith)) later
+
+  -- where no slot has a value, nothing is under any key
+  nothing_under : (slots : List (Option X)) (key : ℕ) → count_by is_some slots ≡ 0 → get_or slots key None ≡ None
+  nothing_under [] key none = refl
+  nothing_under (None ∷ rest) zero none = refl
+  nothing_under (None ∷ rest) (suc key) none = nothing_under rest key none
+  nothing_under (Some v ∷ rest) key none =
+      absurd (omega (arith, none, count_by-append is_some (Some v ∷ []) rest))
+
+  -- so a table of a slab without a value has no entry
+  pub no_entries : (first : ℕ) (keys : List (Option ℕ)) (slab : Slab X) → slab_len slab ≡ 0 →
+      entries_from first (slots keys slab) ≡ []
+  no_entries first [] slab none = refl
+  no_entries first (None ∷ keys) slab none = no_entries (first + 1) keys slab none
+  no_entries first (Some key ∷ keys) slab none =
+      rw (nothing_under slab.slots key none) (no_entries (first + 1) keys slab none)
 
   -- the table has at a place the value under the key that stands there
   pub get-by_place : (keys : List (Option ℕ)) (slab : Slab X) (place : ℕ) →

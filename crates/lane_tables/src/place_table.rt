@@ -100,6 +100,14 @@ impl<T> PlaceTable<T> {
         ensures rest { result ≡ map.entries self.now.map }
         ensures runs { ShowsInOrder (shown {T = T}) }
     {
+        // Where there is no value, no place is looked at.
+        if self.values.is_empty() {
+            return Iter {
+                keys: &[],
+                place: 0,
+                values: &self.values,
+            };
+        }
         Iter {
             keys: self.keys.as_slice(),
             place: 0,
