@@ -5,7 +5,6 @@ use Rattle.std.proofs.lemmas.List.Elements.{All-nil, All-cons, All-head, All-tai
 use Rattle.busdma_base.specs.declared.bounce.hold.HoldEntry.{HoldEntry}
 use Rattle.busdma_base.specs.declared.scenarios.scenario.Scenario.{Scenario}
 use Rattle.busdma_base.specs.Bounce.Account.{Account}
-use Rattle.busdma_base.specs.Bounce.Door.{Seen}
 use Rattle.busdma_base.specs.Bounce.History.{IsSound}
 use Rattle.busdma_base.specs.Bounce.LaneEntries.{of_lane}
 use Rattle.busdma_base.specs.Bounce.Opening.{opening}

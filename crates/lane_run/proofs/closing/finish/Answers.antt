@@ -1,5 +1,4 @@
-use Rattle.std.proofs.Common.{◌≡◌, ap, sym, ◌∙◌, subst, length}
-use Rattle.busdma_base.specs.declared.journals.journal.Journal.{Journal}
+use Rattle.std.proofs.Common.{◌≡◌, ap, sym, ◌∙◌, subst}
 use Rattle.ideal_world.specs.Legal.{ComesToRest, IsLegal, round_from, round_of}
 use Rattle.lane_run.specs.Closing.{ideal_run}
 use Rattle.lane_run.proofs.Closings.{rest-legal}

@@ -4,7 +4,7 @@ use Rattle.lane_core.specs.declared.lane.Lane.{Lane}
 use Rattle.lane_core.specs.LaneIdeal.{ideal}
 use Rattle.lane_merge.specs.Runs.{Log}
 use Rattle.lane_threads.specs.Closing.{LanePass}
-use Rattle.lane_threads.specs.PassDoor.{Place, place_of, seen}
+use Rattle.lane_threads.specs.PassDoor.{place_of, seen}
 use Rattle.lane_rounds.specs.AtWork.{IsAtWork, Works}
 use Rattle.lane_run.specs.Parked.{ArePassed}
 use Rattle.lane_run.specs.Seated.{Seat, seat_of}

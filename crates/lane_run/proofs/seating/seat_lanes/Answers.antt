@@ -1,6 +1,4 @@
-use Rattle.std.proofs.Common.{◌≡◌, ◌+◌, ◌++◌, [], ◌∷◌, List, length, sym, ap, ◌∙◌, subst, append_assoc, length-append, arith}
-use Rattle.ideal_lane.specs.State.{LaneState}
-use Rattle.lane_core.specs.LaneIdeal.{ideal}
+use Rattle.std.proofs.Common.{◌≡◌, ◌+◌, ◌++◌, [], ◌∷◌, length, sym, ap, ◌∙◌, subst, append_assoc, length-append, arith}
 use Rattle.lane_threads.specs.PassDoor as pass
 use Rattle.lane_threads.specs.Closing.{LanePass}
 use Rattle.lane_rounds.specs.AtWork.{Place}

@@ -1,16 +1,13 @@
-use Rattle.std.proofs.Common.{◌≡◌, ◌+◌, ◌≤◌, ◌<◌, ◌++◌, ℕ, List, [], All, length, drop, take, map, sym, ap, ◌∙◌, subst, arith, Some}
+use Rattle.std.proofs.Common.{◌≡◌, ◌+◌, ◌++◌, List, All, length, drop, take, map, sym, ap, ◌∙◌, subst, arith, Some}
 use Rattle.bounce_hub.specs.Seen.{HubSeen}
-use Rattle.busdma_base.specs.Bounce.Opening.{opening}
 use Rattle.turnstile.specs.Start.{start_of}
 use Rattle.lane_merge.specs.Runs.{Log}
 use Rattle.lane_threads.specs.Closing.{ClosesAfter, LanePass}
 use Rattle.lane_threads.specs.PassDoor.{seen}
 use Rattle.lane_rounds.specs.AtWork.{Works}
-use Rattle.lane_run.specs.Parked.{ArePassed}
-use Rattle.lane_run.specs.Seated.{AreFresh, AreSeated, Seat}
+use Rattle.lane_run.specs.Seated.{AreSeated}
 use Rattle.lane_run.proofs.Passing.{back, has-run, seated-back, tables}
-use Rattle.lane_run.proofs.Seats.{Rounded, few-lanes, fresh, rounded-works, seated-stays, seated-work, started}
-use Rattle.lane_run.proofs.threads.run_on_threads.Given.{Over}
+use Rattle.lane_run.proofs.Seats.{few-lanes, fresh, seated-work, started}
 use Rattle.lane_run.proofs.threads.run_on_threads.Goals as goal
 
 pub overflow_cast-names : goal.overflow_cast-names
