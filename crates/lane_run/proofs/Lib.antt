@@ -1,0 +1,4 @@
+pub mod Closings
+pub mod Passing
+pub mod Seats
+pub mod Sending

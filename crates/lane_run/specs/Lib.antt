@@ -1,0 +1,4 @@
+pub mod Closing
+pub mod Parked
+pub mod Seated
+pub mod Threads

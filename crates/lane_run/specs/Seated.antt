@@ -1,0 +1,45 @@
+-- Drivers that get their passes.
+use Rattle.std.specs.Prelude.{◌≡◌, ℕ, ◌+◌, List, [], ◌∷◌}
+use Rattle.busdma_base.specs.Bounce.LaneEntries.{of_lane}
+use Rattle.ideal_lane.specs.State.{LaneState}
+use Rattle.lane_core.specs.declared.lane.Lane.{Lane}
+use Rattle.lane_core.specs.LaneIdeal.{ideal}
+use Rattle.lane_core.specs.Turning.{IsServed}
+use Rattle.lane_threads.specs.Closing.{LanePass}
+use Rattle.lane_threads.specs.PassDoor as pass
+use Rattle.lane_threads.specs.PassDoor.{seen_from}
+use Rattle.lane_rounds.specs.declared.worker.Worker.{Worker}
+use Rattle.lane_rounds.specs.AtWork.{Place, Works, place_of}
+
+-- the driver has this number; a door with a pass of its name, which knows what the first pass does, serves it, and it
+-- has made no hold
+pub record IsFresh (first : LanePass) (i : ℕ) (l : LaneState) : Type 0 where
+  pub number : l.id ≡ i
+  pub served : IsServed l (seen_from first.start (i + 1) first.front)
+  pub none : of_lane l.id (seen_from first.start (i + 1) first.front).history ≡ []
+
+-- so it is of drivers, the first of which has this number
+abbrev pub AreFresh : LanePass → ℕ → List Lane → Type 0
+AreFresh first i [] = Unit {0}
+AreFresh first i (l ∷ ls) = IsFresh first i (ideal l) × AreFresh first (i + 1) ls
+
+-- a driver at work at the door of a pass
+abbrev pub Seat : Type 0
+Seat = Worker LanePass pass.Place
+
+-- its place
+abbrev pub seat_of : Seat → Place pass.Place
+seat_of w = place_of pass.place_of w
+
+-- it is at work, began as this driver, and its pass is one of the turnstile
+pub record IsSeated (first : LanePass) (l : Lane) (w : Seat) : Type 0 where
+  pub works : Works pass.seen w
+  pub began : (seat_of w).first ≡ ideal l
+  pub turnstile : (seat_of w).fixed.turnstile ≡ first.turnstile
+  pub start : (seat_of w).fixed.start ≡ first.start
+
+-- so it is of each driver
+abbrev pub AreSeated : LanePass → List Lane → List Seat → Type 0
+AreSeated first [] [] = Unit {0}
+AreSeated first (l ∷ ls) (w ∷ ws) = IsSeated first l w × AreSeated first ls ws
+AreSeated first _ _ = ⊥

@@ -1,0 +1,66 @@
+//! The drivers on threads.
+
+ghost use Rattle.std.specs.Prelude.{◌≡◌, ℕ, ◌<◌, All, IfOk, IfSome, length, map, slice_index_or};
+ghost use Rattle.busdma_base.specs.Scenarios.Valid.{IsValid};
+ghost use Rattle.lane_threads.specs.PassDoor.{place_of, seen};
+ghost use Rattle.lane_rounds.specs.AtWork.{GoesOn, Works};
+ghost use Rattle.lane_run.specs.Threads.{HasRun};
+
+use crate::parking::{Parked, park};
+use crate::seating::seat_lanes;
+use bounce_hub::Hub;
+use busdma_base::Scenario;
+use lane_rounds::{Gate, Worker, round_on_threads};
+use lane_threads::{HubObject, PassDoor, close_after};
+use std::alloc::{AllocError, Global};
+use std::sync::Wait;
+use std::thread::Threads;
+use turnstile::Turnstile;
+use world_core::opening_parts;
+
+/// Rounds on threads until one makes no step.
+fn all_rounds<Rt: Threads + Wait + Sync, G: Gate + Sync>(
+    rt: &Rt,
+    alloc: Global,
+    gate: &G,
+    workers: &mut [Worker<'_, PassDoor<'_, Rt>>],
+) -> Result<(), AllocError>
+    requires { All (Works seen) workers.old }
+    ensures len { length workers.new ≡ length workers.old }
+    ensures each { (i : ℕ) (w : _) → i < length workers.old →
+        GoesOn seen place_of (slice_index_or workers.old i w) (slice_index_or workers.new i w) }
+{
+    for _ in rt.forever() {
+        round_on_threads(rt, alloc, gate, workers);
+        if workers.iter().any(|worker| worker.has_failed()) {
+            return Err(AllocError);
+        }
+        if !workers.iter().any(|worker| worker.has_stepped()) {
+            break;
+        }
+    }
+    Ok(())
+}
+
+/// Runs the drivers of a scenario on threads until a round makes no step. None where a name of the
+/// turnstile was taken.
+pub(crate) fn run_on_threads<'s, Rt: Threads + Wait + Sync, G: Gate + Sync>(
+    rt: &Rt,
+    alloc: Global,
+    scenario: &'s Scenario,
+    gate: &G,
+) -> Result<Option<(Parked<'s>, Hub)>, AllocError>
+    requires { IsValid scenario.now }
+    ensures { IfOk result (λ r. IfSome r (λ ran.
+        HasRun scenario.now ran.0.lanes.items (map (λ l. l.items) ran.0.logs.items) ran.1)) }
+{
+    let (lanes, hub) = opening_parts(alloc, scenario)?;
+    let names = lanes.len() as u32 + 1;
+    let (turnstile, mut first) = Turnstile::new(alloc, HubObject::new(hub), names)?;
+    let Some(mut workers) = seat_lanes(rt, alloc, &turnstile, &mut first, lanes)? else {
+        return Ok(None);
+    };
+    all_rounds(rt, alloc, gate, workers.as_mut_slice())?;
+    let (parked, passes) = park(alloc, workers)?;
+    Ok(Some((parked, close_after(rt, turnstile, first, passes))))
+}

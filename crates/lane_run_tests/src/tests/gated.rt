@@ -1,0 +1,112 @@
+//! Two drivers on two threads, whose order a gate decides. A body that turns both on one thread, or
+//! that replays an order of its own, fails.
+
+use crate::tests::judging::is_legal;
+use crate::tests::opened::{TWO, read};
+use busdma_base::{Answer, Did, Grown, JournalEntry, LaneId, ZoneId};
+use lane_rounds::Gate;
+use lane_run::run_lanes;
+use std::alloc::Global;
+use std::process::Abort;
+use std::sync::Wait;
+use std::sync::atomic::{AtomicBool, Ordering};
+use std::test::Fail;
+use std::thread;
+use std::thread::Threads;
+use world_core::status;
+
+/// How often a wait looks at the most.
+const LOOKS: u32 = 1_000_000;
+
+/// Before its first turn each driver raises its flag and waits for the other's. Before its turn 9 the
+/// early driver sets the mark, for which the late one waits before its turn 1.
+#[derive(Drop)]
+struct EarlyAndLate {
+    early: LaneId,
+    flags: [AtomicBool; 2],
+    mark: AtomicBool,
+    missed: AtomicBool,
+}
+
+impl EarlyAndLate {
+    fn wait_for(&self, flag: &AtomicBool) {
+        for _ in 0..LOOKS {
+            if flag.load(Ordering::SeqCst) {
+                return;
+            }
+            thread::yield_now();
+        }
+        self.missed.store(true, Ordering::SeqCst);
+    }
+
+    fn meet(&self, lane: LaneId) {
+        let (own, other) = if lane == LaneId(0) { (0, 1) } else { (1, 0) };
+        self.flags[own].store(true, Ordering::SeqCst);
+        self.wait_for(&self.flags[other]);
+    }
+}
+
+impl Gate for EarlyAndLate {
+    fn at(&self, lane: LaneId, turn: u64) {
+        if turn == 0 {
+            self.meet(lane);
+        }
+        if lane == self.early && turn == 9 {
+            self.mark.store(true, Ordering::SeqCst);
+        }
+        if lane != self.early && turn == 1 {
+            self.wait_for(&self.mark);
+        }
+    }
+}
+
+/// How many pages the driver's map brought to zone 0; None where its map was not made there.
+fn grown(entries: &[JournalEntry], lane: LaneId) -> Option<u32> {
+    for entry in entries {
+        if entry.actor.lane == lane
+            && entry.did == Did::Op(1)
+            && let Answer::Grown(
+                Grown {
+                    zone,
+                    added,
+                    made: true,
+                },
+            ) = entry.answer
+        {
+            return (zone == ZoneId(0)).then_some(added);
+        }
+    }
+    None
+}
+
+fn runs<R: Threads + Wait + Sync + Abort>(
+    rt: &R,
+    alloc: Global,
+    early: LaneId,
+    late: LaneId,
+) -> Result<(), Fail> {
+    let scenario = read(rt, alloc, TWO)?;
+    let gate = EarlyAndLate {
+        early,
+        flags: [AtomicBool::new(false), AtomicBool::new(false)],
+        mark: AtomicBool::new(false),
+        missed: AtomicBool::new(false),
+    };
+    let journal = run_lanes(rt, alloc, &scenario, &gate)?;
+    assert!(rt; !gate.missed.load(Ordering::SeqCst));
+    assert!(rt; is_legal(alloc, &scenario, &journal)?);
+    assert!(rt; status(&journal) == 0);
+    assert!(rt; grown(journal.entries.as_slice(), early) == Some(2));
+    assert!(rt; grown(journal.entries.as_slice(), late) == Some(1));
+    Ok(())
+}
+
+#[test]
+fn the_first_driver_is_early(rt: HostRuntime) -> Result<(), Fail> {
+    runs(&rt, rt.alloc(), LaneId(0), LaneId(1))
+}
+
+#[test]
+fn the_second_driver_is_early(rt: HostRuntime) -> Result<(), Fail> {
+    runs(&rt, rt.alloc(), LaneId(1), LaneId(0))
+}

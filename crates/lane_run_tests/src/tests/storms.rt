@@ -1,0 +1,97 @@
+//! Storms on threads: of each, four drivers that contend for few bounce pages.
+
+ghost use Rattle.std.specs.Prelude.{◌≤◌};
+
+use crate::tests::judging::is_legal;
+use crate::tests::opened::Open;
+use busdma_base::End;
+use lane_run::run_lanes;
+use std::alloc::{AllocError, Global};
+use std::sync::Wait;
+use std::test::Fail;
+use std::thread::Threads;
+use storm::{storm_scenario, storms_are_valid};
+
+/// Whether the run of a storm on threads has a legal journal, and finishes.
+fn is_right<R: Threads + Wait + Sync>(
+    rt: &R,
+    alloc: Global,
+    n: u32,
+    seed: u64,
+) -> Result<bool, AllocError>
+    requires rounds { 1 ≤ n }
+    requires few { n ≤ 256 }
+    requires seed { 1 ≤ seed }
+{
+    let scenario = storm_scenario(alloc, n, seed)?;
+    storms_are_valid();
+    let journal = run_lanes(rt, alloc, &scenario, &Open)?;
+    Ok(journal.end == End::Finished && is_legal(alloc, &scenario, &journal)?)
+}
+
+/// Whether forty storms are right, of the seeds from this one on.
+fn forty<R: Threads + Wait + Sync>(rt: &R, alloc: Global, first: u64) -> Result<bool, AllocError>
+    requires low { 1 ≤ first }
+    requires high { first ≤ 1000 }
+{
+    for more in 0..40u64 {
+        if !is_right(rt, alloc, 1, first + more)? {
+            return Ok(false);
+        }
+    }
+    Ok(true)
+}
+
+#[test]
+fn the_first_forty_storms(rt: HostRuntime) -> Result<(), Fail> {
+    assert!(rt; forty(&rt, rt.alloc(), 1)?);
+    Ok(())
+}
+
+#[test]
+fn the_second_forty_storms(rt: HostRuntime) -> Result<(), Fail> {
+    assert!(rt; forty(&rt, rt.alloc(), 41)?);
+    Ok(())
+}
+
+#[test]
+fn the_third_forty_storms(rt: HostRuntime) -> Result<(), Fail> {
+    assert!(rt; forty(&rt, rt.alloc(), 81)?);
+    Ok(())
+}
+
+#[test]
+fn the_fourth_forty_storms(rt: HostRuntime) -> Result<(), Fail> {
+    assert!(rt; forty(&rt, rt.alloc(), 121)?);
+    Ok(())
+}
+
+#[test]
+fn the_fifth_forty_storms(rt: HostRuntime) -> Result<(), Fail> {
+    assert!(rt; forty(&rt, rt.alloc(), 161)?);
+    Ok(())
+}
+
+#[test]
+fn the_sixth_forty_storms(rt: HostRuntime) -> Result<(), Fail> {
+    assert!(rt; forty(&rt, rt.alloc(), 201)?);
+    Ok(())
+}
+
+#[test]
+fn the_seventh_forty_storms(rt: HostRuntime) -> Result<(), Fail> {
+    assert!(rt; forty(&rt, rt.alloc(), 241)?);
+    Ok(())
+}
+
+#[test]
+fn the_eighth_forty_storms(rt: HostRuntime) -> Result<(), Fail> {
+    assert!(rt; forty(&rt, rt.alloc(), 281)?);
+    Ok(())
+}
+
+#[test]
+fn a_larger_storm(rt: HostRuntime) -> Result<(), Fail> {
+    assert!(rt; is_right(&rt, rt.alloc(), 16, 7)?);
+    Ok(())
+}
