@@ -1,5 +1,6 @@
 -- A run goes on from what was merged to rest, and its journal is legal.
-use Rattle.std.proofs.Common.{◌≡◌, ℕ, zero, suc, ◌+◌, ◌<◌, ◌≤◌, Bool, true, false, ◌⊎◌, inl, inr, List, [], ◌∷◌, ◌++◌, length}
+use Rattle.std.proofs.Common.{◌≡◌, ℕ, zero, suc, ◌+◌, ◌<◌, ◌≤◌, Bool, true, false, ◌⊎◌, inl, inr, List, [], ◌∷◌, ◌++◌}
+use Rattle.std.proofs.Common.{length}
 use Rattle.std.proofs.Common.{map, Option, Some, None, refl, sym, ap, ◌∙◌, subst, arith, nat_lt}
 use Rattle.std.proofs.lemmas.Bool.Decides.{nat_tests}
 use Rattle.std.proofs.lemmas.Option.{slice_get_past}
@@ -53,10 +54,15 @@ merged-run s lanes logs hub entries valid h is =
     let here : last ≡ world_of lanes hub =
     (λ i. record { lanes = map ideal lanes; account = account_of (sym h.begins i) hub.history }) in
     let leads : Leads (opening_world s) (merged hub.history logs) last =
-    merged-leads (opening s) hub.history logs (opening_world s).lanes (map ideal lanes) (opening-numbered s) h.sound h.runs in
+    merged-leads (opening s) hub.history logs (opening_world s).lanes (map ideal lanes) (opening-numbered s) h.sound
+    h.runs in
     let ends : Leads (opening_world s) entries (world_of lanes hub) =
     subst (λ (x : List JournalEntry × WorldState). Leads (opening_world s) x.0 x.1) (λ i. (sym is i, here i)) leads in
-    record { leads = ends; well = leads-keep s (opening_world s) entries (world_of lanes hub) (opens-well s valid) ends }
+    record {
+      leads = ends;
+      well = leads-keep s (opening_world s) entries (world_of lanes hub) (opens-well s valid)
+          ends;
+    }
 
 -- where no turn was made
 pub opening-run : (s : Scenario) (w : WorldState) (entries : List JournalEntry) → IsValid s → w ≡ opening_world s →

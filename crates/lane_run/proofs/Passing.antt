@@ -1,5 +1,6 @@
 -- Drivers that left their doors ran by the hub's history.
-use Rattle.std.proofs.Common.{◌≡◌, ℕ, zero, suc, ◌+◌, ◌<◌, List, [], ◌∷◌, ◌++◌, length, map, take, drop, All, Some, refl, sym}
+use Rattle.std.proofs.Common.{◌≡◌, ℕ, zero, suc, ◌+◌, ◌<◌, List, [], ◌∷◌, ◌++◌, length, map, take, drop, All, Some}
+use Rattle.std.proofs.Common.{refl, sym}
 use Rattle.std.proofs.Common.{ap, ◌∙◌, subst, arith, slice_get, unwrap_or}
 use Rattle.std.proofs.lemmas.List.Elements.{All-nil, All-cons, All-head, All-tail, All-weaker}
 use Rattle.busdma_base.specs.declared.bounce.hold.HoldEntry.{HoldEntry}
@@ -37,7 +38,8 @@ passed-more (v ∷ ws) (k ∷ ls) (g ∷ logs) (r ∷ qs) w l log q h is same =
 passed-more _ _ _ _ w l log q h is same = absurd h
 
 -- the logs of drivers and of one more
-pub map-snoc : {Q : Type 0} (items : Q → Log) (qs : List Q) (q : Q) → map items (qs ++ q ∷ []) ≡ map items qs ++ items q ∷ []
+pub map-snoc : {Q : Type 0} (items : Q → Log) (qs : List Q) (q : Q) → map items (qs ++ q ∷ []) ≡ map items qs ++ items
+    q ∷ []
 map-snoc items [] q = refl
 map-snoc items (p ∷ qs) q = ap (λ ls. items p ∷ ls) (map-snoc items qs q)
 
@@ -85,7 +87,8 @@ Some-is l m e = ap (λ o. unwrap_or o l) e
 
 module _ (first : LanePass) (hub : HubSeen) where
   -- one driver ran by the hub's history, which has nothing more of it than its pass knew
-  one-run : (l m : Lane) (log : Log) (q : LanePass) → IsAtWork (ideal l) (ideal m) log (pass.seen q) → q.start ≡ first.start →
+  one-run : (l m : Lane) (log : Log) (q : LanePass) → IsAtWork (ideal l) (ideal m) log (pass.seen q) → q.start ≡
+      first.start →
       OthersCame first hub q → Runs (ideal l) log (of_lane (ideal l).id hub.history) (ideal m)
   one-run l m log q w start others =
       let p = others start in
@@ -123,7 +126,8 @@ has-run s names first ls ms logs qs hub start count opened f h c =
     c.begins ∙ ap (λ es. es ++ c.added) (ap (λ (x : Start HoldEntry Account). x.opening) same) in
     let n = counts first ls ms logs qs h in
     let drivers : All (λ e. e.lane.0 + 1 < names) hub.history =
-    subst (λ (x : ℕ × List HoldEntry). All (λ e. e.lane.0 + 1 < x.0) x.1) (λ i. ((same i).names, sym whole i)) c.drivers in
+    subst (λ (x : ℕ × List HoldEntry). All (λ e. e.lane.0 + 1 < x.0) x.1) (λ i. ((same i).names, sym whole i))
+    c.drivers in
     let others : All (OthersCame first hub) qs = All-tail (OthersCame first hub) first qs c.others in
     record {
       begins = opens;

@@ -46,11 +46,13 @@ module _ (s : Scenario) (valid : IsValid s) (names : ℕ) (first : LanePass) (st
         opening = begins;
         sound = tt;
         agrees =
-            subst (λ (x : LaneState). AgreesWith x (opening s)) (sym opens) (opens-agreeing s i o.driver begins o.there);
+            subst (λ (x : LaneState). AgreesWith x (opening s)) (sym opens)
+            (opens-agreeing s i o.driver begins o.there);
       } in
       record {
         number = number;
-        served = subst (λ (x : Option (Start HoldEntry Account) × List (ℕ × HoldEntry)). IsServed l (seen_from x.0 (i + 1) x.1))
+        served = subst (λ (x : Option (Start HoldEntry Account) × List (ℕ × HoldEntry)). IsServed l
+            (seen_from x.0 (i + 1) x.1))
             (λ k. (sym start k, sym front k)) served;
         none = (λ k. of_lane l.id (seen_from (start k) (i + 1) (front k)).history);
       }
@@ -62,7 +64,8 @@ module _ (s : Scenario) (valid : IsValid s) (names : ℕ) (first : LanePass) (st
       let here : j + 0 ≡ j = omega arith in (
         subst (λ n. IsFresh first n (ideal l)) here (f 0 (ideal l) refl),
         fresh-from (j + 1) ls (λ i k there.
-            let next : j + suc i ≡ (j + 1) + i = omega arith in subst (λ n. IsFresh first n k) next (f (suc i) k there)),
+            let next : j + suc i ≡ (j + 1) + i = omega arith in subst (λ n. IsFresh first n k) next
+            (f (suc i) k there)),
       )
 
   -- all drivers of the scenario may be seated
@@ -108,7 +111,8 @@ seated-more first (k ∷ ls) (v ∷ ws) l w h one = (h.0, seated-more first ls w
 seated-more first _ _ l w h one = absurd h
 
 -- all are at work
-pub seated-work : (first : LanePass) (ls : List Lane) (ws : List Seat) → AreSeated first ls ws → All (Works pass.seen) ws
+pub seated-work : (first : LanePass) (ls : List Lane) (ws : List Seat) → AreSeated first ls ws → All (Works pass.seen)
+    ws
 seated-work first [] [] h = All-nil (Works pass.seen)
 seated-work first (l ∷ ls) (w ∷ ws) h = All-cons (Works pass.seen) w ws h.0.works (seated-work first ls ws h.1)
 seated-work first _ _ h = absurd h

@@ -91,10 +91,12 @@ returns g c =
     c.as_mut_slice.ensures.value c.all_rounds.ensures.len c.all_rounds.ensures.each in
     let start : first.start ≡ started names s =
     ap (λ (p : LanePass). p.start) c.in_ok-turnstile.ensures.first
-    ∙ ap (λ (h : HubSeen). Some (start_of names h.history h.opening)) (c.new.ensures.hub ∙ c.in_ok-lanes.ensures.hub) in
+    ∙ ap (λ (h : HubSeen). Some (start_of names h.history h.opening))
+    (c.new.ensures.hub ∙ c.in_ok-lanes.ensures.hub) in
     has-run s names first ls ms logs qs hub start (omega (arith, c.len.ensures, c.in_ok-lanes.lanes.ok.0))
     c.in_ok-lanes.ensures.lanes
     (fresh s c.requires names first start (ap (λ (p : LanePass). p.front) c.in_ok-turnstile.ensures.first) ls
     c.in_ok-lanes.ensures.lanes)
     (back first ls (take c.in-Some.workers.len (vs ++ drop (length vs) ws)) ms logs qs seated c.in_ok-parked.ensures)
-    (subst (λ (p : LanePass). ClosesAfter p qs hub) (rw c.in-Some.is at c.in_ok-workers.ensures.same) c.close_after.ensures)
+    (subst (λ (p : LanePass). ClosesAfter p qs hub) (rw c.in-Some.is at c.in_ok-workers.ensures.same)
+    c.close_after.ensures)

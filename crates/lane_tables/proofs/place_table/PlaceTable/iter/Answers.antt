@@ -30,4 +30,5 @@ returns-then-is_empty-clause-rest g c =
     (sym (no_entries 0 c.self.inside.keys.items c.self.inside.values empty))
 
 pub returns-then-is_empty-clause-runs : goal.returns-then-is_empty-clause-runs
-returns-then-is_empty-clause-runs g c = from_front (TakesFirst shown) shown (λ s. s) (λ s t h. ap length h.0) (λ s x t h. h)
+returns-then-is_empty-clause-runs g c = from_front (TakesFirst shown) shown (λ s. s) (λ s t h. ap length h.0)
+    (λ s x t h. h)

@@ -4,4 +4,5 @@ use Rattle.std.proofs.Common.{sym}
 use Rattle.plain_lane.proofs.by_place.ByPlace.get.Goals as goal
 
 pub returns : goal.returns
-returns g c = rw (c.find_row.ensures, c.deref.ensures.value, ← c.self.view_is) (sym (get-from_sorted nat_cmp _ _ c.self.invariant))
+returns g c = rw (c.find_row.ensures, c.deref.ensures.value, ← c.self.view_is)
+    (sym (get-from_sorted nat_cmp _ _ c.self.invariant))
