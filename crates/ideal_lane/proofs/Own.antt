@@ -67,8 +67,8 @@ IsOwnBy id s (Stepped entry) = entry.actor ≡ actor_of s id
 IsOwnBy id s Blocked = Unit {0}
 IsOwnBy id s Ended = Unit {0}
 
--- what a driver keeps at each turn: its number, its script and its pages; and it counts at most one sync more for each
--- zone
+-- what a driver keeps at each turn: its number, its script and its pages; and it counts at most one sync more for
+-- each zone
 pub record Kept (l : LaneState) (id : ℕ) (script : List Op) (pages : List PageRun) (shares : ℕ → ℕ) : Type 0 where
   pub same_id : id ≡ l.id
   pub same_script : script ≡ l.script

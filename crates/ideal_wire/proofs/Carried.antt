@@ -46,8 +46,7 @@ are-bused l laid m i t h = by (lies-of l laid m i t h)
         ∙ any_at (λ p. in_run p 1 t.bus) x.pages e.index e.page e.has_page inside)
 
 -- a map that lends after the step has the loan that it had and stands as it stood, and a byte that is Known after it
--- was
--- Known, and is lent to write where it was
+-- was Known, and is lent to write where it was
 pub record Carries (l l' : LaneState) : Type 0 where
   pub loan : (n i : ℕ) (p : Position) → IsAt l'.loans n i p → in_any_way p ≡ true →
       (loan_of l'.loans n ≡ loan_of l.loans n) × (stage_at l' n ≡ stage_at l n)

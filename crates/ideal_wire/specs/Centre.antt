@@ -14,9 +14,9 @@ IsAt loans m i p = slice_get (loan_of loans m).positions i ≡ Some p
 abbrev pub IsPlacedAt : Traces → ℕ → ℕ → Placed → Type 0
 IsPlacedAt traces m i t = slice_get (traces m) i ≡ Some t
 
--- A Known byte that is lent to write stands at the bus address of the position that lends it; one that is lent to read
--- alone stands at the bus address of each position that lends it; and each that is not lent to write stands in the
--- buffer.
+-- A Known byte that is lent to write stands at the bus address of the position that lends it; one that is lent to
+-- read alone stands at the bus address of each position that lends it; and each that is not lent to write stands in
+-- the buffer.
 pub record Agrees (memory : IdealMemory) (loans : Loans) (traces : Traces) (w : Wire) : Type 0 where
   pub written : (m i : ℕ) (p : Position) (t : Placed) (v : ℕ) → IsAt loans m i p → IsPlacedAt traces m i t →
       p.to_write ≡ true → memory p.pa ≡ Some (Known v) → w t.bus ≡ v

@@ -16,8 +16,7 @@ pub record IsOfMachine (maxmem : ℕ) (r : PageRun) : Type 0 where
   pub below : r.frame + r.count ≤ maxmem
 
 -- the machine's frames have numbers below 2^30, and the driver's pages and memories have frames of the machine; each
--- of
--- its tags is an effective one; and the frames that its script names are of its pages
+-- of its tags is an effective one; and the frames that its script names are of its pages
 pub record IsInMachine (l : LaneState) : Type 0 where
   pub numbered : l.maxmem ≤ 2 ^ 30
   pub pages : AllByRecursion (IsOfMachine l.maxmem) l.pages

@@ -7,8 +7,7 @@ use Rattle.ideal_wire.specs.Answered.{AreOf}
 use Rattle.ideal_world.specs.World.{WorldState, step}
 
 -- the segments that an entry answers are those of the load that its driver's step ends: the load's bytes, in order,
--- and
--- they obey the map's tag
+-- and they obey the map's tag
 abbrev pub AnswersLoad : WorldState → JournalEntry → Type 0
 AnswersLoad w e =
     (l m : LaneState) → slice_get w.lanes e.actor.lane.0 ≡ Some l →

@@ -1,6 +1,5 @@
 -- The calls on a lane that take no door, so they hold and wait for nothing. A map of another lane is one that this
--- lane
--- does not have.
+-- lane does not have.
 use Rattle.std.specs.Prelude.{ℕ, ◌==◌, List, if◌then◌else◌}
 use Rattle.busdma_base.specs.declared.journals.report.ReportName.TheVariants.{Absent}
 use Rattle.busdma_base.specs.declared.name.MapId.{MapId}

@@ -49,8 +49,7 @@ abbrev pub bio_bytes : Bio → ℕ
 bio_bytes b = span_bytes (bio_spans b)
 
 -- a bio of a driver of these pages: it is small, and one that is not mapped begins in its first frame, and is of
--- frames
--- of the pages
+-- frames of the pages
 pub record IsLoadable (pages : List PageRun) (b : Bio) : Type 0 where
   pub small : bio_bytes b ≤ 2 ^ 20
   pub bio : IsBio b

@@ -4,8 +4,7 @@ use Rattle.lane_core.specs.Awaiting.{AreAwaiting, HasSmallLoads}
 use Rattle.lane_core.specs.Covered.{IsVacantFrom}
 
 -- each load that waits has what its callback takes, and the loads are small; and there is no memory, since no
--- operation
--- makes one yet
+-- operation makes one yet
 pub record IsProvided (h : Holdings) : Type 0 where
   pub awaiting : AreAwaiting h
   pub small : HasSmallLoads h

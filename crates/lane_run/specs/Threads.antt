@@ -11,8 +11,7 @@ use Rattle.lane_merge.specs.Merged.{AllRun}
 use Rattle.lane_merge.specs.Runs.{Log}
 
 -- from the scenario's opening, the hub's history is sound, and the log of each driver runs it by its own entries of
--- the
--- history, which has entries of drivers alone
+-- the history, which has entries of drivers alone
 pub record HasRun (s : Scenario) (lanes : List Lane) (logs : List Log) (hub : HubSeen) : Type 0 where
   pub begins : hub.opening ≡ opening s
   pub sound : IsSound (opening s) hub.history

@@ -19,8 +19,8 @@ joint s p = record { addr = s.addr; len = s.len + p.len }
 abbrev pub same_window : TagLimits → Segment → Segment → Bool
 same_window t s p = t.boundary == 0 || s.addr.0 / t.boundary == p.addr.0 / t.boundary
 
--- a piece may join the pieces before it: it begins at their end, they are together not too long, and both begin in one
--- window
+-- a piece may join the pieces before it: it begins at their end, they are together not too long, and both begin in
+-- one window
 abbrev pub may_join : TagLimits → Segment → Segment → Bool
 may_join t s p = p.addr.0 == s.addr.0 + s.len && nat_le (s.len + p.len) t.maxsegsz && same_window t s p
 
