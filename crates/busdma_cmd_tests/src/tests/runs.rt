@@ -30,11 +30,17 @@ fn in_order(alloc: Global, scenario: &str, report: &str) -> Result<String, Alloc
     let mut text = String::from_str(alloc, r#"{"order": ["#)?;
     let mut comma = "";
     for line in report.lines() {
-        let mut words = line.split(' ');
-        if let (Some(number), Some(actor)) = (words.next(), words.next())
-            && number.parse::<u64>().is_ok()
-        {
-            text.push_str(format!(in alloc; "{comma}\"{actor}\"")?.as_str())?;
+        let Some((number, rest)) = line.split_once(" ") else {
+            continue;
+        };
+        let Some((actor, _)) = rest.split_once(" ") else {
+            continue;
+        };
+        if number.parse::<u64>().is_ok() {
+            text.push_str(comma)?;
+            text.push_str("\"")?;
+            text.push_str(actor)?;
+            text.push_str("\"")?;
             comma = ", ";
         }
     }
