@@ -62,7 +62,13 @@ fn refuses(rt: HostRuntime) -> Result<(), Fail> {
         ),
     ];
     for (input, want) in table {
-        for (word, piece) in [("replay", 1), ("replay", 2), ("replay", 3), ("run", 1), ("run", 2)] {
+        for (word, piece) in [
+            ("replay", 1),
+            ("replay", 2),
+            ("replay", 3),
+            ("run", 1),
+            ("run", 2),
+        ] {
             let from = Edge {
                 piece,
                 failing: &[],

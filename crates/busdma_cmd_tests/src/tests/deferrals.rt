@@ -208,5 +208,12 @@ fn deferrals(rt: HostRuntime) -> Result<(), Fail> {
     for (scenario, want, status) in table {
         replays_and_runs(&rt, rt.alloc(), scenario, want, status)?;
     }
-    gives(&rt, rt.alloc(), "replay", TWO_DRIVERS, TWO_DRIVERS_REPORT, 0)
+    gives(
+        &rt,
+        rt.alloc(),
+        "replay",
+        TWO_DRIVERS,
+        TWO_DRIVERS_REPORT,
+        0,
+    )
 }
