@@ -1,11 +1,8 @@
 -- From how a run ends to what a call of the program keeps.
 use Rattle.std.proofs.Common.{◌≡◌, ◌≢◌, ℕ, ◌+◌, ◌≤◌, ◌<◌, inl, inr, cond, Bool, true, false, arith}
-use Rattle.std.proofs.Common.{List, length, drop, length-drop, Option, Some, None, Result, Ok, Err, refl, sym, ap, ◌∙◌}
+use Rattle.std.proofs.Common.{List, length, Option, Some, None, Result, Ok, Err, refl, sym, ap, ◌∙◌}
 use Rattle.std.proofs.Common.{subst}
-use Rattle.std.proofs.Math.Seq.{drop-length}
-use Rattle.std.specs.Result.{IsErrAnd}
-use Rattle.io_edge.specs.Reading.{Takes, TakesAtMost, TakesAll}
-use Rattle.busdma_base.specs.Scenarios.Valid.{IsValid}
+use Rattle.io_edge.specs.Reading.{TakesAtMost}
 use Rattle.busdma_base.specs.declared.scenarios.scenario.Scenario.{Scenario}
 use Rattle.busdma_base.specs.declared.journals.journal.Journal.{Journal}
 use Rattle.busdma_base.specs.declared.journals.journal.JournalEntry.{JournalEntry}
@@ -15,166 +12,19 @@ use Rattle.json_fields.specs.declared.refusal.Refusal.{Refusal}
 use Rattle.scenario_read.specs.declared.reading.Reading.TheVariants.{Good, Bad}
 use Rattle.scenario_read.specs.Scenario.{scenario_of}
 use Rattle.std.specs.Prelude.{IfSome, IsSomeAnd}
-use Rattle.ideal_world.specs.Legal.{IsReplayed}
 use Rattle.ideal_world.specs.Ends.{status, status_by, has_report}
 use Rattle.busdma_cmd.specs.declared.cause.Cause.{Cause}
 use Rattle.busdma_cmd.specs.declared.cause.Cause.TheVariants as cause
+use Rattle.busdma_cmd.specs.declared.outcome.Outcome.{Outcome}
 use Rattle.command_words.specs.declared.command.Command.{Command}
-use Rattle.command_words.specs.declared.command.Command.TheVariants.{Replay, Storm}
+use Rattle.command_words.specs.declared.command.Command.TheVariants.{Replay, Run, Storm}
 use Rattle.command_words.specs.Command.{command}
 use Rattle.busdma_cmd.specs.Edges.{Edges, ReadFailed, NoReadFailed, ReadNothing, ReadAll, ReadAtMost, ReadTooMany, input_limit}
 use Rattle.busdma_cmd.specs.Edges.{WriteFailed, NoWriteFailed, WroteNothing, WroteAll, WrotePart}
-use Rattle.busdma_cmd.specs.Ends.{OfInput, Reads, CountsReads, Replays, EndsBy, outcome}
-use Rattle.busdma_cmd.specs.Outcome.{IsDone, IsOfReading, HasJournal, Ran, RanAndWrote, RanUnwritten, AnswersReading, GaveTooMany, IsComplete, Keeps}
-use Rattle.busdma_cmd.specs.Runs.{Runs, text_of}
-
--- ---- what is taken
-
--- all of a short input is at most one byte too many
-pub all_at_most : (bytes : List ℕ) (before after : Option (List ℕ)) → TakesAll bytes before after
-    → length bytes ≤ input_limit → TakesAtMost (input_limit + 1) before after
-all_at_most bytes None after all short = (0, omega arith, tt)
-all_at_most bytes (Some left) after all short =
-    let some : after ≡ Some (drop (length left) left) = all.1 ∙ ap Some (sym (drop-length left)) in
-    let same : length left ≡ length bytes = ap length all.0 in
-    (length left, omega arith, (omega arith, some))
-
--- no more than some limit is at most one more than it
-pub one_more_at_most : (before after : Option (List ℕ)) → TakesAtMost input_limit before after
-    → TakesAtMost (input_limit + 1) before after
-one_more_at_most before after most = (most.0, omega (arith, most.1), most.2)
-
--- nothing is at most one byte too many
-nothing_at_most : (before after : Option (List ℕ)) → after ≡ before
-    → TakesAtMost (input_limit + 1) before after
-nothing_at_most None after same = (0, omega arith, tt)
-nothing_at_most (Some left) after same = (0, omega arith, (omega arith, same))
-
--- memory ran out after the whole input was read
-pub ran_out : (e : Edges) (scenario : Scenario) (ran : Result Journal Cause)
-    → IsErrAnd ran (λ why. why ≡ cause.OutOfMemory)
-    → Reads e.left e.left_after (Ok scenario) → WroteNothing e → EndsBy Replay e ran
-ran_out e scenario (Ok journal) is reads nothing = absurd is
-ran_out e scenario (Err why) is reads nothing =
-    subst (λ w. EndsBy Replay e (Err w)) (sym is)
-    (all_at_most reads.0 e.left e.left_after reads.1 reads.2, nothing)
-
--- the scenario of the whole input is the one that the replay runs
-pub runs_input : (e : Edges) (scenario : Scenario) → Reads e.left e.left_after (Ok scenario)
-    → Runs Replay e scenario
-runs_input e scenario reads =
-    record { bytes = reads.0; read = record { all = reads.1; short = reads.2 }; good = reads.3 }
-
--- and no read had failed
-pub ran_out_after : (before now : ℕ) (ran : Result Journal Cause)
-    → IsErrAnd ran (λ why. why ≡ cause.OutOfMemory) → now ≡ before → CountsReads before now ran
-ran_out_after before now (Ok journal) is stayed = absurd is
-ran_out_after before now (Err why) is stayed =
-    subst (λ w. CountsReads {A = Journal} before now (Err w)) (sym is) stayed
-
--- the sink failed before the text's last byte
-pub sink_failed : (c : Command) (e : Edges) (scenario : Scenario) (journal : Journal) (text : List ℕ)
-    → Runs c e scenario → IsValid scenario
-    → IsReplayed scenario journal → text ≡ text_of c scenario journal
-    → WrotePart text e → WriteFailed e → EndsBy c e (Err (cause.WriteFailed journal))
-sink_failed c e scenario journal text runs valid replayed is part failed =
-    (failed, (scenario, runs, valid, replayed, subst (λ t. WrotePart t e) is part))
-
--- memory ran out for a storm
-pub storm_ran_out : (n seed : ℕ) (e : Edges) (ran : Result Journal Cause)
-    → IsErrAnd ran (λ why. why ≡ cause.OutOfMemory) → ReadNothing e → WroteNothing e
-    → EndsBy (Storm n seed) e ran
-storm_ran_out n seed e (Ok journal) is read nothing = absurd is
-storm_ran_out n seed e (Err why) is read nothing =
-    subst (λ w. EndsBy (Storm n seed) e (Err w)) (sym is) ((refl, read), nothing)
-
--- ---- too many bytes
-
-not_too_many : (before after : Option (List ℕ)) → TakesAtMost input_limit before after
-    → (input rest : List ℕ) → before ≡ Some input → after ≡ Some rest
-    → length rest + input_limit < length input → ⊥
-not_too_many None after most input rest was is more = absurd (cc)
-not_too_many (Some left) after most input rest was is more =
-    let l : left ≡ input = cc in
-    let d : rest ≡ drop most.0 left = cc (most.2.1) in
-    let n : length rest ≡ length (drop most.0 left) = ap length d in
-    let m : length left ≡ length input = ap length l in
-    absurd (omega (arith, length-drop most.0 left, most.1))
-
--- all of a short input is not too many
-all_not_too_many : (bytes : List ℕ) (before after : Option (List ℕ)) → TakesAll bytes before after
-    → length bytes ≤ input_limit → (input rest : List ℕ) → before ≡ Some input → after ≡ Some rest
-    → length rest + input_limit < length input → ⊥
-all_not_too_many bytes None after all short input rest was is more = absurd (cc)
-all_not_too_many bytes (Some left) after all short input rest was is more =
-    let l : left ≡ input = cc in
-    let n : length left ≡ length bytes = ap length all.0 in
-    let m : length left ≡ length input = ap length l in
-    absurd (omega arith)
-
--- bytes that were read whole are not too many
-not_gave_too_many : (bytes : List ℕ) (e : Edges) → ReadAll bytes e → GaveTooMany e → ⊥
-not_gave_too_many bytes e read more =
-    all_not_too_many bytes e.left e.left_after read.all read.short more.0 more.1 more.2 more.3 more.4
-
-same_length : (before after : Option (List ℕ)) → after ≡ before → (input rest : List ℕ)
-    → before ≡ Some input → after ≡ Some rest → length rest + input_limit < length input → ⊥
-same_length before after same input rest was is more =
-    let one : Some rest ≡ Some input = sym is ∙ (same ∙ was) in
-    let equal : rest ≡ input = cc in
-    let long : length rest ≡ length input = ap length equal in
-    absurd (omega arith)
-
--- nor are none
-not_gave_unread : (e : Edges) → ReadNothing e → GaveTooMany e → ⊥
-not_gave_unread e read more =
-    same_length e.left e.left_after read.bytes more.0 more.1 more.2 more.3 more.4
-
--- what a command runs was not too many bytes
-runs_few : (c : Command) (e : Edges) (scenario : Scenario) → Runs c e scenario → GaveTooMany e → ⊥
-runs_few Replay e scenario runs more = not_gave_too_many runs.bytes e runs.read more
-runs_few (Storm n seed) e scenario runs more = not_gave_unread e runs.read more
-
-runs_read : (c : Command) (e : Edges) (scenario : Scenario) → Runs c e scenario → ReadAtMost e
-runs_read Replay e scenario runs =
-    all_at_most runs.bytes e.left e.left_after runs.read.all runs.read.short
-runs_read (Storm n seed) e scenario runs = nothing_at_most e.left e.left_after runs.read.bytes
-
--- a command that does not read took nothing
-runs_unread : (words : List (List ℕ)) (c : Command) (e : Edges) (scenario : Scenario)
-    → command words ≡ Some c → Runs c e scenario → command words ≢ Some Replay → ReadNothing e
-runs_unread words Replay e scenario asked runs other = absurd (other asked)
-runs_unread words (Storm n seed) e scenario asked runs other = runs.read
-
--- the bytes that were all of the input are the input
-same_input : (bytes : List ℕ) (before after : Option (List ℕ)) (input : List ℕ)
-    → TakesAll bytes before after → before ≡ Some input → input ≡ bytes
-same_input bytes None after input all is = absurd (cc)
-same_input bytes (Some left) after input all is =
-    let l : left ≡ input = cc in sym l ∙ all.0
-
--- the input's scenario is the one of the bytes that were read whole
-same_scenario : (bytes : List ℕ) (e : Edges) (input : List ℕ) → ReadAll bytes e
-    → e.left ≡ Some input → scenario_of input ≡ scenario_of bytes
-same_scenario bytes e input read is =
-    ap scenario_of (same_input bytes e.left e.left_after input read.all is)
-
--- an input that was read whole is not long
-not_long : (bytes : List ℕ) (e : Edges) (input : List ℕ) → ReadAll bytes e
-    → e.left ≡ Some input → input_limit < length input → ⊥
-not_long bytes e input read is long =
-    let same : length input ≡ length bytes =
-    ap length (same_input bytes e.left e.left_after input read.all is) in
-    absurd (omega (arith, read.short))
-
--- an input of which too many bytes were taken is long
-is_long : (before after : Option (List ℕ)) (input : List ℕ) → Takes (input_limit + 1) before after
-    → before ≡ Some input → input_limit < length input
-is_long None after input takes is = absurd (cc)
-is_long (Some left) after input takes is =
-    let l : left ≡ input = cc in
-    let m : length left ≡ length input = ap length l in
-    omega (arith, takes.0)
+use Rattle.busdma_cmd.specs.Ends.{OfInput, CountsReads, Makes, Stops, StopsReading, EndsBy, outcome}
+use Rattle.busdma_cmd.specs.Outcome.{IsDone, IsOfReading, HasJournal, Ran, RanAndWrote, RanUnwritten, AnswersInput, AnswersReading, IsComplete, Keeps}
+use Rattle.busdma_cmd.specs.Runs.{IsRead, IsReader, Runs}
+use Rattle.busdma_cmd.proofs.Taking.{Asks, all_at_most, if_command, is_long, not_gave_too_many, not_long, not_too_many, nothing_at_most, of_command, one_more_at_most, runs_few, runs_read, runs_unread, same_scenario, some_command}
 
 -- ---- the fields
 
@@ -201,21 +51,6 @@ not_done n large done = let small = done_is_small n done in absurd (omega arith)
 no_journal : (n : ℕ) → 2 < n → n ≢ 73 → HasJournal n → ⊥
 no_journal n large other (inl done) = not_done n large done
 no_journal n large other (inr is) = other is
-
--- the words ask for this command
-abbrev Asks : List (List ℕ) → Command → Type 0
-Asks words c = command words ≡ Some c
-
-some_command : (words : List (List ℕ)) (c : Command) → Asks words c → command words ≢ None
-some_command words c asked none = let bad : Some c ≡ None = sym asked ∙ none in absurd (cc)
-
-of_command : (words : List (List ℕ)) (c : Command) (P : Command → Type 0) → Asks words c → P c
-    → IsSomeAnd (command words) P
-of_command words c P asked holds = subst (λ o. IsSomeAnd o P) (sym asked) holds
-
-if_command : (words : List (List ℕ)) (c : Command) (P : Command → Type 0) → Asks words c → P c
-    → IfSome (command words) P
-if_command words c P asked holds = subst (λ o. IfSome o P) (sym asked) holds
 
 done_of_reading : (n : ℕ) → IsDone n → IsOfReading n → ⊥
 done_of_reading n done (inl is) = not_done n (omega arith) done
@@ -244,9 +79,9 @@ none_is_some is = absurd (cc)
 -- ---- each ending
 
 -- a run that is done and written is complete
-done_complete : (c : Command) (e : Edges) (j : Journal) (scenario : Scenario) → Runs c e scenario
-    → IsDone (status j) → IsComplete c e (outcome (Ok j))
-done_complete Replay e j scenario runs done = record {
+done_answers : (e : Edges) (j : Journal) (scenario : Scenario) → IsRead e scenario
+    → IsDone (status j) → AnswersInput e (outcome (Ok j))
+done_answers e j scenario runs done = record {
   short = λ input is short unread unwritten.
       let good : scenario_of input ≡ Good scenario =
       same_scenario runs.bytes e input runs.read is ∙ runs.good in
@@ -256,10 +91,15 @@ done_complete Replay e j scenario runs done = record {
       absurd (not_both runs.bytes scenario r runs.good
       (sym (same_scenario runs.bytes e input runs.read is) ∙ bad));
 }
+
+done_complete : (c : Command) (e : Edges) (j : Journal) (scenario : Scenario) → Runs c e scenario
+    → IsDone (status j) → IsComplete c e (outcome (Ok j))
+done_complete Replay e j scenario runs done = done_answers e j scenario runs done
+done_complete Run e j scenario runs done = done_answers e j scenario runs done
 done_complete (Storm n seed) e j scenario runs done = λ unwritten. inl done
 
 done_keeps : (words : List (List ℕ)) (c : Command) (e : Edges) (j : Journal) → Asks words c
-    → NoReadFailed e → NoWriteFailed e → Replays c e j WroteAll → Keeps words e (outcome (Ok j))
+    → NoReadFailed e → NoWriteFailed e → Makes c e j WroteAll → Keeps words e (outcome (Ok j))
 done_keeps words c e j asked well_read well_written ends =
     let done : IsDone (status j) = status_is_done j in
     let small : status j ≤ 2 = done_is_small (status j) done in
@@ -269,7 +109,7 @@ done_keeps words c e j asked well_read well_written ends =
       runs = ends.1;
       valid = ends.2;
       kept = refl;
-      replayed = ends.3;
+      made = ends.3;
     } in
     record {
       known = inl done;
@@ -295,19 +135,24 @@ done_keeps words c e j asked well_read well_written ends =
     }
 
 -- where the sink failed, nothing is asked of it
-unwritten_complete : (c : Command) (e : Edges) (j : Journal) (scenario : Scenario)
-    → Runs c e scenario → WriteFailed e → IsComplete c e (outcome (Err (cause.WriteFailed j)))
-unwritten_complete Replay e j scenario runs failed = record {
+unwritten_answers : (e : Edges) (j : Journal) (scenario : Scenario)
+    → IsRead e scenario → WriteFailed e → AnswersInput e (outcome (Err (cause.WriteFailed j)))
+unwritten_answers e j scenario runs failed = record {
   short = λ input is short unread unwritten. absurd (unwritten failed);
   long = λ input is long unread. absurd (not_long runs.bytes e input runs.read is long);
   refused = λ input r is short bad unread.
       absurd (not_both runs.bytes scenario r runs.good
       (sym (same_scenario runs.bytes e input runs.read is) ∙ bad));
 }
+
+unwritten_complete : (c : Command) (e : Edges) (j : Journal) (scenario : Scenario)
+    → Runs c e scenario → WriteFailed e → IsComplete c e (outcome (Err (cause.WriteFailed j)))
+unwritten_complete Replay e j scenario runs failed = unwritten_answers e j scenario runs failed
+unwritten_complete Run e j scenario runs failed = unwritten_answers e j scenario runs failed
 unwritten_complete (Storm n seed) e j scenario runs failed = λ unwritten. absurd (unwritten failed)
 
 unwritten_keeps : (words : List (List ℕ)) (c : Command) (e : Edges) (j : Journal) → Asks words c
-    → NoReadFailed e → WriteFailed e → Replays c e j WrotePart
+    → NoReadFailed e → WriteFailed e → Makes c e j WrotePart
     → Keeps words e (outcome (Err (cause.WriteFailed j)))
 unwritten_keeps words c e j asked well_read failed ends =
     let ran : Ran c e (outcome (Err (cause.WriteFailed j))) = record {
@@ -316,7 +161,7 @@ unwritten_keeps words c e j asked well_read failed ends =
       runs = ends.1;
       valid = ends.2;
       kept = refl;
-      replayed = ends.3;
+      made = ends.3;
     } in
     record {
       known = inr (inr (inr (inr (inr (inl refl)))));
@@ -343,17 +188,23 @@ unwritten_keeps words c e j asked well_read failed ends =
           (unwritten_complete c e j ends.0 ends.1 failed);
     }
 
-refused_keeps : (words : List (List ℕ)) (e : Edges) (r : Refusal) → Asks words Replay
+-- what comes of the input makes a command that reads it complete
+reader_complete : (c : Command) (e : Edges) (o : Outcome) → IsReader c → AnswersInput e o → IsComplete c e o
+reader_complete Replay e o reader answers = answers
+reader_complete Run e o reader answers = answers
+reader_complete (Storm n seed) e o reader answers = absurd reader
+
+refused_keeps : (words : List (List ℕ)) (c : Command) (e : Edges) (r : Refusal) → Asks words c → IsReader c
     → NoReadFailed e → OfInput e.left e.left_after (λ bytes. scenario_of bytes ≡ Bad r)
     → WroteNothing e → Keeps words e (outcome (Err (cause.Refused r)))
-refused_keeps words e r asked well_read ends nothing =
+refused_keeps words c e r asked reader well_read ends nothing =
     let all : ReadAll ends.0 e = record { all = ends.1; short = ends.2 } in
     record {
       known = inr (inr (inl refl));
       no_command = λ is. absurd (omega arith);
-      usage = λ none. absurd (some_command words Replay asked none);
-      reads = λ _. asked;
-      reads_nothing = λ other. absurd (other asked);
+      usage = λ none. absurd (some_command words c asked none);
+      reads = λ _. of_command words c IsReader asked reader;
+      reads_nothing = λ other. absurd (other (of_command words c IsReader asked reader));
       done = λ is. absurd (not_done 65 (omega arith) is);
       refused = λ _. record { bytes = ends.0; refusal = r; read = all; bad = ends.3; kept = refl };
       too_long = λ is. absurd (omega arith);
@@ -369,28 +220,29 @@ refused_keeps words e r asked well_read ends nothing =
       );
       fault = (λ _. refl, λ _. refl);
       read_most = all_at_most ends.0 e.left e.left_after ends.1 ends.2;
-      complete = if_command words Replay (λ x. IsComplete x e (outcome (Err (cause.Refused r)))) asked (record {
-        short = λ input is short unread unwritten.
-            let bad : scenario_of input ≡ Bad r = same_scenario ends.0 e input all is ∙ ends.3 in
-            inl (subst (AnswersReading (outcome (Err (cause.Refused r)))) (sym bad) (refl, refl));
-        long = λ input is long unread. absurd (not_long ends.0 e input all is long);
-        refused = λ input q is short bad unread.
-            let same : scenario_of ends.0 ≡ Bad q = sym (same_scenario ends.0 e input all is) ∙ bad in
-            inl (refl, ap Some (same_refusal ends.0 r q ends.3 same));
-      });
+      complete = if_command words c (λ x. IsComplete x e (outcome (Err (cause.Refused r)))) asked
+          (reader_complete c e (outcome (Err (cause.Refused r))) reader (record {
+            short = λ input is short unread unwritten.
+                let bad : scenario_of input ≡ Bad r = same_scenario ends.0 e input all is ∙ ends.3 in
+                inl (subst (AnswersReading (outcome (Err (cause.Refused r)))) (sym bad) (refl, refl));
+            long = λ input is long unread. absurd (not_long ends.0 e input all is long);
+            refused = λ input q is short bad unread.
+                let same : scenario_of ends.0 ≡ Bad q = sym (same_scenario ends.0 e input all is) ∙ bad in
+                inl (refl, ap Some (same_refusal ends.0 r q ends.3 same));
+          }));
     }
 
-long_keeps : (words : List (List ℕ)) (e : Edges) → Asks words Replay → NoReadFailed e
+long_keeps : (words : List (List ℕ)) (c : Command) (e : Edges) → Asks words c → IsReader c → NoReadFailed e
     → ReadTooMany e → WroteNothing e → Keeps words e (outcome (Err cause.TooLong))
-long_keeps words e asked well_read takes nothing =
+long_keeps words c e asked reader well_read takes nothing =
     let long : (input : List ℕ) → e.left ≡ Some input → input_limit < length input =
     λ input is. is_long e.left e.left_after input takes is in
     record {
       known = inr (inr (inr (inl refl)));
       no_command = λ is. absurd (omega arith);
-      usage = λ none. absurd (some_command words Replay asked none);
-      reads = λ _. asked;
-      reads_nothing = λ other. absurd (other asked);
+      usage = λ none. absurd (some_command words c asked none);
+      reads = λ _. of_command words c IsReader asked reader;
+      reads_nothing = λ other. absurd (other (of_command words c IsReader asked reader));
       done = λ is. absurd (not_done 66 (omega arith) is);
       refused = λ is. absurd (omega arith);
       too_long = λ _. takes;
@@ -406,22 +258,23 @@ long_keeps words e asked well_read takes nothing =
       );
       fault = (λ is. absurd (none_is_some is), λ is. absurd (omega arith));
       read_most = (input_limit + 1, omega arith, takes);
-      complete = if_command words Replay (λ x. IsComplete x e (outcome (Err cause.TooLong))) asked (record {
-        short = λ input is short unread unwritten. absurd (omega (arith, short, long input is));
-        long = λ input is long unread. inl refl;
-        refused = λ input r is short bad unread. absurd (omega (arith, short, long input is));
-      });
+      complete = if_command words c (λ x. IsComplete x e (outcome (Err cause.TooLong))) asked
+          (reader_complete c e (outcome (Err cause.TooLong)) reader (record {
+            short = λ input is short unread unwritten. absurd (omega (arith, short, long input is));
+            long = λ input is long unread. inl refl;
+            refused = λ input r is short bad unread. absurd (omega (arith, short, long input is));
+          }));
     }
 
-unread_keeps : (words : List (List ℕ)) (e : Edges) → Asks words Replay → ReadFailed e
+unread_keeps : (words : List (List ℕ)) (c : Command) (e : Edges) → Asks words c → IsReader c → ReadFailed e
     → TakesAtMost input_limit e.left e.left_after → WroteNothing e
     → Keeps words e (outcome (Err cause.ReadFailed))
-unread_keeps words e asked failed most nothing = record {
+unread_keeps words c e asked reader failed most nothing = record {
   known = inr (inr (inr (inr (inr (inr refl)))));
   no_command = λ is. absurd (omega arith);
-  usage = λ none. absurd (some_command words Replay asked none);
-  reads = λ _. asked;
-  reads_nothing = λ other. absurd (other asked);
+  usage = λ none. absurd (some_command words c asked none);
+  reads = λ _. of_command words c IsReader asked reader;
+  reads_nothing = λ other. absurd (other (of_command words c IsReader asked reader));
   done = λ is. absurd (not_done 74 (omega arith) is);
   refused = λ is. absurd (omega arith);
   too_long = λ is. absurd (omega arith);
@@ -438,20 +291,25 @@ unread_keeps words e asked failed most nothing = record {
   );
   fault = (λ is. absurd (none_is_some is), λ is. absurd (omega arith));
   read_most = one_more_at_most e.left e.left_after most;
-  complete = if_command words Replay (λ x. IsComplete x e (outcome (Err cause.ReadFailed))) asked (record {
-    short = λ input is short unread unwritten. absurd (unread failed);
-    long = λ input is long unread. absurd (unread failed);
-    refused = λ input r is short bad unread. absurd (unread failed);
-  });
+  complete = if_command words c (λ x. IsComplete x e (outcome (Err cause.ReadFailed))) asked
+      (reader_complete c e (outcome (Err cause.ReadFailed)) reader (record {
+        short = λ input is short unread unwritten. absurd (unread failed);
+        long = λ input is long unread. absurd (unread failed);
+        refused = λ input r is short bad unread. absurd (unread failed);
+      }));
 }
 
 -- where memory ran out, nothing is asked
-no_memory_complete : (c : Command) (e : Edges) → IsComplete c e (outcome (Err cause.OutOfMemory))
-no_memory_complete Replay e = record {
+no_memory_answers : (e : Edges) → AnswersInput e (outcome (Err cause.OutOfMemory))
+no_memory_answers e = record {
   short = λ input is short unread unwritten. inr refl;
   long = λ input is long unread. inr refl;
   refused = λ input r is short bad unread. inr refl;
 }
+
+no_memory_complete : (c : Command) (e : Edges) → IsComplete c e (outcome (Err cause.OutOfMemory))
+no_memory_complete Replay e = no_memory_answers e
+no_memory_complete Run e = no_memory_answers e
 no_memory_complete (Storm n seed) e = λ unwritten. inr refl
 
 each_complete : (o : Option Command) (e : Edges)
@@ -461,7 +319,7 @@ each_complete (Some c) e = no_memory_complete c e
 
 -- whatever the words ask for, memory may run out
 pub no_memory_keeps : (words : List (List ℕ)) (e : Edges) → NoReadFailed e → ReadAtMost e
-    → (command words ≢ Some Replay → ReadNothing e) → WroteNothing e
+    → ((IsSomeAnd (command words) IsReader → ⊥) → ReadNothing e) → WroteNothing e
     → Keeps words e (outcome (Err cause.OutOfMemory))
 no_memory_keeps words e well_read most unread nothing = record {
   known = inr (inr (inr (inr (inl refl))));
@@ -494,20 +352,28 @@ pub unjudged_keeps : (words : List (List ℕ)) (e : Edges) → ReadNothing e →
 unjudged_keeps words e read nothing =
     no_memory_keeps words e read.faults (nothing_at_most e.left e.left_after read.bytes) (λ _. read) nothing
 
--- what a replay keeps, however it ends
-pub replay_keeps : (words : List (List ℕ)) (e : Edges) (ran : Result Journal Cause)
-    → Asks words Replay → EndsBy Replay e ran
+reading_stopped : (c : Command) (e : Edges) (why : Cause) → IsReader c → Stops c e why
+    → StopsReading e.left e.left_after why
+reading_stopped Replay e why reader stops = stops
+reading_stopped Run e why reader stops = stops
+reading_stopped (Storm n seed) e why reader stops = absurd reader
+
+-- what a command that reads keeps, however it ends
+pub reader_keeps : (words : List (List ℕ)) (c : Command) (e : Edges) (ran : Result Journal Cause)
+    → Asks words c → IsReader c → EndsBy c e ran
     → CountsReads e.read_faults e.read_faults_after ran → Keeps words e (outcome ran)
-replay_keeps words e (Ok j) asked ends read = done_keeps words Replay e j asked read ends.0 ends.1
-replay_keeps words e (Err (cause.WriteFailed j)) asked ends read =
-    unwritten_keeps words Replay e j asked read ends.0 ends.1
-replay_keeps words e (Err (cause.Refused r)) asked ends read =
-    refused_keeps words e r asked read ends.0 ends.1
-replay_keeps words e (Err cause.TooLong) asked ends read = long_keeps words e asked read ends.0 ends.1
-replay_keeps words e (Err cause.OutOfMemory) asked ends read =
-    no_memory_keeps words e read ends.0 (λ other. absurd (other asked)) ends.1
-replay_keeps words e (Err cause.ReadFailed) asked ends read =
-    unread_keeps words e asked read ends.0 ends.1
+reader_keeps words c e (Ok j) asked reader ends read = done_keeps words c e j asked read ends.0 ends.1
+reader_keeps words c e (Err (cause.WriteFailed j)) asked reader ends read =
+    unwritten_keeps words c e j asked read ends.0 ends.1
+reader_keeps words c e (Err (cause.Refused r)) asked reader ends read =
+    refused_keeps words c e r asked reader read (reading_stopped c e (cause.Refused r) reader ends.0) ends.1
+reader_keeps words c e (Err cause.TooLong) asked reader ends read =
+    long_keeps words c e asked reader read (reading_stopped c e cause.TooLong reader ends.0) ends.1
+reader_keeps words c e (Err cause.OutOfMemory) asked reader ends read =
+    no_memory_keeps words e read (reading_stopped c e cause.OutOfMemory reader ends.0)
+    (λ other. absurd (other (of_command words c IsReader asked reader))) ends.1
+reader_keeps words c e (Err cause.ReadFailed) asked reader ends read =
+    unread_keeps words c e asked reader read (reading_stopped c e cause.ReadFailed reader ends.0) ends.1
 
 -- what a storm keeps
 pub storm_keeps : (words : List (List ℕ)) (n seed : ℕ) (e : Edges) (ran : Result Journal Cause)

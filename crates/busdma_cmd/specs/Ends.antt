@@ -7,15 +7,14 @@ use Rattle.busdma_base.specs.declared.scenarios.scenario.Scenario.{Scenario}
 use Rattle.busdma_base.specs.declared.journals.journal.Journal.{Journal}
 use Rattle.scenario_read.specs.declared.reading.Reading.TheVariants.{Good, Bad}
 use Rattle.scenario_read.specs.Scenario.{scenario_of}
-use Rattle.ideal_world.specs.Legal.{IsReplayed}
 use Rattle.ideal_world.specs.Ends.{status}
 use Rattle.busdma_cmd.specs.declared.cause.Cause.{Cause}
 use Rattle.busdma_cmd.specs.declared.cause.Cause.TheVariants as cause
 use Rattle.busdma_cmd.specs.declared.outcome.Outcome.{Outcome}
 use Rattle.command_words.specs.declared.command.Command.{Command}
-use Rattle.command_words.specs.declared.command.Command.TheVariants.{Replay, Storm}
+use Rattle.command_words.specs.declared.command.Command.TheVariants.{Replay, Run, Storm}
 use Rattle.busdma_cmd.specs.Edges.{Edges, ReadNothing, WriteFailed, NoWriteFailed, WroteNothing, WroteAll, WrotePart, input_limit}
-use Rattle.busdma_cmd.specs.Runs.{Runs, text_of}
+use Rattle.busdma_cmd.specs.Runs.{IsMadeOf, Runs, text_of}
 
 -- P holds of all the bytes that were left, which are not too many, and nothing is left
 abbrev pub OfInput : Option (List ℕ) → Option (List ℕ) → (List ℕ → Type 0) → Type 0
@@ -43,22 +42,22 @@ CountsReads before now (Ok done) = now ≡ before
 CountsReads before now (Err cause.ReadFailed) = Rose before now
 CountsReads before now (Err why) = now ≡ before
 
--- the journal is the one that the order of the command's scenario, a valid one, replays, and this
--- was written of its text
-abbrev pub Replays : Command → Edges → Journal → (List ℕ → Edges → Type 0) → Type 0
-Replays c e journal Wrote =
-    (scenario : Scenario) × Runs c e scenario × IsValid scenario × IsReplayed scenario journal
+-- the command made the journal of its scenario, a valid one, and this was written of its text
+abbrev pub Makes : Command → Edges → Journal → (List ℕ → Edges → Type 0) → Type 0
+Makes c e journal Wrote =
+    (scenario : Scenario) × Runs c e scenario × IsValid scenario × IsMadeOf c scenario journal
     × Wrote (text_of c scenario journal) e
 
 -- why a command that wrote nothing stopped; a storm stops for want of memory alone
 abbrev pub Stops : Command → Edges → Cause → Type 0
 Stops Replay e why = StopsReading e.left e.left_after why
+Stops Run e why = StopsReading e.left e.left_after why
 Stops (Storm n seed) e why = (why ≡ cause.OutOfMemory) × ReadNothing e
 
 -- how the whole run of a command ends
 abbrev pub EndsBy : Command → Edges → Result Journal Cause → Type 0
-EndsBy c e (Ok journal) = NoWriteFailed e × Replays c e journal WroteAll
-EndsBy c e (Err (cause.WriteFailed journal)) = WriteFailed e × Replays c e journal WrotePart
+EndsBy c e (Ok journal) = NoWriteFailed e × Makes c e journal WroteAll
+EndsBy c e (Err (cause.WriteFailed journal)) = WriteFailed e × Makes c e journal WrotePart
 EndsBy c e (Err why) = Stops c e why × WroteNothing e
 
 -- the outcome of a run that ended so

@@ -7,16 +7,15 @@ use Rattle.json_fields.specs.declared.refusal.Refusal.{Refusal}
 use Rattle.scenario_read.specs.declared.reading.Reading.{Reading}
 use Rattle.scenario_read.specs.declared.reading.Reading.TheVariants.{Good, Bad}
 use Rattle.scenario_read.specs.Scenario.{scenario_of}
-use Rattle.ideal_world.specs.Legal.{IsReplayed}
 use Rattle.ideal_world.specs.Ends.{status}
 use Rattle.busdma_cmd.specs.declared.outcome.Outcome.{Outcome}
 use Rattle.command_words.specs.declared.command.Command.{Command}
-use Rattle.command_words.specs.declared.command.Command.TheVariants.{Replay, Storm}
+use Rattle.command_words.specs.declared.command.Command.TheVariants.{Replay, Run, Storm}
 use Rattle.command_words.specs.Command.{command}
 use Rattle.busdma_cmd.specs.Edges.{Edges, ReadFailed, NoReadFailed, ReadNothing, ReadAll, ReadTooMany, ReadAtMost}
 use Rattle.busdma_cmd.specs.Edges.{input_limit}
 use Rattle.busdma_cmd.specs.Edges.{WriteFailed, NoWriteFailed, WroteNothing, WroteAll, WrotePart}
-use Rattle.busdma_cmd.specs.Runs.{Runs, text_of}
+use Rattle.busdma_cmd.specs.Runs.{IsMadeOf, IsReader, Runs, text_of}
 
 -- the statuses of a run that was done and written
 abbrev pub IsDone : ℕ → Type 0
@@ -30,15 +29,15 @@ HasJournal n = IsDone n ⊎ (n ≡ 73)
 abbrev pub IsStatus : ℕ → Type 0
 IsStatus n = IsDone n ⊎ ((n ≡ 64) ⊎ ((n ≡ 65) ⊎ ((n ≡ 66) ⊎ ((n ≡ 71) ⊎ ((n ≡ 73) ⊎ (n ≡ 74))))))
 
--- The run of a command: its scenario is valid, and the journal of the outcome is the one that the
--- scenario's order replays.
+-- The run of a command: its scenario is valid, and the journal of the outcome is one that the command
+-- may make of it.
 pub record Ran (c : Command) (e : Edges) (o : Outcome) : Type 0 where
   pub scenario : Scenario
   pub journal : Journal
   pub runs : Runs c e scenario
   pub valid : IsValid scenario
   pub kept : o.journal ≡ Some journal
-  pub replayed : IsReplayed scenario journal
+  pub made : IsMadeOf c scenario journal
 
 -- its text was written whole, and the status is its journal's
 pub record RanAndWrote (c : Command) (e : Edges) (o : Outcome) : Type 0 where
@@ -83,6 +82,7 @@ pub record AnswersInput (e : Edges) (o : Outcome) : Type 0 where
 -- where nothing failed that the command calls, the outcome is that of the command
 abbrev pub IsComplete : Command → Edges → Outcome → Type 0
 IsComplete Replay e o = AnswersInput e o
+IsComplete Run e o = AnswersInput e o
 IsComplete (Storm n seed) e o = (WriteFailed e → ⊥) → OrNoMemory o (IsDone o.status)
 
 -- the statuses of commands that read
@@ -102,8 +102,8 @@ pub record Keeps (words : List (List ℕ)) (e : Edges) (o : Outcome) : Type 0 wh
   pub known : IsStatus o.status
   pub no_command : o.status ≡ 64 → command words ≡ None
   pub usage : command words ≡ None → OrNoMemory o (o.status ≡ 64)
-  pub reads : IsOfReading o.status → command words ≡ Some Replay
-  pub reads_nothing : command words ≢ Some Replay → ReadNothing e
+  pub reads : IsOfReading o.status → IsSomeAnd (command words) IsReader
+  pub reads_nothing : (IsSomeAnd (command words) IsReader → ⊥) → ReadNothing e
   pub done : IsDone o.status → IsSomeAnd (command words) (λ c. RanAndWrote c e o)
   pub refused : o.status ≡ 65 → WasRefused e o
   pub too_long : o.status ≡ 66 → ReadTooMany e

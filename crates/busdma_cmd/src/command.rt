@@ -1,7 +1,8 @@
 //! The commands that wait for nobody.
 
-ghost use Rattle.std.specs.Prelude.{◌≡◌, ◌≤◌, ℕ, IfOk, List, Option, map, string_bytes};
+ghost use Rattle.std.specs.Prelude.{◌≡◌, ◌≢◌, ◌≤◌, ℕ, IfOk, List, Option, map, string_bytes};
 ghost use Rattle.busdma_base.specs.Scenarios.Valid.{IsValid};
+ghost use Rattle.command_words.specs.Command.{run_words};
 ghost use Rattle.command_words.specs.declared.command.Command.TheVariants.{Replay, Storm};
 ghost use Rattle.busdma_cmd.specs.Edges.{edges};
 ghost use Rattle.busdma_cmd.specs.Outcome.{Keeps};
@@ -10,7 +11,7 @@ ghost use Rattle.busdma_cmd.specs.Ends.{Reads, CountsReads, EndsBy, outcome};
 use crate::cause::Cause;
 use crate::outcome::Outcome;
 use busdma_base::{Journal, Scenario};
-use command_words::{Command, command_of, storms_are_small};
+use command_words::{Command, command_of, run_is_one_word, storms_are_small};
 use io_edge::{Input, Sink, Source, read_up_to, write_all};
 use report_text::report;
 use scenario_read::{Reading, scenario_of};
@@ -22,7 +23,7 @@ use world_core::{replay, status};
 const INPUT_LIMIT: usize = 16_777_216;
 
 /// The scenario that all of the source is.
-fn read_scenario<S: Source>(alloc: Global, source: &mut S) -> Result<Scenario, Cause>
+pub(crate) fn read_scenario<S: Source>(alloc: Global, source: &mut S) -> Result<Scenario, Cause>
     ensures reads { Reads (S.left source.old) (S.left source.new) result }
     ensures faults { CountsReads (S.faults source.old) (S.faults source.new) result }
     ensures valid { IfOk result IsValid }
@@ -78,7 +79,7 @@ fn run_storm<K: Sink>(alloc: Global, n: u32, seed: u64, sink: &mut K) -> Result<
 }
 
 /// The outcome of a run.
-fn outcome_of(ran: Result<Journal, Cause>) -> Outcome
+pub(crate) fn outcome_of(ran: Result<Journal, Cause>) -> Outcome
     ensures { result ≡ outcome ran }
 {
     let (status, journal, fault) = match ran {
@@ -96,13 +97,15 @@ fn outcome_of(ran: Result<Journal, Cause>) -> Outcome
     }
 }
 
-/// Runs the command that the words ask for. It waits for nobody and always returns.
+/// Runs the command that the words ask for, which is no run on threads. It waits for nobody and
+/// always returns.
 pub fn plain_command<S: Source, K: Sink>(
     alloc: Global,
     words: &[String],
     source: &mut S,
     sink: &mut K,
 ) -> Outcome
+    requires { map string_bytes words.now ≢ run_words }
     ensures { Keeps (map string_bytes words.now)
         (edges S.left S.faults K.held K.faults source.old source.new sink.old sink.new)
         result }
@@ -112,6 +115,10 @@ pub fn plain_command<S: Source, K: Sink>(
         Ok(Some(Command::Storm { n, seed })) => {
             storms_are_small();
             outcome_of(run_storm(alloc, n, seed, sink))
+        }
+        Ok(Some(Command::Run)) => {
+            run_is_one_word();
+            unreachable!()
         }
         Ok(None) => Outcome {
             status: 64,

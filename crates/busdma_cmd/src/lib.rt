@@ -7,12 +7,14 @@ mod gate;
 mod line;
 mod outcome;
 mod program_call;
+mod run_call;
 mod top_call;
 
 pub use command::plain_command;
-pub use command_words::{Command, command_of};
-pub use gate::Gate;
+pub use command_words::{Command, command_of, is_run};
+pub use lane_rounds::Gate;
 pub use line::fault_line;
 pub use outcome::Outcome;
 pub use program_call::{program, program_words};
+pub use run_call::run_command;
 pub use top_call::top;

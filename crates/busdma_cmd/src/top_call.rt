@@ -5,25 +5,32 @@ ghost use Rattle.busdma_cmd.specs.Edges.{edges};
 ghost use Rattle.busdma_cmd.specs.Outcome.{Keeps};
 
 use crate::command::plain_command;
-use crate::gate::Gate;
 use crate::outcome::Outcome;
+use crate::run_call::run_command;
+use command_words::is_run;
 use io_edge::{Sink, Source};
+use lane_rounds::Gate;
 use std::alloc::Global;
 use std::sync::Wait;
 use std::thread::Threads;
 
-/// Runs the command that the words ask for.
+/// Runs the command that the words ask for. For the word `run` alone the drivers are turned on
+/// threads, each turn behind the gate, and it may wait for ever.
 pub fn top<R: Threads + Wait + Sync, S: Source, K: Sink, G: Gate + Sync>(
-    _rt: &R,
+    rt: &R,
     alloc: Global,
     words: &[String],
     source: &mut S,
     sink: &mut K,
-    _gate: &G,
+    gate: &G,
 ) -> Outcome
     ensures { Keeps (map string_bytes words.now)
         (edges S.left S.faults K.held K.faults source.old source.new sink.old sink.new)
         result }
 {
-    plain_command(alloc, words, source, sink)
+    if is_run(words) {
+        run_command(rt, alloc, source, sink, gate)
+    } else {
+        plain_command(alloc, words, source, sink)
+    }
 }

@@ -5,6 +5,7 @@ ghost use Rattle.std.specs.Prelude.{◌≤◌};
 mod bounces;
 mod causes;
 mod deferrals;
+mod gated;
 mod kinds;
 mod large;
 mod lines;
@@ -12,14 +13,18 @@ mod refusals;
 mod reports;
 mod rows;
 mod rows_with_reports;
+mod runs;
 mod segments;
 mod storms;
 
-use busdma_cmd::{Outcome, plain_command};
+use busdma_base::LaneId;
+use busdma_cmd::{Gate, Outcome, top};
 use io_edge::{MemSink, MemSource};
 use std::alloc::{AllocError, Global};
 use std::process::Abort;
+use std::sync::Wait;
 use std::test::Fail;
+use std::thread::Threads;
 
 /// How a call ended, and the bytes that its sink holds.
 #[derive(Drop)]
@@ -41,6 +46,13 @@ const WHOLE: Edge<'static> = Edge {
     failing: &[],
 };
 
+/// A gate that lets every turn through at once.
+struct Open;
+
+impl Gate for Open {
+    fn at(&self, _lane: LaneId, _turn: u64) {}
+}
+
 /// The words, as the command takes them.
 fn words_of(alloc: Global, words: &[&str]) -> Result<Vec<String>, AllocError> {
     let mut all = Vec::new(alloc);
@@ -51,7 +63,8 @@ fn words_of(alloc: Global, words: &[&str]) -> Result<Vec<String>, AllocError> {
 }
 
 /// Calls the command with these words over this input.
-fn call(
+fn call<R: Threads + Wait + Sync>(
+    rt: &R,
     alloc: Global,
     words: &[&str],
     input: Vec<u8>,
@@ -64,25 +77,39 @@ fn call(
     let words = words_of(alloc, words)?;
     let mut source = MemSource::new(input, from.piece, from.failing.to_vec(alloc)?);
     let mut sink = MemSink::new(alloc, to.piece, to.failing.to_vec(alloc)?);
-    let outcome = plain_command(alloc, &words, &mut source, &mut sink);
+    let outcome = top(rt, alloc, &words, &mut source, &mut sink, &Open);
     Ok(Ended {
         outcome,
         written: sink.held().to_vec(alloc)?,
     })
 }
 
-/// Replays a scenario, and compares its report and the status.
-fn replays(
-    rt: &impl Abort,
+/// Runs a scenario by the command of a word, and compares its report and the status.
+fn gives<R: Threads + Wait + Sync + Abort>(
+    rt: &R,
     alloc: Global,
+    word: &str,
     scenario: &str,
     want: &str,
     status: u8,
 ) -> Result<(), Fail> {
     let input = scenario.as_bytes().to_vec(alloc)?;
-    let ended = call(alloc, &["replay"], input, WHOLE, WHOLE)?;
+    let ended = call(rt, alloc, &[word], input, WHOLE, WHOLE)?;
     assert_eq!(rt; ended.outcome.status, status);
     assert_eq!(rt; str::from_utf8(&ended.written)?, want);
     assert!(rt; ended.outcome.fault.is_none());
     Ok(())
+}
+
+/// A scenario of one driver without an order: whether it is replayed or run on a thread, the driver's
+/// sides take their turns in the same rounds.
+fn replays_and_runs<R: Threads + Wait + Sync + Abort>(
+    rt: &R,
+    alloc: Global,
+    scenario: &str,
+    want: &str,
+    status: u8,
+) -> Result<(), Fail> {
+    gives(rt, alloc, "replay", scenario, want, status)?;
+    gives(rt, alloc, "run", scenario, want, status)
 }

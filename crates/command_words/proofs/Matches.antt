@@ -1,5 +1,5 @@
 -- The command that matches tell.
-use Rattle.std.proofs.Common.{◌≡◌, ◌∙◌, cond, false, List, codes, sym, ap, Option, Some, None, option_map}
+use Rattle.std.proofs.Common.{◌≡◌, ◌∙◌, cond, false, List, codes, sym, ap, ap₂, Option, Some, None, option_map}
 use Rattle.std.specs.Prelude.{Box}
 use Rattle.std.specs.Box.{box_value}
 use Rattle.std.specs.Str.{bytes_eq}
@@ -10,7 +10,7 @@ use Rattle.clap.specs.declared.parser.matches.ArgMatches.{ArgMatches}
 use Rattle.clap.specs.declared.parser.matches.ArgMatches.TheViews.{out-ArgMatches, out-SubCommand}
 use Rattle.clap.specs.declared.parser.matches.SubCommand.{SubCommand}
 use Rattle.command_words.specs.declared.command.Command.{Command}
-use Rattle.command_words.specs.declared.command.Command.TheVariants.{Replay}
+use Rattle.command_words.specs.declared.command.Command.TheVariants.{Replay, Run}
 use Rattle.command_words.specs.Line.{met, storm_asked}
 
 -- the storm of the words that were found
@@ -20,19 +20,24 @@ asked rows = storm_asked (first_of (codes "N") rows) (first_of (codes "SEED") ro
 met_in : {Z : Type 0} (name : Text) (rows : List Row) (s : Option (Box SubCommand Z))
     → Some name ≡ option_map (λ b. (out-SubCommand (box_value b)).name.now) s
     → Some rows ≡ option_map (λ p. p.1) (subcommand_rows s)
-    → bytes_eq name (codes "replay") ≡ false → asked rows ≡ met (subcommand_rows s)
-met_in name rows None is_name is_rows other = absurd (cc)
-met_in name rows (Some b) is_name is_rows other =
+    → bytes_eq name (codes "replay") ≡ false → bytes_eq name (codes "run") ≡ false
+    → asked rows ≡ met (subcommand_rows s)
+met_in name rows None is_name is_rows other no_run = absurd (cc)
+met_in name rows (Some b) is_name is_rows other no_run =
     let sub = out-SubCommand (box_value b) in
     let same_name : name ≡ sub.name.now = cc in
     let same_rows : rows ≡ rows_of (found_of sub.matches) = cc in
     let no_replay : bytes_eq sub.name.now (codes "replay") ≡ false =
     ap (λ t. bytes_eq t (codes "replay")) (sym same_name) ∙ other in
+    let not_run : bytes_eq sub.name.now (codes "run") ≡ false =
+    ap (λ t. bytes_eq t (codes "run")) (sym same_name) ∙ no_run in
     ap asked same_rows
-    ∙ ap (λ b. cond b (Some Replay) (asked (rows_of (found_of sub.matches)))) (sym no_replay)
+    ∙ ap₂ (λ b c. cond b (Some Replay) (cond c (Some Run) (asked (rows_of (found_of sub.matches)))))
+    (sym no_replay) (sym not_run)
 
--- a subcommand that is not `replay` is the storm of its two words
+-- a subcommand that is neither `replay` nor `run` is the storm of its two words
 pub met_is : (name : Text) (rows : List Row) (m : ArgMatches) → Some name ≡ subcommand_name_of m
     → Some rows ≡ option_map (λ p. p.1) (subcommand_rows_of m)
-    → bytes_eq name (codes "replay") ≡ false → asked rows ≡ met (subcommand_rows_of m)
+    → bytes_eq name (codes "replay") ≡ false → bytes_eq name (codes "run") ≡ false
+    → asked rows ≡ met (subcommand_rows_of m)
 met_is name rows m = met_in name rows (out-ArgMatches m).subcommand

@@ -1,4 +1,4 @@
--- What clap makes of the words of a command line: one of `replay` and `storm`, of whose words the
+-- What clap makes of the words of a command line: one of `replay`, `run` and `storm`, of whose words the
 -- shape alone is known.
 use Rattle.std.proofs.Common.{◌≡◌, ◌∙◌, ℕ, ◌==◌, Bool, cond, true, false, List, [], ◌∷◌, refl, sym, ap, ap₂, codes, option_map}
 use Rattle.std.proofs.Common.{◌||◌, Option, Some, None, fold, is_some, subst, true≢false, inl, inr}
@@ -271,6 +271,43 @@ replay_fits (next ∷ more) plain =
     refused (codes "replay" ∷ next ∷ more) kind.UnknownArgument [] (replay_more next more p.0)
     (replay_command next more)
 
+-- ---- run
+
+abbrev run_shape : Shape
+run_shape = unwrap_or (find (λ s. answers_to (codes "run") (label_of s)) app.subs) storm_line.top
+
+run_stops : (rest : List Text)
+    → walk app.top.rules names nothing_held (codes "run" ∷ rest) ≡ stopped_at (codes "run") rest
+unfolding clap_on_literals
+run_stops rest = sym (walk_stopped app.top.rules names begin (codes "run") [] rest)
+
+run_unfaulted : (rest : List Text)
+    → walk_fault app.top names begin (codes "run" ∷ rest) ≡ []
+unfolding clap_on_literals
+run_unfaulted rest = stopped_fault app.top names begin (codes "run", []) rest
+
+run_more : (next : Text) (more : List Text) → is_flag next ≡ false
+    → fault_of line (codes "run" ∷ next ∷ more) ≡ kind.UnknownArgument ∷ []
+unfolding clap_on_literals
+run_more next more plain = ap₂ from_walk (run_stops (next ∷ more)) (run_unfaulted (next ∷ more))
+    ∙ ap (λ turn. level app.top (stopped_at (codes "run") (next ∷ more)) true
+    (level run_shape (walk run_shape.rules [] nothing_held (next ∷ more)) false []
+    (or_else turn (walk_fault run_shape [] (walked run_shape.rules [] begin next) more))) [])
+    (stray_turn run_shape [] nothing_held 1 next refl plain)
+
+run_command : (next : Text) (more : List Text) → command (codes "run" ∷ next ∷ more) ≡ None
+run_command next [] = refl
+run_command next (third ∷ []) = refl
+run_command next (third ∷ fourth ∷ more) = refl
+
+run_fits : (rest : List Text) → list_any is_flag rest ≡ false → Fits (codes "run" ∷ rest)
+unfolding clap_on_literals
+run_fits [] plain = taken (codes "run" ∷ []) refl refl
+run_fits (next ∷ more) plain =
+    let p = neither (is_flag next) _ plain in
+    refused (codes "run" ∷ next ∷ more) kind.UnknownArgument [] (run_more next more p.0)
+    (run_command next more)
+
 -- ---- every other word
 
 same_either_way : (xs ys : Text) → bytes_eq xs ys ≡ bytes_eq ys xs
@@ -278,23 +315,26 @@ same_either_way xs ys = same_from_decides (bytes_eq xs ys) (bytes_eq ys xs) (byt
     (Decides-like (bytes_eq ys xs) sym sym (bytes_eq-Decides ys xs))
 
 other_command : (word : Text) (rest : List Text) → bytes_eq (codes "replay") word ≡ false
-    → bytes_eq (codes "storm") word ≡ false → command (word ∷ rest) ≡ None
-other_command word [] no_replay no_storm = rw (same_either_way word (codes "replay"), no_replay) refl
-other_command word (n ∷ []) no_replay no_storm = refl
-other_command word (n ∷ seed ∷ []) no_replay no_storm =
+    → bytes_eq (codes "run") word ≡ false → bytes_eq (codes "storm") word ≡ false
+    → command (word ∷ rest) ≡ None
+other_command word [] no_replay no_run no_storm =
+    rw (same_either_way word (codes "replay"), no_replay, same_either_way word (codes "run"), no_run) refl
+other_command word (n ∷ []) no_replay no_run no_storm = refl
+other_command word (n ∷ seed ∷ []) no_replay no_run no_storm =
     rw (same_either_way word (codes "storm"), no_storm) refl
-other_command word (n ∷ seed ∷ next ∷ more) no_replay no_storm = refl
+other_command word (n ∷ seed ∷ next ∷ more) no_replay no_run no_storm = refl
 
 other_fits : (word : Text) (rest : List Text) → bytes_eq (codes "replay") word ≡ false
-    → bytes_eq (codes "storm") word ≡ false → is_flag word ≡ false → Fits (word ∷ rest)
+    → bytes_eq (codes "run") word ≡ false → bytes_eq (codes "storm") word ≡ false
+    → is_flag word ≡ false → Fits (word ∷ rest)
 unfolding clap_on_literals
-other_fits word rest no_replay no_storm plain =
-    let unnamed : find (answers_to word) names ≡ None = rw (no_replay, no_storm) refl in
+other_fits word rest no_replay no_run no_storm plain =
+    let unnamed : find (answers_to word) names ≡ None = rw (no_replay, no_run, no_storm) refl in
     refused (word ∷ rest) kind.UnknownArgument (kind.InvalidSubcommand ∷ [])
     (ap (λ turn. from_walk (walk app.top.rules names nothing_held (word ∷ rest))
     (or_else turn (walk_fault app.top names (walked app.top.rules names begin word) rest)))
     (stray_turn app.top names nothing_held 1 word unnamed plain))
-    (other_command word rest no_replay no_storm)
+    (other_command word rest no_replay no_run no_storm)
 
 pub fits : (words : List Text) → list_any is_flag words ≡ false → Fits words
 unfolding clap_on_literals
@@ -304,17 +344,24 @@ fits (word ∷ rest) plain =
     by_replay p (bytes_eq (codes "replay") word) refl
   where
     by_storm : (is_flag word ≡ false) × (list_any is_flag rest ≡ false)
-        → bytes_eq (codes "replay") word ≡ false
+        → bytes_eq (codes "replay") word ≡ false → bytes_eq (codes "run") word ≡ false
         → (b : Bool) → bytes_eq (codes "storm") word ≡ b → Fits (word ∷ rest)
-    by_storm p no_replay true is = subst (λ t. Fits (t ∷ rest)) ((bytes_eq-Decides (codes "storm") word).0 is)
+    by_storm p no_replay no_run true is = subst (λ t. Fits (t ∷ rest)) ((bytes_eq-Decides (codes "storm") word).0 is)
         (storm_fits rest p.1)
-    by_storm p no_replay false is = other_fits word rest no_replay is p.0
+    by_storm p no_replay no_run false is = other_fits word rest no_replay no_run is p.0
+
+    by_run : (is_flag word ≡ false) × (list_any is_flag rest ≡ false)
+        → bytes_eq (codes "replay") word ≡ false
+        → (b : Bool) → bytes_eq (codes "run") word ≡ b → Fits (word ∷ rest)
+    by_run p no_replay true is = subst (λ t. Fits (t ∷ rest)) ((bytes_eq-Decides (codes "run") word).0 is)
+        (run_fits rest p.1)
+    by_run p no_replay false is = by_storm p no_replay is (bytes_eq (codes "storm") word) refl
 
     by_replay : (is_flag word ≡ false) × (list_any is_flag rest ≡ false)
         → (b : Bool) → bytes_eq (codes "replay") word ≡ b → Fits (word ∷ rest)
     by_replay p true is = subst (λ t. Fits (t ∷ rest)) ((bytes_eq-Decides (codes "replay") word).0 is)
         (replay_fits rest p.1)
-    by_replay p false is = by_storm p is (bytes_eq (codes "storm") word) refl
+    by_replay p false is = by_run p is (bytes_eq (codes "run") word) refl
 
 -- ---- what a parse tells
 

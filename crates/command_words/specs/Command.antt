@@ -4,7 +4,7 @@ use Rattle.std.specs.Prelude.{nat_le, nat_lt}
 use Rattle.std.specs.Str.{bytes_eq, all_ascii_digits}
 use Rattle.std.specs.Str.Parse.{digits_value}
 use Rattle.command_words.specs.declared.command.Command.{Command}
-use Rattle.command_words.specs.declared.command.Command.TheVariants.{Replay, Storm}
+use Rattle.command_words.specs.declared.command.Command.TheVariants.{Replay, Run, Storm}
 
 -- the word has 1 to 20 decimal digits and nothing else
 abbrev pub is_numeral : List ℕ → Bool
@@ -29,10 +29,20 @@ storm_of None seed = None
 abbrev pub storm : List ℕ → List ℕ → Option Command
 storm n seed = storm_of (number 256 n) (number (2 ^ 64 - 1) seed)
 
+-- the words of a run on threads
+abbrev pub run_words : List (List ℕ)
+run_words = codes "run" ∷ []
+
+-- the command of one word
+abbrev pub alone : List ℕ → Option Command
+alone word =
+    if bytes_eq word (codes "replay") then Some Replay
+    else (if bytes_eq word (codes "run") then Some Run else None)
+
 -- the command that the words ask for; every other list of words asks for none
 abbrev pub command : List (List ℕ) → Option Command
 command [] = None
-command (word ∷ []) = if bytes_eq word (codes "replay") then Some Replay else None
+command (word ∷ []) = alone word
 command (word ∷ n ∷ []) = None
 command (word ∷ n ∷ seed ∷ []) = if bytes_eq word (codes "storm") then storm n seed else None
 command (word ∷ n ∷ seed ∷ next ∷ more) = None

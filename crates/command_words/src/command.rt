@@ -1,6 +1,6 @@
 //! The command that the words of the program ask for.
 
-ghost use Rattle.std.specs.Prelude.{◌≡◌, IfOk, map, option_map, string_bytes};
+ghost use Rattle.std.specs.Prelude.{◌≡◌, ◌↔◌, IfOk, IsTrue, map, option_map, string_bytes};
 ghost use Rattle.std.specs.List.{list_any};
 ghost use Rattle.clap.specs.Words.{subcommand_rows_of};
 ghost use Rattle.command_words.specs.Command as spec;
@@ -17,6 +17,8 @@ use std::alloc::{AllocError, Global};
 pub enum Command {
     /// Reads a scenario, replays its order and writes the report.
     Replay,
+    /// Reads a scenario, runs its drivers on threads and writes the report.
+    Run,
     /// Makes the storm of `n` rounds of each driver and a seed, replays it and writes its summary.
     Storm { n: u32, seed: u64 },
 }
@@ -36,6 +38,7 @@ fn met(matches: &ArgMatches) -> Option<Command>
 {
     match matches.subcommand()? {
         ("replay", _) => Some(Command::Replay),
+        ("run", _) => Some(Command::Run),
         (_, storm) => storm_of(storm.get_str("N"), storm.get_str("SEED")),
     }
 }
@@ -68,5 +71,15 @@ pub fn command_of(alloc: Global, words: &[String]) -> Result<Option<Command>, Al
             ErrorKind::OutOfMemory => Err(AllocError),
             _ => Ok(None),
         },
+    }
+}
+
+/// Whether the words ask for a run on threads.
+pub fn is_run(words: &[String]) -> bool
+    ensures { IsTrue result ↔ (map string_bytes words.now ≡ spec.run_words) }
+{
+    match words {
+        [word] => word.as_str() == "run",
+        _ => false,
     }
 }

@@ -8,5 +8,5 @@ mod number;
 #[cfg(test)]
 mod tests;
 
-pub use command::{Command, command_of};
-pub use laws::storms_are_small;
+pub use command::{Command, command_of, is_run};
+pub use laws::{run_is_one_word, storms_are_small};

@@ -27,5 +27,6 @@ pub(crate) fn command_line<'a>(alloc: Global) -> Result<Command<'a>, AllocError>
         .disable_help_subcommand(true)
         .subcommand_required(true)
         .subcommand(Command::new(alloc, "replay"))?
+        .subcommand(Command::new(alloc, "run"))?
         .subcommand(storm)
 }

@@ -1,21 +1,26 @@
 //! Lists of words that ask for a command, and lists that ask for none.
 
-use crate::{Command, command_of};
+use crate::{Command, command_of, is_run};
 use std::alloc::{AllocError, Global};
 use std::test::Fail;
 
-fn asked(alloc: Global, list: &[&str]) -> Result<Option<Command>, AllocError> {
+fn words_of(alloc: Global, list: &[&str]) -> Result<Vec<String>, AllocError> {
     let mut words = Vec::new(alloc);
     for word in list {
         words.push(String::from_str(alloc, word)?)?;
     }
-    command_of(alloc, &words)
+    Ok(words)
+}
+
+fn asked(alloc: Global, list: &[&str]) -> Result<Option<Command>, AllocError> {
+    command_of(alloc, &words_of(alloc, list)?)
 }
 
 #[test]
 fn asks_for_a_command(rt: HostRuntime) -> Result<(), Fail> {
     let alloc = rt.alloc();
     assert_eq!(rt; asked(alloc, &["replay"])?, Some(Command::Replay));
+    assert_eq!(rt; asked(alloc, &["run"])?, Some(Command::Run));
     let table: [(&str, &str, u32, u64); 5] = [
         ("1", "1", 1, 1),
         ("01", "01", 1, 1),
@@ -33,16 +38,22 @@ fn asks_for_a_command(rt: HostRuntime) -> Result<(), Fail> {
 #[test]
 fn asks_for_none(rt: HostRuntime) -> Result<(), Fail> {
     let alloc = rt.alloc();
-    let lists: [&[&str]; 30] = [
+    let lists: [&[&str]; 36] = [
         &[],
         &[""],
         &["help"],
-        &["run"],
+        &["Run"],
+        &["runs"],
         &["run", "x"],
+        &["run", "run"],
+        &["run", "replay"],
+        &["run", "-h"],
+        &["run", "1", "1"],
         &["Replay"],
         &["replay", "x"],
         &["replay", "replay"],
         &["replay", "storm"],
+        &["replay", "run"],
         &["--replay"],
         &["-h"],
         &["--", "replay"],
@@ -67,6 +78,17 @@ fn asks_for_none(rt: HostRuntime) -> Result<(), Fail> {
     ];
     for list in lists {
         assert_eq!(rt; asked(alloc, list)?, None, "at {list:?}");
+    }
+    Ok(())
+}
+
+#[test]
+fn tells_a_run(rt: HostRuntime) -> Result<(), Fail> {
+    let alloc = rt.alloc();
+    assert!(rt; is_run(&words_of(alloc, &["run"])?));
+    let lists: [&[&str]; 5] = [&[], &["replay"], &["runs"], &["run", "run"], &["run", "x"]];
+    for list in lists {
+        assert!(rt; !is_run(&words_of(alloc, list)?), "at {list:?}");
     }
     Ok(())
 }

@@ -1,6 +1,6 @@
 //! Loads with bounce pages: whole runs, whose reports are worked out by hand.
 
-use super::replays;
+use super::replays_and_runs;
 use std::test::Fail;
 
 const ABOVE_MAXSIZE: &str = r#"{"frames": [["0x10", 8], ["0x1000", 16]],
@@ -292,7 +292,7 @@ fn bounces(rt: HostRuntime) -> Result<(), Fail> {
         ),
     ];
     for (scenario, want, status) in table {
-        replays(&rt, rt.alloc(), scenario, want, status)?;
+        replays_and_runs(&rt, rt.alloc(), scenario, want, status)?;
     }
     Ok(())
 }

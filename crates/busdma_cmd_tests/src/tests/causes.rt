@@ -1,9 +1,13 @@
 //! Statuses that come before a scenario is run.
 
 use super::{Edge, WHOLE, call, words_of};
-use busdma_cmd::plain_command;
+use busdma_cmd::{is_run, plain_command};
 use io_edge::{Input, MemSink, MemSource, read_up_to};
+use std::alloc::Global;
+use std::process::Abort;
+use std::sync::Wait;
 use std::test::Fail;
+use std::thread::Threads;
 
 /// Lists of words that are no command; nothing is read.
 #[test]
@@ -12,7 +16,7 @@ fn words_come_first(rt: HostRuntime) -> Result<(), Fail> {
     let lists: [&[&str]; 16] = [
         &[],
         &["help"],
-        &["run"],
+        &["Run"],
         &["replay", "replay"],
         &["--replay"],
         &["Replay"],
@@ -31,6 +35,7 @@ fn words_come_first(rt: HostRuntime) -> Result<(), Fail> {
         let words = words_of(alloc, list)?;
         let mut source = MemSource::new(b"{}".to_vec(alloc)?, 9, vec![in alloc; 0]?);
         let mut sink = MemSink::new(alloc, 9, Vec::new(alloc));
+        assert!(rt; !is_run(&words), "at {list:?}");
         let outcome = plain_command(alloc, &words, &mut source, &mut sink);
         assert_eq!(rt; outcome.status, 64, "at {list:?}");
         assert!(rt; outcome.journal.is_none(), "at {list:?}");
@@ -57,12 +62,18 @@ fn refuses(rt: HostRuntime) -> Result<(), Fail> {
         ),
     ];
     for (input, want) in table {
-        for piece in 1..4 {
+        for (word, piece) in [
+            ("replay", 1),
+            ("replay", 2),
+            ("replay", 3),
+            ("run", 1),
+            ("run", 2),
+        ] {
             let from = Edge {
                 piece,
                 failing: &[],
             };
-            let ended = call(alloc, &["replay"], input.to_vec(alloc)?, from, WHOLE)?;
+            let ended = call(&rt, alloc, &[word], input.to_vec(alloc)?, from, WHOLE)?;
             assert_eq!(rt; ended.outcome.status, 65, "{want}");
             assert!(rt; ended.outcome.journal.is_none(), "{want}");
             assert!(rt; ended.written.is_empty(), "{want}");
@@ -78,16 +89,36 @@ fn refuses(rt: HostRuntime) -> Result<(), Fail> {
     Ok(())
 }
 
+fn ends_by_length<R: Threads + Wait + Sync + Abort>(
+    rt: &R,
+    alloc: Global,
+    word: &str,
+    count: usize,
+    want: u8,
+) -> Result<(), Fail> {
+    let spaces = vec![in alloc; b' '; count]?;
+    let ended = call(rt, alloc, &[word], spaces, WHOLE, WHOLE)?;
+    assert_eq!(rt; ended.outcome.status, want, "at {count}");
+    assert!(rt; ended.outcome.fault.is_some() == (want == 65), "at {count}");
+    assert!(rt; ended.written.is_empty(), "at {count}");
+    Ok(())
+}
+
 /// A byte too many is too long, and one less is read and judged.
 #[test]
-fn reads_so_many_bytes_at_the_most(rt: HostRuntime) -> Result<(), Fail> {
+fn a_replay_reads_so_many_bytes_at_the_most(rt: HostRuntime) -> Result<(), Fail> {
     let alloc = rt.alloc();
     for (count, want) in [(16_777_216, 65), (16_777_217, 66), (16_777_218, 66)] {
-        let spaces = vec![in alloc; b' '; count]?;
-        let ended = call(alloc, &["replay"], spaces, WHOLE, WHOLE)?;
-        assert_eq!(rt; ended.outcome.status, want, "at {count}");
-        assert!(rt; ended.outcome.fault.is_some() == (want == 65), "at {count}");
-        assert!(rt; ended.written.is_empty(), "at {count}");
+        ends_by_length(&rt, alloc, "replay", count, want)?;
+    }
+    Ok(())
+}
+
+#[test]
+fn a_run_reads_so_many_bytes_at_the_most(rt: HostRuntime) -> Result<(), Fail> {
+    let alloc = rt.alloc();
+    for (count, want) in [(16_777_216, 65), (16_777_217, 66)] {
+        ends_by_length(&rt, alloc, "run", count, want)?;
     }
     Ok(())
 }
@@ -96,12 +127,22 @@ fn reads_so_many_bytes_at_the_most(rt: HostRuntime) -> Result<(), Fail> {
 #[test]
 fn fails_with_each_read(rt: HostRuntime) -> Result<(), Fail> {
     let alloc = rt.alloc();
-    for (call_number, want) in [(0, 74), (1, 74), (2, 74), (3, 74), (4, 65)] {
+    let table = [
+        ("replay", 0, 74),
+        ("replay", 1, 74),
+        ("replay", 2, 74),
+        ("replay", 3, 74),
+        ("replay", 4, 65),
+        ("run", 0, 74),
+        ("run", 3, 74),
+        ("run", 4, 65),
+    ];
+    for (word, call_number, want) in table {
         let from = Edge {
             piece: 1,
             failing: &[call_number],
         };
-        let ended = call(alloc, &["replay"], b"{ }".to_vec(alloc)?, from, WHOLE)?;
+        let ended = call(&rt, alloc, &[word], b"{ }".to_vec(alloc)?, from, WHOLE)?;
         assert_eq!(rt; ended.outcome.status, want, "call {call_number}");
         assert!(rt; ended.written.is_empty(), "call {call_number}");
     }

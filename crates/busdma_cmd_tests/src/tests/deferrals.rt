@@ -1,6 +1,6 @@
 //! Loads that wait for bounce pages: whole runs, whose reports are worked out by hand.
 
-use super::replays;
+use super::{gives, replays_and_runs};
 use std::test::Fail;
 
 const DEFERRED_AND_SERVED: &str = r#"{"frames": [["0x10", 8], ["0x1000", 16]],
@@ -204,10 +204,16 @@ fn deferrals(rt: HostRuntime) -> Result<(), Fail> {
             TOO_MANY_SEGMENTS_AT_A_CALLBACK_REPORT,
             0,
         ),
-        (TWO_DRIVERS, TWO_DRIVERS_REPORT, 0),
     ];
     for (scenario, want, status) in table {
-        replays(&rt, rt.alloc(), scenario, want, status)?;
+        replays_and_runs(&rt, rt.alloc(), scenario, want, status)?;
     }
-    Ok(())
+    gives(
+        &rt,
+        rt.alloc(),
+        "replay",
+        TWO_DRIVERS,
+        TWO_DRIVERS_REPORT,
+        0,
+    )
 }

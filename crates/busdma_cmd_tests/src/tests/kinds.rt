@@ -1,6 +1,6 @@
 //! Loads of bios: whole runs, whose reports are worked out by hand.
 
-use super::replays;
+use super::replays_and_runs;
 use std::test::Fail;
 
 const UNMAPPED: &str = r#"{"frames": [["0x10", 8], ["0x1000", 16]],
@@ -53,7 +53,7 @@ fn kinds(rt: HostRuntime) -> Result<(), Fail> {
         (UNMAPPED, UNMAPPED_REPORT),
         (NOT_ROUNDED, NOT_ROUNDED_REPORT),
     ] {
-        replays(&rt, rt.alloc(), scenario, want, 0)?;
+        replays_and_runs(&rt, rt.alloc(), scenario, want, 0)?;
     }
     Ok(())
 }

@@ -55,7 +55,7 @@ fn refuses_each(rt: HostRuntime) -> Result<(), Fail> {
                 panic!(rt; "{line}");
             };
             let input = format!(in alloc; "{before}{part}{after}")?;
-            let ended = call(alloc, &["replay"], input.into_bytes(), WHOLE, WHOLE)?;
+            let ended = call(&rt, alloc, &["replay"], input.into_bytes(), WHOLE, WHOLE)?;
             let told = told(alloc, &ended.outcome)?;
             assert_eq!(rt; told.as_str(), want, "{part}");
             assert_eq!(rt; ended.outcome.status, 65, "{part}");
@@ -81,7 +81,7 @@ fn refuses_bytes(rt: HostRuntime) -> Result<(), Fail> {
         (deeper, "NotJson"),
     ]?;
     for (input, want) in table {
-        let ended = call(alloc, &["replay"], input, WHOLE, WHOLE)?;
+        let ended = call(&rt, alloc, &["replay"], input, WHOLE, WHOLE)?;
         let told = told(alloc, &ended.outcome)?;
         assert_eq!(rt; told.as_str(), want);
         assert_eq!(rt; ended.outcome.status, 65, "{want}");
@@ -95,7 +95,7 @@ fn refuses_bytes(rt: HostRuntime) -> Result<(), Fail> {
 fn reads_the_last_of_equal_keys(rt: HostRuntime) -> Result<(), Fail> {
     let alloc = rt.alloc();
     let input = br#"{"frames":7,"drivers":[{"script":[],"script":[]}],"frames":[]}"#;
-    let ended = call(alloc, &["replay"], input.to_vec(alloc)?, WHOLE, WHOLE)?;
+    let ended = call(&rt, alloc, &["replay"], input.to_vec(alloc)?, WHOLE, WHOLE)?;
     assert_eq!(rt; ended.outcome.status, 0);
     assert_eq!(rt;
         str::from_utf8(&ended.written)?,

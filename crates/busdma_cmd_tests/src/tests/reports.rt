@@ -3,7 +3,9 @@
 
 use super::{Ended, WHOLE, call};
 use std::alloc::{AllocError, Global};
+use std::sync::Wait;
 use std::test::Fail;
+use std::thread::Threads;
 
 /// A page at 0x100000, a tag, and two maps.
 const HEAD: &str =
@@ -13,13 +15,17 @@ const TAIL: &str = "]}]}";
 
 const HEAD_REPORT: &str = "0 s0 tag t -> ok\n1 s0 map m -> ok\n2 s0 map n -> ok\n";
 
-/// Runs a script behind the tag and the maps.
-fn run(alloc: Global, script: &str) -> Result<Ended, AllocError> {
+/// Replays a script behind the tag and the maps.
+fn replayed<R: Threads + Wait + Sync>(
+    rt: &R,
+    alloc: Global,
+    script: &str,
+) -> Result<Ended, AllocError> {
     let mut input = String::from_str(alloc, HEAD)?;
     input.push_str(script)?;
     input.push_str(TAIL)?;
     let input = input.as_bytes().to_vec(alloc)?;
-    call(alloc, &["replay"], input, WHOLE, WHOLE)
+    call(rt, alloc, &["replay"], input, WHOLE, WHOLE)
 }
 
 /// The report of a script behind the tag and the maps.
@@ -84,7 +90,7 @@ fn tells_the_byte(rt: HostRuntime) -> Result<(), Fail> {
     for (script, lines) in AT_A_BYTE {
         for byte in ["0", "4", "7"] {
             let script = script.replace(alloc, "#", byte)?;
-            let ended = run(alloc, script.as_str())?;
+            let ended = replayed(&rt, alloc, script.as_str())?;
             let want = report_of(alloc, lines.replace(alloc, "#", byte)?.as_str())?;
             assert_eq!(rt; str::from_utf8(&ended.written)?, want.as_str());
             assert_eq!(rt; ended.outcome.status, 1);
@@ -197,7 +203,7 @@ const REPORTS: [(&str, &str); 24] = [
 fn tells_what_stands_in_the_way(rt: HostRuntime) -> Result<(), Fail> {
     let alloc = rt.alloc();
     for (script, lines) in REPORTS {
-        let ended = run(alloc, script)?;
+        let ended = replayed(&rt, alloc, script)?;
         let want = report_of(alloc, lines)?;
         assert_eq!(rt; str::from_utf8(&ended.written)?, want.as_str());
         assert_eq!(rt; ended.outcome.status, 1);

@@ -1,7 +1,11 @@
 //! Whole runs, from the bytes of a scenario to the bytes of its report.
 
 use super::{Edge, WHOLE, call};
+use std::alloc::Global;
+use std::process::Abort;
+use std::sync::Wait;
 use std::test::Fail;
+use std::thread::Threads;
 
 const EMPTY_SCRIPT: &str =
     r#"{"frames": [["0x10", 8], ["0x1000", 16]], "drivers": [{"pages": [], "script": []}]}"#;
@@ -42,6 +46,14 @@ const BY_BYTES: Edge<'static> = Edge {
     failing: &[],
 };
 
+/// Each command that reads a scenario, with edges of both kinds.
+const WORDS_AND_EDGES: [(&str, Edge<'static>); 4] = [
+    ("replay", WHOLE),
+    ("replay", BY_BYTES),
+    ("run", WHOLE),
+    ("run", BY_BYTES),
+];
+
 #[test]
 fn reports(rt: HostRuntime) -> Result<(), Fail> {
     let alloc = rt.alloc();
@@ -51,9 +63,9 @@ fn reports(rt: HostRuntime) -> Result<(), Fail> {
         (NO_BYTES, NO_BYTES_REPORT),
     ];
     for (scenario, want) in table {
-        for edge in [WHOLE, BY_BYTES] {
+        for (word, edge) in WORDS_AND_EDGES {
             let input = scenario.as_bytes().to_vec(alloc)?;
-            let ended = call(alloc, &["replay"], input, edge, edge)?;
+            let ended = call(&rt, alloc, &[word], input, edge, edge)?;
             assert_eq!(rt; ended.outcome.status, 0);
             assert_eq!(rt; str::from_utf8(&ended.written)?, want);
             assert!(rt; ended.outcome.journal.is_some());
@@ -67,11 +79,16 @@ fn reports(rt: HostRuntime) -> Result<(), Fail> {
 #[test]
 fn writes_a_front(rt: HostRuntime) -> Result<(), Fail> {
     let alloc = rt.alloc();
-    let table: [(&[u64], &str); 2] = [(&[0], ""), (&[1], "end ")];
-    for (failing, want) in table {
+    let table: [(&str, &[u64], &str); 4] = [
+        ("replay", &[0], ""),
+        ("replay", &[1], "end "),
+        ("run", &[0], ""),
+        ("run", &[1], "end "),
+    ];
+    for (word, failing, want) in table {
         let input = EMPTY_SCRIPT.as_bytes().to_vec(alloc)?;
         let to = Edge { piece: 4, failing };
-        let ended = call(alloc, &["replay"], input, WHOLE, to)?;
+        let ended = call(&rt, alloc, &[word], input, WHOLE, to)?;
         assert_eq!(rt; ended.outcome.status, 73);
         assert_eq!(rt; str::from_utf8(&ended.written)?, want);
         assert!(rt; ended.outcome.journal.is_some());
@@ -80,9 +97,11 @@ fn writes_a_front(rt: HostRuntime) -> Result<(), Fail> {
 }
 
 /// Each read gives a byte, and one more sees the end.
-#[test]
-fn each_read_may_fail(rt: HostRuntime) -> Result<(), Fail> {
-    let alloc = rt.alloc();
+fn each_read_may_fail<R: Threads + Wait + Sync + Abort>(
+    rt: &R,
+    alloc: Global,
+    word: &str,
+) -> Result<(), Fail> {
     let reads = FIVE_BYTES.len() as u64 + 1;
     for number in 0..reads {
         let input = FIVE_BYTES.as_bytes().to_vec(alloc)?;
@@ -90,7 +109,7 @@ fn each_read_may_fail(rt: HostRuntime) -> Result<(), Fail> {
             piece: 1,
             failing: &[number],
         };
-        let ended = call(alloc, &["replay"], input, from, WHOLE)?;
+        let ended = call(rt, alloc, &[word], input, from, WHOLE)?;
         assert_eq!(rt; ended.outcome.status, 74, "at read {number}");
         assert!(rt; ended.written.is_empty(), "at read {number}");
         assert!(rt; ended.outcome.journal.is_none(), "at read {number}");
@@ -98,10 +117,22 @@ fn each_read_may_fail(rt: HostRuntime) -> Result<(), Fail> {
     Ok(())
 }
 
-/// Each write takes a byte, so as many bytes are written as calls went well.
 #[test]
-fn each_write_may_fail(rt: HostRuntime) -> Result<(), Fail> {
-    let alloc = rt.alloc();
+fn each_read_of_a_replay_may_fail(rt: HostRuntime) -> Result<(), Fail> {
+    each_read_may_fail(&rt, rt.alloc(), "replay")
+}
+
+#[test]
+fn each_read_of_a_run_may_fail(rt: HostRuntime) -> Result<(), Fail> {
+    each_read_may_fail(&rt, rt.alloc(), "run")
+}
+
+/// Each write takes a byte, so as many bytes are written as calls went well.
+fn each_write_may_fail<R: Threads + Wait + Sync + Abort>(
+    rt: &R,
+    alloc: Global,
+    word: &str,
+) -> Result<(), Fail> {
     let writes = FIVE_BYTES_REPORT.len() as u64;
     for number in 0..writes {
         let input = FIVE_BYTES.as_bytes().to_vec(alloc)?;
@@ -109,13 +140,24 @@ fn each_write_may_fail(rt: HostRuntime) -> Result<(), Fail> {
             piece: 1,
             failing: &[number],
         };
-        let ended = call(alloc, &["replay"], input, WHOLE, to)?;
+        let ended = call(rt, alloc, &[word], input, WHOLE, to)?;
         assert_eq!(rt; ended.outcome.status, 73, "at write {number}");
         assert_eq!(rt; ended.written.len() as u64, number, "at write {number}");
         assert!(rt;
             FIVE_BYTES_REPORT.as_bytes().starts_with(&ended.written),
             "at write {number}"
         );
+        assert!(rt; ended.outcome.journal.is_some(), "at write {number}");
     }
     Ok(())
+}
+
+#[test]
+fn each_write_of_a_replay_may_fail(rt: HostRuntime) -> Result<(), Fail> {
+    each_write_may_fail(&rt, rt.alloc(), "replay")
+}
+
+#[test]
+fn each_write_of_a_run_may_fail(rt: HostRuntime) -> Result<(), Fail> {
+    each_write_may_fail(&rt, rt.alloc(), "run")
 }

@@ -79,7 +79,7 @@ fn reports_what_is_refused(rt: HostRuntime) -> Result<(), Fail> {
     ];
     for (scenario, want) in table {
         let input = scenario.as_bytes().to_vec(alloc)?;
-        let ended = call(alloc, &["replay"], input, WHOLE, WHOLE)?;
+        let ended = call(&rt, alloc, &["replay"], input, WHOLE, WHOLE)?;
         assert_eq!(rt; ended.outcome.status, 1);
         assert_eq!(rt; str::from_utf8(&ended.written)?, want);
         assert!(rt; ended.outcome.fault.is_none());

@@ -1,6 +1,6 @@
 //! Segments: whole runs, whose reports are worked out by hand.
 
-use super::replays;
+use super::replays_and_runs;
 use std::test::Fail;
 
 const BOUNDARY: &str = r#"{"frames": [["0xf", 2]],
@@ -67,7 +67,7 @@ fn segments(rt: HostRuntime) -> Result<(), Fail> {
         (EMPTY_ENTRY, EMPTY_ENTRY_REPORT, 0),
     ];
     for (scenario, want, status) in table {
-        replays(&rt, rt.alloc(), scenario, want, status)?;
+        replays_and_runs(&rt, rt.alloc(), scenario, want, status)?;
     }
     Ok(())
 }

@@ -4,7 +4,9 @@ ghost use Rattle.std.specs.Prelude.{◌≤◌};
 
 use super::{Edge, Ended, WHOLE, call};
 use std::alloc::{AllocError, Global};
+use std::sync::Wait;
 use std::test::Fail;
+use std::thread::Threads;
 
 const LEADING_ZEROS: &str = "storm 1 1\nentries 48\nreports 0\ndeferred 1\nend finished\n";
 
@@ -19,10 +21,17 @@ const UNREADABLE: Edge<'static> = Edge {
     failing: &[0, 1, 2],
 };
 
-fn storm(alloc: Global, n: &str, seed: &str, to: Edge) -> Result<Ended, AllocError>
+fn storm<R: Threads + Wait + Sync>(
+    rt: &R,
+    alloc: Global,
+    n: &str,
+    seed: &str,
+    to: Edge,
+) -> Result<Ended, AllocError>
     requires taken { 1 ≤ to.piece }
 {
     call(
+        rt,
         alloc,
         &["storm", n, seed],
         b"{}".to_vec(alloc)?,
@@ -41,7 +50,7 @@ fn summaries(rt: HostRuntime) -> Result<(), Fail> {
         ("2", "18446744073709551615", GREATEST_SEED),
     ];
     for (n, seed, want) in table {
-        let ended = storm(alloc, n, seed, WHOLE)?;
+        let ended = storm(&rt, alloc, n, seed, WHOLE)?;
         assert_eq!(rt; ended.outcome.status, 0, "at {n} {seed}");
         assert_eq!(rt; str::from_utf8(&ended.written)?, want);
         assert!(rt; ended.outcome.journal.is_some(), "at {n} {seed}");
@@ -57,7 +66,7 @@ fn writes_a_front_of_a_summary(rt: HostRuntime) -> Result<(), Fail> {
         piece: 4,
         failing: &[1],
     };
-    let ended = storm(alloc, "1", "1", to)?;
+    let ended = storm(&rt, alloc, "1", "1", to)?;
     assert_eq!(rt; ended.outcome.status, 73);
     assert_eq!(rt; str::from_utf8(&ended.written)?, "stor");
     assert!(rt; ended.outcome.journal.is_some());

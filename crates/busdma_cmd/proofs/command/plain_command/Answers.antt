@@ -3,7 +3,7 @@ use Rattle.command_words.specs.declared.command.Command.TheVariants.{Replay, Sto
 use Rattle.command_words.specs.Command.{command}
 use Rattle.busdma_cmd.specs.Edges.{Edges, edges}
 use Rattle.busdma_cmd.specs.Outcome.{Keeps}
-use Rattle.busdma_cmd.proofs.Endings.{replay_keeps, storm_keeps}
+use Rattle.busdma_cmd.proofs.Endings.{reader_keeps, storm_keeps}
 use Rattle.busdma_cmd.proofs.command.plain_command.Goals as goal
 
 pub returns-in-Ok-Some-Replay : goal.returns-in-Ok-Some-Replay
@@ -15,7 +15,7 @@ returns-in-Ok-Some-Replay g c =
     c.args.source.now c.replay_input.new.source c.args.sink.now c.replay_input.new.sink in
     let ran = c.replay_input.ensures in
     subst (Keeps words _) (sym c.outcome_of.ensures)
-    (replay_keeps words e c.replay_input.result asked ran.ends ran.faults)
+    (reader_keeps words Replay e c.replay_input.result asked tt ran.ends ran.faults)
 
 pub returns-in-Ok-Some-Storm : goal.returns-in-Ok-Some-Storm
 returns-in-Ok-Some-Storm g c =

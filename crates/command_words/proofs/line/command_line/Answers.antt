@@ -32,7 +32,11 @@ returns c =
     let replay_is = ap (λ (a : App). a.top) c.new-2.ensures.app in
     let first : app_of c.in_ok-subcommand.field-0 ≡ with_subcommand program (new_app (codes "replay")).top =
     c.in_ok-subcommand.ensures.shape c.new-2.ensures.local ∙ ap₂ with_subcommand program_is replay_is in
+    let run_is = ap (λ (a : App). a.top) c.new-3.ensures.app in
+    let second : app_of c.in_ok-subcommand-2.field-0
+    ≡ with_subcommand (with_subcommand program (new_app (codes "replay")).top) (new_app (codes "run")).top =
+    c.in_ok-subcommand-2.ensures.shape c.new-3.ensures.local ∙ ap₂ with_subcommand first run_is in
     let storm_is = ap (λ (a : App). a.top) c.in_ok-storm.ensures in
     let local = (plain_fields c.in_ok-storm.storm (ap (λ (a : App). a.top.is_plain) c.in_ok-storm.ensures)).globals in
-    IfOk-weaker c.subcommand-2.result _ _ (λ r added. added.shape local ∙ ap₂ with_subcommand first storm_is)
-    c.subcommand-2.ensures
+    IfOk-weaker c.subcommand-3.result _ _ (λ r added. added.shape local ∙ ap₂ with_subcommand second storm_is)
+    c.subcommand-3.ensures

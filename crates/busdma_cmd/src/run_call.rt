@@ -1,0 +1,58 @@
+//! The command that turns the drivers on threads.
+
+ghost use Rattle.std.specs.Prelude.{◌≡◌};
+ghost use Rattle.command_words.specs.Command.{run_words};
+ghost use Rattle.command_words.specs.declared.command.Command.TheVariants.{Run};
+ghost use Rattle.busdma_cmd.specs.Edges.{edges};
+ghost use Rattle.busdma_cmd.specs.Ends.{CountsReads, EndsBy};
+ghost use Rattle.busdma_cmd.specs.Outcome.{Keeps};
+
+use crate::cause::Cause;
+use crate::command::{outcome_of, read_scenario};
+use crate::outcome::Outcome;
+use busdma_base::Journal;
+use io_edge::{Sink, Source, write_all};
+use lane_rounds::Gate;
+use lane_run::run_lanes;
+use report_text::report;
+use std::alloc::Global;
+use std::sync::Wait;
+use std::thread::Threads;
+
+/// Reads a scenario, runs its drivers on threads behind the gate and writes the report.
+fn run_input<R: Threads + Wait + Sync, S: Source, K: Sink, G: Gate + Sync>(
+    rt: &R,
+    alloc: Global,
+    source: &mut S,
+    sink: &mut K,
+    gate: &G,
+) -> Result<Journal, Cause>
+    ensures ends { EndsBy Run
+        (edges S.left S.faults K.held K.faults source.old source.new sink.old sink.new)
+        result }
+    ensures faults { CountsReads (S.faults source.old) (S.faults source.new) result }
+{
+    let scenario = read_scenario(alloc, source)?;
+    let journal = run_lanes(rt, alloc, &scenario, gate)?;
+    let text = report(alloc, &scenario, &journal)?;
+    match write_all(sink, text.as_slice()) {
+        Ok(()) => Ok(journal),
+        Err(_) => Err(Cause::WriteFailed(journal)),
+    }
+}
+
+/// Runs the command of the word `run`: the drivers of the scenario that is read, each on a thread,
+/// behind the gate. May wait for ever.
+pub fn run_command<R: Threads + Wait + Sync, S: Source, K: Sink, G: Gate + Sync>(
+    rt: &R,
+    alloc: Global,
+    source: &mut S,
+    sink: &mut K,
+    gate: &G,
+) -> Outcome
+    ensures { Keeps run_words
+        (edges S.left S.faults K.held K.faults source.old source.new sink.old sink.new)
+        result }
+{
+    outcome_of(run_input(rt, alloc, source, sink, gate))
+}
