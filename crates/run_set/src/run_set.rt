@@ -4,8 +4,8 @@ ghost use Rattle.std.specs.Prelude.{◌≡◌, ℕ, ◌+◌, ◌≤◌, ◌<◌,
 ghost use Rattle.run_set.specs.Edges.{member, in_run, IsFirst, IsKept, Rises};
 ghost use Rattle.run_set.specs.Numbers.{count_le};
 
-use crate::edges::{count_below, count_to, differ, is_odd, replace};
-use crate::numbers::{number_or, turn};
+use crate::edges::{count_below, count_to, differ, is_odd, replace, turn};
+use crate::line::Line;
 use std::alloc::{AllocError, Global};
 use std::marker::Model;
 
@@ -15,19 +15,17 @@ use std::marker::Model;
 /// Contracts see a number beside the edges: `room`, for how many more of them there is room.
 #[derive(Drop)]
 pub struct RunSet {
-    edges: Vec<u64>,
+    edges: Line,
 }
 
 impl Model for RunSet {
-    ghost use Rattle.std.specs.Prelude.{◌-◌, length};
-    ghost use Rattle.std.specs.Vec.{vec_capacity};
     ghost use Rattle.run_set.specs.Edges.{Edges, edges_code, IsKept};
 
     ghost Value = { Edges };
 
     ghost coded = { edges_code };
 
-    ghost view = { λ s. record { edges = s.edges.items; room = vec_capacity s.edges - length s.edges.items } };
+    ghost view = { λ s. record { edges = s.edges.items; room = s.edges.room } };
 
     ghost invariant = { λ s. IsKept s.edges.items };
 }
@@ -39,7 +37,7 @@ impl RunSet {
         ensures room { result.room ≡ 0 }
     {
         RunSet {
-            edges: Vec::new(alloc),
+            edges: Line::new(alloc),
         }
     }
 
@@ -58,7 +56,7 @@ impl RunSet {
     pub fn room(&self) -> usize
         ensures { result ≡ self.now.room }
     {
-        self.edges.capacity() - self.edges.len()
+        self.edges.room()
     }
 
     /// The number of edges: two for each run.
@@ -87,7 +85,7 @@ impl RunSet {
         if is_odd(count) == is_in {
             return Some(start);
         }
-        let turn = number_or(&self.edges, count, end);
+        let turn = self.edges.number_or(count, end);
         if turn < end { Some(turn) } else { None }
     }
 
@@ -111,7 +109,7 @@ impl RunSet {
         ensures kept { IsKept self.new.edges }
         ensures edges { length self.new.edges ≤ length self.old.edges + 2 }
         ensures room { self.old.room ≤ self.new.room + 2 }
-        ensures capacity { length self.new.edges + self.new.room ≡ length self.old.edges + self.old.room }
+        ensures capacity { length self.old.edges + self.old.room ≤ length self.new.edges + self.new.room }
         ensures within { (top : ℕ) → end < top → Rises 0 top self.old.edges → Rises 0 top self.new.edges }
     {
         let edges = &self.edges;
@@ -119,8 +117,7 @@ impl RunSet {
             return;
         }
         let first = count_below(edges, start);
-        let rest = &edges[first..];
-        let inside = count_to(rest, end);
+        let inside = count_to(edges, end) - first;
         let before = is_odd(first);
         let after = differ(before, is_odd(inside));
         replace(
