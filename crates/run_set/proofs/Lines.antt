@@ -8,6 +8,8 @@ use Rattle.std.proofs.lemmas.List.{append_assoc}
 use Rattle.std.proofs.Math.Seq.{take-append_seam, drop-append_seam, take-append-add, drop-append-add}
 use Rattle.std.specs.List.Sorted.{IsPartitionedBy}
 use Rattle.run_set.specs.Numbers.{count_le, one_if, Climbs}
+use Rattle.std.proofs.lemmas.List.{get_or-drop, get_or-take, length-take-le}
+use Rattle.run_set.proofs.Counting.{count_past}
 use Rattle.run_set.proofs.Counting.{climbs_nondecreasing, climbs_from, climbs_lower, climbs_remove, count_is, count_remove}
 use Rattle.run_set.proofs.Counting.{count_le-append}
 
@@ -191,6 +193,44 @@ counted_above lo (e ∷ es) n zero d h p q = not_counted (leb e n) e n (count_le
 counted_above lo (e ∷ es) n (suc k) d h p q =
     later_above (leb e n) e n k (get_or es k d) es refl p (climbs_from e es h.1 k d (omega arith))
     (λ x. counted_above e es n k d h.1 x (omega arith))
+
+-- among the last numbers alone is looked
+module _ (es : List ℕ) (far n d : ℕ) (h : Climbs 0 es) (p : far < length es) (q : get_or es far d ≤ n) where
+  parted : Climbs 0 (take far es ++ drop far es)
+  parted = subst (Climbs 0) (sym (take-append-drop far es)) h
+
+  pub climbs_far : Climbs 0 (drop far es)
+  climbs_far = climbs_back 0 (take far es) (drop far es) parted
+
+  pub count_far : far + count_le (drop far es) n ≡ count_le es n
+  count_far =
+      let first : get_or (drop far es) 0 d ≡ get_or es far d =
+      get_or-drop far es 0 d ∙ ap (λ k. get_or es k d) (omega arith) in
+      let some : 0 < count_le (drop far es) n =
+      count_past 0 (drop far es) 0 n d climbs_far (omega (arith, length-drop far es)) (omega arith) in
+      let all : count_le (take far es) n ≡ far =
+      all_before 0 (take far es) (drop far es) n parted some ∙ length-take-le far es (omega arith) in
+      let both : count_le es n ≡ count_le (take far es) n + count_le (drop far es) n =
+      ap (λ xs. count_le xs n) (sym (take-append-drop far es)) ∙ count_le-append (take far es) (drop far es) n in
+      omega arith
+
+module _ (xs : List ℕ) (far n d : ℕ) (h : Climbs 0 (reverse xs)) (p : far < length xs) (q : n < get_or xs far d) where
+  pub falls_far : Climbs 0 (reverse (drop far xs))
+  falls_far =
+      climbs_front 0 (reverse (drop far xs)) (reverse (take far xs))
+      (subst (Climbs 0) (turned far (length xs - far) xs (omega arith)) h)
+
+  pub count_low_far : count_le (drop far xs) n ≡ count_le xs n
+  count_low_far =
+      let none : count_le (take far xs) n ≡ length (take far xs) - length (take far xs) =
+      count_falls (take far xs) (length (take far xs)) n d (omega arith) (λ k a b.
+      let small : k < far = omega (arith, length-take-le far xs (omega arith)) in
+      let same : get_or (take far xs) k d ≡ get_or xs k d = get_or-take far xs k d small in
+      let from : get_or xs far d ≤ get_or xs k d = falls xs h k far d (omega arith) p in
+      omega arith) (λ k a b. absurd (omega arith)) in
+      let both : count_le xs n ≡ count_le (take far xs) n + count_le (drop far xs) n =
+      ap (λ ys. count_le ys n) (sym (take-append-drop far xs)) ∙ count_le-append (take far xs) (drop far xs) n in
+      omega arith
 
 pub climbs_out : (lo : ℕ) (es : List ℕ) (i : ℕ) → Climbs lo es → Climbs lo (take i es ++ drop (i + 1) es)
 climbs_out lo es i h =

@@ -73,13 +73,7 @@ fn put(edges: &mut Line, at: usize, edge: u64, wanted: bool)
 }
 
 /// Puts two edges, each where it is wanted, in the place of `gone` edges.
-pub fn replace(
-    edges: &mut Line,
-    at: usize,
-    gone: usize,
-    first: (u64, bool),
-    second: (u64, bool),
-)
+pub fn replace(edges: &mut Line, at: usize, gone: usize, first: (u64, bool), second: (u64, bool))
     requires at { at + gone ≤ length edges.old.items }
     requires room { 2 ≤ edges.old.room }
     ensures items { edges.new.items ≡ take at edges.old.items ++ (edge_if first.1 first.0

@@ -4,7 +4,7 @@ ghost use Rattle.std.specs.Prelude.{◌≡◌, ◌+◌, ◌≤◌, ◌<◌, ◌+
 ghost use Rattle.std.specs.Prelude.{slice_index_or, OnOk, OnErr};
 ghost use Rattle.run_set.specs.Numbers.{count_le, Climbs};
 
-use crate::numbers::{count_at, count_falling, number_or};
+use crate::numbers::{self, count_falling, number_or};
 use std::alloc::{AllocError, Global};
 use std::marker::Model;
 
@@ -89,7 +89,7 @@ impl Line {
         if behind > 0 {
             self.front.len() + behind
         } else {
-            count_at(&self.front, n)
+            numbers::count_to(&self.front, n)
         }
     }
 

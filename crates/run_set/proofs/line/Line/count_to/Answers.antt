@@ -7,8 +7,8 @@ count_falling-behind-requires c =
     let climbs = rw (← c.self.view_is) at c.requires in
     rw c.deref.ensures.value (climbs_back 0 c.self.inside.front.items (reverse c.self.inside.back.items) climbs)
 
-pub count_at-requires : goal.count_at-requires
-count_at-requires c =
+pub count_to-requires : goal.count_to-requires
+count_to-requires c =
     let climbs = rw (← c.self.view_is) at c.requires in
     rw c.deref-else-behind-gt0.ensures.value (climbs_front 0 c.self.inside.front.items (reverse c.self.inside.back.items) climbs)
 
@@ -24,5 +24,5 @@ returns-then-behind-gt0-clause-is c =
 pub returns-else-behind-gt0-clause-is : goal.returns-else-behind-gt0-clause-is
 returns-else-behind-gt0-clause-is c =
     let behind = rw c.deref.ensures.value at c.count_falling-behind.ensures.is in
-    let before = rw c.deref-else-behind-gt0.ensures.value at c.count_at.ensures.is in
+    let before = rw c.deref-else-behind-gt0.ensures.value at c.count_to.ensures.is in
     rw (← c.self.view_is) (omega (arith, behind, before, count_line c.self.inside.front.items c.self.inside.back.items c.args.n))
