@@ -1,5 +1,5 @@
 -- Lists of numbers that do not fall.
-use Rattle.std.specs.Prelude.{ℕ, ◌+◌, ◌≤◌, Bool, true, false, nat_le, List, [], ◌∷◌, refl}
+use Rattle.std.specs.Prelude.{ℕ, ◌+◌, ◌≤◌, Bool, true, false, nat_le, List, [], ◌∷◌, ◌++◌, take, drop, refl}
 use Rattle.std.specs.Coded.{Coded, code_by, coded×, coded_ℕ, coded_list}
 
 -- numbers in order, and for how many more there is room
@@ -26,3 +26,7 @@ count_le (e ∷ es) n = one_if (nat_le e n) + count_le es n
 abbrev pub Climbs : ℕ → List ℕ → Type 0
 Climbs lo [] = Unit {0}
 Climbs lo (e ∷ es) = (lo ≤ e) × Climbs e es
+
+-- a list that begins behind so many of its numbers, with these at the end
+abbrev pub turned : ℕ → List ℕ → List ℕ
+turned k xs = drop k xs ++ take k xs

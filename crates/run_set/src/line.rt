@@ -1,39 +1,46 @@
 //! Numbers in order, with the place of their last change.
 
-ghost use Rattle.std.specs.Prelude.{◌≡◌, ◌+◌, ◌≤◌, ◌<◌, ◌++◌, ◌∷◌, [], length, take, drop, reverse, vec_capacity};
-ghost use Rattle.std.specs.Prelude.{slice_index_or, OnOk, OnErr};
-ghost use Rattle.run_set.specs.Numbers.{count_le, Climbs};
+ghost use Rattle.std.specs.Prelude.{◌≡◌, ℕ, ◌+◌, ◌≤◌, ◌<◌, ◌++◌, ◌∷◌, [], length, take, drop};
+ghost use Rattle.std.specs.Prelude.{slice_index_or, IfOk, OnOk, OnErr};
+ghost use Rattle.std.specs.VecDeque.{deque_capacity, deque_len};
+ghost use Rattle.run_set.specs.Numbers.{count_le, turned, Climbs};
 
-use crate::numbers::{self, count_falling, number_or};
 use std::alloc::{AllocError, Global};
+use std::collections::VecDeque;
 use std::marker::Model;
 
-/// Numbers in order, in two parts: those before the place of the last change, and those behind it, the
-/// last of them first. So changes that follow one another move only the numbers between them.
+/// Among so many numbers before the place of the last change, and behind it, is looked first.
+const NEAR: usize = 4;
+
+/// Where room grows, at most so much more is asked for than is needed.
+const MOST_MORE: usize = 0x10000;
+
+/// Numbers in order, in a ring that is turned to the place of their last change: the numbers behind it
+/// come first, `behind` of them, and those before it follow. So changes that follow one another move
+/// only the numbers between them.
 ///
 /// Contracts see a number beside them: `room`, for how many more of them there is room.
 #[derive(Drop)]
 pub struct Line {
-    front: Vec<u64>,
-    back: Vec<u64>,
+    ring: VecDeque<u64>,
+    behind: usize,
 }
 
 impl Model for Line {
-    ghost use Rattle.std.specs.Prelude.{◌-◌, ◌+◌, ◌≤◌, ◌++◌, length, min, reverse};
-    ghost use Rattle.std.specs.Vec.{vec_capacity};
-    ghost use Rattle.run_set.specs.Numbers.{Numbers, numbers_code};
+    ghost use Rattle.std.specs.Prelude.{◌-◌, ◌≤◌};
+    ghost use Rattle.std.specs.VecDeque.{deque_capacity, deque_len};
+    ghost use Rattle.run_set.specs.Numbers.{Numbers, numbers_code, turned};
 
     ghost Value = { Numbers };
 
     ghost coded = { numbers_code };
 
     ghost view = { λ l. record {
-      items = l.front.items ++ reverse l.back.items;
-      room = min (vec_capacity l.front) (vec_capacity l.back) - (length l.front.items + length l.back.items);
+      items = turned l.behind l.ring.items;
+      room = deque_capacity l.ring - deque_len l.ring;
     } };
 
-    ghost invariant = { λ l.
-        length l.front.items + length l.back.items ≤ min (vec_capacity l.front) (vec_capacity l.back) };
+    ghost invariant = { λ l. l.behind ≤ deque_len l.ring };
 }
 
 impl Line {
@@ -43,8 +50,8 @@ impl Line {
         ensures room { result.room ≡ 0 }
     {
         Line {
-            front: Vec::new(alloc),
-            back: Vec::new(alloc),
+            ring: VecDeque::from_vec(Vec::new(alloc)),
+            behind: 0,
         }
     }
 
@@ -56,27 +63,29 @@ impl Line {
         ensures same { self.new.items ≡ self.old.items }
         ensures room { self.old.room ≤ self.new.room }
     {
-        if count <= self.room() {
+        let room = self.room();
+        if count <= room {
             return Ok(());
         }
-        let behind = self.back.len().checked_add(count).ok_or(AllocError)?;
-        self.front.reserve(behind)?;
-        let before = self.front.len().checked_add(count).ok_or(AllocError)?;
-        self.back.reserve(before)
+        let capacity = capacity_for(self.len(), count, room)?;
+        let mut ring = VecDeque::with_capacity(*self.ring.allocator(), capacity)?;
+        ring.append(&mut self.ring)?;
+        self.ring = ring;
+        Ok(())
     }
 
     /// For how many more numbers there is room.
     pub fn room(&self) -> usize
         ensures { result ≡ self.now.room }
     {
-        self.front.capacity().min(self.back.capacity()) - (self.front.len() + self.back.len())
+        self.ring.capacity() - self.ring.len()
     }
 
     /// How many numbers there are.
     pub fn len(&self) -> usize
         ensures { result ≡ length self.now.items }
     {
-        self.front.len() + self.back.len()
+        self.ring.len()
     }
 
     /// How many of the numbers are at most `n`.
@@ -85,24 +94,49 @@ impl Line {
         ensures is { result ≡ count_le self.now.items n }
         ensures small { result ≤ length self.now.items }
     {
-        let behind = count_falling(&self.back, n);
-        if behind > 0 {
-            self.front.len() + behind
-        } else {
-            numbers::count_to(&self.front, n)
+        let (mut low, mut high) = self.around(n);
+        while low < high {
+            let middle = low + (high - low) / 2;
+            if self.number_or(middle, n) <= n {
+                low = middle + 1;
+            } else {
+                high = middle;
+            }
         }
+        low
+    }
+
+    /// Two places: each number before the first is at most `n`, and each from the second on is more.
+    /// They are near one another where the place of the last change is near.
+    fn around(&self, n: u64) -> (usize, usize)
+        requires { Climbs 0 self.now.items }
+        ensures order { result.0 ≤ result.1 }
+        ensures small { result.1 ≤ length self.now.items }
+        ensures below { (k d : ℕ) → k < result.0 → slice_index_or self.now.items k d ≤ n }
+        ensures above { (k d : ℕ) → result.1 ≤ k → k < length self.now.items → n < slice_index_or self.now.items k d }
+    {
+        let len = self.ring.len();
+        let place = len - self.behind;
+        let low = place.saturating_sub(NEAR);
+        if low > 0 && self.number_or(low - 1, n) > n {
+            return (0, low - 1);
+        }
+        let high = place.saturating_add(NEAR).min(len);
+        if high < len && self.number_or(high, n) <= n {
+            return (high + 1, len);
+        }
+        (low, high)
     }
 
     /// The number at a place, or another number where there is none.
     pub fn number_or(&self, at: usize, other: u64) -> u64
         ensures { result ≡ slice_index_or self.now.items at other }
     {
-        let before = self.front.len();
-        let behind = self.back.len();
-        if at < before {
-            number_or(&self.front, at, other)
-        } else if at - before < behind {
-            number_or(&self.back, behind - 1 - (at - before), other)
+        let place = self.ring.len() - self.behind;
+        if at < place {
+            number_in(&self.ring, self.behind + at, other)
+        } else if at - place < self.behind {
+            number_in(&self.ring, at - place, other)
         } else {
             other
         }
@@ -115,8 +149,8 @@ impl Line {
         ensures items { self.new.items ≡ take at self.old.items ++ n ∷ drop at self.old.items }
         ensures room { self.old.room ≤ self.new.room + 1 }
     {
-        part(&mut self.front, &mut self.back, at);
-        let _ = self.front.push(n);
+        self.behind = turn_to(&mut self.ring, self.behind, at);
+        self.ring.push_back_reserved(n);
     }
 
     /// Takes numbers out, from a place on.
@@ -125,47 +159,44 @@ impl Line {
         ensures items { self.new.items ≡ take at self.old.items ++ drop (at + count) self.old.items }
         ensures room { self.old.room + count ≤ self.new.room }
     {
-        part(&mut self.front, &mut self.back, at);
-        let left = self.back.len() - count;
-        self.back.truncate(left);
+        self.behind = turn_to(&mut self.ring, self.behind, at + count);
+        let left = self.ring.len() - count;
+        self.ring.truncate(left);
     }
 }
 
-/// Moves numbers from one part to the other, so that `at` of them are in front.
-fn part(front: &mut Vec<u64>, back: &mut Vec<u64>, at: usize)
-    requires at { at ≤ length front.old.items + length back.old.items }
-    requires front_room { length front.old.items + length back.old.items ≤ vec_capacity front.old }
-    requires back_room { length front.old.items + length back.old.items ≤ vec_capacity back.old }
-    ensures front { front.new.items ≡ take at (front.old.items ++ reverse back.old.items) }
-    ensures back { reverse back.new.items ≡ drop at (front.old.items ++ reverse back.old.items) }
-    ensures at { length front.new.items ≡ at }
-    ensures len { at + length back.new.items ≡ length front.old.items + length back.old.items }
-    ensures front_capacity { vec_capacity front.old ≤ vec_capacity front.new }
-    ensures back_capacity { vec_capacity back.old ≤ vec_capacity back.new }
+/// How much to ask for, where `len` numbers need room for `count` more, and have `room`: up to twice as
+/// much as there was, so that it is asked for seldom.
+fn capacity_for(len: usize, count: usize, room: usize) -> Result<usize, AllocError>
+    ensures { IfOk result (λ capacity. len + count ≤ capacity) }
 {
-    let before = front.len();
-    if at <= before {
-        carry(front, back, at);
+    let more = count.saturating_add(room.min(MOST_MORE));
+    len.checked_add(more).ok_or(AllocError)
+}
+
+/// The number at a place of a ring, or another number where there is none.
+fn number_in(ring: &VecDeque<u64>, at: usize, other: u64) -> u64
+    ensures { result ≡ slice_index_or ring.now.items at other }
+{
+    ring.get(at).copied().unwrap_or(other)
+}
+
+/// Turns a ring, so that `at` of the numbers stand before the place, and tells how many stand behind it.
+fn turn_to(ring: &mut VecDeque<u64>, behind: usize, at: usize) -> usize
+    requires behind { behind ≤ deque_len ring.old }
+    requires at { at ≤ deque_len ring.old }
+    ensures before { drop result ring.new.items ≡ take at (turned behind ring.old.items) }
+    ensures behind { take result ring.new.items ≡ drop at (turned behind ring.old.items) }
+    ensures len { deque_len ring.new ≡ deque_len ring.old }
+    ensures capacity { deque_capacity ring.new ≡ deque_capacity ring.old }
+    ensures at { result + at ≡ deque_len ring.old }
+{
+    let len = ring.len();
+    let place = len - behind;
+    if place <= at {
+        ring.rotate_left(at - place);
     } else {
-        let left = back.len() - (at - before);
-        carry(back, front, left);
+        ring.rotate_right(place - at);
     }
-}
-
-/// Moves the last numbers of a list to the end of another, the last one first, until `left` are left.
-fn carry(from: &mut Vec<u64>, to: &mut Vec<u64>, left: usize)
-    requires left { left ≤ length from.old.items }
-    requires room { length from.old.items + length to.old.items ≤ left + vec_capacity to.old }
-    ensures from { from.new.items ≡ take left from.old.items }
-    ensures to { to.new.items ≡ to.old.items ++ reverse (drop left from.old.items) }
-    ensures left { length from.new.items ≡ left }
-    ensures len { left + length to.new.items ≡ length from.old.items + length to.old.items }
-    ensures from_capacity { vec_capacity from.new ≡ vec_capacity from.old }
-    ensures to_capacity { vec_capacity to.old ≤ vec_capacity to.new }
-{
-    while from.len() > left {
-        if let Some(n) = from.pop() {
-            let _ = to.push(n);
-        }
-    }
+    len - at
 }

@@ -1,28 +1,27 @@
-use Rattle.std.proofs.Common.{reverse, arith}
-use Rattle.run_set.proofs.Lines.{all_before, climbs_back, climbs_front, count_line, count_reverse}
+use Rattle.std.proofs.Common.{◌+◌, ◌-◌, ◌/◌, sym, arith}
+use Rattle.run_set.proofs.Counting.{count_is}
+use Rattle.run_set.proofs.Lines.{low_until, high_from}
 use Rattle.run_set.proofs.line.Line.count_to.Goals as goal
 
-pub count_falling-behind-requires : goal.count_falling-behind-requires
-count_falling-behind-requires c =
-    let climbs = rw (← c.self.view_is) at c.requires in
-    rw c.deref.ensures.value (climbs_back 0 c.self.inside.front.items (reverse c.self.inside.back.items) climbs)
+pub loop-low-preserved-then-number_or-n : goal.loop-low-preserved-then-number_or-n
+loop-low-preserved-then-number_or-n c = record {
+  order = omega arith;
+  small = c.loop-low.invariant.small;
+  below = λ k d p. low_until c.args.self.now.items c.requires (c.loop-low.low + (c.loop-low.high - c.loop-low.low) / 2)
+      c.args.n c.args.n (omega arith) (omega arith) k d (omega arith);
+  above = c.loop-low.invariant.above;
+}
 
-pub count_to-requires : goal.count_to-requires
-count_to-requires c =
-    let climbs = rw (← c.self.view_is) at c.requires in
-    rw c.deref-else-behind-gt0.ensures.value (climbs_front 0 c.self.inside.front.items (reverse c.self.inside.back.items) climbs)
+pub loop-low-preserved : goal.loop-low-preserved
+loop-low-preserved c = record {
+  order = omega arith;
+  small = omega arith;
+  below = c.loop-low.invariant.below;
+  above = λ k d p q. high_from c.args.self.now.items c.requires (c.loop-low.low + (c.loop-low.high - c.loop-low.low) / 2)
+      c.args.n c.args.n (omega arith) k d p q;
+}
 
-pub returns-then-behind-gt0-clause-is : goal.returns-then-behind-gt0-clause-is
-returns-then-behind-gt0-clause-is c =
-    let climbs = rw (← c.self.view_is) at c.requires in
-    let behind = rw c.deref.ensures.value at c.count_falling-behind.ensures.is in
-    let all =
-    all_before 0 c.self.inside.front.items (reverse c.self.inside.back.items) c.args.n climbs
-    (omega (arith, behind, count_reverse c.self.inside.back.items c.args.n)) in
-    rw (← c.self.view_is) (omega (arith, behind, all, count_line c.self.inside.front.items c.self.inside.back.items c.args.n))
-
-pub returns-else-behind-gt0-clause-is : goal.returns-else-behind-gt0-clause-is
-returns-else-behind-gt0-clause-is c =
-    let behind = rw c.deref.ensures.value at c.count_falling-behind.ensures.is in
-    let before = rw c.deref-else-behind-gt0.ensures.value at c.count_to.ensures.is in
-    rw (← c.self.view_is) (omega (arith, behind, before, count_line c.self.inside.front.items c.self.inside.back.items c.args.n))
+pub returns-clause-is : goal.returns-clause-is
+returns-clause-is c =
+    sym (count_is c.args.self.now.items c.loop-low.low c.args.n 0 (omega arith)
+    (λ k a b. c.loop-low.invariant.below k 0 a) (λ k a b. c.loop-low.invariant.above k 0 (omega arith) b))
