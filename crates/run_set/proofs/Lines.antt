@@ -3,7 +3,7 @@ use Rattle.std.proofs.Common.{◌≡◌, ℕ, zero, suc, ◌+◌, ◌-◌, ◌�
 use Rattle.std.proofs.Common.{length, take, drop, get_or, refl, sym, ap, subst, ◌∙◌, arith}
 use Rattle.std.proofs.lemmas.Bool.{leb-true, leb-false}
 use Rattle.std.proofs.lemmas.List.{append_assoc, take-append-le, drop-append-le, drop-drop, drop-take, length-drop, length-append}
-use Rattle.std.proofs.lemmas.List.{length-take-le, get_or-append_right, get_or-drop, get_or-take, get_or_default, get_or_past, take_all}
+use Rattle.std.proofs.lemmas.List.{length-take-le, get_or-append_right, get_or-drop, get_or-take, get_or_default, get_or_past, take_all, take_at, drop_at}
 use Rattle.std.proofs.Math.ListN.{get_or-append}
 use Rattle.std.proofs.Math.Seq.{take-add, take-append-add, drop-append-add}
 use Rattle.run_set.specs.Numbers.{count_le, one_if, turned, Climbs}
@@ -169,3 +169,18 @@ pub high_from : (es : List ℕ) → Climbs 0 es → (i n e : ℕ) → n < get_or
 high_from es h i n e q k d r p =
     let least : get_or es i d ≤ get_or es k d = climbs_nondecreasing 0 es h i k d r p in
     omega (arith, get_or_default es i d e (omega arith))
+
+-- two parts are put in a place, one behind the other
+pub both_put : (at to : ℕ) (front first second rest one two three : List ℕ) → length front ≡ at →
+    at + length first ≡ to → one ≡ front ++ rest → two ≡ take at one ++ (first ++ drop at one) →
+    three ≡ take to two ++ (second ++ drop to two) → three ≡ front ++ (first ++ (second ++ rest))
+both_put at to front first second rest one two three p q e f g =
+    let before : take at one ≡ front = ap (take at) e ∙ take_at front rest at p in
+    let behind : drop at one ≡ rest = ap (drop at) e ∙ drop_at front rest at p in
+    let put : two ≡ (front ++ first) ++ rest =
+    f ∙ ap (λ xs. xs ++ (first ++ drop at one)) before ∙ ap (λ xs. front ++ (first ++ xs)) behind
+    ∙ sym (append_assoc front first rest) in
+    let long : length (front ++ first) ≡ to = length-append front first ∙ ap (λ k. k + length first) p ∙ q in
+    g ∙ ap (λ xs. xs ++ (second ++ drop to two)) (ap (take to) put ∙ take_at (front ++ first) rest to long)
+    ∙ ap (λ xs. (front ++ first) ++ (second ++ xs)) (ap (drop to) put ∙ drop_at (front ++ first) rest to long)
+    ∙ append_assoc front first (second ++ rest)

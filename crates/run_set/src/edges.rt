@@ -30,6 +30,22 @@ pub fn count_to(edges: &Line, n: u64) -> usize
     edges.count_to(n)
 }
 
+/// How many numbers of a line are at most `start`, and the first number above it, or `end` where that
+/// comes before it.
+pub fn count_and_turn(line: &Line, start: u64, end: u64) -> (usize, u64)
+    requires climbs { Climbs 0 line.now.items }
+    requires some { start < end }
+    ensures count { result.0 ≡ count_le line.now.items start }
+    ensures from { start < result.1 }
+    ensures to { result.1 ≤ end }
+    ensures none { (n : ℕ) → start ≤ n → n < result.1 →
+        count_le line.now.items n ≡ count_le line.now.items start }
+    ensures fewer { result.1 < end → count_le line.now.items start < count_le line.now.items result.1 }
+{
+    let count = count_to(line, start);
+    (count, line.number_or(count, end).min(end))
+}
+
 /// The first number of a line above `start`, or `end` where that comes before it.
 pub fn turn(line: &Line, start: u64, end: u64) -> u64
     requires climbs { Climbs 0 line.now.items }
@@ -40,7 +56,7 @@ pub fn turn(line: &Line, start: u64, end: u64) -> u64
         count_le line.now.items n ≡ count_le line.now.items start }
     ensures fewer { result < end → count_le line.now.items start < count_le line.now.items result }
 {
-    line.number_or(count_to(line, start), end).min(end)
+    count_and_turn(line, start, end).1
 }
 
 /// Whether a number is odd.
@@ -63,7 +79,7 @@ fn put(edges: &mut Line, at: usize, edge: u64, wanted: bool)
     requires room { 0 < edges.old.room }
     ensures items { edges.new.items
         ≡ take at edges.old.items ++ (edge_if wanted edge ++ drop at edges.old.items) }
-    ensures len { length edges.old.items ≤ length edges.new.items }
+    ensures len { length edges.new.items ≡ length edges.old.items + length (edge_if wanted edge) }
     ensures small { length edges.new.items ≤ length edges.old.items + 1 }
     ensures capacity { length edges.old.items + edges.old.room ≤ length edges.new.items + edges.new.room }
 {
@@ -82,6 +98,8 @@ pub fn replace(edges: &mut Line, at: usize, gone: usize, first: (u64, bool), sec
     ensures capacity { length edges.old.items + edges.old.room ≤ length edges.new.items + edges.new.room }
 {
     edges.remove(at, gone);
-    put(edges, at, second.0, second.1);
+    let left = edges.len();
     put(edges, at, first.0, first.1);
+    let behind = at + (edges.len() - left);
+    put(edges, behind, second.0, second.1);
 }

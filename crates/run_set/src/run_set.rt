@@ -4,7 +4,7 @@ ghost use Rattle.std.specs.Prelude.{◌≡◌, ℕ, ◌+◌, ◌≤◌, ◌<◌,
 ghost use Rattle.run_set.specs.Edges.{member, in_run, IsFirst, IsKept, Rises};
 ghost use Rattle.run_set.specs.Numbers.{count_le};
 
-use crate::edges::{count_below, count_to, differ, is_odd, replace, turn};
+use crate::edges::{count_and_turn, count_below, count_to, differ, is_odd, replace, turn};
 use crate::line::Line;
 use std::alloc::{AllocError, Global};
 use std::marker::Model;
@@ -99,6 +99,19 @@ impl RunSet {
         ensures fewer { result < end → count_le self.now.edges start < count_le self.now.edges result }
     {
         turn(&self.edges, start, end)
+    }
+
+    /// Whether `start` is in the set, and the number up to which all numbers from it on are as it is;
+    /// `end` where no edge comes before it.
+    pub fn run_at(&self, start: u64, end: u64) -> (bool, u64)
+        requires { start < end }
+        ensures is_in { result.0 ≡ member self.now.edges start }
+        ensures from { start < result.1 }
+        ensures to { result.1 ≤ end }
+        ensures same { (n : ℕ) → start ≤ n → n < result.1 → member self.now.edges n ≡ member self.now.edges start }
+    {
+        let (count, turn) = count_and_turn(&self.edges, start, end);
+        (is_odd(count), turn)
     }
 
     /// Puts the run from `start` to `end - 1` into the set or, where `is_in` is false, takes it out.
