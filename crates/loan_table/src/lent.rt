@@ -82,8 +82,30 @@ impl LentCounts {
             IsRecounted self.old self.new range (map (marked ops.0) range) }
         ensures room { UsesChanges self.old self.new len }
     {
-        recount(&mut self.to_write, Way::ToWrite, row, off, len, ops);
-        recount(&mut self.any, Way::Any, row, off, len, ops);
+        let end = row.end_of(off, len);
+        let mut at = off;
+        while at < end {
+            let piece = row.piece(at, end);
+            self.recount(&piece, ops);
+            at += piece.len;
+        }
+    }
+
+    /// Counts the positions of a piece as a call marks them.
+    fn recount(&mut self, piece: &Piece, ops: SyncOps)
+        requires fits { piece.now.first.pa + piece.now.len < 2 ^ 64 }
+        requires held { (way : Way) (a : ℕ) →
+            places_in piece.now.first.pa piece.now.len (test_of way piece.now.first) a ≤ count (counts_of self.old way) a }
+        requires room { HasChanges self.old 1 }
+        ensures counts { (way : Way) (a : ℕ) →
+            count (counts_of self.new way) a
+            + places_in piece.now.first.pa piece.now.len (test_of way piece.now.first) a
+            ≡ count (counts_of self.old way) a
+            + places_in piece.now.first.pa piece.now.len (test_of way (marked ops.0 piece.now.first)) a }
+        ensures room { UsesChanges self.old self.new 1 }
+    {
+        recount_piece(&mut self.to_write, Way::ToWrite, piece, ops);
+        recount_piece(&mut self.any, Way::Any, piece, ops);
     }
 
     /// Counts the positions of a map no more.
@@ -98,26 +120,7 @@ impl LentCounts {
     }
 }
 
-/// Counts the positions of a range as a call marks them, in one way.
-fn recount(counts: &mut RunCounts, way: Way, row: &LoanRow, off: u64, len: u64, ops: SyncOps)
-    requires range { off + len ≤ length row.now.positions }
-    requires held { (a : ℕ) → places (test_of way) a (stretch off len row.now.positions) ≤ count counts.old a }
-    requires room { len ≤ counts.old.room }
-    ensures counts { (a : ℕ) → let range = stretch off len row.now.positions in
-        count counts.new a + places (test_of way) a range
-        ≡ count counts.old a + places (test_of way) a (map (marked ops.0) range) }
-    ensures room { counts.old.room ≤ counts.new.room + len }
-{
-    let end = row.end_of(off, len);
-    let mut at = off;
-    while at < end {
-        let piece = row.piece(at, end);
-        recount_piece(counts, way, &piece, ops);
-        at += piece.len;
-    }
-}
-
-/// Counts the bytes of a piece once more or once less, where a call begins to lend them or ends that.
+/// Counts the bytes of a piece, in one way, once more or once less, where a call begins to lend them or ends that.
 fn recount_piece(counts: &mut RunCounts, way: Way, piece: &Piece, ops: SyncOps)
     requires fits { piece.now.first.pa + piece.now.len < 2 ^ 64 }
     requires held { (a : ℕ) → places_in piece.now.first.pa piece.now.len (test_of way piece.now.first) a

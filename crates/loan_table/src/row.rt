@@ -125,13 +125,13 @@ impl LoanRow {
             ≡ alike result.first result.len ++ stretch (at + result.len) (end - (at + result.len)) self.now.positions }
     {
         let run = self.buffer.stretch(at, end);
-        let turn = self.to_read.turn(at, at + run.len);
-        let turn = self.to_write.turn(at, turn);
+        let (to_read, turn) = self.to_read.run_at(at, at + run.len);
+        let (to_write, turn) = self.to_write.run_at(at, turn);
         Piece {
             first: Position {
                 pa: run.pa.0,
-                to_read: self.to_read.contains(at),
-                to_write: self.to_write.contains(at),
+                to_read,
+                to_write,
             },
             len: turn - at,
         }

@@ -7,7 +7,7 @@ use Rattle.std.specs.List.Sorted.{IsNonDecreasingBy}
 use Rattle.run_set.specs.Counts.{count_of}
 use Rattle.run_set.specs.Numbers.{count_le, one_if, Climbs}
 
-climbs_from : (lo : ℕ) (es : List ℕ) → Climbs lo es → (k d : ℕ) → k < length es → lo ≤ get_or es k d
+pub climbs_from : (lo : ℕ) (es : List ℕ) → Climbs lo es → (k d : ℕ) → k < length es → lo ≤ get_or es k d
 climbs_from lo [] h k d p = absurd (omega arith)
 climbs_from lo (e ∷ es) h zero d p = h.0
 climbs_from lo (e ∷ es) h (suc k) d p =
@@ -62,7 +62,7 @@ count_is (e ∷ es) (suc i) n d p f g =
     let q : e ≤ n = f 0 (omega arith) (omega arith) in
     ap (λ b. one_if b + count_le es n) (le-leb e n q) ∙ (omega arith)
 
-count_le-append : (xs ys : List ℕ) (n : ℕ) → count_le (xs ++ ys) n ≡ count_le xs n + count_le ys n
+pub count_le-append : (xs ys : List ℕ) (n : ℕ) → count_le (xs ++ ys) n ≡ count_le xs n + count_le ys n
 count_le-append [] ys n = omega arith
 count_le-append (x ∷ xs) ys n =
     let r : count_le (xs ++ ys) n ≡ count_le xs n + count_le ys n = count_le-append xs ys n in

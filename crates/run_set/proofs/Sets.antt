@@ -58,6 +58,75 @@ rises_drop (e ∷ es) zero lo hi n p h f = (f 0 (omega arith) (omega arith), h.1
 rises_drop (e ∷ es) (suc i) lo hi n p h f =
     rises_drop es i (e + 1) hi n p h.1 (λ k a b. f (suc k) (omega arith) (omega arith))
 
+-- edges that are at most n, and those above it
+pub to_below : (es : List ℕ) (c n hi : ℕ) → Rises 0 hi es → ((k d : ℕ) → k < c → get_or es k d ≤ n) →
+    Rises 0 (n + 1) (take c es)
+to_below es c n hi h f =
+    rises_take es c 0 hi (n + 1) (omega arith) h
+    (λ k a b. let x : get_or es k 0 ≤ n = f k 0 a in omega arith)
+
+pub to_above : (es : List ℕ) (c n hi : ℕ) → n < hi → Rises 0 hi es →
+    ((k d : ℕ) → c ≤ k → k < length es → n < get_or es k d) → Rises (n + 1) hi (drop c es)
+to_above es c n hi p h f =
+    rises_drop es c 0 hi (n + 1) (omega arith) h
+    (λ k a b. let x : n < get_or es k 0 = f k 0 a b in omega arith)
+
+-- edges in three parts: i of them below a run, those of it, and those behind the j-th
+pub record Parts (es : List ℕ) (i j s e hi : ℕ) : Type 0 where
+  pub ordered : i ≤ j
+  pub small : j - i ≤ length (drop i es)
+  pub before : Rises 0 s (take i es)
+  pub inside : Rises s (e + 1) (take (j - i) (drop i es))
+  pub behind : Rises (e + 1) hi (drop (j - i) (drop i es))
+
+module _ (es : List ℕ) (i j s e hi : ℕ) (le : s < e) (below_hi : e < hi) (h : Rises 0 hi es)
+    (before : (k d : ℕ) → k < i → get_or es k d < s)
+    (from : (k d : ℕ) → i ≤ k → k < length es → s ≤ get_or es k d)
+    (to : (k d : ℕ) → k < j → get_or es k d ≤ e)
+    (behind : (k d : ℕ) → j ≤ k → k < length es → e < get_or es k d)
+    (small : i ≤ length es) (large : j ≤ length es) where
+  ahead : (k : ℕ) → get_or (drop i es) k 0 ≡ get_or es (i + k) 0
+  ahead k = get_or-drop i es k 0
+
+  ordered : i ≤ j
+  ordered = by (leb i j) refl
+    where
+      by : (b : Bool) → leb i j ≡ b → i ≤ j
+      by true q = leb-true i j q
+      by false q =
+          let p : j < i = leb-false i j q in
+          let x : e < get_or es j 0 = behind j 0 (omega arith) (omega arith) in
+          let y : get_or es j 0 < s = before j 0 p in
+          absurd (omega arith)
+
+  part_before : Rises 0 s (take i es)
+  part_before = rises_take es i 0 hi s (omega arith) h (λ k a b. before k 0 a)
+
+  part_from : Rises s hi (drop i es)
+  part_from = rises_drop es i 0 hi s (omega arith) h (λ k a b. from k 0 a b)
+
+  part_inside : Rises s (e + 1) (take (j - i) (drop i es))
+  part_inside =
+      rises_take (drop i es) (j - i) s hi (e + 1) (omega arith) part_from
+      (λ k a b. let x : get_or es (i + k) 0 ≤ e = to (i + k) 0 (omega arith) in
+      let y : get_or (drop i es) k 0 ≡ get_or es (i + k) 0 = ahead k in omega arith)
+
+  part_behind : Rises (e + 1) hi (drop (j - i) (drop i es))
+  part_behind =
+      rises_drop (drop i es) (j - i) s hi (e + 1) (omega arith) part_from
+      (λ k a b. let x : e < get_or es (i + k) 0 =
+      behind (i + k) 0 (omega (arith, ordered)) (omega (arith, length-drop i es)) in
+      let y : get_or (drop i es) k 0 ≡ get_or es (i + k) 0 = ahead k in omega arith)
+
+  pub in_parts : Parts es i j s e hi
+  in_parts = record {
+    ordered = ordered;
+    small = omega (arith, length-drop i es);
+    before = part_before;
+    inside = part_inside;
+    behind = part_behind;
+  }
+
 differ-assoc : (a b c : Bool) → differ a (differ b c) ≡ differ (differ a b) c
 differ-assoc false b c = refl
 differ-assoc true false c = refl

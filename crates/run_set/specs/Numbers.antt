@@ -1,5 +1,16 @@
 -- Lists of numbers that do not fall.
-use Rattle.std.specs.Prelude.{ℕ, ◌+◌, ◌≤◌, Bool, true, false, nat_le, List, [], ◌∷◌}
+use Rattle.std.specs.Prelude.{ℕ, ◌+◌, ◌≤◌, Bool, true, false, nat_le, List, [], ◌∷◌, ◌++◌, take, drop, refl}
+use Rattle.std.specs.Coded.{Coded, code_by, coded×, coded_ℕ, coded_list}
+
+-- numbers in order, and for how many more there is room
+pub record Numbers : Type 0 where
+  pub items : List ℕ
+  pub room : ℕ
+
+abbrev pub numbers_code : Coded Numbers
+numbers_code =
+    code_by (List ℕ × ℕ) (coded× (coded_list coded_ℕ) coded_ℕ) (λ s. (s.items, s.room))
+    (λ p. record { items = p.0; room = p.1 }) (λ _. refl)
 
 -- one, where it is wanted
 abbrev pub one_if : Bool → ℕ
@@ -15,3 +26,7 @@ count_le (e ∷ es) n = one_if (nat_le e n) + count_le es n
 abbrev pub Climbs : ℕ → List ℕ → Type 0
 Climbs lo [] = Unit {0}
 Climbs lo (e ∷ es) = (lo ≤ e) × Climbs e es
+
+-- a list that begins behind so many of its numbers, with these at the end
+abbrev pub turned : ℕ → List ℕ → List ℕ
+turned k xs = drop k xs ++ take k xs

@@ -1,54 +1,52 @@
 //! Starts and ends of runs.
 
-ghost use Rattle.std.specs.Prelude.{◌≡◌, ℕ, ◌+◌, ◌≤◌, ◌<◌, length, nat_le, nat_lt, vec_capacity, true};
+ghost use Rattle.std.specs.Prelude.{◌≡◌, ℕ, ◌+◌, ◌≤◌, ◌<◌, nat_le, nat_lt, true};
 ghost use Rattle.run_set.specs.Counts.{count_of, IsBalanced};
 ghost use Rattle.run_set.specs.Edges.{IsFirst};
 ghost use Rattle.run_set.specs.Numbers.{count_le, one_if, Climbs};
 
-use crate::numbers::{count_at, number_or};
+use crate::line::Line;
 
 /// How many runs hold a number.
-pub fn count_of(starts: &[u64], ends: &[u64], n: u64) -> u64
-    requires { IsBalanced starts.now ends.now }
-    ensures { result ≡ count_of starts.now ends.now n }
+pub fn count_of(starts: &Line, ends: &Line, n: u64) -> u64
+    requires { IsBalanced starts.now.items ends.now.items }
+    ensures { result ≡ count_of starts.now.items ends.now.items n }
 {
-    (count_at(starts, n) - count_at(ends, n)) as u64
+    (starts.count_to(n) - ends.count_to(n)) as u64
 }
 
 /// Adds one from a number on: a start more or an end less, where `more` are the starts.
-pub fn add_one(more: &mut Vec<u64>, less: &mut Vec<u64>, at: u64)
+pub fn add_one(more: &mut Line, less: &mut Line, at: u64)
     requires more { Climbs 0 more.old.items }
     requires less { Climbs 0 less.old.items }
-    requires room { length more.old.items < vec_capacity more.old }
+    requires room { 0 < more.old.room }
     ensures more { Climbs 0 more.new.items }
     ensures less { Climbs 0 less.new.items }
     ensures counts { (n : ℕ) → count_le more.new.items n + count_le less.old.items n
         ≡ count_le more.old.items n + count_le less.new.items n + one_if (nat_le at n) }
-    ensures more_len { length more.new.items ≤ length more.old.items + 1 }
-    ensures less_len { length less.new.items ≤ length less.old.items }
-    ensures more_capacity { vec_capacity more.new ≡ vec_capacity more.old }
-    ensures less_capacity { vec_capacity less.new ≡ vec_capacity less.old }
+    ensures more_room { more.old.room ≤ more.new.room + 1 }
+    ensures less_room { less.old.room ≤ less.new.room }
 {
-    let stood = count_at(less, at);
-    if stood > 0 && less[stood - 1] == at {
-        let _ = less.remove(stood - 1);
+    let stood = less.count_to(at);
+    if stood > 0 && less.number_or(stood - 1, 0) == at {
+        less.remove(stood - 1, 1);
     } else {
-        let place = count_at(more, at);
-        let _ = more.insert(place, at);
+        let place = more.count_to(at);
+        more.insert(place, at);
     }
 }
 
 /// The least number of the run from `start` to `end - 1` that more than `n` runs hold.
-pub fn first_above(starts: &[u64], ends: &[u64], start: u64, end: u64, n: u64) -> Option<u64>
-    requires { IsBalanced starts.now ends.now }
-    ensures { IsFirst (λ a. nat_lt n (count_of starts.now ends.now a)) true start end result }
+pub fn first_above(starts: &Line, ends: &Line, start: u64, end: u64, n: u64) -> Option<u64>
+    requires { IsBalanced starts.now.items ends.now.items }
+    ensures { IsFirst (λ a. nat_lt n (count_of starts.now.items ends.now.items a)) true start end result }
 {
     let mut at = start;
     while at < end {
         if count_of(starts, ends, at) > n {
             return Some(at);
         }
-        at = number_or(starts, count_at(starts, at), end);
+        at = starts.number_or(starts.count_to(at), end);
     }
     None
 }

@@ -1,24 +1,62 @@
 //! The edges of a set of numbers.
 
-ghost use Rattle.std.specs.Prelude.{◌≡◌, ℕ, ◌+◌, ◌≤◌, ◌<◌, ◌++◌, length, take, drop, vec_capacity};
-ghost use Rattle.run_set.specs.Edges.{Rises, odd, differ, edge_if};
+ghost use Rattle.std.specs.Prelude.{◌≡◌, ℕ, ◌+◌, ◌≤◌, ◌<◌, ◌++◌, length, take, drop, slice_index_or};
+ghost use Rattle.run_set.specs.Edges.{odd, differ, edge_if};
+ghost use Rattle.run_set.specs.Numbers.{count_le, Climbs};
+
+use crate::line::Line;
 
 /// How many edges lie below a number.
-pub fn count_below(edges: &[u64], n: u64) -> usize
-    ensures small { result ≤ length edges.now }
-    ensures below { (lo hi : ℕ) → lo ≤ n → Rises lo hi edges.now → Rises lo n (take result edges.now) }
-    ensures above { (lo hi : ℕ) → n ≤ hi → Rises lo hi edges.now → Rises n hi (drop result edges.now) }
+pub fn count_below(edges: &Line, n: u64) -> usize
+    requires { Climbs 0 edges.now.items }
+    ensures small { result ≤ length edges.now.items }
+    ensures below { (k d : ℕ) → k < result → slice_index_or edges.now.items k d < n }
+    ensures above { (k d : ℕ) → result ≤ k → k < length edges.now.items → n ≤ slice_index_or edges.now.items k d }
 {
-    edges.partition_point(|edge| *edge < n)
+    match n.checked_sub(1) {
+        Some(last) => count_to(edges, last),
+        None => 0,
+    }
 }
 
 /// How many edges lie at a number or below it.
-pub fn count_to(edges: &[u64], n: u64) -> usize
-    ensures small { result ≤ length edges.now }
-    ensures below { (lo hi : ℕ) → lo ≤ n + 1 → Rises lo hi edges.now → Rises lo (n + 1) (take result edges.now) }
-    ensures above { (lo hi : ℕ) → n < hi → Rises lo hi edges.now → Rises (n + 1) hi (drop result edges.now) }
+pub fn count_to(edges: &Line, n: u64) -> usize
+    requires { Climbs 0 edges.now.items }
+    ensures small { result ≤ length edges.now.items }
+    ensures below { (k d : ℕ) → k < result → slice_index_or edges.now.items k d ≤ n }
+    ensures above { (k d : ℕ) → result ≤ k → k < length edges.now.items → n < slice_index_or edges.now.items k d }
+    ensures is { result ≡ count_le edges.now.items n }
 {
-    edges.partition_point(|edge| *edge <= n)
+    edges.count_to(n)
+}
+
+/// How many numbers of a line are at most `start`, and the first number above it, or `end` where that
+/// comes before it.
+pub fn count_and_turn(line: &Line, start: u64, end: u64) -> (usize, u64)
+    requires climbs { Climbs 0 line.now.items }
+    requires some { start < end }
+    ensures count { result.0 ≡ count_le line.now.items start }
+    ensures from { start < result.1 }
+    ensures to { result.1 ≤ end }
+    ensures none { (n : ℕ) → start ≤ n → n < result.1 →
+        count_le line.now.items n ≡ count_le line.now.items start }
+    ensures fewer { result.1 < end → count_le line.now.items start < count_le line.now.items result.1 }
+{
+    let count = count_to(line, start);
+    (count, line.number_or(count, end).min(end))
+}
+
+/// The first number of a line above `start`, or `end` where that comes before it.
+pub fn turn(line: &Line, start: u64, end: u64) -> u64
+    requires climbs { Climbs 0 line.now.items }
+    requires some { start < end }
+    ensures from { start < result }
+    ensures to { result ≤ end }
+    ensures none { (n : ℕ) → start ≤ n → n < result →
+        count_le line.now.items n ≡ count_le line.now.items start }
+    ensures fewer { result < end → count_le line.now.items start < count_le line.now.items result }
+{
+    count_and_turn(line, start, end).1
 }
 
 /// Whether a number is odd.
@@ -36,36 +74,32 @@ pub fn differ(a: bool, b: bool) -> bool
 }
 
 /// Puts an edge at a place, where it is wanted.
-fn put(edges: &mut Vec<u64>, at: usize, edge: u64, wanted: bool)
+fn put(edges: &mut Line, at: usize, edge: u64, wanted: bool)
     requires at { at ≤ length edges.old.items }
-    requires room { length edges.old.items < vec_capacity edges.old }
+    requires room { 0 < edges.old.room }
     ensures items { edges.new.items
         ≡ take at edges.old.items ++ (edge_if wanted edge ++ drop at edges.old.items) }
-    ensures len { length edges.old.items ≤ length edges.new.items }
+    ensures len { length edges.new.items ≡ length edges.old.items + length (edge_if wanted edge) }
     ensures small { length edges.new.items ≤ length edges.old.items + 1 }
-    ensures capacity { vec_capacity edges.new ≡ vec_capacity edges.old }
+    ensures capacity { length edges.old.items + edges.old.room ≤ length edges.new.items + edges.new.room }
 {
     if wanted {
-        let _ = edges.insert(at, edge);
+        edges.insert(at, edge);
     }
 }
 
 /// Puts two edges, each where it is wanted, in the place of `gone` edges.
-pub fn replace(
-    edges: &mut Vec<u64>,
-    at: usize,
-    gone: usize,
-    first: (u64, bool),
-    second: (u64, bool),
-)
+pub fn replace(edges: &mut Line, at: usize, gone: usize, first: (u64, bool), second: (u64, bool))
     requires at { at + gone ≤ length edges.old.items }
-    requires room { length edges.old.items + 2 ≤ vec_capacity edges.old }
+    requires room { 2 ≤ edges.old.room }
     ensures items { edges.new.items ≡ take at edges.old.items ++ (edge_if first.1 first.0
         ++ (edge_if second.1 second.0 ++ drop (at + gone) edges.old.items)) }
     ensures small { length edges.new.items ≤ length edges.old.items + 2 }
-    ensures capacity { vec_capacity edges.new ≡ vec_capacity edges.old }
+    ensures capacity { length edges.old.items + edges.old.room ≤ length edges.new.items + edges.new.room }
 {
-    edges.drain(at..at + gone);
-    put(edges, at, second.0, second.1);
+    edges.remove(at, gone);
+    let left = edges.len();
     put(edges, at, first.0, first.1);
+    let behind = at + (edges.len() - left);
+    put(edges, behind, second.0, second.1);
 }

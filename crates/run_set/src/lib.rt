@@ -3,6 +3,7 @@
 
 mod counts;
 mod edges;
+mod line;
 pub mod numbers;
 mod run_counts;
 mod run_set;

@@ -13,22 +13,3 @@ pub fn count_at(list: &[u64], n: u64) -> usize
 {
     list.partition_point(|item| *item <= n)
 }
-
-/// The number at a place, or another number where there is none.
-pub fn number_or(list: &[u64], at: usize, other: u64) -> u64
-    ensures { result ≡ slice_index_or list.now at other }
-{
-    list.get(at).copied().unwrap_or(other)
-}
-
-/// The first number of a list above `start`, or `end` where that comes before it.
-pub fn turn(list: &[u64], start: u64, end: u64) -> u64
-    requires climbs { Climbs 0 list.now }
-    requires some { start < end }
-    ensures from { start < result }
-    ensures to { result ≤ end }
-    ensures none { (n : ℕ) → start ≤ n → n < result → count_le list.now n ≡ count_le list.now start }
-    ensures fewer { result < end → count_le list.now start < count_le list.now result }
-{
-    number_or(list, count_at(list, start), end).min(end)
-}

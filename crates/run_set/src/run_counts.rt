@@ -5,7 +5,8 @@ ghost use Rattle.run_set.specs.Counts.{changed, count};
 ghost use Rattle.run_set.specs.Edges.{in_run, IsFirst};
 
 use crate::counts::{self, add_one};
-use crate::numbers::turn;
+use crate::edges::turn;
+use crate::line::Line;
 use std::alloc::{AllocError, Global};
 use std::marker::Model;
 
@@ -15,13 +16,12 @@ use std::marker::Model;
 /// Contracts see a number beside these: `room`, for how many more changes there is room.
 #[derive(Drop)]
 pub struct RunCounts {
-    starts: Vec<u64>,
-    ends: Vec<u64>,
+    starts: Line,
+    ends: Line,
 }
 
 impl Model for RunCounts {
-    ghost use Rattle.std.specs.Prelude.{◌-◌, length, min};
-    ghost use Rattle.std.specs.Vec.{vec_capacity};
+    ghost use Rattle.std.specs.Prelude.{min};
     ghost use Rattle.run_set.specs.Counts.{Counts, counts_code, IsBalanced};
 
     ghost Value = { Counts };
@@ -31,7 +31,7 @@ impl Model for RunCounts {
     ghost view = { λ s. record {
       starts = s.starts.items;
       ends = s.ends.items;
-      room = min (vec_capacity s.starts - length s.starts.items) (vec_capacity s.ends - length s.ends.items);
+      room = min s.starts.room s.ends.room;
     } };
 
     ghost invariant = { λ s. IsBalanced s.starts.items s.ends.items };
@@ -45,8 +45,8 @@ impl RunCounts {
         ensures room { result.room ≡ 0 }
     {
         RunCounts {
-            starts: Vec::new(alloc),
-            ends: Vec::new(alloc),
+            starts: Line::new(alloc),
+            ends: Line::new(alloc),
         }
     }
 
@@ -68,9 +68,7 @@ impl RunCounts {
     pub fn room(&self) -> usize
         ensures { result ≡ self.now.room }
     {
-        let starts = self.starts.capacity() - self.starts.len();
-        let ends = self.ends.capacity() - self.ends.len();
-        starts.min(ends)
+        self.starts.room().min(self.ends.room())
     }
 
     /// How many runs hold a number.

@@ -4,8 +4,8 @@ ghost use Rattle.std.specs.Prelude.{◌≡◌, ℕ, ◌+◌, ◌≤◌, ◌<◌,
 ghost use Rattle.run_set.specs.Edges.{member, in_run, IsFirst, IsKept, Rises};
 ghost use Rattle.run_set.specs.Numbers.{count_le};
 
-use crate::edges::{count_below, count_to, differ, is_odd, replace};
-use crate::numbers::{number_or, turn};
+use crate::edges::{count_and_turn, count_below, count_to, differ, is_odd, replace, turn};
+use crate::line::Line;
 use std::alloc::{AllocError, Global};
 use std::marker::Model;
 
@@ -15,19 +15,17 @@ use std::marker::Model;
 /// Contracts see a number beside the edges: `room`, for how many more of them there is room.
 #[derive(Drop)]
 pub struct RunSet {
-    edges: Vec<u64>,
+    edges: Line,
 }
 
 impl Model for RunSet {
-    ghost use Rattle.std.specs.Prelude.{◌-◌, length};
-    ghost use Rattle.std.specs.Vec.{vec_capacity};
     ghost use Rattle.run_set.specs.Edges.{Edges, edges_code, IsKept};
 
     ghost Value = { Edges };
 
     ghost coded = { edges_code };
 
-    ghost view = { λ s. record { edges = s.edges.items; room = vec_capacity s.edges - length s.edges.items } };
+    ghost view = { λ s. record { edges = s.edges.items; room = s.edges.room } };
 
     ghost invariant = { λ s. IsKept s.edges.items };
 }
@@ -39,7 +37,7 @@ impl RunSet {
         ensures room { result.room ≡ 0 }
     {
         RunSet {
-            edges: Vec::new(alloc),
+            edges: Line::new(alloc),
         }
     }
 
@@ -58,7 +56,7 @@ impl RunSet {
     pub fn room(&self) -> usize
         ensures { result ≡ self.now.room }
     {
-        self.edges.capacity() - self.edges.len()
+        self.edges.room()
     }
 
     /// The number of edges: two for each run.
@@ -87,7 +85,7 @@ impl RunSet {
         if is_odd(count) == is_in {
             return Some(start);
         }
-        let turn = number_or(&self.edges, count, end);
+        let turn = self.edges.number_or(count, end);
         if turn < end { Some(turn) } else { None }
     }
 
@@ -103,6 +101,19 @@ impl RunSet {
         turn(&self.edges, start, end)
     }
 
+    /// Whether `start` is in the set, and the number up to which all numbers from it on are as it is;
+    /// `end` where no edge comes before it.
+    pub fn run_at(&self, start: u64, end: u64) -> (bool, u64)
+        requires { start < end }
+        ensures is_in { result.0 ≡ member self.now.edges start }
+        ensures from { start < result.1 }
+        ensures to { result.1 ≤ end }
+        ensures same { (n : ℕ) → start ≤ n → n < result.1 → member self.now.edges n ≡ member self.now.edges start }
+    {
+        let (count, turn) = count_and_turn(&self.edges, start, end);
+        (is_odd(count), turn)
+    }
+
     /// Puts the run from `start` to `end - 1` into the set or, where `is_in` is false, takes it out.
     pub fn set(&mut self, start: u64, end: u64, is_in: bool)
         requires { 2 ≤ self.old.room }
@@ -111,7 +122,7 @@ impl RunSet {
         ensures kept { IsKept self.new.edges }
         ensures edges { length self.new.edges ≤ length self.old.edges + 2 }
         ensures room { self.old.room ≤ self.new.room + 2 }
-        ensures capacity { length self.new.edges + self.new.room ≡ length self.old.edges + self.old.room }
+        ensures capacity { length self.old.edges + self.old.room ≤ length self.new.edges + self.new.room }
         ensures within { (top : ℕ) → end < top → Rises 0 top self.old.edges → Rises 0 top self.new.edges }
     {
         let edges = &self.edges;
@@ -119,8 +130,7 @@ impl RunSet {
             return;
         }
         let first = count_below(edges, start);
-        let rest = &edges[first..];
-        let inside = count_to(rest, end);
+        let inside = count_to(edges, end) - first;
         let before = is_odd(first);
         let after = differ(before, is_odd(inside));
         replace(

@@ -1,24 +1,9 @@
-use Rattle.std.proofs.Common.{ℕ, ◌+◌, ◌≤◌, ◌<◌, leb, get_or, arith, rules}
-use Rattle.std.proofs.lemmas.Bool.{leb-true, leb-false}
-use Rattle.std.proofs.lemmas.List.Sorted.{IsPartitionPoint-from_clause, IsPartitionedBy-leb}
-use Rattle.run_set.proofs.Sets.{rises_take, rises_drop, rises_nondecreasing}
+use Rattle.std.proofs.Common.{arith}
+use Rattle.run_set.proofs.Lines.{counted_below, counted_above}
 use Rattle.run_set.proofs.edges.count_to.Goals as goal
 
 pub returns-clause-below : goal.returns-clause-below
-returns-clause-below c lo hi p h =
-    let parted = IsPartitionedBy-leb (λ (x : ℕ). x) c.args.edges.now c.args.n (rises_nondecreasing lo hi _ h) in
-    let point =
-    IsPartitionPoint-from_clause (λ x. leb x c.args.n) _ _
-    c.partition_point.ensures.partitioned parted (λ a r q k. search rules) in
-    rises_take _ _ lo hi (c.args.n + 1) p h
-    (λ k a b. let x : get_or c.args.edges.now k 0 ≤ c.args.n =
-    leb-true _ _ (point.0 k 0 (omega arith) a) in omega arith)
+returns-clause-below c k d p = counted_below 0 c.args.edges.now.items c.args.n k d c.requires (omega arith)
 
 pub returns-clause-above : goal.returns-clause-above
-returns-clause-above c lo hi p h =
-    let parted = IsPartitionedBy-leb (λ (x : ℕ). x) c.args.edges.now c.args.n (rises_nondecreasing lo hi _ h) in
-    let point =
-    IsPartitionPoint-from_clause (λ x. leb x c.args.n) _ _
-    c.partition_point.ensures.partitioned parted (λ a r q k. search rules) in
-    rises_drop _ _ lo hi (c.args.n + 1) (omega arith) h
-    (λ k a b. let x : c.args.n < get_or c.args.edges.now k 0 = leb-false _ _ (point.1 k 0 a b) in omega arith)
+returns-clause-above c k d p q = counted_above 0 c.args.edges.now.items c.args.n k d c.requires (omega arith) q

@@ -1,8 +1,58 @@
-use Rattle.loan_table.specs.declared.row.Way.TheVariants.{ToWrite, Any}
+use Rattle.std.proofs.Common.{map, ap, arith}
+use Rattle.loan_table.specs.Counted.{places}
+use Rattle.loan_table.specs.Kinds.{test_of}
+use Rattle.loan_table.specs.Lending.{marked}
+use Rattle.loan_table.proofs.Pieces.{marked_ahead, nothing, places_ahead, whole}
 use Rattle.loan_table.proofs.lent.LentCounts.mark.Goals as goal
 
-pub recount-requires-clause-room : goal.recount-requires-clause-room
-recount-requires-clause-room c = c.requires.room ToWrite
+pub loop-at-init : goal.loop-at-init
+loop-at-init c =
+    let ps = c.args.row.now.positions in
+    let all = whole c.args.off c.args.len c.end_of-end.result ps c.end_of-end.ensures in
+    record {
+      counted = λ way a. rw all (omega arith);
+      held = λ way a. rw all (c.requires.held way a);
+      in_room = λ way. omega arith;
+      from = omega arith;
+      to = omega arith;
+    }
 
-pub recount-requires-2-clause-room : goal.recount-requires-2-clause-room
-recount-requires-2-clause-room c = c.requires.room Any
+pub recount-requires-clause-held : goal.recount-requires-clause-held
+recount-requires-clause-held c way a =
+    let piece = c.piece-piece.result in
+    let ahead = places_ahead way a c.loop-at.at c.end_of-end.result piece.len piece.first
+    c.args.row.now.positions c.piece-piece.ensures.is in
+    omega (arith, ahead, c.loop-at.invariant.held way a)
+
+pub recount-requires-clause-room : goal.recount-requires-clause-room
+recount-requires-clause-room c way =
+    omega (arith, c.requires.room way, c.loop-at.invariant.in_room way)
+
+pub loop-at-preserved : goal.loop-at-preserved
+loop-at-preserved c =
+    let piece = c.piece-piece.result in
+    let ps = c.args.row.now.positions in
+    let end = c.end_of-end.result in
+    record {
+      counted = λ way a.
+          let ahead = places_ahead way a c.loop-at.at end piece.len piece.first ps c.piece-piece.ensures.is in
+          let later = marked_ahead way a c.loop-at.at end piece.len piece.first ps c.piece-piece.ensures.is c.args.ops.0 in
+          omega (arith, ahead, later, c.loop-at.invariant.counted way a, c.recount.ensures.counts way a);
+      held = λ way a.
+          let ahead = places_ahead way a c.loop-at.at end piece.len piece.first ps c.piece-piece.ensures.is in
+          let later = marked_ahead way a c.loop-at.at end piece.len piece.first ps c.piece-piece.ensures.is c.args.ops.0 in
+          omega (arith, ahead, c.loop-at.invariant.held way a, c.recount.ensures.counts way a);
+      in_room = λ way. omega (arith, c.recount.ensures.room way, c.loop-at.invariant.in_room way);
+      from = omega arith;
+      to = omega arith;
+    }
+
+pub returns-clause-counts : goal.returns-clause-counts
+returns-clause-counts c way a =
+    let none = nothing c.loop-at.at c.end_of-end.result c.args.row.now.positions (omega arith) in
+    let left = ap (places (test_of way) a) none in
+    let after = ap (λ xs. places (test_of way) a (map (marked c.args.ops.0) xs)) none in
+    omega (arith, left, after, c.loop-at.invariant.counted way a)
+
+pub returns-clause-room : goal.returns-clause-room
+returns-clause-room c way = omega (arith, c.loop-at.invariant.in_room way)

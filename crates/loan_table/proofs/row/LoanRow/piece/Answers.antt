@@ -13,8 +13,8 @@ stretch-run-requires-clause-range c =
 pub returns-clause-is : goal.returns-clause-is
 returns-clause-is c =
     rw (← c.self.view_is) (piece_ahead (member c.self.inside.to_read.edges) (member c.self.inside.to_write.edges)
-    c.self.inside.buffer c.args.at c.args.end (c.turn-turn-2.result - c.args.at) c.stretch-run.result.len
-    c.stretch-run.result.pa.0 c.contains.result c.contains-2.result (omega arith) (omega arith)
+    c.self.inside.buffer c.args.at c.args.end (c.run_at-to_write.result.1 - c.args.at) c.stretch-run.result.len
+    c.stretch-run.result.pa.0 c.run_at-to_read.result.0 c.run_at-to_write.result.0 (omega arith) (omega arith)
     c.stretch-run.ensures.bytes
-    (λ i from to. c.turn-turn.ensures.same i from (omega arith) ∙ sym c.contains.ensures)
-    (λ i from to. c.turn-turn-2.ensures.same i from (omega arith) ∙ sym c.contains-2.ensures))
+    (λ i from to. c.run_at-to_read.ensures.same i from (omega arith) ∙ sym c.run_at-to_read.ensures.is_in)
+    (λ i from to. c.run_at-to_write.ensures.same i from (omega arith) ∙ sym c.run_at-to_write.ensures.is_in))
