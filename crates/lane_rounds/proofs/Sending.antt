@@ -59,7 +59,10 @@ worker_send s T F sent =
               search (step_send, sendable, crosses) depth 20,
               (
                 search (sendable, crosses) depth 20,
-                (search (sendable, crosses) depth 20, (search (sendable, crosses) depth 20, tt)),
+                (
+                  search (sendable, crosses) depth 20,
+                  (search (sendable, crosses) depth 20, (search (sendable, crosses) depth 20, tt)),
+                ),
               ),
             ),
           ),

@@ -7,7 +7,7 @@ ghost use Rattle.lane_core.specs.Turning.{IsServed};
 ghost use Rattle.lane_rounds.specs.AtWork.{IsAtWork, Works, logged, place_of};
 
 use crate::gate::Gate;
-use busdma_base::{HubDoor, JournalEntry, LaneId, Side};
+use busdma_base::{Answer, Did, HubDoor, JournalEntry, LaneId, Side};
 use lane_core::{Lane, Turn};
 use lane_merge::{LaneLog, LoggedStep};
 use std::alloc::{AllocError, Global};
@@ -24,8 +24,18 @@ pub struct Worker<'s, D: HubDoor + Drop> {
     pub(crate) door: D,
     pub(crate) log: LaneLog,
     turns: u64,
+    waiting: u32,
     stepped: bool,
     failed: bool,
+}
+
+/// How many loads of a driver wait after a step, of those that waited before it.
+fn waiting_after(waiting: u32, entry: &JournalEntry) -> u32 {
+    match (&entry.did, &entry.answer) {
+        (Did::Callback { .. }, _) => waiting.saturating_sub(1),
+        (_, Answer::InProgress { .. }) => waiting.saturating_add(1),
+        _ => waiting,
+    }
 }
 
 /// A step as a log has it, with whether it held.
@@ -63,6 +73,7 @@ impl<'s, D: HubDoor + Drop> Worker<'s, D> {
             door,
             log: VecDeque::new(alloc),
             turns: 0,
+            waiting: 0,
             stepped: false,
             failed: false,
         }
@@ -81,11 +92,27 @@ impl<'s, D: HubDoor + Drop> Worker<'s, D> {
         let turn = self.lane.turn(alloc, &mut self.door, side)?;
         match turn {
             Turn::Stepped { entry, held } => {
+                self.waiting = waiting_after(self.waiting, &entry);
                 self.log.push_back_reserved(logged(entry, held));
                 Ok(true)
             }
             Turn::Blocked | Turn::Ended => Ok(false),
         }
+    }
+
+    /// The turn of the callbacks. Where no load of the driver waits, no callback can be its own: then
+    /// the turn is counted, and the lock, which all other drivers want, is not asked.
+    fn callback_turn<G: Gate>(&mut self, alloc: Global, gate: &G) -> Result<bool, AllocError>
+        requires { Works D.seen self.old }
+        ensures works { Works D.seen self.new }
+        ensures place { place_of D.fixed self.new ≡ place_of D.fixed self.old }
+    {
+        if 0 < self.waiting {
+            return self.turn(alloc, gate, Side::Callback);
+        }
+        gate.at(self.id, self.turns);
+        self.turns = self.turns.saturating_add(1);
+        Ok(false)
     }
 
     /// A turn of each side. Tells whether any was a step.
@@ -94,7 +121,7 @@ impl<'s, D: HubDoor + Drop> Worker<'s, D> {
         ensures works { Works D.seen self.new }
         ensures place { place_of D.fixed self.new ≡ place_of D.fixed self.old }
     {
-        let called = self.turn(alloc, gate, Side::Callback)?;
+        let called = self.callback_turn(alloc, gate)?;
         let moved = self.turn(alloc, gate, Side::Transfer)?;
         let went_on = self.turn(alloc, gate, Side::Script)?;
         Ok(called || moved || went_on)

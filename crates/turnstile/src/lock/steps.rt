@@ -80,7 +80,7 @@ impl<H: TurnObject> Turnstile<H> {
             if found == ticket {
                 return;
             }
-            thread::yield_now();
+            shared.park(rt, 1, (found % (1 << 32)) as u32);
         }
         unreachable!()
     }
@@ -117,7 +117,9 @@ impl<H: TurnObject> Turnstile<H> {
             (λ y. seat.new.me
             ≡ (view_after (added_since H.history seat.old.me.0.start seat.old.me.0.front y) seat.old.me.0, [])) }
     {
-        self.table.shared.store::<End<H>>(seat, 1, ticket + 1);
+        let shared = &self.table.shared;
+        shared.store::<End<H>>(seat, 1, ticket + 1);
+        shared.wake_all(1);
     }
 
     // The same wait where the turnstile is closed: the object stays in the slot.
@@ -140,7 +142,7 @@ impl<H: TurnObject> Turnstile<H> {
             if found == ticket {
                 return;
             }
-            thread::yield_now();
+            shared.park(rt, 1, (found % (1 << 32)) as u32);
         }
         unreachable!()
     }
