@@ -9,7 +9,7 @@ returns-clause-before c =
     let len = c.len-len.result in
     let at = c.args.at in
     elim c.if-place-at.branch [
-      then-place-at w ↦ rw (w.ring-is, w.rotate_left.ensures.items)
+      | then-place-at w ↦ rw (w.ring-is, w.rotate_left.ensures.items)
           (on_before behind (at - (len - behind)) (len - at) at c.args.ring.now.items (omega arith) (omega arith) (omega arith))
       | else-place-at w ↦ rw (w.ring-is, w.rotate_right.ensures.items)
           (back_before behind (len - at) at _ c.args.ring.now.items (omega arith) (omega arith) (omega arith))
@@ -21,7 +21,7 @@ returns-clause-behind c =
     let len = c.len-len.result in
     let at = c.args.at in
     elim c.if-place-at.branch [
-      then-place-at w ↦ rw (w.ring-is, w.rotate_left.ensures.items)
+      | then-place-at w ↦ rw (w.ring-is, w.rotate_left.ensures.items)
           (on_behind behind (at - (len - behind)) (len - at) at c.args.ring.now.items (omega arith) (omega arith) (omega arith))
       | else-place-at w ↦ rw (w.ring-is, w.rotate_right.ensures.items)
           (back_behind behind (len - at) at _ c.args.ring.now.items (omega arith) (omega arith) (omega arith))
