@@ -28,7 +28,6 @@ const THREE: &str = r#"{"frames": [["0x10", 8], ["0x1000", 16]], "max_bpages": 2
 /// The scenario with the order in which the entries of a report stand.
 fn in_order(alloc: Global, scenario: &str, report: &str) -> Result<String, AllocError> {
     let mut text = String::from_str(alloc, r#"{"order": ["#)?;
-    let mut comma = "";
     for line in report.lines() {
         let Some((number, rest)) = line.split_once(" ") else {
             continue;
@@ -37,11 +36,12 @@ fn in_order(alloc: Global, scenario: &str, report: &str) -> Result<String, Alloc
             continue;
         };
         if number.parse::<u64>().is_ok() {
-            text.push_str(comma)?;
+            if text.ends_with("\"") {
+                text.push_str(", ")?;
+            }
             text.push_str("\"")?;
             text.push_str(actor)?;
             text.push_str("\"")?;
-            comma = ", ";
         }
     }
     text.push_str("], ")?;
