@@ -27,8 +27,8 @@ pub use machine::{Bio, Chunk, Entry, Extent, Mbuf, Pa, Page, PageList, Part, Seg
 pub use name::{LaneId, MapId, ZoneId};
 pub use room::RoomyList;
 pub use scenarios::{
-    Buffer, Bytes, Driver, FrameRun, Item, ItemAbout, ItemWord, MadeName, NameKind, Object, Op,
-    OpAbout, OpWord, PageRun, Place, Scenario, UsedName,
+    Buffer, Bytes, Driver, FrameRun, Item, ItemAbout, ItemWord, MadeName, NameKind, NameUse,
+    Object, Op, OpAbout, OpWord, PageRun, Place, Scenario, UsedName,
 };
 pub use tags::TagLimits;
 pub use text::Text;

@@ -45,6 +45,7 @@ use Rattle.ideal_lane.specs.Outcomes.{unless_past, is_idle, is_loaded, load_leng
 use Rattle.ideal_lane.specs.Places.{virtual_at, reached, bytes_at}
 use Rattle.ideal_lane.specs.Tags.{with_tag, attached, tag_or_invalid, tag, has_maps, tag_destroy}
 use Rattle.ideal_lane.specs.Maps.{with_map, created, map, end_map, map_destroy, await}
+use Rattle.ideal_lane.specs.Memories.{placed, dmamem, dmamem_free}
 use Rattle.ideal_lane.specs.Loads.{Asked, asked, limits_of, chunks_for, finished, granted, load_chunks, load, staged}
 use Rattle.ideal_lane.specs.Loads.{emptied}
 use Rattle.ideal_lane.specs.Unloads.{unload, pages_of, restaged, after_return}
@@ -198,6 +199,30 @@ module _ (l : LaneState) where
     brings-await : (m : ℕ) → Brings (await m l)
     brings-await m = brings-absent (get l.maps m) _ (λ o e. brings-if o.tried _ _ same same)
 
+    -- ---- memories
+
+    brings-dmamem : (t flags : ℕ) → Brings (dmamem t flags l)
+    brings-dmamem t flags = brings-absent (get l.tags t) _ (λ g e. by g)
+      where
+        by : (g : LaneTag) (r : HubReply) → Few (placed t g.limits flags l r).lane
+        by g (reply.Run first count) =
+            no-more _ (unwaiting-put l.place (record { tag = t; zone = None; tried = false; stage = Idle }) refl)
+            refl refl refl
+        by g (reply.Grown n) = same
+        by g reply.Nothing = same
+        by g (reply.Granted pages) = same
+        by g (reply.Queued have) = same
+        by g reply.NoPages = same
+        by g (reply.Served n) = same
+        by g (reply.Called n pages) = same
+        by g reply.NoRun = same
+
+    brings-dmamem_free : (m : ℕ) → Brings (dmamem_free m l)
+    brings-dmamem_free m =
+        brings-absent (get l.mems m) _ (λ x f. brings-absent (get l.maps m) _ (λ o e.
+        brings-if (is_idle o.stage) (Asks (call.MemFree _) _) _
+        (λ r. no-more _ (weigh-cut w l.maps m o e) refl refl refl) same))
+
     -- ---- syncs and accesses
 
     brings-part : (m : ℕ) (o : LaneMap) (off len ops : ℕ) → Brings (sync_part m o off len ops l)
@@ -316,6 +341,8 @@ module _ (l : LaneState) where
   brings-operation (op.TagDestroy tag) at = brings-tag_destroy 0 tag
   brings-operation (op.Map name tag) at = brings-map 0 tag
   brings-operation (op.MapDestroy map) at = brings-map_destroy 0 map
+  brings-operation (op.Dmamem name tag flags) at = brings-dmamem 0 tag flags
+  brings-operation (op.DmamemFree mem) at = brings-dmamem_free 0 mem
   brings-operation (op.Load map x flags items) at =
       let here : item_count (slice_get l.script l.place) ≡ length items = ap item_count at in
       brings-absent (length items) (bio_at l x) _

@@ -42,6 +42,7 @@ use Rattle.ideal_lane.specs.Places.{virtual_at, reached, bytes_at}
 use Rattle.ideal_lane.specs.Standing.{Stands, KeepsStanding}
 use Rattle.ideal_lane.specs.Tags.{with_tag, attached, tag_or_invalid, tag, has_maps, tag_destroy}
 use Rattle.ideal_lane.specs.Maps.{with_map, created, map, end_map, map_destroy, await}
+use Rattle.ideal_lane.specs.Memories.{placed, dmamem, dmamem_free}
 use Rattle.ideal_lane.specs.Loads.{Asked, asked, limits_of, chunks_for, finished, granted, load_chunks, load, ended}
 use Rattle.ideal_lane.specs.Loads.{emptied}
 use Rattle.ideal_lane.specs.Unloads.{unload, pages_of, restaged, after_return}
@@ -204,6 +205,29 @@ module _ (p : ℕ) where
     pays-await : (m : ℕ) → Pays (await m l)
     pays-await m = pays-absent (get l.maps m) _ (λ o e. pays-if o.tried _ _ (λ b. same _) (λ b. same _))
 
+    pays-dmamem : (t flags : ℕ) → get l.maps l.place ≡ None → Pays (dmamem t flags l)
+    pays-dmamem t flags none = pays-absent (get l.tags t) _ (λ g e. by g)
+      where
+        by : (g : LaneTag) (r : HubReply) → Paid (placed t g.limits flags l r)
+        by g (reply.Run first count) =
+            no-more _
+            (omega (arith, new-free l.place (record { tag = t; zone = None; tried = false; stage = Idle }) none refl))
+            refl
+        by g (reply.Grown n) = same _
+        by g reply.Nothing = same _
+        by g (reply.Granted pages) = same _
+        by g (reply.Queued have) = same _
+        by g reply.NoPages = same _
+        by g (reply.Served n) = same _
+        by g (reply.Called n pages) = same _
+        by g reply.NoRun = same _
+
+    pays-dmamem_free : (m : ℕ) → Pays (dmamem_free m l)
+    pays-dmamem_free m =
+        pays-absent (get l.mems m) _ (λ x f. pays-absent (get l.maps m) _ (λ o e.
+        pays-if (is_idle o.stage) (Asks (call.MemFree _) _) _
+        (λ i r. no-more _ (weigh-cut w l.maps m o e) refl) (λ i. same _)))
+
     pays-part : (m : ℕ) (o : LaneMap) (off len ops : ℕ) → Pays (sync_part m o off len ops l)
     pays-part m o off len ops =
         pays-if (is_mixed ops) _ _ (λ b. same _)
@@ -314,6 +338,8 @@ module _ (p : ℕ) where
       pays-operation (op.TagDestroy tag) none = pays-tag_destroy tag
       pays-operation (op.Map name tag) none = pays-map tag none
       pays-operation (op.MapDestroy map) none = pays-map_destroy map
+      pays-operation (op.Dmamem name tag flags) none = pays-dmamem tag flags none
+      pays-operation (op.DmamemFree mem) none = pays-dmamem_free mem
       pays-operation (op.Load map x flags items) none =
           pays-absent (bio_at l x) _ (λ b e. pays-load map (asked map b (never_waits x flags) items l))
       pays-operation (op.Unload map) none = pays-unload map

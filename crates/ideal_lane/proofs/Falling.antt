@@ -422,6 +422,8 @@ module _ (l : LaneState) where
   lows-operation a (op.TagDestroy tag) s at = lows-tag_destroy a 1 tag
   lows-operation a (op.Map name tag) s at = lows-map a 1 tag (s.no_map l.place (omega arith))
   lows-operation a (op.MapDestroy map) s at = lows-map_destroy a 1 map
+  lows-operation a (op.Dmamem name tag flags) s at = lows-dmamem a 1 tag flags (s.no_map l.place (omega arith))
+  lows-operation a (op.DmamemFree mem) s at = lows-dmamem_free a 1 mem
   lows-operation a (op.Load map x flags items) s at =
       lows-absent a _ (bio_at l x) _ (λ b e.
       lows-load a (1 + (length items + buffer_bytes x)) map
@@ -580,6 +582,8 @@ asked-items l (Some (op.Tag name parent limits)) = omega arith
 asked-items l (Some (op.TagDestroy tag)) = omega arith
 asked-items l (Some (op.Map name tag)) = omega arith
 asked-items l (Some (op.MapDestroy map)) = omega arith
+asked-items l (Some (op.Dmamem name tag flags)) = omega arith
+asked-items l (Some (op.DmamemFree mem)) = omega arith
 asked-items l (Some (op.Unload map)) = omega arith
 asked-items l (Some (op.Sync map ops)) = omega arith
 asked-items l (Some (op.SyncRange map off len ops)) = omega arith

@@ -46,6 +46,7 @@ use Rattle.ideal_lane.specs.IdealMemory.{is_known, written}
 use Rattle.ideal_lane.specs.Loads.{Asked, asked, limits_of, chunks_for, finished, granted, load_chunks, load, ended}
 use Rattle.ideal_lane.specs.Loads.{zone_of}
 use Rattle.ideal_lane.specs.Maps.{with_map, created, map, end_map, map_destroy, await}
+use Rattle.ideal_lane.specs.Memories.{placed, without_memory, dmamem, dmamem_free}
 use Rattle.ideal_lane.specs.Outcomes.{Outcome, gives, refused, unless_absent, unless_refused, unless_busy}
 use Rattle.ideal_lane.specs.Outcomes.{unless_unloaded, unless_past, is_idle, is_loaded, load_length}
 use Rattle.ideal_lane.specs.Places.{virtual_at, reached, bytes_at}
@@ -202,6 +203,29 @@ module _ (l : LaneState) where
       absent (get l.maps m) _ (λ o.
       either o.tried (gives l answer.Done) (refused NotDeferred 0 l) (λ r. still) (λ r. still))
 
+  -- ---- memories
+
+  placed-keeps : (t : ℕ) (limits : TagLimits) (flags : ℕ) (r : HubReply) → IsLater l (placed t limits flags l r).lane
+  placed-keeps t limits flags (reply.Run first count) = still
+  placed-keeps t limits flags (reply.Grown g) = still
+  placed-keeps t limits flags reply.Nothing = still
+  placed-keeps t limits flags (reply.Granted pages) = still
+  placed-keeps t limits flags (reply.Queued have) = still
+  placed-keeps t limits flags reply.NoPages = still
+  placed-keeps t limits flags (reply.Served n) = still
+  placed-keeps t limits flags (reply.Called n pages) = still
+  placed-keeps t limits flags reply.NoRun = still
+
+  dmamem-keeps : (t flags : ℕ) → Keeps (dmamem t flags l)
+  dmamem-keeps t flags = absent (get l.tags t) _ (λ o. placed-keeps t o.limits flags)
+
+  dmamem_free-keeps : (m : ℕ) → Keeps (dmamem_free m l)
+  dmamem_free-keeps m =
+      absent (get l.mems m) _ (λ x. absent (get l.maps m) _ (λ o.
+      either (is_idle o.stage)
+      (Asks (call.MemFree (named l m)) (λ r. record { lane = without_memory m x l; answer = answer.Done }))
+      (gives l (answer.Refused EBUSY)) (λ r. still) (λ r. still)))
+
   -- ---- loads
 
   finished-keeps : (m : ℕ) (o : LaneMap) (at : ℕ) (x : Asked) (chunks : List Chunk) (pages : List ℕ) →
@@ -302,6 +326,8 @@ module _ (l : LaneState) where
   operation-keeps (op.TagDestroy t) = tag_destroy-keeps t
   operation-keeps (op.Map name t) = map-keeps t
   operation-keeps (op.MapDestroy m) = map_destroy-keeps m
+  operation-keeps (op.Dmamem name t flags) = dmamem-keeps t flags
+  operation-keeps (op.DmamemFree m) = dmamem_free-keeps m
   operation-keeps (op.Load m x flags items) = buffer-keeps m x flags items
   operation-keeps (op.Unload m) = unload-keeps m
   operation-keeps (op.Sync m ops) = sync-keeps m ops

@@ -629,6 +629,8 @@ module _ (l : LaneState) (s : Stands l) where
   leaves-operation (op.TagDestroy tag) = leaves-tag_destroy (l.place + 1) l next.0 tag
   leaves-operation (op.Map name tag) = leaves-map tag
   leaves-operation (op.MapDestroy map) = leaves-map_destroy (l.place + 1) l next.0 map
+  leaves-operation (op.Dmamem name tag flags) = leaves-dmamem tag flags
+  leaves-operation (op.DmamemFree mem) = leaves-dmamem_free (l.place + 1) l next.0 mem
   leaves-operation (op.Load map x flags items) =
       leaves-absent (l.place + 1) l next.0 (bio_at l x) _
       (λ b e. leaves-load (l.place + 1) l next.0 map (asked map b (never_waits x flags) items l))

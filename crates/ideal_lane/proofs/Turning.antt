@@ -38,6 +38,7 @@ use Rattle.ideal_lane.specs.Turns.{bio_at, called_back, callback_turn, lane_step
 use Rattle.ideal_lane.specs.Unloads.{given_back, restaged, after_return}
 use Rattle.ideal_lane.proofs.Keeping.{Following, Keeps, keeps-absent, keeps-tag, keeps-tag_destroy, keeps-map}
 use Rattle.ideal_lane.proofs.Keeping.{keeps-map_destroy, keeps-await, keeps-load, keeps-unload, keeps-sync}
+use Rattle.ideal_lane.proofs.Keeping.{keeps-dmamem, keeps-dmamem_free}
 use Rattle.ideal_lane.proofs.Keeping.{keeps-sync_range, keeps-cpu_read, keeps-cpu_write, keeps-dev_read}
 use Rattle.ideal_lane.proofs.Keeping.{keeps-dev_write, fits, ended-like}
 use Rattle.ideal_lane.proofs.Lookups.{same_at}
@@ -75,6 +76,8 @@ keeps-operation l (op.Tag name parent limits) s = keeps-tag l parent limits
 keeps-operation l (op.TagDestroy tag) s = keeps-tag_destroy l tag
 keeps-operation l (op.Map name tag) s = keeps-map l tag s
 keeps-operation l (op.MapDestroy map) s = keeps-map_destroy l map
+keeps-operation l (op.Dmamem name tag flags) s = keeps-dmamem l tag flags s
+keeps-operation l (op.DmamemFree mem) s = keeps-dmamem_free l mem s
 keeps-operation l (op.Load map x flags items) s =
     keeps-absent l (bio_at l x) _ (λ b e. keeps-load l map (asked map b (never_waits x flags) items l) s)
 keeps-operation l (op.Unload map) s = keeps-unload l map s

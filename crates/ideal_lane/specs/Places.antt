@@ -1,10 +1,11 @@
 -- Which bytes a driver reaches: those of its pages and those of its memories.
 use Rattle.std.specs.Prelude.{ℕ, ◌+◌, ◌-◌, Bool, ◌&&◌, List, Option, Some, None, if◌then◌else◌, map, nat_le, nat_lt}
-use Rattle.std.specs.FinMap.{entries}
+use Rattle.std.specs.FinMap.{entries, get}
 use Rattle.std.specs.List.{list_any}
+use Rattle.std.specs.Option.{option_map}
 use Rattle.busdma_base.specs.declared.journals.report.Judged.{Judged}
 use Rattle.busdma_base.specs.declared.scenarios.script.Place.{Place}
-use Rattle.busdma_base.specs.declared.scenarios.script.Place.TheVariants.{At}
+use Rattle.busdma_base.specs.declared.scenarios.script.Place.TheVariants.{At, In}
 use Rattle.busdma_base.specs.Journals.Judging.{judged}
 use Rattle.busdma_base.specs.Machine.PageRuns.{pages_end, physical_in}
 use Rattle.busdma_base.specs.Runs.{run_of}
@@ -40,6 +41,7 @@ physical l va = or_in_memory l va (physical_in l.pages va)
 -- the virtual address of a place, unless its memory does not exist
 abbrev pub virtual_at : LaneState → Place → Option ℕ
 virtual_at l (At va) = Some va.0
+virtual_at l (In mem off) = option_map (λ x. begin_of x + off) (get l.mems mem)
 
 -- the physical addresses of bytes that the driver reaches, by their virtual ones
 abbrev pub bytes_at : LaneState → List ℕ → List ℕ

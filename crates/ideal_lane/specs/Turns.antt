@@ -34,6 +34,7 @@ use Rattle.ideal_lane.specs.Outcomes.{Outcome, unless_absent}
 use Rattle.ideal_lane.specs.Places.{virtual_at}
 use Rattle.ideal_lane.specs.Tags as tags
 use Rattle.ideal_lane.specs.Maps as maps
+use Rattle.ideal_lane.specs.Memories as memories
 use Rattle.ideal_lane.specs.Loads as loads
 use Rattle.ideal_lane.specs.Unloads as unloads
 use Rattle.ideal_lane.specs.Syncs as syncs
@@ -92,6 +93,8 @@ operation (op.Tag name parent limits) l = tags.tag parent limits l
 operation (op.TagDestroy tag) l = tags.tag_destroy tag l
 operation (op.Map name tag) l = maps.map tag l
 operation (op.MapDestroy map) l = maps.map_destroy map l
+operation (op.Dmamem name tag flags) l = memories.dmamem tag flags l
+operation (op.DmamemFree mem) l = memories.dmamem_free mem l
 operation (op.Load map buffer flags items) l = load_buffer map buffer flags items l
 operation (op.Unload map) l = unloads.unload map l
 operation (op.Sync map ops) l = syncs.sync map ops l
@@ -119,6 +122,8 @@ waits (op.Tag name parent limits) l = false
 waits (op.TagDestroy tag) l = false
 waits (op.Map name tag) l = false
 waits (op.MapDestroy map) l = false
+waits (op.Dmamem name tag flags) l = false
+waits (op.DmamemFree mem) l = false
 waits (op.Load map buffer flags items) l = false
 waits (op.Unload map) l = false
 waits (op.Sync map ops) l = false
@@ -188,6 +193,8 @@ asked_by (op.Tag name parent limits) l = None
 asked_by (op.TagDestroy tag) l = None
 asked_by (op.Map name tag) l = None
 asked_by (op.MapDestroy map) l = None
+asked_by (op.Dmamem name tag flags) l = None
+asked_by (op.DmamemFree mem) l = None
 asked_by (op.Unload map) l = None
 asked_by (op.Sync map ops) l = None
 asked_by (op.SyncRange map off len ops) l = None

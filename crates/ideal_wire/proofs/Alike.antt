@@ -2,7 +2,7 @@
 use mathlib.Core.Logic.{∥∥₁_map}
 use Rattle.std.proofs.Common.{◌≡◌, ◌≢◌, ℕ, Bool, false, List, Option, Some, None, slice_get, is_some, inl, inr}
 use Rattle.std.proofs.Common.{refl, ap, sym, ◌∙◌, subst}
-use Rattle.std.specs.Option.{option_and_then}
+use Rattle.std.specs.Option.{option_and_then, option_map}
 use Rattle.std.specs.Prelude.{unwrap_or}
 use Rattle.std.specs.FinMap.{empty, get, get-empty}
 use Rattle.std.specs.List.{enumerate_from}
@@ -11,13 +11,17 @@ use Rattle.busdma_base.specs.declared.machine.address.Segment.{Segment}
 use Rattle.busdma_base.specs.declared.machine.bio.Bio.{Bio}
 use Rattle.busdma_base.specs.declared.machine.bio.Bio.TheVariants.{Mapped, Vector, Unmapped}
 use Rattle.busdma_base.specs.declared.machine.chunk.Chunk.{Chunk}
+use Rattle.busdma_base.specs.declared.scenarios.buffer.Buffer.{Buffer}
+use Rattle.busdma_base.specs.declared.scenarios.buffer.Buffer.TheVariants as buffer
 use Rattle.busdma_base.specs.declared.scenarios.script.Item.{Item}
 use Rattle.busdma_base.specs.declared.scenarios.script.Op.{Op}
 use Rattle.busdma_base.specs.declared.scenarios.script.Op.TheVariants as op
+use Rattle.busdma_base.specs.declared.scenarios.script.Place.TheVariants.{At, In}
 use Rattle.busdma_base.specs.Journals.Judging.{judged}
 use Rattle.busdma_base.specs.Machine.PageRuns.{is_own}
 use Rattle.busdma_base.specs.Machine.Spans.{bio_spans, span_addresses, span_bytes}
 use Rattle.busdma_base.specs.Machine.Wire.{buses}
+use Rattle.busdma_base.specs.Tags.Tag.{excluded}
 use Rattle.loan_table.specs.declared.position.Position.{Position}
 use Rattle.loan_table.specs.Loans.{loan_of, addresses_of}
 use Rattle.map_sync.specs.Traces.{HasChunks}
@@ -27,12 +31,11 @@ use Rattle.ideal_lane.specs.Loads.{load_translation}
 use Rattle.ideal_lane.specs.Outcomes.{is_loaded}
 use Rattle.ideal_lane.specs.State.{LaneState, LaneMap, LaneMemory, Stage, Idle, Waiting, Loaded, Returning}
 use Rattle.ideal_lane.specs.Syncs.{bounced_in}
-use Rattle.ideal_lane.specs.Turns.{asked_at, asked_by, never_waits, no_load}
+use Rattle.ideal_lane.specs.Turns.{asked_at, asked_by, bio_at, never_waits, no_load}
 use Rattle.ideal_wire.specs.Centre.{IsAt}
 use Rattle.ideal_wire.specs.Laid.{is_loadable, IsLaid, IsAwaited, LiesIn, IsOwnByte, OfPages, OfMemory, AreLaid}
 use Rattle.ideal_wire.specs.Laid.{chunks_at, pages_alone}
 use Rattle.ideal_wire.specs.Traces.{stage_at, placed_from, traces_of}
-use Rattle.ideal_wire.proofs.Buffers.{asks-bio, bio-of}
 use Rattle.ideal_wire.proofs.Positions.{twin_of}
 use Rattle.ideal_wire.proofs.SyncedPositions.{decided}
 
@@ -51,14 +54,18 @@ pub record KeepsRest (l l' : LaneState) : Type 0 where
   pub own : (a : ℕ) → is_some (l'.memory a) ≡ is_some (l.memory a)
   pub mems : l'.mems ≡ l.mems
 
+-- what the tag of a map says stays
+abbrev pub KeepsLimits : LaneState → LaneState → ℕ → Type 0
+KeepsLimits l l' n = (o' : LaneMap) → get l'.maps n ≡ Some o' →
+    (o : LaneMap) × (get l.maps n ≡ Some o) × (limits_of l' o' ≡ limits_of l o)
+
 -- what it leaves of a map: its stage, the bytes of its load, and what its tag says
 pub record IsAlike (l l' : LaneState) (n : ℕ) : Type 0 where
   pub stage : stage_at l' n ≡ stage_at l n
   pub coherent : (loan_of l'.loans n).coherent ≡ (loan_of l.loans n).coherent
   pub bytes : addresses_of (loan_of l'.loans n).positions ≡ addresses_of (loan_of l.loans n).positions
   pub unlent : is_loaded (stage_at l n) ≡ false → loan_of l'.loans n ≡ loan_of l.loans n
-  pub limits : (o' : LaneMap) → get l'.maps n ≡ Some o' →
-      (o : LaneMap) × (get l.maps n ≡ Some o) × (limits_of l' o' ≡ limits_of l o)
+  pub limits : KeepsLimits l l' n
 
 -- a load of a bio, of a map that is that of a memory or not
 abbrev pub asked-with : Option LaneMemory → Bio → Bool → List Item → LaneState → Asked
@@ -92,14 +99,30 @@ module _ (l l' : LaneState) (pages : l'.pages ≡ l.pages) where
       ∙ alone-alike b now items
       ∙ sym (ap (λ o. asked-with o b now items (pages_alone l)) (no-memory m))
 
+  -- without memories a buffer has the same bio
+  alone-bio : (x : Buffer) → bio_at (pages_alone l') x ≡ bio_at (pages_alone l) x
+  alone-bio (buffer.Flat (At va) len) = refl
+  alone-bio (buffer.Flat (In mem off) len) = refl
+  alone-bio (buffer.Vector spans) = refl
+  alone-bio (buffer.Mbuf chain) = refl
+  alone-bio (buffer.Bio b) = refl
+
+  bios-alike : (m : ℕ) (o : Option Bio) (now : Bool) (items : List Item) →
+      option_map (λ b. asked m b now items (pages_alone l')) o
+      ≡ option_map (λ b. asked m b now items (pages_alone l)) o
+  bios-alike m None now items = refl
+  bios-alike m (Some b) now items = ap Some (bio-alike m b now items)
+
   asked_by-alike : (o : Op) → asked_by o (pages_alone l') ≡ asked_by o (pages_alone l)
   asked_by-alike (op.Load m x flags items) =
-      asks-bio m x flags items (pages_alone l') ∙ ap Some (bio-alike m (bio-of x).bio (never_waits x flags) items)
-      ∙ sym (asks-bio m x flags items (pages_alone l))
+      ap (option_map (λ b. asked m b (never_waits x flags) items (pages_alone l'))) (alone-bio x)
+      ∙ bios-alike m (bio_at (pages_alone l) x) (never_waits x flags) items
   asked_by-alike (op.Tag name parent limits) = refl
   asked_by-alike (op.TagDestroy tag) = refl
   asked_by-alike (op.Map name tag) = refl
   asked_by-alike (op.MapDestroy m) = refl
+  asked_by-alike (op.Dmamem name tag flags) = refl
+  asked_by-alike (op.DmamemFree mem) = refl
   asked_by-alike (op.Unload m) = refl
   asked_by-alike (op.Sync m ops) = refl
   asked_by-alike (op.SyncRange m off len ops) = refl
@@ -157,6 +180,7 @@ module _ (l l' : LaneState) (kept : KeepsScript l l') where
         IsAwaited l' n load_at need
     awaited-alike load_at need same h = record {
       unlent = same ∙ h.unlent;
+      some = h.some;
       fine = ap (λ (x : Asked). x.judged) (asked-alike l l' kept.pages load_at kept.script) ∙ h.fine;
       counted = λ o' e. let w = alike.limits o' e in
           h.counted w.0 w.1 ∙ ap need_of (sym (chunks-alike w.0 o' load_at w.2));
@@ -184,19 +208,31 @@ module _ (l l' : LaneState) (kept : KeepsRest l l') where
   own-on a (OfPages e) = OfPages (ap (λ p. is_own p a) kept.pages ∙ e)
   own-on a (OfMemory k x there e) = OfMemory k x ((λ i. get (kept.mems i) k) ∙ there) e
 
-  -- the loads are laid where each map lies
-  pub all-laid : AreLaid l → ((n : ℕ) → LiesIn l' n (stage_at l' n)) → AreLaid l'
-  all-laid laid each = record {
+  -- the loads are laid where each map lies, and what the tags of memories' maps say stays
+  pub all-laid : AreLaid l → ((n : ℕ) (x : LaneMemory) → get l.mems n ≡ Some x → KeepsLimits l l' n) →
+      ((n : ℕ) → LiesIn l' n (stage_at l' n)) → AreLaid l'
+  all-laid laid limits each = record {
     owned = λ a own. kept.own a ∙ laid.owned a (own-back a own);
     only = λ a there. ∥∥₁_map (laid.only a (sym (kept.own a) ∙ there)) (own-on a);
     runs = λ k x there. laid.runs k x (sym (λ i. get (kept.mems i) k) ∙ there);
+    reached = λ k x o' there at a inside.
+        let had : get l.mems k ≡ Some x = sym (λ i. get (kept.mems i) k) ∙ there in
+        let w = limits k x had o' at in
+        ap (λ t. excluded t a) w.2 ∙ laid.reached k x w.0 had w.1 a inside;
     each = each;
   }
 
   -- so they are where one map alone does not lie as it lay
-  pub one-changed : AreLaid l → (m : ℕ) → ((n : ℕ) → n ≢ m → IsAlike l l' n) → LiesIn l' m (stage_at l' m) → AreLaid l'
-  one-changed laid m others here = all-laid laid by
+  pub one-changed : AreLaid l → (m : ℕ) → ((n : ℕ) → n ≢ m → IsAlike l l' n) →
+      ((x : LaneMemory) → get l.mems m ≡ Some x → KeepsLimits l l' m) → LiesIn l' m (stage_at l' m) → AreLaid l'
+  one-changed laid m others own here = all-laid laid limits by
     where
+      limits : (n : ℕ) (x : LaneMemory) → get l.mems n ≡ Some x → KeepsLimits l l' n
+      limits n x there = elim (decided n m) as (λ _. KeepsLimits l l' n) [
+        | inl e ↦ subst (KeepsLimits l l') (sym e) (own x (ap (get l.mems) (sym e) ∙ there))
+        | inr ne ↦ (others n ne).limits
+      ]
+
       by : (n : ℕ) → LiesIn l' n (stage_at l' n)
       by n = elim (decided n m) as (λ _. LiesIn l' n (stage_at l' n)) [
         | inl e ↦ subst (λ k. LiesIn l' k (stage_at l' k)) (sym e) here
@@ -205,4 +241,5 @@ module _ (l l' : LaneState) (kept : KeepsRest l l') where
 
   pub none-changed : AreLaid l → ((n : ℕ) → IsAlike l l' n) → AreLaid l'
   none-changed laid all =
-      all-laid laid (λ n. alike-lies l l' kept-script n (λ i. get (kept.mems i) n) (all n) (laid.each n))
+      all-laid laid (λ n x there. (all n).limits)
+      (λ n. alike-lies l l' kept-script n (λ i. get (kept.mems i) n) (all n) (laid.each n))

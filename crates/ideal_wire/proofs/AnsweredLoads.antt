@@ -1,6 +1,6 @@
 -- The segments that the end of a load answers are its bytes, in order, and obey its tag.
 use Rattle.std.proofs.Common.{◌≡◌, ℕ, ◌==◌, Bool, true, false, if◌then◌else◌, List, [], ◌∷◌, length}
-use Rattle.std.proofs.Common.{Some, None, refl, ap, sym, ◌∙◌, subst, arith, nat_le, take}
+use Rattle.std.proofs.Common.{Some, None, is_some, refl, ap, sym, ◌∙◌, subst, arith, nat_le, take}
 use Rattle.std.proofs.lemmas.Bool.{eqb-true}
 use Rattle.std.specs.FinMap.{get, contains_key}
 use Rattle.std.specs.List.{AllByRecursion}
@@ -25,18 +25,20 @@ use Rattle.busdma_base.specs.Bounce.History.{IsFrame}
 use Rattle.busdma_base.specs.Bounce.LowPages.{PagesLieLow}
 use Rattle.busdma_base.specs.Bounce.Serving.{handed}
 use Rattle.busdma_base.specs.Machine.PageRuns.{physical_in}
+use Rattle.busdma_base.specs.Machine.Spans.{bio_spans, span_bytes}
 use Rattle.busdma_base.specs.Machine.Wire.{buffers, buses}
+use Rattle.busdma_base.specs.Runs.{run_of}
 use Rattle.busdma_base.specs.Scenarios.Buffers.{IsBioOf}
 use Rattle.lane_agreement.specs.View as view
 use Rattle.lane_agreement.proofs.Places.{head-waits, waits-tells}
 use Rattle.segment_build.specs.Obeying.{IsReachable}
 use Rattle.ideal_lane.specs.Agreement.{AgreesWith}
-use Rattle.ideal_lane.specs.Loads.{Asked, asked, chunks_for, finished, limits_of, load_addresses, load_judged}
-use Rattle.ideal_lane.specs.Loads.{unpaged}
+use Rattle.ideal_lane.specs.Loads.{Asked, asked, chunks_for, finished, limits_of, load_addresses, load_entries}
+use Rattle.ideal_lane.specs.Loads.{load_judged, unpaged}
 use Rattle.ideal_lane.specs.Outcomes.{Outcome}
 use Rattle.ideal_lane.specs.Places.{is_memory_byte}
 use Rattle.ideal_lane.specs.Standing.{Stands}
-use Rattle.ideal_lane.specs.State.{LaneState, LaneMap}
+use Rattle.ideal_lane.specs.State.{LaneState, LaneMap, LaneMemory}
 use Rattle.ideal_lane.specs.Turns.{asked_at}
 use Rattle.ideal_lane.specs.Unloads.{pages_of}
 use Rattle.ideal_lane.specs.View.{view_of}
@@ -48,7 +50,8 @@ use Rattle.ideal_wire.specs.Traces.{stage_at, traces_of}
 use Rattle.ideal_wire.proofs.Accepting.{accepted, fits, segments, stage-is}
 use Rattle.ideal_wire.proofs.Asked.{pages-fine}
 use Rattle.ideal_wire.proofs.Bios.{AreOfPages}
-use Rattle.ideal_wire.proofs.MemoryLoads.{no-page}
+use Rattle.ideal_wire.proofs.MemoryLoads.{memory-addresses, no-page}
+use Rattle.ideal_wire.proofs.MemoryObeys.{memory-accepted}
 use Rattle.ideal_wire.proofs.Pages.{called-reachable}
 use Rattle.ideal_wire.proofs.Reaching.{memory-low}
 
@@ -94,69 +97,100 @@ module _ (l : LaneState) (laid : AreLaid l) (machine : IsInMachine l) where
   pub own-fine : (m : ℕ) (b : Bio) → get l.mems m ≡ None → AreOfPages l b → load_judged l m b ≡ Fine
   own-fine m b none own = pages-fine l outside m b none own
 
--- ---- the end of a load that has its pages
-module _ (l : LaneState) (laid : AreLaid l) (machine : IsInMachine l) (stands : Stands l) (m : ℕ) (o : LaneMap)
-    (there : get l.maps m ≡ Some o) (direct : contains_key l.mems m ≡ false) (b : Bio) (named : IsBioOf l.pages b)
-    (at : ℕ) (now : Bool) (items : List Item) (fine : load_judged l m b ≡ Fine) (pages : List ℕ) where
-  abbrev x : Asked
-  x = asked m b now items l
+-- ---- the end of a load that has its pages, of these bytes
+module _ (l : LaneState) (m : ℕ) (o : LaneMap) (there : get l.maps m ≡ Some o) (c : Bool)
+    (of-memory : contains_key l.mems m ≡ c) (x : Asked) (at : ℕ) (bytes : List ℕ) (pages : List ℕ) where
+  abbrev t : TagLimits
+  t = limits_of l o
 
   abbrev pub ending-chunks : List Chunk
-  ending-chunks = chunks_for l o false x.entries
+  ending-chunks = chunks_for l o c x.entries
+
+  abbrev ss : List Segment
+  ss = segments l m o at x ending-chunks pages
+
+  abbrev with-load : LaneState
+  with-load = fits l m o at x ending-chunks pages
 
   -- `after` is the driver that the step leaves of the one with the load
-  pub ends-answered : (after : LaneState → LaneState) → ((k : LaneState) → traces_of (after k) m ≡ traces_of k m) →
+  pub ends-so : (nat_le (length ss) t.nsegments ≡ true → IsAccepted with-load m t bytes ending-chunks pages ss) →
+      (after : LaneState → LaneState) → ((k : LaneState) → traces_of (after k) m ≡ traces_of k m) →
       ((k : LaneState) → stage_at (after k) m ≡ stage_at k m) →
-      bytes_named l at ≡ load_addresses l b → (asked_at at l).entries ≡ x.entries →
-      HasPages (limits_of l o) ending-chunks pages →
+      bytes_named l at ≡ bytes → (asked_at at l).entries ≡ x.entries →
       IfSegments (finished m o at x ending-chunks pages l).answer
       (AreLoaded l (after (finished m o at x ending-chunks pages l).lane) m at)
-  ends-answered after traces stages bytes entries has =
-      by (nat_le (length ss) (limits_of l o).nsegments) refl
+  ends-so accepted after traces stages named entries =
+      by (nat_le (length ss) t.nsegments) refl
     where
-      ss : List Segment
-      ss = segments l m o at x ending-chunks pages
-
-      with-load : LaneState
-      with-load = fits l m o at x ending-chunks pages
-
       chunks : ending-chunks ≡ chunks_for l o (contains_key l.mems m) (asked_at at l).entries
-      chunks = λ i. chunks_for l o (sym direct i) (sym entries i)
+      chunks = λ i. chunks_for l o (sym of-memory i) (sym entries i)
 
       held : pages ≡ pages_of (stage_at (after with-load) m)
       held = sym (ap pages_of (stages with-load ∙ stage-is l m o at x ending-chunks pages))
 
-      moved : (bs : List ℕ) (cs : List Chunk) (ps : List ℕ) → IsAccepted with-load m (limits_of l o) bs cs ps ss →
-          IsAccepted (after with-load) m (limits_of l o) bs cs ps ss
+      moved : (bs : List ℕ) (cs : List Chunk) (ps : List ℕ) → IsAccepted with-load m t bs cs ps ss →
+          IsAccepted (after with-load) m t bs cs ps ss
       moved bs cs ps h = record {
         buffer = ap (λ ts. buffers ts) (traces with-load) ∙ h.buffer;
         trace = h.trace ∙ sym (ap (λ ts. buses ts) (traces with-load));
         obeys = h.obeys;
       }
 
-      load-is : IsAccepted with-load m (limits_of l o) (load_addresses l b) ending-chunks pages ss →
-          AreLoaded l (after with-load) m at ss
+      load-is : IsAccepted with-load m t bytes ending-chunks pages ss → AreLoaded l (after with-load) m at ss
       load-is h = record {
         map = o;
         there = there;
         accepted =
-            subst (λ bs. IsAccepted (after with-load) m (limits_of l o) bs
+            subst (λ bs. IsAccepted (after with-load) m t bs
             (chunks_for l o (contains_key l.mems m) (asked_at at l).entries)
             (pages_of (stage_at (after with-load) m)) ss)
-            (sym bytes)
-            (subst (λ cs. IsAccepted (after with-load) m (limits_of l o) (load_addresses l b) cs
+            (sym named)
+            (subst (λ cs. IsAccepted (after with-load) m t bytes cs
             (pages_of (stage_at (after with-load) m)) ss) chunks
-            (subst (λ ps. IsAccepted (after with-load) m (limits_of l o) (load_addresses l b)
-            ending-chunks ps ss) held (moved (load_addresses l b) ending-chunks pages h)));
+            (subst (λ ps. IsAccepted (after with-load) m t bytes ending-chunks ps ss) held
+            (moved bytes ending-chunks pages h)));
       }
 
-      by : (c : Bool) → nat_le (length ss) (limits_of l o).nsegments ≡ c →
-          IfSegments (Outcome.answer (if c then record { lane = with-load; answer = answer.Segments ss }
+      by : (q : Bool) → nat_le (length ss) t.nsegments ≡ q →
+          IfSegments (Outcome.answer (if q then record { lane = with-load; answer = answer.Segments ss }
           else record { lane = unpaged m o pages l; answer = answer.Refused EFBIG }))
-          (AreLoaded l (after (Outcome.lane (if c then record { lane = with-load; answer = answer.Segments ss }
+          (AreLoaded l (after (Outcome.lane (if q then record { lane = with-load; answer = answer.Segments ss }
           else record { lane = unpaged m o pages l; answer = answer.Refused EFBIG }))) m at)
-      by true few = load-is (accepted l laid machine stands m o there direct b named at now items fine pages has few)
+      by true few = load-is (accepted few)
       by false many = tt
+
+-- of a load of the driver's pages
+pub ends-answered : (l : LaneState) → AreLaid l → IsInMachine l → Stands l → (m : ℕ) (o : LaneMap)
+    (there : get l.maps m ≡ Some o) (direct : contains_key l.mems m ≡ false) (b : Bio) → IsBioOf l.pages b →
+    (at : ℕ) (now : Bool) (items : List Item) → load_judged l m b ≡ Fine → (pages : List ℕ) →
+    (after : LaneState → LaneState) → ((k : LaneState) → traces_of (after k) m ≡ traces_of k m) →
+    ((k : LaneState) → stage_at (after k) m ≡ stage_at k m) →
+    bytes_named l at ≡ load_addresses l b → (asked_at at l).entries ≡ load_entries l b →
+    HasPages (limits_of l o) (chunks_for l o false (load_entries l b)) pages →
+    IfSegments (finished m o at (asked m b now items l) (chunks_for l o false (load_entries l b)) pages l).answer
+    (AreLoaded l
+    (after (finished m o at (asked m b now items l) (chunks_for l o false (load_entries l b)) pages l).lane) m at)
+ends-answered l laid machine stands m o there direct b named at now items fine pages after traces stages bytes entries
+    has =
+    ends-so l m o there false direct (asked m b now items l) at (load_addresses l b) pages
+    (accepted l laid machine stands m o there direct b named at now items fine pages has) after traces stages bytes
+    entries
+
+-- of a load of a memory's own map, of which no byte bounces
+pub ends-memory : (l : LaneState) → AreLaid l → IsInMachine l → Stands l → (m : ℕ) (o : LaneMap)
+    (there : get l.maps m ≡ Some o) (y : LaneMemory) (memory : get l.mems m ≡ Some y) (b : Bio) (at : ℕ) (now : Bool)
+    (items : List Item) → load_judged l m b ≡ Fine →
+    (after : LaneState → LaneState) → ((k : LaneState) → traces_of (after k) m ≡ traces_of k m) →
+    ((k : LaneState) → stage_at (after k) m ≡ stage_at k m) →
+    bytes_named l at ≡ load_addresses l b → (asked_at at l).entries ≡ load_entries l b →
+    IfSegments (finished m o at (asked m b now items l) (chunks_for l o true (load_entries l b)) [] l).answer
+    (AreLoaded l (after (finished m o at (asked m b now items l) (chunks_for l o true (load_entries l b)) [] l).lane)
+    m at)
+ends-memory l laid machine stands m o there y memory b at now items fine after traces stages bytes entries =
+    ends-so l m o there true (ap is_some memory) (asked m b now items l) at
+    (run_of y.first (span_bytes (bio_spans b))) []
+    (memory-accepted l laid machine stands m o there y memory b at now items fine) after traces stages
+    (bytes ∙ memory-addresses l laid machine stands m o there y memory b fine) entries
 
 -- ---- the pages that a callback brings
 module _ (l : LaneState) (a : Account) (agrees : AgreesWith l a) (low : PagesLieLow a) (each : EachFrame IsFrame a)

@@ -1,5 +1,5 @@
 -- The segments that any turn answers are a load's bytes, in order, and obey its tag.
-use Rattle.std.proofs.Common.{◌≡◌, ℕ, ◌+◌, ◌==◌, ◌&&◌, Bool, true, false, if◌then◌else◌, List, [], ◌∷◌}
+use Rattle.std.proofs.Common.{◌≡◌, ℕ, ◌+◌, ◌==◌, Bool, true, false, if◌then◌else◌, List, [], ◌∷◌}
 use Rattle.std.proofs.Common.{length, Option, Some, None, is_some, slice_get, refl, ap, sym, ◌∙◌, subst, nat_lt}
 use Rattle.std.proofs.Common.{unwrap_or}
 use Rattle.std.proofs.lemmas.Bool.{eqb-true, false≢true}
@@ -15,58 +15,40 @@ use Rattle.busdma_base.specs.declared.journals.journal.Side.{Side}
 use Rattle.busdma_base.specs.declared.journals.journal.Side.TheVariants as side
 use Rattle.busdma_base.specs.declared.journals.report.Judged.TheVariants.{Fine}
 use Rattle.busdma_base.specs.declared.journals.report.Report.{Report}
-use Rattle.busdma_base.specs.declared.journals.report.ReportName.TheVariants.{MixedSync}
 use Rattle.busdma_base.specs.declared.machine.address.Pa.{Pa}
 use Rattle.busdma_base.specs.declared.machine.bio.Bio.{Bio}
 use Rattle.busdma_base.specs.declared.machine.chunk.Chunk.{Chunk}
 use Rattle.busdma_base.specs.declared.name.MapId.{MapId}
 use Rattle.busdma_base.specs.declared.scenarios.buffer.Buffer.{Buffer}
 use Rattle.busdma_base.specs.declared.scenarios.script.Item.{Item}
-use Rattle.busdma_base.specs.declared.scenarios.script.Item.TheVariants as item
 use Rattle.busdma_base.specs.declared.scenarios.script.Op.{Op}
 use Rattle.busdma_base.specs.declared.scenarios.script.Op.TheVariants as op
-use Rattle.busdma_base.specs.declared.scenarios.script.Place.{Place}
-use Rattle.busdma_base.specs.declared.tags.tag.TagLimits.{TagLimits}
 use Rattle.busdma_base.specs.Bounce.Account.{Account, zone_at}
 use Rattle.busdma_base.specs.Bounce.AccountStep.{account_step}
 use Rattle.busdma_base.specs.Bounce.EachFrame.{EachFrame}
 use Rattle.busdma_base.specs.Bounce.Growth.{serves_tag}
 use Rattle.busdma_base.specs.Bounce.History.{IsFrame}
 use Rattle.busdma_base.specs.Bounce.LowPages.{PagesLieLow}
-use Rattle.busdma_base.specs.Runs.{run_of}
 use Rattle.busdma_base.specs.Scenarios.Buffers.{IsBioOf}
 use Rattle.busdma_base.specs.Scenarios.Operations.{bytes_of}
-use Rattle.busdma_base.specs.Tags.Tag.{could_bounce, effective}
-use Rattle.busdma_base.specs.Tags.TagFlags.{allocnow}
-use Rattle.dma_tag.specs.SyncOps.{is_mixed}
 use Rattle.lane_agreement.specs.After.{addresses}
 use Rattle.lane_agreement.specs.Agreement.{IsFit}
 use Rattle.lane_agreement.specs.View as view
 use Rattle.lane_agreement.specs.View.{Return}
 use Rattle.lane_agreement.proofs.Whole.{called-length, granted-length}
 use Rattle.lane_tables.specs.declared.queued.QueuedItem.{QueuedItem}
-use Rattle.loan_table.specs.Access.{cpu_read_answer, cpu_write_answer, dev_read_answer, dev_write_answer}
-use Rattle.loan_table.specs.Lending.{sync_answer}
-use Rattle.loan_table.specs.Loans.{loan_of, load_bytes}
 use Rattle.segment_build.specs.Chunks.{need_of}
 use Rattle.segment_build.specs.Obeying.{IsReachable}
-use Rattle.ideal_lane.specs.Accesses.{cpu_read, cpu_write, dev_read, dev_write, values}
 use Rattle.ideal_lane.specs.Agreement.{AgreesWith}
-use Rattle.ideal_lane.specs.Asking.{Asking, Gives, Asks, by_reply, goes_on}
-use Rattle.ideal_lane.specs.IdealMemory.{is_known}
+use Rattle.ideal_lane.specs.Asking.{Asking, Gives, Asks, goes_on}
 use Rattle.ideal_lane.specs.Loads.{Asked, asked, chunks_for, finished, granted, limits_of, load, load_chunks}
 use Rattle.ideal_lane.specs.Loads.{load_addresses, load_judged, zone_of}
-use Rattle.ideal_lane.specs.Maps.{created, map, end_map, map_destroy, await}
-use Rattle.ideal_lane.specs.Outcomes.{Outcome, gives, is_idle, load_length, refused, unless_absent, unless_past}
-use Rattle.ideal_lane.specs.Places.{virtual_at, reached, bytes_at}
+use Rattle.ideal_lane.specs.Outcomes.{Outcome, gives}
 use Rattle.ideal_lane.specs.Standing.{Stands}
-use Rattle.ideal_lane.specs.State.{LaneState, LaneTag, LaneMap, named}
-use Rattle.ideal_lane.specs.Syncs.{sync_part, sync, sync_range}
-use Rattle.ideal_lane.specs.Tags.{attached, tag_or_invalid, tag, tag_destroy, has_maps}
-use Rattle.ideal_lane.specs.Turns.{Turned, operation, transfer, waits, asked_at, asked_by, called, called_in}
+use Rattle.ideal_lane.specs.State.{LaneState, LaneMap, LaneMemory, named}
+use Rattle.ideal_lane.specs.Turns.{Turned, operation, transfer, waits, asked_at, asked_by, bio_at, called, called_in}
 use Rattle.ideal_lane.specs.Turns.{called_back, lane_step, load_buffer, never_waits, no_load}
 use Rattle.ideal_lane.specs.Turns as turns
-use Rattle.ideal_lane.specs.Unloads.{unload}
 use Rattle.ideal_lane.specs.View.{view_of}
 use Rattle.ideal_lane.proofs.Direct.{need-direct}
 use Rattle.ideal_lane.proofs.Turning.{WaitsAt, waits-at}
@@ -78,127 +60,17 @@ use Rattle.ideal_wire.specs.Laid.{AreLaid}
 use Rattle.ideal_wire.specs.Machine.{IsInMachine}
 use Rattle.ideal_wire.specs.Served.{AreServed}
 use Rattle.ideal_wire.specs.Traces.{stage_in, stage_at}
-use Rattle.ideal_wire.proofs.AnsweredLoads.{callback-reachable, ends-answered, if-all, if-so, own-fine}
-use Rattle.ideal_wire.proofs.Buffers.{asks-bio, bio-of, loads-from}
+use Rattle.ideal_wire.proofs.AnsweredLoads.{callback-reachable, ends-answered, ends-memory, if-so, own-fine}
+use Rattle.ideal_wire.proofs.Buffers.{asks-bio, loads-from}
 use Rattle.ideal_wire.proofs.LaidTurns.{as-many, paged-again}
 use Rattle.ideal_wire.proofs.Pages.{granted-reachable}
 use Rattle.ideal_wire.proofs.Positions.{found_one}
-use Rattle.ideal_wire.proofs.Refusing.{absent, judged, either, busy, unloaded, past}
+use Rattle.ideal_wire.proofs.QuietTurns.{Quiet, await-quiet, cpu_read-quiet, cpu_write-quiet, dmamem-quiet}
+use Rattle.ideal_wire.proofs.QuietTurns.{dmamem_free-quiet, map-quiet, map_destroy-quiet, sync-quiet, sync_range-quiet}
+use Rattle.ideal_wire.proofs.QuietTurns.{tag-quiet, tag_destroy-quiet, transfer-quiet, unload-quiet}
+use Rattle.ideal_wire.proofs.Refusing.{absent, judged, either, busy}
 use Rattle.ideal_wire.proofs.Waited.{Names, waited, waited-asked, waited-direct, waited-need, waited-own}
 
--- ---- steps that answer no segments
-module _ (l : LaneState) where
-  abbrev Quiet : Asking Outcome → Type 0
-  Quiet o = (r : HubReply) → IfSegments (by_reply o r).answer (λ ss. ⊥)
-
-  report : (x : Report) → Quiet (gives l (answer.Report x))
-  report x r = tt
-
-  attached-quiet : (t : TagLimits) (r : HubReply) → IfSegments (attached t l r).answer (λ ss. ⊥)
-  attached-quiet t (reply.Grown g) = tt
-  attached-quiet t reply.Nothing = tt
-  attached-quiet t (reply.Granted pages) = tt
-  attached-quiet t (reply.Queued have) = tt
-  attached-quiet t reply.NoPages = tt
-  attached-quiet t (reply.Served n) = tt
-  attached-quiet t (reply.Called m pages) = tt
-  attached-quiet t (reply.Run first count) = tt
-  attached-quiet t reply.NoRun = tt
-
-  tag_or-quiet : (t : Option TagLimits) → Quiet (tag_or_invalid t l)
-  tag_or-quiet None r = tt
-  tag_or-quiet (Some t) r =
-      either l Quiet report (could_bounce t l.maxmem && allocnow t.flags) (Asks (call.AttachTag t) (attached t l)) _
-      (λ b r. attached-quiet t r) (λ b r. tt) r
-
-  tag-quiet : (parent : Option ℕ) (limits : TagLimits) → Quiet (tag parent limits l)
-  tag-quiet None limits = tag_or-quiet (effective None limits)
-  tag-quiet (Some p) limits =
-      absent l Quiet report (get l.tags p) _ (λ x e. tag_or-quiet (effective (Some x.limits) limits))
-
-  tag_destroy-quiet : (t : ℕ) → Quiet (tag_destroy t l)
-  tag_destroy-quiet t =
-      absent l Quiet report (get l.tags t) _ (λ x e.
-      either l Quiet report (has_maps l t) _ _ (λ b r. tt) (λ b r. tt))
-
-  created-quiet : (t : ℕ) (o : LaneTag) (r : HubReply) → IfSegments (created t o l r).answer (λ ss. ⊥)
-  created-quiet t o (reply.Grown g) = tt
-  created-quiet t o reply.Nothing = tt
-  created-quiet t o (reply.Granted pages) = tt
-  created-quiet t o (reply.Queued have) = tt
-  created-quiet t o reply.NoPages = tt
-  created-quiet t o (reply.Served n) = tt
-  created-quiet t o (reply.Called m pages) = tt
-  created-quiet t o (reply.Run first count) = tt
-  created-quiet t o reply.NoRun = tt
-
-  map-quiet : (t : ℕ) → Quiet (map t l)
-  map-quiet t =
-      absent l Quiet report (get l.tags t) _ (λ o e.
-      either l Quiet report (could_bounce o.limits l.maxmem) _ _ (λ b r. created-quiet t o r) (λ b r. tt))
-
-  end-quiet : (m : ℕ) (zone : Option ℕ) → Quiet (end_map m zone l)
-  end-quiet m None r = tt
-  end-quiet m (Some z) r = tt
-
-  map_destroy-quiet : (m : ℕ) → Quiet (map_destroy m l)
-  map_destroy-quiet m =
-      absent l Quiet report (get l.maps m) _ (λ o e.
-      either l Quiet report (is_idle o.stage) (end_map m o.zone l) _ (λ i. end-quiet m o.zone) (λ i r. tt))
-
-  await-quiet : (m : ℕ) → Quiet (await m l)
-  await-quiet m =
-      absent l Quiet report (get l.maps m) _ (λ o e. either l Quiet report o.tried _ _ (λ b r. tt) (λ b r. tt))
-
-  unload-quiet : (m : ℕ) → Quiet (unload m l)
-  unload-quiet m = unloaded l Quiet report m _ (λ o e i r. tt)
-
-  part-quiet : (m : ℕ) (o : LaneMap) (off len ops : ℕ) → Quiet (sync_part m o off len ops l)
-  part-quiet m o off len ops =
-      either l Quiet report (is_mixed ops) (refused MixedSync 0 l) _ (λ mixed r. tt) (λ alone.
-      judged l Quiet report (sync_answer l.loans m off len ops) _ (λ fine r. tt))
-
-  sync-quiet : (m ops : ℕ) → Quiet (sync m ops l)
-  sync-quiet m ops = unloaded l Quiet report m _ (λ o e i. part-quiet m o 0 (load_length l m) ops)
-
-  sync_range-quiet : (m off len ops : ℕ) → Quiet (sync_range m off len ops l)
-  sync_range-quiet m off len ops =
-      unloaded l Quiet report m (λ o. unless_past m off len l (sync_part m o off len ops l)) (λ o e i.
-      past l Quiet report m off len (sync_part m o off len ops l) (part-quiet m o off len ops))
-
-  cpu_read-quiet : (place : Place) (len : ℕ) → Quiet (cpu_read place len l)
-  cpu_read-quiet place len =
-      absent l Quiet report (virtual_at l place) _ (λ va e.
-      judged l Quiet report (reached l va len) _ (λ reaches.
-      judged l Quiet report (cpu_read_answer (is_known l.memory) l.loans (bytes_at l (run_of va len)))
-      (gives l (answer.Bytes (values l (bytes_at l (run_of va len))))) (λ fine r. tt)))
-
-  cpu_write-quiet : (place : Place) (vs : List ℕ) → Quiet (cpu_write place vs l)
-  cpu_write-quiet place vs =
-      absent l Quiet report (virtual_at l place) _ (λ va e.
-      judged l Quiet report (reached l va (length vs)) _ (λ reaches.
-      judged l Quiet report (cpu_write_answer l.loans (bytes_at l (run_of va (length vs)))) _ (λ fine r. tt)))
-
-  dev_read-quiet : (m off len : ℕ) → Quiet (dev_read m off len l)
-  dev_read-quiet m off len =
-      unloaded l Quiet report m _ (λ o e i.
-      past l Quiet report m off len _
-      (judged l Quiet report (dev_read_answer (is_known l.memory) (loan_of l.loans m) off len)
-      (gives l (answer.Bytes (values l (load_bytes l.loans m off len)))) (λ allowed r. tt)))
-
-  dev_write-quiet : (m off : ℕ) (vs : List ℕ) → Quiet (dev_write m off vs l)
-  dev_write-quiet m off vs =
-      unloaded l Quiet report m _ (λ o e i.
-      past l Quiet report m off (length vs) _
-      (judged l Quiet report (dev_write_answer (loan_of l.loans m) off (length vs)) _ (λ allowed r. tt)))
-
-  transfer-quiet : (i : Item) → Quiet (transfer i l)
-  transfer-quiet (item.Sync m ops) = sync-quiet m ops
-  transfer-quiet (item.SyncRange m off len ops) = sync_range-quiet m off len ops
-  transfer-quiet (item.DevRead m off len) = dev_read-quiet m off len
-  transfer-quiet (item.DevWrite m off bytes) = dev_write-quiet m off (bytes_of bytes)
-
--- ---- by the account's reply
 module _ (l : LaneState) (a : Account) (stands : Stands l) (agrees : AgreesWith l a) (fit : IsFit a)
     (frames : EachFrame IsFrame a) (low : PagesLieLow a) (served : AreServed l a) (machine : IsInMachine l)
     (laid : AreLaid l) where
@@ -228,42 +100,18 @@ module _ (l : LaneState) (a : Account) (stands : Stands l) (agrees : AgreesWith 
   -- ---- the load of the next operation
   module _ (m : ℕ) (buffer : Buffer) (flags : ℕ) (items : List Item)
       (here : slice_get l.script l.place ≡ Some (op.Load m buffer flags items)) where
-    abbrev b : Bio
-    b = (bio-of buffer).bio
+    module _ (b : Bio) (named-b : bio_at l buffer ≡ Some b) where
+      is-bio : IsBioOf l.pages b
+      is-bio = loads-from l.pages l.script l.place m buffer flags items l b machine.bios here named-b
 
-    is-bio : IsBioOf l.pages b
-    is-bio = loads-from l.pages l.script l.place m buffer flags items machine.bios here
+      abbrev x : Asked
+      x = asked m b (never_waits buffer flags) items l
 
-    abbrev x : Asked
-    x = asked m b (never_waits buffer flags) items l
+      abbrev loaded : Bio → Load
+      loaded y = record { map = m; bytes = load_addresses l y }
 
-    abbrev loaded : Bio → Load
-    loaded y = record { map = m; bytes = load_addresses l y }
-
-    load-here : load_at l l.place ≡ Some (loaded b)
-    load-here = ap (option_and_then (λ p. loaded_by p l)) here ∙ ap (option_map loaded) ((bio-of buffer).is l)
-
-    -- of the load's map it is enough to say what is loaded
-    answers-load : (k : Outcome) → IfSegments k.answer (λ ss. contains_key l.mems m ≡ false →
-        AreLoaded l (moved k.lane) m l.place ss) → Answers k
-    answers-load k h =
-        if-so k.answer (λ ss. contains_key l.mems m ≡ false → AreLoaded l (moved k.lane) m l.place ss)
-        (λ ss. AreOf l (moved k.lane) (did.Op l.place) ss)
-        (λ ss g. subst (λ q. AreAnswered l (moved k.lane) l.place q ss) (sym load-here) g) h
-
-    of-memory : contains_key l.mems m ≡ true → (k : Outcome) → Answers k
-    of-memory has k =
-        answers-load k (if-all k.answer (λ ss. contains_key l.mems m ≡ false → AreLoaded l (moved k.lane) m l.place ss)
-        (λ ss none. absurd (false≢true (sym none ∙ has))))
-
-    always-memory : contains_key l.mems m ≡ true → (o : Asking Outcome) → Keeps o
-    always-memory has (Gives k) = of-memory has k
-    always-memory has (Asks c k) = of-memory has (k (account_step l.id c a).reply)
-
-    module _ (direct : contains_key l.mems m ≡ false) (o : LaneMap) (there : get l.maps m ≡ Some o)
-        (fine : load_judged l m b ≡ Fine) where
-      abbrev chunks : List Chunk
-      chunks = chunks_for l o false x.entries
+      load-here : load_at l l.place ≡ Some (loaded b)
+      load-here = ap (option_and_then (λ p. loaded_by p l)) here ∙ ap (option_map loaded) named-b
 
       bytes-here : bytes_named l l.place ≡ load_addresses l b
       bytes-here = ap (λ q. unwrap_or (option_map (λ (y : Load). y.bytes) q) []) load-here
@@ -271,78 +119,116 @@ module _ (l : LaneState) (a : Account) (stands : Stands l) (agrees : AgreesWith 
       asked-here : asked_at l.place l ≡ x
       asked-here =
           ap (λ q. unwrap_or (option_and_then (λ p. asked_by p l) q) (no_load l)) here
-          ∙ ap (λ q. unwrap_or q (no_load l)) (asks-bio m buffer flags items l)
+          ∙ ap (λ q. unwrap_or q (no_load l)) (asks-bio m buffer flags items l b named-b)
 
-      -- it ends with pages that the device reaches
-      ended-answers : (pages : List ℕ) → HasPages (limits_of l o) chunks pages →
-          Answers (finished m o l.place x chunks pages l)
-      ended-answers pages has =
-          answers-load (finished m o l.place x chunks pages l)
-          (if-so (finished m o l.place x chunks pages l).answer
-          (AreLoaded l (moved (finished m o l.place x chunks pages l).lane) m l.place) _ (λ ss g none. g)
-          (ends-answered l laid machine stands m o there direct b is-bio l.place (never_waits buffer flags) items fine
-          pages moved
-          (λ k. refl) (λ k. refl) bytes-here (ap (λ (y : Asked). y.entries) asked-here) has))
+      -- of the load's map it is enough to say what is loaded
+      answers-load : (k : Outcome) → IfSegments k.answer (AreLoaded l (moved k.lane) m l.place) → Answers k
+      answers-load k h =
+          if-so k.answer (AreLoaded l (moved k.lane) m l.place) (λ ss. AreOf l (moved k.lane) (did.Op l.place) ss)
+          (λ ss g. subst (λ q. AreAnswered l (moved k.lane) l.place q ss) (sym load-here) g) h
 
-      by-reply : (z : ℕ) → o.zone ≡ Some z → (r : HubReply) →
-          (account_step l.id (call.Grab (named l m) (record {
-            0 =
-                zone_of o;
-          }) (need_of chunks) x.nowait) a).reply ≡ r →
-          Answers (granted m o x chunks l r)
-      by-reply z zone (reply.Granted pages) e =
-          ended-answers (addresses pages) (record {
-            count = as-many pages ∙ granted-length (named l m) (zone_of o) (need_of chunks) x.nowait a pages e;
-            reachable =
-                subst (AllByRecursion (IsReachable (limits_of l o))) (sym (paged-again pages))
-                (granted-reachable (limits_of l o) a low frames (zone_of o) serves (named l m) (need_of chunks)
-                x.nowait
-                pages e);
-          })
-        where
-          zone-is : zone_of o ≡ z
-          zone-is = ap (λ q. unwrap_or q 0) zone
+      module _ (o : LaneMap) (there : get l.maps m ≡ Some o) (fine : load_judged l m b ≡ Fine) where
+        -- of a memory's own map it ends without pages
+        memory-answers : (y : LaneMemory) → get l.mems m ≡ Some y →
+            Keeps (load_chunks m o x (chunks_for l o true x.entries) l)
+        memory-answers y memory =
+            either l Keeps reported (need_of chunks == 0) (Gives (finished m o l.place x chunks [] l))
+            (Asks (call.Grab (named l m) (record { 0 = zone_of o }) (need_of chunks) x.nowait) (granted m o x chunks l))
+            (λ zero. answers-load (finished m o l.place x chunks [] l)
+            (ends-memory l laid machine stands m o there y memory b l.place (never_waits buffer flags) items fine moved
+            (λ k. refl) (λ k. refl) bytes-here (ap (λ (z : Asked). z.entries) asked-here)))
+            (λ some. absurd (false≢true (sym some ∙ ap (λ n. n == 0) none)))
+          where
+            chunks : List Chunk
+            chunks = chunks_for l o true x.entries
 
-          serves : serves_tag (limits_of l o) (zone_at a (zone_of o)) ≡ true
-          serves = ap (λ y. serves_tag (limits_of l o) (zone_at a y)) zone-is ∙ served m z o there zone
-      by-reply z zone (reply.Queued have) e = tt
-      by-reply z zone reply.Nothing e = tt
-      by-reply z zone (reply.Grown g) e = tt
-      by-reply z zone reply.NoPages e = tt
-      by-reply z zone (reply.Served n) e = tt
-      by-reply z zone (reply.Called k pages) e = tt
-      by-reply z zone (reply.Run first count) e = tt
-      by-reply z zone reply.NoRun e = tt
+            none : need_of chunks ≡ 0
+            none =
+                sym (ap (λ c. need_of (chunks_for l o c x.entries)) (ap is_some memory))
+                ∙ need-direct l m o x.entries (stands.each m o there)
+                ((stands.each m o there).memory (ap is_some memory))
 
-      zoned : (q : Option ℕ) → o.zone ≡ q → (need_of chunks == 0) ≡ false →
-          Answers (granted m o x chunks l
-          (account_step l.id (call.Grab (named l m) (record { 0 = zone_of o }) (need_of chunks) x.nowait) a).reply)
-      zoned None zone some =
-          let none : need_of chunks ≡ 0 = sym (ap (λ c. need_of (chunks_for l o c x.entries)) direct)
-          ∙ need-direct l m o x.entries (stands.each m o there) zone in
-          absurd (false≢true (sym some ∙ ap (λ n. n == 0) none))
-      zoned (Some z) zone some = by-reply z zone _ refl
+        -- of another map
+        module _ (direct : contains_key l.mems m ≡ false) where
+          abbrev chunks : List Chunk
+          chunks = chunks_for l o false x.entries
 
-      direct-answers : Keeps (load_chunks m o x chunks l)
-      direct-answers =
-          either l Keeps reported (need_of chunks == 0) (Gives (finished m o l.place x chunks [] l))
-          (Asks (call.Grab (named l m) (record { 0 = zone_of o }) (need_of chunks) x.nowait) (granted m o x chunks l))
-          (λ none. ended-answers [] (record { count = sym (eqb-true (need_of chunks) 0 none); reachable = tt }))
-          (λ some. zoned o.zone refl some)
+          -- it ends with pages that the device reaches
+          ended-answers : (pages : List ℕ) → HasPages (limits_of l o) chunks pages →
+              Answers (finished m o l.place x chunks pages l)
+          ended-answers pages has =
+              answers-load (finished m o l.place x chunks pages l)
+              (ends-answered l laid machine stands m o there direct b is-bio l.place (never_waits buffer flags) items
+              fine pages moved
+              (λ k. refl) (λ k. refl) bytes-here (ap (λ (y : Asked). y.entries) asked-here) has)
+
+          by-reply : (z : ℕ) → o.zone ≡ Some z → (r : HubReply) →
+              (account_step l.id (call.Grab (named l m) (record {
+                0 =
+                    zone_of o;
+              }) (need_of chunks) x.nowait) a).reply ≡ r →
+              Answers (granted m o x chunks l r)
+          by-reply z zone (reply.Granted pages) e =
+              ended-answers (addresses pages) (record {
+                count = as-many pages ∙ granted-length (named l m) (zone_of o) (need_of chunks) x.nowait a pages e;
+                reachable =
+                    subst (AllByRecursion (IsReachable (limits_of l o))) (sym (paged-again pages))
+                    (granted-reachable (limits_of l o) a low frames (zone_of o) serves (named l m) (need_of chunks)
+                    x.nowait
+                    pages e);
+              })
+            where
+              zone-is : zone_of o ≡ z
+              zone-is = ap (λ q. unwrap_or q 0) zone
+
+              serves : serves_tag (limits_of l o) (zone_at a (zone_of o)) ≡ true
+              serves = ap (λ y. serves_tag (limits_of l o) (zone_at a y)) zone-is ∙ served m z o there zone
+          by-reply z zone (reply.Queued have) e = tt
+          by-reply z zone reply.Nothing e = tt
+          by-reply z zone (reply.Grown g) e = tt
+          by-reply z zone reply.NoPages e = tt
+          by-reply z zone (reply.Served n) e = tt
+          by-reply z zone (reply.Called k pages) e = tt
+          by-reply z zone (reply.Run first count) e = tt
+          by-reply z zone reply.NoRun e = tt
+
+          zoned : (q : Option ℕ) → o.zone ≡ q → (need_of chunks == 0) ≡ false →
+              Answers (granted m o x chunks l
+              (account_step l.id (call.Grab (named l m) (record { 0 = zone_of o }) (need_of chunks) x.nowait) a).reply)
+          zoned None zone some =
+              let none : need_of chunks ≡ 0 = sym (ap (λ c. need_of (chunks_for l o c x.entries)) direct)
+              ∙ need-direct l m o x.entries (stands.each m o there) zone in
+              absurd (false≢true (sym some ∙ ap (λ n. n == 0) none))
+          zoned (Some z) zone some = by-reply z zone _ refl
+
+          direct-answers : Keeps (load_chunks m o x chunks l)
+          direct-answers =
+              either l Keeps reported (need_of chunks == 0) (Gives (finished m o l.place x chunks [] l))
+              (Asks (call.Grab (named l m) (record { 0 = zone_of o }) (need_of chunks) x.nowait)
+              (granted m o x chunks l))
+              (λ none. ended-answers [] (record { count = sym (eqb-true (need_of chunks) 0 none); reachable = tt }))
+              (λ some. zoned o.zone refl some)
+
+        chunked : Keeps (load_chunks m o x (chunks_for l o (contains_key l.mems m) x.entries) l)
+        chunked = by (get l.mems m) refl
+          where
+            by : (q : Option LaneMemory) → get l.mems m ≡ q →
+                Keeps (load_chunks m o x (chunks_for l o (contains_key l.mems m) x.entries) l)
+            by None e =
+                subst (λ c. Keeps (load_chunks m o x (chunks_for l o c x.entries) l)) (sym (ap is_some e))
+                (direct-answers (ap is_some e))
+            by (Some y) e =
+                subst (λ c. Keeps (load_chunks m o x (chunks_for l o c x.entries) l)) (sym (ap is_some e))
+                (memory-answers y e)
 
     load-answers : Keeps (load_buffer m buffer flags items l)
     load-answers =
-        subst (λ q. Keeps (unless_absent q l (λ y. load m (asked m y (never_waits buffer flags) items l) l)))
-        (sym ((bio-of buffer).is l)) (by (contains_key l.mems m) refl)
-      where
-        by : (c : Bool) → contains_key l.mems m ≡ c → Keeps (load m x l)
-        by true has = always-memory has (load m x l)
-        by false direct =
-            busy l Keeps reported m _ (λ o there i.
-            judged l Keeps reported x.judged _ (λ fine.
-            either l Keeps reported (nat_lt (limits_of l o).maxsize x.len) _ _ (λ long. tt) (λ short.
-            subst (λ c. Keeps (load_chunks m o x (chunks_for l o c x.entries) l)) (sym direct)
-            (direct-answers direct o there fine))))
+        absent l Keeps reported (bio_at l buffer) (λ y. load m (asked m y (never_waits buffer flags) items l) l)
+        (λ b named-b.
+        busy l Keeps reported m _ (λ o there i.
+        judged l Keeps reported (load_judged l m b) _ (λ fine.
+        either l Keeps reported (nat_lt (limits_of l o).maxsize (x b named-b).len) _ _ (λ long. tt)
+        (λ short. chunked b named-b o there fine))))
 
   operation-answers : (o : Op) → slice_get l.script l.place ≡ Some o → Keeps (operation o l)
   operation-answers (op.Tag name parent limits) e =
@@ -350,6 +236,9 @@ module _ (l : LaneState) (a : Account) (stands : Stands l) (agrees : AgreesWith 
   operation-answers (op.TagDestroy t) e = quiet-keeps (operation (op.TagDestroy t) l) (tag_destroy-quiet l t)
   operation-answers (op.Map name t) e = quiet-keeps (operation (op.Map name t) l) (map-quiet l t)
   operation-answers (op.MapDestroy m) e = quiet-keeps (operation (op.MapDestroy m) l) (map_destroy-quiet l m)
+  operation-answers (op.Dmamem name t flags) e =
+      quiet-keeps (operation (op.Dmamem name t flags) l) (dmamem-quiet l t flags)
+  operation-answers (op.DmamemFree m) e = quiet-keeps (operation (op.DmamemFree m) l) (dmamem_free-quiet l m)
   operation-answers (op.Load m buffer flags items) e = load-answers m buffer flags items e
   operation-answers (op.Unload m) e = quiet-keeps (operation (op.Unload m) l) (unload-quiet l m)
   operation-answers (op.Sync m ops) e = quiet-keeps (operation (op.Sync m ops) l) (sync-quiet l m ops)

@@ -1,5 +1,5 @@
 -- The bio of a buffer, and what an operation asks that loads one.
-use Rattle.std.proofs.Common.{◌≡◌, ℕ, zero, suc, List, [], ◌∷◌, Some, slice_get, refl, ap, subst}
+use Rattle.std.proofs.Common.{◌≡◌, ℕ, zero, suc, List, [], ◌∷◌, Option, Some, None, slice_get, refl, ap, subst}
 use Rattle.std.specs.List.{AllByRecursion}
 use Rattle.std.specs.Option.{option_map}
 use Rattle.busdma_base.specs.declared.machine.bio.Bio.{Bio}
@@ -10,10 +10,11 @@ use Rattle.busdma_base.specs.declared.scenarios.scenario.PageRun.{PageRun}
 use Rattle.busdma_base.specs.declared.scenarios.script.Item.{Item}
 use Rattle.busdma_base.specs.declared.scenarios.script.Op.{Op}
 use Rattle.busdma_base.specs.declared.scenarios.script.Op.TheVariants as op
-use Rattle.busdma_base.specs.declared.scenarios.script.Place.TheVariants.{At}
+use Rattle.busdma_base.specs.declared.scenarios.script.Place.TheVariants.{At, In}
 use Rattle.busdma_base.specs.Scenarios.Buffers.{IsBioOf, IsBufferOf}
 use Rattle.busdma_base.specs.Scenarios.Valid.{LoadsFrom}
 use Rattle.ideal_lane.specs.Loads.{asked}
+use Rattle.ideal_lane.specs.Places.{virtual_at}
 use Rattle.ideal_lane.specs.State.{LaneState}
 use Rattle.ideal_lane.specs.Turns.{asked_by, bio_at, flat_bio, never_waits}
 use Rattle.ideal_wire.proofs.Positions.{found_one}
@@ -25,26 +26,40 @@ all-at P [] k x h e = absurd (cc)
 all-at P (y ∷ xs) zero x h e = subst P (found_one (Some y) y x refl e) h.0
 all-at P (y ∷ xs) (suc k) x h e = all-at P xs k x h.1 e
 
--- the bio of a buffer in each state of the driver, of frames of the pages of which the buffer is
-pub record BioOf (x : Buffer) : Type 0 where
-  pub bio : Bio
-  pub is : (l : LaneState) → bio_at l x ≡ Some bio
-  pub named : (pages : List PageRun) → IsBufferOf pages x → IsBioOf pages bio
+-- the bio of a buffer is of frames of the pages of which the buffer is
+pub bio-named : (pages : List PageRun) (l : LaneState) (x : Buffer) (b : Bio) → bio_at l x ≡ Some b →
+    IsBufferOf pages x → IsBioOf pages b
+bio-named pages l (buffer.Flat place len) b e h = by (virtual_at l place) e
+  where
+    by : (o : Option ℕ) → option_map (flat_bio len) o ≡ Some b → IsBioOf pages b
+    by None g = absurd (cc)
+    by (Some va) g = subst (IsBioOf pages) (found_one (Some (flat_bio len va)) (flat_bio len va) b refl g) tt
+bio-named pages l (buffer.Vector spans) b e h =
+    subst (IsBioOf pages) (found_one (Some (bio.Vector spans)) (bio.Vector spans) b refl e) tt
+bio-named pages l (buffer.Mbuf chain) b e h =
+    subst (IsBioOf pages) (found_one (Some (bio.Vector chain)) (bio.Vector chain) b refl e) tt
+bio-named pages l (buffer.Bio c) b e h = subst (IsBioOf pages) (found_one (Some c) c b refl e) h
 
-pub bio-of : (x : Buffer) → BioOf x
-bio-of (buffer.Flat (At va) len) = record { bio = flat_bio len va.0; is = λ l. refl; named = λ pages h. tt }
-bio-of (buffer.Vector spans) = record { bio = bio.Vector spans; is = λ l. refl; named = λ pages h. tt }
-bio-of (buffer.Mbuf chain) = record { bio = bio.Vector chain; is = λ l. refl; named = λ pages h. tt }
-bio-of (buffer.Bio b) = record { bio = b; is = λ l. refl; named = λ pages h. h }
+-- a buffer is told by a memory, or has one bio in each state of the driver
+pub data Told (x : Buffer) : Type 0 where
+  Within : (mem off len : ℕ) → x ≡ buffer.Flat (In mem off) len → Told x
+  Alone : (b : Bio) → ((l : LaneState) → bio_at l x ≡ Some b) → Told x
+
+pub told : (x : Buffer) → Told x
+told (buffer.Flat (At va) len) = Alone (flat_bio len va.0) (λ l. refl)
+told (buffer.Flat (In mem off) len) = Within mem off len refl
+told (buffer.Vector spans) = Alone (bio.Vector spans) (λ l. refl)
+told (buffer.Mbuf chain) = Alone (bio.Vector chain) (λ l. refl)
+told (buffer.Bio b) = Alone b (λ l. refl)
 
 -- the load of a buffer asks what that of its bio asks
-pub asks-bio : (m : ℕ) (x : Buffer) (flags : ℕ) (items : List Item) (l : LaneState) →
-    asked_by (op.Load m x flags items) l ≡ Some (asked m (bio-of x).bio (never_waits x flags) items l)
-asks-bio m x flags items l = ap (option_map (λ b. asked m b (never_waits x flags) items l)) ((bio-of x).is l)
+pub asks-bio : (m : ℕ) (x : Buffer) (flags : ℕ) (items : List Item) (l : LaneState) (b : Bio) → bio_at l x ≡ Some b →
+    asked_by (op.Load m x flags items) l ≡ Some (asked m b (never_waits x flags) items l)
+asks-bio m x flags items l b e = ap (option_map (λ c. asked m c (never_waits x flags) items l)) e
 
 -- the load at a place of the script has a bio of frames of these pages
-pub loads-from : (pages : List PageRun) (script : List Op) (k m : ℕ) (x : Buffer) (flags : ℕ) (items : List Item) →
-    AllByRecursion (LoadsFrom pages) script → slice_get script k ≡ Some (op.Load m x flags items) →
-    IsBioOf pages (bio-of x).bio
-loads-from pages script k m x flags items all e =
-    (bio-of x).named pages (all-at (LoadsFrom pages) script k (op.Load m x flags items) all e)
+pub loads-from : (pages : List PageRun) (script : List Op) (k m : ℕ) (x : Buffer) (flags : ℕ) (items : List Item)
+    (l : LaneState) (b : Bio) → AllByRecursion (LoadsFrom pages) script →
+    slice_get script k ≡ Some (op.Load m x flags items) → bio_at l x ≡ Some b → IsBioOf pages b
+loads-from pages script k m x flags items l b all e is =
+    bio-named pages l x b is (all-at (LoadsFrom pages) script k (op.Load m x flags items) all e)

@@ -19,7 +19,7 @@ module _ (l : LaneState) (w : Wire) (apart : IsApart l) (laid : AreLaid l) (f : 
   -- nothing came and nothing went
   alone : (now : Wire) (o : Asking Outcome) → Stays l w apart laid f now o → (r : HubReply) →
       IsFaithful (by_reply o r).lane (if_done o now w)
-  alone now o stays r = stays r (if_done o now w) (λ b x y. refl, λ m b x y. refl)
+  alone now o stays r = stays r (if_done o now w) (λ b x y. refl) (λ m b x y. refl)
 
   pub sync-faithful : (m ops : ℕ) (r : HubReply) →
       IsFaithful (by_reply (syncs.sync m ops l) r).lane (wire.sync m ops l w)

@@ -45,12 +45,15 @@ are-bused l laid m i t h = by (lies-of l laid m i t h)
         inr (ap (λ s. is_in_pages (pages_of s) t.bus) x.stage
         ∙ any_at (λ p. in_run p 1 t.bus) x.pages e.index e.page e.has_page inside)
 
--- a map that lends after the step has the loan that it had and stands as it stood, and a byte that is Known after it
--- was Known, and is lent to write where it was
+-- a map that lends after the step has the loan that it had and stands as it stood; a byte of a load that is Known after
+-- the step was Known; any other byte that is Known after it was Known or came with it; and a byte that is Known after
+-- it is lent to write where it was
 pub record Carries (l l' : LaneState) : Type 0 where
   pub loan : (n i : ℕ) (p : Position) → IsAt l'.loans n i p → in_any_way p ≡ true →
       (loan_of l'.loans n ≡ loan_of l.loans n) × (stage_at l' n ≡ stage_at l n)
-  pub known : (a v : ℕ) → l'.memory a ≡ Some (Known v) → l.memory a ≡ Some (Known v)
+  pub known : (a v : ℕ) → l'.memory a ≡ Some (Known v) → (l.memory a ≡ Some (Known v)) ⊎ (l.memory a ≡ None)
+  pub held : (n i v : ℕ) (p : Position) → IsAt l.loans n i p → l'.memory p.pa ≡ Some (Known v) →
+      l.memory p.pa ≡ Some (Known v)
   pub lending : (a v : ℕ) → l'.memory a ≡ Some (Known v) → lent to_write a l.loans ≡ true →
       lent to_write a l'.loans ≡ true
   pub idle : (n i : ℕ) (p : Position) → (loan_of l'.loans n).coherent ≡ true → IsAt l'.loans n i p →
@@ -73,8 +76,8 @@ module _ (l l' : LaneState) (w w' : Wire) (bused : AreBused l) (f : IsFaithful l
   was_free a v is free true e = absurd (false≢true (sym free ∙ c.lending a v is e))
 
   -- a byte that is Known before and after stays
-  own_stays : (a v : ℕ) → l'.memory a ≡ Some (Known v) → w' a ≡ w a
-  own_stays a v is = h.0 a (ap is_some (c.known a v is)) (ap is_some is)
+  own_stays : (a v : ℕ) → l.memory a ≡ Some (Known v) → l'.memory a ≡ Some (Known v) → w' a ≡ w a
+  own_stays a v was is = h.own a (ap is_some was) (ap is_some is)
 
   -- so does what stands at the bus address of a Known byte
   bus_stays : (n i v : ℕ) (p : Position) (t : Placed) → stage_at l' n ≡ stage_at l n → IsAt l.loans n i p →
@@ -89,8 +92,16 @@ module _ (l l' : LaneState) (w w' : Wire) (bused : AreBused l) (f : IsFaithful l
           ∙ (placed-at (bounced_in (stage_at l n)) 0 (addresses_of (loan_of l.loans n).positions) i t placed).0)
 
       by : (t.bus ≡ t.pa) ⊎ (is_in_pages (pages_of (stage_at l n)) t.bus ≡ true) → w' t.bus ≡ w t.bus
-      by (inl e) = own_stays t.bus v (ap l'.memory (e ∙ sym same) ∙ is)
-      by (inr e) = h.1 n t.bus e (ap (λ s. is_in_pages (pages_of s) t.bus) stage ∙ e)
+      by (inl e) =
+          own_stays t.bus v (ap l.memory (e ∙ sym same) ∙ c.held n i v p at is) (ap l'.memory (e ∙ sym same) ∙ is)
+      by (inr e) = h.pages n t.bus e (ap (λ s. is_in_pages (pages_of s) t.bus) stage ∙ e)
+
+  -- a byte that is Known and not lent to write stands there, where it was Known or came
+  kept_stays : (a v : ℕ) → lent to_write a l'.loans ≡ false → l'.memory a ≡ Some (Known v) →
+      (l.memory a ≡ Some (Known v)) ⊎ (l.memory a ≡ None) → w' a ≡ v
+  kept_stays a v free is (inl was) =
+      own_stays a v was is ∙ f.agrees.kept a v (was_free a v is free (lent to_write a l.loans) refl) was
+  kept_stays a v free is (inr none) = h.known a v none is
 
   pub carried : IsFaithful l' w'
   carried = record {
@@ -110,17 +121,15 @@ module _ (l l' : LaneState) (w w' : Wire) (bused : AreBused l) (f : IsFaithful l
           let stood = was_placed n i t k.0 k.1 placed in
           let there = was_at n i p k.0 at in
           bus_stays n i v p t k.1 there stood is
-          ∙ f.agrees.written n i p t v there stood tw (c.known p.pa v is);
+          ∙ f.agrees.written n i p t v there stood tw (c.held n i v p there is);
       read = λ n i p t v at placed tr free is.
           let k = c.loan n i p at (read_any p tr) in
           let stood = was_placed n i t k.0 k.1 placed in
           let there = was_at n i p k.0 at in
           bus_stays n i v p t k.1 there stood is
           ∙ f.agrees.read n i p t v there stood tr
-          (was_free p.pa v is free (lent to_write p.pa l.loans) refl) (c.known p.pa v is);
-      kept = λ a v free is.
-          own_stays a v is
-          ∙ f.agrees.kept a v (was_free a v is free (lent to_write a l.loans) refl) (c.known a v is);
+          (was_free p.pa v is free (lent to_write p.pa l.loans) refl) (c.held n i v p there is);
+      kept = λ a v free is. kept_stays a v free is (c.known a v is);
     };
   }
 
@@ -132,19 +141,35 @@ put-stage l m n x off = ap stage_in (get_put l.maps m x n ∙ ap (λ b. cond b (
 pub cut-stage : (l : LaneState) (m n : ℕ) → n ≢ m → stage_in (get (remove l.maps m) n) ≡ stage_in (get l.maps n)
 cut-stage l m n off = ap stage_in (get_cut l.maps m n ∙ ap (λ b. cond b None (get l.maps n)) (ne_eqb n m off))
 
--- ---- a step that changes no loan, no byte, and at most where a map stands that is not loaded
-pub same-carries : (l l' : LaneState) → IsExclusive l.loans → l'.loans ≡ l.loans → l'.memory ≡ l.memory →
+-- ---- a step that changes no loan, and at most where a map stands that is not loaded
+pub like-carries : (l l' : LaneState) → IsExclusive l.loans → l'.loans ≡ l.loans →
+    ((a v : ℕ) → l'.memory a ≡ Some (Known v) → (l.memory a ≡ Some (Known v)) ⊎ (l.memory a ≡ None)) →
+    ((n i v : ℕ) (p : Position) → IsAt l.loans n i p → l'.memory p.pa ≡ Some (Known v) →
+    l.memory p.pa ≡ Some (Known v)) →
     ((n i : ℕ) (p : Position) → IsAt l.loans n i p → stage_at l' n ≡ stage_at l n) → Carries l l'
-same-carries l l' e loans memory stages = record {
+like-carries l l' e loans known held stages = record {
   loan = λ n i p at any. (
     λ x. loan_of (loans x) n,
     stages n i p (sym (λ x. slice_get (loan_of (loans x) n).positions i) ∙ at),
   );
-  known = λ a v is. sym (λ x. memory x a) ∙ is;
+  known = known;
+  held = held;
   lending = λ a v is was. (λ x. lent to_write a (loans x)) ∙ was;
   idle = λ n i p c at. e.unlent n i p (sym (λ x. (loan_of (loans x) n).coherent)
       ∙ c) (sym (λ x. slice_get (loan_of (loans x) n).positions i) ∙ at);
 }
+
+-- no byte comes
+pub fewer-carries : (l l' : LaneState) → IsExclusive l.loans → l'.loans ≡ l.loans →
+    ((a v : ℕ) → l'.memory a ≡ Some (Known v) → l.memory a ≡ Some (Known v)) →
+    ((n i : ℕ) (p : Position) → IsAt l.loans n i p → stage_at l' n ≡ stage_at l n) → Carries l l'
+fewer-carries l l' e loans known stages =
+    like-carries l l' e loans (λ a v is. inl (known a v is)) (λ n i v p at is. known p.pa v is) stages
+
+-- nor does any go
+pub same-carries : (l l' : LaneState) → IsExclusive l.loans → l'.loans ≡ l.loans → l'.memory ≡ l.memory →
+    ((n i : ℕ) (p : Position) → IsAt l.loans n i p → stage_at l' n ≡ stage_at l n) → Carries l l'
+same-carries l l' e loans memory stages = fewer-carries l l' e loans (λ a v is. sym (λ x. memory x a) ∙ is) stages
 
 pub no-position : {A : Type 0} (l : LaneState) (m n i : ℕ) (p : Position) → loan_of l.loans m ≡ no_loan → n ≡ m →
     IsAt l.loans n i p → A
@@ -153,13 +178,16 @@ no-position l m n i p none e at =
     sym (λ x. slice_get (none x).positions i) ∙ ((λ x. slice_get (loan_of l.loans (sym e x)).positions i) ∙ at) in
     absurd (cc)
 
+-- all maps but one that lends nothing stand as they stood
+pub but-one : (l l' : LaneState) (m : ℕ) → loan_of l.loans m ≡ no_loan →
+    ((n : ℕ) → n ≢ m → stage_at l' n ≡ stage_at l n) →
+    (n i : ℕ) (p : Position) → IsAt l.loans n i p → stage_at l' n ≡ stage_at l n
+but-one l l' m none stages n i p at = elim (decided n m) as (λ _. stage_at l' n ≡ stage_at l n)
+    [ inl here ↦ no-position l m n i p none here at | inr off ↦ stages n off ]
+
 pub idle-carries : (l l' : LaneState) (m : ℕ) → IsExclusive l.loans → l'.loans ≡ l.loans → l'.memory ≡ l.memory →
     loan_of l.loans m ≡ no_loan → ((n : ℕ) → n ≢ m → stage_at l' n ≡ stage_at l n) → Carries l l'
-idle-carries l l' m e loans memory none stages = same-carries l l' e loans memory by
-  where
-    by : (n i : ℕ) (p : Position) → IsAt l.loans n i p → stage_at l' n ≡ stage_at l n
-    by n i p at = elim (decided n m) as (λ _. stage_at l' n ≡ stage_at l n)
-        [ inl here ↦ no-position l m n i p none here at | inr off ↦ stages n off ]
+idle-carries l l' m e loans memory none stages = same-carries l l' e loans memory (but-one l l' m none stages)
 
 -- ---- an unload that is done
 module _ (l l' : LaneState) (m : ℕ) (e : IsExclusive l.loans) (loans : l'.loans ≡ remove l.loans m)
@@ -190,7 +218,8 @@ module _ (l l' : LaneState) (m : ℕ) (e : IsExclusive l.loans) (loans : l'.loan
   pub unload-carries : Carries l l'
   unload-carries = record {
     loan = λ n i p at any. let o = another n i p at (n == m) refl in (o.1, stages n o.0);
-    known = λ a v is. (known_before (lost_by_forgetting l.loans m) l.memory a v (forgot a v is)).1;
+    known = λ a v is. inl (known_before (lost_by_forgetting l.loans m) l.memory a v (forgot a v is)).1;
+    held = λ n i v p at is. (known_before (lost_by_forgetting l.loans m) l.memory p.pa v (forgot p.pa v is)).1;
     lending = λ a v is was. by a v (forgot a v is) (lender_of to_write a l.loans was);
     idle = λ n i p c at.
         let o = another n i p at (n == m) refl in
@@ -247,7 +276,8 @@ module _ (l l' : LaneState) (m : ℕ) (coherent : Bool) (bytes : List ℕ) (e : 
   pub load-carries : Carries l l'
   load-carries = record {
     loan = λ n i p at any. other_map n i p at any (n == m) refl;
-    known = λ a v is. sym (λ x. memory x a) ∙ is;
+    known = λ a v is. inl (sym (λ x. memory x a) ∙ is);
+    held = λ n i v p at is. sym (λ x. memory x p.pa) ∙ is;
     lending = λ a v is was. by a (lender_of to_write a l.loans was);
     idle = λ n i p c at. lends_nothing n i p c at (n == m) refl;
   }

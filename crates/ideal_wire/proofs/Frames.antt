@@ -82,7 +82,7 @@ lent-two m n y z p a ne =
         (and_parts (h.page == p) ((h.zone == x) && same_map k h.map) e).1).1
 
 -- two memories have a frame no more often than all do
-mems-two : (m n : MapId) (f : ℕ) (xs : List Memory) → m.made_at ≢ n.made_at →
+pub mems-two : (m n : MapId) (f : ℕ) (xs : List Memory) → m.made_at ≢ n.made_at →
     times f (frames_of m xs) + times f (frames_of n xs) ≤ sum_by (λ x. times f x.frames) xs
 mems-two m n f [] ne = omega arith
 mems-two m n f (x ∷ xs) ne =
@@ -103,10 +103,10 @@ mems-two m n f (x ∷ xs) ne =
     by false false e g rest all = omega (arith, rest, all)
 
 -- another name of the same driver
-abbrev next : MapId → MapId
+abbrev pub next : MapId → MapId
 next m = record { lane = m.lane; made_at = suc m.made_at }
 
-off-next : (m : MapId) → m.made_at ≢ (next m).made_at
+pub off-next : (m : MapId) → m.made_at ≢ (next m).made_at
 off-next m e = absurd (omega (arith, e))
 
 -- ---- frames
@@ -137,7 +137,8 @@ frame-in (suc n) first f whole w low high =
     ]
 
 -- the frame of a byte of whole frames is among them
-run-frame : (n first a : ℕ) → first % 4096 ≡ 0 → in_run first n a ≡ true → 1 ≤ times (frame_of a) (frames_from n first)
+pub run-frame : (n first a : ℕ) → first % 4096 ≡ 0 → in_run first n a ≡ true →
+    1 ≤ times (frame_of a) (frames_from n first)
 run-frame n first a whole h =
     let parts = and_parts (nat_le first a) (nat_lt a (first + 4096 * n)) h in
     let low : first ≤ a = leb-true first a parts.0 in
@@ -145,7 +146,7 @@ run-frame n first a whole h =
     frame-in n first (frame_of a) whole (omega arith) (omega (arith, whole, low)) (omega (arith, high))
 
 -- so is that of a byte of pages
-own-frame : (runs : List PageRun) (a : ℕ) → is_own runs a ≡ true → is_own runs (frame_of a) ≡ true
+pub own-frame : (runs : List PageRun) (a : ℕ) → is_own runs a ≡ true → is_own runs (frame_of a) ≡ true
 own-frame [] a h = absurd (cc)
 own-frame (r ∷ rs) a h = by (within a) refl (own-frame rs a) h
   where
@@ -196,7 +197,7 @@ module _ (l : LaneState) (a : Account) (agrees : AgreesWith l a) where
       omega (arith, (agrees.names (named l m) refl).holds_page z p, pages)
 
   -- a frame of a memory stands with the memories' frames
-  memory-held : (k : ℕ) (x : LaneMemory) (f : ℕ) → get l.mems k ≡ Some x →
+  pub memory-held : (k : ℕ) (x : LaneMemory) (f : ℕ) → get l.mems k ≡ Some x →
       times f (frames_of (named l k) a.mems) ≡ times f (frames_from x.count x.first)
   memory-held k x f there =
       ap (times f) ((agrees.names (named l k) refl).frames

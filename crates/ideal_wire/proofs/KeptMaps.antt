@@ -34,6 +34,7 @@ use Rattle.ideal_lane.specs.IdealMemory.{is_known}
 use Rattle.ideal_lane.specs.Loads.{Asked, chunks_for, emptied, finished, granted, limits_of, load, load_chunks}
 use Rattle.ideal_lane.specs.Loads.{loaded, no_limits, staged, unpaged, zone_of}
 use Rattle.ideal_lane.specs.Maps.{end_map, map_destroy, await}
+use Rattle.ideal_lane.specs.Memories.{dmamem, dmamem_free, placed, without_memory}
 use Rattle.ideal_lane.specs.Outcomes.{Outcome, gives, is_idle, load_length, refused, unless_past}
 use Rattle.ideal_lane.specs.Places.{virtual_at, reached, bytes_at}
 use Rattle.ideal_lane.specs.Standing.{Stands}
@@ -177,6 +178,28 @@ module _ (l : LaneState) (stands : Stands l) where
   map_destroy-kept m =
       absent l Still report (get l.maps m) _ (λ o e.
       either l Still report (is_idle o.stage) (end_map m o.zone l) _ (λ i. end-kept m o.zone) (λ i r. same))
+
+  placed-kept : (t : ℕ) (limits : TagLimits) (flags : ℕ) (r : HubReply) → KeepsMaps (placed t limits flags l r).lane
+  placed-kept t limits flags (reply.Run first count) =
+      new-map (placed t limits flags l (reply.Run first count)).lane refl l.place
+      (record { tag = t; zone = None; tried = false; stage = Idle }) refl refl
+  placed-kept t limits flags reply.Nothing = same
+  placed-kept t limits flags (reply.Grown g) = same
+  placed-kept t limits flags (reply.Granted pages) = same
+  placed-kept t limits flags (reply.Queued have) = same
+  placed-kept t limits flags reply.NoPages = same
+  placed-kept t limits flags (reply.Served n) = same
+  placed-kept t limits flags (reply.Called m pages) = same
+  placed-kept t limits flags reply.NoRun = same
+
+  pub dmamem-kept : (t flags : ℕ) → Still (dmamem t flags l)
+  dmamem-kept t flags = absent l Still report (get l.tags t) _ (λ o e. placed-kept t o.limits flags)
+
+  pub dmamem_free-kept : (m : ℕ) → Still (dmamem_free m l)
+  dmamem_free-kept m =
+      absent l Still report (get l.mems m) _ (λ x there.
+      absent l Still report (get l.maps m) _ (λ o found.
+      either l Still report (is_idle o.stage) _ _ (λ i r. cut-map (without_memory m x l) refl m refl) (λ i r. same)))
 
   pub await-kept : (m : ℕ) → Still (await m l)
   await-kept m =

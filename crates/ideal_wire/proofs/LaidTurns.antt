@@ -1,7 +1,8 @@
 -- Any turn leaves the loads of a driver laid, by the account's reply.
-use Rattle.std.proofs.Common.{◌≡◌, ℕ, suc, ◌+◌, ◌==◌, Bool, true, false, if◌then◌else◌, List, [], ◌∷◌, length, Option}
-use Rattle.std.proofs.Common.{Some, None, slice_get, is_some, refl, ap, sym, ◌∙◌, subst, nat_lt, unwrap_or}
-use Rattle.std.proofs.lemmas.Bool.{eqb-true, false≢true}
+use Rattle.std.proofs.Common.{◌≡◌, ℕ, zero, suc, ◌+◌, ◌*◌, ◌<◌, ◌≤◌, ◌==◌, ◌&&◌, Bool, true, false, if◌then◌else◌, List}
+use Rattle.std.proofs.Common.{[], ◌∷◌, length, Option, Some, None, slice_get, is_some, refl, ap, sym, ◌∙◌, subst}
+use Rattle.std.proofs.Common.{nat_le, nat_lt, unwrap_or, arith}
+use Rattle.std.proofs.lemmas.Bool.{and_parts, eqb-true, false≢true, le-ltb, ltb-true}
 use Rattle.std.specs.FinMap.{get, contains_key}
 use Rattle.std.specs.List.{AllByRecursion}
 use Rattle.std.specs.Option.{option_and_then}
@@ -26,8 +27,11 @@ use Rattle.busdma_base.specs.Bounce.Account.{Account}
 use Rattle.busdma_base.specs.Bounce.AccountStep.{account_step, as_pages}
 use Rattle.busdma_base.specs.Bounce.EachFrame.{EachFrame}
 use Rattle.busdma_base.specs.Bounce.History.{IsFrame}
+use Rattle.busdma_base.specs.Bounce.MemoryRuns.{frames_for, in_run, lowest_run}
 use Rattle.busdma_base.specs.Scenarios.Buffers.{IsBioOf}
 use Rattle.busdma_base.specs.Scenarios.Operations.{bytes_of}
+use Rattle.busdma_base.specs.Tags.Tag.{excluded}
+use Rattle.dma_tag.specs.MemFlags.{coherent, zero_filled}
 use Rattle.lane_agreement.specs.After.{addresses}
 use Rattle.lane_agreement.specs.Agreement.{IsFit}
 use Rattle.lane_agreement.specs.View.{Return}
@@ -41,10 +45,11 @@ use Rattle.ideal_lane.specs.Asking.{Asking, Gives, Asks, goes_on}
 use Rattle.ideal_lane.specs.Loads.{Asked, asked, chunks_for, finished, granted, limits_of, load, load_chunks}
 use Rattle.ideal_lane.specs.Loads.{load_judged}
 use Rattle.ideal_lane.specs.Loads.{staged, zone_of}
-use Rattle.ideal_lane.specs.Outcomes.{Outcome, gives, unless_absent}
+use Rattle.ideal_lane.specs.Memories.{dmamem, dmamem_free, placed}
+use Rattle.ideal_lane.specs.Outcomes.{Outcome, gives, is_idle}
 use Rattle.ideal_lane.specs.Standing.{Stands}
-use Rattle.ideal_lane.specs.State.{LaneState, LaneMap, LaneMemory, Waiting, named}
-use Rattle.ideal_lane.specs.Turns.{Turned, operation, transfer, waits, asked_at, asked_by, called, called_in}
+use Rattle.ideal_lane.specs.State.{LaneState, LaneTag, LaneMap, LaneMemory, Waiting, named}
+use Rattle.ideal_lane.specs.Turns.{Turned, operation, transfer, waits, asked_at, asked_by, bio_at, called, called_in}
 use Rattle.ideal_lane.specs.Turns.{called_back, lane_step, load_buffer, never_waits, no_load}
 use Rattle.ideal_lane.specs.Turns as turns
 use Rattle.ideal_lane.specs.View.{view_of}
@@ -53,12 +58,16 @@ use Rattle.ideal_wire.specs.Laid.{IsAwaited, AreLaid, KeepsLaid, pages_alone}
 use Rattle.ideal_wire.specs.Machine.{IsInMachine}
 use Rattle.ideal_wire.proofs.Asked.{alone-fine, direct-bytes, direct-ready, pages-entries}
 use Rattle.ideal_wire.proofs.Bios.{AreOfPages}
-use Rattle.ideal_wire.proofs.Buffers.{asks-bio, bio-of, loads-from}
+use Rattle.ideal_wire.proofs.Buffers.{asks-bio, loads-from}
+use Rattle.ideal_wire.proofs.Frames.{agreeing-apart}
 use Rattle.ideal_wire.proofs.LoadLaid.{IsReady, finished-laid}
+use Rattle.ideal_wire.proofs.MemoriesLaid.{after-laid, made-laid}
 use Rattle.ideal_wire.proofs.MemoryLoads.{memory-ready}
+use Rattle.ideal_wire.proofs.NewFrames.{IsGiven, given, run-is}
 use Rattle.ideal_wire.proofs.Pages.{called-whole, granted-whole}
+use Rattle.ideal_wire.proofs.PagesAlone.{paged-alone}
 use Rattle.ideal_wire.proofs.Positions.{found_one}
-use Rattle.ideal_wire.proofs.Refusing.{judged, either, busy}
+use Rattle.ideal_wire.proofs.Refusing.{absent, judged, either, busy}
 use Rattle.ideal_wire.proofs.Returning.{returning-unloaded}
 use Rattle.ideal_wire.proofs.StillLaid.{Still, await-still, back-still, cpu_read-still, cpu_write-still}
 use Rattle.ideal_wire.proofs.StillLaid.{dev_read-still}
@@ -82,6 +91,10 @@ as-many (p ∷ pages) = ap suc (as-many pages)
 whole-again : (pages : List Pa) → AllByRecursion IsPage pages → AllByRecursion IsPage (as_pages (addresses pages))
 whole-again pages h = subst (AllByRecursion IsPage) (sym (paged-again pages)) h
 
+some-need : (n : ℕ) → (n == 0) ≡ false → 1 ≤ n
+some-need zero e = absurd (cc)
+some-need (suc n) e = omega arith
+
 module _ (l : LaneState) (a : Account) (stands : Stands l) (agrees : AgreesWith l a) (fit : IsFit a)
     (frames : EachFrame IsFrame a) (machine : IsInMachine l) (laid : AreLaid l) where
   -- the loads are laid after a step, by the account's reply
@@ -99,121 +112,123 @@ module _ (l : LaneState) (a : Account) (stands : Stands l) (agrees : AgreesWith 
   -- ---- the load of the next operation
   module _ (m : ℕ) (buffer : Buffer) (flags : ℕ) (items : List Item)
       (here : slice_get l.script l.place ≡ Some (op.Load m buffer flags items)) where
-    abbrev b : Bio
-    b = (bio-of buffer).bio
+    module _ (b : Bio) (named-b : bio_at l buffer ≡ Some b) where
+      is-bio : IsBioOf l.pages b
+      is-bio = loads-from l.pages l.script l.place m buffer flags items l b machine.bios here named-b
 
-    is-bio : IsBioOf l.pages b
-    is-bio = loads-from l.pages l.script l.place m buffer flags items machine.bios here
+      abbrev x : Asked
+      x = asked m b (never_waits buffer flags) items l
 
-    abbrev x : Asked
-    x = asked m b (never_waits buffer flags) items l
-
-    module _ (o : LaneMap) (there : get l.maps m ≡ Some o) (none : loan_of l.loans m ≡ no_loan)
-        (fine : load_judged l m b ≡ Fine) where
-      -- of a memory's own map
-      memory-load : (y : LaneMemory) → get l.mems m ≡ Some y →
-          Keeps (load_chunks m o x (chunks_for l o true x.entries) l)
-      memory-load y e =
-          either l Keeps report (need_of chunks == 0) (Gives (finished m o l.place x chunks [] l))
-          (Asks (call.Grab (named l m) (record { 0 = zone_of o }) (need_of chunks) x.nowait) (granted m o x chunks l))
-          (λ zero. finished-laid l laid m o none l.place x chunks [] is)
-          (λ some. absurd (false≢true (sym some ∙ ap (λ n. n == 0) (is.direct (ap is_some e)))))
-        where
-          chunks : List Chunk
-          chunks = chunks_for l o true x.entries
-
-          is : IsReady l m (limits_of l o) x.entries chunks []
-          is = memory-ready l laid machine stands m o there y e b fine
-
-      -- of another map
-      module _ (e : get l.mems m ≡ None) where
-        abbrev chunks : List Chunk
-        chunks = chunks_for l o false x.entries
-
-        own : AreOfPages l b
-        own = direct-bytes l m b e fine
-
-        is-ready : (pages : List ℕ) → AllByRecursion IsPage (as_pages pages) → length pages ≡ need_of chunks →
-            IsReady l m (limits_of l o) x.entries chunks pages
-        is-ready pages whole count = direct-ready l laid machine stands m o there e b is-bio own pages whole count
-
-        abbrev later : LaneState
-        later = staged m o (Waiting l.place (need_of chunks)) l
-
-        -- what is asked of the driver's pages alone
-        same-asked : asked_at l.place (pages_alone later)
-            ≡ asked m b (never_waits buffer flags) items (pages_alone later)
-        same-asked =
-            ap (λ q. unwrap_or (option_and_then (λ p. asked_by p (pages_alone later)) q)
-            (no_load (pages_alone later))) here
-            ∙ ap (λ q. unwrap_or q (no_load (pages_alone later))) (asks-bio m buffer flags items (pages_alone later))
-
-        awaited : IsAwaited later m l.place (need_of chunks)
-        awaited = record {
-          unlent = none;
-          fine = ap (λ (y : Asked). y.judged) same-asked ∙ alone-fine later m b own;
-          counted = λ o' found.
-              let same : record o { tried = true; stage = Waiting l.place (need_of chunks) } ≡ o' =
-              found_one (get later.maps m) _ o' (put-there l.maps m _) found in
-              let entries : (asked_at l.place (pages_alone later)).entries ≡ x.entries =
-              ap (λ (y : Asked). y.entries) same-asked ∙ pages-entries l (pages_alone later) refl b own in
-              λ i. need_of (chunks_of (limits_of later (same i)) l.maxmem (sym entries i));
-        }
-
-        by-reply : (r : HubReply) →
-            (account_step l.id (call.Grab (named l m) (record {
-              0 =
-                  zone_of o;
-            }) (need_of chunks) x.nowait) a).reply ≡ r →
-            AreLaid (granted m o x chunks l r).lane
-        by-reply (reply.Granted pages) e =
-            finished-laid l laid m o none l.place x chunks (addresses pages) (is-ready (addresses pages)
-            (whole-again pages (granted-whole a frames (named l m) (zone_of o) (need_of chunks) x.nowait pages e))
-            (as-many pages ∙ granted-length (named l m) (zone_of o) (need_of chunks) x.nowait a pages e))
-        by-reply (reply.Queued have) e =
-            put l laid later
-            (record { script = refl; pages = refl; maxmem = refl; own = λ b. refl; mems = refl }) (λ n y e. refl) m
-            (record o { tried = true; stage = Waiting l.place (need_of chunks) }) refl refl awaited
-        by-reply reply.Nothing e = staged-still l laid m o none
-        by-reply (reply.Grown g) e = staged-still l laid m o none
-        by-reply reply.NoPages e = staged-still l laid m o none
-        by-reply (reply.Served n) e = staged-still l laid m o none
-        by-reply (reply.Called k pages) e = staged-still l laid m o none
-        by-reply (reply.Run first count) e = staged-still l laid m o none
-        by-reply reply.NoRun e = staged-still l laid m o none
-
-        direct-load : Keeps (load_chunks m o x chunks l)
-        direct-load =
+      module _ (o : LaneMap) (there : get l.maps m ≡ Some o) (none : loan_of l.loans m ≡ no_loan)
+          (fine : load_judged l m b ≡ Fine) where
+        -- of a memory's own map
+        memory-load : (y : LaneMemory) → get l.mems m ≡ Some y →
+            Keeps (load_chunks m o x (chunks_for l o true x.entries) l)
+        memory-load y e =
             either l Keeps report (need_of chunks == 0) (Gives (finished m o l.place x chunks [] l))
-            (Asks (call.Grab (named l m) (record {
-              0 =
-                  zone_of o;
-            }) (need_of chunks) x.nowait) (granted m o x chunks l))
-            (λ zero. finished-laid l laid m o none l.place x chunks [] (is-ready [] tt
-            (sym (eqb-true (need_of chunks) 0 zero))))
-            (λ some. by-reply _ refl)
+            (Asks (call.Grab (named l m) (record { 0 = zone_of o }) (need_of chunks) x.nowait) (granted m o x chunks l))
+            (λ zero. finished-laid l laid m o there none l.place x chunks [] is)
+            (λ some. absurd (false≢true (sym some ∙ ap (λ n. n == 0) (is.direct (ap is_some e)))))
+          where
+            chunks : List Chunk
+            chunks = chunks_for l o true x.entries
 
-      chunked : Keeps (load_chunks m o x (chunks_for l o (contains_key l.mems m) x.entries) l)
-      chunked = by (get l.mems m) refl
-        where
-          by : (q : Option LaneMemory) → get l.mems m ≡ q →
-              Keeps (load_chunks m o x (chunks_for l o (contains_key l.mems m) x.entries) l)
-          by None e =
-              subst (λ b. Keeps (load_chunks m o x (chunks_for l o b x.entries) l)) (sym (ap is_some e))
-              (direct-load e)
-          by (Some y) e =
-              subst (λ b. Keeps (load_chunks m o x (chunks_for l o b x.entries) l)) (sym (ap is_some e))
-              (memory-load y e)
+            is : IsReady l m (limits_of l o) x.entries chunks []
+            is = memory-ready l laid machine stands m o there y e b fine
+
+        -- of another map
+        module _ (e : get l.mems m ≡ None) where
+          abbrev chunks : List Chunk
+          chunks = chunks_for l o false x.entries
+
+          own : AreOfPages l b
+          own = direct-bytes l m b e fine
+
+          is-ready : (pages : List ℕ) → AllByRecursion IsPage (as_pages pages) → length pages ≡ need_of chunks →
+              IsReady l m (limits_of l o) x.entries chunks pages
+          is-ready pages whole count = direct-ready l laid machine stands m o there e b is-bio own pages whole count
+
+          abbrev later : LaneState
+          later = staged m o (Waiting l.place (need_of chunks)) l
+
+          -- what is asked of the driver's pages alone
+          same-asked : 1 ≤ need_of chunks → asked_at l.place (pages_alone later)
+              ≡ asked m b (never_waits buffer flags) items (pages_alone later)
+          same-asked some =
+              ap (λ q. unwrap_or (option_and_then (λ p. asked_by p (pages_alone later)) q)
+              (no_load (pages_alone later))) here
+              ∙ ap (λ q. unwrap_or q (no_load (pages_alone later)))
+              (asks-bio m buffer flags items (pages_alone later) b
+              (paged-alone l machine (limits_of l o) buffer b named-b own some (pages_alone later)))
+
+          awaited : 1 ≤ need_of chunks → IsAwaited later m l.place (need_of chunks)
+          awaited some = record {
+            unlent = none;
+            some = some;
+            fine = ap (λ (y : Asked). y.judged) (same-asked some) ∙ alone-fine later m b own;
+            counted = λ o' found.
+                let same : record o { tried = true; stage = Waiting l.place (need_of chunks) } ≡ o' =
+                found_one (get later.maps m) _ o' (put-there l.maps m _) found in
+                let entries : (asked_at l.place (pages_alone later)).entries ≡ x.entries =
+                ap (λ (y : Asked). y.entries) (same-asked some) ∙ pages-entries l (pages_alone later) refl b own in
+                λ i. need_of (chunks_of (limits_of later (same i)) l.maxmem (sym entries i));
+          }
+
+          by-reply : 1 ≤ need_of chunks → (r : HubReply) →
+              (account_step l.id (call.Grab (named l m) (record {
+                0 =
+                    zone_of o;
+              }) (need_of chunks) x.nowait) a).reply ≡ r →
+              AreLaid (granted m o x chunks l r).lane
+          by-reply some (reply.Granted pages) e =
+              finished-laid l laid m o there none l.place x chunks (addresses pages) (is-ready (addresses pages)
+              (whole-again pages (granted-whole a frames (named l m) (zone_of o) (need_of chunks) x.nowait pages e))
+              (as-many pages ∙ granted-length (named l m) (zone_of o) (need_of chunks) x.nowait a pages e))
+          by-reply some (reply.Queued have) e =
+              put l laid later
+              (record { script = refl; pages = refl; maxmem = refl; own = λ b. refl; mems = refl }) (λ n y e. refl) m
+              (record o { tried = true; stage = Waiting l.place (need_of chunks) }) refl refl
+              (λ y e. (o, there, refl)) (awaited some)
+          by-reply some reply.Nothing e = staged-still l laid m o there none
+          by-reply some (reply.Grown g) e = staged-still l laid m o there none
+          by-reply some reply.NoPages e = staged-still l laid m o there none
+          by-reply some (reply.Served n) e = staged-still l laid m o there none
+          by-reply some (reply.Called k pages) e = staged-still l laid m o there none
+          by-reply some (reply.Run first count) e = staged-still l laid m o there none
+          by-reply some reply.NoRun e = staged-still l laid m o there none
+
+          direct-load : Keeps (load_chunks m o x chunks l)
+          direct-load =
+              either l Keeps report (need_of chunks == 0) (Gives (finished m o l.place x chunks [] l))
+              (Asks (call.Grab (named l m) (record {
+                0 =
+                    zone_of o;
+              }) (need_of chunks) x.nowait) (granted m o x chunks l))
+              (λ zero. finished-laid l laid m o there none l.place x chunks [] (is-ready [] tt
+              (sym (eqb-true (need_of chunks) 0 zero))))
+              (λ some. by-reply (some-need (need_of chunks) some) _ refl)
+
+        chunked : Keeps (load_chunks m o x (chunks_for l o (contains_key l.mems m) x.entries) l)
+        chunked = by (get l.mems m) refl
+          where
+            by : (q : Option LaneMemory) → get l.mems m ≡ q →
+                Keeps (load_chunks m o x (chunks_for l o (contains_key l.mems m) x.entries) l)
+            by None e =
+                subst (λ b. Keeps (load_chunks m o x (chunks_for l o b x.entries) l)) (sym (ap is_some e))
+                (direct-load e)
+            by (Some y) e =
+                subst (λ b. Keeps (load_chunks m o x (chunks_for l o b x.entries) l)) (sym (ap is_some e))
+                (memory-load y e)
 
     load-keeps : Keeps (load_buffer m buffer flags items l)
     load-keeps =
-        subst (λ q. Keeps (unless_absent q l (λ y. load m (asked m y (never_waits buffer flags) items l) l)))
-        (sym ((bio-of buffer).is l))
-        (busy l Keeps report m _ (λ o there i.
-        judged l Keeps report x.judged _ (λ fine.
-        either l Keeps report (nat_lt (limits_of l o).maxsize x.len) _ _
-        (λ long. staged-still l laid m o (no-loan l laid m o there (idle-unloaded l laid o.stage i)))
-        (λ short. chunked o there (no-loan l laid m o there (idle-unloaded l laid o.stage i)) fine))))
+        absent l Keeps report (bio_at l buffer) (λ y. load m (asked m y (never_waits buffer flags) items l) l)
+        (λ b named-b.
+        busy l Keeps report m _ (λ o there i.
+        judged l Keeps report (load_judged l m b) _ (λ fine.
+        either l Keeps report (nat_lt (limits_of l o).maxsize (x b named-b).len) _ _
+        (λ long. staged-still l laid m o there (no-loan l laid m o there (idle-unloaded l laid o.stage i)))
+        (λ short. chunked b named-b o there (no-loan l laid m o there (idle-unloaded l laid o.stage i)) fine))))
 
   -- ---- the callback of a load that waited
   module _ (m : MapId) (pages : List Pa) (e : (account_step l.id call.TakeCallback a).reply ≡ reply.Called m pages)
@@ -242,7 +257,7 @@ module _ (l : LaneState) (a : Account) (stands : Stands l) (agrees : AgreesWith 
               subst (λ b. AreLaid (finished k w.map w.load_at x (chunks_for l w.map b x.entries) (addresses pages)
               l).lane)
               (sym (ap is_some none))
-              (finished-laid l laid k w.map (waited-lies l stands laid machine k z need w).unlent w.load_at x
+              (finished-laid l laid k w.map w.found (waited-lies l stands laid machine k z need w).unlent w.load_at x
               (chunks_for l w.map false x.entries) (addresses pages)
               (direct-ready l laid machine stands k w.map w.found none (waited l stands laid machine k z need w).bio
               (waited l stands laid machine k z need w).named
@@ -254,6 +269,55 @@ module _ (l : LaneState) (a : Account) (stands : Stands l) (agrees : AgreesWith 
       called-keeps =
           let c = called-length (view_of l) a.ready a m pages fit.well agrees refl e in
           at-map c.2 c.0 c.4 (waits-at l k c.2 c.0 c.3)
+
+  -- ---- memories
+
+  -- a memory that the account places
+  placed-keeps : (t : ℕ) (o : LaneTag) → get l.tags t ≡ Some o → (flags : ℕ) (r : HubReply) →
+      (account_step l.id (call.MemAlloc (named l l.place) o.limits) a).reply ≡ r →
+      AreLaid (placed t o.limits flags l r).lane
+  placed-keeps t o there flags (reply.Run first count) e =
+      made-laid l stands laid
+      (record { tag = t; first = first.0; count = count; len = o.limits.maxsize; coherent = coherent flags })
+      (zero_filled flags) (record { whole = is.frame.whole; room = omega (arith, some.1) }) o there reached
+    where
+      low : ℕ
+      low = o.limits.lowaddr.0
+
+      some : (lowest_run o.limits.maxsize o.limits.boundary low a.bank ≡ Some first.0)
+          × (frames_for o.limits.maxsize ≡ count)
+      some = run-is (named l l.place) (frames_for o.limits.maxsize)
+          (lowest_run o.limits.maxsize o.limits.boundary low a.bank) a first count e
+
+      is : IsGiven low a.bank (frames_for o.limits.maxsize) first.0
+      is = given o.limits.maxsize o.limits.boundary low a.bank first.0 frames.bank some.0
+
+      reached : (b : ℕ) → in_run first.0 count b ≡ true → excluded o.limits b ≡ false
+      reached b inside =
+          let high : b < first.0 + 4096 * count =
+          ltb-true b (first.0 + 4096 * count) (and_parts (nat_le first.0 b) _ inside).1 in
+          let below : b ≤ low = omega (arith, high, is.low, some.1) in
+          ap (λ q. q && nat_le b o.limits.highaddr.0) (le-ltb low b below)
+  placed-keeps t o there flags reply.Nothing e = laid
+  placed-keeps t o there flags (reply.Grown g) e = laid
+  placed-keeps t o there flags (reply.Granted pages) e = laid
+  placed-keeps t o there flags (reply.Queued have) e = laid
+  placed-keeps t o there flags reply.NoPages e = laid
+  placed-keeps t o there flags (reply.Served n) e = laid
+  placed-keeps t o there flags (reply.Called m pages) e = laid
+  placed-keeps t o there flags reply.NoRun e = laid
+
+  dmamem-keeps : (t flags : ℕ) → Keeps (dmamem t flags l)
+  dmamem-keeps t flags =
+      absent l Keeps report (get l.tags t) _ (λ o there. placed-keeps t o there flags _ refl)
+
+  dmamem_free-keeps : (m : ℕ) → Keeps (dmamem_free m l)
+  dmamem_free-keeps m =
+      absent l Keeps report (get l.mems m) _ (λ x there.
+      absent l Keeps report (get l.maps m) _ (λ o found.
+      either l Keeps report (is_idle o.stage) _ _
+      (λ i. after-laid l stands laid (agreeing-apart l a agrees stands laid) m x there
+      (no-loan l laid m o found (idle-unloaded l laid o.stage i))) (λ i. laid)))
 
   -- ---- the turn
 
@@ -279,6 +343,8 @@ module _ (l : LaneState) (a : Account) (stands : Stands l) (agrees : AgreesWith 
   operation-keeps (op.TagDestroy t) e = always (operation (op.TagDestroy t) l) (tag_destroy-still l laid stands t)
   operation-keeps (op.Map name t) e = always (operation (op.Map name t) l) (map-still l laid stands t)
   operation-keeps (op.MapDestroy m) e = always (operation (op.MapDestroy m) l) (map_destroy-still l laid m)
+  operation-keeps (op.Dmamem name t flags) e = dmamem-keeps t flags
+  operation-keeps (op.DmamemFree m) e = dmamem_free-keeps m
   operation-keeps (op.Load m buffer flags items) e = load-keeps m buffer flags items e
   operation-keeps (op.Unload m) e = always (operation (op.Unload m) l) (unload-still l laid m)
   operation-keeps (op.Sync m ops) e = always (operation (op.Sync m ops) l) (sync-still l laid m ops)

@@ -10,6 +10,7 @@ pub mod Calls
 pub mod Carried
 pub mod ChunkExtents
 pub mod Copies
+pub mod EffectiveTags
 pub mod Faithful
 pub mod FaithfulAccess
 pub mod FaithfulRanges
@@ -25,12 +26,17 @@ pub mod Loading
 pub mod Machinery
 pub mod Machines
 pub mod MemoriesLaid
+pub mod MemoryChunks
 pub mod MemoryLoads
+pub mod MemoryObeys
+pub mod NewFrames
 pub mod Openings
 pub mod Pages
+pub mod PagesAlone
 pub mod Placed
 pub mod Placing
 pub mod Positions
+pub mod QuietTurns
 pub mod Reaching
 pub mod Refusing
 pub mod Returning

@@ -34,8 +34,8 @@ use Rattle.ideal_wire.proofs.ChunkExtents.{chunks-extents, placed-extents}
 use Rattle.ideal_wire.proofs.HavingChunks.{has-chunks}
 use Rattle.ideal_wire.proofs.Loading.{Follow, chunks_bytes, follow-of, placed-bytes, placed-follow, zipped}
 use Rattle.ideal_wire.proofs.Positions.{found_one}
-use Rattle.ideal_wire.proofs.KeptTags.{put-off}
-use Rattle.ideal_wire.proofs.StillLaid.{kept-map, unpaged-still}
+use Rattle.ideal_wire.proofs.KeptTags.{put-off, put-there}
+use Rattle.ideal_wire.proofs.StillLaid.{kept-map, put-limits, unpaged-still}
 
 -- ---- small lists
 
@@ -122,8 +122,8 @@ of-bytes l m t es fs chunks pages same r = record {
   loadable = subst (AllByRecursion (λ a. is_loadable (get l.mems m) l a ≡ true)) same r.loadable;
 }
 
-module _ (l : LaneState) (laid : AreLaid l) (m : ℕ) (o : LaneMap) (none : loan_of l.loans m ≡ no_loan)
-    (load_at : ℕ) (x : Asked) (chunks : List Chunk) (pages : List ℕ)
+module _ (l : LaneState) (laid : AreLaid l) (m : ℕ) (o : LaneMap) (there : get l.maps m ≡ Some o)
+    (none : loan_of l.loans m ≡ no_loan) (load_at : ℕ) (x : Asked) (chunks : List Chunk) (pages : List ℕ)
     (r : IsReady l m (limits_of l o) x.entries chunks pages) where
   abbrev t : TagLimits
   t = limits_of l o
@@ -150,7 +150,7 @@ module _ (l : LaneState) (laid : AreLaid l) (m : ℕ) (o : LaneMap) (none : loan
         subst (AllZip IsInPage (bounced_of in_pages)) (same-pages pages)
         (zipped (keep_pg_offset t.flags) chunks (as_pages pages) r.are r.whole (count-pages pages ∙ r.count));
     extents = placed-extents (keep_pg_offset t.flags) chunks (as_pages pages) r.extents;
-    chunks = subst (λ ts. HasChunks 0 ts (bounced_of in_pages)) (sym traces) there;
+    chunks = subst (λ ts. HasChunks 0 ts (bounced_of in_pages)) (sym traces) has;
     trace = trace-is l m o load_at x chunks pages r.some r.are r.follow r.bytes;
   }
     where
@@ -160,8 +160,8 @@ module _ (l : LaneState) (laid : AreLaid l) (m : ℕ) (o : LaneMap) (none : loan
           ∙ ap (placed_from (bounced_of in_pages) 0)
           (sym (placed-bytes (keep_pg_offset t.flags) chunks (as_pages pages) ∙ r.bytes))
 
-      there : HasChunks 0 (placed_from (bounced_of in_pages) 0 (chunks_bytes in_pages)) (bounced_of in_pages)
-      there = has-chunks in_pages 0 0 [] refl tt
+      has : HasChunks 0 (placed_from (bounced_of in_pages) 0 (chunks_bytes in_pages)) (bounced_of in_pages)
+      has = has-chunks in_pages 0 0 [] refl tt
           (placed-follow (keep_pg_offset t.flags) chunks (as_pages pages) 0 r.follow) r.are
 
   fits-laid : AreLaid after
@@ -169,6 +169,7 @@ module _ (l : LaneState) (laid : AreLaid l) (m : ℕ) (o : LaneMap) (none : loan
       one-changed l after rest laid m
       (λ n off. kept-map l after n (λ k y e. refl) (ap (λ y. unwrap_or y no_loan) (put-off l.loans m n new off))
       (put-off l.maps m n loaded-map off))
+      (λ y e. put-limits l laid after (λ k x f. refl) m loaded-map (put-there l.maps m loaded-map) (o, there, refl))
       (subst (LiesIn after m) (sym (stage-is l m o load_at x chunks pages)) lies)
     where
       new : Loan
@@ -189,4 +190,4 @@ module _ (l : LaneState) (laid : AreLaid l) (m : ℕ) (o : LaneMap) (none : loan
       }
           else record { lane = unpaged m o pages l; answer = answer.Refused EFBIG }))
       by true = fits-laid
-      by false = unpaged-still l laid m o pages none
+      by false = unpaged-still l laid m o pages there none

@@ -1,11 +1,8 @@
 -- A step leaves a driver in its machine: its tags are effective ones.
-use Rattle.std.proofs.Common.{◌≡◌, ◌≢◌, ℕ, ◌+◌, ◌*◌, ◌/◌, ◌%◌, ◌^◌, ◌≤◌, ◌==◌, ◌&&◌, not, Bool, true, false}
-use Rattle.std.proofs.Common.{cond, if◌then◌else◌, List, [], ◌∷◌, Option, Some, None, refl, sym, ◌∙◌, subst, arith}
-use Rattle.std.proofs.Common.{nat_le, nat_lt, slice_get, length, option_map, inl, inr, div-add-mod', mul_comm}
-use Rattle.std.proofs.lemmas.Bool.{and_parts, or_cases, eqb-true, leb-true}
-use Rattle.std.proofs.lemmas.Bool.Decides.{nat_tests}
+use Rattle.std.proofs.Common.{◌≡◌, ℕ, ◌+◌, ◌*◌, ◌^◌, ◌≤◌, ◌==◌, ◌&&◌, Bool, true, false}
+use Rattle.std.proofs.Common.{cond, if◌then◌else◌, List, [], ◌∷◌, Option, Some, None, refl, sym, ◌∙◌, subst}
+use Rattle.std.proofs.Common.{nat_le, nat_lt, slice_get, length}
 use Rattle.std.specs.FinMap.{get, insert, remove, contains_key}
-use Rattle.std.specs.Int.{IsPowerOfTwo}
 use Rattle.std.specs.List.{AllByRecursion}
 use Rattle.busdma_base.specs.declared.bounce.hold.HubCall.TheVariants as call
 use Rattle.busdma_base.specs.declared.bounce.hold.HubReply.{HubReply}
@@ -29,13 +26,11 @@ use Rattle.busdma_base.specs.Bounce.AccountStep.{as_pages}
 use Rattle.busdma_base.specs.Runs.{run_of}
 use Rattle.busdma_base.specs.Scenarios.Operations.{bytes_of}
 use Rattle.busdma_base.specs.Scenarios.Valid.{LoadsFrom}
-use Rattle.busdma_base.specs.Tags.Tag.{IsAccepted, IsEffective, is_accepted, is_alignment, is_boundary}
-use Rattle.busdma_base.specs.Tags.Tag.{is_power_of_two}
-use Rattle.busdma_base.specs.Tags.Tag.{segment_limit, rounded, inherit, effective, could_bounce}
+use Rattle.busdma_base.specs.Tags.Tag.{IsEffective}
+use Rattle.busdma_base.specs.Tags.Tag.{effective, could_bounce}
 use Rattle.busdma_base.specs.Tags.TagFlags.{allocnow}
+use Rattle.dma_tag.specs.MemFlags.{coherent}
 use Rattle.dma_tag.specs.SyncOps.{is_mixed}
-use Rattle.dma_tag.proofs.Effective.{IsEffective-rounded, IsEffective-inherit}
-use Rattle.dma_tag.proofs.Powers.{power_of_divisor}
 use Rattle.lane_agreement.specs.After.{addresses}
 use Rattle.lane_agreement.specs.View.{Return}
 use Rattle.lane_tables.specs.declared.queued.QueuedItem.{QueuedItem}
@@ -45,7 +40,8 @@ use Rattle.loan_table.specs.Loans.{loan_of, load_bytes}
 use Rattle.segment_build.specs.Building.{tag_placed, placed_pieces}
 use Rattle.segment_build.specs.Chunks.{need_of}
 use Rattle.segment_build.specs.Segmentation.{segmentation}
-use Rattle.ideal_lane.specs.State.{LaneState, LaneTag, LaneMap, Stage, Idle, Waiting, Loaded, Returning, named}
+use Rattle.ideal_lane.specs.State.{LaneState, LaneTag, LaneMap, LaneMemory, Stage, Idle, Waiting, Loaded, Returning}
+use Rattle.ideal_lane.specs.State.{named}
 use Rattle.ideal_lane.specs.Accesses.{cpu_read, cpu_write, dev_read, dev_write, values}
 use Rattle.ideal_lane.specs.Asking.{Asking, Gives, Asks, by_reply}
 use Rattle.ideal_lane.specs.Asking as asking
@@ -54,6 +50,7 @@ use Rattle.ideal_lane.specs.Loads.{Asked, asked, limits_of, chunks_for, loaded, 
 use Rattle.ideal_lane.specs.Loads.{load_chunks}
 use Rattle.ideal_lane.specs.Loads.{load, zone_of}
 use Rattle.ideal_lane.specs.Maps.{with_map, created, map, end_map, map_destroy, await}
+use Rattle.ideal_lane.specs.Memories.{dmamem, dmamem_free, placed, without_memory}
 use Rattle.ideal_lane.specs.Outcomes.{Outcome, gives, refused, unless_refused, unless_past, is_idle, load_length}
 use Rattle.ideal_lane.specs.Places.{virtual_at, reached, bytes_at}
 use Rattle.ideal_lane.specs.Syncs.{copies, counted, sync_part, sync, sync_range}
@@ -64,64 +61,9 @@ use Rattle.ideal_lane.specs.Turns as turns
 use Rattle.ideal_lane.specs.Unloads.{unload, restaged, given_back, after_return}
 use Rattle.ideal_lane.proofs.Lookups.{get_put, get_cut}
 use Rattle.ideal_wire.specs.Machine.{IsOfMachine, IsInMachine}
+use Rattle.ideal_wire.specs.NewRuns.{BringsNew}
+use Rattle.ideal_wire.proofs.EffectiveTags.{effective-alone, effective-below}
 use Rattle.ideal_wire.proofs.Refusing.{absent, judged, either, busy, unloaded, past}
-
--- ---- effective tags
-
--- a number that passes the test is a power of two
-power-tested : (n : ℕ) → is_power_of_two n ≡ true → IsPowerOfTwo n
-power-tested n h =
-    let parts = and_parts (nat_lt 0 n) (2 ^ 64 % n == 0) h in
-    let divides : 2 ^ 64 % n ≡ 0 = eqb-true (2 ^ 64 % n) 0 parts.1 in
-    let whole = div-add-mod' (2 ^ 64) n in
-    power_of_divisor 64 n (2 ^ 64 / n) (mul_comm n (2 ^ 64 / n) ∙ omega (arith, whole, divides))
-
-accepted-tested : (t : TagLimits) → is_accepted t ≡ true → IsAccepted t
-accepted-tested t test =
-    let parts = and_parts (is_alignment t.alignment && is_boundary t.boundary) (not (segment_limit t == 0)) test in
-    let limits = and_parts (is_alignment t.alignment) (is_boundary t.boundary) parts.0 in
-    let alignment = and_parts (is_power_of_two t.alignment) (nat_le t.alignment 4096) limits.0 in
-    let boundary = some-boundary t.boundary limits.1 in
-    record {
-      alignment_power = power-tested t.alignment alignment.0;
-      alignment_high = leb-true t.alignment 4096 alignment.1;
-      boundary_power = λ some. power-tested t.boundary (boundary some).0;
-      boundary_low = λ some. (boundary some).1;
-      maxsegsz = some-segment t parts.1;
-    }
-  where
-    some-boundary : (n : ℕ) → is_boundary n ≡ true → n ≢ 0 → (is_power_of_two n ≡ true) × (16 ≤ n)
-    some-boundary n taken some =
-        elim (or_cases (n == 0) (is_power_of_two n && nat_le 16 n) taken) [
-          | inl none ↦ absurd (some (eqb-true n 0 none))
-          | inr large ↦ let both = and_parts (is_power_of_two n) (nat_le 16 n) large in (both.0, leb-true 16 n both.1)
-        ]
-
-    some-segment : (t : TagLimits) → not (segment_limit t == 0) ≡ true → 1 ≤ t.maxsegsz
-    some-segment t h = grind (arith, nat_tests)
-
-normal-effective : (s t : TagLimits) → (b : Bool) → is_accepted s ≡ b → cond b (Some (rounded s)) None ≡ Some t →
-    IsEffective t
-normal-effective s t true e h =
-    let same : rounded s ≡ t = Rattle.ideal_wire.proofs.Positions.found_one (Some (rounded s)) (rounded s) t refl h in
-    subst IsEffective same (IsEffective-rounded s (accepted-tested s e))
-normal-effective s t false e h = absurd (cc)
-
-effective-alone : (s t : TagLimits) → effective None s ≡ Some t → IsEffective t
-effective-alone s t h = normal-effective s t (is_accepted s) refl h
-
-effective-below : (p s t : TagLimits) → IsEffective p → effective (Some p) s ≡ Some t → IsEffective t
-effective-below p s t parent h = by (is_accepted s) refl h
-  where
-    by : (b : Bool) → is_accepted s ≡ b → option_map (inherit p) (cond b (Some (rounded s)) None) ≡ Some t →
-        IsEffective t
-    by true e g =
-        let same : inherit p (rounded s) ≡ t =
-        Rattle.ideal_wire.proofs.Positions.found_one (Some (inherit p (rounded s))) (inherit p (rounded s)) t refl g in
-        subst IsEffective same (IsEffective-inherit p (rounded s) parent (IsEffective-rounded s (accepted-tested s e)))
-    by false e g = absurd (cc)
-
--- ---- steps
 
 -- a step that changes neither the machine nor a tag
 like-of : (k j : LaneState) → IsInMachine k → j.maxmem ≡ k.maxmem → j.pages ≡ k.pages → j.script ≡ k.script →
@@ -373,18 +315,83 @@ module _ (l : LaneState) (m : IsInMachine l) where
       (gives (record l { memory = written (load_bytes l.loans n off (length vs)) vs l.memory }) answer.Done)
       (λ allowed. write-keeps (load_bytes l.loans n off (length vs)) vs)))
 
-  operation-keeps : (o : Op) → Keeps (operation o l)
-  operation-keeps (op.Tag name parent limits) = tag-keeps parent limits
-  operation-keeps (op.TagDestroy t) = tag_destroy-keeps t
-  operation-keeps (op.Map name t) = map-keeps t
-  operation-keeps (op.MapDestroy n) = map_destroy-keeps n
-  operation-keeps (op.Load n x flags items) = buffer-keeps n x flags items
-  operation-keeps (op.Unload n) = unload-keeps n
-  operation-keeps (op.Sync n ops) = sync-keeps n ops
-  operation-keeps (op.SyncRange n off len ops) = sync_range-keeps n off len ops
-  operation-keeps (op.CpuRead place len) = cpu_read-keeps place len
-  operation-keeps (op.CpuWrite place bytes) = cpu_write-keeps place (bytes_of bytes)
-  operation-keeps (op.Await n) = await-keeps n
+  -- a reply brings no frames but new ones
+  abbrev KeepsNew : Asking Outcome → Type 0
+  KeepsNew o = (r : HubReply) → BringsNew l r → IsInMachine (by_reply o r).lane
+
+  always : (o : Asking Outcome) → Keeps o → KeepsNew o
+  always o h r new = h r
+
+  placed-keeps : (t : ℕ) (limits : TagLimits) (flags : ℕ) (r : HubReply) → BringsNew l r →
+      IsInMachine (placed t limits flags l r).lane
+  placed-keeps t limits flags (reply.Run first count) new = record {
+    numbered = m.numbered;
+    pages = m.pages;
+    mems = λ j x e. by j x (j == l.place) (sym (get_put l.mems l.place memory j) ∙ e);
+    tags = m.tags;
+    bios = m.bios;
+  }
+    where
+      memory : LaneMemory
+      memory = record { tag = t; first = first.0; count = count; len = limits.maxsize; coherent = coherent flags }
+
+      by : (j : ℕ) (x : LaneMemory) (b : Bool) → cond b (Some memory) (get l.mems j) ≡ Some x →
+          x.first + 4096 * x.count ≤ 4096 * l.maxmem
+      by j x true e =
+          let same : memory ≡ x = Rattle.ideal_wire.proofs.Positions.found_one (Some memory) memory x refl e in
+          subst (λ (y : LaneMemory). y.first + 4096 * y.count ≤ 4096 * l.maxmem) same new.below
+      by j x false e = m.mems j x e
+  placed-keeps t limits flags reply.Nothing new = m
+  placed-keeps t limits flags (reply.Grown g) new = m
+  placed-keeps t limits flags (reply.Granted pages) new = m
+  placed-keeps t limits flags (reply.Queued have) new = m
+  placed-keeps t limits flags reply.NoPages new = m
+  placed-keeps t limits flags (reply.Served n) new = m
+  placed-keeps t limits flags (reply.Called n pages) new = m
+  placed-keeps t limits flags reply.NoRun new = m
+
+  dmamem-keeps : (t flags : ℕ) → KeepsNew (dmamem t flags l)
+  dmamem-keeps t flags =
+      absent l KeepsNew (λ x r new. m) (get l.tags t) _ (λ o e. placed-keeps t o.limits flags)
+
+  without-keeps : (n : ℕ) (x : LaneMemory) → IsInMachine (without_memory n x l)
+  without-keeps n x = record {
+    numbered = m.numbered;
+    pages = m.pages;
+    mems = λ j y e. by j y (j == n) (sym (get_cut l.mems n j) ∙ e);
+    tags = m.tags;
+    bios = m.bios;
+  }
+    where
+      by : (j : ℕ) (y : LaneMemory) (b : Bool) → cond b None (get l.mems j) ≡ Some y →
+          y.first + 4096 * y.count ≤ 4096 * l.maxmem
+      by j y true e = absurd (cc)
+      by j y false e = m.mems j y e
+
+  dmamem_free-keeps : (n : ℕ) → Keeps (dmamem_free n l)
+  dmamem_free-keeps n =
+      absent l Keeps report (get l.mems n) _ (λ x there.
+      absent l Keeps report (get l.maps n) _ (λ o found.
+      either l Keeps report (is_idle o.stage) _ _ (λ i r. without-keeps n x) (λ i r. m)))
+
+  operation-keeps : (o : Op) → KeepsNew (operation o l)
+  operation-keeps (op.Tag name parent limits) =
+      always (operation (op.Tag name parent limits) l) (tag-keeps parent limits)
+  operation-keeps (op.TagDestroy t) = always (operation (op.TagDestroy t) l) (tag_destroy-keeps t)
+  operation-keeps (op.Map name t) = always (operation (op.Map name t) l) (map-keeps t)
+  operation-keeps (op.MapDestroy n) = always (operation (op.MapDestroy n) l) (map_destroy-keeps n)
+  operation-keeps (op.Dmamem name t flags) = dmamem-keeps t flags
+  operation-keeps (op.DmamemFree n) = always (operation (op.DmamemFree n) l) (dmamem_free-keeps n)
+  operation-keeps (op.Load n x flags items) =
+      always (operation (op.Load n x flags items) l) (buffer-keeps n x flags items)
+  operation-keeps (op.Unload n) = always (operation (op.Unload n) l) (unload-keeps n)
+  operation-keeps (op.Sync n ops) = always (operation (op.Sync n ops) l) (sync-keeps n ops)
+  operation-keeps (op.SyncRange n off len ops) =
+      always (operation (op.SyncRange n off len ops) l) (sync_range-keeps n off len ops)
+  operation-keeps (op.CpuRead place len) = always (operation (op.CpuRead place len) l) (cpu_read-keeps place len)
+  operation-keeps (op.CpuWrite place bytes) =
+      always (operation (op.CpuWrite place bytes) l) (cpu_write-keeps place (bytes_of bytes))
+  operation-keeps (op.Await n) = always (operation (op.Await n) l) (await-keeps n)
 
   transfer-keeps : (i : Item) → Keeps (transfer i l)
   transfer-keeps (item.Sync n ops) = sync-keeps n ops
@@ -394,20 +401,22 @@ module _ (l : LaneState) (m : IsInMachine l) where
 
   -- ---- the turn
   abbrev Turns : Asking Turned → Type 0
-  Turns t = (r : HubReply) → IsInMachine (by_reply t r).lane
+  Turns t = (r : HubReply) → BringsNew l r → IsInMachine (by_reply t r).lane
 
-  goes-on : (place : ℕ) (o : Asking Outcome) → Keeps o → Turns (asking.goes_on (turns.advanced place) o)
-  goes-on place (Gives x) h r = like-of x.lane (record x.lane { place = place + 1 }) (h r) refl refl refl refl refl
-  goes-on place (Asks c k) h r =
-      like-of (k r).lane (record (k r).lane { place = place + 1 }) (h r) refl refl refl refl refl
+  goes-on : (place : ℕ) (o : Asking Outcome) → KeepsNew o → Turns (asking.goes_on (turns.advanced place) o)
+  goes-on place (Gives x) h r new =
+      like-of x.lane (record x.lane { place = place + 1 }) (h r new) refl refl refl refl refl
+  goes-on place (Asks c k) h r new =
+      like-of (k r).lane (record (k r).lane { place = place + 1 }) (h r new) refl refl refl refl refl
 
   leaves : (q : QueuedItem) (rest : List QueuedItem) (o : Asking Outcome) → Keeps o →
       Turns (asking.goes_on (turns.left_queue q rest) o)
-  leaves q rest (Gives x) h r = like-of x.lane (record x.lane { queue = rest }) (h r) refl refl refl refl refl
-  leaves q rest (Asks c k) h r = like-of (k r).lane (record (k r).lane { queue = rest }) (h r) refl refl refl refl refl
+  leaves q rest (Gives x) h r new = like-of x.lane (record x.lane { queue = rest }) (h r) refl refl refl refl refl
+  leaves q rest (Asks c k) h r new =
+      like-of (k r).lane (record (k r).lane { queue = rest }) (h r) refl refl refl refl refl
 
   nothing : (t : turns.Turn) → Turns (Gives (turns.stays t l))
-  nothing t r = m
+  nothing t r new = m
 
   next-keeps : (o : Option Op) → Turns (turns.next_operation o l)
   next-keeps None = nothing turns.Ended
@@ -429,7 +438,7 @@ module _ (l : LaneState) (m : IsInMachine l) where
           refl
 
   release-keeps : (x : Return) (rest : List Return) → Turns (turns.release x rest l)
-  release-keeps x rest r = given-keeps x rest
+  release-keeps x rest r new = given-keeps x rest
 
   script-keeps : (rs : List Return) → Turns (turns.script_turn rs l)
   script-keeps [] = next-keeps (slice_get l.script l.place)
@@ -452,15 +461,15 @@ module _ (l : LaneState) (m : IsInMachine l) where
       by Returning = m
 
   callback-keeps : Turns (turns.callback_turn l)
-  callback-keeps (reply.Called n pages) = called-keeps n.made_at (get l.maps n.made_at) (addresses pages)
-  callback-keeps reply.Nothing = m
-  callback-keeps (reply.Grown g) = m
-  callback-keeps (reply.Granted pages) = m
-  callback-keeps (reply.Queued have) = m
-  callback-keeps reply.NoPages = m
-  callback-keeps (reply.Served n) = m
-  callback-keeps (reply.Run first count) = m
-  callback-keeps reply.NoRun = m
+  callback-keeps (reply.Called n pages) new = called-keeps n.made_at (get l.maps n.made_at) (addresses pages)
+  callback-keeps reply.Nothing new = m
+  callback-keeps (reply.Grown g) new = m
+  callback-keeps (reply.Granted pages) new = m
+  callback-keeps (reply.Queued have) new = m
+  callback-keeps reply.NoPages new = m
+  callback-keeps (reply.Served n) new = m
+  callback-keeps (reply.Run first count) new = m
+  callback-keeps reply.NoRun new = m
 
   pub turn-keeps : (s : Side) → Turns (lane_step l s)
   turn-keeps side.Script = script-keeps l.returns

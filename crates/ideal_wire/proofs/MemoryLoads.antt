@@ -1,7 +1,8 @@
 -- What a load of a memory's own map asks can end without pages.
 use Rattle.std.proofs.Common.{◌≡◌, ℕ, ◌+◌, ◌-◌, ◌*◌, ◌<◌, ◌≤◌, ◌==◌, ◌&&◌, not, Bool, true, false, cond}
 use Rattle.std.proofs.Common.{List, [], ◌∷◌, map, length, zero, suc, Some, None, slice_get, is_some, append-nil}
-use Rattle.std.proofs.Common.{refl, ap, sym, ◌∙◌, subst, arith, nat_le, nat_lt, unwrap_or}
+use Rattle.std.proofs.Common.{refl, ap, sym, ◌∙◌, subst, arith, nat_le, nat_lt, unwrap_or, length-append}
+use Rattle.std.proofs.lemmas.List.Sums.{sum_by-cons}
 use Rattle.std.proofs.lemmas.Bool.{and_parts, ltb-true, le-leb, lt-ltb, eqb-true, false≢true, le-ltb}
 use Rattle.std.specs.FinMap.{get, contains_key}
 use Rattle.std.specs.List.{AllByRecursion}
@@ -13,18 +14,20 @@ use Rattle.busdma_base.specs.declared.machine.chunk.Entry.{Entry}
 use Rattle.busdma_base.specs.declared.scenarios.scenario.PageRun.{PageRun}
 use Rattle.busdma_base.specs.declared.tags.tag.TagLimits.{TagLimits}
 use Rattle.busdma_base.specs.Bounce.MemoryRuns.{in_run}
-use Rattle.busdma_base.specs.Machine.Entry.{entries_addresses}
+use Rattle.busdma_base.specs.Machine.Entry.{IsEntry, entries_addresses}
 use Rattle.busdma_base.specs.Machine.PageRuns.{is_in_run, pages_end, physical_in}
 use Rattle.busdma_base.specs.Runs.{run_of}
 use Rattle.busdma_base.specs.Tags.Tag.{IsEffective}
 use Rattle.phys_memory.specs.Extents.{reached}
 use Rattle.phys_memory.specs.Translation.{physical_or_0}
-use Rattle.busdma_base.specs.Machine.Spans.{one_span, span_addresses}
+use Rattle.busdma_base.specs.Machine.Spans.{bio_spans, one_span, span_addresses, span_bytes}
 use Rattle.phys_memory.specs.Vector.{entries_of, with_entry}
 use Rattle.phys_memory.proofs.Extents.{reached_extents}
 use Rattle.phys_memory.proofs.Vectors.{entries_are}
 use Rattle.segment_build.specs.Chunks.{chunks_of, need_of}
-use Rattle.ideal_lane.specs.Loads.{chunks_for, is_foreign_to, limits_of, load_entries, load_judged, one_entry}
+use Rattle.segment_build.proofs.Places.{run_length}
+use Rattle.ideal_lane.specs.Loads.{chunks_for, is_foreign_to, limits_of, load_addresses, load_entries, load_judged}
+use Rattle.ideal_lane.specs.Loads.{one_entry}
 use Rattle.ideal_lane.specs.Places.{begin_of, or_in_memory, physical}
 use Rattle.ideal_lane.specs.Standing.{Stands}
 use Rattle.ideal_lane.specs.State.{LaneState, LaneMap, LaneMemory}
@@ -38,7 +41,7 @@ use Rattle.ideal_wire.proofs.Reaching.{AllReached, all-from, all-reached, each-b
 use Rattle.ideal_wire.proofs.Reaching.{reached-run, with-bytes}
 
 -- a tag whose alignment is 1 is as effective
-unaligned : (t : TagLimits) → IsEffective t → IsEffective (record t { alignment = 1 })
+pub unaligned : (t : TagLimits) → IsEffective t → IsEffective (record t { alignment = 1 })
 unaligned t e = record {
   alignment_power = (0, refl);
   alignment_low = omega arith;
@@ -67,14 +70,34 @@ no-page maxmem (r ∷ runs) va all high =
         ap (λ b. nat_le r.va.0 va && b) (le-ltb va (r.va.0 + 4096 * r.count) end) ∙ off (nat_le r.va.0 va)
 
 -- bytes that stand at their places from a first one on are a run
+run-of-map : (f : ℕ → ℕ) (begin : ℕ) (vas : List ℕ) →
+    ((k va : ℕ) → slice_get vas k ≡ Some va → f va ≡ begin + k) → map f vas ≡ run_of begin (length vas)
+run-of-map f begin [] h = refl
+run-of-map f begin (va ∷ vas) h =
+    let first : f va ≡ begin = h 0 va refl ∙ omega arith in
+    let rest : map f vas ≡ run_of (begin + 1) (length vas) =
+    run-of-map f (begin + 1) vas (λ k x e. h (suc k) x e ∙ omega arith) in
+    λ i. first i ∷ rest i
+
+same-map : (vas : List ℕ) → map (λ va. va) vas ≡ vas
+same-map [] = refl
+same-map (va ∷ vas) = ap (λ xs. va ∷ xs) (same-map vas)
+
 run-of-places : (begin : ℕ) (vas : List ℕ) → ((k va : ℕ) → slice_get vas k ≡ Some va → va ≡ begin + k) →
     vas ≡ run_of begin (length vas)
-run-of-places begin [] h = refl
-run-of-places begin (va ∷ vas) h =
-    let first : va ≡ begin = h 0 va refl ∙ omega arith in
-    let rest : vas ≡ run_of (begin + 1) (length vas) =
-    run-of-places (begin + 1) vas (λ k x e. h (suc k) x e ∙ omega arith) in
-    λ i. first i ∷ rest i
+run-of-places begin vas h = sym (same-map vas) ∙ run-of-map (λ va. va) begin vas h
+
+-- spans have as many bytes as they say
+count-spans : (spans : List Span) → length (span_addresses spans) ≡ span_bytes spans
+count-spans [] = refl
+count-spans (s ∷ ss) =
+    omega (
+      arith,
+      length-append (run_of s.va.0 s.len) (span_addresses ss),
+      run_length s.va.0 s.len,
+      count-spans ss,
+      sum_by-cons (λ (x : Span). x.len) s ss,
+    )
 
 module _ (l : LaneState) (laid : AreLaid l) (machine : IsInMachine l) (stands : Stands l) (m : ℕ) (o : LaneMap)
     (there : get l.maps m ≡ Some o) (y : LaneMemory) (memory : get l.mems m ≡ Some y) where
@@ -92,6 +115,7 @@ module _ (l : LaneState) (laid : AreLaid l) (machine : IsInMachine l) (stands : 
     -- each byte is the memory's, at its place
     record IsOwn (k va : ℕ) : Type 0 where
       pub place : va ≡ begin_of y + k
+      pub physical_is : physical_or_0 (physical l) va ≡ y.first + k
       pub loadable : is_loadable (get l.mems m) l (physical_or_0 (physical l) va) ≡ true
 
     own-byte : (k va : ℕ) → slice_get vas k ≡ Some va → IsOwn k va
@@ -120,6 +144,7 @@ module _ (l : LaneState) (laid : AreLaid l) (machine : IsInMachine l) (stands : 
             ) refl in
             record {
               place = is;
+              physical_is = ap (λ q. unwrap_or q 0) at ∙ place;
               loadable =
                   ap (λ q. is_loadable q l (physical_or_0 (physical l) va)) memory
                   ∙ ap (λ q. in_run y.first y.count (unwrap_or q 0)) at ∙ here;
@@ -137,7 +162,13 @@ module _ (l : LaneState) (laid : AreLaid l) (machine : IsInMachine l) (stands : 
         (all-map (physical_or_0 (physical l)) (λ a. is_loadable (get l.mems m) l a ≡ true) vas
         (all-from _ vas (λ k va e. (own-byte k va e).loadable)))
 
-    -- together they are one span
+    -- together they are the first bytes of the memory
+    first-bytes : entries_addresses es ≡ run_of y.first (span_bytes spans)
+    first-bytes =
+        are-bytes ∙ run-of-map (physical_or_0 (physical l)) y.first vas (λ k va e. (own-byte k va e).physical_is)
+        ∙ ap (run_of y.first) (count-spans spans)
+
+    -- and one span
     abbrev one : List Span
     one = one_span (begin_of y) (length vas)
 
@@ -170,6 +201,11 @@ module _ (l : LaneState) (laid : AreLaid l) (machine : IsInMachine l) (stands : 
         (reached_extents (λ p. Unit {0}) (physical l) (paged l laid machine) (begin_of y) (length vas)).bytes
         ∙ append-nil pas ∙ sym run-bytes
 
+    one-lies : AllByRecursion IsEntry (one_entry es)
+    one-lies =
+        subst (AllByRecursion IsEntry) (sym one-entry)
+        (entries_are (λ p. Unit {0}) true (physical l) (paged l laid machine) one)
+
     no-need : need_of (chunks_of (record t { alignment = 1 }) 0 together) ≡ 0
     no-need =
         let s = stands.each m o there in
@@ -196,6 +232,38 @@ module _ (l : LaneState) (laid : AreLaid l) (machine : IsInMachine l) (stands : 
   no-frames frames off n fine =
       let r = each-byte l m (Unmapped frames off (suc n)) fine 0 off refl in
       false≢true (sym r.2 ∙ ap is_some memory)
+
+  pub memory-bytes : (b : Bio) → load_judged l m b ≡ Fine →
+      entries_addresses (load_entries l b) ≡ run_of y.first (span_bytes (bio_spans b))
+  memory-bytes (Mapped span) fine = first-bytes (span ∷ []) fine
+  memory-bytes (Vector spans) fine = first-bytes spans fine
+  memory-bytes (Unmapped frames off zero) fine =
+      let none : 0 ≡ span_bytes (one_span off 0) = count-spans (one_span off 0) in ap (run_of y.first) none
+  memory-bytes (Unmapped frames off (suc n)) fine = absurd (no-frames frames off n fine)
+
+  -- so the load's bytes are the memory's first ones
+  pub memory-addresses : (b : Bio) → load_judged l m b ≡ Fine →
+      load_addresses l b ≡ run_of y.first (span_bytes (bio_spans b))
+  memory-addresses (Mapped span) fine = sym (are-bytes (span ∷ []) fine) ∙ first-bytes (span ∷ []) fine
+  memory-addresses (Vector spans) fine = sym (are-bytes spans fine) ∙ first-bytes spans fine
+  memory-addresses (Unmapped frames off zero) fine =
+      let none : 0 ≡ span_bytes (one_span off 0) = count-spans (one_span off 0) in ap (run_of y.first) none
+  memory-addresses (Unmapped frames off (suc n)) fine = absurd (no-frames frames off n fine)
+
+  -- one entry has them, and lies in frames
+  pub one-bytes : (b : Bio) → load_judged l m b ≡ Fine →
+      entries_addresses (one_entry (load_entries l b)) ≡ entries_addresses (load_entries l b)
+  one-bytes (Mapped span) fine = ap entries_addresses (one-entry (span ∷ []) fine) ∙ same-bytes (span ∷ []) fine
+  one-bytes (Vector spans) fine = ap entries_addresses (one-entry spans fine) ∙ same-bytes spans fine
+  one-bytes (Unmapped frames off zero) fine = refl
+  one-bytes (Unmapped frames off (suc n)) fine = absurd (no-frames frames off n fine)
+
+  pub memory-entries : (b : Bio) → load_judged l m b ≡ Fine →
+      AllByRecursion IsEntry (one_entry (load_entries l b))
+  memory-entries (Mapped span) fine = one-lies (span ∷ []) fine
+  memory-entries (Vector spans) fine = one-lies spans fine
+  memory-entries (Unmapped frames off zero) fine = tt
+  memory-entries (Unmapped frames off (suc n)) fine = absurd (no-frames frames off n fine)
 
   pub memory-ready : (b : Bio) → load_judged l m b ≡ Fine →
       IsReady l m t (load_entries l b) (chunks_for l o true (load_entries l b)) []

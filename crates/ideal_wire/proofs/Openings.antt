@@ -52,6 +52,7 @@ opens-laid id maxmem driver = record {
   owned = λ a own. there a own;
   only = λ a there. ∣ OfPages (own (is_own driver.pages a) there) ∣₁;
   runs = λ k x e. no_memory k x e;
+  reached = λ k x o e f. no_memory k x e;
   each = λ m. by m (get (empty {X = LaneMap} {R = nat_cmp}) m) (get-empty nat_cmp m);
 }
   where

@@ -47,7 +47,7 @@ use Rattle.ideal_wire.specs.Machine.{IsInMachine}
 use Rattle.ideal_wire.specs.Served.{AreServed, KeepsServed}
 use Rattle.ideal_wire.proofs.Accepting.{limits-effective}
 use Rattle.ideal_wire.proofs.KeptMaps.{KeepsMaps, Still, await-kept, back-kept, called-kept, cpu_read-kept}
-use Rattle.ideal_wire.proofs.KeptMaps.{cpu_write-kept}
+use Rattle.ideal_wire.proofs.KeptMaps.{cpu_write-kept, dmamem-kept, dmamem_free-kept}
 use Rattle.ideal_wire.proofs.KeptMaps.{dev_read-kept, dev_write-kept, load-kept, map_destroy-kept, new-map, report}
 use Rattle.ideal_wire.proofs.KeptMaps.{same}
 use Rattle.ideal_wire.proofs.KeptMaps.{sync-kept, sync_range-kept, tag-kept, tag_destroy-kept, unload-kept}
@@ -181,6 +181,9 @@ module _ (l : LaneState) (stands : Stands l) (a : Account) (machine : IsInMachin
   operation-served (op.TagDestroy t) = always (operation (op.TagDestroy t) l) (tag_destroy-kept l stands t)
   operation-served (op.Map name t) = map-served t
   operation-served (op.MapDestroy m) = always (operation (op.MapDestroy m) l) (map_destroy-kept l stands m)
+  operation-served (op.Dmamem name t flags) =
+      always (operation (op.Dmamem name t flags) l) (dmamem-kept l stands t flags)
+  operation-served (op.DmamemFree m) = always (operation (op.DmamemFree m) l) (dmamem_free-kept l stands m)
   operation-served (op.Load m x flags items) =
       always (operation (op.Load m x flags items) l)
       (absent l (Still l stands) (report l stands) (bio_at l x) _ (λ b e.

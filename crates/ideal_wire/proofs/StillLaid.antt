@@ -24,19 +24,19 @@ use Rattle.loan_table.proofs.Marking.{addresses_of-synced}
 use Rattle.ideal_lane.specs.Accesses.{cpu_read, cpu_write, dev_read, dev_write, values}
 use Rattle.ideal_lane.specs.Asking.{Asking, Asks, by_reply}
 use Rattle.ideal_lane.specs.IdealMemory.{is_known, forgotten, written}
-use Rattle.ideal_lane.specs.Loads.{emptied, no_limits, staged, unpaged}
+use Rattle.ideal_lane.specs.Loads.{emptied, limits_of, no_limits, staged, unpaged}
 use Rattle.ideal_lane.specs.Maps.{created, map, end_map, map_destroy, await, with_map}
 use Rattle.ideal_lane.specs.Outcomes.{Outcome, gives, refused, is_idle, is_loaded, load_length, unless_past}
 use Rattle.ideal_lane.specs.Places.{virtual_at, reached, bytes_at}
 use Rattle.ideal_lane.specs.Standing.{Stands}
-use Rattle.ideal_lane.specs.State.{LaneState, LaneTag, LaneMap, Stage, Idle, Waiting, Loaded, Returning}
+use Rattle.ideal_lane.specs.State.{LaneState, LaneTag, LaneMap, LaneMemory, Stage, Idle, Waiting, Loaded, Returning}
 use Rattle.ideal_lane.specs.Syncs.{copies, counted, sync_part, sync, sync_range}
 use Rattle.ideal_lane.specs.Tags.{with_tag, attached, tag_or_invalid, tag, tag_destroy, has_maps}
 use Rattle.ideal_lane.specs.Unloads.{unload, unlent, pages_of, restaged, given_back, after_return}
 use Rattle.ideal_lane.proofs.Lookups.{get_put}
 use Rattle.ideal_wire.specs.Laid.{LiesIn, AreLaid}
 use Rattle.ideal_wire.specs.Traces.{stage_in, stage_at}
-use Rattle.ideal_wire.proofs.Alike.{KeepsRest, IsAlike, none-changed, one-changed}
+use Rattle.ideal_wire.proofs.Alike.{KeepsLimits, KeepsRest, IsAlike, none-changed, one-changed}
 use Rattle.ideal_wire.proofs.KeptTags.{KeepsTags, cut-off, cut-there, keeps-put, new-tag, put-off, put-there, untagged}
 use Rattle.ideal_wire.proofs.Positions.{found_one}
 use Rattle.ideal_wire.proofs.Refusing.{absent, judged, either, unloaded, past}
@@ -102,12 +102,30 @@ module _ (l : LaneState) (laid : AreLaid l) where
   like l' rest tags maps loans =
       none-changed l l' rest laid (λ n. kept-map l l' n tags (λ i. loan_of (loans i) n) (λ i. get (maps i) n))
 
-  -- one map has another stage, and lends as it lent
+  -- a map of this tag was there
+  abbrev pub HadTag : ℕ → ℕ → Type 0
+  HadTag m t = (o : LaneMap) × (get l.maps m ≡ Some o) × (o.tag ≡ t)
+
+  -- what the tag of a map says stays, where the map that comes has the tag of the one that was there
+  pub put-limits : (l' : LaneState) → KeepsTags l l' → (m : ℕ) (x : LaneMap) → get l'.maps m ≡ Some x →
+      HadTag m x.tag → KeepsLimits l l' m
+  put-limits l' tags m x now had o' at =
+      let same : x ≡ o' = found_one (get l'.maps m) x o' now at in (
+        had.0,
+        had.1,
+        sym (ap (limits_of l') same)
+            ∙ sym (ap (λ t. unwrap_or (option_map (λ (g : LaneTag). g.limits) (get l'.tags t)) no_limits) had.2)
+            ∙ tags m had.0 had.1,
+      )
+
+  -- one map has another stage, and lends as it lent; a memory's has its tag
   pub put : (l' : LaneState) → KeepsRest l l' → KeepsTags l l' → (m : ℕ) (x : LaneMap) → l'.maps ≡ insert l.maps m x →
-      l'.loans ≡ l.loans → LiesIn l' m x.stage → AreLaid l'
-  put l' rest tags m x maps loans here =
+      l'.loans ≡ l.loans → ((y : LaneMemory) → get l.mems m ≡ Some y → HadTag m x.tag) → LiesIn l' m x.stage →
+      AreLaid l'
+  put l' rest tags m x maps loans had here =
       one-changed l l' rest laid m
       (λ n off. kept-map l l' n tags (λ i. loan_of (loans i) n) ((λ i. get (maps i) n) ∙ put-off l.maps m n x off))
+      (λ y there. put-limits l' tags m x ((λ i. get (maps i) m) ∙ put-there l.maps m x) (had y there))
       (subst (LiesIn l' m) (sym ((λ i. stage_in (get (maps i) m)) ∙ ap stage_in (put-there l.maps m x))) here)
 
   cut : (l' : LaneState) → KeepsRest l l' → KeepsTags l l' → (m : ℕ) → l'.maps ≡ remove l.maps m →
@@ -115,6 +133,8 @@ module _ (l : LaneState) (laid : AreLaid l) where
   cut l' rest tags m maps loans none =
       one-changed l l' rest laid m
       (λ n off. kept-map l l' n tags (λ i. loan_of (loans i) n) ((λ i. get (maps i) n) ∙ cut-off l.maps m n off))
+      (λ y there o' at.
+      let gone : None ≡ Some o' = sym ((λ i. get (maps i) m) ∙ cut-there l.maps m) ∙ at in absurd (cc))
       (subst (LiesIn l' m) (sym ((λ i. stage_in (get (maps i) m)) ∙ ap stage_in (cut-there l.maps m)))
       ((λ i. loan_of (loans i) m) ∙ none))
 
@@ -223,24 +243,25 @@ module _ (l : LaneState) (laid : AreLaid l) where
   emptied-lies l' m (p ∷ ps) none = none
 
   -- a map stands with no load
-  pub staged-still : (m : ℕ) (o : LaneMap) → loan_of l.loans m ≡ no_loan → AreLaid (staged m o Idle l)
-  staged-still m o none =
+  pub staged-still : (m : ℕ) (o : LaneMap) → get l.maps m ≡ Some o → loan_of l.loans m ≡ no_loan →
+      AreLaid (staged m o Idle l)
+  staged-still m o there none =
       put (staged m o Idle l) (record { script = refl; pages = refl; maxmem = refl; own = λ a. refl; mems = refl })
-      (λ n x e. refl) m (record o { tried = true; stage = Idle }) refl refl none
+      (λ n x e. refl) m (record o { tried = true; stage = Idle }) refl refl (λ y e. (o, there, refl)) none
 
-  pub unpaged-still : (m : ℕ) (o : LaneMap) (pages : List ℕ) → loan_of l.loans m ≡ no_loan →
+  pub unpaged-still : (m : ℕ) (o : LaneMap) (pages : List ℕ) → get l.maps m ≡ Some o → loan_of l.loans m ≡ no_loan →
       AreLaid (unpaged m o pages l)
-  unpaged-still m o pages none =
+  unpaged-still m o pages there none =
       put (unpaged m o pages l) (record { script = refl; pages = refl; maxmem = refl; own = λ a. refl; mems = refl })
-      (λ n x e. refl) m (record o { tried = true; stage = emptied pages }) refl refl
+      (λ n x e. refl) m (record o { tried = true; stage = emptied pages }) refl refl (λ y e. (o, there, refl))
       (emptied-lies (unpaged m o pages l) m pages none)
 
   pub unload-still : (m : ℕ) → Still (unload m l)
   unload-still m =
-      unloaded l Still report m _ (λ o e i r. by o)
+      unloaded l Still report m _ (λ o e i r. by o e)
     where
-      by : (o : LaneMap) → AreLaid (unpaged m o (pages_of o.stage) (unlent m l))
-      by o =
+      by : (o : LaneMap) → get l.maps m ≡ Some o → AreLaid (unpaged m o (pages_of o.stage) (unlent m l))
+      by o there =
           one-changed l after (record {
             script = refl;
             pages = refl;
@@ -250,6 +271,7 @@ module _ (l : LaneState) (laid : AreLaid l) where
           }) laid m
           (λ n off. kept-map l after n (λ k x e. refl) (ap (λ y. unwrap_or y no_loan) (cut-off l.loans m n off))
           (put-off l.maps m n new off))
+          (λ y e. put-limits after (λ k x f. refl) m new (put-there l.maps m new) (o, there, refl))
           (subst (LiesIn after m) (sym (ap stage_in (put-there l.maps m new)))
           (emptied-lies after m (pages_of o.stage) (ap (λ y. unwrap_or y no_loan) (cut-there l.loans m))))
         where
@@ -278,7 +300,7 @@ module _ (l : LaneState) (laid : AreLaid l) where
           let new : LaneMap = record o { stage = after_return x.map rest } in
           let after : LaneState = record l { maps = insert l.maps x.map new; returns = rest } in
           put after (record { script = refl; pages = refl; maxmem = refl; own = λ a. refl; mems = refl })
-          (λ n o e. refl) x.map new refl refl
+          (λ n o e. refl) x.map new refl refl (λ y f. (o, e, refl))
           (stage-lies after (returning x.map rest == 0) (no-loan x.map o e (off o e)))
 
   -- ---- tags and maps
@@ -329,6 +351,11 @@ module _ (l : LaneState) (laid : AreLaid l) where
     none-here : loan_of l.loans l.place ≡ no_loan
     none-here = no-loan-in l.place Idle (ap stage_in (stands.no_map l.place (omega arith))) refl
 
+    -- so no memory was
+    no-memory-here : (t : ℕ) (y : LaneMemory) → get l.mems l.place ≡ Some y → HadTag l.place t
+    no-memory-here t y e =
+        let none : get l.mems l.place ≡ None = stands.no_memory l.place (omega arith) in absurd (cc)
+
     abbrev new-map : ℕ → Option ℕ → LaneMap
     new-map t zone = record { tag = t; zone = zone; tried = false; stage = Idle }
 
@@ -343,7 +370,7 @@ module _ (l : LaneState) (laid : AreLaid l) where
             put made (record { script = refl; pages = refl; maxmem = refl; own = λ a. refl; mems = refl })
             (keeps-put l stands made t (record { limits = o.limits; first_done = true }) refl
             (λ g e. ap (λ (x : LaneTag). x.limits) (found_one (get l.tags t) g o e there)))
-            l.place (new-map t (Some g.zone.0)) refl refl none-here
+            l.place (new-map t (Some g.zone.0)) refl refl (no-memory-here t) none-here
         by false = laid
     created-still t o there reply.Nothing = laid
     created-still t o there (reply.Granted pages) = laid
@@ -359,7 +386,7 @@ module _ (l : LaneState) (laid : AreLaid l) where
         absent l Still report (get l.tags t) _ (λ o e.
         either l Still report (could_bounce o.limits l.maxmem) _ _ (λ b r. created-still t o e r) (λ b r.
         put (with_map t None l) (record { script = refl; pages = refl; maxmem = refl; own = λ a. refl; mems = refl })
-        (λ n x e. refl) l.place (new-map t None) refl refl none-here))
+        (λ n x e. refl) l.place (new-map t None) refl refl (no-memory-here t) none-here))
 
   end-still : (m : ℕ) (zone : Option ℕ) → loan_of l.loans m ≡ no_loan → Still (end_map m zone l)
   end-still m None none r =

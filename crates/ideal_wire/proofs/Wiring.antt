@@ -30,7 +30,7 @@ use Rattle.ideal_wire.specs.Centre.{IsFaithful, Agrees}
 use Rattle.ideal_wire.specs.Laid.{AreLaid}
 use Rattle.ideal_wire.specs.Traces.{stage_at, placed_from, traces_of}
 use Rattle.ideal_wire.specs.WireStep as wire
-use Rattle.ideal_wire.specs.WireStep.{if_done, Follows, IsRead, place_bytes, load_buses}
+use Rattle.ideal_wire.specs.WireStep.{if_done, BringsKnown, IsRead, KeepsOwn, KeepsPages, place_bytes, load_buses}
 use Rattle.ideal_wire.proofs.Carried.{AreBused, are-bused, carried, same-carries}
 use Rattle.ideal_wire.proofs.FaithfulAccess.{cpu_read_of, reached_own, cpu_written, dev_read_of, dev_written}
 use Rattle.ideal_wire.proofs.FaithfulRanges.{by_map}
@@ -70,26 +70,32 @@ module _ (l : LaneState) (w : Wire) (apart : IsApart l) (laid : AreLaid l) (f : 
     agrees = f.agrees;
   }
 
-  -- the wire is faithful after it whatever came
+  -- the wire is faithful after it whatever came and went
   abbrev pub Stays : Wire → Asking Outcome → Type 0
-  Stays now o = (r : HubReply) (w' : Wire) → Follows l (by_reply o r).lane (if_done o now w) w' →
-      IsFaithful (by_reply o r).lane w'
+  Stays now o = (r : HubReply) (w' : Wire) → KeepsOwn l.memory (by_reply o r).lane.memory (if_done o now w) w' →
+      KeepsPages l.maps (by_reply o r).lane.maps (if_done o now w) w' → IsFaithful (by_reply o r).lane w'
+
+  -- no byte came to a driver that is the same
+  nothing-came : (k : LaneState) (w' : Wire) → BringsKnown k.memory k.memory w'
+  nothing-came k w' a v none is = let gone : None ≡ Some (Known v) = sym none ∙ is in absurd (cc)
 
   report-stays : (now : Wire) (x : _) → Stays now (gives l (answer.Report x))
-  report-stays now x r w' h =
-      carried l l w w' (are-bused l laid) f (same-carries l l f.exclusive refl refl (λ n i p at. refl)) h
+  report-stays now x r w' kept pages =
+      carried l l w w' (are-bused l laid) f (same-carries l l f.exclusive refl refl (λ n i p at. refl))
+      (record { own = kept; pages = pages; known = nothing-came l w' })
 
   -- a step leaves the maps as they were, the traces of loads, and which bytes are the driver's own
   done : (l' : LaneState) (now w' : Wire) → l'.maps ≡ l.maps → traces_of l' ≡ traces_of l →
-      ((b : ℕ) → is_some (l'.memory b) ≡ is_some (l.memory b)) → IsFaithful l' now → Follows l l' now w' →
-      IsFaithful l' w'
-  done l' now w' maps traces mine g h =
-      carried l' l' now w' bused g (same-carries l' l' g.exclusive refl refl (λ n i p at. refl)) (
-        λ b x y. h.0 b (sym (mine b) ∙ x) y,
-        λ m b x y. h.1 m b
+      ((b : ℕ) → is_some (l'.memory b) ≡ is_some (l.memory b)) → IsFaithful l' now →
+      KeepsOwn l.memory l'.memory now w' → KeepsPages l.maps l'.maps now w' → IsFaithful l' w'
+  done l' now w' maps traces mine g kept pages =
+      carried l' l' now w' bused g (same-carries l' l' g.exclusive refl refl (λ n i p at. refl)) (record {
+        own = λ b x y. kept b (sym (mine b) ∙ x) y;
+        pages = λ m b x y. pages m b
             (sym (λ i. Rattle.ideal_wire.specs.Traces.is_in_pages (Rattle.ideal_lane.specs.Unloads.pages_of
-            (Rattle.ideal_wire.specs.Traces.stage_in (Rattle.std.specs.FinMap.get (maps i) m))) b) ∙ x) y,
-      )
+            (Rattle.ideal_wire.specs.Traces.stage_in (Rattle.std.specs.FinMap.get (maps i) m))) b) ∙ x) y;
+        known = nothing-came l' w';
+      })
     where
       bused : AreBused l'
       bused m i t at =
@@ -126,9 +132,9 @@ module _ (l : LaneState) (w : Wire) (apart : IsApart l) (laid : AreLaid l) (f : 
         (unless_refused (sync_answer l.loans m off len ops) l (gives (after_sync l o) answer.Done))
         (λ mixed. report-stays now (record { name = MixedSync; at = 0 }))
         (λ alone. judged l (Stays now) (report-stays now) (sync_answer l.loans m off len ops)
-        (gives (after_sync l o) answer.Done) (λ fine r w' h.
+        (gives (after_sync l o) answer.Done) (λ fine r w' kept pages.
         done (after_sync l o) now w' refl traces
-        (own-forgotten (lost l.loans m off len ops) l.memory) (synced fine alone) h))
+        (own-forgotten (lost l.loans m off len ops) l.memory) (synced fine alone) kept pages))
       where
         now : Wire
         now = wire.synced m off len ops l w
@@ -165,9 +171,9 @@ module _ (l : LaneState) (w : Wire) (apart : IsApart l) (laid : AreLaid l) (f : 
   writes-stay : (bytes vs : List ℕ) (now : Wire) →
       Faithful (own l laid apart) (record l { memory = written bytes vs l.memory }) (traces_of l) now →
       Stays now (gives (record l { memory = written bytes vs l.memory }) answer.Done)
-  writes-stay bytes vs now g r w' h =
+  writes-stay bytes vs now g r w' kept pages =
       done (record l { memory = written bytes vs l.memory }) now w' refl refl (own-written bytes vs l.memory)
-      (record { exclusive = g.exclusive; agrees = g.agrees }) h
+      (record { exclusive = g.exclusive; agrees = g.agrees }) kept pages
 
   pub cpu_write-stays : (place : Place) (vs : List ℕ) →
       Stays (put (place_bytes l place (length vs)) vs w) (cpu_write place vs l)

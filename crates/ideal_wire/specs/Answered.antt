@@ -1,5 +1,5 @@
 -- The load that a step ends, and that the segments which it answers are the load's.
-use Rattle.std.specs.Prelude.{◌≡◌, ℕ, false, List, [], Option, Some, None, slice_get, unwrap_or}
+use Rattle.std.specs.Prelude.{◌≡◌, ℕ, List, [], Option, Some, None, slice_get, unwrap_or}
 use Rattle.std.specs.FinMap.{get, contains_key}
 use Rattle.std.specs.Option.{option_and_then, option_map}
 use Rattle.busdma_base.specs.declared.journals.journal.Did.{Did}
@@ -30,6 +30,8 @@ loaded_by (op.Tag name parent limits) l = None
 loaded_by (op.TagDestroy tag) l = None
 loaded_by (op.Map name tag) l = None
 loaded_by (op.MapDestroy map) l = None
+loaded_by (op.Dmamem name tag flags) l = None
+loaded_by (op.DmamemFree mem) l = None
 loaded_by (op.Unload map) l = None
 loaded_by (op.Sync map ops) l = None
 loaded_by (op.SyncRange map off len ops) l = None
@@ -61,11 +63,10 @@ pub record AreLoaded (before after : LaneState) (m place : ℕ) (segments : List
       (chunks_for before map (contains_key before.mems m) (asked_at place before).entries)
       (pages_of (stage_at after m)) segments
 
--- so are those that an operation answers, where its map is not a memory's; one that does not load answers none
+-- so are those that an operation answers; one that does not load answers none
 abbrev pub AreAnswered : LaneState → LaneState → ℕ → Option Load → List Segment → Type 0
 AreAnswered before after place None segments = ⊥
-AreAnswered before after place (Some x) segments =
-    contains_key before.mems x.map ≡ false → AreLoaded before after x.map place segments
+AreAnswered before after place (Some x) segments = AreLoaded before after x.map place segments
 
 -- so are those of what was done; neither an item nor the return of a page answers any
 abbrev pub AreOf : LaneState → LaneState → Did → List Segment → Type 0

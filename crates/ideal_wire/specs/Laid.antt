@@ -13,6 +13,7 @@ use Rattle.busdma_base.specs.Bounce.MemoryRuns.{in_run}
 use Rattle.busdma_base.specs.Machine.PageRuns.{is_own}
 use Rattle.busdma_base.specs.Machine.Wire.{buses}
 use Rattle.busdma_base.specs.Runs.{IsExtent}
+use Rattle.busdma_base.specs.Tags.Tag.{excluded}
 use Rattle.loan_table.specs.declared.position.Position.{Position}
 use Rattle.loan_table.specs.Loans.{loan_of, no_loan}
 use Rattle.map_sync.specs.Traces.{HasChunks}
@@ -21,7 +22,7 @@ use Rattle.segment_build.specs.Segmentation.{segment_bytes}
 use Rattle.segment_build.specs.Trace.{bus_extent, chunk_extents}
 use Rattle.ideal_lane.specs.State.{LaneState, LaneMap, LaneMemory, Stage, Idle, Waiting, Loaded, Returning}
 use Rattle.ideal_lane.specs.Asking.{Asking, Gives, Asks}
-use Rattle.ideal_lane.specs.Loads.{chunks_for, is_coherent}
+use Rattle.ideal_lane.specs.Loads.{chunks_for, is_coherent, limits_of}
 use Rattle.ideal_lane.specs.Turns.{asked_at, Turned}
 use Rattle.ideal_wire.specs.Centre.{IsAt}
 use Rattle.ideal_wire.specs.Traces.{stage_at, traces_of}
@@ -62,9 +63,11 @@ pages_alone l = record l { mems = finmap.empty }
 abbrev pub chunks_at : LaneState → LaneMap → ℕ → List Chunk
 chunks_at l o load_at = chunks_for l o false (asked_at load_at (pages_alone l)).entries
 
--- the load for which a map waits is one of the driver's pages alone, and its chunks have the need that it waits for
+-- the load for which a map waits is one of the driver's pages alone, so that it names no memory, and its chunks have
+-- the need that it waits for, of some pages
 pub record IsAwaited (l : LaneState) (m load_at need : ℕ) : Type 0 where
   pub unlent : loan_of l.loans m ≡ no_loan
+  pub some : 1 ≤ need
   pub fine : (asked_at load_at (pages_alone l)).judged ≡ Fine
   pub counted : (o : LaneMap) → get l.maps m ≡ Some o → need ≡ need_of (chunks_at l o load_at)
 
@@ -85,12 +88,18 @@ pub data IsOwnByte (l : LaneState) (a : ℕ) : Type 0 where
   OfPages : is_own l.pages a ≡ true → IsOwnByte l a
   OfMemory : (k : ℕ) (x : LaneMemory) → get l.mems k ≡ Some x → in_run x.first x.count a ≡ true → IsOwnByte l a
 
--- the bytes of a driver's pages and memories and no others are its own, its memories have whole frames, and each map
--- lies as it stands
+-- the device of the tag of a memory's map reaches each byte of the memory's frames
+abbrev pub ReachesMemory : LaneState → LaneMemory → LaneMap → Type 0
+ReachesMemory l x o = (a : ℕ) → in_run x.first x.count a ≡ true → excluded (limits_of l o) a ≡ false
+
+-- the bytes of a driver's pages and memories and no others are its own, its memories have whole frames, which their
+-- devices reach, and each map lies as it stands
 pub record AreLaid (l : LaneState) : Type 0 where
   pub owned : (a : ℕ) → IsOwnByte l a → is_some (l.memory a) ≡ true
   pub only : (a : ℕ) → is_some (l.memory a) ≡ true → ∥ IsOwnByte l a ∥₁
   pub runs : (k : ℕ) (x : LaneMemory) → get l.mems k ≡ Some x → IsRun x
+  pub reached : (k : ℕ) (x : LaneMemory) (o : LaneMap) → get l.mems k ≡ Some x → get l.maps k ≡ Some o →
+      ReachesMemory l x o
   pub each : (m : ℕ) → LiesIn l m (stage_at l m)
 
 -- after a step with the account's reply, the loads of the driver are laid

@@ -4,6 +4,7 @@ pub mod Apart
 pub mod Centre
 pub mod Laid
 pub mod Machine
+pub mod NewRuns
 pub mod OneProof
 pub mod Served
 pub mod Traces

@@ -1,4 +1,5 @@
--- What the steps of a driver make of its wire. Pages come with any bytes and leave with theirs.
+-- What the steps of a driver make of its wire. Pages and the frames of memories come with any bytes, but with zeros
+-- where zeros were asked for, and leave with theirs.
 use Rattle.std.specs.Prelude.{◌≡◌, ℕ, true, List, [], ◌∷◌, Option, Some, None, map, length, slice_get, unwrap_or}
 use Rattle.std.specs.Prelude.{if◌then◌else◌, is_some}
 use Rattle.std.specs.Ordering.{nat_cmp}
@@ -21,7 +22,7 @@ use Rattle.lane_tables.specs.declared.queued.QueuedItem.{QueuedItem}
 use Rattle.loan_table.specs.Loans.{loan_of}
 use Rattle.ideal_lane.specs.State.{LaneState, LaneMap}
 use Rattle.ideal_lane.specs.Asking.{Asking, Gives, Asks}
-use Rattle.ideal_lane.specs.IdealMemory.{IdealMemory}
+use Rattle.ideal_lane.specs.IdealMemory.{IdealMemory, Known}
 use Rattle.ideal_lane.specs.Outcomes.{Outcome, load_length}
 use Rattle.ideal_lane.specs.Places.{virtual_at, bytes_at}
 use Rattle.ideal_lane.specs.Turns.{waits}
@@ -82,6 +83,8 @@ operation (op.Tag name parent limits) l w = w
 operation (op.TagDestroy tag) l w = w
 operation (op.Map name tag) l w = w
 operation (op.MapDestroy map) l w = w
+operation (op.Dmamem name tag flags) l w = w
+operation (op.DmamemFree mem) l w = w
 operation (op.Load map buffer flags items) l w = w
 operation (op.Unload map) l w = w
 operation (op.Sync map ops) l w = sync map ops l w
@@ -131,9 +134,15 @@ KeepsPages before after w w' =
     (m a : ℕ) → is_in_pages (pages_of (stage_in (get before m))) a ≡ true →
     is_in_pages (pages_of (stage_in (get after m))) a ≡ true → w' a ≡ w a
 
--- pages came with any bytes, and went with theirs
-abbrev pub Follows : LaneState → LaneState → Wire → Wire → Type 0
-Follows before after w w' = KeepsOwn before.memory after.memory w w' × KeepsPages before.maps after.maps w w'
+-- a byte that came to the driver and is Known stands there
+abbrev pub BringsKnown : IdealMemory → IdealMemory → Wire → Type 0
+BringsKnown before after w' = (a v : ℕ) → before a ≡ None → after a ≡ Some (Known v) → w' a ≡ v
+
+-- pages came with any bytes, and frames of memories with what is Known of them; both went with theirs
+pub record Follows (before after : LaneState) (w w' : Wire) : Type 0 where
+  pub own : KeepsOwn before.memory after.memory w w'
+  pub pages : KeepsPages before.maps after.maps w w'
+  pub known : BringsKnown before.memory after.memory w'
 
 -- What is read
 

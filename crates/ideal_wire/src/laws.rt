@@ -1,15 +1,16 @@
 //! Laws of the wire.
 
-ghost use Rattle.std.specs.Prelude.{◌≡◌, ◌∷◌, ℕ, Bool, true, false, List, Some, slice_get};
+ghost use Rattle.std.specs.Prelude.{◌≡◌, ◌∷◌, [], ℕ, Bool, true, false, List, Some, slice_get};
 ghost use Rattle.std.specs.FinMap.{contains_key, get};
 ghost use Rattle.std.specs.List.{AllByRecursion};
+ghost use Rattle.busdma_base.specs.declared.bounce.hold.HubCall.{HubCall};
 ghost use Rattle.busdma_base.specs.declared.bounce.hold.HubReply.TheVariants.{Called, Granted};
 ghost use Rattle.busdma_base.specs.declared.bounce.zone.Waiter.{Waiter};
 ghost use Rattle.busdma_base.specs.declared.machine.address.Pa.{Pa};
 ghost use Rattle.busdma_base.specs.declared.name.MapId.{MapId};
 ghost use Rattle.busdma_base.specs.declared.tags.tag.TagLimits.{TagLimits};
-ghost use Rattle.busdma_base.specs.Bounce.AccountStep.{called_from, grabbed};
-ghost use Rattle.busdma_base.specs.Bounce.EachFrame.{EachFrame};
+ghost use Rattle.busdma_base.specs.Bounce.AccountStep.{account_step, called_from, grabbed};
+ghost use Rattle.busdma_base.specs.Bounce.EachFrame.{EachFrame, LiesBelowMaxmem};
 ghost use Rattle.busdma_base.specs.Bounce.Growth.{serves_tag};
 ghost use Rattle.busdma_base.specs.Bounce.History.{IsFrame, account_of};
 ghost use Rattle.busdma_base.specs.declared.bounce.hold.HoldEntry.{HoldEntry};
@@ -27,25 +28,26 @@ ghost use Rattle.busdma_base.specs.Bounce.Account.{Account, zone_at};
 ghost use Rattle.busdma_base.specs.Bounce.Opening.{maxmem_of};
 ghost use Rattle.busdma_base.specs.Machine.PageRuns.{is_own};
 ghost use Rattle.busdma_base.specs.Machine.Wire.{Wire};
+ghost use Rattle.busdma_base.specs.Runs.{run_of};
 ghost use Rattle.busdma_base.specs.Scenarios.Buffers.{IsBioOf};
 ghost use Rattle.busdma_base.specs.Scenarios.Valid.{IsValid};
 ghost use Rattle.ideal_lane.specs.Accesses.{cpu_read, cpu_write, dev_read, dev_write};
 ghost use Rattle.lane_agreement.specs.Agreement.{IsFit};
 ghost use Rattle.ideal_lane.specs.Agreement.{AgreesWith};
-ghost use Rattle.ideal_lane.specs.Asking.{by_reply, goes_on};
+ghost use Rattle.ideal_lane.specs.Asking.{by_reply};
 ghost use Rattle.ideal_lane.specs.Loads.{asked, chunks_for, finished, limits_of, load_addresses, load_judged};
-ghost use Rattle.ideal_lane.specs.Memories.{dmamem, dmamem_free};
 ghost use Rattle.ideal_lane.specs.Opening.{opening_lane};
 ghost use Rattle.ideal_lane.specs.Standing.{Stands};
-ghost use Rattle.ideal_lane.specs.State.{LaneMap, LaneState};
+ghost use Rattle.ideal_lane.specs.State.{LaneMap, LaneMemory, LaneState};
 ghost use Rattle.ideal_lane.specs.Syncs.{sync, sync_range};
-ghost use Rattle.ideal_lane.specs.Turns.{advanced, lane_step};
+ghost use Rattle.ideal_lane.specs.Turns.{lane_step};
 ghost use Rattle.ideal_wire.specs.Accepted.{HasPages, IfSegments, IsAccepted};
 ghost use Rattle.ideal_wire.specs.Answered.{AnswersLoads};
 ghost use Rattle.ideal_wire.specs.Apart.{IsApart};
 ghost use Rattle.ideal_wire.specs.Centre.{IsFaithful};
 ghost use Rattle.ideal_wire.specs.Laid.{AreLaid, KeepsLaid};
 ghost use Rattle.ideal_wire.specs.Machine.{IsInMachine};
+ghost use Rattle.ideal_wire.specs.NewRuns.{BringsNew};
 ghost use Rattle.ideal_wire.specs.Served.{AreServed, KeepsServed};
 ghost use Rattle.ideal_wire.specs.WireStep.{Follows, IsRead, load_buses, place_bytes};
 ghost use Rattle.ideal_wire.specs.WireStep as wire;
@@ -58,10 +60,10 @@ pub fn opening_is_faithful()
 {}
 
 /// A step leaves the wire faithful, where driver and account agree, whatever the reply to its call
-/// and whatever bytes its pages bring.
+/// that brings no frames but new ones, and whatever bytes its pages bring.
 pub fn step_stays_faithful()
     ensures { (l : LaneState) (s : Side) (a : Account) (r : HubReply) (w w' : Wire) →
-        Stands l → AgreesWith l a → AreLaid l → IsFaithful l w →
+        Stands l → AgreesWith l a → AreLaid l → IsFaithful l w → BringsNew l r →
         Follows l (by_reply (lane_step l s) r).lane (wire.lane_step l s w) w' →
         IsFaithful (by_reply (lane_step l s) r).lane w' }
 {}
@@ -110,6 +112,8 @@ pub fn calls_read_faithfully()
 /// The segments that a load of the driver's pages answers are its bytes, in order, and obey its tag,
 /// where it has as many pages as it needs and its device reaches each of them. The load is of a map
 /// that is not a memory's, its bytes are judged fine, and the frames that it names are the driver's.
+/// The segments that a load of a memory's own map answers are the memory's first bytes, in order, and
+/// obey the tag too, though the chunks of such a load are cut as if it had no alignment.
 /// So it is of the segments that a turn answers by the account's reply, where driver and account
 /// agree and the zones of maps serve their tags: it has ended a load in its own step, or at the
 /// callback of one that waited. The account is one that a sound history leads to.
@@ -123,6 +127,14 @@ pub fn accepted_loads_obey()
         let end = finished m o load_at x chunks pages l in
         IfSegments end.answer
         (IsAccepted end.lane m (limits_of l o) (load_addresses l b) chunks pages) }
+    ensures memory { (l : LaneState) (m : ℕ) (o : LaneMap) (y : LaneMemory) (b : Bio) (load_at : ℕ) (nowait : Bool)
+        (items : List Item) → Stands l → AreLaid l → IsInMachine l → get l.maps m ≡ Some o → get l.mems m ≡ Some y →
+        load_judged l m b ≡ Fine →
+        let x = asked m b nowait items l in
+        let chunks = chunks_for l o true x.entries in
+        let end = finished m o load_at x chunks [] l in
+        IfSegments end.answer
+        (IsAccepted end.lane m (limits_of l o) (run_of y.first x.len) chunks []) }
     ensures turn { (l : LaneState) (s : Side) (a : Account) → Stands l → AgreesWith l a → IsFit a →
         EachFrame IsFrame a → PagesLieLow a → AreServed l a → IsInMachine l → AreLaid l →
         AnswersLoads l a (lane_step l s) }
@@ -135,21 +147,20 @@ pub fn loads_stay_laid()
         IsInMachine l → AreLaid l → KeepsLaid l.id a (lane_step l s) }
 {}
 
-/// The making of a memory and its end leave the loads of a driver laid in the same way: the bytes of
-/// the memory's frames come to the driver and leave it.
-pub fn memories_leave_loads_laid()
-    ensures made { (l : LaneState) (t flags : ℕ) (a : Account) → Stands l → EachFrame IsFrame a → AreLaid l →
-        KeepsLaid l.id a (goes_on (advanced l.place) (dmamem t flags l)) }
-    ensures freed { (l : LaneState) (m : ℕ) (a : Account) → Stands l → AgreesWith l a → AreLaid l →
-        KeepsLaid l.id a (goes_on (advanced l.place) (dmamem_free m l)) }
+/// The frames that the account's reply to a call brings to a driver are new to it: whole frames of the
+/// machine, and none of its pages or of its memories. Driver and account agree, and the account's
+/// frames are whole ones of the machine.
+pub fn given_runs_are_new()
+    ensures { (l : LaneState) (a : Account) (lane : ℕ) (c : HubCall) → AgreesWith l a → EachFrame IsFrame a →
+        LiesBelowMaxmem a → AreLaid l → BringsNew l (account_step lane c a).reply }
 {}
 
 /// A driver of a valid scenario opens in its machine, and a step leaves it there, whatever the reply
-/// to its call: its tags stay effective ones.
+/// to its call that brings no frames but new ones: its tags stay effective ones.
 pub fn steps_stay_in_machine()
     ensures opens { (s : Scenario) (i : ℕ) (driver : Driver) → IsValid s → slice_get s.drivers i ≡ Some driver →
         IsInMachine (opening_lane i (maxmem_of s.frames) driver) }
-    ensures stays { (l : LaneState) (s : Side) (r : HubReply) → IsInMachine l →
+    ensures stays { (l : LaneState) (s : Side) (r : HubReply) → IsInMachine l → BringsNew l r →
         IsInMachine (by_reply (lane_step l s) r).lane }
 {}
 

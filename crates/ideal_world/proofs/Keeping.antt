@@ -22,6 +22,7 @@ use Rattle.ideal_lane.proofs.Standings.{turn-stands}
 use Rattle.ideal_lane.proofs.Turning.{turn-allowed, turn-kept}
 use Rattle.ideal_wire.specs.Laid.{AreLaid, KeepsLaid}
 use Rattle.ideal_wire.specs.Machine.{IsInMachine}
+use Rattle.ideal_wire.specs.NewRuns.{BringsNew}
 use Rattle.ideal_wire.specs.Served.{AreServed, KeepsServed}
 use Rattle.ideal_wire.proofs.LaidTurns.{turn-laid}
 use Rattle.ideal_wire.proofs.Machines.{turn-keeps}
@@ -30,7 +31,7 @@ use Rattle.ideal_world.specs.WellFormed.{IsDriverOf, IsReached, IsWellFormed}
 use Rattle.ideal_world.specs.World.{WorldState, replied, step_of, step, entry_of, step_entry}
 use Rattle.ideal_world.proofs.Lanes.{within, length-slice_set, each_set, sum_set}
 use Rattle.ideal_lane.proofs.Own.{IsLater, IsOwn, IsOwnBy, actor_of, turn-own}
-use Rattle.ideal_world.proofs.Reached.{entry, reached-on, reached-fits, reached-whole, others-agree}
+use Rattle.ideal_world.proofs.Reached.{entry, given-to, reached-on, reached-fits, reached-whole, others-agree}
 
 -- a driver has no more left, with what it counted of each zone
 abbrev SpendsNoMore : LaneState → LaneState → Type 0
@@ -117,7 +118,7 @@ module _ (s : Scenario) (w : WorldState) (well : IsWellFormed s w) where
       stands : KeepsStanding x
       may : IsAllowed l.id w.account x
       agrees : KeepsAgreement l.id w.account x
-      machine : (r : HubReply) → IsInMachine (by_reply x r).lane
+      machine : (r : HubReply) → BringsNew l r → IsInMachine (by_reply x r).lane
       laid : KeepsLaid l.id w.account x
       served : KeepsServed l.id w.account x
 
@@ -128,7 +129,7 @@ module _ (s : Scenario) (w : WorldState) (well : IsWellFormed s w) where
           spends = spent l t.lane t.turn (step.later Nothing) step.falls;
           stands = step.stands;
           agrees = step.agrees;
-          machine = step.machine Nothing;
+          machine = step.machine Nothing tt;
           laid = step.laid;
           served = step.served;
         }) (λ j n off e. let d = well.each j n e in (d.agrees, d.served)) well.reached
@@ -139,7 +140,7 @@ module _ (s : Scenario) (w : WorldState) (well : IsWellFormed s w) where
           spends = spent l (k r).lane (k r).turn (step.later r) step.falls;
           stands = step.stands r;
           agrees = step.agrees;
-          machine = step.machine r;
+          machine = step.machine r (given-to s w well i l there c);
           laid = step.laid;
           served = step.served;
         }) (λ j n off e. let d = well.each j n e in (

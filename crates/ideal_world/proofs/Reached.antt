@@ -1,10 +1,11 @@
 -- A call that a driver may make is an entry of the account's history, or leaves the account as it was.
 use Rattle.std.proofs.Common.{◌≡◌, ◌≢◌, ℕ, ◌<◌, ◌==◌, Bool, true, false, List, [], ◌∷◌, ◌++◌, length, ◌⊎◌}
-use Rattle.std.proofs.Common.{inl, inr, refl, sym, ap, ◌∙◌, subst}
+use Rattle.std.proofs.Common.{inl, inr, refl, sym, ap, ◌∙◌, subst, Some, slice_get}
 use Rattle.std.proofs.lemmas.List.Elements.{All-nil, All-cons, All-push}
 use Rattle.busdma_base.specs.declared.bounce.hold.HoldEntry.{HoldEntry}
 use Rattle.busdma_base.specs.declared.bounce.hold.HubCall.{HubCall}
 use Rattle.busdma_base.specs.declared.bounce.hold.HubCall.TheVariants as call
+use Rattle.busdma_base.specs.declared.bounce.hold.HubReply.{HubReply}
 use Rattle.busdma_base.specs.declared.bounce.zone.Waiter.{Waiter}
 use Rattle.busdma_base.specs.declared.scenarios.scenario.Scenario.{Scenario}
 use Rattle.busdma_base.specs.Bounce.Account.{Account}
@@ -25,7 +26,12 @@ use Rattle.lane_agreement.specs.Agreement.{Agrees, IsFit}
 use Rattle.lane_agreement.specs.View.{View}
 use Rattle.lane_agreement.proofs.Others.{agrees-stays}
 use Rattle.lane_agreement.proofs.Whole.{fit-reached}
-use Rattle.ideal_world.specs.WellFormed.{IsReached}
+use Rattle.ideal_lane.specs.State.{LaneState}
+use Rattle.ideal_wire.specs.NewRuns.{BringsNew}
+use Rattle.ideal_wire.proofs.NewFrames.{given-new}
+use Rattle.ideal_world.specs.WellFormed.{IsReached, IsWellFormed}
+use Rattle.ideal_world.specs.World.{WorldState}
+use Rattle.ideal_world.proofs.Turns.{IsGiven}
 
 -- the entry of a driver's call
 abbrev pub entry : ℕ → HubCall → Account → HoldEntry
@@ -124,3 +130,16 @@ reached-below s a valid r =
     subst LiesBelowMaxmem r.leads
     (below-history (opening s) r.history (well-opening (opening s) (opening-may_begin s valid)) r.sound
     (below-opening s))
+
+-- what the account gives to a driver of a well-formed world is new to it
+pub given-to : (s : Scenario) (w : WorldState) → IsWellFormed s w → (i : ℕ) (l : LaneState) →
+    slice_get w.lanes i ≡ Some l → (c : HubCall) → BringsNew l (account_step l.id c w.account).reply
+given-to s w well i l e c =
+    let d = well.each i l e in
+    given-new l w.account d.agrees (reached-whole s w.account well.valid well.reached)
+    (reached-below s w.account well.valid well.reached) d.laid l.id c
+
+pub given-reply : (s : Scenario) (w : WorldState) → IsWellFormed s w → (i : ℕ) (l : LaneState) →
+    slice_get w.lanes i ≡ Some l → (r : HubReply) → IsGiven w l r → BringsNew l r
+given-reply s w well i l e r (inl none) = subst (BringsNew l) (sym none) tt
+given-reply s w well i l e r (inr x) = subst (BringsNew l) (sym x.1) (given-to s w well i l e x.0)

@@ -1,5 +1,7 @@
--- What an actor's turn makes of each driver: its own does a step, by some reply to its call, and each other stays.
-use Rattle.std.proofs.Common.{◌≡◌, ◌≢◌, ℕ, Option, Some, None, refl, sym, ap, ◌∙◌, slice_get, slice_set}
+-- What an actor's turn makes of each driver: its own does a step, by the account's reply to its call, and each other
+-- stays.
+use Rattle.std.proofs.Common.{◌≡◌, ◌≢◌, ◌⊎◌, inl, inr, ℕ, Option, Some, None, refl, sym, ap, ◌∙◌, slice_get, slice_set}
+use Rattle.busdma_base.specs.declared.bounce.hold.HubCall.{HubCall}
 use Rattle.busdma_base.specs.declared.bounce.hold.HubReply.{HubReply}
 use Rattle.busdma_base.specs.declared.bounce.hold.HubReply.TheVariants.{Nothing}
 use Rattle.busdma_base.specs.declared.journals.journal.Actor.{Actor}
@@ -10,19 +12,30 @@ use Rattle.ideal_lane.specs.Turns.{Turned, lane_step}
 use Rattle.ideal_world.specs.World.{WorldState, WorldTurned, replied, step_of, step}
 use Rattle.ideal_world.proofs.Lanes.{each_set, set-here, set-other, within}
 
--- the world after the turn of a driver: the driver is that of the turn, by some reply to its call
-record Turns (w : WorldState) (i : ℕ) (x : Asking Turned) (after : WorldTurned) : Type 0 where
+-- the account gives a reply to a call of a driver; without a call there is none
+abbrev pub IsGiven : WorldState → LaneState → HubReply → Type 0
+IsGiven w l r = (r ≡ Nothing) ⊎ ((c : HubCall) × (r ≡ (account_step l.id c w.account).reply))
+
+-- the world after the turn of a driver: the driver is that of the turn, by the account's reply to its call
+record Turns (w : WorldState) (i : ℕ) (l : LaneState) (x : Asking Turned) (after : WorldTurned) : Type 0 where
   reply : HubReply
+  given : IsGiven w l reply
   lanes : after.world.lanes ≡ slice_set w.lanes i (by_reply x reply).lane
   turn : after.turn ≡ (by_reply x reply).turn
 
-turns : (w : WorldState) (i : ℕ) (l : LaneState) (x : Asking Turned) → Turns w i x (replied w i l x)
-turns w i l (Gives t) = record { reply = Nothing; lanes = refl; turn = refl }
-turns w i l (Asks c k) = record { reply = (account_step l.id c w.account).reply; lanes = refl; turn = refl }
+turns : (w : WorldState) (i : ℕ) (l : LaneState) (x : Asking Turned) → Turns w i l x (replied w i l x)
+turns w i l (Gives t) = record { reply = Nothing; given = inl refl; lanes = refl; turn = refl }
+turns w i l (Asks c k) = record {
+  reply = (account_step l.id c w.account).reply;
+  given = inr (c, refl);
+  lanes = refl;
+  turn = refl;
+}
 
 -- the actor's driver does the step of its side
 pub record OwnStep (w : WorldState) (actor : Actor) (l : LaneState) : Type 0 where
   pub reply : HubReply
+  pub given : IsGiven w l reply
   pub lanes : (step w actor).world.lanes ≡ slice_set w.lanes actor.lane.0
       (by_reply (lane_step l actor.side) reply).lane
   pub there : slice_get (step w actor).world.lanes actor.lane.0 ≡ Some (by_reply (lane_step l actor.side) reply).lane
@@ -37,6 +50,7 @@ own-step w actor l e =
     let lanes = ap (λ (x : WorldTurned). x.world.lanes) is ∙ t.lanes in
     record {
       reply = t.reply;
+      given = t.given;
       lanes = lanes;
       there = ap (λ ls. slice_get ls k) lanes
           ∙ set-here w.lanes k (by_reply (lane_step l actor.side) t.reply).lane (within w.lanes k l e);

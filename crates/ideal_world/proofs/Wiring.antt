@@ -16,6 +16,7 @@ use Rattle.ideal_world.specs.WellFormed.{IsWellFormed}
 use Rattle.ideal_world.specs.Wires.{Wires, EachDriver, AreZero, AllFaithful, WiresFollow}
 use Rattle.ideal_world.specs.World.{WorldState, step, opening_world}
 use Rattle.ideal_world.proofs.Lanes.{OpensAt, opening_at}
+use Rattle.ideal_world.proofs.Reached.{given-reply}
 use Rattle.ideal_world.proofs.Turns.{OwnStep, each-step}
 
 -- ---- the opening
@@ -56,4 +57,5 @@ module _ (s : Scenario) (w : WorldState) (well : IsWellFormed s w) (actor : Acto
       mine l o e =
           let d = well.each at l e in
           turn-stays l w.account (before at) d.stands d.agrees d.laid (faithful at l e) actor.side o.reply
-          (after at) (follow.own l (by_reply (lane_step l actor.side) o.reply).lane e o.there)
+          (after at) (given-reply s w well at l e o.reply o.given)
+          (follow.own l (by_reply (lane_step l actor.side) o.reply).lane e o.there)

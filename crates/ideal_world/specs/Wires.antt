@@ -24,8 +24,8 @@ AreZero wires w = EachDriver (λ i l. (a : ℕ) → is_own l.pages a ≡ true �
 abbrev pub AllFaithful : Wires → WorldState → Type 0
 AllFaithful wires w = EachDriver (λ i l. IsFaithful l (wires i)) w
 
--- what an actor's turn makes of the wires: its driver's follows the turn, with pages that come with any bytes and
--- leave with theirs, and each other's stays
+-- what an actor's turn makes of the wires: its driver's follows the turn, with pages and frames of memories that come
+-- and go, and each other's stays
 pub record WiresFollow (w : WorldState) (actor : Actor) (before after : Wires) : Type 0 where
   pub own : (l m : LaneState) → slice_get w.lanes actor.lane.0 ≡ Some l →
       slice_get (step w actor).world.lanes actor.lane.0 ≡ Some m →

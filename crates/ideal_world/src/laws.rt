@@ -122,7 +122,7 @@ pub fn wires_open_faithful()
 {}
 
 /// The turn of any actor leaves each driver's wire faithful, whatever bytes the pages bring that come
-/// to the actor's driver.
+/// to the actor's driver, and where the frames of a memory that come with zeros have zeros.
 pub fn wires_stay_faithful()
     ensures { (s : Scenario) (w : WorldState) (actor : Actor) (before after : Wires) → IsWellFormed s w →
         AllFaithful before w → WiresFollow w actor before after → AllFaithful after (step w actor).world }

@@ -9,10 +9,11 @@ use Rattle.busdma_base.specs.declared.journals.journal.Side.{Side}
 use Rattle.busdma_base.specs.Bounce.Account.{Account, zone_at}
 use Rattle.busdma_base.specs.Bounce.AccountStep.{Outcome, account_step, as_pages, called_from}
 use Rattle.busdma_base.specs.Bounce.Door.{Seen, Passes, account}
-use Rattle.busdma_base.specs.Bounce.EachFrame.{EachFrame}
+use Rattle.busdma_base.specs.Bounce.EachFrame.{EachFrame, LiesBelowMaxmem}
 use Rattle.busdma_base.specs.Bounce.History.{IsFrame, IsOpening, IsSound, account_of, after_entry}
 use Rattle.busdma_base.specs.Bounce.Serving.{handed}
-use Rattle.busdma_base.proofs.Accounts.EachFrame.{whole-history}
+use Rattle.busdma_base.proofs.Accounts.EachFrame.{below-history, whole-history}
+use Rattle.busdma_base.proofs.Accounts.WellFormed.{well-opening}
 use Rattle.lane_agreement.specs.Agreement.{IsFit}
 use Rattle.lane_agreement.proofs.Doors.{agrees-passes}
 use Rattle.lane_agreement.proofs.Whole.{fit-reached}
@@ -26,7 +27,9 @@ use Rattle.ideal_lane.proofs.Standings.{turn-stands}
 use Rattle.ideal_lane.proofs.Turning.{turn-kept}
 use Rattle.ideal_wire.specs.Laid.{AreLaid, KeepsLaid}
 use Rattle.ideal_wire.specs.Machine.{IsInMachine}
+use Rattle.ideal_wire.specs.NewRuns.{BringsNew}
 use Rattle.ideal_wire.proofs.LaidTurns.{turn-laid}
+use Rattle.ideal_wire.proofs.NewFrames.{given-new}
 use Rattle.lane_core.specs.Turning.{IsServed, IsTurned}
 
 -- ---- the account after entries, and where no callback was found
@@ -61,7 +64,9 @@ pub record Led (l : LaneState) (s : Side) (d : Seen) (x : Turned) (e : Seen) : T
   pub stands : Stands x.lane
   pub agrees : AgreesWith x.lane (account e)
   pub laid : AreLaid x.lane
+  pub new : BringsNew l reply
   pub opening : IsOpening e.opening
+  pub below : LiesBelowMaxmem e.opening
   pub sound : IsSound e.opening e.history
   pub serves : e.serves ≡ d.serves
 
@@ -71,19 +76,22 @@ module _ (l : LaneState) (s : Side) (d : Seen) (stands : Stands l) (served : IsS
   record Reached (a : Account) : Type 0 where
     fit : IsFit a
     frames : EachFrame IsFrame a
+    low : LiesBelowMaxmem a
     agrees : AgreesWith l a
 
-  reached : (e : Seen) → IsOpening e.opening → IsSound e.opening e.history → AgreesWith l (account e) →
-      Reached (account e)
-  reached e opening sound agrees = record {
+  reached : (e : Seen) → IsOpening e.opening → LiesBelowMaxmem e.opening → IsSound e.opening e.history →
+      AgreesWith l (account e) → Reached (account e)
+  reached e opening below sound agrees = record {
     fit = fit-reached e.opening e.history opening sound;
     frames = whole-history e.opening e.history opening sound;
+    low = below-history e.opening e.history (well-opening e.opening opening) sound below;
     agrees = agrees;
   }
 
   passed : (others : List HoldEntry) (e : Seen) → Passes d others e → Reached (account e)
   passed others e p =
-      reached e p.form p.sound (agrees-passes (view_of l) d others e served.agrees served.served p)
+      reached e p.form (subst LiesBelowMaxmem (sym p.opening) served.below) p.sound
+      (agrees-passes (view_of l) d others e served.agrees served.served p)
 
   -- the step, by what it is
   module _ (step : Asking Turned) (is : step ≡ lane_step l s) where
@@ -105,7 +113,7 @@ module _ (l : LaneState) (s : Side) (d : Seen) (stands : Stands l) (served : IsS
   led (Gives t) is x held e turn =
       let same : x ≡ t = turn.0 in
       let seen : e ≡ d = turn.2 in
-      let r = reached d served.opening served.sound served.agrees in
+      let r = reached d served.opening served.below served.sound served.agrees in
       let lane : t.lane ≡ x.lane = ap (λ (y : Turned). y.lane) (sym same) in
       record {
         reply = Nothing;
@@ -114,7 +122,9 @@ module _ (l : LaneState) (s : Side) (d : Seen) (stands : Stands l) (served : IsS
         agrees = subst (λ (y : Seen). AgreesWith x.lane (account y)) (sym seen)
             (subst (λ k. AgreesWith k (account d)) lane (kept-at (Gives t) is (account d) r));
         laid = subst AreLaid lane (laid-at (Gives t) is (account d) r);
+        new = tt;
         opening = subst (λ (y : Seen). IsOpening y.opening) (sym seen) served.opening;
+        below = subst (λ (y : Seen). LiesBelowMaxmem y.opening) (sym seen) served.below;
         sound = subst (λ (y : Seen). IsSound y.opening y.history) (sym seen) served.sound;
         serves = ap (λ (y : Seen). y.serves) seen;
       }
@@ -136,7 +146,9 @@ module _ (l : LaneState) (s : Side) (d : Seen) (stands : Stands l) (served : IsS
         agrees = subst (AgreesWith x.lane) now
             (subst (λ n. AgreesWith n o.account) lane (kept-at (Asks c k) is a r));
         laid = subst AreLaid lane (laid-at (Asks c k) is a r);
+        new = subst (BringsNew l) (sym holds.reply) (given-new l a r.agrees r.frames r.low laid l.id c);
         opening = subst IsOpening (sym holds.opening) holds.passes.form;
+        below = subst LiesBelowMaxmem (sym (holds.opening ∙ holds.passes.opening)) served.below;
         sound = holds.sound;
         serves = holds.serves ∙ holds.passes.serves;
       }
@@ -158,7 +170,9 @@ module _ (l : LaneState) (s : Side) (d : Seen) (stands : Stands l) (served : IsS
         agrees = subst (AgreesWith x.lane) still
             (subst (λ n. AgreesWith n (account_step l.id c a).account) lane (kept-at (Asks c k) is a r));
         laid = subst AreLaid lane (laid-at (Asks c k) is a r);
+        new = tt;
         opening = misses.passes.form;
+        below = subst LiesBelowMaxmem (sym misses.passes.opening) served.below;
         sound = misses.passes.sound;
         serves = misses.passes.serves;
       }

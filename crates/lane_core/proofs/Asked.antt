@@ -1,6 +1,6 @@
 -- The steps of a load, by what stands in its way and by what it needs.
-use Rattle.std.proofs.Common.{◌≡◌, ℕ, ◌≤◌, ◌<◌, ◌==◌, Bool, true, false, List, [], Some, None, refl, sym, ap, ◌∙◌}
-use Rattle.std.proofs.Common.{is_some, nat_lt, if◌then◌else◌, arith}
+use Rattle.std.proofs.Common.{◌≡◌, ℕ, ◌≤◌, ◌<◌, ◌==◌, Bool, true, false, List, [], Option, Some, None, refl, sym, ap}
+use Rattle.std.proofs.Common.{◌∙◌, is_some, nat_lt, if◌then◌else◌, arith}
 use Rattle.std.proofs.lemmas.Bool.Decides.{nat_tests}
 use Rattle.std.specs.FinMap.{get}
 use Rattle.busdma_base.specs.declared.bounce.hold.HubCall.TheVariants.{Grab}
@@ -18,9 +18,16 @@ use Rattle.ideal_lane.specs.Asking.{Asking, Gives, Asks}
 use Rattle.ideal_lane.specs.Loads.{Asked, asked, chunks_for, ended, finished, granted, limits_of, load, load_chunks}
 use Rattle.ideal_lane.specs.Loads.{load_entries, load_judged, zone_of}
 use Rattle.ideal_lane.specs.Outcomes.{Outcome, gives, is_idle, refused, unless_absent, unless_refused}
-use Rattle.ideal_lane.specs.State.{LaneMap, LaneState, named}
-use Rattle.lane_core.specs.Loading.{bio_bytes, bio_chunks}
+use Rattle.ideal_lane.specs.Standing.{StandsAt}
+use Rattle.ideal_lane.specs.State.{LaneMap, LaneMemory, LaneState, named}
+use Rattle.lane_core.specs.Loading.{bio_bytes, bio_chunks, map_chunks}
+use Rattle.ideal_lane.proofs.Direct.{need-direct}
 use Rattle.ideal_lane.proofs.Needs.{bytes-few, need-few}
+
+-- a load of a map that is not a memory's
+pub plain-chunks : (l : LaneState) (m : ℕ) (o : LaneMap) (b : Bio) → get l.mems m ≡ None →
+    map_chunks l m o b ≡ bio_chunks l o b
+plain-chunks l m o b none = ap (λ q. chunks_for l o (is_some q) (load_entries l b)) none
 
 module _ (l : LaneState) (m : ℕ) (b : Bio) (nowait : Bool) (items : List Item) where
   abbrev pub x : Asked
@@ -67,16 +74,15 @@ module _ (l : LaneState) (m : ℕ) (b : Bio) (nowait : Bool) (items : List Item)
             passed ∙ ap (λ b. if b then Gives (ended m o (answer.Refused EINVAL) l)
             else load_chunks m o x (chunks_for l o (is_some (get l.mems m)) x.entries) l) test
 
-        module _ (short : bio_bytes b ≤ (limits_of l o).maxsize) (own : get l.mems m ≡ None) where
+        module _ (short : bio_bytes b ≤ (limits_of l o).maxsize) where
           abbrev chunks : List Chunk
-          chunks = bio_chunks l o b
+          chunks = map_chunks l m o b
 
           cut : step ≡ load_chunks m o x chunks l
           cut =
               let test : nat_lt (limits_of l o).maxsize x.len ≡ false = grind (arith, nat_tests, short) in
               passed ∙ ap (λ b. if b then Gives (ended m o (answer.Refused EINVAL) l)
               else load_chunks m o x (chunks_for l o (is_some (get l.mems m)) x.entries) l) test
-              ∙ ap (λ q. load_chunks m o x (chunks_for l o (is_some q) x.entries) l) own
 
           pub load-direct : need_of chunks ≡ 0 → step ≡ Gives (finished m o l.place x chunks [] l)
           load-direct none =
@@ -85,21 +91,35 @@ module _ (l : LaneState) (m : ℕ) (b : Bio) (nowait : Bool) (items : List Item)
               else Asks (Grab (named l m) (record { 0 = zone_of o }) (need_of chunks) x.nowait)
               (granted m o x chunks l)) test
 
-          pub load-bounced : (n : ℕ) → n ≡ need_of chunks → 0 < n →
-              step ≡ Asks (Grab (named l m) (record { 0 = zone_of o }) n nowait) (granted m o x chunks l)
-          load-bounced n is some =
+          pub load-bounced : get l.mems m ≡ None → (n : ℕ) → n ≡ need_of chunks → 0 < n →
+              step ≡ Asks (Grab (named l m) (record { 0 = zone_of o }) n nowait) (granted m o x (bio_chunks l o b) l)
+          load-bounced own n is some =
               let test : (need_of chunks == 0) ≡ false = grind (arith, nat_tests) in
               cut ∙ ap (λ b. if b then Gives (finished m o l.place x chunks [] l)
               else Asks (Grab (named l m) (record { 0 = zone_of o }) (need_of chunks) x.nowait)
               (granted m o x chunks l)) test
-              ∙ ap (λ k. Asks (Grab (named l m) (record { 0 = zone_of o }) k nowait) (granted m o x chunks l)) (sym is)
+              ∙ (λ i. Asks (Grab (named l m) (record { 0 = zone_of o }) (sym is i) nowait)
+              (granted m o x (plain-chunks l m o b own i) l))
+
+-- the load of a memory's own map wants no page
+pub plain-wanted : (l : LaneState) (m : ℕ) (o : LaneMap) (b : Bio) (n : ℕ) → StandsAt l.maxmem l.tags l.mems m o →
+    n ≡ need_of (map_chunks l m o b) → 0 < n → get l.mems m ≡ None
+plain-wanted l m o b n s is some = by (get l.mems m) refl
+  where
+    by : (q : Option LaneMemory) → get l.mems m ≡ q → q ≡ None
+    by None e = refl
+    by (Some y) e =
+        let none : need_of (map_chunks l m o b) ≡ 0 =
+        need-direct l m o (load_entries l b) s (s.memory (ap is_some e)) in
+        absurd (omega (arith, none, is, some))
 
 -- a load wants no more pages than it has bytes
-pub few-wanted : (l : LaneState) (o : LaneMap) (b : Bio) (n : ℕ) → n ≡ need_of (bio_chunks l o b) → n ≤ bio_bytes b
-few-wanted l o b n is =
+pub few-wanted : (l : LaneState) (m : ℕ) (o : LaneMap) (b : Bio) (n : ℕ) → n ≡ need_of (map_chunks l m o b) →
+    n ≤ bio_bytes b
+few-wanted l m o b n is =
     omega (
       arith,
       is,
-      need-few l o false (load_entries l b),
+      need-few l o (is_some (get l.mems m)) (load_entries l b),
       bytes-few l (buffer.Bio b) b refl,
     )

@@ -172,7 +172,7 @@ module _ (h k : Holdings) (stays : Stays (ideal_of h) (ideal_of k)) (m load_at :
       let n = ideal_of k in
       record {
         bio = a.bio;
-        at = at-same h k load_at m a.bio items stays.script a.at;
+        at = at-same h k load_at m a.bio items stays.script stays.mems a.at;
         own = told-none memory_of (get k.memories.map m)
             (sym (get-map_values memory_of k.memories.map m) ∙ ap (λ ms. get ms m) stays.mems
             ∙ image-none memory_of h.memories.map m a.own);

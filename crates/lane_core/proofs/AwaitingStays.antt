@@ -139,7 +139,8 @@ module _ (h k : Holdings) (keeps : KeepsWaiting h k) (reach : KeepsReach h k) wh
     awaits : IsAwaiting k m load_at callback.items room
     awaits = record {
       bio = was.bio;
-      at = at-same h k load_at m was.bio callback.items (ap (λ s. s.now) reach.script) was.at;
+      at = at-same h k load_at m was.bio callback.items (ap (λ s. s.now) reach.script)
+          (ap (map_values memory_of) reach.memories) was.at;
       own = ap (λ ms. get ms m) reach.memories ∙ was.own;
       reached = ap (λ f. judged_spans (bio_translation f was.bio) 0 (bio_spans was.bio)) reaches ∙ was.reached;
       fits = roomy;

@@ -16,7 +16,7 @@ use Rattle.ideal_wire.proofs.Accepting.{same-pages}
 use Rattle.lane_core.specs.declared.holdings.Holdings.{Holdings}
 use Rattle.lane_core.specs.declared.turn.Turn.{Turn}
 use Rattle.lane_core.specs.declared.turn.Turn.TheVariants as turn
-use Rattle.lane_core.specs.Changes.{KeepsBytesBut, KeepsWhatStays}
+use Rattle.lane_core.specs.Changes.{KeepsBytesBut, KeepsWhatStays, Stays}
 use Rattle.lane_core.specs.Held.{devices_of}
 use Rattle.lane_core.specs.Ideal.{given, ideal_of}
 use Rattle.lane_core.specs.Kept.{device_of, device_in}
@@ -42,14 +42,14 @@ module _ (h k : Holdings) (m count : ℕ) (waits : WaitsFor h m count) (bytes : 
 pub called-made : (h k : Holdings) (d e : Seen) (m : MapId) (pas : List ℕ) (count : ℕ) (a : Answer) →
     Holds d h.id.0 TakeCallback (reply.Called m (as_pages pas)) e → WaitsFor h m.made_at count →
     given k a ≡ called m.made_at (get (ideal_of h).maps m.made_at) pas (ideal_of h) → KeepsBytesBut m.made_at h k →
-    k.agenda.length ≡ h.agenda.length →
+    k.memories ≡ h.memories → k.agenda.length ≡ h.agenda.length →
     k.agenda.room + length k.agenda.queue ≡ h.agenda.room + length h.agenda.queue → (t : Turn) →
     t ≡ turn.Stepped (record {
       actor = record { lane = k.id; side = side.Callback };
       did = did.Callback m;
       answer = a;
     }) true → IsMade h k d e side.Callback t
-called-made h k d e m pas count a holds waits done bytes same_length capacity t is =
+called-made h k d e m pas count a holds waits done bytes memories same_length capacity t is =
     let l = ideal_of h in
     let step = stepped side.Callback (did.Callback m) in
     subst (IsMade h k d e side.Callback) (sym is) (record {
@@ -62,7 +62,7 @@ called-made h k d e m pas count a holds waits done bytes same_length capacity t 
               ∙ ap (λ ps. step (called m.made_at (get l.maps m.made_at) ps l)) (sym (same-pages pas));
         },
       );
-      wire = inr (refl, called-keeps h k m.made_at count waits bytes);
+      wire = Stays memories refl (called-keeps h k m.made_at count waits bytes);
       places = same_length;
       capacity = capacity;
     })

@@ -44,7 +44,7 @@ put-apart (k ∷ keys) (v ∷ vs) w a h =
     ∙ ap (λ t. cond t v (w a)) (ne_eqb a k (h 0 k refl))
 
 -- ---- pages of a frame
-covered-alike : (ps : List FrameBytes) (j : ℕ) (p : FrameBytes) (u w : Wire) (a : ℕ) → slice_get ps j ≡ Some p →
+pub covered-alike : (ps : List FrameBytes) (j : ℕ) (p : FrameBytes) (u w : Wire) (a : ℕ) → slice_get ps j ≡ Some p →
     a / 4096 ≡ p.frame → with_bytes_of ps u a ≡ with_bytes_of ps w a
 covered-alike [] j p u w a at e = absurd (cc)
 covered-alike (q ∷ ps) zero p u w a at e =
@@ -72,7 +72,7 @@ any-none (p ∷ ps) f h = by (f == p.frame) refl h (any-none ps f)
     by true e k rest = absurd (cc)
     by false e k rest = (λ q. false≢true (sym e ∙ eq-eqb f p.frame q), rest k)
 
-none-pass : {X : Type 0} (test : ℕ × X → Bool) (es : List (ℕ × X)) (n : ℕ) (x : X) → list_any test es ≡ false →
+pub none-pass : {X : Type 0} (test : ℕ × X → Bool) (es : List (ℕ × X)) (n : ℕ) (x : X) → list_any test es ≡ false →
     find nat_cmp n es ≡ Some x → test (n, x) ≡ false
 none-pass test [] n x h k = absurd (cc)
 none-pass {X} test (e ∷ es) n x h k = by (test e) refl h (none-pass test es n x) (decided n e.0)

@@ -27,6 +27,11 @@ unasked step x is = sym (ap asks is)
 pub asked : {X : Type 0} (step : Asking X) (c : HubCall) (k : HubReply → X) → step ≡ Asks c k → true ≡ asks step
 asked step c k is = sym (ap asks is)
 
+-- what follows where something was made
+pub ok-weak : {T E P Q : Type 0} (r : Result T E) → (P → Q) → OnOk r P → OnOk r Q
+ok-weak (Ok x) f h = f h
+ok-weak (Err e) f h = tt
+
 -- what follows for a value that was made
 pub ok-map : {T E : Type 0} (r : Result T E) (P Q : T → Type 0) → ((x : T) → P x → Q x) → IfOk r P → IfOk r Q
 ok-map (Ok x) P Q f h = f x h

@@ -1,10 +1,11 @@
 -- The load of a map that waited ends: what its end is asked, and what it leaves.
-use Rattle.std.proofs.Common.{◌≡◌, ℕ, ◌+◌, ◌≤◌, true, false, List, length, Some, refl, sym, ap}
-use Rattle.std.proofs.Common.{◌∙◌, subst, arith, is_some, slice_get, unwrap_or}
+use Rattle.std.proofs.Common.{◌≡◌, ℕ, ◌+◌, ◌≤◌, true, false, List, length, Some, None, refl, sym, ap}
+use Rattle.std.proofs.Common.{◌∙◌, subst, arith, is_some, slice_get}
 use Rattle.std.specs.FinMap.{get, insert, contains_key}
 use Rattle.busdma_base.specs.declared.journals.answer.Answer.{Answer}
 use Rattle.busdma_base.specs.declared.journals.report.Judged.TheVariants.{Fine}
 use Rattle.busdma_base.specs.declared.machine.bio.Bio.{Bio}
+use Rattle.busdma_base.specs.declared.machine.chunk.Chunk.{Chunk}
 use Rattle.busdma_base.specs.declared.scenarios.buffer.Buffer.{Buffer}
 use Rattle.busdma_base.specs.declared.scenarios.scenario.PageRun.{PageRun}
 use Rattle.busdma_base.specs.declared.scenarios.script.Item.{Item}
@@ -29,11 +30,13 @@ use Rattle.lane_core.specs.Changes.{KeepsButMaps, KeepsBytesBut}
 use Rattle.lane_core.specs.Covered.{is_idle_map, pages_due}
 use Rattle.lane_core.specs.Ideal.{given, ideal_of}
 use Rattle.lane_core.specs.Kept.{map_of, memory_of, stage_of}
-use Rattle.lane_core.specs.Loading.{HasRoomForAny, IsLoadable, bio_chunks, bio_of, bio_reached, load_loan}
+use Rattle.lane_core.specs.Loading.{AreItsFirst, HasRoomForAny, IsLoadable, bio_chunks, bio_of, bio_reached}
+use Rattle.lane_core.specs.Loading.{load_loan, map_chunks}
+use Rattle.lane_core.proofs.Asked.{plain-chunks}
 use Rattle.lane_core.proofs.AwaitingLoads.{StaysBut, awaiting-but, awaiting-others, put-stays, stays-finished}
 use Rattle.lane_core.proofs.Called.{KeepsLoad, load-kept}
 use Rattle.lane_core.proofs.CalledLoads.{asked-is, called-is, finished-free, items-within}
-use Rattle.lane_core.proofs.LoadsAt.{loadable-at}
+use Rattle.lane_core.proofs.LoadsAt.{bio-same, loadable-at}
 use Rattle.lane_core.proofs.MapValues.{image-none}
 use Rattle.lane_core.proofs.Returned.{idled}
 use Rattle.lane_core.proofs.TakenLoads.{put-other, taken, taken-bytes, taken-ideal, taken-idle, taken-promised}
@@ -106,21 +109,26 @@ module _ (h k : Holdings) (m at : ℕ) (callback : Transfers) (room : LoadRoom)
         let same : k.agenda.room ≡ h.agenda.room = ap (λ a. a.room) rest.agenda in
         omega (arith, within, count, same, few)
 
-    module _ (b : LoadBytes) (told : (l : LaneState) (m : ℕ) (x : Buffer) (flags : ℕ) (items : List Item) →
-        slice_get k.script.now at ≡ Some (Load m x flags items) → bio_at l x ≡ Some (bio_of b)) where
+    -- the map is not a memory's
+    none : get (ideal_of k).mems m ≡ None
+    none = ap (λ (y : LaneState). get y.mems m) now ∙ image-none memory_of h.memories.map m is.own
+
+    module _ (b : LoadBytes) (told : (m : ℕ) (x : Buffer) (flags : ℕ) (items : List Item) (c : Bio) →
+        slice_get k.script.now at ≡ Some (Load m x flags items) → bio_at (ideal_of k) x ≡ Some c → bio_of b ≡ c) where
       abbrev bio : Bio
       bio = bio_of b
 
       same-bio : is.bio ≡ bio
       same-bio =
-          let named : bio_at l is.at.buffer ≡ Some bio =
-          told l m is.at.buffer is.at.flags callback.items
-          (ap (λ s. slice_get s.now at) rest.most.script ∙ is.at.load) in
-          let both : Some is.bio ≡ Some bio = sym is.at.bytes ∙ named in
-          ap (λ o. unwrap_or o is.bio) both
+          sym (told m is.at.buffer is.at.flags callback.items is.bio
+          (ap (λ s. slice_get s.now at) rest.most.script ∙ is.at.load)
+          (bio-same l (ideal_of k) is.at.buffer (ap (λ (y : LaneState). y.mems) now) ∙ is.at.bytes))
 
       pub ends-reached : bio_reached (ideal_of k) bio ≡ Fine
       ends-reached = (λ i. bio_reached (now i) (sym same-bio i)) ∙ is.reached
+
+      pub ends-first : AreItsFirst (ideal_of k) m bio
+      ends-first x found = let no = sym none ∙ found in absurd (cc)
 
       pub ends-loadable : IsInMachine l → HasSmallLoads h → IsLoadable k.pages.now bio
       ends-loadable machine small =
@@ -129,13 +137,15 @@ module _ (h k : Holdings) (m at : ℕ) (callback : Transfers) (room : LoadRoom)
 
       pub ends-room : (count : ℕ) → ((x : KeptMap) → get h.maps.map m ≡ Some x → count ≡ x.need) →
           (y : LaneMap) → get (ideal_of k).maps m ≡ Some y →
-          HasRoomForAny (limits_of (ideal_of k) y) (bio_chunks (ideal_of k) y bio) count room
+          HasRoomForAny (limits_of (ideal_of k) y) (map_chunks (ideal_of k) m y bio) count room
       ends-room count need y there =
           let at_hand = taken-there h k m o kept.1 load (maps o kept.1) rest in
           let same : idle ≡ y = cc in
-          subst (λ (p : LaneState × LaneMap × Bio × ℕ). HasRoomForAny (limits_of p.0 p.1)
+          subst (λ (cs : List Chunk). HasRoomForAny (limits_of (ideal_of k) y) cs count room)
+          (sym (plain-chunks (ideal_of k) m y bio none))
+          (subst (λ (p : LaneState × LaneMap × Bio × ℕ). HasRoomForAny (limits_of p.0 p.1)
           (bio_chunks p.0 p.1 p.2) p.3 room)
-          (λ i. (sym now i, same i, same-bio i, sym (need o kept.1) i)) (is.fits (map_of o) o.need image waits)
+          (λ i. (sym now i, same i, same-bio i, sym (need o kept.1) i)) (is.fits (map_of o) o.need image waits))
 
       pub ends-prepared : get k.loans.prepared m ≡ Some (load_loan (ideal_of k) m bio)
       ends-prepared =
@@ -144,7 +154,7 @@ module _ (h k : Holdings) (m at : ℕ) (callback : Transfers) (room : LoadRoom)
 
       module _ (n : Holdings) (a : Answer) (pages : List ℕ) (done : (y : LaneMap) (x : Asked) →
           get (ideal_of k).maps m ≡ Some y → x.entries ≡ load_entries (ideal_of k) bio → x.items ≡ callback.items →
-          given n a ≡ finished m y at x (bio_chunks (ideal_of k) y bio) pages (ideal_of k)) where
+          given n a ≡ finished m y at x (map_chunks (ideal_of k) m y bio) pages (ideal_of k)) where
         abbrev asks : Asked
         asks = asked_at at l
 
@@ -163,6 +173,7 @@ module _ (h k : Holdings) (m at : ℕ) (callback : Transfers) (room : LoadRoom)
             done idle asks (taken-there h k m o kept.1 load (maps o kept.1) rest)
             (entries-are ∙ sym (λ i. load_entries (now i) (sym same-bio i)))
             (ap (λ (x : Asked). x.items) asks-is)
+            ∙ ap (λ cs. finished m idle at asks cs pages (ideal_of k)) (plain-chunks (ideal_of k) m idle bio none)
             ∙ (λ i. finished m idle at asks (bio_chunks (now i) idle (sym same-bio i)) pages (now i))
             ∙ finished-free l m (map_of o) at asks (bio_chunks l (map_of o) is.bio) pages
             ∙ (λ i. finished m (map_of o) at asks

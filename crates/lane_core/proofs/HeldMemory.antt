@@ -72,11 +72,11 @@ module _ (l : LaneState) (laid : AreLaid l) (apart : IsApart l) (maps : FinMap n
         ∙ sym (own-view l laid apart maps same unlent (wire m) a (mine a (ap is_some is)))
         ∙ faithful.agrees.kept a v e is
     known-byte a v is true e =
-        let r : IsLent (devices_of maps) m (entries loans) a =
-        lent-among (devices_of maps) m (entries loans) a (entries_sorted loans) e in
+        let r : IsLent (devices_of maps) (entries loans) a =
+        lent-among (devices_of maps) (entries loans) a (entries_sorted loans) e in
         let loan : loan_of loans r.key ≡ r.loan =
         ap (λ o. unwrap_or o no_loan) (get-entries loans r.key ∙ r.found) in
-        r.is ∙ lent-byte r.key r.place v r.position
+        r.is m ∙ lent-byte r.key r.place v r.position
         (ap (λ (x : Loan). Rattle.std.specs.Prelude.slice_get x.positions r.place) loan ∙ r.at) r.lends
         (ap memory r.same ∙ is)
 

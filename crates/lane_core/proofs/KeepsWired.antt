@@ -1,5 +1,5 @@
 -- A driver that memory was wanting for is as it was.
-use Rattle.std.proofs.Common.{refl, sym, subst}
+use Rattle.std.proofs.Common.{refl, sym, ap, subst}
 use Rattle.ideal_wire.specs.Apart.{IsApart}
 use Rattle.ideal_wire.specs.Centre.{IsFaithful}
 use Rattle.ideal_wire.specs.Laid.{AreLaid}
@@ -18,7 +18,8 @@ kept-wired h k s wired =
     let back = sym s.ideal in
     let laid = subst AreLaid back wired.laid in
     let apart = subst IsApart back wired.apart in
-    let there = follows h k wired.laid wired.apart laid apart (stays-all h k s.bytes) in
+    let there = follows h k wired.laid wired.apart laid apart (stays-all h k s.bytes)
+    (ap (λ n. n.pages) s.ideal) (ap (λ n. n.mems) s.ideal) in
     let here = subst (λ n. Follows l n (wire_of h) (wire_of k)) s.ideal there in
     record {
       machine = subst IsInMachine back wired.machine;

@@ -229,8 +229,8 @@ pub record IsLane (h : Holdings) : Type 0 where
   pub room : items_ahead (ideal_of h) ≤ h.agenda.room
 
 pub called-lane : (h k : Holdings) → IsLane h → IsCalledOn h k → (AreAwaiting h → AreAwaiting k) →
-    k.script ≡ h.script → k.memories ≡ h.memories → k.agenda ≡ h.agenda → IsLane k
-called-lane h k lane on awaiting script memories agenda =
+    k.script ≡ h.script → k.agenda ≡ h.agenda → IsLane k
+called-lane h k lane on awaiting script agenda =
     let provided = provided-of h lane.provided in
     let ahead = on.ahead in
     let room = lane.room in
@@ -239,7 +239,7 @@ called-lane h k lane on awaiting script memories agenda =
     record {
       wired = on.wired;
       stands = ∣ on.stands (stands-of (ideal_of h) lane.stands) ∣₁;
-      provided = ∣ provided-same h k provided (awaiting provided.awaiting) (ap (λ s. s.now) script) memories
+      provided = ∣ provided-same h k provided (awaiting provided.awaiting) (ap (λ s. s.now) script)
           (ap (λ a. a.place) agenda) (omega (arith, promised)) ∣₁;
       length = ap (λ a. a.length) agenda ∙ lane.length ∙ sym (ap (λ s. length s.now) script);
       room = omega (arith, ahead, room, same);

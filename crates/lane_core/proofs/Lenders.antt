@@ -61,7 +61,7 @@ first-of cs i (p ∷ ps) a h = by ((p.pa == a) && p.to_write) refl (first-of cs 
         }
 
 -- a loan that lends a byte to write, the position that does, and the byte at its bus address
-pub record IsLent (devices : ℕ → Device) (m : Memory) (es : List (ℕ × Loan)) (a : ℕ) : Type 0 where
+pub record IsLent (devices : ℕ → Device) (es : List (ℕ × Loan)) (a : ℕ) : Type 0 where
   pub key : ℕ
   pub loan : Loan
   pub found : find nat_cmp key es ≡ Some loan
@@ -70,18 +70,18 @@ pub record IsLent (devices : ℕ → Device) (m : Memory) (es : List (ℕ × Loa
   pub at : slice_get loan.positions place ≡ Some position
   pub same : position.pa ≡ a
   pub lends : position.to_write ≡ true
-  pub is : byte_among devices m es a
+  pub is : (m : Memory) → byte_among devices m es a
       ≡ device_view (devices key) m (bus_of (devices key).chunks (0 + place) position.pa)
 
 none-some : {X : Type 0} (x : X) → None ≡ Some x → ⊥
 none-some x h = absurd (cc)
 
-pub lent-among : (devices : ℕ → Device) (m : Memory) (es : List (ℕ × Loan)) (a : ℕ) → T (is_sorted nat_cmp es) →
-    list_any (λ e. lends to_write a e.1) es ≡ true → IsLent devices m es a
-lent-among devices m [] a s h = absurd (cc)
-lent-among devices m (e ∷ es) a s h =
+pub lent-among : (devices : ℕ → Device) (es : List (ℕ × Loan)) (a : ℕ) → T (is_sorted nat_cmp es) →
+    list_any (λ e. lends to_write a e.1) es ≡ true → IsLent devices es a
+lent-among devices [] a s h = absurd (cc)
+lent-among devices (e ∷ es) a s h =
     let two = T_parts (below_all nat_cmp e.0 es) (is_sorted nat_cmp es) s in
-    by (lends to_write a e.1) refl (none-below e.0 es two.0) (lent-among devices m es a two.1) h
+    by (lends to_write a e.1) refl (none-below e.0 es two.0) (lent-among devices es a two.1) h
   where
     d : Device
     d = devices e.0
@@ -98,8 +98,8 @@ lent-among devices m (e ∷ es) a s h =
         off false k rest = rest k
 
     by : (b : Bool) → lends to_write a e.1 ≡ b → find nat_cmp e.0 es ≡ None →
-        (list_any (λ f. lends to_write a f.1) es ≡ true → IsLent devices m es a) →
-        (b || list_any (λ f. lends to_write a f.1) es) ≡ true → IsLent devices m (e ∷ es) a
+        (list_any (λ f. lends to_write a f.1) es ≡ true → IsLent devices es a) →
+        (b || list_any (λ f. lends to_write a f.1) es) ≡ true → IsLent devices (e ∷ es) a
     by true t gone rest g =
         let r = first-of d.chunks 0 e.1.positions a t in
         record {
@@ -111,7 +111,7 @@ lent-among devices m (e ∷ es) a s h =
           at = r.at;
           same = r.same;
           lends = r.lends;
-          is = ap (λ o. lent_byte d m o (byte_among devices m es a)) r.bus;
+          is = λ m. ap (λ o. lent_byte d m o (byte_among devices m es a)) r.bus;
         }
     by false t gone rest g =
         let r = rest g in
@@ -126,5 +126,6 @@ lent-among devices m (e ∷ es) a s h =
           at = r.at;
           same = r.same;
           lends = r.lends;
-          is = ap (λ o. lent_byte d m o (byte_among devices m es a)) (unlent d.chunks 0 e.1.positions t) ∙ r.is;
+          is = λ m. ap (λ o. lent_byte d m o (byte_among devices m es a)) (unlent d.chunks 0 e.1.positions t)
+              ∙ r.is m;
         }

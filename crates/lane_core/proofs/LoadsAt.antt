@@ -1,8 +1,10 @@
 -- What is known of the bio of a load of the script.
 use Rattle.std.proofs.Common.{◌≡◌, ℕ, zero, suc, ◌+◌, ◌<◌, ◌≤◌, ◌^◌, Bool, true, false, ◌&&◌, ◌||◌, nat_le, nat_lt}
-use Rattle.std.proofs.Common.{List, [], ◌∷◌, Option, Some, slice_get, unwrap_or, refl, sym, ap, ◌∙◌, subst, arith}
+use Rattle.std.proofs.Common.{List, [], ◌∷◌, Option, Some, None, slice_get, unwrap_or, refl, sym, ap, ◌∙◌, subst, arith}
 use Rattle.std.proofs.lemmas.Bool.Decides.{nat_tests}
+use Rattle.std.specs.FinMap.{get}
 use Rattle.std.specs.List.{AllByRecursion}
+use Rattle.std.specs.Option.{option_map}
 use Rattle.busdma_base.specs.declared.machine.bio.Bio.{Bio}
 use Rattle.busdma_base.specs.declared.machine.bio.Bio.TheVariants.{Mapped, Unmapped, Vector}
 use Rattle.busdma_base.specs.declared.scenarios.buffer.Buffer.{Buffer}
@@ -11,7 +13,8 @@ use Rattle.busdma_base.specs.declared.scenarios.scenario.PageRun.{PageRun}
 use Rattle.busdma_base.specs.declared.scenarios.script.Item.{Item}
 use Rattle.busdma_base.specs.declared.scenarios.script.Op.{Op}
 use Rattle.busdma_base.specs.declared.scenarios.script.Op.TheVariants.{Load}
-use Rattle.busdma_base.specs.declared.scenarios.script.Place.TheVariants.{At}
+use Rattle.busdma_base.specs.declared.scenarios.script.Place.{Place}
+use Rattle.busdma_base.specs.declared.scenarios.script.Place.TheVariants.{At, In}
 use Rattle.busdma_base.specs.Machine.PageRuns.{has_frame}
 use Rattle.busdma_base.specs.Scenarios.Buffers.{IsBioOf, IsBufferOf, buffer_bytes}
 use Rattle.busdma_base.specs.Scenarios.Limits.{buffer_limit}
@@ -20,29 +23,34 @@ use Rattle.busdma_base.specs.Scenarios.Valid.{LoadsFrom}
 use Rattle.load_bio.specs.Bio.{IsBio}
 use Rattle.load_bio.specs.Frames.{AreFrames}
 use Rattle.phys_memory.proofs.Loads.{one_bytes}
+use Rattle.ideal_lane.specs.Places.{begin_of, virtual_at}
 use Rattle.ideal_lane.specs.State.{LaneState}
-use Rattle.ideal_lane.specs.Turns.{bio_at}
+use Rattle.ideal_lane.specs.Turns.{bio_at, flat_bio}
 use Rattle.ideal_wire.specs.Machine.{IsInMachine, IsOfMachine}
 use Rattle.lane_core.specs.declared.holdings.Holdings.{Holdings}
 use Rattle.lane_core.specs.Awaiting.{HasSmallLoads, IsLoadAt}
 use Rattle.lane_core.specs.Ideal.{ideal_of}
 use Rattle.lane_core.specs.Loading.{IsLoadable, bio_bytes}
 
--- a buffer is the same bio to each state of its driver
-pub bio-same : (l k : LaneState) (x : Buffer) → bio_at k x ≡ bio_at l x
-bio-same l k (buffer.Flat (At va) len) = refl
-bio-same l k (buffer.Vector spans) = refl
-bio-same l k (buffer.Mbuf chain) = refl
-bio-same l k (buffer.Bio b) = refl
+-- a place is the same virtual address, and a buffer the same bio, to each state of a driver with the same memories
+virtual-same : (l k : LaneState) (p : Place) → k.mems ≡ l.mems → virtual_at k p ≡ virtual_at l p
+virtual-same l k (At va) mems = refl
+virtual-same l k (In mem off) mems = ap (λ ms. option_map (λ x. begin_of x + off) (get ms mem)) mems
+
+pub bio-same : (l k : LaneState) (x : Buffer) → k.mems ≡ l.mems → bio_at k x ≡ bio_at l x
+bio-same l k (buffer.Flat place len) mems = ap (option_map (flat_bio len)) (virtual-same l k place mems)
+bio-same l k (buffer.Vector spans) mems = refl
+bio-same l k (buffer.Mbuf chain) mems = refl
+bio-same l k (buffer.Bio b) mems = refl
 
 -- a load of the script stands where it stood
 pub at-same : (h k : Holdings) (p m : ℕ) (b : Bio) (items : List Item) → k.script.now ≡ h.script.now →
-    IsLoadAt h p m b items → IsLoadAt k p m b items
-at-same h k p m b items script at = record {
+    (ideal_of k).mems ≡ (ideal_of h).mems → IsLoadAt h p m b items → IsLoadAt k p m b items
+at-same h k p m b items script mems at = record {
   buffer = at.buffer;
   flags = at.flags;
   load = ap (λ (os : List Op). slice_get os p) script ∙ at.load;
-  bytes = bio-same (ideal_of h) (ideal_of k) at.buffer ∙ at.bytes;
+  bytes = bio-same (ideal_of h) (ideal_of k) at.buffer mems ∙ at.bytes;
 }
 
 -- the bio of an option, or one of no byte
@@ -52,7 +60,11 @@ bio_in o = unwrap_or o (Vector [])
 -- a bio has the bytes of its buffer
 pub bytes-is : (l : LaneState) (x : Buffer) (b : Bio) → bio_at l x ≡ Some b → bio_bytes b ≡ buffer_bytes x
 unfolding bio_in
-bytes-is l (buffer.Flat (At va) len) b e = sym (ap (λ o. bio_bytes (bio_in o)) e) ∙ one_bytes va.0 len
+bytes-is l (buffer.Flat place len) b e = by (virtual_at l place) e
+  where
+    by : (o : Option ℕ) → option_map (flat_bio len) o ≡ Some b → bio_bytes b ≡ len
+    by None f = absurd (cc)
+    by (Some va) f = sym (ap (λ q. bio_bytes (bio_in q)) f) ∙ one_bytes va len
 bytes-is l (buffer.Vector spans) b e = sym (ap (λ o. bio_bytes (bio_in o)) e)
 bytes-is l (buffer.Mbuf chain) b e = sym (ap (λ o. bio_bytes (bio_in o)) e)
 bytes-is l (buffer.Bio c) b e = sym (ap (λ o. bio_bytes (bio_in o)) e)
@@ -61,7 +73,11 @@ bytes-is l (buffer.Bio c) b e = sym (ap (λ o. bio_bytes (bio_in o)) e)
 own-is : (pages : List PageRun) (l : LaneState) (x : Buffer) (b : Bio) → bio_at l x ≡ Some b →
     IsBufferOf pages x → IsBioOf pages b
 unfolding bio_in
-own-is pages l (buffer.Flat (At va) len) b e h = subst (IsBioOf pages) (ap bio_in e) tt
+own-is pages l (buffer.Flat place len) b e h = by (virtual_at l place) e
+  where
+    by : (o : Option ℕ) → option_map (flat_bio len) o ≡ Some b → IsBioOf pages b
+    by None f = absurd (cc)
+    by (Some va) f = subst (IsBioOf pages) (ap bio_in f) tt
 own-is pages l (buffer.Vector spans) b e h = subst (IsBioOf pages) (ap bio_in e) tt
 own-is pages l (buffer.Mbuf chain) b e h = subst (IsBioOf pages) (ap bio_in e) tt
 own-is pages l (buffer.Bio c) b e h = subst (IsBioOf pages) (ap bio_in e) h

@@ -2,6 +2,7 @@
 use Rattle.std.proofs.Common.{◌≡◌, inl, inr, ◌≤◌, ℕ, Bool, IsTrue, refl, ap, sym, subst, arith}
 use Rattle.busdma_base.specs.declared.journals.journal.Side.{Side}
 use Rattle.busdma_base.specs.Bounce.Door.{Seen}
+use Rattle.busdma_base.specs.Bounce.EachFrame.{LiesBelowMaxmem}
 use Rattle.lane_agreement.proofs.Doors.{agrees-passes}
 use Rattle.ideal_lane.specs.Ahead.{items_ahead}
 use Rattle.ideal_lane.specs.Standing.{Stands}
@@ -10,20 +11,29 @@ use Rattle.ideal_wire.specs.WireStep.{Follows}
 use Rattle.ideal_wire.specs.WireStep as wires
 use Rattle.lane_core.specs.declared.holdings.Holdings.{Holdings}
 use Rattle.lane_core.specs.declared.turn.Turn.{Turn}
-use Rattle.lane_core.specs.Changes.{IsWireOf, KeepsState}
+use Rattle.lane_core.specs.Changes.{IsWireOf, Becomes, Stays, WithMemory, KeepsState}
 use Rattle.lane_core.specs.Doing.{IsUndone}
 use Rattle.lane_core.specs.Ideal.{ideal_of}
 use Rattle.lane_core.specs.Turning.{IsMade, IsReady, IsServed, is_held, turned}
 use Rattle.lane_core.specs.Wire.{wire_of}
 use Rattle.lane_core.proofs.KeepsWired.{kept-wired}
-use Rattle.lane_core.proofs.TurnEnds.{end-bounded, end-follows, end-served, end-stands, end-wired}
+use Rattle.lane_core.proofs.TurnEnds.{end-beside, end-bounded, end-follows, end-known, end-served, end-stands}
+use Rattle.lane_core.proofs.TurnEnds.{end-wired}
 
 module _ (h k : Holdings) (d e : Seen) (s : Side) (t : Turn) (ready : IsReady h d) (made : IsMade h k d e s t) where
   pub end-wire : IsWireOf h k (wires.lane_step (ideal_of h) s (wire_of h)) →
       Follows (ideal_of h) (ideal_of k) (wires.lane_step (ideal_of h) s (wire_of h)) (wire_of k)
-  end-wire (inl is) = (λ a before after. ap (λ w. w a) is, λ m a before after. ap (λ w. w a) is)
-  end-wire (inr (plain, keeps)) =
-      end-follows h k s d e ready.stands ready.wired ready.served (turned k t) (is_held t) made.done refl keeps
+  end-wire (Becomes memories is) = record {
+    own = λ a before after. ap (λ w. w a) is;
+    pages = λ m a before after. ap (λ w. w a) is;
+    known = end-known h k s d e ready.stands ready.wired ready.served (turned k t) (is_held t) made.done refl memories
+        (wire_of k);
+  }
+  end-wire (Stays memories plain keeps) =
+      end-follows h k s d e ready.stands ready.wired ready.served (turned k t) (is_held t) made.done refl memories keeps
+      (wires.lane_step (ideal_of h) s (wire_of h)) plain
+  end-wire (WithMemory plain keeps) =
+      end-beside h k s d e ready.stands ready.wired ready.served (turned k t) (is_held t) made.done refl keeps
       (wires.lane_step (ideal_of h) s (wire_of h)) plain
 
   pub made-ready : IsReady k e
@@ -50,6 +60,7 @@ module _ (h k : Holdings) (d e : Seen) (ready : IsReady h d) (same : KeepsState 
         served = subst (λ (b : ℕ → Bool). IsTrue (b (ideal_of h).id)) (sym p.serves)
             ready.served.served;
         opening = p.form;
+        below = subst LiesBelowMaxmem (sym p.opening) ready.served.below;
         sound = p.sound;
         agrees = agrees-passes (view_of (ideal_of h)) d fails.others e ready.served.agrees ready.served.served p;
       }

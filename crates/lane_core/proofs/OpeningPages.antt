@@ -210,6 +210,23 @@ pages_reached limit before (r ∷ pages) va le h =
     (pages_reached limit (before ++ r ∷ []) pages va le h.1)
     ∙ ap (λ b. cond b (Some (4096 * r.frame + (va - r.va.0))) (physical_in pages va)) (sym one)
 
+-- pages lie below the virtual addresses of memories
+rows_low : (before pages : List PageRun) (v : ℕ) (r : Reach) → EachAfter IsOwnRun before pages →
+    rows_of pages v ≡ Some r → v < pages_end / 4096
+rows_low before [] v r h e = absurd (cc)
+rows_low before (run ∷ pages) v r h e =
+    at (is_one_of (run.va.0 / 4096) run.count v) refl (rows_low (before ++ run ∷ []) pages v r h.1) e
+  where
+    at : (b : Bool) → is_one_of (run.va.0 / 4096) run.count v ≡ b →
+        (rows_of pages v ≡ Some r → v < pages_end / 4096) →
+        cond b (Some (row_of run v)) (rows_of pages v) ≡ Some r → v < pages_end / 4096
+    at true one rest is =
+        let hi = one_of_hi (run.va.0 / 4096) run.count v one in
+        let low : run.va.0 + 4096 * run.count ≤ pages_end = h.0.low in
+        let aligned : run.va.0 % 4096 ≡ 0 = h.0.aligned in
+        omega arith
+    at false one rest is = rest is
+
 -- the memory of a driver's pages is the one in which it opens
 pub has_opening : (pages : List PageRun) (m : Memory) → ArePages pages → HasPages pages m → IsOpeningMemory pages m
 has_opening pages m are has = record {
@@ -219,6 +236,7 @@ has_opening pages m are has = record {
   zero = λ a h. ap (λ o. byte_in o (a % 4096)) (has.frames (a / 4096)
       ∙ ap (λ b. cond b (Some (replicate 4096 0)) None) (sym (own_frame pages a) ∙ h))
       ∙ get_or-replicate 4096 (a % 4096) 0 0 (omega arith);
+  low = λ v r e. rows_low [] pages v r are (sym (has.table v) ∙ e);
 }
   where
     at : (va : ℕ) → physical m va ≡ physical_in pages va

@@ -1,5 +1,5 @@
 -- A driver opens with all that its turns take.
-use Rattle.std.proofs.Common.{◌≡◌, ℕ, zero, suc, ◌≤◌, List, [], ◌∷◌, Some, None, is_some, slice_get, ap, sym, ◌∙◌}
+use Rattle.std.proofs.Common.{◌≡◌, ℕ, zero, suc, ◌≤◌, List, [], ◌∷◌, Some, None, slice_get, ap, sym, ◌∙◌}
 use Rattle.std.proofs.Common.{subst, arith}
 use Rattle.std.specs.FinMap.{empty, get, get-empty}
 use Rattle.std.specs.List.{sum_by}
@@ -25,7 +25,7 @@ small-each before (q ∷ script) (here, each) (suc p) o h = small-each _ script 
 module _ (driver : Driver) (h : Holdings) (valid : IsScript driver.script)
     (small : sum_by loaded_by driver.script ≤ loaded_limit) (script : h.script.now ≡ driver.script)
     (place : h.agenda.place ≡ 0) (promised : h.agenda.promised ≡ 0) (mapless : h.maps.map ≡ empty)
-    (plain : h.memories.map ≡ empty) (unprepared : h.loans.prepared ≡ empty) where
+    (unprepared : h.loans.prepared ≡ empty) where
   no-load : (m : ℕ) → kept_load (get h.maps.map m) ≡ None
   no-load m = ap (λ ms. kept_load (get ms m)) mapless ∙ ap kept_load (get-empty nat_cmp m)
 
@@ -50,5 +50,4 @@ module _ (driver : Driver) (h : Holdings) (valid : IsScript driver.script)
   opens-provided = record {
     awaiting = opens-awaiting;
     small = opens-small;
-    plain = λ p h. ap (λ ms. is_some (get ms p)) plain ∙ ap is_some (get-empty nat_cmp p);
   }

@@ -1,23 +1,24 @@
 -- What an operation is that makes no call, and one that changes no byte.
-use Rattle.std.proofs.Common.{◌≡◌, ℕ, Bool, List, Option, inl, inr, false, None, Some, ap, sym, ◌∙◌}
+use Rattle.std.proofs.Common.{◌≡◌, ℕ, Bool, List, Option, false, None, Some, ap, sym, ◌∙◌}
 use Rattle.std.specs.FinMap.{FinMap, get}
 use Rattle.std.specs.Ordering.{nat_cmp}
 use Rattle.busdma_base.specs.declared.journals.answer.Answer.{Answer}
+use Rattle.busdma_base.specs.declared.journals.answer.Answer.TheVariants as answer
+use Rattle.busdma_base.specs.declared.journals.report.ReportName.TheVariants.{Absent}
 use Rattle.busdma_base.specs.declared.machine.bio.Bio.{Bio}
 use Rattle.busdma_base.specs.declared.scenarios.buffer.Buffer.{Buffer}
 use Rattle.busdma_base.specs.declared.scenarios.script.Item.{Item}
 use Rattle.busdma_base.specs.declared.scenarios.script.Op.{Op}
-use Rattle.busdma_base.specs.declared.scenarios.script.Op.TheVariants as op
 use Rattle.busdma_base.specs.Bounce.Door.{Seen}
 use Rattle.ideal_lane.specs.Asking.{Gives}
 use Rattle.ideal_lane.specs.Loads.{asked, load}
-use Rattle.ideal_lane.specs.Outcomes.{unless_absent}
+use Rattle.ideal_lane.specs.Outcomes.{gives, unless_absent}
 use Rattle.ideal_lane.specs.State.{LaneState}
-use Rattle.ideal_lane.specs.Turns.{bio_at, never_waits, operation}
+use Rattle.ideal_lane.specs.Turns.{bio_at, load_buffer, never_waits, operation}
 use Rattle.ideal_wire.specs.WireStep as wires
 use Rattle.lane_core.specs.declared.holdings.Answered.{Answered}
 use Rattle.lane_core.specs.declared.holdings.Holdings.{Holdings}
-use Rattle.lane_core.specs.Changes.{IsWireOf, KeepsWhatStays}
+use Rattle.lane_core.specs.Changes.{IsWireOf, Becomes, Stays, WithMemory, KeepsBesideMemory, KeepsWhatStays}
 use Rattle.lane_core.specs.Doing.{IsDone, asks}
 use Rattle.lane_core.specs.Ideal.{given, ideal_of}
 use Rattle.lane_core.specs.Wire.{wire_of}
@@ -45,21 +46,31 @@ module _ (h k : Holdings) (o p : Op) (same : o ≡ p) where
         ∙ unasked (operation o (ideal_of h)) (given k a) (ap (λ q. operation q (ideal_of h)) same ∙ sym done)
 
   -- its bytes came and went with their pages
-  pub paged-wire : wires.operation p (ideal_of h) (wire_of h) ≡ wire_of h → KeepsWhatStays h k →
+  pub paged-wire : k.memories ≡ h.memories → wires.operation p (ideal_of h) (wire_of h) ≡ wire_of h →
+      KeepsWhatStays h k → IsWireOf h k (wires.operation o (ideal_of h) (wire_of h))
+  paged-wire memories plain keeps =
+      Stays memories (ap (λ q. wires.operation q (ideal_of h) (wire_of h)) same ∙ plain) keeps
+
+  -- a memory came or went
+  pub beside-wire : wires.operation p (ideal_of h) (wire_of h) ≡ wire_of h → KeepsBesideMemory h k →
       IsWireOf h k (wires.operation o (ideal_of h) (wire_of h))
-  paged-wire plain keeps = inr (ap (λ q. wires.operation q (ideal_of h) (wire_of h)) same ∙ plain, keeps)
+  beside-wire plain keeps = WithMemory (ap (λ q. wires.operation q (ideal_of h) (wire_of h)) same ∙ plain) keeps
 
   -- they are those of the operation
-  pub done-wire : wire_of k ≡ wires.operation p (ideal_of h) (wire_of h) →
+  pub done-wire : k.memories ≡ h.memories → wire_of k ≡ wires.operation p (ideal_of h) (wire_of h) →
       IsWireOf h k (wires.operation o (ideal_of h) (wire_of h))
-  done-wire is = inl (is ∙ ap (λ q. wires.operation q (ideal_of h) (wire_of h)) (sym same))
+  done-wire memories is = Becomes memories (is ∙ ap (λ q. wires.operation q (ideal_of h) (wire_of h)) (sym same))
 
 -- a load of the bytes of a buffer
-pub load-named : (l : LaneState) (o : Op) (m : ℕ) (x : Buffer) (flags : ℕ) (items : List Item) (b : Bio)
-    (nowait : Bool) →
-    o ≡ op.Load m x flags items → bio_at l x ≡ Some b → nowait ≡ never_waits x flags →
-    operation o l ≡ load m (asked m b nowait items l) l
-load-named l o m x flags items b nowait is bytes waits =
-    ap (λ q. operation q l) is
-    ∙ ap (λ (c : Option Bio). unless_absent c l (λ d. load m (asked m d (never_waits x flags) items l) l)) bytes
+pub load-named : (l : LaneState) (m : ℕ) (x : Buffer) (flags : ℕ) (items : List Item) (b : Bio) (nowait : Bool) →
+    bio_at l x ≡ Some b → nowait ≡ never_waits x flags →
+    load_buffer m x flags items l ≡ load m (asked m b nowait items l) l
+load-named l m x flags items b nowait bytes waits =
+    ap (λ (c : Option Bio). unless_absent c l (λ d. load m (asked m d (never_waits x flags) items l) l)) bytes
     ∙ ap (λ w. load m (asked m b w items l) l) (sym waits)
+
+-- a load of a buffer in a memory that does not exist
+pub load-unnamed : (l : LaneState) (m : ℕ) (x : Buffer) (flags : ℕ) (items : List Item) → bio_at l x ≡ None →
+    load_buffer m x flags items l ≡ gives l (answer.Report (record { name = Absent; at = 0 }))
+load-unnamed l m x flags items none =
+    ap (λ (c : Option Bio). unless_absent c l (λ d. load m (asked m d (never_waits x flags) items l) l)) none

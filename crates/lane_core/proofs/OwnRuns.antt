@@ -109,7 +109,7 @@ none_of first x = nothing (is_one_of first 0 x) refl
     nothing true e = let lo = one_of_lo first 0 x e in let hi = one_of_hi first 0 x e in absurd (omega arith)
     nothing false e = refl
 
-among_run : (p n a : ℕ) → list_any (λ k. a == k) (run_of p n) ≡ is_one_of p n a
+pub among_run : (p n a : ℕ) → list_any (λ k. a == k) (run_of p n) ≡ is_one_of p n a
 among_run p zero a = sym (none_of p a)
 among_run p (suc n) a = ap (λ t. (a == p) || t) (among_run (p + 1) n a) ∙ first
   where

@@ -1,5 +1,5 @@
 -- A driver is provided for its next turn after one that was made.
-use Rattle.std.proofs.Common.{◌≡◌, ◌+◌, ◌≤◌, inl, false, Some, Result, Ok, Err, IfOk, OnOk, OnErr, length, slice_get}
+use Rattle.std.proofs.Common.{◌≡◌, ◌+◌, ◌≤◌, false, Some, Result, Ok, Err, IfOk, OnOk, OnErr, length, slice_get}
 use Rattle.std.proofs.Common.{refl, sym, ap, ◌∙◌, subst, arith}
 use Rattle.busdma_base.specs.declared.journals.journal.Side.{Side}
 use Rattle.busdma_base.specs.declared.journals.journal.Side.TheVariants as side
@@ -15,8 +15,7 @@ use Rattle.ideal_wire.specs.WireStep as wires
 use Rattle.lane_core.specs.declared.holdings.Holdings.{Holdings}
 use Rattle.lane_core.specs.declared.turn.Turn.{Turn}
 use Rattle.lane_core.specs.Awaiting.{AreAwaiting}
-use Rattle.lane_core.specs.Changes.{KeepsState}
-use Rattle.lane_core.specs.Covered.{IsVacantFrom}
+use Rattle.lane_core.specs.Changes.{Becomes, KeepsState}
 use Rattle.lane_core.specs.Doing.{IsUndone}
 use Rattle.lane_core.specs.Ideal.{ideal_of}
 use Rattle.lane_core.specs.Provided.{IsProvided}
@@ -40,37 +39,28 @@ module _ {E : Type 0} (h k n : Holdings) (d e f : Seen) (s : Side) (same : k ≡
   made-from (Ok t) made = subst (λ (x : Holdings). IsMade x n d f s t) same (subst (λ y. IsMade k n y f s t) seen made)
   made-from (Err x) made = tt
 
-module _ (h k : Holdings) (p : IsProvided h) (awaiting : AreAwaiting k) (script : k.script.now ≡ h.script.now)
-    (memories : k.memories ≡ h.memories) where
-  plain : IsVacantFrom 0 k.memories.map
-  plain = subst (λ t. IsVacantFrom 0 t.map) (sym memories) p.plain
-
+module _ (h k : Holdings) (p : IsProvided h) (awaiting : AreAwaiting k) (script : k.script.now ≡ h.script.now) where
   -- where no operation was done
   pub provided-same : k.agenda.place ≡ h.agenda.place → k.agenda.promised ≤ h.agenda.promised → IsProvided k
-  provided-same place promised = record {
-    awaiting = awaiting;
-    small = small-same h k p.small script place promised;
-    plain = plain;
-  }
+  provided-same place promised =
+      record { awaiting = awaiting; small = small-same h k p.small script place promised }
 
   -- after the next operation
   pub provided-next : (o : Op) → slice_get h.script.now h.agenda.place ≡ Some o →
       k.agenda.place ≡ h.agenda.place + 1 → k.agenda.promised ≤ h.agenda.promised + loaded_by o → IsProvided k
-  provided-next o here place promised = record {
-    awaiting = awaiting;
-    small = small-next h p.small o here k script place promised;
-    plain = plain;
-  }
+  provided-next o here place promised =
+      record { awaiting = awaiting; small = small-next h p.small o here k script place promised }
 
 -- the turn of the device, which makes no call
 pub transfer-made : (h k : Holdings) (d : Seen) (t : Turn) →
     Gives (turned k t) ≡ lane_step (ideal_of h) side.Transfer → is_held t ≡ false →
-    wire_of k ≡ wires.lane_step (ideal_of h) side.Transfer (wire_of h) → k.agenda.length ≡ h.agenda.length →
+    wire_of k ≡ wires.lane_step (ideal_of h) side.Transfer (wire_of h) → k.memories ≡ h.memories →
+    k.agenda.length ≡ h.agenda.length →
     k.agenda.room + length k.agenda.queue ≡ h.agenda.room + length h.agenda.queue →
     IsMade h k d d side.Transfer t
-transfer-made h k d t done unheld wire places capacity = record {
+transfer-made h k d t done unheld wire memories places capacity = record {
   done = subst (λ step. IsTurned d h.id.0 step (turned k t) (is_held t) d) done (refl, unheld, refl);
-  wire = inl wire;
+  wire = Becomes memories wire;
   places = places;
   capacity = capacity;
 }
@@ -78,11 +68,13 @@ transfer-made h k d t done unheld wire places capacity = record {
 -- what it gives where it was made
 pub transfer-all : {E : Type 0} (h k : Holdings) (d : Seen) (r : Result Turn E) →
     IfOk r (λ t. Gives (turned k t) ≡ lane_step (ideal_of h) side.Transfer) → IfOk r (λ t. is_held t ≡ false) →
-    OnOk r (wire_of k ≡ wires.lane_step (ideal_of h) side.Transfer (wire_of h)) → k.agenda.length ≡ h.agenda.length →
+    OnOk r (wire_of k ≡ wires.lane_step (ideal_of h) side.Transfer (wire_of h)) → k.memories ≡ h.memories →
+    k.agenda.length ≡ h.agenda.length →
     k.agenda.room + length k.agenda.queue ≡ h.agenda.room + length h.agenda.queue →
     IfOk r (IsMade h k d d side.Transfer)
-transfer-all h k d (Ok t) done unheld wire places capacity = transfer-made h k d t done unheld wire places capacity
-transfer-all h k d (Err x) done unheld wire places capacity = tt
+transfer-all h k d (Ok t) done unheld wire memories places capacity =
+    transfer-made h k d t done unheld wire memories places capacity
+transfer-all h k d (Err x) done unheld wire memories places capacity = tt
 
 -- where memory was wanting, the transfer queue has its room
 pub same-room : (h k : Holdings) → KeepsState h k →
@@ -124,4 +116,4 @@ pub kept-follows : (h k : Holdings) → IsWired h → KeepsState h k →
 kept-follows h k wired s =
     let back = sym s.ideal in
     follows h k wired.laid wired.apart (subst AreLaid back wired.laid) (subst IsApart back wired.apart)
-    (stays-all h k s.bytes)
+    (stays-all h k s.bytes) (ap (λ l. l.pages) s.ideal) (ap (λ l. l.mems) s.ideal)

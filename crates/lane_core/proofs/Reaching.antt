@@ -1,8 +1,8 @@
 -- The extents of bytes that a driver reaches.
-use Rattle.std.proofs.Common.{◌≡◌, ℕ, ◌<◌, ◌^◌, Bool, length, map, ap, ◌∙◌, Result, Ok, Err, IfOk, arith}
+use Rattle.std.proofs.Common.{◌≡◌, ℕ, ◌<◌, ◌^◌, Bool, length, map, ap, sym, ◌∙◌, Result, Ok, Err, IfOk, arith}
 use Rattle.std.specs.List.{AllByRecursion}
 use Rattle.std.specs.Ordering.{nat_cmp}
-use Rattle.std.specs.FinMap.{FinMap}
+use Rattle.std.specs.FinMap.{FinMap, get}
 use Rattle.std.proofs.lemmas.List.{length-map}
 use Rattle.busdma_base.specs.Runs.{run_of, addresses, byte_count, IsExtent}
 use Rattle.phys_memory.specs.declared.walk.Walked.{Walked}
@@ -13,7 +13,9 @@ use Rattle.phys_memory.specs.Extents.{LiesIn}
 use Rattle.phys_memory.specs.Walk.{IfParts}
 use Rattle.loan_table.specs.Table.{AreIn}
 use Rattle.loan_table.proofs.Judgement.{length-run_of}
-use Rattle.lane_core.specs.Covered.{IsCovered}
+use Rattle.memory_pages.specs.Placed.{AreAtTheirFrames}
+use Rattle.lane_core.specs.declared.kept.KeptMemory.{KeptMemory}
+use Rattle.lane_core.specs.Covered.{AreStanding, IsCovered}
 use Rattle.lane_core.proofs.Covering.{lie_in}
 use Rattle.lane_core.proofs.Wires.{byte_count_addresses}
 
@@ -43,3 +45,14 @@ reach_total len (Err e) b h = tt
 -- a memory with the same pages is reached the same way
 pub same-physical : (m n : Memory) → SamePages m n → physical n ≡ physical m
 same-physical m n s = ap (λ t. λ va. physical (record { table = t; frames = n.frames }) va) s.table
+
+-- each of its pages where memories lie has its own frame
+pub same-placed : (m n : Memory) → SamePages m n → AreAtTheirFrames m → AreAtTheirFrames n
+same-placed m n s placed v r e high =
+    let is = placed v r (sym (ap (λ t. get t v) s.table) ∙ e) high in
+    record { own = is.own; there = s.frames r.frame ∙ is.there }
+
+-- and memories stand where they stood
+pub same-standing : (memories : FinMap nat_cmp KeptMemory) (m n : Memory) → SamePages m n → AreStanding memories m →
+    AreStanding memories n
+same-standing memories m n s standing k x e v h = ap (λ t. get t v) s.table ∙ standing k x e v h

@@ -10,9 +10,9 @@ use Rattle.busdma_base.specs.declared.journals.report.Judged.{Judged}
 use Rattle.busdma_base.specs.declared.journals.report.Judged.TheVariants.{Fine, Refused}
 use Rattle.busdma_base.specs.declared.journals.report.Report.{Report}
 use Rattle.busdma_base.specs.declared.journals.report.ReportName.{ReportName}
+use Rattle.busdma_base.specs.declared.journals.report.ReportName.TheVariants.{Absent}
 use Rattle.busdma_base.specs.declared.machine.chunk.Chunk.{Chunk}
 use Rattle.busdma_base.specs.declared.scenarios.script.Place.{Place}
-use Rattle.busdma_base.specs.declared.scenarios.script.Place.TheVariants.{At}
 use Rattle.busdma_base.specs.Journals.Judging.{judged, refused_or}
 use Rattle.busdma_base.specs.Machine.PageRuns.{physical_in}
 use Rattle.busdma_base.specs.Runs.{run_of}
@@ -23,11 +23,11 @@ use Rattle.loan_table.specs.Table.{is_marked}
 use Rattle.phys_memory.specs.Memory.{Memory, wire}
 use Rattle.phys_memory.specs.Memory as memory
 use Rattle.phys_memory.specs.Translation.{physical_or_0, unreached}
-use Rattle.ideal_lane.specs.Accesses.{cpu_read}
+use Rattle.ideal_lane.specs.Accesses.{cpu_read, values}
 use Rattle.ideal_lane.specs.IdealMemory.{known, value, is_known}
-use Rattle.ideal_lane.specs.Outcomes.{gives, unless_refused}
+use Rattle.ideal_lane.specs.Outcomes.{gives, unless_absent, unless_refused}
 use Rattle.ideal_lane.specs.Asking.{Asking}
-use Rattle.ideal_lane.specs.Places.{physical, or_in_memory, reached, bytes_at}
+use Rattle.ideal_lane.specs.Places.{physical, or_in_memory, reached, bytes_at, virtual_at}
 use Rattle.ideal_lane.specs.State.{LaneState}
 use Rattle.ideal_lane.specs.Outcomes.{Outcome}
 use Rattle.lane_core.specs.declared.holdings.Holdings.{Holdings}
@@ -35,7 +35,6 @@ use Rattle.lane_core.specs.Covered.{reached_in}
 use Rattle.lane_core.specs.Held.{bus_of, lent_bus, lent_byte, byte_among, content_of, held, devices_of}
 use Rattle.lane_core.specs.Ideal.{ideal_of}
 use Rattle.lane_core.specs.Kept.{Device, memory_of}
-use Rattle.lane_core.specs.Virtual.{virtual}
 use Rattle.lane_core.proofs.MapValues.{any-map_values}
 use Rattle.ideal_lane.specs.Places.{is_in_memory, physical_of}
 
@@ -134,37 +133,63 @@ pub refused : (j : Judged) (r : Report) (l : LaneState) (step : Asking Outcome) 
     unless_refused j l step ≡ gives l (answer.Report r)
 refused j r l step h = rw h refl
 
--- a read by the driver of which a byte cannot be reached
-pub cpu_read-unmapped : (h : Holdings) (place : Place) (len : ℕ) (r : Report) →
-    Refused r ≡ judged (unreached (memory.physical h.memory.memory)) 0 (virtual place len) →
-    gives (ideal_of h) (answer.Report r) ≡ cpu_read place len (ideal_of h)
-cpu_read-unmapped h (At va) len r is =
-    sym (refused (reached (ideal_of h) va.0 len) r (ideal_of h) _ (reached-same h va.0 len ∙ sym is))
-
--- a read by the driver that is refused
-pub cpu_read-refused : (h : Holdings) (place : Place) (len : ℕ) (r : Report) (pas : List ℕ) →
-    Fine ≡ judged (unreached (memory.physical h.memory.memory)) 0 (virtual place len) →
-    pas ≡ map (physical_or_0 (memory.physical h.memory.memory)) (virtual place len) →
-    Refused r ≡ cpu_read_answer (is_marked h.loans.bytes) h.loans.loans pas →
-    gives (ideal_of h) (answer.Report r) ≡ cpu_read place len (ideal_of h)
-cpu_read-refused h (At va) len r pas reaches here is =
-    sym (passes (reached (ideal_of h) va.0 len) (ideal_of h) _ (reached-same h va.0 len ∙ sym reaches)
-    ∙ refused _ r (ideal_of h) _
-    (sym (is ∙ answer-same h pas ∙ ap (cpu_read_answer (is_known (ideal_of h).memory) h.loans.loans)
-    (here ∙ bytes-same h va.0 len))))
-
--- a read by the driver that is done
-pub cpu_read-done : (h : Holdings) (place : Place) (len : ℕ) (pas bytes : List ℕ) →
-    Fine ≡ judged (unreached (memory.physical h.memory.memory)) 0 (virtual place len) →
-    pas ≡ map (physical_or_0 (memory.physical h.memory.memory)) (virtual place len) →
-    Fine ≡ cpu_read_answer (is_marked h.loans.bytes) h.loans.loans pas →
-    bytes ≡ map (wire h.memory.memory) pas →
-    gives (ideal_of h) (answer.Bytes bytes) ≡ cpu_read place len (ideal_of h)
-cpu_read-done h (At va) len pas bytes reaches here fine is =
+-- a read at a place in a memory that does not exist
+pub cpu_read-absent : (h : Holdings) (place : Place) (len : ℕ) → virtual_at (ideal_of h) place ≡ None →
+    gives (ideal_of h) (answer.Report (record { name = Absent; at = 0 })) ≡ cpu_read place len (ideal_of h)
+cpu_read-absent h place len none =
     let l = ideal_of h in
-    let there = here ∙ bytes-same h va.0 len in
-    ap (λ vs. gives l (answer.Bytes vs))
-    (is ∙ cpu-values h.loans.bytes h.loans.loans (devices_of h.maps.map) h.memory.memory 0 pas (sym fine)
-    ∙ ap (λ xs. map (λ a. value (l.memory a)) xs) there)
-    ∙ sym (passes (reached l va.0 len) l _ (reached-same h va.0 len ∙ sym reaches)
-    ∙ passes _ l _ (sym (fine ∙ answer-same h pas ∙ ap (cpu_read_answer (is_known l.memory) h.loans.loans) there)))
+    sym (ap (λ o. unless_absent o l (λ va.
+    unless_refused (reached l va len) l (
+    unless_refused (cpu_read_answer (is_known l.memory) l.loans (bytes_at l (run_of va len))) l (
+    gives l (answer.Bytes (values l (bytes_at l (run_of va len)))))))) none)
+
+module _ (h : Holdings) (place : Place) (va len : ℕ) (at : virtual_at (ideal_of h) place ≡ Some va) where
+  abbrev l : LaneState
+  l = ideal_of h
+
+  abbrev there : Asking Outcome
+  there =
+      unless_refused (reached l va len) l (
+      unless_refused (cpu_read_answer (is_known l.memory) l.loans (bytes_at l (run_of va len))) l (
+      gives l (answer.Bytes (values l (bytes_at l (run_of va len))))))
+
+  placed : cpu_read place len l ≡ there
+  placed =
+      ap (λ o. unless_absent o l (λ va.
+      unless_refused (reached l va len) l (
+      unless_refused (cpu_read_answer (is_known l.memory) l.loans (bytes_at l (run_of va len))) l (
+      gives l (answer.Bytes (values l (bytes_at l (run_of va len)))))))) at
+
+  -- a read by the driver of which a byte cannot be reached
+  pub cpu_read-unmapped : (r : Report) →
+      Refused r ≡ judged (unreached (memory.physical h.memory.memory)) 0 (run_of va len) →
+      gives l (answer.Report r) ≡ cpu_read place len l
+  cpu_read-unmapped r is =
+      sym (placed ∙ refused (reached l va len) r l _ (reached-same h va len ∙ sym is))
+
+  -- a read by the driver that is refused
+  pub cpu_read-refused : (r : Report) (pas : List ℕ) →
+      Fine ≡ judged (unreached (memory.physical h.memory.memory)) 0 (run_of va len) →
+      pas ≡ map (physical_or_0 (memory.physical h.memory.memory)) (run_of va len) →
+      Refused r ≡ cpu_read_answer (is_marked h.loans.bytes) h.loans.loans pas →
+      gives l (answer.Report r) ≡ cpu_read place len l
+  cpu_read-refused r pas reaches here is =
+      sym (placed ∙ passes (reached l va len) l _ (reached-same h va len ∙ sym reaches)
+      ∙ refused _ r l _
+      (sym (is ∙ answer-same h pas ∙ ap (cpu_read_answer (is_known l.memory) h.loans.loans)
+      (here ∙ bytes-same h va len))))
+
+  -- a read by the driver that is done
+  pub cpu_read-done : (pas bytes : List ℕ) →
+      Fine ≡ judged (unreached (memory.physical h.memory.memory)) 0 (run_of va len) →
+      pas ≡ map (physical_or_0 (memory.physical h.memory.memory)) (run_of va len) →
+      Fine ≡ cpu_read_answer (is_marked h.loans.bytes) h.loans.loans pas →
+      bytes ≡ map (wire h.memory.memory) pas →
+      gives l (answer.Bytes bytes) ≡ cpu_read place len l
+  cpu_read-done pas bytes reaches here fine is =
+      let same = here ∙ bytes-same h va len in
+      ap (λ vs. gives l (answer.Bytes vs))
+      (is ∙ cpu-values h.loans.bytes h.loans.loans (devices_of h.maps.map) h.memory.memory 0 pas (sym fine)
+      ∙ ap (λ xs. map (λ a. value (l.memory a)) xs) same)
+      ∙ sym (placed ∙ passes (reached l va len) l _ (reached-same h va len ∙ sym reaches)
+      ∙ passes _ l _ (sym (fine ∙ answer-same h pas ∙ ap (cpu_read_answer (is_known l.memory) h.loans.loans) same)))

@@ -1,5 +1,5 @@
 -- The turn in which a page goes back to its zone, if one is there.
-use Rattle.std.proofs.Common.{◌≡◌, ◌≤◌, ◌+◌, true, List, [], ◌∷◌, inr, length, map, refl, sym, subst, arith}
+use Rattle.std.proofs.Common.{◌≡◌, ◌≤◌, ◌+◌, true, List, [], ◌∷◌, length, map, refl, sym, subst, arith}
 use Rattle.busdma_base.specs.declared.journals.answer.Answer.TheVariants as answer
 use Rattle.busdma_base.specs.declared.journals.journal.Did.TheVariants as did
 use Rattle.busdma_base.specs.declared.journals.journal.Side.TheVariants as side
@@ -13,7 +13,7 @@ use Rattle.lane_core.specs.declared.holdings.Holdings.{Holdings}
 use Rattle.lane_core.specs.declared.returns.Released.{Released}
 use Rattle.lane_core.specs.declared.turn.Turn.{Turn}
 use Rattle.lane_core.specs.declared.turn.Turn.TheVariants as turn
-use Rattle.lane_core.specs.Changes.{KeepsBytes}
+use Rattle.lane_core.specs.Changes.{KeepsBytes, Stays}
 use Rattle.lane_core.specs.Doing.{IsDone, asks}
 use Rattle.lane_core.specs.Ideal.{given, ideal_of}
 use Rattle.lane_core.specs.Kept.{return_of}
@@ -36,18 +36,18 @@ still-there (r ∷ rest) l w h = refl
 pub back-made : (h k : Holdings) (d e : Seen) (r : Released) →
     IsDone d h.id.0 (lane_step (ideal_of h) side.Script)
     (stepped side.Script (did.Release r.map r.page) (given k (answer.Served r.served))) e →
-    1 ≤ length h.agenda.returns → KeepsBytes h k → k.agenda.length ≡ h.agenda.length →
+    1 ≤ length h.agenda.returns → KeepsBytes h k → k.memories ≡ h.memories → k.agenda.length ≡ h.agenda.length →
     k.agenda.room ≡ h.agenda.room → k.agenda.queue ≡ h.agenda.queue → (t : Turn) →
     t ≡ turn.Stepped (record {
       actor = record { lane = k.id; side = side.Script };
       did = did.Release r.map r.page;
       answer = answer.Served r.served;
     }) true → IsMade h k d e side.Script t
-back-made h k d e r done there bytes same_length same_room same_queue t is = subst (IsMade h k d e side.Script)
+back-made h k d e r done there bytes memories same_length same_room same_queue t is = subst (IsMade h k d e side.Script)
     (sym is) (record {
       done = done-turned d h.id.0 (lane_step (ideal_of h) side.Script) _ true e done
           (sym (asks-there h.agenda.returns (ideal_of h) there));
-      wire = inr (still-there h.agenda.returns (ideal_of h) (wire_of h) there, stays-all h k bytes);
+      wire = Stays memories (still-there h.agenda.returns (ideal_of h) (wire_of h) there) (stays-all h k bytes);
       places = same_length;
       capacity = λ i. same_room i + length (same_queue i);
     })

@@ -2,11 +2,19 @@
 use Rattle.std.proofs.Common.{◌≡◌, ℕ, ◌≤◌, true, false}
 use Rattle.std.proofs.Props.{props}
 use mathlib.Core.HLevel.{is_prop→PathP}
+use base.Stored.{Coded-set}
 use Rattle.std.specs.FinMap.{get}
 use Rattle.lane_core.specs.declared.holdings.Holdings.{Holdings}
 use Rattle.lane_core.specs.Changes.{KeepsButAgenda}
-use Rattle.lane_core.specs.Covered.{AreLoaded, AreOwn, AreReturning, HasFramesOf, IsCovered, Reaches}
+use Rattle.phys_memory.specs.declared.reach.Reach.{Reach}
+use Rattle.phys_memory.specs.contracts.reach.Reach as reach
+use Rattle.phys_memory.specs.Memory.{Memory}
+use Rattle.memory_pages.specs.Placed.{AreAtTheirFrames, IsAtItsFrame}
+use Rattle.lane_core.specs.Covered.{AreLoaded, AreOwn, AreReturning, AreStanding, HasFramesOf, IsCovered, Reaches}
 use Rattle.lane_core.specs.Covered.{is_tried, lends_pages, pages_due}
+
+IsAtItsFrame-prop : (m : Memory) (v : ℕ) (r : Reach) → IsProp (IsAtItsFrame m v r)
+IsAtItsFrame-prop m v r = hlevel (props)
 
 pub same-all : (h k : Holdings) → KeepsButAgenda h k → k.agenda ≡ h.agenda → k ≡ h
 same-all h k s agenda = λ i. record {
@@ -30,6 +38,10 @@ same-all h k s agenda = λ i. record {
   framed = is_prop→PathP (λ j. HasFramesOf (s.most.pages j).now (s.most.memory j).memory) (λ j. hlevel (props))
       k.framed
       h.framed i;
+  placed = is_prop→PathP (λ j. AreAtTheirFrames (s.most.memory j).memory) (λ j. hlevel (props, IsAtItsFrame-prop))
+      k.placed h.placed i;
+  standing = is_prop→PathP (λ j. AreStanding (s.most.memories j).map (s.most.memory j).memory)
+      (λ j. hlevel (props, Coded-set reach.the_row.coded)) k.standing h.standing i;
   tag_places = is_prop→PathP (λ j. (s.tags j).places ≡ (agenda j).length) (λ j. hlevel (props)) k.tag_places
       h.tag_places i;
   map_places = is_prop→PathP (λ j. (s.maps j).places ≡ (agenda j).length) (λ j. hlevel (props)) k.map_places

@@ -1,6 +1,6 @@
 -- The turn of the script, in which the next operation is done.
-use Rattle.std.proofs.Common.{◌≡◌, ◌⊎◌, ℕ, ◌+◌, ◌≤◌, inl, inr, true, false, [], Some, None, length}
-use Rattle.std.proofs.Common.{map, slice_get, if◌then◌else◌, refl, ap, sym, ◌∙◌, subst, arith}
+use Rattle.std.proofs.Common.{◌≡◌, ◌⊎◌, ℕ, ◌+◌, ◌≤◌, true, false, [], Some, None, length}
+use Rattle.std.proofs.Common.{map, is_some, slice_get, if◌then◌else◌, refl, ap, sym, ◌∙◌, subst, arith}
 use Rattle.busdma_base.specs.declared.journals.journal.Did.TheVariants as did
 use Rattle.busdma_base.specs.declared.journals.journal.Side.{Side}
 use Rattle.busdma_base.specs.declared.journals.journal.Side.TheVariants as side
@@ -21,7 +21,7 @@ use Rattle.lane_core.specs.declared.holdings.Answered.{Answered}
 use Rattle.lane_core.specs.declared.holdings.Holdings.{Holdings}
 use Rattle.lane_core.specs.declared.turn.Turn.{Turn}
 use Rattle.lane_core.specs.declared.turn.Turn.TheVariants as turn
-use Rattle.lane_core.specs.Changes.{IsWireOf, KeepsButAgenda}
+use Rattle.lane_core.specs.Changes.{IsWireOf, Becomes, Stays, WithMemory, KeepsButAgenda}
 use Rattle.lane_core.specs.Doing.{IsAllowedBy, IsDone, asks}
 use Rattle.lane_core.specs.Held.{devices_of, held}
 use Rattle.lane_core.specs.Ideal.{given, ideal_of}
@@ -54,7 +54,7 @@ pub still-made : (h : Holdings) (d : Seen) (s : Side) (t : Turn) → is_held t �
     wires.lane_step (ideal_of h) s (wire_of h) ≡ wire_of h → IsMade h h d d s t
 still-made h d s t unheld is plain = record {
   done = subst (λ step. IsTurned d h.id.0 step (turned h t) (is_held t) d) (sym is) (refl, unheld, refl);
-  wire = inl (sym plain);
+  wire = Becomes refl (sym plain);
   places = refl;
   capacity = refl;
 }
@@ -140,17 +140,22 @@ module _ (h : Holdings) (empty : h.agenda.returns ≡ []) where
         same-wire = (λ i. with_bytes_of (held_pages (rest.maps i).map) (wire (rest.most.memory i).memory))
 
         wired-on : (w : Wire) → IsWireOf h k w → IsWireOf h n w
-        wired-on w (inl is) = inl (same-wire ∙ is)
-        wired-on w (inr (plain, keeps)) =
-            inr (
-              plain,
-              record {
-                own = ap (λ m. wire m.memory) rest.most.memory ∙ keeps.own;
-                pages = λ m. subst (λ t. ((devices_of t.map m).pages ≡ (devices_of h.maps.map m).pages)
-                    ⊎ (((devices_of h.maps.map m).pages ≡ []) ⊎ ((devices_of t.map m).pages ≡ [])))
-                    (sym rest.maps) (keeps.pages m);
-              },
-            )
+        wired-on w (Becomes memories is) = Becomes (rest.most.memories ∙ memories) (same-wire ∙ is)
+        wired-on w (Stays memories plain keeps) =
+            Stays (rest.most.memories ∙ memories) plain (record {
+              own = ap (λ m. wire m.memory) rest.most.memory ∙ keeps.own;
+              pages = λ m. subst (λ t. ((devices_of t.map m).pages ≡ (devices_of h.maps.map m).pages)
+                  ⊎ (((devices_of h.maps.map m).pages ≡ []) ⊎ ((devices_of t.map m).pages ≡ [])))
+                  (sym rest.maps) (keeps.pages m);
+            })
+        wired-on w (WithMemory plain keeps) =
+            WithMemory plain (record {
+              own = λ a before after. ap (λ m. wire m.memory a) rest.most.memory
+                  ∙ keeps.own a before (ap (λ o. is_some (o.memory a)) (sym gone-on) ∙ after);
+              known = λ a v none is. ap (λ m. wire m.memory a) rest.most.memory
+                  ∙ keeps.known a v none (ap (λ o. o.memory a) (sym gone-on) ∙ is);
+              pages = λ m. ap (λ t. (devices_of t.map m).pages) rest.maps ∙ keeps.pages m;
+            })
 
         pub next-made : (d e : Seen) (r : Answered) (t : Turn) →
             IsDone d h.id.0 (operation o l) (given k r.answer) e → r.held ≡ asks (operation o l) →

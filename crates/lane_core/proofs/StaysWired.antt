@@ -47,6 +47,7 @@ module _ (h k : Holdings) (s : Side) (d e : Seen) (stands : Stands (ideal_of h))
   still-served = record {
     served = subst (λ b. IsTrue b) (λ i. (sym led.serves i) (sym still-own.same_id i)) served.served;
     opening = led.opening;
+    below = led.below;
     sound = led.sound;
     agrees = still-agrees;
   }
@@ -54,12 +55,12 @@ module _ (h k : Holdings) (s : Side) (d e : Seen) (stands : Stands (ideal_of h))
   pub still-wired : Follows (ideal_of h) (ideal_of k) (wires.lane_step (ideal_of h) s (wire_of h)) (wire_of k) →
       IsWired k
   still-wired follows = record {
-    machine = subst IsInMachine replied (turn-keeps (ideal_of h) wired.machine s led.reply);
+    machine = subst IsInMachine replied (turn-keeps (ideal_of h) wired.machine s led.reply led.new);
     laid = still-laid;
     apart = still-apart;
     faithful = subst (λ l. IsFaithful l (wire_of k)) replied
         (turn-stays (ideal_of h) (account d) (wire_of h) stands served.agrees wired.laid wired.faithful s led.reply
-        (wire_of k)
+        (wire_of k) led.new
         (subst (λ l. Follows (ideal_of h) l (wires.lane_step (ideal_of h) s (wire_of h)) (wire_of k)) (sym replied)
         follows));
   }

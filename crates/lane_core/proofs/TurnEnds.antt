@@ -1,8 +1,9 @@
 -- How a turn of a lane ends.
-use Rattle.std.proofs.Common.{◌≡◌, ◌+◌, ◌≤◌, inl, Bool, refl, sym, subst, length, ℕ, ◌∙◌}
+use Rattle.std.proofs.Common.{◌≡◌, ◌+◌, ◌≤◌, inl, Bool, refl, sym, ap, subst, length, ℕ, ◌∙◌}
 use Rattle.busdma_base.specs.declared.journals.journal.Side.{Side}
 use Rattle.busdma_base.specs.Bounce.Door.{Seen, account}
 use Rattle.busdma_base.specs.Machine.Wire.{Wire}
+use Rattle.lane_tables.specs.Places.{Places}
 use Rattle.ideal_lane.specs.Agreement.{IsAllowed}
 use Rattle.ideal_lane.specs.Asking.{Asking, Gives, Asks}
 use Rattle.ideal_lane.specs.Standing.{Stands}
@@ -11,16 +12,21 @@ use Rattle.ideal_lane.specs.Ahead.{items_ahead}
 use Rattle.ideal_lane.proofs.Ahead.{turn-bounded}
 use Rattle.ideal_lane.proofs.Own.{IsLater}
 use Rattle.ideal_lane.proofs.Turning.{turn-allowed}
-use Rattle.ideal_wire.specs.WireStep.{Follows}
+use Rattle.ideal_wire.specs.Apart.{IsApart}
+use Rattle.ideal_wire.specs.Laid.{AreLaid}
+use Rattle.ideal_wire.specs.WireStep.{BringsKnown, Follows}
 use Rattle.ideal_wire.specs.WireStep as wires
 use Rattle.lane_core.specs.declared.holdings.Holdings.{Holdings}
+use Rattle.lane_core.specs.declared.kept.KeptMemory.{KeptMemory}
 use Rattle.lane_core.specs.Doing.{IsAllowedBy, IsDone, asks}
+use Rattle.lane_core.specs.Kept.{memory_of}
+use Rattle.lane_core.specs.MapValues.{map_values}
 use Rattle.lane_core.specs.Ideal.{ideal_of}
 use Rattle.lane_core.specs.Turning.{IsServed, IsTurned}
 use Rattle.lane_core.specs.Wire.{IsWired, wire_of}
 use Rattle.lane_core.proofs.AfterTurn.{Led, led}
-use Rattle.lane_core.specs.Changes.{KeepsWhatStays}
-use Rattle.lane_core.proofs.Following.{follows}
+use Rattle.lane_core.specs.Changes.{KeepsBesideMemory, KeepsWhatStays}
+use Rattle.lane_core.proofs.Following.{follows, follows-memory, none-known}
 use Rattle.lane_core.proofs.StaysWired.{still-apart, still-laid, still-own, still-served, still-stands, still-wired}
 
 -- a step that was done is a turn that was made, which tells whether a call was made
@@ -52,12 +58,32 @@ module _ (h k : Holdings) (s : Side) (d e : Seen) (stands : Stands (ideal_of h))
       subst (λ l. items_ahead l + length l.queue ≤ items_ahead (ideal_of h) + length (ideal_of h).queue)
       (sym the-end.is ∙ same) (turn-bounded (ideal_of h) s the-end.reply)
 
+  pub end-laid : AreLaid (ideal_of k)
+  end-laid = still-laid h k s d e stands wired served x the-end same
+
+  end-apart : IsApart (ideal_of k)
+  end-apart = still-apart h k s d e stands wired served x the-end same
+
+  -- no byte comes where no memory does
+  pub end-known : k.memories ≡ h.memories → (w : Wire) → BringsKnown (ideal_of h).memory (ideal_of k).memory w
+  end-known memories w =
+      none-known (ideal_of h) (ideal_of k) wired.laid end-laid end-own.same_pages
+      (ap (λ (t : Places KeptMemory). map_values memory_of t.map) memories) w
+
   -- where the step changes no byte
-  pub end-follows : KeepsWhatStays h k → (w : Wire) → w ≡ wire_of h → Follows (ideal_of h) (ideal_of k) w (wire_of k)
-  end-follows keeps w plain =
+  pub end-follows : k.memories ≡ h.memories → KeepsWhatStays h k → (w : Wire) → w ≡ wire_of h →
+      Follows (ideal_of h) (ideal_of k) w (wire_of k)
+  end-follows memories keeps w plain =
       subst (λ w. Follows (ideal_of h) (ideal_of k) w (wire_of k)) (sym plain)
-      (follows h k wired.laid wired.apart (still-laid h k s d e stands wired served x the-end same)
-      (still-apart h k s d e stands wired served x the-end same) keeps)
+      (follows h k wired.laid wired.apart end-laid end-apart keeps end-own.same_pages
+      (ap (λ (t : Places KeptMemory). map_values memory_of t.map) memories))
+
+  -- and a memory came or went
+  pub end-beside : KeepsBesideMemory h k → (w : Wire) → w ≡ wire_of h →
+      Follows (ideal_of h) (ideal_of k) w (wire_of k)
+  end-beside keeps w plain =
+      subst (λ w. Follows (ideal_of h) (ideal_of k) w (wire_of k)) (sym plain)
+      (follows-memory h k wired.laid wired.apart end-laid end-apart keeps)
 
   pub end-wired : Follows (ideal_of h) (ideal_of k) (wires.lane_step (ideal_of h) s (wire_of h)) (wire_of k) → IsWired
       k

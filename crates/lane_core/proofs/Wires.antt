@@ -1,13 +1,13 @@
 -- What stands at each address as bytes are written part by part.
 use Rattle.std.proofs.Common.{◌≡◌, ℕ, suc, ◌+◌, ◌-◌, ◌<◌, ◌≤◌, ◌==◌, Bool, true, cond, List, [], ◌∷◌, ◌++◌, length}
-use Rattle.std.proofs.Common.{map, take, drop, slice_index, ◌/◌, refl, sym, ap, ◌∙◌, arith}
+use Rattle.std.proofs.Common.{map, take, drop, ◌/◌, refl, sym, ap, ◌∙◌, arith}
 use Rattle.std.proofs.Common.{get_or, subst, ◌≢◌, inl, inr, length-take, length-drop, length-append}
 use Rattle.std.proofs.Common.{append_assoc, IsSome}
 use Rattle.std.specs.List.{AllByRecursion}
 use Rattle.std.specs.Ordering.{nat_cmp}
 use Rattle.std.specs.FinMap.{FinMap, get}
 use Rattle.std.proofs.lemmas.Bool.{eq-eqb, ne_eqb, lt-ltb, le-leb, lt-leb, le-ltb, cases_lt}
-use Rattle.std.proofs.lemmas.List.{at_drop_more, drop_more, drop-drop, get_or-map, map-append}
+use Rattle.std.proofs.lemmas.List.{at_drop_more, drop_more, drop-drop, map-append}
 use Rattle.std.proofs.lemmas.List.Sums.{sum_by-cons}
 use Rattle.busdma_base.specs.declared.machine.address.Extent.{Extent}
 use Rattle.busdma_base.specs.Runs.{run_of, addresses, byte_count}
@@ -16,7 +16,6 @@ use Rattle.phys_memory.specs.Extents.{LiesIn}
 use Rattle.loan_table.specs.declared.position.Position.{Position}
 use Rattle.loan_table.specs.Loans.{addresses_of}
 use Rattle.loan_table.proofs.Addresses.{no_extent}
-use Rattle.loan_table.proofs.Marking.{no_position}
 use Rattle.loan_table.proofs.Judgement.{length-run_of}
 use Rattle.lane_core.specs.Covered.{IsCovered}
 use Rattle.phys_memory.specs.Frames.{Lie, SamePages}

@@ -1,7 +1,8 @@
 -- What of a driver's holdings a step leaves as it was.
-use Rattle.std.specs.Prelude.{◌≡◌, ℕ, ◌+◌, ◌==◌, false, [], ◌⊎◌, length}
+use Rattle.std.specs.Prelude.{◌≡◌, ℕ, ◌+◌, ◌==◌, true, false, [], ◌⊎◌, length, Some, None, is_some}
 use Rattle.busdma_base.specs.Machine.Wire.{Wire}
 use Rattle.phys_memory.specs.Memory.{wire}
+use Rattle.ideal_lane.specs.IdealMemory.{Known}
 use Rattle.lane_core.specs.declared.holdings.Holdings.{Holdings}
 use Rattle.lane_core.specs.Held.{devices_of}
 use Rattle.lane_core.specs.Ideal.{ideal_of}
@@ -24,9 +25,21 @@ pub record KeepsWhatStays (h k : Holdings) : Type 0 where
   pub pages : (m : ℕ) → ((devices_of k.maps.map m).pages ≡ (devices_of h.maps.map m).pages)
       ⊎ (((devices_of h.maps.map m).pages ≡ []) ⊎ ((devices_of k.maps.map m).pages ≡ []))
 
--- the wire is this one; or it is as it was, but for pages that came and went
-abbrev pub IsWireOf : Holdings → Holdings → Wire → Type 0
-IsWireOf h k w = (wire_of k ≡ w) ⊎ ((w ≡ wire_of h) × KeepsWhatStays h k)
+-- the bytes of the driver's frames that are there before and after, and those that come and are Known; and those of the
+-- bounce pages of each map
+pub record KeepsBesideMemory (h k : Holdings) : Type 0 where
+  pub own : (a : ℕ) → is_some ((ideal_of h).memory a) ≡ true → is_some ((ideal_of k).memory a) ≡ true →
+      wire k.memory.memory a ≡ wire h.memory.memory a
+  pub known : (a v : ℕ) → (ideal_of h).memory a ≡ None → (ideal_of k).memory a ≡ Some (Known v) →
+      wire k.memory.memory a ≡ v
+  pub pages : (m : ℕ) → (devices_of k.maps.map m).pages ≡ (devices_of h.maps.map m).pages
+
+-- the wire after a step is this one; or it is as it was, but for pages that came and went; or but for a memory that
+-- came or went
+pub data IsWireOf (h k : Holdings) (w : Wire) : Type 0 where
+  Becomes : k.memories ≡ h.memories → wire_of k ≡ w → IsWireOf h k w
+  Stays : k.memories ≡ h.memories → w ≡ wire_of h → KeepsWhatStays h k → IsWireOf h k w
+  WithMemory : w ≡ wire_of h → KeepsBesideMemory h k → IsWireOf h k w
 
 -- the bytes of the driver's frames, and those of the bounce pages of each map but one
 pub record KeepsBytesBut (one : ℕ) (h k : Holdings) : Type 0 where

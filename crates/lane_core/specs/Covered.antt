@@ -14,6 +14,7 @@ use Rattle.dma_map.specs.declared.callback.Transfers.{Transfers}
 use Rattle.dma_map.specs.MapView as held
 use Rattle.lane_tables.specs.declared.queued.QueuedPage.{QueuedPage}
 use Rattle.loan_table.specs.Loans.{Loans}
+use Rattle.memory_pages.specs.Placed.{IsPlaced}
 use Rattle.phys_memory.specs.Memory.{Memory, has_frame, physical}
 use Rattle.ideal_lane.specs.Outcomes.{is_idle, is_loaded}
 use Rattle.ideal_lane.specs.Places.{is_in_memory, physical_of}
@@ -40,6 +41,10 @@ reached_in None memories va =
 -- the driver reaches the bytes of its pages and of its memories, and no others
 abbrev pub Reaches : List PageRun → FinMap nat_cmp KeptMemory → Memory → Type 0
 Reaches pages memories m = (va : ℕ) → physical m va ≡ reached_in (physical_in pages va) memories va
+
+-- each memory stands in its frames, one behind the other
+abbrev pub AreStanding : FinMap nat_cmp KeptMemory → Memory → Type 0
+AreStanding memories m = (k : ℕ) (x : KeptMemory) → get memories k ≡ Some x → IsPlaced m x.first.0 x.count x.memory.len
 
 -- a map exists and is loaded
 abbrev pub has_load : Option KeptMap → Bool

@@ -9,6 +9,7 @@ pub mod Judging
 pub mod Kept
 pub mod LaneIdeal
 pub mod Loading
+pub mod Making
 pub mod MapValues
 pub mod OneProof
 pub mod OpeningMemory
@@ -17,5 +18,4 @@ pub mod Provided
 pub mod Shares
 pub mod TagPlan
 pub mod Turning
-pub mod Virtual
 pub mod Wire

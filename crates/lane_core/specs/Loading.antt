@@ -1,6 +1,6 @@
 -- What a load names, what it has made ready before it changes its driver, and what is built of its bytes.
-use Rattle.std.specs.Prelude.{◌≡◌, ℕ, ◌≤◌, ◌<◌, ◌^◌, Bool, false, List, [], ◌∷◌, length, min, Some}
-use Rattle.std.specs.FinMap.{get}
+use Rattle.std.specs.Prelude.{◌≡◌, ℕ, ◌+◌, ◌≤◌, ◌<◌, ◌^◌, Bool, false, List, [], ◌∷◌, length, min, Some}
+use Rattle.std.specs.FinMap.{get, contains_key}
 use Rattle.std.specs.List.{AllByRecursion}
 use Rattle.busdma_base.specs.declared.bounce.door.Grabbed.{Grabbed}
 use Rattle.busdma_base.specs.declared.bounce.door.Grabbed.TheVariants.{Granted, Queued, NoPages}
@@ -17,6 +17,7 @@ use Rattle.busdma_base.specs.declared.tags.tag.TagLimits.{TagLimits}
 use Rattle.dma_map.specs.declared.room.LoadRoom.{LoadRoom}
 use Rattle.busdma_base.specs.Machine.Entry.{entries_addresses}
 use Rattle.busdma_base.specs.Machine.Spans.{bio_spans, span_bytes}
+use Rattle.busdma_base.specs.Runs.{run_of}
 use Rattle.busdma_base.specs.Scenarios.Buffers.{IsBioOf}
 use Rattle.load_bio.specs.Bio.{IsBio, bio_stream}
 use Rattle.loan_table.specs.Loans.{Loan, new_loan}
@@ -28,7 +29,7 @@ use Rattle.segment_build.specs.Segmentation.{segmentation}
 use Rattle.segment_build.specs.Trace.{IsPage}
 use Rattle.ideal_lane.specs.Loads.{chunks_for, is_coherent, load_entries, load_translation}
 use Rattle.ideal_lane.specs.Places.{physical}
-use Rattle.ideal_lane.specs.State.{LaneMap, LaneState}
+use Rattle.ideal_lane.specs.State.{LaneMap, LaneMemory, LaneState}
 use Rattle.lane_core.specs.declared.buffers.LoadBytes.{LoadBytes}
 use Rattle.lane_core.specs.declared.buffers.LoadBytes.TheVariants as bytes
 
@@ -40,7 +41,7 @@ pub record HasPrepared (t : Table) (m : ℕ) : Type 0 where
 
 -- the bytes that a load names, as those of a bio
 abbrev pub bio_of : LoadBytes → Bio
-bio_of (bytes.Span span) = bio.Mapped span
+bio_of (bytes.Span va len) = bio.Mapped (record { va = record { 0 = va }; len = len })
 bio_of (bytes.Spans spans) = bio.Vector spans.now
 bio_of (bytes.Frames frames off len) = bio.Unmapped frames.now off len
 
@@ -73,9 +74,22 @@ stream_extents (Unmapped at ∷ ps) = stream_extents ps
 abbrev pub load_loan : LaneState → ℕ → Bio → Loan
 load_loan l m b = new_loan (is_coherent (get l.mems m)) (entries_addresses (load_entries l b))
 
--- the chunks of a load of a map that is not a memory's, with a bio
+-- the chunks of a load of a map with a bio
+abbrev pub map_chunks : LaneState → ℕ → LaneMap → Bio → List Chunk
+map_chunks l m o b = chunks_for l o (contains_key l.mems m) (load_entries l b)
+
+-- those of a load of a map that is not a memory's
 abbrev pub bio_chunks : LaneState → LaneMap → Bio → List Chunk
 bio_chunks l o b = chunks_for l o false (load_entries l b)
+
+-- the bytes of a bio are the first ones of a memory, and lie in a machine
+pub record AreFirst (l : LaneState) (x : LaneMemory) (b : Bio) : Type 0 where
+  pub run : entries_addresses (load_entries l b) ≡ run_of x.first (bio_bytes b)
+  pub inside : x.first + bio_bytes b ≤ 2 ^ 42
+
+-- so they are where they are loaded into the map of a memory
+abbrev pub AreItsFirst : LaneState → ℕ → Bio → Type 0
+AreItsFirst l m b = (x : LaneMemory) → get l.mems m ≡ Some x → AreFirst l x b
 
 -- empty lists have room for the segments of chunks in these pages, for their copy and for the bounced chunks, and the
 -- pages are enough

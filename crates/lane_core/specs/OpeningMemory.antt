@@ -1,6 +1,6 @@
 -- The memory in which a driver opens.
-use Rattle.std.specs.Prelude.{◌≡◌, ℕ, ◌+◌, ◌*◌, ◌/◌, ◌%◌, ◌-◌, ◌^◌, ◌≤◌, Bool, true, false, ◌&&◌, nat_le, nat_lt, List}
-use Rattle.std.specs.Prelude.{[], Some, None, if◌then◌else◌, replicate}
+use Rattle.std.specs.Prelude.{◌≡◌, ℕ, ◌+◌, ◌*◌, ◌/◌, ◌%◌, ◌-◌, ◌^◌, ◌<◌, ◌≤◌, Bool, true, false, ◌&&◌, nat_le, nat_lt}
+use Rattle.std.specs.Prelude.{List, [], Some, None, if◌then◌else◌, replicate}
 use Rattle.std.specs.List.{list_any}
 use Rattle.std.specs.FinMap.{get}
 use Rattle.busdma_base.specs.declared.scenarios.scenario.PageRun.{PageRun}
@@ -24,11 +24,12 @@ pub record IsOwnRun (before : List PageRun) (run : PageRun) : Type 0 where
 abbrev pub ArePages : List PageRun → Type 0
 ArePages pages = EachAfter IsOwnRun [] pages
 
--- the memory has these pages alone, and 0 in every byte of them
+-- the memory has these pages alone, below the virtual addresses of memories, and 0 in every byte of them
 pub record IsOpeningMemory (pages : List PageRun) (m : Memory) : Type 0 where
   pub physical : physical m ≡ physical_in pages
   pub frames : (a : ℕ) → has_frame m (a / 4096) ≡ is_own pages a
   pub zero : (a : ℕ) → is_own pages a ≡ true → wire m a ≡ 0
+  pub low : (v : ℕ) (r : Reach) → get m.table v ≡ Some r → v < pages_end / 4096
 
 -- a number is one of the n from another on
 abbrev pub is_one_of : ℕ → ℕ → ℕ → Bool

@@ -7,6 +7,7 @@ use Rattle.busdma_base.specs.declared.bounce.hold.HubCall.TheVariants.{TakeCallb
 use Rattle.busdma_base.specs.declared.bounce.hold.HubReply.{HubReply}
 use Rattle.busdma_base.specs.declared.bounce.hold.HubReply.TheVariants.{Nothing}
 use Rattle.busdma_base.specs.Bounce.Door.{Seen, Misses, account}
+use Rattle.busdma_base.specs.Bounce.EachFrame.{LiesBelowMaxmem}
 use Rattle.busdma_base.specs.Bounce.History.{IsOpening, IsSound}
 use Rattle.ideal_lane.specs.Agreement.{AgreesWith}
 use Rattle.ideal_lane.specs.Ahead.{items_ahead}
@@ -55,8 +56,8 @@ IsTurned {X} d lane (Asks c k) x held e =
     ((held ≡ true) × IsCalled d lane c k x e) ⊎ ((held ≡ false) × IsMissed d lane c k x e)
 
 -- a turn of a side made this of a driver between what a door had seen and what it has seen now: the step's end, and
--- the step's wire, but for pages that came and went; the transfer queue has its room or its items, and the script its
--- length
+-- the step's wire, but for pages and memories that came and went; the transfer queue has its room or its items, and the
+-- script its length
 pub record IsMade (h k : Holdings) (d e : Seen) (s : Side) (t : Turn) : Type 0 where
   pub done : IsTurned d h.id.0 (lane_step (ideal_of h) s) (turned k t) (is_held t) e
   pub wire : IsWireOf h k (wires.lane_step (ideal_of h) s (wire_of h))
@@ -69,10 +70,12 @@ MayWant l side.Script = l.returns ≡ []
 MayWant l side.Transfer = Unit {0}
 MayWant l side.Callback = ⊥
 
--- a door serves a driver, its history is sound, and its account agrees with the driver
+-- a door serves a driver, its history is sound from an account whose frames lie below the end of the machine's memory,
+-- and its account agrees with the driver
 pub record IsServed (l : LaneState) (d : Seen) : Type 0 where
   pub served : IsTrue (d.serves l.id)
   pub opening : IsOpening d.opening
+  pub below : LiesBelowMaxmem d.opening
   pub sound : IsSound d.opening d.history
   pub agrees : AgreesWith l (account d)
 

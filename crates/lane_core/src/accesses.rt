@@ -4,15 +4,12 @@ ghost use Rattle.std.specs.Prelude.{◌≡◌, ◌+◌, ◌≤◌, ◌<◌, ◌^
 ghost use Rattle.std.specs.Prelude.{IfNone, OnOk, OnErr};
 ghost use Rattle.std.specs.FinMap.{get};
 ghost use Rattle.busdma_base.specs.declared.journals.answer.Answer.TheVariants as answer;
-ghost use Rattle.busdma_base.specs.Runs.{addresses, byte_count};
-ghost use Rattle.busdma_base.specs.Journals.Judging.{judged};
+ghost use Rattle.busdma_base.specs.Runs.{addresses};
 ghost use Rattle.busdma_base.specs.Machine.Wire.{put};
 ghost use Rattle.device_model.specs.Access.{bus_range};
 ghost use Rattle.dma_map.specs.MapView.{segments_of};
 ghost use Rattle.phys_memory.specs.Frames.{Lie, SamePages};
-ghost use Rattle.phys_memory.specs.Memory.{physical, wire};
-ghost use Rattle.phys_memory.specs.Translation.{physical_or_0, unreached};
-ghost use Rattle.phys_memory.specs.Walk.{IfParts, verdict};
+ghost use Rattle.phys_memory.specs.Memory.{wire};
 ghost use Rattle.loan_table.specs.Loans.{load_bytes};
 ghost use Rattle.loan_table.specs.Table.{AreIn, HasMap, IsSame, buffer_of, extent_count};
 ghost use Rattle.ideal_lane.specs.Accesses as accesses;
@@ -25,7 +22,6 @@ ghost use Rattle.lane_core.specs.Covered.{has_load};
 ghost use Rattle.lane_core.specs.Held.{device_view};
 ghost use Rattle.lane_core.specs.Kept.{device_in};
 ghost use Rattle.lane_core.specs.PagesLent.{IsReached, IsRepaged};
-ghost use Rattle.lane_core.specs.Virtual.{virtual};
 
 use crate::holdings::{Holdings, report};
 use busdma_base::{Answer, ByteList, Extent, Judged, MapId, PageList, Place, Report, ReportName};
@@ -41,22 +37,6 @@ impl Holdings<'_> {
     ghost use Rattle.lane_core.specs.Ideal.{given, ideal_of};
     ghost use Rattle.lane_core.specs.Wire.{IsWired, wire_of};
 
-    /// Where `len` bytes at a place lie.
-    pub(crate) fn reach(&self, alloc: Global, place: Place, len: u64) -> Result<Walked, AllocError>
-        ensures verdict { let refusal = unreached (physical self.now.memory.memory) in
-            IfOk result (λ w. verdict w ≡ judged refusal 0 (virtual place len)) }
-        ensures addresses { let pas = map (physical_or_0 (physical self.now.memory.memory)) (virtual place len) in
-            IfOk result (λ w. IfParts w (λ es. addresses es ≡ pas)) }
-        ensures lie { IfOk result (λ w. IfParts w (Lie self.now.memory.memory)) }
-        ensures inside { IfOk result (λ w. IfParts w (λ es. AreIn self.now.loans.bytes (addresses es))) }
-        ensures len { IfOk result (λ w. IfParts w (λ es. length (addresses es) ≡ len)) }
-        ensures total { IfOk result (λ w. IfParts w (λ es. byte_count es < 2 ^ 64)) }
-    {
-        match place {
-            Place::At(va) => self.memory.translate(alloc, va, len),
-        }
-    }
-
     /// The driver reads `len` bytes at a place.
     pub(crate) fn cpu_read(
         &self,
@@ -67,7 +47,10 @@ impl Holdings<'_> {
         ensures { IfOk result (λ answer.
             Gives (given self.now answer) ≡ accesses.cpu_read place len (ideal_of self.now)) }
     {
-        let bytes = match self.reach(alloc, place, len)? {
+        let Some(va) = self.virtual_at(place) else {
+            return Ok(report(ReportName::Absent, 0));
+        };
+        let bytes = match self.reach(alloc, va, len)? {
             Walked::Unmapped(at) => return Ok(report(ReportName::Unmapped, at)),
             Walked::Parts(bytes) => bytes,
         };
@@ -95,7 +78,10 @@ impl Holdings<'_> {
         ensures agenda { self.new.agenda ≡ self.old.agenda }
         ensures err { OnErr result (KeepsState self.old self.new) }
     {
-        let parts = match self.reach(alloc, place, bytes.len() as u64)? {
+        let Some(va) = self.virtual_at(place) else {
+            return Ok(report(ReportName::Absent, 0));
+        };
+        let parts = match self.reach(alloc, va, bytes.len() as u64)? {
             Walked::Unmapped(at) => return Ok(report(ReportName::Unmapped, at)),
             Walked::Parts(parts) => parts,
         };

@@ -1,8 +1,10 @@
 //! The bytes that a load names: their parts, their measure, and the segments that are built of them.
 
-ghost use Rattle.std.specs.Prelude.{◌≡◌, ◌≤◌, ◌^◌, ◌++◌, ◌+◌, [], length, min, true, false, IfOk, Some};
+ghost use Rattle.std.specs.Prelude.{◌≡◌, ◌≤◌, ◌^◌, ◌++◌, ◌+◌, [], length, min, true, false, Some, None};
+ghost use Rattle.std.specs.Prelude.{IfNone, IfOk, IfSome};
 ghost use Rattle.std.specs.List.{AllByRecursion};
 ghost use Rattle.busdma_base.specs.Bounce.AccountStep.{as_pages};
+ghost use Rattle.busdma_base.specs.declared.machine.bio.Bio.TheVariants.{Mapped};
 ghost use Rattle.busdma_base.specs.Machine.Entry.{IsStream};
 ghost use Rattle.busdma_base.specs.Machine.PageList.{page_addresses};
 ghost use Rattle.busdma_base.specs.Runs.{addresses, byte_count};
@@ -12,17 +14,15 @@ ghost use Rattle.segment_build.specs.Building.{placed_pieces};
 ghost use Rattle.segment_build.specs.Chunks.{need_of};
 ghost use Rattle.segment_build.specs.Streams.{IsBuiltFrom, IsMeasured, OverflowsFrom, stream_chunks};
 ghost use Rattle.segment_build.specs.Trace.{IsPage};
-ghost use Rattle.ideal_lane.specs.State.{LaneState};
 ghost use Rattle.ideal_lane.specs.Turns as turns;
 ghost use Rattle.ideal_lane.specs.Turns.{bio_at};
 ghost use Rattle.lane_core.specs.Ideal.{ideal_of};
 ghost use Rattle.lane_core.specs.Loading.{IsLoadable, bio_bytes, bio_of, load_stream, stream_extents};
 
 use crate::holdings::Holdings;
+use crate::reach::END;
 use bitflags::Flags;
-use busdma_base::{
-    Bio, Buffer, Extent, Pa, Page, Part, Place, RoomyList, Segment, SegmentRoom, Span,
-};
+use busdma_base::{Bio, Buffer, Extent, Pa, Page, Part, RoomyList, Segment, SegmentRoom, Span, Va};
 use dma_map::LoadRoom;
 use dma_tag::{LoadFlags, Tag};
 use load_bio::{BioParts, parts_of_frames, parts_of_span, parts_of_spans};
@@ -30,11 +30,15 @@ use load_mbuf::total;
 use segment_build::{Measured, build_into, fronts_ask_no_more, measure};
 use std::alloc::{AllocError, Global};
 
-/// The bytes that a load names, where its operation has them in the script: those of a span, of spans one behind the
-/// other, or `len` bytes of frames that are not mapped, from `off` in the first on.
+/// The bytes that a load names: `len` bytes from a virtual address on, which may lie at 2^64 or above; or, where its
+/// operation has them in the script, those of spans one behind the other, or `len` bytes of frames that are not mapped,
+/// from `off` in the first on.
 #[derive(Clone, Copy)]
 pub(crate) enum LoadBytes<'s> {
-    Span(Span),
+    Span {
+        va: u128,
+        len: u64,
+    },
     Spans(&'s [Span]),
     Frames {
         frames: &'s [u64],
@@ -44,26 +48,15 @@ pub(crate) enum LoadBytes<'s> {
 }
 
 impl<'s> LoadBytes<'s> {
-    /// The bytes of a buffer.
-    pub(crate) fn of(buffer: &'s Buffer) -> LoadBytes<'s>
-        ensures { (l : LaneState) → bio_at l buffer.now ≡ Some (bio_of result) }
-    {
-        match buffer {
-            Buffer::Flat {
-                place: Place::At(va),
-                len,
-            } => LoadBytes::Span(Span { va: *va, len: *len }),
-            Buffer::Vector(spans) => LoadBytes::Spans(spans.as_slice()),
-            Buffer::Mbuf(chain) => LoadBytes::Spans(chain.as_slice()),
-            Buffer::Bio(bio) => LoadBytes::of_bio(bio),
-        }
-    }
-
-    fn of_bio(bio: &'s Bio) -> LoadBytes<'s>
+    /// The bytes of a bio.
+    fn of(bio: &'s Bio) -> LoadBytes<'s>
         ensures { bio_of result ≡ bio.now }
     {
         match bio {
-            Bio::Mapped(span) => LoadBytes::Span(*span),
+            Bio::Mapped(span) => LoadBytes::Span {
+                va: span.va.0 as u128,
+                len: span.len,
+            },
             Bio::Vector(spans) => LoadBytes::Spans(spans.as_slice()),
             Bio::Unmapped { frames, off, len } => LoadBytes::Frames {
                 frames: frames.as_slice(),
@@ -79,7 +72,7 @@ impl<'s> LoadBytes<'s> {
         ensures { result ≡ bio_bytes (bio_of self.entry) }
     {
         match self {
-            LoadBytes::Span(span) => span.len,
+            LoadBytes::Span { len, .. } => len,
             LoadBytes::Spans(spans) => total(spans) as u64,
             LoadBytes::Frames { len, .. } => len,
         }
@@ -103,6 +96,22 @@ fn is_nowait(flags: u32) -> bool
 }
 
 impl Holdings<'_> {
+    /// The bytes of a buffer, or None where the memory of its place does not exist.
+    pub(crate) fn load_bytes<'b>(&self, buffer: &'b Buffer) -> Option<LoadBytes<'b>>
+        ensures none { IfNone result (bio_at (ideal_of self.now) buffer.now ≡ None) }
+        ensures some { IfSome result (λ bytes. bio_at (ideal_of self.now) buffer.now ≡ Some (bio_of bytes)) }
+    {
+        match buffer {
+            Buffer::Flat { place, len } => {
+                let va = self.virtual_at(*place)?;
+                Some(LoadBytes::Span { va, len: *len })
+            }
+            Buffer::Vector(spans) => Some(LoadBytes::Spans(spans.as_slice())),
+            Buffer::Mbuf(chain) => Some(LoadBytes::Spans(chain.as_slice())),
+            Buffer::Bio(bio) => Some(LoadBytes::of(bio)),
+        }
+    }
+
     /// The parts of the bytes of a load, in order, up to the first that the driver does not reach.
     pub(crate) fn parts<'a>(&'a self, bytes: LoadBytes<'a>) -> BioParts<'a>
         requires { IsLoadable self.now.pages.now (bio_of bytes) }
@@ -112,9 +121,25 @@ impl Holdings<'_> {
         ensures total { byte_count (stream_extents result) ≤ 2 ^ 20 }
     {
         match bytes {
-            LoadBytes::Span(span) => parts_of_span(&self.memory, span),
+            LoadBytes::Span { va, len } => self.parts_from(va, len),
             LoadBytes::Spans(spans) => parts_of_spans(&self.memory, spans),
             LoadBytes::Frames { frames, off, len } => parts_of_frames(frames, off, len),
+        }
+    }
+
+    /// The parts of the `len` bytes from a virtual address on.
+    fn parts_from(&self, va: u128, len: u64) -> BioParts<'_>
+        requires { len ≤ 2 ^ 20 }
+        ensures parts { let bytes = Mapped (record { va = record { 0 = va }; len = len }) in
+            result ≡ load_stream (ideal_of self.now) bytes }
+        ensures stream { IsStream result }
+        ensures there { AreIn self.now.loans.bytes (addresses (stream_extents result)) }
+    {
+        if va < END {
+            let va = Va(va as u64);
+            parts_of_span(&self.memory, Span { va, len })
+        } else {
+            parts_of_frames(&[], 0, len)
         }
     }
 }

@@ -3,6 +3,7 @@
 ghost use Rattle.std.specs.Prelude.{◌≡◌, ◌+◌, ◌≤◌, ℕ, List, true, length, Some, slice_get};
 ghost use Rattle.std.specs.FinMap.{get, insert};
 ghost use Rattle.busdma_base.specs.declared.journals.journal.Side.TheVariants as side;
+ghost use Rattle.busdma_base.specs.declared.machine.bio.Bio.{Bio};
 ghost use Rattle.busdma_base.specs.declared.scenarios.buffer.Buffer.{Buffer};
 ghost use Rattle.busdma_base.specs.declared.scenarios.script.Item.{Item};
 ghost use Rattle.busdma_base.specs.declared.scenarios.script.Op.TheVariants.{Load};
@@ -10,7 +11,6 @@ ghost use Rattle.busdma_base.specs.Machine.PageList.{page_addresses};
 ghost use Rattle.dma_map.specs.MapView.{idle};
 ghost use Rattle.ideal_lane.specs.Ahead.{items_ahead};
 ghost use Rattle.ideal_lane.specs.Standing.{Stands};
-ghost use Rattle.ideal_lane.specs.State.{LaneState};
 ghost use Rattle.ideal_lane.specs.Turns.{bio_at, called, is_waiting};
 ghost use Rattle.ideal_wire.specs.Machine.{IsInMachine};
 ghost use Rattle.lane_core.specs.declared.kept.KeptMap.{KeptMap};
@@ -89,15 +89,18 @@ impl<'s> Holdings<'s> {
 
     /// The bytes of the load at a place of the script; none where no load stands there.
     fn bytes_at(&self, load_at: u32) -> LoadBytes<'s>
-        ensures { (l : LaneState) (m : ℕ) (x : Buffer) (flags : ℕ) (items : List Item) →
+        ensures { (m : ℕ) (x : Buffer) (flags : ℕ) (items : List Item) (b : Bio) →
             slice_get self.now.script.now load_at ≡ Some (Load m x flags items) →
-            bio_at l x ≡ Some (bio_of result) }
+            bio_at (ideal_of self.now) x ≡ Some b → bio_of result ≡ b }
     {
         let Some(op) = self.script.get(load_at as usize) else {
             return LoadBytes::Spans(&[]);
         };
-        match op.loads() {
-            Some(buffer) => LoadBytes::of(buffer),
+        let Some(buffer) = op.loads() else {
+            return LoadBytes::Spans(&[]);
+        };
+        match self.load_bytes(buffer) {
+            Some(bytes) => bytes,
             None => LoadBytes::Spans(&[]),
         }
     }

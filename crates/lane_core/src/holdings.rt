@@ -3,8 +3,9 @@
 ghost use Rattle.std.specs.Prelude.{◌≡◌, ◌≤◌, ℕ, true, false};
 ghost use Rattle.std.specs.FinMap.{get};
 ghost use Rattle.busdma_base.specs.declared.journals.answer.Answer.TheVariants as answer;
-ghost use Rattle.lane_core.specs.Covered.{AreLoaded, AreOwn, AreReturning, HasFramesOf, IsCovered, Reaches};
-ghost use Rattle.lane_core.specs.Covered.{is_tried, lends_pages, pages_due};
+ghost use Rattle.memory_pages.specs.Placed.{AreAtTheirFrames};
+ghost use Rattle.lane_core.specs.Covered.{AreLoaded, AreOwn, AreReturning, AreStanding, HasFramesOf, IsCovered};
+ghost use Rattle.lane_core.specs.Covered.{Reaches, is_tried, lends_pages, pages_due};
 
 use crate::kept::{KeptMap, KeptMemory, KeptShare, KeptTag};
 use busdma_base::{Answer, LaneId, MapId, Op, PageRun, Report, ReportName};
@@ -31,6 +32,8 @@ pub(crate) struct Holdings<'s> {
     ghost covered: { IsCovered memory.memory loans.bytes },
     ghost reaches: { Reaches pages.now memories.map memory.memory },
     ghost framed: { HasFramesOf pages.now memory.memory },
+    ghost placed: { AreAtTheirFrames memory.memory },
+    ghost standing: { AreStanding memories.map memory.memory },
     ghost tag_places: { tags.places ≡ agenda.length },
     ghost map_places: { maps.places ≡ agenda.length },
     ghost memory_places: { memories.places ≡ agenda.length },

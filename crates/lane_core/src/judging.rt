@@ -42,7 +42,7 @@ impl Holdings<'_> {
         ensures { result ≡ foreign_judged (ideal_of self.now) map (bio_of bytes.entry) }
     {
         match bytes {
-            LoadBytes::Span(span) => self.judge_span(map, span, 0),
+            LoadBytes::Span { va, len } => self.judge_span(map, va, len, 0),
             LoadBytes::Spans(spans) => self.judge_spans(map, spans),
             LoadBytes::Frames { off, len, .. } => self.judge_frames(map, off, len),
         }
@@ -55,7 +55,7 @@ impl Holdings<'_> {
     {
         let mut offset = 0;
         for span in spans {
-            let foreign = self.judge_span(map, *span, offset);
+            let foreign = self.judge_span(map, span.va.0 as u128, span.len, offset);
             if let Judged::Refused(_) = foreign {
                 return foreign;
             }
@@ -64,14 +64,15 @@ impl Holdings<'_> {
         Judged::Fine
     }
 
-    /// The first such byte of a span, of which the first stands at an offset of the load.
-    fn judge_span(&self, map: u32, span: Span, offset: u64) -> Judged
-        requires { offset + span.len < 2 ^ 64 }
-        ensures { result ≡ foreign_bytes (ideal_of self.now) map offset (run_of span.va.0 span.len) }
+    /// The first such byte of `len` bytes from a virtual address on, of which the first stands at an offset of the
+    /// load.
+    fn judge_span(&self, map: u32, from: u128, len: u64, offset: u64) -> Judged
+        requires { offset + len < 2 ^ 64 }
+        ensures { result ≡ foreign_bytes (ideal_of self.now) map offset (run_of from len) }
     {
         match self.memories.get(map) {
-            None => self.judge_shared(span, offset),
-            Some(kept) => judge_own(kept, span, offset),
+            None => self.judge_shared(from, len, offset),
+            Some(kept) => judge_own(kept, from, len, offset),
         }
     }
 
@@ -89,49 +90,47 @@ impl Holdings<'_> {
         foreign(0)
     }
 
-    /// The first byte of a memory in a span, of which the first stands at an offset of the load.
-    fn judge_shared(&self, span: Span, offset: u64) -> Judged
-        requires { offset + span.len < 2 ^ 64 }
+    /// The first byte of a memory among them.
+    fn judge_shared(&self, from: u128, len: u64, offset: u64) -> Judged
+        requires { offset + len < 2 ^ 64 }
         ensures { result ≡ judged (λ v. foreign_refusal (is_memory_byte (ideal_of self.now) v)) offset
-            (run_of span.va.0 span.len) }
+            (run_of from len) }
     {
         let mut first = Judged::Fine;
         for (_, kept) in self.memories.iter() {
-            first = earlier(first, judge_inside(kept, span, offset));
+            first = earlier(first, judge_inside(kept, from, len, offset));
         }
         first
     }
 }
 
-/// The first byte of one memory in a span, of which the first stands at an offset of the load.
-fn judge_inside(kept: &KeptMemory, span: Span, offset: u64) -> Judged
-    requires { offset + span.len < 2 ^ 64 }
+/// The first byte of one memory among them.
+fn judge_inside(kept: &KeptMemory, from: u128, len: u64, offset: u64) -> Judged
+    requires { offset + len < 2 ^ 64 }
     ensures { result ≡ judged (λ v. foreign_refusal (is_in_memory v (memory_of kept.now))) offset
-        (run_of span.va.0 span.len) }
+        (run_of from len) }
 {
     let begin = begin_of(kept.first);
     let end = begin + kept.memory.len as u128;
-    let from = span.va.0 as u128;
     let first = begin.max(from);
-    if first < end && first < from + span.len as u128 {
+    if first < end && first - from < len as u128 {
         foreign(offset + (first - from) as u64)
     } else {
         Judged::Fine
     }
 }
 
-/// The first byte of a span in the load of a memory's map that is not the memory's byte at its place; the span's first
-/// stands at an offset of the load.
-fn judge_own(kept: &KeptMemory, span: Span, offset: u64) -> Judged
-    requires { offset + span.len < 2 ^ 64 }
-    ensures { result ≡ own_judged (memory_of kept.now) offset (run_of span.va.0 span.len) }
+/// The first of them, in the load of a memory's map, that is not the memory's byte at its place.
+fn judge_own(kept: &KeptMemory, from: u128, len: u64, offset: u64) -> Judged
+    requires { offset + len < 2 ^ 64 }
+    ensures { result ≡ own_judged (memory_of kept.now) offset (run_of from len) }
 {
-    let end = if span.va.0 as u128 == begin_of(kept.first) + offset as u128 {
+    let end = if from == begin_of(kept.first) + offset as u128 {
         kept.memory.len.max(offset)
     } else {
         offset
     };
-    if end < offset + span.len {
+    if end < offset + len {
         foreign(end)
     } else {
         Judged::Fine
@@ -139,7 +138,7 @@ fn judge_own(kept: &KeptMemory, span: Span, offset: u64) -> Judged
 }
 
 /// The virtual address of a memory whose first byte has this physical address.
-fn begin_of(first: Pa) -> u128
+pub(crate) fn begin_of(first: Pa) -> u128
     ensures is { result ≡ virtual_of first.0 }
     ensures low { result < 2 ^ 65 }
 {

@@ -10,13 +10,16 @@ ghost use Rattle.busdma_base.specs.Bounce.AccountStep.{as_pages};
 ghost use Rattle.busdma_base.specs.Bounce.Door.{Allows};
 ghost use Rattle.busdma_base.specs.Machine.PageList.{page_addresses};
 ghost use Rattle.segment_build.specs.Trace.{IsPage};
-ghost use Rattle.ideal_lane.specs.Loads.{Asked, asked, finished, granted, limits_of, load, load_entries, zone_of};
+ghost use Rattle.ideal_lane.specs.Loads.{Asked, asked, finished, granted, is_coherent, limits_of, load, load_entries};
+ghost use Rattle.ideal_lane.specs.Loads.{zone_of};
 ghost use Rattle.ideal_lane.specs.Standing.{Stands};
 ghost use Rattle.ideal_lane.specs.State.{LaneMap, named};
+ghost use Rattle.ideal_wire.specs.Laid.{AreLaid};
+ghost use Rattle.ideal_wire.specs.Machine.{IsInMachine};
 ghost use Rattle.lane_core.specs.Doing.{IsAllowedBy, IsCalled, IsDone, IsUndone, asks};
 ghost use Rattle.lane_core.specs.Covered.{is_idle_map, pages_due};
-ghost use Rattle.lane_core.specs.Loading.{HasRoomForAny, IsFilled, IsLoadable, IsOverfull, IsWanted};
-ghost use Rattle.lane_core.specs.Loading.{bio_bytes, bio_chunks, bio_of, bio_reached, load_loan};
+ghost use Rattle.lane_core.specs.Loading.{AreItsFirst, HasRoomForAny, IsFilled, IsLoadable, IsOverfull, IsWanted};
+ghost use Rattle.lane_core.specs.Loading.{bio_bytes, bio_chunks, bio_of, bio_reached, load_loan, map_chunks};
 
 use crate::buffers::{
     LoadBytes, build_parts, copy_segments, extents_of, measure_parts, write_addresses,
@@ -27,6 +30,7 @@ use busdma_base::{
     SegmentRoom, ZoneId,
 };
 use dma_map::{LoadRoom, MapState};
+use memory_load::{build_memory, memory_pieces};
 use segment_build::Measured;
 use std::alloc::{AllocError, Global};
 
@@ -61,8 +65,8 @@ impl Holdings<'_> {
     ghost use Rattle.lane_core.specs.Changes.{KeepsAgenda, KeepsBytesBut, KeepsState, KeepsWhatStays};
     ghost use Rattle.lane_core.specs.Ideal.{given, ideal_of};
 
-    /// Loads a map that is not a memory's. It takes all its memory before its one call at the door, and
-    /// changes the driver after that.
+    /// Loads a map. It takes all its memory before its one call at the door, and changes the driver after that. The
+    /// load of a memory's own map makes no call.
     pub(crate) fn load<D: HubDoor>(
         &mut self,
         alloc: Global,
@@ -73,7 +77,8 @@ impl Holdings<'_> {
         items: &ItemList,
     ) -> Result<Answered, AllocError>
         requires stands { Stands (ideal_of self.old) }
-        requires own { get self.old.memories.map map ≡ None }
+        requires machine { IsInMachine (ideal_of self.old) }
+        requires laid { AreLaid (ideal_of self.old) }
         requires awaiting { AreAwaiting self.old }
         requires next { IsNextLoad self.old map (bio_of bytes) items.now }
         requires loadable { IsLoadable self.old.pages.now (bio_of bytes) }
@@ -132,23 +137,31 @@ impl Holdings<'_> {
         Ok(Answered { answer, held: true })
     }
 
-    /// What the load of a map asks, or None where it is longer than the tag allows.
+    /// What the load of a map asks, or None where it is longer than the tag allows. That of a memory's own map asks no
+    /// bounce page.
     fn measure_load(&self, map: u32, bytes: LoadBytes<'_>) -> Option<Wanted>
         requires stands { Stands (ideal_of self.now) }
         requires idle { is_idle_map (get self.now.maps.map map) ≡ true }
         requires reached { bio_reached (ideal_of self.now) (bio_of bytes) ≡ Fine }
+        requires first { AreItsFirst (ideal_of self.now) map (bio_of bytes) }
         requires loadable { IsLoadable self.now.pages.now (bio_of bytes) }
         ensures long { IfNone result ((o : LaneMap) → get (ideal_of self.now).maps map ≡ Some o →
             (limits_of (ideal_of self.now) o).maxsize < bio_bytes (bio_of bytes.entry)) }
         ensures wanted { IfSome result (λ w. (o : LaneMap) → get (ideal_of self.now).maps map ≡ Some o →
-            IsWanted (limits_of (ideal_of self.now) o) (bio_chunks (ideal_of self.now) o (bio_of bytes.entry))
+            IsWanted (limits_of (ideal_of self.now) o) (map_chunks (ideal_of self.now) map o (bio_of bytes.entry))
             (bio_bytes (bio_of bytes.entry)) w.need w.segments) }
     {
         let kept = self.maps.get(map)?;
         let made = self.tags.get(kept.tag)?;
         let limits = made.tag.limits();
-        if limits.maxsize < bytes.len() {
+        let len = bytes.len();
+        if limits.maxsize < len {
             return None;
+        }
+        let most = limits.nsegments as u64;
+        if let Some(own) = self.memories.get(map) {
+            let segments = memory_pieces(&made.tag, own.first, len).min(most);
+            return Some(Wanted { need: 0, segments });
         }
         let Measured::Fits { need, pieces, .. } = measure_parts(
             &made.tag,
@@ -157,11 +170,11 @@ impl Holdings<'_> {
         ) else {
             return None;
         };
-        let segments = pieces.min(limits.nsegments as u64);
+        let segments = pieces.min(most);
         Some(Wanted { need, segments })
     }
 
-    /// Prepares the loan of a map that is not a memory's, over the bytes of its load.
+    /// Prepares the loan of a map over the bytes of its load.
     pub(crate) fn prepare_load(
         &mut self,
         alloc: Global,
@@ -169,7 +182,6 @@ impl Holdings<'_> {
         bytes: LoadBytes<'_>,
     ) -> Result<(), AllocError>
         requires idle { is_idle_map (get self.old.maps.map map) ≡ true }
-        requires own { get self.old.memories.map map ≡ None }
         requires unprepared { get self.old.loans.prepared map ≡ None }
         requires reached { bio_reached (ideal_of self.old) (bio_of bytes) ≡ Fine }
         requires loadable { IsLoadable self.old.pages.now (bio_of bytes) }
@@ -182,8 +194,19 @@ impl Holdings<'_> {
         ensures memories { self.new.memories ≡ self.old.memories }
     {
         let id = self.map_id(map);
+        let coherent = self.is_coherent(map);
         let extents = extents_of(alloc, self.parts(bytes))?;
-        self.loans.prepare_map(alloc, id, &extents, false)
+        self.loans.prepare_map(alloc, id, &extents, coherent)
+    }
+
+    /// Whether a map is that of a coherent memory.
+    fn is_coherent(&self, map: u32) -> bool
+        ensures { result ≡ is_coherent (get (ideal_of self.now).mems map) }
+    {
+        match self.memories.get(map) {
+            Some(own) => own.memory.coherent,
+            None => false,
+        }
     }
 
     /// Builds the load of a map in these pages into its room, and answers whether the segments are few enough.
@@ -197,18 +220,19 @@ impl Holdings<'_> {
         requires stands { Stands (ideal_of self.now) }
         requires idle { is_idle_map (get self.now.maps.map map) ≡ true }
         requires reached { bio_reached (ideal_of self.now) (bio_of bytes) ≡ Fine }
+        requires first { AreItsFirst (ideal_of self.now) map (bio_of bytes) }
         requires loadable { IsLoadable self.now.pages.now (bio_of bytes) }
         requires room { (o : LaneMap) → get (ideal_of self.now).maps map ≡ Some o →
             HasRoomForAny (limits_of (ideal_of self.now) o)
-            (bio_chunks (ideal_of self.now) o (bio_of bytes)) (length pages.now) room.old }
+            (map_chunks (ideal_of self.now) map o (bio_of bytes)) (length pages.now) room.old }
         ensures at_frames { AllByRecursion IsPage (as_pages (page_addresses pages.now)) }
         ensures few { result ≡ true → (o : LaneMap) → get (ideal_of self.now).maps map ≡ Some o →
             IsFilled (limits_of (ideal_of self.now) o)
-            (bio_chunks (ideal_of self.now) o (bio_of bytes.entry)) (as_pages (page_addresses pages.now))
+            (map_chunks (ideal_of self.now) map o (bio_of bytes.entry)) (as_pages (page_addresses pages.now))
             room.new }
         ensures many { result ≡ false → (o : LaneMap) → get (ideal_of self.now).maps map ≡ Some o →
             IsOverfull (limits_of (ideal_of self.now) o)
-            (bio_chunks (ideal_of self.now) o (bio_of bytes.entry)) (as_pages (page_addresses pages.now))
+            (map_chunks (ideal_of self.now) map o (bio_of bytes.entry)) (as_pages (page_addresses pages.now))
             room.new }
         ensures shown { room.new.shown ≡ room.old.shown }
     {
@@ -218,6 +242,15 @@ impl Holdings<'_> {
         let Some(made) = self.tags.get(kept.tag) else {
             return false;
         };
+        if let Some(own) = self.memories.get(map) {
+            return build_memory(
+                &made.tag,
+                own.first,
+                bytes.len(),
+                &mut room.list,
+                &mut room.bounced,
+            );
+        }
         write_addresses(pages, &mut room.addresses);
         build_parts(&made.tag, self.maxmem, self.parts(bytes), room)
     }
@@ -237,10 +270,11 @@ impl Holdings<'_> {
         requires idle { is_idle_map (get self.old.maps.map map) ≡ true }
         requires awaiting { AreAwaitingBut map self.old }
         requires reached { bio_reached (ideal_of self.old) (bio_of bytes) ≡ Fine }
+        requires first { AreItsFirst (ideal_of self.old) map (bio_of bytes) }
         requires loadable { IsLoadable self.old.pages.now (bio_of bytes) }
         requires room { (o : LaneMap) → get (ideal_of self.old).maps map ≡ Some o →
             HasRoomForAny (limits_of (ideal_of self.old) o)
-            (bio_chunks (ideal_of self.old) o (bio_of bytes)) (length pages.items) room }
+            (map_chunks (ideal_of self.old) map o (bio_of bytes)) (length pages.items) room }
         requires prepared { get self.old.loans.prepared map ≡ Some
             (load_loan (ideal_of self.old) map (bio_of bytes)) }
         requires few_items { length items ≤ self.old.agenda.room }
@@ -248,7 +282,7 @@ impl Holdings<'_> {
         ensures done { (o : LaneMap) (x : Asked) → get (ideal_of self.old).maps map ≡ Some o →
             x.entries ≡ load_entries (ideal_of self.old) (bio_of bytes.entry) → x.items ≡ items →
             given self.new result ≡ finished map o load_at x
-            (bio_chunks (ideal_of self.old) o (bio_of bytes.entry)) (page_addresses pages.items)
+            (map_chunks (ideal_of self.old) map o (bio_of bytes.entry)) (page_addresses pages.items)
             (ideal_of self.old) }
         ensures awaiting { AreAwaiting self.new }
         ensures bytes { KeepsBytesBut map self.old self.new }
@@ -284,19 +318,19 @@ impl Holdings<'_> {
     ) -> Result<Answer, AllocError>
         requires stands { Stands (ideal_of self.old) }
         requires idle { is_idle_map (get self.old.maps.map map) ≡ true }
-        requires own { get self.old.memories.map map ≡ None }
         requires awaiting { AreAwaiting self.old }
         requires reached { bio_reached (ideal_of self.old) (bio_of bytes) ≡ Fine }
+        requires first { AreItsFirst (ideal_of self.old) map (bio_of bytes) }
         requires loadable { IsLoadable self.old.pages.now (bio_of bytes) }
         requires wanted { (o : LaneMap) → get (ideal_of self.old).maps map ≡ Some o →
-            IsWanted (limits_of (ideal_of self.old) o) (bio_chunks (ideal_of self.old) o (bio_of bytes))
+            IsWanted (limits_of (ideal_of self.old) o) (map_chunks (ideal_of self.old) map o (bio_of bytes))
             (bio_bytes (bio_of bytes)) wanted.need wanted.segments }
         requires direct { wanted.need ≡ 0 }
         requires few_items { length items.now ≤ self.old.agenda.room }
         ensures done { IfOk result (λ answer. (o : LaneMap) (x : Asked) → get (ideal_of self.old).maps map ≡ Some o →
             x.entries ≡ load_entries (ideal_of self.old) (bio_of bytes.entry) → x.items ≡ items.now →
             given self.new answer ≡ finished map o (ideal_of self.old).place x
-            (bio_chunks (ideal_of self.old) o (bio_of bytes.entry)) [] (ideal_of self.old)) }
+            (map_chunks (ideal_of self.old) map o (bio_of bytes.entry)) [] (ideal_of self.old)) }
         ensures err { OnErr result (KeepsState self.old self.new) }
         ensures unpromised { OnErr result (self.new.agenda ≡ self.old.agenda) }
         ensures awaiting { AreAwaiting self.new }

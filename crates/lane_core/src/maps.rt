@@ -148,7 +148,7 @@ impl Holdings<'_> {
     }
 
     /// Puts the idle map of this place, of a tag.
-    fn put_map(&mut self, tag: u32, zone: Option<ZoneId>)
+    pub(crate) fn put_map(&mut self, tag: u32, zone: Option<ZoneId>)
         requires room { 1 ≤ self.old.maps.spare }
         requires going { self.old.agenda.place < self.old.agenda.length }
         requires vacant { get self.old.maps.map self.old.agenda.place ≡ None }
@@ -231,7 +231,7 @@ impl Holdings<'_> {
     }
 
     /// Drops an idle map.
-    fn drop_map(&mut self, map: u32)
+    pub(crate) fn drop_map(&mut self, map: u32)
         requires { is_idle_map (get self.old.maps.map map) ≡ true }
         ensures done { ideal_of self.new ≡ without_map map (ideal_of self.old) }
         ensures bytes { KeepsBytes self.old self.new }

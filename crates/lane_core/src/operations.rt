@@ -1,28 +1,30 @@
 //! What an operation does.
 
 ghost use Rattle.std.specs.Prelude.{◌≡◌, ◌+◌, ◌<◌, ◌≤◌, Some, length, slice_get, IfOk, OnErr, OnOk};
+ghost use Rattle.busdma_base.specs.declared.scenarios.script.Op.TheVariants.{Load};
+ghost use Rattle.busdma_base.specs.Scenarios.Buffers.{buffer_bytes};
 ghost use Rattle.busdma_base.specs.Scenarios.Operations.{loaded_by};
 ghost use Rattle.ideal_lane.specs.Standing.{Stands};
 ghost use Rattle.ideal_lane.specs.Turns as turns;
 ghost use Rattle.ideal_wire.specs.WireStep as wires;
 ghost use Rattle.lane_core.specs.Doing.{IsAllowedBy, IsDone, IsUndone, asks};
+ghost use Rattle.lane_core.specs.Turning.{IsServed};
 
-use crate::buffers::{LoadBytes, never_waits};
-use crate::holdings::{Answered, Holdings, unheld};
-use busdma_base::{HubDoor, Op};
+use crate::buffers::never_waits;
+use crate::holdings::{Answered, Holdings, report, unheld};
+use busdma_base::{Buffer, HubDoor, ItemList, Op, ReportName};
 use dma_tag::SyncOps;
 use std::alloc::{AllocError, Global};
 
 impl Holdings<'_> {
     ghost use Rattle.lane_core.specs.Awaiting.{AreAwaiting};
-    ghost use Rattle.lane_core.specs.Changes.{IsWireOf, KeepsAgenda, KeepsState};
+    ghost use Rattle.lane_core.specs.Changes.{IsWireOf, KeepsAgenda, KeepsState, KeepsWhatStays};
     ghost use Rattle.lane_core.specs.Ideal.{given, ideal_of};
     ghost use Rattle.lane_core.specs.Provided.{IsProvided};
     ghost use Rattle.lane_core.specs.Wire.{IsWired, wire_of};
     ghost use Rattle.ideal_lane.specs.Ahead.{items_ahead};
 
-    /// Does the next operation of the script, but for the step to the next place. A load of a memory's own map is not
-    /// built: no operation makes a memory yet, and a driver keeps that it has none.
+    /// Does the next operation of the script, but for the step to the next place.
     pub(crate) fn operation<D: HubDoor>(
         &mut self,
         alloc: Global,
@@ -33,6 +35,7 @@ impl Holdings<'_> {
         requires wired { IsWired self.old }
         requires provided { IsProvided self.old }
         requires room { items_ahead (ideal_of self.old) ≤ self.old.agenda.room }
+        requires served { IsServed (ideal_of self.old) (D.seen door.old) }
         requires going { self.old.agenda.place < self.old.agenda.length }
         requires here { slice_get self.old.script.now self.old.agenda.place ≡ Some op.now }
         requires allowed { IsAllowedBy (D.seen door.old) self.old.id.0 (turns.operation op.now (ideal_of self.old)) }
@@ -48,7 +51,6 @@ impl Holdings<'_> {
         ensures awaiting { AreAwaiting self.new }
         ensures agenda { KeepsAgenda self.old self.new }
         ensures promised { self.new.agenda.promised ≤ self.old.agenda.promised + loaded_by op.now }
-        ensures memories { self.new.memories ≡ self.old.memories }
         ensures fixed { D.fixed door.new ≡ D.fixed door.old }
     {
         match op {
@@ -56,15 +58,14 @@ impl Holdings<'_> {
             Op::TagDestroy { tag } => Ok(unheld(self.destroy_tag(*tag))),
             Op::Map { tag, .. } => self.make_map(alloc, door, *tag),
             Op::MapDestroy { map } => Ok(self.destroy_map(door, *map)),
+            Op::Dmamem { tag, flags, .. } => self.make_memory(alloc, door, *tag, *flags),
+            Op::DmamemFree { mem } => self.end_memory(alloc, door, *mem),
             Op::Load {
                 map,
                 buffer,
                 flags,
                 then,
-            } => {
-                let nowait = never_waits(buffer, *flags);
-                self.load(alloc, door, *map, LoadBytes::of(buffer), nowait, then)
-            }
+            } => self.load_buffer(alloc, door, *map, buffer, *flags, then),
             Op::Unload { map } => Ok(unheld(self.unload(*map))),
             Op::Sync { map, ops } => Ok(unheld(self.sync(alloc, *map, SyncOps(*ops))?)),
             Op::SyncRange { map, off, len, ops } => {
@@ -77,5 +78,44 @@ impl Holdings<'_> {
             }
             Op::Await { map } => Ok(unheld(self.await_map(*map))),
         }
+    }
+
+    /// Loads a map with a buffer, unless the memory of its place does not exist.
+    fn load_buffer<D: HubDoor>(
+        &mut self,
+        alloc: Global,
+        door: &mut D,
+        map: u32,
+        buffer: &Buffer,
+        flags: u32,
+        items: &ItemList,
+    ) -> Result<Answered, AllocError>
+        requires stands { Stands (ideal_of self.old) }
+        requires wired { IsWired self.old }
+        requires provided { IsProvided self.old }
+        requires here { slice_get self.old.script.now self.old.agenda.place
+            ≡ Some (Load map buffer.now flags items.now) }
+        requires few_items { length items.now ≤ self.old.agenda.room }
+        requires allowed { IsAllowedBy (D.seen door.old) self.old.id.0
+            (turns.load_buffer map buffer.now flags items.now (ideal_of self.old)) }
+        ensures done { IfOk result (λ r. IsDone (D.seen door.old) self.old.id.0
+            (turns.load_buffer map buffer.now flags items.now (ideal_of self.old))
+            (given self.new r.answer) (D.seen door.new)) }
+        ensures held { IfOk result (λ r. r.held
+            ≡ asks (turns.load_buffer map buffer.now flags items.now (ideal_of self.old))) }
+        ensures err { OnErr result (KeepsState self.old self.new) }
+        ensures unpromised { OnErr result (self.new.agenda ≡ self.old.agenda) }
+        ensures undone { OnErr result (IsUndone (D.seen door.old) (D.seen door.new)) }
+        ensures awaiting { AreAwaiting self.new }
+        ensures bytes { KeepsWhatStays self.old self.new }
+        ensures memories { self.new.memories ≡ self.old.memories }
+        ensures agenda { KeepsAgenda self.old self.new }
+        ensures promised { self.new.agenda.promised ≤ self.old.agenda.promised + buffer_bytes buffer.now }
+        ensures fixed { D.fixed door.new ≡ D.fixed door.old }
+    {
+        let Some(bytes) = self.load_bytes(buffer) else {
+            return Ok(unheld(report(ReportName::Absent, 0)));
+        };
+        self.load(alloc, door, map, bytes, never_waits(buffer, flags), items)
     }
 }

@@ -54,6 +54,8 @@ impl Holdings<'_> {
             | Op::TagDestroy { .. }
             | Op::Map { .. }
             | Op::MapDestroy { .. }
+            | Op::Dmamem { .. }
+            | Op::DmamemFree { .. }
             | Op::Load { .. }
             | Op::Unload { .. }
             | Op::Sync { .. }

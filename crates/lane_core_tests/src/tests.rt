@@ -2,6 +2,7 @@
 
 mod answers;
 mod calls;
+mod memories;
 mod opened;
 mod refusals;
 mod wanted;

@@ -1,3 +1,4 @@
+pub mod Cloned
 pub mod Leading
 pub mod Logged
 pub mod OneTurn

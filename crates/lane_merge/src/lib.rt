@@ -7,4 +7,4 @@ mod merging;
 mod tests;
 
 pub use laws::{merged_journals_are_legal, merged_journals_lead};
-pub use merging::{LaneLog, LoggedStep, merge};
+pub use merging::{LaneLog, LoggedStep, merge, merge_owned};

@@ -16,6 +16,17 @@ pub enum LoggedStep {
     Held(JournalEntry),
 }
 
+impl Clone for LoggedStep {
+    ghost is_clone = { λ a b. b ≡ a };
+
+    fn clone(&self) -> Result<LoggedStep, AllocError> {
+        Ok(match self {
+            LoggedStep::Local(entry) => LoggedStep::Local(entry.clone()?),
+            LoggedStep::Held(entry) => LoggedStep::Held(entry.clone()?),
+        })
+    }
+}
+
 /// The log of a driver: its steps, in order.
 pub type LaneLog = VecDeque<LoggedStep>;
 
@@ -24,6 +35,19 @@ pub type LaneLog = VecDeque<LoggedStep>;
 /// held, or all that are left where none held, and at the end the rest, driver by driver. An error
 /// is want of memory.
 pub fn merge(
+    alloc: Global,
+    holds: &[HoldEntry],
+    logs: &[LaneLog],
+) -> Result<Vec<JournalEntry>, AllocError>
+    requires { All (λ h. h.lane.0 < length logs.now) holds.now }
+    ensures { IfOk result (λ v. v.items ≡ merged holds.now (map (λ l. l.items) logs.now)) }
+{
+    let own = Vec::from_clones(alloc, logs)?;
+    merge_owned(alloc, holds, own)
+}
+
+/// The same of logs that are not needed any more: their entries are moved and not cloned.
+pub fn merge_owned(
     alloc: Global,
     holds: &[HoldEntry],
     mut logs: Vec<LaneLog>,

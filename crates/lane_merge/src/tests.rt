@@ -2,7 +2,7 @@
 
 ghost use Rattle.std.specs.Prelude.{◌≡◌, IfOk, length};
 
-use crate::{LaneLog, LoggedStep, merge};
+use crate::{LaneLog, LoggedStep, merge, merge_owned};
 use busdma_base::{
     Actor, Answer, Did, HoldEntry, HubCall, HubReply, JournalEntry, LaneId, MapId, Side,
 };
@@ -80,7 +80,10 @@ fn steps(alloc: Global, entries: &[JournalEntry]) -> Result<Vec<(u32, Did)>, All
 #[test]
 fn local_steps_stand_before_the_next_hold(rt: HostRuntime) -> Result<(), Fail> {
     let alloc = rt.alloc();
-    let entries = merge(alloc, &[hold(0), hold(1), hold(0)], logs(alloc)?)?;
+    let holds = [hold(0), hold(1), hold(0)];
+    let logs = logs(alloc)?;
+    let cloned = merge(alloc, &holds, logs.as_slice())?;
+    let moved = merge_owned(alloc, &holds, logs)?;
     let merged = [
         (0, Did::Op(0)),
         (0, Did::Op(1)),
@@ -94,7 +97,11 @@ fn local_steps_stand_before_the_next_hold(rt: HostRuntime) -> Result<(), Fail> {
         (1, Did::Op(3)),
     ];
     assert_eq!(rt;
-        steps(alloc, entries.as_slice())?.as_slice(),
+        steps(alloc, cloned.as_slice())?.as_slice(),
+        merged.as_slice()
+    );
+    assert_eq!(rt;
+        steps(alloc, moved.as_slice())?.as_slice(),
         merged.as_slice()
     );
     Ok(())

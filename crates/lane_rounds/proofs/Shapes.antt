@@ -39,6 +39,7 @@ use Rattle.ideal_lane.specs.Asking.{Asking, Gives, Asks, goes_on}
 use Rattle.ideal_lane.specs.IdealMemory.{forgotten, is_known, written}
 use Rattle.ideal_lane.specs.Loads.{Asked, asked, limits_of, chunks_for, load}
 use Rattle.ideal_lane.specs.Maps.{map, end_map, map_destroy, await}
+use Rattle.ideal_lane.specs.Memories.{dmamem, dmamem_free}
 use Rattle.ideal_lane.specs.Outcomes.{Outcome, gives, refused, unless_absent, unless_refused, unless_busy}
 use Rattle.ideal_lane.specs.Outcomes.{unless_unloaded}
 use Rattle.ideal_lane.specs.Outcomes.{unless_past, is_idle, is_loaded, load_length}
@@ -141,6 +142,14 @@ module _ (l : LaneState) where
       absent (get l.maps m) _ (λ (o : LaneMap). either (is_idle o.stage) _ _ (end-free m o.zone)
       (record { is = refl }))
 
+  dmamem-free : (t flags : ℕ) → IsFree (dmamem t flags l)
+  dmamem-free t flags = absent (get l.tags t) _ (λ (o : LaneTag). (record { is = refl }))
+
+  dmamem_free-free : (m : ℕ) → IsFree (dmamem_free m l)
+  dmamem_free-free m =
+      absent (get l.mems m) _ (λ x. absent (get l.maps m) _ (λ (o : LaneMap).
+      either (is_idle o.stage) _ _ (record { is = refl }) (record { is = refl })))
+
   await-free : (m : ℕ) → IsFree (await m l)
   await-free m = absent (get l.maps m) _ (λ (o : LaneMap). either o.tried _ _ (record { is = refl })
       (record { is = refl }))
@@ -204,6 +213,8 @@ module _ (l : LaneState) where
   operation-free (op.TagDestroy t) = tag_destroy-free t
   operation-free (op.Map name t) = map-free t
   operation-free (op.MapDestroy m) = map_destroy-free m
+  operation-free (op.Dmamem name t flags) = dmamem-free t flags
+  operation-free (op.DmamemFree m) = dmamem_free-free m
   operation-free (op.Load m buffer flags items) = load_buffer-free m buffer flags items
   operation-free (op.Unload m) = unloaded m _ (λ o. (record { is = refl }))
   operation-free (op.Sync m ops) = sync-free m ops

@@ -8,6 +8,7 @@ use Rattle.busdma_base.specs.Bounce.Account.{Account}
 use Rattle.busdma_base.specs.Bounce.LaneEntries.{of_lane}
 use Rattle.busdma_base.specs.Bounce.Opening.{maxmem_of, opening}
 use Rattle.busdma_base.specs.Scenarios.Valid.{IsValid}
+use Rattle.busdma_base.proofs.Accounts.EachFrame.{below-opening}
 use Rattle.busdma_base.proofs.Accounts.Openings.{opening-may_begin}
 use Rattle.turnstile.specs.declared.view.Start.{Start}
 use Rattle.turnstile.specs.Pass.{SplitsOff}
@@ -44,6 +45,7 @@ module _ (s : Scenario) (valid : IsValid s) (names : ℕ) (first : LanePass) (st
       let served : IsServed l (seen_from (started names s) (i + 1) []) = record {
         served = eq-eqb (l.id + 1) (i + 1) (ap (λ n. n + 1) number);
         opening = begins;
+        below = below-opening s;
         sound = tt;
         agrees =
             subst (λ (x : LaneState). AgreesWith x (opening s)) (sym opens)

@@ -11,7 +11,7 @@ use crate::parking::Parked;
 use crate::threads::run_on_threads;
 use bounce_hub::Hub;
 use busdma_base::{Journal, Scenario};
-use lane_merge::merge;
+use lane_merge::merge_owned;
 use lane_rounds::Gate;
 use std::alloc::{AllocError, Global};
 use std::sync::Wait;
@@ -30,7 +30,7 @@ fn merged_run<'s>(
     ensures { IfOk result (λ closing. IsRun scenario.now (ideal_run closing)) }
 {
     let Parked { lanes, logs, turns } = parked;
-    let entries = merge(alloc, hub.history(), logs)?;
+    let entries = merge_owned(alloc, hub.history(), logs)?;
     Ok(Closing {
         world: World::from_parts(scenario, lanes, hub),
         entries,

@@ -8,7 +8,7 @@ use Rattle.busdma_base.specs.declared.scenarios.script.Item.{Item}
 use Rattle.busdma_base.specs.declared.scenarios.operations.NameKind.TheVariants.{Map}
 use Rattle.busdma_base.specs.declared.scenarios.operations.UsedName.{UsedName}
 use Rattle.busdma_base.specs.Machine.Page.{FrameBytes}
-use Rattle.busdma_base.specs.Scenarios.Names.{same_kind}
+use Rattle.busdma_base.specs.Scenarios.Names.{accepts}
 use Rattle.busdma_base.specs.Scenarios.Operations.{about_item, items_of}
 use Rattle.lane_tables.specs.declared.queued.QueuedItem.{QueuedItem}
 use Rattle.lane_tables.specs.declared.queued.QueuedPage.{QueuedPage}
@@ -29,7 +29,7 @@ queued load_at items = queued_from load_at 0 items
 
 -- a name is that of the map that was made at a place
 abbrev pub is_map_at : ℕ → UsedName → Bool
-is_map_at made_at used = same_kind used.kind Map && (used.made_at == made_at)
+is_map_at made_at used = accepts used.used_as Map && (used.made_at == made_at)
 
 -- an item names the map that was made at a place
 abbrev pub item_names : ℕ → Item → Bool

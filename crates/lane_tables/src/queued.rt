@@ -36,5 +36,5 @@ pub(crate) fn item_names(item: &Item, made_at: u32) -> bool
     ensures { result ≡ item_names made_at item.now }
 {
     let used = item.about().uses;
-    used.kind == NameKind::Map && used.made_at == made_at
+    used.used_as.accepts(NameKind::Map) && used.made_at == made_at
 }

@@ -1,11 +1,12 @@
 -- What the plain lists of a driver stand for.
-use Rattle.std.specs.Prelude.{ℕ, true, List, [], ◌∷◌, Option, Some, None}
-use Rattle.ideal_lane.specs.IdealMemory.{IdealMemory, Content, Known, Unknown, forgotten, written}
+use Rattle.std.specs.Prelude.{ℕ, true, List, [], ◌∷◌, Option, Some, None, if◌then◌else◌}
+use Rattle.busdma_base.specs.Bounce.MemoryRuns.{in_run}
+use Rattle.ideal_lane.specs.IdealMemory.{IdealMemory, Content, Known, Unknown, forgotten, written, joined, parted}
 use Rattle.ideal_lane.specs.State.{LaneMap, Stage}
 use Rattle.ideal_lane.specs.State as state
 use Rattle.ideal_lane.specs.Syncs.{counted_in}
 use Rattle.plain_lane.specs.declared.content.Change.{Change}
-use Rattle.plain_lane.specs.declared.content.Change.TheVariants.{Forgot, Wrote}
+use Rattle.plain_lane.specs.declared.content.Change.TheVariants.{Forgot, Wrote, Came, Left}
 use Rattle.plain_lane.specs.declared.content.Byte.{Byte}
 use Rattle.plain_lane.specs.declared.content.Byte.TheVariants as byte
 use Rattle.plain_lane.specs.declared.unloads.Header.{Header}
@@ -33,6 +34,8 @@ content_of byte.None = None
 abbrev pub change : Change → IdealMemory → IdealMemory
 change (Forgot addresses) memory = forgotten addresses.items memory
 change (Wrote addresses values) memory = written addresses.items values.items memory
+change (Came first count zero) memory = joined (in_run first count) (if zero then Known 0 else Unknown) memory
+change (Left first count) memory = parted (in_run first count) memory
 
 -- the memory after changes, in order
 abbrev pub changed : List Change → IdealMemory → IdealMemory

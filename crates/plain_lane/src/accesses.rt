@@ -84,8 +84,9 @@ impl PlainLane<'_> {
     ) -> Result<Answer, AllocError>
         ensures { IfOk result (λ a. Gives (given self.now a) ≡ accesses.cpu_read place len (ideal self.now)) }
     {
-        let Place::At(va) = place;
-        let va = va.0 as u128;
+        let Some(va) = self.virtual_at(place) else {
+            return Ok(report(ReportName::Absent, 0));
+        };
         if let Judged::Refused(refusal) = self.judge_reach(0, va, len) {
             return Ok(Answer::Report(refusal));
         }
@@ -105,8 +106,10 @@ impl PlainLane<'_> {
     ) -> Result<Answer, AllocError>
         ensures { IfOk result (λ a. Gives (given self.new a) ≡ accesses.cpu_write place values.items (ideal self.old)) }
     {
-        let Place::At(va) = place;
-        let (va, len) = (va.0 as u128, values.len() as u64);
+        let Some(va) = self.virtual_at(place) else {
+            return Ok(report(ReportName::Absent, 0));
+        };
+        let len = values.len() as u64;
         if let Judged::Refused(refusal) = self.judge_reach(0, va, len) {
             return Ok(Answer::Report(refusal));
         }

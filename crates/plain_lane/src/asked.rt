@@ -3,15 +3,16 @@
 ghost use Rattle.std.specs.Prelude.{◌≡◌, Some, None, [], option_map, IfOk};
 ghost use Rattle.dma_tag.specs.LoadFlags.{nowait};
 ghost use Rattle.ideal_lane.specs.Loads as loads;
-ghost use Rattle.ideal_lane.specs.State.{LaneState};
+ghost use Rattle.ideal_lane.specs.Places as places;
 ghost use Rattle.ideal_lane.specs.Turns as turns;
 ghost use Rattle.plain_lane.specs.Ideal.{ideal};
 ghost use Rattle.plain_lane.specs.Loading.{asked_of};
 
 use crate::bios::{bio_spans, span_bytes};
 use crate::lane::PlainLane;
+use crate::lists::small;
 use bitflags::Flags;
-use busdma_base::{Bio, Buffer, Entry, Item, Judged, ListOf, Op, Place, Span};
+use busdma_base::{Bio, Buffer, Entry, Item, Judged, ListOf, Op, Place, Span, Va};
 use dma_tag::LoadFlags;
 use std::alloc::{AllocError, Global};
 
@@ -48,21 +49,6 @@ fn same_bio(alloc: Global, bio: &Bio) -> Result<Bio, AllocError>
     }
 }
 
-/// The bytes of a buffer as those of a bio.
-fn bio_at(alloc: Global, buffer: &Buffer) -> Result<Bio, AllocError>
-    ensures { IfOk result (λ b. (l : LaneState) → turns.bio_at l buffer.now ≡ Some b) }
-{
-    match buffer {
-        Buffer::Flat { place, len } => {
-            let Place::At(va) = *place;
-            Ok(Bio::Mapped(Span { va, len: *len }))
-        }
-        Buffer::Vector(spans) => Ok(Bio::Vector(listed(alloc, spans)?)),
-        Buffer::Mbuf(chain) => Ok(Bio::Vector(listed(alloc, chain)?)),
-        Buffer::Bio(bio) => same_bio(alloc, bio),
-    }
-}
-
 /// The load of a buffer with these flags does not wait.
 fn never_waits(buffer: &Buffer, flags: u32) -> bool
     ensures { result ≡ turns.never_waits buffer.now flags }
@@ -76,6 +62,30 @@ fn never_waits(buffer: &Buffer, flags: u32) -> bool
 }
 
 impl<'s> PlainLane<'s> {
+    /// The bytes from a place on as those of a bio, or None where the memory of the place does not
+    /// exist. Err where a virtual address has more than 64 bits.
+    fn flat_bio(&self, place: Place, len: u64) -> Result<Option<Bio>, AllocError>
+        ensures { IfOk result (λ b. b ≡ option_map (turns.flat_bio len) (places.virtual_at (ideal self.now) place)) }
+    {
+        let Some(va) = self.virtual_at(place) else {
+            return Ok(None);
+        };
+        let va = Va(small(va)?);
+        Ok(Some(Bio::Mapped(Span { va, len })))
+    }
+
+    /// The bytes of a buffer as those of a bio, or None where the memory of its place does not exist.
+    fn bio_at(&self, alloc: Global, buffer: &Buffer) -> Result<Option<Bio>, AllocError>
+        ensures { IfOk result (λ b. b ≡ turns.bio_at (ideal self.now) buffer.now) }
+    {
+        match buffer {
+            Buffer::Flat { place, len } => self.flat_bio(*place, *len),
+            Buffer::Vector(spans) => Ok(Some(Bio::Vector(listed(alloc, spans)?))),
+            Buffer::Mbuf(chain) => Ok(Some(Bio::Vector(listed(alloc, chain)?))),
+            Buffer::Bio(bio) => Ok(Some(same_bio(alloc, bio)?)),
+        }
+    }
+
     /// What a load of a bio asks.
     fn asked(
         &self,
@@ -97,7 +107,7 @@ impl<'s> PlainLane<'s> {
         })
     }
 
-    /// What the load of a buffer asks.
+    /// What the load of a buffer asks, or None where the memory of its place does not exist.
     pub(crate) fn buffer_asked(
         &self,
         alloc: Global,
@@ -105,13 +115,16 @@ impl<'s> PlainLane<'s> {
         buffer: &Buffer,
         flags: u32,
         items: &'s [Item],
-    ) -> Result<PlainAsked<'s>, AllocError>
-        ensures { IfOk result (λ x. Some (asked_of x) ≡ option_map
+    ) -> Result<Option<PlainAsked<'s>>, AllocError>
+        ensures { IfOk result (λ x. option_map asked_of x ≡ option_map
             (λ b. loads.asked map b (turns.never_waits buffer.now flags) items.entry.now (ideal self.now))
             (turns.bio_at (ideal self.now) buffer.now)) }
     {
-        let bio = bio_at(alloc, buffer)?;
-        self.asked(alloc, map, &bio, never_waits(buffer, flags), items)
+        let Some(bio) = self.bio_at(alloc, buffer)? else {
+            return Ok(None);
+        };
+        let asked = self.asked(alloc, map, &bio, never_waits(buffer, flags), items)?;
+        Ok(Some(asked))
     }
 
     /// What a load of no byte asks.
@@ -135,12 +148,17 @@ impl<'s> PlainLane<'s> {
                     flags,
                     then,
                 },
-            ) => self.buffer_asked(alloc, *map, buffer, *flags, then.as_slice()),
+            ) => match self.buffer_asked(alloc, *map, buffer, *flags, then.as_slice())? {
+                Some(asked) => Ok(asked),
+                None => self.no_load(alloc),
+            },
             Some(
                 Op::Tag { .. }
                 | Op::TagDestroy { .. }
                 | Op::Map { .. }
                 | Op::MapDestroy { .. }
+                | Op::Dmamem { .. }
+                | Op::DmamemFree { .. }
                 | Op::Unload { .. }
                 | Op::Sync { .. }
                 | Op::SyncRange { .. }

@@ -1,11 +1,12 @@
 //! What stands in the driver's memory, by what has happened to its bytes.
 
-ghost use Rattle.std.specs.Prelude.{◌≡◌, IfOk, OnOk};
+ghost use Rattle.std.specs.Prelude.{◌≡◌, Some, if◌then◌else◌, IfOk, OnOk};
 ghost use Rattle.std.specs.List.{list_any};
 ghost use Rattle.std.specs.Option.{option_map};
+ghost use Rattle.busdma_base.specs.Bounce.MemoryRuns.{in_run};
 ghost use Rattle.busdma_base.specs.Machine.PageRuns.{is_own};
-ghost use Rattle.ideal_lane.specs.IdealMemory.{IdealMemory, Known, Unknown, forgotten, is_among, is_known, known};
-ghost use Rattle.ideal_lane.specs.IdealMemory.{value, written};
+ghost use Rattle.ideal_lane.specs.IdealMemory.{IdealMemory, Known, Unknown, forgotten, is_among, is_known, joined};
+ghost use Rattle.ideal_lane.specs.IdealMemory.{known, parted, value, written};
 ghost use Rattle.ideal_lane.specs.Opening.{zeros};
 ghost use Rattle.ideal_lane.specs.Accesses.{values};
 ghost use Rattle.plain_lane.specs.Ideal.{ideal};
@@ -15,13 +16,18 @@ use crate::lane::PlainLane;
 use busdma_base::PageRun;
 use std::alloc::{AllocError, Global};
 
-/// What has happened to bytes, by their physical addresses in order.
+/// What has happened to bytes: to those at physical addresses, in order, or to those of `count`
+/// frames from `first` on.
 #[derive(Debug, Drop)]
 pub(crate) enum Change {
     /// They became Unknown.
     Forgot(Vec<u64>),
     /// They were written with these values.
     Wrote(Vec<u64>, Vec<u8>),
+    /// They came to the driver, Known and 0 or Unknown.
+    Came { first: u64, count: u32, zero: bool },
+    /// They left the driver.
+    Left { first: u64, count: u32 },
 }
 
 /// What stands at an address; None where the byte is not the driver's own.
@@ -78,6 +84,20 @@ fn written(addresses: &[u64], values: &[u8], before: Byte, pa: u64) -> Byte
     written(rest, values, after, pa)
 }
 
+/// An address is one of those of `count` frames from `first` on.
+fn is_in_run(first: u64, count: u32, pa: u64) -> bool
+    ensures { result ≡ in_run first count pa }
+{
+    first <= pa && (pa as u128) < first as u128 + 4096 * count as u128
+}
+
+/// A byte that comes to the driver, Known and 0 or Unknown.
+fn fresh(zero: bool) -> Byte
+    ensures { content_of result ≡ Some (if zero then Known 0 else Unknown) }
+{
+    if zero { Byte::Known(0) } else { Byte::Unknown }
+}
+
 /// What stands at an address after a change.
 fn after(one: &Change, before: Byte, pa: u64) -> Byte
     ensures { (memory : IdealMemory) → memory pa ≡ content_of before →
@@ -87,6 +107,10 @@ fn after(one: &Change, before: Byte, pa: u64) -> Byte
         Change::Forgot(addresses) if is_among(addresses, pa) => forget(before),
         Change::Forgot(_) => before,
         Change::Wrote(addresses, values) => written(addresses, values, before, pa),
+        Change::Came { first, count, zero } if is_in_run(*first, *count, pa) => fresh(*zero),
+        Change::Came { .. } => before,
+        Change::Left { first, count } if is_in_run(*first, *count, pa) => Byte::None,
+        Change::Left { .. } => before,
     }
 }
 
@@ -155,6 +179,27 @@ impl PlainLane<'_> {
             ≡ record (ideal self.old) { memory = forgotten bytes.items (ideal self.old).memory }) }
     {
         self.changes.push(Change::Forgot(bytes))?;
+        Ok(())
+    }
+
+    /// The bytes of `count` frames from `first` on come to the driver, Known and 0 or Unknown.
+    #[tactic(auto, using(crate::proofs::Changes::one_more))]
+    pub(crate) fn join(&mut self, first: u64, count: u32, zero: bool) -> Result<(), AllocError>
+        ensures { OnOk result (ideal self.new ≡ record (ideal self.old) {
+          memory = joined (in_run first count) (if zero then Known 0 else Unknown) (ideal self.old).memory;
+        }) }
+    {
+        self.changes.push(Change::Came { first, count, zero })?;
+        Ok(())
+    }
+
+    /// The bytes of `count` frames from `first` on leave the driver.
+    #[tactic(auto, using(crate::proofs::Changes::one_more))]
+    pub(crate) fn part(&mut self, first: u64, count: u32) -> Result<(), AllocError>
+        ensures { OnOk result (ideal self.new
+            ≡ record (ideal self.old) { memory = parted (in_run first count) (ideal self.old).memory }) }
+    {
+        self.changes.push(Change::Left { first, count })?;
         Ok(())
     }
 

@@ -72,7 +72,7 @@ fn item_names(made_at: u32, item: &Item) -> bool
     ensures { result ≡ item_names made_at item.now }
 {
     let used = item.uses();
-    used.kind == NameKind::Map && used.made_at == made_at
+    used.used_as.accepts(NameKind::Map) && used.made_at == made_at
 }
 
 /// An item of the queue names it.

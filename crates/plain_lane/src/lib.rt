@@ -14,6 +14,7 @@ mod lending;
 mod lists;
 mod loads;
 mod maps;
+mod memories;
 mod operations;
 mod pieces;
 mod places;

@@ -12,7 +12,12 @@ use std::alloc::{AllocError, Global};
 
 impl PlainLane<'_> {
     /// There is an idle map of a tag at the place of the script.
-    fn add_map(&mut self, alloc: Global, tag: u32, zone: Option<u32>) -> Result<(), AllocError>
+    pub(crate) fn add_map(
+        &mut self,
+        alloc: Global,
+        tag: u32,
+        zone: Option<u32>,
+    ) -> Result<(), AllocError>
         ensures { OnOk result (ideal self.new ≡ maps.with_map tag zone (ideal self.old)) }
     {
         let map = PlainMap {
@@ -67,7 +72,7 @@ impl PlainLane<'_> {
     }
 
     /// The driver has no map at this place.
-    fn drop_map(&mut self, alloc: Global, map: u32) -> Result<(), AllocError>
+    pub(crate) fn drop_map(&mut self, alloc: Global, map: u32) -> Result<(), AllocError>
         ensures { OnOk result (ideal self.new ≡ maps.without_map map (ideal self.old)) }
     {
         self.maps.remove(alloc, map)

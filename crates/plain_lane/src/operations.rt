@@ -7,8 +7,8 @@ ghost use Rattle.ideal_lane.specs.Turns as turns;
 ghost use Rattle.plain_lane.specs.Ideal.{given, ideal};
 
 use crate::items::queue_names;
-use crate::lane::{PlainLane, PlainStage};
-use busdma_base::{Answer, Buffer, HubCall, HubReply, Item, Op};
+use crate::lane::{PlainLane, PlainStage, report};
+use busdma_base::{Answer, Buffer, HubCall, HubReply, Item, Op, ReportName};
 use std::alloc::{AllocError, Global};
 
 impl<'s> PlainLane<'s> {
@@ -24,8 +24,10 @@ impl<'s> PlainLane<'s> {
         ensures { IfOk result (λ c. c
             ≡ call_of (turns.load_buffer map buffer.now flags items.entry.now (ideal self.now))) }
     {
-        let asked = self.buffer_asked(alloc, map, buffer, flags, items)?;
-        self.load_call(alloc, map, &asked)
+        match self.buffer_asked(alloc, map, buffer, flags, items)? {
+            Some(asked) => self.load_call(alloc, map, &asked),
+            None => Ok(None),
+        }
     }
 
     /// The load of a buffer, with this reply to its call.
@@ -41,8 +43,10 @@ impl<'s> PlainLane<'s> {
         ensures { IfOk result (λ a. given self.new a
             ≡ by_reply (turns.load_buffer map buffer.now flags items.entry.now (ideal self.old)) reply.now) }
     {
-        let asked = self.buffer_asked(alloc, map, buffer, flags, items)?;
-        self.load(alloc, map, &asked, reply)
+        match self.buffer_asked(alloc, map, buffer, flags, items)? {
+            Some(asked) => self.load(alloc, map, &asked, reply),
+            None => Ok(report(ReportName::Absent, 0)),
+        }
     }
 
     /// The call of an operation.
@@ -57,6 +61,8 @@ impl<'s> PlainLane<'s> {
             Op::Tag { parent, limits, .. } => Ok(self.tag_call(*parent, limits)),
             Op::Map { tag, .. } => Ok(self.map_call(*tag)),
             Op::MapDestroy { map } => Ok(self.map_destroy_call(*map)),
+            Op::Dmamem { tag, .. } => Ok(self.dmamem_call(*tag)),
+            Op::DmamemFree { mem } => Ok(self.dmamem_free_call(*mem)),
             Op::Load {
                 map,
                 buffer,
@@ -88,6 +94,8 @@ impl<'s> PlainLane<'s> {
             Op::TagDestroy { tag } => self.tag_destroy(alloc, *tag),
             Op::Map { tag, .. } => self.map(alloc, *tag, reply),
             Op::MapDestroy { map } => self.map_destroy(alloc, *map, reply),
+            Op::Dmamem { tag, flags, .. } => self.dmamem(alloc, *tag, *flags, reply),
+            Op::DmamemFree { mem } => self.dmamem_free(alloc, *mem, reply),
             Op::Load {
                 map,
                 buffer,
@@ -128,6 +136,8 @@ impl<'s> PlainLane<'s> {
             | Op::TagDestroy { .. }
             | Op::Map { .. }
             | Op::MapDestroy { .. }
+            | Op::Dmamem { .. }
+            | Op::DmamemFree { .. }
             | Op::Load { .. }
             | Op::Unload { .. }
             | Op::Sync { .. }

@@ -1,6 +1,6 @@
 //! Which bytes a driver reaches.
 
-ghost use Rattle.std.specs.Prelude.{◌≡◌, ◌+◌, ◌^◌, ◌<◌, ◌≤◌, IfOk, map as map_list};
+ghost use Rattle.std.specs.Prelude.{◌≡◌, ◌+◌, ◌*◌, ◌^◌, ◌<◌, ◌≤◌, IfOk, IfSome, map as map_list};
 ghost use Rattle.busdma_base.specs.Journals.Judging.{judged};
 ghost use Rattle.busdma_base.specs.Machine.PageRuns.{is_in_run, physical_in};
 ghost use Rattle.busdma_base.specs.Runs.{run_of};
@@ -10,7 +10,7 @@ ghost use Rattle.plain_lane.specs.Ideal.{ideal};
 
 use crate::lane::{PlainLane, PlainMemory};
 use crate::lists::{joined, small};
-use busdma_base::{Judged, PageRun, Report, ReportName};
+use busdma_base::{Judged, PageRun, Place, Report, ReportName};
 use std::alloc::{AllocError, Global};
 
 /// The virtual address at which those of a driver's pages end.
@@ -62,9 +62,20 @@ impl PlainLane<'_> {
         }
     }
 
+    /// The virtual address of a place, or None where its memory does not exist.
+    pub(crate) fn virtual_at(&self, place: Place) -> Option<u128>
+        ensures is { result ≡ places.virtual_at (ideal self.now) place }
+        ensures low { IfSome result (λ va. va < 3 * 2 ^ 64) }
+    {
+        match place {
+            Place::At(va) => Some(va.0 as u128),
+            Place::In { mem, off } => Some(begin_of(*self.mems.get(mem)?) + off as u128),
+        }
+    }
+
     /// What stands in the way of bytes from a virtual address on, the first of them at an offset.
     pub(crate) fn judge_reach(&self, at: u128, va: u128, len: u64) -> Judged
-        requires addresses { va + len ≤ 2 ^ 65 }
+        requires addresses { va + len ≤ 2 ^ 66 }
         requires offsets { at + len ≤ 2 ^ 64 }
         ensures { result ≡ judged (unreached (places.physical (ideal self.now))) at (run_of va len) }
     {
@@ -83,7 +94,7 @@ impl PlainLane<'_> {
     /// The physical addresses of bytes that the driver reaches. Err also where one has more than 64
     /// bits.
     pub(crate) fn bytes_at(&self, alloc: Global, va: u128, len: u64) -> Result<Vec<u64>, AllocError>
-        requires { va + len ≤ 2 ^ 65 }
+        requires { va + len ≤ 2 ^ 66 }
         ensures { IfOk result (λ v. v.items ≡ places.bytes_at (ideal self.now) (run_of va len)) }
     {
         if len == 0 {

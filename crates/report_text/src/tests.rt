@@ -342,6 +342,84 @@ fn each_kind_of_line(rt: HostRuntime) -> Result<(), Fail> {
     Ok(())
 }
 
+/// A driver that makes a memory, loads it, reads in it and ends it.
+fn memory_script(alloc: Global) -> Result<Vec<Op>, AllocError> {
+    let tag = Op::Tag {
+        name: name(alloc, "t")?,
+        parent: None,
+        limits: no_limits(),
+    };
+    let memory = Op::Dmamem {
+        name: name(alloc, "ring")?,
+        tag: 0,
+        flags: 2,
+    };
+    let begin = Place::In { mem: 1, off: 0 };
+    let load = Op::Load {
+        map: 1,
+        buffer: Buffer::Flat {
+            place: begin,
+            len: 4096,
+        },
+        flags: 0,
+        then: ListOf::new(Vec::new(alloc)),
+    };
+    let place = Place::In { mem: 1, off: 16 };
+    Ok(vec![in alloc;
+        tag,
+        memory,
+        load,
+        Op::CpuRead { place, len: 2 },
+        Op::DmamemFree { mem: 1 },
+        Op::Unload { map: 1 },
+    ]?)
+}
+
+fn memory_entries(alloc: Global) -> Result<Vec<JournalEntry>, AllocError> {
+    let begin = Pa(0x10_0000);
+    let steps = vec![in alloc;
+        (Did::Op(0), Answer::Done),
+        (Did::Op(1), Answer::Placed(begin)),
+        (Did::Op(2), segments(alloc, &[(begin.0, 4096)])?),
+        (Did::Op(3), bytes(alloc, &[0x01, 0x00])?),
+        (Did::Op(4), Answer::Refused(Errno::EBUSY)),
+        (Did::Op(5), Answer::Done),
+        (Did::Op(4), Answer::Done),
+        (Did::Op(4), reported(ReportName::Absent, 0)),
+    ]?;
+    let mut entries = Vec::new(alloc);
+    for (did, answer) in steps {
+        let actor = actor(Side::Script, 0);
+        entries.push(JournalEntry { actor, did, answer })?;
+    }
+    Ok(entries)
+}
+
+#[test]
+fn lines_of_a_memory(rt: HostRuntime) -> Result<(), Fail> {
+    let alloc = rt.alloc();
+    let scenario = Scenario {
+        frames: ListOf::new(Vec::new(alloc)),
+        max_bpages: 8192,
+        drivers: ListOf::new(vec![in alloc; driver(alloc, memory_script(alloc)?)]?),
+        order: ListOf::new(Vec::new(alloc)),
+    };
+    let journal = journal(alloc, memory_entries(alloc)?, End::Finished);
+    let text = report(alloc, &scenario, &journal)?;
+    let want = "0 s0 tag t -> ok
+1 s0 dmamem ring -> ok 0x100000
+2 s0 load ring -> ok 0x100000+4096
+3 s0 cpu_read -> bytes 0100
+4 s0 dmamem_free ring -> EBUSY
+5 s0 unload ring -> ok
+6 s0 dmamem_free ring -> ok
+7 s0 dmamem_free ring -> report Absent 0
+end finished, 8 entries, 1 reports
+";
+    assert_eq!(rt; str::from_utf8(text.as_slice())?, want);
+    Ok(())
+}
+
 #[test]
 fn names_of_refusals(rt: HostRuntime) -> Result<(), Fail> {
     let alloc = rt.alloc();

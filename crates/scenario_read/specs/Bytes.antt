@@ -1,25 +1,14 @@
--- Where an operation works, and what it writes.
+-- What an operation writes.
 use Rattle.std.specs.Prelude.{ℕ, Bool, true, false, Option, Some, None, Ok, if◌then◌else◌, nat_lt, is_some}
 use Rattle.std.specs.Prelude.{codes}
-use Rattle.busdma_base.specs.declared.scenarios.script.Place.{Place as Target}
-use Rattle.busdma_base.specs.declared.scenarios.script.Place.TheVariants.{At}
 use Rattle.busdma_base.specs.declared.scenarios.script.Bytes.{Bytes}
 use Rattle.busdma_base.specs.declared.scenarios.script.Bytes.TheVariants.{Listed, Filled}
 use Rattle.json_fields.specs.Place.{Place, key}
 use Rattle.json_fields.specs.Read.{Read, ◌>>=◌, refuse}
 use Rattle.json_fields.specs.Field.{Spot, field}
-use Rattle.json_fields.specs.Number.{number_at, number_field}
+use Rattle.json_fields.specs.Number.{number_field}
 use Rattle.json_fields.specs.Text.{bytes_at}
 use Rattle.json_fields.specs.declared.refusal.RefusalKind.TheVariants.{BadField}
-
--- an operation without a place is refused as a whole
-abbrev pub target_or : Place → Option Spot → Read Target
-target_or place None = refuse BadField place
-target_or place (Some spot) = number_at spot >>= (λ va. Ok (At (record { 0 = va })))
-
--- the place of an operation: a virtual address
-unfoldable pub target_at : Spot → Read Target
-target_at here = target_or here.place (field (codes "va") here)
 
 -- a byte that is given as a number
 abbrev pub byte_or : Place → ℕ → Read ℕ

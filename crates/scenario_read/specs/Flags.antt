@@ -5,6 +5,7 @@ use Rattle.bitflags.specs.Sets.{find_name}
 use Rattle.serde_json.specs.Data.{Data}
 use Rattle.busdma_base.specs.Tags.TagFlags.{tag_table}
 use Rattle.dma_tag.specs.LoadFlags.{load_table}
+use Rattle.dma_tag.specs.MemFlags.{mem_table}
 use Rattle.dma_tag.specs.SyncOps.{sync_table}
 use Rattle.json_fields.specs.Place.{Place}
 use Rattle.json_fields.specs.Read.{Read, ◌>>=◌, refuse}
@@ -23,6 +24,7 @@ waitok_or bits word = if bytes_eq word (codes "WAITOK") then Some 0 else bits
 abbrev pub word_bits : FlagSet → List ℕ → Option ℕ
 word_bits set.Tag word = waitok_or (find_name tag_table word) word
 word_bits set.Load word = waitok_or (find_name load_table word) word
+word_bits set.Memory word = waitok_or (find_name mem_table word) word
 word_bits set.Sync word = find_name sync_table word
 
 -- a word that is not in the table is refused
@@ -49,7 +51,7 @@ abbrev pub flags_or_none : FlagSet → Option Spot → Read ℕ
 flags_or_none kind None = Ok 0
 flags_or_none kind (Some spot) = flags_at kind spot
 
--- the flags of a tag or a load
+-- the flags of a tag, a load or a memory
 unfoldable pub flags_field : FlagSet → Spot → Read ℕ
 flags_field kind here = flags_or_none kind (field (codes "flags") here)
 

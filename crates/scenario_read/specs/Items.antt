@@ -9,7 +9,7 @@ use Rattle.json_fields.specs.Field.{Spot, field, members_of, only_keys, one_of}
 use Rattle.json_fields.specs.Number.{number_field}
 use Rattle.json_fields.specs.Items.{items_at, each}
 use Rattle.scenario_read.specs.declared.counts.Counts.{Counts}
-use Rattle.busdma_base.specs.declared.scenarios.operations.NameKind.TheVariants as kind
+use Rattle.busdma_base.specs.declared.scenarios.operations.NameUse.TheVariants as use_as
 use Rattle.busdma_base.specs.declared.scenarios.words.ItemWord.{ItemWord}
 use Rattle.busdma_base.specs.declared.scenarios.words.ItemWord.TheVariants as word
 use Rattle.scenario_read.specs.Bytes.{written_at}
@@ -30,7 +30,7 @@ sync_range_item_at before here = range_fields_at before here >>= (λ s. Ok (item
 unfoldable pub dev_read_at : List Op → Counts → Spot → Read Item
 dev_read_at before c here =
     only_keys (one_of (codes "op" ∷ codes "map" ∷ codes "off" ∷ codes "len" ∷ [])) here >>= (λ _.
-    used_name kind.Map (codes "map") before here >>= (λ map.
+    used_name use_as.Map (codes "map") before here >>= (λ map.
     number_field (codes "off") here >>= (λ off.
     number_field (codes "len") here >>= (λ n.
     read_judged c n here.place >>= (λ _.
@@ -41,7 +41,7 @@ unfoldable pub dev_write_at : List Op → Spot → Read Item
 dev_write_at before here =
     only_keys (one_of (codes "op" ∷ codes "map" ∷ codes "off" ∷ codes "hex" ∷ codes "fill" ∷ codes "len" ∷ [])) here
     >>= (λ _.
-    used_name kind.Map (codes "map") before here >>= (λ map.
+    used_name use_as.Map (codes "map") before here >>= (λ map.
     number_field (codes "off") here >>= (λ off.
     written_at here >>= (λ bytes.
     access_judged (length (bytes_of bytes)) here.place >>= (λ _.

@@ -6,10 +6,12 @@ pub mod Flags
 pub mod Frames
 pub mod Items
 pub mod Loads
+pub mod NamedOps
 pub mod Names
 pub mod Ops
 pub mod Order
 pub mod Pages
+pub mod Places
 pub mod Scenario
 pub mod Script
 pub mod Spans

@@ -3,7 +3,7 @@
 use Rattle.std.specs.Prelude.{ℕ, List, [], ◌∷◌, Ok, codes}
 use Rattle.busdma_base.specs.declared.scenarios.buffer.Buffer.{Buffer}
 use Rattle.busdma_base.specs.declared.scenarios.buffer.Buffer.TheVariants as buffer
-use Rattle.busdma_base.specs.declared.scenarios.operations.NameKind.TheVariants as kind
+use Rattle.busdma_base.specs.declared.scenarios.operations.NameUse.TheVariants as use_as
 use Rattle.busdma_base.specs.declared.scenarios.scenario.PageRun.{PageRun}
 use Rattle.busdma_base.specs.declared.scenarios.script.Op.{Op}
 use Rattle.busdma_base.specs.declared.scenarios.script.Op.TheVariants as op
@@ -14,23 +14,23 @@ use Rattle.json_fields.specs.Number.{number_field}
 use Rattle.scenario_read.specs.declared.counts.Counts.{Counts}
 use Rattle.scenario_read.specs.declared.flags.FlagSet.TheVariants as set
 use Rattle.scenario_read.specs.Bios.{bio_field}
-use Rattle.scenario_read.specs.Bytes.{target_at}
 use Rattle.scenario_read.specs.Counts.{having_loaded, load_judged}
 use Rattle.scenario_read.specs.Flags.{flags_field}
 use Rattle.scenario_read.specs.Items.{then_field}
 use Rattle.scenario_read.specs.Names.{used_name}
+use Rattle.scenario_read.specs.Places.{loaded_from}
 use Rattle.scenario_read.specs.Spans.{entries_field}
 
 -- `len` bytes from a place on
-unfoldable pub flat_at : Spot → Read Buffer
-flat_at here =
-    target_at here >>= (λ target.
+unfoldable pub flat_at : List Op → Spot → Read Buffer
+flat_at before here =
+    loaded_from before here >>= (λ place.
     number_field (codes "len") here >>= (λ n.
-    Ok (buffer.Flat target n)))
+    Ok (buffer.Flat place n)))
 
 -- the map that a load names
 unfoldable pub loaded_map_at : List Op → Spot → Read ℕ
-loaded_map_at before here = used_name kind.Map (codes "map") before here
+loaded_map_at before here = used_name use_as.Map (codes "map") before here
 
 -- the load of a map with a buffer: its flags; then its bytes are judged, behind all its other fields; then its items
 unfoldable pub load_of : List Op → Counts → Spot → ℕ → Buffer → Read Op
@@ -43,10 +43,11 @@ load_of before c here map buffer =
 -- a load of bytes from a place on
 unfoldable pub load_at : List Op → Counts → Spot → Read Op
 load_at before c here =
-    only_keys (one_of (codes "op" ∷ codes "map" ∷ codes "va" ∷ codes "len" ∷ codes "flags" ∷ codes "then" ∷ [])) here
-    >>= (λ _.
+    only_keys (one_of (codes "op" ∷ codes "map" ∷ codes "va" ∷ codes "mem" ∷ codes "len" ∷ codes "flags" ∷ codes "then"
+    ∷ []))
+    here >>= (λ _.
     loaded_map_at before here >>= (λ map.
-    flat_at here >>= (λ buffer.
+    flat_at before here >>= (λ buffer.
     load_of before c here map buffer)))
 
 -- a load of a vector

@@ -2,14 +2,14 @@
 use Rattle.std.specs.Prelude.{ℕ, ◌+◌, List, [], ◌∷◌, Bool, Option, Some, None, Ok, if◌then◌else◌}
 use Rattle.std.specs.List.{list_any}
 use Rattle.busdma_base.specs.declared.scenarios.script.Op.{Op}
-use Rattle.busdma_base.specs.declared.scenarios.operations.NameKind.{NameKind}
-use Rattle.busdma_base.specs.Scenarios.Names.{makes, makes_as}
+use Rattle.busdma_base.specs.declared.scenarios.operations.NameUse.{NameUse}
+use Rattle.busdma_base.specs.Scenarios.Names.{makes, makes_for}
 use Rattle.json_fields.specs.Place.{Place, key}
 use Rattle.json_fields.specs.Read.{Read, ◌>>=◌, refuse}
 use Rattle.json_fields.specs.Field.{Spot, field, required}
 use Rattle.json_fields.specs.Text.{name_at}
 use Rattle.json_fields.specs.declared.refusal.RefusalKind.TheVariants.{BadField, UnknownName}
-use Rattle.busdma_base.specs.declared.scenarios.operations.NameKind.TheVariants as kind
+use Rattle.busdma_base.specs.declared.scenarios.operations.NameUse.TheVariants as use_as
 
 -- the place of the first operation that passes the test, counted from n
 abbrev pub first_place : (Op → Bool) → ℕ → List Op → Option ℕ
@@ -29,15 +29,15 @@ abbrev pub known_or : Place → Option ℕ → Read ℕ
 known_or place None = refuse UnknownName place
 known_or place (Some n) = Ok n
 
--- the operation before that made the name that stands here, as a thing of that kind
-unfoldable pub used_at : NameKind → List Op → Spot → Read ℕ
-used_at kind before here = name_at here >>= (λ name. known_or here.place (first_place (makes_as kind name) 0 before))
+-- the operation before that made the name that stands here, as a thing that can be used so
+unfoldable pub used_at : NameUse → List Op → Spot → Read ℕ
+used_at u before here = name_at here >>= (λ name. known_or here.place (first_place (makes_for u name) 0 before))
 
 -- the same of the name at a key
-unfoldable pub used_name : NameKind → List ℕ → List Op → Spot → Read ℕ
-used_name kind field before here = required field here >>= used_at kind before
+unfoldable pub used_name : NameUse → List ℕ → List Op → Spot → Read ℕ
+used_name u field before here = required field here >>= used_at u before
 
 -- the same of a tag that may be absent
 abbrev pub parent_or_none : List Op → Option Spot → Read (Option ℕ)
 parent_or_none before None = Ok None
-parent_or_none before (Some spot) = used_at kind.Tag before spot >>= (λ n. Ok (Some n))
+parent_or_none before (Some spot) = used_at use_as.Tag before spot >>= (λ n. Ok (Some n))

@@ -11,11 +11,13 @@ use Rattle.json_fields.specs.Field.{Spot, field, only_keys, one_of}
 use Rattle.json_fields.specs.Number.{number_field, number_or}
 use Rattle.scenario_read.specs.declared.counts.Counts.{Counts}
 use Rattle.scenario_read.specs.declared.flags.FlagSet.TheVariants as set
-use Rattle.busdma_base.specs.declared.scenarios.operations.NameKind.TheVariants as kind
-use Rattle.scenario_read.specs.Bytes.{target_at, written_at}
+use Rattle.busdma_base.specs.declared.scenarios.operations.NameUse.{NameUse}
+use Rattle.busdma_base.specs.declared.scenarios.operations.NameUse.TheVariants as use_as
+use Rattle.scenario_read.specs.Bytes.{written_at}
 use Rattle.scenario_read.specs.Counts.{access_judged, read_judged}
 use Rattle.scenario_read.specs.Flags.{flags_field}
 use Rattle.scenario_read.specs.Names.{new_name, used_name, parent_or_none}
+use Rattle.scenario_read.specs.Places.{access_at}
 use Rattle.scenario_read.specs.Syncs.{sync_fields_at, range_fields_at}
 
 -- a number of segments has 32 bits
@@ -64,7 +66,7 @@ tag_at before here =
 unfoldable pub tag_destroy_at : List Op → Spot → Read Op
 tag_destroy_at before here =
     only_keys (one_of (codes "op" ∷ codes "tag" ∷ [])) here >>= (λ _.
-    used_name kind.Tag (codes "tag") before here >>= (λ tag.
+    used_name use_as.Tag (codes "tag") before here >>= (λ tag.
     Ok (op.TagDestroy tag)))
 
 -- the making of a map
@@ -72,22 +74,38 @@ unfoldable pub map_at : List Op → Spot → Read Op
 map_at before here =
     only_keys (one_of (codes "op" ∷ codes "name" ∷ codes "tag" ∷ [])) here >>= (λ _.
     new_name (codes "name") before here >>= (λ name.
-    used_name kind.Tag (codes "tag") before here >>= (λ tag.
+    used_name use_as.Tag (codes "tag") before here >>= (λ tag.
     Ok (op.Map name tag))))
 
 -- the map of an operation that says nothing else
-unfoldable pub only_map_at : List Op → Spot → Read ℕ
-only_map_at before here =
+unfoldable pub only_map_at : NameUse → List Op → Spot → Read ℕ
+only_map_at u before here =
     only_keys (one_of (codes "op" ∷ codes "map" ∷ [])) here >>= (λ _.
-    used_name kind.Map (codes "map") before here)
+    used_name u (codes "map") before here)
 
--- the end of a map
+-- the end of a map, which is no memory's
 unfoldable pub map_destroy_at : List Op → Spot → Read Op
-map_destroy_at before here = only_map_at before here >>= (λ map. Ok (op.MapDestroy map))
+map_destroy_at before here = only_map_at use_as.MapAlone before here >>= (λ map. Ok (op.MapDestroy map))
+
+-- the making of a memory
+unfoldable pub dmamem_at : List Op → Spot → Read Op
+dmamem_at before here =
+    only_keys (one_of (codes "op" ∷ codes "name" ∷ codes "tag" ∷ codes "flags" ∷ [])) here >>= (λ _.
+    new_name (codes "name") before here >>= (λ name.
+    used_name use_as.Tag (codes "tag") before here >>= (λ tag.
+    flags_field set.Memory here >>= (λ flags.
+    Ok (op.Dmamem name tag flags)))))
+
+-- the end of a memory
+unfoldable pub dmamem_free_at : List Op → Spot → Read Op
+dmamem_free_at before here =
+    only_keys (one_of (codes "op" ∷ codes "mem" ∷ [])) here >>= (λ _.
+    used_name use_as.Memory (codes "mem") before here >>= (λ mem.
+    Ok (op.DmamemFree mem)))
 
 -- an unload
 unfoldable pub unload_at : List Op → Spot → Read Op
-unload_at before here = only_map_at before here >>= (λ map. Ok (op.Unload map))
+unload_at before here = only_map_at use_as.Map before here >>= (λ map. Ok (op.Unload map))
 
 -- a sync of the whole load
 unfoldable pub sync_at : List Op → Spot → Read Op
@@ -98,23 +116,25 @@ unfoldable pub sync_range_at : List Op → Spot → Read Op
 sync_range_at before here = range_fields_at before here >>= (λ s. Ok (op.SyncRange s.map s.off s.len s.ops))
 
 -- a read of the driver
-unfoldable pub cpu_read_at : Counts → Spot → Read Op
-cpu_read_at c here =
-    only_keys (one_of (codes "op" ∷ codes "va" ∷ codes "len" ∷ [])) here >>= (λ _.
-    target_at here >>= (λ target.
+unfoldable pub cpu_read_at : List Op → Counts → Spot → Read Op
+cpu_read_at before c here =
+    only_keys (one_of (codes "op" ∷ codes "va" ∷ codes "mem" ∷ codes "off" ∷ codes "len" ∷ [])) here >>= (λ _.
+    access_at before here >>= (λ place.
     number_field (codes "len") here >>= (λ n.
     read_judged c n here.place >>= (λ _.
-    Ok (op.CpuRead target n)))))
+    Ok (op.CpuRead place n)))))
 
 -- a write of the driver
-unfoldable pub cpu_write_at : Spot → Read Op
-cpu_write_at here =
-    only_keys (one_of (codes "op" ∷ codes "va" ∷ codes "hex" ∷ codes "fill" ∷ codes "len" ∷ [])) here >>= (λ _.
-    target_at here >>= (λ target.
+unfoldable pub cpu_write_at : List Op → Spot → Read Op
+cpu_write_at before here =
+    only_keys (one_of (codes "op" ∷ codes "va" ∷ codes "mem" ∷ codes "off" ∷ codes "hex" ∷ codes "fill" ∷ codes "len"
+    ∷ []))
+    here >>= (λ _.
+    access_at before here >>= (λ place.
     written_at here >>= (λ bytes.
     access_judged (length (bytes_of bytes)) here.place >>= (λ _.
-    Ok (op.CpuWrite target bytes)))))
+    Ok (op.CpuWrite place bytes)))))
 
 -- a wait for a map
 unfoldable pub await_at : List Op → Spot → Read Op
-await_at before here = only_map_at before here >>= (λ map. Ok (op.Await map))
+await_at before here = only_map_at use_as.Map before here >>= (λ map. Ok (op.Await map))

@@ -10,8 +10,8 @@ use Rattle.busdma_base.specs.declared.scenarios.words.OpWord.{OpWord}
 use Rattle.busdma_base.specs.declared.scenarios.words.OpWord.TheVariants as word
 use Rattle.scenario_read.specs.Counts.{with_ops, stepped, step_judged}
 use Rattle.scenario_read.specs.Loads.{load_at, load_vector_at, load_mbuf_at, load_bio_at}
-use Rattle.scenario_read.specs.Ops.{tag_at, tag_destroy_at, map_at, map_destroy_at, unload_at, sync_at}
-use Rattle.scenario_read.specs.Ops.{sync_range_at, cpu_read_at, cpu_write_at, await_at}
+use Rattle.scenario_read.specs.Ops.{tag_at, tag_destroy_at, map_at, map_destroy_at, dmamem_at, dmamem_free_at}
+use Rattle.scenario_read.specs.Ops.{unload_at, sync_at, sync_range_at, cpu_read_at, cpu_write_at, await_at}
 use Rattle.scenario_read.specs.Words.{op_word_at}
 
 -- the operation of a word
@@ -20,6 +20,8 @@ op_by word.Tag pages before c here = tag_at before here
 op_by word.TagDestroy pages before c here = tag_destroy_at before here
 op_by word.Map pages before c here = map_at before here
 op_by word.MapDestroy pages before c here = map_destroy_at before here
+op_by word.Dmamem pages before c here = dmamem_at before here
+op_by word.DmamemFree pages before c here = dmamem_free_at before here
 op_by word.Load pages before c here = load_at before c here
 op_by word.LoadVector pages before c here = load_vector_at before c here
 op_by word.LoadMbuf pages before c here = load_mbuf_at before c here
@@ -27,8 +29,8 @@ op_by word.LoadBio pages before c here = load_bio_at pages before c here
 op_by word.Unload pages before c here = unload_at before here
 op_by word.Sync pages before c here = sync_at before here
 op_by word.SyncRange pages before c here = sync_range_at before here
-op_by word.CpuRead pages before c here = cpu_read_at c here
-op_by word.CpuWrite pages before c here = cpu_write_at here
+op_by word.CpuRead pages before c here = cpu_read_at before c here
+op_by word.CpuWrite pages before c here = cpu_write_at before here
 op_by word.Await pages before c here = await_at before here
 
 -- an operation is an object, is counted as a step, and is then read by its word

@@ -1,6 +1,6 @@
 -- What a sync says, as an operation and as an item.
 use Rattle.std.specs.Prelude.{List, [], ◌∷◌, Ok, codes}
-use Rattle.busdma_base.specs.declared.scenarios.operations.NameKind.TheVariants as kind
+use Rattle.busdma_base.specs.declared.scenarios.operations.NameUse.TheVariants as use_as
 use Rattle.busdma_base.specs.declared.scenarios.script.Op.{Op}
 use Rattle.json_fields.specs.Field.{Spot, only_keys, one_of}
 use Rattle.json_fields.specs.Number.{number_field}
@@ -14,7 +14,7 @@ use Rattle.scenario_read.specs.Names.{used_name}
 unfoldable pub sync_fields_at : List Op → Spot → Read SyncFields
 sync_fields_at before here =
     only_keys (one_of (codes "op" ∷ codes "map" ∷ codes "ops" ∷ [])) here >>= (λ _.
-    used_name kind.Map (codes "map") before here >>= (λ map.
+    used_name use_as.Map (codes "map") before here >>= (λ map.
     ops_field here >>= (λ ops.
     Ok (record { map = map; ops = ops }))))
 
@@ -22,7 +22,7 @@ sync_fields_at before here =
 unfoldable pub range_fields_at : List Op → Spot → Read RangeFields
 range_fields_at before here =
     only_keys (one_of (codes "op" ∷ codes "map" ∷ codes "off" ∷ codes "len" ∷ codes "ops" ∷ [])) here >>= (λ _.
-    used_name kind.Map (codes "map") before here >>= (λ map.
+    used_name use_as.Map (codes "map") before here >>= (λ map.
     number_field (codes "off") here >>= (λ off.
     number_field (codes "len") here >>= (λ n.
     ops_field here >>= (λ ops.

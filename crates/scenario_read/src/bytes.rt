@@ -1,4 +1,4 @@
-//! Where an operation works, and what it writes.
+//! What an operation writes.
 
 ghost use Rattle.std.specs.Prelude.{◌≡◌, length, IfOk};
 ghost use Rattle.busdma_base.specs.Scenarios.Operations.{bytes_of};
@@ -6,19 +6,8 @@ ghost use Rattle.json_fields.specs.Read.{Gives};
 ghost use Rattle.json_fields.specs.Field.{spot_of};
 ghost use Rattle.scenario_read.specs.Bytes as bytes;
 
-use busdma_base::{Bytes, Place, Va};
+use busdma_base::Bytes;
 use json_fields::{Node, RefusalKind, Stop};
-
-/// The place of an operation.
-#[tactic(auto, unfolding(crate::specs::Bytes::target_at))]
-pub(crate) fn target(here: &Node) -> Result<Place, Stop>
-    ensures { Gives result (bytes.target_at (spot_of here.now)) }
-{
-    match here.field("va") {
-        Some(node) => Ok(Place::At(Va(node.number()?))),
-        None => Err(here.refuse(RefusalKind::BadField)),
-    }
-}
 
 #[tactic(auto, unfolding(crate::specs::Bytes::fill_at))]
 fn fill(here: &Node) -> Result<u8, Stop>

@@ -5,13 +5,14 @@ ghost use Rattle.serde_json.specs.View.{view};
 ghost use Rattle.bitflags.specs.Sets.{find_name};
 ghost use Rattle.busdma_base.specs.Tags.TagFlags.{tag_table};
 ghost use Rattle.dma_tag.specs.LoadFlags.{load_table};
+ghost use Rattle.dma_tag.specs.MemFlags.{mem_table};
 ghost use Rattle.dma_tag.specs.SyncOps.{sync_table};
 ghost use Rattle.json_fields.specs.Read.{Gives};
 ghost use Rattle.json_fields.specs.Field.{spot_of};
 ghost use Rattle.scenario_read.specs.Flags as flags;
 
 use bitflags::Flags;
-use dma_tag::{LoadFlags, SyncOps, TagFlags};
+use dma_tag::{LoadFlags, MemFlags, SyncOps, TagFlags};
 use json_fields::{Node, RefusalKind, Stop};
 use serde_json::Value;
 
@@ -20,6 +21,7 @@ use serde_json::Value;
 pub(crate) enum FlagSet {
     Tag,
     Load,
+    Memory,
     Sync,
 }
 
@@ -41,6 +43,15 @@ fn load_bits(word: &str) -> Option<u32>
     }
 }
 
+fn mem_bits(word: &str) -> Option<u32>
+    ensures { result ≡ find_name mem_table word.now }
+{
+    match MemFlags::from_name(word) {
+        Some(flag) => Some(flag.0),
+        None => None,
+    }
+}
+
 fn sync_bits(word: &str) -> Option<u32>
     ensures { result ≡ find_name sync_table word.now }
 {
@@ -50,7 +61,7 @@ fn sync_bits(word: &str) -> Option<u32>
     }
 }
 
-/// The bits of a word. WAITOK adds none to the flags of a tag or a load.
+/// The bits of a word. WAITOK adds none to the flags of a tag, a load or a memory.
 fn word_bits(set: FlagSet, word: &str) -> Option<u32>
     ensures { result ≡ flags.word_bits set word.now }
 {
@@ -59,6 +70,8 @@ fn word_bits(set: FlagSet, word: &str) -> Option<u32>
         FlagSet::Tag => tag_bits(word),
         FlagSet::Load if word == "WAITOK" => Some(0),
         FlagSet::Load => load_bits(word),
+        FlagSet::Memory if word == "WAITOK" => Some(0),
+        FlagSet::Memory => mem_bits(word),
         FlagSet::Sync => sync_bits(word),
     }
 }
@@ -94,7 +107,7 @@ fn flags_here(here: &Node, set: FlagSet) -> Result<u32, Stop>
     union(here, set, items)
 }
 
-/// The flags of a tag or a load.
+/// The flags of a tag, a load or a memory.
 #[tactic(auto, unfolding(crate::specs::Flags::flags_field))]
 pub(crate) fn flags_field(here: &Node, set: FlagSet) -> Result<u32, Stop>
     ensures { Gives result (flags.flags_field set (spot_of here.now)) }

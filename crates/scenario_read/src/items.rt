@@ -1,6 +1,6 @@
 //! The items of a load.
 
-ghost use Rattle.std.specs.Prelude.{◌≡◌, ◌≤◌, [], length, map, IfOk};
+ghost use Rattle.std.specs.Prelude.{◌≡◌, [], map, IfOk};
 ghost use Rattle.std.specs.List.{AllByRecursion};
 ghost use Rattle.serde_json.specs.View.{view};
 ghost use Rattle.busdma_base.specs.Scenarios.Operations.{read_by_item};
@@ -11,20 +11,19 @@ ghost use Rattle.json_fields.specs.Items.{each};
 ghost use Rattle.scenario_read.specs.Counts.{IsWithin, with_items, having_read, stepped};
 ghost use Rattle.scenario_read.specs.Items.{sync_item_at, sync_range_item_at, dev_read_at};
 ghost use Rattle.scenario_read.specs.Items.{dev_write_at, item_by, item_at, then_at, then_field};
-ghost use Rattle.busdma_base.specs.Scenarios.Limits.{steps_limit};
 
 use crate::bytes::{count_of, written};
 use crate::counts::{Counts, access};
+use crate::named_ops::NamedOps;
 use crate::names::used_name;
 use crate::syncs::{range_fields, sync_fields};
 use crate::words::item_word;
-use busdma_base::{Item, ItemList, ItemWord, ListOf, NameKind, Op};
+use busdma_base::{Item, ItemList, ItemWord, ListOf, NameUse};
 use json_fields::{Node, Stop};
 use serde_json::Value;
 
 #[tactic(auto, unfolding(crate::specs::Items::sync_item_at))]
-fn sync(here: &Node, before: &[Op]) -> Result<Item, Stop>
-    requires { length before.now ≤ steps_limit }
+fn sync(here: &Node, before: &NamedOps) -> Result<Item, Stop>
     ensures value { Gives result (sync_item_at before.now (spot_of here.now)) }
     ensures valid { IfOk result (IsItem before.now) }
     ensures reads_nothing { IfOk result (λ i. read_by_item i ≡ 0) }
@@ -37,8 +36,7 @@ fn sync(here: &Node, before: &[Op]) -> Result<Item, Stop>
 }
 
 #[tactic(auto, unfolding(crate::specs::Items::sync_range_item_at))]
-fn sync_range(here: &Node, before: &[Op]) -> Result<Item, Stop>
-    requires { length before.now ≤ steps_limit }
+fn sync_range(here: &Node, before: &NamedOps) -> Result<Item, Stop>
     ensures value { Gives result (sync_range_item_at before.now (spot_of here.now)) }
     ensures valid { IfOk result (IsItem before.now) }
     ensures reads_nothing { IfOk result (λ i. read_by_item i ≡ 0) }
@@ -53,8 +51,7 @@ fn sync_range(here: &Node, before: &[Op]) -> Result<Item, Stop>
 }
 
 #[tactic(auto, unfolding(crate::specs::Items::dev_read_at))]
-fn dev_read(here: &Node, before: &[Op], counts: &mut Counts) -> Result<Item, Stop>
-    requires few { length before.now ≤ steps_limit }
+fn dev_read(here: &Node, before: &NamedOps, counts: &mut Counts) -> Result<Item, Stop>
     requires within { IsWithin counts.old }
     ensures value { Gives result (dev_read_at before.now counts.old (spot_of here.now)) }
     ensures valid { IfOk result (IsItem before.now) }
@@ -62,7 +59,7 @@ fn dev_read(here: &Node, before: &[Op], counts: &mut Counts) -> Result<Item, Sto
     ensures within { IfOk result (λ _. IsWithin counts.new) }
 {
     here.only_keys(&["op", "map", "off", "len"])?;
-    let map = used_name(here, NameKind::Map, "map", before)?;
+    let map = used_name(here, NameUse::Map, "map", before)?;
     let off = here.number_field("off")?;
     let len = here.number_field("len")?;
     counts.read(here, len)?;
@@ -70,14 +67,13 @@ fn dev_read(here: &Node, before: &[Op], counts: &mut Counts) -> Result<Item, Sto
 }
 
 #[tactic(auto, unfolding(crate::specs::Items::dev_write_at))]
-fn dev_write(here: &Node, before: &[Op]) -> Result<Item, Stop>
-    requires { length before.now ≤ steps_limit }
+fn dev_write(here: &Node, before: &NamedOps) -> Result<Item, Stop>
     ensures value { Gives result (dev_write_at before.now (spot_of here.now)) }
     ensures valid { IfOk result (IsItem before.now) }
     ensures reads_nothing { IfOk result (λ i. read_by_item i ≡ 0) }
 {
     here.only_keys(&["op", "map", "off", "hex", "fill", "len"])?;
-    let map = used_name(here, NameKind::Map, "map", before)?;
+    let map = used_name(here, NameUse::Map, "map", before)?;
     let off = here.number_field("off")?;
     let bytes = written(here)?;
     access(here, count_of(&bytes))?;
@@ -85,8 +81,12 @@ fn dev_write(here: &Node, before: &[Op]) -> Result<Item, Stop>
 }
 
 /// The item of a word, whose own step is counted.
-fn item_by(word: ItemWord, here: &Node, before: &[Op], counts: &mut Counts) -> Result<Item, Stop>
-    requires few { length before.now ≤ steps_limit }
+fn item_by(
+    word: ItemWord,
+    here: &Node,
+    before: &NamedOps,
+    counts: &mut Counts,
+) -> Result<Item, Stop>
     requires within { IsWithin counts.old }
     ensures value { Gives result (item_by word before.now counts.old (spot_of here.now)) }
     ensures valid { IfOk result (IsItem before.now) }
@@ -102,8 +102,7 @@ fn item_by(word: ItemWord, here: &Node, before: &[Op], counts: &mut Counts) -> R
 }
 
 #[tactic(auto, unfolding(crate::specs::Items::item_at))]
-fn item(here: &Node, before: &[Op], counts: &mut Counts) -> Result<Item, Stop>
-    requires few { length before.now ≤ steps_limit }
+fn item(here: &Node, before: &NamedOps, counts: &mut Counts) -> Result<Item, Stop>
     requires within { IsWithin counts.old }
     ensures value { Gives result (item_at before.now counts.old (spot_of here.now)) }
     ensures valid { IfOk result (IsItem before.now) }
@@ -120,10 +119,9 @@ fn item(here: &Node, before: &[Op], counts: &mut Counts) -> Result<Item, Stop>
 fn each_item<'v>(
     here: &'v Node<'v>,
     items: &'v [Value],
-    before: &[Op],
+    before: &NamedOps,
     counts: &mut Counts,
 ) -> Result<Vec<Item>, Stop>
-    requires few { length before.now ≤ steps_limit }
     requires within { IsWithin counts.old }
     ensures value { GivesSeen (λ v. v.items) result
         (each (λ done. item_at before.now (with_items counts.old done)) (spot_of here.now) []
@@ -141,8 +139,7 @@ fn each_item<'v>(
 }
 
 #[tactic(auto, unfolding(crate::specs::Items::then_at))]
-fn then(here: &Node, before: &[Op], counts: &mut Counts) -> Result<ItemList, Stop>
-    requires few { length before.now ≤ steps_limit }
+fn then(here: &Node, before: &NamedOps, counts: &mut Counts) -> Result<ItemList, Stop>
     requires within { IsWithin counts.old }
     ensures value { Gives result (then_at before.now counts.old (spot_of here.now)) }
     ensures valid { IfOk result (AllByRecursion (IsItem before.now)) }
@@ -155,8 +152,11 @@ fn then(here: &Node, before: &[Op], counts: &mut Counts) -> Result<ItemList, Sto
 
 /// The items of a load.
 #[tactic(auto, unfolding(crate::specs::Items::then_field))]
-pub(crate) fn then_field(here: &Node, before: &[Op], counts: &mut Counts) -> Result<ItemList, Stop>
-    requires few { length before.now ≤ steps_limit }
+pub(crate) fn then_field(
+    here: &Node,
+    before: &NamedOps,
+    counts: &mut Counts,
+) -> Result<ItemList, Stop>
     requires within { IsWithin counts.old }
     ensures value { Gives result (then_field before.now counts.old (spot_of here.now)) }
     ensures valid { IfOk result (AllByRecursion (IsItem before.now)) }

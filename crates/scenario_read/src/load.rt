@@ -1,9 +1,10 @@
 //! The loads of a map.
 
-ghost use Rattle.std.specs.Prelude.{◌≡◌, ◌≤◌, List, length, IfOk, Some};
-ghost use Rattle.busdma_base.specs.Scenarios.Buffers.{IsBufferOf, buffer_bytes as bytes_in, buffer_entries};
+ghost use Rattle.std.specs.Prelude.{◌≡◌, ◌≤◌, List, IfOk, Some};
+ghost use Rattle.std.specs.List.{AllByRecursion};
+ghost use Rattle.busdma_base.specs.Scenarios.Buffers.{IsBufferOf, IsFromBegin, buffer_bytes as bytes_in, buffer_entries};
 ghost use Rattle.busdma_base.specs.Scenarios.Names.{IsMade};
-ghost use Rattle.busdma_base.specs.Scenarios.Operations.{about, map_at};
+ghost use Rattle.busdma_base.specs.Scenarios.Operations.{about, buffer_within, map_at};
 ghost use Rattle.busdma_base.specs.Scenarios.Script.{IsOp};
 ghost use Rattle.busdma_base.specs.Scenarios.Valid.{LoadsFrom};
 ghost use Rattle.busdma_base.specs.declared.scenarios.scenario.PageRun.{PageRun};
@@ -11,16 +12,17 @@ ghost use Rattle.json_fields.specs.Read.{Gives};
 ghost use Rattle.json_fields.specs.Field.{spot_of};
 ghost use Rattle.scenario_read.specs.Counts.{IsWithin, with_op};
 ghost use Rattle.scenario_read.specs.Loads as loads;
-ghost use Rattle.busdma_base.specs.Scenarios.Limits.{entries_limit, steps_limit};
+ghost use Rattle.busdma_base.specs.Scenarios.Limits.{entries_limit};
 
 use crate::bios::bio_field;
-use crate::bytes::target;
 use crate::counts::Counts;
 use crate::flags::{FlagSet, flags_field};
 use crate::items::then_field;
+use crate::named_ops::NamedOps;
 use crate::names::used_name;
+use crate::places::loaded_from;
 use crate::spans::{entries_field, span_bytes};
-use busdma_base::{Bio, Buffer, NameKind, Op, PageRun};
+use busdma_base::{Bio, Buffer, NameUse, Op, PageRun};
 use json_fields::{Node, Stop};
 
 /// How many bytes a buffer has.
@@ -38,37 +40,39 @@ fn buffer_bytes(buffer: &Buffer) -> u128
 }
 
 #[tactic(auto, unfolding(crate::specs::Loads::flat_at))]
-fn flat(here: &Node) -> Result<Buffer, Stop>
-    ensures value { Gives result (loads.flat_at (spot_of here.now)) }
+fn flat(here: &Node, before: &NamedOps) -> Result<Buffer, Stop>
+    ensures value { Gives result (loads.flat_at before.now (spot_of here.now)) }
+    ensures within { IfOk result (λ b. AllByRecursion (IsMade before.now) (buffer_within b)) }
+    ensures whole { IfOk result IsFromBegin }
     ensures own { IfOk result (λ b. (pages : List PageRun) → IsBufferOf pages b) }
     ensures few { IfOk result (λ b. buffer_entries b ≤ entries_limit) }
 {
-    let place = target(here)?;
+    let place = loaded_from(here, before)?;
     let len = here.number_field("len")?;
     Ok(Buffer::Flat { place, len })
 }
 
 #[tactic(auto, unfolding(crate::specs::Loads::loaded_map_at))]
-fn loaded_map(here: &Node, before: &[Op]) -> Result<u32, Stop>
-    requires { length before.now ≤ steps_limit }
+fn loaded_map(here: &Node, before: &NamedOps) -> Result<u32, Stop>
     ensures value { Gives result (loads.loaded_map_at before.now (spot_of here.now)) }
     ensures made { IfOk result (λ map. IsMade before.now (map_at map)) }
 {
-    used_name(here, NameKind::Map, "map", before)
+    used_name(here, NameUse::Map, "map", before)
 }
 
 /// The load of a map with a buffer. What stands here says its flags and its items.
 #[tactic(auto, unfolding(crate::specs::Loads::load_of))]
 fn load_of(
     here: &Node,
-    before: &[Op],
+    before: &NamedOps,
     counts: &mut Counts,
     map: u32,
     buffer: Buffer,
 ) -> Result<Op, Stop>
-    requires few { length before.now ≤ steps_limit }
     requires within { IsWithin counts.old }
     requires made { IsMade before.now (map_at map) }
+    requires memory { AllByRecursion (IsMade before.now) (buffer_within buffer) }
+    requires whole { IsFromBegin buffer }
     requires listed { buffer_entries buffer ≤ entries_limit }
     ensures value { Gives result (loads.load_of before.now counts.old (spot_of here.now) map buffer) }
     ensures valid { IfOk result (IsOp before.now) }
@@ -89,8 +93,7 @@ fn load_of(
 
 /// A load of bytes from a place on, whose own step is counted.
 #[tactic(auto, unfolding(crate::specs::Loads::load_at))]
-pub(crate) fn load(here: &Node, before: &[Op], counts: &mut Counts) -> Result<Op, Stop>
-    requires few { length before.now ≤ steps_limit }
+pub(crate) fn load(here: &Node, before: &NamedOps, counts: &mut Counts) -> Result<Op, Stop>
     requires within { IsWithin counts.old }
     ensures value { Gives result (loads.load_at before.now counts.old (spot_of here.now)) }
     ensures valid { IfOk result (IsOp before.now) }
@@ -98,16 +101,15 @@ pub(crate) fn load(here: &Node, before: &[Op], counts: &mut Counts) -> Result<Op
     ensures within { IfOk result (λ _. IsWithin counts.new) }
     ensures frameless { IfOk result (λ o. (pages : List PageRun) → LoadsFrom pages o) }
 {
-    here.only_keys(&["op", "map", "va", "len", "flags", "then"])?;
+    here.only_keys(&["op", "map", "va", "mem", "len", "flags", "then"])?;
     let map = loaded_map(here, before)?;
-    let buffer = flat(here)?;
+    let buffer = flat(here, before)?;
     load_of(here, before, counts, map, buffer)
 }
 
 /// A load of a vector, whose own step is counted.
 #[tactic(auto, unfolding(crate::specs::Loads::load_vector_at))]
-pub(crate) fn load_vector(here: &Node, before: &[Op], counts: &mut Counts) -> Result<Op, Stop>
-    requires few { length before.now ≤ steps_limit }
+pub(crate) fn load_vector(here: &Node, before: &NamedOps, counts: &mut Counts) -> Result<Op, Stop>
     requires within { IsWithin counts.old }
     ensures value { Gives result (loads.load_vector_at before.now counts.old (spot_of here.now)) }
     ensures valid { IfOk result (IsOp before.now) }
@@ -123,8 +125,7 @@ pub(crate) fn load_vector(here: &Node, before: &[Op], counts: &mut Counts) -> Re
 
 /// A load of an mbuf chain, whose own step is counted. It has no flags.
 #[tactic(auto, unfolding(crate::specs::Loads::load_mbuf_at))]
-pub(crate) fn load_mbuf(here: &Node, before: &[Op], counts: &mut Counts) -> Result<Op, Stop>
-    requires few { length before.now ≤ steps_limit }
+pub(crate) fn load_mbuf(here: &Node, before: &NamedOps, counts: &mut Counts) -> Result<Op, Stop>
     requires within { IsWithin counts.old }
     ensures value { Gives result (loads.load_mbuf_at before.now counts.old (spot_of here.now)) }
     ensures valid { IfOk result (IsOp before.now) }
@@ -143,10 +144,9 @@ pub(crate) fn load_mbuf(here: &Node, before: &[Op], counts: &mut Counts) -> Resu
 pub(crate) fn load_bio(
     here: &Node,
     pages: &[PageRun],
-    before: &[Op],
+    before: &NamedOps,
     counts: &mut Counts,
 ) -> Result<Op, Stop>
-    requires few { length before.now ≤ steps_limit }
     requires within { IsWithin counts.old }
     ensures value { Gives result (loads.load_bio_at pages.now before.now counts.old (spot_of here.now)) }
     ensures valid { IfOk result (IsOp before.now) }

@@ -1,21 +1,22 @@
 //! The operations of a script but its loads.
 
-ghost use Rattle.std.specs.Prelude.{◌≡◌, ◌≤◌, length, IfOk, None, true};
+ghost use Rattle.std.specs.Prelude.{◌≡◌, IfOk, None, true};
 ghost use Rattle.busdma_base.specs.Scenarios.Names.{IsMade};
-ghost use Rattle.busdma_base.specs.Scenarios.Operations.{about, map_at};
+ghost use Rattle.busdma_base.specs.Scenarios.Operations.{about};
 ghost use Rattle.busdma_base.specs.Scenarios.Script.{IsOp};
 ghost use Rattle.json_fields.specs.Read.{Gives};
 ghost use Rattle.json_fields.specs.Field.{spot_of};
 ghost use Rattle.scenario_read.specs.Counts.{IsWithin, IsQuiet, with_op};
 ghost use Rattle.scenario_read.specs.Ops as ops;
-ghost use Rattle.busdma_base.specs.Scenarios.Limits.{steps_limit};
 
-use crate::bytes::{count_of, target, written};
+use crate::bytes::{count_of, written};
 use crate::counts::{Counts, access};
 use crate::flags::{FlagSet, flags_field};
+use crate::named_ops::NamedOps;
 use crate::names::{new_name, parent, used_name};
+use crate::places::access_place;
 use crate::syncs::{range_fields, sync_fields};
-use busdma_base::{NameKind, Op, Pa, TagLimits};
+use busdma_base::{NameUse, Op, Pa, TagLimits};
 use json_fields::{Node, RefusalKind, Stop};
 
 // The greatest number of segments.
@@ -54,8 +55,7 @@ fn limits(here: &Node) -> Result<TagLimits, Stop>
 }
 
 #[tactic(auto, unfolding(crate::specs::Ops::tag_at))]
-pub(crate) fn tag(here: &Node, before: &[Op]) -> Result<Op, Stop>
-    requires { length before.now ≤ steps_limit }
+pub(crate) fn tag(here: &Node, before: &NamedOps) -> Result<Op, Stop>
     ensures value { Gives result (ops.tag_at before.now (spot_of here.now)) }
     ensures valid { IfOk result (IsOp before.now) }
     ensures quiet { IfOk result IsQuiet }
@@ -84,66 +84,84 @@ pub(crate) fn tag(here: &Node, before: &[Op]) -> Result<Op, Stop>
 }
 
 #[tactic(auto, unfolding(crate::specs::Ops::tag_destroy_at))]
-pub(crate) fn tag_destroy(here: &Node, before: &[Op]) -> Result<Op, Stop>
-    requires { length before.now ≤ steps_limit }
+pub(crate) fn tag_destroy(here: &Node, before: &NamedOps) -> Result<Op, Stop>
     ensures value { Gives result (ops.tag_destroy_at before.now (spot_of here.now)) }
     ensures valid { IfOk result (IsOp before.now) }
     ensures quiet { IfOk result IsQuiet }
 {
     here.only_keys(&["op", "tag"])?;
-    let tag = used_name(here, NameKind::Tag, "tag", before)?;
+    let tag = used_name(here, NameUse::Tag, "tag", before)?;
     Ok(Op::TagDestroy { tag })
 }
 
 #[tactic(auto, unfolding(crate::specs::Ops::map_at))]
-pub(crate) fn map(here: &Node, before: &[Op]) -> Result<Op, Stop>
-    requires { length before.now ≤ steps_limit }
+pub(crate) fn map(here: &Node, before: &NamedOps) -> Result<Op, Stop>
     ensures value { Gives result (ops.map_at before.now (spot_of here.now)) }
     ensures valid { IfOk result (IsOp before.now) }
     ensures quiet { IfOk result IsQuiet }
 {
     here.only_keys(&["op", "name", "tag"])?;
     let name = new_name(here, "name", before)?;
-    let tag = used_name(here, NameKind::Tag, "tag", before)?;
+    let tag = used_name(here, NameUse::Tag, "tag", before)?;
     Ok(Op::Map { name, tag })
 }
 
 // The map of an operation that says nothing else.
 #[tactic(auto, unfolding(crate::specs::Ops::only_map_at))]
-fn only_map(here: &Node, before: &[Op]) -> Result<u32, Stop>
-    requires { length before.now ≤ steps_limit }
-    ensures value { Gives result (ops.only_map_at before.now (spot_of here.now)) }
-    ensures made { IfOk result (λ m. IsMade before.now (map_at m)) }
+fn only_map(here: &Node, used_as: NameUse, before: &NamedOps) -> Result<u32, Stop>
+    ensures value { Gives result (ops.only_map_at used_as before.now (spot_of here.now)) }
+    ensures made { IfOk result (λ m. IsMade before.now (record { used_as = used_as; made_at = m })) }
 {
     here.only_keys(&["op", "map"])?;
-    used_name(here, NameKind::Map, "map", before)
+    used_name(here, used_as, "map", before)
 }
 
 #[tactic(auto, unfolding(crate::specs::Ops::map_destroy_at))]
-pub(crate) fn map_destroy(here: &Node, before: &[Op]) -> Result<Op, Stop>
-    requires { length before.now ≤ steps_limit }
+pub(crate) fn map_destroy(here: &Node, before: &NamedOps) -> Result<Op, Stop>
     ensures value { Gives result (ops.map_destroy_at before.now (spot_of here.now)) }
     ensures valid { IfOk result (IsOp before.now) }
     ensures quiet { IfOk result IsQuiet }
 {
-    let map = only_map(here, before)?;
+    let map = only_map(here, NameUse::MapAlone, before)?;
     Ok(Op::MapDestroy { map })
 }
 
+#[tactic(auto, unfolding(crate::specs::Ops::dmamem_at))]
+pub(crate) fn dmamem(here: &Node, before: &NamedOps) -> Result<Op, Stop>
+    ensures value { Gives result (ops.dmamem_at before.now (spot_of here.now)) }
+    ensures valid { IfOk result (IsOp before.now) }
+    ensures quiet { IfOk result IsQuiet }
+{
+    here.only_keys(&["op", "name", "tag", "flags"])?;
+    let name = new_name(here, "name", before)?;
+    let tag = used_name(here, NameUse::Tag, "tag", before)?;
+    let flags = flags_field(here, FlagSet::Memory)?;
+    Ok(Op::Dmamem { name, tag, flags })
+}
+
+#[tactic(auto, unfolding(crate::specs::Ops::dmamem_free_at))]
+pub(crate) fn dmamem_free(here: &Node, before: &NamedOps) -> Result<Op, Stop>
+    ensures value { Gives result (ops.dmamem_free_at before.now (spot_of here.now)) }
+    ensures valid { IfOk result (IsOp before.now) }
+    ensures quiet { IfOk result IsQuiet }
+{
+    here.only_keys(&["op", "mem"])?;
+    let mem = used_name(here, NameUse::Memory, "mem", before)?;
+    Ok(Op::DmamemFree { mem })
+}
+
 #[tactic(auto, unfolding(crate::specs::Ops::unload_at))]
-pub(crate) fn unload(here: &Node, before: &[Op]) -> Result<Op, Stop>
-    requires { length before.now ≤ steps_limit }
+pub(crate) fn unload(here: &Node, before: &NamedOps) -> Result<Op, Stop>
     ensures value { Gives result (ops.unload_at before.now (spot_of here.now)) }
     ensures valid { IfOk result (IsOp before.now) }
     ensures quiet { IfOk result IsQuiet }
 {
-    let map = only_map(here, before)?;
+    let map = only_map(here, NameUse::Map, before)?;
     Ok(Op::Unload { map })
 }
 
 #[tactic(auto, unfolding(crate::specs::Ops::sync_at))]
-pub(crate) fn sync(here: &Node, before: &[Op]) -> Result<Op, Stop>
-    requires { length before.now ≤ steps_limit }
+pub(crate) fn sync(here: &Node, before: &NamedOps) -> Result<Op, Stop>
     ensures value { Gives result (ops.sync_at before.now (spot_of here.now)) }
     ensures valid { IfOk result (IsOp before.now) }
     ensures quiet { IfOk result IsQuiet }
@@ -156,8 +174,7 @@ pub(crate) fn sync(here: &Node, before: &[Op]) -> Result<Op, Stop>
 }
 
 #[tactic(auto, unfolding(crate::specs::Ops::sync_range_at))]
-pub(crate) fn sync_range(here: &Node, before: &[Op]) -> Result<Op, Stop>
-    requires { length before.now ≤ steps_limit }
+pub(crate) fn sync_range(here: &Node, before: &NamedOps) -> Result<Op, Stop>
     ensures value { Gives result (ops.sync_range_at before.now (spot_of here.now)) }
     ensures valid { IfOk result (IsOp before.now) }
     ensures quiet { IfOk result IsQuiet }
@@ -172,41 +189,40 @@ pub(crate) fn sync_range(here: &Node, before: &[Op]) -> Result<Op, Stop>
 }
 
 #[tactic(auto, unfolding(crate::specs::Ops::cpu_read_at))]
-pub(crate) fn cpu_read(here: &Node, before: &[Op], counts: &mut Counts) -> Result<Op, Stop>
-    requires { IsWithin counts.old }
-    ensures value { Gives result (ops.cpu_read_at counts.old (spot_of here.now)) }
+pub(crate) fn cpu_read(here: &Node, before: &NamedOps, counts: &mut Counts) -> Result<Op, Stop>
+    requires within { IsWithin counts.old }
+    ensures value { Gives result (ops.cpu_read_at before.now counts.old (spot_of here.now)) }
     ensures valid { IfOk result (IsOp before.now) }
     ensures loads_nothing { IfOk result (λ o. (about o).loads ≡ None) }
     ensures counted { IfOk result (λ o. counts.new ≡ with_op counts.old o) }
     ensures within { IfOk result (λ _. IsWithin counts.new) }
 {
-    here.only_keys(&["op", "va", "len"])?;
-    let place = target(here)?;
+    here.only_keys(&["op", "va", "mem", "off", "len"])?;
+    let place = access_place(here, before)?;
     let len = here.number_field("len")?;
     counts.read(here, len)?;
     Ok(Op::CpuRead { place, len })
 }
 
 #[tactic(auto, unfolding(crate::specs::Ops::cpu_write_at))]
-pub(crate) fn cpu_write(here: &Node, before: &[Op]) -> Result<Op, Stop>
-    ensures value { Gives result (ops.cpu_write_at (spot_of here.now)) }
+pub(crate) fn cpu_write(here: &Node, before: &NamedOps) -> Result<Op, Stop>
+    ensures value { Gives result (ops.cpu_write_at before.now (spot_of here.now)) }
     ensures valid { IfOk result (IsOp before.now) }
     ensures quiet { IfOk result IsQuiet }
 {
-    here.only_keys(&["op", "va", "hex", "fill", "len"])?;
-    let place = target(here)?;
+    here.only_keys(&["op", "va", "mem", "off", "hex", "fill", "len"])?;
+    let place = access_place(here, before)?;
     let bytes = written(here)?;
     access(here, count_of(&bytes))?;
     Ok(Op::CpuWrite { place, bytes })
 }
 
 #[tactic(auto, unfolding(crate::specs::Ops::await_at))]
-pub(crate) fn await_op(here: &Node, before: &[Op]) -> Result<Op, Stop>
-    requires { length before.now ≤ steps_limit }
+pub(crate) fn await_op(here: &Node, before: &NamedOps) -> Result<Op, Stop>
     ensures value { Gives result (ops.await_at before.now (spot_of here.now)) }
     ensures valid { IfOk result (IsOp before.now) }
     ensures quiet { IfOk result IsQuiet }
 {
-    let map = only_map(here, before)?;
+    let map = only_map(here, NameUse::Map, before)?;
     Ok(Op::Await { map })
 }

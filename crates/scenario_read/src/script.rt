@@ -1,6 +1,6 @@
 //! A script: its operations, one after another.
 
-ghost use Rattle.std.specs.Prelude.{◌≡◌, ◌≤◌, ◌+◌, [], length, map, IfOk};
+ghost use Rattle.std.specs.Prelude.{◌≡◌, ◌+◌, [], map, IfOk};
 ghost use Rattle.std.specs.List.{AllByRecursion};
 ghost use Rattle.serde_json.specs.View.{view};
 ghost use Rattle.busdma_base.specs.Each.{EachAfter};
@@ -11,10 +11,10 @@ ghost use Rattle.json_fields.specs.Field.{spot_of};
 ghost use Rattle.json_fields.specs.Items.{each};
 ghost use Rattle.scenario_read.specs.Counts.{IsWithin, with_op, with_ops, stepped};
 ghost use Rattle.scenario_read.specs.Script.{op_by, op_at, script_at};
-ghost use Rattle.busdma_base.specs.Scenarios.Limits.{steps_limit};
 
 use crate::counts::Counts;
 use crate::load::{load, load_bio, load_mbuf, load_vector};
+use crate::named_ops::NamedOps;
 use crate::ops;
 use crate::words::op_word;
 use busdma_base::{ListOf, Op, OpList, OpWord, PageRun};
@@ -27,10 +27,9 @@ fn op_by(
     word: OpWord,
     here: &Node,
     pages: &[PageRun],
-    before: &[Op],
+    before: &NamedOps,
     counts: &mut Counts,
 ) -> Result<Op, Stop>
-    requires few { length before.now ≤ steps_limit }
     requires within { IsWithin counts.old }
     ensures value { Gives result (op_by word pages.now before.now counts.old (spot_of here.now)) }
     ensures valid { IfOk result (IsOp before.now) }
@@ -43,6 +42,8 @@ fn op_by(
         OpWord::TagDestroy => ops::tag_destroy(here, before),
         OpWord::Map => ops::map(here, before),
         OpWord::MapDestroy => ops::map_destroy(here, before),
+        OpWord::Dmamem => ops::dmamem(here, before),
+        OpWord::DmamemFree => ops::dmamem_free(here, before),
         OpWord::Load => load(here, before, counts),
         OpWord::LoadVector => load_vector(here, before, counts),
         OpWord::LoadMbuf => load_mbuf(here, before, counts),
@@ -57,8 +58,7 @@ fn op_by(
 }
 
 #[tactic(auto, unfolding(crate::specs::Script::op_at))]
-fn op(here: &Node, pages: &[PageRun], before: &[Op], counts: &mut Counts) -> Result<Op, Stop>
-    requires few { length before.now ≤ steps_limit }
+fn op(here: &Node, pages: &[PageRun], before: &NamedOps, counts: &mut Counts) -> Result<Op, Stop>
     requires within { IsWithin counts.old }
     ensures value { Gives result (op_at pages.now before.now counts.old (spot_of here.now)) }
     ensures valid { IfOk result (IsOp before.now) }
@@ -87,12 +87,12 @@ fn each_op<'v>(
     ensures counted { IfOk result (λ v. counts.new ≡ with_ops counts.old v.items) }
     ensures within { IfOk result (λ _. IsWithin counts.new) }
 {
-    let mut before = Vec::new(here.alloc);
+    let mut before = NamedOps::new(here.alloc);
     for value in items {
         let op = op(&here.item(before.len(), value), pages, &before, counts)?;
-        before.push(op)?;
+        before = before.with(here.alloc, op)?;
     }
-    Ok(before)
+    Ok(before.into_ops())
 }
 
 /// The operations of the script that stands here, of a driver with these pages.

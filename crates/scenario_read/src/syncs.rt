@@ -1,7 +1,6 @@
 //! What a sync says, as an operation and as an item.
 
-ghost use Rattle.std.specs.Prelude.{◌≤◌, length, IfOk};
-ghost use Rattle.busdma_base.specs.Scenarios.Limits.{steps_limit};
+ghost use Rattle.std.specs.Prelude.{IfOk};
 ghost use Rattle.busdma_base.specs.Scenarios.Names.{IsMade};
 ghost use Rattle.busdma_base.specs.Scenarios.Operations.{map_at};
 ghost use Rattle.json_fields.specs.Field.{spot_of};
@@ -9,8 +8,9 @@ ghost use Rattle.json_fields.specs.Read.{Gives};
 ghost use Rattle.scenario_read.specs.Syncs.{sync_fields_at, range_fields_at};
 
 use crate::flags::ops_field;
+use crate::named_ops::NamedOps;
 use crate::names::used_name;
-use busdma_base::{NameKind, Op};
+use busdma_base::NameUse;
 use json_fields::{Node, Stop};
 
 /// A sync of the whole load of a map.
@@ -30,25 +30,23 @@ pub(crate) struct RangeFields {
 }
 
 #[tactic(auto, unfolding(crate::specs::Syncs::sync_fields_at))]
-pub(crate) fn sync_fields(here: &Node, before: &[Op]) -> Result<SyncFields, Stop>
-    requires { length before.now ≤ steps_limit }
+pub(crate) fn sync_fields(here: &Node, before: &NamedOps) -> Result<SyncFields, Stop>
     ensures value { Gives result (sync_fields_at before.now (spot_of here.now)) }
     ensures made { IfOk result (λ s. IsMade before.now (map_at s.map)) }
 {
     here.only_keys(&["op", "map", "ops"])?;
-    let map = used_name(here, NameKind::Map, "map", before)?;
+    let map = used_name(here, NameUse::Map, "map", before)?;
     let ops = ops_field(here)?;
     Ok(SyncFields { map, ops })
 }
 
 #[tactic(auto, unfolding(crate::specs::Syncs::range_fields_at))]
-pub(crate) fn range_fields(here: &Node, before: &[Op]) -> Result<RangeFields, Stop>
-    requires { length before.now ≤ steps_limit }
+pub(crate) fn range_fields(here: &Node, before: &NamedOps) -> Result<RangeFields, Stop>
     ensures value { Gives result (range_fields_at before.now (spot_of here.now)) }
     ensures made { IfOk result (λ s. IsMade before.now (map_at s.map)) }
 {
     here.only_keys(&["op", "map", "off", "len", "ops"])?;
-    let map = used_name(here, NameKind::Map, "map", before)?;
+    let map = used_name(here, NameUse::Map, "map", before)?;
     let off = here.number_field("off")?;
     let len = here.number_field("len")?;
     let ops = ops_field(here)?;

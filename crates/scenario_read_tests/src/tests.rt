@@ -1,6 +1,7 @@
 mod documents;
 mod limits;
 mod loads;
+mod memories;
 mod operations;
 mod values;
 

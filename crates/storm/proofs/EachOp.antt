@@ -49,6 +49,8 @@ await_valid m is rest =
     record {
       new = tt;
       made = (map_made m rest is, tt);
+      within = tt;
+      whole = tt;
       read = omega arith;
       written = omega arith;
       items = tt;
@@ -61,6 +63,8 @@ unload_valid m is rest =
     record {
       new = tt;
       made = (map_made m rest is, tt);
+      within = tt;
+      whole = tt;
       read = omega arith;
       written = omega arith;
       items = tt;
@@ -78,6 +82,8 @@ to_device_valid t small = (
   λ rest. record {
     new = tt;
     made = tt;
+    within = tt;
+    whole = tt;
     read = omega arith;
     written = rw (length-replicate t.touched t.byte) (omega arith);
     items = tt;
@@ -88,6 +94,8 @@ to_device_valid t small = (
     λ rest. record {
       new = tt;
       made = (map_made t.map rest small.map, tt);
+      within = tt;
+      whole = tt;
       read = omega arith;
       written = omega arith;
       items = (
@@ -112,6 +120,8 @@ from_device_valid t small = (
   λ rest. record {
     new = tt;
     made = (map_made t.map rest small.map, tt);
+    within = tt;
+    whole = tt;
     read = omega arith;
     written = omega arith;
     items = (
@@ -131,6 +141,8 @@ from_device_valid t small = (
       λ rest. record {
         new = tt;
         made = tt;
+        within = tt;
+        whole = tt;
         read = omega arith;
         written = omega arith;
         items = tt;
@@ -148,6 +160,8 @@ opening_valid ops behind = (
   record {
     new = record { well_formed = refl; fresh = refl };
     made = tt;
+    within = tt;
+    whole = tt;
     read = omega arith;
     written = omega arith;
     items = tt;
@@ -158,6 +172,8 @@ opening_valid ops behind = (
     record {
       new = record { well_formed = refl; fresh = refl };
       made = (refl, tt);
+      within = tt;
+      whole = tt;
       read = omega arith;
       written = omega arith;
       items = tt;
@@ -168,6 +184,8 @@ opening_valid ops behind = (
       record {
         new = record { well_formed = refl; fresh = refl };
         made = (refl, tt);
+        within = tt;
+        whole = tt;
         read = omega arith;
         written = omega arith;
         items = tt;

@@ -1,9 +1,10 @@
--- That a driver agrees with an account, and that it has a number, have one proof at most, so they come out of what a
--- world keeps.
+-- That a driver agrees with an account, that it has a number, and that an account's frames lie below the end of the
+-- machine's memory, have one proof at most, so they come out of what a world keeps.
 use Rattle.std.proofs.Common.{◌≡◌, ℕ}
 use Rattle.std.proofs.Props.{props}
 use mathlib.Core.Logic.{∥∥₁_elim}
 use Rattle.busdma_base.specs.Bounce.Account.{Account}
+use Rattle.busdma_base.specs.Bounce.EachFrame.{LiesBelowMaxmem}
 use Rattle.ideal_lane.specs.Agreement.{AgreesWith}
 use Rattle.ideal_lane.specs.State.{LaneState}
 
@@ -18,3 +19,9 @@ number-prop l i = hlevel (props)
 
 pub number-of : {X : Type 0} (l : LaneState) (i : ℕ) → ∥ X ∥₁ → (X → l.id ≡ i) → l.id ≡ i
 number-of {X} l i kept by = ∥∥₁_elim kept (number-prop l i) by
+
+below-prop : (a : Account) → IsProp (LiesBelowMaxmem a)
+below-prop a = hlevel (props)
+
+pub below-of : {X : Type 0} (a : Account) → ∥ X ∥₁ → (X → LiesBelowMaxmem a) → LiesBelowMaxmem a
+below-of {X} a kept by = ∥∥₁_elim kept (below-prop a) by

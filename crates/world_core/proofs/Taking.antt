@@ -10,7 +10,9 @@ use Rattle.busdma_base.specs.declared.journals.journal.Actor.{Actor}
 use Rattle.busdma_base.specs.declared.journals.journal.JournalEntry.{JournalEntry}
 use Rattle.busdma_base.specs.declared.scenarios.scenario.Scenario.{Scenario}
 use Rattle.busdma_base.specs.Bounce.Door.{account}
+use Rattle.busdma_base.specs.Bounce.EachFrame.{LiesBelowMaxmem}
 use Rattle.busdma_base.specs.Bounce.History.{IsOpening, IsSound}
+use Rattle.busdma_base.proofs.Accounts.EachFrame.{below-opening}
 use Rattle.bounce_hub.specs.Seen.{HubSeen, door}
 use Rattle.lane_core.specs.declared.lane.Lane.{Lane}
 use Rattle.lane_core.specs.LaneIdeal.{ideal}
@@ -26,7 +28,7 @@ use Rattle.ideal_world.proofs.Falling.{step-rests}
 use Rattle.ideal_world.proofs.Keeping.{step-keeps}
 use Rattle.ideal_world.proofs.Lanes.{set_same}
 use Rattle.world_core.specs.Kept.{IsKept, world_of}
-use Rattle.world_core.proofs.Agreeing.{agrees-of}
+use Rattle.world_core.proofs.Agreeing.{agrees-of, below-of}
 use Rattle.world_core.proofs.Turning.{Makes, makes, undone-account}
 
 -- the driver in a world, by its number
@@ -45,6 +47,7 @@ module _ (s : Scenario) (lanes : List Lane) (hub : HubSeen) where
   serves i l found kept form sound = record {
     served = refl;
     opening = form;
+    below = below-of hub.opening kept (λ k. subst LiesBelowMaxmem (sym k.opening) (below-opening s));
     sound = sound;
     agrees = agrees-of (ideal l) (account (door hub)) kept (λ k. (k.well.each i (ideal l) found).agrees);
   }

@@ -40,7 +40,11 @@ one-some o x y e f = cc
 
 -- bytes stay by themselves
 follows-same : (l : LaneState) (w : Wire) → Follows l l w w
-follows-same l w = (λ a b c. refl, λ m a b c. refl)
+follows-same l w = record {
+  own = λ a b c. refl;
+  pages = λ m a b c. refl;
+  known = λ a v none is. absurd (cc);
+}
 
 module _ (lanes : List Lane) (hub hub-new : HubSeen) (actor : Actor) (l m : Lane) (lt : actor.lane.0 < length lanes)
     (found : l ≡ get_or lanes actor.lane.0 l) where

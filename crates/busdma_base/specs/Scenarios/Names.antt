@@ -7,6 +7,8 @@ use Rattle.std.specs.Str.{bytes_eq}
 use Rattle.busdma_base.specs.declared.scenarios.script.Op.{Op}
 use Rattle.busdma_base.specs.declared.scenarios.operations.NameKind.{NameKind}
 use Rattle.busdma_base.specs.declared.scenarios.operations.NameKind.TheVariants as kind
+use Rattle.busdma_base.specs.declared.scenarios.operations.NameUse.{NameUse}
+use Rattle.busdma_base.specs.declared.scenarios.operations.NameUse.TheVariants as use_as
 use Rattle.busdma_base.specs.declared.scenarios.operations.UsedName.{UsedName}
 use Rattle.busdma_base.specs.Scenarios.Operations.{Made, about}
 
@@ -23,24 +25,32 @@ abbrev pub is_name : List ℕ → Bool
 is_name s =
     if nat_le 1 (length s) && nat_le (length s) 32 && is_letter (slice_index s 0) then list_all in_name s else false
 
--- two names stand for things of one kind
-abbrev pub same_kind : NameKind → NameKind → Bool
-same_kind kind.Tag kind.Tag = true
-same_kind kind.Tag kind.Map = false
-same_kind kind.Map kind.Tag = false
-same_kind kind.Map kind.Map = true
+-- a thing of this kind can be used so: the map of a memory is used as a map, but where a map alone is
+abbrev pub accepts : NameUse → NameKind → Bool
+accepts use_as.Tag kind.Tag = true
+accepts use_as.Tag kind.Map = false
+accepts use_as.Tag kind.Memory = false
+accepts use_as.Map kind.Tag = false
+accepts use_as.Map kind.Map = true
+accepts use_as.Map kind.Memory = true
+accepts use_as.MapAlone kind.Tag = false
+accepts use_as.MapAlone kind.Map = true
+accepts use_as.MapAlone kind.Memory = false
+accepts use_as.Memory kind.Tag = false
+accepts use_as.Memory kind.Map = false
+accepts use_as.Memory kind.Memory = true
 
--- the operation makes the name, as a thing of that kind
-abbrev pub makes_as : NameKind → List ℕ → Op → Bool
-makes_as k name o = option_map_or (λ made. same_kind made.kind k && bytes_eq made.name name) (about o).makes false
+-- the operation makes the name, as a thing that can be used so
+abbrev pub makes_for : NameUse → List ℕ → Op → Bool
+makes_for u name o = option_map_or (λ made. accepts u made.kind && bytes_eq made.name name) (about o).makes false
 
 -- the operation makes the name, of whatever kind
 abbrev pub makes : List ℕ → Op → Bool
 makes name o = option_map_or (λ made. bytes_eq made.name name) (about o).makes false
 
--- the operation makes a thing of that kind
-abbrev pub makes_kind : NameKind → Op → Bool
-makes_kind k o = option_map_or (λ made. same_kind made.kind k) (about o).makes false
+-- the operation makes a thing that can be used so
+abbrev pub makes_used : NameUse → Op → Bool
+makes_used u o = option_map_or (λ made. accepts u made.kind) (about o).makes false
 
 -- a name that no operation before made
 pub record IsNewName (before : List Op) (name : List ℕ) : Type 0 where
@@ -52,6 +62,6 @@ abbrev pub MakesNewName : List Op → Option Made → Type 0
 MakesNewName before None = Unit {0}
 MakesNewName before (Some made) = IsNewName before made.name
 
--- an operation before makes the name, as a thing of that kind
+-- an operation before makes the name, as a thing that can be used so
 abbrev pub IsMade : List Op → UsedName → Type 0
-IsMade before used = option_map_or (makes_kind used.kind) (slice_get before used.made_at) false ≡ true
+IsMade before used = option_map_or (makes_used used.used_as) (slice_get before used.made_at) false ≡ true

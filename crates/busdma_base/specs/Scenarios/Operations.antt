@@ -2,14 +2,18 @@
 use Rattle.std.specs.Prelude.{ℕ, List, [], ◌∷◌, Option, Some, None, length, replicate, sum_by, ◌+◌, slice_get}
 use Rattle.std.specs.Option.{option_map, option_map_or}
 use Rattle.busdma_base.specs.declared.scenarios.buffer.Buffer.{Buffer}
+use Rattle.busdma_base.specs.declared.scenarios.buffer.Buffer.TheVariants as buffer
 use Rattle.busdma_base.specs.declared.scenarios.script.Bytes.{Bytes}
 use Rattle.busdma_base.specs.declared.scenarios.script.Bytes.TheVariants as bytes
 use Rattle.busdma_base.specs.declared.scenarios.script.Item.{Item}
 use Rattle.busdma_base.specs.declared.scenarios.script.Item.TheVariants as item
 use Rattle.busdma_base.specs.declared.scenarios.script.Op.{Op}
 use Rattle.busdma_base.specs.declared.scenarios.script.Op.TheVariants as op
+use Rattle.busdma_base.specs.declared.scenarios.script.Place.{Place}
+use Rattle.busdma_base.specs.declared.scenarios.script.Place.TheVariants as place
 use Rattle.busdma_base.specs.declared.scenarios.operations.NameKind.{NameKind}
 use Rattle.busdma_base.specs.declared.scenarios.operations.NameKind.TheVariants as kind
+use Rattle.busdma_base.specs.declared.scenarios.operations.NameUse.TheVariants as use_as
 use Rattle.busdma_base.specs.declared.scenarios.operations.UsedName.{UsedName}
 use Rattle.busdma_base.specs.declared.scenarios.operations.MadeName.{MadeName}
 use Rattle.busdma_base.specs.declared.scenarios.operations.Object.{Object as SeenObject}
@@ -25,12 +29,13 @@ pub record Made : Type 0 where
   pub kind : NameKind
   pub name : List ℕ
 
--- what an operation is about: its word, the name that it makes, the names that it uses, its items, what it loads, and
--- how many bytes it reads and writes
+-- what an operation is about: its word, the name that it makes, the names that it uses, the memories in which the
+-- bytes lie that it works on, its items, what it loads, and how many bytes it reads and writes
 pub record About : Type 0 where
   pub word : OpWord
   pub makes : Option Made
   pub uses : List UsedName
+  pub within : List UsedName
   pub items : List Item
   pub loads : Option Buffer
   pub reads : ℕ
@@ -48,19 +53,40 @@ abbrev pub bytes_of : Bytes → List ℕ
 bytes_of (bytes.Listed bs) = bs
 bytes_of (bytes.Filled b n) = replicate n b
 
--- a tag that is made, and a map that is made
+-- a tag that is made, a map that is made, and a memory that is made
 abbrev pub new_tag : List ℕ → Option Made
 new_tag name = Some (record { kind = kind.Tag; name = name })
 
 abbrev pub new_map : List ℕ → Option Made
 new_map name = Some (record { kind = kind.Map; name = name })
 
--- the tag, and the map, that was made at a place
+abbrev pub new_memory : List ℕ → Option Made
+new_memory name = Some (record { kind = kind.Memory; name = name })
+
+-- the tag, the map or memory's map, the map alone, and the memory, that was made at a place
 abbrev pub tag_at : ℕ → UsedName
-tag_at place = record { kind = kind.Tag; made_at = place }
+tag_at made_at = record { used_as = use_as.Tag; made_at = made_at }
 
 abbrev pub map_at : ℕ → UsedName
-map_at place = record { kind = kind.Map; made_at = place }
+map_at made_at = record { used_as = use_as.Map; made_at = made_at }
+
+abbrev pub map_alone_at : ℕ → UsedName
+map_alone_at made_at = record { used_as = use_as.MapAlone; made_at = made_at }
+
+abbrev pub memory_at : ℕ → UsedName
+memory_at made_at = record { used_as = use_as.Memory; made_at = made_at }
+
+-- the memory in which a place lies that is told by one
+abbrev pub place_within : Place → List UsedName
+place_within (place.At va) = []
+place_within (place.In mem off) = memory_at mem ∷ []
+
+-- the same of the place of a buffer
+abbrev pub buffer_within : Buffer → List UsedName
+buffer_within (buffer.Flat at len) = place_within at
+buffer_within (buffer.Vector spans) = []
+buffer_within (buffer.Mbuf chain) = []
+buffer_within (buffer.Bio b) = []
 
 -- a parent, where there is one
 abbrev pub parents : Option ℕ → List UsedName
@@ -70,21 +96,28 @@ parents (Some place) = tag_at place ∷ []
 -- an operation that makes and uses names and does nothing else
 abbrev pub with_names : OpWord → Option Made → List UsedName → About
 with_names word makes uses =
-    record { word = word; makes = makes; uses = uses; items = []; loads = None; reads = 0; writes = 0 }
+    record { word = word; makes = makes; uses = uses; within = []; items = []; loads = None; reads = 0; writes = 0 }
 
 -- what each operation is about
 abbrev pub about : Op → About
 about (op.Tag name parent limits) = with_names op_word.Tag (new_tag name) (parents parent)
 about (op.TagDestroy tag) = with_names op_word.TagDestroy None (tag_at tag ∷ [])
 about (op.Map name tag) = with_names op_word.Map (new_map name) (tag_at tag ∷ [])
-about (op.MapDestroy map) = with_names op_word.MapDestroy None (map_at map ∷ [])
+about (op.MapDestroy map) = with_names op_word.MapDestroy None (map_alone_at map ∷ [])
+about (op.Dmamem name tag flags) = with_names op_word.Dmamem (new_memory name) (tag_at tag ∷ [])
+about (op.DmamemFree mem) = with_names op_word.DmamemFree None (memory_at mem ∷ [])
 about (op.Load map buffer flags items) =
-    record (with_names (buffer_word buffer) None (map_at map ∷ [])) { items = items; loads = Some buffer }
+    record (with_names (buffer_word buffer) None (map_at map ∷ [])) {
+      within = buffer_within buffer;
+      items = items;
+      loads = Some buffer;
+    }
 about (op.Unload map) = with_names op_word.Unload None (map_at map ∷ [])
 about (op.Sync map ops) = with_names op_word.Sync None (map_at map ∷ [])
 about (op.SyncRange map off len ops) = with_names op_word.SyncRange None (map_at map ∷ [])
-about (op.CpuRead place len) = record (with_names op_word.CpuRead None []) { reads = len }
-about (op.CpuWrite place bs) = record (with_names op_word.CpuWrite None []) { writes = length (bytes_of bs) }
+about (op.CpuRead at len) = record (with_names op_word.CpuRead None []) { within = place_within at; reads = len }
+about (op.CpuWrite at bs) =
+    record (with_names op_word.CpuWrite None []) { within = place_within at; writes = length (bytes_of bs) }
 about (op.Await map) = with_names op_word.Await None (map_at map ∷ [])
 
 -- what each item is about

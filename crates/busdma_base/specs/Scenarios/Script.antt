@@ -1,11 +1,11 @@
 -- Which scripts are valid.
-use Rattle.std.specs.Prelude.{ℕ, ◌+◌, ◌≤◌, List, [], length, sum_by}
+use Rattle.std.specs.Prelude.{ℕ, ◌+◌, ◌≤◌, List, [], length, sum_by, IfSome}
 use Rattle.std.specs.List.{AllByRecursion}
 use Rattle.std.specs.Option.{option_map_or}
 use Rattle.busdma_base.specs.declared.scenarios.script.Op.{Op}
 use Rattle.busdma_base.specs.declared.scenarios.script.Item.{Item}
 use Rattle.busdma_base.specs.Each.{EachAfter}
-use Rattle.busdma_base.specs.Scenarios.Buffers.{buffer_entries}
+use Rattle.busdma_base.specs.Scenarios.Buffers.{buffer_entries, IsFromBegin}
 use Rattle.busdma_base.specs.Scenarios.Limits.{access_limit, buffer_limit, entries_limit, steps_limit}
 use Rattle.busdma_base.specs.Scenarios.Names.{IsMade, MakesNewName}
 use Rattle.busdma_base.specs.Scenarios.Operations.{about, about_item, items_of, loaded_by}
@@ -20,11 +20,13 @@ pub record IsItem (before : List Op) (i : Item) : Type 0 where
   pub read : (about_item i).reads ≤ access_limit
   pub written : (about_item i).writes ≤ access_limit
 
--- an operation makes a new name, uses those that operations before it make, and keeps the limits on
--- an access and on what it loads, and so do its items
+-- an operation makes a new name, uses those that operations before it make, loads a memory from its begin, and keeps
+-- the limits on an access and on what it loads, and so do its items
 pub record IsOp (before : List Op) (o : Op) : Type 0 where
   pub new : MakesNewName before (about o).makes
   pub made : AllByRecursion (IsMade before) (about o).uses
+  pub within : AllByRecursion (IsMade before) (about o).within
+  pub whole : IfSome (about o).loads IsFromBegin
   pub read : (about o).reads ≤ access_limit
   pub written : (about o).writes ≤ access_limit
   pub items : AllByRecursion (IsItem before) (about o).items

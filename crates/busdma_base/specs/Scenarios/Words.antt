@@ -13,6 +13,8 @@ op_text op.Tag = codes "tag"
 op_text op.TagDestroy = codes "tag_destroy"
 op_text op.Map = codes "map"
 op_text op.MapDestroy = codes "map_destroy"
+op_text op.Dmamem = codes "dmamem"
+op_text op.DmamemFree = codes "dmamem_free"
 op_text op.Load = codes "load"
 op_text op.LoadVector = codes "load_vector"
 op_text op.LoadMbuf = codes "load_mbuf"
@@ -27,8 +29,8 @@ op_text op.Await = codes "await"
 -- the words of a script
 abbrev pub op_words : List OpWord
 op_words =
-    op.Tag ∷ op.TagDestroy ∷ op.Map ∷ op.MapDestroy ∷ op.Load ∷ op.LoadVector ∷ op.LoadMbuf ∷ op.LoadBio ∷ op.Unload
-    ∷ op.Sync ∷ op.SyncRange ∷ op.CpuRead ∷ op.CpuWrite ∷ op.Await ∷ []
+    op.Tag ∷ op.TagDestroy ∷ op.Map ∷ op.MapDestroy ∷ op.Dmamem ∷ op.DmamemFree ∷ op.Load ∷ op.LoadVector
+    ∷ op.LoadMbuf ∷ op.LoadBio ∷ op.Unload ∷ op.Sync ∷ op.SyncRange ∷ op.CpuRead ∷ op.CpuWrite ∷ op.Await ∷ []
 
 -- the word of a script that has this text
 abbrev pub op_word_of : List ℕ → Option OpWord

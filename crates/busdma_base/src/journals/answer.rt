@@ -7,6 +7,7 @@ use crate::bounce::Grown;
 use crate::journals::{Errno, Report};
 use crate::list::ListOf;
 use crate::machine::{Pa, Segment};
+use std::alloc::AllocError;
 
 /// The answer of a step.
 #[derive(Debug, Drop)]
@@ -37,5 +38,26 @@ impl Answer {
         ensures { result ≡ is_report self.now }
     {
         matches!(self, Answer::Report(_))
+    }
+}
+
+impl Clone for Answer {
+    ghost is_clone = { λ a b. b ≡ a };
+
+    fn clone(&self) -> Result<Answer, AllocError> {
+        Ok(match self {
+            Answer::Done => Answer::Done,
+            Answer::Grown(grown) => Answer::Grown(*grown),
+            Answer::Placed(first) => Answer::Placed(*first),
+            Answer::Segments(segments) => Answer::Segments(segments.clone()?),
+            Answer::InProgress { have, need } => Answer::InProgress {
+                have: *have,
+                need: *need,
+            },
+            Answer::Served(maps) => Answer::Served(*maps),
+            Answer::Bytes(bytes) => Answer::Bytes(bytes.clone()?),
+            Answer::Refused(errno) => Answer::Refused(*errno),
+            Answer::Report(report) => Answer::Report(*report),
+        })
     }
 }

@@ -5,6 +5,7 @@ use crate::journals::Answer;
 use crate::list::ListOf;
 use crate::machine::Pa;
 use crate::name::{LaneId, MapId};
+use std::alloc::AllocError;
 
 /// One of the three that act for a driver.
 #[derive(Clone, Copy, Debug, PartialEq, Eq)]
@@ -43,6 +44,20 @@ pub struct JournalEntry {
     pub actor: Actor,
     pub did: Did,
     pub answer: Answer,
+}
+
+impl Clone for JournalEntry {
+    ghost use Rattle.std.specs.Prelude.{◌≡◌};
+
+    ghost is_clone = { λ a b. b ≡ a };
+
+    fn clone(&self) -> Result<JournalEntry, AllocError> {
+        Ok(JournalEntry {
+            actor: self.actor,
+            did: self.did,
+            answer: self.answer.clone()?,
+        })
+    }
 }
 
 /// How a run ends, where no actor can step.

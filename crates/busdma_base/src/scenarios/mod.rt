@@ -7,7 +7,7 @@ mod script;
 mod words;
 
 pub use buffer::Buffer;
-pub use operations::{ItemAbout, MadeName, NameKind, Object, OpAbout, UsedName};
+pub use operations::{ItemAbout, MadeName, NameKind, NameUse, Object, OpAbout, UsedName};
 pub use scenario::{Driver, FrameRun, PageRun, Scenario};
 pub use script::{Bytes, Item, Op, Place};
 pub use words::{ItemWord, OpWord};

@@ -12,6 +12,19 @@ use crate::scenarios::{Buffer, Item, ItemWord, Op, OpWord};
 pub enum NameKind {
     Tag,
     Map,
+    /// A dmamem memory, and the map of its own.
+    Memory,
+}
+
+/// As what an operation or an item uses a name.
+#[derive(Clone, Copy, Debug, PartialEq, Eq)]
+pub enum NameUse {
+    Tag,
+    /// A map, or that of a memory.
+    Map,
+    /// A map that is no memory's.
+    MapAlone,
+    Memory,
 }
 
 /// A name that an operation makes, and what it stands for.
@@ -21,12 +34,26 @@ pub struct MadeName<'s> {
     pub name: &'s str,
 }
 
-/// A name that an operation or an item uses: what it stands for, and the place in the script of the
-/// operation that made it.
+/// A name that an operation or an item uses: as what, and the place in the script of the operation
+/// that made it.
 #[derive(Clone, Copy, Debug, PartialEq, Eq)]
 pub struct UsedName {
-    pub kind: NameKind,
+    pub used_as: NameUse,
     pub made_at: u32,
+}
+
+impl NameUse {
+    /// Whether a thing of that kind can be used so.
+    pub fn accepts(self, kind: NameKind) -> bool
+        ensures { result ≡ names.accepts self kind }
+    {
+        match self {
+            NameUse::Tag => kind == NameKind::Tag,
+            NameUse::Map => kind == NameKind::Map || kind == NameKind::Memory,
+            NameUse::MapAlone => kind == NameKind::Map,
+            NameUse::Memory => kind == NameKind::Memory,
+        }
+    }
 }
 
 /// What an operation is about: its word, the name that it makes, the first name that it uses, its
@@ -65,29 +92,17 @@ fn made<'s>(kind: NameKind, name: &'s Name) -> Option<MadeName<'s>>
     })
 }
 
-fn tag_at(made_at: u32) -> Option<UsedName>
-    ensures { result ≡ Some (operations.tag_at made_at) }
+fn used(used_as: NameUse, made_at: u32) -> Option<UsedName>
+    ensures { result ≡ Some (record { used_as = used_as; made_at = made_at }) }
 {
-    Some(UsedName {
-        kind: NameKind::Tag,
-        made_at,
-    })
-}
-
-fn map_at(made_at: u32) -> Option<UsedName>
-    ensures { result ≡ Some (operations.map_at made_at) }
-{
-    Some(UsedName {
-        kind: NameKind::Map,
-        made_at,
-    })
+    Some(UsedName { used_as, made_at })
 }
 
 fn parent_at(parent: Option<u32>) -> Option<UsedName>
     ensures { result ≡ slice_get (operations.parents parent) 0 }
 {
     match parent {
-        Some(made_at) => tag_at(made_at),
+        Some(made_at) => used(NameUse::Tag, made_at),
         None => None,
     }
 }
@@ -109,6 +124,17 @@ impl<'s> OpAbout<'s> {
             loads: None,
         }
     }
+
+    /// An operation that uses the map that was made at a place, and has no items.
+    fn of_map(word: OpWord, made_at: u32) -> OpAbout<'s>
+        ensures word { result.word ≡ word }
+        ensures makes { option_map operations.made result.makes ≡ None }
+        ensures uses { result.uses ≡ Some (operations.map_at made_at) }
+        ensures items { result.items.now ≡ [] }
+        ensures loads { result.loads ≡ None }
+    {
+        OpAbout::with_names(word, None, used(NameUse::Map, made_at))
+    }
 }
 
 impl ItemAbout {
@@ -120,7 +146,7 @@ impl ItemAbout {
         ItemAbout {
             word,
             uses: UsedName {
-                kind: NameKind::Map,
+                used_as: NameUse::Map,
                 made_at,
             },
         }
@@ -140,11 +166,25 @@ impl Op {
             Op::Tag { name, parent, .. } => {
                 OpAbout::with_names(OpWord::Tag, made(NameKind::Tag, name), parent_at(*parent))
             }
-            Op::TagDestroy { tag } => OpAbout::with_names(OpWord::TagDestroy, None, tag_at(*tag)),
-            Op::Map { name, tag } => {
-                OpAbout::with_names(OpWord::Map, made(NameKind::Map, name), tag_at(*tag))
+            Op::TagDestroy { tag } => {
+                OpAbout::with_names(OpWord::TagDestroy, None, used(NameUse::Tag, *tag))
             }
-            Op::MapDestroy { map } => OpAbout::with_names(OpWord::MapDestroy, None, map_at(*map)),
+            Op::Map { name, tag } => OpAbout::with_names(
+                OpWord::Map,
+                made(NameKind::Map, name),
+                used(NameUse::Tag, *tag),
+            ),
+            Op::MapDestroy { map } => {
+                OpAbout::with_names(OpWord::MapDestroy, None, used(NameUse::MapAlone, *map))
+            }
+            Op::Dmamem { name, tag, .. } => OpAbout::with_names(
+                OpWord::Dmamem,
+                made(NameKind::Memory, name),
+                used(NameUse::Tag, *tag),
+            ),
+            Op::DmamemFree { mem } => {
+                OpAbout::with_names(OpWord::DmamemFree, None, used(NameUse::Memory, *mem))
+            }
             Op::Load {
                 map,
                 buffer,
@@ -153,14 +193,14 @@ impl Op {
             } => OpAbout {
                 items: then.as_slice(),
                 loads: Some(buffer),
-                ..OpAbout::with_names(buffer.word(), None, map_at(*map))
+                ..OpAbout::of_map(buffer.word(), *map)
             },
-            Op::Unload { map } => OpAbout::with_names(OpWord::Unload, None, map_at(*map)),
-            Op::Sync { map, .. } => OpAbout::with_names(OpWord::Sync, None, map_at(*map)),
-            Op::SyncRange { map, .. } => OpAbout::with_names(OpWord::SyncRange, None, map_at(*map)),
+            Op::Unload { map } => OpAbout::of_map(OpWord::Unload, *map),
+            Op::Sync { map, .. } => OpAbout::of_map(OpWord::Sync, *map),
+            Op::SyncRange { map, .. } => OpAbout::of_map(OpWord::SyncRange, *map),
             Op::CpuRead { .. } => OpAbout::with_names(OpWord::CpuRead, None, None),
             Op::CpuWrite { .. } => OpAbout::with_names(OpWord::CpuWrite, None, None),
-            Op::Await { map } => OpAbout::with_names(OpWord::Await, None, map_at(*map)),
+            Op::Await { map } => OpAbout::of_map(OpWord::Await, *map),
         }
     }
 
@@ -218,12 +258,12 @@ impl Op {
         }
     }
 
-    /// Whether the operation makes the name, as a thing of that kind.
-    pub fn makes_as(&self, kind: NameKind, name: &str) -> bool
-        ensures { result ≡ names.makes_as kind name.now self.now }
+    /// Whether the operation makes the name, as a thing that can be used so.
+    pub fn makes_for(&self, used_as: NameUse, name: &str) -> bool
+        ensures { result ≡ names.makes_for used_as name.now self.now }
     {
         match self.about().makes {
-            Some(made) => made.kind == kind && made.name == name,
+            Some(made) => used_as.accepts(made.kind) && made.name == name,
             None => false,
         }
     }

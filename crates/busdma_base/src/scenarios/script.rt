@@ -15,6 +15,8 @@ use std::alloc::{AllocError, Global};
 pub enum Place {
     /// At a virtual address.
     At(Va),
+    /// `off` bytes behind the begin of the memory that was made at the place `mem` of the script.
+    In { mem: u32, off: u64 },
 }
 
 /// What is written.
@@ -47,6 +49,16 @@ pub enum Op {
     /// Ends a map.
     MapDestroy {
         map: u32,
+    },
+    /// Makes a dmamem memory of a tag, with a map of the same name.
+    Dmamem {
+        name: Name,
+        tag: u32,
+        flags: u32,
+    },
+    /// Ends a dmamem memory and its map.
+    DmamemFree {
+        mem: u32,
     },
     /// Loads a map with a buffer; its callback appends the items of `then`.
     Load {

@@ -10,6 +10,8 @@ pub enum OpWord {
     TagDestroy,
     Map,
     MapDestroy,
+    Dmamem,
+    DmamemFree,
     Load,
     LoadVector,
     LoadMbuf,
@@ -31,11 +33,13 @@ pub enum ItemWord {
     DevWrite,
 }
 
-const OP_WORDS: [OpWord; 14] = [
+const OP_WORDS: [OpWord; 16] = [
     OpWord::Tag,
     OpWord::TagDestroy,
     OpWord::Map,
     OpWord::MapDestroy,
+    OpWord::Dmamem,
+    OpWord::DmamemFree,
     OpWord::Load,
     OpWord::LoadVector,
     OpWord::LoadMbuf,
@@ -66,6 +70,8 @@ impl OpWord {
             OpWord::TagDestroy => "tag_destroy",
             OpWord::Map => "map",
             OpWord::MapDestroy => "map_destroy",
+            OpWord::Dmamem => "dmamem",
+            OpWord::DmamemFree => "dmamem_free",
             OpWord::Load => "load",
             OpWord::LoadVector => "load_vector",
             OpWord::LoadMbuf => "load_mbuf",

@@ -8,8 +8,7 @@ BadField [2] <- 7
 BadField [2].op <- {}
 BadField [2].op <- {"op":7}
 BadOp [2].op <- {"op":"Tag","zz":1}
-BadOp [2].op <- {"op":"dmamem","name":"x","tag":"t"}
-BadOp [2].op <- {"op":"dmamem_free","mem":"m"}
+BadOp [2].op <- {"op":"mem_alloc","name":"x","tag":"t"}
 BadOp [2].op <- {"op":"load_uio","map":"m","entries":[]}
 BadOp [2].op <- {"op":"dev_read","map":"m","off":0,"len":1}
 good <- {"op":"tag","name":"x"}
@@ -76,7 +75,7 @@ UnknownName [2].map <- {"op":"load","map":"x","len":0}
 BadField [2] <- {"op":"load","map":"m","len":"x"}
 BadField [2].va <- {"op":"load","map":"m","va":"x","len":"x"}
 BadField [2].len <- {"op":"load","map":"m","va":0}
-BadField [2].mem <- {"op":"load","map":"m","mem":"x","len":0}
+UnknownName [2].mem <- {"op":"load","map":"m","mem":"x","len":0}
 BadField [2].off <- {"op":"load","map":"m","va":0,"len":0,"off":0}
 good <- {"op":"load","map":"m","va":0,"len":0,"flags":["WAITOK","NOWAIT","NOWAIT"],"then":[]}
 BadFlag [2].flags[0] <- {"op":"load","map":"m","va":0,"len":0,"flags":["ALLOCNOW"],"then":7}

@@ -6,4 +6,4 @@ pub returns-clause-opens : goal.returns-clause-opens
 returns-clause-opens c = opens-in-machine
 
 pub returns-clause-stays : goal.returns-clause-stays
-returns-clause-stays c = λ l s r m. turn-keeps l m s r
+returns-clause-stays c = λ l s r m new. turn-keeps l m s r new

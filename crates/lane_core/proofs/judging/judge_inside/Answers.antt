@@ -9,8 +9,8 @@ pub returns-then-first-from : goal.returns-then-first-from
 returns-then-first-from c =
     let first = c.max-first.result in
     c.foreign.ensures
-    ∙ sym (first-within (virtual_of c.args.kept.now.first.0) c.args.kept.now.memory.len c.args.span.va.0
-    c.args.span.len
+    ∙ sym (first-within (virtual_of c.args.kept.now.first.0) c.args.kept.now.memory.len c.args.from
+    c.args.len
     c.args.offset first
     (grind (arith, c.max-first.ensures, c.begin_of-begin.ensures.is))
     (grind (arith, c.max-first.ensures, c.begin_of-begin.ensures.is))
@@ -22,8 +22,8 @@ pub returns-else-first-end : goal.returns-else-first-end
 returns-else-first-end c =
     let b = virtual_of c.args.kept.now.first.0 in
     let n = c.args.kept.now.memory.len in
-    let v = c.args.span.va.0 in
-    let len = c.args.span.len in
+    let v = c.args.from in
+    let len = c.args.len in
     let apart : (b + n ≤ v) ⊎ ((v + len ≤ b) ⊎ ((n ≡ 0) ⊎ (len ≡ 0))) = elim c.else-first-end.branch [
       | else-first-end-via-then-first-end+else-first-from w ↦
           grind (arith, c.max-first.ensures, c.begin_of-begin.ensures.is, w.if-first-from.false)

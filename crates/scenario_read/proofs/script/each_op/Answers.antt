@@ -9,11 +9,10 @@ use Rattle.scenario_read.proofs.script.each_op.Goals as goal
 pub loop-value-preserved : goal.loop-value-preserved
 loop-value-preserved c = record {
   rest = grind (arith, common_steps);
-  valid = rw c.in_ok-push.ensures.items
-      (EachAfter-append IsOp _ _ c.in_ok-op.op c.loop-value.invariant.valid
-      (rw (← c.deref.ensures.value) c.in_ok-op.ensures.valid));
+  valid = rw c.in_ok-before.ensures
+      (EachAfter-append IsOp _ _ c.in_ok-op.op c.loop-value.invariant.valid c.in_ok-op.ensures.valid);
   own = grind (arith, common_steps);
-  counted = rw c.in_ok-push.ensures.items
+  counted = rw c.in_ok-before.ensures
       (c.in_ok-op.ensures.counted ∙ ap (λ k. with_op (stepped k) c.in_ok-op.op) c.loop-value.invariant.counted
       ∙ with_ops_more _ _ _);
   within = grind (arith, common_steps);

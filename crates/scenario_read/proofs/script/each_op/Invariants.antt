@@ -12,11 +12,11 @@ use Rattle.scenario_read.proofs.script.each_op.Given as goal
 
 abbrev pub invariant-loop-value : goal.invariant-loop-value
 invariant-loop-value l = record {
-  rest : each (λ before. op_at l.pages before (with_ops l.fn.counts before)) (spot_of l.here) l.before.items
+  rest : each (λ before. op_at l.pages before (with_ops l.fn.counts before)) (spot_of l.here) l.before
       (map view (drop l.value-index l.items))
       ≡ each (λ before. op_at l.pages before (with_ops l.fn.counts before)) (spot_of l.here) [] (map view l.items);
-  valid : EachAfter IsOp [] l.before.items;
-  own : AllByRecursion (LoadsFrom l.pages) l.before.items;
-  counted : l.counts ≡ with_ops l.fn.counts l.before.items;
+  valid : EachAfter IsOp [] l.before;
+  own : AllByRecursion (LoadsFrom l.pages) l.before;
+  counted : l.counts ≡ with_ops l.fn.counts l.before;
   within : IsWithin l.counts;
 }

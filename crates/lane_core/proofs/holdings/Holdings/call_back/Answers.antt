@@ -31,4 +31,4 @@ returns-clause-made g c =
     let ended = c.end_wait-answer.ensures in
     called-made h c.end_wait-answer.new.self d e called.map pages (length pages) c.end_wait-answer.result
     c.in-Some.ensures.held (called-waits h d c.requires.ready.served called.map pages e c.in-Some.ensures.held)
-    ended.done ended.bytes ended.agenda.end ended.agenda.capacity c.stepped.result c.stepped.ensures
+    ended.done ended.bytes ended.memories ended.agenda.end ended.agenda.capacity c.stepped.result c.stepped.ensures

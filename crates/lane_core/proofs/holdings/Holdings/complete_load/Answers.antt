@@ -25,7 +25,7 @@ use Rattle.ideal_lane.specs.State.{LaneState, Loaded}
 use Rattle.ideal_lane.specs.Unloads.{unlent}
 use Rattle.lane_core.specs.Ideal.{ideal_of}
 use Rattle.lane_core.specs.Kept.{map_of, return_of}
-use Rattle.lane_core.specs.Loading.{bio_bytes, bio_chunks, bio_of}
+use Rattle.lane_core.specs.Loading.{bio_bytes, bio_of, map_chunks}
 use Rattle.lane_core.proofs.AwaitingLoads.{awaiting-finished}
 use Rattle.lane_core.proofs.Chunked.{copy-fits}
 use Rattle.lane_core.proofs.Keeping.{idle-there}
@@ -50,7 +50,7 @@ copy_segments-requires c =
     let o = map_of idle.0 in
     let is = image-some map_of h.maps.map c.args.map idle.0 idle.1 in
     subst (λ (ss : List Segment). length ss ≤ c.build_load-few.new.room.shown.spare) (sym c.as_slice-2.ensures)
-    (copy-fits (limits_of l o) (bio_chunks l o (bio_of c.args.bytes))
+    (copy-fits (limits_of l o) (map_chunks l c.args.map o (bio_of c.args.bytes))
     (as_pages (page_addresses c.as_slice.result.now)) c.args.room
     c.build_load-few.new.room c.build_load-few.result (λ e. c.build_load-few.ensures.few e o is)
     (λ e. c.build_load-few.ensures.many e o is)
@@ -71,7 +71,7 @@ returns-then-not-few-clause-done c o x found entries items =
     let m = c.args.map in
     let t = limits_of l o in
     let pas = page_addresses c.args.pages.items in
-    let chunks = bio_chunks l o (bio_of c.args.bytes) in
+    let chunks = map_chunks l m o (bio_of c.args.bytes) in
     let many = c.build_load-few.ensures.many c.if-not-few.true o found in
     let over : t.nsegments < length (segmentation t (placed_pieces t chunks (as_pages pas))) =
     subst (λ (ps : List Pa). t.nsegments < length (segmentation t (placed_pieces t chunks ps)))
@@ -105,7 +105,7 @@ returns-clause-done c o x found entries items =
     let m = c.args.map in
     let t = limits_of l o in
     let pas = page_addresses c.args.pages.items in
-    let chunks = bio_chunks l o (bio_of c.args.bytes) in
+    let chunks = map_chunks l m o (bio_of c.args.bytes) in
     let filled = c.build_load-few.ensures.few c.if-not-few.false o found in
     let built = segmentation t (placed_pieces t chunks (as_pages pas)) in
     let segments : c.build_load-few.new.room.list.items ≡ built =
@@ -175,7 +175,7 @@ returns-then-not-few-clause-awaiting c =
     let idle = idle-there (get h.maps.map m) c.requires.idle in
     let o = map_of idle.0 in
     let is = image-some map_of h.maps.map m idle.0 idle.1 in
-    let chunks = bio_chunks l o (bio_of c.args.bytes) in
+    let chunks = map_chunks l m o (bio_of c.args.bytes) in
     let x : Asked = record {
       judged = Fine;
       entries = load_entries l (bio_of c.args.bytes);
@@ -197,7 +197,7 @@ returns-clause-awaiting c =
     let idle = idle-there (get h.maps.map m) c.requires.idle in
     let o = map_of idle.0 in
     let is = image-some map_of h.maps.map m idle.0 idle.1 in
-    let chunks = bio_chunks l o (bio_of c.args.bytes) in
+    let chunks = map_chunks l m o (bio_of c.args.bytes) in
     let x : Asked = record {
       judged = Fine;
       entries = load_entries l (bio_of c.args.bytes);

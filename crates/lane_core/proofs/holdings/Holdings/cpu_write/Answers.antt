@@ -5,36 +5,50 @@ use Rattle.loan_table.specs.Table.{set_all}
 use Rattle.ideal_lane.specs.Outcomes.{gives}
 use Rattle.lane_core.specs.Ideal.{ideal_of}
 use Rattle.lane_core.specs.Wire.{wire_of}
-use Rattle.lane_core.proofs.CpuWrites.{cpu_write-done, cpu_write-refused, cpu_write-unmapped, cpu_write-wire}
-use Rattle.lane_core.proofs.CpuWrites.{wire-idle}
+use Rattle.lane_core.proofs.CpuWrites.{cpu_write-absent, cpu_write-done, cpu_write-refused, cpu_write-unmapped}
+use Rattle.lane_core.proofs.CpuWrites.{cpu_write-wire, wire-idle}
 use Rattle.lane_core.proofs.Marks.{has_set_all}
-use Rattle.lane_core.proofs.Reaching.{same-physical}
+use Rattle.lane_core.proofs.Reaching.{same-physical, same-placed, same-standing}
 use Rattle.std.proofs.Common.{refl}
 use Rattle.lane_core.proofs.AwaitingSteps.{awaits-same}
 use Rattle.lane_core.proofs.holdings.Holdings.cpu_write.Goals as goal
 
+pub returns-in_default-clause-done : goal.returns-in_default-clause-done
+returns-in_default-clause-done c =
+    ap (gives (ideal_of c.args.self.now)) c.report.ensures
+    ∙ cpu_write-absent c.args.self.now c.args.place c.args.bytes.now (sym c.virtual_at.ensures ∙ c.in_default.is)
+
+pub returns-in_default-clause-wire : goal.returns-in_default-clause-wire
+returns-in_default-clause-wire c =
+    wire-idle (ideal_of c.args.self.now) _ _ _ (wire_of c.args.self.now)
+    (cpu_write-absent c.args.self.now c.args.place c.args.bytes.now (sym c.virtual_at.ensures ∙ c.in_default.is))
+
 pub returns-in-Unmapped-clause-done : goal.returns-in-Unmapped-clause-done
 returns-in-Unmapped-clause-done c =
-    ap (gives (ideal_of c.args.self.now)) c.report.ensures
-    ∙ cpu_write-unmapped c.args.self.now c.args.place c.args.bytes.now _
+    ap (gives (ideal_of c.args.self.now)) c.report-in-Unmapped.ensures
+    ∙ cpu_write-unmapped c.args.self.now c.args.place c.in-Some.va (sym c.virtual_at.ensures ∙ c.in-Some.is)
+    c.args.bytes.now _
     (rw c.in-Unmapped.is at c.in_ok-at.ensures.verdict)
 
 pub returns-in-Unmapped-clause-wire : goal.returns-in-Unmapped-clause-wire
 returns-in-Unmapped-clause-wire c =
     wire-idle (ideal_of c.args.self.now) _ _ _ (wire_of c.args.self.now)
-    (cpu_write-unmapped c.args.self.now c.args.place c.args.bytes.now _
+    (cpu_write-unmapped c.args.self.now c.args.place c.in-Some.va (sym c.virtual_at.ensures ∙ c.in-Some.is)
+    c.args.bytes.now _
     (rw c.in-Unmapped.is at c.in_ok-at.ensures.verdict))
 
 pub returns-in-Refused-clause-done : goal.returns-in-Refused-clause-done
 returns-in-Refused-clause-done c =
-    cpu_write-refused c.args.self.now c.args.place c.args.bytes.now (addresses c.in-Parts.parts) c.in-Refused.refusal
+    cpu_write-refused c.args.self.now c.args.place c.in-Some.va (sym c.virtual_at.ensures ∙ c.in-Some.is)
+    c.args.bytes.now (addresses c.in-Parts.parts) c.in-Refused.refusal
     (rw c.in-Parts.is at c.in_ok-at.ensures.verdict) (rw c.in-Parts.is at c.in_ok-at.ensures.addresses)
     (rw c.as_slice.ensures at (sym c.in-Refused.is ∙ c.may_cpu_write.ensures))
 
 pub returns-in-Refused-clause-wire : goal.returns-in-Refused-clause-wire
 returns-in-Refused-clause-wire c =
     wire-idle (ideal_of c.args.self.now) c.in-Refused.refusal _ _ (wire_of c.args.self.now)
-    (cpu_write-refused c.args.self.now c.args.place c.args.bytes.now (addresses c.in-Parts.parts)
+    (cpu_write-refused c.args.self.now c.args.place c.in-Some.va (sym c.virtual_at.ensures ∙ c.in-Some.is)
+    c.args.bytes.now (addresses c.in-Parts.parts)
     c.in-Refused.refusal
     (rw c.in-Parts.is at c.in_ok-at.ensures.verdict) (rw c.in-Parts.is at c.in_ok-at.ensures.addresses)
     (rw c.as_slice.ensures at (sym c.in-Refused.is ∙ c.may_cpu_write.ensures)))
@@ -58,6 +72,16 @@ pub invariant_of-self-2-clause-framed : goal.invariant_of-self-2-clause-framed
 invariant_of-self-2-clause-framed c =
     λ f own. c.write_parts.ensures.same.frames f ∙ c.args.self.now.framed f own
 
+pub invariant_of-self-2-clause-placed : goal.invariant_of-self-2-clause-placed
+invariant_of-self-2-clause-placed c =
+    let h = c.args.self.now in
+    same-placed h.memory.memory c.write_parts.new.memory.memory c.write_parts.ensures.same h.placed
+
+pub invariant_of-self-2-clause-standing : goal.invariant_of-self-2-clause-standing
+invariant_of-self-2-clause-standing c =
+    let h = c.args.self.now in
+    same-standing h.memories.map h.memory.memory c.write_parts.new.memory.memory c.write_parts.ensures.same h.standing
+
 pub invariant_of-self-2-clause-loaded : goal.invariant_of-self-2-clause-loaded
 invariant_of-self-2-clause-loaded c =
     let h = c.args.self.now in
@@ -67,9 +91,9 @@ pub returns-clause-done : goal.returns-clause-done
 returns-clause-done c =
     let h = c.args.self.now in
     let pas = addresses c.in-Parts.parts in
-    cpu_write-done h c.requires c.args.place c.args.bytes.now pas
+    cpu_write-done h c.requires c.args.place c.in-Some.va (sym c.virtual_at.ensures ∙ c.in-Some.is) c.args.bytes.now pas
     (rw c.in-Parts.is at c.in_ok-at.ensures.verdict) (rw c.in-Parts.is at c.in_ok-at.ensures.addresses)
-    (rw c.as_slice.ensures at (sym c.in_default.is ∙ c.may_cpu_write.ensures))
+    (rw c.as_slice.ensures at (sym c.in_default-may_cpu_write.is ∙ c.may_cpu_write.ensures))
     c.write_parts.new.memory.memory (rw c.as_slice-2.ensures at c.write_parts.ensures.wire)
     c.note_write.new.self.bytes c.note_write.new.self.loans
     (rw c.in-Parts.is at c.in_ok-at.ensures.len) (rw c.in-Parts.is at c.in_ok-at.ensures.inside)
@@ -80,9 +104,10 @@ returns-clause-done c =
 pub returns-clause-wire : goal.returns-clause-wire
 returns-clause-wire c =
     let h = c.args.self.now in
-    cpu_write-wire h c.requires c.args.place c.args.bytes.now (addresses c.in-Parts.parts)
+    cpu_write-wire h c.requires c.args.place c.in-Some.va (sym c.virtual_at.ensures ∙ c.in-Some.is) c.args.bytes.now
+    (addresses c.in-Parts.parts)
     (rw c.in-Parts.is at c.in_ok-at.ensures.verdict) (rw c.in-Parts.is at c.in_ok-at.ensures.addresses)
-    (rw c.as_slice.ensures at (sym c.in_default.is ∙ c.may_cpu_write.ensures))
+    (rw c.as_slice.ensures at (sym c.in_default-may_cpu_write.is ∙ c.may_cpu_write.ensures))
     c.write_parts.new.memory.memory (rw c.as_slice-2.ensures at c.write_parts.ensures.wire)
 
 pub returns-clause-awaiting : goal.returns-clause-awaiting
@@ -93,3 +118,9 @@ returns-clause-awaiting c =
 pub returns-in_err-reserve-clause-awaiting : goal.returns-in_err-reserve-clause-awaiting
 returns-in_err-reserve-clause-awaiting c =
     awaits-same c.args.self.now _ refl refl refl refl c.reserve.ensures.same.prepared refl refl
+
+pub invariant_of-self-2-clause-unlent : goal.invariant_of-self-2-clause-unlent
+invariant_of-self-2-clause-unlent c = c.args.self.now.unlent
+
+pub invariant_of-self-2-clause-tried : goal.invariant_of-self-2-clause-tried
+invariant_of-self-2-clause-tried c = c.args.self.now.tried

@@ -19,7 +19,7 @@ use Rattle.lane_core.proofs.MapValues.{image-some}
 use Rattle.lane_core.proofs.Marks.{has_set_all}
 use Rattle.lane_core.proofs.Places.{get_removed}
 use Rattle.lane_core.proofs.PutBack.{put-again}
-use Rattle.lane_core.proofs.Reaching.{same-physical}
+use Rattle.lane_core.proofs.Reaching.{same-physical, same-placed, same-standing}
 use Rattle.lane_core.proofs.Repaging.{are-maps}
 use Rattle.std.proofs.Common.{refl}
 use Rattle.dma_map.specs.MapView.{waiting_load}
@@ -76,6 +76,9 @@ invariant_of-self-2 c =
           c.write_load.ensures.same)
           ∙ h.reaches va;
       framed = λ f own. c.write_load.ensures.same.frames f ∙ h.framed f own;
+      placed = same-placed h.memory.memory c.write_load.new.memory.memory c.write_load.ensures.same h.placed;
+      standing = same-standing h.memories.map h.memory.memory c.write_load.new.memory.memory
+          c.write_load.ensures.same h.standing;
       tag_places = h.tag_places;
       map_places = put.1 ∙ h.map_places;
       memory_places = h.memory_places;

@@ -81,6 +81,8 @@ invariant_of-self c =
           ∙ has_set_all _ _ _ c.forget.ensures.there a ∙ h.covered a;
       reaches = h.reaches;
       framed = h.framed;
+      placed = h.placed;
+      standing = h.standing;
       tag_places = h.tag_places ∙ sym (ap (λ a. a.length) agenda);
       map_places = ap (λ t. t.places) c.put.ensures ∙ ap (λ t. t.places) c.in-Some.ensures.taken
           ∙ h.map_places ∙ sym (ap (λ a. a.length) agenda);

@@ -6,7 +6,7 @@ use Rattle.dma_map.specs.declared.room.LoadRoom.{LoadRoom}
 use Rattle.lane_core.specs.Awaiting.{kept_load}
 use Rattle.lane_core.proofs.Called.{waits-kept}
 use Rattle.lane_core.proofs.EndedWaits.{ends-bytes, ends-done, ends-few, ends-idle, ends-items, ends-others}
-use Rattle.lane_core.proofs.EndedWaits.{ends-prepared}
+use Rattle.lane_core.proofs.EndedWaits.{ends-first, ends-prepared}
 use Rattle.lane_core.proofs.EndedWaits.{ends-loadable, ends-promised, ends-reached, ends-room, ends-stands}
 use Rattle.lane_core.proofs.holdings.Holdings.end_wait.Goals as goal
 
@@ -37,6 +37,13 @@ complete_load-requires-clause-reached c =
     let load : ℕ × Transfers × LoadRoom = c.in-Some.load in
     let found : kept_load (get c.args.self.now.maps.map c.args.map) ≡ Some load = sym c.in-Some.ensures.load in
     ends-reached c.args.self.now c.take_load.new.self c.args.map load.0 load.1 load.2 found c.take_load.ensures.maps
+    c.take_load.ensures.rest c.requires.awaiting c.bytes_at-bytes.result c.bytes_at-bytes.ensures
+
+pub complete_load-requires-clause-first : goal.complete_load-requires-clause-first
+complete_load-requires-clause-first c =
+    let load : ℕ × Transfers × LoadRoom = c.in-Some.load in
+    let found : kept_load (get c.args.self.now.maps.map c.args.map) ≡ Some load = sym c.in-Some.ensures.load in
+    ends-first c.args.self.now c.take_load.new.self c.args.map load.0 load.1 load.2 found c.take_load.ensures.maps
     c.take_load.ensures.rest c.requires.awaiting c.bytes_at-bytes.result c.bytes_at-bytes.ensures
 
 pub complete_load-requires-clause-loadable : goal.complete_load-requires-clause-loadable

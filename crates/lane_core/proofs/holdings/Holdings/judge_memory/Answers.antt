@@ -8,7 +8,7 @@ use Rattle.lane_core.proofs.holdings.Holdings.judge_memory.Goals as goal
 pub returns-in-Span : goal.returns-in-Span
 returns-in-Span c =
     let l = ideal_of c.args.self.now in
-    c.judge_span.ensures ∙ span-foreign l c.args.map c.in-Span.span
+    c.judge_span.ensures ∙ span-foreign l c.args.map (record { va = record { 0 = c.in-Span.va }; len = c.in-Span.len })
     ∙ ap (λ b. foreign_judged l c.args.map (bio_of b)) (sym c.in-Span.is)
 
 pub returns-in-Spans : goal.returns-in-Spans

@@ -15,7 +15,7 @@ use Rattle.lane_core.proofs.holdings.Holdings.judge_shared.Goals as goal
 pub loop-kept-init : goal.loop-kept-init
 loop-kept-init c =
     let h = c.args.self.now in
-    let vas = run_of c.args.span.va.0 c.args.span.len in
+    let vas = run_of c.args.from c.args.len in
     let same : c.into_iter-kept-iterator.result ≡ entries h.memories.map = cc in
     ap (λ (es : List (ℕ × KeptMemory)). judged (λ v. foreign_refusal
     (list_any (λ e. is_in_memory v (memory_of e.1)) es)) c.args.offset vas) same
@@ -23,7 +23,7 @@ loop-kept-init c =
 
 pub loop-kept-preserved : goal.loop-kept-preserved
 loop-kept-preserved c =
-    let vas = run_of c.args.span.va.0 c.args.span.len in
+    let vas = run_of c.args.from c.args.len in
     let all : c.loop-kept.kept-iterator ≡ (c.in-Some.field-0-0, c.in-Some.kept.now) ∷ c.next.new.self =
     c.in-Some.ensures.steps in
     let rest = judged (λ v. foreign_refusal (list_any (λ e. is_in_memory v (memory_of e.1)) c.next.new.self))
@@ -39,7 +39,7 @@ loop-kept-preserved c =
 
 pub returns : goal.returns
 returns c =
-    let vas = run_of c.args.span.va.0 c.args.span.len in
+    let vas = run_of c.args.from c.args.len in
     let none : c.loop-kept.kept-iterator ≡ [] = c.in-None.ensures.steps.0 in
     sym (ap (earlier c.loop-kept.first) (nothing-foreign c.args.offset vas) ∙ fine-last c.loop-kept.first)
     ∙ sym (ap (λ (es : List (ℕ × KeptMemory)). earlier c.loop-kept.first

@@ -12,5 +12,5 @@ abbrev pub invariant-loop-kept : goal.invariant-loop-kept
 invariant-loop-kept l =
     earlier l.first (judged (λ v. foreign_refusal (list_any (λ e. is_in_memory v (memory_of e.1)) l.kept-iterator))
     l.offset
-    (run_of l.span.va.0 l.span.len))
-    ≡ judged (λ v. foreign_refusal (is_memory_byte (ideal_of l.self) v)) l.offset (run_of l.span.va.0 l.span.len)
+    (run_of l.from l.len))
+    ≡ judged (λ v. foreign_refusal (is_memory_byte (ideal_of l.self) v)) l.offset (run_of l.from l.len)

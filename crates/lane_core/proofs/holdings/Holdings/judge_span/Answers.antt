@@ -10,7 +10,7 @@ pub returns-in-None : goal.returns-in-None
 returns-in-None c =
     let h = c.args.self.now in
     c.judge_shared.ensures
-    ∙ shared-judged (ideal_of h) c.args.map c.args.offset (run_of c.args.span.va.0 c.args.span.len)
+    ∙ shared-judged (ideal_of h) c.args.map c.args.offset (run_of c.args.from c.args.len)
     (image-none memory_of h.memories.map c.args.map (sym c.in-None.ensures))
 
 pub returns-in-Some : goal.returns-in-Some
@@ -18,5 +18,5 @@ returns-in-Some c =
     let h = c.args.self.now in
     let x = c.in-Some.kept.now in
     c.judge_own.ensures
-    ∙ own-judged (ideal_of h) c.args.map c.args.offset (memory_of x) (run_of c.args.span.va.0 c.args.span.len)
+    ∙ own-judged (ideal_of h) c.args.map c.args.offset (memory_of x) (run_of c.args.from c.args.len)
     (image-some memory_of h.memories.map c.args.map x (sym c.in-Some.ensures))

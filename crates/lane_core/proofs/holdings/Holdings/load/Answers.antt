@@ -1,26 +1,29 @@
-use Rattle.std.proofs.Common.{◌≡◌, ◌<◌, ◌≤◌, true, refl, sym, ap, ◌∙◌, arith}
+use Rattle.std.proofs.Common.{◌≡◌, ◌<◌, ◌≤◌, List, true, refl, sym, ap, ◌∙◌, subst, arith}
 use Rattle.std.specs.FinMap.{get}
 use Rattle.busdma_base.specs.declared.bounce.hold.HubCall.{HubCall}
 use Rattle.busdma_base.specs.declared.bounce.hold.HubCall.TheVariants.{Grab}
 use Rattle.busdma_base.specs.declared.journals.answer.Answer.TheVariants.{Refused}
 use Rattle.busdma_base.specs.declared.journals.report.Errno.TheVariants.{EINVAL}
-use Rattle.ideal_lane.specs.Loads.{granted, zone_of}
+use Rattle.busdma_base.specs.declared.machine.chunk.Chunk.{Chunk}
+use Rattle.ideal_lane.specs.Loads.{granted, limits_of, zone_of}
 use Rattle.ideal_lane.specs.Asking.{Gives}
 use Rattle.ideal_lane.specs.Outcomes.{gives, is_idle}
 use Rattle.ideal_lane.specs.State.{LaneMap, named}
 use Rattle.lane_core.specs.Covered.{is_idle_map}
 use Rattle.lane_core.specs.Ideal.{given, ideal_of}
 use Rattle.lane_core.specs.Kept.{map_of, memory_of}
-use Rattle.lane_core.specs.Loading.{bio_bytes, bio_chunks, bio_of}
+use Rattle.lane_core.specs.Loading.{IsWanted, bio_bytes, bio_chunks, bio_of}
 use Rattle.lane_core.proofs.AwaitingLoads.{awaiting-tried}
 use Rattle.lane_core.proofs.Asked.{few-wanted, load-absent, load-bounced, load-busy, load-direct, load-long}
-use Rattle.lane_core.proofs.Asked.{load-refused, x}
+use Rattle.lane_core.proofs.Asked.{load-refused, plain-chunks, plain-wanted, x}
 use Rattle.lane_core.proofs.Chunked.{all-reached}
 use Rattle.lane_core.proofs.Doors.{allowed-asks, asked, done-asks, done-gives, unasked}
 use Rattle.lane_core.proofs.Following.{stays-all}
 use Rattle.lane_core.proofs.IdlePages.{stays-idle, stays-same}
 use Rattle.lane_core.proofs.Keeping.{state-busy, state-idle}
 use Rattle.lane_core.proofs.MapValues.{image-none, image-some}
+use Rattle.lane_core.proofs.OperationSteps.{vacant}
+use Rattle.lane_core.proofs.OwnLoads.{first-loaded}
 use Rattle.lane_core.proofs.holdings.Holdings.load.Goals as goal
 
 pub returns-in_default-clause-done : goal.returns-in_default-clause-done
@@ -69,6 +72,45 @@ load_bounced-requires-clause-reached g c =
     all-reached (ideal_of c.args.self.now) c.args.map (bio_of c.args.bytes)
     (sym c.judge_load.ensures ∙ c.in_default-judge_load.is)
 
+pub measure_load-requires-clause-first : goal.measure_load-requires-clause-first
+measure_load-requires-clause-first g c =
+    let h = c.args.self.now in
+    let o = c.in-Some.kept.now in
+    first-loaded (ideal_of h) c.requires.laid c.requires.machine c.requires.stands c.args.map (map_of o)
+    (image-some map_of h.maps.map c.args.map o (sym c.in-Some.ensures)) (bio_of c.args.bytes)
+    (sym c.judge_load.ensures ∙ c.in_default-judge_load.is)
+
+pub load_direct-requires-clause-first : goal.load_direct-requires-clause-first
+load_direct-requires-clause-first g c =
+    let h = c.args.self.now in
+    let o = c.in-Some.kept.now in
+    first-loaded (ideal_of h) c.requires.laid c.requires.machine c.requires.stands c.args.map (map_of o)
+    (image-some map_of h.maps.map c.args.map o (sym c.in-Some.ensures)) (bio_of c.args.bytes)
+    (sym c.judge_load.ensures ∙ c.in_default-judge_load.is)
+
+pub load_bounced-requires-clause-own : goal.load_bounced-requires-clause-own
+load_bounced-requires-clause-own g c =
+    let h = c.args.self.now in
+    let o = c.in-Some.kept.now in
+    let need = c.in-Some-measure_load.wanted.need in
+    let there = image-some map_of h.maps.map c.args.map o (sym c.in-Some.ensures) in
+    let wanted = c.in-Some-measure_load.ensures.wanted (map_of o) there in
+    vacant memory_of h.memories.map c.args.map
+    (plain-wanted (ideal_of h) c.args.map (map_of o) (bio_of c.args.bytes) need
+    (c.requires.stands.each c.args.map (map_of o) there) wanted.need (omega (arith, c.if-wanted-eq0.false)))
+
+pub load_bounced-requires-clause-wanted : goal.load_bounced-requires-clause-wanted
+load_bounced-requires-clause-wanted g c other found =
+    let h = c.args.self.now in
+    let l = ideal_of h in
+    let need = c.in-Some-measure_load.wanted.need in
+    let b = bio_of c.args.bytes in
+    let wanted = c.in-Some-measure_load.ensures.wanted other found in
+    subst
+    (λ (cs : List Chunk). IsWanted (limits_of l other) cs (bio_bytes b) need c.in-Some-measure_load.wanted.segments)
+    (plain-chunks l c.args.map other b (plain-wanted l c.args.map other b need
+    (c.requires.stands.each c.args.map other found) wanted.need (omega (arith, c.if-wanted-eq0.false)))) wanted
+
 pub returns-in_default-measure_load-clause-done : goal.returns-in_default-measure_load-clause-done
 returns-in_default-measure_load-clause-done g c =
     let h = c.args.self.now in
@@ -92,8 +134,7 @@ returns-then-wanted-eq0-clause-done g c =
     done-gives (g.D.HubDoor.seen c.args.door.now) h.id.0 _ (given c.load_direct.new.self c.in_ok-answer.answer)
     (load-direct l c.args.map (bio_of c.args.bytes) c.args.nowait c.args.items.now (map_of o) there
     (state-idle o.need o.map.stage (sym c.state.ensures ∙ c.in-Idle.is))
-    (sym c.judge_load.ensures ∙ c.in_default-judge_load.is) wanted.short
-    (image-none memory_of h.memories.map c.args.map c.requires.own) (sym wanted.need ∙ c.if-wanted-eq0.true)
+    (sym c.judge_load.ensures ∙ c.in_default-judge_load.is) wanted.short (sym wanted.need ∙ c.if-wanted-eq0.true)
     ∙ ap Gives (sym (c.in_ok-answer.ensures.done (map_of o)
     (x l c.args.map (bio_of c.args.bytes) c.args.nowait c.args.items.now) there refl refl)))
 
@@ -106,7 +147,7 @@ load_bounced-requires-clause-few_pages g c =
     let there = image-some map_of h.maps.map c.args.map o (sym c.in-Some.ensures) in
     let wanted = c.in-Some-measure_load.ensures.wanted (map_of o) there in
     let few : c.in-Some-measure_load.wanted.need ≤ bio_bytes b =
-    few-wanted l (map_of o) b c.in-Some-measure_load.wanted.need wanted.need in
+    few-wanted l c.args.map (map_of o) b c.in-Some-measure_load.wanted.need wanted.need in
     let all = c.requires.few_pages in
     omega (arith, few, all)
 
@@ -128,7 +169,8 @@ load_bounced-requires-clause-allowed g c other found =
     allowed-asks d h.id.0 _ (Grab (named l m) (record { 0 = zone_of other }) need c.args.nowait) _
     (load-bounced l m (bio_of c.args.bytes) c.args.nowait c.args.items.now other found on
     (sym c.judge_load.ensures ∙ c.in_default-judge_load.is) wanted.short
-    (image-none memory_of h.memories.map m c.requires.own) need wanted.need some)
+    (plain-wanted l m other (bio_of c.args.bytes) need (c.requires.stands.each m other found) wanted.need some) need
+    wanted.need some)
     c.requires.allowed
 
 pub returns-clause-done : goal.returns-clause-done
@@ -152,7 +194,8 @@ returns-clause-done g c =
     (load-bounced l m (bio_of c.args.bytes) c.args.nowait c.args.items.now (map_of o) there
     (state-idle o.need o.map.stage (sym c.state.ensures ∙ c.in-Idle.is))
     (sym c.judge_load.ensures ∙ c.in_default-judge_load.is) wanted.short
-    (image-none memory_of h.memories.map m c.requires.own) need wanted.need some)
+    (plain-wanted l m (map_of o) (bio_of c.args.bytes) need (c.requires.stands.each m (map_of o) there) wanted.need
+    some) need wanted.need some)
     (c.in_ok-answer-2.ensures.done (map_of o) ask there refl refl)
 
 pub returns-clause-promised : goal.returns-clause-promised
@@ -163,7 +206,7 @@ returns-clause-promised g c =
     let there = image-some map_of c.args.self.now.maps.map c.args.map o (sym c.in-Some.ensures) in
     let wanted = c.in-Some-measure_load.ensures.wanted (map_of o) there in
     let few : c.in-Some-measure_load.wanted.need ≤ bio_bytes b =
-    few-wanted l (map_of o) b c.in-Some-measure_load.wanted.need wanted.need in
+    few-wanted l c.args.map (map_of o) b c.in-Some-measure_load.wanted.need wanted.need in
     let more = c.load_bounced.ensures.promised in
     omega (arith, few, more)
 
@@ -218,8 +261,7 @@ returns-then-wanted-eq0-clause-held g c =
     let wanted = c.in-Some-measure_load.ensures.wanted (map_of o) there in
     unasked _ _ (load-direct (ideal_of h) c.args.map (bio_of c.args.bytes) c.args.nowait c.args.items.now
     (map_of o) there (state-idle o.need o.map.stage (sym c.state.ensures ∙ c.in-Idle.is))
-    (sym c.judge_load.ensures ∙ c.in_default-judge_load.is) wanted.short
-    (image-none memory_of h.memories.map c.args.map c.requires.own) (sym wanted.need ∙ c.if-wanted-eq0.true))
+    (sym c.judge_load.ensures ∙ c.in_default-judge_load.is) wanted.short (sym wanted.need ∙ c.if-wanted-eq0.true))
 
 pub returns-clause-held : goal.returns-clause-held
 returns-clause-held g c =
@@ -232,7 +274,8 @@ returns-clause-held g c =
     asked _ _ _ (load-bounced (ideal_of h) c.args.map (bio_of c.args.bytes) c.args.nowait
     c.args.items.now (map_of o) there (state-idle o.need o.map.stage (sym c.state.ensures ∙ c.in-Idle.is))
     (sym c.judge_load.ensures ∙ c.in_default-judge_load.is) wanted.short
-    (image-none memory_of h.memories.map c.args.map c.requires.own) need wanted.need some)
+    (plain-wanted (ideal_of h) c.args.map (map_of o) (bio_of c.args.bytes) need
+    (c.requires.stands.each c.args.map (map_of o) there) wanted.need some) need wanted.need some)
 
 pub returns-in_default-clause-bytes : goal.returns-in_default-clause-bytes
 returns-in_default-clause-bytes g c = stays-same c.args.self.now
@@ -283,6 +326,6 @@ returns-in_err-answer-2-clause-promised g c =
     let there = image-some map_of c.args.self.now.maps.map c.args.map o (sym c.in-Some.ensures) in
     let wanted = c.in-Some-measure_load.ensures.wanted (map_of o) there in
     let few : c.in-Some-measure_load.wanted.need ≤ bio_bytes b =
-    few-wanted l (map_of o) b c.in-Some-measure_load.wanted.need wanted.need in
+    few-wanted l c.args.map (map_of o) b c.in-Some-measure_load.wanted.need wanted.need in
     let more = c.load_bounced.ensures.promised in
     omega (arith, few, more)

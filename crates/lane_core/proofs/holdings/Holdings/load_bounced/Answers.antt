@@ -200,7 +200,7 @@ take_grabbed-requires-clause-next g c =
     let place : c.ready_load.new.self.agenda.place ≡ c.args.self.now.agenda.place = ap (λ a. a.place) ready.promised in
     let at =
     at-same c.args.self.now c.ready_load.new.self c.args.self.now.agenda.place c.args.map (bio_of c.args.bytes)
-    c.args.items.now script next in
+    c.args.items.now script (ap (λ (y : LaneState). y.mems) ready.same.ideal) next in
     subst (λ (p : ℕ × List Item). IsLoadAt c.ready_load.new.self p.0 c.args.map (bio_of c.args.bytes) p.1)
     (λ i. (sym place i, sym items i)) at
 

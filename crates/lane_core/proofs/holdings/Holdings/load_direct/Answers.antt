@@ -12,7 +12,8 @@ use Rattle.ideal_lane.specs.Standing.{Stands}
 use Rattle.ideal_lane.specs.State.{LaneMap, LaneState}
 use Rattle.lane_core.specs.Covered.{is_idle_map}
 use Rattle.lane_core.specs.Ideal.{ideal_of}
-use Rattle.lane_core.specs.Loading.{HasRoomForAny, IsLoadable, bio_bytes, bio_chunks, bio_of, bio_reached, load_loan}
+use Rattle.lane_core.specs.Loading.{AreItsFirst, HasRoomForAny, IsLoadable, bio_bytes, bio_of, bio_reached}
+use Rattle.lane_core.specs.Loading.{load_loan, map_chunks}
 use Rattle.lane_core.proofs.AwaitingLoads.{awaiting-but, awaiting-ready, awaiting-same, idle-unprepared, prepared-more}
 use Rattle.lane_core.proofs.Preparing.{room-for-any}
 use Rattle.lane_core.proofs.holdings.Holdings.load_direct.Goals as goal
@@ -32,9 +33,9 @@ complete_load-requires c =
     let need : c.args.wanted.need ≡ length c.in_ok-pages.pages.items =
     c.requires.direct ∙ sym (ap (λ (ps : List FrameBytes). length ps) none) in
     let room : (o : LaneMap) → get l.maps k ≡ Some o →
-    HasRoomForAny (limits_of l o) (bio_chunks l o b) (length c.in_ok-pages.pages.items) c.in_ok-room.room =
-    λ o found. subst (λ n. HasRoomForAny (limits_of l o) (bio_chunks l o b) n c.in_ok-room.room) need
-    (room-for-any (limits_of l o) (bio_chunks l o b) (bio_bytes b) c.args.wanted.need c.args.wanted.segments
+    HasRoomForAny (limits_of l o) (map_chunks l k o b) (length c.in_ok-pages.pages.items) c.in_ok-room.room =
+    λ o found. subst (λ n. HasRoomForAny (limits_of l o) (map_chunks l k o b) n c.in_ok-room.room) need
+    (room-for-any (limits_of l o) (map_chunks l k o b) (bio_bytes b) c.args.wanted.need c.args.wanted.segments
     c.in_ok-room.room (c.requires.wanted o found) r.list r.shown r.bounced r.list_room r.shown_room r.bounced_room
     r.addresses r.addresses_room) in
     let loan = load_loan l k b in
@@ -48,10 +49,11 @@ complete_load-requires c =
           (prepared-more h.loans.prepared mid.loans.prepared k loan done.prepared)
           (awaiting-but h k c.requires.awaiting);
       reached = ap (λ (x : LaneState). bio_reached x b) e ∙ c.requires.reached;
+      first = subst (λ (x : LaneState). AreItsFirst x k b) (sym e) c.requires.first;
       loadable = subst (λ (ps : List PageRun). IsLoadable ps b) (sym (ap (λ (x : LaneState). x.pages) e))
           c.requires.loadable;
       room = subst (λ (x : LaneState). (o : LaneMap) → get x.maps k ≡ Some o →
-          HasRoomForAny (limits_of x o) (bio_chunks x o b) (length c.in_ok-pages.pages.items) c.in_ok-room.room)
+          HasRoomForAny (limits_of x o) (map_chunks x k o b) (length c.in_ok-pages.pages.items) c.in_ok-room.room)
           (sym e) room;
       prepared = subst (λ (x : LaneState). get mid.loans.prepared k ≡ Some (load_loan x k b)) (sym e) prepared;
       few_items = subst (λ (is : List Item). length is ≤ mid.agenda.room) (sym items)
@@ -72,7 +74,7 @@ returns-clause-done c o x found entries items =
     let same : c.in_ok-items.items ≡ c.args.items.now = each_same _ _ c.in_ok-items.ensures.cases in
     c.complete_load.ensures.done o x (ap (λ (y : LaneState). get y.maps k) e ∙ found)
     (entries ∙ sym (ap (λ (y : LaneState). load_entries y b) e)) (items ∙ sym same)
-    ∙ (λ i. finished k o ((c.place-load_at.ensures ∙ ap (λ a. a.place) done.agenda) i) x (bio_chunks (e i) o b)
+    ∙ (λ i. finished k o ((c.place-load_at.ensures ∙ ap (λ a. a.place) done.agenda) i) x (map_chunks (e i) k o b)
     (page_addresses (none i)) (e i))
 
 pub returns-clause-bytes : goal.returns-clause-bytes

@@ -1,22 +1,17 @@
-use Rattle.std.proofs.Common.{◌≡◌, ◌≤◌, ◌<◌, ◌+◌, ◌^◌, IfOk, Some, length, refl, ap, sym, ◌∙◌, subst, arith}
+use Rattle.std.proofs.Common.{◌≡◌, ◌≤◌, ◌+◌, IfOk, Some, length, refl, ap, sym, ◌∙◌, subst, arith}
 use Rattle.busdma_base.specs.declared.scenarios.script.Op.{Op}
 use Rattle.busdma_base.specs.Scenarios.Operations.{items_of, loaded_by}
 use Rattle.ideal_lane.specs.Accesses.{cpu_write}
-use Rattle.ideal_lane.specs.Asking.{Asking}
-use Rattle.ideal_lane.specs.Outcomes.{Outcome}
 use Rattle.ideal_lane.specs.Turns.{operation}
 use Rattle.ideal_wire.specs.WireStep as wires
 use Rattle.lane_core.specs.Doing.{IsAllowedBy, IsDone, asks}
 use Rattle.lane_core.specs.Ideal.{given, ideal_of}
-use Rattle.lane_core.specs.Kept.{map_of, tag_of}
-use Rattle.lane_core.specs.Loading.{bio_of}
+use Rattle.lane_core.specs.Kept.{map_of, memory_of, tag_of}
 use Rattle.lane_core.specs.Wire.{wire_of}
-use Rattle.lane_core.proofs.Doors.{always-ok}
+use Rattle.lane_core.proofs.Doors.{always-ok, ok-weak}
 use Rattle.lane_core.proofs.Following.{stays-all, stays-held}
-use Rattle.lane_core.proofs.LoadsAt.{bytes-is, loadable-at}
 use Rattle.lane_core.proofs.ScriptTurns.{few-items}
-use Rattle.lane_core.proofs.SmallLoads.{few-promised}
-use Rattle.lane_core.proofs.OperationSteps.{done-wire, load-named, paged-wire, quiet-done, quiet-held, vacant}
+use Rattle.lane_core.proofs.OperationSteps.{beside-wire, done-wire, paged-wire, quiet-done, quiet-held, vacant}
 use Rattle.lane_core.proofs.holdings.Holdings.operation.Goals as goal
 
 pub make_tag-requires-clause-allowed : goal.make_tag-requires-clause-allowed
@@ -40,7 +35,8 @@ returns-in-Tag-clause-held g c =
 
 pub returns-in-Tag-clause-wire : goal.returns-in-Tag-clause-wire
 returns-in-Tag-clause-wire g c =
-    always-ok c.make_tag.result (paged-wire c.args.self.now c.make_tag.new.self c.args.op.now _ c.in-Tag.is refl
+    always-ok c.make_tag.result (paged-wire c.args.self.now c.make_tag.new.self c.args.op.now _ c.in-Tag.is
+    c.make_tag.ensures.memories refl
     (stays-all c.args.self.now c.make_tag.new.self c.make_tag.ensures.bytes))
 
 pub make_map-requires-clause-allowed : goal.make_map-requires-clause-allowed
@@ -64,36 +60,108 @@ returns-in-Map-clause-held g c =
 
 pub returns-in-Map-clause-wire : goal.returns-in-Map-clause-wire
 returns-in-Map-clause-wire g c =
-    always-ok c.make_map.result (paged-wire c.args.self.now c.make_map.new.self c.args.op.now _ c.in-Map.is refl
+    always-ok c.make_map.result (paged-wire c.args.self.now c.make_map.new.self c.args.op.now _ c.in-Map.is
+    c.make_map.ensures.memories refl
     (stays-all c.args.self.now c.make_map.new.self c.make_map.ensures.bytes))
 
-pub load-requires-clause-allowed : goal.load-requires-clause-allowed
-load-requires-clause-allowed g c =
+pub make_memory-requires-clause-allowed : goal.make_memory-requires-clause-allowed
+make_memory-requires-clause-allowed g c =
     let h = c.args.self.now in
-    subst (IsAllowedBy (g.D.HubDoor.seen c.args.door.now) h.id.0)
-    (load-named (ideal_of h) c.args.op.now _ _ _ _ (bio_of c.of.result) c.never_waits-nowait.result c.in-Load.is
-    (c.of.ensures (ideal_of h)) c.never_waits-nowait.ensures)
+    subst (λ (o : Op). IsAllowedBy (g.D.HubDoor.seen c.args.door.now) h.id.0 (operation o (ideal_of h)))
+    c.in-Dmamem.is c.requires.allowed
+
+pub returns-in-Dmamem-clause-done : goal.returns-in-Dmamem-clause-done
+returns-in-Dmamem-clause-done g c =
+    let h = c.args.self.now in
+    subst (λ (o : Op). IfOk c.make_memory.result (λ r. IsDone (g.D.HubDoor.seen c.args.door.now) h.id.0
+    (operation o (ideal_of h)) (given c.make_memory.new.self r.answer) (g.D.HubDoor.seen c.make_memory.new.door)))
+    (sym c.in-Dmamem.is) c.make_memory.ensures.done
+
+pub returns-in-Dmamem-clause-held : goal.returns-in-Dmamem-clause-held
+returns-in-Dmamem-clause-held g c =
+    let h = c.args.self.now in
+    subst (λ (o : Op). IfOk c.make_memory.result (λ r. r.held ≡ asks (operation o (ideal_of h))))
+    (sym c.in-Dmamem.is) c.make_memory.ensures.held
+
+pub returns-in-Dmamem-clause-wire : goal.returns-in-Dmamem-clause-wire
+returns-in-Dmamem-clause-wire g c =
+    ok-weak c.make_memory.result
+    (beside-wire c.args.self.now c.make_memory.new.self c.args.op.now _ c.in-Dmamem.is refl) c.make_memory.ensures.bytes
+
+pub end_memory-requires-clause-allowed : goal.end_memory-requires-clause-allowed
+end_memory-requires-clause-allowed g c =
+    let h = c.args.self.now in
+    subst (λ (o : Op). IsAllowedBy (g.D.HubDoor.seen c.args.door.now) h.id.0 (operation o (ideal_of h)))
+    c.in-DmamemFree.is c.requires.allowed
+
+pub returns-in-DmamemFree-clause-done : goal.returns-in-DmamemFree-clause-done
+returns-in-DmamemFree-clause-done g c =
+    let h = c.args.self.now in
+    subst (λ (o : Op). IfOk c.end_memory.result (λ r. IsDone (g.D.HubDoor.seen c.args.door.now) h.id.0
+    (operation o (ideal_of h)) (given c.end_memory.new.self r.answer) (g.D.HubDoor.seen c.end_memory.new.door)))
+    (sym c.in-DmamemFree.is) c.end_memory.ensures.done
+
+pub returns-in-DmamemFree-clause-held : goal.returns-in-DmamemFree-clause-held
+returns-in-DmamemFree-clause-held g c =
+    let h = c.args.self.now in
+    subst (λ (o : Op). IfOk c.end_memory.result (λ r. r.held ≡ asks (operation o (ideal_of h))))
+    (sym c.in-DmamemFree.is) c.end_memory.ensures.held
+
+pub returns-in-DmamemFree-clause-wire : goal.returns-in-DmamemFree-clause-wire
+returns-in-DmamemFree-clause-wire g c =
+    ok-weak c.end_memory.result
+    (beside-wire c.args.self.now c.end_memory.new.self c.args.op.now _ c.in-DmamemFree.is refl)
+    c.end_memory.ensures.bytes
+
+pub make_memory-requires-clause-no_map : goal.make_memory-requires-clause-no_map
+make_memory-requires-clause-no_map g c =
+    let h = c.args.self.now in
+    vacant map_of h.maps.map h.agenda.place (c.requires.stands.no_map h.agenda.place (omega arith))
+
+pub make_memory-requires-clause-vacant : goal.make_memory-requires-clause-vacant
+make_memory-requires-clause-vacant g c =
+    let h = c.args.self.now in
+    vacant memory_of h.memories.map h.agenda.place (c.requires.stands.no_memory h.agenda.place (omega arith))
+
+pub load_buffer-requires-clause-here : goal.load_buffer-requires-clause-here
+load_buffer-requires-clause-here g c = c.requires.here ∙ ap (λ (o : Op). Some o) c.in-Load.is
+
+pub load_buffer-requires-clause-few_items : goal.load_buffer-requires-clause-few_items
+load_buffer-requires-clause-few_items g c =
+    let h = c.args.self.now in
+    subst (λ (o : Op). length (items_of o) ≤ h.agenda.room) c.in-Load.is
+    (few-items h c.args.op.now c.requires.here c.requires.room)
+
+pub load_buffer-requires-clause-allowed : goal.load_buffer-requires-clause-allowed
+load_buffer-requires-clause-allowed g c =
+    let h = c.args.self.now in
+    subst (λ (o : Op). IsAllowedBy (g.D.HubDoor.seen c.args.door.now) h.id.0 (operation o (ideal_of h))) c.in-Load.is
     c.requires.allowed
 
 pub returns-in-Load-clause-done : goal.returns-in-Load-clause-done
 returns-in-Load-clause-done g c =
     let h = c.args.self.now in
-    subst (λ (step : Asking Outcome). IfOk c.load.result (λ r. IsDone (g.D.HubDoor.seen c.args.door.now) h.id.0
-    step (given c.load.new.self r.answer) (g.D.HubDoor.seen c.load.new.door)))
-    (sym (load-named (ideal_of h) c.args.op.now _ _ _ _ (bio_of c.of.result) c.never_waits-nowait.result c.in-Load.is
-    (c.of.ensures (ideal_of h)) c.never_waits-nowait.ensures)) c.load.ensures.done
+    subst (λ (o : Op). IfOk c.load_buffer.result (λ r. IsDone (g.D.HubDoor.seen c.args.door.now) h.id.0
+    (operation o (ideal_of h)) (given c.load_buffer.new.self r.answer) (g.D.HubDoor.seen c.load_buffer.new.door)))
+    (sym c.in-Load.is) c.load_buffer.ensures.done
 
 pub returns-in-Load-clause-held : goal.returns-in-Load-clause-held
 returns-in-Load-clause-held g c =
     let h = c.args.self.now in
-    subst (λ (step : Asking Outcome). IfOk c.load.result (λ r. r.held ≡ asks step))
-    (sym (load-named (ideal_of h) c.args.op.now _ _ _ _ (bio_of c.of.result) c.never_waits-nowait.result c.in-Load.is
-    (c.of.ensures (ideal_of h)) c.never_waits-nowait.ensures)) c.load.ensures.held
+    subst (λ (o : Op). IfOk c.load_buffer.result (λ r. r.held ≡ asks (operation o (ideal_of h)))) (sym c.in-Load.is)
+    c.load_buffer.ensures.held
 
 pub returns-in-Load-clause-wire : goal.returns-in-Load-clause-wire
 returns-in-Load-clause-wire g c =
-    always-ok c.load.result (paged-wire c.args.self.now c.load.new.self c.args.op.now _ c.in-Load.is refl
-    c.load.ensures.bytes)
+    always-ok c.load_buffer.result (paged-wire c.args.self.now c.load_buffer.new.self c.args.op.now _ c.in-Load.is
+    c.load_buffer.ensures.memories refl
+    c.load_buffer.ensures.bytes)
+
+pub returns-in-Load-clause-promised : goal.returns-in-Load-clause-promised
+returns-in-Load-clause-promised g c =
+    let h = c.args.self.now in
+    subst (λ n. c.load_buffer.new.self.agenda.promised ≤ h.agenda.promised + n) (sym (ap loaded_by c.in-Load.is))
+    c.load_buffer.ensures.promised
 
 pub destroy_map-requires : goal.destroy_map-requires
 destroy_map-requires g c =
@@ -118,7 +186,8 @@ returns-in-MapDestroy-clause-held g c =
 
 pub returns-in-MapDestroy-clause-wire : goal.returns-in-MapDestroy-clause-wire
 returns-in-MapDestroy-clause-wire g c =
-    paged-wire c.args.self.now c.destroy_map.new.self c.args.op.now _ c.in-MapDestroy.is refl
+    paged-wire c.args.self.now c.destroy_map.new.self c.args.op.now _ c.in-MapDestroy.is
+    c.destroy_map.ensures.memories refl
     (stays-all c.args.self.now c.destroy_map.new.self c.destroy_map.ensures.bytes)
 
 pub returns-in-TagDestroy-clause-done : goal.returns-in-TagDestroy-clause-done
@@ -135,7 +204,8 @@ returns-in-TagDestroy-clause-held g c =
 
 pub returns-in-TagDestroy-clause-wire : goal.returns-in-TagDestroy-clause-wire
 returns-in-TagDestroy-clause-wire g c =
-    paged-wire c.args.self.now c.destroy_tag.new.self c.args.op.now _ c.in-TagDestroy.is refl
+    paged-wire c.args.self.now c.destroy_tag.new.self c.args.op.now _ c.in-TagDestroy.is
+    c.destroy_tag.ensures.memories refl
     (stays-all c.args.self.now c.destroy_tag.new.self c.destroy_tag.ensures.bytes)
 
 pub returns-in-Unload-clause-done : goal.returns-in-Unload-clause-done
@@ -152,7 +222,8 @@ returns-in-Unload-clause-held g c =
 
 pub returns-in-Unload-clause-wire : goal.returns-in-Unload-clause-wire
 returns-in-Unload-clause-wire g c =
-    paged-wire c.args.self.now c.unload.new.self c.args.op.now _ c.in-Unload.is refl
+    paged-wire c.args.self.now c.unload.new.self c.args.op.now _ c.in-Unload.is
+    c.unload.ensures.memories refl
     (stays-held c.args.self.now c.unload.new.self c.unload.ensures.bytes)
 
 pub returns-in_ok-sync-in-Sync-clause-done : goal.returns-in_ok-sync-in-Sync-clause-done
@@ -169,7 +240,8 @@ returns-in_ok-sync-in-Sync-clause-held g c =
 
 pub returns-in_ok-sync-in-Sync-clause-wire : goal.returns-in_ok-sync-in-Sync-clause-wire
 returns-in_ok-sync-in-Sync-clause-wire g c =
-    done-wire c.args.self.now c.sync.new.self c.args.op.now _ c.in-Sync.is c.in_ok-sync-in-Sync.ensures.wire
+    done-wire c.args.self.now c.sync.new.self c.args.op.now _ c.in-Sync.is c.sync.ensures.memories
+    c.in_ok-sync-in-Sync.ensures.wire
 
 pub returns-in_ok-sync_range-in-SyncRange-clause-done : goal.returns-in_ok-sync_range-in-SyncRange-clause-done
 returns-in_ok-sync_range-in-SyncRange-clause-done g c =
@@ -185,7 +257,7 @@ returns-in_ok-sync_range-in-SyncRange-clause-held g c =
 
 pub returns-in_ok-sync_range-in-SyncRange-clause-wire : goal.returns-in_ok-sync_range-in-SyncRange-clause-wire
 returns-in_ok-sync_range-in-SyncRange-clause-wire g c =
-    done-wire c.args.self.now c.sync_range.new.self c.args.op.now _ c.in-SyncRange.is
+    done-wire c.args.self.now c.sync_range.new.self c.args.op.now _ c.in-SyncRange.is c.sync_range.ensures.memories
     c.in_ok-sync_range-in-SyncRange.ensures.wire
 
 pub returns-in_ok-cpu_read-in-CpuRead-clause-done : goal.returns-in_ok-cpu_read-in-CpuRead-clause-done
@@ -202,7 +274,7 @@ returns-in_ok-cpu_read-in-CpuRead-clause-held g c =
 
 pub returns-in_ok-cpu_read-in-CpuRead-clause-wire : goal.returns-in_ok-cpu_read-in-CpuRead-clause-wire
 returns-in_ok-cpu_read-in-CpuRead-clause-wire g c =
-    done-wire c.args.self.now c.args.self.now c.args.op.now _ c.in-CpuRead.is refl
+    done-wire c.args.self.now c.args.self.now c.args.op.now _ c.in-CpuRead.is refl refl
 
 pub returns-in_ok-cpu_write-in-CpuWrite-clause-done : goal.returns-in_ok-cpu_write-in-CpuWrite-clause-done
 returns-in_ok-cpu_write-in-CpuWrite-clause-done g c =
@@ -222,7 +294,7 @@ returns-in_ok-cpu_write-in-CpuWrite-clause-held g c =
 
 pub returns-in_ok-cpu_write-in-CpuWrite-clause-wire : goal.returns-in_ok-cpu_write-in-CpuWrite-clause-wire
 returns-in_ok-cpu_write-in-CpuWrite-clause-wire g c =
-    done-wire c.args.self.now c.cpu_write.new.self c.args.op.now _ c.in-CpuWrite.is
+    done-wire c.args.self.now c.cpu_write.new.self c.args.op.now _ c.in-CpuWrite.is c.cpu_write.ensures.memories
     (c.in_ok-cpu_write-in-CpuWrite.ensures.wire
     ∙ ap (λ vs. wires.cpu_write c.in-CpuWrite.place vs (ideal_of c.args.self.now) (wire_of c.args.self.now))
     (c.deref.ensures.value ∙ c.in_ok-bytes-in-CpuWrite.ensures))
@@ -241,7 +313,7 @@ returns-in-Await-clause-held g c =
 
 pub returns-in-Await-clause-wire : goal.returns-in-Await-clause-wire
 returns-in-Await-clause-wire g c =
-    done-wire c.args.self.now c.args.self.now c.args.op.now _ c.in-Await.is refl
+    done-wire c.args.self.now c.args.self.now c.args.op.now _ c.in-Await.is refl refl
 
 pub make_tag-requires-clause-vacant : goal.make_tag-requires-clause-vacant
 make_tag-requires-clause-vacant g c =
@@ -252,37 +324,3 @@ pub make_map-requires-clause-vacant : goal.make_map-requires-clause-vacant
 make_map-requires-clause-vacant g c =
     let h = c.args.self.now in
     vacant map_of h.maps.map h.agenda.place (c.requires.stands.no_map h.agenda.place (omega arith))
-
-pub load-requires-clause-next : goal.load-requires-clause-next
-load-requires-clause-next g c = record {
-  buffer = c.in-Load.buffer;
-  flags = c.in-Load.flags;
-  load = c.requires.here ∙ ap (λ (o : Op). Some o) c.in-Load.is;
-  bytes = c.of.ensures (ideal_of c.args.self.now);
-}
-
-pub load-requires-clause-loadable : goal.load-requires-clause-loadable
-load-requires-clause-loadable g c =
-    let h = c.args.self.now in
-    loadable-at h h.agenda.place _ (bio_of c.of.result) _ c.requires.wired.machine c.requires.provided.small
-    (load-requires-clause-next g c)
-
-pub load-requires-clause-few_items : goal.load-requires-clause-few_items
-load-requires-clause-few_items g c =
-    let h = c.args.self.now in
-    subst (λ (o : Op). length (items_of o) ≤ h.agenda.room) c.in-Load.is
-    (few-items h c.args.op.now c.requires.here c.requires.room)
-
-pub load-requires-clause-few_pages : goal.load-requires-clause-few_pages
-load-requires-clause-few_pages g c =
-    let h = c.args.self.now in
-    let bytes = bytes-is (ideal_of h) c.in-Load.buffer (bio_of c.of.result) (c.of.ensures (ideal_of h)) in
-    subst (λ n. h.agenda.promised + n < 2 ^ 32) (ap loaded_by c.in-Load.is ∙ sym bytes)
-    (few-promised h c.requires.provided.small c.args.op.now c.requires.here)
-
-pub returns-in-Load-clause-promised : goal.returns-in-Load-clause-promised
-returns-in-Load-clause-promised g c =
-    let h = c.args.self.now in
-    let bytes = bytes-is (ideal_of h) c.in-Load.buffer (bio_of c.of.result) (c.of.ensures (ideal_of h)) in
-    subst (λ n. c.load.new.self.agenda.promised ≤ h.agenda.promised + n) (bytes ∙ sym (ap loaded_by c.in-Load.is))
-    c.load.ensures.promised

@@ -94,7 +94,7 @@ returns-in_err-answer-clause-provided g c =
     let agenda = c.in_err-answer.ensures.unpromised in
     let promised = ap (λ a. a.promised) agenda in
     provided-same c.args.self.now c.operation.new.self c.requires.provided c.operation.ensures.awaiting
-    (ap (λ l. l.script) c.in_err-answer.ensures.err.ideal) c.operation.ensures.memories
+    (ap (λ l. l.script) c.in_err-answer.ensures.err.ideal)
     c.operation.ensures.agenda.place
     (omega (arith, promised))
 
@@ -115,5 +115,5 @@ returns-clause-provided g c =
     provided-next h n c.requires.provided (c.advance.ensures.awaiting done.awaiting)
     (made-script h n (g.D.HubDoor.seen c.args.door.now) (g.D.HubDoor.seen c.operation.new.door) side.Script
     c.stepped.result c.requires.ready (returns-clause-made g c))
-    (c.advance.ensures.rest.most.memories ∙ done.memories) c.in-Some.op.now here
+    c.in-Some.op.now here
     (ap (λ a. a.place) on ∙ ap (λ p. p + 1) done.agenda.place) (omega (arith, promised, few))

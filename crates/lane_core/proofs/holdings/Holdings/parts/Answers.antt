@@ -1,4 +1,4 @@
-use Rattle.std.proofs.Common.{◌≡◌, ◌∷◌, [], List, ◌≤◌, ◌^◌, sym, ap, ◌∙◌, subst}
+use Rattle.std.proofs.Common.{◌≡◌, List, ◌≤◌, ◌^◌, sym, ap, ◌∙◌, subst, arith}
 use Rattle.busdma_base.specs.declared.machine.bio.Bio.TheVariants.{Unmapped}
 use Rattle.busdma_base.specs.declared.machine.chunk.Part.{Part}
 use Rattle.busdma_base.specs.Machine.Spans.{one_span}
@@ -6,24 +6,25 @@ use Rattle.busdma_base.specs.Runs.{addresses, byte_count}
 use Rattle.busdma_base.specs.Scenarios.Buffers.{IsBioOf}
 use Rattle.load_bio.specs.Bio.{IsBio, bio_stream}
 use Rattle.loan_table.specs.Table.{AreIn}
+use Rattle.phys_memory.proofs.Loads.{one_bytes}
 use Rattle.ideal_lane.specs.Places.{physical}
 use Rattle.lane_core.specs.Ideal.{ideal_of}
-use Rattle.lane_core.specs.Loading.{bio_of, stream_extents}
+use Rattle.lane_core.specs.declared.buffers.LoadBytes.{LoadBytes}
+use Rattle.lane_core.specs.Loading.{bio_bytes, bio_of, load_stream, stream_extents}
 use Rattle.lane_core.proofs.LoadStreams.{frames-inside, mapped-inside, stream-total}
 use Rattle.lane_core.proofs.Reading.{physical-same}
 use Rattle.lane_core.proofs.holdings.Holdings.parts.Goals as goal
 
+pub parts_from-requires : goal.parts_from-requires
+parts_from-requires c =
+    let is = ap (λ (b : LoadBytes). bio_bytes (bio_of b)) c.in-Span.is in
+    let small = c.requires.small in
+    omega (arith, is, one_bytes c.in-Span.va c.in-Span.len, small)
+
 pub returns-in-Span-clause-parts : goal.returns-in-Span-clause-parts
 returns-in-Span-clause-parts c =
-    let h = c.args.self.now in
-    c.parts_of_span.ensures.parts
-    ∙ (λ i. bio_stream (sym (physical-same h) i) (bio_of (sym c.in-Span.is i)))
-
-pub returns-in-Span-clause-there : goal.returns-in-Span-clause-there
-returns-in-Span-clause-there c =
-    let h = c.args.self.now in
-    subst (λ (ps : List Part). AreIn h.loans.bytes (addresses (stream_extents ps))) (sym c.parts_of_span.ensures.parts)
-    (mapped-inside h.memory.memory h.loans.bytes (c.in-Span.span ∷ []) c.parts_of_span.ensures.sound h.covered)
+    let l = ideal_of c.args.self.now in
+    c.parts_from.ensures.parts ∙ ap (λ (b : LoadBytes). load_stream l (bio_of b)) (sym c.in-Span.is)
 
 pub returns-in-Span-clause-total : goal.returns-in-Span-clause-total
 returns-in-Span-clause-total c =

@@ -1,16 +1,14 @@
-use Rattle.std.proofs.Common.{◌≡◌, ◌<◌, ◌^◌, List, false, Result, Ok, Err, OnOk, sym, ap, ◌∙◌, subst, arith}
-use Rattle.std.specs.FinMap.{get, insert}
+use Rattle.std.proofs.Common.{◌≡◌, ◌<◌, ◌^◌, List, Result, Ok, Err, OnOk, sym, ap, ◌∙◌, subst, arith}
+use Rattle.std.specs.FinMap.{insert}
 use Rattle.busdma_base.specs.declared.machine.address.Extent.{Extent}
 use Rattle.busdma_base.specs.Machine.Entry.{entries_addresses}
 use Rattle.busdma_base.specs.Runs.{addresses, byte_count}
 use Rattle.loan_table.specs.Loans.{new_loan}
 use Rattle.loan_table.specs.Table.{AreIn}
-use Rattle.ideal_lane.specs.Loads.{is_coherent, load_entries}
+use Rattle.ideal_lane.specs.Loads.{load_entries}
 use Rattle.lane_core.specs.Ideal.{ideal_of}
-use Rattle.lane_core.specs.Kept.{memory_of}
 use Rattle.lane_core.specs.Loading.{bio_of, stream_extents}
 use Rattle.lane_core.proofs.LoadStreams.{stream-bytes}
-use Rattle.lane_core.proofs.MapValues.{image-none}
 use Rattle.lane_core.proofs.holdings.Holdings.prepare_load.Goals as goal
 
 on-ok : {T E : Type 0} (P Q : Type 0) (r : Result T E) → (P → Q) → OnOk r P → OnOk r Q
@@ -37,8 +35,7 @@ returns-clause-prepared c =
     let bytes : addresses c.deref.result.now ≡ entries_addresses (load_entries l (bio_of c.args.bytes)) =
     ap addresses (c.deref.ensures.value ∙ c.in_ok-extents.ensures ∙ ap stream_extents c.parts.ensures.parts)
     ∙ stream-bytes l (bio_of c.args.bytes) in
-    let coherent : false ≡ is_coherent (get l.mems c.args.map) =
-    sym (ap is_coherent (image-none memory_of h.memories.map c.args.map c.requires.own)) in
+    let coherent = c.is_coherent-coherent.ensures in
     on-ok _ _ c.prepare_map.result
     (λ e. e ∙ (λ i. insert h.loans.prepared (c.map_id-id.ensures i).made_at (new_loan (coherent i) (bytes i))))
     c.prepare_map.ensures.prepared

@@ -5,5 +5,6 @@ pub returns-clause-made : goal.returns-clause-made
 returns-clause-made g c =
     back-made c.args.self.now c.release.new.self (g.D.HubDoor.seen c.args.door.now)
     (g.D.HubDoor.seen c.release.new.door) c.in_ok-map.field-0 c.in_ok-map.ensures.done c.in_ok-map.ensures.some
-    c.release.ensures.bytes c.release.ensures.length c.release.ensures.room c.release.ensures.queue c.stepped.result
+    c.release.ensures.bytes c.release.ensures.memories c.release.ensures.length c.release.ensures.room
+    c.release.ensures.queue c.stepped.result
     c.stepped.ensures

@@ -23,7 +23,7 @@ pub returns-in-Some-clause-provided : goal.returns-in-Some-clause-provided
 returns-in-Some-clause-provided g c =
     let r = c.return_turn.ensures in
     provided-same c.args.self.now c.return_turn.new.self c.requires.provided
-    (r.awaiting c.requires.provided.awaiting) (ap (λ s. s.now) r.script) r.memories r.place r.promised
+    (r.awaiting c.requires.provided.awaiting) (ap (λ s. s.now) r.script) r.place r.promised
 
 pub operation_turn-requires-clause-ready : goal.operation_turn-requires-clause-ready
 operation_turn-requires-clause-ready g c =

@@ -71,6 +71,8 @@ invariant_of-self c =
       covered = λ a. ap (λ b. contains_key b a) c.open_map.ensures.bytes ∙ h.covered a;
       reaches = h.reaches;
       framed = h.framed;
+      placed = h.placed;
+      standing = h.standing;
       tag_places = h.tag_places;
       map_places = ap (λ t. t.places) c.put.ensures ∙ ap (λ t. t.places) c.in-Some.ensures.taken
           ∙ h.map_places;

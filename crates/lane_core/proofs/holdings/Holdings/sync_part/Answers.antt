@@ -26,7 +26,7 @@ use Rattle.lane_core.proofs.MapValues.{image-some}
 use Rattle.lane_core.proofs.Marks.{has_set_all}
 use Rattle.lane_core.proofs.Places.{get_removed}
 use Rattle.lane_core.proofs.PutBack.{put-again}
-use Rattle.lane_core.proofs.Reaching.{same-physical}
+use Rattle.lane_core.proofs.Reaching.{same-physical, same-placed, same-standing}
 use Rattle.lane_core.proofs.Syncing.{are-synced, part-done, part-wire}
 use Rattle.std.proofs.Common.{refl}
 use Rattle.dma_map.specs.MapView.{waiting_load}
@@ -89,6 +89,9 @@ invariant_of-self-2 c =
       reaches = λ va. ap (λ t. t va)
           (same-physical h.memory.memory c.copy_part.new.memory.memory c.copy_part.ensures.same) ∙ h.reaches va;
       framed = λ f own. c.copy_part.ensures.same.frames f ∙ h.framed f own;
+      placed = same-placed h.memory.memory c.copy_part.new.memory.memory c.copy_part.ensures.same h.placed;
+      standing = same-standing h.memories.map h.memory.memory c.copy_part.new.memory.memory
+          c.copy_part.ensures.same h.standing;
       tag_places = h.tag_places;
       map_places = put.1 ∙ h.map_places;
       memory_places = h.memory_places;

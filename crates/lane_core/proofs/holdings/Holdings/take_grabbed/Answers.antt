@@ -1,9 +1,10 @@
-use Rattle.std.proofs.Common.{◌≡◌, ℕ, List, [], ◌∷◌, None, refl, sym, ap, ◌∙◌, subst}
+use Rattle.std.proofs.Common.{◌≡◌, ℕ, List, [], ◌∷◌, length, None, refl, sym, ap, ◌∙◌, subst}
 use Rattle.std.specs.FinMap.{get}
 use Rattle.busdma_base.specs.declared.bounce.door.Grabbed.{Grabbed}
 use Rattle.busdma_base.specs.declared.bounce.door.Grabbed.TheVariants.{Granted}
 use Rattle.busdma_base.specs.declared.journals.answer.Answer.TheVariants.{InProgress, Refused}
 use Rattle.busdma_base.specs.declared.journals.report.Errno.TheVariants.{ENOMEM}
+use Rattle.busdma_base.specs.declared.machine.chunk.Chunk.{Chunk}
 use Rattle.busdma_base.specs.Bounce.AccountStep.{as_pages}
 use Rattle.busdma_base.specs.Bounce.Door.{grab_reply}
 use Rattle.busdma_base.specs.Machine.PageList.{page_addresses}
@@ -14,13 +15,14 @@ use Rattle.ideal_lane.specs.State.{LaneState, Idle, Waiting}
 use Rattle.lane_core.specs.Awaiting.{AreAwaiting, IsLoadAt, kept_load}
 use Rattle.lane_core.specs.Covered.{is_idle_map}
 use Rattle.lane_core.specs.Ideal.{ideal_of}
-use Rattle.lane_core.specs.Kept.{map_of}
+use Rattle.lane_core.specs.Kept.{map_of, memory_of}
 use Rattle.lane_core.specs.Loading.{HasNeed, HasRoomForAny, bio_chunks, bio_of}
+use Rattle.lane_core.proofs.Asked.{plain-chunks}
 use Rattle.lane_core.proofs.AwaitingLoads.{IsReadyLoad, KeepsOthers, awaiting-none, awaiting-one, awaiting-others}
 use Rattle.lane_core.proofs.AwaitingLoads.{awaiting-ready, awaiting-tried, begins-waiting, cut-at, prepared-less}
 use Rattle.lane_core.proofs.AwaitingLoads.{idle-unkept, stays-staged}
 use Rattle.lane_core.proofs.Keeping.{idle-there}
-use Rattle.lane_core.proofs.MapValues.{image-some}
+use Rattle.lane_core.proofs.MapValues.{image-none, image-some}
 use Rattle.lane_core.proofs.holdings.Holdings.take_grabbed.Goals as goal
 
 same-pages : (pas : List ℕ) → addresses (as_pages pas) ≡ pas
@@ -33,14 +35,26 @@ complete_load-requires-clause-room c o found =
     let chunks = bio_chunks l o (bio_of c.args.bytes) in
     let all : HasNeed c.args.need (Granted c.in-Granted.pages) =
     subst (λ (g : Grabbed). HasNeed c.args.need g) c.in-Granted.is c.requires.granted in
-    subst (λ n. HasRoomForAny (limits_of l o) chunks n c.args.room) (sym all) (c.requires.room o found)
+    subst (λ (cs : List Chunk). HasRoomForAny (limits_of l o) cs (length c.in-Granted.pages.items) c.args.room)
+    (sym (plain-chunks l c.args.map o (bio_of c.args.bytes)
+    (image-none memory_of c.args.self.now.memories.map c.args.map c.requires.own)))
+    (subst (λ n. HasRoomForAny (limits_of l o) chunks n c.args.room) (sym all) (c.requires.room o found))
+
+pub complete_load-requires-clause-first : goal.complete_load-requires-clause-first
+complete_load-requires-clause-first c x found =
+    let none = image-none memory_of c.args.self.now.memories.map c.args.map c.requires.own in
+    let no = sym none ∙ found in
+    absurd (cc)
 
 pub returns-in-Granted-clause-done : goal.returns-in-Granted-clause-done
 returns-in-Granted-clause-done c o x found entries items =
     let l = ideal_of c.args.self.now in
     let chunks = bio_chunks l o (bio_of c.args.bytes) in
     let pas = page_addresses c.in-Granted.pages.items in
+    let none = image-none memory_of c.args.self.now.memories.map c.args.map c.requires.own in
     c.complete_load.ensures.done o x found entries items
+    ∙ ap (λ cs. finished c.args.map o c.place-load_at.result x cs pas l)
+    (plain-chunks l c.args.map o (bio_of c.args.bytes) none)
     ∙ (λ i. finished c.args.map o (c.place-load_at.ensures i) x chunks (sym (same-pages pas) i) l)
     ∙ sym (ap (λ g. granted c.args.map o x chunks l (grab_reply g)) c.in-Granted.is)
 

@@ -1,7 +1,6 @@
 use Rattle.std.proofs.Common.{◌≡◌, inl, IfOk, [], length, map, refl, sym, ap, ◌∙◌, subst}
 use Rattle.busdma_base.specs.declared.journals.journal.Side.{Side}
 use Rattle.busdma_base.specs.declared.journals.journal.Side.TheVariants as side
-use Rattle.lane_core.specs.Covered.{IsVacantFrom}
 use Rattle.lane_core.specs.Ideal.{ideal_of}
 use Rattle.lane_core.specs.Kept.{return_of}
 use Rattle.lane_core.specs.Turning.{IsMade, MayWant}
@@ -37,7 +36,7 @@ returns-in-Transfer-clause-made g c =
     let d = g.D.HubDoor.seen c.args.door.now in
     let r = c.transfer_turn.ensures in
     subst (λ (s : Side). IfOk c.transfer_turn.result (IsMade h k d d s)) (sym c.in-Transfer.is)
-    (transfer-all h k d c.transfer_turn.result r.done r.unheld r.wire r.agenda.end r.agenda.capacity)
+    (transfer-all h k d c.transfer_turn.result r.done r.unheld r.wire r.memories r.agenda.end r.agenda.capacity)
 
 pub returns-in-Transfer-clause-undone : goal.returns-in-Transfer-clause-undone
 returns-in-Transfer-clause-undone g c = on-err c.transfer_turn.result (inl refl)
@@ -49,7 +48,7 @@ returns-in-Transfer-clause-ready g c =
     let d = g.D.HubDoor.seen c.args.door.now in
     let r = c.transfer_turn.ensures in
     ready-after h k d d side.Transfer c.requires.ready c.transfer_turn.result
-    (transfer-all h k d c.transfer_turn.result r.done r.unheld r.wire r.agenda.end r.agenda.capacity) r.err
+    (transfer-all h k d c.transfer_turn.result r.done r.unheld r.wire r.memories r.agenda.end r.agenda.capacity) r.err
     (err-map c.transfer_turn.result (λ s. same-room h k s r.agenda.capacity) r.err)
     (on-err c.transfer_turn.result (inl refl))
 
@@ -57,7 +56,7 @@ pub returns-in-Transfer-clause-provided : goal.returns-in-Transfer-clause-provid
 returns-in-Transfer-clause-provided g c =
     let r = c.transfer_turn.ensures in
     provided-same c.args.self.now c.transfer_turn.new.self c.requires.provided
-    (r.awaiting c.requires.provided.awaiting) (ap (λ s. s.now) r.script) r.memories r.agenda.place r.promised
+    (r.awaiting c.requires.provided.awaiting) (ap (λ s. s.now) r.script) r.agenda.place r.promised
 
 pub returns-in-Transfer-clause-length : goal.returns-in-Transfer-clause-length
 returns-in-Transfer-clause-length g c =
@@ -80,7 +79,6 @@ returns-in-Callback-clause-provided g c =
     record {
       awaiting = r.awaiting;
       small = r.small;
-      plain = subst (λ t. IsVacantFrom 0 t.map) (sym r.memories) c.requires.provided.plain;
     }
 
 pub returns-in-Callback-clause-length : goal.returns-in-Callback-clause-length

@@ -12,7 +12,7 @@ invariant_of-self c =
     called-lane h k
     (record { wired = l.wired; stands = l.stands; provided = l.provided; length = l.length; room = l.room })
     (cpu_write-after h k l.wired c.args.place c.args.bytes.now c.cpu_write.result r.done r.wire r.err) r.awaiting
-    r.script r.memories r.agenda in
+    r.script r.agenda in
     record {
       wired = lane.wired;
       stands = lane.stands;

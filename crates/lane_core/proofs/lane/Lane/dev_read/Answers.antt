@@ -18,7 +18,7 @@ invariant_of-self c =
     let lane =
     called-lane h k
     (record { wired = l.wired; stands = l.stands; provided = l.provided; length = l.length; room = l.room })
-    (kept-on h k l.wired r.kept) r.awaiting r.script r.memories r.agenda in
+    (kept-on h k l.wired r.kept) r.awaiting r.script r.agenda in
     record {
       wired = lane.wired;
       stands = lane.stands;

@@ -1,5 +1,7 @@
-use Rattle.std.proofs.Common.{◌≡◌, ◌==◌, not, length, map, ap, sym, ◌∙◌, subst, arith}
+use Rattle.std.proofs.Common.{◌≡◌, ℕ, Some, None, ◌==◌, not, length, map, ap, sym, ◌∙◌, subst, arith}
 use Rattle.std.specs.List.{list_any}
+use Rattle.std.specs.Ordering.{nat_cmp}
+use Rattle.std.specs.FinMap.{get, get-empty}
 use Rattle.lane_tables.specs.declared.queued.QueuedPage.{QueuedPage}
 use Rattle.lane_tables.specs.Queues.{item_count}
 use Rattle.ideal_lane.specs.Ahead.{awaited_items, maps_items}
@@ -8,6 +10,7 @@ use Rattle.ideal_lane.specs.Opening.{opening_lane}
 use Rattle.ideal_lane.specs.Standing.{Stands}
 use Rattle.ideal_lane.proofs.Openings.{opens-standing}
 use Rattle.ideal_lane.proofs.Weights.{weigh-empty}
+use Rattle.lane_core.specs.declared.kept.KeptMemory.{KeptMemory}
 use Rattle.lane_core.specs.Covered.{items_left}
 use Rattle.lane_core.specs.Held.{devices_of}
 use Rattle.lane_core.specs.Kept.{map_of, memory_of, return_of, share_of, tag_of}
@@ -18,6 +21,9 @@ use Rattle.lane_core.proofs.OpensProvided.{opens-provided}
 use Rattle.lane_core.proofs.OpensWired.{opens-wired}
 use Rattle.lane_core.proofs.OpeningLane.{held-zeros, opens-covered, opens-framed, opens-mapless, opens-reaching}
 use Rattle.lane_core.proofs.lane.Lane.new.Goals as goal
+
+none-there : (k : ℕ) (x : KeptMemory) → None ≡ Some x → ⊥
+none-there k x e = absurd (cc)
 
 pub invariant_of-result-clause-covered : goal.invariant_of-result-clause-covered
 invariant_of-result-clause-covered c =
@@ -36,6 +42,14 @@ invariant_of-result-clause-reaches c =
 pub invariant_of-result-clause-framed : goal.invariant_of-result-clause-framed
 invariant_of-result-clause-framed c =
     opens-framed c.as_slice-pages.result.now c.args.memory.memory (rw c.as_slice-pages.ensures c.requires.memory)
+
+pub invariant_of-result-clause-placed : goal.invariant_of-result-clause-placed
+invariant_of-result-clause-placed c = λ v r e high.
+    let low = c.requires.memory.low v r e in absurd (omega arith)
+
+pub invariant_of-result-clause-standing : goal.invariant_of-result-clause-standing
+invariant_of-result-clause-standing c = λ k x e.
+    absurd (none-there k x (sym (ap (λ t. get t.map k) c.in_ok-new-3.ensures ∙ get-empty nat_cmp k) ∙ e))
 
 pub invariant_of-result-clause-loaded : goal.invariant_of-result-clause-loaded
 invariant_of-result-clause-loaded c =
@@ -157,8 +171,7 @@ pub invariant_of-result-2-clause-provided : goal.invariant_of-result-2-clause-pr
 invariant_of-result-2-clause-provided c =
     ∣ opens-provided c.args.driver.now _ c.requires.script c.requires.small c.as_slice-script.ensures
     (ap (λ a. a.place) c.in_ok-new-4.ensures) (ap (λ a. a.promised) c.in_ok-new-4.ensures)
-    (ap (λ t. t.map) c.in_ok-new-2.ensures) (ap (λ t. t.map) c.in_ok-new-3.ensures)
-    c.in_ok-opening_loans.ensures.prepared ∣₁
+    (ap (λ t. t.map) c.in_ok-new-2.ensures) c.in_ok-opening_loans.ensures.prepared ∣₁
 
 pub returns : goal.returns
 returns c =

@@ -1,0 +1,147 @@
+use Rattle.std.proofs.Common.{◌≡◌, ℕ, ◌*◌, true, false, Option, Some, None, is_some, refl, sym, ap, ◌∙◌, subst, arith}
+use Rattle.std.specs.FinMap.{contains_key, get, insert}
+use Rattle.busdma_base.specs.Bounce.MemoryRuns.{frames_from, in_run}
+use Rattle.busdma_base.specs.Runs.{run_of}
+use Rattle.lane_tables.specs.Places.{Places}
+use Rattle.loan_table.specs.Table.{AreNew, set_all}
+use Rattle.memory_pages.specs.Placed.{Comes, IsWithout}
+use Rattle.lane_core.specs.declared.kept.KeptMemory.{KeptMemory}
+use Rattle.lane_core.specs.Covered.{AreStanding, Reaches}
+use Rattle.lane_core.specs.Held.{devices_of, held}
+use Rattle.lane_core.specs.Ideal.{ideal_of}
+use Rattle.lane_core.specs.Kept.{memory_of}
+use Rattle.lane_core.specs.MapValues.{map_values}
+use Rattle.lane_core.proofs.AwaitingMemories.{awaiting-beside}
+use Rattle.lane_core.proofs.Joining.{frames-new, held-joined, joined-covered, joined-framed, joined-known, joined-own}
+use Rattle.lane_core.proofs.Joining.{joined-placed, joined-reaches, joined-standing, marks-new, run-low}
+use Rattle.lane_core.proofs.KeptMemories.{put-away}
+use Rattle.lane_core.proofs.MapValues.{map_values-insert}
+use Rattle.lane_core.proofs.holdings.Holdings.join_memory.Goals as goal
+
+pub put-requires-clause-room : goal.put-requires-clause-room
+put-requires-clause-room c =
+    let room = c.requires.room.memory in
+    let count = c.requires.count in
+    omega (arith, room, count)
+
+pub put-requires-clause-row : goal.put-requires-clause-row
+put-requires-clause-row c = c.requires.row ∙ ap (λ n. frames_from n c.args.kept.first.0) (sym c.requires.count)
+
+pub put-requires-clause-all : goal.put-requires-clause-all
+put-requires-clause-all c =
+    let all = c.requires.all in
+    let count = c.requires.count in
+    omega (arith, all, count)
+
+pub put-requires-clause-without : goal.put-requires-clause-without
+put-requires-clause-without c =
+    subst (IsWithout c.args.self.now.memory.memory c.args.kept.first.0) (sym c.requires.count)
+    (frames-new c.args.self.now c.requires.wired c.args.kept.first.0 c.args.kept.count c.requires.new)
+
+pub add_reserved-requires-clause-below : goal.add_reserved-requires-clause-below
+add_reserved-requires-clause-below c =
+    let low = run-low c.args.self.now c.requires.wired c.args.kept.first.0 c.args.kept.count c.requires.new in
+    let same = c.from.ensures in
+    omega (arith, low, same)
+
+pub add_reserved-requires-clause-fresh : goal.add_reserved-requires-clause-fresh
+add_reserved-requires-clause-fresh c =
+    subst (λ n. AreNew c.args.self.now.loans.bytes (run_of c.args.kept.first.0 (4096 * n))) (sym c.from.ensures)
+    (marks-new c.args.self.now c.requires.wired c.args.kept.first.0 c.args.kept.count c.requires.new)
+
+pub invariant_of-self : goal.invariant_of-self
+invariant_of-self c =
+    let h = c.args.self.now in
+    let kept = c.args.kept in
+    let first = kept.first.0 in
+    let n = kept.count in
+    let m = c.put.new.memory.memory in
+    let come = subst (λ k. Comes h.memory.memory m first k kept.memory.len) c.requires.count c.put.ensures.come in
+    let map : c.put-2.new.self.map ≡ insert h.memories.map c.place-place.result kept =
+    ap (λ (t : Places KeptMemory). t.map) c.put-2.ensures in
+    let vacant : get h.memories.map c.place-place.result ≡ None =
+    ap (get h.memories.map) c.place-place.ensures ∙ c.requires.vacant in
+    let marked = c.add_reserved.ensures.bytes
+    ∙ ap (λ k. set_all h.loans.bytes (run_of first (4096 * k)) c.args.zero) c.from.ensures in
+    record {
+      covered = joined-covered h c.requires.wired first n c.requires.new kept.memory.len m come
+          c.add_reserved.new.self.bytes c.args.zero marked;
+      reaches = subst (λ t. Reaches h.pages.now t m) (sym map)
+          (joined-reaches h c.requires.wired first n c.requires.new kept.memory.len m come c.place-place.result kept
+          vacant
+          refl refl refl c.put.ensures.reached);
+      framed = joined-framed h c.requires.wired first n c.requires.new kept.memory.len m come;
+      placed = joined-placed h c.requires.wired first n c.requires.new kept.memory.len m come;
+      standing = subst (λ t. AreStanding t m) (sym map)
+          (joined-standing h c.requires.wired first n c.requires.new kept.memory.len m come c.place-place.result kept
+          vacant
+          refl refl refl);
+      tag_places = h.tag_places;
+      map_places = h.map_places;
+      memory_places = ap (λ (t : Places KeptMemory). t.places) c.put-2.ensures ∙ h.memory_places;
+      loaded = λ k. ap (λ ls. contains_key ls k) c.add_reserved.ensures.loans ∙ h.loaded k;
+      unlent = h.unlent;
+      promised = h.promised;
+      own_returns = h.own_returns;
+      returning = h.returning;
+      tried = h.tried;
+    }
+
+pub returns-clause-done : goal.returns-clause-done
+returns-clause-done c =
+    let h = c.args.self.now in
+    let kept = c.args.kept in
+    let first = kept.first.0 in
+    let n = kept.count in
+    let m = c.put.new.memory.memory in
+    let come = subst (λ k. Comes h.memory.memory m first k kept.memory.len) c.requires.count c.put.ensures.come in
+    let marked = c.add_reserved.ensures.bytes
+    ∙ ap (λ k. set_all h.loans.bytes (run_of first (4096 * k)) c.args.zero) c.from.ensures in
+    let others = λ (a : ℕ) (e : in_run first n a ≡ false). c.put.ensures.others a
+    (ap (λ k. in_run first k a) c.requires.count ∙ e) in
+    let zeros = λ (z : c.args.zero ≡ true) (a : ℕ) (e : in_run first n a ≡ true). c.put.ensures.zeros z a
+    (ap (λ k. in_run first k a) c.requires.count ∙ e) in
+    let memory = (λ i. held c.add_reserved.new.self.bytes (c.add_reserved.ensures.loans i) (devices_of h.maps.map) m)
+    ∙ held-joined h c.requires.wired first n c.requires.new kept.memory.len m come c.add_reserved.new.self.bytes
+    c.args.zero marked others zeros in
+    let mems = ap (λ (t : Places KeptMemory). map_values memory_of t.map) c.put-2.ensures
+    ∙ map_values-insert memory_of h.memories.map c.place-place.result kept
+    ∙ ap (λ p. insert (ideal_of h).mems p (memory_of kept)) c.place-place.ensures in
+    λ i. record (ideal_of h) { mems = mems i; memory = memory i; loans = c.add_reserved.ensures.loans i }
+
+pub returns-clause-bytes : goal.returns-clause-bytes
+returns-clause-bytes c =
+    let h = c.args.self.now in
+    let kept = c.args.kept in
+    let first = kept.first.0 in
+    let n = kept.count in
+    let m = c.put.new.memory.memory in
+    let come = subst (λ k. Comes h.memory.memory m first k kept.memory.len) c.requires.count c.put.ensures.come in
+    let marked = c.add_reserved.ensures.bytes
+    ∙ ap (λ k. set_all h.loans.bytes (run_of first (4096 * k)) c.args.zero) c.from.ensures in
+    let others = λ (a : ℕ) (e : in_run first n a ≡ false). c.put.ensures.others a
+    (ap (λ k. in_run first k a) c.requires.count ∙ e) in
+    let zeros = λ (z : c.args.zero ≡ true) (a : ℕ) (e : in_run first n a ≡ true). c.put.ensures.zeros z a
+    (ap (λ k. in_run first k a) c.requires.count ∙ e) in
+    let memory = (λ i. held c.add_reserved.new.self.bytes (c.add_reserved.ensures.loans i) (devices_of h.maps.map) m)
+    ∙ held-joined h c.requires.wired first n c.requires.new kept.memory.len m come c.add_reserved.new.self.bytes
+    c.args.zero marked others zeros in
+    record {
+      own = λ a before after. joined-own h c.requires.wired first n c.requires.new kept.memory.len m come
+          c.add_reserved.new.self.bytes c.args.zero marked others zeros a before;
+      known = λ a v none is. joined-known h c.requires.wired first n c.requires.new kept.memory.len m come
+          c.add_reserved.new.self.bytes c.args.zero marked others zeros a v none (ap (λ f. f a) (sym memory) ∙ is);
+      pages = λ q. refl;
+    }
+
+pub returns-clause-awaiting : goal.returns-clause-awaiting
+returns-clause-awaiting c =
+    let h = c.args.self.now in
+    awaiting-beside h _ c.requires.stands c.requires.wired refl refl refl refl refl c.add_reserved.ensures.prepared
+    (λ q some none. ap (λ (t : Places KeptMemory). get t.map q) c.put-2.ensures
+    ∙ put-away h.memories.map c.place-place.result c.args.kept q (λ e. off (get h.maps.map q) some
+    (ap (get h.maps.map) (e ∙ c.place-place.ensures) ∙ c.requires.no_map)) none)
+  where
+    off : {X : Type 0} (o : Option X) → is_some o ≡ true → o ≡ None → ⊥
+    off None s e = absurd (cc)
+    off (Some x) s e = absurd (cc)

@@ -1,0 +1,117 @@
+use Rattle.std.proofs.Common.{◌≡◌, ◌*◌, is_some, refl, sym, ap, ◌∙◌, subst}
+use Rattle.std.specs.FinMap.{get, remove}
+use Rattle.busdma_base.specs.Runs.{run_of}
+use Rattle.lane_tables.specs.Places.{Places}
+use Rattle.loan_table.specs.Table.{AreFree, AreIn, without}
+use Rattle.lane_core.specs.declared.kept.KeptMemory.{KeptMemory}
+use Rattle.lane_core.specs.Held.{devices_of, held}
+use Rattle.lane_core.specs.Ideal.{ideal_of}
+use Rattle.lane_core.specs.Kept.{memory_of}
+use Rattle.lane_core.specs.MapValues.{map_values}
+use Rattle.lane_core.proofs.AwaitingMemories.{awaiting-beside}
+use Rattle.lane_core.proofs.Keeping.{on-some}
+use Rattle.lane_core.proofs.KeptMemories.{cut-away}
+use Rattle.lane_core.proofs.MapValues.{map_values-remove}
+use Rattle.lane_core.proofs.Parting.{held-parted, part-frames, part-free, part-low, part-marks, part-unprepared}
+use Rattle.lane_core.proofs.Parting.{part-whole, parted-covered, parted-framed, parted-known, parted-own}
+use Rattle.lane_core.proofs.Parting.{parted-placed, parted-reaches, parted-standing}
+use Rattle.lane_core.proofs.holdings.Holdings.part_memory.Goals as goal
+
+pub take-requires-clause-whole : goal.take-requires-clause-whole
+take-requires-clause-whole c = part-whole c.args.self.now c.requires.wired c.args.mem c.args.kept c.requires.there
+
+pub take-requires-clause-below : goal.take-requires-clause-below
+take-requires-clause-below c = part-low c.args.self.now c.requires.wired c.args.mem c.args.kept c.requires.there
+
+pub take-requires-clause-there : goal.take-requires-clause-there
+take-requires-clause-there c = part-frames c.args.self.now c.requires.wired c.args.mem c.args.kept c.requires.there
+
+pub drop_bytes-requires-clause-there : goal.drop_bytes-requires-clause-there
+drop_bytes-requires-clause-there c =
+    subst (λ n. AreIn c.args.self.now.loans.bytes (run_of c.args.kept.first.0 (4096 * n))) (sym c.from.ensures)
+    (part-marks c.args.self.now c.requires.wired c.args.mem c.args.kept c.requires.there)
+
+pub drop_bytes-requires-clause-free : goal.drop_bytes-requires-clause-free
+drop_bytes-requires-clause-free c =
+    subst (λ n. AreFree c.args.self.now.loans.loans (run_of c.args.kept.first.0 (4096 * n))) (sym c.from.ensures)
+    (part-free c.args.self.now c.requires.wired c.args.mem c.args.kept c.requires.there c.requires.idle)
+
+pub drop_bytes-requires-clause-unprepared : goal.drop_bytes-requires-clause-unprepared
+drop_bytes-requires-clause-unprepared c =
+    subst (λ n. AreFree c.args.self.now.loans.prepared (run_of c.args.kept.first.0 (4096 * n))) (sym c.from.ensures)
+    (part-unprepared c.args.self.now c.requires.wired c.args.mem c.args.kept c.requires.there c.requires.idle
+    c.requires.stands c.requires.awaiting)
+
+pub invariant_of-self : goal.invariant_of-self
+invariant_of-self c =
+    let h = c.args.self.now in
+    let mem = c.args.mem in
+    let kept = c.args.kept in
+    let m = c.take.new.memory.memory in
+    let taken = on-some c.take-2.result kept (c.take-2.ensures.value ∙ c.requires.there) c.take-2.ensures.taken in
+    let map : c.take-2.new.self.map ≡ remove h.memories.map mem = ap (λ (t : Places KeptMemory). t.map) taken in
+    let marked = c.drop_bytes.ensures.bytes
+    ∙ ap (λ n. without h.loans.bytes (run_of kept.first.0 (4096 * n))) c.from.ensures in
+    record {
+      covered = parted-covered h c.requires.wired mem kept c.requires.there m c.take.ensures.go
+          c.drop_bytes.new.self.bytes marked c.take.ensures.bytes;
+      reaches = subst (λ t. Rattle.lane_core.specs.Covered.Reaches h.pages.now t m) (sym map)
+          (parted-reaches h c.requires.wired mem kept c.requires.there m c.take.ensures.go c.take.ensures.reached);
+      framed = parted-framed h c.requires.wired mem kept c.requires.there m c.take.ensures.go;
+      placed = parted-placed h c.requires.wired mem kept c.requires.there m c.take.ensures.go;
+      standing = subst (λ t. Rattle.lane_core.specs.Covered.AreStanding t m) (sym map)
+          (parted-standing h c.requires.wired mem kept c.requires.there m c.take.ensures.go);
+      tag_places = h.tag_places;
+      map_places = h.map_places;
+      memory_places = ap (λ (t : Places KeptMemory). t.places) taken ∙ h.memory_places;
+      loaded = λ k. ap (λ ls. Rattle.std.specs.FinMap.contains_key ls k) c.drop_bytes.ensures.loans ∙ h.loaded k;
+      unlent = h.unlent;
+      promised = h.promised;
+      own_returns = h.own_returns;
+      returning = h.returning;
+      tried = h.tried;
+    }
+
+pub returns-clause-done : goal.returns-clause-done
+returns-clause-done c =
+    let h = c.args.self.now in
+    let mem = c.args.mem in
+    let kept = c.args.kept in
+    let m = c.take.new.memory.memory in
+    let taken = on-some c.take-2.result kept (c.take-2.ensures.value ∙ c.requires.there) c.take-2.ensures.taken in
+    let marked = c.drop_bytes.ensures.bytes
+    ∙ ap (λ n. without h.loans.bytes (run_of kept.first.0 (4096 * n))) c.from.ensures in
+    let memory = (λ i. held c.drop_bytes.new.self.bytes (c.drop_bytes.ensures.loans i) (devices_of h.maps.map) m)
+    ∙ held-parted h c.requires.wired mem kept c.requires.there m c.take.ensures.go c.drop_bytes.new.self.bytes marked
+    c.take.ensures.bytes in
+    let mems = ap (λ (t : Places KeptMemory). map_values memory_of t.map) taken
+    ∙ map_values-remove memory_of h.memories.map mem in
+    λ i. record (ideal_of h) { mems = mems i; memory = memory i; loans = c.drop_bytes.ensures.loans i }
+
+pub returns-clause-bytes : goal.returns-clause-bytes
+returns-clause-bytes c =
+    let h = c.args.self.now in
+    let mem = c.args.mem in
+    let kept = c.args.kept in
+    let m = c.take.new.memory.memory in
+    let marked = c.drop_bytes.ensures.bytes
+    ∙ ap (λ n. without h.loans.bytes (run_of kept.first.0 (4096 * n))) c.from.ensures in
+    let memory = (λ i. held c.drop_bytes.new.self.bytes (c.drop_bytes.ensures.loans i) (devices_of h.maps.map) m)
+    ∙ held-parted h c.requires.wired mem kept c.requires.there m c.take.ensures.go c.drop_bytes.new.self.bytes marked
+    c.take.ensures.bytes in
+    record {
+      own = λ a before after. parted-own h c.requires.wired mem kept c.requires.there m c.take.ensures.go
+          c.drop_bytes.new.self.bytes marked c.take.ensures.bytes a (ap (λ f. is_some (f a)) (sym memory) ∙ after);
+      known = λ a v none is. parted-known h c.requires.wired mem kept c.requires.there m c.take.ensures.go
+          c.drop_bytes.new.self.bytes marked c.take.ensures.bytes a v none (ap (λ f. f a) (sym memory) ∙ is);
+      pages = λ q. refl;
+    }
+
+pub returns-clause-awaiting : goal.returns-clause-awaiting
+returns-clause-awaiting c =
+    let h = c.args.self.now in
+    let taken =
+    on-some c.take-2.result c.args.kept (c.take-2.ensures.value ∙ c.requires.there) c.take-2.ensures.taken in
+    awaiting-beside h _ c.requires.stands c.requires.wired refl refl refl refl refl c.drop_bytes.ensures.prepared
+    (λ q some none. ap (λ (t : Places KeptMemory). get t.map q) taken ∙ cut-away h.memories.map c.args.mem q none)
+    c.requires.awaiting

@@ -1,0 +1,10 @@
+//! The load of a dmamem memory through its own map.
+#![tactic(auto)]
+
+mod building;
+mod run_parts;
+#[cfg(test)]
+mod tests;
+mod unaligned;
+
+pub use building::{build_memory, memory_pieces, no_chunk_bounces};

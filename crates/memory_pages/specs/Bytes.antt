@@ -1,0 +1,21 @@
+-- The bytes that the pages of a dmamem memory bring and take with them.
+use Rattle.std.specs.Prelude.{ℕ, ◌/◌, Bool, List, [], map, replicate, unwrap_or, if◌then◌else◌}
+use Rattle.std.specs.FinMap.{get}
+use Rattle.busdma_base.specs.Machine.Page.{FrameBytes}
+use Rattle.phys_memory.specs.Memory.{Memory}
+
+-- a page with 0 in every byte, where that is asked, or as it is
+abbrev pub filled : Bool → FrameBytes → FrameBytes
+filled clear p = if clear then record { frame = p.frame; bytes = replicate 4096 0 } else p
+
+-- the same of pages
+abbrev pub all_filled : Bool → List FrameBytes → List FrameBytes
+all_filled clear pages = map (filled clear) pages
+
+-- the page of the frame at an address, with the bytes that a memory has of it
+abbrev pub page_of : Memory → ℕ → FrameBytes
+page_of m address = record { frame = address / 4096; bytes = unwrap_or (get m.frames (address / 4096)) [] }
+
+-- those of frames
+abbrev pub pages_of : Memory → List ℕ → List FrameBytes
+pages_of m addresses = map (page_of m) addresses
