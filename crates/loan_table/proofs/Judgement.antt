@@ -44,3 +44,18 @@ pub judged-some : {X : Type 0} (f : X → Option ReportName) (at : ℕ) (xs rest
     Refused (record { name = name; at = at }) ≡ answer
 judged-some f at xs rest x name answer e some h =
     sym (ap (λ o. refused_or o at (judged f (at + 1) rest)) some) ∙ sym (ap (judged f at) e) ∙ h
+
+-- where nothing is refused
+pub judged-none : {X : Type 0} (f : X → Option ReportName) (at : ℕ) (xs : List X) → ((x : X) → f x ≡ None) →
+    judged f at xs ≡ Fine
+judged-none f at [] h = refl
+judged-none f at (x ∷ xs) h =
+    ap (λ o. refused_or o at (judged f (at + 1) xs)) (h x) ∙ judged-none f (at + 1) xs h
+
+-- refusals that are the same judge the same
+pub judged-same : {X : Type 0} (f g : X → Option ReportName) (at : ℕ) (xs : List X) → ((x : X) → f x ≡ g x) →
+    judged f at xs ≡ judged g at xs
+judged-same f g at [] h = refl
+judged-same f g at (x ∷ xs) h =
+    ap (λ o. refused_or o at (judged f (at + 1) xs)) (h x)
+    ∙ ap (refused_or (g x) at) (judged-same f g (at + 1) xs h)

@@ -1,8 +1,9 @@
 -- Marks of a range: no position moves, and the bytes that a call loses.
 use Rattle.std.proofs.Common.{◌≡◌, ℕ, zero, suc, ◌+◌, Bool, true, false, cond, List, [], ◌∷◌, ◌++◌, ◌==◌, map, take}
-use Rattle.std.proofs.Common.{drop, Option, Some, None, IsSome, unwrap_or, refl, sym, ap, ◌∙◌, subst}
+use Rattle.std.proofs.Common.{◌&&◌, ◌||◌, not, drop, Option, Some, None, IsSome, unwrap_or, refl, sym, ap, ◌∙◌, subst}
 use Rattle.std.proofs.lemmas.List.{map-append, append_assoc, drop-drop, take-append-drop}
 use Rattle.std.specs.List.{filter}
+use Rattle.dma_tag.specs.SyncOps.{preread, prewrite}
 use Rattle.std.specs.Ordering.{nat_cmp, eq_by_cmp}
 use Rattle.std.specs.Cmp.{nat_cmp_total, unsigned_tied}
 use Rattle.std.proofs.lemmas.Map.Views.{exact_unsigned_eq}
@@ -141,3 +142,10 @@ AreIn-lost m loans k off len ops h =
       | true ↦ tt
       | false ↦ AreIn-filter m (loses ops) _ (AreIn-range m off len _ h)
     ]
+
+-- a call without PREREAD loses nothing
+pub none_lost : (ops : ℕ) (ps : List Position) → preread ops ≡ false → filter (loses ops) ps ≡ []
+none_lost ops [] h = refl
+none_lost ops (p ∷ ps) h =
+    ap (λ b. cond (b && not p.to_write && not (prewrite ops || p.to_read)) (p ∷ filter (loses ops) ps)
+    (filter (loses ops) ps)) h ∙ none_lost ops ps h

@@ -1,17 +1,17 @@
 -- Pieces of a list of positions.
 use Rattle.std.proofs.Common.{◌≡◌, ℕ, zero, suc, ◌+◌, ◌-◌, ◌<◌, ◌≤◌, ◌&&◌, ◌==◌, Bool, true, false, cond, length}
-use Rattle.std.proofs.Common.{List, [], ◌∷◌, ◌++◌, map, take, drop, get_or, Option, Some, None, refl}
+use Rattle.std.proofs.Common.{◌^◌, slice_index, List, [], ◌∷◌, ◌++◌, map, take, drop, get_or, Option, Some, None, refl}
 use Rattle.std.proofs.Common.{sym, ap, ◌∙◌, subst, arith}
 use Rattle.std.proofs.lemmas.List.{drop-drop, take-take, take_all, take-append-le, length-map, map-append}
 use Rattle.std.proofs.lemmas.List.{get_or-drop, get_or-take}
-use Rattle.std.proofs.lemmas.List.{get_or_append_left}
+use Rattle.std.proofs.lemmas.List.{get_or_append_left, take-map}
 use Rattle.std.specs.List.{All, filter, count_by}
 use Rattle.std.proofs.lemmas.List.Sums.{sum_by-cons}
 use Rattle.std.proofs.lemmas.List.Elements.{All-get_or, filter-append}
 use Rattle.std.specs.Ordering.{nat_cmp}
 use Rattle.std.specs.FinMap.{FinMap}
 use Rattle.loan_table.specs.declared.row.Way.{Way}
-use Rattle.loan_table.specs.declared.row.Way.TheVariants.{ToWrite, Any}
+use Rattle.loan_table.specs.declared.row.Way.TheVariants.{ToWrite, ToRead}
 use Rattle.loan_table.specs.Kinds.{test_of}
 use Rattle.loan_table.specs.Table.{AreIn, set_all}
 use Rattle.loan_table.proofs.Addresses.{AreIn-append, set_all-append}
@@ -29,7 +29,8 @@ use Rattle.loan_table.specs.Rows.{alike}
 use Rattle.loan_table.proofs.Judgement.{length-run_of}
 use Rattle.loan_table.proofs.Places.{places-run}
 use Rattle.loan_table.proofs.Recounting.{places-cons, places-append}
-use Rattle.loan_table.proofs.Stretches.{run_of_sum}
+use Rattle.loan_table.proofs.Stretches.{run_of_sum, take_run}
+use Rattle.busdma_base.specs.declared.machine.address.Extent.{Extent}
 
 module _ {X : Type 0} where
   take_sum : (n m : ℕ) (xs : List X) → take (n + m) xs ≡ take n xs ++ take m (drop n xs)
@@ -195,7 +196,7 @@ first_refused f g at s (suc n) ys name some h =
 -- what a way of lending, and what is lost, does not ask of a position
 pub same_way : (way : Way) (p : Position) (a : ℕ) → test_of way (lent_as p a) ≡ test_of way p
 same_way ToWrite p a = refl
-same_way Any p a = refl
+same_way ToRead p a = refl
 
 -- at how many positions a byte is lent from a piece on, before a call and after it
 module _ (way : Way) (a at end n : ℕ) (p : Position) (ps : List Position)
@@ -243,3 +244,36 @@ pub filter_ahead : (test : Position → Bool) (ps front rest : List Position) �
 filter_ahead test ps front rest e =
     ap (λ xs. addresses_of (filter test xs)) e ∙ ap addresses_of (filter-append test front rest)
     ∙ addresses_of-append (filter test front) (filter test rest)
+
+-- bytes from a position on that follow one another may be taken shorter, as an extent
+pub begins_with : (at end n pa : ℕ) (ps : List Position) (e : Extent) → addresses_of (stretch at (end - at) ps)
+    ≡ run_of pa n ++ addresses_of (stretch (at + n) (end - (at + n)) ps) → at + n ≤ end → e.len ≤ n → e.pa.0 ≡ pa →
+    addresses_of (stretch at (end - at) ps)
+    ≡ run_of e.pa.0 e.len ++ addresses_of (stretch (at + e.len) (end - (at + e.len)) ps)
+begins_with at end n pa ps e is within short same =
+    ap addresses_of (two_parts at e.len end ps (omega arith))
+    ∙ addresses_of-append (stretch at e.len ps) (stretch (at + e.len) (end - (at + e.len)) ps)
+    ∙ ap (λ xs. xs ++ addresses_of (stretch (at + e.len) (end - (at + e.len)) ps)) front
+  where
+    front : addresses_of (stretch at e.len ps) ≡ run_of e.pa.0 e.len
+    front =
+        let long = length-run_of pa n in
+        ap addresses_of (sym (take-take e.len (end - at) (drop at ps) (omega arith)))
+        ∙ sym (take-map (λ p. p.pa) e.len (stretch at (end - at) ps)) ∙ ap (take e.len) is
+        ∙ take-append-le e.len (run_of pa n) _ (omega (arith, long)) ∙ take_run pa n e.len short
+        ∙ ap (λ a. run_of a e.len) (sym same)
+
+byte_there : (ps : List Position) (at : ℕ) (d : Position) → at < length ps →
+    slice_index (addresses_of ps) at ≡ (get_or ps at d).pa
+byte_there [] at d h = absurd (omega arith)
+byte_there (p ∷ ps) zero d h = refl
+byte_there (p ∷ ps) (suc at) d h = byte_there ps at d (omega arith)
+
+-- where all bytes are memory, the byte of a position is
+pub low_at : (ps : List Position) (at pa : ℕ) → pa ≡ slice_index (addresses_of ps) at → at < length ps →
+    All (λ p. p.pa < 2 ^ 42) ps → pa < 2 ^ 42
+low_at ps at pa is range low =
+    let none : Position = record { pa = 0; to_read = false; to_write = false } in
+    let there : (get_or ps at none).pa < 2 ^ 42 = All-get_or (λ p. p.pa < 2 ^ 42) ps at none range low in
+    let same : pa ≡ (get_or ps at none).pa = is ∙ byte_there ps at none range in
+    omega (arith, there, same)

@@ -1,15 +1,19 @@
 -- The positions of bytes, by the sets of places at which they are lent.
 use Rattle.std.proofs.Common.{◌≡◌, ℕ, zero, suc, ◌+◌, ◌-◌, ◌<◌, ◌≤◌, ◌&&◌, ◌||◌, not, Bool, true, false, if◌then◌else◌}
-use Rattle.std.proofs.Common.{List, [], ◌∷◌, ◌++◌, map, take, drop, length, slice_index, nat_lt, refl}
+use Rattle.std.proofs.Common.{List, [], ◌∷◌, ◌++◌, map, take, drop, length, slice_index, nat_lt, refl, Some, None}
 use Rattle.std.proofs.Common.{sym, ap, ◌∙◌, arith}
 use Rattle.std.proofs.lemmas.Bool.Decides.{nat_tests}
-use Rattle.std.proofs.lemmas.List.{length-take, take-take}
+use Rattle.std.proofs.lemmas.List.{length-drop, length-take, length-take-le, take-take}
+use Rattle.busdma_base.specs.declared.journals.report.ReportName.{ReportName}
+use Rattle.busdma_base.specs.declared.journals.report.Judged.TheVariants.{Fine, Refused}
+use Rattle.busdma_base.specs.Journals.Judging.{judged, refused_or}
 use Rattle.busdma_base.specs.Machine.Wire.{stretch}
 use Rattle.busdma_base.specs.Runs.{run_of}
 use Rattle.dma_tag.specs.SyncOps.{preread, prewrite, postread, postwrite}
-use Rattle.run_set.specs.Edges.{in_run, member, Rises}
+use Rattle.run_set.specs.Edges.{in_run, member, NoneIn, Rises}
 use Rattle.loan_table.specs.declared.position.Position.{Position}
 use Rattle.loan_table.specs.Loans.{Loan, addresses_of, new_loan, stands_twice, unlent}
+use Rattle.loan_table.specs.Kinds.{unlent_refusal}
 use Rattle.loan_table.specs.Lending.{marked, marked_range}
 use Rattle.loan_table.specs.Rows.{alike, placed, stands}
 use Rattle.loan_table.proofs.Marking.{three_parts}
@@ -188,3 +192,64 @@ piece_ahead r w bytes at end n len pa b c short within run p q =
     (stretch-placed r w at n bytes
     ∙ ap (placed r w at) (sym (take-take n len (drop at bytes) short) ∙ ap (take n) run ∙ take_run pa len n short)
     ∙ alike_places r w b c at pa n p q)
+
+-- the bytes of positions from one on, of which some follow one another
+pub bytes_ahead : (r w : ℕ → Bool) (bytes : List ℕ) (at end n pa : ℕ) → at + n ≤ end →
+    stretch at n bytes ≡ run_of pa n → addresses_of (stretch at (end - at) (placed r w 0 bytes))
+    ≡ run_of pa n ++ addresses_of (stretch (at + n) (end - (at + n)) (placed r w 0 bytes))
+bytes_ahead r w bytes at end n pa within run =
+    whole_bytes at (end - at) ∙ two_parts at n end bytes within
+    ∙ ap (λ xs. xs ++ stretch (at + n) (end - (at + n)) bytes) run
+    ∙ ap (λ xs. run_of pa n ++ xs) (sym (whole_bytes (at + n) (end - (at + n))))
+  where
+    whole_bytes : (k m : ℕ) → addresses_of (stretch k m (placed r w 0 bytes)) ≡ stretch k m bytes
+    whole_bytes k m = ap addresses_of (stretch-placed r w k m bytes) ∙ addresses_of-placed r w k (stretch k m bytes)
+
+-- positions that are all lent to write are passed, and the first that is not is refused
+none_unlent : (name : ReportName) (r w : ℕ → Bool) (place at : ℕ) (bytes : List ℕ) →
+    NoneIn w false at (at + length bytes) → judged (unlent_refusal name) place (placed r w at bytes) ≡ Fine
+none_unlent name r w place at [] none = refl
+none_unlent name r w place at (b ∷ bytes) none =
+    ap (λ t. refused_or (if t then None else Some name) place (judged (unlent_refusal name) (place + 1) (placed r w (at + 1) bytes)))
+    (none at (omega arith) (omega arith))
+    ∙ none_unlent name r w (place + 1) (at + 1) bytes (λ n p q. none n (omega arith) (omega arith))
+
+some_unlent : (name : ReportName) (r w : ℕ → Bool) (place at : ℕ) (bytes : List ℕ) (k : ℕ) → k < length bytes →
+    w (at + k) ≡ false → NoneIn w false at (at + k) →
+    judged (unlent_refusal name) place (placed r w at bytes) ≡ Refused (record { name = name; at = place + k })
+some_unlent name r w place at [] k short is none = absurd (omega arith)
+some_unlent name r w place at (b ∷ bytes) zero short is none =
+    let here : at + zero ≡ at = omega arith in
+    let first : place ≡ place + zero = omega arith in
+    ap (λ t. refused_or (if t then None else Some name) place (judged (unlent_refusal name) (place + 1) (placed r w (at + 1) bytes)))
+    (sym (ap w here) ∙ is)
+    ∙ ap (λ n. Refused (record { name = name; at = n })) first
+some_unlent name r w place at (b ∷ bytes) (suc k) short is none =
+    let on : at + suc k ≡ at + 1 + k = omega arith in
+    let later : place + 1 + k ≡ place + suc k = omega arith in
+    ap (λ t. refused_or (if t then None else Some name) place (judged (unlent_refusal name) (place + 1) (placed r w (at + 1) bytes)))
+    (none at (omega arith) (omega arith))
+    ∙ some_unlent name r w (place + 1) (at + 1) bytes k (omega arith) (sym (ap w on) ∙ is)
+    (λ n p q. none n (omega arith) (omega arith))
+    ∙ ap (λ n. Refused (record { name = name; at = n })) later
+
+-- a range of positions, of which the first that is not lent to write is known
+module _ (name : ReportName) (r w : ℕ → Bool) (bytes : List ℕ) (place off len end : ℕ) (is_end : end ≡ off + len)
+    (range : off + len ≤ length bytes) where
+  long : length (stretch off len bytes) ≡ len
+  long = length-take-le len (drop off bytes) (omega (arith, length-drop off bytes))
+
+  pub all_to_write : NoneIn w false off end →
+      Fine ≡ judged (unlent_refusal name) place (stretch off len (placed r w 0 bytes))
+  all_to_write none =
+      sym (ap (judged (unlent_refusal name) place) (stretch-placed r w off len bytes)
+      ∙ none_unlent name r w place off (stretch off len bytes) (λ n p q. none n p (omega (arith, long))))
+
+  pub first_unlent : (at : ℕ) → off ≤ at → at < end → w at ≡ false → NoneIn w false off at →
+      Refused (record { name = name; at = place + (at - off) })
+      ≡ judged (unlent_refusal name) place (stretch off len (placed r w 0 bytes))
+  first_unlent at from to is none =
+      let here : at ≡ off + (at - off) = omega arith in
+      sym (ap (judged (unlent_refusal name) place) (stretch-placed r w off len bytes)
+      ∙ some_unlent name r w place off (stretch off len bytes) (at - off) (omega (arith, long))
+      (sym (ap w here) ∙ is) (λ n p q. none n p (omega arith)))

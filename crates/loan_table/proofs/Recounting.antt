@@ -16,7 +16,7 @@ use Rattle.busdma_base.specs.Machine.Wire.{stretch}
 use Rattle.loan_table.specs.declared.position.Position.{Position}
 use Rattle.loan_table.specs.declared.lent.LentCounts.{LentCounts}
 use Rattle.loan_table.specs.declared.row.Way.{Way}
-use Rattle.loan_table.specs.declared.row.Way.TheVariants.{ToWrite, Any}
+use Rattle.loan_table.specs.declared.row.Way.TheVariants.{ToWrite, ToRead}
 use Rattle.loan_table.specs.Loans.{Loan, Loans, loan_of, no_loan, is_at, unlent}
 use Rattle.loan_table.specs.Kinds.{test_of}
 use Rattle.loan_table.specs.Lending.{marked, marked_range, synced}
@@ -50,7 +50,7 @@ all_back way a (p ∷ ps) =
         by : (b : Bool) → (b && false) ≡ false
         by true = refl
         by false = refl
-    none Any = by (p.pa == a)
+    none ToRead = by (p.pa == a)
       where
         by : (b : Bool) → (b && false) ≡ false
         by true = refl
@@ -69,7 +69,7 @@ none_lent way a (b ∷ bytes) =
         by : (b : Bool) → (b && false) ≡ false
         by true = refl
         by false = refl
-    none Any = by (b == a)
+    none ToRead = by (b == a)
       where
         by : (b : Bool) → (b && false) ≡ false
         by true = refl
@@ -211,15 +211,15 @@ all_placed loan = All-from_get_or (IsPlaced loan) loan.positions no_position
     (λ i lt once way. placed_at (test_of way) loan.positions i lt (once_at _ once))
 
 -- no map
-pub none_counted : (lent : LentCounts) (way : Way) (a : ℕ) → lent.to_write.starts ≡ [] → lent.any.starts ≡ [] →
+pub none_counted : (lent : LentCounts) (way : Way) (a : ℕ) → lent.to_write.starts ≡ [] → lent.to_read.starts ≡ [] →
     count (counts_of lent way) a ≡ lent_places (test_of way) a empty
 none_counted lent way a e f = none lent way a e f ∙ sym
     (ap (sum_by (λ (x : ℕ × Loan). places (test_of way) a x.1.positions)) entries-empty)
   where
-    none : (lent : LentCounts) (way : Way) (a : ℕ) → lent.to_write.starts ≡ [] → lent.any.starts ≡ [] → count
+    none : (lent : LentCounts) (way : Way) (a : ℕ) → lent.to_write.starts ≡ [] → lent.to_read.starts ≡ [] → count
         (counts_of lent way) a ≡ 0
     none lent ToWrite a e f = ap (λ xs. count_le xs a - count_le lent.to_write.ends a) e ∙ (omega arith)
-    none lent Any a e f = ap (λ xs. count_le xs a - count_le lent.any.ends a) f ∙ (omega arith)
+    none lent ToRead a e f = ap (λ xs. count_le xs a - count_le lent.to_read.ends a) f ∙ (omega arith)
 
     entries-empty : entries (empty {X = Loan} {R = nat_cmp}) ≡ []
     entries-empty = nil_from_length _ (sym (len-entries (empty {X = Loan} {R = nat_cmp})) ∙ len-empty nat_cmp Loan)

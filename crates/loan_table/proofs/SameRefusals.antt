@@ -12,16 +12,18 @@ use Rattle.run_set.specs.Counts.{count}
 use Rattle.loan_table.specs.declared.position.Position.{Position}
 use Rattle.loan_table.specs.declared.lent.LentCounts.{LentCounts}
 use Rattle.loan_table.specs.declared.row.Way.{Way}
-use Rattle.loan_table.specs.declared.row.Way.TheVariants.{ToWrite, Any}
+use Rattle.loan_table.specs.declared.row.Way.TheVariants.{ToWrite, ToRead}
 use Rattle.loan_table.specs.declared.access.Access.{Access}
 use Rattle.loan_table.specs.declared.access.Access.TheVariants.{Read, Write}
 use Rattle.loan_table.specs.Counted.{counts_of, places, lent_places, IsCounted, IsOf, IsPlaced, IsUnlent, Lender}
 use Rattle.loan_table.specs.Kinds.{cpu_refusal, dev_refusal, test_of}
-use Rattle.loan_table.specs.Lending.{sync_refusal}
-use Rattle.loan_table.specs.Loans.{Loan, Loans, in_any_way, lent, lent_elsewhere, loan_of, stands_twice, to_write}
+use Rattle.std.specs.Option.{option_or}
+use Rattle.dma_tag.specs.SyncOps.{preread, prewrite, postread}
+use Rattle.loan_table.specs.Lending.{postread_refusal, preread_refusal, prewrite_refusal, sync_refusal}
+use Rattle.loan_table.specs.Loans.{Loan, Loans, in_any_way, lent, lent_elsewhere, loan_of, stands_twice, to_read, to_write}
 use Rattle.loan_table.proofs.Pieces.{lent_as, none_refused, same_way}
 use Rattle.loan_table.proofs.Stretches.{run_of_sum}
-use Rattle.loan_table.proofs.Totals.{elsewhere_counted, lent_counted}
+use Rattle.loan_table.proofs.Totals.{elsewhere_any, elsewhere_counted, lent_any, lent_counted}
 
 -- what a sync meets at two bytes that are lent alike
 module _ (counts : LentCounts) (loan : Loan) (lender : Lender) (of : IsOf counts loan lender) (p : Position) (a : ℕ)
@@ -73,7 +75,11 @@ module _ (counts : LentCounts) (loan : Loan) (lender : Lender) (of : IsOf counts
       let write : lent_elsewhere to_write lender.map a lender.loans
       ≡ lent_elsewhere to_write lender.map p.pa lender.loans = either (stands_twice p.pa loan) refl ToWrite in
       let any : lent_elsewhere in_any_way lender.map a lender.loans
-      ≡ lent_elsewhere in_any_way lender.map p.pa lender.loans = either (stands_twice p.pa loan) refl Any in
+      ≡ lent_elsewhere in_any_way lender.map p.pa lender.loans =
+      elsewhere_any lender.map a lender.loans
+      ∙ ap (λ b. b || lent_elsewhere to_write lender.map a lender.loans) (either (stands_twice p.pa loan) refl ToRead)
+      ∙ ap (λ b. lent_elsewhere to_read lender.map p.pa lender.loans || b) write
+      ∙ sym (elsewhere_any lender.map p.pa lender.loans) in
       let stands : stands_twice a (loan_of lender.loans lender.map)
       ≡ stands_twice p.pa (loan_of lender.loans lender.map) =
       ap (stands_twice a) (sym of.1) ∙ twice ∙ ap (stands_twice p.pa) of.1 in
@@ -105,7 +111,9 @@ same_for_driver counts loans counted access known a b e same = by access
         let write : lent to_write a loans ≡ lent to_write b loans = alike ToWrite in
         rw (write, e) refl
     by Write =
-        let any : lent in_any_way a loans ≡ lent in_any_way b loans = alike Any in
+        let any : lent in_any_way a loans ≡ lent in_any_way b loans =
+        lent_any a loans ∙ ap (λ t. t || lent to_write a loans) (alike ToRead)
+        ∙ ap (λ t. lent to_read b loans || t) (alike ToWrite) ∙ sym (lent_any b loans) in
         rw any refl
 
 -- the bytes of a run up to one: none of them is refused
@@ -120,3 +128,22 @@ run_passed f at pa t end from to h =
     ∙ ap (λ xs. judged f at (xs ++ run_of (pa + m) (end - t))) (sym (map-id (run_of pa m)))
     ∙ none_refused f (λ a. a) at pa m (run_of (pa + m) (end - t)) (λ a p q. h a p (omega arith))
     ∙ ap (λ k. judged f (at + m) (run_of k (end - t))) there
+
+alone : (o : Option ReportName) → option_or o None ≡ o
+alone None = refl
+alone (Some name) = refl
+
+-- what a call meets that begins no lending
+pub met_by_ends : (loans : Loans) (m ops : ℕ) (b : Bool) (p : Position) → postread ops ≡ b → prewrite ops ≡ false →
+    preread ops ≡ false → sync_refusal loans m ops p ≡ (if b then postread_refusal p else None)
+met_by_ends loans m ops b p e f g =
+    ap (λ x. option_or (if x then postread_refusal p else None) (option_or (if prewrite ops
+    then prewrite_refusal loans m p else None) (if preread ops then preread_refusal loans m p else None))) e
+    ∙ ap (λ y. option_or (if b then postread_refusal p else None) (option_or (if y
+    then prewrite_refusal loans m p else None) (if preread ops then preread_refusal loans m p else None))) f
+    ∙ ap (λ z. option_or (if b then postread_refusal p else None) (if z then preread_refusal loans m p else None)) g
+    ∙ left b
+  where
+    left : (c : Bool) → option_or (if c then postread_refusal p else None) None ≡ (if c then postread_refusal p else None)
+    left true = alone (postread_refusal p)
+    left false = refl

@@ -13,7 +13,7 @@ use Rattle.std.specs.FinMap.{get, insert, remove, entries, entries_sorted, from_
 use Rattle.std.specs.FinMap.{get-from_sorted, get-entries, get-insert, get-remove}
 use Rattle.std.specs.FinMap.{same_map, nat_cmp-IsAntisymmetric}
 use Rattle.loan_table.specs.declared.position.Position.{Position}
-use Rattle.loan_table.specs.Loans.{Loan, Loans, loan_of, no_loan, is_at, lends, lent, lent_elsewhere}
+use Rattle.loan_table.specs.Loans.{Loan, Loans, loan_of, no_loan, in_any_way, is_at, lends, lent, lent_elsewhere, to_read, to_write}
 use Rattle.loan_table.specs.Counted.{places, lent_places}
 use Rattle.loan_table.proofs.Marking.{loan_of-insert}
 
@@ -194,3 +194,40 @@ elsewhere_counted way a loans m =
     ∙ ap (list_any (λ e. lends way a e.1)) (sym (entries-remove loans m))
     ∙ lent_counted way a (remove loans m)
     ∙ less _ _ _ (places-remove way a loans m)
+
+-- a test of a list by two tests
+any_or : {X : Type 0} (q r s : X → Bool) → ((x : X) → q x ≡ (r x || s x)) → (xs : List X) →
+    list_any q xs ≡ (list_any r xs || list_any s xs)
+any_or q r s same [] = refl
+any_or q r s same (x ∷ xs) =
+    ap (λ b. b || list_any q xs) (same x) ∙ ap (λ b. (r x || s x) || b) (any_or q r s same xs)
+    ∙ mixed (r x) (s x) (list_any r xs) (list_any s xs)
+  where
+    mixed : (a b c d : Bool) → ((a || b) || (c || d)) ≡ ((a || c) || (b || d))
+    mixed true b c d = refl
+    mixed false true true d = refl
+    mixed false true false d = refl
+    mixed false false c d = refl
+
+and_or : (a b c : Bool) → (a && (b || c)) ≡ ((a && b) || (a && c))
+and_or true b c = refl
+and_or false b c = refl
+
+-- a byte is lent in any way where it is lent to read or to write
+lends_any : (a : ℕ) (loan : Loan) → lends in_any_way a loan ≡ (lends to_read a loan || lends to_write a loan)
+lends_any a loan =
+    any_or (λ p. is_at a p && in_any_way p) (λ p. is_at a p && to_read p) (λ p. is_at a p && to_write p)
+    (λ p. and_or (is_at a p) p.to_read p.to_write) loan.positions
+
+pub lent_any : (a : ℕ) (loans : Loans) → lent in_any_way a loans ≡ (lent to_read a loans || lent to_write a loans)
+lent_any a loans =
+    any_or (λ e. lends in_any_way a e.1) (λ e. lends to_read a e.1) (λ e. lends to_write a e.1)
+    (λ e. lends_any a e.1) (entries loans)
+
+pub elsewhere_any : (m a : ℕ) (loans : Loans) → lent_elsewhere in_any_way m a loans
+    ≡ (lent_elsewhere to_read m a loans || lent_elsewhere to_write m a loans)
+elsewhere_any m a loans =
+    any_or (λ e. not (e.0 == m) && lends in_any_way a e.1) (λ e. not (e.0 == m) && lends to_read a e.1)
+    (λ e. not (e.0 == m) && lends to_write a e.1)
+    (λ e. ap (λ b. not (e.0 == m) && b) (lends_any a e.1)
+    ∙ and_or (not (e.0 == m)) (lends to_read a e.1) (lends to_write a e.1)) (entries loans)

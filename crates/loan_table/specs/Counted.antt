@@ -6,7 +6,7 @@ use Rattle.run_set.specs.Edges.{in_run}
 use Rattle.loan_table.specs.declared.position.Position.{Position}
 use Rattle.loan_table.specs.declared.lent.LentCounts.{LentCounts}
 use Rattle.loan_table.specs.declared.row.Way.{Way}
-use Rattle.loan_table.specs.declared.row.Way.TheVariants.{ToWrite, Any}
+use Rattle.loan_table.specs.declared.row.Way.TheVariants.{ToWrite, ToRead}
 use Rattle.loan_table.specs.Kinds.{test_of}
 use Rattle.loan_table.specs.Loans.{Loan, Loans, loan_of, is_at, stands_twice}
 
@@ -40,7 +40,7 @@ IsPlaced loan p =
 -- the counts of a way
 abbrev pub counts_of : LentCounts → Way → Counts
 counts_of lent ToWrite = lent.to_write
-counts_of lent Any = lent.any
+counts_of lent ToRead = lent.to_read
 
 -- the counts are those of loans
 abbrev pub IsCounted : LentCounts → Loans → Type 0

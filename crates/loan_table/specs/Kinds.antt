@@ -1,21 +1,21 @@
 -- The kinds of lending and access that the code tells apart, as tests.
-use Rattle.std.specs.Prelude.{ℕ, Bool, Option}
+use Rattle.std.specs.Prelude.{ℕ, Bool, if◌then◌else◌, Option, Some, None}
 use Rattle.busdma_base.specs.declared.journals.report.ReportName.{ReportName}
 use Rattle.loan_table.specs.declared.position.Position.{Position}
 use Rattle.loan_table.specs.declared.row.Way.{Way}
-use Rattle.loan_table.specs.declared.row.Way.TheVariants.{ToWrite, Any}
+use Rattle.loan_table.specs.declared.row.Way.TheVariants.{ToWrite, ToRead}
 use Rattle.loan_table.specs.declared.losing.Losing.{Losing}
 use Rattle.loan_table.specs.declared.losing.Losing.TheVariants.{Call, Forgetting}
 use Rattle.loan_table.specs.declared.access.Access.{Access}
 use Rattle.loan_table.specs.declared.access.Access.TheVariants.{Read, Write}
-use Rattle.loan_table.specs.Loans.{Loans, to_write, in_any_way}
+use Rattle.loan_table.specs.Loans.{Loans, to_read, to_write}
 use Rattle.loan_table.specs.Lending.{loses}
 use Rattle.loan_table.specs.Access.{cpu_read_refusal, cpu_write_refusal, dev_read_refusal, dev_write_refusal}
 
 -- a way of lending, as a test on positions
 abbrev pub test_of : Way → Position → Bool
 test_of ToWrite = to_write
-test_of Any = in_any_way
+test_of ToRead = to_read
 
 -- what the driver meets at a byte
 abbrev pub cpu_refusal : Access → (ℕ → Bool) → Loans → ℕ → Option ReportName
@@ -26,6 +26,10 @@ cpu_refusal Write known loans a = cpu_write_refusal loans a
 abbrev pub dev_refusal : Access → (ℕ → Bool) → Bool → Position → Option ReportName
 dev_refusal Read known coherent p = dev_read_refusal known coherent p
 dev_refusal Write known coherent p = dev_write_refusal coherent p
+
+-- a position that is not lent to write is refused by a name
+abbrev pub unlent_refusal : ReportName → Position → Option ReportName
+unlent_refusal name p = if p.to_write then None else Some name
 
 -- what makes bytes Unknown, as a test on positions
 abbrev pub losing_test : Losing → Position → Bool

@@ -9,7 +9,7 @@ ghost use Rattle.loan_table.specs.Access.{cpu_read_refusal, cpu_write_refusal, d
 ghost use Rattle.loan_table.specs.Counted.{IsCounted};
 ghost use Rattle.loan_table.specs.Ends.{Ends};
 ghost use Rattle.loan_table.specs.Kinds.{cpu_refusal, dev_refusal};
-ghost use Rattle.loan_table.specs.Loans.{Loans};
+ghost use Rattle.loan_table.specs.Loans.{Loans, in_any_way, lent};
 ghost use Rattle.loan_table.specs.Table.{is_marked};
 
 use crate::lent::LentCounts;
@@ -38,11 +38,21 @@ fn cpu_read_refusal(bytes: &ByteMarks, lent: &LentCounts, pa: u64) -> Option<Rep
     }
 }
 
+/// Whether a byte is lent, to read or to write.
+fn is_lent(counts: &LentCounts, pa: u64) -> bool
+    ensures { (loans : Loans) → IsCounted counts.now loans → result ≡ lent in_any_way pa loans }
+{
+    if counts.count(Way::ToRead, pa) > 0 {
+        return true;
+    }
+    counts.count(Way::ToWrite, pa) > 0
+}
+
 /// What the driver meets where it writes a byte.
 fn cpu_write_refusal(lent: &LentCounts, pa: u64) -> Option<ReportName>
     ensures { (loans : Loans) → IsCounted lent.now loans → result ≡ cpu_write_refusal loans pa }
 {
-    if lent.count(Way::Any, pa) > 0 {
+    if is_lent(lent, pa) {
         Some(ReportName::CpuWriteLent)
     } else {
         None
@@ -122,43 +132,41 @@ fn dev_read_refusal(bytes: &ByteMarks, coherent: bool, position: Position) -> Op
     }
 }
 
-/// What the device meets where it writes a position.
-fn dev_write_refusal(coherent: bool, position: Position) -> Option<ReportName>
-    ensures { result ≡ dev_write_refusal coherent position }
-{
-    if coherent || position.to_write {
-        None
-    } else {
-        Some(ReportName::DeviceWriteUnlent)
-    }
-}
-
-/// What the device meets at a position.
-fn dev_refusal(
-    bytes: &ByteMarks,
-    coherent: bool,
-    access: Access,
-    position: Position,
-) -> Option<ReportName>
-    ensures { result ≡ dev_refusal access (is_marked bytes.now.bytes) coherent position }
-{
-    match access {
-        Access::Read => dev_read_refusal(bytes, coherent, position),
-        Access::Write => dev_write_refusal(coherent, position),
-    }
-}
-
 /// The judgement of the device's access of a range of a map's buffer.
 pub fn judge_range(bytes: &ByteMarks, row: &LoanRow, access: Access, off: u64, len: u64) -> Judged
     requires range { off + len ≤ length row.now.positions }
     ensures { let refusal = dev_refusal access (is_marked bytes.now.bytes) row.now.coherent in
         result ≡ judged refusal 0 (stretch off len row.now.positions) }
 {
+    match access {
+        Access::Read => judge_read(bytes, row, off, len),
+        Access::Write => judge_write(row, off, len),
+    }
+}
+
+/// The judgement of the device's write of a range of a map's buffer.
+fn judge_write(row: &LoanRow, off: u64, len: u64) -> Judged
+    requires range { off + len ≤ length row.now.positions }
+    ensures { result ≡ judged (dev_write_refusal row.now.coherent) 0 (stretch off len row.now.positions) }
+{
+    if row.is_coherent() {
+        return Judged::Fine;
+    }
+    row.judge_to_write(off, len, ReportName::DeviceWriteUnlent, 0)
+}
+
+/// The judgement of the device's read of a range of a map's buffer.
+fn judge_read(bytes: &ByteMarks, row: &LoanRow, off: u64, len: u64) -> Judged
+    requires range { off + len ≤ length row.now.positions }
+    ensures { let refusal = dev_read_refusal (is_marked bytes.now.bytes) row.now.coherent in
+        result ≡ judged refusal 0 (stretch off len row.now.positions) }
+{
     let end = row.end_of(off, len);
+    let mut near = 0;
     let mut at = off;
     while at < end {
-        let piece = row.piece(at, end);
-        if let Some(name) = dev_refusal(bytes, row.is_coherent(), access, piece.first) {
+        let piece = row.piece(at, end, &mut near);
+        if let Some(name) = dev_read_refusal(bytes, row.is_coherent(), piece.first) {
             return Judged::Refused(Report { name, at: at - off });
         }
         let start = piece.first.pa;

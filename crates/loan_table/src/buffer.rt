@@ -10,8 +10,8 @@ ghost use Rattle.run_set.specs.Counts.{changed, count};
 ghost use Rattle.run_set.specs.Edges.{in_run};
 
 use busdma_base::{Extent, Pa};
-use run_set::RunCounts;
-use run_set::numbers::count_at;
+use run_set::numbers::count_near;
+use run_set::{Near, RunCounts};
 use std::alloc::{AllocError, Global};
 use std::marker::Model;
 
@@ -66,8 +66,9 @@ impl Buffer {
         self.len
     }
 
-    /// Bytes that follow one another: those from a position on, as many as there are before `end`.
-    pub fn stretch(&self, at: u64, end: u64) -> Extent
+    /// Bytes that follow one another: those from a position on, as many as there are before `end`. They
+    /// are found soon where `near` is left by a look at this position, or at one before it.
+    pub fn stretch(&self, at: u64, end: u64, near: &mut usize) -> Extent
         requires some { at < end }
         requires range { end ≤ length self.now }
         ensures some { 0 < result.len }
@@ -75,30 +76,30 @@ impl Buffer {
         ensures fits { result.pa.0 + result.len < 2 ^ 64 }
         ensures bytes { stretch at result.len self.now ≡ run_of result.pa.0 result.len }
     {
-        stretch_at(&self.stretches, &self.starts, at, end)
+        stretch_at(&self.stretches, &self.starts, at, end, near)
     }
 
     /// At how many positions a byte stands.
-    pub fn places(&self, pa: u64) -> u64
+    pub fn places(&self, pa: u64, near: &mut Near) -> u64
         ensures { result ≡ stands pa self.now }
     {
-        self.places.count(pa)
+        self.places.count_near(pa, near)
     }
 
     /// The byte up to which all bytes from `start` on stand at as many positions as it does; `end`
     /// where none comes before it.
-    pub fn turn(&self, start: u64, end: u64) -> u64
+    pub fn turn(&self, start: u64, end: u64, near: &mut Near) -> u64
         requires { start < end }
         ensures from { start < result }
         ensures to { result ≤ end }
         ensures same { (a : ℕ) → start ≤ a → a < result → stands a self.now ≡ stands start self.now }
     {
-        self.places.turn(start, end)
+        self.places.turn_near(start, end, near)
     }
 }
 
 /// The bytes from a position on, up to `end` or to the end of their stretch.
-fn stretch_at(stretches: &[Extent], starts: &[u64], at: u64, end: u64) -> Extent
+fn stretch_at(stretches: &[Extent], starts: &[u64], at: u64, end: u64, near: &mut usize) -> Extent
     requires ends { All Ends stretches.now }
     requires starts { starts.now ≡ starts_from 0 stretches.now }
     requires some { at < end }
@@ -108,7 +109,9 @@ fn stretch_at(stretches: &[Extent], starts: &[u64], at: u64, end: u64) -> Extent
     ensures fits { result.pa.0 + result.len < 2 ^ 64 }
     ensures bytes { stretch at result.len (addresses stretches.now) ≡ run_of result.pa.0 result.len }
 {
-    let last = count_at(starts, at) - 1;
+    let count = count_near(starts, at, *near);
+    *near = count;
+    let last = count - 1;
     part_of(&stretches[last], at - starts[last], end - at)
 }
 

@@ -7,7 +7,6 @@ ghost use Rattle.busdma_base.specs.Runs.{addresses, IsExtent, run_of};
 ghost use Rattle.loan_table.specs.Loans.{addresses_of};
 ghost use Rattle.loan_table.specs.Table.{extent_count, is_next, more_extents};
 
-use crate::piece::Piece;
 use crate::row::LoanRow;
 use busdma_base::{Extent, Pa};
 use std::alloc::{AllocError, Global};
@@ -33,12 +32,13 @@ pub fn extents_of(
         return Ok(extents);
     }
     let end = row.end_of(off, len);
-    let first = row.piece(off, end);
+    let mut near = 0;
+    let first = row.stretch(off, end, &mut near);
     let mut run = in_frame(&first);
     let mut at = off + run.len;
     while at < end {
-        let piece = row.piece(at, end);
-        let next = in_frame(&piece);
+        let bytes = row.stretch(at, end, &mut near);
+        let next = in_frame(&bytes);
         if is_next(last_of(&run), next.pa.0) {
             run.len += next.len;
         } else {
@@ -51,18 +51,18 @@ pub fn extents_of(
     Ok(extents)
 }
 
-/// The bytes of a piece that lie in the frame of its first byte.
-fn in_frame(piece: &Piece) -> Extent
-    requires some { 0 < piece.now.len }
-    requires low { piece.now.first.pa < 2 ^ 42 }
-    ensures pa { result.pa.0 ≡ piece.now.first.pa }
-    ensures within { result.len ≤ piece.now.len }
+/// Those of bytes that follow one another that lie in the frame of the first.
+fn in_frame(bytes: &Extent) -> Extent
+    requires some { 0 < bytes.now.len }
+    requires low { bytes.now.pa.0 < 2 ^ 42 }
+    ensures pa { result.pa.0 ≡ bytes.now.pa.0 }
+    ensures within { result.len ≤ bytes.now.len }
     ensures extent { IsExtent result }
 {
-    let pa = piece.first.pa;
+    let pa = bytes.pa.0;
     Extent {
         pa: Pa(pa),
-        len: piece.len.min(4096 - pa % 4096),
+        len: bytes.len.min(4096 - pa % 4096),
     }
 }
 
@@ -91,26 +91,27 @@ pub fn extent_count(row: &LoanRow, off: u64, len: u64) -> u64
     }
     let end = row.end_of(off, len);
     let mut count = 0;
-    let mut last = row.piece(off, end).first.pa;
+    let mut near = 0;
+    let mut last = row.stretch(off, end, &mut near).pa.0;
     let mut at = off;
     while at < end {
-        let piece = row.piece(at, end);
-        count += more_extents(last, &piece);
-        last = piece.first.pa + piece.len - 1;
-        at += piece.len;
+        let bytes = row.stretch(at, end, &mut near);
+        count += more_extents(last, &bytes);
+        last = bytes.pa.0 + bytes.len - 1;
+        at += bytes.len;
     }
     count
 }
 
-/// How many extents begin at the bytes of a piece, behind a byte.
-fn more_extents(before: u64, piece: &Piece) -> u64
-    requires some { 0 < piece.now.len }
-    requires fits { piece.now.first.pa + piece.now.len < 2 ^ 64 }
-    ensures is { result ≡ more_extents before (run_of piece.now.first.pa piece.now.len) }
-    ensures small { result ≤ piece.now.len }
+/// How many extents begin at bytes that follow one another, behind a byte.
+fn more_extents(before: u64, bytes: &Extent) -> u64
+    requires some { 0 < bytes.now.len }
+    requires fits { bytes.now.pa.0 + bytes.now.len < 2 ^ 64 }
+    ensures is { result ≡ more_extents before (run_of bytes.now.pa.0 bytes.now.len) }
+    ensures small { result ≤ bytes.now.len }
 {
-    let first = piece.first.pa;
-    let last = first + piece.len - 1;
+    let first = bytes.pa.0;
+    let last = first + bytes.len - 1;
     let frames = last / 4096 - first / 4096;
     if is_next(before, first) {
         frames

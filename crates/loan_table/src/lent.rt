@@ -11,25 +11,42 @@ ghost use Rattle.loan_table.specs.Lending.{marked};
 use crate::piece::Piece;
 use crate::row::{LoanRow, Way, marked};
 use dma_tag::SyncOps;
-use run_set::RunCounts;
+use run_set::{Near, RunCounts};
 use std::alloc::{AllocError, Global};
 
-/// At how many positions of all open maps each byte is lent, to write and in any way.
+/// At how many positions of all open maps each byte is lent, to write and to read.
 #[derive(Drop)]
 pub struct LentCounts {
     pub to_write: RunCounts,
-    pub any: RunCounts,
+    pub to_read: RunCounts,
+}
+
+/// Where counts are looked at first: any value of it gives the same answers.
+#[derive(Clone, Copy)]
+pub struct NearCounts {
+    to_write: Near,
+    to_read: Near,
+}
+
+impl NearCounts {
+    /// Before the first byte.
+    pub fn new() -> NearCounts {
+        NearCounts {
+            to_write: Near::new(),
+            to_read: Near::new(),
+        }
+    }
 }
 
 impl LentCounts {
     /// No byte is lent, and there is room for no change.
     pub fn new(alloc: Global) -> LentCounts
         ensures to_write { result.to_write.starts ≡ [] }
-        ensures any { result.any.starts ≡ [] }
+        ensures to_read { result.to_read.starts ≡ [] }
     {
         LentCounts {
             to_write: RunCounts::new(alloc),
-            any: RunCounts::new(alloc),
+            to_read: RunCounts::new(alloc),
         }
     }
 
@@ -40,7 +57,7 @@ impl LentCounts {
         ensures room { UsesChanges self.old self.new 0 }
     {
         self.to_write.reserve(changes)?;
-        self.any.reserve(changes)
+        self.to_read.reserve(changes)
     }
 
     /// At how many positions a byte is lent.
@@ -49,15 +66,25 @@ impl LentCounts {
     {
         match way {
             Way::ToWrite => self.to_write.count(pa),
-            Way::Any => self.any.count(pa),
+            Way::ToRead => self.to_read.count(pa),
+        }
+    }
+
+    /// At how many positions a byte is lent, looked for near an earlier look.
+    pub fn count_near(&self, way: Way, pa: u64, near: &mut NearCounts) -> u64
+        ensures { result ≡ count (counts_of self.now way) pa }
+    {
+        match way {
+            Way::ToWrite => self.to_write.count_near(pa, &mut near.to_write),
+            Way::ToRead => self.to_read.count_near(pa, &mut near.to_read),
         }
     }
 
     /// Whether a byte is lent.
-    pub fn is_lent(&self, pa: u64) -> bool
+    pub fn is_lent(&self, pa: u64, near: &mut NearCounts) -> bool
         ensures { result ≡ false → IsUnlent self.now pa }
     {
-        self.count(Way::ToWrite, pa) > 0 || self.count(Way::Any, pa) > 0
+        self.count_near(Way::ToWrite, pa, near) > 0 || self.count_near(Way::ToRead, pa, near) > 0
     }
 
     /// The byte up to which all bytes from `start` on are lent at as many positions as it is; `end`
@@ -70,7 +97,19 @@ impl LentCounts {
             count (counts_of self.now way) a ≡ count (counts_of self.now way) start }
     {
         let turn = self.to_write.turn(start, end);
-        self.any.turn(start, turn)
+        self.to_read.turn(start, turn)
+    }
+
+    /// What `turn` gives, looked for near an earlier look.
+    pub fn turn_near(&self, start: u64, end: u64, near: &mut NearCounts) -> u64
+        requires { start < end }
+        ensures from { start < result }
+        ensures to { result ≤ end }
+        ensures same { (way : Way) (a : ℕ) → start ≤ a → a < result →
+            count (counts_of self.now way) a ≡ count (counts_of self.now way) start }
+    {
+        let turn = self.to_write.turn_near(start, end, &mut near.to_write);
+        self.to_read.turn_near(start, turn, &mut near.to_read)
     }
 
     /// Counts the positions of a range as a call marks them.
@@ -83,9 +122,10 @@ impl LentCounts {
         ensures room { UsesChanges self.old self.new len }
     {
         let end = row.end_of(off, len);
+        let mut near = 0;
         let mut at = off;
         while at < end {
-            let piece = row.piece(at, end);
+            let piece = row.piece(at, end, &mut near);
             self.recount(&piece, ops);
             at += piece.len;
         }
@@ -105,7 +145,7 @@ impl LentCounts {
         ensures room { UsesChanges self.old self.new 1 }
     {
         recount_piece(&mut self.to_write, Way::ToWrite, piece, ops);
-        recount_piece(&mut self.any, Way::Any, piece, ops);
+        recount_piece(&mut self.to_read, Way::ToRead, piece, ops);
     }
 
     /// Counts the positions of a map no more.

@@ -45,6 +45,21 @@ fn loses(position: &Position, ops: SyncOps) -> bool
         && !(ops.contains(SyncOps::PREWRITE) || position.to_read)
 }
 
+/// Makes Unknown those bytes of a range that a call loses.
+pub fn lose_by_call(bytes: &mut ByteMarks, row: &LoanRow, off: u64, len: u64, ops: SyncOps)
+    requires range { off + len ≤ length row.now.positions }
+    requires there { AreIn bytes.old.bytes (addresses_of (stretch off len row.now.positions)) }
+    requires room { len + len ≤ bytes.old.room }
+    ensures bytes { let lost = filter (loses ops.0) (stretch off len row.now.positions) in
+        bytes.new.bytes ≡ set_all bytes.old.bytes (addresses_of lost) false }
+    ensures room { bytes.old.room ≤ bytes.new.room + (len + len) }
+    ensures there_room { bytes.new.there_room ≡ bytes.old.there_room }
+{
+    if ops.contains(SyncOps::PREREAD) {
+        lose(bytes, row, off, len, Losing::Call(ops));
+    }
+}
+
 /// Makes Unknown those bytes of a range that are lost.
 pub fn lose(bytes: &mut ByteMarks, row: &LoanRow, off: u64, len: u64, losing: Losing)
     requires range { off + len ≤ length row.now.positions }
@@ -56,9 +71,10 @@ pub fn lose(bytes: &mut ByteMarks, row: &LoanRow, off: u64, len: u64, losing: Lo
     ensures there_room { bytes.new.there_room ≡ bytes.old.there_room }
 {
     let end = row.end_of(off, len);
+    let mut near = 0;
     let mut at = off;
     while at < end {
-        let piece = row.piece(at, end);
+        let piece = row.piece(at, end, &mut near);
         lose_piece(bytes, &piece, losing);
         at += piece.len;
     }

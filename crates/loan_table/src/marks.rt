@@ -157,10 +157,11 @@ pub fn set_range(bytes: &mut ByteMarks, row: &LoanRow, off: u64, len: u64, known
     ensures there_room { bytes.new.there_room ≡ bytes.old.there_room }
 {
     let end = row.end_of(off, len);
+    let mut near = 0;
     let mut at = off;
     while at < end {
-        let piece = row.piece(at, end);
-        bytes.set_run(piece.first.pa, piece.len, known);
-        at += piece.len;
+        let run = row.stretch(at, end, &mut near);
+        bytes.set_run(run.pa.0, run.len, known);
+        at += run.len;
     }
 }

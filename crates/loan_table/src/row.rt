@@ -4,10 +4,11 @@ ghost use Rattle.std.specs.Prelude.{◌≡◌, ℕ, ◌+◌, ◌-◌, ◌≤◌,
 ghost use Rattle.std.specs.Prelude.{if◌then◌else◌, slice_index, IfOk, [], false};
 ghost use Rattle.std.specs.List.{All, filter};
 ghost use Rattle.busdma_base.specs.Machine.Wire.{stretch};
-ghost use Rattle.busdma_base.specs.Runs.{addresses, byte_count};
+ghost use Rattle.busdma_base.specs.Journals.Judging.{judged};
+ghost use Rattle.busdma_base.specs.Runs.{addresses, byte_count, run_of};
 ghost use Rattle.loan_table.specs.Counted.{places, places_in, HasChanges, Holds, IsPlaced, IsRecounted, UsesChanges};
 ghost use Rattle.loan_table.specs.Ends.{Ends};
-ghost use Rattle.loan_table.specs.Kinds.{test_of};
+ghost use Rattle.loan_table.specs.Kinds.{test_of, unlent_refusal};
 ghost use Rattle.loan_table.specs.Lending.{marked, marked_range};
 ghost use Rattle.loan_table.specs.Loans.{stands_twice, addresses_of, to_write, new_loan};
 ghost use Rattle.loan_table.specs.Rows.{alike, IsRoomy};
@@ -21,9 +22,9 @@ use crate::marks::ByteMarks;
 use crate::piece::Piece;
 use crate::position::Position;
 use bitflags::Flags;
-use busdma_base::Extent;
+use busdma_base::{Extent, Judged, Report, ReportName};
 use dma_tag::SyncOps;
-use run_set::RunSet;
+use run_set::{Near, RunSet};
 use std::alloc::{AllocError, Global};
 use std::marker::Model;
 
@@ -31,7 +32,7 @@ use std::marker::Model;
 #[derive(Clone, Copy)]
 pub enum Way {
     ToWrite,
-    Any,
+    ToRead,
 }
 
 impl Way {
@@ -41,7 +42,7 @@ impl Way {
     {
         match self {
             Way::ToWrite => position.to_write,
-            Way::Any => position.to_read || position.to_write,
+            Way::ToRead => position.to_read,
         }
     }
 }
@@ -115,7 +116,7 @@ impl LoanRow {
 
     /// The positions from one on that follow one another, of bytes that follow one another, and are
     /// lent alike, as many as there are before `end`.
-    pub fn piece(&self, at: u64, end: u64) -> Piece
+    pub fn piece(&self, at: u64, end: u64, near: &mut usize) -> Piece
         requires some { at < end }
         requires range { end ≤ length self.now.positions }
         ensures some { 0 < result.len }
@@ -124,7 +125,7 @@ impl LoanRow {
         ensures is { stretch at (end - at) self.now.positions
             ≡ alike result.first result.len ++ stretch (at + result.len) (end - (at + result.len)) self.now.positions }
     {
-        let run = self.buffer.stretch(at, end);
+        let run = self.buffer.stretch(at, end, near);
         let (to_read, turn) = self.to_read.run_at(at, at + run.len);
         let (to_write, turn) = self.to_write.run_at(at, turn);
         Piece {
@@ -137,38 +138,70 @@ impl LoanRow {
         }
     }
 
+    /// Bytes that follow one another: those from a position on, as many as there are before `end`. They
+    /// are found soon where `near` is left by a look at this position, or at one before it.
+    pub fn stretch(&self, at: u64, end: u64, near: &mut usize) -> Extent
+        requires some { at < end }
+        requires range { end ≤ length self.now.positions }
+        ensures some { 0 < result.len }
+        ensures within { at + result.len ≤ end }
+        ensures fits { result.pa.0 + result.len < 2 ^ 64 }
+        ensures is { addresses_of (stretch at (end - at) self.now.positions) ≡ run_of result.pa.0 result.len
+            ++ addresses_of (stretch (at + result.len) (end - (at + result.len)) self.now.positions) }
+        ensures first { result.pa.0 ≡ slice_index (addresses_of self.now.positions) at }
+    {
+        self.buffer.stretch(at, end, near)
+    }
+
+    /// The judgement of a range, whose first position is at a place: a position that is not lent to
+    /// write is refused by a name.
+    pub fn judge_to_write(&self, off: u64, len: u64, name: ReportName, place: u64) -> Judged
+        requires range { off + len ≤ length self.now.positions }
+        requires place { place ≤ off }
+        ensures { result ≡ judged (unlent_refusal name) place (stretch off len self.now.positions) }
+    {
+        let end = self.end_of(off, len);
+        match self.to_write.first(off, end, false) {
+            Some(at) => Judged::Refused(Report {
+                name,
+                at: place + (at - off),
+            }),
+            None => Judged::Fine,
+        }
+    }
+
     /// The byte at a position.
     pub fn byte_at(&self, at: u64) -> u64
         requires { at < length self.now.positions }
         ensures { result ≡ slice_index (addresses_of self.now.positions) at }
     {
-        self.buffer.stretch(at, self.buffer.len()).pa.0
+        self.buffer.stretch(at, self.buffer.len(), &mut 0).pa.0
     }
 
     /// Whether the byte stands at more than one position.
-    pub fn stands_twice(&self, pa: u64) -> bool
+    pub fn stands_twice(&self, pa: u64, near: &mut Near) -> bool
         ensures { result ≡ stands_twice pa self.now }
     {
-        self.buffer.places(pa) > 1
+        self.buffer.places(pa, near) > 1
     }
 
     /// The byte up to which all bytes from `start` on stand at more than one position, or all do not;
     /// `end` where none comes before it.
-    pub fn turn(&self, start: u64, end: u64) -> u64
+    pub fn turn(&self, start: u64, end: u64, near: &mut Near) -> u64
         requires { start < end }
         ensures from { start < result }
         ensures to { result ≤ end }
         ensures same { (a : ℕ) → start ≤ a → a < result → stands_twice a self.now ≡ stands_twice start self.now }
     {
-        self.buffer.turn(start, end)
+        self.buffer.turn(start, end, near)
     }
 
     /// At how many positions the map lends the byte of a position.
-    pub fn lent_places(&self, way: Way, position: Position) -> u64
+    pub fn lent_places(&self, way: Way, position: Position, near: &mut Near) -> u64
         requires { IsPlaced self.now position }
         ensures { result ≡ places (test_of way) position.pa self.now.positions }
     {
-        if self.stands_twice(position.pa) {
+        if self.stands_twice(position.pa, near) {
             count_lent(self, way, position.pa)
         } else if way.passes(&position) {
             1
@@ -223,9 +256,10 @@ fn count_lent(row: &LoanRow, way: Way, pa: u64) -> u64
 {
     let end = row.len();
     let mut count = 0;
+    let mut near = 0;
     let mut at = 0;
     while at < end {
-        let piece = row.piece(at, end);
+        let piece = row.piece(at, end, &mut near);
         count += lent_in(&piece, way, pa);
         at += piece.len;
     }

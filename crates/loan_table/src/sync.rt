@@ -13,13 +13,14 @@ ghost use Rattle.loan_table.specs.Counted.{counts_of, HasChanges, IsCounted, IsU
 ghost use Rattle.loan_table.specs.Counted.{UsesChanges};
 ghost use Rattle.loan_table.specs.Kept.{position_count};
 ghost use Rattle.loan_table.specs.Kinds.{test_of};
-ghost use Rattle.loan_table.specs.Loans.{loan_of, addresses_of, lent_elsewhere, stands_twice};
+ghost use Rattle.dma_tag.specs.SyncOps.{preread, prewrite};
+ghost use Rattle.loan_table.specs.Loans.{Loans, loan_of, addresses_of, in_any_way, lent_elsewhere, stands_twice};
 ghost use Rattle.loan_table.specs.Table.{AreIn, set_all};
 ghost use Rattle.loan_table.specs.Trees.{closed, opened};
 
-use crate::lent::LentCounts;
+use crate::lent::{LentCounts, NearCounts};
 use crate::loans::row_of;
-use crate::losing::{self, Losing};
+use crate::losing;
 use crate::marks::ByteMarks;
 use crate::piece::Piece;
 use crate::position::Position;
@@ -28,30 +29,79 @@ use crate::slot::Slot;
 use bitflags::Flags;
 use busdma_base::{Judged, Report, ReportName};
 use dma_tag::SyncOps;
+use run_set::Near;
 use std::collections::BTreeMap;
 
+/// Where a judgement looks first, for positions that follow one another: any value of it gives the
+/// same answers.
+#[derive(Clone, Copy)]
+struct Looks {
+    piece: usize,
+    places: Near,
+    lent: NearCounts,
+}
+
+impl Looks {
+    /// Before the first position.
+    fn new() -> Looks {
+        Looks {
+            piece: 0,
+            places: Near::new(),
+            lent: NearCounts::new(),
+        }
+    }
+}
+
 /// Whether some map other than this one lends the byte of one of its positions.
-fn lent_elsewhere(lent: &LentCounts, row: &LoanRow, way: Way, position: Position) -> bool
+fn lent_elsewhere(
+    lent: &LentCounts,
+    row: &LoanRow,
+    way: Way,
+    position: Position,
+    looks: &mut Looks,
+) -> bool
     requires placed { IsPlaced row.now position }
     ensures { (lender : Lender) → IsOf lent.now row.now lender →
         result ≡ lent_elsewhere (test_of way) lender.map position.pa lender.loans }
 {
-    let count = lent.count(way, position.pa);
+    let count = lent.count_near(way, position.pa, &mut looks.lent);
     if count == 0 {
         return false;
     }
-    count > row.lent_places(way, position)
+    count > row.lent_places(way, position, &mut looks.places)
+}
+
+/// Whether some map other than this one lends the byte of one of its positions, to read or to write.
+fn lent_in_any_way_elsewhere(
+    lent: &LentCounts,
+    row: &LoanRow,
+    position: Position,
+    looks: &mut Looks,
+) -> bool
+    requires placed { IsPlaced row.now position }
+    ensures { (lender : Lender) → IsOf lent.now row.now lender →
+        result ≡ lent_elsewhere in_any_way lender.map position.pa lender.loans }
+{
+    if lent_elsewhere(lent, row, Way::ToRead, position, looks) {
+        return true;
+    }
+    lent_elsewhere(lent, row, Way::ToWrite, position, looks)
 }
 
 /// What PREWRITE meets at a position.
-fn prewrite_refusal(lent: &LentCounts, row: &LoanRow, position: Position) -> Option<ReportName>
+fn prewrite_refusal(
+    lent: &LentCounts,
+    row: &LoanRow,
+    position: Position,
+    looks: &mut Looks,
+) -> Option<ReportName>
     requires placed { IsPlaced row.now position }
     ensures { (lender : Lender) → IsOf lent.now row.now lender →
         result ≡ prewrite_refusal lender.loans lender.map position }
 {
     if position.to_write {
         Some(ReportName::SyncOrder)
-    } else if lent_elsewhere(lent, row, Way::ToWrite, position) {
+    } else if lent_elsewhere(lent, row, Way::ToWrite, position, looks) {
         Some(ReportName::Overlap)
     } else {
         None
@@ -59,14 +109,21 @@ fn prewrite_refusal(lent: &LentCounts, row: &LoanRow, position: Position) -> Opt
 }
 
 /// What PREREAD meets at a position.
-fn preread_refusal(lent: &LentCounts, row: &LoanRow, position: Position) -> Option<ReportName>
+fn preread_refusal(
+    lent: &LentCounts,
+    row: &LoanRow,
+    position: Position,
+    looks: &mut Looks,
+) -> Option<ReportName>
     requires placed { IsPlaced row.now position }
     ensures { (lender : Lender) → IsOf lent.now row.now lender →
         result ≡ preread_refusal lender.loans lender.map position }
 {
     if position.to_write {
         None
-    } else if row.stands_twice(position.pa) || lent_elsewhere(lent, row, Way::Any, position) {
+    } else if row.stands_twice(position.pa, &mut looks.places)
+        || lent_in_any_way_elsewhere(lent, row, position, looks)
+    {
         Some(ReportName::Overlap)
     } else {
         None
@@ -86,6 +143,7 @@ fn sync_refusal(
     row: &LoanRow,
     ops: SyncOps,
     position: Position,
+    looks: &mut Looks,
 ) -> Option<ReportName>
     requires placed { IsPlaced row.now position }
     ensures { (lender : Lender) → IsOf lent.now row.now lender →
@@ -97,19 +155,19 @@ fn sync_refusal(
         }
     }
     if ops.contains(SyncOps::PREWRITE) {
-        if let Some(name) = prewrite_refusal(lent, row, position) {
+        if let Some(name) = prewrite_refusal(lent, row, position, looks) {
             return Some(name);
         }
     }
     if ops.contains(SyncOps::PREREAD) {
-        preread_refusal(lent, row, position)
+        preread_refusal(lent, row, position, looks)
     } else {
         None
     }
 }
 
 /// How many bytes of a piece, from the first on, meet what the first meets.
-fn same_len(lent: &LentCounts, row: &LoanRow, piece: &Piece) -> u64
+fn same_len(lent: &LentCounts, row: &LoanRow, piece: &Piece, looks: &mut Looks) -> u64
     requires some { 0 < piece.now.len }
     requires fits { piece.now.first.pa + piece.now.len < 2 ^ 64 }
     ensures some { 0 < result }
@@ -121,12 +179,30 @@ fn same_len(lent: &LentCounts, row: &LoanRow, piece: &Piece) -> u64
     ensures counts { (way : Way) (a : ℕ) → piece.now.first.pa ≤ a → a < piece.now.first.pa + result →
         count (counts_of lent.now way) a ≡ count (counts_of lent.now way) piece.now.first.pa }
 {
-    let start = piece.first.pa;
-    if row.stands_twice(start) && lent.is_lent(start) {
+    if piece.len == 1 {
         return 1;
     }
-    let turn = row.turn(start, start + piece.len);
-    lent.turn(start, turn) - start
+    let start = piece.first.pa;
+    if row.stands_twice(start, &mut looks.places) && lent.is_lent(start, &mut looks.lent) {
+        return 1;
+    }
+    let turn = row.turn(start, start + piece.len, &mut looks.places);
+    lent.turn_near(start, turn, &mut looks.lent) - start
+}
+
+/// The judgement of a range of a map's positions, by a call that begins no lending.
+fn judge_ends(row: &LoanRow, ops: SyncOps, off: u64, len: u64) -> Judged
+    requires range { off + len ≤ length row.now.positions }
+    requires no_preread { preread ops.0 ≡ false }
+    requires no_prewrite { prewrite ops.0 ≡ false }
+    ensures { (loans : Loans) (map : ℕ) →
+        result ≡ judged (sync_refusal loans map ops.0) off (stretch off len row.now.positions) }
+{
+    if ops.contains(SyncOps::POSTREAD) {
+        row.judge_to_write(off, len, ReportName::SyncOrder, off)
+    } else {
+        Judged::Fine
+    }
 }
 
 /// The judgement of a range of a map's positions.
@@ -135,14 +211,29 @@ fn judge(lent: &LentCounts, row: &LoanRow, ops: SyncOps, off: u64, len: u64) -> 
     ensures { (lender : Lender) → IsOf lent.now row.now lender → let range = stretch off len row.now.positions in
         result ≡ judged (sync_refusal lender.loans lender.map ops.0) off range }
 {
+    let begins = ops.contains(SyncOps::PREREAD) || ops.contains(SyncOps::PREWRITE);
+    if begins {
+        judge_each(lent, row, ops, off, len)
+    } else {
+        judge_ends(row, ops, off, len)
+    }
+}
+
+/// The judgement of a range of a map's positions, one after the other.
+fn judge_each(lent: &LentCounts, row: &LoanRow, ops: SyncOps, off: u64, len: u64) -> Judged
+    requires range { off + len ≤ length row.now.positions }
+    ensures { (lender : Lender) → IsOf lent.now row.now lender → let range = stretch off len row.now.positions in
+        result ≡ judged (sync_refusal lender.loans lender.map ops.0) off range }
+{
     let end = row.end_of(off, len);
+    let mut looks = Looks::new();
     let mut at = off;
     while at < end {
-        let piece = row.piece(at, end);
-        if let Some(name) = sync_refusal(lent, row, ops, piece.first) {
+        let piece = row.piece(at, end, &mut looks.piece);
+        if let Some(name) = sync_refusal(lent, row, ops, piece.first, &mut looks) {
             return Judged::Refused(Report { name, at });
         }
-        at += same_len(lent, row, &piece);
+        at += same_len(lent, row, &piece, &mut looks);
     }
     Judged::Fine
 }
@@ -190,7 +281,7 @@ pub fn lose(
 {
     let row = row_of(loans, map);
     if !row.is_coherent() {
-        losing::lose(bytes, row, off, len, Losing::Call(ops));
+        losing::lose_by_call(bytes, row, off, len, ops);
     }
 }
 

@@ -184,3 +184,11 @@ both_put at to front first second rest one two three p q e f g =
     g ∙ ap (λ xs. xs ++ (second ++ drop to two)) (ap (take to) put ∙ take_at (front ++ first) rest to long)
     ∙ ap (λ xs. (front ++ first) ++ (second ++ xs)) (ap (drop to) put ∙ drop_at (front ++ first) rest to long)
     ∙ append_assoc front first (second ++ rest)
+
+-- so many numbers are counted, where the last of them is at most n and the next one is more
+pub is_counted : (es : List ℕ) (i n : ℕ) → Climbs 0 es → i ≤ length es → (0 < i → get_or es (i - 1) 0 ≤ n) →
+    (i < length es → n < get_or es i 0) → count_le es n ≡ i
+is_counted es i n h small low high =
+    count_is es i n 0 small
+    (λ k a b. low_until es h (i - 1) n 0 (omega arith) (low (omega arith)) k 0 (omega arith))
+    (λ k a b. high_from es h i n 0 (high (omega arith)) k 0 a b)

@@ -1,5 +1,6 @@
 -- Lists of numbers that do not fall.
-use Rattle.std.specs.Prelude.{ℕ, ◌+◌, ◌≤◌, Bool, true, false, nat_le, List, [], ◌∷◌, ◌++◌, take, drop, refl}
+use Rattle.std.specs.Prelude.{ℕ, ◌+◌, ◌≤◌, ◌<◌, Bool, true, false, nat_le, List, [], ◌∷◌, ◌++◌, take, drop, refl}
+use Rattle.std.specs.Prelude.{length, slice_index_or}
 use Rattle.std.specs.Coded.{Coded, code_by, coded×, coded_ℕ, coded_list}
 
 -- numbers in order, and for how many more there is room
@@ -30,3 +31,10 @@ Climbs lo (e ∷ es) = (lo ≤ e) × Climbs e es
 -- a list that begins behind so many of its numbers, with these at the end
 abbrev pub turned : ℕ → List ℕ → List ℕ
 turned k xs = drop k xs ++ take k xs
+
+-- each number before one place is at most n, and each from another place on is more
+pub record IsAround (items : List ℕ) (n low high : ℕ) : Type 0 where
+  pub order : low ≤ high
+  pub small : high ≤ length items
+  pub below : (k d : ℕ) → k < low → slice_index_or items k d ≤ n
+  pub above : (k d : ℕ) → high ≤ k → k < length items → n < slice_index_or items k d

@@ -27,12 +27,23 @@ pub fn count_to(edges: &Line, n: u64) -> usize
     ensures above { (k d : ℕ) → result ≤ k → k < length edges.now.items → n < slice_index_or edges.now.items k d }
     ensures is { result ≡ count_le edges.now.items n }
 {
-    edges.count_to(n)
+    count_near(edges, n, edges.place())
+}
+
+/// How many edges lie at a number or below it, which is found soon where they are `near` many, or one more.
+fn count_near(edges: &Line, n: u64, near: usize) -> usize
+    requires { Climbs 0 edges.now.items }
+    ensures small { result ≤ length edges.now.items }
+    ensures below { (k d : ℕ) → k < result → slice_index_or edges.now.items k d ≤ n }
+    ensures above { (k d : ℕ) → result ≤ k → k < length edges.now.items → n < slice_index_or edges.now.items k d }
+    ensures is { result ≡ count_le edges.now.items n }
+{
+    edges.count_near(n, near)
 }
 
 /// How many numbers of a line are at most `start`, and the first number above it, or `end` where that
-/// comes before it.
-pub fn count_and_turn(line: &Line, start: u64, end: u64) -> (usize, u64)
+/// comes before it. They are found soon where the former is `near`, or one more.
+pub fn count_and_turn(line: &Line, start: u64, end: u64, near: usize) -> (usize, u64)
     requires climbs { Climbs 0 line.now.items }
     requires some { start < end }
     ensures count { result.0 ≡ count_le line.now.items start }
@@ -42,7 +53,7 @@ pub fn count_and_turn(line: &Line, start: u64, end: u64) -> (usize, u64)
         count_le line.now.items n ≡ count_le line.now.items start }
     ensures fewer { result.1 < end → count_le line.now.items start < count_le line.now.items result.1 }
 {
-    let count = count_to(line, start);
+    let count = count_near(line, start, near);
     (count, line.number_or(count, end).min(end))
 }
 
@@ -56,7 +67,7 @@ pub fn turn(line: &Line, start: u64, end: u64) -> u64
         count_le line.now.items n ≡ count_le line.now.items start }
     ensures fewer { result < end → count_le line.now.items start < count_le line.now.items result }
 {
-    count_and_turn(line, start, end).1
+    count_and_turn(line, start, end, line.place()).1
 }
 
 /// Whether a number is odd.

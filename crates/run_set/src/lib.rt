@@ -8,7 +8,7 @@ pub mod numbers;
 mod run_counts;
 mod run_set;
 
-pub use run_counts::RunCounts;
+pub use run_counts::{Near, RunCounts};
 pub use run_set::RunSet;
 
 #[cfg(test)]

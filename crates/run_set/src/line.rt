@@ -1,16 +1,16 @@
 //! Numbers in order, with the place of their last change.
 
 ghost use Rattle.std.specs.Prelude.{◌≡◌, ℕ, ◌+◌, ◌≤◌, ◌<◌, ◌++◌, ◌∷◌, [], length, take, drop};
-ghost use Rattle.std.specs.Prelude.{slice_index_or, IfOk, OnOk, OnErr};
+ghost use Rattle.std.specs.Prelude.{slice_index_or, IfOk, OnOk, OnErr, true, false};
 ghost use Rattle.std.specs.VecDeque.{deque_capacity, deque_len};
-ghost use Rattle.run_set.specs.Numbers.{count_le, turned, Climbs};
+ghost use Rattle.run_set.specs.Numbers.{count_le, turned, Climbs, IsAround};
 
 use std::alloc::{AllocError, Global};
 use std::collections::VecDeque;
 use std::marker::Model;
 
-/// Among so many numbers before the place of the last change, and behind it, is looked first.
-const NEAR: usize = 4;
+/// So many numbers behind a place are looked at before all of them are.
+const NEAR: usize = 8;
 
 /// Where room grows, at most so much more is asked for than is needed.
 const MOST_MORE: usize = 0x10000;
@@ -88,13 +88,28 @@ impl Line {
         self.ring.len()
     }
 
+    /// The place of the last change: how many numbers stand before it.
+    pub fn place(&self) -> usize {
+        self.ring.len() - self.behind
+    }
+
     /// How many of the numbers are at most `n`.
     pub fn count_to(&self, n: u64) -> usize
         requires { Climbs 0 self.now.items }
         ensures is { result ≡ count_le self.now.items n }
         ensures small { result ≤ length self.now.items }
     {
-        let (mut low, mut high) = self.around(n);
+        self.count_near(n, self.place())
+    }
+
+    /// How many of the numbers are at most `n`, which is found soon where so many, or one more, stand
+    /// before the place `near`.
+    pub fn count_near(&self, n: u64, near: usize) -> usize
+        requires { Climbs 0 self.now.items }
+        ensures is { result ≡ count_le self.now.items n }
+        ensures small { result ≤ length self.now.items }
+    {
+        let (mut low, mut high) = self.around(n, near);
         while low < high {
             let middle = low + (high - low) / 2;
             if self.number_or(middle, n) <= n {
@@ -107,25 +122,68 @@ impl Line {
     }
 
     /// Two places: each number before the first is at most `n`, and each from the second on is more.
-    /// They are near one another where the place of the last change is near.
-    fn around(&self, n: u64) -> (usize, usize)
+    fn around(&self, n: u64, near: usize) -> (usize, usize)
         requires { Climbs 0 self.now.items }
-        ensures order { result.0 ≤ result.1 }
-        ensures small { result.1 ≤ length self.now.items }
-        ensures below { (k d : ℕ) → k < result.0 → slice_index_or self.now.items k d ≤ n }
-        ensures above { (k d : ℕ) → result.1 ≤ k → k < length self.now.items → n < slice_index_or self.now.items k d }
+        ensures { IsAround self.now.items n result.0 result.1 }
     {
-        let len = self.ring.len();
-        let place = len - self.behind;
-        let low = place.saturating_sub(NEAR);
-        if low > 0 && self.number_or(low - 1, n) > n {
-            return (0, low - 1);
+        let place = near.min(self.len());
+        if self.is_more_from(place, n) {
+            self.around_before(n, place)
+        } else {
+            self.around_behind(n, place)
         }
-        let high = place.saturating_add(NEAR).min(len);
-        if high < len && self.number_or(high, n) <= n {
-            return (high + 1, len);
+    }
+
+    /// The two places, where each number from a place on is more than `n`.
+    fn around_before(&self, n: u64, place: usize) -> (usize, usize)
+        requires climbs { Climbs 0 self.now.items }
+        requires place { place ≤ length self.now.items }
+        requires above { (k d : ℕ) → place ≤ k → k < length self.now.items → n < slice_index_or self.now.items k d }
+        ensures { IsAround self.now.items n result.0 result.1 }
+    {
+        if place == 0 {
+            return (0, 0);
         }
-        (low, high)
+        if self.is_more_from(place - 1, n) {
+            (0, place - 1)
+        } else {
+            (place, place)
+        }
+    }
+
+    /// The two places, where each number up to that at a place is at most `n`.
+    fn around_behind(&self, n: u64, place: usize) -> (usize, usize)
+        requires climbs { Climbs 0 self.now.items }
+        requires place { place < length self.now.items }
+        requires below { (k d : ℕ) → k ≤ place → slice_index_or self.now.items k d ≤ n }
+        ensures { IsAround self.now.items n result.0 result.1 }
+    {
+        let len = self.len();
+        let next = place + 1;
+        if self.is_more_from(next, n) {
+            return (next, next);
+        }
+        let far = next.saturating_add(NEAR);
+        if self.is_more_from(far, n) {
+            (next + 1, far.min(len))
+        } else {
+            (far + 1, len)
+        }
+    }
+
+    /// Whether each number from a place on is more than `n`; where not, each up to that place is at
+    /// most `n`.
+    fn is_more_from(&self, at: usize, n: u64) -> bool
+        requires { Climbs 0 self.now.items }
+        ensures above { result ≡ true → (k d : ℕ) → at ≤ k → k < length self.now.items →
+            n < slice_index_or self.now.items k d }
+        ensures below { result ≡ false → (k d : ℕ) → k ≤ at → slice_index_or self.now.items k d ≤ n }
+        ensures inside { result ≡ false → at < length self.now.items }
+    {
+        if at >= self.len() {
+            return true;
+        }
+        self.number_or(at, n) > n
     }
 
     /// The number at a place, or another number where there is none.

@@ -5,7 +5,7 @@ ghost use Rattle.run_set.specs.Counts.{changed, count};
 ghost use Rattle.run_set.specs.Edges.{in_run, IsFirst};
 
 use crate::counts::{self, add_one};
-use crate::edges::turn;
+use crate::edges::{count_and_turn, turn};
 use crate::line::Line;
 use std::alloc::{AllocError, Global};
 use std::marker::Model;
@@ -18,6 +18,21 @@ use std::marker::Model;
 pub struct RunCounts {
     starts: Line,
     ends: Line,
+}
+
+/// Where counts are looked at first. Each value of it gives the same answers; that of an earlier look
+/// gives them soon for the number of that look and for those that come next.
+#[derive(Clone, Copy)]
+pub struct Near {
+    starts: usize,
+    ends: usize,
+}
+
+impl Near {
+    /// Before the first number.
+    pub fn new() -> Near {
+        Near { starts: 0, ends: 0 }
+    }
 }
 
 impl Model for RunCounts {
@@ -110,5 +125,28 @@ impl RunCounts {
         ensures same { (n : ℕ) → start ≤ n → n < result → count self.now n ≡ count self.now start }
     {
         turn(&self.starts, start, turn(&self.ends, start, end))
+    }
+
+    /// How many runs hold a number, looked for near an earlier look.
+    pub fn count_near(&self, n: u64, near: &mut Near) -> u64
+        ensures { result ≡ count self.now n }
+    {
+        near.starts = self.starts.count_near(n, near.starts);
+        near.ends = self.ends.count_near(n, near.ends);
+        (near.starts - near.ends) as u64
+    }
+
+    /// What `turn` gives, looked for near an earlier look.
+    pub fn turn_near(&self, start: u64, end: u64, near: &mut Near) -> u64
+        requires { start < end }
+        ensures from { start < result }
+        ensures to { result ≤ end }
+        ensures same { (n : ℕ) → start ≤ n → n < result → count self.now n ≡ count self.now start }
+    {
+        let (ends, end) = count_and_turn(&self.ends, start, end, near.ends);
+        let (starts, turn) = count_and_turn(&self.starts, start, end, near.starts);
+        near.starts = starts;
+        near.ends = ends;
+        turn
     }
 }

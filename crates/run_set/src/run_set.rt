@@ -110,7 +110,7 @@ impl RunSet {
         ensures to { result.1 ≤ end }
         ensures same { (n : ℕ) → start ≤ n → n < result.1 → member self.now.edges n ≡ member self.now.edges start }
     {
-        let (count, turn) = count_and_turn(&self.edges, start, end);
+        let (count, turn) = count_and_turn(&self.edges, start, end, self.edges.place());
         (is_odd(count), turn)
     }
 

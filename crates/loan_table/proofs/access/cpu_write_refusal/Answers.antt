@@ -1,16 +1,11 @@
-use Rattle.std.proofs.Common.{Some, None, cond, sym, ap, ◌∙◌, arith}
+use Rattle.std.proofs.Common.{Some, None, cond, sym, ap, ◌∙◌}
 use Rattle.busdma_base.specs.declared.journals.report.ReportName.TheVariants.{CpuWriteLent}
-use Rattle.loan_table.specs.declared.row.Way.TheVariants.{Any}
-use Rattle.loan_table.specs.Loans.{in_any_way}
-use Rattle.loan_table.proofs.Totals.{is_lent, not_lent}
 use Rattle.loan_table.proofs.access.cpu_write_refusal.Goals as goal
 
-pub returns-then-count-gt0 : goal.returns-then-count-gt0
-returns-then-count-gt0 c loans counted =
-    sym (ap (λ b. cond b (Some CpuWriteLent) None) (is_lent in_any_way c.args.pa loans c.count.result
-    (c.count.ensures ∙ counted Any c.args.pa) (omega (arith, c.if-count-gt0.true))))
+pub returns-then-is_lent : goal.returns-then-is_lent
+returns-then-is_lent c loans counted =
+    sym (ap (λ b. cond b (Some CpuWriteLent) None) (sym (c.is_lent.ensures loans counted) ∙ c.if-is_lent.true))
 
-pub returns-else-count-gt0 : goal.returns-else-count-gt0
-returns-else-count-gt0 c loans counted =
-    sym (ap (λ b. cond b (Some CpuWriteLent) None) (not_lent in_any_way c.args.pa loans c.count.result
-    (c.count.ensures ∙ counted Any c.args.pa) (omega (arith, c.if-count-gt0.false))))
+pub returns-else-is_lent : goal.returns-else-is_lent
+returns-else-is_lent c loans counted =
+    sym (ap (λ b. cond b (Some CpuWriteLent) None) (sym (c.is_lent.ensures loans counted) ∙ c.if-is_lent.false))

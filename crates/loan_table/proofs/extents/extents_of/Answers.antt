@@ -11,20 +11,10 @@ use Rattle.loan_table.specs.Rows.{alike}
 use Rattle.loan_table.specs.Table.{extent_count, is_next, more_extents}
 use Rattle.loan_table.proofs.Extending.{ends, next_is, next_fits}
 use Rattle.loan_table.proofs.Frames.{extents_first, extents_more}
-use Rattle.loan_table.proofs.Marking.{no_position}
-use Rattle.loan_table.proofs.Pieces.{addresses_ahead, in_piece, nothing, shorter, whole}
+use Rattle.loan_table.proofs.Pieces.{begins_with, low_at, nothing, whole}
 use Rattle.loan_table.proofs.Stretches.{run_of_sum, stretch_begins, stretch_joins}
 use Rattle.loan_table.proofs.extents.extents_of.Goals as goal
 use Rattle.loan_table.proofs.extents.extents_of.Goals.{then-is_next, else-is_next+in_ok-push}
-
--- the bytes from a piece on begin with those of an extent in it
-begins_with : (at end n : ℕ) (p : Position) (ps : List Position) (e : Extent) →
-    stretch at (end - at) ps ≡ alike p n ++ stretch (at + n) (end - (at + n)) ps → at + n ≤ end → e.len ≤ n →
-    e.pa.0 ≡ p.pa → addresses_of (stretch at (end - at) ps)
-    ≡ run_of e.pa.0 e.len ++ addresses_of (stretch (at + e.len) (end - (at + e.len)) ps)
-begins_with at end n p ps e is within short same =
-    addresses_ahead p e.len _ _ (shorter at end n e.len p ps is short within)
-    ∙ ap (λ a. run_of a e.len ++ addresses_of (stretch (at + e.len) (end - (at + e.len)) ps)) (sym same)
 
 longer : (run next : Extent) → IsExtent run → IsExtent next → is_next (run.pa.0 + run.len - 1) next.pa.0 ≡ true →
     IsExtent (record { pa = run.pa; len = run.len + next.len })
@@ -35,27 +25,21 @@ longer run next h k is =
 
 pub in_frame-run-requires-clause-low : goal.in_frame-run-requires-clause-low
 in_frame-run-requires-clause-low c =
-    let first = c.piece-first.result.first in
-    in_piece (λ p. p.pa < 2 ^ 42) no_position c.args.off c.end_of-end.result c.piece-first.result.len first
-    c.args.row.now.positions c.piece-first.ensures.is c.piece-first.ensures.within
-    (omega (arith, c.end_of-end.ensures, c.requires.range)) c.requires.low first.pa (omega arith)
-    (omega (arith, c.piece-first.ensures.some))
+    low_at c.args.row.now.positions c.args.off c.stretch-first.result.pa.0 c.stretch-first.ensures.first
+    (omega (arith, c.end_of-end.ensures, c.requires.range)) c.requires.low
 
 pub in_frame-next-requires-clause-low : goal.in_frame-next-requires-clause-low
 in_frame-next-requires-clause-low c =
-    let first = c.piece-piece.result.first in
-    in_piece (λ p. p.pa < 2 ^ 42) no_position c.loop-at.at c.end_of-end.result c.piece-piece.result.len first
-    c.args.row.now.positions c.piece-piece.ensures.is c.piece-piece.ensures.within
-    (omega (arith, c.end_of-end.ensures, c.requires.range)) c.requires.low first.pa (omega arith)
-    (omega (arith, c.piece-piece.ensures.some))
+    low_at c.args.row.now.positions c.loop-at.at c.stretch-bytes.result.pa.0 c.stretch-bytes.ensures.first
+    (omega (arith, c.end_of-end.ensures, c.requires.range)) c.requires.low
 
 pub loop-at-init : goal.loop-at-init
 loop-at-init c =
     let ps = c.args.row.now.positions in
     let run = c.in_frame-run.result in
     let all = whole c.args.off c.args.len c.end_of-end.result ps c.end_of-end.ensures in
-    let ahead = begins_with c.args.off c.end_of-end.result c.piece-first.result.len c.piece-first.result.first ps run
-    c.piece-first.ensures.is c.piece-first.ensures.within c.in_frame-run.ensures.within c.in_frame-run.ensures.pa in
+    let ahead = begins_with c.args.off c.end_of-end.result c.stretch-first.result.len c.stretch-first.result.pa.0 ps run
+    c.stretch-first.ensures.is c.stretch-first.ensures.within c.in_frame-run.ensures.within c.in_frame-run.ensures.pa in
     let extent = c.in_frame-run.ensures.extent in
     record {
       bytes = rw c.new-extents.ensures.items (sym ahead ∙ ap addresses_of all);
@@ -65,7 +49,7 @@ loop-at-init c =
           ∙ ap (λ xs. extent_count (addresses_of xs)) all in omega (arith, first));
       extents = rw c.new-extents.ensures.items (All-nil IsExtent);
       run = extent;
-      to = omega (arith, c.in_frame-run.ensures.within, c.piece-first.ensures.within);
+      to = omega (arith, c.in_frame-run.ensures.within, c.stretch-first.ensures.within);
     }
 
 pub loop-at-preserved : goal.loop-at-preserved
@@ -76,8 +60,8 @@ loop-at-preserved c =
     let run = t.run in
     let next = c.in_frame-next.result in
     let extent = c.in_frame-next.ensures.extent in
-    let ahead = begins_with t.at end c.piece-piece.result.len c.piece-piece.result.first ps next
-    c.piece-piece.ensures.is c.piece-piece.ensures.within c.in_frame-next.ensures.within c.in_frame-next.ensures.pa in
+    let ahead = begins_with t.at end c.stretch-bytes.result.len c.stretch-bytes.result.pa.0 ps next
+    c.stretch-bytes.ensures.is c.stretch-bytes.ensures.within c.in_frame-next.ensures.within c.in_frame-next.ensures.pa in
     let last = c.is_next.ensures ∙ ap (λ k. is_next k next.pa.0) c.last_of.ensures in
     let later = more_extents (next.pa.0 + next.len - 1)
     (addresses_of (stretch (t.at + next.len) (end - (t.at + next.len)) ps)) in
@@ -97,7 +81,7 @@ loop-at-preserved c =
             count = rw (w.extents-is, w.run-is, same) (omega (arith, zero, t.invariant.count));
             extents = rw w.extents-is t.invariant.extents;
             run = subst IsExtent (sym w.run-is) (longer run next t.invariant.run extent is);
-            to = omega (arith, c.in_frame-next.ensures.within, c.piece-piece.ensures.within);
+            to = omega (arith, c.in_frame-next.ensures.within, c.stretch-bytes.ensures.within);
           }
       | else-is_next+in_ok-push w ↦
           let apart = sym last ∙ w.if-is_next.false in
@@ -111,7 +95,7 @@ loop-at-preserved c =
                 rw (w.extents-is, w.in_ok-push.ensures.items)
                 (All-push IsExtent t.extents.items run t.invariant.extents t.invariant.run);
             run = subst IsExtent (sym w.run-is) extent;
-            to = omega (arith, c.in_frame-next.ensures.within, c.piece-piece.ensures.within);
+            to = omega (arith, c.in_frame-next.ensures.within, c.stretch-bytes.ensures.within);
           }
     ]
 

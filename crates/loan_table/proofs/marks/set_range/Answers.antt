@@ -3,7 +3,7 @@ use Rattle.busdma_base.specs.Runs.{run_of}
 use Rattle.loan_table.specs.Loans.{addresses_of}
 use Rattle.loan_table.specs.Table.{set_all}
 use Rattle.loan_table.proofs.Addresses.{AreIn-set_all}
-use Rattle.loan_table.proofs.Pieces.{addresses_ahead, marked_front, nothing, there_back, there_front, whole}
+use Rattle.loan_table.proofs.Pieces.{marked_front, nothing, there_back, there_front, whole}
 use Rattle.loan_table.proofs.marks.set_range.Goals as goal
 
 pub loop-at-init : goal.loop-at-init
@@ -21,15 +21,13 @@ loop-at-init c =
 
 pub set_run-requires-clause-there : goal.set_run-requires-clause-there
 set_run-requires-clause-there c =
-    let piece = c.piece-piece.result in
-    there_front _ _ (run_of piece.first.pa piece.len) _
-    (addresses_ahead piece.first piece.len _ _ c.piece-piece.ensures.is) c.loop-at.invariant.there
+    let run = c.stretch-run.result in
+    there_front _ _ (run_of run.pa.0 run.len) _ c.stretch-run.ensures.is c.loop-at.invariant.there
 
 pub loop-at-preserved : goal.loop-at-preserved
 loop-at-preserved c =
-    let piece = c.piece-piece.result in
-    let run = run_of piece.first.pa piece.len in
-    let ahead = addresses_ahead piece.first piece.len _ _ c.piece-piece.ensures.is in
+    let run = run_of c.stretch-run.result.pa.0 c.stretch-run.result.len in
+    let ahead = c.stretch-run.ensures.is in
     record {
       marked = marked_front c.loop-at.bytes.bytes c.set_run.new.self.bytes _ c.args.known _ run _ ahead
           c.set_run.ensures.bytes c.loop-at.invariant.marked;

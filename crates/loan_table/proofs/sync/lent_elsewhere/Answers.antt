@@ -10,7 +10,7 @@ pub returns-then-count-eq0 : goal.returns-then-count-eq0
 returns-then-count-eq0 c lender of =
     let way = test_of c.args.way in
     let a = c.args.position.pa in
-    let none : lent_places way a lender.loans ≡ 0 = omega (arith, c.count-count.ensures, of.0 c.args.way a) in
+    let none : lent_places way a lender.loans ≡ 0 = omega (arith, c.count_near-count.ensures, of.0 c.args.way a) in
     sym (elsewhere_counted way a lender.loans lender.map
     ∙ le-ltb (places way a (loan_of lender.loans lender.map).positions) (lent_places way a lender.loans)
     (omega (arith, none)))
@@ -19,8 +19,8 @@ pub returns : goal.returns
 returns c lender of =
     let way = test_of c.args.way in
     let a = c.args.position.pa in
-    ap (λ n. nat_lt n c.count-count.result)
+    ap (λ n. nat_lt n c.count_near-count.result)
     (c.lent_places.ensures ∙ ap (λ (l : Loan). places way a l.positions) of.1)
     ∙ ap (nat_lt (places way a (loan_of lender.loans lender.map).positions))
-    (c.count-count.ensures ∙ of.0 c.args.way a)
+    (c.count_near-count.ensures ∙ of.0 c.args.way a)
     ∙ sym (elsewhere_counted way a lender.loans lender.map)

@@ -1,4 +1,4 @@
-use Rattle.loan_table.specs.declared.row.Way.TheVariants.{ToWrite, Any}
+use Rattle.loan_table.specs.declared.row.Way.TheVariants.{ToWrite, ToRead}
 use Rattle.loan_table.proofs.lent.LentCounts.recount.Goals as goal
 
 pub recount_piece-requires-clause-held : goal.recount_piece-requires-clause-held
@@ -8,15 +8,15 @@ pub recount_piece-requires-clause-room : goal.recount_piece-requires-clause-room
 recount_piece-requires-clause-room c = c.requires.room ToWrite
 
 pub recount_piece-requires-2-clause-held : goal.recount_piece-requires-2-clause-held
-recount_piece-requires-2-clause-held c a = c.requires.held Any a
+recount_piece-requires-2-clause-held c a = c.requires.held ToRead a
 
 pub recount_piece-requires-2-clause-room : goal.recount_piece-requires-2-clause-room
-recount_piece-requires-2-clause-room c = c.requires.room Any
+recount_piece-requires-2-clause-room c = c.requires.room ToRead
 
 pub returns-clause-counts : goal.returns-clause-counts
 returns-clause-counts c ToWrite a = c.recount_piece.ensures.counts a
-returns-clause-counts c Any a = c.recount_piece-2.ensures.counts a
+returns-clause-counts c ToRead a = c.recount_piece-2.ensures.counts a
 
 pub returns-clause-room : goal.returns-clause-room
 returns-clause-room c ToWrite = c.recount_piece.ensures.room
-returns-clause-room c Any = c.recount_piece-2.ensures.room
+returns-clause-room c ToRead = c.recount_piece-2.ensures.room

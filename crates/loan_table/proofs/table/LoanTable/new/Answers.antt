@@ -27,7 +27,7 @@ invariant_of-result c = record {
   room = record { forgets = omega arith; changes = λ q. absurd (omega arith); drops = λ q. absurd (omega arith) };
   lent_counted = λ way a. subst (λ es. count (counts_of c.new-3.result way) a ≡ lent_places (test_of way) a
       (loans_in true es))
-      (sym c.new-2.ensures.empty) (none_counted c.new-3.result way a c.new-3.ensures.to_write c.new-3.ensures.any);
+      (sym c.new-2.ensures.empty) (none_counted c.new-3.result way a c.new-3.ensures.to_write c.new-3.ensures.to_read);
   idle =
       λ m. rw (loan_missing false c.new-2.result.entries m (ap (lookup (is_at (nat_cmp m))) c.new-2.ensures.empty))
       (λ way a. refl);
