@@ -1,0 +1,169 @@
+//! A world beside a plain machine.
+
+ghost use Rattle.std.specs.Prelude.{IfOk};
+ghost use Rattle.busdma_base.specs.Scenarios.Valid.{IsValid};
+
+use crate::tests::forms::{Form, is_of};
+use crate::tests::plain_machine::PlainMachine;
+use busdma_base::{Actor, Scenario, ZoneId};
+use lane_core::Turn;
+use plain_lane::PlainTurn;
+use report_text::entry_line;
+use scenario_read::{Reading, scenario_of};
+use std::alloc::{AllocError, Global};
+use std::process::Abort;
+use std::test::Fail;
+use world_core::{World, round_of};
+
+/// No scenario here has more rounds in which an actor steps.
+const MOST_ROUNDS: u32 = 2000;
+
+/// What a turn did.
+#[derive(Debug, Drop, PartialEq, Eq)]
+enum Told {
+    /// A step, by its line, and whether it made a call that the history keeps.
+    Line(String, bool),
+    Blocked,
+    Ended,
+}
+
+/// The scenario of a text.
+fn read(rt: &impl Abort, alloc: Global, text: &str) -> Result<Scenario, AllocError>
+    ensures { IfOk result IsValid }
+{
+    match scenario_of(alloc, text.as_bytes())? {
+        Reading::Good(scenario) => Ok(scenario),
+        Reading::Bad(refusal) => panic!(rt; "{refusal:?}\n{text}"),
+    }
+}
+
+/// The world and the plain machine of a scenario, and how many steps they have made.
+#[derive(Drop)]
+struct Beside<'s> {
+    scenario: &'s Scenario,
+    world: World<'s>,
+    plain: PlainMachine<'s>,
+    steps: u64,
+}
+
+impl Beside<'_> {
+    /// What a turn of the world did.
+    fn told(&self, alloc: Global, turn: &Turn) -> Result<Told, Fail> {
+        match turn {
+            Turn::Stepped { entry, held } => {
+                let line = entry_line(alloc, self.scenario, self.steps, entry)?;
+                let line = String::from_str(alloc, str::from_utf8(line.as_slice())?)?;
+                Ok(Told::Line(line, *held))
+            }
+            Turn::Blocked => Ok(Told::Blocked),
+            Turn::Ended => Ok(Told::Ended),
+        }
+    }
+
+    /// What a turn of the plain machine did.
+    fn told_plainly(&self, alloc: Global, turn: &PlainTurn, held: bool) -> Result<Told, Fail> {
+        match turn {
+            PlainTurn::Stepped(entry) => {
+                let line = entry_line(alloc, self.scenario, self.steps, entry)?;
+                let line = String::from_str(alloc, str::from_utf8(line.as_slice())?)?;
+                Ok(Told::Line(line, held))
+            }
+            PlainTurn::Blocked => Ok(Told::Blocked),
+            PlainTurn::Ended => Ok(Told::Ended),
+        }
+    }
+
+    /// The turn of an actor in both; its line is no longer missed.
+    fn turn(
+        &mut self,
+        rt: &impl Abort,
+        alloc: Global,
+        actor: Actor,
+        text: &str,
+        missing: &mut Vec<Form>,
+    ) -> Result<(), Fail> {
+        let turn = self.world.step(alloc, actor)?;
+        let told = self.told(alloc, &turn)?;
+        let (turn, held) = self.plain.step(alloc, actor)?;
+        let want = self.told_plainly(alloc, &turn, held)?;
+        assert_eq!(rt; told, want, "{text}");
+        if let Told::Line(line, _) = &want {
+            self.steps = self.steps.saturating_add(1);
+            missing.retain(|form| !is_of(line.as_str(), *form));
+        }
+        Ok(())
+    }
+
+    fn turns(
+        &mut self,
+        rt: &impl Abort,
+        alloc: Global,
+        actors: &[Actor],
+        text: &str,
+        missing: &mut Vec<Form>,
+    ) -> Result<(), Fail> {
+        for actor in actors {
+            self.turn(rt, alloc, *actor, text, missing)?;
+        }
+        Ok(())
+    }
+
+    /// Rounds until a whole round makes no step.
+    fn rounds(
+        &mut self,
+        rt: &impl Abort,
+        alloc: Global,
+        text: &str,
+        missing: &mut Vec<Form>,
+    ) -> Result<(), Fail> {
+        let Ok(drivers) = u32::try_from(self.scenario.drivers.len()) else {
+            panic!(rt; "too many drivers")
+        };
+        let round = round_of(alloc, drivers)?;
+        for _ in 0..MOST_ROUNDS {
+            let before = self.steps;
+            self.turns(rt, alloc, &round, text, missing)?;
+            if self.steps == before {
+                return Ok(());
+            }
+        }
+        panic!(rt; "no rest\n{text}")
+    }
+
+    /// The counts of each zone are the plain machine's, which has no more zones.
+    fn counts_are_alike(&self, rt: &impl Abort, alloc: Global, text: &str) -> Result<(), Fail> {
+        let zones = self.world.zones(alloc)?;
+        let mut count = 0;
+        for (zone, counts) in (0..u32::MAX).zip(zones.as_slice()) {
+            assert_eq!(rt;
+                *counts,
+                self.plain.counts(ZoneId(zone))?,
+                "zone{zone}\n{text}"
+            );
+            count = zone.saturating_add(1);
+        }
+        assert_eq!(rt; self.plain.counts(ZoneId(count))?.alignment, 0, "{text}");
+        Ok(())
+    }
+}
+
+/// Each turn of a scenario's order, and of rounds to the end, is the same in its world and in the
+/// plain machine, and so are the counts of zones before the rounds and after them.
+pub fn plays_alike(
+    rt: &impl Abort,
+    alloc: Global,
+    text: &str,
+    missing: &mut Vec<Form>,
+) -> Result<(), Fail> {
+    let scenario = read(rt, alloc, text)?;
+    let mut beside = Beside {
+        scenario: &scenario,
+        world: World::new(alloc, &scenario)?,
+        plain: PlainMachine::new(alloc, &scenario)?,
+        steps: 0,
+    };
+    beside.turns(rt, alloc, scenario.order.as_slice(), text, missing)?;
+    beside.counts_are_alike(rt, alloc, text)?;
+    beside.rounds(rt, alloc, text, missing)?;
+    beside.counts_are_alike(rt, alloc, text)
+}

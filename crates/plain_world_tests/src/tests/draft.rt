@@ -1,0 +1,100 @@
+//! A scenario that is being drawn: its text so far, and what the script that it ends with has.
+
+use crate::tests::generator::Generator;
+use std::alloc::{AllocError, Global};
+
+/// The virtual address of a driver's first page. Its pages follow one another.
+const FIRST_PAGE: u64 = 0x10_0000;
+
+/// Where a load or an access begins in a page.
+const OFFSETS: [u64; 8] = [0, 0, 0, 4, 8, 4080, 4088, 4092];
+
+/// The text of a scenario so far; how many tags, maps and memories the last script has made, each
+/// named by its number; and the frames of its driver's pages, in the order of their addresses.
+#[derive(Drop)]
+pub struct Draft {
+    pub alloc: Global,
+    pub text: String,
+    pub generator: Generator,
+    pub tags: u64,
+    pub maps: u64,
+    pub memories: u64,
+    pub frames: Vec<u64>,
+}
+
+impl Draft {
+    /// No text, to be drawn by the numbers of a seed.
+    pub fn new(alloc: Global, seed: u64) -> Draft {
+        Draft {
+            alloc,
+            text: String::new(alloc),
+            generator: Generator::new(seed),
+            tags: 0,
+            maps: 0,
+            memories: 0,
+            frames: Vec::new(alloc),
+        }
+    }
+
+    /// The next script begins, with nothing made and no page.
+    pub fn begin_script(&mut self) {
+        self.tags = 0;
+        self.maps = 0;
+        self.memories = 0;
+        self.frames.clear();
+    }
+
+    /// The virtual address after the driver's pages.
+    pub fn end_of_pages(&self) -> u64 {
+        (self.frames.len() as u64)
+            .saturating_mul(4096)
+            .saturating_add(FIRST_PAGE)
+    }
+
+    /// A virtual address in the driver's pages, or in few cases behind them.
+    pub fn address(&mut self) -> u64 {
+        let pages = (self.frames.len() as u64)
+            .saturating_mul(16)
+            .saturating_add(1);
+        let page = self.generator.below(pages) / 16;
+        let offset = self.generator.number(&OFFSETS);
+        page.saturating_mul(4096)
+            .saturating_add(FIRST_PAGE)
+            .saturating_add(offset)
+    }
+
+    /// The name of a tag.
+    pub fn push_tag(&mut self) -> Result<(), AllocError> {
+        let number = self.generator.below(self.tags);
+        write!(self.text, r#""t{number}""#)
+    }
+
+    /// The name of a map that is no memory's.
+    pub fn push_map(&mut self) -> Result<(), AllocError> {
+        let number = self.generator.below(self.maps);
+        write!(self.text, r#""m{number}""#)
+    }
+
+    /// The name of a memory.
+    pub fn push_memory(&mut self) -> Result<(), AllocError> {
+        let number = self.generator.below(self.memories);
+        write!(self.text, r#""k{number}""#)
+    }
+
+    /// The name of a map, in few cases of a memory's.
+    pub fn push_any_map(&mut self) -> Result<(), AllocError> {
+        if self.memories > 0 && self.generator.one_in(6) {
+            self.push_memory()
+        } else {
+            self.push_map()
+        }
+    }
+
+    /// A comma before each element of a list but the first.
+    pub fn push_comma(&mut self, place: u64) -> Result<(), AllocError> {
+        if place > 0 {
+            self.text.push_str(", ")?;
+        }
+        Ok(())
+    }
+}

@@ -1,0 +1,123 @@
+//! The operations of scripts.
+
+use crate::tests::draft::Draft;
+use std::alloc::AllocError;
+
+/// The flags of a memory.
+const MEMORY_FLAGS: [&str; 4] = [
+    "",
+    r#", "flags": ["ZERO"]"#,
+    r#", "flags": ["COHERENT"]"#,
+    r#", "flags": ["ZERO", "COHERENT", "NOWAIT"]"#,
+];
+
+impl Draft {
+    /// A map of a tag.
+    fn push_map_made(&mut self) -> Result<(), AllocError> {
+        let number = self.maps;
+        write!(self.text, r#"{{"op": "map", "name": "m{number}", "tag": "#)?;
+        self.push_tag()?;
+        self.maps = self.maps.saturating_add(1);
+        self.text.push_str("}")
+    }
+
+    /// A memory of a tag.
+    fn push_memory_made(&mut self) -> Result<(), AllocError> {
+        let number = self.memories;
+        let flags = self.generator.text(&MEMORY_FLAGS);
+        write!(
+            self.text,
+            r#"{{"op": "dmamem", "name": "k{number}"{flags}, "tag": "#
+        )?;
+        self.push_tag()?;
+        self.memories = self.memories.saturating_add(1);
+        self.text.push_str("}")
+    }
+
+    fn push_memory_freed(&mut self) -> Result<(), AllocError> {
+        self.text.push_str(r#"{"op": "dmamem_free", "mem": "#)?;
+        self.push_memory()?;
+        self.text.push_str("}")
+    }
+
+    /// The end of a memory, or a memory where none was made.
+    fn push_memory_op(&mut self) -> Result<(), AllocError> {
+        if self.memories > 0 && self.generator.one_in(2) {
+            self.push_memory_freed()
+        } else {
+            self.push_memory_made()
+        }
+    }
+
+    fn push_tag_destroyed(&mut self) -> Result<(), AllocError> {
+        self.text.push_str(r#"{"op": "tag_destroy", "tag": "#)?;
+        self.push_tag()?;
+        self.text.push_str("}")
+    }
+
+    fn push_map_destroyed(&mut self) -> Result<(), AllocError> {
+        self.text.push_str(r#"{"op": "map_destroy", "map": "#)?;
+        self.push_map()?;
+        self.text.push_str("}")
+    }
+
+    /// An operation that has a map alone.
+    fn push_map_op(&mut self, word: &str) -> Result<(), AllocError> {
+        write!(self.text, r#"{{"op": "{word}", "map": "#)?;
+        self.push_any_map()?;
+        self.text.push_str("}")
+    }
+
+    /// A load whose bytes go or come, the wait for its end, and its unload.
+    fn push_round(&mut self) -> Result<(), AllocError> {
+        self.push_cpu_write()?;
+        self.text.push_str(", ")?;
+        self.push_any_load()?;
+        self.text.push_str(", ")?;
+        self.push_map_op("await")?;
+        self.text.push_str(", ")?;
+        self.push_cpu_read()?;
+        self.text.push_str(", ")?;
+        self.push_map_op("unload")
+    }
+
+    fn push_any_load(&mut self) -> Result<(), AllocError> {
+        match self.generator.below(8) {
+            0..=1 => self.push_load_vector(),
+            2 => self.push_load_mbuf(),
+            3..=4 => self.push_load_bio(),
+            _ => self.push_load(),
+        }
+    }
+
+    fn push_operation(&mut self) -> Result<(), AllocError> {
+        match self.generator.below(48) {
+            0..=1 => self.push_tag_made(),
+            2..=4 => self.push_map_made(),
+            5 => self.push_tag_destroyed(),
+            6 => self.push_map_destroyed(),
+            7..=18 => self.push_any_load(),
+            19..=23 => self.push_map_op("unload"),
+            24..=29 => self.push_any_sync(""),
+            30..=32 => self.push_cpu_write(),
+            33..=35 => self.push_cpu_read(),
+            36..=38 => self.push_map_op("await"),
+            39..=41 => self.push_memory_op(),
+            _ => self.push_round(),
+        }
+    }
+
+    /// A script: a tag, some maps, and what is drawn.
+    pub fn push_script(&mut self) -> Result<(), AllocError> {
+        self.push_tag_made()?;
+        for _ in 0..self.generator.up_to(3) {
+            self.text.push_str(", ")?;
+            self.push_map_made()?;
+        }
+        for _ in 0..self.generator.up_to(20) {
+            self.text.push_str(",\n  ")?;
+            self.push_operation()?;
+        }
+        Ok(())
+    }
+}

@@ -1,0 +1,76 @@
+//! Scenarios, as JSON texts.
+
+use crate::tests::draft::Draft;
+use std::alloc::{AllocError, Global};
+
+/// The sides of a driver, by their letters in an order. Scripts have more turns than others.
+const SIDES: [&str; 4] = ["s", "s", "d", "c"];
+
+impl Draft {
+    /// A run of a driver's pages, behind those before it.
+    fn push_pages(&mut self, frame: u64, count: u64) -> Result<(), AllocError> {
+        let va = self.end_of_pages();
+        let before = self.frames.len() as u64;
+        self.push_comma(before)?;
+        write!(self.text, "[{va}, {frame}, {count}]")?;
+        for place in 0..count {
+            self.frames.push(frame.saturating_add(place))?;
+        }
+        Ok(())
+    }
+
+    /// The pages of the driver with this number: high frames that follow one another, in some cases
+    /// others apart from them, and in few cases a low one.
+    fn push_all_pages(&mut self, number: u64) -> Result<(), AllocError> {
+        let first = number.saturating_mul(8).saturating_add(4096);
+        let count = self.generator.up_to(3);
+        self.push_pages(first, count)?;
+        if self.generator.one_in(2) {
+            let count = self.generator.up_to(2);
+            self.push_pages(first.saturating_add(4), count)?;
+        }
+        if self.generator.one_in(4) {
+            self.push_pages(number.saturating_add(16), 1)?;
+        }
+        Ok(())
+    }
+
+    fn push_driver(&mut self, number: u64) -> Result<(), AllocError> {
+        self.begin_script();
+        self.push_comma(number)?;
+        self.text.push_str("\n {\"pages\": [")?;
+        self.push_all_pages(number)?;
+        self.text.push_str("], \"script\": [\n  ")?;
+        self.push_script()?;
+        self.text.push_str("]}")
+    }
+
+    /// The turns of so many drivers, in an order that is drawn.
+    fn push_order(&mut self, drivers: u64) -> Result<(), AllocError> {
+        for place in 0..self.generator.below(drivers.saturating_mul(60)) {
+            let side = self.generator.text(&SIDES);
+            let lane = self.generator.below(drivers);
+            self.push_comma(place)?;
+            write!(self.text, "\"{side}{lane}\"")?;
+        }
+        Ok(())
+    }
+}
+
+/// The scenario of so many drivers with this number. Its machine has few low frames.
+pub fn scenario_text(alloc: Global, drivers: u64, number: u64) -> Result<String, AllocError> {
+    let mut draft = Draft::new(alloc, number.saturating_mul(16).saturating_add(drivers));
+    let low = draft.generator.up_to(4).saturating_add(4);
+    let most = draft.generator.up_to(4);
+    write!(
+        draft.text,
+        r#"{{"frames": [[16, {low}], [4096, 40]], "max_bpages": {most}, "drivers": ["#
+    )?;
+    for driver in 0..drivers {
+        draft.push_driver(driver)?;
+    }
+    draft.text.push_str("],\n \"order\": [")?;
+    draft.push_order(drivers)?;
+    draft.text.push_str("]}\n")?;
+    Ok(draft.text)
+}

@@ -1,0 +1,102 @@
+//! Tags.
+
+use crate::tests::draft::Draft;
+use std::alloc::AllocError;
+
+/// A limit of a tag, and what it is in a scenario; no text where it is left out.
+struct Limit {
+    name: &'static str,
+    values: [&'static str; 8],
+}
+
+const LIMITS: [Limit; 8] = [
+    Limit {
+        name: "alignment",
+        values: ["", "", "", "", "", "2", "8", "64"],
+    },
+    Limit {
+        name: "boundary",
+        values: ["", "", "", "", "", "8", "16", "4096"],
+    },
+    Limit {
+        name: "lowaddr",
+        values: [
+            "",
+            r#""0xffffff""#,
+            r#""0xffffff""#,
+            r#""0xffffff""#,
+            r#""0xffffff""#,
+            r#""0xffffff""#,
+            r#""0x13fff""#,
+            r#""0x1001fff""#,
+        ],
+    },
+    Limit {
+        name: "highaddr",
+        values: ["", "", "", "", "", "", r#""0x1003fff""#, r#""0x1fffff""#],
+    },
+    Limit {
+        name: "maxsize",
+        values: ["", "16", "40", "4096", "8192", "8192", "8192", "12288"],
+    },
+    Limit {
+        name: "nsegments",
+        values: ["", "", "1", "1", "2", "3", "4", "8"],
+    },
+    Limit {
+        name: "maxsegsz",
+        values: ["", "", "", "", "", "4", "10", "4096"],
+    },
+    Limit {
+        name: "flags",
+        values: [
+            "",
+            "",
+            "",
+            r#"[]"#,
+            r#"["WAITOK"]"#,
+            r#"["ALLOCNOW"]"#,
+            r#"["KEEP_PG_OFFSET"]"#,
+            r#"["ALLOCNOW", "KEEP_PG_OFFSET"]"#,
+        ],
+    },
+];
+
+/// Limits that no tag can have.
+const WRONG: [&str; 4] = [
+    r#""alignment": 3"#,
+    r#""boundary": 3"#,
+    r#""maxsegsz": 0"#,
+    r#""nsegments": 0"#,
+];
+
+impl Draft {
+    /// A tag, in some cases under a parent.
+    pub fn push_tag_made(&mut self) -> Result<(), AllocError> {
+        let number = self.tags;
+        write!(self.text, r#"{{"op": "tag", "name": "t{number}""#)?;
+        if self.tags > 0 && self.generator.one_in(3) {
+            self.text.push_str(r#", "parent": "#)?;
+            self.push_tag()?;
+        }
+        if self.tags > 0 && self.generator.one_in(8) {
+            let wrong = self.generator.text(&WRONG);
+            write!(self.text, ", {wrong}")?;
+        } else {
+            self.push_limits()?;
+        }
+        self.tags = self.tags.saturating_add(1);
+        self.text.push_str("}")
+    }
+
+    fn push_limits(&mut self) -> Result<(), AllocError> {
+        for limit in &LIMITS {
+            let value = self.generator.text(&limit.values);
+            if !value.is_empty() {
+                let name = limit.name;
+                write!(self.text, r#", "{name}": {value}"#)?;
+            }
+        }
+        Ok(())
+    }
+}
