@@ -2,7 +2,6 @@
 
 mod answers;
 mod calls;
-mod memories;
 mod opened;
 mod refusals;
 mod wanted;

@@ -1,6 +1,6 @@
 //! Whether an answer is the one that was worked out by hand.
 
-use busdma_base::{Answer, Errno, Grown, Pa, Report, ReportName, Segment, ZoneId};
+use busdma_base::{Answer, Grown, Pa, Report, ReportName, Segment, ZoneId};
 
 /// It was done.
 pub fn is_done(answer: &Answer) -> bool {
@@ -44,22 +44,6 @@ pub fn is_segment(answer: &Answer, addr: u64, len: u64) -> bool {
     }];
     match answer {
         Answer::Segments(segments) => segments.as_slice() == want.as_slice(),
-        _ => false,
-    }
-}
-
-/// A memory was made, and its first byte lies there.
-pub fn is_placed(answer: &Answer, first: u64) -> bool {
-    match answer {
-        Answer::Placed(pa) => pa.0 == first,
-        _ => false,
-    }
-}
-
-/// The call was refused with this errno.
-pub fn is_errno(answer: &Answer, errno: Errno) -> bool {
-    match answer {
-        Answer::Refused(refusal) => *refusal == errno,
         _ => false,
     }
 }
