@@ -5,3 +5,4 @@ pub mod Calls
 pub mod MemSource
 pub mod MemSink
 pub mod Stream
+pub mod Pieces

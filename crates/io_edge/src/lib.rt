@@ -5,6 +5,7 @@
 mod failing_calls;
 mod mem_sink;
 mod mem_source;
+mod pieces;
 mod sink;
 mod source;
 mod std_sink;
@@ -12,6 +13,7 @@ mod std_source;
 
 pub use mem_sink::MemSink;
 pub use mem_source::MemSource;
+pub use pieces::Pieces;
 pub use sink::{Put, Sink, Unwritten, write_all};
 pub use source::{Got, Input, Source, read_up_to};
 pub use std_sink::StdSink;

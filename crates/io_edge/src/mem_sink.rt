@@ -50,6 +50,13 @@ impl MemSink {
     {
         &self.held
     }
+
+    /// The same, taken out of it.
+    pub fn into_held(self) -> Vec<u8>
+        ensures { result.items ≡ self.held }
+    {
+        self.held
+    }
 }
 
 impl Sink for MemSink {

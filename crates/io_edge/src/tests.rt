@@ -111,6 +111,50 @@ fn writes_a_front_where_a_write_fails(rt: HostRuntime) -> Result<(), Fail> {
     Ok(())
 }
 
+/// Nine texts of 1,000 bytes: eight wait in one piece, where the ninth finds no room.
+#[test]
+fn writes_in_pieces(rt: HostRuntime) -> Result<(), Fail> {
+    let alloc = rt.alloc();
+    let text = vec![in alloc; b'x'; 1000]?;
+    for (call, held, want) in [
+        (0, 0, Err(Unwritten)),
+        (1, 8000, Err(Unwritten)),
+        (2, 9000, Ok(())),
+    ] {
+        let mut to = sink(alloc, 9000, &[call])?;
+        let mut out = Pieces::new(&mut to);
+        for _ in 0..9 {
+            out.push(&text);
+        }
+        assert_eq!(rt; out.finish(), want, "call {call}");
+        assert_eq!(rt; to.into_held(), vec![in alloc; b'x'; held]?, "call {call}");
+    }
+    Ok(())
+}
+
+/// What waits is written, then a text that no piece holds, and at the end the last text.
+#[test]
+fn writes_a_text_that_is_longer_than_a_piece(rt: HostRuntime) -> Result<(), Fail> {
+    let alloc = rt.alloc();
+    let long = vec![in alloc; b'x'; 8193]?;
+    for (call, len, want) in [
+        (0, 0, Err(Unwritten)),
+        (1, 2, Err(Unwritten)),
+        (2, 8195, Err(Unwritten)),
+        (3, 8196, Ok(())),
+    ] {
+        let mut to = sink(alloc, 9000, &[call])?;
+        let mut out = Pieces::new(&mut to);
+        out.push_str("ab");
+        out.push(&long);
+        out.push_str("c");
+        assert_eq!(rt; out.finish(), want, "call {call}");
+        assert_eq!(rt; to.held().len(), len, "call {call}");
+        assert_eq!(rt; to.held().ends_with(b"xc"), want.is_ok(), "call {call}");
+    }
+    Ok(())
+}
+
 /// A reader and a writer that always fail, the writer only at the flush.
 #[derive(Drop)]
 struct Broken;

@@ -1,6 +1,6 @@
 use Rattle.std.proofs.Common.{rules, ◌≡◌, ℕ, ◌<◌, List, [], ap, ◌∙◌, drop, length, length-drop, refl, arith, zero, suc}
 use Rattle.io_edge.specs.declared.sink.Put.TheVariants.{Took}
-use Rattle.io_edge.proofs.Pieces.{appends_more}
+use Rattle.io_edge.proofs.Taken.{appends_more}
 use Rattle.io_edge.proofs.sink.write_all.Goals as goal
 
 -- a count is not 0 where 0 would mean an empty piece

@@ -1,6 +1,6 @@
 use Rattle.std.proofs.Common.{◌++◌, ◌+◌, ◌-◌, ◌≤◌, take, length, length-append, length-take, length-take-le, arith}
 use Rattle.std.proofs.lemmas.Result.{err_from_is_err_and}
-use Rattle.io_edge.proofs.Pieces.{takes_more, takes_front}
+use Rattle.io_edge.proofs.Taken.{takes_more, takes_front}
 use Rattle.io_edge.proofs.source.read_up_to.Goals as goal
 
 pub returns-in_err-extend_from_slice-in-Bytes-clause-memory :
