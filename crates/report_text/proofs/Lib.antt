@@ -1,1 +1,3 @@
-pub mod Appended
+pub mod Digits
+pub mod Kept
+pub mod Rest

@@ -1,12 +1,15 @@
 //! Answers, in words.
 
-ghost use Rattle.std.specs.Prelude.{◌≡◌, ◌<◌, ◌++◌, false, OnOk, string_bytes};
+ghost use Rattle.std.specs.Prelude.{◌≡◌, ◌++◌, codes};
 ghost use Rattle.std.specs.List.{flat_map};
-ghost use Rattle.std.specs.Fmt.{digit_glyph};
+ghost use Rattle.std.specs.Fmt.{decimal};
+ghost use Rattle.io_edge.specs.Pieces.{Gives};
 ghost use Rattle.report_text.specs.Answer as text;
+ghost use Rattle.report_text.specs.Text.{hex};
 
-use busdma_base::{Answer, Errno, Grown, Report, ReportName, Segment};
-use std::alloc::AllocError;
+use crate::numbers::{push_byte, push_decimal, push_hex};
+use busdma_base::{Answer, Errno, Grown, Pa, Report, ReportName, Segment};
+use io_edge::{Pieces, Sink};
 
 fn errno_name(errno: Errno) -> &'static str
     ensures { result.now ≡ text.errno_name errno }
@@ -42,53 +45,54 @@ fn report_name(name: ReportName) -> &'static str
     }
 }
 
-fn push_segment(out: &mut String, segment: Segment) -> Result<(), AllocError>
-    ensures { OnOk result (string_bytes out.new ≡ string_bytes out.old ++ text.segment_text segment) }
+fn push_segment<K: Sink>(out: &mut Pieces<'_, K>, segment: Segment)
+    ensures { Gives K.held K.faults out.old (text.segment_text segment) out.new }
 {
-    let addr = segment.addr.0;
-    let len = segment.len;
-    write!(out, " 0x{addr:x}+{len}")
+    out.push_str(" ");
+    push_hex(out, segment.addr.0);
+    out.push_str("+");
+    push_decimal(out, segment.len);
 }
 
-fn push_segments(out: &mut String, segments: &[Segment]) -> Result<(), AllocError>
-    ensures { OnOk result (string_bytes out.new ≡ string_bytes out.old ++ flat_map text.segment_text segments.now) }
+fn push_segments<K: Sink>(out: &mut Pieces<'_, K>, segments: &[Segment])
+    ensures { Gives K.held K.faults out.old (flat_map text.segment_text segments.now) out.new }
 {
     for segment in segments {
-        push_segment(out, *segment)?;
+        push_segment(out, *segment);
     }
-    Ok(())
 }
 
-fn hex_digit(value: u8) -> char
-    requires { value < 16 }
-    ensures { result ≡ digit_glyph false value }
+fn push_built<K: Sink>(out: &mut Pieces<'_, K>, segments: &[Segment])
+    ensures { Gives K.held K.faults out.old
+        (codes "ok" ++ flat_map text.segment_text segments.now) out.new }
 {
-    let digit = if value < 10 {
-        b'0' + value
-    } else {
-        b'a' + (value - 10)
-    };
-    char::from(digit)
+    out.push_str("ok");
+    push_segments(out, segments);
 }
 
-fn push_digits(out: &mut String, bytes: &[u8]) -> Result<(), AllocError>
-    ensures { OnOk result (string_bytes out.new ≡ string_bytes out.old ++ flat_map text.byte_text bytes.now) }
+fn push_digits<K: Sink>(out: &mut Pieces<'_, K>, bytes: &[u8])
+    ensures { Gives K.held K.faults out.old (flat_map text.byte_text bytes.now) out.new }
 {
     for byte in bytes {
-        out.push(hex_digit(*byte / 16))?;
-        out.push(hex_digit(*byte % 16))?;
+        push_byte(out, *byte);
     }
-    Ok(())
 }
 
-fn push_bytes(out: &mut String, bytes: &[u8]) -> Result<(), AllocError>
-    ensures { OnOk result (string_bytes out.new ≡ string_bytes out.old ++ text.bytes_text bytes.now) }
+fn push_bytes<K: Sink>(out: &mut Pieces<'_, K>, bytes: &[u8])
+    ensures { Gives K.held K.faults out.old (text.bytes_text bytes.now) out.new }
 {
     if bytes.is_empty() {
-        return Ok(());
+        return;
     }
-    out.push_str(" ")?;
-    push_digits(out, bytes)
+    out.push_str(" ");
+    push_digits(out, bytes);
+}
+
+fn push_read<K: Sink>(out: &mut Pieces<'_, K>, bytes: &[u8])
+    ensures { Gives K.held K.faults out.old (codes "bytes" ++ text.bytes_text bytes.now) out.new }
+{
+    out.push_str("bytes");
+    push_bytes(out, bytes);
 }
 
 fn made_text(made: bool) -> &'static str
@@ -97,43 +101,60 @@ fn made_text(made: bool) -> &'static str
     if made { "ok" } else { "ENOMEM" }
 }
 
-fn push_grown(out: &mut String, grown: Grown) -> Result<(), AllocError>
-    ensures { OnOk result (string_bytes out.new ≡ string_bytes out.old ++ text.grown_text grown) }
+fn push_grown<K: Sink>(out: &mut Pieces<'_, K>, grown: Grown)
+    ensures { Gives K.held K.faults out.old (text.grown_text grown) out.new }
 {
-    let made = made_text(grown.made);
-    let zone = grown.zone.0;
-    let added = grown.added;
-    write!(out, "{made} zone{zone} +{added}")
+    out.push_str(made_text(grown.made));
+    out.push_str(" zone");
+    push_decimal(out, u64::from(grown.zone.0));
+    out.push_str(" +");
+    push_decimal(out, u64::from(grown.added));
 }
 
-fn push_report(out: &mut String, report: Report) -> Result<(), AllocError>
-    ensures { OnOk result (string_bytes out.new ≡ string_bytes out.old ++ text.report_text report) }
+fn push_placed<K: Sink>(out: &mut Pieces<'_, K>, at: Pa)
+    ensures { Gives K.held K.faults out.old (codes "ok " ++ hex at.0) out.new }
 {
-    let name = report_name(report.name);
-    let at = report.at;
-    write!(out, "report {name} {at}")
+    out.push_str("ok ");
+    push_hex(out, at.0);
 }
 
-pub(crate) fn push_answer(out: &mut String, answer: &Answer) -> Result<(), AllocError>
-    ensures { OnOk result (string_bytes out.new ≡ string_bytes out.old ++ text.answer_text answer.now) }
+fn push_wait<K: Sink>(out: &mut Pieces<'_, K>, have: u32, need: u32)
+    ensures { Gives K.held K.faults out.old
+        (codes "EINPROGRESS " ++ (decimal have ++ (codes "/" ++ decimal need))) out.new }
+{
+    out.push_str("EINPROGRESS ");
+    push_decimal(out, u64::from(have));
+    out.push_str("/");
+    push_decimal(out, u64::from(need));
+}
+
+fn push_served<K: Sink>(out: &mut Pieces<'_, K>, moved: u32)
+    ensures { Gives K.held K.faults out.old (codes "ok ready " ++ decimal moved) out.new }
+{
+    out.push_str("ok ready ");
+    push_decimal(out, u64::from(moved));
+}
+
+fn push_report<K: Sink>(out: &mut Pieces<'_, K>, report: Report)
+    ensures { Gives K.held K.faults out.old (text.report_text report) out.new }
+{
+    out.push_str("report ");
+    out.push_str(report_name(report.name));
+    out.push_str(" ");
+    push_decimal(out, report.at);
+}
+
+pub(crate) fn push_answer<K: Sink>(out: &mut Pieces<'_, K>, answer: &Answer)
+    ensures { Gives K.held K.faults out.old (text.answer_text answer.now) out.new }
 {
     match answer {
         Answer::Done => out.push_str("ok"),
         Answer::Grown(grown) => push_grown(out, *grown),
-        Answer::Placed(at) => {
-            let at = at.0;
-            write!(out, "ok 0x{at:x}")
-        }
-        Answer::Segments(segments) => {
-            out.push_str("ok")?;
-            push_segments(out, segments.as_slice())
-        }
-        Answer::InProgress { have, need } => write!(out, "EINPROGRESS {have}/{need}"),
-        Answer::Served(moved) => write!(out, "ok ready {moved}"),
-        Answer::Bytes(bytes) => {
-            out.push_str("bytes")?;
-            push_bytes(out, bytes.as_slice())
-        }
+        Answer::Placed(at) => push_placed(out, *at),
+        Answer::Segments(segments) => push_built(out, segments.as_slice()),
+        Answer::InProgress { have, need } => push_wait(out, *have, *need),
+        Answer::Served(moved) => push_served(out, *moved),
+        Answer::Bytes(bytes) => push_read(out, bytes.as_slice()),
         Answer::Refused(errno) => out.push_str(errno_name(*errno)),
         Answer::Report(report) => push_report(out, *report),
     }

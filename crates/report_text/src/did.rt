@@ -1,12 +1,15 @@
 //! What a step did, in words.
 
-ghost use Rattle.std.specs.Prelude.{◌≡◌, ◌++◌, OnOk, string_bytes};
+ghost use Rattle.std.specs.Prelude.{◌≡◌, ◌++◌, codes, slice_get};
 ghost use Rattle.std.specs.Option.{option_map};
 ghost use Rattle.busdma_base.specs.Scenarios.Operations as operations;
+ghost use Rattle.io_edge.specs.Pieces.{Gives};
 ghost use Rattle.report_text.specs.Did as text;
+ghost use Rattle.report_text.specs.Text.{hex};
 
-use busdma_base::{Did, Item, LaneId, MapId, Object, Op, Scenario};
-use std::alloc::AllocError;
+use crate::numbers::push_hex;
+use busdma_base::{Did, Item, LaneId, MapId, Object, Op, Pa, Scenario};
+use io_edge::{Pieces, Sink};
 
 fn script_of(scenario: &Scenario, lane: LaneId) -> &[Op]
     ensures { result.now ≡ text.script_of scenario.now lane }
@@ -47,16 +50,20 @@ fn object_name<'s>(script: &'s [Op], object: Object<'s>) -> &'s str
     }
 }
 
-fn push_op(out: &mut String, script: &[Op], op: &Op) -> Result<(), AllocError>
-    ensures { OnOk result (string_bytes out.new ≡ string_bytes out.old ++ text.op_text script.now op.now) }
+fn push_object<K: Sink>(out: &mut Pieces<'_, K>, script: &[Op], object: Object<'_>)
+    ensures { Gives K.held K.faults out.old
+        (codes " " ++ text.object_name script.now (operations.object object.entry)) out.new }
 {
-    out.push_str(op.word().text())?;
-    match op.object() {
-        Some(object) => {
-            let name = object_name(script, object);
-            write!(out, " {name}")
-        }
-        None => Ok(()),
+    out.push_str(" ");
+    out.push_str(object_name(script, object));
+}
+
+fn push_op<K: Sink>(out: &mut Pieces<'_, K>, script: &[Op], op: &Op)
+    ensures { Gives K.held K.faults out.old (text.op_text script.now op.now) out.new }
+{
+    out.push_str(op.word().text());
+    if let Some(object) = op.object() {
+        push_object(out, script, object);
     }
 }
 
@@ -67,53 +74,70 @@ fn item_at(script: &[Op], load_at: u32, place: u32) -> Option<&Item>
     op.items().get(place as usize)
 }
 
-fn push_item(out: &mut String, script: &[Op], item: &Item) -> Result<(), AllocError>
-    ensures { OnOk result (string_bytes out.new ≡ string_bytes out.old ++ text.item_text script.now item.now) }
+fn push_item<K: Sink>(out: &mut Pieces<'_, K>, script: &[Op], item: &Item)
+    ensures { Gives K.held K.faults out.old (text.item_text script.now item.now) out.new }
 {
     let about = item.about();
-    let word = about.word.text();
-    let name = name_at(script, about.uses.made_at);
-    write!(out, "{word} {name}")
+    out.push_str(about.word.text());
+    out.push_str(" ");
+    out.push_str(name_at(script, about.uses.made_at));
 }
 
-fn push_op_at(out: &mut String, script: &[Op], place: u32) -> Result<(), AllocError>
-    ensures { OnOk result (string_bytes out.new ≡ string_bytes out.old ++ text.op_text_at script.now place) }
+fn op_at(script: &[Op], place: u32) -> Option<&Op>
+    ensures { option_map (λ op. op.now) result ≡ slice_get script.now place }
 {
-    match script.get(place as usize) {
+    script.get(place as usize)
+}
+
+fn push_op_at<K: Sink>(out: &mut Pieces<'_, K>, script: &[Op], place: u32)
+    ensures { Gives K.held K.faults out.old (text.op_text_at script.now place) out.new }
+{
+    match op_at(script, place) {
         Some(op) => push_op(out, script, op),
-        None => Ok(()),
+        None => {}
     }
 }
 
-fn push_item_at(out: &mut String, script: &[Op], load_at: u32, place: u32) -> Result<(), AllocError>
-    ensures { OnOk result (string_bytes out.new ≡ string_bytes out.old ++ text.item_text_at script.now load_at place) }
+fn push_item_at<K: Sink>(out: &mut Pieces<'_, K>, script: &[Op], load_at: u32, place: u32)
+    ensures { Gives K.held K.faults out.old (text.item_text_at script.now load_at place) out.new }
 {
     match item_at(script, load_at, place) {
         Some(item) => push_item(out, script, item),
-        None => Ok(()),
+        None => {}
     }
 }
 
-pub(crate) fn push_did(
-    out: &mut String,
+fn push_release<K: Sink>(out: &mut Pieces<'_, K>, scenario: &Scenario, map: MapId, page: Pa)
+    ensures { Gives K.held K.faults out.old
+        (codes "release " ++ (text.map_name scenario.now map ++ (codes " " ++ hex page.0))) out.new }
+{
+    out.push_str("release ");
+    out.push_str(map_name(scenario, map));
+    out.push_str(" ");
+    push_hex(out, page.0);
+}
+
+fn push_callback<K: Sink>(out: &mut Pieces<'_, K>, scenario: &Scenario, map: MapId)
+    ensures { Gives K.held K.faults out.old
+        (codes "callback " ++ text.map_name scenario.now map) out.new }
+{
+    out.push_str("callback ");
+    out.push_str(map_name(scenario, map));
+}
+
+pub(crate) fn push_did<K: Sink>(
+    out: &mut Pieces<'_, K>,
     scenario: &Scenario,
     lane: LaneId,
     did: Did,
-) -> Result<(), AllocError>
-    ensures { OnOk result (string_bytes out.new ≡ string_bytes out.old ++ text.did_text scenario.now lane did) }
+)
+    ensures { Gives K.held K.faults out.old (text.did_text scenario.now lane did) out.new }
 {
     let script = script_of(scenario, lane);
     match did {
         Did::Op(place) => push_op_at(out, script, place),
-        Did::Release { map, page } => {
-            let name = map_name(scenario, map);
-            let page = page.0;
-            write!(out, "release {name} 0x{page:x}")
-        }
-        Did::Callback { map } => {
-            let name = map_name(scenario, map);
-            write!(out, "callback {name}")
-        }
+        Did::Release { map, page } => push_release(out, scenario, map, page),
+        Did::Callback { map } => push_callback(out, scenario, map),
         Did::Item { load_at, place } => push_item_at(out, script, load_at, place),
     }
 }

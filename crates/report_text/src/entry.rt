@@ -1,12 +1,16 @@
 //! The lines of a journal's entries.
 
-ghost use Rattle.std.specs.Prelude.{◌≡◌, ◌++◌, IfOk, OnOk, string_bytes};
+ghost use Rattle.std.specs.Prelude.{◌≡◌, IfOk};
+ghost use Rattle.io_edge.specs.Pieces.{Gives};
 ghost use Rattle.report_text.specs.Text.{numbered};
 ghost use Rattle.report_text.specs.Report as text;
 
 use crate::answer::push_answer;
 use crate::did::push_did;
-use busdma_base::{ByteList, JournalEntry, ListOf, Scenario, Side};
+use crate::memory::{text_sink, whole_text};
+use crate::numbers::push_decimal;
+use busdma_base::{Actor, ByteList, JournalEntry, Scenario, Side};
+use io_edge::{Pieces, Sink};
 use std::alloc::{AllocError, Global};
 
 fn side_letter(side: Side) -> &'static str
@@ -19,37 +23,42 @@ fn side_letter(side: Side) -> &'static str
     }
 }
 
-fn push_entry(
-    out: &mut String,
+fn push_actor<K: Sink>(out: &mut Pieces<'_, K>, actor: Actor)
+    ensures { Gives K.held K.faults out.old (text.actor_text actor) out.new }
+{
+    out.push_str(side_letter(actor.side));
+    push_decimal(out, u64::from(actor.lane.0));
+}
+
+fn push_entry<K: Sink>(
+    out: &mut Pieces<'_, K>,
     scenario: &Scenario,
     number: u64,
     entry: &JournalEntry,
-) -> Result<(), AllocError>
-    ensures { OnOk result (string_bytes out.new ≡ string_bytes out.old
-        ++ text.entry_line scenario.now number entry.now) }
+)
+    ensures { Gives K.held K.faults out.old (text.entry_line scenario.now number entry.now) out.new }
 {
-    let side = side_letter(entry.actor.side);
-    let lane = entry.actor.lane;
-    let lane_number = lane.0;
-    write!(out, "{number} {side}{lane_number} ")?;
-    push_did(out, scenario, lane, entry.did)?;
-    out.push_str(" -> ")?;
-    push_answer(out, &entry.answer)?;
-    out.push_str("\n")
+    push_decimal(out, number);
+    out.push_str(" ");
+    push_actor(out, entry.actor);
+    out.push_str(" ");
+    push_did(out, scenario, entry.actor.lane, entry.did);
+    out.push_str(" -> ");
+    push_answer(out, &entry.answer);
+    out.push_str("\n");
 }
 
-pub(crate) fn push_entries(
-    out: &mut String,
+pub(crate) fn push_entries<K: Sink>(
+    out: &mut Pieces<'_, K>,
     scenario: &Scenario,
     entries: &[JournalEntry],
-) -> Result<(), AllocError>
-    ensures { OnOk result (string_bytes out.new ≡ string_bytes out.old
-        ++ numbered (text.entry_line scenario.now) 0 entries.now) }
+)
+    ensures { Gives K.held K.faults out.old
+        (numbered (text.entry_line scenario.now) 0 entries.now) out.new }
 {
     for (number, entry) in entries.iter().enumerate() {
-        push_entry(out, scenario, number as u64, entry)?;
+        push_entry(out, scenario, number as u64, entry);
     }
-    Ok(())
 }
 
 /// The line of the entry with this number in a journal of the scenario: the number, the actor, what
@@ -64,7 +73,9 @@ pub fn entry_line(
 ) -> Result<ByteList, AllocError>
     ensures { IfOk result (λ line. line ≡ text.entry_line scenario.now number entry.now) }
 {
-    let mut out = String::new(alloc);
-    push_entry(&mut out, scenario, number, entry)?;
-    Ok(ListOf::new(out.into_bytes()))
+    let mut sink = text_sink(alloc);
+    let mut out = Pieces::new(&mut sink);
+    push_entry(&mut out, scenario, number, entry);
+    let written = out.finish();
+    whole_text(sink, written)
 }

@@ -1,11 +1,18 @@
 //! The text of a whole run.
 
-ghost use Rattle.std.specs.Prelude.{◌≡◌, ◌++◌, IfOk, OnOk, string_bytes};
+ghost use Rattle.std.specs.Prelude.{◌≡◌, ◌≤◌, IfOk, OnOk, OnErr};
+ghost use Rattle.std.specs.Io.KnownBytes.{Appends};
+ghost use Rattle.io_edge.specs.Faults.{Rose};
+ghost use Rattle.io_edge.specs.Pieces.{Gives};
+ghost use Rattle.io_edge.specs.Writing.{WritesPart};
 ghost use Rattle.report_text.specs.Report as text;
 
 use crate::entry::push_entries;
+use crate::memory::{text_sink, whole_text};
+use crate::numbers::push_decimal;
 use crate::zone::push_zones;
-use busdma_base::{ByteList, End, Journal, JournalEntry, ListOf, Scenario};
+use busdma_base::{ByteList, End, Journal, JournalEntry, Scenario};
+use io_edge::{Pieces, Sink, Unwritten};
 use std::alloc::{AllocError, Global};
 
 /// How many entries have a report as their answer.
@@ -28,13 +35,24 @@ pub fn end_word(end: End) -> &'static str
     }
 }
 
-fn push_end(out: &mut String, journal: &Journal) -> Result<(), AllocError>
-    ensures { OnOk result (string_bytes out.new ≡ string_bytes out.old ++ text.end_line journal.now) }
+fn push_end<K: Sink>(out: &mut Pieces<'_, K>, journal: &Journal)
+    ensures { Gives K.held K.faults out.old (text.end_line journal.now) out.new }
 {
-    let end = end_word(journal.end);
-    let entries = journal.entries.len();
-    let reports = report_count(journal.entries.as_slice());
-    writeln!(out, "end {end}, {entries} entries, {reports} reports")
+    out.push_str("end ");
+    out.push_str(end_word(journal.end));
+    out.push_str(", ");
+    push_decimal(out, journal.entries.len() as u64);
+    out.push_str(" entries, ");
+    push_decimal(out, report_count(journal.entries.as_slice()) as u64);
+    out.push_str(" reports\n");
+}
+
+fn push_run<K: Sink>(out: &mut Pieces<'_, K>, scenario: &Scenario, journal: &Journal)
+    ensures { Gives K.held K.faults out.old (text.report scenario.now journal.now) out.new }
+{
+    push_entries(out, scenario, journal.entries.as_slice());
+    push_zones(out, journal.zones.as_slice());
+    push_end(out, journal);
 }
 
 /// The last line of a run: how it ended, how many entries its journal has, and how many of them
@@ -42,9 +60,11 @@ fn push_end(out: &mut String, journal: &Journal) -> Result<(), AllocError>
 pub fn end_line(alloc: Global, journal: &Journal) -> Result<ByteList, AllocError>
     ensures { IfOk result (λ line. line ≡ text.end_line journal.now) }
 {
-    let mut out = String::new(alloc);
-    push_end(&mut out, journal)?;
-    Ok(ListOf::new(out.into_bytes()))
+    let mut sink = text_sink(alloc);
+    let mut out = Pieces::new(&mut sink);
+    push_end(&mut out, journal);
+    let written = out.finish();
+    whole_text(sink, written)
 }
 
 /// The text of a run of the scenario: a line for each entry of its journal, numbered from 0, the
@@ -55,9 +75,27 @@ pub fn end_line(alloc: Global, journal: &Journal) -> Result<ByteList, AllocError
 pub fn report(alloc: Global, scenario: &Scenario, journal: &Journal) -> Result<ByteList, AllocError>
     ensures { IfOk result (λ lines. lines ≡ text.report scenario.now journal.now) }
 {
-    let mut out = String::new(alloc);
-    push_entries(&mut out, scenario, journal.entries.as_slice())?;
-    push_zones(&mut out, journal.zones.as_slice())?;
-    push_end(&mut out, journal)?;
-    Ok(ListOf::new(out.into_bytes()))
+    let mut sink = text_sink(alloc);
+    let written = write_report(scenario, journal, &mut sink);
+    whole_text(sink, written)
+}
+
+/// Writes the text of [`report`] to the sink while it makes it, in pieces of at most 8,192 bytes
+/// and without memory of its own. After `Unwritten` the sink holds a front of it.
+pub fn write_report<K: Sink>(
+    scenario: &Scenario,
+    journal: &Journal,
+    sink: &mut K,
+) -> Result<(), Unwritten>
+    ensures written { OnOk result
+        (Appends (K.held sink.old) (K.held sink.new) (text.report scenario.now journal.now)) }
+    ensures unwritten { OnErr result
+        (WritesPart (text.report scenario.now journal.now) (K.held sink.old) (K.held sink.new)) }
+    ensures failed { OnErr result (Rose (K.faults sink.old) (K.faults sink.new)) }
+    ensures unfailed { OnOk result (K.faults sink.new ≡ K.faults sink.old) }
+    ensures count { K.faults sink.old ≤ K.faults sink.new }
+{
+    let mut out = Pieces::new(sink);
+    push_run(&mut out, scenario, journal);
+    out.finish()
 }

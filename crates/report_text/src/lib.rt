@@ -5,10 +5,12 @@ mod answer;
 mod did;
 mod entry;
 mod journal;
+mod memory;
+mod numbers;
 #[cfg(test)]
 mod tests;
 mod zone;
 
 pub use entry::entry_line;
-pub use journal::{end_line, end_word, report, report_count};
+pub use journal::{end_line, end_word, report, report_count, write_report};
 pub use zone::zone_lines;

@@ -1,14 +1,17 @@
 //! Each kind of line, against texts that were written by hand.
 
-ghost use Rattle.std.specs.Prelude.{◌≡◌, IfOk, codes, string_bytes};
+ghost use Rattle.std.specs.Prelude.{◌≡◌, IfOk, codes};
+ghost use Rattle.report_text.specs.Answer as words;
 
 use crate::answer::push_answer;
-use crate::{end_line, entry_line, report, zone_lines};
+use crate::memory::{text_sink, whole_text};
+use crate::{end_line, entry_line, report, write_report, zone_lines};
 use busdma_base::{
     Actor, Answer, Buffer, ByteList, Bytes, Did, Driver, End, Errno, Grown, Item, Journal,
     JournalEntry, LaneId, ListOf, MapId, Name, Op, Pa, Place, Report, ReportName, Scenario,
     Segment, Side, TagLimits, Va, ZoneCounts, ZoneId,
 };
+use io_edge::{MemSink, Pieces, Unwritten};
 use std::alloc::{AllocError, Global};
 use std::test::Fail;
 
@@ -441,9 +444,8 @@ fn names_of_refusals(rt: HostRuntime) -> Result<(), Fail> {
         (ReportName::ForeignMemory, "report ForeignMemory 7"),
     ];
     for (name, want) in names {
-        let mut text = String::new(alloc);
-        push_answer(&mut text, &reported(name, 7))?;
-        assert_eq!(rt; text.as_str(), want);
+        let text = answer_text(alloc, &reported(name, 7))?;
+        assert_eq!(rt; text.as_slice(), want.as_bytes());
     }
     Ok(())
 }
@@ -459,9 +461,8 @@ fn names_of_errors(rt: HostRuntime) -> Result<(), Fail> {
         (Errno::EBUSY, "EBUSY"),
     ];
     for (errno, want) in names {
-        let mut text = String::new(alloc);
-        push_answer(&mut text, &Answer::Refused(errno))?;
-        assert_eq!(rt; text.as_str(), want);
+        let text = answer_text(alloc, &Answer::Refused(errno))?;
+        assert_eq!(rt; text.as_slice(), want.as_bytes());
     }
     Ok(())
 }
@@ -511,6 +512,49 @@ fn ends(rt: HostRuntime) -> Result<(), Fail> {
     Ok(())
 }
 
+/// A line of 23 bytes and 10,000 digits: 8,191 bytes of it are a piece, where the next two digits
+/// find no room. The rest of the line and the last line of 35 bytes are another.
+#[test]
+fn writes_in_two_pieces(rt: HostRuntime) -> Result<(), Fail> {
+    let alloc = rt.alloc();
+    let zeros = vec![in alloc; 0; 5000]?;
+    let read = JournalEntry {
+        actor: actor(Side::Script, 1),
+        did: Did::Op(2),
+        answer: bytes(alloc, &zeros)?,
+    };
+    let journal = journal(alloc, vec![in alloc; read]?, End::Finished);
+    let scenario = two_drivers(alloc)?;
+    let whole = report(alloc, &scenario, &journal)?;
+    assert_eq!(rt; whole.as_slice().len(), 10_059);
+    for (call, held, want) in [
+        (0, 0, Err(Unwritten)),
+        (1, 8191, Err(Unwritten)),
+        (2, 10_059, Ok(())),
+    ] {
+        let mut sink = MemSink::new(alloc, 10_000, vec![in alloc; call]?);
+        assert_eq!(rt;
+            write_report(&scenario, &journal, &mut sink),
+            want,
+            "call {call}"
+        );
+        assert_eq!(rt; sink.held().len(), held, "call {call}");
+        assert!(rt; whole.as_slice().starts_with(sink.held()), "call {call}");
+    }
+    Ok(())
+}
+
+/// The words of an answer.
+fn answer_text(alloc: Global, answer: &Answer) -> Result<ByteList, AllocError>
+    ensures { IfOk result (λ text. text ≡ words.answer_text answer.now) }
+{
+    let mut sink = text_sink(alloc);
+    let mut out = Pieces::new(&mut sink);
+    push_answer(&mut out, answer);
+    let written = out.finish();
+    whole_text(sink, written)
+}
+
 /// What this function and the next two promise, the checker computes from the definition.
 fn end_of_nothing(alloc: Global) -> Result<ByteList, AllocError>
     ensures { IfOk result (λ line. line ≡ codes "end finished, 0 entries, 0 reports\n") }
@@ -523,27 +567,21 @@ fn end_of_nothing(alloc: Global) -> Result<ByteList, AllocError>
     end_line(alloc, &nothing)
 }
 
-fn too_few_pages(alloc: Global) -> Result<String, AllocError>
-    ensures { IfOk result (λ text. string_bytes text ≡ codes "ENOMEM zone3 +17") }
+fn too_few_pages(alloc: Global) -> Result<ByteList, AllocError>
+    ensures { IfOk result (λ text. text ≡ codes "ENOMEM zone3 +17") }
 {
-    let mut text = String::new(alloc);
-    push_answer(
-        &mut text,
-        &Answer::Grown(Grown {
-            zone: ZoneId(3),
-            added: 17,
-            made: false,
-        }),
-    )?;
-    Ok(text)
+    let grown = Grown {
+        zone: ZoneId(3),
+        added: 17,
+        made: false,
+    };
+    answer_text(alloc, &Answer::Grown(grown))
 }
 
-fn placed(alloc: Global) -> Result<String, AllocError>
-    ensures { IfOk result (λ text. string_bytes text ≡ codes "ok 0x1fa0") }
+fn placed(alloc: Global) -> Result<ByteList, AllocError>
+    ensures { IfOk result (λ text. text ≡ codes "ok 0x1fa0") }
 {
-    let mut text = String::new(alloc);
-    push_answer(&mut text, &Answer::Placed(Pa(0x1fa0)))?;
-    Ok(text)
+    answer_text(alloc, &Answer::Placed(Pa(0x1fa0)))
 }
 
 #[test]
@@ -553,7 +591,10 @@ fn computed_lines(rt: HostRuntime) -> Result<(), Fail> {
         end_of_nothing(alloc)?.as_slice(),
         "end finished, 0 entries, 0 reports\n".as_bytes()
     );
-    assert_eq!(rt; too_few_pages(alloc)?.as_str(), "ENOMEM zone3 +17");
-    assert_eq!(rt; placed(alloc)?.as_str(), "ok 0x1fa0");
+    assert_eq!(rt;
+        too_few_pages(alloc)?.as_slice(),
+        b"ENOMEM zone3 +17".as_slice()
+    );
+    assert_eq!(rt; placed(alloc)?.as_slice(), b"ok 0x1fa0".as_slice());
     Ok(())
 }

@@ -1,8 +1,12 @@
-use Rattle.std.proofs.Common.{◌≡◌, ◌++◌, drop, string_bytes}
+use Rattle.std.proofs.Common.{drop}
 use Rattle.std.specs.List.{flat_map}
 use Rattle.report_text.specs.Answer.{byte_text}
+use Rattle.io_edge.specs.declared.pieces.Pieces.{Pieces}
+use Rattle.io_edge.specs.Pieces.{Gives}
 use Rattle.report_text.proofs.answer.push_digits.Given as goal
 
+-- what ends with the rest of the text ends with all of it
 abbrev pub invariant-loop-byte : goal.invariant-loop-byte
-invariant-loop-byte l = string_bytes l.out
-    ++ flat_map byte_text (drop l.byte-index l.bytes) ≡ string_bytes l.initial.out ++ flat_map byte_text l.bytes
+invariant-loop-byte g l = (ended : Pieces g.row.K.Denot)
+    → Gives g.K.Sink.held g.K.Sink.faults l.out (flat_map byte_text (drop l.byte-index l.bytes)) ended
+    → Gives g.K.Sink.held g.K.Sink.faults l.initial.out (flat_map byte_text l.bytes) ended

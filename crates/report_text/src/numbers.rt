@@ -1,0 +1,68 @@
+//! Numbers, in digits.
+
+ghost use Rattle.std.specs.Prelude.{◌≡◌, ◌<◌, ◌≤◌, false, drop};
+ghost use Rattle.std.specs.Fmt.{decimal, digit_glyph, digits as digits_of};
+ghost use Rattle.io_edge.specs.Pieces.{Gives};
+ghost use Rattle.report_text.specs.Answer.{byte_text};
+ghost use Rattle.report_text.specs.Text.{hex};
+
+use io_edge::{Pieces, Sink};
+use itoa::Buffer;
+
+pub(crate) fn push_decimal<K: Sink>(out: &mut Pieces<'_, K>, number: u64)
+    ensures { Gives K.held K.faults out.old (decimal number) out.new }
+{
+    let mut digits = Buffer::new();
+    out.push_str(digits.format(number));
+}
+
+fn hex_digit(value: u8) -> u8
+    requires { value < 16 }
+    ensures { result ≡ digit_glyph false value }
+{
+    if value < 10 {
+        b'0' + value
+    } else {
+        b'a' + (value - 10)
+    }
+}
+
+/// Writes the number in base 16 at the end of the buffer, and says where it begins there.
+fn write_hex(number: u64, buffer: &mut [u8; 64]) -> usize
+    ensures within { result ≤ 64 }
+    ensures written { drop result buffer.new ≡ digits_of 16 false number }
+{
+    let mut at = 64;
+    let mut rest = number;
+    while at > 0 {
+        at -= 1;
+        buffer[at] = hex_digit((rest % 16) as u8);
+        rest /= 16;
+        if rest == 0 {
+            return at;
+        }
+    }
+    at
+}
+
+fn push_hex_digits<K: Sink>(out: &mut Pieces<'_, K>, number: u64)
+    ensures { Gives K.held K.faults out.old (digits_of 16 false number) out.new }
+{
+    let mut buffer = [0; 64];
+    let begin = write_hex(number, &mut buffer);
+    out.push(&buffer[begin..]);
+}
+
+pub(crate) fn push_hex<K: Sink>(out: &mut Pieces<'_, K>, number: u64)
+    ensures { Gives K.held K.faults out.old (hex number) out.new }
+{
+    out.push_str("0x");
+    push_hex_digits(out, number);
+}
+
+/// A byte as two digits in base 16.
+pub(crate) fn push_byte<K: Sink>(out: &mut Pieces<'_, K>, byte: u8)
+    ensures { Gives K.held K.faults out.old (byte_text byte) out.new }
+{
+    out.push(&[hex_digit(byte / 16), hex_digit(byte % 16)]);
+}
