@@ -96,8 +96,7 @@ GaveTooMany e =
     × (length rest + input_limit < length input)
 
 -- What a call of the program with these words keeps. Words are judged before reading, reading is
--- done before judging and judging before the work, and the whole text is made before the first
--- write.
+-- done before judging and judging before the work, and all memory is taken before the first write.
 pub record Keeps (words : List (List ℕ)) (e : Edges) (o : Outcome) : Type 0 where
   pub known : IsStatus o.status
   pub no_command : o.status ≡ 64 → command words ≡ None

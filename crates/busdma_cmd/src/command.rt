@@ -13,7 +13,7 @@ use crate::outcome::Outcome;
 use busdma_base::{Journal, Scenario};
 use command_words::{Command, command_of, run_is_one_word, storms_are_small};
 use io_edge::{Input, Sink, Source, read_up_to, write_all};
-use report_text::report;
+use report_text::write_report;
 use scenario_read::{Reading, scenario_of};
 use std::alloc::{AllocError, Global};
 use storm::{storm_scenario, storms_are_valid, summary};
@@ -38,7 +38,7 @@ pub(crate) fn read_scenario<S: Source>(alloc: Global, source: &mut S) -> Result<
     }
 }
 
-/// Reads a scenario, replays its order and writes the report.
+/// Reads a scenario, replays its order and writes the report, piece by piece.
 fn replay_input<S: Source, K: Sink>(
     alloc: Global,
     source: &mut S,
@@ -51,8 +51,7 @@ fn replay_input<S: Source, K: Sink>(
 {
     let scenario = read_scenario(alloc, source)?;
     let journal = replay(alloc, &scenario)?;
-    let text = report(alloc, &scenario, &journal)?;
-    match write_all(sink, text.as_slice()) {
+    match write_report(&scenario, &journal, sink) {
         Ok(()) => Ok(journal),
         Err(_) => Err(Cause::WriteFailed(journal)),
     }

@@ -11,15 +11,16 @@ use crate::cause::Cause;
 use crate::command::{outcome_of, read_scenario};
 use crate::outcome::Outcome;
 use busdma_base::Journal;
-use io_edge::{Sink, Source, write_all};
+use io_edge::{Sink, Source};
 use lane_rounds::Gate;
 use lane_run::run_lanes;
-use report_text::report;
+use report_text::write_report;
 use std::alloc::Global;
 use std::sync::Wait;
 use std::thread::Threads;
 
-/// Reads a scenario, runs its drivers on threads behind the gate and writes the report.
+/// Reads a scenario, runs its drivers on threads behind the gate and writes the report, piece by
+/// piece.
 fn run_input<R: Threads + Wait + Sync, S: Source, K: Sink, G: Gate + Sync>(
     rt: &R,
     alloc: Global,
@@ -34,8 +35,7 @@ fn run_input<R: Threads + Wait + Sync, S: Source, K: Sink, G: Gate + Sync>(
 {
     let scenario = read_scenario(alloc, source)?;
     let journal = run_lanes(rt, alloc, &scenario, gate)?;
-    let text = report(alloc, &scenario, &journal)?;
-    match write_all(sink, text.as_slice()) {
+    match write_report(&scenario, &journal, sink) {
         Ok(()) => Ok(journal),
         Err(_) => Err(Cause::WriteFailed(journal)),
     }

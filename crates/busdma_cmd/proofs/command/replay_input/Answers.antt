@@ -1,4 +1,4 @@
-use Rattle.std.proofs.Common.{rules, ◌∙◌}
+use Rattle.std.proofs.Common.{rules, refl}
 use Rattle.busdma_cmd.specs.Edges.{Edges, edges}
 use Rattle.command_words.specs.declared.command.Command.TheVariants.{Replay}
 use Rattle.busdma_cmd.proofs.Taking.{ran_out, ran_out_after, runs_input, sink_failed}
@@ -15,23 +15,12 @@ pub returns-in_err-journal-clause-faults : goal.returns-in_err-journal-clause-fa
 returns-in_err-journal-clause-faults g c =
     ran_out_after _ _ _ c.from_residual-in_err-journal.ensures.1 c.in_ok-scenario.ensures.faults
 
-pub returns-in_err-text-clause-ends : goal.returns-in_err-text-clause-ends
-returns-in_err-text-clause-ends g c =
-    let e : Edges = edges g.S.Source.left g.S.Source.faults g.K.Sink.held g.K.Sink.faults
-    c.args.source.now c.read_scenario.new.source c.args.sink.now c.args.sink.now in
-    ran_out Replay e c.in_ok-scenario.scenario _ tt c.from_residual-in_err-text.ensures.1
-    c.in_ok-scenario.ensures.reads (search rules)
-
-pub returns-in_err-text-clause-faults : goal.returns-in_err-text-clause-faults
-returns-in_err-text-clause-faults g c =
-    ran_out_after _ _ _ c.from_residual-in_err-text.ensures.1 c.in_ok-scenario.ensures.faults
-
 pub returns-clause-ends : goal.returns-clause-ends
 returns-clause-ends g c =
     let failed = c.in-Err.ensures in
     let read = c.in_ok-scenario.ensures in
     let e : Edges = edges g.S.Source.left g.S.Source.faults g.K.Sink.held g.K.Sink.faults
-    c.args.source.now c.read_scenario.new.source c.args.sink.now c.write_all.new.sink in
-    sink_failed Replay e c.in_ok-scenario.scenario c.in_ok-journal.journal c.as_slice.result.now
-    (runs_input Replay e c.in_ok-scenario.scenario tt read.reads) read.valid c.in_ok-journal.ensures (c.as_slice.ensures ∙ c.in_ok-text.ensures)
+    c.args.source.now c.read_scenario.new.source c.args.sink.now c.write_report.new.sink in
+    sink_failed Replay e c.in_ok-scenario.scenario c.in_ok-journal.journal _
+    (runs_input Replay e c.in_ok-scenario.scenario tt read.reads) read.valid c.in_ok-journal.ensures refl
     failed.unwritten failed.failed
