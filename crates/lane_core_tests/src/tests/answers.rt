@@ -1,6 +1,6 @@
 //! Whether an answer is the one that was worked out by hand.
 
-use busdma_base::{Answer, Grown, Pa, Report, ReportName, Segment, ZoneId};
+use busdma_base::{Answer, Errno, Grown, Report, ReportName, ZoneId};
 
 /// It was done.
 pub fn is_done(answer: &Answer) -> bool {
@@ -36,14 +36,49 @@ pub fn is_grown(answer: &Answer, added: u32) -> bool {
     }
 }
 
-/// The load has one segment, with this address and length.
-pub fn is_segment(answer: &Answer, addr: u64, len: u64) -> bool {
-    let want = [Segment {
-        addr: Pa(addr),
-        len,
-    }];
+/// The load has these segments, each an address and a length.
+pub fn has_segments(answer: &Answer, wants: &[(u64, u64)]) -> bool {
     match answer {
-        Answer::Segments(segments) => segments.as_slice() == want.as_slice(),
+        Answer::Segments(segments) => {
+            let segments = segments.as_slice();
+            segments.len() == wants.len()
+                && segments
+                    .iter()
+                    .zip(wants)
+                    .all(|(segment, want)| (segment.addr.0, segment.len) == *want)
+        }
+        _ => false,
+    }
+}
+
+/// The load waits: it has `have` of the `need` pages that it needs.
+pub fn is_in_progress(answer: &Answer, have: u32, need: u32) -> bool {
+    match answer {
+        Answer::InProgress { have: h, need: n } => *h == have && *n == need,
+        _ => false,
+    }
+}
+
+/// A page went back, and so many loads were completed by it.
+pub fn is_served(answer: &Answer, count: u32) -> bool {
+    match answer {
+        Answer::Served(served) => *served == count,
+        _ => false,
+    }
+}
+
+/// A memory was made, and its first byte lies there.
+pub fn is_placed(answer: &Answer, first: u64) -> bool {
+    match answer {
+        Answer::Placed(pa) => pa.0 == first,
+        _ => false,
+    }
+}
+
+/// The call was refused with this errno.
+pub fn is_errno(answer: &Answer, errno: Errno) -> bool {
+    match answer {
+        Answer::Refused(refusal) => *refusal == errno,
         _ => false,
     }
 }

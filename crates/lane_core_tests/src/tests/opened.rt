@@ -3,15 +3,16 @@
 ghost use Rattle.std.specs.Prelude.{IfOk};
 ghost use Rattle.busdma_base.specs.Scenarios.Valid.{IsValid};
 ghost use Rattle.bounce_hub.specs.Seen.{door};
-ghost use Rattle.lane_core.specs.LaneIdeal.{ideal};
-ghost use Rattle.lane_core.specs.Turning.{IsServed};
+ghost use Rattle.lane_core_tests.specs.Serving.{Serves};
 
+use crate::tests::wanted::Want;
 use bounce_hub::Hub;
 use busdma_base::{Answer, HubDoor, JournalEntry, Scenario, Side};
 use lane_core::{Lane, Turn};
 use scenario_read::{Reading, scenario_of};
 use std::alloc::{AllocError, Global};
 use std::process::Abort;
+use std::test::Fail;
 use world_core::World;
 
 /// The scenario of a text.
@@ -31,7 +32,7 @@ pub fn open<'s>(
     scenario: &'s Scenario,
 ) -> Result<(Lane<'s>, Hub), AllocError>
     requires { IsValid scenario.now }
-    ensures { IfOk result (λ parts. IsServed (ideal parts.0) (door parts.1)) }
+    ensures { IfOk result (λ parts. Serves (door parts.1) parts.0) }
 {
     let (mut lanes, hub) = World::new(alloc, scenario)?.into_parts();
     let Some(lane) = lanes.pop() else {
@@ -41,6 +42,7 @@ pub fn open<'s>(
 }
 
 /// The answer of a side's next step at a door.
+#[tactic(auto, unfolding(crate::specs::Serving::Serves))]
 pub fn step<D: HubDoor>(
     rt: &impl Abort,
     alloc: Global,
@@ -48,8 +50,8 @@ pub fn step<D: HubDoor>(
     door: &mut D,
     side: Side,
 ) -> Result<Answer, AllocError>
-    requires { IsServed (ideal lane.old) (D.seen door.old) }
-    ensures { IsServed (ideal lane.new) (D.seen door.new) }
+    requires { Serves (D.seen door.old) lane.old }
+    ensures { Serves (D.seen door.new) lane.new }
 {
     match lane.turn(alloc, door, side)? {
         Turn::Stepped { entry, held: _ } => {
@@ -63,4 +65,40 @@ pub fn step<D: HubDoor>(
         Turn::Blocked => panic!(rt; "the side is blocked"),
         Turn::Ended => panic!(rt; "the script has ended"),
     }
+}
+
+/// A side has a turn, and is blocked.
+#[tactic(auto, unfolding(crate::specs::Serving::Serves))]
+pub fn blocked<D: HubDoor>(
+    rt: &impl Abort,
+    alloc: Global,
+    lane: &mut Lane,
+    door: &mut D,
+    side: Side,
+) -> Result<(), AllocError>
+    requires { Serves (D.seen door.old) lane.old }
+    ensures { Serves (D.seen door.new) lane.new }
+{
+    match lane.turn(alloc, door, side)? {
+        Turn::Blocked => Ok(()),
+        turn => panic!(rt; "{turn:?}"),
+    }
+}
+
+/// Makes the next steps of the script, and finds each answer as it is wanted.
+pub fn steps(
+    rt: &impl Abort,
+    alloc: Global,
+    lane: &mut Lane,
+    hub: &mut Hub,
+    wants: &[Want],
+) -> Result<(), Fail>
+    requires { Serves (door hub.old) lane.old }
+    ensures { Serves (door hub.new) lane.new }
+{
+    for want in wants {
+        let answer = step(rt, alloc, lane, hub, Side::Script)?;
+        assert!(rt; want.is_met_by(&answer), "{answer:?}, not {want:?}");
+    }
+    Ok(())
 }

@@ -1,0 +1,36 @@
+use Rattle.std.proofs.Common.{sym, ◌∙◌}
+use Rattle.busdma_base.specs.declared.bounce.hold.HubCall.TheVariants.{CreateMap}
+use Rattle.busdma_base.specs.declared.bounce.hold.HubReply.TheVariants.{Grown as GrownBy}
+use Rattle.lane_core.specs.LaneIdeal.{ideal}
+use Rattle.lane_core_tests.proofs.Coming.{allows-at, not-other, made-at, fails-at, still-made}
+use Rattle.lane_core_tests.proofs.tests.beside.BesideDoorHubDoor.create_map.Goals as goal
+
+pub create_map-requires : goal.create_map-requires
+create_map-requires c =
+    allows-at c.args.self.now c.self.inside.lane.0 (ideal c.self.inside.other.lane).id c.self.inside.hub c.act.new.hub
+    c.self.view_is c.self.invariant.apart c.act.ensures.comes (ideal c.act.new.self.lane) c.act.ensures.served
+    c.args.map.lane.0 (CreateMap c.args.map c.args.tag.now c.args.first_done) c.requires
+
+pub invariant_of-self : goal.invariant_of-self
+invariant_of-self c = record {
+  apart = λ same. c.self.invariant.apart (sym c.act.ensures.number ∙ same);
+  served =
+      still-made (ideal c.act.new.self.lane) c.act.new.hub c.create_map.new.self c.act.ensures.served
+      c.args.map.lane.0 (CreateMap c.args.map c.args.tag.now c.args.first_done) GrownBy c.create_map.result
+      (not-other c.args.self.now c.self.inside.lane.0 (ideal c.self.inside.other.lane).id c.self.inside.hub c.act.new.hub
+      c.self.view_is c.self.invariant.apart c.act.ensures.comes (ideal c.act.new.self.lane) c.act.ensures.served
+      c.args.map.lane.0 (CreateMap c.args.map c.args.tag.now c.args.first_done) c.act.ensures.number c.requires)
+      c.create_map.ensures.held c.create_map.ensures.no_memory;
+}
+
+pub returns-clause-held : goal.returns-clause-held
+returns-clause-held c =
+    made-at c.args.self.now c.self.inside.lane.0 (ideal c.self.inside.other.lane).id c.self.inside.hub c.act.new.hub
+    c.self.view_is c.self.invariant.apart c.act.ensures.comes (ideal c.act.new.self.lane) c.act.ensures.served
+    c.create_map.new.self c.args.map.lane.0 (CreateMap c.args.map c.args.tag.now c.args.first_done) GrownBy c.create_map.result c.create_map.ensures.held
+
+pub returns-clause-no_memory : goal.returns-clause-no_memory
+returns-clause-no_memory c =
+    fails-at c.args.self.now c.self.inside.lane.0 (ideal c.self.inside.other.lane).id c.self.inside.hub c.act.new.hub
+    c.self.view_is c.self.invariant.apart c.act.ensures.comes (ideal c.act.new.self.lane) c.act.ensures.served
+    c.create_map.new.self c.create_map.result c.create_map.ensures.no_memory

@@ -1,0 +1,9 @@
+-- A driver at a door, as the tests speak of it.
+use Rattle.busdma_base.specs.Bounce.Door.{Seen}
+use Rattle.lane_core.specs.declared.lane.Lane.{Lane}
+use Rattle.lane_core.specs.LaneIdeal.{ideal}
+use Rattle.lane_core.specs.Turning.{IsServed}
+
+-- a door serves a driver
+unfoldable pub Serves : Seen → Lane → Type 0
+Serves d l = IsServed (ideal l) d

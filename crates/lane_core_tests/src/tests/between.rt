@@ -1,0 +1,165 @@
+//! A driver at a door at which the steps of another come between its own. The answers were worked out
+//! by hand.
+
+ghost use Rattle.std.specs.Prelude.{IfOk};
+ghost use Rattle.busdma_base.specs.Scenarios.Valid.{IsValid};
+ghost use Rattle.lane_core_tests.specs.Beside.{seen};
+ghost use Rattle.lane_core_tests.specs.Serving.{Serves};
+
+use crate::tests::beside::{BesideDoor, Other};
+use crate::tests::opened::{blocked, read, step};
+use crate::tests::wanted::Want;
+use busdma_base::{Actor, JournalEntry, LaneId, Scenario, Side};
+use lane_core::Lane;
+use std::alloc::{AllocError, Global};
+use std::process::Abort;
+use std::test::Fail;
+use world_core::World;
+
+/// Two drivers whose bytes all bounce, over a zone of two pages.
+const SCENARIO: &str = r#"{"frames": [["0x10", 8], ["0x1000", 16]], "max_bpages": 2,
+ "drivers": [
+  {"pages": [["0x100000", "0x1000", 2]], "script": [
+    {"op": "tag", "name": "a", "lowaddr": "0xffffff", "maxsize": 8192, "nsegments": 2},
+    {"op": "map", "name": "m", "tag": "a"},
+    {"op": "load", "map": "m", "va": "0x100000", "len": 8192},
+    {"op": "await", "map": "m"},
+    {"op": "unload", "map": "m"},
+    {"op": "map_destroy", "map": "m"}]},
+  {"pages": [["0x100000", "0x1002", 1]], "script": [
+    {"op": "tag", "name": "b", "lowaddr": "0xffffff", "maxsize": 4096, "nsegments": 1},
+    {"op": "map", "name": "n", "tag": "b"},
+    {"op": "load", "map": "n", "va": "0x100000", "len": 100},
+    {"op": "unload", "map": "n"},
+    {"op": "load", "map": "n", "va": "0x100000", "len": 100},
+    {"op": "unload", "map": "n"}]}]}"#;
+
+/// The scripts' turns of the first two drivers.
+const TAGS: [Actor; 2] = [
+    Actor {
+        lane: LaneId(0),
+        side: Side::Script,
+    },
+    Actor {
+        lane: LaneId(1),
+        side: Side::Script,
+    },
+];
+
+/// The first of two drivers, and its door beside the second, once each has made its tag.
+fn open_beside<'s>(
+    rt: &impl Abort,
+    alloc: Global,
+    scenario: &'s Scenario,
+) -> Result<(Lane<'s>, BesideDoor<'s>), AllocError>
+    requires { IsValid scenario.now }
+    ensures { IfOk result (λ parts. Serves (seen parts.1) parts.0) }
+{
+    let mut world = World::new(alloc, scenario)?;
+    for actor in TAGS {
+        world.step(alloc, actor)?;
+    }
+    let (mut lanes, hub) = world.into_parts();
+    let Some(second) = lanes.pop() else {
+        panic!(rt; "there is no driver")
+    };
+    let Some(first) = lanes.pop() else {
+        panic!(rt; "there is one driver")
+    };
+    let [] = lanes.as_slice() else {
+        panic!(rt; "there are more drivers")
+    };
+    let other = Other::new(alloc, second);
+    Ok((first, BesideDoor::new(LaneId(0), hub, other)))
+}
+
+/// A turn of the first driver: the side of the other that has its turn before the first call, if one has, the side, and
+/// the answer that is wanted.
+type Row = (Option<Side>, Side, Want<'static>);
+
+/// The other driver has made its map before the first makes its own, so one page comes for each. It takes one of the
+/// two before a load wants both.
+const TAKEN: [Row; 2] = [
+    (Some(Side::Script), Side::Script, Want::Grown(1)),
+    (Some(Side::Script), Side::Script, Want::InProgress(1, 2)),
+];
+
+/// The other driver gives the page back before the callback. It waits for a page before the first goes back, which
+/// serves it, and is called back before the second goes, which serves no one. Its page is out when the map goes.
+const AWAITED: [Row; 6] = [
+    (
+        Some(Side::Script),
+        Side::Callback,
+        Want::Segments(&[(0x10000, 8192)]),
+    ),
+    (None, Side::Script, Want::Done),
+    (None, Side::Script, Want::Done),
+    (Some(Side::Script), Side::Script, Want::Served(1)),
+    (Some(Side::Callback), Side::Script, Want::Served(0)),
+    (Some(Side::Script), Side::Script, Want::Done),
+];
+
+/// What the other driver answered meanwhile: its map, its load and the unload, the page that goes back, which serves
+/// the first; the load that finds no page, its callback and the unload.
+const OTHERS: [Want; 7] = [
+    Want::Grown(1),
+    Want::Segments(&[(0x10000, 100)]),
+    Want::Done,
+    Want::Served(1),
+    Want::InProgress(0, 1),
+    Want::Segments(&[(0x10000, 100)]),
+    Want::Done,
+];
+
+/// Makes turns of the first driver, and finds each answer as it is wanted.
+fn turns(
+    rt: &impl Abort,
+    alloc: Global,
+    lane: &mut Lane,
+    door: &mut BesideDoor,
+    rows: &[Row],
+) -> Result<(), Fail>
+    requires { Serves (seen door.old) lane.old }
+    ensures { Serves (seen door.new) lane.new }
+{
+    for (before, side, want) in rows {
+        door.comes_next(*before);
+        let answer = step(rt, alloc, lane, door, *side)?;
+        assert!(rt; want.is_met_by(&answer), "{answer:?}, not {want:?}");
+    }
+    Ok(())
+}
+
+/// The answers of the other driver are those that are wanted.
+fn assert_others(rt: &impl Abort, entries: &[JournalEntry], wants: &[Want]) {
+    assert_eq!(rt; entries.len(), wants.len());
+    for (entry, want) in entries.iter().zip(wants) {
+        assert!(rt; want.is_met_by(&entry.answer), "{entry:?}, not {want:?}");
+    }
+}
+
+/// The first driver and the other make their turns, one between the calls of the other.
+fn play(rt: &impl Abort, alloc: Global, lane: &mut Lane, door: &mut BesideDoor) -> Result<(), Fail>
+    requires { Serves (seen door.old) lane.old }
+{
+    turns(rt, alloc, lane, door, &TAKEN)?;
+    door.comes_next(Some(Side::Script));
+    blocked(rt, alloc, lane, door, Side::Callback)?;
+    turns(rt, alloc, lane, door, &AWAITED)?;
+    assert_others(rt, door.entries(), &OTHERS);
+    Ok(())
+}
+
+/// The same, of a scenario.
+fn play_both(rt: &impl Abort, alloc: Global, scenario: &Scenario) -> Result<(), Fail>
+    requires { IsValid scenario.now }
+{
+    let (mut lane, mut door) = open_beside(rt, alloc, scenario)?;
+    play(rt, alloc, &mut lane, &mut door)
+}
+
+#[test]
+fn steps_come_between(rt: HostRuntime) -> Result<(), Fail> {
+    let scenario = read(&rt, rt.alloc(), SCENARIO)?;
+    play_both(&rt, rt.alloc(), &scenario)
+}

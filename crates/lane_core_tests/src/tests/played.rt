@@ -1,0 +1,38 @@
+//! A scenario's last driver at work.
+
+ghost use Rattle.busdma_base.specs.Scenarios.Valid.{IsValid};
+
+use crate::tests::calling::{Part, parts};
+use crate::tests::opened::{open, read, steps};
+use crate::tests::wanted::Want;
+use busdma_base::Scenario;
+use std::alloc::Global;
+use std::process::Abort;
+use std::test::Fail;
+
+/// The driver makes its first steps, with the answers that are wanted of them, and then the calls.
+fn play(
+    rt: &impl Abort,
+    alloc: Global,
+    scenario: &Scenario,
+    wants: &[Want],
+    calls: &[Part],
+) -> Result<(), Fail>
+    requires { IsValid scenario.now }
+{
+    let (mut lane, mut hub) = open(rt, alloc, scenario)?;
+    steps(rt, alloc, &mut lane, &mut hub, wants)?;
+    parts(rt, alloc, &mut lane, calls)
+}
+
+/// The last driver of a scenario's text makes its first steps and then the calls, with the answers that are wanted.
+pub fn plays(
+    rt: &impl Abort,
+    alloc: Global,
+    text: &str,
+    wants: &[Want],
+    calls: &[Part],
+) -> Result<(), Fail> {
+    let scenario = read(rt, alloc, text)?;
+    play(rt, alloc, &scenario, wants, calls)
+}
