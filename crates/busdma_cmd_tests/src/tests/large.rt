@@ -1,6 +1,6 @@
 //! A script of the most steps, under an order of the most texts.
 
-use super::{WHOLE, call};
+use super::{Edge, WHOLE, call};
 use std::alloc::{AllocError, Global};
 use std::test::Fail;
 
@@ -65,6 +65,25 @@ fn makes_the_most_steps(rt: HostRuntime) -> Result<(), Fail> {
         let ended = call(&rt, alloc, &[word], input, WHOLE, WHOLE)?;
         assert_eq!(rt; ended.outcome.status, 0, "{word}");
         assert_eq!(rt; str::from_utf8(&ended.written)?, want.as_str());
+    }
+    Ok(())
+}
+
+/// The report is written in pieces, and the second of them is refused.
+#[test]
+fn writes_the_first_piece(rt: HostRuntime) -> Result<(), Fail> {
+    let alloc = rt.alloc();
+    let want = wanted(alloc)?;
+    for word in ["replay", "run"] {
+        let input = scenario(alloc)?.into_bytes();
+        let to = Edge {
+            piece: 1_000_000,
+            failing: &[1],
+        };
+        let ended = call(&rt, alloc, &[word], input, WHOLE, to)?;
+        assert_eq!(rt; ended.outcome.status, 73, "{word}");
+        assert!(rt; want.as_bytes().starts_with(&ended.written), "{word}");
+        assert!(rt; (8100..=8192).contains(&ended.written.len()), "{word}");
     }
     Ok(())
 }

@@ -58,17 +58,28 @@ fn summaries(rt: HostRuntime) -> Result<(), Fail> {
     Ok(())
 }
 
-/// The sink takes four bytes and fails then.
+/// Each write takes five bytes of the 55, so as many fives are written as calls went well.
 #[test]
-fn writes_a_front_of_a_summary(rt: HostRuntime) -> Result<(), Fail> {
+fn each_write_of_a_storm_may_fail(rt: HostRuntime) -> Result<(), Fail> {
     let alloc = rt.alloc();
-    let to = Edge {
-        piece: 4,
-        failing: &[1],
-    };
-    let ended = storm(&rt, alloc, "1", "1", to)?;
-    assert_eq!(rt; ended.outcome.status, 73);
-    assert_eq!(rt; str::from_utf8(&ended.written)?, "stor");
-    assert!(rt; ended.outcome.journal.is_some());
+    for number in 0..12 {
+        let to = Edge {
+            piece: 5,
+            failing: &[number],
+        };
+        let ended = storm(&rt, alloc, "1", "1", to)?;
+        let want = if number < 11 { 73 } else { 0 };
+        assert_eq!(rt; ended.outcome.status, want, "at write {number}");
+        assert_eq!(rt;
+            ended.written.len() as u64,
+            5 * number.min(11),
+            "at write {number}"
+        );
+        assert!(rt;
+            LEADING_ZEROS.as_bytes().starts_with(&ended.written),
+            "at write {number}"
+        );
+        assert!(rt; ended.outcome.journal.is_some(), "at write {number}");
+    }
     Ok(())
 }
