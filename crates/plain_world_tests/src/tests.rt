@@ -12,6 +12,7 @@ mod operations;
 mod plain_machine;
 mod scenario;
 mod tags;
+mod worked;
 
 use beside::plays_alike;
 use forms::{FORMS, Form};

@@ -28,7 +28,7 @@ enum Told {
 }
 
 /// The scenario of a text.
-fn read(rt: &impl Abort, alloc: Global, text: &str) -> Result<Scenario, AllocError>
+pub fn read(rt: &impl Abort, alloc: Global, text: &str) -> Result<Scenario, AllocError>
     ensures { IfOk result IsValid }
 {
     match scenario_of(alloc, text.as_bytes())? {

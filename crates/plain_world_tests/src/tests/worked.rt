@@ -1,0 +1,191 @@
+//! Runs of two drivers on the plain machine alone; the reports are worked out by hand.
+
+use crate::tests::beside::read;
+use crate::tests::plain_machine::PlainMachine;
+use busdma_base::{
+    Actor, End, Journal, JournalEntry, LaneId, ListOf, Scenario, Side, ZoneCounts, ZoneId,
+};
+use plain_lane::PlainTurn;
+use report_text::report;
+use std::alloc::{AllocError, Global};
+use std::process::Abort;
+use std::test::Fail;
+
+/// No scenario here has more rounds in which a driver steps.
+const MOST_ROUNDS: u32 = 100;
+
+/// The sides of a driver in the order of their turns.
+const SIDES: [Side; 3] = [Side::Callback, Side::Transfer, Side::Script];
+
+/// The numbers of a scenario's drivers.
+fn lanes_of(alloc: Global, scenario: &Scenario) -> Result<Vec<LaneId>, AllocError> {
+    let mut lanes = Vec::new(alloc);
+    for (number, _) in (0..u32::MAX).zip(scenario.drivers.as_slice()) {
+        lanes.push(LaneId(number))?;
+    }
+    Ok(lanes)
+}
+
+/// The turns of a driver's sides; each step is noted.
+fn turns(
+    alloc: Global,
+    machine: &mut PlainMachine,
+    lane: LaneId,
+    entries: &mut Vec<JournalEntry>,
+) -> Result<(), AllocError> {
+    for side in SIDES.iter() {
+        let (turn, _) = machine.step(alloc, Actor { lane, side: *side })?;
+        if let PlainTurn::Stepped(entry) = turn {
+            entries.push(entry)?;
+        }
+    }
+    Ok(())
+}
+
+/// One round of all drivers.
+fn round(
+    alloc: Global,
+    machine: &mut PlainMachine,
+    lanes: &[LaneId],
+    entries: &mut Vec<JournalEntry>,
+) -> Result<(), AllocError> {
+    for lane in lanes {
+        turns(alloc, machine, *lane, entries)?;
+    }
+    Ok(())
+}
+
+/// The counts of all zones.
+fn zones_of(alloc: Global, machine: &PlainMachine) -> Result<Vec<ZoneCounts>, AllocError> {
+    let mut zones = Vec::new(alloc);
+    for zone in 0..u32::MAX {
+        let counts = machine.counts(ZoneId(zone))?;
+        if counts.alignment == 0 {
+            break;
+        }
+        zones.push(counts)?;
+    }
+    Ok(zones)
+}
+
+/// How a run ends in which no driver can step.
+fn end_of(
+    rt: &impl Abort,
+    alloc: Global,
+    machine: &mut PlainMachine,
+    lanes: &[LaneId],
+) -> Result<End, AllocError> {
+    let mut end = End::Finished;
+    for lane in lanes {
+        let script = Actor {
+            lane: *lane,
+            side: Side::Script,
+        };
+        match machine.step(alloc, script)?.0 {
+            PlainTurn::Ended => {}
+            PlainTurn::Blocked => end = End::Stuck,
+            PlainTurn::Stepped(_) => panic!(rt; "the script can step"),
+        }
+    }
+    Ok(end)
+}
+
+/// The journal of rounds until a whole round makes no step.
+fn play(rt: &impl Abort, alloc: Global, scenario: &Scenario) -> Result<Journal, AllocError> {
+    let lanes = lanes_of(alloc, scenario)?;
+    let mut machine = PlainMachine::new(alloc, scenario)?;
+    let mut entries = Vec::new(alloc);
+    for _ in 0..MOST_ROUNDS {
+        let before = entries.len();
+        round(alloc, &mut machine, &lanes, &mut entries)?;
+        if entries.len() == before {
+            break;
+        }
+    }
+    let zones = zones_of(alloc, &machine)?;
+    let end = end_of(rt, alloc, &mut machine, &lanes)?;
+    Ok(Journal {
+        entries: ListOf::new(entries),
+        zones: ListOf::new(zones),
+        end,
+    })
+}
+
+const DEFERRED_AND_SERVED: &str = r#"{"frames": [["0x10", 8], ["0x1000", 16]],
+ "max_bpages": 2,
+ "drivers": [
+  {"pages": [["0x100000", "0x1000", 2]], "script": [
+    {"op": "tag", "name": "a", "lowaddr": "0xffffff", "maxsize": 8192, "nsegments": 4, "maxsegsz": 8192},
+    {"op": "map", "name": "m", "tag": "a"},
+    {"op": "load", "map": "m", "va": "0x100000", "len": 5000},
+    {"op": "unload", "map": "m"}]},
+  {"pages": [["0x100000", "0x1002", 2]], "script": [
+    {"op": "tag", "name": "a", "lowaddr": "0xffffff", "maxsize": 8192, "nsegments": 4, "maxsegsz": 8192},
+    {"op": "map", "name": "m", "tag": "a"},
+    {"op": "load", "map": "m", "va": "0x100000", "len": 5000},
+    {"op": "await", "map": "m"}]}]}"#;
+
+const DEFERRED_AND_SERVED_REPORT: &str = r#"0 s0 tag a -> ok
+1 s1 tag a -> ok
+2 s0 map m -> ok zone0 +2
+3 s1 map m -> ok zone0 +1
+4 s0 load m -> ok 0x10000+5000
+5 s1 load m -> EINPROGRESS 1/2
+6 s0 unload m -> ok
+7 s0 release m 0x10000 -> ok ready 1
+8 c1 callback m -> ok 0x10000+4096 0x12000+904
+9 s1 await m -> ok
+10 s0 release m 0x11000 -> ok ready 0
+hw.busdma.zone0.total_bpages: 3
+hw.busdma.zone0.free_bpages: 1
+hw.busdma.zone0.reserved_bpages: 0
+hw.busdma.zone0.active_bpages: 2
+hw.busdma.zone0.total_bounced: 0
+hw.busdma.zone0.total_deferred: 1
+hw.busdma.zone0.lowaddr: 0xffffff
+hw.busdma.zone0.alignment: 4096
+end finished, 11 entries, 0 reports
+"#;
+
+const STUCK_BESIDE_AN_END: &str = r#"{"frames": [["0x10", 8], ["0x1000", 16]],
+ "max_bpages": 1,
+ "drivers": [
+  {"pages": [["0x100000", "0x1000", 2]], "script": [
+    {"op": "tag", "name": "t", "lowaddr": "0xffffff", "maxsize": 8192, "nsegments": 2},
+    {"op": "map", "name": "m", "tag": "t"},
+    {"op": "load", "map": "m", "va": "0x100fff", "len": 2},
+    {"op": "await", "map": "m"}]},
+  {"pages": [], "script": [
+    {"op": "tag", "name": "t"},
+    {"op": "tag_destroy", "tag": "t"}]}]}"#;
+
+const STUCK_BESIDE_AN_END_REPORT: &str = r#"0 s0 tag t -> ok
+1 s1 tag t -> ok
+2 s0 map m -> ok zone0 +1
+3 s1 tag_destroy t -> ok
+4 s0 load m -> EINPROGRESS 1/2
+hw.busdma.zone0.total_bpages: 1
+hw.busdma.zone0.free_bpages: 0
+hw.busdma.zone0.reserved_bpages: 1
+hw.busdma.zone0.active_bpages: 0
+hw.busdma.zone0.total_bounced: 0
+hw.busdma.zone0.total_deferred: 0
+hw.busdma.zone0.lowaddr: 0xffffff
+hw.busdma.zone0.alignment: 4096
+end stuck, 5 entries, 0 reports
+"#;
+
+#[test]
+fn worked(rt: HostRuntime) -> Result<(), Fail> {
+    let table = [
+        (DEFERRED_AND_SERVED, DEFERRED_AND_SERVED_REPORT),
+        (STUCK_BESIDE_AN_END, STUCK_BESIDE_AN_END_REPORT),
+    ];
+    for (text, want) in table.iter() {
+        let scenario = read(&rt, rt.alloc(), text)?;
+        let journal = play(&rt, rt.alloc(), &scenario)?;
+        let lines = report(rt.alloc(), &scenario, &journal)?;
+        assert_eq!(rt; str::from_utf8(lines.as_slice())?, *want);
+    }
+    Ok(())
+}
