@@ -61,6 +61,7 @@ mod Places
 mod Preparing
 mod Providing
 mod PutBack
+mod Queueing
 mod Reaching
 mod Reading
 mod Repaging

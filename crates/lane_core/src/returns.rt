@@ -76,8 +76,7 @@ fn note_returned(maps: &mut PlaceTable<KeptMap>, map: u32, last: bool)
         } }
     ensures more { last ≡ false → maps.new ≡ maps.old }
 {
-    if last && let Some(mut kept) = maps.take(map) {
+    if last && let Some(kept) = maps.get_mut(map) {
         kept.map.returned();
-        maps.put(map, kept);
     }
 }

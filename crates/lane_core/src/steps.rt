@@ -1,16 +1,19 @@
 //! What an operation waits for, and what goes on behind a step.
 
-ghost use Rattle.std.specs.Prelude.{◌≡◌, ◌<◌, ◌+◌, drop, length, IfOk, OnErr, OnOk};
+ghost use Rattle.std.specs.Prelude.{◌≡◌, ◌<◌, ◌≤◌, ◌+◌, ◌-◌, [], ◌∷◌, IfNone, IfOk, IfSome, OnErr, OnOk, OnSome};
 ghost use Rattle.busdma_base.specs.declared.scenarios.script.Op.TheVariants.{Await};
+ghost use Rattle.busdma_base.specs.Scenarios.Operations.{bytes_of};
+ghost use Rattle.ideal_lane.specs.Accesses as accesses;
 ghost use Rattle.ideal_lane.specs.Asking.{Gives};
 ghost use Rattle.ideal_lane.specs.Turns as turns;
 ghost use Rattle.ideal_wire.specs.WireStep as wires;
 ghost use Rattle.lane_core.specs.Wire.{IsWired, wire_of};
 
 use crate::holdings::Holdings;
-use busdma_base::{Answer, Item, Op};
+use busdma_base::{Answer, Bytes, Item, Op};
 use dma_map::MapState;
 use dma_tag::SyncOps;
+use lane_tables::QueuedItem;
 use std::alloc::{AllocError, Global};
 
 impl Holdings<'_> {
@@ -37,9 +40,34 @@ impl Holdings<'_> {
                 self.sync_range(alloc, *map, *off, *len, SyncOps(*ops))
             }
             Item::DevRead { map, off, len } => self.dev_read(alloc, *map, *off, *len),
-            Item::DevWrite { map, off, bytes } => {
-                let bytes = bytes.to_vec(alloc)?;
-                self.dev_write(alloc, *map, *off, &bytes)
+            Item::DevWrite { map, off, bytes } => self.write_item(alloc, *map, *off, bytes),
+        }
+    }
+
+    /// The device writes the bytes of an item. Listed bytes are not copied before.
+    fn write_item(
+        &mut self,
+        alloc: Global,
+        map: u32,
+        off: u64,
+        bytes: &Bytes,
+    ) -> Result<Answer, AllocError>
+        requires { IsWired self.old }
+        ensures done { IfOk result (λ answer.
+            Gives (given self.new answer) ≡ accesses.dev_write map off (bytes_of bytes.now) (ideal_of self.old)) }
+        ensures wire { IfOk result (λ answer.
+            wire_of self.new ≡ wires.dev_write map off (bytes_of bytes.now) (ideal_of self.old) (wire_of self.old)) }
+        ensures awaiting { AreAwaiting self.old → AreAwaiting self.new }
+        ensures script { self.new.script ≡ self.old.script }
+        ensures memories { self.new.memories ≡ self.old.memories }
+        ensures agenda { self.new.agenda ≡ self.old.agenda }
+        ensures err { OnErr result (KeepsState self.old self.new) }
+    {
+        match bytes {
+            Bytes::Listed(listed) => self.dev_write(alloc, map, off, listed.as_slice()),
+            Bytes::Filled { .. } => {
+                let filled = bytes.to_vec(alloc)?;
+                self.dev_write(alloc, map, off, &filled)
             }
         }
     }
@@ -88,16 +116,30 @@ impl Holdings<'_> {
         self.agenda.advance();
     }
 
-    /// Takes the first item out of the transfer queue.
-    pub(crate) fn pop_item(&mut self)
-        ensures queue { self.new.agenda.queue ≡ drop 1 self.old.agenda.queue }
-        ensures capacity { self.new.agenda.room + length self.new.agenda.queue
-            ≡ self.old.agenda.room + length self.old.agenda.queue }
+    /// Takes the first item out of the transfer queue, or answers None where it is empty.
+    pub(crate) fn pop_item(&mut self) -> Option<QueuedItem>
+        ensures item { IfSome result (λ item. self.old.agenda.queue ≡ item ∷ self.new.agenda.queue) }
+        ensures room { OnSome result (self.new.agenda.room ≡ self.old.agenda.room + 1) }
         ensures agenda { self.new.agenda
             ≡ record self.old.agenda { queue = self.new.agenda.queue; room = self.new.agenda.room } }
+        ensures empty { IfNone result (self.old.agenda.queue ≡ []) }
+        ensures same { IfNone result (self.new ≡ self.old) }
         ensures awaiting { AreAwaiting self.old → AreAwaiting self.new }
         ensures rest { KeepsButAgenda self.old self.new }
     {
-        self.agenda.pop();
+        self.agenda.pop()
+    }
+
+    /// Puts an item back at the head of the transfer queue, which it left.
+    pub(crate) fn put_item_back(&mut self, item: QueuedItem)
+        requires { 1 ≤ self.old.agenda.room }
+        ensures agenda { self.new.agenda ≡ record self.old.agenda {
+          queue = item ∷ self.old.agenda.queue;
+          room = self.old.agenda.room - 1;
+        } }
+        ensures awaiting { AreAwaiting self.old → AreAwaiting self.new }
+        ensures rest { KeepsButAgenda self.old self.new }
+    {
+        self.agenda.put_back(item);
     }
 }

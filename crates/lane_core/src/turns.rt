@@ -143,16 +143,19 @@ impl Holdings<'_> {
         ensures promised { self.new.agenda.promised ≤ self.old.agenda.promised }
         ensures err { OnErr result (KeepsState self.old self.new) }
     {
-        let Some(queued) = self.agenda.first() else {
+        let Some(queued) = self.pop_item() else {
             return Ok(Turn::Blocked);
         };
         let did = Did::Item {
             load_at: queued.load_at,
             place: queued.place,
         };
-        let item = queued.item.clone()?;
-        let answer = self.transfer(alloc, &item)?;
-        self.pop_item();
-        Ok(stepped(self.id, Side::Transfer, did, answer, false))
+        match self.transfer(alloc, &queued.item) {
+            Ok(answer) => Ok(stepped(self.id, Side::Transfer, did, answer, false)),
+            Err(error) => {
+                self.put_item_back(queued);
+                Err(error)
+            }
+        }
     }
 }

@@ -1,10 +1,11 @@
 -- What a table of values by script place finds, and how a put and a take change it.
-use Rattle.std.proofs.Common.{T, ◌≡◌, ◌≢◌, ◌⊎◌, ℕ, zero, suc, ◌+◌, ◌<◌, Bool, true, false, cond, ◌&&◌, List, [], ◌∷◌}
+use Rattle.std.proofs.Common.{T, ◌≡◌, ◌≢◌, ◌⊎◌, ℕ, zero, suc, ◌+◌, ◌-◌, ◌<◌, Bool, true, false, cond, ◌&&◌, List, [], ◌∷◌}
 use Rattle.std.proofs.Common.{length, get_or, set, replicate, Option, Some, None, IsSome, refl, sym, ap, subst, ◌∙◌}
 use Rattle.std.proofs.Common.{inl, inr, zero-add, arith, count_by, is_some}
 use Rattle.std.proofs.lemmas.Bool.{cases_eq, lt-ltb}
 use Rattle.std.proofs.lemmas.Bool.Decides.{nat_tests}
 use Rattle.std.proofs.lemmas.List.{get_or-set_same, get_or-set_other, get_or_past, length-set}
+use Rattle.std.proofs.lemmas.List.Sums.{sum_by-set}
 use Rattle.std.proofs.Math.ListN.{get_or-map}
 use Rattle.std.specs.Ordering.{nat_cmp, is_lt, eq_by_cmp}
 use Rattle.std.specs.Cmp.{nat_cmp_total}
@@ -12,7 +13,8 @@ use Rattle.std.specs.FinMap.{FinMap, find, is_sorted, empty, get, get-empty, ins
 use Rattle.std.specs.FinMap.{get-insert, get-remove, same_map, nat_cmp-IsAntisymmetric}
 use Rattle.std.specs.FinMap.Entries.{below_all}
 use Rattle.busdma_base.proofs.Accounts.Counting.{count_by-append}
-use Rattle.slab.specs.Slab.{Slab, get as under, ContainsKey, Updates, entries_from, slab_len}
+use Rattle.slab.specs.Slab.{Slab, get as under, ContainsKey, Updates, entries_from, slab_len, with_value}
+use Rattle.lane_tables.specs.Lends.{with_value as table_with}
 use Rattle.lane_tables.specs.Slots.{value_under, slots, by_place, IsKept}
 
 both : (a b : Bool) → T a → T b → T (a && b)
@@ -228,3 +230,55 @@ module _ {X : Type 0} (keys : List (Option ℕ)) (old new : Slab X) (place key :
 
   pub IsKept-take : IsKept (set keys place None) new
   IsKept-take = record { present = take_present; once = take_once; few = rw length-set kept.few }
+
+-- the value at a place is written over
+module _ {X : Type 0} (keys : List (Option ℕ)) (slab : Slab X) (place key : ℕ) (value : X)
+    (stands : get_or keys place None ≡ Some key) (kept : IsKept keys slab) where
+  has_slot : key < length slab.slots
+  has_slot = let there = kept.present place key stands in grind (arith, get_or_past)
+
+  write_at : (q : ℕ) → (q ≡ place) ⊎ (q ≡ place → ⊥) →
+      value_under (with_value slab key value) (get_or keys q None)
+      ≡ cond (eq_by_cmp nat_cmp q place) (Some value) (value_under slab (get_or keys q None))
+  write_at q (inl same) = rw (same, same_key place, stands) (get_or-set_same slab.slots key (Some value) None has_slot)
+  write_at q (inr differs) =
+      rw (other_key q place differs)
+      (value_kept slab (with_value slab key value) key
+      (λ other apart. get_or-set_other slab.slots key other (Some value) None apart) _
+      (λ also. differs (kept.once q place key also stands)))
+
+  pub by_place-write : by_place keys (with_value slab key value) ≡ insert (by_place keys slab) place value
+  by_place-write =
+      same_map nat_cmp_total nat_cmp-IsAntisymmetric _ _ (λ q. get-by_place keys (with_value slab key value) q
+      ∙ write_at q (cases_eq q place) ∙ sym (get-insert nat_cmp_total (by_place keys slab) place value q
+      ∙ ap (cond (eq_by_cmp nat_cmp q place) (Some value)) (get-by_place keys slab q)))
+
+  write_present : (at found : ℕ) → get_or keys at None ≡ Some found → ContainsKey (with_value slab key value) found
+  write_present at found also = elim (cases_eq found key) [
+    | inl same ↦ is_there _ value
+        (rw same (get_or-set_same slab.slots key (Some value) None has_slot))
+    | inr away ↦ subst (λ (o : Option X). IsSome o)
+        (sym (get_or-set_other slab.slots key found (Some value) None away)) (kept.present at found also)
+  ]
+
+  pub IsKept-write : IsKept keys (with_value slab key value)
+  IsKept-write = record { present = write_present; once = kept.once; few = kept.few }
+
+  -- as many values are there as before
+  pub write_len : slab_len (with_value slab key value) ≡ slab_len slab
+  write_len =
+      let there : is_some (get_or slab.slots key None) ≡ true = kept.present place key stands in
+      let counted = sum_by-set (λ o. cond (is_some o) 1 0) slab.slots key (Some value) None has_slot in
+      omega (arith, rw there at counted)
+
+  pub viewed-write : record {
+    map = by_place keys (with_value slab key value);
+    places = length keys;
+    spare = slab.capacity - slab_len (with_value slab key value);
+  }
+      ≡ table_with (record {
+        map = by_place keys slab;
+        places = length keys;
+        spare = slab.capacity - slab_len slab;
+      }) place value
+  viewed-write = rw (by_place-write, write_len) refl

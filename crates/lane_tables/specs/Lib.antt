@@ -1,3 +1,4 @@
+pub mod Lends
 pub mod Places
 pub mod Queues
 pub mod Schedule

@@ -168,6 +168,14 @@ impl Agenda {
         self.queue.pop_front()
     }
 
+    /// Puts an item at the head of the transfer queue, which it left; it uses the room that it left there.
+    pub fn put_back(&mut self, item: QueuedItem)
+        requires { 1 ≤ self.old.room }
+        ensures { self.new ≡ record self.old { queue = item ∷ self.old.queue; room = self.old.room - 1 } }
+    {
+        self.queue.push_front_reserved(item);
+    }
+
     /// Whether an item of the transfer queue names the map that was made at a place.
     pub fn names(&self, made_at: u32) -> bool
         ensures { result ≡ queue_names made_at self.now.queue }

@@ -1,6 +1,7 @@
 //! Values by the place in the script of the operation that made them.
 
 ghost use Rattle.std.specs.Prelude.{◌≡◌, ◌+◌, ◌-◌, ◌<◌, ◌≤◌, length, None, option_copied, slice_index_or};
+ghost use Rattle.std.specs.Option.{option_copied_mut};
 ghost use Rattle.std.specs.Prelude.{IfOk, IfNone, IsOk, OnOk, OnSome};
 ghost use Rattle.std.specs.FinMap as map;
 ghost use Rattle.std.specs.Iterator.{at_most};
@@ -57,6 +58,9 @@ fn value_under<T>(values: &Slab<T>, key: Option<usize>) -> Option<&T>
 }
 
 impl<T> PlaceTable<T> {
+    ghost use Rattle.std.specs.Borrow.{sem};
+    ghost use Rattle.lane_tables.specs.Lends.{lends_get};
+
     /// An empty table for the places below `places`.
     pub fn new(alloc: Global, places: u32) -> Result<PlaceTable<T>, AllocError>
         ensures { IfOk result (λ t. t ≡ record { map = map.empty; places = places; spare = 0 }) }
@@ -93,6 +97,17 @@ impl<T> PlaceTable<T> {
         ensures { option_copied result ≡ map.get self.now.map place }
     {
         value_under(&self.values, key_at(&self.keys, place))
+    }
+
+    /// The value at a place for writing, or None where it holds nothing.
+    pub fn get_mut(&mut self, place: u32) -> Option<&mut T>
+        ensures* writes_back { sem 𝓛 (lends_get T.row self.entry place result) }
+        ensures value { option_copied_mut result ≡ map.get self.old.map place }
+    {
+        match key_at(&self.keys, place) {
+            Some(key) => self.values.get_mut(key),
+            None => None,
+        }
     }
 
     /// The places that hold a value, each with its value, in the order of places.

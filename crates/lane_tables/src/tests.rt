@@ -25,11 +25,15 @@ fn values_stand_at_their_places(rt: HostRuntime) -> Result<(), Fail> {
     table.put(3, 'd');
     assert_eq!(rt; table.get(0).copied(), Some('a'));
     assert_eq!(rt; table.get(2).copied(), None);
+    if let Some(value) = table.get_mut(3) {
+        *value = 'e';
+    }
+    assert!(rt; table.get_mut(2).is_none());
     let values: Vec<(u32, char)> = table
         .iter()
         .map(|(place, value)| (place, *value))
         .collect(rt.alloc())?;
-    assert_eq!(rt; values.as_slice(), [(0, 'a'), (3, 'd')].as_slice());
+    assert_eq!(rt; values.as_slice(), [(0, 'a'), (3, 'e')].as_slice());
     Ok(())
 }
 
@@ -73,6 +77,8 @@ fn items_leave_in_the_order_of_their_loads(rt: HostRuntime) -> Result<(), Fail> 
     assert_eq!(rt; agenda.place(), 1);
     assert!(rt; agenda.names(0) && agenda.names(1) && !agenda.names(2));
     assert_eq!(rt; agenda.first().map(|queued| queued.load_at), Some(0));
+    let first = agenda.pop().ok_or("no item")?;
+    agenda.put_back(first);
     for (load_at, place) in [(0, 0), (0, 1), (1, 0)] {
         let queued = agenda.pop().ok_or("no item")?;
         assert_eq!(rt; (queued.load_at, queued.place), (load_at, place));

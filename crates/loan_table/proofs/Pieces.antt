@@ -5,7 +5,7 @@ use Rattle.std.proofs.Common.{sym, ap, ◌∙◌, subst, arith}
 use Rattle.std.proofs.lemmas.List.{drop-drop, take-take, take_all, take-append-le, length-map, map-append}
 use Rattle.std.proofs.lemmas.List.{get_or-drop, get_or-take}
 use Rattle.std.proofs.lemmas.List.{get_or_append_left, take-map}
-use Rattle.std.specs.List.{All, filter, count_by}
+use Rattle.std.specs.List.{All, filter}
 use Rattle.std.proofs.lemmas.List.Sums.{sum_by-cons}
 use Rattle.std.proofs.lemmas.List.Elements.{All-get_or, filter-append}
 use Rattle.std.specs.Ordering.{nat_cmp}
@@ -25,7 +25,7 @@ use Rattle.loan_table.specs.declared.position.Position.{Position}
 use Rattle.loan_table.specs.Loans.{addresses_of}
 use Rattle.loan_table.specs.Lending.{marked}
 use Rattle.loan_table.specs.Counted.{places, places_in}
-use Rattle.loan_table.specs.Rows.{alike}
+use Rattle.loan_table.specs.Rows.{alike, lent_like, stands, AreAlike}
 use Rattle.loan_table.proofs.Judgement.{length-run_of}
 use Rattle.loan_table.proofs.Places.{places-run}
 use Rattle.loan_table.proofs.Recounting.{places-cons, places-append}
@@ -104,77 +104,64 @@ in_piece P d at end n p ps e within range all a from to =
     ∙ get_or-alike (lent_as p) d p.pa n i (omega arith) ∙ ap (lent_as p) here)
     (All-get_or P ps (at + i) d (omega arith) all)
 
--- the bytes of a piece
-pub addresses_of-alike : (p : Position) (n : ℕ) → addresses_of (alike p n) ≡ run_of p.pa n
-addresses_of-alike p n = each (run_of p.pa n)
-  where
-    each : (xs : List ℕ) → addresses_of (map (lent_as p) xs) ≡ xs
-    each [] = refl
-    each (x ∷ xs) = ap (λ l. x ∷ l) (each xs)
-
 pub addresses_of-append : (ps qs : List Position) → addresses_of (ps ++ qs) ≡ addresses_of ps ++ addresses_of qs
 addresses_of-append ps qs = map-append _ ps qs
 
--- a piece as a call marks it
-pub marked-alike : (ops : ℕ) (p : Position) (n : ℕ) → map (marked ops) (alike p n) ≡ alike (marked ops p) n
-marked-alike ops p n = each (run_of p.pa n)
+-- positions that are lent alike, as a call marks them
+pub marked-like : (ops : ℕ) (p : Position) (xs : List ℕ) → map (marked ops) (lent_like p xs) ≡ lent_like (marked ops p)
+    xs
+marked-like ops p [] = refl
+marked-like ops p (x ∷ xs) = ap (λ l. lent_as (marked ops p) x ∷ l) (marked-like ops p xs)
+
+-- those of positions that are lent alike that pass a test: all, or none
+pub filter-like : (test : Position → Bool) (p : Position) (xs : List ℕ) → ((a : ℕ) → test (lent_as p a) ≡ test p) →
+    filter test (lent_like p xs) ≡ cond (test p) (lent_like p xs) []
+filter-like test p [] same = none (test p)
   where
-    each : (xs : List ℕ) → map (marked ops) (map (lent_as p) xs) ≡ map (lent_as (marked ops p)) xs
-    each [] = refl
-    each (x ∷ xs) = ap (λ l. lent_as (marked ops p) x ∷ l) (each xs)
-
--- those of a piece that pass a test: all, or none
-pub filter-alike : (test : Position → Bool) (p : Position) (n : ℕ) → ((a : ℕ) → test (lent_as p a) ≡ test p) →
-    filter test (alike p n) ≡ cond (test p) (alike p n) []
-filter-alike test p n same = each (run_of p.pa n)
+    none : (b : Bool) → ◌≡◌ {A = List Position} [] (cond b [] [])
+    none true = refl
+    none false = refl
+filter-like test p (x ∷ xs) same = one (test (lent_as p x)) (test p) (same x) (filter-like test p xs same)
   where
-    one : (x : ℕ) (xs : List Position) (rest : List ℕ) (b c : Bool) → b ≡ c → xs ≡ cond c (map (lent_as p) rest) [] →
-        cond b (lent_as p x ∷ xs) xs ≡ cond c (lent_as p x ∷ map (lent_as p) rest) []
-    one x xs rest b true e h = ap (λ t. cond t (lent_as p x ∷ xs) xs) e ∙ ap (λ l. lent_as p x ∷ l) h
-    one x xs rest b false e h = ap (λ t. cond t (lent_as p x ∷ xs) xs) e ∙ h
+    rest : List Position
+    rest = filter test (lent_like p xs)
 
-    each : (xs : List ℕ) → filter test (map (lent_as p) xs) ≡ cond (test p) (map (lent_as p) xs) []
-    each [] = none (test p)
-      where
-        none : (b : Bool) → ◌≡◌ {A = List Position} [] (cond b [] [])
-        none true = refl
-        none false = refl
-    each (x ∷ xs) = one x _ xs (test (lent_as p x)) (test p) (same x) (each xs)
+    one : (b c : Bool) → b ≡ c → rest ≡ cond c (lent_like p xs) [] →
+        cond b (lent_as p x ∷ rest) rest ≡ cond c (lent_as p x ∷ lent_like p xs) []
+    one b true e h = ap (λ t. cond t (lent_as p x ∷ rest) rest) e ∙ ap (λ l. lent_as p x ∷ l) h
+    one b false e h = ap (λ t. cond t (lent_as p x ∷ rest) rest) e ∙ h
 
--- at how many positions of a piece a byte is lent
+-- at how many positions that are lent alike a byte is lent
 both : (b w : Bool) → ◌≡◌ {A = ℕ} (cond (b && w) 1 0) (cond w (cond b 1 0) 0)
 both true true = refl
 both true false = refl
 both false true = refl
 both false false = refl
 
-pub places-alike : (way : Position → Bool) (p : Position) (n a : ℕ) → ((x : ℕ) → way (lent_as p x) ≡ way p) →
+more : (w : Bool) (k m : ℕ) → ◌≡◌ {A = ℕ} (cond w k 0 + cond w m 0) (cond w (k + m) 0)
+more true k m = refl
+more false k m = omega arith
+
+pub places-like : (way : Position → Bool) (p : Position) (a : ℕ) (xs : List ℕ) →
+    ((x : ℕ) → way (lent_as p x) ≡ way p) → places way a (lent_like p xs) ≡ cond (way p) (stands a xs) 0
+places-like way p a [] same = none (way p)
+  where
+    none : (b : Bool) → ◌≡◌ {A = ℕ} 0 (cond b 0 0)
+    none true = refl
+    none false = refl
+places-like way p a (x ∷ xs) same =
+    places-cons way a (lent_as p x) (lent_like p xs)
+    ∙ ap (λ k. cond (x == a && way (lent_as p x)) 1 0 + k) (places-like way p a xs same)
+    ∙ ap (λ w. cond (x == a && w) 1 0 + cond (way p) (stands a xs) 0) (same x)
+    ∙ ap (λ k. k + cond (way p) (stands a xs) 0) (both (x == a) (way p))
+    ∙ more (way p) (cond (x == a) 1 0) (stands a xs)
+    ∙ ap (λ k. cond (way p) k 0) (sym (sum_by-cons (λ b. cond (b == a) 1 0) x xs))
+
+places-alike : (way : Position → Bool) (p : Position) (n a : ℕ) → ((x : ℕ) → way (lent_as p x) ≡ way p) →
     places way a (alike p n) ≡ places_in p.pa n (way p) a
 places-alike way p n a same =
-    each (run_of p.pa n) ∙ ap (λ k. cond (way p) k 0) (places-run a p.pa n)
+    places-like way p a (run_of p.pa n) same ∙ ap (λ k. cond (way p) k 0) (places-run a p.pa n)
     ∙ sym (both (in_run p.pa (p.pa + n) a) (way p))
-  where
-    more : (w : Bool) (k m : ℕ) → ◌≡◌ {A = ℕ} (cond w k 0 + cond w m 0) (cond w (k + m) 0)
-    more true k m = refl
-    more false k m = omega arith
-
-    count-cons : (x : ℕ) (xs : List ℕ) → count_by (λ b. b == a) (x ∷ xs) ≡ cond (x == a) 1 0 + count_by (λ b. b == a)
-        xs
-    count-cons x xs = sum_by-cons (λ b. cond (b == a) 1 0) x xs
-
-    each : (xs : List ℕ) → places way a (map (lent_as p) xs) ≡ cond (way p) (count_by (λ b. b == a) xs) 0
-    each [] = none (way p)
-      where
-        none : (b : Bool) → ◌≡◌ {A = ℕ} 0 (cond b 0 0)
-        none true = refl
-        none false = refl
-    each (x ∷ xs) =
-        places-cons way a (lent_as p x) (map (lent_as p) xs)
-        ∙ ap (λ k. cond (x == a && way (lent_as p x)) 1 0 + k) (each xs)
-        ∙ ap (λ w. cond (x == a && w) 1 0 + cond (way p) (count_by (λ b. b == a) xs) 0) (same x)
-        ∙ ap (λ k. k + cond (way p) (count_by (λ b. b == a) xs) 0) (both (x == a) (way p))
-        ∙ more (way p) (cond (x == a) 1 0) (count_by (λ b. b == a) xs)
-        ∙ ap (λ k. cond (way p) k 0) (sym (count-cons x xs))
 
 -- things of which none is refused are passed, and the first of a piece is refused
 pub none_refused : {X : Type 0} (f : X → Option ReportName) (g : ℕ → X) (at s m : ℕ) (ys : List X) →
@@ -198,27 +185,52 @@ pub same_way : (way : Way) (p : Position) (a : ℕ) → test_of way (lent_as p a
 same_way ToWrite p a = refl
 same_way ToRead p a = refl
 
--- at how many positions a byte is lent from a piece on, before a call and after it
-module _ (way : Way) (a at end n : ℕ) (p : Position) (ps : List Position)
-    (e : stretch at (end - at) ps ≡ alike p n ++ stretch (at + n) (end - (at + n)) ps) where
-  pub places_ahead : places (test_of way) a (stretch at (end - at) ps)
-      ≡ places_in p.pa n (test_of way p) a + places (test_of way) a (stretch (at + n) (end - (at + n)) ps)
-  places_ahead =
-      let rest = stretch (at + n) (end - (at + n)) ps in
-      ap (places (test_of way) a) e ∙ places-append (test_of way) a (alike p n) rest
-      ∙ ap (λ k. k + places (test_of way) a rest) (places-alike (test_of way) p n a (same_way way p))
+-- at how many positions a byte is lent from a piece on
+pub places_ahead : (way : Way) (a at end n : ℕ) (p : Position) (ps : List Position) →
+    stretch at (end - at) ps ≡ alike p n ++ stretch (at + n) (end - (at + n)) ps →
+    places (test_of way) a (stretch at (end - at) ps)
+    ≡ places_in p.pa n (test_of way p) a + places (test_of way) a (stretch (at + n) (end - (at + n)) ps)
+places_ahead way a at end n p ps e =
+    let rest = stretch (at + n) (end - (at + n)) ps in
+    ap (places (test_of way) a) e ∙ places-append (test_of way) a (alike p n) rest
+    ∙ ap (λ k. k + places (test_of way) a rest) (places-alike (test_of way) p n a (same_way way p))
 
-  pub marked_ahead : (ops : ℕ) → places (test_of way) a (map (marked ops) (stretch at (end - at) ps))
-      ≡ places_in p.pa n (test_of way (marked ops p)) a
+-- at how many positions a byte is lent from a span on, before a call and after it
+module _ (way : Way) (a at end n : ℕ) (ps : List Position) (within : at + n ≤ end) where
+  pub span_places : places (test_of way) a (stretch at (end - at) ps)
+      ≡ places (test_of way) a (stretch at n ps) + places (test_of way) a (stretch (at + n) (end - (at + n)) ps)
+  span_places =
+      ap (places (test_of way) a) (two_parts at n end ps within)
+      ∙ places-append (test_of way) a (stretch at n ps) (stretch (at + n) (end - (at + n)) ps)
+
+  pub span_marked : (ops : ℕ) → places (test_of way) a (map (marked ops) (stretch at (end - at) ps))
+      ≡ places (test_of way) a (map (marked ops) (stretch at n ps))
       + places (test_of way) a (map (marked ops) (stretch (at + n) (end - (at + n)) ps))
-  marked_ahead ops =
-      let rest = stretch (at + n) (end - (at + n)) ps in
-      ap (λ xs. places (test_of way) a (map (marked ops) xs)) e
-      ∙ ap (places (test_of way) a) (map-append (marked ops) (alike p n) rest)
-      ∙ places-append (test_of way) a (map (marked ops) (alike p n)) (map (marked ops) rest)
-      ∙ ap (λ xs. places (test_of way) a xs + places (test_of way) a (map (marked ops) rest)) (marked-alike ops p n)
-      ∙ ap (λ k. k + places (test_of way) a (map (marked ops) rest))
-      (places-alike (test_of way) (marked ops p) n a (same_way way (marked ops p)))
+  span_marked ops =
+      ap (λ xs. places (test_of way) a (map (marked ops) xs)) (two_parts at n end ps within)
+      ∙ ap (places (test_of way) a) (map-append (marked ops) (stretch at n ps) (stretch (at + n) (end - (at + n)) ps))
+      ∙ places-append (test_of way) a (map (marked ops) (stretch at n ps))
+      (map (marked ops) (stretch (at + n) (end - (at + n)) ps))
+
+-- the bytes of a span, and those behind it
+pub span_bytes : (at end n : ℕ) (ps : List Position) → at + n ≤ end → addresses_of (stretch at (end - at) ps)
+    ≡ addresses_of (stretch at n ps) ++ addresses_of (stretch (at + n) (end - (at + n)) ps)
+span_bytes at end n ps within =
+    ap addresses_of (two_parts at n end ps within)
+    ∙ addresses_of-append (stretch at n ps) (stretch (at + n) (end - (at + n)) ps)
+
+-- at how many positions of a span a byte is lent, before a call and after it
+module _ (way : Way) (a : ℕ) (p : Position) (ps : List Position) (alike_all : AreAlike p ps) where
+  pub alike_places_of : places (test_of way) a ps ≡ cond (test_of way p) (stands a (addresses_of ps)) 0
+  alike_places_of =
+      ap (places (test_of way) a) alike_all ∙ places-like (test_of way) p a (addresses_of ps) (same_way way p)
+
+  pub alike_marked_of : (ops : ℕ) → places (test_of way) a (map (marked ops) ps)
+      ≡ cond (test_of way (marked ops p)) (stands a (addresses_of ps)) 0
+  alike_marked_of ops =
+      ap (λ xs. places (test_of way) a (map (marked ops) xs)) alike_all
+      ∙ ap (places (test_of way) a) (marked-like ops p (addresses_of ps))
+      ∙ places-like (test_of way) (marked ops p) a (addresses_of ps) (same_way way (marked ops p))
 
 -- bytes of a piece are marked, and then those behind it
 module _ (m new w : FinMap nat_cmp Bool) (v : Bool) (all front back : List ℕ) (e : all ≡ front ++ back) where
@@ -232,12 +244,6 @@ there_front m all front back e h = (AreIn-append m front back (subst (AreIn m) e
 
 pub there_back : (m : FinMap nat_cmp Bool) (all front back : List ℕ) → all ≡ front ++ back → AreIn m all → AreIn m back
 there_back m all front back e h = (AreIn-append m front back (subst (AreIn m) e h)).1
-
-pub addresses_ahead : (p : Position) (n : ℕ) (ps rest : List Position) → ps ≡ alike p n ++ rest →
-    addresses_of ps ≡ run_of p.pa n ++ addresses_of rest
-addresses_ahead p n ps rest e =
-    ap addresses_of e ∙ addresses_of-append (alike p n) rest
-    ∙ ap (λ xs. xs ++ addresses_of rest) (addresses_of-alike p n)
 
 pub filter_ahead : (test : Position → Bool) (ps front rest : List Position) → ps ≡ front ++ rest →
     addresses_of (filter test ps) ≡ addresses_of (filter test front) ++ addresses_of (filter test rest)

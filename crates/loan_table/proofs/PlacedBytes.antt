@@ -15,7 +15,7 @@ use Rattle.loan_table.specs.declared.position.Position.{Position}
 use Rattle.loan_table.specs.Loans.{Loan, addresses_of, new_loan, stands_twice, unlent}
 use Rattle.loan_table.specs.Kinds.{unlent_refusal}
 use Rattle.loan_table.specs.Lending.{marked, marked_range}
-use Rattle.loan_table.specs.Rows.{alike, placed, stands}
+use Rattle.loan_table.specs.Rows.{alike, lent_like, placed, stands, AreAlike}
 use Rattle.loan_table.proofs.Marking.{three_parts}
 use Rattle.loan_table.proofs.Pieces.{two_parts}
 use Rattle.loan_table.proofs.Places.{places_of}
@@ -68,16 +68,33 @@ same_places r w s v at (a ∷ bytes) p q =
     ∙ ap (λ xs. position a (s at) (v at) ∷ xs) (same_places r w s v (at + 1) bytes
     (λ i from to. p i (omega arith) (omega arith)) (λ i from to. q i (omega arith) (omega arith)))
 
--- a run of bytes at places that are alike
-pub alike_places : (r w : ℕ → Bool) (b c : Bool) (at s n : ℕ) →
-    ((i : ℕ) → at ≤ i → i < at + n → r i ≡ b) → ((i : ℕ) → at ≤ i → i < at + n → w i ≡ c) →
-    placed r w at (run_of s n) ≡ map (λ a. position a b c) (run_of s n)
-alike_places r w b c at s zero p q = refl
-alike_places r w b c at s (suc n) p q =
-    ap (λ x. position s x (w at) ∷ placed r w (at + 1) (run_of (s + 1) n)) (p at (omega arith) (omega arith))
-    ∙ ap (λ x. position s b x ∷ placed r w (at + 1) (run_of (s + 1) n)) (q at (omega arith) (omega arith))
-    ∙ ap (λ xs. position s b c ∷ xs) (alike_places r w b c (at + 1) (s + 1) n
-    (λ i from to. p i (omega arith) (omega arith)) (λ i from to. q i (omega arith) (omega arith)))
+-- bytes at places that are alike
+alike_places : (r w : ℕ → Bool) (p : Position) (at : ℕ) (bytes : List ℕ) →
+    ((i : ℕ) → at ≤ i → i < at + length bytes → r i ≡ p.to_read) →
+    ((i : ℕ) → at ≤ i → i < at + length bytes → w i ≡ p.to_write) → placed r w at bytes ≡ lent_like p bytes
+alike_places r w p at [] f g = refl
+alike_places r w p at (a ∷ bytes) f g =
+    ap (λ x. position a x (w at) ∷ placed r w (at + 1) bytes) (f at (omega arith) (omega arith))
+    ∙ ap (λ x. position a p.to_read x ∷ placed r w (at + 1) bytes) (g at (omega arith) (omega arith))
+    ∙ ap (λ xs. position a p.to_read p.to_write ∷ xs) (alike_places r w p (at + 1) bytes
+    (λ i from to. f i (omega arith) (omega arith)) (λ i from to. g i (omega arith) (omega arith)))
+
+-- the bytes of a range
+bytes_between : (r w : ℕ → Bool) (at n : ℕ) (bytes : List ℕ) →
+    addresses_of (stretch at n (placed r w 0 bytes)) ≡ stretch at n bytes
+bytes_between r w at n bytes =
+    ap addresses_of (stretch-placed r w at n bytes) ∙ addresses_of-placed r w at (stretch at n bytes)
+
+-- a span of positions, by its places
+pub span_alike : (r w : ℕ → Bool) (bytes : List ℕ) (at n : ℕ) (p : Position) →
+    ((i : ℕ) → at ≤ i → i < at + n → r i ≡ p.to_read) → ((i : ℕ) → at ≤ i → i < at + n → w i ≡ p.to_write) →
+    AreAlike p (stretch at n (placed r w 0 bytes))
+span_alike r w bytes at n p f g =
+    let long = length-take n (drop at bytes) in
+    stretch-placed r w at n bytes
+    ∙ alike_places r w p at (stretch at n bytes) (λ i from to. f i from (omega (arith, long)))
+    (λ i from to. g i from (omega (arith, long)))
+    ∙ ap (lent_like p) (sym (bytes_between r w at n bytes))
 
 -- the empty sets
 pub none_placed : (at : ℕ) (bytes : List ℕ) → placed (member []) (member []) at bytes ≡ unlent bytes
@@ -181,29 +198,24 @@ new_row coherent r w bytes buffer e f g =
     rw (e, f, g) (ap (λ ps. record { coherent = coherent; positions = ps }) (none_placed 0 bytes))
 
 -- the positions from one on, of which those of a run of bytes are lent alike
-pub piece_ahead : (r w : ℕ → Bool) (bytes : List ℕ) (at end n len pa : ℕ) (b c : Bool) → n ≤ len → at + n ≤ end →
-    stretch at len bytes ≡ run_of pa len → ((i : ℕ) → at ≤ i → i < at + n → r i ≡ b) →
-    ((i : ℕ) → at ≤ i → i < at + n → w i ≡ c) →
+pub piece_ahead : (r w : ℕ → Bool) (bytes : List ℕ) (at end n len pa : ℕ) (p : Position) → n ≤ len → at + n ≤ end →
+    p.pa ≡ pa → stretch at len bytes ≡ run_of pa len → AreAlike p (stretch at n (placed r w 0 bytes)) →
     stretch at (end - at) (placed r w 0 bytes)
-    ≡ alike (position pa b c) n ++ stretch (at + n) (end - (at + n)) (placed r w 0 bytes)
-piece_ahead r w bytes at end n len pa b c short within run p q =
+    ≡ alike p n ++ stretch (at + n) (end - (at + n)) (placed r w 0 bytes)
+piece_ahead r w bytes at end n len pa p short within same run all =
     two_parts at n end (placed r w 0 bytes) within
     ∙ ap (λ xs. xs ++ stretch (at + n) (end - (at + n)) (placed r w 0 bytes))
-    (stretch-placed r w at n bytes
-    ∙ ap (placed r w at) (sym (take-take n len (drop at bytes) short) ∙ ap (take n) run ∙ take_run pa len n short)
-    ∙ alike_places r w b c at pa n p q)
+    (all ∙ ap (lent_like p) (bytes_between r w at n bytes ∙ sym (take-take n len (drop at bytes) short)
+    ∙ ap (take n) run ∙ take_run pa len n short ∙ ap (λ a. run_of a n) (sym same)))
 
 -- the bytes of positions from one on, of which some follow one another
 pub bytes_ahead : (r w : ℕ → Bool) (bytes : List ℕ) (at end n pa : ℕ) → at + n ≤ end →
     stretch at n bytes ≡ run_of pa n → addresses_of (stretch at (end - at) (placed r w 0 bytes))
     ≡ run_of pa n ++ addresses_of (stretch (at + n) (end - (at + n)) (placed r w 0 bytes))
 bytes_ahead r w bytes at end n pa within run =
-    whole_bytes at (end - at) ∙ two_parts at n end bytes within
+    bytes_between r w at (end - at) bytes ∙ two_parts at n end bytes within
     ∙ ap (λ xs. xs ++ stretch (at + n) (end - (at + n)) bytes) run
-    ∙ ap (λ xs. run_of pa n ++ xs) (sym (whole_bytes (at + n) (end - (at + n))))
-  where
-    whole_bytes : (k m : ℕ) → addresses_of (stretch k m (placed r w 0 bytes)) ≡ stretch k m bytes
-    whole_bytes k m = ap addresses_of (stretch-placed r w k m bytes) ∙ addresses_of-placed r w k (stretch k m bytes)
+    ∙ ap (λ xs. run_of pa n ++ xs) (sym (bytes_between r w (at + n) (end - (at + n)) bytes))
 
 -- positions that are all lent to write are passed, and the first that is not is refused
 none_unlent : (name : ReportName) (r w : ℕ → Bool) (place at : ℕ) (bytes : List ℕ) →

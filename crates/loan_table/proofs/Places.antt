@@ -1,5 +1,5 @@
 -- At how many places of a list a byte stands.
-use Rattle.std.proofs.Common.{◌≡◌, ℕ, zero, suc, ◌+◌, ◌==◌, Bool, true, false, cond, List, [], ◌∷◌, ◌++◌, refl}
+use Rattle.std.proofs.Common.{◌≡◌, ℕ, zero, suc, ◌+◌, ◌≤◌, ◌<◌, ◌==◌, Bool, true, false, cond, List, [], ◌∷◌, ◌++◌, refl}
 use Rattle.std.proofs.Common.{sym, ap, ◌∙◌, arith}
 use Rattle.std.proofs.lemmas.Bool.Decides.{nat_tests}
 use Rattle.std.specs.List.{count_by}
@@ -56,3 +56,28 @@ pub places_of : (a : ℕ) (ps : List Position) → count_by (λ x. x == a) (addr
 places_of a [] = refl
 places_of a (p ∷ ps) = places-cons a p.pa (addresses_of ps) ∙ ap (λ k. cond (p.pa == a) 1 0 + k) (places_of a ps)
     ∙ sym (sum_by-cons (λ (x : Position). cond (x.pa == a) 1 0) p ps)
+
+-- how often a byte stands in a list that begins with a run
+pub stands_ahead : (a s n : ℕ) (bytes rest : List ℕ) → bytes ≡ run_of s n ++ rest →
+    count_by (λ x. x == a) bytes ≡ cond (in_run s (s + n) a) 1 0 + count_by (λ x. x == a) rest
+stands_ahead a s n bytes rest e =
+    ap (λ xs. count_by (λ x. x == a) xs) e ∙ sum_by-append (λ x. cond (x == a) 1 0) (run_of s n) rest
+    ∙ ap (λ k. k + count_by (λ x. x == a) rest) (places-run a s n)
+
+pub stands_here : (a s n : ℕ) → s ≤ a → a < s + n → ◌≡◌ {A = ℕ} (cond (in_run s (s + n) a) 1 0) 1
+stands_here a s n p q = let x : in_run s (s + n) a ≡ true = grind (arith, nat_tests) in ap {B = ℕ} (λ b. cond b 1 0) x
+
+-- a loop that counts the bytes of a list once more or once less, at a run of them
+pub counted_on : (up here : Bool) (old new all bytes rest start : ℕ) → new ≡ changed up here old →
+    (up ≡ false → here ≡ true → 0 < old) → bytes ≡ cond here 1 0 + rest →
+    old + cond up 0 all + cond up bytes 0 ≡ start + cond up all 0 + cond up 0 bytes →
+    new + cond up 0 all + cond up rest 0 ≡ start + cond up all 0 + cond up 0 rest
+counted_on true true old new all bytes rest start is some parts h = omega (arith, is, parts, h)
+counted_on true false old new all bytes rest start is some parts h = omega (arith, is, parts, h)
+counted_on false true old new all bytes rest start is some parts h = omega (arith, is, some refl refl, parts, h)
+counted_on false false old new all bytes rest start is some parts h = omega (arith, is, parts, h)
+
+pub held_on : (here : Bool) (old new bytes rest : ℕ) → new ≡ changed false here old → bytes ≡ cond here 1 0 + rest →
+    bytes ≤ old → rest ≤ new
+held_on true old new bytes rest is parts h = omega (arith, is, parts, h)
+held_on false old new bytes rest is parts h = omega (arith, is, parts, h)

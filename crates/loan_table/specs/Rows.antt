@@ -8,7 +8,7 @@ use Rattle.busdma_base.specs.declared.machine.address.Extent.{Extent}
 use Rattle.busdma_base.specs.Runs.{addresses, byte_count, run_of}
 use Rattle.loan_table.specs.Ends.{Ends}
 use Rattle.loan_table.specs.declared.position.Position.{Position}
-use Rattle.loan_table.specs.Loans.{Loan}
+use Rattle.loan_table.specs.Loans.{Loan, addresses_of}
 
 -- at how many places of a list a number stands
 abbrev pub stands : ℕ → List ℕ → ℕ
@@ -51,6 +51,14 @@ pub record IsRow (to_read to_write : Edges) (buffer : List ℕ) : Type 0 where
 -- n positions of bytes that follow one another, lent alike, from the first of them on
 abbrev pub alike : Position → ℕ → List Position
 alike p n = map (λ a. record { pa = a; to_read = p.to_read; to_write = p.to_write }) (run_of p.pa n)
+
+-- positions over bytes, each lent as one position is
+abbrev pub lent_like : Position → List ℕ → List Position
+lent_like p bytes = map (λ a. record { pa = a; to_read = p.to_read; to_write = p.to_write }) bytes
+
+-- positions are all lent as one position is
+abbrev pub AreAlike : Position → List Position → Type 0
+AreAlike p ps = ps ≡ lent_like p (addresses_of ps)
 
 abbrev pub position_code : Coded Position
 position_code =

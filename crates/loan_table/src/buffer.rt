@@ -1,6 +1,6 @@
 //! The bytes of a map's buffer.
 
-ghost use Rattle.std.specs.Prelude.{◌≡◌, ℕ, ◌+◌, ◌≤◌, ◌<◌, ◌^◌, ◌++◌, length, IfOk, OnOk, true, false};
+ghost use Rattle.std.specs.Prelude.{◌≡◌, ℕ, ◌+◌, ◌≤◌, ◌<◌, ◌^◌, ◌++◌, length, IfOk, true, false};
 ghost use Rattle.std.specs.List.{All};
 ghost use Rattle.busdma_base.specs.Machine.Wire.{stretch};
 ghost use Rattle.busdma_base.specs.Runs.{run_of, addresses, byte_count};
@@ -202,19 +202,20 @@ fn places_over(alloc: Global, extents: &[Extent]) -> Result<RunCounts, AllocErro
     ensures { IfOk result (λ places. CountsPlaces places (addresses extents.now)) }
 {
     let mut places = RunCounts::new(alloc);
+    places.reserve(extents.len())?;
     for extent in extents {
-        count_run(&mut places, extent)?;
+        count_run(&mut places, extent);
     }
     Ok(places)
 }
 
 /// Counts each byte of a run once more.
-fn count_run(places: &mut RunCounts, run: &Extent) -> Result<(), AllocError>
-    requires { Ends run.now }
-    ensures { OnOk result ((a : ℕ) → count places.new a
-        ≡ changed true (in_run run.now.pa.0 (run.now.pa.0 + run.now.len) a) (count places.old a)) }
+fn count_run(places: &mut RunCounts, run: &Extent)
+    requires ends { Ends run.now }
+    requires room { 1 ≤ places.old.room }
+    ensures counts { (a : ℕ) → count places.new a
+        ≡ changed true (in_run run.now.pa.0 (run.now.pa.0 + run.now.len) a) (count places.old a) }
+    ensures room { places.old.room ≤ places.new.room + 1 }
 {
-    places.reserve(1)?;
     places.change(run.pa.0, run.pa.0 + run.len, true);
-    Ok(())
 }

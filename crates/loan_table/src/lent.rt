@@ -1,14 +1,16 @@
 //! How often the bytes of a driver are lent.
 
-ghost use Rattle.std.specs.Prelude.{◌≡◌, ℕ, ◌+◌, ◌≤◌, ◌<◌, ◌^◌, length, map, OnOk, true, false, []};
+ghost use Rattle.std.specs.Prelude.{◌≡◌, ℕ, ◌+◌, ◌≤◌, ◌<◌, length, map, if◌then◌else◌, OnOk, false, []};
 ghost use Rattle.busdma_base.specs.Machine.Wire.{stretch};
 ghost use Rattle.run_set.specs.Counts.{count};
-ghost use Rattle.loan_table.specs.Counted.{counts_of, places, places_in, HasChanges, Holds, IsAlike, IsRecounted};
+ghost use Rattle.loan_table.specs.Counted.{counts_of, places, HasChanges, Holds, IsAlike, IsRecounted};
 ghost use Rattle.loan_table.specs.Counted.{IsUnlent, UsesChanges};
 ghost use Rattle.loan_table.specs.Kinds.{test_of};
 ghost use Rattle.loan_table.specs.Lending.{marked};
+ghost use Rattle.loan_table.specs.Loans.{addresses_of};
+ghost use Rattle.loan_table.specs.Rows.{stands, AreAlike};
 
-use crate::piece::Piece;
+use crate::piece::Span;
 use crate::row::{LoanRow, Way, marked};
 use dma_tag::SyncOps;
 use run_set::{Near, RunCounts};
@@ -125,27 +127,24 @@ impl LentCounts {
         let mut near = 0;
         let mut at = off;
         while at < end {
-            let piece = row.piece(at, end, &mut near);
-            self.recount(&piece, ops);
-            at += piece.len;
+            let span = row.span(at, end, &mut near);
+            self.recount(row, at, &span, ops);
+            at += span.len;
         }
     }
 
-    /// Counts the positions of a piece as a call marks them.
-    fn recount(&mut self, piece: &Piece, ops: SyncOps)
-        requires fits { piece.now.first.pa + piece.now.len < 2 ^ 64 }
-        requires held { (way : Way) (a : ℕ) →
-            places_in piece.now.first.pa piece.now.len (test_of way piece.now.first) a ≤ count (counts_of self.old way) a }
-        requires room { HasChanges self.old 1 }
-        ensures counts { (way : Way) (a : ℕ) →
-            count (counts_of self.new way) a
-            + places_in piece.now.first.pa piece.now.len (test_of way piece.now.first) a
-            ≡ count (counts_of self.old way) a
-            + places_in piece.now.first.pa piece.now.len (test_of way (marked ops.0 piece.now.first)) a }
-        ensures room { UsesChanges self.old self.new 1 }
+    /// Counts the positions of a span, from a position on, as a call marks them.
+    fn recount(&mut self, row: &LoanRow, at: u64, span: &Span, ops: SyncOps)
+        requires range { at + span.now.len ≤ length row.now.positions }
+        requires alike { AreAlike span.now.first (stretch at span.now.len row.now.positions) }
+        requires held { Holds self.old (stretch at span.now.len row.now.positions) }
+        requires room { HasChanges self.old span.now.len }
+        ensures counts { let range = stretch at span.now.len row.now.positions in
+            IsRecounted self.old self.new range (map (marked ops.0) range) }
+        ensures room { UsesChanges self.old self.new span.now.len }
     {
-        recount_piece(&mut self.to_write, Way::ToWrite, piece, ops);
-        recount_piece(&mut self.to_read, Way::ToRead, piece, ops);
+        recount_way(&mut self.to_write, Way::ToWrite, row, at, span, ops);
+        recount_way(&mut self.to_read, Way::ToRead, row, at, span, ops);
     }
 
     /// Counts the positions of a map no more.
@@ -160,22 +159,40 @@ impl LentCounts {
     }
 }
 
-/// Counts the bytes of a piece, in one way, once more or once less, where a call begins to lend them or ends that.
-fn recount_piece(counts: &mut RunCounts, way: Way, piece: &Piece, ops: SyncOps)
-    requires fits { piece.now.first.pa + piece.now.len < 2 ^ 64 }
-    requires held { (a : ℕ) → places_in piece.now.first.pa piece.now.len (test_of way piece.now.first) a
-        ≤ count counts.old a }
-    requires room { 1 ≤ counts.old.room }
-    ensures counts { (a : ℕ) →
-        count counts.new a + places_in piece.now.first.pa piece.now.len (test_of way piece.now.first) a
-        ≡ count counts.old a
-        + places_in piece.now.first.pa piece.now.len (test_of way (marked ops.0 piece.now.first)) a }
-    ensures room { counts.old.room ≤ counts.new.room + 1 }
+/// Counts the bytes of a span, from a position on, in one way, once more or once less, where a call begins to lend
+/// them or ends that.
+fn recount_way(counts: &mut RunCounts, way: Way, row: &LoanRow, at: u64, span: &Span, ops: SyncOps)
+    requires range { at + span.now.len ≤ length row.now.positions }
+    requires alike { AreAlike span.now.first (stretch at span.now.len row.now.positions) }
+    requires held { (a : ℕ) → places (test_of way) a (stretch at span.now.len row.now.positions) ≤ count counts.old a }
+    requires room { span.now.len ≤ counts.old.room }
+    ensures counts { (a : ℕ) → let range = stretch at span.now.len row.now.positions in
+        count counts.new a + places (test_of way) a range
+        ≡ count counts.old a + places (test_of way) a (map (marked ops.0) range) }
+    ensures room { counts.old.room ≤ counts.new.room + span.now.len }
 {
-    let start = piece.first.pa;
-    let was_lent = way.passes(&piece.first);
-    let is_lent = way.passes(&marked(piece.first, ops));
+    let was_lent = way.passes(&span.first);
+    let is_lent = way.passes(&marked(span.first, ops));
     if was_lent != is_lent {
-        counts.change(start, start + piece.len, is_lent);
+        count_range(counts, row, at, span.len, is_lent);
+    }
+}
+
+/// Counts the bytes of a range, each once more or once less.
+fn count_range(counts: &mut RunCounts, row: &LoanRow, off: u64, len: u64, up: bool)
+    requires range { off + len ≤ length row.now.positions }
+    requires held { up ≡ false → (a : ℕ) → stands a (addresses_of (stretch off len row.now.positions)) ≤ count counts.old a }
+    requires room { len ≤ counts.old.room }
+    ensures counts { (a : ℕ) → let here = stands a (addresses_of (stretch off len row.now.positions)) in
+        count counts.new a + (if up then 0 else here) ≡ count counts.old a + (if up then here else 0) }
+    ensures room { counts.old.room ≤ counts.new.room + len }
+{
+    let end = row.end_of(off, len);
+    let mut near = 0;
+    let mut at = off;
+    while at < end {
+        let run = row.stretch(at, end, &mut near);
+        counts.change(run.pa.0, run.pa.0 + run.len, up);
+        at += run.len;
     }
 }

@@ -1,17 +1,16 @@
 //! Bytes that become Unknown.
 
-ghost use Rattle.std.specs.Prelude.{◌≡◌, ◌+◌, ◌≤◌, ◌<◌, ◌^◌, length, false};
+ghost use Rattle.std.specs.Prelude.{◌≡◌, ◌+◌, ◌≤◌, length, false};
 ghost use Rattle.std.specs.List.{filter};
 ghost use Rattle.busdma_base.specs.Machine.Wire.{stretch};
-ghost use Rattle.busdma_base.specs.Runs.{run_of};
 ghost use Rattle.loan_table.specs.Kinds.{losing_test};
 ghost use Rattle.loan_table.specs.Lending.{loses};
 ghost use Rattle.loan_table.specs.Loans.{addresses_of};
-ghost use Rattle.loan_table.specs.Rows.{alike};
+ghost use Rattle.loan_table.specs.Rows.{AreAlike};
 ghost use Rattle.loan_table.specs.Table.{AreIn, set_all};
 
-use crate::marks::ByteMarks;
-use crate::piece::Piece;
+use crate::marks::{ByteMarks, set_range};
+use crate::piece::Span;
 use crate::position::Position;
 use crate::row::LoanRow;
 use bitflags::Flags;
@@ -74,23 +73,24 @@ pub fn lose(bytes: &mut ByteMarks, row: &LoanRow, off: u64, len: u64, losing: Lo
     let mut near = 0;
     let mut at = off;
     while at < end {
-        let piece = row.piece(at, end, &mut near);
-        lose_piece(bytes, &piece, losing);
-        at += piece.len;
+        let span = row.span(at, end, &mut near);
+        lose_span(bytes, row, at, &span, losing);
+        at += span.len;
     }
 }
 
-/// Makes Unknown the bytes of a piece, where they are lost.
-fn lose_piece(bytes: &mut ByteMarks, piece: &Piece, losing: Losing)
-    requires there { AreIn bytes.old.bytes (run_of piece.now.first.pa piece.now.len) }
-    requires fits { piece.now.first.pa + piece.now.len < 2 ^ 64 }
-    requires room { 2 ≤ bytes.old.room }
-    ensures bytes { let lost = filter (losing_test losing) (alike piece.now.first piece.now.len) in
+/// Makes Unknown the bytes of a span from a position on, where they are lost.
+fn lose_span(bytes: &mut ByteMarks, row: &LoanRow, at: u64, span: &Span, losing: Losing)
+    requires range { at + span.now.len ≤ length row.now.positions }
+    requires alike { AreAlike span.now.first (stretch at span.now.len row.now.positions) }
+    requires there { AreIn bytes.old.bytes (addresses_of (stretch at span.now.len row.now.positions)) }
+    requires room { span.now.len + span.now.len ≤ bytes.old.room }
+    ensures bytes { let lost = filter (losing_test losing) (stretch at span.now.len row.now.positions) in
         bytes.new.bytes ≡ set_all bytes.old.bytes (addresses_of lost) false }
-    ensures room { bytes.old.room ≤ bytes.new.room + 2 }
+    ensures room { bytes.old.room ≤ bytes.new.room + (span.now.len + span.now.len) }
     ensures there_room { bytes.new.there_room ≡ bytes.old.there_room }
 {
-    if losing.takes(&piece.first) {
-        bytes.set_run(piece.first.pa, piece.len, false);
+    if losing.takes(&span.first) {
+        set_range(bytes, row, at, span.len, false);
     }
 }

@@ -1,4 +1,4 @@
-//! A piece of a map's buffer.
+//! Pieces and spans of a map's buffer.
 
 use crate::position::Position;
 
@@ -6,6 +6,13 @@ use crate::position::Position;
 /// them, and how many they are.
 #[derive(Clone, Copy)]
 pub struct Piece {
+    pub first: Position,
+    pub len: u64,
+}
+
+/// Positions that follow one another, all lent alike: the first of them, and how many they are.
+#[derive(Clone, Copy)]
+pub struct Span {
     pub first: Position,
     pub len: u64,
 }

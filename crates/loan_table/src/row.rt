@@ -11,7 +11,7 @@ ghost use Rattle.loan_table.specs.Ends.{Ends};
 ghost use Rattle.loan_table.specs.Kinds.{test_of, unlent_refusal};
 ghost use Rattle.loan_table.specs.Lending.{marked, marked_range};
 ghost use Rattle.loan_table.specs.Loans.{stands_twice, addresses_of, to_write, new_loan};
-ghost use Rattle.loan_table.specs.Rows.{alike, IsRoomy};
+ghost use Rattle.loan_table.specs.Rows.{alike, AreAlike, IsRoomy};
 ghost use Rattle.loan_table.specs.Table.{AreIn, set_all};
 ghost use Rattle.run_set.specs.Edges.{in_run, member};
 
@@ -19,7 +19,7 @@ use crate::buffer::Buffer;
 use crate::lent::LentCounts;
 use crate::losing::{self, Losing};
 use crate::marks::ByteMarks;
-use crate::piece::Piece;
+use crate::piece::{Piece, Span};
 use crate::position::Position;
 use bitflags::Flags;
 use busdma_base::{Extent, Judged, Report, ReportName};
@@ -126,11 +126,40 @@ impl LoanRow {
             ≡ alike result.first result.len ++ stretch (at + result.len) (end - (at + result.len)) self.now.positions }
     {
         let run = self.buffer.stretch(at, end, near);
-        let (to_read, turn) = self.to_read.run_at(at, at + run.len);
-        let (to_write, turn) = self.to_write.run_at(at, turn);
+        let span = self.span_from(run.pa.0, at, at + run.len);
         Piece {
+            first: span.first,
+            len: span.len,
+        }
+    }
+
+    /// The positions from one on that are lent alike, as many as there are before `end`.
+    pub fn span(&self, at: u64, end: u64, near: &mut usize) -> Span
+        requires some { at < end }
+        requires range { end ≤ length self.now.positions }
+        ensures some { 0 < result.len }
+        ensures within { at + result.len ≤ end }
+        ensures alike { AreAlike result.first (stretch at result.len self.now.positions) }
+    {
+        let run = self.buffer.stretch(at, end, near);
+        self.span_from(run.pa.0, at, end)
+    }
+
+    /// The positions from one on, whose byte is at `pa`, that are lent alike, as many as there are
+    /// before `end`.
+    fn span_from(&self, pa: u64, at: u64, end: u64) -> Span
+        requires some { at < end }
+        requires range { end ≤ length self.now.positions }
+        ensures some { 0 < result.len }
+        ensures within { at + result.len ≤ end }
+        ensures pa { result.first.pa ≡ pa }
+        ensures alike { AreAlike result.first (stretch at result.len self.now.positions) }
+    {
+        let (to_read, turn) = self.to_read.run_at(at, end);
+        let (to_write, turn) = self.to_write.run_at(at, turn);
+        Span {
             first: Position {
-                pa: run.pa.0,
+                pa,
                 to_read,
                 to_write,
             },

@@ -1,104 +1,54 @@
--- Numbers in a ring that is turned to a place.
+-- Numbers on two stacks.
 use Rattle.std.proofs.Common.{◌≡◌, ℕ, zero, suc, ◌+◌, ◌-◌, ◌≤◌, ◌<◌, Bool, true, false, leb, List, [], ◌∷◌, ◌++◌}
-use Rattle.std.proofs.Common.{length, take, drop, get_or, refl, sym, ap, subst, ◌∙◌, arith}
+use Rattle.std.proofs.Common.{length, take, drop, reverse, get_or, refl, sym, ap, subst, ◌∙◌, arith}
 use Rattle.std.proofs.lemmas.Bool.{leb-true, leb-false}
-use Rattle.std.proofs.lemmas.List.{append_assoc, take-append-le, drop-append-le, drop-drop, drop-take, length-drop, length-append}
-use Rattle.std.proofs.lemmas.List.{length-take-le, get_or-append_right, get_or-drop, get_or-take, get_or_default, get_or_past, take_all, take_at, drop_at}
+use Rattle.std.proofs.lemmas.List.{append_assoc, take-append-le, length-append, length-reverse, reverse-append}
+use Rattle.std.proofs.lemmas.List.{reverse-reverse, get_or-append_right, get_or-reverse, get_or_default, get_or_past}
+use Rattle.std.proofs.lemmas.List.{take_at, drop_at}
 use Rattle.std.proofs.Math.ListN.{get_or-append}
-use Rattle.std.proofs.Math.Seq.{take-add, take-append-add, drop-append-add}
-use Rattle.run_set.specs.Numbers.{count_le, one_if, turned, Climbs}
+use Rattle.run_set.specs.Numbers.{count_le, one_if, stacked, Climbs}
 use Rattle.run_set.proofs.Counting.{climbs_from, climbs_nondecreasing, climbs_remove, count_is, count_remove}
 
-pub length_turned : (k : ℕ) (xs : List ℕ) → k ≤ length xs → length (turned k xs) ≡ length xs
-length_turned k xs p =
-    length-append (drop k xs) (take k xs) ∙ (omega (arith, length-drop k xs, length-take-le k xs p))
+pub length_stacked : (a b : List ℕ) → length (stacked a b) ≡ length a + length b
+length_stacked a b = length-append a (reverse b) ∙ ap (λ k. length a + k) (length-reverse b)
 
--- the first of the first numbers
-take_less : (k m : ℕ) (xs : List ℕ) → k + m ≤ length xs → take k (take (k + m) xs) ≡ take k xs
-take_less k m xs p =
-    let e : length (take k xs) ≡ k = length-take-le k xs (omega arith) in
-    ap (take k) (take-add k m xs)
-    ∙ take-append-le k (take k xs) (take m (drop k xs)) (omega arith)
-    ∙ ap (λ i. take i (take k xs)) (sym e)
-    ∙ take_all (length (take k xs)) (take k xs) (omega arith)
+-- the top of one stack goes to the other
+pub poured : (to from : List ℕ) (n : ℕ) → stacked (to ++ n ∷ []) from ≡ stacked to (from ++ n ∷ [])
+poured to from n = append_assoc to (n ∷ []) (reverse from) ∙ ap (λ xs. to ++ xs) (sym (reverse-append from (n ∷ [])))
 
--- the place moves on by k numbers
-module _ (b k c at : ℕ) (xs : List ℕ) (p : k + c ≡ b) (q : b ≤ length xs) (r : length xs - b + k ≡ at) where
-  len : length (drop b xs) + k ≡ at
-  len = omega (arith, length-drop b xs)
+-- two stacks by the other's end
+turned : (a b : List ℕ) → reverse (stacked b a) ≡ stacked a b
+turned a b = reverse-append b (reverse a) ∙ ap (λ xs. xs ++ reverse b) (reverse-reverse a)
 
-  pub on_before : drop c (drop k xs ++ take k xs) ≡ take at (turned b xs)
-  on_before =
-      drop-append-le c (drop k xs) (take k xs) (omega (arith, length-drop k xs))
-      ∙ ap (λ ys. ys ++ take k xs) (drop-drop c k xs ∙ ap (λ i. drop i xs) p)
-      ∙ ap (λ ys. drop b xs ++ ys) (sym (ap (λ i. take k (take i xs)) (sym p) ∙ take_less k c xs (omega arith)))
-      ∙ sym (take-append-add (drop b xs) (take b xs) k)
-      ∙ ap (λ i. take i (turned b xs)) len
-
-  pub on_behind : take c (drop k xs ++ take k xs) ≡ drop at (turned b xs)
-  on_behind =
-      take-append-le c (drop k xs) (take k xs) (omega (arith, length-drop k xs))
-      ∙ sym (drop-take k c xs)
-      ∙ ap (λ i. drop k (take i xs)) p
-      ∙ sym (drop-append-add (drop b xs) (take b xs) k)
-      ∙ ap (λ i. drop i (turned b xs)) len
-
--- the place moves back
-module _ (b c at m : ℕ) (xs : List ℕ) (p : b + at ≡ m) (q : m ≤ length xs) (r : c + at ≡ length xs) where
-  back_len : length (drop m xs) + b ≡ c
-  back_len = omega (arith, length-drop m xs)
-
-  pub back_before : drop c (drop m xs ++ take m xs) ≡ take at (turned b xs)
-  back_before =
-      ap (λ i. drop i (drop m xs ++ take m xs)) (sym back_len)
-      ∙ drop-append-add (drop m xs) (take m xs) b
-      ∙ ap (λ i. drop b (take i xs)) (sym p)
-      ∙ drop-take b at xs
-      ∙ sym (take-append-le at (drop b xs) (take b xs) (omega (arith, length-drop b xs)))
-
-  pub back_behind : take c (drop m xs ++ take m xs) ≡ drop at (turned b xs)
-  back_behind =
-      ap (λ i. take i (drop m xs ++ take m xs)) (sym back_len)
-      ∙ take-append-add (drop m xs) (take m xs) b
-      ∙ ap (λ ys. drop m xs ++ ys) (ap (λ i. take b (take i xs)) (sym p) ∙ take_less b at xs (omega arith))
-      ∙ ap (λ ys. ys ++ take b xs) (ap (λ i. drop i xs) (sym p) ∙ sym (drop-drop at b xs))
-      ∙ sym (drop-append-le at (drop b xs) (take b xs) (omega (arith, length-drop b xs)))
+pub back : (a b new old : List ℕ) → stacked old new ≡ stacked b a → stacked new old ≡ stacked a b
+back a b new old e = sym (turned new old) ∙ ap reverse e ∙ turned a b
 
 -- a number comes to the place
-pub put_there : (c at n : ℕ) (ring old : List ℕ) → c ≤ length ring → drop c ring ≡ take at old →
-    take c ring ≡ drop at old → turned c (ring ++ n ∷ []) ≡ take at old ++ n ∷ drop at old
-put_there c at n ring old p before behind =
-    ap (λ xs. drop c (ring ++ n ∷ []) ++ xs) (take-append-le c ring (n ∷ []) p)
-    ∙ ap (λ xs. xs ++ take c ring) (drop-append-le c ring (n ∷ []) p)
-    ∙ append_assoc (drop c ring) (n ∷ []) (take c ring)
-    ∙ ap (λ xs. xs ++ n ∷ take c ring) before
-    ∙ ap (λ xs. take at old ++ n ∷ xs) behind
+pub put_there : (at n : ℕ) (a b old : List ℕ) → stacked a b ≡ old → length a ≡ at →
+    stacked (a ++ n ∷ []) b ≡ take at old ++ n ∷ drop at old
+put_there at n a b old e p =
+    append_assoc a (n ∷ []) (reverse b)
+    ∙ ap (λ xs. xs ++ n ∷ reverse b) (sym (ap (take at) (sym e) ∙ take_at a (reverse b) at p))
+    ∙ ap (λ xs. take at old ++ n ∷ xs) (sym (ap (drop at) (sym e) ∙ drop_at a (reverse b) at p))
 
 -- the numbers before the place go
-pub taken_out : (c at count left : ℕ) (ring old : List ℕ) → c + at ≡ left → left + count ≡ length ring →
-    length old ≡ length ring → drop c ring ≡ take (at + count) old → take c ring ≡ drop (at + count) old →
-    turned c (take left ring) ≡ take at old ++ drop (at + count) old
-taken_out c at count left ring old p q same before behind =
-    ap (λ i. turned c (take i ring)) (sym p)
-    ∙ ap (λ xs. xs ++ take c (take (c + at) ring)) (drop-take c at ring)
-    ∙ ap (λ xs. take at (drop c ring) ++ xs) (take_less c at ring (omega arith))
-    ∙ ap (λ xs. take at xs ++ take c ring) before
-    ∙ ap (λ xs. xs ++ take c ring) (take_less at count old (omega arith))
-    ∙ ap (λ xs. take at old ++ xs) behind
+pub taken_out : (at count : ℕ) (a b old : List ℕ) → stacked a b ≡ old → length a ≡ at + count →
+    stacked (take at a) b ≡ take at old ++ drop (at + count) old
+taken_out at count a b old e p =
+    ap (λ xs. xs ++ reverse b) (sym (ap (take at) (sym e) ∙ take-append-le at a (reverse b) (omega (arith, p))))
+    ∙ ap (λ xs. take at old ++ xs) (sym (ap (drop (at + count)) (sym e) ∙ drop_at a (reverse b) (at + count) p))
 
 -- the number at a place
-pub number_before : (b at d : ℕ) (xs : List ℕ) → at < length xs - b → get_or xs (b + at) d ≡ get_or (turned b xs) at d
-number_before b at d xs p =
-    sym (get_or-append (drop b xs) (take b xs) d at (omega (arith, length-drop b xs)) ∙ get_or-drop b xs at d)
+pub number_before : (a b : List ℕ) (at d : ℕ) → at < length a → get_or a at d ≡ get_or (stacked a b) at d
+number_before a b at d p = sym (get_or-append a (reverse b) d at p)
 
-pub number_behind : (b at d : ℕ) (xs : List ℕ) → length xs - b ≤ at → at - (length xs - b) < b →
-    get_or xs (at - (length xs - b)) d ≡ get_or (turned b xs) at d
-number_behind b at d xs p q =
-    sym (get_or-append_right (drop b xs) (take b xs) (length xs - b) at d (length-drop b xs) p
-    ∙ get_or-take b xs (at - (length xs - b)) d q)
+pub number_behind : (a b : List ℕ) (at d : ℕ) → length a ≤ at → at - length a < length b →
+    get_or b (length b - 1 - (at - length a)) d ≡ get_or (stacked a b) at d
+number_behind a b at d p q =
+    sym (get_or-append_right a (reverse b) (length a) at d refl p ∙ get_or-reverse b (at - length a) d q)
 
-pub number_past : (b at d : ℕ) (xs : List ℕ) → b ≤ length xs → length xs ≤ at → d ≡ get_or (turned b xs) at d
-number_past b at d xs p q = sym (get_or_past (turned b xs) at d (omega (arith, length_turned b xs p)))
+pub number_past : (a b : List ℕ) (at d : ℕ) → length a + length b ≤ at → d ≡ get_or (stacked a b) at d
+number_past a b at d p = sym (get_or_past (stacked a b) at d (omega (arith, length_stacked a b)))
 
 one_small : (b : Bool) → one_if b ≤ 1
 one_small true = omega arith

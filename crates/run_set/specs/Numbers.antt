@@ -1,5 +1,5 @@
 -- Lists of numbers that do not fall.
-use Rattle.std.specs.Prelude.{ℕ, ◌+◌, ◌≤◌, ◌<◌, Bool, true, false, nat_le, List, [], ◌∷◌, ◌++◌, take, drop, refl}
+use Rattle.std.specs.Prelude.{ℕ, ◌+◌, ◌≤◌, ◌<◌, Bool, true, false, nat_le, List, [], ◌∷◌, ◌++◌, reverse, refl}
 use Rattle.std.specs.Prelude.{length, slice_index_or}
 use Rattle.std.specs.Coded.{Coded, code_by, coded×, coded_ℕ, coded_list}
 
@@ -28,9 +28,9 @@ abbrev pub Climbs : ℕ → List ℕ → Type 0
 Climbs lo [] = Unit {0}
 Climbs lo (e ∷ es) = (lo ≤ e) × Climbs e es
 
--- a list that begins behind so many of its numbers, with these at the end
-abbrev pub turned : ℕ → List ℕ → List ℕ
-turned k xs = drop k xs ++ take k xs
+-- the numbers of two stacks, whose tops are at their ends: those of the one, and those of the other from its top down
+abbrev pub stacked : List ℕ → List ℕ → List ℕ
+stacked before behind = before ++ reverse behind
 
 -- each number before one place is at most n, and each from another place on is more
 pub record IsAround (items : List ℕ) (n low high : ℕ) : Type 0 where

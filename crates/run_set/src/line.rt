@@ -1,12 +1,10 @@
 //! Numbers in order, with the place of their last change.
 
 ghost use Rattle.std.specs.Prelude.{◌≡◌, ℕ, ◌+◌, ◌≤◌, ◌<◌, ◌++◌, ◌∷◌, [], length, take, drop};
-ghost use Rattle.std.specs.Prelude.{slice_index_or, IfOk, OnOk, OnErr, true, false};
-ghost use Rattle.std.specs.VecDeque.{deque_capacity, deque_len};
-ghost use Rattle.run_set.specs.Numbers.{count_le, turned, Climbs, IsAround};
+ghost use Rattle.std.specs.Prelude.{slice_index_or, IfOk, OnOk, OnErr, true, false, vec_len, vec_capacity};
+ghost use Rattle.run_set.specs.Numbers.{count_le, stacked, Climbs, IsAround};
 
 use std::alloc::{AllocError, Global};
-use std::collections::VecDeque;
 use std::marker::Model;
 
 /// So many numbers behind a place are looked at before all of them are.
@@ -15,32 +13,31 @@ const NEAR: usize = 8;
 /// Where room grows, at most so much more is asked for than is needed.
 const MOST_MORE: usize = 0x10000;
 
-/// Numbers in order, in a ring that is turned to the place of their last change: the numbers behind it
-/// come first, `behind` of them, and those before it follow. So changes that follow one another move
-/// only the numbers between them.
+/// Numbers in order, on two stacks, which meet at the place of their last change: those before it, the
+/// last of them on top, and those behind it, the first of them on top. So changes that follow one
+/// another move only the numbers between them, and each stack has room for all numbers.
 ///
 /// Contracts see a number beside them: `room`, for how many more of them there is room.
 #[derive(Drop)]
 pub struct Line {
-    ring: VecDeque<u64>,
-    behind: usize,
+    before: Vec<u64>,
+    behind: Vec<u64>,
 }
 
 impl Model for Line {
-    ghost use Rattle.std.specs.Prelude.{◌-◌, ◌≤◌};
-    ghost use Rattle.std.specs.VecDeque.{deque_capacity, deque_len};
-    ghost use Rattle.run_set.specs.Numbers.{Numbers, numbers_code, turned};
+    ghost use Rattle.std.specs.Prelude.{◌+◌, ◌-◌, ◌≤◌, min, vec_len, vec_capacity};
+    ghost use Rattle.run_set.specs.Numbers.{Numbers, numbers_code, stacked};
 
     ghost Value = { Numbers };
 
     ghost coded = { numbers_code };
 
     ghost view = { λ l. record {
-      items = turned l.behind l.ring.items;
-      room = deque_capacity l.ring - deque_len l.ring;
+      items = stacked l.before.items l.behind.items;
+      room = min (vec_capacity l.before) (vec_capacity l.behind) - (vec_len l.before + vec_len l.behind);
     } };
 
-    ghost invariant = { λ l. l.behind ≤ deque_len l.ring };
+    ghost invariant = { λ l. vec_len l.before + vec_len l.behind ≤ min (vec_capacity l.before) (vec_capacity l.behind) };
 }
 
 impl Line {
@@ -50,8 +47,8 @@ impl Line {
         ensures room { result.room ≡ 0 }
     {
         Line {
-            ring: VecDeque::from_vec(Vec::new(alloc)),
-            behind: 0,
+            before: Vec::new(alloc),
+            behind: Vec::new(alloc),
         }
     }
 
@@ -67,30 +64,29 @@ impl Line {
         if count <= room {
             return Ok(());
         }
-        let capacity = capacity_for(self.len(), count, room)?;
-        let mut ring = VecDeque::with_capacity(*self.ring.allocator(), capacity)?;
-        ring.append(&mut self.ring)?;
-        self.ring = ring;
-        Ok(())
+        let (before, behind) = (self.before.len(), self.behind.len());
+        self.before.reserve_exact(more_for(behind, count, room)?)?;
+        self.behind.reserve_exact(more_for(before, count, room)?)
     }
 
     /// For how many more numbers there is room.
     pub fn room(&self) -> usize
         ensures { result ≡ self.now.room }
     {
-        self.ring.capacity() - self.ring.len()
+        let most = self.before.capacity().min(self.behind.capacity());
+        most - self.before.len() - self.behind.len()
     }
 
     /// How many numbers there are.
     pub fn len(&self) -> usize
         ensures { result ≡ length self.now.items }
     {
-        self.ring.len()
+        self.before.len() + self.behind.len()
     }
 
     /// The place of the last change: how many numbers stand before it.
     pub fn place(&self) -> usize {
-        self.ring.len() - self.behind
+        self.before.len()
     }
 
     /// How many of the numbers are at most `n`.
@@ -109,7 +105,23 @@ impl Line {
         ensures is { result ≡ count_le self.now.items n }
         ensures small { result ≤ length self.now.items }
     {
-        let (mut low, mut high) = self.around(n, near);
+        let (low, high) = self.around(n, near);
+        if low == high {
+            return low;
+        }
+        self.count_between(n, low, high)
+    }
+
+    /// How many of the numbers are at most `n`, where that lies between two places. It stands apart, so
+    /// that a look that ends before is short.
+    #[inline(never)]
+    fn count_between(&self, n: u64, from: usize, to: usize) -> usize
+        requires climbs { Climbs 0 self.now.items }
+        requires around { IsAround self.now.items n from to }
+        ensures is { result ≡ count_le self.now.items n }
+        ensures small { result ≤ length self.now.items }
+    {
+        let (mut low, mut high) = (from, to);
         while low < high {
             let middle = low + (high - low) / 2;
             if self.number_or(middle, n) <= n {
@@ -163,9 +175,13 @@ impl Line {
         if self.is_more_from(next, n) {
             return (next, next);
         }
-        let far = next.saturating_add(NEAR);
+        let after = next + 1;
+        if self.is_more_from(after, n) {
+            return (after, after);
+        }
+        let far = after.saturating_add(NEAR);
         if self.is_more_from(far, n) {
-            (next + 1, far.min(len))
+            (after + 1, far.min(len))
         } else {
             (far + 1, len)
         }
@@ -190,11 +206,14 @@ impl Line {
     pub fn number_or(&self, at: usize, other: u64) -> u64
         ensures { result ≡ slice_index_or self.now.items at other }
     {
-        let place = self.ring.len() - self.behind;
+        let place = self.before.len();
         if at < place {
-            number_in(&self.ring, self.behind + at, other)
-        } else if at - place < self.behind {
-            number_in(&self.ring, at - place, other)
+            return number_in(&self.before, at, other);
+        }
+        let behind = self.behind.len();
+        let past = at - place;
+        if past < behind {
+            number_in(&self.behind, behind - 1 - past, other)
         } else {
             other
         }
@@ -207,8 +226,8 @@ impl Line {
         ensures items { self.new.items ≡ take at self.old.items ++ n ∷ drop at self.old.items }
         ensures room { self.old.room ≤ self.new.room + 1 }
     {
-        self.behind = turn_to(&mut self.ring, self.behind, at);
-        self.ring.push_back_reserved(n);
+        go_to(&mut self.before, &mut self.behind, at);
+        self.before.push_reserved(n);
     }
 
     /// Takes numbers out, from a place on.
@@ -217,44 +236,60 @@ impl Line {
         ensures items { self.new.items ≡ take at self.old.items ++ drop (at + count) self.old.items }
         ensures room { self.old.room + count ≤ self.new.room }
     {
-        self.behind = turn_to(&mut self.ring, self.behind, at + count);
-        let left = self.ring.len() - count;
-        self.ring.truncate(left);
+        go_to(&mut self.before, &mut self.behind, at + count);
+        self.before.truncate(at);
     }
 }
 
-/// How much to ask for, where `len` numbers need room for `count` more, and have `room`: up to twice as
-/// much as there was, so that it is asked for seldom.
-fn capacity_for(len: usize, count: usize, room: usize) -> Result<usize, AllocError>
-    ensures { IfOk result (λ capacity. len + count ≤ capacity) }
+/// For how many numbers a stack needs room, where it gets `others` and then `count` more numbers, and
+/// had room for `room`: up to twice as many as it had room for, so that it is asked for seldom.
+fn more_for(others: usize, count: usize, room: usize) -> Result<usize, AllocError>
+    ensures { IfOk result (λ more. others + count ≤ more) }
 {
     let more = count.saturating_add(room.min(MOST_MORE));
-    len.checked_add(more).ok_or(AllocError)
+    others.checked_add(more).ok_or(AllocError)
 }
 
-/// The number at a place of a ring, or another number where there is none.
-fn number_in(ring: &VecDeque<u64>, at: usize, other: u64) -> u64
-    ensures { result ≡ slice_index_or ring.now.items at other }
+/// The number at a place of a stack, or another number where there is none.
+fn number_in(stack: &[u64], at: usize, other: u64) -> u64
+    ensures { result ≡ slice_index_or stack.now at other }
 {
-    ring.get(at).copied().unwrap_or(other)
+    stack.get(at).copied().unwrap_or(other)
 }
 
-/// Turns a ring, so that `at` of the numbers stand before the place, and tells how many stand behind it.
-fn turn_to(ring: &mut VecDeque<u64>, behind: usize, at: usize) -> usize
-    requires behind { behind ≤ deque_len ring.old }
-    requires at { at ≤ deque_len ring.old }
-    ensures before { drop result ring.new.items ≡ take at (turned behind ring.old.items) }
-    ensures behind { take result ring.new.items ≡ drop at (turned behind ring.old.items) }
-    ensures len { deque_len ring.new ≡ deque_len ring.old }
-    ensures capacity { deque_capacity ring.new ≡ deque_capacity ring.old }
-    ensures at { result + at ≡ deque_len ring.old }
+/// Moves the place of two stacks, so that `at` of their numbers stand before it.
+fn go_to(before: &mut Vec<u64>, behind: &mut Vec<u64>, at: usize)
+    requires at { at ≤ vec_len before.old + vec_len behind.old }
+    requires room_before { vec_len before.old + vec_len behind.old ≤ vec_capacity before.old }
+    requires room_behind { vec_len before.old + vec_len behind.old ≤ vec_capacity behind.old }
+    ensures items { stacked before.new.items behind.new.items ≡ stacked before.old.items behind.old.items }
+    ensures at { vec_len before.new ≡ at }
+    ensures place { length before.new.items ≡ at }
+    ensures len { vec_len before.new + vec_len behind.new ≡ vec_len before.old + vec_len behind.old }
+    ensures before { vec_capacity before.new ≡ vec_capacity before.old }
+    ensures behind { vec_capacity behind.new ≡ vec_capacity behind.old }
 {
-    let len = ring.len();
-    let place = len - behind;
-    if place <= at {
-        ring.rotate_left(at - place);
+    let place = before.len();
+    if at < place {
+        pour(before, behind, at);
     } else {
-        ring.rotate_right(place - at);
+        let left = behind.len() - (at - place);
+        pour(behind, before, left);
     }
-    len - at
+}
+
+/// Moves numbers from the top of one stack to the top of another, until so many are left.
+fn pour(from: &mut Vec<u64>, to: &mut Vec<u64>, left: usize)
+    requires left { left ≤ vec_len from.old }
+    requires room { vec_len to.old + vec_len from.old ≤ vec_capacity to.old }
+    ensures items { stacked to.new.items from.new.items ≡ stacked to.old.items from.old.items }
+    ensures left { vec_len from.new ≡ left }
+    ensures len { vec_len to.new + left ≡ vec_len to.old + vec_len from.old }
+    ensures from { vec_capacity from.new ≡ vec_capacity from.old }
+    ensures to { vec_capacity to.new ≡ vec_capacity to.old }
+{
+    while left < from.len() {
+        let n = from.pop().unwrap();
+        to.push_reserved(n);
+    }
 }

@@ -2,7 +2,7 @@ use Rattle.std.proofs.Common.{map, ap, arith}
 use Rattle.loan_table.specs.Counted.{places}
 use Rattle.loan_table.specs.Kinds.{test_of}
 use Rattle.loan_table.specs.Lending.{marked}
-use Rattle.loan_table.proofs.Pieces.{marked_ahead, nothing, places_ahead, whole}
+use Rattle.loan_table.proofs.Pieces.{nothing, span_marked, span_places, whole}
 use Rattle.loan_table.proofs.lent.LentCounts.mark.Goals as goal
 
 pub loop-at-init : goal.loop-at-init
@@ -19,9 +19,8 @@ loop-at-init c =
 
 pub recount-requires-clause-held : goal.recount-requires-clause-held
 recount-requires-clause-held c way a =
-    let piece = c.piece-piece.result in
-    let ahead = places_ahead way a c.loop-at.at c.end_of-end.result piece.len piece.first
-    c.args.row.now.positions c.piece-piece.ensures.is in
+    let ahead = span_places way a c.loop-at.at c.end_of-end.result c.span-span.result.len c.args.row.now.positions
+    c.span-span.ensures.within in
     omega (arith, ahead, c.loop-at.invariant.held way a)
 
 pub recount-requires-clause-room : goal.recount-requires-clause-room
@@ -30,17 +29,17 @@ recount-requires-clause-room c way =
 
 pub loop-at-preserved : goal.loop-at-preserved
 loop-at-preserved c =
-    let piece = c.piece-piece.result in
+    let len = c.span-span.result.len in
+    let within = c.span-span.ensures.within in
     let ps = c.args.row.now.positions in
     let end = c.end_of-end.result in
     record {
       counted = λ way a.
-          let ahead = places_ahead way a c.loop-at.at end piece.len piece.first ps c.piece-piece.ensures.is in
-          let later = marked_ahead way a c.loop-at.at end piece.len piece.first ps c.piece-piece.ensures.is c.args.ops.0 in
+          let ahead = span_places way a c.loop-at.at end len ps within in
+          let later = span_marked way a c.loop-at.at end len ps within c.args.ops.0 in
           omega (arith, ahead, later, c.loop-at.invariant.counted way a, c.recount.ensures.counts way a);
       held = λ way a.
-          let ahead = places_ahead way a c.loop-at.at end piece.len piece.first ps c.piece-piece.ensures.is in
-          let later = marked_ahead way a c.loop-at.at end piece.len piece.first ps c.piece-piece.ensures.is c.args.ops.0 in
+          let ahead = span_places way a c.loop-at.at end len ps within in
           omega (arith, ahead, c.loop-at.invariant.held way a, c.recount.ensures.counts way a);
       in_room = λ way. omega (arith, c.recount.ensures.room way, c.loop-at.invariant.in_room way);
       from = omega arith;

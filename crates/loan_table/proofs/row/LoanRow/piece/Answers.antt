@@ -1,4 +1,4 @@
-use Rattle.std.proofs.Common.{sym, ◌∙◌, ◌-◌, arith}
+use Rattle.std.proofs.Common.{arith}
 use Rattle.run_set.specs.Edges.{member}
 use Rattle.loan_table.proofs.PlacedBytes.{length-placed, piece_ahead}
 use Rattle.loan_table.proofs.row.LoanRow.piece.Goals as goal
@@ -12,9 +12,8 @@ stretch-run-requires-clause-range c =
 
 pub returns-clause-is : goal.returns-clause-is
 returns-clause-is c =
+    let alike = rw (← c.self.view_is) at c.span_from-span.ensures.alike in
     rw (← c.self.view_is) (piece_ahead (member c.self.inside.to_read.edges) (member c.self.inside.to_write.edges)
-    c.self.inside.buffer c.args.at c.args.end (c.run_at-to_write.result.1 - c.args.at) c.stretch-run.result.len
-    c.stretch-run.result.pa.0 c.run_at-to_read.result.0 c.run_at-to_write.result.0 (omega arith) (omega arith)
-    c.stretch-run.ensures.bytes
-    (λ i from to. c.run_at-to_read.ensures.same i from (omega arith) ∙ sym c.run_at-to_read.ensures.is_in)
-    (λ i from to. c.run_at-to_write.ensures.same i from (omega arith) ∙ sym c.run_at-to_write.ensures.is_in))
+    c.self.inside.buffer c.args.at c.args.end c.span_from-span.result.len c.stretch-run.result.len
+    c.stretch-run.result.pa.0 c.span_from-span.result.first (omega arith) (omega arith) c.span_from-span.ensures.pa
+    c.stretch-run.ensures.bytes alike)

@@ -1,0 +1,263 @@
+-- An item does the same whatever else stands in the transfer queue, and a driver stands whatever stands there.
+use Rattle.std.proofs.Common.{◌≡◌, ℕ, ◌+◌, ◌-◌, Bool, true, false, List, [], ◌∷◌, Option, None, Some, cond, length}
+use Rattle.std.proofs.Common.{map, refl, sym, ap, ◌∙◌, subst, arith}
+use Rattle.busdma_base.specs.declared.journals.answer.Answer.{Answer}
+use Rattle.busdma_base.specs.declared.journals.journal.Did.TheVariants as did
+use Rattle.busdma_base.specs.declared.journals.journal.Side.TheVariants as side
+use Rattle.busdma_base.specs.declared.journals.report.Judged.{Judged}
+use Rattle.busdma_base.specs.declared.journals.report.Judged.TheVariants.{Fine, Refused}
+use Rattle.busdma_base.specs.declared.scenarios.script.Item.{Item}
+use Rattle.busdma_base.specs.declared.scenarios.script.Item.TheVariants as item
+use Rattle.busdma_base.specs.Machine.Wire.{Wire, with_bytes_of}
+use Rattle.busdma_base.specs.Scenarios.Operations.{bytes_of}
+use Rattle.dma_tag.specs.SyncOps.{is_mixed}
+use Rattle.lane_tables.specs.declared.queued.QueuedItem.{QueuedItem}
+use Rattle.lane_tables.specs.Schedule.{Schedule}
+use Rattle.loan_table.specs.Access.{dev_read_answer, dev_write_answer}
+use Rattle.loan_table.specs.Lending.{sync_answer}
+use Rattle.loan_table.specs.Loans.{loan_of}
+use Rattle.std.specs.FinMap.{get}
+use Rattle.std.specs.Prelude.{nat_le}
+use Rattle.ideal_lane.specs.Accesses.{dev_read, dev_write}
+use Rattle.ideal_lane.specs.Asking.{Asking, Gives, goes_on}
+use Rattle.ideal_lane.specs.IdealMemory.{is_known}
+use Rattle.ideal_lane.specs.Outcomes.{Outcome, is_loaded, load_length, unless_absent, unless_past, unless_refused}
+use Rattle.ideal_lane.specs.Outcomes.{unless_unloaded}
+use Rattle.ideal_lane.specs.State.{LaneMap, LaneState}
+use Rattle.ideal_lane.specs.Syncs.{sync, sync_part, sync_range}
+use Rattle.ideal_lane.specs.Turns.{lane_step, left_queue, transfer, transfer_turn}
+use Rattle.ideal_wire.proofs.StillLaid.{like}
+use Rattle.ideal_wire.specs.Apart.{IsApart}
+use Rattle.ideal_wire.specs.Centre.{IsFaithful}
+use Rattle.ideal_wire.specs.Laid.{AreLaid}
+use Rattle.ideal_wire.specs.Machine.{IsInMachine}
+use Rattle.ideal_wire.specs.WireStep as wires
+use Rattle.ideal_wire.specs.WireStep.{if_done}
+use Rattle.phys_memory.specs.Memory.{wire}
+use Rattle.lane_core.specs.declared.holdings.Holdings.{Holdings}
+use Rattle.lane_core.specs.declared.turn.Turn.{Turn}
+use Rattle.lane_core.specs.declared.turn.Turn.TheVariants.{Blocked, Stepped}
+use Rattle.lane_core.specs.Changes.{KeepsAgenda, KeepsBytes, KeepsButAgenda, KeepsState}
+use Rattle.lane_core.specs.Held.{devices_of, held}
+use Rattle.lane_core.specs.Ideal.{given, ideal_of}
+use Rattle.lane_core.specs.Kept.{map_of, memory_of, return_of, share_of, tag_of}
+use Rattle.lane_core.specs.MapValues.{map_values}
+use Rattle.lane_core.specs.Turning.{turned}
+use Rattle.lane_core.specs.Wire.{IsWired, held_pages, wire_of}
+
+-- ---- an item, beside another queue
+
+module _ (l : LaneState) (q : QueuedItem) (rest : List QueuedItem) where
+  -- the driver with this queue
+  abbrev pub beside : LaneState
+  beside = record l { queue = rest }
+
+  -- two steps leave the same once the item has left the queue, and the same wire
+  record IsAlike (x y : Asking Outcome) : Type 0 where
+    pub step : goes_on (left_queue q rest) x ≡ goes_on (left_queue q rest) y
+    pub wire : (after w : Wire) → if_done x after w ≡ if_done y after w
+
+  by-test : (b : Bool) (x x' y y' : Asking Outcome) → IsAlike x x' → IsAlike y y' → IsAlike (cond b x y) (cond b x' y')
+  by-test true x x' y y' first second = first
+  by-test false x x' y y' first second = second
+
+  by-judged : (j : Judged) (x y : Asking Outcome) → IsAlike x y →
+      IsAlike (unless_refused j beside x) (unless_refused j l y)
+  by-judged Fine x y alike = alike
+  by-judged (Refused r) x y alike = record { step = refl; wire = λ after w. refl }
+
+  by-found : (o : Option LaneMap) (x y : LaneMap → Asking Outcome) → ((m : LaneMap) → IsAlike (x m) (y m)) →
+      IsAlike (unless_absent o beside x) (unless_absent o l y)
+  by-found None x y alike = record { step = refl; wire = λ after w. refl }
+  by-found (Some m) x y alike = alike m
+
+  by-loaded : (m : ℕ) (x y : LaneMap → Asking Outcome) → ((o : LaneMap) → IsAlike (x o) (y o)) →
+      IsAlike (unless_unloaded m beside x) (unless_unloaded m l y)
+  by-loaded m x y alike =
+      by-found (get l.maps m) _ _ (λ o. by-test (is_loaded o.stage) _ _ _ _ (alike o)
+      (record { step = refl; wire = λ after w. refl }))
+
+  by-range : (m off len : ℕ) (x y : Asking Outcome) → IsAlike x y →
+      IsAlike (unless_past m off len beside x) (unless_past m off len l y)
+  by-range m off len x y alike =
+      by-test (nat_le (off + len) (load_length l m)) _ _ _ _ alike (record { step = refl; wire = λ after w. refl })
+
+  part-alike : (m : ℕ) (o : LaneMap) (off len ops : ℕ) →
+      IsAlike (sync_part m o off len ops beside) (sync_part m o off len ops l)
+  part-alike m o off len ops =
+      by-test (is_mixed ops) _ _ _ _ (record { step = refl; wire = λ after w. refl })
+      (by-judged (sync_answer l.loans m off len ops) _ _ (record { step = refl; wire = λ after w. refl }))
+
+  item-alike : (i : Item) → IsAlike (transfer i beside) (transfer i l)
+  item-alike (item.Sync m ops) = by-loaded m _ _ (λ o. part-alike m o 0 (load_length l m) ops)
+  item-alike (item.SyncRange m off len ops) =
+      by-loaded m _ _ (λ o. by-range m off len _ _ (part-alike m o off len ops))
+  item-alike (item.DevRead m off len) =
+      by-loaded m _ _ (λ o. by-range m off len _ _
+      (by-judged (dev_read_answer (is_known l.memory) (loan_of l.loans m) off len) _ _
+      (record { step = refl; wire = λ after w. refl })))
+  item-alike (item.DevWrite m off bytes) =
+      by-loaded m _ _ (λ o. by-range m off (length (bytes_of bytes)) _ _
+      (by-judged (dev_write_answer (loan_of l.loans m) off (length (bytes_of bytes))) _ _
+      (record { step = refl; wire = λ after w. refl })))
+
+  -- the step and the wire of an item are those beside its own queue
+  pub item-beside : (i : Item) →
+      goes_on (left_queue q rest) (transfer i beside) ≡ goes_on (left_queue q rest) (transfer i l)
+  item-beside i = (item-alike i).step
+
+  pub wire-beside : (i : Item) (w : Wire) → wires.transfer i beside w ≡ wires.transfer i l w
+  wire-beside (item.Sync m ops) w = (item-alike (item.Sync m ops)).wire _ w
+  wire-beside (item.SyncRange m off len ops) w = (item-alike (item.SyncRange m off len ops)).wire _ w
+  wire-beside (item.DevRead m off len) w = refl
+  wire-beside (item.DevWrite m off bytes) w = (item-alike (item.DevWrite m off bytes)).wire _ w
+
+-- ---- holdings with another queue
+
+module _ (h k : Holdings) (rest : KeepsButAgenda h k)
+    (agenda : k.agenda ≡ record h.agenda { queue = k.agenda.queue; room = k.agenda.room }) where
+  pub queue-ideal : ideal_of k ≡ record (ideal_of h) { queue = k.agenda.queue }
+  queue-ideal = λ i. record {
+    id = (rest.most.id i).0;
+    maxmem = rest.most.maxmem i;
+    script = (rest.most.script i).now;
+    place = (agenda i).place;
+    pages = (rest.most.pages i).now;
+    tags = map_values tag_of (rest.tags i).map;
+    maps = map_values map_of (rest.maps i).map;
+    mems = map_values memory_of (rest.most.memories i).map;
+    memory = held (rest.most.loans i).bytes (rest.most.loans i).loans (devices_of (rest.maps i).map)
+        (rest.most.memory i).memory;
+    loans = (rest.most.loans i).loans;
+    queue = k.agenda.queue;
+    returns = map return_of (agenda i).returns;
+    shares = share_of (rest.most.shares i).items;
+  }
+
+  pub queue-wire : wire_of k ≡ wire_of h
+  queue-wire = λ i. with_bytes_of (held_pages (rest.maps i).map) (wire (rest.most.memory i).memory)
+
+  pub queue-bytes : KeepsBytes h k
+  queue-bytes = record {
+    own = ap (λ m. wire m.memory) rest.most.memory;
+    pages = λ m. ap (λ t. (devices_of t.map m).pages) rest.maps;
+  }
+
+  pub queue-wired : IsWired h → IsWired k
+  queue-wired wired =
+      let l = ideal_of h in
+      let beside : LaneState = record l { queue = k.agenda.queue } in
+      let back = sym queue-ideal in
+      let machine : IsInMachine beside = record {
+        numbered = wired.machine.numbered;
+        pages = wired.machine.pages;
+        mems = wired.machine.mems;
+        tags = wired.machine.tags;
+        bios = wired.machine.bios;
+      } in
+      let laid : AreLaid beside = like l wired.laid beside
+      (record { script = refl; pages = refl; maxmem = refl; own = λ b. refl; mems = refl }) (λ n o e. refl) refl refl in
+      let apart : IsApart beside = record {
+        away = wired.apart.away;
+        one = wired.apart.one;
+        pages = wired.apart.pages;
+        memories = wired.apart.memories;
+      } in
+      let faithful : IsFaithful beside (wire_of k) = subst (IsFaithful l) (sym queue-wire) wired.faithful in
+      record {
+        machine = subst IsInMachine back machine;
+        laid = subst AreLaid back laid;
+        apart = subst IsApart back apart;
+        faithful = subst (λ n. IsFaithful n (wire_of k)) back faithful;
+      }
+
+-- ---- the turn of a transfer: an item left the queue, and then it was done
+
+module _ (h k n : Holdings) (q : QueuedItem) (first : h.agenda.queue ≡ q ∷ k.agenda.queue) (left : KeepsButAgenda h k)
+    (agenda : k.agenda ≡ record h.agenda { queue = k.agenda.queue; room = k.agenda.room })
+    (stays : n.agenda ≡ k.agenda) where
+  abbrev l : LaneState
+  l = ideal_of h
+
+  abbrev rest : List QueuedItem
+  rest = k.agenda.queue
+
+  queued : ideal_of k ≡ record (ideal_of h) { queue = k.agenda.queue }
+  queued = queue-ideal h k left agenda
+
+  pub item-done : (a : Answer) (t : Turn) → Gives (given n a) ≡ transfer q.item (ideal_of k) →
+      t ≡ Stepped (record {
+        actor = record { lane = n.id; side = side.Transfer };
+        did = did.Item q.load_at q.place;
+        answer = a;
+      }) false → Gives (turned n t) ≡ lane_step (ideal_of h) side.Transfer
+  item-done a t done is =
+      ap (λ x. Gives (turned n x)) is
+      ∙ ap (λ (g : Schedule). goes_on (left_queue q g.queue) (Gives (given n a))) stays
+      ∙ ap (goes_on (left_queue q rest)) done
+      ∙ ap (λ x. goes_on (left_queue q rest) (transfer q.item x)) queued
+      ∙ item-beside l q rest q.item
+      ∙ ap (λ qs. transfer_turn qs l) (sym first)
+
+  pub item-wire : wire_of n ≡ wires.transfer q.item (ideal_of k) (wire_of k) →
+      wire_of n ≡ wires.lane_step (ideal_of h) side.Transfer (wire_of h)
+  item-wire done =
+      done ∙ ap (λ w. wires.transfer q.item (ideal_of k) w) (queue-wire h k left agenda)
+      ∙ ap (λ x. wires.transfer q.item x (wire_of h)) queued
+      ∙ wire-beside l q rest q.item (wire_of h)
+      ∙ ap (λ qs. wires.transfer_turn qs l (wire_of h)) (sym first)
+
+  -- memory was wanting, and the item was put back
+  pub item-back : (b : Holdings) → KeepsState k n → KeepsButAgenda n b →
+      b.agenda ≡ record n.agenda { queue = q ∷ n.agenda.queue; room = n.agenda.room - 1 } → KeepsState h b
+  item-back b s back with_item =
+      let queue : b.agenda.queue ≡ h.agenda.queue =
+      ap (λ a. a.queue) with_item ∙ ap (λ a. q ∷ a.queue) stays ∙ sym first in
+      let again : b.agenda ≡ record n.agenda { queue = b.agenda.queue; room = b.agenda.room } =
+      (λ i. record (with_item i) { queue = b.agenda.queue; room = b.agenda.room }) in
+      let before = queue-bytes h k left agenda in
+      let after = queue-bytes n b back again in
+      record {
+        ideal = queue-ideal n b back again
+            ∙ ap (λ (x : LaneState). record x { queue = b.agenda.queue }) (s.ideal ∙ queued)
+            ∙ ap (λ qs. record l { queue = qs }) queue;
+        bytes = record {
+          own = after.own ∙ s.bytes.own ∙ before.own;
+          pages = λ m. after.pages m ∙ s.bytes.pages m ∙ before.pages m;
+        };
+      }
+
+  pub item-agenda : k.agenda.room ≡ h.agenda.room + 1 → KeepsAgenda h n
+  item-agenda room = record {
+    place = ap (λ a. a.place) stays ∙ ap (λ a. a.place) agenda;
+    end = ap (λ a. a.length) stays ∙ ap (λ a. a.length) agenda;
+    capacity = omega (arith, room, ap (λ a. a.room) stays, ap (λ a. length a.queue) stays, ap length first);
+  }
+
+  pub back-agenda : (b : Holdings) → k.agenda.room ≡ h.agenda.room + 1 →
+      b.agenda ≡ record n.agenda { queue = q ∷ n.agenda.queue; room = n.agenda.room - 1 } → KeepsAgenda h b
+  back-agenda b room with_item = record {
+    place = ap (λ a. a.place) with_item ∙ ap (λ a. a.place) stays ∙ ap (λ a. a.place) agenda;
+    end = ap (λ a. a.length) with_item ∙ ap (λ a. a.length) stays ∙ ap (λ a. a.length) agenda;
+    capacity = omega (
+      arith,
+      room,
+      ap (λ a. a.room) stays,
+      ap (λ a. length a.queue) stays,
+      ap length first,
+      ap (λ a. a.room) with_item,
+      ap (λ a. length a.queue) with_item,
+    );
+  }
+
+-- ---- no item is there
+
+module _ (h k : Holdings) (same : k ≡ h) (empty : h.agenda.queue ≡ []) where
+  pub none-done : Gives (turned k Blocked) ≡ lane_step (ideal_of h) side.Transfer
+  none-done = ap (λ x. Gives (turned x Blocked)) same ∙ ap (λ qs. transfer_turn qs (ideal_of h)) (sym empty)
+
+  pub none-wire : wire_of k ≡ wires.lane_step (ideal_of h) side.Transfer (wire_of h)
+  none-wire = ap wire_of same ∙ ap (λ qs. wires.transfer_turn qs (ideal_of h) (wire_of h)) (sym empty)
+
+  pub none-agenda : KeepsAgenda h k
+  none-agenda = subst (KeepsAgenda h) (sym same) (record { place = refl; end = refl; capacity = refl })

@@ -1,0 +1,42 @@
+use Rattle.std.proofs.Common.{ap, arith}
+use Rattle.lane_core.proofs.Queueing.{back-agenda, item-agenda, item-back, item-done, item-wire, none-agenda, none-done}
+use Rattle.lane_core.proofs.Queueing.{none-wire, queue-wired}
+use Rattle.lane_core.proofs.holdings.Holdings.transfer_turn.Goals as goal
+
+pub transfer-requires : goal.transfer-requires
+transfer-requires c =
+    queue-wired c.args.self.now c.pop_item.new.self c.pop_item.ensures.rest c.pop_item.ensures.agenda c.requires
+
+pub returns-in-Ok-clause-done : goal.returns-in-Ok-clause-done
+returns-in-Ok-clause-done c =
+    let p = c.pop_item.ensures in
+    item-done c.args.self.now c.pop_item.new.self c.transfer.new.self c.in-Some.queued c.in-Some.ensures.item p.rest
+    p.agenda c.transfer.ensures.agenda c.in-Ok.answer c.stepped.result c.in-Ok.ensures.done c.stepped.ensures
+
+pub returns-in-Ok-clause-wire : goal.returns-in-Ok-clause-wire
+returns-in-Ok-clause-wire c =
+    let p = c.pop_item.ensures in
+    item-wire c.args.self.now c.pop_item.new.self c.transfer.new.self c.in-Some.queued c.in-Some.ensures.item p.rest
+    p.agenda c.transfer.ensures.agenda c.in-Ok.ensures.wire
+
+pub returns-in-Ok-clause-agenda : goal.returns-in-Ok-clause-agenda
+returns-in-Ok-clause-agenda c =
+    let p = c.pop_item.ensures in
+    item-agenda c.args.self.now c.pop_item.new.self c.transfer.new.self c.in-Some.queued c.in-Some.ensures.item p.rest
+    p.agenda c.transfer.ensures.agenda c.in-Some.ensures.room
+
+pub put_item_back-requires : goal.put_item_back-requires
+put_item_back-requires c = omega (arith, c.in-Some.ensures.room, ap (λ a. a.room) c.transfer.ensures.agenda)
+
+pub returns-in-Err-clause-agenda : goal.returns-in-Err-clause-agenda
+returns-in-Err-clause-agenda c =
+    let p = c.pop_item.ensures in
+    back-agenda c.args.self.now c.pop_item.new.self c.transfer.new.self c.in-Some.queued c.in-Some.ensures.item p.rest
+    p.agenda c.transfer.ensures.agenda c.put_item_back.new.self c.in-Some.ensures.room c.put_item_back.ensures.agenda
+
+pub returns-in-Err-clause-err : goal.returns-in-Err-clause-err
+returns-in-Err-clause-err c =
+    let p = c.pop_item.ensures in
+    item-back c.args.self.now c.pop_item.new.self c.transfer.new.self c.in-Some.queued c.in-Some.ensures.item p.rest
+    p.agenda c.transfer.ensures.agenda c.put_item_back.new.self c.in-Err.ensures.err c.put_item_back.ensures.rest
+    c.put_item_back.ensures.agenda
