@@ -165,11 +165,10 @@ impl Holdings<'_> {
         if let Judged::Refused(refusal) = self.loans.may_dev_read(self.map_id(map), off, len) {
             return Ok(Answer::Report(refusal));
         }
-        let Some(mut kept) = self.maps.take(map) else {
+        let Some(kept) = self.maps.get_mut(map) else {
             unreachable!()
         };
         let bytes = read_load(&mut kept.map, &self.memory, alloc, off, len);
-        self.maps.put(map, kept);
         Ok(Answer::Bytes(bytes?))
     }
 
@@ -204,11 +203,10 @@ impl Holdings<'_> {
             return Ok(Answer::Report(refusal));
         }
         reserve_extents(&mut self.loans, alloc, id, off, len)?;
-        let Some(mut kept) = self.maps.take(map) else {
+        let Some(kept) = self.maps.get_mut(map) else {
             unreachable!()
         };
         write_load(&mut kept.map, &mut self.memory, off, bytes);
-        self.maps.put(map, kept);
         self.loans.note_dev_write(id, off, len);
         Ok(Answer::Done)
     }

@@ -81,10 +81,8 @@ impl<'s> Holdings<'s> {
             ≡ insert self.old.maps.map map (record o { map = record o.map { stage = idle } }) }
         ensures rest { KeepsButMaps self.old self.new }
     {
-        let mut kept = self.maps.take(map)?;
-        let load = kept.map.take_waiting();
-        self.maps.put(map, kept);
-        Some(load)
+        let kept = self.maps.get_mut(map)?;
+        Some(kept.map.take_waiting())
     }
 
     /// The bytes of the load at a place of the script; none where no load stands there.

@@ -28,9 +28,8 @@ impl Holdings<'_> {
         ensures memories { self.new.memories ≡ self.old.memories }
         ensures waiting { KeepsWaiting self.old self.new }
     {
-        if let Some(mut kept) = self.maps.take(map) {
+        if let Some(kept) = self.maps.get_mut(map) {
             kept.map.note_tried();
-            self.maps.put(map, kept);
         }
     }
 
@@ -57,9 +56,8 @@ impl Holdings<'_> {
         ensures prepared { self.new.loans.prepared ≡ remove self.old.loans.prepared map }
     {
         let id = self.map_id(map);
-        if let Some(mut kept) = self.maps.take(map) {
+        if let Some(kept) = self.maps.get_mut(map) {
             kept.map.finish(bounced, segments, pages);
-            self.maps.put(map, kept);
             self.loans.open_map(id);
         }
     }

@@ -131,7 +131,7 @@ impl Holdings<'_> {
         if let Judged::Refused(refusal) = sync_loans(&mut self.loans, id, off, len, ops) {
             return Ok(Answer::Report(refusal));
         }
-        let Some(mut kept) = self.maps.take(map) else {
+        let Some(kept) = self.maps.get_mut(map) else {
             unreachable!()
         };
         copy_part(
@@ -142,7 +142,6 @@ impl Holdings<'_> {
             len,
             ops,
         );
-        self.maps.put(map, kept);
         Ok(Answer::Done)
     }
 }

@@ -58,12 +58,11 @@ impl Holdings<'_> {
         ensures room { self.new.agenda.room ≡ self.old.agenda.room }
     {
         let id = self.map_id(map);
-        if let Some(mut kept) = self.maps.take(map) {
+        if let Some(kept) = self.maps.get_mut(map) {
             let zone = kept.map.zone().unwrap_or(ZoneId(0));
             let pages = kept.map.unload();
             self.loans.forget(id);
             self.agenda.push_returns(id, zone, pages);
-            self.maps.put(map, kept);
         }
     }
 }

@@ -16,7 +16,6 @@ ghost use Rattle.lane_core.specs.Loading.{load_loan};
 
 use crate::buffers::LoadBytes;
 use crate::holdings::Holdings;
-use crate::kept::KeptMap;
 use busdma_base::{Answer, Errno, Grabbed, ItemList};
 use dma_map::{LoadRoom, Transfers};
 use std::alloc::{AllocError, Global};
@@ -94,21 +93,9 @@ impl Holdings<'_> {
             kept_load (get self.new.maps.map m) ≡ kept_load (get self.old.maps.map m) }
         ensures prepared { self.new.loans.prepared ≡ self.old.loans.prepared }
     {
-        if let Some(kept) = self.maps.take(map) {
-            let KeptMap {
-                tag,
-                need: _,
-                map: mut waits,
-            } = kept;
-            waits.wait(load_at, Transfers { items }, room);
-            self.maps.put(
-                map,
-                KeptMap {
-                    tag,
-                    need,
-                    map: waits,
-                },
-            );
+        if let Some(kept) = self.maps.get_mut(map) {
+            kept.need = need;
+            kept.map.wait(load_at, Transfers { items }, room);
         }
     }
 
