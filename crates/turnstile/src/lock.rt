@@ -6,6 +6,7 @@ ghost use Rattle.turnstile.specs.Pass.{Closes};
 
 mod steps;
 
+use crate::bells::Bells;
 use crate::object::TurnObject;
 use crate::pass::Pass;
 use crate::rule::{Cut, GoBack, Learn, Take, TakeIn, TurnRule};
@@ -22,6 +23,7 @@ use std::sync::Wait;
 pub struct Turnstile<H: TurnObject> {
     table: Table<H, View<H::Entry, H::Fixed>, Key<H>, TurnRule<H>, Global>,
     names: u32,
+    bells: Bells,
 }
 
 impl<H: TurnObject> Model for Turnstile<H> {
@@ -50,12 +52,20 @@ impl<H: TurnObject> Turnstile<H> {
             names,
             object: Snapshot::of(&object),
         };
+        let bells = Bells::quiet(alloc)?;
         let mut words = vec![in alloc; 0u64; names as usize + 2]?;
         words[2] = 1;
         let mut slots = Vec::with_capacity(alloc, 1)?;
         slots.push_reserved(object);
         match Table::new(alloc, words.as_slice(), slots, &key) {
-            Ok((table, seat)) => Ok((Turnstile { table, names }, Pass { seat, name: 0 })),
+            Ok((table, seat)) => Ok((
+                Turnstile {
+                    table,
+                    names,
+                    bells,
+                },
+                Pass { seat, name: 0 },
+            )),
             Err(Refused { slots: _ }) => Err(AllocError),
         }
     }
@@ -115,7 +125,11 @@ impl<H: TurnObject> Turnstile<H> {
         let Pass { mut seat, name: _ } = pass;
         let ticket = self.draw_ticket(rt, &mut seat);
         self.await_last_turn(rt, &mut seat, ticket);
-        let Turnstile { table, names: _ } = self;
+        let Turnstile {
+            table,
+            names: _,
+            bells: _,
+        } = self;
         let mut closed = table.close_with(seat);
         let object = closed.take(0);
         closed.free();

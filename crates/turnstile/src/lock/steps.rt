@@ -12,7 +12,12 @@ use crate::rule::{Draw, End, LastLook, Look};
 use crate::view::View;
 use atomic_table::Seat;
 use std::sync::Wait;
-use std::thread;
+use std::{hint, thread};
+
+// How often a caller looks for its turn before it sleeps, where no more than `NEAR` turns come before its own.
+const LOOKS: u32 = 100;
+
+const NEAR: u64 = 2;
 
 impl<H: TurnObject> Turnstile<H> {
     // A whole turn of a pass's seat.
@@ -59,10 +64,35 @@ impl<H: TurnObject> Turnstile<H> {
                 if found == next {
                     return next;
                 }
+            } else {
+                thread::yield_now();
             }
-            thread::yield_now();
         }
         unreachable!()
+    }
+
+    // Looks a few times for the turn while the ticket is among the next. True where the object came out to the seat.
+    fn looks(&self, seat: &mut Seat<H, View<H::Entry, H::Fixed>>, ticket: u64) -> bool
+        requires table { seat.old.table_id ≡ self.now.id }
+        requires start { is_some seat.old.me.0.start ≡ true }
+        requires ticket { (seat.old.me.0.waits ≡ true) × (seat.old.me.0.turn ≡ false)
+            × (seat.old.me.0.ticket ≡ ticket) }
+        ensures table { (seat.new.table_id ≡ seat.old.table_id) × (seat.new.id ≡ seat.old.id) }
+        ensures sees { result ≡ true →
+            Sees H.history H.fixed H.legal H.fits (λ x. (0, x) ∷ seat.old.me.1) seat.old.me seat.new.me }
+        ensures same { result ≡ false → seat.new.me ≡ seat.old.me }
+    {
+        for _ in 0..LOOKS {
+            let served = self.table.shared.load::<Look<H>>(seat, 1);
+            if served == ticket {
+                return true;
+            }
+            if ticket.saturating_sub(served) > NEAR {
+                return false;
+            }
+            hint::spin_loop();
+        }
+        false
     }
 
     // The object comes out to the seat.
@@ -74,13 +104,16 @@ impl<H: TurnObject> Turnstile<H> {
         ensures table { (seat.new.table_id ≡ seat.old.table_id) × (seat.new.id ≡ seat.old.id) }
         ensures sees { Sees H.history H.fixed H.legal H.fits (λ x. (0, x) ∷ seat.old.me.1) seat.old.me seat.new.me }
     {
-        let shared = &self.table.shared;
+        if self.looks(seat, ticket) {
+            return;
+        }
         for _ in rt.forever() {
-            let found = shared.load::<Look<H>>(seat, 1);
+            self.bells.lie_down(ticket);
+            let found = self.table.shared.load::<Look<H>>(seat, 1);
             if found == ticket {
                 return;
             }
-            shared.park(rt, 1, (found % (1 << 32)) as u32);
+            self.bells.sleep(rt, ticket);
         }
         unreachable!()
     }
@@ -119,7 +152,7 @@ impl<H: TurnObject> Turnstile<H> {
     {
         let shared = &self.table.shared;
         shared.store::<End<H>>(seat, 1, ticket + 1);
-        shared.wake_all(1);
+        self.bells.ring(ticket + 1);
     }
 
     // The same wait where the turnstile is closed: the object stays in the slot.
@@ -136,13 +169,13 @@ impl<H: TurnObject> Turnstile<H> {
         ensures last { (log : _) × (seat.new.me ≡ (served_view false log seat.old.me.0, seat.old.me.1))
             × IsPrefix seat.old.me.0.front log }
     {
-        let shared = &self.table.shared;
         for _ in rt.forever() {
-            let found = shared.load::<LastLook>(seat, 1);
+            self.bells.lie_down(ticket);
+            let found = self.table.shared.load::<LastLook>(seat, 1);
             if found == ticket {
                 return;
             }
-            shared.park(rt, 1, (found % (1 << 32)) as u32);
+            self.bells.sleep(rt, ticket);
         }
         unreachable!()
     }
