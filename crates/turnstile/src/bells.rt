@@ -1,5 +1,5 @@
-//! Where callers sleep while they wait: a bell for a ticket, so that the end of a turn wakes the caller whose turn comes
-//! and no other. The bells tell nothing of the lock, and who is woken looks at the lock again.
+//! Where callers sleep while they wait: a bell for a ticket, so that the end of a turn wakes the caller whose turn
+//! comes and no other. The bells tell nothing of the lock, and who is woken looks at the lock again.
 ghost use Rattle.std.specs.Prelude.{◌≡◌, ◌<◌};
 
 use atomic_table::{Play, Table, TableRule};
