@@ -116,7 +116,11 @@ impl Line {
         if n < top_or(&self.behind, 1, u64::MAX) {
             return Some(place + 1);
         }
-        if n < top_or(&self.behind, 2, u64::MAX) { Some(place + 2) } else { None }
+        if n < top_or(&self.behind, 2, u64::MAX) {
+            Some(place + 2)
+        } else {
+            None
+        }
     }
 
     /// How many of the numbers are at most `n`, which is found soon where so many, or one more, stand
