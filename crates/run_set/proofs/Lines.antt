@@ -2,7 +2,7 @@
 use Rattle.std.proofs.Common.{◌≡◌, ℕ, zero, suc, ◌+◌, ◌-◌, ◌≤◌, ◌<◌, Bool, true, false, leb, ltb, List, [], ◌∷◌, ◌++◌}
 use Rattle.std.proofs.Common.{length, take, drop, reverse, get_or, refl, sym, ap, subst, ◌∙◌, arith}
 use Rattle.std.proofs.lemmas.Bool.{leb-true, leb-false, ltb-true, ltb-false}
-use Rattle.std.proofs.lemmas.List.{append_assoc, take-append-le, length-append, length-reverse, reverse-append}
+use Rattle.std.proofs.lemmas.List.{append_assoc, drop-drop, length-drop, take-append-drop, length-append, length-reverse, reverse-append}
 use Rattle.std.proofs.lemmas.List.{reverse-reverse, get_or-append_right, get_or-reverse, get_or_default, get_or_past}
 use Rattle.std.proofs.lemmas.List.{take_at, drop_at}
 use Rattle.std.proofs.Math.ListN.{get_or-append}
@@ -31,12 +31,21 @@ put_there at n a b old e p =
     ∙ ap (λ xs. xs ++ n ∷ reverse b) (sym (ap (take at) (sym e) ∙ take_at a (reverse b) at p))
     ∙ ap (λ xs. take at old ++ n ∷ xs) (sym (ap (drop at) (sym e) ∙ drop_at a (reverse b) at p))
 
--- the numbers before the place go
-pub taken_out : (at count : ℕ) (a b old : List ℕ) → stacked a b ≡ old → length a ≡ at + count →
-    stacked (take at a) b ≡ take at old ++ drop (at + count) old
-taken_out at count a b old e p =
-    ap (λ xs. xs ++ reverse b) (sym (ap (take at) (sym e) ∙ take-append-le at a (reverse b) (omega (arith, p))))
-    ∙ ap (λ xs. take at old ++ xs) (sym (ap (drop (at + count)) (sym e) ∙ drop_at a (reverse b) (at + count) p))
+-- the first numbers behind the place go
+turned_part : (count : ℕ) (b : List ℕ) → count ≤ length b → drop count (reverse b) ≡ reverse (take (length b - count) b)
+turned_part count b p =
+    let k : ℕ = length b - count in
+    let parts = ap reverse (sym (take-append-drop k b)) ∙ reverse-append (take k b) (drop k b) in
+    let long : length (reverse (drop k b)) ≡ count = omega (arith, p, length-reverse (drop k b), length-drop k b) in
+    ap (drop count) parts ∙ drop_at (reverse (drop k b)) (reverse (take k b)) count long
+
+pub taken_out : (at count : ℕ) (a b old : List ℕ) → stacked a b ≡ old → length a ≡ at → count ≤ length b →
+    stacked a (take (length b - count) b) ≡ take at old ++ drop (at + count) old
+taken_out at count a b old e p q =
+    let front : take at old ≡ a = ap (take at) (sym e) ∙ take_at a (reverse b) at p in
+    let behind : drop at old ≡ reverse b = ap (drop at) (sym e) ∙ drop_at a (reverse b) at p in
+    ap (λ xs. a ++ xs) (sym (turned_part count b q) ∙ ap (drop count) (sym behind) ∙ drop-drop count at old)
+    ∙ ap (λ xs. xs ++ drop (at + count) old) (sym front)
 
 -- the number at a place
 pub number_before : (a b : List ℕ) (at d : ℕ) → at < length a → get_or a at d ≡ get_or (stacked a b) at d

@@ -60,10 +60,21 @@ impl Line {
         ensures same { self.new.items ≡ self.old.items }
         ensures room { self.old.room ≤ self.new.room }
     {
-        let room = self.room();
-        if count <= room {
+        if count <= self.room() {
             return Ok(());
         }
+        self.grow(count)
+    }
+
+    /// Makes room for `count` more numbers, where it is not there. It stands apart, so that the question
+    /// whether it is there is short.
+    #[inline(never)]
+    fn grow(&mut self, count: usize) -> Result<(), AllocError>
+        ensures ok { OnOk result (count ≤ self.new.room) }
+        ensures same { self.new.items ≡ self.old.items }
+        ensures room { self.old.room ≤ self.new.room }
+    {
+        let room = self.room();
         let (before, behind) = (self.before.len(), self.behind.len());
         self.before.reserve_exact(more_for(behind, count, room)?)?;
         self.behind.reserve_exact(more_for(before, count, room)?)
@@ -261,8 +272,9 @@ impl Line {
         ensures items { self.new.items ≡ take at self.old.items ++ drop (at + count) self.old.items }
         ensures room { self.old.room + count ≤ self.new.room }
     {
-        go_to(&mut self.before, &mut self.behind, at + count);
-        self.before.truncate(at);
+        go_to(&mut self.before, &mut self.behind, at);
+        let left = self.behind.len() - count;
+        self.behind.truncate(left);
     }
 }
 
