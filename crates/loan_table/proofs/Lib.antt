@@ -18,3 +18,4 @@ pub mod SameRefusals
 pub mod Stretches
 pub mod Totals
 pub mod Trees
+pub mod Unlent

@@ -80,7 +80,7 @@ alike_places r w p at (a ∷ bytes) f g =
     (λ i from to. f i (omega arith) (omega arith)) (λ i from to. g i (omega arith) (omega arith)))
 
 -- the bytes of a range
-bytes_between : (r w : ℕ → Bool) (at n : ℕ) (bytes : List ℕ) →
+pub bytes_between : (r w : ℕ → Bool) (at n : ℕ) (bytes : List ℕ) →
     addresses_of (stretch at n (placed r w 0 bytes)) ≡ stretch at n bytes
 bytes_between r w at n bytes =
     ap addresses_of (stretch-placed r w at n bytes) ∙ addresses_of-placed r w at (stretch at n bytes)

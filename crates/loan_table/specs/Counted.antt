@@ -1,5 +1,6 @@
 -- How often the bytes of a driver are lent, and the counts that say so.
-use Rattle.std.specs.Prelude.{◌≡◌, ℕ, ◌+◌, ◌≤◌, ◌<◌, ◌&&◌, false, if◌then◌else◌, Bool, List, count_by, sum_by}
+use Rattle.std.specs.Prelude.{◌≡◌, ℕ, ◌+◌, ◌≤◌, ◌<◌, ◌&&◌, false, if◌then◌else◌, Bool, List, count_by, sum_by, None}
+use Rattle.std.specs.List.{All}
 use Rattle.std.specs.FinMap.{entries}
 use Rattle.run_set.specs.Counts.{Counts, count}
 use Rattle.run_set.specs.Edges.{in_run}
@@ -8,6 +9,7 @@ use Rattle.loan_table.specs.declared.lent.LentCounts.{LentCounts}
 use Rattle.loan_table.specs.declared.row.Way.{Way}
 use Rattle.loan_table.specs.declared.row.Way.TheVariants.{ToWrite, ToRead}
 use Rattle.loan_table.specs.Kinds.{test_of}
+use Rattle.loan_table.specs.Lending.{sync_refusal}
 use Rattle.loan_table.specs.Loans.{Loan, Loans, loan_of, is_at, stands_twice}
 
 -- a map among the loans of its driver
@@ -67,6 +69,15 @@ IsAlike old new = (way : Way) (a : ℕ) → count (counts_of new way) a ≡ coun
 -- no position lends the byte at an address
 abbrev pub IsUnlent : LentCounts → ℕ → Type 0
 IsUnlent lent a = (way : Way) → count (counts_of lent way) a ≡ 0
+
+-- no position lends the bytes from one address up to another
+abbrev pub AreUnlent : LentCounts → ℕ → ℕ → Type 0
+AreUnlent lent from to = (a : ℕ) → from ≤ a → a < to → IsUnlent lent a
+
+-- a call by a map of a driver meets nothing at those positions whose byte is in a run
+abbrev pub MeetsNothing : Lender → ℕ → List Position → ℕ → ℕ → Type 0
+MeetsNothing lender ops ps start len =
+    All (λ p. start ≤ p.pa → p.pa < start + len → sync_refusal lender.loans lender.map ops p ≡ None) ps
 
 -- there is room for so many changes
 abbrev pub HasChanges : LentCounts → ℕ → Type 0

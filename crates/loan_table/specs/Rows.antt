@@ -9,6 +9,7 @@ use Rattle.busdma_base.specs.Runs.{addresses, byte_count, run_of}
 use Rattle.loan_table.specs.Ends.{Ends}
 use Rattle.loan_table.specs.declared.position.Position.{Position}
 use Rattle.loan_table.specs.Loans.{Loan, addresses_of}
+use Rattle.loan_table.specs.Table.{extent_count}
 
 -- at how many places of a list a number stands
 abbrev pub stands : ℕ → List ℕ → ℕ
@@ -43,10 +44,11 @@ pub record IsRoomy (set : Edges) (n : ℕ) : Type 0 where
   pub room : n + 3 ≤ length set.edges + set.room
 
 -- what is true of the fields of each row
-pub record IsRow (to_read to_write : Edges) (buffer : List ℕ) : Type 0 where
+pub record IsRow (to_read to_write : Edges) (buffer : List ℕ) (extents : ℕ) : Type 0 where
   pub read : IsRoomy to_read (length buffer)
   pub write : IsRoomy to_write (length buffer)
   pub small : length buffer < 2 ^ 64
+  pub parted : extents ≡ extent_count buffer
 
 -- n positions of bytes that follow one another, lent alike, from the first of them on
 abbrev pub alike : Position → ℕ → List Position

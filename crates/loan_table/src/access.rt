@@ -6,13 +6,13 @@ ghost use Rattle.busdma_base.specs.Journals.Judging.{judged};
 ghost use Rattle.busdma_base.specs.Machine.Wire.{stretch};
 ghost use Rattle.busdma_base.specs.Runs.{run_of, addresses, byte_count};
 ghost use Rattle.loan_table.specs.Access.{cpu_read_refusal, cpu_write_refusal, dev_read_refusal, dev_write_refusal};
-ghost use Rattle.loan_table.specs.Counted.{IsCounted};
+ghost use Rattle.loan_table.specs.Counted.{AreUnlent, IsCounted};
 ghost use Rattle.loan_table.specs.Ends.{Ends};
 ghost use Rattle.loan_table.specs.Kinds.{cpu_refusal, dev_refusal};
 ghost use Rattle.loan_table.specs.Loans.{Loans, in_any_way, lent};
 ghost use Rattle.loan_table.specs.Table.{is_marked};
 
-use crate::lent::LentCounts;
+use crate::lent::{LentCounts, NearCounts, Unlent};
 use crate::marks::ByteMarks;
 use crate::position::Position;
 use crate::row::{LoanRow, Way};
@@ -25,11 +25,23 @@ pub enum Access {
     Write,
 }
 
+/// Where the judgement of the driver's access looks first.
+#[derive(Clone, Copy)]
+struct Looks {
+    near: NearCounts,
+    unlent: Unlent,
+}
+
 /// What the driver meets where it reads a byte.
-fn cpu_read_refusal(bytes: &ByteMarks, lent: &LentCounts, pa: u64) -> Option<ReportName>
+fn cpu_read_refusal(
+    bytes: &ByteMarks,
+    lent: &LentCounts,
+    pa: u64,
+    near: &mut NearCounts,
+) -> Option<ReportName>
     ensures { (loans : Loans) → IsCounted lent.now loans → result ≡ cpu_read_refusal (is_marked bytes.now.bytes) loans pa }
 {
-    if lent.count(Way::ToWrite, pa) > 0 {
+    if lent.count_near(Way::ToWrite, pa, near) > 0 {
         Some(ReportName::CpuReadLent)
     } else if bytes.is_known(pa) {
         None
@@ -39,20 +51,20 @@ fn cpu_read_refusal(bytes: &ByteMarks, lent: &LentCounts, pa: u64) -> Option<Rep
 }
 
 /// Whether a byte is lent, to read or to write.
-fn is_lent(counts: &LentCounts, pa: u64) -> bool
+fn is_lent(counts: &LentCounts, pa: u64, near: &mut NearCounts) -> bool
     ensures { (loans : Loans) → IsCounted counts.now loans → result ≡ lent in_any_way pa loans }
 {
-    if counts.count(Way::ToRead, pa) > 0 {
+    if counts.count_near(Way::ToRead, pa, near) > 0 {
         return true;
     }
-    counts.count(Way::ToWrite, pa) > 0
+    counts.count_near(Way::ToWrite, pa, near) > 0
 }
 
 /// What the driver meets where it writes a byte.
-fn cpu_write_refusal(lent: &LentCounts, pa: u64) -> Option<ReportName>
+fn cpu_write_refusal(lent: &LentCounts, pa: u64, near: &mut NearCounts) -> Option<ReportName>
     ensures { (loans : Loans) → IsCounted lent.now loans → result ≡ cpu_write_refusal loans pa }
 {
-    if is_lent(lent, pa) {
+    if is_lent(lent, pa, near) {
         Some(ReportName::CpuWriteLent)
     } else {
         None
@@ -60,12 +72,18 @@ fn cpu_write_refusal(lent: &LentCounts, pa: u64) -> Option<ReportName>
 }
 
 /// What the driver meets at a byte.
-fn cpu_refusal(bytes: &ByteMarks, lent: &LentCounts, access: Access, pa: u64) -> Option<ReportName>
+fn cpu_refusal(
+    bytes: &ByteMarks,
+    lent: &LentCounts,
+    access: Access,
+    pa: u64,
+    near: &mut NearCounts,
+) -> Option<ReportName>
     ensures { (loans : Loans) → IsCounted lent.now loans → result ≡ cpu_refusal access (is_marked bytes.now.bytes) loans pa }
 {
     match access {
-        Access::Read => cpu_read_refusal(bytes, lent, pa),
-        Access::Write => cpu_write_refusal(lent, pa),
+        Access::Read => cpu_read_refusal(bytes, lent, pa, near),
+        Access::Write => cpu_write_refusal(lent, pa, near),
     }
 }
 
@@ -76,6 +94,7 @@ fn judge_run(
     access: Access,
     run: &Extent,
     place: u64,
+    near: &mut NearCounts,
 ) -> Judged
     requires ends { Ends run.now }
     requires place { place + run.now.len < 2 ^ 64 }
@@ -86,15 +105,40 @@ fn judge_run(
     let mut at = place;
     let mut pa = run.pa.0;
     while pa < end {
-        if let Some(name) = cpu_refusal(bytes, lent, access, pa) {
+        if let Some(name) = cpu_refusal(bytes, lent, access, pa, near) {
             return Judged::Refused(Report { name, at });
         }
         let turn = bytes.turn(pa, end);
-        let turn = lent.turn(pa, turn);
+        let turn = lent.turn_near(pa, turn, near);
         at += turn - pa;
         pa = turn;
     }
     Judged::Fine
+}
+
+/// The judgement of the driver's access of an extent, whose first byte stands at a place.
+fn judge_extent(
+    bytes: &ByteMarks,
+    lent: &LentCounts,
+    access: Access,
+    extent: &Extent,
+    place: u64,
+    looks: &mut Looks,
+) -> Judged
+    requires ends { Ends extent.now }
+    requires place { place + extent.now.len < 2 ^ 64 }
+    requires unlent { AreUnlent lent.now looks.old.unlent.from looks.old.unlent.to }
+    ensures unlent { AreUnlent lent.now looks.new.unlent.from looks.new.unlent.to }
+    ensures is { (loans : Loans) → IsCounted lent.now loans →
+        let refusal = cpu_refusal access (is_marked bytes.now.bytes) loans in
+        result ≡ judged refusal place (run_of extent.now.pa.0 extent.now.len) }
+{
+    if let Access::Write = access {
+        if extent.len > 0 && looks.unlent.has(lent, extent, &mut looks.near) {
+            return Judged::Fine;
+        }
+    }
+    judge_run(bytes, lent, access, extent, place, &mut looks.near)
 }
 
 /// The judgement of the driver's access of extents.
@@ -109,9 +153,13 @@ pub fn judge_extents(
     ensures { (loans : Loans) → IsCounted lent.now loans →
         let refusal = cpu_refusal access (is_marked bytes.now.bytes) loans in result ≡ judged refusal 0 (addresses extents.now) }
 {
+    let mut looks = Looks {
+        near: NearCounts::new(),
+        unlent: Unlent::nothing(),
+    };
     let mut at = 0;
     for extent in extents {
-        if let Judged::Refused(report) = judge_run(bytes, lent, access, extent, at) {
+        if let Judged::Refused(report) = judge_extent(bytes, lent, access, extent, at, &mut looks) {
             return Judged::Refused(report);
         }
         at += extent.len;

@@ -67,7 +67,7 @@ impl Buffer {
     }
 
     /// Bytes that follow one another: those from a position on, as many as there are before `end`. They
-    /// are found soon where `near` is left by a look at this position, or at one before it.
+    /// are found soon where `near` is left by a look at the stretch of this position, or at the one before it.
     pub fn stretch(&self, at: u64, end: u64, near: &mut usize) -> Extent
         requires some { at < end }
         requires range { end ≤ length self.now }
@@ -109,7 +109,7 @@ fn stretch_at(stretches: &[Extent], starts: &[u64], at: u64, end: u64, near: &mu
     ensures fits { result.pa.0 + result.len < 2 ^ 64 }
     ensures bytes { stretch at result.len (addresses stretches.now) ≡ run_of result.pa.0 result.len }
 {
-    let count = count_near(starts, at, *near);
+    let count = count_near(starts, at, near.saturating_add(1));
     *near = count;
     let last = count - 1;
     part_of(&stretches[last], at - starts[last], end - at)

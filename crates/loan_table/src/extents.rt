@@ -7,6 +7,7 @@ ghost use Rattle.busdma_base.specs.Runs.{addresses, IsExtent, run_of};
 ghost use Rattle.loan_table.specs.Loans.{addresses_of};
 ghost use Rattle.loan_table.specs.Table.{extent_count, is_next, more_extents};
 
+use crate::buffer::Buffer;
 use crate::row::LoanRow;
 use busdma_base::{Extent, Pa};
 use std::alloc::{AllocError, Global};
@@ -81,21 +82,21 @@ fn is_next(before: u64, pa: u64) -> bool
     pa > before && pa - before == 1 && pa % 4096 != 0
 }
 
-/// How many extents hold the bytes of a range of a map's buffer, in order.
-pub fn extent_count(row: &LoanRow, off: u64, len: u64) -> u64
-    requires { off + len ≤ length row.now.positions }
-    ensures { result ≡ extent_count (addresses_of (stretch off len row.now.positions)) }
+/// How many extents hold the bytes of a range of a buffer, in order.
+pub fn extent_count(buffer: &Buffer, off: u64, len: u64) -> u64
+    requires { off + len ≤ length buffer.now }
+    ensures { result ≡ extent_count (stretch off len buffer.now) }
 {
     if len == 0 {
         return 0;
     }
-    let end = row.end_of(off, len);
+    let end = buffer.len().min(off + len);
     let mut count = 0;
     let mut near = 0;
-    let mut last = row.stretch(off, end, &mut near).pa.0;
+    let mut last = buffer.stretch(off, end, &mut near).pa.0;
     let mut at = off;
     while at < end {
-        let bytes = row.stretch(at, end, &mut near);
+        let bytes = buffer.stretch(at, end, &mut near);
         count += more_extents(last, &bytes);
         last = bytes.pa.0 + bytes.len - 1;
         at += bytes.len;

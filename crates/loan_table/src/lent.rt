@@ -1,10 +1,10 @@
 //! How often the bytes of a driver are lent.
 
-ghost use Rattle.std.specs.Prelude.{◌≡◌, ℕ, ◌+◌, ◌≤◌, ◌<◌, length, map, if◌then◌else◌, OnOk, false, []};
+ghost use Rattle.std.specs.Prelude.{◌≡◌, ℕ, ◌+◌, ◌≤◌, ◌<◌, ◌^◌, length, map, if◌then◌else◌, OnOk, false, true, []};
 ghost use Rattle.busdma_base.specs.Machine.Wire.{stretch};
 ghost use Rattle.run_set.specs.Counts.{count};
 ghost use Rattle.loan_table.specs.Counted.{counts_of, places, HasChanges, Holds, IsAlike, IsRecounted};
-ghost use Rattle.loan_table.specs.Counted.{IsUnlent, UsesChanges};
+ghost use Rattle.loan_table.specs.Counted.{AreUnlent, IsUnlent, UsesChanges};
 ghost use Rattle.loan_table.specs.Kinds.{test_of};
 ghost use Rattle.loan_table.specs.Lending.{marked};
 ghost use Rattle.loan_table.specs.Loans.{addresses_of};
@@ -12,6 +12,7 @@ ghost use Rattle.loan_table.specs.Rows.{stands, AreAlike};
 
 use crate::piece::Span;
 use crate::row::{LoanRow, Way, marked};
+use busdma_base::Extent;
 use dma_tag::SyncOps;
 use run_set::{Near, RunCounts};
 use std::alloc::{AllocError, Global};
@@ -37,6 +38,38 @@ impl NearCounts {
             to_write: Near::new(),
             to_read: Near::new(),
         }
+    }
+}
+
+/// Bytes that are not lent: those from one address up to another.
+#[derive(Clone, Copy)]
+pub struct Unlent {
+    from: u64,
+    to: u64,
+}
+
+impl Unlent {
+    /// No byte.
+    pub fn nothing() -> Unlent
+        ensures { result.to ≡ 0 }
+    {
+        Unlent { from: 0, to: 0 }
+    }
+
+    /// Whether each byte of a run is seen not to be lent, by what an earlier look found or by a new one
+    /// at its first byte.
+    pub fn has(&mut self, lent: &LentCounts, run: &Extent, near: &mut NearCounts) -> bool
+        requires some { 0 < run.now.len }
+        requires fits { run.now.pa.0 + run.now.len < 2 ^ 64 }
+        requires unlent { AreUnlent lent.now self.old.from self.old.to }
+        ensures unlent { AreUnlent lent.now self.new.from self.new.to }
+        ensures run { result ≡ true → AreUnlent lent.now run.now.pa.0 (run.now.pa.0 + run.now.len) }
+    {
+        let start = run.pa.0;
+        if start < self.from || self.to <= start {
+            *self = lent.unlent_from(start, near);
+        }
+        self.from <= start && start + run.len <= self.to
     }
 }
 
@@ -112,6 +145,19 @@ impl LentCounts {
     {
         let turn = self.to_write.turn_near(start, end, &mut near.to_write);
         self.to_read.turn_near(start, turn, &mut near.to_read)
+    }
+
+    /// Bytes from one on that are not lent, as many as are found soon.
+    pub fn unlent_from(&self, start: u64, near: &mut NearCounts) -> Unlent
+        requires { start + 1 < 2 ^ 64 }
+        ensures { AreUnlent self.now result.from result.to }
+    {
+        let to = if self.is_lent(start, near) {
+            start
+        } else {
+            self.turn_near(start, u64::MAX, near)
+        };
+        Unlent { from: start, to }
     }
 
     /// Counts the positions of a range as a call marks them.

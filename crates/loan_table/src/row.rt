@@ -12,10 +12,11 @@ ghost use Rattle.loan_table.specs.Kinds.{test_of, unlent_refusal};
 ghost use Rattle.loan_table.specs.Lending.{marked, marked_range};
 ghost use Rattle.loan_table.specs.Loans.{stands_twice, addresses_of, to_write, new_loan};
 ghost use Rattle.loan_table.specs.Rows.{alike, AreAlike, IsRoomy};
-ghost use Rattle.loan_table.specs.Table.{AreIn, set_all};
+ghost use Rattle.loan_table.specs.Table.{extent_count, AreIn, set_all};
 ghost use Rattle.run_set.specs.Edges.{in_run, member};
 
 use crate::buffer::Buffer;
+use crate::extents::extent_count;
 use crate::lent::LentCounts;
 use crate::losing::{self, Losing};
 use crate::marks::ByteMarks;
@@ -47,12 +48,13 @@ impl Way {
     }
 }
 
-/// One map's positions: the bytes of its buffer, and the sets of those positions that it lends to read
-/// and to write.
+/// One map's positions: the bytes of its buffer, how many extents hold them, and the sets of those
+/// positions that it lends to read and to write.
 #[derive(Drop)]
 pub struct LoanRow {
     coherent: bool,
     buffer: Buffer,
+    extents: u64,
     to_read: RunSet,
     to_write: RunSet,
 }
@@ -71,7 +73,7 @@ impl Model for LoanRow {
       positions = placed (member r.to_read.edges) (member r.to_write.edges) 0 r.buffer;
     } };
 
-    ghost invariant = { λ r. IsRow r.to_read r.to_write r.buffer };
+    ghost invariant = { λ r. IsRow r.to_read r.to_write r.buffer r.extents };
 }
 
 impl LoanRow {
@@ -82,11 +84,13 @@ impl LoanRow {
         ensures { IfOk result (λ row. row ≡ new_loan coherent (addresses bytes.now)) }
     {
         let buffer = Buffer::over(alloc, bytes)?;
+        let extents = extent_count(&buffer, 0, buffer.len());
         let to_read = places_among(alloc, buffer.len())?;
         let to_write = places_among(alloc, buffer.len())?;
         Ok(LoanRow {
             coherent,
             buffer,
+            extents,
             to_read,
             to_write,
         })
@@ -104,6 +108,17 @@ impl LoanRow {
         ensures { result ≡ length self.now.positions }
     {
         self.buffer.len()
+    }
+
+    /// How many extents hold the bytes of a range, in order.
+    pub fn extents(&self, off: u64, len: u64) -> u64
+        requires { off + len ≤ length self.now.positions }
+        ensures { result ≡ extent_count (addresses_of (stretch off len self.now.positions)) }
+    {
+        if len == self.buffer.len() {
+            return self.extents;
+        }
+        extent_count(&self.buffer, off, len)
     }
 
     /// The position behind a range.
@@ -168,7 +183,7 @@ impl LoanRow {
     }
 
     /// Bytes that follow one another: those from a position on, as many as there are before `end`. They
-    /// are found soon where `near` is left by a look at this position, or at one before it.
+    /// are found soon where `near` is left by a look at the stretch of this position, or at the one before it.
     pub fn stretch(&self, at: u64, end: u64, near: &mut usize) -> Extent
         requires some { at < end }
         requires range { end ≤ length self.now.positions }

@@ -1,16 +1,17 @@
 //! The judgement of a sync of a range of a map's buffer, and what it does.
 
-ghost use Rattle.std.specs.Prelude.{◌≡◌, ℕ, ◌+◌, ◌<◌, ◌≤◌, ◌^◌, length, IsSome, true, false};
+ghost use Rattle.std.specs.Prelude.{◌≡◌, ℕ, ◌+◌, ◌-◌, ◌<◌, ◌≤◌, ◌^◌, length, IfErr, IfOk, IsSome, true, false};
 ghost use Rattle.std.specs.Ordering.{nat_cmp};
 ghost use Rattle.std.specs.BTreeMap as tree;
 ghost use Rattle.std.specs.FinMap as finmap;
 ghost use Rattle.busdma_base.specs.Journals.Judging.{judged};
+ghost use Rattle.busdma_base.specs.declared.journals.report.Judged.TheVariants.{Refused};
 ghost use Rattle.busdma_base.specs.Machine.Wire.{stretch};
 ghost use Rattle.run_set.specs.Counts.{count};
 ghost use Rattle.loan_table.specs.Lending.{lost, synced, sync_answer, sync_refusal, prewrite_refusal, preread_refusal};
 ghost use Rattle.loan_table.specs.Lending.{postread_refusal};
-ghost use Rattle.loan_table.specs.Counted.{counts_of, HasChanges, IsCounted, IsUnlent, IsOf, IsPlaced, Lender};
-ghost use Rattle.loan_table.specs.Counted.{UsesChanges};
+ghost use Rattle.loan_table.specs.Counted.{counts_of, AreUnlent, HasChanges, IsCounted, IsUnlent, IsOf};
+ghost use Rattle.loan_table.specs.Counted.{IsPlaced, Lender, MeetsNothing, UsesChanges};
 ghost use Rattle.loan_table.specs.Kept.{position_count};
 ghost use Rattle.loan_table.specs.Kinds.{test_of};
 ghost use Rattle.dma_tag.specs.SyncOps.{preread, prewrite};
@@ -18,7 +19,7 @@ ghost use Rattle.loan_table.specs.Loans.{Loans, loan_of, addresses_of, in_any_wa
 ghost use Rattle.loan_table.specs.Table.{AreIn, set_all};
 ghost use Rattle.loan_table.specs.Trees.{closed, opened};
 
-use crate::lent::{LentCounts, NearCounts};
+use crate::lent::{LentCounts, NearCounts, Unlent};
 use crate::loans::row_of;
 use crate::losing;
 use crate::marks::ByteMarks;
@@ -27,7 +28,7 @@ use crate::position::Position;
 use crate::row::{LoanRow, Way};
 use crate::slot::Slot;
 use bitflags::Flags;
-use busdma_base::{Judged, Report, ReportName};
+use busdma_base::{Extent, Judged, Report, ReportName};
 use dma_tag::SyncOps;
 use run_set::Near;
 use std::collections::BTreeMap;
@@ -219,6 +220,77 @@ fn judge(lent: &LentCounts, row: &LoanRow, ops: SyncOps, off: u64, len: u64) -> 
     }
 }
 
+/// Whether no byte of a run is seen to stand at more than one position.
+fn stand_once(row: &LoanRow, run: &Extent, near: &mut Near) -> bool
+    requires some { 0 < run.now.len }
+    requires fits { run.now.pa.0 + run.now.len < 2 ^ 64 }
+    ensures { result ≡ true → (a : ℕ) → run.now.pa.0 ≤ a → a < run.now.pa.0 + run.now.len →
+        stands_twice a row.now ≡ false }
+{
+    let start = run.pa.0;
+    if row.stands_twice(start, near) {
+        return false;
+    }
+    run.len == 1 || row.turn(start, start + run.len, near) == start + run.len
+}
+
+/// Whether a call is seen to meet nothing at the bytes of a run, wherever they stand: no map lends them.
+fn passes(
+    lent: &LentCounts,
+    row: &LoanRow,
+    ops: SyncOps,
+    run: &Extent,
+    looks: &mut Looks,
+    unlent: &mut Unlent,
+) -> bool
+    requires some { 0 < run.now.len }
+    requires fits { run.now.pa.0 + run.now.len < 2 ^ 64 }
+    requires unlent { AreUnlent lent.now unlent.old.from unlent.old.to }
+    ensures unlent { AreUnlent lent.now unlent.new.from unlent.new.to }
+    ensures passes { result ≡ true → (lender : Lender) → IsOf lent.now row.now lender →
+        MeetsNothing lender ops.0 row.now.positions run.now.pa.0 run.now.len }
+{
+    if ops.contains(SyncOps::POSTREAD) || !unlent.has(lent, run, &mut looks.lent) {
+        return false;
+    }
+    !ops.contains(SyncOps::PREREAD) || stand_once(row, run, &mut looks.places)
+}
+
+/// At how many positions, from one on, a call meets nothing; or what it meets at the first.
+fn judge_next(
+    lent: &LentCounts,
+    row: &LoanRow,
+    ops: SyncOps,
+    at: u64,
+    end: u64,
+    looks: &mut Looks,
+    unlent: &mut Unlent,
+) -> Result<u64, ReportName>
+    requires some { at < end }
+    requires range { end ≤ length row.now.positions }
+    requires unlent { AreUnlent lent.now unlent.old.from unlent.old.to }
+    ensures unlent { AreUnlent lent.now unlent.new.from unlent.new.to }
+    ensures some { IfOk result (λ n. 0 < n) }
+    ensures within { IfOk result (λ n. at + n ≤ end) }
+    ensures passed { IfOk result (λ n. (lender : Lender) → IsOf lent.now row.now lender →
+        let refusal = sync_refusal lender.loans lender.map ops.0 in
+        judged refusal at (stretch at (end - at) row.now.positions)
+        ≡ judged refusal (at + n) (stretch (at + n) (end - (at + n)) row.now.positions)) }
+    ensures refused { IfErr result (λ name. (lender : Lender) → IsOf lent.now row.now lender →
+        judged (sync_refusal lender.loans lender.map ops.0) at (stretch at (end - at) row.now.positions)
+        ≡ Refused (record { name = name; at = at })) }
+{
+    let run = row.stretch(at, end, &mut looks.piece);
+    if passes(lent, row, ops, &run, looks, unlent) {
+        return Ok(run.len);
+    }
+    let piece = row.piece(at, end, &mut looks.piece);
+    match sync_refusal(lent, row, ops, piece.first, looks) {
+        Some(name) => Err(name),
+        None => Ok(same_len(lent, row, &piece, looks)),
+    }
+}
+
 /// The judgement of a range of a map's positions, one after the other.
 fn judge_each(lent: &LentCounts, row: &LoanRow, ops: SyncOps, off: u64, len: u64) -> Judged
     requires range { off + len ≤ length row.now.positions }
@@ -227,13 +299,13 @@ fn judge_each(lent: &LentCounts, row: &LoanRow, ops: SyncOps, off: u64, len: u64
 {
     let end = row.end_of(off, len);
     let mut looks = Looks::new();
+    let mut unlent = Unlent::nothing();
     let mut at = off;
     while at < end {
-        let piece = row.piece(at, end, &mut looks.piece);
-        if let Some(name) = sync_refusal(lent, row, ops, piece.first, &mut looks) {
-            return Judged::Refused(Report { name, at });
+        match judge_next(lent, row, ops, at, end, &mut looks, &mut unlent) {
+            Ok(passed) => at += passed,
+            Err(name) => return Judged::Refused(Report { name, at }),
         }
-        at += same_len(lent, row, &piece, &mut looks);
     }
     Judged::Fine
 }

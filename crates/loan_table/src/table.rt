@@ -448,6 +448,6 @@ impl LoanTable {
         requires range { off + len ≤ length (buffer_of self.now map.made_at) }
         ensures { result ≡ extent_count (load_bytes self.now.loans map.made_at off len) }
     {
-        extents::extent_count(row_of(&self.loans, map.made_at), off, len)
+        row_of(&self.loans, map.made_at).extents(off, len)
     }
 }

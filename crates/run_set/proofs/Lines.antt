@@ -1,8 +1,8 @@
 -- Numbers on two stacks.
-use Rattle.std.proofs.Common.{◌≡◌, ℕ, zero, suc, ◌+◌, ◌-◌, ◌≤◌, ◌<◌, Bool, true, false, leb, List, [], ◌∷◌, ◌++◌}
+use Rattle.std.proofs.Common.{◌≡◌, ℕ, zero, suc, ◌+◌, ◌-◌, ◌≤◌, ◌<◌, Bool, true, false, leb, ltb, List, [], ◌∷◌, ◌++◌}
 use Rattle.std.proofs.Common.{length, take, drop, reverse, get_or, refl, sym, ap, subst, ◌∙◌, arith}
-use Rattle.std.proofs.lemmas.Bool.{leb-true, leb-false}
-use Rattle.std.proofs.lemmas.List.{append_assoc, take-append-le, length-append, length-reverse, reverse-append}
+use Rattle.std.proofs.lemmas.Bool.{leb-true, leb-false, ltb-true, ltb-false}
+use Rattle.std.proofs.lemmas.List.{append_assoc, drop-drop, length-drop, take-append-drop, length-append, length-reverse, reverse-append}
 use Rattle.std.proofs.lemmas.List.{reverse-reverse, get_or-append_right, get_or-reverse, get_or_default, get_or_past}
 use Rattle.std.proofs.lemmas.List.{take_at, drop_at}
 use Rattle.std.proofs.Math.ListN.{get_or-append}
@@ -31,12 +31,21 @@ put_there at n a b old e p =
     ∙ ap (λ xs. xs ++ n ∷ reverse b) (sym (ap (take at) (sym e) ∙ take_at a (reverse b) at p))
     ∙ ap (λ xs. take at old ++ n ∷ xs) (sym (ap (drop at) (sym e) ∙ drop_at a (reverse b) at p))
 
--- the numbers before the place go
-pub taken_out : (at count : ℕ) (a b old : List ℕ) → stacked a b ≡ old → length a ≡ at + count →
-    stacked (take at a) b ≡ take at old ++ drop (at + count) old
-taken_out at count a b old e p =
-    ap (λ xs. xs ++ reverse b) (sym (ap (take at) (sym e) ∙ take-append-le at a (reverse b) (omega (arith, p))))
-    ∙ ap (λ xs. take at old ++ xs) (sym (ap (drop (at + count)) (sym e) ∙ drop_at a (reverse b) (at + count) p))
+-- the first numbers behind the place go
+turned_part : (count : ℕ) (b : List ℕ) → count ≤ length b → drop count (reverse b) ≡ reverse (take (length b - count) b)
+turned_part count b p =
+    let k : ℕ = length b - count in
+    let parts = ap reverse (sym (take-append-drop k b)) ∙ reverse-append (take k b) (drop k b) in
+    let long : length (reverse (drop k b)) ≡ count = omega (arith, p, length-reverse (drop k b), length-drop k b) in
+    ap (drop count) parts ∙ drop_at (reverse (drop k b)) (reverse (take k b)) count long
+
+pub taken_out : (at count : ℕ) (a b old : List ℕ) → stacked a b ≡ old → length a ≡ at → count ≤ length b →
+    stacked a (take (length b - count) b) ≡ take at old ++ drop (at + count) old
+taken_out at count a b old e p q =
+    let front : take at old ≡ a = ap (take at) (sym e) ∙ take_at a (reverse b) at p in
+    let behind : drop at old ≡ reverse b = ap (drop at) (sym e) ∙ drop_at a (reverse b) at p in
+    ap (λ xs. a ++ xs) (sym (turned_part count b q) ∙ ap (drop count) (sym behind) ∙ drop-drop count at old)
+    ∙ ap (λ xs. xs ++ drop (at + count) old) (sym front)
 
 -- the number at a place
 pub number_before : (a b : List ℕ) (at d : ℕ) → at < length a → get_or a at d ≡ get_or (stacked a b) at d
@@ -142,3 +151,51 @@ is_counted es i n h small low high =
     count_is es i n 0 small
     (λ k a b. low_until es h (i - 1) n 0 (omega arith) (low (omega arith)) k 0 (omega arith))
     (λ k a b. high_from es h i n 0 (high (omega arith)) k 0 a b)
+
+-- the number of a stack at a depth
+pub top_there : (b : List ℕ) (k d : ℕ) → k < length b → get_or b (length b - 1 - k) d ≡ get_or (reverse b) k d
+top_there b k d p = sym (get_or-reverse b k d p)
+
+pub top_past : (b : List ℕ) (k d : ℕ) → length b ≤ k → d ≡ get_or (reverse b) k d
+top_past b k d p = sym (get_or_past (reverse b) k d (omega (arith, length-reverse b)))
+
+top_of : (a b : List ℕ) (k m : ℕ) → k < length b → get_or (stacked a b) (length a + k) 0 ≡ get_or (reverse b) k m
+top_of a b k m p =
+    let on : length a + k - length a ≡ k = omega arith in
+    get_or-append_right a (reverse b) (length a) (length a + k) 0 refl (omega arith)
+    ∙ ap (λ i. get_or (reverse b) i 0) on ∙ get_or_default (reverse b) k 0 m (omega (arith, length-reverse b, p))
+
+-- how many numbers of two stacks are counted, by the numbers about their place
+module _ (a b : List ℕ) (n m : ℕ) (h : Climbs 0 (stacked a b)) where
+  next_above : (k : ℕ) → n < get_or (reverse b) k m → length a + k < length (stacked a b) →
+      n < get_or (stacked a b) (length a + k) 0
+  next_above k q p =
+      let there : k < length b = omega (arith, p, length_stacked a b) in omega (arith, q, top_of a b k m there)
+
+  last_of : (xs : List ℕ) → 0 < length xs → get_or (xs ++ reverse b) (length xs - 1) 0 ≡ get_or (reverse xs) 0 0
+  last_of xs p =
+      let on : length xs - 1 ≡ length xs - 1 - 0 = omega arith in
+      get_or-append xs (reverse b) 0 (length xs - 1) (omega arith)
+      ∙ ap (λ i. get_or xs i 0) on ∙ top_there xs 0 0 p
+
+  pub counted_here : get_or (reverse a) 0 0 ≤ n → n < get_or (reverse b) 0 m → count_le (stacked a b) n ≡ length a
+  counted_here p q =
+      let on : length a ≡ length a + 0 = omega arith in
+      is_counted (stacked a b) (length a) n h (omega (arith, length_stacked a b))
+      (λ some. omega (arith, p, last_of a some))
+      (λ some. subst (λ i. n < get_or (stacked a b) i 0) (sym on) (next_above 0 q (omega (arith, some))))
+
+  pub counted_on : (k : ℕ) → get_or (reverse b) k m ≤ n → n < get_or (reverse b) (k + 1) m →
+      count_le (stacked a b) n ≡ length a + (k + 1)
+  counted_on k p q = by (ltb k (length b)) refl
+    where
+      by : (t : Bool) → ltb k (length b) ≡ t → count_le (stacked a b) n ≡ length a + (k + 1)
+      by true e =
+          let there : k < length b = ltb-true k (length b) e in
+          let last : length a + (k + 1) - 1 ≡ length a + k = omega arith in
+          is_counted (stacked a b) (length a + (k + 1)) n h (omega (arith, there, length_stacked a b))
+          (λ some. omega (arith, p, ap (λ i. get_or (stacked a b) i 0) last, top_of a b k m there))
+          (λ some. next_above (k + 1) q some)
+      by false e =
+          let past : length b ≤ k = ltb-false k (length b) e in
+          absurd (omega (arith, p, q, top_past b k m past, top_past b (k + 1) m (omega (arith, past))))

@@ -27,7 +27,7 @@ pub fn count_to(edges: &Line, n: u64) -> usize
     ensures above { (k d : ℕ) → result ≤ k → k < length edges.now.items → n < slice_index_or edges.now.items k d }
     ensures is { result ≡ count_le edges.now.items n }
 {
-    count_near(edges, n, edges.place())
+    edges.count_to(n)
 }
 
 /// How many edges lie at a number or below it, which is found soon where they are `near` many, or one more.

@@ -1,7 +1,7 @@
 //! Numbers in order, with the place of their last change.
 
-ghost use Rattle.std.specs.Prelude.{◌≡◌, ℕ, ◌+◌, ◌≤◌, ◌<◌, ◌++◌, ◌∷◌, [], length, take, drop};
-ghost use Rattle.std.specs.Prelude.{slice_index_or, IfOk, OnOk, OnErr, true, false, vec_len, vec_capacity};
+ghost use Rattle.std.specs.Prelude.{◌≡◌, ℕ, ◌+◌, ◌≤◌, ◌<◌, ◌++◌, ◌∷◌, [], length, reverse, take, drop};
+ghost use Rattle.std.specs.Prelude.{slice_index_or, IfOk, IfSome, OnOk, OnErr, true, false, vec_len, vec_capacity};
 ghost use Rattle.run_set.specs.Numbers.{count_le, stacked, Climbs, IsAround};
 
 use std::alloc::{AllocError, Global};
@@ -60,10 +60,21 @@ impl Line {
         ensures same { self.new.items ≡ self.old.items }
         ensures room { self.old.room ≤ self.new.room }
     {
-        let room = self.room();
-        if count <= room {
+        if count <= self.room() {
             return Ok(());
         }
+        self.grow(count)
+    }
+
+    /// Makes room for `count` more numbers, where it is not there. It stands apart, so that the question
+    /// whether it is there is short.
+    #[inline(never)]
+    fn grow(&mut self, count: usize) -> Result<(), AllocError>
+        ensures ok { OnOk result (count ≤ self.new.room) }
+        ensures same { self.new.items ≡ self.old.items }
+        ensures room { self.old.room ≤ self.new.room }
+    {
+        let room = self.room();
         let (before, behind) = (self.before.len(), self.behind.len());
         self.before.reserve_exact(more_for(behind, count, room)?)?;
         self.behind.reserve_exact(more_for(before, count, room)?)
@@ -95,7 +106,32 @@ impl Line {
         ensures is { result ≡ count_le self.now.items n }
         ensures small { result ≤ length self.now.items }
     {
-        self.count_near(n, self.place())
+        match self.count_here(n) {
+            Some(count) => count,
+            None => self.count_near(n, self.place()),
+        }
+    }
+
+    /// How many of the numbers are at most `n`, where that is the place of the last change, or one or two
+    /// more, as it is for changes in order.
+    fn count_here(&self, n: u64) -> Option<usize>
+        requires { Climbs 0 self.now.items }
+        ensures is { IfSome result (λ count. count ≡ count_le self.now.items n) }
+        ensures small { IfSome result (λ count. count ≤ length self.now.items) }
+    {
+        let place = self.before.len();
+        if n < top_or(&self.behind, 0, u64::MAX) {
+            let last = top_or(&self.before, 0, 0);
+            return if last <= n { Some(place) } else { None };
+        }
+        if n < top_or(&self.behind, 1, u64::MAX) {
+            return Some(place + 1);
+        }
+        if n < top_or(&self.behind, 2, u64::MAX) {
+            Some(place + 2)
+        } else {
+            None
+        }
     }
 
     /// How many of the numbers are at most `n`, which is found soon where so many, or one more, stand
@@ -236,8 +272,9 @@ impl Line {
         ensures items { self.new.items ≡ take at self.old.items ++ drop (at + count) self.old.items }
         ensures room { self.old.room + count ≤ self.new.room }
     {
-        go_to(&mut self.before, &mut self.behind, at + count);
-        self.before.truncate(at);
+        go_to(&mut self.before, &mut self.behind, at);
+        let left = self.behind.len() - count;
+        self.behind.truncate(left);
     }
 }
 
@@ -255,6 +292,18 @@ fn number_in(stack: &[u64], at: usize, other: u64) -> u64
     ensures { result ≡ slice_index_or stack.now at other }
 {
     stack.get(at).copied().unwrap_or(other)
+}
+
+/// The number of a stack at a depth, its top at 0, or another number where there is none.
+fn top_or(stack: &[u64], depth: usize, other: u64) -> u64
+    ensures { result ≡ slice_index_or (reverse stack.now) depth other }
+{
+    let len = stack.len();
+    if depth < len {
+        number_in(stack, len - 1 - depth, other)
+    } else {
+        other
+    }
 }
 
 /// Moves the place of two stacks, so that `at` of their numbers stand before it.

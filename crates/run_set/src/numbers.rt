@@ -15,7 +15,7 @@ pub fn count_at(list: &[u64], n: u64) -> usize
 }
 
 /// How many numbers of a list that does not fall are at most `n`, which is found soon where they are
-/// `near` many, or one more.
+/// `near` many, or one less.
 pub fn count_near(list: &[u64], n: u64, near: usize) -> usize
     requires { Climbs 0 list.now }
     ensures is { result ≡ count_le list.now n }
@@ -26,9 +26,9 @@ pub fn count_near(list: &[u64], n: u64, near: usize) -> usize
     if is_count(list, n, near) {
         return near;
     }
-    let next = near.saturating_add(1);
-    if is_count(list, n, next) {
-        return next;
+    let before = near.saturating_sub(1);
+    if is_count(list, n, before) {
+        return before;
     }
     count_at(list, n)
 }

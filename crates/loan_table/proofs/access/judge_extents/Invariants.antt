@@ -3,7 +3,7 @@ use Rattle.busdma_base.specs.Journals.Judging.{judged}
 use Rattle.busdma_base.specs.Runs.{addresses, byte_count}
 use Rattle.loan_table.specs.Kinds.{cpu_refusal}
 use Rattle.loan_table.specs.Table.{is_marked}
-use Rattle.loan_table.specs.Counted.{IsCounted}
+use Rattle.loan_table.specs.Counted.{AreUnlent, IsCounted}
 use Rattle.loan_table.specs.Loans.{Loans}
 use Rattle.loan_table.proofs.access.judge_extents.Given as goal
 
@@ -14,5 +14,6 @@ invariant-loop-extent l =
           judged (cpu_refusal l.access (is_marked l.bytes.bytes) loans) l.at
           (addresses (drop l.extent-index l.extents))
           ≡ judged (cpu_refusal l.access (is_marked l.bytes.bytes) loans) 0 (addresses l.extents);
+      unlent : AreUnlent l.lent l.looks.unlent.from l.looks.unlent.to;
       in_place : l.at + byte_count (drop l.extent-index l.extents) ≡ byte_count l.extents;
     }

@@ -28,14 +28,14 @@ pub loop-pa-preserved : goal.loop-pa-preserved
 loop-pa-preserved c =
     let pa = c.loop-pa.pa in
     let known = is_marked c.args.bytes.now.bytes in
-    let t = c.turn-turn-in-loop-pa.result in
+    let t = c.turn_near-turn.result in
     record {
       judged_so_far = λ loans counted.
           let refusal = cpu_refusal c.args.access known loans in
           let passed : refusal pa ≡ None = sym (c.cpu_refusal.ensures loans counted) ∙ c.in_default.is in
           sym (run_passed refusal c.loop-pa.at pa t _ (omega arith) (omega arith)
           (λ a from to. same_for_driver c.args.lent.now loans counted c.args.access known a pa
-          (c.turn-turn.ensures.same a from (omega arith)) (λ way. c.turn-turn-in-loop-pa.ensures.same way a from to)
+          (c.turn-turn.ensures.same a from (omega arith)) (λ way. c.turn_near-turn.ensures.same way a from to)
           ∙ passed))
           ∙ c.loop-pa.invariant.judged_so_far loans counted;
       in_place = omega arith;

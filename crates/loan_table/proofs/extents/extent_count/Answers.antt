@@ -1,19 +1,22 @@
-use Rattle.std.proofs.Common.{ap, sym, ◌∙◌, arith}
-use Rattle.loan_table.specs.Loans.{addresses_of}
+use Rattle.std.proofs.Common.{◌≡◌, ◌+◌, ◌-◌, ◌++◌, ap, sym, ◌∙◌, arith}
+use Rattle.busdma_base.specs.Machine.Wire.{stretch}
 use Rattle.loan_table.specs.Table.{extent_count, more_extents}
 use Rattle.loan_table.proofs.Frames.{count_from, more_behind}
-use Rattle.loan_table.proofs.Pieces.{nothing, whole}
+use Rattle.loan_table.proofs.Pieces.{nothing, two_parts, whole}
 use Rattle.loan_table.proofs.extents.extent_count.Goals as goal
 
 pub loop-at-init : goal.loop-at-init
 loop-at-init c =
     let bytes = c.stretch-last.result in
-    let ps = c.args.row.now.positions in
-    let ahead = c.stretch-last.ensures.is in
-    let all = whole c.args.off c.args.len c.end_of-end.result ps c.end_of-end.ensures in
+    let xs = c.args.buffer.now in
+    let end = c.min-end.result in
+    let is_end : end ≡ c.args.off + c.args.len = omega arith in
+    let rest = stretch (c.args.off + bytes.len) (end - (c.args.off + bytes.len)) xs in
+    let ahead = two_parts c.args.off bytes.len end xs c.stretch-last.ensures.within
+    ∙ ap (λ ys. ys ++ rest) c.stretch-last.ensures.bytes in
     let first = ap (more_extents bytes.pa.0) ahead
-    ∙ count_from bytes.pa.0 bytes.len _ c.stretch-last.ensures.some ∙ sym (ap extent_count ahead)
-    ∙ ap (λ xs. extent_count (addresses_of xs)) all in
+    ∙ count_from bytes.pa.0 bytes.len rest c.stretch-last.ensures.some ∙ sym (ap extent_count ahead)
+    ∙ ap extent_count (whole c.args.off c.args.len end xs is_end) in
     record {
       counted = omega (arith, first);
       small = omega arith;
@@ -23,8 +26,13 @@ loop-at-init c =
 pub loop-at-preserved : goal.loop-at-preserved
 loop-at-preserved c =
     let bytes = c.stretch-bytes.result in
-    let ahead = ap (more_extents c.loop-at.last) c.stretch-bytes.ensures.is
-    ∙ more_behind c.loop-at.last bytes.pa.0 bytes.len _ c.stretch-bytes.ensures.some in
+    let xs = c.args.buffer.now in
+    let at = c.loop-at.at in
+    let end = c.min-end.result in
+    let rest = stretch (at + bytes.len) (end - (at + bytes.len)) xs in
+    let ahead = ap (more_extents c.loop-at.last)
+    (two_parts at bytes.len end xs c.stretch-bytes.ensures.within ∙ ap (λ ys. ys ++ rest) c.stretch-bytes.ensures.bytes)
+    ∙ more_behind c.loop-at.last bytes.pa.0 bytes.len rest c.stretch-bytes.ensures.some in
     record {
       counted = omega (arith, ahead, c.loop-at.invariant.counted, c.more_extents-count.ensures.is);
       small = omega (arith, c.more_extents-count.ensures.small);
@@ -33,6 +41,5 @@ loop-at-preserved c =
 
 pub returns : goal.returns
 returns c =
-    let none = ap (λ xs. more_extents c.loop-at.last (addresses_of xs))
-    (nothing c.loop-at.at c.end_of-end.result c.args.row.now.positions (omega arith)) in
+    let none = ap (more_extents c.loop-at.last) (nothing c.loop-at.at c.min-end.result c.args.buffer.now (omega arith)) in
     omega (arith, none, c.loop-at.invariant.counted)

@@ -1,7 +1,7 @@
 use Rattle.std.proofs.Common.{◌≡◌, ◌-◌, ◌≤◌}
 use Rattle.busdma_base.specs.Journals.Judging.{judged}
 use Rattle.busdma_base.specs.Machine.Wire.{stretch}
-use Rattle.loan_table.specs.Counted.{Lender, IsOf}
+use Rattle.loan_table.specs.Counted.{AreUnlent, Lender, IsOf}
 use Rattle.loan_table.specs.Lending.{sync_refusal}
 use Rattle.loan_table.proofs.sync.judge_each.Given as goal
 
@@ -10,6 +10,7 @@ invariant-loop-at l = record {
   judged_so_far : (lender : Lender) → IsOf l.lent l.row lender →
       judged (sync_refusal lender.loans lender.map l.ops.0) l.at (stretch l.at (l.end - l.at) l.row.positions)
       ≡ judged (sync_refusal lender.loans lender.map l.ops.0) l.off (stretch l.off l.len l.row.positions);
+  unlent : AreUnlent l.lent l.unlent.from l.unlent.to;
   to : l.at ≤ l.end;
 }
 
