@@ -76,12 +76,12 @@ impl Tally {
         let Some(chunk) = chunk else {
             return;
         };
-        let placed = if chunk.bounced {
-            self.need += 1;
-            in_page(chunk, Pa(0), keeps_offset(limits))
-        } else {
-            chunk
-        };
+        if !chunk.bounced {
+            self.pieces += piece_count(limits, bus_run(&chunk));
+            return;
+        }
+        self.need += 1;
+        let placed = in_page(chunk, Pa(0), keeps_offset(limits));
         self.pieces += piece_count(limits, bus_run(&placed));
     }
 }
