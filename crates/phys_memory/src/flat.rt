@@ -52,6 +52,8 @@ impl<'a> Iterator for FlatParts<'a> {
 
     ghost remaining = { item_count (λ s. s) };
 
+    // A part costs less than a call that hands it on through memory.
+    #[inline(always)]
     fn next(&mut self) -> Option<Part> {
         if self.left == 0 {
             return None;
@@ -139,6 +141,7 @@ impl LanePages {
     }
 
     // The row of the page of a virtual address.
+    #[inline(never)]
     pub(crate) fn row_at(&self, at: u128) -> Option<Reach>
         ensures is { result ≡ row_at self.now.memory at }
         ensures row { IfSome result (IsReachOf self.now.memory) }
