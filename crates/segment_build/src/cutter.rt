@@ -41,6 +41,8 @@ impl Cutter {
     }
 
     /// Cuts the next part, and gives the chunk that it closes.
+    // A chunk costs less than a call that hands it on through memory.
+    #[inline(always)]
     pub(crate) fn take(&mut self, tag: &Tag, maxmem: u64, part: Part) -> Option<Chunk>
         requires part { IsPart part }
         requires fits { self.old.at + part_bytes part < 2 ^ 64 }
@@ -63,6 +65,7 @@ impl Cutter {
     }
 
     // Cuts the next extent of an entry.
+    #[inline(always)]
     fn cut(&mut self, tag: &Tag, maxmem: u64, extent: Extent) -> Option<Chunk>
         requires extent { IsExtent extent }
         requires fits { self.old.at + extent.len < 2 ^ 64 }

@@ -64,6 +64,7 @@ struct Tally {
 
 impl Tally {
     // Counts a chunk, where there is one.
+    #[inline(always)]
     fn add(&mut self, limits: &TagLimits, chunk: Option<Chunk>)
         requires size { 0 < limits.now.maxsegsz }
         requires sound { IfSome chunk (IsPlaceable limits.now) }
