@@ -43,6 +43,7 @@ impl<'a> Iterator for FrameParts<'a> {
 
     ghost remaining = { item_count (λ s. s) };
 
+    #[inline(never)]
     fn next(&mut self) -> Option<Part> {
         if self.left == 0 {
             return None;

@@ -9,6 +9,7 @@ pub mod Reached
 pub mod RunParts
 pub mod SameFrames
 pub mod Streams
+pub mod Stretches
 pub mod Tables
 pub mod Vectors
 pub mod Walks

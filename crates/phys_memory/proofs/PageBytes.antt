@@ -1,5 +1,5 @@
 -- What stands in the wire where pages hold the bytes of their frames.
-use Rattle.std.proofs.Common.{◌≡◌, ◌≢◌, ℕ, zero, suc, ◌+◌, ◌-◌, ◌*◌, ◌/◌, ◌%◌, ◌<◌, ◌≤◌, ◌==◌, Bool, true, false, cond}
+use Rattle.std.proofs.Common.{◌≡◌, ◌≢◌, ℕ, zero, suc, ◌+◌, ◌-◌, ◌*◌, ◌/◌, ◌%◌, ◌<◌, ◌≤◌, ◌==◌, true, false, cond}
 use Rattle.std.proofs.Common.{List, [], ◌∷◌, length, map, take, drop, drop-cons, get_or, set, refl, sym, ap, ◌∙◌, inl}
 use Rattle.std.proofs.Common.{inr, arith}
 use Rattle.std.specs.Prelude.{if◌then◌else◌}
@@ -12,7 +12,6 @@ use Rattle.busdma_base.specs.Machine.Page.{FrameBytes, overwritten}
 use Rattle.busdma_base.specs.Machine.PageList.{frames_of}
 use Rattle.busdma_base.specs.Machine.Wire.{Wire, page_byte, put, with_bytes_of}
 use Rattle.busdma_base.specs.Runs.{run_of}
-use Rattle.phys_memory.specs.Frames.{AreApart}
 use Rattle.phys_memory.specs.Memory.{Memory, has_frame, written}
 use Rattle.phys_memory.proofs.FrameBytes.{in_run, at_address, elsewhere, offset_in_frame, get_or-overwritten}
 use Rattle.phys_memory.proofs.Writing.{written_run}

@@ -1,5 +1,5 @@
 -- How a memory is kept: a table of virtual pages, and the frames by their number.
-use Rattle.std.specs.Prelude.{◌≡◌, ℕ, min, List, map, Some}
+use Rattle.std.specs.Prelude.{◌≡◌, ℕ, min, List, length, map, Some}
 use Rattle.std.specs.declared.hash.FoldHasher.{FoldHasher}
 use Rattle.std.specs.declared.hash.BuildHasherDefault.{BuildHasherDefault}
 use Rattle.std.specs.HashMap.{HashMap, spare}
@@ -8,7 +8,9 @@ use Rattle.std.specs.Prelude.{nat_eq}
 use Rattle.std.specs.FinMap.{from_entries}
 use Rattle.busdma_base.specs.Machine.Page.{FrameBytes}
 use Rattle.phys_memory.specs.declared.reach.Reach.{Reach}
+use Rattle.phys_memory.specs.declared.stretch.Stretch.{Stretch}
 use Rattle.phys_memory.specs.Memory.{Memory, Roomy, IsMemory}
+use Rattle.phys_memory.specs.Stretches.{AreStretches}
 
 -- a map from numbers
 abbrev pub Numbered : Type 0 → Type 0
@@ -30,6 +32,8 @@ roomy_of table frames =
 abbrev pub AtTheirFrames : List (ℕ × FrameBytes) → Type 0
 AtTheirFrames pages = (f : ℕ) (page : FrameBytes) → lookup (nat_eq f) pages ≡ Some page → page.frame ≡ f
 
-pub record IsKept (table : Numbered Reach) (frames : Numbered FrameBytes) : Type 0 where
+pub record IsKept (table : Numbered Reach) (frames : Numbered FrameBytes) (stretches : List Stretch) : Type 0 where
   pub memory : IsMemory (memory_of table.entries frames.entries)
   pub at_frames : AtTheirFrames frames.entries
+  pub stretches_are : AreStretches (from_entries table.entries) stretches
+  pub stretches_count : length stretches ≡ 16

@@ -3,6 +3,7 @@ pub mod Extents
 pub mod Frames
 pub mod Kept
 pub mod Memory
+pub mod Stretches
 pub mod Translation
 pub mod Vector
 pub mod Walk

@@ -6,12 +6,14 @@ ghost use Rattle.std.specs.Iterator.{HoldsAlong, YieldsFirst, item_count};
 ghost use Rattle.busdma_base.specs.Machine.Entry.{IsStream, parts_of};
 ghost use Rattle.phys_memory.specs.Memory.{IsMemory, IsReachOf, physical, row_at};
 ghost use Rattle.phys_memory.specs.Extents.{IsNext, reached};
+ghost use Rattle.phys_memory.specs.Stretches.{IsKnown};
 ghost use Rattle.phys_memory.specs.Walk.{flat, flat_at, run_stream};
 ghost use Rattle.busdma_base.specs.Machine.Spans.{one_span};
 ghost use Rattle.phys_memory.specs.Vector.{IfAll, vector, vector_walk};
 
 use crate::pages::LanePages;
 use crate::reach::Reach;
+use crate::stretch::Stretch;
 use busdma_base::{Extent, Pa, Part, Va};
 use std::marker::Model;
 
@@ -24,6 +26,7 @@ pub struct FlatParts<'a> {
     left: u64,
     offset: u64,
     opens: bool,
+    known: Stretch,
 }
 
 impl<'a> Model for FlatParts<'a> {
@@ -31,13 +34,15 @@ impl<'a> Model for FlatParts<'a> {
     ghost use Rattle.busdma_base.specs.declared.machine.chunk.Part.{Part};
     ghost use Rattle.phys_memory.specs.Extents.{reached};
     ghost use Rattle.phys_memory.specs.Memory.{physical};
+    ghost use Rattle.phys_memory.specs.Stretches.{IsKnown};
     ghost use Rattle.phys_memory.specs.Walk.{run_stream};
 
     ghost Value = { List Part };
 
     ghost view = { λ s. run_stream (reached (physical s.memory.now.memory) s.at s.left) s.left s.offset s.opens true };
 
-    ghost invariant = { λ s. (s.at + s.left < 2 ^ 65) × (s.offset + s.left < 2 ^ 64) };
+    ghost invariant = { λ s. (s.at + s.left < 2 ^ 65) × (s.offset + s.left < 2 ^ 64)
+        × IsKnown s.memory.now.memory.table s.known };
 }
 
 impl<'a> Iterator for FlatParts<'a> {
@@ -47,11 +52,14 @@ impl<'a> Iterator for FlatParts<'a> {
 
     ghost remaining = { item_count (λ s. s) };
 
+    // A part costs less than a call that hands it on through memory.
+    #[inline(always)]
     fn next(&mut self) -> Option<Part> {
         if self.left == 0 {
             return None;
         }
-        match self.memory.extent_at(self.at, self.left) {
+        self.known = self.memory.stretch_at(self.known, self.at);
+        match self.memory.extent_at(self.known, self.at, self.left) {
             None => {
                 self.left = 0;
                 Some(Part::Unmapped(self.offset))
@@ -110,16 +118,18 @@ impl LanePages {
             left: len,
             offset,
             opens: true,
+            known: Stretch::none(),
         }
     }
 
     // The extent of the first of `left` bytes from a virtual address on, and of those after it in its page.
-    fn extent_at(&self, at: u128, left: u64) -> Option<Extent>
-        requires { 0 < left }
+    fn extent_at(&self, known: Stretch, at: u128, left: u64) -> Option<Extent>
+        requires known { IsKnown self.now.memory.table known }
+        requires some { 0 < left }
         ensures none { IfNone result (physical self.now.memory at ≡ None) }
         ensures next { IfSome result (IsNext (physical self.now.memory) at left) }
     {
-        let row = self.row_at(at)?;
+        let row = self.row_by(known, at)?;
         let inside = (at % 4096) as u64;
         if row.reach <= inside {
             return None;
@@ -131,7 +141,8 @@ impl LanePages {
     }
 
     // The row of the page of a virtual address.
-    fn row_at(&self, at: u128) -> Option<Reach>
+    #[inline(never)]
+    pub(crate) fn row_at(&self, at: u128) -> Option<Reach>
         ensures is { result ≡ row_at self.now.memory at }
         ensures row { IfSome result (IsReachOf self.now.memory) }
     {

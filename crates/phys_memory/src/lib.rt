@@ -6,6 +6,7 @@ mod entries;
 mod flat;
 mod pages;
 mod reach;
+mod stretch;
 #[cfg(test)]
 mod tests;
 mod vector;

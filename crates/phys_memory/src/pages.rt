@@ -5,6 +5,7 @@ ghost use Rattle.std.specs.FinMap.{empty};
 ghost use Rattle.phys_memory.specs.Memory.{IsMemory, added, handed_back, has_frame, page_at, without_page};
 
 use crate::reach::Reach;
+use crate::stretch::{Stretch, slot_of};
 use busdma_base::{Page, Va};
 use std::alloc::{AllocError, Global};
 use std::collections::HashMap;
@@ -16,6 +17,7 @@ use std::marker::Model;
 pub struct LanePages {
     pub(crate) table: HashMap<u64, Reach>,
     pub(crate) frames: HashMap<u64, Page>,
+    pub(crate) stretches: [Stretch; 16],
 }
 
 impl Model for LanePages {
@@ -31,7 +33,7 @@ impl Model for LanePages {
 
     ghost view = { λ p. roomy_of p.table p.frames };
 
-    ghost invariant = { λ p. IsKept p.table p.frames };
+    ghost invariant = { λ p. IsKept p.table p.frames p.stretches };
 }
 
 impl LanePages {
@@ -43,6 +45,7 @@ impl LanePages {
         LanePages {
             table: HashMap::new(alloc),
             frames: HashMap::new(alloc),
+            stretches: [Stretch::none(); 16],
         }
     }
 
@@ -97,6 +100,8 @@ impl LanePages {
         row.unwrap();
         let kept: Result<_, _> = self.frames.insert(frame, page);
         kept.unwrap();
+        let slot = slot_of(number);
+        self.stretches[slot] = self.stretches[slot].grown(number, Reach { frame, reach });
         None
     }
 
@@ -106,7 +111,10 @@ impl LanePages {
         ensures memory { self.new.memory ≡ without_page self.old.memory va.0 }
         ensures spare { self.old.spare ≤ self.new.spare }
     {
-        let row = self.table.remove(&(va.0 / 4096))?;
+        let number = va.0 / 4096;
+        let row = self.table.remove(&number)?;
+        let slot = slot_of(number);
+        self.stretches[slot] = self.stretches[slot].cut(number);
         self.frames.remove(&row.frame)
     }
 

@@ -245,3 +245,33 @@ fn a_page_is_added_within_room(rt: HostRuntime) -> Result<(), Fail> {
     assert!(rt; !memory.has_frame(6));
     Ok(())
 }
+
+/// Takes each part of a stream in turn.
+fn takes(rt: &impl Abort, memory: &LanePages, va: u64, len: u64, wanted: &[Option<Part>]) {
+    let mut parts = memory.parts_flat(Va(va), len);
+    for part in wanted {
+        assert_eq!(rt; parts.next(), *part);
+    }
+}
+
+#[test]
+fn a_stream_goes_through_pages_that_follow_one_another(rt: HostRuntime) -> Result<(), Fail> {
+    let alloc = rt.alloc();
+    let mut memory = LanePages::new(alloc);
+    assert_eq!(rt; add(&rt, alloc, &mut memory, 0x1000, 8, 4096)?, None);
+    assert_eq!(rt; add(&rt, alloc, &mut memory, 0x2000, 9, 4096)?, None);
+    assert_eq!(rt; add(&rt, alloc, &mut memory, 0x3000, 10, 4096)?, None);
+    let first = part(0x8ff0, 0x10, true);
+    let last = part(0xa000, 0x10, false);
+    let whole = [first, part(0x9000, 0x1000, false), last, None];
+    takes(&rt, &memory, 0x1ff0, 0x1020, &whole);
+
+    assert!(rt; memory.remove(Va(0x2000)).is_some());
+    let hole = [first, Some(Part::Unmapped(0x10)), None];
+    takes(&rt, &memory, 0x1ff0, 0x1020, &hole);
+
+    assert_eq!(rt; add(&rt, alloc, &mut memory, 0x2000, 12, 4096)?, None);
+    let mended = [first, part(0xc000, 0x1000, false), last, None];
+    takes(&rt, &memory, 0x1ff0, 0x1020, &mended);
+    Ok(())
+}

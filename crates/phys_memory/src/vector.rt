@@ -44,6 +44,7 @@ impl<'a> Iterator for VectorParts<'a> {
 
     ghost remaining = { item_count (λ s. s) };
 
+    #[inline(never)]
     fn next(&mut self) -> Option<Part> {
         loop {
             if let Some(part) = self.current.next() {

@@ -1,8 +1,9 @@
 //! How extents are cut into chunks one after the other.
 
-ghost use Rattle.std.specs.Prelude.{◌≡◌, ◌+◌, ◌-◌, ◌%◌, ◌^◌, ◌<◌, ◌≤◌};
+ghost use Rattle.std.specs.Prelude.{◌≡◌, ℕ, ◌+◌, ◌-◌, ◌%◌, ◌^◌, ◌<◌, ◌≤◌};
 ghost use Rattle.busdma_base.specs.Machine.Entry.{IsPart, part_bytes};
 ghost use Rattle.busdma_base.specs.Runs.{IsExtent};
+ghost use Rattle.busdma_base.specs.Tags.Tag.{needs_bounce};
 ghost use Rattle.busdma_base.specs.Tags.TagFlags.{keep_pg_offset};
 ghost use Rattle.segment_build.specs.Chunks.{chunk_limit};
 ghost use Rattle.segment_build.specs.Cutting.{after_part, closed_part, cut_by, closed_by, uncut, with_rest};
@@ -40,6 +41,8 @@ impl Cutter {
     }
 
     /// Cuts the next part, and gives the chunk that it closes.
+    // A chunk costs less than a call that hands it on through memory.
+    #[inline(always)]
     pub(crate) fn take(&mut self, tag: &Tag, maxmem: u64, part: Part) -> Option<Chunk>
         requires part { IsPart part }
         requires fits { self.old.at + part_bytes part < 2 ^ 64 }
@@ -62,6 +65,7 @@ impl Cutter {
     }
 
     // Cuts the next extent of an entry.
+    #[inline(always)]
     fn cut(&mut self, tag: &Tag, maxmem: u64, extent: Extent) -> Option<Chunk>
         requires extent { IsExtent extent }
         requires fits { self.old.at + extent.len < 2 ^ 64 }
@@ -74,19 +78,24 @@ impl Cutter {
             self.at += extent.len;
             return None;
         }
-        let closed = with_rest(self.last, extent.pa, self.owed);
+        let closed = if self.owed == 0 {
+            self.last
+        } else {
+            with_rest(self.last, extent.pa, self.owed)
+        };
         let first = Extent {
             pa: Pa(extent.pa.0 + self.owed),
             len: extent.len - self.owed,
         };
+        let bounced = tag.needs_bounce(maxmem, first.pa);
         self.last = Some(Chunk {
             at: self.at + self.owed,
             first,
             rest: None,
-            bounced: tag.needs_bounce(maxmem, first.pa),
+            bounced,
             page: None,
         });
-        self.owed = chunk_limit(tag, maxmem, self.rounded, first.pa).saturating_sub(first.len);
+        self.owed = chunk_limit(tag, bounced, self.rounded, first.pa).saturating_sub(first.len);
         self.at += extent.len;
         closed
     }
@@ -99,12 +108,13 @@ pub(crate) fn keeps_offset(limits: &TagLimits) -> bool
     TagFlags(limits.flags).contains(TagFlags::KEEP_PG_OFFSET)
 }
 
-// The most bytes of a chunk whose first address is this.
-fn chunk_limit(tag: &Tag, maxmem: u64, rounded: bool, pa: Pa) -> u64
-    ensures { result ≡ chunk_limit tag.now maxmem rounded pa.0 }
+// The most bytes of a chunk whose first address is this, which is bounced or is not.
+fn chunk_limit(tag: &Tag, bounced: bool, rounded: bool, pa: Pa) -> u64
+    ensures { (maxmem : ℕ) → bounced ≡ needs_bounce tag.now maxmem pa.0 →
+        result ≡ chunk_limit tag.now maxmem rounded pa.0 }
 {
     let left = FRAME - pa.0 % FRAME;
-    if !tag.needs_bounce(maxmem, pa) || !rounded || keeps_offset(tag.limits()) {
+    if !bounced || !rounded || keeps_offset(tag.limits()) {
         return left;
     }
     let alignment = tag.limits().alignment;

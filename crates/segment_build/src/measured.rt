@@ -64,6 +64,7 @@ struct Tally {
 
 impl Tally {
     // Counts a chunk, where there is one.
+    #[inline(always)]
     fn add(&mut self, limits: &TagLimits, chunk: Option<Chunk>)
         requires size { 0 < limits.now.maxsegsz }
         requires sound { IfSome chunk (IsPlaceable limits.now) }
@@ -76,12 +77,12 @@ impl Tally {
         let Some(chunk) = chunk else {
             return;
         };
-        let placed = if chunk.bounced {
-            self.need += 1;
-            in_page(chunk, Pa(0), keeps_offset(limits))
-        } else {
-            chunk
-        };
+        if !chunk.bounced {
+            self.pieces += piece_count(limits, bus_run(&chunk));
+            return;
+        }
+        self.need += 1;
+        let placed = in_page(chunk, Pa(0), keeps_offset(limits));
         self.pieces += piece_count(limits, bus_run(&placed));
     }
 }

@@ -1,9 +1,11 @@
-use Rattle.std.proofs.Common.{◌≡◌, Bool, true, false, ap, sym, ◌∙◌, subst, if◌then◌else◌, ◌<◌, ◌^◌}
+use Rattle.std.proofs.Common.{◌/◌, arith, ◌≡◌, Bool, true, false, ap, sym, ◌∙◌, subst, if◌then◌else◌, ◌<◌, ◌^◌}
 use Rattle.std.specs.Prelude.{Some, None}
 use Rattle.phys_memory.specs.Memory.{Roomy, IsMemory, has_frame, has_page, with_page}
 use Rattle.phys_memory.specs.Kept.{memory_of}
 use Rattle.phys_memory.proofs.Kept.{has_page-kept, memory_with_page}
 use Rattle.phys_memory.proofs.Changes.{memory_put, place_put}
+use Rattle.phys_memory.proofs.Stretches.{length_set, put_grown}
+use Rattle.phys_memory.proofs.Tables.{made_inserted}
 use Rattle.phys_memory.proofs.pages.LanePages.add_reserved.Goals as goal
 
 pub returns-then-contains_key-clause-answer : goal.returns-then-contains_key-clause-answer
@@ -43,6 +45,12 @@ invariant_of-self c =
           (memory_with_page old c.args.va.0 c.args.page c.args.reach c.self.invariant.memory free fresh
           (subst (λ n. n < 2 ^ 30) whole.number whole.below) whole.whole c.requires.reach);
       at_frames = place_put _ _ c.args.page (rw whole.number at pages.0) c.self.invariant.at_frames;
+      stretches_are =
+          put_grown _ _ (c.args.va.0 / 4096) _ m.stretches c.slot_of-slot.result c.grown.result
+          (made_inserted _ _ (c.args.va.0 / 4096) _ rows.0) free (omega arith) whole.below c.slot_of-slot.ensures.is
+          (omega (arith, c.slot_of-slot.ensures.low, c.self.invariant.stretches_count))
+          c.grown.ensures c.self.invariant.stretches_are;
+      stretches_count = length_set m.stretches c.slot_of-slot.result c.grown.result ∙ c.self.invariant.stretches_count;
     }
 
 pub returns-clause-answer : goal.returns-clause-answer

@@ -1,9 +1,11 @@
-use Rattle.std.proofs.Common.{◌/◌, ap, sym, ◌∙◌, subst}
+use Rattle.std.proofs.Common.{◌/◌, arith, ap, sym, ◌∙◌, subst}
 use Rattle.std.specs.Prelude.{Some, None}
 use Rattle.phys_memory.specs.Memory.{Roomy, IsMemory, page_at, page_of, without_page, without_row}
 use Rattle.phys_memory.specs.Kept.{memory_of}
 use Rattle.phys_memory.proofs.Kept.{memory_without_row}
 use Rattle.phys_memory.proofs.Changes.{memory_taken, place_removed, row_found, page_found}
+use Rattle.phys_memory.proofs.Stretches.{length_set, put_cut}
+use Rattle.phys_memory.proofs.Tables.{made_removed}
 use Rattle.phys_memory.proofs.pages.LanePages.remove.Goals as goal
 
 pub returns-in_err-row-clause-page : goal.returns-in_err-row-clause-page
@@ -40,6 +42,12 @@ invariant_of-self-2 c =
           c.remove.ensures.updates.0 c.remove-2.ensures.updates.0))
           (memory_without_row old (c.args.va.0 / 4096) c.in_ok-row.row c.self.invariant.memory row);
       at_frames = place_removed _ _ c.in_ok-row.row.frame c.remove-2.ensures.updates.0 c.self.invariant.at_frames;
+      stretches_are =
+          put_cut _ _ (c.args.va.0 / 4096) m.stretches c.slot_of-slot.result c.cut.result
+          (made_removed _ _ (c.args.va.0 / 4096) c.remove.ensures.updates.0) c.slot_of-slot.ensures.is
+          (omega (arith, c.slot_of-slot.ensures.low, c.self.invariant.stretches_count))
+          c.cut.ensures c.self.invariant.stretches_are;
+      stretches_count = length_set m.stretches c.slot_of-slot.result c.cut.result ∙ c.self.invariant.stretches_count;
     }
 
 pub returns-clause-page : goal.returns-clause-page

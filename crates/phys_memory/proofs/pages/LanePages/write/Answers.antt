@@ -31,6 +31,8 @@ invariant_of-self c =
       at_frames =
           places_rewritten m.frames.entries _ c.args.pa.0 c.unwrap-page.result.now c.args.bytes.now
           c.self.invariant.at_frames found put;
+      stretches_are = c.self.invariant.stretches_are;
+      stretches_count = c.self.invariant.stretches_count;
     }
 
 pub returns-clause-memory : goal.returns-clause-memory
