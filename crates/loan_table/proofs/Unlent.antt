@@ -23,11 +23,11 @@ use Rattle.loan_table.specs.Counted.{places, lent_places, AreUnlent, IsCounted, 
 use Rattle.loan_table.specs.Kinds.{cpu_refusal, test_of}
 use Rattle.loan_table.specs.Lending.{postread_refusal, preread_refusal, prewrite_refusal, sync_refusal}
 use Rattle.loan_table.specs.Loans.{Loan, Loans, addresses_of, in_any_way, lent, lent_elsewhere, loan_of, stands_twice}
-use Rattle.loan_table.specs.Loans.{to_read, to_write}
+use Rattle.loan_table.specs.Loans.{to_write}
 use Rattle.loan_table.proofs.Addresses.{run_none}
 use Rattle.loan_table.proofs.Judgement.{length-run_of}
 use Rattle.loan_table.proofs.Marking.{no_position}
-use Rattle.loan_table.proofs.Pieces.{span_bytes, two_parts}
+use Rattle.loan_table.proofs.Pieces.{two_parts}
 use Rattle.loan_table.proofs.Recounting.{places-cons}
 use Rattle.loan_table.proofs.SameRefusals.{run_passed}
 use Rattle.loan_table.proofs.Stretches.{take_run}

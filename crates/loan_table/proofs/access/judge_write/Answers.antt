@@ -1,4 +1,4 @@
-use Rattle.std.proofs.Common.{Bool, ◌||◌, true, if◌then◌else◌, Some, None, sym, ap, ◌∙◌}
+use Rattle.std.proofs.Common.{◌||◌, if◌then◌else◌, Some, None, sym, ap, ◌∙◌}
 use Rattle.busdma_base.specs.declared.journals.report.ReportName.TheVariants.{DeviceWriteUnlent}
 use Rattle.loan_table.specs.Access.{dev_write_refusal}
 use Rattle.loan_table.proofs.Judgement.{judged-none}

@@ -1,13 +1,11 @@
-use Rattle.std.proofs.Common.{◌≡◌, ℕ, ◌+◌, ◌-◌, ◌%◌, ◌<◌, ◌≤◌, ◌^◌, ◌++◌, List, true, ap, sym, ◌∙◌}
+use Rattle.std.proofs.Common.{◌≡◌, ◌+◌, ◌-◌, ◌%◌, ◌<◌, ◌++◌, true, ap, sym, ◌∙◌}
 use Rattle.std.proofs.Common.{cond, length, subst, arith}
 use Rattle.std.proofs.lemmas.List.{length-append}
 use Rattle.std.proofs.lemmas.List.Elements.{All-push, All-nil}
 use Rattle.busdma_base.specs.declared.machine.address.Extent.{Extent}
 use Rattle.busdma_base.specs.Machine.Wire.{stretch}
 use Rattle.busdma_base.specs.Runs.{run_of, IsExtent}
-use Rattle.loan_table.specs.declared.position.Position.{Position}
 use Rattle.loan_table.specs.Loans.{addresses_of}
-use Rattle.loan_table.specs.Rows.{alike}
 use Rattle.loan_table.specs.Table.{extent_count, is_next, more_extents}
 use Rattle.loan_table.proofs.Extending.{ends, next_is, next_fits}
 use Rattle.loan_table.proofs.Frames.{extents_first, extents_more}

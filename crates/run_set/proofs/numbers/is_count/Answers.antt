@@ -1,4 +1,4 @@
-use Rattle.std.proofs.Common.{◌≡◌, ◌<◌, ◌≤◌, ◌-◌, ltb, false, get_or, sym, ◌∙◌, arith}
+use Rattle.std.proofs.Common.{◌-◌, get_or, sym, ◌∙◌, arith}
 use Rattle.std.proofs.lemmas.Bool.{ltb-true, ltb-false}
 use Rattle.run_set.proofs.Lines.{is_counted}
 use Rattle.run_set.proofs.numbers.is_count.Goals.{then-count-gt0, else-count-gt0}
