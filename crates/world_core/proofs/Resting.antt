@@ -8,7 +8,6 @@ use Rattle.ideal_lane.specs.State.{LaneState}
 use Rattle.ideal_lane.specs.Turns.{lane_step, transfer_turn}
 use Rattle.ideal_world.specs.Legal.{Run, noted, turn}
 use Rattle.ideal_world.specs.World.{WorldState, replied, step, step_entry, step_of, entry_of}
-use Rattle.ideal_world.proofs.Falling.{step-rests}
 
 -- it makes no step
 pub device-rests : (w : WorldState) (actor : Actor) (l : LaneState) → slice_get w.lanes actor.lane.0 ≡ Some l →
@@ -24,6 +23,4 @@ device-rests w actor l found device none =
 
 -- an actor that makes no step leaves a run as it was
 pub passed-over : (r : Run) (actor : Actor) → step_entry r.world actor ≡ None → r ≡ turn r actor
-passed-over r actor none =
-    ap (λ (y : WorldState). record { world = y; entries = r.entries }) (sym (step-rests r.world actor none))
-    ∙ sym (ap (noted r (step r.world actor).world) none)
+passed-over r actor none = sym (ap (noted r (step r.world actor).world) none)

@@ -44,11 +44,11 @@ impl World<'_> {
         let Side::Transfer = actor.side else {
             return false;
         };
-        let at = actor.lane.0 as usize;
-        if at >= self.lanes.len() {
+        let number = actor.lane.0 as usize;
+        if number >= self.lanes.len() {
             return false;
         }
-        !self.lanes[at].has_item()
+        !self.lanes[number].has_item()
     }
 }
 

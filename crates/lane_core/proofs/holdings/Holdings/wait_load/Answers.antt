@@ -40,7 +40,7 @@ invariant_of-self c =
       };
     } in
     let maps : insert h.maps.map k (record { tag = o.tag; need = c.args.need; map = c.wait.new.self })
-        ≡ insert h.maps.map k v =
+    ≡ insert h.maps.map k v =
     ap (λ x. insert h.maps.map k (record { tag = o.tag; need = c.args.need; map = x })) c.wait.ensures in
     let fits : pages_due h.maps.map + due_of v ≤ h.agenda.promised = c.requires.promised in
     let are =
@@ -83,7 +83,7 @@ returns-in-Some-clause-done c other found =
       };
     } in
     let maps : insert h.maps.map k (record { tag = o.tag; need = c.args.need; map = c.wait.new.self })
-        ≡ insert h.maps.map k v =
+    ≡ insert h.maps.map k v =
     ap (λ x. insert h.maps.map k (record { tag = o.tag; need = c.args.need; map = x })) c.wait.ensures in
     let is : get l.maps k ≡ Some (map_of o) = image-some map_of h.maps.map k o there in
     let same : map_of o ≡ other = cc in
@@ -113,7 +113,7 @@ returns-in-Some-clause-bytes c =
       };
     } in
     let maps : insert h.maps.map k (record { tag = o.tag; need = c.args.need; map = c.wait.new.self })
-        ≡ insert h.maps.map k v =
+    ≡ insert h.maps.map k v =
     ap (λ x. insert h.maps.map k (record { tag = o.tag; need = c.args.need; map = x })) c.wait.ensures in
     let bare : device_of (Some v) ≡ device_of (get h.maps.map k) = sym (ap device_of there ∙ idle.unheld) in
     record {
@@ -135,7 +135,7 @@ returns-in-Some-clause-waits c =
       };
     } in
     let maps : insert h.maps.map k (record { tag = o.tag; need = c.args.need; map = c.wait.new.self })
-        ≡ insert h.maps.map k v =
+    ≡ insert h.maps.map k v =
     ap (λ x. insert h.maps.map k (record { tag = o.tag; need = c.args.need; map = x })) c.wait.ensures in
     ap (λ ms. kept_load (get ms k)) maps ∙ ap kept_load (get_put h.maps.map k v k)
     ∙ ap (λ b. kept_load (cond b (Some v) (get h.maps.map k))) (eq-eqb k k refl)
@@ -154,7 +154,7 @@ returns-in-Some-clause-others c m off =
       };
     } in
     let maps : insert h.maps.map k (record { tag = o.tag; need = c.args.need; map = c.wait.new.self })
-        ≡ insert h.maps.map k v =
+    ≡ insert h.maps.map k v =
     ap (λ x. insert h.maps.map k (record { tag = o.tag; need = c.args.need; map = x })) c.wait.ensures in
     ap (λ ms. kept_load (get ms m)) maps ∙ ap kept_load (get_put h.maps.map k v m)
     ∙ ap (λ b. kept_load (cond b (Some v) (get h.maps.map m))) off

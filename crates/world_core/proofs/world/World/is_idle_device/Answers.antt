@@ -9,7 +9,7 @@ pub returns : goal.returns
 returns c idle =
     let w = c.args.self.now in
     let i = c.args.actor.lane.0 in
-    let lt : i < length w.lanes.items = omega (arith, c.if-at-len.false, c.len.ensures, w.lanes.ok.0) in
+    let lt : i < length w.lanes.items = omega (arith, c.if-number-len.false, c.len.ensures, w.lanes.ok.0) in
     device-rests (ideal_world w) c.args.actor (ideal c.index.result.now)
     (lane_found w.lanes.items i c.index.result.now lt c.index.ensures) c.in-Transfer.is
     (ap not (sym c.has_item.ensures) ∙ idle)
