@@ -5,13 +5,11 @@ use Rattle.std.specs.FinMap.{contains_key, get, insert}
 use Rattle.busdma_base.specs.declared.journals.report.Judged.TheVariants.{Fine}
 use Rattle.busdma_base.specs.declared.name.MapId.{MapId}
 use Rattle.busdma_base.specs.declared.name.ZoneId.{ZoneId}
-use Rattle.busdma_base.specs.Machine.Wire.{with_bytes_of}
 use Rattle.dma_map.specs.MapView.{chunks_of}
 use Rattle.dma_tag.specs.SyncOps.{is_mixed, postread, prewrite}
 use Rattle.loan_table.specs.Lending.{lost, sync_answer}
 use Rattle.loan_table.specs.Lending as lending
 use Rattle.loan_table.specs.Table.{AreIn, IsSame, IsSynced, set_all}
-use Rattle.phys_memory.specs.Memory.{wire}
 use Rattle.ideal_lane.specs.Syncs.{counted, has_byte_of, sync_part}
 use Rattle.ideal_wire.specs.WireStep as wires
 use Rattle.ideal_wire.specs.WireStep.{if_done}
@@ -20,7 +18,7 @@ use Rattle.lane_core.specs.declared.kept.KeptMap.{KeptMap}
 use Rattle.lane_core.specs.Covered.{has_load}
 use Rattle.lane_core.specs.Ideal.{ideal_of}
 use Rattle.lane_core.specs.Kept.{map_of, share_of}
-use Rattle.lane_core.specs.Wire.{held_pages, wire_of}
+use Rattle.lane_core.specs.Wire.{wire_of}
 use Rattle.lane_core.proofs.Bouncing.{is-bounced}
 use Rattle.lane_core.proofs.MapValues.{image-some}
 use Rattle.lane_core.proofs.Marks.{has_set_all}
