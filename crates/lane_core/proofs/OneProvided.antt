@@ -19,6 +19,7 @@ use Rattle.busdma_base.specs.declared.machine.chunk.Chunk.{Chunk}
 use Rattle.busdma_base.specs.declared.scenarios.buffer.Buffer.{Buffer}
 use Rattle.busdma_base.specs.declared.scenarios.script.Item.{Item}
 use Rattle.busdma_base.specs.declared.scenarios.script.Op.{Op}
+use Rattle.busdma_base.specs.declared.scenarios.script.Op.TheVariants as made
 use Rattle.busdma_base.specs.declared.scenarios.script.Op.TheVariants.{Load}
 use Rattle.busdma_base.specs.declared.tags.tag.TagLimits.{TagLimits}
 use Rattle.dma_map.specs.declared.room.LoadRoom.{LoadRoom}
@@ -46,15 +47,22 @@ HasRoomForAny-prop : (t : TagLimits) (cs : List Chunk) (need : ℕ) (room : Load
     IsProp (HasRoomForAny t cs need room)
 HasRoomForAny-prop t cs need room = hlevel (props, HasRoomFor-prop)
 
--- ---- what a load of the script has
-
-buffer_in : Buffer → Option Op → Buffer
-buffer_in d (Some (Load m x flags items)) = x
-buffer_in d _ = d
-
-flags_in : ℕ → Option Op → ℕ
-flags_in d (Some (Load m x flags items)) = flags
-flags_in d _ = d
+-- the buffer and the flags of a load, or those given where no load stands there
+load_in : Buffer × ℕ → Option Op → Buffer × ℕ
+load_in d None = d
+load_in d (Some (made.Tag name parent limits)) = d
+load_in d (Some (made.TagDestroy tag)) = d
+load_in d (Some (made.Map name tag)) = d
+load_in d (Some (made.MapDestroy map)) = d
+load_in d (Some (made.Dmamem name tag flags)) = d
+load_in d (Some (made.DmamemFree mem)) = d
+load_in d (Some (made.Load map buffer flags items)) = (buffer, flags)
+load_in d (Some (made.Unload map)) = d
+load_in d (Some (made.Sync map ops)) = d
+load_in d (Some (made.SyncRange map off len ops)) = d
+load_in d (Some (made.CpuRead place len)) = d
+load_in d (Some (made.CpuWrite place bytes)) = d
+load_in d (Some (made.Await map)) = d
 
 module _ (h : Holdings) (m load_at : ℕ) (items : List Item) (room : LoadRoom) where
   load-prop : (x : Buffer) (flags : ℕ) → IsProp (slice_get h.script.now load_at ≡ Some (Load m x flags items))
@@ -64,11 +72,11 @@ module _ (h : Holdings) (m load_at : ℕ) (items : List Item) (room : LoadRoom) 
   bytes-prop b x = hlevel (props, Coded-set bio.the_row.coded)
 
   IsLoadAt-prop : (b : Bio) → IsProp (IsLoadAt h load_at m b items)
-  unfolding buffer_in flags_in
+  unfolding load_in
   IsLoadAt-prop b p q =
-      let same = sym p.load ∙ q.load in
-      let buffer : p.buffer ≡ q.buffer = ap (buffer_in p.buffer) same in
-      let flags : p.flags ≡ q.flags = ap (flags_in p.flags) same in
+      let same = ap (load_in (p.buffer, p.flags)) (sym p.load ∙ q.load) in
+      let buffer : p.buffer ≡ q.buffer = ap (λ d. d.0) same in
+      let flags : p.flags ≡ q.flags = ap (λ d. d.1) same in
       λ i. record {
         buffer = buffer i;
         flags = flags i;
@@ -80,9 +88,9 @@ module _ (h : Holdings) (m load_at : ℕ) (items : List Item) (room : LoadRoom) 
 
   -- it names one bio
   same-bio : (b c : Bio) → IsLoadAt h load_at m b items → IsLoadAt h load_at m c items → b ≡ c
-  unfolding buffer_in
+  unfolding load_in
   same-bio b c p q =
-      let same : p.buffer ≡ q.buffer = ap (buffer_in p.buffer) (sym p.load ∙ q.load) in
+      let same : p.buffer ≡ q.buffer = ap (λ o. (load_in (p.buffer, p.flags) o).0) (sym p.load ∙ q.load) in
       let both : Some b ≡ Some c = sym p.bytes ∙ ap (bio_at (ideal_of h)) same ∙ q.bytes in
       ap (λ o. unwrap_or o b) both
 

@@ -1,11 +1,10 @@
--- Holdings of which a map was taken and put back as it was.
-use Rattle.std.proofs.Common.{◌≡◌, ℕ, ◌+◌, ◌-◌, Some, sym, ap, ◌∙◌, subst}
+-- Holdings of which a map is written over with what it was.
+use Rattle.std.proofs.Common.{◌≡◌, ℕ, Some, sym, ap, ◌∙◌, subst}
 use Rattle.std.specs.Ordering.{nat_cmp}
-use Rattle.std.specs.FinMap.{FinMap, get, insert, remove}
+use Rattle.std.specs.FinMap.{FinMap, get, insert}
 use Rattle.busdma_base.specs.Machine.Wire.{with_bytes_of}
 use Rattle.dma_map.specs.declared.callback.Transfers.{Transfers}
 use Rattle.dma_map.specs.MapView as held
-use Rattle.lane_tables.specs.Places.{Places}
 use Rattle.phys_memory.specs.Memory.{wire}
 use Rattle.lane_core.specs.declared.holdings.Holdings.{Holdings}
 use Rattle.lane_core.specs.declared.kept.KeptMap.{KeptMap}
@@ -16,17 +15,7 @@ use Rattle.lane_core.specs.Kept.{map_of}
 use Rattle.lane_core.specs.MapValues.{map_values}
 use Rattle.lane_core.specs.Wire.{held_pages, wire_of}
 use Rattle.lane_core.proofs.MapTables.{AreMaps, maps-of}
-use Rattle.lane_core.proofs.Places.{put-back, reput}
-
--- a table of which a value was taken, and one put in its place
-pub put-again : (table took after : Places KeptMap) (k : ℕ) (v : KeptMap) →
-    took ≡ record table { map = remove table.map k; spare = table.spare + 1 } →
-    after ≡ record took { map = insert took.map k v; spare = took.spare - 1 } →
-    (after.map ≡ insert table.map k v) × (after.places ≡ table.places)
-put-again table took after k v taken put = (
-  ap (λ (t : Places KeptMap). t.map) put ∙ ap (λ (t : Places KeptMap). insert t.map k v) taken ∙ reput table.map k v,
-  ap (λ (t : Places KeptMap). t.places) put ∙ ap (λ (t : Places KeptMap). t.places) taken,
-)
+use Rattle.lane_core.proofs.Places.{put-back}
 
 -- a map with what it had
 pub put-same : (maps : FinMap nat_cmp KeptMap) (k : ℕ) (o : KeptMap) (v : held.MapView Transfers) →

@@ -1,5 +1,5 @@
 -- An item does the same whatever else stands in the transfer queue, and a driver stands whatever stands there.
-use Rattle.std.proofs.Common.{◌≡◌, ℕ, ◌+◌, ◌-◌, Bool, true, false, List, [], ◌∷◌, Option, None, Some, cond, length}
+use Rattle.std.proofs.Common.{◌≡◌, ℕ, ◌+◌, ◌-◌, Bool, true, false, List, ◌∷◌, Option, None, Some, cond, length}
 use Rattle.std.proofs.Common.{map, refl, sym, ap, ◌∙◌, subst, arith}
 use Rattle.busdma_base.specs.declared.journals.answer.Answer.{Answer}
 use Rattle.busdma_base.specs.declared.journals.journal.Did.TheVariants as did
@@ -18,13 +18,12 @@ use Rattle.loan_table.specs.Lending.{sync_answer}
 use Rattle.loan_table.specs.Loans.{loan_of}
 use Rattle.std.specs.FinMap.{get}
 use Rattle.std.specs.Prelude.{nat_le}
-use Rattle.ideal_lane.specs.Accesses.{dev_read, dev_write}
 use Rattle.ideal_lane.specs.Asking.{Asking, Gives, goes_on}
 use Rattle.ideal_lane.specs.IdealMemory.{is_known}
 use Rattle.ideal_lane.specs.Outcomes.{Outcome, is_loaded, load_length, unless_absent, unless_past, unless_refused}
 use Rattle.ideal_lane.specs.Outcomes.{unless_unloaded}
 use Rattle.ideal_lane.specs.State.{LaneMap, LaneState}
-use Rattle.ideal_lane.specs.Syncs.{sync, sync_part, sync_range}
+use Rattle.ideal_lane.specs.Syncs.{sync_part}
 use Rattle.ideal_lane.specs.Turns.{lane_step, left_queue, transfer, transfer_turn}
 use Rattle.ideal_wire.proofs.StillLaid.{like}
 use Rattle.ideal_wire.specs.Apart.{IsApart}
@@ -36,7 +35,7 @@ use Rattle.ideal_wire.specs.WireStep.{if_done}
 use Rattle.phys_memory.specs.Memory.{wire}
 use Rattle.lane_core.specs.declared.holdings.Holdings.{Holdings}
 use Rattle.lane_core.specs.declared.turn.Turn.{Turn}
-use Rattle.lane_core.specs.declared.turn.Turn.TheVariants.{Blocked, Stepped}
+use Rattle.lane_core.specs.declared.turn.Turn.TheVariants.{Stepped}
 use Rattle.lane_core.specs.Changes.{KeepsAgenda, KeepsBytes, KeepsButAgenda, KeepsState}
 use Rattle.lane_core.specs.Held.{devices_of, held}
 use Rattle.lane_core.specs.Ideal.{given, ideal_of}
@@ -249,15 +248,3 @@ module _ (h k n : Holdings) (q : QueuedItem) (first : h.agenda.queue ≡ q ∷ k
       ap (λ a. length a.queue) with_item,
     );
   }
-
--- ---- no item is there
-
-module _ (h k : Holdings) (same : k ≡ h) (empty : h.agenda.queue ≡ []) where
-  pub none-done : Gives (turned k Blocked) ≡ lane_step (ideal_of h) side.Transfer
-  none-done = ap (λ x. Gives (turned x Blocked)) same ∙ ap (λ qs. transfer_turn qs (ideal_of h)) (sym empty)
-
-  pub none-wire : wire_of k ≡ wires.lane_step (ideal_of h) side.Transfer (wire_of h)
-  none-wire = ap wire_of same ∙ ap (λ qs. wires.transfer_turn qs (ideal_of h) (wire_of h)) (sym empty)
-
-  pub none-agenda : KeepsAgenda h k
-  none-agenda = subst (KeepsAgenda h) (sym same) (record { place = refl; end = refl; capacity = refl })

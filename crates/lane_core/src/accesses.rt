@@ -162,7 +162,8 @@ impl Holdings<'_> {
         if let Some(refusal) = self.past_end(map, off, len) {
             return Ok(Answer::Report(refusal));
         }
-        if let Judged::Refused(refusal) = self.loans.may_dev_read(self.map_id(map), off, len) {
+        let id = self.map_id(map);
+        if let Judged::Refused(refusal) = self.loans.may_dev_read(id, off, len) {
             return Ok(Answer::Report(refusal));
         }
         let Some(kept) = self.maps.get_mut(map) else {

@@ -1,6 +1,6 @@
 //! The turns of a lane.
 
-ghost use Rattle.std.specs.Prelude.{◌≡◌, IfOk, OnErr, OnOk};
+ghost use Rattle.std.specs.Prelude.{◌≡◌, IfOk, OnErr, OnOk, is_some, slice_get};
 ghost use Rattle.ideal_lane.specs.Turns.{lane_step};
 ghost use Rattle.ideal_wire.specs.Centre.{IsFaithful};
 ghost use Rattle.ideal_wire.specs.WireStep.{Follows};
@@ -53,6 +53,13 @@ impl Lane<'_> {
         ensures fixed { D.fixed door.new ≡ D.fixed door.old }
     {
         self.holdings.turn(alloc, door, side)
+    }
+
+    /// Whether an item stands in the transfer queue; where none does, the turn of that side is Blocked.
+    pub fn has_item(&self) -> bool
+        ensures { result ≡ is_some (slice_get (ideal self.now).queue 0) }
+    {
+        self.holdings.agenda.first().is_some()
     }
 
     /// The lane's share of total_bounced of a zone: how many of its syncs copied to or from a page of the zone.

@@ -2,6 +2,7 @@ pub mod Agreeing
 pub mod Counting
 pub mod Faithful
 pub mod OpeningWorld
+pub mod Resting
 pub mod Taking
 pub mod Turning
 pub mod TurnsInOrder

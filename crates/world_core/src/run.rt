@@ -23,6 +23,10 @@ impl Progress<'_> {
     fn turn(&mut self, alloc: Global, actor: Actor) -> Result<(), AllocError>
         ensures { OnOk result (ideal_run self.new ≡ legal.turn (ideal_run self.old) actor) }
     {
+        // Most turns of devices find no item; these cost one look.
+        if self.world.is_idle_device(actor) {
+            return Ok(());
+        }
         if let Turn::Stepped { entry, .. } = self.world.step(alloc, actor)? {
             self.entries.push(entry)?;
         }

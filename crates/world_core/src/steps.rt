@@ -1,16 +1,16 @@
 //! The turns of actors.
 
-ghost use Rattle.std.specs.Prelude.{◌≡◌, ◌+◌, IfOk, OnErr, OnOk, if◌then◌else◌, length};
+ghost use Rattle.std.specs.Prelude.{◌≡◌, ◌+◌, IfOk, OnErr, OnOk, None, true, if◌then◌else◌, length};
 ghost use Rattle.busdma_base.specs.Bounce.History.{IsOpening, IsSound};
 ghost use Rattle.lane_core.specs.Turning.{answered, is_held};
 ghost use Rattle.ideal_world.specs.Wires.{WiresFollow};
-ghost use Rattle.ideal_world.specs.World.{step};
+ghost use Rattle.ideal_world.specs.World.{step, step_entry};
 ghost use Rattle.world_core.specs.Ideal.{holds, ideal_world};
 ghost use Rattle.world_core.specs.Wires.{WiresStay, wires_of};
 
 use crate::world::World;
 use bounce_hub::Hub;
-use busdma_base::Actor;
+use busdma_base::{Actor, Side};
 use lane_core::Turn;
 use std::alloc::{AllocError, Global};
 
@@ -35,6 +35,20 @@ impl World<'_> {
         }
         hub_is_sound(&self.hub);
         self.lanes[at].turn(alloc, &mut self.hub, actor.side)
+    }
+
+    /// Whether an actor is a device whose driver has no item for it, so that it makes no step.
+    pub(crate) fn is_idle_device(&self, actor: Actor) -> bool
+        ensures { result ≡ true → step_entry (ideal_world self.now) actor ≡ None }
+    {
+        let Side::Transfer = actor.side else {
+            return false;
+        };
+        let number = actor.lane.0 as usize;
+        if number >= self.lanes.len() {
+            return false;
+        }
+        !self.lanes[number].has_item()
     }
 }
 

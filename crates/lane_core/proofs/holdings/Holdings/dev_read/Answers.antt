@@ -1,5 +1,5 @@
 use Rattle.std.proofs.Common.{◌≡◌, Some, refl, ap, sym, ◌∙◌}
-use Rattle.std.specs.FinMap.{get}
+use Rattle.std.specs.FinMap.{get, insert}
 use Rattle.busdma_base.specs.declared.journals.answer.Answer.TheVariants as answer
 use Rattle.busdma_base.specs.declared.name.MapId.{MapId}
 use Rattle.loan_table.specs.Access.{dev_read_answer}
@@ -13,8 +13,7 @@ use Rattle.lane_core.specs.Kept.{map_of}
 use Rattle.lane_core.proofs.DeviceReads.{dev_read-done, dev_read-past, dev_read-reads, dev_read-refused, load-there}
 use Rattle.lane_core.proofs.Devices.{is-reached}
 use Rattle.lane_core.proofs.MapValues.{image-some}
-use Rattle.lane_core.proofs.Places.{get_removed}
-use Rattle.lane_core.proofs.PutBack.{are-back, ideal-back, pages-back, put-again, put-same, wire-back}
+use Rattle.lane_core.proofs.PutBack.{are-back, ideal-back, pages-back, put-same, wire-back}
 use Rattle.lane_core.proofs.AwaitingSteps.{awaits-same}
 use Rattle.lane_core.proofs.holdings.Holdings.dev_read.Goals as goal
 
@@ -32,31 +31,26 @@ returns-in-Refused-clause-done c =
     c.in_default-past_end.ensures.range c.in-Refused.refusal
     (sym c.in-Refused.is ∙ c.may_dev_read.ensures
     ∙ ap (λ (m : MapId). dev_read_answer (is_known h.loans) (loan_of h.loans.loans m.made_at) c.args.off c.args.len)
-    c.map_id.ensures)
+    c.map_id-id.ensures)
+
+pub returns-in-Refused-clause-awaiting : goal.returns-in-Refused-clause-awaiting
+returns-in-Refused-clause-awaiting c = awaits-same c.args.self.now _ refl refl refl refl refl refl refl
 
 pub read_load-bytes-requires : goal.read_load-bytes-requires
 read_load-bytes-requires c =
     let h = c.args.self.now in
-    let o : KeptMap = c.in-Some-take.kept in
-    let there : get h.maps.map c.args.map ≡ Some o = sym c.take.ensures.value ∙ c.in-Some-take.is in
+    let o : KeptMap = c.in-Some-get_mut.kept.now in
+    let there : get h.maps.map c.args.map ≡ Some o = sym c.in-Some-get_mut.ensures.value in
     let on = sym (ap has_load there) ∙ c.in_default.ensures.loaded in
     is-reached h c.requires c.args.map o there on c.args.off c.args.len c.in_default-past_end.ensures.range
 
-pub put-requires-clause-vacant : goal.put-requires-clause-vacant
-put-requires-clause-vacant c =
-    ap (λ t. get t.map c.args.map) c.in-Some-take.ensures.taken ∙ get_removed c.args.self.now.maps.map c.args.map
-
-pub invariant_of-self : goal.invariant_of-self
-invariant_of-self c =
+pub invariant_of-self-2 : goal.invariant_of-self-2
+invariant_of-self-2 c =
     let h = c.args.self.now in
-    let o : KeptMap = c.in-Some-take.kept in
-    let there : get h.maps.map c.args.map ≡ Some o = sym c.take.ensures.value ∙ c.in-Some-take.is in
-    let put =
-    put-again h.maps c.take.new.self c.put.new.self c.args.map (record o { map = c.read_load-bytes.new.map })
-    c.in-Some-take.ensures.taken c.put.ensures in
-    let maps = put.0 ∙ put-same h.maps.map c.args.map o c.read_load-bytes.new.map there c.read_load-bytes.ensures.kept
-    in
-    let are = are-back h c.put.new.self.map maps in
+    let o : KeptMap = c.in-Some-get_mut.kept.now in
+    let there : get h.maps.map c.args.map ≡ Some o = sym c.in-Some-get_mut.ensures.value in
+    let maps = put-same h.maps.map c.args.map o c.read_load-bytes.new.map there c.read_load-bytes.ensures.kept in
+    let are = are-back h (insert h.maps.map c.args.map (record o { map = c.read_load-bytes.new.map })) maps in
     record {
       covered = h.covered;
       reaches = h.reaches;
@@ -64,7 +58,7 @@ invariant_of-self c =
       placed = h.placed;
       standing = h.standing;
       tag_places = h.tag_places;
-      map_places = put.1 ∙ h.map_places;
+      map_places = h.map_places;
       memory_places = h.memory_places;
       loaded = are.loaded;
       unlent = are.unlent;
@@ -77,105 +71,79 @@ invariant_of-self c =
 pub returns-clause-done : goal.returns-clause-done
 returns-clause-done c =
     let h = c.args.self.now in
-    let o : KeptMap = c.in-Some-take.kept in
-    let there : get h.maps.map c.args.map ≡ Some o = sym c.take.ensures.value ∙ c.in-Some-take.is in
-    let put =
-    put-again h.maps c.take.new.self c.put.new.self c.args.map (record o { map = c.read_load-bytes.new.map })
-    c.in-Some-take.ensures.taken c.put.ensures in
-    let maps = put.0 ∙ put-same h.maps.map c.args.map o c.read_load-bytes.new.map there c.read_load-bytes.ensures.kept
-    in
-    ap (λ s. gives s (answer.Bytes c.in_ok-bytes.field-0)) (ideal-back h c.put.new.self.map maps)
+    let o : KeptMap = c.in-Some-get_mut.kept.now in
+    let there : get h.maps.map c.args.map ≡ Some o = sym c.in-Some-get_mut.ensures.value in
+    let maps = put-same h.maps.map c.args.map o c.read_load-bytes.new.map there c.read_load-bytes.ensures.kept in
+    ap (λ s. gives s (answer.Bytes c.in_ok-bytes.field-0)) (ideal-back h (insert h.maps.map c.args.map (record o { map = c.read_load-bytes.new.map })) maps)
     ∙ dev_read-done h c.args.map c.args.off c.args.len c.in_default.ensures.loaded
     c.in_default-past_end.ensures.range c.requires o there
     (sym c.in_default-may_dev_read.is ∙ c.may_dev_read.ensures
     ∙ ap (λ (m : MapId). dev_read_answer (is_known h.loans) (loan_of h.loans.loans m.made_at) c.args.off c.args.len)
-    c.map_id.ensures)
+    c.map_id-id.ensures)
     c.in_ok-bytes.field-0 c.in_ok-bytes.ensures.bytes
 
 pub returns-clause-read : goal.returns-clause-read
 returns-clause-read c =
     let h = c.args.self.now in
-    let o : KeptMap = c.in-Some-take.kept in
-    let there : get h.maps.map c.args.map ≡ Some o = sym c.take.ensures.value ∙ c.in-Some-take.is in
+    let o : KeptMap = c.in-Some-get_mut.kept.now in
+    let there : get h.maps.map c.args.map ≡ Some o = sym c.in-Some-get_mut.ensures.value in
     dev_read-reads h c.args.map c.args.off c.args.len c.in_default.ensures.loaded
     c.in_default-past_end.ensures.range c.requires o there
     (sym c.in_default-may_dev_read.is ∙ c.may_dev_read.ensures
     ∙ ap (λ (m : MapId). dev_read_answer (is_known h.loans) (loan_of h.loans.loans m.made_at) c.args.off c.args.len)
-    c.map_id.ensures)
+    c.map_id-id.ensures)
     c.in_ok-bytes.field-0 c.in_ok-bytes.ensures.bytes
 
 pub returns-clause-wire : goal.returns-clause-wire
 returns-clause-wire c =
     let h = c.args.self.now in
-    let o : KeptMap = c.in-Some-take.kept in
-    let there : get h.maps.map c.args.map ≡ Some o = sym c.take.ensures.value ∙ c.in-Some-take.is in
-    let put =
-    put-again h.maps c.take.new.self c.put.new.self c.args.map (record o { map = c.read_load-bytes.new.map })
-    c.in-Some-take.ensures.taken c.put.ensures in
-    let maps = put.0 ∙ put-same h.maps.map c.args.map o c.read_load-bytes.new.map there c.read_load-bytes.ensures.kept
-    in
-    wire-back h c.put.new.self.map maps
+    let o : KeptMap = c.in-Some-get_mut.kept.now in
+    let there : get h.maps.map c.args.map ≡ Some o = sym c.in-Some-get_mut.ensures.value in
+    let maps = put-same h.maps.map c.args.map o c.read_load-bytes.new.map there c.read_load-bytes.ensures.kept in
+    wire-back h (insert h.maps.map c.args.map (record o { map = c.read_load-bytes.new.map })) maps
 
 pub returns-clause-kept : goal.returns-clause-kept
 returns-clause-kept c =
     let h = c.args.self.now in
-    let o : KeptMap = c.in-Some-take.kept in
-    let there : get h.maps.map c.args.map ≡ Some o = sym c.take.ensures.value ∙ c.in-Some-take.is in
-    let put =
-    put-again h.maps c.take.new.self c.put.new.self c.args.map (record o { map = c.read_load-bytes.new.map })
-    c.in-Some-take.ensures.taken c.put.ensures in
-    let maps = put.0 ∙ put-same h.maps.map c.args.map o c.read_load-bytes.new.map there c.read_load-bytes.ensures.kept
-    in
+    let o : KeptMap = c.in-Some-get_mut.kept.now in
+    let there : get h.maps.map c.args.map ≡ Some o = sym c.in-Some-get_mut.ensures.value in
+    let maps = put-same h.maps.map c.args.map o c.read_load-bytes.new.map there c.read_load-bytes.ensures.kept in
     record {
-      ideal = ideal-back h c.put.new.self.map maps;
-      bytes = record { own = refl; pages = pages-back h c.put.new.self.map maps };
+      ideal = ideal-back h (insert h.maps.map c.args.map (record o { map = c.read_load-bytes.new.map })) maps;
+      bytes = record { own = refl; pages = pages-back h (insert h.maps.map c.args.map (record o { map = c.read_load-bytes.new.map })) maps };
     }
 
 pub returns-in_err-bytes-clause-wire : goal.returns-in_err-bytes-clause-wire
 returns-in_err-bytes-clause-wire c =
     let h = c.args.self.now in
-    let o : KeptMap = c.in-Some-take.kept in
-    let there : get h.maps.map c.args.map ≡ Some o = sym c.take.ensures.value ∙ c.in-Some-take.is in
-    let put =
-    put-again h.maps c.take.new.self c.put.new.self c.args.map (record o { map = c.read_load-bytes.new.map })
-    c.in-Some-take.ensures.taken c.put.ensures in
-    let maps = put.0 ∙ put-same h.maps.map c.args.map o c.read_load-bytes.new.map there c.read_load-bytes.ensures.kept
-    in
-    wire-back h c.put.new.self.map maps
+    let o : KeptMap = c.in-Some-get_mut.kept.now in
+    let there : get h.maps.map c.args.map ≡ Some o = sym c.in-Some-get_mut.ensures.value in
+    let maps = put-same h.maps.map c.args.map o c.read_load-bytes.new.map there c.read_load-bytes.ensures.kept in
+    wire-back h (insert h.maps.map c.args.map (record o { map = c.read_load-bytes.new.map })) maps
 
 pub returns-in_err-bytes-clause-kept : goal.returns-in_err-bytes-clause-kept
 returns-in_err-bytes-clause-kept c =
     let h = c.args.self.now in
-    let o : KeptMap = c.in-Some-take.kept in
-    let there : get h.maps.map c.args.map ≡ Some o = sym c.take.ensures.value ∙ c.in-Some-take.is in
-    let put =
-    put-again h.maps c.take.new.self c.put.new.self c.args.map (record o { map = c.read_load-bytes.new.map })
-    c.in-Some-take.ensures.taken c.put.ensures in
-    let maps = put.0 ∙ put-same h.maps.map c.args.map o c.read_load-bytes.new.map there c.read_load-bytes.ensures.kept
-    in
+    let o : KeptMap = c.in-Some-get_mut.kept.now in
+    let there : get h.maps.map c.args.map ≡ Some o = sym c.in-Some-get_mut.ensures.value in
+    let maps = put-same h.maps.map c.args.map o c.read_load-bytes.new.map there c.read_load-bytes.ensures.kept in
     record {
-      ideal = ideal-back h c.put.new.self.map maps;
-      bytes = record { own = refl; pages = pages-back h c.put.new.self.map maps };
+      ideal = ideal-back h (insert h.maps.map c.args.map (record o { map = c.read_load-bytes.new.map })) maps;
+      bytes = record { own = refl; pages = pages-back h (insert h.maps.map c.args.map (record o { map = c.read_load-bytes.new.map })) maps };
     }
 
 pub returns-clause-awaiting : goal.returns-clause-awaiting
 returns-clause-awaiting c =
     let h = c.args.self.now in
-    let o : KeptMap = c.in-Some-take.kept in
-    let there : get h.maps.map c.args.map ≡ Some o = sym c.take.ensures.value ∙ c.in-Some-take.is in
-    let put =
-    put-again h.maps c.take.new.self c.put.new.self c.args.map (record o { map = c.read_load-bytes.new.map })
-    c.in-Some-take.ensures.taken c.put.ensures in
+    let o : KeptMap = c.in-Some-get_mut.kept.now in
+    let there : get h.maps.map c.args.map ≡ Some o = sym c.in-Some-get_mut.ensures.value in
     awaits-same h _ refl refl refl refl refl refl
-    (put.0 ∙ put-same h.maps.map c.args.map o c.read_load-bytes.new.map there c.read_load-bytes.ensures.kept)
+    (put-same h.maps.map c.args.map o c.read_load-bytes.new.map there c.read_load-bytes.ensures.kept)
 
 pub returns-in_err-bytes-clause-awaiting : goal.returns-in_err-bytes-clause-awaiting
 returns-in_err-bytes-clause-awaiting c =
     let h = c.args.self.now in
-    let o : KeptMap = c.in-Some-take.kept in
-    let there : get h.maps.map c.args.map ≡ Some o = sym c.take.ensures.value ∙ c.in-Some-take.is in
-    let put =
-    put-again h.maps c.take.new.self c.put.new.self c.args.map (record o { map = c.read_load-bytes.new.map })
-    c.in-Some-take.ensures.taken c.put.ensures in
+    let o : KeptMap = c.in-Some-get_mut.kept.now in
+    let there : get h.maps.map c.args.map ≡ Some o = sym c.in-Some-get_mut.ensures.value in
     awaits-same h _ refl refl refl refl refl refl
-    (put.0 ∙ put-same h.maps.map c.args.map o c.read_load-bytes.new.map there c.read_load-bytes.ensures.kept)
+    (put-same h.maps.map c.args.map o c.read_load-bytes.new.map there c.read_load-bytes.ensures.kept)

@@ -1,9 +1,6 @@
 use Rattle.std.proofs.Common.{◌≡◌, ◌/◌, true, Some, length, ap, sym, ◌∙◌, subst}
-use Rattle.std.specs.FinMap.{contains_key, get}
+use Rattle.std.specs.FinMap.{contains_key, get, insert}
 use Rattle.busdma_base.specs.declared.name.MapId.{MapId}
-use Rattle.busdma_base.specs.Machine.Wire.{with_bytes_of}
-use Rattle.phys_memory.specs.Memory.{wire}
-use Rattle.lane_core.specs.Wire.{held_pages}
 use Rattle.loan_table.specs.Access.{dev_write_answer}
 use Rattle.loan_table.specs.Loans.{load_bytes, loan_of}
 use Rattle.loan_table.specs.Table.{set_all}
@@ -17,8 +14,6 @@ use Rattle.lane_core.proofs.DeviceWrites.{dev_write-done, dev_write-past, dev_wr
 use Rattle.lane_core.proofs.MapTables.{AreMaps}
 use Rattle.lane_core.proofs.MapValues.{image-some}
 use Rattle.lane_core.proofs.Marks.{has_set_all}
-use Rattle.lane_core.proofs.Places.{get_removed}
-use Rattle.lane_core.proofs.PutBack.{put-again}
 use Rattle.lane_core.proofs.Reaching.{same-physical, same-placed, same-standing}
 use Rattle.lane_core.proofs.Repaging.{are-maps}
 use Rattle.std.proofs.Common.{refl}
@@ -34,35 +29,31 @@ returns-in-Some-past_end-clause-done c =
     c.args.off
     c.args.bytes.now c.in-Some-past_end.refusal c.in-Some-past_end.ensures.refused
 
+pub returns-in-Refused-clause-awaiting : goal.returns-in-Refused-clause-awaiting
+returns-in-Refused-clause-awaiting c = awaits-same c.args.self.now _ refl refl refl refl refl refl refl
+
 pub write_load-requires : goal.write_load-requires
 write_load-requires c =
     let h = c.args.self.now in
-    let o : KeptMap = c.in-Some-take.kept in
-    let there : get h.maps.map c.args.map ≡ Some o = sym c.take.ensures.value ∙ c.in-Some-take.is in
+    let o : KeptMap = c.in-Some-get_mut.kept.now in
+    let there : get h.maps.map c.args.map ≡ Some o = sym c.in-Some-get_mut.ensures.value in
     let on = sym (ap has_load there) ∙ c.in_default.ensures.loaded in
     is-reached h c.requires c.args.map o there on c.args.off (length c.args.bytes.now)
     c.in_default-past_end.ensures.range
-
-pub put-requires-clause-vacant : goal.put-requires-clause-vacant
-put-requires-clause-vacant c =
-    ap (λ t. get t.map c.args.map) c.in-Some-take.ensures.taken ∙ get_removed c.args.self.now.maps.map c.args.map
 
 pub invariant_of-self-2 : goal.invariant_of-self-2
 invariant_of-self-2 c =
     let h = c.args.self.now in
     let k = c.args.map in
-    let o : KeptMap = c.in-Some-take.kept in
-    let there : get h.maps.map k ≡ Some o = sym c.take.ensures.value ∙ c.in-Some-take.is in
+    let o : KeptMap = c.in-Some-get_mut.kept.now in
+    let there : get h.maps.map k ≡ Some o = sym c.in-Some-get_mut.ensures.value in
     let on = sym (ap has_load there) ∙ c.in_default.ensures.loaded in
-    let put =
-    put-again h.maps c.take.new.self c.put.new.self k (record o { map = c.write_load.new.map })
-    c.in-Some-take.ensures.taken c.put.ensures in
     let loans = c.note_dev_write.ensures.loans ∙ c.reserve_extents.ensures.same.loans in
     let pas = load_bytes h.loans.loans k c.args.off (length c.args.bytes.now) in
     let one = are-maps h c.requires k o there on c.write_load.new.map c.write_load.ensures.map in
-    let two = subst (λ ms. AreMaps ms h.loans.loans h.agenda.returns h.agenda.promised) (sym put.0) one in
     let are =
-    subst (λ ls. AreMaps c.put.new.self.map ls h.agenda.returns h.agenda.promised) (sym loans) two in
+    subst (λ ls. AreMaps (insert h.maps.map k (record o { map = c.write_load.new.map })) ls h.agenda.returns
+    h.agenda.promised) (sym loans) one in
     let marked =
     c.note_dev_write.ensures.bytes
     ∙ (λ i. set_all (c.reserve_extents.ensures.same.bytes i)
@@ -80,7 +71,7 @@ invariant_of-self-2 c =
       standing = same-standing h.memories.map h.memory.memory c.write_load.new.memory.memory
           c.write_load.ensures.same h.standing;
       tag_places = h.tag_places;
-      map_places = put.1 ∙ h.map_places;
+      map_places = h.map_places;
       memory_places = h.memory_places;
       loaded = are.loaded;
       unlent = are.unlent;
@@ -94,42 +85,35 @@ pub returns-clause-done : goal.returns-clause-done
 returns-clause-done c =
     let h = c.args.self.now in
     let k = c.args.map in
-    let o : KeptMap = c.in-Some-take.kept in
-    let there : get h.maps.map k ≡ Some o = sym c.take.ensures.value ∙ c.in-Some-take.is in
+    let o : KeptMap = c.in-Some-get_mut.kept.now in
+    let there : get h.maps.map k ≡ Some o = sym c.in-Some-get_mut.ensures.value in
     let on = sym (ap has_load there) ∙ c.in_default.ensures.loaded in
-    let put =
-    put-again h.maps c.take.new.self c.put.new.self k (record o { map = c.write_load.new.map })
-    c.in-Some-take.ensures.taken c.put.ensures in
     let fine =
     sym c.in_default-may_dev_write.is ∙ c.may_dev_write.ensures
     ∙ ap (λ (m : MapId). dev_write_answer (loan_of h.loans.loans m.made_at) c.args.off (length c.args.bytes.now))
     c.map_id-id.ensures in
     dev_write-done h c.requires k o there on c.args.off c.args.bytes.now c.in_default-past_end.ensures.range fine
     c.write_load.new.map c.write_load.ensures.map c.write_load.new.memory.memory c.write_load.ensures.view
-    c.note_dev_write.new.self.bytes c.note_dev_write.new.self.loans c.put.new.self.map
+    c.note_dev_write.new.self.bytes c.note_dev_write.new.self.loans (insert h.maps.map k (record o { map = c.write_load.new.map }))
     c.in_default-past_end.ensures.inside
     (c.note_dev_write.ensures.bytes
     ∙ (λ i. set_all (c.reserve_extents.ensures.same.bytes i)
     (load_bytes (c.reserve_extents.ensures.same.loans i)
     (c.map_id-id.ensures i).made_at c.args.off (length c.args.bytes.now)) true))
-    (c.note_dev_write.ensures.loans ∙ c.reserve_extents.ensures.same.loans) put.0
+    (c.note_dev_write.ensures.loans ∙ c.reserve_extents.ensures.same.loans) refl
 
 pub returns-clause-wire : goal.returns-clause-wire
 returns-clause-wire c =
     let h = c.args.self.now in
     let k = c.args.map in
-    let o : KeptMap = c.in-Some-take.kept in
-    let there : get h.maps.map k ≡ Some o = sym c.take.ensures.value ∙ c.in-Some-take.is in
+    let o : KeptMap = c.in-Some-get_mut.kept.now in
+    let there : get h.maps.map k ≡ Some o = sym c.in-Some-get_mut.ensures.value in
     let on = sym (ap has_load there) ∙ c.in_default.ensures.loaded in
-    let put =
-    put-again h.maps c.take.new.self c.put.new.self k (record o { map = c.write_load.new.map })
-    c.in-Some-take.ensures.taken c.put.ensures in
     let fine =
     sym c.in_default-may_dev_write.is ∙ c.may_dev_write.ensures
     ∙ ap (λ (m : MapId). dev_write_answer (loan_of h.loans.loans m.made_at) c.args.off (length c.args.bytes.now))
     c.map_id-id.ensures in
-    ap (λ ms. with_bytes_of (held_pages ms) (wire c.write_load.new.memory.memory)) put.0
-    ∙ dev_write-wire h c.requires k o there on c.args.off c.args.bytes.now c.in_default-past_end.ensures.range fine
+    dev_write-wire h c.requires k o there on c.args.off c.args.bytes.now c.in_default-past_end.ensures.range fine
     c.write_load.new.map c.write_load.ensures.map c.write_load.new.memory.memory c.write_load.ensures.view
 
 pub returns-in_err-reserve_extents-clause-awaiting : goal.returns-in_err-reserve_extents-clause-awaiting
@@ -140,11 +124,8 @@ pub returns-clause-awaiting : goal.returns-clause-awaiting
 returns-clause-awaiting c =
     let h = c.args.self.now in
     let k = c.args.map in
-    let o : KeptMap = c.in-Some-take.kept in
-    let put =
-    put-again h.maps c.take.new.self c.put.new.self k (record o { map = c.write_load.new.map })
-    c.in-Some-take.ensures.taken c.put.ensures in
+    let o : KeptMap = c.in-Some-get_mut.kept.now in
     awaits-put h _ refl refl refl refl
     (c.note_dev_write.ensures.prepared ∙ c.reserve_extents.ensures.same.prepared) refl k
-    (loaded-unkept (get h.maps.map k) c.in_default.ensures.loaded) (record o { map = c.write_load.new.map }) put.0
+    (loaded-unkept (get h.maps.map k) c.in_default.ensures.loaded) (record o { map = c.write_load.new.map }) refl
     (ap (λ m. waiting_load m.stage) c.write_load.ensures.map.is)

@@ -22,7 +22,6 @@ use Rattle.lane_core.proofs.Keeping.{some-there}
 use Rattle.lane_core.proofs.MapTables.{AreMaps, maps-of}
 use Rattle.lane_core.proofs.MapValues.{image-some, map_values-insert}
 use Rattle.lane_core.proofs.Marks.{has_set_all}
-use Rattle.lane_core.proofs.Places.{get_removed, reput}
 use Rattle.lane_core.proofs.Unloaded.{left, maps-unloaded, own-more, pages-few, pages-held}
 use Rattle.lane_core.proofs.UnloadSteps.{left-is, loaded-tried, pages-are, returns-are, zone-is}
 use Rattle.lane_core.proofs.AwaitingSteps.{left-unkept, loaded-unkept, put-reach, put-waiting}
@@ -31,33 +30,27 @@ use Rattle.lane_core.proofs.holdings.Holdings.end_load.Goals as goal
 pub push_returns-requires : goal.push_returns-requires
 push_returns-requires c =
     let h = c.args.self.now in
-    let o : KeptMap = c.in-Some.kept in
+    let o : KeptMap = c.in-Some.kept.now in
     let m : MapId = record { lane = h.id; made_at = c.args.map } in
-    let there : get h.maps.map c.args.map ≡ Some o = sym c.take.ensures.value ∙ c.in-Some.is in
+    let there : get h.maps.map c.args.map ≡ Some o = sym c.in-Some.ensures.value in
     pages-few h.maps.map h.loans.loans h.agenda.returns h.agenda.promised (maps-of h) m o c.unload-pages.result there
     c.unload-pages.ensures.pages
-
-pub put-requires-clause-vacant : goal.put-requires-clause-vacant
-put-requires-clause-vacant c =
-    ap (λ t. get t.map c.args.map) c.in-Some.ensures.taken ∙ get_removed c.args.self.now.maps.map c.args.map
 
 pub invariant_of-self : goal.invariant_of-self
 invariant_of-self c =
     let h = c.args.self.now in
     let k = c.args.map in
-    let o : KeptMap = c.in-Some.kept in
+    let o : KeptMap = c.in-Some.kept.now in
     let p = c.unload-pages.result in
     let m : MapId = record { lane = h.id; made_at = k } in
     let id = c.map_id-id.ensures in
     let zone = c.unwrap_or-zone.result in
-    let there : get h.maps.map k ≡ Some o = sym c.take.ensures.value ∙ c.in-Some.is in
+    let there : get h.maps.map k ≡ Some o = sym c.in-Some.ensures.value in
     let tried : o.map.tried ≡ true =
     loaded-tried (map_of o).stage o.map.tried (sym (ap has_load there) ∙ c.requires)
     (sym (ap is_tried there) ∙ h.tried k) in
-    let after : KeptMap = record o { map = c.unload-pages.new.self } in
-    let maps : c.put.new.self.map ≡ insert h.maps.map k (left o p.items) =
-    ap (λ t. t.map) c.put.ensures ∙ ap (λ t. insert t.map k after) c.in-Some.ensures.taken
-    ∙ reput h.maps.map k after ∙ ap (λ v. insert h.maps.map k (record o { map = v })) c.unload-pages.ensures.left in
+    let maps : insert h.maps.map k (record o { map = c.unload-pages.new.self }) ≡ insert h.maps.map k (left o p.items) =
+    ap (λ v. insert h.maps.map k (record o { map = v })) c.unload-pages.ensures.left in
     let loans : c.forget.new.self.loans ≡ remove h.loans.loans k =
     c.forget.ensures.loans ∙ ap (λ (x : MapId). remove h.loans.loans x.made_at) id in
     let agenda = c.push_returns.ensures
@@ -72,10 +65,10 @@ invariant_of-self c =
     subst (λ ms. AreMaps ms (remove h.loans.loans k) (h.agenda.returns ++ queued_pages m zone p.items)
     (h.agenda.promised - length p.items)) (sym maps) base in
     let two =
-    subst (λ ls. AreMaps c.put.new.self.map ls (h.agenda.returns ++ queued_pages m zone p.items)
+    subst (λ ls. AreMaps (insert h.maps.map k (record o { map = c.unload-pages.new.self })) ls (h.agenda.returns ++ queued_pages m zone p.items)
     (h.agenda.promised - length p.items)) (sym loans) one in
     let are =
-    subst (λ a. AreMaps c.put.new.self.map c.forget.new.self.loans a.returns a.promised) (sym agenda) two in
+    subst (λ a. AreMaps (insert h.maps.map k (record o { map = c.unload-pages.new.self })) c.forget.new.self.loans a.returns a.promised) (sym agenda) two in
     record {
       covered = λ a. ap (λ b. contains_key b a) c.forget.ensures.bytes
           ∙ has_set_all _ _ _ c.forget.ensures.there a ∙ h.covered a;
@@ -84,8 +77,7 @@ invariant_of-self c =
       placed = h.placed;
       standing = h.standing;
       tag_places = h.tag_places ∙ sym (ap (λ a. a.length) agenda);
-      map_places = ap (λ t. t.places) c.put.ensures ∙ ap (λ t. t.places) c.in-Some.ensures.taken
-          ∙ h.map_places ∙ sym (ap (λ a. a.length) agenda);
+      map_places = h.map_places ∙ sym (ap (λ a. a.length) agenda);
       memory_places = h.memory_places ∙ sym (ap (λ a. a.length) agenda);
       loaded = are.loaded;
       unlent = are.unlent;
@@ -101,21 +93,19 @@ returns-in-Some-clause-done c other found =
     let h = c.args.self.now in
     let l = ideal_of h in
     let k = c.args.map in
-    let o : KeptMap = c.in-Some.kept in
+    let o : KeptMap = c.in-Some.kept.now in
     let p = c.unload-pages.result in
     let m : MapId = record { lane = h.id; made_at = k } in
     let id = c.map_id-id.ensures in
     let zone = c.unwrap_or-zone.result in
-    let there : get h.maps.map k ≡ Some o = sym c.take.ensures.value ∙ c.in-Some.is in
+    let there : get h.maps.map k ≡ Some o = sym c.in-Some.ensures.value in
     let is : get l.maps k ≡ Some (map_of o) = image-some map_of h.maps.map k o there in
     let same : map_of o ≡ other = cc in
     let tried : o.map.tried ≡ true =
     loaded-tried (map_of o).stage o.map.tried (sym (ap has_load there) ∙ c.requires)
     (sym (ap is_tried there) ∙ h.tried k) in
-    let after : KeptMap = record o { map = c.unload-pages.new.self } in
-    let maps : c.put.new.self.map ≡ insert h.maps.map k (left o p.items) =
-    ap (λ t. t.map) c.put.ensures ∙ ap (λ t. insert t.map k after) c.in-Some.ensures.taken
-    ∙ reput h.maps.map k after ∙ ap (λ v. insert h.maps.map k (record o { map = v })) c.unload-pages.ensures.left in
+    let maps : insert h.maps.map k (record o { map = c.unload-pages.new.self }) ≡ insert h.maps.map k (left o p.items) =
+    ap (λ v. insert h.maps.map k (record o { map = v })) c.unload-pages.ensures.left in
     let loans : c.forget.new.self.loans ≡ remove h.loans.loans k =
     c.forget.ensures.loans ∙ ap (λ (x : MapId). remove h.loans.loans x.made_at) id in
     let bytes : c.forget.new.self.bytes ≡ set_all h.loans.bytes (lost_by_forgetting h.loans.loans k) false =
@@ -144,8 +134,8 @@ returns-in-Some-clause-done c other found =
     ∙ zone-is o.map.zone in
     let now : LaneState = record l {
       place = c.push_returns.new.self.place;
-      maps = map_values map_of c.put.new.self.map;
-      memory = held_memory c.forget.new.self.bytes c.forget.new.self.loans (devices_of c.put.new.self.map)
+      maps = map_values map_of (insert h.maps.map k (record o { map = c.unload-pages.new.self }));
+      memory = held_memory c.forget.new.self.bytes c.forget.new.self.loans (devices_of (insert h.maps.map k (record o { map = c.unload-pages.new.self })))
           h.memory.memory;
       loans = c.forget.new.self.loans;
       queue = c.push_returns.new.self.queue;
@@ -171,14 +161,12 @@ pub returns-in-Some-clause-bytes : goal.returns-in-Some-clause-bytes
 returns-in-Some-clause-bytes c =
     let h = c.args.self.now in
     let k = c.args.map in
-    let o : KeptMap = c.in-Some.kept in
+    let o : KeptMap = c.in-Some.kept.now in
     let p = c.unload-pages.result in
     let m : MapId = record { lane = h.id; made_at = k } in
-    let there : get h.maps.map k ≡ Some o = sym c.take.ensures.value ∙ c.in-Some.is in
-    let after : KeptMap = record o { map = c.unload-pages.new.self } in
-    let maps : c.put.new.self.map ≡ insert h.maps.map k (left o p.items) =
-    ap (λ t. t.map) c.put.ensures ∙ ap (λ t. insert t.map k after) c.in-Some.ensures.taken
-    ∙ reput h.maps.map k after ∙ ap (λ v. insert h.maps.map k (record o { map = v })) c.unload-pages.ensures.left in
+    let there : get h.maps.map k ≡ Some o = sym c.in-Some.ensures.value in
+    let maps : insert h.maps.map k (record o { map = c.unload-pages.new.self }) ≡ insert h.maps.map k (left o p.items) =
+    ap (λ v. insert h.maps.map k (record o { map = v })) c.unload-pages.ensures.left in
     record {
       own = refl;
       pages =
@@ -190,27 +178,18 @@ pub returns-in-Some-clause-others : goal.returns-in-Some-clause-others
 returns-in-Some-clause-others c =
     let h = c.args.self.now in
     let k = c.args.map in
-    let o : KeptMap = c.in-Some.kept in
+    let o : KeptMap = c.in-Some.kept.now in
     let after : KeptMap = record o { map = c.unload-pages.new.self } in
-    let maps : c.put.new.self.map ≡ insert h.maps.map k after =
-    ap (λ t. t.map) c.put.ensures ∙ ap (λ t. insert t.map k after) c.in-Some.ensures.taken ∙ reput h.maps.map k
-    after in
-    record {
-      own = refl;
-      pages = λ m off. ap (λ ms. (devices_of ms m).pages) maps
-          ∙ ap (λ d. d.pages) (devices-elsewhere h.maps.map k after m off);
-    }
+    record { own = refl; pages = λ m off. ap (λ d. d.pages) (devices-elsewhere h.maps.map k after m off) }
 
 pub returns-in-Some-clause-waiting : goal.returns-in-Some-clause-waiting
 returns-in-Some-clause-waiting c =
     let h = c.args.self.now in
     let k = c.args.map in
-    let o : KeptMap = c.in-Some.kept in
+    let o : KeptMap = c.in-Some.kept.now in
     let p = c.unload-pages.result in
-    let after : KeptMap = record o { map = c.unload-pages.new.self } in
-    let maps : c.put.new.self.map ≡ insert h.maps.map k (left o p.items) =
-    ap (λ t. t.map) c.put.ensures ∙ ap (λ t. insert t.map k after) c.in-Some.ensures.taken
-    ∙ reput h.maps.map k after ∙ ap (λ v. insert h.maps.map k (record o { map = v })) c.unload-pages.ensures.left in
+    let maps : insert h.maps.map k (record o { map = c.unload-pages.new.self }) ≡ insert h.maps.map k (left o p.items) =
+    ap (λ v. insert h.maps.map k (record o { map = v })) c.unload-pages.ensures.left in
     put-waiting h _ refl refl refl refl c.forget.ensures.prepared refl k
     (loaded-unkept (get h.maps.map k) c.requires) (left o p.items) maps (left-unkept p.items)
 
@@ -218,12 +197,10 @@ pub returns-in-Some-clause-reach : goal.returns-in-Some-clause-reach
 returns-in-Some-clause-reach c =
     let h = c.args.self.now in
     let k = c.args.map in
-    let o : KeptMap = c.in-Some.kept in
+    let o : KeptMap = c.in-Some.kept.now in
     let p = c.unload-pages.result in
-    let after : KeptMap = record o { map = c.unload-pages.new.self } in
-    let maps : c.put.new.self.map ≡ insert h.maps.map k (left o p.items) =
-    ap (λ t. t.map) c.put.ensures ∙ ap (λ t. insert t.map k after) c.in-Some.ensures.taken
-    ∙ reput h.maps.map k after ∙ ap (λ v. insert h.maps.map k (record o { map = v })) c.unload-pages.ensures.left in
+    let maps : insert h.maps.map k (record o { map = c.unload-pages.new.self }) ≡ insert h.maps.map k (left o p.items) =
+    ap (λ v. insert h.maps.map k (record o { map = v })) c.unload-pages.ensures.left in
     put-reach h _ refl refl refl refl c.forget.ensures.prepared refl k
     (loaded-unkept (get h.maps.map k) c.requires) (left o p.items) maps (left-unkept p.items)
 

@@ -13,33 +13,25 @@ use Rattle.lane_core.proofs.Keeping.{idle-map, idle-stands, idle-state}
 use Rattle.lane_core.proofs.Loaded.{loans-stay, maps-staged}
 use Rattle.lane_core.proofs.MapTables.{AreMaps, maps-of, told-put}
 use Rattle.lane_core.proofs.MapValues.{image-some, map_values-insert}
-use Rattle.lane_core.proofs.Places.{get_removed, reput}
 use Rattle.lane_core.proofs.holdings.Holdings.note_tried.Goals as goal
 
 pub note_tried-requires : goal.note_tried-requires
 note_tried-requires c =
-    let o : KeptMap = c.in-Some.kept in
-    let there : get c.args.self.now.maps.map c.args.map ≡ Some o = sym c.take.ensures.value ∙ c.in-Some.is in
+    let o : KeptMap = c.in-Some.kept.now in
+    let there : get c.args.self.now.maps.map c.args.map ≡ Some o = sym c.in-Some.ensures.value in
     idle-state o.need o.map.stage (sym (ap is_idle_map there) ∙ c.requires)
-
-pub put-requires-clause-vacant : goal.put-requires-clause-vacant
-put-requires-clause-vacant c =
-    ap (λ t. get t.map c.args.map) c.in-Some.ensures.taken ∙ get_removed c.args.self.now.maps.map c.args.map
 
 pub invariant_of-self : goal.invariant_of-self
 invariant_of-self c =
     let h = c.args.self.now in
     let k = c.args.map in
-    let o : KeptMap = c.in-Some.kept in
-    let there : get h.maps.map k ≡ Some o = sym c.take.ensures.value ∙ c.in-Some.is in
+    let o : KeptMap = c.in-Some.kept.now in
+    let there : get h.maps.map k ≡ Some o = sym c.in-Some.ensures.value in
     let idle = idle-map o (sym (ap is_idle_map there) ∙ c.requires) in
     let v : KeptMap = record o { map = record o.map { tried = true } } in
     let now = idle-map v (sym (ap is_idle_map there) ∙ c.requires) in
-    let maps : c.put.new.self.map ≡ insert h.maps.map k v =
-    ap (λ t. t.map) c.put.ensures ∙ ap (λ t. insert t.map k (record o { map = c.note_tried.new.self }))
-    c.in-Some.ensures.taken
-    ∙ reput h.maps.map k (record o { map = c.note_tried.new.self })
-    ∙ ap (λ x. insert h.maps.map k (record o { map = x })) c.note_tried.ensures in
+    let maps : insert h.maps.map k (record o { map = c.note_tried.new.self }) ≡ insert h.maps.map k v =
+    ap (λ x. insert h.maps.map k (record o { map = x })) c.note_tried.ensures in
     let fits : pages_due h.maps.map + due_of v ≤ h.agenda.promised = omega (arith, now.undue, h.promised) in
     let are =
     subst (λ ms. AreMaps ms h.loans.loans h.agenda.returns h.agenda.promised) (sym maps)
@@ -53,7 +45,7 @@ invariant_of-self c =
       placed = h.placed;
       standing = h.standing;
       tag_places = h.tag_places;
-      map_places = ap (λ t. t.places) c.put.ensures ∙ ap (λ t. t.places) c.in-Some.ensures.taken ∙ h.map_places;
+      map_places = h.map_places;
       memory_places = h.memory_places;
       loaded = are.loaded;
       unlent = are.unlent;
@@ -68,17 +60,14 @@ returns-in-Some-clause-done c other found =
     let h = c.args.self.now in
     let l = ideal_of h in
     let k = c.args.map in
-    let o : KeptMap = c.in-Some.kept in
-    let there : get h.maps.map k ≡ Some o = sym c.take.ensures.value ∙ c.in-Some.is in
+    let o : KeptMap = c.in-Some.kept.now in
+    let there : get h.maps.map k ≡ Some o = sym c.in-Some.ensures.value in
     let on = sym (ap is_idle_map there) ∙ c.requires in
     let idle = idle-map o on in
     let v : KeptMap = record o { map = record o.map { tried = true } } in
     let now = idle-map v on in
-    let maps : c.put.new.self.map ≡ insert h.maps.map k v =
-    ap (λ t. t.map) c.put.ensures ∙ ap (λ t. insert t.map k (record o { map = c.note_tried.new.self }))
-    c.in-Some.ensures.taken
-    ∙ reput h.maps.map k (record o { map = c.note_tried.new.self })
-    ∙ ap (λ x. insert h.maps.map k (record o { map = x })) c.note_tried.ensures in
+    let maps : insert h.maps.map k (record o { map = c.note_tried.new.self }) ≡ insert h.maps.map k v =
+    ap (λ x. insert h.maps.map k (record o { map = x })) c.note_tried.ensures in
     let is : get l.maps k ≡ Some (map_of o) = image-some map_of h.maps.map k o there in
     let same : map_of o ≡ other = cc in
     let bare : device_of (Some v) ≡ device_of (get h.maps.map k) = now.unheld ∙ sym
@@ -96,17 +85,14 @@ pub returns-in-Some-clause-bytes : goal.returns-in-Some-clause-bytes
 returns-in-Some-clause-bytes c =
     let h = c.args.self.now in
     let k = c.args.map in
-    let o : KeptMap = c.in-Some.kept in
-    let there : get h.maps.map k ≡ Some o = sym c.take.ensures.value ∙ c.in-Some.is in
+    let o : KeptMap = c.in-Some.kept.now in
+    let there : get h.maps.map k ≡ Some o = sym c.in-Some.ensures.value in
     let on = sym (ap is_idle_map there) ∙ c.requires in
     let idle = idle-map o on in
     let v : KeptMap = record o { map = record o.map { tried = true } } in
     let now = idle-map v on in
-    let maps : c.put.new.self.map ≡ insert h.maps.map k v =
-    ap (λ t. t.map) c.put.ensures ∙ ap (λ t. insert t.map k (record o { map = c.note_tried.new.self }))
-    c.in-Some.ensures.taken
-    ∙ reput h.maps.map k (record o { map = c.note_tried.new.self })
-    ∙ ap (λ x. insert h.maps.map k (record o { map = x })) c.note_tried.ensures in
+    let maps : insert h.maps.map k (record o { map = c.note_tried.new.self }) ≡ insert h.maps.map k v =
+    ap (λ x. insert h.maps.map k (record o { map = x })) c.note_tried.ensures in
     let bare : device_of (Some v) ≡ device_of (get h.maps.map k) = now.unheld ∙ sym
     (ap device_of there ∙ idle.unheld) in
     record {
@@ -118,14 +104,11 @@ pub returns-in-Some-clause-waiting : goal.returns-in-Some-clause-waiting
 returns-in-Some-clause-waiting c =
     let h = c.args.self.now in
     let k = c.args.map in
-    let o : KeptMap = c.in-Some.kept in
-    let there : get h.maps.map k ≡ Some o = sym c.take.ensures.value ∙ c.in-Some.is in
+    let o : KeptMap = c.in-Some.kept.now in
+    let there : get h.maps.map k ≡ Some o = sym c.in-Some.ensures.value in
     let v : KeptMap = record o { map = record o.map { tried = true } } in
-    let maps : c.put.new.self.map ≡ insert h.maps.map k v =
-    ap (λ t. t.map) c.put.ensures ∙ ap (λ t. insert t.map k (record o { map = c.note_tried.new.self }))
-    c.in-Some.ensures.taken
-    ∙ reput h.maps.map k (record o { map = c.note_tried.new.self })
-    ∙ ap (λ x. insert h.maps.map k (record o { map = x })) c.note_tried.ensures in
+    let maps : insert h.maps.map k (record o { map = c.note_tried.new.self }) ≡ insert h.maps.map k v =
+    ap (λ x. insert h.maps.map k (record o { map = x })) c.note_tried.ensures in
     record {
       kept = λ m. ap (λ ms. kept_load (get ms m)) maps
           ∙ told-put kept_load h.maps.map k v (sym (ap kept_load there)) m;

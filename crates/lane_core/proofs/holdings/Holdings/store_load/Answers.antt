@@ -21,18 +21,13 @@ use Rattle.lane_core.proofs.Keeping.{idle-map, idle-state}
 use Rattle.lane_core.proofs.Loaded.{held-loaded, loans-more, maps-staged, none-loaned}
 use Rattle.lane_core.proofs.MapTables.{AreMaps, maps-of, told-put}
 use Rattle.lane_core.proofs.MapValues.{image-some, map_values-insert}
-use Rattle.lane_core.proofs.Places.{get_removed, reput}
 use Rattle.lane_core.proofs.holdings.Holdings.store_load.Goals as goal
 
 pub finish-requires : goal.finish-requires
 finish-requires c =
-    let o : KeptMap = c.in-Some.kept in
-    let there : get c.args.self.now.maps.map c.args.map ≡ Some o = sym c.take.ensures.value ∙ c.in-Some.is in
+    let o : KeptMap = c.in-Some.kept.now in
+    let there : get c.args.self.now.maps.map c.args.map ≡ Some o = sym c.in-Some.ensures.value in
     idle-state o.need o.map.stage (sym (ap is_idle_map there) ∙ c.requires.idle)
-
-pub put-requires-clause-vacant : goal.put-requires-clause-vacant
-put-requires-clause-vacant c =
-    ap (λ t. get t.map c.args.map) c.in-Some.ensures.taken ∙ get_removed c.args.self.now.maps.map c.args.map
 
 pub open_map-requires : goal.open_map-requires
 open_map-requires c =
@@ -43,17 +38,14 @@ pub invariant_of-self : goal.invariant_of-self
 invariant_of-self c =
     let h = c.args.self.now in
     let k = c.args.map in
-    let o : KeptMap = c.in-Some.kept in
-    let there : get h.maps.map k ≡ Some o = sym c.take.ensures.value ∙ c.in-Some.is in
+    let o : KeptMap = c.in-Some.kept.now in
+    let there : get h.maps.map k ≡ Some o = sym c.in-Some.ensures.value in
     let idle = idle-map o (sym (ap is_idle_map there) ∙ c.requires.idle) in
     let v : KeptMap = record o {
       map = record o.map { tried = true; stage = loaded c.args.bounced c.args.segments c.args.pages };
     } in
-    let maps : c.put.new.self.map ≡ insert h.maps.map k v =
-    ap (λ t. t.map) c.put.ensures ∙ ap (λ t. insert t.map k (record o { map = c.finish.new.self }))
-    c.in-Some.ensures.taken
-    ∙ reput h.maps.map k (record o { map = c.finish.new.self })
-    ∙ ap (λ x. insert h.maps.map k (record o { map = x })) c.finish.ensures in
+    let maps : insert h.maps.map k (record o { map = c.finish.new.self }) ≡ insert h.maps.map k v =
+    ap (λ x. insert h.maps.map k (record o { map = x })) c.finish.ensures in
     let loan = loan_of h.loans.prepared k in
     let loans : c.open_map.new.self.loans ≡ insert h.loans.loans k loan =
     c.open_map.ensures.loans
@@ -66,7 +58,9 @@ invariant_of-self c =
     refl refl refl fits in
     let one =
     subst (λ ms. AreMaps ms (insert h.loans.loans k loan) h.agenda.returns h.agenda.promised) (sym maps) base in
-    let are = subst (λ ls. AreMaps c.put.new.self.map ls h.agenda.returns h.agenda.promised) (sym loans) one in
+    let are =
+    subst (λ ls. AreMaps (insert h.maps.map k (record o { map = c.finish.new.self })) ls h.agenda.returns
+    h.agenda.promised) (sym loans) one in
     record {
       covered = λ a. ap (λ b. contains_key b a) c.open_map.ensures.bytes ∙ h.covered a;
       reaches = h.reaches;
@@ -74,8 +68,7 @@ invariant_of-self c =
       placed = h.placed;
       standing = h.standing;
       tag_places = h.tag_places;
-      map_places = ap (λ t. t.places) c.put.ensures ∙ ap (λ t. t.places) c.in-Some.ensures.taken
-          ∙ h.map_places;
+      map_places = h.map_places;
       memory_places = h.memory_places;
       loaded = are.loaded;
       unlent = are.unlent;
@@ -90,17 +83,14 @@ returns-in-Some-clause-done c other found =
     let h = c.args.self.now in
     let l = ideal_of h in
     let k = c.args.map in
-    let o : KeptMap = c.in-Some.kept in
-    let there : get h.maps.map k ≡ Some o = sym c.take.ensures.value ∙ c.in-Some.is in
+    let o : KeptMap = c.in-Some.kept.now in
+    let there : get h.maps.map k ≡ Some o = sym c.in-Some.ensures.value in
     let idle = idle-map o (sym (ap is_idle_map there) ∙ c.requires.idle) in
     let v : KeptMap = record o {
       map = record o.map { tried = true; stage = loaded c.args.bounced c.args.segments c.args.pages };
     } in
-    let maps : c.put.new.self.map ≡ insert h.maps.map k v =
-    ap (λ t. t.map) c.put.ensures ∙ ap (λ t. insert t.map k (record o { map = c.finish.new.self }))
-    c.in-Some.ensures.taken
-    ∙ reput h.maps.map k (record o { map = c.finish.new.self })
-    ∙ ap (λ x. insert h.maps.map k (record o { map = x })) c.finish.ensures in
+    let maps : insert h.maps.map k (record o { map = c.finish.new.self }) ≡ insert h.maps.map k v =
+    ap (λ x. insert h.maps.map k (record o { map = x })) c.finish.ensures in
     let loan = loan_of h.loans.prepared k in
     let loans : c.open_map.new.self.loans ≡ insert h.loans.loans k loan =
     c.open_map.ensures.loans
@@ -129,30 +119,20 @@ pub returns-in-Some-clause-bytes : goal.returns-in-Some-clause-bytes
 returns-in-Some-clause-bytes c =
     let h = c.args.self.now in
     let k = c.args.map in
-    let o : KeptMap = c.in-Some.kept in
+    let o : KeptMap = c.in-Some.kept.now in
     let after : KeptMap = record o { map = c.finish.new.self } in
-    let maps : c.put.new.self.map ≡ insert h.maps.map k after =
-    ap (λ t. t.map) c.put.ensures ∙ ap (λ t. insert t.map k after) c.in-Some.ensures.taken ∙ reput h.maps.map k
-    after in
-    record {
-      own = refl;
-      pages = λ m off. ap (λ ms. (devices_of ms m).pages) maps
-          ∙ ap (λ d. d.pages) (devices-elsewhere h.maps.map k after m off);
-    }
+    record { own = refl; pages = λ m off. ap (λ d. d.pages) (devices-elsewhere h.maps.map k after m off) }
 
 pub returns-in-Some-clause-loaded : goal.returns-in-Some-clause-loaded
 returns-in-Some-clause-loaded c =
     let h = c.args.self.now in
     let k = c.args.map in
-    let o : KeptMap = c.in-Some.kept in
+    let o : KeptMap = c.in-Some.kept.now in
     let v : KeptMap = record o {
       map = record o.map { tried = true; stage = loaded c.args.bounced c.args.segments c.args.pages };
     } in
-    let maps : c.put.new.self.map ≡ insert h.maps.map k v =
-    ap (λ t. t.map) c.put.ensures ∙ ap (λ t. insert t.map k (record o { map = c.finish.new.self }))
-    c.in-Some.ensures.taken
-    ∙ reput h.maps.map k (record o { map = c.finish.new.self })
-    ∙ ap (λ x. insert h.maps.map k (record o { map = x })) c.finish.ensures in
+    let maps : insert h.maps.map k (record o { map = c.finish.new.self }) ≡ insert h.maps.map k v =
+    ap (λ x. insert h.maps.map k (record o { map = x })) c.finish.ensures in
     ap (λ ms. has_load (get ms k)) maps ∙ ap has_load (get_put h.maps.map k v k)
     ∙ ap (λ b. has_load (cond b (Some v) (get h.maps.map k))) (eq-eqb k k refl)
 
@@ -160,15 +140,12 @@ pub returns-in-Some-clause-kept : goal.returns-in-Some-clause-kept
 returns-in-Some-clause-kept c m =
     let h = c.args.self.now in
     let k = c.args.map in
-    let o : KeptMap = c.in-Some.kept in
+    let o : KeptMap = c.in-Some.kept.now in
     let v : KeptMap = record o {
       map = record o.map { tried = true; stage = loaded c.args.bounced c.args.segments c.args.pages };
     } in
-    let maps : c.put.new.self.map ≡ insert h.maps.map k v =
-    ap (λ t. t.map) c.put.ensures ∙ ap (λ t. insert t.map k (record o { map = c.finish.new.self }))
-    c.in-Some.ensures.taken
-    ∙ reput h.maps.map k (record o { map = c.finish.new.self })
-    ∙ ap (λ x. insert h.maps.map k (record o { map = x })) c.finish.ensures in
+    let maps : insert h.maps.map k (record o { map = c.finish.new.self }) ≡ insert h.maps.map k v =
+    ap (λ x. insert h.maps.map k (record o { map = x })) c.finish.ensures in
     ap (λ ms. kept_load (get ms m)) maps
     ∙ told-put kept_load h.maps.map k v (sym (idle-unkept (get h.maps.map k) c.requires.idle)) m
 

@@ -1,17 +1,15 @@
 use Rattle.std.proofs.Common.{◌≡◌, ◌/◌, ◌&&◌, ◌||◌, false, Some, ap, sym, ◌∙◌, subst}
 use Rattle.std.specs.List.{list_any}
 use Rattle.std.specs.Option.{option_map}
-use Rattle.std.specs.FinMap.{contains_key, get}
+use Rattle.std.specs.FinMap.{contains_key, get, insert}
 use Rattle.busdma_base.specs.declared.journals.report.Judged.TheVariants.{Fine}
 use Rattle.busdma_base.specs.declared.name.MapId.{MapId}
 use Rattle.busdma_base.specs.declared.name.ZoneId.{ZoneId}
-use Rattle.busdma_base.specs.Machine.Wire.{with_bytes_of}
 use Rattle.dma_map.specs.MapView.{chunks_of}
 use Rattle.dma_tag.specs.SyncOps.{is_mixed, postread, prewrite}
 use Rattle.loan_table.specs.Lending.{lost, sync_answer}
 use Rattle.loan_table.specs.Lending as lending
 use Rattle.loan_table.specs.Table.{AreIn, IsSame, IsSynced, set_all}
-use Rattle.phys_memory.specs.Memory.{wire}
 use Rattle.ideal_lane.specs.Syncs.{counted, has_byte_of, sync_part}
 use Rattle.ideal_wire.specs.WireStep as wires
 use Rattle.ideal_wire.specs.WireStep.{if_done}
@@ -20,12 +18,10 @@ use Rattle.lane_core.specs.declared.kept.KeptMap.{KeptMap}
 use Rattle.lane_core.specs.Covered.{has_load}
 use Rattle.lane_core.specs.Ideal.{ideal_of}
 use Rattle.lane_core.specs.Kept.{map_of, share_of}
-use Rattle.lane_core.specs.Wire.{held_pages, wire_of}
+use Rattle.lane_core.specs.Wire.{wire_of}
 use Rattle.lane_core.proofs.Bouncing.{is-bounced}
 use Rattle.lane_core.proofs.MapValues.{image-some}
 use Rattle.lane_core.proofs.Marks.{has_set_all}
-use Rattle.lane_core.proofs.Places.{get_removed}
-use Rattle.lane_core.proofs.PutBack.{put-again}
 use Rattle.lane_core.proofs.Reaching.{same-physical, same-placed, same-standing}
 use Rattle.lane_core.proofs.Syncing.{are-synced, part-done, part-wire}
 use Rattle.std.proofs.Common.{refl}
@@ -36,25 +32,18 @@ use Rattle.lane_core.proofs.holdings.Holdings.sync_part.Goals as goal
 pub copy_part-requires-clause-bounced : goal.copy_part-requires-clause-bounced
 copy_part-requires-clause-bounced c =
     let h = c.args.self.now in
-    let o : KeptMap = c.in-Some.kept in
-    let there : get h.maps.map c.args.map ≡ Some o = sym c.take.ensures.value ∙ c.in-Some.is in
+    let o : KeptMap = c.in-Some.kept.now in
+    let there : get h.maps.map c.args.map ≡ Some o = sym c.in-Some.ensures.value in
     is-bounced h c.requires.wired c.args.map o there (sym (ap has_load there) ∙ c.requires.loaded)
-
-pub put-requires-clause-vacant : goal.put-requires-clause-vacant
-put-requires-clause-vacant c =
-    ap (λ t. get t.map c.args.map) c.in-Some.ensures.taken ∙ get_removed c.args.self.now.maps.map c.args.map
 
 pub invariant_of-self-2 : goal.invariant_of-self-2
 invariant_of-self-2 c =
     let h = c.args.self.now in
     let k = c.args.map in
     let ops = c.args.ops.0 in
-    let o : KeptMap = c.in-Some.kept in
-    let there : get h.maps.map k ≡ Some o = sym c.take.ensures.value ∙ c.in-Some.is in
+    let o : KeptMap = c.in-Some.kept.now in
+    let there : get h.maps.map k ≡ Some o = sym c.in-Some.ensures.value in
     let on = sym (ap has_load there) ∙ c.requires.loaded in
-    let put =
-    put-again h.maps c.take.new.self c.put.new.self k (record o { map = c.copy_part.new.map })
-    c.in-Some.ensures.taken c.put.ensures in
     let alone : is_mixed ops ≡ false = sym c.is_mixed.ensures ∙ c.if-is_mixed.false in
     let same = c.reserve_extents.ensures.same in
     let answer = c.sync_loans.ensures.answer
@@ -81,7 +70,7 @@ invariant_of-self-2 c =
     let maps =
     are-synced h c.requires.wired k o there on c.copy_part.new.map c.copy_part.ensures.map
     c.copy_part.new.memory.memory c.args.off c.args.len ops c.copy_part.ensures.view c.requires.range alone fine
-    c.put.new.self.map c.sync_loans.new.loans.loans put.0 loans in
+    (insert h.maps.map k (record o { map = c.copy_part.new.map })) c.sync_loans.new.loans.loans refl loans in
     record {
       covered = λ a. ap (λ b. contains_key b a) marks
           ∙ has_set_all h.loans.bytes (lost h.loans.loans k c.args.off c.args.len ops) false are a
@@ -93,7 +82,7 @@ invariant_of-self-2 c =
       standing = same-standing h.memories.map h.memory.memory c.copy_part.new.memory.memory
           c.copy_part.ensures.same h.standing;
       tag_places = h.tag_places;
-      map_places = put.1 ∙ h.map_places;
+      map_places = h.map_places;
       memory_places = h.memory_places;
       loaded = maps.loaded;
       unlent = maps.unlent;
@@ -108,12 +97,9 @@ returns-clause-done c other found =
     let h = c.args.self.now in
     let k = c.args.map in
     let ops = c.args.ops.0 in
-    let o : KeptMap = c.in-Some.kept in
-    let there : get h.maps.map k ≡ Some o = sym c.take.ensures.value ∙ c.in-Some.is in
+    let o : KeptMap = c.in-Some.kept.now in
+    let there : get h.maps.map k ≡ Some o = sym c.in-Some.ensures.value in
     let on = sym (ap has_load there) ∙ c.requires.loaded in
-    let put =
-    put-again h.maps c.take.new.self c.put.new.self k (record o { map = c.copy_part.new.map })
-    c.in-Some.ensures.taken c.put.ensures in
     let alone : is_mixed ops ≡ false = sym c.is_mixed.ensures ∙ c.if-is_mixed.false in
     let same = c.reserve_extents.ensures.same in
     let answer = c.sync_loans.ensures.answer
@@ -145,8 +131,8 @@ returns-clause-done c other found =
     found_one (get (ideal_of h).maps k) (map_of o) other (image-some map_of h.maps.map k o there) found in
     part-done h c.requires.wired k o there on c.copy_part.new.map c.copy_part.ensures.map
     c.copy_part.new.memory.memory c.args.off c.args.len ops c.copy_part.ensures.view c.requires.range alone fine
-    c.sync_loans.new.loans.bytes c.sync_loans.new.loans.loans c.put.new.self.map c.copy_part.new.shares.items are marks
-    loans put.0 shares
+    c.sync_loans.new.loans.bytes c.sync_loans.new.loans.loans (insert h.maps.map k (record o { map = c.copy_part.new.map })) c.copy_part.new.shares.items are marks
+    loans refl shares
     ∙ ap (λ y. sync_part k y c.args.off c.args.len ops (ideal_of h)) is
 
 pub returns-clause-wire : goal.returns-clause-wire
@@ -154,12 +140,9 @@ returns-clause-wire c other found =
     let h = c.args.self.now in
     let k = c.args.map in
     let ops = c.args.ops.0 in
-    let o : KeptMap = c.in-Some.kept in
-    let there : get h.maps.map k ≡ Some o = sym c.take.ensures.value ∙ c.in-Some.is in
+    let o : KeptMap = c.in-Some.kept.now in
+    let there : get h.maps.map k ≡ Some o = sym c.in-Some.ensures.value in
     let on = sym (ap has_load there) ∙ c.requires.loaded in
-    let put =
-    put-again h.maps c.take.new.self c.put.new.self k (record o { map = c.copy_part.new.map })
-    c.in-Some.ensures.taken c.put.ensures in
     let alone : is_mixed ops ≡ false = sym c.is_mixed.ensures ∙ c.if-is_mixed.false in
     let same = c.reserve_extents.ensures.same in
     let answer = c.sync_loans.ensures.answer
@@ -167,8 +150,7 @@ returns-clause-wire c other found =
     let fine : sync_answer h.loans.loans k c.args.off c.args.len ops ≡ Fine = sym answer ∙ c.in_default.is in
     let is : map_of o ≡ other =
     found_one (get (ideal_of h).maps k) (map_of o) other (image-some map_of h.maps.map k o there) found in
-    ap (λ ms. with_bytes_of (held_pages ms) (wire c.copy_part.new.memory.memory)) put.0
-    ∙ part-wire h c.requires.wired k o there on c.copy_part.new.map c.copy_part.ensures.map
+    part-wire h c.requires.wired k o there on c.copy_part.new.map c.copy_part.ensures.map
     c.copy_part.new.memory.memory c.args.off c.args.len ops c.copy_part.ensures.view c.requires.range alone fine
     ∙ ap (λ y. if_done (sync_part k y c.args.off c.args.len ops (ideal_of h))
     (wires.synced k c.args.off c.args.len ops (ideal_of h) (wire_of h)) (wire_of h)) is
@@ -178,15 +160,12 @@ returns-clause-awaiting c =
     let h = c.args.self.now in
     let k = c.args.map in
     let ops = c.args.ops.0 in
-    let o : KeptMap = c.in-Some.kept in
-    let put =
-    put-again h.maps c.take.new.self c.put.new.self k (record o { map = c.copy_part.new.map })
-    c.in-Some.ensures.taken c.put.ensures in
+    let o : KeptMap = c.in-Some.kept.now in
     let synced : IsSynced c.reserve_extents.new.loans c.sync_loans.new.loans c.map_id-id.result.made_at c.args.off
     c.args.len ops =
     rw c.in_default.is at c.sync_loans.ensures.done in
     awaits-put h _ refl refl refl refl (synced.prepared ∙ c.reserve_extents.ensures.same.prepared) refl k
-    (loaded-unkept (get h.maps.map k) c.requires.loaded) (record o { map = c.copy_part.new.map }) put.0
+    (loaded-unkept (get h.maps.map k) c.requires.loaded) (record o { map = c.copy_part.new.map }) refl
     (ap (λ m. waiting_load m.stage) c.copy_part.ensures.map.is)
 
 pub returns-in_err-reserve_extents-clause-awaiting : goal.returns-in_err-reserve_extents-clause-awaiting

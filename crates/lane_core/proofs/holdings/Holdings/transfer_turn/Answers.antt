@@ -1,6 +1,6 @@
 use Rattle.std.proofs.Common.{ap, arith}
-use Rattle.lane_core.proofs.Queueing.{back-agenda, item-agenda, item-back, item-done, item-wire, none-agenda, none-done}
-use Rattle.lane_core.proofs.Queueing.{none-wire, queue-wired}
+use Rattle.lane_core.proofs.Queueing.{back-agenda, item-agenda, item-back, item-done, item-wire}
+use Rattle.lane_core.proofs.Queueing.{queue-wired}
 use Rattle.lane_core.proofs.holdings.Holdings.transfer_turn.Goals as goal
 
 pub transfer-requires : goal.transfer-requires

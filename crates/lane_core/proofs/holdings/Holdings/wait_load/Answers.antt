@@ -16,25 +16,20 @@ use Rattle.lane_core.proofs.Keeping.{idle-map, idle-state}
 use Rattle.lane_core.proofs.Loaded.{loans-stay, maps-staged}
 use Rattle.lane_core.proofs.MapTables.{AreMaps, maps-of}
 use Rattle.lane_core.proofs.MapValues.{image-some, map_values-insert}
-use Rattle.lane_core.proofs.Places.{get_removed, reput}
 use Rattle.lane_core.proofs.holdings.Holdings.wait_load.Goals as goal
 
 pub wait-requires : goal.wait-requires
 wait-requires c =
-    let o : KeptMap = c.in-Some.kept in
-    let there : get c.args.self.now.maps.map c.args.map ≡ Some o = sym c.take.ensures.value ∙ c.in-Some.is in
+    let o : KeptMap = c.in-Some.kept.now in
+    let there : get c.args.self.now.maps.map c.args.map ≡ Some o = sym c.in-Some.ensures.value in
     idle-state o.need o.map.stage (sym (ap is_idle_map there) ∙ c.requires.idle)
-
-pub put-requires-clause-vacant : goal.put-requires-clause-vacant
-put-requires-clause-vacant c =
-    ap (λ t. get t.map c.args.map) c.in-Some.ensures.taken ∙ get_removed c.args.self.now.maps.map c.args.map
 
 pub invariant_of-self : goal.invariant_of-self
 invariant_of-self c =
     let h = c.args.self.now in
     let k = c.args.map in
-    let o : KeptMap = c.in-Some.kept in
-    let there : get h.maps.map k ≡ Some o = sym c.take.ensures.value ∙ c.in-Some.is in
+    let o : KeptMap = c.in-Some.kept.now in
+    let there : get h.maps.map k ≡ Some o = sym c.in-Some.ensures.value in
     let idle = idle-map o (sym (ap is_idle_map there) ∙ c.requires.idle) in
     let v : KeptMap = record {
       tag = o.tag;
@@ -44,11 +39,9 @@ invariant_of-self c =
         stage = waiting c.args.load_at (record { items = c.args.items }) c.args.room;
       };
     } in
-    let after : KeptMap = record { tag = o.tag; need = c.args.need; map = c.wait.new.self } in
-    let maps : c.put.new.self.map ≡ insert h.maps.map k v =
-    ap (λ t. t.map) c.put.ensures ∙ ap (λ t. insert t.map k after) c.in-Some.ensures.taken
-    ∙ reput h.maps.map k after ∙ ap (λ x. insert h.maps.map k (record { tag = o.tag; need = c.args.need; map = x }))
-    c.wait.ensures in
+    let maps : insert h.maps.map k (record { tag = o.tag; need = c.args.need; map = c.wait.new.self })
+    ≡ insert h.maps.map k v =
+    ap (λ x. insert h.maps.map k (record { tag = o.tag; need = c.args.need; map = x })) c.wait.ensures in
     let fits : pages_due h.maps.map + due_of v ≤ h.agenda.promised = c.requires.promised in
     let are =
     subst (λ ms. AreMaps ms h.loans.loans h.agenda.returns h.agenda.promised) (sym maps)
@@ -62,7 +55,7 @@ invariant_of-self c =
       placed = h.placed;
       standing = h.standing;
       tag_places = h.tag_places;
-      map_places = ap (λ t. t.places) c.put.ensures ∙ ap (λ t. t.places) c.in-Some.ensures.taken ∙ h.map_places;
+      map_places = h.map_places;
       memory_places = h.memory_places;
       loaded = are.loaded;
       unlent = are.unlent;
@@ -77,8 +70,8 @@ returns-in-Some-clause-done c other found =
     let h = c.args.self.now in
     let l = ideal_of h in
     let k = c.args.map in
-    let o : KeptMap = c.in-Some.kept in
-    let there : get h.maps.map k ≡ Some o = sym c.take.ensures.value ∙ c.in-Some.is in
+    let o : KeptMap = c.in-Some.kept.now in
+    let there : get h.maps.map k ≡ Some o = sym c.in-Some.ensures.value in
     let on = sym (ap is_idle_map there) ∙ c.requires.idle in
     let idle = idle-map o on in
     let v : KeptMap = record {
@@ -89,11 +82,9 @@ returns-in-Some-clause-done c other found =
         stage = waiting c.args.load_at (record { items = c.args.items }) c.args.room;
       };
     } in
-    let after : KeptMap = record { tag = o.tag; need = c.args.need; map = c.wait.new.self } in
-    let maps : c.put.new.self.map ≡ insert h.maps.map k v =
-    ap (λ t. t.map) c.put.ensures ∙ ap (λ t. insert t.map k after) c.in-Some.ensures.taken
-    ∙ reput h.maps.map k after ∙ ap (λ x. insert h.maps.map k (record { tag = o.tag; need = c.args.need; map = x }))
-    c.wait.ensures in
+    let maps : insert h.maps.map k (record { tag = o.tag; need = c.args.need; map = c.wait.new.self })
+    ≡ insert h.maps.map k v =
+    ap (λ x. insert h.maps.map k (record { tag = o.tag; need = c.args.need; map = x })) c.wait.ensures in
     let is : get l.maps k ≡ Some (map_of o) = image-some map_of h.maps.map k o there in
     let same : map_of o ≡ other = cc in
     let bare : device_of (Some v) ≡ device_of (get h.maps.map k) = sym (ap device_of there ∙ idle.unheld) in
@@ -110,8 +101,8 @@ pub returns-in-Some-clause-bytes : goal.returns-in-Some-clause-bytes
 returns-in-Some-clause-bytes c =
     let h = c.args.self.now in
     let k = c.args.map in
-    let o : KeptMap = c.in-Some.kept in
-    let there : get h.maps.map k ≡ Some o = sym c.take.ensures.value ∙ c.in-Some.is in
+    let o : KeptMap = c.in-Some.kept.now in
+    let there : get h.maps.map k ≡ Some o = sym c.in-Some.ensures.value in
     let idle = idle-map o (sym (ap is_idle_map there) ∙ c.requires.idle) in
     let v : KeptMap = record {
       tag = o.tag;
@@ -121,11 +112,9 @@ returns-in-Some-clause-bytes c =
         stage = waiting c.args.load_at (record { items = c.args.items }) c.args.room;
       };
     } in
-    let after : KeptMap = record { tag = o.tag; need = c.args.need; map = c.wait.new.self } in
-    let maps : c.put.new.self.map ≡ insert h.maps.map k v =
-    ap (λ t. t.map) c.put.ensures ∙ ap (λ t. insert t.map k after) c.in-Some.ensures.taken
-    ∙ reput h.maps.map k after ∙ ap (λ x. insert h.maps.map k (record { tag = o.tag; need = c.args.need; map = x }))
-    c.wait.ensures in
+    let maps : insert h.maps.map k (record { tag = o.tag; need = c.args.need; map = c.wait.new.self })
+    ≡ insert h.maps.map k v =
+    ap (λ x. insert h.maps.map k (record { tag = o.tag; need = c.args.need; map = x })) c.wait.ensures in
     let bare : device_of (Some v) ≡ device_of (get h.maps.map k) = sym (ap device_of there ∙ idle.unheld) in
     record {
       own = refl;
@@ -136,7 +125,7 @@ pub returns-in-Some-clause-waits : goal.returns-in-Some-clause-waits
 returns-in-Some-clause-waits c =
     let h = c.args.self.now in
     let k = c.args.map in
-    let o : KeptMap = c.in-Some.kept in
+    let o : KeptMap = c.in-Some.kept.now in
     let v : KeptMap = record {
       tag = o.tag;
       need = c.args.need;
@@ -145,11 +134,9 @@ returns-in-Some-clause-waits c =
         stage = waiting c.args.load_at (record { items = c.args.items }) c.args.room;
       };
     } in
-    let after : KeptMap = record { tag = o.tag; need = c.args.need; map = c.wait.new.self } in
-    let maps : c.put.new.self.map ≡ insert h.maps.map k v =
-    ap (λ t. t.map) c.put.ensures ∙ ap (λ t. insert t.map k after) c.in-Some.ensures.taken
-    ∙ reput h.maps.map k after ∙ ap (λ x. insert h.maps.map k (record { tag = o.tag; need = c.args.need; map = x }))
-    c.wait.ensures in
+    let maps : insert h.maps.map k (record { tag = o.tag; need = c.args.need; map = c.wait.new.self })
+    ≡ insert h.maps.map k v =
+    ap (λ x. insert h.maps.map k (record { tag = o.tag; need = c.args.need; map = x })) c.wait.ensures in
     ap (λ ms. kept_load (get ms k)) maps ∙ ap kept_load (get_put h.maps.map k v k)
     ∙ ap (λ b. kept_load (cond b (Some v) (get h.maps.map k))) (eq-eqb k k refl)
 
@@ -157,7 +144,7 @@ pub returns-in-Some-clause-others : goal.returns-in-Some-clause-others
 returns-in-Some-clause-others c m off =
     let h = c.args.self.now in
     let k = c.args.map in
-    let o : KeptMap = c.in-Some.kept in
+    let o : KeptMap = c.in-Some.kept.now in
     let v : KeptMap = record {
       tag = o.tag;
       need = c.args.need;
@@ -166,10 +153,8 @@ returns-in-Some-clause-others c m off =
         stage = waiting c.args.load_at (record { items = c.args.items }) c.args.room;
       };
     } in
-    let after : KeptMap = record { tag = o.tag; need = c.args.need; map = c.wait.new.self } in
-    let maps : c.put.new.self.map ≡ insert h.maps.map k v =
-    ap (λ t. t.map) c.put.ensures ∙ ap (λ t. insert t.map k after) c.in-Some.ensures.taken
-    ∙ reput h.maps.map k after ∙ ap (λ x. insert h.maps.map k (record { tag = o.tag; need = c.args.need; map = x }))
-    c.wait.ensures in
+    let maps : insert h.maps.map k (record { tag = o.tag; need = c.args.need; map = c.wait.new.self })
+    ≡ insert h.maps.map k v =
+    ap (λ x. insert h.maps.map k (record { tag = o.tag; need = c.args.need; map = x })) c.wait.ensures in
     ap (λ ms. kept_load (get ms m)) maps ∙ ap kept_load (get_put h.maps.map k v m)
     ∙ ap (λ b. kept_load (cond b (Some v) (get h.maps.map m))) off

@@ -1,5 +1,6 @@
 use Rattle.lane_core.specs.Turning.{answered}
 use Rattle.world_core.specs.Ideal.{ideal_run, ideal_world}
+use Rattle.world_core.proofs.Resting.{passed-over}
 use Rattle.world_core.proofs.Taking.{skips, no_entry}
 use Rattle.world_core.proofs.run.Progress.turn.Goals as goal
 
@@ -7,3 +8,7 @@ pub returns-in_default : goal.returns-in_default
 returns-in_default c =
     skips (ideal_run c.args.self.now) c.args.actor (ideal_world c.step.new.self) (answered c.in_ok-entry.field-0)
     c.in_ok-entry.ensures.done (no_entry _ c.in_default.not-Stepped)
+
+pub returns-then-is_idle_device : goal.returns-then-is_idle_device
+returns-then-is_idle_device c =
+    passed-over (ideal_run c.args.self.now) c.args.actor (c.is_idle_device.ensures c.if-is_idle_device.true)
