@@ -76,8 +76,8 @@ impl Line {
     {
         let room = self.room();
         let (before, behind) = (self.before.len(), self.behind.len());
-        self.before.reserve_exact(more_for(behind, count, room)?)?;
-        self.behind.reserve_exact(more_for(before, count, room)?)
+        widen(&mut self.before, more_for(behind, count, room)?)?;
+        widen(&mut self.behind, more_for(before, count, room)?)
     }
 
     /// For how many more numbers there is room.
@@ -304,6 +304,22 @@ fn top_or(stack: &[u64], depth: usize, other: u64) -> u64
     } else {
         other
     }
+}
+
+/// Makes room for `more` numbers in a stack. The numbers alone are moved, and not the room that was there.
+fn widen(stack: &mut Vec<u64>, more: usize) -> Result<(), AllocError>
+    ensures ok { OnOk result (vec_len stack.new + more ≤ vec_capacity stack.new) }
+    ensures same { stack.new.items ≡ stack.old.items }
+    ensures room { vec_capacity stack.old ≤ vec_capacity stack.new }
+{
+    if more <= stack.capacity() - stack.len() {
+        return Ok(());
+    }
+    let whole = stack.len().checked_add(more).ok_or(AllocError)?;
+    let mut wide = Vec::with_capacity(*stack.allocator(), whole)?;
+    wide.extend_from_slice(stack.as_slice())?;
+    *stack = wide;
+    Ok(())
 }
 
 /// Moves the place of two stacks, so that `at` of their numbers stand before it.
