@@ -1,6 +1,6 @@
 //! The hub: the bounce zones that all lanes share, and all holds so far.
 
-ghost use Rattle.std.specs.Prelude.{◌≡◌, [], IfOk, length};
+ghost use Rattle.std.specs.Prelude.{◌≡◌, [], IfOk, length, slice_get};
 ghost use Rattle.busdma_base.specs.Bounce.History.{IsOpening, IsSound, account_of};
 ghost use Rattle.frame_bank.specs.FrameBank.{IsBank};
 ghost use Rattle.bounce_hub.specs.Opening.{opening};
@@ -9,7 +9,7 @@ ghost use Rattle.bounce_hub.specs.Seen.{AreCounts};
 use crate::pool::Pool;
 use busdma_base::{
     Called, Grabbed, Grown, HoldEntry, HubCall, HubDoor, HubReply, LaneId, MapId, Pa, Page,
-    PageList, TagLimits, ZoneId, ZoneList,
+    PageList, TagLimits, Waiter, ZoneId, ZoneList,
 };
 use frame_bank::FrameBank;
 use std::alloc::{AllocError, Global};
@@ -58,6 +58,13 @@ impl Hub {
         ensures sound { IsSound self.now.opening self.now.history }
     {
         self.history.as_slice()
+    }
+
+    /// The first map of the callback list: a lane's `take_callback` finds it where it is the lane's, and none else.
+    pub fn first_callback(&self) -> Option<Waiter>
+        ensures { result ≡ slice_get (account_of self.now.opening self.now.history).ready 0 }
+    {
+        self.pool.ready.head()
     }
 
     /// The number of zones.
