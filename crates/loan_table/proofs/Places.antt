@@ -1,14 +1,17 @@
 -- At how many places of a list a byte stands.
 use Rattle.std.proofs.Common.{◌≡◌, ℕ, zero, suc, ◌+◌, ◌≤◌, ◌<◌, ◌==◌, Bool, true, false, cond, List, [], ◌∷◌, ◌++◌, refl}
-use Rattle.std.proofs.Common.{sym, ap, ◌∙◌, arith}
+use Rattle.std.proofs.Common.{length, sym, ap, ◌∙◌, arith, Option, Some, None, nat_lt}
+use Rattle.std.proofs.lemmas.Bool.{le-ltb}
 use Rattle.std.proofs.lemmas.Bool.Decides.{nat_tests}
 use Rattle.std.specs.List.{count_by}
 use Rattle.std.proofs.lemmas.List.Sums.{sum_by-cons, sum_by-append}
 use Rattle.run_set.specs.Counts.{Counts, count, changed}
 use Rattle.run_set.specs.Edges.{in_run}
-use Rattle.busdma_base.specs.Runs.{run_of}
+use Rattle.busdma_base.specs.declared.machine.address.Extent.{Extent}
+use Rattle.busdma_base.specs.Runs.{addresses, run_of}
 use Rattle.loan_table.specs.declared.position.Position.{Position}
 use Rattle.loan_table.specs.Loans.{addresses_of, is_at}
+use Rattle.loan_table.specs.Rows.{stands, AreCounted}
 
 -- how often a byte stands in a list that begins with another byte
 places-cons : (a b : ℕ) (bs : List ℕ) → count_by (λ x. x == a) (b ∷ bs) ≡ cond (b == a) 1 0 + count_by (λ x. x == a) bs
@@ -57,12 +60,33 @@ places_of a [] = refl
 places_of a (p ∷ ps) = places-cons a p.pa (addresses_of ps) ∙ ap (λ k. cond (p.pa == a) 1 0 + k) (places_of a ps)
     ∙ sym (sum_by-cons (λ (x : Position). cond (x.pa == a) 1 0) p ps)
 
+-- what places that are counted, or are none, say of a byte
+pub counted_at : (kept : Option Counts) (places : Counts) (bytes : List ℕ) (a : ℕ) → kept ≡ Some places →
+    AreCounted kept bytes → count places a ≡ stands a bytes
+counted_at None places bytes a e counted = absurd (cc)
+counted_at (Some p) places bytes a e counted = let same : p ≡ places = cc in sym (ap (λ c. count c a) same) ∙ counted a
+
+pub uncounted_at : (kept : Option Counts) (bytes : List ℕ) (a : ℕ) → kept ≡ None → AreCounted kept bytes →
+    nat_lt 1 (stands a bytes) ≡ false
+uncounted_at None bytes a e counted = le-ltb 1 (stands a bytes) (counted a)
+uncounted_at (Some p) bytes a e counted = absurd (cc)
+
 -- how often a byte stands in a list that begins with a run
 pub stands_ahead : (a s n : ℕ) (bytes rest : List ℕ) → bytes ≡ run_of s n ++ rest →
     count_by (λ x. x == a) bytes ≡ cond (in_run s (s + n) a) 1 0 + count_by (λ x. x == a) rest
 stands_ahead a s n bytes rest e =
     ap (λ xs. count_by (λ x. x == a) xs) e ∙ sum_by-append (λ x. cond (x == a) 1 0) (run_of s n) rest
     ∙ ap (λ k. k + count_by (λ x. x == a) rest) (places-run a s n)
+
+-- a byte stands at most once in one stretch
+pub stands_once : (stretches : List Extent) (a : ℕ) → length stretches ≤ 1 → stands a (addresses stretches) ≤ 1
+stands_once [] a few = omega arith
+stands_once (e ∷ []) a few = omega (arith, stands_ahead a e.pa.0 e.len _ [] refl, one (in_run e.pa.0 (e.pa.0 + e.len) a))
+  where
+    one : (b : Bool) → ◌≤◌ (cond b 1 0) 1
+    one true = omega arith
+    one false = omega arith
+stands_once (e ∷ f ∷ es) a few = absurd (omega (arith, few))
 
 pub stands_here : (a s n : ℕ) → s ≤ a → a < s + n → ◌≡◌ {A = ℕ} (cond (in_run s (s + n) a) 1 0) 1
 stands_here a s n p q = let x : in_run s (s + n) a ≡ true = grind (arith, nat_tests) in ap {B = ℕ} (λ b. cond b 1 0) x

@@ -1,6 +1,6 @@
 -- Stretches of bytes that follow one another.
 use Rattle.std.proofs.Common.{◌≡◌, ℕ, zero, suc, ◌+◌, ◌-◌, ◌<◌, ◌≤◌, ◌^◌, length, List, [], ◌∷◌, ◌++◌}
-use Rattle.std.proofs.Common.{take, drop, get_or, Bool, true, false, ltb}
+use Rattle.std.proofs.Common.{take, drop, get_or, Bool, true, false, ltb, Option}
 use Rattle.std.proofs.Common.{refl, sym, ap, ◌∙◌, arith}
 use Rattle.std.specs.List.{All}
 use Rattle.std.proofs.lemmas.List.{append_assoc, at_drop_more, take_all, drop-drop, drop-append-le}
@@ -14,7 +14,7 @@ use Rattle.std.proofs.lemmas.List.Sums.{sum_by-cons, sum_by-drop_more, sum_by-ta
 use Rattle.std.proofs.lemmas.Bool.{ltb-true, ltb-false}
 use Rattle.loan_table.proofs.Addresses.{no_extent}
 use Rattle.loan_table.specs.Ends.{Ends}
-use Rattle.loan_table.specs.Rows.{CountsPlaces, IsBuffer, stands, starts_from}
+use Rattle.loan_table.specs.Rows.{AreCounted, IsBuffer, starts_from}
 use Rattle.loan_table.proofs.Extending.{addresses-push, length-addresses}
 use Rattle.loan_table.proofs.Judgement.{length-run_of}
 
@@ -86,10 +86,10 @@ pub as_many : (stretches extents : List Extent) → addresses stretches ≡ addr
 as_many stretches extents same =
     sym (length-addresses stretches) ∙ ap length same ∙ length-addresses extents
 
-pub stretches_kept : (stretches extents : List Extent) (starts : List ℕ) (len : ℕ) (places : Counts) →
+pub stretches_kept : (stretches extents : List Extent) (starts : List ℕ) (len : ℕ) (places : Option Counts) →
     All Ends stretches → starts ≡ starts_from 0 stretches → addresses stretches ≡ addresses extents →
     len ≡ byte_count extents → byte_count extents < 2 ^ 64 →
-    CountsPlaces places (addresses extents) → IsBuffer stretches starts len places
+    AreCounted places (addresses stretches) → IsBuffer stretches starts len places
 stretches_kept stretches extents starts len places ends begun same long small counted =
     let many = as_many stretches extents same in
     record {
@@ -97,7 +97,7 @@ stretches_kept stretches extents starts len places ends begun same long small co
       begun = begun;
       long = many ∙ sym long;
       small = omega (arith, many, small);
-      counted = λ a. counted a ∙ sym (ap (stands a) same);
+      counted = counted;
     }
 
 -- the starts of stretches: they do not fall, and before each are the bytes of the stretches before it

@@ -1,5 +1,6 @@
 -- What each row of a table keeps, and its value as a code.
 use Rattle.std.specs.Prelude.{◌≡◌, ◌==◌, ◌+◌, ◌≤◌, ◌<◌, ◌^◌, count_by, length, map, ℕ, Bool, List, [], ◌∷◌, refl}
+use Rattle.std.specs.Prelude.{Option, Some, None}
 use Rattle.std.specs.List.{All}
 use Rattle.std.specs.Coded.{Coded, code_by, coded×, coded_ℕ, coded_bool, coded_list}
 use Rattle.run_set.specs.Counts.{Counts, count}
@@ -19,18 +20,23 @@ stands a bytes = count_by (λ b. b == a) bytes
 abbrev pub CountsPlaces : Counts → List ℕ → Type 0
 CountsPlaces places bytes = (a : ℕ) → count places a ≡ stands a bytes
 
+-- they do, or none are there and no number stands at more than one place
+abbrev pub AreCounted : Option Counts → List ℕ → Type 0
+AreCounted (Some places) bytes = CountsPlaces places bytes
+AreCounted None bytes = (a : ℕ) → stands a bytes ≤ 1
+
 -- at which positions stretches begin, the first of them at one
 abbrev pub starts_from : ℕ → List Extent → List ℕ
 starts_from at [] = []
 starts_from at (e ∷ es) = at ∷ starts_from (at + e.len) es
 
 -- what is true of the fields of each buffer
-pub record IsBuffer (stretches : List Extent) (starts : List ℕ) (len : ℕ) (places : Counts) : Type 0 where
+pub record IsBuffer (stretches : List Extent) (starts : List ℕ) (len : ℕ) (places : Option Counts) : Type 0 where
   pub ends : All Ends stretches
   pub begun : starts ≡ starts_from 0 stretches
   pub long : byte_count stretches ≡ len
   pub small : byte_count stretches < 2 ^ 64
-  pub counted : CountsPlaces places (addresses stretches)
+  pub counted : AreCounted places (addresses stretches)
 
 -- positions from a place on, over bytes in order, each lent as the sets of places say
 abbrev pub placed : (ℕ → Bool) → (ℕ → Bool) → ℕ → List ℕ → List Position

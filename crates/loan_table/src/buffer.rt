@@ -1,11 +1,11 @@
 //! The bytes of a map's buffer.
 
-ghost use Rattle.std.specs.Prelude.{◌≡◌, ℕ, ◌+◌, ◌≤◌, ◌<◌, ◌^◌, ◌++◌, length, IfOk, true, false};
+ghost use Rattle.std.specs.Prelude.{◌≡◌, ℕ, ◌+◌, ◌≤◌, ◌<◌, ◌^◌, ◌++◌, length, nat_lt, IfOk, true, false};
 ghost use Rattle.std.specs.List.{All};
 ghost use Rattle.busdma_base.specs.Machine.Wire.{stretch};
 ghost use Rattle.busdma_base.specs.Runs.{run_of, addresses, byte_count};
 ghost use Rattle.loan_table.specs.Ends.{Ends};
-ghost use Rattle.loan_table.specs.Rows.{stands, starts_from, CountsPlaces};
+ghost use Rattle.loan_table.specs.Rows.{stands, starts_from, AreCounted, CountsPlaces};
 ghost use Rattle.run_set.specs.Counts.{changed, count};
 ghost use Rattle.run_set.specs.Edges.{in_run};
 
@@ -16,13 +16,14 @@ use std::alloc::{AllocError, Global};
 use std::marker::Model;
 
 /// The bytes of a buffer, in order, and at how many of its positions each stands. Bytes that follow
-/// one another are one stretch.
+/// one another are one stretch; where there is one stretch alone, no byte stands twice, and none is
+/// counted.
 #[derive(Drop)]
 pub struct Buffer {
     stretches: Vec<Extent>,
     starts: Vec<u64>,
     len: u64,
-    places: RunCounts,
+    places: Option<RunCounts>,
 }
 
 impl Model for Buffer {
@@ -49,7 +50,7 @@ impl Buffer {
     {
         let stretches = stretches_of(alloc, extents)?;
         let starts = starts_of(alloc, &stretches)?;
-        let places = places_over(alloc, extents)?;
+        let places = counted_places(alloc, &stretches)?;
         let len = len_of(extents);
         Ok(Buffer {
             stretches,
@@ -79,22 +80,29 @@ impl Buffer {
         stretch_at(&self.stretches, &self.starts, at, end, near)
     }
 
-    /// At how many positions a byte stands.
-    pub fn places(&self, pa: u64, near: &mut Near) -> u64
-        ensures { result ≡ stands pa self.now }
+    /// Whether a byte stands at more than one position.
+    pub fn stands_twice(&self, pa: u64, near: &mut Near) -> bool
+        ensures { result ≡ nat_lt 1 (stands pa self.now) }
     {
-        self.places.count_near(pa, near)
+        match &self.places {
+            Some(places) => places.count_near(pa, near) > 1,
+            None => false,
+        }
     }
 
-    /// The byte up to which all bytes from `start` on stand at as many positions as it does; `end`
-    /// where none comes before it.
+    /// The byte up to which all bytes from `start` on stand at more than one position, or all do not;
+    /// `end` where none comes before it.
     pub fn turn(&self, start: u64, end: u64, near: &mut Near) -> u64
         requires { start < end }
         ensures from { start < result }
         ensures to { result ≤ end }
-        ensures same { (a : ℕ) → start ≤ a → a < result → stands a self.now ≡ stands start self.now }
+        ensures same { (a : ℕ) → start ≤ a → a < result →
+            nat_lt 1 (stands a self.now) ≡ nat_lt 1 (stands start self.now) }
     {
-        self.places.turn_near(start, end, near)
+        match &self.places {
+            Some(places) => places.turn_near(start, end, near),
+            None => end,
+        }
     }
 }
 
@@ -194,6 +202,18 @@ fn starts_of(alloc: Global, stretches: &[Extent]) -> Result<Vec<u64>, AllocError
         before += run.len;
     }
     Ok(starts)
+}
+
+/// At how many positions of a buffer each byte stands, where it has more stretches than one.
+fn counted_places(alloc: Global, stretches: &[Extent]) -> Result<Option<RunCounts>, AllocError>
+    requires { All Ends stretches.now }
+    ensures { IfOk result (λ places. AreCounted places (addresses stretches.now)) }
+{
+    if stretches.len() <= 1 {
+        return Ok(None);
+    }
+    let places = places_over(alloc, stretches)?;
+    Ok(Some(places))
 }
 
 /// At how many positions of a buffer each byte stands.

@@ -226,7 +226,7 @@ impl LoanRow {
     pub fn stands_twice(&self, pa: u64, near: &mut Near) -> bool
         ensures { result ≡ stands_twice pa self.now }
     {
-        self.buffer.places(pa, near) > 1
+        self.buffer.stands_twice(pa, near)
     }
 
     /// The byte up to which all bytes from `start` on stand at more than one position, or all do not;

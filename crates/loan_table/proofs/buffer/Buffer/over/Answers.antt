@@ -15,4 +15,4 @@ pub invariant_of-result : goal.invariant_of-result
 invariant_of-result c =
     stretches_kept _ c.args.extents.now _ _ _ c.in_ok-stretches.ensures.ends
     (rw c.deref.ensures.value at c.in_ok-starts.ensures) c.in_ok-stretches.ensures.bytes
-    c.len_of-len.ensures c.requires.total c.in_ok-places.ensures
+    c.len_of-len.ensures c.requires.total (rw c.deref-2.ensures.value at c.in_ok-places.ensures)

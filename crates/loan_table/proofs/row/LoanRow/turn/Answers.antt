@@ -1,9 +1,9 @@
-use Rattle.std.proofs.Common.{ap, nat_lt, sym, ◌∙◌}
+use Rattle.std.proofs.Common.{sym, ◌∙◌}
 use Rattle.loan_table.proofs.PlacedBytes.{twice_by}
 use Rattle.loan_table.proofs.row.LoanRow.turn.Goals as goal
 
 pub returns-clause-same : goal.returns-clause-same
 returns-clause-same c a from to =
     rw (← c.self.view_is) (sym (twice_by a c.self.inside.coherent _ _ c.self.inside.buffer)
-    ∙ ap (nat_lt 1) (c.turn.ensures.same a from to)
+    ∙ c.turn.ensures.same a from to
     ∙ twice_by c.args.start c.self.inside.coherent _ _ c.self.inside.buffer)
