@@ -11,6 +11,9 @@ use std::alloc::{AllocError, Global};
 
 const DRIVERS: u32 = 4;
 
+/// So many operations make a round.
+const OPERATIONS: usize = 4;
+
 const LIMITS: TagLimits = TagLimits {
     alignment: 1,
     boundary: 0,
@@ -100,6 +103,7 @@ fn driver(
     ensures drawn { OnOk result (generator.new.last ≡ drawn (2 * n) generator.old.last) }
 {
     let mut script = opening(alloc)?;
+    script.reserve(OPERATIONS * n as usize)?;
     push_rounds(alloc, &mut script, n, generator)?;
     Ok(Driver {
         pages: ListOf::new(pages(alloc, number)?),
