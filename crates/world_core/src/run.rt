@@ -23,8 +23,8 @@ impl Progress<'_> {
     fn turn(&mut self, alloc: Global, actor: Actor) -> Result<(), AllocError>
         ensures { OnOk result (ideal_run self.new ≡ legal.turn (ideal_run self.old) actor) }
     {
-        // Most turns of devices find no item; these cost one look.
-        if self.world.is_idle_device(actor) {
+        // Most turns of devices find no item, and most of callbacks none; these cost one look.
+        if self.world.is_idle(actor) {
             return Ok(());
         }
         if let Turn::Stepped { entry, .. } = self.world.step(alloc, actor)? {
@@ -80,6 +80,15 @@ pub fn round_of(alloc: Global, drivers: u32) -> Result<Vec<Actor>, AllocError>
     Ok(round)
 }
 
+/// How many operations the scripts of a scenario have.
+fn operation_count(scenario: &Scenario) -> usize {
+    let mut count: usize = 0;
+    for driver in scenario.drivers.as_slice() {
+        count = count.saturating_add(driver.script.len());
+    }
+    count
+}
+
 /// The journal of the scenario's replay: the turns of its order, and then rounds until a whole
 /// round makes no step.
 pub fn replay(alloc: Global, scenario: &Scenario) -> Result<Journal, AllocError>
@@ -87,7 +96,8 @@ pub fn replay(alloc: Global, scenario: &Scenario) -> Result<Journal, AllocError>
     ensures { IfOk result (IsReplayed scenario.now) }
 {
     let world = World::new(alloc, scenario)?;
-    let entries = Vec::new(alloc);
+    // Each operation makes an entry, so the list is moved seldom.
+    let entries = Vec::with_capacity(alloc, operation_count(scenario))?;
     let mut progress = Progress { world, entries };
     progress.turns(alloc, scenario.order.as_slice())?;
     let round = round_of(alloc, scenario.drivers.len() as u32)?;

@@ -1,6 +1,7 @@
 //! The turns of actors.
 
 ghost use Rattle.std.specs.Prelude.{◌≡◌, ◌+◌, IfOk, OnErr, OnOk, None, true, if◌then◌else◌, length};
+ghost use Rattle.busdma_base.specs.declared.journals.journal.Side.TheVariants as side;
 ghost use Rattle.busdma_base.specs.Bounce.History.{IsOpening, IsSound};
 ghost use Rattle.lane_core.specs.Turning.{answered, is_held};
 ghost use Rattle.ideal_world.specs.Wires.{WiresFollow};
@@ -37,18 +38,39 @@ impl World<'_> {
         self.lanes[at].turn(alloc, &mut self.hub, actor.side)
     }
 
-    /// Whether an actor is a device whose driver has no item for it, so that it makes no step.
-    pub(crate) fn is_idle_device(&self, actor: Actor) -> bool
+    /// Whether a look tells that an actor makes no step: a device whose driver has no item for it, or a
+    /// driver whose map is not the first of the callback list.
+    pub(crate) fn is_idle(&self, actor: Actor) -> bool
         ensures { result ≡ true → step_entry (ideal_world self.now) actor ≡ None }
     {
-        let Side::Transfer = actor.side else {
-            return false;
-        };
+        match actor.side {
+            Side::Script => false,
+            Side::Transfer => self.is_idle_device(actor),
+            Side::Callback => self.has_no_callback(actor),
+        }
+    }
+
+    /// Whether a driver has no item for its device.
+    fn is_idle_device(&self, actor: Actor) -> bool
+        requires { actor.side ≡ side.Transfer }
+        ensures { result ≡ true → step_entry (ideal_world self.now) actor ≡ None }
+    {
         let number = actor.lane.0 as usize;
         if number >= self.lanes.len() {
             return false;
         }
         !self.lanes[number].has_item()
+    }
+
+    /// Whether the first map of the callback list is another driver's, or the list is empty.
+    fn has_no_callback(&self, actor: Actor) -> bool
+        requires { actor.side ≡ side.Callback }
+        ensures { result ≡ true → step_entry (ideal_world self.now) actor ≡ None }
+    {
+        match self.hub.first_callback() {
+            Some(first) => first.map.lane != actor.lane,
+            None => true,
+        }
     }
 }
 

@@ -9,6 +9,6 @@ returns-in_default c =
     skips (ideal_run c.args.self.now) c.args.actor (ideal_world c.step.new.self) (answered c.in_ok-entry.field-0)
     c.in_ok-entry.ensures.done (no_entry _ c.in_default.not-Stepped)
 
-pub returns-then-is_idle_device : goal.returns-then-is_idle_device
-returns-then-is_idle_device c =
-    passed-over (ideal_run c.args.self.now) c.args.actor (c.is_idle_device.ensures c.if-is_idle_device.true)
+pub returns-then-is_idle : goal.returns-then-is_idle
+returns-then-is_idle c =
+    passed-over (ideal_run c.args.self.now) c.args.actor (c.is_idle.ensures c.if-is_idle.true)

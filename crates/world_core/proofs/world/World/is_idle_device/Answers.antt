@@ -11,5 +11,5 @@ returns c idle =
     let i = c.args.actor.lane.0 in
     let lt : i < length w.lanes.items = omega (arith, c.if-number-len.false, c.len.ensures, w.lanes.ok.0) in
     device-rests (ideal_world w) c.args.actor (ideal c.index.result.now)
-    (lane_found w.lanes.items i c.index.result.now lt c.index.ensures) c.in-Transfer.is
+    (lane_found w.lanes.items i c.index.result.now lt c.index.ensures) c.requires
     (ap not (sym c.has_item.ensures) ∙ idle)
