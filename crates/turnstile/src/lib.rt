@@ -2,7 +2,7 @@
 //! history. Each caller has a pass, and a pass knows how that history begins.
 #![tactic(auto)]
 
-mod bells;
+mod bell;
 mod counter;
 mod lock;
 mod object;

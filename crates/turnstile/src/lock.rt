@@ -6,7 +6,7 @@ ghost use Rattle.turnstile.specs.Pass.{Closes};
 
 mod steps;
 
-use crate::bells::Bells;
+use crate::bell::Bell;
 use crate::object::TurnObject;
 use crate::pass::Pass;
 use crate::rule::{Cut, GoBack, Learn, Take, TakeIn, TurnRule};
@@ -23,7 +23,7 @@ use std::sync::Wait;
 pub struct Turnstile<H: TurnObject> {
     table: Table<H, View<H::Entry, H::Fixed>, Key<H>, TurnRule<H>, Global>,
     names: u32,
-    bells: Bells,
+    bell: Bell,
 }
 
 impl<H: TurnObject> Model for Turnstile<H> {
@@ -52,7 +52,7 @@ impl<H: TurnObject> Turnstile<H> {
             names,
             object: Snapshot::of(&object),
         };
-        let bells = Bells::quiet(alloc)?;
+        let bell = Bell::quiet(alloc)?;
         let mut words = vec![in alloc; 0u64; names as usize + 2]?;
         words[2] = 1;
         let mut slots = Vec::with_capacity(alloc, 1)?;
@@ -62,7 +62,7 @@ impl<H: TurnObject> Turnstile<H> {
                 Turnstile {
                     table,
                     names,
-                    bells,
+                    bell,
                 },
                 Pass { seat, name: 0 },
             )),
@@ -128,7 +128,7 @@ impl<H: TurnObject> Turnstile<H> {
         let Turnstile {
             table,
             names: _,
-            bells: _,
+            bell: _,
         } = self;
         let mut closed = table.close_with(seat);
         let object = closed.take(0);

@@ -14,10 +14,11 @@ use atomic_table::Seat;
 use std::sync::Wait;
 use std::{hint, thread};
 
-// How often a caller looks for its turn before it sleeps, where no more than `NEAR` turns come before its own.
+// How often a caller looks whether the lock is free before it leaves its processor to others.
 const LOOKS: u32 = 100;
 
-const NEAR: u64 = 2;
+// How often it does so before it sleeps.
+const YIELDS: u32 = 16;
 
 impl<H: TurnObject> Turnstile<H> {
     // A whole turn of a pass's seat.
@@ -44,7 +45,47 @@ impl<H: TurnObject> Turnstile<H> {
         reply
     }
 
-    // At the last ticket it waits for ever.
+    // Whether no ticket is drawn that is not served yet, by a look at the next one.
+    fn is_free(&self, next: u64) -> bool {
+        next == self.table.shared.peek(1)
+    }
+
+    // Looks a few times. True where it found the lock free.
+    fn finds_it_free(&self) -> bool {
+        for _ in 0..LOOKS {
+            if self.is_free(self.table.shared.peek(0)) {
+                return true;
+            }
+            hint::spin_loop();
+        }
+        false
+    }
+
+    // True where it found the lock free, false where the others had their processors for a while and it still is not.
+    fn lets_others_go(&self) -> bool {
+        for _ in 0..YIELDS {
+            if self.finds_it_free() {
+                return true;
+            }
+            thread::yield_now();
+        }
+        false
+    }
+
+    // Waits while the lock is not free, and sleeps at most once. Who was woken lies down again, since others may sleep.
+    fn wait_for_others<R: Wait>(&self, rt: &R) {
+        if self.lets_others_go() {
+            return;
+        }
+        self.bell.lie_down();
+        if !self.is_free(self.table.shared.peek(0)) {
+            self.bell.sleep(rt);
+            self.bell.lie_down();
+        }
+    }
+
+    // Who draws a ticket finds it served, since none is drawn before the lock is free. At the last ticket it waits for
+    // ever.
     pub(super) fn draw_ticket<R: Wait>(
         &self,
         rt: &R,
@@ -59,40 +100,16 @@ impl<H: TurnObject> Turnstile<H> {
         let shared = &self.table.shared;
         for _ in rt.forever() {
             let next = shared.peek(0);
-            if next < u64::MAX {
+            if next < u64::MAX && self.is_free(next) {
                 let found = shared.compare_exchange::<Draw>(seat, 0, next, next + 1);
                 if found == next {
                     return next;
                 }
             } else {
-                thread::yield_now();
+                self.wait_for_others(rt);
             }
         }
         unreachable!()
-    }
-
-    // Looks a few times for the turn while the ticket is among the next. True where the object came out to the seat.
-    fn looks(&self, seat: &mut Seat<H, View<H::Entry, H::Fixed>>, ticket: u64) -> bool
-        requires table { seat.old.table_id ≡ self.now.id }
-        requires start { is_some seat.old.me.0.start ≡ true }
-        requires ticket { (seat.old.me.0.waits ≡ true) × (seat.old.me.0.turn ≡ false)
-            × (seat.old.me.0.ticket ≡ ticket) }
-        ensures table { (seat.new.table_id ≡ seat.old.table_id) × (seat.new.id ≡ seat.old.id) }
-        ensures sees { result ≡ true →
-            Sees H.history H.fixed H.legal H.fits (λ x. (0, x) ∷ seat.old.me.1) seat.old.me seat.new.me }
-        ensures same { result ≡ false → seat.new.me ≡ seat.old.me }
-    {
-        for _ in 0..LOOKS {
-            let served = self.table.shared.load::<Look<H>>(seat, 1);
-            if served == ticket {
-                return true;
-            }
-            if ticket.saturating_sub(served) > NEAR {
-                return false;
-            }
-            hint::spin_loop();
-        }
-        false
     }
 
     // The object comes out to the seat.
@@ -104,16 +121,12 @@ impl<H: TurnObject> Turnstile<H> {
         ensures table { (seat.new.table_id ≡ seat.old.table_id) × (seat.new.id ≡ seat.old.id) }
         ensures sees { Sees H.history H.fixed H.legal H.fits (λ x. (0, x) ∷ seat.old.me.1) seat.old.me seat.new.me }
     {
-        if self.looks(seat, ticket) {
-            return;
-        }
         for _ in rt.forever() {
-            self.bells.lie_down(ticket);
             let found = self.table.shared.load::<Look<H>>(seat, 1);
             if found == ticket {
                 return;
             }
-            self.bells.sleep(rt, ticket);
+            thread::yield_now();
         }
         unreachable!()
     }
@@ -152,7 +165,7 @@ impl<H: TurnObject> Turnstile<H> {
     {
         let shared = &self.table.shared;
         shared.store::<End<H>>(seat, 1, ticket + 1);
-        self.bells.ring(ticket + 1);
+        self.bell.ring();
     }
 
     // The same wait where the turnstile is closed: the object stays in the slot.
@@ -170,12 +183,11 @@ impl<H: TurnObject> Turnstile<H> {
             × IsPrefix seat.old.me.0.front log }
     {
         for _ in rt.forever() {
-            self.bells.lie_down(ticket);
             let found = self.table.shared.load::<LastLook>(seat, 1);
             if found == ticket {
                 return;
             }
-            self.bells.sleep(rt, ticket);
+            thread::yield_now();
         }
         unreachable!()
     }

@@ -1,0 +1,58 @@
+//! Where callers sleep while they wait. The bell tells nothing of the lock, and who is woken looks at the lock again.
+ghost use Rattle.std.specs.Prelude.{◌≡◌};
+
+use atomic_table::{Play, Table, TableRule};
+use std::alloc::{AllocError, Global};
+use std::sync::Wait;
+
+const QUIET: u64 = 0;
+
+// A caller sleeps on the bell, or is about to.
+const ASLEEP: u64 = 1;
+
+struct Anything;
+
+impl TableRule<u8, (), ()> for Anything {
+    ghost holds = { λ _ _. Unit {0} };
+
+    ghost first = { λ _. tt };
+}
+
+impl Play<u8, ()> for Anything {
+    ghost then = { λ _ _ _ _. Unit {0} };
+}
+
+/// The bell of one lock.
+#[derive(Drop)]
+pub(crate) struct Bell {
+    table: Table<u8, (), (), Anything, Global>,
+    ghost count: { table.shared.table_id.words ≡ 1 },
+}
+
+impl Bell {
+    pub(crate) fn quiet(alloc: Global) -> Result<Bell, AllocError> {
+        let words = [QUIET];
+        let (table, _seat) = Table::of_words(alloc, words.as_slice(), &())?;
+        Ok(Bell { table })
+    }
+
+    /// Says that a caller sleeps, or is about to. Who says it looks at the lock once more before it sleeps.
+    pub(crate) fn lie_down(&self) {
+        self.table.shared.swap_new_seat::<Anything>(0, ASLEEP);
+    }
+
+    /// Sleeps until the bell wakes the caller, or not at all where it rang since the caller lay down. It may also
+    /// return for no reason.
+    pub(crate) fn sleep<R: Wait>(&self, rt: &R) {
+        self.table.shared.park(rt, 0, ASLEEP as u32);
+    }
+
+    /// Wakes one of those who sleep, if any does. For the others' sake it lies down again before it looks at the lock.
+    pub(crate) fn ring(&self) {
+        if self.table.shared.peek(0) == QUIET {
+            return;
+        }
+        self.table.shared.swap_new_seat::<Anything>(0, QUIET);
+        self.table.shared.wake_one(0);
+    }
+}
