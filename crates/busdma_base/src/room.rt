@@ -27,7 +27,7 @@ impl<T> Model for RoomyList<T> {
 }
 
 impl<T> RoomyList<T> {
-    /// An empty list with no room.
+    /// An empty list, of which no clause says that it has room.
     pub fn new(alloc: Global) -> RoomyList<T>
         ensures empty { result.items ≡ [] }
     {

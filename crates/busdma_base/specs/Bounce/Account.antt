@@ -6,7 +6,8 @@ use Rattle.busdma_base.specs.declared.name.MapId.{MapId}
 use Rattle.busdma_base.specs.declared.bounce.zone.Waiter.{Waiter}
 use Rattle.busdma_base.specs.declared.bounce.zone.ZoneCounts.{ZoneCounts}
 
--- a bounce zone: its pages in list order, its living maps, the maps that wait, and how many loads were deferred so far
+-- a bounce zone: its pages in list order, its living maps, the maps that wait, and how many loads waited so far and
+-- then had all their pages
 pub record Zone : Type 0 where
   pub lowaddr : ℕ
   pub alignment : ℕ

@@ -4,7 +4,7 @@ use Rattle.busdma_base.specs.declared.name.MapId.{MapId}
 use Rattle.busdma_base.specs.Bounce.Account.{Account}
 use Rattle.busdma_base.specs.Bounce.Share.{Same, share}
 
--- both accounts have the same of each name of the lane, and the same memory
+-- both accounts have the same of each name of the lane, and the same maxmem
 pub record SameFor (lane : ℕ) (a b : Account) : Type 0 where
   pub names : (m : MapId) → m.lane.0 ≡ lane → Same (share m a) (share m b)
   pub maxmem : b.maxmem ≡ a.maxmem

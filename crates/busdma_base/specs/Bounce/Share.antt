@@ -9,7 +9,8 @@ use Rattle.busdma_base.specs.Bounce.Conditions.{memories}
 use Rattle.busdma_base.specs.Bounce.MemoryRuns.{frames_of}
 
 -- how often a name is among the maps of a zone, among all maps, how many pages it holds, how often it holds a page of
--- a zone, how often it waits for so many pages of a zone, how often it waits at all, and its memories
+-- a zone, how often it waits for so many pages of a zone or has them promised in the callback list, how often it does
+-- so at all, how many memories have it, and the frames of these
 pub record Share : Type 0 where
   pub made : ℕ → ℕ
   pub in_zones : ℕ

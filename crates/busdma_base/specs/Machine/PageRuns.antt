@@ -30,8 +30,8 @@ share_page a b = meet (a.va.0 / 4096) a.count (b.va.0 / 4096) b.count
 abbrev pub is_taken : PageRun → List Driver → Bool
 is_taken run drivers = list_any (λ d. list_any (share_frame run) d.pages) drivers
 
--- a run has a page, lies on page boundaries below the end of pages, has frames of the machine
--- alone, and shares none of them, nor a virtual page, with what came before it
+-- a run has a page, lies on page boundaries below the end of pages, has frames of the machine alone, and shares no
+-- frame with earlier drivers, and no frame and no virtual page with the driver's runs before it
 pub record IsPageRun (frames : List FrameRun) (earlier : List Driver)
     (before : List PageRun) (run : PageRun) : Type 0 where
   pub some : 1 ≤ run.count

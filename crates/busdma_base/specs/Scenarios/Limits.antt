@@ -9,7 +9,7 @@ frames_limit = 8192
 abbrev pub frame_numbers : ℕ
 frame_numbers = 2 ^ 30
 
--- pages that a zone may grow to
+-- the greatest max_bpages: the pages up to which a zone that has maps grows for further maps
 abbrev pub bpages_limit : ℕ
 bpages_limit = 8192
 

@@ -14,7 +14,7 @@ use Rattle.busdma_base.specs.Scenarios.Operations.{about, about_item, items_of, 
 abbrev pub steps_of : List Op → ℕ
 steps_of script = length script + sum_by (λ o. length (items_of o)) script
 
--- an item uses a name that an operation up to its load makes, and keeps the limit on an access
+-- an item uses a name that an operation before its load makes, and keeps the limit on an access
 pub record IsItem (before : List Op) (i : Item) : Type 0 where
   pub made : IsMade before (about_item i).uses
   pub read : (about_item i).reads ≤ access_limit

@@ -86,8 +86,8 @@ pub trait HubDoor {
         ensures held { Holds (seen self.old) map.lane.0 (DestroyMap map zone) Nothing (seen self.new) }
         ensures fixed { fixed self.new ≡ fixed self.old };
 
-    /// The wish of a load for `need` pages, at least one. Where too few are free, a load with
-    /// `nowait` gets none, and any other waits with all that are.
+    /// The wish of a load for `need` pages, at least one; its map holds no page and is in no list.
+    /// Where too few are free, a load with `nowait` gets none, and any other waits with all that are.
     fn grab(
         &mut self,
         alloc: Global,
@@ -120,8 +120,9 @@ pub trait HubDoor {
             (CalledFor c.map (as_pages (page_addresses c.pages.items))) (seen self.new)) }
         ensures fixed { fixed self.new ≡ fixed self.old };
 
-    /// The frames of a new dmamem memory, which follow one another; None where no such run is
-    /// free.
+    /// The frames of a new dmamem memory: the lowest free ones that follow one another and have room
+    /// for the tag's maxsize, at least one, that lie at or below its lowaddr, and in which those bytes
+    /// cross no multiple of its boundary. None where no such run is free.
     fn mem_alloc(
         &mut self,
         alloc: Global,

@@ -3,7 +3,7 @@
 use std::marker::Model;
 
 /// The account with which the history of the bounce lock began, as contracts see what no call at the lock
-/// changes. No value of it is made (own).
+/// changes. No value of it is made.
 #[derive(Drop)]
 pub struct Opening {
     _none: (),

@@ -14,7 +14,7 @@ pub struct Grown {
 }
 
 /// The counts of a zone, after the sysctl values under `hw.busdma` of the x86 bounce code: pages,
-/// and how many syncs copied and how many loads were deferred so far.
+/// and so far how many syncs copied and how many loads waited and then had all their pages.
 #[derive(Clone, Copy, Debug, PartialEq, Eq)]
 pub struct ZoneCounts {
     pub total: u32,
@@ -27,8 +27,8 @@ pub struct ZoneCounts {
     pub alignment: u64,
 }
 
-/// A map that waits for pages of its zone, or whose load is complete and awaits its callback: it
-/// has `have` of the `need` pages.
+/// A map that waits for pages of its zone, or whose load is complete and awaits its callback:
+/// `have` of the `need` pages are promised to it.
 #[derive(Clone, Copy, Debug, PartialEq, Eq)]
 pub struct Waiter {
     pub map: MapId,

@@ -43,8 +43,9 @@ pub fn pages_lie_low()
         PagesLieLow (account_of a es) }
 {}
 
-/// Each frame of a scenario's opening has a number below maxmem; where that holds of an account, it
-/// holds after each sound history. Each frame that such a history leads to is a whole one.
+/// Each frame of a scenario's opening has a number below maxmem; where that holds of an account whose
+/// lists fit together, it holds after each sound history. Where a sound history begins with an opening,
+/// each frame that it leads to is a whole one, of a number below 2^30.
 pub fn frames_lie_below_maxmem()
     ensures opening { (s : Scenario) → LiesBelowMaxmem (opening s) }
     ensures history { (a : Account) (es : List HoldEntry) → IsWellFormed a → IsSound a es →

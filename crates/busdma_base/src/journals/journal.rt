@@ -10,7 +10,7 @@ use std::alloc::AllocError;
 /// One of the three that act for a driver.
 #[derive(Clone, Copy, Debug, PartialEq, Eq)]
 pub enum Side {
-    /// The driver itself, along its script.
+    /// The driver itself, along its script; pages that it gives back go first.
     Script,
     /// Its device, along the transfer queue.
     Transfer,

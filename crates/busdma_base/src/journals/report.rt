@@ -16,13 +16,13 @@ pub enum Errno {
 pub enum ReportName {
     /// The tag, map or memory does not exist now.
     Absent,
-    /// The driver cannot reach the byte.
+    /// The driver cannot reach the byte, or it lies behind the last frame of an unmapped bio.
     Unmapped,
     /// The map is loaded, waits for pages or gives them back.
     MapBusy,
     /// The map is not loaded.
     NotLoaded,
-    /// The access reaches past the end of the load.
+    /// The access of the device, or the range of a sync, reaches past the end of the load.
     PastEnd,
     /// The device reads a byte that its map does not lend to read.
     DeviceReadUnlent,
@@ -38,11 +38,12 @@ pub enum ReportName {
     SyncOrder,
     /// A sync that has a PRE and a POST.
     MixedSync,
-    /// A byte that the device may write would be lent twice, by two maps or by two positions of one.
+    /// A byte that the device may write would be lent by two maps, or by one in whose buffer it stands more than once.
     Overlap,
     /// No load of the map has called or stored a callback.
     NotDeferred,
-    /// The byte is memory of another map.
+    /// The byte is a memory's, and the map is no memory's; or the map is a memory's own, and the byte is not that
+    /// memory's at this place of the load.
     ForeignMemory,
 }
 
