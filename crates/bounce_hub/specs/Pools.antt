@@ -42,11 +42,12 @@ owed a =
 abbrev pub waiting : Account → ℕ
 waiting a = sum_by (λ z. length z.wait) a.zones
 
--- how many loads were deferred or are waiting
+-- how many loads waited and then had all their pages, or are waiting
 abbrev pub deferrals : Account → ℕ
 deferrals a = sum_by (λ z. z.deferred + length z.wait) a.zones
 
--- the bank, the zones and the callback list are the account's, and there is room for each map that waits
+-- the bank, the zones, the callback list, the number of entries to come and the two constants are the account's, and
+-- the callback list has room for each map that waits
 pub record Agrees (p : Pool) (a : Account) : Type 0 where
   pub bank : free_frames p.bank ≡ a.bank
   pub count : length p.zones.items ≡ length a.zones

@@ -107,7 +107,7 @@ impl Pool {
     }
 
     /// Moves so many of the lowest free frames to the zone at a place, or to a new one there, as far
-    /// as there are any below its lowaddr, and answers how many.
+    /// as there are any at or below its lowaddr, and answers how many.
     pub(crate) fn grow(
         &mut self,
         alloc: Global,

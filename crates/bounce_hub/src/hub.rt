@@ -37,7 +37,8 @@ impl Model for Hub {
 }
 
 impl Hub {
-    /// A hub of the free frames of a bank, with no zone and an empty history.
+    /// A hub of the free frames of a bank, with no zone and an empty history. `maxmem` is in frames: the
+    /// number of the machine's highest frame plus one.
     pub fn new(alloc: Global, bank: FrameBank, max_bpages: u32, maxmem: u64) -> Hub
         ensures made { result ≡ record { opening = opening bank max_bpages maxmem; history = [] } }
         ensures form { IsOpening result.opening }

@@ -13,8 +13,8 @@ use busdma_base::{MapId, Pa, PaList, Page, PageList, ZoneCounts, ZoneId};
 use std::alloc::{AllocError, Global};
 use wait_list::{ReadyList, WaitList};
 
-/// A zone, the maps that wait for its pages, the number of its living maps, and how many loads were
-/// deferred so far.
+/// A zone, the maps that wait for its pages, the number of its living maps, and how many loads waited
+/// so far and then had all their pages.
 #[derive(Drop)]
 pub struct HubZone {
     pub zone: Zone,

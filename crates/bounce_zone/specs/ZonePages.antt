@@ -37,7 +37,7 @@ free_pages z = length z.pages - z.reserved
 abbrev pub total_pages : ZonePages → ℕ
 total_pages z = length z.pages + z.active
 
--- the counts of a zone, where so many syncs copied and so many loads were deferred so far
+-- the counts of a zone, where so far so many syncs copied, and so many loads waited and then had all their pages
 abbrev pub zone_counts : ZonePages → ℕ → ℕ → ZoneCounts
 zone_counts z bounced deferred = record {
   total = total_pages z;
@@ -50,7 +50,8 @@ zone_counts z bounced deferred = record {
   alignment = z.alignment;
 }
 
--- what is true of each zone: its list has the free and the reserved pages, and has room for those with maps
+-- what is true of each zone: its list has the free and the reserved pages, and has room for those with maps, and all
+-- its pages are fewer than 2^32
 pub record IsCounted (pages : List FrameBytes) (free reserved active capacity : ℕ) : Type 0 where
   pub listed : free + reserved ≡ length pages
   pub roomy : free + reserved + active ≤ capacity

@@ -13,7 +13,7 @@ fn small_bank(alloc: Global) -> Result<FrameBank, AllocError> {
     FrameBank::of_frames(alloc, &FRAMES)
 }
 
-/// The counts of a zone of lowaddr 0xffffff, where 7 syncs copied and 5 loads were deferred.
+/// The counts of a zone of lowaddr 0xffffff, where 7 syncs copied, and 5 loads waited and then had all their pages.
 fn counts(total: u32, free: u32, reserved: u32, active: u32) -> ZoneCounts {
     ZoneCounts {
         total,
@@ -36,7 +36,7 @@ fn put_back(rt: &impl Abort, zone: &mut Zone, list: &mut PageList) -> Option<u64
     Some(frame)
 }
 
-/// The frames of so many pages, which are reserved and taken.
+/// So many pages, or all that are free, which are reserved and taken.
 fn take(alloc: Global, zone: &mut Zone, count: u32) -> Result<PageList, AllocError> {
     let got = zone.reserve(count);
     let mut pages = PageList::with_room(alloc, got as usize)?;

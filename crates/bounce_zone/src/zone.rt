@@ -82,7 +82,7 @@ impl Zone {
         Ok(added)
     }
 
-    /// Reserves as many of the free pages as are wanted.
+    /// Reserves so many of the free pages, or all where fewer are free, and answers how many.
     pub fn reserve(&mut self, wanted: u32) -> u32
         ensures got { result ≡ min (free_pages self.old) wanted }
         ensures zone { self.new ≡ reserving result self.old }
@@ -116,15 +116,14 @@ impl Zone {
         self.active -= 1;
     }
 
-    /// The highest physical address that a byte of its pages can have.
+    /// The physical address that it was made with: the pages that `grow` adds end at or below it.
     pub fn lowaddr(&self) -> Pa
         ensures { result.0 ≡ self.now.lowaddr }
     {
         self.lowaddr
     }
 
-    /// The alignment in bytes of its pages' physical addresses: that of its first tag, and at least
-    /// a page's.
+    /// The alignment, in bytes, that it was made with.
     pub fn alignment(&self) -> u64
         ensures { result ≡ self.now.alignment }
     {
@@ -145,7 +144,8 @@ impl Zone {
         self.free
     }
 
-    /// The counts of the zone, where so many syncs copied and so many loads were deferred so far.
+    /// The counts of the zone, where so far so many syncs copied, and so many loads waited and then
+    /// had all their pages.
     pub fn counts(&self, bounced: u64, deferred: u64) -> ZoneCounts
         ensures counts { result ≡ zone_counts self.now bounced deferred }
         ensures sum { result.free + result.reserved + result.active ≡ result.total }

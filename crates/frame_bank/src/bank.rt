@@ -80,7 +80,8 @@ impl FrameBank {
 
     /// Takes out the lowest frames that follow one another, lie at or below an address, and whose
     /// first `len` bytes cross no multiple of the boundary, where 0 is none: as many as have `len`
-    /// bytes, and one for no byte.
+    /// bytes, and one for no byte. None where there is no such run. Then, and where memory is wanting,
+    /// the bank stays as it was.
     pub fn take_run(
         &mut self,
         alloc: Global,

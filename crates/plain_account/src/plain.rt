@@ -18,8 +18,8 @@ use std::alloc::{AllocError, Global};
 use std::marker::Model;
 pub use step::is_entry;
 
-/// A zone: its pages in list order, its living maps, the maps that wait, and how many loads were
-/// deferred so far. Pages are physical addresses.
+/// A zone: its pages in list order, its living maps, the maps that wait, and how many loads waited
+/// so far and then had all their pages. Pages are physical addresses.
 #[derive(Debug, Drop)]
 struct PlainZone {
     lowaddr: u64,
@@ -107,7 +107,8 @@ impl Model for PlainAccount {
 }
 
 impl PlainAccount {
-    /// An account of free frames, by their physical addresses, and nothing else.
+    /// An account of free frames, by their physical addresses, with the two constants, and nothing
+    /// else. `maxmem` is in frames: the number of the machine's highest frame plus one.
     pub fn new(alloc: Global, bank: Vec<u64>, maxmem: u64, max_bpages: u32) -> PlainAccount
         ensures { result ≡ fresh_account bank.items maxmem max_bpages }
     {

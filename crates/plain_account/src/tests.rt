@@ -22,7 +22,7 @@ fn small_machine(
     Ok(PlainAccount::new(alloc, bank, 0x1010, max_bpages))
 }
 
-/// Limits that reach up to the end of frame 0xfff, with one segment list of this size.
+/// Limits that reach up to the end of frame 0xfff, with this maxsize and number of segments.
 fn low_tag(maxsize: u64, nsegments: u32) -> TagLimits {
     TagLimits {
         alignment: 1,

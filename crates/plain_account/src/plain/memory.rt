@@ -121,7 +121,7 @@ fn other_memories(
 }
 
 impl PlainAccount {
-    /// The physical addresses of the frames of a memory, in rising order.
+    /// The physical addresses of the frames of a memory, in the order in which the account has them.
     pub fn memory_frames(&self, alloc: Global, mem: MapId) -> Result<Vec<u64>, AllocError>
         ensures { IfOk result (λ v. v.items ≡ frames_of mem self.now.mems) }
     {

@@ -130,7 +130,7 @@ impl PlainAccount {
         }
     }
 
-    /// The zone has other maps that wait, and so many more loads were deferred.
+    /// The zone has other maps that wait, and so many more loads waited and then had all their pages.
     fn set_wait(&mut self, zone: u32, wait: Vec<Waiter>, more: usize) -> Result<(), AllocError>
         ensures { let old = zone_at self.old zone in OnOk result (self.new ≡ with_zone self.old zone
             (record old { wait = wait.items; deferred = old.deferred + more })) }
