@@ -3,8 +3,8 @@
 use busdma_base::{Called, Grabbed, Grown, LaneId, MapId, Page, PageList, TagLimits, ZoneId};
 use std::alloc::{AllocError, Global};
 
-/// A call of `HubDoor` with its arguments, one variant for each of the eight (own). Memory that the
-/// call takes comes from `alloc`.
+/// A call of `HubDoor` with its arguments, one variant for each of the eight. Memory that the call
+/// takes comes from `alloc`.
 #[derive(Drop)]
 pub enum DoorCall {
     /// The first allocation of a tag with ALLOCNOW.

@@ -9,7 +9,7 @@ use std::sync::Wait;
 use turnstile::{Pass, Turnstile};
 
 /// Joins the passes of lanes to the first one, waits for a last turn, closes the turnstile and gives
-/// the hub. It takes no memory, and may wait for ever (own).
+/// the hub. It takes no memory, and may wait for ever.
 pub fn close_after<Rt: Wait>(
     rt: &Rt,
     turnstile: Turnstile<HubObject>,

@@ -17,7 +17,7 @@ use std::sync::Wait;
 use turnstile::{Pass, Turnstile};
 
 /// Which pass a door has, as contracts see it: its turnstile, how that started, and its name. No
-/// value of it is made (own).
+/// value of it is made.
 #[derive(Drop)]
 pub struct PassPlace {
     _none: (),
@@ -33,7 +33,7 @@ impl Model for PassPlace {
 
 /// A lane's door to a hub that stands in a turnstile. It serves the lane whose number is one below
 /// the pass's name. Each of its calls waits for the pass's turn, holds the hub for that one call,
-/// and may wait for ever. Contracts see it as the pass (own).
+/// and may wait for ever. Contracts see it as the pass.
 #[derive(Drop)]
 pub struct PassDoor<'a, Rt: Wait> {
     rt: &'a Rt,

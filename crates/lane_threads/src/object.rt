@@ -10,7 +10,7 @@ use std::marker::Model;
 use turnstile::TurnObject;
 
 /// A hub in a turnstile, where each call comes from the pass of its lane: the lane's number plus one
-/// is the pass's name. Contracts see it as the hub (own).
+/// is the pass's name. Contracts see it as the hub.
 #[derive(Drop)]
 pub struct HubObject {
     hub: Hub,

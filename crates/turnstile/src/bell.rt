@@ -41,13 +41,14 @@ impl Bell {
         self.table.shared.swap_new_seat::<Anything>(0, ASLEEP);
     }
 
-    /// Sleeps until the bell wakes the caller, or not at all where it rang since the caller lay down. It may also
-    /// return for no reason.
+    /// Sleeps until the bell wakes the caller, or not at all where it rang since the caller lay down and nobody lay
+    /// down after that. It may also return for no reason.
     pub(crate) fn sleep<R: Wait>(&self, rt: &R) {
         self.table.shared.park(rt, 0, ASLEEP as u32);
     }
 
-    /// Wakes one of those who sleep, if any does. For the others' sake it lies down again before it looks at the lock.
+    /// Wakes one of those who sleep, if any does and somebody lay down since it last rang. For the others' sake who is
+    /// woken lies down again before it looks at the lock.
     pub(crate) fn ring(&self) {
         if self.table.shared.peek(0) == QUIET {
             return;

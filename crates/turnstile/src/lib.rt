@@ -1,5 +1,6 @@
-//! A lock that serves its callers in the order in which they drew their tickets, round an object whose calls make one
-//! history. Each caller has a pass, and a pass knows how that history begins.
+//! A lock round an object whose calls make one history. Its callers have one turn after another. A ticket is drawn
+//! where the lock is free, so who waits has none, and in what order those who wait come to their turns is not said.
+//! Each caller has a pass, and a pass knows how that history begins.
 #![tactic(auto)]
 
 mod bell;

@@ -17,8 +17,9 @@ use std::marker::Model;
 use std::snapshot::Snapshot;
 use std::sync::Wait;
 
-/// A lock round an object. Who holds a pass of it may call the object, and waits until its turn comes: tickets are
-/// drawn and served in one order. There is a fixed number of names, the numbers below it, and each is taken once.
+/// A lock round an object. Who holds a pass of it may call the object, and waits until its turn comes. Tickets are
+/// drawn and served in one order, but each is drawn where the lock is free, and nothing says who of those that wait
+/// draws it. There is a fixed number of names, the numbers below it, and each is taken at most once.
 #[derive(Drop)]
 pub struct Turnstile<H: TurnObject> {
     table: Table<H, View<H::Entry, H::Fixed>, Key<H>, TurnRule<H>, Global>,

@@ -8,7 +8,8 @@ use std::marker::Model;
 
 /// What one caller knows of the turns of one turnstile, under a name that no other pass of it has. Contracts see which
 /// turnstile it is of, how that started, the name, the front (the turns so far, as the pass knows them), the names that
-/// ended in it, and those that it found taken. A pass that is dropped keeps its name taken, and stops nobody.
+/// ended in it, and the further names that it knows to be taken. A pass that is dropped keeps its name taken, and
+/// stops nobody.
 #[derive(Drop)]
 pub struct Pass<H: TurnObject> {
     pub(crate) seat: Seat<H, View<H::Entry, H::Fixed>>,

@@ -45,7 +45,7 @@ impl<H: TurnObject> Turnstile<H> {
         reply
     }
 
-    // Whether no ticket is drawn that is not served yet, by a look at the next one.
+    // Whether no ticket is drawn whose turn has not ended, where `next` was seen as the next ticket.
     fn is_free(&self, next: u64) -> bool {
         next == self.table.shared.peek(1)
     }
@@ -168,7 +168,7 @@ impl<H: TurnObject> Turnstile<H> {
         self.bell.ring();
     }
 
-    // The same wait where the turnstile is closed: the object stays in the slot.
+    // As `await_turn`, where the turnstile is closed: the object stays in the slot.
     pub(super) fn await_last_turn<R: Wait>(
         &self,
         rt: &R,
