@@ -21,19 +21,20 @@ ghost use Rattle.busdma_base.specs.declared.bounce.hold.HubReply.{HubReply};
 ghost use Rattle.lane_agreement.specs.Agreement.{Agrees, IsFit};
 ghost use Rattle.lane_agreement.specs.After.{after, after_callback, Asks, IsFresh, IsLike, left_of, brought};
 
-/// A lane that has nothing agrees with an opening that has none of its driver's frames.
+/// A lane that has nothing agrees with an opening of the same maxmem that has none of its driver's frames.
 pub fn opening_agrees()
     ensures { (l : View) (a : Account) → IsFresh l → IsOpening a → l.maxmem ≡ a.maxmem →
         ((f : ℕ) → l.own_frame f ≡ true → times f a.bank ≡ 0) → Agrees l a }
 {}
 
-/// Sound entries of other lanes keep the agreement.
+/// Sound entries of other lanes keep the agreement with an account whose lists fit together.
 pub fn agreement_stays()
     ensures { (l : View) (a : Account) (es : List HoldEntry) → IsWellFormed a → Agrees l a → IsSound a es →
         All (λ e. e.lane.0 ≢ l.id) es → Agrees l (account_of a es) }
 {}
 
-/// Over a door that serves the lane, what comes between keeps the agreement, and a call leads to it.
+/// Over a door that serves the lane, what comes between keeps the agreement, and a call that the lane's own
+/// state allows leads to it.
 pub fn doors_keep_agreement()
     ensures passes { (l : View) (d : Seen) (others : List HoldEntry) (e : Seen) → Agrees l (account d) →
         IsTrue (d.serves l.id) → Passes d others e → Agrees l (account e) }
@@ -47,7 +48,9 @@ pub fn agreement_allows()
     ensures { (l : View) (a : Account) (c : HubCall) → Agrees l a → Asks l c → MayCall l.id c a }
 {}
 
-/// After a call of the lane, the lane that the account's reply makes of it agrees with the new account.
+/// Where a lane agrees with an account that fits, and makes a call that its own state allows, the lane that the
+/// account's reply makes of it agrees with the new account. A lane that unloads a map, or loads an idle one without a
+/// page, makes no call, and still agrees with the account.
 pub fn agreement_follows()
     ensures step { (fits : Bool) (l : View) (c : HubCall) (a : Account) → IsFit a → Agrees l a → Asks l c →
         Agrees (after fits l c (account_step l.id c a).reply) (account_step l.id c a).account }
@@ -62,7 +65,7 @@ pub fn history_fits()
     ensures { (a : Account) (es : List HoldEntry) → IsOpening a → IsSound a es → IsFit (account_of a es) }
 {}
 
-/// A load gets as many pages as it needs.
+/// A load that gets pages, at its wish or with its callback, gets as many as it needs.
 pub fn loads_get_their_need()
     ensures granted { (m : MapId) (z need : ℕ) (nowait : Bool) (a : Account) (pages : List Pa) →
         (grabbed m z need nowait a).reply ≡ Granted pages → length pages ≡ need }

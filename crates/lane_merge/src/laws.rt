@@ -13,17 +13,18 @@ ghost use Rattle.ideal_world.specs.World.{opening_world};
 ghost use Rattle.lane_merge.specs.Merged.{AllRun, AreNumbered, merged, merged_run, world_of};
 ghost use Rattle.lane_merge.specs.Runs.{Log};
 
-/// Where a history is sound from an account on, and the log of each driver runs it by its own entries
-/// of the history, the merged journal leads from the world where the drivers begin, with that account,
-/// to the world where their logs end, with the account that the history leads to.
+/// Where each driver has the number of its place, a history is sound from an account on and has entries
+/// of these drivers alone, and the log of each runs it by its own, the merged journal leads from the world
+/// where the drivers begin, with that account, to the world where their logs end, with the account that
+/// the history leads to.
 pub fn merged_journals_lead()
     ensures { (a : Account) (history : List HoldEntry) (logs : List Log) (firsts lasts : List LaneState) →
         AreNumbered firsts → IsSound a history → AllRun firsts logs history lasts →
         Leads (world_of firsts a) (merged history logs) (world_of lasts (account_of a history)) }
 {}
 
-/// Where the drivers are those of a scenario at its opening, and no actor can step in the world where
-/// their logs end, the merged journal with the counts and the end of that world is legal.
+/// Where that is so of the drivers and the account of a scenario's opening, and no actor can step in the
+/// world where their logs end, the merged journal with the counts and the end of that world is legal.
 pub fn merged_journals_are_legal()
     ensures { (s : Scenario) (history : List HoldEntry) (logs : List Log) (lasts : List LaneState) →
         IsSound (opening s) history → AllRun (opening_world s).lanes logs history lasts →

@@ -29,7 +29,7 @@ pub struct Worker<'s, D: HubDoor + Drop> {
     failed: bool,
 }
 
-/// How many loads of a driver wait after a step, of those that waited before it.
+/// How many loads of a driver wait after a step, where `waiting` did so before it.
 fn waiting_after(waiting: u32, entry: &JournalEntry) -> u32 {
     match (&entry.did, &entry.answer) {
         (Did::Callback { .. }, _) => waiting.saturating_sub(1),
@@ -79,8 +79,8 @@ impl<'s, D: HubDoor + Drop> Worker<'s, D> {
         }
     }
 
-    /// The turn of a side, behind the gate. Tells whether it was a step. Want of memory leaves the
-    /// driver and its log as they were.
+    /// The turn of a side, behind the gate. Tells whether it was a step. By the code alone, want of memory
+    /// leaves the driver and its log as they were, and the turn is counted.
     fn turn<G: Gate>(&mut self, alloc: Global, gate: &G, side: Side) -> Result<bool, AllocError>
         requires { Works D.seen self.old }
         ensures works { Works D.seen self.new }
@@ -160,7 +160,7 @@ impl<'s, D: HubDoor + Drop> Worker<'s, D> {
         }
     }
 
-    /// Whether the last round made a step.
+    /// Whether the last round in which no memory was wanting made a step.
     pub fn has_stepped(&self) -> bool {
         self.stepped
     }

@@ -1,4 +1,4 @@
-//! Drivers leave their threads.
+//! Drivers leave their doors.
 
 ghost use Rattle.std.specs.Prelude.{All, IfOk, map};
 ghost use Rattle.lane_threads.specs.PassDoor.{seen};
