@@ -60,8 +60,8 @@ pub record IsLoadAt (h : Holdings) (place m : ℕ) (b : Bio) (items : List Item)
   pub load : slice_get h.script.now place ≡ Some (Load m buffer flags items)
   pub bytes : bio_at (ideal_of h) buffer ≡ Some b
 
--- the load of a map stands at a place of the script and has these items; the driver reaches its bytes; the room has
--- space for what its callback makes of them, in whichever pages; and its loan is prepared
+-- the load of a map that is not a memory's stands at a place of the script and has these items; the driver reaches its
+-- bytes; the room has space for what its callback makes of them, in whichever pages; and its loan is prepared
 pub record IsAwaiting (h : Holdings) (m load_at : ℕ) (items : List Item) (room : LoadRoom) : Type 0 where
   pub bio : Bio
   pub at : IsLoadAt h load_at m bio items

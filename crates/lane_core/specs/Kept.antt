@@ -59,7 +59,7 @@ pub record Device : Type 0 where
   pub chunks : List Chunk
   pub pages : List FrameBytes
 
--- no load, or none that is ended
+-- where there is no load, or one that has not ended
 abbrev pub no_device : Device
 no_device = record { chunks = []; pages = [] }
 

@@ -91,8 +91,8 @@ pub record AreFirst (l : LaneState) (x : LaneMemory) (b : Bio) : Type 0 where
 abbrev pub AreItsFirst : LaneState → ℕ → Bio → Type 0
 AreItsFirst l m b = (x : LaneMemory) → get l.mems m ≡ Some x → AreFirst l x b
 
--- empty lists have room for the segments of chunks in these pages, for their copy and for the bounced chunks, and the
--- pages are enough
+-- empty lists have room for the segments of chunks in these pages, so far as the tag allows them, for their copy and
+-- for the bounced chunks, and the pages are enough
 pub record HasRoomFor (t : TagLimits) (chunks : List Chunk) (pages : List Pa) (room : LoadRoom) : Type 0 where
   pub empty : room.list.items ≡ []
   pub empty_copy : room.shown.items ≡ []
@@ -113,8 +113,8 @@ pub record IsOverfull (t : TagLimits) (chunks : List Chunk) (pages : List Pa) (r
   pub many : t.nsegments < length (segmentation t (placed_pieces t chunks pages))
   pub none : room.list.items ≡ []
 
--- a load of so many bytes is not too long; its chunks need so many pages, and have so many segments at most, in
--- whichever pages
+-- a load of so many bytes is not too long; its chunks need so many pages; and room for so many segments is enough for
+-- theirs, so far as the tag allows them, in whichever pages
 pub record IsWanted (t : TagLimits) (chunks : List Chunk) (len pages_needed room : ℕ) : Type 0 where
   pub short : len ≤ t.maxsize
   pub need : pages_needed ≡ need_of chunks

@@ -166,7 +166,8 @@ pub(crate) fn measure_parts(tag: &Tag, maxmem: u64, parts: BioParts<'_>) -> Meas
 }
 
 /// Builds the segments and the bounced chunks of the parts of a load into its room, in the pages whose addresses stand
-/// there, and answers whether the segments are few enough. Where they are not, both lists are empty.
+/// there, and answers whether the segments are few enough. Where they are not, the list of segments is empty; so is
+/// that of the chunks, but no clause here says it.
 pub(crate) fn build_parts(tag: &Tag, maxmem: u64, parts: BioParts<'_>, room: &mut LoadRoom) -> bool
     requires stream { IsStream parts }
     requires pages { AllByRecursion IsPage room.old.addresses.items }

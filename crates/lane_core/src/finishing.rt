@@ -18,7 +18,7 @@ impl Holdings<'_> {
     ghost use Rattle.lane_core.specs.Changes.{KeepsBytes, KeepsBytesBut};
     ghost use Rattle.lane_core.specs.Ideal.{ideal_of};
 
-    /// Notes a load of an idle map that ended without one.
+    /// Notes that a load of an idle map was refused: its callback was called, and the map stays idle.
     pub(crate) fn note_tried(&mut self, map: u32)
         requires { is_idle_map (get self.old.maps.map map) ≡ true }
         ensures done { (o : LaneMap) → get (ideal_of self.old).maps map ≡ Some o →

@@ -76,7 +76,8 @@ impl Holdings<'_> {
         }
     }
 
-    /// The first of `len` bytes of frames, which are no memory's.
+    /// The first of `len` bytes of frames that are not mapped, where the map is a memory's: no such byte is
+    /// the memory's.
     fn judge_frames(&self, map: u32, off: u64, len: u64) -> Judged
         ensures { result ≡ judged (λ (x : ℕ × ℕ). foreign_refusal (is_some (get (ideal_of self.now).mems map))) 0
             (enumerate_from 0 (run_of off len)) }
@@ -90,7 +91,8 @@ impl Holdings<'_> {
         foreign(0)
     }
 
-    /// The first byte of a memory among them.
+    /// The first byte of a memory among `len` bytes from a virtual address on, of which the first stands at an offset
+    /// of the load of a map that is no memory's.
     fn judge_shared(&self, from: u128, len: u64, offset: u64) -> Judged
         requires { offset + len < 2 ^ 64 }
         ensures { result ≡ judged (λ v. foreign_refusal (is_memory_byte (ideal_of self.now) v)) offset

@@ -65,8 +65,9 @@ impl Holdings<'_> {
     ghost use Rattle.lane_core.specs.Changes.{KeepsAgenda, KeepsBytesBut, KeepsState, KeepsWhatStays};
     ghost use Rattle.lane_core.specs.Ideal.{given, ideal_of};
 
-    /// Loads a map. It takes all its memory before its one call at the door, and changes the driver after that. The
-    /// load of a memory's own map makes no call.
+    /// Loads a map. Where nothing refuses the load before, and a byte bounces, it makes one call at the door: it takes
+    /// all memory of its own before the call, and changes the ideal driver after it. No other load makes a call, and
+    /// so none of a memory's own map does.
     pub(crate) fn load<D: HubDoor>(
         &mut self,
         alloc: Global,

@@ -1,4 +1,4 @@
-//! Operations on maps that are not loaded.
+//! Making and ending maps, and waiting for them.
 
 ghost use Rattle.std.specs.Prelude.{◌≡◌, ◌<◌, ◌≤◌, true, Some, None, IfOk, OnErr, if◌then◌else◌};
 ghost use Rattle.std.specs.FinMap.{get};
@@ -91,8 +91,8 @@ impl Holdings<'_> {
         Ok(Answer::Done)
     }
 
-    /// Makes a map in the zone of its tag, where all pages came that are wanted. The tag's first allocation is then
-    /// done.
+    /// Makes a map in the zone of its tag, where the tag's first allocation was done before or all pages came that are
+    /// wanted. The first allocation is then done.
     fn create_map<D: HubDoor>(
         &mut self,
         alloc: Global,

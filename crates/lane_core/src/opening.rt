@@ -22,8 +22,8 @@ use phys_memory::LanePages;
 use std::alloc::{AllocError, Global};
 
 impl<'s> Lane<'s> {
-    /// The lane of a driver that has done nothing, with a memory of the driver's pages, in a machine whose frames have
-    /// numbers below `maxmem`.
+    /// The lane of a driver that has done nothing, with a memory of the driver's pages alone that has 0 in every byte,
+    /// in a machine whose frames have numbers below `maxmem`.
     pub fn new(
         alloc: Global,
         id: LaneId,

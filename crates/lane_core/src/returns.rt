@@ -67,7 +67,7 @@ impl Holdings<'_> {
     }
 }
 
-/// Notes that a page of a map left the return queue, whether or not it was the last.
+/// Notes that a page of a map left the return queue. Where it was the map's last there, the map is idle.
 fn note_returned(maps: &mut PlaceTable<KeptMap>, map: u32, last: bool)
     requires { is_returning (get maps.old.map map) ≡ true }
     ensures last { last ≡ true → (o : _) → get maps.old.map map ≡ Some o →

@@ -30,9 +30,9 @@ fn share_of(shares: &[KeptShare], zone: ZoneId) -> u64
 
 impl Lane<'_> {
     /// A turn of a side, at a door to the bounce lock that serves the driver. Its step is the ideal driver's, by the
-    /// reply to its call; its bytes are those of the step, but for pages that came and went. Want of memory leaves the
-    /// driver as it was, and adds no own entry to the door's history. The callbacks, and the script while a page is on
-    /// its way back, want none.
+    /// reply to its call; its bytes are those of the step, but for pages and frames of memories that came and went.
+    /// Want of memory leaves the ideal driver as it was, and the bytes of its frames and of its maps' pages, and adds
+    /// no own entry to the door's history. The callbacks, and the script while a page is on its way back, want none.
     pub fn turn<D: HubDoor>(
         &mut self,
         alloc: Global,
@@ -62,7 +62,8 @@ impl Lane<'_> {
         self.holdings.agenda.first().is_some()
     }
 
-    /// The lane's share of total_bounced of a zone: how many of its syncs copied to or from a page of the zone.
+    /// The lane's share of total_bounced of a zone: how many of its syncs copied to or from a page of the zone, up to
+    /// 2^64 - 1.
     pub fn bounced(&self, zone: ZoneId) -> u64
         ensures { result ≡ (ideal self.now).shares zone.0 }
     {

@@ -1,4 +1,4 @@
-//! What an operation waits for, and what goes on behind a step.
+//! What an item does, what an operation waits for, and how the place and the transfer queue go on.
 
 ghost use Rattle.std.specs.Prelude.{◌≡◌, ◌<◌, ◌≤◌, ◌+◌, ◌-◌, [], ◌∷◌, IfNone, IfOk, IfSome, OnErr, OnOk, OnSome};
 ghost use Rattle.busdma_base.specs.declared.scenarios.script.Op.TheVariants.{Await};

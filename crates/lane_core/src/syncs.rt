@@ -164,7 +164,7 @@ fn sync_loans(loans: &mut LoanTable, map: MapId, off: u64, len: u64, ops: SyncOp
     }
 }
 
-/// Copies a range of a map's load as a sync asks, and counts it, where a byte of it has a bounce page.
+/// Copies a range of a map's load as a sync asks, and counts the sync where it copies a byte to or from a bounce page.
 fn copy_part(
     map: &mut DmaMap<Transfers>,
     memory: &mut LanePages,

@@ -33,7 +33,7 @@ enum TagPlan {
     Grown(Tag),
 }
 
-/// Whether the making of a tag brings pages to its zone.
+/// Whether limits ask for a first allocation at the making of a tag that could bounce: the flag ALLOCNOW.
 fn allocates(limits: &TagLimits) -> bool
     ensures { result ≡ allocnow limits.now.flags }
 {

@@ -1,4 +1,4 @@
-//! Loads that need bounce pages, from their wish for pages on.
+//! Loads that need bounce pages: what is made ready before their wish for pages, and how they go on after it.
 
 ghost use Rattle.std.specs.Prelude.{◌≡◌, ℕ, ◌+◌, ◌-◌, ◌<◌, ◌≤◌, ◌^◌, ◌==◌, true, false, length, Some, None};
 ghost use Rattle.std.specs.Prelude.{OnErr, OnOk};
