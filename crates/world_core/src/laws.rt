@@ -6,8 +6,8 @@ ghost use Rattle.world_core.specs.Wires.{wires_of};
 
 use crate::world::World;
 
-/// The bytes that the frames and the bounce pages of each driver really hold are those of its ideal
-/// memory, in every world.
+/// In every world the bytes that the frames and the bounce pages of each driver really hold are faithful
+/// to its ideal memory.
 pub fn wires_are_faithful(world: &World)
     ensures { AllFaithful (wires_of world.now) (ideal_world world.now) }
 {}

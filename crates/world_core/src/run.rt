@@ -23,7 +23,7 @@ impl Progress<'_> {
     fn turn(&mut self, alloc: Global, actor: Actor) -> Result<(), AllocError>
         ensures { OnOk result (ideal_run self.new ≡ legal.turn (ideal_run self.old) actor) }
     {
-        // Most turns of devices find no item, and most of callbacks none; these cost one look.
+        // Most turns of devices find no item, and most of callbacks no callback; these cost one look.
         if self.world.is_idle(actor) {
             return Ok(());
         }
@@ -57,7 +57,8 @@ impl Progress<'_> {
     }
 }
 
-/// The actors of a round over so many drivers: of each its callback, its transfer and its script.
+/// The actors of a round over so many drivers, in the order of their numbers: of each its callback, its
+/// transfer and its script.
 pub fn round_of(alloc: Global, drivers: u32) -> Result<Vec<Actor>, AllocError>
     ensures { IfOk result (λ round. round.items ≡ round_from 0 drivers) }
 {
@@ -96,7 +97,7 @@ pub fn replay(alloc: Global, scenario: &Scenario) -> Result<Journal, AllocError>
     ensures { IfOk result (IsReplayed scenario.now) }
 {
     let world = World::new(alloc, scenario)?;
-    // Each operation makes an entry, so the list is moved seldom.
+    // Each operation that is done makes an entry, so the list is moved seldom.
     let entries = Vec::with_capacity(alloc, operation_count(scenario))?;
     let mut progress = Progress { world, entries };
     progress.turns(alloc, scenario.order.as_slice())?;
