@@ -15,7 +15,7 @@ use busdma_base::{Answer, Judged, ListOf, Place, Report, ReportName};
 use loan_table::Position;
 use std::alloc::{AllocError, Global};
 
-/// A refusal at a place, or none.
+/// A refusal at a place.
 fn refused(name: ReportName, at: u128) -> Judged
     requires { at < 2 ^ 64 }
     ensures { result ≡ Judged.Refused (record { name = name; at = at }) }

@@ -132,7 +132,7 @@ fn extent_from(bytes: &[u64]) -> Option<Extent>
     })
 }
 
-/// The first of these bytes, so many or all; or those behind them.
+/// The first of these bytes, so many or all; `behind` gives those behind them.
 fn front(bytes: &[u64], most: u128) -> &[u64]
     ensures { result.now ≡ take most bytes.now }
 {

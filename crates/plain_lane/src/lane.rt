@@ -128,8 +128,8 @@ impl PlainMap {
     }
 }
 
-/// A dmamem memory: the place of its tag, the physical address of its first byte, its frames, the
-/// bytes that the driver reaches, and whether it is coherent.
+/// A dmamem memory: the place of its tag, the physical address of its first byte, how many frames it
+/// has, how many bytes the driver reaches, and whether it is coherent.
 #[derive(Clone, Copy, Debug)]
 pub(crate) struct PlainMemory {
     pub(crate) tag: u32,

@@ -109,8 +109,7 @@ impl PlainLane<'_> {
         self.loans.insert(alloc, map, loan)
     }
 
-    /// The sync of a range of a map that is loaded, whose zone is this, and which copies where it is
-    /// done or does not.
+    /// The sync of a range of a map that is loaded.
     fn sync_part(
         &mut self,
         alloc: Global,
@@ -194,7 +193,8 @@ impl PlainLane<'_> {
         }
     }
 
-    /// The driver's share of a zone's total_bounced: how many of its syncs copied.
+    /// The driver's share of a zone's total_bounced: how many of its syncs copied to or from a page of the
+    /// zone, up to 2^64 - 1.
     pub fn bounced(&self, zone: ZoneId) -> u64
         ensures { result ≡ (ideal self.now).shares zone.0 }
     {

@@ -20,7 +20,7 @@ pub(crate) fn could_bounce(limits: &TagLimits, maxmem: u64) -> bool
     limits.lowaddr.0 / 4096 < maxmem || limits.alignment > 1
 }
 
-/// The making of the tag brings pages to its zone.
+/// The making of the tag comes with a first allocation in its zone.
 fn allocates(limits: &TagLimits, maxmem: u64) -> bool
     ensures { result ≡ (could_bounce limits.now maxmem && allocnow limits.now.flags) }
 {
