@@ -1,4 +1,4 @@
--- Whose callback a step calls, and that of each load is called at most once: after bus_dmamap_load(9).
+-- Which load's callback a step calls, and how often the steps of a run call it: after bus_dmamap_load(9).
 use Rattle.std.specs.Prelude.{◌≡◌, ℕ, ◌+◌, ◌==◌, Bool, true, false, ◌&&◌, List, [], ◌∷◌, Option, Some, None}
 use Rattle.std.specs.Prelude.{if◌then◌else◌, is_some, slice_get}
 use Rattle.std.specs.FinMap.{get}

@@ -38,7 +38,7 @@ pub record StandsFrom (place maxmem : ℕ) (tags : FinMap nat_cmp LaneTag) (maps
   pub no_memory : (k : ℕ) → place ≤ k → get mems k ≡ None
   pub each : (k : ℕ) (o : LaneMap) → get maps k ≡ Some o → StandsAt maxmem tags mems k o
 
--- nothing was made yet by what of the script is not done
+-- nothing was made yet by what of the script is not done, and each map stands
 abbrev pub Stands : LaneState → Type 0
 Stands l = StandsFrom l.place l.maxmem l.tags l.maps l.mems
 

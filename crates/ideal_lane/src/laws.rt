@@ -20,8 +20,8 @@ ghost use Rattle.ideal_lane.specs.Standing.{KeepsStanding, Stands};
 ghost use Rattle.ideal_lane.specs.State.{LaneState};
 ghost use Rattle.ideal_lane.specs.Turns.{lane_step};
 
-/// Where a driver and the account agree, the account allows the call of the driver's step, and they
-/// agree after it. The account is one that a sound history leads to.
+/// Where a driver stands and agrees with the account, the account allows the call of the driver's step,
+/// and by the account's reply they agree after it. The account is one that a sound history leads to.
 pub fn step_keeps_agreement()
     ensures allowed { (l : LaneState) (s : Side) (a : Account) → Stands l → AgreesWith l a →
         IsAllowed l.id a (lane_step l s) }
@@ -34,8 +34,9 @@ pub fn step_keeps_standing()
     ensures { (l : LaneState) (s : Side) → Stands l → KeepsStanding (lane_step l s) }
 {}
 
-/// A turn that is a step leaves its driver less to do, where driver and account agree; any other
-/// leaves the driver as it was. The account is one that a sound history leads to.
+/// Where a driver stands and agrees with the account, a turn that is a step by the account's reply
+/// leaves it less to do, and any other leaves it as it was. The account is one that a sound history
+/// leads to.
 pub fn each_step_falls()
     ensures { (l : LaneState) (s : Side) (a : Account) → Stands l → IsFit a → AgreesWith l a →
         FallsOrStays l a (lane_step l s) }
