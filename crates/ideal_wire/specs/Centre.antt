@@ -1,4 +1,4 @@
--- The ideal memory and the wire agree, whatever the traces of the loads are.
+-- When the ideal memory and the wire agree, whatever the traces of the loads are.
 use Rattle.std.specs.Prelude.{◌≡◌, ℕ, true, false, Some, slice_get}
 use Rattle.loan_table.specs.declared.position.Position.{Position}
 use Rattle.loan_table.specs.Loans.{Loans, loan_of, to_write, in_any_way, lent}

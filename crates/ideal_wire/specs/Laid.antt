@@ -63,8 +63,8 @@ pages_alone l = record l { mems = finmap.empty }
 abbrev pub chunks_at : LaneState → LaneMap → ℕ → List Chunk
 chunks_at l o load_at = chunks_for l o false (asked_at load_at (pages_alone l)).entries
 
--- the load for which a map waits is one of the driver's pages alone, so that it names no memory, and its chunks have
--- the need that it waits for, of some pages
+-- a map that waits lends nothing; the load for which it waits is one of the driver's pages alone, so that it names no
+-- memory, and its chunks have the need that it waits for, of one page at least
 pub record IsAwaited (l : LaneState) (m load_at need : ℕ) : Type 0 where
   pub unlent : loan_of l.loans m ≡ no_loan
   pub some : 1 ≤ need

@@ -75,7 +75,7 @@ IsApart-prop l = hlevel (props, AllByRecursion-prop)
 pub IsFaithful-prop : (l : LaneState) (w : Wire) → IsProp (IsFaithful l w)
 IsFaithful-prop l w = hlevel (props, AllByRecursion-prop)
 
--- a number is one power of two
+-- a number is a power of two by one exponent alone
 one-power : (i j : ℕ) → 2 ^ i ≡ 2 ^ j → i ≡ j
 one-power i j same = elim (cases_lt i j) as (λ _. i ≡ j) [
   | inl less ↦ let off : 2 ^ i < 2 ^ j = pow-lt less in absurd (omega (arith, off, same))

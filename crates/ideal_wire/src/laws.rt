@@ -52,15 +52,17 @@ ghost use Rattle.ideal_wire.specs.Served.{AreServed, KeepsServed};
 ghost use Rattle.ideal_wire.specs.WireStep.{Follows, IsRead, load_buses, place_bytes};
 ghost use Rattle.ideal_wire.specs.WireStep as wire;
 
-/// A driver opens with a faithful wire, where its pages hold zeros, and with no load.
+/// A driver opens with a faithful wire, where its pages hold zeros, and with its loads laid, as it has
+/// none.
 pub fn opening_is_faithful()
     ensures faithful { (id maxmem : ℕ) (driver : Driver) (w : Wire) →
         ((a : ℕ) → is_own driver.pages a ≡ true → w a ≡ 0) → IsFaithful (opening_lane id maxmem driver) w }
     ensures laid { (id maxmem : ℕ) (driver : Driver) → AreLaid (opening_lane id maxmem driver) }
 {}
 
-/// A step leaves the wire faithful, where driver and account agree, whatever the reply to its call
-/// that brings no frames but new ones, and whatever bytes its pages bring.
+/// A step leaves a faithful wire faithful, where the driver stands, agrees with the account and has its
+/// loads laid: whatever the reply to its call that brings no frames but new ones, and whatever bytes its
+/// pages bring, where the frames of a memory that come with zeros have zeros.
 pub fn step_stays_faithful()
     ensures { (l : LaneState) (s : Side) (a : Account) (r : HubReply) (w w' : Wire) →
         Stands l → AgreesWith l a → AreLaid l → IsFaithful l w → BringsNew l r →
@@ -68,8 +70,9 @@ pub fn step_stays_faithful()
         IsFaithful (by_reply (lane_step l s) r).lane w' }
 {}
 
-/// What is really read is what the ideal memory has, where driver and account agree: by the driver
-/// at the bytes that it names, and by its device at the bus addresses of its load.
+/// What is really read is what the ideal memory has: by the driver at the bytes that it names, and by
+/// its device at the bus addresses of its load. The driver stands, agrees with the account and has its
+/// loads laid, and its wire is faithful.
 pub fn reads_are_faithful()
     ensures cpu { (l : LaneState) (a : Account) (w : Wire) (place : Place) (len : ℕ) →
         Stands l → AgreesWith l a → AreLaid l → IsFaithful l w →
@@ -79,13 +82,13 @@ pub fn reads_are_faithful()
         IsRead (dev_read m off len l) (load_buses l m off len) w }
 {}
 
-/// What a driver holds lies apart, where it agrees with the account.
+/// What a driver holds lies apart, where it stands, agrees with the account and has its loads laid.
 pub fn agreeing_pages_are_apart()
     ensures { (l : LaneState) (a : Account) → Stands l → AgreesWith l a → AreLaid l → IsApart l }
 {}
 
-/// A sync or a write leaves the wire faithful, where what the driver holds lies apart. Such a call
-/// asks nothing of the account, so any reply gives the driver after it.
+/// A sync or a write leaves a faithful wire faithful, where what the driver holds lies apart and its
+/// loads are laid. Such a call asks nothing of the account, so any reply gives the driver after it.
 pub fn calls_stay_faithful()
     ensures sync { (l : LaneState) (w : Wire) (m ops : ℕ) (r : HubReply) →
         IsApart l → AreLaid l → IsFaithful l w →
@@ -101,7 +104,8 @@ pub fn calls_stay_faithful()
         IsFaithful (by_reply (dev_write m off vs l) r).lane (wire.dev_write m off vs l w) }
 {}
 
-/// What is really read is what the ideal memory has, where what the driver holds lies apart.
+/// What is really read is what the ideal memory has, where what the driver holds lies apart, its loads
+/// are laid and its wire is faithful.
 pub fn calls_read_faithfully()
     ensures cpu { (l : LaneState) (w : Wire) (place : Place) (len : ℕ) → IsApart l → AreLaid l → IsFaithful l w →
         IsRead (cpu_read place len l) (place_bytes l place len) w }
@@ -116,7 +120,8 @@ pub fn calls_read_faithfully()
 /// obey the tag too, though the chunks of such a load are cut as if it had no alignment.
 /// So it is of the segments that a turn answers by the account's reply, where driver and account
 /// agree and the zones of maps serve their tags: it has ended a load in its own step, or at the
-/// callback of one that waited. The account is one that a sound history leads to.
+/// callback of one that waited. The account is one that a sound history leads to. In all of this the
+/// driver stands, lies in its machine and has its loads laid.
 pub fn accepted_loads_obey()
     ensures load { (l : LaneState) (m : ℕ) (o : LaneMap) (b : Bio) (load_at : ℕ) (nowait : Bool)
         (items : List Item) (pages : List ℕ) → Stands l → AreLaid l → IsInMachine l → IsBioOf l.pages b →
@@ -140,16 +145,17 @@ pub fn accepted_loads_obey()
         AnswersLoads l a (lane_step l s) }
 {}
 
-/// A step leaves the loads of a driver laid, by the account's reply to its call, where driver and
-/// account agree. The account is one that a sound history leads to.
+/// A step leaves the loads of a driver laid that are laid, by the account's reply to its call, where the
+/// driver stands, agrees with the account and lies in its machine. The account is one that a sound
+/// history leads to.
 pub fn loads_stay_laid()
     ensures { (l : LaneState) (s : Side) (a : Account) → Stands l → AgreesWith l a → IsFit a → EachFrame IsFrame a →
         IsInMachine l → AreLaid l → KeepsLaid l.id a (lane_step l s) }
 {}
 
 /// The frames that the account's reply to a call brings to a driver are new to it: whole frames of the
-/// machine, and none of its pages or of its memories. Driver and account agree, and the account's
-/// frames are whole ones of the machine.
+/// machine, and none of its pages or of its memories. Driver and account agree, the driver's loads are
+/// laid, and the account's frames are whole ones of the machine.
 pub fn given_runs_are_new()
     ensures { (l : LaneState) (a : Account) (lane : ℕ) (c : HubCall) → AgreesWith l a → EachFrame IsFrame a →
         LiesBelowMaxmem a → AreLaid l → BringsNew l (account_step lane c a).reply }
@@ -164,8 +170,9 @@ pub fn steps_stay_in_machine()
         IsInMachine (by_reply (lane_step l s) r).lane }
 {}
 
-/// The zone of each map serves the map's tag: in no map at a driver's opening, after each step of
-/// the driver with the account's reply, and whatever others call.
+/// The zone of each map that has one serves the map's tag: at a driver's opening, where there is no map;
+/// after each step with the account's reply of a driver that stands and lies in its machine; and
+/// whatever others call.
 pub fn zones_serve_their_tags()
     ensures opens { (id maxmem : ℕ) (driver : Driver) (a : Account) → AreServed (opening_lane id maxmem driver) a }
     ensures kept { (l : LaneState) (s : Side) (a : Account) → Stands l → IsInMachine l → AreServed l a →
@@ -175,7 +182,7 @@ pub fn zones_serve_their_tags()
 {}
 
 /// The device of a tag reaches each page that a map is given by a zone that serves the tag: at a
-/// load, and at the callback of a load that waited.
+/// load, and at the callback of a load that waited. The account is one that a sound history leads to.
 pub fn given_pages_are_reached()
     ensures granted { (t : TagLimits) (a : Account) (m : MapId) (z need : ℕ) (nowait : Bool) (pages : List Pa) →
         PagesLieLow a → EachFrame IsFrame a → serves_tag t (zone_at a z) ≡ true →
