@@ -43,15 +43,16 @@ pub fn steps_keep_it()
         step_entry w actor ≡ Some e → e.actor ≡ actor }
 {}
 
-/// A turn that is a step leaves all drivers together less to do, so every run ends; any other turn
-/// leaves the world as it was, its account too.
+/// In a well-formed world a turn that is a step leaves all drivers together less to do, so every run
+/// ends. In any world another turn leaves the world as it was, its account too.
 pub fn each_step_falls()
     ensures falls { (s : Scenario) (w : WorldState) (actor : Actor) (e : JournalEntry) → IsWellFormed s w →
         step_entry w actor ≡ Some e → left_of (step w actor).world < left_of w }
     ensures rests { (w : WorldState) (actor : Actor) → step_entry w actor ≡ None → (step w actor).world ≡ w }
 {}
 
-/// The drivers' shares of a zone's total_bounced are together below 2^64, as a count is.
+/// In a well-formed world the drivers' shares of a zone's total_bounced are together below 2^64, as a
+/// count is.
 pub fn counts_fit()
     ensures { (s : Scenario) (w : WorldState) (z : ℕ) → IsWellFormed s w → bounced w z < 2 ^ 64 }
 {}
@@ -121,15 +122,16 @@ pub fn wires_open_faithful()
         AllFaithful wires (opening_world s) }
 {}
 
-/// The turn of any actor leaves each driver's wire faithful, whatever bytes the pages bring that come
-/// to the actor's driver, and where the frames of a memory that come with zeros have zeros.
+/// In a well-formed world whose wires are faithful, the turn of any actor leaves each driver's wire
+/// faithful, whatever bytes the pages bring that come to the actor's driver, and where the frames of a
+/// memory that come with zeros have zeros.
 pub fn wires_stay_faithful()
     ensures { (s : Scenario) (w : WorldState) (actor : Actor) (before after : Wires) → IsWellFormed s w →
         AllFaithful before w → WiresFollow w actor before after → AllFaithful after (step w actor).world }
 {}
 
-/// What is really read is what the ideal memory has: by each driver at the bytes that it names, and
-/// by its device at the bus addresses of its load.
+/// In a well-formed world whose wires are faithful, what is really read is what the ideal memory has: by
+/// each driver at the bytes that it names, and by its device at the bus addresses of its load.
 pub fn drivers_read_faithfully()
     ensures cpu { (s : Scenario) (w : WorldState) (wires : Wires) (i : ℕ) (l : LaneState) (place : Place) (len : ℕ) →
         IsWellFormed s w → AllFaithful wires w → slice_get w.lanes i ≡ Some l →
