@@ -1,5 +1,5 @@
 //! Where bytes come from and where they go: sources and sinks, a loop that reads a source to its
-//! end, and a loop that writes a whole text to a sink.
+//! end, a loop that writes a whole text to a sink, and a text that is written while it is made.
 #![tactic(auto)]
 
 mod failing_calls;

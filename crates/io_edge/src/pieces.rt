@@ -10,9 +10,11 @@ use arrayvec::ArrayVec;
 const PIECE: usize = 8192;
 
 /// A text on its way to a sink. What it is given waits in one piece, and is written where the next
-/// text finds no room in it. So a text of any length takes no memory but that of the piece.
+/// text finds no room in it. One that is longer than a piece does not wait, and is written by itself.
+/// So a text of any length takes no memory but that of the piece.
 ///
-/// After a fault of the sink it takes no more, and writes no more.
+/// After a fault of the sink it takes no more, and writes no more. Where it is dropped and not
+/// finished, the bytes that wait are not written.
 #[derive(Drop)]
 pub struct Pieces<'s, K: Sink> {
     sink: &'s mut K,

@@ -40,7 +40,8 @@ impl<W: Write> StdSink<W> {
         }
     }
 
-    /// How many bytes of the piece were written and flushed, if any was to be written.
+    /// How many bytes of the piece were written and flushed, which is 0 for an empty piece alone.
+    /// None means that it failed, and that no byte more is flushed.
     fn write_through(&mut self, piece: &[u8]) -> Option<usize>
         ensures fits { IfSome result (λ n. n ≤ length piece.now) }
         ensures some { IfSome result (λ n. n ≡ 0 → piece.now ≡ []) }
