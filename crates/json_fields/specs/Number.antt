@@ -32,7 +32,7 @@ hex_number s =
     if (slice_index s 0 == 48) && (slice_index s 1 == 120) && nat_le 3 (length s) && nat_le (length s) 18
     then hex_after 0 (drop 2 s) else None
 
--- the number that a value stands for; one with a sign, a fraction or an exponent is a float to JSON
+-- the number that a value stands for; one with a sign, a fraction or an exponent is negative or a float to JSON
 abbrev pub number_in : Data → Option ℕ
 number_in null = None
 number_in (boolean b) = None

@@ -116,7 +116,8 @@ impl<'v> Node<'v> {
         }
     }
 
-    /// A number: whole and below 2^64, or `0x` and 1 to 16 hexadecimal digits.
+    /// A number: a JSON number below 2^64 without sign, fraction or exponent, or a text of `0x` and 1
+    /// to 16 hexadecimal digits.
     #[tactic(auto, unfolding(crate::specs::Number::number_at))]
     pub fn number(&self) -> Result<u64, Stop>
         ensures { Gives result (number_at (spot_of self.now)) }

@@ -49,9 +49,9 @@ pub enum RefusalKind {
     Limit(LimitName),
     /// A frame is given twice.
     FrameTwice,
-    /// A page has a frame that the machine has not.
+    /// A page has a frame that the machine has not, or a bio one that the driver's pages have not.
     FrameAbsent,
-    /// A name is used that nothing before made.
+    /// A name is used that no operation before made as a thing that can be used so.
     UnknownName,
 }
 

@@ -24,7 +24,7 @@ new_or before place name = if list_any (makes name) before then refuse BadField 
 unfoldable pub new_name : List ℕ → List Op → Spot → Read (List ℕ)
 new_name field before here = required field here >>= (λ spot. name_at spot >>= new_or before (key here.place field))
 
--- a name that nothing before made is refused
+-- a name that nothing before made, as a thing that can be used so, is refused
 abbrev pub known_or : Place → Option ℕ → Read ℕ
 known_or place None = refuse UnknownName place
 known_or place (Some n) = Ok n

@@ -28,7 +28,7 @@ nsegments_or place n = if nat_lt n (2 ^ 32) then Ok n else refuse BadField place
 unfoldable pub nsegments_at : Spot → Read ℕ
 nsegments_at here = number_or (codes "nsegments") 65536 here >>= nsegments_or (key here.place (codes "nsegments"))
 
--- the limits of a tag; one that is not given limits nothing that a machine has
+-- the limits of a tag, each with its default where it is not given
 unfoldable pub limits_at : Spot → Read TagLimits
 limits_at here =
     number_or (codes "alignment") 1 here >>= (λ alignment.

@@ -1,4 +1,4 @@
-//! Tests of the scenario reader: what bytes it refuses, and with what words.
+//! Tests of the scenario reader: what bytes it refuses, with what words, and what it reads of others.
 #![tactic(auto)]
 
 #[cfg(test)]
