@@ -3,7 +3,7 @@
 ghost use Rattle.std.specs.Prelude.{◌≡◌};
 ghost use Rattle.command_words.specs.Command as spec;
 
-/// How many digits a number has at the most; those that lead with 0 count.
+/// How many digits a number has at the most, leading zeros among them.
 const MOST_DIGITS: usize = 20;
 
 /// The number that a word of 1 to 20 decimal digits writes, where it is 1 to `most`.

@@ -81,7 +81,8 @@ pub fn report(alloc: Global, scenario: &Scenario, journal: &Journal) -> Result<B
 }
 
 /// Writes the text of [`report`] to the sink while it makes it, in pieces of at most 8,192 bytes
-/// and without memory of its own. After `Unwritten` the sink holds a front of it.
+/// where no name is longer, and without memory of its own. After `Unwritten` the sink holds a front
+/// of it, and not the whole.
 pub fn write_report<K: Sink>(
     scenario: &Scenario,
     journal: &Journal,

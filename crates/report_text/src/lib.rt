@@ -1,4 +1,5 @@
-//! The text of a run: a line for each step, the lines of its bounce zones, and its end.
+//! The text of a run: a line for each step, the lines of its bounce zones, and its end. Each line
+//! ends with a line feed.
 #![tactic(auto)]
 
 mod answer;
