@@ -7,7 +7,7 @@ use scenario_read::{Reading, scenario_of};
 use std::alloc::{AllocError, Global};
 use world_core::status;
 
-/// How many bytes the program reads at the most.
+/// How many bytes an input has at the most. One more is read, which tells that there are too many.
 const INPUT_LIMIT: usize = 16_777_216;
 
 /// Replays the scenario that all of the source is, and writes the report.
@@ -33,7 +33,8 @@ fn replay_input<S: Source, K: Sink>(
     }
 }
 
-/// The status of a call: that of the journal, or that of the cause for which none was written.
+/// The status of a call: that of the journal, or that of the cause for which its report was not
+/// written whole.
 pub fn call<S: Source, K: Sink>(alloc: Global, source: &mut S, sink: &mut K) -> u8 {
     match replay_input(alloc, source, sink) {
         Ok(status) => status,

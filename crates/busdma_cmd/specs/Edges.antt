@@ -6,7 +6,7 @@ use Rattle.io_edge.specs.Faults.{Rose}
 use Rattle.io_edge.specs.Reading.{Takes, TakesAtMost, TakesAll}
 use Rattle.io_edge.specs.Writing.{WritesPart}
 
--- how many bytes the program reads at the most
+-- how many bytes an input has at the most
 abbrev pub input_limit : ℕ
 input_limit = 16777216
 

@@ -68,7 +68,8 @@ abbrev pub AnswersReading : Outcome → Reading → Type 0
 AnswersReading o (Good s) = IsDone o.status
 AnswersReading o (Bad r) = (o.status ≡ 65) × (o.fault ≡ Some r)
 
--- where neither source nor sink failed, the outcome is that of the bytes that were left
+-- What comes of the bytes that were left, where there was memory: where neither source nor sink failed, the outcome
+-- that they give; where the source did not fail, 66 for too many, and 65 with the refusal for bytes that are refused.
 pub record AnswersInput (e : Edges) (o : Outcome) : Type 0 where
   pub short : (input : List ℕ) → e.left ≡ Some input → length input ≤ input_limit
       → (ReadFailed e → ⊥) → (WriteFailed e → ⊥)
@@ -79,17 +80,17 @@ pub record AnswersInput (e : Edges) (o : Outcome) : Type 0 where
       → scenario_of input ≡ Bad r → (ReadFailed e → ⊥)
       → OrNoMemory o ((o.status ≡ 65) × (o.fault ≡ Some r))
 
--- where nothing failed that the command calls, the outcome is that of the command
+-- where nothing failed that the command calls, and there was memory, the outcome is that of the command
 abbrev pub IsComplete : Command → Edges → Outcome → Type 0
 IsComplete Replay e o = AnswersInput e o
 IsComplete Run e o = AnswersInput e o
 IsComplete (Storm n seed) e o = (WriteFailed e → ⊥) → OrNoMemory o (IsDone o.status)
 
--- the statuses of commands that read
+-- the statuses that no command has but one that reads
 abbrev pub IsOfReading : ℕ → Type 0
 IsOfReading n = (n ≡ 65) ⊎ ((n ≡ 66) ⊎ (n ≡ 74))
 
--- more bytes were given than the program reads
+-- more bytes were taken than an input may have
 abbrev pub GaveTooMany : Edges → Type 0
 GaveTooMany e =
     (input : List ℕ) × (rest : List ℕ) × (e.left ≡ Some input) × (e.left_after ≡ Some rest)

@@ -15,7 +15,7 @@ Answers (Some words) e o = Keeps words e o
 Answers None e o = (o ≡ no_memory) × ReadNothing e × WroteNothing e
 
 -- What a call of the program keeps, by the bytes of standard error and its faults, before the call
--- and after it: the status is the outcome's, and the outcome's line is printed.
+-- and after it: the status is the outcome's, and of the outcome's line is printed what `Prints` says.
 pub record KeepsCall (words : Option (List (List ℕ))) (e : Edges)
     (before after : Option (List ℕ)) (faults now ended : ℕ) : Type 0 where
   pub outcome : Outcome

@@ -7,18 +7,18 @@ use busdma_base::Journal;
 use scenario_read::Refusal;
 use std::alloc::AllocError;
 
-/// Why a command does not end with the whole report written.
+/// Why a command does not end with its whole text written.
 #[derive(Debug, Drop)]
 pub(crate) enum Cause {
     /// The bytes that were read are no scenario.
     Refused(Refusal),
-    /// More bytes were given than the program reads.
+    /// More bytes were given than an input may have.
     TooLong,
     /// Memory ran out.
     OutOfMemory,
     /// The source failed.
     ReadFailed,
-    /// The sink failed before the last byte of this journal's report.
+    /// The sink failed before the last byte of this journal's text, a report or a storm's summary.
     WriteFailed(Journal),
 }
 

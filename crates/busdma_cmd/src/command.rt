@@ -19,7 +19,7 @@ use std::alloc::{AllocError, Global};
 use storm::{storm_scenario, storms_are_valid, summary};
 use world_core::{replay, status};
 
-/// How many bytes the program reads at the most.
+/// How many bytes an input has at the most. One more is read, which tells that there are too many.
 const INPUT_LIMIT: usize = 16_777_216;
 
 /// The scenario that all of the source is.
@@ -57,7 +57,7 @@ fn replay_input<S: Source, K: Sink>(
     }
 }
 
-/// Makes a storm, replays it and writes its summary. Of a source, which it has none, nothing
+/// Makes a storm, replays it and writes its summary. It is given no source, so of any source nothing
 /// changes.
 fn run_storm<K: Sink>(alloc: Global, n: u32, seed: u64, sink: &mut K) -> Result<Journal, Cause>
     requires rounds { 1 ≤ n }

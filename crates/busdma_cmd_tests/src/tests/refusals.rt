@@ -66,7 +66,7 @@ fn refuses_each(rt: HostRuntime) -> Result<(), Fail> {
     Ok(())
 }
 
-/// Bytes that are no text, and lists as deep as are read and one deeper.
+/// No bytes, bytes that are no text, and lists as deep as are read and one deeper.
 #[test]
 fn refuses_bytes(rt: HostRuntime) -> Result<(), Fail> {
     let alloc = rt.alloc();

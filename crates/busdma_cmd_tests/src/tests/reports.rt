@@ -99,7 +99,8 @@ fn tells_the_byte(rt: HostRuntime) -> Result<(), Fail> {
     Ok(())
 }
 
-/// Reports whose place is that of an address or of the end of a load, and those without a place.
+/// Reports whose place is that of an address or of the end of a load, those without a place, the first
+/// where several could come, and what a refused step leaves.
 const REPORTS: [(&str, &str); 24] = [
     (
         r#"{"op": "cpu_read", "va": "0x101000", "len": 8}"#,

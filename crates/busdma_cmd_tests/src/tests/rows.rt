@@ -40,7 +40,7 @@ const NO_BYTES_REPORT: &str = r#"0 s0 tag t -> ok
 end finished, 6 entries, 0 reports
 "#;
 
-/// A report that is written a byte at a time.
+/// One that takes or gives a byte at a time and never fails.
 const BY_BYTES: Edge<'static> = Edge {
     piece: 1,
     failing: &[],

@@ -1,6 +1,6 @@
 //! Drivers on threads. Where the threads decide the order, any legal journal is right: it is judged by
-//! a replay in its own order, which has to give it again. Where one driver has all the steps, or a
-//! gate decides, the report is worked out by hand.
+//! a replay in its own order, which has to give it again. Where one driver has all the steps, the
+//! report is worked out by hand.
 
 use super::{WHOLE, call, gives};
 use std::alloc::{AllocError, Global};

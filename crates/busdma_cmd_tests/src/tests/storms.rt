@@ -1,4 +1,4 @@
-//! Storms: whole runs, whose summaries were worked out apart, and words that ask for none.
+//! Storms: whole runs, whose summaries were worked out apart.
 
 ghost use Rattle.std.specs.Prelude.{◌≤◌};
 
@@ -15,7 +15,7 @@ const MOST_ROUNDS: &str = "storm 256 1\nentries 9889\nreports 0\ndeferred 661\ne
 const GREATEST_SEED: &str =
     "storm 2 18446744073709551615\nentries 89\nreports 0\ndeferred 5\nend finished\n";
 
-/// A source whose every read fails.
+/// A source whose first three reads fail.
 const UNREADABLE: Edge<'static> = Edge {
     piece: 1,
     failing: &[0, 1, 2],
