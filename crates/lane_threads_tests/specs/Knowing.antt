@@ -18,7 +18,7 @@ pub record Knows (lane : ℕ) (Has : View → Type 0) (d : Seen) : Type 0 where
 abbrev pub in_zone : ℕ → Stage → Option OwnMap
 in_zone zone stage = Some (record { zone = zone; stage = stage })
 
--- the maps that the first two operations made, no memory of the next two, and pages to give back
+-- the maps that the operations 1 and 2 made, no memory of the operations 3 and 4, and pages to give back
 pub record HasMaps (first second : Option OwnMap) (back : List Return) (l : View) : Type 0 where
   pub maxmem : l.maxmem ≡ 0x1010
   pub one : l.map_at 1 ≡ first

@@ -1,4 +1,5 @@
-//! Tests of the world of all drivers: scenarios that are drawn, stepped beside a plain machine.
+//! Tests of the world of all drivers: scenarios that are drawn, stepped beside a plain machine; and
+//! worked runs of that machine alone.
 #![tactic(auto)]
 
 #[cfg(test)]

@@ -1,4 +1,4 @@
-//! Scenarios of all forms and orders, drawn by number: each turn of their worlds is that of plain
+//! Scenarios of many forms and orders, drawn by number: each turn of their worlds is that of plain
 //! drivers over a plain account.
 
 mod accesses;

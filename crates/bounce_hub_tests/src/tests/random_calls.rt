@@ -19,7 +19,7 @@ const FRAMES: [u64; 36] = [
 /// The flag of a tag that brings pages with it.
 const ALLOCNOW: u32 = 1;
 
-/// Limits of a page, which the others change.
+/// The first limits, of which the others change some.
 const LOW: TagLimits = TagLimits {
     alignment: 1,
     boundary: 0,

@@ -136,7 +136,8 @@ const REACHED: [Part; 1] = [Part {
     bounced: 0,
 }];
 
-/// What is not: bytes behind the memory, and places in what is no memory. At place 8190 are the last two bytes.
+/// What is not: bytes behind the memory, and places in what is no memory. At place 8190 are the last two bytes. An
+/// access of no byte is done at any place in the memory.
 const OTHERS: [Part; 1] = [Part {
     rows: &[
         (

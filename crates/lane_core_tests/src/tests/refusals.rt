@@ -23,7 +23,7 @@ const BOTH_LOADED: [Want; 5] = [
     Want::Segments(&[(0x11000, 16)]),
 ];
 
-/// A map of another driver, with the numbers of the first map.
+/// A map of another driver, made at the same place of its script as the first map.
 const FOREIGN: MapId = MapId {
     lane: LaneId(1),
     made_at: 1,

@@ -1,4 +1,4 @@
-//! Bios that are not mapped, and dmamem memories; the reports are worked out by hand.
+//! Bios that are not mapped, dmamem memories, and a network driver; the reports are worked out by hand.
 
 use super::plays;
 use std::test::Fail;

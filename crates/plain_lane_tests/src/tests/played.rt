@@ -40,7 +40,8 @@ fn owns(driver: &Driver, frame: u64) -> bool {
         && frame < run.frame.saturating_add(run.count))
 }
 
-/// The physical addresses of the frames that are not the driver's, rising.
+/// The physical addresses of the frames that are not the driver's, rising as the frames of the scenario
+/// do.
 fn free_frames(
     alloc: Global,
     scenario: &Scenario,

@@ -40,7 +40,7 @@ impl Draft {
         self.text.push_str("}")
     }
 
-    /// The end of a memory, or a memory where none was made.
+    /// A memory, or in half of the cases where one was made the end of one.
     fn push_memory_op(&mut self) -> Result<(), AllocError> {
         if self.memories > 0 && self.generator.one_in(2) {
             self.push_memory_freed()
@@ -68,7 +68,8 @@ impl Draft {
         self.text.push_str("}")
     }
 
-    /// A load whose bytes go or come, the wait for its end, and its unload.
+    /// A write of the driver, a load, a wait, a read of the driver and an unload. The map or the place
+    /// of each is drawn for itself.
     fn push_round(&mut self) -> Result<(), AllocError> {
         self.push_cpu_write()?;
         self.text.push_str(", ")?;

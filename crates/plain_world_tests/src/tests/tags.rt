@@ -62,7 +62,7 @@ const LIMITS: [Limit; 8] = [
     },
 ];
 
-/// Limits that no tag can have.
+/// Limits that no tag can have, and last one with which no byte can be loaded.
 const WRONG: [&str; 4] = [
     r#""alignment": 3"#,
     r#""boundary": 3"#,
