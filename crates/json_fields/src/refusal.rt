@@ -14,7 +14,7 @@ pub enum LimitName {
     Frames,
     /// The number of a frame.
     FrameNumber,
-    /// The pages that a zone may grow to.
+    /// The pages up to which a zone grows for further maps.
     MaxBpages,
     /// The drivers.
     Drivers,

@@ -25,7 +25,7 @@ use Rattle.scenario_read.specs.Order.{order_field}
 abbrev pub bpages_judged : Place → ℕ → Read ℕ
 bpages_judged place n = if nat_le 1 n && nat_le n bpages_limit then Ok n else refuse (Limit MaxBpages) place
 
--- the pages that a zone may grow to
+-- the pages up to which a zone grows for further maps
 unfoldable pub bpages_field : Spot → Read ℕ
 bpages_field here = number_or (codes "max_bpages") 8192 here >>= bpages_judged (key here.place (codes "max_bpages"))
 

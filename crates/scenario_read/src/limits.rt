@@ -6,7 +6,7 @@ pub(crate) const FRAMES: u64 = 8192;
 /// The numbers of frames are below this.
 pub(crate) const FRAME_NUMBERS: u64 = 1 << 30;
 
-/// Pages that a zone may grow to.
+/// Pages up to which a zone grows for further maps.
 pub(crate) const MAX_BPAGES: u64 = 8192;
 
 /// Drivers.
