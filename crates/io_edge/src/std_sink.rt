@@ -41,7 +41,7 @@ impl<W: Write> StdSink<W> {
     }
 
     /// How many bytes of the piece were written and flushed, which is 0 for an empty piece alone.
-    /// None means that it failed, and that no byte more is flushed.
+    /// None means that it failed, and that the sink holds no byte more.
     fn write_through(&mut self, piece: &[u8]) -> Option<usize>
         ensures fits { IfSome result (λ n. n ≤ length piece.now) }
         ensures some { IfSome result (λ n. n ≡ 0 → piece.now ≡ []) }

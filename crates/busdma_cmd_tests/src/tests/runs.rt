@@ -9,7 +9,8 @@ use std::sync::Wait;
 use std::test::Fail;
 use std::thread::Threads;
 
-/// Three drivers, each with a load of two pages above its tag's reach, contend for two bounce pages.
+/// Three drivers, each with a load of two pages above its tag's reach, contend for four bounce pages:
+/// the first map brings two to the zone, and each other map one.
 const THREE: &str = r#"{"frames": [["0x10", 8], ["0x1000", 16]], "max_bpages": 2,
  "drivers": [
   {"pages": [["0x100000", "0x1000", 2]], "script": [

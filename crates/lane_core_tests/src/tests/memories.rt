@@ -137,7 +137,7 @@ const REACHED: [Part; 1] = [Part {
 }];
 
 /// What is not: bytes behind the memory, and places in what is no memory. At place 8190 are the last two bytes. An
-/// access of no byte is done at any place in the memory.
+/// access of no byte is done however far behind the begin of the memory it lies.
 const OTHERS: [Part; 1] = [Part {
     rows: &[
         (

@@ -1,4 +1,5 @@
-//! Scenarios of drivers whose loads contend for two bounce pages.
+//! Scenarios of drivers whose loads contend for bounce pages. Each load needs two; the first map
+//! brings two to the zone, and each other map one.
 
 ghost use Rattle.std.specs.Prelude.{IfOk};
 ghost use Rattle.busdma_base.specs.Scenarios.Valid.{IsValid};

@@ -1,4 +1,4 @@
-//! Three drivers contend for two bounce pages, on threads. Any legal journal is right.
+//! Three drivers contend for four bounce pages, on threads. Any legal journal is right.
 
 use crate::tests::judging::is_legal;
 use crate::tests::opened::{Open, THREE, read};
