@@ -103,8 +103,8 @@ fn is_taken(run: &PageRun, earlier: &[Driver]) -> bool
         .any(|driver| shares_frame(run, driver.pages.as_slice()))
 }
 
-/// The run, where the machine has its frames, no page before it has one of them, and none of this
-/// driver has one of its virtual pages.
+/// The run, where the machine has its frames, no page before it has one of them, and no page of this
+/// driver before it has one of its virtual pages.
 fn judge(
     here: &Node,
     frames: &[FrameRun],
