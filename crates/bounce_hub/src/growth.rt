@@ -77,7 +77,7 @@ impl Pool {
         }
     }
 
-    /// How many pages a zone may grow to for the maps of a tag.
+    /// Up to how many pages a zone grows for a further map of a tag.
     fn most_pages(&self, tag: &TagLimits) -> u64
         ensures { result ≡ most_pages tag.now self.now.max_bpages self.now.maxmem }
     {

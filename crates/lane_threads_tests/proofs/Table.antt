@@ -7,7 +7,7 @@ use Rattle.lane_agreement.specs.View.{View, OwnMap, Return, Stage, Idle, Loaded,
 use Rattle.lane_agreement.specs.View.{staged, unloaded, gone, given_back, restaged, queued_back}
 use Rattle.lane_threads_tests.specs.Knowing.{HasMaps, in_zone}
 
--- a tag that could bounce in 0x1010 frames
+-- a tag that could bounce where the frames end below 0x1010
 pub bounces : (t : TagLimits) (n : ℕ) → n ≡ 0x1010 → IsTrue (could_bounce t 0x1010) → IsTrue (could_bounce t n)
 bounces t n is here = subst (λ k. IsTrue (could_bounce t k)) (sym is) here
 

@@ -148,7 +148,7 @@ module _ (d e : Seen) (two : Option OwnMap) (p q moved : ℕ) where
       (record { 0 = q }) moved (back q) [] (asks_back d e (in_zone 0 Returning) two q []) (λ l id has. has.returns)
       (λ l id has. both_back q two l has) h
 
--- no memory of the fourth operation
+-- no memory of the operation of number 4
 record HasNoFourth (l : View) : Type 0 where
   four : l.mem_at 4 ≡ None
 
@@ -157,7 +157,7 @@ no_fourth : (l : View) (r : Option RoomyPages) → l.id ≡ 0 → l.mem_at 4 ≡
 no_fourth l None id none = (id, record { four = none })
 no_fourth l (Some pages) id none = (id, record { four = none })
 
--- whatever became of the third, the fourth may be asked for
+-- whatever became of that of number 3, that of number 4 may be asked for
 pub may_make_next : (d e : Seen) (one two : Option OwnMap) (t u : TagLimits) → Knows 0 (HasMaps one two []) d
     → (r : Option RoomyPages) → Holds d 0 (MemAlloc (of_table 3) t) (memory_reply r) e
     → Allows e 0 (MemAlloc (of_table 4) u)

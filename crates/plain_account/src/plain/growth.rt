@@ -119,7 +119,7 @@ impl PlainAccount {
         Ok(())
     }
 
-    /// How many pages a zone may grow to for the maps of a tag.
+    /// Up to how many pages a zone grows for a further map of a tag.
     fn maxpages(&self, tag: &TagLimits) -> u64
         ensures { result ≡ maxpages tag.now self.now }
     {
