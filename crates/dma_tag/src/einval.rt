@@ -1,4 +1,4 @@
-//! The one refusal of a tag's making.
+//! The one refusal of `Tag::create` and `Tag::create_chain`.
 
 ghost use Rattle.std.specs.Prelude.{Some, codes};
 
