@@ -16,8 +16,9 @@ pub enum LoadEnd {
 
 /// What is called where a load ends: after the callback of bus_dmamap_load(9).
 ///
-/// A call consumes it, so a callback is called once at the most. `answer` is the transfer items that
-/// it has the device do at an end, and None where it has none done.
+/// A call consumes it, so a callback is called once at the most; that it is called at all, no clause
+/// says. `answer` is the transfer items that it has the device do at an end, and None where it has
+/// none done.
 pub trait Callback: Drop {
     ghost use Rattle.dma_map.specs.declared.callback.LoadEnd.{LoadEnd};
 
