@@ -134,8 +134,8 @@ impl Line {
         }
     }
 
-    /// How many of the numbers are at most `n`, which is found soon where so many, or one more, stand
-    /// before the place `near`.
+    /// How many of the numbers are at most `n`, which is found soon where they are `near` many, or one or
+    /// two more.
     pub fn count_near(&self, n: u64, near: usize) -> usize
         requires { Climbs 0 self.now.items }
         ensures is { result ≡ count_le self.now.items n }
@@ -278,8 +278,9 @@ impl Line {
     }
 }
 
-/// For how many numbers a stack needs room, where it gets `others` and then `count` more numbers, and
-/// had room for `room`: up to twice as many as it had room for, so that it is asked for seldom.
+/// For how many more numbers a stack gets room, where it needs that for `others` and for `count`, and
+/// there was room for `room`: for as many beyond these as `room`, up to `MOST_MORE`, so that room is
+/// asked for seldom.
 fn more_for(others: usize, count: usize, room: usize) -> Result<usize, AllocError>
     ensures { IfOk result (λ more. others + count ≤ more) }
 {
