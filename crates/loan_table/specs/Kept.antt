@@ -19,7 +19,7 @@ use Rattle.loan_table.specs.Trees.{opened, closed}
 abbrev pub HasItsBytes : FinMap nat_cmp Bool → Loans → Type 0
 HasItsBytes bytes loans = (m : ℕ) → AreIn bytes (addresses_of (loan_of loans m).positions)
 
--- the bytes of a table are memory
+-- the bytes of a table lie in frames of numbers below 2^30
 abbrev pub AreLow : FinMap nat_cmp Bool → Type 0
 AreLow bytes = (a : ℕ) → IsSome (get bytes a) → a < 2 ^ 42
 
@@ -28,7 +28,7 @@ abbrev pub position_count : List (ℕ × Slot) → ℕ
 position_count entries = sum_by (λ s. length s.row.positions) (values_of entries)
 
 -- there is room to forget every map; and, where extents may change, to change each position once and so
--- many extents before that, and for bytes to go
+-- many extents before that, and for bytes to come or go
 pub record HasRoom (bytes : Marks) (positions spare : ℕ) : Type 0 where
   pub forgets : positions + positions ≤ bytes.room
   pub changes : 0 < spare → positions + positions + (positions + positions) + (spare + spare) ≤ bytes.room

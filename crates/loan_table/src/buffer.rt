@@ -15,8 +15,8 @@ use run_set::{Near, RunCounts};
 use std::alloc::{AllocError, Global};
 use std::marker::Model;
 
-/// The bytes of a buffer, in order, and at how many of its positions each stands. Bytes that follow
-/// one another are one stretch; where there is one stretch alone, no byte stands twice, and none is
+/// The bytes of a buffer, in order, and at how many of its positions each stands. The bytes of a
+/// stretch follow one another; where there is one stretch alone, no byte stands twice, and none is
 /// counted.
 #[derive(Drop)]
 pub struct Buffer {
@@ -67,8 +67,8 @@ impl Buffer {
         self.len
     }
 
-    /// Bytes that follow one another: those from a position on, as many as there are before `end`. They
-    /// are found soon where `near` is left by a look at the stretch of this position, or at the one before it.
+    /// Bytes that follow one another: those from a position on, up to `end` or to the end of their stretch.
+    /// They are found soon where `near` is left by a look at this stretch, or at the one before it.
     pub fn stretch(&self, at: u64, end: u64, near: &mut usize) -> Extent
         requires some { at < end }
         requires range { end ≤ length self.now }
@@ -90,8 +90,8 @@ impl Buffer {
         }
     }
 
-    /// The byte up to which all bytes from `start` on stand at more than one position, or all do not;
-    /// `end` where none comes before it.
+    /// A byte, `end` at the most, up to which all bytes from `start` on stand at more than one position, or
+    /// all do not.
     pub fn turn(&self, start: u64, end: u64, near: &mut Near) -> u64
         requires { start < end }
         ensures from { start < result }
@@ -123,7 +123,7 @@ fn stretch_at(stretches: &[Extent], starts: &[u64], at: u64, end: u64, near: &mu
     part_of(&stretches[last], at - starts[last], end - at)
 }
 
-/// At most so many bytes of a stretch, without the first of them.
+/// The bytes of a stretch behind the first `skipped` of them, `most` of them at the most.
 fn part_of(run: &Extent, skipped: u64, most: u64) -> Extent
     requires ends { Ends run.now }
     requires skipped { skipped < run.now.len }
@@ -153,7 +153,8 @@ fn len_of(extents: &[Extent]) -> u64
     len
 }
 
-/// Extents as stretches: where the bytes of one follow those of the one before it, they are one.
+/// Extents as stretches: where one begins at the end of the one before it, and both have a byte, they
+/// are one.
 fn stretches_of(alloc: Global, extents: &[Extent]) -> Result<Vec<Extent>, AllocError>
     requires { All Ends extents.now }
     ensures bytes { IfOk result (λ stretches. addresses stretches.items ≡ addresses extents.now) }
@@ -174,7 +175,8 @@ fn stretches_of(alloc: Global, extents: &[Extent]) -> Result<Vec<Extent>, AllocE
     Ok(stretches)
 }
 
-/// Adds the bytes of an extent to a run that ends right before them. Whether it could is told.
+/// Adds the bytes of an extent to a run that ends right before them, where both have a byte. Whether it
+/// could is told.
 fn join(run: &mut Extent, next: &Extent) -> bool
     requires run { Ends run.old }
     requires next { Ends next.now }

@@ -115,7 +115,7 @@ impl LentCounts {
         }
     }
 
-    /// Whether a byte is lent.
+    /// Whether a byte is lent. That it is, where the answer is true, holds by the code alone.
     pub fn is_lent(&self, pa: u64, near: &mut NearCounts) -> bool
         ensures { result ≡ false → IsUnlent self.now pa }
     {
@@ -147,7 +147,8 @@ impl LentCounts {
         self.to_read.turn_near(start, turn, &mut near.to_read)
     }
 
-    /// Bytes from one on that are not lent, as many as are found soon.
+    /// Bytes from one on that are not lent: by the code alone all up to the next that is lent, and none
+    /// where the first is.
     pub fn unlent_from(&self, start: u64, near: &mut NearCounts) -> Unlent
         requires { start + 1 < 2 ^ 64 }
         ensures { AreUnlent self.now result.from result.to }

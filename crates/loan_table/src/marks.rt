@@ -71,8 +71,7 @@ impl ByteMarks {
         self.there.contains(pa) && self.known.contains(pa)
     }
 
-    /// The byte up to which all bytes from `start` on are Known, or all are not; `end` where none comes
-    /// before it.
+    /// A byte, `end` at the most, up to which all bytes from `start` on are Known, or all are not.
     pub fn turn(&self, start: u64, end: u64) -> u64
         requires { start < end }
         ensures from { start < result }

@@ -29,7 +29,7 @@ pub fn changes_for(positions: u64) -> Result<usize, AllocError>
     Ok((positions * 2) as usize)
 }
 
-/// A sum, where it is a number that memory can hold.
+/// A sum, which is refused from 2^64 on.
 pub fn sum_of(a: u64, b: u64) -> Result<u64, AllocError>
     ensures { IfOk result (λ sum. sum ≡ a + b) }
 {

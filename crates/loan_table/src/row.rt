@@ -129,8 +129,8 @@ impl LoanRow {
         self.buffer.len().min(off + len)
     }
 
-    /// The positions from one on that follow one another, of bytes that follow one another, and are
-    /// lent alike, as many as there are before `end`.
+    /// The positions from one on, of bytes that follow one another, that are lent alike: by the code alone
+    /// as many as there are before `end` in one stretch.
     pub fn piece(&self, at: u64, end: u64, near: &mut usize) -> Piece
         requires some { at < end }
         requires range { end ≤ length self.now.positions }
@@ -148,7 +148,7 @@ impl LoanRow {
         }
     }
 
-    /// The positions from one on that are lent alike, as many as there are before `end`.
+    /// The positions from one on that are lent alike: by the code alone as many as there are before `end`.
     pub fn span(&self, at: u64, end: u64, near: &mut usize) -> Span
         requires some { at < end }
         requires range { end ≤ length self.now.positions }
@@ -160,8 +160,7 @@ impl LoanRow {
         self.span_from(run.pa.0, at, end)
     }
 
-    /// The positions from one on, whose byte is at `pa`, that are lent alike, as many as there are
-    /// before `end`.
+    /// The same, where the byte of the first position is at `pa`.
     fn span_from(&self, pa: u64, at: u64, end: u64) -> Span
         requires some { at < end }
         requires range { end ≤ length self.now.positions }
@@ -182,8 +181,8 @@ impl LoanRow {
         }
     }
 
-    /// Bytes that follow one another: those from a position on, as many as there are before `end`. They
-    /// are found soon where `near` is left by a look at the stretch of this position, or at the one before it.
+    /// Bytes that follow one another: those from a position on, up to `end` or to the end of their stretch.
+    /// They are found soon where `near` is left by a look at this stretch, or at the one before it.
     pub fn stretch(&self, at: u64, end: u64, near: &mut usize) -> Extent
         requires some { at < end }
         requires range { end ≤ length self.now.positions }
@@ -229,8 +228,8 @@ impl LoanRow {
         self.buffer.stands_twice(pa, near)
     }
 
-    /// The byte up to which all bytes from `start` on stand at more than one position, or all do not;
-    /// `end` where none comes before it.
+    /// A byte, `end` at the most, up to which all bytes from `start` on stand at more than one position, or
+    /// all do not.
     pub fn turn(&self, start: u64, end: u64, near: &mut Near) -> u64
         requires { start < end }
         ensures from { start < result }
@@ -277,7 +276,7 @@ impl LoanRow {
         losing::lose(bytes, self, 0, self.len(), Losing::Forgetting);
     }
 
-    /// Sets the marks of a range.
+    /// Sets whether the positions of a range are lent, to read and to write, as a call leaves them.
     pub fn mark(&mut self, off: u64, len: u64, ops: SyncOps)
         requires { off + len ≤ length self.old.positions }
         ensures coherent { self.new.coherent ≡ self.old.coherent }

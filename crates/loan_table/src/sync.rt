@@ -167,7 +167,9 @@ fn sync_refusal(
     }
 }
 
-/// How many bytes of a piece, from the first on, meet what the first meets.
+/// A number of bytes of a piece, from the first on, that meet what the first meets: they are lent at as
+/// many positions, and stand more than once exactly if it does. It is 1 where the first stands more than
+/// once and is lent.
 fn same_len(lent: &LentCounts, row: &LoanRow, piece: &Piece, looks: &mut Looks) -> u64
     requires some { 0 < piece.now.len }
     requires fits { piece.now.first.pa + piece.now.len < 2 ^ 64 }
@@ -256,7 +258,7 @@ fn passes(
     !ops.contains(SyncOps::PREREAD) || stand_once(row, run, &mut looks.places)
 }
 
-/// At how many positions, from one on, a call meets nothing; or what it meets at the first.
+/// A number of positions, from one on, at which a call meets nothing; or what it meets at the first.
 fn judge_next(
     lent: &LentCounts,
     row: &LoanRow,
@@ -291,7 +293,7 @@ fn judge_next(
     }
 }
 
-/// The judgement of a range of a map's positions, one after the other.
+/// The judgement of a range of a map's positions, in order.
 fn judge_each(lent: &LentCounts, row: &LoanRow, ops: SyncOps, off: u64, len: u64) -> Judged
     requires range { off + len ≤ length row.now.positions }
     ensures { (lender : Lender) → IsOf lent.now row.now lender → let range = stretch off len row.now.positions in
@@ -379,7 +381,7 @@ pub fn count(
     }
 }
 
-/// Sets the marks of a range.
+/// Sets whether the positions of a range are lent, as a call leaves them; those of a coherent map stay.
 pub fn mark(loans: &mut BTreeMap<u32, Slot>, map: u32, off: u64, len: u64, ops: SyncOps)
     requires there { IsSome (finmap.get (opened loans.old) map) }
     requires range { off + len ≤ length (loan_of (opened loans.old) map).positions }

@@ -113,7 +113,7 @@ impl LoanTable {
         self.spare = 0;
     }
 
-    /// Takes `len` bytes from `pa` on out of the table.
+    /// Takes `len` bytes from `pa` on out of the table, within the room for one extent.
     pub fn drop_bytes(&mut self, pa: Pa, len: u64)
         requires there { AreIn self.old.bytes (run_of pa.0 len) }
         requires free { AreFree self.old.loans (run_of pa.0 len) }
@@ -242,7 +242,8 @@ impl LoanTable {
         self.positions -= positions_of(gone);
     }
 
-    /// Makes room to change `parts` extents. It fails only where that room was missing.
+    /// Makes room to change `parts` extents. It fails only where that room was missing. Each change
+    /// within it may use it up, however few extents it changes.
     pub fn reserve(&mut self, alloc: Global, parts: u32) -> Result<(), AllocError>
         ensures room { OnOk result (parts ≤ self.new.spare) }
         ensures missing { OnErr result (self.old.spare < parts) }
@@ -355,7 +356,7 @@ impl LoanTable {
         access::judge_range(&self.bytes, row, Access::Write, off, len)
     }
 
-    /// Marks bytes Known that the driver has written.
+    /// Marks bytes Known that the driver has written, within the room for so many extents.
     pub fn note_write(&mut self, bytes: &[Extent])
         requires there { AreIn self.old.bytes (addresses bytes.now) }
         requires total { byte_count bytes.now < 2 ^ 64 }

@@ -44,8 +44,8 @@ fn grown(rt: &impl Abort, alloc: Global) -> Result<LoanTable, Fail> {
     Ok(table)
 }
 
-/// A table of `len` Known bytes from address 0 on, with the coherent map over two pages of them from
-/// `page` on, and the map A over the first of the two.
+/// A table of `len` Known bytes from address 0 on, with the coherent map over two pages of them, of
+/// `page` bytes each, from address `page` on, and the map A over the first of the two.
 fn wide(rt: &impl Abort, alloc: Global, len: u64, page: u64) -> Result<LoanTable, Fail> {
     assert!(rt; len <= 0x400_0000_0000);
     assert!(rt; page <= 65536);

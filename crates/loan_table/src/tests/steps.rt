@@ -48,7 +48,7 @@ fn table(rt: &impl Abort, alloc: Global) -> Result<LoanTable, Fail> {
     Ok(table)
 }
 
-/// A table of eight Known bytes, with the map over all of them.
+/// A table of eight Known bytes, with the coherent map over all of them.
 fn memory(alloc: Global) -> Result<LoanTable, Fail> {
     let mut table = LoanTable::new(alloc);
     let memory = Extent {
@@ -274,7 +274,7 @@ pub fn cut(alloc: Global) -> Result<LoanTable, Fail> {
     Ok(table)
 }
 
-/// The numbers of extents of the first 6, the middle 6 and all of 16 bytes, of which 8 end a frame and
+/// The numbers of extents of the first 6, the next 6 and all of 16 bytes, of which 8 end a frame and
 /// 8 begin the next; and all of their extents.
 pub fn across_frames(rt: &impl Abort, alloc: Global) -> Result<([u64; 3], ExtentList), Fail> {
     let mut table = LoanTable::new(alloc);
