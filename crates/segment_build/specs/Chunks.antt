@@ -21,7 +21,8 @@ abbrev pub to_frame_end : ℕ → ℕ
 to_frame_end a = 4096 - a % 4096
 
 -- the most bytes of a chunk whose first address is this, in an entry that is rounded or not: it ends with
--- the frame, or, where it is bounced and begins its page, at a multiple of the alignment
+-- the frame, or, where it is bounced, its entry is rounded and it begins its page, at a multiple of the
+-- alignment
 abbrev pub chunk_limit : TagLimits → ℕ → Bool → ℕ → ℕ
 chunk_limit t maxmem rounded a =
     if needs_bounce t maxmem a && rounded && not (keep_pg_offset t.flags) then rounded_up (to_frame_end a) t.alignment

@@ -17,9 +17,9 @@ use std::alloc::{AllocError, Global};
 /// The chunks of the entries of a load, in order, none of them in its page yet.
 ///
 /// `maxmem` is the number at which the machine's frame numbers end. A chunk whose first address
-/// needs no bounce page ends with its frame. One that needs a page is bounced, and its length, as
-/// far as its entry goes, is that up to the frame's end, or, where the entry is rounded and the tag
-/// keeps no offset, that rounded up to a multiple of the tag's alignment.
+/// needs no bounce page ends with its frame, or before that with its entry. One that needs a page is
+/// bounced, and its length, as far as its entry goes, is that up to the frame's end, or, where the
+/// entry is rounded and the tag keeps no offset, that rounded up to a multiple of the tag's alignment.
 pub fn chunks(
     alloc: Global,
     tag: &Tag,

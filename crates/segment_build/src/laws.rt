@@ -60,8 +60,8 @@ pub fn fronts_ask_no_more(tag: &Tag, maxmem: u64, pages: &[Pa])
     tag_is_effective(tag);
 }
 
-/// The pieces of chunks have one segmentation. Where the bus addresses of each chunk rise by one,
-/// its bytes are their bus addresses, in order.
+/// Where the bus addresses of each chunk rise by one, the pieces of the chunks have one segmentation,
+/// and its bytes are the bus addresses of the chunks, in order.
 pub fn one_segmentation(tag: &Tag, chunks: &[Chunk])
     requires rising { AllByRecursion RisesByOne chunks.now }
     ensures only { IsOnlySegmentation tag.now (segmentation tag.now (chunk_pieces tag.now chunks.now))

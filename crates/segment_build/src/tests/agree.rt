@@ -15,7 +15,7 @@ use std::alloc::{AllocError, Global};
 use std::process::Abort;
 use std::test::Fail;
 
-/// Limits that ask for nothing, those of a tag of which nothing is said.
+/// The limits of a tag of which a scenario says nothing, but for `maxsize`, at which no call here looks.
 pub(super) const FREE: TagLimits = TagLimits {
     alignment: 1,
     boundary: 0,
