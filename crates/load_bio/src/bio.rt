@@ -63,8 +63,9 @@ impl<'a> Iterator for BioParts<'a> {
 }
 
 /// The entries of a bio of a driver, in order, or the offset in the bio of the first byte that cannot be
-/// reached. A mapped bio is one entry, a vector one for each span that has a byte. An unmapped bio
-/// is one that is not rounded, and the bytes past its last frame cannot be reached.
+/// reached. A mapped bio is one entry, or none where it has no byte; a vector is one for each span that
+/// has a byte. An unmapped bio is as a mapped one, but not rounded, and the bytes past its last frame
+/// cannot be reached.
 pub fn walk(alloc: Global, memory: &LanePages, bio: &Bio) -> Result<Entries, AllocError>
     requires bio { IsBio bio.now }
     requires bytes { span_bytes (bio_spans bio.now) < 2 ^ 64 }
@@ -115,7 +116,7 @@ pub fn parts_of_span(memory: &LanePages, span: Span) -> BioParts<'_>
     }
 }
 
-/// The parts of spans of a driver, which are those of a bio that is mapped there.
+/// The parts of spans of a driver, which are those of a bio that is the vector of them.
 pub fn parts_of_spans<'a>(memory: &'a LanePages, spans: &'a [Span]) -> BioParts<'a>
     requires { span_bytes spans.now < 2 ^ 64 }
     ensures parts { result ≡ bio_stream (physical memory.now.memory) (Vector spans.now) }

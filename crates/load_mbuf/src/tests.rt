@@ -81,7 +81,7 @@ fn mbufs_of_length_0_give_nothing(rt: HostRuntime) -> Result<(), Fail> {
     let alloc = rt.alloc();
     let memory = two_pages(&rt, alloc)?;
 
-    // One stands first, one in the middle and one last, where no byte could be reached.
+    // One stands first and one last, where no byte could be reached, and one in the middle, where some could.
     let chain = [
         mbuf(0x9000, 0),
         mbuf(0x1ff0, 0x20),
