@@ -1,5 +1,5 @@
--- Where the frames of dmamem memories stand among the pages of a driver: each at the virtual address that
--- bus_dmamem_alloc(9) gives for it, one behind the other.
+-- Where the frames of dmamem memories stand among the pages of a driver: each at the virtual address of its first
+-- byte, one behind the other.
 use Rattle.std.specs.Prelude.{◌≡◌, ℕ, ◌+◌, ◌-◌, ◌*◌, ◌/◌, ◌≤◌, min, Bool, true, false, ◌&&◌, ◌||◌, Option, Some, None}
 use Rattle.std.specs.Prelude.{if◌then◌else◌, nat_le, nat_lt}
 use Rattle.std.specs.FinMap.{get}

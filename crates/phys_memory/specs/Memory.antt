@@ -90,7 +90,8 @@ rewritten m pa bytes =
 abbrev pub written : ℕ → List ℕ → (ℕ → ℕ) → ℕ → ℕ
 written pa bytes w a = if nat_le pa a && nat_lt a (pa + length bytes) then slice_index bytes (a - pa) else w a
 
--- each page has a frame of its own that is in the memory; frames have numbers below 2^30, and 4096 bytes
+-- each page has a frame of its own that is in the memory, and 4096 bytes of it at most are reached; frames have
+-- numbers below 2^30, and 4096 bytes
 pub record IsMemory (m : Memory) : Type 0 where
   pub reached : (v : ℕ) (r : Reach) → get m.table v ≡ Some r → r.reach ≤ 4096
   pub there : (v : ℕ) (r : Reach) → get m.table v ≡ Some r → has_frame m r.frame ≡ true

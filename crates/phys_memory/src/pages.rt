@@ -61,7 +61,7 @@ impl LanePages {
     }
 
     /// Adds a page at a virtual address, of which the first `reach` bytes can be reached. It comes
-    /// back where that virtual page is taken, and is dropped where there is no memory.
+    /// back where that virtual page is taken, and is dropped where memory for it is wanting.
     pub fn add(
         &mut self,
         alloc: Global,

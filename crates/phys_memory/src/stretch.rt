@@ -130,7 +130,7 @@ impl LanePages {
         self.stretches[slot_of(page)]
     }
 
-    /// The row of the page of a virtual address, without a search where a stretch has the page.
+    /// The row of the page of a virtual address, without a search where `known` has the page.
     pub(crate) fn row_by(&self, known: Stretch, at: u128) -> Option<Reach>
         requires { IsKnown self.now.memory.table known }
         ensures is { result ≡ row_at self.now.memory at }
