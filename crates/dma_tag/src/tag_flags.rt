@@ -11,7 +11,7 @@ pub struct TagFlags(pub u32);
 
 bitflag_items! {
     impl TagFlags: u32 {
-        /// The making of the tag brings pages to its zone.
+        /// Where the tag could bounce, its making brings its zone the whole pages of maxsize, less those that it has.
         const ALLOCNOW = 1;
         /// A bounced byte keeps its offset in its page.
         const KEEP_PG_OFFSET = 2;

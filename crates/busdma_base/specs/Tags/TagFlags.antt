@@ -11,7 +11,7 @@ keep_pg_offset_bit = 2
 abbrev pub tag_table : List (List ℕ × ℕ)
 tag_table = (codes "ALLOCNOW", allocnow_bit) ∷ (codes "KEEP_PG_OFFSET", keep_pg_offset_bit) ∷ []
 
--- The making of the tag brings pages to its zone.
+-- Where the tag could bounce, its making brings its zone the whole pages of maxsize, less those that it has.
 abbrev pub allocnow : ℕ → Bool
 allocnow flags = bit_and flags allocnow_bit == allocnow_bit
 

@@ -25,7 +25,7 @@ fn could_bounce(tag: &TagLimits, maxmem: u64) -> bool
     tag.lowaddr.0 / PAGE < maxmem || tag.alignment > 1
 }
 
-/// The making of the tag brings pages to its zone.
+/// Where the tag could bounce, its making brings its zone the whole pages of maxsize, less those that it has.
 fn allocnow(tag: &TagLimits) -> bool
     ensures { result ≡ allocnow tag.now.flags }
 {
