@@ -59,14 +59,7 @@ impl<H: TurnObject> Turnstile<H> {
         let mut slots = Vec::with_capacity(alloc, 1)?;
         slots.push_reserved(object);
         match Table::new(alloc, words.as_slice(), slots, &key) {
-            Ok((table, seat)) => Ok((
-                Turnstile {
-                    table,
-                    names,
-                    bell,
-                },
-                Pass { seat, name: 0 },
-            )),
+            Ok((table, seat)) => Ok((Turnstile { table, names, bell }, Pass { seat, name: 0 })),
             Err(Refused { slots: _ }) => Err(AllocError),
         }
     }

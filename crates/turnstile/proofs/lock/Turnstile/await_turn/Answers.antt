@@ -6,11 +6,11 @@ use Rattle.turnstile.proofs.lock.Turnstile.await_turn.Goals as goal
 
 pub load-found-requires : goal.load-found-requires
 load-found-requires g c = let same = c.loop.invariant.2 in let b = some_of c.args.seat.now.me.0.start c.requires.start in (
-      search rules,
-      search rules,
-      looks_keep _ _ _ _ _ _ _ _ b.0 (ap (λ m. m.0.start) same
-          ∙ b.1) (ap (λ m. m.0.waits) same ∙ c.requires.ticket.0) (ap (λ m. m.0.turn) same ∙ c.requires.ticket.1),
-    )
+  search rules,
+  search rules,
+  looks_keep _ _ _ _ _ _ _ _ b.0 (ap (λ m. m.0.start) same
+      ∙ b.1) (ap (λ m. m.0.waits) same ∙ c.requires.ticket.0) (ap (λ m. m.0.turn) same ∙ c.requires.ticket.1),
+)
 
 pub returns-then-found-ticket-clause-sees : goal.returns-then-found-ticket-clause-sees
 returns-then-found-ticket-clause-sees g c = let same = c.loop.invariant.2 in let hit : c.load-found.result ≡ c.args.ticket = search rules in
