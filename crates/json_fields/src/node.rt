@@ -3,6 +3,7 @@
 ghost use Rattle.std.specs.Prelude.{◌≡◌, true, map, option_map, string_bytes, IfOk};
 ghost use Rattle.std.specs.List.{list_any};
 ghost use Rattle.std.specs.Str.{bytes_eq};
+ghost use Rattle.serde_json.specs.Find.{get_member};
 ghost use Rattle.serde_json.specs.View.{view, members_view};
 ghost use Rattle.busdma_base.specs.Scenarios.Names as names;
 ghost use Rattle.json_fields.specs.Place.{key, place_of};
@@ -49,14 +50,12 @@ impl<'v> Node<'v> {
     pub fn field<'a>(&'a self, name: &'a str) -> Option<Node<'a>>
         ensures { option_map spot_of result ≡ field name.now (spot_of self.now) }
     {
-        match self.value.get(name) {
-            Some(value) => Some(Node {
-                alloc: self.alloc,
-                value,
-                path: self.path.key(name),
-            }),
-            None => None,
-        }
+        let value = member(self.value.as_object()?, name)?;
+        Some(Node {
+            alloc: self.alloc,
+            value,
+            path: self.path.key(name),
+        })
     }
 
     /// The value at a key. A missing one is refused with the key's path.
@@ -205,6 +204,19 @@ fn number_in(value: &Value) -> Option<u64>
     }
 }
 
+/// The value of a member. An object has few members, so that to go through them is less than to search.
+fn member<'v>(members: &'v Map<String, Value>, name: &str) -> Option<&'v Value>
+    ensures { option_map (λ v. view v.now) result
+        ≡ get_member name.now (members_view members.now.entries) }
+{
+    for (key, value) in members {
+        if is_same(name, key.as_str()) {
+            return Some(value);
+        }
+    }
+    None
+}
+
 fn unknown_key<'a>(members: &'a Map<String, Value>, table: &[&str]) -> Option<&'a str>
     ensures { option_map (λ k. k.now) result
         ≡ unknown_key (λ key. list_any (λ k. bytes_eq k.now key) table.now)
@@ -222,5 +234,13 @@ fn unknown_key<'a>(members: &'a Map<String, Value>, table: &[&str]) -> Option<&'
 fn is_listed(table: &[&str], key: &str) -> bool
     ensures { result ≡ list_any (λ k. bytes_eq k.now key.now) table.now }
 {
-    table.iter().any(|known| *known == key)
+    table.iter().any(|known| is_same(known, key))
+}
+
+/// Texts are equal by their bytes. Most keys differ in their length or in their first bytes, which lists of bytes
+/// compare without a call.
+fn is_same(one: &str, other: &str) -> bool
+    ensures { result ≡ bytes_eq one.now other.now }
+{
+    one.as_bytes() == other.as_bytes()
 }
