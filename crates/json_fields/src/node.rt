@@ -157,16 +157,24 @@ impl<'v> Node<'v> {
         }
     }
 
-    /// A name: 1 to 32 of `a` to `z`, `0` to `9` and `_`, beginning with a letter.
+    /// The text of a name: 1 to 32 of `a` to `z`, `0` to `9` and `_`, beginning with a letter.
     #[tactic(auto, unfolding(crate::specs::Text::name_at))]
+    pub fn name_text(&self) -> Result<&'v str, Stop>
+        ensures value { GivesSeen (λ s. s.now) result (name_at (spot_of self.now)) }
+        ensures well_formed { IfOk result (λ s. names.is_name s.now ≡ true) }
+    {
+        match self.value.as_str() {
+            Some(text) if is_name(text) => Ok(text),
+            _ => Err(self.refuse(RefusalKind::BadField)),
+        }
+    }
+
+    /// A name.
     pub fn name(&self) -> Result<Name, Stop>
         ensures value { Gives result (name_at (spot_of self.now)) }
         ensures well_formed { IfOk result (λ n. names.is_name n ≡ true) }
     {
-        match self.value.as_str() {
-            Some(text) if is_name(text) => Ok(Name::new(String::from_str(self.alloc, text)?)),
-            _ => Err(self.refuse(RefusalKind::BadField)),
-        }
+        Ok(Name::new(String::from_str(self.alloc, self.name_text()?)?))
     }
 
     /// Bytes, by two hexadecimal digits each.
