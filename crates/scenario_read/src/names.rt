@@ -35,8 +35,7 @@ pub(crate) fn used(here: &Node, used_as: NameUse, before: &NamedOps) -> Result<u
     ensures value { Gives result (names.used_at used_as before.now (spot_of here.now)) }
     ensures made { IfOk result (λ place. base.IsMade before.now (record { used_as = used_as; made_at = place })) }
 {
-    let name = here.name()?;
-    match before.maker(used_as, name.as_str()) {
+    match before.maker(used_as, here.name_text()?) {
         Some(place) => Ok(place),
         None => Err(here.refuse(RefusalKind::UnknownName)),
     }
