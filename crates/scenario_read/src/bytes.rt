@@ -43,11 +43,9 @@ fn filled(here: &Node) -> Result<Bytes, Stop>
 pub(crate) fn written(here: &Node) -> Result<Bytes, Stop>
     ensures { Gives result (bytes.written_at (spot_of here.now)) }
 {
-    let has_fill = here.field("fill").is_some();
-    let has_len = here.field("len").is_some();
-    match here.field("hex") {
-        Some(hex) if !has_fill && !has_len => listed(&hex),
-        None if has_fill => filled(here),
+    match (here.field("hex"), here.field("fill")) {
+        (Some(hex), None) if here.field("len").is_none() => listed(&hex),
+        (None, Some(_)) => filled(here),
         _ => Err(here.refuse(RefusalKind::BadField)),
     }
 }

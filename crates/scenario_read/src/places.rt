@@ -52,9 +52,8 @@ pub(crate) fn access_place(here: &Node, before: &NamedOps) -> Result<Place, Stop
     ensures value { Gives result (places.access_at before.now (spot_of here.now)) }
     ensures within { IfOk result (λ p. AllByRecursion (IsMade before.now) (place_within p)) }
 {
-    let has_off = here.field("off").is_some();
     match (here.field("va"), here.field("mem")) {
-        (Some(va), None) if !has_off => address(&va),
+        (Some(va), None) if here.field("off").is_none() => address(&va),
         (None, Some(mem)) => behind_begin(&mem, here, before),
         _ => Err(here.refuse(RefusalKind::BadField)),
     }
