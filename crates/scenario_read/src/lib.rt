@@ -25,4 +25,4 @@ mod words;
 
 pub use json_fields::{LimitName, PathText, Refusal, RefusalKind};
 pub use reading::Reading;
-pub use scenario::scenario_of;
+pub use scenario::{scenario_of, scenario_of_owned};

@@ -102,6 +102,19 @@ fn read_document(alloc: Global, document: &Option<Value>) -> Result<Scenario, St
     }
 }
 
+/// What a document says.
+fn reading_of(alloc: Global, document: &Option<Value>) -> Result<Reading, AllocError>
+    ensures value { IfOk result
+        (λ r. r ≡ scenario.reading (scenario.read_document (option_map view document.now))) }
+    ensures valid { IfOk result IsValidIfGood }
+{
+    match read_document(alloc, document) {
+        Ok(scenario) => Ok(Reading::Good(scenario)),
+        Err(Stop::Refused(refusal)) => Ok(Reading::Bad(refusal)),
+        Err(Stop::OutOfMemory) => Err(AllocError),
+    }
+}
+
 /// What the bytes say: a valid scenario, or the first refusal. Only want of memory is an error.
 #[tactic(auto, unfolding(crate::specs::Scenario::scenario_of))]
 pub fn scenario_of(alloc: Global, bytes: &[u8]) -> Result<Reading, AllocError>
@@ -109,9 +122,16 @@ pub fn scenario_of(alloc: Global, bytes: &[u8]) -> Result<Reading, AllocError>
     ensures valid { IfOk result IsValidIfGood }
 {
     let document = document(alloc, bytes)?;
-    match read_document(alloc, &document) {
-        Ok(scenario) => Ok(Reading::Good(scenario)),
-        Err(Stop::Refused(refusal)) => Ok(Reading::Bad(refusal)),
-        Err(Stop::OutOfMemory) => Err(AllocError),
-    }
+    reading_of(alloc, &document)
+}
+
+/// The same of bytes that nobody needs afterwards: they are freed before the scenario takes memory.
+#[tactic(auto, unfolding(crate::specs::Scenario::scenario_of))]
+pub fn scenario_of_owned(alloc: Global, bytes: Vec<u8>) -> Result<Reading, AllocError>
+    ensures value { IfOk result (λ r. r ≡ scenario.scenario_of bytes.items) }
+    ensures valid { IfOk result IsValidIfGood }
+{
+    let document = document(alloc, &bytes)?;
+    drop(bytes);
+    reading_of(alloc, &document)
 }
