@@ -14,7 +14,7 @@ use busdma_base::{Journal, Scenario};
 use command_words::{Command, command_of, run_is_one_word, storms_are_small};
 use io_edge::{Input, Sink, Source, read_up_to, write_all};
 use report_text::write_report;
-use scenario_read::{Reading, scenario_of};
+use scenario_read::{Reading, scenario_of_owned};
 use std::alloc::{AllocError, Global};
 use storm::{storm_scenario, storms_are_valid, summary};
 use world_core::{replay, status};
@@ -29,7 +29,7 @@ pub(crate) fn read_scenario<S: Source>(alloc: Global, source: &mut S) -> Result<
     ensures valid { IfOk result IsValid }
 {
     match read_up_to(alloc, source, INPUT_LIMIT)? {
-        Input::Whole(bytes) => match scenario_of(alloc, &bytes)? {
+        Input::Whole(bytes) => match scenario_of_owned(alloc, bytes)? {
             Reading::Good(scenario) => Ok(scenario),
             Reading::Bad(refusal) => Err(Cause::Refused(refusal)),
         },
