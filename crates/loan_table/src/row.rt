@@ -1,7 +1,7 @@
 //! What one map lends.
 
 ghost use Rattle.std.specs.Prelude.{◌≡◌, ℕ, ◌+◌, ◌-◌, ◌≤◌, ◌<◌, ◌^◌, ◌++◌, ◌&&◌, ◌||◌, not, length};
-ghost use Rattle.std.specs.Prelude.{if◌then◌else◌, slice_index, IfOk, [], false};
+ghost use Rattle.std.specs.Prelude.{if◌then◌else◌, slice_index, IfOk, [], false, true};
 ghost use Rattle.std.specs.List.{All, filter};
 ghost use Rattle.busdma_base.specs.Machine.Wire.{stretch};
 ghost use Rattle.busdma_base.specs.Journals.Judging.{judged};
@@ -77,16 +77,22 @@ impl Model for LoanRow {
 }
 
 impl LoanRow {
-    /// A map over bytes that lends nothing.
-    pub fn over(alloc: Global, coherent: bool, bytes: &[Extent]) -> Result<Self, AllocError>
+    /// A map over bytes that lends nothing. The sets of a row that is gone are used again, where they fit.
+    pub fn over(
+        alloc: Global,
+        coherent: bool,
+        bytes: &[Extent],
+        gone: Option<LoanRow>,
+    ) -> Result<Self, AllocError>
         requires ends { All Ends bytes.now }
         requires total { byte_count bytes.now < 2 ^ 64 }
         ensures { IfOk result (λ row. row ≡ new_loan coherent (addresses bytes.now)) }
     {
         let buffer = Buffer::over(alloc, bytes)?;
         let extents = extent_count(&buffer, 0, buffer.len());
-        let to_read = places_among(alloc, buffer.len())?;
-        let to_write = places_among(alloc, buffer.len())?;
+        let (used_to_read, used_to_write) = sets_of(alloc, gone);
+        let to_read = places_among(alloc, buffer.len(), used_to_read)?;
+        let to_write = places_among(alloc, buffer.len(), used_to_write)?;
         Ok(LoanRow {
             coherent,
             buffer,
@@ -323,8 +329,16 @@ fn lent_in(piece: &Piece, way: Way, pa: u64) -> u64
     }
 }
 
-/// The empty set of places among `len`, with room for each change.
-fn places_among(alloc: Global, len: u64) -> Result<RunSet, AllocError>
+/// The sets of a row that is gone.
+fn sets_of(alloc: Global, gone: Option<LoanRow>) -> (RunSet, RunSet) {
+    match gone {
+        Some(row) => (row.to_read, row.to_write),
+        None => (RunSet::new(alloc), RunSet::new(alloc)),
+    }
+}
+
+/// The empty set of places among `len`, with room for each change: a used set where it fits, and a new one else.
+fn places_among(alloc: Global, len: u64, used: RunSet) -> Result<RunSet, AllocError>
     ensures none { IfOk result (λ set. set.edges ≡ []) }
     ensures room { IfOk result (λ set. IsRoomy set len) }
 {
@@ -332,9 +346,23 @@ fn places_among(alloc: Global, len: u64) -> Result<RunSet, AllocError>
     if len > MOST {
         return Err(AllocError);
     }
+    let room = (len + 3) as usize;
+    if fits(&used, room) {
+        return Ok(used);
+    }
     let mut places = RunSet::new(alloc);
-    places.reserve((len + 3) as usize)?;
+    places.reserve(room)?;
     Ok(places)
+}
+
+/// Whether a set is empty and has this room, and not so much more that it would be wasted.
+fn fits(set: &RunSet, room: usize) -> bool
+    ensures none { result ≡ true → set.now.edges ≡ [] }
+    ensures room { result ≡ true → room ≤ set.now.room }
+{
+    const LITTLE: usize = 0x100;
+    let there = set.room();
+    set.edge_count() == 0 && room <= there && there / 4 <= room.max(LITTLE)
 }
 
 /// Puts the places of a range into a set where a call begins to lend them, or takes them out of it

@@ -38,6 +38,8 @@ pub struct LoanTable {
     lent: LentCounts,
     positions: u64,
     spare: u64,
+    /// The row of the map that was forgotten last: the next map takes its memory.
+    gone: Option<LoanRow>,
 }
 
 impl Model for LoanTable {
@@ -73,6 +75,7 @@ impl LoanTable {
             lent: LentCounts::new(alloc),
             positions: 0,
             spare: 0,
+            gone: None,
         }
     }
 
@@ -205,7 +208,7 @@ impl LoanTable {
         ensures spare { self.old.spare ≤ self.new.spare }
     {
         let loans = &mut self.loans;
-        let row = LoanRow::over(alloc, coherent, bytes)?;
+        let row = LoanRow::over(alloc, coherent, bytes, self.gone.take())?;
         let positions = sum_of(self.positions, row.len())?;
         self.bytes.reserve(edges_for(positions, self.spare)?)?;
         self.lent.reserve(changes_for(positions)?)?;
@@ -228,6 +231,7 @@ impl LoanTable {
         slot.row.lose_lent(&mut self.bytes);
         slot.row.uncount(&mut self.lent);
         self.positions -= slot.row.len();
+        self.gone = Some(slot.row);
     }
 
     /// Forgets what is prepared for a map.
