@@ -42,14 +42,19 @@ impl Model for Buffer {
 }
 
 impl Buffer {
-    /// The bytes of extents, in order.
-    pub fn over(alloc: Global, extents: &[Extent]) -> Result<Self, AllocError>
+    /// The bytes of extents, in order, in the lists of a buffer that is gone.
+    pub fn over(
+        alloc: Global,
+        extents: &[Extent],
+        gone: Option<Buffer>,
+    ) -> Result<Self, AllocError>
         requires ends { All Ends extents.now }
         requires total { byte_count extents.now < 2 ^ 64 }
         ensures { IfOk result (λ buffer. buffer ≡ addresses extents.now) }
     {
-        let stretches = stretches_of(alloc, extents)?;
-        let starts = starts_of(alloc, &stretches)?;
+        let (used_stretches, used_starts) = lists_of(alloc, gone);
+        let stretches = stretches_of(used_stretches, extents)?;
+        let starts = starts_of(used_starts, &stretches)?;
         let places = counted_places(alloc, &stretches)?;
         let len = len_of(extents);
         Ok(Buffer {
@@ -141,8 +146,16 @@ fn part_of(run: &Extent, skipped: u64, most: u64) -> Extent
     }
 }
 
+/// The lists of a buffer that is gone.
+fn lists_of(alloc: Global, gone: Option<Buffer>) -> (Vec<Extent>, Vec<u64>) {
+    match gone {
+        Some(buffer) => (buffer.stretches, buffer.starts),
+        None => (Vec::new(alloc), Vec::new(alloc)),
+    }
+}
+
 /// How many bytes extents have.
-fn len_of(extents: &[Extent]) -> u64
+pub fn len_of(extents: &[Extent]) -> u64
     requires { byte_count extents.now < 2 ^ 64 }
     ensures { result ≡ byte_count extents.now }
 {
@@ -153,14 +166,15 @@ fn len_of(extents: &[Extent]) -> u64
     len
 }
 
-/// Extents as stretches: where one begins at the end of the one before it, and both have a byte, they
-/// are one.
-fn stretches_of(alloc: Global, extents: &[Extent]) -> Result<Vec<Extent>, AllocError>
+/// Extents as stretches, in a used list: where one begins at the end of the one before it, and both have a
+/// byte, they are one.
+fn stretches_of(used: Vec<Extent>, extents: &[Extent]) -> Result<Vec<Extent>, AllocError>
     requires { All Ends extents.now }
     ensures bytes { IfOk result (λ stretches. addresses stretches.items ≡ addresses extents.now) }
     ensures ends { IfOk result (λ stretches. All Ends stretches.items) }
 {
-    let mut stretches = Vec::new(alloc);
+    let mut stretches = used;
+    stretches.clear();
     let Some((first, rest)) = extents.split_first() else {
         return Ok(stretches);
     };
@@ -192,12 +206,13 @@ fn join(run: &mut Extent, next: &Extent) -> bool
     true
 }
 
-/// At which positions stretches begin.
-fn starts_of(alloc: Global, stretches: &[Extent]) -> Result<Vec<u64>, AllocError>
+/// At which positions stretches begin, in a used list.
+fn starts_of(used: Vec<u64>, stretches: &[Extent]) -> Result<Vec<u64>, AllocError>
     requires { byte_count stretches.now < 2 ^ 64 }
     ensures { IfOk result (λ starts. starts.items ≡ starts_from 0 stretches.now) }
 {
-    let mut starts = Vec::new(alloc);
+    let mut starts = used;
+    starts.clear();
     let mut before = 0;
     for run in stretches {
         starts.push(before)?;

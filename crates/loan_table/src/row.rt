@@ -1,7 +1,7 @@
 //! What one map lends.
 
 ghost use Rattle.std.specs.Prelude.{◌≡◌, ℕ, ◌+◌, ◌-◌, ◌≤◌, ◌<◌, ◌^◌, ◌++◌, ◌&&◌, ◌||◌, not, length};
-ghost use Rattle.std.specs.Prelude.{if◌then◌else◌, slice_index, IfOk, [], false, true};
+ghost use Rattle.std.specs.Prelude.{if◌then◌else◌, slice_index, IfOk, [], false};
 ghost use Rattle.std.specs.List.{All, filter};
 ghost use Rattle.busdma_base.specs.Machine.Wire.{stretch};
 ghost use Rattle.busdma_base.specs.Journals.Judging.{judged};
@@ -15,7 +15,7 @@ ghost use Rattle.loan_table.specs.Rows.{alike, AreAlike, IsRoomy};
 ghost use Rattle.loan_table.specs.Table.{extent_count, AreIn, set_all};
 ghost use Rattle.run_set.specs.Edges.{in_run, member};
 
-use crate::buffer::Buffer;
+use crate::buffer::{Buffer, len_of};
 use crate::extents::extent_count;
 use crate::lent::LentCounts;
 use crate::losing::{self, Losing};
@@ -77,20 +77,21 @@ impl Model for LoanRow {
 }
 
 impl LoanRow {
-    /// A map over bytes that lends nothing. The sets of a row that is gone are used again, where they fit.
+    /// A map over bytes that lends nothing. It takes the memory of a row that is gone, where that fits.
     pub fn over(
         alloc: Global,
         coherent: bool,
         bytes: &[Extent],
-        gone: Option<LoanRow>,
+        gone: &mut Option<LoanRow>,
     ) -> Result<Self, AllocError>
         requires ends { All Ends bytes.now }
         requires total { byte_count bytes.now < 2 ^ 64 }
         ensures { IfOk result (λ row. row ≡ new_loan coherent (addresses bytes.now)) }
     {
-        let buffer = Buffer::over(alloc, bytes)?;
+        let fitting = take_fitting(gone, len_of(bytes));
+        let (used_buffer, used_to_read, used_to_write) = parts_of(alloc, fitting);
+        let buffer = Buffer::over(alloc, bytes, used_buffer)?;
         let extents = extent_count(&buffer, 0, buffer.len());
-        let (used_to_read, used_to_write) = sets_of(alloc, gone);
         let to_read = places_among(alloc, buffer.len(), used_to_read)?;
         let to_write = places_among(alloc, buffer.len(), used_to_write)?;
         Ok(LoanRow {
@@ -329,15 +330,51 @@ fn lent_in(piece: &Piece, way: Way, pa: u64) -> u64
     }
 }
 
-/// The sets of a row that is gone.
-fn sets_of(alloc: Global, gone: Option<LoanRow>) -> (RunSet, RunSet) {
-    match gone {
-        Some(row) => (row.to_read, row.to_write),
-        None => (RunSet::new(alloc), RunSet::new(alloc)),
+/// For how many edges a row that is gone has room in each of its sets, and 0 where they are not empty.
+fn used_room(row: &LoanRow) -> usize {
+    if row.to_read.edge_count() == 0 && row.to_write.edge_count() == 0 {
+        row.to_read.room().min(row.to_write.room())
+    } else {
+        0
     }
 }
 
-/// The empty set of places among `len`, with room for each change: a used set where it fits, and a new one else.
+/// Whether so much room is enough for `len` places, and not so much more that it would be wasted.
+fn fits(room: usize, len: u64) -> bool {
+    const LITTLE: u64 = 0x100;
+    let room = room as u64;
+    room > len && room - len > 2 && room / 8 <= len.max(LITTLE)
+}
+
+/// Takes a row that is gone, where its sets fit for `len` places.
+fn take_fitting(gone: &mut Option<LoanRow>, len: u64) -> Option<LoanRow> {
+    let room = match gone {
+        Some(row) => used_room(row),
+        None => 0,
+    };
+    if fits(room, len) { gone.take() } else { None }
+}
+
+/// Keeps a row that is gone, where it has more room than the one before.
+pub fn keep_gone(gone: &mut Option<LoanRow>, row: LoanRow) {
+    let room = match gone {
+        Some(before) => used_room(before),
+        None => 0,
+    };
+    if used_room(&row) > room {
+        *gone = Some(row);
+    }
+}
+
+/// What a row that is gone leaves: its buffer and its sets.
+fn parts_of(alloc: Global, gone: Option<LoanRow>) -> (Option<Buffer>, RunSet, RunSet) {
+    match gone {
+        Some(row) => (Some(row.buffer), row.to_read, row.to_write),
+        None => (None, RunSet::new(alloc), RunSet::new(alloc)),
+    }
+}
+
+/// The empty set of places among `len`, with room for each change: a used set, where it is empty.
 fn places_among(alloc: Global, len: u64, used: RunSet) -> Result<RunSet, AllocError>
     ensures none { IfOk result (λ set. set.edges ≡ []) }
     ensures room { IfOk result (λ set. IsRoomy set len) }
@@ -346,23 +383,13 @@ fn places_among(alloc: Global, len: u64, used: RunSet) -> Result<RunSet, AllocEr
     if len > MOST {
         return Err(AllocError);
     }
-    let room = (len + 3) as usize;
-    if fits(&used, room) {
-        return Ok(used);
-    }
-    let mut places = RunSet::new(alloc);
-    places.reserve(room)?;
+    let mut places = if used.edge_count() == 0 {
+        used
+    } else {
+        RunSet::new(alloc)
+    };
+    places.reserve((len + 3) as usize)?;
     Ok(places)
-}
-
-/// Whether a set is empty and has this room, and not so much more that it would be wasted.
-fn fits(set: &RunSet, room: usize) -> bool
-    ensures none { result ≡ true → set.now.edges ≡ [] }
-    ensures room { result ≡ true → room ≤ set.now.room }
-{
-    const LITTLE: usize = 0x100;
-    let there = set.room();
-    set.edge_count() == 0 && room <= there && there / 4 <= room.max(LITTLE)
 }
 
 /// Puts the places of a range into a set where a call begins to lend them, or takes them out of it

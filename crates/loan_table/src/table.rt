@@ -18,7 +18,7 @@ use crate::lent::LentCounts;
 use crate::loans::{is_open, open, positions_of, row_of};
 use crate::marks::ByteMarks;
 use crate::room::{changes_for, edges_for, spare_after, sum_of};
-use crate::row::LoanRow;
+use crate::row::{LoanRow, keep_gone};
 use crate::slot::Slot;
 use crate::{extents, marks, sync};
 use busdma_base::{Extent, ExtentList, Judged, MapId, Pa};
@@ -38,7 +38,7 @@ pub struct LoanTable {
     lent: LentCounts,
     positions: u64,
     spare: u64,
-    /// The row of the map that was forgotten last: the next map takes its memory.
+    /// A row that is gone: the next map takes its memory.
     gone: Option<LoanRow>,
 }
 
@@ -208,7 +208,7 @@ impl LoanTable {
         ensures spare { self.old.spare ≤ self.new.spare }
     {
         let loans = &mut self.loans;
-        let row = LoanRow::over(alloc, coherent, bytes, self.gone.take())?;
+        let row = LoanRow::over(alloc, coherent, bytes, &mut self.gone)?;
         let positions = sum_of(self.positions, row.len())?;
         self.bytes.reserve(edges_for(positions, self.spare)?)?;
         self.lent.reserve(changes_for(positions)?)?;
@@ -231,7 +231,7 @@ impl LoanTable {
         slot.row.lose_lent(&mut self.bytes);
         slot.row.uncount(&mut self.lent);
         self.positions -= slot.row.len();
-        self.gone = Some(slot.row);
+        keep_gone(&mut self.gone, slot.row);
     }
 
     /// Forgets what is prepared for a map.

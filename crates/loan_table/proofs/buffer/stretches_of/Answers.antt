@@ -17,9 +17,9 @@ loop-extent-init c =
     let cases = c.in-Some.ensures.cases in
     let all : c.args.extents.now ≡ first ∷ rest = cases.0 in
     record {
-      bytes = ap (λ xs. addresses xs ++ (run_of first.pa.0 first.len ++ addresses rest)) c.new-stretches.ensures.items
+      bytes = ap (λ xs. addresses xs ++ (run_of first.pa.0 first.len ++ addresses rest)) c.clear.ensures.items
           ∙ sym (ap addresses all);
-      ends = subst (All Ends) (sym c.new-stretches.ensures.items) (All-nil Ends);
+      ends = subst (All Ends) (sym c.clear.ensures.items) (All-nil Ends);
       here = All-head Ends first rest (subst (All Ends) all c.requires);
       later = All-rest Ends first rest c.args.extents.now all c.requires;
     }
