@@ -2,6 +2,7 @@
 use Rattle.std.proofs.Common.{◌≡◌, ℕ, zero, suc, ◌+◌, ◌-◌, ◌<◌, ◌≤◌, ◌&&◌, ◌||◌, not, Bool, true, false, if◌then◌else◌}
 use Rattle.std.proofs.Common.{List, [], ◌∷◌, ◌++◌, map, take, drop, length, slice_index, nat_lt, refl, Some, None}
 use Rattle.std.proofs.Common.{sym, ap, ◌∙◌, arith}
+use Rattle.std.specs.List.{filter}
 use Rattle.std.proofs.lemmas.Bool.Decides.{nat_tests}
 use Rattle.std.proofs.lemmas.List.{length-drop, length-take, length-take-le, take-take}
 use Rattle.busdma_base.specs.declared.journals.report.ReportName.{ReportName}
@@ -12,7 +13,7 @@ use Rattle.busdma_base.specs.Runs.{run_of}
 use Rattle.dma_tag.specs.SyncOps.{preread, prewrite, postread, postwrite}
 use Rattle.run_set.specs.Edges.{in_run, member, NoneIn, Rises}
 use Rattle.loan_table.specs.declared.position.Position.{Position}
-use Rattle.loan_table.specs.Loans.{Loan, addresses_of, new_loan, stands_twice, unlent}
+use Rattle.loan_table.specs.Loans.{Loan, addresses_of, new_loan, stands_twice, to_write, unlent}
 use Rattle.loan_table.specs.Kinds.{unlent_refusal}
 use Rattle.loan_table.specs.Lending.{marked, marked_range}
 use Rattle.loan_table.specs.Rows.{alike, lent_like, placed, stands, AreAlike}
@@ -100,6 +101,15 @@ span_alike r w bytes at n p f g =
 pub none_placed : (at : ℕ) (bytes : List ℕ) → placed (member []) (member []) at bytes ≡ unlent bytes
 none_placed at [] = refl
 none_placed at (a ∷ bytes) = ap (λ xs. position a false false ∷ xs) (none_placed (at + 1) bytes)
+
+pub none_among : (r w bytes : List ℕ) → r ≡ [] → w ≡ [] → placed (member r) (member w) 0 bytes
+    ≡ unlent (addresses_of (placed (member r) (member w) 0 bytes))
+none_among r w bytes e f =
+    rw (e, f) (none_placed 0 bytes ∙ ap unlent (sym (addresses_of-placed (member []) (member []) 0 bytes)))
+
+pub none_to_write : (bytes : List ℕ) → filter to_write (unlent bytes) ≡ []
+none_to_write [] = refl
+none_to_write (a ∷ bytes) = none_to_write bytes
 
 -- positions as a call marks them
 abbrev read_after : ℕ → (ℕ → Bool) → ℕ → Bool

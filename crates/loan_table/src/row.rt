@@ -1,7 +1,7 @@
 //! What one map lends.
 
 ghost use Rattle.std.specs.Prelude.{◌≡◌, ℕ, ◌+◌, ◌-◌, ◌≤◌, ◌<◌, ◌^◌, ◌++◌, ◌&&◌, ◌||◌, not, length};
-ghost use Rattle.std.specs.Prelude.{if◌then◌else◌, slice_index, IfOk, [], false};
+ghost use Rattle.std.specs.Prelude.{if◌then◌else◌, slice_index, IfOk, [], false, true};
 ghost use Rattle.std.specs.List.{All, filter};
 ghost use Rattle.busdma_base.specs.Machine.Wire.{stretch};
 ghost use Rattle.busdma_base.specs.Journals.Judging.{judged};
@@ -10,7 +10,7 @@ ghost use Rattle.loan_table.specs.Counted.{places, places_in, HasChanges, Holds,
 ghost use Rattle.loan_table.specs.Ends.{Ends};
 ghost use Rattle.loan_table.specs.Kinds.{test_of, unlent_refusal};
 ghost use Rattle.loan_table.specs.Lending.{marked, marked_range};
-ghost use Rattle.loan_table.specs.Loans.{stands_twice, addresses_of, to_write, new_loan};
+ghost use Rattle.loan_table.specs.Loans.{stands_twice, addresses_of, to_write, new_loan, unlent};
 ghost use Rattle.loan_table.specs.Rows.{alike, AreAlike, IsRoomy};
 ghost use Rattle.loan_table.specs.Table.{extent_count, AreIn, set_all};
 ghost use Rattle.run_set.specs.Edges.{in_run, member};
@@ -260,6 +260,13 @@ impl LoanRow {
         }
     }
 
+    /// Whether no set has a place: the map lends nothing.
+    fn is_unlent(&self) -> bool
+        ensures { result ≡ true → self.now.positions ≡ unlent (addresses_of self.now.positions) }
+    {
+        is_empty(&self.to_read) && is_empty(&self.to_write)
+    }
+
     /// The positions are counted no more among those that are lent.
     pub fn uncount(&self, lent: &mut LentCounts)
         requires held { Holds lent.old self.now.positions }
@@ -267,6 +274,9 @@ impl LoanRow {
         ensures counts { IsRecounted lent.old lent.new self.now.positions [] }
         ensures room { UsesChanges lent.old lent.new (length self.now.positions) }
     {
+        if self.is_unlent() {
+            return;
+        }
         lent.forget(self);
     }
 
@@ -280,6 +290,9 @@ impl LoanRow {
             ≤ bytes.new.room + (length self.now.positions + length self.now.positions) }
         ensures there_room { bytes.new.there_room ≡ bytes.old.there_room }
     {
+        if self.is_unlent() {
+            return;
+        }
         losing::lose(bytes, self, 0, self.len(), Losing::Forgetting);
     }
 
@@ -330,9 +343,16 @@ fn lent_in(piece: &Piece, way: Way, pa: u64) -> u64
     }
 }
 
+/// Whether a set has no place.
+fn is_empty(set: &RunSet) -> bool
+    ensures { result ≡ true → set.now.edges ≡ [] }
+{
+    set.edge_count() == 0
+}
+
 /// For how many edges a row that is gone has room in each of its sets, and 0 where they are not empty.
 fn used_room(row: &LoanRow) -> usize {
-    if row.to_read.edge_count() == 0 && row.to_write.edge_count() == 0 {
+    if row.is_unlent() {
         row.to_read.room().min(row.to_write.room())
     } else {
         0
@@ -383,7 +403,7 @@ fn places_among(alloc: Global, len: u64, used: RunSet) -> Result<RunSet, AllocEr
     if len > MOST {
         return Err(AllocError);
     }
-    let mut places = if used.edge_count() == 0 {
+    let mut places = if is_empty(&used) {
         used
     } else {
         RunSet::new(alloc)
