@@ -4,6 +4,7 @@
 mod access;
 mod buffer;
 mod extents;
+mod held;
 mod lent;
 mod loans;
 mod losing;

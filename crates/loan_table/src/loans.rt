@@ -28,7 +28,7 @@ pub fn row_of(loans: &BTreeMap<u32, Slot>, map: u32) -> &LoanRow
     ensures { result.now ≡ loan_of (opened loans.now) map }
 {
     let slot = loans.get(&map).unwrap();
-    &slot.row
+    slot.row.as_row()
 }
 
 /// Opens a prepared map.
@@ -49,7 +49,7 @@ pub fn positions_of(slot: Option<Slot>) -> u64
     ensures { result ≡ unwrap_or (option_map (λ s. length s.row.positions) slot) 0 }
 {
     match slot {
-        Some(slot) => slot.row.len(),
+        Some(slot) => slot.row.as_row().len(),
         None => 0,
     }
 }

@@ -391,7 +391,7 @@ pub fn mark(loans: &mut BTreeMap<u32, Slot>, map: u32, off: u64, len: u64, ops: 
     ensures count { position_count loans.new.entries ≡ position_count loans.old.entries }
 {
     if let Some(slot) = loans.get_mut(&map) {
-        if !slot.row.is_coherent() {
+        if !slot.row.as_row().is_coherent() {
             slot.row.mark(off, len, ops);
         }
     }

@@ -14,6 +14,7 @@ ghost use Rattle.loan_table.specs.Table.{without, IsPrepared, IsSame, IsSynced, 
 ghost use Rattle.loan_table.specs.Trees.{with_value};
 
 use crate::access::{self, Access};
+use crate::held::HeldRow;
 use crate::lent::LentCounts;
 use crate::loans::{is_open, open, positions_of, row_of};
 use crate::marks::ByteMarks;
@@ -208,8 +209,8 @@ impl LoanTable {
         ensures spare { self.old.spare ≤ self.new.spare }
     {
         let loans = &mut self.loans;
-        let row = LoanRow::over(alloc, coherent, bytes, &mut self.gone)?;
-        let positions = sum_of(self.positions, row.len())?;
+        let row = HeldRow::over(alloc, coherent, bytes, &mut self.gone)?;
+        let positions = sum_of(self.positions, row.as_row().len())?;
         self.bytes.reserve(edges_for(positions, self.spare)?)?;
         self.lent.reserve(changes_for(positions)?)?;
         let gone = loans.insert(map.made_at, Slot { is_open, row })?;
@@ -228,10 +229,11 @@ impl LoanTable {
         ensures spare { self.old.spare ≤ self.new.spare }
     {
         let slot = self.loans.remove(&map.made_at).unwrap();
-        slot.row.lose_lent(&mut self.bytes);
-        slot.row.uncount(&mut self.lent);
-        self.positions -= slot.row.len();
-        keep_gone(&mut self.gone, slot.row);
+        let row = slot.row.into_row();
+        row.lose_lent(&mut self.bytes);
+        row.uncount(&mut self.lent);
+        self.positions -= row.len();
+        keep_gone(&mut self.gone, row);
     }
 
     /// Forgets what is prepared for a map.

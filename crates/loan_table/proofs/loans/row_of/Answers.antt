@@ -12,5 +12,5 @@ unwrap-slot-requires c = copied_some c.get.result (ap is_some c.get.ensures.valu
 pub returns : goal.returns
 returns c =
     let found = sym c.get.ensures.value ∙ ap option_copied c.unwrap-slot.ensures in
-    sym (loan_found c.args.loans.now.entries c.args.map _ found
+    c.as_row.ensures ∙ sym (loan_found c.args.loans.now.entries c.args.map _ found
     (open_there c.args.loans.now.entries c.args.map _ found c.requires))

@@ -27,7 +27,7 @@ returns-then-not-is_coherent-clause-marks c =
     ∙ ap (λ b. with_value (loans_in true es) c.args.map (loan_if true (record { is_open = b; row = c.mark.new.self })))
     is_open
     ∙ synced_open _ _ c.args.off c.args.len c.args.ops.0 _ _ (loan_found es c.args.map _ at is_open)
-    (sym c.is_coherent.ensures ∙ c.if-not-is_coherent.true) c.mark.ensures.coherent c.mark.ensures.positions
+    (sym (rw c.as_row.ensures at c.is_coherent.ensures) ∙ c.if-not-is_coherent.true) c.mark.ensures.coherent c.mark.ensures.positions
 
 pub returns-then-not-is_coherent-clause-prepared : goal.returns-then-not-is_coherent-clause-prepared
 returns-then-not-is_coherent-clause-prepared c =
@@ -46,7 +46,7 @@ returns-else-not-is_coherent-clause-marks c =
     ap (loans_in true) ((c.get_mut.follows.holds c.in-Some.slot.now).0 ∙ set_value_same _ _ _ at)
     ∙ synced_coherent _ _ c.args.off c.args.len c.args.ops.0 _
     (loan_found es c.args.map _ at (open_there es c.args.map _ at c.requires.there))
-    (sym c.is_coherent.ensures ∙ c.if-not-is_coherent.false)
+    (sym (rw c.as_row.ensures at c.is_coherent.ensures) ∙ c.if-not-is_coherent.false)
 
 pub returns-else-not-is_coherent-clause-prepared : goal.returns-else-not-is_coherent-clause-prepared
 returns-else-not-is_coherent-clause-prepared c =

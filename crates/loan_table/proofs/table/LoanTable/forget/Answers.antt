@@ -20,10 +20,10 @@ unwrap-slot-requires c = ap is_some c.remove.ensures.value
 pub lose_lent-requires-clause-there : goal.lose_lent-requires-clause-there
 lose_lent-requires-clause-there c =
     let at = sym c.remove.ensures.value ∙ c.unwrap-slot.ensures in
-    subst (λ (l : Loan). AreIn c.self.inside.bytes.bytes (addresses_of l.positions))
+    rw c.into_row-row.ensures (subst (λ (l : Loan). AreIn c.self.inside.bytes.bytes (addresses_of l.positions))
     (loan_found c.self.inside.loans.entries c.args.map.made_at _ at
     (open_there _ _ _ at (rw (← c.self.view_is) at c.requires)))
-    (c.self.invariant.inside c.args.map.made_at)
+    (c.self.invariant.inside c.args.map.made_at))
 
 pub lose_lent-requires-clause-room : goal.lose_lent-requires-clause-room
 lose_lent-requires-clause-room c =
@@ -32,16 +32,16 @@ lose_lent-requires-clause-room c =
     ap (λ es. position_count es + length c.unwrap-slot.result.row.positions) c.remove.ensures.entries
     ∙ count_removed c.self.inside.loans.entries _ c.unwrap-slot.result (sym c.remove.ensures.value
     ∙ c.unwrap-slot.ensures) ∙ c.self.invariant.counted in
-    omega (arith, sum, c.self.invariant.room.forgets)
+    omega (arith, sum, ap (λ (l : Loan). length l.positions) c.into_row-row.ensures, c.self.invariant.room.forgets)
 
 pub uncount-requires-clause-held : goal.uncount-requires-clause-held
 uncount-requires-clause-held c =
     let at = sym c.remove.ensures.value ∙ c.unwrap-slot.ensures in
-    subst (λ (l : Loan). Holds c.self.inside.lent l.positions)
+    rw c.into_row-row.ensures (subst (λ (l : Loan). Holds c.self.inside.lent l.positions)
     (loan_found c.self.inside.loans.entries c.args.map.made_at _ at
     (open_there _ _ _ at (rw (← c.self.view_is) at c.requires)))
     (held_loan c.self.inside.lent (loans_in true c.self.inside.loans.entries) c.args.map.made_at
-    c.self.invariant.lent_counted)
+    c.self.invariant.lent_counted))
 
 pub uncount-requires-clause-room : goal.uncount-requires-clause-room
 uncount-requires-clause-room c way =
@@ -50,7 +50,7 @@ uncount-requires-clause-room c way =
     ap (λ es. position_count es + length c.unwrap-slot.result.row.positions) c.remove.ensures.entries
     ∙ count_removed c.self.inside.loans.entries _ c.unwrap-slot.result (sym c.remove.ensures.value
     ∙ c.unwrap-slot.ensures) ∙ c.self.invariant.counted in
-    omega (arith, sum, c.self.invariant.count_room.forgets way)
+    omega (arith, sum, ap (λ (l : Loan). length l.positions) c.into_row-row.ensures, c.self.invariant.count_room.forgets way)
 
 pub overflow_sub-self : goal.overflow_sub-self
 overflow_sub-self c =
@@ -59,10 +59,15 @@ overflow_sub-self c =
     ap (λ es. position_count es + length c.unwrap-slot.result.row.positions) c.remove.ensures.entries
     ∙ count_removed c.self.inside.loans.entries _ c.unwrap-slot.result (sym c.remove.ensures.value
     ∙ c.unwrap-slot.ensures) ∙ c.self.invariant.counted in
-    omega (arith, sum, c.len.ensures)
+    omega (arith, sum, ap (λ (l : Loan). length l.positions) c.into_row-row.ensures, c.len.ensures)
 
 pub invariant_of-self : goal.invariant_of-self
 invariant_of-self c =
+    let gone_bytes = rw c.into_row-row.ensures at c.lose_lent.ensures.bytes in
+    let gone_room = rw c.into_row-row.ensures at c.lose_lent.ensures.room in
+    let gone_counts = rw c.into_row-row.ensures at c.uncount.ensures.counts in
+    let gone_count_room = rw c.into_row-row.ensures at c.uncount.ensures.room in
+    let gone_len = rw c.into_row-row.ensures at c.len.ensures in
     let bytes = c.self.inside.bytes.bytes in
     let es = c.self.inside.loans.entries in
     let map = c.args.map.made_at in
@@ -80,42 +85,42 @@ invariant_of-self c =
       ordered = c.remove.ensures.ordered;
       inside = λ m.
           rw (
-            c.lose_lent.ensures.bytes,
+            gone_bytes,
             loans_in-change true es c.remove.new.self.entries map None c.remove.ensures.updates.0,
           )
           (take_loan (λ ps. AreIn (set_all bytes gone false) (addresses_of ps)) _ map tt
           (λ q. AreIn-set_all _ gone false _ (c.self.invariant.inside q)) m);
       prepared = λ m.
           rw (
-            c.lose_lent.ensures.bytes,
+            gone_bytes,
             closed_stay es c.remove.new.self.entries map slot None at is_open refl c.remove.ensures.updates.0,
           )
           (AreIn-set_all _ gone false _ (c.self.invariant.prepared m));
       low =
-          subst AreLow (sym c.lose_lent.ensures.bytes)
+          subst AreLow (sym gone_bytes)
           (AreLow-set_all bytes gone false (AreIn-filter bytes to_write slot.row.positions there)
           c.self.invariant.low);
-      counted = omega (arith, sum, c.len.ensures);
+      counted = omega (arith, sum, gone_len);
       room = left_by_map c.self.inside.bytes c.lose_lent.new.bytes c.self.inside.positions _ c.self.inside.spare
-          (length slot.row.positions) c.self.invariant.room (omega (arith, sum, c.len.ensures))
-          c.lose_lent.ensures.room c.lose_lent.ensures.there_room;
+          (length slot.row.positions) c.self.invariant.room (omega (arith, sum, gone_len))
+          gone_room c.lose_lent.ensures.there_room;
       lent_counted = subst (IsCounted c.uncount.new.lent)
           (sym (loans_in-change true es c.remove.new.self.entries map None c.remove.ensures.updates.0))
           (counted_without c.self.inside.lent c.uncount.new.lent (loans_in true es) map c.self.invariant.lent_counted
           (subst (λ (l : Loan). IsRecounted c.self.inside.lent c.uncount.new.lent l.positions []) (sym found)
-          c.uncount.ensures.counts));
+          gone_counts));
       idle = λ m. rw (closed_stay es c.remove.new.self.entries map slot None at is_open refl
           c.remove.ensures.updates.0) (c.self.invariant.idle m);
       count_room = count_room_less c.self.inside.lent c.uncount.new.lent c.self.inside.positions _ c.self.inside.spare
-          (length slot.row.positions) c.self.invariant.count_room (omega (arith, sum, c.len.ensures))
-          c.uncount.ensures.room;
+          (length slot.row.positions) c.self.invariant.count_room (omega (arith, sum, gone_len))
+          gone_count_room;
     }
 
 pub returns-clause-bytes : goal.returns-clause-bytes
 returns-clause-bytes c =
     let at = sym c.remove.ensures.value ∙ c.unwrap-slot.ensures in
     rw (← c.self.view_is)
-    (c.lose_lent.ensures.bytes
+    ((rw c.into_row-row.ensures at c.lose_lent.ensures.bytes)
     ∙ ap (λ (l : Loan). set_all c.self.inside.bytes.bytes (addresses_of (filter to_write l.positions)) false)
     (sym (loan_found c.self.inside.loans.entries c.args.map.made_at _ at
     (open_there _ _ _ at (rw (← c.self.view_is) at c.requires)))))

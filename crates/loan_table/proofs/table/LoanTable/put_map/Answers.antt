@@ -63,7 +63,7 @@ overflow_sub-self c =
     ap (λ n. position_count (insert_entry nat_cmp es c.args.map.made_at slot) + n) (c.positions_of.ensures
     ∙ ap (λ o. unwrap_or (option_map (λ (s : Slot). length s.row.positions) o) 0) c.in_ok-gone.ensures.old)
     ∙ count_put es c.args.map.made_at slot c.self.invariant.ordered in
-    omega (arith, sum, c.in_ok-positions.ensures, c.len.ensures, c.self.invariant.counted)
+    omega (arith, sum, c.in_ok-positions.ensures, (rw c.as_row.ensures at c.len.ensures), c.self.invariant.counted)
 
 pub invariant_of-self-2 : goal.invariant_of-self-2
 invariant_of-self-2 c =
@@ -99,7 +99,7 @@ invariant_of-self-2 c =
           (with_loan (λ ps. AreIn bytes (addresses_of ps)) _ map (loan_if false slot)
           (inside_closed bytes c.args.is_open c.in_ok-row.row there) c.self.invariant.prepared m);
       low = subst AreLow (sym c.reserve.ensures.bytes) c.self.invariant.low;
-      counted = omega (arith, sum, c.in_ok-positions.ensures, c.len.ensures, c.self.invariant.counted);
+      counted = omega (arith, sum, c.in_ok-positions.ensures, (rw c.as_row.ensures at c.len.ensures), c.self.invariant.counted);
       room =
           room_made c.reserve.new.self (c.in_ok-positions.positions - c.positions_of.result) c.self.inside.spare
           (omega (arith, c.in_ok-edges_for.ensures, c.in_ok-reserve.ensures.ok))
