@@ -53,6 +53,9 @@ pub fn count_and_turn(line: &Line, start: u64, end: u64, near: usize) -> (usize,
         count_le line.now.items n ≡ count_le line.now.items start }
     ensures fewer { result.1 < end → count_le line.now.items start < count_le line.now.items result.1 }
 {
+    if line.len() == 0 {
+        return (0, end);
+    }
     let count = count_near(line, start, near);
     (count, line.number_or(count, end).min(end))
 }
