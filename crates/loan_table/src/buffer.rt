@@ -43,11 +43,7 @@ impl Model for Buffer {
 
 impl Buffer {
     /// The bytes of extents, in order, in the lists of a buffer that is gone.
-    pub fn over(
-        alloc: Global,
-        extents: &[Extent],
-        gone: Option<Buffer>,
-    ) -> Result<Self, AllocError>
+    pub fn over(alloc: Global, extents: &[Extent], gone: Option<Buffer>) -> Result<Self, AllocError>
         requires ends { All Ends extents.now }
         requires total { byte_count extents.now < 2 ^ 64 }
         ensures { IfOk result (λ buffer. buffer ≡ addresses extents.now) }
