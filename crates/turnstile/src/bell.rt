@@ -7,7 +7,7 @@ use std::sync::Wait;
 
 const QUIET: u64 = 0;
 
-// A caller sleeps on the bell, or is about to.
+// A caller may sleep on the bell, or be about to.
 const ASLEEP: u64 = 1;
 
 struct Anything;
@@ -36,7 +36,7 @@ impl Bell {
         Ok(Bell { table })
     }
 
-    /// Says that a caller sleeps, or is about to. Who says it looks at the lock once more before it sleeps.
+    /// Marks the bell: a caller may sleep on it, or be about to. Who marks it looks at the lock before it sleeps.
     pub(crate) fn lie_down(&self) {
         self.table.shared.swap_new_seat::<Anything>(0, ASLEEP);
     }
@@ -47,8 +47,8 @@ impl Bell {
         self.table.shared.park(rt, 0, ASLEEP as u32);
     }
 
-    /// Wakes one of those who sleep, if any does and somebody lay down since it last rang. For the others' sake who is
-    /// woken lies down again before it looks at the lock.
+    /// Wakes one of those who sleep, if any does and somebody lay down since it last rang. For the others' sake who
+    /// comes back from `sleep` lies down again before it looks at the lock.
     pub(crate) fn ring(&self) {
         if self.table.shared.peek(0) == QUIET {
             return;

@@ -1,4 +1,4 @@
-//! A lock round an object whose calls make one history. Its callers have one turn after another. A ticket is drawn
+//! A lock round an object whose calls make one history. Their turns come one after another. A ticket is drawn
 //! where the lock is free, so who waits has none, and in what order those who wait come to their turns is not said.
 //! Each caller has a pass, and a pass knows how that history begins.
 #![tactic(auto)]

@@ -45,12 +45,13 @@ impl<H: TurnObject> Turnstile<H> {
         reply
     }
 
-    // Whether no ticket is drawn whose turn has not ended, where `next` was seen as the next ticket.
+    // Whether `next`, which was seen as the next ticket, is served. If so the lock was free at a moment since; if not, a
+    // turn ended since or is still to end.
     fn is_free(&self, next: u64) -> bool {
         next == self.table.shared.peek(1)
     }
 
-    // Looks a few times. True where it found the lock free.
+    // Looks up to `LOOKS` times. True where it found the lock free.
     fn finds_it_free(&self) -> bool {
         for _ in 0..LOOKS {
             if self.is_free(self.table.shared.peek(0)) {
@@ -61,7 +62,8 @@ impl<H: TurnObject> Turnstile<H> {
         false
     }
 
-    // True where it found the lock free, false where the others had their processors for a while and it still is not.
+    // True where it found the lock free, false where it left its processor to others `YIELDS` times and had not found it
+    // so.
     fn lets_others_go(&self) -> bool {
         for _ in 0..YIELDS {
             if self.finds_it_free() {
@@ -72,7 +74,8 @@ impl<H: TurnObject> Turnstile<H> {
         false
     }
 
-    // Waits while the lock is not free, and sleeps at most once. Who was woken lies down again, since others may sleep.
+    // Waits for the lock to be free, and sleeps at most once; after a sleep it may be taken still. Who comes back from
+    // `sleep` lies down again, since others may sleep.
     fn wait_for_others<R: Wait>(&self, rt: &R) {
         if self.lets_others_go() {
             return;
