@@ -212,7 +212,8 @@ fn number_in(value: &Value) -> Option<u64>
     }
 }
 
-/// The value of a member. An object has few members, so that to go through them is less than to search.
+/// The value of a member, if there is one. An object of a scenario has few members, so that going through them is less
+/// work than a search.
 fn member<'v>(members: &'v Map<String, Value>, name: &str) -> Option<&'v Value>
     ensures { option_map (λ v. view v.now) result
         ≡ get_member name.now (members_view members.now.entries) }
@@ -245,8 +246,8 @@ fn is_listed(table: &[&str], key: &str) -> bool
     table.iter().any(|known| is_same(known, key))
 }
 
-/// Texts are equal by their bytes. Most keys differ in their length or in their first bytes, which lists of bytes
-/// compare without a call.
+/// Texts are equal by their bytes. Most keys differ in their length or in their first bytes, and slices of bytes that
+/// do are told apart without a call.
 fn is_same(one: &str, other: &str) -> bool
     ensures { result ≡ bytes_eq one.now other.now }
 {

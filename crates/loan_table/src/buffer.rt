@@ -42,7 +42,7 @@ impl Model for Buffer {
 }
 
 impl Buffer {
-    /// The bytes of extents, in order, in the lists of a buffer that is gone.
+    /// The bytes of extents, in order, in the lists of a buffer that is gone, where one is given.
     pub fn over(alloc: Global, extents: &[Extent], gone: Option<Buffer>) -> Result<Self, AllocError>
         requires ends { All Ends extents.now }
         requires total { byte_count extents.now < 2 ^ 64 }
@@ -142,7 +142,7 @@ fn part_of(run: &Extent, skipped: u64, most: u64) -> Extent
     }
 }
 
-/// The lists of a buffer that is gone.
+/// The lists of a buffer that is gone, or new ones where there is none.
 fn lists_of(alloc: Global, gone: Option<Buffer>) -> (Vec<Extent>, Vec<u64>) {
     match gone {
         Some(buffer) => (buffer.stretches, buffer.starts),

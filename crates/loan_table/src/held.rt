@@ -55,7 +55,7 @@ impl HeldRow {
         &*self.row
     }
 
-    /// Sets the marks of a range.
+    /// Sets whether the positions of a range are lent, to read and to write, as a call leaves them.
     pub fn mark(&mut self, off: u64, len: u64, ops: SyncOps)
         requires { off + len ≤ length self.old.positions }
         ensures coherent { self.new.coherent ≡ self.old.coherent }

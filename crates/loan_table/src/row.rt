@@ -375,7 +375,7 @@ fn take_fitting(gone: &mut Option<LoanRow>, len: u64) -> Option<LoanRow> {
     if fits(room, len) { gone.take() } else { None }
 }
 
-/// Keeps a row that is gone, where it has more room than the one before.
+/// Keeps a row that is gone in place of the one that is kept, where its sets are empty and have more room.
 pub fn keep_gone(gone: &mut Option<LoanRow>, row: LoanRow) {
     let room = match gone {
         Some(before) => used_room(before),
@@ -386,7 +386,7 @@ pub fn keep_gone(gone: &mut Option<LoanRow>, row: LoanRow) {
     }
 }
 
-/// What a row that is gone leaves: its buffer and its sets.
+/// What a row that is gone leaves: its buffer and its sets. Where there is none, no buffer and new sets.
 fn parts_of(alloc: Global, gone: Option<LoanRow>) -> (Option<Buffer>, RunSet, RunSet) {
     match gone {
         Some(row) => (Some(row.buffer), row.to_read, row.to_write),

@@ -39,7 +39,7 @@ pub struct LoanTable {
     lent: LentCounts,
     positions: u64,
     spare: u64,
-    /// A row that is gone: the next map takes its memory.
+    /// The row of a map that is gone, where one is kept: a new map takes its memory where that fits.
     gone: Option<LoanRow>,
 }
 
