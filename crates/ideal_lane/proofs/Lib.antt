@@ -1,12 +1,15 @@
 pub mod Ahead
 pub mod Calling
 pub mod Direct
+pub mod Effects
+pub mod Endings
 pub mod Falling
 pub mod Keeping
 pub mod Lookups
 pub mod Needs
 pub mod Openings
 pub mod Own
+pub mod Refusing
 pub mod Standings
 pub mod Turning
 pub mod Views

@@ -1,7 +1,6 @@
 -- Each turn leaves its driver standing.
-use Rattle.std.proofs.Common.{◌≡◌, ◌≢◌, ℕ, length, ◌+◌, ◌≤◌, ◌==◌, ◌&&◌, ◌||◌, not, Bool, true, false, cond}
-use Rattle.std.proofs.Common.{if◌then◌else◌, List, [], ◌∷◌, Option, Some, None, is_some, refl, ap, sym, ◌∙◌, subst}
-use Rattle.std.proofs.Common.{arith, nat_le, nat_lt, slice_get}
+use Rattle.std.proofs.Common.{◌≡◌, ◌≢◌, ℕ, ◌+◌, ◌≤◌, ◌==◌, ◌||◌, not, Bool, true, false, cond, if◌then◌else◌, List, []}
+use Rattle.std.proofs.Common.{◌∷◌, Option, Some, None, is_some, refl, ap, sym, ◌∙◌, subst, arith}
 use Rattle.std.proofs.lemmas.Bool.Decides.{nat_tests}
 use Rattle.std.proofs.lemmas.Map.Views.{exact_unsigned_eq}
 use Rattle.std.specs.Ordering.{nat_cmp, eq_by_cmp}
@@ -12,52 +11,32 @@ use Rattle.busdma_base.specs.declared.bounce.hold.HubCall.TheVariants as call
 use Rattle.busdma_base.specs.declared.bounce.hold.HubReply.{HubReply}
 use Rattle.busdma_base.specs.declared.bounce.hold.HubReply.TheVariants as reply
 use Rattle.busdma_base.specs.declared.journals.journal.Side.{Side}
-use Rattle.busdma_base.specs.declared.journals.journal.Side.TheVariants as side
-use Rattle.busdma_base.specs.declared.journals.report.Judged.{Judged}
-use Rattle.busdma_base.specs.declared.journals.report.Judged.TheVariants.{Fine, Refused}
-use Rattle.busdma_base.specs.declared.journals.report.ReportName.TheVariants.{MapBusy, NotLoaded}
-use Rattle.busdma_base.specs.declared.machine.chunk.Chunk.{Chunk}
-use Rattle.busdma_base.specs.declared.scenarios.script.Item.{Item}
-use Rattle.busdma_base.specs.declared.scenarios.script.Item.TheVariants as item
-use Rattle.busdma_base.specs.declared.scenarios.script.Op.{Op}
-use Rattle.busdma_base.specs.declared.scenarios.script.Op.TheVariants as op
-use Rattle.busdma_base.specs.declared.scenarios.script.Place.{Place}
 use Rattle.busdma_base.specs.declared.tags.tag.TagLimits.{TagLimits}
-use Rattle.busdma_base.specs.Runs.{run_of}
-use Rattle.busdma_base.specs.Scenarios.Operations.{bytes_of}
-use Rattle.busdma_base.specs.Tags.Tag.{could_bounce, effective}
-use Rattle.busdma_base.specs.Tags.TagFlags.{allocnow}
+use Rattle.busdma_base.specs.Tags.Tag.{could_bounce}
 use Rattle.dma_tag.specs.MemFlags.{coherent}
-use Rattle.dma_tag.specs.SyncOps.{is_mixed}
 use Rattle.lane_agreement.specs.View as view
-use Rattle.lane_agreement.specs.View.{Return}
-use Rattle.lane_agreement.specs.After.{addresses}
-use Rattle.lane_tables.specs.declared.queued.QueuedItem.{QueuedItem}
-use Rattle.loan_table.specs.Access.{cpu_read_answer, cpu_write_answer, dev_read_answer, dev_write_answer}
-use Rattle.loan_table.specs.Lending.{sync_answer}
-use Rattle.loan_table.specs.Loans.{loan_of}
 use Rattle.segment_build.specs.Chunks.{need_of}
 use Rattle.ideal_lane.specs.State.{LaneState, LaneTag, LaneMap, LaneMemory, Stage, Idle, Waiting, Loaded, Returning}
-use Rattle.ideal_lane.specs.Asking.{Asking, Gives, Asks, goes_on}
-use Rattle.ideal_lane.specs.IdealMemory.{is_known}
-use Rattle.ideal_lane.specs.Outcomes.{Outcome, refused, unless_absent, unless_refused, unless_busy, unless_unloaded}
-use Rattle.ideal_lane.specs.Outcomes.{unless_past, is_idle, is_loaded, load_length}
+use Rattle.ideal_lane.specs.Asking.{Asking, Gives, Asks, call_of, by_reply}
+use Rattle.ideal_lane.specs.Outcomes.{Outcome}
 use Rattle.ideal_lane.specs.Standing.{IsPageless, StandsAt, StandsFrom, Stands, KeepsStanding}
-use Rattle.ideal_lane.specs.Places.{virtual_at, reached, bytes_at}
-use Rattle.ideal_lane.specs.Tags.{with_tag, attached, tag_or_invalid, tag, has_maps, tag_destroy}
-use Rattle.ideal_lane.specs.Maps.{with_map, created, map, end_map, map_destroy, await}
-use Rattle.ideal_lane.specs.Memories.{placed, dmamem, dmamem_free}
-use Rattle.ideal_lane.specs.Loads.{Asked, asked, limits_of, chunks_for, finished, granted, load_chunks, load, staged}
-use Rattle.ideal_lane.specs.Loads.{unpaged, emptied}
-use Rattle.ideal_lane.specs.Unloads.{unload, pages_of, restaged, after_return, given_back}
-use Rattle.ideal_lane.specs.Syncs.{sync_part, sync, sync_range}
-use Rattle.ideal_lane.specs.Accesses.{cpu_read, cpu_write, dev_read, dev_write}
-use Rattle.ideal_lane.specs.Turns.{Turned, stays, Blocked, operation, transfer, waits, advanced, next_operation}
-use Rattle.ideal_lane.specs.Turns.{release, script_turn, left_queue, transfer_turn, asked_at, called, called_in}
-use Rattle.ideal_lane.specs.Turns.{bio_at, called_back, callback_turn, lane_step, never_waits}
+use Rattle.ideal_lane.specs.Tags.{with_tag, tag}
+use Rattle.ideal_lane.specs.Maps.{with_map}
+use Rattle.ideal_lane.specs.Loads.{staged, unpaged, emptied}
+use Rattle.ideal_lane.specs.Unloads.{pages_of, after_return}
+use Rattle.ideal_lane.specs.Turns.{Turned, waits, lane_step}
+use Rattle.ideal_lane.proofs.Effects.{Advances, AtOnce, Attaches, Begins, Callback, Called, Calls, Creates, Ends}
+use Rattle.ideal_lane.proofs.Effects.{Frees, Granted, Leaves, Loads, Makes, Maps, Overflows, Places, Refuses, Releases}
+use Rattle.ideal_lane.proofs.Effects.{Same, Stays, Steps, Tags, Touched, Touches, Unloads, Unmaps, Untags, Vain, Waits}
+use Rattle.ideal_lane.proofs.Effects.{Work, asked_in, asks, chunks, chunks_in, map_in, pages_in, place_in, there_in}
+use Rattle.ideal_lane.proofs.Effects.{turn-steps, waits_for, was_in}
 use Rattle.ideal_lane.proofs.Lookups.{get_put, get_cut}
 use Rattle.ideal_lane.proofs.Direct.{need-direct}
-use Rattle.ideal_lane.proofs.Keeping.{fits, fitting, too_big, bounced_in, segments_of, pageless-pages}
+use Rattle.ideal_lane.proofs.Endings.{fitting, bounced_in, segments_of}
+use Rattle.ideal_lane.proofs.Keeping.{pageless-pages}
+use Rattle.busdma_base.specs.declared.bounce.hold.HubCall.{HubCall}
+use Rattle.busdma_base.specs.declared.name.MapId.{MapId}
+use Rattle.busdma_base.specs.declared.machine.address.Pa.{Pa}
 
 -- ---- what is found after a change
 
@@ -368,71 +347,10 @@ module _ (p maxmem : ℕ) (tags : FinMap nat_cmp LaneTag)
 abbrev pub StandsIn : ℕ → ℕ → LaneState → Type 0
 StandsIn p q n = StandsFrom p n.maxmem n.tags n.maps n.mems × (n.place ≡ q)
 
--- so it is after the operation, whatever the reply
-abbrev pub Leaves : ℕ → ℕ → Asking Outcome → Type 0
-Leaves p q (Gives o) = StandsIn p q o.lane
-Leaves p q (Asks c k) = (r : HubReply) → StandsIn p q (k r).lane
-
-leaves-if : (p q : ℕ) (b : Bool) (x y : Asking Outcome) → (b ≡ true → Leaves p q x) →
-    (b ≡ false → Leaves p q y) → Leaves p q (if b then x else y)
-leaves-if p q true x y h k = h refl
-leaves-if p q false x y h k = k refl
-
-in-if : (p q : ℕ) (b : Bool) (x y : LaneState) → StandsIn p q x → StandsIn p q y → StandsIn p q (if b then x else y)
-in-if p q true x y h k = h
-in-if p q false x y h k = k
-
 module _ (p : ℕ) (l : LaneState) (s : StandsFrom p l.maxmem l.tags l.maps l.mems) where
-  here : StandsIn p l.place l
-  here = (s, refl)
-
-  leaves-refused : (j : Judged) (x : Asking Outcome) → Leaves p l.place x → Leaves p l.place (unless_refused j l x)
-  leaves-refused Fine x h = h
-  leaves-refused (Refused r) x h = here
-
-  leaves-absent : {X : Type 0} (x : Option X) (step : X → Asking Outcome) →
-      ((y : X) → x ≡ Some y → Leaves p l.place (step y)) → Leaves p l.place (unless_absent x l step)
-  leaves-absent None step h = here
-  leaves-absent (Some y) step h = h y refl
-
-  leaves-busy : (m : ℕ) (step : LaneMap → Asking Outcome) →
-      ((o : LaneMap) → get l.maps m ≡ Some o → Leaves p l.place (step o)) → Leaves p l.place (unless_busy m l step)
-  leaves-busy m step h =
-      leaves-absent (get l.maps m) _ (λ o e. leaves-if p l.place (is_idle o.stage) (step o)
-      (refused MapBusy 0 l) (λ i. h o e) (λ i. here))
-
-  leaves-unloaded : (m : ℕ) (step : LaneMap → Asking Outcome) →
-      ((o : LaneMap) → get l.maps m ≡ Some o → Leaves p l.place (step o)) → Leaves p l.place (unless_unloaded m l step)
-  leaves-unloaded m step h =
-      leaves-absent (get l.maps m) _ (λ o e. leaves-if p l.place (is_loaded o.stage) (step o)
-      (refused NotLoaded 0 l) (λ i. h o e) (λ i. here))
-
-  leaves-past : (m off len : ℕ) (x : Asking Outcome) → Leaves p l.place x →
-      Leaves p l.place (unless_past m off len l x)
-  leaves-past m off len x h = leaves-if p l.place (nat_le (off + len) (load_length l m)) x _ (λ e. h) (λ e. here)
-
-  leaves-tag_destroy : (t : ℕ) → Leaves p l.place (tag_destroy t l)
-  leaves-tag_destroy t =
-      leaves-absent (get l.tags t) _ (λ o e. leaves-if p l.place (has_maps l t) _ _ (λ b. here)
-      (λ b. (stands-untagged t b s, refl)))
-
-  leaves-end : (m : ℕ) (zone : Option ℕ) → Leaves p l.place (end_map m zone l)
-  leaves-end m None = (stands-cut m s, refl)
-  leaves-end m (Some z) = λ r. (stands-cut m s, refl)
-
-  leaves-map_destroy : (m : ℕ) → Leaves p l.place (map_destroy m l)
-  leaves-map_destroy m =
-      leaves-absent (get l.maps m) _ (λ o e. leaves-if p l.place (is_idle o.stage) (end_map m o.zone l) _
-      (λ b. leaves-end m o.zone) (λ b. here))
-
-  leaves-await : (m : ℕ) → Leaves p l.place (await m l)
-  leaves-await m = leaves-absent (get l.maps m) _ (λ o e. leaves-if p l.place o.tried _ _ (λ b. here) (λ b. here))
-
-  leaves-dmamem_free : (m : ℕ) → Leaves p l.place (dmamem_free m l)
-  leaves-dmamem_free m =
-      leaves-absent (get l.mems m) _ (λ x f. leaves-absent (get l.maps m) _ (λ o e.
-      leaves-if p l.place (is_idle o.stage) (Asks (call.MemFree _) _) _
-      (λ i r. (stands-unmade m s, refl)) (λ i. here)))
+  touches-stand : {d : Work} {x : Outcome} → Touches l d x → StandsIn p l.place x.lane
+  touches-stand (Same a q u) = (s, refl)
+  touches-stand _ = (s, refl)
 
   -- the map of a load, where it stands now
   in-staged : (m : ℕ) (o : LaneMap) (g : Stage) → get l.maps m ≡ Some o →
@@ -444,103 +362,32 @@ module _ (p : ℕ) (l : LaneState) (s : StandsFrom p l.maxmem l.tags l.maps l.me
   in-unpaged m o pages e none =
       in-staged m o (emptied pages) e (λ z. subst (λ ps. IsPageless (emptied ps)) (sym (none z)) tt)
 
-  in-finished : (m : ℕ) (o : LaneMap) (at : ℕ) (x : Asked) (chunks : List Chunk) (pages : List ℕ) →
-      get l.maps m ≡ Some o →
-      (o.zone ≡ None → pages ≡ []) → StandsIn p l.place (finished m o at x chunks pages l).lane
-  in-finished m o at x chunks pages e none = by (fits l m o at x chunks pages)
-    where
-      by : (b : Bool) → StandsIn p l.place (if b then fitting l m o at x chunks pages
-          else too_big l m o at x chunks pages).lane
-      by true =
-          in-staged m o (Loaded (bounced_in l m o at x chunks pages) (segments_of l m o at x chunks pages) pages) e
-          none
-      by false = in-unpaged m o pages e none
+  -- a load that needs pages is of a map with a zone; so one without a zone ends with none
+  zoned : {d : Work} (b : Begins l d) → (need_of (chunks b) == 0) ≡ false → b.o.zone ≡ None → ⊥
+  zoned b some none =
+      let zero : need_of (chunks b) ≡ 0 = need-direct l b.m b.o (asks b).entries (s.each b.m b.o b.there) none in
+      let u : (need_of (chunks b) == 0) ≡ true = rw zero refl in cc
 
-  leaves-granted : (m : ℕ) (o : LaneMap) (x : Asked) (chunks : List Chunk) (z : ℕ) →
-      get l.maps m ≡ Some o → o.zone ≡ Some z →
-      (r : HubReply) → StandsIn p l.place (granted m o x chunks l r).lane
-  leaves-granted m o x chunks z e zone = by
-    where
-      never : {P : Type 0} → o.zone ≡ None → P
-      never h = absurd (cc)
+  pageless-in : {d : Work} {c : Option HubCall} {r : HubReply} (k : Ends l d c r) → (was_in k).zone ≡ None →
+      pages_in k ≡ []
+  pageless-in (AtOnce b none) zone = refl
+  pageless-in (Granted b some pages) zone = absurd (zoned b some zone)
+  pageless-in (Called m pages o v there waits) zone =
+      absurd (subst IsPageless waits ((s.each m.made_at o there).pageless zone))
 
-      back : StandsIn p l.place (staged m o Idle l)
-      back = in-staged m o Idle e (λ h. tt)
+  loads-stand : {d : Work} {c : Option HubCall} {r : HubReply} (k : Ends l d c r) →
+      StandsIn p l.place (fitting l (map_in k) (was_in k) (place_in k) (asked_in k) (chunks_in k) (pages_in k)).lane
+  loads-stand k =
+      in-staged (map_in k) (was_in k)
+      (Loaded (bounced_in l (map_in k) (was_in k) (place_in k) (asked_in k) (chunks_in k) (pages_in k))
+      (segments_of l (map_in k) (was_in k) (place_in k) (asked_in k) (chunks_in k) (pages_in k)) (pages_in k))
+      (there_in k) (pageless-in k)
 
-      by : (r : HubReply) → StandsIn p l.place (granted m o x chunks l r).lane
-      by (reply.Granted pages) = in-finished m o l.place x chunks (addresses pages) e never
-      by (reply.Queued have) = in-staged m o (Waiting l.place (need_of chunks)) e never
-      by reply.Nothing = back
-      by (reply.Grown g) = back
-      by reply.NoPages = back
-      by (reply.Served n) = back
-      by (reply.Called n pages) = back
-      by (reply.Run first count) = back
-      by reply.NoRun = back
+  overflows-stand : {d : Work} {c : Option HubCall} {r : HubReply} (k : Ends l d c r) →
+      StandsIn p l.place (unpaged (map_in k) (was_in k) (pages_in k) l)
+  overflows-stand k = in-unpaged (map_in k) (was_in k) (pages_in k) (there_in k) (pageless-in k)
 
-  leaves-load : (m : ℕ) (x : Asked) → Leaves p l.place (load m x l)
-  leaves-load m x =
-      leaves-busy m _ (λ o e. leaves-refused x.judged _ (
-      leaves-if p l.place (nat_lt (limits_of l o).maxsize x.len) _ _ (λ b. in-staged m o Idle e (λ h. tt))
-      (λ b. by o e (chunks_for l o (contains_key l.mems m) x.entries) refl)))
-    where
-      by : (o : LaneMap) → get l.maps m ≡ Some o → (chunks : List Chunk) →
-          chunks_for l o (contains_key l.mems m) x.entries ≡ chunks → Leaves p l.place (load_chunks m o x chunks l)
-      by o e chunks is =
-          leaves-if p l.place (need_of chunks == 0) (Gives (finished m o l.place x chunks [] l))
-          (Asks (call.Grab _ _ (need_of chunks) x.nowait) (granted m o x chunks l))
-          (λ b. in-finished m o l.place x chunks [] e (λ h. refl)) (λ b. in-zone b o.zone refl)
-        where
-          in-zone : (need_of chunks == 0) ≡ false → (zone : Option ℕ) → o.zone ≡ zone → (r : HubReply) →
-              StandsIn p l.place (granted m o x chunks l r).lane
-          in-zone b None zone = absurd (let none : need_of chunks ≡ 0 = ap need_of (sym is)
-              ∙ need-direct l m o x.entries (s.each m o e) zone in let u : (need_of chunks == 0) ≡ true =
-              rw none refl in cc)
-          in-zone b (Some z) zone = leaves-granted m o x chunks z e zone
-
-  leaves-unload : (m : ℕ) → Leaves p l.place (unload m l)
-  leaves-unload m =
-      leaves-unloaded m _ (λ o e. in-unpaged m o (pages_of o.stage) e
-      (λ z. pageless-pages o.stage ((s.each m o e).pageless z)))
-
-  leaves-part : (m : ℕ) (o : LaneMap) (off len ops : ℕ) → Leaves p l.place (sync_part m o off len ops l)
-  leaves-part m o off len ops =
-      leaves-if p l.place (is_mixed ops) _ _ (λ b. here)
-      (λ b. leaves-refused (sync_answer l.loans m off len ops) _ here)
-
-  leaves-sync : (m ops : ℕ) → Leaves p l.place (sync m ops l)
-  leaves-sync m ops = leaves-unloaded m _ (λ o e. leaves-part m o 0 (load_length l m) ops)
-
-  leaves-sync_range : (m off len ops : ℕ) → Leaves p l.place (sync_range m off len ops l)
-  leaves-sync_range m off len ops = leaves-unloaded m _ (λ o e. leaves-past m off len _ (leaves-part m o off len ops))
-
-  leaves-cpu_read : (place : Place) (len : ℕ) → Leaves p l.place (cpu_read place len l)
-  leaves-cpu_read place len =
-      leaves-absent (virtual_at l place) _ (λ va e. leaves-refused (reached l va len) _ (
-      leaves-refused (cpu_read_answer (is_known l.memory) l.loans (bytes_at l (run_of va len))) _ here))
-
-  leaves-cpu_write : (place : Place) (vs : List ℕ) → Leaves p l.place (cpu_write place vs l)
-  leaves-cpu_write place vs =
-      leaves-absent (virtual_at l place) _ (λ va e. leaves-refused (reached l va (length vs)) _ (
-      leaves-refused (cpu_write_answer l.loans (bytes_at l (run_of va (length vs)))) _ here))
-
-  leaves-dev_read : (m off len : ℕ) → Leaves p l.place (dev_read m off len l)
-  leaves-dev_read m off len =
-      leaves-unloaded m _ (λ o e. leaves-past m off len _ (
-      leaves-refused (dev_read_answer (is_known l.memory) (loan_of l.loans m) off len) _ here))
-
-  leaves-dev_write : (m off : ℕ) (vs : List ℕ) → Leaves p l.place (dev_write m off vs l)
-  leaves-dev_write m off vs =
-      leaves-unloaded m _ (λ o e. leaves-past m off (length vs) _ (
-      leaves-refused (dev_write_answer (loan_of l.loans m) off (length vs)) _ here))
-
-  leaves-transfer : (i : Item) → Leaves p l.place (transfer i l)
-  leaves-transfer (item.Sync map ops) = leaves-sync map ops
-  leaves-transfer (item.SyncRange map off len ops) = leaves-sync_range map off len ops
-  leaves-transfer (item.DevRead map off len) = leaves-dev_read map off len
-  leaves-transfer (item.DevWrite map off bytes) = leaves-dev_write map off (bytes_of bytes)
-
--- ---- operations that make something
+-- ---- effects that make something at the place of the script
 
 module _ (l : LaneState) (s : Stands l) where
   next : StandsIn (l.place + 1) l.place l
@@ -550,178 +397,80 @@ module _ (l : LaneState) (s : Stands l) where
   in-tag t first_done =
       (made-tag l.place l.maxmem l.tags l.maps l.mems s (record { limits = t; first_done = first_done }), refl)
 
-  leaves-tag_or : (t : Option TagLimits) → Leaves (l.place + 1) l.place (tag_or_invalid t l)
-  leaves-tag_or None = next
-  leaves-tag_or (Some t) =
-      leaves-if (l.place + 1) l.place (could_bounce t l.maxmem && allocnow t.flags)
-      (Asks (call.AttachTag t) (attached t l)) _ (λ e. by) (λ e. in-tag t false)
-    where
-      by : (r : HubReply) → StandsIn (l.place + 1) l.place (attached t l r).lane
-      by (reply.Grown g) = in-if (l.place + 1) l.place g.made (with_tag l.place t true l) l (in-tag t true) next
-      by reply.Nothing = next
-      by (reply.Granted pages) = next
-      by (reply.Queued have) = next
-      by reply.NoPages = next
-      by (reply.Served n) = next
-      by (reply.Called n pages) = next
-      by (reply.Run first count) = next
-      by reply.NoRun = next
+  in-map : (t : ℕ) (g : LaneTag) → get l.tags t ≡ Some g → (zone : Option ℕ) →
+      (zone ≡ None → could_bounce g.limits l.maxmem ≡ false) →
+      StandsIn (l.place + 1) l.place (with_map t zone l)
+  in-map t g e zone direct = (
+    made-map l.place l.maxmem l.tags l.maps l.mems s
+        (record { tag = t; zone = zone; tried = false; stage = Idle }) g e refl direct,
+    refl,
+  )
 
-  leaves-tag : (parent : Option ℕ) (limits : TagLimits) → Leaves (l.place + 1) l.place (tag parent limits l)
-  leaves-tag None limits = leaves-tag_or (effective None limits)
-  leaves-tag (Some q) limits =
-      leaves-absent (l.place + 1) l next.0 (get l.tags q) _ (λ t e. leaves-tag_or (effective (Some t.limits) limits))
+  makes-stand : {d : Work} {c : Option HubCall} {r : HubReply} {x : Outcome} → Makes l d c r x →
+      StandsIn (l.place + 1) l.place x.lane
+  makes-stand (Touched t) = touches-stand (l.place + 1) l next.0 t
+  makes-stand (Tags name parent limits t n) = in-tag t false
+  makes-stand (Attaches name parent limits t n b g e) = in-tag t true
+  makes-stand (Untags t none) = (stands-untagged t none next.0, refl)
+  makes-stand (Maps name t g e b) = in-map t g e None (λ h. b)
+  makes-stand (Creates name t g e b n m) = (
+    stands-done t g (record { limits = g.limits; first_done = true }) e refl
+        (in-map t g e (Some n.zone.0) (λ h. absurd (cc))).0,
+    refl,
+  )
+  makes-stand (Unmaps m o e i) = (stands-cut m next.0, refl)
+  makes-stand (Places name t flags g e first count) = (
+    made-memory l.place l.maxmem l.tags l.maps l.mems s
+        (record { tag = t; zone = None; tried = false; stage = Idle })
+        (record { tag = t; first = first.0; count = count; len = g.limits.maxsize; coherent = coherent flags }) g e
+        refl refl,
+    refl,
+  )
+  makes-stand (Frees m x e o f i) = (stands-unmade m next.0, refl)
+  makes-stand (Refuses b over e) = in-staged (l.place + 1) l next.0 b.m b.o Idle b.there (λ h. tt)
+  makes-stand (Waits b some have) =
+      in-staged (l.place + 1) l next.0 b.m b.o (Waiting (waits_for b)) b.there
+      (zoned (l.place + 1) l next.0 b some)
+  makes-stand (Loads k e) = loads-stand (l.place + 1) l next.0 k
+  makes-stand (Overflows k e) = overflows-stand (l.place + 1) l next.0 k
+  makes-stand (Unloads m o e i) =
+      in-unpaged (l.place + 1) l next.0 m o (pages_of o.stage) e
+      (λ z. pageless-pages o.stage ((s.each m o e).pageless z))
+  makes-stand _ = (next.0, refl)
 
-  leaves-map : (t : ℕ) → Leaves (l.place + 1) l.place (map t l)
-  leaves-map t =
-      leaves-absent (l.place + 1) l next.0 (get l.tags t) _ (λ g e.
-      leaves-if (l.place + 1) l.place (could_bounce g.limits l.maxmem)
-      (Asks (call.CreateMap _ g.limits g.first_done) (created t g l)) _
-      (λ b. by g e)
-      (λ b. (
-        made-map l.place l.maxmem l.tags l.maps l.mems s
-            (record { tag = t; zone = None; tried = false; stage = Idle }) g e refl (λ h. b),
-        refl,
-      )))
-    where
-      by : (g : LaneTag) → get l.tags t ≡ Some g → (r : HubReply) →
-          StandsIn (l.place + 1) l.place (created t g l r).lane
-      by g e (reply.Grown n) =
-          in-if (l.place + 1) l.place n.made (with_tag t g.limits true (with_map t (Some n.zone.0) l)) l (
-            stands-done t g (record { limits = g.limits; first_done = true }) e refl
-                (made-map l.place l.maxmem l.tags l.maps l.mems s
-                (record { tag = t; zone = Some n.zone.0; tried = false; stage = Idle }) g e refl (λ h. absurd (cc))),
-            refl,
-          )
-          next
-      by g e reply.Nothing = next
-      by g e (reply.Granted pages) = next
-      by g e (reply.Queued have) = next
-      by g e reply.NoPages = next
-      by g e (reply.Served n) = next
-      by g e (reply.Called n pages) = next
-      by g e (reply.Run first count) = next
-      by g e reply.NoRun = next
-
-  leaves-dmamem : (t flags : ℕ) → Leaves (l.place + 1) l.place (dmamem t flags l)
-  leaves-dmamem t flags = leaves-absent (l.place + 1) l next.0 (get l.tags t) _ (λ g e. by g e)
-    where
-      by : (g : LaneTag) → get l.tags t ≡ Some g → (r : HubReply) →
-          StandsIn (l.place + 1) l.place (placed t g.limits flags l r).lane
-      by g e (reply.Run first count) = (
-        made-memory l.place l.maxmem l.tags l.maps l.mems s
-            (record { tag = t; zone = None; tried = false; stage = Idle })
-            (record { tag = t; first = first.0; count = count; len = g.limits.maxsize; coherent = coherent flags }) g e
-            refl refl,
-        refl,
-      )
-      by g e (reply.Grown n) = next
-      by g e reply.Nothing = next
-      by g e (reply.Granted pages) = next
-      by g e (reply.Queued have) = next
-      by g e reply.NoPages = next
-      by g e (reply.Served n) = next
-      by g e (reply.Called n pages) = next
-      by g e reply.NoRun = next
-
-  leaves-operation : (o : Op) → Leaves (l.place + 1) l.place (operation o l)
-  leaves-operation (op.Tag name parent limits) = leaves-tag parent limits
-  leaves-operation (op.TagDestroy tag) = leaves-tag_destroy (l.place + 1) l next.0 tag
-  leaves-operation (op.Map name tag) = leaves-map tag
-  leaves-operation (op.MapDestroy map) = leaves-map_destroy (l.place + 1) l next.0 map
-  leaves-operation (op.Dmamem name tag flags) = leaves-dmamem tag flags
-  leaves-operation (op.DmamemFree mem) = leaves-dmamem_free (l.place + 1) l next.0 mem
-  leaves-operation (op.Load map x flags items) =
-      leaves-absent (l.place + 1) l next.0 (bio_at l x) _
-      (λ b e. leaves-load (l.place + 1) l next.0 map (asked map b (never_waits x flags) items l))
-  leaves-operation (op.Unload map) = leaves-unload (l.place + 1) l next.0 map
-  leaves-operation (op.Sync map ops) = leaves-sync (l.place + 1) l next.0 map ops
-  leaves-operation (op.SyncRange map off len ops) = leaves-sync_range (l.place + 1) l next.0 map off len ops
-  leaves-operation (op.CpuRead place len) = leaves-cpu_read (l.place + 1) l next.0 place len
-  leaves-operation (op.CpuWrite place bytes) = leaves-cpu_write (l.place + 1) l next.0 place (bytes_of bytes)
-  leaves-operation (op.Await map) = leaves-await (l.place + 1) l next.0 map
+  -- a callback makes nothing
+  called-stand : {n m : MapId} {pages : List Pa} {x : Outcome} →
+      Makes l (Callback n) (Some call.TakeCallback) (reply.Called m pages) x → StandsIn l.place l.place x.lane
+  called-stand (Vain v a q) = (s, refl)
+  called-stand (Refuses b over e) = elim over [ ]
+  called-stand (Loads k e) = loads-stand l.place l s k
+  called-stand (Overflows k e) = overflows-stand l.place l s k
 
 -- ---- turns
-
-goes-on : (p q : ℕ) (x : Asking Outcome) (f : Outcome → Turned) →
-    ((o : Outcome) → StandsIn p q o.lane → Stands (f o).lane) → Leaves p q x → KeepsStanding (goes_on f x)
-goes-on p q (Gives o) f h s = h o s
-goes-on p q (Asks c k) f h s = λ r. h (k r) (s r)
 
 settled : {q : ℕ} (n : LaneState) → StandsIn q q n → Stands n
 settled n h = subst (λ p. StandsFrom p n.maxmem n.tags n.maps n.mems) (sym h.1) h.0
 
 module _ (l : LaneState) (s : Stands l) where
-  turn-next : (o : Option Op) → KeepsStanding (next_operation o l)
-  turn-next None = s
-  turn-next (Some o) = by (waits o l)
-    where
-      by : (b : Bool) → KeepsStanding (if b then Gives (stays Blocked l)
-          else goes_on (advanced l.place) (operation o l))
-      by true = s
-      by false = goes-on (l.place + 1) l.place (operation o l) (advanced l.place) (λ x h. h.0) (leaves-operation l s o)
+  bare : (b : Bool) → IsPageless (if b then Idle else Returning)
+  bare true = tt
+  bare false = tt
 
-  turn-release : (r : Return) (rest : List Return) → KeepsStanding (release r rest l)
-  turn-release r rest q = settled (given_back r rest l) (by (get l.maps r.map) refl)
-    where
-      bare : (b : Bool) → IsPageless (if b then Idle else Returning)
-      bare true = tt
-      bare false = tt
-
-      by : (x : Option LaneMap) → get l.maps r.map ≡ x →
-          StandsIn l.place l.place (restaged r.map x (after_return r.map rest) l)
-      by None e = (s, refl)
-      by (Some o) e = (
-        stands-put r.map o (record o { stage = after_return r.map rest }) e refl refl
-            (λ zone. bare (view.returning r.map rest == 0)) s,
-        refl,
-      )
-
-  turn-script : (rs : List Return) → KeepsStanding (script_turn rs l)
-  turn-script [] = turn-next (slice_get l.script l.place)
-  turn-script (r ∷ rest) = turn-release r rest
-
-  turn-queue : (qs : List QueuedItem) → KeepsStanding (transfer_turn qs l)
-  turn-queue [] = s
-  turn-queue (q ∷ rest) =
-      goes-on l.place l.place (transfer q.item l) (left_queue q rest)
-      (λ x h. subst (λ p. StandsFrom p x.lane.maxmem x.lane.tags x.lane.maps x.lane.mems) (sym h.1) h.0)
-      (leaves-transfer l.place l s q.item)
-
-  in-called : (k : ℕ) (x : Option LaneMap) (pages : List ℕ) → get l.maps k ≡ x →
-      StandsIn l.place l.place (called k x pages l).lane
-  in-called k None pages e = (s, refl)
-  in-called k (Some o) pages e = by o.stage refl
-    where
-      by : (g : Stage) → o.stage ≡ g → StandsIn l.place l.place (called_in k o g pages l).lane
-      by Idle h = (s, refl)
-      by (Waiting at need) h =
-          let x : Asked = asked_at at l in
-          in-finished l.place l s k o at x (chunks_for l o (contains_key l.mems k) x.entries) pages e
-          (λ zone. absurd (subst IsPageless h ((s.each k o e).pageless zone)))
-      by (Loaded b g ps) h = (s, refl)
-      by Returning h = (s, refl)
-
-  turn-callback : KeepsStanding (callback_turn l)
-  turn-callback = by
-    where
-      by : (r : HubReply) → Stands (called_back l r).lane
-      by (reply.Called m pages) =
-          settled (called m.made_at (get l.maps m.made_at) (addresses pages) l).lane
-          (in-called m.made_at (get l.maps m.made_at) (addresses pages) refl)
-      by reply.Nothing = s
-      by (reply.Grown g) = s
-      by (reply.Granted pages) = s
-      by (reply.Queued have) = s
-      by reply.NoPages = s
-      by (reply.Served n) = s
-      by (reply.Run first count) = s
-      by reply.NoRun = s
-
-  turn-standing : (d : Side) → KeepsStanding (lane_step l d)
-  turn-standing side.Script = turn-script l.returns
-  turn-standing side.Transfer = turn-queue l.queue
-  turn-standing side.Callback = turn-callback
+  steps-stand : {d : Side} {c : Option HubCall} {r : HubReply} {t : Turned} → Steps l d c r t → Stands t.lane
+  steps-stand (Stays t is) = s
+  steps-stand (Advances o at free m) = (makes-stand l s m).0
+  steps-stand (Leaves {x = x} q rest e t) =
+      let h = touches-stand l.place l s t in
+      subst (λ p. StandsFrom p x.lane.maxmem x.lane.tags x.lane.maps x.lane.mems) (sym h.1) h.0
+  steps-stand (Releases q rest e None there) = s
+  steps-stand (Releases q rest e (Some o) there) =
+      stands-put q.map o (record o { stage = after_return q.map rest }) there refl refl
+      (λ zone. bare (view.returning q.map rest == 0)) s
+  steps-stand (Calls {x = x} m pages k) = settled x.lane (called-stand l s k)
 
 pub turn-stands : (l : LaneState) (d : Side) → Stands l → KeepsStanding (lane_step l d)
-turn-stands l d s = turn-standing l s d
+turn-stands l d s = by (lane_step l d) (turn-steps l d)
+  where
+    by : (x : Asking Turned) → ((r : HubReply) → Steps l d (call_of x) r (by_reply x r)) → KeepsStanding x
+    by (Gives t) h = steps-stand l s (h reply.Nothing)
+    by (Asks c k) h = λ r. steps-stand l s (h r)

@@ -1,56 +1,41 @@
 -- Each turn keeps the agreement of its driver and the account, which allows the turn's call.
-use Rattle.std.proofs.Common.{◌≡◌, ℕ, ◌==◌, Bool, true, false, cond, if◌then◌else◌, List, [], ◌∷◌, Option, Some, None}
-use Rattle.std.proofs.Common.{refl, ap, sym, ◌∙◌, subst, slice_get}
+use Rattle.std.proofs.Common.{◌≡◌, ℕ, ◌==◌, Bool, true, false, cond, if◌then◌else◌, List, ◌∷◌, Option, Some, None}
+use Rattle.std.proofs.Common.{refl, ap, sym, ◌∙◌, subst}
 use Rattle.std.specs.FinMap.{get, contains_key}
 use Rattle.busdma_base.specs.declared.bounce.hold.HubCall.{HubCall}
 use Rattle.busdma_base.specs.declared.bounce.hold.HubCall.TheVariants as call
 use Rattle.busdma_base.specs.declared.bounce.hold.HubReply.{HubReply}
 use Rattle.busdma_base.specs.declared.bounce.hold.HubReply.TheVariants as reply
 use Rattle.busdma_base.specs.declared.journals.journal.Side.{Side}
-use Rattle.busdma_base.specs.declared.journals.journal.Side.TheVariants as side
 use Rattle.busdma_base.specs.declared.machine.chunk.Chunk.{Chunk}
-use Rattle.busdma_base.specs.declared.scenarios.script.Item.{Item}
-use Rattle.busdma_base.specs.declared.scenarios.script.Item.TheVariants as item
-use Rattle.busdma_base.specs.declared.scenarios.script.Op.{Op}
-use Rattle.busdma_base.specs.declared.scenarios.script.Op.TheVariants as op
 use Rattle.busdma_base.specs.Bounce.Account.{Account}
 use Rattle.busdma_base.specs.Bounce.AccountStep.{account_step}
-use Rattle.busdma_base.specs.Scenarios.Operations.{bytes_of}
 use Rattle.lane_agreement.specs.View as view
 use Rattle.lane_agreement.specs.View.{Return, OwnMap}
-use Rattle.lane_agreement.specs.After.{IsLike, after, after_callback, addresses, IsFront}
+use Rattle.lane_agreement.specs.After.{IsLike, after, addresses, IsFront}
 use Rattle.lane_agreement.specs.After as calls
 use Rattle.lane_agreement.specs.Agreement.{Agrees, IsFit}
 use Rattle.lane_agreement.proofs.Asking.{agrees-may}
 use Rattle.lane_agreement.proofs.Left.{agrees-like}
 use Rattle.lane_agreement.proofs.Whole.{agrees-step, called-length}
-use Rattle.lane_tables.specs.declared.queued.QueuedItem.{QueuedItem}
-use Rattle.ideal_lane.specs.State.{LaneState, LaneMap, Stage, Idle, Waiting, Loaded, Returning, named}
-use Rattle.ideal_lane.specs.Asking.{Asking, Gives, Asks, goes_on}
+use Rattle.ideal_lane.specs.State.{LaneState, LaneMap, Stage, Idle, Waiting, Loaded, Returning, WaitingLoad}
+use Rattle.ideal_lane.specs.Asking.{Asking, Gives, Asks, call_of, by_reply}
 use Rattle.ideal_lane.specs.Outcomes.{Outcome}
 use Rattle.ideal_lane.specs.Agreement.{IsAllowed, KeepsAgreement}
 use Rattle.ideal_lane.specs.Standing.{Stands}
 use Rattle.ideal_lane.specs.View.{view_of, own_map, own_frames, in_zone, stage_of}
-use Rattle.ideal_lane.specs.Loads.{Asked, asked, chunks_for, finished}
-use Rattle.ideal_lane.specs.Turns.{Turned, stays, Blocked, operation, transfer, waits, advanced, next_operation}
-use Rattle.ideal_lane.specs.Turns.{release, script_turn, left_queue, transfer_turn, asked_at, called, called_in}
-use Rattle.ideal_lane.specs.Turns.{bio_at, called_back, callback_turn, lane_step, never_waits}
-use Rattle.ideal_lane.specs.Unloads.{given_back, restaged, after_return}
-use Rattle.ideal_lane.proofs.Keeping.{Following, Keeps, keeps-absent, keeps-tag, keeps-tag_destroy, keeps-map}
-use Rattle.ideal_lane.proofs.Keeping.{keeps-map_destroy, keeps-await, keeps-load, keeps-unload, keeps-sync}
-use Rattle.ideal_lane.proofs.Keeping.{keeps-dmamem, keeps-dmamem_free}
-use Rattle.ideal_lane.proofs.Keeping.{keeps-sync_range, keeps-cpu_read, keeps-cpu_write, keeps-dev_read}
-use Rattle.ideal_lane.proofs.Keeping.{keeps-dev_write, fits, ended-like}
+use Rattle.ideal_lane.specs.Loads.{Asked, asked, chunks_for}
+use Rattle.ideal_lane.specs.Turns.{Turned, waits, lane_step}
+use Rattle.ideal_lane.specs.Unloads.{restaged, after_return}
+use Rattle.ideal_lane.proofs.Effects.{Advances, Callback, Called, Calls, IsReplyOf, IsUncalled, IsUnwaited}
+use Rattle.ideal_lane.proofs.Effects.{IsUnwaiting, Leaves, Loads, Makes, NoneCalled, NothingLeft, NothingNow}
+use Rattle.ideal_lane.proofs.Effects.{Overflows, Refuses, Releases, Stays, Steps, Unwaited, Vain, asks, turn-steps}
 use Rattle.ideal_lane.proofs.Lookups.{same_at}
 use Rattle.ideal_lane.proofs.Views.{map_put, zoned}
-
--- a turn without a call keeps agreement with each account; a call is one that the driver's state allows, and by the
--- account's reply driver and account agree again
-abbrev pub KeepsTurn : LaneState → Asking Turned → Type 0
-KeepsTurn l (Gives t) = (a : Account) → Agrees (view_of l) a → Agrees (view_of t.lane) a
-KeepsTurn l (Asks c k) =
-    calls.Asks (view_of l) c × ((a : Account) → IsFit a → Agrees (view_of l) a →
-    Agrees (view_of (k (account_step l.id c a).reply).lane) (account_step l.id c a).account)
+use Rattle.ideal_lane.proofs.Endings.{fitting, too_big}
+use Rattle.ideal_lane.proofs.Keeping.{Following, KeptBy, keeps, touches-keep, ended-like}
+use Rattle.busdma_base.specs.declared.name.MapId.{MapId}
+use Rattle.busdma_base.specs.declared.machine.address.Pa.{Pa}
 
 followed : (l n : LaneState) (c : HubCall) (a : Account) → IsFit a → Agrees (view_of l) a → calls.Asks (view_of l) c →
     Following l c (account_step l.id c a).reply n → Agrees (view_of n) (account_step l.id c a).account
@@ -59,54 +44,11 @@ followed l n c a fit g asks f =
     (account_step l.id c a).account f.like
     (agrees-step f.fits (view_of l) c a fit g asks)
 
--- what is done with the outcome of an operation or an item is not seen from the account
-then-keeps : (l : LaneState) (s : Asking Outcome) (f : Outcome → Turned) →
-    ((o : Outcome) → view_of (f o).lane ≡ view_of o.lane) →
-    Keeps l s → KeepsTurn l (goes_on f s)
-then-keeps l (Gives o) f same h = λ a g. subst (λ v. Agrees v a) (sym (same o)) (h a g)
-then-keeps l (Asks c k) f same h = (
-  h.0,
-  λ a fit g. subst (λ v. Agrees v (account_step l.id c a).account)
-      (sym (same (k (account_step l.id c a).reply)))
-      (followed l (k (account_step l.id c a).reply).lane c a fit g h.0 (h.1 (account_step l.id c a).reply)),
-)
-
-keeps-operation : (l : LaneState) (o : Op) → Stands l → Keeps l (operation o l)
-keeps-operation l (op.Tag name parent limits) s = keeps-tag l parent limits
-keeps-operation l (op.TagDestroy tag) s = keeps-tag_destroy l tag
-keeps-operation l (op.Map name tag) s = keeps-map l tag s
-keeps-operation l (op.MapDestroy map) s = keeps-map_destroy l map
-keeps-operation l (op.Dmamem name tag flags) s = keeps-dmamem l tag flags s
-keeps-operation l (op.DmamemFree mem) s = keeps-dmamem_free l mem s
-keeps-operation l (op.Load map x flags items) s =
-    keeps-absent l (bio_at l x) _ (λ b e. keeps-load l map (asked map b (never_waits x flags) items l) s)
-keeps-operation l (op.Unload map) s = keeps-unload l map s
-keeps-operation l (op.Sync map ops) s = keeps-sync l map ops
-keeps-operation l (op.SyncRange map off len ops) s = keeps-sync_range l map off len ops
-keeps-operation l (op.CpuRead place len) s = keeps-cpu_read l place len
-keeps-operation l (op.CpuWrite place bytes) s = keeps-cpu_write l place (bytes_of bytes)
-keeps-operation l (op.Await map) s = keeps-await l map
-
-keeps-transfer : (l : LaneState) (i : Item) → Keeps l (transfer i l)
-keeps-transfer l (item.Sync map ops) = keeps-sync l map ops
-keeps-transfer l (item.SyncRange map off len ops) = keeps-sync_range l map off len ops
-keeps-transfer l (item.DevRead map off len) = keeps-dev_read l map off len
-keeps-transfer l (item.DevWrite map off bytes) = keeps-dev_write l map off (bytes_of bytes)
-
--- ---- the script
-
-keeps-next : (l : LaneState) (o : Option Op) → Stands l → KeepsTurn l (next_operation o l)
-keeps-next l None s = λ a g. g
-keeps-next l (Some o) s = by (waits o l)
-  where
-    by : (b : Bool) → KeepsTurn l (if b then Gives (stays Blocked l) else goes_on (advanced l.place) (operation o l))
-    by true = λ a g. g
-    by false = then-keeps l (operation o l) (advanced l.place) (λ x. refl) (keeps-operation l o s)
-
 -- a page has gone back
 back-like : (l : LaneState) (r : Return) (rest : List Return) →
-    IsLike (view.given_back (view_of l) (r ∷ rest)) (view_of (given_back r rest l))
-back-like l r rest = by (get l.maps r.map) refl
+    (x : Option LaneMap) → get l.maps r.map ≡ x → IsLike (view.given_back (view_of l) (r ∷ rest))
+    (view_of (record (restaged r.map x (after_return r.map rest) l) { returns = rest }))
+back-like l r rest = by
   where
     by : (x : Option LaneMap) → get l.maps r.map ≡ x →
         IsLike (view.given_back (view_of l) (r ∷ rest))
@@ -144,42 +86,14 @@ back-like l r rest = by (get l.maps r.map) refl
         stages (Some z) true = refl
         stages (Some z) false = refl
 
-keeps-release : (l : LaneState) (r : Return) (rest : List Return) →
-    l.returns ≡ r ∷ rest → KeepsTurn l (release r rest l)
-keeps-release l r rest e = (
-  asks,
-  λ a fit g. followed l (given_back r rest l)
-      (call.Release (named l r.map) (record { 0 = r.zone }) (record { 0 = r.page })) a fit g asks
-      (record {
-        fits = true;
-        like =
-            subst (λ rs. IsLike (view.given_back (view_of l) rs) (view_of (given_back r rest l))) (sym e)
-            (back-like l r rest);
-      }),
-)
-  where
-    asks : calls.Asks (view_of l) (call.Release (named l r.map) (record { 0 = r.zone }) (record { 0 = r.page }))
-    asks = (refl, subst (λ rs. IsFront rs r.map r.zone r.page) (sym e) (refl, refl, refl))
-
-keeps-script : (l : LaneState) (rs : List Return) → l.returns ≡ rs → Stands l → KeepsTurn l (script_turn rs l)
-keeps-script l [] e s = keeps-next l (slice_get l.script l.place) s
-keeps-script l (r ∷ rest) e s = keeps-release l r rest e
-
--- ---- the device
-
-keeps-queue : (l : LaneState) (qs : List QueuedItem) → KeepsTurn l (transfer_turn qs l)
-keeps-queue l [] = λ a g. g
-keeps-queue l (q ∷ rest) = then-keeps l (transfer q.item l) (left_queue q rest) (λ o. refl) (keeps-transfer l q.item)
-
--- ---- callbacks
-
 -- a map that the account sees waiting
 pub record WaitsAt (l : LaneState) (k z need : ℕ) : Type 0 where
   pub map : LaneMap
-  pub load_at : ℕ
+  pub load : WaitingLoad
   pub found : get l.maps k ≡ Some map
   pub zone : map.zone ≡ Some z
-  pub stage : map.stage ≡ Waiting load_at need
+  pub stage : map.stage ≡ Waiting load
+  pub counted : load.need ≡ need
 
 abbrev stage_in : Option OwnMap → view.Stage
 stage_in None = view.Idle
@@ -198,15 +112,15 @@ waits-at l k z need h = by (get l.maps k) refl h
     in-stage : (o : LaneMap) → get l.maps k ≡ Some o → (s : Stage) → o.stage ≡ s → (zone : Option ℕ) → o.zone ≡ zone →
         in_zone s zone ≡ Some (record { zone = z; stage = view.Waiting need }) → WaitsAt l k z need
     in-stage o e s st None zn h = absurd (cc)
-    in-stage o e (Waiting at n) st (Some y) zn h =
-        let same : y ≡ z = ap view.zone_in h in let as_much : n ≡ need = ap (λ x. need_in (stage_in x)) h in
+    in-stage o e (Waiting w) st (Some y) zn h =
+        let same : y ≡ z = ap view.zone_in h in
         record {
           map = o;
-          load_at = at;
+          load = w;
           found = e;
-          zone = zn ∙ ap (λ w. Some w) same;
-          stage = st
-              ∙ ap (λ w. Waiting at w) as_much;
+          zone = zn ∙ ap (λ v. Some v) same;
+          stage = st;
+          counted = ap (λ x. need_in (stage_in x)) h;
         }
     in-stage o e Idle st (Some y) zn h = absurd (let d : stage_of Idle ≡ view.Waiting need = ap stage_in h in cc)
     in-stage o e (Loaded b g p) st (Some y) zn h =
@@ -219,86 +133,126 @@ waits-at l k z need h = by (get l.maps k) refl h
     by None e h = absurd (cc)
     by (Some o) e h = in-stage o e o.stage refl o.zone refl h
 
--- the load of a map that waits has ended
-record CalledLike (l : LaneState) (k : ℕ) (pages : List ℕ) : Type 0 where
-  fits : Bool
-  like : IsLike (view.ended fits (view_of l) k (view.zone_in (own_map (get l.maps k))) pages)
-      (view_of (called k (get l.maps k) pages l).lane)
+-- the zone of a map, if there is one
+abbrev zone_at : Option LaneMap → Option ℕ
+zone_at None = None
+zone_at (Some o) = o.zone
 
-called-like : (l : LaneState) (k z need : ℕ) (pages : List ℕ) → WaitsAt l k z need → CalledLike l k pages
-called-like l k z need pages w = record {
-  fits = enough;
-  like =
-      subst (λ y. IsLike (view.ended enough (view_of l) k (view.zone_in (own_map y)) pages)
-      (view_of (called k y pages l).lane)) (sym w.found)
-      (subst (λ s. IsLike (view.ended enough (view_of l) k (view.zone_in (own_map (Some w.map))) pages)
-      (view_of (called_in k w.map s pages l).lane)) (sym w.stage)
-      (subst (λ y. IsLike (view.ended enough (view_of l) k y pages)
-      (view_of (finished k w.map w.load_at x chunks pages l).lane)) zone-is
-      (ended-like l k w.map w.load_at x chunks pages z w.zone enough)));
-}
-  where
-    x : Asked
-    x = asked_at w.load_at l
+-- ---- turns
 
-    chunks : List Chunk
-    chunks = chunks_for l w.map (contains_key l.mems k) x.entries
+module _ (l : LaneState) (s : Stands l) where
+  -- the driver's state allows the call, if one is made
+  abbrev IsAsked : Option HubCall → Type 0
+  IsAsked None = Unit {0}
+  IsAsked (Some c) = calls.Asks (view_of l) c
 
-    enough : Bool
-    enough = fits l k w.map w.load_at x chunks pages
+  asked-by : (c : Option HubCall) (r : HubReply) (n : LaneState) → KeptBy l c r n → IsAsked c
+  asked-by None r n h = tt
+  asked-by (Some c) r n h = h.0
 
-    zone-is : z ≡ view.zone_in (own_map (Some w.map))
-    zone-is = sym (ap view.zone_in (zoned w.map.stage w.map z w.zone))
+  steps-asked : {d : Side} {c : Option HubCall} {r : HubReply} {t : Turned} → Steps l d c r t → IsAsked c
+  steps-asked (Stays t (NoneCalled u)) = tt
+  steps-asked (Stays t _) = tt
+  steps-asked {c = c} {r = r} (Advances {x = x} o at free m) = asked-by c r x.lane (keeps l s m)
+  steps-asked (Leaves q rest e t) = tt
+  steps-asked (Releases q rest e y there) =
+      (refl, subst (λ rs. IsFront rs q.map q.zone q.page) (sym e) (refl, refl, refl))
+  steps-asked (Calls m pages k) = tt
 
-keeps-callback : (l : LaneState) → KeepsTurn l (callback_turn l)
-keeps-callback l = (tt, λ a fit g. by a fit g (account_step l.id call.TakeCallback a).reply refl)
-  where
-    step : (b : Bool) (a : Account) → IsFit a → Agrees (view_of l) a → (r : HubReply) →
-        (account_step l.id call.TakeCallback a).reply ≡ r →
-        Agrees (after b (view_of l) call.TakeCallback r) (account_step l.id call.TakeCallback a).account
-    step b a fit g r e =
-        subst (λ q. Agrees (after b (view_of l) call.TakeCallback q) (account_step l.id call.TakeCallback a).account) e
+  module _ (a : Account) (fit : IsFit a) (g : Agrees (view_of l) a) where
+    -- the account after a call, if one was made
+    abbrev account_after : Option HubCall → Account
+    account_after None = a
+    account_after (Some c) = (account_step l.id c a).account
+
+    kept-by : (c : Option HubCall) (r : HubReply) (n : LaneState) → IsReplyOf l.id a c r → KeptBy l c r n →
+        Agrees (view_of n) (account_after c)
+    kept-by None r n e h = h a g
+    kept-by (Some c) r n e h = followed l n c a fit g h.0 (subst (λ q. Following l c q n) (sym e) h.1)
+
+    -- a callback
+    step : (b : Bool) (r : HubReply) → (account_step l.id call.TakeCallback a).reply ≡ r →
+        Agrees (after b (view_of l) call.TakeCallback r) (account_after (Some call.TakeCallback))
+    step b r e =
+        subst (λ q. Agrees (after b (view_of l) call.TakeCallback q) (account_after (Some call.TakeCallback))) e
         (agrees-step b (view_of l) call.TakeCallback a fit g tt)
 
-    by : (a : Account) → IsFit a → Agrees (view_of l) a → (r : HubReply) →
-        (account_step l.id call.TakeCallback a).reply ≡ r →
-        Agrees (view_of (called_back l r).lane) (account_step l.id call.TakeCallback a).account
-    by a fit g (reply.Called m pages) e =
-        let c = called-length (view_of l) a.ready a m pages fit.well g refl e in
-        let w = called-like l m.made_at c.2 c.0 (addresses pages) (waits-at l m.made_at c.2 c.0 c.3) in
-        agrees-like (after_callback w.fits (view_of l) (reply.Called m pages))
-        (view_of (called_back l (reply.Called m pages)).lane)
-        (account_step l.id call.TakeCallback a).account w.like (step w.fits a fit g (reply.Called m pages) e)
-    by a fit g reply.Nothing e = step true a fit g reply.Nothing e
-    by a fit g (reply.Grown n) e = step true a fit g (reply.Grown n) e
-    by a fit g (reply.Granted pages) e = step true a fit g (reply.Granted pages) e
-    by a fit g (reply.Queued have) e = step true a fit g (reply.Queued have) e
-    by a fit g reply.NoPages e = step true a fit g reply.NoPages e
-    by a fit g (reply.Served n) e = step true a fit g (reply.Served n) e
-    by a fit g (reply.Run first count) e = step true a fit g (reply.Run first count) e
-    by a fit g reply.NoRun e = step true a fit g reply.NoRun e
+    uncalled : (r : HubReply) → IsUncalled r → after true (view_of l) call.TakeCallback r ≡ view_of l
+    uncalled (reply.Called m pages) u = absurd u
+    uncalled _ u = refl
 
--- ---- every side
+    module _ (m : MapId) (pages : List Pa) (e : (account_step l.id call.TakeCallback a).reply ≡ reply.Called m pages)
+      where
+        waited : (z need : ℕ) × WaitsAt l m.made_at z need
+        waited =
+            let c = called-length (view_of l) a.ready a m pages fit.well g refl e in
+            (c.2, c.0, waits-at l m.made_at c.2 c.0 c.3)
 
-keeps-turn : (l : LaneState) (s : Side) → Stands l → KeepsTurn l (lane_step l s)
-keeps-turn l side.Script s = keeps-script l l.returns refl s
-keeps-turn l side.Transfer s = keeps-queue l l.queue
-keeps-turn l side.Callback s = keeps-callback l
+        module _ (o : LaneMap) (v : WaitingLoad) (there : get l.maps m.made_at ≡ Some o) (b : Bool) where
+          abbrev x : Asked
+          x = asked m.made_at v.bio false v.items l
 
-allowed-by : (l : LaneState) (s : Asking Turned) (a : Account) → KeepsTurn l s →
-    Agrees (view_of l) a → IsAllowed l.id a s
-allowed-by l (Gives t) a h g = tt
-allowed-by l (Asks c k) a h g = agrees-may (view_of l) a c g h.0
+          abbrev cut : List Chunk
+          cut = chunks_for l o (contains_key l.mems m.made_at) x.entries
 
-kept-by : (l : LaneState) (s : Asking Turned) (a : Account) → KeepsTurn l s → IsFit a →
-    Agrees (view_of l) a → KeepsAgreement l.id a s
-kept-by l (Gives t) a h fit g = h a g
-kept-by l (Asks c k) a h fit g = h.1 a fit g
+          abbrev ended : Outcome
+          ended = if b then fitting l m.made_at o v.load_at x cut (addresses pages)
+              else too_big l m.made_at o v.load_at x cut (addresses pages)
+
+          ends-kept : Agrees (view_of ended.lane) (account_after (Some call.TakeCallback))
+          ends-kept =
+              let w = waited.2 in
+              let zone : o.zone ≡ Some waited.0 = ap zone_at (sym there ∙ w.found) ∙ w.zone in
+              let zone-is : waited.0 ≡ view.zone_in (own_map (get l.maps m.made_at)) =
+              sym (ap (λ y. view.zone_in (own_map y)) there ∙ ap view.zone_in (zoned o.stage o waited.0 zone)) in
+              agrees-like (after b (view_of l) call.TakeCallback (reply.Called m pages)) (view_of ended.lane)
+              (account_after (Some call.TakeCallback))
+              (subst (λ y. IsLike (view.ended b (view_of l) m.made_at y (addresses pages)) (view_of ended.lane)) zone-is
+              (ended-like l m.made_at o v.load_at x cut (addresses pages) waited.0 zone b))
+              (step b (reply.Called m pages) e)
+
+    called-kept : {n m : MapId} {pages : List Pa} {x : Outcome} →
+        (account_step l.id call.TakeCallback a).reply ≡ reply.Called m pages →
+        Makes l (Callback n) (Some call.TakeCallback) (reply.Called m pages) x →
+        Agrees (view_of x.lane) (account_after (Some call.TakeCallback))
+    called-kept e (Vain (Unwaited m pages u) v q) =
+        let w = (waited m pages e).2 in absurd (subst IsUnwaiting w.stage (subst IsUnwaited w.found u))
+    called-kept e (Refuses b over v) = elim over [ ]
+    called-kept e (Loads (Called m pages o v there waits) f) = ends-kept m pages e o v there true
+    called-kept e (Overflows (Called m pages o v there waits) f) = ends-kept m pages e o v there false
+
+    steps-kept : {d : Side} {c : Option HubCall} {r : HubReply} {t : Turned} → IsReplyOf l.id a c r →
+        Steps l d c r t → Agrees (view_of t.lane) (account_after c)
+    steps-kept e (Stays t NothingNow) = g
+    steps-kept e (Stays t NothingLeft) = g
+    steps-kept {r = r} e (Stays t (NoneCalled u)) =
+        subst (λ v. Agrees v (account_after (Some call.TakeCallback))) (uncalled r u) (step true r e)
+    steps-kept {c = c} {r = r} e (Advances {x = x} o at free m) = kept-by c r x.lane e (keeps l s m)
+    steps-kept e (Leaves q rest is t) = touches-keep l s t a g
+    steps-kept {c = c} {r = r} {t = t} e (Releases q rest is y there) =
+        kept-by c r t.lane e (
+          (refl, subst (λ rs. IsFront rs q.map q.zone q.page) (sym is) (refl, refl, refl)),
+          record {
+            fits = true;
+            like =
+                subst (λ rs. IsLike (view.given_back (view_of l) rs) (view_of t.lane)) (sym is)
+                (back-like l q rest y there);
+          },
+        )
+    steps-kept e (Calls m pages k) = called-kept e k
 
 pub turn-allowed : (l : LaneState) (s : Side) (a : Account) → Stands l →
     Agrees (view_of l) a → IsAllowed l.id a (lane_step l s)
-turn-allowed l s a st g = allowed-by l (lane_step l s) a (keeps-turn l s st) g
+turn-allowed l s a st g = by (lane_step l s) (turn-steps l s)
+  where
+    by : (x : Asking Turned) → ((r : HubReply) → Steps l s (call_of x) r (by_reply x r)) → IsAllowed l.id a x
+    by (Gives t) h = tt
+    by (Asks c k) h = agrees-may (view_of l) a c g (steps-asked l st (h reply.Nothing))
 
 pub turn-kept : (l : LaneState) (s : Side) (a : Account) → Stands l → IsFit a →
     Agrees (view_of l) a → KeepsAgreement l.id a (lane_step l s)
-turn-kept l s a st fit g = kept-by l (lane_step l s) a (keeps-turn l s st) fit g
+turn-kept l s a st fit g = by (lane_step l s) (turn-steps l s)
+  where
+    by : (x : Asking Turned) → ((r : HubReply) → Steps l s (call_of x) r (by_reply x r)) → KeepsAgreement l.id a x
+    by (Gives t) h = steps-kept l st a fit g tt (h reply.Nothing)
+    by (Asks c k) h = steps-kept l st a fit g refl (h (account_step l.id c a).reply)

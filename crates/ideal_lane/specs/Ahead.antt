@@ -1,24 +1,22 @@
 -- How many items a driver's transfer queue may still get.
-use Rattle.std.specs.Prelude.{ℕ, ◌+◌, List, length, drop, slice_get}
+use Rattle.std.specs.Prelude.{ℕ, ◌+◌, length, drop}
 use Rattle.std.specs.Ordering.{nat_cmp}
 use Rattle.std.specs.FinMap.{FinMap, entries}
 use Rattle.std.specs.List.{sum_by}
-use Rattle.busdma_base.specs.declared.scenarios.script.Op.{Op}
 use Rattle.busdma_base.specs.Scenarios.Operations.{items_of}
-use Rattle.ideal_lane.specs.Left.{item_count}
 use Rattle.ideal_lane.specs.State.{LaneState, LaneMap, Stage, Idle, Waiting, Loaded, Returning}
 
 -- the items of the load for which a map waits
-abbrev pub awaited_items : List Op → Stage → ℕ
-awaited_items script Idle = 0
-awaited_items script (Waiting load_at need) = item_count (slice_get script load_at)
-awaited_items script (Loaded bounced segments pages) = 0
-awaited_items script Returning = 0
+abbrev pub awaited_items : Stage → ℕ
+awaited_items Idle = 0
+awaited_items (Waiting w) = length w.items
+awaited_items (Loaded bounced segments pages) = 0
+awaited_items Returning = 0
 
 -- those of all loads for which maps wait
-abbrev pub maps_items : List Op → FinMap nat_cmp LaneMap → ℕ
-maps_items script maps = sum_by (λ e. awaited_items script e.1.stage) (entries maps)
+abbrev pub maps_items : FinMap nat_cmp LaneMap → ℕ
+maps_items maps = sum_by (λ e. awaited_items e.1.stage) (entries maps)
 
 -- those of the operations that are not yet done, and of the loads that wait
 abbrev pub items_ahead : LaneState → ℕ
-items_ahead l = sum_by (λ o. length (items_of o)) (drop l.place l.script) + maps_items l.script l.maps
+items_ahead l = sum_by (λ o. length (items_of o)) (drop l.place l.script) + maps_items l.maps

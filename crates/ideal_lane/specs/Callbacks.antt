@@ -9,9 +9,10 @@ use Rattle.busdma_base.specs.declared.journals.journal.Did.{Did}
 use Rattle.busdma_base.specs.declared.journals.journal.Did.TheVariants as did
 use Rattle.busdma_base.specs.declared.journals.journal.Side.{Side}
 use Rattle.busdma_base.specs.declared.scenarios.script.Op.{Op}
+use Rattle.busdma_base.specs.Scenarios.Operations.{about}
 use Rattle.ideal_lane.specs.State.{LaneState, LaneMap, Stage, Idle, Waiting, Loaded, Returning}
 use Rattle.ideal_lane.specs.Asking.{by_reply}
-use Rattle.ideal_lane.specs.Turns.{Turn, Turned, Stepped, Blocked, Ended, asked_by, lane_step}
+use Rattle.ideal_lane.specs.Turns.{Turn, Turned, Stepped, Blocked, Ended, lane_step}
 
 -- a load with this answer has ended in the step of its own operation, which calls its callback
 abbrev pub ends : Answer → Bool
@@ -26,14 +27,14 @@ ends (answer.Refused errno) = true
 ends (answer.Report r) = false
 
 -- there is a load
-abbrev pub is_load : LaneState → Option Op → Bool
-is_load l None = false
-is_load l (Some o) = is_some (asked_by o l)
+abbrev pub is_load : Option Op → Bool
+is_load None = false
+is_load (Some o) = is_some (about o).loads
 
 -- the load at a place of the script waits, with a map that stands so
 abbrev pub awaits : ℕ → Stage → Bool
 awaits p Idle = false
-awaits p (Waiting load_at need) = load_at == p
+awaits p (Waiting w) = w.load_at == p
 awaits p (Loaded bounced segments pages) = false
 awaits p Returning = false
 
@@ -44,7 +45,7 @@ awaited p (Some o) = awaits p o.stage
 
 -- what was done, with this answer, calls the callback of the load at a place of the script
 abbrev pub calls : ℕ → LaneState → Did → Answer → Bool
-calls p l (did.Op place) a = (place == p) && (is_load l (slice_get l.script place) && ends a)
+calls p l (did.Op place) a = (place == p) && (is_load (slice_get l.script place) && ends a)
 calls p l (did.Callback m) a = awaited p (get l.maps m.made_at)
 calls p l (did.Release m page) a = false
 calls p l (did.Item load_at place) a = false

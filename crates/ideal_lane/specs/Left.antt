@@ -1,5 +1,5 @@
 -- How much a driver has still to do.
-use Rattle.std.specs.Prelude.{◌≡◌, ℕ, ◌+◌, ◌<◌, List, length, Option, Some, None, drop, slice_get}
+use Rattle.std.specs.Prelude.{◌≡◌, ℕ, ◌+◌, ◌<◌, length, drop}
 use Rattle.std.specs.Ordering.{nat_cmp}
 use Rattle.std.specs.FinMap.{FinMap, entries}
 use Rattle.std.specs.List.{sum_by}
@@ -15,26 +15,21 @@ use Rattle.ideal_lane.specs.Turns.{Turn, Turned, Stepped, Blocked, Ended}
 abbrev pub op_weight : Op → ℕ
 op_weight o = 2 + (length (items_of o) + loaded_by o)
 
--- how many items an operation has, if there is one
-abbrev pub item_count : Option Op → ℕ
-item_count None = 0
-item_count (Some o) = length (items_of o)
-
 -- a map counts the pages that it holds; and where its load waits 1, the load's items and its need
-abbrev pub stage_weight : List Op → Stage → ℕ
-stage_weight script Idle = 0
-stage_weight script (Waiting load_at need) = 1 + (item_count (slice_get script load_at) + need)
-stage_weight script (Loaded bounced segments pages) = length pages
-stage_weight script Returning = 0
+abbrev pub stage_weight : Stage → ℕ
+stage_weight Idle = 0
+stage_weight (Waiting w) = 1 + (length w.items + w.need)
+stage_weight (Loaded bounced segments pages) = length pages
+stage_weight Returning = 0
 
-abbrev pub maps_weight : List Op → FinMap nat_cmp LaneMap → ℕ
-maps_weight script maps = sum_by (λ e. stage_weight script e.1.stage) (entries maps)
+abbrev pub maps_weight : FinMap nat_cmp LaneMap → ℕ
+maps_weight maps = sum_by (λ e. stage_weight e.1.stage) (entries maps)
 
 -- what is left: the operations that are not yet done; 1 for each item of the transfer queue and each page of the
 -- return queue; and what the maps count
 abbrev pub left : LaneState → ℕ
 left l =
-    sum_by op_weight (drop l.place l.script) + (length l.queue + (length l.returns + maps_weight l.script l.maps))
+    sum_by op_weight (drop l.place l.script) + (length l.queue + (length l.returns + maps_weight l.maps))
 
 -- a turn that is a step leaves less to do; any other leaves the driver as it was
 abbrev pub Falls : LaneState → LaneState → Turn → Type 0

@@ -36,16 +36,17 @@ use Rattle.segment_build.specs.Building.{tag_placed, placed_pieces}
 use Rattle.segment_build.specs.Chunks.{chunks_of, bounced_of, need_of}
 use Rattle.segment_build.specs.Segmentation.{segmentation}
 use Rattle.ideal_lane.specs.State.{LaneState, LaneTag, LaneMap, LaneMemory, Stage, Idle, Waiting, Loaded, Returning}
-use Rattle.ideal_lane.specs.State.{named}
+use Rattle.ideal_lane.specs.State.{WaitingLoad, named}
 use Rattle.ideal_lane.specs.Asking.{Asking, Gives, Asks}
 use Rattle.ideal_lane.specs.Outcomes.{Outcome, unless_busy, unless_refused}
 use Rattle.ideal_lane.specs.Places.{physical, is_memory_byte, begin_of}
 
 -- What a load names
 
--- what a load asks: the judgement of its bytes, its entries and how many bytes it has, whether it must not wait, and
--- the items that its callback appends
+-- what a load asks: its bytes with their judgement, its entries and how many bytes it has, whether it must not wait,
+-- and the items that its callback appends
 pub record Asked : Type 0 where
+  pub bio : Bio
   pub judged : Judged
   pub entries : List Entry
   pub len : ℕ
@@ -90,6 +91,7 @@ load_addresses l b = map (physical_or_0 (load_translation l b)) (span_addresses 
 -- a load of a bio
 abbrev pub asked : ℕ → Bio → Bool → List Item → LaneState → Asked
 asked m b nowait items l = record {
+  bio = b;
   judged = load_judged l m b;
   entries = load_entries l b;
   len = span_bytes (bio_spans b);
@@ -176,11 +178,15 @@ finished m o load_at x chunks pages l =
     }
     else record { lane = unpaged m o pages l; answer = Refused EFBIG }
 
+-- what the load of the next operation keeps that waits
+abbrev pub waiting_load : LaneState → Asked → List Chunk → WaitingLoad
+waiting_load l x chunks = record { load_at = l.place; bio = x.bio; items = x.items; need = need_of chunks }
+
 -- the reply to a load's wish for pages: it gets them, or waits, or is refused
 abbrev pub granted : ℕ → LaneMap → Asked → List Chunk → LaneState → HubReply → Outcome
 granted m o x chunks l (reply.Granted pages) = finished m o l.place x chunks (addresses pages) l
 granted m o x chunks l (reply.Queued have) = record {
-  lane = staged m o (Waiting l.place (need_of chunks)) l;
+  lane = staged m o (Waiting (waiting_load l x chunks)) l;
   answer = InProgress have (need_of chunks);
 }
 granted m o x chunks l _ = ended m o (Refused ENOMEM) l

@@ -37,14 +37,14 @@ unless_absent (Some x) l step = step x
 -- a map is idle
 abbrev pub is_idle : Stage → Bool
 is_idle Idle = true
-is_idle (Waiting load_at need) = false
+is_idle (Waiting w) = false
 is_idle (Loaded bounced segments pages) = false
 is_idle Returning = false
 
 -- a map is loaded
 abbrev pub is_loaded : Stage → Bool
 is_loaded Idle = false
-is_loaded (Waiting load_at need) = false
+is_loaded (Waiting w) = false
 is_loaded (Loaded bounced segments pages) = true
 is_loaded Returning = false
 

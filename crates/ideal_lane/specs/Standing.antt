@@ -11,7 +11,7 @@ use Rattle.ideal_lane.specs.Turns.{Turned}
 -- a map that stands so holds no page, and awaits none
 abbrev pub IsPageless : Stage → Type 0
 IsPageless Idle = Unit {0}
-IsPageless (Waiting load_at need) = ⊥
+IsPageless (Waiting w) = ⊥
 IsPageless (Loaded bounced segments pages) = pages ≡ []
 IsPageless Returning = Unit {0}
 

@@ -4,9 +4,11 @@ use Rattle.std.specs.Prelude.{ℕ, Bool, List, Option}
 use Rattle.std.specs.Ordering.{nat_cmp}
 use Rattle.std.specs.FinMap.{FinMap}
 use Rattle.busdma_base.specs.declared.machine.address.Segment.{Segment}
+use Rattle.busdma_base.specs.declared.machine.bio.Bio.{Bio}
 use Rattle.busdma_base.specs.declared.machine.chunk.Chunk.{Chunk}
 use Rattle.busdma_base.specs.declared.name.MapId.{MapId}
 use Rattle.busdma_base.specs.declared.scenarios.scenario.PageRun.{PageRun}
+use Rattle.busdma_base.specs.declared.scenarios.script.Item.{Item}
 use Rattle.busdma_base.specs.declared.scenarios.script.Op.{Op}
 use Rattle.busdma_base.specs.declared.tags.tag.TagLimits.{TagLimits}
 use Rattle.lane_agreement.specs.View.{Return}
@@ -19,12 +21,19 @@ pub record LaneTag : Type 0 where
   pub limits : TagLimits
   pub first_done : Bool
 
--- where a map stands: with no load; with a load that waits, of which it keeps the place in the script and the need;
--- with a load, its bounced chunks, its segments and its bounce pages in the order of the chunks; or with pages on
--- their way back
+-- a load that waits for pages: its place in the script, its bytes, the items that its callback appends, and how many
+-- pages it needs; as the map of bus_dma(9) keeps the memory and the callback of a load that is deferred
+pub record WaitingLoad : Type 0 where
+  pub load_at : ℕ
+  pub bio : Bio
+  pub items : List Item
+  pub need : ℕ
+
+-- where a map stands: with no load; with a load that waits; with a load, its bounced chunks, its segments and its
+-- bounce pages in the order of the chunks; or with pages on their way back
 pub data Stage : Type 0 where
   Idle : Stage
-  Waiting : (load_at : ℕ) → (need : ℕ) → Stage
+  Waiting : WaitingLoad → Stage
   Loaded : (bounced : List Chunk) → (segments : List Segment) → (pages : List ℕ) → Stage
   Returning : Stage
 

@@ -17,7 +17,7 @@ use Rattle.ideal_lane.specs.Outcomes.{load_length}
 -- the bounced chunks of a map's load
 abbrev pub bounced_in : Stage → List Chunk
 bounced_in Idle = []
-bounced_in (Waiting load_at need) = []
+bounced_in (Waiting w) = []
 bounced_in (Loaded bounced segments pages) = bounced
 bounced_in Returning = []
 

@@ -1,8 +1,8 @@
 -- The turn of a driver's side: a page goes back, an operation or an item is done, a callback is taken, or nothing can
 -- be done now.
 use Rattle.std.specs.Prelude.{ℕ, ◌+◌, Bool, true, false, ◌&&◌, ◌||◌, List, [], ◌∷◌, Option, Some, None, if◌then◌else◌}
-use Rattle.std.specs.Prelude.{slice_get, unwrap_or}
-use Rattle.std.specs.Option.{option_map, option_and_then}
+use Rattle.std.specs.Prelude.{slice_get}
+use Rattle.std.specs.Option.{option_map}
 use Rattle.std.specs.FinMap.{get, contains_key}
 use Rattle.busdma_base.specs.declared.bounce.hold.HubCall.TheVariants as hold
 use Rattle.busdma_base.specs.declared.bounce.hold.HubReply.{HubReply}
@@ -28,7 +28,8 @@ use Rattle.lane_agreement.specs.After.{addresses}
 use Rattle.lane_agreement.specs.View.{Return}
 use Rattle.lane_tables.specs.declared.queued.QueuedItem.{QueuedItem}
 use Rattle.lane_tables.specs.Queues.{queue_names}
-use Rattle.ideal_lane.specs.State.{LaneState, LaneMap, Stage, Idle, Waiting, Loaded, Returning, named}
+use Rattle.ideal_lane.specs.State.{LaneState, LaneMap, Stage, Idle, Waiting, Loaded, Returning, WaitingLoad}
+use Rattle.ideal_lane.specs.State.{named}
 use Rattle.ideal_lane.specs.Asking.{Asking, Gives, Asks, goes_on}
 use Rattle.ideal_lane.specs.Outcomes.{Outcome, unless_absent}
 use Rattle.ideal_lane.specs.Places.{virtual_at}
@@ -106,7 +107,7 @@ operation (op.Await map) l = maps.await map l
 -- a map that stands so has a load that waits
 abbrev pub waits_in : Stage → Bool
 waits_in Idle = false
-waits_in (Waiting load_at need) = true
+waits_in (Waiting w) = true
 waits_in (Loaded bounced segments pages) = false
 waits_in Returning = false
 
@@ -181,36 +182,11 @@ transfer_turn (q ∷ rest) l = goes_on (left_queue q rest) (transfer q.item l)
 
 -- Callbacks
 
--- a load of no byte
-abbrev pub no_load : LaneState → loads.Asked
-no_load l = loads.asked 0 (bio.Vector []) false [] l
-
--- what an operation asks that loads a map, where its memory exists
-abbrev pub asked_by : Op → LaneState → Option loads.Asked
-asked_by (op.Load map buffer flags items) l =
-    option_map (λ b. loads.asked map b (never_waits buffer flags) items l) (bio_at l buffer)
-asked_by (op.Tag name parent limits) l = None
-asked_by (op.TagDestroy tag) l = None
-asked_by (op.Map name tag) l = None
-asked_by (op.MapDestroy map) l = None
-asked_by (op.Dmamem name tag flags) l = None
-asked_by (op.DmamemFree mem) l = None
-asked_by (op.Unload map) l = None
-asked_by (op.Sync map ops) l = None
-asked_by (op.SyncRange map off len ops) l = None
-asked_by (op.CpuRead place len) l = None
-asked_by (op.CpuWrite place bytes) l = None
-asked_by (op.Await map) l = None
-
--- what the load at a place of the script asks; the bytes that it names are where they were when it began to wait
-abbrev pub asked_at : ℕ → LaneState → loads.Asked
-asked_at k l = unwrap_or (option_and_then (λ o. asked_by o l) (slice_get l.script k)) (no_load l)
-
--- the load of a map at a place of the script has its pages, and its callback is called
-abbrev pub called_at : ℕ → LaneMap → ℕ → List ℕ → LaneState → Outcome
-called_at m o load_at pages l =
-    let x : loads.Asked = asked_at load_at l in
-    loads.finished m o load_at x (loads.chunks_for l o (contains_key l.mems m) x.entries) pages l
+-- the load that waited has its pages, and its callback is called; its bytes are where they were when it began to wait
+abbrev pub called_at : ℕ → LaneMap → WaitingLoad → List ℕ → LaneState → Outcome
+called_at m o w pages l =
+    let x : loads.Asked = loads.asked m w.bio false w.items l in
+    loads.finished m o w.load_at x (loads.chunks_for l o (contains_key l.mems m) x.entries) pages l
 
 -- nothing was called: a reply has only the maps that wait
 abbrev pub uncalled : LaneState → Outcome
@@ -219,7 +195,7 @@ uncalled l = record { lane = l; answer = answer.Done }
 -- a map that stands so has the pages of its load
 abbrev pub called_in : ℕ → LaneMap → Stage → List ℕ → LaneState → Outcome
 called_in m o Idle pages l = uncalled l
-called_in m o (Waiting load_at need) pages l = called_at m o load_at pages l
+called_in m o (Waiting w) pages l = called_at m o w pages l
 called_in m o (Loaded bounced segments held) pages l = uncalled l
 called_in m o Returning pages l = uncalled l
 

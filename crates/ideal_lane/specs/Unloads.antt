@@ -13,7 +13,7 @@ use Rattle.ideal_lane.specs.Loads.{unpaged}
 -- the bounce pages that a map holds, in order
 abbrev pub pages_of : Stage → List ℕ
 pages_of Idle = []
-pages_of (Waiting load_at need) = []
+pages_of (Waiting w) = []
 pages_of (Loaded bounced segments pages) = pages
 pages_of Returning = []
 

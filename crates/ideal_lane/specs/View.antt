@@ -10,7 +10,7 @@ use Rattle.busdma_base.specs.Machine.PageRuns.{is_own}
 -- where a map stands, by its need and its pages alone
 abbrev pub stage_of : Stage → view.Stage
 stage_of Idle = view.Idle
-stage_of (Waiting load_at need) = view.Waiting need
+stage_of (Waiting w) = view.Waiting w.need
 stage_of (Loaded bounced segments pages) = view.Loaded pages
 stage_of Returning = view.Returning
 

@@ -1,40 +1,29 @@
 -- A map lies as it lay, where a step leaves its stage, the bytes of its load and what its tag says.
 use mathlib.Core.Logic.{∥∥₁_map}
-use Rattle.std.proofs.Common.{◌≡◌, ◌≢◌, ℕ, Bool, false, List, Option, Some, None, slice_get, is_some, inl, inr}
+use Rattle.std.proofs.Common.{◌≡◌, ◌≢◌, ℕ, false, List, Option, Some, None, is_some, inl, inr}
 use Rattle.std.proofs.Common.{refl, ap, sym, ◌∙◌, subst}
-use Rattle.std.specs.Option.{option_and_then, option_map}
-use Rattle.std.specs.Prelude.{unwrap_or}
-use Rattle.std.specs.FinMap.{empty, get, get-empty}
-use Rattle.std.specs.List.{enumerate_from}
-use Rattle.std.specs.Ordering.{nat_cmp}
+use Rattle.std.specs.FinMap.{get}
 use Rattle.busdma_base.specs.declared.machine.address.Segment.{Segment}
-use Rattle.busdma_base.specs.declared.machine.bio.Bio.{Bio}
-use Rattle.busdma_base.specs.declared.machine.bio.Bio.TheVariants.{Mapped, Vector, Unmapped}
 use Rattle.busdma_base.specs.declared.machine.chunk.Chunk.{Chunk}
-use Rattle.busdma_base.specs.declared.scenarios.buffer.Buffer.{Buffer}
-use Rattle.busdma_base.specs.declared.scenarios.buffer.Buffer.TheVariants as buffer
-use Rattle.busdma_base.specs.declared.scenarios.script.Item.{Item}
-use Rattle.busdma_base.specs.declared.scenarios.script.Op.{Op}
-use Rattle.busdma_base.specs.declared.scenarios.script.Op.TheVariants as op
-use Rattle.busdma_base.specs.declared.scenarios.script.Place.TheVariants.{At, In}
-use Rattle.busdma_base.specs.Journals.Judging.{judged}
 use Rattle.busdma_base.specs.Machine.PageRuns.{is_own}
-use Rattle.busdma_base.specs.Machine.Spans.{bio_spans, span_addresses, span_bytes}
+use Rattle.busdma_base.specs.Machine.Spans.{bio_spans}
 use Rattle.busdma_base.specs.Machine.Wire.{buses}
+use Rattle.busdma_base.specs.Scenarios.Buffers.{IsBioOf}
 use Rattle.busdma_base.specs.Tags.Tag.{excluded}
+use Rattle.load_bio.specs.Bio.{is_rounded}
 use Rattle.loan_table.specs.declared.position.Position.{Position}
 use Rattle.loan_table.specs.Loans.{loan_of, addresses_of}
 use Rattle.map_sync.specs.Traces.{HasChunks}
+use Rattle.phys_memory.specs.Vector.{entries_of}
 use Rattle.segment_build.specs.Chunks.{chunks_of, need_of}
-use Rattle.ideal_lane.specs.Loads.{Asked, asked, is_coherent, is_foreign_in, limits_of, load_entries, load_refusal}
-use Rattle.ideal_lane.specs.Loads.{load_translation}
+use Rattle.ideal_lane.specs.Loads.{is_coherent, limits_of}
 use Rattle.ideal_lane.specs.Outcomes.{is_loaded}
 use Rattle.ideal_lane.specs.State.{LaneState, LaneMap, LaneMemory, Stage, Idle, Waiting, Loaded, Returning}
+use Rattle.ideal_lane.specs.State.{WaitingLoad}
 use Rattle.ideal_lane.specs.Syncs.{bounced_in}
-use Rattle.ideal_lane.specs.Turns.{asked_at, asked_by, bio_at, never_waits, no_load}
 use Rattle.ideal_wire.specs.Centre.{IsAt}
 use Rattle.ideal_wire.specs.Laid.{is_loadable, IsLaid, IsAwaited, LiesIn, IsOwnByte, OfPages, OfMemory, AreLaid}
-use Rattle.ideal_wire.specs.Laid.{chunks_at, pages_alone}
+use Rattle.ideal_wire.specs.Laid.{AreInPages, in_pages}
 use Rattle.ideal_wire.specs.Traces.{stage_at, placed_from, traces_of}
 use Rattle.ideal_wire.proofs.Positions.{twin_of}
 use Rattle.ideal_wire.proofs.SyncedPositions.{decided}
@@ -67,82 +56,6 @@ pub record IsAlike (l l' : LaneState) (n : ℕ) : Type 0 where
   pub unlent : is_loaded (stage_at l n) ≡ false → loan_of l'.loans n ≡ loan_of l.loans n
   pub limits : KeepsLimits l l' n
 
--- a load of a bio, of a map that is that of a memory or not
-abbrev pub asked-with : Option LaneMemory → Bio → Bool → List Item → LaneState → Asked
-asked-with o b now items l = record {
-  judged =
-      judged (λ x. load_refusal (is_foreign_in b o l x.0 x.1) (load_translation l b x.1)) 0
-      (enumerate_from 0 (span_addresses (bio_spans b)));
-  entries = load_entries l b;
-  len = span_bytes (bio_spans b);
-  nowait = now;
-  items = items;
-}
-
-pub no-memory : (m : ℕ) → get (empty {X = LaneMemory} {R = nat_cmp}) m ≡ None
-no-memory m = get-empty nat_cmp m
-
--- what an operation asks of the driver's pages alone
-module _ (l l' : LaneState) (pages : l'.pages ≡ l.pages) where
-  alone-alike : (b : Bio) (now : Bool) (items : List Item) →
-      asked-with None b now items (pages_alone l') ≡ asked-with None b now items (pages_alone l)
-  alone-alike (Mapped span) now items =
-      λ i. asked-with None (Mapped span) now items (record (pages_alone l) { pages = pages i })
-  alone-alike (Vector spans) now items =
-      λ i. asked-with None (Vector spans) now items (record (pages_alone l) { pages = pages i })
-  alone-alike (Unmapped frames off len) now items = refl
-
-  bio-alike : (m : ℕ) (b : Bio) (now : Bool) (items : List Item) →
-      asked m b now items (pages_alone l') ≡ asked m b now items (pages_alone l)
-  bio-alike m b now items =
-      ap (λ o. asked-with o b now items (pages_alone l')) (no-memory m)
-      ∙ alone-alike b now items
-      ∙ sym (ap (λ o. asked-with o b now items (pages_alone l)) (no-memory m))
-
-  -- without memories a buffer has the same bio
-  alone-bio : (x : Buffer) → bio_at (pages_alone l') x ≡ bio_at (pages_alone l) x
-  alone-bio (buffer.Flat (At va) len) = refl
-  alone-bio (buffer.Flat (In mem off) len) = refl
-  alone-bio (buffer.Vector spans) = refl
-  alone-bio (buffer.Mbuf chain) = refl
-  alone-bio (buffer.Bio b) = refl
-
-  bios-alike : (m : ℕ) (o : Option Bio) (now : Bool) (items : List Item) →
-      option_map (λ b. asked m b now items (pages_alone l')) o
-      ≡ option_map (λ b. asked m b now items (pages_alone l)) o
-  bios-alike m None now items = refl
-  bios-alike m (Some b) now items = ap Some (bio-alike m b now items)
-
-  asked_by-alike : (o : Op) → asked_by o (pages_alone l') ≡ asked_by o (pages_alone l)
-  asked_by-alike (op.Load m x flags items) =
-      ap (option_map (λ b. asked m b (never_waits x flags) items (pages_alone l'))) (alone-bio x)
-      ∙ bios-alike m (bio_at (pages_alone l) x) (never_waits x flags) items
-  asked_by-alike (op.Tag name parent limits) = refl
-  asked_by-alike (op.TagDestroy tag) = refl
-  asked_by-alike (op.Map name tag) = refl
-  asked_by-alike (op.MapDestroy m) = refl
-  asked_by-alike (op.Dmamem name tag flags) = refl
-  asked_by-alike (op.DmamemFree mem) = refl
-  asked_by-alike (op.Unload m) = refl
-  asked_by-alike (op.Sync m ops) = refl
-  asked_by-alike (op.SyncRange m off len ops) = refl
-  asked_by-alike (op.CpuRead place len) = refl
-  asked_by-alike (op.CpuWrite place bytes) = refl
-  asked_by-alike (op.Await m) = refl
-
-  asked_in-alike : (o : Option Op) →
-      unwrap_or (option_and_then (λ p. asked_by p (pages_alone l')) o) (no_load (pages_alone l'))
-      ≡ unwrap_or (option_and_then (λ p. asked_by p (pages_alone l)) o) (no_load (pages_alone l))
-  asked_in-alike None = refl
-  asked_in-alike (Some p) = ap (λ q. unwrap_or q (no_load (pages_alone l))) (asked_by-alike p)
-
-  -- what a load at a place of the script asks
-  pub asked-alike : (k : ℕ) → l'.script ≡ l.script → asked_at k (pages_alone l') ≡ asked_at k (pages_alone l)
-  asked-alike k script =
-      ap (λ s. unwrap_or (option_and_then (λ p. asked_by p (pages_alone l')) (slice_get s k))
-      (no_load (pages_alone l')))
-      script ∙ asked_in-alike (slice_get l.script k)
-
 module _ (l l' : LaneState) (kept : KeepsScript l l') where
   pub loadable-alike : (o : Option LaneMemory) (a : ℕ) → is_loadable o l' a ≡ is_loadable o l a
   loadable-alike None a = ap (λ p. is_own p a) kept.pages
@@ -171,19 +84,17 @@ module _ (l l' : LaneState) (kept : KeepsScript l l') where
       trace = h.trace ∙ ap buses (sym traces-alike);
     }
 
-    chunks-alike : (o o' : LaneMap) (load_at : ℕ) → limits_of l' o' ≡ limits_of l o →
-        chunks_at l' o' load_at ≡ chunks_at l o load_at
-    chunks-alike o o' load_at limits =
-        λ i. chunks_of (limits i) (kept.maxmem i) (asked-alike l l' kept.pages load_at kept.script i).entries
-
-    awaited-alike : (load_at need : ℕ) → loan_of l'.loans n ≡ loan_of l.loans n → IsAwaited l n load_at need →
-        IsAwaited l' n load_at need
-    awaited-alike load_at need same h = record {
+    awaited-alike : (w : WaitingLoad) → loan_of l'.loans n ≡ loan_of l.loans n → IsAwaited l n w → IsAwaited l' n w
+    awaited-alike w same h = record {
       unlent = same ∙ h.unlent;
       some = h.some;
-      fine = ap (λ (x : Asked). x.judged) (asked-alike l l' kept.pages load_at kept.script) ∙ h.fine;
-      counted = λ o' e. let w = alike.limits o' e in
-          h.counted w.0 w.1 ∙ ap need_of (sym (chunks-alike w.0 o' load_at w.2));
+      named = subst (λ p. IsBioOf p w.bio) (sym kept.pages) h.named;
+      own = subst (λ p. AreInPages p w.bio) (sym kept.pages) h.own;
+      counted = λ o' e. let v = alike.limits o' e in
+          h.counted v.0 v.1
+          ∙ sym (λ i. need_of (chunks_of (v.2 i) (kept.maxmem i)
+          (entries_of (is_rounded w.bio) (in_pages (kept.pages i) w.bio) (bio_spans w.bio))));
+      told = λ s same. h.told s (same ∙ kept.script);
     }
 
     pub alike-lies : LiesIn l n (stage_at l n) → LiesIn l' n (stage_at l' n)
@@ -192,7 +103,7 @@ module _ (l l' : LaneState) (kept : KeepsScript l l') where
         by : (s : Stage) → (is_loaded s ≡ false → loan_of l'.loans n ≡ loan_of l.loans n) → LiesIn l n s →
             LiesIn l' n s
         by Idle same h = same refl ∙ h
-        by (Waiting load_at need) same h = awaited-alike load_at need (same refl) h
+        by (Waiting w) same h = awaited-alike w (same refl) h
         by (Loaded cs ss ps) same h = loaded-alike cs ss ps h
         by Returning same h = same refl ∙ h
 

@@ -39,11 +39,10 @@ use Rattle.ideal_lane.specs.Outcomes.{Outcome}
 use Rattle.ideal_lane.specs.Places.{is_memory_byte}
 use Rattle.ideal_lane.specs.Standing.{Stands}
 use Rattle.ideal_lane.specs.State.{LaneState, LaneMap, LaneMemory}
-use Rattle.ideal_lane.specs.Turns.{asked_at}
 use Rattle.ideal_lane.specs.Unloads.{pages_of}
 use Rattle.ideal_lane.specs.View.{view_of}
 use Rattle.ideal_wire.specs.Accepted.{HasPages, IfSegments, IsAccepted}
-use Rattle.ideal_wire.specs.Answered.{AreLoaded, bytes_named}
+use Rattle.ideal_wire.specs.Answered.{AreLoaded}
 use Rattle.ideal_wire.specs.Laid.{AreLaid}
 use Rattle.ideal_wire.specs.Machine.{IsInMachine}
 use Rattle.ideal_wire.specs.Traces.{stage_at, traces_of}
@@ -99,7 +98,11 @@ module _ (l : LaneState) (laid : AreLaid l) (machine : IsInMachine l) where
 
 -- ---- the end of a load that has its pages, of these bytes
 module _ (l : LaneState) (m : ℕ) (o : LaneMap) (there : get l.maps m ≡ Some o) (c : Bool)
-    (of-memory : contains_key l.mems m ≡ c) (x : Asked) (at : ℕ) (bytes : List ℕ) (pages : List ℕ) where
+    (of-memory : contains_key l.mems m ≡ c) (b : Bio) (now : Bool) (items : List Item) (at : ℕ) (bytes : List ℕ)
+    (pages : List ℕ) where
+  abbrev x : Asked
+  x = asked m b now items l
+
   abbrev t : TagLimits
   t = limits_of l o
 
@@ -116,14 +119,14 @@ module _ (l : LaneState) (m : ℕ) (o : LaneMap) (there : get l.maps m ≡ Some 
   pub ends-so : (nat_le (length ss) t.nsegments ≡ true → IsAccepted with-load m t bytes ending-chunks pages ss) →
       (after : LaneState → LaneState) → ((k : LaneState) → traces_of (after k) m ≡ traces_of k m) →
       ((k : LaneState) → stage_at (after k) m ≡ stage_at k m) →
-      bytes_named l at ≡ bytes → (asked_at at l).entries ≡ x.entries →
+      load_addresses l b ≡ bytes →
       IfSegments (finished m o at x ending-chunks pages l).answer
-      (AreLoaded l (after (finished m o at x ending-chunks pages l).lane) m at)
-  ends-so accepted after traces stages named entries =
+      (AreLoaded l (after (finished m o at x ending-chunks pages l).lane) m b)
+  ends-so accepted after traces stages named =
       by (nat_le (length ss) t.nsegments) refl
     where
-      chunks : ending-chunks ≡ chunks_for l o (contains_key l.mems m) (asked_at at l).entries
-      chunks = λ i. chunks_for l o (sym of-memory i) (sym entries i)
+      chunks : ending-chunks ≡ chunks_for l o (contains_key l.mems m) (load_entries l b)
+      chunks = ap (λ c. chunks_for l o c (load_entries l b)) (sym of-memory)
 
       held : pages ≡ pages_of (stage_at (after with-load) m)
       held = sym (ap pages_of (stages with-load ∙ stage-is l m o at x ending-chunks pages))
@@ -136,13 +139,13 @@ module _ (l : LaneState) (m : ℕ) (o : LaneMap) (there : get l.maps m ≡ Some 
         obeys = h.obeys;
       }
 
-      load-is : IsAccepted with-load m t bytes ending-chunks pages ss → AreLoaded l (after with-load) m at ss
+      load-is : IsAccepted with-load m t bytes ending-chunks pages ss → AreLoaded l (after with-load) m b ss
       load-is h = record {
         map = o;
         there = there;
         accepted =
             subst (λ bs. IsAccepted (after with-load) m t bs
-            (chunks_for l o (contains_key l.mems m) (asked_at at l).entries)
+            (chunks_for l o (contains_key l.mems m) (load_entries l b))
             (pages_of (stage_at (after with-load) m)) ss)
             (sym named)
             (subst (λ cs. IsAccepted (after with-load) m t bytes cs
@@ -155,7 +158,7 @@ module _ (l : LaneState) (m : ℕ) (o : LaneMap) (there : get l.maps m ≡ Some 
           IfSegments (Outcome.answer (if q then record { lane = with-load; answer = answer.Segments ss }
           else record { lane = unpaged m o pages l; answer = answer.Refused EFBIG }))
           (AreLoaded l (after (Outcome.lane (if q then record { lane = with-load; answer = answer.Segments ss }
-          else record { lane = unpaged m o pages l; answer = answer.Refused EFBIG }))) m at)
+          else record { lane = unpaged m o pages l; answer = answer.Refused EFBIG }))) m b)
       by true few = load-is (accepted few)
       by false many = tt
 
@@ -165,16 +168,13 @@ pub ends-answered : (l : LaneState) → AreLaid l → IsInMachine l → Stands l
     (at : ℕ) (now : Bool) (items : List Item) → load_judged l m b ≡ Fine → (pages : List ℕ) →
     (after : LaneState → LaneState) → ((k : LaneState) → traces_of (after k) m ≡ traces_of k m) →
     ((k : LaneState) → stage_at (after k) m ≡ stage_at k m) →
-    bytes_named l at ≡ load_addresses l b → (asked_at at l).entries ≡ load_entries l b →
     HasPages (limits_of l o) (chunks_for l o false (load_entries l b)) pages →
     IfSegments (finished m o at (asked m b now items l) (chunks_for l o false (load_entries l b)) pages l).answer
     (AreLoaded l
-    (after (finished m o at (asked m b now items l) (chunks_for l o false (load_entries l b)) pages l).lane) m at)
-ends-answered l laid machine stands m o there direct b named at now items fine pages after traces stages bytes entries
-    has =
-    ends-so l m o there false direct (asked m b now items l) at (load_addresses l b) pages
-    (accepted l laid machine stands m o there direct b named at now items fine pages has) after traces stages bytes
-    entries
+    (after (finished m o at (asked m b now items l) (chunks_for l o false (load_entries l b)) pages l).lane) m b)
+ends-answered l laid machine stands m o there direct b named at now items fine pages after traces stages has =
+    ends-so l m o there false direct b now items at (load_addresses l b) pages
+    (accepted l laid machine stands m o there direct b named at now items fine pages has) after traces stages refl
 
 -- of a load of a memory's own map, of which no byte bounces
 pub ends-memory : (l : LaneState) → AreLaid l → IsInMachine l → Stands l → (m : ℕ) (o : LaneMap)
@@ -182,15 +182,14 @@ pub ends-memory : (l : LaneState) → AreLaid l → IsInMachine l → Stands l �
     (items : List Item) → load_judged l m b ≡ Fine →
     (after : LaneState → LaneState) → ((k : LaneState) → traces_of (after k) m ≡ traces_of k m) →
     ((k : LaneState) → stage_at (after k) m ≡ stage_at k m) →
-    bytes_named l at ≡ load_addresses l b → (asked_at at l).entries ≡ load_entries l b →
     IfSegments (finished m o at (asked m b now items l) (chunks_for l o true (load_entries l b)) [] l).answer
     (AreLoaded l (after (finished m o at (asked m b now items l) (chunks_for l o true (load_entries l b)) [] l).lane)
-    m at)
-ends-memory l laid machine stands m o there y memory b at now items fine after traces stages bytes entries =
-    ends-so l m o there true (ap is_some memory) (asked m b now items l) at
+    m b)
+ends-memory l laid machine stands m o there y memory b at now items fine after traces stages =
+    ends-so l m o there true (ap is_some memory) b now items at
     (run_of y.first (span_bytes (bio_spans b))) []
     (memory-accepted l laid machine stands m o there y memory b at now items fine) after traces stages
-    (bytes ∙ memory-addresses l laid machine stands m o there y memory b fine) entries
+    (memory-addresses l laid machine stands m o there y memory b fine)
 
 -- ---- the pages that a callback brings
 module _ (l : LaneState) (a : Account) (agrees : AgreesWith l a) (low : PagesLieLow a) (each : EachFrame IsFrame a)

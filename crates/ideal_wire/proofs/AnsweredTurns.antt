@@ -1,7 +1,6 @@
 -- The segments that any turn answers are a load's bytes, in order, and obey its tag.
-use Rattle.std.proofs.Common.{◌≡◌, ℕ, ◌+◌, ◌==◌, Bool, true, false, if◌then◌else◌, List, [], ◌∷◌}
-use Rattle.std.proofs.Common.{length, Option, Some, None, is_some, slice_get, refl, ap, sym, ◌∙◌, subst, nat_lt}
-use Rattle.std.proofs.Common.{unwrap_or}
+use Rattle.std.proofs.Common.{◌≡◌, ℕ, ◌+◌, ◌==◌, Bool, true, false, if◌then◌else◌, List, [], length, Option, Some}
+use Rattle.std.proofs.Common.{None, is_some, refl, ap, sym, ◌∙◌, subst, unwrap_or}
 use Rattle.std.proofs.lemmas.Bool.{eqb-true, false≢true}
 use Rattle.std.specs.FinMap.{get, contains_key}
 use Rattle.std.specs.List.{AllByRecursion}
@@ -12,17 +11,11 @@ use Rattle.busdma_base.specs.declared.bounce.hold.HubReply.TheVariants as reply
 use Rattle.busdma_base.specs.declared.journals.answer.Answer.TheVariants as answer
 use Rattle.busdma_base.specs.declared.journals.journal.Did.TheVariants as did
 use Rattle.busdma_base.specs.declared.journals.journal.Side.{Side}
-use Rattle.busdma_base.specs.declared.journals.journal.Side.TheVariants as side
-use Rattle.busdma_base.specs.declared.journals.report.Judged.TheVariants.{Fine}
-use Rattle.busdma_base.specs.declared.journals.report.Report.{Report}
 use Rattle.busdma_base.specs.declared.machine.address.Pa.{Pa}
 use Rattle.busdma_base.specs.declared.machine.bio.Bio.{Bio}
 use Rattle.busdma_base.specs.declared.machine.chunk.Chunk.{Chunk}
 use Rattle.busdma_base.specs.declared.name.MapId.{MapId}
-use Rattle.busdma_base.specs.declared.scenarios.buffer.Buffer.{Buffer}
-use Rattle.busdma_base.specs.declared.scenarios.script.Item.{Item}
 use Rattle.busdma_base.specs.declared.scenarios.script.Op.{Op}
-use Rattle.busdma_base.specs.declared.scenarios.script.Op.TheVariants as op
 use Rattle.busdma_base.specs.Bounce.Account.{Account, zone_at}
 use Rattle.busdma_base.specs.Bounce.AccountStep.{account_step}
 use Rattle.busdma_base.specs.Bounce.EachFrame.{EachFrame}
@@ -30,46 +23,48 @@ use Rattle.busdma_base.specs.Bounce.Growth.{serves_tag}
 use Rattle.busdma_base.specs.Bounce.History.{IsFrame}
 use Rattle.busdma_base.specs.Bounce.LowPages.{PagesLieLow}
 use Rattle.busdma_base.specs.Scenarios.Buffers.{IsBioOf}
-use Rattle.busdma_base.specs.Scenarios.Operations.{bytes_of}
 use Rattle.lane_agreement.specs.After.{addresses}
 use Rattle.lane_agreement.specs.Agreement.{IsFit}
 use Rattle.lane_agreement.specs.View as view
-use Rattle.lane_agreement.specs.View.{Return}
 use Rattle.lane_agreement.proofs.Whole.{called-length, granted-length}
-use Rattle.lane_tables.specs.declared.queued.QueuedItem.{QueuedItem}
 use Rattle.segment_build.specs.Chunks.{need_of}
 use Rattle.segment_build.specs.Obeying.{IsReachable}
 use Rattle.ideal_lane.specs.Agreement.{AgreesWith}
-use Rattle.ideal_lane.specs.Asking.{Asking, Gives, Asks, goes_on}
-use Rattle.ideal_lane.specs.Loads.{Asked, asked, chunks_for, finished, granted, limits_of, load, load_chunks}
-use Rattle.ideal_lane.specs.Loads.{load_addresses, load_judged, zone_of}
-use Rattle.ideal_lane.specs.Outcomes.{Outcome, gives}
+use Rattle.ideal_lane.specs.Asking.{Asking, Gives, Asks, call_of, by_reply}
+use Rattle.ideal_lane.specs.Loads.{Asked, asked, chunks_for, finished, limits_of, zone_of}
+use Rattle.ideal_lane.specs.Outcomes.{Outcome}
 use Rattle.ideal_lane.specs.Standing.{Stands}
 use Rattle.ideal_lane.specs.State.{LaneState, LaneMap, LaneMemory, named}
-use Rattle.ideal_lane.specs.Turns.{Turned, operation, transfer, waits, asked_at, asked_by, bio_at, called, called_in}
-use Rattle.ideal_lane.specs.Turns.{called_back, lane_step, load_buffer, never_waits, no_load}
-use Rattle.ideal_lane.specs.Turns as turns
+use Rattle.ideal_lane.specs.Turns.{Turned, waits, called, called_in, lane_step, never_waits}
 use Rattle.ideal_lane.specs.View.{view_of}
 use Rattle.ideal_lane.proofs.Direct.{need-direct}
+use Rattle.ideal_lane.proofs.Effects.{Advances, AtOnce, Begins, Callback, Called, Calls, Granted, IsNext, IsQuiet}
+use Rattle.ideal_lane.proofs.Effects.{IsReplyOf, Leaves, Loads, Makes, NothingLeft, Operation, Overflows, Refuses}
+use Rattle.ideal_lane.proofs.Effects.{Releases, Same, Stays, Steps, Touched, Touches, Vain, Work, asks, chunks, grab}
+use Rattle.ideal_lane.proofs.Effects.{here, turn-steps}
 use Rattle.ideal_lane.proofs.Turning.{WaitsAt, waits-at}
 use Rattle.ideal_wire.specs.Accepted.{HasPages, IfSegments}
-use Rattle.ideal_wire.specs.Answered.{Load, AreAnswered, AreLoaded, AreOf, AnswersIn, AnswersLoads, bytes_named}
-use Rattle.ideal_wire.specs.Answered.{load_at}
-use Rattle.ideal_wire.specs.Answered.{loaded_by, waited_at}
-use Rattle.ideal_wire.specs.Laid.{AreLaid}
+use Rattle.ideal_wire.specs.Answered.{AreAnswered, AreLoaded, AreOf, AnswersIn, AnswersLoads}
+use Rattle.ideal_wire.specs.Answered.{load_at, loaded_by, waited_at}
+use Rattle.ideal_wire.specs.Laid.{AreLaid, IsAwaited}
 use Rattle.ideal_wire.specs.Machine.{IsInMachine}
 use Rattle.ideal_wire.specs.Served.{AreServed}
 use Rattle.ideal_wire.specs.Traces.{stage_in, stage_at}
 use Rattle.ideal_wire.proofs.AnsweredLoads.{callback-reachable, ends-answered, ends-memory, if-so, own-fine}
-use Rattle.ideal_wire.proofs.Buffers.{asks-bio, loads-from}
+use Rattle.ideal_wire.proofs.Buffers.{loads-from}
 use Rattle.ideal_wire.proofs.LaidTurns.{as-many, paged-again}
 use Rattle.ideal_wire.proofs.Pages.{granted-reachable}
 use Rattle.ideal_wire.proofs.Positions.{found_one}
-use Rattle.ideal_wire.proofs.QuietTurns.{Quiet, await-quiet, cpu_read-quiet, cpu_write-quiet, dmamem-quiet}
-use Rattle.ideal_wire.proofs.QuietTurns.{dmamem_free-quiet, map-quiet, map_destroy-quiet, sync-quiet, sync_range-quiet}
-use Rattle.ideal_wire.proofs.QuietTurns.{tag-quiet, tag_destroy-quiet, transfer-quiet, unload-quiet}
-use Rattle.ideal_wire.proofs.Refusing.{absent, judged, either, busy}
-use Rattle.ideal_wire.proofs.Waited.{Names, waited, waited-asked, waited-direct, waited-need, waited-own}
+use Rattle.ideal_wire.proofs.Waited.{waited-asked, waited-direct, waited-lies, waited-need, waited-own}
+use Rattle.busdma_base.specs.declared.bounce.hold.HubCall.{HubCall}
+use Rattle.busdma_base.specs.declared.journals.answer.Answer.{Answer}
+use Rattle.ideal_lane.proofs.Endings.{fitting, too_big}
+use Rattle.busdma_base.specs.declared.machine.address.Segment.{Segment}
+
+-- an answer without segments
+quiet : (x : Answer) (P : List Segment → Type 0) → IsQuiet x → IfSegments x P
+quiet (answer.Segments ss) P q = absurd q
+quiet _ P q = tt
 
 module _ (l : LaneState) (a : Account) (stands : Stands l) (agrees : AgreesWith l a) (fit : IsFit a)
     (frames : EachFrame IsFrame a) (low : PagesLieLow a) (served : AreServed l a) (machine : IsInMachine l)
@@ -81,174 +76,78 @@ module _ (l : LaneState) (a : Account) (stands : Stands l) (agrees : AgreesWith 
   abbrev Answers : Outcome → Type 0
   Answers x = IfSegments x.answer (λ ss. AreOf l (moved x.lane) (did.Op l.place) ss)
 
-  abbrev Keeps : Asking Outcome → Type 0
-  Keeps (Gives x) = Answers x
-  Keeps (Asks c k) = Answers (k (account_step l.id c a).reply)
-
-  quiet-keeps : (o : Asking Outcome) → Quiet l o → Keeps o
-  quiet-keeps (Gives x) h =
-      if-so x.answer (λ ss. ⊥) (λ ss. AreOf l (moved x.lane) (did.Op l.place) ss) (λ ss none. absurd none)
-      (h reply.Nothing)
-  quiet-keeps (Asks c k) h =
-      let x : Outcome = k (account_step l.id c a).reply in
-      if-so x.answer (λ ss. ⊥) (λ ss. AreOf l (moved x.lane) (did.Op l.place) ss) (λ ss none. absurd none)
-      (h (account_step l.id c a).reply)
-
-  reported : (x : Report) → Keeps (gives l (answer.Report x))
-  reported x = tt
-
   -- ---- the load of the next operation
-  module _ (m : ℕ) (buffer : Buffer) (flags : ℕ) (items : List Item)
-      (here : slice_get l.script l.place ≡ Some (op.Load m buffer flags items)) where
-    module _ (b : Bio) (named-b : bio_at l buffer ≡ Some b) where
-      is-bio : IsBioOf l.pages b
-      is-bio = loads-from l.pages l.script l.place m buffer flags items l b machine.bios here named-b
+  module _ {o : Op} (b : Begins l (Operation o)) (at : IsNext l (Operation o)) where
+    is-bio : IsBioOf l.pages b.bio
+    is-bio = loads-from l.pages l.script l.place b.m b.buffer b.flags b.items l b.bio machine.bios (here b at) b.found
 
-      abbrev x : Asked
-      x = asked m b (never_waits buffer flags) items l
+    load-here : load_at l l.place ≡ Some (record { map = b.m; bio = b.bio })
+    load-here =
+        ap (option_and_then (λ p. loaded_by p l)) (here b at)
+        ∙ ap (option_map (λ y. record { map = b.m; bio = y })) b.found
 
-      abbrev loaded : Bio → Load
-      loaded y = record { map = m; bytes = load_addresses l y }
+    abbrev ending : Bool → List ℕ → Outcome
+    ending memory pages = finished b.m b.o l.place (asks b) (chunks_for l b.o memory (asks b).entries) pages l
 
-      load-here : load_at l l.place ≡ Some (loaded b)
-      load-here = ap (option_and_then (λ p. loaded_by p l)) here ∙ ap (option_map loaded) named-b
+    -- of the load's map it is enough to say what is loaded
+    answers-load : (k : Outcome) → IfSegments k.answer (AreLoaded l (moved k.lane) b.m b.bio) → Answers k
+    answers-load k h =
+        if-so k.answer (AreLoaded l (moved k.lane) b.m b.bio) (λ ss. AreOf l (moved k.lane) (did.Op l.place) ss)
+        (λ ss g. subst (λ q. AreAnswered l (moved k.lane) q ss) (sym load-here) g) h
 
-      bytes-here : bytes_named l l.place ≡ load_addresses l b
-      bytes-here = ap (λ q. unwrap_or (option_map (λ (y : Load). y.bytes) q) []) load-here
+    -- of another map than a memory's own it ends with pages that the device reaches
+    direct-answers : get l.mems b.m ≡ None → (pages : List ℕ) →
+        HasPages (limits_of l b.o) (chunks_for l b.o false (asks b).entries) pages →
+        Answers (ending (contains_key l.mems b.m) pages)
+    direct-answers e pages has =
+        subst (λ c. Answers (ending c pages)) (sym (ap is_some e)) (answers-load (ending false pages)
+        (ends-answered l laid machine stands b.m b.o b.there (ap is_some e) b.bio is-bio l.place
+        (never_waits b.buffer b.flags) b.items b.fine pages moved (λ k. refl) (λ k. refl) has))
 
-      asked-here : asked_at l.place l ≡ x
-      asked-here =
-          ap (λ q. unwrap_or (option_and_then (λ p. asked_by p l) q) (no_load l)) here
-          ∙ ap (λ q. unwrap_or q (no_load l)) (asks-bio m buffer flags items l b named-b)
+    need-as : (q : Option LaneMemory) → get l.mems b.m ≡ q →
+        need_of (chunks b) ≡ need_of (chunks_for l b.o (is_some q) (asks b).entries)
+    need-as q e = ap (λ y. need_of (chunks_for l b.o (is_some y) (asks b).entries)) e
 
-      -- of the load's map it is enough to say what is loaded
-      answers-load : (k : Outcome) → IfSegments k.answer (AreLoaded l (moved k.lane) m l.place) → Answers k
-      answers-load k h =
-          if-so k.answer (AreLoaded l (moved k.lane) m l.place) (λ ss. AreOf l (moved k.lane) (did.Op l.place) ss)
-          (λ ss g. subst (λ q. AreAnswered l (moved k.lane) l.place q ss) (sym load-here) g) h
+    at-once : (need_of (chunks b) == 0) ≡ true → Answers (ending (contains_key l.mems b.m) [])
+    at-once none = by (get l.mems b.m) refl
+      where
+        by : (q : Option LaneMemory) → get l.mems b.m ≡ q → Answers (ending (contains_key l.mems b.m) [])
+        by None e =
+            direct-answers e []
+            (record { count = sym (eqb-true (need_of (chunks b)) 0 none) ∙ need-as None e; reachable = tt })
+        by (Some y) e =
+            subst (λ c. Answers (ending c [])) (sym (ap is_some e)) (answers-load (ending true [])
+            (ends-memory l laid machine stands b.m b.o b.there y e b.bio l.place (never_waits b.buffer b.flags) b.items
+            b.fine moved (λ k. refl) (λ k. refl)))
 
-      module _ (o : LaneMap) (there : get l.maps m ≡ Some o) (fine : load_judged l m b ≡ Fine) where
-        -- of a memory's own map it ends without pages
-        memory-answers : (y : LaneMemory) → get l.mems m ≡ Some y →
-            Keeps (load_chunks m o x (chunks_for l o true x.entries) l)
-        memory-answers y memory =
-            either l Keeps reported (need_of chunks == 0) (Gives (finished m o l.place x chunks [] l))
-            (Asks (call.Grab (named l m) (record { 0 = zone_of o }) (need_of chunks) x.nowait) (granted m o x chunks l))
-            (λ zero. answers-load (finished m o l.place x chunks [] l)
-            (ends-memory l laid machine stands m o there y memory b l.place (never_waits buffer flags) items fine moved
-            (λ k. refl) (λ k. refl) bytes-here (ap (λ (z : Asked). z.entries) asked-here)))
-            (λ some. absurd (false≢true (sym some ∙ ap (λ n. n == 0) none)))
-          where
-            chunks : List Chunk
-            chunks = chunks_for l o true x.entries
+    -- a map whose load needs pages has a zone, and so is no memory's
+    zoned : (need_of (chunks b) == 0) ≡ false → (q : Option ℕ) → b.o.zone ≡ q → is_some q ≡ true
+    zoned some (Some z) e = refl
+    zoned some None e =
+        absurd (false≢true (sym some ∙ ap (λ n. n == 0)
+        (need-direct l b.m b.o (asks b).entries (stands.each b.m b.o b.there) e)))
 
-            none : need_of chunks ≡ 0
-            none =
-                sym (ap (λ c. need_of (chunks_for l o c x.entries)) (ap is_some memory))
-                ∙ need-direct l m o x.entries (stands.each m o there)
-                ((stands.each m o there).memory (ap is_some memory))
-
-        -- of another map
-        module _ (direct : contains_key l.mems m ≡ false) where
-          abbrev chunks : List Chunk
-          chunks = chunks_for l o false x.entries
-
-          -- it ends with pages that the device reaches
-          ended-answers : (pages : List ℕ) → HasPages (limits_of l o) chunks pages →
-              Answers (finished m o l.place x chunks pages l)
-          ended-answers pages has =
-              answers-load (finished m o l.place x chunks pages l)
-              (ends-answered l laid machine stands m o there direct b is-bio l.place (never_waits buffer flags) items
-              fine pages moved
-              (λ k. refl) (λ k. refl) bytes-here (ap (λ (y : Asked). y.entries) asked-here) has)
-
-          by-reply : (z : ℕ) → o.zone ≡ Some z → (r : HubReply) →
-              (account_step l.id (call.Grab (named l m) (record {
-                0 =
-                    zone_of o;
-              }) (need_of chunks) x.nowait) a).reply ≡ r →
-              Answers (granted m o x chunks l r)
-          by-reply z zone (reply.Granted pages) e =
-              ended-answers (addresses pages) (record {
-                count = as-many pages ∙ granted-length (named l m) (zone_of o) (need_of chunks) x.nowait a pages e;
-                reachable =
-                    subst (AllByRecursion (IsReachable (limits_of l o))) (sym (paged-again pages))
-                    (granted-reachable (limits_of l o) a low frames (zone_of o) serves (named l m) (need_of chunks)
-                    x.nowait
-                    pages e);
-              })
-            where
-              zone-is : zone_of o ≡ z
-              zone-is = ap (λ q. unwrap_or q 0) zone
-
-              serves : serves_tag (limits_of l o) (zone_at a (zone_of o)) ≡ true
-              serves = ap (λ y. serves_tag (limits_of l o) (zone_at a y)) zone-is ∙ served m z o there zone
-          by-reply z zone (reply.Queued have) e = tt
-          by-reply z zone reply.Nothing e = tt
-          by-reply z zone (reply.Grown g) e = tt
-          by-reply z zone reply.NoPages e = tt
-          by-reply z zone (reply.Served n) e = tt
-          by-reply z zone (reply.Called k pages) e = tt
-          by-reply z zone (reply.Run first count) e = tt
-          by-reply z zone reply.NoRun e = tt
-
-          zoned : (q : Option ℕ) → o.zone ≡ q → (need_of chunks == 0) ≡ false →
-              Answers (granted m o x chunks l
-              (account_step l.id (call.Grab (named l m) (record { 0 = zone_of o }) (need_of chunks) x.nowait) a).reply)
-          zoned None zone some =
-              let none : need_of chunks ≡ 0 = sym (ap (λ c. need_of (chunks_for l o c x.entries)) direct)
-              ∙ need-direct l m o x.entries (stands.each m o there) zone in
-              absurd (false≢true (sym some ∙ ap (λ n. n == 0) none))
-          zoned (Some z) zone some = by-reply z zone _ refl
-
-          direct-answers : Keeps (load_chunks m o x chunks l)
-          direct-answers =
-              either l Keeps reported (need_of chunks == 0) (Gives (finished m o l.place x chunks [] l))
-              (Asks (call.Grab (named l m) (record { 0 = zone_of o }) (need_of chunks) x.nowait)
-              (granted m o x chunks l))
-              (λ none. ended-answers [] (record { count = sym (eqb-true (need_of chunks) 0 none); reachable = tt }))
-              (λ some. zoned o.zone refl some)
-
-        chunked : Keeps (load_chunks m o x (chunks_for l o (contains_key l.mems m) x.entries) l)
-        chunked = by (get l.mems m) refl
-          where
-            by : (q : Option LaneMemory) → get l.mems m ≡ q →
-                Keeps (load_chunks m o x (chunks_for l o (contains_key l.mems m) x.entries) l)
-            by None e =
-                subst (λ c. Keeps (load_chunks m o x (chunks_for l o c x.entries) l)) (sym (ap is_some e))
-                (direct-answers (ap is_some e))
-            by (Some y) e =
-                subst (λ c. Keeps (load_chunks m o x (chunks_for l o c x.entries) l)) (sym (ap is_some e))
-                (memory-answers y e)
-
-    load-answers : Keeps (load_buffer m buffer flags items l)
-    load-answers =
-        absent l Keeps reported (bio_at l buffer) (λ y. load m (asked m y (never_waits buffer flags) items l) l)
-        (λ b named-b.
-        busy l Keeps reported m _ (λ o there i.
-        judged l Keeps reported (load_judged l m b) _ (λ fine.
-        either l Keeps reported (nat_lt (limits_of l o).maxsize (x b named-b).len) _ _ (λ long. tt)
-        (λ short. chunked b named-b o there fine))))
-
-  operation-answers : (o : Op) → slice_get l.script l.place ≡ Some o → Keeps (operation o l)
-  operation-answers (op.Tag name parent limits) e =
-      quiet-keeps (operation (op.Tag name parent limits) l) (tag-quiet l parent limits)
-  operation-answers (op.TagDestroy t) e = quiet-keeps (operation (op.TagDestroy t) l) (tag_destroy-quiet l t)
-  operation-answers (op.Map name t) e = quiet-keeps (operation (op.Map name t) l) (map-quiet l t)
-  operation-answers (op.MapDestroy m) e = quiet-keeps (operation (op.MapDestroy m) l) (map_destroy-quiet l m)
-  operation-answers (op.Dmamem name t flags) e =
-      quiet-keeps (operation (op.Dmamem name t flags) l) (dmamem-quiet l t flags)
-  operation-answers (op.DmamemFree m) e = quiet-keeps (operation (op.DmamemFree m) l) (dmamem_free-quiet l m)
-  operation-answers (op.Load m buffer flags items) e = load-answers m buffer flags items e
-  operation-answers (op.Unload m) e = quiet-keeps (operation (op.Unload m) l) (unload-quiet l m)
-  operation-answers (op.Sync m ops) e = quiet-keeps (operation (op.Sync m ops) l) (sync-quiet l m ops)
-  operation-answers (op.SyncRange m off len ops) e =
-      quiet-keeps (operation (op.SyncRange m off len ops) l) (sync_range-quiet l m off len ops)
-  operation-answers (op.CpuRead place len) e =
-      quiet-keeps (operation (op.CpuRead place len) l) (cpu_read-quiet l place len)
-  operation-answers (op.CpuWrite place bytes) e =
-      quiet-keeps (operation (op.CpuWrite place bytes) l) (cpu_write-quiet l place (bytes_of bytes))
-  operation-answers (op.Await m) e = quiet-keeps (operation (op.Await m) l) (await-quiet l m)
+    by-grant : (need_of (chunks b) == 0) ≡ false → (pages : List Pa) →
+        (account_step l.id (grab b) a).reply ≡ reply.Granted pages →
+        Answers (ending (contains_key l.mems b.m) (addresses pages))
+    by-grant some pages e = by b.o.zone refl (get l.mems b.m) refl
+      where
+        by : (z : Option ℕ) → b.o.zone ≡ z → (q : Option LaneMemory) → get l.mems b.m ≡ q →
+            Answers (ending (contains_key l.mems b.m) (addresses pages))
+        by None zone q f = absurd (false≢true (zoned some None zone))
+        by (Some z) zone (Some y) f =
+            absurd (false≢true (zoned some None ((stands.each b.m b.o b.there).memory (ap is_some f))))
+        by (Some z) zone None f =
+            direct-answers f (addresses pages) (record {
+              count = as-many pages
+                  ∙ granted-length (named l b.m) (zone_of b.o) (need_of (chunks b)) (asks b).nowait a pages e
+                  ∙ need-as None f;
+              reachable =
+                  subst (AllByRecursion (IsReachable (limits_of l b.o))) (sym (paged-again pages))
+                  (granted-reachable (limits_of l b.o) a low frames (zone_of b.o)
+                  (ap (λ y. serves_tag (limits_of l b.o) (zone_at a y)) (ap (λ q. unwrap_or q 0) zone)
+                  ∙ served b.m z b.o b.there zone) (named l b.m) (need_of (chunks b)) (asks b).nowait pages e);
+            })
 
   -- ---- the callback of a load that waited
   module _ (m : MapId) (pages : List Pa) (e : (account_step l.id call.TakeCallback a).reply ≡ reply.Called m pages)
@@ -256,38 +155,38 @@ module _ (l : LaneState) (a : Account) (stands : Stands l) (agrees : AgreesWith 
       abbrev k : ℕ
       k = m.made_at
 
+      -- the load for which the map waited is loaded
+      abbrev AreCalled : LaneState → List Segment → Type 0
+      AreCalled after ss = AreOf l after (did.Callback m) ss
+
       at-map : (z need : ℕ) → length pages ≡ need → WaitsAt l k z need →
           IfSegments (called k (get l.maps k) (addresses pages) l).answer
-          (AreLoaded l (called k (get l.maps k) (addresses pages) l).lane k (waited_at (stage_at l k)))
+          (AreCalled (called k (get l.maps k) (addresses pages) l).lane)
       at-map z need count w =
           subst (λ y. IfSegments (called k y (addresses pages) l).answer
-          (AreLoaded l (called k y (addresses pages) l).lane k (waited_at (stage_at l k)))) (sym w.found)
+          (AreCalled (called k y (addresses pages) l).lane)) (sym w.found)
           (subst (λ s. IfSegments (called_in k w.map s (addresses pages) l).answer
-          (AreLoaded l (called_in k w.map s (addresses pages) l).lane k (waited_at (stage_at l k)))) (sym w.stage)
-          (subst (λ p. IfSegments ends.answer (AreLoaded l ends.lane k p)) (sym place)
-          (subst Ends (sym (n.is l refl)) ended)))
+          (AreCalled (called_in k w.map s (addresses pages) l).lane)) (sym w.stage)
+          (if-so ends.answer (AreLoaded l ends.lane k b) (AreCalled ends.lane) (λ ss h. (b, told, h)) ended))
         where
-          n : Names w.load_at l
-          n = waited l stands laid machine k z need w
+          b : Bio
+          b = w.load.bio
+
+          lies : IsAwaited l k w.load
+          lies = waited-lies l stands laid k z need w
 
           x : Asked
-          x = waited-asked l stands laid machine k z need w
-
-          ending : Asked → Outcome
-          ending y = finished k w.map w.load_at y (chunks_for l w.map (contains_key l.mems k) y.entries)
-              (addresses pages) l
+          x = waited-asked l stands laid k z need w
 
           ends : Outcome
-          ends = ending (asked_at w.load_at l)
+          ends = finished k w.map w.load.load_at x (chunks_for l w.map (contains_key l.mems k) x.entries)
+              (addresses pages) l
 
-          place : waited_at (stage_at l k) ≡ w.load_at
-          place = ap waited_at (ap stage_in w.found ∙ w.stage)
-
-          Ends : Asked → Type 0
-          Ends y = IfSegments (ending y).answer (AreLoaded l (ending y).lane k w.load_at)
+          told : load_at l (waited_at (stage_at l k)) ≡ Some (record { map = k; bio = b })
+          told = ap (λ s. load_at l (waited_at s)) (ap stage_in w.found ∙ w.stage) ∙ lies.told l refl
 
           none : get l.mems k ≡ None
-          none = waited-direct l stands laid machine k z need w
+          none = waited-direct l stands laid k z need w
 
           serves : (y j : ℕ) → (view_of l).map_at k ≡ Some (record { zone = y; stage = view.Waiting j }) →
               serves_tag (limits_of l w.map) (zone_at a y) ≡ true
@@ -298,73 +197,81 @@ module _ (l : LaneState) (a : Account) (stands : Stands l) (agrees : AgreesWith 
 
           has : HasPages (limits_of l w.map) (chunks_for l w.map false x.entries) (addresses pages)
           has = record {
-            count = as-many pages ∙ count ∙ waited-need l stands laid machine k z need w;
+            count = as-many pages ∙ count ∙ waited-need l stands laid k z need w;
             reachable =
                 subst (AllByRecursion (IsReachable (limits_of l w.map))) (sym (paged-again pages))
                 (callback-reachable l a agrees low frames (limits_of l w.map) m pages serves e);
           }
 
-          ended : Ends x
+          ended : IfSegments ends.answer (AreLoaded l ends.lane k b)
           ended =
-              subst (λ b. IfSegments (finished k w.map w.load_at x (chunks_for l w.map b x.entries) (addresses pages)
-              l).answer
-              (AreLoaded l (finished k w.map w.load_at x (chunks_for l w.map b x.entries) (addresses pages) l).lane k
-              w.load_at)) (sym (ap is_some none))
-              (ends-answered l laid machine stands k w.map w.found (ap is_some none) n.bio n.named w.load_at n.now
-              n.items
-              (own-fine l laid machine k n.bio none (waited-own l stands laid machine k z need w))
-              (addresses pages) (λ s. s) (λ s. refl) (λ s. refl) n.bytes
-              (ap (λ (y : Asked). y.entries) (n.is l refl)) has)
+              subst (λ c. IfSegments (finished k w.map w.load.load_at x (chunks_for l w.map c x.entries)
+              (addresses pages) l).answer
+              (AreLoaded l (finished k w.map w.load.load_at x (chunks_for l w.map c x.entries) (addresses pages) l).lane
+              k b)) (sym (ap is_some none))
+              (ends-answered l laid machine stands k w.map w.found (ap is_some none) b lies.named w.load.load_at false
+              w.load.items
+              (own-fine l laid machine k b none (waited-own l stands laid k z need w))
+              (addresses pages) (λ s. s) (λ s. refl) (λ s. refl) has)
 
       called-answers : IfSegments (called k (get l.maps k) (addresses pages) l).answer
-          (AreLoaded l (called k (get l.maps k) (addresses pages) l).lane k (waited_at (stage_at l k)))
+          (AreCalled (called k (get l.maps k) (addresses pages) l).lane)
       called-answers =
           let c = called-length (view_of l) a.ready a m pages fit.well agrees refl e in
           at-map c.2 c.0 c.4 (waits-at l k c.2 c.0 c.3)
 
+  -- ---- each effect
+  touches-quiet : {d : Work} {x : Outcome} (P : List Segment → Type 0) → Touches l d x → IfSegments x.answer P
+  touches-quiet P (Same v q u) = quiet v P q
+  touches-quiet P _ = tt
+
+  makes-answer : {o : Op} {c : Option HubCall} {r : HubReply} {x : Outcome} → IsNext l (Operation o) →
+      IsReplyOf l.id a c r → Makes l (Operation o) c r x → Answers x
+  makes-answer at e (Touched t) = touches-quiet _ t
+  makes-answer at e (Vain v x q) = quiet x _ q
+  makes-answer at e (Loads (AtOnce b none) f) =
+      subst (λ y. Answers (if y then fitting l b.m b.o l.place (asks b) (chunks b) []
+      else too_big l b.m b.o l.place (asks b) (chunks b) [])) f (at-once b at none)
+  makes-answer at e (Loads (Granted b some pages) f) =
+      subst (λ y. Answers (if y then fitting l b.m b.o l.place (asks b) (chunks b) (addresses pages)
+      else too_big l b.m b.o l.place (asks b) (chunks b) (addresses pages))) f (by-grant b at some pages e)
+  makes-answer at e _ = tt
+
+  callback-answers : {n m : MapId} {pages : List Pa} {x : Outcome} →
+      (account_step l.id call.TakeCallback a).reply ≡ reply.Called m pages →
+      Makes l (Callback n) (Some call.TakeCallback) (reply.Called m pages) x →
+      IfSegments x.answer (λ ss. AreOf l x.lane (did.Callback m) ss)
+  callback-answers e (Vain v x q) = quiet x _ q
+  callback-answers e (Refuses b over x) = elim over [ ]
+  callback-answers e (Overflows k f) = tt
+  callback-answers e (Loads (Called m pages o v there waits) f) =
+      subst (λ y. Ended (if y then fitting l m.made_at o v.load_at x (cut o) (addresses pages)
+      else too_big l m.made_at o v.load_at x (cut o) (addresses pages))) f
+      (subst (λ s. Ended (called_in m.made_at o s (addresses pages) l)) waits
+      (subst (λ y. Ended (called m.made_at y (addresses pages) l)) there (called-answers m pages e)))
+    where
+      x : Asked
+      x = asked m.made_at v.bio false v.items l
+
+      cut : LaneMap → List Chunk
+      cut y = chunks_for l y (contains_key l.mems m.made_at) x.entries
+
+      Ended : Outcome → Type 0
+      Ended y = IfSegments y.answer (λ ss. AreOf l y.lane (did.Callback m) ss)
+
   -- ---- the turn
-  then-answers : (o : Asking Outcome) → Keeps o → AnswersLoads l a (goes_on (turns.advanced l.place) o)
-  then-answers (Gives x) g = g
-  then-answers (Asks c k) g = g
-
-  next-answers : (o : Option Op) → slice_get l.script l.place ≡ o → AnswersLoads l a (turns.next_operation o l)
-  next-answers None e = tt
-  next-answers (Some o) e = by (waits o l)
-    where
-      by : (b : Bool) → AnswersLoads l a (if b then Gives (turns.stays turns.Blocked l)
-          else goes_on (turns.advanced l.place) (operation o l))
-      by true = tt
-      by false = then-answers (operation o l) (operation-answers o e)
-
-  script-answers : (rs : List Return) → AnswersLoads l a (turns.script_turn rs l)
-  script-answers [] = next-answers (slice_get l.script l.place) refl
-  script-answers (r ∷ rest) = tt
-
-  item-answers : (q : QueuedItem) (rest : List QueuedItem) (o : Asking Outcome) → Quiet l o →
-      AnswersLoads l a (goes_on (turns.left_queue q rest) o)
-  item-answers q rest (Gives x) h = h reply.Nothing
-  item-answers q rest (Asks c k) h = h (account_step l.id c a).reply
-
-  queue-answers : (q : List QueuedItem) → AnswersLoads l a (turns.transfer_turn q l)
-  queue-answers [] = tt
-  queue-answers (q ∷ rest) = item-answers q rest (transfer q.item l) (transfer-quiet l q.item)
-
-  callback-answers : AnswersLoads l a (turns.callback_turn l)
-  callback-answers = by (account_step l.id call.TakeCallback a).reply refl
-    where
-      by : (r : HubReply) → (account_step l.id call.TakeCallback a).reply ≡ r →
-          AnswersIn l (called_back l r).lane (called_back l r).turn
-      by (reply.Called m pages) e = called-answers m pages e
-      by reply.Nothing e = tt
-      by (reply.Grown g) e = tt
-      by (reply.Granted pages) e = tt
-      by (reply.Queued have) e = tt
-      by reply.NoPages e = tt
-      by (reply.Served n) e = tt
-      by (reply.Run first count) e = tt
-      by reply.NoRun e = tt
+  steps-answer : {s : Side} {c : Option HubCall} {r : HubReply} {t : Turned} → IsReplyOf l.id a c r →
+      Steps l s c r t → AnswersIn l t.lane t.turn
+  steps-answer e (Stays t NothingLeft) = tt
+  steps-answer e (Stays t _) = tt
+  steps-answer e (Advances o at free m) = makes-answer at e m
+  steps-answer e (Leaves q rest is t) = touches-quiet _ t
+  steps-answer e (Releases q rest is y there) = tt
+  steps-answer e (Calls m pages k) = callback-answers e k
 
   pub turn-answers : (s : Side) → AnswersLoads l a (lane_step l s)
-  turn-answers side.Script = script-answers l.returns
-  turn-answers side.Transfer = queue-answers l.queue
-  turn-answers side.Callback = callback-answers
+  turn-answers s = by (lane_step l s) (turn-steps l s)
+    where
+      by : (x : Asking Turned) → ((r : HubReply) → Steps l s (call_of x) r (by_reply x r)) → AnswersLoads l a x
+      by (Gives t) h = steps-answer tt (h reply.Nothing)
+      by (Asks c k) h = steps-answer refl (h (account_step l.id c a).reply)

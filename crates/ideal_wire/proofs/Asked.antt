@@ -3,9 +3,8 @@ use Rattle.std.proofs.Common.{◌≡◌, ℕ, zero, suc, ◌+◌, ◌-◌, ◌==
 use Rattle.std.proofs.Common.{if◌then◌else◌, List, [], ◌∷◌, ◌++◌, map, length, Option, Some, None, is_some}
 use Rattle.std.proofs.Common.{refl, ap, sym, ◌∙◌, subst, unwrap_or}
 use Rattle.std.proofs.lemmas.Bool.{false≢true}
-use Rattle.std.specs.FinMap.{FinMap, empty, get, entries, entries_sorted, get-entries}
+use Rattle.std.specs.FinMap.{get}
 use Rattle.std.specs.List.{AllByRecursion, enumerate_from}
-use Rattle.std.specs.Ordering.{nat_cmp}
 use Rattle.busdma_base.specs.declared.journals.report.Judged.TheVariants.{Fine}
 use Rattle.busdma_base.specs.declared.journals.report.ReportName.{ReportName}
 use Rattle.busdma_base.specs.declared.machine.address.Span.{Span}
@@ -20,7 +19,7 @@ use Rattle.busdma_base.specs.Machine.Spans.{bio_spans, span_addresses}
 use Rattle.busdma_base.specs.Runs.{run_of}
 use Rattle.busdma_base.specs.Scenarios.Buffers.{IsBioOf}
 use Rattle.busdma_base.specs.Tags.Tag.{IsEffective}
-use Rattle.load_bio.specs.Bio.{bio_translation, is_rounded}
+use Rattle.load_bio.specs.Bio.{is_rounded}
 use Rattle.phys_memory.specs.Extents.{reached, then_reached}
 use Rattle.phys_memory.specs.Translation.{Translation, physical_or_0}
 use Rattle.phys_memory.specs.Vector.{entries_of, with_entry}
@@ -30,16 +29,14 @@ use Rattle.segment_build.specs.Chunks.{chunks_of, need_of}
 use Rattle.segment_build.specs.Trace.{IsPage}
 use Rattle.ideal_lane.specs.Loads.{is_foreign_in, is_foreign_to, limits_of, load_entries, load_judged, load_refusal}
 use Rattle.ideal_lane.specs.Loads.{load_translation}
-use Rattle.ideal_lane.specs.Places.{is_in_memory, is_memory_byte, or_in_memory, physical}
+use Rattle.ideal_lane.specs.Places.{is_memory_byte, or_in_memory, physical}
 use Rattle.ideal_lane.specs.Standing.{Stands}
-use Rattle.ideal_lane.specs.State.{LaneState, LaneMap, LaneMemory}
-use Rattle.ideal_wire.specs.Laid.{is_loadable, AreLaid, pages_alone}
+use Rattle.ideal_lane.specs.State.{LaneState, LaneMap}
+use Rattle.ideal_wire.specs.Laid.{is_loadable, AreInPages, AreLaid}
 use Rattle.ideal_wire.specs.Machine.{IsInMachine}
 use Rattle.ideal_wire.proofs.Accepting.{limits-effective}
-use Rattle.ideal_wire.proofs.Alike.{no-memory}
 use Rattle.ideal_wire.proofs.Bios.{AreOfPages, IsOfPages, bio-paged, bio_places, pages-own, pages_translation}
 use Rattle.ideal_wire.proofs.Bios.{with-pages}
-use Rattle.ideal_wire.proofs.Lent.{any_entry}
 use Rattle.ideal_wire.proofs.LoadLaid.{IsReady, ready}
 use Rattle.ideal_wire.proofs.Reaching.{AllReached, all-from, each-byte, entries-bytes}
 
@@ -135,38 +132,24 @@ module _ (l : LaneState) (outside : (va p : ℕ) → physical_in l.pages va ≡ 
       (λ x r i. load_refusal (not-foreign b x.0 x.1 r.0 r.1 i) (with-pages l b x.1 r.0 r.1 i))
       (enumerate_from 0 (bio_places b)) (enumerated (IsOfPages l b) 0 (bio_places b) own))
 
-module _ (l : LaneState) where
-  -- without memories no byte is one of a memory
-  alone-outside : (va : ℕ) → is_memory_byte (pages_alone l) va ≡ false
-  alone-outside va = by (is_memory_byte (pages_alone l) va) refl
-    where
-      none : (b : Bool) → is_memory_byte (pages_alone l) va ≡ b → b ≡ true → ⊥
-      none b e t =
-          let x = any_entry (λ q. is_in_memory va q.1) (entries empty-map) (entries_sorted empty-map) (e ∙ t) in
-          let there : get empty-map x.key ≡ Some x.value = get-entries empty-map x.key ∙ x.found in
-          let gone : None ≡ Some x.value = sym (no-memory x.key) ∙ there in
-          absurd (cc)
-        where
-          empty-map : FinMap nat_cmp LaneMemory
-          empty-map = empty
+-- the entries of bytes of the driver's pages are those by the pages alone
+pub pages-entries : (l : LaneState) (b : Bio) → AreOfPages l b →
+    entries_of (is_rounded b) (pages_translation l b) (bio_spans b) ≡ load_entries l b
+pages-entries l b own =
+    same-entries (pages_translation l b) (load_translation l b) (is_rounded b) (bio_spans b)
+    (all-of (IsOfPages l b) _ (λ va r. r.1 ∙ sym (with-pages l b va r.0 r.1)) (bio_places b) own)
 
-      by : (b : Bool) → is_memory_byte (pages_alone l) va ≡ b → b ≡ false
-      by true e = absurd (none true e refl)
-      by false e = refl
+-- such bytes are so, and the other way round
+pub are-in-pages : (l : LaneState) (b : Bio) → AreOfPages l b → AreInPages l.pages b
+are-in-pages l b own = all-of (IsOfPages l b) _ (λ va r. ap is_some r.1) (bio_places b) own
 
-  -- the entries of bytes of its pages are the same for each driver with these pages
-  pub pages-entries : (k : LaneState) → k.pages ≡ l.pages → (b : Bio) → AreOfPages l b →
-      load_entries k b ≡ load_entries l b
-  pages-entries k same b own =
-      same-entries (load_translation k b) (load_translation l b) (is_rounded b) (bio_spans b)
-      (all-of (IsOfPages l b) (λ va. load_translation k b va ≡ load_translation l b va)
-      (λ va r. with-pages k b va r.0 ((λ i. bio_translation (physical_in (same i)) b va) ∙ r.1)
-      ∙ sym (with-pages l b va r.0 r.1))
-      (bio_places b) own)
-
-  -- they are judged fine without its memories
-  pub alone-fine : (m : ℕ) (b : Bio) → AreOfPages l b → load_judged (pages_alone l) m b ≡ Fine
-  alone-fine m b own = pages-fine (pages_alone l) (λ va p e. alone-outside va) m b (no-memory m) own
+pub of-pages : (l : LaneState) (b : Bio) → AreInPages l.pages b → AreOfPages l b
+of-pages l b own = all-of _ (IsOfPages l b) (λ va s. by va (pages_translation l b va) refl s) (bio_places b) own
+  where
+    by : (va : ℕ) (o : Option ℕ) → pages_translation l b va ≡ o → is_some (pages_translation l b va) ≡ true →
+        IsOfPages l b va
+    by va None e s = let gone : false ≡ true = sym (ap is_some e) ∙ s in absurd (false≢true gone)
+    by va (Some p) e s = (p, e)
 
 -- ---- loads that can end
 module _ (l : LaneState) (laid : AreLaid l) (machine : IsInMachine l) (stands : Stands l) (m : ℕ) (o : LaneMap)

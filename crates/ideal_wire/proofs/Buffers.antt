@@ -1,5 +1,5 @@
 -- The bio of a buffer, and what an operation asks that loads one.
-use Rattle.std.proofs.Common.{◌≡◌, ℕ, zero, suc, List, [], ◌∷◌, Option, Some, None, slice_get, refl, ap, subst}
+use Rattle.std.proofs.Common.{◌≡◌, ℕ, zero, suc, List, [], ◌∷◌, Option, Some, None, slice_get, refl, subst}
 use Rattle.std.specs.List.{AllByRecursion}
 use Rattle.std.specs.Option.{option_map}
 use Rattle.busdma_base.specs.declared.machine.bio.Bio.{Bio}
@@ -13,10 +13,9 @@ use Rattle.busdma_base.specs.declared.scenarios.script.Op.TheVariants as op
 use Rattle.busdma_base.specs.declared.scenarios.script.Place.TheVariants.{At, In}
 use Rattle.busdma_base.specs.Scenarios.Buffers.{IsBioOf, IsBufferOf}
 use Rattle.busdma_base.specs.Scenarios.Valid.{LoadsFrom}
-use Rattle.ideal_lane.specs.Loads.{asked}
 use Rattle.ideal_lane.specs.Places.{virtual_at}
 use Rattle.ideal_lane.specs.State.{LaneState}
-use Rattle.ideal_lane.specs.Turns.{asked_by, bio_at, flat_bio, never_waits}
+use Rattle.ideal_lane.specs.Turns.{bio_at, flat_bio}
 use Rattle.ideal_wire.proofs.Positions.{found_one}
 
 -- what holds of each thing holds of that at a place
@@ -51,11 +50,6 @@ told (buffer.Flat (In mem off) len) = Within mem off len refl
 told (buffer.Vector spans) = Alone (bio.Vector spans) (λ l. refl)
 told (buffer.Mbuf chain) = Alone (bio.Vector chain) (λ l. refl)
 told (buffer.Bio b) = Alone b (λ l. refl)
-
--- the load of a buffer asks what that of its bio asks
-pub asks-bio : (m : ℕ) (x : Buffer) (flags : ℕ) (items : List Item) (l : LaneState) (b : Bio) → bio_at l x ≡ Some b →
-    asked_by (op.Load m x flags items) l ≡ Some (asked m b (never_waits x flags) items l)
-asks-bio m x flags items l b e = ap (option_map (λ c. asked m c (never_waits x flags) items l)) e
 
 -- the load at a place of the script has a bio of frames of these pages
 pub loads-from : (pages : List PageRun) (script : List Op) (k m : ℕ) (x : Buffer) (flags : ℕ) (items : List Item)

@@ -1,42 +1,50 @@
 -- Syncs and writes leave the wire faithful.
-use Rattle.std.proofs.Common.{ℕ, List, length, refl}
+use Rattle.std.proofs.Common.{ℕ, List, refl}
 use Rattle.busdma_base.specs.declared.bounce.hold.HubReply.{HubReply}
 use Rattle.busdma_base.specs.declared.scenarios.script.Place.{Place}
-use Rattle.busdma_base.specs.Machine.Wire.{Wire, put}
+use Rattle.busdma_base.specs.Machine.Wire.{Wire}
 use Rattle.ideal_lane.specs.Accesses.{cpu_write, dev_write}
-use Rattle.ideal_lane.specs.Asking.{Asking, by_reply}
-use Rattle.ideal_lane.specs.Outcomes.{Outcome, load_length}
+use Rattle.ideal_lane.specs.Asking.{Asking, by_reply, Gives, Asks}
+use Rattle.ideal_lane.specs.Outcomes.{Outcome}
 use Rattle.ideal_lane.specs.State.{LaneState}
 use Rattle.ideal_lane.specs.Syncs as syncs
+use Rattle.ideal_lane.proofs.Effects.{Only, Operation, Transfer, Work, cpu_write-touches, dev_write-touches}
+use Rattle.ideal_lane.proofs.Effects.{transfer-touches}
 use Rattle.ideal_wire.specs.Apart.{IsApart}
 use Rattle.ideal_wire.specs.Centre.{IsFaithful}
 use Rattle.ideal_wire.specs.Laid.{AreLaid}
 use Rattle.ideal_wire.specs.WireStep as wire
-use Rattle.ideal_wire.specs.WireStep.{if_done, load_buses, place_bytes}
-use Rattle.ideal_wire.proofs.Wiring.{Stays, sync-stays, sync_range-stays, cpu_write-stays, dev_write-stays}
+use Rattle.ideal_wire.specs.WireStep.{if_done}
+use Rattle.ideal_wire.proofs.Wiring.{now, touches-stay}
+use Rattle.busdma_base.specs.declared.scenarios.script.Item.TheVariants as item
+use Rattle.busdma_base.specs.declared.scenarios.script.Op.TheVariants as op
+use Rattle.busdma_base.specs.declared.scenarios.script.Bytes.TheVariants as bytes
 
 module _ (l : LaneState) (w : Wire) (apart : IsApart l) (laid : AreLaid l) (f : IsFaithful l w) where
   -- nothing came and nothing went
-  alone : (now : Wire) (o : Asking Outcome) → Stays l w apart laid f now o → (r : HubReply) →
-      IsFaithful (by_reply o r).lane (if_done o now w)
-  alone now o stays r = stays r (if_done o now w) (λ b x y. refl) (λ m b x y. refl)
+  alone : (d : Work) (o : Asking Outcome) → Only l d o → (r : HubReply) →
+      IsFaithful (by_reply o r).lane (if_done o (now l w apart laid f d) w)
+  alone d (Gives x) h r = touches-stay l w apart laid f h _ (λ b x y. refl) (λ m b x y. refl)
+  alone d (Asks c k) h r = absurd h
 
   pub sync-faithful : (m ops : ℕ) (r : HubReply) →
       IsFaithful (by_reply (syncs.sync m ops l) r).lane (wire.sync m ops l w)
-  sync-faithful m ops = alone (wire.synced m 0 (load_length l m) ops l w) (syncs.sync m ops l)
-      (sync-stays l w apart laid f m ops)
+  sync-faithful m ops = alone (Transfer (item.Sync m ops)) (syncs.sync m ops l) (transfer-touches l (item.Sync m ops))
 
   pub sync_range-faithful : (m off len ops : ℕ) (r : HubReply) →
       IsFaithful (by_reply (syncs.sync_range m off len ops l) r).lane (wire.sync_range m off len ops l w)
-  sync_range-faithful m off len ops = alone (wire.synced m off len ops l w) (syncs.sync_range m off len ops l)
-      (sync_range-stays l w apart laid f m off len ops)
+  sync_range-faithful m off len ops =
+      alone (Transfer (item.SyncRange m off len ops)) (syncs.sync_range m off len ops l)
+      (transfer-touches l (item.SyncRange m off len ops))
 
   pub cpu_write-faithful : (place : Place) (vs : List ℕ) (r : HubReply) →
       IsFaithful (by_reply (cpu_write place vs l) r).lane (wire.cpu_write place vs l w)
-  cpu_write-faithful place vs = alone (put (place_bytes l place (length vs)) vs w) (cpu_write place vs l)
-      (cpu_write-stays l w apart laid f place vs)
+  cpu_write-faithful place vs =
+      alone (Operation (op.CpuWrite place (bytes.Listed vs))) (cpu_write place vs l)
+      (cpu_write-touches l place (bytes.Listed vs))
 
   pub dev_write-faithful : (m off : ℕ) (vs : List ℕ) (r : HubReply) →
       IsFaithful (by_reply (dev_write m off vs l) r).lane (wire.dev_write m off vs l w)
-  dev_write-faithful m off vs = alone (put (load_buses l m off (length vs)) vs w) (dev_write m off vs l)
-      (dev_write-stays l w apart laid f m off vs)
+  dev_write-faithful m off vs =
+      alone (Transfer (item.DevWrite m off (bytes.Listed vs))) (dev_write m off vs l)
+      (dev_write-touches l m off (bytes.Listed vs))

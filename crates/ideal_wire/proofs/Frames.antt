@@ -295,7 +295,7 @@ module _ (l : LaneState) (a : Account) (agrees : AgreesWith l a) where
       where
         by : (s : Stage) → stage_at l m ≡ s → slice_get (pages_of s) i ≡ Some page → PageOf m i page
         by Idle e g = absurd (cc)
-        by (Waiting load_at need) e g = absurd (cc)
+        by (Waiting w) e g = absurd (cc)
         by (Loaded cs ss ps) e g = record { bounced = cs; segments = ss; pages = ps; stage = e; has = g }
         by Returning e g = absurd (cc)
 

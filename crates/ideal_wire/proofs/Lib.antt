@@ -36,9 +36,7 @@ pub mod PagesAlone
 pub mod Placed
 pub mod Placing
 pub mod Positions
-pub mod QuietTurns
 pub mod Reaching
-pub mod Refusing
 pub mod Returning
 pub mod ServedMaps
 pub mod StillLaid

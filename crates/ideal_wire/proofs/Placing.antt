@@ -108,7 +108,7 @@ module _ (l : LaneState) (laid : AreLaid l) where
 
       by : (s : Stage) → stage_at l m ≡ s → LiesIn l m s → Load m
       by Idle e g = absurd (none g)
-      by (Waiting load_at need) e g = absurd (none g.unlent)
+      by (Waiting w) e g = absurd (none g.unlent)
       by (Loaded cs ss ps) e g = record { bounced = cs; segments = ss; pages = ps; stage = e; load = g }
       by Returning e g = absurd (none g)
 

@@ -23,7 +23,7 @@ module _ (l : LaneState) (a : Account) (agrees : AgreesWith l a) (x : Return) (r
   stage-of : (s : Stage) (z : Option ℕ) → is_returning (in_zone s z) ≡ true → is_loaded s ≡ false
   stage-of s None h = absurd (cc)
   stage-of Idle (Some z) h = refl
-  stage-of (Waiting load_at need) (Some z) h = refl
+  stage-of (Waiting w) (Some z) h = refl
   stage-of (Loaded cs ss ps) (Some z) h = absurd (cc)
   stage-of Returning (Some z) h = refl
 

@@ -1,7 +1,6 @@
 -- The zones of maps serve their tags after each step, and whatever others call.
-use Rattle.std.proofs.Common.{◌≡◌, ℕ, ◌<◌, ◌≤◌, ◌==◌, ◌&&◌, Bool, true, false, cond, if◌then◌else◌, List, [], ◌∷◌}
-use Rattle.std.proofs.Common.{length, Option, Some, None, refl, ap, sym, ◌∙◌, arith, nat_le, inl, inr}
-use Rattle.std.proofs.Common.{unwrap_or, option_map, IsTrue, slice_get}
+use Rattle.std.proofs.Common.{◌≡◌, ℕ, ◌<◌, ◌≤◌, ◌==◌, ◌&&◌, Bool, true, false, cond, List, [], length, Option, Some}
+use Rattle.std.proofs.Common.{None, refl, ap, sym, ◌∙◌, arith, nat_le, inl, inr, unwrap_or, option_map, IsTrue, ◌⊎◌}
 use Rattle.std.proofs.lemmas.Bool.{and_parts, cases_lt, leb-true}
 use Rattle.std.proofs.lemmas.List.{get_or_past}
 use Rattle.std.specs.FinMap.{get}
@@ -10,50 +9,33 @@ use Rattle.busdma_base.specs.declared.bounce.hold.HubCall.TheVariants as call
 use Rattle.busdma_base.specs.declared.bounce.hold.HubReply.{HubReply}
 use Rattle.busdma_base.specs.declared.bounce.hold.HubReply.TheVariants as reply
 use Rattle.busdma_base.specs.declared.bounce.hold.HoldEntry.{HoldEntry}
-use Rattle.busdma_base.specs.declared.journals.answer.Answer.TheVariants as answer
 use Rattle.busdma_base.specs.declared.journals.journal.Side.{Side}
-use Rattle.busdma_base.specs.declared.journals.journal.Side.TheVariants as side
-use Rattle.busdma_base.specs.declared.journals.report.Report.{Report}
-use Rattle.busdma_base.specs.declared.scenarios.script.Item.{Item}
-use Rattle.busdma_base.specs.declared.scenarios.script.Item.TheVariants as item
-use Rattle.busdma_base.specs.declared.scenarios.script.Op.{Op}
-use Rattle.busdma_base.specs.declared.scenarios.script.Op.TheVariants as op
 use Rattle.busdma_base.specs.declared.tags.tag.TagLimits.{TagLimits}
 use Rattle.busdma_base.specs.Bounce.Account.{Account, no_zone, zone_at}
 use Rattle.busdma_base.specs.Bounce.AccountStep.{account_step}
 use Rattle.busdma_base.specs.Bounce.Growth.{serves_tag}
 use Rattle.busdma_base.specs.Bounce.History.{account_of}
 use Rattle.busdma_base.specs.Bounce.KeptZones.{KeepsZones}
-use Rattle.busdma_base.specs.Scenarios.Operations.{bytes_of}
-use Rattle.busdma_base.specs.Tags.Tag.{could_bounce}
 use Rattle.busdma_base.proofs.Accounts.KeptZones.{keeps-all, keeps-history, keeps-step, serves-created}
-use Rattle.lane_agreement.specs.After.{addresses}
-use Rattle.lane_agreement.specs.View.{Return}
-use Rattle.lane_tables.specs.declared.queued.QueuedItem.{QueuedItem}
-use Rattle.ideal_lane.specs.Asking.{Asking, Gives, Asks, goes_on}
-use Rattle.ideal_lane.specs.Loads.{asked, limits_of}
-use Rattle.ideal_lane.specs.Loads.{no_limits}
-use Rattle.ideal_lane.specs.Maps.{created, map, with_map}
-use Rattle.ideal_lane.specs.Outcomes.{Outcome, gives}
+use Rattle.ideal_lane.specs.Asking.{Asking, Gives, Asks, call_of, by_reply}
+use Rattle.ideal_lane.specs.Loads.{limits_of, no_limits}
+use Rattle.ideal_lane.specs.Maps.{with_map}
+use Rattle.ideal_lane.specs.Outcomes.{Outcome}
 use Rattle.ideal_lane.specs.Standing.{Stands}
 use Rattle.ideal_lane.specs.State.{LaneState, LaneTag, LaneMap, Idle, named}
 use Rattle.ideal_lane.specs.Tags.{with_tag}
-use Rattle.ideal_lane.specs.Turns.{Turned, operation, transfer, waits, asked_at, called, called_in, lane_step}
-use Rattle.ideal_lane.specs.Turns.{bio_at, never_waits}
-use Rattle.ideal_lane.specs.Turns as turns
-use Rattle.ideal_lane.specs.Unloads.{given_back}
+use Rattle.ideal_lane.specs.Turns.{Turned, lane_step}
+use Rattle.ideal_lane.proofs.Effects.{Advances, Calls, IsReplyOf, Leaves, Makes, Releases, Stays, Steps, Touched, Work}
+use Rattle.ideal_lane.proofs.Effects.{turn-steps}
 use Rattle.ideal_lane.proofs.Lookups.{get_put}
 use Rattle.ideal_wire.specs.Machine.{IsInMachine}
 use Rattle.ideal_wire.specs.Served.{AreServed, KeepsServed}
 use Rattle.ideal_wire.proofs.Accepting.{limits-effective}
-use Rattle.ideal_wire.proofs.KeptMaps.{KeepsMaps, Still, await-kept, back-kept, called-kept, cpu_read-kept}
-use Rattle.ideal_wire.proofs.KeptMaps.{cpu_write-kept, dmamem-kept, dmamem_free-kept}
-use Rattle.ideal_wire.proofs.KeptMaps.{dev_read-kept, dev_write-kept, load-kept, map_destroy-kept, new-map, report}
-use Rattle.ideal_wire.proofs.KeptMaps.{same}
-use Rattle.ideal_wire.proofs.KeptMaps.{sync-kept, sync_range-kept, tag-kept, tag_destroy-kept, unload-kept}
+use Rattle.ideal_wire.proofs.KeptMaps.{KeepsMaps, back-kept, same, makes-kept, IsCreated, Creation}
 use Rattle.ideal_wire.proofs.KeptTags.{KeepsTags, keeps-put, put-there}
 use Rattle.ideal_wire.proofs.Positions.{found_one}
-use Rattle.ideal_wire.proofs.Refusing.{absent, either, past}
+use Rattle.ideal_lane.proofs.Refusing.{past}
+use Rattle.busdma_base.specs.declared.bounce.zone.Grown.{Grown}
 
 -- ---- zones that stay
 
@@ -90,27 +72,14 @@ module _ (l : LaneState) (stands : Stands l) (a : Account) (machine : IsInMachin
   pub served-on : (es : List HoldEntry) → AreServed l (account_of a es)
   served-on es = kept-served l (account_of a es) (keeps-history a es) (same l stands)
 
-  abbrev Keeps : Asking Outcome → Type 0
-  Keeps (Gives x) = AreServed x.lane a
-  Keeps (Asks c k) = AreServed (k (account_step l.id c a).reply).lane (account_step l.id c a).account
-
-  always : (o : Asking Outcome) → Still l stands o → Keeps o
-  always (Gives x) h = kept-served x.lane a (keeps-all a a refl) (h reply.Nothing)
-  always (Asks c k) h =
-      kept-served (k (account_step l.id c a).reply).lane (account_step l.id c a).account (keeps-step l.id c a)
-      (h (account_step l.id c a).reply)
-
-  reported : (x : Report) → Keeps (gives l (answer.Report x))
-  reported x = served
-
   -- the making of a map, whose zone the account tells
   module _ (t : ℕ) (g : LaneTag) (there : get l.tags t ≡ Some g) where
     abbrev asks : HubCall
     asks = call.CreateMap (named l l.place) g.limits g.first_done
 
-    made-by : (r : HubReply) → (account_step l.id asks a).reply ≡ r →
-        AreServed (created t g l r).lane (account_step l.id asks a).account
-    made-by (reply.Grown n) e = by n.made
+    made-by : (n : Grown) → (account_step l.id asks a).reply ≡ reply.Grown n →
+        AreServed (with_tag t g.limits true (with_map t (Some n.zone.0) l)) (account_step l.id asks a).account
+    made-by n e = all
       where
         after : Account
         after = (account_step l.id asks a).account
@@ -148,107 +117,36 @@ module _ (l : LaneState) (stands : Stands l) (a : Account) (machine : IsInMachin
                 ap (λ y. serves_tag y (zone_at after z)) (tags m o q)
                 ∙ still-serves (limits_of l o) a after z (aligned m o q) (keeps-step l.id asks a) (served m z o q zone)
 
-        by : (b : Bool) → AreServed (if b then made else l) after
-        by true = all
-        by false = kept-served l after (keeps-step l.id asks a) (same l stands)
-    made-by reply.Nothing e = kept-served l _ (keeps-step l.id asks a) (same l stands)
-    made-by (reply.Granted pages) e = kept-served l _ (keeps-step l.id asks a) (same l stands)
-    made-by (reply.Queued have) e = kept-served l _ (keeps-step l.id asks a) (same l stands)
-    made-by reply.NoPages e = kept-served l _ (keeps-step l.id asks a) (same l stands)
-    made-by (reply.Served n) e = kept-served l _ (keeps-step l.id asks a) (same l stands)
-    made-by (reply.Called m pages) e = kept-served l _ (keeps-step l.id asks a) (same l stands)
-    made-by (reply.Run first count) e = kept-served l _ (keeps-step l.id asks a) (same l stands)
-    made-by reply.NoRun e = kept-served l _ (keeps-step l.id asks a) (same l stands)
+  -- the account after a call, if one was made
+  abbrev account_after : Option HubCall → Account
+  account_after None = a
+  account_after (Some c) = (account_step l.id c a).account
 
-  map-served : (t : ℕ) → Keeps (map t l)
-  map-served t =
-      absent l Keeps reported (get l.tags t) _ (λ g there.
-      either l Keeps reported (could_bounce g.limits l.maxmem) _ _ (λ b. made-by t g there _ refl) (λ b.
-      kept-served (with_map t None l) a (keeps-all a a refl)
-      (new-map l stands (with_map t None l) refl l.place
-      (record { tag = t; zone = None; tried = false; stage = Idle }) refl
-      refl)))
+  zones : (c : Option HubCall) → KeepsZones a (account_after c)
+  zones None = keeps-all a a refl
+  zones (Some c) = keeps-step l.id c a
 
-  -- ---- the turn
-  then-keeps : (f : Outcome → Turned) → ((o : Outcome) (b : Account) → AreServed o.lane b → AreServed (f o).lane b) →
-      (o : Asking Outcome) → Keeps o → KeepsServed l.id a (goes_on f o)
-  then-keeps f h (Gives x) g = h x a g
-  then-keeps f h (Asks c k) g = h (k (account_step l.id c a).reply) (account_step l.id c a).account g
+  kept-or-made : {d : Work} {c : Option HubCall} {r : HubReply} {x : Outcome} → IsReplyOf l.id a c r →
+      (IsCreated l d c r x) ⊎ KeepsMaps l stands x.lane → AreServed x.lane (account_after c)
+  kept-or-made e (inl (Creation name t g there n)) = made-by t g there n e
+  kept-or-made {c = c} {x = x} e (inr kept) = kept-served x.lane (account_after c) (zones c) kept
 
-  operation-served : (o : Op) → Keeps (operation o l)
-  operation-served (op.Tag name parent limits) =
-      always (operation (op.Tag name parent limits) l) (tag-kept l stands parent limits)
-  operation-served (op.TagDestroy t) = always (operation (op.TagDestroy t) l) (tag_destroy-kept l stands t)
-  operation-served (op.Map name t) = map-served t
-  operation-served (op.MapDestroy m) = always (operation (op.MapDestroy m) l) (map_destroy-kept l stands m)
-  operation-served (op.Dmamem name t flags) =
-      always (operation (op.Dmamem name t flags) l) (dmamem-kept l stands t flags)
-  operation-served (op.DmamemFree m) = always (operation (op.DmamemFree m) l) (dmamem_free-kept l stands m)
-  operation-served (op.Load m x flags items) =
-      always (operation (op.Load m x flags items) l)
-      (absent l (Still l stands) (report l stands) (bio_at l x) _ (λ b e.
-      load-kept l stands m (asked m b (never_waits x flags) items l)))
-  operation-served (op.Unload m) = always (operation (op.Unload m) l) (unload-kept l stands m)
-  operation-served (op.Sync m ops) = always (operation (op.Sync m ops) l) (sync-kept l stands m ops)
-  operation-served (op.SyncRange m off len ops) =
-      always (operation (op.SyncRange m off len ops) l) (sync_range-kept l stands m off len ops)
-  operation-served (op.CpuRead place len) =
-      always (operation (op.CpuRead place len) l) (cpu_read-kept l stands place len)
-  operation-served (op.CpuWrite place bytes) =
-      always (operation (op.CpuWrite place bytes) l) (cpu_write-kept l stands place (bytes_of bytes))
-  operation-served (op.Await m) = always (operation (op.Await m) l) (await-kept l stands m)
+  makes-served : {d : Work} {c : Option HubCall} {r : HubReply} {x : Outcome} → IsReplyOf l.id a c r →
+      Makes l d c r x → AreServed x.lane (account_after c)
+  makes-served e m = kept-or-made e (makes-kept l stands m)
 
-  transfer-served : (i : Item) → Keeps (transfer i l)
-  transfer-served (item.Sync m ops) = always (transfer (item.Sync m ops) l) (sync-kept l stands m ops)
-  transfer-served (item.SyncRange m off len ops) =
-      always (transfer (item.SyncRange m off len ops) l) (sync_range-kept l stands m off len ops)
-  transfer-served (item.DevRead m off len) =
-      always (transfer (item.DevRead m off len) l) (dev_read-kept l stands m off len)
-  transfer-served (item.DevWrite m off bytes) =
-      always (transfer (item.DevWrite m off bytes) l) (dev_write-kept l stands m off (bytes_of bytes))
-
-  next-served : (o : Option Op) → KeepsServed l.id a (turns.next_operation o l)
-  next-served None = served
-  next-served (Some o) = by (waits o l)
-    where
-      by : (b : Bool) → KeepsServed l.id a (if b then Gives (turns.stays turns.Blocked l)
-          else goes_on (turns.advanced l.place) (operation o l))
-      by true = served
-      by false = then-keeps (turns.advanced l.place) (λ x b h m z k e zone. h m z k e zone) (operation o l)
-          (operation-served o)
-
-  after-call : (c : HubCall) (l' : LaneState) → KeepsMaps l stands l' → AreServed l' (account_step l.id c a).account
-  after-call c l' h = kept-served l' (account_step l.id c a).account (keeps-step l.id c a) h
-
-  script-served : (rs : List Return) → KeepsServed l.id a (turns.script_turn rs l)
-  script-served [] = next-served (slice_get l.script l.place)
-  script-served (r ∷ rest) =
-      after-call (call.Release (named l r.map) (record {
-        0 =
-            r.zone;
-      }) (record { 0 = r.page })) (given_back r rest l) (back-kept l stands r rest)
-
-  queue-served : (q : List QueuedItem) → KeepsServed l.id a (turns.transfer_turn q l)
-  queue-served [] = served
-  queue-served (q ∷ rest) =
-      then-keeps (turns.left_queue q rest) (λ x b h m z k e zone. h m z k e zone) (transfer q.item l)
-      (transfer-served q.item)
-
-  callback-served : KeepsServed l.id a (turns.callback_turn l)
-  callback-served = after-call call.TakeCallback _ (by (account_step l.id call.TakeCallback a).reply)
-    where
-      by : (r : HubReply) → KeepsMaps l stands (turns.called_back l r).lane
-      by (reply.Called m pages) = called-kept l stands m.made_at (addresses pages)
-      by reply.Nothing = same l stands
-      by (reply.Grown g) = same l stands
-      by (reply.Granted pages) = same l stands
-      by (reply.Queued have) = same l stands
-      by reply.NoPages = same l stands
-      by (reply.Served n) = same l stands
-      by (reply.Run first count) = same l stands
-      by reply.NoRun = same l stands
+  steps-served : {s : Side} {c : Option HubCall} {r : HubReply} {t : Turned} → IsReplyOf l.id a c r →
+      Steps l s c r t → AreServed t.lane (account_after c)
+  steps-served {c = c} e (Stays t is) = kept-served l (account_after c) (zones c) (same l stands)
+  steps-served e (Advances o at free m) = λ k z y f zone. makes-served e m k z y f zone
+  steps-served e (Leaves q rest is t) = λ k z y f zone. makes-served {r = reply.Nothing} e (Touched t) k z y f zone
+  steps-served {c = c} e (Releases q rest is y there) =
+      kept-served _ (account_after c) (zones c) (back-kept l stands q rest y there)
+  steps-served e (Calls m pages k) = makes-served e k
 
   pub turn-served : (s : Side) → KeepsServed l.id a (lane_step l s)
-  turn-served side.Script = script-served l.returns
-  turn-served side.Transfer = queue-served l.queue
-  turn-served side.Callback = callback-served
+  turn-served s = by (lane_step l s) (turn-steps l s)
+    where
+      by : (x : Asking Turned) → ((r : HubReply) → Steps l s (call_of x) r (by_reply x r)) → KeepsServed l.id a x
+      by (Gives t) h = steps-served tt (h reply.Nothing)
+      by (Asks c k) h = steps-served refl (h (account_step l.id c a).reply)

@@ -1,43 +1,44 @@
 -- The steps that change bytes or read them leave the wire faithful, and read what the ideal memory has.
 use Rattle.std.proofs.Common.{◌≡◌, ℕ, Bool, true, false, cond, [], ◌∷◌, ◌==◌, ◌⊎◌, Option, Some, None, List, length}
-use Rattle.std.proofs.Common.{is_some, refl, sym, ◌∙◌, subst}
-use Rattle.std.specs.List.{filter}
+use Rattle.std.proofs.Common.{is_some, refl, sym, ◌∙◌, subst, unwrap_or}
 use Rattle.std.specs.Option.{option_map}
-use Rattle.busdma_base.specs.declared.bounce.hold.HubReply.{HubReply}
 use Rattle.busdma_base.specs.declared.journals.answer.Answer.TheVariants as answer
 use Rattle.busdma_base.specs.declared.journals.report.Judged.TheVariants.{Fine}
-use Rattle.busdma_base.specs.declared.journals.report.ReportName.TheVariants.{MixedSync, Absent}
 use Rattle.busdma_base.specs.declared.scenarios.script.Place.{Place}
 use Rattle.busdma_base.specs.Machine.Wire.{Wire, put}
 use Rattle.busdma_base.specs.Runs.{run_of}
 use Rattle.dma_tag.specs.SyncOps.{is_mixed}
-use Rattle.loan_table.specs.Access.{cpu_read_answer, cpu_write_answer, dev_read_answer, dev_write_answer}
-use Rattle.loan_table.specs.Lending.{sync_answer, marked_range, loses, lost}
-use Rattle.loan_table.specs.Lending as lending
+use Rattle.loan_table.specs.Access.{cpu_read_answer, dev_read_answer}
+use Rattle.loan_table.specs.Lending.{sync_answer, marked_range, lost}
 use Rattle.loan_table.specs.Loans.{loan_of, addresses_of, load_bytes}
 use Rattle.loan_table.proofs.Marking.{same_bytes, addresses_of-marked_range}
-use Rattle.ideal_lane.specs.Accesses.{cpu_read, cpu_write, dev_read, dev_write, values}
-use Rattle.ideal_lane.specs.Asking.{Asking, by_reply}
+use Rattle.ideal_lane.specs.Accesses.{cpu_read, dev_read, values}
+use Rattle.ideal_lane.specs.Asking.{Asking}
 use Rattle.ideal_lane.specs.IdealMemory.{IdealMemory, Content, Known, Unknown, is_known, is_among, forgotten, written}
 use Rattle.ideal_lane.specs.IdealMemory.{written_at}
-use Rattle.ideal_lane.specs.Outcomes.{Outcome, gives, refused, unless_refused, unless_past, load_length}
+use Rattle.ideal_lane.specs.Outcomes.{Outcome, gives, unless_refused, unless_past, load_length}
 use Rattle.ideal_lane.specs.Places.{virtual_at, reached, bytes_at}
 use Rattle.ideal_lane.specs.State.{LaneState, LaneMap}
-use Rattle.ideal_lane.specs.Syncs.{bounced_in, copies, counted, sync_part}
-use Rattle.ideal_lane.specs.Syncs as syncs
+use Rattle.ideal_lane.specs.Syncs.{bounced_in}
+use Rattle.ideal_lane.proofs.Effects.{DeviceWrites, IsSync, IsUndone, Operation, Range, RangeItem, Same, Syncs}
+use Rattle.ideal_lane.proofs.Effects.{Touches, Transfer, Whole, WholeItem, Work, Writes, after_sync, after_write}
 use Rattle.ideal_wire.specs.Apart.{IsApart}
 use Rattle.ideal_wire.specs.Centre.{IsFaithful, Agrees}
 use Rattle.ideal_wire.specs.Laid.{AreLaid}
 use Rattle.ideal_wire.specs.Traces.{stage_at, placed_from, traces_of}
 use Rattle.ideal_wire.specs.WireStep as wire
-use Rattle.ideal_wire.specs.WireStep.{if_done, BringsKnown, IsRead, KeepsOwn, KeepsPages, place_bytes, load_buses}
+use Rattle.ideal_wire.specs.WireStep.{BringsKnown, IsRead, KeepsOwn, KeepsPages, place_bytes, load_buses, if_answered}
 use Rattle.ideal_wire.proofs.Carried.{AreBused, are-bused, carried, same-carries}
 use Rattle.ideal_wire.proofs.FaithfulAccess.{cpu_read_of, reached_own, cpu_written, dev_read_of, dev_written}
 use Rattle.ideal_wire.proofs.FaithfulRanges.{by_map}
 use Rattle.ideal_wire.proofs.Placed.{Faithful}
 use Rattle.ideal_wire.proofs.Placing.{own, are-placed}
-use Rattle.ideal_wire.proofs.Refusing.{judged, either, unloaded, past}
+use Rattle.ideal_lane.proofs.Refusing.{judged, unloaded, past}
 use Rattle.ideal_wire.proofs.SyncedPositions.{after}
+use Rattle.busdma_base.specs.declared.scenarios.script.Item.TheVariants as item
+use Rattle.busdma_base.specs.declared.scenarios.script.Op.TheVariants as op
+use Rattle.busdma_base.specs.declared.journals.answer.Answer.{Answer}
+use Rattle.busdma_base.specs.Scenarios.Operations.{bytes_of}
 
 -- ---- bytes that are the driver's own stay so
 
@@ -70,17 +71,27 @@ module _ (l : LaneState) (w : Wire) (apart : IsApart l) (laid : AreLaid l) (f : 
     agrees = f.agrees;
   }
 
+  -- the wire that an operation or an item makes, where it is done
+  abbrev pub now : Work → Wire
+  now (Operation (op.Sync m ops)) = wire.synced m 0 (load_length l m) ops l w
+  now (Operation (op.SyncRange m off len ops)) = wire.synced m off len ops l w
+  now (Operation (op.CpuWrite place bs)) = put (place_bytes l place (length (bytes_of bs))) (bytes_of bs) w
+  now (Transfer (item.Sync m ops)) = wire.synced m 0 (load_length l m) ops l w
+  now (Transfer (item.SyncRange m off len ops)) = wire.synced m off len ops l w
+  now (Transfer (item.DevWrite m off bs)) = put (load_buses l m off (length (bytes_of bs))) (bytes_of bs) w
+  now _ = w
+
   -- the wire is faithful after it whatever came and went
-  abbrev pub Stays : Wire → Asking Outcome → Type 0
-  Stays now o = (r : HubReply) (w' : Wire) → KeepsOwn l.memory (by_reply o r).lane.memory (if_done o now w) w' →
-      KeepsPages l.maps (by_reply o r).lane.maps (if_done o now w) w' → IsFaithful (by_reply o r).lane w'
+  abbrev pub Stays : Wire → LaneState → Type 0
+  Stays after k = (w' : Wire) → KeepsOwn l.memory k.memory after w' → KeepsPages l.maps k.maps after w' →
+      IsFaithful k w'
 
   -- no byte came to a driver that is the same
   nothing-came : (k : LaneState) (w' : Wire) → BringsKnown k.memory k.memory w'
   nothing-came k w' a v none is = let gone : None ≡ Some (Known v) = sym none ∙ is in absurd (cc)
 
-  report-stays : (now : Wire) (x : _) → Stays now (gives l (answer.Report x))
-  report-stays now x r w' kept pages =
+  same-stays : Stays w l
+  same-stays w' kept pages =
       carried l l w w' (are-bused l laid) f (same-carries l l f.exclusive refl refl (λ n i p at. refl))
       (record { own = kept; pages = pages; known = nothing-came l w' })
 
@@ -106,13 +117,6 @@ module _ (l : LaneState) (w : Wire) (apart : IsApart l) (laid : AreLaid l) (f : 
 
   -- ---- syncs
   module _ (m : ℕ) (off len ops : ℕ) where
-    abbrev after_sync : LaneState → LaneMap → LaneState
-    after_sync k o = record k {
-      loans = lending.synced k.loans m off len ops;
-      memory = forgotten (lost k.loans m off len ops) k.memory;
-      shares = counted (copies off len ops o.stage) o.zone k.shares;
-    }
-
     traces-synced : (b : Bool) → (loan_of l.loans m).coherent ≡ b → (n : ℕ) →
         addresses_of (loan_of (cond b l.loans (after l.loans m off len ops)) n).positions
         ≡ addresses_of (loan_of l.loans n).positions
@@ -126,99 +130,60 @@ module _ (l : LaneState) (w : Wire) (apart : IsApart l) (laid : AreLaid l) (f : 
         })
         (addresses_of-marked_range ops off len (loan_of l.loans m).positions) n))
 
-    part-stays : (o : LaneMap) → Stays (wire.synced m off len ops l w) (sync_part m o off len ops l)
-    part-stays o =
-        either l (Stays now) (report-stays now) (is_mixed ops) (refused MixedSync 0 l)
-        (unless_refused (sync_answer l.loans m off len ops) l (gives (after_sync l o) answer.Done))
-        (λ mixed. report-stays now (record { name = MixedSync; at = 0 }))
-        (λ alone. judged l (Stays now) (report-stays now) (sync_answer l.loans m off len ops)
-        (gives (after_sync l o) answer.Done) (λ fine r w' kept pages.
-        done (after_sync l o) now w' refl traces
-        (own-forgotten (lost l.loans m off len ops) l.memory) (synced fine alone) kept pages))
+    sync-stays : (o : LaneMap) → is_mixed ops ≡ false → sync_answer l.loans m off len ops ≡ Fine →
+        Stays (wire.synced m off len ops l w) (after_sync l m o off len ops)
+    sync-stays o alone fine w' kept pages =
+        done (after_sync l m o off len ops) (wire.synced m off len ops l w) w' refl traces
+        (own-forgotten (lost l.loans m off len ops) l.memory) synced kept pages
       where
-        now : Wire
-        now = wire.synced m off len ops l w
-
-        traces : traces_of (after_sync l o) ≡ traces_of l
+        traces : traces_of (after_sync l m o off len ops) ≡ traces_of l
         traces = λ x n. placed_from (bounced_in (stage_at l n)) 0
             (traces-synced (loan_of l.loans m).coherent refl n x)
 
-        synced : sync_answer l.loans m off len ops ≡ Fine → is_mixed ops ≡ false → IsFaithful (after_sync l o) now
-        synced fine alone =
+        synced : IsFaithful (after_sync l m o off len ops) (wire.synced m off len ops l w)
+        synced =
             let g = by_map (own l laid apart) l (traces_of l) w faithful m off len ops fine alone
             (loan_of l.loans m).coherent refl in
             record {
               exclusive = g.exclusive;
               agrees =
-                  subst (λ ts. Agrees (after_sync l o).memory (after_sync l o).loans ts now) (sym traces) g.agrees;
+                  subst (λ ts. Agrees (after_sync l m o off len ops).memory (after_sync l m o off len ops).loans ts
+                  (wire.synced m off len ops l w)) (sym traces) g.agrees;
             }
 
-  pub sync-stays : (m ops : ℕ) → Stays (wire.synced m 0 (load_length l m) ops l w) (syncs.sync m ops l)
-  sync-stays m ops =
-      let now : Wire = wire.synced m 0 (load_length l m) ops l w in
-      unloaded l (Stays now) (report-stays now) m (λ o. sync_part m o 0 (load_length l m) ops l)
-      (λ o there is. part-stays m 0 (load_length l m) ops o)
-
-  pub sync_range-stays : (m off len ops : ℕ) →
-      Stays (wire.synced m off len ops l w) (syncs.sync_range m off len ops l)
-  sync_range-stays m off len ops =
-      let now : Wire = wire.synced m off len ops l w in
-      unloaded l (Stays now) (report-stays now) m (λ o. unless_past m off len l (sync_part m o off len ops l))
-      (λ o there is. past l (Stays now) (report-stays now) m off len (sync_part m o off len ops l)
-      (part-stays m off len ops o))
-
   -- ---- writes
-  writes-stay : (bytes vs : List ℕ) (now : Wire) →
-      Faithful (own l laid apart) (record l { memory = written bytes vs l.memory }) (traces_of l) now →
-      Stays now (gives (record l { memory = written bytes vs l.memory }) answer.Done)
-  writes-stay bytes vs now g r w' kept pages =
-      done (record l { memory = written bytes vs l.memory }) now w' refl refl (own-written bytes vs l.memory)
+  write-stays : (bytes vs : List ℕ) (after : Wire) →
+      Faithful (own l laid apart) (after_write l bytes vs) (traces_of l) after → Stays after (after_write l bytes vs)
+  write-stays bytes vs after g w' kept pages =
+      done (after_write l bytes vs) after w' refl refl (own-written bytes vs l.memory)
       (record { exclusive = g.exclusive; agrees = g.agrees }) kept pages
 
-  pub cpu_write-stays : (place : Place) (vs : List ℕ) →
-      Stays (put (place_bytes l place (length vs)) vs w) (cpu_write place vs l)
-  cpu_write-stays place vs = by (virtual_at l place) refl
-    where
-      bytes : ℕ → List ℕ
-      bytes va = bytes_at l (run_of va (length vs))
+  -- ---- what takes no door
+  pub undone : (a : Answer) (after : Wire) → IsUndone a → if_answered a after w ≡ w
+  undone answer.Done now u = absurd u
+  undone _ now u = refl
 
-      at : (va : ℕ) → Stays (put (bytes va) vs w) (unless_refused (reached l va (length vs)) l
-          (unless_refused (cpu_write_answer l.loans (bytes va)) l
-          (gives (record l { memory = written (bytes va) vs l.memory }) answer.Done)))
-      at va =
-          let now : Wire = put (bytes va) vs w in
-          judged l (Stays now) (report-stays now) (reached l va (length vs))
-          (unless_refused (cpu_write_answer l.loans (bytes va)) l
-          (gives (record l { memory = written (bytes va) vs l.memory }) answer.Done)) (λ reaches.
-          judged l (Stays now) (report-stays now) (cpu_write_answer l.loans (bytes va))
-          (gives (record l { memory = written (bytes va) vs l.memory }) answer.Done) (λ free.
-          writes-stay (bytes va) vs (put (bytes va) vs w)
-          (cpu_written (own l laid apart) l (traces_of l) w faithful (bytes va) vs
-          (reached_own (own l laid apart) l (traces_of l) w faithful (run_of va (length vs)) reaches) free)))
+  sync-is : {d : Work} {m off len ops : ℕ} → IsSync l d m off len ops → now d ≡ wire.synced m off len ops l w
+  sync-is (Whole m ops) = refl
+  sync-is (Range m off len ops) = refl
+  sync-is (WholeItem m ops) = refl
+  sync-is (RangeItem m off len ops) = refl
 
-      by : (o : Option ℕ) → virtual_at l place ≡ o →
-          Stays (put (bytes (Rattle.std.specs.Prelude.unwrap_or o 0)) vs w)
-          (Rattle.ideal_lane.specs.Outcomes.unless_absent o l (λ va. unless_refused (reached l va (length vs)) l
-          (unless_refused (cpu_write_answer l.loans (bytes va)) l
-          (gives (record l { memory = written (bytes va) vs l.memory }) answer.Done))))
-      by None e = report-stays (put (bytes 0) vs w) (record { name = Absent; at = 0 })
-      by (Some va) e = at va
-
-  pub dev_write-stays : (m off : ℕ) (vs : List ℕ) →
-      Stays (put (load_buses l m off (length vs)) vs w) (dev_write m off vs l)
-  dev_write-stays m off vs =
-      unloaded l (Stays now) (report-stays now) m (λ o. unless_past m off (length vs) l step) (λ o there is.
-      past l (Stays now) (report-stays now) m off (length vs) step
-      (judged l (Stays now) (report-stays now) (dev_write_answer (loan_of l.loans m) off (length vs)) _ (λ allowed.
-      writes-stay (load_bytes l.loans m off (length vs)) vs now
-      (dev_written (own l laid apart) l (traces_of l) w faithful m off (length vs) vs allowed))))
-    where
-      now : Wire
-      now = put (load_buses l m off (length vs)) vs w
-
-      step : Asking Outcome
-      step = unless_refused (dev_write_answer (loan_of l.loans m) off (length vs)) l
-          (gives (record l { memory = written (load_bytes l.loans m off (length vs)) vs l.memory }) answer.Done)
+  pub touches-stay : {d : Work} {x : Outcome} → Touches l d x → Stays (if_answered x.answer (now d) w) x.lane
+  touches-stay {d} (Same a q u) = subst (λ v. Stays v l) (sym (undone a (now d) u)) same-stays
+  touches-stay (Syncs m off len ops is o there i alone fine) =
+      subst (λ v. Stays v (after_sync l m o off len ops)) (sym (sync-is is)) (sync-stays m off len ops o alone fine)
+  touches-stay (Writes place bs va at reaches fine) =
+      let bytes = bytes_at l (run_of va (length (bytes_of bs))) in
+      subst (λ v. Stays (put (bytes_at l (run_of (unwrap_or v 0) (length (bytes_of bs)))) (bytes_of bs) w)
+      (after_write l bytes (bytes_of bs))) (sym at)
+      (write-stays bytes (bytes_of bs) (put bytes (bytes_of bs) w)
+      (cpu_written (own l laid apart) l (traces_of l) w faithful bytes (bytes_of bs)
+      (reached_own (own l laid apart) l (traces_of l) w faithful (run_of va (length (bytes_of bs))) reaches) fine))
+  touches-stay (DeviceWrites m off bs o there i fine) =
+      write-stays (load_bytes l.loans m off (length (bytes_of bs))) (bytes_of bs)
+      (put (load_buses l m off (length (bytes_of bs))) (bytes_of bs) w)
+      (dev_written (own l laid apart) l (traces_of l) w faithful m off (length (bytes_of bs)) (bytes_of bs) fine)
 
   -- ---- reads
   pub cpu_read-reads : (place : Place) (len : ℕ) → IsRead (cpu_read place len l) (place_bytes l place len) w

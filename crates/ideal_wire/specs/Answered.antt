@@ -1,31 +1,32 @@
 -- The load that a step ends, and that the segments which it answers are the load's.
-use Rattle.std.specs.Prelude.{◌≡◌, ℕ, List, [], Option, Some, None, slice_get, unwrap_or}
+use Rattle.std.specs.Prelude.{◌≡◌, ℕ, List, Option, Some, None, slice_get}
 use Rattle.std.specs.FinMap.{get, contains_key}
 use Rattle.std.specs.Option.{option_and_then, option_map}
 use Rattle.busdma_base.specs.declared.journals.journal.Did.{Did}
 use Rattle.busdma_base.specs.declared.journals.journal.Did.TheVariants as did
 use Rattle.busdma_base.specs.declared.machine.address.Segment.{Segment}
+use Rattle.busdma_base.specs.declared.machine.bio.Bio.{Bio}
 use Rattle.busdma_base.specs.declared.scenarios.script.Op.{Op}
 use Rattle.busdma_base.specs.declared.scenarios.script.Op.TheVariants as op
 use Rattle.busdma_base.specs.Bounce.Account.{Account}
 use Rattle.busdma_base.specs.Bounce.AccountStep.{account_step}
 use Rattle.ideal_lane.specs.Asking.{Asking, Gives, Asks}
-use Rattle.ideal_lane.specs.Loads.{chunks_for, limits_of, load_addresses}
+use Rattle.ideal_lane.specs.Loads.{chunks_for, limits_of, load_addresses, load_entries}
 use Rattle.ideal_lane.specs.State.{LaneState, LaneMap, Stage, Idle, Waiting, Loaded, Returning}
-use Rattle.ideal_lane.specs.Turns.{Turn, Turned, Stepped, Blocked, Ended, asked_at, bio_at}
+use Rattle.ideal_lane.specs.Turns.{Turn, Turned, Stepped, Blocked, Ended, bio_at}
 use Rattle.ideal_lane.specs.Unloads.{pages_of}
 use Rattle.ideal_wire.specs.Accepted.{IfSegments, IsAccepted}
 use Rattle.ideal_wire.specs.Traces.{stage_at}
 
--- a load: its map, and its bytes in order, by their physical addresses
+-- a load: its map, and what it loads
 pub record Load : Type 0 where
   pub map : ℕ
-  pub bytes : List ℕ
+  pub bio : Bio
 
 -- what an operation loads, if it loads
 abbrev pub loaded_by : Op → LaneState → Option Load
 loaded_by (op.Load map buffer flags items) l =
-    option_map (λ b. record { map = map; bytes = load_addresses l b }) (bio_at l buffer)
+    option_map (λ b. record { map = map; bio = b }) (bio_at l buffer)
 loaded_by (op.Tag name parent limits) l = None
 loaded_by (op.TagDestroy tag) l = None
 loaded_by (op.Map name tag) l = None
@@ -43,36 +44,34 @@ loaded_by (op.Await map) l = None
 abbrev pub load_at : LaneState → ℕ → Option Load
 load_at l k = option_and_then (λ o. loaded_by o l) (slice_get l.script k)
 
--- its bytes
-abbrev pub bytes_named : LaneState → ℕ → List ℕ
-bytes_named l k = unwrap_or (option_map (λ (x : Load). x.bytes) (load_at l k)) []
-
 -- the place in the script of the load for which a map waits that stands so
 abbrev pub waited_at : Stage → ℕ
 waited_at Idle = 0
-waited_at (Waiting place need) = place
+waited_at (Waiting w) = w.load_at
 waited_at (Loaded bounced segments pages) = 0
 waited_at Returning = 0
 
--- the segments are the bytes, in order, of the load at a place of the script, of which a map is loaded after the step,
--- and obey the map's tag
-pub record AreLoaded (before after : LaneState) (m place : ℕ) (segments : List Segment) : Type 0 where
+-- the segments are the bytes, in order, of the load of a map with a bio, of which the map is loaded after the step, and
+-- obey the map's tag
+pub record AreLoaded (before after : LaneState) (m : ℕ) (b : Bio) (segments : List Segment) : Type 0 where
   pub map : LaneMap
   pub there : get before.maps m ≡ Some map
-  pub accepted : IsAccepted after m (limits_of before map) (bytes_named before place)
-      (chunks_for before map (contains_key before.mems m) (asked_at place before).entries)
+  pub accepted : IsAccepted after m (limits_of before map) (load_addresses before b)
+      (chunks_for before map (contains_key before.mems m) (load_entries before b))
       (pages_of (stage_at after m)) segments
 
 -- so are those that an operation answers; one that does not load answers none
-abbrev pub AreAnswered : LaneState → LaneState → ℕ → Option Load → List Segment → Type 0
-AreAnswered before after place None segments = ⊥
-AreAnswered before after place (Some x) segments = AreLoaded before after x.map place segments
+abbrev pub AreAnswered : LaneState → LaneState → Option Load → List Segment → Type 0
+AreAnswered before after None segments = ⊥
+AreAnswered before after (Some x) segments = AreLoaded before after x.map x.bio segments
 
--- so are those of what was done; neither an item nor the return of a page answers any
+-- so are those of what was done, of the operation's load or of the one for which the map waited; neither an item nor
+-- the return of a page answers any
 abbrev pub AreOf : LaneState → LaneState → Did → List Segment → Type 0
-AreOf before after (did.Op place) segments = AreAnswered before after place (load_at before place) segments
+AreOf before after (did.Op place) segments = AreAnswered before after (load_at before place) segments
 AreOf before after (did.Callback m) segments =
-    AreLoaded before after m.made_at (waited_at (stage_at before m.made_at)) segments
+    (b : Bio) × (load_at before (waited_at (stage_at before m.made_at))
+    ≡ Some (record { map = m.made_at; bio = b })) × AreLoaded before after m.made_at b segments
 AreOf before after (did.Release m page) segments = ⊥
 AreOf before after (did.Item place at) segments = ⊥
 

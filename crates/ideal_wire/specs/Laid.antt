@@ -2,28 +2,35 @@
 use Rattle.std.specs.Prelude.{◌≡◌, ℕ, ◌*◌, ◌/◌, ◌%◌, ◌≤◌, Bool, true, false, List, [], Option, Some, None}
 use Rattle.std.specs.Prelude.{is_some}
 use Rattle.std.specs.List.{AllByRecursion, AllZip}
-use Rattle.std.specs.FinMap as finmap
 use Rattle.std.specs.FinMap.{get}
-use Rattle.busdma_base.specs.declared.journals.report.Judged.TheVariants.{Fine}
+use Rattle.busdma_base.specs.declared.machine.bio.Bio.{Bio}
 use Rattle.busdma_base.specs.declared.machine.chunk.Chunk.{Chunk}
 use Rattle.busdma_base.specs.declared.machine.address.Segment.{Segment}
+use Rattle.busdma_base.specs.declared.scenarios.scenario.PageRun.{PageRun}
 use Rattle.busdma_base.specs.Bounce.Account.{Account}
 use Rattle.busdma_base.specs.Bounce.AccountStep.{account_step}
 use Rattle.busdma_base.specs.Bounce.MemoryRuns.{in_run}
-use Rattle.busdma_base.specs.Machine.PageRuns.{is_own}
+use Rattle.busdma_base.specs.Machine.PageRuns.{is_own, physical_in}
+use Rattle.busdma_base.specs.Machine.Spans.{bio_spans, span_addresses}
 use Rattle.busdma_base.specs.Machine.Wire.{buses}
 use Rattle.busdma_base.specs.Runs.{IsExtent}
+use Rattle.busdma_base.specs.Scenarios.Buffers.{IsBioOf}
 use Rattle.busdma_base.specs.Tags.Tag.{excluded}
+use Rattle.load_bio.specs.Bio.{bio_translation, is_rounded}
 use Rattle.loan_table.specs.declared.position.Position.{Position}
 use Rattle.loan_table.specs.Loans.{loan_of, no_loan}
 use Rattle.map_sync.specs.Traces.{HasChunks}
+use Rattle.phys_memory.specs.Translation.{Translation}
+use Rattle.phys_memory.specs.Vector.{entries_of}
 use Rattle.segment_build.specs.Chunks.{need_of}
 use Rattle.segment_build.specs.Segmentation.{segment_bytes}
 use Rattle.segment_build.specs.Trace.{bus_extent, chunk_extents}
 use Rattle.ideal_lane.specs.State.{LaneState, LaneMap, LaneMemory, Stage, Idle, Waiting, Loaded, Returning}
+use Rattle.ideal_lane.specs.State.{WaitingLoad}
 use Rattle.ideal_lane.specs.Asking.{Asking, Gives, Asks}
 use Rattle.ideal_lane.specs.Loads.{chunks_for, is_coherent, limits_of}
-use Rattle.ideal_lane.specs.Turns.{asked_at, Turned}
+use Rattle.ideal_lane.specs.Turns.{Turned}
+use Rattle.ideal_wire.specs.Answered.{load_at}
 use Rattle.ideal_wire.specs.Centre.{IsAt}
 use Rattle.ideal_wire.specs.Traces.{stage_at, traces_of}
 
@@ -55,26 +62,34 @@ pub record IsLaid (l : LaneState) (m : ℕ) (bounced : List Chunk) (segments : L
   pub chunks : HasChunks 0 (traces_of l m) bounced
   pub trace : segment_bytes segments ≡ buses (traces_of l m)
 
--- the driver with the bytes of its pages alone, which no step changes
-abbrev pub pages_alone : LaneState → LaneState
-pages_alone l = record l { mems = finmap.empty }
+-- where the bytes of a bio lie that are of pages, which no step changes
+abbrev pub in_pages : List PageRun → Bio → Translation
+in_pages pages b = bio_translation (physical_in pages) b
 
--- the chunks of the load of a map that stands at a place of the script, of bytes of the driver's pages
-abbrev pub chunks_at : LaneState → LaneMap → ℕ → List Chunk
-chunks_at l o load_at = chunks_for l o false (asked_at load_at (pages_alone l)).entries
+-- each byte of a bio is of these pages
+abbrev pub AreInPages : List PageRun → Bio → Type 0
+AreInPages pages b = AllByRecursion (λ va. is_some (in_pages pages b va) ≡ true) (span_addresses (bio_spans b))
+
+-- the chunks of the load of a map with a bio of the driver's pages
+abbrev pub paged_chunks : LaneState → LaneMap → Bio → List Chunk
+paged_chunks l o b = chunks_for l o false (entries_of (is_rounded b) (in_pages l.pages b) (bio_spans b))
 
 -- a map that waits lends nothing; the load for which it waits is one of the driver's pages alone, so that it names no
--- memory, and its chunks have the need that it waits for, of one page at least
-pub record IsAwaited (l : LaneState) (m load_at need : ℕ) : Type 0 where
+-- memory, and its chunks have the need that it waits for, of one page at least; and it is the load at its place of the
+-- script, whatever the driver does
+pub record IsAwaited (l : LaneState) (m : ℕ) (w : WaitingLoad) : Type 0 where
   pub unlent : loan_of l.loans m ≡ no_loan
-  pub some : 1 ≤ need
-  pub fine : (asked_at load_at (pages_alone l)).judged ≡ Fine
-  pub counted : (o : LaneMap) → get l.maps m ≡ Some o → need ≡ need_of (chunks_at l o load_at)
+  pub some : 1 ≤ w.need
+  pub named : IsBioOf l.pages w.bio
+  pub own : AreInPages l.pages w.bio
+  pub counted : (o : LaneMap) → get l.maps m ≡ Some o → w.need ≡ need_of (paged_chunks l o w.bio)
+  pub told : (s : LaneState) → s.script ≡ l.script →
+      load_at s w.load_at ≡ Some (record { map = m; bio = w.bio })
 
 -- a map lies so by where it stands; with no load it lends nothing
 abbrev pub LiesIn : LaneState → ℕ → Stage → Type 0
 LiesIn l m Idle = loan_of l.loans m ≡ no_loan
-LiesIn l m (Waiting load_at need) = IsAwaited l m load_at need
+LiesIn l m (Waiting w) = IsAwaited l m w
 LiesIn l m (Loaded bounced segments pages) = IsLaid l m bounced segments pages
 LiesIn l m Returning = loan_of l.loans m ≡ no_loan
 

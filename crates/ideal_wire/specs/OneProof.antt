@@ -10,7 +10,8 @@ use mathlib.Core.HLevel.{Σ_prop_path}
 use mathlib.Core.List.{is_set}
 use base.Stored.{Coded-set}
 use denote.Struct.Props.{props}
-use Rattle.busdma_base.specs.contracts.journals.report.Judged as judged
+use Rattle.busdma_base.specs.contracts.machine.bio.Bio as bios
+use Rattle.busdma_base.specs.declared.machine.bio.Bio.{Bio}
 use Rattle.busdma_base.specs.declared.machine.bio.Bio.TheVariants as bio
 use Rattle.busdma_base.specs.declared.machine.chunk.Chunk.{Chunk}
 use Rattle.busdma_base.specs.declared.machine.address.Segment.{Segment}
@@ -21,7 +22,7 @@ use Rattle.busdma_base.specs.declared.scenarios.script.Op.{Op}
 use Rattle.busdma_base.specs.declared.tags.tag.TagLimits.{TagLimits}
 use Rattle.busdma_base.specs.Tags.Tag.{IsEffective}
 use Rattle.busdma_base.specs.Machine.Wire.{Placed, Wire}
-use Rattle.busdma_base.specs.Scenarios.Buffers.{IsBufferOf}
+use Rattle.busdma_base.specs.Scenarios.Buffers.{IsBioOf, IsBufferOf}
 use Rattle.busdma_base.specs.Scenarios.Operations.{about}
 use Rattle.busdma_base.specs.Scenarios.Valid.{LoadsFrom}
 use Rattle.loan_table.specs.contracts.position.Position as position
@@ -29,6 +30,7 @@ use Rattle.loan_table.specs.Loans.{Loan}
 use Rattle.map_sync.specs.Traces.{HasChunk, HasChunks}
 use Rattle.segment_build.specs.Trace.{chunk_len}
 use Rattle.ideal_lane.specs.State.{LaneState, Stage, Idle, Waiting, Loaded, Returning}
+use Rattle.ideal_wire.specs.Answered.{Load}
 use Rattle.ideal_wire.specs.Apart.{IsApart}
 use Rattle.ideal_wire.specs.Centre.{IsFaithful}
 use Rattle.ideal_wire.specs.Laid.{AreLaid, IsLaid, LiesIn}
@@ -56,13 +58,22 @@ HasChunks-prop place ps (c ∷ cs) =
     ×_prop (HasChunk-prop place ps c)
     (HasChunks-prop (c.at + chunk_len c) (drop (c.at + chunk_len c - place) ps) cs)
 
+pub IsBioOf-prop : (pages : List PageRun) (b : Bio) → IsProp (IsBioOf pages b)
+IsBioOf-prop pages (bio.Mapped span) = Unit-prop
+IsBioOf-prop pages (bio.Vector spans) = Unit-prop
+IsBioOf-prop pages (bio.Unmapped frames off len) = hlevel (props, AllByRecursion-prop)
+
+Load-set : IsSet Load
+Load-set = hlevel (props, Coded-set bios.the_row.coded)
+
 IsLaid-prop : (l : LaneState) (m : ℕ) (cs : List Chunk) (ss : List Segment) (ps : List ℕ) → IsProp
     (IsLaid l m cs ss ps)
 IsLaid-prop l m cs ss ps = hlevel (props, AllByRecursion-prop, zip-prop, HasChunks-prop, is_set)
 
 LiesIn-prop : (l : LaneState) (m : ℕ) (s : Stage) → IsProp (LiesIn l m s)
 LiesIn-prop l m Idle = Loan-set _ _
-LiesIn-prop l m (Waiting load_at need) = hlevel (props, Loan-set, Coded-set judged.the_row.coded)
+LiesIn-prop l m (Waiting w) =
+    hlevel (props, Loan-set, IsBioOf-prop, Load-set, AllByRecursion-prop)
 LiesIn-prop l m (Loaded bounced segments pages) = IsLaid-prop l m bounced segments pages
 LiesIn-prop l m Returning = Loan-set _ _
 
@@ -97,9 +108,7 @@ IsBufferOf-prop : (pages : List PageRun) (x : Buffer) → IsProp (IsBufferOf pag
 IsBufferOf-prop pages (buffer.Flat place len) = Unit-prop
 IsBufferOf-prop pages (buffer.Vector spans) = Unit-prop
 IsBufferOf-prop pages (buffer.Mbuf chain) = Unit-prop
-IsBufferOf-prop pages (buffer.Bio (bio.Mapped span)) = Unit-prop
-IsBufferOf-prop pages (buffer.Bio (bio.Vector spans)) = Unit-prop
-IsBufferOf-prop pages (buffer.Bio (bio.Unmapped frames off len)) = hlevel (props, AllByRecursion-prop)
+IsBufferOf-prop pages (buffer.Bio b) = IsBioOf-prop pages b
 
 loads-prop : (pages : List PageRun) (x : Option Buffer) → IsProp (IfSome x (IsBufferOf pages))
 loads-prop pages None = hlevel (props)

@@ -33,7 +33,7 @@ script-left (o ∷ script) =
 
 opens-left : (id maxmem : ℕ) (d : Driver) → left (opening_lane id maxmem d) ≡ sum_by op_weight d.script
 opens-left id maxmem d =
-    let none = weigh-empty (λ (o : LaneMap). stage_weight d.script o.stage) in omega (arith, none)
+    let none = weigh-empty (λ (o : LaneMap). stage_weight o.stage) in omega (arith, none)
 
 left-few : (frames : List FrameRun) (before ds : List Driver) (id maxmem : ℕ) →
     EachAfter (IsDriver frames) before ds →

@@ -22,6 +22,7 @@ use Rattle.lane_tables.specs.declared.queued.QueuedItem.{QueuedItem}
 use Rattle.lane_tables.specs.Queues.{queue_names}
 use Rattle.ideal_lane.specs.Asking.{Gives, goes_on}
 use Rattle.ideal_lane.specs.State.{LaneState, LaneMap, Stage, Idle, Waiting, Loaded, Returning, named}
+use Rattle.ideal_lane.specs.State.{WaitingLoad}
 use Rattle.ideal_lane.specs.Standing.{IsPageless}
 use Rattle.ideal_lane.specs.Turns.{Blocked, stays, operation, transfer, waits, waits_in, is_waiting, advanced}
 use Rattle.ideal_lane.specs.Turns.{next_operation, script_turn, transfer_turn, called_back, lane_step}
@@ -45,10 +46,9 @@ past-end (o ∷ script) (suc place) h = let r = past-end script place h in omega
 -- a map that waits
 record WaitsWith (o : Option LaneMap) : Type 0 where
   map : LaneMap
-  load_at : ℕ
-  need : ℕ
+  load : WaitingLoad
   is : o ≡ Some map
-  stage : map.stage ≡ Waiting load_at need
+  stage : map.stage ≡ Waiting load
 
 waits-with : (o : Option LaneMap) → is_waiting o ≡ true → WaitsWith o
 waits-with None h = absurd (cc)
@@ -56,7 +56,7 @@ waits-with (Some o) h = by o.stage refl h
   where
     by : (s : Stage) → o.stage ≡ s → waits_in s ≡ true → WaitsWith (Some o)
     by Idle e t = absurd (cc)
-    by (Waiting at need) e t = record { map = o; load_at = at; need = need; is = refl; stage = e }
+    by (Waiting w) e t = record { map = o; load = w; is = refl; stage = e }
     by (Loaded cs ss ps) e t = absurd (cc)
     by Returning e t = absurd (cc)
 
@@ -166,27 +166,26 @@ module _ (s : Scenario) (w : WorldState) (well : IsWellFormed s w) (rest : IsAtR
         (zone : Option ℕ) → x.map.zone ≡ zone → IsAwaiting w.account l
     in-list m at x None e =
         let stands = driver.stands.each m x.map x.is in
-        let none : IsPageless (Waiting x.load_at x.need) = subst IsPageless x.stage (stands.pageless e) in
+        let none : IsPageless (Waiting x.load) = subst IsPageless x.stage (stands.pageless e) in
         absurd none
     in-list m at x (Some z) e =
-        let seen : own_map (get l.maps m) ≡ Some (record { zone = z; stage = view.Waiting x.need }) =
+        let seen : own_map (get l.maps m) ≡ Some (record { zone = z; stage = view.Waiting x.load.need }) =
         ap own_map x.is ∙ (zoned x.map.stage x.map z e
         ∙ ap (λ (t : Stage). Some (record { zone = z; stage = Rattle.ideal_lane.specs.View.stage_of t })) x.stage) in
         let same = known (view_of l) w.account (named l m) _ driver.agrees refl seen in
-        let one : one_if ((x.need == x.need) && (z == z)) ≡ 1 =
-        rw (eq-eqb x.need x.need refl, eq-eqb z z refl) refl in
+        let one : one_if ((x.load.need == x.load.need) && (z == z)) ≡ 1 =
+        rw (eq-eqb x.load.need x.load.need refl, eq-eqb z z refl) refl in
         record {
           map = m;
           operation = at;
           own = x.map;
           there = x.is;
-          load_at = x.load_at;
-          need = x.need;
+          load = x.load;
           stage = x.stage;
           zone = z;
           bounces = e;
-          listed = in-zone (named l m) z x.need w.account (fits s w well).well none-ready ∙
-              (same.waits z x.need ∙ one);
+          listed = in-zone (named l m) z x.load.need w.account (fits s w well).well none-ready ∙
+              (same.waits z x.load.need ∙ one);
         }
 
     awaits : (o : Op) → slice_get l.script l.place ≡ Some o → waits o l ≡ true → EndsOrAwaits w.account l

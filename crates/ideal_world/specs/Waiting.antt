@@ -5,7 +5,7 @@ use Rattle.std.specs.FinMap.{get}
 use Rattle.busdma_base.specs.declared.scenarios.script.Op.TheVariants.{Await}
 use Rattle.busdma_base.specs.Bounce.Account.{Account, zone_at}
 use Rattle.busdma_base.specs.Bounce.Share.{is_waiting}
-use Rattle.ideal_lane.specs.State.{LaneState, LaneMap, Waiting, named}
+use Rattle.ideal_lane.specs.State.{LaneState, LaneMap, Waiting, WaitingLoad, named}
 use Rattle.ideal_world.specs.World.{WorldState, has_ended}
 
 -- the script of a driver awaits a map whose load waits for pages, and which stands once, with the load's need, in the
@@ -15,12 +15,11 @@ pub record IsAwaiting (a : Account) (l : LaneState) : Type 0 where
   pub operation : slice_get l.script l.place ≡ Some (Await map)
   pub own : LaneMap
   pub there : get l.maps map ≡ Some own
-  pub load_at : ℕ
-  pub need : ℕ
-  pub stage : own.stage ≡ Waiting load_at need
+  pub load : WaitingLoad
+  pub stage : own.stage ≡ Waiting load
   pub zone : ℕ
   pub bounces : own.zone ≡ Some zone
-  pub listed : count_by (is_waiting (named l map) zone need) (zone_at a zone).wait ≡ 1
+  pub listed : count_by (is_waiting (named l map) zone load.need) (zone_at a zone).wait ≡ 1
 
 -- the script of a driver has ended, or awaits such a map
 pub data EndsOrAwaits (a : Account) (l : LaneState) : Type 0 where

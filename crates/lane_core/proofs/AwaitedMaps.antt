@@ -2,7 +2,7 @@
 use Rattle.std.proofs.Common.{◌≡◌, ℕ, true, false, ◌||◌, Some, None, refl}
 use Rattle.std.specs.FinMap.{get}
 use Rattle.busdma_base.specs.declared.scenarios.script.Op.TheVariants.{Await}
-use Rattle.dma_map.specs.declared.callback.Transfers.{Transfers}
+use Rattle.lane_core.specs.declared.kept.KeptLoad.{KeptLoad}
 use Rattle.dma_map.specs.declared.state.MapState.TheVariants as state
 use Rattle.dma_map.specs.MapView as held
 use Rattle.lane_tables.specs.Queues.{queue_names}
@@ -21,18 +21,18 @@ module _ (l : LaneState) (m : ℕ) where
   awaits-some o there = rw there refl
 
 -- whether a load waits is what the state of its map says
-pub state-waits : (need : ℕ) (s : held.Stage Transfers) → held.state_of s ≡ state.Waiting →
-    waits_in (stage_of need s) ≡ true
-state-waits need held.idle h = absurd (cc)
-state-waits need (held.waiting load_at callback room) h = refl
-state-waits need (held.loaded bounced segments pages) h = absurd (cc)
-state-waits need (held.lent bounced segments frames) h = absurd (cc)
-state-waits need held.returning h = absurd (cc)
+pub state-waits : (s : held.Stage KeptLoad) → held.state_of s ≡ state.Waiting →
+    waits_in (stage_of s) ≡ true
+state-waits held.idle h = absurd (cc)
+state-waits (held.waiting load_at callback room) h = refl
+state-waits (held.loaded bounced segments pages) h = absurd (cc)
+state-waits (held.lent bounced segments frames) h = absurd (cc)
+state-waits held.returning h = absurd (cc)
 
-pub state-goes : (need : ℕ) (s : held.Stage Transfers) → ¬ (held.state_of s ≡ state.Waiting) →
-    waits_in (stage_of need s) ≡ false
-state-goes need held.idle h = refl
-state-goes need (held.waiting load_at callback room) h = absurd (h refl)
-state-goes need (held.loaded bounced segments pages) h = refl
-state-goes need (held.lent bounced segments frames) h = refl
-state-goes need held.returning h = refl
+pub state-goes : (s : held.Stage KeptLoad) → ¬ (held.state_of s ≡ state.Waiting) →
+    waits_in (stage_of s) ≡ false
+state-goes held.idle h = refl
+state-goes (held.waiting load_at callback room) h = absurd (h refl)
+state-goes (held.loaded bounced segments pages) h = refl
+state-goes (held.lent bounced segments frames) h = refl
+state-goes held.returning h = refl

@@ -9,16 +9,14 @@ use Rattle.std.specs.List.{list_any}
 use Rattle.std.specs.Option.{option_map}
 use Rattle.busdma_base.specs.declared.journals.answer.Answer.TheVariants.{Refused, Segments}
 use Rattle.busdma_base.specs.declared.journals.report.Errno.TheVariants.{EFBIG}
-use Rattle.busdma_base.specs.declared.journals.report.Judged.TheVariants.{Fine}
 use Rattle.busdma_base.specs.declared.machine.bio.Bio.{Bio}
 use Rattle.busdma_base.specs.declared.machine.chunk.Chunk.{Chunk}
-use Rattle.busdma_base.specs.declared.scenarios.script.Item.{Item}
 use Rattle.busdma_base.specs.Bounce.AccountStep.{as_pages}
 use Rattle.busdma_base.specs.Machine.Entry.{entries_addresses}
 use Rattle.busdma_base.specs.Machine.Page.{FrameBytes}
 use Rattle.busdma_base.specs.Machine.PageRuns.{physical_in}
 use Rattle.busdma_base.specs.Machine.Spans.{bio_spans}
-use Rattle.dma_map.specs.declared.callback.Transfers.{Transfers}
+use Rattle.lane_core.specs.declared.kept.KeptLoad.{KeptLoad}
 use Rattle.dma_map.specs.declared.room.LoadRoom.{LoadRoom}
 use Rattle.dma_map.specs.MapView as held
 use Rattle.load_bio.specs.Bio.{bio_translation, is_rounded}
@@ -35,39 +33,38 @@ use Rattle.ideal_lane.specs.Places.{is_in_memory, or_in_memory, physical, physic
 use Rattle.ideal_lane.specs.State.{LaneMap, LaneState, LaneTag, Stage, Idle, Loaded, Waiting}
 use Rattle.lane_core.specs.declared.holdings.Holdings.{Holdings}
 use Rattle.lane_core.specs.declared.kept.KeptMap.{KeptMap}
-use Rattle.lane_core.specs.Awaiting.{AreAwaiting, AreAwaitingBut, IsAwaiting, IsLoadAt, KeepsWaiting, kept_load}
+use Rattle.lane_core.specs.Awaiting.{AreAwaiting, AreAwaitingBut, IsAwaiting, KeepsWaiting, kept_load}
 use Rattle.lane_core.specs.Covered.{has_load, is_idle_map}
 use Rattle.lane_core.specs.Ideal.{ideal_of}
-use Rattle.lane_core.specs.Kept.{memory_of, stage_of}
-use Rattle.lane_core.specs.Loading.{HasRoomForAny, bio_chunks, bio_reached, load_loan}
+use Rattle.lane_core.specs.Kept.{memory_of, stage_of, waits_of}
+use Rattle.lane_core.specs.Loading.{HasRoomForAny, IsLoadable, bio_chunks, bio_of, bio_reached, load_loan}
 use Rattle.lane_core.proofs.Keeping.{told-none}
-use Rattle.lane_core.proofs.LoadsAt.{at-same}
 use Rattle.lane_core.proofs.MapValues.{get-map_values, image-none}
 use Rattle.lane_core.proofs.TakenLoads.{put-here, put-other}
 use Rattle.lane_core.proofs.Unloaded.{left}
 
-idle-waits : (need : ℕ) (s : held.Stage Transfers) → is_idle (stage_of need s) ≡ true → held.waiting_load s ≡ None
-idle-waits need held.idle h = refl
-idle-waits need (held.waiting load_at callback room) h = absurd (cc)
-idle-waits need (held.loaded bounced segments pages) h = refl
-idle-waits need (held.lent bounced segments frames) h = refl
-idle-waits need held.returning h = refl
+idle-waits : (s : held.Stage KeptLoad) → is_idle (stage_of s) ≡ true → held.waiting_load s ≡ None
+idle-waits held.idle h = refl
+idle-waits (held.waiting load_at callback room) h = absurd (cc)
+idle-waits (held.loaded bounced segments pages) h = refl
+idle-waits (held.lent bounced segments frames) h = refl
+idle-waits held.returning h = refl
 
-loaded-waits : (need : ℕ) (s : held.Stage Transfers) → is_loaded (stage_of need s) ≡ true → held.waiting_load s ≡ None
-loaded-waits need held.idle h = refl
-loaded-waits need (held.waiting load_at callback room) h = absurd (cc)
-loaded-waits need (held.loaded bounced segments pages) h = refl
-loaded-waits need (held.lent bounced segments frames) h = refl
-loaded-waits need held.returning h = refl
+loaded-waits : (s : held.Stage KeptLoad) → is_loaded (stage_of s) ≡ true → held.waiting_load s ≡ None
+loaded-waits held.idle h = refl
+loaded-waits (held.waiting load_at callback room) h = absurd (cc)
+loaded-waits (held.loaded bounced segments pages) h = refl
+loaded-waits (held.lent bounced segments frames) h = refl
+loaded-waits held.returning h = refl
 
 -- a map that is idle, that is loaded or whose load is over keeps none that waits
 pub idle-unkept : (o : Option KeptMap) → is_idle_map o ≡ true → kept_load o ≡ None
 idle-unkept None h = refl
-idle-unkept (Some o) h = idle-waits o.need o.map.stage h
+idle-unkept (Some o) h = idle-waits o.map.stage h
 
 pub loaded-unkept : (o : Option KeptMap) → has_load o ≡ true → kept_load o ≡ None
 loaded-unkept None h = refl
-loaded-unkept (Some o) h = loaded-waits o.need o.map.stage h
+loaded-unkept (Some o) h = loaded-waits o.map.stage h
 
 pub left-unkept : (o : KeptMap) (pages : List FrameBytes) → kept_load (Some (left o pages)) ≡ None
 left-unkept o [] = refl
@@ -161,82 +158,49 @@ module _ (l k : LaneState) (stays : Stays l k) where
   loaned : (m : ℕ) (b : Bio) → load_loan k m b ≡ load_loan l m b
   loaned m b = λ i. new_loan (is_coherent (get (stays.mems i) m)) (entries_addresses (entered b i))
 
-module _ (h k : Holdings) (stays : Stays (ideal_of h) (ideal_of k)) (m load_at : ℕ) (items : List Item)
-    (room : LoadRoom) where
-  awaits-with : get k.loans.prepared m ≡ get h.loans.prepared m → (a : IsAwaiting h m load_at items room) →
-      ((o : LaneMap) (need : ℕ) → get (ideal_of k).maps m ≡ Some o → o.stage ≡ Waiting load_at need →
-      HasRoomForAny (limits_of (ideal_of h) o) (bio_chunks (ideal_of h) o a.bio) need room) →
-      IsAwaiting k m load_at items room
+module _ (h k : Holdings) (stays : Stays (ideal_of h) (ideal_of k)) (m : ℕ) (w : KeptLoad) (room : LoadRoom) where
+  abbrev bio : Bio
+  bio = bio_of w.bytes
+
+  -- by the maps as they were
+  pub awaits-with : get k.loans.prepared m ≡ get h.loans.prepared m → IsAwaiting h m w room →
+      ((o : LaneMap) → get (ideal_of k).maps m ≡ Some o →
+      HasRoomForAny (limits_of (ideal_of h) o) (bio_chunks (ideal_of h) o bio) w.need room) → IsAwaiting k m w room
   awaits-with prepared a fits =
       let l = ideal_of h in
       let n = ideal_of k in
       record {
-        bio = a.bio;
-        at = at-same h k load_at m a.bio items stays.script stays.mems a.at;
         own = told-none memory_of (get k.memories.map m)
             (sym (get-map_values memory_of k.memories.map m) ∙ ap (λ ms. get ms m) stays.mems
             ∙ image-none memory_of h.memories.map m a.own);
-        reached = reached l n stays a.bio ∙ a.reached;
-        fits = λ o need found stage.
-            subst (λ t. HasRoomForAny t (bio_chunks n o a.bio) need room) (sym (limits l n stays o))
-            (subst (λ cs. HasRoomForAny (limits_of l o) cs need room) (sym (chunked l n stays o a.bio))
-            (fits o need found stage));
-        prepared = prepared ∙ a.prepared ∙ ap (λ (x : Loan). Some x) (sym (loaned l n stays m a.bio));
+        reached = reached l n stays bio ∙ a.reached;
+        loadable = subst (λ p. IsLoadable p bio) (sym stays.pages) a.loadable;
+        fits = λ o found.
+            subst (λ t. HasRoomForAny t (bio_chunks n o bio) w.need room) (sym (limits l n stays o))
+            (subst (λ cs. HasRoomForAny (limits_of l o) cs w.need room) (sym (chunked l n stays o bio))
+            (fits o found));
+        prepared = prepared ∙ a.prepared ∙ ap (λ (x : Loan). Some x) (sym (loaned l n stays m bio));
       }
 
   pub awaits-still : get (ideal_of k).maps m ≡ get (ideal_of h).maps m →
-      get k.loans.prepared m ≡ get h.loans.prepared m → IsAwaiting h m load_at items room →
-      IsAwaiting k m load_at items room
-  awaits-still map prepared a = awaits-with prepared a (λ o need found stage. a.fits o need (sym map ∙ found) stage)
+      get k.loans.prepared m ≡ get h.loans.prepared m → IsAwaiting h m w room → IsAwaiting k m w room
+  awaits-still map prepared a = awaits-with prepared a (λ o found. a.fits o (sym map ∙ found))
 
--- ---- a load that is ready begins to wait
-
--- what is ready for the load of an idle map that needs so many pages
-pub record IsReadyLoad (h : Holdings) (m load_at need : ℕ) (o : LaneMap) (items : List Item) (room : LoadRoom)
-    : Type 0 where
-  pub bio : Bio
-  pub there : get (ideal_of h).maps m ≡ Some o
-  pub idle : is_idle o.stage ≡ true
-  pub at : IsLoadAt h load_at m bio items
-  pub own : get h.memories.map m ≡ None
-  pub reached : bio_reached (ideal_of h) bio ≡ Fine
-  pub fits : HasRoomForAny (limits_of (ideal_of h) o) (bio_chunks (ideal_of h) o bio) need room
-  pub prepared : get h.loans.prepared m ≡ Some (load_loan (ideal_of h) m bio)
-
-module _ (h k : Holdings) (m load_at need : ℕ) (o : LaneMap) (items : List Item) (room : LoadRoom)
-    (ready : IsReadyLoad h m load_at need o items room) where
-  -- it would not be idle
-  not-yet : (p : LaneMap) (n : ℕ) → get (ideal_of h).maps m ≡ Some p → p.stage ≡ Waiting load_at n → ⊥
-  not-yet p n found stage =
-      let there : get (ideal_of h).maps m ≡ Some o = ready.there in
-      let same : o ≡ p = cc in
-      let no : true ≡ is_idle (Waiting load_at n) =
-      sym ready.idle ∙ ap (λ (y : LaneMap). is_idle y.stage) same ∙ ap is_idle stage in absurd (cc)
-
-  pub begins-waiting : ideal_of k ≡ staged m o (Waiting load_at need) (ideal_of h) →
-      k.loans.prepared ≡ h.loans.prepared → IsAwaiting k m load_at items room
-  begins-waiting e prepared =
-      let l = ideal_of h in
-      let v : LaneMap = record o { tried = true; stage = Waiting load_at need } in
-      let put : get (ideal_of k).maps m ≡ Some v =
-      ap (λ (n : LaneState). get n.maps m) e ∙ put-here l.maps m v in
-      let a : IsAwaiting h m load_at items room = record {
-        bio = ready.bio;
-        at = ready.at;
-        own = ready.own;
-        reached = ready.reached;
-        fits = λ p n found stage. absurd (not-yet p n found stage);
-        prepared = ready.prepared;
-      } in
-      awaits-with h k (stays-staged m o (Waiting load_at need) l (ideal_of k) e).rest m load_at items room
-      (ap (λ ps. get ps m) prepared) a
-      (λ p n found stage.
-      let same : v ≡ p = let both = sym put ∙ found in cc in
-      let waits : Waiting load_at need ≡ Waiting load_at n = ap (λ (y : LaneMap). y.stage) same ∙ stage in
-      let needs : need ≡ n = cc in
-      subst (λ q. HasRoomForAny (limits_of l p) (bio_chunks l p ready.bio) q room) needs
-      (subst (λ (y : LaneMap). HasRoomForAny (limits_of l y) (bio_chunks l y ready.bio) need room) same
-      ready.fits))
+-- the load of a map begins to wait, where all it keeps is ready
+pub begins-waiting : (h k : Holdings) (m load_at : ℕ) (o : LaneMap) (w : KeptLoad) (room : LoadRoom) →
+    IsAwaiting h m w room → get (ideal_of h).maps m ≡ Some o →
+    ideal_of k ≡ staged m o (Waiting (waits_of load_at w)) (ideal_of h) → k.loans.prepared ≡ h.loans.prepared →
+    IsAwaiting k m w room
+begins-waiting h k m load_at o w room ready there e prepared =
+    let l = ideal_of h in
+    let v : LaneMap = record o { tried = true; stage = Waiting (waits_of load_at w) } in
+    let put : get (ideal_of k).maps m ≡ Some v = ap (λ (n : LaneState). get n.maps m) e ∙ put-here l.maps m v in
+    awaits-with h k (stays-staged m o (Waiting (waits_of load_at w)) l (ideal_of k) e).rest m w room
+    (ap (λ ps. get ps m) prepared) ready
+    (λ p found.
+    let same : v ≡ p = let both = sym put ∙ found in cc in
+    subst (λ (y : LaneMap). HasRoomForAny (limits_of l y) (bio_chunks l y (bio_of w.bytes)) w.need room) same
+    (ready.fits o there))
 
 -- ---- all loads wait as they did, but that of one map
 
@@ -255,7 +219,7 @@ pub record KeepsOthers (one : ℕ) (h k : Holdings) : Type 0 where
 pub awaiting-others : (h k : Holdings) (one : ℕ) → KeepsOthers one h k → AreAwaitingBut one h → AreAwaitingBut one k
 awaiting-others h k one keeps are = record {
   each = λ m load_at callback room off kept.
-      awaits-still h k keeps.stays.rest m load_at callback.items room (keeps.stays.maps m off) (keeps.prepared m off)
+      awaits-still h k keeps.stays.rest m callback room (keeps.stays.maps m off) (keeps.prepared m off)
       (are.each m load_at callback room off (sym (keeps.kept m off) ∙ kept));
   prepared = λ m off none. keeps.prepared m off ∙ are.prepared m off (sym (keeps.kept m off) ∙ none);
 }
@@ -268,9 +232,9 @@ awaiting-none k one none unprepared are = record {
   prepared = λ m empty. prepared m empty (m == one) refl;
 }
   where
-    each : (m load_at : ℕ) (callback : Transfers) (room : LoadRoom) →
+    each : (m load_at : ℕ) (callback : KeptLoad) (room : LoadRoom) →
         kept_load (get k.maps.map m) ≡ Some (load_at, callback, room) → (b : Bool) → (m == one) ≡ b →
-        IsAwaiting k m load_at callback.items room
+        IsAwaiting k m callback room
     each m load_at callback room kept true e =
         let no = sym none ∙ ap (λ q. kept_load (get k.maps.map q)) (sym (exact_unsigned_eq m one e)) ∙ kept in absurd
         (cc)
@@ -282,26 +246,26 @@ awaiting-none k one none unprepared are = record {
     prepared m empty false e = are.prepared m e empty
 
 -- what a map waits with that keeps this
-abbrev Awaits : Holdings → ℕ → Option (ℕ × Transfers × LoadRoom) → Type 0
+abbrev Awaits : Holdings → ℕ → Option (ℕ × KeptLoad × LoadRoom) → Type 0
 Awaits k m None = Unit {0}
-Awaits k m (Some x) = IsAwaiting k m x.0 x.1.items x.2
+Awaits k m (Some x) = IsAwaiting k m x.1 x.2
 
 -- the load of that map waits
-pub awaiting-one : (k : Holdings) (one load_at : ℕ) (callback : Transfers) (room : LoadRoom) →
-    kept_load (get k.maps.map one) ≡ Some (load_at, callback, room) → IsAwaiting k one load_at callback.items room →
+pub awaiting-one : (k : Holdings) (one load_at : ℕ) (callback : KeptLoad) (room : LoadRoom) →
+    kept_load (get k.maps.map one) ≡ Some (load_at, callback, room) → IsAwaiting k one callback room →
     AreAwaitingBut one k → AreAwaiting k
 awaiting-one k one load_at callback room waits is are = record {
   each = λ m at with in_room kept. each m at with in_room kept (m == one) refl;
   prepared = λ m empty. prepared m empty (m == one) refl;
 }
   where
-    each : (m at : ℕ) (with : Transfers) (in_room : LoadRoom) →
+    each : (m at : ℕ) (with : KeptLoad) (in_room : LoadRoom) →
         kept_load (get k.maps.map m) ≡ Some (at, with, in_room) → (b : Bool) → (m == one) ≡ b →
-        IsAwaiting k m at with.items in_room
+        IsAwaiting k m with in_room
     each m at with in_room kept true e =
         let same = exact_unsigned_eq m one e in
         let alike = sym waits ∙ ap (λ q. kept_load (get k.maps.map q)) (sym same) ∙ kept in
-        subst (λ q. IsAwaiting k q at with.items in_room) (sym same) (subst (Awaits k one) alike is)
+        subst (λ q. IsAwaiting k q with in_room) (sym same) (subst (Awaits k one) alike is)
     each m at with in_room kept false e = are.each m at with in_room e kept
 
     prepared : (m : ℕ) → kept_load (get k.maps.map m) ≡ None → (b : Bool) → (m == one) ≡ b →
@@ -317,7 +281,7 @@ module _ (h k : Holdings) (same : ideal_of k ≡ ideal_of h) (maps : k.maps.map 
   pub awaiting-same : k.loans.prepared ≡ h.loans.prepared → AreAwaiting h → AreAwaiting k
   awaiting-same prepared are = record {
     each = λ m load_at callback room kept.
-        awaits-still h k (stays-same (ideal_of h) (ideal_of k) same) m load_at callback.items room
+        awaits-still h k (stays-same (ideal_of h) (ideal_of k) same) m callback room
         (ap (λ (l : LaneState). get l.maps m) same) (ap (λ ps. get ps m) prepared)
         (are.each m load_at callback room (sym (ap (λ ms. kept_load (get ms m)) maps) ∙ kept));
     prepared = λ m none. ap (λ ps. get ps m) prepared

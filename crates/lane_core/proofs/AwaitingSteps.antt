@@ -7,7 +7,7 @@ use Rattle.std.specs.FinMap.{FinMap, get, insert, remove}
 use Rattle.std.proofs.lemmas.Bool.{eqb-true}
 use Rattle.busdma_base.specs.declared.tags.tag.TagLimits.{TagLimits}
 use Rattle.busdma_base.specs.Machine.Page.{FrameBytes}
-use Rattle.dma_map.specs.declared.callback.Transfers.{Transfers}
+use Rattle.lane_core.specs.declared.kept.KeptLoad.{KeptLoad}
 use Rattle.dma_map.specs.MapView as held
 use Rattle.ideal_lane.specs.Loads.{no_limits}
 use Rattle.ideal_lane.specs.Outcomes.{is_idle, is_loaded}
@@ -29,56 +29,55 @@ use Rattle.lane_core.proofs.MapValues.{image-some}
 -- no load of a map waits, and nothing is kept to build one by
 unawaited : (tags : FinMap nat_cmp KeptTag) (o : Option KeptMap) → kept_load o ≡ None → awaited_by tags o ≡ None
 unawaited tags None none = refl
-unawaited tags (Some x) none = ap (option_map (λ kept. (x.need, limits_at tags x.tag))) none
+unawaited tags (Some x) none = ap (option_map (λ kept. limits_at tags x.tag)) none
 
 -- a map of which no load waits, by where it stands
-idle-in : (need : ℕ) (s : held.Stage Transfers) → is_idle (stage_of need s) ≡ true → held.waiting_load s ≡ None
-idle-in need held.idle h = refl
-idle-in need (held.waiting load_at callback room) h = absurd (cc)
-idle-in need (held.loaded bounced segments pages) h = refl
-idle-in need (held.lent bounced segments frames) h = refl
-idle-in need held.returning h = refl
+idle-in : (s : held.Stage KeptLoad) → is_idle (stage_of s) ≡ true → held.waiting_load s ≡ None
+idle-in held.idle h = refl
+idle-in (held.waiting load_at callback room) h = absurd (cc)
+idle-in (held.loaded bounced segments pages) h = refl
+idle-in (held.lent bounced segments frames) h = refl
+idle-in held.returning h = refl
 
-loaded-in : (need : ℕ) (s : held.Stage Transfers) → is_loaded (stage_of need s) ≡ true → held.waiting_load s ≡ None
-loaded-in need held.idle h = refl
-loaded-in need (held.waiting load_at callback room) h = absurd (cc)
-loaded-in need (held.loaded bounced segments pages) h = refl
-loaded-in need (held.lent bounced segments frames) h = refl
-loaded-in need held.returning h = refl
+loaded-in : (s : held.Stage KeptLoad) → is_loaded (stage_of s) ≡ true → held.waiting_load s ≡ None
+loaded-in held.idle h = refl
+loaded-in (held.waiting load_at callback room) h = absurd (cc)
+loaded-in (held.loaded bounced segments pages) h = refl
+loaded-in (held.lent bounced segments frames) h = refl
+loaded-in held.returning h = refl
 
-returns-in : (need : ℕ) (s : held.Stage Transfers) → returns_in (stage_of need s) ≡ true → held.waiting_load s ≡ None
-returns-in need held.idle h = refl
-returns-in need (held.waiting load_at callback room) h = absurd (cc)
-returns-in need (held.loaded bounced segments pages) h = refl
-returns-in need (held.lent bounced segments frames) h = refl
-returns-in need held.returning h = refl
+returns-in : (s : held.Stage KeptLoad) → returns_in (stage_of s) ≡ true → held.waiting_load s ≡ None
+returns-in held.idle h = refl
+returns-in (held.waiting load_at callback room) h = absurd (cc)
+returns-in (held.loaded bounced segments pages) h = refl
+returns-in (held.lent bounced segments frames) h = refl
+returns-in held.returning h = refl
 
 pub idle-unkept : (o : Option KeptMap) → is_idle_map o ≡ true → kept_load o ≡ None
 idle-unkept None h = refl
-idle-unkept (Some x) h = idle-in x.need x.map.stage h
+idle-unkept (Some x) h = idle-in x.map.stage h
 
 pub loaded-unkept : (o : Option KeptMap) → has_load o ≡ true → kept_load o ≡ None
 loaded-unkept None h = refl
-loaded-unkept (Some x) h = loaded-in x.need x.map.stage h
+loaded-unkept (Some x) h = loaded-in x.map.stage h
 
 pub returning-unkept : (o : Option KeptMap) → is_returning o ≡ true → kept_load o ≡ None
 returning-unkept None h = refl
-returning-unkept (Some x) h = returns-in x.need x.map.stage h
+returning-unkept (Some x) h = returns-in x.map.stage h
 
 -- a load that is over waits no more, whichever pages it gave away
-pub left-unkept : (pages : List FrameBytes) → held.waiting_load (held.left_by {C = Transfers} pages) ≡ None
+pub left-unkept : (pages : List FrameBytes) → held.waiting_load (held.left_by {C = KeptLoad} pages) ≡ None
 left-unkept [] = refl
 left-unkept (p ∷ pages) = refl
 
 -- a step changes tags, maps, loans that are not prepared, the driver's bytes, and its place and queues
-module _ (h k : Holdings) (script : k.script ≡ h.script) (pages : k.pages ≡ h.pages)
+module _ (h k : Holdings) (pages : k.pages ≡ h.pages)
     (memories : k.memories.map ≡ h.memories.map) (maxmem : k.maxmem ≡ h.maxmem)
     (prepared : k.loans.prepared ≡ h.loans.prepared) where
   module _ (tags : k.tags.map ≡ h.tags.map) where
     reach-by : ((m : ℕ) → awaited_by h.tags.map (get k.maps.map m) ≡ awaited_by h.tags.map (get h.maps.map m)) →
         KeepsReach h k
     reach-by awaited = record {
-      script = script;
       pages = pages;
       memories = memories;
       maxmem = maxmem;
@@ -130,7 +129,6 @@ module _ (h k : Holdings) (script : k.script ≡ h.script) (pages : k.pages ≡ 
       AreAwaiting h → AreAwaiting k
   awaits-tags tags is keeps maps =
       awaiting-stays h k (record { kept = λ m. ap (λ ms. kept_load (get ms m)) maps; prepared = prepared }) (record {
-        script = script;
         pages = pages;
         memories = memories;
         maxmem = maxmem;
@@ -149,7 +147,7 @@ module _ (h k : Holdings) (script : k.script ≡ h.script) (pages : k.pages ≡ 
           awaited_by k.tags.map o ≡ awaited_by h.tags.map o
       by m None there = refl
       by m (Some x) there =
-          ap (λ t. option_map (λ kept. (x.need, t)) (kept_load (Some x))) (same m x there)
+          ap (λ t. option_map (λ kept. t) (kept_load (Some x))) (same m x there)
 
 -- a tag is put in the place of one with the same limits
 pub tag-again : (l : LaneState) (at : ℕ) (x y : LaneTag) → get l.tags at ≡ Some x → y.limits ≡ x.limits →

@@ -12,7 +12,7 @@ use Rattle.busdma_base.specs.Machine.Wire.{Placed, Wire, buffers, buses, copied_
 use Rattle.busdma_base.specs.Machine.Wire.{stretch}
 use Rattle.busdma_base.specs.Machine.Wire.{with_bytes_of}
 use Rattle.busdma_base.specs.Runs.{addresses}
-use Rattle.dma_map.specs.declared.callback.Transfers.{Transfers}
+use Rattle.lane_core.specs.declared.kept.KeptLoad.{KeptLoad}
 use Rattle.dma_map.specs.MapView as held
 use Rattle.dma_tag.specs.SyncOps.{postread, prewrite}
 use Rattle.loan_table.specs.Loans.{loan_of}
@@ -183,7 +183,7 @@ module _ (h : Holdings) (wired : IsWired h) (k : ℕ) (o : KeptMap) (there : get
   both P Q [] all = (tt, tt)
   both P Q (t ∷ ps) all = let rest = both P Q ps all.1 in ((all.0.0, rest.0), (all.0.1, rest.1))
 
-  module _ (next : held.MapView Transfers) (repaged : IsRepaged o.map next) (n : Memory) (off len ops : ℕ)
+  module _ (next : held.MapView KeptLoad) (repaged : IsRepaged o.map next) (n : Memory) (off len ops : ℕ)
       (copied : device_view (device_in next.stage) n
       ≡ copied_by ops (range_of_chunks off len (held.chunks_of o.map.stage)) view) where
     abbrev now : Wire

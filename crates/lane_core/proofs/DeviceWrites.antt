@@ -10,7 +10,7 @@ use Rattle.busdma_base.specs.declared.journals.report.Judged.TheVariants.{Fine}
 use Rattle.busdma_base.specs.declared.journals.report.Report.{Report}
 use Rattle.busdma_base.specs.Machine.Wire.{put, stretch, with_bytes_of}
 use Rattle.device_model.specs.Access.{bus_range}
-use Rattle.dma_map.specs.declared.callback.Transfers.{Transfers}
+use Rattle.lane_core.specs.declared.kept.KeptLoad.{KeptLoad}
 use Rattle.dma_map.specs.MapView as held
 use Rattle.loan_table.specs.declared.position.Position.{Position}
 use Rattle.loan_table.specs.Access.{dev_write_answer}
@@ -75,7 +75,7 @@ module _ (h : Holdings) (wired : IsWired h) (k : ℕ) (o : KeptMap) (there : get
     (on : has_load (Some o) ≡ true) (off : ℕ) (vs : List ℕ)
     (range : off + length vs ≤ length (buffer_of h.loans k))
     (fine : Fine ≡ dev_write_answer (loan_of h.loans.loans k) off (length vs))
-    (next : held.MapView Transfers) (repaged : IsRepaged o.map next) (n : Memory)
+    (next : held.MapView KeptLoad) (repaged : IsRepaged o.map next) (n : Memory)
     (view : device_view (device_in next.stage) n
     ≡ put (bus_range off (length vs) (held.segments_of o.map.stage)) vs
     (device_view (device_in o.map.stage) h.memory.memory)) where

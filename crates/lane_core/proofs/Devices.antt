@@ -17,7 +17,7 @@ use Rattle.busdma_base.specs.Machine.PageList.{RoomyPages, frames_of, page_addre
 use Rattle.busdma_base.specs.Machine.Wire.{Placed, stretch}
 use Rattle.device_model.specs.Access.{IsThere, bus_range}
 use Rattle.device_model.proofs.Walk.{bytes_length}
-use Rattle.dma_map.specs.declared.callback.Transfers.{Transfers}
+use Rattle.lane_core.specs.declared.kept.KeptLoad.{KeptLoad}
 use Rattle.dma_map.specs.MapView as held
 use Rattle.loan_table.specs.Loans.{addresses_of, loan_of}
 use Rattle.loan_table.specs.Table.{buffer_of}
@@ -170,8 +170,8 @@ module _ (h : Holdings) (wired : IsWired h) where
     loading = by o.map.stage refl on (sym (ap lends_pages there) ∙ h.unlent k)
         (subst (LiesIn l k) (ap stage_in (image-some map_of h.maps.map k o there)) (wired.laid.each k))
       where
-        by : (s : held.Stage Transfers) → o.map.stage ≡ s → is_loaded (stage_of o.need s) ≡ true → is_lent s ≡ false →
-            LiesIn l k (stage_of o.need s) → Loading
+        by : (s : held.Stage KeptLoad) → o.map.stage ≡ s → is_loaded (stage_of s) ≡ true → is_lent s ≡ false →
+            LiesIn l k (stage_of s) → Loading
         by held.idle e loaded unlent lies = absurd (cc)
         by (held.waiting load_at callback room) e loaded unlent lies = absurd (cc)
         by (held.loaded bounced segments pages) e loaded unlent lies = record {

@@ -1,49 +1,41 @@
 -- The load of a map that waited ends: what its end is asked, and what it leaves.
 use Rattle.std.proofs.Common.{◌≡◌, ℕ, ◌+◌, ◌≤◌, true, false, List, length, Some, None, refl, sym, ap}
-use Rattle.std.proofs.Common.{◌∙◌, subst, arith, is_some, slice_get}
+use Rattle.std.proofs.Common.{◌∙◌, subst, arith, is_some, slice_get, IfSome}
 use Rattle.std.specs.FinMap.{get, insert, contains_key}
 use Rattle.busdma_base.specs.declared.journals.answer.Answer.{Answer}
 use Rattle.busdma_base.specs.declared.journals.report.Judged.TheVariants.{Fine}
 use Rattle.busdma_base.specs.declared.machine.bio.Bio.{Bio}
 use Rattle.busdma_base.specs.declared.machine.chunk.Chunk.{Chunk}
-use Rattle.busdma_base.specs.declared.scenarios.buffer.Buffer.{Buffer}
-use Rattle.busdma_base.specs.declared.scenarios.scenario.PageRun.{PageRun}
-use Rattle.busdma_base.specs.declared.scenarios.script.Item.{Item}
-use Rattle.busdma_base.specs.declared.scenarios.script.Op.TheVariants.{Load}
 use Rattle.busdma_base.specs.Scenarios.Limits.{loaded_limit}
-use Rattle.dma_map.specs.declared.callback.Transfers.{Transfers}
+use Rattle.lane_core.specs.declared.kept.KeptLoad.{KeptLoad}
 use Rattle.dma_map.specs.declared.room.LoadRoom.{LoadRoom}
 use Rattle.dma_map.specs.MapView as held
 use Rattle.ideal_lane.specs.Ahead.{items_ahead}
-use Rattle.ideal_lane.specs.Left.{item_count}
 use Rattle.ideal_lane.specs.Loads.{Asked, asked, chunks_for, finished, limits_of, load_entries}
 use Rattle.ideal_lane.specs.Outcomes.{Outcome}
 use Rattle.ideal_lane.specs.Standing.{Stands}
-use Rattle.ideal_lane.specs.State.{LaneMap, LaneState, Waiting}
-use Rattle.ideal_lane.specs.Turns.{asked_at, bio_at, called, never_waits}
-use Rattle.ideal_wire.specs.Machine.{IsInMachine}
-use Rattle.lane_core.specs.declared.buffers.LoadBytes.{LoadBytes}
+use Rattle.ideal_lane.specs.State.{LaneMap, LaneState, Waiting, WaitingLoad}
+use Rattle.ideal_lane.specs.Turns.{called}
 use Rattle.lane_core.specs.declared.holdings.Holdings.{Holdings}
 use Rattle.lane_core.specs.declared.kept.KeptMap.{KeptMap}
 use Rattle.lane_core.specs.Awaiting.{AreAwaiting, AreAwaitingBut, HasSmallLoads, IsAwaiting, bytes_ahead, kept_load}
 use Rattle.lane_core.specs.Changes.{KeepsButMaps, KeepsBytesBut}
 use Rattle.lane_core.specs.Covered.{is_idle_map, pages_due}
 use Rattle.lane_core.specs.Ideal.{given, ideal_of}
-use Rattle.lane_core.specs.Kept.{map_of, memory_of, stage_of}
+use Rattle.lane_core.specs.Kept.{map_of, memory_of, stage_of, waits_of}
 use Rattle.lane_core.specs.Loading.{AreItsFirst, HasRoomForAny, IsLoadable, bio_chunks, bio_of, bio_reached}
 use Rattle.lane_core.specs.Loading.{load_loan, map_chunks}
 use Rattle.lane_core.proofs.Asked.{plain-chunks}
 use Rattle.lane_core.proofs.AwaitingLoads.{StaysBut, awaiting-but, awaiting-others, put-stays, stays-finished}
 use Rattle.lane_core.proofs.Called.{KeepsLoad, load-kept}
-use Rattle.lane_core.proofs.CalledLoads.{asked-is, called-is, finished-free, items-within}
-use Rattle.lane_core.proofs.LoadsAt.{bio-same, loadable-at}
+use Rattle.lane_core.proofs.CalledLoads.{called-is, finished-free, items-within}
 use Rattle.lane_core.proofs.MapValues.{image-none}
 use Rattle.lane_core.proofs.Returned.{idled}
 use Rattle.lane_core.proofs.TakenLoads.{put-other, taken, taken-bytes, taken-ideal, taken-idle, taken-promised}
 use Rattle.lane_core.proofs.TakenLoads.{taken-stands, taken-there}
 use Rattle.lane_core.proofs.TakenLoads as freed
 
-module _ (h k : Holdings) (m at : ℕ) (callback : Transfers) (room : LoadRoom)
+module _ (h k : Holdings) (m at : ℕ) (callback : KeptLoad) (room : LoadRoom)
     (found : kept_load (get h.maps.map m) ≡ Some (at, callback, room))
     (maps : (o : KeptMap) → get h.maps.map m ≡ Some o → k.maps.map ≡ insert h.maps.map m (idled o))
     (rest : KeepsButMaps h k) where
@@ -68,8 +60,11 @@ module _ (h k : Holdings) (m at : ℕ) (callback : Transfers) (room : LoadRoom)
   image : get l.maps m ≡ Some (map_of o)
   image = freed.image h k m o kept.1 load (maps o kept.1) rest
 
-  waits : (map_of o).stage ≡ Waiting at o.need
-  waits = ap (stage_of o.need) kept.2
+  abbrev w : WaitingLoad
+  w = waits_of at callback
+
+  waits : (map_of o).stage ≡ Waiting w
+  waits = ap stage_of kept.2
 
   pub ends-stands : Stands l → Stands (ideal_of k)
   ends-stands = taken-stands h k m o kept.1 load (maps o kept.1) rest
@@ -77,10 +72,13 @@ module _ (h k : Holdings) (m at : ℕ) (callback : Transfers) (room : LoadRoom)
   pub ends-idle : is_idle_map (get k.maps.map m) ≡ true
   ends-idle = taken-idle h k m o kept.1 load (maps o kept.1) rest
 
-  pub ends-promised : (count : ℕ) → ((x : KeptMap) → get h.maps.map m ≡ Some x → count ≡ x.need) →
-      pages_due k.maps.map + count ≤ k.agenda.promised
-  ends-promised count need =
-      taken-promised h k m o kept.1 load (maps o kept.1) rest count (need o kept.1)
+  -- so many pages are those that the load needs
+  module _ (count : ℕ) (need : IfSome (kept_load (get h.maps.map m)) (λ x. count ≡ x.1.need)) where
+    needed : count ≡ callback.need
+    needed = subst (λ q. IfSome q (λ x. count ≡ x.1.need)) found need
+
+    pub ends-promised : pages_due k.maps.map + count ≤ k.agenda.promised
+    ends-promised = taken-promised h k m o kept.1 load (maps o kept.1) rest count needed
 
   pub ends-bytes : (n : Holdings) → KeepsBytesBut m k n → KeepsBytesBut m h n
   ends-bytes n bytes =
@@ -99,102 +97,81 @@ module _ (h k : Holdings) (m at : ℕ) (callback : Transfers) (room : LoadRoom)
       }) (awaiting-but h m awaiting)
 
   module _ (awaiting : AreAwaiting h) where
-    abbrev is : IsAwaiting h m at callback.items room
+    abbrev is : IsAwaiting h m callback room
     is = awaiting.each m at callback room found
 
     pub ends-items : items_ahead l ≤ h.agenda.room → length callback.items ≤ k.agenda.room
     ends-items few =
-        let within = items-within l m (map_of o) image at o.need waits in
-        let count : item_count (slice_get l.script at) ≡ length callback.items = ap item_count is.at.load in
+        let within : length callback.items ≤ items_ahead l = items-within l m (map_of o) image w waits in
         let same : k.agenda.room ≡ h.agenda.room = ap (λ a. a.room) rest.agenda in
-        omega (arith, within, count, same, few)
+        omega (arith, within, same, few)
 
     -- the map is not a memory's
     none : get (ideal_of k).mems m ≡ None
     none = ap (λ (y : LaneState). get y.mems m) now ∙ image-none memory_of h.memories.map m is.own
 
-    module _ (b : LoadBytes) (told : (m : ℕ) (x : Buffer) (flags : ℕ) (items : List Item) (c : Bio) →
-        slice_get k.script.now at ≡ Some (Load m x flags items) → bio_at (ideal_of k) x ≡ Some c → bio_of b ≡ c) where
-      abbrev bio : Bio
-      bio = bio_of b
+    abbrev bio : Bio
+    bio = bio_of callback.bytes
 
-      same-bio : is.bio ≡ bio
-      same-bio =
-          sym (told m is.at.buffer is.at.flags callback.items is.bio
-          (ap (λ s. slice_get s.now at) rest.most.script ∙ is.at.load)
-          (bio-same l (ideal_of k) is.at.buffer (ap (λ (y : LaneState). y.mems) now) ∙ is.at.bytes))
+    pub ends-reached : bio_reached (ideal_of k) bio ≡ Fine
+    ends-reached = ap (λ s. bio_reached s bio) now ∙ is.reached
 
-      pub ends-reached : bio_reached (ideal_of k) bio ≡ Fine
-      ends-reached = (λ i. bio_reached (now i) (sym same-bio i)) ∙ is.reached
+    pub ends-first : AreItsFirst (ideal_of k) m bio
+    ends-first x found = let no = sym none ∙ found in absurd (cc)
 
-      pub ends-first : AreItsFirst (ideal_of k) m bio
-      ends-first x found = let no = sym none ∙ found in absurd (cc)
+    pub ends-loadable : IsLoadable k.pages.now bio
+    ends-loadable = subst (λ p. IsLoadable p.now bio) (sym rest.most.pages) is.loadable
 
-      pub ends-loadable : IsInMachine l → HasSmallLoads h → IsLoadable k.pages.now bio
-      ends-loadable machine small =
-          subst (λ (p : List PageRun × Bio). IsLoadable p.0 p.1) (λ i. ((sym rest.most.pages i).now, same-bio i))
-          (loadable-at h at m is.bio callback.items machine small is.at)
+    pub ends-room : (count : ℕ) → IfSome (kept_load (get h.maps.map m)) (λ x. count ≡ x.1.need) →
+        (y : LaneMap) → get (ideal_of k).maps m ≡ Some y →
+        HasRoomForAny (limits_of (ideal_of k) y) (map_chunks (ideal_of k) m y bio) count room
+    ends-room count need y there =
+        let at_hand = taken-there h k m o kept.1 load (maps o kept.1) rest in
+        let same : idle ≡ y = cc in
+        subst (λ (cs : List Chunk). HasRoomForAny (limits_of (ideal_of k) y) cs count room)
+        (sym (plain-chunks (ideal_of k) m y bio none))
+        (subst (λ (p : LaneState × LaneMap × ℕ). HasRoomForAny (limits_of p.0 p.1) (bio_chunks p.0 p.1 bio) p.2 room)
+        (λ i. (sym now i, same i, sym (needed count need) i)) (is.fits (map_of o) image))
 
-      pub ends-room : (count : ℕ) → ((x : KeptMap) → get h.maps.map m ≡ Some x → count ≡ x.need) →
-          (y : LaneMap) → get (ideal_of k).maps m ≡ Some y →
-          HasRoomForAny (limits_of (ideal_of k) y) (map_chunks (ideal_of k) m y bio) count room
-      ends-room count need y there =
-          let at_hand = taken-there h k m o kept.1 load (maps o kept.1) rest in
-          let same : idle ≡ y = cc in
-          subst (λ (cs : List Chunk). HasRoomForAny (limits_of (ideal_of k) y) cs count room)
-          (sym (plain-chunks (ideal_of k) m y bio none))
-          (subst (λ (p : LaneState × LaneMap × Bio × ℕ). HasRoomForAny (limits_of p.0 p.1)
-          (bio_chunks p.0 p.1 p.2) p.3 room)
-          (λ i. (sym now i, same i, same-bio i, sym (need o kept.1) i)) (is.fits (map_of o) o.need image waits))
+    pub ends-prepared : get k.loans.prepared m ≡ Some (load_loan (ideal_of k) m bio)
+    ends-prepared =
+        ap (λ t. get t.prepared m) rest.most.loans ∙ is.prepared ∙ sym (ap (λ s. Some (load_loan s m bio)) now)
 
-      pub ends-prepared : get k.loans.prepared m ≡ Some (load_loan (ideal_of k) m bio)
-      ends-prepared =
-          ap (λ t. get t.prepared m) rest.most.loans ∙ is.prepared
-          ∙ sym (λ i. Some (load_loan (now i) m (sym same-bio i)))
+    module _ (n : Holdings) (a : Answer) (pages : List ℕ) (done : (y : LaneMap) (x : Asked) →
+        get (ideal_of k).maps m ≡ Some y → x.entries ≡ load_entries (ideal_of k) bio → x.items ≡ callback.items →
+        given n a ≡ finished m y at x (map_chunks (ideal_of k) m y bio) pages (ideal_of k)) where
+      abbrev asks : Asked
+      asks = asked m bio false callback.items l
 
-      module _ (n : Holdings) (a : Answer) (pages : List ℕ) (done : (y : LaneMap) (x : Asked) →
-          get (ideal_of k).maps m ≡ Some y → x.entries ≡ load_entries (ideal_of k) bio → x.items ≡ callback.items →
-          given n a ≡ finished m y at x (map_chunks (ideal_of k) m y bio) pages (ideal_of k)) where
-        abbrev asks : Asked
-        asks = asked_at at l
+      no-memory : contains_key l.mems m ≡ false
+      no-memory = ap is_some (image-none memory_of h.memories.map m is.own)
 
-        asks-is : asks ≡ asked m is.bio (never_waits is.at.buffer is.at.flags) callback.items l
-        asks-is = asked-is l at m is.at.buffer is.bio is.at.flags callback.items is.at.load is.at.bytes
+      ended : given n a ≡ finished m (map_of o) at asks
+          (chunks_for l (map_of o) (contains_key l.mems m) asks.entries) pages l
+      ended =
+          done idle asks (taken-there h k m o kept.1 load (maps o kept.1) rest)
+          (sym (ap (λ s. load_entries s bio) now)) refl
+          ∙ ap (λ cs. finished m idle at asks cs pages (ideal_of k)) (plain-chunks (ideal_of k) m idle bio none)
+          ∙ (λ i. finished m idle at asks (bio_chunks (now i) idle bio) pages (now i))
+          ∙ finished-free l m (map_of o) at asks (bio_chunks l (map_of o) bio) pages
+          ∙ (λ i. finished m (map_of o) at asks (chunks_for l (map_of o) (sym no-memory i) asks.entries) pages l)
 
-        entries-are : asks.entries ≡ load_entries l is.bio
-        entries-are = ap (λ (x : Asked). x.entries) asks-is
+      pub ends-done : given n a ≡ called m (get l.maps m) pages l
+      ends-done = ended ∙ sym (called-is l m (map_of o) w pages image waits)
 
-        no-memory : contains_key l.mems m ≡ false
-        no-memory = ap is_some (image-none memory_of h.memories.map m is.own)
-
-        ended : given n a ≡ finished m (map_of o) at asks
-            (chunks_for l (map_of o) (contains_key l.mems m) asks.entries) pages l
-        ended =
-            done idle asks (taken-there h k m o kept.1 load (maps o kept.1) rest)
-            (entries-are ∙ sym (λ i. load_entries (now i) (sym same-bio i)))
-            (ap (λ (x : Asked). x.items) asks-is)
-            ∙ ap (λ cs. finished m idle at asks cs pages (ideal_of k)) (plain-chunks (ideal_of k) m idle bio none)
-            ∙ (λ i. finished m idle at asks (bio_chunks (now i) idle (sym same-bio i)) pages (now i))
-            ∙ finished-free l m (map_of o) at asks (bio_chunks l (map_of o) is.bio) pages
-            ∙ (λ i. finished m (map_of o) at asks
-            (chunks_for l (map_of o) (sym no-memory i) (sym entries-are i)) pages l)
-
-        pub ends-done : given n a ≡ called m (get l.maps m) pages l
-        ends-done = ended ∙ sym (called-is l m (map_of o) at o.need pages image waits)
-
-        pub ends-few : HasSmallLoads h → n.agenda.place ≡ k.agenda.place → n.agenda.promised ≤ k.agenda.promised →
-            HasSmallLoads n
-        ends-few small same less =
-            let chunks = chunks_for l (map_of o) (contains_key l.mems m) asks.entries in
-            let stays =
-            stays-finished m (map_of o) at asks chunks pages l (ideal_of n) (ap (λ (x : Outcome). x.lane) ended) in
-            let script : n.script.now ≡ h.script.now = stays.rest.script in
-            let place : n.agenda.place ≡ h.agenda.place = same ∙ ap (λ a. a.place) rest.agenda in
-            let promised : k.agenda.promised ≡ h.agenda.promised = ap (λ a. a.promised) rest.agenda in
-            let ahead : bytes_ahead n.agenda.place n.script.now ≡ bytes_ahead h.agenda.place h.script.now =
-            (λ i. bytes_ahead (place i) (script i)) in
-            let few : h.agenda.promised + bytes_ahead h.agenda.place h.script.now ≤ loaded_limit = small.few in
-            record {
-              each = λ p x found. small.each p x (sym (ap (λ s. slice_get s p) script) ∙ found);
-              few = omega (arith, few, ahead, less, promised);
-            }
+      pub ends-few : HasSmallLoads h → n.agenda.place ≡ k.agenda.place → n.agenda.promised ≤ k.agenda.promised →
+          HasSmallLoads n
+      ends-few small same less =
+          let chunks = chunks_for l (map_of o) (contains_key l.mems m) asks.entries in
+          let stays =
+          stays-finished m (map_of o) at asks chunks pages l (ideal_of n) (ap (λ (x : Outcome). x.lane) ended) in
+          let script : n.script.now ≡ h.script.now = stays.rest.script in
+          let place : n.agenda.place ≡ h.agenda.place = same ∙ ap (λ a. a.place) rest.agenda in
+          let promised : k.agenda.promised ≡ h.agenda.promised = ap (λ a. a.promised) rest.agenda in
+          let ahead : bytes_ahead n.agenda.place n.script.now ≡ bytes_ahead h.agenda.place h.script.now =
+          (λ i. bytes_ahead (place i) (script i)) in
+          let few : h.agenda.promised + bytes_ahead h.agenda.place h.script.now ≤ loaded_limit = small.few in
+          record {
+            each = λ p x found. small.each p x (sym (ap (λ s. slice_get s p) script) ∙ found);
+            few = omega (arith, few, ahead, less, promised);
+          }

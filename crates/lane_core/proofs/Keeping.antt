@@ -1,7 +1,7 @@
 -- What a change of one part of a driver's holdings leaves as it was.
 use Rattle.std.proofs.Common.{◌≡◌, ℕ, true, false, Option, Some, None, is_some, OnSome, refl, subst}
 use Rattle.std.specs.Option.{option_map}
-use Rattle.dma_map.specs.declared.callback.Transfers.{Transfers}
+use Rattle.lane_core.specs.declared.kept.KeptLoad.{KeptLoad}
 use Rattle.dma_map.specs.declared.state.MapState.TheVariants as state
 use Rattle.dma_map.specs.MapView as held
 use Rattle.lane_core.specs.declared.holdings.Holdings.{Holdings}
@@ -29,9 +29,9 @@ pub record IsIdleMap (o : KeptMap) : Type 0 where
   pub tried : is_tried (Some o) ≡ true
   pub undue : due_of o ≡ 0
 
-idle-stage : (tag need : ℕ) (map : held.MapView Transfers) (s : held.Stage Transfers) → map.stage ≡ s →
-    is_idle (stage_of need s) ≡ true → IsIdleMap (record { tag = tag; need = need; map = map })
-idle-stage tag need map held.idle e h = rw e (record {
+idle-stage : (tag : ℕ) (map : held.MapView KeptLoad) (s : held.Stage KeptLoad) → map.stage ≡ s →
+    is_idle (stage_of s) ≡ true → IsIdleMap (record { tag = tag; map = map })
+idle-stage tag map held.idle e h = rw e (record {
   unheld = refl;
   unloaded = refl;
   unlent = refl;
@@ -39,13 +39,13 @@ idle-stage tag need map held.idle e h = rw e (record {
   tried = refl;
   undue = refl;
 })
-idle-stage tag need map (held.waiting load_at callback room) e h = absurd (cc)
-idle-stage tag need map (held.loaded bounced segments pages) e h = absurd (cc)
-idle-stage tag need map (held.lent bounced segments frames) e h = absurd (cc)
-idle-stage tag need map held.returning e h = absurd (cc)
+idle-stage tag map (held.waiting load_at callback room) e h = absurd (cc)
+idle-stage tag map (held.loaded bounced segments pages) e h = absurd (cc)
+idle-stage tag map (held.lent bounced segments frames) e h = absurd (cc)
+idle-stage tag map held.returning e h = absurd (cc)
 
 pub idle-map : (o : KeptMap) → is_idle (map_of o).stage ≡ true → IsIdleMap o
-idle-map o h = idle-stage o.tag o.need o.map o.map.stage refl h
+idle-map o h = idle-stage o.tag o.map o.map.stage refl h
 
 -- an idle map is there
 pub idle-there : (o : Option KeptMap) → is_idle_map o ≡ true → (x : KeptMap) × (o ≡ Some x) × IsIdleMap x
@@ -63,53 +63,53 @@ told-some f None y h = absurd (cc)
 told-some f (Some x) y h = (x, refl, (let same : f x ≡ y = cc in same))
 
 -- what the state of a map says of where it stands
-pub state-idle : (need : ℕ) (s : held.Stage Transfers) → held.state_of s ≡ state.Idle →
-    is_idle (stage_of need s) ≡ true
-state-idle need held.idle h = refl
-state-idle need (held.waiting load_at callback room) h = absurd (cc)
-state-idle need (held.loaded bounced segments pages) h = absurd (cc)
-state-idle need (held.lent bounced segments frames) h = absurd (cc)
-state-idle need held.returning h = absurd (cc)
+pub state-idle : (s : held.Stage KeptLoad) → held.state_of s ≡ state.Idle →
+    is_idle (stage_of s) ≡ true
+state-idle held.idle h = refl
+state-idle (held.waiting load_at callback room) h = absurd (cc)
+state-idle (held.loaded bounced segments pages) h = absurd (cc)
+state-idle (held.lent bounced segments frames) h = absurd (cc)
+state-idle held.returning h = absurd (cc)
 
-pub state-busy : (need : ℕ) (s : held.Stage Transfers) → ¬ (held.state_of s ≡ state.Idle) →
-    is_idle (stage_of need s) ≡ false
-state-busy need held.idle h = absurd (h refl)
-state-busy need (held.waiting load_at callback room) h = refl
-state-busy need (held.loaded bounced segments pages) h = refl
-state-busy need (held.lent bounced segments frames) h = refl
-state-busy need held.returning h = refl
+pub state-busy : (s : held.Stage KeptLoad) → ¬ (held.state_of s ≡ state.Idle) →
+    is_idle (stage_of s) ≡ false
+state-busy held.idle h = absurd (h refl)
+state-busy (held.waiting load_at callback room) h = refl
+state-busy (held.loaded bounced segments pages) h = refl
+state-busy (held.lent bounced segments frames) h = refl
+state-busy held.returning h = refl
 
-pub state-loaded : (need : ℕ) (s : held.Stage Transfers) → held.state_of s ≡ state.Loaded →
-    is_loaded (stage_of need s) ≡ true
-state-loaded need held.idle h = absurd (cc)
-state-loaded need (held.waiting load_at callback room) h = absurd (cc)
-state-loaded need (held.loaded bounced segments pages) h = refl
-state-loaded need (held.lent bounced segments frames) h = refl
-state-loaded need held.returning h = absurd (cc)
+pub state-loaded : (s : held.Stage KeptLoad) → held.state_of s ≡ state.Loaded →
+    is_loaded (stage_of s) ≡ true
+state-loaded held.idle h = absurd (cc)
+state-loaded (held.waiting load_at callback room) h = absurd (cc)
+state-loaded (held.loaded bounced segments pages) h = refl
+state-loaded (held.lent bounced segments frames) h = refl
+state-loaded held.returning h = absurd (cc)
 
-pub state-unloaded : (need : ℕ) (s : held.Stage Transfers) → ¬ (held.state_of s ≡ state.Loaded) →
-    is_loaded (stage_of need s) ≡ false
-state-unloaded need held.idle h = refl
-state-unloaded need (held.waiting load_at callback room) h = refl
-state-unloaded need (held.loaded bounced segments pages) h = absurd (h refl)
-state-unloaded need (held.lent bounced segments frames) h = absurd (h refl)
-state-unloaded need held.returning h = refl
+pub state-unloaded : (s : held.Stage KeptLoad) → ¬ (held.state_of s ≡ state.Loaded) →
+    is_loaded (stage_of s) ≡ false
+state-unloaded held.idle h = refl
+state-unloaded (held.waiting load_at callback room) h = refl
+state-unloaded (held.loaded bounced segments pages) h = absurd (h refl)
+state-unloaded (held.lent bounced segments frames) h = absurd (h refl)
+state-unloaded held.returning h = refl
 
 pub some-there : {X : Type 0} (o : Option X) → is_some o ≡ true → (x : X) × (o ≡ Some x)
 some-there None h = absurd (cc)
 some-there (Some x) h = (x, refl)
 
 -- what an idle map says of its state, and where it stands
-pub idle-state : (need : ℕ) (s : held.Stage Transfers) → is_idle (stage_of need s) ≡ true →
+pub idle-state : (s : held.Stage KeptLoad) → is_idle (stage_of s) ≡ true →
     held.state_of s ≡ state.Idle
-idle-state need held.idle h = refl
-idle-state need (held.waiting load_at callback room) h = absurd (cc)
-idle-state need (held.loaded bounced segments pages) h = absurd (cc)
-idle-state need (held.lent bounced segments frames) h = absurd (cc)
-idle-state need held.returning h = absurd (cc)
+idle-state held.idle h = refl
+idle-state (held.waiting load_at callback room) h = absurd (cc)
+idle-state (held.loaded bounced segments pages) h = absurd (cc)
+idle-state (held.lent bounced segments frames) h = absurd (cc)
+idle-state held.returning h = absurd (cc)
 
 pub idle-stands : (s : Stage) → is_idle s ≡ true → s ≡ Idle
 idle-stands Idle h = refl
-idle-stands (Waiting load_at need) h = absurd (cc)
+idle-stands (Waiting w) h = absurd (cc)
 idle-stands (Loaded bounced segments pages) h = absurd (cc)
 idle-stands Returning h = absurd (cc)

@@ -1,40 +1,34 @@
 -- What a call on a lane leaves, which takes no door.
 use Rattle.std.proofs.Common.{◌≡◌, ℕ, ◌≤◌, ◌==◌, true, false, List, Result, Ok, Err, IfOk, OnErr, length}
-use Rattle.std.proofs.Common.{if◌then◌else◌}
-use Rattle.std.proofs.Common.{is_some, refl, ap, sym, ◌∙◌, subst, arith}
+use Rattle.std.proofs.Common.{if◌then◌else◌, is_some, refl, ap, sym, ◌∙◌, subst, arith}
 use Rattle.busdma_base.specs.declared.bounce.hold.HubReply.{HubReply}
 use Rattle.busdma_base.specs.declared.bounce.hold.HubReply.TheVariants.{Nothing}
 use Rattle.busdma_base.specs.declared.journals.answer.Answer.{Answer}
-use Rattle.busdma_base.specs.declared.journals.answer.Answer.TheVariants as answer
-use Rattle.busdma_base.specs.declared.journals.report.Report.{Report}
-use Rattle.busdma_base.specs.declared.journals.report.ReportName.TheVariants.{Absent, MixedSync}
+use Rattle.busdma_base.specs.declared.journals.report.ReportName.TheVariants.{Absent}
 use Rattle.busdma_base.specs.declared.name.MapId.{MapId}
 use Rattle.busdma_base.specs.declared.scenarios.script.Place.{Place}
 use Rattle.busdma_base.specs.Machine.Wire.{Wire}
 use Rattle.busdma_base.specs.Runs.{run_of}
-use Rattle.dma_tag.specs.SyncOps.{is_mixed}
-use Rattle.loan_table.specs.Access.{cpu_write_answer, dev_write_answer}
-use Rattle.loan_table.specs.Lending.{lost, sync_answer}
-use Rattle.loan_table.specs.Loans.{loan_of, load_bytes}
+use Rattle.loan_table.specs.Lending.{lost}
+use Rattle.loan_table.specs.Loans.{load_bytes}
 use Rattle.ideal_lane.specs.Accesses.{cpu_read, cpu_write, dev_write}
 use Rattle.ideal_lane.specs.Ahead.{items_ahead}
 use Rattle.ideal_lane.specs.Asking.{Asking, Gives, by_reply}
-use Rattle.ideal_lane.specs.Outcomes.{Outcome, gives, load_length, refused}
-use Rattle.ideal_lane.specs.Places.{bytes_at, reached, virtual_at}
+use Rattle.ideal_lane.specs.Outcomes.{Outcome, refused}
+use Rattle.ideal_lane.specs.Places.{bytes_at}
 use Rattle.ideal_lane.specs.Standing.{Stands}
-use Rattle.ideal_lane.specs.State.{LaneState, LaneMap}
-use Rattle.ideal_lane.specs.Syncs.{sync, sync_part, sync_range}
+use Rattle.ideal_lane.specs.State.{LaneState}
+use Rattle.ideal_lane.specs.Syncs.{sync, sync_range}
+use Rattle.ideal_lane.proofs.Effects.{DeviceWrites, Only, Operation, Same, Syncs, Touches, Transfer, Work, Writes}
+use Rattle.ideal_lane.proofs.Effects.{cpu_write-touches, transfer-touches}
 use Rattle.ideal_wire.specs.Apart.{IsApart}
 use Rattle.ideal_wire.specs.Centre.{IsFaithful}
-use Rattle.ideal_wire.specs.Laid.{AreLaid}
 use Rattle.ideal_wire.specs.Machine.{IsInMachine}
 use Rattle.ideal_wire.specs.WireStep as wires
 use Rattle.ideal_wire.specs.WireStep.{IsRead, Reads, place_bytes}
 use Rattle.ideal_wire.proofs.Calls.{cpu_write-faithful, dev_write-faithful, sync-faithful, sync_range-faithful}
-use Rattle.ideal_wire.proofs.Refusing.{absent, either, judged, past, unloaded}
-use Rattle.ideal_wire.proofs.StillLaid.{cpu_write-still, dev_write-still, sync-still, sync_range-still}
-use Rattle.ideal_wire.proofs.Wiring.{own-forgotten, own-written}
-use Rattle.ideal_wire.proofs.Wiring.{cpu_read-reads as reads}
+use Rattle.ideal_wire.proofs.StillLaid.{touches-laid}
+use Rattle.ideal_wire.proofs.Wiring.{own-forgotten, own-written, cpu_read-reads as reads}
 use Rattle.lane_core.specs.declared.holdings.Holdings.{Holdings}
 use Rattle.lane_core.specs.Awaiting.{AreAwaiting}
 use Rattle.lane_core.specs.Calls.{unless_foreign, wire_unless_foreign}
@@ -46,6 +40,10 @@ use Rattle.lane_core.proofs.KeepsWired.{kept-wired}
 use Rattle.lane_core.proofs.OneProvided.{provided-of}
 use Rattle.lane_core.proofs.OneStanding.{stands-of}
 use Rattle.lane_core.proofs.Providing.{provided-same}
+use Rattle.busdma_base.specs.declared.scenarios.script.Bytes.TheVariants as bytes
+use Rattle.busdma_base.specs.declared.scenarios.script.Item.TheVariants as item
+use Rattle.busdma_base.specs.declared.scenarios.script.Op.TheVariants as op
+use Rattle.busdma_base.specs.Scenarios.Operations.{bytes_of}
 
 -- ---- what is left
 
@@ -54,44 +52,14 @@ record IsTouched (l n : LaneState) : Type 0 where
   rest : n ≡ record l { memory = n.memory; loans = n.loans; shares = n.shares }
   own : (a : ℕ) → is_some (n.memory a) ≡ is_some (l.memory a)
 
-still-touched : (l : LaneState) → IsTouched l l
-still-touched l = record { rest = refl; own = λ a. refl }
-
-module _ (l : LaneState) where
-  -- so does each end of a step
-  abbrev Touches : Asking Outcome → Type 0
-  Touches o = (r : HubReply) → IsTouched l (by_reply o r).lane
-
-  report : (x : Report) → Touches (gives l (answer.Report x))
-  report x r = still-touched l
-
-  part-touches : (m : ℕ) (o : LaneMap) (off len ops : ℕ) → Touches (sync_part m o off len ops l)
-  part-touches m o off len ops =
-      either l Touches report (is_mixed ops) (refused MixedSync 0 l) _ (λ mixed r. still-touched l) (λ alone.
-      judged l Touches report (sync_answer l.loans m off len ops) _ (λ fine r.
-      record { rest = refl; own = own-forgotten (lost l.loans m off len ops) l.memory }))
-
-  sync-touches : (m ops : ℕ) → Touches (sync m ops l)
-  sync-touches m ops = unloaded l Touches report m _ (λ o there is. part-touches m o 0 (load_length l m) ops)
-
-  sync_range-touches : (m off len ops : ℕ) → Touches (sync_range m off len ops l)
-  sync_range-touches m off len ops =
-      unloaded l Touches report m _ (λ o there is.
-      past l Touches report m off len (sync_part m o off len ops l) (part-touches m o off len ops))
-
-  cpu_write-touches : (place : Place) (vs : List ℕ) → Touches (cpu_write place vs l)
-  cpu_write-touches place vs =
-      absent l Touches report (virtual_at l place) _ (λ va e.
-      judged l Touches report (reached l va (length vs)) _ (λ reaches.
-      judged l Touches report (cpu_write_answer l.loans (bytes_at l (run_of va (length vs)))) _ (λ fine r.
-      record { rest = refl; own = own-written (bytes_at l (run_of va (length vs))) vs l.memory })))
-
-  dev_write-touches : (m off : ℕ) (vs : List ℕ) → Touches (dev_write m off vs l)
-  dev_write-touches m off vs =
-      unloaded l Touches report m _ (λ o e i.
-      past l Touches report m off (length vs) _
-      (judged l Touches report (dev_write_answer (loan_of l.loans m) off (length vs)) _ (λ allowed r.
-      record { rest = refl; own = own-written (load_bytes l.loans m off (length vs)) vs l.memory })))
+is-touched : {l : LaneState} {d : Work} {x : Outcome} → Touches l d x → IsTouched l x.lane
+is-touched (Same a q u) = record { rest = refl; own = λ a. refl }
+is-touched {l} (Syncs m off len ops is o there i alone fine) =
+    record { rest = refl; own = own-forgotten (lost l.loans m off len ops) l.memory }
+is-touched {l} (Writes place bs va at reaches fine) =
+    record { rest = refl; own = own-written (bytes_at l (run_of va (length (bytes_of bs)))) (bytes_of bs) l.memory }
+is-touched {l} (DeviceWrites m off bs o there i fine) =
+    record { rest = refl; own = own-written (load_bytes l.loans m off (length (bytes_of bs))) (bytes_of bs) l.memory }
 
 -- ---- the driver after a call
 
@@ -105,14 +73,13 @@ module _ (h k : Holdings) (wired : IsWired h) (x : Answer) where
   abbrev l : LaneState
   l = ideal_of h
 
-  module _ (o : Asking Outcome) (done : Gives (given k x) ≡ o) (touches : Touches l o)
-      (laid : (r : HubReply) → AreLaid (by_reply o r).lane)
+  module _ (d : Work) (o : Asking Outcome) (done : Gives (given k x) ≡ o) (touches : Only l d o)
       (faithful : (r : HubReply) → IsFaithful (by_reply o r).lane (wire_of k)) where
-    ends : (by_reply o Nothing).lane ≡ ideal_of k
-    ends = ap (λ (s : Asking Outcome). (by_reply s Nothing).lane) (sym done)
+    made : Touches l d (given k x)
+    made = subst (Only l d) (sym done) touches
 
     touched : IsTouched l (ideal_of k)
-    touched = subst (IsTouched l) ends (touches Nothing)
+    touched = is-touched made
 
     back : record l { memory = (ideal_of k).memory; loans = (ideal_of k).loans; shares = (ideal_of k).shares } ≡
         ideal_of k
@@ -148,9 +115,9 @@ module _ (h k : Holdings) (wired : IsWired h) (x : Answer) where
       stands = subst Stands back;
       wired = record {
         machine = subst IsInMachine back machine;
-        laid = subst AreLaid ends (laid Nothing);
+        laid = touches-laid l wired.laid made;
         apart = subst IsApart back apart;
-        faithful = subst (λ n. IsFaithful n (wire_of k)) ends (faithful Nothing);
+        faithful = subst (λ (s : Asking Outcome). IsFaithful (by_reply s Nothing).lane (wire_of k)) (sym done) (faithful Nothing);
       };
       ahead = ap items_ahead touched.rest;
     }
@@ -158,29 +125,31 @@ module _ (h k : Holdings) (wired : IsWired h) (x : Answer) where
   pub synced : (m ops : ℕ) → Gives (given k x) ≡ sync m ops l → wire_of k ≡ wires.sync m ops l (wire_of h) →
       IsCalledOn h k
   synced m ops done wire =
-      called-on (sync m ops l) done (sync-touches l m ops) (sync-still l wired.laid m ops)
+      called-on (Transfer (item.Sync m ops)) (sync m ops l) done (transfer-touches l (item.Sync m ops))
       (λ r. subst (IsFaithful (by_reply (sync m ops l) r).lane) (sym wire)
       (sync-faithful l (wire_of h) wired.apart wired.laid wired.faithful m ops r))
 
   pub synced_range : (m off len ops : ℕ) → Gives (given k x) ≡ sync_range m off len ops l →
       wire_of k ≡ wires.sync_range m off len ops l (wire_of h) → IsCalledOn h k
   synced_range m off len ops done wire =
-      called-on (sync_range m off len ops l) done (sync_range-touches l m off len ops)
-      (sync_range-still l wired.laid m off len ops)
+      called-on (Transfer (item.SyncRange m off len ops)) (sync_range m off len ops l) done
+      (transfer-touches l (item.SyncRange m off len ops))
       (λ r. subst (IsFaithful (by_reply (sync_range m off len ops l) r).lane) (sym wire)
       (sync_range-faithful l (wire_of h) wired.apart wired.laid wired.faithful m off len ops r))
 
   pub cpu_written : (place : Place) (vs : List ℕ) → Gives (given k x) ≡ cpu_write place vs l →
       wire_of k ≡ wires.cpu_write place vs l (wire_of h) → IsCalledOn h k
   cpu_written place vs done wire =
-      called-on (cpu_write place vs l) done (cpu_write-touches l place vs) (cpu_write-still l wired.laid place vs)
+      called-on (Operation (op.CpuWrite place (bytes.Listed vs))) (cpu_write place vs l) done
+      (cpu_write-touches l place (bytes.Listed vs))
       (λ r. subst (IsFaithful (by_reply (cpu_write place vs l) r).lane) (sym wire)
       (cpu_write-faithful l (wire_of h) wired.apart wired.laid wired.faithful place vs r))
 
   pub dev_written : (m off : ℕ) (vs : List ℕ) → Gives (given k x) ≡ dev_write m off vs l →
       wire_of k ≡ wires.dev_write m off vs l (wire_of h) → IsCalledOn h k
   dev_written m off vs done wire =
-      called-on (dev_write m off vs l) done (dev_write-touches l m off vs) (dev_write-still l wired.laid m off vs)
+      called-on (Transfer (item.DevWrite m off (bytes.Listed vs))) (dev_write m off vs l) done
+      (transfer-touches l (item.DevWrite m off (bytes.Listed vs)))
       (λ r. subst (IsFaithful (by_reply (dev_write m off vs l) r).lane) (sym wire)
       (dev_write-faithful l (wire_of h) wired.apart wired.laid wired.faithful m off vs r))
 

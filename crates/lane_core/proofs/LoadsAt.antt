@@ -2,7 +2,6 @@
 use Rattle.std.proofs.Common.{◌≡◌, ℕ, zero, suc, ◌+◌, ◌<◌, ◌≤◌, ◌^◌, Bool, true, false, ◌&&◌, ◌||◌, nat_le, nat_lt}
 use Rattle.std.proofs.Common.{List, [], ◌∷◌, Option, Some, None, slice_get, unwrap_or, refl, sym, ap, ◌∙◌, subst, arith}
 use Rattle.std.proofs.lemmas.Bool.Decides.{nat_tests}
-use Rattle.std.specs.FinMap.{get}
 use Rattle.std.specs.List.{AllByRecursion}
 use Rattle.std.specs.Option.{option_map}
 use Rattle.busdma_base.specs.declared.machine.bio.Bio.{Bio}
@@ -11,10 +10,7 @@ use Rattle.busdma_base.specs.declared.scenarios.buffer.Buffer.{Buffer}
 use Rattle.busdma_base.specs.declared.scenarios.buffer.Buffer.TheVariants as buffer
 use Rattle.busdma_base.specs.declared.scenarios.scenario.PageRun.{PageRun}
 use Rattle.busdma_base.specs.declared.scenarios.script.Item.{Item}
-use Rattle.busdma_base.specs.declared.scenarios.script.Op.{Op}
 use Rattle.busdma_base.specs.declared.scenarios.script.Op.TheVariants.{Load}
-use Rattle.busdma_base.specs.declared.scenarios.script.Place.{Place}
-use Rattle.busdma_base.specs.declared.scenarios.script.Place.TheVariants.{At, In}
 use Rattle.busdma_base.specs.Machine.PageRuns.{has_frame}
 use Rattle.busdma_base.specs.Scenarios.Buffers.{IsBioOf, IsBufferOf, buffer_bytes}
 use Rattle.busdma_base.specs.Scenarios.Limits.{buffer_limit}
@@ -23,35 +19,14 @@ use Rattle.busdma_base.specs.Scenarios.Valid.{LoadsFrom}
 use Rattle.load_bio.specs.Bio.{IsBio}
 use Rattle.load_bio.specs.Frames.{AreFrames}
 use Rattle.phys_memory.proofs.Loads.{one_bytes}
-use Rattle.ideal_lane.specs.Places.{begin_of, virtual_at}
+use Rattle.ideal_lane.specs.Places.{virtual_at}
 use Rattle.ideal_lane.specs.State.{LaneState}
 use Rattle.ideal_lane.specs.Turns.{bio_at, flat_bio}
 use Rattle.ideal_wire.specs.Machine.{IsInMachine, IsOfMachine}
 use Rattle.lane_core.specs.declared.holdings.Holdings.{Holdings}
-use Rattle.lane_core.specs.Awaiting.{HasSmallLoads, IsLoadAt}
+use Rattle.lane_core.specs.Awaiting.{HasSmallLoads}
 use Rattle.lane_core.specs.Ideal.{ideal_of}
 use Rattle.lane_core.specs.Loading.{IsLoadable, bio_bytes}
-
--- a place is the same virtual address, and a buffer the same bio, to each state of a driver with the same memories
-virtual-same : (l k : LaneState) (p : Place) → k.mems ≡ l.mems → virtual_at k p ≡ virtual_at l p
-virtual-same l k (At va) mems = refl
-virtual-same l k (In mem off) mems = ap (λ ms. option_map (λ x. begin_of x + off) (get ms mem)) mems
-
-pub bio-same : (l k : LaneState) (x : Buffer) → k.mems ≡ l.mems → bio_at k x ≡ bio_at l x
-bio-same l k (buffer.Flat place len) mems = ap (option_map (flat_bio len)) (virtual-same l k place mems)
-bio-same l k (buffer.Vector spans) mems = refl
-bio-same l k (buffer.Mbuf chain) mems = refl
-bio-same l k (buffer.Bio b) mems = refl
-
--- a load of the script stands where it stood
-pub at-same : (h k : Holdings) (p m : ℕ) (b : Bio) (items : List Item) → k.script.now ≡ h.script.now →
-    (ideal_of k).mems ≡ (ideal_of h).mems → IsLoadAt h p m b items → IsLoadAt k p m b items
-at-same h k p m b items script mems at = record {
-  buffer = at.buffer;
-  flags = at.flags;
-  load = ap (λ (os : List Op). slice_get os p) script ∙ at.load;
-  bytes = bio-same (ideal_of h) (ideal_of k) at.buffer mems ∙ at.bytes;
-}
 
 -- the bio of an option, or one of no byte
 bio_in : Option Bio → Bio
@@ -117,14 +92,15 @@ is-bio maxmem runs (Vector spans) low are own = tt
 is-bio maxmem runs (Unmapped frames off len) low are own = (own.0, frames-numbered maxmem runs frames low are own.1)
 
 -- a load of the script can be loaded
-pub loadable-at : (h : Holdings) (p m : ℕ) (b : Bio) (items : List Item) → IsInMachine (ideal_of h) → HasSmallLoads h →
-    IsLoadAt h p m b items → IsLoadable h.pages.now b
-loadable-at h p m b items machine small at =
-    let few : loaded_by (Load m at.buffer at.flags items) ≤ buffer_limit = small.each p _ at.load in
-    let bytes = bytes-is (ideal_of h) at.buffer b at.bytes in
-    let from : LoadsFrom h.pages.now (Load m at.buffer at.flags items) =
-    all-at (LoadsFrom h.pages.now) h.script.now p (Load m at.buffer at.flags items) machine.bios at.load in
-    let own = own-is h.pages.now (ideal_of h) at.buffer b at.bytes from in
+pub loadable-at : (h : Holdings) (p m : ℕ) (x : Buffer) (flags : ℕ) (items : List Item) (b : Bio) →
+    slice_get h.script.now p ≡ Some (Load m x flags items) → bio_at (ideal_of h) x ≡ Some b →
+    IsInMachine (ideal_of h) → HasSmallLoads h → IsLoadable h.pages.now b
+loadable-at h p m x flags items b here named machine small =
+    let few : loaded_by (Load m x flags items) ≤ buffer_limit = small.each p _ here in
+    let bytes = bytes-is (ideal_of h) x b named in
+    let from : LoadsFrom h.pages.now (Load m x flags items) =
+    all-at (LoadsFrom h.pages.now) h.script.now p (Load m x flags items) machine.bios here in
+    let own = own-is h.pages.now (ideal_of h) x b named from in
     record {
       small = omega (arith, few, bytes);
       bio = is-bio h.maxmem h.pages.now b machine.numbered machine.pages own;

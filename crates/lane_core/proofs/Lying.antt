@@ -15,7 +15,7 @@ use Rattle.busdma_base.specs.Machine.Page.{FrameBytes}
 use Rattle.busdma_base.specs.Machine.PageList.{page_address, page_addresses}
 use Rattle.busdma_base.specs.Machine.Wire.{Wire, Placed, with_bytes_of}
 use Rattle.busdma_base.specs.Runs.{run_of}
-use Rattle.dma_map.specs.declared.callback.Transfers.{Transfers}
+use Rattle.lane_core.specs.declared.kept.KeptLoad.{KeptLoad}
 use Rattle.dma_map.specs.MapView as held
 use Rattle.phys_memory.proofs.PageBytes.{IsNone, no_page_at}
 use Rattle.segment_build.specs.Trace.{chunk_len, bus_extent, bus_addresses}
@@ -38,29 +38,29 @@ use Rattle.lane_core.proofs.MapValues.{get-map_values}
 use Rattle.lane_core.proofs.Views.{IsMine, view-alike}
 
 -- ---- what a map has, by where it stands
-chunks-stage : (need : ℕ) (s : held.Stage Transfers) → (device_in s).chunks ≡ bounced_in (stage_of need s)
-chunks-stage need held.idle = refl
-chunks-stage need (held.waiting load_at callback room) = refl
-chunks-stage need (held.loaded bounced segments pages) = refl
-chunks-stage need (held.lent bounced segments frames) = refl
-chunks-stage need held.returning = refl
+chunks-stage : (s : held.Stage KeptLoad) → (device_in s).chunks ≡ bounced_in (stage_of s)
+chunks-stage held.idle = refl
+chunks-stage (held.waiting load_at callback room) = refl
+chunks-stage (held.loaded bounced segments pages) = refl
+chunks-stage (held.lent bounced segments frames) = refl
+chunks-stage held.returning = refl
 
-pages-stage : (need : ℕ) (s : held.Stage Transfers) → is_lent s ≡ false →
-    page_addresses (device_in s).pages ≡ pages_of (stage_of need s)
-pages-stage need held.idle h = refl
-pages-stage need (held.waiting load_at callback room) h = refl
-pages-stage need (held.loaded bounced segments pages) h = refl
-pages-stage need (held.lent bounced segments frames) h = absurd (cc)
-pages-stage need held.returning h = refl
+pages-stage : (s : held.Stage KeptLoad) → is_lent s ≡ false →
+    page_addresses (device_in s).pages ≡ pages_of (stage_of s)
+pages-stage held.idle h = refl
+pages-stage (held.waiting load_at callback room) h = refl
+pages-stage (held.loaded bounced segments pages) h = refl
+pages-stage (held.lent bounced segments frames) h = absurd (cc)
+pages-stage held.returning h = refl
 
 chunks-in : (o : Option KeptMap) → (device_of o).chunks ≡ bounced_in (stage_in (option_map map_of o))
 chunks-in None = refl
-chunks-in (Some o) = chunks-stage o.need o.map.stage
+chunks-in (Some o) = chunks-stage o.map.stage
 
 pages-in : (o : Option KeptMap) → lends_pages o ≡ false →
     page_addresses (device_of o).pages ≡ pages_of (stage_in (option_map map_of o))
 pages-in None h = refl
-pages-in (Some o) h = pages-stage o.need o.map.stage h
+pages-in (Some o) h = pages-stage o.map.stage h
 
 -- ---- the bus address that a chunk gives
 run-at : (a n i : ℕ) → i < n → slice_index (run_of a n) i ≡ a + i

@@ -18,7 +18,7 @@ found-prop o t = hlevel (props, LaneTag-set)
 
 IsPageless-prop : (s : Stage) → IsProp (IsPageless s)
 IsPageless-prop Idle = hlevel (props)
-IsPageless-prop (Waiting load_at need) = λ x y. absurd x
+IsPageless-prop (Waiting w) = λ x y. absurd x
 IsPageless-prop (Loaded bounced segments pages) = hlevel (props)
 IsPageless-prop Returning = hlevel (props)
 

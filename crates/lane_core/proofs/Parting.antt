@@ -13,7 +13,7 @@ use Rattle.busdma_base.specs.Bounce.MemoryRuns.{in_run}
 use Rattle.busdma_base.specs.Machine.PageRuns.{is_own, pages_end, physical_in}
 use Rattle.busdma_base.specs.Machine.PageRuns as pages
 use Rattle.busdma_base.specs.Runs.{run_of}
-use Rattle.dma_map.specs.declared.callback.Transfers.{Transfers}
+use Rattle.lane_core.specs.declared.kept.KeptLoad.{KeptLoad}
 use Rattle.dma_map.specs.declared.room.LoadRoom.{LoadRoom}
 use Rattle.dmamem.specs.Memory.{virtual_of}
 use Rattle.loan_table.specs.declared.position.Position.{Position}
@@ -191,7 +191,7 @@ module _ (h : Holdings) (wired : IsWired h) (mem : ℕ) (x : KeptMemory) (there 
             subst (λ (z : Loan). All (λ p. is_among p.pa bytes ≡ false) z.positions) (sym e)
             (λ i d inside. absurd (omega arith))
 
-        by : (o : Option (ℕ × Transfers × LoadRoom)) → kept_load (get h.maps.map k) ≡ o →
+        by : (o : Option (ℕ × KeptLoad × LoadRoom)) → kept_load (get h.maps.map k) ≡ o →
             All (λ p. is_among p.pa bytes ≡ false) (loan_of h.loans.prepared k).positions
         by None e = none-free (loan_of h.loans.prepared k) (ap (λ o. unwrap_or o no_loan) (are.prepared k e))
         by (Some load) e =

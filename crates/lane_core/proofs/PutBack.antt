@@ -3,7 +3,7 @@ use Rattle.std.proofs.Common.{◌≡◌, ℕ, Some, sym, ap, ◌∙◌, subst}
 use Rattle.std.specs.Ordering.{nat_cmp}
 use Rattle.std.specs.FinMap.{FinMap, get, insert}
 use Rattle.busdma_base.specs.Machine.Wire.{with_bytes_of}
-use Rattle.dma_map.specs.declared.callback.Transfers.{Transfers}
+use Rattle.lane_core.specs.declared.kept.KeptLoad.{KeptLoad}
 use Rattle.dma_map.specs.MapView as held
 use Rattle.phys_memory.specs.Memory.{wire}
 use Rattle.lane_core.specs.declared.holdings.Holdings.{Holdings}
@@ -18,7 +18,7 @@ use Rattle.lane_core.proofs.MapTables.{AreMaps, maps-of}
 use Rattle.lane_core.proofs.Places.{put-back}
 
 -- a map with what it had
-pub put-same : (maps : FinMap nat_cmp KeptMap) (k : ℕ) (o : KeptMap) (v : held.MapView Transfers) →
+pub put-same : (maps : FinMap nat_cmp KeptMap) (k : ℕ) (o : KeptMap) (v : held.MapView KeptLoad) →
     get maps k ≡ Some o → v ≡ o.map → insert maps k (record o { map = v }) ≡ maps
 put-same maps k o v there same = ap (λ x. insert maps k (record o { map = x })) same ∙ put-back maps k o there
 

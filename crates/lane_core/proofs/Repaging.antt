@@ -11,7 +11,7 @@ use Rattle.busdma_base.specs.declared.name.ZoneId.{ZoneId}
 use Rattle.busdma_base.specs.Machine.Page.{FrameBytes}
 use Rattle.busdma_base.specs.Machine.PageList.{frames_of, page_addresses}
 use Rattle.busdma_base.specs.Machine.Wire.{put, with_bytes_of}
-use Rattle.dma_map.specs.declared.callback.Transfers.{Transfers}
+use Rattle.lane_core.specs.declared.kept.KeptLoad.{KeptLoad}
 use Rattle.dma_map.specs.MapView as held
 use Rattle.phys_memory.specs.Memory.{Memory, wire}
 use Rattle.phys_memory.proofs.PageBytes.{IsNone}
@@ -59,7 +59,7 @@ lengths-alike ps qs same =
     sym (length-map qs (λ (p : FrameBytes). p.frame)) ∙ ap length same ∙ length-map ps (λ (p : FrameBytes). p.frame)
 
 module _ (h : Holdings) (wired : IsWired h) (k : ℕ) (o : KeptMap) (there : get h.maps.map k ≡ Some o)
-    (on : has_load (Some o) ≡ true) (next : held.MapView Transfers) (repaged : IsRepaged o.map next) where
+    (on : has_load (Some o) ≡ true) (next : held.MapView KeptLoad) (repaged : IsRepaged o.map next) where
   abbrev l : LaneState
   l = ideal_of h
 
@@ -74,7 +74,7 @@ module _ (h : Holdings) (wired : IsWired h) (k : ℕ) (o : KeptMap) (there : get
   maps = insert h.maps.map k changed
 
   stage : next.stage ≡ held.loaded x.bounced x.segments repaged.pages
-  stage = ap (λ (v : held.MapView Transfers). v.stage) repaged.is ∙ ap (held.with_pages repaged.pages) x.stage
+  stage = ap (λ (v : held.MapView KeptLoad). v.stage) repaged.is ∙ ap (held.with_pages repaged.pages) x.stage
 
   frames : frames_of repaged.pages.items ≡ frames_of x.pages.items
   frames = repaged.frames ∙ ap (λ s. frames_of (device_in s).pages) x.stage
@@ -89,17 +89,17 @@ module _ (h : Holdings) (wired : IsWired h) (k : ℕ) (o : KeptMap) (there : get
   }
     where
       zones : next.zone ≡ o.map.zone
-      zones = ap (λ (v : held.MapView Transfers). v.zone) repaged.is
+      zones = ap (λ (v : held.MapView KeptLoad). v.zone) repaged.is
 
       tries : next.tried ≡ o.map.tried
-      tries = ap (λ (v : held.MapView Transfers). v.tried) repaged.is
+      tries = ap (λ (v : held.MapView KeptLoad). v.tried) repaged.is
 
-      stages : stage_of o.need next.stage ≡ stage_of o.need o.map.stage
+      stages : stage_of next.stage ≡ stage_of o.map.stage
       stages =
-          ap (stage_of o.need) stage
+          ap stage_of stage
           ∙ ap (λ ps. Rattle.ideal_lane.specs.State.Loaded x.bounced x.segments ps)
           (addresses-alike x.pages.items repaged.pages.items frames)
-          ∙ sym (ap (stage_of o.need) x.stage)
+          ∙ sym (ap stage_of x.stage)
 
   pub ideal-maps : map_values map_of maps ≡ l.maps
   ideal-maps =
@@ -124,8 +124,8 @@ module _ (h : Holdings) (wired : IsWired h) (k : ℕ) (o : KeptMap) (there : get
     promised =
         let weight : pages_due maps + due_of o ≡ pages_due h.maps.map + due_of changed =
         weigh-put due_of h.maps.map k o changed there in
-        let before : due_of o ≡ length x.pages.items = ap (due_in o.need) x.stage in
-        let after : due_of changed ≡ length repaged.pages.items = ap (due_in o.need) stage in
+        let before : due_of o ≡ length x.pages.items = ap due_in x.stage in
+        let after : due_of changed ≡ length repaged.pages.items = ap due_in stage in
         let size : length repaged.pages.items ≡ length x.pages.items =
         lengths-alike x.pages.items repaged.pages.items frames in
         let few : pages_due h.maps.map ≤ h.agenda.promised = h.promised in

@@ -57,7 +57,7 @@ last-is lane m pages own are =
 
 pub still-returning : (s : Stage) → returns_in s ≡ true → s ≡ Returning
 still-returning Idle h = absurd (cc)
-still-returning (Waiting load_at need) h = absurd (cc)
+still-returning (Waiting w) h = absurd (cc)
 still-returning (Loaded bounced segments pages) h = absurd (cc)
 still-returning Returning h = refl
 

@@ -18,7 +18,7 @@ use Rattle.lane_core.specs.Covered.{AreOwn, AreReturning, has_load, lends_pages,
 use Rattle.lane_core.specs.Covered.{returns_in}
 use Rattle.lane_core.specs.Held.{devices_of}
 use Rattle.lane_core.specs.Kept.{device_of, device_in, no_device, due_of, map_of, return_of, stage_of}
-use Rattle.dma_map.specs.declared.callback.Transfers.{Transfers}
+use Rattle.lane_core.specs.declared.kept.KeptLoad.{KeptLoad}
 use Rattle.dma_map.specs.MapView as held
 use Rattle.lane_core.proofs.Bytes.{devices-put}
 use Rattle.lane_core.proofs.MapTables.{AreMaps, told-put}
@@ -52,12 +52,12 @@ still-back maps k o (q ∷ pages) none are =
     ap (λ b. not b || list_any (λ p. not (is_returning (get (insert maps k o) p.map.made_at))) pages) here
     ∙ still-back maps k o pages off.1 parts.1
 
-bare-in : (need : ℕ) (s : held.Stage Transfers) → returns_in (stage_of need s) ≡ true → device_in s ≡ no_device
-bare-in need held.idle h = refl
-bare-in need (held.waiting load_at callback room) h = refl
-bare-in need (held.loaded bounced segments pages) h = absurd (cc)
-bare-in need (held.lent bounced segments frames) h = absurd (cc)
-bare-in need held.returning h = refl
+bare-in : (s : held.Stage KeptLoad) → returns_in (stage_of s) ≡ true → device_in s ≡ no_device
+bare-in held.idle h = refl
+bare-in (held.waiting load_at callback room) h = refl
+bare-in (held.loaded bounced segments pages) h = absurd (cc)
+bare-in (held.lent bounced segments frames) h = absurd (cc)
+bare-in held.returning h = refl
 
 module _ (maps : FinMap nat_cmp KeptMap) (loans : Loans) (owed : ℕ) (rest : List QueuedPage)
     (are : AreMaps maps loans rest owed) (lane : ℕ) (m : MapId) (o : KeptMap)
@@ -69,7 +69,7 @@ module _ (maps : FinMap nat_cmp KeptMap) (loans : Loans) (owed : ℕ) (rest : Li
   -- a map of which no page is left has nothing either way
   pub devices-back : (q : ℕ) → devices_of (insert maps k (idled o)) q ≡ devices_of maps q
   devices-back q =
-      devices-put maps k (idled o) (sym (ap device_of there ∙ bare-in o.need o.map.stage still)) q
+      devices-put maps k (idled o) (sym (ap device_of there ∙ bare-in o.map.stage still)) q
 
   pub devices-after : (last : Bool) (q : ℕ) →
       devices_of (cond last (insert maps k (idled o)) maps) q ≡ devices_of maps q

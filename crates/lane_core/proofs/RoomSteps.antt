@@ -41,7 +41,6 @@ module _ (h k : Holdings) (s : KeepsButRoom h k) where
       awaiting-stays h k
       (record { kept = λ m. ap (λ ms. kept_load (get ms m)) s.maps; prepared = s.loans.prepared })
       (record {
-        script = s.script;
         pages = s.pages;
         memories = s.memories;
         maxmem = s.maxmem;

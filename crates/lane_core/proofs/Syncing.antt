@@ -12,7 +12,7 @@ use Rattle.busdma_base.specs.declared.journals.report.Report.{Report}
 use Rattle.busdma_base.specs.declared.journals.report.ReportName.TheVariants.{MixedSync}
 use Rattle.busdma_base.specs.declared.name.ZoneId.{ZoneId}
 use Rattle.busdma_base.specs.Machine.Wire.{Wire, with_bytes_of}
-use Rattle.dma_map.specs.declared.callback.Transfers.{Transfers}
+use Rattle.lane_core.specs.declared.kept.KeptLoad.{KeptLoad}
 use Rattle.dma_map.specs.MapView as held
 use Rattle.dma_tag.specs.SyncOps.{is_mixed, postread, prewrite}
 use Rattle.loan_table.specs.Lending.{lost, marked_range, sync_answer}
@@ -111,7 +111,7 @@ synced-maps loans k off len ops q there = by (loan_of loans k).coherent
 
 -- ---- a sync that is done, where the map's pages and the driver's frames were copied
 module _ (h : Holdings) (wired : IsWired h) (k : ℕ) (o : KeptMap) (there : get h.maps.map k ≡ Some o)
-    (on : has_load (Some o) ≡ true) (next : held.MapView Transfers) (repaged : IsRepaged o.map next) (n : Memory)
+    (on : has_load (Some o) ≡ true) (next : held.MapView KeptLoad) (repaged : IsRepaged o.map next) (n : Memory)
     (off len ops : ℕ)
     (copied : device_view (device_in next.stage) n
     ≡ copied_by ops (range_of_chunks off len (held.chunks_of o.map.stage))
@@ -194,7 +194,7 @@ module _ (h : Holdings) (wired : IsWired h) (k : ℕ) (o : KeptMap) (there : get
       before then (has_set_all h.loans.bytes keys false are) a) ∙ own)
       (set_all h.loans.bytes keys false) then in
       let chunks : held.chunks_of o.map.stage ≡ bounced_in (map_of o).stage =
-      ap held.chunks_of x.stage ∙ sym (ap (λ s. bounced_in (stage_of o.need s)) x.stage) in
+      ap held.chunks_of x.stage ∙ sym (ap (λ s. bounced_in (stage_of s)) x.stage) in
       let counts : share_of shares ≡ counted (copies off len ops (map_of o).stage) (map_of o).zone l.shares =
       shared ∙ ap (λ cs. counted ((prewrite ops || postread ops) && list_any (has_byte_of off len) cs)
       (option_map (λ (z : ZoneId). z.0) o.map.zone) (share_of h.shares.items)) chunks in

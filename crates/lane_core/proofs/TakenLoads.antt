@@ -43,15 +43,15 @@ module _ (maps : FinMap nat_cmp KeptMap) (loans : Loans) (returns : List QueuedP
     (are : AreMaps maps loans returns owed) (k : ℕ) (o : KeptMap) (there : get maps k ≡ Some o)
     (load : KeepsLoad o.map.stage) where
   unloaded : has_load (Some o) ≡ false
-  unloaded = ap (λ s. is_loaded (stage_of o.need s)) load.is
+  unloaded = ap (λ s. is_loaded (stage_of s)) load.is
 
   still : is_returning (Some o) ≡ false
-  still = ap (λ s. returns_in (stage_of o.need s)) load.is
+  still = ap (λ s. returns_in (stage_of s)) load.is
 
-  pub due-before : due_of o ≡ o.need
-  due-before = ap (due_in o.need) load.is
+  pub due-before : due_of o ≡ load.callback.need
+  due-before = ap due_in load.is
 
-  pub due-after : pages_due (insert maps k (idled o)) + o.need ≡ pages_due maps
+  pub due-after : pages_due (insert maps k (idled o)) + load.callback.need ≡ pages_due maps
   due-after =
       let weight : pages_due (insert maps k (idled o)) + due_of o ≡ pages_due maps + 0 =
       weigh-put due_of maps k o (idled o) there in
@@ -159,7 +159,7 @@ module _ (h k : Holdings) (m : ℕ) (o : KeptMap) (there : get h.maps.map m ≡ 
       subst Stands (sym taken-ideal) (stands-free (ideal_of h) m (map_of o) image stands)
 
   -- its pages are among those that are promised a place in the return queue
-  pub taken-promised : (count : ℕ) → count ≡ o.need → pages_due k.maps.map + count ≤ k.agenda.promised
+  pub taken-promised : (count : ℕ) → count ≡ load.callback.need → pages_due k.maps.map + count ≤ k.agenda.promised
   taken-promised count need =
       let due =
       due-after h.maps.map h.loans.loans h.agenda.returns h.agenda.promised (maps-of h) m o there load in

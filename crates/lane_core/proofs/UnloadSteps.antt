@@ -10,7 +10,7 @@ use Rattle.busdma_base.specs.declared.name.MapId.{MapId}
 use Rattle.busdma_base.specs.declared.name.ZoneId.{ZoneId}
 use Rattle.busdma_base.specs.Machine.Page.{FrameBytes}
 use Rattle.busdma_base.specs.Machine.PageList.{RoomyPages, page_addresses}
-use Rattle.dma_map.specs.declared.callback.Transfers.{Transfers}
+use Rattle.lane_core.specs.declared.kept.KeptLoad.{KeptLoad}
 use Rattle.dma_map.specs.MapView as held
 use Rattle.lane_agreement.specs.View.{queued_back}
 use Rattle.lane_tables.specs.declared.queued.QueuedPage.{QueuedPage}
@@ -36,20 +36,20 @@ module _ (l : LaneState) (m : ℕ) where
   unload-done o there on = rw (there, on) refl
 
 -- the pages of a loaded map
-pub pages-are : (need : ℕ) (s : held.Stage Transfers) (p : RoomyPages) → held.pages_of s ≡ Some p →
-    pages_of (stage_of need s) ≡ page_addresses p.items
-pages-are need held.idle p h = absurd (cc)
-pages-are need (held.waiting load_at callback room) p h = absurd (cc)
-pages-are need (held.loaded bounced segments pages) p h =
+pub pages-are : (s : held.Stage KeptLoad) (p : RoomyPages) → held.pages_of s ≡ Some p →
+    pages_of (stage_of s) ≡ page_addresses p.items
+pages-are held.idle p h = absurd (cc)
+pages-are (held.waiting load_at callback room) p h = absurd (cc)
+pages-are (held.loaded bounced segments pages) p h =
     let same : pages ≡ p = cc in ap (λ (q : RoomyPages). page_addresses q.items) same
-pages-are need (held.lent bounced segments frames) p h = absurd (cc)
-pages-are need held.returning p h = absurd (cc)
+pages-are (held.lent bounced segments frames) p h = absurd (cc)
+pages-are held.returning p h = absurd (cc)
 
 -- where a map stands that gave its pages away
-pub left-is : (need : ℕ) (pages : List FrameBytes) →
-    stage_of need (held.left_by pages) ≡ emptied (page_addresses pages)
-left-is need [] = refl
-left-is need (p ∷ pages) = refl
+pub left-is : (pages : List FrameBytes) →
+    stage_of (held.left_by pages) ≡ emptied (page_addresses pages)
+left-is [] = refl
+left-is (p ∷ pages) = refl
 
 -- its zone, or 0
 pub zone-is : (zone : Option ZoneId) →
@@ -74,6 +74,6 @@ returns-are returns m zone pages =
 -- a map that is loaded was tried
 pub loaded-tried : (s : Stage) (tried : Bool) → is_loaded s ≡ true → (is_idle s || tried) ≡ true → tried ≡ true
 loaded-tried Idle tried on h = absurd (cc)
-loaded-tried (Waiting load_at need) tried on h = absurd (cc)
+loaded-tried (Waiting w) tried on h = absurd (cc)
 loaded-tried (Loaded bounced segments pages) tried on h = h
 loaded-tried Returning tried on h = absurd (cc)

@@ -12,7 +12,7 @@ use Rattle.busdma_base.specs.declared.name.MapId.{MapId}
 use Rattle.busdma_base.specs.declared.name.ZoneId.{ZoneId}
 use Rattle.busdma_base.specs.Machine.Page.{FrameBytes}
 use Rattle.busdma_base.specs.Machine.PageList.{RoomyPages}
-use Rattle.dma_map.specs.declared.callback.Transfers.{Transfers}
+use Rattle.lane_core.specs.declared.kept.KeptLoad.{KeptLoad}
 use Rattle.dma_map.specs.MapView as held
 use Rattle.lane_tables.specs.declared.queued.QueuedPage.{QueuedPage}
 use Rattle.lane_tables.specs.Queues.{queued_pages}
@@ -52,22 +52,22 @@ or-true true = refl
 or-true false = refl
 
 -- the pages that a loaded map has are those that it gives at last
-pages-due-in : (need : ℕ) (s : held.Stage Transfers) (p : RoomyPages) → held.pages_of s ≡ Some p →
-    due_in need s ≡ length p.items
-pages-due-in need held.idle p h = absurd (cc)
-pages-due-in need (held.waiting load_at callback room) p h = absurd (cc)
-pages-due-in need (held.loaded bounced segments pages) p h =
+pages-due-in : (s : held.Stage KeptLoad) (p : RoomyPages) → held.pages_of s ≡ Some p →
+    due_in s ≡ length p.items
+pages-due-in held.idle p h = absurd (cc)
+pages-due-in (held.waiting load_at callback room) p h = absurd (cc)
+pages-due-in (held.loaded bounced segments pages) p h =
     let same : pages ≡ p = cc in ap (λ (q : RoomyPages). length q.items) same
-pages-due-in need (held.lent bounced segments frames) p h = absurd (cc)
-pages-due-in need held.returning p h = absurd (cc)
+pages-due-in (held.lent bounced segments frames) p h = absurd (cc)
+pages-due-in held.returning p h = absurd (cc)
 
-held-still : (need : ℕ) (s : held.Stage Transfers) (p : RoomyPages) → held.pages_of s ≡ Some p →
-    returns_in (stage_of need s) ≡ false
-held-still need held.idle p h = refl
-held-still need (held.waiting load_at callback room) p h = refl
-held-still need (held.loaded bounced segments pages) p h = refl
-held-still need (held.lent bounced segments frames) p h = refl
-held-still need held.returning p h = absurd (cc)
+held-still : (s : held.Stage KeptLoad) (p : RoomyPages) → held.pages_of s ≡ Some p →
+    returns_in (stage_of s) ≡ false
+held-still held.idle p h = refl
+held-still (held.waiting load_at callback room) p h = refl
+held-still (held.loaded bounced segments pages) p h = refl
+held-still (held.lent bounced segments frames) p h = refl
+held-still held.returning p h = absurd (cc)
 
 -- pages of the queue stay those of maps whose pages are on their way back
 all-still : (f g : ℕ → Bool) (pages : List QueuedPage) → ((j : ℕ) → f j ≡ true → g j ≡ true) →
@@ -118,7 +118,7 @@ module _ (maps : FinMap nat_cmp KeptMap) (loans : Loans) (returns : List QueuedP
   now = insert maps k (left o p.items)
 
   count : due_of o ≡ length p.items
-  count = pages-due-in o.need o.map.stage p pages
+  count = pages-due-in o.map.stage p pages
 
   weight : pages_due now + due_of o ≡ pages_due maps + due_of (left o p.items)
   weight = weigh-put due_of maps k o (left o p.items) there
@@ -146,7 +146,7 @@ module _ (maps : FinMap nat_cmp KeptMap) (loans : Loans) (returns : List QueuedP
       by true e =
           let here : is_returning (get maps j) ≡ false =
           ap (λ i. is_returning (get maps i)) (exact_unsigned_eq j k e) ∙ ap is_returning there
-          ∙ held-still o.need o.map.stage p pages in
+          ∙ held-still o.map.stage p pages in
           absurd (cc)
       by false e = h
 

@@ -10,7 +10,7 @@ use Rattle.busdma_base.specs.declared.scenarios.script.Op.{Op}
 use Rattle.busdma_base.specs.Machine.PageRuns.{physical_in}
 use Rattle.busdma_base.specs.Machine.PageRuns as pages
 use Rattle.busdma_base.specs.Scenarios.Operations.{items_of}
-use Rattle.dma_map.specs.declared.callback.Transfers.{Transfers}
+use Rattle.lane_core.specs.declared.kept.KeptLoad.{KeptLoad}
 use Rattle.dma_map.specs.MapView as held
 use Rattle.lane_tables.specs.declared.queued.QueuedPage.{QueuedPage}
 use Rattle.loan_table.specs.Loans.{Loans}
@@ -59,7 +59,7 @@ is_idle_map (Some o) = is_idle (map_of o).stage
 -- the pages of a map that stands so are on their way back
 abbrev pub returns_in : Stage → Bool
 returns_in Idle = false
-returns_in (Waiting load_at need) = false
+returns_in (Waiting w) = false
 returns_in (Loaded bounced segments pages) = false
 returns_in Returning = true
 
@@ -78,7 +78,7 @@ abbrev pub AreLoaded : FinMap nat_cmp KeptMap → Loans → Type 0
 AreLoaded maps loans = (k : ℕ) → contains_key loans k ≡ has_load (get maps k)
 
 -- the pages of a map that stands so are lent out
-abbrev pub is_lent : held.Stage Transfers → Bool
+abbrev pub is_lent : held.Stage KeptLoad → Bool
 is_lent held.idle = false
 is_lent (held.waiting load_at callback room) = false
 is_lent (held.loaded bounced segments pages) = false

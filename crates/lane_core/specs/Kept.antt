@@ -4,27 +4,33 @@ use Rattle.std.specs.Option.{option_map}
 use Rattle.busdma_base.specs.declared.machine.chunk.Chunk.{Chunk}
 use Rattle.busdma_base.specs.Machine.Page.{FrameBytes}
 use Rattle.busdma_base.specs.Machine.PageList.{page_address, page_addresses}
-use Rattle.dma_map.specs.declared.callback.Transfers.{Transfers}
+use Rattle.lane_core.specs.declared.kept.KeptLoad.{KeptLoad}
 use Rattle.dma_map.specs.MapView as held
 use Rattle.lane_agreement.specs.View.{Return}
 use Rattle.lane_tables.specs.declared.queued.QueuedPage.{QueuedPage}
 use Rattle.ideal_lane.specs.State.{LaneTag, LaneMap, LaneMemory, Stage, Idle, Waiting, Loaded, Returning}
+use Rattle.ideal_lane.specs.State.{WaitingLoad}
 use Rattle.lane_core.specs.declared.kept.KeptTag.{KeptTag}
 use Rattle.lane_core.specs.declared.kept.KeptMap.{KeptMap}
 use Rattle.lane_core.specs.declared.kept.KeptMemory.{KeptMemory}
 use Rattle.lane_core.specs.declared.kept.KeptShare.{KeptShare}
+use Rattle.lane_core.specs.Loading.{bio_of}
 
 -- a tag: its effective limits, and whether its first allocation is done
 abbrev pub tag_of : KeptTag → LaneTag
 tag_of t = record { limits = t.tag; first_done = t.first_done }
 
--- where a map stands, of which a load that waits has this need; pages that are lent out are still the map's
-abbrev pub stage_of : ℕ → held.Stage Transfers → Stage
-stage_of need held.idle = Idle
-stage_of need (held.waiting load_at callback room) = Waiting load_at need
-stage_of need (held.loaded bounced segments pages) = Loaded bounced segments (page_addresses pages.items)
-stage_of need (held.lent bounced segments frames) = Loaded bounced segments (map (λ f. 4096 * f) frames)
-stage_of need held.returning = Returning
+-- a load that waits, which stands at a place of the script
+abbrev pub waits_of : ℕ → KeptLoad → WaitingLoad
+waits_of at w = record { load_at = at; bio = bio_of w.bytes; items = w.items; need = w.need }
+
+-- where a map stands; pages that are lent out are still the map's
+abbrev pub stage_of : held.Stage KeptLoad → Stage
+stage_of held.idle = Idle
+stage_of (held.waiting load_at callback room) = Waiting (waits_of load_at callback)
+stage_of (held.loaded bounced segments pages) = Loaded bounced segments (page_addresses pages.items)
+stage_of (held.lent bounced segments frames) = Loaded bounced segments (map (λ f. 4096 * f) frames)
+stage_of held.returning = Returning
 
 -- a map
 abbrev pub map_of : KeptMap → LaneMap
@@ -32,7 +38,7 @@ map_of o = record {
   tag = o.tag;
   zone = option_map (λ z. z.0) o.map.zone;
   tried = o.map.tried;
-  stage = stage_of o.need o.map.stage;
+  stage = stage_of o.map.stage;
 }
 
 -- a memory
@@ -64,7 +70,7 @@ abbrev pub no_device : Device
 no_device = record { chunks = []; pages = [] }
 
 -- those of a map that stands so
-abbrev pub device_in : held.Stage Transfers → Device
+abbrev pub device_in : held.Stage KeptLoad → Device
 device_in held.idle = no_device
 device_in (held.waiting load_at callback room) = no_device
 device_in (held.loaded bounced segments pages) = record { chunks = bounced; pages = pages.items }
@@ -77,18 +83,18 @@ device_of None = no_device
 device_of (Some o) = device_in o.map.stage
 
 -- how many pages a map that stands so gives to the return queue at last: those that it holds, or the need of its load
-abbrev pub due_in : ℕ → held.Stage Transfers → ℕ
-due_in need held.idle = 0
-due_in need (held.waiting load_at callback room) = need
-due_in need (held.loaded bounced segments pages) = length pages.items
-due_in need (held.lent bounced segments frames) = length frames
-due_in need held.returning = 0
+abbrev pub due_in : held.Stage KeptLoad → ℕ
+due_in held.idle = 0
+due_in (held.waiting load_at callback room) = callback.need
+due_in (held.loaded bounced segments pages) = length pages.items
+due_in (held.lent bounced segments frames) = length frames
+due_in held.returning = 0
 
 abbrev pub due_of : KeptMap → ℕ
-due_of o = due_in o.need o.map.stage
+due_of o = due_in o.map.stage
 
 -- how many items the load of a map brings that waits
-abbrev pub items_in : held.Stage Transfers → ℕ
+abbrev pub items_in : held.Stage KeptLoad → ℕ
 items_in held.idle = 0
 items_in (held.waiting load_at callback room) = length callback.items
 items_in (held.loaded bounced segments pages) = 0

@@ -24,9 +24,10 @@ ghost use Rattle.lane_core.specs.Kept.{device_in};
 ghost use Rattle.lane_core.specs.PagesLent.{IsReached, IsRepaged};
 
 use crate::holdings::{Holdings, report};
+use crate::kept::KeptLoad;
 use busdma_base::{Answer, ByteList, Extent, Judged, MapId, PageList, Place, Report, ReportName};
 use device_model::{bus_read, bus_write};
-use dma_map::{DmaMap, MapState, Transfers};
+use dma_map::{DmaMap, MapState};
 use loan_table::LoanTable;
 use phys_memory::{LanePages, Walked};
 use std::alloc::{AllocError, Global};
@@ -215,7 +216,7 @@ impl Holdings<'_> {
 
 /// `len` bytes of a map's load, from `off` on, at their bus addresses.
 fn read_load(
-    map: &mut DmaMap<Transfers>,
+    map: &mut DmaMap<KeptLoad<'_>>,
     memory: &LanePages,
     alloc: Global,
     off: u64,
@@ -288,7 +289,7 @@ fn write_parts(memory: &mut LanePages, parts: &[Extent], bytes: &[u8])
 }
 
 /// Writes bytes into a map's load at their bus addresses, from `off` on.
-fn write_load(map: &mut DmaMap<Transfers>, memory: &mut LanePages, off: u64, bytes: &[u8])
+fn write_load(map: &mut DmaMap<KeptLoad<'_>>, memory: &mut LanePages, off: u64, bytes: &[u8])
     requires { IsReached memory.old.memory map.old.stage off (length bytes.now) }
     ensures view { device_view (device_in map.new.stage) memory.new.memory
         ≡ put (bus_range off (length bytes.now) (segments_of map.old.stage)) bytes.now

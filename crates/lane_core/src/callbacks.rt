@@ -1,28 +1,23 @@
 //! The callbacks of loads that waited.
 
-ghost use Rattle.std.specs.Prelude.{◌≡◌, ◌+◌, ◌≤◌, ℕ, List, true, length, Some, slice_get};
+ghost use Rattle.std.specs.Prelude.{◌≡◌, ◌≤◌, IfSome, true, length, Some};
 ghost use Rattle.std.specs.FinMap.{get, insert};
 ghost use Rattle.busdma_base.specs.declared.journals.journal.Side.TheVariants as side;
-ghost use Rattle.busdma_base.specs.declared.machine.bio.Bio.{Bio};
-ghost use Rattle.busdma_base.specs.declared.scenarios.buffer.Buffer.{Buffer};
-ghost use Rattle.busdma_base.specs.declared.scenarios.script.Item.{Item};
-ghost use Rattle.busdma_base.specs.declared.scenarios.script.Op.TheVariants.{Load};
 ghost use Rattle.busdma_base.specs.Machine.PageList.{page_addresses};
 ghost use Rattle.dma_map.specs.MapView.{idle};
 ghost use Rattle.ideal_lane.specs.Ahead.{items_ahead};
 ghost use Rattle.ideal_lane.specs.Standing.{Stands};
-ghost use Rattle.ideal_lane.specs.Turns.{bio_at, called, is_waiting};
+ghost use Rattle.ideal_lane.specs.Turns.{called, is_waiting};
 ghost use Rattle.ideal_wire.specs.Machine.{IsInMachine};
 ghost use Rattle.lane_core.specs.declared.kept.KeptMap.{KeptMap};
 ghost use Rattle.lane_core.specs.Awaiting.{AreAwaiting, HasSmallLoads, kept_load};
-ghost use Rattle.lane_core.specs.Loading.{bio_of};
 ghost use Rattle.lane_core.specs.Turning.{IsMade, IsReady};
 
-use crate::buffers::LoadBytes;
 use crate::holdings::Holdings;
+use crate::kept::KeptLoad;
 use crate::turn::{Turn, stepped};
 use busdma_base::{Answer, Called, Did, HubDoor, PageList, Side};
-use dma_map::{LoadRoom, Transfers};
+use dma_map::LoadRoom;
 
 impl<'s> Holdings<'s> {
     ghost use Rattle.lane_core.specs.Changes.{KeepsAgenda, KeepsButMaps, KeepsBytesBut};
@@ -55,7 +50,7 @@ impl<'s> Holdings<'s> {
         requires machine { IsInMachine (ideal_of self.old) }
         requires room { items_ahead (ideal_of self.old) ≤ self.old.agenda.room }
         requires waits { is_waiting (get (ideal_of self.old).maps map) ≡ true }
-        requires need { (o : KeptMap) → get self.old.maps.map map ≡ Some o → length pages.items ≡ o.need }
+        requires need { IfSome (kept_load (get self.old.maps.map map)) (λ w. length pages.items ≡ w.1.need) }
         ensures done { given self.new result
             ≡ called map (get (ideal_of self.old).maps map) (page_addresses pages.items) (ideal_of self.old) }
         ensures bytes { KeepsBytesBut map self.old self.new }
@@ -68,13 +63,12 @@ impl<'s> Holdings<'s> {
         let Some(load) = self.take_load(map) else {
             return Answer::Done;
         };
-        let (load_at, callback, room) = load;
-        let bytes = self.bytes_at(load_at);
-        self.complete_load(map, load_at, bytes, room, pages, callback.items)
+        let (load_at, KeptLoad { bytes, items, .. }, room) = load;
+        self.complete_load(map, load_at, bytes, room, pages, items)
     }
 
     /// Takes the load of a map that waits out of it, and leaves the map idle.
-    fn take_load(&mut self, map: u32) -> Option<(u32, Transfers, LoadRoom)>
+    fn take_load(&mut self, map: u32) -> Option<(u32, KeptLoad<'s>, LoadRoom)>
         requires { is_waiting (get (ideal_of self.old).maps map) ≡ true }
         ensures load { result ≡ kept_load (get self.old.maps.map map) }
         ensures maps { (o : KeptMap) → get self.old.maps.map map ≡ Some o → self.new.maps.map
@@ -83,23 +77,5 @@ impl<'s> Holdings<'s> {
     {
         let kept = self.maps.get_mut(map)?;
         Some(kept.map.take_waiting())
-    }
-
-    /// The bytes of the load at a place of the script; none where no load stands there.
-    fn bytes_at(&self, load_at: u32) -> LoadBytes<'s>
-        ensures { (m : ℕ) (x : Buffer) (flags : ℕ) (items : List Item) (b : Bio) →
-            slice_get self.now.script.now load_at ≡ Some (Load m x flags items) →
-            bio_at (ideal_of self.now) x ≡ Some b → bio_of result ≡ b }
-    {
-        let Some(op) = self.script.get(load_at as usize) else {
-            return LoadBytes::Spans(&[]);
-        };
-        let Some(buffer) = op.loads() else {
-            return LoadBytes::Spans(&[]);
-        };
-        match self.load_bytes(buffer) {
-            Some(bytes) => bytes,
-            None => LoadBytes::Spans(&[]),
-        }
     }
 }

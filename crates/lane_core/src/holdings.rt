@@ -24,7 +24,7 @@ pub(crate) struct Holdings<'s> {
     pub(crate) maxmem: u64,
     pub(crate) memory: LanePages,
     pub(crate) tags: PlaceTable<KeptTag>,
-    pub(crate) maps: PlaceTable<KeptMap>,
+    pub(crate) maps: PlaceTable<KeptMap<'s>>,
     pub(crate) memories: PlaceTable<KeptMemory>,
     pub(crate) loans: LoanTable,
     pub(crate) agenda: Agenda,

@@ -1,7 +1,10 @@
 //! What a lane keeps of its tags, maps, memories and shares.
 
-use busdma_base::{Pa, ZoneId};
-use dma_map::{DmaMap, Transfers};
+ghost use Rattle.dma_map.specs.Callback.{appended};
+
+use crate::buffers::LoadBytes;
+use busdma_base::{ItemList, Pa, ZoneId};
+use dma_map::{Callback, DmaMap, LoadEnd};
 use dma_tag::Tag;
 use dmamem::Memory;
 
@@ -12,12 +15,31 @@ pub(crate) struct KeptTag {
     pub(crate) first_done: bool,
 }
 
-/// A map, the place in the script that made its tag, and, while its load waits, how many pages the load needs.
+/// A load that waits, as its map keeps it: the bytes that it loads, the items that its callback appends, and how many
+/// pages it needs. So the map of bus_dma(9) keeps the memory of a load that is deferred, with its callback.
 #[derive(Drop)]
-pub(crate) struct KeptMap {
-    pub(crate) tag: u32,
+pub(crate) struct KeptLoad<'s> {
+    pub(crate) bytes: LoadBytes<'s>,
+    pub(crate) items: ItemList,
     pub(crate) need: u32,
-    pub(crate) map: DmaMap<Transfers>,
+}
+
+impl Callback for KeptLoad<'_> {
+    ghost answer = { λ w end. appended w.items end };
+
+    fn call(self, end: &LoadEnd) -> Option<ItemList> {
+        match end {
+            LoadEnd::Segments(_) => Some(self.items),
+            LoadEnd::Refused(_) => None,
+        }
+    }
+}
+
+/// A map, and the place in the script that made its tag.
+#[derive(Drop)]
+pub(crate) struct KeptMap<'s> {
+    pub(crate) tag: u32,
+    pub(crate) map: DmaMap<KeptLoad<'s>>,
 }
 
 /// A memory, the place in the script that made its tag, and its frames, which follow one another: the physical address

@@ -60,8 +60,8 @@ fn take_room(alloc: Global, wanted: Wanted) -> Result<LoadRoom, AllocError>
     })
 }
 
-impl Holdings<'_> {
-    ghost use Rattle.lane_core.specs.Awaiting.{AreAwaiting, AreAwaitingBut, IsNextLoad};
+impl<'s> Holdings<'s> {
+    ghost use Rattle.lane_core.specs.Awaiting.{AreAwaiting, AreAwaitingBut};
     ghost use Rattle.lane_core.specs.Changes.{KeepsAgenda, KeepsBytesBut, KeepsState, KeepsWhatStays};
     ghost use Rattle.lane_core.specs.Ideal.{given, ideal_of};
 
@@ -73,7 +73,7 @@ impl Holdings<'_> {
         alloc: Global,
         door: &mut D,
         map: u32,
-        bytes: LoadBytes<'_>,
+        bytes: LoadBytes<'s>,
         nowait: bool,
         items: &ItemList,
     ) -> Result<Answered, AllocError>
@@ -81,7 +81,6 @@ impl Holdings<'_> {
         requires machine { IsInMachine (ideal_of self.old) }
         requires laid { AreLaid (ideal_of self.old) }
         requires awaiting { AreAwaiting self.old }
-        requires next { IsNextLoad self.old map (bio_of bytes) items.now }
         requires loadable { IsLoadable self.old.pages.now (bio_of bytes) }
         requires few_items { length items.now ≤ self.old.agenda.room }
         requires few_pages { self.old.agenda.promised + bio_bytes (bio_of bytes) < 2 ^ 32 }
@@ -354,7 +353,7 @@ impl Holdings<'_> {
         alloc: Global,
         door: &mut D,
         map: u32,
-        bytes: LoadBytes<'_>,
+        bytes: LoadBytes<'s>,
         wanted: Wanted,
         nowait: bool,
         items: &ItemList,
@@ -363,7 +362,6 @@ impl Holdings<'_> {
         requires idle { is_idle_map (get self.old.maps.map map) ≡ true }
         requires own { get self.old.memories.map map ≡ None }
         requires awaiting { AreAwaiting self.old }
-        requires next { IsNextLoad self.old map (bio_of bytes) items.now }
         requires reached { bio_reached (ideal_of self.old) (bio_of bytes) ≡ Fine }
         requires loadable { IsLoadable self.old.pages.now (bio_of bytes) }
         requires wanted { (o : LaneMap) → get (ideal_of self.old).maps map ≡ Some o →
@@ -375,7 +373,8 @@ impl Holdings<'_> {
             Allows (D.seen door.old) self.old.id.0
             (Grab (named (ideal_of self.old) map) (record { 0 = zone_of o }) wanted.need nowait) }
         ensures done { IfOk result (λ answer. (o : LaneMap) (x : Asked) → get (ideal_of self.old).maps map ≡ Some o →
-            x.entries ≡ load_entries (ideal_of self.old) (bio_of bytes.entry) → x.items ≡ items.now →
+            x.bio ≡ bio_of bytes.entry → x.entries ≡ load_entries (ideal_of self.old) (bio_of bytes.entry) →
+            x.items ≡ items.now →
             IsCalled (D.seen door.old) self.old.id.0
             (Grab (named (ideal_of self.old) map) (record { 0 = zone_of o }) wanted.need nowait)
             (granted map o x (bio_chunks (ideal_of self.old) o (bio_of bytes.entry)) (ideal_of self.old))

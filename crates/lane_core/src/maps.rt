@@ -162,7 +162,7 @@ impl Holdings<'_> {
     {
         let place = self.agenda.place();
         let map = DmaMap::new(self.map_id(place), zone);
-        self.maps.put(place, KeptMap { tag, need: 0, map });
+        self.maps.put(place, KeptMap { tag, map });
     }
 
     /// Notes that the first allocation of a tag is done.

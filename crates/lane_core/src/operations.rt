@@ -16,7 +16,7 @@ use busdma_base::{Buffer, HubDoor, ItemList, Op, ReportName};
 use dma_tag::SyncOps;
 use std::alloc::{AllocError, Global};
 
-impl Holdings<'_> {
+impl<'s> Holdings<'s> {
     ghost use Rattle.lane_core.specs.Awaiting.{AreAwaiting};
     ghost use Rattle.lane_core.specs.Changes.{IsWireOf, KeepsAgenda, KeepsState, KeepsWhatStays};
     ghost use Rattle.lane_core.specs.Ideal.{given, ideal_of};
@@ -29,7 +29,7 @@ impl Holdings<'_> {
         &mut self,
         alloc: Global,
         door: &mut D,
-        op: &Op,
+        op: &'s Op,
     ) -> Result<Answered, AllocError>
         requires stands { Stands (ideal_of self.old) }
         requires wired { IsWired self.old }
@@ -86,7 +86,7 @@ impl Holdings<'_> {
         alloc: Global,
         door: &mut D,
         map: u32,
-        buffer: &Buffer,
+        buffer: &'s Buffer,
         flags: u32,
         items: &ItemList,
     ) -> Result<Answered, AllocError>

@@ -68,7 +68,7 @@ impl Holdings<'_> {
 }
 
 /// Notes that a page of a map left the return queue. Where it was the map's last there, the map is idle.
-fn note_returned(maps: &mut PlaceTable<KeptMap>, map: u32, last: bool)
+fn note_returned(maps: &mut PlaceTable<KeptMap<'_>>, map: u32, last: bool)
     requires { is_returning (get maps.old.map map) ≡ true }
     ensures last { last ≡ true → (o : _) → get maps.old.map map ≡ Some o →
         maps.new ≡ record maps.old {

@@ -28,10 +28,10 @@ ghost use Rattle.lane_core.specs.Shares.{place_in};
 
 use crate::accesses::reserve_extents;
 use crate::holdings::{Holdings, report};
-use crate::kept::KeptShare;
+use crate::kept::{KeptLoad, KeptShare};
 use bitflags::Flags;
 use busdma_base::{Answer, Chunk, Judged, MapId, PageList, ReportName, ZoneId};
-use dma_map::{DmaMap, Transfers};
+use dma_map::DmaMap;
 use dma_tag::SyncOps;
 use loan_table::LoanTable;
 use map_sync::{copy_in, copy_out};
@@ -166,7 +166,7 @@ fn sync_loans(loans: &mut LoanTable, map: MapId, off: u64, len: u64, ops: SyncOp
 
 /// Copies a range of a map's load as a sync asks, and counts the sync where it copies a byte to or from a bounce page.
 fn copy_part(
-    map: &mut DmaMap<Transfers>,
+    map: &mut DmaMap<KeptLoad<'_>>,
     memory: &mut LanePages,
     shares: &mut Vec<KeptShare>,
     off: u64,
@@ -225,7 +225,13 @@ fn has_byte(chunk: &Chunk, off: u64, end: u64) -> bool
 }
 
 /// Copies a range of a map's load into its bounce pages or back from them.
-fn copy_load(map: &mut DmaMap<Transfers>, memory: &mut LanePages, off: u64, len: u64, ops: SyncOps)
+fn copy_load(
+    map: &mut DmaMap<KeptLoad<'_>>,
+    memory: &mut LanePages,
+    off: u64,
+    len: u64,
+    ops: SyncOps,
+)
     requires bounced { IsBounced memory.old.memory map.old.stage }
     requires range { off + len < 2 ^ 64 }
     ensures view { device_view (device_in map.new.stage) memory.new.memory

@@ -49,6 +49,7 @@ impl Holdings<'_> {
         ensures bytes { KeepsBytesHeld self.old self.new }
         ensures waiting { KeepsWaiting self.old self.new }
         ensures reach { KeepsReach self.old self.new }
+        ensures script { self.new.script ≡ self.old.script }
         ensures memories { self.new.memories ≡ self.old.memories }
         ensures promised { self.new.agenda.promised ≤ self.old.agenda.promised }
         ensures queue { self.new.agenda.queue ≡ self.old.agenda.queue }

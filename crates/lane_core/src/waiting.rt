@@ -10,18 +10,20 @@ ghost use Rattle.ideal_lane.specs.Loads.{Asked, granted, limits_of, load_entries
 ghost use Rattle.ideal_lane.specs.Standing.{Stands};
 ghost use Rattle.ideal_lane.specs.State.{LaneMap, Waiting};
 ghost use Rattle.lane_core.specs.Awaiting.{kept_load};
+ghost use Rattle.lane_core.specs.Kept.{waits_of};
 ghost use Rattle.lane_core.specs.Covered.{is_idle_map, pages_due};
 ghost use Rattle.lane_core.specs.Loading.{HasNeed, HasRoomForAny, IsLoadable, bio_chunks, bio_of, bio_reached};
 ghost use Rattle.lane_core.specs.Loading.{load_loan};
 
 use crate::buffers::LoadBytes;
 use crate::holdings::Holdings;
+use crate::kept::KeptLoad;
 use busdma_base::{Answer, Errno, Grabbed, ItemList};
-use dma_map::{LoadRoom, Transfers};
+use dma_map::LoadRoom;
 use std::alloc::{AllocError, Global};
 
-impl Holdings<'_> {
-    ghost use Rattle.lane_core.specs.Awaiting.{AreAwaiting, AreAwaitingBut, IsNextLoad};
+impl<'s> Holdings<'s> {
+    ghost use Rattle.lane_core.specs.Awaiting.{AreAwaiting, AreAwaitingBut};
     ghost use Rattle.lane_core.specs.Changes.{KeepsAgenda, KeepsBytes, KeepsBytesBut, KeepsState};
     ghost use Rattle.lane_core.specs.Ideal.{given, ideal_of};
 
@@ -73,29 +75,21 @@ impl Holdings<'_> {
     }
 
     /// Has the load of an idle map wait for its pages.
-    pub(crate) fn wait_load(
-        &mut self,
-        map: u32,
-        load_at: u32,
-        need: u32,
-        items: ItemList,
-        room: LoadRoom,
-    )
+    pub(crate) fn wait_load(&mut self, map: u32, load_at: u32, load: KeptLoad<'s>, room: LoadRoom)
         requires idle { is_idle_map (get self.old.maps.map map) ≡ true }
-        requires promised { pages_due self.old.maps.map + need ≤ self.old.agenda.promised }
+        requires promised { pages_due self.old.maps.map + load.need ≤ self.old.agenda.promised }
         ensures done { (o : LaneMap) → get (ideal_of self.old).maps map ≡ Some o →
-            ideal_of self.new ≡ staged map o (Waiting load_at need) (ideal_of self.old) }
+            ideal_of self.new ≡ staged map o (Waiting (waits_of load_at load.entry)) (ideal_of self.old) }
         ensures bytes { KeepsBytes self.old self.new }
         ensures agenda { self.new.agenda ≡ self.old.agenda }
         ensures memories { self.new.memories ≡ self.old.memories }
-        ensures waits { kept_load (get self.new.maps.map map) ≡ Some (load_at, record { items = items }, room) }
+        ensures waits { kept_load (get self.new.maps.map map) ≡ Some (load_at, load.entry, room) }
         ensures others { (m : ℕ) → (m == map) ≡ false →
             kept_load (get self.new.maps.map m) ≡ kept_load (get self.old.maps.map m) }
         ensures prepared { self.new.loans.prepared ≡ self.old.loans.prepared }
     {
         if let Some(kept) = self.maps.get_mut(map) {
-            kept.need = need;
-            kept.map.wait(load_at, Transfers { items }, room);
+            kept.map.wait(load_at, load, room);
         }
     }
 
@@ -103,7 +97,7 @@ impl Holdings<'_> {
     pub(crate) fn take_grabbed(
         &mut self,
         map: u32,
-        bytes: LoadBytes<'_>,
+        bytes: LoadBytes<'s>,
         need: u32,
         room: LoadRoom,
         items: ItemList,
@@ -113,7 +107,6 @@ impl Holdings<'_> {
         requires idle { is_idle_map (get self.old.maps.map map) ≡ true }
         requires own { get self.old.memories.map map ≡ None }
         requires awaiting { AreAwaitingBut map self.old }
-        requires next { IsNextLoad self.old map (bio_of bytes) items }
         requires reached { bio_reached (ideal_of self.old) (bio_of bytes) ≡ Fine }
         requires loadable { IsLoadable self.old.pages.now (bio_of bytes) }
         requires room { (o : LaneMap) → get (ideal_of self.old).maps map ≡ Some o →
@@ -125,7 +118,8 @@ impl Holdings<'_> {
         requires promised { pages_due self.old.maps.map + need ≤ self.old.agenda.promised }
         requires granted { HasNeed need got }
         ensures done { (o : LaneMap) (x : Asked) → get (ideal_of self.old).maps map ≡ Some o →
-            x.entries ≡ load_entries (ideal_of self.old) (bio_of bytes.entry) → x.items ≡ items →
+            x.bio ≡ bio_of bytes.entry → x.entries ≡ load_entries (ideal_of self.old) (bio_of bytes.entry) →
+            x.items ≡ items →
             given self.new result ≡ granted map o x
             (bio_chunks (ideal_of self.old) o (bio_of bytes.entry)) (ideal_of self.old) (grab_reply got) }
         ensures awaiting { AreAwaiting self.new }
@@ -138,7 +132,7 @@ impl Holdings<'_> {
         match got {
             Grabbed::Granted(pages) => self.complete_load(map, load_at, bytes, room, pages, items),
             Grabbed::Queued(have) => {
-                self.wait_load(map, load_at, need, items, room);
+                self.wait_load(map, load_at, KeptLoad { bytes, items, need }, room);
                 Answer::InProgress { have, need }
             }
             Grabbed::NoPages => {

@@ -3,7 +3,6 @@ use Rattle.std.proofs.Common.{◌∙◌, subst, cond, arith, length-append}
 use Rattle.std.specs.FinMap.{get, insert}
 use Rattle.busdma_base.specs.declared.journals.answer.Answer.TheVariants.{Refused, Segments}
 use Rattle.busdma_base.specs.declared.journals.report.Errno.TheVariants.{EFBIG}
-use Rattle.busdma_base.specs.declared.journals.report.Judged.TheVariants.{Fine}
 use Rattle.busdma_base.specs.declared.machine.address.Pa.{Pa}
 use Rattle.busdma_base.specs.declared.machine.address.Segment.{Segment}
 use Rattle.busdma_base.specs.Bounce.AccountStep.{as_pages}
@@ -19,13 +18,13 @@ use Rattle.loan_table.specs.Loans.{loan_of, new_loan, no_loan}
 use Rattle.segment_build.specs.Building.{placed_pieces, tag_placed}
 use Rattle.segment_build.specs.Chunks.{bounced_of}
 use Rattle.segment_build.specs.Segmentation.{segmentation}
-use Rattle.ideal_lane.specs.Loads.{Asked, is_coherent, limits_of, load_entries, loaded, staged, unpaged}
+use Rattle.ideal_lane.specs.Loads.{Asked, asked, is_coherent, limits_of, load_entries, loaded, staged, unpaged}
 use Rattle.ideal_lane.specs.Outcomes.{Outcome}
 use Rattle.ideal_lane.specs.State.{LaneState, Loaded}
 use Rattle.ideal_lane.specs.Unloads.{unlent}
 use Rattle.lane_core.specs.Ideal.{ideal_of}
 use Rattle.lane_core.specs.Kept.{map_of, return_of}
-use Rattle.lane_core.specs.Loading.{bio_bytes, bio_of, map_chunks}
+use Rattle.lane_core.specs.Loading.{bio_of, map_chunks}
 use Rattle.lane_core.proofs.AwaitingLoads.{awaiting-finished}
 use Rattle.lane_core.proofs.Chunked.{copy-fits}
 use Rattle.lane_core.proofs.Keeping.{idle-there}
@@ -176,13 +175,7 @@ returns-then-not-few-clause-awaiting c =
     let o = map_of idle.0 in
     let is = image-some map_of h.maps.map m idle.0 idle.1 in
     let chunks = map_chunks l m o (bio_of c.args.bytes) in
-    let x : Asked = record {
-      judged = Fine;
-      entries = load_entries l (bio_of c.args.bytes);
-      len = bio_bytes (bio_of c.args.bytes);
-      nowait = false;
-      items = c.args.items;
-    } in
+    let x : Asked = asked m (bio_of c.args.bytes) false c.args.items l in
     let then = c.end_load.ensures.waiting in
     awaiting-finished h _ m o c.args.load_at x chunks (page_addresses c.args.pages.items)
     (ap (λ (y : Outcome). y.lane) (returns-then-not-few-clause-done c o x is refl refl))
@@ -198,13 +191,7 @@ returns-clause-awaiting c =
     let o = map_of idle.0 in
     let is = image-some map_of h.maps.map m idle.0 idle.1 in
     let chunks = map_chunks l m o (bio_of c.args.bytes) in
-    let x : Asked = record {
-      judged = Fine;
-      entries = load_entries l (bio_of c.args.bytes);
-      len = bio_bytes (bio_of c.args.bytes);
-      nowait = false;
-      items = c.args.items;
-    } in
+    let x : Asked = asked m (bio_of c.args.bytes) false c.args.items l in
     awaiting-finished h _ m o c.args.load_at x chunks (page_addresses c.args.pages.items)
     (ap (λ (y : Outcome). y.lane) (returns-clause-done c o x is refl refl)) c.store_load.ensures.kept
     c.store_load.ensures.prepared c.requires.idle c.requires.awaiting

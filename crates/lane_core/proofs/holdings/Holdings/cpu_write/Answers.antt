@@ -112,12 +112,12 @@ returns-clause-wire c =
 
 pub returns-clause-awaiting : goal.returns-clause-awaiting
 returns-clause-awaiting c =
-    awaits-same c.args.self.now _ refl refl refl refl (c.note_write.ensures.prepared ∙ c.reserve.ensures.same.prepared)
+    awaits-same c.args.self.now _ refl refl refl (c.note_write.ensures.prepared ∙ c.reserve.ensures.same.prepared)
     refl refl
 
 pub returns-in_err-reserve-clause-awaiting : goal.returns-in_err-reserve-clause-awaiting
 returns-in_err-reserve-clause-awaiting c =
-    awaits-same c.args.self.now _ refl refl refl refl c.reserve.ensures.same.prepared refl refl
+    awaits-same c.args.self.now _ refl refl refl c.reserve.ensures.same.prepared refl refl
 
 pub invariant_of-self-2-clause-unlent : goal.invariant_of-self-2-clause-unlent
 invariant_of-self-2-clause-unlent c = c.args.self.now.unlent

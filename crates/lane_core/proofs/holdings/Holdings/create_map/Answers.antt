@@ -88,13 +88,13 @@ returns-clause-bytes g c =
 
 pub returns-clause-awaiting : goal.returns-clause-awaiting
 returns-clause-awaiting g c are =
-    c.keep_created.ensures.awaiting (awaits-same c.args.self.now _ refl refl refl refl refl refl
+    c.keep_created.ensures.awaiting (awaits-same c.args.self.now _ refl refl refl refl refl
     (ap (λ t. t.map) c.in_ok-reserve.ensures.kept) are)
 
 pub returns-in_err-reserve-clause-awaiting : goal.returns-in_err-reserve-clause-awaiting
 returns-in_err-reserve-clause-awaiting g c =
-    awaits-same c.args.self.now _ refl refl refl refl refl refl (ap (λ t. t.map) c.reserve.ensures.kept)
+    awaits-same c.args.self.now _ refl refl refl refl refl (ap (λ t. t.map) c.reserve.ensures.kept)
 
 pub returns-in_err-grown-clause-awaiting : goal.returns-in_err-grown-clause-awaiting
 returns-in_err-grown-clause-awaiting g c =
-    awaits-same c.args.self.now _ refl refl refl refl refl refl (ap (λ t. t.map) c.reserve.ensures.kept)
+    awaits-same c.args.self.now _ refl refl refl refl refl (ap (λ t. t.map) c.reserve.ensures.kept)

@@ -41,11 +41,11 @@ returns-in_default-state g c =
       done = done-gives (g.D.HubDoor.seen c.args.door.now) h.id.0 (map_destroy c.args.map l) _
           (destroy-busy l c.args.map (map_of o)
           (image-some map_of h.maps.map c.args.map o (sym c.in-Some.ensures))
-          (state-busy o.need o.map.stage (λ e. c.in_default-state.not-Idle (c.state.ensures ∙ e))));
+          (state-busy o.map.stage (λ e. c.in_default-state.not-Idle (c.state.ensures ∙ e))));
       held = unasked (map_destroy c.args.map l) _
           (destroy-busy l c.args.map (map_of o)
           (image-some map_of h.maps.map c.args.map o (sym c.in-Some.ensures))
-          (state-busy o.need o.map.stage (λ e. c.in_default-state.not-Idle (c.state.ensures ∙ e))));
+          (state-busy o.map.stage (λ e. c.in_default-state.not-Idle (c.state.ensures ∙ e))));
       bytes = bytes-same h;
       awaiting = λ are. are;
       script = refl;
@@ -62,7 +62,7 @@ returns-in_default-zone-clause-done g c =
     done-gives (g.D.HubDoor.seen c.args.door.now) h.id.0 (map_destroy c.args.map l) (given c.drop_map.new.self Done)
     (destroy-plain l c.args.map (map_of o)
     (image-some map_of h.maps.map c.args.map o (sym c.in-Some.ensures))
-    (state-idle o.need o.map.stage (sym c.state.ensures ∙ c.in-Idle.is))
+    (state-idle o.map.stage (sym c.state.ensures ∙ c.in-Idle.is))
     (ap (option_map (λ (z : ZoneId). z.0)) (sym c.zone.ensures ∙ c.in_default-zone.is))
     ∙ ap (λ x. gives x Done) (sym c.drop_map.ensures.done))
 
@@ -74,7 +74,7 @@ returns-in_default-zone-clause-held g c =
     unasked (map_destroy c.args.map l) _
     (destroy-plain l c.args.map (map_of o)
     (image-some map_of h.maps.map c.args.map o (sym c.in-Some.ensures))
-    (state-idle o.need o.map.stage (sym c.state.ensures ∙ c.in-Idle.is))
+    (state-idle o.map.stage (sym c.state.ensures ∙ c.in-Idle.is))
     (ap (option_map (λ (z : ZoneId). z.0)) (sym c.zone.ensures ∙ c.in_default-zone.is)))
 
 pub destroy_map-requires : goal.destroy_map-requires
@@ -88,7 +88,7 @@ destroy_map-requires g c =
     (allowed-asks d h.id.0 (map_destroy c.args.map l) (DestroyMap (named l c.args.map) (record { 0 = z.0 })) _
     (destroy-zoned l c.args.map (map_of o) z.0
     (image-some map_of h.maps.map c.args.map o (sym c.in-Some.ensures))
-    (state-idle o.need o.map.stage (sym c.state.ensures ∙ c.in-Idle.is))
+    (state-idle o.map.stage (sym c.state.ensures ∙ c.in-Idle.is))
     (ap (option_map (λ (z : ZoneId). z.0)) (sym c.zone.ensures ∙ c.in-Some-zone.is)))
     c.requires)
 
@@ -104,7 +104,7 @@ returns-clause-done g c =
     (λ r. record { lane = without_map c.args.map l; answer = Done }) (given c.drop_map-2.new.self Done) e
     (destroy-zoned l c.args.map (map_of o) z.0
     (image-some map_of h.maps.map c.args.map o (sym c.in-Some.ensures))
-    (state-idle o.need o.map.stage (sym c.state.ensures ∙ c.in-Idle.is))
+    (state-idle o.map.stage (sym c.state.ensures ∙ c.in-Idle.is))
     (ap (option_map (λ (z : ZoneId). z.0)) (sym c.zone.ensures ∙ c.in-Some-zone.is)))
     (record {
       reply = Nothing;
@@ -122,5 +122,5 @@ returns-clause-held g c =
     asked (map_destroy c.args.map l) _ _
     (destroy-zoned l c.args.map (map_of o) z.0
     (image-some map_of h.maps.map c.args.map o (sym c.in-Some.ensures))
-    (state-idle o.need o.map.stage (sym c.state.ensures ∙ c.in-Idle.is))
+    (state-idle o.map.stage (sym c.state.ensures ∙ c.in-Idle.is))
     (ap (option_map (λ (z : ZoneId). z.0)) (sym c.zone.ensures ∙ c.in-Some-zone.is)))

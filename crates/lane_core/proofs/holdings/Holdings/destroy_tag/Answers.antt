@@ -47,6 +47,6 @@ returns-clause-awaiting c =
     let l = ideal_of h in
     let there : get h.tags.map c.args.tag ≡ Some c.in-Some.field-0.now = sym c.in-Some.ensures in
     let taken = on-some c.take.result c.in-Some.field-0.now (c.take.ensures.value ∙ there) c.take.ensures.taken in
-    awaits-tags h _ refl refl refl refl refl (remove l.tags c.args.tag)
+    awaits-tags h _ refl refl refl refl (remove l.tags c.args.tag)
     (ap (λ t. map_values tag_of t.map) taken ∙ map_values-remove tag_of h.tags.map c.args.tag)
     (untagged l c.args.tag (sym c.has_maps.ensures ∙ c.if-has_maps.false)) refl

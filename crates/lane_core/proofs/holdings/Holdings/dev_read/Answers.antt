@@ -34,7 +34,7 @@ returns-in-Refused-clause-done c =
     c.map_id-id.ensures)
 
 pub returns-in-Refused-clause-awaiting : goal.returns-in-Refused-clause-awaiting
-returns-in-Refused-clause-awaiting c = awaits-same c.args.self.now _ refl refl refl refl refl refl refl
+returns-in-Refused-clause-awaiting c = awaits-same c.args.self.now _ refl refl refl refl refl refl
 
 pub read_load-bytes-requires : goal.read_load-bytes-requires
 read_load-bytes-requires c =
@@ -137,7 +137,7 @@ returns-clause-awaiting c =
     let h = c.args.self.now in
     let o : KeptMap = c.in-Some-get_mut.kept.now in
     let there : get h.maps.map c.args.map ≡ Some o = sym c.in-Some-get_mut.ensures.value in
-    awaits-same h _ refl refl refl refl refl refl
+    awaits-same h _ refl refl refl refl refl
     (put-same h.maps.map c.args.map o c.read_load-bytes.new.map there c.read_load-bytes.ensures.kept)
 
 pub returns-in_err-bytes-clause-awaiting : goal.returns-in_err-bytes-clause-awaiting
@@ -145,5 +145,5 @@ returns-in_err-bytes-clause-awaiting c =
     let h = c.args.self.now in
     let o : KeptMap = c.in-Some-get_mut.kept.now in
     let there : get h.maps.map c.args.map ≡ Some o = sym c.in-Some-get_mut.ensures.value in
-    awaits-same h _ refl refl refl refl refl refl
+    awaits-same h _ refl refl refl refl refl
     (put-same h.maps.map c.args.map o c.read_load-bytes.new.map there c.read_load-bytes.ensures.kept)

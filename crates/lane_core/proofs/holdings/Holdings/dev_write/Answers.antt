@@ -30,7 +30,7 @@ returns-in-Some-past_end-clause-done c =
     c.args.bytes.now c.in-Some-past_end.refusal c.in-Some-past_end.ensures.refused
 
 pub returns-in-Refused-clause-awaiting : goal.returns-in-Refused-clause-awaiting
-returns-in-Refused-clause-awaiting c = awaits-same c.args.self.now _ refl refl refl refl refl refl refl
+returns-in-Refused-clause-awaiting c = awaits-same c.args.self.now _ refl refl refl refl refl refl
 
 pub write_load-requires : goal.write_load-requires
 write_load-requires c =
@@ -118,14 +118,14 @@ returns-clause-wire c =
 
 pub returns-in_err-reserve_extents-clause-awaiting : goal.returns-in_err-reserve_extents-clause-awaiting
 returns-in_err-reserve_extents-clause-awaiting c =
-    awaits-same c.args.self.now _ refl refl refl refl c.reserve_extents.ensures.same.prepared refl refl
+    awaits-same c.args.self.now _ refl refl refl c.reserve_extents.ensures.same.prepared refl refl
 
 pub returns-clause-awaiting : goal.returns-clause-awaiting
 returns-clause-awaiting c =
     let h = c.args.self.now in
     let k = c.args.map in
     let o : KeptMap = c.in-Some-get_mut.kept.now in
-    awaits-put h _ refl refl refl refl
+    awaits-put h _ refl refl refl
     (c.note_dev_write.ensures.prepared ∙ c.reserve_extents.ensures.same.prepared) refl k
     (loaded-unkept (get h.maps.map k) c.in_default.ensures.loaded) (record o { map = c.write_load.new.map }) refl
     (ap (λ m. waiting_load m.stage) c.write_load.ensures.map.is)

@@ -71,5 +71,5 @@ returns-clause-awaiting c =
     let k = c.args.map in
     let idle = idle-there (get h.maps.map k) c.requires in
     let taken = on-some c.take.result idle.0 (c.take.ensures.value ∙ idle.1) c.take.ensures.taken in
-    awaits-cut h _ refl refl refl refl refl refl k (idle-unkept (get h.maps.map k) c.requires)
+    awaits-cut h _ refl refl refl refl refl k (idle-unkept (get h.maps.map k) c.requires)
     (ap (λ t. t.map) taken)

@@ -120,14 +120,14 @@ returns-in-Some-clause-done c other found =
       promised = h.agenda.promised - length p.items;
     }) id in
     let loan = some-there (get h.loans.loans k) (h.loaded k ∙ c.requires) in
-    let held_pages = pages-are o.need o.map.stage p c.unload-pages.ensures.pages in
+    let held_pages = pages-are o.map.stage p c.unload-pages.ensures.pages in
     let staged : map_of (left o p.items) ≡ record (map_of o) {
       tried = true;
       stage = emptied (pages_of (map_of o).stage);
     } =
     (λ i. record (map_of o) {
       tried = tried i;
-      stage = (left-is o.need p.items ∙ ap emptied (sym held_pages)) i;
+      stage = (left-is p.items ∙ ap emptied (sym held_pages)) i;
     }) in
     let zoned : zone.0 ≡ unwrap_or (map_of o).zone 0 =
     ap (λ (z : ZoneId). z.0) (c.unwrap_or-zone.ensures ∙ ap (λ z. unwrap_or z (record { 0 = 0 })) c.zone.ensures)
@@ -190,7 +190,7 @@ returns-in-Some-clause-waiting c =
     let p = c.unload-pages.result in
     let maps : insert h.maps.map k (record o { map = c.unload-pages.new.self }) ≡ insert h.maps.map k (left o p.items) =
     ap (λ v. insert h.maps.map k (record o { map = v })) c.unload-pages.ensures.left in
-    put-waiting h _ refl refl refl refl c.forget.ensures.prepared refl k
+    put-waiting h _ refl refl refl c.forget.ensures.prepared refl k
     (loaded-unkept (get h.maps.map k) c.requires) (left o p.items) maps (left-unkept p.items)
 
 pub returns-in-Some-clause-reach : goal.returns-in-Some-clause-reach
@@ -201,7 +201,7 @@ returns-in-Some-clause-reach c =
     let p = c.unload-pages.result in
     let maps : insert h.maps.map k (record o { map = c.unload-pages.new.self }) ≡ insert h.maps.map k (left o p.items) =
     ap (λ v. insert h.maps.map k (record o { map = v })) c.unload-pages.ensures.left in
-    put-reach h _ refl refl refl refl c.forget.ensures.prepared refl k
+    put-reach h _ refl refl refl c.forget.ensures.prepared refl k
     (loaded-unkept (get h.maps.map k) c.requires) (left o p.items) maps (left-unkept p.items)
 
 pub returns-in-Some-clause-promised : goal.returns-in-Some-clause-promised

@@ -70,7 +70,7 @@ returns-in_default-state g c =
     let busy = free-busy l c.args.mem (memory_of x) (map_of o)
     (image-some memory_of h.memories.map c.args.mem x (sym c.in-Some.ensures))
     (image-some map_of h.maps.map c.args.mem o (sym c.in-Some-get.ensures))
-    (state-busy o.need o.map.stage (λ e. c.in_default-state.not-Idle (c.state.ensures ∙ e))) in
+    (state-busy o.map.stage (λ e. c.in_default-state.not-Idle (c.state.ensures ∙ e))) in
     record {
       done = done-gives (g.D.HubDoor.seen c.args.door.now) h.id.0 (dmamem_free c.args.mem l) _
           (busy ∙ ap (gives l) (sym (ap (λ (y : Answered). y.answer) c.unheld-in_default-state.ensures)));
@@ -87,11 +87,11 @@ returns-in_default-state g c =
 
 pub returns-in_err-reserve-clause-awaiting : goal.returns-in_err-reserve-clause-awaiting
 returns-in_err-reserve-clause-awaiting g c =
-    awaits-same c.args.self.now _ refl refl refl refl c.reserve.ensures.same.prepared refl refl c.requires.awaiting
+    awaits-same c.args.self.now _ refl refl refl c.reserve.ensures.same.prepared refl refl c.requires.awaiting
 
 pub part_memory-requires-clause-awaiting : goal.part_memory-requires-clause-awaiting
 part_memory-requires-clause-awaiting g c =
-    awaits-same c.args.self.now _ refl refl refl refl c.reserve.ensures.same.prepared refl refl c.requires.awaiting
+    awaits-same c.args.self.now _ refl refl refl c.reserve.ensures.same.prepared refl refl c.requires.awaiting
 
 pub mem_free-requires-clause-allowed : goal.mem_free-requires-clause-allowed
 mem_free-requires-clause-allowed g c =
@@ -101,7 +101,7 @@ mem_free-requires-clause-allowed g c =
     let o = c.in-Some-get.map.now in
     let d = g.D.HubDoor.seen c.args.door.now in
     let there = image-some memory_of h.memories.map c.args.mem x (sym c.in-Some.ensures) in
-    let idle = state-idle o.need o.map.stage (sym c.state.ensures ∙ c.in-Idle.is) in
+    let idle = state-idle o.map.stage (sym c.state.ensures ∙ c.in-Idle.is) in
     let asks = free-asks l c.args.mem (memory_of x) (map_of o) there
     (image-some map_of h.maps.map c.args.mem o (sym c.in-Some-get.ensures)) idle in
     let id : c.map_id.result ≡ named l c.args.mem =
@@ -130,7 +130,7 @@ returns-clause-done g c =
     let o = c.in-Some-get.map.now in
     let d = g.D.HubDoor.seen c.args.door.now in
     let there = image-some memory_of h.memories.map c.args.mem x (sym c.in-Some.ensures) in
-    let idle = state-idle o.need o.map.stage (sym c.state.ensures ∙ c.in-Idle.is) in
+    let idle = state-idle o.map.stage (sym c.state.ensures ∙ c.in-Idle.is) in
     let asks = free-asks l c.args.mem (memory_of x) (map_of o) there
     (image-some map_of h.maps.map c.args.mem o (sym c.in-Some-get.ensures)) idle in
     let e = g.D.HubDoor.seen c.mem_free.new.self in
@@ -168,7 +168,7 @@ returns-clause-held g c =
     (free-asks l c.args.mem (memory_of x) (map_of o)
     (image-some memory_of h.memories.map c.args.mem x (sym c.in-Some.ensures))
     (image-some map_of h.maps.map c.args.mem o (sym c.in-Some-get.ensures))
-    (state-idle o.need o.map.stage (sym c.state.ensures ∙ c.in-Idle.is)))
+    (state-idle o.map.stage (sym c.state.ensures ∙ c.in-Idle.is)))
 
 pub returns-clause-bytes : goal.returns-clause-bytes
 returns-clause-bytes g c =

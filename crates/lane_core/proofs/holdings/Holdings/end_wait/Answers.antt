@@ -1,7 +1,7 @@
 use Rattle.std.proofs.Common.{◌≡◌, ℕ, length, Some, sym, ◌∙◌}
 use Rattle.std.specs.FinMap.{get}
 use Rattle.busdma_base.specs.Machine.PageList.{page_addresses}
-use Rattle.dma_map.specs.declared.callback.Transfers.{Transfers}
+use Rattle.lane_core.specs.declared.kept.KeptLoad.{KeptLoad}
 use Rattle.dma_map.specs.declared.room.LoadRoom.{LoadRoom}
 use Rattle.lane_core.specs.Awaiting.{kept_load}
 use Rattle.lane_core.proofs.Called.{waits-kept}
@@ -20,82 +20,79 @@ returns-in_default-clause-bytes c =
 
 pub complete_load-requires-clause-stands : goal.complete_load-requires-clause-stands
 complete_load-requires-clause-stands c =
-    let load : ℕ × Transfers × LoadRoom = c.in-Some.load in
+    let load : ℕ × KeptLoad × LoadRoom = c.in-Some.load in
     let found : kept_load (get c.args.self.now.maps.map c.args.map) ≡ Some load = sym c.in-Some.ensures.load in
     ends-stands c.args.self.now c.take_load.new.self c.args.map load.0 load.1 load.2 found c.take_load.ensures.maps
     c.take_load.ensures.rest c.requires.stands
 
 pub complete_load-requires-clause-idle : goal.complete_load-requires-clause-idle
 complete_load-requires-clause-idle c =
-    let load : ℕ × Transfers × LoadRoom = c.in-Some.load in
+    let load : ℕ × KeptLoad × LoadRoom = c.in-Some.load in
     let found : kept_load (get c.args.self.now.maps.map c.args.map) ≡ Some load = sym c.in-Some.ensures.load in
     ends-idle c.args.self.now c.take_load.new.self c.args.map load.0 load.1 load.2 found c.take_load.ensures.maps
     c.take_load.ensures.rest
 
 pub complete_load-requires-clause-reached : goal.complete_load-requires-clause-reached
 complete_load-requires-clause-reached c =
-    let load : ℕ × Transfers × LoadRoom = c.in-Some.load in
+    let load : ℕ × KeptLoad × LoadRoom = c.in-Some.load in
     let found : kept_load (get c.args.self.now.maps.map c.args.map) ≡ Some load = sym c.in-Some.ensures.load in
     ends-reached c.args.self.now c.take_load.new.self c.args.map load.0 load.1 load.2 found c.take_load.ensures.maps
-    c.take_load.ensures.rest c.requires.awaiting c.bytes_at-bytes.result c.bytes_at-bytes.ensures
+    c.take_load.ensures.rest c.requires.awaiting
 
 pub complete_load-requires-clause-first : goal.complete_load-requires-clause-first
 complete_load-requires-clause-first c =
-    let load : ℕ × Transfers × LoadRoom = c.in-Some.load in
+    let load : ℕ × KeptLoad × LoadRoom = c.in-Some.load in
     let found : kept_load (get c.args.self.now.maps.map c.args.map) ≡ Some load = sym c.in-Some.ensures.load in
     ends-first c.args.self.now c.take_load.new.self c.args.map load.0 load.1 load.2 found c.take_load.ensures.maps
-    c.take_load.ensures.rest c.requires.awaiting c.bytes_at-bytes.result c.bytes_at-bytes.ensures
+    c.take_load.ensures.rest c.requires.awaiting
 
 pub complete_load-requires-clause-loadable : goal.complete_load-requires-clause-loadable
 complete_load-requires-clause-loadable c =
-    let load : ℕ × Transfers × LoadRoom = c.in-Some.load in
+    let load : ℕ × KeptLoad × LoadRoom = c.in-Some.load in
     let found : kept_load (get c.args.self.now.maps.map c.args.map) ≡ Some load = sym c.in-Some.ensures.load in
     ends-loadable c.args.self.now c.take_load.new.self c.args.map load.0 load.1 load.2 found c.take_load.ensures.maps
-    c.take_load.ensures.rest c.requires.awaiting c.bytes_at-bytes.result c.bytes_at-bytes.ensures
-    c.requires.machine c.requires.small
+    c.take_load.ensures.rest c.requires.awaiting
 
 pub complete_load-requires-clause-room : goal.complete_load-requires-clause-room
 complete_load-requires-clause-room c =
-    let load : ℕ × Transfers × LoadRoom = c.in-Some.load in
+    let load : ℕ × KeptLoad × LoadRoom = c.in-Some.load in
     let found : kept_load (get c.args.self.now.maps.map c.args.map) ≡ Some load = sym c.in-Some.ensures.load in
     ends-room c.args.self.now c.take_load.new.self c.args.map load.0 load.1 load.2 found c.take_load.ensures.maps
-    c.take_load.ensures.rest c.requires.awaiting c.bytes_at-bytes.result c.bytes_at-bytes.ensures
-    (length c.args.pages.items)
-    c.requires.need
+    c.take_load.ensures.rest c.requires.awaiting (length c.args.pages.items) c.requires.need
 
 pub complete_load-requires-clause-prepared : goal.complete_load-requires-clause-prepared
 complete_load-requires-clause-prepared c =
-    let load : ℕ × Transfers × LoadRoom = c.in-Some.load in
+    let load : ℕ × KeptLoad × LoadRoom = c.in-Some.load in
     let found : kept_load (get c.args.self.now.maps.map c.args.map) ≡ Some load = sym c.in-Some.ensures.load in
     ends-prepared c.args.self.now c.take_load.new.self c.args.map load.0 load.1 load.2 found c.take_load.ensures.maps
-    c.take_load.ensures.rest c.requires.awaiting c.bytes_at-bytes.result c.bytes_at-bytes.ensures
+    c.take_load.ensures.rest c.requires.awaiting
 
 pub complete_load-requires-clause-few_items : goal.complete_load-requires-clause-few_items
 complete_load-requires-clause-few_items c =
-    let load : ℕ × Transfers × LoadRoom = c.in-Some.load in
+    let load : ℕ × KeptLoad × LoadRoom = c.in-Some.load in
     let found : kept_load (get c.args.self.now.maps.map c.args.map) ≡ Some load = sym c.in-Some.ensures.load in
     ends-items c.args.self.now c.take_load.new.self c.args.map load.0 load.1 load.2 found c.take_load.ensures.maps
     c.take_load.ensures.rest c.requires.awaiting c.requires.room
 
 pub complete_load-requires-clause-promised : goal.complete_load-requires-clause-promised
 complete_load-requires-clause-promised c =
-    let load : ℕ × Transfers × LoadRoom = c.in-Some.load in
+    let load : ℕ × KeptLoad × LoadRoom = c.in-Some.load in
     let found : kept_load (get c.args.self.now.maps.map c.args.map) ≡ Some load = sym c.in-Some.ensures.load in
     ends-promised c.args.self.now c.take_load.new.self c.args.map load.0 load.1 load.2 found c.take_load.ensures.maps
     c.take_load.ensures.rest (length c.args.pages.items) c.requires.need
 
 pub returns-clause-done : goal.returns-clause-done
 returns-clause-done c =
-    let load : ℕ × Transfers × LoadRoom = c.in-Some.load in
+    let load : ℕ × KeptLoad × LoadRoom = c.in-Some.load in
     let found : kept_load (get c.args.self.now.maps.map c.args.map) ≡ Some load = sym c.in-Some.ensures.load in
     ends-done c.args.self.now c.take_load.new.self c.args.map load.0 load.1 load.2 found c.take_load.ensures.maps
-    c.take_load.ensures.rest c.requires.awaiting c.bytes_at-bytes.result c.bytes_at-bytes.ensures
+    c.take_load.ensures.rest c.requires.awaiting
     c.complete_load.new.self c.complete_load.result
     (page_addresses c.args.pages.items) c.complete_load.ensures.done
 
 pub returns-clause-bytes : goal.returns-clause-bytes
 returns-clause-bytes c =
-    let load : ℕ × Transfers × LoadRoom = c.in-Some.load in
+    let load : ℕ × KeptLoad × LoadRoom = c.in-Some.load in
     let found : kept_load (get c.args.self.now.maps.map c.args.map) ≡ Some load = sym c.in-Some.ensures.load in
     ends-bytes c.args.self.now c.take_load.new.self c.args.map load.0 load.1 load.2 found c.take_load.ensures.maps
     c.take_load.ensures.rest c.complete_load.new.self c.complete_load.ensures.bytes
@@ -106,7 +103,7 @@ returns-in_default-clause-awaiting c =
 
 pub complete_load-requires-clause-awaiting : goal.complete_load-requires-clause-awaiting
 complete_load-requires-clause-awaiting c =
-    let load : ℕ × Transfers × LoadRoom = c.in-Some.load in
+    let load : ℕ × KeptLoad × LoadRoom = c.in-Some.load in
     let found : kept_load (get c.args.self.now.maps.map c.args.map) ≡ Some load = sym c.in-Some.ensures.load in
     ends-others c.args.self.now c.take_load.new.self c.args.map load.0 load.1 load.2 found c.take_load.ensures.maps
     c.take_load.ensures.rest c.requires.awaiting
@@ -117,9 +114,9 @@ returns-in_default-clause-small c =
 
 pub returns-clause-small : goal.returns-clause-small
 returns-clause-small c =
-    let load : ℕ × Transfers × LoadRoom = c.in-Some.load in
+    let load : ℕ × KeptLoad × LoadRoom = c.in-Some.load in
     let found : kept_load (get c.args.self.now.maps.map c.args.map) ≡ Some load = sym c.in-Some.ensures.load in
     ends-few c.args.self.now c.take_load.new.self c.args.map load.0 load.1 load.2 found c.take_load.ensures.maps
-    c.take_load.ensures.rest c.requires.awaiting c.bytes_at-bytes.result c.bytes_at-bytes.ensures
+    c.take_load.ensures.rest c.requires.awaiting
     c.complete_load.new.self c.complete_load.result (page_addresses c.args.pages.items) c.complete_load.ensures.done
     c.requires.small c.complete_load.ensures.agenda.place c.complete_load.ensures.promised

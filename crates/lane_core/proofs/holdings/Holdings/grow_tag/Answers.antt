@@ -13,12 +13,12 @@ returns-clause-awaiting g c stands are =
     let same = ap (λ t. t.map) c.in_ok-reserve.ensures.kept in
     c.keep_grown.ensures.awaiting
     (subst (λ ts. StandsFrom l.place l.maxmem (map_values tag_of ts) l.maps l.mems) (sym same) stands)
-    (awaits-same h _ refl refl refl refl refl same refl are)
+    (awaits-same h _ refl refl refl refl same refl are)
 
 pub returns-in_err-reserve-clause-awaiting : goal.returns-in_err-reserve-clause-awaiting
 returns-in_err-reserve-clause-awaiting g c stands =
-    awaits-same c.args.self.now _ refl refl refl refl refl (ap (λ t. t.map) c.reserve.ensures.kept) refl
+    awaits-same c.args.self.now _ refl refl refl refl (ap (λ t. t.map) c.reserve.ensures.kept) refl
 
 pub returns-in_err-grown-clause-awaiting : goal.returns-in_err-grown-clause-awaiting
 returns-in_err-grown-clause-awaiting g c stands =
-    awaits-same c.args.self.now _ refl refl refl refl refl (ap (λ t. t.map) c.reserve.ensures.kept) refl
+    awaits-same c.args.self.now _ refl refl refl refl (ap (λ t. t.map) c.reserve.ensures.kept) refl

@@ -17,7 +17,7 @@ returns-in_default-state c =
     let o = c.in-Some.kept.now in
     c.names.ensures
     ∙ sym (ap (λ b. b || queue_names c.args.map h.agenda.queue)
-    (state-goes o.need o.map.stage (λ e. c.in_default-state.not-Waiting (c.state.ensures ∙ e))))
+    (state-goes o.map.stage (λ e. c.in_default-state.not-Waiting (c.state.ensures ∙ e))))
     ∙ sym (awaits-some (ideal_of h) c.args.map (map_of o)
     (image-some map_of h.maps.map c.args.map o (sym c.in-Some.ensures)))
 
@@ -26,6 +26,6 @@ returns c =
     let h = c.args.self.now in
     let o = c.in-Some.kept.now in
     sym (ap (λ b. b || queue_names c.args.map h.agenda.queue)
-    (state-waits o.need o.map.stage (sym c.state.ensures ∙ c.in-Waiting.is)))
+    (state-waits o.map.stage (sym c.state.ensures ∙ c.in-Waiting.is)))
     ∙ sym (awaits-some (ideal_of h) c.args.map (map_of o)
     (image-some map_of h.maps.map c.args.map o (sym c.in-Some.ensures)))

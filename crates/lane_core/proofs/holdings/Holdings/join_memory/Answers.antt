@@ -137,7 +137,7 @@ returns-clause-bytes c =
 pub returns-clause-awaiting : goal.returns-clause-awaiting
 returns-clause-awaiting c =
     let h = c.args.self.now in
-    awaiting-beside h _ c.requires.stands c.requires.wired refl refl refl refl refl c.add_reserved.ensures.prepared
+    awaiting-beside h _ c.requires.stands c.requires.wired refl refl refl refl c.add_reserved.ensures.prepared
     (λ q some none. ap (λ (t : Places KeptMemory). get t.map q) c.put-2.ensures
     ∙ put-away h.memories.map c.place-place.result c.args.kept q (λ e. off (get h.maps.map q) some
     (ap (get h.maps.map) (e ∙ c.place-place.ensures) ∙ c.requires.no_map)) none)

@@ -13,8 +13,8 @@ returns-clause-awaiting c stands are =
     let same = ap (λ t. t.map) c.in_ok-reserve.ensures.kept in
     c.put_tag.ensures.awaiting
     (subst (λ ts. StandsFrom l.place l.maxmem (map_values tag_of ts) l.maps l.mems) (sym same) stands)
-    (awaits-same h _ refl refl refl refl refl same refl are)
+    (awaits-same h _ refl refl refl refl same refl are)
 
 pub returns-in_err-reserve-clause-awaiting : goal.returns-in_err-reserve-clause-awaiting
 returns-in_err-reserve-clause-awaiting c stands =
-    awaits-same c.args.self.now _ refl refl refl refl refl (ap (λ t. t.map) c.in_err-reserve.ensures.kept) refl
+    awaits-same c.args.self.now _ refl refl refl refl (ap (λ t. t.map) c.in_err-reserve.ensures.kept) refl

@@ -43,7 +43,7 @@ returns-in_default-state-clause-done g c =
     done-gives (g.D.HubDoor.seen c.args.door.now) h.id.0 _ (given h c.report-in_default-state.result)
     (load-busy l c.args.map (bio_of c.args.bytes) c.args.nowait c.args.items.now (map_of o)
     (image-some map_of h.maps.map c.args.map o (sym c.in-Some.ensures))
-    (state-busy o.need o.map.stage (λ e. c.in_default-state.not-Idle (c.state.ensures ∙ e)))
+    (state-busy o.map.stage (λ e. c.in_default-state.not-Idle (c.state.ensures ∙ e)))
     ∙ ap (gives l) (sym c.report-in_default-state.ensures))
 
 pub returns-in-Refused-clause-done : goal.returns-in-Refused-clause-done
@@ -54,7 +54,7 @@ returns-in-Refused-clause-done g c =
     done-gives (g.D.HubDoor.seen c.args.door.now) h.id.0 _ _
     (load-refused l c.args.map (bio_of c.args.bytes) c.args.nowait c.args.items.now (map_of o)
     (image-some map_of h.maps.map c.args.map o (sym c.in-Some.ensures))
-    (state-idle o.need o.map.stage (sym c.state.ensures ∙ c.in-Idle.is)) c.in-Refused.refusal
+    (state-idle o.map.stage (sym c.state.ensures ∙ c.in-Idle.is)) c.in-Refused.refusal
     (sym c.judge_load.ensures ∙ c.in-Refused.is))
 
 pub measure_load-requires-clause-reached : goal.measure_load-requires-clause-reached
@@ -119,7 +119,7 @@ returns-in_default-measure_load-clause-done g c =
     let there = image-some map_of h.maps.map c.args.map o (sym c.in-Some.ensures) in
     done-gives (g.D.HubDoor.seen c.args.door.now) h.id.0 _ _
     (load-long l c.args.map (bio_of c.args.bytes) c.args.nowait c.args.items.now (map_of o) there
-    (state-idle o.need o.map.stage (sym c.state.ensures ∙ c.in-Idle.is))
+    (state-idle o.map.stage (sym c.state.ensures ∙ c.in-Idle.is))
     (sym c.judge_load.ensures ∙ c.in_default-judge_load.is)
     (c.in_default-measure_load.ensures.long (map_of o) there)
     ∙ ap (λ k. gives k (Refused EINVAL)) (sym (c.note_tried.ensures.done (map_of o) there)))
@@ -133,7 +133,7 @@ returns-then-wanted-eq0-clause-done g c =
     let wanted = c.in-Some-measure_load.ensures.wanted (map_of o) there in
     done-gives (g.D.HubDoor.seen c.args.door.now) h.id.0 _ (given c.load_direct.new.self c.in_ok-answer.answer)
     (load-direct l c.args.map (bio_of c.args.bytes) c.args.nowait c.args.items.now (map_of o) there
-    (state-idle o.need o.map.stage (sym c.state.ensures ∙ c.in-Idle.is))
+    (state-idle o.map.stage (sym c.state.ensures ∙ c.in-Idle.is))
     (sym c.judge_load.ensures ∙ c.in_default-judge_load.is) wanted.short (sym wanted.need ∙ c.if-wanted-eq0.true)
     ∙ ap Gives (sym (c.in_ok-answer.ensures.done (map_of o)
     (x l c.args.map (bio_of c.args.bytes) c.args.nowait c.args.items.now) there refl refl)))
@@ -163,7 +163,7 @@ load_bounced-requires-clause-allowed g c other found =
     let same : map_of o ≡ other = cc in
     let on : is_idle other.stage ≡ true =
     ap (λ (y : LaneMap). is_idle y.stage) (sym same)
-    ∙ state-idle o.need o.map.stage (sym c.state.ensures ∙ c.in-Idle.is) in
+    ∙ state-idle o.map.stage (sym c.state.ensures ∙ c.in-Idle.is) in
     let wanted = c.in-Some-measure_load.ensures.wanted other found in
     let some : 0 < need = omega (arith, c.if-wanted-eq0.false) in
     allowed-asks d h.id.0 _ (Grab (named l m) (record { 0 = zone_of other }) need c.args.nowait) _
@@ -192,11 +192,11 @@ returns-clause-done g c =
     let end = given c.load_bounced.new.self c.in_ok-answer-2.answer in
     done-asks d h.id.0 _ call k end e
     (load-bounced l m (bio_of c.args.bytes) c.args.nowait c.args.items.now (map_of o) there
-    (state-idle o.need o.map.stage (sym c.state.ensures ∙ c.in-Idle.is))
+    (state-idle o.map.stage (sym c.state.ensures ∙ c.in-Idle.is))
     (sym c.judge_load.ensures ∙ c.in_default-judge_load.is) wanted.short
     (plain-wanted l m (map_of o) (bio_of c.args.bytes) need (c.requires.stands.each m (map_of o) there) wanted.need
     some) need wanted.need some)
-    (c.in_ok-answer-2.ensures.done (map_of o) ask there refl refl)
+    (c.in_ok-answer-2.ensures.done (map_of o) ask there refl refl refl)
 
 pub returns-clause-promised : goal.returns-clause-promised
 returns-clause-promised g c =
@@ -216,7 +216,7 @@ returns-in_default-measure_load-clause-awaiting g c =
     let o = c.in-Some.kept.now in
     let there = image-some map_of h.maps.map c.args.map o (sym c.in-Some.ensures) in
     let idle : is_idle_map (get h.maps.map c.args.map) ≡ true =
-    ap is_idle_map (sym c.in-Some.ensures) ∙ state-idle o.need o.map.stage (sym c.state.ensures ∙ c.in-Idle.is) in
+    ap is_idle_map (sym c.in-Some.ensures) ∙ state-idle o.map.stage (sym c.state.ensures ∙ c.in-Idle.is) in
     awaiting-tried h c.note_tried.new.self c.args.map (map_of o) (c.note_tried.ensures.done (map_of o) there)
     c.note_tried.ensures.waiting idle c.requires.awaiting
 
@@ -232,7 +232,7 @@ returns-in_default-state-clause-held g c =
     let o = c.in-Some.kept.now in
     unasked _ _ (load-busy (ideal_of h) c.args.map (bio_of c.args.bytes) c.args.nowait c.args.items.now
     (map_of o) (image-some map_of h.maps.map c.args.map o (sym c.in-Some.ensures))
-    (state-busy o.need o.map.stage (λ e. c.in_default-state.not-Idle (c.state.ensures ∙ e))))
+    (state-busy o.map.stage (λ e. c.in_default-state.not-Idle (c.state.ensures ∙ e))))
 
 pub returns-in-Refused-clause-held : goal.returns-in-Refused-clause-held
 returns-in-Refused-clause-held g c =
@@ -240,7 +240,7 @@ returns-in-Refused-clause-held g c =
     let o = c.in-Some.kept.now in
     unasked _ _ (load-refused (ideal_of h) c.args.map (bio_of c.args.bytes) c.args.nowait
     c.args.items.now (map_of o) (image-some map_of h.maps.map c.args.map o (sym c.in-Some.ensures))
-    (state-idle o.need o.map.stage (sym c.state.ensures ∙ c.in-Idle.is)) c.in-Refused.refusal
+    (state-idle o.map.stage (sym c.state.ensures ∙ c.in-Idle.is)) c.in-Refused.refusal
     (sym c.judge_load.ensures ∙ c.in-Refused.is))
 
 pub returns-in_default-measure_load-clause-held : goal.returns-in_default-measure_load-clause-held
@@ -249,7 +249,7 @@ returns-in_default-measure_load-clause-held g c =
     let o = c.in-Some.kept.now in
     let there = image-some map_of h.maps.map c.args.map o (sym c.in-Some.ensures) in
     unasked _ _ (load-long (ideal_of h) c.args.map (bio_of c.args.bytes) c.args.nowait c.args.items.now
-    (map_of o) there (state-idle o.need o.map.stage (sym c.state.ensures ∙ c.in-Idle.is))
+    (map_of o) there (state-idle o.map.stage (sym c.state.ensures ∙ c.in-Idle.is))
     (sym c.judge_load.ensures ∙ c.in_default-judge_load.is)
     (c.in_default-measure_load.ensures.long (map_of o) there))
 
@@ -260,7 +260,7 @@ returns-then-wanted-eq0-clause-held g c =
     let there = image-some map_of h.maps.map c.args.map o (sym c.in-Some.ensures) in
     let wanted = c.in-Some-measure_load.ensures.wanted (map_of o) there in
     unasked _ _ (load-direct (ideal_of h) c.args.map (bio_of c.args.bytes) c.args.nowait c.args.items.now
-    (map_of o) there (state-idle o.need o.map.stage (sym c.state.ensures ∙ c.in-Idle.is))
+    (map_of o) there (state-idle o.map.stage (sym c.state.ensures ∙ c.in-Idle.is))
     (sym c.judge_load.ensures ∙ c.in_default-judge_load.is) wanted.short (sym wanted.need ∙ c.if-wanted-eq0.true))
 
 pub returns-clause-held : goal.returns-clause-held
@@ -272,7 +272,7 @@ returns-clause-held g c =
     let wanted = c.in-Some-measure_load.ensures.wanted (map_of o) there in
     let some : 0 < need = omega (arith, c.if-wanted-eq0.false) in
     asked _ _ _ (load-bounced (ideal_of h) c.args.map (bio_of c.args.bytes) c.args.nowait
-    c.args.items.now (map_of o) there (state-idle o.need o.map.stage (sym c.state.ensures ∙ c.in-Idle.is))
+    c.args.items.now (map_of o) there (state-idle o.map.stage (sym c.state.ensures ∙ c.in-Idle.is))
     (sym c.judge_load.ensures ∙ c.in_default-judge_load.is) wanted.short
     (plain-wanted (ideal_of h) c.args.map (map_of o) (bio_of c.args.bytes) need
     (c.requires.stands.each c.args.map (map_of o) there) wanted.need some) need wanted.need some)
@@ -294,28 +294,28 @@ pub returns-then-wanted-eq0-clause-bytes : goal.returns-then-wanted-eq0-clause-b
 returns-then-wanted-eq0-clause-bytes g c =
     let o = c.in-Some.kept.now in
     stays-idle c.args.self.now c.load_direct.new.self c.args.map
-    (ap is_idle_map (sym c.in-Some.ensures) ∙ state-idle o.need o.map.stage (sym c.state.ensures ∙ c.in-Idle.is))
+    (ap is_idle_map (sym c.in-Some.ensures) ∙ state-idle o.map.stage (sym c.state.ensures ∙ c.in-Idle.is))
     c.load_direct.ensures.bytes
 
 pub returns-in_err-answer-clause-bytes : goal.returns-in_err-answer-clause-bytes
 returns-in_err-answer-clause-bytes g c =
     let o = c.in-Some.kept.now in
     stays-idle c.args.self.now c.load_direct.new.self c.args.map
-    (ap is_idle_map (sym c.in-Some.ensures) ∙ state-idle o.need o.map.stage (sym c.state.ensures ∙ c.in-Idle.is))
+    (ap is_idle_map (sym c.in-Some.ensures) ∙ state-idle o.map.stage (sym c.state.ensures ∙ c.in-Idle.is))
     c.load_direct.ensures.bytes
 
 pub returns-clause-bytes : goal.returns-clause-bytes
 returns-clause-bytes g c =
     let o = c.in-Some.kept.now in
     stays-idle c.args.self.now c.load_bounced.new.self c.args.map
-    (ap is_idle_map (sym c.in-Some.ensures) ∙ state-idle o.need o.map.stage (sym c.state.ensures ∙ c.in-Idle.is))
+    (ap is_idle_map (sym c.in-Some.ensures) ∙ state-idle o.map.stage (sym c.state.ensures ∙ c.in-Idle.is))
     c.load_bounced.ensures.bytes
 
 pub returns-in_err-answer-2-clause-bytes : goal.returns-in_err-answer-2-clause-bytes
 returns-in_err-answer-2-clause-bytes g c =
     let o = c.in-Some.kept.now in
     stays-idle c.args.self.now c.load_bounced.new.self c.args.map
-    (ap is_idle_map (sym c.in-Some.ensures) ∙ state-idle o.need o.map.stage (sym c.state.ensures ∙ c.in-Idle.is))
+    (ap is_idle_map (sym c.in-Some.ensures) ∙ state-idle o.map.stage (sym c.state.ensures ∙ c.in-Idle.is))
     c.load_bounced.ensures.bytes
 
 pub returns-in_err-answer-2-clause-promised : goal.returns-in_err-answer-2-clause-promised

@@ -1,4 +1,4 @@
-use Rattle.std.proofs.Common.{◌≡◌, ℕ, ◌+◌, ◌-◌, ◌≤◌, cond, List, length, Some, is_some, refl, sym, ap, ◌∙◌, subst}
+use Rattle.std.proofs.Common.{◌≡◌, ◌+◌, ◌-◌, ◌≤◌, cond, List, length, Some, is_some, refl, sym, ap, ◌∙◌, subst}
 use Rattle.std.proofs.Common.{arith}
 use Rattle.std.proofs.lemmas.Bool.{eq-eqb}
 use Rattle.std.specs.FinMap.{get, remove}
@@ -14,14 +14,12 @@ use Rattle.ideal_lane.proofs.Lookups.{get_put}
 use Rattle.ideal_lane.specs.Loads.{granted, limits_of, load_entries, zone_of}
 use Rattle.ideal_lane.specs.Standing.{Stands}
 use Rattle.ideal_lane.specs.State.{LaneMap, LaneState, named}
-use Rattle.lane_core.specs.Awaiting.{IsLoadAt}
 use Rattle.lane_core.specs.Covered.{is_idle_map, pages_due}
 use Rattle.lane_core.specs.Ideal.{ideal_of}
 use Rattle.lane_core.specs.Kept.{map_of}
 use Rattle.lane_core.specs.Loading.{HasRoomForAny, IsLoadable, bio_bytes, bio_chunks, bio_of, bio_reached, load_loan}
 use Rattle.lane_core.proofs.AwaitingLoads.{awaiting-but, awaiting-ready, awaiting-same, idle-unprepared, prepared-more}
 use Rattle.lane_core.proofs.Keeping.{idle-there}
-use Rattle.lane_core.proofs.LoadsAt.{at-same}
 use Rattle.lane_core.proofs.LoadSteps.{taken-out}
 use Rattle.lane_core.proofs.MapValues.{image-some}
 use Rattle.lane_core.proofs.Preparing.{has-need, room-for-any}
@@ -126,7 +124,7 @@ take_grabbed-requires-clause-granted g c =
     (account held.between) held.reply
 
 pub returns-clause-done : goal.returns-clause-done
-returns-clause-done g c o x found entries items =
+returns-clause-done g c o x found bios entries items =
     let h = c.args.self.now in
     let l = ideal_of h in
     let k = c.args.map in
@@ -147,7 +145,7 @@ returns-clause-done g c o x found entries items =
           (subst (λ (z : ZoneId). Holds d c.map_id-id.result.lane.0 (Grab c.map_id-id.result z need c.args.nowait)
           reply e)
           zone c.in-Ok.ensures.held);
-      is = c.take_grabbed.ensures.done o x (ap (λ (y : LaneState). get y.maps k) same ∙ found)
+      is = c.take_grabbed.ensures.done o x (ap (λ (y : LaneState). get y.maps k) same ∙ found) bios
           (entries ∙ sym (ap (λ (y : LaneState). load_entries y b) same)) (items ∙ sym cloned)
           ∙ ap (λ (y : LaneState). granted k o x (bio_chunks y o b) y reply) same;
     }
@@ -189,20 +187,6 @@ take_grabbed-requires-clause-awaiting g c =
     let ready = c.in_ok-ready_load.ensures in
     awaiting-ready h mid ready.same.ideal (ap (λ t. t.map) ready.maps) k
     (prepared-more h.loans.prepared mid.loans.prepared k loan ready.prepared) (awaiting-but h k c.requires.awaiting)
-
-pub take_grabbed-requires-clause-next : goal.take_grabbed-requires-clause-next
-take_grabbed-requires-clause-next g c =
-    let ready = c.in_ok-ready_load.ensures in
-    let next = c.requires.next in
-    let items : c.in_ok-items.items ≡ c.args.items.now = each_same _ _ c.in_ok-items.ensures.cases in
-    let script : c.ready_load.new.self.script.now ≡ c.args.self.now.script.now =
-    ap (λ (y : LaneState). y.script) ready.same.ideal in
-    let place : c.ready_load.new.self.agenda.place ≡ c.args.self.now.agenda.place = ap (λ a. a.place) ready.promised in
-    let at =
-    at-same c.args.self.now c.ready_load.new.self c.args.self.now.agenda.place c.args.map (bio_of c.args.bytes)
-    c.args.items.now script (ap (λ (y : LaneState). y.mems) ready.same.ideal) next in
-    subst (λ (p : ℕ × List Item). IsLoadAt c.ready_load.new.self p.0 c.args.map (bio_of c.args.bytes) p.1)
-    (λ i. (sym place i, sym items i)) at
 
 pub returns-in-Err-clause-unpromised : goal.returns-in-Err-clause-unpromised
 returns-in-Err-clause-unpromised g c =

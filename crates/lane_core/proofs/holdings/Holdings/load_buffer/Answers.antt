@@ -30,19 +30,11 @@ returns-in_default-clause-held g c =
 pub returns-in_default-clause-bytes : goal.returns-in_default-clause-bytes
 returns-in_default-clause-bytes g c = stays-same c.args.self.now
 
-pub load-requires-clause-next : goal.load-requires-clause-next
-load-requires-clause-next g c = record {
-  buffer = c.args.buffer.now;
-  flags = c.args.flags;
-  load = c.requires.here;
-  bytes = c.in-Some.ensures.some;
-}
-
 pub load-requires-clause-loadable : goal.load-requires-clause-loadable
 load-requires-clause-loadable g c =
     let h = c.args.self.now in
-    loadable-at h h.agenda.place _ (bio_of c.in-Some.bytes) _ c.requires.wired.machine c.requires.provided.small
-    (load-requires-clause-next g c)
+    loadable-at h h.agenda.place c.args.map c.args.buffer.now c.args.flags c.args.items.now (bio_of c.in-Some.bytes)
+    c.requires.here c.in-Some.ensures.some c.requires.wired.machine c.requires.provided.small
 
 pub load-requires-clause-few_pages : goal.load-requires-clause-few_pages
 load-requires-clause-few_pages g c =

@@ -37,7 +37,7 @@ returns-in-Some-clause-awaiting c =
     let t = c.in-Some.kept in
     let v : KeptTag = record { tag = t.tag; first_done = true } in
     let there : get h.tags.map k ≡ Some t = sym c.take.ensures.value ∙ c.in-Some.is in
-    awaits-tags h _ refl refl refl refl refl (insert l.tags k (tag_of v))
+    awaits-tags h _ refl refl refl refl (insert l.tags k (tag_of v))
     (ap (λ ts. map_values tag_of ts.map) c.put.ensures
     ∙ ap (λ ts. map_values tag_of (insert ts.map k v)) c.in-Some.ensures.taken
     ∙ ap (map_values tag_of) (reput h.tags.map k v) ∙ map_values-insert tag_of h.tags.map k v)
@@ -45,4 +45,4 @@ returns-in-Some-clause-awaiting c =
 
 pub returns-in_default-clause-awaiting : goal.returns-in_default-clause-awaiting
 returns-in_default-clause-awaiting c =
-    awaits-same c.args.self.now _ refl refl refl refl refl (ap (λ t. t.map) c.in_default.ensures.none) refl
+    awaits-same c.args.self.now _ refl refl refl refl (ap (λ t. t.map) c.in_default.ensures.none) refl

@@ -19,7 +19,7 @@ pub note_tried-requires : goal.note_tried-requires
 note_tried-requires c =
     let o : KeptMap = c.in-Some.kept.now in
     let there : get c.args.self.now.maps.map c.args.map ≡ Some o = sym c.in-Some.ensures.value in
-    idle-state o.need o.map.stage (sym (ap is_idle_map there) ∙ c.requires)
+    idle-state o.map.stage (sym (ap is_idle_map there) ∙ c.requires)
 
 pub invariant_of-self : goal.invariant_of-self
 invariant_of-self c =

@@ -112,6 +112,6 @@ returns-clause-awaiting c =
     let h = c.args.self.now in
     let taken =
     on-some c.take-2.result c.args.kept (c.take-2.ensures.value ∙ c.requires.there) c.take-2.ensures.taken in
-    awaiting-beside h _ c.requires.stands c.requires.wired refl refl refl refl refl c.drop_bytes.ensures.prepared
+    awaiting-beside h _ c.requires.stands c.requires.wired refl refl refl refl c.drop_bytes.ensures.prepared
     (λ q some none. ap (λ (t : Places KeptMemory). get t.map q) taken ∙ cut-away h.memories.map c.args.mem q none)
     c.requires.awaiting

@@ -9,7 +9,7 @@ none-map None f p = f p
 none-map (Some x) f p = tt
 
 pub returns-clause-awaiting : goal.returns-clause-awaiting
-returns-clause-awaiting c = awaits-same c.args.self.now _ refl refl refl refl refl refl refl
+returns-clause-awaiting c = awaits-same c.args.self.now _ refl refl refl refl refl refl
 
 pub returns-clause-same : goal.returns-clause-same
 returns-clause-same c =

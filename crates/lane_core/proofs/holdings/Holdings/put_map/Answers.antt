@@ -22,8 +22,8 @@ pub invariant_of-self : goal.invariant_of-self
 invariant_of-self c =
     let h = c.args.self.now in
     let k = c.place-place.result in
-    let o : KeptMap = record { tag = c.args.tag; need = 0; map = c.new-map.result } in
-    let idle = idle-map o (ap (λ m. is_idle (stage_of 0 m.stage)) c.new-map.ensures) in
+    let o : KeptMap = record { tag = c.args.tag; map = c.new-map.result } in
+    let idle = idle-map o (ap (λ m. is_idle (stage_of m.stage)) c.new-map.ensures) in
     let none : get h.maps.map k ≡ None = ap (get h.maps.map) c.place-place.ensures ∙ c.requires.vacant in
     let are =
     subst (λ t. AreMaps t.map h.loans.loans h.agenda.returns h.agenda.promised) (sym c.put.ensures)
@@ -51,13 +51,13 @@ returns-clause-done c =
     let h = c.args.self.now in
     let l = ideal_of h in
     let k = c.place-place.result in
-    let o : KeptMap = record { tag = c.args.tag; need = 0; map = c.new-map.result } in
-    let idle = idle-map o (ap (λ m. is_idle (stage_of 0 m.stage)) c.new-map.ensures) in
+    let o : KeptMap = record { tag = c.args.tag; map = c.new-map.result } in
+    let idle = idle-map o (ap (λ m. is_idle (stage_of m.stage)) c.new-map.ensures) in
     let none : get h.maps.map k ≡ None = ap (get h.maps.map) c.place-place.ensures ∙ c.requires.vacant in
     let same : device_of (Some o) ≡ device_of (get h.maps.map k) = idle.unheld ∙ sym (ap device_of none) in
     (λ i. record l {
       maps = (ap (λ t. map_values map_of t.map) c.put.ensures ∙ map_values-insert map_of h.maps.map k o
-          ∙ ap (λ m. insert l.maps k (map_of (record { tag = c.args.tag; need = 0; map = m }))) c.new-map.ensures
+          ∙ ap (λ m. insert l.maps k (map_of (record { tag = c.args.tag; map = m }))) c.new-map.ensures
           ∙ ap (λ p. insert l.maps p (record {
             tag = c.args.tag;
             zone = option_map (λ (z : ZoneId). z.0) c.args.zone;
@@ -73,8 +73,8 @@ pub returns-clause-bytes : goal.returns-clause-bytes
 returns-clause-bytes c =
     let h = c.args.self.now in
     let k = c.place-place.result in
-    let o : KeptMap = record { tag = c.args.tag; need = 0; map = c.new-map.result } in
-    let idle = idle-map o (ap (λ m. is_idle (stage_of 0 m.stage)) c.new-map.ensures) in
+    let o : KeptMap = record { tag = c.args.tag; map = c.new-map.result } in
+    let idle = idle-map o (ap (λ m. is_idle (stage_of m.stage)) c.new-map.ensures) in
     let none : get h.maps.map k ≡ None = ap (get h.maps.map) c.place-place.ensures ∙ c.requires.vacant in
     let same : device_of (Some o) ≡ device_of (get h.maps.map k) = idle.unheld ∙ sym (ap device_of none) in
     record {
@@ -87,7 +87,7 @@ pub returns-clause-awaiting : goal.returns-clause-awaiting
 returns-clause-awaiting c =
     let h = c.args.self.now in
     let k = c.place-place.result in
-    let o : KeptMap = record { tag = c.args.tag; need = 0; map = c.new-map.result } in
+    let o : KeptMap = record { tag = c.args.tag; map = c.new-map.result } in
     let none : get h.maps.map k ≡ None = ap (get h.maps.map) c.place-place.ensures ∙ c.requires.vacant in
-    awaits-put h _ refl refl refl refl refl refl k (ap kept_load none) o (ap (λ t. t.map) c.put.ensures)
+    awaits-put h _ refl refl refl refl refl k (ap kept_load none) o (ap (λ t. t.map) c.put.ensures)
     (ap (λ m. waiting_load m.stage) c.new-map.ensures)

@@ -27,7 +27,7 @@ returns-clause-awaiting c stands =
     let l = ideal_of h in
     let t : KeptTag = record { tag = c.args.tag; first_done = c.args.first_done } in
     let tags = insert l.tags l.place (tag_of t) in
-    awaits-tags h _ refl refl refl refl refl tags
+    awaits-tags h _ refl refl refl refl tags
     (ap (λ ts. map_values tag_of ts.map) c.put.ensures
     ∙ map_values-insert tag_of h.tags.map c.place-place.result t
     ∙ ap (λ p. insert l.tags p (tag_of t)) c.place-place.ensures)

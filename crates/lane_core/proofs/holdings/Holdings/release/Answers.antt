@@ -206,11 +206,11 @@ returns-clause-awaiting g c =
     let maps =
     noted h.maps c.note_returned.new.maps k found.0 r.last found.1 c.note_returned.ensures.last
     c.note_returned.ensures.more in
-    awaits-put-if h _ refl refl refl refl refl refl k (returning-unkept (get h.maps.map k) back.0) r.last
+    awaits-put-if h _ refl refl refl refl refl k (returning-unkept (get h.maps.map k) back.0) r.last
     (idled found.0) (ap (λ t. t.map) maps) refl
 
 pub returns-in_err-map-clause-awaiting : goal.returns-in_err-map-clause-awaiting
-returns-in_err-map-clause-awaiting g c = awaits-same c.args.self.now _ refl refl refl refl refl refl refl
+returns-in_err-map-clause-awaiting g c = awaits-same c.args.self.now _ refl refl refl refl refl refl
 
 pub returns-in_err-map-clause-same : goal.returns-in_err-map-clause-same
 returns-in_err-map-clause-same g c =

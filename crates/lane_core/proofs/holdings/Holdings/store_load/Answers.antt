@@ -27,7 +27,7 @@ pub finish-requires : goal.finish-requires
 finish-requires c =
     let o : KeptMap = c.in-Some.kept.now in
     let there : get c.args.self.now.maps.map c.args.map ≡ Some o = sym c.in-Some.ensures.value in
-    idle-state o.need o.map.stage (sym (ap is_idle_map there) ∙ c.requires.idle)
+    idle-state o.map.stage (sym (ap is_idle_map there) ∙ c.requires.idle)
 
 pub open_map-requires : goal.open_map-requires
 open_map-requires c =

@@ -164,21 +164,21 @@ returns-clause-awaiting c =
     let synced : IsSynced c.reserve_extents.new.loans c.sync_loans.new.loans c.map_id-id.result.made_at c.args.off
     c.args.len ops =
     rw c.in_default.is at c.sync_loans.ensures.done in
-    awaits-put h _ refl refl refl refl (synced.prepared ∙ c.reserve_extents.ensures.same.prepared) refl k
+    awaits-put h _ refl refl refl (synced.prepared ∙ c.reserve_extents.ensures.same.prepared) refl k
     (loaded-unkept (get h.maps.map k) c.requires.loaded) (record o { map = c.copy_part.new.map }) refl
     (ap (λ m. waiting_load m.stage) c.copy_part.ensures.map.is)
 
 pub returns-in_err-reserve_extents-clause-awaiting : goal.returns-in_err-reserve_extents-clause-awaiting
 returns-in_err-reserve_extents-clause-awaiting c =
-    awaits-same c.args.self.now _ refl refl refl refl c.reserve_extents.ensures.same.prepared refl refl
+    awaits-same c.args.self.now _ refl refl refl c.reserve_extents.ensures.same.prepared refl refl
 
 pub returns-in_err-reserve-clause-awaiting : goal.returns-in_err-reserve-clause-awaiting
 returns-in_err-reserve-clause-awaiting c =
-    awaits-same c.args.self.now _ refl refl refl refl c.reserve_extents.ensures.same.prepared refl refl
+    awaits-same c.args.self.now _ refl refl refl c.reserve_extents.ensures.same.prepared refl refl
 
 pub returns-in-Refused-clause-awaiting : goal.returns-in-Refused-clause-awaiting
 returns-in-Refused-clause-awaiting c =
     let refused : IsSame c.reserve_extents.new.loans c.sync_loans.new.loans =
     rw c.in-Refused.is at c.sync_loans.ensures.refused in
-    awaits-same c.args.self.now _ refl refl refl refl (refused.prepared ∙ c.reserve_extents.ensures.same.prepared) refl
+    awaits-same c.args.self.now _ refl refl refl (refused.prepared ∙ c.reserve_extents.ensures.same.prepared) refl
     refl

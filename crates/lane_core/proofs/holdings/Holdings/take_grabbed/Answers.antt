@@ -12,13 +12,14 @@ use Rattle.lane_agreement.specs.After.{addresses}
 use Rattle.segment_build.specs.Chunks.{need_of}
 use Rattle.ideal_lane.specs.Loads.{finished, granted, limits_of, staged}
 use Rattle.ideal_lane.specs.State.{LaneState, Idle, Waiting}
-use Rattle.lane_core.specs.Awaiting.{AreAwaiting, IsLoadAt, kept_load}
+use Rattle.lane_core.specs.declared.kept.KeptLoad.{KeptLoad}
+use Rattle.lane_core.specs.Awaiting.{AreAwaiting, IsAwaiting, kept_load}
 use Rattle.lane_core.specs.Covered.{is_idle_map}
 use Rattle.lane_core.specs.Ideal.{ideal_of}
-use Rattle.lane_core.specs.Kept.{map_of, memory_of}
+use Rattle.lane_core.specs.Kept.{map_of, memory_of, waits_of}
 use Rattle.lane_core.specs.Loading.{HasNeed, HasRoomForAny, bio_chunks, bio_of}
 use Rattle.lane_core.proofs.Asked.{plain-chunks}
-use Rattle.lane_core.proofs.AwaitingLoads.{IsReadyLoad, KeepsOthers, awaiting-none, awaiting-one, awaiting-others}
+use Rattle.lane_core.proofs.AwaitingLoads.{KeepsOthers, awaiting-none, awaiting-one, awaiting-others}
 use Rattle.lane_core.proofs.AwaitingLoads.{awaiting-ready, awaiting-tried, begins-waiting, cut-at, prepared-less}
 use Rattle.lane_core.proofs.AwaitingLoads.{idle-unkept, stays-staged}
 use Rattle.lane_core.proofs.Keeping.{idle-there}
@@ -47,7 +48,7 @@ complete_load-requires-clause-first c x found =
     absurd (cc)
 
 pub returns-in-Granted-clause-done : goal.returns-in-Granted-clause-done
-returns-in-Granted-clause-done c o x found entries items =
+returns-in-Granted-clause-done c o x found bios entries items =
     let l = ideal_of c.args.self.now in
     let chunks = bio_chunks l o (bio_of c.args.bytes) in
     let pas = page_addresses c.in-Granted.pages.items in
@@ -59,19 +60,24 @@ returns-in-Granted-clause-done c o x found entries items =
     ∙ sym (ap (λ g. granted c.args.map o x chunks l (grab_reply g)) c.in-Granted.is)
 
 pub returns-in-Queued-clause-done : goal.returns-in-Queued-clause-done
-returns-in-Queued-clause-done c o x found entries items =
+returns-in-Queued-clause-done c o x found bios entries items =
     let l = ideal_of c.args.self.now in
     let chunks = bio_chunks l o (bio_of c.args.bytes) in
     let need : c.args.need ≡ need_of chunks = (c.requires.room o found).need in
     (λ i. record {
       lane = (c.wait_load.ensures.done o found
-          ∙ (λ j. staged c.args.map o (Waiting (c.place-load_at.ensures j) (need j)) l)) i;
+          ∙ (λ j. staged c.args.map o (Waiting (record {
+            load_at = c.place-load_at.ensures j;
+            bio = sym bios j;
+            items = sym items j;
+            need = need j;
+          })) l)) i;
       answer = InProgress c.in-Queued.have (need i);
     })
     ∙ sym (ap (λ g. granted c.args.map o x chunks l (grab_reply g)) c.in-Queued.is)
 
 pub returns-in-NoPages-clause-done : goal.returns-in-NoPages-clause-done
-returns-in-NoPages-clause-done c o x found entries items =
+returns-in-NoPages-clause-done c o x found bios entries items =
     let l = ideal_of c.args.self.now in
     let chunks = bio_chunks l o (bio_of c.args.bytes) in
     let e : ideal_of c.undo_load.new.self ≡ l = c.undo_load.ensures.same.ideal in
@@ -88,29 +94,25 @@ returns-in-Queued-clause-awaiting c =
     let k = c.wait_load.new.self in
     let m = c.args.map in
     let at = c.place-load_at.result in
-    let need = c.args.need in
+    let w : KeptLoad = record { bytes = c.args.bytes; items = c.args.items; need = c.args.need } in
     let idle = idle-there (get h.maps.map m) c.requires.idle in
     let o = map_of idle.0 in
     let is = image-some map_of h.maps.map m idle.0 idle.1 in
     let lane = c.wait_load.ensures.done o is in
     let others : KeepsOthers m h k = record {
-      stays = stays-staged m o (Waiting at need) (ideal_of h) (ideal_of k) lane;
+      stays = stays-staged m o (Waiting (waits_of at w)) (ideal_of h) (ideal_of k) lane;
       kept = c.wait_load.ensures.others;
       prepared = λ q off. ap (λ ps. get ps q) c.wait_load.ensures.prepared;
     } in
-    let ready : IsReadyLoad h m at need o c.args.items c.args.room = record {
-      bio = bio_of c.args.bytes;
-      there = is;
-      idle = sym (ap is_idle_map idle.1) ∙ c.requires.idle;
-      at = subst (λ p. IsLoadAt h p m (bio_of c.args.bytes) c.args.items) (sym c.place-load_at.ensures)
-          c.requires.next;
+    let ready : IsAwaiting h m w c.args.room = record {
       own = c.requires.own;
       reached = c.requires.reached;
-      fits = c.requires.room o is;
+      loadable = c.requires.loadable;
+      fits = c.requires.room;
       prepared = c.requires.prepared;
     } in
-    awaiting-one k m at (record { items = c.args.items }) c.args.room c.wait_load.ensures.waits
-    (begins-waiting h k m at need o c.args.items c.args.room ready lane c.wait_load.ensures.prepared)
+    awaiting-one k m at w c.args.room c.wait_load.ensures.waits
+    (begins-waiting h k m at o w c.args.room ready is lane c.wait_load.ensures.prepared)
     (awaiting-others h k m others c.requires.awaiting)
 
 pub returns-in-NoPages-clause-awaiting : goal.returns-in-NoPages-clause-awaiting

@@ -24,7 +24,7 @@ returns-in_default-state c =
       done = ap (λ a. Gives (given h a)) c.report-in_default-state.ensures
           ∙ sym (unload-unloaded (ideal_of h) c.args.map (map_of o)
           (image-some map_of h.maps.map c.args.map o (sym c.in-Some.ensures))
-          (state-unloaded o.need o.map.stage (λ e. c.in_default-state.not-Loaded (c.state.ensures ∙ e))));
+          (state-unloaded o.map.stage (λ e. c.in_default-state.not-Loaded (c.state.ensures ∙ e))));
       bytes = record { own = refl; pages = λ m. inl refl };
       awaiting = λ are. are;
       script = refl;
@@ -44,7 +44,7 @@ returns-clause-done c =
     let there = image-some map_of h.maps.map c.args.map o (sym c.in-Some.ensures) in
     ap (λ x. gives x Done) (c.end_load.ensures.done (map_of o) there)
     ∙ sym (unload-done l c.args.map (map_of o) there
-    (state-loaded o.need o.map.stage (sym c.state.ensures ∙ c.in-Loaded.is)))
+    (state-loaded o.map.stage (sym c.state.ensures ∙ c.in-Loaded.is)))
 
 pub returns-clause-awaiting : goal.returns-clause-awaiting
 returns-clause-awaiting c =

@@ -17,6 +17,6 @@ returns-in_default-state c =
     record {
       refused = none-loaded (ideal_of c.args.self.now) c.args.map (map_of o)
           (image-some map_of c.args.self.now.maps.map c.args.map o (sym c.in-Some.ensures))
-          (state-unloaded o.need o.map.stage (λ e. c.in_default-state.not-Loaded (c.state.ensures ∙ e)));
+          (state-unloaded o.map.stage (λ e. c.in_default-state.not-Loaded (c.state.ensures ∙ e)));
       loaded = tt;
     }

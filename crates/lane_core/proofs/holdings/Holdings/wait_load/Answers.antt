@@ -9,7 +9,7 @@ use Rattle.lane_core.specs.Awaiting.{kept_load}
 use Rattle.lane_core.specs.Covered.{is_idle_map, pages_due}
 use Rattle.lane_core.specs.Held.{devices_of, held}
 use Rattle.lane_core.specs.Ideal.{ideal_of}
-use Rattle.lane_core.specs.Kept.{device_of, due_of, map_of}
+use Rattle.lane_core.specs.Kept.{device_of, due_of, map_of, waits_of}
 use Rattle.lane_core.specs.MapValues.{map_values}
 use Rattle.lane_core.proofs.Bytes.{devices-put, held-alike}
 use Rattle.lane_core.proofs.Keeping.{idle-map, idle-state}
@@ -22,7 +22,7 @@ pub wait-requires : goal.wait-requires
 wait-requires c =
     let o : KeptMap = c.in-Some.kept.now in
     let there : get c.args.self.now.maps.map c.args.map ≡ Some o = sym c.in-Some.ensures.value in
-    idle-state o.need o.map.stage (sym (ap is_idle_map there) ∙ c.requires.idle)
+    idle-state o.map.stage (sym (ap is_idle_map there) ∙ c.requires.idle)
 
 pub invariant_of-self : goal.invariant_of-self
 invariant_of-self c =
@@ -33,15 +33,11 @@ invariant_of-self c =
     let idle = idle-map o (sym (ap is_idle_map there) ∙ c.requires.idle) in
     let v : KeptMap = record {
       tag = o.tag;
-      need = c.args.need;
-      map = record o.map {
-        tried = true;
-        stage = waiting c.args.load_at (record { items = c.args.items }) c.args.room;
-      };
+      map = record o.map { tried = true; stage = waiting c.args.load_at c.args.load c.args.room };
     } in
-    let maps : insert h.maps.map k (record { tag = o.tag; need = c.args.need; map = c.wait.new.self })
+    let maps : insert h.maps.map k (record { tag = o.tag; map = c.wait.new.self })
     ≡ insert h.maps.map k v =
-    ap (λ x. insert h.maps.map k (record { tag = o.tag; need = c.args.need; map = x })) c.wait.ensures in
+    ap (λ x. insert h.maps.map k (record { tag = o.tag; map = x })) c.wait.ensures in
     let fits : pages_due h.maps.map + due_of v ≤ h.agenda.promised = c.requires.promised in
     let are =
     subst (λ ms. AreMaps ms h.loans.loans h.agenda.returns h.agenda.promised) (sym maps)
@@ -76,22 +72,18 @@ returns-in-Some-clause-done c other found =
     let idle = idle-map o on in
     let v : KeptMap = record {
       tag = o.tag;
-      need = c.args.need;
-      map = record o.map {
-        tried = true;
-        stage = waiting c.args.load_at (record { items = c.args.items }) c.args.room;
-      };
+      map = record o.map { tried = true; stage = waiting c.args.load_at c.args.load c.args.room };
     } in
-    let maps : insert h.maps.map k (record { tag = o.tag; need = c.args.need; map = c.wait.new.self })
+    let maps : insert h.maps.map k (record { tag = o.tag; map = c.wait.new.self })
     ≡ insert h.maps.map k v =
-    ap (λ x. insert h.maps.map k (record { tag = o.tag; need = c.args.need; map = x })) c.wait.ensures in
+    ap (λ x. insert h.maps.map k (record { tag = o.tag; map = x })) c.wait.ensures in
     let is : get l.maps k ≡ Some (map_of o) = image-some map_of h.maps.map k o there in
     let same : map_of o ≡ other = cc in
     let bare : device_of (Some v) ≡ device_of (get h.maps.map k) = sym (ap device_of there ∙ idle.unheld) in
     (λ i. record l {
       maps = (ap (map_values map_of) maps ∙ map_values-insert map_of h.maps.map k v
           ∙ ap (λ (x : LaneMap). insert l.maps k (record x
-          { tried = true; stage = Waiting c.args.load_at c.args.need })) same) i;
+          { tried = true; stage = Waiting (waits_of c.args.load_at c.args.load) })) same) i;
       memory = (ap (λ ms. held h.loans.bytes h.loans.loans (devices_of ms) h.memory.memory) maps
           ∙ held-alike h.loans.bytes h.loans.loans (devices_of h.maps.map) (devices_of (insert h.maps.map k v))
           h.memory.memory (devices-put h.maps.map k v bare)) i;
@@ -106,15 +98,11 @@ returns-in-Some-clause-bytes c =
     let idle = idle-map o (sym (ap is_idle_map there) ∙ c.requires.idle) in
     let v : KeptMap = record {
       tag = o.tag;
-      need = c.args.need;
-      map = record o.map {
-        tried = true;
-        stage = waiting c.args.load_at (record { items = c.args.items }) c.args.room;
-      };
+      map = record o.map { tried = true; stage = waiting c.args.load_at c.args.load c.args.room };
     } in
-    let maps : insert h.maps.map k (record { tag = o.tag; need = c.args.need; map = c.wait.new.self })
+    let maps : insert h.maps.map k (record { tag = o.tag; map = c.wait.new.self })
     ≡ insert h.maps.map k v =
-    ap (λ x. insert h.maps.map k (record { tag = o.tag; need = c.args.need; map = x })) c.wait.ensures in
+    ap (λ x. insert h.maps.map k (record { tag = o.tag; map = x })) c.wait.ensures in
     let bare : device_of (Some v) ≡ device_of (get h.maps.map k) = sym (ap device_of there ∙ idle.unheld) in
     record {
       own = refl;
@@ -128,15 +116,11 @@ returns-in-Some-clause-waits c =
     let o : KeptMap = c.in-Some.kept.now in
     let v : KeptMap = record {
       tag = o.tag;
-      need = c.args.need;
-      map = record o.map {
-        tried = true;
-        stage = waiting c.args.load_at (record { items = c.args.items }) c.args.room;
-      };
+      map = record o.map { tried = true; stage = waiting c.args.load_at c.args.load c.args.room };
     } in
-    let maps : insert h.maps.map k (record { tag = o.tag; need = c.args.need; map = c.wait.new.self })
+    let maps : insert h.maps.map k (record { tag = o.tag; map = c.wait.new.self })
     ≡ insert h.maps.map k v =
-    ap (λ x. insert h.maps.map k (record { tag = o.tag; need = c.args.need; map = x })) c.wait.ensures in
+    ap (λ x. insert h.maps.map k (record { tag = o.tag; map = x })) c.wait.ensures in
     ap (λ ms. kept_load (get ms k)) maps ∙ ap kept_load (get_put h.maps.map k v k)
     ∙ ap (λ b. kept_load (cond b (Some v) (get h.maps.map k))) (eq-eqb k k refl)
 
@@ -147,14 +131,10 @@ returns-in-Some-clause-others c m off =
     let o : KeptMap = c.in-Some.kept.now in
     let v : KeptMap = record {
       tag = o.tag;
-      need = c.args.need;
-      map = record o.map {
-        tried = true;
-        stage = waiting c.args.load_at (record { items = c.args.items }) c.args.room;
-      };
+      map = record o.map { tried = true; stage = waiting c.args.load_at c.args.load c.args.room };
     } in
-    let maps : insert h.maps.map k (record { tag = o.tag; need = c.args.need; map = c.wait.new.self })
+    let maps : insert h.maps.map k (record { tag = o.tag; map = c.wait.new.self })
     ≡ insert h.maps.map k v =
-    ap (λ x. insert h.maps.map k (record { tag = o.tag; need = c.args.need; map = x })) c.wait.ensures in
+    ap (λ x. insert h.maps.map k (record { tag = o.tag; map = x })) c.wait.ensures in
     ap (λ ms. kept_load (get ms m)) maps ∙ ap kept_load (get_put h.maps.map k v m)
     ∙ ap (λ b. kept_load (cond b (Some v) (get h.maps.map m))) off

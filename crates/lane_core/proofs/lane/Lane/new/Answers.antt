@@ -99,9 +99,9 @@ invariant_of-result-2-clause-room c =
     ap (λ a. items_left a.place c.as_slice-script.result.now) agenda
     ∙ ap item_count script ∙ sym (ap (λ a. a.room) agenda) in
     let maps = ap (λ t. map_values map_of t.map) c.in_ok-new-2.ensures ∙ map_values-empty map_of in
-    let due : maps_items c.as_slice-script.result.now (map_values map_of c.in_ok-new-2.field-0.map) ≡ 0 =
-    ap (maps_items c.as_slice-script.result.now) maps
-    ∙ weigh-empty (λ (o : LaneMap). awaited_items c.as_slice-script.result.now o.stage) in
+    let due : maps_items (map_values map_of c.in_ok-new-2.field-0.map) ≡ 0 =
+    ap maps_items maps
+    ∙ weigh-empty (λ (o : LaneMap). awaited_items o.stage) in
     omega (arith, left, due)
 
 pub invariant_of-result-2-clause-wired : goal.invariant_of-result-2-clause-wired
