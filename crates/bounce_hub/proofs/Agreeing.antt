@@ -3,19 +3,19 @@ use Rattle.std.proofs.Common.{◌≡◌, ◌≢◌, ℕ, zero, suc, ◌+◌, ◌
 use Rattle.std.proofs.Common.{take, drop, refl, sym, ap, ◌∙◌, subst, arith, inl, inr}
 use Rattle.std.proofs.lemmas.Bool.Decides.{eqb_tells}
 use Rattle.std.proofs.lemmas.List.{get_or-set_same, get_or-set_other, length-set, set-get_or, length-map}
-use Rattle.busdma_base.specs.declared.name.MapId.{MapId}
-use Rattle.busdma_base.specs.declared.bounce.zone.Waiter.{Waiter}
-use Rattle.busdma_base.specs.Bounce.Account.{Account, Zone, zone_at, free}
-use Rattle.busdma_base.specs.Bounce.Serving.{handed, queued, returned, served, completed, left_waiting, promised}
-use Rattle.busdma_base.specs.Bounce.Conditions.{times_held}
-use Rattle.busdma_base.specs.Machine.Page.{FrameBytes}
-use Rattle.busdma_base.specs.Machine.PageList.{page_addresses, page_address}
-use Rattle.busdma_base.specs.Bounce.WellFormed.{IsWellFormed}
-use Rattle.busdma_base.proofs.Accounts.Counts.{SameZone, handed-zone, handed-reserved, handed-active, handed-other}
-use Rattle.busdma_base.proofs.Accounts.Counts.{queued-zone, queued-reserved, queued-other, room_now, release-avail}
-use Rattle.busdma_base.proofs.Accounts.Counts.{release-wait, release-done, release-reserved, release-active}
-use Rattle.busdma_base.proofs.Accounts.Counts.{release-other, release-count, shorter-reserved, shorter-other}
-use Rattle.busdma_base.proofs.Accounts.Counts.{shorter-enough, back-zone}
+use Rattle.busdma_machine.specs.declared.name.MapId.{MapId}
+use Rattle.busdma_machine.specs.declared.bounce.zone.Waiter.{Waiter}
+use Rattle.busdma_machine.specs.Bounce.Account.{Account, Zone, zone_at, free}
+use Rattle.busdma_machine.specs.Bounce.Serving.{handed, queued, returned, served, completed, left_waiting, promised}
+use Rattle.busdma_machine.specs.Bounce.Conditions.{times_held}
+use Rattle.busdma_machine.specs.Machine.Page.{FrameBytes}
+use Rattle.busdma_machine.specs.Machine.PageList.{page_addresses, page_address}
+use Rattle.busdma_machine.specs.Bounce.WellFormed.{IsWellFormed}
+use Rattle.busdma_machine.proofs.Accounts.Counts.{SameZone, handed-zone, handed-reserved, handed-active, handed-other}
+use Rattle.busdma_machine.proofs.Accounts.Counts.{queued-zone, queued-reserved, queued-other, room_now, release-avail}
+use Rattle.busdma_machine.proofs.Accounts.Counts.{release-wait, release-done, release-reserved, release-active}
+use Rattle.busdma_machine.proofs.Accounts.Counts.{release-other, release-count, shorter-reserved, shorter-other}
+use Rattle.busdma_machine.proofs.Accounts.Counts.{shorter-enough, back-zone}
 use Rattle.bounce_hub.specs.declared.hub_zone.HubZone.{HubZone}
 use Rattle.bounce_hub.specs.declared.pool.Pool.{Pool}
 use Rattle.bounce_hub.specs.Pools.{Matches, Agrees, owed}

@@ -5,19 +5,19 @@ use Rattle.std.proofs.lemmas.Bool.{le-leb, lt-leb, eq-eqb}
 use Rattle.std.proofs.lemmas.List.{length-map}
 use Rattle.std.proofs.lemmas.List.Elements.{All-weaker}
 use Rattle.std.proofs.lemmas.List.Sums.{get_or-le-sum_by}
-use Rattle.busdma_base.specs.declared.name.MapId.{MapId}
-use Rattle.busdma_base.specs.declared.bounce.zone.Waiter.{Waiter}
-use Rattle.busdma_base.specs.declared.bounce.hold.HubCall.{HubCall}
-use Rattle.busdma_base.specs.declared.bounce.hold.HubCall.TheVariants.{TakeCallback}
-use Rattle.busdma_base.specs.declared.bounce.hold.HubReply.{HubReply}
-use Rattle.busdma_base.specs.declared.bounce.hold.HubReply.TheVariants.{Granted, Queued, NoPages, Served, Called}
-use Rattle.busdma_base.specs.Bounce.Account.{Account, Zone, no_zone, zone_at, free}
-use Rattle.busdma_base.specs.Bounce.AccountStep.{Outcome, account_step, as_pages, grabbed, released, called_from}
-use Rattle.busdma_base.specs.Bounce.Serving.{handed, queued, completed}
-use Rattle.busdma_base.specs.Bounce.Conditions.{times_held}
-use Rattle.busdma_base.specs.Machine.PageList.{page_address}
-use Rattle.busdma_base.specs.Bounce.WellFormed.{IsWellFormed, Lacks}
-use Rattle.busdma_base.proofs.Accounts.Counts.{release-done}
+use Rattle.busdma_machine.specs.declared.name.MapId.{MapId}
+use Rattle.busdma_machine.specs.declared.bounce.zone.Waiter.{Waiter}
+use Rattle.busdma_machine.specs.declared.bounce.hold.HubCall.{HubCall}
+use Rattle.busdma_machine.specs.declared.bounce.hold.HubCall.TheVariants.{TakeCallback}
+use Rattle.busdma_machine.specs.declared.bounce.hold.HubReply.{HubReply}
+use Rattle.busdma_machine.specs.declared.bounce.hold.HubReply.TheVariants.{Granted, Queued, NoPages, Served, Called}
+use Rattle.busdma_machine.specs.Bounce.Account.{Account, Zone, no_zone, zone_at, free}
+use Rattle.busdma_machine.specs.Bounce.AccountStep.{Outcome, account_step, as_pages, grabbed, released, called_from}
+use Rattle.busdma_machine.specs.Bounce.Serving.{handed, queued, completed}
+use Rattle.busdma_machine.specs.Bounce.Conditions.{times_held}
+use Rattle.busdma_machine.specs.Machine.PageList.{page_address}
+use Rattle.busdma_machine.specs.Bounce.WellFormed.{IsWellFormed, Lacks}
+use Rattle.busdma_machine.proofs.Accounts.Counts.{release-done}
 use Rattle.bounce_zone.specs.ZonePages.{free_pages}
 use Rattle.bounce_hub.specs.declared.hub_zone.HubZone.{HubZone}
 use Rattle.bounce_hub.specs.declared.pool.Pool.{Pool}

@@ -1,9 +1,9 @@
 -- The counts of zones.
 use Rattle.std.proofs.Common.{◌≡◌, ℕ, ◌+◌, ◌-◌, ◌<◌, List, [], length, get_or, slice_index, refl, ap, ◌∙◌, arith}
 use Rattle.std.proofs.lemmas.List.{length-map}
-use Rattle.busdma_base.specs.declared.bounce.zone.ZoneCounts.{ZoneCounts}
-use Rattle.busdma_base.specs.Bounce.Account.{Account, zone_at, reserved, active, free, total, counts}
-use Rattle.busdma_base.specs.Machine.PageList.{page_address}
+use Rattle.busdma_machine.specs.declared.bounce.zone.ZoneCounts.{ZoneCounts}
+use Rattle.busdma_machine.specs.Bounce.Account.{Account, zone_at, reserved, active, free, total, counts}
+use Rattle.busdma_machine.specs.Machine.PageList.{page_address}
 use Rattle.bounce_hub.specs.declared.hub_zone.HubZone.{HubZone}
 use Rattle.bounce_hub.specs.declared.pool.Pool.{Pool}
 use Rattle.bounce_hub.specs.HubZones.{HaveCounts, counts_at}

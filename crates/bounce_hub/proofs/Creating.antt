@@ -2,15 +2,15 @@
 use Rattle.std.proofs.Common.{◌≡◌, ℕ, ◌<◌, ◌≤◌, ◌+◌, ◌==◌, ◌||◌, ◌∷◌, ◌++◌, [], Bool, true, false, List, length, take}
 use Rattle.std.proofs.Common.{set, get_or, sym, ap, ◌∙◌, arith, slice_get}
 use Rattle.std.proofs.lemmas.List.{length-append, length-set}
-use Rattle.busdma_base.specs.declared.name.MapId.{MapId}
-use Rattle.busdma_base.specs.declared.name.ZoneId.{ZoneId}
-use Rattle.busdma_base.specs.declared.tags.tag.TagLimits.{TagLimits}
-use Rattle.busdma_base.specs.declared.bounce.hold.HubCall.TheVariants.{CreateMap}
-use Rattle.busdma_base.specs.declared.bounce.hold.HubReply.TheVariants.{Grown}
-use Rattle.busdma_base.specs.Bounce.Account.{Account, zone_at, total}
-use Rattle.busdma_base.specs.Bounce.AccountStep.{Outcome, created}
-use Rattle.busdma_base.specs.Bounce.Growth.{zone_of, with_zone_for, wanted_for, wanted_by_map, most_pages, maxpages}
-use Rattle.busdma_base.specs.Bounce.Growth.{added, grown, with_map}
+use Rattle.busdma_machine.specs.declared.name.MapId.{MapId}
+use Rattle.busdma_machine.specs.declared.name.ZoneId.{ZoneId}
+use Rattle.busdma_machine.specs.declared.tags.tag.TagLimits.{TagLimits}
+use Rattle.busdma_machine.specs.declared.bounce.hold.HubCall.TheVariants.{CreateMap}
+use Rattle.busdma_machine.specs.declared.bounce.hold.HubReply.TheVariants.{Grown}
+use Rattle.busdma_machine.specs.Bounce.Account.{Account, zone_at, total}
+use Rattle.busdma_machine.specs.Bounce.AccountStep.{Outcome, created}
+use Rattle.busdma_machine.specs.Bounce.Growth.{zone_of, with_zone_for, wanted_for, wanted_by_map, most_pages, maxpages}
+use Rattle.busdma_machine.specs.Bounce.Growth.{added, grown, with_map}
 use Rattle.bounce_hub.specs.declared.hub_zone.HubZone.{HubZone}
 use Rattle.bounce_hub.specs.declared.pool.Pool.{Pool}
 use Rattle.bounce_hub.specs.Growing.{GrewBy, Grows, place_for, maps_of, pages_of}

@@ -4,22 +4,22 @@ use Rattle.std.proofs.Common.{take, drop, not, refl, ap, arith, eqb, leb, if◌t
 use Rattle.std.specs.List.{sum_by, filter}
 use Rattle.std.proofs.lemmas.List.{length-append}
 use Rattle.std.proofs.lemmas.List.Sums.{sum_by-cons}
-use Rattle.busdma_base.specs.declared.name.MapId.{MapId}
-use Rattle.busdma_base.specs.declared.tags.tag.TagLimits.{TagLimits}
-use Rattle.busdma_base.specs.declared.bounce.zone.Waiter.{Waiter}
-use Rattle.busdma_base.specs.declared.bounce.hold.HubCall.{HubCall}
-use Rattle.busdma_base.specs.declared.bounce.hold.HubCall.TheVariants.{AttachTag, CreateMap, DestroyMap, Grab, Release}
-use Rattle.busdma_base.specs.declared.bounce.hold.HubCall.TheVariants.{TakeCallback, MemAlloc, MemFree}
-use Rattle.busdma_base.specs.declared.bounce.hold.HubReply.TheVariants.{Nothing, Granted, Queued, NoPages, Called}
-use Rattle.busdma_base.specs.declared.bounce.hold.HoldEntry.{HoldEntry}
-use Rattle.busdma_base.specs.Bounce.Account.{Account, Zone, same_map, zone_at, no_zone, with_zone, free, total}
-use Rattle.busdma_base.specs.Bounce.AccountStep.{Outcome, account_step, as_pages, created, grabbed, called_from}
-use Rattle.busdma_base.specs.Bounce.AccountStep.{placed}
-use Rattle.busdma_base.specs.Bounce.Growth.{zones_for, zone_of, with_zone_for, added, grown, maxpages, wanted_by_tag}
-use Rattle.busdma_base.specs.Bounce.Growth.{wanted_by_map, with_map}
-use Rattle.busdma_base.specs.Bounce.History.{IsOpening, after_entry, account_of}
-use Rattle.busdma_base.specs.Bounce.Serving.{handed, queued, returned, completed, left_waiting, served}
-use Rattle.busdma_base.proofs.Accounts.Names.{sum_by-zones_for}
+use Rattle.busdma_machine.specs.declared.name.MapId.{MapId}
+use Rattle.busdma_machine.specs.declared.tags.tag.TagLimits.{TagLimits}
+use Rattle.busdma_machine.specs.declared.bounce.zone.Waiter.{Waiter}
+use Rattle.busdma_machine.specs.declared.bounce.hold.HubCall.{HubCall}
+use Rattle.busdma_machine.specs.declared.bounce.hold.HubCall.TheVariants.{AttachTag, CreateMap, DestroyMap, Grab, Release}
+use Rattle.busdma_machine.specs.declared.bounce.hold.HubCall.TheVariants.{TakeCallback, MemAlloc, MemFree}
+use Rattle.busdma_machine.specs.declared.bounce.hold.HubReply.TheVariants.{Nothing, Granted, Queued, NoPages, Called}
+use Rattle.busdma_machine.specs.declared.bounce.hold.HoldEntry.{HoldEntry}
+use Rattle.busdma_machine.specs.Bounce.Account.{Account, Zone, same_map, zone_at, no_zone, with_zone, free, total}
+use Rattle.busdma_machine.specs.Bounce.AccountStep.{Outcome, account_step, as_pages, created, grabbed, called_from}
+use Rattle.busdma_machine.specs.Bounce.AccountStep.{placed}
+use Rattle.busdma_machine.specs.Bounce.Growth.{zones_for, zone_of, with_zone_for, added, grown, maxpages, wanted_by_tag}
+use Rattle.busdma_machine.specs.Bounce.Growth.{wanted_by_map, with_map}
+use Rattle.busdma_machine.specs.Bounce.History.{IsOpening, after_entry, account_of}
+use Rattle.busdma_machine.specs.Bounce.Serving.{handed, queued, returned, completed, left_waiting, served}
+use Rattle.busdma_machine.proofs.Accounts.Names.{sum_by-zones_for}
 use Rattle.bounce_hub.specs.Pools.{deferrals}
 use Rattle.bounce_hub.proofs.Owing.{completed-length}
 

@@ -8,13 +8,13 @@ use Rattle.std.proofs.lemmas.Bool.{eq-eqb}
 use Rattle.std.proofs.lemmas.Bool.Decides.{eqb_tells}
 use Rattle.std.proofs.lemmas.List.{length-append}
 use Rattle.std.proofs.lemmas.List.Sums.{sum_by-cons, sum_by-append}
-use Rattle.busdma_base.specs.declared.name.MapId.{MapId}
-use Rattle.busdma_base.specs.Bounce.Account.{Account, Memory, same_map}
-use Rattle.busdma_base.specs.Bounce.Door.{IsRow}
-use Rattle.busdma_base.specs.Machine.Page.{FrameBytes}
-use Rattle.busdma_base.specs.Bounce.MemoryRuns.{frames_from, in_run, put_in, put_all, frames_of}
-use Rattle.busdma_base.specs.Machine.PageList.{page_address, page_addresses}
-use Rattle.busdma_base.specs.Bounce.Places.{times, places, frame_total}
+use Rattle.busdma_machine.specs.declared.name.MapId.{MapId}
+use Rattle.busdma_machine.specs.Bounce.Account.{Account, Memory, same_map}
+use Rattle.busdma_machine.specs.Bounce.Door.{IsRow}
+use Rattle.busdma_machine.specs.Machine.Page.{FrameBytes}
+use Rattle.busdma_machine.specs.Bounce.MemoryRuns.{frames_from, in_run, put_in, put_all, frames_of}
+use Rattle.busdma_machine.specs.Machine.PageList.{page_address, page_addresses}
+use Rattle.busdma_machine.specs.Bounce.Places.{times, places, frame_total}
 use Rattle.frame_bank.specs.FrameBank.{free_frames, run_pages, is_in_run, put_page, put_pages}
 use Rattle.bounce_hub.specs.declared.hub_zone.HubZone.{HubZone}
 use Rattle.bounce_hub.specs.declared.pool.Pool.{Pool}

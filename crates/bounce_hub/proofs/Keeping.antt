@@ -3,15 +3,15 @@ use Rattle.std.proofs.Common.{◌≡◌, ℕ, ◌+◌, ◌<◌, ◌≤◌, ◌^�
 use Rattle.std.proofs.Common.{subst, arith}
 use Rattle.std.proofs.lemmas.List.{length-append, append-nil}
 use Rattle.std.proofs.lemmas.List.Elements.{All-nil}
-use Rattle.busdma_base.specs.declared.bounce.hold.HubCall.{HubCall}
-use Rattle.busdma_base.specs.declared.bounce.hold.HubReply.{HubReply}
-use Rattle.busdma_base.specs.declared.bounce.hold.HoldEntry.{HoldEntry}
-use Rattle.busdma_base.specs.Bounce.Account.{Account}
-use Rattle.busdma_base.specs.Bounce.Conditions.{MayCall}
-use Rattle.busdma_base.specs.Bounce.Door.{Allows, Passes, Holds}
-use Rattle.busdma_base.specs.Bounce.History.{IsOpening, IsSound, IsSoundEntry, is_kept, account_of, after_entry}
-use Rattle.busdma_base.proofs.Accounts.Places.{places-bank, times-rising, total-stays}
-use Rattle.busdma_base.proofs.Accounts.WellFormed.{account-well}
+use Rattle.busdma_machine.specs.declared.bounce.hold.HubCall.{HubCall}
+use Rattle.busdma_machine.specs.declared.bounce.hold.HubReply.{HubReply}
+use Rattle.busdma_machine.specs.declared.bounce.hold.HoldEntry.{HoldEntry}
+use Rattle.busdma_machine.specs.Bounce.Account.{Account}
+use Rattle.busdma_machine.specs.Bounce.Conditions.{MayCall}
+use Rattle.busdma_machine.specs.Bounce.Door.{Allows, Passes, Holds}
+use Rattle.busdma_machine.specs.Bounce.History.{IsOpening, IsSound, IsSoundEntry, is_kept, account_of, after_entry}
+use Rattle.busdma_machine.proofs.Accounts.Places.{places-bank, times-rising, total-stays}
+use Rattle.busdma_machine.proofs.Accounts.WellFormed.{account-well}
 use Rattle.bounce_hub.specs.declared.pool.Pool.{Pool}
 use Rattle.bounce_hub.specs.Pools.{Agrees, Fits, Allowed, Stepped, Steps}
 use Rattle.bounce_hub.specs.Seen.{HubSeen, IsKept, door}

@@ -4,13 +4,13 @@ use Rattle.std.proofs.Common.{refl, sym, ap, ◌∙◌, arith, ◌==◌}
 use Rattle.std.specs.List.{count_by, sum_by, filter}
 use Rattle.std.proofs.lemmas.List.{get_or-set_same, get_or-set_other}
 use Rattle.std.proofs.lemmas.List.Sums.{sum_by-cons, sum_by-set, get_or-le-sum_by}
-use Rattle.busdma_base.specs.declared.name.MapId.{MapId}
-use Rattle.busdma_base.specs.declared.tags.tag.TagLimits.{TagLimits}
-use Rattle.busdma_base.specs.declared.bounce.hold.HubReply.TheVariants.{Grown}
-use Rattle.busdma_base.specs.Bounce.Account.{Account, Zone, same_map, no_zone, zone_at, with_zone, total}
-use Rattle.busdma_base.specs.Bounce.AccountStep.{created}
-use Rattle.busdma_base.specs.Bounce.Growth.{zone_of, with_zone_for, added, grown, maxpages, wanted_by_map, with_map}
-use Rattle.busdma_base.specs.Machine.PageList.{page_addresses}
+use Rattle.busdma_machine.specs.declared.name.MapId.{MapId}
+use Rattle.busdma_machine.specs.declared.tags.tag.TagLimits.{TagLimits}
+use Rattle.busdma_machine.specs.declared.bounce.hold.HubReply.TheVariants.{Grown}
+use Rattle.busdma_machine.specs.Bounce.Account.{Account, Zone, same_map, no_zone, zone_at, with_zone, total}
+use Rattle.busdma_machine.specs.Bounce.AccountStep.{created}
+use Rattle.busdma_machine.specs.Bounce.Growth.{zone_of, with_zone_for, added, grown, maxpages, wanted_by_map, with_map}
+use Rattle.busdma_machine.specs.Machine.PageList.{page_addresses}
 use Rattle.bounce_hub.specs.declared.hub_zone.HubZone.{HubZone}
 use Rattle.bounce_hub.specs.declared.pool.Pool.{Pool}
 use Rattle.bounce_hub.specs.Pools.{Matches, Agrees, entries_of, owed, waiting}

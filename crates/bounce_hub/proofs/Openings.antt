@@ -2,9 +2,9 @@
 use Rattle.std.proofs.Common.{ℕ, ◌^◌, ◌<◌, refl, arith}
 use Rattle.std.proofs.lemmas.List.{length-map}
 use Rattle.std.proofs.lemmas.List.Elements.{All-map, All-weaker}
-use Rattle.busdma_base.specs.Machine.Page.{FrameBytes}
-use Rattle.busdma_base.specs.Bounce.History.{IsFrame, IsOpening}
-use Rattle.busdma_base.specs.Machine.PageList.{page_address}
+use Rattle.busdma_machine.specs.Machine.Page.{FrameBytes}
+use Rattle.busdma_machine.specs.Bounce.History.{IsFrame, IsOpening}
+use Rattle.busdma_machine.specs.Machine.PageList.{page_address}
 use Rattle.frame_bank.specs.FrameBank.{Bank, IsBank}
 use Rattle.bounce_hub.specs.Opening.{opening}
 

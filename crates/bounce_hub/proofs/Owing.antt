@@ -4,11 +4,11 @@ use Rattle.std.proofs.Common.{drop, length, refl, ap, arith, leb, if◌then◌el
 use Rattle.std.specs.List.{count_by, filter}
 use Rattle.std.proofs.lemmas.List.{length-map, length-take-le, length-append, length-set}
 use Rattle.std.proofs.lemmas.List.Sums.{sum_by-cons, sum_by-append, sum_by-set}
-use Rattle.busdma_base.specs.declared.name.MapId.{MapId}
-use Rattle.busdma_base.specs.declared.bounce.zone.Waiter.{Waiter}
-use Rattle.busdma_base.specs.Bounce.Account.{Account, Zone, Held, zone_at, no_zone, free}
-use Rattle.busdma_base.specs.Bounce.Serving.{is_holding, handed, queued, returned, completed, left_waiting, served}
-use Rattle.busdma_base.specs.Bounce.Conditions.{times_held}
+use Rattle.busdma_machine.specs.declared.name.MapId.{MapId}
+use Rattle.busdma_machine.specs.declared.bounce.zone.Waiter.{Waiter}
+use Rattle.busdma_machine.specs.Bounce.Account.{Account, Zone, Held, zone_at, no_zone, free}
+use Rattle.busdma_machine.specs.Bounce.Serving.{is_holding, handed, queued, returned, completed, left_waiting, served}
+use Rattle.busdma_machine.specs.Bounce.Conditions.{times_held}
 use Rattle.bounce_hub.specs.Pools.{entries_of, owed, waiting}
 
 abbrev weight : Bool → ℕ

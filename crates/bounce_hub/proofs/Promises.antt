@@ -4,8 +4,8 @@ use Rattle.std.proofs.Common.{if◌then◌else◌, All}
 use Rattle.std.specs.List.{sum_by}
 use Rattle.std.proofs.lemmas.List.Sums.{sum_by-cons}
 use Rattle.std.proofs.lemmas.List.Elements.{All-head, All-tail}
-use Rattle.busdma_base.specs.declared.bounce.zone.Waiter.{Waiter}
-use Rattle.busdma_base.specs.Bounce.Serving.{completed, left_waiting, promised}
+use Rattle.busdma_machine.specs.declared.bounce.zone.Waiter.{Waiter}
+use Rattle.busdma_machine.specs.Bounce.Serving.{completed, left_waiting, promised}
 
 abbrev lacking : Waiter → Type 0
 lacking w = w.have < w.need

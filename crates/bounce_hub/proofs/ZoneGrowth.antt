@@ -8,19 +8,19 @@ use Rattle.std.proofs.lemmas.List.{get_or-set_same, get_or-set_other, length-app
 use Rattle.std.proofs.lemmas.List.{get_or_append_left}
 use Rattle.std.proofs.Math.Seq.{get_or-append_seam}
 use Rattle.std.proofs.lemmas.Option.{slice_get-get_or, slice_get_past}
-use Rattle.busdma_base.specs.declared.tags.tag.TagLimits.{TagLimits}
-use Rattle.busdma_base.specs.declared.bounce.zone.Waiter.{Waiter}
-use Rattle.busdma_base.specs.declared.bounce.hold.HubReply.TheVariants.{Grown}
-use Rattle.busdma_base.specs.Bounce.Account.{Account, Zone, no_zone, zone_at, reserved, total}
-use Rattle.busdma_base.specs.Bounce.AccountStep.{attached}
-use Rattle.busdma_base.specs.Machine.Page.{FrameBytes}
-use Rattle.busdma_base.specs.Bounce.Growth.{serves_tag, new_zone, zones_for, zone_of, with_zone_for, added, grown}
-use Rattle.busdma_base.specs.Bounce.Growth.{wanted_by_tag, wanted_for, wanted_by_map, most_pages, maxpages}
-use Rattle.busdma_base.specs.Machine.PageList.{page_addresses, page_address}
-use Rattle.busdma_base.specs.Bounce.WellFormed.{IsWellFormed}
-use Rattle.busdma_base.proofs.Accounts.Counting.{sum_by-set_like}
-use Rattle.busdma_base.proofs.Accounts.ZoneOf.{zones_for_found, zones_for_none}
-use Rattle.busdma_base.proofs.Accounts.Names.{sum_by-zones_for}
+use Rattle.busdma_machine.specs.declared.tags.tag.TagLimits.{TagLimits}
+use Rattle.busdma_machine.specs.declared.bounce.zone.Waiter.{Waiter}
+use Rattle.busdma_machine.specs.declared.bounce.hold.HubReply.TheVariants.{Grown}
+use Rattle.busdma_machine.specs.Bounce.Account.{Account, Zone, no_zone, zone_at, reserved, total}
+use Rattle.busdma_machine.specs.Bounce.AccountStep.{attached}
+use Rattle.busdma_machine.specs.Machine.Page.{FrameBytes}
+use Rattle.busdma_machine.specs.Bounce.Growth.{serves_tag, new_zone, zones_for, zone_of, with_zone_for, added, grown}
+use Rattle.busdma_machine.specs.Bounce.Growth.{wanted_by_tag, wanted_for, wanted_by_map, most_pages, maxpages}
+use Rattle.busdma_machine.specs.Machine.PageList.{page_addresses, page_address}
+use Rattle.busdma_machine.specs.Bounce.WellFormed.{IsWellFormed}
+use Rattle.busdma_machine.proofs.Accounts.Counting.{sum_by-set_like}
+use Rattle.busdma_machine.proofs.Accounts.ZoneOf.{zones_for_found, zones_for_none}
+use Rattle.busdma_machine.proofs.Accounts.Names.{sum_by-zones_for}
 use Rattle.bounce_hub.specs.declared.hub_zone.HubZone.{HubZone}
 use Rattle.bounce_hub.specs.declared.pool.Pool.{Pool}
 use Rattle.bounce_hub.specs.Growing.{serves, place_for, pages_of, maps_of}

@@ -1,6 +1,6 @@
 -- What contracts see of a zone with its waiting maps.
 use Rattle.std.specs.Prelude.{◌≡◌, ℕ, ◌+◌, ◌-◌, ◌<◌, List, length, slice_index, slice_index_or}
-use Rattle.busdma_base.specs.declared.bounce.zone.ZoneCounts.{ZoneCounts}
+use Rattle.busdma_machine.specs.declared.bounce.zone.ZoneCounts.{ZoneCounts}
 use Rattle.bounce_zone.specs.ZonePages.{zone_counts}
 use Rattle.bounce_hub.specs.declared.hub_zone.HubZone.{HubZone}
 

@@ -1,6 +1,6 @@
 -- The account with which a hub begins.
 use Rattle.std.specs.Prelude.{ℕ}
-use Rattle.busdma_base.specs.Bounce.Account.{Account, fresh_account}
+use Rattle.busdma_machine.specs.Bounce.Account.{Account, fresh_account}
 use Rattle.frame_bank.specs.FrameBank.{Bank, free_frames}
 
 -- the free frames of a bank, the two constants, and nothing else

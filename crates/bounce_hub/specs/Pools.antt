@@ -1,18 +1,18 @@
 -- How what lanes share stands to the account.
 use Rattle.std.specs.Prelude.{◌≡◌, ℕ, ◌+◌, ◌^◌, ◌<◌, ◌≤◌, List, length, slice_index_or, sum_by}
-use Rattle.busdma_base.specs.declared.bounce.zone.Waiter.{Waiter}
-use Rattle.busdma_base.specs.declared.name.MapId.{MapId}
-use Rattle.busdma_base.specs.declared.bounce.hold.HubCall.{HubCall}
-use Rattle.busdma_base.specs.declared.bounce.hold.HubReply.{HubReply}
-use Rattle.busdma_base.specs.declared.bounce.hold.HubCall.TheVariants.{TakeCallback, MemFree}
-use Rattle.busdma_base.specs.declared.bounce.hold.HubReply.TheVariants.{Nothing}
-use Rattle.busdma_base.specs.Bounce.Account.{Account, zone_at, reserved, active}
-use Rattle.busdma_base.specs.Bounce.AccountStep.{account_step}
-use Rattle.busdma_base.specs.Bounce.Conditions.{MayCall}
-use Rattle.busdma_base.specs.Bounce.MemoryRuns.{frames_of}
-use Rattle.busdma_base.specs.Machine.PageList.{page_addresses}
-use Rattle.busdma_base.specs.Bounce.Places.{frame_total, places}
-use Rattle.busdma_base.specs.Bounce.WellFormed.{IsWellFormed}
+use Rattle.busdma_machine.specs.declared.bounce.zone.Waiter.{Waiter}
+use Rattle.busdma_machine.specs.declared.name.MapId.{MapId}
+use Rattle.busdma_machine.specs.declared.bounce.hold.HubCall.{HubCall}
+use Rattle.busdma_machine.specs.declared.bounce.hold.HubReply.{HubReply}
+use Rattle.busdma_machine.specs.declared.bounce.hold.HubCall.TheVariants.{TakeCallback, MemFree}
+use Rattle.busdma_machine.specs.declared.bounce.hold.HubReply.TheVariants.{Nothing}
+use Rattle.busdma_machine.specs.Bounce.Account.{Account, zone_at, reserved, active}
+use Rattle.busdma_machine.specs.Bounce.AccountStep.{account_step}
+use Rattle.busdma_machine.specs.Bounce.Conditions.{MayCall}
+use Rattle.busdma_machine.specs.Bounce.MemoryRuns.{frames_of}
+use Rattle.busdma_machine.specs.Machine.PageList.{page_addresses}
+use Rattle.busdma_machine.specs.Bounce.Places.{frame_total, places}
+use Rattle.busdma_machine.specs.Bounce.WellFormed.{IsWellFormed}
 use Rattle.frame_bank.specs.FrameBank.{free_frames}
 use Rattle.bounce_hub.specs.declared.hub_zone.HubZone.{HubZone}
 use Rattle.bounce_hub.specs.declared.pool.Pool.{Pool}

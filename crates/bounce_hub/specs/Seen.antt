@@ -1,10 +1,10 @@
 -- What contracts see of a hub, and what is true of each.
 use Rattle.std.specs.Prelude.{◌≡◌, ℕ, ◌+◌, ◌<◌, ◌≤◌, true, List, length, slice_index, slice_index_or}
-use Rattle.busdma_base.specs.declared.bounce.hold.HoldEntry.{HoldEntry}
-use Rattle.busdma_base.specs.declared.bounce.zone.ZoneCounts.{ZoneCounts}
-use Rattle.busdma_base.specs.Bounce.Account.{Account, counts}
-use Rattle.busdma_base.specs.Bounce.Door.{Seen}
-use Rattle.busdma_base.specs.Bounce.History.{IsOpening, IsSound, account_of}
+use Rattle.busdma_machine.specs.declared.bounce.hold.HoldEntry.{HoldEntry}
+use Rattle.busdma_machine.specs.declared.bounce.zone.ZoneCounts.{ZoneCounts}
+use Rattle.busdma_machine.specs.Bounce.Account.{Account, counts}
+use Rattle.busdma_machine.specs.Bounce.Door.{Seen}
+use Rattle.busdma_machine.specs.Bounce.History.{IsOpening, IsSound, account_of}
 use Rattle.bounce_hub.specs.declared.pool.Pool.{Pool}
 use Rattle.bounce_hub.specs.Opening.{opening}
 use Rattle.bounce_hub.specs.Pools.{Agrees}

@@ -1,13 +1,13 @@
 //! Which zone a tag has, how many pages it wants, and how its zone grows.
 
 ghost use Rattle.std.specs.Prelude.{◌≡◌, ◌==◌, ◌||◌, ◌<◌, ◌≤◌, IfOk, OnErr, length, slice_get};
-ghost use Rattle.busdma_base.specs.Bounce.Growth.{most_pages, wanted_by_tag, wanted_for};
+ghost use Rattle.busdma_machine.specs.Bounce.Growth.{most_pages, wanted_by_tag, wanted_for};
 ghost use Rattle.bounce_hub.specs.Growing.{IsPlace, Grows, place_for, serves, pages_of, maps_of};
 ghost use Rattle.bounce_hub.specs.Pools.{Stays};
 
 use crate::hub_zone::HubZone;
 use crate::pool::Pool;
-use busdma_base::{TagLimits, ZoneId};
+use busdma_machine::{TagLimits, ZoneId};
 use std::alloc::{AllocError, Global};
 
 /// The bytes of a page.

@@ -1,13 +1,13 @@
 //! The hub: the bounce zones that all lanes share, and all holds so far.
 
 ghost use Rattle.std.specs.Prelude.{◌≡◌, [], IfOk, length, slice_get};
-ghost use Rattle.busdma_base.specs.Bounce.History.{IsOpening, IsSound, account_of};
+ghost use Rattle.busdma_machine.specs.Bounce.History.{IsOpening, IsSound, account_of};
 ghost use Rattle.frame_bank.specs.FrameBank.{IsBank};
 ghost use Rattle.bounce_hub.specs.Opening.{opening};
 ghost use Rattle.bounce_hub.specs.Seen.{AreCounts};
 
 use crate::pool::Pool;
-use busdma_base::{
+use busdma_machine::{
     Called, Grabbed, Grown, HoldEntry, HubCall, HubDoor, HubReply, LaneId, MapId, Pa, Page,
     PageList, TagLimits, Waiter, ZoneId, ZoneList,
 };

@@ -2,14 +2,14 @@
 
 ghost use Rattle.std.specs.Prelude.{◌≡◌, ◌+◌, ◌-◌, ◌^◌, ◌<◌, ◌≤◌, [], ◌∷◌, ◌++◌, length, take, drop, All};
 ghost use Rattle.std.specs.Prelude.{vec_capacity, IfOk, OnOk, OnErr};
-ghost use Rattle.busdma_base.specs.Bounce.AccountStep.{as_pages};
-ghost use Rattle.busdma_base.specs.Machine.PageList.{page_addresses};
-ghost use Rattle.busdma_base.specs.Bounce.Serving.{completed, left_waiting, promised};
+ghost use Rattle.busdma_machine.specs.Bounce.AccountStep.{as_pages};
+ghost use Rattle.busdma_machine.specs.Machine.PageList.{page_addresses};
+ghost use Rattle.busdma_machine.specs.Bounce.Serving.{completed, left_waiting, promised};
 ghost use Rattle.bounce_zone.specs.ZonePages.{free_pages, no_pages, reserving, handing_out, taking_back};
 ghost use Rattle.bounce_hub.specs.HubZones.{counts_of, room_after};
 
 use bounce_zone::Zone;
-use busdma_base::{MapId, Pa, PaList, Page, PageList, ZoneCounts, ZoneId};
+use busdma_machine::{MapId, Pa, PaList, Page, PageList, ZoneCounts, ZoneId};
 use std::alloc::{AllocError, Global};
 use wait_list::{ReadyList, WaitList};
 

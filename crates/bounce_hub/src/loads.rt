@@ -1,15 +1,15 @@
 //! Pages for loads: they are grabbed, released, and handed out with callbacks.
 
 ghost use Rattle.std.specs.Prelude.{◌≡◌, ◌+◌, ◌^◌, ◌<◌, ◌≤◌, IfOk, IfSome, IfNone, OnErr};
-ghost use Rattle.busdma_base.specs.declared.bounce.hold.HubCall.TheVariants.{Grab, Release, TakeCallback};
-ghost use Rattle.busdma_base.specs.declared.bounce.hold.HubReply.TheVariants.{Served, Called as CalledFor};
-ghost use Rattle.busdma_base.specs.Bounce.AccountStep.{as_pages};
-ghost use Rattle.busdma_base.specs.Bounce.Door.{grab_reply};
-ghost use Rattle.busdma_base.specs.Machine.PageList.{page_address, page_addresses};
+ghost use Rattle.busdma_machine.specs.declared.bounce.hold.HubCall.TheVariants.{Grab, Release, TakeCallback};
+ghost use Rattle.busdma_machine.specs.declared.bounce.hold.HubReply.TheVariants.{Served, Called as CalledFor};
+ghost use Rattle.busdma_machine.specs.Bounce.AccountStep.{as_pages};
+ghost use Rattle.busdma_machine.specs.Bounce.Door.{grab_reply};
+ghost use Rattle.busdma_machine.specs.Machine.PageList.{page_address, page_addresses};
 ghost use Rattle.bounce_hub.specs.Pools.{Allowed, Steps, Stays, Missed};
 
 use crate::pool::Pool;
-use busdma_base::{Called, Grabbed, HubReply, LaneId, MapId, PaList, Page, ZoneId};
+use busdma_machine::{Called, Grabbed, HubReply, LaneId, MapId, PaList, Page, ZoneId};
 use std::alloc::{AllocError, Global};
 
 impl Pool {

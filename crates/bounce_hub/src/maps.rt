@@ -1,13 +1,13 @@
 //! The first allocation of a tag, and the making and the end of a map.
 
 ghost use Rattle.std.specs.Prelude.{◌≡◌, ◌+◌, ◌^◌, ◌<◌, ◌≤◌, IfOk, OnErr};
-ghost use Rattle.busdma_base.specs.declared.bounce.hold.HubCall.TheVariants.{AttachTag, CreateMap, DestroyMap};
-ghost use Rattle.busdma_base.specs.declared.bounce.hold.HubReply.TheVariants.{Nothing, Grown as GrownBy};
+ghost use Rattle.busdma_machine.specs.declared.bounce.hold.HubCall.TheVariants.{AttachTag, CreateMap, DestroyMap};
+ghost use Rattle.busdma_machine.specs.declared.bounce.hold.HubReply.TheVariants.{Nothing, Grown as GrownBy};
 ghost use Rattle.bounce_hub.specs.Pools.{Allowed, Steps, Stays};
 
 use crate::growth::{is_made, number_of, place_for, wanted_by_tag};
 use crate::pool::Pool;
-use busdma_base::{Grown, LaneId, MapId, TagLimits, ZoneId};
+use busdma_machine::{Grown, LaneId, MapId, TagLimits, ZoneId};
 use std::alloc::{AllocError, Global};
 
 impl Pool {

@@ -2,14 +2,14 @@
 
 ghost use Rattle.std.specs.Prelude.{◌≡◌, ◌==◌, ℕ, count_by, ◌+◌, ◌^◌, ◌<◌, ◌≤◌, IfOk, IfSome, OnErr, length};
 ghost use Rattle.std.specs.Prelude.{slice_index_or};
-ghost use Rattle.busdma_base.specs.declared.bounce.hold.HubCall.TheVariants.{MemAlloc};
-ghost use Rattle.busdma_base.specs.Bounce.Door.{IsRow, memory_reply};
-ghost use Rattle.busdma_base.specs.Machine.PageList.{page_addresses};
+ghost use Rattle.busdma_machine.specs.declared.bounce.hold.HubCall.TheVariants.{MemAlloc};
+ghost use Rattle.busdma_machine.specs.Bounce.Door.{IsRow, memory_reply};
+ghost use Rattle.busdma_machine.specs.Machine.PageList.{page_addresses};
 ghost use Rattle.frame_bank.specs.FrameBank.{put_pages};
 ghost use Rattle.bounce_hub.specs.Pools.{Allowed, Steps, Stays, Returns, StepsBack};
 
 use crate::pool::Pool;
-use busdma_base::{HubReply, MapId, Pa, PageList, TagLimits};
+use busdma_machine::{HubReply, MapId, Pa, PageList, TagLimits};
 use frame_bank::FrameBank;
 use std::alloc::{AllocError, Global};
 

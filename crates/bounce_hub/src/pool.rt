@@ -6,7 +6,7 @@ ghost use Rattle.bounce_hub.specs.Pools.{Agrees};
 ghost use Rattle.bounce_hub.specs.HubZones.{HaveCounts};
 
 use crate::hub_zone::HubZone;
-use busdma_base::ZoneList;
+use busdma_machine::ZoneList;
 use frame_bank::FrameBank;
 use std::alloc::{AllocError, Global};
 use wait_list::ReadyList;

@@ -5,21 +5,21 @@ use Rattle.std.specs.List.{All}
 use Rattle.std.specs.Prelude.{Option, Some, None, Result, IfOk, MatchOption}
 use Rattle.std.proofs.lemmas.List.{append-nil}
 use Rattle.std.proofs.lemmas.List.Elements.{All-head}
-use Rattle.busdma_base.specs.declared.machine.address.Pa.{Pa}
-use Rattle.busdma_base.specs.declared.name.MapId.{MapId}
-use Rattle.busdma_base.specs.declared.name.ZoneId.{ZoneId}
-use Rattle.busdma_base.specs.declared.bounce.zone.Waiter.{Waiter}
-use Rattle.busdma_base.specs.declared.bounce.hold.HubCall.{HubCall}
-use Rattle.busdma_base.specs.declared.bounce.hold.HubCall.TheVariants.{Release, TakeCallback}
-use Rattle.busdma_base.specs.declared.bounce.hold.HubReply.{HubReply}
-use Rattle.busdma_base.specs.declared.bounce.hold.HubReply.TheVariants.{Nothing, Called}
-use Rattle.busdma_base.specs.declared.bounce.hold.HoldEntry.{HoldEntry}
-use Rattle.busdma_base.specs.Bounce.Account.{Account, zone_at}
-use Rattle.busdma_base.specs.Bounce.AccountStep.{Outcome, account_step, called_from, as_pages}
-use Rattle.busdma_base.specs.Bounce.Conditions.{MayCall}
-use Rattle.busdma_base.specs.Bounce.Door.{Allows, Passes, Holds, Misses, Fails}
-use Rattle.busdma_base.specs.Bounce.History.{account_of, after_entry}
-use Rattle.busdma_base.specs.Bounce.Serving.{handed}
+use Rattle.busdma_machine.specs.declared.machine.address.Pa.{Pa}
+use Rattle.busdma_machine.specs.declared.name.MapId.{MapId}
+use Rattle.busdma_machine.specs.declared.name.ZoneId.{ZoneId}
+use Rattle.busdma_machine.specs.declared.bounce.zone.Waiter.{Waiter}
+use Rattle.busdma_machine.specs.declared.bounce.hold.HubCall.{HubCall}
+use Rattle.busdma_machine.specs.declared.bounce.hold.HubCall.TheVariants.{Release, TakeCallback}
+use Rattle.busdma_machine.specs.declared.bounce.hold.HubReply.{HubReply}
+use Rattle.busdma_machine.specs.declared.bounce.hold.HubReply.TheVariants.{Nothing, Called}
+use Rattle.busdma_machine.specs.declared.bounce.hold.HoldEntry.{HoldEntry}
+use Rattle.busdma_machine.specs.Bounce.Account.{Account, zone_at}
+use Rattle.busdma_machine.specs.Bounce.AccountStep.{Outcome, account_step, called_from, as_pages}
+use Rattle.busdma_machine.specs.Bounce.Conditions.{MayCall}
+use Rattle.busdma_machine.specs.Bounce.Door.{Allows, Passes, Holds, Misses, Fails}
+use Rattle.busdma_machine.specs.Bounce.History.{account_of, after_entry}
+use Rattle.busdma_machine.specs.Bounce.Serving.{handed}
 use Rattle.bounce_hub.specs.Seen.{HubSeen, door}
 use Rattle.bounce_hub_tests.specs.Pairs.{IsPair}
 

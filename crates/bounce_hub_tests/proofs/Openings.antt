@@ -5,8 +5,8 @@ use Rattle.std.specs.List.{All, AllPairs}
 use Rattle.std.proofs.lemmas.Bool.{and_parts, ltb-true, leb-true}
 use Rattle.std.proofs.lemmas.List.Elements.{All-nil, All-cons, All-weaker}
 use Rattle.std.proofs.lemmas.List.Kept.{AllPairs-cons}
-use Rattle.busdma_base.specs.Bounce.Account.{Account, fresh_account}
-use Rattle.busdma_base.specs.Bounce.History.{IsRising, IsSound, account_of}
+use Rattle.busdma_machine.specs.Bounce.Account.{Account, fresh_account}
+use Rattle.busdma_machine.specs.Bounce.History.{IsRising, IsSound, account_of}
 use Rattle.frame_bank.specs.FrameBank.{Bank, free_frames}
 use Rattle.bounce_hub.specs.Opening.{opening}
 use Rattle.bounce_hub.specs.Seen.{HubSeen}

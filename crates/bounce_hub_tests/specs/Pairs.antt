@@ -1,7 +1,7 @@
 -- A hub beside the plain account.
 use Rattle.std.specs.Prelude.{◌≡◌}
-use Rattle.busdma_base.specs.Bounce.Account.{Account}
-use Rattle.busdma_base.specs.Bounce.History.{IsSound, account_of}
+use Rattle.busdma_machine.specs.Bounce.Account.{Account}
+use Rattle.busdma_machine.specs.Bounce.History.{IsSound, account_of}
 use Rattle.bounce_hub.specs.Seen.{HubSeen}
 
 -- the account is that of the hub's history, which is sound

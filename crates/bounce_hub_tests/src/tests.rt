@@ -8,7 +8,7 @@ mod random_calls;
 mod small_table;
 mod told;
 
-use busdma_base::{HubCall, LaneId, MapId, Pa, TagLimits, ZoneId};
+use busdma_machine::{HubCall, LaneId, MapId, Pa, TagLimits, ZoneId};
 
 fn map_of(lane: u32, made_at: u32) -> MapId {
     MapId {

@@ -4,9 +4,9 @@ use Rattle.std.proofs.Common.{arith}
 use Rattle.std.proofs.lemmas.Bool.{le-leb}
 use Rattle.std.proofs.lemmas.List.{drop_more, take_more, length-drop}
 use Rattle.std.proofs.lemmas.List.Sums.{sum_by-cons}
-use Rattle.busdma_base.specs.Machine.Page.{FrameBytes}
-use Rattle.busdma_base.specs.Bounce.Growth.{frames_below}
-use Rattle.busdma_base.specs.Machine.PageList.{page_address, page_addresses}
+use Rattle.busdma_machine.specs.Machine.Page.{FrameBytes}
+use Rattle.busdma_machine.specs.Bounce.Growth.{frames_below}
+use Rattle.busdma_machine.specs.Machine.PageList.{page_address, page_addresses}
 
 -- the first i, and the rest, where the rest begins with p
 pub next_of : {X : Type 0} (xs ys : List X) (i : ℕ) (p : X) → drop i xs ≡ p ∷ ys →

@@ -1,7 +1,7 @@
 //! A zone over a small bank; expected values are worked out by hand.
 
 use crate::Zone;
-use busdma_base::{Pa, PageList, ZoneCounts};
+use busdma_machine::{Pa, PageList, ZoneCounts};
 use frame_bank::FrameBank;
 use std::alloc::{AllocError, Global};
 use std::process::Abort;

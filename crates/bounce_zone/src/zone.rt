@@ -2,12 +2,12 @@
 
 ghost use Rattle.std.specs.Prelude.{◌≡◌, ◌+◌, ◌-◌, ◌^◌, ◌<◌, ◌≤◌, min, [], ◌∷◌, ◌++◌, length, take, drop, IfOk, OnErr};
 ghost use Rattle.std.specs.VecDeque.{deque_capacity};
-ghost use Rattle.busdma_base.specs.Bounce.Growth.{frames_below};
+ghost use Rattle.busdma_machine.specs.Bounce.Growth.{frames_below};
 ghost use Rattle.frame_bank.specs.FrameBank.{free_frames};
 ghost use Rattle.bounce_zone.specs.ZonePages.{free_pages, total_pages, zone_counts};
 ghost use Rattle.bounce_zone.specs.ZonePages.{no_pages, reserving, handing_out, taking_back};
 
-use busdma_base::{Pa, Page, PageList, ZoneCounts};
+use busdma_machine::{Pa, Page, PageList, ZoneCounts};
 use frame_bank::FrameBank;
 use std::alloc::{AllocError, Global};
 use std::collections::VecDeque;

@@ -1,7 +1,10 @@
 pub mod Buffers
+pub mod FrameRuns
 pub mod Limits
 pub mod Names
+pub mod Opening
 pub mod Operations
+pub mod PageRuns
 pub mod Script
 pub mod Valid
 pub mod Words

@@ -3,7 +3,7 @@ use Rattle.std.proofs.Common.{◌≡◌, ℕ, ◌/◌, ◌^◌, ◌<◌, ◌==�
 use Rattle.std.proofs.Common.{arith}
 use Rattle.std.specs.Prelude.{◌||◌}
 use Rattle.std.specs.List.{AllByRecursion, list_any}
-use Rattle.busdma_base.specs.declared.machine.address.Segment.{Segment}
+use Rattle.busdma_machine.specs.declared.machine.address.Segment.{Segment}
 use Rattle.phys_memory.specs.Memory.{Memory, has_frame}
 use Rattle.phys_memory.proofs.RunParts.{all_drop, all_take}
 use Rattle.segment_build.specs.Segmentation.{segment_bytes}

@@ -1,7 +1,7 @@
 -- Which bytes an access of a device has, and where they are.
 use Rattle.std.specs.Prelude.{◌≡◌, ℕ, ◌/◌, ◌^◌, ◌<◌, ◌==◌, ◌||◌, true, List, take, drop}
 use Rattle.std.specs.List.{list_any}
-use Rattle.busdma_base.specs.declared.machine.address.Segment.{Segment}
+use Rattle.busdma_machine.specs.declared.machine.address.Segment.{Segment}
 use Rattle.phys_memory.specs.Memory.{Memory, has_frame}
 use Rattle.segment_build.specs.Segmentation.{segment_bytes}
 

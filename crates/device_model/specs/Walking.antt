@@ -1,6 +1,6 @@
 -- What the private steps of an access do; no public clause cites them.
 use Rattle.std.specs.Prelude.{ℕ, ◌^◌, ◌<◌, List, [], ◌∷◌, drop}
-use Rattle.busdma_base.specs.declared.machine.address.Segment.{Segment}
+use Rattle.busdma_machine.specs.declared.machine.address.Segment.{Segment}
 use Rattle.segment_build.specs.Segmentation.{segment_bytes}
 use Rattle.device_model.specs.declared.cursor.Cursor.{Cursor}
 

@@ -1,11 +1,11 @@
 //! The way through the segments of a load.
 
 ghost use Rattle.std.specs.Prelude.{◌≡◌, ◌<◌, ◌≤◌, ◌++◌, drop, length};
-ghost use Rattle.busdma_base.specs.Runs.{IsExtent, run_of};
+ghost use Rattle.busdma_machine.specs.Runs.{IsExtent, run_of};
 ghost use Rattle.segment_build.specs.Segmentation.{segment_bytes};
 ghost use Rattle.device_model.specs.Walking.{BeginsLow, rest_of};
 
-use busdma_base::{Extent, Pa, Segment};
+use busdma_machine::{Extent, Pa, Segment};
 
 /// A place among the bytes of segments: so many bytes behind the begin of one of them.
 #[derive(Drop)]

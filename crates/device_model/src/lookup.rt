@@ -2,9 +2,9 @@
 
 ghost use Rattle.std.specs.Prelude.{◌≡◌, ◌<◌, ◌==◌, true, length, slice_index};
 ghost use Rattle.std.specs.List.{list_any};
-ghost use Rattle.busdma_base.specs.Machine.PageList.{frames_of};
+ghost use Rattle.busdma_machine.specs.Machine.PageList.{frames_of};
 
-use busdma_base::Page;
+use busdma_machine::Page;
 
 /// The place of the page of a frame. It is looked for at `near` first, where the pages of a load's
 /// next bytes mostly are.

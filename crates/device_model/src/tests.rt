@@ -1,11 +1,11 @@
 //! Accesses of a device to a load; expected bytes are worked out by hand.
 
 ghost use Rattle.std.specs.Prelude.{◌≡◌, ◌+◌, ◌%◌, ◌^◌, ◌<◌, ◌≤◌, true, false, [], ◌∷◌, length};
-ghost use Rattle.busdma_base.specs.Machine.PageList.{frames_of};
+ghost use Rattle.busdma_machine.specs.Machine.PageList.{frames_of};
 ghost use Rattle.phys_memory.specs.Memory.{has_frame};
 
 use crate::{bus_read, bus_write};
-use busdma_base::{Pa, Page, Segment, Va};
+use busdma_machine::{Pa, Page, Segment, Va};
 use phys_memory::LanePages;
 use std::alloc::Global;
 use std::process::Abort;

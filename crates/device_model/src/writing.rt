@@ -2,9 +2,9 @@
 
 ghost use Rattle.std.specs.Prelude.{◌≡◌, ◌+◌, ◌%◌, ◌≤◌, length};
 ghost use Rattle.std.specs.List.{AllByRecursion};
-ghost use Rattle.busdma_base.specs.Machine.PageList.{frames_of};
-ghost use Rattle.busdma_base.specs.Machine.Wire.{put, with_bytes_of};
-ghost use Rattle.busdma_base.specs.Runs.{run_of};
+ghost use Rattle.busdma_machine.specs.Machine.PageList.{frames_of};
+ghost use Rattle.busdma_machine.specs.Machine.Wire.{put, with_bytes_of};
+ghost use Rattle.busdma_machine.specs.Runs.{run_of};
 ghost use Rattle.phys_memory.specs.Frames.{AreApart, SamePages};
 ghost use Rattle.phys_memory.specs.Memory.{wire};
 ghost use Rattle.segment_build.specs.Obeying.{segments_bytes};
@@ -12,7 +12,7 @@ ghost use Rattle.device_model.specs.Access.{IsThere, bus_range};
 
 use crate::cursor::Cursor;
 use crate::lookup::page_of;
-use busdma_base::{Pa, Page, Segment};
+use busdma_machine::{Pa, Page, Segment};
 use phys_memory::LanePages;
 
 /// Writes bytes at the bus addresses of a load's bytes, from its byte `off` on.

@@ -1,7 +1,7 @@
 -- How a map holds what contracts see of it.
 use Rattle.dma_map.specs.declared.map.Held.{Held}
 use Rattle.dma_map.specs.declared.map.Held.TheVariants.{Idle, Waiting, Loaded, Lent, Returning}
-use Rattle.busdma_base.specs.Machine.PageList.{frames_of}
+use Rattle.busdma_machine.specs.Machine.PageList.{frames_of}
 use Rattle.dma_map.specs.MapView.{Stage, idle, waiting, loaded, lent, returning}
 
 -- what it holds, by what is stored

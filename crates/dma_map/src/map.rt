@@ -2,7 +2,7 @@
 
 ghost use Rattle.std.specs.Prelude.{◌≡◌, true, false, Some, None};
 ghost use Rattle.dma_map.specs.declared.state.MapState.TheVariants.{Idle, Waiting, Loaded, Returning};
-ghost use Rattle.busdma_base.specs.Machine.PageList.{frames_of};
+ghost use Rattle.busdma_machine.specs.Machine.PageList.{frames_of};
 ghost use Rattle.dma_map.specs.MapView.{idle, waiting, loaded, state_of, waiting_load, chunks_of, segments_of};
 ghost use Rattle.dma_map.specs.MapView.{pages_of, lent_frames, with_pages, without_pages, left_by};
 

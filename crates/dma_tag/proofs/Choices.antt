@@ -2,7 +2,7 @@
 use Rattle.std.proofs.Common.{◌≡◌, ◌≢◌, ℕ, ◌≤◌, min, max, sym, subst, inl, inr, arith}
 use Rattle.std.proofs.lemmas.Bool.{cases_eq, cases_lt}
 use Rattle.std.proofs.lemmas.Bool.Decides.{nat_tests}
-use Rattle.busdma_base.specs.Tags.Tag.{least_boundary}
+use Rattle.busdma_machine.specs.Tags.Tag.{least_boundary}
 
 -- the greater of two is one of them
 pub either_max : (P : ℕ → Type 0) (a b : ℕ) → P a → P b → P (max a b)

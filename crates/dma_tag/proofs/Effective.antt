@@ -6,9 +6,9 @@ use Rattle.std.proofs.lemmas.Bool.Decides.{nat_tests}
 use Rattle.std.proofs.lemmas.Nat.{pow_pos}
 use Rattle.std.specs.Bool.{Decides}
 use Rattle.std.specs.Int.{IsPowerOfTwo}
-use Rattle.busdma_base.specs.declared.tags.tag.TagLimits.{TagLimits}
-use Rattle.busdma_base.specs.Tags.Tag.{IsAccepted, IsEffective, is_accepted, is_power_of_two, is_alignment}
-use Rattle.busdma_base.specs.Tags.Tag.{is_boundary, segment_limit, rounded, inherit}
+use Rattle.busdma_machine.specs.declared.tags.tag.TagLimits.{TagLimits}
+use Rattle.busdma_machine.specs.Tags.Tag.{IsAccepted, IsEffective, is_accepted, is_power_of_two, is_alignment}
+use Rattle.busdma_machine.specs.Tags.Tag.{is_boundary, segment_limit, rounded, inherit}
 use Rattle.dma_tag.proofs.Choices.{either_max, either_min, either_boundary}
 use Rattle.dma_tag.proofs.Powers.{is_power_of_two_decides}
 

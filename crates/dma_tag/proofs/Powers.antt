@@ -9,7 +9,7 @@ use Rattle.std.specs.Bool.{Decides}
 use Rattle.std.specs.Int.{IsPowerOfTwo}
 use Rattle.std.specs.Int.RustNames.{count_ones}
 use lib.Count.{ones_step}
-use Rattle.busdma_base.specs.Tags.Tag.{is_power_of_two}
+use Rattle.busdma_machine.specs.Tags.Tag.{is_power_of_two}
 
 twice_power : (n : ℕ) → n % 2 ≡ 0 → IsPowerOfTwo (n / 2) → IsPowerOfTwo n
 twice_power n even (k, e) = (suc k, omega (arith, pow-suc 2 k))

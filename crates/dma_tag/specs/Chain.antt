@@ -1,7 +1,7 @@
 -- Chains of tags, in which each is the child of the one before it. The law is this project's own.
 use Rattle.std.specs.Prelude.{◌≡◌, ◌≢◌, ◌-◌, ◌≤◌, ℕ, List, map, length, All, Contains, slice_index_or}
-use Rattle.busdma_base.specs.declared.tags.tag.TagLimits.{TagLimits}
-use Rattle.busdma_base.specs.Tags.Tag.{frame_end, segment_limit}
+use Rattle.busdma_machine.specs.declared.tags.tag.TagLimits.{TagLimits}
+use Rattle.busdma_machine.specs.Tags.Tag.{frame_end, segment_limit}
 
 -- The number is in the list, and none is greater.
 pub record IsGreatest (xs : List ℕ) (x : ℕ) : Type 0 where

@@ -1,10 +1,10 @@
 //! How the limits of a tag are rounded, and narrowed by those of its parent.
 
 ghost use Rattle.std.specs.Prelude.{◌≡◌, ◌↔◌, IfSome, IsSome};
-ghost use Rattle.busdma_base.specs.Tags.Tag as tag;
-ghost use Rattle.busdma_base.specs.Tags.Tag.{IsAccepted, IsEffective};
+ghost use Rattle.busdma_machine.specs.Tags.Tag as tag;
+ghost use Rattle.busdma_machine.specs.Tags.Tag.{IsAccepted, IsEffective};
 
-use busdma_base::{Pa, TagLimits};
+use busdma_machine::{Pa, TagLimits};
 
 /// The bytes of a frame.
 pub(crate) const FRAME: u64 = 4096;

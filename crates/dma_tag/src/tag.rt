@@ -2,12 +2,12 @@
 
 ghost use Rattle.std.specs.Prelude.{◌≡◌, ◌↔◌, ◌∷◌, All, IsErr, IsOk, IsNone, IfOk, Some};
 ghost use Rattle.std.specs.Option.{option_copied};
-ghost use Rattle.busdma_base.specs.Tags.Tag.{IsAccepted, IsEffective, effective, excluded, could_bounce, needs_bounce};
+ghost use Rattle.busdma_machine.specs.Tags.Tag.{IsAccepted, IsEffective, effective, excluded, could_bounce, needs_bounce};
 ghost use Rattle.dma_tag.specs.Chain.{IsNarrowest, IsOwn, last_of};
 
 use crate::einval::Einval;
 use crate::limits::{FRAME, inherit, normal};
-use busdma_base::{Pa, TagLimits};
+use busdma_machine::{Pa, TagLimits};
 use std::marker::Model;
 
 /// A tag of bus_dma(9), seen by contracts as its effective limits: its own, narrowed by those of
@@ -18,8 +18,8 @@ pub struct Tag {
 }
 
 impl Model for Tag {
-    ghost use Rattle.busdma_base.specs.declared.tags.tag.TagLimits.{TagLimits};
-    ghost use Rattle.busdma_base.specs.Tags.Tag.{IsEffective};
+    ghost use Rattle.busdma_machine.specs.declared.tags.tag.TagLimits.{TagLimits};
+    ghost use Rattle.busdma_machine.specs.Tags.Tag.{IsEffective};
 
     ghost Value = { TagLimits };
 

@@ -1,7 +1,7 @@
 //! The flags of a tag.
 
 ghost use Rattle.std.specs.Prelude.{⊤};
-ghost use Rattle.busdma_base.specs.Tags.TagFlags.{tag_table};
+ghost use Rattle.busdma_machine.specs.Tags.TagFlags.{tag_table};
 
 use bitflags::{Flag, Flags, bitflag_items};
 

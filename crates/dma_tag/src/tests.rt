@@ -4,7 +4,7 @@ ghost use Rattle.std.specs.Prelude.{◌≡◌, ◌∷◌, [], false, true, codes
 
 use crate::{Einval, LoadFlags, MemFlags, SyncOps, Tag, TagFlags};
 use bitflags::Flags;
-use busdma_base::{Pa, TagLimits};
+use busdma_machine::{Pa, TagLimits};
 use std::alloc::AllocError;
 
 /// Limits that ask for nothing.

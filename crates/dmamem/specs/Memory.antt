@@ -1,6 +1,6 @@
 -- The bytes of dmamem memories. Where they lie is this project's own.
 use Rattle.std.specs.Prelude.{ℕ, ◌+◌, ◌<◌, ◌≤◌}
-use Rattle.busdma_base.specs.Machine.PageRuns.{pages_end}
+use Rattle.busdma_machine.specs.Machine.VirtualPages.{pages_end}
 use Rattle.dmamem.specs.declared.memory.Memory.{Memory}
 
 -- the virtual address of a memory's byte at a physical one: those of memories begin where those of pages end

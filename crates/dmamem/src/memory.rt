@@ -1,10 +1,10 @@
 //! How many frames a memory has, where the driver finds it, and which bytes are its own.
 
 ghost use Rattle.std.specs.Prelude.{◌≡◌, ◌+◌, ◌^◌, ◌<◌, ◌↔◌, IsTrue};
-ghost use Rattle.busdma_base.specs.Bounce.MemoryRuns.{frames_for};
+ghost use Rattle.busdma_machine.specs.Bounce.MemoryRuns.{frames_for};
 ghost use Rattle.dmamem.specs.Memory.{virtual_of};
 
-use busdma_base::{MapId, Pa, TagLimits, Va};
+use busdma_machine::{MapId, Pa, TagLimits, Va};
 
 /// Where the virtual addresses of memories begin.
 const BEGIN: u64 = 0xffff_f800_0000_0000;

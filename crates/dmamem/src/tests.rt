@@ -1,7 +1,7 @@
 //! Memories; expected values are worked out by hand.
 
 use crate::{Memory, frames_for, va_of};
-use busdma_base::{LaneId, MapId, Pa, TagLimits, Va};
+use busdma_machine::{LaneId, MapId, Pa, TagLimits, Va};
 
 fn frames(maxsize: u64) -> u64 {
     frames_for(&TagLimits {

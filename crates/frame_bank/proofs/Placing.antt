@@ -6,10 +6,10 @@ use Rattle.std.proofs.lemmas.Bool.{ltb-true, ltb-false, leb-true, leb-false, lt-
 use Rattle.std.proofs.lemmas.Bool.Decides.{nat_tests}
 use Rattle.std.proofs.lemmas.List.{get_or_default, get_or-drop, drop_more, length-drop}
 use Rattle.std.proofs.lemmas.List.Elements.{All-nil, All-cons, All-head, All-tail}
-use Rattle.busdma_base.specs.Machine.Page.{FrameBytes}
-use Rattle.busdma_base.specs.Bounce.History.{IsRising}
-use Rattle.busdma_base.specs.Bounce.MemoryRuns.{put_in}
-use Rattle.busdma_base.specs.Machine.PageList.{page_address, page_addresses}
+use Rattle.busdma_machine.specs.Machine.Page.{FrameBytes}
+use Rattle.busdma_machine.specs.Bounce.History.{IsRising}
+use Rattle.busdma_machine.specs.Bounce.MemoryRuns.{put_in}
+use Rattle.busdma_machine.specs.Machine.PageList.{page_address, page_addresses}
 use Rattle.frame_bank.specs.FrameBank.{Bank, free_frames, fresh_page, put_page, put_pages}
 use Rattle.frame_bank.proofs.Counted.{weight, count_by-cons, count_by-map, count_by-front}
 use Rattle.frame_bank.proofs.Rising.{AreRising, above_lower}

@@ -6,10 +6,10 @@ use Rattle.std.proofs.lemmas.Bool.{eqb-true, ne_eqb, and_right, and_parts, false
 use Rattle.std.proofs.lemmas.Bool.Decides.{nat_tests}
 use Rattle.std.proofs.lemmas.List.Elements.{All-cons, All-head, All-weaker}
 use Rattle.std.proofs.lemmas.List.{get_or-map, get_or_read, get_or-drop, drop-map, drop_more, length-drop, length-map}
-use Rattle.busdma_base.specs.Machine.Page.{FrameBytes}
-use Rattle.busdma_base.specs.Bounce.History.{IsRising}
-use Rattle.busdma_base.specs.Bounce.MemoryRuns.{frames_for, follow, crosses_none, begins_run, lowest_run}
-use Rattle.busdma_base.specs.Machine.PageList.{page_address, page_addresses}
+use Rattle.busdma_machine.specs.Machine.Page.{FrameBytes}
+use Rattle.busdma_machine.specs.Bounce.History.{IsRising}
+use Rattle.busdma_machine.specs.Bounce.MemoryRuns.{frames_for, follow, crosses_none, begins_run, lowest_run}
+use Rattle.busdma_machine.specs.Machine.PageList.{page_address, page_addresses}
 use Rattle.frame_bank.proofs.Rising.{AreRising, rising_pages, rising_drop}
 
 -- each page is at or above a frame

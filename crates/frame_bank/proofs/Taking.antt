@@ -7,10 +7,10 @@ use Rattle.std.proofs.lemmas.Bool.{false≢true}
 use Rattle.std.proofs.lemmas.List.{take-append-drop, take-append-le, drop-append-le, drop-drop, take_at, drop_at}
 use Rattle.std.proofs.lemmas.List.{length-drop, length-take-le, length-append, length-map, drop-map}
 use Rattle.std.proofs.lemmas.List.Elements.{All-head, All-tail, All-weaker, All-append, All-take, All-drop}
-use Rattle.busdma_base.specs.Machine.Page.{FrameBytes}
-use Rattle.busdma_base.specs.Bounce.History.{IsRising}
-use Rattle.busdma_base.specs.Bounce.MemoryRuns.{frames_for, follow, crosses_none, begins_run, frames_from}
-use Rattle.busdma_base.specs.Machine.PageList.{page_address, page_addresses}
+use Rattle.busdma_machine.specs.Machine.Page.{FrameBytes}
+use Rattle.busdma_machine.specs.Bounce.History.{IsRising}
+use Rattle.busdma_machine.specs.Bounce.MemoryRuns.{frames_for, follow, crosses_none, begins_run, frames_from}
+use Rattle.busdma_machine.specs.Machine.PageList.{page_address, page_addresses}
 use Rattle.frame_bank.specs.FrameBank.{is_in_run}
 use Rattle.frame_bank.proofs.Rising.{AreRising, rising_pages, rising_drop, rising_below}
 use Rattle.frame_bank.proofs.Runs.{AreFrom, from_next, from_place, no_page, address_at, follow-long, begins_run-at}

@@ -2,10 +2,10 @@
 use Rattle.std.specs.Prelude.{ℕ, ◌^◌, ◌<◌, ◌≤◌, Bool, not, List, [], ◌∷◌, length, replicate, Option, Some, None}
 use Rattle.std.specs.Prelude.{nat_lt, if◌then◌else◌}
 use Rattle.std.specs.List.{All, filter}
-use Rattle.busdma_base.specs.Machine.Page.{FrameBytes}
-use Rattle.busdma_base.specs.Bounce.History.{IsRising}
-use Rattle.busdma_base.specs.Bounce.MemoryRuns.{in_run, frames_in, frames_but}
-use Rattle.busdma_base.specs.Machine.PageList.{page_address, page_addresses}
+use Rattle.busdma_machine.specs.Machine.Page.{FrameBytes}
+use Rattle.busdma_machine.specs.Bounce.History.{IsRising}
+use Rattle.busdma_machine.specs.Bounce.MemoryRuns.{in_run, frames_in, frames_but}
+use Rattle.busdma_machine.specs.Machine.PageList.{page_address, page_addresses}
 
 -- the pages of the free frames, rising, and how many there is room for
 pub record Bank : Type 0 where

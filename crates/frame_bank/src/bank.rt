@@ -3,16 +3,16 @@
 ghost use Rattle.std.specs.Prelude.{◌≡◌, ◌≢◌, ◌==◌, ◌+◌, ◌*◌, ◌^◌, ◌<◌, ◌≤◌, [], ◌∷◌, length, map, option_map};
 ghost use Rattle.std.specs.Prelude.{count_by, IfOk, OnOk, OnErr, IfSome, IfNone};
 ghost use Rattle.std.specs.List.{All, AllPairs};
-ghost use Rattle.busdma_base.specs.Bounce.Growth.{frames_below};
-ghost use Rattle.busdma_base.specs.Bounce.History.{IsRising};
-ghost use Rattle.busdma_base.specs.Bounce.MemoryRuns.{frames_for, frames_from, lowest_run, put_in};
-ghost use Rattle.busdma_base.specs.Machine.PageList.{page_address, page_addresses};
+ghost use Rattle.busdma_machine.specs.Bounce.Growth.{frames_below};
+ghost use Rattle.busdma_machine.specs.Bounce.History.{IsRising};
+ghost use Rattle.busdma_machine.specs.Bounce.MemoryRuns.{frames_for, frames_from, lowest_run, put_in};
+ghost use Rattle.busdma_machine.specs.Machine.PageList.{page_address, page_addresses};
 ghost use Rattle.frame_bank.specs.FrameBank.{IsBank, free_frames, fresh_page, put_page, put_pages, run_frames};
 ghost use Rattle.frame_bank.specs.FrameBank.{frames_left, run_pages, pages_left};
 
 use crate::run;
 use crate::run::Wish;
-use busdma_base::{Pa, Page, PageList};
+use busdma_machine::{Pa, Page, PageList};
 use std::alloc::{AllocError, Global};
 use std::collections::VecDeque;
 use std::marker::Model;

@@ -2,11 +2,11 @@
 
 ghost use Rattle.std.specs.Prelude.{◌≡◌, ◌+◌, ◌<◌, ◌≤◌, length, drop, nat_le, Some, None, MatchOption, slice_index};
 ghost use Rattle.std.specs.Prelude.{true};
-ghost use Rattle.busdma_base.specs.Bounce.History.{IsRising};
-ghost use Rattle.busdma_base.specs.Bounce.MemoryRuns.{frames_for, follow, crosses_none, begins_run, lowest_run};
-ghost use Rattle.busdma_base.specs.Machine.PageList.{page_address, page_addresses};
+ghost use Rattle.busdma_machine.specs.Bounce.History.{IsRising};
+ghost use Rattle.busdma_machine.specs.Bounce.MemoryRuns.{frames_for, follow, crosses_none, begins_run, lowest_run};
+ghost use Rattle.busdma_machine.specs.Machine.PageList.{page_address, page_addresses};
 
-use busdma_base::{Pa, Page};
+use busdma_machine::{Pa, Page};
 use std::collections::VecDeque;
 
 /// A wish for memory: `len` bytes that cross no multiple of the boundary, where 0 is none, in

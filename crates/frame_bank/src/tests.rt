@@ -3,7 +3,7 @@
 ghost use Rattle.std.specs.Prelude.{◌≡◌, IfOk};
 
 use crate::FrameBank;
-use busdma_base::{Pa, PageList};
+use busdma_machine::{Pa, PageList};
 use std::alloc::{AllocError, Global};
 use std::test::Fail;
 

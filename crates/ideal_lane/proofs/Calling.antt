@@ -3,9 +3,9 @@ use Rattle.std.proofs.Common.{◌≡◌, ℕ, ◌+◌, ◌≤◌, ◌==◌, ◌&
 use Rattle.std.proofs.Common.{Some, None, refl, ap, sym, subst, arith, nat_le, slice_get}
 use Rattle.std.proofs.lemmas.Bool.Decides.{nat_tests}
 use Rattle.std.specs.FinMap.{get, insert}
-use Rattle.busdma_base.specs.declared.bounce.hold.HubCall.TheVariants as call
-use Rattle.busdma_base.specs.declared.bounce.hold.HubReply.{HubReply}
-use Rattle.busdma_base.specs.declared.bounce.hold.HubReply.TheVariants as reply
+use Rattle.busdma_machine.specs.declared.bounce.hold.HubCall.TheVariants as call
+use Rattle.busdma_machine.specs.declared.bounce.hold.HubReply.{HubReply}
+use Rattle.busdma_machine.specs.declared.bounce.hold.HubReply.TheVariants as reply
 use Rattle.busdma_base.specs.declared.journals.journal.Side.{Side}
 use Rattle.lane_agreement.specs.View as view
 use Rattle.lane_tables.specs.declared.queued.QueuedItem.{QueuedItem}
@@ -27,9 +27,9 @@ use Rattle.ideal_lane.proofs.Endings.{fitting, too_big, bounced_in, segments_of}
 use Rattle.ideal_lane.proofs.Openings.{opens-standing}
 use Rattle.ideal_lane.proofs.Standings.{turn-stands}
 use Rattle.ideal_lane.proofs.Weights.{weigh, weigh-new, weigh-put, weigh-cut, weigh-empty}
-use Rattle.busdma_base.specs.declared.bounce.hold.HubCall.{HubCall}
-use Rattle.busdma_base.specs.declared.name.MapId.{MapId}
-use Rattle.busdma_base.specs.declared.machine.address.Pa.{Pa}
+use Rattle.busdma_machine.specs.declared.bounce.hold.HubCall.{HubCall}
+use Rattle.busdma_machine.specs.declared.name.MapId.{MapId}
+use Rattle.busdma_machine.specs.declared.machine.address.Pa.{Pa}
 
 abbrev one : Bool → ℕ
 one b = if b then 1 else 0

@@ -3,12 +3,12 @@ use Rattle.std.proofs.Common.{◌≡◌, ℕ, zero, suc, ◌+◌, ◌||◌, not,
 use Rattle.std.proofs.Common.{refl, ap, sym, ◌∙◌, arith, take, drop, Some, None}
 use Rattle.std.proofs.lemmas.Bool.Decides.{nat_tests}
 use Rattle.std.specs.FinMap.{get, contains_key}
-use Rattle.busdma_base.specs.declared.machine.chunk.Chunk.{Chunk}
-use Rattle.busdma_base.specs.declared.machine.chunk.Entry.{Entry}
-use Rattle.busdma_base.specs.declared.tags.tag.TagLimits.{TagLimits}
-use Rattle.busdma_base.specs.Machine.Entry.{entry_addresses}
-use Rattle.busdma_base.specs.Runs.{byte_count}
-use Rattle.busdma_base.specs.Tags.Tag.{could_bounce}
+use Rattle.busdma_machine.specs.declared.machine.chunk.Chunk.{Chunk}
+use Rattle.busdma_machine.specs.declared.machine.chunk.Entry.{Entry}
+use Rattle.busdma_machine.specs.declared.tags.tag.TagLimits.{TagLimits}
+use Rattle.busdma_machine.specs.Machine.Entry.{entry_addresses}
+use Rattle.busdma_machine.specs.Runs.{byte_count}
+use Rattle.busdma_machine.specs.Tags.Tag.{could_bounce}
 use Rattle.segment_build.specs.Chunks.{chunk_limit, chunk_of, chunks_within, chunks_of_bytes, chunks_from, bounced_of}
 use Rattle.segment_build.specs.Chunks.{need_of}
 use Rattle.ideal_lane.specs.State.{LaneState, LaneTag, LaneMap}

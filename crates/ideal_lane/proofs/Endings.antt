@@ -1,10 +1,10 @@
 -- How a load ends that has its pages: with its segments, or with too many.
 use Rattle.std.specs.Prelude.{ℕ, Bool, List, length, nat_le}
 use Rattle.busdma_base.specs.declared.journals.answer.Answer.TheVariants.{Segments, Refused}
-use Rattle.busdma_base.specs.declared.journals.report.Errno.TheVariants.{EFBIG}
-use Rattle.busdma_base.specs.declared.machine.address.Segment.{Segment}
-use Rattle.busdma_base.specs.declared.machine.chunk.Chunk.{Chunk}
-use Rattle.busdma_base.specs.Bounce.AccountStep.{as_pages}
+use Rattle.busdma_machine.specs.declared.report.Errno.TheVariants.{EFBIG}
+use Rattle.busdma_machine.specs.declared.machine.address.Segment.{Segment}
+use Rattle.busdma_machine.specs.declared.machine.chunk.Chunk.{Chunk}
+use Rattle.busdma_machine.specs.Bounce.AccountStep.{as_pages}
 use Rattle.segment_build.specs.Building.{tag_placed, placed_pieces}
 use Rattle.segment_build.specs.Chunks.{bounced_of}
 use Rattle.segment_build.specs.Segmentation.{segmentation}

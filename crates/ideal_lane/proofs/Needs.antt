@@ -4,17 +4,17 @@ use Rattle.std.proofs.Common.{length, refl, ap, sym, ◌∙◌, arith, drop, Opt
 use Rattle.std.proofs.lemmas.List.{length-append}
 use Rattle.std.proofs.lemmas.List.Sums.{sum_by-cons}
 use Rattle.std.specs.Option.{option_map, option_map_or}
-use Rattle.busdma_base.specs.declared.machine.bio.Bio.{Bio}
-use Rattle.busdma_base.specs.declared.machine.chunk.Chunk.{Chunk}
-use Rattle.busdma_base.specs.declared.machine.chunk.Entry.{Entry}
-use Rattle.busdma_base.specs.declared.machine.address.Extent.{Extent}
-use Rattle.busdma_base.specs.declared.machine.address.Span.{Span}
+use Rattle.busdma_machine.specs.declared.machine.bio.Bio.{Bio}
+use Rattle.busdma_machine.specs.declared.machine.chunk.Chunk.{Chunk}
+use Rattle.busdma_machine.specs.declared.machine.chunk.Entry.{Entry}
+use Rattle.busdma_machine.specs.declared.machine.address.Extent.{Extent}
+use Rattle.busdma_machine.specs.declared.machine.address.Span.{Span}
 use Rattle.busdma_base.specs.declared.scenarios.buffer.Buffer.{Buffer}
 use Rattle.busdma_base.specs.declared.scenarios.buffer.Buffer.TheVariants as buffer
-use Rattle.busdma_base.specs.declared.tags.tag.TagLimits.{TagLimits}
-use Rattle.busdma_base.specs.Machine.Entry.{entry_addresses, entries_addresses}
-use Rattle.busdma_base.specs.Machine.Spans.{bio_spans, span_bytes}
-use Rattle.busdma_base.specs.Runs.{addresses, byte_count, run_of}
+use Rattle.busdma_machine.specs.declared.tags.tag.TagLimits.{TagLimits}
+use Rattle.busdma_machine.specs.Machine.Entry.{entry_addresses, entries_addresses}
+use Rattle.busdma_machine.specs.Machine.Spans.{bio_spans, span_bytes}
+use Rattle.busdma_machine.specs.Runs.{addresses, byte_count, run_of}
 use Rattle.busdma_base.specs.Scenarios.Buffers.{buffer_bytes}
 use Rattle.load_bio.specs.Bio.{is_rounded}
 use Rattle.phys_memory.specs.Extents.{extents_of, with_byte, reached, then_reached}

@@ -11,12 +11,12 @@ use Rattle.std.specs.Ordering.{nat_cmp}
 use Rattle.busdma_base.specs.declared.scenarios.scenario.Driver.{Driver}
 use Rattle.busdma_base.specs.declared.scenarios.scenario.PageRun.{PageRun}
 use Rattle.busdma_base.specs.declared.scenarios.scenario.Scenario.{Scenario}
-use Rattle.busdma_base.specs.Bounce.History.{IsOpening}
-use Rattle.busdma_base.specs.Bounce.Opening.{opening, maxmem_of, is_owned, free_below}
-use Rattle.busdma_base.specs.Bounce.Places.{times}
-use Rattle.busdma_base.specs.Machine.FrameRuns.{is_in}
-use Rattle.busdma_base.specs.Machine.PageRuns.{is_own}
-use Rattle.busdma_base.proofs.Accounts.Counting.{count_by-append}
+use Rattle.busdma_machine.specs.Bounce.History.{IsOpening}
+use Rattle.busdma_base.specs.Scenarios.Opening.{opening, maxmem_of, is_owned, free_below}
+use Rattle.busdma_machine.specs.Bounce.Places.{times}
+use Rattle.busdma_base.specs.Scenarios.FrameRuns.{is_in}
+use Rattle.busdma_base.specs.Scenarios.PageRuns.{is_own}
+use Rattle.busdma_machine.proofs.Accounts.Counting.{count_by-append}
 use Rattle.lane_agreement.proofs.Whole.{agrees-opening}
 use Rattle.lane_agreement.specs.Agreement.{Agrees}
 use Rattle.ideal_lane.specs.State.{LaneMap}

@@ -2,10 +2,10 @@
 use Rattle.std.proofs.Common.{◌≡◌, ℕ, ◌+◌, ◌-◌, Bool, true, false, Option, Some, None, if◌then◌else◌, refl, nat_le}
 use Rattle.std.specs.FinMap.{get}
 use Rattle.busdma_base.specs.declared.journals.answer.Answer.TheVariants as answer
-use Rattle.busdma_base.specs.declared.journals.report.Judged.{Judged}
-use Rattle.busdma_base.specs.declared.journals.report.Judged.TheVariants.{Fine, Refused}
-use Rattle.busdma_base.specs.declared.journals.report.Report.{Report}
-use Rattle.busdma_base.specs.declared.journals.report.ReportName.TheVariants.{Absent, MapBusy, NotLoaded, PastEnd}
+use Rattle.busdma_machine.specs.declared.report.Judged.{Judged}
+use Rattle.busdma_machine.specs.declared.report.Judged.TheVariants.{Fine, Refused}
+use Rattle.busdma_machine.specs.declared.report.Report.{Report}
+use Rattle.busdma_machine.specs.declared.report.ReportName.TheVariants.{Absent, MapBusy, NotLoaded, PastEnd}
 use Rattle.ideal_lane.specs.State.{LaneState, LaneMap}
 use Rattle.ideal_lane.specs.Asking.{Asking}
 use Rattle.ideal_lane.specs.Outcomes.{Outcome, gives, refused, unless_absent, unless_refused, unless_busy}

@@ -2,7 +2,7 @@
 use Rattle.std.specs.Prelude.{ℕ, List, map, length}
 use Rattle.busdma_base.specs.declared.journals.answer.Answer.TheVariants.{Done, Bytes}
 use Rattle.busdma_base.specs.declared.scenarios.script.Place.{Place}
-use Rattle.busdma_base.specs.Runs.{run_of}
+use Rattle.busdma_machine.specs.Runs.{run_of}
 use Rattle.loan_table.specs.Access.{cpu_read_answer, cpu_write_answer, dev_read_answer, dev_write_answer}
 use Rattle.loan_table.specs.Loans.{loan_of, load_bytes}
 use Rattle.ideal_lane.specs.IdealMemory.{is_known, value, written}

@@ -1,8 +1,8 @@
 -- How a driver and the account of all drivers agree, and what a step makes of that.
 use Rattle.std.specs.Prelude.{ℕ}
-use Rattle.busdma_base.specs.Bounce.Account.{Account}
-use Rattle.busdma_base.specs.Bounce.AccountStep.{Outcome, account_step}
-use Rattle.busdma_base.specs.Bounce.Conditions.{MayCall}
+use Rattle.busdma_machine.specs.Bounce.Account.{Account}
+use Rattle.busdma_machine.specs.Bounce.AccountStep.{Outcome, account_step}
+use Rattle.busdma_machine.specs.Bounce.Conditions.{MayCall}
 use Rattle.lane_agreement.specs.Agreement.{Agrees}
 use Rattle.ideal_lane.specs.State.{LaneState}
 use Rattle.ideal_lane.specs.Asking.{Asking, Gives, Asks}

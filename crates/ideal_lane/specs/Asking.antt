@@ -1,8 +1,8 @@
 -- A step as a value: it gives what it makes at once, or it makes one call under the bounce lock and goes on with the
 -- reply. So a step without a call neither reads nor changes what all drivers share.
 use Rattle.std.specs.Prelude.{Option, Some, None}
-use Rattle.busdma_base.specs.declared.bounce.hold.HubCall.{HubCall}
-use Rattle.busdma_base.specs.declared.bounce.hold.HubReply.{HubReply}
+use Rattle.busdma_machine.specs.declared.bounce.hold.HubCall.{HubCall}
+use Rattle.busdma_machine.specs.declared.bounce.hold.HubReply.{HubReply}
 
 pub data Asking (X : Type 0) : Type 0 where
   Gives : X → Asking X

@@ -1,13 +1,13 @@
 -- Making and ending maps, and waiting for them.
 use Rattle.std.specs.Prelude.{ℕ, true, false, Option, Some, None, if◌then◌else◌}
 use Rattle.std.specs.FinMap.{get, insert, remove}
-use Rattle.busdma_base.specs.declared.bounce.hold.HubCall.TheVariants.{CreateMap, DestroyMap}
-use Rattle.busdma_base.specs.declared.bounce.hold.HubReply.{HubReply}
-use Rattle.busdma_base.specs.declared.bounce.hold.HubReply.TheVariants as reply
+use Rattle.busdma_machine.specs.declared.bounce.hold.HubCall.TheVariants.{CreateMap, DestroyMap}
+use Rattle.busdma_machine.specs.declared.bounce.hold.HubReply.{HubReply}
+use Rattle.busdma_machine.specs.declared.bounce.hold.HubReply.TheVariants as reply
 use Rattle.busdma_base.specs.declared.journals.answer.Answer.TheVariants.{Done, Grown, Refused}
-use Rattle.busdma_base.specs.declared.journals.report.Errno.TheVariants.{EBUSY, ENOMEM}
-use Rattle.busdma_base.specs.declared.journals.report.ReportName.TheVariants.{NotDeferred}
-use Rattle.busdma_base.specs.Tags.Tag.{could_bounce}
+use Rattle.busdma_machine.specs.declared.report.Errno.TheVariants.{EBUSY, ENOMEM}
+use Rattle.busdma_machine.specs.declared.report.ReportName.TheVariants.{NotDeferred}
+use Rattle.busdma_machine.specs.Tags.Tag.{could_bounce}
 use Rattle.ideal_lane.specs.State.{LaneState, LaneTag, Idle, named}
 use Rattle.ideal_lane.specs.Asking.{Asking, Asks}
 use Rattle.ideal_lane.specs.Outcomes.{Outcome, gives, refused, unless_absent, is_idle}

@@ -1,13 +1,13 @@
 -- Making and ending dmamem memories: after bus_dmamem_alloc(9).
 use Rattle.std.specs.Prelude.{ℕ, Bool, false, None, if◌then◌else◌}
 use Rattle.std.specs.FinMap.{get, insert, remove}
-use Rattle.busdma_base.specs.declared.bounce.hold.HubCall.TheVariants.{MemAlloc, MemFree}
-use Rattle.busdma_base.specs.declared.bounce.hold.HubReply.{HubReply}
-use Rattle.busdma_base.specs.declared.bounce.hold.HubReply.TheVariants as reply
+use Rattle.busdma_machine.specs.declared.bounce.hold.HubCall.TheVariants.{MemAlloc, MemFree}
+use Rattle.busdma_machine.specs.declared.bounce.hold.HubReply.{HubReply}
+use Rattle.busdma_machine.specs.declared.bounce.hold.HubReply.TheVariants as reply
 use Rattle.busdma_base.specs.declared.journals.answer.Answer.TheVariants.{Done, Placed, Refused}
-use Rattle.busdma_base.specs.declared.journals.report.Errno.TheVariants.{EBUSY, ENOMEM}
-use Rattle.busdma_base.specs.declared.tags.tag.TagLimits.{TagLimits}
-use Rattle.busdma_base.specs.Bounce.MemoryRuns.{in_run}
+use Rattle.busdma_machine.specs.declared.report.Errno.TheVariants.{EBUSY, ENOMEM}
+use Rattle.busdma_machine.specs.declared.tags.tag.TagLimits.{TagLimits}
+use Rattle.busdma_machine.specs.Bounce.MemoryRuns.{in_run}
 use Rattle.dma_tag.specs.MemFlags.{zero_filled, coherent}
 use Rattle.ideal_lane.specs.IdealMemory.{Known, Unknown, joined, parted}
 use Rattle.ideal_lane.specs.State.{LaneState, LaneMemory, Idle, named}

@@ -3,7 +3,7 @@ use Rattle.std.specs.Prelude.{ℕ, List, [], Some, None, if◌then◌else◌}
 use Rattle.std.specs.FinMap as finmap
 use Rattle.busdma_base.specs.declared.scenarios.scenario.Driver.{Driver}
 use Rattle.busdma_base.specs.declared.scenarios.scenario.PageRun.{PageRun}
-use Rattle.busdma_base.specs.Machine.PageRuns.{is_own}
+use Rattle.busdma_base.specs.Scenarios.PageRuns.{is_own}
 use Rattle.ideal_lane.specs.IdealMemory.{IdealMemory, Known}
 use Rattle.ideal_lane.specs.State.{LaneState}
 

@@ -3,12 +3,13 @@ use Rattle.std.specs.Prelude.{ℕ, ◌+◌, ◌-◌, Bool, ◌&&◌, List, Optio
 use Rattle.std.specs.FinMap.{entries, get}
 use Rattle.std.specs.List.{list_any}
 use Rattle.std.specs.Option.{option_map}
-use Rattle.busdma_base.specs.declared.journals.report.Judged.{Judged}
+use Rattle.busdma_machine.specs.declared.report.Judged.{Judged}
 use Rattle.busdma_base.specs.declared.scenarios.script.Place.{Place}
 use Rattle.busdma_base.specs.declared.scenarios.script.Place.TheVariants.{At, In}
-use Rattle.busdma_base.specs.Journals.Judging.{judged}
-use Rattle.busdma_base.specs.Machine.PageRuns.{pages_end, physical_in}
-use Rattle.busdma_base.specs.Runs.{run_of}
+use Rattle.busdma_machine.specs.Judging.{judged}
+use Rattle.busdma_machine.specs.Machine.VirtualPages.{pages_end}
+use Rattle.busdma_base.specs.Scenarios.PageRuns.{physical_in}
+use Rattle.busdma_machine.specs.Runs.{run_of}
 use Rattle.dmamem.specs.Memory.{virtual_of}
 use Rattle.phys_memory.specs.Translation.{Translation, unreached, physical_or_0}
 use Rattle.ideal_lane.specs.State.{LaneState, LaneMemory}

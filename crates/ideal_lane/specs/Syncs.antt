@@ -3,8 +3,8 @@ use Rattle.std.specs.Prelude.{ℕ, ◌+◌, ◌-◌, ◌^◌, ◌==◌, Bool, �
 use Rattle.std.specs.Prelude.{max, min, nat_lt}
 use Rattle.std.specs.List.{list_any}
 use Rattle.busdma_base.specs.declared.journals.answer.Answer.TheVariants.{Done}
-use Rattle.busdma_base.specs.declared.journals.report.ReportName.TheVariants.{MixedSync}
-use Rattle.busdma_base.specs.declared.machine.chunk.Chunk.{Chunk}
+use Rattle.busdma_machine.specs.declared.report.ReportName.TheVariants.{MixedSync}
+use Rattle.busdma_machine.specs.declared.machine.chunk.Chunk.{Chunk}
 use Rattle.dma_tag.specs.SyncOps.{is_mixed, prewrite, postread}
 use Rattle.loan_table.specs.Lending.{sync_answer, synced, lost}
 use Rattle.segment_build.specs.Trace.{chunk_len}

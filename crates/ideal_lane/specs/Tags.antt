@@ -2,14 +2,14 @@
 use Rattle.std.specs.Prelude.{ℕ, ◌==◌, Bool, true, false, ◌&&◌, Option, Some, None, if◌then◌else◌}
 use Rattle.std.specs.FinMap.{get, insert, remove, entries}
 use Rattle.std.specs.List.{list_any}
-use Rattle.busdma_base.specs.declared.bounce.hold.HubCall.TheVariants.{AttachTag}
-use Rattle.busdma_base.specs.declared.bounce.hold.HubReply.{HubReply}
-use Rattle.busdma_base.specs.declared.bounce.hold.HubReply.TheVariants as reply
+use Rattle.busdma_machine.specs.declared.bounce.hold.HubCall.TheVariants.{AttachTag}
+use Rattle.busdma_machine.specs.declared.bounce.hold.HubReply.{HubReply}
+use Rattle.busdma_machine.specs.declared.bounce.hold.HubReply.TheVariants as reply
 use Rattle.busdma_base.specs.declared.journals.answer.Answer.TheVariants.{Done, Grown, Refused}
-use Rattle.busdma_base.specs.declared.journals.report.Errno.TheVariants.{EINVAL, EBUSY, ENOMEM}
-use Rattle.busdma_base.specs.declared.tags.tag.TagLimits.{TagLimits}
-use Rattle.busdma_base.specs.Tags.Tag.{effective, could_bounce}
-use Rattle.busdma_base.specs.Tags.TagFlags.{allocnow}
+use Rattle.busdma_machine.specs.declared.report.Errno.TheVariants.{EINVAL, EBUSY, ENOMEM}
+use Rattle.busdma_machine.specs.declared.tags.tag.TagLimits.{TagLimits}
+use Rattle.busdma_machine.specs.Tags.Tag.{effective, could_bounce}
+use Rattle.busdma_machine.specs.Tags.TagFlags.{allocnow}
 use Rattle.ideal_lane.specs.State.{LaneState}
 use Rattle.ideal_lane.specs.Asking.{Asking, Asks}
 use Rattle.ideal_lane.specs.Outcomes.{Outcome, gives, unless_absent}

@@ -1,11 +1,11 @@
 -- What of a driver's state the account of all drivers bears on.
 use Rattle.std.specs.Prelude.{ℕ, List, Option, Some, None}
 use Rattle.std.specs.FinMap.{get}
-use Rattle.busdma_base.specs.Bounce.MemoryRuns.{frames_from}
+use Rattle.busdma_machine.specs.Bounce.MemoryRuns.{frames_from}
 use Rattle.lane_agreement.specs.View.{View, OwnMap}
 use Rattle.lane_agreement.specs.View as view
 use Rattle.ideal_lane.specs.State.{LaneState, LaneMap, LaneMemory, Stage, Idle, Waiting, Loaded, Returning}
-use Rattle.busdma_base.specs.Machine.PageRuns.{is_own}
+use Rattle.busdma_base.specs.Scenarios.PageRuns.{is_own}
 
 -- where a map stands, by its need and its pages alone
 abbrev pub stage_of : Stage → view.Stage

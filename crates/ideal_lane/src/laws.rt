@@ -1,12 +1,12 @@
 //! Laws of the ideal driver.
 
 ghost use Rattle.std.specs.Prelude.{◌≡◌, ◌≤◌, ◌+◌, ℕ, List, Some, length, slice_get};
-ghost use Rattle.busdma_base.specs.declared.bounce.hold.HubReply.{HubReply};
+ghost use Rattle.busdma_machine.specs.declared.bounce.hold.HubReply.{HubReply};
 ghost use Rattle.busdma_base.specs.declared.journals.journal.Side.{Side};
 ghost use Rattle.busdma_base.specs.declared.scenarios.scenario.Driver.{Driver};
 ghost use Rattle.busdma_base.specs.declared.scenarios.scenario.Scenario.{Scenario};
-ghost use Rattle.busdma_base.specs.Bounce.Account.{Account};
-ghost use Rattle.busdma_base.specs.Bounce.Opening.{maxmem_of, opening};
+ghost use Rattle.busdma_machine.specs.Bounce.Account.{Account};
+ghost use Rattle.busdma_base.specs.Scenarios.Opening.{maxmem_of, opening};
 ghost use Rattle.busdma_base.specs.Scenarios.Valid.{IsValid};
 ghost use Rattle.lane_agreement.specs.Agreement.{IsFit};
 ghost use Rattle.lane_tables.specs.Queues.{item_count};

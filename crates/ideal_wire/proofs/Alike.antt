@@ -3,13 +3,13 @@ use mathlib.Core.Logic.{∥∥₁_map}
 use Rattle.std.proofs.Common.{◌≡◌, ◌≢◌, ℕ, false, List, Option, Some, None, is_some, inl, inr}
 use Rattle.std.proofs.Common.{refl, ap, sym, ◌∙◌, subst}
 use Rattle.std.specs.FinMap.{get}
-use Rattle.busdma_base.specs.declared.machine.address.Segment.{Segment}
-use Rattle.busdma_base.specs.declared.machine.chunk.Chunk.{Chunk}
-use Rattle.busdma_base.specs.Machine.PageRuns.{is_own}
-use Rattle.busdma_base.specs.Machine.Spans.{bio_spans}
-use Rattle.busdma_base.specs.Machine.Wire.{buses}
+use Rattle.busdma_machine.specs.declared.machine.address.Segment.{Segment}
+use Rattle.busdma_machine.specs.declared.machine.chunk.Chunk.{Chunk}
+use Rattle.busdma_base.specs.Scenarios.PageRuns.{is_own}
+use Rattle.busdma_machine.specs.Machine.Spans.{bio_spans}
+use Rattle.busdma_machine.specs.Machine.Wire.{buses}
 use Rattle.busdma_base.specs.Scenarios.Buffers.{IsBioOf}
-use Rattle.busdma_base.specs.Tags.Tag.{excluded}
+use Rattle.busdma_machine.specs.Tags.Tag.{excluded}
 use Rattle.load_bio.specs.Bio.{is_rounded}
 use Rattle.loan_table.specs.declared.position.Position.{Position}
 use Rattle.loan_table.specs.Loans.{loan_of, addresses_of}

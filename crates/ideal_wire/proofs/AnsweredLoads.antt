@@ -4,30 +4,30 @@ use Rattle.std.proofs.Common.{Some, None, is_some, refl, ap, sym, ◌∙◌, sub
 use Rattle.std.proofs.lemmas.Bool.{eqb-true}
 use Rattle.std.specs.FinMap.{get, contains_key}
 use Rattle.std.specs.List.{AllByRecursion}
-use Rattle.busdma_base.specs.declared.bounce.hold.HubReply.TheVariants.{Called, Nothing}
-use Rattle.busdma_base.specs.declared.bounce.zone.Waiter.{Waiter}
+use Rattle.busdma_machine.specs.declared.bounce.hold.HubReply.TheVariants.{Called, Nothing}
+use Rattle.busdma_machine.specs.declared.bounce.zone.Waiter.{Waiter}
 use Rattle.busdma_base.specs.declared.journals.answer.Answer.{Answer}
 use Rattle.busdma_base.specs.declared.journals.answer.Answer.TheVariants as answer
-use Rattle.busdma_base.specs.declared.journals.report.Errno.TheVariants.{EFBIG}
-use Rattle.busdma_base.specs.declared.journals.report.Judged.TheVariants.{Fine}
-use Rattle.busdma_base.specs.declared.machine.address.Pa.{Pa}
-use Rattle.busdma_base.specs.declared.machine.address.Segment.{Segment}
-use Rattle.busdma_base.specs.declared.machine.bio.Bio.{Bio}
-use Rattle.busdma_base.specs.declared.machine.chunk.Chunk.{Chunk}
-use Rattle.busdma_base.specs.declared.name.MapId.{MapId}
+use Rattle.busdma_machine.specs.declared.report.Errno.TheVariants.{EFBIG}
+use Rattle.busdma_machine.specs.declared.report.Judged.TheVariants.{Fine}
+use Rattle.busdma_machine.specs.declared.machine.address.Pa.{Pa}
+use Rattle.busdma_machine.specs.declared.machine.address.Segment.{Segment}
+use Rattle.busdma_machine.specs.declared.machine.bio.Bio.{Bio}
+use Rattle.busdma_machine.specs.declared.machine.chunk.Chunk.{Chunk}
+use Rattle.busdma_machine.specs.declared.name.MapId.{MapId}
 use Rattle.busdma_base.specs.declared.scenarios.script.Item.{Item}
-use Rattle.busdma_base.specs.declared.tags.tag.TagLimits.{TagLimits}
-use Rattle.busdma_base.specs.Bounce.Account.{Account, zone_at}
-use Rattle.busdma_base.specs.Bounce.AccountStep.{Outcome as CallOutcome, as_pages, called_from}
-use Rattle.busdma_base.specs.Bounce.EachFrame.{EachFrame}
-use Rattle.busdma_base.specs.Bounce.Growth.{serves_tag}
-use Rattle.busdma_base.specs.Bounce.History.{IsFrame}
-use Rattle.busdma_base.specs.Bounce.LowPages.{PagesLieLow}
-use Rattle.busdma_base.specs.Bounce.Serving.{handed}
-use Rattle.busdma_base.specs.Machine.PageRuns.{physical_in}
-use Rattle.busdma_base.specs.Machine.Spans.{bio_spans, span_bytes}
-use Rattle.busdma_base.specs.Machine.Wire.{buffers, buses}
-use Rattle.busdma_base.specs.Runs.{run_of}
+use Rattle.busdma_machine.specs.declared.tags.tag.TagLimits.{TagLimits}
+use Rattle.busdma_machine.specs.Bounce.Account.{Account, zone_at}
+use Rattle.busdma_machine.specs.Bounce.AccountStep.{Outcome as CallOutcome, as_pages, called_from}
+use Rattle.busdma_machine.specs.Bounce.EachFrame.{EachFrame}
+use Rattle.busdma_machine.specs.Bounce.Growth.{serves_tag}
+use Rattle.busdma_machine.specs.Bounce.History.{IsFrame}
+use Rattle.busdma_machine.specs.Bounce.LowPages.{PagesLieLow}
+use Rattle.busdma_machine.specs.Bounce.Serving.{handed}
+use Rattle.busdma_base.specs.Scenarios.PageRuns.{physical_in}
+use Rattle.busdma_machine.specs.Machine.Spans.{bio_spans, span_bytes}
+use Rattle.busdma_machine.specs.Machine.Wire.{buffers, buses}
+use Rattle.busdma_machine.specs.Runs.{run_of}
 use Rattle.busdma_base.specs.Scenarios.Buffers.{IsBioOf}
 use Rattle.lane_agreement.specs.View as view
 use Rattle.lane_agreement.proofs.Places.{head-waits, waits-tells}

@@ -3,11 +3,11 @@ use Rattle.std.proofs.Common.{◌≡◌, ℕ, ◌+◌, ◌*◌, ◌/◌, ◌%◌
 use Rattle.std.proofs.Common.{Option, Some, None, slice_get, refl, ap, subst, arith, nat_le, nat_lt}
 use Rattle.std.proofs.lemmas.Bool.{and_parts, leb-true, ltb-true, le-leb, lt-ltb}
 use Rattle.std.specs.List.{AllByRecursion}
-use Rattle.busdma_base.specs.declared.machine.bio.Bio.{Bio}
-use Rattle.busdma_base.specs.declared.machine.bio.Bio.TheVariants.{Mapped, Vector, Unmapped}
+use Rattle.busdma_machine.specs.declared.machine.bio.Bio.{Bio}
+use Rattle.busdma_machine.specs.declared.machine.bio.Bio.TheVariants.{Mapped, Vector, Unmapped}
 use Rattle.busdma_base.specs.declared.scenarios.scenario.PageRun.{PageRun}
-use Rattle.busdma_base.specs.Machine.PageRuns.{has_frame, is_own, physical_in}
-use Rattle.busdma_base.specs.Machine.Spans.{bio_spans, span_addresses}
+use Rattle.busdma_base.specs.Scenarios.PageRuns.{has_frame, is_own, physical_in}
+use Rattle.busdma_machine.specs.Machine.Spans.{bio_spans, span_addresses}
 use Rattle.busdma_base.specs.Scenarios.Buffers.{IsBioOf}
 use Rattle.load_bio.specs.Bio.{bio_translation}
 use Rattle.load_bio.specs.Frames.{AreFrames, byte_of, in_frames}

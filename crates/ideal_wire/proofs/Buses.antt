@@ -3,8 +3,8 @@ use Rattle.std.proofs.Common.{◌≡◌, ℕ, zero, suc, ◌+◌, ◌-◌, ◌<�
 use Rattle.std.proofs.Common.{◌∷◌, map, slice_get, Some, ◌⊎◌, inl, inr, refl, sym, ap, ◌∙◌, arith, nat_le, nat_lt}
 use Rattle.std.proofs.lemmas.Bool.{and_parts, leb-true, ltb-true}
 use Rattle.std.specs.List.{AllZip}
-use Rattle.busdma_base.specs.declared.machine.chunk.Chunk.{Chunk}
-use Rattle.busdma_base.specs.Machine.Wire.{Placed}
+use Rattle.busdma_machine.specs.declared.machine.chunk.Chunk.{Chunk}
+use Rattle.busdma_machine.specs.Machine.Wire.{Placed}
 use Rattle.segment_build.specs.Trace.{chunk_len, bus_extent}
 use Rattle.ideal_wire.specs.Laid.{IsInPage}
 use Rattle.ideal_wire.specs.Traces.{has_place, bus_at, placed_from}

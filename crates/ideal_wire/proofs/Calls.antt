@@ -1,8 +1,8 @@
 -- Syncs and writes leave the wire faithful.
 use Rattle.std.proofs.Common.{ℕ, List, refl}
-use Rattle.busdma_base.specs.declared.bounce.hold.HubReply.{HubReply}
+use Rattle.busdma_machine.specs.declared.bounce.hold.HubReply.{HubReply}
 use Rattle.busdma_base.specs.declared.scenarios.script.Place.{Place}
-use Rattle.busdma_base.specs.Machine.Wire.{Wire}
+use Rattle.busdma_machine.specs.Machine.Wire.{Wire}
 use Rattle.ideal_lane.specs.Accesses.{cpu_write, dev_write}
 use Rattle.ideal_lane.specs.Asking.{Asking, by_reply, Gives, Asks}
 use Rattle.ideal_lane.specs.Outcomes.{Outcome}

@@ -6,8 +6,8 @@ use Rattle.std.proofs.lemmas.Bool.{false≢true, ne_eqb, le-leb, lt-ltb}
 use Rattle.std.proofs.lemmas.Option.{slice_get-map}
 use Rattle.std.specs.Option.{option_map}
 use Rattle.std.specs.FinMap.{get, insert, remove}
-use Rattle.busdma_base.specs.Bounce.MemoryRuns.{in_run}
-use Rattle.busdma_base.specs.Machine.Wire.{Wire, Placed}
+use Rattle.busdma_machine.specs.Bounce.MemoryRuns.{in_run}
+use Rattle.busdma_machine.specs.Machine.Wire.{Wire, Placed}
 use Rattle.loan_table.specs.declared.position.Position.{Position}
 use Rattle.loan_table.specs.Loans.{Loan, loan_of, no_loan, addresses_of, to_write, in_any_way, lent, unlent, new_loan}
 use Rattle.loan_table.specs.Lending.{lost_by_forgetting}

@@ -6,14 +6,14 @@ use Rattle.std.proofs.lemmas.Bool.{cases_lt}
 use Rattle.std.proofs.lemmas.List.{drop_all}
 use Rattle.std.specs.List.{AllByRecursion}
 use Rattle.std.specs.Option.{option_to_list}
-use Rattle.busdma_base.specs.declared.machine.address.Extent.{Extent}
-use Rattle.busdma_base.specs.declared.machine.address.Pa.{Pa}
-use Rattle.busdma_base.specs.declared.machine.chunk.Chunk.{Chunk}
-use Rattle.busdma_base.specs.declared.machine.chunk.Entry.{Entry}
-use Rattle.busdma_base.specs.declared.tags.tag.TagLimits.{TagLimits}
-use Rattle.busdma_base.specs.Machine.Entry.{AreJoined, IsEntry, entry_addresses}
-use Rattle.busdma_base.specs.Runs.{IsExtent, addresses, byte_count, run_of}
-use Rattle.busdma_base.specs.Tags.Tag.{IsEffective}
+use Rattle.busdma_machine.specs.declared.machine.address.Extent.{Extent}
+use Rattle.busdma_machine.specs.declared.machine.address.Pa.{Pa}
+use Rattle.busdma_machine.specs.declared.machine.chunk.Chunk.{Chunk}
+use Rattle.busdma_machine.specs.declared.machine.chunk.Entry.{Entry}
+use Rattle.busdma_machine.specs.declared.tags.tag.TagLimits.{TagLimits}
+use Rattle.busdma_machine.specs.Machine.Entry.{AreJoined, IsEntry, entry_addresses}
+use Rattle.busdma_machine.specs.Runs.{IsExtent, addresses, byte_count, run_of}
+use Rattle.busdma_machine.specs.Tags.Tag.{IsEffective}
 use Rattle.segment_build.specs.Building.{IsPlaceable}
 use Rattle.segment_build.specs.Chunks.{bounced_of, chunk_limit, chunk_of, chunks_from, chunks_of, chunks_of_bytes}
 use Rattle.segment_build.specs.Chunks.{chunks_within, extent_from, to_frame_end}

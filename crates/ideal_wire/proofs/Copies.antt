@@ -6,7 +6,7 @@ use Rattle.std.proofs.lemmas.Bool.{false≢true, ne_eqb}
 use Rattle.std.proofs.lemmas.Map.Views.{exact_unsigned_eq}
 use Rattle.std.specs.List.{filter}
 use Rattle.ideal_lane.specs.IdealMemory.{IdealMemory, Content, Known, Unknown, known, value, written, written_at}
-use Rattle.busdma_base.specs.Machine.Wire.{Wire, Placed, is_bounced, buffers, buses, put}
+use Rattle.busdma_machine.specs.Machine.Wire.{Wire, Placed, is_bounced, buffers, buses, put}
 use Rattle.ideal_wire.proofs.Positions.{found_one}
 
 -- the value of a byte that is Known

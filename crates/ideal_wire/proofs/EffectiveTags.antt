@@ -5,10 +5,10 @@ use Rattle.std.proofs.Common.{nat_le, nat_lt, option_map, inl, inr, div-add-mod'
 use Rattle.std.proofs.lemmas.Bool.{and_parts, or_cases, eqb-true, leb-true}
 use Rattle.std.proofs.lemmas.Bool.Decides.{nat_tests}
 use Rattle.std.specs.Int.{IsPowerOfTwo}
-use Rattle.busdma_base.specs.declared.tags.tag.TagLimits.{TagLimits}
-use Rattle.busdma_base.specs.Tags.Tag.{IsAccepted, IsEffective, is_accepted, is_alignment, is_boundary}
-use Rattle.busdma_base.specs.Tags.Tag.{is_power_of_two}
-use Rattle.busdma_base.specs.Tags.Tag.{segment_limit, rounded, inherit, effective}
+use Rattle.busdma_machine.specs.declared.tags.tag.TagLimits.{TagLimits}
+use Rattle.busdma_machine.specs.Tags.Tag.{IsAccepted, IsEffective, is_accepted, is_alignment, is_boundary}
+use Rattle.busdma_machine.specs.Tags.Tag.{is_power_of_two}
+use Rattle.busdma_machine.specs.Tags.Tag.{segment_limit, rounded, inherit, effective}
 use Rattle.dma_tag.proofs.Effective.{IsEffective-rounded, IsEffective-inherit}
 use Rattle.dma_tag.proofs.Powers.{power_of_divisor}
 use Rattle.ideal_wire.proofs.Positions.{found_one}

@@ -5,7 +5,7 @@ use Rattle.loan_table.specs.declared.position.Position.{Position}
 use Rattle.loan_table.specs.Loans.{loan_of, in_any_way}
 use Rattle.ideal_lane.specs.State.{LaneState}
 use Rattle.ideal_wire.specs.Centre.{IsAt, IsPlacedAt, IsExclusive}
-use Rattle.busdma_base.specs.Machine.Wire.{Traces, Placed}
+use Rattle.busdma_machine.specs.Machine.Wire.{Traces, Placed}
 use Rattle.ideal_wire.proofs.Placed.{ArePlaced}
 use Rattle.ideal_wire.proofs.Positions.{Twin, twin_of, found_one}
 

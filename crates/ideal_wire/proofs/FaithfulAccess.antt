@@ -4,13 +4,13 @@ use Rattle.std.proofs.Common.{slice_get, Option, Some, None, unwrap_or, ◌⊎�
 use Rattle.std.specs.Option.{option_map}
 use Rattle.std.proofs.lemmas.Bool.{false≢true}
 use Rattle.std.proofs.lemmas.Option.{slice_get-map}
-use Rattle.busdma_base.specs.declared.journals.report.Judged.TheVariants.{Fine}
-use Rattle.busdma_base.specs.declared.journals.report.ReportName.{ReportName}
-use Rattle.busdma_base.specs.declared.journals.report.ReportName.TheVariants.{CpuReadLent, CpuWriteLent}
-use Rattle.busdma_base.specs.declared.journals.report.ReportName.TheVariants.{DeviceReadUnlent, DeviceWriteUnlent}
-use Rattle.busdma_base.specs.declared.journals.report.ReportName.TheVariants.{StaleByte}
-use Rattle.busdma_base.specs.Journals.Judging.{judged}
-use Rattle.busdma_base.specs.Machine.Wire.{Wire, Traces, Placed, buffers, buses, stretch, put}
+use Rattle.busdma_machine.specs.declared.report.Judged.TheVariants.{Fine}
+use Rattle.busdma_machine.specs.declared.report.ReportName.{ReportName}
+use Rattle.busdma_machine.specs.declared.report.ReportName.TheVariants.{CpuReadLent, CpuWriteLent}
+use Rattle.busdma_machine.specs.declared.report.ReportName.TheVariants.{DeviceReadUnlent, DeviceWriteUnlent}
+use Rattle.busdma_machine.specs.declared.report.ReportName.TheVariants.{StaleByte}
+use Rattle.busdma_machine.specs.Judging.{judged}
+use Rattle.busdma_machine.specs.Machine.Wire.{Wire, Traces, Placed, buffers, buses, stretch, put}
 use Rattle.phys_memory.specs.Translation.{missing, unreached, physical_or_0}
 use Rattle.loan_table.specs.declared.position.Position.{Position}
 use Rattle.loan_table.specs.Loans.{loan_of, to_write, in_any_way, lent, addresses_of, load_bytes}

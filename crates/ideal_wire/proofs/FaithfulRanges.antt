@@ -2,14 +2,14 @@
 use Rattle.std.proofs.Common.{◌≡◌, ℕ, Bool, true, false, cond, ◌&&◌, ◌||◌, [], refl, sym, ap, ◌∙◌}
 use Rattle.std.proofs.lemmas.Bool.{false≢true}
 use Rattle.std.specs.List.{filter}
-use Rattle.busdma_base.specs.declared.journals.report.Judged.TheVariants.{Fine}
-use Rattle.busdma_base.specs.Journals.Judging.{judged}
+use Rattle.busdma_machine.specs.declared.report.Judged.TheVariants.{Fine}
+use Rattle.busdma_machine.specs.Judging.{judged}
 use Rattle.dma_tag.specs.SyncOps.{preread, prewrite, postread, postwrite, has_pre, has_post, is_mixed}
 use Rattle.loan_table.specs.Loans.{loan_of, addresses_of}
 use Rattle.loan_table.specs.Lending.{loses, sync_refusal, sync_answer}
 use Rattle.ideal_wire.proofs.Placed.{Faithful}
 use Rattle.ideal_lane.specs.IdealMemory.{forgotten}
-use Rattle.busdma_base.specs.Machine.Wire.{Wire, Traces, stretch}
+use Rattle.busdma_machine.specs.Machine.Wire.{Wire, Traces, stretch}
 use Rattle.ideal_lane.specs.State.{LaneState}
 use Rattle.ideal_wire.specs.WireStep.{copied_by}
 use Rattle.ideal_wire.proofs.FaithfulSync.{faithful_before_work, faithful_after_work}

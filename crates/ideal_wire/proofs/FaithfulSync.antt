@@ -4,9 +4,9 @@ use Rattle.std.proofs.Common.{Some, None, ◌⊎◌, inl, inr, refl, sym, ap, �
 use Rattle.std.proofs.lemmas.Bool.{false≢true}
 use Rattle.std.specs.List.{filter}
 use Rattle.std.proofs.lemmas.Map.Views.{exact_unsigned_eq}
-use Rattle.busdma_base.specs.declared.journals.report.ReportName.TheVariants.{SyncOrder, Overlap}
-use Rattle.busdma_base.specs.declared.journals.report.Judged.TheVariants.{Fine}
-use Rattle.busdma_base.specs.Journals.Judging.{judged}
+use Rattle.busdma_machine.specs.declared.report.ReportName.TheVariants.{SyncOrder, Overlap}
+use Rattle.busdma_machine.specs.declared.report.Judged.TheVariants.{Fine}
+use Rattle.busdma_machine.specs.Judging.{judged}
 use Rattle.dma_tag.specs.SyncOps.{preread, prewrite, postread, postwrite}
 use Rattle.loan_table.specs.declared.position.Position.{Position}
 use Rattle.loan_table.specs.Loans.{Loans, loan_of, to_write, to_read, in_any_way, lent, lent_elsewhere, stands_twice}
@@ -17,7 +17,7 @@ use Rattle.ideal_wire.specs.Centre.{IsAt, IsPlacedAt, Agrees, IsExclusive}
 use Rattle.ideal_wire.proofs.Placed.{ArePlaced, Faithful}
 use Rattle.ideal_lane.specs.IdealMemory.{IdealMemory, Known, forgotten}
 use Rattle.ideal_lane.specs.State.{LaneState}
-use Rattle.busdma_base.specs.Machine.Wire.{Wire, Traces, Placed, is_bounced, stretch, copied_in, copied_out}
+use Rattle.busdma_machine.specs.Machine.Wire.{Wire, Traces, Placed, is_bounced, stretch, copied_in, copied_out}
 use Rattle.ideal_wire.specs.WireStep.{copied_by}
 use Rattle.ideal_wire.proofs.Copies.{Source, copied, stayed, source_of}
 use Rattle.ideal_wire.proofs.Faithful.{written_any, read_any, place_of, position_of, same_pa, one_position, own_bus}

@@ -9,17 +9,17 @@ use Rattle.std.proofs.lemmas.List.Sums.{sum_by-cons}
 use Rattle.std.specs.Prelude.{count_by, sum_by, is_some}
 use Rattle.std.specs.FinMap.{get}
 use Rattle.std.specs.List.{AllZip}
-use Rattle.busdma_base.specs.declared.machine.chunk.Chunk.{Chunk}
-use Rattle.busdma_base.specs.declared.machine.address.Segment.{Segment}
-use Rattle.busdma_base.specs.declared.name.MapId.{MapId}
+use Rattle.busdma_machine.specs.declared.machine.chunk.Chunk.{Chunk}
+use Rattle.busdma_machine.specs.declared.machine.address.Segment.{Segment}
+use Rattle.busdma_machine.specs.declared.name.MapId.{MapId}
 use Rattle.busdma_base.specs.declared.scenarios.scenario.PageRun.{PageRun}
-use Rattle.busdma_base.specs.Bounce.Account.{Account, Held, Memory, same_map}
-use Rattle.busdma_base.specs.Bounce.Conditions.{times_held}
-use Rattle.busdma_base.specs.Bounce.MemoryRuns.{frames_from, frames_of, in_run}
-use Rattle.busdma_base.specs.Bounce.Places.{times, times_lent}
-use Rattle.busdma_base.specs.Bounce.Serving.{is_holding}
-use Rattle.busdma_base.specs.Machine.PageRuns.{is_own}
-use Rattle.busdma_base.proofs.Accounts.Counting.{count_by-append}
+use Rattle.busdma_machine.specs.Bounce.Account.{Account, Held, Memory, same_map}
+use Rattle.busdma_machine.specs.Bounce.Conditions.{times_held}
+use Rattle.busdma_machine.specs.Bounce.MemoryRuns.{frames_from, frames_of, in_run}
+use Rattle.busdma_machine.specs.Bounce.Places.{times, times_lent}
+use Rattle.busdma_machine.specs.Bounce.Serving.{is_holding}
+use Rattle.busdma_base.specs.Scenarios.PageRuns.{is_own}
+use Rattle.busdma_machine.proofs.Accounts.Counting.{count_by-append}
 use Rattle.segment_build.specs.Trace.{bus_extent}
 use Rattle.lane_agreement.specs.OwnShare.{one_if, loaded_page}
 use Rattle.lane_agreement.specs.View as view

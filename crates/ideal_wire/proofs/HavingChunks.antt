@@ -5,10 +5,10 @@ use Rattle.std.proofs.Common.{unwrap_or, arith, nat_le, nat_lt, append_assoc, eq
 use Rattle.std.proofs.lemmas.Bool.{le-leb, lt-ltb}
 use Rattle.std.proofs.lemmas.List.{take-append-le, take_all}
 use Rattle.std.specs.List.{AllByRecursion}
-use Rattle.busdma_base.specs.declared.machine.address.Pa.{Pa}
-use Rattle.busdma_base.specs.declared.machine.chunk.Chunk.{Chunk}
-use Rattle.busdma_base.specs.Machine.Wire.{Placed, is_bounced}
-use Rattle.busdma_base.specs.Runs.{run_of}
+use Rattle.busdma_machine.specs.declared.machine.address.Pa.{Pa}
+use Rattle.busdma_machine.specs.declared.machine.chunk.Chunk.{Chunk}
+use Rattle.busdma_machine.specs.Machine.Wire.{Placed, is_bounced}
+use Rattle.busdma_machine.specs.Runs.{run_of}
 use Rattle.map_sync.specs.Ranges.{placed_at, positions_of}
 use Rattle.map_sync.specs.Traces.{HasChunk, HasChunks}
 use Rattle.segment_build.specs.Chunks.{bounced_of}

@@ -3,11 +3,11 @@ use Rattle.std.proofs.Common.{◌≡◌, ℕ, ◌==◌, Bool, true, false, cond,
 use Rattle.std.proofs.Common.{unwrap_or, option_map, ◌⊎◌, inl, inr}
 use Rattle.std.proofs.lemmas.Bool.{eqb-true}
 use Rattle.std.specs.FinMap.{get, insert, remove}
-use Rattle.busdma_base.specs.declared.bounce.hold.HubCall.TheVariants as call
-use Rattle.busdma_base.specs.declared.bounce.hold.HubReply.{HubReply}
-use Rattle.busdma_base.specs.declared.bounce.hold.HubReply.TheVariants as reply
+use Rattle.busdma_machine.specs.declared.bounce.hold.HubCall.TheVariants as call
+use Rattle.busdma_machine.specs.declared.bounce.hold.HubReply.{HubReply}
+use Rattle.busdma_machine.specs.declared.bounce.hold.HubReply.TheVariants as reply
 use Rattle.busdma_base.specs.declared.journals.answer.Answer.TheVariants as answer
-use Rattle.busdma_base.specs.declared.tags.tag.TagLimits.{TagLimits}
+use Rattle.busdma_machine.specs.declared.tags.tag.TagLimits.{TagLimits}
 use Rattle.lane_agreement.specs.View.{Return}
 use Rattle.ideal_lane.specs.Loads.{emptied, limits_of, no_limits, staged, unpaged}
 use Rattle.ideal_lane.specs.Memories.{without_memory}
@@ -22,8 +22,8 @@ use Rattle.ideal_lane.proofs.Effects.{map_in, pages_in, there_in, waits_for, was
 use Rattle.ideal_lane.proofs.Lookups.{get_put, get_cut}
 use Rattle.ideal_wire.proofs.KeptTags.{KeepsTags, keeps-put, new-tag, untagged}
 use Rattle.ideal_wire.proofs.Positions.{found_one}
-use Rattle.busdma_base.specs.declared.bounce.hold.HubCall.{HubCall}
-use Rattle.busdma_base.specs.declared.bounce.zone.Grown.{Grown}
+use Rattle.busdma_machine.specs.declared.bounce.hold.HubCall.{HubCall}
+use Rattle.busdma_machine.specs.declared.bounce.zone.Grown.{Grown}
 use Rattle.busdma_base.specs.declared.scenarios.script.Op.TheVariants as op
 use Rattle.ideal_lane.specs.Maps.{with_map}
 

@@ -6,20 +6,20 @@ use Rattle.std.proofs.lemmas.Bool.{and_parts, eqb-true, false≢true, le-ltb, lt
 use Rattle.std.specs.FinMap.{get, contains_key}
 use Rattle.std.specs.List.{AllByRecursion}
 use Rattle.std.specs.Option.{option_and_then, option_map}
-use Rattle.busdma_base.specs.declared.bounce.hold.HubCall.TheVariants as call
-use Rattle.busdma_base.specs.declared.bounce.hold.HubReply.{HubReply}
-use Rattle.busdma_base.specs.declared.bounce.hold.HubReply.TheVariants as reply
+use Rattle.busdma_machine.specs.declared.bounce.hold.HubCall.TheVariants as call
+use Rattle.busdma_machine.specs.declared.bounce.hold.HubReply.{HubReply}
+use Rattle.busdma_machine.specs.declared.bounce.hold.HubReply.TheVariants as reply
 use Rattle.busdma_base.specs.declared.journals.journal.Side.{Side}
-use Rattle.busdma_base.specs.declared.machine.address.Pa.{Pa}
-use Rattle.busdma_base.specs.declared.machine.chunk.Chunk.{Chunk}
-use Rattle.busdma_base.specs.declared.name.MapId.{MapId}
-use Rattle.busdma_base.specs.Bounce.Account.{Account}
-use Rattle.busdma_base.specs.Bounce.AccountStep.{account_step, as_pages}
-use Rattle.busdma_base.specs.Bounce.EachFrame.{EachFrame}
-use Rattle.busdma_base.specs.Bounce.History.{IsFrame}
-use Rattle.busdma_base.specs.Bounce.MemoryRuns.{frames_for, in_run, lowest_run}
+use Rattle.busdma_machine.specs.declared.machine.address.Pa.{Pa}
+use Rattle.busdma_machine.specs.declared.machine.chunk.Chunk.{Chunk}
+use Rattle.busdma_machine.specs.declared.name.MapId.{MapId}
+use Rattle.busdma_machine.specs.Bounce.Account.{Account}
+use Rattle.busdma_machine.specs.Bounce.AccountStep.{account_step, as_pages}
+use Rattle.busdma_machine.specs.Bounce.EachFrame.{EachFrame}
+use Rattle.busdma_machine.specs.Bounce.History.{IsFrame}
+use Rattle.busdma_machine.specs.Bounce.MemoryRuns.{frames_for, in_run, lowest_run}
 use Rattle.busdma_base.specs.Scenarios.Buffers.{IsBioOf}
-use Rattle.busdma_base.specs.Tags.Tag.{excluded}
+use Rattle.busdma_machine.specs.Tags.Tag.{excluded}
 use Rattle.dma_tag.specs.MemFlags.{coherent, zero_filled}
 use Rattle.lane_agreement.specs.After.{addresses}
 use Rattle.lane_agreement.specs.Agreement.{IsFit}
@@ -62,7 +62,7 @@ use Rattle.ideal_wire.proofs.StillLaid.{unload-still, touches-laid, untag-still,
 use Rattle.ideal_wire.proofs.StillLaid.{unmap-still}
 use Rattle.ideal_wire.proofs.KeptTags.{put-there}
 use Rattle.ideal_wire.proofs.Waited.{waited-asked, waited-direct, waited-lies, waited-need, waited-own}
-use Rattle.busdma_base.specs.declared.bounce.hold.HubCall.{HubCall}
+use Rattle.busdma_machine.specs.declared.bounce.hold.HubCall.{HubCall}
 use Rattle.ideal_lane.proofs.Endings.{fitting, too_big}
 
 -- ---- pages as a reply has them

@@ -6,11 +6,11 @@ use Rattle.std.proofs.lemmas.Bool.{le-leb, lt-ltb, lt-leb, le-ltb}
 use Rattle.std.proofs.lemmas.List.Sums.{sum_by-cons, sum_by-append}
 use Rattle.std.specs.Prelude.{sum_by}
 use Rattle.std.specs.List.{AllByRecursion, AllZip, flat_map}
-use Rattle.busdma_base.specs.declared.machine.address.Pa.{Pa}
-use Rattle.busdma_base.specs.declared.machine.chunk.Chunk.{Chunk}
-use Rattle.busdma_base.specs.Each.{EachAfter}
-use Rattle.busdma_base.specs.Machine.Wire.{Placed, buses}
-use Rattle.busdma_base.specs.Runs.{addresses, run_of}
+use Rattle.busdma_machine.specs.declared.machine.address.Pa.{Pa}
+use Rattle.busdma_machine.specs.declared.machine.chunk.Chunk.{Chunk}
+use Rattle.busdma_machine.specs.Each.{EachAfter}
+use Rattle.busdma_machine.specs.Machine.Wire.{Placed, buses}
+use Rattle.busdma_machine.specs.Runs.{addresses, run_of}
 use Rattle.segment_build.specs.Chunks.{bounced_of, need_of}
 use Rattle.segment_build.specs.Trace.{IsPage, IsPlaced, bus_addresses, bus_extent, bus_from, bus_trace, chunk_extents}
 use Rattle.segment_build.specs.Trace.{chunk_len, first_page, in_page, page_offset, placed}

@@ -9,10 +9,10 @@ use Rattle.busdma_base.specs.declared.scenarios.scenario.Driver.{Driver}
 use Rattle.busdma_base.specs.declared.scenarios.scenario.FrameRun.{FrameRun}
 use Rattle.busdma_base.specs.declared.scenarios.scenario.PageRun.{PageRun}
 use Rattle.busdma_base.specs.declared.scenarios.scenario.Scenario.{Scenario}
-use Rattle.busdma_base.specs.Bounce.Opening.{maxmem_of}
-use Rattle.busdma_base.specs.Each.{EachAfter}
-use Rattle.busdma_base.specs.Machine.FrameRuns.{IsFrameRun, is_in}
-use Rattle.busdma_base.specs.Machine.PageRuns.{IsPageRun, all_in}
+use Rattle.busdma_base.specs.Scenarios.Opening.{maxmem_of}
+use Rattle.busdma_machine.specs.Each.{EachAfter}
+use Rattle.busdma_base.specs.Scenarios.FrameRuns.{IsFrameRun, is_in}
+use Rattle.busdma_base.specs.Scenarios.PageRuns.{IsPageRun, all_in}
 use Rattle.busdma_base.specs.Scenarios.Valid.{IsDriver, IsValid, LoadsFrom}
 use Rattle.ideal_lane.specs.Opening.{opening_lane}
 use Rattle.ideal_lane.specs.State.{LaneTag, LaneMemory}

@@ -3,12 +3,12 @@ use Rattle.std.proofs.Common.{◌≡◌, ℕ, ◌+◌, ◌*◌, ◌^◌, ◌≤�
 use Rattle.std.proofs.Common.{◌∙◌, subst}
 use Rattle.std.specs.FinMap.{get, insert, remove}
 use Rattle.std.specs.List.{AllByRecursion}
-use Rattle.busdma_base.specs.declared.bounce.hold.HubReply.{HubReply}
-use Rattle.busdma_base.specs.declared.bounce.hold.HubReply.TheVariants as reply
+use Rattle.busdma_machine.specs.declared.bounce.hold.HubReply.{HubReply}
+use Rattle.busdma_machine.specs.declared.bounce.hold.HubReply.TheVariants as reply
 use Rattle.busdma_base.specs.declared.journals.journal.Side.{Side}
-use Rattle.busdma_base.specs.declared.tags.tag.TagLimits.{TagLimits}
+use Rattle.busdma_machine.specs.declared.tags.tag.TagLimits.{TagLimits}
 use Rattle.busdma_base.specs.Scenarios.Valid.{LoadsFrom}
-use Rattle.busdma_base.specs.Tags.Tag.{IsEffective}
+use Rattle.busdma_machine.specs.Tags.Tag.{IsEffective}
 use Rattle.dma_tag.specs.MemFlags.{coherent}
 use Rattle.ideal_lane.specs.State.{LaneState, LaneTag, LaneMemory}
 use Rattle.ideal_lane.specs.Asking.{by_reply}
@@ -24,8 +24,8 @@ use Rattle.ideal_lane.proofs.Lookups.{get_put, get_cut}
 use Rattle.ideal_wire.specs.Machine.{IsOfMachine, IsInMachine}
 use Rattle.ideal_wire.specs.NewRuns.{BringsNew, IsNewRun}
 use Rattle.ideal_wire.proofs.EffectiveTags.{effective-alone, effective-below}
-use Rattle.busdma_base.specs.declared.bounce.hold.HubCall.{HubCall}
-use Rattle.busdma_base.specs.declared.machine.address.Pa.{Pa}
+use Rattle.busdma_machine.specs.declared.bounce.hold.HubCall.{HubCall}
+use Rattle.busdma_machine.specs.declared.machine.address.Pa.{Pa}
 
 -- a step that changes neither the machine nor a tag
 like-of : (k j : LaneState) → IsInMachine k → j.maxmem ≡ k.maxmem → j.pages ≡ k.pages → j.script ≡ k.script →

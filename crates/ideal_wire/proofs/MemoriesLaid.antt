@@ -4,8 +4,8 @@ use Rattle.std.proofs.Common.{◌≡◌, ◌≢◌, ℕ, Bool, true, false, if�
 use Rattle.std.proofs.Common.{subst, arith, inl, inr, ◌⊎◌, unwrap_or, option_map}
 use Rattle.std.proofs.lemmas.Bool.{false≢true}
 use Rattle.std.specs.FinMap.{get}
-use Rattle.busdma_base.specs.Bounce.MemoryRuns.{in_run}
-use Rattle.busdma_base.specs.Tags.Tag.{excluded}
+use Rattle.busdma_machine.specs.Bounce.MemoryRuns.{in_run}
+use Rattle.busdma_machine.specs.Tags.Tag.{excluded}
 use Rattle.loan_table.specs.Loans.{loan_of, no_loan}
 use Rattle.ideal_lane.specs.IdealMemory.{Content, Known, Unknown, IdealMemory, joined}
 use Rattle.ideal_lane.specs.Loads.{limits_of, no_limits}

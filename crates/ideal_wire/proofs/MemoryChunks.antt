@@ -3,12 +3,12 @@ use Rattle.std.proofs.Common.{◌≡◌, ℕ, zero, suc, ◌+◌, ◌-◌, ◌*�
 use Rattle.std.proofs.Common.{false, if◌then◌else◌, List, [], ◌∷◌, ◌++◌, length, take, drop, None, refl, ap, sym, ◌∙◌}
 use Rattle.std.proofs.Common.{subst, arith, append-nil}
 use Rattle.std.proofs.Math.Nat.{mul_assoc}
-use Rattle.busdma_base.specs.declared.machine.chunk.Entry.{Entry}
-use Rattle.busdma_base.specs.declared.tags.tag.TagLimits.{TagLimits}
-use Rattle.busdma_base.specs.Machine.Entry.{entries_addresses, entry_addresses}
-use Rattle.busdma_base.specs.Runs.{run_of}
-use Rattle.busdma_base.specs.Tags.Tag.{IsEffective, could_bounce, excluded, needs_bounce}
-use Rattle.busdma_base.specs.Tags.TagFlags.{keep_pg_offset}
+use Rattle.busdma_machine.specs.declared.machine.chunk.Entry.{Entry}
+use Rattle.busdma_machine.specs.declared.tags.tag.TagLimits.{TagLimits}
+use Rattle.busdma_machine.specs.Machine.Entry.{entries_addresses, entry_addresses}
+use Rattle.busdma_machine.specs.Runs.{run_of}
+use Rattle.busdma_machine.specs.Tags.Tag.{IsEffective, could_bounce, excluded, needs_bounce}
+use Rattle.busdma_machine.specs.Tags.TagFlags.{keep_pg_offset}
 use Rattle.phys_memory.specs.Extents.{extents_of}
 use Rattle.phys_memory.specs.Vector.{with_entry}
 use Rattle.segment_build.specs.Chunks.{chunk_limit, chunk_of, chunks_of, chunks_of_bytes, chunks_within, extent_from}

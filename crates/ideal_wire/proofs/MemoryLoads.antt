@@ -6,21 +6,22 @@ use Rattle.std.proofs.lemmas.List.Sums.{sum_by-cons}
 use Rattle.std.proofs.lemmas.Bool.{and_parts, ltb-true, le-leb, lt-ltb, eqb-true, false≢true, le-ltb}
 use Rattle.std.specs.FinMap.{get, contains_key}
 use Rattle.std.specs.List.{AllByRecursion}
-use Rattle.busdma_base.specs.declared.journals.report.Judged.TheVariants.{Fine}
-use Rattle.busdma_base.specs.declared.machine.address.Span.{Span}
-use Rattle.busdma_base.specs.declared.machine.bio.Bio.{Bio}
-use Rattle.busdma_base.specs.declared.machine.bio.Bio.TheVariants.{Mapped, Vector, Unmapped}
-use Rattle.busdma_base.specs.declared.machine.chunk.Entry.{Entry}
+use Rattle.busdma_machine.specs.declared.report.Judged.TheVariants.{Fine}
+use Rattle.busdma_machine.specs.declared.machine.address.Span.{Span}
+use Rattle.busdma_machine.specs.declared.machine.bio.Bio.{Bio}
+use Rattle.busdma_machine.specs.declared.machine.bio.Bio.TheVariants.{Mapped, Vector, Unmapped}
+use Rattle.busdma_machine.specs.declared.machine.chunk.Entry.{Entry}
 use Rattle.busdma_base.specs.declared.scenarios.scenario.PageRun.{PageRun}
-use Rattle.busdma_base.specs.declared.tags.tag.TagLimits.{TagLimits}
-use Rattle.busdma_base.specs.Bounce.MemoryRuns.{in_run}
-use Rattle.busdma_base.specs.Machine.Entry.{IsEntry, entries_addresses}
-use Rattle.busdma_base.specs.Machine.PageRuns.{is_in_run, pages_end, physical_in}
-use Rattle.busdma_base.specs.Runs.{run_of}
-use Rattle.busdma_base.specs.Tags.Tag.{IsEffective}
+use Rattle.busdma_machine.specs.declared.tags.tag.TagLimits.{TagLimits}
+use Rattle.busdma_machine.specs.Bounce.MemoryRuns.{in_run}
+use Rattle.busdma_machine.specs.Machine.Entry.{IsEntry, entries_addresses}
+use Rattle.busdma_machine.specs.Machine.VirtualPages.{pages_end}
+use Rattle.busdma_base.specs.Scenarios.PageRuns.{is_in_run, physical_in}
+use Rattle.busdma_machine.specs.Runs.{run_of}
+use Rattle.busdma_machine.specs.Tags.Tag.{IsEffective}
 use Rattle.phys_memory.specs.Extents.{reached}
 use Rattle.phys_memory.specs.Translation.{physical_or_0}
-use Rattle.busdma_base.specs.Machine.Spans.{bio_spans, one_span, span_addresses, span_bytes}
+use Rattle.busdma_machine.specs.Machine.Spans.{bio_spans, one_span, span_addresses, span_bytes}
 use Rattle.phys_memory.specs.Vector.{entries_of, with_entry}
 use Rattle.phys_memory.proofs.Extents.{reached_extents}
 use Rattle.phys_memory.proofs.Vectors.{entries_are}

@@ -5,21 +5,21 @@ use Rattle.std.proofs.Common.{if◌then◌else◌, List, [], ◌∷◌, Option, 
 use Rattle.std.proofs.Common.{arith, nat_le, nat_lt}
 use Rattle.std.proofs.lemmas.Bool.{and_parts, eqb-true, leb-true, le-leb, lt-ltb}
 use Rattle.std.proofs.lemmas.List.Elements.{All-head, All-tail}
-use Rattle.busdma_base.specs.declared.bounce.hold.HubCall.{HubCall}
-use Rattle.busdma_base.specs.declared.bounce.hold.HubCall.TheVariants as call
-use Rattle.busdma_base.specs.declared.bounce.hold.HubReply.TheVariants as reply
-use Rattle.busdma_base.specs.declared.bounce.zone.Waiter.{Waiter}
-use Rattle.busdma_base.specs.declared.machine.address.Pa.{Pa}
-use Rattle.busdma_base.specs.declared.name.MapId.{MapId}
-use Rattle.busdma_base.specs.Bounce.Account.{Account, free, zone_at}
-use Rattle.busdma_base.specs.Bounce.AccountStep.{account_step, as_pages, called_from, grabbed}
-use Rattle.busdma_base.specs.Bounce.AccountStep as account
-use Rattle.busdma_base.specs.Bounce.EachFrame.{EachFrame, LiesBelowMaxmem}
-use Rattle.busdma_base.specs.Bounce.History.{IsFrame}
-use Rattle.busdma_base.specs.Bounce.MemoryRuns.{begins_run, crosses_none, follow, frames_for, frames_from}
-use Rattle.busdma_base.specs.Bounce.MemoryRuns.{in_run, lowest_run}
-use Rattle.busdma_base.specs.Bounce.Places.{times}
-use Rattle.busdma_base.specs.Bounce.Serving.{handed, queued}
+use Rattle.busdma_machine.specs.declared.bounce.hold.HubCall.{HubCall}
+use Rattle.busdma_machine.specs.declared.bounce.hold.HubCall.TheVariants as call
+use Rattle.busdma_machine.specs.declared.bounce.hold.HubReply.TheVariants as reply
+use Rattle.busdma_machine.specs.declared.bounce.zone.Waiter.{Waiter}
+use Rattle.busdma_machine.specs.declared.machine.address.Pa.{Pa}
+use Rattle.busdma_machine.specs.declared.name.MapId.{MapId}
+use Rattle.busdma_machine.specs.Bounce.Account.{Account, free, zone_at}
+use Rattle.busdma_machine.specs.Bounce.AccountStep.{account_step, as_pages, called_from, grabbed}
+use Rattle.busdma_machine.specs.Bounce.AccountStep as account
+use Rattle.busdma_machine.specs.Bounce.EachFrame.{EachFrame, LiesBelowMaxmem}
+use Rattle.busdma_machine.specs.Bounce.History.{IsFrame}
+use Rattle.busdma_machine.specs.Bounce.MemoryRuns.{begins_run, crosses_none, follow, frames_for, frames_from}
+use Rattle.busdma_machine.specs.Bounce.MemoryRuns.{in_run, lowest_run}
+use Rattle.busdma_machine.specs.Bounce.Places.{times}
+use Rattle.busdma_machine.specs.Bounce.Serving.{handed, queued}
 use Rattle.lane_agreement.specs.OwnShare.{one_if}
 use Rattle.lane_agreement.proofs.Own.{count-one}
 use Rattle.ideal_lane.specs.Agreement.{AgreesWith}

@@ -5,18 +5,18 @@ use Rattle.std.proofs.lemmas.Bool.{and_parts, leb-true, cases_lt}
 use Rattle.std.proofs.lemmas.List.{get_or_past}
 use Rattle.std.proofs.lemmas.List.Elements.{All-nil, All-head, All-tail, All-take, All-get_or}
 use Rattle.std.specs.List.{AllByRecursion}
-use Rattle.busdma_base.specs.declared.bounce.hold.HubReply.TheVariants.{Granted, Queued, NoPages, Called, Nothing}
-use Rattle.busdma_base.specs.declared.bounce.zone.Waiter.{Waiter}
-use Rattle.busdma_base.specs.declared.machine.address.Pa.{Pa}
-use Rattle.busdma_base.specs.declared.name.MapId.{MapId}
-use Rattle.busdma_base.specs.declared.tags.tag.TagLimits.{TagLimits}
-use Rattle.busdma_base.specs.Bounce.Account.{Account, Zone, no_zone, zone_at, free}
-use Rattle.busdma_base.specs.Bounce.AccountStep.{Outcome, as_pages, grabbed, called_from}
-use Rattle.busdma_base.specs.Bounce.EachFrame.{EachFrame}
-use Rattle.busdma_base.specs.Bounce.Growth.{serves_tag}
-use Rattle.busdma_base.specs.Bounce.History.{IsFrame}
-use Rattle.busdma_base.specs.Bounce.LowPages.{EndsWithin, PagesLieLow}
-use Rattle.busdma_base.specs.Bounce.Serving.{handed, queued}
+use Rattle.busdma_machine.specs.declared.bounce.hold.HubReply.TheVariants.{Granted, Queued, NoPages, Called, Nothing}
+use Rattle.busdma_machine.specs.declared.bounce.zone.Waiter.{Waiter}
+use Rattle.busdma_machine.specs.declared.machine.address.Pa.{Pa}
+use Rattle.busdma_machine.specs.declared.name.MapId.{MapId}
+use Rattle.busdma_machine.specs.declared.tags.tag.TagLimits.{TagLimits}
+use Rattle.busdma_machine.specs.Bounce.Account.{Account, Zone, no_zone, zone_at, free}
+use Rattle.busdma_machine.specs.Bounce.AccountStep.{Outcome, as_pages, grabbed, called_from}
+use Rattle.busdma_machine.specs.Bounce.EachFrame.{EachFrame}
+use Rattle.busdma_machine.specs.Bounce.Growth.{serves_tag}
+use Rattle.busdma_machine.specs.Bounce.History.{IsFrame}
+use Rattle.busdma_machine.specs.Bounce.LowPages.{EndsWithin, PagesLieLow}
+use Rattle.busdma_machine.specs.Bounce.Serving.{handed, queued}
 use Rattle.segment_build.specs.Obeying.{IsReachable}
 use Rattle.segment_build.specs.Trace.{IsPage}
 

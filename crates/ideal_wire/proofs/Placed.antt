@@ -1,6 +1,6 @@
 -- A faithful wire, with what the frames of pages and buffers say of it.
 use Rattle.std.proofs.Common.{◌≡◌, ℕ, Bool, true, false, Some}
-use Rattle.busdma_base.specs.Machine.Wire.{Wire, Traces, Placed, buffers}
+use Rattle.busdma_machine.specs.Machine.Wire.{Wire, Traces, Placed, buffers}
 use Rattle.loan_table.specs.declared.position.Position.{Position}
 use Rattle.loan_table.specs.Loans.{loan_of, addresses_of}
 use Rattle.ideal_lane.specs.IdealMemory.{Known}

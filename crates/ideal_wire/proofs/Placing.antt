@@ -4,12 +4,13 @@ use Rattle.std.proofs.Common.{Option, Some, None, slice_get, is_some, inl, inr, 
 use Rattle.std.proofs.Common.{nat_le, nat_lt}
 use Rattle.std.proofs.lemmas.Bool.{and_parts, false≢true, leb-true, ltb-true, le-leb, lt-ltb}
 use Rattle.std.specs.FinMap.{get, entries, entries_sorted, get-entries}
-use Rattle.busdma_base.specs.declared.machine.chunk.Chunk.{Chunk}
-use Rattle.busdma_base.specs.declared.machine.address.Segment.{Segment}
+use Rattle.busdma_machine.specs.declared.machine.chunk.Chunk.{Chunk}
+use Rattle.busdma_machine.specs.declared.machine.address.Segment.{Segment}
 use Rattle.busdma_base.specs.declared.scenarios.scenario.PageRun.{PageRun}
-use Rattle.busdma_base.specs.Bounce.MemoryRuns.{in_run}
-use Rattle.busdma_base.specs.Machine.PageRuns.{is_own, is_in_run, physical_in, pages_end}
-use Rattle.busdma_base.specs.Machine.Wire.{Placed}
+use Rattle.busdma_machine.specs.Bounce.MemoryRuns.{in_run}
+use Rattle.busdma_machine.specs.Machine.VirtualPages.{pages_end}
+use Rattle.busdma_base.specs.Scenarios.PageRuns.{is_own, is_in_run, physical_in}
+use Rattle.busdma_machine.specs.Machine.Wire.{Placed}
 use Rattle.loan_table.specs.declared.position.Position.{Position}
 use Rattle.loan_table.specs.Loans.{Loan, loan_of, no_loan, addresses_of}
 use Rattle.ideal_lane.specs.Loads.{is_coherent}

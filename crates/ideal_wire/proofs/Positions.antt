@@ -3,10 +3,10 @@ use Rattle.std.proofs.Common.{◌≡◌, ℕ, zero, suc, ◌+◌, ◌-◌, ◌<�
 use Rattle.std.proofs.Common.{◌⊎◌, inl, inr, Option, Some, None, option_map, unwrap_or, refl, sym, ap, ◌∙◌, arith}
 use Rattle.std.proofs.lemmas.Option.{slice_get-map}
 use Rattle.std.proofs.lemmas.Bool.{cases_lt}
-use Rattle.busdma_base.specs.declared.journals.report.ReportName.{ReportName}
-use Rattle.busdma_base.specs.declared.journals.report.Judged.{Judged}
-use Rattle.busdma_base.specs.declared.journals.report.Judged.TheVariants.{Fine}
-use Rattle.busdma_base.specs.Journals.Judging.{judged, refused_or}
+use Rattle.busdma_machine.specs.declared.report.ReportName.{ReportName}
+use Rattle.busdma_machine.specs.declared.report.Judged.{Judged}
+use Rattle.busdma_machine.specs.declared.report.Judged.TheVariants.{Fine}
+use Rattle.busdma_machine.specs.Judging.{judged, refused_or}
 
 -- one value is found at a place
 pub found_one : {X : Type 0} (o : Option X) (x y : X) → o ≡ Some x → o ≡ Some y → x ≡ y

@@ -6,15 +6,16 @@ use Rattle.std.proofs.lemmas.Bool.{and_parts, leb-true, ltb-true, le-leb, lt-ltb
 use Rattle.std.specs.Option.{option_map}
 use Rattle.std.specs.List.{AllByRecursion, enumerate_from}
 use Rattle.std.specs.FinMap.{get, entries, entries_sorted, get-entries}
-use Rattle.busdma_base.specs.declared.journals.report.Judged.TheVariants.{Fine}
-use Rattle.busdma_base.specs.declared.machine.address.Span.{Span}
-use Rattle.busdma_base.specs.declared.machine.bio.Bio.{Bio}
-use Rattle.busdma_base.specs.declared.machine.chunk.Entry.{Entry}
+use Rattle.busdma_machine.specs.declared.report.Judged.TheVariants.{Fine}
+use Rattle.busdma_machine.specs.declared.machine.address.Span.{Span}
+use Rattle.busdma_machine.specs.declared.machine.bio.Bio.{Bio}
+use Rattle.busdma_machine.specs.declared.machine.chunk.Entry.{Entry}
 use Rattle.busdma_base.specs.declared.scenarios.scenario.PageRun.{PageRun}
-use Rattle.busdma_base.specs.Machine.Entry.{entries_addresses}
-use Rattle.busdma_base.specs.Machine.PageRuns.{is_own, is_in_run, physical_in, pages_end}
-use Rattle.busdma_base.specs.Machine.Spans.{bio_spans, span_addresses}
-use Rattle.busdma_base.specs.Runs.{addresses, run_of}
+use Rattle.busdma_machine.specs.Machine.Entry.{entries_addresses}
+use Rattle.busdma_machine.specs.Machine.VirtualPages.{pages_end}
+use Rattle.busdma_base.specs.Scenarios.PageRuns.{is_own, is_in_run, physical_in}
+use Rattle.busdma_machine.specs.Machine.Spans.{bio_spans, span_addresses}
+use Rattle.busdma_machine.specs.Runs.{addresses, run_of}
 use Rattle.phys_memory.specs.Extents.{extents_of, reached, then_reached}
 use Rattle.phys_memory.specs.Translation.{Translation, physical_or_0}
 use Rattle.phys_memory.specs.Vector.{entries_of, with_entry}

@@ -3,7 +3,7 @@ use Rattle.std.proofs.Common.{◌≡◌, ℕ, ◌==◌, Bool, true, false, List,
 use Rattle.std.proofs.Common.{arith}
 use Rattle.std.proofs.Common.{eq-eqb}
 use Rattle.std.specs.FinMap.{get}
-use Rattle.busdma_base.specs.Bounce.Account.{Account}
+use Rattle.busdma_machine.specs.Bounce.Account.{Account}
 use Rattle.lane_agreement.specs.OwnShare.{one_if}
 use Rattle.lane_agreement.specs.View.{Return, returning, is_returning}
 use Rattle.lane_agreement.proofs.Own.{count-one}

@@ -4,19 +4,19 @@ use Rattle.std.proofs.Common.{None, refl, ap, sym, ◌∙◌, arith, nat_le, inl
 use Rattle.std.proofs.lemmas.Bool.{and_parts, cases_lt, leb-true}
 use Rattle.std.proofs.lemmas.List.{get_or_past}
 use Rattle.std.specs.FinMap.{get}
-use Rattle.busdma_base.specs.declared.bounce.hold.HubCall.{HubCall}
-use Rattle.busdma_base.specs.declared.bounce.hold.HubCall.TheVariants as call
-use Rattle.busdma_base.specs.declared.bounce.hold.HubReply.{HubReply}
-use Rattle.busdma_base.specs.declared.bounce.hold.HubReply.TheVariants as reply
-use Rattle.busdma_base.specs.declared.bounce.hold.HoldEntry.{HoldEntry}
+use Rattle.busdma_machine.specs.declared.bounce.hold.HubCall.{HubCall}
+use Rattle.busdma_machine.specs.declared.bounce.hold.HubCall.TheVariants as call
+use Rattle.busdma_machine.specs.declared.bounce.hold.HubReply.{HubReply}
+use Rattle.busdma_machine.specs.declared.bounce.hold.HubReply.TheVariants as reply
+use Rattle.busdma_machine.specs.declared.bounce.hold.HoldEntry.{HoldEntry}
 use Rattle.busdma_base.specs.declared.journals.journal.Side.{Side}
-use Rattle.busdma_base.specs.declared.tags.tag.TagLimits.{TagLimits}
-use Rattle.busdma_base.specs.Bounce.Account.{Account, no_zone, zone_at}
-use Rattle.busdma_base.specs.Bounce.AccountStep.{account_step}
-use Rattle.busdma_base.specs.Bounce.Growth.{serves_tag}
-use Rattle.busdma_base.specs.Bounce.History.{account_of}
-use Rattle.busdma_base.specs.Bounce.KeptZones.{KeepsZones}
-use Rattle.busdma_base.proofs.Accounts.KeptZones.{keeps-all, keeps-history, keeps-step, serves-created}
+use Rattle.busdma_machine.specs.declared.tags.tag.TagLimits.{TagLimits}
+use Rattle.busdma_machine.specs.Bounce.Account.{Account, no_zone, zone_at}
+use Rattle.busdma_machine.specs.Bounce.AccountStep.{account_step}
+use Rattle.busdma_machine.specs.Bounce.Growth.{serves_tag}
+use Rattle.busdma_machine.specs.Bounce.History.{account_of}
+use Rattle.busdma_machine.specs.Bounce.KeptZones.{KeepsZones}
+use Rattle.busdma_machine.proofs.Accounts.KeptZones.{keeps-all, keeps-history, keeps-step, serves-created}
 use Rattle.ideal_lane.specs.Asking.{Asking, Gives, Asks, call_of, by_reply}
 use Rattle.ideal_lane.specs.Loads.{limits_of, no_limits}
 use Rattle.ideal_lane.specs.Maps.{with_map}
@@ -35,7 +35,7 @@ use Rattle.ideal_wire.proofs.KeptMaps.{KeepsMaps, back-kept, same, makes-kept, I
 use Rattle.ideal_wire.proofs.KeptTags.{KeepsTags, keeps-put, put-there}
 use Rattle.ideal_wire.proofs.Positions.{found_one}
 use Rattle.ideal_lane.proofs.Refusing.{past}
-use Rattle.busdma_base.specs.declared.bounce.zone.Grown.{Grown}
+use Rattle.busdma_machine.specs.declared.bounce.zone.Grown.{Grown}
 
 -- ---- zones that stay
 

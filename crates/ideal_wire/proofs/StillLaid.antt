@@ -3,8 +3,8 @@ use Rattle.std.proofs.Common.{[], ◌≡◌, ◌≢◌, ℕ, ◌==◌, Bool, tru
 use Rattle.std.proofs.Common.{Some, None, refl, ap, sym, ◌∙◌, subst, arith, unwrap_or, option_map}
 use Rattle.std.proofs.lemmas.Bool.{false≢true, eqb-true}
 use Rattle.std.specs.FinMap.{get, insert, remove}
-use Rattle.busdma_base.specs.declared.tags.tag.TagLimits.{TagLimits}
-use Rattle.busdma_base.specs.Runs.{run_of}
+use Rattle.busdma_machine.specs.declared.tags.tag.TagLimits.{TagLimits}
+use Rattle.busdma_machine.specs.Runs.{run_of}
 use Rattle.lane_agreement.specs.View.{Return, returning}
 use Rattle.loan_table.specs.Lending.{lost, lost_by_forgetting, marked_range}
 use Rattle.loan_table.specs.Lending as lending

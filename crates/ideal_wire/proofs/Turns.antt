@@ -3,21 +3,21 @@ use Rattle.std.proofs.Common.{◌≡◌, ℕ, ◌+◌, Bool, true, false, cond, 
 use Rattle.std.proofs.Common.{refl, ap, sym, ◌∙◌, slice_get, subst, arith, is_some, ◌⊎◌, inl, inr}
 use Rattle.std.proofs.lemmas.Bool.{false≢true}
 use Rattle.std.specs.FinMap.{get}
-use Rattle.busdma_base.specs.declared.bounce.hold.HubReply.{HubReply}
-use Rattle.busdma_base.specs.declared.bounce.hold.HubReply.TheVariants as reply
+use Rattle.busdma_machine.specs.declared.bounce.hold.HubReply.{HubReply}
+use Rattle.busdma_machine.specs.declared.bounce.hold.HubReply.TheVariants as reply
 use Rattle.busdma_base.specs.declared.journals.answer.Answer.TheVariants as answer
 use Rattle.busdma_base.specs.declared.journals.journal.Side.{Side}
 use Rattle.busdma_base.specs.declared.journals.journal.Side.TheVariants as side
-use Rattle.busdma_base.specs.declared.machine.address.Pa.{Pa}
+use Rattle.busdma_machine.specs.declared.machine.address.Pa.{Pa}
 use Rattle.busdma_base.specs.declared.scenarios.script.Item.{Item}
 use Rattle.busdma_base.specs.declared.scenarios.script.Item.TheVariants as item
 use Rattle.busdma_base.specs.declared.scenarios.script.Op.{Op}
 use Rattle.busdma_base.specs.declared.scenarios.script.Op.TheVariants as op
-use Rattle.busdma_base.specs.declared.tags.tag.TagLimits.{TagLimits}
-use Rattle.busdma_base.specs.Bounce.Account.{Account}
-use Rattle.busdma_base.specs.Bounce.MemoryRuns.{in_run}
-use Rattle.busdma_base.specs.Machine.Entry.{entries_addresses}
-use Rattle.busdma_base.specs.Machine.Wire.{Wire}
+use Rattle.busdma_machine.specs.declared.tags.tag.TagLimits.{TagLimits}
+use Rattle.busdma_machine.specs.Bounce.Account.{Account}
+use Rattle.busdma_machine.specs.Bounce.MemoryRuns.{in_run}
+use Rattle.busdma_machine.specs.Machine.Entry.{entries_addresses}
+use Rattle.busdma_machine.specs.Machine.Wire.{Wire}
 use Rattle.dma_tag.specs.MemFlags.{zero_filled}
 use Rattle.lane_agreement.specs.View.{Return}
 use Rattle.lane_tables.specs.declared.queued.QueuedItem.{QueuedItem}
@@ -50,9 +50,9 @@ use Rattle.ideal_wire.proofs.Carried.{idle-carries, load-carries, unload-carries
 use Rattle.ideal_wire.proofs.Frames.{agreeing-apart}
 use Rattle.ideal_wire.proofs.Placing.{load-of, loadable-own}
 use Rattle.ideal_wire.proofs.Returning.{returning-unloaded}
-use Rattle.busdma_base.specs.declared.bounce.hold.HubCall.{HubCall}
+use Rattle.busdma_machine.specs.declared.bounce.hold.HubCall.{HubCall}
 use Rattle.busdma_base.specs.declared.journals.answer.Answer.{Answer}
-use Rattle.busdma_base.specs.declared.journals.report.Errno.TheVariants.{EFBIG}
+use Rattle.busdma_machine.specs.declared.report.Errno.TheVariants.{EFBIG}
 use Rattle.ideal_wire.proofs.Wiring.{now, touches-stay, undone}
 
 module _ (l : LaneState) (a : Account) (w : Wire) (stands : Stands l) (agrees : AgreesWith l a) (laid : AreLaid l)

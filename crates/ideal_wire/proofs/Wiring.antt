@@ -3,10 +3,10 @@ use Rattle.std.proofs.Common.{◌≡◌, ℕ, Bool, true, false, cond, [], ◌�
 use Rattle.std.proofs.Common.{is_some, refl, sym, ◌∙◌, subst, unwrap_or}
 use Rattle.std.specs.Option.{option_map}
 use Rattle.busdma_base.specs.declared.journals.answer.Answer.TheVariants as answer
-use Rattle.busdma_base.specs.declared.journals.report.Judged.TheVariants.{Fine}
+use Rattle.busdma_machine.specs.declared.report.Judged.TheVariants.{Fine}
 use Rattle.busdma_base.specs.declared.scenarios.script.Place.{Place}
-use Rattle.busdma_base.specs.Machine.Wire.{Wire, put}
-use Rattle.busdma_base.specs.Runs.{run_of}
+use Rattle.busdma_machine.specs.Machine.Wire.{Wire, put}
+use Rattle.busdma_machine.specs.Runs.{run_of}
 use Rattle.dma_tag.specs.SyncOps.{is_mixed}
 use Rattle.loan_table.specs.Access.{cpu_read_answer, dev_read_answer}
 use Rattle.loan_table.specs.Lending.{sync_answer, marked_range, lost}

@@ -4,12 +4,12 @@ use Rattle.std.specs.FinMap.{get, contains_key}
 use Rattle.std.specs.Option.{option_and_then, option_map}
 use Rattle.busdma_base.specs.declared.journals.journal.Did.{Did}
 use Rattle.busdma_base.specs.declared.journals.journal.Did.TheVariants as did
-use Rattle.busdma_base.specs.declared.machine.address.Segment.{Segment}
-use Rattle.busdma_base.specs.declared.machine.bio.Bio.{Bio}
+use Rattle.busdma_machine.specs.declared.machine.address.Segment.{Segment}
+use Rattle.busdma_machine.specs.declared.machine.bio.Bio.{Bio}
 use Rattle.busdma_base.specs.declared.scenarios.script.Op.{Op}
 use Rattle.busdma_base.specs.declared.scenarios.script.Op.TheVariants as op
-use Rattle.busdma_base.specs.Bounce.Account.{Account}
-use Rattle.busdma_base.specs.Bounce.AccountStep.{account_step}
+use Rattle.busdma_machine.specs.Bounce.Account.{Account}
+use Rattle.busdma_machine.specs.Bounce.AccountStep.{account_step}
 use Rattle.ideal_lane.specs.Asking.{Asking, Gives, Asks}
 use Rattle.ideal_lane.specs.Loads.{chunks_for, limits_of, load_addresses, load_entries}
 use Rattle.ideal_lane.specs.State.{LaneState, LaneMap, Stage, Idle, Waiting, Loaded, Returning}

@@ -1,8 +1,8 @@
 -- That what a driver holds lies apart.
 use Rattle.std.specs.Prelude.{◌≡◌, ℕ, true, false, Some, slice_get, is_some}
 use Rattle.std.specs.FinMap.{get}
-use Rattle.busdma_base.specs.Bounce.MemoryRuns.{in_run}
-use Rattle.busdma_base.specs.Machine.PageRuns.{is_own}
+use Rattle.busdma_machine.specs.Bounce.MemoryRuns.{in_run}
+use Rattle.busdma_base.specs.Scenarios.PageRuns.{is_own}
 use Rattle.ideal_lane.specs.State.{LaneState, LaneMemory}
 use Rattle.ideal_lane.specs.Unloads.{pages_of}
 use Rattle.ideal_wire.specs.Traces.{stage_at}

@@ -2,7 +2,7 @@
 use Rattle.std.specs.Prelude.{◌≡◌, ℕ, true, false, Some, slice_get}
 use Rattle.loan_table.specs.declared.position.Position.{Position}
 use Rattle.loan_table.specs.Loans.{Loans, loan_of, to_write, in_any_way, lent}
-use Rattle.busdma_base.specs.Machine.Wire.{Wire, Traces, Placed}
+use Rattle.busdma_machine.specs.Machine.Wire.{Wire, Traces, Placed}
 use Rattle.ideal_lane.specs.IdealMemory.{IdealMemory, Known}
 use Rattle.ideal_lane.specs.State.{LaneState}
 use Rattle.ideal_wire.specs.Traces.{traces_of}

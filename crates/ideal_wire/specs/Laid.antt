@@ -3,19 +3,19 @@ use Rattle.std.specs.Prelude.{◌≡◌, ℕ, ◌*◌, ◌/◌, ◌%◌, ◌≤�
 use Rattle.std.specs.Prelude.{is_some}
 use Rattle.std.specs.List.{AllByRecursion, AllZip}
 use Rattle.std.specs.FinMap.{get}
-use Rattle.busdma_base.specs.declared.machine.bio.Bio.{Bio}
-use Rattle.busdma_base.specs.declared.machine.chunk.Chunk.{Chunk}
-use Rattle.busdma_base.specs.declared.machine.address.Segment.{Segment}
+use Rattle.busdma_machine.specs.declared.machine.bio.Bio.{Bio}
+use Rattle.busdma_machine.specs.declared.machine.chunk.Chunk.{Chunk}
+use Rattle.busdma_machine.specs.declared.machine.address.Segment.{Segment}
 use Rattle.busdma_base.specs.declared.scenarios.scenario.PageRun.{PageRun}
-use Rattle.busdma_base.specs.Bounce.Account.{Account}
-use Rattle.busdma_base.specs.Bounce.AccountStep.{account_step}
-use Rattle.busdma_base.specs.Bounce.MemoryRuns.{in_run}
-use Rattle.busdma_base.specs.Machine.PageRuns.{is_own, physical_in}
-use Rattle.busdma_base.specs.Machine.Spans.{bio_spans, span_addresses}
-use Rattle.busdma_base.specs.Machine.Wire.{buses}
-use Rattle.busdma_base.specs.Runs.{IsExtent}
+use Rattle.busdma_machine.specs.Bounce.Account.{Account}
+use Rattle.busdma_machine.specs.Bounce.AccountStep.{account_step}
+use Rattle.busdma_machine.specs.Bounce.MemoryRuns.{in_run}
+use Rattle.busdma_base.specs.Scenarios.PageRuns.{is_own, physical_in}
+use Rattle.busdma_machine.specs.Machine.Spans.{bio_spans, span_addresses}
+use Rattle.busdma_machine.specs.Machine.Wire.{buses}
+use Rattle.busdma_machine.specs.Runs.{IsExtent}
 use Rattle.busdma_base.specs.Scenarios.Buffers.{IsBioOf}
-use Rattle.busdma_base.specs.Tags.Tag.{excluded}
+use Rattle.busdma_machine.specs.Tags.Tag.{excluded}
 use Rattle.load_bio.specs.Bio.{bio_translation, is_rounded}
 use Rattle.loan_table.specs.declared.position.Position.{Position}
 use Rattle.loan_table.specs.Loans.{loan_of, no_loan}

@@ -1,8 +1,8 @@
 -- That the frames which a reply brings to a driver are new to it.
 use Rattle.std.specs.Prelude.{◌≡◌, ℕ, ◌+◌, ◌*◌, ◌%◌, ◌≤◌, true, false, is_some}
-use Rattle.busdma_base.specs.declared.bounce.hold.HubReply.{HubReply}
-use Rattle.busdma_base.specs.declared.bounce.hold.HubReply.TheVariants.{Run}
-use Rattle.busdma_base.specs.Bounce.MemoryRuns.{in_run}
+use Rattle.busdma_machine.specs.declared.bounce.hold.HubReply.{HubReply}
+use Rattle.busdma_machine.specs.declared.bounce.hold.HubReply.TheVariants.{Run}
+use Rattle.busdma_machine.specs.Bounce.MemoryRuns.{in_run}
 use Rattle.ideal_lane.specs.State.{LaneState}
 
 -- a run is of whole frames of the machine, of which the driver has no byte

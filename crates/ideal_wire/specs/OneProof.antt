@@ -10,18 +10,18 @@ use mathlib.Core.HLevel.{Σ_prop_path}
 use mathlib.Core.List.{is_set}
 use base.Stored.{Coded-set}
 use denote.Struct.Props.{props}
-use Rattle.busdma_base.specs.contracts.machine.bio.Bio as bios
-use Rattle.busdma_base.specs.declared.machine.bio.Bio.{Bio}
-use Rattle.busdma_base.specs.declared.machine.bio.Bio.TheVariants as bio
-use Rattle.busdma_base.specs.declared.machine.chunk.Chunk.{Chunk}
-use Rattle.busdma_base.specs.declared.machine.address.Segment.{Segment}
+use Rattle.busdma_machine.specs.contracts.machine.bio.Bio as bios
+use Rattle.busdma_machine.specs.declared.machine.bio.Bio.{Bio}
+use Rattle.busdma_machine.specs.declared.machine.bio.Bio.TheVariants as bio
+use Rattle.busdma_machine.specs.declared.machine.chunk.Chunk.{Chunk}
+use Rattle.busdma_machine.specs.declared.machine.address.Segment.{Segment}
 use Rattle.busdma_base.specs.declared.scenarios.buffer.Buffer.{Buffer}
 use Rattle.busdma_base.specs.declared.scenarios.buffer.Buffer.TheVariants as buffer
 use Rattle.busdma_base.specs.declared.scenarios.scenario.PageRun.{PageRun}
 use Rattle.busdma_base.specs.declared.scenarios.script.Op.{Op}
-use Rattle.busdma_base.specs.declared.tags.tag.TagLimits.{TagLimits}
-use Rattle.busdma_base.specs.Tags.Tag.{IsEffective}
-use Rattle.busdma_base.specs.Machine.Wire.{Placed, Wire}
+use Rattle.busdma_machine.specs.declared.tags.tag.TagLimits.{TagLimits}
+use Rattle.busdma_machine.specs.Tags.Tag.{IsEffective}
+use Rattle.busdma_machine.specs.Machine.Wire.{Placed, Wire}
 use Rattle.busdma_base.specs.Scenarios.Buffers.{IsBioOf, IsBufferOf}
 use Rattle.busdma_base.specs.Scenarios.Operations.{about}
 use Rattle.busdma_base.specs.Scenarios.Valid.{LoadsFrom}

@@ -1,9 +1,9 @@
 -- That the zones of a driver's maps serve their tags.
 use Rattle.std.specs.Prelude.{◌≡◌, ℕ, true, Some}
 use Rattle.std.specs.FinMap.{get}
-use Rattle.busdma_base.specs.Bounce.Account.{Account, zone_at}
-use Rattle.busdma_base.specs.Bounce.AccountStep.{Outcome, account_step}
-use Rattle.busdma_base.specs.Bounce.Growth.{serves_tag}
+use Rattle.busdma_machine.specs.Bounce.Account.{Account, zone_at}
+use Rattle.busdma_machine.specs.Bounce.AccountStep.{Outcome, account_step}
+use Rattle.busdma_machine.specs.Bounce.Growth.{serves_tag}
 use Rattle.ideal_lane.specs.Asking.{Asking, Gives, Asks}
 use Rattle.ideal_lane.specs.Loads.{limits_of}
 use Rattle.ideal_lane.specs.State.{LaneState, LaneMap}

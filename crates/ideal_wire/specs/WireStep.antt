@@ -13,8 +13,8 @@ use Rattle.busdma_base.specs.declared.journals.answer.Answer.{Answer}
 use Rattle.busdma_base.specs.declared.journals.answer.Answer.TheVariants as answer
 use Rattle.busdma_base.specs.declared.journals.journal.Side.{Side}
 use Rattle.busdma_base.specs.declared.journals.journal.Side.TheVariants as side
-use Rattle.busdma_base.specs.Machine.Wire.{Wire, Placed, buses, stretch, put, copied_in, copied_out}
-use Rattle.busdma_base.specs.Runs.{run_of}
+use Rattle.busdma_machine.specs.Machine.Wire.{Wire, Placed, buses, stretch, put, copied_in, copied_out}
+use Rattle.busdma_machine.specs.Runs.{run_of}
 use Rattle.busdma_base.specs.Scenarios.Operations.{bytes_of}
 use Rattle.dma_tag.specs.SyncOps.{prewrite, postread}
 use Rattle.lane_agreement.specs.View.{Return}

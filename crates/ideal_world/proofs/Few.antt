@@ -6,8 +6,8 @@ use Rattle.busdma_base.specs.declared.scenarios.scenario.Driver.{Driver}
 use Rattle.busdma_base.specs.declared.scenarios.scenario.FrameRun.{FrameRun}
 use Rattle.busdma_base.specs.declared.scenarios.scenario.Scenario.{Scenario}
 use Rattle.busdma_base.specs.declared.scenarios.script.Op.{Op}
-use Rattle.busdma_base.specs.Bounce.Opening.{maxmem_of}
-use Rattle.busdma_base.specs.Each.{EachAfter}
+use Rattle.busdma_base.specs.Scenarios.Opening.{maxmem_of}
+use Rattle.busdma_machine.specs.Each.{EachAfter}
 use Rattle.busdma_base.specs.Scenarios.Operations.{items_of, loaded_by}
 use Rattle.busdma_base.specs.Scenarios.Script.{steps_of}
 use Rattle.busdma_base.specs.Scenarios.Valid.{IsDriver, loaded_of}

@@ -4,11 +4,11 @@ use Rattle.std.proofs.Common.{Some, None}
 use Rattle.std.proofs.lemmas.List.Elements.{All-nil}
 use Rattle.std.specs.FinMap.{empty, get, get-empty}
 use Rattle.std.specs.Ordering.{nat_cmp}
-use Rattle.busdma_base.specs.declared.bounce.hold.HoldEntry.{HoldEntry}
+use Rattle.busdma_machine.specs.declared.bounce.hold.HoldEntry.{HoldEntry}
 use Rattle.busdma_base.specs.declared.scenarios.scenario.Scenario.{Scenario}
-use Rattle.busdma_base.specs.Bounce.Opening.{maxmem_of, opening}
+use Rattle.busdma_base.specs.Scenarios.Opening.{maxmem_of, opening}
 use Rattle.busdma_base.specs.Scenarios.Valid.{IsValid}
-use Rattle.busdma_base.proofs.Accounts.Openings.{opening-may_begin}
+use Rattle.busdma_base.proofs.Openings.{opening-may_begin}
 use Rattle.ideal_lane.specs.Opening.{opening_lane}
 use Rattle.ideal_lane.specs.State.{LaneState, LaneMap}
 use Rattle.ideal_lane.proofs.Openings.{opens-standing, opens-agreeing}

@@ -2,26 +2,26 @@
 use Rattle.std.proofs.Common.{◌≡◌, ◌≢◌, ℕ, ◌<◌, ◌==◌, Bool, true, false, List, [], ◌∷◌, ◌++◌, length, ◌⊎◌}
 use Rattle.std.proofs.Common.{inl, inr, refl, sym, ap, ◌∙◌, subst, Some, slice_get}
 use Rattle.std.proofs.lemmas.List.Elements.{All-nil, All-cons, All-push}
-use Rattle.busdma_base.specs.declared.bounce.hold.HoldEntry.{HoldEntry}
-use Rattle.busdma_base.specs.declared.bounce.hold.HubCall.{HubCall}
-use Rattle.busdma_base.specs.declared.bounce.hold.HubCall.TheVariants as call
-use Rattle.busdma_base.specs.declared.bounce.hold.HubReply.{HubReply}
-use Rattle.busdma_base.specs.declared.bounce.zone.Waiter.{Waiter}
+use Rattle.busdma_machine.specs.declared.bounce.hold.HoldEntry.{HoldEntry}
+use Rattle.busdma_machine.specs.declared.bounce.hold.HubCall.{HubCall}
+use Rattle.busdma_machine.specs.declared.bounce.hold.HubCall.TheVariants as call
+use Rattle.busdma_machine.specs.declared.bounce.hold.HubReply.{HubReply}
+use Rattle.busdma_machine.specs.declared.bounce.zone.Waiter.{Waiter}
 use Rattle.busdma_base.specs.declared.scenarios.scenario.Scenario.{Scenario}
-use Rattle.busdma_base.specs.Bounce.Account.{Account}
-use Rattle.busdma_base.specs.Bounce.AccountStep.{account_step, called_from}
-use Rattle.busdma_base.specs.Bounce.Conditions.{MayCall}
-use Rattle.busdma_base.specs.Bounce.EachFrame.{EachFrame, LiesBelowMaxmem}
-use Rattle.busdma_base.specs.Bounce.History.{IsFrame, IsSound, IsSoundEntry, account_of, after_entry, is_kept}
-use Rattle.busdma_base.specs.Bounce.LowPages.{PagesLieLow}
-use Rattle.busdma_base.specs.Bounce.Opening.{opening}
-use Rattle.busdma_base.specs.Bounce.WellFormed as account
+use Rattle.busdma_machine.specs.Bounce.Account.{Account}
+use Rattle.busdma_machine.specs.Bounce.AccountStep.{account_step, called_from}
+use Rattle.busdma_machine.specs.Bounce.Conditions.{MayCall}
+use Rattle.busdma_machine.specs.Bounce.EachFrame.{EachFrame, LiesBelowMaxmem}
+use Rattle.busdma_machine.specs.Bounce.History.{IsFrame, IsSound, IsSoundEntry, account_of, after_entry, is_kept}
+use Rattle.busdma_machine.specs.Bounce.LowPages.{PagesLieLow}
+use Rattle.busdma_base.specs.Scenarios.Opening.{opening}
+use Rattle.busdma_machine.specs.Bounce.WellFormed as account
 use Rattle.busdma_base.specs.Scenarios.Valid.{IsValid}
-use Rattle.busdma_base.proofs.Accounts.LaneEntries.{account_of-append}
-use Rattle.busdma_base.proofs.Accounts.EachFrame.{whole-history, below-history, below-opening}
-use Rattle.busdma_base.proofs.Accounts.LowPages.{pages-low}
-use Rattle.busdma_base.proofs.Accounts.Openings.{opening-may_begin}
-use Rattle.busdma_base.proofs.Accounts.WellFormed.{well-opening}
+use Rattle.busdma_machine.proofs.Accounts.LaneEntries.{account_of-append}
+use Rattle.busdma_machine.proofs.Accounts.EachFrame.{whole-history, below-history, below-opening}
+use Rattle.busdma_machine.proofs.Accounts.LowPages.{pages-low}
+use Rattle.busdma_base.proofs.Openings.{opening-may_begin}
+use Rattle.busdma_machine.proofs.Accounts.WellFormed.{well-opening}
 use Rattle.lane_agreement.specs.Agreement.{Agrees, IsFit}
 use Rattle.lane_agreement.specs.View.{View}
 use Rattle.lane_agreement.proofs.Others.{agrees-stays}

@@ -5,7 +5,7 @@ use Rattle.std.proofs.lemmas.Option.{slice_get_past}
 use Rattle.busdma_base.specs.declared.journals.journal.Side.{Side}
 use Rattle.busdma_base.specs.declared.journals.journal.Side.TheVariants as side
 use Rattle.busdma_base.specs.declared.scenarios.script.Op.TheVariants as op
-use Rattle.busdma_base.specs.Bounce.AccountStep.{called_from}
+use Rattle.busdma_machine.specs.Bounce.AccountStep.{called_from}
 use Rattle.ideal_lane.specs.Asking.{Gives, goes_on}
 use Rattle.ideal_lane.specs.State.{LaneState}
 use Rattle.ideal_lane.specs.Turns.{Blocked, stays, operation, waits, advanced, next_operation, script_turn}

@@ -5,19 +5,19 @@ use Rattle.std.proofs.lemmas.Bool.{ne_eqb}
 use Rattle.std.proofs.lemmas.List.Elements.{All-head, All-tail, All-weaker}
 use Rattle.std.proofs.lemmas.List.Sums.{sum_by-cons}
 use Rattle.std.specs.List.{count_by, sum_by}
-use Rattle.busdma_base.specs.declared.bounce.hold.HoldEntry.{HoldEntry}
-use Rattle.busdma_base.specs.declared.bounce.zone.Waiter.{Waiter}
-use Rattle.busdma_base.specs.declared.name.MapId.{MapId}
+use Rattle.busdma_machine.specs.declared.bounce.hold.HoldEntry.{HoldEntry}
+use Rattle.busdma_machine.specs.declared.bounce.zone.Waiter.{Waiter}
+use Rattle.busdma_machine.specs.declared.name.MapId.{MapId}
 use Rattle.busdma_base.specs.declared.scenarios.scenario.Scenario.{Scenario}
-use Rattle.busdma_base.specs.Bounce.Account.{Account, Zone, zone_at, no_zone, same_map}
-use Rattle.busdma_base.specs.Bounce.Conditions.{times_listed}
-use Rattle.busdma_base.specs.Bounce.History.{account_of}
-use Rattle.busdma_base.specs.Bounce.Opening.{opening}
-use Rattle.busdma_base.specs.Bounce.SameFor.{SameFor}
-use Rattle.busdma_base.specs.Bounce.Share.{is_waiting, waiters}
-use Rattle.busdma_base.specs.Bounce.WellFormed.{Lacks, IsWellFormed}
-use Rattle.busdma_base.proofs.Accounts.Names.{same_map-self}
-use Rattle.busdma_base.proofs.Accounts.Shares.{SameFor-history}
+use Rattle.busdma_machine.specs.Bounce.Account.{Account, Zone, zone_at, no_zone, same_map}
+use Rattle.busdma_machine.specs.Bounce.Conditions.{times_listed}
+use Rattle.busdma_machine.specs.Bounce.History.{account_of}
+use Rattle.busdma_base.specs.Scenarios.Opening.{opening}
+use Rattle.busdma_machine.specs.Bounce.SameFor.{SameFor}
+use Rattle.busdma_machine.specs.Bounce.Share.{is_waiting, waiters}
+use Rattle.busdma_machine.specs.Bounce.WellFormed.{Lacks, IsWellFormed}
+use Rattle.busdma_machine.proofs.Accounts.Names.{same_map-self}
+use Rattle.busdma_machine.proofs.Accounts.Shares.{SameFor-history}
 use Rattle.lane_agreement.specs.OwnShare.{one_if}
 use Rattle.lane_agreement.proofs.Own.{count-one}
 use Rattle.ideal_world.specs.WellFormed.{IsReached}

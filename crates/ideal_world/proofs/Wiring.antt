@@ -2,8 +2,8 @@
 use Rattle.std.proofs.Common.{◌≡◌, ◌≢◌, ℕ, true, ◌+◌, Some, sym, subst, arith, slice_get}
 use Rattle.busdma_base.specs.declared.journals.journal.Actor.{Actor}
 use Rattle.busdma_base.specs.declared.scenarios.scenario.Scenario.{Scenario}
-use Rattle.busdma_base.specs.Bounce.Opening.{maxmem_of}
-use Rattle.busdma_base.specs.Machine.PageRuns.{is_own}
+use Rattle.busdma_base.specs.Scenarios.Opening.{maxmem_of}
+use Rattle.busdma_base.specs.Scenarios.PageRuns.{is_own}
 use Rattle.busdma_base.specs.Scenarios.Valid.{IsValid}
 use Rattle.ideal_lane.specs.Asking.{by_reply}
 use Rattle.ideal_lane.specs.Opening.{opening_lane}

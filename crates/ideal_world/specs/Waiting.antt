@@ -3,8 +3,8 @@ use Rattle.std.specs.Prelude.{◌≡◌, ℕ, true, [], Some, slice_get}
 use Rattle.std.specs.List.{count_by}
 use Rattle.std.specs.FinMap.{get}
 use Rattle.busdma_base.specs.declared.scenarios.script.Op.TheVariants.{Await}
-use Rattle.busdma_base.specs.Bounce.Account.{Account, zone_at}
-use Rattle.busdma_base.specs.Bounce.Share.{is_waiting}
+use Rattle.busdma_machine.specs.Bounce.Account.{Account, zone_at}
+use Rattle.busdma_machine.specs.Bounce.Share.{is_waiting}
 use Rattle.ideal_lane.specs.State.{LaneState, LaneMap, Waiting, WaitingLoad, named}
 use Rattle.ideal_world.specs.World.{WorldState, has_ended}
 

@@ -1,8 +1,8 @@
 -- The wires of all drivers of a world: the bytes that the frames and the bounce pages of each really hold.
 use Rattle.std.specs.Prelude.{◌≡◌, ◌≢◌, ℕ, true, Some, slice_get}
 use Rattle.busdma_base.specs.declared.journals.journal.Actor.{Actor}
-use Rattle.busdma_base.specs.Machine.PageRuns.{is_own}
-use Rattle.busdma_base.specs.Machine.Wire.{Wire}
+use Rattle.busdma_base.specs.Scenarios.PageRuns.{is_own}
+use Rattle.busdma_machine.specs.Machine.Wire.{Wire}
 use Rattle.ideal_lane.specs.State.{LaneState}
 use Rattle.ideal_wire.specs.Centre.{IsFaithful}
 use Rattle.ideal_wire.specs.WireStep.{Follows, lane_step}

@@ -6,10 +6,10 @@ use Rattle.busdma_base.specs.declared.journals.journal.Actor.{Actor}
 use Rattle.busdma_base.specs.declared.journals.journal.JournalEntry.{JournalEntry}
 use Rattle.busdma_base.specs.declared.scenarios.scenario.Driver.{Driver}
 use Rattle.busdma_base.specs.declared.scenarios.scenario.Scenario.{Scenario}
-use Rattle.busdma_base.specs.declared.bounce.zone.ZoneCounts.{ZoneCounts}
-use Rattle.busdma_base.specs.Bounce.Account.{Account, Zone, counts}
-use Rattle.busdma_base.specs.Bounce.AccountStep.{Outcome, account_step}
-use Rattle.busdma_base.specs.Bounce.Opening.{maxmem_of, opening}
+use Rattle.busdma_machine.specs.declared.bounce.zone.ZoneCounts.{ZoneCounts}
+use Rattle.busdma_machine.specs.Bounce.Account.{Account, Zone, counts}
+use Rattle.busdma_machine.specs.Bounce.AccountStep.{Outcome, account_step}
+use Rattle.busdma_base.specs.Scenarios.Opening.{maxmem_of, opening}
 use Rattle.ideal_lane.specs.Asking.{Asking, Gives, Asks}
 use Rattle.ideal_lane.specs.Opening.{opening_lane}
 use Rattle.ideal_lane.specs.State.{LaneState}

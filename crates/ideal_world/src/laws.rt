@@ -7,9 +7,9 @@ ghost use Rattle.busdma_base.specs.declared.journals.journal.JournalEntry.{Journ
 ghost use Rattle.busdma_base.specs.declared.journals.journal.Side.{Side};
 ghost use Rattle.busdma_base.specs.declared.scenarios.scenario.Scenario.{Scenario};
 ghost use Rattle.busdma_base.specs.declared.scenarios.script.Place.{Place};
-ghost use Rattle.busdma_base.specs.Bounce.EachFrame.{EachFrame, LiesBelowMaxmem};
-ghost use Rattle.busdma_base.specs.Bounce.History.{IsFrame};
-ghost use Rattle.busdma_base.specs.Bounce.LowPages.{PagesLieLow};
+ghost use Rattle.busdma_machine.specs.Bounce.EachFrame.{EachFrame, LiesBelowMaxmem};
+ghost use Rattle.busdma_machine.specs.Bounce.History.{IsFrame};
+ghost use Rattle.busdma_machine.specs.Bounce.LowPages.{PagesLieLow};
 ghost use Rattle.busdma_base.specs.Scenarios.Valid.{IsValid};
 ghost use Rattle.lane_agreement.specs.Agreement.{IsFit};
 ghost use Rattle.ideal_lane.specs.Accesses.{cpu_read, dev_read};

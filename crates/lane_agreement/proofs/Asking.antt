@@ -1,18 +1,18 @@
 -- Where a lane and an account agree, the condition of each call of the lane holds.
 use Rattle.std.proofs.Common.{◌≡◌, ℕ, ◌≤◌, true, List, [], ◌∷◌, refl, ap, subst, arith, eqb, ◌==◌, Some, None, IsTrue}
 use Rattle.std.proofs.lemmas.Bool.{eq-eqb}
-use Rattle.busdma_base.specs.declared.name.MapId.{MapId}
-use Rattle.busdma_base.specs.declared.bounce.hold.HubCall.{HubCall}
-use Rattle.busdma_base.specs.declared.bounce.hold.HubCall.TheVariants.{AttachTag, CreateMap, DestroyMap, Grab, Release}
-use Rattle.busdma_base.specs.declared.bounce.hold.HubCall.TheVariants.{TakeCallback, MemAlloc, MemFree}
-use Rattle.busdma_base.specs.Bounce.Account.{Account, Held}
-use Rattle.busdma_base.specs.Bounce.Serving.{is_holding}
-use Rattle.busdma_base.specs.Bounce.Conditions.{MayCall, IsIdle, times_held}
-use Rattle.busdma_base.specs.Tags.Tag.{could_bounce}
-use Rattle.busdma_base.specs.Bounce.Places.{places}
-use Rattle.busdma_base.proofs.Accounts.Names.{and_left}
+use Rattle.busdma_machine.specs.declared.name.MapId.{MapId}
+use Rattle.busdma_machine.specs.declared.bounce.hold.HubCall.{HubCall}
+use Rattle.busdma_machine.specs.declared.bounce.hold.HubCall.TheVariants.{AttachTag, CreateMap, DestroyMap, Grab, Release}
+use Rattle.busdma_machine.specs.declared.bounce.hold.HubCall.TheVariants.{TakeCallback, MemAlloc, MemFree}
+use Rattle.busdma_machine.specs.Bounce.Account.{Account, Held}
+use Rattle.busdma_machine.specs.Bounce.Serving.{is_holding}
+use Rattle.busdma_machine.specs.Bounce.Conditions.{MayCall, IsIdle, times_held}
+use Rattle.busdma_machine.specs.Tags.Tag.{could_bounce}
+use Rattle.busdma_machine.specs.Bounce.Places.{places}
+use Rattle.busdma_machine.proofs.Accounts.Names.{and_left}
 use Rattle.lane_agreement.specs.View.{View, Return, Idle}
-use Rattle.busdma_base.specs.Bounce.Share.{Same, share}
+use Rattle.busdma_machine.specs.Bounce.Share.{Same, share}
 use Rattle.lane_agreement.specs.OwnShare.{share_of, is_return, one_if}
 use Rattle.lane_agreement.specs.Agreement.{Agrees}
 use Rattle.lane_agreement.specs.After.{Asks, IsFront}

@@ -2,13 +2,13 @@
 use Rattle.std.proofs.Common.{◌≡◌, ◌≢◌, ℕ, Bool, false, List, [], ◌∷◌, ◌++◌, refl, sym, ap, ◌∙◌, subst, All, IsTrue}
 use Rattle.std.proofs.lemmas.Bool.{false≢true}
 use Rattle.std.proofs.lemmas.List.Elements.{All-nil, All-cons, All-head, All-tail}
-use Rattle.busdma_base.specs.declared.bounce.hold.HubCall.{HubCall}
-use Rattle.busdma_base.specs.declared.bounce.hold.HubReply.{HubReply}
-use Rattle.busdma_base.specs.declared.bounce.hold.HoldEntry.{HoldEntry}
-use Rattle.busdma_base.specs.Bounce.Account.{Account}
-use Rattle.busdma_base.specs.Bounce.AccountStep.{account_step}
-use Rattle.busdma_base.specs.Bounce.History.{IsOpening, IsSound, after_entry, account_of}
-use Rattle.busdma_base.specs.Bounce.Door.{Seen, account, Passes, Holds}
+use Rattle.busdma_machine.specs.declared.bounce.hold.HubCall.{HubCall}
+use Rattle.busdma_machine.specs.declared.bounce.hold.HubReply.{HubReply}
+use Rattle.busdma_machine.specs.declared.bounce.hold.HoldEntry.{HoldEntry}
+use Rattle.busdma_machine.specs.Bounce.Account.{Account}
+use Rattle.busdma_machine.specs.Bounce.AccountStep.{account_step}
+use Rattle.busdma_machine.specs.Bounce.History.{IsOpening, IsSound, after_entry, account_of}
+use Rattle.busdma_machine.specs.Bounce.Door.{Seen, account, Passes, Holds}
 use Rattle.lane_agreement.specs.View.{View}
 use Rattle.lane_agreement.specs.Agreement.{Agrees}
 use Rattle.lane_agreement.specs.After.{after, Asks}

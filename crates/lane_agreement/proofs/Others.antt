@@ -1,17 +1,17 @@
 -- Sound entries of other lanes keep the agreement.
 use Rattle.std.proofs.Common.{◌≢◌, List, sym, ◌∙◌, arith, ◌==◌, All}
-use Rattle.busdma_base.specs.declared.bounce.hold.HoldEntry.{HoldEntry}
-use Rattle.busdma_base.specs.Bounce.Account.{Account}
-use Rattle.busdma_base.specs.Bounce.History.{IsSound, account_of}
-use Rattle.busdma_base.specs.Bounce.SameFor.{SameFor}
-use Rattle.busdma_base.proofs.Accounts.Shares.{SameFor-history}
-use Rattle.busdma_base.proofs.Accounts.Places.{where-history}
-use Rattle.busdma_base.specs.Bounce.WellFormed.{IsWellFormed}
+use Rattle.busdma_machine.specs.declared.bounce.hold.HoldEntry.{HoldEntry}
+use Rattle.busdma_machine.specs.Bounce.Account.{Account}
+use Rattle.busdma_machine.specs.Bounce.History.{IsSound, account_of}
+use Rattle.busdma_machine.specs.Bounce.SameFor.{SameFor}
+use Rattle.busdma_machine.proofs.Accounts.Shares.{SameFor-history}
+use Rattle.busdma_machine.proofs.Accounts.Places.{where-history}
+use Rattle.busdma_machine.specs.Bounce.WellFormed.{IsWellFormed}
 use Rattle.lane_agreement.specs.View.{View}
-use Rattle.busdma_base.specs.Bounce.Share.{share}
+use Rattle.busdma_machine.specs.Bounce.Share.{share}
 use Rattle.lane_agreement.specs.OwnShare.{own_share}
 use Rattle.lane_agreement.specs.Agreement.{Agrees}
-use Rattle.busdma_base.proofs.Accounts.Names.{Same-trans}
+use Rattle.busdma_machine.proofs.Accounts.Names.{Same-trans}
 
 pub agrees-stays : (l : View) (a : Account) (es : List HoldEntry) → IsWellFormed a → Agrees l a → IsSound a es →
     All (λ e. e.lane.0 ≢ l.id) es → Agrees l (account_of a es)

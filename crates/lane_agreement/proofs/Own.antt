@@ -7,19 +7,19 @@ use Rattle.std.specs.List.{count_by, filter}
 use Rattle.std.proofs.lemmas.List.{get_or-set_same, get_or-set_other}
 use Rattle.std.proofs.lemmas.List.Sums.{sum_by-cons, sum_by-set}
 use Rattle.std.proofs.lemmas.Bool.Decides.{eqb_tells}
-use Rattle.busdma_base.specs.declared.name.MapId.{MapId}
-use Rattle.busdma_base.specs.declared.bounce.zone.Waiter.{Waiter}
-use Rattle.busdma_base.specs.Bounce.Account.{Account, Zone, Held, Memory, same_map, zone_at, with_zone, no_zone, free}
-use Rattle.busdma_base.specs.declared.tags.tag.TagLimits.{TagLimits}
-use Rattle.busdma_base.specs.Bounce.Growth.{serves_tag, zones_for, zone_of, with_map, without_map}
-use Rattle.busdma_base.specs.Bounce.MemoryRuns.{in_run, with_memory, without_memory, frames_of}
-use Rattle.busdma_base.specs.Bounce.Serving.{is_holding, handed, queued, returned}
-use Rattle.busdma_base.specs.Bounce.Conditions.{times_made, times_in_zones, times_held, pages_held, memories}
-use Rattle.busdma_base.proofs.Accounts.Counting.{get_or-set_as, count_by-append, count_by-filter_keeps}
-use Rattle.busdma_base.proofs.Accounts.Counting.{sum_by-set_like}
-use Rattle.busdma_base.specs.Bounce.Share.{Same, share, waiters}
+use Rattle.busdma_machine.specs.declared.name.MapId.{MapId}
+use Rattle.busdma_machine.specs.declared.bounce.zone.Waiter.{Waiter}
+use Rattle.busdma_machine.specs.Bounce.Account.{Account, Zone, Held, Memory, same_map, zone_at, with_zone, no_zone, free}
+use Rattle.busdma_machine.specs.declared.tags.tag.TagLimits.{TagLimits}
+use Rattle.busdma_machine.specs.Bounce.Growth.{serves_tag, zones_for, zone_of, with_map, without_map}
+use Rattle.busdma_machine.specs.Bounce.MemoryRuns.{in_run, with_memory, without_memory, frames_of}
+use Rattle.busdma_machine.specs.Bounce.Serving.{is_holding, handed, queued, returned}
+use Rattle.busdma_machine.specs.Bounce.Conditions.{times_made, times_in_zones, times_held, pages_held, memories}
+use Rattle.busdma_machine.proofs.Accounts.Counting.{get_or-set_as, count_by-append, count_by-filter_keeps}
+use Rattle.busdma_machine.proofs.Accounts.Counting.{sum_by-set_like}
+use Rattle.busdma_machine.specs.Bounce.Share.{Same, share, waiters}
 use Rattle.lane_agreement.specs.OwnShare.{one_if}
-use Rattle.busdma_base.proofs.Accounts.Names.{and_left, and_right, same_map-self, name-with_zone}
+use Rattle.busdma_machine.proofs.Accounts.Names.{and_left, and_right, same_map-self, name-with_zone}
 
 pub and-true : (a : Bool) → (a && true) ≡ a
 and-true true = refl

@@ -5,21 +5,21 @@ use Rattle.std.proofs.Common.{None, inl, inr}
 use Rattle.std.proofs.lemmas.Bool.{false≢true, eqb-true, eq-eqb}
 use Rattle.std.proofs.lemmas.Bool.Decides.{eqb_tells}
 use Rattle.std.specs.List.{count_by, filter}
-use Rattle.busdma_base.specs.declared.name.MapId.{MapId}
-use Rattle.busdma_base.specs.declared.bounce.zone.Waiter.{Waiter}
-use Rattle.busdma_base.specs.Bounce.Account.{Account, same_map, zone_at}
-use Rattle.busdma_base.specs.Bounce.Growth.{with_map, without_map}
-use Rattle.busdma_base.specs.Bounce.MemoryRuns.{in_run, with_memory, without_memory}
-use Rattle.busdma_base.specs.Bounce.Serving.{handed, queued, returned}
-use Rattle.busdma_base.specs.Bounce.Conditions.{times_held}
-use Rattle.busdma_base.proofs.Accounts.Counting.{count_by-append, count_by-map_none}
+use Rattle.busdma_machine.specs.declared.name.MapId.{MapId}
+use Rattle.busdma_machine.specs.declared.bounce.zone.Waiter.{Waiter}
+use Rattle.busdma_machine.specs.Bounce.Account.{Account, same_map, zone_at}
+use Rattle.busdma_machine.specs.Bounce.Growth.{with_map, without_map}
+use Rattle.busdma_machine.specs.Bounce.MemoryRuns.{in_run, with_memory, without_memory}
+use Rattle.busdma_machine.specs.Bounce.Serving.{handed, queued, returned}
+use Rattle.busdma_machine.specs.Bounce.Conditions.{times_held}
+use Rattle.busdma_machine.proofs.Accounts.Counting.{count_by-append, count_by-map_none}
 use Rattle.lane_agreement.specs.View.{View, Return, OwnMap, Stage, Idle, Waiting, Loaded, Returning, changed}
 use Rattle.lane_agreement.specs.View.{queued_back, emptied, returning, is_astray}
-use Rattle.busdma_base.specs.Bounce.Share.{Share, Same, share, is_waiting, waiters}
+use Rattle.busdma_machine.specs.Bounce.Share.{Share, Same, share, is_waiting, waiters}
 use Rattle.lane_agreement.specs.OwnShare.{share_of, own_share, is_return, one_if, loaded, loaded_page, waits_for}
 use Rattle.lane_agreement.specs.OwnShare.{waits_in, listed_in}
 use Rattle.lane_agreement.specs.Agreement.{ShareNames}
-use Rattle.busdma_base.proofs.Accounts.Names.{Same-trans, and_none, and_left, and_right, same_map-same, same_map-self}
+use Rattle.busdma_machine.proofs.Accounts.Names.{Same-trans, and_none, and_left, and_right, same_map-same, same_map-self}
 use Rattle.lane_agreement.proofs.Own.{and-true, count-one, count-map, count-like, count-all, handed-holds}
 use Rattle.lane_agreement.proofs.Own.{handed-holds_page, handed-zones, returned-holds, returned-page, returned-other}
 use Rattle.lane_agreement.proofs.Own.{returned-zones, queued-waiters, queued-made, queued-in_zones, with_map-in_zones}

@@ -3,11 +3,11 @@ use Rattle.std.proofs.Common.{◌≡◌, ℕ, zero, suc, ◌+◌, ◌*◌, ◌%�
 use Rattle.std.proofs.Common.{◌∷◌, ◌++◌, refl, ap, ◌∙◌, subst, arith, eqb, leb, ltb, if◌then◌else◌, ◌==◌, Some, None}
 use Rattle.std.proofs.lemmas.Bool.{false≢true, eqb-true, le-leb, lt-leb, le-ltb, lt-ltb, leb-true}
 use Rattle.std.specs.List.{count_by, filter}
-use Rattle.busdma_base.specs.Bounce.MemoryRuns.{frames_for, follow, crosses_none, lowest_run, in_run}
-use Rattle.busdma_base.specs.Bounce.History.{IsRising}
-use Rattle.busdma_base.specs.Bounce.MemoryRuns.{frames_from}
+use Rattle.busdma_machine.specs.Bounce.MemoryRuns.{frames_for, follow, crosses_none, lowest_run, in_run}
+use Rattle.busdma_machine.specs.Bounce.History.{IsRising}
+use Rattle.busdma_machine.specs.Bounce.MemoryRuns.{frames_from}
 use Rattle.lane_agreement.specs.OwnShare.{one_if}
-use Rattle.busdma_base.proofs.Accounts.Names.{and_left, and_right}
+use Rattle.busdma_machine.proofs.Accounts.Names.{and_left, and_right}
 use Rattle.lane_agreement.proofs.Own.{count-one}
 
 -- frames from k on, each at least a frame above the one before it

@@ -4,35 +4,35 @@ use Rattle.std.proofs.Common.{sym, ap, ◌∙◌, subst, arith, eqb, leb, if◌t
 use Rattle.std.proofs.lemmas.Bool.{false≢true, eqb-true, eq-eqb}
 use Rattle.std.proofs.lemmas.List.{length-set}
 use Rattle.std.specs.List.{count_by, filter}
-use Rattle.busdma_base.specs.declared.name.MapId.{MapId}
-use Rattle.busdma_base.specs.declared.tags.tag.TagLimits.{TagLimits}
-use Rattle.busdma_base.specs.declared.bounce.zone.Waiter.{Waiter}
-use Rattle.busdma_base.specs.declared.bounce.hold.HubCall.{HubCall}
-use Rattle.busdma_base.specs.declared.bounce.hold.HubReply.TheVariants.{Nothing, Granted, Queued, NoPages, Called}
-use Rattle.busdma_base.specs.Bounce.Account.{Account, same_map, zone_at, free, total}
-use Rattle.busdma_base.specs.Bounce.Growth.{zone_of, with_zone_for, added, grown, maxpages, wanted_by_map, with_map}
-use Rattle.busdma_base.specs.Bounce.Growth.{without_map}
-use Rattle.busdma_base.specs.Bounce.MemoryRuns.{in_run, with_memory, without_memory}
-use Rattle.busdma_base.specs.Bounce.Serving.{handed, queued, returned}
-use Rattle.busdma_base.specs.Bounce.AccountStep.{Outcome, account_step, as_pages, created, grabbed, released}
-use Rattle.busdma_base.specs.Bounce.AccountStep.{called_from}
-use Rattle.busdma_base.specs.Bounce.Conditions.{MayCall, times_held}
-use Rattle.busdma_base.specs.Bounce.Places.{places}
-use Rattle.busdma_base.specs.Bounce.WellFormed.{IsWellFormed}
-use Rattle.busdma_base.proofs.Accounts.Shares.{maxmem-step}
-use Rattle.busdma_base.proofs.Accounts.Places.{where-step}
+use Rattle.busdma_machine.specs.declared.name.MapId.{MapId}
+use Rattle.busdma_machine.specs.declared.tags.tag.TagLimits.{TagLimits}
+use Rattle.busdma_machine.specs.declared.bounce.zone.Waiter.{Waiter}
+use Rattle.busdma_machine.specs.declared.bounce.hold.HubCall.{HubCall}
+use Rattle.busdma_machine.specs.declared.bounce.hold.HubReply.TheVariants.{Nothing, Granted, Queued, NoPages, Called}
+use Rattle.busdma_machine.specs.Bounce.Account.{Account, same_map, zone_at, free, total}
+use Rattle.busdma_machine.specs.Bounce.Growth.{zone_of, with_zone_for, added, grown, maxpages, wanted_by_map, with_map}
+use Rattle.busdma_machine.specs.Bounce.Growth.{without_map}
+use Rattle.busdma_machine.specs.Bounce.MemoryRuns.{in_run, with_memory, without_memory}
+use Rattle.busdma_machine.specs.Bounce.Serving.{handed, queued, returned}
+use Rattle.busdma_machine.specs.Bounce.AccountStep.{Outcome, account_step, as_pages, created, grabbed, released}
+use Rattle.busdma_machine.specs.Bounce.AccountStep.{called_from}
+use Rattle.busdma_machine.specs.Bounce.Conditions.{MayCall, times_held}
+use Rattle.busdma_machine.specs.Bounce.Places.{places}
+use Rattle.busdma_machine.specs.Bounce.WellFormed.{IsWellFormed}
+use Rattle.busdma_machine.proofs.Accounts.Shares.{maxmem-step}
+use Rattle.busdma_machine.proofs.Accounts.Places.{where-step}
 use Rattle.lane_agreement.specs.View.{View, Return, OwnMap, Stage, Idle, Waiting, Loaded, Returning, changed, staged}
 use Rattle.lane_agreement.specs.View.{gone, with_mem, queued_back, emptied, unloaded, ended, restaged, given_back}
 use Rattle.lane_agreement.specs.View.{zone_in, returning, is_returning, is_astray}
-use Rattle.busdma_base.specs.Bounce.Share.{Same, share}
+use Rattle.busdma_machine.specs.Bounce.Share.{Same, share}
 use Rattle.lane_agreement.specs.OwnShare.{share_of, own_share, one_if}
 use Rattle.lane_agreement.specs.Agreement.{Agrees}
 use Rattle.lane_agreement.specs.After.{addresses, after_grab, after_create, after_callback}
-use Rattle.busdma_base.proofs.Accounts.Names.{and_none, and_left, Same-refl, Same-trans, name-grown_for, name-with_map}
-use Rattle.busdma_base.proofs.Accounts.Names.{name-without_map, name-handed, name-queued, name-released, name-served}
-use Rattle.busdma_base.proofs.Accounts.Names.{name-shorter, name-with_memory, name-without_memory}
+use Rattle.busdma_machine.proofs.Accounts.Names.{and_none, and_left, Same-refl, Same-trans, name-grown_for, name-with_map}
+use Rattle.busdma_machine.proofs.Accounts.Names.{name-without_map, name-handed, name-queued, name-released, name-served}
+use Rattle.busdma_machine.proofs.Accounts.Names.{name-shorter, name-with_memory, name-without_memory}
 use Rattle.lane_agreement.proofs.Own.{count-one, count-less, zone_of-inside}
-use Rattle.busdma_base.proofs.Accounts.Counting.{count_by-append, count_by-map_none}
+use Rattle.busdma_machine.proofs.Accounts.Counting.{count_by-append, count_by-map_none}
 use Rattle.lane_agreement.proofs.Places.{OtherReturns, no-returns, names-changed, share-handed, share-queued}
 use Rattle.lane_agreement.proofs.Places.{share-shorter, waits-tells, head-waits, back-returns, share-unloaded}
 use Rattle.lane_agreement.proofs.Places.{share-returned, front-returns, share-bare, share-with_map, share-without_map}

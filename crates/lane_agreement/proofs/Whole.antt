@@ -5,34 +5,34 @@ use Rattle.std.proofs.lemmas.Bool.{eqb-true, eq-eqb, leb-true}
 use Rattle.std.proofs.lemmas.List.{length-take-le}
 use Rattle.std.proofs.lemmas.List.Elements.{All-head, All-tail}
 use Rattle.std.specs.List.{count_by}
-use Rattle.busdma_base.specs.declared.machine.address.Pa.{Pa}
-use Rattle.busdma_base.specs.declared.name.MapId.{MapId}
-use Rattle.busdma_base.specs.declared.bounce.zone.Waiter.{Waiter}
-use Rattle.busdma_base.specs.declared.bounce.hold.HubCall.{HubCall}
-use Rattle.busdma_base.specs.declared.bounce.hold.HubCall.TheVariants.{AttachTag, CreateMap, DestroyMap, Grab, Release}
-use Rattle.busdma_base.specs.declared.bounce.hold.HubCall.TheVariants.{TakeCallback, MemAlloc, MemFree}
-use Rattle.busdma_base.specs.declared.bounce.hold.HoldEntry.{HoldEntry}
-use Rattle.busdma_base.specs.Bounce.Account.{Account, zone_at, free}
-use Rattle.busdma_base.specs.Bounce.MemoryRuns.{frames_for, lowest_run}
-use Rattle.busdma_base.specs.Bounce.AccountStep.{Outcome, account_step, as_pages, grabbed, called_from, released}
-use Rattle.busdma_base.specs.Bounce.AccountStep.{placed}
-use Rattle.busdma_base.specs.Bounce.Serving.{handed, queued}
-use Rattle.busdma_base.specs.declared.bounce.hold.HubReply.TheVariants.{Nothing, Granted, Queued, NoPages, Called}
+use Rattle.busdma_machine.specs.declared.machine.address.Pa.{Pa}
+use Rattle.busdma_machine.specs.declared.name.MapId.{MapId}
+use Rattle.busdma_machine.specs.declared.bounce.zone.Waiter.{Waiter}
+use Rattle.busdma_machine.specs.declared.bounce.hold.HubCall.{HubCall}
+use Rattle.busdma_machine.specs.declared.bounce.hold.HubCall.TheVariants.{AttachTag, CreateMap, DestroyMap, Grab, Release}
+use Rattle.busdma_machine.specs.declared.bounce.hold.HubCall.TheVariants.{TakeCallback, MemAlloc, MemFree}
+use Rattle.busdma_machine.specs.declared.bounce.hold.HoldEntry.{HoldEntry}
+use Rattle.busdma_machine.specs.Bounce.Account.{Account, zone_at, free}
+use Rattle.busdma_machine.specs.Bounce.MemoryRuns.{frames_for, lowest_run}
+use Rattle.busdma_machine.specs.Bounce.AccountStep.{Outcome, account_step, as_pages, grabbed, called_from, released}
+use Rattle.busdma_machine.specs.Bounce.AccountStep.{placed}
+use Rattle.busdma_machine.specs.Bounce.Serving.{handed, queued}
+use Rattle.busdma_machine.specs.declared.bounce.hold.HubReply.TheVariants.{Nothing, Granted, Queued, NoPages, Called}
 use Rattle.lane_agreement.proofs.Places.{no-returns, waits-tells, head-waits}
-use Rattle.busdma_base.specs.Bounce.Conditions.{MayCall, times_held}
-use Rattle.busdma_base.specs.Bounce.History.{IsFrame, IsOpening, IsSound, account_of}
-use Rattle.busdma_base.specs.Bounce.Places.{times}
-use Rattle.busdma_base.specs.Bounce.WellFormed.{IsWellFormed}
-use Rattle.busdma_base.proofs.Accounts.Counts.{in_zones, shorter-enough}
-use Rattle.busdma_base.proofs.Accounts.Places.{where-history, places-opening, times-rising}
-use Rattle.busdma_base.proofs.Accounts.WellFormed.{account-well, well-opening}
-use Rattle.busdma_base.proofs.Accounts.Rising.{bank-rises}
+use Rattle.busdma_machine.specs.Bounce.Conditions.{MayCall, times_held}
+use Rattle.busdma_machine.specs.Bounce.History.{IsFrame, IsOpening, IsSound, account_of}
+use Rattle.busdma_machine.specs.Bounce.Places.{times}
+use Rattle.busdma_machine.specs.Bounce.WellFormed.{IsWellFormed}
+use Rattle.busdma_machine.proofs.Accounts.Counts.{in_zones, shorter-enough}
+use Rattle.busdma_machine.proofs.Accounts.Places.{where-history, places-opening, times-rising}
+use Rattle.busdma_machine.proofs.Accounts.WellFormed.{account-well, well-opening}
+use Rattle.busdma_machine.proofs.Accounts.Rising.{bank-rises}
 use Rattle.lane_agreement.specs.View.{View, Return, Idle, Waiting, Loaded, staged, given_back, is_astray, zone_in}
-use Rattle.busdma_base.specs.Bounce.Share.{Same, share}
+use Rattle.busdma_machine.specs.Bounce.Share.{Same, share}
 use Rattle.lane_agreement.specs.OwnShare.{share_of, one_if}
 use Rattle.lane_agreement.specs.Agreement.{Agrees, IsFit}
 use Rattle.lane_agreement.specs.After.{after, after_mem_alloc, Asks, IsFront, IsFresh}
-use Rattle.busdma_base.proofs.Accounts.Names.{Same-refl, name-attached}
+use Rattle.busdma_machine.proofs.Accounts.Names.{Same-refl, name-attached}
 use Rattle.lane_agreement.proofs.Own.{count-one}
 use Rattle.lane_agreement.proofs.Asking.{known, agrees-may}
 use Rattle.lane_agreement.proofs.Steps.{Stepped, stepped, agrees-kept, agrees-changed, its_map, agrees-back}

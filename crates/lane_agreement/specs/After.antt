@@ -1,15 +1,15 @@
 -- What the reply to a lane's own call makes of it. A load that gets its pages ends as `fits` says.
 use Rattle.std.specs.Prelude.{◌≡◌, ℕ, ◌+◌, ◌≤◌, Bool, List, [], ◌∷◌, map, length, IsTrue, Option, Some, None}
 use Rattle.std.specs.Prelude.{if◌then◌else◌}
-use Rattle.busdma_base.specs.declared.machine.address.Pa.{Pa}
-use Rattle.busdma_base.specs.declared.bounce.hold.HubCall.{HubCall}
-use Rattle.busdma_base.specs.declared.bounce.hold.HubCall.TheVariants.{AttachTag, CreateMap, DestroyMap, Grab, Release}
-use Rattle.busdma_base.specs.declared.bounce.hold.HubCall.TheVariants.{TakeCallback, MemAlloc, MemFree}
-use Rattle.busdma_base.specs.declared.bounce.hold.HubReply.{HubReply}
-use Rattle.busdma_base.specs.declared.bounce.hold.HubReply.TheVariants.{Grown, Granted, Queued, Called, Run}
-use Rattle.busdma_base.specs.Tags.Tag.{could_bounce}
-use Rattle.busdma_base.specs.Tags.TagFlags.{allocnow}
-use Rattle.busdma_base.specs.Bounce.MemoryRuns.{frames_from}
+use Rattle.busdma_machine.specs.declared.machine.address.Pa.{Pa}
+use Rattle.busdma_machine.specs.declared.bounce.hold.HubCall.{HubCall}
+use Rattle.busdma_machine.specs.declared.bounce.hold.HubCall.TheVariants.{AttachTag, CreateMap, DestroyMap, Grab, Release}
+use Rattle.busdma_machine.specs.declared.bounce.hold.HubCall.TheVariants.{TakeCallback, MemAlloc, MemFree}
+use Rattle.busdma_machine.specs.declared.bounce.hold.HubReply.{HubReply}
+use Rattle.busdma_machine.specs.declared.bounce.hold.HubReply.TheVariants.{Grown, Granted, Queued, Called, Run}
+use Rattle.busdma_machine.specs.Tags.Tag.{could_bounce}
+use Rattle.busdma_machine.specs.Tags.TagFlags.{allocnow}
+use Rattle.busdma_machine.specs.Bounce.MemoryRuns.{frames_from}
 use Rattle.lane_agreement.specs.View.{View, OwnMap, Return, Idle, Waiting, Loaded, Returning, staged, gone, with_mem}
 use Rattle.lane_agreement.specs.View.{ended, given_back, zone_in}
 

@@ -1,13 +1,13 @@
 -- When a lane and an account agree.
 use Rattle.std.specs.Prelude.{◌≡◌, ℕ, ◌%◌, ◌≤◌, true, false, not, ◌==◌}
 use Rattle.std.specs.List.{count_by}
-use Rattle.busdma_base.specs.declared.name.MapId.{MapId}
-use Rattle.busdma_base.specs.Bounce.Account.{Account}
-use Rattle.busdma_base.specs.Bounce.Places.{places, frames_where}
-use Rattle.busdma_base.specs.Bounce.WellFormed.{IsWellFormed}
-use Rattle.busdma_base.specs.Bounce.History.{IsRising}
+use Rattle.busdma_machine.specs.declared.name.MapId.{MapId}
+use Rattle.busdma_machine.specs.Bounce.Account.{Account}
+use Rattle.busdma_machine.specs.Bounce.Places.{places, frames_where}
+use Rattle.busdma_machine.specs.Bounce.WellFormed.{IsWellFormed}
+use Rattle.busdma_machine.specs.Bounce.History.{IsRising}
 use Rattle.lane_agreement.specs.View.{View, is_returning, returning, is_astray, zone_in}
-use Rattle.busdma_base.specs.Bounce.Share.{Same, share}
+use Rattle.busdma_machine.specs.Bounce.Share.{Same, share}
 use Rattle.lane_agreement.specs.OwnShare.{own_share}
 
 -- of each name of the lane the account has what the lane has of it

@@ -1,7 +1,7 @@
 -- What a lane has of one name.
 use Rattle.std.specs.Prelude.{ℕ, ◌+◌, Bool, ◌&&◌, List, [], length, Option, Some, None, ◌==◌, if◌then◌else◌}
 use Rattle.std.specs.List.{count_by}
-use Rattle.busdma_base.specs.Bounce.Share.{Share}
+use Rattle.busdma_machine.specs.Bounce.Share.{Share}
 use Rattle.lane_agreement.specs.View.{View, OwnMap, Return, Stage, Idle, Waiting, Loaded, Returning, returning}
 
 abbrev pub one_if : Bool → ℕ

@@ -4,20 +4,20 @@
 
 ghost use Rattle.std.specs.Prelude.{◌≡◌, ◌≢◌, ◌+◌, ◌≤◌, ℕ, Bool, true, List, [], ◌∷◌, Option, Some, None, All, IsTrue};
 ghost use Rattle.std.specs.Prelude.{length};
-ghost use Rattle.busdma_base.specs.declared.machine.address.Pa.{Pa};
-ghost use Rattle.busdma_base.specs.declared.name.MapId.{MapId};
-ghost use Rattle.busdma_base.specs.declared.bounce.hold.HubCall.{HubCall};
-ghost use Rattle.busdma_base.specs.declared.bounce.hold.HubReply.TheVariants.{Granted, Called};
-ghost use Rattle.busdma_base.specs.declared.bounce.hold.HoldEntry.{HoldEntry};
-ghost use Rattle.busdma_base.specs.Bounce.Account.{Account};
-ghost use Rattle.busdma_base.specs.Bounce.AccountStep.{account_step, grabbed, called_from};
-ghost use Rattle.busdma_base.specs.Bounce.Conditions.{MayCall};
-ghost use Rattle.busdma_base.specs.Bounce.History.{IsOpening, IsSound, account_of};
-ghost use Rattle.busdma_base.specs.Bounce.Places.{times};
-ghost use Rattle.busdma_base.specs.Bounce.WellFormed.{IsWellFormed};
+ghost use Rattle.busdma_machine.specs.declared.machine.address.Pa.{Pa};
+ghost use Rattle.busdma_machine.specs.declared.name.MapId.{MapId};
+ghost use Rattle.busdma_machine.specs.declared.bounce.hold.HubCall.{HubCall};
+ghost use Rattle.busdma_machine.specs.declared.bounce.hold.HubReply.TheVariants.{Granted, Called};
+ghost use Rattle.busdma_machine.specs.declared.bounce.hold.HoldEntry.{HoldEntry};
+ghost use Rattle.busdma_machine.specs.Bounce.Account.{Account};
+ghost use Rattle.busdma_machine.specs.Bounce.AccountStep.{account_step, grabbed, called_from};
+ghost use Rattle.busdma_machine.specs.Bounce.Conditions.{MayCall};
+ghost use Rattle.busdma_machine.specs.Bounce.History.{IsOpening, IsSound, account_of};
+ghost use Rattle.busdma_machine.specs.Bounce.Places.{times};
+ghost use Rattle.busdma_machine.specs.Bounce.WellFormed.{IsWellFormed};
 ghost use Rattle.lane_agreement.specs.View.{View, Return, Idle, Waiting, Loaded, staged, unloaded, given_back};
-ghost use Rattle.busdma_base.specs.Bounce.Door.{Seen, account, Passes, Holds};
-ghost use Rattle.busdma_base.specs.declared.bounce.hold.HubReply.{HubReply};
+ghost use Rattle.busdma_machine.specs.Bounce.Door.{Seen, account, Passes, Holds};
+ghost use Rattle.busdma_machine.specs.declared.bounce.hold.HubReply.{HubReply};
 ghost use Rattle.lane_agreement.specs.Agreement.{Agrees, IsFit};
 ghost use Rattle.lane_agreement.specs.After.{after, after_callback, Asks, IsFresh, IsLike, left_of, brought};
 

@@ -1,19 +1,19 @@
 -- What holds of a driver after a turn at a door to the bounce lock.
 use Rattle.std.proofs.Common.{◌≡◌, inl, inr, ℕ, ◌==◌, Bool, true, false, cond, List, [], ◌∷◌, ◌++◌, refl, sym, ap}
 use Rattle.std.proofs.Common.{◌∙◌, subst}
-use Rattle.busdma_base.specs.declared.bounce.hold.HoldEntry.{HoldEntry}
-use Rattle.busdma_base.specs.declared.bounce.hold.HubReply.{HubReply}
-use Rattle.busdma_base.specs.declared.bounce.hold.HubReply.TheVariants.{Nothing, Called}
-use Rattle.busdma_base.specs.declared.bounce.zone.Waiter.{Waiter}
+use Rattle.busdma_machine.specs.declared.bounce.hold.HoldEntry.{HoldEntry}
+use Rattle.busdma_machine.specs.declared.bounce.hold.HubReply.{HubReply}
+use Rattle.busdma_machine.specs.declared.bounce.hold.HubReply.TheVariants.{Nothing, Called}
+use Rattle.busdma_machine.specs.declared.bounce.zone.Waiter.{Waiter}
 use Rattle.busdma_base.specs.declared.journals.journal.Side.{Side}
-use Rattle.busdma_base.specs.Bounce.Account.{Account, zone_at}
-use Rattle.busdma_base.specs.Bounce.AccountStep.{Outcome, account_step, as_pages, called_from}
-use Rattle.busdma_base.specs.Bounce.Door.{Seen, Passes, account}
-use Rattle.busdma_base.specs.Bounce.EachFrame.{EachFrame, LiesBelowMaxmem}
-use Rattle.busdma_base.specs.Bounce.History.{IsFrame, IsOpening, IsSound, account_of, after_entry}
-use Rattle.busdma_base.specs.Bounce.Serving.{handed}
-use Rattle.busdma_base.proofs.Accounts.EachFrame.{below-history, whole-history}
-use Rattle.busdma_base.proofs.Accounts.WellFormed.{well-opening}
+use Rattle.busdma_machine.specs.Bounce.Account.{Account, zone_at}
+use Rattle.busdma_machine.specs.Bounce.AccountStep.{Outcome, account_step, as_pages, called_from}
+use Rattle.busdma_machine.specs.Bounce.Door.{Seen, Passes, account}
+use Rattle.busdma_machine.specs.Bounce.EachFrame.{EachFrame, LiesBelowMaxmem}
+use Rattle.busdma_machine.specs.Bounce.History.{IsFrame, IsOpening, IsSound, account_of, after_entry}
+use Rattle.busdma_machine.specs.Bounce.Serving.{handed}
+use Rattle.busdma_machine.proofs.Accounts.EachFrame.{below-history, whole-history}
+use Rattle.busdma_machine.proofs.Accounts.WellFormed.{well-opening}
 use Rattle.lane_agreement.specs.Agreement.{IsFit}
 use Rattle.lane_agreement.proofs.Doors.{agrees-passes}
 use Rattle.lane_agreement.proofs.Whole.{fit-reached}

@@ -3,14 +3,14 @@ use Rattle.std.proofs.Common.{◌≡◌, ℕ, ◌≤◌, ◌<◌, ◌==◌, Bool
 use Rattle.std.proofs.Common.{◌∙◌, is_some, nat_lt, if◌then◌else◌, arith}
 use Rattle.std.proofs.lemmas.Bool.Decides.{nat_tests}
 use Rattle.std.specs.FinMap.{get}
-use Rattle.busdma_base.specs.declared.bounce.hold.HubCall.TheVariants.{Grab}
+use Rattle.busdma_machine.specs.declared.bounce.hold.HubCall.TheVariants.{Grab}
 use Rattle.busdma_base.specs.declared.journals.answer.Answer.TheVariants as answer
-use Rattle.busdma_base.specs.declared.journals.report.Errno.TheVariants.{EINVAL}
-use Rattle.busdma_base.specs.declared.journals.report.Judged.TheVariants as judged
-use Rattle.busdma_base.specs.declared.journals.report.Report.{Report}
-use Rattle.busdma_base.specs.declared.journals.report.ReportName.TheVariants.{Absent, MapBusy}
-use Rattle.busdma_base.specs.declared.machine.bio.Bio.{Bio}
-use Rattle.busdma_base.specs.declared.machine.chunk.Chunk.{Chunk}
+use Rattle.busdma_machine.specs.declared.report.Errno.TheVariants.{EINVAL}
+use Rattle.busdma_machine.specs.declared.report.Judged.TheVariants as judged
+use Rattle.busdma_machine.specs.declared.report.Report.{Report}
+use Rattle.busdma_machine.specs.declared.report.ReportName.TheVariants.{Absent, MapBusy}
+use Rattle.busdma_machine.specs.declared.machine.bio.Bio.{Bio}
+use Rattle.busdma_machine.specs.declared.machine.chunk.Chunk.{Chunk}
 use Rattle.busdma_base.specs.declared.scenarios.buffer.Buffer.TheVariants as buffer
 use Rattle.busdma_base.specs.declared.scenarios.script.Item.{Item}
 use Rattle.segment_build.specs.Chunks.{need_of}

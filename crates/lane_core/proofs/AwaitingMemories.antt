@@ -3,12 +3,12 @@ use Rattle.std.proofs.Common.{◌≡◌, ℕ, true, List, Option, Some, None, is
 use Rattle.std.proofs.Common.{refl, sym, ap, ◌∙◌, subst, unwrap_or}
 use Rattle.std.specs.List.{AllByRecursion}
 use Rattle.std.specs.FinMap.{get}
-use Rattle.busdma_base.specs.declared.journals.report.Judged.TheVariants.{Fine}
-use Rattle.busdma_base.specs.declared.machine.bio.Bio.{Bio}
-use Rattle.busdma_base.specs.declared.tags.tag.TagLimits.{TagLimits}
-use Rattle.busdma_base.specs.Machine.Entry.{entries_addresses}
-use Rattle.busdma_base.specs.Machine.PageRuns.{is_own, physical_in}
-use Rattle.busdma_base.specs.Machine.Spans.{bio_spans}
+use Rattle.busdma_machine.specs.declared.report.Judged.TheVariants.{Fine}
+use Rattle.busdma_machine.specs.declared.machine.bio.Bio.{Bio}
+use Rattle.busdma_machine.specs.declared.tags.tag.TagLimits.{TagLimits}
+use Rattle.busdma_machine.specs.Machine.Entry.{entries_addresses}
+use Rattle.busdma_base.specs.Scenarios.PageRuns.{is_own, physical_in}
+use Rattle.busdma_machine.specs.Machine.Spans.{bio_spans}
 use Rattle.busdma_base.specs.Scenarios.Buffers.{IsBioOf}
 use Rattle.lane_core.specs.declared.kept.KeptLoad.{KeptLoad}
 use Rattle.dma_map.specs.declared.room.LoadRoom.{LoadRoom}

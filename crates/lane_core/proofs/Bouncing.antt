@@ -3,13 +3,13 @@ use Rattle.std.proofs.Common.{◌≡◌, ℕ, zero, suc, ◌+◌, ◌-◌, ◌*�
 use Rattle.std.proofs.Common.{length, take, drop, Option, Some, None, sym, ◌∙◌, subst, arith}
 use Rattle.std.specs.List.{AllByRecursion, AllZip}
 use Rattle.std.specs.FinMap.{get}
-use Rattle.busdma_base.specs.declared.machine.address.Extent.{Extent}
-use Rattle.busdma_base.specs.declared.machine.address.Pa.{Pa}
-use Rattle.busdma_base.specs.declared.machine.chunk.Chunk.{Chunk}
-use Rattle.busdma_base.specs.Machine.Page.{FrameBytes}
-use Rattle.busdma_base.specs.Machine.PageList.{frames_of, page_addresses}
-use Rattle.busdma_base.specs.Machine.Wire.{Placed}
-use Rattle.busdma_base.specs.Runs.{IsExtent, addresses, run_of}
+use Rattle.busdma_machine.specs.declared.machine.address.Extent.{Extent}
+use Rattle.busdma_machine.specs.declared.machine.address.Pa.{Pa}
+use Rattle.busdma_machine.specs.declared.machine.chunk.Chunk.{Chunk}
+use Rattle.busdma_machine.specs.Machine.Page.{FrameBytes}
+use Rattle.busdma_machine.specs.Machine.PageList.{frames_of, page_addresses}
+use Rattle.busdma_machine.specs.Machine.Wire.{Placed}
+use Rattle.busdma_machine.specs.Runs.{IsExtent, addresses, run_of}
 use Rattle.device_model.proofs.Accessing.{all_behind, first_of_run}
 use Rattle.dma_map.specs.MapView as held
 use Rattle.loan_table.proofs.Judgement.{length-run_of}

@@ -7,9 +7,9 @@ use Rattle.std.specs.List.{list_any}
 use Rattle.std.specs.Ordering.{nat_cmp}
 use Rattle.std.specs.FinMap.{FinMap, get, entries, entries_sorted, get-entries}
 use Rattle.std.specs.FinMap.Entries.{find}
-use Rattle.busdma_base.specs.Machine.Page.{FrameBytes}
-use Rattle.busdma_base.specs.Machine.PageList.{page_address}
-use Rattle.busdma_base.specs.Machine.Wire.{Wire, page_byte, put, with_bytes_of}
+use Rattle.busdma_machine.specs.Machine.Page.{FrameBytes}
+use Rattle.busdma_machine.specs.Machine.PageList.{page_address}
+use Rattle.busdma_machine.specs.Machine.Wire.{Wire, page_byte, put, with_bytes_of}
 use Rattle.phys_memory.specs.Memory.{Memory, wire}
 use Rattle.phys_memory.proofs.PageBytes.{IsNone}
 use Rattle.ideal_lane.specs.State.{LaneState}

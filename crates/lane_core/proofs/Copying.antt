@@ -7,11 +7,11 @@ use Rattle.std.proofs.lemmas.Option.{slice_get-map}
 use Rattle.std.proofs.lemmas.Bool.{ltb-false}
 use Rattle.std.specs.List.{AllByRecursion, filter, list_any}
 use Rattle.std.specs.FinMap.{get}
-use Rattle.busdma_base.specs.declared.machine.chunk.Chunk.{Chunk}
-use Rattle.busdma_base.specs.Machine.Wire.{Placed, Wire, buffers, buses, copied_in, copied_out, is_bounced, put}
-use Rattle.busdma_base.specs.Machine.Wire.{stretch}
-use Rattle.busdma_base.specs.Machine.Wire.{with_bytes_of}
-use Rattle.busdma_base.specs.Runs.{addresses}
+use Rattle.busdma_machine.specs.declared.machine.chunk.Chunk.{Chunk}
+use Rattle.busdma_machine.specs.Machine.Wire.{Placed, Wire, buffers, buses, copied_in, copied_out, is_bounced, put}
+use Rattle.busdma_machine.specs.Machine.Wire.{stretch}
+use Rattle.busdma_machine.specs.Machine.Wire.{with_bytes_of}
+use Rattle.busdma_machine.specs.Runs.{addresses}
 use Rattle.lane_core.specs.declared.kept.KeptLoad.{KeptLoad}
 use Rattle.dma_map.specs.MapView as held
 use Rattle.dma_tag.specs.SyncOps.{postread, prewrite}

@@ -6,8 +6,8 @@ use Rattle.std.proofs.lemmas.List.Sums.{sum_by-cons}
 use Rattle.loan_table.proofs.Judgement.{length-run_of}
 use Rattle.std.specs.Ordering.{nat_cmp}
 use Rattle.std.specs.FinMap.{FinMap}
-use Rattle.busdma_base.specs.declared.machine.address.Extent.{Extent}
-use Rattle.busdma_base.specs.Runs.{run_of, addresses, byte_count, IsExtent}
+use Rattle.busdma_machine.specs.declared.machine.address.Extent.{Extent}
+use Rattle.busdma_machine.specs.Runs.{run_of, addresses, byte_count, IsExtent}
 use Rattle.phys_memory.specs.Memory.{Memory, has_frame}
 use Rattle.phys_memory.specs.Extents.{LiesIn}
 use Rattle.loan_table.specs.Table.{AreIn}

@@ -9,12 +9,12 @@ use Rattle.std.proofs.lemmas.List.{length-map}
 use Rattle.std.proofs.lemmas.Option.{slice_get-map, slice_get-get_or}
 use Rattle.std.specs.List.{AllByRecursion, AllZip, list_any}
 use Rattle.std.specs.FinMap.{get}
-use Rattle.busdma_base.specs.declared.machine.chunk.Chunk.{Chunk}
-use Rattle.busdma_base.specs.declared.machine.address.Segment.{Segment}
-use Rattle.busdma_base.specs.Bounce.MemoryRuns.{in_run}
-use Rattle.busdma_base.specs.Machine.Page.{FrameBytes}
-use Rattle.busdma_base.specs.Machine.PageList.{RoomyPages, frames_of, page_address, page_addresses}
-use Rattle.busdma_base.specs.Machine.Wire.{Placed, stretch}
+use Rattle.busdma_machine.specs.declared.machine.chunk.Chunk.{Chunk}
+use Rattle.busdma_machine.specs.declared.machine.address.Segment.{Segment}
+use Rattle.busdma_machine.specs.Bounce.MemoryRuns.{in_run}
+use Rattle.busdma_machine.specs.Machine.Page.{FrameBytes}
+use Rattle.busdma_machine.specs.Machine.PageList.{RoomyPages, frames_of, page_address, page_addresses}
+use Rattle.busdma_machine.specs.Machine.Wire.{Placed, stretch}
 use Rattle.device_model.specs.Access.{IsThere, bus_range}
 use Rattle.device_model.proofs.Walk.{bytes_length}
 use Rattle.lane_core.specs.declared.kept.KeptLoad.{KeptLoad}

@@ -1,9 +1,9 @@
 -- What is known of a step at a door, by what the step is.
 use Rattle.std.proofs.Common.{◌≡◌, ℕ, true, false, Option, Some, None, Result, Ok, Err, IfNone, IfOk, OnOk, OnErr}
 use Rattle.std.proofs.Common.{refl, ap, sym, subst}
-use Rattle.busdma_base.specs.declared.bounce.hold.HubCall.{HubCall}
-use Rattle.busdma_base.specs.declared.bounce.hold.HubReply.{HubReply}
-use Rattle.busdma_base.specs.Bounce.Door.{Seen, Allows}
+use Rattle.busdma_machine.specs.declared.bounce.hold.HubCall.{HubCall}
+use Rattle.busdma_machine.specs.declared.bounce.hold.HubReply.{HubReply}
+use Rattle.busdma_machine.specs.Bounce.Door.{Seen, Allows}
 use Rattle.ideal_lane.specs.Asking.{Asking, Gives, Asks}
 use Rattle.lane_core.specs.Doing.{IsAllowedBy, IsCalled, IsDone, asks}
 

@@ -3,9 +3,9 @@ use Rattle.std.proofs.Common.{◌≡◌, ℕ, ◌+◌, ◌≤◌, true, false, L
 use Rattle.std.proofs.Common.{◌∙◌, subst, arith, is_some, slice_get, IfSome}
 use Rattle.std.specs.FinMap.{get, insert, contains_key}
 use Rattle.busdma_base.specs.declared.journals.answer.Answer.{Answer}
-use Rattle.busdma_base.specs.declared.journals.report.Judged.TheVariants.{Fine}
-use Rattle.busdma_base.specs.declared.machine.bio.Bio.{Bio}
-use Rattle.busdma_base.specs.declared.machine.chunk.Chunk.{Chunk}
+use Rattle.busdma_machine.specs.declared.report.Judged.TheVariants.{Fine}
+use Rattle.busdma_machine.specs.declared.machine.bio.Bio.{Bio}
+use Rattle.busdma_machine.specs.declared.machine.chunk.Chunk.{Chunk}
 use Rattle.busdma_base.specs.Scenarios.Limits.{loaded_limit}
 use Rattle.lane_core.specs.declared.kept.KeptLoad.{KeptLoad}
 use Rattle.dma_map.specs.declared.room.LoadRoom.{LoadRoom}

@@ -8,11 +8,11 @@ use Rattle.std.proofs.lemmas.Bool.{and_parts, false≢true, leb-true, ltb-true}
 use Rattle.std.proofs.lemmas.Option.{slice_get-map}
 use Rattle.std.specs.FinMap.{get}
 use Rattle.std.specs.Option.{option_map}
-use Rattle.busdma_base.specs.Bounce.MemoryRuns.{in_run}
-use Rattle.busdma_base.specs.Machine.Page.{FrameBytes}
-use Rattle.busdma_base.specs.Machine.PageList.{page_address, page_addresses}
-use Rattle.busdma_base.specs.Machine.PageRuns.{is_own}
-use Rattle.busdma_base.specs.Machine.Wire.{Wire, with_bytes_of}
+use Rattle.busdma_machine.specs.Bounce.MemoryRuns.{in_run}
+use Rattle.busdma_machine.specs.Machine.Page.{FrameBytes}
+use Rattle.busdma_machine.specs.Machine.PageList.{page_address, page_addresses}
+use Rattle.busdma_base.specs.Scenarios.PageRuns.{is_own}
+use Rattle.busdma_machine.specs.Machine.Wire.{Wire, with_bytes_of}
 use Rattle.phys_memory.specs.Memory.{wire}
 use Rattle.ideal_lane.specs.IdealMemory.{Known}
 use Rattle.ideal_lane.specs.State.{LaneState}

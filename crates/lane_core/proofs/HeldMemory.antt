@@ -4,7 +4,7 @@ use Rattle.std.proofs.Common.{unwrap_or}
 use Rattle.std.specs.Option.{option_map}
 use Rattle.std.specs.Ordering.{nat_cmp}
 use Rattle.std.specs.FinMap.{FinMap, get, entries, entries_sorted, get-entries}
-use Rattle.busdma_base.specs.Machine.Wire.{Wire, Placed, with_bytes_of}
+use Rattle.busdma_machine.specs.Machine.Wire.{Wire, Placed, with_bytes_of}
 use Rattle.loan_table.specs.Loans.{Loans, Loan, loan_of, no_loan, to_write, lent, addresses_of}
 use Rattle.phys_memory.specs.Memory.{Memory, wire}
 use Rattle.ideal_lane.specs.IdealMemory.{IdealMemory, Content, Known, Unknown, known}

@@ -8,9 +8,10 @@ use Rattle.std.specs.Ordering.{nat_cmp}
 use Rattle.std.specs.FinMap.{FinMap, entries, get, insert}
 use Rattle.std.proofs.lemmas.Bool.{false≢true}
 use Rattle.std.proofs.lemmas.Bool.Decides.{eqb_tells}
-use Rattle.busdma_base.specs.Bounce.MemoryRuns.{in_run}
-use Rattle.busdma_base.specs.Machine.PageRuns.{pages_end, physical_in}
-use Rattle.busdma_base.specs.Runs.{run_of}
+use Rattle.busdma_machine.specs.Bounce.MemoryRuns.{in_run}
+use Rattle.busdma_machine.specs.Machine.VirtualPages.{pages_end}
+use Rattle.busdma_base.specs.Scenarios.PageRuns.{physical_in}
+use Rattle.busdma_machine.specs.Runs.{run_of}
 use Rattle.loan_table.specs.Table.{AreNew, set_all}
 use Rattle.memory_pages.specs.Placed.{AreAtTheirFrames, Comes, IsWithout, is_byte, is_frame, is_page, row_of}
 use Rattle.memory_pages.proofs.Coming.{no_row, still_placed}

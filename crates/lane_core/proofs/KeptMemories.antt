@@ -6,7 +6,7 @@ use Rattle.std.specs.Ordering.{nat_cmp}
 use Rattle.std.specs.FinMap.{FinMap, entries, entries_sorted, get, get-entries, insert, remove}
 use Rattle.std.proofs.lemmas.Bool.{eq-eqb, ne_eqb}
 use Rattle.std.proofs.lemmas.Bool.Decides.{eqb_tells, nat_tests}
-use Rattle.busdma_base.specs.Machine.PageRuns.{pages_end}
+use Rattle.busdma_machine.specs.Machine.VirtualPages.{pages_end}
 use Rattle.memory_pages.specs.Placed.{is_byte}
 use Rattle.memory_pages.proofs.Runs.{same_tests}
 use Rattle.ideal_lane.proofs.Lookups.{get_cut, get_put}

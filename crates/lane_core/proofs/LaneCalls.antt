@@ -1,14 +1,14 @@
 -- What a call on a lane leaves, which takes no door.
 use Rattle.std.proofs.Common.{◌≡◌, ℕ, ◌≤◌, ◌==◌, true, false, List, Result, Ok, Err, IfOk, OnErr, length}
 use Rattle.std.proofs.Common.{if◌then◌else◌, is_some, refl, ap, sym, ◌∙◌, subst, arith}
-use Rattle.busdma_base.specs.declared.bounce.hold.HubReply.{HubReply}
-use Rattle.busdma_base.specs.declared.bounce.hold.HubReply.TheVariants.{Nothing}
+use Rattle.busdma_machine.specs.declared.bounce.hold.HubReply.{HubReply}
+use Rattle.busdma_machine.specs.declared.bounce.hold.HubReply.TheVariants.{Nothing}
 use Rattle.busdma_base.specs.declared.journals.answer.Answer.{Answer}
-use Rattle.busdma_base.specs.declared.journals.report.ReportName.TheVariants.{Absent}
-use Rattle.busdma_base.specs.declared.name.MapId.{MapId}
+use Rattle.busdma_machine.specs.declared.report.ReportName.TheVariants.{Absent}
+use Rattle.busdma_machine.specs.declared.name.MapId.{MapId}
 use Rattle.busdma_base.specs.declared.scenarios.script.Place.{Place}
-use Rattle.busdma_base.specs.Machine.Wire.{Wire}
-use Rattle.busdma_base.specs.Runs.{run_of}
+use Rattle.busdma_machine.specs.Machine.Wire.{Wire}
+use Rattle.busdma_machine.specs.Runs.{run_of}
 use Rattle.loan_table.specs.Lending.{lost}
 use Rattle.loan_table.specs.Loans.{load_bytes}
 use Rattle.ideal_lane.specs.Accesses.{cpu_read, cpu_write, dev_write}

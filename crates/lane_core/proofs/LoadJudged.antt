@@ -3,13 +3,13 @@ use Rattle.std.proofs.Common.{◌≡◌, ℕ, Bool, List, Option, Some, None, is
 use Rattle.std.specs.FinMap.{get, entries}
 use Rattle.std.specs.List.{enumerate_from, list_any}
 use Rattle.std.specs.Option.{option_or}
-use Rattle.busdma_base.specs.declared.machine.address.Span.{Span}
-use Rattle.busdma_base.specs.declared.machine.bio.Bio.{Bio}
-use Rattle.busdma_base.specs.declared.machine.bio.Bio.TheVariants.{Mapped, Unmapped}
-use Rattle.busdma_base.specs.Journals.Judging.{judged}
-use Rattle.busdma_base.specs.Machine.Entry.{unmapped_of}
-use Rattle.busdma_base.specs.Machine.Spans.{bio_spans, span_addresses}
-use Rattle.busdma_base.specs.Runs.{run_of}
+use Rattle.busdma_machine.specs.declared.machine.address.Span.{Span}
+use Rattle.busdma_machine.specs.declared.machine.bio.Bio.{Bio}
+use Rattle.busdma_machine.specs.declared.machine.bio.Bio.TheVariants.{Mapped, Unmapped}
+use Rattle.busdma_machine.specs.Judging.{judged}
+use Rattle.busdma_machine.specs.Machine.Entry.{unmapped_of}
+use Rattle.busdma_machine.specs.Machine.Spans.{bio_spans, span_addresses}
+use Rattle.busdma_machine.specs.Runs.{run_of}
 use Rattle.load_bio.specs.Bio.{is_rounded}
 use Rattle.phys_memory.specs.Translation.{missing, unreached}
 use Rattle.ideal_lane.specs.Loads.{is_foreign_in, is_foreign_to, load_judged, load_refusal, load_translation}

@@ -9,11 +9,11 @@ use Rattle.std.specs.Ordering.{nat_cmp, eq_by_cmp}
 use Rattle.std.specs.FinMap.{FinMap, get, insert, remove, get-insert, get-remove, same_map}
 use Rattle.std.specs.List.{filter}
 use Rattle.busdma_base.specs.declared.journals.answer.Answer.TheVariants.{Segments, Refused}
-use Rattle.busdma_base.specs.declared.journals.report.Errno.TheVariants.{EFBIG}
-use Rattle.busdma_base.specs.declared.machine.address.Segment.{Segment}
-use Rattle.busdma_base.specs.declared.machine.chunk.Chunk.{Chunk}
-use Rattle.busdma_base.specs.declared.tags.tag.TagLimits.{TagLimits}
-use Rattle.busdma_base.specs.Bounce.AccountStep.{as_pages}
+use Rattle.busdma_machine.specs.declared.report.Errno.TheVariants.{EFBIG}
+use Rattle.busdma_machine.specs.declared.machine.address.Segment.{Segment}
+use Rattle.busdma_machine.specs.declared.machine.chunk.Chunk.{Chunk}
+use Rattle.busdma_machine.specs.declared.tags.tag.TagLimits.{TagLimits}
+use Rattle.busdma_machine.specs.Bounce.AccountStep.{as_pages}
 use Rattle.loan_table.specs.Lending.{lost_by_forgetting}
 use Rattle.loan_table.specs.Loans.{Loan, addresses_of, loan_of, new_loan, no_loan, to_write}
 use Rattle.loan_table.specs.Loans.{unlent as unlent_positions}

@@ -6,24 +6,24 @@ use Rattle.std.specs.List.{Contains}
 use Rattle.std.specs.List.{AllByRecursion}
 use Rattle.std.specs.Ordering.{nat_cmp}
 use Rattle.std.specs.FinMap.{FinMap}
-use Rattle.busdma_base.specs.declared.journals.report.Judged.{Judged}
-use Rattle.busdma_base.specs.declared.journals.report.Judged.TheVariants.{Fine, Refused}
-use Rattle.busdma_base.specs.declared.journals.report.Report.{Report}
-use Rattle.busdma_base.specs.declared.journals.report.ReportName.{ReportName}
-use Rattle.busdma_base.specs.declared.journals.report.ReportName.TheVariants as name
-use Rattle.busdma_base.specs.declared.machine.address.Extent.{Extent}
-use Rattle.busdma_base.specs.declared.machine.address.Span.{Span}
-use Rattle.busdma_base.specs.declared.machine.bio.Bio.{Bio}
-use Rattle.busdma_base.specs.declared.machine.chunk.Entry.{Entry}
-use Rattle.busdma_base.specs.declared.machine.chunk.Part.{Part}
+use Rattle.busdma_machine.specs.declared.report.Judged.{Judged}
+use Rattle.busdma_machine.specs.declared.report.Judged.TheVariants.{Fine, Refused}
+use Rattle.busdma_machine.specs.declared.report.Report.{Report}
+use Rattle.busdma_machine.specs.declared.report.ReportName.{ReportName}
+use Rattle.busdma_machine.specs.declared.report.ReportName.TheVariants as name
+use Rattle.busdma_machine.specs.declared.machine.address.Extent.{Extent}
+use Rattle.busdma_machine.specs.declared.machine.address.Span.{Span}
+use Rattle.busdma_machine.specs.declared.machine.bio.Bio.{Bio}
+use Rattle.busdma_machine.specs.declared.machine.chunk.Entry.{Entry}
+use Rattle.busdma_machine.specs.declared.machine.chunk.Part.{Part}
 use Rattle.busdma_base.specs.declared.scenarios.buffer.Buffer.TheVariants as buffer
 use Rattle.busdma_base.specs.declared.scenarios.scenario.PageRun.{PageRun}
-use Rattle.busdma_base.specs.Journals.Judging.{judged, refused_or}
-use Rattle.busdma_base.specs.Machine.Entry.{IsEntry, entries_addresses, entry_addresses, entry_parts, extent_parts}
-use Rattle.busdma_base.specs.Machine.Entry.{parts_of, unmapped_of}
-use Rattle.busdma_base.specs.Machine.PageRuns as runs
-use Rattle.busdma_base.specs.Machine.Spans.{bio_spans}
-use Rattle.busdma_base.specs.Runs.{IsExtent, addresses, byte_count, run_of}
+use Rattle.busdma_machine.specs.Judging.{judged, refused_or}
+use Rattle.busdma_machine.specs.Machine.Entry.{IsEntry, entries_addresses, entry_addresses, entry_parts, extent_parts}
+use Rattle.busdma_machine.specs.Machine.Entry.{parts_of, unmapped_of}
+use Rattle.busdma_base.specs.Scenarios.PageRuns as runs
+use Rattle.busdma_machine.specs.Machine.Spans.{bio_spans}
+use Rattle.busdma_machine.specs.Runs.{IsExtent, addresses, byte_count, run_of}
 use Rattle.load_bio.specs.Bio.{is_rounded}
 use Rattle.load_bio.specs.Frames.{AreFrames, in_frames}
 use Rattle.load_bio.proofs.InFrames.{IsInOneOf, frames_paged}

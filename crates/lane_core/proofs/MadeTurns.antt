@@ -1,8 +1,8 @@
 -- A driver is ready for its next turn after one that was made, and after want of memory.
 use Rattle.std.proofs.Common.{◌≡◌, inl, inr, ◌≤◌, ℕ, Bool, IsTrue, refl, ap, sym, subst, arith}
 use Rattle.busdma_base.specs.declared.journals.journal.Side.{Side}
-use Rattle.busdma_base.specs.Bounce.Door.{Seen}
-use Rattle.busdma_base.specs.Bounce.EachFrame.{LiesBelowMaxmem}
+use Rattle.busdma_machine.specs.Bounce.Door.{Seen}
+use Rattle.busdma_machine.specs.Bounce.EachFrame.{LiesBelowMaxmem}
 use Rattle.lane_agreement.proofs.Doors.{agrees-passes}
 use Rattle.ideal_lane.specs.Ahead.{items_ahead}
 use Rattle.ideal_lane.specs.Standing.{Stands}

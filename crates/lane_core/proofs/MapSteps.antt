@@ -1,11 +1,11 @@
 -- The steps of maps that are not loaded, by what is there.
 use Rattle.std.proofs.Common.{◌≡◌, ℕ, true, false, Some, None, refl}
 use Rattle.std.specs.FinMap.{get}
-use Rattle.busdma_base.specs.declared.bounce.hold.HubCall.TheVariants.{CreateMap, DestroyMap}
+use Rattle.busdma_machine.specs.declared.bounce.hold.HubCall.TheVariants.{CreateMap, DestroyMap}
 use Rattle.busdma_base.specs.declared.journals.answer.Answer.TheVariants as answer
-use Rattle.busdma_base.specs.declared.journals.report.Errno.TheVariants.{EBUSY}
-use Rattle.busdma_base.specs.declared.journals.report.ReportName.TheVariants.{Absent, NotDeferred}
-use Rattle.busdma_base.specs.Tags.Tag.{could_bounce}
+use Rattle.busdma_machine.specs.declared.report.Errno.TheVariants.{EBUSY}
+use Rattle.busdma_machine.specs.declared.report.ReportName.TheVariants.{Absent, NotDeferred}
+use Rattle.busdma_machine.specs.Tags.Tag.{could_bounce}
 use Rattle.ideal_lane.specs.Asking.{Asks}
 use Rattle.ideal_lane.specs.Maps.{map, map_destroy, await, with_map, without_map, created}
 use Rattle.ideal_lane.specs.Outcomes.{gives, is_idle}

@@ -3,22 +3,22 @@ use Rattle.std.proofs.Common.{◌≡◌, ℕ, zero, suc, ◌*◌, ◌≤◌, Boo
 use Rattle.std.proofs.Common.{Option, Some, None, refl, sym, ap, ◌∙◌, subst, arith}
 use Rattle.std.specs.Prelude.{if◌then◌else◌, slice_index_or}
 use Rattle.std.specs.FinMap.{get, insert}
-use Rattle.busdma_base.specs.declared.bounce.hold.HubCall.{HubCall}
-use Rattle.busdma_base.specs.declared.bounce.hold.HubCall.TheVariants.{MemAlloc, MemFree}
-use Rattle.busdma_base.specs.declared.bounce.hold.HubReply.{HubReply}
-use Rattle.busdma_base.specs.declared.bounce.hold.HubReply.TheVariants.{Run}
+use Rattle.busdma_machine.specs.declared.bounce.hold.HubCall.{HubCall}
+use Rattle.busdma_machine.specs.declared.bounce.hold.HubCall.TheVariants.{MemAlloc, MemFree}
+use Rattle.busdma_machine.specs.declared.bounce.hold.HubReply.{HubReply}
+use Rattle.busdma_machine.specs.declared.bounce.hold.HubReply.TheVariants.{Run}
 use Rattle.busdma_base.specs.declared.journals.answer.Answer.TheVariants as answer
-use Rattle.busdma_base.specs.declared.journals.report.Errno.TheVariants.{EBUSY}
-use Rattle.busdma_base.specs.declared.journals.report.ReportName.TheVariants.{Absent}
-use Rattle.busdma_base.specs.declared.name.MapId.{MapId}
-use Rattle.busdma_base.specs.declared.tags.tag.TagLimits.{TagLimits}
-use Rattle.busdma_base.specs.Bounce.Account.{Account}
-use Rattle.busdma_base.specs.Bounce.AccountStep.{placed}
-use Rattle.busdma_base.specs.Bounce.Door.{ArePagesOf, Holds, Seen, account}
-use Rattle.busdma_base.specs.Bounce.EachFrame.{LiesBelowMaxmem}
-use Rattle.busdma_base.specs.Bounce.MemoryRuns.{frames_for, frames_from, in_run, lowest_run}
-use Rattle.busdma_base.proofs.Accounts.EachFrame.{below-history, whole-history}
-use Rattle.busdma_base.proofs.Accounts.WellFormed.{well-opening}
+use Rattle.busdma_machine.specs.declared.report.Errno.TheVariants.{EBUSY}
+use Rattle.busdma_machine.specs.declared.report.ReportName.TheVariants.{Absent}
+use Rattle.busdma_machine.specs.declared.name.MapId.{MapId}
+use Rattle.busdma_machine.specs.declared.tags.tag.TagLimits.{TagLimits}
+use Rattle.busdma_machine.specs.Bounce.Account.{Account}
+use Rattle.busdma_machine.specs.Bounce.AccountStep.{placed}
+use Rattle.busdma_machine.specs.Bounce.Door.{ArePagesOf, Holds, Seen, account}
+use Rattle.busdma_machine.specs.Bounce.EachFrame.{LiesBelowMaxmem}
+use Rattle.busdma_machine.specs.Bounce.MemoryRuns.{frames_for, frames_from, in_run, lowest_run}
+use Rattle.busdma_machine.proofs.Accounts.EachFrame.{below-history, whole-history}
+use Rattle.busdma_machine.proofs.Accounts.WellFormed.{well-opening}
 use Rattle.lane_agreement.proofs.Doors.{agrees-passes}
 use Rattle.ideal_lane.specs.Asking.{Asks}
 use Rattle.ideal_lane.specs.IdealMemory.{Known, Unknown, joined}

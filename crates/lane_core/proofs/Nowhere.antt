@@ -4,10 +4,10 @@ use Rattle.std.proofs.Common.{refl, sym, ap, ◌∙◌, subst, arith}
 use Rattle.std.specs.Prelude.{if◌then◌else◌}
 use Rattle.std.specs.FinMap.{get}
 use Rattle.std.proofs.lemmas.Bool.{le-ltb, ne_eqb}
-use Rattle.busdma_base.specs.declared.machine.address.Extent.{Extent}
-use Rattle.busdma_base.specs.declared.machine.bio.Bio.TheVariants as bio
-use Rattle.busdma_base.specs.Journals.Judging.{judged, refused_or}
-use Rattle.busdma_base.specs.Runs.{addresses, run_of}
+use Rattle.busdma_machine.specs.declared.machine.address.Extent.{Extent}
+use Rattle.busdma_machine.specs.declared.machine.bio.Bio.TheVariants as bio
+use Rattle.busdma_machine.specs.Judging.{judged, refused_or}
+use Rattle.busdma_machine.specs.Runs.{addresses, run_of}
 use Rattle.load_bio.specs.Bio.{bio_stream}
 use Rattle.load_bio.specs.Frames.{in_frames}
 use Rattle.phys_memory.specs.declared.walk.Walked.TheVariants as walk

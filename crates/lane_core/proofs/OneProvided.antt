@@ -5,17 +5,17 @@ use Rattle.std.specs.List.{AllByRecursion-prop}
 use mathlib.Core.List.{is_set}
 use mathlib.Core.Logic.{∥∥₁_elim}
 use base.Stored.{Coded-set}
-use Rattle.busdma_base.specs.contracts.journals.report.Judged as judged
-use Rattle.busdma_base.specs.contracts.machine.address.Pa as pa
-use Rattle.busdma_base.specs.contracts.machine.address.Segment as segment
-use Rattle.busdma_base.specs.contracts.machine.chunk.Chunk as chunk
-use Rattle.busdma_base.specs.declared.machine.address.Pa.{Pa}
-use Rattle.busdma_base.specs.declared.machine.bio.Bio.{Bio}
-use Rattle.busdma_base.specs.declared.machine.bio.Bio.TheVariants as bio
+use Rattle.busdma_machine.specs.contracts.report.Judged as judged
+use Rattle.busdma_machine.specs.contracts.machine.address.Pa as pa
+use Rattle.busdma_machine.specs.contracts.machine.address.Segment as segment
+use Rattle.busdma_machine.specs.contracts.machine.chunk.Chunk as chunk
+use Rattle.busdma_machine.specs.declared.machine.address.Pa.{Pa}
+use Rattle.busdma_machine.specs.declared.machine.bio.Bio.{Bio}
+use Rattle.busdma_machine.specs.declared.machine.bio.Bio.TheVariants as bio
 use Rattle.load_bio.specs.Bio.{IsBio}
 use Rattle.ideal_wire.specs.OneProof.{IsBioOf-prop}
-use Rattle.busdma_base.specs.declared.machine.chunk.Chunk.{Chunk}
-use Rattle.busdma_base.specs.declared.tags.tag.TagLimits.{TagLimits}
+use Rattle.busdma_machine.specs.declared.machine.chunk.Chunk.{Chunk}
+use Rattle.busdma_machine.specs.declared.tags.tag.TagLimits.{TagLimits}
 use Rattle.dma_map.specs.declared.room.LoadRoom.{LoadRoom}
 use Rattle.loan_table.specs.contracts.position.Position as position
 use Rattle.loan_table.specs.Loans.{Loan}

@@ -6,7 +6,7 @@ use mathlib.Core.Logic.{∥∥₁_elim}
 use base.Stored.{Coded-set}
 use Rattle.std.specs.Ordering.{nat_cmp}
 use Rattle.std.specs.FinMap.{FinMap, contains_key, get}
-use Rattle.busdma_base.specs.contracts.tags.tag.TagLimits as limits
+use Rattle.busdma_machine.specs.contracts.tags.tag.TagLimits as limits
 use Rattle.ideal_lane.specs.State.{LaneState, LaneMap, LaneMemory, LaneTag, Stage, Idle, Waiting, Loaded, Returning}
 use Rattle.ideal_lane.specs.Standing.{IsPageless, Stands, StandsAt, is_direct}
 

@@ -10,13 +10,14 @@ use Rattle.std.proofs.lemmas.Bool.Decides.{nat_tests}
 use Rattle.std.proofs.lemmas.List.{take_more, get_or-replicate}
 use Rattle.std.proofs.lemmas.List.Folds.{list_any_more}
 use Rattle.busdma_base.specs.declared.scenarios.scenario.PageRun.{PageRun}
-use Rattle.busdma_base.specs.Each.{EachAfter}
-use Rattle.busdma_base.specs.Machine.Page.{FrameBytes}
-use Rattle.busdma_base.specs.Machine.PageRuns.{pages_end, share_page}
+use Rattle.busdma_machine.specs.Each.{EachAfter}
+use Rattle.busdma_machine.specs.Machine.Page.{FrameBytes}
+use Rattle.busdma_machine.specs.Machine.VirtualPages.{pages_end}
+use Rattle.busdma_base.specs.Scenarios.PageRuns.{share_page}
 use Rattle.phys_memory.specs.declared.reach.Reach.{Reach}
 use Rattle.phys_memory.specs.Memory.{Memory, physical, reached_in, byte_in, with_page}
 use Rattle.phys_memory.proofs.Tables.{get_inserted}
-use Rattle.busdma_base.specs.Machine.PageRuns.{physical_in}
+use Rattle.busdma_base.specs.Scenarios.PageRuns.{physical_in}
 use Rattle.lane_core.specs.OpeningMemory.{IsOwnRun, ArePages, IsOpeningMemory, is_one_of, row_of, HasRun, IsWithout}
 use Rattle.lane_core.proofs.OwnRuns.{no_run, own_at, same_tests, one_of_is, one_of_lo, one_of_hi, no_meeting}
 use Rattle.lane_core.proofs.OwnRuns.{either_false, in_none, own_frame, twice}

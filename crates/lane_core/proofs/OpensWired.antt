@@ -4,8 +4,8 @@ use Rattle.std.specs.FinMap.{empty, get, get-empty}
 use Rattle.std.specs.List.{AllByRecursion, flat_map}
 use Rattle.std.specs.Ordering.{nat_cmp}
 use Rattle.busdma_base.specs.declared.scenarios.scenario.Driver.{Driver}
-use Rattle.busdma_base.specs.Machine.PageRuns.{is_own}
-use Rattle.busdma_base.specs.Machine.Wire.{with_bytes_of}
+use Rattle.busdma_base.specs.Scenarios.PageRuns.{is_own}
+use Rattle.busdma_machine.specs.Machine.Wire.{with_bytes_of}
 use Rattle.busdma_base.specs.Scenarios.Valid.{LoadsFrom}
 use Rattle.phys_memory.specs.Memory.{wire}
 use Rattle.ideal_lane.specs.Opening.{opening_lane}

@@ -5,17 +5,17 @@ use Rattle.std.proofs.Common.{length-append}
 use Rattle.std.proofs.lemmas.Bool.{and_parts, ltb-true}
 use Rattle.std.proofs.lemmas.List.Sums.{sum_by-cons}
 use Rattle.std.specs.FinMap.{get}
-use Rattle.busdma_base.specs.declared.journals.report.Judged.TheVariants.{Fine}
-use Rattle.busdma_base.specs.declared.machine.address.Pa.{Pa}
-use Rattle.busdma_base.specs.declared.machine.address.Span.{Span}
-use Rattle.busdma_base.specs.declared.machine.bio.Bio.{Bio}
-use Rattle.busdma_base.specs.declared.machine.bio.Bio.TheVariants.{Mapped, Unmapped, Vector}
-use Rattle.busdma_base.specs.declared.machine.chunk.Chunk.{Chunk}
-use Rattle.busdma_base.specs.declared.tags.tag.TagLimits.{TagLimits}
-use Rattle.busdma_base.specs.Machine.Page.{FrameBytes}
-use Rattle.busdma_base.specs.Machine.Spans.{bio_spans, span_addresses, span_bytes}
-use Rattle.busdma_base.specs.Runs.{run_of}
-use Rattle.busdma_base.specs.Tags.TagFlags.{keep_pg_offset}
+use Rattle.busdma_machine.specs.declared.report.Judged.TheVariants.{Fine}
+use Rattle.busdma_machine.specs.declared.machine.address.Pa.{Pa}
+use Rattle.busdma_machine.specs.declared.machine.address.Span.{Span}
+use Rattle.busdma_machine.specs.declared.machine.bio.Bio.{Bio}
+use Rattle.busdma_machine.specs.declared.machine.bio.Bio.TheVariants.{Mapped, Unmapped, Vector}
+use Rattle.busdma_machine.specs.declared.machine.chunk.Chunk.{Chunk}
+use Rattle.busdma_machine.specs.declared.tags.tag.TagLimits.{TagLimits}
+use Rattle.busdma_machine.specs.Machine.Page.{FrameBytes}
+use Rattle.busdma_machine.specs.Machine.Spans.{bio_spans, span_addresses, span_bytes}
+use Rattle.busdma_machine.specs.Runs.{run_of}
+use Rattle.busdma_machine.specs.Tags.TagFlags.{keep_pg_offset}
 use Rattle.dma_map.specs.declared.room.LoadRoom.{LoadRoom}
 use Rattle.loan_table.proofs.Judgement.{length-run_of}
 use Rattle.memory_load.specs.MemoryLoad.{run_chunks, run_entries, run_pieces, run_segments}

@@ -8,10 +8,10 @@ use Rattle.std.specs.FinMap.{FinMap, get}
 use Rattle.std.proofs.lemmas.Bool.Decides.{nat_tests}
 use Rattle.std.proofs.lemmas.List.Folds.{list_any_more}
 use Rattle.busdma_base.specs.declared.scenarios.scenario.PageRun.{PageRun}
-use Rattle.busdma_base.specs.Each.{EachAfter}
-use Rattle.busdma_base.specs.Runs.{meet, run_of}
+use Rattle.busdma_machine.specs.Each.{EachAfter}
+use Rattle.busdma_machine.specs.Runs.{meet, run_of}
 use Rattle.loan_table.specs.Table.{AreNew, set_all}
-use Rattle.busdma_base.specs.Machine.PageRuns.{is_own}
+use Rattle.busdma_base.specs.Scenarios.PageRuns.{is_own}
 use Rattle.lane_core.specs.OpeningMemory.{IsOwnRun, ArePages, is_one_of}
 use Rattle.lane_core.proofs.Marks.{get-set_all}
 

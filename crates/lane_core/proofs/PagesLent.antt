@@ -1,6 +1,6 @@
 -- A map whose pages are lent out and taken back.
 use Rattle.std.proofs.Common.{◌≡◌, Some, sym, ap}
-use Rattle.busdma_base.specs.Machine.PageList.{RoomyPages}
+use Rattle.busdma_machine.specs.Machine.PageList.{RoomyPages}
 use Rattle.lane_core.specs.declared.kept.KeptLoad.{KeptLoad}
 use Rattle.dma_map.specs.MapView as held
 use Rattle.lane_core.specs.Kept.{device_in}

@@ -2,17 +2,17 @@
 use Rattle.std.proofs.Common.{◌≡◌, ℕ, ◌≤◌, Bool, List, [], length, sym, ◌∙◌, arith}
 use Rattle.std.specs.List.{AllByRecursion}
 use Rattle.std.proofs.lemmas.List.{length-map}
-use Rattle.busdma_base.specs.declared.bounce.door.Grabbed.{Grabbed}
-use Rattle.busdma_base.specs.declared.bounce.door.Grabbed.TheVariants.{Granted, Queued, NoPages}
-use Rattle.busdma_base.specs.declared.machine.address.Pa.{Pa}
-use Rattle.busdma_base.specs.declared.machine.chunk.Chunk.{Chunk}
-use Rattle.busdma_base.specs.declared.tags.tag.TagLimits.{TagLimits}
-use Rattle.busdma_base.specs.declared.name.MapId.{MapId}
-use Rattle.busdma_base.specs.Bounce.Account.{Account}
-use Rattle.busdma_base.specs.Bounce.AccountStep.{as_pages, grabbed}
-use Rattle.busdma_base.specs.Bounce.Door.{grab_reply}
-use Rattle.busdma_base.specs.Machine.Page.{FrameBytes}
-use Rattle.busdma_base.specs.Machine.PageList.{page_address, page_addresses}
+use Rattle.busdma_machine.specs.declared.bounce.door.Grabbed.{Grabbed}
+use Rattle.busdma_machine.specs.declared.bounce.door.Grabbed.TheVariants.{Granted, Queued, NoPages}
+use Rattle.busdma_machine.specs.declared.machine.address.Pa.{Pa}
+use Rattle.busdma_machine.specs.declared.machine.chunk.Chunk.{Chunk}
+use Rattle.busdma_machine.specs.declared.tags.tag.TagLimits.{TagLimits}
+use Rattle.busdma_machine.specs.declared.name.MapId.{MapId}
+use Rattle.busdma_machine.specs.Bounce.Account.{Account}
+use Rattle.busdma_machine.specs.Bounce.AccountStep.{as_pages, grabbed}
+use Rattle.busdma_machine.specs.Bounce.Door.{grab_reply}
+use Rattle.busdma_machine.specs.Machine.Page.{FrameBytes}
+use Rattle.busdma_machine.specs.Machine.PageList.{page_address, page_addresses}
 use Rattle.lane_agreement.proofs.Whole.{granted-length}
 use Rattle.dma_map.specs.declared.room.LoadRoom.{LoadRoom}
 use Rattle.segment_build.specs.Trace.{IsPage}

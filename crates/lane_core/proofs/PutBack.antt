@@ -2,7 +2,7 @@
 use Rattle.std.proofs.Common.{◌≡◌, ℕ, Some, sym, ap, ◌∙◌, subst}
 use Rattle.std.specs.Ordering.{nat_cmp}
 use Rattle.std.specs.FinMap.{FinMap, get, insert}
-use Rattle.busdma_base.specs.Machine.Wire.{with_bytes_of}
+use Rattle.busdma_machine.specs.Machine.Wire.{with_bytes_of}
 use Rattle.lane_core.specs.declared.kept.KeptLoad.{KeptLoad}
 use Rattle.dma_map.specs.MapView as held
 use Rattle.phys_memory.specs.Memory.{wire}

@@ -4,11 +4,11 @@ use Rattle.std.proofs.Common.{map, refl, sym, ap, ◌∙◌, subst, arith}
 use Rattle.busdma_base.specs.declared.journals.answer.Answer.{Answer}
 use Rattle.busdma_base.specs.declared.journals.journal.Did.TheVariants as did
 use Rattle.busdma_base.specs.declared.journals.journal.Side.TheVariants as side
-use Rattle.busdma_base.specs.declared.journals.report.Judged.{Judged}
-use Rattle.busdma_base.specs.declared.journals.report.Judged.TheVariants.{Fine, Refused}
+use Rattle.busdma_machine.specs.declared.report.Judged.{Judged}
+use Rattle.busdma_machine.specs.declared.report.Judged.TheVariants.{Fine, Refused}
 use Rattle.busdma_base.specs.declared.scenarios.script.Item.{Item}
 use Rattle.busdma_base.specs.declared.scenarios.script.Item.TheVariants as item
-use Rattle.busdma_base.specs.Machine.Wire.{Wire, with_bytes_of}
+use Rattle.busdma_machine.specs.Machine.Wire.{Wire, with_bytes_of}
 use Rattle.busdma_base.specs.Scenarios.Operations.{bytes_of}
 use Rattle.dma_tag.specs.SyncOps.{is_mixed}
 use Rattle.lane_tables.specs.declared.queued.QueuedItem.{QueuedItem}

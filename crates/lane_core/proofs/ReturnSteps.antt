@@ -7,7 +7,7 @@ use Rattle.std.proofs.lemmas.List.Sums.{sum_by-cons}
 use Rattle.std.specs.FinMap.{FinMap, get, insert}
 use Rattle.std.specs.List.{list_any, count_by}
 use Rattle.std.specs.Ordering.{nat_cmp}
-use Rattle.busdma_base.specs.declared.name.MapId.{MapId}
+use Rattle.busdma_machine.specs.declared.name.MapId.{MapId}
 use Rattle.dma_map.specs.MapView.{idle}
 use Rattle.lane_agreement.specs.View.{Return, returning}
 use Rattle.lane_tables.specs.declared.queued.QueuedPage.{QueuedPage}

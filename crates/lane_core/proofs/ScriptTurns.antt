@@ -5,8 +5,8 @@ use Rattle.busdma_base.specs.declared.journals.journal.Did.TheVariants as did
 use Rattle.busdma_base.specs.declared.journals.journal.Side.{Side}
 use Rattle.busdma_base.specs.declared.journals.journal.Side.TheVariants as side
 use Rattle.busdma_base.specs.declared.scenarios.script.Op.{Op}
-use Rattle.busdma_base.specs.Bounce.Door.{Seen}
-use Rattle.busdma_base.specs.Machine.Wire.{Wire, with_bytes_of}
+use Rattle.busdma_machine.specs.Bounce.Door.{Seen}
+use Rattle.busdma_machine.specs.Machine.Wire.{Wire, with_bytes_of}
 use Rattle.busdma_base.specs.Scenarios.Operations.{items_of}
 use Rattle.phys_memory.specs.Memory.{wire}
 use Rattle.ideal_lane.specs.Ahead.{items_ahead}

@@ -1,7 +1,7 @@
 -- A driver is wired and served after a turn, where its wire follows the wire of the step.
 use Rattle.std.proofs.Common.{◌≡◌, sym, ◌∙◌, subst, IsTrue}
 use Rattle.busdma_base.specs.declared.journals.journal.Side.{Side}
-use Rattle.busdma_base.specs.Bounce.Door.{Seen, account}
+use Rattle.busdma_machine.specs.Bounce.Door.{Seen, account}
 use Rattle.ideal_lane.specs.Agreement.{AgreesWith}
 use Rattle.ideal_lane.specs.Asking.{by_reply}
 use Rattle.ideal_lane.specs.Standing.{Stands}

@@ -3,9 +3,9 @@ use Rattle.std.proofs.Common.{◌≡◌, ℕ, ◌+◌, ◌*◌, Bool, true, fals
 use Rattle.std.proofs.Common.{refl, sym, ap, ◌∙◌, arith}
 use Rattle.std.proofs.lemmas.Option.{slice_get-map}
 use Rattle.std.specs.FinMap.{entries, entries_sorted, get-entries}
-use Rattle.busdma_base.specs.Machine.Page.{FrameBytes}
-use Rattle.busdma_base.specs.Machine.PageList.{page_address}
-use Rattle.busdma_base.specs.Machine.Wire.{Placed, with_bytes_of}
+use Rattle.busdma_machine.specs.Machine.Page.{FrameBytes}
+use Rattle.busdma_machine.specs.Machine.PageList.{page_address}
+use Rattle.busdma_machine.specs.Machine.Wire.{Placed, with_bytes_of}
 use Rattle.loan_table.specs.declared.position.Position.{Position}
 use Rattle.loan_table.specs.Loans.{Loan, addresses_of, lent, loan_of, no_loan, to_write}
 use Rattle.phys_memory.specs.Memory.{Memory, wire}

@@ -1,13 +1,13 @@
 -- The step of a tag, by what is there.
 use Rattle.std.proofs.Common.{◌≡◌, ℕ, true, false, ◌&&◌, Some, None, refl, Option}
 use Rattle.std.specs.FinMap.{get, remove}
-use Rattle.busdma_base.specs.declared.bounce.hold.HubCall.TheVariants.{AttachTag}
+use Rattle.busdma_machine.specs.declared.bounce.hold.HubCall.TheVariants.{AttachTag}
 use Rattle.busdma_base.specs.declared.journals.answer.Answer.TheVariants as answer
-use Rattle.busdma_base.specs.declared.journals.report.Errno.TheVariants.{EINVAL, EBUSY}
-use Rattle.busdma_base.specs.declared.journals.report.ReportName.TheVariants.{Absent}
-use Rattle.busdma_base.specs.declared.tags.tag.TagLimits.{TagLimits}
-use Rattle.busdma_base.specs.Tags.Tag.{effective, could_bounce}
-use Rattle.busdma_base.specs.Tags.TagFlags.{allocnow}
+use Rattle.busdma_machine.specs.declared.report.Errno.TheVariants.{EINVAL, EBUSY}
+use Rattle.busdma_machine.specs.declared.report.ReportName.TheVariants.{Absent}
+use Rattle.busdma_machine.specs.declared.tags.tag.TagLimits.{TagLimits}
+use Rattle.busdma_machine.specs.Tags.Tag.{effective, could_bounce}
+use Rattle.busdma_machine.specs.Tags.TagFlags.{allocnow}
 use Rattle.ideal_lane.specs.Asking.{Asks}
 use Rattle.ideal_lane.specs.Outcomes.{gives}
 use Rattle.ideal_lane.specs.State.{LaneState, LaneTag}

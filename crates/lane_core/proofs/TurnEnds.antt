@@ -1,8 +1,8 @@
 -- How a turn of a lane ends.
 use Rattle.std.proofs.Common.{◌≡◌, ◌+◌, ◌≤◌, inl, Bool, refl, sym, ap, subst, length, ℕ, ◌∙◌}
 use Rattle.busdma_base.specs.declared.journals.journal.Side.{Side}
-use Rattle.busdma_base.specs.Bounce.Door.{Seen, account}
-use Rattle.busdma_base.specs.Machine.Wire.{Wire}
+use Rattle.busdma_machine.specs.Bounce.Door.{Seen, account}
+use Rattle.busdma_machine.specs.Machine.Wire.{Wire}
 use Rattle.lane_tables.specs.Places.{Places}
 use Rattle.ideal_lane.specs.Agreement.{IsAllowed}
 use Rattle.ideal_lane.specs.Asking.{Asking, Gives, Asks}

@@ -6,8 +6,8 @@ use Rattle.std.specs.List.{flat_map}
 use Rattle.std.specs.Ordering.{nat_cmp}
 use Rattle.std.specs.FinMap.{FinMap, entries, entries_sorted, get-entries}
 use Rattle.std.specs.FinMap.Entries.{find, is_sorted, below_all}
-use Rattle.busdma_base.specs.Machine.Page.{FrameBytes}
-use Rattle.busdma_base.specs.Machine.Wire.{Wire, page_byte, with_bytes_of}
+use Rattle.busdma_machine.specs.Machine.Page.{FrameBytes}
+use Rattle.busdma_machine.specs.Machine.Wire.{Wire, page_byte, with_bytes_of}
 use Rattle.phys_memory.proofs.PageBytes.{IsNone, no_page_at}
 use Rattle.ideal_wire.proofs.SyncedPositions.{decided}
 use Rattle.lane_core.specs.declared.kept.KeptMap.{KeptMap}

@@ -9,8 +9,8 @@ use Rattle.std.specs.FinMap.{FinMap, get}
 use Rattle.std.proofs.lemmas.Bool.{eq-eqb, ne_eqb, lt-ltb, le-leb, lt-leb, le-ltb, cases_lt}
 use Rattle.std.proofs.lemmas.List.{at_drop_more, drop_more, drop-drop, map-append}
 use Rattle.std.proofs.lemmas.List.Sums.{sum_by-cons}
-use Rattle.busdma_base.specs.declared.machine.address.Extent.{Extent}
-use Rattle.busdma_base.specs.Runs.{run_of, addresses, byte_count}
+use Rattle.busdma_machine.specs.declared.machine.address.Extent.{Extent}
+use Rattle.busdma_machine.specs.Runs.{run_of, addresses, byte_count}
 use Rattle.phys_memory.specs.Memory.{Memory, has_frame, written, rewritten}
 use Rattle.phys_memory.specs.Extents.{LiesIn}
 use Rattle.loan_table.specs.declared.position.Position.{Position}
@@ -19,7 +19,7 @@ use Rattle.loan_table.proofs.Addresses.{no_extent}
 use Rattle.loan_table.proofs.Judgement.{length-run_of}
 use Rattle.lane_core.specs.Covered.{IsCovered}
 use Rattle.phys_memory.specs.Frames.{Lie, SamePages}
-use Rattle.busdma_base.specs.Machine.Wire.{put}
+use Rattle.busdma_machine.specs.Machine.Wire.{put}
 use Rattle.lane_core.proofs.Marks.{has_inserted}
 
 -- nothing is written without values

@@ -5,9 +5,9 @@ use Rattle.std.specs.List.{sum_by}
 use Rattle.std.specs.Option.{option_map}
 use Rattle.std.specs.Ordering.{nat_cmp}
 use Rattle.std.specs.FinMap.{FinMap, get}
-use Rattle.busdma_base.specs.declared.journals.report.Judged.TheVariants.{Fine}
+use Rattle.busdma_machine.specs.declared.report.Judged.TheVariants.{Fine}
 use Rattle.busdma_base.specs.declared.scenarios.script.Op.{Op}
-use Rattle.busdma_base.specs.declared.tags.tag.TagLimits.{TagLimits}
+use Rattle.busdma_machine.specs.declared.tags.tag.TagLimits.{TagLimits}
 use Rattle.busdma_base.specs.Scenarios.Limits.{buffer_limit, loaded_limit}
 use Rattle.busdma_base.specs.Scenarios.Operations.{loaded_by}
 use Rattle.lane_core.specs.declared.kept.KeptLoad.{KeptLoad}

@@ -1,9 +1,9 @@
 -- The calls on a lane that take no door, so they hold and wait for nothing. A map of another lane is one that this
 -- lane does not have.
 use Rattle.std.specs.Prelude.{ℕ, ◌==◌, List, if◌then◌else◌}
-use Rattle.busdma_base.specs.declared.journals.report.ReportName.TheVariants.{Absent}
-use Rattle.busdma_base.specs.declared.name.MapId.{MapId}
-use Rattle.busdma_base.specs.Machine.Wire.{Wire}
+use Rattle.busdma_machine.specs.declared.report.ReportName.TheVariants.{Absent}
+use Rattle.busdma_machine.specs.declared.name.MapId.{MapId}
+use Rattle.busdma_machine.specs.Machine.Wire.{Wire}
 use Rattle.ideal_lane.specs.Accesses as accesses
 use Rattle.ideal_lane.specs.Asking.{Asking}
 use Rattle.ideal_lane.specs.Outcomes.{Outcome, refused}

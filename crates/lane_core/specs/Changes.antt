@@ -1,6 +1,6 @@
 -- What of a driver's holdings a step leaves as it was.
 use Rattle.std.specs.Prelude.{◌≡◌, ℕ, ◌+◌, ◌==◌, true, false, [], ◌⊎◌, length, Some, None, is_some}
-use Rattle.busdma_base.specs.Machine.Wire.{Wire}
+use Rattle.busdma_machine.specs.Machine.Wire.{Wire}
 use Rattle.phys_memory.specs.Memory.{wire}
 use Rattle.ideal_lane.specs.IdealMemory.{Known}
 use Rattle.lane_core.specs.declared.holdings.Holdings.{Holdings}

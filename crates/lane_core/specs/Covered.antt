@@ -7,8 +7,8 @@ use Rattle.std.specs.Ordering.{nat_cmp}
 use Rattle.std.specs.FinMap.{FinMap, get, contains_key, entries}
 use Rattle.busdma_base.specs.declared.scenarios.scenario.PageRun.{PageRun}
 use Rattle.busdma_base.specs.declared.scenarios.script.Op.{Op}
-use Rattle.busdma_base.specs.Machine.PageRuns.{physical_in}
-use Rattle.busdma_base.specs.Machine.PageRuns as pages
+use Rattle.busdma_base.specs.Scenarios.PageRuns.{physical_in}
+use Rattle.busdma_base.specs.Scenarios.PageRuns as pages
 use Rattle.busdma_base.specs.Scenarios.Operations.{items_of}
 use Rattle.lane_core.specs.declared.kept.KeptLoad.{KeptLoad}
 use Rattle.dma_map.specs.MapView as held

@@ -1,8 +1,8 @@
 -- What a step makes at a door to the bounce lock.
 use Rattle.std.specs.Prelude.{◌≡◌, ℕ, ◌⊎◌, Bool, true, false}
-use Rattle.busdma_base.specs.declared.bounce.hold.HubCall.{HubCall}
-use Rattle.busdma_base.specs.declared.bounce.hold.HubReply.{HubReply}
-use Rattle.busdma_base.specs.Bounce.Door.{Seen, Allows, Holds, Fails}
+use Rattle.busdma_machine.specs.declared.bounce.hold.HubCall.{HubCall}
+use Rattle.busdma_machine.specs.declared.bounce.hold.HubReply.{HubReply}
+use Rattle.busdma_machine.specs.Bounce.Door.{Seen, Allows, Holds, Fails}
 use Rattle.ideal_lane.specs.Asking.{Asking, Gives, Asks}
 
 module _ {X : Type 0} where

@@ -2,13 +2,13 @@
 use Rattle.std.specs.Prelude.{ℕ, ◌+◌, ◌==◌, Bool, ◌&&◌, not, List, Option, Some, None, if◌then◌else◌, nat_le, nat_lt}
 use Rattle.std.specs.FinMap.{get}
 use Rattle.std.specs.List.{enumerate_from}
-use Rattle.busdma_base.specs.declared.journals.report.Judged.{Judged}
-use Rattle.busdma_base.specs.declared.journals.report.Judged.TheVariants.{Fine, Refused}
-use Rattle.busdma_base.specs.declared.journals.report.ReportName.{ReportName}
-use Rattle.busdma_base.specs.declared.journals.report.ReportName.TheVariants.{ForeignMemory, Unmapped}
-use Rattle.busdma_base.specs.declared.machine.bio.Bio.{Bio}
-use Rattle.busdma_base.specs.Journals.Judging.{judged}
-use Rattle.busdma_base.specs.Machine.Spans.{bio_spans, span_addresses}
+use Rattle.busdma_machine.specs.declared.report.Judged.{Judged}
+use Rattle.busdma_machine.specs.declared.report.Judged.TheVariants.{Fine, Refused}
+use Rattle.busdma_machine.specs.declared.report.ReportName.{ReportName}
+use Rattle.busdma_machine.specs.declared.report.ReportName.TheVariants.{ForeignMemory, Unmapped}
+use Rattle.busdma_machine.specs.declared.machine.bio.Bio.{Bio}
+use Rattle.busdma_machine.specs.Judging.{judged}
+use Rattle.busdma_machine.specs.Machine.Spans.{bio_spans, span_addresses}
 use Rattle.ideal_lane.specs.Loads.{is_foreign_in, is_foreign_to}
 use Rattle.ideal_lane.specs.Places.{begin_of}
 use Rattle.ideal_lane.specs.State.{LaneState, LaneMemory}

@@ -1,6 +1,6 @@
 -- The ideal state of a lane, and its wire.
 use Rattle.busdma_base.specs.declared.journals.answer.Answer.{Answer}
-use Rattle.busdma_base.specs.Machine.Wire.{Wire}
+use Rattle.busdma_machine.specs.Machine.Wire.{Wire}
 use Rattle.ideal_lane.specs.Outcomes.{Outcome}
 use Rattle.ideal_lane.specs.State.{LaneState}
 use Rattle.ideal_lane.specs.Turns.{Turned}

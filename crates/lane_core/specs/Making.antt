@@ -1,6 +1,6 @@
 -- What is taken and left where a memory is made.
 use Rattle.std.specs.Prelude.{◌≡◌, ℕ, ◌≤◌}
-use Rattle.busdma_base.specs.Bounce.MemoryRuns.{frames_for}
+use Rattle.busdma_machine.specs.Bounce.MemoryRuns.{frames_for}
 use Rattle.dma_tag.specs.MemFlags.{coherent}
 use Rattle.loan_table.specs.Table.{IsSame}
 use Rattle.ideal_lane.specs.State.{LaneMemory}

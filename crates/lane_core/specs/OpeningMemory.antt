@@ -4,11 +4,12 @@ use Rattle.std.specs.Prelude.{List, [], Some, None, if◌then◌else◌, replica
 use Rattle.std.specs.List.{list_any}
 use Rattle.std.specs.FinMap.{get}
 use Rattle.busdma_base.specs.declared.scenarios.scenario.PageRun.{PageRun}
-use Rattle.busdma_base.specs.Each.{EachAfter}
-use Rattle.busdma_base.specs.Machine.PageRuns.{pages_end, share_frame, share_page}
+use Rattle.busdma_machine.specs.Each.{EachAfter}
+use Rattle.busdma_machine.specs.Machine.VirtualPages.{pages_end}
+use Rattle.busdma_base.specs.Scenarios.PageRuns.{share_frame, share_page}
 use Rattle.phys_memory.specs.declared.reach.Reach.{Reach}
 use Rattle.phys_memory.specs.Memory.{Memory, physical, wire, has_frame}
-use Rattle.busdma_base.specs.Machine.PageRuns.{physical_in, is_own}
+use Rattle.busdma_base.specs.Scenarios.PageRuns.{physical_in, is_own}
 
 -- a run has a page, lies on page boundaries below the end of pages and in frames of numbers below
 -- 2^30, and shares no frame and no virtual page with a run before it

@@ -1,7 +1,7 @@
 -- Loads whose bounce pages are lent out for an access or a copy, and taken back.
 use Rattle.std.specs.Prelude.{◌≡◌, ℕ, ◌+◌, ◌≤◌, None}
 use Rattle.std.specs.List.{AllByRecursion, AllZip}
-use Rattle.busdma_base.specs.Machine.PageList.{RoomyPages, frames_of}
+use Rattle.busdma_machine.specs.Machine.PageList.{RoomyPages, frames_of}
 use Rattle.device_model.specs.Access.{IsThere, bus_range}
 use Rattle.lane_core.specs.declared.kept.KeptLoad.{KeptLoad}
 use Rattle.dma_map.specs.declared.state.MapState.TheVariants.{Loaded}

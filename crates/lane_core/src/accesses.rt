@@ -4,8 +4,8 @@ ghost use Rattle.std.specs.Prelude.{◌≡◌, ◌+◌, ◌≤◌, ◌<◌, ◌^
 ghost use Rattle.std.specs.Prelude.{IfNone, OnOk, OnErr};
 ghost use Rattle.std.specs.FinMap.{get};
 ghost use Rattle.busdma_base.specs.declared.journals.answer.Answer.TheVariants as answer;
-ghost use Rattle.busdma_base.specs.Runs.{addresses};
-ghost use Rattle.busdma_base.specs.Machine.Wire.{put};
+ghost use Rattle.busdma_machine.specs.Runs.{addresses};
+ghost use Rattle.busdma_machine.specs.Machine.Wire.{put};
 ghost use Rattle.device_model.specs.Access.{bus_range};
 ghost use Rattle.dma_map.specs.MapView.{segments_of};
 ghost use Rattle.phys_memory.specs.Frames.{Lie, SamePages};

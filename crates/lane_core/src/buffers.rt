@@ -3,11 +3,11 @@
 ghost use Rattle.std.specs.Prelude.{◌≡◌, ◌≤◌, ◌^◌, ◌++◌, ◌+◌, [], length, min, true, false, Some, None};
 ghost use Rattle.std.specs.Prelude.{IfNone, IfOk, IfSome};
 ghost use Rattle.std.specs.List.{AllByRecursion};
-ghost use Rattle.busdma_base.specs.Bounce.AccountStep.{as_pages};
-ghost use Rattle.busdma_base.specs.declared.machine.bio.Bio.TheVariants.{Mapped};
-ghost use Rattle.busdma_base.specs.Machine.Entry.{IsStream};
-ghost use Rattle.busdma_base.specs.Machine.PageList.{page_addresses};
-ghost use Rattle.busdma_base.specs.Runs.{addresses, byte_count};
+ghost use Rattle.busdma_machine.specs.Bounce.AccountStep.{as_pages};
+ghost use Rattle.busdma_machine.specs.declared.machine.bio.Bio.TheVariants.{Mapped};
+ghost use Rattle.busdma_machine.specs.Machine.Entry.{IsStream};
+ghost use Rattle.busdma_machine.specs.Machine.PageList.{page_addresses};
+ghost use Rattle.busdma_machine.specs.Runs.{addresses, byte_count};
 ghost use Rattle.dma_tag.specs.LoadFlags.{nowait};
 ghost use Rattle.loan_table.specs.Table.{AreIn};
 ghost use Rattle.segment_build.specs.Building.{placed_pieces};

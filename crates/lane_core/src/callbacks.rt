@@ -3,7 +3,7 @@
 ghost use Rattle.std.specs.Prelude.{◌≡◌, ◌≤◌, IfSome, true, length, Some};
 ghost use Rattle.std.specs.FinMap.{get, insert};
 ghost use Rattle.busdma_base.specs.declared.journals.journal.Side.TheVariants as side;
-ghost use Rattle.busdma_base.specs.Machine.PageList.{page_addresses};
+ghost use Rattle.busdma_machine.specs.Machine.PageList.{page_addresses};
 ghost use Rattle.dma_map.specs.MapView.{idle};
 ghost use Rattle.ideal_lane.specs.Ahead.{items_ahead};
 ghost use Rattle.ideal_lane.specs.Standing.{Stands};

@@ -2,7 +2,7 @@
 
 ghost use Rattle.std.specs.Prelude.{◌≡◌, ℕ, ◌+◌, ◌≤◌, true, Some, length};
 ghost use Rattle.std.specs.FinMap.{get, insert, remove};
-ghost use Rattle.busdma_base.specs.Machine.PageList.{page_addresses};
+ghost use Rattle.busdma_machine.specs.Machine.PageList.{page_addresses};
 ghost use Rattle.loan_table.specs.Loans.{loan_of};
 ghost use Rattle.ideal_lane.specs.Loads.{staged};
 ghost use Rattle.ideal_lane.specs.State.{Idle, LaneMap, Loaded};

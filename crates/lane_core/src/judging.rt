@@ -3,10 +3,10 @@
 ghost use Rattle.std.specs.Prelude.{◌≡◌, ℕ, ◌+◌, ◌<◌, ◌≤◌, ◌^◌, is_some};
 ghost use Rattle.std.specs.FinMap.{get};
 ghost use Rattle.std.specs.List.{enumerate_from};
-ghost use Rattle.busdma_base.specs.Journals.Judging.{judged};
-ghost use Rattle.busdma_base.specs.Machine.Entry.{unmapped_of};
-ghost use Rattle.busdma_base.specs.Machine.Spans.{span_addresses, span_bytes};
-ghost use Rattle.busdma_base.specs.Runs.{run_of};
+ghost use Rattle.busdma_machine.specs.Judging.{judged};
+ghost use Rattle.busdma_machine.specs.Machine.Entry.{unmapped_of};
+ghost use Rattle.busdma_machine.specs.Machine.Spans.{span_addresses, span_bytes};
+ghost use Rattle.busdma_machine.specs.Runs.{run_of};
 ghost use Rattle.dmamem.specs.Memory.{virtual_of};
 ghost use Rattle.ideal_lane.specs.Loads.{load_judged};
 ghost use Rattle.ideal_lane.specs.Places.{is_in_memory, is_memory_byte};

@@ -4,11 +4,11 @@ ghost use Rattle.std.specs.Prelude.{◌≡◌, ◌+◌, ◌<◌, ◌≤◌, ◌^
 ghost use Rattle.std.specs.Prelude.{IfNone, IfOk, IfSome, OnErr, OnOk, slice_get};
 ghost use Rattle.std.specs.FinMap.{get, insert};
 ghost use Rattle.std.specs.List.{AllByRecursion};
-ghost use Rattle.busdma_base.specs.declared.journals.report.Judged.TheVariants.{Fine};
-ghost use Rattle.busdma_base.specs.declared.bounce.hold.HubCall.TheVariants.{Grab};
-ghost use Rattle.busdma_base.specs.Bounce.AccountStep.{as_pages};
-ghost use Rattle.busdma_base.specs.Bounce.Door.{Allows};
-ghost use Rattle.busdma_base.specs.Machine.PageList.{page_addresses};
+ghost use Rattle.busdma_machine.specs.declared.report.Judged.TheVariants.{Fine};
+ghost use Rattle.busdma_machine.specs.declared.bounce.hold.HubCall.TheVariants.{Grab};
+ghost use Rattle.busdma_machine.specs.Bounce.AccountStep.{as_pages};
+ghost use Rattle.busdma_machine.specs.Bounce.Door.{Allows};
+ghost use Rattle.busdma_machine.specs.Machine.PageList.{page_addresses};
 ghost use Rattle.segment_build.specs.Trace.{IsPage};
 ghost use Rattle.ideal_lane.specs.Loads.{Asked, asked, finished, granted, is_coherent, limits_of, load, load_entries};
 ghost use Rattle.ideal_lane.specs.Loads.{zone_of};

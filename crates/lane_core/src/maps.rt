@@ -4,7 +4,7 @@ ghost use Rattle.std.specs.Prelude.{◌≡◌, ◌<◌, ◌≤◌, true, Some, N
 ghost use Rattle.std.specs.FinMap.{get};
 ghost use Rattle.std.specs.Option.{option_map};
 ghost use Rattle.busdma_base.specs.declared.journals.answer.Answer.TheVariants.{Done};
-ghost use Rattle.busdma_base.specs.Tags.Tag.{could_bounce};
+ghost use Rattle.busdma_machine.specs.Tags.Tag.{could_bounce};
 ghost use Rattle.ideal_lane.specs.Asking.{Gives};
 ghost use Rattle.ideal_lane.specs.Maps as maps;
 ghost use Rattle.ideal_lane.specs.Maps.{with_map, without_map};

@@ -3,7 +3,8 @@
 ghost use Rattle.std.specs.Prelude.{◌≡◌, ℕ, ◌+◌, ◌*◌, ◌%◌, ◌^◌, ◌≤◌, IfOk, OnOk, Some, None, true, if◌then◌else◌};
 ghost use Rattle.std.specs.FinMap.{empty, get};
 ghost use Rattle.std.specs.List.{AllByRecursion, sum_by};
-ghost use Rattle.busdma_base.specs.Machine.PageRuns.{pages_end, is_own};
+ghost use Rattle.busdma_machine.specs.Machine.VirtualPages.{pages_end};
+ghost use Rattle.busdma_base.specs.Scenarios.PageRuns.{is_own};
 ghost use Rattle.busdma_base.specs.Scenarios.Limits.{loaded_limit};
 ghost use Rattle.busdma_base.specs.Scenarios.Operations.{loaded_by};
 ghost use Rattle.busdma_base.specs.Scenarios.Script.{IsScript};

@@ -1,8 +1,8 @@
 //! Where the bytes of places lie.
 
 ghost use Rattle.std.specs.Prelude.{◌≡◌, ◌^◌, ◌<◌, [], length, map, IfOk};
-ghost use Rattle.busdma_base.specs.Journals.Judging.{judged};
-ghost use Rattle.busdma_base.specs.Runs.{addresses, byte_count, run_of};
+ghost use Rattle.busdma_machine.specs.Judging.{judged};
+ghost use Rattle.busdma_machine.specs.Runs.{addresses, byte_count, run_of};
 ghost use Rattle.loan_table.specs.Table.{AreIn};
 ghost use Rattle.phys_memory.specs.Frames.{Lie};
 ghost use Rattle.phys_memory.specs.Memory.{physical};

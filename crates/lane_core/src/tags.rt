@@ -3,11 +3,11 @@
 ghost use Rattle.std.specs.Prelude.{◌≡◌, ◌<◌, ◌≤◌, true, false, None, IfOk, OnErr, if◌then◌else◌};
 ghost use Rattle.std.specs.FinMap.{get};
 ghost use Rattle.std.specs.Option.{option_copied};
-ghost use Rattle.busdma_base.specs.declared.bounce.hold.HubCall.TheVariants.{AttachTag};
+ghost use Rattle.busdma_machine.specs.declared.bounce.hold.HubCall.TheVariants.{AttachTag};
 ghost use Rattle.busdma_base.specs.declared.journals.answer.Answer.TheVariants.{Done};
-ghost use Rattle.busdma_base.specs.Bounce.Door.{Allows};
-ghost use Rattle.busdma_base.specs.Tags.Tag.{effective};
-ghost use Rattle.busdma_base.specs.Tags.TagFlags.{allocnow};
+ghost use Rattle.busdma_machine.specs.Bounce.Door.{Allows};
+ghost use Rattle.busdma_machine.specs.Tags.Tag.{effective};
+ghost use Rattle.busdma_machine.specs.Tags.TagFlags.{allocnow};
 ghost use Rattle.ideal_lane.specs.Asking.{Asks, Gives};
 ghost use Rattle.ideal_lane.specs.Outcomes.{gives};
 ghost use Rattle.ideal_lane.specs.Standing.{Stands};

@@ -3,7 +3,7 @@
 ghost use Rattle.std.specs.Prelude.{◌≡◌, ◌+◌, ◌≤◌, [], false, length, IfNone, IfOk, IfSome, OnErr, OnOk};
 ghost use Rattle.busdma_base.specs.declared.journals.journal.Side.{Side};
 ghost use Rattle.busdma_base.specs.declared.journals.journal.Side.TheVariants as side;
-ghost use Rattle.busdma_base.specs.Bounce.Door.{Seen};
+ghost use Rattle.busdma_machine.specs.Bounce.Door.{Seen};
 ghost use Rattle.ideal_lane.specs.Asking.{Gives};
 ghost use Rattle.ideal_lane.specs.Turns.{lane_step};
 ghost use Rattle.ideal_wire.specs.WireStep as wires;

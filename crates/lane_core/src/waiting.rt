@@ -3,8 +3,8 @@
 ghost use Rattle.std.specs.Prelude.{◌≡◌, ℕ, ◌+◌, ◌-◌, ◌<◌, ◌≤◌, ◌^◌, ◌==◌, true, false, length, Some, None};
 ghost use Rattle.std.specs.Prelude.{OnErr, OnOk};
 ghost use Rattle.std.specs.FinMap.{get, insert, remove};
-ghost use Rattle.busdma_base.specs.declared.journals.report.Judged.TheVariants.{Fine};
-ghost use Rattle.busdma_base.specs.Bounce.Door.{grab_reply};
+ghost use Rattle.busdma_machine.specs.declared.report.Judged.TheVariants.{Fine};
+ghost use Rattle.busdma_machine.specs.Bounce.Door.{grab_reply};
 ghost use Rattle.loan_table.specs.Table.{IsPrepared};
 ghost use Rattle.ideal_lane.specs.Loads.{Asked, granted, limits_of, load_entries, staged};
 ghost use Rattle.ideal_lane.specs.Standing.{Stands};

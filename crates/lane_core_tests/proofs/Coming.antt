@@ -4,23 +4,23 @@ use Rattle.std.proofs.Common.{Result, Ok, Err, Option, Some, None, IfOk, OnErr, 
 use Rattle.std.proofs.Common.{refl, sym, ap, ◌∙◌, subst, inl, inr, append-nil, arith}
 use Rattle.std.proofs.lemmas.Bool.Decides.{nat_tests}
 use Rattle.std.proofs.lemmas.List.Elements.{All-nil, All-cons, All-head, All-tail}
-use Rattle.busdma_base.specs.declared.bounce.door.Called.{Called}
-use Rattle.busdma_base.specs.declared.bounce.hold.HubCall.{HubCall}
-use Rattle.busdma_base.specs.declared.bounce.hold.HubCall.TheVariants.{TakeCallback}
-use Rattle.busdma_base.specs.declared.bounce.hold.HubReply.{HubReply}
-use Rattle.busdma_base.specs.declared.bounce.hold.HubReply.TheVariants.{Nothing}
-use Rattle.busdma_base.specs.declared.bounce.hold.HoldEntry.{HoldEntry}
+use Rattle.busdma_machine.specs.declared.bounce.door.Called.{Called}
+use Rattle.busdma_machine.specs.declared.bounce.hold.HubCall.{HubCall}
+use Rattle.busdma_machine.specs.declared.bounce.hold.HubCall.TheVariants.{TakeCallback}
+use Rattle.busdma_machine.specs.declared.bounce.hold.HubReply.{HubReply}
+use Rattle.busdma_machine.specs.declared.bounce.hold.HubReply.TheVariants.{Nothing}
+use Rattle.busdma_machine.specs.declared.bounce.hold.HoldEntry.{HoldEntry}
 use Rattle.busdma_base.specs.declared.journals.journal.Side.{Side}
-use Rattle.busdma_base.specs.declared.name.MapId.{MapId}
-use Rattle.busdma_base.specs.Bounce.Account.{Account}
-use Rattle.busdma_base.specs.Bounce.AccountStep.{account_step}
-use Rattle.busdma_base.specs.Bounce.Conditions.{MayCall}
-use Rattle.busdma_base.specs.Bounce.Door.{Seen, Allows, Passes, Holds, Fails, Misses, ArePagesOf, account}
-use Rattle.busdma_base.specs.Bounce.EachFrame.{LiesBelowMaxmem}
-use Rattle.busdma_base.specs.Bounce.History.{IsOpening, IsSound, account_of}
-use Rattle.busdma_base.specs.Bounce.MemoryRuns.{frames_of}
-use Rattle.busdma_base.proofs.Accounts.LaneEntries.{account_of-append, sound-rest}
-use Rattle.busdma_base.proofs.Accounts.Shares.{MayCall-stays, frames-stay}
+use Rattle.busdma_machine.specs.declared.name.MapId.{MapId}
+use Rattle.busdma_machine.specs.Bounce.Account.{Account}
+use Rattle.busdma_machine.specs.Bounce.AccountStep.{account_step}
+use Rattle.busdma_machine.specs.Bounce.Conditions.{MayCall}
+use Rattle.busdma_machine.specs.Bounce.Door.{Seen, Allows, Passes, Holds, Fails, Misses, ArePagesOf, account}
+use Rattle.busdma_machine.specs.Bounce.EachFrame.{LiesBelowMaxmem}
+use Rattle.busdma_machine.specs.Bounce.History.{IsOpening, IsSound, account_of}
+use Rattle.busdma_machine.specs.Bounce.MemoryRuns.{frames_of}
+use Rattle.busdma_machine.proofs.Accounts.LaneEntries.{account_of-append, sound-rest}
+use Rattle.busdma_machine.proofs.Accounts.Shares.{MayCall-stays, frames-stay}
 use Rattle.bounce_hub.specs.Seen.{HubSeen, door}
 use Rattle.lane_agreement.proofs.Doors.{agrees-passes}
 use Rattle.ideal_lane.specs.Asking.{Asking, Gives, Asks, by_reply}

@@ -1,7 +1,7 @@
 -- A hub at which another driver acts beside the one whose calls are made at a door.
 use Rattle.std.specs.Prelude.{◌≡◌, ◌==◌, ℕ, List, ◌++◌, All}
-use Rattle.busdma_base.specs.declared.bounce.hold.HoldEntry.{HoldEntry}
-use Rattle.busdma_base.specs.Bounce.Door.{Seen}
+use Rattle.busdma_machine.specs.declared.bounce.hold.HoldEntry.{HoldEntry}
+use Rattle.busdma_machine.specs.Bounce.Door.{Seen}
 use Rattle.bounce_hub.specs.Seen.{HubSeen}
 
 -- what a door of one lane has seen of a hub

@@ -1,5 +1,5 @@
 -- A driver at a door, as the tests speak of it.
-use Rattle.busdma_base.specs.Bounce.Door.{Seen}
+use Rattle.busdma_machine.specs.Bounce.Door.{Seen}
 use Rattle.lane_core.specs.declared.lane.Lane.{Lane}
 use Rattle.lane_core.specs.LaneIdeal.{ideal}
 use Rattle.lane_core.specs.Turning.{IsServed}

@@ -4,13 +4,13 @@ use Rattle.std.proofs.Common.{ap, ◌∙◌, subst, arith, slice_get, slice_set,
 use Rattle.std.proofs.Common.{unwrap_or, length-append}
 use Rattle.std.proofs.lemmas.List.Elements.{All-head, All-tail}
 use Rattle.std.proofs.lemmas.List.{get_or-set_same, get_or-set_other}
-use Rattle.busdma_base.specs.declared.bounce.hold.HoldEntry.{HoldEntry}
+use Rattle.busdma_machine.specs.declared.bounce.hold.HoldEntry.{HoldEntry}
 use Rattle.busdma_base.specs.declared.journals.journal.JournalEntry.{JournalEntry}
 use Rattle.busdma_base.specs.declared.scenarios.scenario.Scenario.{Scenario}
-use Rattle.busdma_base.specs.Bounce.Account.{Account}
-use Rattle.busdma_base.specs.Bounce.History.{IsSound, account_of, after_entry}
-use Rattle.busdma_base.specs.Bounce.LaneEntries.{of_lane}
-use Rattle.busdma_base.specs.Bounce.Opening.{maxmem_of, opening}
+use Rattle.busdma_machine.specs.Bounce.Account.{Account}
+use Rattle.busdma_machine.specs.Bounce.History.{IsSound, account_of, after_entry}
+use Rattle.busdma_machine.specs.Bounce.LaneEntries.{of_lane}
+use Rattle.busdma_base.specs.Scenarios.Opening.{maxmem_of, opening}
 use Rattle.ideal_lane.specs.State.{LaneState}
 use Rattle.ideal_world.specs.Ends.{IsAtRest}
 use Rattle.ideal_world.specs.Legal.{IsLegal, Leads, journal_of}

@@ -1,7 +1,7 @@
 -- One hold's part of a merged journal is taken.
 use Rattle.std.proofs.Common.{◌≡◌, ℕ, zero, suc, ◌<◌, List, [], ◌∷◌, ◌++◌, map, length, sym, ap, ◌∙◌, refl, arith}
 use Rattle.std.proofs.Common.{slice_set, slice_index_or, append_assoc}
-use Rattle.busdma_base.specs.declared.bounce.hold.HoldEntry.{HoldEntry}
+use Rattle.busdma_machine.specs.declared.bounce.hold.HoldEntry.{HoldEntry}
 use Rattle.busdma_base.specs.declared.journals.journal.JournalEntry.{JournalEntry}
 use Rattle.lane_merge.specs.Merged.{log_of, merged, past_hold, through_hold}
 use Rattle.lane_merge.specs.Runs.{Log}

@@ -1,13 +1,13 @@
 -- The one journal that the logs of drivers and the history of the bounce lock, which they shared, are merged to.
 use Rattle.std.specs.Prelude.{◌≡◌, ℕ, ◌<◌, List, [], ◌∷◌, ◌++◌, map, length, All, Some}
 use Rattle.std.specs.Prelude.{slice_get, slice_set, slice_index_or}
-use Rattle.busdma_base.specs.declared.bounce.hold.HoldEntry.{HoldEntry}
+use Rattle.busdma_machine.specs.declared.bounce.hold.HoldEntry.{HoldEntry}
 use Rattle.busdma_base.specs.declared.journals.journal.JournalEntry.{JournalEntry}
 use Rattle.busdma_base.specs.declared.scenarios.scenario.Scenario.{Scenario}
-use Rattle.busdma_base.specs.Bounce.Account.{Account}
-use Rattle.busdma_base.specs.Bounce.History.{account_of}
-use Rattle.busdma_base.specs.Bounce.LaneEntries.{of_lane}
-use Rattle.busdma_base.specs.Bounce.Opening.{opening}
+use Rattle.busdma_machine.specs.Bounce.Account.{Account}
+use Rattle.busdma_machine.specs.Bounce.History.{account_of}
+use Rattle.busdma_machine.specs.Bounce.LaneEntries.{of_lane}
+use Rattle.busdma_base.specs.Scenarios.Opening.{opening}
 use Rattle.ideal_lane.specs.State.{LaneState}
 use Rattle.ideal_world.specs.Legal.{Run}
 use Rattle.ideal_world.specs.World.{WorldState}

@@ -1,6 +1,6 @@
 -- The log of a driver, beside the driver's own entries of the history of the bounce lock.
 use Rattle.std.specs.Prelude.{◌≡◌, List, [], ◌∷◌, Some}
-use Rattle.busdma_base.specs.declared.bounce.hold.HoldEntry.{HoldEntry}
+use Rattle.busdma_machine.specs.declared.bounce.hold.HoldEntry.{HoldEntry}
 use Rattle.busdma_base.specs.declared.journals.journal.JournalEntry.{JournalEntry}
 use Rattle.ideal_lane.specs.Asking.{Gives, call_of, by_reply}
 use Rattle.ideal_lane.specs.State.{LaneState}

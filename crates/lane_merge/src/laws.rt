@@ -1,11 +1,11 @@
 //! Laws of merged journals.
 
 ghost use Rattle.std.specs.Prelude.{List};
-ghost use Rattle.busdma_base.specs.declared.bounce.hold.HoldEntry.{HoldEntry};
+ghost use Rattle.busdma_machine.specs.declared.bounce.hold.HoldEntry.{HoldEntry};
 ghost use Rattle.busdma_base.specs.declared.scenarios.scenario.Scenario.{Scenario};
-ghost use Rattle.busdma_base.specs.Bounce.Account.{Account};
-ghost use Rattle.busdma_base.specs.Bounce.History.{IsSound, account_of};
-ghost use Rattle.busdma_base.specs.Bounce.Opening.{opening};
+ghost use Rattle.busdma_machine.specs.Bounce.Account.{Account};
+ghost use Rattle.busdma_machine.specs.Bounce.History.{IsSound, account_of};
+ghost use Rattle.busdma_base.specs.Scenarios.Opening.{opening};
 ghost use Rattle.ideal_lane.specs.State.{LaneState};
 ghost use Rattle.ideal_world.specs.Ends.{IsAtRest};
 ghost use Rattle.ideal_world.specs.Legal.{IsLegal, Leads, journal_of};

@@ -5,7 +5,7 @@ use denote.Param.Send.{IsSend, IsSync, sendable}
 use denote.Param.SendFields.{declared_send}
 use Rattle.std.proofs.Crossing.{crosses}
 use Rattle.std.proofs.MapsCrossing.{BTreeMap-send, HashMap-send}
-use Rattle.busdma_base.specs.contracts.machine.page.Page as Page
+use Rattle.busdma_machine.specs.contracts.machine.page.Page as Page
 use Rattle.busdma_base.specs.contracts.scenarios.script.Op as Op
 use Rattle.dma_map.specs.contracts.map.DmaMap as Map
 use Rattle.dma_map.specs.declared.callback.Callback as Callback

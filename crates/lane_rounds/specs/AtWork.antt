@@ -1,8 +1,8 @@
 -- A driver at work at a door to the bounce lock.
 use Rattle.std.specs.Prelude.{◌≡◌, Bool, if◌then◌else◌}
 use Rattle.busdma_base.specs.declared.journals.journal.JournalEntry.{JournalEntry}
-use Rattle.busdma_base.specs.Bounce.Door.{Seen}
-use Rattle.busdma_base.specs.Bounce.LaneEntries.{of_lane}
+use Rattle.busdma_machine.specs.Bounce.Door.{Seen}
+use Rattle.busdma_machine.specs.Bounce.LaneEntries.{of_lane}
 use Rattle.ideal_lane.specs.State.{LaneState}
 use Rattle.lane_core.specs.LaneIdeal.{ideal}
 use Rattle.lane_core.specs.Turning.{IsServed}

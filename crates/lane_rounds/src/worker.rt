@@ -1,7 +1,7 @@
 //! A driver at work at a door.
 
 ghost use Rattle.std.specs.Prelude.{◌≡◌, []};
-ghost use Rattle.busdma_base.specs.Bounce.LaneEntries.{of_lane};
+ghost use Rattle.busdma_machine.specs.Bounce.LaneEntries.{of_lane};
 ghost use Rattle.lane_core.specs.LaneIdeal.{ideal};
 ghost use Rattle.lane_core.specs.Turning.{IsServed};
 ghost use Rattle.lane_rounds.specs.AtWork.{IsAtWork, Works, logged, place_of};

@@ -7,8 +7,8 @@ use Rattle.std.proofs.lemmas.Option.{slice_get_past}
 use Rattle.busdma_base.specs.declared.journals.journal.Actor.{Actor}
 use Rattle.busdma_base.specs.declared.journals.journal.JournalEntry.{JournalEntry}
 use Rattle.busdma_base.specs.declared.scenarios.scenario.Scenario.{Scenario}
-use Rattle.busdma_base.specs.Bounce.History.{account_of}
-use Rattle.busdma_base.specs.Bounce.Opening.{maxmem_of, opening}
+use Rattle.busdma_machine.specs.Bounce.History.{account_of}
+use Rattle.busdma_base.specs.Scenarios.Opening.{maxmem_of, opening}
 use Rattle.busdma_base.specs.Scenarios.Valid.{IsValid}
 use Rattle.bounce_hub.specs.Seen.{HubSeen}
 use Rattle.ideal_lane.specs.State.{LaneState}

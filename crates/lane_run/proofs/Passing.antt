@@ -3,13 +3,13 @@ use Rattle.std.proofs.Common.{◌≡◌, ℕ, zero, suc, ◌+◌, ◌<◌, List,
 use Rattle.std.proofs.Common.{refl, sym}
 use Rattle.std.proofs.Common.{ap, ◌∙◌, subst, arith, slice_get, unwrap_or}
 use Rattle.std.proofs.lemmas.List.Elements.{All-nil, All-cons, All-head, All-tail, All-weaker}
-use Rattle.busdma_base.specs.declared.bounce.hold.HoldEntry.{HoldEntry}
+use Rattle.busdma_machine.specs.declared.bounce.hold.HoldEntry.{HoldEntry}
 use Rattle.busdma_base.specs.declared.scenarios.scenario.Scenario.{Scenario}
-use Rattle.busdma_base.specs.Bounce.Account.{Account}
-use Rattle.busdma_base.specs.Bounce.History.{IsSound}
-use Rattle.busdma_base.specs.Bounce.LaneEntries.{of_lane}
-use Rattle.busdma_base.specs.Bounce.Opening.{opening}
-use Rattle.busdma_base.proofs.Accounts.LaneEntries.{own-passes}
+use Rattle.busdma_machine.specs.Bounce.Account.{Account}
+use Rattle.busdma_machine.specs.Bounce.History.{IsSound}
+use Rattle.busdma_machine.specs.Bounce.LaneEntries.{of_lane}
+use Rattle.busdma_base.specs.Scenarios.Opening.{opening}
+use Rattle.busdma_machine.proofs.Accounts.LaneEntries.{own-passes}
 use Rattle.atomic_table.specs.Seated.{TableId}
 use Rattle.bounce_hub.specs.Seen.{HubSeen}
 use Rattle.turnstile.specs.declared.view.Start.{Start}

@@ -2,14 +2,14 @@
 use Rattle.std.proofs.Common.{◌≡◌, ℕ, suc, ◌+◌, ◌<◌, ◌≤◌, List, [], ◌∷◌, ◌++◌, length, map, All, Option, Some, refl}
 use Rattle.std.proofs.Common.{sym, ap, ◌∙◌, subst, arith, slice_get, slice_index_or, eq-eqb}
 use Rattle.std.proofs.lemmas.List.Elements.{All-nil, All-cons}
-use Rattle.busdma_base.specs.declared.bounce.hold.HoldEntry.{HoldEntry}
+use Rattle.busdma_machine.specs.declared.bounce.hold.HoldEntry.{HoldEntry}
 use Rattle.busdma_base.specs.declared.scenarios.scenario.Scenario.{Scenario}
-use Rattle.busdma_base.specs.Bounce.Account.{Account}
-use Rattle.busdma_base.specs.Bounce.LaneEntries.{of_lane}
-use Rattle.busdma_base.specs.Bounce.Opening.{maxmem_of, opening}
+use Rattle.busdma_machine.specs.Bounce.Account.{Account}
+use Rattle.busdma_machine.specs.Bounce.LaneEntries.{of_lane}
+use Rattle.busdma_base.specs.Scenarios.Opening.{maxmem_of, opening}
 use Rattle.busdma_base.specs.Scenarios.Valid.{IsValid}
-use Rattle.busdma_base.proofs.Accounts.EachFrame.{below-opening}
-use Rattle.busdma_base.proofs.Accounts.Openings.{opening-may_begin}
+use Rattle.busdma_machine.proofs.Accounts.EachFrame.{below-opening}
+use Rattle.busdma_base.proofs.Openings.{opening-may_begin}
 use Rattle.turnstile.specs.declared.view.Start.{Start}
 use Rattle.turnstile.specs.Pass.{SplitsOff}
 use Rattle.turnstile.specs.Start.{start_of}

@@ -1,8 +1,8 @@
 -- What is known of drivers that ran on threads.
 use Rattle.std.specs.Prelude.{◌≡◌, List, map}
 use Rattle.busdma_base.specs.declared.scenarios.scenario.Scenario.{Scenario}
-use Rattle.busdma_base.specs.Bounce.History.{IsSound}
-use Rattle.busdma_base.specs.Bounce.Opening.{opening}
+use Rattle.busdma_machine.specs.Bounce.History.{IsSound}
+use Rattle.busdma_base.specs.Scenarios.Opening.{opening}
 use Rattle.bounce_hub.specs.Seen.{HubSeen}
 use Rattle.ideal_world.specs.World.{opening_world}
 use Rattle.lane_core.specs.declared.lane.Lane.{Lane}

@@ -1,13 +1,13 @@
 -- What stands in a driver's queues.
 use Rattle.std.specs.Prelude.{ℕ, ◌+◌, Bool, ◌&&◌, ◌==◌, List, [], ◌∷◌, length, map, sum_by}
 use Rattle.std.specs.List.{list_any}
-use Rattle.busdma_base.specs.declared.name.MapId.{MapId}
-use Rattle.busdma_base.specs.declared.name.ZoneId.{ZoneId}
+use Rattle.busdma_machine.specs.declared.name.MapId.{MapId}
+use Rattle.busdma_machine.specs.declared.name.ZoneId.{ZoneId}
 use Rattle.busdma_base.specs.declared.scenarios.script.Op.{Op}
 use Rattle.busdma_base.specs.declared.scenarios.script.Item.{Item}
 use Rattle.busdma_base.specs.declared.scenarios.operations.NameKind.TheVariants.{Map}
 use Rattle.busdma_base.specs.declared.scenarios.operations.UsedName.{UsedName}
-use Rattle.busdma_base.specs.Machine.Page.{FrameBytes}
+use Rattle.busdma_machine.specs.Machine.Page.{FrameBytes}
 use Rattle.busdma_base.specs.Scenarios.Names.{accepts}
 use Rattle.busdma_base.specs.Scenarios.Operations.{about_item, items_of}
 use Rattle.lane_tables.specs.declared.queued.QueuedItem.{QueuedItem}

@@ -7,11 +7,11 @@ use Rattle.std.proofs.lemmas.List.Elements.{Contains-append_left, Contains-appen
 use mathlib.Core.List.{IsPrefix}
 use mathlib.Core.Logic.{dite}
 use native.Mathlib.Decide.{ℕ_discrete}
-use Rattle.busdma_base.specs.declared.bounce.hold.HoldEntry.{HoldEntry}
-use Rattle.busdma_base.specs.Bounce.Account.{Account}
-use Rattle.busdma_base.specs.Bounce.Door.{Seen, Passes}
-use Rattle.busdma_base.specs.Bounce.LaneEntries.{of_lane}
-use Rattle.busdma_base.proofs.Accounts.LaneEntries.{of_lane-append}
+use Rattle.busdma_machine.specs.declared.bounce.hold.HoldEntry.{HoldEntry}
+use Rattle.busdma_machine.specs.Bounce.Account.{Account}
+use Rattle.busdma_machine.specs.Bounce.Door.{Seen, Passes}
+use Rattle.busdma_machine.specs.Bounce.LaneEntries.{of_lane}
+use Rattle.busdma_machine.proofs.Accounts.LaneEntries.{of_lane-append}
 use Rattle.bounce_hub.specs.Seen.{HubSeen}
 use Rattle.turnstile.specs.declared.view.Start.{Start}
 use Rattle.turnstile.specs.TurnHistory.{entries, calls_of, IsOfOthers}

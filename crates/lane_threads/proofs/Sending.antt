@@ -1,8 +1,8 @@
 -- A hub as an object, its passes and a lane's door may go to another thread, and threads may share its turnstile.
 use denote.Param.Send.{IsSend, IsSync, sendable}
 use Rattle.std.proofs.Crossing.{crosses}
-use Rattle.busdma_base.specs.contracts.bounce.hold.HoldEntry as Entry
-use Rattle.busdma_base.specs.contracts.bounce.opening.Opening as Opening
+use Rattle.busdma_machine.specs.contracts.bounce.hold.HoldEntry as Entry
+use Rattle.busdma_machine.specs.contracts.bounce.opening.Opening as Opening
 use Rattle.bounce_hub.proofs.Sending.{hub_send}
 use Rattle.turnstile.specs.contracts.pass.Pass as Pass
 use Rattle.turnstile.specs.contracts.lock.Turnstile as Turnstile

@@ -5,15 +5,15 @@ use Rattle.std.proofs.Common.{append-nil, unwrap_or}
 use Rattle.std.proofs.lemmas.List.Elements.{All-nil, All-cons, All-head, All-tail}
 use Rattle.std.proofs.lemmas.Bool.Decides.{nat_tests}
 use mathlib.Core.List.{IsPrefix}
-use Rattle.busdma_base.specs.declared.bounce.hold.HubCall.{HubCall}
-use Rattle.busdma_base.specs.declared.bounce.hold.HubCall.TheVariants as hub
-use Rattle.busdma_base.specs.declared.bounce.hold.HubReply.{HubReply}
-use Rattle.busdma_base.specs.declared.bounce.hold.HubReply.TheVariants as said
-use Rattle.busdma_base.specs.declared.bounce.hold.HoldEntry.{HoldEntry}
-use Rattle.busdma_base.specs.Bounce.Account.{Account}
-use Rattle.busdma_base.specs.Bounce.AccountStep.{account_step}
-use Rattle.busdma_base.specs.Bounce.History.{account_of}
-use Rattle.busdma_base.specs.Bounce.Door.{Seen, Allows, Passes, Holds, Fails, Misses, account}
+use Rattle.busdma_machine.specs.declared.bounce.hold.HubCall.{HubCall}
+use Rattle.busdma_machine.specs.declared.bounce.hold.HubCall.TheVariants as hub
+use Rattle.busdma_machine.specs.declared.bounce.hold.HubReply.{HubReply}
+use Rattle.busdma_machine.specs.declared.bounce.hold.HubReply.TheVariants as said
+use Rattle.busdma_machine.specs.declared.bounce.hold.HoldEntry.{HoldEntry}
+use Rattle.busdma_machine.specs.Bounce.Account.{Account}
+use Rattle.busdma_machine.specs.Bounce.AccountStep.{account_step}
+use Rattle.busdma_machine.specs.Bounce.History.{account_of}
+use Rattle.busdma_machine.specs.Bounce.Door.{Seen, Allows, Passes, Holds, Fails, Misses, account}
 use Rattle.turnstile.specs.declared.view.Start.{Start}
 use Rattle.turnstile.specs.TurnHistory.{entries, turns_of, IsOfOthers}
 use Rattle.turnstile.specs.Start.{history_after, IsLawful}

@@ -1,10 +1,10 @@
 -- What is known of the hub once all passes came together.
 use Rattle.std.specs.Prelude.{◌≡◌, ◌+◌, ◌<◌, ◌==◌, ℕ, List, ◌∷◌, ◌++◌, All, Contains, Some}
 use mathlib.Core.List.{IsPrefix}
-use Rattle.busdma_base.specs.declared.bounce.hold.HoldEntry.{HoldEntry}
-use Rattle.busdma_base.specs.Bounce.Account.{Account}
-use Rattle.busdma_base.specs.Bounce.Door.{Seen, Passes}
-use Rattle.busdma_base.specs.Bounce.LaneEntries.{of_lane}
+use Rattle.busdma_machine.specs.declared.bounce.hold.HoldEntry.{HoldEntry}
+use Rattle.busdma_machine.specs.Bounce.Account.{Account}
+use Rattle.busdma_machine.specs.Bounce.Door.{Seen, Passes}
+use Rattle.busdma_machine.specs.Bounce.LaneEntries.{of_lane}
 use Rattle.bounce_hub.specs.Seen.{HubSeen}
 use Rattle.turnstile.specs.declared.view.Start.{Start}
 use Rattle.turnstile.specs.Pass.{PassView, own_calls}

@@ -1,17 +1,17 @@
 -- What a hub owes as the object of a turnstile.
 use Rattle.std.specs.Prelude.{◌≡◌, ℕ, ◌+◌, ◌≤◌, List, [], ◌∷◌, ◌++◌, length, IfOk, OnErr, IfSome, MatchOption}
-use Rattle.busdma_base.specs.declared.bounce.hold.HubCall.{HubCall}
-use Rattle.busdma_base.specs.declared.bounce.hold.HubCall.TheVariants as hub
-use Rattle.busdma_base.specs.declared.bounce.hold.HubReply.{HubReply}
-use Rattle.busdma_base.specs.declared.bounce.hold.HubReply.TheVariants as said
-use Rattle.busdma_base.specs.declared.bounce.hold.HoldEntry.{HoldEntry}
-use Rattle.busdma_base.specs.Bounce.Account.{Account}
-use Rattle.busdma_base.specs.Bounce.AccountStep.{account_step}
-use Rattle.busdma_base.specs.Bounce.Conditions.{MayCall}
-use Rattle.busdma_base.specs.Bounce.Door.{IsRow, grab_reply, memory_reply}
-use Rattle.busdma_base.specs.Bounce.History.{IsOpening, IsSound, account_of}
-use Rattle.busdma_base.specs.Bounce.MemoryRuns.{frames_of}
-use Rattle.busdma_base.specs.Machine.PageList.{RoomyPages, page_address, page_addresses}
+use Rattle.busdma_machine.specs.declared.bounce.hold.HubCall.{HubCall}
+use Rattle.busdma_machine.specs.declared.bounce.hold.HubCall.TheVariants as hub
+use Rattle.busdma_machine.specs.declared.bounce.hold.HubReply.{HubReply}
+use Rattle.busdma_machine.specs.declared.bounce.hold.HubReply.TheVariants as said
+use Rattle.busdma_machine.specs.declared.bounce.hold.HoldEntry.{HoldEntry}
+use Rattle.busdma_machine.specs.Bounce.Account.{Account}
+use Rattle.busdma_machine.specs.Bounce.AccountStep.{account_step}
+use Rattle.busdma_machine.specs.Bounce.Conditions.{MayCall}
+use Rattle.busdma_machine.specs.Bounce.Door.{IsRow, grab_reply, memory_reply}
+use Rattle.busdma_machine.specs.Bounce.History.{IsOpening, IsSound, account_of}
+use Rattle.busdma_machine.specs.Bounce.MemoryRuns.{frames_of}
+use Rattle.busdma_machine.specs.Machine.PageList.{RoomyPages, page_address, page_addresses}
 use Rattle.lane_threads.specs.declared.call.DoorCall.{DoorCall}
 use Rattle.lane_threads.specs.declared.call.DoorCall.TheVariants as call
 use Rattle.lane_threads.specs.declared.call.DoorReply.{DoorReply}

@@ -2,12 +2,12 @@
 use Rattle.std.specs.Prelude.{◌≡◌, ◌≢◌, ℕ, ◌+◌, List, [], ◌∷◌, ◌++◌, All}
 use Rattle.std.proofs.Common.{refl, sym, ap, ◌∙◌, subst}
 use Rattle.std.proofs.lemmas.List.Elements.{All-nil, All-cons}
-use Rattle.busdma_base.specs.declared.bounce.hold.HoldEntry.{HoldEntry}
-use Rattle.busdma_base.specs.Bounce.Account.{Account}
-use Rattle.busdma_base.specs.Bounce.Conditions.{MayCall}
-use Rattle.busdma_base.specs.Bounce.History.{IsSound, account_of}
-use Rattle.busdma_base.proofs.Accounts.LaneEntries.{account_of-append, sound-rest}
-use Rattle.busdma_base.proofs.Accounts.Shares.{MayCall-stays, frames-stay}
+use Rattle.busdma_machine.specs.declared.bounce.hold.HoldEntry.{HoldEntry}
+use Rattle.busdma_machine.specs.Bounce.Account.{Account}
+use Rattle.busdma_machine.specs.Bounce.Conditions.{MayCall}
+use Rattle.busdma_machine.specs.Bounce.History.{IsSound, account_of}
+use Rattle.busdma_machine.proofs.Accounts.LaneEntries.{account_of-append, sound-rest}
+use Rattle.busdma_machine.proofs.Accounts.Shares.{MayCall-stays, frames-stay}
 use Rattle.turnstile.specs.TurnObject.{OutlastsOthers}
 use Rattle.lane_threads.specs.declared.call.DoorCall.{DoorCall}
 use Rattle.lane_threads.specs.declared.call.DoorCall.TheVariants.{AttachTag, CreateMap, DestroyMap, Grab}

@@ -1,11 +1,11 @@
 -- What the door of a lane has seen, by what its pass knows, and what a call at it does.
 use Rattle.std.specs.Prelude.{◌+◌, ◌==◌, ℕ, List, [], IfOk, OnErr, IfSome, MatchOption, Option, Some, None}
-use Rattle.busdma_base.specs.declared.bounce.hold.HubCall.TheVariants as hub
-use Rattle.busdma_base.specs.declared.bounce.hold.HubReply.TheVariants as said
-use Rattle.busdma_base.specs.declared.bounce.hold.HoldEntry.{HoldEntry}
-use Rattle.busdma_base.specs.Bounce.Account.{Account, no_account}
-use Rattle.busdma_base.specs.Bounce.Door.{Seen, Holds, Fails, Misses, grab_reply, memory_reply}
-use Rattle.busdma_base.specs.Machine.PageList.{page_address}
+use Rattle.busdma_machine.specs.declared.bounce.hold.HubCall.TheVariants as hub
+use Rattle.busdma_machine.specs.declared.bounce.hold.HubReply.TheVariants as said
+use Rattle.busdma_machine.specs.declared.bounce.hold.HoldEntry.{HoldEntry}
+use Rattle.busdma_machine.specs.Bounce.Account.{Account, no_account}
+use Rattle.busdma_machine.specs.Bounce.Door.{Seen, Holds, Fails, Misses, grab_reply, memory_reply}
+use Rattle.busdma_machine.specs.Machine.PageList.{page_address}
 use Rattle.atomic_table.specs.Seated.{TableId}
 use Rattle.turnstile.specs.declared.view.Start.{Start}
 use Rattle.turnstile.specs.Pass.{PassView}

@@ -1,6 +1,6 @@
 //! What is asked of a hub that threads share, and what it answers.
 
-use busdma_base::{Called, Grabbed, Grown, LaneId, MapId, Page, PageList, TagLimits, ZoneId};
+use busdma_machine::{Called, Grabbed, Grown, LaneId, MapId, Page, PageList, TagLimits, ZoneId};
 use std::alloc::{AllocError, Global};
 
 /// A call of `HubDoor` with its arguments, one variant for each of the eight. Memory that the call

@@ -1,14 +1,14 @@
 //! The door of one lane: a pass beside the turnstile that it is of.
 
 ghost use Rattle.std.specs.Prelude.{◌≡◌, ◌+◌};
-ghost use Rattle.busdma_base.specs.Bounce.Door.{Allows, account};
+ghost use Rattle.busdma_machine.specs.Bounce.Door.{Allows, account};
 ghost use Rattle.lane_threads.specs.Calls.{lane_of, hub_call};
 ghost use Rattle.lane_threads.specs.Object.{GivesBack};
 ghost use Rattle.lane_threads.specs.PassDoor.{seen, place_of, Replied};
 
 use crate::call::{DoorCall, DoorReply};
 use crate::object::HubObject;
-use busdma_base::{
+use busdma_machine::{
     Called, Grabbed, Grown, HubDoor, LaneId, MapId, Page, PageList, TagLimits, ZoneId,
 };
 use std::alloc::{AllocError, Global};
@@ -44,8 +44,8 @@ pub struct PassDoor<'a, Rt: Wait> {
 impl<'a, Rt: Wait> Model for PassDoor<'a, Rt> {
     ghost use Rattle.std.specs.Prelude.{◌≡◌};
     ghost use Rattle.turnstile.specs.Pass.{PassView};
-    ghost use Rattle.busdma_base.specs.declared.bounce.hold.HoldEntry.{HoldEntry};
-    ghost use Rattle.busdma_base.specs.Bounce.Account.{Account};
+    ghost use Rattle.busdma_machine.specs.declared.bounce.hold.HoldEntry.{HoldEntry};
+    ghost use Rattle.busdma_machine.specs.Bounce.Account.{Account};
 
     ghost Value = { PassView HoldEntry Account };
 

@@ -5,7 +5,7 @@ ghost use Rattle.lane_threads.specs.Object.{IsLegal};
 
 use crate::call::{DoorCall, DoorReply};
 use bounce_hub::Hub;
-use busdma_base::{HoldEntry, HubDoor, Opening};
+use busdma_machine::{HoldEntry, HubDoor, Opening};
 use std::marker::Model;
 use turnstile::TurnObject;
 

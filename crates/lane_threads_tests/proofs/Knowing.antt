@@ -1,11 +1,11 @@
 -- What a lane knows at its door allows its calls, and a call leads to what it knows next.
 use Rattle.std.proofs.Common.{◌≡◌, ℕ, Bool, true, List, [], ◌∷◌, IsTrue}
 use Rattle.std.proofs.Common.{refl, sym, ap, ◌∙◌, subst}
-use Rattle.busdma_base.specs.declared.bounce.hold.HubCall.{HubCall}
-use Rattle.busdma_base.specs.declared.bounce.hold.HubReply.{HubReply}
-use Rattle.busdma_base.specs.Bounce.AccountStep.{as_pages}
-use Rattle.busdma_base.specs.Bounce.Conditions.{MayCall}
-use Rattle.busdma_base.specs.Bounce.Door.{Seen, Allows, Holds, account}
+use Rattle.busdma_machine.specs.declared.bounce.hold.HubCall.{HubCall}
+use Rattle.busdma_machine.specs.declared.bounce.hold.HubReply.{HubReply}
+use Rattle.busdma_machine.specs.Bounce.AccountStep.{as_pages}
+use Rattle.busdma_machine.specs.Bounce.Conditions.{MayCall}
+use Rattle.busdma_machine.specs.Bounce.Door.{Seen, Allows, Holds, account}
 use Rattle.lane_agreement.specs.View.{View, Loaded, unloaded}
 use Rattle.lane_agreement.specs.After.{after, addresses, Asks}
 use Rattle.lane_agreement.proofs.Asking.{agrees-may}

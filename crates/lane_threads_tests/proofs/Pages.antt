@@ -1,7 +1,7 @@
 -- The pages of short lists.
 use Rattle.std.proofs.Common.{◌≡◌, List, [], ◌∷◌, ◌++◌, ap, ◌∙◌}
-use Rattle.busdma_base.specs.Machine.Page.{FrameBytes}
-use Rattle.busdma_base.specs.Machine.PageList.{page_address, page_addresses}
+use Rattle.busdma_machine.specs.Machine.Page.{FrameBytes}
+use Rattle.busdma_machine.specs.Machine.PageList.{page_address, page_addresses}
 
 -- a list whose last page left it empty
 pub one_page : (all none : List FrameBytes) (page : FrameBytes) → all ≡ none ++ page ∷ [] → none ≡ []

@@ -1,14 +1,14 @@
 -- A map that is idle again after each round.
 use Rattle.std.proofs.Common.{◌≡◌, ℕ, ◌==◌, [], ◌∷◌, ◌++◌, List, Option, if◌then◌else◌, refl, sym, ap, ◌∙◌, subst}
 use Rattle.std.proofs.Common.{arith, eq-eqb, true, false, IsTrue}
-use Rattle.busdma_base.specs.declared.name.MapId.{MapId}
-use Rattle.busdma_base.specs.declared.tags.tag.TagLimits.{TagLimits}
-use Rattle.busdma_base.specs.Tags.Tag.{could_bounce}
-use Rattle.busdma_base.specs.declared.bounce.zone.Grown.{Grown}
-use Rattle.busdma_base.specs.declared.bounce.hold.HubCall.TheVariants.{CreateMap, Grab, Release}
-use Rattle.busdma_base.specs.declared.bounce.hold.HubReply.TheVariants.{Grown as GrownBy, Granted, Served}
-use Rattle.busdma_base.specs.Bounce.AccountStep.{as_pages}
-use Rattle.busdma_base.specs.Bounce.Door.{Seen, Allows, Holds}
+use Rattle.busdma_machine.specs.declared.name.MapId.{MapId}
+use Rattle.busdma_machine.specs.declared.tags.tag.TagLimits.{TagLimits}
+use Rattle.busdma_machine.specs.Tags.Tag.{could_bounce}
+use Rattle.busdma_machine.specs.declared.bounce.zone.Grown.{Grown}
+use Rattle.busdma_machine.specs.declared.bounce.hold.HubCall.TheVariants.{CreateMap, Grab, Release}
+use Rattle.busdma_machine.specs.declared.bounce.hold.HubReply.TheVariants.{Grown as GrownBy, Granted, Served}
+use Rattle.busdma_machine.specs.Bounce.AccountStep.{as_pages}
+use Rattle.busdma_machine.specs.Bounce.Door.{Seen, Allows, Holds}
 use Rattle.lane_agreement.specs.View.{View, OwnMap, Return, Stage, Idle, Loaded, Returning}
 use Rattle.lane_agreement.specs.View.{unloaded, given_back, restaged, queued_back}
 use Rattle.lane_agreement.specs.After.{Asks, IsFront}

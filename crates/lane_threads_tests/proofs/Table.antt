@@ -1,8 +1,8 @@
 -- The states of lane 0 in the worked table.
 use Rattle.std.proofs.Common.{◌≡◌, ℕ, List, [], ◌∷◌, ◌++◌, Option, None, IsTrue}
 use Rattle.std.proofs.Common.{refl, sym, ap, subst}
-use Rattle.busdma_base.specs.declared.tags.tag.TagLimits.{TagLimits}
-use Rattle.busdma_base.specs.Tags.Tag.{could_bounce}
+use Rattle.busdma_machine.specs.declared.tags.tag.TagLimits.{TagLimits}
+use Rattle.busdma_machine.specs.Tags.Tag.{could_bounce}
 use Rattle.lane_agreement.specs.View.{View, OwnMap, Return, Stage, Idle, Loaded, Returning}
 use Rattle.lane_agreement.specs.View.{staged, unloaded, gone, given_back, restaged, queued_back}
 use Rattle.lane_threads_tests.specs.Knowing.{HasMaps, in_zone}

@@ -1,18 +1,18 @@
 -- The calls of lane 0 in the worked table: what allows each, and what it leads to.
 use Rattle.std.proofs.Common.{◌≡◌, ℕ, Bool, true, false, List, [], ◌∷◌, Option, Some, None, IsTrue}
 use Rattle.std.proofs.Common.{refl, sym, ap, subst, arith}
-use Rattle.busdma_base.specs.declared.name.MapId.{MapId}
-use Rattle.busdma_base.specs.declared.name.ZoneId.{ZoneId}
-use Rattle.busdma_base.specs.declared.tags.tag.TagLimits.{TagLimits}
-use Rattle.busdma_base.specs.Tags.Tag.{could_bounce}
-use Rattle.busdma_base.specs.declared.bounce.zone.Grown.{Grown}
-use Rattle.busdma_base.specs.declared.bounce.hold.HubCall.TheVariants.{CreateMap, DestroyMap, Grab, Release}
-use Rattle.busdma_base.specs.declared.bounce.hold.HubCall.TheVariants.{TakeCallback, MemAlloc}
-use Rattle.busdma_base.specs.declared.bounce.hold.HubReply.TheVariants.{Nothing, Grown as GrownBy, Granted, Queued}
-use Rattle.busdma_base.specs.declared.bounce.hold.HubReply.TheVariants.{NoPages, Served, Called}
-use Rattle.busdma_base.specs.Bounce.AccountStep.{as_pages}
-use Rattle.busdma_base.specs.Bounce.Door.{Seen, Allows, Holds, memory_reply}
-use Rattle.busdma_base.specs.Machine.PageList.{RoomyPages}
+use Rattle.busdma_machine.specs.declared.name.MapId.{MapId}
+use Rattle.busdma_machine.specs.declared.name.ZoneId.{ZoneId}
+use Rattle.busdma_machine.specs.declared.tags.tag.TagLimits.{TagLimits}
+use Rattle.busdma_machine.specs.Tags.Tag.{could_bounce}
+use Rattle.busdma_machine.specs.declared.bounce.zone.Grown.{Grown}
+use Rattle.busdma_machine.specs.declared.bounce.hold.HubCall.TheVariants.{CreateMap, DestroyMap, Grab, Release}
+use Rattle.busdma_machine.specs.declared.bounce.hold.HubCall.TheVariants.{TakeCallback, MemAlloc}
+use Rattle.busdma_machine.specs.declared.bounce.hold.HubReply.TheVariants.{Nothing, Grown as GrownBy, Granted, Queued}
+use Rattle.busdma_machine.specs.declared.bounce.hold.HubReply.TheVariants.{NoPages, Served, Called}
+use Rattle.busdma_machine.specs.Bounce.AccountStep.{as_pages}
+use Rattle.busdma_machine.specs.Bounce.Door.{Seen, Allows, Holds, memory_reply}
+use Rattle.busdma_machine.specs.Machine.PageList.{RoomyPages}
 use Rattle.lane_agreement.specs.View.{View, OwnMap, Return, Idle, Waiting, Loaded, Returning, staged, zone_in}
 use Rattle.lane_agreement.specs.After.{Asks, IsFront, after_mem_alloc}
 use Rattle.lane_threads_tests.specs.Knowing.{Knows, HasMaps, in_zone}

@@ -1,7 +1,7 @@
 -- What a lane knows of the account at its door.
 use Rattle.std.specs.Prelude.{◌≡◌, ℕ, List, [], Option, Some, None, IsTrue}
-use Rattle.busdma_base.specs.Bounce.Door.{Seen, account}
-use Rattle.busdma_base.specs.Bounce.History.{IsSound}
+use Rattle.busdma_machine.specs.Bounce.Door.{Seen, account}
+use Rattle.busdma_machine.specs.Bounce.History.{IsSound}
 use Rattle.lane_agreement.specs.Agreement.{Agrees}
 use Rattle.lane_agreement.specs.View.{View, OwnMap, Return, Stage, Idle}
 

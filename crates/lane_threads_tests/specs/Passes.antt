@@ -1,8 +1,8 @@
 -- The pass of a lane that has made no call.
 use Rattle.std.specs.Prelude.{◌≡◌, [], Some}
-use Rattle.busdma_base.specs.declared.bounce.hold.HoldEntry.{HoldEntry}
-use Rattle.busdma_base.specs.Bounce.Account.{Account}
-use Rattle.busdma_base.specs.Bounce.History.{IsOpening}
+use Rattle.busdma_machine.specs.declared.bounce.hold.HoldEntry.{HoldEntry}
+use Rattle.busdma_machine.specs.Bounce.Account.{Account}
+use Rattle.busdma_machine.specs.Bounce.History.{IsOpening}
 use Rattle.atomic_table.specs.Seated.{TableId}
 use Rattle.turnstile.specs.declared.view.Start.{Start}
 use Rattle.lane_threads.specs.Closing.{LanePass}

@@ -5,8 +5,8 @@ use Rattle.std.specs.Prelude.{Contains, Option, Some, None, slice_get}
 use Rattle.std.proofs.lemmas.Bool.{cases_lt}
 use Rattle.std.proofs.lemmas.List.Elements.{Contains-get_or}
 use Rattle.std.proofs.lemmas.Option.{get_or_from_slice_get, slice_get_past, slice_get_within}
-use Rattle.busdma_base.specs.declared.machine.address.Extent.{Extent}
-use Rattle.busdma_base.specs.declared.machine.chunk.Part.TheVariants as part
+use Rattle.busdma_machine.specs.declared.machine.address.Extent.{Extent}
+use Rattle.busdma_machine.specs.declared.machine.chunk.Part.TheVariants as part
 use Rattle.phys_memory.specs.Extents.{reached, then_reached}
 use Rattle.phys_memory.specs.Walk.{run_stream}
 use Rattle.phys_memory.proofs.Paged.{HasPage, IsPaged, KeepsPlaces, next_in_page}

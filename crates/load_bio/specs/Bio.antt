@@ -1,14 +1,14 @@
 -- The bytes of bios, and the walks over them.
 use Rattle.std.specs.Prelude.{◌<◌, Bool, true, false, List, [], ◌∷◌}
-use Rattle.busdma_base.specs.declared.machine.address.Extent.{Extent}
-use Rattle.busdma_base.specs.declared.machine.bio.Bio.{Bio}
-use Rattle.busdma_base.specs.declared.machine.bio.Bio.TheVariants.{Mapped, Vector, Unmapped}
-use Rattle.busdma_base.specs.declared.machine.chunk.Part.{Part}
+use Rattle.busdma_machine.specs.declared.machine.address.Extent.{Extent}
+use Rattle.busdma_machine.specs.declared.machine.bio.Bio.{Bio}
+use Rattle.busdma_machine.specs.declared.machine.bio.Bio.TheVariants.{Mapped, Vector, Unmapped}
+use Rattle.busdma_machine.specs.declared.machine.chunk.Part.{Part}
 use Rattle.phys_memory.specs.declared.entries.Entries.{Entries}
 use Rattle.phys_memory.specs.Extents.{LiesIn}
 use Rattle.phys_memory.specs.Memory.{Memory}
 use Rattle.phys_memory.specs.Translation.{Translation}
-use Rattle.busdma_base.specs.Machine.Spans.{bio_spans}
+use Rattle.busdma_machine.specs.Machine.Spans.{bio_spans}
 use Rattle.phys_memory.specs.Vector.{spans_stream, spans_walk}
 use Rattle.load_bio.specs.Frames.{AreFrames, LiesInOneOf, in_frames}
 

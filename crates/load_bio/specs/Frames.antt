@@ -1,7 +1,7 @@
 -- The bytes of frames, one frame behind the other.
 use Rattle.std.specs.Prelude.{ℕ, ◌+◌, ◌*◌, ◌/◌, ◌%◌, ◌^◌, ◌<◌, Contains, List, Option, Some, None, slice_get}
 use Rattle.std.specs.List.{AllByRecursion}
-use Rattle.busdma_base.specs.declared.machine.address.Extent.{Extent}
+use Rattle.busdma_machine.specs.declared.machine.address.Extent.{Extent}
 use Rattle.phys_memory.specs.Translation.{Translation}
 
 -- the physical address of a byte of a frame, where there is the frame

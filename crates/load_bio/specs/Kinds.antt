@@ -1,6 +1,6 @@
 -- The parts that are left of a bio.
 use Rattle.std.specs.Prelude.{List}
-use Rattle.busdma_base.specs.declared.machine.chunk.Part.{Part}
+use Rattle.busdma_machine.specs.declared.machine.chunk.Part.{Part}
 use Rattle.load_bio.specs.declared.bio.Kind.{Kind}
 use Rattle.load_bio.specs.declared.bio.Kind.TheVariants.{Mapped, Vector, Unmapped}
 

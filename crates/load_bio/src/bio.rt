@@ -3,9 +3,9 @@
 ghost use Rattle.std.specs.Prelude.{◌≡◌, ◌^◌, ◌<◌, ◌≤◌, IfOk, List, map};
 ghost use Rattle.std.specs.Iterator.{HoldsAlong, YieldsFirst, item_count};
 ghost use Rattle.std.specs.List.{AllByRecursion};
-ghost use Rattle.busdma_base.specs.Machine.Entry.{HasPart, IsEntry, IsStream, entries_addresses, parts_of};
-ghost use Rattle.busdma_base.specs.Machine.Spans.{bio_spans, span_addresses, span_bytes};
-ghost use Rattle.busdma_base.specs.declared.machine.bio.Bio.TheVariants.{Mapped, Unmapped, Vector};
+ghost use Rattle.busdma_machine.specs.Machine.Entry.{HasPart, IsEntry, IsStream, entries_addresses, parts_of};
+ghost use Rattle.busdma_machine.specs.Machine.Spans.{bio_spans, span_addresses, span_bytes};
+ghost use Rattle.busdma_machine.specs.declared.machine.bio.Bio.TheVariants.{Mapped, Unmapped, Vector};
 ghost use Rattle.phys_memory.specs.Memory.{IsMemory, physical};
 ghost use Rattle.phys_memory.specs.Translation.{Translation, physical_or_0};
 ghost use Rattle.phys_memory.specs.Vector.{IfAll};
@@ -14,7 +14,7 @@ ghost use Rattle.load_bio.specs.Frames.{AreFrames};
 
 use crate::frame_walk::walk_frames;
 use crate::frames::{FrameParts, frame_parts};
-use busdma_base::{Bio, Part, Span};
+use busdma_machine::{Bio, Part, Span};
 use phys_memory::{Entries, FlatParts, LanePages, VectorParts};
 use std::alloc::{AllocError, Global};
 use std::marker::Model;
@@ -36,7 +36,7 @@ enum Kind<'a> {
 
 impl<'a> Model for BioParts<'a> {
     ghost use Rattle.std.specs.Prelude.{List};
-    ghost use Rattle.busdma_base.specs.declared.machine.chunk.Part.{Part};
+    ghost use Rattle.busdma_machine.specs.declared.machine.chunk.Part.{Part};
     ghost use Rattle.load_bio.specs.Kinds.{kind_parts};
 
     ghost Value = { List Part };

@@ -1,12 +1,12 @@
 //! The entry of bytes of frames that are not mapped.
 
 ghost use Rattle.std.specs.Prelude.{◌≡◌, ◌<◌, false, IfOk};
-ghost use Rattle.busdma_base.specs.Machine.Spans.{one_span};
+ghost use Rattle.busdma_machine.specs.Machine.Spans.{one_span};
 ghost use Rattle.phys_memory.specs.Vector.{spans_walk};
 ghost use Rattle.load_bio.specs.Frames.{AreFrames, in_frames};
 
 use crate::frames::frame_parts;
-use busdma_base::{Entry, EntryList, ExtentList, Part};
+use busdma_machine::{Entry, EntryList, ExtentList, Part};
 use phys_memory::Entries;
 use std::alloc::{AllocError, Global};
 

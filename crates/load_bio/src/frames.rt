@@ -2,12 +2,12 @@
 
 ghost use Rattle.std.specs.Prelude.{◌≡◌, ℕ, ◌^◌, ◌<◌, ◌≤◌, false};
 ghost use Rattle.std.specs.Iterator.{YieldsFirst, item_count};
-ghost use Rattle.busdma_base.specs.Machine.Entry.{IsStream};
-ghost use Rattle.busdma_base.specs.Machine.Spans.{one_span};
+ghost use Rattle.busdma_machine.specs.Machine.Entry.{IsStream};
+ghost use Rattle.busdma_machine.specs.Machine.Spans.{one_span};
 ghost use Rattle.phys_memory.specs.Vector.{spans_stream};
 ghost use Rattle.load_bio.specs.Frames.{AreFrames, in_frames};
 
-use busdma_base::{Extent, Pa, Part};
+use busdma_machine::{Extent, Pa, Part};
 use std::marker::Model;
 
 /// The parts of `left` bytes of frames, from `off` in the first on: one for each frame, up to the last
@@ -24,7 +24,7 @@ pub(crate) struct FrameParts<'a> {
 
 impl<'a> Model for FrameParts<'a> {
     ghost use Rattle.std.specs.Prelude.{List, ◌+◌, ◌<◌, ◌^◌, false};
-    ghost use Rattle.busdma_base.specs.declared.machine.chunk.Part.{Part};
+    ghost use Rattle.busdma_machine.specs.declared.machine.chunk.Part.{Part};
     ghost use Rattle.phys_memory.specs.Extents.{reached};
     ghost use Rattle.phys_memory.specs.Walk.{run_stream};
     ghost use Rattle.load_bio.specs.Frames.{AreFrames, in_frames};

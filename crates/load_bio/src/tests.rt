@@ -3,7 +3,7 @@
 ghost use Rattle.std.specs.Prelude.{◌≡◌, ◌%◌, ◌^◌, ◌<◌, ◌≤◌, IfOk, [], ◌∷◌};
 
 use crate::{parts, walk};
-use busdma_base::{Bio, Extent, FrameList, Pa, Page, Part, Span, SpanList, Va};
+use busdma_machine::{Bio, Extent, FrameList, Pa, Page, Part, Span, SpanList, Va};
 use phys_memory::{Entries, LanePages};
 use std::alloc::{AllocError, Global};
 use std::process::Abort;

@@ -3,14 +3,14 @@
 ghost use Rattle.std.specs.Prelude.{◌≡◌, ◌^◌, ◌<◌, ◌≤◌, IfOk, map};
 ghost use Rattle.std.specs.Iterator.{HoldsAlong, YieldsFirst};
 ghost use Rattle.std.specs.List.{AllByRecursion};
-ghost use Rattle.busdma_base.specs.Machine.Entry.{HasPart, IsEntry, IsStream, entries_addresses, parts_of};
-ghost use Rattle.busdma_base.specs.Machine.Spans.{span_addresses, span_bytes};
+ghost use Rattle.busdma_machine.specs.Machine.Entry.{HasPart, IsEntry, IsStream, entries_addresses, parts_of};
+ghost use Rattle.busdma_machine.specs.Machine.Spans.{span_addresses, span_bytes};
 ghost use Rattle.phys_memory.specs.Extents.{LiesIn};
 ghost use Rattle.phys_memory.specs.Memory.{IsMemory, physical};
 ghost use Rattle.phys_memory.specs.Translation.{physical_or_0};
 ghost use Rattle.phys_memory.specs.Vector.{IfAll, vector, vector_walk};
 
-use busdma_base::Mbuf;
+use busdma_machine::Mbuf;
 use phys_memory::{Entries, LanePages, VectorParts};
 use std::alloc::{AllocError, Global};
 

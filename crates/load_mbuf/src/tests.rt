@@ -3,7 +3,7 @@
 ghost use Rattle.std.specs.Prelude.{◌≡◌, ◌%◌, ◌^◌, ◌<◌};
 
 use crate::{parts, total, walk};
-use busdma_base::{Extent, Mbuf, Pa, Page, Part, Va};
+use busdma_machine::{Extent, Mbuf, Pa, Page, Part, Va};
 use phys_memory::{Entries, LanePages};
 use std::alloc::Global;
 use std::process::Abort;

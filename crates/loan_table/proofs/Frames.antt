@@ -2,7 +2,7 @@
 use Rattle.std.proofs.Common.{◌≡◌, ℕ, zero, suc, ◌+◌, ◌-◌, ◌<◌, ◌≤◌, ◌/◌, ◌%◌, Bool, true, false, cond}
 use Rattle.std.proofs.Common.{List, ◌++◌, refl, sym, ap, ◌∙◌, arith}
 use Rattle.std.proofs.lemmas.Bool.Decides.{nat_tests}
-use Rattle.busdma_base.specs.Runs.{run_of}
+use Rattle.busdma_machine.specs.Runs.{run_of}
 use Rattle.loan_table.specs.Table.{extent_count, is_next, more_extents}
 
 -- a byte and the one behind it

@@ -5,7 +5,7 @@ use Rattle.std.proofs.lemmas.Bool.Decides.{nat_tests}
 use Rattle.std.specs.Ordering.{nat_cmp}
 use Rattle.std.specs.Cmp.{nat_cmp_total, unsigned_tied, nat_eq_equiv}
 use Rattle.std.specs.FinMap.{FinMap, get, insert, get-insert}
-use Rattle.busdma_base.specs.Runs.{run_of}
+use Rattle.busdma_machine.specs.Runs.{run_of}
 use Rattle.run_set.specs.Edges.{in_run}
 use Rattle.loan_table.specs.Table.{AreIn, AreNew, set_all}
 use Rattle.loan_table.proofs.RunMarks.{get-set_run}

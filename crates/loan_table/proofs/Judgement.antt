@@ -1,12 +1,12 @@
 -- What is judged in parts.
 use Rattle.std.proofs.Common.{◌≡◌, ℕ, zero, suc, ◌+◌, List, [], ◌∷◌, ◌++◌, length, Option, Some, None, refl, sym, ap}
 use Rattle.std.proofs.Common.{◌∙◌, add-zero, arith}
-use Rattle.busdma_base.specs.declared.journals.report.Report.{Report}
-use Rattle.busdma_base.specs.declared.journals.report.ReportName.{ReportName}
-use Rattle.busdma_base.specs.declared.journals.report.Judged.{Judged}
-use Rattle.busdma_base.specs.declared.journals.report.Judged.TheVariants.{Fine, Refused}
-use Rattle.busdma_base.specs.Journals.Judging.{judged, refused_or}
-use Rattle.busdma_base.specs.Runs.{run_of}
+use Rattle.busdma_machine.specs.declared.report.Report.{Report}
+use Rattle.busdma_machine.specs.declared.report.ReportName.{ReportName}
+use Rattle.busdma_machine.specs.declared.report.Judged.{Judged}
+use Rattle.busdma_machine.specs.declared.report.Judged.TheVariants.{Fine, Refused}
+use Rattle.busdma_machine.specs.Judging.{judged, refused_or}
+use Rattle.busdma_machine.specs.Runs.{run_of}
 
 module _ {X : Type 0} (f : X → Option ReportName) where
   fine_or : (o : Option ReportName) (at : ℕ) (rest all tail : Judged) → (rest ≡ Fine → all ≡ tail) →

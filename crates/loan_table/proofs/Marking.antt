@@ -11,7 +11,7 @@ use Rattle.std.specs.FinMap.{FinMap, get, insert, remove, get-insert, get-remove
 use Rattle.loan_table.specs.declared.position.Position.{Position}
 use Rattle.loan_table.specs.Table.{AreIn}
 use Rattle.loan_table.specs.Loans.{Loan, Loans, loan_of, no_loan, addresses_of, unlent}
-use Rattle.busdma_base.specs.Machine.Wire.{stretch}
+use Rattle.busdma_machine.specs.Machine.Wire.{stretch}
 use Rattle.loan_table.specs.Lending.{marked, marked_range, loses, lost, synced}
 use Rattle.loan_table.specs.Trees.{with_value}
 

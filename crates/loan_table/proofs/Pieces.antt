@@ -15,11 +15,11 @@ use Rattle.loan_table.specs.declared.row.Way.TheVariants.{ToWrite, ToRead}
 use Rattle.loan_table.specs.Kinds.{test_of}
 use Rattle.loan_table.specs.Table.{AreIn, set_all}
 use Rattle.loan_table.proofs.Addresses.{AreIn-append, set_all-append}
-use Rattle.busdma_base.specs.declared.journals.report.ReportName.{ReportName}
-use Rattle.busdma_base.specs.declared.journals.report.Judged.TheVariants.{Refused}
-use Rattle.busdma_base.specs.Journals.Judging.{judged, refused_or}
-use Rattle.busdma_base.specs.Machine.Wire.{stretch}
-use Rattle.busdma_base.specs.Runs.{run_of}
+use Rattle.busdma_machine.specs.declared.report.ReportName.{ReportName}
+use Rattle.busdma_machine.specs.declared.report.Judged.TheVariants.{Refused}
+use Rattle.busdma_machine.specs.Judging.{judged, refused_or}
+use Rattle.busdma_machine.specs.Machine.Wire.{stretch}
+use Rattle.busdma_machine.specs.Runs.{run_of}
 use Rattle.run_set.specs.Edges.{in_run}
 use Rattle.loan_table.specs.declared.position.Position.{Position}
 use Rattle.loan_table.specs.Loans.{addresses_of}
@@ -30,7 +30,7 @@ use Rattle.loan_table.proofs.Judgement.{length-run_of}
 use Rattle.loan_table.proofs.Places.{places-run}
 use Rattle.loan_table.proofs.Recounting.{places-cons, places-append}
 use Rattle.loan_table.proofs.Stretches.{run_of_sum, take_run}
-use Rattle.busdma_base.specs.declared.machine.address.Extent.{Extent}
+use Rattle.busdma_machine.specs.declared.machine.address.Extent.{Extent}
 
 module _ {X : Type 0} where
   take_sum : (n m : ℕ) (xs : List X) → take (n + m) xs ≡ take n xs ++ take m (drop n xs)

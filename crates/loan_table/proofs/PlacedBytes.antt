@@ -5,11 +5,11 @@ use Rattle.std.proofs.Common.{sym, ap, ◌∙◌, arith}
 use Rattle.std.specs.List.{filter}
 use Rattle.std.proofs.lemmas.Bool.Decides.{nat_tests}
 use Rattle.std.proofs.lemmas.List.{length-drop, length-take, length-take-le, take-take}
-use Rattle.busdma_base.specs.declared.journals.report.ReportName.{ReportName}
-use Rattle.busdma_base.specs.declared.journals.report.Judged.TheVariants.{Fine, Refused}
-use Rattle.busdma_base.specs.Journals.Judging.{judged, refused_or}
-use Rattle.busdma_base.specs.Machine.Wire.{stretch}
-use Rattle.busdma_base.specs.Runs.{run_of}
+use Rattle.busdma_machine.specs.declared.report.ReportName.{ReportName}
+use Rattle.busdma_machine.specs.declared.report.Judged.TheVariants.{Fine, Refused}
+use Rattle.busdma_machine.specs.Judging.{judged, refused_or}
+use Rattle.busdma_machine.specs.Machine.Wire.{stretch}
+use Rattle.busdma_machine.specs.Runs.{run_of}
 use Rattle.dma_tag.specs.SyncOps.{preread, prewrite, postread, postwrite}
 use Rattle.run_set.specs.Edges.{in_run, member, NoneIn, Rises}
 use Rattle.loan_table.specs.declared.position.Position.{Position}

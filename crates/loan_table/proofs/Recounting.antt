@@ -12,7 +12,7 @@ use Rattle.std.specs.FinMap.{get, insert, remove, entries, empty, len-entries, l
 use Rattle.std.proofs.lemmas.List.{nil_from_length}
 use Rattle.run_set.specs.Numbers.{count_le}
 use Rattle.run_set.specs.Counts.{count}
-use Rattle.busdma_base.specs.Machine.Wire.{stretch}
+use Rattle.busdma_machine.specs.Machine.Wire.{stretch}
 use Rattle.loan_table.specs.declared.position.Position.{Position}
 use Rattle.loan_table.specs.declared.lent.LentCounts.{LentCounts}
 use Rattle.loan_table.specs.declared.row.Way.{Way}

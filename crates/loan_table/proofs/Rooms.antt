@@ -14,7 +14,7 @@ use Rattle.loan_table.specs.declared.slot.Slot.{Slot}
 use Rattle.loan_table.specs.declared.lent.LentCounts.{LentCounts}
 use Rattle.loan_table.specs.Counted.{counts_of, HasChanges, HasCountRoom, UsesChanges}
 use Rattle.loan_table.specs.Kept.{HasRoom, position_count}
-use Rattle.busdma_base.specs.Machine.Wire.{stretch}
+use Rattle.busdma_machine.specs.Machine.Wire.{stretch}
 use Rattle.loan_table.specs.Lending.{marked_range}
 use Rattle.loan_table.specs.Loans.{Loan, loan_of, addresses_of}
 use Rattle.loan_table.specs.Marks.{Marks}

@@ -5,9 +5,9 @@ use Rattle.std.proofs.Common.{refl, sym, ap, ◌∙◌, arith}
 use Rattle.std.specs.List.{All}
 use Rattle.std.proofs.lemmas.List.{append_assoc, at_drop_more, take_all, drop-drop, drop-append-le}
 use Rattle.std.proofs.lemmas.List.{take-append-le, length-drop}
-use Rattle.busdma_base.specs.declared.machine.address.Extent.{Extent}
-use Rattle.busdma_base.specs.Runs.{addresses, byte_count, run_of}
-use Rattle.busdma_base.specs.Machine.Wire.{stretch}
+use Rattle.busdma_machine.specs.declared.machine.address.Extent.{Extent}
+use Rattle.busdma_machine.specs.Runs.{addresses, byte_count, run_of}
+use Rattle.busdma_machine.specs.Machine.Wire.{stretch}
 use Rattle.run_set.specs.Counts.{Counts}
 use Rattle.run_set.specs.Numbers.{Climbs}
 use Rattle.std.proofs.lemmas.List.Sums.{sum_by-cons, sum_by-drop_more, sum_by-take-drop}

@@ -7,12 +7,12 @@ use Rattle.std.specs.Option.{option_or}
 use Rattle.std.specs.List.{All}
 use Rattle.std.proofs.lemmas.List.{get_or-drop, get_or-take, length-take, take-append-le, take-map, take-take}
 use Rattle.std.proofs.lemmas.List.Elements.{All-get_or, All-from_get_or}
-use Rattle.busdma_base.specs.declared.journals.report.ReportName.{ReportName}
-use Rattle.busdma_base.specs.declared.journals.report.ReportName.TheVariants.{CpuWriteLent, Overlap, SyncOrder}
-use Rattle.busdma_base.specs.declared.journals.report.Judged.TheVariants.{Fine}
-use Rattle.busdma_base.specs.Journals.Judging.{judged, refused_or}
-use Rattle.busdma_base.specs.Machine.Wire.{stretch}
-use Rattle.busdma_base.specs.Runs.{run_of}
+use Rattle.busdma_machine.specs.declared.report.ReportName.{ReportName}
+use Rattle.busdma_machine.specs.declared.report.ReportName.TheVariants.{CpuWriteLent, Overlap, SyncOrder}
+use Rattle.busdma_machine.specs.declared.report.Judged.TheVariants.{Fine}
+use Rattle.busdma_machine.specs.Judging.{judged, refused_or}
+use Rattle.busdma_machine.specs.Machine.Wire.{stretch}
+use Rattle.busdma_machine.specs.Runs.{run_of}
 use Rattle.dma_tag.specs.SyncOps.{preread, prewrite, postread}
 use Rattle.loan_table.specs.declared.position.Position.{Position}
 use Rattle.loan_table.specs.declared.lent.LentCounts.{LentCounts}

@@ -1,14 +1,14 @@
 -- Which accesses are allowed.
 use Rattle.std.specs.Prelude.{ℕ, Bool, if◌then◌else◌, ◌||◌, List, Option, Some, None}
-use Rattle.busdma_base.specs.declared.journals.report.ReportName.{ReportName}
-use Rattle.busdma_base.specs.declared.journals.report.ReportName.TheVariants.{CpuReadLent, CpuWriteLent}
-use Rattle.busdma_base.specs.declared.journals.report.ReportName.TheVariants.{DeviceReadUnlent, DeviceWriteUnlent}
-use Rattle.busdma_base.specs.declared.journals.report.ReportName.TheVariants.{StaleByte}
-use Rattle.busdma_base.specs.declared.journals.report.Judged.{Judged}
-use Rattle.busdma_base.specs.Journals.Judging.{judged}
+use Rattle.busdma_machine.specs.declared.report.ReportName.{ReportName}
+use Rattle.busdma_machine.specs.declared.report.ReportName.TheVariants.{CpuReadLent, CpuWriteLent}
+use Rattle.busdma_machine.specs.declared.report.ReportName.TheVariants.{DeviceReadUnlent, DeviceWriteUnlent}
+use Rattle.busdma_machine.specs.declared.report.ReportName.TheVariants.{StaleByte}
+use Rattle.busdma_machine.specs.declared.report.Judged.{Judged}
+use Rattle.busdma_machine.specs.Judging.{judged}
 use Rattle.loan_table.specs.declared.position.Position.{Position}
 use Rattle.loan_table.specs.Loans.{Loan, Loans, to_write, in_any_way, lent}
-use Rattle.busdma_base.specs.Machine.Wire.{stretch}
+use Rattle.busdma_machine.specs.Machine.Wire.{stretch}
 
 -- the driver reads bytes that no map lends to write and that are Known
 abbrev pub cpu_read_refusal : (ℕ → Bool) → Loans → ℕ → Option ReportName

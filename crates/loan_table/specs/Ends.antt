@@ -1,6 +1,6 @@
 -- Extents that end within numbers of 64 bits.
 use Rattle.std.specs.Prelude.{◌+◌, ◌<◌, ◌^◌}
-use Rattle.busdma_base.specs.declared.machine.address.Extent.{Extent}
+use Rattle.busdma_machine.specs.declared.machine.address.Extent.{Extent}
 
 -- an extent that has a byte ends below 2^64
 abbrev pub Ends : Extent → Type 0

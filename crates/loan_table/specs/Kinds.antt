@@ -1,6 +1,6 @@
 -- The kinds of lending and access that the code tells apart, as tests.
 use Rattle.std.specs.Prelude.{ℕ, Bool, if◌then◌else◌, Option, Some, None}
-use Rattle.busdma_base.specs.declared.journals.report.ReportName.{ReportName}
+use Rattle.busdma_machine.specs.declared.report.ReportName.{ReportName}
 use Rattle.loan_table.specs.declared.position.Position.{Position}
 use Rattle.loan_table.specs.declared.row.Way.{Way}
 use Rattle.loan_table.specs.declared.row.Way.TheVariants.{ToWrite, ToRead}

@@ -2,9 +2,9 @@
 
 ghost use Rattle.std.specs.Prelude.{◌≡◌, ◌+◌, ◌≤◌, ◌<◌, ◌^◌, length};
 ghost use Rattle.std.specs.List.{All};
-ghost use Rattle.busdma_base.specs.Journals.Judging.{judged};
-ghost use Rattle.busdma_base.specs.Machine.Wire.{stretch};
-ghost use Rattle.busdma_base.specs.Runs.{run_of, addresses, byte_count};
+ghost use Rattle.busdma_machine.specs.Judging.{judged};
+ghost use Rattle.busdma_machine.specs.Machine.Wire.{stretch};
+ghost use Rattle.busdma_machine.specs.Runs.{run_of, addresses, byte_count};
 ghost use Rattle.loan_table.specs.Access.{cpu_read_refusal, cpu_write_refusal, dev_read_refusal, dev_write_refusal};
 ghost use Rattle.loan_table.specs.Counted.{AreUnlent, IsCounted};
 ghost use Rattle.loan_table.specs.Ends.{Ends};
@@ -16,7 +16,7 @@ use crate::lent::{LentCounts, NearCounts, Unlent};
 use crate::marks::ByteMarks;
 use crate::position::Position;
 use crate::row::{LoanRow, Way};
-use busdma_base::{Extent, Judged, Report, ReportName};
+use busdma_machine::{Extent, Judged, Report, ReportName};
 
 /// What is done to bytes.
 #[derive(Clone, Copy)]

@@ -2,14 +2,14 @@
 
 ghost use Rattle.std.specs.Prelude.{◌≡◌, ℕ, ◌+◌, ◌≤◌, ◌<◌, ◌^◌, ◌++◌, length, nat_lt, IfOk, true, false};
 ghost use Rattle.std.specs.List.{All};
-ghost use Rattle.busdma_base.specs.Machine.Wire.{stretch};
-ghost use Rattle.busdma_base.specs.Runs.{run_of, addresses, byte_count};
+ghost use Rattle.busdma_machine.specs.Machine.Wire.{stretch};
+ghost use Rattle.busdma_machine.specs.Runs.{run_of, addresses, byte_count};
 ghost use Rattle.loan_table.specs.Ends.{Ends};
 ghost use Rattle.loan_table.specs.Rows.{stands, starts_from, AreCounted, CountsPlaces};
 ghost use Rattle.run_set.specs.Counts.{changed, count};
 ghost use Rattle.run_set.specs.Edges.{in_run};
 
-use busdma_base::{Extent, Pa};
+use busdma_machine::{Extent, Pa};
 use run_set::numbers::count_near;
 use run_set::{Near, RunCounts};
 use std::alloc::{AllocError, Global};
@@ -29,7 +29,7 @@ pub struct Buffer {
 impl Model for Buffer {
     ghost use Rattle.std.specs.Prelude.{List, ℕ};
     ghost use Rattle.std.specs.Coded.{coded_list, coded_ℕ};
-    ghost use Rattle.busdma_base.specs.Runs.{addresses};
+    ghost use Rattle.busdma_machine.specs.Runs.{addresses};
     ghost use Rattle.loan_table.specs.Rows.{IsBuffer};
 
     ghost Value = { List ℕ };

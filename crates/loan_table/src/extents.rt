@@ -2,14 +2,14 @@
 
 ghost use Rattle.std.specs.Prelude.{◌≡◌, ◌+◌, ◌-◌, ◌<◌, ◌≤◌, ◌^◌, length, IfOk};
 ghost use Rattle.std.specs.List.{All};
-ghost use Rattle.busdma_base.specs.Machine.Wire.{stretch};
-ghost use Rattle.busdma_base.specs.Runs.{addresses, IsExtent, run_of};
+ghost use Rattle.busdma_machine.specs.Machine.Wire.{stretch};
+ghost use Rattle.busdma_machine.specs.Runs.{addresses, IsExtent, run_of};
 ghost use Rattle.loan_table.specs.Loans.{addresses_of};
 ghost use Rattle.loan_table.specs.Table.{extent_count, is_next, more_extents};
 
 use crate::buffer::Buffer;
 use crate::row::LoanRow;
-use busdma_base::{Extent, Pa};
+use busdma_machine::{Extent, Pa};
 use std::alloc::{AllocError, Global};
 
 /// The extents that hold the bytes of a range of a map's buffer, in order: a byte that comes right

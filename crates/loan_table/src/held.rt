@@ -2,13 +2,13 @@
 
 ghost use Rattle.std.specs.Prelude.{◌≡◌, ◌+◌, ◌≤◌, ◌<◌, ◌^◌, length, IfOk};
 ghost use Rattle.std.specs.List.{All};
-ghost use Rattle.busdma_base.specs.Runs.{addresses, byte_count};
+ghost use Rattle.busdma_machine.specs.Runs.{addresses, byte_count};
 ghost use Rattle.loan_table.specs.Ends.{Ends};
 ghost use Rattle.loan_table.specs.Lending.{marked_range};
 ghost use Rattle.loan_table.specs.Loans.{new_loan};
 
 use crate::row::LoanRow;
-use busdma_base::Extent;
+use busdma_machine::Extent;
 use dma_tag::SyncOps;
 use std::alloc::{AllocError, Global};
 use std::marker::Model;

@@ -1,7 +1,7 @@
 //! How often the bytes of a driver are lent.
 
 ghost use Rattle.std.specs.Prelude.{◌≡◌, ℕ, ◌+◌, ◌≤◌, ◌<◌, ◌^◌, length, map, if◌then◌else◌, OnOk, false, true, []};
-ghost use Rattle.busdma_base.specs.Machine.Wire.{stretch};
+ghost use Rattle.busdma_machine.specs.Machine.Wire.{stretch};
 ghost use Rattle.run_set.specs.Counts.{count};
 ghost use Rattle.loan_table.specs.Counted.{counts_of, places, HasChanges, Holds, IsAlike, IsRecounted};
 ghost use Rattle.loan_table.specs.Counted.{AreUnlent, IsUnlent, UsesChanges};
@@ -12,7 +12,7 @@ ghost use Rattle.loan_table.specs.Rows.{stands, AreAlike};
 
 use crate::piece::Span;
 use crate::row::{LoanRow, Way, marked};
-use busdma_base::Extent;
+use busdma_machine::Extent;
 use dma_tag::SyncOps;
 use run_set::{Near, RunCounts};
 use std::alloc::{AllocError, Global};

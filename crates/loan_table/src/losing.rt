@@ -2,7 +2,7 @@
 
 ghost use Rattle.std.specs.Prelude.{◌≡◌, ◌+◌, ◌≤◌, length, false};
 ghost use Rattle.std.specs.List.{filter};
-ghost use Rattle.busdma_base.specs.Machine.Wire.{stretch};
+ghost use Rattle.busdma_machine.specs.Machine.Wire.{stretch};
 ghost use Rattle.loan_table.specs.Kinds.{losing_test};
 ghost use Rattle.loan_table.specs.Lending.{loses};
 ghost use Rattle.loan_table.specs.Loans.{addresses_of};

@@ -3,14 +3,14 @@
 ghost use Rattle.std.specs.Prelude.{◌≡◌, ℕ, ◌+◌, ◌≤◌, ◌<◌, ◌^◌, OnOk, length};
 ghost use Rattle.std.specs.List.{All};
 ghost use Rattle.std.specs.FinMap as map;
-ghost use Rattle.busdma_base.specs.Machine.Wire.{stretch};
-ghost use Rattle.busdma_base.specs.Runs.{run_of, addresses};
+ghost use Rattle.busdma_machine.specs.Machine.Wire.{stretch};
+ghost use Rattle.busdma_machine.specs.Runs.{run_of, addresses};
 ghost use Rattle.loan_table.specs.Ends.{Ends};
 ghost use Rattle.loan_table.specs.Loans.{addresses_of};
 ghost use Rattle.loan_table.specs.Table.{AreIn, set_all, without, is_marked};
 
 use crate::row::LoanRow;
-use busdma_base::Extent;
+use busdma_machine::Extent;
 use run_set::RunSet;
 use std::alloc::{AllocError, Global};
 use std::marker::Model;

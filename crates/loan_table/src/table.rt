@@ -4,7 +4,7 @@ ghost use Rattle.std.specs.Prelude.{◌≡◌, ◌+◌, ◌≤◌, ◌<◌, ◌^
 ghost use Rattle.std.specs.Prelude.{false, true, Some, None, if◌then◌else◌};
 ghost use Rattle.std.specs.List.{All};
 ghost use Rattle.std.specs.FinMap as finmap;
-ghost use Rattle.busdma_base.specs.Runs.{run_of, addresses, byte_count, IsExtent};
+ghost use Rattle.busdma_machine.specs.Runs.{run_of, addresses, byte_count, IsExtent};
 ghost use Rattle.dma_tag.specs.SyncOps.{has_pre, has_post};
 ghost use Rattle.loan_table.specs.Access.{cpu_read_answer, cpu_write_answer, dev_read_answer, dev_write_answer};
 ghost use Rattle.loan_table.specs.Lending.{sync_answer, lost, lost_by_forgetting};
@@ -22,7 +22,7 @@ use crate::room::{changes_for, edges_for, spare_after, sum_of};
 use crate::row::{LoanRow, keep_gone};
 use crate::slot::Slot;
 use crate::{extents, marks, sync};
-use busdma_base::{Extent, ExtentList, Judged, MapId, Pa};
+use busdma_machine::{Extent, ExtentList, Judged, MapId, Pa};
 use dma_tag::SyncOps;
 use std::alloc::{AllocError, Global};
 use std::collections::BTreeMap;

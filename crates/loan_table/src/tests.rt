@@ -3,11 +3,11 @@
 mod room;
 mod steps;
 
-use busdma_base::Judged::Fine;
-use busdma_base::ReportName::{
+use busdma_machine::Judged::Fine;
+use busdma_machine::ReportName::{
     CpuReadLent, CpuWriteLent, DeviceReadUnlent, DeviceWriteUnlent, Overlap, StaleByte, SyncOrder,
 };
-use busdma_base::{Extent, Pa};
+use busdma_machine::{Extent, Pa};
 use dma_tag::SyncOps;
 use std::test::Fail;
 use steps::Step::{CpuRead, CpuWrite, DevRead, DevWrite, Forget, Sync};

@@ -6,10 +6,10 @@ use Rattle.std.specs.Prelude.{Option, Some}
 use Rattle.std.specs.Option.{option_to_list}
 use Rattle.std.proofs.lemmas.List.{append-nil, length-map, map-append}
 use Rattle.std.proofs.lemmas.List.Sums.{sum_by-cons}
-use Rattle.busdma_base.specs.declared.machine.address.Extent.{Extent}
-use Rattle.busdma_base.specs.Machine.Page.{FrameBytes, overwritten}
-use Rattle.busdma_base.specs.Machine.Wire.{Wire, put, with_bytes_of}
-use Rattle.busdma_base.specs.Runs.{addresses, byte_count, run_of}
+use Rattle.busdma_machine.specs.declared.machine.address.Extent.{Extent}
+use Rattle.busdma_machine.specs.Machine.Page.{FrameBytes, overwritten}
+use Rattle.busdma_machine.specs.Machine.Wire.{Wire, put, with_bytes_of}
+use Rattle.busdma_machine.specs.Runs.{addresses, byte_count, run_of}
 use Rattle.phys_memory.specs.Memory.{written}
 use Rattle.phys_memory.proofs.PageBytes.{page_written}
 use Rattle.phys_memory.proofs.Writing.{written_run}

@@ -1,8 +1,8 @@
 -- Parts of lists of addresses, of runs above all.
 use Rattle.std.proofs.Common.{◌≡◌, ℕ, ◌+◌, ◌-◌, min, List, [], ◌∷◌, ◌++◌, length, take, drop, refl, ap, ◌∙◌, arith}
 use Rattle.std.proofs.Common.{length-drop}
-use Rattle.busdma_base.specs.Machine.Wire.{Wire, put}
-use Rattle.busdma_base.specs.Runs.{run_of}
+use Rattle.busdma_machine.specs.Machine.Wire.{Wire, put}
+use Rattle.busdma_machine.specs.Runs.{run_of}
 use Rattle.phys_memory.proofs.RunParts.{drop_append, drop_run, take_append, take_run}
 use Rattle.map_sync.specs.Copying.{part}
 

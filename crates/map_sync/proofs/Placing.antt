@@ -5,11 +5,11 @@ use Rattle.std.proofs.Common.{subst}
 use Rattle.std.specs.Prelude.{not, Option, Some, None, unwrap_or}
 use Rattle.std.specs.List.{AllByRecursion, filter}
 use Rattle.std.proofs.lemmas.Bool.{eq-eqb, ne_eqb, false≢true}
-use Rattle.busdma_base.specs.declared.machine.address.Extent.{Extent}
-use Rattle.busdma_base.specs.declared.machine.address.Pa.{Pa}
-use Rattle.busdma_base.specs.declared.machine.chunk.Chunk.{Chunk}
-use Rattle.busdma_base.specs.Machine.Wire.{Placed, Wire, buffers, buses, is_bounced, stretch}
-use Rattle.busdma_base.specs.Runs.{IsExtent, addresses, byte_count, run_of}
+use Rattle.busdma_machine.specs.declared.machine.address.Extent.{Extent}
+use Rattle.busdma_machine.specs.declared.machine.address.Pa.{Pa}
+use Rattle.busdma_machine.specs.declared.machine.chunk.Chunk.{Chunk}
+use Rattle.busdma_machine.specs.Machine.Wire.{Placed, Wire, buffers, buses, is_bounced, stretch}
+use Rattle.busdma_machine.specs.Runs.{IsExtent, addresses, byte_count, run_of}
 use Rattle.phys_memory.specs.Extents.{LiesIn}
 use Rattle.phys_memory.specs.Frames.{Lie}
 use Rattle.phys_memory.specs.Memory.{Memory, has_frame}

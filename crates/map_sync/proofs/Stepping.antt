@@ -8,12 +8,12 @@ use Rattle.std.proofs.Math.Seq.{map-set_same}
 use Rattle.std.proofs.lemmas.List.{drop_more, drop_all, get_or-map, get_or_default, length-map}
 use Rattle.std.proofs.lemmas.List.Concat.{flat_map-cons}
 use Rattle.std.proofs.lemmas.List.Elements.{filter-append}
-use Rattle.busdma_base.specs.declared.machine.address.Pa.{Pa}
-use Rattle.busdma_base.specs.declared.machine.chunk.Chunk.{Chunk}
-use Rattle.busdma_base.specs.Machine.Page.{FrameBytes}
-use Rattle.busdma_base.specs.Machine.PageList.{frames_of}
-use Rattle.busdma_base.specs.Machine.Wire.{Placed, Wire, buffers, buses, is_bounced, page_byte, put, with_bytes_of}
-use Rattle.busdma_base.specs.Runs.{addresses, run_of}
+use Rattle.busdma_machine.specs.declared.machine.address.Pa.{Pa}
+use Rattle.busdma_machine.specs.declared.machine.chunk.Chunk.{Chunk}
+use Rattle.busdma_machine.specs.Machine.Page.{FrameBytes}
+use Rattle.busdma_machine.specs.Machine.PageList.{frames_of}
+use Rattle.busdma_machine.specs.Machine.Wire.{Placed, Wire, buffers, buses, is_bounced, page_byte, put, with_bytes_of}
+use Rattle.busdma_machine.specs.Runs.{addresses, run_of}
 use Rattle.phys_memory.specs.Frames.{AreApart}
 use Rattle.phys_memory.specs.Memory.{Memory, has_frame, wire}
 use Rattle.phys_memory.proofs.PageBytes.{no_page, no_page_at, none_apart, page_at, page_replaced, page_shown}

@@ -5,8 +5,8 @@ use Rattle.std.specs.List.{AllByRecursion, filter}
 use Rattle.std.proofs.lemmas.List.{drop-drop, take-append-drop}
 use Rattle.std.proofs.lemmas.List.Concat.{flat_map-cons}
 use Rattle.std.proofs.lemmas.List.Elements.{filter-append}
-use Rattle.busdma_base.specs.declared.machine.chunk.Chunk.{Chunk}
-use Rattle.busdma_base.specs.Machine.Wire.{Placed, Wire, buffers, buses, is_bounced, put, stretch}
+use Rattle.busdma_machine.specs.declared.machine.chunk.Chunk.{Chunk}
+use Rattle.busdma_machine.specs.Machine.Wire.{Placed, Wire, buffers, buses, is_bounced, put, stretch}
 use Rattle.phys_memory.proofs.RunParts.{all_drop, all_take}
 use Rattle.segment_build.specs.Trace.{chunk_len}
 use Rattle.map_sync.specs.Copying.{part}

@@ -1,7 +1,7 @@
 -- What the private steps of the copies do; no public clause cites them.
 use Rattle.std.specs.Prelude.{◌≡◌, ℕ, ◌-◌, List, [], ◌∷◌, take, drop}
-use Rattle.busdma_base.specs.Machine.Page.{FrameBytes}
-use Rattle.busdma_base.specs.Machine.Wire.{Wire, put, with_bytes_of}
+use Rattle.busdma_machine.specs.Machine.Page.{FrameBytes}
+use Rattle.busdma_machine.specs.Machine.Wire.{Wire, put, with_bytes_of}
 
 -- the elements of a list at the places from `from` up to `to`
 abbrev pub part : {A : Type 0} → ℕ → ℕ → List A → List A

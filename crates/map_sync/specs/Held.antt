@@ -1,8 +1,8 @@
 -- Where the bytes of a load's chunks are held.
 use Rattle.std.specs.Prelude.{◌≡◌, ℕ, ◌/◌, List, is_some}
 use Rattle.std.specs.List.{filter}
-use Rattle.busdma_base.specs.declared.machine.chunk.Chunk.{Chunk}
-use Rattle.busdma_base.specs.Runs.{IsExtent}
+use Rattle.busdma_machine.specs.declared.machine.chunk.Chunk.{Chunk}
+use Rattle.busdma_machine.specs.Runs.{IsExtent}
 use Rattle.phys_memory.specs.Frames.{Lie}
 use Rattle.phys_memory.specs.Memory.{Memory}
 use Rattle.segment_build.specs.Trace.{bus_extent, chunk_extents}

@@ -1,9 +1,9 @@
 -- Which positions of a load a range has, told of the load's chunks.
 use Rattle.std.specs.Prelude.{ℕ, ◌+◌, ◌-◌, List, [], ◌∷◌}
 use Rattle.std.specs.List.{flat_map}
-use Rattle.busdma_base.specs.declared.machine.chunk.Chunk.{Chunk}
-use Rattle.busdma_base.specs.Machine.Wire.{Placed, stretch}
-use Rattle.busdma_base.specs.Runs.{addresses}
+use Rattle.busdma_machine.specs.declared.machine.chunk.Chunk.{Chunk}
+use Rattle.busdma_machine.specs.Machine.Wire.{Placed, stretch}
+use Rattle.busdma_machine.specs.Runs.{addresses}
 use Rattle.segment_build.specs.Trace.{bus_addresses, chunk_extents}
 
 -- the positions of bytes at these physical addresses, with a bus address for each

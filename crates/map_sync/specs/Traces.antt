@@ -1,8 +1,8 @@
 -- What the trace of a load has to do with its chunks.
 use Rattle.std.specs.Prelude.{◌≡◌, ℕ, ◌+◌, ◌-◌, ◌≤◌, false, List, [], ◌∷◌, length, drop}
 use Rattle.std.specs.List.{AllByRecursion}
-use Rattle.busdma_base.specs.declared.machine.chunk.Chunk.{Chunk}
-use Rattle.busdma_base.specs.Machine.Wire.{Placed, Wire, copied_in, copied_out, is_bounced, stretch}
+use Rattle.busdma_machine.specs.declared.machine.chunk.Chunk.{Chunk}
+use Rattle.busdma_machine.specs.Machine.Wire.{Placed, Wire, copied_in, copied_out, is_bounced, stretch}
 use Rattle.segment_build.specs.Trace.{chunk_len}
 use Rattle.map_sync.specs.Ranges.{positions_of, range_of_chunks}
 

@@ -2,9 +2,9 @@
 
 ghost use Rattle.std.specs.Prelude.{◌≡◌, ◌+◌, ◌/◌, ◌%◌, ◌^◌, ◌<◌, ◌≤◌, map};
 ghost use Rattle.std.specs.List.{AllZip};
-ghost use Rattle.busdma_base.specs.Runs.{IsExtent, addresses, run_of};
-ghost use Rattle.busdma_base.specs.Machine.PageList.{frames_of};
-ghost use Rattle.busdma_base.specs.Machine.Wire.{copied_in, with_bytes_of};
+ghost use Rattle.busdma_machine.specs.Runs.{IsExtent, addresses, run_of};
+ghost use Rattle.busdma_machine.specs.Machine.PageList.{frames_of};
+ghost use Rattle.busdma_machine.specs.Machine.Wire.{copied_in, with_bytes_of};
 ghost use Rattle.phys_memory.specs.Extents.{LiesIn};
 ghost use Rattle.phys_memory.specs.Frames.{AreApart, Lie};
 ghost use Rattle.phys_memory.specs.Memory.{wire};
@@ -13,7 +13,7 @@ ghost use Rattle.map_sync.specs.Copying.{IsWritten, part};
 ghost use Rattle.map_sync.specs.Held.{IsHeld, paged};
 ghost use Rattle.map_sync.specs.Ranges.{range_of_chunks};
 
-use busdma_base::{Chunk, Extent, Pa, Page};
+use busdma_machine::{Chunk, Extent, Pa, Page};
 use phys_memory::LanePages;
 
 /// Copies the bytes of a load at its places from `off` to `off + len - 1` from the driver's memory

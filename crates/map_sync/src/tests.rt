@@ -1,11 +1,11 @@
 //! Copies of ranges of a load; expected bytes are worked out by hand.
 
 ghost use Rattle.std.specs.Prelude.{◌≡◌, ◌+◌, ◌%◌, ◌^◌, ◌<◌, true, false, [], ◌∷◌};
-ghost use Rattle.busdma_base.specs.Machine.PageList.{frames_of};
+ghost use Rattle.busdma_machine.specs.Machine.PageList.{frames_of};
 ghost use Rattle.phys_memory.specs.Memory.{has_frame};
 
 use crate::{copy_in, copy_out};
-use busdma_base::{Chunk, Extent, Pa, Page, Va};
+use busdma_machine::{Chunk, Extent, Pa, Page, Va};
 use phys_memory::LanePages;
 use std::alloc::Global;
 use std::process::Abort;

@@ -3,12 +3,12 @@ use Rattle.std.proofs.Common.{◌≡◌, ℕ, zero, suc, ◌+◌, ◌-◌, ◌%�
 use Rattle.std.proofs.Common.{◌++◌, length, refl, ap, sym, ◌∙◌, subst, cond, arith, inl, inr, append-nil}
 use Rattle.std.specs.Prelude.{Option, Some, None, nat_eq, nat_lt, if◌then◌else◌}
 use Rattle.std.proofs.lemmas.Bool.{cases_lt, eq-eqb, lt-ltb, ltb-true}
-use Rattle.busdma_base.specs.declared.machine.address.Extent.{Extent}
-use Rattle.busdma_base.specs.declared.machine.chunk.Part.{Part}
-use Rattle.busdma_base.specs.declared.machine.chunk.Part.TheVariants as part
-use Rattle.busdma_base.specs.Machine.Entry.{IsStream, entries_of, extent_parts, others_of, unmapped_of}
-use Rattle.busdma_base.specs.Machine.Spans.{one_span}
-use Rattle.busdma_base.specs.Runs.{run_of}
+use Rattle.busdma_machine.specs.declared.machine.address.Extent.{Extent}
+use Rattle.busdma_machine.specs.declared.machine.chunk.Part.{Part}
+use Rattle.busdma_machine.specs.declared.machine.chunk.Part.TheVariants as part
+use Rattle.busdma_machine.specs.Machine.Entry.{IsStream, entries_of, extent_parts, others_of, unmapped_of}
+use Rattle.busdma_machine.specs.Machine.Spans.{one_span}
+use Rattle.busdma_machine.specs.Runs.{run_of}
 use Rattle.phys_memory.specs.Extents.{BeginsFrame, extents_of, reached, then_reached}
 use Rattle.phys_memory.specs.Translation.{Translation}
 use Rattle.phys_memory.specs.Vector.{spans_stream, with_entry}

@@ -3,13 +3,13 @@ use Rattle.std.proofs.Common.{◌≡◌, ℕ, zero, suc, ◌+◌, ◌*◌, Bool,
 use Rattle.std.proofs.Common.{◌==◌, ◌%◌, ◌∙◌, length, cond, drop, arith}
 use Rattle.std.specs.List.{AllByRecursion}
 use Rattle.std.proofs.lemmas.Bool.{le-ltb}
-use Rattle.busdma_base.specs.declared.machine.address.Pa.{Pa}
-use Rattle.busdma_base.specs.declared.machine.chunk.Chunk.{Chunk}
-use Rattle.busdma_base.specs.declared.machine.chunk.Entry.{Entry}
-use Rattle.busdma_base.specs.declared.tags.tag.TagLimits.{TagLimits}
-use Rattle.busdma_base.specs.Machine.Entry.{entry_addresses}
-use Rattle.busdma_base.specs.Runs.{byte_count}
-use Rattle.busdma_base.specs.Tags.Tag.{excluded, needs_bounce}
+use Rattle.busdma_machine.specs.declared.machine.address.Pa.{Pa}
+use Rattle.busdma_machine.specs.declared.machine.chunk.Chunk.{Chunk}
+use Rattle.busdma_machine.specs.declared.machine.chunk.Entry.{Entry}
+use Rattle.busdma_machine.specs.declared.tags.tag.TagLimits.{TagLimits}
+use Rattle.busdma_machine.specs.Machine.Entry.{entry_addresses}
+use Rattle.busdma_machine.specs.Runs.{byte_count}
+use Rattle.busdma_machine.specs.Tags.Tag.{excluded, needs_bounce}
 use Rattle.segment_build.specs.Chunks.{bounced_of, chunk_limit, chunks_from, chunks_of_bytes, chunks_within}
 use Rattle.segment_build.specs.Trace.{in_page, first_page, placed}
 use Rattle.segment_build.proofs.Sound.{all_append}

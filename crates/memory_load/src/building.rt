@@ -7,7 +7,7 @@ ghost use Rattle.memory_load.specs.MemoryLoad.{run_chunks, run_pieces, run_segme
 
 use crate::run_parts::run_parts;
 use crate::unaligned::unaligned;
-use busdma_base::{ChunkRoom, Pa, SegmentRoom};
+use busdma_machine::{ChunkRoom, Pa, SegmentRoom};
 use dma_tag::Tag;
 use segment_build::{Measured, build_into, fronts_ask_no_more, measure};
 

@@ -2,10 +2,10 @@
 
 ghost use Rattle.std.specs.Prelude.{◌≡◌, ◌+◌, ◌^◌, ◌≤◌, true};
 ghost use Rattle.std.specs.Iterator.{YieldsFirst, item_count};
-ghost use Rattle.busdma_base.specs.Machine.Entry.{IsStream};
+ghost use Rattle.busdma_machine.specs.Machine.Entry.{IsStream};
 ghost use Rattle.memory_load.specs.MemoryLoad.{run_parts};
 
-use busdma_base::{Extent, Pa, Part};
+use busdma_machine::{Extent, Pa, Part};
 use std::marker::Model;
 
 /// The bytes of a frame.
@@ -22,7 +22,7 @@ pub(crate) struct RunParts {
 
 impl Model for RunParts {
     ghost use Rattle.std.specs.Prelude.{List, ◌+◌, ◌^◌, ◌≤◌};
-    ghost use Rattle.busdma_base.specs.declared.machine.chunk.Part.{Part};
+    ghost use Rattle.busdma_machine.specs.declared.machine.chunk.Part.{Part};
     ghost use Rattle.memory_load.specs.MemoryLoad.{run_parts};
 
     ghost Value = { List Part };

@@ -3,7 +3,7 @@
 ghost use Rattle.std.specs.Prelude.{◌+◌, ◌^◌, ◌≤◌};
 
 use crate::{build_memory, memory_pieces, no_chunk_bounces};
-use busdma_base::{ChunkRoom, Pa, Segment, SegmentRoom, TagLimits};
+use busdma_machine::{ChunkRoom, Pa, Segment, SegmentRoom, TagLimits};
 use dma_tag::Tag;
 use std::alloc::Global;
 use std::process::Abort;

@@ -3,7 +3,7 @@
 ghost use Rattle.std.specs.Prelude.{◌≡◌};
 ghost use Rattle.memory_load.specs.MemoryLoad.{unaligned};
 
-use busdma_base::TagLimits;
+use busdma_machine::TagLimits;
 use dma_tag::Tag;
 
 /// A tag of the same limits that asks for no alignment.

@@ -7,11 +7,11 @@ use Rattle.std.specs.FinMap.{get}
 use Rattle.std.proofs.lemmas.Bool.{false≢true}
 use Rattle.std.proofs.lemmas.Bool.Decides.{eqb_tells}
 use Rattle.std.proofs.lemmas.List.{get_or-replicate}
-use Rattle.busdma_base.specs.Bounce.MemoryRuns.{in_run, frames_from}
-use Rattle.busdma_base.specs.Machine.Page.{FrameBytes}
-use Rattle.busdma_base.specs.Machine.PageList.{page_address, page_addresses}
-use Rattle.busdma_base.specs.Machine.PageRuns.{pages_end}
-use Rattle.busdma_base.specs.Machine.Wire.{Wire, page_byte, with_bytes_of}
+use Rattle.busdma_machine.specs.Bounce.MemoryRuns.{in_run, frames_from}
+use Rattle.busdma_machine.specs.Machine.Page.{FrameBytes}
+use Rattle.busdma_machine.specs.Machine.PageList.{page_address, page_addresses}
+use Rattle.busdma_machine.specs.Machine.VirtualPages.{pages_end}
+use Rattle.busdma_machine.specs.Machine.Wire.{Wire, page_byte, with_bytes_of}
 use Rattle.dmamem.specs.Memory.{virtual_of}
 use Rattle.phys_memory.specs.declared.reach.Reach.{Reach}
 use Rattle.phys_memory.specs.Memory.{Memory, byte_in, has_frame, has_page, wire, with_page}

@@ -2,7 +2,7 @@
 use Rattle.std.proofs.Common.{◌≡◌, ℕ, ◌+◌, List, ◌++◌, length, replicate, sym, ap, ◌∙◌}
 use Rattle.std.proofs.Common.{append-nil, arith}
 use Rattle.std.proofs.lemmas.List.{drop_all, length-replicate}
-use Rattle.busdma_base.specs.Machine.Page.{FrameBytes, overwritten}
+use Rattle.busdma_machine.specs.Machine.Page.{FrameBytes, overwritten}
 
 -- as many bytes as there are in the place of all
 pub all_overwritten : (old new : List ℕ) → length old ≡ length new → overwritten old 0 new ≡ new

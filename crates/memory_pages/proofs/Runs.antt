@@ -3,10 +3,10 @@ use Rattle.std.proofs.Common.{◌≡◌, ℕ, suc, ◌+◌, ◌*◌, ◌/◌, �
 use Rattle.std.proofs.Common.{◌∷◌, length, get_or, refl, sym, ap, ◌∙◌, arith}
 use Rattle.std.specs.Prelude.{Some, nat_eq, slice_get}
 use Rattle.std.proofs.lemmas.Bool.Decides.{nat_tests}
-use Rattle.busdma_base.specs.Bounce.Door.{IsRow}
-use Rattle.busdma_base.specs.Machine.Page.{FrameBytes}
-use Rattle.busdma_base.specs.Machine.PageList.{page_address, page_addresses}
-use Rattle.busdma_base.specs.Bounce.MemoryRuns.{in_run, frames_from}
+use Rattle.busdma_machine.specs.Bounce.Door.{IsRow}
+use Rattle.busdma_machine.specs.Machine.Page.{FrameBytes}
+use Rattle.busdma_machine.specs.Machine.PageList.{page_address, page_addresses}
+use Rattle.busdma_machine.specs.Bounce.MemoryRuns.{in_run, frames_from}
 
 -- a row is told by its first frame and its length
 pub row_is : (xs : List ℕ) → IsRow xs → xs ≡ frames_from (length xs) (get_or xs 0 0)

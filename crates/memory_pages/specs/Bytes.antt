@@ -1,7 +1,7 @@
 -- The bytes that the pages of a dmamem memory bring and take with them.
 use Rattle.std.specs.Prelude.{ℕ, ◌/◌, Bool, List, [], map, replicate, unwrap_or, if◌then◌else◌}
 use Rattle.std.specs.FinMap.{get}
-use Rattle.busdma_base.specs.Machine.Page.{FrameBytes}
+use Rattle.busdma_machine.specs.Machine.Page.{FrameBytes}
 use Rattle.phys_memory.specs.Memory.{Memory}
 
 -- a page with 0 in every byte, where that is asked, or as it is

@@ -2,17 +2,17 @@
 
 ghost use Rattle.std.specs.Prelude.{◌≡◌, ℕ, ◌+◌, ◌-◌, ◌*◌, ◌%◌, ◌^◌, ◌<◌, ◌≤◌, ◌++◌, Bool, true, false, Some, None};
 ghost use Rattle.std.specs.Prelude.{length, if◌then◌else◌, slice_index_or};
-ghost use Rattle.busdma_base.specs.Bounce.Door.{IsRow};
-ghost use Rattle.busdma_base.specs.Bounce.MemoryRuns.{frames_from, in_run};
-ghost use Rattle.busdma_base.specs.Machine.PageList.{page_addresses};
-ghost use Rattle.busdma_base.specs.Machine.PageRuns.{pages_end};
-ghost use Rattle.busdma_base.specs.Machine.Wire.{with_bytes_of};
+ghost use Rattle.busdma_machine.specs.Bounce.Door.{IsRow};
+ghost use Rattle.busdma_machine.specs.Bounce.MemoryRuns.{frames_from, in_run};
+ghost use Rattle.busdma_machine.specs.Machine.PageList.{page_addresses};
+ghost use Rattle.busdma_machine.specs.Machine.VirtualPages.{pages_end};
+ghost use Rattle.busdma_machine.specs.Machine.Wire.{with_bytes_of};
 ghost use Rattle.dmamem.specs.Memory.{virtual_of};
 ghost use Rattle.phys_memory.specs.Memory.{has_frame, physical, wire, with_page};
 ghost use Rattle.memory_pages.specs.Bytes.{all_filled, filled, pages_of};
 ghost use Rattle.memory_pages.specs.Placed.{AreAtTheirFrames, Comes, Goes, HasFrames, IsPlaced, IsWithout, is_byte};
 
-use busdma_base::{Pa, Page, PageList};
+use busdma_machine::{Pa, Page, PageList};
 use dmamem::va_of;
 use phys_memory::LanePages;
 

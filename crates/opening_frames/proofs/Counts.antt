@@ -11,13 +11,13 @@ use Rattle.std.proofs.lemmas.List.Folds.{list_any-append}
 use Rattle.busdma_base.specs.declared.scenarios.scenario.Driver.{Driver}
 use Rattle.busdma_base.specs.declared.scenarios.scenario.FrameRun.{FrameRun}
 use Rattle.busdma_base.specs.declared.scenarios.scenario.Scenario.{Scenario}
-use Rattle.busdma_base.specs.Bounce.Opening.{free_below, is_owned, maxmem_of}
-use Rattle.busdma_base.specs.Bounce.Places.{times}
-use Rattle.busdma_base.specs.Each.{EachAfter}
-use Rattle.busdma_base.specs.Machine.FrameRuns.{IsFrameRun, is_in, overlap}
-use Rattle.busdma_base.specs.Runs.{run_of}
-use Rattle.busdma_base.proofs.Accounts.Counting.{count_by-append, count_by-filter_keeps}
-use Rattle.busdma_base.proofs.Accounts.Openings.{free-below}
+use Rattle.busdma_base.specs.Scenarios.Opening.{free_below, is_owned, maxmem_of}
+use Rattle.busdma_machine.specs.Bounce.Places.{times}
+use Rattle.busdma_machine.specs.Each.{EachAfter}
+use Rattle.busdma_base.specs.Scenarios.FrameRuns.{IsFrameRun, is_in, overlap}
+use Rattle.busdma_machine.specs.Runs.{run_of}
+use Rattle.busdma_machine.proofs.Accounts.Counting.{count_by-append, count_by-filter_keeps}
+use Rattle.busdma_base.proofs.Openings.{free-below}
 use Rattle.frame_bank.proofs.Counted.{weight, count_by-cons}
 use Rattle.opening_frames.specs.Frames.{free_of, unowned, unowned_in}
 use Rattle.opening_frames.proofs.Rising.{times-cons, times-none, weight-off, weight-same}

@@ -5,11 +5,11 @@ use Rattle.std.specs.List.{All, AllPairs, count_by}
 use Rattle.std.proofs.lemmas.Bool.{eq-eqb, ne_eqb, cases_lt}
 use Rattle.std.proofs.lemmas.List.Elements.{All-nil, All-cons, All-head, All-tail, All-weaker}
 use Rattle.std.proofs.lemmas.List.Kept.{AllPairs-cons}
-use Rattle.busdma_base.specs.Bounce.History.{IsRising}
-use Rattle.busdma_base.specs.Bounce.Places.{times}
-use Rattle.busdma_base.specs.Machine.Page.{FrameBytes}
-use Rattle.busdma_base.specs.Machine.PageList.{frames_of}
-use Rattle.busdma_base.proofs.Accounts.Rising.{above_first}
+use Rattle.busdma_machine.specs.Bounce.History.{IsRising}
+use Rattle.busdma_machine.specs.Bounce.Places.{times}
+use Rattle.busdma_machine.specs.Machine.Page.{FrameBytes}
+use Rattle.busdma_machine.specs.Machine.PageList.{frames_of}
+use Rattle.busdma_machine.proofs.Accounts.Rising.{above_first}
 use Rattle.frame_bank.specs.FrameBank.{fresh_page, put_pages}
 use Rattle.frame_bank.proofs.Counted.{weight, count_by-cons, count_by-map}
 use Rattle.frame_bank.proofs.Placing.{All-put_page, count_by-put_pages, put_page-rising}

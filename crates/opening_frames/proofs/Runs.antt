@@ -11,16 +11,16 @@ use Rattle.std.proofs.lemmas.Grind.{flat_map-append}
 use Rattle.busdma_base.specs.declared.scenarios.scenario.Driver.{Driver}
 use Rattle.busdma_base.specs.declared.scenarios.scenario.FrameRun.{FrameRun}
 use Rattle.busdma_base.specs.declared.scenarios.scenario.Scenario.{Scenario}
-use Rattle.busdma_base.specs.Bounce.History.{IsRising}
-use Rattle.busdma_base.specs.Bounce.Opening.{is_owned, maxmem_of}
-use Rattle.busdma_base.specs.Bounce.Places.{times}
-use Rattle.busdma_base.specs.Each.{EachAfter}
-use Rattle.busdma_base.specs.Machine.FrameRuns.{IsFrameRun, IsNumbered}
-use Rattle.busdma_base.specs.Machine.PageList.{page_addresses}
-use Rattle.busdma_base.specs.Runs.{run_of}
+use Rattle.busdma_machine.specs.Bounce.History.{IsRising}
+use Rattle.busdma_base.specs.Scenarios.Opening.{is_owned, maxmem_of}
+use Rattle.busdma_machine.specs.Bounce.Places.{times}
+use Rattle.busdma_machine.specs.Each.{EachAfter}
+use Rattle.busdma_base.specs.Scenarios.FrameRuns.{IsFrameRun, IsNumbered}
+use Rattle.busdma_machine.specs.Machine.PageList.{page_addresses}
+use Rattle.busdma_machine.specs.Runs.{run_of}
 use Rattle.busdma_base.specs.Scenarios.Valid.{IsValid}
-use Rattle.busdma_base.proofs.Accounts.Openings.{opening-may_begin}
-use Rattle.busdma_base.proofs.Accounts.Places.{times-rising}
+use Rattle.busdma_base.proofs.Openings.{opening-may_begin}
+use Rattle.busdma_machine.proofs.Accounts.Places.{times-rising}
 use Rattle.frame_bank.specs.FrameBank.{fresh_page, put_pages}
 use Rattle.frame_bank.proofs.Placing.{length-put_pages}
 use Rattle.opening_frames.specs.Frames.{free_of, unowned, unowned_in}

@@ -5,8 +5,8 @@ use Rattle.busdma_base.specs.declared.scenarios.scenario.Driver.{Driver}
 use Rattle.busdma_base.specs.declared.scenarios.scenario.FrameRun.{FrameRun}
 use Rattle.busdma_base.specs.declared.scenarios.scenario.PageRun.{PageRun}
 use Rattle.busdma_base.specs.declared.scenarios.scenario.Scenario.{Scenario}
-use Rattle.busdma_base.specs.Bounce.Opening.{free_below, is_owned, maxmem_of}
-use Rattle.busdma_base.specs.Runs.{run_of}
+use Rattle.busdma_base.specs.Scenarios.Opening.{free_below, is_owned, maxmem_of}
+use Rattle.busdma_machine.specs.Runs.{run_of}
 
 -- the frames of a scenario that no driver has, rising
 abbrev pub free_of : Scenario → List ℕ

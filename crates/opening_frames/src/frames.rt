@@ -1,10 +1,10 @@
 //! The frames of the machine in which a scenario opens.
 
 ghost use Rattle.std.specs.Prelude.{◌≡◌, ◌++◌, [], map, IfOk, OnOk};
-ghost use Rattle.busdma_base.specs.Bounce.Opening as opens;
-ghost use Rattle.busdma_base.specs.Bounce.Opening.{maxmem_of, opening};
-ghost use Rattle.busdma_base.specs.Each.{EachAfter};
-ghost use Rattle.busdma_base.specs.Machine.FrameRuns.{IsFrameRun, IsNumbered};
+ghost use Rattle.busdma_base.specs.Scenarios.Opening as opens;
+ghost use Rattle.busdma_base.specs.Scenarios.Opening.{maxmem_of, opening};
+ghost use Rattle.busdma_machine.specs.Each.{EachAfter};
+ghost use Rattle.busdma_base.specs.Scenarios.FrameRuns.{IsFrameRun, IsNumbered};
 ghost use Rattle.busdma_base.specs.Scenarios.Valid.{IsValid};
 ghost use Rattle.frame_bank.specs.FrameBank.{fresh_page, free_frames};
 ghost use Rattle.opening_frames.specs.Frames as unowned;

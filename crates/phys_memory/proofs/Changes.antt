@@ -7,7 +7,7 @@ use Rattle.std.specs.Ordering.{nat_cmp}
 use Rattle.std.specs.Map.{lookup}
 use Rattle.std.specs.FinMap.{FinMap, get, insert, from_entries}
 use Rattle.std.proofs.lemmas.Bool.Decides.{eqb_tells}
-use Rattle.busdma_base.specs.Machine.Page.{FrameBytes, overwritten}
+use Rattle.busdma_machine.specs.Machine.Page.{FrameBytes, overwritten}
 use Rattle.phys_memory.specs.declared.reach.Reach.{Reach}
 use Rattle.phys_memory.specs.Memory.{Memory, IsMemory, has_frame, page_of, wire, with_page, without_row, rewritten}
 use Rattle.phys_memory.specs.Memory.{written}

@@ -5,9 +5,9 @@ use Rattle.std.specs.Prelude.{Option, Some, None, nat_eq, if◌then◌else◌}
 use Rattle.std.specs.List.{AllByRecursion}
 use Rattle.std.proofs.lemmas.Bool.{eq-eqb, ne_eqb}
 use Rattle.std.proofs.lemmas.Bool.Decides.{eqb_tells}
-use Rattle.busdma_base.specs.declared.machine.address.Extent.{Extent}
-use Rattle.busdma_base.specs.Machine.Entry.{AreJoined}
-use Rattle.busdma_base.specs.Runs.{run_of, addresses, IsExtent}
+use Rattle.busdma_machine.specs.declared.machine.address.Extent.{Extent}
+use Rattle.busdma_machine.specs.Machine.Entry.{AreJoined}
+use Rattle.busdma_machine.specs.Runs.{run_of, addresses, IsExtent}
 use Rattle.phys_memory.specs.Translation.{Translation}
 use Rattle.phys_memory.specs.Extents.{BeginsFrame, extents_of, reached, then_reached, with_byte}
 use Rattle.phys_memory.proofs.Paged.{IsPaged}

@@ -8,8 +8,8 @@ use Rattle.std.proofs.Math.Path.{fun_ext}
 use Rattle.std.proofs.lemmas.List.{get_or-take, get_or-drop, get_or-append_right, get_or_append_left}
 use Rattle.std.proofs.lemmas.Bool.{lt-ltb, le-leb, lt-leb, le-ltb, cases_lt}
 use Rattle.std.proofs.lemmas.Bool.Decides.{eqb_tells}
-use Rattle.busdma_base.specs.Machine.Page.{overwritten}
-use Rattle.busdma_base.specs.Runs.{run_of}
+use Rattle.busdma_machine.specs.Machine.Page.{overwritten}
+use Rattle.busdma_machine.specs.Runs.{run_of}
 use Rattle.phys_memory.specs.Memory.{Memory, byte_in, wire, written, rewritten}
 use Rattle.phys_memory.proofs.Tables.{get_inserted}
 

@@ -5,17 +5,17 @@ use Rattle.std.specs.Prelude.{nat_eq, if◌then◌else◌}
 use Rattle.std.specs.Iterator.{Yields, YieldsFirst, HoldsAlong}
 use Rattle.std.specs.List.{AllByRecursion}
 use Rattle.std.proofs.lemmas.List.Sums.{sum_by-cons, sum_by-append}
-use Rattle.busdma_base.specs.declared.machine.address.Extent.{Extent}
-use Rattle.busdma_base.specs.declared.machine.address.Span.{Span}
-use Rattle.busdma_base.specs.declared.machine.chunk.Entry.{Entry}
-use Rattle.busdma_base.specs.declared.machine.chunk.Part.{Part}
-use Rattle.busdma_base.specs.declared.machine.chunk.Part.TheVariants.{Of, Unmapped}
-use Rattle.busdma_base.specs.declared.journals.report.Judged.{Judged}
-use Rattle.busdma_base.specs.declared.journals.report.Judged.TheVariants.{Fine, Refused}
-use Rattle.busdma_base.specs.Machine.Entry.{AreJoined, HasPart, IsEntry, IsStream, entries_bytes, entries_of}
-use Rattle.busdma_base.specs.Machine.Entry.{entry_parts, extent_parts, others_of, parts_of}
-use Rattle.busdma_base.specs.Runs.{IsExtent, addresses, byte_count, run_of}
-use Rattle.busdma_base.specs.Machine.Spans.{one_span, span_bytes}
+use Rattle.busdma_machine.specs.declared.machine.address.Extent.{Extent}
+use Rattle.busdma_machine.specs.declared.machine.address.Span.{Span}
+use Rattle.busdma_machine.specs.declared.machine.chunk.Entry.{Entry}
+use Rattle.busdma_machine.specs.declared.machine.chunk.Part.{Part}
+use Rattle.busdma_machine.specs.declared.machine.chunk.Part.TheVariants.{Of, Unmapped}
+use Rattle.busdma_machine.specs.declared.report.Judged.{Judged}
+use Rattle.busdma_machine.specs.declared.report.Judged.TheVariants.{Fine, Refused}
+use Rattle.busdma_machine.specs.Machine.Entry.{AreJoined, HasPart, IsEntry, IsStream, entries_bytes, entries_of}
+use Rattle.busdma_machine.specs.Machine.Entry.{entry_parts, extent_parts, others_of, parts_of}
+use Rattle.busdma_machine.specs.Runs.{IsExtent, addresses, byte_count, run_of}
+use Rattle.busdma_machine.specs.Machine.Spans.{one_span, span_bytes}
 use Rattle.phys_memory.specs.Translation.{Translation}
 use Rattle.phys_memory.specs.Extents.{extents_of, reached}
 use Rattle.phys_memory.specs.Vector.{ending, judged_spans, spans_stream, with_entry}

@@ -8,10 +8,10 @@ use Rattle.std.proofs.Math.Path.{fun_ext}
 use Rattle.std.proofs.lemmas.Bool.{eq-eqb, ne_eqb, false≢true}
 use Rattle.std.proofs.lemmas.Bool.Decides.{eqb_tells}
 use Rattle.std.proofs.lemmas.List.{get_or-map, length-map}
-use Rattle.busdma_base.specs.Machine.Page.{FrameBytes, overwritten}
-use Rattle.busdma_base.specs.Machine.PageList.{frames_of}
-use Rattle.busdma_base.specs.Machine.Wire.{Wire, page_byte, put, with_bytes_of}
-use Rattle.busdma_base.specs.Runs.{run_of}
+use Rattle.busdma_machine.specs.Machine.Page.{FrameBytes, overwritten}
+use Rattle.busdma_machine.specs.Machine.PageList.{frames_of}
+use Rattle.busdma_machine.specs.Machine.Wire.{Wire, page_byte, put, with_bytes_of}
+use Rattle.busdma_machine.specs.Runs.{run_of}
 use Rattle.phys_memory.specs.Memory.{Memory, has_frame, written}
 use Rattle.phys_memory.proofs.FrameBytes.{in_run, at_address, elsewhere, offset_in_frame, get_or-overwritten}
 use Rattle.phys_memory.proofs.Writing.{written_run}

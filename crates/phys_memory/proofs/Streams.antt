@@ -4,10 +4,10 @@ use Rattle.std.proofs.Common.{length-append}
 use Rattle.std.specs.Prelude.{nat_eq, if◌then◌else◌}
 use Rattle.std.proofs.lemmas.Bool.{eq-eqb, ne_eqb}
 use Rattle.std.proofs.lemmas.Bool.Decides.{eqb_tells}
-use Rattle.busdma_base.specs.declared.machine.address.Extent.{Extent}
-use Rattle.busdma_base.specs.declared.machine.chunk.Part.TheVariants as part
-use Rattle.busdma_base.specs.Machine.Entry.{extent_parts}
-use Rattle.busdma_base.specs.Runs.{run_of}
+use Rattle.busdma_machine.specs.declared.machine.address.Extent.{Extent}
+use Rattle.busdma_machine.specs.declared.machine.chunk.Part.TheVariants as part
+use Rattle.busdma_machine.specs.Machine.Entry.{extent_parts}
+use Rattle.busdma_machine.specs.Runs.{run_of}
 use Rattle.phys_memory.specs.Translation.{Translation}
 use Rattle.phys_memory.specs.Extents.{IsNext, extents_of, reached}
 use Rattle.phys_memory.specs.Walk.{run_stream}

@@ -7,16 +7,16 @@ use Rattle.std.proofs.lemmas.Bool.{eqb-true}
 use Rattle.std.proofs.lemmas.List.{map-append, drop_all}
 use Rattle.std.proofs.lemmas.List.Sums.{sum_by-cons}
 use Rattle.std.proofs.Math.Seq.{drop-cons}
-use Rattle.busdma_base.specs.declared.machine.address.Extent.{Extent}
-use Rattle.busdma_base.specs.declared.machine.address.Span.{Span}
-use Rattle.busdma_base.specs.declared.machine.chunk.Entry.{Entry}
-use Rattle.busdma_base.specs.declared.machine.chunk.Part.{Part}
-use Rattle.busdma_base.specs.declared.machine.chunk.Part.TheVariants as part
-use Rattle.busdma_base.specs.declared.journals.report.Judged.{Judged}
-use Rattle.busdma_base.specs.declared.journals.report.Judged.TheVariants.{Fine, Refused}
-use Rattle.busdma_base.specs.Machine.Entry.{HasPart, IsEntry, entries_addresses, extent_parts, parts_of}
-use Rattle.busdma_base.specs.Runs.{addresses, run_of}
-use Rattle.busdma_base.specs.Machine.Spans.{one_span, span_addresses, span_bytes}
+use Rattle.busdma_machine.specs.declared.machine.address.Extent.{Extent}
+use Rattle.busdma_machine.specs.declared.machine.address.Span.{Span}
+use Rattle.busdma_machine.specs.declared.machine.chunk.Entry.{Entry}
+use Rattle.busdma_machine.specs.declared.machine.chunk.Part.{Part}
+use Rattle.busdma_machine.specs.declared.machine.chunk.Part.TheVariants as part
+use Rattle.busdma_machine.specs.declared.report.Judged.{Judged}
+use Rattle.busdma_machine.specs.declared.report.Judged.TheVariants.{Fine, Refused}
+use Rattle.busdma_machine.specs.Machine.Entry.{HasPart, IsEntry, entries_addresses, extent_parts, parts_of}
+use Rattle.busdma_machine.specs.Runs.{addresses, run_of}
+use Rattle.busdma_machine.specs.Machine.Spans.{one_span, span_addresses, span_bytes}
 use Rattle.phys_memory.specs.declared.entries.Entries.{Entries}
 use Rattle.phys_memory.specs.declared.entries.Entries.TheVariants as walk
 use Rattle.phys_memory.specs.declared.walk.Walked.TheVariants.{Parts, Unmapped}

@@ -3,8 +3,8 @@ use Rattle.std.proofs.Common.{◌≡◌, ◌≢◌, ℕ, suc, ◌+◌, ◌-◌, 
 use Rattle.std.proofs.Common.{take, drop, refl, sym, ap, ◌∙◌, inl, inr, arith, append_assoc, length-take, length-drop}
 use Rattle.std.proofs.lemmas.Bool.{eq-eqb, ne_eqb, lt-ltb, le-leb, lt-leb, le-ltb, cases_lt}
 use Rattle.std.proofs.lemmas.List.{drop-drop, map-append}
-use Rattle.busdma_base.specs.Machine.Wire.{put}
-use Rattle.busdma_base.specs.Runs.{run_of}
+use Rattle.busdma_machine.specs.Machine.Wire.{put}
+use Rattle.busdma_machine.specs.Runs.{run_of}
 use Rattle.phys_memory.specs.Memory.{written}
 use Rattle.phys_memory.proofs.Extents.{length-run_of}
 

@@ -1,8 +1,8 @@
 -- Frames of a memory, and pages that lie beside it.
 use Rattle.std.specs.Prelude.{◌≡◌, ◌≢◌, ℕ, false, List}
 use Rattle.std.specs.List.{All, AllByRecursion, AllPairs}
-use Rattle.busdma_base.specs.declared.machine.address.Extent.{Extent}
-use Rattle.busdma_base.specs.Runs.{IsExtent}
+use Rattle.busdma_machine.specs.declared.machine.address.Extent.{Extent}
+use Rattle.busdma_machine.specs.Runs.{IsExtent}
 use Rattle.phys_memory.specs.Extents.{LiesIn}
 use Rattle.phys_memory.specs.Memory.{Memory, has_frame}
 

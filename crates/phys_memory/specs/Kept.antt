@@ -6,7 +6,7 @@ use Rattle.std.specs.HashMap.{HashMap, spare}
 use Rattle.std.specs.Map.{lookup}
 use Rattle.std.specs.Prelude.{nat_eq}
 use Rattle.std.specs.FinMap.{from_entries}
-use Rattle.busdma_base.specs.Machine.Page.{FrameBytes}
+use Rattle.busdma_machine.specs.Machine.Page.{FrameBytes}
 use Rattle.phys_memory.specs.declared.reach.Reach.{Reach}
 use Rattle.phys_memory.specs.declared.stretch.Stretch.{Stretch}
 use Rattle.phys_memory.specs.Memory.{Memory, Roomy, IsMemory}

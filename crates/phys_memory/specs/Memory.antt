@@ -4,7 +4,7 @@ use Rattle.std.specs.Prelude.{nat_le, List, [], length, slice_index, Option, Som
 use Rattle.std.specs.Ordering.{nat_cmp}
 use Rattle.std.specs.FinMap.{FinMap, get, contains_key, insert, remove}
 use Rattle.phys_memory.specs.declared.reach.Reach.{Reach}
-use Rattle.busdma_base.specs.Machine.Page.{FrameBytes, overwritten}
+use Rattle.busdma_machine.specs.Machine.Page.{FrameBytes, overwritten}
 use Rattle.phys_memory.specs.Translation.{Translation}
 
 -- the virtual pages by their number, the virtual address / 4096, and the bytes of the frames by theirs

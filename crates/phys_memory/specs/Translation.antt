@@ -1,7 +1,7 @@
 -- Where bytes at virtual addresses lie.
 use Rattle.std.specs.Prelude.{ℕ, Option, Some, None, unwrap_or}
-use Rattle.busdma_base.specs.declared.journals.report.ReportName.{ReportName}
-use Rattle.busdma_base.specs.declared.journals.report.ReportName.TheVariants.{Unmapped}
+use Rattle.busdma_machine.specs.declared.report.ReportName.{ReportName}
+use Rattle.busdma_machine.specs.declared.report.ReportName.TheVariants.{Unmapped}
 
 -- the physical address of each virtual one that can be reached
 abbrev pub Translation : Type 0

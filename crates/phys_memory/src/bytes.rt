@@ -1,11 +1,11 @@
 //! The bytes of frames by their physical addresses.
 
 ghost use Rattle.std.specs.Prelude.{◌≡◌, ◌+◌, ◌/◌, ◌%◌, ◌≤◌, true, length, map};
-ghost use Rattle.busdma_base.specs.Runs.{run_of};
+ghost use Rattle.busdma_machine.specs.Runs.{run_of};
 ghost use Rattle.phys_memory.specs.Memory.{has_frame, rewritten, wire, written};
 
 use crate::pages::LanePages;
-use busdma_base::Pa;
+use busdma_machine::Pa;
 
 impl LanePages {
     /// The bytes from a physical address on, which lie in one frame of the memory.

@@ -2,9 +2,9 @@
 
 ghost use Rattle.std.specs.Prelude.{◌≡◌, ◌+◌, ◌^◌, ◌<◌, IfOk, map};
 ghost use Rattle.std.specs.List.{AllByRecursion};
-ghost use Rattle.busdma_base.specs.Machine.Entry.{HasPart, IsEntry, entries_addresses};
-ghost use Rattle.busdma_base.specs.Runs.{run_of};
-ghost use Rattle.busdma_base.specs.Machine.Spans.{one_span, span_addresses, span_bytes};
+ghost use Rattle.busdma_machine.specs.Machine.Entry.{HasPart, IsEntry, entries_addresses};
+ghost use Rattle.busdma_machine.specs.Runs.{run_of};
+ghost use Rattle.busdma_machine.specs.Machine.Spans.{one_span, span_addresses, span_bytes};
 ghost use Rattle.phys_memory.specs.Extents.{LiesIn};
 ghost use Rattle.phys_memory.specs.Memory.{physical};
 ghost use Rattle.phys_memory.specs.Translation.{physical_or_0};
@@ -12,7 +12,7 @@ ghost use Rattle.phys_memory.specs.Vector.{IfAll, vector_walk};
 
 use crate::pages::LanePages;
 use crate::walk::Walked;
-use busdma_base::{Entry, EntryList, Span, Va};
+use busdma_machine::{Entry, EntryList, Span, Va};
 use std::alloc::{AllocError, Global};
 
 /// The entries of a buffer, or the offset in the whole buffer of the first byte that cannot be

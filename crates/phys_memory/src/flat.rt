@@ -3,18 +3,18 @@
 ghost use Rattle.std.specs.Prelude.{◌≡◌, ℕ, ◌+◌, ◌-◌, ◌*◌, ◌/◌, ◌%◌, ◌^◌, ◌<◌, ◌≤◌, IfSome, IfNone, None, Some, true};
 ghost use Rattle.std.specs.Prelude.{[]};
 ghost use Rattle.std.specs.Iterator.{HoldsAlong, YieldsFirst, item_count};
-ghost use Rattle.busdma_base.specs.Machine.Entry.{IsStream, parts_of};
+ghost use Rattle.busdma_machine.specs.Machine.Entry.{IsStream, parts_of};
 ghost use Rattle.phys_memory.specs.Memory.{IsMemory, IsReachOf, physical, row_at};
 ghost use Rattle.phys_memory.specs.Extents.{IsNext, reached};
 ghost use Rattle.phys_memory.specs.Stretches.{IsKnown};
 ghost use Rattle.phys_memory.specs.Walk.{flat, flat_at, run_stream};
-ghost use Rattle.busdma_base.specs.Machine.Spans.{one_span};
+ghost use Rattle.busdma_machine.specs.Machine.Spans.{one_span};
 ghost use Rattle.phys_memory.specs.Vector.{IfAll, vector, vector_walk};
 
 use crate::pages::LanePages;
 use crate::reach::Reach;
 use crate::stretch::Stretch;
-use busdma_base::{Extent, Pa, Part, Va};
+use busdma_machine::{Extent, Pa, Part, Va};
 use std::marker::Model;
 
 /// The parts of virtual bytes, in order: their extents, up to the first byte that cannot be
@@ -31,7 +31,7 @@ pub struct FlatParts<'a> {
 
 impl<'a> Model for FlatParts<'a> {
     ghost use Rattle.std.specs.Prelude.{List, ◌+◌, ◌<◌, ◌^◌, true};
-    ghost use Rattle.busdma_base.specs.declared.machine.chunk.Part.{Part};
+    ghost use Rattle.busdma_machine.specs.declared.machine.chunk.Part.{Part};
     ghost use Rattle.phys_memory.specs.Extents.{reached};
     ghost use Rattle.phys_memory.specs.Memory.{physical};
     ghost use Rattle.phys_memory.specs.Stretches.{IsKnown};

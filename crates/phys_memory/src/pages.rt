@@ -6,7 +6,7 @@ ghost use Rattle.phys_memory.specs.Memory.{IsMemory, added, handed_back, has_fra
 
 use crate::reach::Reach;
 use crate::stretch::{Stretch, slot_of};
-use busdma_base::{Page, Va};
+use busdma_machine::{Page, Va};
 use std::alloc::{AllocError, Global};
 use std::collections::HashMap;
 use std::marker::Model;

@@ -3,7 +3,7 @@
 ghost use Rattle.std.specs.Prelude.{◌≡◌, ◌%◌, ◌^◌, ◌<◌, ◌≤◌};
 
 use crate::{Entries, LanePages, Walked};
-use busdma_base::{Extent, Pa, Page, Part, Span, Va};
+use busdma_machine::{Extent, Pa, Page, Part, Span, Va};
 use std::alloc::Global;
 use std::process::Abort;
 use std::test::Fail;

@@ -2,14 +2,14 @@
 
 ghost use Rattle.std.specs.Prelude.{◌≡◌, ℕ, ◌+◌, ◌^◌, ◌<◌, ◌≤◌, List};
 ghost use Rattle.std.specs.Iterator.{HoldsAlong, YieldsFirst, item_count};
-ghost use Rattle.busdma_base.specs.Machine.Entry.{IsStream, parts_of};
-ghost use Rattle.busdma_base.specs.Machine.Spans.{span_bytes};
+ghost use Rattle.busdma_machine.specs.Machine.Entry.{IsStream, parts_of};
+ghost use Rattle.busdma_machine.specs.Machine.Spans.{span_bytes};
 ghost use Rattle.phys_memory.specs.Memory.{IsMemory, physical};
 ghost use Rattle.phys_memory.specs.Vector.{IfAll, spans_at, then_parts, vector, vector_walk};
 
 use crate::flat::FlatParts;
 use crate::pages::LanePages;
-use busdma_base::{Part, Span, Va};
+use busdma_machine::{Part, Span, Va};
 use std::marker::Model;
 
 /// The parts of the spans of a vector, in order: the extents of each, the first of which opens its
@@ -25,8 +25,8 @@ pub struct VectorParts<'a> {
 
 impl<'a> Model for VectorParts<'a> {
     ghost use Rattle.std.specs.Prelude.{List, ◌+◌, ◌<◌, ◌^◌, true};
-    ghost use Rattle.busdma_base.specs.declared.machine.chunk.Part.{Part};
-    ghost use Rattle.busdma_base.specs.Machine.Spans.{span_bytes};
+    ghost use Rattle.busdma_machine.specs.declared.machine.chunk.Part.{Part};
+    ghost use Rattle.busdma_machine.specs.Machine.Spans.{span_bytes};
     ghost use Rattle.phys_memory.specs.Memory.{physical};
     ghost use Rattle.phys_memory.specs.Vector.{spans_at, then_parts};
 

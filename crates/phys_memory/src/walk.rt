@@ -2,9 +2,9 @@
 
 ghost use Rattle.std.specs.Prelude.{◌≡◌, [], IfOk, map};
 ghost use Rattle.std.specs.List.{AllByRecursion};
-ghost use Rattle.busdma_base.specs.Machine.Entry.{AreJoined};
-ghost use Rattle.busdma_base.specs.Journals.Judging.{judged};
-ghost use Rattle.busdma_base.specs.Runs.{IsExtent, addresses, run_of};
+ghost use Rattle.busdma_machine.specs.Machine.Entry.{AreJoined};
+ghost use Rattle.busdma_machine.specs.Judging.{judged};
+ghost use Rattle.busdma_machine.specs.Runs.{IsExtent, addresses, run_of};
 ghost use Rattle.phys_memory.specs.Memory.{physical};
 ghost use Rattle.phys_memory.specs.Extents.{LiesIn, reached};
 ghost use Rattle.phys_memory.specs.Translation.{physical_or_0, unreached};
@@ -12,7 +12,7 @@ ghost use Rattle.phys_memory.specs.Walk.{IfParts, verdict, walk_of, walked};
 
 use crate::flat::FlatParts;
 use crate::pages::LanePages;
-use busdma_base::{ExtentList, Part, Va};
+use busdma_machine::{ExtentList, Part, Va};
 use std::alloc::{AllocError, Global};
 
 /// The extents of virtual bytes, or the offset of the first of them that cannot be reached.

@@ -10,10 +10,10 @@ mod step;
 
 ghost use Rattle.std.specs.Prelude.{◌≡◌, [], IfOk, OnOk};
 ghost use Rattle.std.specs.List.{count_by};
-ghost use Rattle.busdma_base.specs.Bounce.Account.{fresh_account, zone_at, with_zone, active, reserved, free, total};
-ghost use Rattle.busdma_base.specs.Bounce.Account.{counts};
+ghost use Rattle.busdma_machine.specs.Bounce.Account.{fresh_account, zone_at, with_zone, active, reserved, free, total};
+ghost use Rattle.busdma_machine.specs.Bounce.Account.{counts};
 
-use busdma_base::{MapId, Pa, Waiter, ZoneCounts, ZoneId};
+use busdma_machine::{MapId, Pa, Waiter, ZoneCounts, ZoneId};
 use std::alloc::{AllocError, Global};
 use std::marker::Model;
 pub use step::is_entry;
@@ -31,7 +31,7 @@ struct PlainZone {
 }
 
 impl Model for PlainZone {
-    ghost use Rattle.busdma_base.specs.Bounce.Account.{Zone};
+    ghost use Rattle.busdma_machine.specs.Bounce.Account.{Zone};
 
     ghost Value = { Zone };
 
@@ -54,7 +54,7 @@ struct PlainHeld {
 }
 
 impl Model for PlainHeld {
-    ghost use Rattle.busdma_base.specs.Bounce.Account.{Held};
+    ghost use Rattle.busdma_machine.specs.Bounce.Account.{Held};
 
     ghost Value = { Held };
 
@@ -71,7 +71,7 @@ struct PlainMemory {
 }
 
 impl Model for PlainMemory {
-    ghost use Rattle.busdma_base.specs.Bounce.Account.{Memory};
+    ghost use Rattle.busdma_machine.specs.Bounce.Account.{Memory};
 
     ghost Value = { Memory };
 
@@ -91,7 +91,7 @@ pub struct PlainAccount {
 }
 
 impl Model for PlainAccount {
-    ghost use Rattle.busdma_base.specs.Bounce.Account.{Account};
+    ghost use Rattle.busdma_machine.specs.Bounce.Account.{Account};
 
     ghost Value = { Account };
 

@@ -1,7 +1,7 @@
 //! The plain program of the account, against replies and counts that were worked by hand.
 
 use crate::{PlainAccount, is_entry};
-use busdma_base::{HubCall, HubReply, LaneId, MapId, Pa, TagLimits, ZoneCounts, ZoneId};
+use busdma_machine::{HubCall, HubReply, LaneId, MapId, Pa, TagLimits, ZoneCounts, ZoneId};
 use std::alloc::{AllocError, Global};
 use std::fmt::Write;
 use std::process::Abort;

@@ -1,6 +1,6 @@
 -- Steps that make a call, and steps that make none.
 use Rattle.std.proofs.Common.{◌≡◌, None, refl}
-use Rattle.busdma_base.specs.declared.bounce.hold.HubReply.{HubReply}
+use Rattle.busdma_machine.specs.declared.bounce.hold.HubReply.{HubReply}
 use Rattle.ideal_lane.specs.Asking.{Asking, Gives, Asks, goes_on, by_reply, call_of}
 
 pub call_goes_on : {X Y : Type 0} (f : X → Y) (s : Asking X) → call_of (goes_on f s) ≡ call_of s

@@ -1,6 +1,6 @@
 -- The first of the chunks of bytes, and those behind it.
 use Rattle.std.proofs.Common.{◌≡◌, ℕ, zero, suc, ◌+◌, ◌-◌, ◌≢◌, Bool, List, ◌∷◌, take, drop, refl, arith}
-use Rattle.busdma_base.specs.declared.tags.tag.TagLimits.{TagLimits}
+use Rattle.busdma_machine.specs.declared.tags.tag.TagLimits.{TagLimits}
 use Rattle.segment_build.specs.Chunks.{chunk_limit, chunk_of, chunks_within}
 
 pub next_chunk : (k : ℕ) (t : TagLimits) (m : ℕ) (r : Bool) (at : ℕ) (xs : List ℕ) (a : ℕ) (bs : List ℕ) → xs ≡ a ∷ bs

@@ -1,6 +1,6 @@
 -- What the plain lists of a driver stand for.
 use Rattle.std.specs.Prelude.{ℕ, true, List, [], ◌∷◌, Option, Some, None, if◌then◌else◌}
-use Rattle.busdma_base.specs.Bounce.MemoryRuns.{in_run}
+use Rattle.busdma_machine.specs.Bounce.MemoryRuns.{in_run}
 use Rattle.ideal_lane.specs.IdealMemory.{IdealMemory, Content, Known, Unknown, forgotten, written, joined, parted}
 use Rattle.ideal_lane.specs.State.{LaneMap, Stage}
 use Rattle.ideal_lane.specs.State as state

@@ -1,7 +1,7 @@
 //! Accesses by the driver and by its device.
 
 ghost use Rattle.std.specs.Prelude.{◌≡◌, ◌+◌, ◌^◌, ◌≤◌, ◌<◌, length, IfOk};
-ghost use Rattle.busdma_base.specs.Journals.Judging.{judged};
+ghost use Rattle.busdma_machine.specs.Judging.{judged};
 ghost use Rattle.loan_table.specs.Access as access;
 ghost use Rattle.loan_table.specs.Loans.{load_bytes};
 ghost use Rattle.ideal_lane.specs.Accesses as accesses;

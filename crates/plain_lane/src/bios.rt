@@ -3,8 +3,8 @@
 ghost use Rattle.std.specs.Prelude.{◌≡◌, ◌+◌, ◌^◌, ◌≤◌, length, option_copied, IfOk};
 ghost use Rattle.std.specs.FinMap.{get};
 ghost use Rattle.std.specs.List.{enumerate_from};
-ghost use Rattle.busdma_base.specs.Journals.Judging.{judged};
-ghost use Rattle.busdma_base.specs.Machine.Spans.{bio_spans, span_addresses, span_bytes};
+ghost use Rattle.busdma_machine.specs.Judging.{judged};
+ghost use Rattle.busdma_machine.specs.Machine.Spans.{bio_spans, span_addresses, span_bytes};
 ghost use Rattle.load_bio.specs.Bio.{is_rounded};
 ghost use Rattle.load_bio.specs.Frames.{in_frames};
 ghost use Rattle.phys_memory.specs.Extents.{reached};

@@ -1,9 +1,9 @@
 //! How the bytes of a load are cut, by lists.
 
 ghost use Rattle.std.specs.Prelude.{◌≡◌, ◌+◌, ◌^◌, ◌≤◌, take, drop, IfOk};
-ghost use Rattle.busdma_base.specs.Runs.{addresses, byte_count, run_of};
-ghost use Rattle.busdma_base.specs.Tags.Tag.{needs_bounce};
-ghost use Rattle.busdma_base.specs.Tags.TagFlags.{keep_pg_offset};
+ghost use Rattle.busdma_machine.specs.Runs.{addresses, byte_count, run_of};
+ghost use Rattle.busdma_machine.specs.Tags.Tag.{needs_bounce};
+ghost use Rattle.busdma_machine.specs.Tags.TagFlags.{keep_pg_offset};
 ghost use Rattle.phys_memory.specs.Extents.{extents_of, with_byte};
 ghost use Rattle.segment_build.specs.Chunks as cut;
 

@@ -3,8 +3,8 @@
 ghost use Rattle.std.specs.Prelude.{◌≡◌, Some, if◌then◌else◌, IfOk, OnOk};
 ghost use Rattle.std.specs.List.{list_any};
 ghost use Rattle.std.specs.Option.{option_map};
-ghost use Rattle.busdma_base.specs.Bounce.MemoryRuns.{in_run};
-ghost use Rattle.busdma_base.specs.Machine.PageRuns.{is_own};
+ghost use Rattle.busdma_machine.specs.Bounce.MemoryRuns.{in_run};
+ghost use Rattle.busdma_base.specs.Scenarios.PageRuns.{is_own};
 ghost use Rattle.ideal_lane.specs.IdealMemory.{IdealMemory, Known, Unknown, forgotten, is_among, is_known, joined};
 ghost use Rattle.ideal_lane.specs.IdealMemory.{known, parted, value, written};
 ghost use Rattle.ideal_lane.specs.Opening.{zeros};

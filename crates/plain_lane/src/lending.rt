@@ -2,8 +2,8 @@
 
 ghost use Rattle.std.specs.Prelude.{◌≡◌, ◌+◌, ◌^◌, ◌≤◌, ◌<◌, ◌&&◌, ◌==◌, not, length, IfOk, option_copied, unwrap_or};
 ghost use Rattle.std.specs.List.{filter, list_any};
-ghost use Rattle.busdma_base.specs.Journals.Judging.{judged};
-ghost use Rattle.busdma_base.specs.Machine.Wire.{stretch};
+ghost use Rattle.busdma_machine.specs.Judging.{judged};
+ghost use Rattle.busdma_machine.specs.Machine.Wire.{stretch};
 ghost use Rattle.loan_table.specs.Lending as lending;
 ghost use Rattle.loan_table.specs.Loans.{addresses_of, lends, lent, lent_elsewhere, loan_of, no_loan, stands_twice};
 ghost use Rattle.loan_table.specs.Loans.{to_write};

@@ -2,7 +2,7 @@
 
 ghost use Rattle.std.specs.Prelude.{◌≡◌, ◌++◌, IfOk};
 ghost use Rattle.lane_agreement.specs.After.{addresses};
-ghost use Rattle.busdma_base.specs.Bounce.AccountStep.{as_pages};
+ghost use Rattle.busdma_machine.specs.Bounce.AccountStep.{as_pages};
 
 use busdma_base::Pa;
 use std::alloc::{AllocError, Global};

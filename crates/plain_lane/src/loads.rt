@@ -2,7 +2,7 @@
 
 ghost use Rattle.std.specs.Prelude.{◌≡◌, ◌≤◌, ◌++◌, IfOk, OnOk};
 ghost use Rattle.std.specs.FinMap.{get, insert, contains_key};
-ghost use Rattle.busdma_base.specs.Machine.Entry.{entries_addresses};
+ghost use Rattle.busdma_machine.specs.Machine.Entry.{entries_addresses};
 ghost use Rattle.segment_build.specs.Chunks.{need_of};
 ghost use Rattle.lane_tables.specs.Queues.{queued};
 ghost use Rattle.loan_table.specs.Loans.{new_loan, unlent};

@@ -1,7 +1,7 @@
 //! The segments of chunks, by lists.
 
 ghost use Rattle.std.specs.Prelude.{◌≡◌, ◌+◌, ◌≤◌, ◌<◌, ◌^◌, drop, IfOk, IsTrue, slice_index};
-ghost use Rattle.busdma_base.specs.Runs.{run_of};
+ghost use Rattle.busdma_machine.specs.Runs.{run_of};
 ghost use Rattle.segment_build.specs.Pieces as cut;
 ghost use Rattle.segment_build.specs.Segmentation as joins;
 ghost use Rattle.segment_build.specs.Trace as trace;

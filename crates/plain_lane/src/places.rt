@@ -1,9 +1,9 @@
 //! Which bytes a driver reaches.
 
 ghost use Rattle.std.specs.Prelude.{◌≡◌, ◌+◌, ◌*◌, ◌^◌, ◌<◌, ◌≤◌, IfOk, IfSome, map as map_list};
-ghost use Rattle.busdma_base.specs.Journals.Judging.{judged};
-ghost use Rattle.busdma_base.specs.Machine.PageRuns.{is_in_run, physical_in};
-ghost use Rattle.busdma_base.specs.Runs.{run_of};
+ghost use Rattle.busdma_machine.specs.Judging.{judged};
+ghost use Rattle.busdma_base.specs.Scenarios.PageRuns.{is_in_run, physical_in};
+ghost use Rattle.busdma_machine.specs.Runs.{run_of};
 ghost use Rattle.phys_memory.specs.Translation.{unreached};
 ghost use Rattle.ideal_lane.specs.Places as places;
 ghost use Rattle.plain_lane.specs.Ideal.{ideal};

@@ -1,8 +1,8 @@
 //! Operations on tags.
 
 ghost use Rattle.std.specs.Prelude.{◌≡◌, ◌&&◌, ◌≤◌, IfOk, IfSome, OnOk, option_copied, option_map};
-ghost use Rattle.busdma_base.specs.Tags.Tag.{could_bounce, effective, inherit};
-ghost use Rattle.busdma_base.specs.Tags.TagFlags.{allocnow};
+ghost use Rattle.busdma_machine.specs.Tags.Tag.{could_bounce, effective, inherit};
+ghost use Rattle.busdma_machine.specs.Tags.TagFlags.{allocnow};
 ghost use Rattle.ideal_lane.specs.Asking.{Gives, by_reply, call_of};
 ghost use Rattle.ideal_lane.specs.Tags as tags;
 ghost use Rattle.plain_lane.specs.Ideal.{given, ideal};

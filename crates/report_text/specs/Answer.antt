@@ -3,20 +3,20 @@ use Rattle.std.specs.Prelude.{ℕ, ◌/◌, ◌%◌, List, [], ◌∷◌, ◌++�
 use Rattle.std.specs.List.{flat_map}
 use Rattle.std.specs.Fmt.{decimal, digit_glyph}
 use Rattle.report_text.specs.Text.{hex}
-use Rattle.busdma_base.specs.declared.machine.address.Segment.{Segment}
+use Rattle.busdma_machine.specs.declared.machine.address.Segment.{Segment}
 use Rattle.busdma_base.specs.declared.journals.answer.Answer.{Answer}
 use Rattle.busdma_base.specs.declared.journals.answer.Answer.TheVariants as answer
-use Rattle.busdma_base.specs.declared.journals.report.Errno.{Errno}
-use Rattle.busdma_base.specs.declared.journals.report.Errno.TheVariants.{EINVAL, ENOMEM, EFBIG, EINPROGRESS, EBUSY}
-use Rattle.busdma_base.specs.declared.journals.report.Report.{Report}
-use Rattle.busdma_base.specs.declared.journals.report.ReportName.{ReportName}
-use Rattle.busdma_base.specs.declared.journals.report.ReportName.TheVariants.{Absent, Unmapped, MapBusy, NotLoaded}
-use Rattle.busdma_base.specs.declared.journals.report.ReportName.TheVariants.{PastEnd, DeviceReadUnlent}
-use Rattle.busdma_base.specs.declared.journals.report.ReportName.TheVariants.{DeviceWriteUnlent, CpuReadLent}
-use Rattle.busdma_base.specs.declared.journals.report.ReportName.TheVariants.{CpuWriteLent, StaleByte, SyncOrder}
-use Rattle.busdma_base.specs.declared.journals.report.ReportName.TheVariants.{MixedSync, Overlap, NotDeferred}
-use Rattle.busdma_base.specs.declared.journals.report.ReportName.TheVariants.{ForeignMemory}
-use Rattle.busdma_base.specs.declared.bounce.zone.Grown.{Grown}
+use Rattle.busdma_machine.specs.declared.report.Errno.{Errno}
+use Rattle.busdma_machine.specs.declared.report.Errno.TheVariants.{EINVAL, ENOMEM, EFBIG, EINPROGRESS, EBUSY}
+use Rattle.busdma_machine.specs.declared.report.Report.{Report}
+use Rattle.busdma_machine.specs.declared.report.ReportName.{ReportName}
+use Rattle.busdma_machine.specs.declared.report.ReportName.TheVariants.{Absent, Unmapped, MapBusy, NotLoaded}
+use Rattle.busdma_machine.specs.declared.report.ReportName.TheVariants.{PastEnd, DeviceReadUnlent}
+use Rattle.busdma_machine.specs.declared.report.ReportName.TheVariants.{DeviceWriteUnlent, CpuReadLent}
+use Rattle.busdma_machine.specs.declared.report.ReportName.TheVariants.{CpuWriteLent, StaleByte, SyncOrder}
+use Rattle.busdma_machine.specs.declared.report.ReportName.TheVariants.{MixedSync, Overlap, NotDeferred}
+use Rattle.busdma_machine.specs.declared.report.ReportName.TheVariants.{ForeignMemory}
+use Rattle.busdma_machine.specs.declared.bounce.zone.Grown.{Grown}
 
 -- the name of an error
 abbrev pub errno_name : Errno → List ℕ

@@ -4,8 +4,8 @@ use Rattle.std.specs.Option.{option_map, option_map_or}
 use Rattle.report_text.specs.Text.{hex}
 use Rattle.busdma_base.specs.declared.journals.journal.Did.{Did}
 use Rattle.busdma_base.specs.declared.journals.journal.Did.TheVariants as did
-use Rattle.busdma_base.specs.declared.name.LaneId.{LaneId}
-use Rattle.busdma_base.specs.declared.name.MapId.{MapId}
+use Rattle.busdma_machine.specs.declared.name.LaneId.{LaneId}
+use Rattle.busdma_machine.specs.declared.name.MapId.{MapId}
 use Rattle.busdma_base.specs.declared.scenarios.scenario.Scenario.{Scenario}
 use Rattle.busdma_base.specs.declared.scenarios.script.Item.{Item}
 use Rattle.busdma_base.specs.declared.scenarios.script.Op.{Op}

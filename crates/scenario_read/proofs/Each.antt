@@ -4,7 +4,7 @@ use Rattle.std.proofs.Common.{append-nil, append_assoc}
 use Rattle.std.proofs.Math.Seq.{drop-cons}
 use Rattle.serde_json.specs.View.{view}
 use Rattle.serde_json.specs.declared.value.Value.{Value}
-use Rattle.busdma_base.specs.Each.{EachAfter}
+use Rattle.busdma_machine.specs.Each.{EachAfter}
 
 pub EachAfter-append : {A : Type 0} (P : List A → A → Type 0) (before xs : List A) (x : A)
     → EachAfter P before xs → P (before ++ xs) x → EachAfter P before (xs ++ x ∷ [])

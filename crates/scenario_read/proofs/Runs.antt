@@ -3,8 +3,8 @@ use Rattle.std.proofs.Common.{◌≡◌, ℕ, zero, suc, ◌+◌, ◌≤◌, ◌
 use Rattle.std.proofs.lemmas.Bool.Decides.{nat_tests}
 use Rattle.std.specs.List.{list_any}
 use Rattle.busdma_base.specs.declared.scenarios.scenario.FrameRun.{FrameRun}
-use Rattle.busdma_base.specs.Machine.FrameRuns.{is_in}
-use Rattle.busdma_base.specs.Machine.PageRuns.{all_in}
+use Rattle.busdma_base.specs.Scenarios.FrameRuns.{is_in}
+use Rattle.busdma_base.specs.Scenarios.PageRuns.{all_in}
 
 within : (x : ℕ) (run : FrameRun) → run.first ≤ x → x < run.first + run.count → is_in x run ≡ true
 within x run low high = grind (arith, nat_tests)

@@ -1,10 +1,10 @@
 -- Bios, of three kinds: one run of virtual bytes, spans, or frames of the driver's pages.
 use Rattle.std.specs.Prelude.{ℕ, List, [], ◌∷◌, Option, Some, None, Ok, if◌then◌else◌, nat_lt, codes}
 use Rattle.std.specs.Str.{bytes_eq}
-use Rattle.busdma_base.specs.declared.machine.bio.Bio.{Bio}
-use Rattle.busdma_base.specs.declared.machine.bio.Bio.TheVariants as bio
+use Rattle.busdma_machine.specs.declared.machine.bio.Bio.{Bio}
+use Rattle.busdma_machine.specs.declared.machine.bio.Bio.TheVariants as bio
 use Rattle.busdma_base.specs.declared.scenarios.scenario.PageRun.{PageRun}
-use Rattle.busdma_base.specs.Machine.PageRuns.{has_frame}
+use Rattle.busdma_base.specs.Scenarios.PageRuns.{has_frame}
 use Rattle.json_fields.specs.Place.{Place, key}
 use Rattle.json_fields.specs.Read.{Read, ◌>>=◌, refuse}
 use Rattle.json_fields.specs.Field.{Spot, members_of, required, only_keys, one_of}

@@ -3,7 +3,7 @@ use Rattle.std.specs.Prelude.{ℕ, ◌+◌, List, [], ◌∷◌, Option, Some, N
 use Rattle.std.specs.Str.{bytes_eq}
 use Rattle.bitflags.specs.Sets.{find_name}
 use Rattle.serde_json.specs.Data.{Data}
-use Rattle.busdma_base.specs.Tags.TagFlags.{tag_table}
+use Rattle.busdma_machine.specs.Tags.TagFlags.{tag_table}
 use Rattle.dma_tag.specs.LoadFlags.{load_table}
 use Rattle.dma_tag.specs.MemFlags.{mem_table}
 use Rattle.dma_tag.specs.SyncOps.{sync_table}

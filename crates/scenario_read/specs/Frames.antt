@@ -3,7 +3,7 @@ use Rattle.std.specs.Prelude.{ℕ, ◌+◌, List, [], ◌∷◌, Ok, if◌then�
 use Rattle.std.specs.List.{list_any}
 use Rattle.serde_json.specs.Data.{Data}
 use Rattle.busdma_base.specs.declared.scenarios.scenario.FrameRun.{FrameRun}
-use Rattle.busdma_base.specs.Machine.FrameRuns.{frame_count, overlap}
+use Rattle.busdma_base.specs.Scenarios.FrameRuns.{frame_count, overlap}
 use Rattle.json_fields.specs.Place.{Place}
 use Rattle.json_fields.specs.Read.{Read, ◌>>=◌, refuse}
 use Rattle.json_fields.specs.Field.{Spot}

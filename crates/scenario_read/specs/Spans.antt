@@ -1,7 +1,7 @@
 -- The lists of loads: spans, of which a vector and an mbuf chain have some.
 use Rattle.std.specs.Prelude.{List, [], ◌∷◌, length, Ok, if◌then◌else◌, nat_lt, codes}
 use Rattle.serde_json.specs.Data.{Data}
-use Rattle.busdma_base.specs.declared.machine.address.Span.{Span}
+use Rattle.busdma_machine.specs.declared.machine.address.Span.{Span}
 use Rattle.busdma_base.specs.Scenarios.Limits.{entries_limit}
 use Rattle.json_fields.specs.Place.{Place}
 use Rattle.json_fields.specs.Read.{Read, ◌>>=◌, refuse}

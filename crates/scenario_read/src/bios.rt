@@ -4,7 +4,7 @@ ghost use Rattle.std.specs.Prelude.{◌≡◌, ◌≤◌, ◌<◌, List, [], tru
 ghost use Rattle.std.specs.List.{AllByRecursion};
 ghost use Rattle.serde_json.specs.View.{view};
 ghost use Rattle.busdma_base.specs.declared.scenarios.scenario.PageRun.{PageRun};
-ghost use Rattle.busdma_base.specs.Machine.PageRuns as base;
+ghost use Rattle.busdma_base.specs.Scenarios.PageRuns as base;
 ghost use Rattle.busdma_base.specs.Scenarios.Buffers.{IsBioOf, bio_entries};
 ghost use Rattle.busdma_base.specs.Scenarios.Limits.{entries_limit};
 ghost use Rattle.json_fields.specs.Field.{spot_of};

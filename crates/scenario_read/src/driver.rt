@@ -3,9 +3,9 @@
 ghost use Rattle.std.specs.Prelude.{◌≡◌, ◌≤◌, ◌<◌, [], codes, length, map, IfOk};
 ghost use Rattle.std.specs.List.{AllByRecursion};
 ghost use Rattle.serde_json.specs.View.{view};
-ghost use Rattle.busdma_base.specs.Each.{EachAfter};
-ghost use Rattle.busdma_base.specs.Machine.FrameRuns.{IsNumbered};
-ghost use Rattle.busdma_base.specs.Machine.PageRuns.{IsPageRun};
+ghost use Rattle.busdma_machine.specs.Each.{EachAfter};
+ghost use Rattle.busdma_base.specs.Scenarios.FrameRuns.{IsNumbered};
+ghost use Rattle.busdma_base.specs.Scenarios.PageRuns.{IsPageRun};
 ghost use Rattle.busdma_base.specs.Scenarios.Script.{IsScript, IsOp};
 ghost use Rattle.busdma_base.specs.Scenarios.Valid.{IsDriver, LoadsFrom, read_of, loaded_of};
 ghost use Rattle.json_fields.specs.Read.{Gives, GivesSeen};

@@ -3,7 +3,7 @@
 ghost use Rattle.std.specs.Prelude.{◌≡◌, map};
 ghost use Rattle.serde_json.specs.View.{view};
 ghost use Rattle.bitflags.specs.Sets.{find_name};
-ghost use Rattle.busdma_base.specs.Tags.TagFlags.{tag_table};
+ghost use Rattle.busdma_machine.specs.Tags.TagFlags.{tag_table};
 ghost use Rattle.dma_tag.specs.LoadFlags.{load_table};
 ghost use Rattle.dma_tag.specs.MemFlags.{mem_table};
 ghost use Rattle.dma_tag.specs.SyncOps.{sync_table};

@@ -3,8 +3,8 @@
 ghost use Rattle.std.specs.Prelude.{◌≡◌, ◌≤◌, ◌+◌, [], map, IfOk};
 ghost use Rattle.std.specs.List.{list_any, AllByRecursion};
 ghost use Rattle.serde_json.specs.View.{view};
-ghost use Rattle.busdma_base.specs.Each.{EachAfter};
-ghost use Rattle.busdma_base.specs.Machine.FrameRuns.{is_in, overlap, frame_count, IsNumbered, IsFrameRun};
+ghost use Rattle.busdma_machine.specs.Each.{EachAfter};
+ghost use Rattle.busdma_base.specs.Scenarios.FrameRuns.{is_in, overlap, frame_count, IsNumbered, IsFrameRun};
 ghost use Rattle.json_fields.specs.Place.{place_of};
 ghost use Rattle.json_fields.specs.Read.{Gives, GivesSeen};
 ghost use Rattle.json_fields.specs.Field.{spot_of};

@@ -3,10 +3,10 @@
 ghost use Rattle.std.specs.Prelude.{◌≡◌, ℕ, [], map, true, false, IfSome, IfNone, IfOk};
 ghost use Rattle.std.specs.List.{list_any, AllByRecursion};
 ghost use Rattle.serde_json.specs.View.{view};
-ghost use Rattle.busdma_base.specs.Each.{EachAfter};
-ghost use Rattle.busdma_base.specs.Machine.FrameRuns.{IsNumbered, is_in as lies_in};
-ghost use Rattle.busdma_base.specs.Machine.PageRuns as base;
-ghost use Rattle.busdma_base.specs.Runs as runs;
+ghost use Rattle.busdma_machine.specs.Each.{EachAfter};
+ghost use Rattle.busdma_base.specs.Scenarios.FrameRuns.{IsNumbered, is_in as lies_in};
+ghost use Rattle.busdma_base.specs.Scenarios.PageRuns as base;
+ghost use Rattle.busdma_machine.specs.Runs as runs;
 ghost use Rattle.json_fields.specs.Place.{place_of};
 ghost use Rattle.json_fields.specs.Read.{Gives, GivesSeen};
 ghost use Rattle.json_fields.specs.Field.{spot_of};

@@ -3,8 +3,8 @@
 ghost use Rattle.std.specs.Prelude.{◌≡◌, ◌≤◌, [], length, option_map, IfOk};
 ghost use Rattle.std.specs.List.{AllByRecursion};
 ghost use Rattle.serde_json.specs.View.{view};
-ghost use Rattle.busdma_base.specs.Each.{EachAfter};
-ghost use Rattle.busdma_base.specs.Machine.FrameRuns.{IsNumbered, IsFrameRun};
+ghost use Rattle.busdma_machine.specs.Each.{EachAfter};
+ghost use Rattle.busdma_base.specs.Scenarios.FrameRuns.{IsNumbered, IsFrameRun};
 ghost use Rattle.busdma_base.specs.Scenarios.Valid.{IsDriver, IsValid, read_of, loaded_of};
 ghost use Rattle.json_fields.specs.Read.{Gives};
 ghost use Rattle.json_fields.specs.Field.{spot_of};

@@ -3,7 +3,7 @@
 ghost use Rattle.std.specs.Prelude.{◌≡◌, ◌+◌, [], map, IfOk};
 ghost use Rattle.std.specs.List.{AllByRecursion};
 ghost use Rattle.serde_json.specs.View.{view};
-ghost use Rattle.busdma_base.specs.Each.{EachAfter};
+ghost use Rattle.busdma_machine.specs.Each.{EachAfter};
 ghost use Rattle.busdma_base.specs.Scenarios.Script.{IsOp};
 ghost use Rattle.busdma_base.specs.Scenarios.Valid.{LoadsFrom};
 ghost use Rattle.json_fields.specs.Read.{Gives, GivesSeen};

@@ -2,7 +2,7 @@
 
 ghost use Rattle.std.specs.Prelude.{◌≡◌, ◌≤◌, [], length, map, IfOk};
 ghost use Rattle.serde_json.specs.View.{view};
-ghost use Rattle.busdma_base.specs.Machine.Spans.{span_bytes as bytes_in};
+ghost use Rattle.busdma_machine.specs.Machine.Spans.{span_bytes as bytes_in};
 ghost use Rattle.busdma_base.specs.Scenarios.Limits.{entries_limit};
 ghost use Rattle.json_fields.specs.Field.{spot_of};
 ghost use Rattle.json_fields.specs.Items.{each};

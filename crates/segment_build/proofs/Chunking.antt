@@ -8,17 +8,17 @@ use Rattle.std.specs.List.{AllByRecursion}
 use Rattle.std.proofs.lemmas.Bool.Decides.{nat_tests}
 use Rattle.std.proofs.lemmas.List.{take_all, drop_all, drop_at}
 use Rattle.std.proofs.lemmas.List.Sums.{sum_by-cons}
-use Rattle.busdma_base.specs.declared.machine.address.Extent.{Extent}
-use Rattle.busdma_base.specs.declared.machine.chunk.Chunk.{Chunk}
-use Rattle.busdma_base.specs.declared.machine.chunk.Entry.{Entry}
-use Rattle.busdma_base.specs.declared.machine.chunk.Part.{Part}
-use Rattle.busdma_base.specs.declared.machine.chunk.Part.TheVariants.{Of, Unmapped}
-use Rattle.busdma_base.specs.declared.tags.tag.TagLimits.{TagLimits}
-use Rattle.busdma_base.specs.Runs.{IsExtent, run_of, addresses, byte_count}
-use Rattle.busdma_base.specs.Machine.Entry.{AreJoined, IsEntry, IsStream, entries_bytes, others_of, entries_of}
-use Rattle.busdma_base.specs.Machine.Entry.{extent_parts, parts_of}
-use Rattle.busdma_base.specs.Tags.Tag.{IsEffective, needs_bounce}
-use Rattle.busdma_base.specs.Tags.TagFlags.{keep_pg_offset}
+use Rattle.busdma_machine.specs.declared.machine.address.Extent.{Extent}
+use Rattle.busdma_machine.specs.declared.machine.chunk.Chunk.{Chunk}
+use Rattle.busdma_machine.specs.declared.machine.chunk.Entry.{Entry}
+use Rattle.busdma_machine.specs.declared.machine.chunk.Part.{Part}
+use Rattle.busdma_machine.specs.declared.machine.chunk.Part.TheVariants.{Of, Unmapped}
+use Rattle.busdma_machine.specs.declared.tags.tag.TagLimits.{TagLimits}
+use Rattle.busdma_machine.specs.Runs.{IsExtent, run_of, addresses, byte_count}
+use Rattle.busdma_machine.specs.Machine.Entry.{AreJoined, IsEntry, IsStream, entries_bytes, others_of, entries_of}
+use Rattle.busdma_machine.specs.Machine.Entry.{extent_parts, parts_of}
+use Rattle.busdma_machine.specs.Tags.Tag.{IsEffective, needs_bounce}
+use Rattle.busdma_machine.specs.Tags.TagFlags.{keep_pg_offset}
 use Rattle.segment_build.specs.declared.cutter.Cutter.{Cutter}
 use Rattle.segment_build.specs.Chunks.{rounded_up, to_frame_end, chunk_limit, first_extent, extent_from, chunk_of}
 use Rattle.segment_build.specs.Chunks.{chunks_within, chunks_of_bytes, chunks_from, chunks_of}

@@ -6,15 +6,15 @@ use Rattle.std.proofs.lemmas.List.{drop-drop}
 use Rattle.std.proofs.lemmas.List.Concat.{flat_map-append}
 use Rattle.std.proofs.lemmas.List.Elements.{filter-append}
 use Rattle.std.proofs.lemmas.List.Sums.{sum_by-cons, sum_by-append}
-use Rattle.busdma_base.specs.declared.machine.address.Pa.{Pa}
-use Rattle.busdma_base.specs.declared.machine.address.Extent.{Extent}
-use Rattle.busdma_base.specs.declared.machine.chunk.Chunk.{Chunk}
-use Rattle.busdma_base.specs.declared.machine.chunk.Entry.{Entry}
-use Rattle.busdma_base.specs.declared.tags.tag.TagLimits.{TagLimits}
-use Rattle.busdma_base.specs.Runs.{addresses, byte_count, run_of}
-use Rattle.busdma_base.specs.Machine.Entry.{entries_bytes, entry_addresses}
-use Rattle.busdma_base.specs.Tags.Tag.{IsEffective}
-use Rattle.busdma_base.specs.Tags.TagFlags.{keep_pg_offset}
+use Rattle.busdma_machine.specs.declared.machine.address.Pa.{Pa}
+use Rattle.busdma_machine.specs.declared.machine.address.Extent.{Extent}
+use Rattle.busdma_machine.specs.declared.machine.chunk.Chunk.{Chunk}
+use Rattle.busdma_machine.specs.declared.machine.chunk.Entry.{Entry}
+use Rattle.busdma_machine.specs.declared.tags.tag.TagLimits.{TagLimits}
+use Rattle.busdma_machine.specs.Runs.{addresses, byte_count, run_of}
+use Rattle.busdma_machine.specs.Machine.Entry.{entries_bytes, entry_addresses}
+use Rattle.busdma_machine.specs.Tags.Tag.{IsEffective}
+use Rattle.busdma_machine.specs.Tags.TagFlags.{keep_pg_offset}
 use Rattle.segment_build.specs.Building.{IsPlaceable, placed_pieces, tag_placed}
 use Rattle.segment_build.specs.Chunks.{bounced_of, chunk_limit, chunk_of, chunks_from, chunks_of, chunks_of_bytes}
 use Rattle.segment_build.specs.Chunks.{chunks_within, need_of}

@@ -9,14 +9,14 @@ use Rattle.std.proofs.lemmas.Bool.Decides.{nat_tests}
 use Rattle.std.proofs.lemmas.List.{drop_all, take-append-drop, take-append-le, take_all}
 use Rattle.std.proofs.lemmas.List.Concat.{flat_map-append}
 use Rattle.std.proofs.lemmas.List.Sums.{sum_by-cons, sum_by-append}
-use Rattle.busdma_base.specs.declared.machine.address.Extent.{Extent}
-use Rattle.busdma_base.specs.declared.machine.chunk.Chunk.{Chunk}
-use Rattle.busdma_base.specs.declared.machine.chunk.Entry.{Entry}
-use Rattle.busdma_base.specs.declared.tags.tag.TagLimits.{TagLimits}
-use Rattle.busdma_base.specs.Each.{EachAfter}
-use Rattle.busdma_base.specs.Machine.Entry.{AreJoined, IsEntry, entry_addresses}
-use Rattle.busdma_base.specs.Runs.{IsExtent, addresses, byte_count, run_of}
-use Rattle.busdma_base.specs.Tags.Tag.{IsEffective}
+use Rattle.busdma_machine.specs.declared.machine.address.Extent.{Extent}
+use Rattle.busdma_machine.specs.declared.machine.chunk.Chunk.{Chunk}
+use Rattle.busdma_machine.specs.declared.machine.chunk.Entry.{Entry}
+use Rattle.busdma_machine.specs.declared.tags.tag.TagLimits.{TagLimits}
+use Rattle.busdma_machine.specs.Each.{EachAfter}
+use Rattle.busdma_machine.specs.Machine.Entry.{AreJoined, IsEntry, entry_addresses}
+use Rattle.busdma_machine.specs.Runs.{IsExtent, addresses, byte_count, run_of}
+use Rattle.busdma_machine.specs.Tags.Tag.{IsEffective}
 use Rattle.segment_build.specs.Chunks.{chunk_limit, chunk_of, chunks_from, chunks_of, chunks_of_bytes, chunks_within}
 use Rattle.segment_build.specs.Cutting.{begun_chunk}
 use Rattle.segment_build.specs.Trace.{chunk_extents, chunk_len}

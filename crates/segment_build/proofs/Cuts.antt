@@ -3,8 +3,8 @@ use Rattle.std.proofs.Common.{◌≡◌, ℕ, ◌+◌, ◌≤◌, List, [], ◌�
 use Rattle.std.proofs.Common.{◌∙◌, append-nil, append_assoc, arith, subst, ◌<◌, drop, get_or}
 use Rattle.std.proofs.lemmas.List.{drop_all, drop_more}
 use Rattle.std.specs.List.{flat_map}
-use Rattle.busdma_base.specs.declared.machine.address.Segment.{Segment}
-use Rattle.busdma_base.specs.declared.tags.tag.TagLimits.{TagLimits}
+use Rattle.busdma_machine.specs.declared.machine.address.Segment.{Segment}
+use Rattle.busdma_machine.specs.declared.tags.tag.TagLimits.{TagLimits}
 use Rattle.segment_build.specs.Segmentation.{Run, segments_from, segmentation, joint, may_join, grown, segment_of}
 use Rattle.segment_build.specs.Segmentation.{run_pieces, EachJoins, AreRuns, IsSegmentation}
 use Rattle.segment_build.specs.Built.{IsFew, AreTooMany}

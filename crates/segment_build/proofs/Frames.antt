@@ -7,12 +7,12 @@ use Rattle.std.proofs.Math.Nat.{add-mul-mod_self_left, mul_assoc}
 use Rattle.std.proofs.lemmas.Bool.{cases_lt}
 use Rattle.std.proofs.lemmas.Bool.Decides.{nat_tests}
 use Rattle.std.proofs.lemmas.Nat.{pow-add, pow_pos, div-add-mod', mod_below}
-use Rattle.busdma_base.specs.declared.machine.address.Pa.{Pa}
-use Rattle.busdma_base.specs.declared.machine.chunk.Chunk.{Chunk}
-use Rattle.busdma_base.specs.declared.tags.tag.TagLimits.{TagLimits}
-use Rattle.busdma_base.specs.Runs.{run_of}
-use Rattle.busdma_base.specs.Tags.Tag.{IsEffective}
-use Rattle.busdma_base.specs.Tags.TagFlags.{keep_pg_offset}
+use Rattle.busdma_machine.specs.declared.machine.address.Pa.{Pa}
+use Rattle.busdma_machine.specs.declared.machine.chunk.Chunk.{Chunk}
+use Rattle.busdma_machine.specs.declared.tags.tag.TagLimits.{TagLimits}
+use Rattle.busdma_machine.specs.Runs.{run_of}
+use Rattle.busdma_machine.specs.Tags.Tag.{IsEffective}
+use Rattle.busdma_machine.specs.Tags.TagFlags.{keep_pg_offset}
 use Rattle.segment_build.specs.Building.{IsPlaceable, placed_pieces}
 use Rattle.segment_build.specs.Pieces.{chunk_pieces, piece_len, pieces_of}
 use Rattle.segment_build.specs.Trace.{IsPage, bus_addresses, chunk_len, first_page, in_page, page_offset, placed}

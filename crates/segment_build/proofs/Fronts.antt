@@ -1,11 +1,11 @@
 -- The chunks that a front of a stream closes.
 use Rattle.std.proofs.Common.{ℕ, ◌≤◌, List, [], ◌∷◌, ◌++◌, length, ap, arith}
 use Rattle.std.specs.Option.{option_to_list}
-use Rattle.busdma_base.specs.declared.machine.address.Pa.{Pa}
-use Rattle.busdma_base.specs.declared.machine.chunk.Part.{Part}
-use Rattle.busdma_base.specs.declared.tags.tag.TagLimits.{TagLimits}
-use Rattle.busdma_base.specs.Machine.Entry.{IsStream, entries_of}
-use Rattle.busdma_base.specs.Tags.Tag.{IsEffective}
+use Rattle.busdma_machine.specs.declared.machine.address.Pa.{Pa}
+use Rattle.busdma_machine.specs.declared.machine.chunk.Part.{Part}
+use Rattle.busdma_machine.specs.declared.tags.tag.TagLimits.{TagLimits}
+use Rattle.busdma_machine.specs.Machine.Entry.{IsStream, entries_of}
+use Rattle.busdma_machine.specs.Tags.Tag.{IsEffective}
 use Rattle.segment_build.specs.Building.{placed_pieces}
 use Rattle.segment_build.specs.Chunks.{chunks_of, need_of}
 use Rattle.segment_build.specs.Cutting.{after, closed, closed_part, uncut}

@@ -5,16 +5,16 @@ use Rattle.std.proofs.Common.{◌∙◌, subst, arith, mul_comm}
 use Rattle.std.specs.Prelude.{Option, Some, None, is_some}
 use Rattle.std.specs.List.{AllByRecursion, Contains, flat_map}
 use Rattle.std.proofs.Math.Nat.{mul_assoc}
-use Rattle.busdma_base.specs.declared.machine.address.Pa.{Pa}
-use Rattle.busdma_base.specs.declared.machine.address.Segment.{Segment}
-use Rattle.busdma_base.specs.declared.machine.chunk.Chunk.{Chunk}
-use Rattle.busdma_base.specs.declared.machine.chunk.Entry.{Entry}
-use Rattle.busdma_base.specs.declared.tags.tag.TagLimits.{TagLimits}
-use Rattle.busdma_base.specs.Each.{EachAfter}
-use Rattle.busdma_base.specs.Machine.Entry.{IsEntry, entry_addresses}
-use Rattle.busdma_base.specs.Runs.{byte_count, run_of}
-use Rattle.busdma_base.specs.Tags.Tag.{IsEffective, could_bounce, excluded, needs_bounce}
-use Rattle.busdma_base.specs.Tags.TagFlags.{keep_pg_offset}
+use Rattle.busdma_machine.specs.declared.machine.address.Pa.{Pa}
+use Rattle.busdma_machine.specs.declared.machine.address.Segment.{Segment}
+use Rattle.busdma_machine.specs.declared.machine.chunk.Chunk.{Chunk}
+use Rattle.busdma_machine.specs.declared.machine.chunk.Entry.{Entry}
+use Rattle.busdma_machine.specs.declared.tags.tag.TagLimits.{TagLimits}
+use Rattle.busdma_machine.specs.Each.{EachAfter}
+use Rattle.busdma_machine.specs.Machine.Entry.{IsEntry, entry_addresses}
+use Rattle.busdma_machine.specs.Runs.{byte_count, run_of}
+use Rattle.busdma_machine.specs.Tags.Tag.{IsEffective, could_bounce, excluded, needs_bounce}
+use Rattle.busdma_machine.specs.Tags.TagFlags.{keep_pg_offset}
 use Rattle.segment_build.specs.Building.{IsPlaceable, placed_pieces, tag_placed}
 use Rattle.segment_build.specs.Built.{IsFew}
 use Rattle.segment_build.specs.Chunks.{chunk_limit, chunk_of, chunks_from, chunks_of, chunks_of_bytes, chunks_within}

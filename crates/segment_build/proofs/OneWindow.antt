@@ -3,10 +3,10 @@ use Rattle.std.proofs.Common.{◌≡◌, ℕ, zero, suc, ◌+◌, ◌-◌, ◌*�
 use Rattle.std.proofs.Common.{true, false, eqb, leb, ◌&&◌, ◌||◌, refl, ap, sym, ◌∙◌, subst, arith, ◌≢◌}
 use Rattle.std.specs.List.{AllByRecursion, flat_map}
 use Rattle.std.proofs.lemmas.Nat.{div-add-mod', div-mul-add}
-use Rattle.busdma_base.specs.declared.machine.address.Segment.{Segment}
-use Rattle.busdma_base.specs.declared.machine.chunk.Chunk.{Chunk}
-use Rattle.busdma_base.specs.declared.tags.tag.TagLimits.{TagLimits}
-use Rattle.busdma_base.specs.Runs.{run_of}
+use Rattle.busdma_machine.specs.declared.machine.address.Segment.{Segment}
+use Rattle.busdma_machine.specs.declared.machine.chunk.Chunk.{Chunk}
+use Rattle.busdma_machine.specs.declared.tags.tag.TagLimits.{TagLimits}
+use Rattle.busdma_machine.specs.Runs.{run_of}
 use Rattle.segment_build.specs.Obeying.{LiesInWindow}
 use Rattle.segment_build.specs.Pieces.{chunk_pieces, piece_len, pieces_of}
 use Rattle.segment_build.specs.Segmentation.{AreRuns, EachJoins, IsSegmentation, Run, grown, joint, may_join}

@@ -8,15 +8,15 @@ use Rattle.std.proofs.Math.Nat.{add-mul}
 use Rattle.std.proofs.lemmas.Bool.{cases_lt}
 use Rattle.std.proofs.lemmas.Nat.{pow-add, pow_below, div_below, mul-le}
 use Rattle.std.proofs.lemmas.List.{drop_all}
-use Rattle.busdma_base.specs.declared.machine.address.Extent.{Extent}
-use Rattle.busdma_base.specs.declared.machine.address.Pa.{Pa}
-use Rattle.busdma_base.specs.declared.machine.chunk.Chunk.{Chunk}
-use Rattle.busdma_base.specs.declared.machine.chunk.Entry.{Entry}
-use Rattle.busdma_base.specs.declared.tags.tag.TagLimits.{TagLimits}
-use Rattle.busdma_base.specs.Runs.{IsExtent, run_of, addresses, byte_count}
-use Rattle.busdma_base.specs.Machine.Entry.{IsEntry, entry_addresses}
-use Rattle.busdma_base.specs.Tags.Tag.{IsEffective, needs_bounce}
-use Rattle.busdma_base.specs.Tags.TagFlags.{keep_pg_offset}
+use Rattle.busdma_machine.specs.declared.machine.address.Extent.{Extent}
+use Rattle.busdma_machine.specs.declared.machine.address.Pa.{Pa}
+use Rattle.busdma_machine.specs.declared.machine.chunk.Chunk.{Chunk}
+use Rattle.busdma_machine.specs.declared.machine.chunk.Entry.{Entry}
+use Rattle.busdma_machine.specs.declared.tags.tag.TagLimits.{TagLimits}
+use Rattle.busdma_machine.specs.Runs.{IsExtent, run_of, addresses, byte_count}
+use Rattle.busdma_machine.specs.Machine.Entry.{IsEntry, entry_addresses}
+use Rattle.busdma_machine.specs.Tags.Tag.{IsEffective, needs_bounce}
+use Rattle.busdma_machine.specs.Tags.TagFlags.{keep_pg_offset}
 use Rattle.segment_build.specs.Building.{IsPlaceable, tag_placed}
 use Rattle.segment_build.specs.Chunks.{rounded_up, to_frame_end, chunk_limit, first_extent, extent_from, chunk_of}
 use Rattle.segment_build.specs.Chunks.{chunks_within, chunks_of_bytes, chunks_from, chunks_of}

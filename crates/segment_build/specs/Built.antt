@@ -1,7 +1,7 @@
 -- What is made of pieces: the segments, where the tag allows so many.
 use Rattle.std.specs.Prelude.{◌<◌, ◌≤◌, List, length}
-use Rattle.busdma_base.specs.declared.machine.address.Segment.{Segment}
-use Rattle.busdma_base.specs.declared.tags.tag.TagLimits.{TagLimits}
+use Rattle.busdma_machine.specs.declared.machine.address.Segment.{Segment}
+use Rattle.busdma_machine.specs.declared.tags.tag.TagLimits.{TagLimits}
 use Rattle.segment_build.specs.declared.built.Built.{Built}
 use Rattle.segment_build.specs.declared.built.Built.TheVariants.{Segments, TooMany}
 use Rattle.segment_build.specs.Segmentation.{IsSegmentation}

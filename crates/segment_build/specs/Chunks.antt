@@ -3,14 +3,14 @@
 use Rattle.std.specs.Prelude.{ℕ, zero, suc, ◌+◌, ◌-◌, ◌*◌, ◌/◌, ◌%◌, Bool, ◌&&◌, not, if◌then◌else◌, List, [], ◌∷◌}
 use Rattle.std.specs.Prelude.{◌++◌, length, min, take, drop, Option, Some, None}
 use Rattle.std.specs.List.{filter}
-use Rattle.busdma_base.specs.declared.machine.address.Extent.{Extent}
-use Rattle.busdma_base.specs.declared.machine.chunk.Chunk.{Chunk}
-use Rattle.busdma_base.specs.declared.machine.chunk.Entry.{Entry}
-use Rattle.busdma_base.specs.declared.tags.tag.TagLimits.{TagLimits}
-use Rattle.busdma_base.specs.Runs.{byte_count}
-use Rattle.busdma_base.specs.Machine.Entry.{entry_addresses}
-use Rattle.busdma_base.specs.Tags.Tag.{needs_bounce}
-use Rattle.busdma_base.specs.Tags.TagFlags.{keep_pg_offset}
+use Rattle.busdma_machine.specs.declared.machine.address.Extent.{Extent}
+use Rattle.busdma_machine.specs.declared.machine.chunk.Chunk.{Chunk}
+use Rattle.busdma_machine.specs.declared.machine.chunk.Entry.{Entry}
+use Rattle.busdma_machine.specs.declared.tags.tag.TagLimits.{TagLimits}
+use Rattle.busdma_machine.specs.Runs.{byte_count}
+use Rattle.busdma_machine.specs.Machine.Entry.{entry_addresses}
+use Rattle.busdma_machine.specs.Tags.Tag.{needs_bounce}
+use Rattle.busdma_machine.specs.Tags.TagFlags.{keep_pg_offset}
 
 -- a number rounded up to a multiple of another
 abbrev pub rounded_up : ℕ → ℕ → ℕ

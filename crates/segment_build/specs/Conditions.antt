@@ -2,13 +2,13 @@
 use Rattle.std.specs.Prelude.{◌≡◌, ◌≤◌, ℕ, min, List, [], length, Option}
 use Rattle.std.specs.Iterator.{HoldsAlong}
 use Rattle.std.specs.List.{AllByRecursion}
-use Rattle.busdma_base.specs.declared.machine.address.Pa.{Pa}
-use Rattle.busdma_base.specs.declared.machine.address.Segment.{Segment}
-use Rattle.busdma_base.specs.declared.machine.chunk.Chunk.{Chunk}
-use Rattle.busdma_base.specs.declared.machine.chunk.Part.{Part}
-use Rattle.busdma_base.specs.declared.tags.tag.TagLimits.{TagLimits}
-use Rattle.busdma_base.specs.Machine.Entry.{IsStream}
-use Rattle.busdma_base.specs.Room.{Roomy}
+use Rattle.busdma_machine.specs.declared.machine.address.Pa.{Pa}
+use Rattle.busdma_machine.specs.declared.machine.address.Segment.{Segment}
+use Rattle.busdma_machine.specs.declared.machine.chunk.Chunk.{Chunk}
+use Rattle.busdma_machine.specs.declared.machine.chunk.Part.{Part}
+use Rattle.busdma_machine.specs.declared.tags.tag.TagLimits.{TagLimits}
+use Rattle.busdma_machine.specs.Machine.Entry.{IsStream}
+use Rattle.busdma_machine.specs.Room.{Roomy}
 use Rattle.segment_build.specs.Building.{placed_pieces}
 use Rattle.segment_build.specs.Chunks.{need_of}
 use Rattle.segment_build.specs.Streams.{stream_chunks}

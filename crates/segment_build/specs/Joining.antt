@@ -1,8 +1,8 @@
 -- What the private steps of the code do; no public clause cites them.
 -- How pieces join to segments one after the other.
 use Rattle.std.specs.Prelude.{if◌then◌else◌, List, [], ◌∷◌, Option, Some, None}
-use Rattle.busdma_base.specs.declared.machine.address.Segment.{Segment}
-use Rattle.busdma_base.specs.declared.tags.tag.TagLimits.{TagLimits}
+use Rattle.busdma_machine.specs.declared.machine.address.Segment.{Segment}
+use Rattle.busdma_machine.specs.declared.tags.tag.TagLimits.{TagLimits}
 use Rattle.segment_build.specs.Segmentation.{joint, may_join}
 
 -- segments with a piece more behind them

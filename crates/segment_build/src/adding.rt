@@ -11,7 +11,7 @@ use crate::built::bus_run;
 use crate::chunk::in_page;
 use crate::cutter::keeps_offset;
 use crate::pieces::add_run;
-use busdma_base::{Chunk, ChunkRoom, Pa, SegmentRoom, TagLimits};
+use busdma_machine::{Chunk, ChunkRoom, Pa, SegmentRoom, TagLimits};
 use std::alloc::AllocError;
 
 /// Puts a chunk into its page, the next of `pages` where it is bounced, adds its pieces behind the

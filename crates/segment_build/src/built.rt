@@ -2,14 +2,14 @@
 
 ghost use Rattle.std.specs.Prelude.{◌≡◌, ◌+◌, ◌^◌, ◌<◌, ◌≤◌, ◌++◌, length, IfOk, OnOk};
 ghost use Rattle.std.specs.List.{AllByRecursion};
-ghost use Rattle.busdma_base.specs.Runs.{run_of};
+ghost use Rattle.busdma_machine.specs.Runs.{run_of};
 ghost use Rattle.segment_build.specs.Built.{IsBuilt};
 ghost use Rattle.segment_build.specs.Pieces.{chunk_pieces, pieces_of};
 ghost use Rattle.segment_build.specs.Trace.{IsPlaced, bus_addresses, chunk_len};
 
 use crate::joining::add_piece;
 use crate::pieces::piece_len;
-use busdma_base::{Chunk, Pa, Segment, SegmentList, SegmentRoom, TagLimits};
+use busdma_machine::{Chunk, Pa, Segment, SegmentList, SegmentRoom, TagLimits};
 use dma_tag::Tag;
 use std::alloc::{AllocError, Global};
 

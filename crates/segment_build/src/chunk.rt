@@ -2,15 +2,15 @@
 
 ghost use Rattle.std.specs.Prelude.{◌≡◌, ◌+◌, ◌^◌, ◌<◌, ◌≤◌, ◌++◌, length, IfOk, OnOk};
 ghost use Rattle.std.specs.List.{AllByRecursion};
-ghost use Rattle.busdma_base.specs.Machine.Entry.{IsEntry, entries_bytes, entry_parts};
-ghost use Rattle.busdma_base.specs.Runs.{byte_count};
+ghost use Rattle.busdma_machine.specs.Machine.Entry.{IsEntry, entries_bytes, entry_parts};
+ghost use Rattle.busdma_machine.specs.Runs.{byte_count};
 ghost use Rattle.segment_build.specs.Chunks.{chunks_of, need_of};
 ghost use Rattle.segment_build.specs.Cutting.{after, closed};
 ghost use Rattle.segment_build.specs.Trace.{IsPage, in_page, placed};
 
 use crate::cutter::Cutter;
 use crate::laws::tag_is_effective;
-use busdma_base::{Chunk, ChunkList, Entry, Pa, Part};
+use busdma_machine::{Chunk, ChunkList, Entry, Pa, Part};
 use dma_tag::Tag;
 use std::alloc::{AllocError, Global};
 

@@ -1,15 +1,15 @@
 //! How extents are cut into chunks one after the other.
 
 ghost use Rattle.std.specs.Prelude.{◌≡◌, ℕ, ◌+◌, ◌-◌, ◌%◌, ◌^◌, ◌<◌, ◌≤◌};
-ghost use Rattle.busdma_base.specs.Machine.Entry.{IsPart, part_bytes};
-ghost use Rattle.busdma_base.specs.Runs.{IsExtent};
-ghost use Rattle.busdma_base.specs.Tags.Tag.{needs_bounce};
-ghost use Rattle.busdma_base.specs.Tags.TagFlags.{keep_pg_offset};
+ghost use Rattle.busdma_machine.specs.Machine.Entry.{IsPart, part_bytes};
+ghost use Rattle.busdma_machine.specs.Runs.{IsExtent};
+ghost use Rattle.busdma_machine.specs.Tags.Tag.{needs_bounce};
+ghost use Rattle.busdma_machine.specs.Tags.TagFlags.{keep_pg_offset};
 ghost use Rattle.segment_build.specs.Chunks.{chunk_limit};
 ghost use Rattle.segment_build.specs.Cutting.{after_part, closed_part, cut_by, closed_by, uncut, with_rest};
 
 use bitflags::Flags;
-use busdma_base::{Chunk, Extent, Pa, Part, TagLimits};
+use busdma_machine::{Chunk, Extent, Pa, Part, TagLimits};
 use dma_tag::{Tag, TagFlags};
 
 /// The bytes of a frame.

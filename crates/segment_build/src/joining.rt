@@ -4,7 +4,7 @@ ghost use Rattle.std.specs.Prelude.{◌≡◌, ◌+◌, ◌^◌, ◌<◌, ◌≤
 ghost use Rattle.segment_build.specs.Segmentation.{joint, may_join};
 ghost use Rattle.segment_build.specs.Joining.{added, joined};
 
-use busdma_base::{Segment, SegmentRoom, TagLimits};
+use busdma_machine::{Segment, SegmentRoom, TagLimits};
 use std::alloc::AllocError;
 
 /// Adds a piece behind segments, and answers whether they are few enough with it.

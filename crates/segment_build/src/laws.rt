@@ -2,10 +2,10 @@
 
 ghost use Rattle.std.specs.Prelude.{◌≡◌, ◌*◌, ◌<◌, [], length};
 ghost use Rattle.std.specs.List.{AllByRecursion, flat_map, sum_by};
-ghost use Rattle.busdma_base.specs.Each.{EachAfter};
-ghost use Rattle.busdma_base.specs.Machine.Entry.{IsEntry, entry_addresses};
-ghost use Rattle.busdma_base.specs.Runs.{addresses};
-ghost use Rattle.busdma_base.specs.Tags.Tag.{IsEffective};
+ghost use Rattle.busdma_machine.specs.Each.{EachAfter};
+ghost use Rattle.busdma_machine.specs.Machine.Entry.{IsEntry, entry_addresses};
+ghost use Rattle.busdma_machine.specs.Runs.{addresses};
+ghost use Rattle.busdma_machine.specs.Tags.Tag.{IsEffective};
 ghost use Rattle.segment_build.specs.Building.{IsPlaceable, placed_pieces, tag_placed};
 ghost use Rattle.segment_build.specs.Built.{IsFew};
 ghost use Rattle.segment_build.specs.Chunks.{chunks_of};
@@ -15,7 +15,7 @@ ghost use Rattle.segment_build.specs.Segmentation.{IsOnlySegmentation, segment_b
 ghost use Rattle.segment_build.specs.Streams.{FrontsAskNoMore};
 ghost use Rattle.segment_build.specs.Trace.{IsPage, IsPlaced, RisesByOne, bus_trace, chunk_extents, chunk_len, trace};
 
-use busdma_base::{Chunk, Entry, Pa, Segment};
+use busdma_machine::{Chunk, Entry, Pa, Segment};
 use dma_tag::Tag;
 
 /// Every tag's limits are effective. A proof knows it of a tag only once they were read, and so

@@ -3,8 +3,8 @@
 ghost use Rattle.std.specs.Prelude.{◌≡◌, ◌+◌, ◌≤◌, ◌-◌, ◌<◌, ◌^◌, [], ◌∷◌, ◌++◌, length, List, IfSome};
 ghost use Rattle.std.specs.Iterator.{Drains, HoldsAlong, IsFinite};
 ghost use Rattle.std.specs.Option.{option_to_list, option_or};
-ghost use Rattle.busdma_base.specs.declared.machine.chunk.Part.{Part};
-ghost use Rattle.busdma_base.specs.Machine.Entry.{IsStream, unmapped_of};
+ghost use Rattle.busdma_machine.specs.declared.machine.chunk.Part.{Part};
+ghost use Rattle.busdma_machine.specs.Machine.Entry.{IsStream, unmapped_of};
 ghost use Rattle.segment_build.specs.Building.{IsPlaceable, placed_pieces};
 ghost use Rattle.segment_build.specs.Chunks.{need_of};
 ghost use Rattle.segment_build.specs.Streams.{IsMeasured};
@@ -13,7 +13,7 @@ use crate::built::bus_run;
 use crate::chunk::in_page;
 use crate::cutter::{Cutter, keeps_offset};
 use crate::pieces::piece_count;
-use busdma_base::{Chunk, Pa, Part, TagLimits};
+use busdma_machine::{Chunk, Pa, Part, TagLimits};
 use dma_tag::Tag;
 
 /// What a stream comes to.

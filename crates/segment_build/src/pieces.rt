@@ -1,12 +1,12 @@
 //! The pieces of the bus bytes of a chunk.
 
 ghost use Rattle.std.specs.Prelude.{◌≡◌, ◌+◌, ◌^◌, ◌<◌, ◌≤◌, length, min, true, false, Ok, IsOk};
-ghost use Rattle.busdma_base.specs.Runs.{run_of};
+ghost use Rattle.busdma_machine.specs.Runs.{run_of};
 ghost use Rattle.segment_build.specs.Pieces.{piece_len, pieces_of};
 ghost use Rattle.segment_build.specs.Joining.{added_all};
 
 use crate::joining::add_piece;
-use busdma_base::{Pa, Segment, SegmentRoom, TagLimits};
+use busdma_machine::{Pa, Segment, SegmentRoom, TagLimits};
 use std::alloc::AllocError;
 
 /// Adds the pieces of the bus bytes of a chunk behind segments, and answers whether they are few

@@ -5,9 +5,9 @@ ghost use Rattle.std.specs.Prelude.{IsOk};
 ghost use Rattle.std.specs.Iterator.{Drains, HoldsAlong, IsFinite};
 ghost use Rattle.std.specs.List.{AllByRecursion};
 ghost use Rattle.std.specs.Option.{option_to_list};
-ghost use Rattle.busdma_base.specs.declared.machine.chunk.Chunk.{Chunk};
-ghost use Rattle.busdma_base.specs.declared.machine.chunk.Part.{Part};
-ghost use Rattle.busdma_base.specs.Machine.Entry.{IsStream};
+ghost use Rattle.busdma_machine.specs.declared.machine.chunk.Chunk.{Chunk};
+ghost use Rattle.busdma_machine.specs.declared.machine.chunk.Part.{Part};
+ghost use Rattle.busdma_machine.specs.Machine.Entry.{IsStream};
 ghost use Rattle.segment_build.specs.Building.{IsSoFar, IsPlaceable, placed_pieces};
 ghost use Rattle.segment_build.specs.Chunks.{need_of};
 ghost use Rattle.segment_build.specs.Conditions.{CanBuild};
@@ -16,7 +16,7 @@ ghost use Rattle.segment_build.specs.Trace.{IsPage};
 
 use crate::adding::add_chunk;
 use crate::cutter::Cutter;
-use busdma_base::{Chunk, ChunkList, ChunkRoom, Pa, Part, SegmentList, SegmentRoom, TagLimits};
+use busdma_machine::{Chunk, ChunkList, ChunkRoom, Pa, Part, SegmentList, SegmentRoom, TagLimits};
 use dma_tag::Tag;
 use std::alloc::{AllocError, Global};
 

@@ -3,9 +3,9 @@ use Rattle.std.proofs.Common.{◌≡◌, ℕ, ◌+◌, ◌*◌, ◌≤◌, true,
 use Rattle.std.proofs.Common.{[], ◌++◌, sum_by, map, refl, arith}
 use Rattle.std.specs.List.{AllByRecursion}
 use Rattle.busdma_base.specs.declared.scenarios.scenario.Driver.{Driver}
-use Rattle.busdma_base.specs.Each.{EachAfter}
-use Rattle.busdma_base.specs.Machine.PageRuns.{IsPageRun, all_in, is_taken}
-use Rattle.busdma_base.specs.Runs.{run_of}
+use Rattle.busdma_machine.specs.Each.{EachAfter}
+use Rattle.busdma_base.specs.Scenarios.PageRuns.{IsPageRun, all_in, is_taken}
+use Rattle.busdma_machine.specs.Runs.{run_of}
 use Rattle.busdma_base.specs.Scenarios.Operations.{loaded_by, read_by}
 use Rattle.busdma_base.specs.Scenarios.Script.{IsScript, steps_of}
 use Rattle.busdma_base.specs.Scenarios.Valid.{IsDriver, IsValid, loaded_of, read_of}

@@ -1,7 +1,7 @@
 -- The summary of a storm's journal.
 use Rattle.std.specs.Prelude.{ℕ, List, ◌++◌, codes, length, sum_by}
 use Rattle.std.specs.Fmt.{decimal}
-use Rattle.busdma_base.specs.declared.bounce.zone.ZoneCounts.{ZoneCounts}
+use Rattle.busdma_machine.specs.declared.bounce.zone.ZoneCounts.{ZoneCounts}
 use Rattle.busdma_base.specs.declared.journals.journal.Journal.{Journal}
 use Rattle.report_text.specs.Report.{end_word, report_count}
 

@@ -1,8 +1,8 @@
 -- The serving of a list whose head is completed.
 use Rattle.std.proofs.Common.{◌≡◌, ℕ, ◌+◌, ◌-◌, ◌≤◌, List, [], ◌∷◌, ap, ◌∙◌, sym, arith, cond}
 use Rattle.std.proofs.lemmas.Bool.{le-leb}
-use Rattle.busdma_base.specs.declared.bounce.zone.Waiter.{Waiter}
-use Rattle.busdma_base.specs.Bounce.Serving.{completed, left_waiting}
+use Rattle.busdma_machine.specs.declared.bounce.zone.Waiter.{Waiter}
+use Rattle.busdma_machine.specs.Bounce.Serving.{completed, left_waiting}
 
 -- the head with all that it needs
 abbrev pub complete : Waiter → Waiter

@@ -1,6 +1,6 @@
 -- What contracts see of the callback list.
 use Rattle.std.specs.Prelude.{ℕ, Bool, false, ◌==◌, List, [], ◌∷◌}
-use Rattle.busdma_base.specs.declared.bounce.zone.Waiter.{Waiter}
+use Rattle.busdma_machine.specs.declared.bounce.zone.Waiter.{Waiter}
 
 -- the maps in order, and how many more there is room for
 pub record Ready : Type 0 where

@@ -1,6 +1,6 @@
 //! A deferred load.
 
-use busdma_base::{Pa, PageList, Waiter};
+use busdma_machine::{Pa, PageList, Waiter};
 
 /// A load that was deferred, and the empty lists that its callback hands out: of pages, and of
 /// their physical addresses, each with room for all the pages that the load needs.

@@ -5,7 +5,7 @@ ghost use Rattle.wait_list.specs.Ready.{is_of};
 ghost use Rattle.wait_list.specs.Reserved.{IsReserved};
 
 use crate::deferred::Deferred;
-use busdma_base::{LaneId, Waiter};
+use busdma_machine::{LaneId, Waiter};
 use std::alloc::{AllocError, Global};
 use std::collections::VecDeque;
 use std::marker::Model;

@@ -1,7 +1,7 @@
 //! Three maps wait and are served; expected values are worked out by hand.
 
 use crate::{ReadyList, Served, WaitList};
-use busdma_base::{LaneId, MapId, Waiter, ZoneId};
+use busdma_machine::{LaneId, MapId, Waiter, ZoneId};
 use std::test::Fail;
 
 fn map(lane: u32, made_at: u32) -> MapId {

@@ -1,11 +1,11 @@
 //! The waiting list of a zone.
 
 ghost use Rattle.std.specs.Prelude.{◌≡◌, ◌+◌, ◌-◌, ◌<◌, ◌≤◌, [], ◌∷◌, ◌++◌, length, sum_by, slice_get, OnOk, OnErr};
-ghost use Rattle.busdma_base.specs.Bounce.Serving.{completed, left_waiting};
+ghost use Rattle.busdma_machine.specs.Bounce.Serving.{completed, left_waiting};
 
 use crate::deferred::Deferred;
 use crate::ready::ReadyList;
-use busdma_base::{MapId, PageList, Waiter, ZoneId};
+use busdma_machine::{MapId, PageList, Waiter, ZoneId};
 use std::alloc::{AllocError, Global};
 use std::collections::VecDeque;
 use std::marker::Model;
@@ -26,7 +26,7 @@ pub struct WaitList {
 
 impl Model for WaitList {
     ghost use Rattle.std.specs.Prelude.{List, map, All};
-    ghost use Rattle.busdma_base.specs.declared.bounce.zone.Waiter.{Waiter};
+    ghost use Rattle.busdma_machine.specs.declared.bounce.zone.Waiter.{Waiter};
     ghost use Rattle.wait_list.specs.Reserved.{IsWaiting};
 
     ghost Value = { List Waiter };

@@ -7,9 +7,9 @@ use Rattle.std.proofs.Math.Seq.{take-suc}
 use Rattle.std.proofs.Props.{props}
 use Rattle.std.proofs.lemmas.List.Sums.{sum_by-cons, sum_by-append}
 use mathlib.Core.Logic.{∥∥₁_elim}
-use Rattle.busdma_base.specs.declared.bounce.zone.ZoneCounts.{ZoneCounts}
+use Rattle.busdma_machine.specs.declared.bounce.zone.ZoneCounts.{ZoneCounts}
 use Rattle.busdma_base.specs.declared.scenarios.scenario.Scenario.{Scenario}
-use Rattle.busdma_base.specs.Bounce.Account.{Zone, counts}
+use Rattle.busdma_machine.specs.Bounce.Account.{Zone, counts}
 use Rattle.bounce_hub.specs.Seen.{HubSeen}
 use Rattle.lane_core.specs.declared.lane.Lane.{Lane}
 use Rattle.lane_core.specs.LaneIdeal.{ideal}

@@ -8,11 +8,11 @@ use Rattle.std.proofs.lemmas.List.Sums.{sum_by-cons}
 use Rattle.busdma_base.specs.declared.scenarios.scenario.Driver.{Driver}
 use Rattle.busdma_base.specs.declared.scenarios.scenario.PageRun.{PageRun}
 use Rattle.busdma_base.specs.declared.scenarios.scenario.Scenario.{Scenario}
-use Rattle.busdma_base.specs.Bounce.Opening.{maxmem_of, opening}
-use Rattle.busdma_base.specs.Bounce.Account.{fresh_account}
-use Rattle.busdma_base.specs.Bounce.History.{account_of}
-use Rattle.busdma_base.specs.Each.{EachAfter}
-use Rattle.busdma_base.specs.Machine.PageRuns.{IsPageRun}
+use Rattle.busdma_base.specs.Scenarios.Opening.{maxmem_of, opening}
+use Rattle.busdma_machine.specs.Bounce.Account.{fresh_account}
+use Rattle.busdma_machine.specs.Bounce.History.{account_of}
+use Rattle.busdma_machine.specs.Each.{EachAfter}
+use Rattle.busdma_base.specs.Scenarios.PageRuns.{IsPageRun}
 use Rattle.busdma_base.specs.Scenarios.Limits.{loaded_limit}
 use Rattle.busdma_base.specs.Scenarios.Operations.{loaded_by}
 use Rattle.busdma_base.specs.Scenarios.Script.{IsScript}

@@ -9,10 +9,10 @@ use mathlib.Core.Logic.{∥∥₁_map}
 use Rattle.busdma_base.specs.declared.journals.journal.Actor.{Actor}
 use Rattle.busdma_base.specs.declared.journals.journal.JournalEntry.{JournalEntry}
 use Rattle.busdma_base.specs.declared.scenarios.scenario.Scenario.{Scenario}
-use Rattle.busdma_base.specs.Bounce.Door.{account}
-use Rattle.busdma_base.specs.Bounce.EachFrame.{LiesBelowMaxmem}
-use Rattle.busdma_base.specs.Bounce.History.{IsOpening, IsSound}
-use Rattle.busdma_base.proofs.Accounts.EachFrame.{below-opening}
+use Rattle.busdma_machine.specs.Bounce.Door.{account}
+use Rattle.busdma_machine.specs.Bounce.EachFrame.{LiesBelowMaxmem}
+use Rattle.busdma_machine.specs.Bounce.History.{IsOpening, IsSound}
+use Rattle.busdma_machine.proofs.Accounts.EachFrame.{below-opening}
 use Rattle.bounce_hub.specs.Seen.{HubSeen, door}
 use Rattle.lane_core.specs.declared.lane.Lane.{Lane}
 use Rattle.lane_core.specs.LaneIdeal.{ideal}

@@ -5,14 +5,14 @@ use Rattle.std.proofs.Common.{ap, ◌∙◌, if◌then◌else◌, arith, length-
 use Rattle.std.proofs.lemmas.Bool.{false≢true}
 use Rattle.std.proofs.lemmas.List.{append-nil}
 use Rattle.std.proofs.lemmas.List.Elements.{All-head}
-use Rattle.busdma_base.specs.declared.bounce.hold.HoldEntry.{HoldEntry}
-use Rattle.busdma_base.specs.declared.bounce.hold.HubCall.TheVariants.{TakeCallback}
-use Rattle.busdma_base.specs.declared.bounce.hold.HubReply.TheVariants.{Nothing}
-use Rattle.busdma_base.specs.Bounce.Account.{Account}
-use Rattle.busdma_base.specs.Bounce.AccountStep.{Outcome, account_step}
-use Rattle.busdma_base.specs.Bounce.Door.{Seen, Passes, account}
-use Rattle.busdma_base.specs.Bounce.History.{account_of, is_kept}
-use Rattle.busdma_base.proofs.Accounts.LaneEntries.{account_of-append}
+use Rattle.busdma_machine.specs.declared.bounce.hold.HoldEntry.{HoldEntry}
+use Rattle.busdma_machine.specs.declared.bounce.hold.HubCall.TheVariants.{TakeCallback}
+use Rattle.busdma_machine.specs.declared.bounce.hold.HubReply.TheVariants.{Nothing}
+use Rattle.busdma_machine.specs.Bounce.Account.{Account}
+use Rattle.busdma_machine.specs.Bounce.AccountStep.{Outcome, account_step}
+use Rattle.busdma_machine.specs.Bounce.Door.{Seen, Passes, account}
+use Rattle.busdma_machine.specs.Bounce.History.{account_of, is_kept}
+use Rattle.busdma_machine.proofs.Accounts.LaneEntries.{account_of-append}
 use Rattle.bounce_hub.specs.Seen.{HubSeen, door}
 use Rattle.ideal_lane.specs.Asking.{Asking, Gives, Asks}
 use Rattle.ideal_lane.specs.State.{LaneState}

@@ -1,6 +1,6 @@
 -- The ideal state of a world of the program, and of its run.
 use Rattle.std.specs.Prelude.{List}
-use Rattle.busdma_base.specs.declared.bounce.hold.HoldEntry.{HoldEntry}
+use Rattle.busdma_machine.specs.declared.bounce.hold.HoldEntry.{HoldEntry}
 use Rattle.ideal_world.specs.Legal.{Run}
 use Rattle.ideal_world.specs.World.{WorldState}
 use Rattle.world_core.specs.declared.run.Progress.{Progress}

@@ -1,8 +1,8 @@
 -- What is kept of the drivers of a scenario and of the hub that they share.
 use Rattle.std.specs.Prelude.{◌≡◌, List, map}
 use Rattle.busdma_base.specs.declared.scenarios.scenario.Scenario.{Scenario}
-use Rattle.busdma_base.specs.Bounce.History.{account_of}
-use Rattle.busdma_base.specs.Bounce.Opening.{opening}
+use Rattle.busdma_machine.specs.Bounce.History.{account_of}
+use Rattle.busdma_base.specs.Scenarios.Opening.{opening}
 use Rattle.bounce_hub.specs.Seen.{HubSeen}
 use Rattle.lane_core.specs.declared.lane.Lane.{Lane}
 use Rattle.lane_core.specs.LaneIdeal.{ideal}

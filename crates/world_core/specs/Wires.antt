@@ -1,6 +1,6 @@
 -- The bytes that the drivers of a world of the program really hold.
 use Rattle.std.specs.Prelude.{Option, Some, None, slice_get}
-use Rattle.busdma_base.specs.Machine.Wire.{Wire}
+use Rattle.busdma_machine.specs.Machine.Wire.{Wire}
 use Rattle.lane_core.specs.declared.lane.Lane.{Lane}
 use Rattle.lane_core.specs.LaneIdeal.{wire}
 use Rattle.ideal_wire.specs.WireStep.{Follows}

@@ -1,7 +1,7 @@
 //! The world in which a scenario opens.
 
 ghost use Rattle.std.specs.Prelude.{◌≡◌, [], map, IfOk};
-ghost use Rattle.busdma_base.specs.Bounce.Opening.{maxmem_of, opening};
+ghost use Rattle.busdma_base.specs.Scenarios.Opening.{maxmem_of, opening};
 ghost use Rattle.busdma_base.specs.Scenarios.Valid.{IsValid};
 ghost use Rattle.lane_core.specs.LaneIdeal.{ideal};
 ghost use Rattle.ideal_world.specs.World as world;

@@ -2,7 +2,7 @@
 
 ghost use Rattle.std.specs.Prelude.{◌≡◌, ◌+◌, IfOk, OnErr, OnOk, None, true, if◌then◌else◌, length};
 ghost use Rattle.busdma_base.specs.declared.journals.journal.Side.TheVariants as side;
-ghost use Rattle.busdma_base.specs.Bounce.History.{IsOpening, IsSound};
+ghost use Rattle.busdma_machine.specs.Bounce.History.{IsOpening, IsSound};
 ghost use Rattle.lane_core.specs.Turning.{answered, is_held};
 ghost use Rattle.ideal_world.specs.Wires.{WiresFollow};
 ghost use Rattle.ideal_world.specs.World.{step, step_entry};

@@ -1,13 +1,13 @@
 //! Calls that may want memory.
 
 ghost use Rattle.std.specs.Prelude.{IfOk};
-ghost use Rattle.busdma_base.specs.declared.bounce.hold.HubCall.TheVariants.{AttachTag, CreateMap, Grab, MemAlloc};
-ghost use Rattle.busdma_base.specs.declared.bounce.hold.HubReply.TheVariants.{Grown as GrownBy};
-ghost use Rattle.busdma_base.specs.Bounce.Door.{Allows, Holds, grab_reply, memory_reply};
+ghost use Rattle.busdma_machine.specs.declared.bounce.hold.HubCall.TheVariants.{AttachTag, CreateMap, Grab, MemAlloc};
+ghost use Rattle.busdma_machine.specs.declared.bounce.hold.HubReply.TheVariants.{Grown as GrownBy};
+ghost use Rattle.busdma_machine.specs.Bounce.Door.{Allows, Holds, grab_reply, memory_reply};
 ghost use Rattle.bounce_hub.specs.Seen.{door};
 
 use bounce_hub::Hub;
-use busdma_base::{Grabbed, Grown, HubDoor, LaneId, MapId, PageList, TagLimits, ZoneId, ZoneList};
+use busdma_machine::{Grabbed, Grown, HubDoor, LaneId, MapId, PageList, TagLimits, ZoneId, ZoneList};
 use std::alloc::{AllocError, Global};
 use std::process::Abort;
 

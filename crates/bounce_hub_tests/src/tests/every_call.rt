@@ -3,7 +3,7 @@
 use crate::tests::pair::Pair;
 use crate::tests::small_table::{FRAMES, LOW};
 use crate::tests::{create, destroy, grab, map_of, release};
-use busdma_base::{HubCall, LaneId, TagLimits};
+use busdma_machine::{HubCall, LaneId, TagLimits};
 use std::alloc::{AllocError, Global};
 use std::process::Abort;
 use std::test::Fail;

@@ -1,9 +1,9 @@
 //! The pages that a hub gave out.
 
 ghost use Rattle.std.specs.Prelude.{◌≡◌, IfOk, IfSome};
-ghost use Rattle.busdma_base.specs.Machine.PageList.{page_address, page_addresses};
+ghost use Rattle.busdma_machine.specs.Machine.PageList.{page_address, page_addresses};
 
-use busdma_base::{Called, Grabbed, HubReply, ListOf, MapId, Pa, PaList, Page, PageList};
+use busdma_machine::{Called, Grabbed, HubReply, ListOf, MapId, Pa, PaList, Page, PageList};
 use std::alloc::{AllocError, Global};
 
 /// A page that a map holds.

@@ -1,7 +1,7 @@
 //! A hub and a plain account, which are asked the same.
 
 ghost use Rattle.std.specs.Prelude.{◌≡◌, ◌<◌, ◌*◌, ◌^◌, map, All, IfOk, IsTrue};
-ghost use Rattle.busdma_base.specs.Bounce.AccountStep.{account_step};
+ghost use Rattle.busdma_machine.specs.Bounce.AccountStep.{account_step};
 ghost use Rattle.bounce_hub_tests.specs.Frames.{are_frames};
 ghost use Rattle.bounce_hub_tests.specs.Pairs.{IsPair};
 
@@ -9,7 +9,7 @@ use crate::tests::asked;
 use crate::tests::lent::{Lent, numbers};
 use crate::tests::told::told;
 use bounce_hub::Hub;
-use busdma_base::{
+use busdma_machine::{
     HoldEntry, HubCall, HubDoor, HubReply, LaneId, MapId, Pa, TagLimits, ZoneId, ZoneList,
 };
 use frame_bank::FrameBank;

@@ -4,7 +4,7 @@ ghost use Rattle.std.specs.Prelude.{◌<◌};
 
 use crate::tests::map_of;
 use crate::tests::pair::Pair;
-use busdma_base::{HubCall, HubReply, LaneId, MapId, Pa, TagLimits, ZoneId};
+use busdma_machine::{HubCall, HubReply, LaneId, MapId, Pa, TagLimits, ZoneId};
 use std::alloc::{AllocError, Global};
 use std::process::Abort;
 use std::test::Fail;

@@ -3,7 +3,7 @@
 use crate::tests::pair::Pair;
 use crate::tests::told::told;
 use crate::tests::{create, destroy, grab, map_of, release};
-use busdma_base::{HubCall, LaneId, Pa, TagLimits, ZoneCounts};
+use busdma_machine::{HubCall, LaneId, Pa, TagLimits, ZoneCounts};
 use std::test::Fail;
 
 /// The frames 0x10 to 0x17 and 0x1000 to 0x100f.

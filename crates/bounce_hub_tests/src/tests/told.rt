@@ -1,6 +1,6 @@
 //! Replies in words.
 
-use busdma_base::{HubReply, Pa};
+use busdma_machine::{HubReply, Pa};
 use std::alloc::{AllocError, Global};
 use std::fmt::Write;
 

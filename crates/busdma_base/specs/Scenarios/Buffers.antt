@@ -1,8 +1,8 @@
 -- What a load loads.
 use Rattle.std.specs.Prelude.{◌≡◌, ℕ, ◌<◌, true, List, length}
 use Rattle.std.specs.List.{AllByRecursion}
-use Rattle.busdma_base.specs.declared.machine.bio.Bio.{Bio}
-use Rattle.busdma_base.specs.declared.machine.bio.Bio.TheVariants as bio
+use Rattle.busdma_machine.specs.declared.machine.bio.Bio.{Bio}
+use Rattle.busdma_machine.specs.declared.machine.bio.Bio.TheVariants as bio
 use Rattle.busdma_base.specs.declared.scenarios.buffer.Buffer.{Buffer}
 use Rattle.busdma_base.specs.declared.scenarios.buffer.Buffer.TheVariants as buffer
 use Rattle.busdma_base.specs.declared.scenarios.scenario.PageRun.{PageRun}
@@ -10,8 +10,8 @@ use Rattle.busdma_base.specs.declared.scenarios.script.Place.{Place}
 use Rattle.busdma_base.specs.declared.scenarios.script.Place.TheVariants as place
 use Rattle.busdma_base.specs.declared.scenarios.words.OpWord.{OpWord}
 use Rattle.busdma_base.specs.declared.scenarios.words.OpWord.TheVariants as op_word
-use Rattle.busdma_base.specs.Machine.PageRuns.{has_frame}
-use Rattle.busdma_base.specs.Machine.Spans.{bio_spans, span_bytes}
+use Rattle.busdma_base.specs.Scenarios.PageRuns.{has_frame}
+use Rattle.busdma_machine.specs.Machine.Spans.{bio_spans, span_bytes}
 
 -- the word of the operation that loads a buffer
 abbrev pub buffer_word : Buffer → OpWord

@@ -4,7 +4,7 @@ use Rattle.std.specs.List.{AllByRecursion}
 use Rattle.std.specs.Option.{option_map_or}
 use Rattle.busdma_base.specs.declared.scenarios.script.Op.{Op}
 use Rattle.busdma_base.specs.declared.scenarios.script.Item.{Item}
-use Rattle.busdma_base.specs.Each.{EachAfter}
+use Rattle.busdma_machine.specs.Each.{EachAfter}
 use Rattle.busdma_base.specs.Scenarios.Buffers.{buffer_entries, IsFromBegin}
 use Rattle.busdma_base.specs.Scenarios.Limits.{access_limit, buffer_limit, entries_limit, steps_limit}
 use Rattle.busdma_base.specs.Scenarios.Names.{IsMade, MakesNewName}

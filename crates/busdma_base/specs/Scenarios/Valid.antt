@@ -7,9 +7,9 @@ use Rattle.busdma_base.specs.declared.scenarios.scenario.PageRun.{PageRun}
 use Rattle.busdma_base.specs.declared.scenarios.scenario.Scenario.{Scenario}
 use Rattle.busdma_base.specs.declared.scenarios.script.Op.{Op}
 use Rattle.busdma_base.specs.declared.journals.journal.Actor.{Actor}
-use Rattle.busdma_base.specs.Each.{EachAfter}
-use Rattle.busdma_base.specs.Machine.FrameRuns.{IsFrameRun}
-use Rattle.busdma_base.specs.Machine.PageRuns.{IsPageRun}
+use Rattle.busdma_machine.specs.Each.{EachAfter}
+use Rattle.busdma_base.specs.Scenarios.FrameRuns.{IsFrameRun}
+use Rattle.busdma_base.specs.Scenarios.PageRuns.{IsPageRun}
 use Rattle.busdma_base.specs.Scenarios.Buffers.{IsBufferOf}
 use Rattle.busdma_base.specs.Scenarios.Limits.{bpages_limit, drivers_limit, loaded_limit, reads_limit, order_limit}
 use Rattle.busdma_base.specs.Scenarios.Operations.{about, loaded_by, read_by}

@@ -3,10 +3,7 @@
 ghost use Rattle.std.specs.Prelude.{◌≡◌};
 ghost use Rattle.busdma_base.specs.Journals.Reports.{is_report};
 
-use crate::bounce::Grown;
-use crate::journals::{Errno, Report};
-use crate::list::ListOf;
-use crate::machine::{Pa, Segment};
+use busdma_machine::{Errno, Grown, ListOf, Pa, Report, Segment};
 use std::alloc::AllocError;
 
 /// The answer of a step.

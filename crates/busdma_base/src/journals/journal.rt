@@ -1,10 +1,7 @@
 //! What a run did, step by step.
 
-use crate::bounce::ZoneCounts;
+use busdma_machine::{LaneId, ListOf, MapId, Pa, ZoneCounts};
 use crate::journals::Answer;
-use crate::list::ListOf;
-use crate::machine::Pa;
-use crate::name::{LaneId, MapId};
 use std::alloc::AllocError;
 
 /// One of the three that act for a driver.

@@ -3,8 +3,7 @@
 ghost use Rattle.std.specs.Prelude.{◌≡◌};
 ghost use Rattle.busdma_base.specs.Scenarios.Buffers.{buffer_word};
 
-use crate::list::ListOf;
-use crate::machine::{Bio, Mbuf, Span};
+use busdma_machine::{Bio, ListOf, Mbuf, Span};
 use crate::scenarios::{OpWord, Place};
 
 /// What a load loads, and so which of bus_dma(9)'s loads it is: `bus_dmamap_load`, a vector,

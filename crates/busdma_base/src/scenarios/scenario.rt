@@ -1,8 +1,7 @@
 //! What a scenario is.
 
+use busdma_machine::{ListOf, Va};
 use crate::journals::Actor;
-use crate::list::ListOf;
-use crate::machine::Va;
 use crate::scenarios::Op;
 
 /// `count` frames of 4096 bytes, from the frame number `first` on.

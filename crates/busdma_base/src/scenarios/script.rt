@@ -3,11 +3,9 @@
 //! A name that an operation makes is kept as its text. A name that it uses is kept as the place in
 //! the script of the operation that made it.
 
+use busdma_machine::{ListOf, TagLimits, Va};
 use crate::Name;
-use crate::list::ListOf;
-use crate::machine::Va;
 use crate::scenarios::Buffer;
-use crate::tags::TagLimits;
 use std::alloc::{AllocError, Global};
 
 /// Where the driver's bytes begin that an operation works on.

@@ -4,7 +4,7 @@ ghost use Rattle.std.specs.Prelude.{◌≡◌, ◌<◌, ◌+◌, IfOk};
 ghost use Rattle.lane_threads_tests.specs.Passes.{StartsAt};
 
 use bounce_hub::Hub;
-use busdma_base::{LaneId, Pa, TagLimits, ZoneId};
+use busdma_machine::{LaneId, Pa, TagLimits, ZoneId};
 use frame_bank::FrameBank;
 use lane_threads::HubObject;
 use std::alloc::{AllocError, Global};

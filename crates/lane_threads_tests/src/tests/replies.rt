@@ -1,6 +1,6 @@
 //! Replies as values.
 
-use busdma_base::HubReply;
+use busdma_machine::HubReply;
 
 /// Whether two replies say the same.
 pub fn same_reply(one: &HubReply, other: &HubReply) -> bool {

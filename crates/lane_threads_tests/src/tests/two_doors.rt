@@ -1,7 +1,7 @@
 //! Twelve calls at two doors over a small machine, whose entries were worked by hand.
 
 ghost use Rattle.std.specs.Prelude.{◌≡◌, [], Some, None, All, IfOk};
-ghost use Rattle.busdma_base.specs.Machine.PageList.{page_addresses};
+ghost use Rattle.busdma_machine.specs.Machine.PageList.{page_addresses};
 ghost use Rattle.lane_agreement.specs.View.{Idle, Loaded, Waiting};
 ghost use Rattle.lane_threads.specs.PassDoor.{seen, place_of};
 ghost use Rattle.lane_threads_tests.specs.Passes.{StartsAt};
@@ -9,7 +9,7 @@ ghost use Rattle.lane_threads_tests.specs.Knowing.{Knows, HasMaps, in_zone};
 
 use crate::tests::opening::{LOW, ZONE, open, pass_of};
 use crate::tests::replies::same_reply;
-use busdma_base::{
+use busdma_machine::{
     Called, Grabbed, Grown, HubCall, HubDoor, HubReply, LaneId, ListOf, MapId, Pa, PaList,
     PageList, TagLimits,
 };

@@ -8,7 +8,7 @@ ghost use Rattle.lane_threads_tests.specs.Knowing.{Knows, HasIdle, HasNone};
 
 use crate::tests::opening::{LOW, ZONE, open, pass_of};
 use crate::tests::replies::same_reply;
-use busdma_base::{Grabbed, Grown, HoldEntry, HubCall, HubDoor, HubReply, LaneId, MapId, Pa};
+use busdma_machine::{Grabbed, Grown, HoldEntry, HubCall, HubDoor, HubReply, LaneId, MapId, Pa};
 use lane_threads::{HubObject, PassDoor, close_after};
 use std::alloc::{AllocError, Global};
 use std::sync::Wait;

@@ -3,9 +3,9 @@
 use super::steps::Step::{CpuRead, DevRead, DevWrite, Forget, Sync};
 use super::steps::{A, B, Step, WHOLE, add, answer_of, id, refused};
 use crate::table::LoanTable;
-use busdma_base::Judged::Fine;
-use busdma_base::ReportName::{CpuReadLent, DeviceReadUnlent, StaleByte};
-use busdma_base::{Extent, Judged, Pa};
+use busdma_machine::Judged::Fine;
+use busdma_machine::ReportName::{CpuReadLent, DeviceReadUnlent, StaleByte};
+use busdma_machine::{Extent, Judged, Pa};
 use dma_tag::SyncOps;
 use std::alloc::Global;
 use std::process::Abort;

@@ -2,7 +2,7 @@
 
 use crate::table::LoanTable;
 use bitflags::Flags;
-use busdma_base::{Extent, ExtentList, Judged, LaneId, MapId, Pa, Report, ReportName};
+use busdma_machine::{Extent, ExtentList, Judged, LaneId, MapId, Pa, Report, ReportName};
 use dma_tag::SyncOps;
 use std::alloc::Global;
 use std::process::Abort;

@@ -1,16 +1,16 @@
 //! Whether the account allows a call.
 
 ghost use Rattle.std.specs.Prelude.{◌≡◌, ◌↔◌, ◌≤◌, ◌*◌, ◌^◌, ◌+◌, length, count_by, sum_by, IsTrue};
-ghost use Rattle.busdma_base.specs.Bounce.Account.{same_map};
-ghost use Rattle.busdma_base.specs.Bounce.Conditions.{IsIdle, MayCall, times_made, times_in_zones, pages_held};
-ghost use Rattle.busdma_base.specs.Bounce.Conditions.{times_held, times_listed, memories};
-ghost use Rattle.busdma_base.specs.Tags.Tag.{could_bounce};
-ghost use Rattle.busdma_base.specs.Tags.TagFlags.{allocnow};
+ghost use Rattle.busdma_machine.specs.Bounce.Account.{same_map};
+ghost use Rattle.busdma_machine.specs.Bounce.Conditions.{IsIdle, MayCall, times_made, times_in_zones, pages_held};
+ghost use Rattle.busdma_machine.specs.Bounce.Conditions.{times_held, times_listed, memories};
+ghost use Rattle.busdma_machine.specs.Tags.Tag.{could_bounce};
+ghost use Rattle.busdma_machine.specs.Tags.TagFlags.{allocnow};
 
 use crate::plain::lists::same_map;
 use crate::plain::serving::is_holding;
 use crate::plain::{PlainAccount, PlainZone};
-use busdma_base::{HubCall, LaneId, MapId, TagLimits, Waiter};
+use busdma_machine::{HubCall, LaneId, MapId, TagLimits, Waiter};
 
 /// The bytes of a page.
 const PAGE: u64 = 4096;

@@ -2,15 +2,15 @@
 
 ghost use Rattle.std.specs.Prelude.{◌≡◌, ◌==◌, ◌≤◌, ◌||◌, OnOk, IfOk, length, not, if◌then◌else◌};
 ghost use Rattle.std.specs.List.{filter};
-ghost use Rattle.busdma_base.specs.Bounce.Account.{same_map, zone_at, total};
-ghost use Rattle.busdma_base.specs.Bounce.AccountStep.{attached, created};
-ghost use Rattle.busdma_base.specs.Bounce.Growth.{serves_tag, new_zone, zone_of, with_zone_for, frames_below, added};
-ghost use Rattle.busdma_base.specs.Bounce.Growth.{grown, wanted_by_tag, maxpages, wanted_by_map, growth_for_map};
-ghost use Rattle.busdma_base.specs.Bounce.Growth.{with_map, without_map};
+ghost use Rattle.busdma_machine.specs.Bounce.Account.{same_map, zone_at, total};
+ghost use Rattle.busdma_machine.specs.Bounce.AccountStep.{attached, created};
+ghost use Rattle.busdma_machine.specs.Bounce.Growth.{serves_tag, new_zone, zone_of, with_zone_for, frames_below, added};
+ghost use Rattle.busdma_machine.specs.Bounce.Growth.{grown, wanted_by_tag, maxpages, wanted_by_map, growth_for_map};
+ghost use Rattle.busdma_machine.specs.Bounce.Growth.{with_map, without_map};
 
 use crate::plain::lists::{joined, same_map, small};
 use crate::plain::{PlainAccount, PlainZone};
-use busdma_base::{Grown, HubReply, MapId, TagLimits, ZoneId};
+use busdma_machine::{Grown, HubReply, MapId, TagLimits, ZoneId};
 use std::alloc::{AllocError, Global};
 
 /// The bytes of a page.
@@ -85,7 +85,7 @@ fn other_maps(alloc: Global, map: MapId, maps: &[MapId]) -> Result<Vec<MapId>, A
 
 impl PlainAccount {
     /// Makes a zone for the tag where none serves it, and tells the zone's number.
-    #[tactic(auto, using(busdma_base::proofs::Accounts::ZoneOf::zones_for_found, busdma_base::proofs::Accounts::ZoneOf::zones_for_none))]
+    #[tactic(auto, using(busdma_machine::proofs::Accounts::ZoneOf::zones_for_found, busdma_machine::proofs::Accounts::ZoneOf::zones_for_none))]
     fn find_zone(&mut self, alloc: Global, tag: &TagLimits) -> Result<u32, AllocError>
         ensures account { OnOk result (self.new ≡ with_zone_for tag.now self.old) }
         ensures zone { IfOk result (λ z. z ≡ zone_of tag.now self.old.zones) }

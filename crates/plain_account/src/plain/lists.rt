@@ -2,9 +2,9 @@
 
 ghost use Rattle.std.specs.Prelude.{◌≡◌, ◌==◌, ◌≤◌, ◌*◌, ◌^◌, ◌<◌, ◌++◌, length, take, drop, sum_by, IfOk};
 ghost use Rattle.std.specs.List.{filter};
-ghost use Rattle.busdma_base.specs.Bounce.Account.{same_map};
+ghost use Rattle.busdma_machine.specs.Bounce.Account.{same_map};
 
-use busdma_base::{MapId, Waiter};
+use busdma_machine::{MapId, Waiter};
 use std::alloc::{AllocError, Global};
 
 /// One list behind another.

@@ -2,15 +2,15 @@
 
 ghost use Rattle.std.specs.Prelude.{◌≡◌, ◌≤◌, ◌+◌, ◌*◌, ◌^◌, ◌<◌, OnOk, IfOk, not};
 ghost use Rattle.std.specs.List.{filter};
-ghost use Rattle.busdma_base.specs.declared.bounce.hold.HubCall.TheVariants.{MemAlloc};
-ghost use Rattle.busdma_base.specs.Bounce.Account.{same_map};
-ghost use Rattle.busdma_base.specs.Bounce.AccountStep.{account_step};
-ghost use Rattle.busdma_base.specs.Bounce.MemoryRuns.{frames_for, follow, crosses_none, lowest_run, in_run};
-ghost use Rattle.busdma_base.specs.Bounce.MemoryRuns.{with_memory, put_in, put_all, frames_of, without_memory};
+ghost use Rattle.busdma_machine.specs.declared.bounce.hold.HubCall.TheVariants.{MemAlloc};
+ghost use Rattle.busdma_machine.specs.Bounce.Account.{same_map};
+ghost use Rattle.busdma_machine.specs.Bounce.AccountStep.{account_step};
+ghost use Rattle.busdma_machine.specs.Bounce.MemoryRuns.{frames_for, follow, crosses_none, lowest_run, in_run};
+ghost use Rattle.busdma_machine.specs.Bounce.MemoryRuns.{with_memory, put_in, put_all, frames_of, without_memory};
 
 use crate::plain::lists::{joined, same_map, small};
 use crate::plain::{PlainAccount, PlainMemory};
-use busdma_base::{HubReply, MapId, Pa, TagLimits};
+use busdma_machine::{HubReply, MapId, Pa, TagLimits};
 use std::alloc::{AllocError, Global};
 use std::mem;
 

@@ -2,15 +2,15 @@
 
 ghost use Rattle.std.specs.Prelude.{◌≡◌, ◌-◌, ◌+◌, ◌<◌, ◌++◌, OnOk, IfOk, length, take, not, map as map_list};
 ghost use Rattle.std.specs.List.{filter};
-ghost use Rattle.busdma_base.specs.declared.bounce.hold.HubReply.TheVariants.{Queued};
-ghost use Rattle.busdma_base.specs.Bounce.Account.{zone_at, with_zone, free};
-ghost use Rattle.busdma_base.specs.Bounce.AccountStep.{grabbed, released, called_from, as_pages};
-ghost use Rattle.busdma_base.specs.Bounce.Serving.{is_holding, handed, queued, returned, completed, left_waiting};
-ghost use Rattle.busdma_base.specs.Bounce.Serving.{served};
+ghost use Rattle.busdma_machine.specs.declared.bounce.hold.HubReply.TheVariants.{Queued};
+ghost use Rattle.busdma_machine.specs.Bounce.Account.{zone_at, with_zone, free};
+ghost use Rattle.busdma_machine.specs.Bounce.AccountStep.{grabbed, released, called_from, as_pages};
+ghost use Rattle.busdma_machine.specs.Bounce.Serving.{is_holding, handed, queued, returned, completed, left_waiting};
+ghost use Rattle.busdma_machine.specs.Bounce.Serving.{served};
 
 use crate::plain::lists::{behind, first_of, joined, same_map, small};
 use crate::plain::{PlainAccount, PlainHeld};
-use busdma_base::{HubReply, LaneId, ListOf, MapId, Pa, Waiter, ZoneId};
+use busdma_machine::{HubReply, LaneId, ListOf, MapId, Pa, Waiter, ZoneId};
 use std::alloc::{AllocError, Global};
 
 /// How many pages a map that waits lacks.

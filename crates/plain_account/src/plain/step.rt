@@ -1,11 +1,11 @@
 //! The step of each call.
 
 ghost use Rattle.std.specs.Prelude.{◌≡◌, IfOk};
-ghost use Rattle.busdma_base.specs.Bounce.AccountStep.{account_step};
-ghost use Rattle.busdma_base.specs.Bounce.History.{is_kept};
+ghost use Rattle.busdma_machine.specs.Bounce.AccountStep.{account_step};
+ghost use Rattle.busdma_machine.specs.Bounce.History.{is_kept};
 
 use crate::plain::PlainAccount;
-use busdma_base::{HubCall, HubReply, LaneId};
+use busdma_machine::{HubCall, HubReply, LaneId};
 use std::alloc::{AllocError, Global};
 
 /// Whether a call with this reply is an entry of a history. The taking of a callback that found

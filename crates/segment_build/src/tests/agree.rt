@@ -2,14 +2,14 @@
 
 ghost use Rattle.std.specs.Prelude.{◌≡◌, ◌≤◌, ◌^◌, IfOk};
 ghost use Rattle.std.specs.List.{AllByRecursion};
-ghost use Rattle.busdma_base.specs.Machine.Entry.{IsEntry, entries_bytes};
+ghost use Rattle.busdma_machine.specs.Machine.Entry.{IsEntry, entries_bytes};
 ghost use Rattle.segment_build.specs.Chunks.{chunks_of, need_of};
 
 use super::checks::{are_pages, load_bytes, parts};
 use super::ways::{Listed, Outcome, by_lists, by_room, by_stream};
 use crate::laws::tag_is_effective;
 use crate::{Measured, chunks, measure, need};
-use busdma_base::{Entry, Extent, ExtentList, Pa, TagLimits};
+use busdma_machine::{Entry, Extent, ExtentList, Pa, TagLimits};
 use dma_tag::Tag;
 use std::alloc::{AllocError, Global};
 use std::process::Abort;

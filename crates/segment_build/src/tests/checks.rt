@@ -2,11 +2,11 @@
 
 ghost use Rattle.std.specs.Prelude.{◌≡◌, ◌+◌, ◌%◌, ◌^◌, ◌<◌, ◌≤◌, ◌++◌, true, IfOk, IfSome, OnOk};
 ghost use Rattle.std.specs.List.{AllByRecursion};
-ghost use Rattle.busdma_base.specs.Machine.Entry.{AreJoined, IsEntry, entries_bytes, entry_parts, parts_of};
-ghost use Rattle.busdma_base.specs.Runs.{IsExtent, byte_count};
+ghost use Rattle.busdma_machine.specs.Machine.Entry.{AreJoined, IsEntry, entries_bytes, entry_parts, parts_of};
+ghost use Rattle.busdma_machine.specs.Runs.{IsExtent, byte_count};
 ghost use Rattle.segment_build.specs.Trace.{IsPage};
 
-use busdma_base::{Entry, Extent, Pa, Part};
+use busdma_machine::{Entry, Extent, Pa, Part};
 use std::alloc::{AllocError, Global};
 
 /// The most bytes of a load.

@@ -3,7 +3,7 @@
 ghost use Rattle.std.specs.Prelude.{◌+◌, ◌<◌, ◌≤◌};
 
 use super::agree::{FREE, agreed, entry};
-use busdma_base::{Entry, Pa, TagLimits};
+use busdma_machine::{Entry, Pa, TagLimits};
 use dma_tag::Tag;
 use std::alloc::{AllocError, Global};
 use std::test::Fail;

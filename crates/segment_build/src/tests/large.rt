@@ -2,7 +2,7 @@
 
 use super::agree::{FREE, agreed, entry};
 use super::ways::Outcome;
-use busdma_base::{Entry, Pa, TagLimits};
+use busdma_machine::{Entry, Pa, TagLimits};
 use dma_tag::Tag;
 use std::alloc::{AllocError, Global};
 use std::test::Fail;

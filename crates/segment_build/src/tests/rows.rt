@@ -4,7 +4,7 @@ use super::agree::{FREE, agreed, entry, measured};
 use super::checks::load_bytes;
 use super::ways::{Listed, Outcome};
 use crate::{Measured, measure};
-use busdma_base::{Chunk, Extent, Pa, Part, TagLimits};
+use busdma_machine::{Chunk, Extent, Pa, Part, TagLimits};
 use dma_tag::Tag;
 use std::alloc::Global;
 use std::process::Abort;

@@ -3,7 +3,7 @@
 ghost use Rattle.std.specs.Prelude.{◌≡◌, ◌≤◌, ◌^◌, length};
 ghost use Rattle.std.specs.Iterator.{YieldsFirst, item_count};
 ghost use Rattle.std.specs.List.{AllByRecursion};
-ghost use Rattle.busdma_base.specs.Machine.Entry.{IsEntry, entries_bytes};
+ghost use Rattle.busdma_machine.specs.Machine.Entry.{IsEntry, entries_bytes};
 ghost use Rattle.segment_build.specs.Building.{IsPlaceable};
 ghost use Rattle.segment_build.specs.Chunks.{chunks_of, need_of};
 ghost use Rattle.segment_build.specs.Trace.{IsPage};
@@ -15,7 +15,7 @@ use crate::{
     Built, Measured, Streamed, build, build_from, build_into, chunks, fronts_ask_no_more, measure,
     place,
 };
-use busdma_base::{
+use busdma_machine::{
     Chunk, ChunkList, ChunkRoom, Entry, Pa, Part, Segment, SegmentList, SegmentRoom,
 };
 use dma_tag::Tag;

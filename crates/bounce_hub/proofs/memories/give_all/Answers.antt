@@ -1,7 +1,7 @@
 use Rattle.std.proofs.Common.{◌≡◌, ◌≤◌, ◌+◌, ◌==◌, ◌∷◌, ◌++◌, [], List, length, sym, ap, ◌∙◌, subst, arith}
 use Rattle.std.specs.List.{count_by}
 use Rattle.std.proofs.lemmas.List.{length-append}
-use Rattle.busdma_base.specs.Machine.Page.{FrameBytes}
+use Rattle.busdma_machine.specs.Machine.Page.{FrameBytes}
 use Rattle.frame_bank.specs.FrameBank.{Bank, put_page, put_pages}
 use Rattle.bounce_hub.proofs.Frames.{put_pages-last, put-apart, put-next, length-put_page}
 use Rattle.bounce_hub.proofs.memories.give_all.Goals as goal

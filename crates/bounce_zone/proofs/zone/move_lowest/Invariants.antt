@@ -1,6 +1,6 @@
 use Rattle.std.proofs.Common.{◌≡◌, ◌+◌, ◌≤◌, ◌++◌, take, drop}
 use Rattle.std.specs.VecDeque.{deque_capacity}
-use Rattle.busdma_base.specs.Bounce.Growth.{frames_below}
+use Rattle.busdma_machine.specs.Bounce.Growth.{frames_below}
 use Rattle.frame_bank.specs.FrameBank.{free_frames}
 use Rattle.bounce_zone.proofs.zone.move_lowest.Given as goal
 

@@ -1,5 +1,5 @@
 use Rattle.std.proofs.Common.{ap, ◌∙◌}
-use Rattle.busdma_base.specs.Machine.Page.{FrameBytes}
+use Rattle.busdma_machine.specs.Machine.Page.{FrameBytes}
 use Rattle.device_model.proofs.Accessing.{any_behind}
 use Rattle.device_model.proofs.lookup.page_of.Goals as goal
 

@@ -1,6 +1,6 @@
 use Rattle.std.proofs.Common.{◌≡◌, ◌==◌, true, length, drop, ◌-◌}
 use Rattle.std.specs.List.{list_any}
-use Rattle.busdma_base.specs.Machine.PageList.{frames_of}
+use Rattle.busdma_machine.specs.Machine.PageList.{frames_of}
 use Rattle.device_model.proofs.lookup.page_of.Given as goal
 
 abbrev pub invariant-loop-place : goal.invariant-loop-place

@@ -2,9 +2,9 @@ use Rattle.std.proofs.Common.{◌≡◌, ◌+◌, ◌-◌, ◌++◌, length, map
 use borrow.Rule.Slice.PartMut.{put_mid, same_len_mid}
 use Rattle.std.specs.List.{AllByRecursion}
 use Rattle.std.proofs.lemmas.Slice.{take-put_mid}
-use Rattle.busdma_base.specs.Machine.PageList.{frames_of}
-use Rattle.busdma_base.specs.Machine.Wire.{with_bytes_of}
-use Rattle.busdma_base.specs.Runs.{run_of}
+use Rattle.busdma_machine.specs.Machine.PageList.{frames_of}
+use Rattle.busdma_machine.specs.Machine.Wire.{with_bytes_of}
+use Rattle.busdma_machine.specs.Runs.{run_of}
 use Rattle.phys_memory.specs.Memory.{wire}
 use Rattle.phys_memory.proofs.Writing.{part_read}
 use Rattle.segment_build.specs.Segmentation.{segment_bytes}

@@ -1,8 +1,8 @@
 use Rattle.std.proofs.Common.{◌≡◌, ◌+◌, ◌-◌, ◌%◌, get_or, length, map, take, drop, ap, sym, ◌∙◌, arith}
 use Rattle.std.proofs.lemmas.List.{get_or_default}
-use Rattle.busdma_base.specs.Machine.Page.{FrameBytes}
-use Rattle.busdma_base.specs.Machine.Wire.{page_byte}
-use Rattle.busdma_base.specs.Runs.{run_of}
+use Rattle.busdma_machine.specs.Machine.Page.{FrameBytes}
+use Rattle.busdma_machine.specs.Machine.Wire.{page_byte}
+use Rattle.busdma_machine.specs.Runs.{run_of}
 use Rattle.phys_memory.proofs.PageBytes.{no_page, slice_page}
 use Rattle.device_model.proofs.Accessing.{memory_read, page_read}
 use Rattle.device_model.proofs.reading.read_in_frame.Goals as goal

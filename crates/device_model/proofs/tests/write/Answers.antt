@@ -1,5 +1,5 @@
 use Rattle.std.proofs.Common.{◌≡◌, true, length, rules}
-use Rattle.busdma_base.specs.Machine.PageList.{frames_of}
+use Rattle.busdma_machine.specs.Machine.PageList.{frames_of}
 use Rattle.phys_memory.specs.Memory.{has_frame}
 use Rattle.device_model.proofs.SegmentsInTests.{range_there}
 use Rattle.device_model.proofs.tests.write.Goals as goal

@@ -1,8 +1,8 @@
 use Rattle.std.proofs.Common.{◌≡◌, ◌+◌, ◌-◌, length, take, drop, ap, sym, subst, ◌∙◌, arith, length-drop, refl}
 use Rattle.std.specs.List.{AllByRecursion}
-use Rattle.busdma_base.specs.Machine.PageList.{frames_of}
-use Rattle.busdma_base.specs.Machine.Wire.{put, with_bytes_of}
-use Rattle.busdma_base.specs.Runs.{run_of}
+use Rattle.busdma_machine.specs.Machine.PageList.{frames_of}
+use Rattle.busdma_machine.specs.Machine.Wire.{put, with_bytes_of}
+use Rattle.busdma_machine.specs.Runs.{run_of}
 use Rattle.phys_memory.specs.Memory.{wire}
 use Rattle.phys_memory.proofs.SameFrames.{same_refl, same_trans}
 use Rattle.phys_memory.proofs.Writing.{part_written, written_run}

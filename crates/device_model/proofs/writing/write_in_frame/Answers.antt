@@ -1,7 +1,7 @@
 use Rattle.std.proofs.Common.{◌≡◌, ◌%◌, get_or, length, ap, sym, subst, ◌∙◌}
 use Rattle.std.proofs.Math.Seq.{map-set_same}
 use Rattle.std.proofs.lemmas.List.{get_or_default}
-use Rattle.busdma_base.specs.Machine.Page.{FrameBytes, overwritten}
+use Rattle.busdma_machine.specs.Machine.Page.{FrameBytes, overwritten}
 use Rattle.phys_memory.specs.Frames.{SamePages}
 use Rattle.phys_memory.specs.Memory.{Memory, wire}
 use Rattle.phys_memory.proofs.PageBytes.{no_page}

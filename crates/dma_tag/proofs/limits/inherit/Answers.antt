@@ -1,5 +1,5 @@
 use Rattle.std.proofs.Common.{subst, rules}
-use Rattle.busdma_base.specs.Tags.Tag.{IsEffective}
+use Rattle.busdma_machine.specs.Tags.Tag.{IsEffective}
 use Rattle.dma_tag.proofs.Effective.{IsEffective-inherit}
 use Rattle.dma_tag.proofs.limits.inherit.Goals as goal
 

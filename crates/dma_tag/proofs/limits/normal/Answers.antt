@@ -1,6 +1,6 @@
 use Rattle.std.proofs.Common.{◌∙◌, sym, subst, rules, arith, refl}
 use Rattle.std.proofs.lemmas.Bool.{false≢true}
-use Rattle.busdma_base.specs.Tags.Tag.{IsEffective}
+use Rattle.busdma_machine.specs.Tags.Tag.{IsEffective}
 use Rattle.dma_tag.proofs.Effective.{IsEffective-rounded, is_accepted_decides}
 use Rattle.dma_tag.proofs.limits.normal.Goals as goal
 

@@ -1,7 +1,7 @@
 use Rattle.std.proofs.Common.{◌≤◌, ◌&&◌, length, drop, get_or, sym, ap, ◌∙◌, arith}
 use Rattle.std.proofs.lemmas.List.{length-drop, length-map}
-use Rattle.busdma_base.specs.Bounce.MemoryRuns.{crosses_none}
-use Rattle.busdma_base.specs.Machine.PageList.{page_address, page_addresses}
+use Rattle.busdma_machine.specs.Bounce.MemoryRuns.{crosses_none}
+use Rattle.busdma_machine.specs.Machine.PageList.{page_address, page_addresses}
 use Rattle.frame_bank.proofs.Runs.{follow-long, begins_run-ends}
 use Rattle.frame_bank.proofs.run.begins_run.Goals as goal
 

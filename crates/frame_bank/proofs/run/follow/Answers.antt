@@ -1,7 +1,7 @@
 use Rattle.std.proofs.Common.{◌+◌, ◌-◌, drop, get_or, eqb, sym, ap, ◌∙◌, arith}
 use Rattle.std.proofs.lemmas.List.{length-drop, length-map}
 use Rattle.std.proofs.lemmas.Bool.{lt-leb}
-use Rattle.busdma_base.specs.Machine.PageList.{page_addresses}
+use Rattle.busdma_machine.specs.Machine.PageList.{page_addresses}
 use Rattle.frame_bank.proofs.Runs.{follow-at, follow-short}
 use Rattle.frame_bank.proofs.run.follow.Goals as goal
 

@@ -1,6 +1,6 @@
 use Rattle.std.proofs.Common.{◌≡◌, drop}
-use Rattle.busdma_base.specs.Bounce.MemoryRuns.{lowest_run}
-use Rattle.busdma_base.specs.Machine.PageList.{page_addresses}
+use Rattle.busdma_machine.specs.Bounce.MemoryRuns.{lowest_run}
+use Rattle.busdma_machine.specs.Machine.PageList.{page_addresses}
 use Rattle.frame_bank.proofs.run.run_at.Given as goal
 
 abbrev pub invariant-loop-at : goal.invariant-loop-at

@@ -2,9 +2,9 @@ use Rattle.std.proofs.Common.{◌≡◌, ◌<◌, ◌==◌, eqb, ℕ, List, [], 
 use Rattle.std.specs.List.{count_by}
 use Rattle.std.proofs.lemmas.Bool.{ne_eqb}
 use Rattle.std.proofs.lemmas.List.Elements.{All-head, All-tail}
-use Rattle.busdma_base.specs.Machine.Page.{FrameBytes}
-use Rattle.busdma_base.specs.Bounce.History.{IsRising}
-use Rattle.busdma_base.specs.Machine.PageList.{page_addresses}
+use Rattle.busdma_machine.specs.Machine.Page.{FrameBytes}
+use Rattle.busdma_machine.specs.Bounce.History.{IsRising}
+use Rattle.busdma_machine.specs.Machine.PageList.{page_addresses}
 use Rattle.frame_bank.specs.FrameBank.{Bank, put_page}
 use Rattle.frame_bank.proofs.Counted.{weight, count_by-cons}
 use Rattle.frame_bank.proofs.Placing.{length-put_page, count_by-put_page}

@@ -1,4 +1,4 @@
-use Rattle.busdma_base.proofs.Accounts.Openings.{opening-may_begin}
+use Rattle.busdma_base.proofs.Openings.{opening-may_begin}
 use Rattle.ideal_lane.proofs.Openings.{opens-standing, opens-agreeing}
 use Rattle.ideal_lane.proofs.laws.opening_stands.Goals as goal
 

@@ -3,7 +3,7 @@ use Rattle.std.proofs.lemmas.List.{length-map}
 use Rattle.std.proofs.lemmas.Slice.{take-put_mid}
 use borrow.Rule.Slice.PartMut.{same_len_mid}
 use Rattle.phys_memory.specs.Memory.{wire}
-use Rattle.busdma_base.specs.Runs.{run_of}
+use Rattle.busdma_machine.specs.Runs.{run_of}
 use Rattle.loan_table.proofs.Judgement.{length-run_of}
 use Rattle.loan_table.proofs.Addresses.{no_extent}
 use Rattle.lane_core.proofs.Wires.{part_size, part_read, extents_more, count_more, lie_more}

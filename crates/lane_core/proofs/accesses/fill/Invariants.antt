@@ -1,5 +1,5 @@
 use Rattle.std.proofs.Common.{◌≡◌, ◌+◌, ◌++◌, drop, take, map, length}
-use Rattle.busdma_base.specs.Runs.{addresses}
+use Rattle.busdma_machine.specs.Runs.{addresses}
 use Rattle.phys_memory.specs.Memory.{wire}
 use Rattle.phys_memory.specs.Frames.{Lie}
 use Rattle.lane_core.proofs.accesses.fill.Given as goal

@@ -1,8 +1,8 @@
 use Rattle.std.proofs.Common.{◌≡◌, ◌+◌, drop, length}
-use Rattle.busdma_base.specs.Runs.{addresses}
+use Rattle.busdma_machine.specs.Runs.{addresses}
 use Rattle.phys_memory.specs.Memory.{wire}
 use Rattle.phys_memory.specs.Frames.{Lie, SamePages}
-use Rattle.busdma_base.specs.Machine.Wire.{put}
+use Rattle.busdma_machine.specs.Machine.Wire.{put}
 use Rattle.lane_core.proofs.accesses.write_parts.Given as goal
 
 abbrev pub invariant-loop-part : goal.invariant-loop-part

@@ -1,8 +1,8 @@
 use Rattle.std.proofs.Common.{◌≡◌, Bool, List, true, false, sym, subst}
 use Rattle.std.specs.Prelude.{MatchBool}
 use Rattle.std.specs.List.{AllByRecursion}
-use Rattle.busdma_base.specs.declared.machine.address.Pa.{Pa}
-use Rattle.busdma_base.specs.declared.machine.chunk.Part.{Part}
+use Rattle.busdma_machine.specs.declared.machine.address.Pa.{Pa}
+use Rattle.busdma_machine.specs.declared.machine.chunk.Part.{Part}
 use Rattle.segment_build.specs.Conditions.{HasRooms}
 use Rattle.segment_build.specs.Streams.{IsBuiltFrom, OverflowsFrom}
 use Rattle.segment_build.proofs.Iterating.{along_first, drained_first}

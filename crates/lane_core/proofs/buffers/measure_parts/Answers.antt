@@ -1,5 +1,5 @@
 use Rattle.std.proofs.Common.{List, sym, subst}
-use Rattle.busdma_base.specs.declared.machine.chunk.Part.{Part}
+use Rattle.busdma_machine.specs.declared.machine.chunk.Part.{Part}
 use Rattle.phys_memory.proofs.Loads.{along_loads}
 use Rattle.segment_build.specs.Streams.{IsMeasured}
 use Rattle.segment_build.proofs.Iterating.{drained_first}

@@ -1,7 +1,7 @@
 use Rattle.std.proofs.Common.{◌≡◌, ◌+◌, ◌≤◌, length, take}
 use Rattle.std.specs.List.{AllByRecursion}
-use Rattle.busdma_base.specs.Bounce.AccountStep.{as_pages}
-use Rattle.busdma_base.specs.Machine.PageList.{page_addresses}
+use Rattle.busdma_machine.specs.Bounce.AccountStep.{as_pages}
+use Rattle.busdma_machine.specs.Machine.PageList.{page_addresses}
 use Rattle.segment_build.specs.Trace.{IsPage}
 use Rattle.lane_core.proofs.buffers.write_addresses.Given as goal
 

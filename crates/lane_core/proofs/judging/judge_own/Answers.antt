@@ -1,7 +1,7 @@
 use Rattle.std.proofs.Common.{◌≡◌, ◌+◌, ◌≤◌, ◌<◌, sym, ap, ◌∙◌, arith}
 use Rattle.std.specs.List.{enumerate_from}
-use Rattle.busdma_base.specs.Journals.Judging.{judged}
-use Rattle.busdma_base.specs.Runs.{run_of}
+use Rattle.busdma_machine.specs.Judging.{judged}
+use Rattle.busdma_machine.specs.Runs.{run_of}
 use Rattle.dmamem.specs.Memory.{virtual_of}
 use Rattle.lane_core.specs.Judging.{foreign_at}
 use Rattle.lane_core.proofs.Foreign.{away-off, max-off, none-past, off_place}

@@ -1,5 +1,5 @@
 use Rattle.std.proofs.Common.{◌≡◌}
-use Rattle.busdma_base.specs.Machine.Entry.{unmapped_of}
+use Rattle.busdma_machine.specs.Machine.Entry.{unmapped_of}
 use Rattle.lane_core.proofs.judging.judge_parts.Given as goal
 
 abbrev pub invariant-loop-part : goal.invariant-loop-part

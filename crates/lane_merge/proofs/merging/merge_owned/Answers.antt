@@ -1,6 +1,6 @@
 use Rattle.std.proofs.Common.{◌≡◌, ◌+◌, ◌<◌, ◌∷◌, suc, length, sym, ap, ◌∙◌, subst, drop, slice_index_or, drop-cons}
 use Rattle.std.proofs.Common.{arith, add-one}
-use Rattle.busdma_base.specs.declared.bounce.hold.HoldEntry.{HoldEntry}
+use Rattle.busdma_machine.specs.declared.bounce.hold.HoldEntry.{HoldEntry}
 use Rattle.lane_merge.proofs.Seams.{length-slice_set}
 use Rattle.lane_merge.proofs.Taking.{taken}
 use Rattle.lane_merge.proofs.merging.merge_owned.Goals as goal

@@ -1,7 +1,7 @@
 use Rattle.std.proofs.Common.{◌≡◌, ℕ, ◌<◌, [], ◌∷◌, length, ap, ◌∙◌, arith}
 use Rattle.std.specs.Prelude.{All}
 use Rattle.std.proofs.lemmas.List.Elements.{All-cons, All-nil}
-use Rattle.busdma_base.specs.declared.bounce.hold.HoldEntry.{HoldEntry}
+use Rattle.busdma_machine.specs.declared.bounce.hold.HoldEntry.{HoldEntry}
 use Rattle.lane_merge.proofs.tests.local_steps_stand_before_the_next_hold.Goals as goal
 
 within : (n : ℕ) (h i j : HoldEntry) → n ≡ 2 → h.lane.0 ≡ 0 → i.lane.0 ≡ 1 → j.lane.0 ≡ 0 →

@@ -1,7 +1,7 @@
 use Rattle.std.proofs.Common.{◌≡◌, List, ap, sym, ◌∙◌, subst}
-use Rattle.busdma_base.specs.declared.machine.bio.Bio.{Bio}
-use Rattle.busdma_base.specs.Machine.Entry.{parts_of}
-use Rattle.busdma_base.specs.Machine.Spans.{span_bytes}
+use Rattle.busdma_machine.specs.declared.machine.bio.Bio.{Bio}
+use Rattle.busdma_machine.specs.Machine.Entry.{parts_of}
+use Rattle.busdma_machine.specs.Machine.Spans.{span_bytes}
 use Rattle.phys_memory.specs.Memory.{physical}
 use Rattle.phys_memory.specs.Vector.{IfAll}
 use Rattle.load_bio.specs.Bio.{bio_stream, bio_walk}

@@ -2,10 +2,10 @@ use Rattle.std.proofs.Common.{◌≡◌, ℕ, false, List, ap, sym, subst, map, 
 use Rattle.std.specs.Prelude.{IfOk}
 use Rattle.std.specs.List.{AllByRecursion}
 use Rattle.std.proofs.lemmas.Result.{IfOk-weaker}
-use Rattle.busdma_base.specs.declared.machine.bio.Bio.{Bio}
-use Rattle.busdma_base.specs.Machine.Entry.{IsEntry, entries_addresses}
-use Rattle.busdma_base.specs.Machine.Spans.{bio_spans, one_span, span_addresses}
-use Rattle.busdma_base.specs.Runs.{run_of}
+use Rattle.busdma_machine.specs.declared.machine.bio.Bio.{Bio}
+use Rattle.busdma_machine.specs.Machine.Entry.{IsEntry, entries_addresses}
+use Rattle.busdma_machine.specs.Machine.Spans.{bio_spans, one_span, span_addresses}
+use Rattle.busdma_machine.specs.Runs.{run_of}
 use Rattle.phys_memory.specs.declared.entries.Entries.{Entries}
 use Rattle.phys_memory.specs.Memory.{physical}
 use Rattle.phys_memory.specs.Translation.{physical_or_0}

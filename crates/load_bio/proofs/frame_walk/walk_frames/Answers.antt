@@ -1,5 +1,5 @@
 use Rattle.std.proofs.Common.{Vec, Global, false, [], ◌∷◌, ◌++◌, refl, ap, sym, ◌∙◌}
-use Rattle.busdma_base.specs.declared.machine.chunk.Entry.{Entry}
+use Rattle.busdma_machine.specs.declared.machine.chunk.Entry.{Entry}
 use Rattle.phys_memory.specs.declared.entries.Entries.TheVariants as walk
 use Rattle.phys_memory.specs.declared.walk.Walked.TheVariants.{Parts}
 use Rattle.phys_memory.specs.Walk.{walked}

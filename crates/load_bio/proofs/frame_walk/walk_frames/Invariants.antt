@@ -1,5 +1,5 @@
 use Rattle.std.proofs.Common.{◌≡◌, false, []}
-use Rattle.busdma_base.specs.Machine.Spans.{one_span}
+use Rattle.busdma_machine.specs.Machine.Spans.{one_span}
 use Rattle.phys_memory.specs.Vector.{spans_stream}
 use Rattle.phys_memory.specs.Walk.{walked}
 use Rattle.load_bio.specs.Frames.{in_frames}

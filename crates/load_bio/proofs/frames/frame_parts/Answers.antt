@@ -1,5 +1,5 @@
 use Rattle.std.proofs.Common.{false, sym, subst}
-use Rattle.busdma_base.specs.Machine.Entry.{IsStream}
+use Rattle.busdma_machine.specs.Machine.Entry.{IsStream}
 use Rattle.phys_memory.proofs.Vectors.{spans_one}
 use Rattle.load_bio.specs.Frames.{in_frames}
 use Rattle.load_bio.proofs.FrameWalks.{frames_load}

@@ -1,5 +1,5 @@
 use Rattle.std.proofs.Common.{Some, None, cond, sym, ap, ◌∙◌, arith}
-use Rattle.busdma_base.specs.declared.journals.report.ReportName.TheVariants.{CpuReadLent, StaleByte}
+use Rattle.busdma_machine.specs.declared.report.ReportName.TheVariants.{CpuReadLent, StaleByte}
 use Rattle.loan_table.specs.declared.row.Way.TheVariants.{ToWrite}
 use Rattle.loan_table.specs.Loans.{to_write}
 use Rattle.loan_table.specs.Table.{is_marked}

@@ -1,5 +1,5 @@
 use Rattle.std.proofs.Common.{Some, None, cond, sym, ap, ◌∙◌}
-use Rattle.busdma_base.specs.declared.journals.report.ReportName.TheVariants.{CpuWriteLent}
+use Rattle.busdma_machine.specs.declared.report.ReportName.TheVariants.{CpuWriteLent}
 use Rattle.loan_table.proofs.access.cpu_write_refusal.Goals as goal
 
 pub returns-then-is_lent : goal.returns-then-is_lent

@@ -1,5 +1,5 @@
 use Rattle.std.proofs.Common.{◌≡◌, ◌+◌, ◌++◌, ap, ◌∙◌, arith}
-use Rattle.busdma_base.specs.Runs.{run_of}
+use Rattle.busdma_machine.specs.Runs.{run_of}
 use Rattle.loan_table.proofs.Stretches.{run_of_sum}
 use Rattle.loan_table.proofs.buffer.join.Goals as goal
 

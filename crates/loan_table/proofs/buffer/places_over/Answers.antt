@@ -1,6 +1,6 @@
 use Rattle.std.proofs.Common.{arith}
 use Rattle.std.proofs.lemmas.List.{at_drop_more, at_drop_all}
-use Rattle.busdma_base.specs.Runs.{addresses}
+use Rattle.busdma_machine.specs.Runs.{addresses}
 use Rattle.loan_table.proofs.Addresses.{no_extent}
 use Rattle.loan_table.proofs.Places.{places_step, places_end}
 use Rattle.loan_table.proofs.buffer.places_over.Goals as goal

@@ -1,7 +1,7 @@
 use Rattle.std.proofs.Common.{◌≡◌, ◌+◌, ◌≤◌, ◌==◌, ℕ, drop, length}
 use Rattle.std.specs.List.{count_by}
 use Rattle.run_set.specs.Counts.{count}
-use Rattle.busdma_base.specs.Runs.{addresses}
+use Rattle.busdma_machine.specs.Runs.{addresses}
 use Rattle.loan_table.proofs.buffer.places_over.Given as goal
 
 abbrev pub invariant-loop-extent : goal.invariant-loop-extent

@@ -1,7 +1,7 @@
 use Rattle.std.proofs.Common.{◌++◌, ap, ◌∙◌, append-nil, sym, arith}
 use Rattle.std.proofs.lemmas.List.{drop_more, at_drop_all}
 use Rattle.std.proofs.lemmas.List.Sums.{sum_by-drop_more}
-use Rattle.busdma_base.specs.declared.machine.address.Extent.{Extent}
+use Rattle.busdma_machine.specs.declared.machine.address.Extent.{Extent}
 use Rattle.loan_table.specs.Rows.{starts_from}
 use Rattle.loan_table.proofs.Addresses.{no_extent}
 use Rattle.loan_table.proofs.Stretches.{start_added}

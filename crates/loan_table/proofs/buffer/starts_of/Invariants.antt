@@ -1,5 +1,5 @@
 use Rattle.std.proofs.Common.{◌≡◌, ◌+◌, ◌++◌, drop}
-use Rattle.busdma_base.specs.Runs.{byte_count}
+use Rattle.busdma_machine.specs.Runs.{byte_count}
 use Rattle.loan_table.specs.Rows.{starts_from}
 use Rattle.loan_table.proofs.buffer.starts_of.Given as goal
 

@@ -2,7 +2,7 @@ use Rattle.std.proofs.Common.{◌≡◌, ◌++◌, ◌∷◌, [], slice_index_or
 use Rattle.std.specs.List.{All}
 use Rattle.std.proofs.lemmas.List.{at_drop_more, at_drop_all}
 use Rattle.std.proofs.lemmas.List.Elements.{All-append, All-cons, All-nil, All-get_or, All-head, All-rest}
-use Rattle.busdma_base.specs.Runs.{addresses, run_of}
+use Rattle.busdma_machine.specs.Runs.{addresses, run_of}
 use Rattle.loan_table.specs.Ends.{Ends}
 use Rattle.loan_table.proofs.Addresses.{no_extent}
 use Rattle.loan_table.proofs.Extending.{ends}

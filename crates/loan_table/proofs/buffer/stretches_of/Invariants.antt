@@ -1,6 +1,6 @@
 use Rattle.std.proofs.Common.{◌≡◌, ◌++◌, drop}
 use Rattle.std.specs.List.{All}
-use Rattle.busdma_base.specs.Runs.{addresses, run_of}
+use Rattle.busdma_machine.specs.Runs.{addresses, run_of}
 use Rattle.loan_table.specs.Ends.{Ends}
 use Rattle.loan_table.proofs.buffer.stretches_of.Given as goal
 

@@ -1,7 +1,7 @@
 use Rattle.std.proofs.Common.{◌≡◌, ◌+◌, ◌-◌, ◌≤◌, ◌++◌, length}
 use Rattle.std.specs.List.{All}
-use Rattle.busdma_base.specs.Machine.Wire.{stretch}
-use Rattle.busdma_base.specs.Runs.{addresses, run_of, IsExtent}
+use Rattle.busdma_machine.specs.Machine.Wire.{stretch}
+use Rattle.busdma_machine.specs.Runs.{addresses, run_of, IsExtent}
 use Rattle.loan_table.specs.Loans.{addresses_of}
 use Rattle.loan_table.specs.Table.{extent_count, more_extents}
 use Rattle.loan_table.proofs.extents.extents_of.Given as goal

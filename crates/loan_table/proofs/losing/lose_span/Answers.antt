@@ -1,6 +1,6 @@
 use Rattle.std.proofs.Common.{◌≡◌, ◌∙◌, sym, ap, cond, ℕ, refl, false, []}
 use Rattle.std.specs.List.{filter}
-use Rattle.busdma_base.specs.Machine.Wire.{stretch}
+use Rattle.busdma_machine.specs.Machine.Wire.{stretch}
 use Rattle.loan_table.specs.declared.losing.Losing.{Losing}
 use Rattle.loan_table.specs.declared.losing.Losing.TheVariants.{Call, Forgetting}
 use Rattle.loan_table.specs.declared.position.Position.{Position}

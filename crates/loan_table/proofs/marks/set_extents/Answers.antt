@@ -1,6 +1,6 @@
 use Rattle.std.proofs.Common.{◌∙◌, arith}
 use Rattle.std.proofs.lemmas.List.{at_drop_more, at_drop_all}
-use Rattle.busdma_base.specs.Runs.{addresses}
+use Rattle.busdma_machine.specs.Runs.{addresses}
 use Rattle.loan_table.proofs.Addresses.{writes_step, write_end, AreIn-append, no_extent}
 use Rattle.loan_table.proofs.marks.set_extents.Goals as goal
 

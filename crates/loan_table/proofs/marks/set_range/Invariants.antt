@@ -1,5 +1,5 @@
 use Rattle.std.proofs.Common.{◌≡◌, ◌+◌, ◌-◌, ◌≤◌}
-use Rattle.busdma_base.specs.Machine.Wire.{stretch}
+use Rattle.busdma_machine.specs.Machine.Wire.{stretch}
 use Rattle.loan_table.specs.Table.{AreIn, set_all}
 use Rattle.loan_table.specs.Loans.{addresses_of}
 use Rattle.loan_table.proofs.marks.set_range.Given as goal

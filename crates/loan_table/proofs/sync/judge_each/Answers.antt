@@ -1,5 +1,5 @@
 use Rattle.std.proofs.Common.{ap, sym, ◌∙◌, arith}
-use Rattle.busdma_base.specs.Journals.Judging.{judged}
+use Rattle.busdma_machine.specs.Judging.{judged}
 use Rattle.loan_table.specs.Lending.{sync_refusal}
 use Rattle.loan_table.proofs.Pieces.{nothing, whole}
 use Rattle.loan_table.proofs.sync.judge_each.Goals as goal

@@ -1,5 +1,5 @@
 use Rattle.std.proofs.Common.{true, false, sym, ◌∙◌}
-use Rattle.busdma_base.specs.declared.journals.report.ReportName.TheVariants.{SyncOrder}
+use Rattle.busdma_machine.specs.declared.report.ReportName.TheVariants.{SyncOrder}
 use Rattle.loan_table.specs.Kinds.{unlent_refusal}
 use Rattle.loan_table.specs.Lending.{sync_refusal}
 use Rattle.loan_table.proofs.Judgement.{judged-none, judged-same}

@@ -1,7 +1,7 @@
 use Rattle.std.proofs.Common.{◌≡◌, leb, ◌+◌, ◌-◌, ◌<◌, ◌≤◌, ℕ, true, false, refl, ap, sym, ◌∙◌, None, arith}
 use Rattle.std.proofs.lemmas.Bool.{leb-true, leb-false}
-use Rattle.busdma_base.specs.Journals.Judging.{judged}
-use Rattle.busdma_base.specs.Machine.Wire.{stretch}
+use Rattle.busdma_machine.specs.Judging.{judged}
+use Rattle.busdma_machine.specs.Machine.Wire.{stretch}
 use Rattle.loan_table.specs.Counted.{IsPlaced}
 use Rattle.loan_table.specs.Lending.{sync_refusal}
 use Rattle.loan_table.proofs.Marking.{no_position}

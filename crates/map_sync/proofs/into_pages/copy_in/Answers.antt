@@ -1,5 +1,5 @@
 use Rattle.std.proofs.Common.{◌≡◌, arith, ◌∙◌, ap, ◌+◌, ◌-◌, get_or}
-use Rattle.busdma_base.specs.Machine.Wire.{with_bytes_of}
+use Rattle.busdma_machine.specs.Machine.Wire.{with_bytes_of}
 use Rattle.phys_memory.specs.Memory.{wire}
 use Rattle.map_sync.proofs.Stepping.{copied_at, frames_written, held_skip, next_page, no_chunk, none_copied, step_in}
 use Rattle.map_sync.proofs.into_pages.copy_in.Goals as goal

@@ -1,8 +1,8 @@
 use Rattle.std.proofs.Common.{◌≡◌, true, List, [], length, ap, sym, ◌∙◌, subst}
 use Rattle.std.specs.Prelude.{None}
-use Rattle.busdma_base.specs.declared.machine.chunk.Part.{Part}
-use Rattle.busdma_base.specs.declared.tags.tag.TagLimits.{TagLimits}
-use Rattle.busdma_base.specs.Machine.Entry.{IsStream, unmapped_of}
+use Rattle.busdma_machine.specs.declared.machine.chunk.Part.{Part}
+use Rattle.busdma_machine.specs.declared.tags.tag.TagLimits.{TagLimits}
+use Rattle.busdma_machine.specs.Machine.Entry.{IsStream, unmapped_of}
 use Rattle.phys_memory.proofs.Loads.{along_loads}
 use Rattle.segment_build.specs.Streams.{IsMeasure}
 use Rattle.segment_build.proofs.Iterating.{drained_first}

@@ -1,5 +1,5 @@
 use Rattle.std.proofs.Common.{length, [], ap, ◌∙◌}
-use Rattle.busdma_base.specs.Tags.TagFlags.{keep_pg_offset}
+use Rattle.busdma_machine.specs.Tags.TagFlags.{keep_pg_offset}
 use Rattle.segment_build.specs.Chunks.{bounced_of}
 use Rattle.memory_load.specs.MemoryLoad.{run_chunks, run_entries}
 use Rattle.memory_load.proofs.Unbounced.{none_bounced, stay_placed, unbounced}

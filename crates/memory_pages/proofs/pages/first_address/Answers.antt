@@ -2,9 +2,9 @@ use Rattle.std.proofs.Common.{List, length, get_or, ap, sym, ◌∙◌}
 use Rattle.std.specs.Prelude.{slice_get}
 use Rattle.std.specs.Option.{option_copied}
 use Rattle.std.proofs.lemmas.List.{length-map}
-use Rattle.busdma_base.specs.Bounce.MemoryRuns.{frames_from}
-use Rattle.busdma_base.specs.Machine.Page.{FrameBytes}
-use Rattle.busdma_base.specs.Machine.PageList.{page_address, page_addresses}
+use Rattle.busdma_machine.specs.Bounce.MemoryRuns.{frames_from}
+use Rattle.busdma_machine.specs.Machine.Page.{FrameBytes}
+use Rattle.busdma_machine.specs.Machine.PageList.{page_address, page_addresses}
 use Rattle.memory_pages.proofs.Runs.{first_found, row_is}
 use Rattle.memory_pages.proofs.pages.first_address.Goals as goal
 

@@ -1,8 +1,8 @@
 use Rattle.std.proofs.Common.{◌≡◌, ℕ, ◌*◌, List, ◌∷◌, length, ap, sym, ◌∙◌, subst}
 use Rattle.std.proofs.Common.{Bool, ◌-◌, rules}
 use Rattle.std.specs.Vec.Iter.{into_iter_items}
-use Rattle.busdma_base.specs.Machine.Page.{FrameBytes}
-use Rattle.busdma_base.specs.Machine.Wire.{with_bytes_of}
+use Rattle.busdma_machine.specs.Machine.Page.{FrameBytes}
+use Rattle.busdma_machine.specs.Machine.Wire.{with_bytes_of}
 use Rattle.dmamem.specs.Memory.{virtual_of}
 use Rattle.phys_memory.specs.Memory.{Memory, wire, with_page}
 use Rattle.memory_pages.specs.Bytes.{all_filled, filled}

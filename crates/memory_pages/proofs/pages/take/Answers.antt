@@ -1,9 +1,9 @@
 use Rattle.std.proofs.Common.{◌≡◌, ◌+◌, ◌*◌, ◌++◌, List, [], ◌∷◌, length, Some, refl, ap, sym, ◌∙◌, subst}
 use Rattle.std.proofs.Common.{append-nil, arith}
 use Rattle.std.specs.Option.{IsSome}
-use Rattle.busdma_base.specs.Bounce.MemoryRuns.{frames_from}
-use Rattle.busdma_base.specs.Machine.Page.{FrameBytes}
-use Rattle.busdma_base.specs.Machine.PageList.{RoomyPages, page_addresses}
+use Rattle.busdma_machine.specs.Bounce.MemoryRuns.{frames_from}
+use Rattle.busdma_machine.specs.Machine.Page.{FrameBytes}
+use Rattle.busdma_machine.specs.Machine.PageList.{RoomyPages, page_addresses}
 use Rattle.dmamem.specs.Memory.{virtual_of}
 use Rattle.phys_memory.specs.Memory.{page_at, without_page}
 use Rattle.memory_pages.specs.Bytes.{page_of, pages_of}

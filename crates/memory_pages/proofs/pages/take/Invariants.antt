@@ -1,5 +1,5 @@
 use Rattle.std.proofs.Common.{◌≡◌, ◌++◌}
-use Rattle.busdma_base.specs.Bounce.MemoryRuns.{frames_from}
+use Rattle.busdma_machine.specs.Bounce.MemoryRuns.{frames_from}
 use Rattle.memory_pages.specs.Bytes.{pages_of}
 use Rattle.memory_pages.specs.Placed.{Goes}
 use Rattle.memory_pages.proofs.pages.take.Given as goal

@@ -1,5 +1,5 @@
 use Rattle.std.proofs.Common.{sym, ap, ◌∙◌, not}
-use Rattle.busdma_base.specs.Bounce.Opening.{is_owned}
+use Rattle.busdma_base.specs.Scenarios.Opening.{is_owned}
 use Rattle.opening_frames.proofs.Runs.{next-kept, next-left}
 use Rattle.opening_frames.proofs.frames.add_unowned.Goals.{then-not-is_owned+in_ok-push, else-not-is_owned}
 use Rattle.opening_frames.proofs.frames.add_unowned.Goals as goal

@@ -1,7 +1,7 @@
 use Rattle.std.proofs.Common.{◌≡◌, ◌++◌, not}
 use Rattle.std.specs.List.{filter}
-use Rattle.busdma_base.specs.Bounce.Opening.{is_owned}
-use Rattle.busdma_base.specs.Runs.{run_of}
+use Rattle.busdma_base.specs.Scenarios.Opening.{is_owned}
+use Rattle.busdma_machine.specs.Runs.{run_of}
 use Rattle.opening_frames.proofs.frames.add_unowned.Given as goal
 
 abbrev pub invariant-loop-i : goal.invariant-loop-i

@@ -1,7 +1,7 @@
 use Rattle.std.proofs.Common.{◌≡◌, ◌∙◌, ap, sym, subst, List, length, map, [], ℕ, ◌≤◌, ◌<◌, ◌^◌}
 use Rattle.std.specs.List.{All, AllPairs}
 use Rattle.std.proofs.lemmas.Result.{IfOk-weaker}
-use Rattle.busdma_base.specs.Machine.PageList.{page_addresses}
+use Rattle.busdma_machine.specs.Machine.PageList.{page_addresses}
 use Rattle.frame_bank.specs.FrameBank.{fresh_page, put_pages}
 use Rattle.opening_frames.proofs.Runs.{all-numbered, are-few, fresh-addresses, pages-are, they-differ}
 use Rattle.opening_frames.proofs.frames.free_bank.Goals as goal

@@ -1,5 +1,5 @@
 use Rattle.std.proofs.Common.{◌+◌, ◌^◌, ◌≤◌, get_or, drop, max, ap, ◌∙◌, arith, []}
-use Rattle.busdma_base.specs.Bounce.Opening.{maxmem_of}
+use Rattle.busdma_base.specs.Scenarios.Opening.{maxmem_of}
 use Rattle.opening_frames.proofs.Runs.{next-end, numbered-at}
 use Rattle.opening_frames.proofs.frames.memory_end.Goals as goal
 

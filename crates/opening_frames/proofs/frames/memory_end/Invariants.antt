@@ -1,5 +1,5 @@
 use Rattle.std.proofs.Common.{◌≡◌, drop, max}
-use Rattle.busdma_base.specs.Bounce.Opening.{maxmem_of}
+use Rattle.busdma_base.specs.Scenarios.Opening.{maxmem_of}
 use Rattle.opening_frames.proofs.frames.memory_end.Given as goal
 
 abbrev pub invariant-loop-run : goal.invariant-loop-run

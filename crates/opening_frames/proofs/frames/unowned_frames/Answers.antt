@@ -1,8 +1,8 @@
 use Rattle.std.proofs.Common.{sym, ap, ◌∙◌, [], ◌<◌, subst, length, get_or, ◌++◌, List}
 use Rattle.busdma_base.specs.declared.scenarios.scenario.Driver.{Driver}
 use Rattle.busdma_base.specs.declared.scenarios.scenario.FrameRun.{FrameRun}
-use Rattle.busdma_base.specs.Each.{EachAfter}
-use Rattle.busdma_base.specs.Machine.FrameRuns.{IsFrameRun}
+use Rattle.busdma_machine.specs.Each.{EachAfter}
+use Rattle.busdma_base.specs.Scenarios.FrameRuns.{IsFrameRun}
 use Rattle.opening_frames.specs.Frames.{unowned_in}
 use Rattle.opening_frames.proofs.Runs.{next-run, numbered-at}
 use Rattle.opening_frames.proofs.frames.unowned_frames.Goals as goal

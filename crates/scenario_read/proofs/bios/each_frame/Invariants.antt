@@ -1,7 +1,7 @@
 use Rattle.std.proofs.Common.{◌≡◌, [], drop, map, length, true}
 use Rattle.std.specs.List.{AllByRecursion}
 use Rattle.serde_json.specs.View.{view}
-use Rattle.busdma_base.specs.Machine.PageRuns.{has_frame}
+use Rattle.busdma_base.specs.Scenarios.PageRuns.{has_frame}
 use Rattle.json_fields.specs.Field.{spot_of}
 use Rattle.json_fields.specs.Items.{each}
 use Rattle.scenario_read.specs.Bios.{frame_at}

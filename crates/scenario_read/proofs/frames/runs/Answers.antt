@@ -1,6 +1,6 @@
 use Rattle.std.proofs.Common.{arith}
 use Rattle.std.proofs.lemmas.Grind.{common_steps}
-use Rattle.busdma_base.specs.Machine.FrameRuns.{IsFrameRun}
+use Rattle.busdma_base.specs.Scenarios.FrameRuns.{IsFrameRun}
 use Rattle.scenario_read.proofs.Each.{EachAfter-append}
 use Rattle.scenario_read.proofs.frames.runs.Goals as goal
 

@@ -1,8 +1,8 @@
 use Rattle.std.proofs.Common.{◌≡◌, ◌≤◌, [], drop, map}
 use Rattle.std.specs.List.{AllByRecursion}
 use Rattle.serde_json.specs.View.{view}
-use Rattle.busdma_base.specs.Each.{EachAfter}
-use Rattle.busdma_base.specs.Machine.FrameRuns.{IsFrameRun, IsNumbered, frame_count}
+use Rattle.busdma_machine.specs.Each.{EachAfter}
+use Rattle.busdma_base.specs.Scenarios.FrameRuns.{IsFrameRun, IsNumbered, frame_count}
 use Rattle.json_fields.specs.Field.{spot_of}
 use Rattle.json_fields.specs.Items.{each}
 use Rattle.scenario_read.specs.Frames.{frame_run_at}

@@ -1,5 +1,5 @@
 use Rattle.std.proofs.Common.{◌≡◌, ◌+◌, ◌-◌, ◌≤◌, ◌<◌, sym, ap, ◌∙◌, arith}
-use Rattle.busdma_base.specs.Machine.PageRuns.{all_in}
+use Rattle.busdma_base.specs.Scenarios.PageRuns.{all_in}
 use Rattle.scenario_read.proofs.Runs.{jump, at_least, below}
 use Rattle.scenario_read.proofs.pages.all_in.Goals as goal
 

@@ -1,5 +1,5 @@
 use Rattle.std.proofs.Common.{◌≡◌}
-use Rattle.busdma_base.specs.Machine.PageRuns.{all_in}
+use Rattle.busdma_base.specs.Scenarios.PageRuns.{all_in}
 use Rattle.scenario_read.proofs.pages.all_in.Given as goal
 
 abbrev pub invariant-loop-left : goal.invariant-loop-left

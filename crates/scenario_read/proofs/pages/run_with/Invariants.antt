@@ -1,6 +1,6 @@
 use Rattle.std.proofs.Common.{◌≡◌, ℕ, true, drop}
 use Rattle.std.specs.List.{list_any, AllByRecursion}
-use Rattle.busdma_base.specs.Machine.FrameRuns.{IsNumbered, is_in}
+use Rattle.busdma_base.specs.Scenarios.FrameRuns.{IsNumbered, is_in}
 use Rattle.scenario_read.proofs.pages.run_with.Given as goal
 
 abbrev pub invariant-loop-run : goal.invariant-loop-run

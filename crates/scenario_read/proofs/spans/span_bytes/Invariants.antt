@@ -1,5 +1,5 @@
 use Rattle.std.proofs.Common.{◌≡◌, ◌*◌, ◌^◌, ◌≤◌, take}
-use Rattle.busdma_base.specs.Machine.Spans.{span_bytes}
+use Rattle.busdma_machine.specs.Machine.Spans.{span_bytes}
 use Rattle.scenario_read.proofs.spans.span_bytes.Given as goal
 
 abbrev pub invariant-loop-span : goal.invariant-loop-span

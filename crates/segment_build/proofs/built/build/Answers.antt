@@ -1,7 +1,7 @@
 use Rattle.std.proofs.Common.{◌≡◌, ◌<◌, List, length, get_or, subst, sym, ◌∙◌}
 use Rattle.std.specs.Prelude.{Ok, false}
-use Rattle.busdma_base.specs.declared.machine.address.Segment.{Segment}
-use Rattle.busdma_base.specs.declared.tags.tag.TagLimits.{TagLimits}
+use Rattle.busdma_machine.specs.declared.machine.address.Segment.{Segment}
+use Rattle.busdma_machine.specs.declared.tags.tag.TagLimits.{TagLimits}
 use Rattle.segment_build.specs.Joining.{added}
 use Rattle.segment_build.specs.Built.{IsFew, AreTooMany}
 use Rattle.segment_build.proofs.Cuts.{are_few, are_many}

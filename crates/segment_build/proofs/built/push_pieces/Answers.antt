@@ -1,5 +1,5 @@
 use Rattle.std.proofs.Common.{◌+◌, ◌-◌, [], ◌∷◌, ◌++◌, ap, sym, ◌∙◌, append_assoc, arith}
-use Rattle.busdma_base.specs.Runs.{run_of}
+use Rattle.busdma_machine.specs.Runs.{run_of}
 use Rattle.segment_build.specs.Pieces.{pieces_of}
 use Rattle.segment_build.proofs.Places.{piece_at, pieces_step}
 use Rattle.segment_build.proofs.built.push_pieces.Goals as goal

@@ -4,10 +4,10 @@ use Rattle.std.specs.Option.{option_to_list}
 use Rattle.std.specs.List.{AllByRecursion}
 use Rattle.std.proofs.lemmas.List.{drop_more, drop_all}
 use Rattle.std.proofs.lemmas.List.Sums.{sum_by-cons}
-use Rattle.busdma_base.specs.declared.machine.chunk.Chunk.{Chunk}
-use Rattle.busdma_base.specs.declared.machine.chunk.Entry.{Entry}
-use Rattle.busdma_base.specs.Machine.Entry.{IsEntry, entries_bytes, entry_parts, parts_of}
-use Rattle.busdma_base.specs.Runs.{byte_count}
+use Rattle.busdma_machine.specs.declared.machine.chunk.Chunk.{Chunk}
+use Rattle.busdma_machine.specs.declared.machine.chunk.Entry.{Entry}
+use Rattle.busdma_machine.specs.Machine.Entry.{IsEntry, entries_bytes, entry_parts, parts_of}
+use Rattle.busdma_machine.specs.Runs.{byte_count}
 use Rattle.segment_build.specs.Chunks.{chunks_of}
 use Rattle.segment_build.specs.Cutting.{after, closed, uncut}
 use Rattle.segment_build.proofs.Chunking.{after_append, closed_append, entries_cut, with_last}

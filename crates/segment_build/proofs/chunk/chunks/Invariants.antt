@@ -1,6 +1,6 @@
 use Rattle.std.proofs.Common.{◌≡◌, ◌+◌, ◌++◌, drop}
 use Rattle.std.specs.List.{AllByRecursion}
-use Rattle.busdma_base.specs.Machine.Entry.{IsEntry, entries_bytes, parts_of}
+use Rattle.busdma_machine.specs.Machine.Entry.{IsEntry, entries_bytes, parts_of}
 use Rattle.segment_build.specs.Cutting.{after, closed, uncut}
 use Rattle.segment_build.proofs.chunk.chunks.Given as goal
 

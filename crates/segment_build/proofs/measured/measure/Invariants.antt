@@ -1,5 +1,5 @@
 use Rattle.std.proofs.Common.{◌≡◌, [], length}
-use Rattle.busdma_base.specs.Machine.Entry.{unmapped_of}
+use Rattle.busdma_machine.specs.Machine.Entry.{unmapped_of}
 use Rattle.segment_build.specs.Building.{placed_pieces}
 use Rattle.segment_build.specs.Chunks.{need_of}
 use Rattle.segment_build.specs.Cutting.{after, closed, uncut}

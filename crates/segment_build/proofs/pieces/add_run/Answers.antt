@@ -1,5 +1,5 @@
 use Rattle.std.proofs.Common.{◌≡◌, ◌+◌, ◌-◌, length, false, Ok, ap, sym, ◌∙◌, arith}
-use Rattle.busdma_base.specs.Runs.{run_of}
+use Rattle.busdma_machine.specs.Runs.{run_of}
 use Rattle.segment_build.specs.Pieces.{pieces_of}
 use Rattle.segment_build.specs.Joining.{added, added_all}
 use Rattle.segment_build.proofs.Cuts.{added_all_longer}

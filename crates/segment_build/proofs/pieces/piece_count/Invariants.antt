@@ -1,5 +1,5 @@
 use Rattle.std.proofs.Common.{◌≡◌, ◌+◌, ◌≤◌, length}
-use Rattle.busdma_base.specs.Runs.{run_of}
+use Rattle.busdma_machine.specs.Runs.{run_of}
 use Rattle.segment_build.specs.Pieces.{pieces_of}
 use Rattle.segment_build.proofs.pieces.piece_count.Given as goal
 

@@ -1,7 +1,7 @@
 use Rattle.std.proofs.Common.{◌≡◌, [], ◌∷◌, ◌++◌, Bool, length, refl, ap, sym, subst, arith}
 use Rattle.std.specs.Prelude.{Option, IfOk}
 use Rattle.std.specs.Option.{option_to_list}
-use Rattle.busdma_base.specs.declared.machine.chunk.Chunk.{Chunk}
+use Rattle.busdma_machine.specs.declared.machine.chunk.Chunk.{Chunk}
 use Rattle.segment_build.specs.Building.{IsSoFar, placed_pieces}
 use Rattle.segment_build.specs.Chunks.{need_of}
 use Rattle.segment_build.proofs.Counting.{need_append, need_first}

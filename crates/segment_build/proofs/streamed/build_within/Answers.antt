@@ -1,9 +1,9 @@
 use Rattle.std.proofs.Common.{rules, ◌≡◌, ◌+◌, ◌≤◌, List, [], ◌++◌, Bool, length, min, ap, sym, ◌∙◌, subst, arith}
 use Rattle.std.specs.Prelude.{Option, IfSome, IsOk, MatchBool}
 use Rattle.std.specs.Option.{option_to_list}
-use Rattle.busdma_base.specs.declared.machine.chunk.Chunk.{Chunk}
-use Rattle.busdma_base.specs.declared.tags.tag.TagLimits.{TagLimits}
-use Rattle.busdma_base.specs.Machine.Entry.{IsStream}
+use Rattle.busdma_machine.specs.declared.machine.chunk.Chunk.{Chunk}
+use Rattle.busdma_machine.specs.declared.tags.tag.TagLimits.{TagLimits}
+use Rattle.busdma_machine.specs.Machine.Entry.{IsStream}
 use Rattle.segment_build.specs.declared.cutter.Cutter.{Cutter}
 use Rattle.segment_build.specs.Building.{IsSoFar, IsPlaceable, placed_pieces}
 use Rattle.segment_build.specs.Chunks.{need_of}

@@ -1,5 +1,5 @@
 use Rattle.std.proofs.Common.{◌≡◌, ◌++◌, ◌*◌, ◌-◌, map}
-use Rattle.busdma_base.specs.Runs.{run_of}
+use Rattle.busdma_machine.specs.Runs.{run_of}
 use Rattle.storm.specs.Generator.{drawn}
 use Rattle.storm.specs.Scenario.{driver, storm}
 use Rattle.storm.proofs.scenario.drivers.Given as goal

@@ -1,5 +1,5 @@
 use Rattle.std.proofs.Common.{◌∙◌, ap}
-use Rattle.busdma_base.specs.Bounce.Opening.{maxmem_of}
+use Rattle.busdma_base.specs.Scenarios.Opening.{maxmem_of}
 use Rattle.frame_bank.specs.FrameBank.{free_frames}
 use Rattle.world_core.proofs.OpeningWorld.{opened-lanes, opened-hub}
 use Rattle.world_core.proofs.opening.opening_parts.Goals as goal

@@ -1,5 +1,5 @@
 use Rattle.std.proofs.Common.{subst}
-use Rattle.busdma_base.specs.Bounce.History.{account_of}
+use Rattle.busdma_machine.specs.Bounce.History.{account_of}
 use Rattle.bounce_hub.specs.Seen.{HubSeen, AreCounts, opening_of}
 use Rattle.bounce_hub.proofs.Counting.{are-counts}
 use Rattle.bounce_hub.proofs.hub.Hub.counts.Goals as goal

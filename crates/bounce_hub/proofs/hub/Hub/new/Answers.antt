@@ -1,7 +1,7 @@
 use Rattle.std.proofs.Common.{◌≡◌, length, sym, ap, ◌∙◌, subst, arith}
 use Rattle.std.proofs.lemmas.List.{length-map}
-use Rattle.busdma_base.specs.Bounce.History.{IsSound, account_of}
-use Rattle.busdma_base.specs.Machine.PageList.{page_address}
+use Rattle.busdma_machine.specs.Bounce.History.{IsSound, account_of}
+use Rattle.busdma_machine.specs.Machine.PageList.{page_address}
 use Rattle.frame_bank.specs.FrameBank.{Bank, IsBank}
 use Rattle.bounce_hub.specs.Opening.{opening}
 use Rattle.bounce_hub.specs.Pools.{Agrees}

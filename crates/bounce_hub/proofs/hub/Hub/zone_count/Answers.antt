@@ -1,5 +1,5 @@
 use Rattle.std.proofs.Common.{◌≡◌, ◌∙◌, length, subst}
-use Rattle.busdma_base.specs.Bounce.History.{account_of}
+use Rattle.busdma_machine.specs.Bounce.History.{account_of}
 use Rattle.bounce_hub.specs.Seen.{HubSeen}
 use Rattle.bounce_hub.proofs.hub.Hub.zone_count.Goals as goal
 

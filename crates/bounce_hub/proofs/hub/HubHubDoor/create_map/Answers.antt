@@ -1,8 +1,8 @@
 use Rattle.std.proofs.Common.{◌≡◌, List, [], ◌∷◌, ◌++◌, vec_capacity, refl, ap, ◌∙◌, arith}
-use Rattle.busdma_base.specs.declared.bounce.hold.HoldEntry.{HoldEntry}
-use Rattle.busdma_base.specs.declared.bounce.hold.HubCall.TheVariants.{CreateMap}
-use Rattle.busdma_base.specs.declared.bounce.hold.HubReply.TheVariants.{Grown}
-use Rattle.busdma_base.specs.Bounce.History.{account_of}
+use Rattle.busdma_machine.specs.declared.bounce.hold.HoldEntry.{HoldEntry}
+use Rattle.busdma_machine.specs.declared.bounce.hold.HubCall.TheVariants.{CreateMap}
+use Rattle.busdma_machine.specs.declared.bounce.hold.HubReply.TheVariants.{Grown}
+use Rattle.busdma_machine.specs.Bounce.History.{account_of}
 use Rattle.bounce_hub.specs.Pools.{Stepped}
 use Rattle.bounce_hub.specs.Seen.{IsKept, opening_of}
 use Rattle.bounce_hub.proofs.Keeping.{own, may-inside, allowed-of, stepped-of, kept-push, holds-own}

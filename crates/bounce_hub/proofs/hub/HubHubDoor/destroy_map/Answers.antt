@@ -1,7 +1,7 @@
 use Rattle.std.proofs.Common.{◌≡◌, [], ◌∷◌, ◌++◌, vec_capacity, refl, arith}
-use Rattle.busdma_base.specs.declared.bounce.hold.HubCall.TheVariants.{DestroyMap}
-use Rattle.busdma_base.specs.declared.bounce.hold.HubReply.TheVariants.{Nothing}
-use Rattle.busdma_base.specs.Bounce.History.{account_of}
+use Rattle.busdma_machine.specs.declared.bounce.hold.HubCall.TheVariants.{DestroyMap}
+use Rattle.busdma_machine.specs.declared.bounce.hold.HubReply.TheVariants.{Nothing}
+use Rattle.busdma_machine.specs.Bounce.History.{account_of}
 use Rattle.bounce_hub.specs.Pools.{Stepped}
 use Rattle.bounce_hub.specs.Seen.{IsKept, opening_of}
 use Rattle.bounce_hub.proofs.Keeping.{own, may-inside, allowed-of, stepped-of, kept-push, holds-own}

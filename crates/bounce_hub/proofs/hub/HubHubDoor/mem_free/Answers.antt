@@ -1,10 +1,10 @@
 use Rattle.std.proofs.Common.{◌≡◌, vec_capacity, refl, sym, subst, arith}
-use Rattle.busdma_base.specs.declared.bounce.hold.HubCall.TheVariants.{MemFree}
-use Rattle.busdma_base.specs.declared.bounce.hold.HubReply.TheVariants.{Nothing}
-use Rattle.busdma_base.specs.Bounce.Account.{Account}
-use Rattle.busdma_base.specs.Bounce.History.{account_of}
-use Rattle.busdma_base.specs.Bounce.MemoryRuns.{frames_of}
-use Rattle.busdma_base.specs.Machine.PageList.{page_addresses}
+use Rattle.busdma_machine.specs.declared.bounce.hold.HubCall.TheVariants.{MemFree}
+use Rattle.busdma_machine.specs.declared.bounce.hold.HubReply.TheVariants.{Nothing}
+use Rattle.busdma_machine.specs.Bounce.Account.{Account}
+use Rattle.busdma_machine.specs.Bounce.History.{account_of}
+use Rattle.busdma_machine.specs.Bounce.MemoryRuns.{frames_of}
+use Rattle.busdma_machine.specs.Machine.PageList.{page_addresses}
 use Rattle.bounce_hub.specs.Pools.{Stepped}
 use Rattle.bounce_hub.specs.Seen.{HubSeen, IsKept, opening_of}
 use Rattle.bounce_hub.proofs.Keeping.{fits-of, may-inside, kept-push, holds-own}

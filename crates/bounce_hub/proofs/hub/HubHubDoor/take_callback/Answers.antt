@@ -1,8 +1,8 @@
 use Rattle.std.proofs.Common.{◌≡◌, [], ◌∷◌, ◌++◌, vec_capacity, refl, subst, arith}
-use Rattle.busdma_base.specs.declared.bounce.hold.HubCall.TheVariants.{TakeCallback}
-use Rattle.busdma_base.specs.declared.bounce.hold.HubReply.TheVariants.{Called}
-use Rattle.busdma_base.specs.Bounce.Door.{Holds}
-use Rattle.busdma_base.specs.Bounce.History.{account_of}
+use Rattle.busdma_machine.specs.declared.bounce.hold.HubCall.TheVariants.{TakeCallback}
+use Rattle.busdma_machine.specs.declared.bounce.hold.HubReply.TheVariants.{Called}
+use Rattle.busdma_machine.specs.Bounce.Door.{Holds}
+use Rattle.busdma_machine.specs.Bounce.History.{account_of}
 use Rattle.bounce_hub.specs.Pools.{Stepped}
 use Rattle.bounce_hub.specs.Seen.{IsKept, opening_of, door}
 use Rattle.bounce_hub.proofs.Keeping.{own, may-inside, allowed-of, stepped-of, kept-push, holds-own}

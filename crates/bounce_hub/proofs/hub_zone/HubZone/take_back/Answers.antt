@@ -1,8 +1,8 @@
 use Rattle.std.proofs.Common.{◌≡◌, ℕ, List, length, arith, ap, ◌∙◌}
 use Rattle.std.specs.List.{sum_by}
 use Rattle.std.proofs.lemmas.Grind.{common_steps}
-use Rattle.busdma_base.specs.declared.bounce.zone.Waiter.{Waiter}
-use Rattle.busdma_base.specs.Bounce.Serving.{completed, left_waiting, promised}
+use Rattle.busdma_machine.specs.declared.bounce.zone.Waiter.{Waiter}
+use Rattle.busdma_machine.specs.Bounce.Serving.{completed, left_waiting, promised}
 use Rattle.bounce_hub.specs.HubZones.{room_after}
 use Rattle.bounce_hub.proofs.Promises.{promised-sum, completed-le}
 use Rattle.bounce_hub.proofs.hub_zone.HubZone.take_back.Goals as goal

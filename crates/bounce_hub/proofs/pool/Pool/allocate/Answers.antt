@@ -2,16 +2,16 @@ use Rattle.std.proofs.Common.{◌≡◌, ℕ, ◌≤◌, ◌∷◌, ◌++◌, []
 use Rattle.std.proofs.Common.{subst, arith}
 use Rattle.std.specs.List.{filter}
 use Rattle.std.proofs.lemmas.List.{length-append, length-map}
-use Rattle.busdma_base.specs.declared.bounce.hold.HubCall.TheVariants.{MemAlloc}
-use Rattle.busdma_base.specs.declared.bounce.hold.HubReply.TheVariants.{Run}
-use Rattle.busdma_base.specs.declared.machine.address.Pa.{Pa}
-use Rattle.busdma_base.specs.Bounce.Account.{Memory}
-use Rattle.busdma_base.specs.Bounce.AccountStep.{placed}
-use Rattle.busdma_base.specs.Machine.Page.{FrameBytes}
-use Rattle.busdma_base.specs.Bounce.MemoryRuns.{frames_for, lowest_run, in_run, with_memory}
-use Rattle.busdma_base.specs.Machine.PageList.{page_addresses, page_address}
+use Rattle.busdma_machine.specs.declared.bounce.hold.HubCall.TheVariants.{MemAlloc}
+use Rattle.busdma_machine.specs.declared.bounce.hold.HubReply.TheVariants.{Run}
+use Rattle.busdma_machine.specs.declared.machine.address.Pa.{Pa}
+use Rattle.busdma_machine.specs.Bounce.Account.{Memory}
+use Rattle.busdma_machine.specs.Bounce.AccountStep.{placed}
+use Rattle.busdma_machine.specs.Machine.Page.{FrameBytes}
+use Rattle.busdma_machine.specs.Bounce.MemoryRuns.{frames_for, lowest_run, in_run, with_memory}
+use Rattle.busdma_machine.specs.Machine.PageList.{page_addresses, page_address}
 use Rattle.frame_bank.specs.FrameBank.{free_frames, pages_left, is_in_run}
-use Rattle.busdma_base.specs.Bounce.Door.{IsRow}
+use Rattle.busdma_machine.specs.Bounce.Door.{IsRow}
 use Rattle.bounce_hub.proofs.Answering.{stepped}
 use Rattle.bounce_hub.proofs.Frames.{Found, found, from-row, from-length, from-first, left-addresses, filter-few}
 use Rattle.bounce_hub.proofs.Frames.{run-items, agrees-bank}

@@ -1,5 +1,5 @@
 use Rattle.std.proofs.Common.{◌≡◌, ℕ, ◌<◌, ◌≤◌, length, get_or, vec_len, vec_capacity}
-use Rattle.busdma_base.specs.declared.bounce.zone.ZoneCounts.{ZoneCounts}
+use Rattle.busdma_machine.specs.declared.bounce.zone.ZoneCounts.{ZoneCounts}
 use Rattle.bounce_hub.specs.declared.hub_zone.HubZone.{HubZone}
 use Rattle.bounce_hub.specs.HubZones.{counts_at}
 use Rattle.bounce_hub.proofs.pool.Pool.counts.Given as goal

@@ -1,8 +1,8 @@
 use Rattle.std.proofs.Common.{◌≡◌, ℕ, ◌<◌, ◌+◌, ◌-◌, List, not, length, refl, ap, arith}
 use Rattle.std.specs.List.{filter}
-use Rattle.busdma_base.specs.declared.name.MapId.{MapId}
-use Rattle.busdma_base.specs.Bounce.Account.{zone_at, same_map}
-use Rattle.busdma_base.proofs.Accounts.Counts.{in_zones}
+use Rattle.busdma_machine.specs.declared.name.MapId.{MapId}
+use Rattle.busdma_machine.specs.Bounce.Account.{zone_at, same_map}
+use Rattle.busdma_machine.proofs.Accounts.Counts.{in_zones}
 use Rattle.bounce_hub.specs.declared.hub_zone.HubZone.{HubZone}
 use Rattle.bounce_hub.specs.Pools.{Matches}
 use Rattle.bounce_hub.proofs.Agreeing.{zone-matches}

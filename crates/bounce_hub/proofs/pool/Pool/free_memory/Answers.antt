@@ -1,9 +1,9 @@
 use Rattle.std.proofs.Common.{ℕ, ◌*◌, not, List, length, refl, ap, ◌∙◌, arith}
 use Rattle.std.specs.List.{filter}
 use Rattle.std.proofs.lemmas.List.{length-map}
-use Rattle.busdma_base.specs.Bounce.Account.{Account, same_map}
-use Rattle.busdma_base.specs.Bounce.MemoryRuns.{frames_of, put_all}
-use Rattle.busdma_base.specs.Machine.PageList.{page_addresses, page_address}
+use Rattle.busdma_machine.specs.Bounce.Account.{Account, same_map}
+use Rattle.busdma_machine.specs.Bounce.MemoryRuns.{frames_of, put_all}
+use Rattle.busdma_machine.specs.Machine.PageList.{page_addresses, page_address}
 use Rattle.frame_bank.specs.FrameBank.{Bank}
 use Rattle.bounce_hub.proofs.Frames.{agrees-bank, put_pages-addresses, frames-room, frames-apart, mems-less}
 use Rattle.bounce_hub.proofs.pool.Pool.free_memory.Goals as goal

@@ -1,10 +1,10 @@
 use Rattle.std.proofs.Common.{◌≡◌, ℕ, ◌+◌, ◌<◌, ◌≤◌, [], ◌∷◌, ◌++◌, length, take, refl, sym, ap, ◌∙◌, arith}
-use Rattle.busdma_base.specs.declared.bounce.hold.HubCall.TheVariants.{Grab}
-use Rattle.busdma_base.specs.declared.bounce.hold.HubReply.TheVariants.{Granted, Queued}
-use Rattle.busdma_base.specs.Bounce.Account.{zone_at, free}
-use Rattle.busdma_base.specs.Bounce.AccountStep.{as_pages}
-use Rattle.busdma_base.specs.Bounce.Serving.{handed, queued}
-use Rattle.busdma_base.proofs.Accounts.Counts.{in_zones}
+use Rattle.busdma_machine.specs.declared.bounce.hold.HubCall.TheVariants.{Grab}
+use Rattle.busdma_machine.specs.declared.bounce.hold.HubReply.TheVariants.{Granted, Queued}
+use Rattle.busdma_machine.specs.Bounce.Account.{zone_at, free}
+use Rattle.busdma_machine.specs.Bounce.AccountStep.{as_pages}
+use Rattle.busdma_machine.specs.Bounce.Serving.{handed, queued}
+use Rattle.busdma_machine.proofs.Accounts.Counts.{in_zones}
 use Rattle.bounce_zone.specs.ZonePages.{free_pages}
 use Rattle.bounce_hub.specs.declared.hub_zone.HubZone.{HubZone}
 use Rattle.bounce_hub.specs.Pools.{Matches}

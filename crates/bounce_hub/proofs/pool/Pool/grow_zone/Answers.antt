@@ -1,6 +1,6 @@
 use Rattle.std.proofs.Common.{◌≡◌, ℕ, ◌<◌, List, length, min, refl, sym, ap, ◌∙◌, arith}
-use Rattle.busdma_base.specs.Bounce.Account.{Account, zone_at}
-use Rattle.busdma_base.specs.Bounce.Growth.{with_zone_for, frames_below, added, grown}
+use Rattle.busdma_machine.specs.Bounce.Account.{Account, zone_at}
+use Rattle.busdma_machine.specs.Bounce.Growth.{with_zone_for, frames_below, added, grown}
 use Rattle.bounce_zone.specs.ZonePages.{ZonePages}
 use Rattle.frame_bank.specs.FrameBank.{Bank, free_frames}
 use Rattle.bounce_hub.specs.declared.hub_zone.HubZone.{HubZone}

@@ -1,11 +1,11 @@
 use Rattle.std.proofs.Common.{ℕ, ◌<◌, List, length, refl, sym, ap, ◌∙◌, subst, arith, All}
 use Rattle.std.proofs.lemmas.List.Sums.{get_or-le-sum_by}
-use Rattle.busdma_base.specs.declared.bounce.zone.Waiter.{Waiter}
-use Rattle.busdma_base.specs.declared.bounce.hold.HubReply.TheVariants.{Served}
-use Rattle.busdma_base.specs.Bounce.Account.{Account, Zone, no_zone}
-use Rattle.busdma_base.specs.Machine.PageList.{page_address}
-use Rattle.busdma_base.proofs.Accounts.Counts.{held-active}
-use Rattle.busdma_base.proofs.Accounts.WellFormed.{held-inside}
+use Rattle.busdma_machine.specs.declared.bounce.zone.Waiter.{Waiter}
+use Rattle.busdma_machine.specs.declared.bounce.hold.HubReply.TheVariants.{Served}
+use Rattle.busdma_machine.specs.Bounce.Account.{Account, Zone, no_zone}
+use Rattle.busdma_machine.specs.Machine.PageList.{page_address}
+use Rattle.busdma_machine.proofs.Accounts.Counts.{held-active}
+use Rattle.busdma_machine.proofs.Accounts.WellFormed.{held-inside}
 use Rattle.bounce_hub.specs.declared.hub_zone.HubZone.{HubZone}
 use Rattle.bounce_hub.specs.Pools.{Matches}
 use Rattle.bounce_hub.proofs.Agreeing.{zone-matches, agrees-released}

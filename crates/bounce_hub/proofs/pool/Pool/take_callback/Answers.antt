@@ -1,11 +1,11 @@
 use Rattle.std.proofs.Common.{◌≡◌, ◌<◌, List, ◌∷◌, length, take, refl, sym, ap, ◌∙◌, arith}
-use Rattle.busdma_base.specs.declared.bounce.zone.Waiter.{Waiter}
-use Rattle.busdma_base.specs.declared.bounce.hold.HubCall.TheVariants.{TakeCallback}
-use Rattle.busdma_base.specs.declared.bounce.hold.HubReply.TheVariants.{Called}
-use Rattle.busdma_base.specs.Bounce.Account.{zone_at}
-use Rattle.busdma_base.specs.Bounce.AccountStep.{as_pages}
-use Rattle.busdma_base.specs.Bounce.Serving.{handed}
-use Rattle.busdma_base.proofs.Accounts.Counts.{head-inside}
+use Rattle.busdma_machine.specs.declared.bounce.zone.Waiter.{Waiter}
+use Rattle.busdma_machine.specs.declared.bounce.hold.HubCall.TheVariants.{TakeCallback}
+use Rattle.busdma_machine.specs.declared.bounce.hold.HubReply.TheVariants.{Called}
+use Rattle.busdma_machine.specs.Bounce.Account.{zone_at}
+use Rattle.busdma_machine.specs.Bounce.AccountStep.{as_pages}
+use Rattle.busdma_machine.specs.Bounce.Serving.{handed}
+use Rattle.busdma_machine.proofs.Accounts.Counts.{head-inside}
 use Rattle.bounce_hub.specs.declared.hub_zone.HubZone.{HubZone}
 use Rattle.bounce_hub.specs.Pools.{Matches}
 use Rattle.bounce_hub.proofs.Agreeing.{addresses-take, zone-matches, agrees-called}

@@ -1,5 +1,5 @@
-use Rattle.busdma_base.specs.declared.bounce.hold.HubCall.TheVariants.{AttachTag}
-use Rattle.busdma_base.specs.declared.bounce.hold.HubReply.TheVariants.{Grown as GrownBy}
+use Rattle.busdma_machine.specs.declared.bounce.hold.HubCall.TheVariants.{AttachTag}
+use Rattle.busdma_machine.specs.declared.bounce.hold.HubReply.TheVariants.{Grown as GrownBy}
 use Rattle.bounce_hub_tests.proofs.Calls.{allows_again, again}
 use Rattle.bounce_hub_tests.proofs.tests.asked.attach.Goals as goal
 

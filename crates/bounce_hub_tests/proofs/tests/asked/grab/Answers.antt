@@ -1,5 +1,5 @@
-use Rattle.busdma_base.specs.declared.bounce.hold.HubCall.TheVariants.{Grab}
-use Rattle.busdma_base.specs.Bounce.Door.{grab_reply}
+use Rattle.busdma_machine.specs.declared.bounce.hold.HubCall.TheVariants.{Grab}
+use Rattle.busdma_machine.specs.Bounce.Door.{grab_reply}
 use Rattle.bounce_hub_tests.proofs.Calls.{allows_again, again}
 use Rattle.bounce_hub_tests.proofs.tests.asked.grab.Goals as goal
 

@@ -2,7 +2,7 @@ use Rattle.std.proofs.Common.{refl}
 use Rattle.std.proofs.lemmas.Bool.{false≢true}
 use Rattle.std.proofs.lemmas.Result.{err_from_is_err_and}
 use Rattle.std.proofs.lemmas.List.Elements.{All-get_or, All-tail}
-use Rattle.busdma_base.specs.Tags.Tag.{IsAccepted}
+use Rattle.busdma_machine.specs.Tags.Tag.{IsAccepted}
 use Rattle.dma_tag.proofs.Chain.{chain_first, chain_more}
 use Rattle.dma_tag.proofs.tag.Tag.create_chain.Goals as goal
 

@@ -1,7 +1,7 @@
 use Rattle.std.proofs.Common.{rules, sym, ap, ◌∙◌, arith, leb, ◌+◌}
 use Rattle.std.proofs.lemmas.List.Sorted.{IsPartitionedBy-leb, IsPartitionPoint-from_clause}
-use Rattle.busdma_base.specs.Bounce.Growth.{frames_below}
-use Rattle.busdma_base.specs.Machine.PageList.{page_address}
+use Rattle.busdma_machine.specs.Bounce.Growth.{frames_below}
+use Rattle.busdma_machine.specs.Machine.PageList.{page_address}
 use Rattle.frame_bank.specs.FrameBank.{Bank, free_frames}
 use Rattle.frame_bank.proofs.Counted.{count_by-map, count_by-front}
 use Rattle.frame_bank.proofs.Rising.{rising_pages, rising_ends}

@@ -2,9 +2,9 @@ use Rattle.std.proofs.Common.{◌≡◌, ◌+◌, ◌<◌, get_or, leb, refl, sy
 use Rattle.std.specs.VecDeque.{deque_len}
 use Rattle.std.proofs.lemmas.Bool.{leb-false, lt-leb}
 use Rattle.std.proofs.lemmas.List.{get_or_read}
-use Rattle.busdma_base.specs.Machine.Page.{FrameBytes}
-use Rattle.busdma_base.specs.Bounce.Growth.{frames_below}
-use Rattle.busdma_base.specs.Machine.PageList.{page_address}
+use Rattle.busdma_machine.specs.Machine.Page.{FrameBytes}
+use Rattle.busdma_machine.specs.Bounce.Growth.{frames_below}
+use Rattle.busdma_machine.specs.Machine.PageList.{page_address}
 use Rattle.frame_bank.specs.FrameBank.{Bank, free_frames}
 use Rattle.frame_bank.proofs.Counted.{count_by-map, count_by-front}
 use Rattle.frame_bank.proofs.Rising.{rising_pages, rising_ends}

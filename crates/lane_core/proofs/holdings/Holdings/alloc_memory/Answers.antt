@@ -2,14 +2,14 @@ use Rattle.std.proofs.Common.{◌≡◌, ◌≤◌, Some, length, ap, sym, ◌�
 use Rattle.std.specs.Prelude.{IfSome, slice_index_or}
 use Rattle.std.proofs.lemmas.List.{length-map}
 use Rattle.std.specs.FinMap.{get}
-use Rattle.busdma_base.specs.declared.bounce.hold.HubCall.TheVariants.{MemAlloc}
-use Rattle.busdma_base.specs.declared.bounce.hold.HubReply.TheVariants.{NoRun}
+use Rattle.busdma_machine.specs.declared.bounce.hold.HubCall.TheVariants.{MemAlloc}
+use Rattle.busdma_machine.specs.declared.bounce.hold.HubReply.TheVariants.{NoRun}
 use Rattle.busdma_base.specs.declared.journals.answer.Answer.TheVariants.{Placed, Refused}
-use Rattle.busdma_base.specs.declared.journals.report.Errno.TheVariants.{ENOMEM}
-use Rattle.busdma_base.specs.declared.name.MapId.{MapId}
-use Rattle.busdma_base.specs.Bounce.Door.{Holds, IsRow, memory_reply}
-use Rattle.busdma_base.specs.Bounce.MemoryRuns.{frames_from}
-use Rattle.busdma_base.specs.Machine.PageList.{RoomyPages, page_address, page_addresses}
+use Rattle.busdma_machine.specs.declared.report.Errno.TheVariants.{ENOMEM}
+use Rattle.busdma_machine.specs.declared.name.MapId.{MapId}
+use Rattle.busdma_machine.specs.Bounce.Door.{Holds, IsRow, memory_reply}
+use Rattle.busdma_machine.specs.Bounce.MemoryRuns.{frames_from}
+use Rattle.busdma_machine.specs.Machine.PageList.{RoomyPages, page_address, page_addresses}
 use Rattle.dma_tag.specs.MemFlags.{zero_filled}
 use Rattle.ideal_lane.specs.Asking.{Asks}
 use Rattle.ideal_lane.specs.Memories as memories

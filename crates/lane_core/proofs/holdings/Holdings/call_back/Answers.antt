@@ -1,5 +1,5 @@
 use Rattle.std.proofs.Common.{length}
-use Rattle.busdma_base.specs.Machine.PageList.{page_addresses}
+use Rattle.busdma_machine.specs.Machine.PageList.{page_addresses}
 use Rattle.lane_core.proofs.Called.{called-need, called-waits}
 use Rattle.lane_core.proofs.CallbackTurns.{called-made}
 use Rattle.lane_core.proofs.holdings.Holdings.call_back.Goals as goal

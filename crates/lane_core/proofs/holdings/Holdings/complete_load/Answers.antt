@@ -2,17 +2,17 @@ use Rattle.std.proofs.Common.{◌≡◌, ◌≤◌, ◌<◌, ◌++◌, List, len
 use Rattle.std.proofs.Common.{◌∙◌, subst, cond, arith, length-append}
 use Rattle.std.specs.FinMap.{get, insert}
 use Rattle.busdma_base.specs.declared.journals.answer.Answer.TheVariants.{Refused, Segments}
-use Rattle.busdma_base.specs.declared.journals.report.Errno.TheVariants.{EFBIG}
-use Rattle.busdma_base.specs.declared.machine.address.Pa.{Pa}
-use Rattle.busdma_base.specs.declared.machine.address.Segment.{Segment}
-use Rattle.busdma_base.specs.Bounce.AccountStep.{as_pages}
-use Rattle.busdma_base.specs.Machine.Page.{FrameBytes}
-use Rattle.busdma_base.specs.Room.{Roomy}
+use Rattle.busdma_machine.specs.declared.report.Errno.TheVariants.{EFBIG}
+use Rattle.busdma_machine.specs.declared.machine.address.Pa.{Pa}
+use Rattle.busdma_machine.specs.declared.machine.address.Segment.{Segment}
+use Rattle.busdma_machine.specs.Bounce.AccountStep.{as_pages}
+use Rattle.busdma_machine.specs.Machine.Page.{FrameBytes}
+use Rattle.busdma_machine.specs.Room.{Roomy}
 use Rattle.std.proofs.lemmas.Bool.{eq-eqb}
 use Rattle.ideal_lane.proofs.Falling.{queued-from}
 use Rattle.ideal_lane.proofs.Lookups.{get_put}
-use Rattle.busdma_base.specs.Machine.Entry.{entries_addresses}
-use Rattle.busdma_base.specs.Machine.PageList.{page_addresses}
+use Rattle.busdma_machine.specs.Machine.Entry.{entries_addresses}
+use Rattle.busdma_machine.specs.Machine.PageList.{page_addresses}
 use Rattle.lane_tables.specs.Queues.{queued}
 use Rattle.loan_table.specs.Loans.{loan_of, new_loan, no_loan}
 use Rattle.segment_build.specs.Building.{placed_pieces, tag_placed}

@@ -1,6 +1,6 @@
 use Rattle.std.proofs.Common.{◌/◌, ap, sym, ◌∙◌}
 use Rattle.std.specs.FinMap.{contains_key}
-use Rattle.busdma_base.specs.Runs.{addresses}
+use Rattle.busdma_machine.specs.Runs.{addresses}
 use Rattle.loan_table.specs.Table.{set_all}
 use Rattle.ideal_lane.specs.Outcomes.{gives}
 use Rattle.lane_core.specs.Ideal.{ideal_of}

@@ -1,12 +1,12 @@
 use Rattle.std.proofs.Common.{◌≡◌, Some, true, ap, sym, ◌∙◌, subst, if◌then◌else◌}
 use Rattle.std.specs.Option.{option_map}
-use Rattle.busdma_base.specs.declared.bounce.hold.HubCall.TheVariants.{CreateMap}
-use Rattle.busdma_base.specs.declared.bounce.hold.HubReply.TheVariants as reply
+use Rattle.busdma_machine.specs.declared.bounce.hold.HubCall.TheVariants.{CreateMap}
+use Rattle.busdma_machine.specs.declared.bounce.hold.HubReply.TheVariants as reply
 use Rattle.busdma_base.specs.declared.journals.answer.Answer.TheVariants.{Grown}
-use Rattle.busdma_base.specs.declared.name.MapId.{MapId}
-use Rattle.busdma_base.specs.declared.tags.tag.TagLimits.{TagLimits}
-use Rattle.busdma_base.specs.Bounce.Door.{Allows, Holds}
-use Rattle.busdma_base.specs.Tags.Tag.{could_bounce}
+use Rattle.busdma_machine.specs.declared.name.MapId.{MapId}
+use Rattle.busdma_machine.specs.declared.tags.tag.TagLimits.{TagLimits}
+use Rattle.busdma_machine.specs.Bounce.Door.{Allows, Holds}
+use Rattle.busdma_machine.specs.Tags.Tag.{could_bounce}
 use Rattle.ideal_lane.specs.Maps.{created, map, with_map}
 use Rattle.ideal_lane.specs.State.{LaneState, named}
 use Rattle.ideal_lane.specs.Tags.{with_tag}

@@ -1,11 +1,11 @@
 use Rattle.std.proofs.Common.{refl, ap, sym, ◌∙◌, subst}
 use Rattle.std.specs.Option.{option_map}
-use Rattle.busdma_base.specs.declared.bounce.hold.HubCall.TheVariants.{DestroyMap}
-use Rattle.busdma_base.specs.declared.bounce.hold.HubReply.TheVariants.{Nothing}
+use Rattle.busdma_machine.specs.declared.bounce.hold.HubCall.TheVariants.{DestroyMap}
+use Rattle.busdma_machine.specs.declared.bounce.hold.HubReply.TheVariants.{Nothing}
 use Rattle.busdma_base.specs.declared.journals.answer.Answer.TheVariants.{Done}
-use Rattle.busdma_base.specs.declared.name.MapId.{MapId}
-use Rattle.busdma_base.specs.declared.name.ZoneId.{ZoneId}
-use Rattle.busdma_base.specs.Bounce.Door.{Allows, Holds}
+use Rattle.busdma_machine.specs.declared.name.MapId.{MapId}
+use Rattle.busdma_machine.specs.declared.name.ZoneId.{ZoneId}
+use Rattle.busdma_machine.specs.Bounce.Door.{Allows, Holds}
 use Rattle.ideal_lane.specs.Maps.{map_destroy, without_map}
 use Rattle.ideal_lane.specs.Outcomes.{gives}
 use Rattle.ideal_lane.specs.State.{named}

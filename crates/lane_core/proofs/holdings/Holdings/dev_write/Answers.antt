@@ -1,6 +1,6 @@
 use Rattle.std.proofs.Common.{◌≡◌, ◌/◌, true, Some, length, ap, sym, ◌∙◌, subst}
 use Rattle.std.specs.FinMap.{contains_key, get, insert}
-use Rattle.busdma_base.specs.declared.name.MapId.{MapId}
+use Rattle.busdma_machine.specs.declared.name.MapId.{MapId}
 use Rattle.loan_table.specs.Access.{dev_write_answer}
 use Rattle.loan_table.specs.Loans.{load_bytes, loan_of}
 use Rattle.loan_table.specs.Table.{set_all}

@@ -2,8 +2,8 @@ use Rattle.std.proofs.Common.{◌≡◌, ◌-◌, ◌++◌, Some, true, false, l
 use Rattle.std.proofs.Common.{subst, arith}
 use Rattle.std.proofs.lemmas.Bool.{eq-eqb}
 use Rattle.std.specs.FinMap.{get, insert, remove, contains_key}
-use Rattle.busdma_base.specs.declared.name.MapId.{MapId}
-use Rattle.busdma_base.specs.declared.name.ZoneId.{ZoneId}
+use Rattle.busdma_machine.specs.declared.name.MapId.{MapId}
+use Rattle.busdma_machine.specs.declared.name.ZoneId.{ZoneId}
 use Rattle.lane_agreement.specs.View.{queued_back}
 use Rattle.lane_tables.specs.Queues.{queued_pages}
 use Rattle.loan_table.specs.Lending.{lost_by_forgetting}

@@ -1,13 +1,13 @@
 use Rattle.std.proofs.Common.{◌≡◌, refl, ap, sym, ◌∙◌, subst}
 use Rattle.std.specs.FinMap.{remove}
-use Rattle.busdma_base.specs.Bounce.MemoryRuns.{in_run}
+use Rattle.busdma_machine.specs.Bounce.MemoryRuns.{in_run}
 use Rattle.ideal_lane.specs.IdealMemory.{parted}
-use Rattle.busdma_base.specs.declared.bounce.hold.HubCall.TheVariants.{MemFree}
-use Rattle.busdma_base.specs.declared.bounce.hold.HubReply.TheVariants.{Nothing}
+use Rattle.busdma_machine.specs.declared.bounce.hold.HubCall.TheVariants.{MemFree}
+use Rattle.busdma_machine.specs.declared.bounce.hold.HubReply.TheVariants.{Nothing}
 use Rattle.busdma_base.specs.declared.journals.answer.Answer.TheVariants.{Done}
-use Rattle.busdma_base.specs.declared.name.MapId.{MapId}
-use Rattle.busdma_base.specs.Bounce.Door.{Allows, ArePagesOf, Holds}
-use Rattle.busdma_base.specs.Machine.PageList.{page_addresses}
+use Rattle.busdma_machine.specs.declared.name.MapId.{MapId}
+use Rattle.busdma_machine.specs.Bounce.Door.{Allows, ArePagesOf, Holds}
+use Rattle.busdma_machine.specs.Machine.PageList.{page_addresses}
 use Rattle.ideal_lane.specs.Maps.{without_map}
 use Rattle.ideal_lane.specs.Memories.{dmamem_free, without_memory}
 use Rattle.ideal_lane.specs.Outcomes.{gives}

@@ -1,7 +1,7 @@
 use Rattle.std.proofs.Common.{◌≡◌, ℕ, ◌*◌, true, false, Option, Some, None, is_some, refl, sym, ap, ◌∙◌, subst, arith}
 use Rattle.std.specs.FinMap.{contains_key, get, insert}
-use Rattle.busdma_base.specs.Bounce.MemoryRuns.{frames_from, in_run}
-use Rattle.busdma_base.specs.Runs.{run_of}
+use Rattle.busdma_machine.specs.Bounce.MemoryRuns.{frames_from, in_run}
+use Rattle.busdma_machine.specs.Runs.{run_of}
 use Rattle.lane_tables.specs.Places.{Places}
 use Rattle.loan_table.specs.Table.{AreNew, set_all}
 use Rattle.memory_pages.specs.Placed.{Comes, IsWithout}

@@ -1,7 +1,7 @@
 use Rattle.std.proofs.Common.{◌<◌, ℕ, Option, is_some, sym, ap, ◌∙◌, arith}
 use Rattle.std.specs.List.{enumerate_from}
-use Rattle.busdma_base.specs.Journals.Judging.{judged}
-use Rattle.busdma_base.specs.Runs.{run_of}
+use Rattle.busdma_machine.specs.Judging.{judged}
+use Rattle.busdma_machine.specs.Runs.{run_of}
 use Rattle.ideal_lane.specs.State.{LaneMemory}
 use Rattle.lane_core.specs.Judging.{foreign_refusal}
 use Rattle.lane_core.specs.Kept.{memory_of}

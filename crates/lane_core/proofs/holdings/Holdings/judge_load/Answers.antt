@@ -1,5 +1,5 @@
 use Rattle.std.proofs.Common.{ap, ◌∙◌}
-use Rattle.busdma_base.specs.Machine.Entry.{unmapped_of}
+use Rattle.busdma_machine.specs.Machine.Entry.{unmapped_of}
 use Rattle.lane_core.specs.Ideal.{ideal_of}
 use Rattle.lane_core.specs.Judging.{earlier, foreign_judged, unmapped_judged}
 use Rattle.lane_core.specs.Loading.{bio_of}

@@ -1,7 +1,7 @@
 use Rattle.std.proofs.Common.{◌≡◌}
 use Rattle.std.specs.List.{list_any}
-use Rattle.busdma_base.specs.Journals.Judging.{judged}
-use Rattle.busdma_base.specs.Runs.{run_of}
+use Rattle.busdma_machine.specs.Judging.{judged}
+use Rattle.busdma_machine.specs.Runs.{run_of}
 use Rattle.ideal_lane.specs.Places.{is_in_memory, is_memory_byte}
 use Rattle.lane_core.specs.Ideal.{ideal_of}
 use Rattle.lane_core.specs.Judging.{earlier, foreign_refusal}

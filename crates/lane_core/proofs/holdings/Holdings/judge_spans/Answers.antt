@@ -1,8 +1,8 @@
 use Rattle.std.proofs.Common.{◌≡◌, ◌+◌, [], drop, slice_index_or, sym, ap, ◌∙◌, arith}
-use Rattle.busdma_base.specs.declared.journals.report.Judged.TheVariants.{Fine}
-use Rattle.busdma_base.specs.declared.machine.address.Span.{Span}
-use Rattle.busdma_base.specs.Machine.Spans.{span_addresses}
-use Rattle.busdma_base.specs.Runs.{run_of}
+use Rattle.busdma_machine.specs.declared.report.Judged.TheVariants.{Fine}
+use Rattle.busdma_machine.specs.declared.machine.address.Span.{Span}
+use Rattle.busdma_machine.specs.Machine.Spans.{span_addresses}
+use Rattle.busdma_machine.specs.Runs.{run_of}
 use Rattle.loan_table.proofs.Judgement.{length-run_of}
 use Rattle.phys_memory.proofs.Vectors.{bytes_here}
 use Rattle.phys_memory.specs.Memory.{physical}

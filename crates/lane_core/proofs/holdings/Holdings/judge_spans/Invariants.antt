@@ -1,5 +1,5 @@
 use Rattle.std.proofs.Common.{◌≡◌, ◌+◌, drop}
-use Rattle.busdma_base.specs.Machine.Spans.{span_addresses, span_bytes}
+use Rattle.busdma_machine.specs.Machine.Spans.{span_addresses, span_bytes}
 use Rattle.lane_core.specs.Ideal.{ideal_of}
 use Rattle.lane_core.specs.Judging.{foreign_bytes}
 use Rattle.lane_core.proofs.holdings.Holdings.judge_spans.Given as goal

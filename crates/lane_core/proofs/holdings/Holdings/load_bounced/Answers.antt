@@ -3,12 +3,12 @@ use Rattle.std.proofs.Common.{arith}
 use Rattle.std.proofs.lemmas.Bool.{eq-eqb}
 use Rattle.std.specs.FinMap.{get, remove}
 use Rattle.std.specs.List.{each_same}
-use Rattle.busdma_base.specs.declared.bounce.hold.HubCall.TheVariants.{Grab}
-use Rattle.busdma_base.specs.declared.name.MapId.{MapId}
-use Rattle.busdma_base.specs.declared.name.ZoneId.{ZoneId}
+use Rattle.busdma_machine.specs.declared.bounce.hold.HubCall.TheVariants.{Grab}
+use Rattle.busdma_machine.specs.declared.name.MapId.{MapId}
+use Rattle.busdma_machine.specs.declared.name.ZoneId.{ZoneId}
 use Rattle.busdma_base.specs.declared.scenarios.scenario.PageRun.{PageRun}
 use Rattle.busdma_base.specs.declared.scenarios.script.Item.{Item}
-use Rattle.busdma_base.specs.Bounce.Door.{Allows, Holds, account, grab_reply}
+use Rattle.busdma_machine.specs.Bounce.Door.{Allows, Holds, account, grab_reply}
 use Rattle.lane_tables.specs.Schedule.{Schedule}
 use Rattle.ideal_lane.proofs.Lookups.{get_put}
 use Rattle.ideal_lane.specs.Loads.{granted, limits_of, load_entries, zone_of}

@@ -4,8 +4,8 @@ use Rattle.std.specs.FinMap.{get}
 use Rattle.std.specs.List.{each_same}
 use Rattle.busdma_base.specs.declared.scenarios.scenario.PageRun.{PageRun}
 use Rattle.busdma_base.specs.declared.scenarios.script.Item.{Item}
-use Rattle.busdma_base.specs.Machine.Page.{FrameBytes}
-use Rattle.busdma_base.specs.Machine.PageList.{RoomyPages, page_addresses}
+use Rattle.busdma_machine.specs.Machine.Page.{FrameBytes}
+use Rattle.busdma_machine.specs.Machine.PageList.{RoomyPages, page_addresses}
 use Rattle.ideal_lane.proofs.Lookups.{get_put}
 use Rattle.ideal_lane.specs.Loads.{finished, limits_of, load_entries}
 use Rattle.ideal_lane.specs.Standing.{Stands}

@@ -1,6 +1,6 @@
 use Rattle.std.proofs.Common.{Some, true, false, ap, sym, ◌∙◌}
 use Rattle.std.specs.FinMap.{get}
-use Rattle.busdma_base.specs.Tags.Tag.{could_bounce}
+use Rattle.busdma_machine.specs.Tags.Tag.{could_bounce}
 use Rattle.ideal_lane.specs.Maps.{map}
 use Rattle.ideal_lane.specs.Outcomes.{gives}
 use Rattle.lane_core.specs.declared.kept.KeptTag.{KeptTag}

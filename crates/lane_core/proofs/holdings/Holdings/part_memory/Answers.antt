@@ -1,6 +1,6 @@
 use Rattle.std.proofs.Common.{◌≡◌, ◌*◌, is_some, refl, sym, ap, ◌∙◌, subst}
 use Rattle.std.specs.FinMap.{get, remove}
-use Rattle.busdma_base.specs.Runs.{run_of}
+use Rattle.busdma_machine.specs.Runs.{run_of}
 use Rattle.lane_tables.specs.Places.{Places}
 use Rattle.loan_table.specs.Table.{AreFree, AreIn, without}
 use Rattle.lane_core.specs.declared.kept.KeptMemory.{KeptMemory}

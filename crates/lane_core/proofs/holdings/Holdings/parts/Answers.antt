@@ -1,8 +1,8 @@
 use Rattle.std.proofs.Common.{◌≡◌, List, ◌≤◌, ◌^◌, sym, ap, ◌∙◌, subst, arith}
-use Rattle.busdma_base.specs.declared.machine.bio.Bio.TheVariants.{Unmapped}
-use Rattle.busdma_base.specs.declared.machine.chunk.Part.{Part}
-use Rattle.busdma_base.specs.Machine.Spans.{one_span}
-use Rattle.busdma_base.specs.Runs.{addresses, byte_count}
+use Rattle.busdma_machine.specs.declared.machine.bio.Bio.TheVariants.{Unmapped}
+use Rattle.busdma_machine.specs.declared.machine.chunk.Part.{Part}
+use Rattle.busdma_machine.specs.Machine.Spans.{one_span}
+use Rattle.busdma_machine.specs.Runs.{addresses, byte_count}
 use Rattle.busdma_base.specs.Scenarios.Buffers.{IsBioOf}
 use Rattle.load_bio.specs.Bio.{IsBio, bio_stream}
 use Rattle.loan_table.specs.Table.{AreIn}

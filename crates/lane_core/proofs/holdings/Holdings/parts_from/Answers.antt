@@ -1,8 +1,8 @@
 use Rattle.std.proofs.Common.{[], ◌∷◌, List, sym, ap, ◌∙◌, subst, arith}
-use Rattle.busdma_base.specs.declared.machine.bio.Bio.TheVariants.{Mapped}
-use Rattle.busdma_base.specs.declared.machine.chunk.Part.{Part}
-use Rattle.busdma_base.specs.Machine.Spans.{one_span}
-use Rattle.busdma_base.specs.Runs.{addresses}
+use Rattle.busdma_machine.specs.declared.machine.bio.Bio.TheVariants.{Mapped}
+use Rattle.busdma_machine.specs.declared.machine.chunk.Part.{Part}
+use Rattle.busdma_machine.specs.Machine.Spans.{one_span}
+use Rattle.busdma_machine.specs.Runs.{addresses}
 use Rattle.load_bio.specs.Bio.{bio_stream}
 use Rattle.loan_table.specs.Table.{AreIn}
 use Rattle.ideal_lane.specs.Places.{physical}

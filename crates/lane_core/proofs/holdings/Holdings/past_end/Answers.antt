@@ -1,5 +1,5 @@
 use Rattle.std.proofs.Common.{subst}
-use Rattle.busdma_base.specs.declared.name.MapId.{MapId}
+use Rattle.busdma_machine.specs.declared.name.MapId.{MapId}
 use Rattle.loan_table.specs.Loans.{addresses_of}
 use Rattle.loan_table.specs.Table.{AreIn, buffer_of}
 use Rattle.loan_table.proofs.Marking.{AreIn-range}

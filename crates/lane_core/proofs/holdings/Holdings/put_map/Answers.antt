@@ -1,7 +1,7 @@
 use Rattle.std.proofs.Common.{◌≡◌, None, Some, false, refl, sym, ap, ◌∙◌, subst}
 use Rattle.std.specs.FinMap.{get, insert}
 use Rattle.std.specs.Option.{option_map}
-use Rattle.busdma_base.specs.declared.name.ZoneId.{ZoneId}
+use Rattle.busdma_machine.specs.declared.name.ZoneId.{ZoneId}
 use Rattle.ideal_lane.specs.Outcomes.{is_idle}
 use Rattle.ideal_lane.specs.State.{Idle}
 use Rattle.lane_core.specs.declared.kept.KeptMap.{KeptMap}

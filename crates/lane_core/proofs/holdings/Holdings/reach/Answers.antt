@@ -1,5 +1,5 @@
 use Rattle.std.proofs.Common.{◌≡◌, ◌<◌, ◌^◌, length, map, sym, ap, ◌∙◌, subst, arith}
-use Rattle.busdma_base.specs.Runs.{addresses, byte_count, run_of}
+use Rattle.busdma_machine.specs.Runs.{addresses, byte_count, run_of}
 use Rattle.loan_table.specs.Table.{AreIn}
 use Rattle.phys_memory.specs.declared.walk.Walked.{Walked}
 use Rattle.phys_memory.specs.Frames.{Lie}

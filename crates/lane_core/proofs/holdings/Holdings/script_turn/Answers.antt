@@ -1,6 +1,6 @@
 use Rattle.std.proofs.Common.{◌≡◌, ◌≤◌, [], length, sym, ap, ◌∙◌, subst}
 use Rattle.busdma_base.specs.declared.journals.journal.Side.TheVariants as side
-use Rattle.busdma_base.specs.Bounce.Door.{Seen}
+use Rattle.busdma_machine.specs.Bounce.Door.{Seen}
 use Rattle.lane_core.specs.declared.holdings.Holdings.{Holdings}
 use Rattle.lane_core.specs.Changes.{KeepsState}
 use Rattle.lane_core.specs.Doing.{IsUndone}

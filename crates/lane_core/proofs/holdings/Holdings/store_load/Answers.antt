@@ -3,8 +3,8 @@ use Rattle.std.proofs.Common.{cond}
 use Rattle.std.proofs.lemmas.Bool.{eq-eqb}
 use Rattle.std.specs.FinMap.{get, insert, remove, contains_key}
 use Rattle.ideal_lane.proofs.Lookups.{get_put}
-use Rattle.busdma_base.specs.declared.name.MapId.{MapId}
-use Rattle.busdma_base.specs.Machine.PageList.{page_addresses}
+use Rattle.busdma_machine.specs.declared.name.MapId.{MapId}
+use Rattle.busdma_machine.specs.Machine.PageList.{page_addresses}
 use Rattle.dma_map.specs.MapView.{loaded}
 use Rattle.loan_table.specs.Loans.{loan_of, new_loan, no_loan}
 use Rattle.ideal_lane.specs.State.{LaneMap, Loaded}

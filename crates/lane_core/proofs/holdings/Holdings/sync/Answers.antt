@@ -1,6 +1,6 @@
 use Rattle.std.proofs.Common.{ap, sym, ◌∙◌}
 use Rattle.std.specs.FinMap.{get}
-use Rattle.busdma_base.specs.declared.name.MapId.{MapId}
+use Rattle.busdma_machine.specs.declared.name.MapId.{MapId}
 use Rattle.loan_table.specs.Table.{buffer_of}
 use Rattle.std.proofs.Common.{◌≡◌, length}
 use Rattle.ideal_lane.specs.Outcomes.{load_length}

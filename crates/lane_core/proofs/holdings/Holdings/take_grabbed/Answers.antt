@@ -1,13 +1,13 @@
 use Rattle.std.proofs.Common.{◌≡◌, ℕ, List, [], ◌∷◌, length, None, refl, sym, ap, ◌∙◌, subst}
 use Rattle.std.specs.FinMap.{get}
-use Rattle.busdma_base.specs.declared.bounce.door.Grabbed.{Grabbed}
-use Rattle.busdma_base.specs.declared.bounce.door.Grabbed.TheVariants.{Granted}
+use Rattle.busdma_machine.specs.declared.bounce.door.Grabbed.{Grabbed}
+use Rattle.busdma_machine.specs.declared.bounce.door.Grabbed.TheVariants.{Granted}
 use Rattle.busdma_base.specs.declared.journals.answer.Answer.TheVariants.{InProgress, Refused}
-use Rattle.busdma_base.specs.declared.journals.report.Errno.TheVariants.{ENOMEM}
-use Rattle.busdma_base.specs.declared.machine.chunk.Chunk.{Chunk}
-use Rattle.busdma_base.specs.Bounce.AccountStep.{as_pages}
-use Rattle.busdma_base.specs.Bounce.Door.{grab_reply}
-use Rattle.busdma_base.specs.Machine.PageList.{page_addresses}
+use Rattle.busdma_machine.specs.declared.report.Errno.TheVariants.{ENOMEM}
+use Rattle.busdma_machine.specs.declared.machine.chunk.Chunk.{Chunk}
+use Rattle.busdma_machine.specs.Bounce.AccountStep.{as_pages}
+use Rattle.busdma_machine.specs.Bounce.Door.{grab_reply}
+use Rattle.busdma_machine.specs.Machine.PageList.{page_addresses}
 use Rattle.lane_agreement.specs.After.{addresses}
 use Rattle.segment_build.specs.Chunks.{need_of}
 use Rattle.ideal_lane.specs.Loads.{finished, granted, limits_of, staged}

@@ -1,5 +1,5 @@
 use Rattle.std.proofs.Common.{◌≡◌, unwrap_or, sym, ap, ◌∙◌}
-use Rattle.busdma_base.specs.declared.name.ZoneId.{ZoneId}
+use Rattle.busdma_machine.specs.declared.name.ZoneId.{ZoneId}
 use Rattle.ideal_lane.specs.Loads.{zone_of}
 use Rattle.lane_core.specs.Kept.{map_of}
 use Rattle.lane_core.proofs.MapValues.{image-none, image-some}

@@ -1,8 +1,8 @@
 use Rattle.std.proofs.Common.{◌≡◌}
-use Rattle.busdma_base.specs.declared.bounce.hold.HubCall.TheVariants as hub
-use Rattle.busdma_base.specs.declared.bounce.hold.HubReply.TheVariants as said
-use Rattle.busdma_base.specs.Bounce.Door.{grab_reply, memory_reply}
-use Rattle.busdma_base.specs.Machine.PageList.{page_address}
+use Rattle.busdma_machine.specs.declared.bounce.hold.HubCall.TheVariants as hub
+use Rattle.busdma_machine.specs.declared.bounce.hold.HubReply.TheVariants as said
+use Rattle.busdma_machine.specs.Bounce.Door.{grab_reply, memory_reply}
+use Rattle.busdma_machine.specs.Machine.PageList.{page_address}
 use Rattle.lane_threads.specs.declared.call.DoorReply.TheVariants as reply
 use Rattle.lane_threads.specs.Object.{IsMade}
 use Rattle.lane_threads.proofs.Acting.{made, made_or_failed, made_or_missed, with_row, grows_answered, answers_here}

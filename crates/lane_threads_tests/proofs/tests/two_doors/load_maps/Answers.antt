@@ -1,7 +1,7 @@
 use Rattle.std.proofs.Common.{true, false, subst}
-use Rattle.busdma_base.specs.declared.bounce.hold.HubCall.TheVariants.{Grab}
-use Rattle.busdma_base.specs.Bounce.Door.{Holds, grab_reply}
-use Rattle.busdma_base.specs.Machine.PageList.{page_addresses}
+use Rattle.busdma_machine.specs.declared.bounce.hold.HubCall.TheVariants.{Grab}
+use Rattle.busdma_machine.specs.Bounce.Door.{Holds, grab_reply}
+use Rattle.busdma_machine.specs.Machine.PageList.{page_addresses}
 use Rattle.lane_agreement.specs.View.{Loaded}
 use Rattle.lane_threads.specs.PassDoor.{seen}
 use Rattle.lane_threads_tests.specs.Knowing.{in_zone}

@@ -1,5 +1,5 @@
 use Rattle.std.proofs.Common.{◌≡◌, [], ◌∷◌, Option, rules, subst}
-use Rattle.busdma_base.specs.Machine.PageList.{page_address, page_addresses}
+use Rattle.busdma_machine.specs.Machine.PageList.{page_address, page_addresses}
 use Rattle.lane_agreement.specs.View.{OwnMap, Waiting, Loaded, Returning}
 use Rattle.lane_threads.specs.PassDoor.{seen}
 use Rattle.lane_threads_tests.specs.Knowing.{Knows, HasMaps, in_zone}

@@ -1,5 +1,5 @@
 use Rattle.std.proofs.Common.{◌≡◌, ◌+◌, arith, ap, sym, subst}
-use Rattle.busdma_base.specs.declared.name.MapId.{MapId}
+use Rattle.busdma_machine.specs.declared.name.MapId.{MapId}
 use Rattle.lane_threads.specs.PassDoor.{seen}
 use Rattle.lane_threads_tests.specs.Knowing.{Knows, HasNone}
 use Rattle.lane_threads_tests.proofs.Starting.{starts_with_none}

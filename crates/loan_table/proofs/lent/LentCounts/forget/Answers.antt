@@ -1,6 +1,6 @@
 use Rattle.std.proofs.Common.{◌≡◌, map, ap, arith}
 use Rattle.std.proofs.lemmas.List.{take_all}
-use Rattle.busdma_base.specs.Machine.Wire.{stretch}
+use Rattle.busdma_machine.specs.Machine.Wire.{stretch}
 use Rattle.loan_table.specs.Counted.{places}
 use Rattle.loan_table.specs.Kinds.{test_of}
 use Rattle.loan_table.specs.Lending.{marked}

@@ -1,6 +1,6 @@
 use Rattle.std.proofs.Common.{◌≡◌, ap, sym, ◌∙◌, arith}
 use Rattle.std.proofs.lemmas.List.{take_all}
-use Rattle.busdma_base.specs.Machine.Wire.{stretch}
+use Rattle.busdma_machine.specs.Machine.Wire.{stretch}
 use Rattle.run_set.specs.Edges.{member}
 use Rattle.loan_table.specs.Table.{extent_count}
 use Rattle.loan_table.proofs.PlacedBytes.{bytes_between, length-placed}

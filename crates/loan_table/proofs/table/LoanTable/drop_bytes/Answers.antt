@@ -1,5 +1,5 @@
 use Rattle.std.proofs.Common.{sym, subst, arith}
-use Rattle.busdma_base.specs.Runs.{run_of}
+use Rattle.busdma_machine.specs.Runs.{run_of}
 use Rattle.loan_table.specs.Kept.{AreLow, HasItsBytes}
 use Rattle.loan_table.specs.Trees.{closed, opened}
 use Rattle.loan_table.proofs.Addresses.{run_fits}

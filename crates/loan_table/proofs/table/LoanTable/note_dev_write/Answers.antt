@@ -1,6 +1,6 @@
 use Rattle.std.proofs.Common.{◌+◌, ◌≤◌, length, sym, subst, arith}
 use Rattle.loan_table.specs.Kept.{AreLow}
-use Rattle.busdma_base.specs.Machine.Wire.{stretch}
+use Rattle.busdma_machine.specs.Machine.Wire.{stretch}
 use Rattle.loan_table.specs.Loans.{loan_of, addresses_of}
 use Rattle.loan_table.specs.Trees.{opened}
 use Rattle.loan_table.proofs.Addresses.{AreIn-set_all, AreLow-set_all}

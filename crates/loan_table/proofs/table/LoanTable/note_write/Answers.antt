@@ -1,5 +1,5 @@
 use Rattle.std.proofs.Common.{sym, subst, arith}
-use Rattle.busdma_base.specs.Runs.{addresses}
+use Rattle.busdma_machine.specs.Runs.{addresses}
 use Rattle.loan_table.specs.Kept.{AreLow}
 use Rattle.loan_table.proofs.Addresses.{AllEnd, AreIn-set_all, AreLow-set_all}
 use Rattle.loan_table.proofs.Rooms.{used_extents, room_kept}

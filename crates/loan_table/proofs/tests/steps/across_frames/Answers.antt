@@ -1,7 +1,7 @@
 use Rattle.std.proofs.Common.{ap, sym, ◌∙◌, subst, true, is_some}
 use Rattle.std.specs.Ordering.{nat_cmp}
 use Rattle.std.specs.FinMap.{get, get-empty}
-use Rattle.busdma_base.specs.Runs.{run_of}
+use Rattle.busdma_machine.specs.Runs.{run_of}
 use Rattle.loan_table.specs.Loans.{Loans}
 use Rattle.loan_table.specs.Table.{AreIn, AreNew}
 use Rattle.loan_table.proofs.Addresses.{AreIn-marked}

@@ -1,6 +1,6 @@
 use Rattle.std.proofs.Common.{true, length, arith, ap, sym, ◌∙◌, subst}
 use Rattle.std.specs.Prelude.{Option, IfSome}
-use Rattle.busdma_base.specs.declared.machine.address.Extent.{Extent}
+use Rattle.busdma_machine.specs.declared.machine.address.Extent.{Extent}
 use Rattle.phys_memory.specs.Extents.{IsNext}
 use Rattle.phys_memory.specs.Memory.{physical}
 use Rattle.phys_memory.proofs.Streams.{stream_next}

@@ -1,7 +1,7 @@
 use Rattle.std.proofs.Common.{ℕ, List, ap, refl}
 use Rattle.std.specs.Ordering.{nat_cmp}
 use Rattle.std.specs.FinMap.{from_entries}
-use Rattle.busdma_base.specs.Machine.Page.{FrameBytes}
+use Rattle.busdma_machine.specs.Machine.Page.{FrameBytes}
 use Rattle.phys_memory.specs.declared.reach.Reach.{Reach}
 use Rattle.phys_memory.specs.Kept.{contents}
 use Rattle.phys_memory.proofs.Kept.{empty_memory, no_pages}

@@ -1,8 +1,8 @@
 use Rattle.std.proofs.Common.{◌≡◌, List, true, sym, ◌∙◌, subst, arith}
-use Rattle.busdma_base.specs.declared.machine.chunk.Part.{Part}
-use Rattle.busdma_base.specs.Machine.Entry.{IsStream, parts_of}
+use Rattle.busdma_machine.specs.declared.machine.chunk.Part.{Part}
+use Rattle.busdma_machine.specs.Machine.Entry.{IsStream, parts_of}
 use Rattle.phys_memory.specs.Memory.{physical}
-use Rattle.busdma_base.specs.Machine.Spans.{one_span}
+use Rattle.busdma_machine.specs.Machine.Spans.{one_span}
 use Rattle.phys_memory.specs.Vector.{IfAll, vector_walk}
 use Rattle.phys_memory.proofs.Loads.{along_loads, one_bytes, spans_load}
 use Rattle.phys_memory.proofs.Reached.{IsHeld, memory_paged}

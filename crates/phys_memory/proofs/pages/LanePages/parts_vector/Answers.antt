@@ -1,6 +1,6 @@
 use Rattle.std.proofs.Common.{◌≡◌, List, true, sym, subst}
-use Rattle.busdma_base.specs.declared.machine.chunk.Part.{Part}
-use Rattle.busdma_base.specs.Machine.Entry.{IsStream, parts_of}
+use Rattle.busdma_machine.specs.declared.machine.chunk.Part.{Part}
+use Rattle.busdma_machine.specs.Machine.Entry.{IsStream, parts_of}
 use Rattle.phys_memory.specs.Memory.{physical}
 use Rattle.phys_memory.specs.Vector.{IfAll, then_parts, vector, vector_walk}
 use Rattle.phys_memory.proofs.Loads.{along_loads, spans_load}

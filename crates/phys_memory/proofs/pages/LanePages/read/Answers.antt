@@ -1,6 +1,6 @@
 use Rattle.std.proofs.Common.{length, ap, sym, ◌∙◌}
 use Rattle.std.proofs.lemmas.List.{length-map}
-use Rattle.busdma_base.specs.Runs.{run_of}
+use Rattle.busdma_machine.specs.Runs.{run_of}
 use Rattle.phys_memory.specs.Memory.{wire}
 use Rattle.phys_memory.proofs.Extents.{length-run_of}
 use Rattle.phys_memory.proofs.pages.LanePages.read.Goals as goal

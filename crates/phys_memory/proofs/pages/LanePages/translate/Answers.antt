@@ -2,10 +2,10 @@ use Rattle.std.proofs.Common.{◌≡◌, [], map, subst}
 use Rattle.std.specs.List.{AllByRecursion}
 use Rattle.std.specs.Prelude.{List, IfOk}
 use Rattle.std.proofs.lemmas.Result.{IfOk-weaker}
-use Rattle.busdma_base.specs.Machine.Entry.{AreJoined}
-use Rattle.busdma_base.specs.Journals.Judging.{judged}
-use Rattle.busdma_base.specs.Runs.{IsExtent, addresses, run_of}
-use Rattle.busdma_base.specs.declared.machine.chunk.Part.{Part}
+use Rattle.busdma_machine.specs.Machine.Entry.{AreJoined}
+use Rattle.busdma_machine.specs.Judging.{judged}
+use Rattle.busdma_machine.specs.Runs.{IsExtent, addresses, run_of}
+use Rattle.busdma_machine.specs.declared.machine.chunk.Part.{Part}
 use Rattle.phys_memory.specs.declared.walk.Walked.{Walked}
 use Rattle.phys_memory.specs.Memory.{physical}
 use Rattle.phys_memory.specs.Extents.{LiesIn, reached}

@@ -1,7 +1,7 @@
 use Rattle.std.proofs.Common.{◌≡◌, ℕ, ap, map, subst, append-nil}
 use Rattle.std.specs.Prelude.{List, IfOk}
-use Rattle.busdma_base.specs.Machine.Entry.{entries_addresses}
-use Rattle.busdma_base.specs.Runs.{run_of}
+use Rattle.busdma_machine.specs.Machine.Entry.{entries_addresses}
+use Rattle.busdma_machine.specs.Runs.{run_of}
 use Rattle.phys_memory.specs.declared.entries.Entries.{Entries}
 use Rattle.phys_memory.specs.Memory.{physical}
 use Rattle.phys_memory.specs.Translation.{physical_or_0}

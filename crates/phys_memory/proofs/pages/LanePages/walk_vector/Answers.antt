@@ -1,6 +1,6 @@
 use Rattle.std.proofs.Common.{Vec, Global, ◌+◌, true, drop, refl, ap, sym, ◌∙◌, subst, arith}
-use Rattle.busdma_base.specs.declared.machine.address.Span.{Span}
-use Rattle.busdma_base.specs.declared.machine.chunk.Entry.{Entry}
+use Rattle.busdma_machine.specs.declared.machine.address.Span.{Span}
+use Rattle.busdma_machine.specs.declared.machine.chunk.Entry.{Entry}
 use Rattle.phys_memory.specs.declared.walk.Walked.TheVariants.{Parts}
 use Rattle.phys_memory.specs.Memory.{Roomy, IsMemory, physical}
 use Rattle.phys_memory.proofs.Reached.{IsHeld, memory_paged}

@@ -1,5 +1,5 @@
 use Rattle.std.proofs.Common.{◌≡◌, ◌+◌, true, drop}
-use Rattle.busdma_base.specs.Machine.Spans.{span_bytes}
+use Rattle.busdma_machine.specs.Machine.Spans.{span_bytes}
 use Rattle.phys_memory.specs.Memory.{physical}
 use Rattle.phys_memory.specs.Vector.{vector_walk}
 use Rattle.phys_memory.proofs.Vectors.{walk_from}

@@ -2,7 +2,7 @@ use Rattle.std.proofs.Common.{◌/◌, min, ap, sym, ◌∙◌, subst}
 use Rattle.std.specs.Prelude.{Some, is_some}
 use Rattle.std.specs.Option.{option_copied_mut}
 use Rattle.std.specs.HashMap.{spare}
-use Rattle.busdma_base.specs.Machine.Page.{FrameBytes}
+use Rattle.busdma_machine.specs.Machine.Page.{FrameBytes}
 use Rattle.phys_memory.specs.Memory.{Roomy, has_frame, rewritten, wire, written}
 use Rattle.phys_memory.proofs.Kept.{has_frame-kept}
 use Rattle.phys_memory.proofs.Changes.{Puts, IsSome-found_mut, kept_rewritten, memory_rewritten, places_rewritten}

@@ -1,5 +1,5 @@
 use Rattle.std.proofs.Common.{◌≡◌, ◌+◌, ◌^◌, ◌<◌, true, length}
-use Rattle.busdma_base.specs.Machine.Spans.{span_bytes}
+use Rattle.busdma_machine.specs.Machine.Spans.{span_bytes}
 use Rattle.phys_memory.specs.Memory.{physical}
 use Rattle.phys_memory.specs.Vector.{spans_at, then_parts}
 use Rattle.phys_memory.proofs.vector.VectorPartsIterator.next.Given as goal

@@ -1,5 +1,5 @@
 use Rattle.std.proofs.Common.{sym, ◌∙◌, subst}
-use Rattle.busdma_base.specs.Machine.Entry.{IsStream}
+use Rattle.busdma_machine.specs.Machine.Entry.{IsStream}
 use Rattle.segment_build.specs.declared.tests.ways.Listed.{Listed}
 use Rattle.segment_build.proofs.Chunking.{stream_of_entries}
 use Rattle.segment_build.proofs.Iterating.{along_first}

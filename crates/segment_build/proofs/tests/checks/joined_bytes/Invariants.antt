@@ -1,7 +1,7 @@
 use Rattle.std.proofs.Common.{◌≡◌, ◌≤◌, ◌^◌, drop, length}
 use Rattle.std.specs.List.{AllByRecursion}
-use Rattle.busdma_base.specs.Machine.Entry.{AreJoined}
-use Rattle.busdma_base.specs.Runs.{IsExtent, byte_count}
+use Rattle.busdma_machine.specs.Machine.Entry.{AreJoined}
+use Rattle.busdma_machine.specs.Runs.{IsExtent, byte_count}
 use Rattle.segment_build.proofs.tests.checks.joined_bytes.Given as goal
 
 abbrev pub invariant-loop-at : goal.invariant-loop-at

@@ -1,6 +1,6 @@
 use Rattle.std.proofs.Common.{◌≡◌, ◌≤◌, ◌^◌, drop, length}
 use Rattle.std.specs.List.{AllByRecursion}
-use Rattle.busdma_base.specs.Machine.Entry.{IsEntry, entries_bytes}
+use Rattle.busdma_machine.specs.Machine.Entry.{IsEntry, entries_bytes}
 use Rattle.segment_build.proofs.tests.checks.load_bytes.Given as goal
 
 abbrev pub invariant-loop-at : goal.invariant-loop-at

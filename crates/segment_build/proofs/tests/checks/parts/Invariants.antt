@@ -1,5 +1,5 @@
 use Rattle.std.proofs.Common.{◌≡◌, ◌++◌, drop}
-use Rattle.busdma_base.specs.Machine.Entry.{parts_of}
+use Rattle.busdma_machine.specs.Machine.Entry.{parts_of}
 use Rattle.segment_build.proofs.tests.checks.parts.Given as goal
 
 abbrev pub invariant-loop-entry : goal.invariant-loop-entry

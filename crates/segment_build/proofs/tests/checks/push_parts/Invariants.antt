@@ -1,5 +1,5 @@
 use Rattle.std.proofs.Common.{◌≡◌, ◌++◌, drop}
-use Rattle.busdma_base.specs.Machine.Entry.{entry_parts, extent_parts}
+use Rattle.busdma_machine.specs.Machine.Entry.{entry_parts, extent_parts}
 use Rattle.segment_build.proofs.tests.checks.push_parts.Given as goal
 
 abbrev pub invariant-loop-extent : goal.invariant-loop-extent

@@ -1,7 +1,7 @@
 use Rattle.std.proofs.Common.{[], ◌∷◌, true, sym, subst, refl, arith}
-use Rattle.busdma_base.specs.declared.machine.chunk.Part.{Part}
-use Rattle.busdma_base.specs.declared.machine.chunk.Part.TheVariants.{Of, Unmapped}
-use Rattle.busdma_base.specs.Machine.Entry.{IsStream}
+use Rattle.busdma_machine.specs.declared.machine.chunk.Part.{Part}
+use Rattle.busdma_machine.specs.declared.machine.chunk.Part.TheVariants.{Of, Unmapped}
+use Rattle.busdma_machine.specs.Machine.Entry.{IsStream}
 use Rattle.segment_build.specs.declared.tests.ways.Listed.{Listed}
 use Rattle.segment_build.proofs.Iterating.{along_first}
 use Rattle.segment_build.proofs.FrontsAsk.{IsStream-front}

@@ -3,8 +3,8 @@ use Rattle.std.proofs.Common.{append_assoc}
 use Rattle.std.specs.List.{All, sum_by}
 use Rattle.std.proofs.lemmas.List.Elements.{All-cons, All-head, All-tail, All-same}
 use Rattle.std.proofs.lemmas.List.Sums.{sum_by-cons}
-use Rattle.busdma_base.specs.declared.bounce.zone.Waiter.{Waiter}
-use Rattle.busdma_base.specs.Bounce.Serving.{completed, left_waiting}
+use Rattle.busdma_machine.specs.declared.bounce.zone.Waiter.{Waiter}
+use Rattle.busdma_machine.specs.Bounce.Serving.{completed, left_waiting}
 use Rattle.wait_list.specs.declared.deferred.Deferred.{Deferred}
 use Rattle.wait_list.specs.Ready.{Ready}
 use Rattle.wait_list.specs.Reserved.{IsReserved, IsWaiting}

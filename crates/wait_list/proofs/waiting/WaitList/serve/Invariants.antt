@@ -1,6 +1,6 @@
 use Rattle.std.proofs.Common.{◌≡◌, ◌+◌, ◌-◌, ◌≤◌, ◌++◌, length, map}
 use Rattle.std.specs.List.{All, sum_by}
-use Rattle.busdma_base.specs.Bounce.Serving.{completed, left_waiting}
+use Rattle.busdma_machine.specs.Bounce.Serving.{completed, left_waiting}
 use Rattle.wait_list.specs.Reserved.{IsWaiting}
 use Rattle.wait_list.proofs.waiting.WaitList.serve.Given as goal
 

@@ -1,6 +1,6 @@
 use Rattle.std.proofs.Common.{◌≡◌, ◌∙◌, ◌+◌, ◌<◌, ap, arith, slice_index}
 use Rattle.std.proofs.lemmas.Result.{IfOk-weaker}
-use Rattle.busdma_base.specs.Bounce.Account.{counts}
+use Rattle.busdma_machine.specs.Bounce.Account.{counts}
 use Rattle.ideal_world.specs.World.{bounced}
 use Rattle.world_core.specs.Ideal.{ideal_world}
 use Rattle.world_core.proofs.Counting.{counts-are}

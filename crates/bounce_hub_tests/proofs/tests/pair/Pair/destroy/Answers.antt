@@ -1,5 +1,5 @@
-use Rattle.busdma_base.specs.declared.bounce.hold.HubCall.TheVariants.{DestroyMap}
-use Rattle.busdma_base.specs.declared.bounce.hold.HubReply.TheVariants.{Nothing}
+use Rattle.busdma_machine.specs.declared.bounce.hold.HubCall.TheVariants.{DestroyMap}
+use Rattle.busdma_machine.specs.declared.bounce.hold.HubReply.TheVariants.{Nothing}
 use Rattle.bounce_hub_tests.proofs.Calls.{held}
 use Rattle.bounce_hub_tests.proofs.tests.pair.Pair.destroy.Goals as goal
 

@@ -1,4 +1,4 @@
-use Rattle.busdma_base.specs.declared.bounce.hold.HubCall.TheVariants.{Grab}
+use Rattle.busdma_machine.specs.declared.bounce.hold.HubCall.TheVariants.{Grab}
 use Rattle.bounce_hub_tests.proofs.Calls.{held}
 use Rattle.bounce_hub_tests.proofs.tests.pair.Pair.grab.Goals as goal
 

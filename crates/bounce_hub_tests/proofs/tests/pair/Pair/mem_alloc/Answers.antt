@@ -1,4 +1,4 @@
-use Rattle.busdma_base.specs.declared.bounce.hold.HubCall.TheVariants.{MemAlloc}
+use Rattle.busdma_machine.specs.declared.bounce.hold.HubCall.TheVariants.{MemAlloc}
 use Rattle.bounce_hub_tests.proofs.Calls.{held}
 use Rattle.bounce_hub_tests.proofs.tests.pair.Pair.mem_alloc.Goals as goal
 

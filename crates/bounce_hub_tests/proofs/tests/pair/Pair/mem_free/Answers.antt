@@ -1,5 +1,5 @@
-use Rattle.busdma_base.specs.declared.bounce.hold.HubCall.TheVariants.{MemFree}
-use Rattle.busdma_base.specs.declared.bounce.hold.HubReply.TheVariants.{Nothing}
+use Rattle.busdma_machine.specs.declared.bounce.hold.HubCall.TheVariants.{MemFree}
+use Rattle.busdma_machine.specs.declared.bounce.hold.HubReply.TheVariants.{Nothing}
 use Rattle.bounce_hub_tests.proofs.Calls.{held}
 use Rattle.bounce_hub_tests.proofs.tests.pair.Pair.mem_free.Goals as goal
 

@@ -1,7 +1,7 @@
 use Rattle.std.proofs.Common.{◌≡◌, rules}
-use Rattle.busdma_base.specs.declared.machine.address.Pa.{Pa}
-use Rattle.busdma_base.specs.declared.bounce.hold.HubReply.TheVariants.{Served}
-use Rattle.busdma_base.specs.Machine.PageList.{page_address}
+use Rattle.busdma_machine.specs.declared.machine.address.Pa.{Pa}
+use Rattle.busdma_machine.specs.declared.bounce.hold.HubReply.TheVariants.{Served}
+use Rattle.busdma_machine.specs.Machine.PageList.{page_address}
 use Rattle.bounce_hub_tests.proofs.Calls.{released}
 use Rattle.bounce_hub_tests.proofs.tests.pair.Pair.release.Goals as goal
 

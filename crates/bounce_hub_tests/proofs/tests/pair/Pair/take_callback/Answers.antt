@@ -1,6 +1,6 @@
-use Rattle.busdma_base.specs.declared.bounce.hold.HubReply.TheVariants.{Called}
-use Rattle.busdma_base.specs.Bounce.AccountStep.{as_pages}
-use Rattle.busdma_base.specs.Machine.PageList.{page_addresses}
+use Rattle.busdma_machine.specs.declared.bounce.hold.HubReply.TheVariants.{Called}
+use Rattle.busdma_machine.specs.Bounce.AccountStep.{as_pages}
+use Rattle.busdma_machine.specs.Machine.PageList.{page_addresses}
 use Rattle.bounce_hub_tests.proofs.Calls.{taken}
 use Rattle.bounce_hub_tests.proofs.tests.pair.Pair.take_callback.Goals as goal
 

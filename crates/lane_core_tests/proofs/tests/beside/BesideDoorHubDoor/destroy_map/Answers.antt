@@ -1,6 +1,6 @@
 use Rattle.std.proofs.Common.{sym, ◌∙◌}
-use Rattle.busdma_base.specs.declared.bounce.hold.HubCall.TheVariants.{DestroyMap}
-use Rattle.busdma_base.specs.declared.bounce.hold.HubReply.TheVariants.{Nothing}
+use Rattle.busdma_machine.specs.declared.bounce.hold.HubCall.TheVariants.{DestroyMap}
+use Rattle.busdma_machine.specs.declared.bounce.hold.HubReply.TheVariants.{Nothing}
 use Rattle.lane_core.specs.LaneIdeal.{ideal}
 use Rattle.lane_core_tests.proofs.Coming.{allows-at, not-other, holds-at, still-held}
 use Rattle.lane_core_tests.proofs.tests.beside.BesideDoorHubDoor.destroy_map.Goals as goal

@@ -1,6 +1,6 @@
 use Rattle.std.proofs.Common.{sym, ◌∙◌}
-use Rattle.busdma_base.specs.declared.bounce.hold.HubCall.TheVariants.{Grab}
-use Rattle.busdma_base.specs.Bounce.Door.{grab_reply}
+use Rattle.busdma_machine.specs.declared.bounce.hold.HubCall.TheVariants.{Grab}
+use Rattle.busdma_machine.specs.Bounce.Door.{grab_reply}
 use Rattle.lane_core.specs.LaneIdeal.{ideal}
 use Rattle.lane_core_tests.proofs.Coming.{allows-at, not-other, made-at, fails-at, still-made}
 use Rattle.lane_core_tests.proofs.tests.beside.BesideDoorHubDoor.grab.Goals as goal

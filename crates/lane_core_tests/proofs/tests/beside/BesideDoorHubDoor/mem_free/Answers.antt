@@ -1,7 +1,7 @@
 use Rattle.std.proofs.Common.{sym, ◌∙◌}
-use Rattle.busdma_base.specs.declared.bounce.hold.HubCall.TheVariants.{MemFree}
-use Rattle.busdma_base.specs.declared.bounce.hold.HubReply.TheVariants.{Nothing}
-use Rattle.busdma_base.specs.Machine.PageList.{page_addresses}
+use Rattle.busdma_machine.specs.declared.bounce.hold.HubCall.TheVariants.{MemFree}
+use Rattle.busdma_machine.specs.declared.bounce.hold.HubReply.TheVariants.{Nothing}
+use Rattle.busdma_machine.specs.Machine.PageList.{page_addresses}
 use Rattle.lane_core.specs.LaneIdeal.{ideal}
 use Rattle.lane_core_tests.proofs.Coming.{allows-at, pages-at, not-other, holds-at, still-held}
 use Rattle.lane_core_tests.proofs.tests.beside.BesideDoorHubDoor.mem_free.Goals as goal

@@ -1,8 +1,8 @@
 use Rattle.std.proofs.Common.{sym, ◌∙◌}
-use Rattle.busdma_base.specs.declared.bounce.hold.HubCall.TheVariants.{TakeCallback}
-use Rattle.busdma_base.specs.declared.bounce.hold.HubReply.TheVariants.{Called as CalledFor}
-use Rattle.busdma_base.specs.Bounce.AccountStep.{as_pages}
-use Rattle.busdma_base.specs.Machine.PageList.{page_addresses}
+use Rattle.busdma_machine.specs.declared.bounce.hold.HubCall.TheVariants.{TakeCallback}
+use Rattle.busdma_machine.specs.declared.bounce.hold.HubReply.TheVariants.{Called as CalledFor}
+use Rattle.busdma_machine.specs.Bounce.AccountStep.{as_pages}
+use Rattle.busdma_machine.specs.Machine.PageList.{page_addresses}
 use Rattle.lane_core.specs.LaneIdeal.{ideal}
 use Rattle.lane_core_tests.proofs.Coming.{allows-at, not-other, taken-at, still-taken}
 use Rattle.lane_core_tests.proofs.tests.beside.BesideDoorHubDoor.take_callback.Goals as goal

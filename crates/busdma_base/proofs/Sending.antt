@@ -1,7 +1,0 @@
--- An entry of the bounce lock's history may go to another thread.
-use denote.Param.Send.{IsSend, sendable}
-use Rattle.std.proofs.Crossing.{crosses}
-use Rattle.busdma_base.specs.contracts.bounce.hold.HoldEntry as Entry
-
-pub entry_send : IsSend Entry.the_row
-entry_send = search (sendable, crosses) depth 60 fits 20000

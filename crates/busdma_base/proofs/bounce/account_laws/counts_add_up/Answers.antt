@@ -1,6 +1,0 @@
-use Rattle.busdma_base.specs.Bounce.History.{account_of}
-use Rattle.busdma_base.proofs.Accounts.WellFormed.{account-well, well-sum}
-use Rattle.busdma_base.proofs.bounce.account_laws.counts_add_up.Goals as goal
-
-pub returns : goal.returns
-returns c = λ a es z opening sound. well-sum (account_of a es) z (account-well a es opening sound)

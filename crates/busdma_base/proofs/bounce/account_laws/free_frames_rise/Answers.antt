@@ -1,5 +1,0 @@
-use Rattle.busdma_base.proofs.Accounts.Rising.{bank-rises}
-use Rattle.busdma_base.proofs.bounce.account_laws.free_frames_rise.Goals as goal
-
-pub returns : goal.returns
-returns c = bank-rises

@@ -1,5 +1,0 @@
-use Rattle.busdma_base.proofs.Accounts.Places.{total-stays}
-use Rattle.busdma_base.proofs.bounce.account_laws.no_frame_is_lost.Goals as goal
-
-pub returns : goal.returns
-returns c = λ a es opening sound. total-stays a es opening sound

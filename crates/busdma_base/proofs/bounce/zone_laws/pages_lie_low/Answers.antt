@@ -1,5 +1,0 @@
-use Rattle.busdma_base.proofs.Accounts.LowPages.{pages-low}
-use Rattle.busdma_base.proofs.bounce.zone_laws.pages_lie_low.Goals as goal
-
-pub returns : goal.returns
-returns c = pages-low

@@ -1,5 +1,0 @@
-use Rattle.busdma_base.proofs.Accounts.KeptZones.{keeps-history}
-use Rattle.busdma_base.proofs.bounce.zone_laws.zones_stay.Goals as goal
-
-pub returns : goal.returns
-returns c = keeps-history

@@ -1,0 +1,14 @@
+pub mod Counting
+pub mod Counts
+pub mod EachFrame
+pub mod KeptZones
+pub mod LaneEntries
+pub mod LowPages
+pub mod Names
+pub mod Order
+pub mod Places
+pub mod Rising
+pub mod Shares
+pub mod Waiting
+pub mod WellFormed
+pub mod ZoneOf

@@ -1,0 +1,7 @@
+-- An entry of the bounce lock's history may go to another thread.
+use denote.Param.Send.{IsSend, sendable}
+use Rattle.std.proofs.Crossing.{crosses}
+use Rattle.busdma_machine.specs.contracts.bounce.hold.HoldEntry as Entry
+
+pub entry_send : IsSend Entry.the_row
+entry_send = search (sendable, crosses) depth 60 fits 20000

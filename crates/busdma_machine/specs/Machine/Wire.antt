@@ -1,0 +1,55 @@
+-- The bytes that are really held, and the copies between buffers and bounce pages.
+use Rattle.std.specs.Prelude.{ℕ, ◌/◌, ◌%◌, Bool, not, ◌==◌, List, [], ◌∷◌, map, take, drop, slice_index, if◌then◌else◌}
+use Rattle.std.specs.List.{filter}
+use Rattle.busdma_machine.specs.Machine.Page.{FrameBytes}
+
+-- the byte at each physical address, of a driver's own frames and of the bounce pages of its maps
+abbrev pub Wire : Type 0
+Wire = ℕ → ℕ
+
+-- the byte of a page at an address of its frame
+abbrev pub page_byte : FrameBytes → ℕ → ℕ
+page_byte p a = slice_index p.bytes (a % 4096)
+
+-- what is held where pages hold the bytes of their frames, and w tells of the others
+abbrev pub with_bytes_of : List FrameBytes → Wire → Wire
+with_bytes_of [] w a = w a
+with_bytes_of (p ∷ ps) w a = if a / 4096 == p.frame then page_byte p a else with_bytes_of ps w a
+
+-- a position of a load: the physical address of its byte, and the bus address at which the device reaches it
+pub record Placed : Type 0 where
+  pub pa : ℕ
+  pub bus : ℕ
+
+-- the traces of loaded maps: of each map the positions of its load, in order
+abbrev pub Traces : Type 0
+Traces = ℕ → List Placed
+
+-- the device reaches the byte in a page
+abbrev pub is_bounced : Placed → Bool
+is_bounced p = not (p.bus == p.pa)
+
+-- the physical addresses of positions, and their bus addresses
+abbrev pub buffers : List Placed → List ℕ
+buffers ps = map (λ p. p.pa) ps
+
+abbrev pub buses : List Placed → List ℕ
+buses ps = map (λ p. p.bus) ps
+
+-- the positions of a load from off to off + len - 1
+abbrev pub stretch : {A : Type 0} → ℕ → ℕ → List A → List A
+stretch {A} off len ps = take len (drop off ps)
+
+-- the bytes at these addresses are these now, in order
+abbrev pub put : List ℕ → List ℕ → Wire → Wire
+put [] vs w = w
+put (a ∷ rest) [] w = w
+put (a ∷ rest) (v ∷ vs) w = put rest vs (λ b. if b == a then v else w b)
+
+-- each byte of these positions that is bounced is copied to its bus address
+abbrev pub copied_in : List Placed → Wire → Wire
+copied_in ps w = put (buses (filter is_bounced ps)) (map w (buffers (filter is_bounced ps))) w
+
+-- each such byte is copied back from there
+abbrev pub copied_out : List Placed → Wire → Wire
+copied_out ps w = put (buffers (filter is_bounced ps)) (map w (buses (filter is_bounced ps))) w

@@ -1,0 +1,98 @@
+//! Laws of the account, each the contract of a function that does nothing.
+
+ghost use Rattle.std.specs.Prelude.{◌≡◌, ◌≢◌, ◌+◌, ◌<◌, ◌≤◌, ◌++◌, ℕ, Bool, List, All, Contains, length};
+ghost use Rattle.busdma_machine.specs.declared.name.MapId.{MapId};
+ghost use Rattle.busdma_machine.specs.declared.tags.tag.TagLimits.{TagLimits};
+ghost use Rattle.busdma_machine.specs.declared.bounce.hold.HubCall.{HubCall};
+ghost use Rattle.busdma_machine.specs.declared.bounce.hold.HoldEntry.{HoldEntry};
+ghost use Rattle.busdma_machine.specs.Bounce.Account.{Account, free, reserved, active, total, counts};
+ghost use Rattle.busdma_machine.specs.Bounce.Conditions.{MayCall};
+ghost use Rattle.busdma_machine.specs.Bounce.History.{IsRising, IsOpening, IsSound, account_of};
+ghost use Rattle.busdma_machine.specs.Bounce.WellFormed.{IsWellFormed};
+ghost use Rattle.busdma_machine.specs.Bounce.SameFor.{SameFor};
+ghost use Rattle.busdma_machine.specs.Bounce.MemoryRuns.{frames_of};
+ghost use Rattle.busdma_machine.specs.Bounce.Places.{places, times_lent, frame_total};
+ghost use Rattle.busdma_machine.specs.Bounce.AccountStep.{attached, created, released};
+ghost use Rattle.busdma_machine.specs.Bounce.Serving.{returned};
+ghost use Rattle.busdma_machine.specs.Bounce.ServingOrder.{ServesNobody, ServesInOrder, maps_of, joined, called};
+ghost use Rattle.busdma_machine.specs.Bounce.WorkedExample.{small_machine, calls, replies, counts_after, answers};
+ghost use Rattle.busdma_machine.specs.Bounce.WorkedExample.{after_calls};
+
+/// Twelve calls over a small machine have the replies and the counts that were worked by hand.
+pub fn twelve_calls()
+    ensures replies { answers small_machine calls ≡ replies }
+    ensures counts { counts (after_calls small_machine calls) 0 0 ≡ counts_after }
+{}
+
+/// The condition of a call of one lane is kept by each sound entry of other lanes, and so is all that
+/// the account has of the lane's maps and memories, as the frames that it hands back at their end.
+pub fn condition_stays()
+    ensures may { (lane : ℕ) (call : HubCall) (a : Account) (es : List HoldEntry) →
+        MayCall lane call a → IsSound a es → All (λ e. e.lane.0 ≢ lane) es →
+        MayCall lane call (account_of a es) }
+    ensures frames { (lane : ℕ) (m : MapId) (a : Account) (es : List HoldEntry) → m.lane.0 ≡ lane →
+        IsSound a es → All (λ e. e.lane.0 ≢ lane) es →
+        frames_of m (account_of a es).mems ≡ frames_of m a.mems }
+    ensures same { (lane : ℕ) (a : Account) (es : List HoldEntry) → IsSound a es →
+        All (λ e. e.lane.0 ≢ lane) es → SameFor lane a (account_of a es) }
+{}
+
+/// The free, the reserved and the active pages of a zone are all its pages.
+pub fn counts_add_up()
+    ensures { (a : Account) (es : List HoldEntry) (z : ℕ) → IsOpening a → IsSound a es →
+        let b = account_of a es in free b z + reserved b z + active b z ≡ total b z }
+{}
+
+/// A sound history leads to an account whose lists fit together.
+pub fn account_is_well_formed()
+    ensures { (a : Account) (es : List HoldEntry) → IsOpening a → IsSound a es →
+        IsWellFormed (account_of a es) }
+{}
+
+/// The free frames rise after every sound history, so that the first of them is the lowest.
+pub fn free_frames_rise()
+    ensures { (a : Account) (es : List HoldEntry) → IsOpening a → IsSound a es →
+        IsRising (account_of a es).bank }
+{}
+
+/// Each frame that was free at the opening stands in just one place after a sound history: the
+/// bank, one zone's list, the hands of one map, or one memory. No other frame stands in any.
+pub fn each_frame_in_one_place()
+    ensures one { (a : Account) (es : List HoldEntry) (p : ℕ) → IsOpening a → IsSound a es →
+        Contains a.bank p → places p (account_of a es) ≡ 1 }
+    ensures no_other { (a : Account) (es : List HoldEntry) (p : ℕ) → IsOpening a → IsSound a es →
+        (Contains a.bank p → ⊥) → places p (account_of a es) ≡ 0 }
+{}
+
+/// No frame is made or lost.
+pub fn no_frame_is_lost()
+    ensures { (a : Account) (es : List HoldEntry) → IsOpening a → IsSound a es →
+        frame_total (account_of a es) ≡ length a.bank }
+{}
+
+/// No page serves two maps at once, and no map has it twice.
+pub fn no_page_is_lent_twice()
+    ensures { (a : Account) (es : List HoldEntry) (p : ℕ) → IsOpening a → IsSound a es →
+        times_lent p (account_of a es) ≤ 1 }
+{}
+
+/// The making of a tag or a map serves no map that waits, whatever pages it adds.
+pub fn growth_serves_nobody()
+    ensures tag { (t : TagLimits) (a : Account) → ServesNobody a (attached t a).account }
+    ensures map { (m : MapId) (t : TagLimits) (first_done : Bool) (a : Account) →
+        ServesNobody a (created m t first_done a).account }
+{}
+
+/// The return of a page serves the maps that wait for its zone in their order, up to the first that
+/// is not completed.
+pub fn release_serves_in_order()
+    ensures { (m : MapId) (z page : ℕ) (a : Account) → z < length a.zones →
+        ServesInOrder (returned a m z page) (released m z page a).account z }
+{}
+
+/// Callbacks are called in the order in which their maps joined the callback list: those that were
+/// in it and those that joined are those that were called and those that are still in it.
+pub fn callbacks_keep_their_order()
+    ensures { (a : Account) (es : List HoldEntry) → IsSound a es →
+        maps_of a.ready ++ joined a es ≡ called es ++ maps_of (account_of a es).ready }
+{}

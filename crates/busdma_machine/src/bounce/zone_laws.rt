@@ -1,0 +1,63 @@
+//! Laws of the zones and of what waits for their pages, each the contract of a function that does
+//! nothing.
+
+ghost use Rattle.std.specs.Prelude.{◌≡◌, ◌≢◌, ◌<◌, ℕ, Bool, List, All, Contains, IsTrue};
+ghost use Rattle.busdma_machine.specs.declared.name.MapId.{MapId};
+ghost use Rattle.busdma_machine.specs.declared.tags.tag.TagLimits.{TagLimits};
+ghost use Rattle.busdma_machine.specs.declared.bounce.hold.HoldEntry.{HoldEntry};
+ghost use Rattle.busdma_machine.specs.declared.bounce.zone.Grown.{Grown as GrownBy};
+ghost use Rattle.busdma_machine.specs.declared.bounce.hold.HubReply.TheVariants.{Grown};
+ghost use Rattle.busdma_machine.specs.Bounce.Account.{Account, zone_at};
+ghost use Rattle.busdma_machine.specs.Bounce.AccountStep.{attached, created};
+ghost use Rattle.busdma_machine.specs.Bounce.EachFrame.{EachFrame, LiesBelowMaxmem};
+ghost use Rattle.busdma_machine.specs.Bounce.Growth.{serves_tag};
+ghost use Rattle.busdma_machine.specs.Bounce.History.{IsFrame, IsOpening, IsSound, account_of};
+ghost use Rattle.busdma_machine.specs.Bounce.KeptZones.{KeepsZones};
+ghost use Rattle.busdma_machine.specs.Bounce.LowPages.{PagesLieLow};
+ghost use Rattle.busdma_machine.specs.Bounce.ServingOrder.{called};
+ghost use Rattle.busdma_machine.specs.Bounce.Share.{is_waiting, waiters};
+ghost use Rattle.busdma_machine.specs.Bounce.WellFormed.{IsWellFormed};
+
+/// No zone goes, and its lowaddr and its alignment never change, whatever is called.
+pub fn zones_stay()
+    ensures { (a : Account) (es : List HoldEntry) → KeepsZones a (account_of a es) }
+{}
+
+/// The zone that a tag's first allocation or a map's making tells serves the tag from then on: it
+/// lies as low as the tag asks, and its pages are aligned as the tag asks.
+pub fn zone_serves_its_tag()
+    ensures tag { (t : TagLimits) (a : Account) (g : GrownBy) (es : List HoldEntry) →
+        (attached t a).reply ≡ Grown g →
+        IsTrue (serves_tag t (zone_at (account_of (attached t a).account es) g.zone.0)) }
+    ensures map { (m : MapId) (t : TagLimits) (first_done : Bool) (a : Account) (g : GrownBy)
+        (es : List HoldEntry) → (created m t first_done a).reply ≡ Grown g →
+        IsTrue (serves_tag t (zone_at (account_of (created m t first_done a).account es) g.zone.0)) }
+{}
+
+/// Each page in a zone's list, and each page of the zone that a map holds, ends at or below the
+/// zone's lowaddr.
+pub fn pages_lie_low()
+    ensures { (a : Account) (es : List HoldEntry) → IsOpening a → IsSound a es →
+        PagesLieLow (account_of a es) }
+{}
+
+/// Where each frame of an account has a number below maxmem, and its lists fit together, each has after a
+/// sound history too. Where a sound history begins with an opening, each frame that it leads to is a whole
+/// one, of a number below 2^30.
+pub fn frames_lie_below_maxmem()
+    ensures history { (a : Account) (es : List HoldEntry) → IsWellFormed a → IsSound a es →
+        LiesBelowMaxmem a → LiesBelowMaxmem (account_of a es) }
+    ensures whole { (a : Account) (es : List HoldEntry) → IsOpening a → IsSound a es →
+        EachFrame IsFrame (account_of a es) }
+{}
+
+/// A map that waits for so many pages of a zone, or stands complete in the callback list, does so
+/// until its callback, whatever is called meanwhile. Entries of other lanes leave it in any case.
+pub fn waiting_map_stays()
+    ensures until_called { (m : MapId) (z need : ℕ) (a : Account) (es : List HoldEntry) →
+        IsSound a es → (Contains (called es) m → ⊥) → 0 < waiters (is_waiting m z need) a →
+        waiters (is_waiting m z need) (account_of a es) ≡ waiters (is_waiting m z need) a }
+    ensures others { (m : MapId) (z need : ℕ) (a : Account) (es : List HoldEntry) →
+        IsSound a es → All (λ e. e.lane.0 ≢ m.lane.0) es →
+        waiters (is_waiting m z need) (account_of a es) ≡ waiters (is_waiting m z need) a }
+{}
