@@ -1,4 +1,4 @@
-use Rattle.busdma_base.specs.Machine.Wire.{page_byte}
+use Rattle.busdma_machine.specs.Machine.Wire.{page_byte}
 use Rattle.phys_memory.specs.Memory.{wire}
 use Rattle.map_sync.proofs.Extents.{two_copied}
 use Rattle.map_sync.proofs.out_of_pages.copy_chunk_out.Goals as goal

@@ -1,6 +1,6 @@
 use Rattle.std.proofs.Common.{◌≡◌, ◌+◌, ◌-◌, ◌%◌, min, length, map, take, drop, ap, ◌∙◌, arith, rules, subst, sym}
-use Rattle.busdma_base.specs.Machine.Wire.{page_byte}
-use Rattle.busdma_base.specs.Runs.{run_of}
+use Rattle.busdma_machine.specs.Machine.Wire.{page_byte}
+use Rattle.busdma_machine.specs.Runs.{run_of}
 use Rattle.phys_memory.specs.Frames.{SamePages}
 use Rattle.phys_memory.specs.Memory.{Memory, wire}
 use Rattle.phys_memory.proofs.PageBytes.{slice_page}

@@ -1,5 +1,5 @@
 use Rattle.std.proofs.Common.{◌≡◌, arith, ◌∙◌, ap, ◌+◌, ◌-◌, refl, get_or}
-use Rattle.busdma_base.specs.Machine.Wire.{with_bytes_of}
+use Rattle.busdma_machine.specs.Machine.Wire.{with_bytes_of}
 use Rattle.phys_memory.specs.Memory.{wire}
 use Rattle.phys_memory.proofs.SameFrames.{same_trans}
 use Rattle.map_sync.proofs.Stepping.{copied_at, held_skip, next_page, no_chunk, none_copied, step_out}

@@ -1,7 +1,7 @@
 use Rattle.std.proofs.Common.{◌≡◌, drop}
 use Rattle.std.specs.List.{AllZip}
-use Rattle.busdma_base.specs.Machine.PageList.{frames_of}
-use Rattle.busdma_base.specs.Machine.Wire.{copied_out, with_bytes_of}
+use Rattle.busdma_machine.specs.Machine.PageList.{frames_of}
+use Rattle.busdma_machine.specs.Machine.Wire.{copied_out, with_bytes_of}
 use Rattle.phys_memory.specs.Frames.{SamePages}
 use Rattle.phys_memory.specs.Memory.{wire}
 use Rattle.map_sync.specs.Held.{IsHeld, paged}
