@@ -18,7 +18,8 @@ use Rattle.busdma_base.specs.Scenarios.Opening.{opening}
 use Rattle.busdma_machine.specs.Bounce.WellFormed as account
 use Rattle.busdma_base.specs.Scenarios.Valid.{IsValid}
 use Rattle.busdma_machine.proofs.Accounts.LaneEntries.{account_of-append}
-use Rattle.busdma_machine.proofs.Accounts.EachFrame.{whole-history, below-history, below-opening}
+use Rattle.busdma_machine.proofs.Accounts.EachFrame.{whole-history, below-history}
+use Rattle.busdma_base.proofs.Openings.{below-opening}
 use Rattle.busdma_machine.proofs.Accounts.LowPages.{pages-low}
 use Rattle.busdma_base.proofs.Openings.{opening-may_begin}
 use Rattle.busdma_machine.proofs.Accounts.WellFormed.{well-opening}
