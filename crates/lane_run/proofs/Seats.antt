@@ -8,7 +8,7 @@ use Rattle.busdma_machine.specs.Bounce.Account.{Account}
 use Rattle.busdma_machine.specs.Bounce.LaneEntries.{of_lane}
 use Rattle.busdma_base.specs.Scenarios.Opening.{maxmem_of, opening}
 use Rattle.busdma_base.specs.Scenarios.Valid.{IsValid}
-use Rattle.busdma_machine.proofs.Accounts.EachFrame.{below-opening}
+use Rattle.busdma_base.proofs.Openings.{below-opening}
 use Rattle.busdma_base.proofs.Openings.{opening-may_begin}
 use Rattle.turnstile.specs.declared.view.Start.{Start}
 use Rattle.turnstile.specs.Pass.{SplitsOff}

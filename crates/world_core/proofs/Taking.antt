@@ -12,7 +12,7 @@ use Rattle.busdma_base.specs.declared.scenarios.scenario.Scenario.{Scenario}
 use Rattle.busdma_machine.specs.Bounce.Door.{account}
 use Rattle.busdma_machine.specs.Bounce.EachFrame.{LiesBelowMaxmem}
 use Rattle.busdma_machine.specs.Bounce.History.{IsOpening, IsSound}
-use Rattle.busdma_machine.proofs.Accounts.EachFrame.{below-opening}
+use Rattle.busdma_base.proofs.Openings.{below-opening}
 use Rattle.bounce_hub.specs.Seen.{HubSeen, door}
 use Rattle.lane_core.specs.declared.lane.Lane.{Lane}
 use Rattle.lane_core.specs.LaneIdeal.{ideal}
