@@ -111,6 +111,16 @@ abbrev pub IsUndone : Answer → Type 0
 IsUndone answer.Done = ⊥
 IsUndone _ = Unit {0}
 
+-- an answer has no segments and is no report
+abbrev pub IsUntold : Answer → Type 0
+IsUntold (answer.Segments ss) = ⊥
+IsUntold (answer.Report x) = ⊥
+IsUntold _ = Unit {0}
+
+pub untold-quiet : (a : Answer) → IsUntold a → IsQuiet a
+untold-quiet (answer.Segments ss) u = u
+untold-quiet _ u = tt
+
 -- a map that stands so does not wait
 abbrev pub IsUnwaiting : Stage → Type 0
 IsUnwaiting (Waiting v) = ⊥
@@ -263,7 +273,7 @@ pub data Touches (l : LaneState) : Work → Outcome → Type 0 where
 pub data Makes (l : LaneState) : Work → Option HubCall → HubReply → Outcome → Type 0 where
   Touched : {d : Work} {r : HubReply} {x : Outcome} → Touches l d x → Makes l d None r x
   -- a call brings nothing; a wait for a map has ended
-  Vain : {d : Work} {c : HubCall} {r : HubReply} → IsVain l d c r → (a : Answer) → IsQuiet a →
+  Vain : {d : Work} {c : HubCall} {r : HubReply} → IsVain l d c r → (a : Answer) → IsUntold a →
       Makes l d (Some c) r (record { lane = l; answer = a })
   Awaits : {r : HubReply} (m : ℕ) →
       Makes l (Operation (op.Await m)) None r (record { lane = l; answer = answer.Done })

@@ -10,6 +10,7 @@ pub mod Needs
 pub mod Openings
 pub mod Own
 pub mod Refusing
+pub mod Reported
 pub mod Standings
 pub mod Turning
 pub mod Views

@@ -138,6 +138,14 @@ abbrev zone_at : Option LaneMap → Option ℕ
 zone_at None = None
 zone_at (Some o) = o.zone
 
+-- a callback that comes is that of a map that waits
+pub callback-waits : (l : LaneState) (a : Account) (m : MapId) (pages : List Pa) → IsFit a → Agrees (view_of l) a →
+    (account_step l.id call.TakeCallback a).reply ≡ reply.Called m pages →
+    (z need : ℕ) × WaitsAt l m.made_at z need
+callback-waits l a m pages fit g e =
+    let c = called-length (view_of l) a.ready a m pages fit.well g refl e in
+    (c.2, c.0, waits-at l m.made_at c.2 c.0 c.3)
+
 -- ---- turns
 
 module _ (l : LaneState) (s : Stands l) where
@@ -184,9 +192,7 @@ module _ (l : LaneState) (s : Stands l) where
     module _ (m : MapId) (pages : List Pa) (e : (account_step l.id call.TakeCallback a).reply ≡ reply.Called m pages)
       where
         waited : (z need : ℕ) × WaitsAt l m.made_at z need
-        waited =
-            let c = called-length (view_of l) a.ready a m pages fit.well g refl e in
-            (c.2, c.0, waits-at l m.made_at c.2 c.0 c.3)
+        waited = callback-waits l a m pages fit g e
 
         module _ (o : LaneMap) (v : WaitingLoad) (there : get l.maps m.made_at ≡ Some o) (b : Bool) where
           abbrev x : Asked

@@ -11,6 +11,7 @@ pub mod Memories
 pub mod Opening
 pub mod Outcomes
 pub mod Places
+pub mod Reported
 pub mod Standing
 pub mod State
 pub mod Syncs

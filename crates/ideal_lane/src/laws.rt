@@ -1,24 +1,31 @@
 //! Laws of the ideal driver.
 
-ghost use Rattle.std.specs.Prelude.{◌≡◌, ◌≤◌, ◌+◌, ℕ, List, Some, length, slice_get};
+ghost use Rattle.std.specs.Prelude.{◌≡◌, ◌≤◌, ◌+◌, ◌++◌, ℕ, true, List, Some, None, length, slice_get};
+ghost use Rattle.std.specs.FinMap.{get};
+ghost use Rattle.busdma_machine.specs.declared.bounce.hold.HubCall.TheVariants.{TakeCallback};
 ghost use Rattle.busdma_machine.specs.declared.bounce.hold.HubReply.{HubReply};
+ghost use Rattle.busdma_machine.specs.declared.bounce.hold.HubReply.TheVariants.{Called};
+ghost use Rattle.busdma_machine.specs.declared.machine.address.Pa.{Pa};
+ghost use Rattle.busdma_machine.specs.declared.name.MapId.{MapId};
 ghost use Rattle.busdma_base.specs.declared.journals.journal.Side.{Side};
 ghost use Rattle.busdma_base.specs.declared.scenarios.scenario.Driver.{Driver};
 ghost use Rattle.busdma_base.specs.declared.scenarios.scenario.Scenario.{Scenario};
 ghost use Rattle.busdma_machine.specs.Bounce.Account.{Account};
+ghost use Rattle.busdma_machine.specs.Bounce.AccountStep.{account_step};
 ghost use Rattle.busdma_base.specs.Scenarios.Opening.{maxmem_of, opening};
 ghost use Rattle.busdma_base.specs.Scenarios.Valid.{IsValid};
 ghost use Rattle.lane_agreement.specs.Agreement.{IsFit};
 ghost use Rattle.lane_tables.specs.Queues.{item_count};
 ghost use Rattle.ideal_lane.specs.Agreement.{AgreesWith, IsAllowed, KeepsAgreement};
 ghost use Rattle.ideal_lane.specs.Ahead.{items_ahead};
-ghost use Rattle.ideal_lane.specs.Asking.{by_reply};
+ghost use Rattle.ideal_lane.specs.Asking.{by_reply, call_of};
 ghost use Rattle.ideal_lane.specs.Callbacks.{IsRun, Made, times_called};
 ghost use Rattle.ideal_lane.specs.Left.{FallsOrStays};
 ghost use Rattle.ideal_lane.specs.Opening.{opening_lane};
+ghost use Rattle.ideal_lane.specs.Reported.{gone_on, is_reported, joining, remaining};
 ghost use Rattle.ideal_lane.specs.Standing.{KeepsStanding, Stands};
 ghost use Rattle.ideal_lane.specs.State.{LaneState};
-ghost use Rattle.ideal_lane.specs.Turns.{lane_step};
+ghost use Rattle.ideal_lane.specs.Turns.{Turned, is_waiting, lane_step};
 
 /// Where a driver stands and agrees with the account, the account allows the call of the driver's step,
 /// and by the account's reply they agree after it. The account is one that a sound history leads to.
@@ -57,6 +64,32 @@ pub fn each_load_is_called_once()
     ensures { (place id maxmem : ℕ) (driver : Driver) (steps : List Made) →
         IsRun (opening_lane id maxmem driver) steps →
         times_called place (opening_lane id maxmem driver) steps ≤ 1 }
+{}
+
+/// A step whose answer is a report makes no call, whatever the reply would be. It leaves the driver's memory,
+/// loans, maps, tags, memories, shares and pages to return as they were: the script is at its next place, or
+/// the item has left the transfer queue.
+pub fn reports_change_nothing()
+    ensures call { (l : LaneState) (s : Side) (r : HubReply) → is_reported (by_reply (lane_step l s) r).turn ≡ true →
+        call_of (lane_step l s) ≡ None }
+    ensures lane { (l : LaneState) (s : Side) (r : HubReply) → is_reported (by_reply (lane_step l s) r).turn ≡ true →
+        (by_reply (lane_step l s) r).lane ≡ gone_on s l }
+{}
+
+/// After each turn, whatever the reply to its call, the transfer queue has the items that it had, but for the
+/// one that a step of the device took, and behind them the items of a load whose callback was called with
+/// segments: in the load's own step, or in a later one that takes its callback.
+pub fn items_join_with_segments()
+    ensures { (l : LaneState) (s : Side) (r : HubReply) →
+        let after : Turned = by_reply (lane_step l s) r in
+        after.lane.queue ≡ remaining s after.turn l.queue ++ joining l after.turn }
+{}
+
+/// Where a driver agrees with an account that a sound history leads to, a callback that the account's reply
+/// brings is that of a map of the driver that waits.
+pub fn each_callback_was_awaited()
+    ensures { (l : LaneState) (a : Account) (m : MapId) (pages : List Pa) → IsFit a → AgreesWith l a →
+        (account_step l.id TakeCallback a).reply ≡ Called m pages → is_waiting (get l.maps m.made_at) ≡ true }
 {}
 
 /// The items that stand in the transfer queue and those that may still join it never become more,

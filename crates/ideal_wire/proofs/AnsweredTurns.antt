@@ -41,7 +41,7 @@ use Rattle.ideal_lane.proofs.Direct.{need-direct}
 use Rattle.ideal_lane.proofs.Effects.{Advances, AtOnce, Begins, Callback, Called, Calls, Granted, IsNext, IsQuiet}
 use Rattle.ideal_lane.proofs.Effects.{IsReplyOf, Leaves, Loads, Makes, NothingLeft, Operation, Overflows, Refuses}
 use Rattle.ideal_lane.proofs.Effects.{Releases, Same, Stays, Steps, Touched, Touches, Vain, Work, asks, chunks, grab}
-use Rattle.ideal_lane.proofs.Effects.{here, turn-steps}
+use Rattle.ideal_lane.proofs.Effects.{here, turn-steps, untold-quiet}
 use Rattle.ideal_lane.proofs.Turning.{WaitsAt, waits-at}
 use Rattle.ideal_wire.specs.Accepted.{HasPages, IfSegments}
 use Rattle.ideal_wire.specs.Answered.{AreAnswered, AreLoaded, AreOf, AnswersIn, AnswersLoads}
@@ -228,7 +228,7 @@ module _ (l : LaneState) (a : Account) (stands : Stands l) (agrees : AgreesWith 
   makes-answer : {o : Op} {c : Option HubCall} {r : HubReply} {x : Outcome} → IsNext l (Operation o) →
       IsReplyOf l.id a c r → Makes l (Operation o) c r x → Answers x
   makes-answer at e (Touched t) = touches-quiet _ t
-  makes-answer at e (Vain v x q) = quiet x _ q
+  makes-answer at e (Vain v x q) = quiet x _ (untold-quiet x q)
   makes-answer at e (Loads (AtOnce b none) f) =
       subst (λ y. Answers (if y then fitting l b.m b.o l.place (asks b) (chunks b) []
       else too_big l b.m b.o l.place (asks b) (chunks b) [])) f (at-once b at none)
@@ -241,7 +241,7 @@ module _ (l : LaneState) (a : Account) (stands : Stands l) (agrees : AgreesWith 
       (account_step l.id call.TakeCallback a).reply ≡ reply.Called m pages →
       Makes l (Callback n) (Some call.TakeCallback) (reply.Called m pages) x →
       IfSegments x.answer (λ ss. AreOf l x.lane (did.Callback m) ss)
-  callback-answers e (Vain v x q) = quiet x _ q
+  callback-answers e (Vain v x q) = quiet x _ (untold-quiet x q)
   callback-answers e (Refuses b over x) = elim over [ ]
   callback-answers e (Overflows k f) = tt
   callback-answers e (Loads (Called m pages o v there waits) f) =

@@ -1,0 +1,72 @@
+-- What a step leaves of a driver whose answer is a report, and which items join its transfer queue.
+use Rattle.std.specs.Prelude.{ℕ, ◌+◌, Bool, false, List, [], ◌∷◌, Option, Some, None, slice_get}
+use Rattle.std.specs.FinMap.{get}
+use Rattle.busdma_base.specs.declared.journals.answer.Answer.{Answer}
+use Rattle.busdma_base.specs.declared.journals.answer.Answer.TheVariants as answer
+use Rattle.busdma_base.specs.declared.journals.journal.Did.{Did}
+use Rattle.busdma_base.specs.declared.journals.journal.Did.TheVariants as did
+use Rattle.busdma_base.specs.declared.journals.journal.Side.{Side}
+use Rattle.busdma_base.specs.declared.journals.journal.Side.TheVariants as side
+use Rattle.busdma_base.specs.declared.scenarios.script.Op.{Op}
+use Rattle.busdma_base.specs.Journals.Reports.{is_report}
+use Rattle.busdma_base.specs.Scenarios.Operations.{items_of}
+use Rattle.lane_tables.specs.declared.queued.QueuedItem.{QueuedItem}
+use Rattle.lane_tables.specs.Queues.{queued}
+use Rattle.ideal_lane.specs.State.{LaneState, LaneMap, Stage, Idle, Waiting, Loaded, Returning}
+use Rattle.ideal_lane.specs.Turns.{Turn, Stepped, Blocked, Ended}
+
+-- a turn is a step whose answer is a report
+abbrev pub is_reported : Turn → Bool
+is_reported (Stepped e) = is_report e.answer
+is_reported Blocked = false
+is_reported Ended = false
+
+-- the items behind the first
+abbrev pub behind : List QueuedItem → List QueuedItem
+behind [] = []
+behind (q ∷ rest) = rest
+
+-- the driver whose side has gone on, and nothing else: its script is at the next place, or an item has left the queue
+abbrev pub gone_on : Side → LaneState → LaneState
+gone_on side.Script l = record l { place = l.place + 1 }
+gone_on side.Transfer l = record l { queue = behind l.queue }
+gone_on side.Callback l = l
+
+-- the items that are still in the queue after a turn of a side: a step of the device takes the first
+abbrev pub remaining : Side → Turn → List QueuedItem → List QueuedItem
+remaining side.Transfer (Stepped e) queue = behind queue
+remaining _ _ queue = queue
+
+-- the items of an operation at a place
+abbrev pub items_at : ℕ → Option Op → List QueuedItem
+items_at place None = []
+items_at place (Some o) = queued place (items_of o)
+
+-- the items of the load for which a map waits that stands so
+abbrev pub items_awaited : Stage → List QueuedItem
+items_awaited Idle = []
+items_awaited (Waiting v) = queued v.load_at v.items
+items_awaited (Loaded bounced segments pages) = []
+items_awaited Returning = []
+
+abbrev pub items_in : Option LaneMap → List QueuedItem
+items_in None = []
+items_in (Some o) = items_awaited o.stage
+
+-- the items of the load that is ended by what was done: an operation, or the callback of a map that waited
+abbrev pub ended_items : LaneState → Did → List QueuedItem
+ended_items l (did.Op place) = items_at place (slice_get l.script place)
+ended_items l (did.Callback m) = items_in (get l.maps m.made_at)
+ended_items l (did.Release m page) = []
+ended_items l (did.Item load_at place) = []
+
+-- they join the queue where the load's callback is called with segments, and not with a refusal
+abbrev pub if_segments : Answer → List QueuedItem → List QueuedItem
+if_segments (answer.Segments segments) items = items
+if_segments _ items = []
+
+-- the items that join the queue with a turn
+abbrev pub joining : LaneState → Turn → List QueuedItem
+joining l (Stepped e) = if_segments e.answer (ended_items l e.did)
+joining l Blocked = []
+joining l Ended = []
