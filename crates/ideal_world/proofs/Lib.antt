@@ -2,12 +2,14 @@ pub mod Answering
 pub mod Calling
 pub mod Falling
 pub mod Few
+pub mod Holding
 pub mod Keeping
 pub mod Lanes
 pub mod Legal
 pub mod Opens
 pub mod Reached
 pub mod Replayed
+pub mod Reported
 pub mod Rest
 pub mod Resting
 pub mod Rounds

@@ -1,6 +1,7 @@
 pub mod Answered
 pub mod Callbacks
 pub mod Ends
+pub mod Holds
 pub mod Left
 pub mod Legal
 pub mod Waiting

@@ -1,6 +1,6 @@
 //! Laws of the ideal world and of its journals.
 
-ghost use Rattle.std.specs.Prelude.{◌≡◌, ◌<◌, ◌≤◌, ◌^◌, ℕ, List, Some, None, slice_get};
+ghost use Rattle.std.specs.Prelude.{◌≡◌, ◌<◌, ◌≤◌, ◌^◌, ℕ, true, List, Some, None, slice_get, slice_set};
 ghost use Rattle.busdma_base.specs.declared.journals.journal.Actor.{Actor};
 ghost use Rattle.busdma_base.specs.declared.journals.journal.Journal.{Journal};
 ghost use Rattle.busdma_base.specs.declared.journals.journal.JournalEntry.{JournalEntry};
@@ -8,18 +8,21 @@ ghost use Rattle.busdma_base.specs.declared.journals.journal.Side.{Side};
 ghost use Rattle.busdma_base.specs.declared.scenarios.scenario.Scenario.{Scenario};
 ghost use Rattle.busdma_base.specs.declared.scenarios.script.Place.{Place};
 ghost use Rattle.busdma_machine.specs.Bounce.EachFrame.{EachFrame, LiesBelowMaxmem};
-ghost use Rattle.busdma_machine.specs.Bounce.History.{IsFrame};
+ghost use Rattle.busdma_machine.specs.Bounce.History.{IsFrame, IsSound, account_of};
 ghost use Rattle.busdma_machine.specs.Bounce.LowPages.{PagesLieLow};
+ghost use Rattle.busdma_base.specs.Journals.Reports.{is_report};
 ghost use Rattle.busdma_base.specs.Scenarios.Valid.{IsValid};
 ghost use Rattle.lane_agreement.specs.Agreement.{IsFit};
 ghost use Rattle.ideal_lane.specs.Accesses.{cpu_read, dev_read};
 ghost use Rattle.ideal_lane.specs.Agreement.{IsAllowed};
+ghost use Rattle.ideal_lane.specs.Reported.{gone_on};
 ghost use Rattle.ideal_lane.specs.State.{LaneState};
 ghost use Rattle.ideal_lane.specs.Turns.{lane_step};
 ghost use Rattle.ideal_wire.specs.WireStep.{IsRead, load_buses, place_bytes};
 ghost use Rattle.ideal_world.specs.Answered.{AnswerLoads, AnswersLoad};
 ghost use Rattle.ideal_world.specs.Callbacks.{times_called};
 ghost use Rattle.ideal_world.specs.Ends.{IsAtRest};
+ghost use Rattle.ideal_world.specs.Holds.{step_holds};
 ghost use Rattle.ideal_world.specs.Left.{left_of};
 ghost use Rattle.ideal_world.specs.Legal.{IsLegal, IsReplayed, Leads};
 ghost use Rattle.ideal_world.specs.Waiting.{OnlyAwaits};
@@ -41,6 +44,23 @@ pub fn steps_keep_it()
         slice_get w.lanes i ≡ Some l → IsAllowed l.id w.account (lane_step l side) }
     ensures named { (s : Scenario) (w : WorldState) (actor : Actor) (e : JournalEntry) → IsWellFormed s w →
         step_entry w actor ≡ Some e → e.actor ≡ actor }
+{}
+
+/// A step whose answer is a report leaves the world as it was: the account, the other drivers, and all of the
+/// actor's driver but that its script is at the next place, or the item has left its transfer queue.
+pub fn reports_change_nothing()
+    ensures { (w : WorldState) (actor : Actor) (l : LaneState) (e : JournalEntry) →
+        slice_get w.lanes actor.lane.0 ≡ Some l → step_entry w actor ≡ Some e → is_report e.answer ≡ true →
+        (step w actor).world ≡ record w { lanes = slice_set w.lanes actor.lane.0 (gone_on actor.side l) } }
+{}
+
+/// What the turn of any actor adds to the history of the bounce lock is sound in the account of a
+/// well-formed world. In any world it leads to the account after the turn.
+pub fn holds_lead_on()
+    ensures sound { (s : Scenario) (w : WorldState) (actor : Actor) → IsWellFormed s w →
+        IsSound w.account (step_holds w actor) }
+    ensures lead { (w : WorldState) (actor : Actor) →
+        account_of w.account (step_holds w actor) ≡ (step w actor).world.account }
 {}
 
 /// In a well-formed world a turn that is a step leaves all drivers together less to do, so every run
