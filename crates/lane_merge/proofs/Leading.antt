@@ -26,7 +26,7 @@ leads-append : (w v u : WorldState) (xs ys : List JournalEntry) → Leads w xs v
 leads-append w v u [] ys p q = subst (λ x. Leads x ys u) (sym p) q
 leads-append w v u (x ∷ xs) ys p q = (p.0, leads-append (step w x.actor).world v u xs ys p.1 q)
 
-Some-inj : (l m : LaneState) → Some l ≡ Some m → l ≡ m
+pub Some-inj : (l m : LaneState) → Some l ≡ Some m → l ≡ m
 Some-inj l m e = ap (λ o. unwrap_or o l) e
 
 -- logs without a hold, driver by driver
@@ -59,10 +59,10 @@ rest-leads done (l ∷ firsts) (m ∷ lasts) (log ∷ logs) a p q numbers run =
     (subst (λ (z : List LaneState × List LaneState). Leads (world_of z.0 a) (all_entries logs) (world_of z.1 a))
     (λ i. (append_assoc done (m ∷ []) firsts i, append_assoc done (m ∷ []) lasts i)) later)
 
-own-entry : (i : ℕ) (h : HoldEntry) (hs : List HoldEntry) → h.lane.0 ≡ i → of_lane i (h ∷ hs) ≡ h ∷ of_lane i hs
+pub own-entry : (i : ℕ) (h : HoldEntry) (hs : List HoldEntry) → h.lane.0 ≡ i → of_lane i (h ∷ hs) ≡ h ∷ of_lane i hs
 own-entry i h hs own = rw (eq-eqb h.lane.0 i own) refl
 
-other-entry : (i : ℕ) (h : HoldEntry) (hs : List HoldEntry) → h.lane.0 ≢ i → of_lane i (h ∷ hs) ≡ of_lane i hs
+pub other-entry : (i : ℕ) (h : HoldEntry) (hs : List HoldEntry) → h.lane.0 ≢ i → of_lane i (h ∷ hs) ≡ of_lane i hs
 other-entry i h hs other = rw (ne_eqb h.lane.0 i other) refl
 
 -- after one driver's entries up to its hold, each driver's log runs it on by what is left of the history

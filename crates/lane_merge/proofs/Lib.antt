@@ -2,5 +2,6 @@ pub mod Cloned
 pub mod Leading
 pub mod Logged
 pub mod OneTurn
+pub mod Ordering
 pub mod Seams
 pub mod Taking

@@ -7,13 +7,13 @@ use Rattle.lane_merge.specs.Merged.{log_of, merged, past_hold, through_hold}
 use Rattle.lane_merge.specs.Runs.{Log}
 
 module _ {Q : Type 0} (items : Q → Log) where
-  read-map : (logs : List Q) (i : ℕ) (q : Q) → i < length logs → q ≡ slice_index_or logs i q →
+  pub read-map : (logs : List Q) (i : ℕ) (q : Q) → i < length logs → q ≡ slice_index_or logs i q →
       log_of (map items logs) i ≡ items q
   read-map [] i q below is = absurd (omega arith)
   read-map (x ∷ xs) zero q below is = ap items (sym is)
   read-map (x ∷ xs) (suc i) q below is = read-map xs i q (omega arith) is
 
-  map-slice_set : (logs : List Q) (i : ℕ) (q : Q) →
+  pub map-slice_set : (logs : List Q) (i : ℕ) (q : Q) →
       map items (slice_set logs i q) ≡ slice_set (map items logs) i (items q)
   map-slice_set [] i q = refl
   map-slice_set (x ∷ xs) zero q = refl

@@ -1,5 +1,5 @@
 -- The one journal that the logs of drivers and the history of the bounce lock, which they shared, are merged to.
-use Rattle.std.specs.Prelude.{◌≡◌, ℕ, ◌<◌, List, [], ◌∷◌, ◌++◌, map, length, All, Some}
+use Rattle.std.specs.Prelude.{◌≡◌, ℕ, ◌<◌, Bool, List, [], ◌∷◌, ◌++◌, map, length, All, Some, if◌then◌else◌}
 use Rattle.std.specs.Prelude.{slice_get, slice_set, slice_index_or}
 use Rattle.busdma_machine.specs.declared.bounce.hold.HoldEntry.{HoldEntry}
 use Rattle.busdma_base.specs.declared.journals.journal.JournalEntry.{JournalEntry}
@@ -14,6 +14,10 @@ use Rattle.ideal_world.specs.World.{WorldState}
 use Rattle.lane_merge.specs.declared.merging.LoggedStep.{LoggedStep}
 use Rattle.lane_merge.specs.declared.merging.LoggedStep.TheVariants.{Local, Held}
 use Rattle.lane_merge.specs.Runs.{Log, Runs}
+
+-- a step of this entry, with whether it held
+abbrev pub logged : JournalEntry → Bool → LoggedStep
+logged e held = if held then Held e else Local e
 
 -- the entry of a step
 abbrev pub logged_entry : LoggedStep → JournalEntry

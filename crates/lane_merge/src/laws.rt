@@ -11,6 +11,7 @@ ghost use Rattle.ideal_world.specs.Ends.{IsAtRest};
 ghost use Rattle.ideal_world.specs.Legal.{IsLegal, Leads, journal_of};
 ghost use Rattle.ideal_world.specs.World.{opening_world};
 ghost use Rattle.lane_merge.specs.Merged.{AllRun, AreNumbered, merged, merged_run, world_of};
+ghost use Rattle.lane_merge.specs.Order.{AreOrdered};
 ghost use Rattle.lane_merge.specs.Runs.{Log};
 
 /// Where each driver has the number of its place, a history is sound from an account on and has entries
@@ -21,6 +22,14 @@ pub fn merged_journals_lead()
     ensures { (a : Account) (history : List HoldEntry) (logs : List Log) (firsts lasts : List LaneState) →
         AreNumbered firsts → IsSound a history → AllRun firsts logs history lasts →
         Leads (world_of firsts a) (merged history logs) (world_of lasts (account_of a history)) }
+{}
+
+/// Where that is so of the drivers and their logs, the merged journal keeps each log and the holds in order.
+/// A step that held nothing stands before its driver's next hold, with no other driver's step between; or, where
+/// its driver does not hold again, at the end by driver.
+pub fn merged_journals_are_ordered()
+    ensures { (history : List HoldEntry) (logs : List Log) (firsts lasts : List LaneState) →
+        AreNumbered firsts → AllRun firsts logs history lasts → AreOrdered history logs (merged history logs) }
 {}
 
 /// Where that is so of the drivers and the account of a scenario's opening, and no actor can step in the

@@ -1,7 +1,7 @@
 //! The logs of drivers, and the one journal that they and the history are merged to.
 
 ghost use Rattle.std.specs.Prelude.{◌≡◌, ◌++◌, ◌<◌, All, IfOk, OnOk, length, map};
-ghost use Rattle.lane_merge.specs.Merged.{all_entries, entries_of, logged_entry, merged, past_hold, through_hold};
+ghost use Rattle.lane_merge.specs.Merged.{all_entries, entries_of, logged, logged_entry, merged, past_hold, through_hold};
 
 use busdma_base::{HoldEntry, JournalEntry};
 use std::alloc::{AllocError, Global};
@@ -14,6 +14,19 @@ pub enum LoggedStep {
     Local(JournalEntry),
     /// It added the driver's next entry to the history of the bounce lock.
     Held(JournalEntry),
+}
+
+impl LoggedStep {
+    /// The step of an entry, with whether it held.
+    pub fn new(entry: JournalEntry, held: bool) -> LoggedStep
+        ensures { result ≡ logged entry held }
+    {
+        if held {
+            LoggedStep::Held(entry)
+        } else {
+            LoggedStep::Local(entry)
+        }
+    }
 }
 
 impl Clone for LoggedStep {

@@ -1,0 +1,45 @@
+-- The order in which a merged journal has the steps of drivers.
+use Rattle.std.specs.Prelude.{◌≡◌, ℕ, ◌<◌, ◌≤◌, ◌==◌, Bool, true, false, List, ◌∷◌, ◌++◌, map, length, All}
+use Rattle.std.specs.List.{filter}
+use Rattle.busdma_machine.specs.declared.bounce.hold.HoldEntry.{HoldEntry}
+use Rattle.busdma_base.specs.declared.journals.journal.JournalEntry.{JournalEntry}
+use Rattle.lane_merge.specs.declared.merging.LoggedStep.{LoggedStep}
+use Rattle.lane_merge.specs.declared.merging.LoggedStep.TheVariants.{Local, Held}
+use Rattle.lane_merge.specs.Merged.{entries_of, log_of, logged_entry}
+use Rattle.lane_merge.specs.Runs.{Log}
+
+-- the number of a step's driver
+abbrev pub driver_of : LoggedStep → ℕ
+driver_of s = (logged_entry s).actor.lane.0
+
+-- a step held
+abbrev pub has_held : LoggedStep → Bool
+has_held (Local e) = false
+has_held (Held e) = true
+
+-- a step is no hold of this driver
+abbrev pub HoldsNot : ℕ → LoggedStep → Type 0
+HoldsNot i s = driver_of s ≡ i → has_held s ≡ false
+
+-- a step held nothing, and its driver has this number or a higher one
+pub record IsRest (i : ℕ) (s : LoggedStep) : Type 0 where
+  pub unheld : has_held s ≡ false
+  pub driver : i ≤ driver_of s
+
+-- steps stand in order: those of each driver are its log; those that held are, one by one, of the drivers of the
+-- holds; between a step that held nothing and its driver's next hold stand steps of this driver alone; and behind one
+-- after which its driver does not hold again nothing holds, and no driver of a lower number has a step
+pub record IsInOrder (holds : List HoldEntry) (logs : List Log) (steps : Log) : Type 0 where
+  pub each : (i : ℕ) → i < length logs → filter (λ s. driver_of s == i) steps ≡ log_of logs i
+  pub held : map driver_of (filter has_held steps) ≡ map (λ h. h.lane.0) holds
+  pub directly : (before between after : Log) (e f : JournalEntry) →
+      steps ≡ before ++ (Local e ∷ (between ++ (Held f ∷ after))) → f.actor.lane.0 ≡ e.actor.lane.0 →
+      All (HoldsNot e.actor.lane.0) between → All (λ s. driver_of s ≡ e.actor.lane.0) between
+  pub last : (before after : Log) (e : JournalEntry) → steps ≡ before ++ (Local e ∷ after) →
+      All (HoldsNot e.actor.lane.0) after → All (IsRest e.actor.lane.0) after
+
+-- entries are those of steps that stand so
+pub record AreOrdered (holds : List HoldEntry) (logs : List Log) (entries : List JournalEntry) : Type 0 where
+  pub steps : Log
+  pub order : IsInOrder holds logs steps
+  pub is : entries ≡ entries_of steps
