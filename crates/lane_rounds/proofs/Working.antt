@@ -1,6 +1,6 @@
 -- A driver at work after a turn at its door.
 use Rattle.std.proofs.Common.{◌≡◌, inl, inr, ℕ, Bool, true, false, IsTrue, List, [], ◌∷◌, ◌++◌, refl, sym}
-use Rattle.std.proofs.Common.{ap, ◌∙◌, subst, append-nil, eq-eqb}
+use Rattle.std.proofs.Common.{ap, ◌∙◌, ◌||◌, arith, length, length-append, subst, append-nil, eq-eqb}
 use Rattle.busdma_machine.specs.declared.bounce.hold.HoldEntry.{HoldEntry}
 use Rattle.busdma_machine.specs.declared.bounce.hold.HubCall.{HubCall}
 use Rattle.busdma_machine.specs.declared.bounce.hold.HubCall.TheVariants.{TakeCallback}
@@ -21,12 +21,14 @@ use Rattle.ideal_lane.specs.Turns.{Turn, Turned, Stepped, Blocked, called_back, 
 use Rattle.ideal_lane.proofs.Own.{IsOwn, turn-own}
 use Rattle.lane_core.specs.Doing.{IsUndone}
 use Rattle.lane_core.specs.Turning.{IsServed, IsTurned}
+use Rattle.lane_merge.specs.declared.merging.LoggedStep.{LoggedStep}
 use Rattle.lane_merge.specs.declared.merging.LoggedStep.TheVariants.{Local, Held}
+use Rattle.lane_merge.specs.Merged.{logged}
 use Rattle.lane_merge.specs.Runs.{Log, Runs, StepsAlone, StepsBy}
-use Rattle.lane_rounds.specs.AtWork.{IsAtWork, logged}
+use Rattle.lane_rounds.specs.AtWork.{Grows, IsAtWork}
 use Rattle.lane_rounds.proofs.Shapes.{Shape, is_step, turn-shape, taken-steps}
 
-Runs-append : (l k m : LaneState) (log more : Log) (hs gs : List HoldEntry) → Runs l log hs k → Runs k more gs m →
+pub Runs-append : (l k m : LaneState) (log more : Log) (hs gs : List HoldEntry) → Runs l log hs k → Runs k more gs m →
     Runs l (log ++ more) (hs ++ gs) m
 Runs-append l k m [] more [] gs r s = subst (λ x. Runs x more gs m) (sym r) s
 Runs-append l k m [] more (h ∷ hs) gs r s = absurd r
@@ -210,3 +212,14 @@ module _ (first l m : LaneState) (log more : Log) (s : Side) (d e : Seen) (work 
       by : IsUndone d e → of_lane l.id e.history ≡ of_lane l.id d.history
       by (inl seen) = ap (λ (x : Seen). of_lane l.id x.history) seen
       by (inr fails) = own-passes l.id d e fails.others work.served.served fails.passes
+
+-- ---- how a log grows
+
+pub grows-both : (a b c : Log) (s t : Bool) → Grows a b s → Grows b c t → Grows a c (s || t)
+grows-both a b c true true g h = omega (arith, g, h)
+grows-both a b c true false g h = let e : c ≡ b = h in omega (arith, g, ap length e)
+grows-both a b c false true g h = let e : b ≡ a = g in omega (arith, h, ap length e)
+grows-both a b c false false g h = h ∙ g
+
+pub grows-one : (log more : Log) (x : LoggedStep) → more ≡ log ++ x ∷ [] → Grows log more true
+grows-one log more x is = omega (arith, ap length is, length-append log (x ∷ []))

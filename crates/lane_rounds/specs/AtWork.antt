@@ -1,19 +1,16 @@
 -- A driver at work at a door to the bounce lock.
-use Rattle.std.specs.Prelude.{◌≡◌, Bool, if◌then◌else◌}
-use Rattle.busdma_base.specs.declared.journals.journal.JournalEntry.{JournalEntry}
+use Rattle.std.specs.Prelude.{◌≡◌, ℕ, ◌+◌, ◌-◌, ◌<◌, ◌^◌, Bool, true, false, length, min}
+use Rattle.busdma_base.specs.declared.journals.answer.Answer.{Answer}
+use Rattle.busdma_base.specs.declared.journals.answer.Answer.TheVariants as answer
+use Rattle.busdma_base.specs.declared.journals.journal.Did.{Did}
+use Rattle.busdma_base.specs.declared.journals.journal.Did.TheVariants as did
 use Rattle.busdma_machine.specs.Bounce.Door.{Seen}
 use Rattle.busdma_machine.specs.Bounce.LaneEntries.{of_lane}
 use Rattle.ideal_lane.specs.State.{LaneState}
 use Rattle.lane_core.specs.LaneIdeal.{ideal}
 use Rattle.lane_core.specs.Turning.{IsServed}
-use Rattle.lane_merge.specs.declared.merging.LoggedStep.{LoggedStep}
-use Rattle.lane_merge.specs.declared.merging.LoggedStep.TheVariants.{Local, Held}
 use Rattle.lane_merge.specs.Runs.{Log, Runs}
 use Rattle.lane_rounds.specs.declared.worker.Worker.{Worker}
-
--- a step as a log has it, with whether it held
-abbrev pub logged : JournalEntry → Bool → LoggedStep
-logged e held = if held then Held e else Local e
 
 -- a driver came from its first state by its log and by its own entries of what a door has seen, and the door serves it
 pub record IsAtWork (first lane : LaneState) (log : Log) (d : Seen) : Type 0 where
@@ -37,3 +34,26 @@ place_of fixed w = record { first = ideal w.first.value; fixed = fixed w.door }
 pub record GoesOn {D F : Type 0} (seen : D → Seen) (fixed : D → F) (before after : Worker D F) : Type 0 where
   pub works : Works seen after
   pub place : place_of fixed after ≡ place_of fixed before
+
+-- how many loads of a driver wait after what was done with this answer: a callback ends the wait of one, and a load in
+-- progress begins to wait
+abbrev pub waiting_after : ℕ → Did → Answer → ℕ
+waiting_after n (did.Callback m) a = n - 1
+waiting_after n d (answer.InProgress have need) = min (n + 1) (2 ^ 32 - 1)
+waiting_after n d a = n
+
+-- a log has become longer where steps were made, and is as it was where none was
+abbrev pub Grows : Log → Log → Bool → Type 0
+Grows before after true = length before < length after
+Grows before after false = after ≡ before
+
+-- a worker tells that its last round made a step, and that memory was wanting in a round
+abbrev pub tells_step : {D F : Type 0} → Worker D F → Bool
+tells_step w = w.stepped
+
+abbrev pub tells_failure : {D F : Type 0} → Worker D F → Bool
+tells_failure w = w.failed
+
+-- after a round a worker tells whether it made a step, unless memory was wanting
+abbrev pub Tells : {D F : Type 0} → Worker D F → Worker D F → Type 0
+Tells before after = tells_failure after ≡ false → Grows before.log.items after.log.items (tells_step after)

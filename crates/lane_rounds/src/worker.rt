@@ -1,10 +1,11 @@
 //! A driver at work at a door.
 
-ghost use Rattle.std.specs.Prelude.{◌≡◌, []};
+ghost use Rattle.std.specs.Prelude.{◌≡◌, [], IfOk};
 ghost use Rattle.busdma_machine.specs.Bounce.LaneEntries.{of_lane};
 ghost use Rattle.lane_core.specs.LaneIdeal.{ideal};
 ghost use Rattle.lane_core.specs.Turning.{IsServed};
-ghost use Rattle.lane_rounds.specs.AtWork.{IsAtWork, Works, logged, place_of};
+ghost use Rattle.lane_rounds.specs.AtWork as work;
+ghost use Rattle.lane_rounds.specs.AtWork.{Grows, IsAtWork, Tells, Works, place_of, tells_failure, tells_step};
 
 use crate::gate::Gate;
 use busdma_base::{Answer, Did, HubDoor, JournalEntry, LaneId, Side};
@@ -25,27 +26,18 @@ pub struct Worker<'s, D: HubDoor + Drop> {
     pub(crate) log: LaneLog,
     turns: u64,
     waiting: u32,
-    stepped: bool,
-    failed: bool,
+    pub(crate) stepped: bool,
+    pub(crate) failed: bool,
 }
 
 /// How many loads of a driver wait after a step, where `waiting` did so before it.
-fn waiting_after(waiting: u32, entry: &JournalEntry) -> u32 {
+fn waiting_after(waiting: u32, entry: &JournalEntry) -> u32
+    ensures { result ≡ work.waiting_after waiting entry.now.did entry.now.answer }
+{
     match (&entry.did, &entry.answer) {
         (Did::Callback { .. }, _) => waiting.saturating_sub(1),
         (_, Answer::InProgress { .. }) => waiting.saturating_add(1),
         _ => waiting,
-    }
-}
-
-/// A step as a log has it, with whether it held.
-fn logged(entry: JournalEntry, held: bool) -> LoggedStep
-    ensures { result ≡ logged entry held }
-{
-    if held {
-        LoggedStep::Held(entry)
-    } else {
-        LoggedStep::Local(entry)
     }
 }
 
@@ -85,6 +77,7 @@ impl<'s, D: HubDoor + Drop> Worker<'s, D> {
         requires { Works D.seen self.old }
         ensures works { Works D.seen self.new }
         ensures place { place_of D.fixed self.new ≡ place_of D.fixed self.old }
+        ensures grew { IfOk result (Grows self.old.log.items self.new.log.items) }
     {
         gate.at(self.id, self.turns);
         self.turns = self.turns.saturating_add(1);
@@ -93,7 +86,7 @@ impl<'s, D: HubDoor + Drop> Worker<'s, D> {
         match turn {
             Turn::Stepped { entry, held } => {
                 self.waiting = waiting_after(self.waiting, &entry);
-                self.log.push_back_reserved(logged(entry, held));
+                self.log.push_back_reserved(LoggedStep::new(entry, held));
                 Ok(true)
             }
             Turn::Blocked | Turn::Ended => Ok(false),
@@ -106,6 +99,7 @@ impl<'s, D: HubDoor + Drop> Worker<'s, D> {
         requires { Works D.seen self.old }
         ensures works { Works D.seen self.new }
         ensures place { place_of D.fixed self.new ≡ place_of D.fixed self.old }
+        ensures grew { IfOk result (Grows self.old.log.items self.new.log.items) }
     {
         if 0 < self.waiting {
             return self.turn(alloc, gate, Side::Callback);
@@ -120,6 +114,7 @@ impl<'s, D: HubDoor + Drop> Worker<'s, D> {
         requires { Works D.seen self.old }
         ensures works { Works D.seen self.new }
         ensures place { place_of D.fixed self.new ≡ place_of D.fixed self.old }
+        ensures grew { IfOk result (Grows self.old.log.items self.new.log.items) }
     {
         let called = self.callback_turn(alloc, gate)?;
         let moved = self.turn(alloc, gate, Side::Transfer)?;
@@ -137,6 +132,7 @@ impl<'s, D: HubDoor + Drop> Worker<'s, D> {
         requires { Works D.seen self.old }
         ensures works { Works D.seen self.new }
         ensures place { place_of D.fixed self.new ≡ place_of D.fixed self.old }
+        ensures grew { IfOk result (Grows self.old.log.items self.new.log.items) }
     {
         let mut stepped = false;
         for _ in rt.forever() {
@@ -153,6 +149,7 @@ impl<'s, D: HubDoor + Drop> Worker<'s, D> {
         requires { Works D.seen self.old }
         ensures works { Works D.seen self.new }
         ensures place { place_of D.fixed self.new ≡ place_of D.fixed self.old }
+        ensures told { Tells self.old self.new }
     {
         match self.cycles(rt, alloc, gate) {
             Ok(stepped) => self.stepped = stepped,
@@ -161,12 +158,16 @@ impl<'s, D: HubDoor + Drop> Worker<'s, D> {
     }
 
     /// Whether the last round in which no memory was wanting made a step.
-    pub fn has_stepped(&self) -> bool {
+    pub fn has_stepped(&self) -> bool
+        ensures { result ≡ tells_step self.now }
+    {
         self.stepped
     }
 
     /// Whether memory was wanting in a round.
-    pub fn has_failed(&self) -> bool {
+    pub fn has_failed(&self) -> bool
+        ensures { result ≡ tells_failure self.now }
+    {
         self.failed
     }
 

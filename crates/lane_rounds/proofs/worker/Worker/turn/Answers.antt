@@ -4,8 +4,9 @@ use Rattle.lane_core.specs.declared.turn.Turn.{Turn}
 use Rattle.lane_core.specs.declared.turn.Turn.TheVariants.{Blocked, Ended}
 use Rattle.lane_core.specs.LaneIdeal.{ideal, turned}
 use Rattle.lane_core.specs.Turning.{IsTurned, answered, is_held}
+use Rattle.lane_merge.specs.Merged.{logged}
 use Rattle.lane_rounds.proofs.Shapes.{is_step}
-use Rattle.lane_rounds.proofs.Working.{work-fails, work-stays, work-steps}
+use Rattle.lane_rounds.proofs.Working.{grows-one, work-fails, work-stays, work-steps}
 use Rattle.lane_rounds.proofs.worker.Worker.turn.Goals as goal
 
 pub returns-in_err-turn-clause-works : goal.returns-in_err-turn-clause-works
@@ -26,7 +27,13 @@ returns-in-Stepped-clause-works g c =
     c.in-Stepped.held
     (subst (λ (t : Turn). IsTurned d (ideal w.lane).id (lane_step (ideal w.lane) c.args.side)
     (turned c.turn.new.self t) (is_held t) e) c.in-Stepped.is c.in_ok-turn.ensures.done)
-    (c.push_back_reserved.ensures.items ∙ (λ i. c.reserve.ensures.items i ++ c.logged.ensures i ∷ []))
+    (c.push_back_reserved.ensures.items ∙ (λ i. c.reserve.ensures.items i ++ c.new.ensures i ∷ []))
+
+pub returns-in-Stepped-clause-grew : goal.returns-in-Stepped-clause-grew
+returns-in-Stepped-clause-grew g c =
+    grows-one c.args.self.now.log.items c.push_back_reserved.new.self.items
+    (logged c.in-Stepped.entry c.in-Stepped.held)
+    (c.push_back_reserved.ensures.items ∙ (λ i. c.reserve.ensures.items i ++ c.new.ensures i ∷ []))
 
 pub returns-in-Blocked : goal.returns-in-Blocked
 returns-in-Blocked g c =
@@ -40,4 +47,5 @@ returns-in-Blocked g c =
           c.reserve.new.self.items c.args.side (g.D.HubDoor.seen w.door) (g.D.HubDoor.seen c.turn.new.door) c.requires
           c.in_ok-turn.ensures.served (answered t) (is_held t) none c.in_ok-turn.ensures.done c.reserve.ensures.items;
       place = λ i. record { first = ideal w.first.value; fixed = c.turn.ensures.fixed i };
+      grew = c.reserve.ensures.items;
     }
