@@ -2,6 +2,7 @@ ghost use Rattle.std.specs.Prelude.{◌≤◌};
 
 use super::*;
 use std::alloc::{AllocError, Global};
+use std::cell::Cell;
 use std::io;
 use std::io::{Cursor, ErrorKind, Read, Write};
 use std::test::Fail;
@@ -184,6 +185,40 @@ fn reads_by_std(rt: HostRuntime) -> Result<(), Fail> {
     let mut broken = StdSource::new(Broken);
     assert_eq!(rt; read_up_to(alloc, &mut broken, 9)?, Input::Failed);
     Ok(())
+}
+
+/// A writer that keeps bytes back until it is flushed: how many wait, and how many it has given on.
+#[derive(Drop)]
+struct KeepsBack<'a> {
+    waiting: usize,
+    given: &'a Cell<usize>,
+}
+
+impl Write for KeepsBack<'_> {
+    fn write(&mut self, piece: &[u8]) -> io::Result<usize> {
+        self.waiting = self.waiting.saturating_add(piece.len());
+        Ok(piece.len())
+    }
+
+    fn flush(&mut self) -> io::Result<()> {
+        self.given.set(self.given.get().saturating_add(self.waiting));
+        self.waiting = 0;
+        Ok(())
+    }
+}
+
+/// What a sink took its writer has given on, also while the sink is still there.
+#[test]
+fn flushes_what_it_wrote(rt: HostRuntime) {
+    let given = Cell::new(0);
+    let mut to = StdSink::new(KeepsBack {
+        waiting: 0,
+        given: &given,
+    });
+    assert_eq!(rt; write_all(&mut to, b"abc"), Ok(()));
+    assert_eq!(rt; given.get(), 3);
+    assert_eq!(rt; write_all(&mut to, b"de"), Ok(()));
+    assert_eq!(rt; given.get(), 5);
 }
 
 #[test]
