@@ -15,6 +15,7 @@ mod rows;
 mod rows_with_reports;
 mod runs;
 mod segments;
+mod sizes;
 mod storms;
 
 use busdma_base::LaneId;
