@@ -25,7 +25,8 @@ fn could_bounce(tag: &TagLimits, maxmem: u64) -> bool
     tag.lowaddr.0 / PAGE < maxmem || tag.alignment > 1
 }
 
-/// Where the tag could bounce, its making brings its zone the whole pages of maxsize, less those that it has.
+/// A tag has ALLOCNOW. Where it could bounce, its making then brings its zone the whole pages of maxsize, less
+/// those that the zone has.
 fn allocnow(tag: &TagLimits) -> bool
     ensures { result ≡ allocnow tag.now.flags }
 {
