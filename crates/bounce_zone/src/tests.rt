@@ -4,7 +4,6 @@ use crate::Zone;
 use busdma_machine::{Pa, PageList, ZoneCounts};
 use frame_bank::FrameBank;
 use std::alloc::{AllocError, Global};
-use std::process::Abort;
 use std::test::Fail;
 
 const FRAMES: [u64; 6] = [0x10, 0x11, 0x12, 0x13, 0x1000, 0x1001];
@@ -25,15 +24,6 @@ fn counts(total: u32, free: u32, reserved: u32, active: u32) -> ZoneCounts {
         lowaddr: Pa(0xff_ffff),
         alignment: 4096,
     }
-}
-
-/// The frame of the last page of a list, which goes back to the zone.
-fn put_back(rt: &impl Abort, zone: &mut Zone, list: &mut PageList) -> Option<u64> {
-    let page = list.pop()?;
-    let frame = page.frame();
-    assert!(rt; zone.counts(0, 0).active > 0);
-    zone.put_back(page);
-    Some(frame)
 }
 
 /// So many pages, or all that are free, which are reserved and taken.
@@ -72,29 +62,5 @@ fn a_zone_grows_from_the_bank(rt: HostRuntime) -> Result<(), Fail> {
     assert_eq!(rt; frames(alloc, &pages)?.as_slice(), [0x10, 0x11].as_slice());
     assert_eq!(rt; zone.counts(7, 5), counts(4, 0, 2, 2));
     assert_eq!(rt; zone.reserve(1), 0);
-    Ok(())
-}
-
-#[test]
-fn pages_go_and_come_back_at_the_head(rt: HostRuntime) -> Result<(), Fail> {
-    let alloc = rt.alloc();
-    let mut bank = small_bank(alloc)?;
-    let mut zone = Zone::new(alloc, Pa(0xff_ffff), 4096);
-    assert_eq!(rt; zone.grow(alloc, &mut bank, 3)?, 3);
-    let mut pages = take(alloc, &mut zone, 2)?;
-    assert_eq!(rt; frames(alloc, &pages)?.as_slice(), [0x10, 0x11].as_slice());
-    assert_eq!(rt; zone.counts(7, 5), counts(3, 1, 0, 2));
-    assert_eq!(rt; put_back(&rt, &mut zone, &mut pages), Some(0x11));
-    assert_eq!(rt; zone.counts(7, 5), counts(3, 2, 0, 1));
-    assert_eq!(rt; put_back(&rt, &mut zone, &mut pages), Some(0x10));
-    assert_eq!(rt; zone.counts(7, 5), counts(3, 3, 0, 0));
-    assert_eq!(rt; zone.reserve(1), 1);
-    let mut pages = take(alloc, &mut zone, 1)?;
-    assert_eq!(rt; frames(alloc, &pages)?.as_slice(), [0x10].as_slice());
-    assert_eq!(rt; zone.counts(7, 5), counts(3, 1, 1, 1));
-    assert_eq!(rt; put_back(&rt, &mut zone, &mut pages), Some(0x10));
-    let pages = take(alloc, &mut zone, 2)?;
-    assert_eq!(rt; frames(alloc, &pages)?.as_slice(), [0x10, 0x11].as_slice());
-    assert_eq!(rt; zone.counts(7, 5), counts(3, 0, 1, 2));
     Ok(())
 }

@@ -186,37 +186,6 @@ fn refusals(rt: HostRuntime) {
 }
 
 #[test]
-fn edges(rt: HostRuntime) -> Result<(), Einval> {
-    let free = Tag::create(None, &FREE)?;
-    assert!(rt; !free.excluded(Pa(u64::MAX)));
-    assert!(rt; !free.could_bounce((1 << 52) - 1));
-    assert!(rt; free.could_bounce(1 << 52));
-    assert!(rt; free.could_bounce(u64::MAX));
-    assert!(rt; !free.needs_bounce(1 << 52, Pa(u64::MAX)));
-
-    let limits = TagLimits {
-        alignment: 64,
-        ..FREE
-    };
-    let aligned = Tag::create(None, &limits)?;
-    assert!(rt; aligned.could_bounce(0));
-    assert!(rt; aligned.needs_bounce(0, Pa(u64::MAX)));
-    assert!(rt; !aligned.needs_bounce(0, Pa(u64::MAX - 63)));
-
-    let limits = TagLimits {
-        lowaddr: Pa(0),
-        ..FREE
-    };
-    let low = Tag::create(None, &limits)?;
-    assert!(rt; !low.could_bounce(0));
-    assert!(rt; low.could_bounce(1));
-    assert!(rt; !low.needs_bounce(0, Pa(u64::MAX)));
-    assert!(rt; low.needs_bounce(1, Pa(u64::MAX)));
-    assert!(rt; !low.needs_bounce(1, Pa(4095)));
-    Ok(())
-}
-
-#[test]
 fn words(rt: HostRuntime) {
     let cases = [
         (bits_of::<TagFlags>("ALLOCNOW"), Some(1)),
@@ -235,17 +204,6 @@ fn words(rt: HostRuntime) {
     for (bits, want) in cases {
         assert_eq!(rt; bits, want);
     }
-}
-
-#[test]
-fn syncs(rt: HostRuntime) {
-    let mut ops = SyncOps::empty();
-    assert!(rt; !ops.has_pre() && !ops.has_post() && !ops.is_mixed());
-    ops.insert(SyncOps::PREREAD);
-    ops.insert(SyncOps::PREWRITE);
-    assert_eq!(rt; ops.bits(), 5);
-    assert!(rt; ops.has_pre() && !ops.is_mixed());
-    assert!(rt; ops.union(SyncOps::POSTWRITE).is_mixed());
 }
 
 #[test]

@@ -42,35 +42,6 @@ fn reads_what_there_is(rt: HostRuntime) -> Result<(), Fail> {
     Ok(())
 }
 
-#[test]
-fn takes_one_byte_too_many(rt: HostRuntime) -> Result<(), Fail> {
-    let alloc = rt.alloc();
-    for piece in 1..7 {
-        let mut from = source(alloc, b"abcdef", piece, &[])?;
-        assert_eq!(rt;
-            read_up_to(alloc, &mut from, 3)?,
-            Input::TooLong,
-            "in pieces of {piece}"
-        );
-        let rest = read_up_to(alloc, &mut from, 3)?;
-        assert_eq!(rt;
-            rest,
-            Input::Whole(b"ef".to_vec(alloc)?),
-            "in pieces of {piece}"
-        );
-    }
-    Ok(())
-}
-
-#[test]
-fn reads_more_than_one_buffer(rt: HostRuntime) -> Result<(), Fail> {
-    let alloc = rt.alloc();
-    let text = vec![in alloc; b'x'; 10_000]?;
-    let mut from = source(alloc, &text, 100_000, &[])?;
-    assert_eq!(rt; read_up_to(alloc, &mut from, 10_000)?, Input::Whole(text));
-    Ok(())
-}
-
 /// Three reads give a byte each, and the fourth sees the end.
 #[test]
 fn fails_with_the_read(rt: HostRuntime) -> Result<(), Fail> {
@@ -82,18 +53,6 @@ fn fails_with_the_read(rt: HostRuntime) -> Result<(), Fail> {
     }
     let mut from = source(alloc, b"abc", 1, &[3])?;
     assert_eq!(rt; read_up_to(alloc, &mut from, 2)?, Input::TooLong);
-    Ok(())
-}
-
-#[test]
-fn writes_all(rt: HostRuntime) -> Result<(), Fail> {
-    let alloc = rt.alloc();
-    for piece in 1..6 {
-        let mut to = sink(alloc, piece, &[])?;
-        assert_eq!(rt; write_all(&mut to, b"abcd"), Ok(()), "in pieces of {piece}");
-        assert_eq!(rt; write_all(&mut to, b"ef"), Ok(()), "in pieces of {piece}");
-        assert_eq!(rt; to.held(), b"abcdef".as_slice(), "in pieces of {piece}");
-    }
     Ok(())
 }
 
@@ -129,29 +88,6 @@ fn writes_in_pieces(rt: HostRuntime) -> Result<(), Fail> {
         }
         assert_eq!(rt; out.finish(), want, "call {call}");
         assert_eq!(rt; to.into_held(), vec![in alloc; b'x'; held]?, "call {call}");
-    }
-    Ok(())
-}
-
-/// What waits is written, then a text that no piece holds, and at the end the last text.
-#[test]
-fn writes_a_text_that_is_longer_than_a_piece(rt: HostRuntime) -> Result<(), Fail> {
-    let alloc = rt.alloc();
-    let long = vec![in alloc; b'x'; 8193]?;
-    for (call, len, want) in [
-        (0, 0, Err(Unwritten)),
-        (1, 2, Err(Unwritten)),
-        (2, 8195, Err(Unwritten)),
-        (3, 8196, Ok(())),
-    ] {
-        let mut to = sink(alloc, 9000, &[call])?;
-        let mut out = Pieces::new(&mut to);
-        out.push_str("ab");
-        out.push(&long);
-        out.push_str("c");
-        assert_eq!(rt; out.finish(), want, "call {call}");
-        assert_eq!(rt; to.held().len(), len, "call {call}");
-        assert_eq!(rt; to.held().ends_with(b"xc"), want.is_ok(), "call {call}");
     }
     Ok(())
 }

@@ -13,6 +13,7 @@ use crate::slot::Slot;
 use std::collections::BTreeMap;
 
 /// Whether a map is open.
+#[cfg(test)]
 pub fn is_open(loans: &BTreeMap<u32, Slot>, map: u32) -> bool
     ensures { result ≡ finmap.contains_key (opened loans.now) map }
 {

@@ -1,10 +1,9 @@
 //! Known marks and loans of one driver.
 
-ghost use Rattle.std.specs.Prelude.{◌≡◌, ◌+◌, ◌≤◌, ◌<◌, ◌^◌, OnOk, OnErr, IfOk, IsNone, IsSome, length, slice_index};
+ghost use Rattle.std.specs.Prelude.{◌≡◌, ◌+◌, ◌≤◌, ◌<◌, ◌^◌, OnOk, OnErr, IsNone, IsSome, length, slice_index};
 ghost use Rattle.std.specs.Prelude.{false, true, Some, None, if◌then◌else◌};
-ghost use Rattle.std.specs.List.{All};
 ghost use Rattle.std.specs.FinMap as finmap;
-ghost use Rattle.busdma_machine.specs.Runs.{run_of, addresses, byte_count, IsExtent};
+ghost use Rattle.busdma_machine.specs.Runs.{run_of, addresses, byte_count};
 ghost use Rattle.dma_tag.specs.SyncOps.{has_pre, has_post};
 ghost use Rattle.loan_table.specs.Access.{cpu_read_answer, cpu_write_answer, dev_read_answer, dev_write_answer};
 ghost use Rattle.loan_table.specs.Lending.{sync_answer, lost, lost_by_forgetting};
@@ -16,13 +15,13 @@ ghost use Rattle.loan_table.specs.Trees.{with_value};
 use crate::access::{self, Access};
 use crate::held::HeldRow;
 use crate::lent::LentCounts;
-use crate::loans::{is_open, open, positions_of, row_of};
+use crate::loans::{open, positions_of, row_of};
 use crate::marks::ByteMarks;
 use crate::room::{changes_for, edges_for, spare_after, sum_of};
 use crate::row::{LoanRow, keep_gone};
 use crate::slot::Slot;
-use crate::{extents, marks, sync};
-use busdma_machine::{Extent, ExtentList, Judged, MapId, Pa};
+use crate::{marks, sync};
+use busdma_machine::{Extent, Judged, MapId, Pa};
 use dma_tag::SyncOps;
 use std::alloc::{AllocError, Global};
 use std::collections::BTreeMap;
@@ -393,10 +392,11 @@ impl LoanTable {
     }
 
     /// Whether a map is in the table.
+    #[cfg(test)]
     pub fn has_map(&self, map: MapId) -> bool
         ensures { result ≡ finmap.contains_key self.now.loans map.made_at }
     {
-        is_open(&self.loans, map.made_at)
+        crate::loans::is_open(&self.loans, map.made_at)
     }
 
     /// The number of bytes of a map's buffer.
@@ -425,31 +425,8 @@ impl LoanTable {
         Pa(row_of(&self.loans, map.made_at).byte_at(at))
     }
 
-    /// The extents that hold `len` bytes from `off` on in a map's buffer, in order, each in one
-    /// frame.
-    pub fn extents_of(
-        &self,
-        alloc: Global,
-        map: MapId,
-        off: u64,
-        len: u64,
-    ) -> Result<ExtentList, AllocError>
-        requires there { HasMap self.now map.made_at }
-        requires range { off + len ≤ length (buffer_of self.now map.made_at) }
-        ensures bytes { IfOk result (λ list. addresses list ≡ load_bytes self.now.loans map.made_at off len) }
-        ensures extents { IfOk result (λ list. All IsExtent list) }
-        ensures there { IfOk result (λ list. AreIn self.now.bytes (addresses list)) }
-        ensures total { IfOk result (λ list. byte_count list ≡ len) }
-        ensures count { IfOk result (λ list. length list
-            ≡ extent_count (load_bytes self.now.loans map.made_at off len)) }
-    {
-        let row = row_of(&self.loans, map.made_at);
-        let extents = extents::extents_of(alloc, row, off, len)?;
-        Ok(ExtentList::new(extents))
-    }
-
-    /// How many extents hold `len` bytes from `off` on in a map's buffer, those of `extents_of`: for
-    /// so many must there be room where they are lent, given back or written.
+    /// How many extents hold `len` bytes from `off` on in a map's buffer, in order, each in one frame:
+    /// for so many must there be room where they are lent, given back or written.
     pub fn extents(&self, map: MapId, off: u64, len: u64) -> u64
         requires there { HasMap self.now map.made_at }
         requires range { off + len ≤ length (buffer_of self.now map.made_at) }

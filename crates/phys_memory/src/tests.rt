@@ -79,31 +79,6 @@ fn reaches_what_is_mapped(rt: HostRuntime) -> Result<(), Fail> {
     Ok(())
 }
 
-#[test]
-fn pages_come_and_go(rt: HostRuntime) -> Result<(), Fail> {
-    let alloc = rt.alloc();
-    let mut memory = four_pages(&rt, alloc)?;
-    assert_eq!(rt; add(&rt, alloc, &mut memory, 0x1000, 9, 4096)?, Some(9));
-    assert!(rt; !memory.has_frame(9));
-
-    assert!(rt; memory.has_frame(5));
-    memory.write(Pa(0x5ffe), &[1, 2]);
-    assert!(rt; memory.has_frame(5));
-    let mut read = [9; 4];
-    memory.read(Pa(0x5ffc), &mut read);
-    assert_eq!(rt; read, [0, 0, 1, 2]);
-
-    let Some(page) = memory.remove(Va(0x1000)) else {
-        return Err("the page is there")?;
-    };
-    assert_eq!(rt; page.frame(), 5);
-    assert_eq!(rt; &page.bytes()[0xffe..], [1, 2].as_slice());
-    assert!(rt; memory.remove(Va(0x1000)).is_none());
-    assert!(rt; !memory.has_frame(5));
-    assert_eq!(rt; add(&rt, alloc, &mut memory, 0x1000, 5, 4096)?, None);
-    Ok(())
-}
-
 /// The bytes from a physical address on.
 fn extent(pa: u64, len: u64) -> Extent {
     Extent { pa: Pa(pa), len }
@@ -203,75 +178,5 @@ fn each_span_is_an_entry(rt: HostRuntime) -> Result<(), Fail> {
     for part in wanted {
         assert_eq!(rt; parts.next(), part);
     }
-    Ok(())
-}
-
-#[test]
-fn an_offset_counts_over_all_spans(rt: HostRuntime) -> Result<(), Fail> {
-    let alloc = rt.alloc();
-    let memory = four_pages(&rt, alloc)?;
-    let spans = [span(0x1000, 0x10), span(0x200f, 2), span(0, 1)];
-    let walked = memory.walk_vector(alloc, &spans)?;
-    assert_eq!(rt; missing(&walked), Some(0x11));
-
-    let wanted = [
-        part(0x5000, 0x10, true),
-        part(0x300f, 1, true),
-        Some(Part::Unmapped(0x11)),
-        None,
-    ];
-    let mut parts = memory.parts_vector(&spans);
-    for part in wanted {
-        assert_eq!(rt; parts.next(), part);
-    }
-    Ok(())
-}
-
-#[test]
-fn a_page_is_added_within_room(rt: HostRuntime) -> Result<(), Fail> {
-    let alloc = rt.alloc();
-    let first = Page::new(alloc, 5, 0)?;
-    let second = Page::new(alloc, 6, 0)?;
-    let mut memory = LanePages::new(alloc);
-    memory.reserve(alloc, 2)?;
-    assert!(rt; !memory.has_frame(first.frame()));
-    assert!(rt; memory.add_reserved(Va(0x1000), first, 4096).is_none());
-    assert!(rt; !memory.has_frame(second.frame()));
-    let Some(back) = memory.add_reserved(Va(0x1000), second, 4096) else {
-        return Err("that page is taken")?;
-    };
-    assert_eq!(rt; back.frame(), 6);
-    assert!(rt; memory.has_frame(5));
-    assert!(rt; !memory.has_frame(6));
-    Ok(())
-}
-
-/// Takes each part of a stream in turn.
-fn takes(rt: &impl Abort, memory: &LanePages, va: u64, len: u64, wanted: &[Option<Part>]) {
-    let mut parts = memory.parts_flat(Va(va), len);
-    for part in wanted {
-        assert_eq!(rt; parts.next(), *part);
-    }
-}
-
-#[test]
-fn a_stream_goes_through_pages_that_follow_one_another(rt: HostRuntime) -> Result<(), Fail> {
-    let alloc = rt.alloc();
-    let mut memory = LanePages::new(alloc);
-    assert_eq!(rt; add(&rt, alloc, &mut memory, 0x1000, 8, 4096)?, None);
-    assert_eq!(rt; add(&rt, alloc, &mut memory, 0x2000, 9, 4096)?, None);
-    assert_eq!(rt; add(&rt, alloc, &mut memory, 0x3000, 10, 4096)?, None);
-    let first = part(0x8ff0, 0x10, true);
-    let last = part(0xa000, 0x10, false);
-    let whole = [first, part(0x9000, 0x1000, false), last, None];
-    takes(&rt, &memory, 0x1ff0, 0x1020, &whole);
-
-    assert!(rt; memory.remove(Va(0x2000)).is_some());
-    let hole = [first, Some(Part::Unmapped(0x10)), None];
-    takes(&rt, &memory, 0x1ff0, 0x1020, &hole);
-
-    assert_eq!(rt; add(&rt, alloc, &mut memory, 0x2000, 12, 4096)?, None);
-    let mended = [first, part(0xc000, 0x1000, false), last, None];
-    takes(&rt, &memory, 0x1ff0, 0x1020, &mended);
     Ok(())
 }

@@ -27,17 +27,6 @@ fn two_names(rt: HostRuntime) -> Result<(), Fail> {
     Ok(())
 }
 
-#[test]
-fn sum_that_wraps(rt: HostRuntime) -> Result<(), Fail> {
-    let alloc = rt.alloc();
-    let (turnstile, mut pass) = Turnstile::new(alloc, Counter::new(alloc), 1)?;
-    assert!(rt; turnstile.hold(&rt, &mut pass, u64::MAX)? == u64::MAX);
-    assert!(rt; turnstile.hold(&rt, &mut pass, 5)? == 4);
-    let counter = turnstile.close(&rt, pass);
-    assert!(rt; counter.total() == 4 && counter.history() == [u64::MAX, 5].as_slice());
-    Ok(())
-}
-
 // How many calls each of the four makes.
 const CALLS: u64 = 1000;
 

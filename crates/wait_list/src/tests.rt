@@ -40,29 +40,3 @@ fn maps_are_served_in_order(rt: HostRuntime) -> Result<(), Fail> {
     assert_eq!(rt; ready.head(), waiter(0, 1, 3, 3));
     Ok(())
 }
-
-#[test]
-fn callbacks_leave_in_order(rt: HostRuntime) -> Result<(), Fail> {
-    let alloc = rt.alloc();
-    let mut wait = WaitList::new(alloc);
-    let mut ready = ReadyList::new(alloc);
-    assert!(rt; ready.pop_for(LaneId(0)).is_none());
-    assert_eq!(rt; ready.pop_ready(), None);
-    wait.join(alloc, &mut ready, map(0, 1), ZoneId(3), 2, 0)?;
-    wait.join(alloc, &mut ready, map(1, 7), ZoneId(3), 1, 0)?;
-    wait.join(alloc, &mut ready, map(0, 2), ZoneId(3), 1, 0)?;
-    assert_eq!(rt; wait.serve(9, &mut ready), Served { taken: 4, moved: 3 });
-    assert_eq!(rt; wait.head(), None);
-    assert!(rt; ready.pop_for(LaneId(1)).is_none());
-    assert_eq!(rt; ready.pop_ready(), waiter(0, 1, 2, 2));
-    assert!(rt; ready.pop_for(LaneId(0)).is_none());
-    let Some(load) = ready.pop_for(LaneId(1)) else {
-        return Err("the head is a map of lane 1")?;
-    };
-    assert_eq!(rt; Some(load.waiter), waiter(1, 7, 1, 1));
-    assert!(rt; load.pages.is_empty());
-    assert!(rt; load.addresses.is_empty());
-    assert_eq!(rt; ready.pop_ready(), waiter(0, 2, 1, 1));
-    assert_eq!(rt; ready.pop_ready(), None);
-    Ok(())
-}
