@@ -22,11 +22,6 @@ fn small_bank(alloc: Global) -> Result<FrameBank, AllocError>
     FrameBank::of_frames(alloc, &FRAMES)
 }
 
-/// The number of the lowest frame at or below a limit, which is taken out.
-fn lowest(bank: &mut FrameBank, limit: u64) -> Option<u64> {
-    bank.take_lowest(Pa(limit)).map(|page| page.frame())
-}
-
 /// The number of the first and of the last frame of a run, which is taken out.
 fn run(
     alloc: Global,
@@ -44,52 +39,12 @@ fn ends(pages: &PageList) -> Option<(u64, u64)> {
     Some((pages.first()?.frame(), pages.last()?.frame()))
 }
 
-/// Takes the two lowest frames out, writes into the second, and gives both back, the lower first.
-fn take_and_give(bank: &mut FrameBank) -> Option<(u64, u64)> {
-    let first = bank.take_lowest(NONE)?;
-    let mut second = bank.take_lowest(NONE)?;
-    second.write(4094, &[1, 2]);
-    let frames = (first.frame(), second.frame());
-    bank.give(first);
-    bank.give(second);
-    Some(frames)
-}
-
-#[test]
-fn the_lowest_frame_leaves(rt: HostRuntime) -> Result<(), Fail> {
-    let mut bank = small_bank(rt.alloc())?;
-    for (limit, count) in [
-        (0, 0),
-        (0x10ffe, 0),
-        (0x10fff, 1),
-        (0xffffff, 8),
-        (0x1000fff, 9),
-        (u64::MAX, 24),
-    ] {
-        assert_eq!(rt; bank.count_below(Pa(limit)), count, "below {limit}");
-    }
-    assert_eq!(rt; lowest(&mut bank, 0x10ffe), None);
-    let Some(page) = bank.take_lowest(Pa(0x10fff)) else {
-        return Err("the frame 0x10 lies there")?;
-    };
-    assert_eq!(rt; page.address(), Pa(0x10000));
-    assert!(rt; page.bytes().iter().all(|byte| *byte == 0xa5));
-    for frame in 0x11..0x18 {
-        assert_eq!(rt; lowest(&mut bank, 0xffffff), Some(frame));
-    }
-    assert_eq!(rt; lowest(&mut bank, 0xffffff), None);
-    assert_eq!(rt; lowest(&mut bank, u64::MAX), Some(0x1000));
-    assert_eq!(rt; bank.count_below(NONE), 15);
-    Ok(())
-}
-
 #[test]
 fn the_lowest_run_leaves(rt: HostRuntime) -> Result<(), Fail> {
     let alloc = rt.alloc();
     let mut bank = small_bank(alloc)?;
-    assert_eq!(rt; lowest(&mut bank, 0xffffff), Some(0x10));
-    assert_eq!(rt; lowest(&mut bank, 0xffffff), Some(0x11));
     for (len, boundary, limit, frames) in [
+        (8192, 0, u64::MAX, Some((0x10, 0x11))),
         (8192, 4096, u64::MAX, None),
         (8192, 0, 0x13ffe, None),
         (8192, 0, 0xffffff, Some((0x12, 0x13))),
@@ -107,20 +62,5 @@ fn the_lowest_run_leaves(rt: HostRuntime) -> Result<(), Fail> {
         assert_eq!(rt; taken, frames, "{len} bytes below {limit}");
     }
     assert_eq!(rt; bank.count_below(NONE), 2);
-    Ok(())
-}
-
-#[test]
-fn frames_come_back(rt: HostRuntime) -> Result<(), Fail> {
-    let mut bank = small_bank(rt.alloc())?;
-    assert_eq!(rt; take_and_give(&mut bank), Some((0x10, 0x11)));
-    assert_eq!(rt; bank.count_below(NONE), 24);
-    assert_eq!(rt; lowest(&mut bank, u64::MAX), Some(0x10));
-    let Some(page) = bank.take_lowest(NONE) else {
-        return Err("the frame 0x11 came back")?;
-    };
-    assert_eq!(rt; page.frame(), 0x11);
-    assert_eq!(rt; &page.bytes()[4092..], [0xa5, 0xa5, 1, 2].as_slice());
-    assert_eq!(rt; lowest(&mut bank, u64::MAX), Some(0x12));
     Ok(())
 }
