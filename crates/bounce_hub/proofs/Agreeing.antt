@@ -16,10 +16,12 @@ use Rattle.busdma_machine.proofs.Accounts.Counts.{queued-zone, queued-reserved, 
 use Rattle.busdma_machine.proofs.Accounts.Counts.{release-wait, release-done, release-reserved, release-active}
 use Rattle.busdma_machine.proofs.Accounts.Counts.{release-other, release-count, shorter-reserved, shorter-other}
 use Rattle.busdma_machine.proofs.Accounts.Counts.{shorter-enough, back-zone}
+use Rattle.busdma_machine.proofs.Accounts.KeptZones.{keeps-all, keeps-trans, keeps-with_zone}
 use Rattle.bounce_hub.specs.declared.hub_zone.HubZone.{HubZone}
 use Rattle.bounce_hub.specs.declared.pool.Pool.{Pool}
 use Rattle.bounce_hub.specs.Pools.{Matches, Agrees, owed}
 use Rattle.bounce_hub.specs.HubZones.{room_after}
+use Rattle.bounce_hub.proofs.Nested.{nested-after}
 use Rattle.bounce_hub.proofs.Owing.{handed-owed, handed-waiting, queued-owed, queued-waiting, release-owed}
 use Rattle.bounce_hub.proofs.Owing.{release-waiting, shorter-owed}
 
@@ -33,9 +35,10 @@ addresses-take zero ps = refl
 addresses-take (suc n) [] = refl
 addresses-take (suc n) (p ∷ ps) = ap (λ xs. page_address p ∷ xs) (addresses-take n ps)
 
--- the bank and the constants are as they were
+-- the bank, the number of nested zones and the constants are as they were
 pub record Around (p q : Pool) : Type 0 where
   pub bank : q.bank ≡ p.bank
+  pub nested : q.nested ≡ p.nested
   pub maxmem : q.maxmem ≡ p.maxmem
   pub max_bpages : q.max_bpages ≡ p.max_bpages
 
@@ -108,6 +111,8 @@ agrees-handed p q a m z need old new agrees around inside enough here is zones r
             deferred = here.deferred ∙ sym (ap (λ (k : Zone). k.deferred) at);
           }))
           (handed-other a m z need inside enough);
+      nested = nested-after p q a (handed a m z need) around.nested agrees.nested
+          (keeps-with_zone a (handed a m z need) z _ refl refl refl);
       ready = ap (λ r. r.items) ready ∙ agrees.ready;
       spare = omega (arith, agrees.spare, ap (λ r. r.spare) ready, handed-waiting a m z need inside enough);
       owed = omega (arith, more, agrees.owed, handed-owed a m z need inside enough);
@@ -149,6 +154,8 @@ agrees-queued p q a m z need old new agrees around well inside short here is zon
             deferred = here.deferred ∙ sym (ap (λ (k : Zone). k.deferred) at);
           }))
           (queued-other a m z need inside well short);
+      nested = nested-after p q a (queued a m z need) around.nested agrees.nested
+          (keeps-with_zone a (queued a m z need) z _ refl refl refl);
       ready = ap (λ r. r.items) ready ∙ agrees.ready;
       spare = omega (arith, agrees.spare, ap (λ r. r.spare) ready, queued-waiting a m z need inside);
       owed = omega (arith, more, agrees.owed, queued-owed a m z need inside);
@@ -230,6 +237,9 @@ agrees-released p q a m z page old new agrees around well inside held here is zo
                 );
           }))
           (release-other a m z f inside held well);
+      nested = nested-after p q a (served b z) around.nested agrees.nested
+          (keeps-trans a b (served b z) (keeps-with_zone a b z _ refl refl refl)
+          (keeps-with_zone b (served b z) z _ refl refl refl));
       ready = ap (λ r. r.items) then ∙ ap (λ x. x ++ completed (room_after old) old.wait) agrees.ready
           ∙ ap (λ x. a.ready ++ x) done;
       spare =
@@ -290,6 +300,8 @@ agrees-called p q a w ws old new agrees around well is inside here new_is zones 
           (λ y apart. (let s : SameZone b (handed b w.map z w.need) y =
           handed-other b w.map z w.need inside enough y apart in
           record { zone = s.zone; reserved = s.reserved ∙ shorter-other a w ws is well y apart; active = s.active }));
+      nested = nested-after p q a (handed b w.map z w.need) around.nested agrees.nested
+          (keeps-with_zone a (handed b w.map z w.need) z _ refl refl refl);
       ready = items;
       spare = omega (arith, agrees.spare, spare, handed-waiting b w.map z w.need inside enough);
       owed = omega (arith, less, agrees.owed, handed-owed b w.map z w.need inside enough, shorter-owed a w ws is);
@@ -309,6 +321,7 @@ agrees-same p q a z s agrees around at is ready owed =
       zones =
           subst (λ (hub_zones : List HubZone). (y : ℕ) (d : HubZone) → y < length hub_zones →
           Matches (get_or hub_zones y d) a y) (sym same) agrees.zones;
+      nested = nested-after p q a a around.nested agrees.nested (keeps-all a a refl);
       ready = ap (λ r. r.items) ready ∙ agrees.ready;
       spare = omega (arith, agrees.spare, ap (λ r. r.spare) ready);
       owed = owed ∙ agrees.owed;

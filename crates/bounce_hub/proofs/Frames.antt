@@ -15,20 +15,22 @@ use Rattle.busdma_machine.specs.Machine.Page.{FrameBytes}
 use Rattle.busdma_machine.specs.Bounce.MemoryRuns.{frames_from, in_run, put_in, put_all, frames_of}
 use Rattle.busdma_machine.specs.Machine.PageList.{page_address, page_addresses}
 use Rattle.busdma_machine.specs.Bounce.Places.{times, places, frame_total}
+use Rattle.busdma_machine.proofs.Accounts.KeptZones.{keeps-all}
 use Rattle.frame_bank.specs.FrameBank.{free_frames, run_pages, is_in_run, put_page, put_pages}
 use Rattle.bounce_hub.specs.declared.hub_zone.HubZone.{HubZone}
 use Rattle.bounce_hub.specs.declared.pool.Pool.{Pool}
 use Rattle.bounce_hub.specs.Pools.{Matches, Agrees}
+use Rattle.bounce_hub.proofs.Nested.{nested-after}
 
 abbrev weight : Bool → ℕ
 weight b = cond b 1 0
 
 -- another bank and other memories
 pub agrees-bank : (p q : Pool) (a : Account) (bank : List ℕ) (mems : List Memory)
-    → Agrees p a → free_frames q.bank ≡ bank → q.zones ≡ p.zones → q.ready ≡ p.ready →
+    → Agrees p a → free_frames q.bank ≡ bank → q.zones ≡ p.zones → q.nested ≡ p.nested → q.ready ≡ p.ready →
     q.owed + length a.mems ≡ p.owed + length mems → q.maxmem ≡ p.maxmem → q.max_bpages ≡ p.max_bpages
     → Agrees q (record a { bank = bank; mems = mems })
-agrees-bank p q a bank mems agrees free zones ready more maxmem max_bpages = record {
+agrees-bank p q a bank mems agrees free zones nested ready more maxmem max_bpages = record {
   bank = free;
   count = ap (λ v. length v.items) zones ∙ agrees.count;
   zones =
@@ -45,6 +47,7 @@ agrees-bank p q a bank mems agrees free zones ready more maxmem max_bpages = rec
         maps = old.maps;
         deferred = old.deferred;
       }));
+  nested = nested-after p q a (record a { bank = bank; mems = mems }) nested agrees.nested (keeps-all a _ refl);
   ready = ap (λ r. r.items) ready ∙ agrees.ready;
   spare = omega (arith, agrees.spare, ap (λ r. r.spare) ready);
   owed = omega (arith, more, agrees.owed);

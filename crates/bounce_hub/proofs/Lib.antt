@@ -6,8 +6,10 @@ mod Deferrals
 mod Frames
 mod Keeping
 mod Mapping
+mod Nested
 mod Openings
 mod Owing
+mod Placing
 mod Promises
 pub mod Sending
 mod ZoneGrowth

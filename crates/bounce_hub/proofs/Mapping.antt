@@ -11,9 +11,11 @@ use Rattle.busdma_machine.specs.Bounce.Account.{Account, Zone, same_map, no_zone
 use Rattle.busdma_machine.specs.Bounce.AccountStep.{created}
 use Rattle.busdma_machine.specs.Bounce.Growth.{zone_of, with_zone_for, added, grown, maxpages, wanted_by_map, with_map}
 use Rattle.busdma_machine.specs.Machine.PageList.{page_addresses}
+use Rattle.busdma_machine.proofs.Accounts.KeptZones.{keeps-with_zone}
 use Rattle.bounce_hub.specs.declared.hub_zone.HubZone.{HubZone}
 use Rattle.bounce_hub.specs.declared.pool.Pool.{Pool}
 use Rattle.bounce_hub.specs.Pools.{Matches, Agrees, entries_of, owed, waiting}
+use Rattle.bounce_hub.proofs.Nested.{nested-after}
 use Rattle.bounce_hub.proofs.Agreeing.{Around, zones-set, count-set}
 
 abbrev weight : Bool → ℕ
@@ -62,6 +64,7 @@ agrees-mapped p q a z old new maps agrees around inside here is zones ready more
                 + sum_by (λ w. w.need) (filter (λ w. w.zone.0 == y) a.ready)) there;
             active = refl;
           }));
+      nested = nested-after p q a b around.nested agrees.nested (keeps-with_zone a b z k refl refl refl);
       ready = ap (λ r. r.items) ready ∙ agrees.ready;
       spare = omega (arith, agrees.spare, ap (λ r. r.spare) ready, same);
       owed = omega (arith, more, agrees.owed, less);

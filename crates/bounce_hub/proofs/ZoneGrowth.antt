@@ -19,12 +19,14 @@ use Rattle.busdma_machine.specs.Bounce.Growth.{wanted_by_tag, wanted_for, wanted
 use Rattle.busdma_machine.specs.Machine.PageList.{page_addresses, page_address}
 use Rattle.busdma_machine.specs.Bounce.WellFormed.{IsWellFormed}
 use Rattle.busdma_machine.proofs.Accounts.Counting.{sum_by-set_like}
+use Rattle.busdma_machine.proofs.Accounts.KeptZones.{keeps-trans, keeps-with_zone_for, keeps-grown}
 use Rattle.busdma_machine.proofs.Accounts.ZoneOf.{zones_for_found, zones_for_none}
 use Rattle.busdma_machine.proofs.Accounts.Names.{sum_by-zones_for}
 use Rattle.bounce_hub.specs.declared.hub_zone.HubZone.{HubZone}
 use Rattle.bounce_hub.specs.declared.pool.Pool.{Pool}
-use Rattle.bounce_hub.specs.Growing.{serves, place_for, pages_of, maps_of}
-use Rattle.bounce_hub.specs.Pools.{Matches, Agrees, entries_of, owed, waiting}
+use Rattle.bounce_hub.specs.Growing.{serves, nested_with, place_for, pages_of, maps_of}
+use Rattle.bounce_hub.specs.Pools.{Matches, AreNested, Agrees, entries_of, owed, waiting}
+use Rattle.bounce_hub.proofs.Nested.{nested-after, nested-joined}
 use Rattle.bounce_hub.proofs.Agreeing.{addresses-drop, addresses-take, zones-set, count-set}
 
 abbrev weight : Bool → ℕ
@@ -98,10 +100,10 @@ addresses-append (p ∷ ps) qs = ap (λ xs. page_address p ∷ xs) (addresses-ap
 pub agrees-grown : (p q : Pool) (a : Account) (z n : ℕ) (old new : HubZone)
     → Agrees p a → z < length a.zones → Matches old a z
     → new ≡ record old { zone = record old.zone { pages = old.zone.pages ++ take n p.bank.pages } }
-    → q.zones.items ≡ set p.zones.items z new → q.bank ≡ record p.bank { pages = drop n p.bank.pages } →
-    q.ready ≡ p.ready → q.owed ≡ p.owed → q.maxmem ≡ p.maxmem → q.max_bpages ≡ p.max_bpages
+    → q.zones.items ≡ set p.zones.items z new → q.nested ≡ p.nested →
+    q.bank ≡ record p.bank { pages = drop n p.bank.pages } → q.ready ≡ p.ready → q.owed ≡ p.owed → q.maxmem ≡ p.maxmem → q.max_bpages ≡ p.max_bpages
     → Agrees q (grown a z n)
-agrees-grown p q a z n old new agrees inside here is zones bank ready owes maxmem max_bpages =
+agrees-grown p q a z n old new agrees inside here is zones nested bank ready owes maxmem max_bpages =
     let k : Zone = record (zone_at a z) { avail = (zone_at a z).avail ++ take n a.bank } in
     let at : zone_at (grown a z n) z ≡ k = get_or-set_same a.zones z k no_zone inside in
     let took : page_addresses (take n p.bank.pages) ≡ take n a.bank =
@@ -135,6 +137,7 @@ agrees-grown p q a z n old new agrees inside here is zones bank ready owes maxme
                 + sum_by (λ w. w.need) (filter (λ w. w.zone.0 == y) a.ready)) there;
             active = refl;
           }));
+      nested = nested-after p q a (grown a z n) nested agrees.nested (keeps-grown a z n);
       ready = ap (λ r. r.items) ready ∙ agrees.ready;
       spare = omega (arith, agrees.spare, ap (λ r. r.spare) ready, grown-waiting a z n);
       owed = owes ∙ agrees.owed ∙ sym (grown-owed a z n);
@@ -181,7 +184,8 @@ module _ (t : TagLimits) (a : Account) (none : zone_of t a.zones ≡ length a.zo
       omega (arith, ap (λ (z : Zone). length z.avail) new-there, well.inside (zone_of t a.zones) (omega (arith, none)))
 
   module _ (p q : Pool) (n : ℕ) (agrees : Agrees p a) (well : IsWellFormed a) (zones : q.zones.items ≡ p.zones.items
-      ++ new_hub_zone t (take n p.bank.pages) ∷ []) where
+      ++ new_hub_zone t (take n p.bank.pages) ∷ []) (nested : q.nested ≡ nested_with p.nested p.zones.items
+      (new_hub_zone t (take n p.bank.pages))) where
     abbrev z : ℕ
     z = zone_of t a.zones
 
@@ -252,6 +256,15 @@ module _ (t : TagLimits) (a : Account) (none : zone_of t a.zones ≡ length a.zo
               (old-matches y d inside))
         ])
 
+    more : length g.zones ≡ length a.zones + 1
+    more =
+        omega (
+          arith,
+          length-set with_new.zones z k,
+          ap (λ (zs : List Zone). length zs) behind,
+          length-append a.zones (new_zone t ∷ []),
+        )
+
     pub agrees-new : q.bank ≡ record p.bank { pages = drop n p.bank.pages } → q.ready ≡ p.ready → q.owed ≡ p.owed →
         q.maxmem ≡ p.maxmem → q.max_bpages ≡ p.max_bpages → Agrees q g
     agrees-new bank ready owes maxmem max_bpages = record {
@@ -262,13 +275,14 @@ module _ (t : TagLimits) (a : Account) (none : zone_of t a.zones ≡ length a.zo
             ap (λ (ss : List HubZone). length ss) zones,
             length-append p.zones.items (made ∷ []),
             agrees.count,
-            length-set with_new.zones z k,
-            ap (λ (zs : List Zone). length zs) behind,
-            length-append a.zones (new_zone t ∷ []),
+            more,
           );
       zones =
           subst (λ (ss : List HubZone). (y : ℕ) (d : HubZone) → y < length ss →
           Matches (get_or ss y d) g y) (sym zones) each-matches;
+      nested = subst (λ k. AreNested k g) (sym nested) (nested-joined p a g made agrees
+          (keeps-trans a with_new g (keeps-with_zone_for t a) (keeps-grown with_new z n))
+          (omega (arith, more)) (subst (λ k. Matches made g k) (none ∙ sym agrees.count) made-matches));
       ready = ap (λ r. r.items) ready ∙ agrees.ready;
       spare =
           omega (

@@ -1,5 +1,6 @@
 -- How zones grow for tags and maps.
-use Rattle.std.specs.Prelude.{◌≡◌, ℕ, ◌+◌, Bool, List, length, Option, Some, None}
+use Rattle.std.specs.Prelude.{◌≡◌, ℕ, ◌+◌, ◌-◌, ◌==◌, ◌&&◌, Bool, true, nat_le, List, length, slice_get}
+use Rattle.std.specs.Prelude.{Option, Some, None, if◌then◌else◌}
 use Rattle.busdma_machine.specs.declared.tags.tag.TagLimits.{TagLimits}
 use Rattle.busdma_machine.specs.Bounce.Account.{Account}
 use Rattle.busdma_machine.specs.Bounce.Growth.{bounds_serve, first_place, zone_of, with_zone_for, added, grown}
@@ -14,6 +15,21 @@ serves t s = bounds_serve t s.zone.lowaddr s.zone.alignment
 -- the place of the first zone that serves the tag, or behind all zones
 abbrev pub place_for : TagLimits → List HubZone → ℕ
 place_for t ss = first_place (serves t) ss
+
+-- the pool is that of an account
+pub record IsOfAccount (p : Pool) : Type 0 where
+  pub account : Account
+  pub agrees : Agrees p account
+
+-- a zone behind a last one, if any, lies no higher, and is aligned no less
+abbrev pub nests_behind : Option HubZone → HubZone → Bool
+nests_behind None s = true
+nests_behind (Some last) s =
+    nat_le s.zone.lowaddr last.zone.lowaddr && nat_le last.zone.alignment s.zone.alignment
+
+-- how many zones from the first on are nested, where so many of these are and one more stands behind these
+abbrev pub nested_with : ℕ → List HubZone → HubZone → ℕ
+nested_with n ss s = if n == length ss && nests_behind (slice_get ss (length ss - 1)) s then n + 1 else n
 
 -- how many pages a zone has, and how many maps
 abbrev pub pages_of : Option HubZone → ℕ

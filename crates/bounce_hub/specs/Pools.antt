@@ -46,12 +46,20 @@ waiting a = sum_by (λ z. length z.wait) a.zones
 abbrev pub deferrals : Account → ℕ
 deferrals a = sum_by (λ z. z.deferred + length z.wait) a.zones
 
--- the bank, the zones, the callback list, the number of entries to come and the two constants are the account's, and
--- the callback list has room for each map that waits
+-- the zones from the first on are nested, so many of them: each lies no higher than those before it, and is aligned no
+-- less
+pub record AreNested (n : ℕ) (a : Account) : Type 0 where
+  pub count : n ≤ length a.zones
+  pub lowaddr : (y z : ℕ) → y ≤ z → z < n → (zone_at a z).lowaddr ≤ (zone_at a y).lowaddr
+  pub alignment : (y z : ℕ) → y ≤ z → z < n → (zone_at a y).alignment ≤ (zone_at a z).alignment
+
+-- the bank, the zones, the callback list, the number of entries to come and the two constants are the account's, so
+-- many of its zones are nested, and the callback list has room for each map that waits
 pub record Agrees (p : Pool) (a : Account) : Type 0 where
   pub bank : free_frames p.bank ≡ a.bank
   pub count : length p.zones.items ≡ length a.zones
   pub zones : (z : ℕ) (d : HubZone) → z < length p.zones.items → Matches (slice_index_or p.zones.items z d) a z
+  pub nested : AreNested p.nested a
   pub ready : p.ready.items ≡ a.ready
   pub spare : waiting a ≤ p.ready.spare
   pub owed : p.owed ≡ owed a

@@ -1,8 +1,8 @@
-//! Which zone a tag has, how many pages it wants, and how its zone grows.
+//! How many pages a tag wants, and how its zone grows.
 
 ghost use Rattle.std.specs.Prelude.{◌≡◌, ◌==◌, ◌||◌, ◌<◌, ◌≤◌, IfOk, OnErr, length, slice_get};
 ghost use Rattle.busdma_machine.specs.Bounce.Growth.{most_pages, wanted_by_tag, wanted_for};
-ghost use Rattle.bounce_hub.specs.Growing.{IsPlace, Grows, place_for, serves, pages_of, maps_of};
+ghost use Rattle.bounce_hub.specs.Growing.{IsPlace, Grows, pages_of, maps_of};
 ghost use Rattle.bounce_hub.specs.Pools.{Stays};
 
 use crate::hub_zone::HubZone;
@@ -20,25 +20,6 @@ pub(crate) fn number_of(place: usize) -> Result<ZoneId, AllocError>
     match u32::try_from(place) {
         Ok(number) => Ok(ZoneId(number)),
         Err(_) => Err(AllocError),
-    }
-}
-
-/// The zone's pages are aligned and low enough for the tag.
-fn serves(tag: &TagLimits, hub_zone: &HubZone) -> bool
-    ensures { result ≡ serves tag.now hub_zone.now }
-{
-    tag.alignment <= hub_zone.zone.alignment() && hub_zone.zone.lowaddr().0 <= tag.lowaddr.0
-}
-
-/// The place of the first zone that serves the tag, or behind all zones.
-pub(crate) fn place_for(tag: &TagLimits, zones: &[HubZone]) -> usize
-    ensures is { result ≡ place_for tag.now zones.now }
-    ensures bound { result ≤ length zones.now }
-{
-    match zones.split_first() {
-        Some((first, _)) if serves(tag, first) => 0,
-        Some((_, rest)) => 1 + place_for(tag, rest),
-        None => 0,
     }
 }
 
@@ -163,6 +144,7 @@ impl Pool {
         self.zones.reserve(1)?;
         let mut hub_zone = HubZone::new(alloc, tag.lowaddr, tag.alignment.max(PAGE));
         let added = hub_zone.zone.grow(alloc, &mut self.bank, wanted)?;
+        self.nested = self.nested_with(&hub_zone);
         self.zones.push_reserved(hub_zone);
         Ok(added)
     }

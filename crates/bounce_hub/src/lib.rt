@@ -7,6 +7,7 @@ mod hub_zone;
 mod loads;
 mod maps;
 mod memories;
+mod place;
 mod pool;
 
 pub use hub::Hub;

@@ -5,7 +5,7 @@ ghost use Rattle.busdma_machine.specs.declared.bounce.hold.HubCall.TheVariants.{
 ghost use Rattle.busdma_machine.specs.declared.bounce.hold.HubReply.TheVariants.{Nothing, Grown as GrownBy};
 ghost use Rattle.bounce_hub.specs.Pools.{Allowed, Steps, Stays};
 
-use crate::growth::{is_made, number_of, place_for, wanted_by_tag};
+use crate::growth::{is_made, number_of, wanted_by_tag};
 use crate::pool::Pool;
 use busdma_machine::{Grown, LaneId, MapId, TagLimits, ZoneId};
 use std::alloc::{AllocError, Global};
@@ -23,7 +23,7 @@ impl Pool {
         ensures owed { IfOk result (λ r. self.new.owed ≡ self.old.owed) }
         ensures no_memory { OnErr result (Stays self.old self.new) }
     {
-        let place = place_for(tag, &self.zones);
+        let place = self.place_for(tag);
         let zone = number_of(place)?;
         let wanted = wanted_by_tag(tag, self.pages_at(place));
         let added = self.grow(alloc, tag, place, wanted)?;
@@ -46,7 +46,7 @@ impl Pool {
         ensures owed { IfOk result (λ r. self.new.owed ≤ self.old.owed + 1) }
         ensures no_memory { OnErr result (Stays self.old self.new) }
     {
-        let place = place_for(tag, &self.zones);
+        let place = self.place_for(tag);
         let zone = number_of(place)?;
         let wanted = self.wanted_by_map(tag, first_done, place);
         let added = self.grow(alloc, tag, place, wanted)?;

@@ -11,12 +11,15 @@ use frame_bank::FrameBank;
 use std::alloc::{AllocError, Global};
 use wait_list::ReadyList;
 
-/// The free frames, the zones in the order of their making, the callback list, how many entries of
-/// the history are still to come for what was begun, and the two constants.
+/// The free frames, the zones in the order of their making, how many of them from the first on are
+/// nested, the callback list, how many entries of the history are still to come for what was begun,
+/// and the two constants. Zones are nested where each lies no higher than those before it, and is
+/// aligned no less.
 #[derive(Drop)]
 pub struct Pool {
     pub bank: FrameBank,
     pub zones: Vec<HubZone>,
+    pub nested: usize,
     pub ready: ReadyList,
     pub owed: usize,
     pub maxmem: u64,
@@ -34,6 +37,7 @@ impl Pool {
         Pool {
             bank,
             zones: Vec::new(alloc),
+            nested: 0,
             ready: ReadyList::new(alloc),
             owed: 0,
             maxmem,

@@ -77,7 +77,8 @@ impl Zone {
     {
         let added = wanted.min(u64::from(bank.count_below(self.lowaddr))) as u32;
         self.pages.reserve(self.active as usize + added as usize)?;
-        move_lowest(bank, self.lowaddr, added, &mut self.pages);
+        let pages = bank.take_lowest(alloc, added as usize)?;
+        append(&mut self.pages, pages);
         self.free += added;
         Ok(added)
     }
@@ -163,17 +164,13 @@ impl Zone {
     }
 }
 
-/// Moves so many of the lowest frames at or below a limit to the tail of a queue.
-fn move_lowest(bank: &mut FrameBank, limit: Pa, count: u32, queue: &mut VecDeque<Page>)
-    requires there { count ≤ frames_below limit.0 (free_frames bank.old) }
-    requires room { length queue.old.items + count ≤ deque_capacity queue.old }
-    ensures bank { bank.new ≡ record bank.old { pages = drop count bank.old.pages } }
-    ensures queue { queue.new.items ≡ queue.old.items ++ take count bank.old.pages }
+/// Moves pages to the tail of a queue, in order.
+fn append(queue: &mut VecDeque<Page>, pages: PageList)
+    requires { length queue.old.items + length pages.items ≤ deque_capacity queue.old }
+    ensures queue { queue.new.items ≡ queue.old.items ++ pages.items }
     ensures capacity { deque_capacity queue.new ≡ deque_capacity queue.old }
 {
-    for _ in 0..count {
-        if let Some(page) = bank.take_lowest(limit) {
-            queue.push_back_reserved(page);
-        }
+    for page in pages.into_vec() {
+        queue.push_back_reserved(page);
     }
 }

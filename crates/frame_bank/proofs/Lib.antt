@@ -1,4 +1,5 @@
-pub mod Counted
+pub mod Copies
+mod Counted
 pub mod Differing
 pub mod Placing
 pub mod Rising

@@ -1,1 +1,2 @@
 pub mod FrameBank
+pub mod Frames

@@ -1,8 +1,9 @@
 //! The bank of free frames.
 
 ghost use Rattle.std.specs.Prelude.{◌≡◌, ◌≢◌, ◌==◌, ◌+◌, ◌*◌, ◌^◌, ◌<◌, ◌≤◌, [], ◌∷◌, length, map, option_map};
-ghost use Rattle.std.specs.Prelude.{count_by, IfOk, OnOk, OnErr, IfSome, IfNone};
+ghost use Rattle.std.specs.Prelude.{take, drop, count_by, IfOk, OnOk, OnErr};
 ghost use Rattle.std.specs.List.{All, AllPairs};
+ghost use Rattle.std.specs.VecDeque.{deque_capacity};
 ghost use Rattle.busdma_machine.specs.Bounce.Growth.{frames_below};
 ghost use Rattle.busdma_machine.specs.Bounce.History.{IsRising};
 ghost use Rattle.busdma_machine.specs.Bounce.MemoryRuns.{frames_for, frames_from, lowest_run, put_in};
@@ -10,6 +11,7 @@ ghost use Rattle.busdma_machine.specs.Machine.PageList.{page_address, page_addre
 ghost use Rattle.frame_bank.specs.FrameBank.{IsBank, free_frames, fresh_page, put_page, put_pages, run_frames};
 ghost use Rattle.frame_bank.specs.FrameBank.{frames_left, run_pages, pages_left};
 
+use crate::frame::Frame;
 use crate::run;
 use crate::run::Wish;
 use busdma_machine::{Pa, Page, PageList};
@@ -17,13 +19,10 @@ use std::alloc::{AllocError, Global};
 use std::collections::VecDeque;
 use std::marker::Model;
 
-/// The byte that fills the free frames of a new bank.
-const FILL: u8 = 0xa5;
-
 /// The free frames, and room for those that were taken and may come back.
 #[derive(Drop)]
 pub struct FrameBank {
-    free: VecDeque<Page>,
+    free: VecDeque<Frame>,
     room: usize,
 }
 
@@ -41,7 +40,8 @@ impl Model for FrameBank {
 }
 
 impl FrameBank {
-    /// A bank of these frames, given by their numbers, in any order. Each byte of them is 0xA5.
+    /// A bank of these frames, given by their numbers, in any order. Each byte of them is 0xA5. They take
+    /// memory when they first leave the bank.
     pub fn of_frames(alloc: Global, frames: &[u64]) -> Result<FrameBank, AllocError>
         requires differ { AllPairs (λ f g. f ≢ g) frames.now }
         requires numbered { All (λ f. f < 2 ^ 30) frames.now }
@@ -57,25 +57,22 @@ impl FrameBank {
             room: frames.len(),
         };
         for at in (0..frames.len()).rev() {
-            bank.give(Page::new(alloc, frames[at], FILL)?);
+            bank.put(Frame::fresh(frames[at]));
         }
         Ok(bank)
     }
 
-    /// Takes the lowest frame out, if it lies at or below an address.
-    pub fn take_lowest(&mut self, limit: Pa) -> Option<Page>
-        ensures lowest { IfSome result (λ p. self.old.pages ≡ p ∷ self.new.pages) }
-        ensures below { IfSome result (λ p. page_address p + 4095 ≤ limit.0) }
-        ensures none { IfNone result ((frames_below limit.0 (free_frames self.old) ≡ 0)
-            × (self.new ≡ self.old)) }
-        ensures room { self.new.room ≡ self.old.room }
-        ensures sound { IsBank self.old }
+    /// Takes so many of the lowest frames out, in order. Where memory is wanting, the bank stays as it
+    /// was.
+    pub fn take_lowest(&mut self, alloc: Global, count: usize) -> Result<PageList, AllocError>
+        requires { count ≤ length self.old.pages }
+        ensures pages { IfOk result (λ l. l.items ≡ take count self.old.pages) }
+        ensures left { OnOk result (self.new ≡ record self.old { pages = drop count self.old.pages }) }
+        ensures no_memory { OnErr result (self.new ≡ self.old) }
     {
-        if run::lies_below(self.free.front()?, limit) {
-            self.free.pop_front()
-        } else {
-            None
-        }
+        let pages = pages_at(&self.free, alloc, 0, count)?;
+        drop_first(&mut self.free, count);
+        Ok(pages)
     }
 
     /// Takes out the lowest frames that follow one another, lie at or below an address, and whose
@@ -115,9 +112,9 @@ impl FrameBank {
             return Ok(None);
         };
         let count = run::frames_for(len);
-        let mut pages = PageList::with_room(alloc, count)?;
+        let pages = pages_at(&self.free, alloc, at, count)?;
         self.free.rotate_left(at);
-        pages.take_first(&mut self.free, count);
+        drop_first(&mut self.free, count);
         self.free.rotate_right(at);
         Ok(Some(pages))
     }
@@ -139,9 +136,47 @@ impl FrameBank {
         ensures free { free_frames self.new ≡ put_in (page_address page) (free_frames self.old) }
         ensures sound { IsBank self.new }
     {
-        let frame = page.frame();
-        let at = self.free.partition_point(|other| other.frame() <= frame);
-        let kept: Result<_, _> = self.free.insert(at, page);
+        self.put(Frame::back(page));
+    }
+
+    /// Puts a frame to its place in the order of frames.
+    fn put(&mut self, frame: Frame)
+        requires room { length self.old.pages < self.old.room }
+        requires apart { count_by (λ p. p.frame == frame.frame) self.old.pages ≡ 0 }
+        ensures bank { self.new ≡ record self.old { pages = put_page frame self.old.pages } }
+        ensures free { free_frames self.new ≡ put_in (page_address frame) (free_frames self.old) }
+        ensures sound { IsBank self.new }
+    {
+        let number = frame.frame();
+        let at = self.free.partition_point(|other| other.frame() <= number);
+        let kept: Result<_, _> = self.free.insert(at, frame);
         kept.unwrap();
+    }
+}
+
+/// Pages of so many frames from a place on, in order.
+fn pages_at(
+    free: &VecDeque<Frame>,
+    alloc: Global,
+    at: usize,
+    count: usize,
+) -> Result<PageList, AllocError>
+    requires { at + count ≤ length free.now.items }
+    ensures { IfOk result (λ l. l.items ≡ take count (drop at free.now.items)) }
+{
+    let mut pages = PageList::with_room(alloc, count)?;
+    for i in 0..count {
+        pages.push_reserved(free[at + i].page(alloc)?);
+    }
+    Ok(pages)
+}
+
+/// Lets the first so many frames of a queue go.
+fn drop_first(free: &mut VecDeque<Frame>, count: usize)
+    ensures left { free.new.items ≡ drop count free.old.items }
+    ensures capacity { deque_capacity free.new ≡ deque_capacity free.old }
+{
+    for _ in 0..count {
+        let _gone = free.pop_front();
     }
 }

@@ -2,6 +2,7 @@
 #![tactic(auto)]
 
 mod bank;
+mod frame;
 mod run;
 #[cfg(test)]
 mod tests;

@@ -6,7 +6,8 @@ ghost use Rattle.busdma_machine.specs.Bounce.History.{IsRising};
 ghost use Rattle.busdma_machine.specs.Bounce.MemoryRuns.{frames_for, follow, crosses_none, begins_run, lowest_run};
 ghost use Rattle.busdma_machine.specs.Machine.PageList.{page_address, page_addresses};
 
-use busdma_machine::{Pa, Page};
+use crate::frame::Frame;
+use busdma_machine::Pa;
 use std::collections::VecDeque;
 
 /// A wish for memory: `len` bytes that cross no multiple of the boundary, where 0 is none, in
@@ -26,7 +27,7 @@ pub fn frames_for(len: u64) -> usize
 }
 
 /// Whether the last byte of a page lies at or below an address.
-pub fn lies_below(page: &Page, limit: Pa) -> bool
+pub fn lies_below(page: &Frame, limit: Pa) -> bool
     ensures { result ≡ nat_le (page_address page.now + 4095) limit.0 }
 {
     page.address().0 + 4095 <= limit.0
@@ -40,7 +41,7 @@ fn crosses_none(len: u64, boundary: u64, first: u64) -> bool
 }
 
 /// Whether `count` frames from a place on follow one another.
-fn follow(free: &VecDeque<Page>, at: usize, count: usize) -> bool
+fn follow(free: &VecDeque<Frame>, at: usize, count: usize) -> bool
     requires rising { IsRising (page_addresses free.now.items) }
     requires inside { at < length free.now.items }
     requires some { 0 < count }
@@ -52,7 +53,7 @@ fn follow(free: &VecDeque<Page>, at: usize, count: usize) -> bool
 }
 
 /// Whether the frames from a place on begin with those of a wish.
-fn begins_run(free: &VecDeque<Page>, at: usize, wish: Wish) -> bool
+fn begins_run(free: &VecDeque<Frame>, at: usize, wish: Wish) -> bool
     requires rising { IsRising (page_addresses free.now.items) }
     requires inside { at < length free.now.items }
     ensures { result ≡ begins_run wish.len wish.boundary wish.limit.0
@@ -67,7 +68,7 @@ fn begins_run(free: &VecDeque<Page>, at: usize, wish: Wish) -> bool
 }
 
 /// The place of the lowest frame from which on a wish can be met.
-pub fn run_at(free: &VecDeque<Page>, wish: Wish) -> Option<usize>
+pub fn run_at(free: &VecDeque<Frame>, wish: Wish) -> Option<usize>
     requires { IsRising (page_addresses free.now.items) }
     ensures { let frames = page_addresses free.now.items in
         let lowest = lowest_run wish.len wish.boundary wish.limit.0 frames in

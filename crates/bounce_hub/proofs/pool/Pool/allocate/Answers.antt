@@ -100,5 +100,5 @@ returns-in-Some-clause-steps c = λ a agrees fits may.
     (ap page_addresses (c.in_ok-pages.ensures.left
     ∙ ap (λ (o : Option ℕ). pages_left o n c.args.self.now.bank.pages) f.is)
     ∙ left-addresses f.at n c.args.self.now.bank.pages ∙ ap (filter (λ g. not (in_run f.at n g))) agrees.bank)
-    refl refl (omega (arith, length-append a.mems (taken ∷ []))) refl refl)
+    refl refl refl (omega (arith, length-append a.mems (taken ∷ []))) refl refl)
     c.in_ok-pages.ensures.room

@@ -4,7 +4,7 @@ use Rattle.busdma_machine.specs.declared.bounce.hold.HubReply.TheVariants.{Grown
 use Rattle.busdma_machine.specs.Bounce.Account.{Account, total}
 use Rattle.busdma_machine.specs.Bounce.AccountStep.{Outcome}
 use Rattle.busdma_machine.specs.Bounce.Growth.{zone_of, with_zone_for, wanted_by_tag, added, grown}
-use Rattle.bounce_hub.specs.Growing.{GrewBy, place_for, pages_of}
+use Rattle.bounce_hub.specs.Growing.{GrewBy, pages_of}
 use Rattle.bounce_hub.proofs.Agreeing.{agrees-as}
 use Rattle.bounce_hub.proofs.ZoneGrowth.{place-is, pages-is, attached-as}
 use Rattle.bounce_hub.proofs.pool.Pool.attach.Goals as goal
@@ -14,7 +14,7 @@ grow-requires c = record {
   account = c.requires.account;
   agrees = c.requires.agrees;
   fits = c.requires.fits;
-  place = c.place_for-place.ensures.is ∙ ap (place_for c.args.tag.now) c.deref.ensures.value
+  place = c.place_for-place.ensures.is
       ∙ place-is c.args.tag.now c.args.self.now c.requires.account c.requires.agrees;
 }
 
@@ -24,8 +24,7 @@ returns-clause-steps c = λ a agrees fits may.
     let z : ℕ = zone_of c.args.tag.now a.zones in
     let b : Account = with_zone_for c.args.tag.now a in
     let at : c.place_for-place.result ≡ z =
-    c.place_for-place.ensures.is ∙ ap (place_for c.args.tag.now) c.deref.ensures.value
-    ∙ place-is c.args.tag.now c.args.self.now a agrees in
+    c.place_for-place.ensures.is ∙ place-is c.args.tag.now c.args.self.now a agrees in
     let pages : c.pages_at.result ≡ total b z =
     c.pages_at.ensures ∙ ap (λ (k : ℕ). pages_of (slice_get c.args.self.now.zones.items k)) at
     ∙ pages-is c.args.tag.now c.args.self.now a agrees fits.well in

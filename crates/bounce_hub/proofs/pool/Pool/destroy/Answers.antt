@@ -21,7 +21,7 @@ returns-clause-steps c = λ a agrees fits may.
     record {
       agrees =
           agrees-mapped c.args.self.now _ a z s (record s { maps = s.maps - 1 }) rest agrees
-          (record { bank = refl; maxmem = refl; max_bpages = refl }) inside here
+          (record { bank = refl; nested = refl; maxmem = refl; max_bpages = refl }) inside here
           (ap (λ (k : ℕ). record s { maps = k }) (omega (arith, less, here.maps))) refl refl
           (omega (arith, less, agrees.owed, maps-owed a z inside));
       reply = refl;

@@ -35,7 +35,7 @@ returns-clause-steps c = λ a agrees fits may mine. record {
       ∙ put_pages-addresses c.args.pages.items c.args.self.now.bank.pages
       ∙ ap (λ (fs : List ℕ). put_all fs (page_addresses c.args.self.now.bank.pages)) mine
       ∙ ap (put_all (frames_of c.args.mem a.mems)) agrees.bank)
-      refl refl (omega (arith, agrees.owed, mems-less c.args.mem a.mems, may.1)) refl refl;
+      refl refl refl (omega (arith, agrees.owed, mems-less c.args.mem a.mems, may.1)) refl refl;
   reply = refl;
   room = ap (λ (b : Bank). b.room) c.give_all.ensures;
 }

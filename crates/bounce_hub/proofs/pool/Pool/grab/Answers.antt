@@ -37,7 +37,7 @@ returns-in_ok-pages-clause-steps c = λ a agrees fits may.
     (grabbed-yes c.args.map z c.args.need c.args.nowait a enough
     ∙ ap (λ ps. record { account = handed a c.args.map z c.args.need; reply = Granted ps }) (sym pages))
     (agrees-handed c.args.self.now _ a c.args.map z c.args.need s c.hand_out.new.self agrees
-    (record { bank = refl; maxmem = refl; max_bpages = refl }) inside enough here
+    (record { bank = refl; nested = refl; maxmem = refl; max_bpages = refl }) inside enough here
     c.in_ok-pages.ensures.zone refl refl refl)
     refl
 
@@ -51,7 +51,7 @@ returns-then-nowait-clause-steps c = λ a agrees fits may.
     let short : free a z < c.args.need = omega (arith, free-is s a z here, c.free.ensures, c.if-need-free.false) in
     stepped c.args.self.now _ c.args.map.lane.0 (Grab c.args.map c.args.zone c.args.need c.args.nowait) _ a a
     (grabbed-no c.args.map z c.args.need c.args.nowait a short c.if-nowait.true)
-    (agrees-same c.args.self.now _ a z s agrees (record { bank = refl; maxmem = refl; max_bpages = refl })
+    (agrees-same c.args.self.now _ a z s agrees (record { bank = refl; nested = refl; maxmem = refl; max_bpages = refl })
     c.index_mut-hub_zone.ensures.value refl refl refl)
     refl
 
@@ -80,6 +80,6 @@ returns-in_ok-have-clause-steps c = λ a agrees fits may.
     (grabbed-waits c.args.map z c.args.need c.args.nowait a short c.if-nowait.false
     ∙ ap (λ k. record { account = queued a c.args.map z c.args.need; reply = Queued k }) (sym have))
     (agrees-queued c.args.self.now _ a c.args.map z c.args.need s c.queue.new.self agrees
-    (record { bank = refl; maxmem = refl; max_bpages = refl }) fits.well inside short here new
+    (record { bank = refl; nested = refl; maxmem = refl; max_bpages = refl }) fits.well inside short here new
     refl c.in_ok-have.ensures.room refl)
     refl

@@ -5,6 +5,7 @@ use Rattle.busdma_machine.specs.Bounce.Growth.{zone_of, with_zone_for, frames_be
 use Rattle.bounce_zone.specs.ZonePages.{ZonePages}
 use Rattle.frame_bank.specs.FrameBank.{Bank, free_frames}
 use Rattle.bounce_hub.specs.declared.hub_zone.HubZone.{HubZone}
+use Rattle.bounce_hub.specs.Growing.{nested_with}
 use Rattle.bounce_hub.proofs.Agreeing.{agrees-as}
 use Rattle.bounce_hub.proofs.ZoneGrowth.{new_hub_zone, new-there, agrees-new, place-bound}
 use Rattle.bounce_hub.proofs.pool.Pool.grow_new.Goals as goal
@@ -18,6 +19,23 @@ made c =
     ∙ ap (λ (s : HubZone). record s { zone = record s.zone { pages = s.zone.pages ++ ps } }) c.new-hub_zone.ensures
     ∙ ap (λ (k : ℕ). record (new_hub_zone c.args.tag.now ps)
     { zone = record (new_hub_zone c.args.tag.now ps).zone { alignment = k } }) c.max.ensures
+
+nested : (c : goal.After-push_reserved) → c.nested_with-self.result
+    ≡ nested_with c.args.self.now.nested c.args.self.now.zones.items
+    (new_hub_zone c.args.tag.now (take c.in_ok-added.added c.args.self.now.bank.pages))
+nested c = c.nested_with-self.ensures
+    ∙ ap (λ (ss : List HubZone). nested_with c.args.self.now.nested ss
+    (record c.new-hub_zone.result { zone = c.grow.new.self })) c.in_ok-reserve.ensures.items
+    ∙ ap (nested_with c.args.self.now.nested c.args.self.now.zones.items) (made c)
+
+pub nested_with-self-requires : goal.nested_with-self-requires
+nested_with-self-requires c =
+    omega (
+      arith,
+      c.requires.place.agrees.nested.count,
+      c.requires.place.agrees.count,
+      ap (λ (ss : List HubZone). length ss) c.in_ok-reserve.ensures.items,
+    )
 
 pub returns-clause-grows : goal.returns-clause-grows
 returns-clause-grows c = λ a agrees fits at.
@@ -35,7 +53,7 @@ returns-clause-grows c = λ a agrees fits at.
           agrees-as _ (grown (with_zone_for c.args.tag.now a) (zone_of c.args.tag.now a.zones) n)
           (grown (with_zone_for c.args.tag.now a) z n)
           (ap (λ (k : ℕ). grown (with_zone_for c.args.tag.now a) k n) (sym at))
-          (agrees-new c.args.tag.now a none c.args.self.now _ n agrees fits.well zones
+          (agrees-new c.args.tag.now a none c.args.self.now _ n agrees fits.well zones (nested c)
           c.in_ok-added.ensures.bank refl refl refl refl);
       added = c.in_ok-added.ensures.added
           ∙ ap (λ (s : HubZone). min c.args.wanted (frames_below s.zone.lowaddr (free_frames c.args.self.now.bank)))

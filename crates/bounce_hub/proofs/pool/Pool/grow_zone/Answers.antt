@@ -22,7 +22,7 @@ returns-clause-grows c = λ a agrees fits at.
           agrees-as _ (grown a z n) (grown (with_zone_for c.args.tag.now a) z n)
           (ap (λ (b : Account). grown b z n) (sym same))
           (agrees-grown c.args.self.now _ a z n s (record s { zone = c.grow.new.self }) agrees inside here
-          (ap (λ (k : ZonePages). record s { zone = k }) c.in_ok-added.ensures.zone) refl
+          (ap (λ (k : ZonePages). record s { zone = k }) c.in_ok-added.ensures.zone) refl refl
           c.in_ok-added.ensures.bank refl refl refl refl);
       added = c.in_ok-added.ensures.added
           ∙ ap (λ (l : ℕ). min c.args.wanted (frames_below l (free_frames c.args.self.now.bank))) here.lowaddr

@@ -74,7 +74,7 @@ returns-clause-steps c = λ a agrees fits may.
     let now : Matches s a z = zone-matches c.args.self.now a z s agrees inside c.index_mut-hub_zone.ensures.value in
     record {
       agrees = agrees-released c.args.self.now _ a c.args.map z c.args.page s c.take_back-moved.new.self agrees
-          (record { bank = refl; maxmem = refl; max_bpages = refl }) fits.well inside may.1 now
+          (record { bank = refl; nested = refl; maxmem = refl; max_bpages = refl }) fits.well inside may.1 now
           c.take_back-moved.ensures.zone refl c.take_back-moved.ensures.ready refl;
       reply = ap Served c.take_back-moved.ensures.moved
           ∙ moved-is a c.args.map z (page_address c.args.page) s fits.well inside may.1 now;

@@ -43,6 +43,6 @@ returns-clause-steps c = λ a agrees fits may.
       reply = Called w.map ps;
     }) (sym pages))
     (agrees-called c.args.self.now _ a w ws s c.hand_promised-addresses.new.self agrees
-    (record { bank = refl; maxmem = refl; max_bpages = refl }) fits.well is inside here
+    (record { bank = refl; nested = refl; maxmem = refl; max_bpages = refl }) fits.well is inside here
     c.hand_promised-addresses.ensures.zone refl refl c.in_ok-load.ensures.spare refl)
     refl

@@ -13,12 +13,12 @@ use Rattle.frame_bank.proofs.Taking.{TakenAt, begun_at, turned_front, turned_bac
 use Rattle.frame_bank.proofs.Taking.{filter-page_addresses}
 use Rattle.frame_bank.proofs.bank.FrameBank.take_run.Goals as goal
 
-pub take_first-requires-clause-enough : goal.take_first-requires-clause-enough
-take_first-requires-clause-enough c =
+pub pages_at-requires : goal.pages_at-requires
+pages_at-requires c =
     let t =
     begun_at c.args.len c.args.boundary c.args.limit.0 c.in-Some.at c.self.inside.free.items
     c.self.invariant.0.rising c.in-Some.ensures.0 c.in-Some.ensures.1 in
-    omega (arith, t.inside, c.frames_for-count.ensures, c.rotate_left.ensures.len)
+    omega (arith, t.inside, c.frames_for-count.ensures)
 
 pub rotate_right-requires : goal.rotate_right-requires
 rotate_right-requires c =
@@ -30,7 +30,7 @@ rotate_right-requires c =
       t.inside,
       c.frames_for-count.ensures,
       c.rotate_left.ensures.len,
-      ap length c.take_first.ensures.left,
+      ap length c.drop_first.ensures.left,
       length-drop c.frames_for-count.result c.rotate_left.new.self.items,
     )
 
@@ -41,16 +41,10 @@ at_run c =
     c.self.invariant.0.rising c.in-Some.ensures.0 c.in-Some.ensures.1
 
 -- the pages that were taken, and those that stay
-part : (c : goal.After-rotate_right) → c.take_first.new.self.items
+part : (c : goal.After-rotate_right) → c.in_ok-pages.pages.items
     ≡ take (frames_for c.args.len) (drop c.in-Some.at c.self.inside.free.items)
-part c =
-    let items = c.self.inside.free.items in
-    let count = c.frames_for-count.result in
-    ap (λ (l : RoomyPages). l.items) c.take_first.ensures.taken
-    ∙ ap (λ (l : RoomyPages). l.items ++ take count c.rotate_left.new.self.items) c.in_ok-pages.ensures
-    ∙ ap (take count) c.rotate_left.ensures.items
-    ∙ turned_front items c.in-Some.at count (omega (arith, (at_run c).inside, c.frames_for-count.ensures))
-    ∙ ap (λ n. take n (drop c.in-Some.at items)) c.frames_for-count.ensures
+part c = c.in_ok-pages.ensures
+    ∙ ap (λ n. take n (drop c.in-Some.at c.self.inside.free.items)) c.frames_for-count.ensures
 
 rest : (c : goal.After-rotate_right) → c.rotate_right.new.self.items ≡ take c.in-Some.at c.self.inside.free.items
     ++ drop (c.in-Some.at + frames_for c.args.len) c.self.inside.free.items
@@ -58,12 +52,12 @@ rest c =
     let items = c.self.inside.free.items in
     let count = c.frames_for-count.result in
     let at = c.in-Some.at in
-    let queue = c.take_first.new.queue.items in
-    let long : deque_len c.take_first.new.queue ≡ length queue = omega arith in
+    let queue = c.drop_first.new.free.items in
+    let long : deque_len c.drop_first.new.free ≡ length queue = omega arith in
     c.rotate_right.ensures.items
     ∙ ap (λ k. drop (k - at) queue ++ take (k - at) queue) long
     ∙ turned_back items queue at count (omega (arith, (at_run c).inside, c.frames_for-count.ensures))
-    (c.take_first.ensures.left ∙ ap (drop count) c.rotate_left.ensures.items)
+    (c.drop_first.ensures.left ∙ ap (drop count) c.rotate_left.ensures.items)
     ∙ ap (λ n. take at items ++ drop (at + n) items) c.frames_for-count.ensures
 
 pub invariant_of-self : goal.invariant_of-self
@@ -83,7 +77,7 @@ invariant_of-self c = (
     roomy =
         omega (
           arith,
-          ap length c.take_first.ensures.left,
+          ap length c.drop_first.ensures.left,
           length-drop c.frames_for-count.result c.rotate_left.new.self.items,
           c.rotate_left.ensures.len,
           c.rotate_right.ensures.len,
