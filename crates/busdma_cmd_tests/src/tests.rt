@@ -2,19 +2,14 @@
 
 ghost use Rattle.std.specs.Prelude.{◌≤◌};
 
-mod bounces;
 mod causes;
-mod deferrals;
 mod gated;
-mod kinds;
 mod large;
 mod lines;
 mod refusals;
 mod reports;
 mod rows;
-mod rows_with_reports;
 mod runs;
-mod segments;
 mod sizes;
 mod storms;
 
@@ -100,17 +95,4 @@ fn gives<R: Threads + Wait + Sync + Abort>(
     assert_eq!(rt; str::from_utf8(&ended.written)?, want);
     assert!(rt; ended.outcome.fault.is_none());
     Ok(())
-}
-
-/// A scenario of one driver without an order: whether it is replayed or run on a thread, the driver's
-/// sides take their turns in the same rounds.
-fn replays_and_runs<R: Threads + Wait + Sync + Abort>(
-    rt: &R,
-    alloc: Global,
-    scenario: &str,
-    want: &str,
-    status: u8,
-) -> Result<(), Fail> {
-    gives(rt, alloc, "replay", scenario, want, status)?;
-    gives(rt, alloc, "run", scenario, want, status)
 }

@@ -25,54 +25,18 @@ pub(crate) enum FlagSet {
     Sync,
 }
 
-fn tag_bits(word: &str) -> Option<u32>
-    ensures { result ≡ find_name tag_table word.now }
-{
-    match TagFlags::from_name(word) {
-        Some(flag) => Some(flag.0),
-        None => None,
-    }
-}
-
-fn load_bits(word: &str) -> Option<u32>
-    ensures { result ≡ find_name load_table word.now }
-{
-    match LoadFlags::from_name(word) {
-        Some(flag) => Some(flag.0),
-        None => None,
-    }
-}
-
-fn mem_bits(word: &str) -> Option<u32>
-    ensures { result ≡ find_name mem_table word.now }
-{
-    match MemFlags::from_name(word) {
-        Some(flag) => Some(flag.0),
-        None => None,
-    }
-}
-
-fn sync_bits(word: &str) -> Option<u32>
-    ensures { result ≡ find_name sync_table word.now }
-{
-    match SyncOps::from_name(word) {
-        Some(flag) => Some(flag.0),
-        None => None,
-    }
-}
-
 /// The bits of a word. WAITOK adds none to the flags of a tag, a load or a memory.
 fn word_bits(set: FlagSet, word: &str) -> Option<u32>
     ensures { result ≡ flags.word_bits set word.now }
 {
     match set {
         FlagSet::Tag if word == "WAITOK" => Some(0),
-        FlagSet::Tag => tag_bits(word),
+        FlagSet::Tag => TagFlags::from_name(word).map(|flag| flag.0),
         FlagSet::Load if word == "WAITOK" => Some(0),
-        FlagSet::Load => load_bits(word),
+        FlagSet::Load => LoadFlags::from_name(word).map(|flag| flag.0),
         FlagSet::Memory if word == "WAITOK" => Some(0),
-        FlagSet::Memory => mem_bits(word),
-        FlagSet::Sync => sync_bits(word),
+        FlagSet::Memory => MemFlags::from_name(word).map(|flag| flag.0),
+        FlagSet::Sync => SyncOps::from_name(word).map(|flag| flag.0),
     }
 }
 

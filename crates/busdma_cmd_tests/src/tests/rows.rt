@@ -1,4 +1,5 @@
-//! Whole runs, from the bytes of a scenario to the bytes of its report.
+//! Two runs from the bytes of a scenario to the bytes of its report, byte by byte, and each read and write of one
+//! failing.
 
 use super::{Edge, WHOLE, call};
 use std::alloc::Global;
@@ -28,18 +29,6 @@ const FIVE_BYTES_REPORT: &str = r#"0 s0 tag t -> ok
 end finished, 9 entries, 0 reports
 "#;
 
-const NO_BYTES: &str =
-    r#"{"frames": [["0x10", 8], ["0x1000", 16]], "drivers": [{"pages": [["0x100000", "0x1000", 1]], "script": [{"op": "tag", "name": "t"}, {"op": "map", "name": "m", "tag": "t"}, {"op": "cpu_write", "va": "0x100000", "hex": "68656c6c6f"}, {"op": "load", "map": "m", "va": "0x100000", "len": 0}, {"op": "await", "map": "m"}, {"op": "unload", "map": "m"}]}]}"#;
-
-const NO_BYTES_REPORT: &str = r#"0 s0 tag t -> ok
-1 s0 map m -> ok
-2 s0 cpu_write -> ok
-3 s0 load m -> ok
-4 s0 await m -> ok
-5 s0 unload m -> ok
-end finished, 6 entries, 0 reports
-"#;
-
 /// One that takes or gives a byte at a time and never fails.
 const BY_BYTES: Edge<'static> = Edge {
     piece: 1,
@@ -60,7 +49,6 @@ fn reports(rt: HostRuntime) -> Result<(), Fail> {
     let table = [
         (EMPTY_SCRIPT, EMPTY_SCRIPT_REPORT),
         (FIVE_BYTES, FIVE_BYTES_REPORT),
-        (NO_BYTES, NO_BYTES_REPORT),
     ];
     for (scenario, want) in table {
         for (word, edge) in WORDS_AND_EDGES {

@@ -1,4 +1,4 @@
-//! Storms: whole runs, whose summaries were worked out apart.
+//! A storm, whose summary was worked out apart.
 
 ghost use Rattle.std.specs.Prelude.{◌≤◌};
 
@@ -9,11 +9,6 @@ use std::test::Fail;
 use std::thread::Threads;
 
 const LEADING_ZEROS: &str = "storm 1 1\nentries 48\nreports 0\ndeferred 1\nend finished\n";
-
-const MOST_ROUNDS: &str = "storm 256 1\nentries 9889\nreports 0\ndeferred 661\nend finished\n";
-
-const GREATEST_SEED: &str =
-    "storm 2 18446744073709551615\nentries 89\nreports 0\ndeferred 5\nend finished\n";
 
 /// A source whose first three reads fail.
 const UNREADABLE: Edge<'static> = Edge {
@@ -42,19 +37,11 @@ fn storm<R: Threads + Wait + Sync>(
 
 /// The source is not read: it would fail.
 #[test]
-fn summaries(rt: HostRuntime) -> Result<(), Fail> {
-    let alloc = rt.alloc();
-    let table = [
-        ("01", "01", LEADING_ZEROS),
-        ("256", "1", MOST_ROUNDS),
-        ("2", "18446744073709551615", GREATEST_SEED),
-    ];
-    for (n, seed, want) in table {
-        let ended = storm(&rt, alloc, n, seed, WHOLE)?;
-        assert_eq!(rt; ended.outcome.status, 0, "at {n} {seed}");
-        assert_eq!(rt; str::from_utf8(&ended.written)?, want);
-        assert!(rt; ended.outcome.journal.is_some(), "at {n} {seed}");
-    }
+fn reads_nothing(rt: HostRuntime) -> Result<(), Fail> {
+    let ended = storm(&rt, rt.alloc(), "01", "01", WHOLE)?;
+    assert_eq!(rt; ended.outcome.status, 0);
+    assert_eq!(rt; str::from_utf8(&ended.written)?, LEADING_ZEROS);
+    assert!(rt; ended.outcome.journal.is_some());
     Ok(())
 }
 

@@ -1,0 +1,49 @@
+//! The way through the bytes of extents.
+
+ghost use Rattle.std.specs.Prelude.{◌≡◌, ◌<◌, ◌≤◌, ◌++◌, length};
+ghost use Rattle.busdma_machine.specs.Runs.{IsExtent, addresses, run_of};
+ghost use Rattle.mbuf_defrag.specs.Walking.{BeginsLow, rest_of};
+
+use busdma_machine::{Extent, Pa};
+
+/// A place among the bytes of extents: so many bytes behind the begin of one of them.
+#[derive(Drop)]
+pub(crate) struct Cursor<'a> {
+    extents: &'a [Extent],
+    index: usize,
+    skip: u64,
+}
+
+impl<'a> Cursor<'a> {
+    /// The place of the first byte.
+    pub(crate) fn new(extents: &'a [Extent]) -> Cursor<'a>
+        ensures { rest_of result ≡ addresses extents.now }
+    {
+        Cursor {
+            extents,
+            index: 0,
+            skip: 0,
+        }
+    }
+
+    /// The next bytes, at most so many, as far as they lie in one extent and in one frame. The place
+    /// moves behind them.
+    pub(crate) fn next(&mut self, most: u64) -> Extent
+        requires some { 0 < most }
+        requires left { 0 < length (rest_of self.old) }
+        requires low { BeginsLow (rest_of self.old) }
+        ensures run { rest_of self.old ≡ run_of result.pa.0 result.len ++ rest_of self.new }
+        ensures extent { IsExtent result }
+        ensures most { result.len ≤ most }
+    {
+        while self.skip >= self.extents[self.index].len {
+            self.skip -= self.extents[self.index].len;
+            self.index += 1;
+        }
+        let extent = self.extents[self.index];
+        let pa = extent.pa.0 + self.skip;
+        let len = (4096 - pa % 4096).min(extent.len - self.skip).min(most);
+        self.skip += len;
+        Extent { pa: Pa(pa), len }
+    }
+}
