@@ -1,0 +1,127 @@
+//! The address space of one IOMMU tag.
+
+ghost use Rattle.std.specs.Prelude.{◌≡◌, ◌+◌, ◌/◌, ◌^◌, ◌<◌, ◌≤◌, ◌==◌, true, [], length, IfOk, OnErr, Some, None, List, ℕ};
+ghost use Rattle.std.specs.Option.{option_map};
+ghost use Rattle.std.specs.List.{All, insert};
+ghost use Rattle.busdma_machine.specs.declared.machine.address.Pa.{Pa as Address};
+ghost use Rattle.iommu_map.specs.Space.{IsSpace, entered, first_free, gap, is_live, left, place_of, put_run, translated};
+
+use crate::run::DeviceRun;
+use busdma_machine::Pa;
+use std::alloc::{AllocError, Global};
+use std::marker::Model;
+
+/// The live runs of a tag's device pages, rising, and how many pages the device reaches.
+#[derive(Drop)]
+pub struct Iommu {
+    pages: u64,
+    runs: Vec<DeviceRun>,
+}
+
+impl Model for Iommu {
+    ghost use Rattle.iommu_map.specs.Space.{IsSpace, Space};
+
+    ghost Value = { Space };
+
+    ghost view = { λ i. record { pages = i.pages; runs = i.runs.items } };
+
+    ghost invariant = { λ i. IsSpace (record { pages = i.pages; runs = i.runs.items }) };
+}
+
+/// Where a run finds room: its place among the live runs, and its first page.
+#[derive(Clone, Copy)]
+struct Gap {
+    at: usize,
+    first: u64,
+}
+
+impl Iommu {
+    /// The space of a device that reaches the addresses up to `lowaddr`, with no live run. Of a page
+    /// that lies above `lowaddr` in part it reaches nothing.
+    pub fn new(alloc: Global, lowaddr: Pa) -> Iommu
+        ensures { result ≡ record { pages = (lowaddr.0 + 1) / 4096; runs = [] } }
+    {
+        Iommu {
+            pages: lowaddr.0 / 4096 + u64::from(lowaddr.0 % 4096 == 4095),
+            runs: Vec::new(alloc),
+        }
+    }
+
+    /// The first gap before, between or behind the live runs that has so many pages.
+    fn gap(&self, count: u64) -> Gap
+        requires some { 1 ≤ count }
+        requires few { count ≤ 2 ^ 63 }
+        ensures first { result.first ≡ gap 1 count self.now.runs }
+        ensures bound { result.first ≤ 2 ^ 52 }
+        ensures at { result.at ≤ length self.now.runs }
+        ensures placed { (frames : List ℕ) → length frames ≡ count →
+            insert self.now.runs result.at (record { first = result.first; frames = frames })
+            ≡ put_run (record { first = result.first; frames = frames }) self.now.runs }
+    {
+        let mut first = 1;
+        for at in 0..self.runs.len() {
+            if first + count <= self.runs[at].first() {
+                return Gap { at, first };
+            }
+            first = self.runs[at].end();
+        }
+        Gap {
+            at: self.runs.len(),
+            first,
+        }
+    }
+
+    /// The place of the first live run that does not end before a page.
+    fn place_of(&self, page: u64) -> usize
+        ensures is { result ≡ place_of page self.now.runs }
+        ensures bound { result ≤ length self.now.runs }
+    {
+        self.runs.partition_point(|run| run.end() <= page)
+    }
+
+    /// Takes the run with the least first page for these frames, in order, and tells that page: page
+    /// 0 is never taken, and no page of a live run. None where there is no such run. Then, and where
+    /// memory is wanting, the space stays as it was.
+    pub fn enter(&mut self, alloc: Global, frames: &[u64]) -> Result<Option<u64>, AllocError>
+        requires some { 0 < length frames.now }
+        requires numbered { All (λ f. f < 2 ^ 30) frames.now }
+        ensures first { IfOk result (λ r. r ≡ first_free self.old (length frames.now)) }
+        ensures entered { IfOk result (λ r. self.new ≡ entered r frames.now self.old) }
+        ensures no_memory { OnErr result (self.new ≡ self.old) }
+    {
+        let count = frames.len() as u64;
+        let gap = self.gap(count);
+        if self.pages < gap.first + count {
+            return Ok(None);
+        }
+        let run = DeviceRun::new(alloc, gap.first, frames)?;
+        self.runs.insert(gap.at, run)?;
+        Ok(Some(gap.first))
+    }
+
+    /// Ends the live run that begins at a page.
+    pub fn leave(&mut self, first: u64)
+        requires { is_live self.old first ≡ true }
+        ensures { self.new ≡ left first self.old }
+    {
+        let at = self.place_of(first);
+        self.runs.remove(at);
+    }
+
+    /// The physical address of the byte at a device address. None where no live run has its page.
+    pub fn translate(&self, dev: u64) -> Option<Pa>
+        ensures is { option_map (λ (pa : Address). pa.0) result ≡ translated self.now dev }
+        ensures sound { IsSpace self.now }
+    {
+        let page = dev / 4096;
+        let at = self.place_of(page);
+        if at == self.runs.len() {
+            return None;
+        }
+        let run = &self.runs[at];
+        if page < run.first() {
+            return None;
+        }
+        Some(Pa(4096 * run.frame_of(page) + dev % 4096))
+    }
+}

@@ -1,0 +1,49 @@
+//! Laws of address spaces. Each is the contract of a function that does nothing.
+
+ghost use Rattle.std.specs.Prelude.{◌≡◌, ◌≢◌, ◌-◌, ◌≤◌, ℕ, List, true, false, Some, length, slice_get};
+ghost use Rattle.std.specs.List.{Contains};
+ghost use Rattle.iommu_map.specs.Space.{DeviceRun, IsSpace, Space, entered, first_free, frame_at, has_page, is_live, left};
+
+use crate::Iommu;
+
+/// Two live runs share no device page.
+pub fn runs_share_no_page(iommu: &Iommu)
+    ensures { (i j p : ℕ) (r q : DeviceRun) → slice_get iommu.now.runs i ≡ Some r →
+        slice_get iommu.now.runs j ≡ Some q → has_page p r ≡ true → has_page p q ≡ true → i ≡ j }
+{
+    iommu.translate(0);
+}
+
+/// A run that is entered is live, and so is each that was; its pages stand for its frames, and every
+/// other page for what it stood for. Ended at once, it leaves the space as it was.
+pub fn entered_runs_take_their_own_pages()
+    ensures live { (s : Space) (frames : List ℕ) (first : ℕ) → is_live (entered (Some first) frames s) first ≡ true }
+    ensures there { (s : Space) (frames : List ℕ) (first : ℕ) →
+        Contains (entered (Some first) frames s).runs (record { first = first; frames = frames }) }
+    ensures others_live { (s : Space) (frames : List ℕ) (first : ℕ) (r : DeviceRun) → Contains s.runs r →
+        Contains (entered (Some first) frames s).runs r }
+    ensures own { (s : Space) (frames : List ℕ) (first p : ℕ) → IsSpace s → 1 ≤ length frames →
+        first_free s (length frames) ≡ Some first → has_page p (record { first = first; frames = frames }) ≡ true →
+        frame_at (entered (Some first) frames s).runs p ≡ slice_get frames (p - first) }
+    ensures others { (s : Space) (frames : List ℕ) (first p : ℕ) →
+        has_page p (record { first = first; frames = frames }) ≡ false →
+        frame_at (entered (Some first) frames s).runs p ≡ frame_at s.runs p }
+    ensures back { (s : Space) (frames : List ℕ) (first : ℕ) → IsSpace s → 1 ≤ length frames →
+        first_free s (length frames) ≡ Some first → left first (entered (Some first) frames s) ≡ s }
+{}
+
+/// The pages of a run that is entered were no live run's, so that its first page was none's.
+pub fn entered_runs_are_new()
+    ensures { (s : Space) (frames : List ℕ) (first p : ℕ) (r : DeviceRun) → IsSpace s → 1 ≤ length frames →
+        first_free s (length frames) ≡ Some first → Contains s.runs r →
+        has_page p (record { first = first; frames = frames }) ≡ true → has_page p r ≡ false }
+{}
+
+/// A run that ends takes its own pages alone: every other page stands for what it stood for, and each run
+/// that begins elsewhere stays live.
+pub fn ended_runs_take_their_own_pages()
+    ensures others { (s : Space) (p : ℕ) (r : DeviceRun) → IsSpace s → Contains s.runs r → has_page p r ≡ false →
+        frame_at (left r.first s).runs p ≡ frame_at s.runs p }
+    ensures live { (s : Space) (first : ℕ) (r : DeviceRun) → Contains s.runs r → r.first ≢ first →
+        Contains (left first s).runs r }
+{}
