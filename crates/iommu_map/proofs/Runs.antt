@@ -170,7 +170,7 @@ free-behind low high first k (r ∷ rs) h some l =
     let apart : meets first k r ≡ false = grind (arith, nat_tests, h.0.behind, h.0.some, l, some) in
     rw apart (free-behind (end_of r) high first k rs h.1 some (omega (arith, h.0.behind)))
 
-gap-free : (low high k : ℕ) (rs : List DeviceRun) → AreRuns low high rs → 1 ≤ k →
+pub gap-free : (low high k : ℕ) (rs : List DeviceRun) → AreRuns low high rs → 1 ≤ k →
     list_any (meets (gap low k rs) k) rs ≡ false
 gap-free low high k [] h some = refl
 gap-free low high k (r ∷ rs) h some =
@@ -385,3 +385,24 @@ ends-past p (q ∷ rs) r e =
       | false ↦ λ past f.
           let same : q ≡ r = cc in omega (arith, leb-false (end_of q) p past, ap end_of same)
     ]) refl e
+
+-- What is free
+
+-- the first page of a run that is taken is that of the gap, and the device reaches its pages
+pub taken-gap : (s : Space) (k first : ℕ) → IsSpace s → 1 ≤ k → first_free s k ≡ Some first → first ≡ gap 1 k s.runs
+taken-gap s k first h some e = by (ltb s.pages (gap 1 k s.runs + k)) refl
+  where
+    by : (v : Bool) → ltb s.pages (gap 1 k s.runs + k) ≡ v → first ≡ gap 1 k s.runs
+    by true lacks =
+        let none = free-none s k h some (ltb-true s.pages (gap 1 k s.runs + k) lacks) in absurd (cc)
+    by false fits =
+        let is = free-is s k h some (ltb-false s.pages (gap 1 k s.runs + k) fits) in cc
+
+pub taken-fits : (s : Space) (k first : ℕ) → IsSpace s → 1 ≤ k → first_free s k ≡ Some first → first + k ≤ s.pages
+taken-fits s k first h some e = by (ltb s.pages (gap 1 k s.runs + k)) refl
+  where
+    by : (v : Bool) → ltb s.pages (gap 1 k s.runs + k) ≡ v → first + k ≤ s.pages
+    by true lacks =
+        let none = free-none s k h some (ltb-true s.pages (gap 1 k s.runs + k) lacks) in absurd (cc)
+    by false fits =
+        omega (arith, taken-gap s k first h some e, ltb-false s.pages (gap 1 k s.runs + k) fits)
