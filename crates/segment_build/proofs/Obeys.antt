@@ -230,14 +230,14 @@ all_well t m (c ∷ cs) pages eff s j p =
 
 -- ---- segments
 
-reached_of : (t : TagLimits) (a n : ℕ) → AllByRecursion (IsReachedAt t) (run_of a n) →
+pub reached_of : (t : TagLimits) (a n : ℕ) → AllByRecursion (IsReachedAt t) (run_of a n) →
     (k : ℕ) → k < n → excluded t (a + k) ≡ false
 reached_of t a zero h k l = absurd (omega arith)
 reached_of t a (suc n) h zero l = let z : a + 0 ≡ a = omega arith in subst (IsReachedAt t) (sym z) h.0
 reached_of t a (suc n) h (suc k) l = let e : a + 1 + k ≡ a + suc k =
     omega arith in subst (IsReachedAt t) e (reached_of t (a + 1) n h.1 k (omega arith))
 
-bytes_of_middle : (P : ℕ → Type 0) (xs : List Segment) (y : Segment) (zs : List Segment) →
+pub bytes_of_middle : (P : ℕ → Type 0) (xs : List Segment) (y : Segment) (zs : List Segment) →
     AllByRecursion P (segment_bytes (xs ++ y ∷ zs)) → AllByRecursion P (run_of y.addr.0 y.len)
 bytes_of_middle P [] y zs h = all_first P (run_of y.addr.0 y.len) (segment_bytes zs) h
 bytes_of_middle P (x ∷ xs) y zs h =
@@ -296,7 +296,7 @@ obeys t m es pages segs eff entries below reachable few =
     let is_placed = all_placed t cs well in
     let bytes : segment_bytes segs ≡ bus_trace cs =
     segmentation_bytes t segs pieces few.0 ∙ pieces_bytes t cs eff.maxsegsz (all_rise cs is_placed) in
-    let good = segments_good t segs pieces few.0 (pieces_good t cs eff.maxsegsz is_placed) in
+    let good = segments_good t segs pieces few.0 (pieces_good t cs eff.maxsegsz (all_rise cs is_placed)) in
     let ats = placed_at (keep_pg_offset t.flags) (chunks_of t m es) pages [] [] refl (chunks_at t m es eff) in
     let reached = subst (AllByRecursion (IsReachedAt t)) (sym bytes) (all_trace t cs well) in
     record {

@@ -11,8 +11,8 @@ use Rattle.segment_build.specs.Obeying.{LiesInWindow}
 use Rattle.segment_build.specs.Pieces.{chunk_pieces, piece_len, pieces_of}
 use Rattle.segment_build.specs.Segmentation.{AreRuns, EachJoins, IsSegmentation, Run, grown, joint, may_join}
 use Rattle.segment_build.specs.Segmentation.{run_pieces, same_window, segment_of}
-use Rattle.segment_build.specs.Trace.{IsPlaced, bus_addresses, bus_extent, chunk_len}
-use Rattle.segment_build.proofs.Bytes.{begins_at_end, bus_is_run}
+use Rattle.segment_build.specs.Trace.{RisesByOne, bus_addresses, chunk_len}
+use Rattle.segment_build.proofs.Bytes.{begins_at_end}
 use Rattle.segment_build.proofs.Places.{len_in_size, len_in_window, piece_some, pieces_step}
 use Rattle.segment_build.proofs.Sound.{all_append}
 use Rattle.segment_build.proofs.Numbers.{most, not_zero, number_is}
@@ -47,13 +47,13 @@ run_good (suc n) t a (suc l) m h =
     subst (AllByRecursion (IsGood t)) (sym (pieces_step t a (suc l) k m (omega arith) refl))
     (piece_good t a (suc l) m (omega arith), run_good n t (a + k) (suc l - k) m (omega arith))
 
-pub pieces_good : (t : TagLimits) (cs : List Chunk) → 0 < t.maxsegsz → AllByRecursion IsPlaced cs →
+pub pieces_good : (t : TagLimits) (cs : List Chunk) → 0 < t.maxsegsz → AllByRecursion RisesByOne cs →
     AllByRecursion (IsGood t) (chunk_pieces t cs)
 pieces_good t [] m h = tt
 pieces_good t (c ∷ cs) m h =
     all_append (IsGood t) (pieces_of t (bus_addresses c)) (chunk_pieces t cs)
-    (subst (λ bs. AllByRecursion (IsGood t) (pieces_of t bs)) (sym (bus_is_run c h.0))
-    (run_good (chunk_len c) t (bus_extent c).pa.0 (chunk_len c) m (omega arith))) (pieces_good t cs m h.1)
+    (subst (λ bs. AllByRecursion (IsGood t) (pieces_of t bs)) (sym h.0.1)
+    (run_good (chunk_len c) t h.0.0 (chunk_len c) m (omega arith))) (pieces_good t cs m h.1)
 
 second_true : (a b c : Bool) → (a && b && c) ≡ true → b ≡ true
 second_true true true c h = refl
