@@ -1,8 +1,8 @@
 -- What a space carries in which a run was entered.
-use Rattle.std.proofs.Common.{◌≡◌, ℕ, ◌+◌, ◌-◌, ◌*◌, ◌/◌, ◌%◌, ◌<◌, ◌≤◌, Bool, true, false, List, [], ◌∷◌, zero, suc, length, Some}
-use Rattle.std.proofs.Common.{slice_get, option_map, refl, ap, ◌∙◌, arith, ltb}
-use Rattle.std.proofs.lemmas.Bool.{ltb-true, ltb-false, le-leb, lt-ltb}
-use Rattle.iommu_map.specs.Space.{DeviceRun, IsSpace, Space, end_of, entered, first_free, frame_at, gap, has_page}
+use Rattle.std.proofs.Common.{◌≡◌, ℕ, ◌+◌, ◌-◌, ◌*◌, ◌/◌, ◌%◌, ◌<◌, ◌≤◌, true, List, [], ◌∷◌, zero, suc, length, Some}
+use Rattle.std.proofs.Common.{slice_get, option_map, ap, ◌∙◌, arith}
+use Rattle.std.proofs.lemmas.Bool.{le-leb, lt-ltb}
+use Rattle.iommu_map.specs.Space.{DeviceRun, IsSpace, Space, end_of, entered, first_free, frame_at, has_page}
 use Rattle.iommu_map.specs.Space.{put_run, translated}
 use Rattle.iommu_map.proofs.Entering.{frame-own}
 use Rattle.iommu_map.proofs.Runs.{taken-gap}

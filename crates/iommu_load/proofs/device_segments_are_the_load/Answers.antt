@@ -1,4 +1,4 @@
-use Rattle.std.proofs.Common.{◌≡◌, Some, map, refl, ap, ◌∙◌}
+use Rattle.std.proofs.Common.{Some, map, ap, ◌∙◌}
 use Rattle.iommu_map.specs.Space.{entered, translated}
 use Rattle.segment_build.specs.Pieces.{chunk_pieces}
 use Rattle.segment_build.specs.Segmentation.{segmentation}
