@@ -98,17 +98,23 @@ device-rises page at (e ∷ es) =
     ∙ ap (run_of (device_begin page e.parts)) (omega arith) in
     ((device_begin page e.parts, run), device-rises (page + length e.parts) (at + byte_count e.parts) es)
 
--- a test that holds below a page holds of the device addresses below it
+-- a test that holds of the addresses of device pages holds of those of a load in them
 all-append : (P : ℕ → Type 0) (xs ys : List ℕ) → AllByRecursion P xs → AllByRecursion P ys →
     AllByRecursion P (xs ++ ys)
 all-append P [] ys h k = k
 all-append P (x ∷ xs) ys h k = (h.0, all-append P xs ys h.1 k)
 
-run-all : (P : ℕ → Type 0) (a n end : ℕ) → a + n ≤ end → ((b : ℕ) → b < end → P b) → AllByRecursion P (run_of a n)
+run-all : (P : ℕ → Type 0) (a n end : ℕ) → a + n ≤ end → ((b : ℕ) → a ≤ b → b < end → P b) →
+    AllByRecursion P (run_of a n)
 run-all P a zero end l h = tt
-run-all P a (suc n) end l h = (h a (omega arith), run-all P (a + 1) n end (omega arith) h)
+run-all P a (suc n) end l h =
+    (h a (omega arith) (omega arith), run-all P (a + 1) n end (omega arith) (λ b g m. h b (omega arith) m))
 
--- extents end in their pages
+-- extents begin in the first of their pages, and end in the last
+begins : (page : ℕ) (xs : List Extent) → 4096 * page ≤ device_begin page xs
+begins page [] = omega arith
+begins page (x ∷ xs) = omega arith
+
 ends : (page : ℕ) (xs : List Extent) → AllByRecursion IsExtent xs → AreJoined xs →
     device_begin page xs + byte_count xs ≤ 4096 * (page + length xs)
 ends page [] all joined = omega arith
@@ -124,11 +130,11 @@ ends page (x ∷ y ∷ ys) all joined =
       sum_by-cons (λ (z : Extent). z.len) x (y ∷ ys),
     )
 
-pub device-below : (P : ℕ → Type 0) (page at end : ℕ) (es : List Entry) → AllByRecursion IsEntry es →
-    4096 * (page + length (load_frames es)) ≤ end → ((b : ℕ) → b < end → P b) →
+pub device-within : (P : ℕ → Type 0) (page at end : ℕ) (es : List Entry) → AllByRecursion IsEntry es →
+    4096 * (page + length (load_frames es)) ≤ end → ((b : ℕ) → 4096 * page ≤ b → b < end → P b) →
     AllByRecursion P (bus_trace (device_chunks page at es))
-device-below P page at end [] all l h = tt
-device-below P page at end (e ∷ es) all l h =
+device-within P page at end [] all l h = tt
+device-within P page at end (e ∷ es) all l h =
     let frames = map (λ (x : Extent). x.pa.0 / 4096) e.parts in
     let long : length (frames ++ load_frames es) ≡ length e.parts + length (load_frames es) =
     length-append frames (load_frames es)
@@ -136,5 +142,57 @@ device-below P page at end (e ∷ es) all l h =
     let run = run_of (device_begin page e.parts) (byte_count e.parts) in
     all-append P (run ++ []) _ (subst (AllByRecursion P) (sym (append-nil run))
     (run-all P (device_begin page e.parts) (byte_count e.parts) end
-    (omega (arith, long, l, ends page e.parts all.0.extents all.0.joined)) h))
-    (device-below P (page + length e.parts) (at + byte_count e.parts) end es all.1 (omega (arith, long, l)) h)
+    (omega (arith, long, l, ends page e.parts all.0.extents all.0.joined))
+    (λ b g m. h b (omega (arith, begins page e.parts)) m)))
+    (device-within P (page + length e.parts) (at + byte_count e.parts) end es all.1 (omega (arith, long, l))
+    (λ b g m. h b (omega arith) m))
+
+-- The first byte of a load
+
+-- addresses of which the first lies in a page
+pub record BeginsIn (page : ℕ) (bytes : List ℕ) : Type 0 where
+  pub first : ℕ
+  pub rest : List ℕ
+  pub are : bytes ≡ first ∷ rest
+  pub lies : first / 4096 ≡ page
+
+run-begins : (page a n : ℕ) (bytes : List ℕ) → 1 ≤ n → a / 4096 ≡ page → BeginsIn page ((run_of a n ++ []) ++ bytes)
+run-begins page a zero bytes some e = absurd (omega arith)
+run-begins page a (suc n) bytes some e = record {
+  first = a;
+  rest = (run_of (a + 1) n ++ []) ++ bytes;
+  are = refl;
+  lies = e;
+}
+
+entry-begins : (page : ℕ) (xs : List Extent) (fs bytes : List ℕ) → AllByRecursion IsExtent xs →
+    1 ≤ length (map (λ x. x.pa.0 / 4096) xs ++ fs) → (1 ≤ length fs → BeginsIn (page + length xs) bytes) →
+    BeginsIn page ((run_of (device_begin page xs) (byte_count xs) ++ []) ++ bytes)
+entry-begins page [] fs bytes all some rest =
+    let none : page + length {A = Extent} [] ≡ page = omega arith in
+    subst (λ q. BeginsIn q bytes) none (rest some)
+entry-begins page (x ∷ xs) fs bytes all some rest =
+    run-begins page (4096 * page + x.pa.0 % 4096) (byte_count (x ∷ xs)) bytes
+    (omega (arith, all.0.some, sum_by-cons (λ (z : Extent). z.len) x xs)) (omega arith)
+
+pub device-first : (page at : ℕ) (es : List Entry) → AllByRecursion IsEntry es → 1 ≤ length (load_frames es) →
+    BeginsIn page (bus_trace (device_chunks page at es))
+device-first page at [] all some = absurd (omega arith)
+device-first page at (e ∷ es) all some =
+    entry-begins page e.parts (load_frames es)
+    (bus_trace (device_chunks (page + length e.parts) (at + byte_count e.parts) es)) all.0.extents some
+    (λ more. device-first (page + length e.parts) (at + byte_count e.parts) es all.1 more)
+
+-- a load that touches no frame has no byte
+entry-none : (page : ℕ) (xs : List Extent) (fs bytes : List ℕ) → length (map (λ x. x.pa.0 / 4096) xs ++ fs) ≡ 0 →
+    (length fs ≡ 0 → bytes ≡ []) → (run_of (device_begin page xs) (byte_count xs) ++ []) ++ bytes ≡ []
+entry-none page [] fs bytes none rest = rest none
+entry-none page (x ∷ xs) fs bytes none rest = absurd (omega arith)
+
+pub device-none : (page at : ℕ) (es : List Entry) → length (load_frames es) ≡ 0 →
+    bus_trace (device_chunks page at es) ≡ []
+device-none page at [] none = refl
+device-none page at (e ∷ es) none =
+    entry-none page e.parts (load_frames es)
+    (bus_trace (device_chunks (page + length e.parts) (at + byte_count e.parts) es)) none
+    (λ rest. device-none (page + length e.parts) (at + byte_count e.parts) es rest)

@@ -12,7 +12,7 @@ use Rattle.segment_build.proofs.OneWindow.{IsGood, pieces_good, segments_good}
 use Rattle.segment_build.proofs.Obeys.{bytes_of_middle, reached_of}
 use Rattle.segment_build.proofs.Positions.{all_middle, each_from}
 use Rattle.iommu_load.specs.Device.{device_chunks, load_frames}
-use Rattle.iommu_load.proofs.Carrying.{device-below, device-rises}
+use Rattle.iommu_load.proofs.Carrying.{device-rises, device-within}
 use Rattle.busdma_machine.specs.declared.machine.address.Segment.{Segment}
 use Rattle.busdma_machine.specs.declared.machine.chunk.Entry.{Entry}
 use Rattle.busdma_machine.specs.declared.tags.tag.TagLimits.{TagLimits}
@@ -25,7 +25,8 @@ use Rattle.std.proofs.Common.{ℕ, List}
 
 pub device-obeys : (t : TagLimits) → IsEffective t → (es : List Entry) → AllByRecursion IsEntry es →
     (first : ℕ) (segs : List Segment) → t.alignment ≡ 1 → keep_pg_offset t.flags ≡ false →
-    4096 * (first + length (load_frames es)) ≤ t.lowaddr.0 + 1 → IsFew t (chunk_pieces t (device_chunks first 0 es)) segs →
+    4096 * (first + length (load_frames es)) ≤ t.lowaddr.0 + 1 →
+    IsFew t (chunk_pieces t (device_chunks first 0 es)) segs →
     Obeys t (device_chunks first 0 es) segs
 device-obeys t eff es entries first segs one off low few =
     let cs = device_chunks first 0 es in
@@ -36,8 +37,8 @@ device-obeys t eff es entries first segs one off low few =
     let good = segments_good t segs pieces few.0 (pieces_good t cs some (device-rises first 0 es)) in
     let reached =
     subst (AllByRecursion (λ a. excluded t a ≡ false)) (sym bytes)
-    (device-below (λ a. excluded t a ≡ false) first 0 (t.lowaddr.0 + 1) es entries low
-    (λ b l. rw (le-ltb t.lowaddr.0 b (omega arith)) refl)) in
+    (device-within (λ a. excluded t a ≡ false) first 0 (t.lowaddr.0 + 1) es entries low
+    (λ b g l. rw (le-ltb t.lowaddr.0 b (omega arith)) refl)) in
     record {
       few = few.1;
       each = each_from (IsObeying t cs) [] segs (λ xs y zs e.

@@ -1,5 +1,5 @@
--- The chunks of a load in the pages of a device behind an IOMMU: each entry is one chunk, and each byte keeps its offset
--- in the page.
+-- The chunks of a load in the pages of a device behind an IOMMU: each entry is one chunk, and each byte keeps its
+-- offset in the page.
 use Rattle.std.specs.Prelude.{ℕ, ◌+◌, ◌*◌, ◌/◌, ◌%◌, false, List, [], ◌∷◌, ◌++◌, length, map, None}
 use Rattle.busdma_machine.specs.declared.machine.address.Extent.{Extent}
 use Rattle.busdma_machine.specs.declared.machine.chunk.Chunk.{Chunk}

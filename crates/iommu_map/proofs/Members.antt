@@ -5,7 +5,7 @@ use Rattle.std.proofs.Common.{inl, inr}
 use Rattle.std.specs.List.{Contains, filter, list_any}
 use Rattle.std.proofs.lemmas.Bool.{false≢true, ne_eqb}
 use Rattle.std.proofs.lemmas.Bool.Decides.{nat_tests}
-use Rattle.iommu_map.specs.Space.{DeviceRun, AreRuns, begins_at, gap, has_page, meets, put_run}
+use Rattle.iommu_map.specs.Space.{AreRuns, DeviceRun, begins_at, end_of, gap, has_page, meets, put_run}
 use Rattle.iommu_map.proofs.Runs.{get-at, gap-free}
 
 module _ {X : Type 0} where
@@ -25,6 +25,12 @@ module _ {X : Type 0} where
 -- a live run stands at a place
 pub place-in : (rs : List DeviceRun) (r : DeviceRun) → Contains rs r → (i : ℕ) × (slice_get rs i ≡ Some r)
 place-in rs r h = (h.0, get-at rs h.0 r h.1 (sym h.2))
+
+pub get-in : (rs : List DeviceRun) (i : ℕ) (r : DeviceRun) → slice_get rs i ≡ Some r → Contains rs r
+get-in [] i r e = absurd (cc)
+get-in (q ∷ qs) zero r e =
+    let same : q ≡ r = cc in subst (Contains (q ∷ qs)) same (head-in q qs)
+get-in (q ∷ qs) (suc i) r e = tail-in q r qs (get-in qs i r e)
 
 pub put-in : (r : DeviceRun) (rs : List DeviceRun) → Contains (put_run r rs) r
 put-in r [] = head-in r []
@@ -78,5 +84,21 @@ pub gap-new : (low high k p : ℕ) (n r : DeviceRun) (rs : List DeviceRun) → A
     n.first ≡ gap low k rs → length n.frames ≡ k → Contains rs r → has_page p n ≡ true → has_page p r ≡ false
 gap-new low high k p n r rs h some at is there has =
     let free : meets n.first k r ≡ false =
-    unmet n.first k r rs (subst (λ g. list_any (meets g k) rs ≡ false) (sym at) (gap-free low high k rs h some)) there in
+    unmet n.first k r rs (subst (λ g. list_any (meets g k) rs ≡ false) (sym at) (gap-free low high k rs h some))
+    there in
     grind (arith, nat_tests, free, has, is)
+
+-- a live run begins at the first of the pages or behind it, and has a page
+pub live-is : (low high : ℕ) (rs : List DeviceRun) (r : DeviceRun) → AreRuns low high rs → Contains rs r →
+    (low ≤ r.first) × (1 ≤ length r.frames)
+live-is low high [] r h there = absurd (in-none r there)
+live-is low high (q ∷ qs) r h there =
+    (elim (in-cases q r qs there) as (λ _. (low ≤ r.first) × (1 ≤ length r.frames)) [
+      | inl e ↦ (
+        omega (arith, h.0.behind, ap (λ (x : DeviceRun). x.first) e),
+        omega (arith, h.0.some, ap (λ (x : DeviceRun). length x.frames) e),
+      )
+      | inr k ↦
+          let rest = live-is (end_of q) high qs r h.1 k in
+          (omega (arith, h.0.behind, rest.0), rest.1)
+    ])

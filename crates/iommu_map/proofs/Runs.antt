@@ -87,7 +87,8 @@ ends-rise low high [] h i j d le l = absurd (omega arith)
 ends-rise low high (r ∷ rs) h zero zero d le l = omega arith
 ends-rise low high (r ∷ rs) h zero (suc j) d le l = ends-behind (end_of r) high rs j d h.1 (omega arith)
 ends-rise low high (r ∷ rs) h (suc i) zero d le l = absurd (omega arith)
-ends-rise low high (r ∷ rs) h (suc i) (suc j) d le l = ends-rise (end_of r) high rs h.1 i j d (omega arith) (omega arith)
+ends-rise low high (r ∷ rs) h (suc i) (suc j) d le l =
+    ends-rise (end_of r) high rs h.1 i j d (omega arith) (omega arith)
 
 -- The end of a run
 
@@ -341,7 +342,8 @@ gap-next low k (r ∷ rs) (suc i) d l = gap-next low k rs i d (omega arith)
 pub begins-behind : (low high : ℕ) (rs : List DeviceRun) (j : ℕ) (q : DeviceRun) → AreRuns low high rs →
     slice_get rs j ≡ Some q → low ≤ q.first
 begins-behind low high [] j q h e = absurd (cc)
-begins-behind low high (r ∷ rs) zero q h e = let same : r ≡ q = cc in omega (arith, h.0.behind, ap (λ (x : DeviceRun). x.first) same)
+begins-behind low high (r ∷ rs) zero q h e =
+    let same : r ≡ q = cc in omega (arith, h.0.behind, ap (λ (x : DeviceRun). x.first) same)
 begins-behind low high (r ∷ rs) (suc j) q h e =
     omega (arith, h.0.behind, begins-behind (end_of r) high rs j q h.1 e)
 

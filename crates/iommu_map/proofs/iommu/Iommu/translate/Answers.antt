@@ -25,7 +25,8 @@ returns-then-page-first-clause-is c =
     (ap (λ (s : Space). frame_at s.runs page) (sym c.self.view_is)
     ∙ frame-found 1 c.self.inside.pages page items c.self.invariant.runs
     ∙ ap (λ i. found (slice_get items i) page) (sym at)
-    ∙ ap (λ o. found o page) (get-at items c.place_of-at.result run (omega (arith, ap (λ (x : Space). length x.runs) c.self.view_is)) c.index-run.ensures)
+    ∙ ap (λ o. found o page) (get-at items c.place_of-at.result run
+    (omega (arith, ap (λ (x : Space). length x.runs) c.self.view_is)) c.index-run.ensures)
     ∙ ap (λ b. cond b (slice_get run.frames (page - run.first)) None)
     (lt-leb run.first page (omega arith))))
 
@@ -35,7 +36,8 @@ frame_of-requires-clause-before c =
     let page = c.args.dev / 4096 in
     let at = c.place_of-at.ensures.is ∙ ap (λ (s : Space). place_of page s.runs) (sym c.self.view_is) in
     ends-past page items c.index-run.result.now (ap (slice_get items) (sym at)
-    ∙ get-at items c.place_of-at.result c.index-run.result.now (omega (arith, ap (λ (x : Space). length x.runs) c.self.view_is)) c.index-run.ensures)
+    ∙ get-at items c.place_of-at.result c.index-run.result.now
+    (omega (arith, ap (λ (x : Space). length x.runs) c.self.view_is)) c.index-run.ensures)
 
 pub returns-clause-is : goal.returns-clause-is
 returns-clause-is c =
@@ -47,7 +49,8 @@ returns-clause-is c =
     (ap (λ (s : Space). frame_at s.runs page) (sym c.self.view_is)
     ∙ frame-found 1 c.self.inside.pages page items c.self.invariant.runs
     ∙ ap (λ i. found (slice_get items i) page) (sym at)
-    ∙ ap (λ o. found o page) (get-at items c.place_of-at.result run (omega (arith, ap (λ (x : Space). length x.runs) c.self.view_is)) c.index-run.ensures)
+    ∙ ap (λ o. found o page) (get-at items c.place_of-at.result run
+    (omega (arith, ap (λ (x : Space). length x.runs) c.self.view_is)) c.index-run.ensures)
     ∙ ap (λ b. cond b (slice_get run.frames (page - run.first)) None)
     (le-leb run.first page (omega arith))
     ∙ c.frame_of.ensures.is))
