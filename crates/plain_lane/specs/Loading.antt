@@ -4,6 +4,7 @@ use Rattle.plain_lane.specs.declared.asked.PlainAsked.{PlainAsked}
 
 abbrev pub asked_of : PlainAsked → Asked
 asked_of x = record {
+  bio = x.bio;
   judged = x.judged;
   entries = x.entries.items;
   len = x.len;

@@ -16,7 +16,7 @@ use Rattle.plain_lane.specs.declared.lane.PlainStage.TheVariants.{Idle, Waiting,
 -- where a map stands
 abbrev pub stage_of : PlainStage → Stage
 stage_of Idle = state.Idle
-stage_of (Waiting load_at need) = state.Waiting load_at need
+stage_of (Waiting load) = state.Waiting load
 stage_of (Loaded bounced segments pages) = state.Loaded bounced.items segments.items pages.items
 stage_of Returning = state.Returning
 

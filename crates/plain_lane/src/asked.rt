@@ -12,14 +12,15 @@ use crate::bios::{bio_spans, span_bytes};
 use crate::lane::PlainLane;
 use crate::lists::small;
 use bitflags::Flags;
-use busdma_base::{Bio, Buffer, Entry, Item, Judged, ListOf, Op, Place, Span, Va};
+use busdma_base::{Bio, Buffer, Entry, Item, Judged, ListOf, Place, Span, Va};
 use dma_tag::LoadFlags;
 use std::alloc::{AllocError, Global};
 
-/// The judgement of the bytes of a load, its entries and how many bytes it has, whether it must not
+/// The bytes of a load and their judgement, its entries and how many bytes it has, whether it must not
 /// wait, and the items that its callback appends.
 #[derive(Debug, Drop)]
 pub(crate) struct PlainAsked<'s> {
+    pub(crate) bio: Bio,
     pub(crate) judged: Judged,
     pub(crate) entries: Vec<Entry>,
     pub(crate) len: u64,
@@ -35,7 +36,7 @@ fn listed<T: Copy>(alloc: Global, list: &ListOf<T>) -> Result<ListOf<T>, AllocEr
 }
 
 /// The same bio again.
-fn same_bio(alloc: Global, bio: &Bio) -> Result<Bio, AllocError>
+pub(crate) fn same_bio(alloc: Global, bio: &Bio) -> Result<Bio, AllocError>
     ensures { IfOk result (λ b. b ≡ bio.now) }
 {
     match bio {
@@ -87,20 +88,23 @@ impl<'s> PlainLane<'s> {
     }
 
     /// What a load of a bio asks.
-    fn asked(
+    pub(crate) fn asked<'a>(
         &self,
         alloc: Global,
         map: u32,
-        bio: &Bio,
+        bio: Bio,
         nowait: bool,
-        items: &'s [Item],
-    ) -> Result<PlainAsked<'s>, AllocError>
-        ensures { IfOk result (λ x. asked_of x ≡ loads.asked map bio.now nowait items.entry.now (ideal self.now)) }
+        items: &'a [Item],
+    ) -> Result<PlainAsked<'a>, AllocError>
+        ensures { IfOk result (λ x. asked_of x ≡ loads.asked map bio nowait items.entry.now (ideal self.now)) }
     {
-        let spans = bio_spans(alloc, bio)?;
+        let spans = bio_spans(alloc, &bio)?;
+        let judged = self.load_judged(alloc, map, &bio)?;
+        let entries = self.load_entries(alloc, &bio)?;
         Ok(PlainAsked {
-            judged: self.load_judged(alloc, map, bio)?,
-            entries: self.load_entries(alloc, bio)?,
+            bio,
+            judged,
+            entries,
             len: span_bytes(&spans)?,
             nowait,
             items,
@@ -123,50 +127,7 @@ impl<'s> PlainLane<'s> {
         let Some(bio) = self.bio_at(alloc, buffer)? else {
             return Ok(None);
         };
-        let asked = self.asked(alloc, map, &bio, never_waits(buffer, flags), items)?;
+        let asked = self.asked(alloc, map, bio, never_waits(buffer, flags), items)?;
         Ok(Some(asked))
-    }
-
-    /// What a load of no byte asks.
-    fn no_load(&self, alloc: Global) -> Result<PlainAsked<'s>, AllocError>
-        ensures { IfOk result (λ x. asked_of x ≡ turns.no_load (ideal self.now)) }
-    {
-        let bio = Bio::Vector(ListOf::new(Vec::new(alloc)));
-        self.asked(alloc, 0, &bio, false, &[])
-    }
-
-    /// What the load at a place of the script asks.
-    pub(crate) fn asked_at(&self, alloc: Global, load_at: u32) -> Result<PlainAsked<'s>, AllocError>
-        ensures { IfOk result (λ x. asked_of x ≡ turns.asked_at load_at (ideal self.now)) }
-    {
-        let script = self.script;
-        match script.get(load_at as usize) {
-            Some(
-                Op::Load {
-                    map,
-                    buffer,
-                    flags,
-                    then,
-                },
-            ) => match self.buffer_asked(alloc, *map, buffer, *flags, then.as_slice())? {
-                Some(asked) => Ok(asked),
-                None => self.no_load(alloc),
-            },
-            Some(
-                Op::Tag { .. }
-                | Op::TagDestroy { .. }
-                | Op::Map { .. }
-                | Op::MapDestroy { .. }
-                | Op::Dmamem { .. }
-                | Op::DmamemFree { .. }
-                | Op::Unload { .. }
-                | Op::Sync { .. }
-                | Op::SyncRange { .. }
-                | Op::CpuRead { .. }
-                | Op::CpuWrite { .. }
-                | Op::Await { .. },
-            ) => self.no_load(alloc),
-            None => self.no_load(alloc),
-        }
     }
 }

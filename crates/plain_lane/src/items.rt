@@ -52,11 +52,11 @@ pub(crate) fn queued(
     queued_from(alloc, load_at, 0, items)
 }
 
-/// The same items again.
-pub(crate) fn same_items(alloc: Global, items: &[QueuedItem]) -> Result<Vec<QueuedItem>, AllocError>
-    ensures { IfOk result (λ v. v.items ≡ items.now) }
+/// The same queue again.
+pub(crate) fn same_queue(alloc: Global, queue: &[QueuedItem]) -> Result<Vec<QueuedItem>, AllocError>
+    ensures { IfOk result (λ v. v.items ≡ queue.now) }
 {
-    let Some((first, rest)) = items.split_first() else {
+    let Some((first, rest)) = queue.split_first() else {
         return Ok(Vec::new(alloc));
     };
     let item = QueuedItem {
@@ -64,7 +64,14 @@ pub(crate) fn same_items(alloc: Global, items: &[QueuedItem]) -> Result<Vec<Queu
         place: first.place,
         item: first.item.clone()?,
     };
-    with_item(item, same_items(alloc, rest)?)
+    with_item(item, same_queue(alloc, rest)?)
+}
+
+/// The same items again.
+pub(crate) fn same_items(alloc: Global, items: &[Item]) -> Result<Vec<Item>, AllocError>
+    ensures { IfOk result (λ v. v.items ≡ items.now) }
+{
+    Vec::from_clones(alloc, items)
 }
 
 /// The item names the map that was made at a place.

@@ -11,7 +11,8 @@ ghost use Rattle.plain_lane.specs.Ideal.{ideal};
 use crate::by_place::ByPlace;
 use crate::content::Change;
 use busdma_base::{
-    Answer, Chunk, Driver, LaneId, MapId, Op, PageRun, Report, ReportName, Segment, TagLimits,
+    Answer, Bio, Chunk, Driver, Item, LaneId, MapId, Op, PageRun, Report, ReportName, Segment,
+    TagLimits,
 };
 use lane_tables::QueuedItem;
 use loan_table::Position;
@@ -41,14 +42,30 @@ impl Model for PlainTag {
     } };
 }
 
+/// A load that waits, as its map keeps it: its place in the script, its bytes, the items that its
+/// callback appends, and how many pages it needs. So the map of bus_dma(9) keeps the memory of a load
+/// that is deferred, with its callback.
+#[derive(Debug, Drop)]
+pub(crate) struct PlainLoad {
+    pub(crate) load_at: u32,
+    pub(crate) bio: Bio,
+    pub(crate) items: Vec<Item>,
+    pub(crate) need: u32,
+}
+
+impl Model for PlainLoad {
+    ghost use Rattle.ideal_lane.specs.State.{WaitingLoad};
+
+    ghost Value = { WaitingLoad };
+
+    ghost view = { λ w. record { load_at = w.load_at; bio = w.bio; items = w.items.items; need = w.need } };
+}
+
 /// Where a map stands. Pages are physical addresses.
 #[derive(Debug, Drop)]
 pub(crate) enum PlainStage {
     Idle,
-    Waiting {
-        load_at: u32,
-        need: u32,
-    },
+    Waiting(PlainLoad),
     Loaded {
         bounced: Vec<Chunk>,
         segments: Vec<Segment>,
@@ -95,7 +112,7 @@ impl PlainMap {
     {
         match &self.stage {
             PlainStage::Loaded { pages, .. } => pages,
-            PlainStage::Idle | PlainStage::Waiting { .. } | PlainStage::Returning => &[],
+            PlainStage::Idle | PlainStage::Waiting(_) | PlainStage::Returning => &[],
         }
     }
 
@@ -105,7 +122,7 @@ impl PlainMap {
     {
         match &self.stage {
             PlainStage::Loaded { bounced, .. } => bounced,
-            PlainStage::Idle | PlainStage::Waiting { .. } | PlainStage::Returning => &[],
+            PlainStage::Idle | PlainStage::Waiting(_) | PlainStage::Returning => &[],
         }
     }
 

@@ -22,6 +22,7 @@ mod syncs;
 mod tags;
 mod turns;
 mod unloads;
+mod waiting;
 
 pub use lane::PlainLane;
 pub use turns::{PlainStep, PlainTurn};

@@ -8,7 +8,6 @@ ghost use Rattle.lane_tables.specs.Queues.{queued};
 ghost use Rattle.loan_table.specs.Loans.{new_loan, unlent};
 ghost use Rattle.ideal_lane.specs.Asking.{by_reply, call_of};
 ghost use Rattle.ideal_lane.specs.Loads as loads;
-ghost use Rattle.ideal_lane.specs.State as state;
 ghost use Rattle.plain_lane.specs.Ideal.{given, ideal};
 ghost use Rattle.plain_lane.specs.Loading.{asked_of};
 ghost use Rattle.plain_lane.specs.Stages.{headed};
@@ -61,7 +60,7 @@ fn one_entry(alloc: Global, entries: &[Entry]) -> Result<Vec<Entry>, AllocError>
 }
 
 /// The need of chunks. Err where it has more than 32 bits.
-fn need(chunks: &[Chunk]) -> Result<u32, AllocError>
+pub(crate) fn need(chunks: &[Chunk]) -> Result<u32, AllocError>
     ensures { IfOk result (λ n. n ≡ need_of chunks.now) }
 {
     let need = need_of(chunks);
@@ -247,25 +246,6 @@ impl PlainLane<'_> {
         Ok(Answer::Segments(ListOf::new(segments)))
     }
 
-    /// The load waits for its pages.
-    fn wait(
-        &mut self,
-        alloc: Global,
-        map: u32,
-        header: Header,
-        have: u32,
-        need: u32,
-    ) -> Result<Answer, AllocError>
-        ensures { IfOk result (λ a. given self.new a ≡ record {
-          lane = loads.staged map (headed header) (state.Waiting (ideal self.old).place need) (ideal self.old);
-          answer = Answer.InProgress have need;
-        }) }
-    {
-        let load_at = self.place;
-        self.stage(alloc, map, header, PlainStage::Waiting { load_at, need })?;
-        Ok(Answer::InProgress { have, need })
-    }
-
     /// A load of chunks that wanted pages, by the reply.
     fn granted(
         &mut self,
@@ -284,7 +264,7 @@ impl PlainLane<'_> {
                 let pages = page_addresses(alloc, pages.as_slice())?;
                 self.finish(alloc, map, header, self.place, asked, chunks, &pages)
             }
-            HubReply::Queued(have) => self.wait(alloc, map, header, *have, need(chunks)?),
+            HubReply::Queued(have) => self.wait(alloc, map, header, asked, chunks, *have),
             _ => self.end(alloc, map, header, Errno::ENOMEM),
         }
     }

@@ -118,7 +118,7 @@ impl<'s> PlainLane<'s> {
         ensures { result ≡ turns.is_waiting (get (ideal self.now).maps map) }
     {
         match self.maps.get(map) {
-            Some(held) => matches!(held.stage, PlainStage::Waiting { .. }),
+            Some(held) => matches!(held.stage, PlainStage::Waiting(_)),
             None => false,
         }
     }

@@ -10,7 +10,7 @@ ghost use Rattle.plain_lane.specs.Ideal.{given, ideal};
 ghost use Rattle.plain_lane.specs.Stages.{stage_of};
 ghost use Rattle.plain_lane.specs.Turning.{IsStep, turned};
 
-use crate::items::same_items;
+use crate::items::same_queue;
 use crate::lane::{PlainLane, PlainMap, PlainReturn, PlainStage};
 use crate::lists::addresses;
 use crate::unloads::after_return;
@@ -175,34 +175,17 @@ impl PlainLane<'_> {
         ensures { let l = ideal self.old in IfOk result (λ t.
             Gives (turned self.new t) ≡ turns.transfer_turn l.queue l) }
     {
-        let queue = same_items(alloc, &self.queue)?;
+        let queue = same_queue(alloc, &self.queue)?;
         let Some((first, rest)) = queue.split_first() else {
             return Ok(PlainTurn::Blocked);
         };
         let answer = self.transfer(alloc, &first.item)?;
-        self.queue = same_items(alloc, rest)?;
+        self.queue = same_queue(alloc, rest)?;
         let did = Did::Item {
             load_at: first.load_at,
             place: first.place,
         };
         Ok(self.stepped(Side::Transfer, did, answer))
-    }
-
-    /// The load of a map has its pages, where it waits for them.
-    fn called(&mut self, alloc: Global, map: u32, pages: &[u64]) -> Result<Answer, AllocError>
-        ensures { let l = ideal self.old in IfOk result (λ a. given self.new a
-            ≡ turns.called map (get l.maps map) pages.now l) }
-    {
-        let Some(held) = self.maps.get(map) else {
-            return Ok(Answer::Done);
-        };
-        let PlainStage::Waiting { load_at, .. } = held.stage else {
-            return Ok(Answer::Done);
-        };
-        let header = held.header();
-        let asked = self.asked_at(alloc, load_at)?;
-        let chunks = self.chunks_for(alloc, header, map, &asked.entries)?;
-        self.finish(alloc, map, header, load_at, &asked, &chunks, pages)
     }
 
     /// The turn of the callbacks, with this reply to its call.

@@ -5,7 +5,7 @@ ghost use Rattle.busdma_base.specs.Scenarios.Valid.{IsValid};
 
 use crate::tests::forms::{Form, is_of};
 use crate::tests::plain_machine::PlainMachine;
-use busdma_base::{Actor, Scenario, ZoneId};
+use busdma_base::{Actor, JournalEntry, Scenario, ZoneId};
 use lane_core::Turn;
 use plain_lane::PlainTurn;
 use report_text::entry_line;
@@ -47,27 +47,26 @@ struct Beside<'s> {
 }
 
 impl Beside<'_> {
-    /// What a turn of the world did.
-    fn told(&self, alloc: Global, turn: &Turn) -> Result<Told, Fail> {
-        match turn {
-            Turn::Stepped { entry, held } => {
-                let line = entry_line(alloc, self.scenario, self.steps, entry)?;
-                let line = String::from_str(alloc, str::from_utf8(line.as_slice())?)?;
-                Ok(Told::Line(line, *held))
-            }
+    /// The line of a step.
+    fn line(&self, alloc: Global, entry: &JournalEntry) -> Result<String, Fail> {
+        let line = entry_line(alloc, self.scenario, self.steps, entry)?;
+        Ok(String::from_str(alloc, str::from_utf8(line.as_slice())?)?)
+    }
+
+    /// What the turn of an actor does in the world.
+    fn world_turn(&mut self, alloc: Global, actor: Actor) -> Result<Told, Fail> {
+        match self.world.step(alloc, actor)? {
+            Turn::Stepped { entry, held } => Ok(Told::Line(self.line(alloc, &entry)?, held)),
             Turn::Blocked => Ok(Told::Blocked),
             Turn::Ended => Ok(Told::Ended),
         }
     }
 
-    /// What a turn of the plain machine did.
-    fn told_plainly(&self, alloc: Global, turn: &PlainTurn, held: bool) -> Result<Told, Fail> {
+    /// What it does in the plain machine.
+    fn plain_turn(&mut self, alloc: Global, actor: Actor) -> Result<Told, Fail> {
+        let (turn, held) = self.plain.step(alloc, actor)?;
         match turn {
-            PlainTurn::Stepped(entry) => {
-                let line = entry_line(alloc, self.scenario, self.steps, entry)?;
-                let line = String::from_str(alloc, str::from_utf8(line.as_slice())?)?;
-                Ok(Told::Line(line, held))
-            }
+            PlainTurn::Stepped(entry) => Ok(Told::Line(self.line(alloc, &entry)?, held)),
             PlainTurn::Blocked => Ok(Told::Blocked),
             PlainTurn::Ended => Ok(Told::Ended),
         }
@@ -82,10 +81,8 @@ impl Beside<'_> {
         text: &str,
         missing: &mut Vec<Form>,
     ) -> Result<(), Fail> {
-        let turn = self.world.step(alloc, actor)?;
-        let told = self.told(alloc, &turn)?;
-        let (turn, held) = self.plain.step(alloc, actor)?;
-        let want = self.told_plainly(alloc, &turn, held)?;
+        let told = self.world_turn(alloc, actor)?;
+        let want = self.plain_turn(alloc, actor)?;
         assert_eq!(rt; told, want, "{text}");
         if let Told::Line(line, _) = &want {
             self.steps = self.steps.saturating_add(1);

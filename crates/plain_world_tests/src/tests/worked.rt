@@ -1,4 +1,4 @@
-//! Runs of two drivers on the plain machine alone; the reports are worked out by hand.
+//! Runs on the plain machine alone; the reports are worked out by hand.
 
 use crate::tests::beside::read;
 use crate::tests::plain_machine::PlainMachine;
@@ -175,11 +175,77 @@ hw.busdma.zone0.alignment: 4096
 end stuck, 5 entries, 0 reports
 "#;
 
+const COHERENT_MEMORY: &str = r#"{"frames": [["0x10", 8], ["0x1000", 16]],
+ "drivers": [
+  {"pages": [], "script": [
+    {"op": "tag", "name": "g", "maxsize": 4096},
+    {"op": "dmamem", "name": "q", "tag": "g", "flags": ["ZERO", "COHERENT"]},
+    {"op": "load", "map": "q", "mem": "q", "len": 64, "then": [
+      {"op": "dev_read", "map": "q", "off": 0, "len": 2},
+      {"op": "dev_write", "map": "q", "off": 2, "hex": "7e7f"},
+      {"op": "sync", "map": "q", "ops": ["PREREAD"]}]},
+    {"op": "await", "map": "q"},
+    {"op": "cpu_read", "mem": "q", "off": 1, "len": 3},
+    {"op": "unload", "map": "q"},
+    {"op": "cpu_read", "mem": "q", "off": 2, "len": 1},
+    {"op": "dmamem_free", "mem": "q"},
+    {"op": "cpu_read", "mem": "q", "off": 0, "len": 1},
+    {"op": "load", "map": "q", "mem": "q", "len": 64}]}]}"#;
+
+const COHERENT_MEMORY_REPORT: &str = r#"0 s0 tag g -> ok
+1 s0 dmamem q -> ok 0x10000
+2 s0 load q -> ok 0x10000+64
+3 d0 dev_read q -> bytes 0000
+4 d0 dev_write q -> ok
+5 d0 sync q -> ok
+6 s0 await q -> ok
+7 s0 cpu_read -> bytes 007e7f
+8 s0 unload q -> ok
+9 s0 cpu_read -> bytes 7e
+10 s0 dmamem_free q -> ok
+11 s0 cpu_read -> report Absent 0
+12 s0 load q -> report Absent 0
+end finished, 13 entries, 2 reports
+"#;
+
+const MEMORY_THAT_LENDS: &str = r#"{"frames": [["0x10", 8], ["0x1000", 16]],
+ "drivers": [
+  {"pages": [], "script": [
+    {"op": "tag", "name": "g", "maxsize": 4096},
+    {"op": "dmamem", "name": "q", "tag": "g"},
+    {"op": "cpu_read", "mem": "q", "off": 1, "len": 1},
+    {"op": "cpu_write", "mem": "q", "off": 0, "hex": "0a0b"},
+    {"op": "load", "map": "q", "va": "0xfffff80000010001", "len": 2},
+    {"op": "load", "map": "q", "mem": "q", "len": 4097},
+    {"op": "load", "map": "q", "mem": "q", "len": 2, "then": [
+      {"op": "dev_read", "map": "q", "off": 0, "len": 1},
+      {"op": "sync", "map": "q", "ops": ["PREWRITE"]},
+      {"op": "dev_read", "map": "q", "off": 0, "len": 2}]},
+    {"op": "await", "map": "q"},
+    {"op": "cpu_write", "mem": "q", "off": 0, "hex": "ff"}]}]}"#;
+
+const MEMORY_THAT_LENDS_REPORT: &str = r#"0 s0 tag g -> ok
+1 s0 dmamem q -> ok 0x10000
+2 s0 cpu_read -> report StaleByte 0
+3 s0 cpu_write -> ok
+4 s0 load q -> report ForeignMemory 0
+5 s0 load q -> report Unmapped 4096
+6 s0 load q -> ok 0x10000+2
+7 d0 dev_read q -> report DeviceReadUnlent 0
+8 d0 sync q -> ok
+9 d0 dev_read q -> bytes 0a0b
+10 s0 await q -> ok
+11 s0 cpu_write -> report CpuWriteLent 0
+end finished, 12 entries, 5 reports
+"#;
+
 #[test]
 fn worked(rt: HostRuntime) -> Result<(), Fail> {
     let table = [
         (DEFERRED_AND_SERVED, DEFERRED_AND_SERVED_REPORT),
         (STUCK_BESIDE_AN_END, STUCK_BESIDE_AN_END_REPORT),
+        (COHERENT_MEMORY, COHERENT_MEMORY_REPORT),
+        (MEMORY_THAT_LENDS, MEMORY_THAT_LENDS_REPORT),
     ];
     for (text, want) in table.iter() {
         let scenario = read(&rt, rt.alloc(), text)?;
