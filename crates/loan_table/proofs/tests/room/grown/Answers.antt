@@ -18,11 +18,6 @@ prepare_map-requires-clause-fresh g c =
     ap (λ (loans : Loans). is_some (get loans c.id-map.result.made_at)) (c.add_bytes.ensures.loans
     ∙ c.new-table.ensures.loans) ∙ ap is_some (get-empty nat_cmp c.id-map.result.made_at)
 
-pub prepare_map-requires-clause-unprepared : goal.prepare_map-requires-clause-unprepared
-prepare_map-requires-clause-unprepared g c =
-    ap (λ (loans : Loans). is_some (get loans c.id-map.result.made_at)) (c.add_bytes.ensures.prepared
-    ∙ c.new-table.ensures.prepared) ∙ ap is_some (get-empty nat_cmp c.id-map.result.made_at)
-
 pub prepare_map-requires-clause-there : goal.prepare_map-requires-clause-there
 prepare_map-requires-clause-there g c =
     subst (λ bytes. AreIn bytes (run_of 4096 8)) (sym c.in_ok-add_bytes.ensures.bytes)
@@ -30,8 +25,8 @@ prepare_map-requires-clause-there g c =
 
 pub drop_prepared-requires : goal.drop_prepared-requires
 drop_prepared-requires g c =
-    subst (λ (loans : Loans). IsSome (get loans c.id-map.result.made_at)) (sym c.in_ok-prepare_map.ensures.prepared)
-    (put_there _ _ _)
+    ap (λ (loans : Loans). is_some (get loans c.id-map.result.made_at)) (c.prepare_map.ensures.loans
+    ∙ c.add_bytes.ensures.loans ∙ c.new-table.ensures.loans) ∙ ap is_some (get-empty nat_cmp c.id-map.result.made_at)
 
 pub add_reserved-requires-clause-fresh : goal.add_reserved-requires-clause-fresh
 add_reserved-requires-clause-fresh g c =
