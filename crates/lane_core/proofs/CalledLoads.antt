@@ -1,6 +1,6 @@
 -- How the load of a map ends that waited, from where its map is idle.
-use Rattle.std.proofs.Common.{◌≡◌, ℕ, ◌≤◌, true, if◌then◌else◌, List, length, Some}
-use Rattle.std.proofs.Common.{ap, ◌∙◌, arith, nat_le}
+use Rattle.std.proofs.Common.{◌≡◌, ℕ, ◌≤◌, Bool, true, false, cond, if◌then◌else◌, List, length, Some}
+use Rattle.std.proofs.Common.{refl, ap, ◌∙◌, arith, nat_le}
 use Rattle.std.specs.FinMap.{get, insert}
 use Rattle.busdma_base.specs.declared.journals.answer.Answer.TheVariants.{Segments, Refused}
 use Rattle.busdma_machine.specs.declared.report.Errno.TheVariants.{EFBIG}
@@ -13,6 +13,7 @@ use Rattle.segment_build.specs.Chunks.{bounced_of}
 use Rattle.segment_build.specs.Segmentation.{segmentation}
 use Rattle.ideal_lane.specs.Ahead.{awaited_items, items_ahead}
 use Rattle.ideal_lane.specs.Loads.{Asked, emptied, finished, limits_of, loaded, unpaged}
+use Rattle.ideal_lane.specs.Outcomes.{Outcome}
 use Rattle.ideal_lane.specs.State.{Idle, LaneMap, LaneState, Loaded, Waiting, WaitingLoad}
 use Rattle.ideal_lane.specs.Turns.{called, called_at, called_in}
 use Rattle.ideal_lane.proofs.Weights.{weigh-put}
@@ -42,6 +43,21 @@ module _ (l : LaneState) (m : ℕ) (o : LaneMap) where
         };
         answer = Refused EFBIG;
       }
+
+  -- its script is the same
+  pub finished-script : (at : ℕ) (x : Asked) (chunks : List Chunk) (pages : List ℕ) →
+      (finished m o at x chunks pages l).lane.script ≡ l.script
+  finished-script at x chunks pages =
+      let t : TagLimits = limits_of l o in
+      let segments : List Segment = segmentation t (placed_pieces t chunks (as_pages pages)) in
+      by (nat_le (length segments) t.nsegments)
+      (record { lane = loaded m o at x (tag_placed t chunks (as_pages pages)) segments pages l; answer = Segments segments })
+      (record { lane = unpaged m o pages l; answer = Refused EFBIG }) refl refl
+    where
+      by : (b : Bool) (p q : Outcome) → p.lane.script ≡ l.script → q.lane.script ≡ l.script →
+          (cond b p q).lane.script ≡ l.script
+      by true p q here there = here
+      by false p q here there = there
 
   -- a map that waits is called back
   pub called-is : (w : WaitingLoad) (pages : List ℕ) → get l.maps m ≡ Some o → o.stage ≡ Waiting w →

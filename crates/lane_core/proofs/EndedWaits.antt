@@ -18,7 +18,8 @@ use Rattle.ideal_lane.specs.State.{LaneMap, LaneState, Waiting, WaitingLoad}
 use Rattle.ideal_lane.specs.Turns.{called}
 use Rattle.lane_core.specs.declared.holdings.Holdings.{Holdings}
 use Rattle.lane_core.specs.declared.kept.KeptMap.{KeptMap}
-use Rattle.lane_core.specs.Awaiting.{AreAwaiting, AreAwaitingBut, HasSmallLoads, IsAwaiting, bytes_ahead, kept_load}
+use Rattle.lane_core.specs.Awaiting.{kept_load}
+use Rattle.lane_core.specs.SmallLoads.{HasSmallLoads, bytes_ahead}
 use Rattle.lane_core.specs.Changes.{KeepsButMaps, KeepsBytesBut}
 use Rattle.lane_core.specs.Covered.{is_idle_map, pages_due}
 use Rattle.lane_core.specs.Ideal.{given, ideal_of}
@@ -26,12 +27,11 @@ use Rattle.lane_core.specs.Kept.{map_of, memory_of, stage_of, waits_of}
 use Rattle.lane_core.specs.Loading.{AreItsFirst, HasRoomForAny, IsLoadable, bio_chunks, bio_of, bio_reached}
 use Rattle.lane_core.specs.Loading.{load_loan, map_chunks}
 use Rattle.lane_core.proofs.Asked.{plain-chunks}
-use Rattle.lane_core.proofs.AwaitingLoads.{StaysBut, awaiting-but, awaiting-others, put-stays, stays-finished}
+use Rattle.lane_core.proofs.AwaitedLoads.{IsAwaited, waits-with}
 use Rattle.lane_core.proofs.Called.{KeepsLoad, load-kept}
-use Rattle.lane_core.proofs.CalledLoads.{called-is, finished-free, items-within}
-use Rattle.lane_core.proofs.MapValues.{image-none}
+use Rattle.lane_core.proofs.CalledLoads.{called-is, finished-free, finished-script, items-within}
 use Rattle.lane_core.proofs.Returned.{idled}
-use Rattle.lane_core.proofs.TakenLoads.{put-other, taken, taken-bytes, taken-ideal, taken-idle, taken-promised}
+use Rattle.lane_core.proofs.TakenLoads.{taken, taken-bytes, taken-ideal, taken-idle, taken-promised}
 use Rattle.lane_core.proofs.TakenLoads.{taken-stands, taken-there}
 use Rattle.lane_core.proofs.TakenLoads as freed
 
@@ -85,20 +85,9 @@ module _ (h k : Holdings) (m at : ℕ) (callback : KeptLoad) (room : LoadRoom)
       let same = taken-bytes h k m o kept.1 load (maps o kept.1) rest in
       record { own = bytes.own ∙ same.own; pages = λ q off. bytes.pages q off ∙ same.pages q }
 
-  pub ends-others : AreAwaiting h → AreAwaitingBut m k
-  ends-others awaiting =
-      awaiting-others h k m (record {
-        stays = subst (StaysBut m l) (sym now)
-            (put-stays m idle l (taken h k m o kept.1 load (maps o kept.1) rest)
-            (record { script = refl; maxmem = refl; pages = refl; tags = refl; mems = refl }) refl);
-        kept = λ q off. ap (λ ms. kept_load (get ms q)) (maps o kept.1)
-            ∙ ap kept_load (put-other h.maps.map m q (idled o) off);
-        prepared = λ q off. ap (λ t. get t.prepared q) rest.most.loans;
-      }) (awaiting-but h m awaiting)
-
-  module _ (awaiting : AreAwaiting h) where
-    abbrev is : IsAwaiting h m callback room
-    is = awaiting.each m at callback room found
+  module _ (stands : Stands l) where
+    abbrev is : IsAwaited h m callback room
+    is = waits-with h stands m at callback room found
 
     pub ends-items : items_ahead l ≤ h.agenda.room → length callback.items ≤ k.agenda.room
     ends-items few =
@@ -108,7 +97,7 @@ module _ (h k : Holdings) (m at : ℕ) (callback : KeptLoad) (room : LoadRoom)
 
     -- the map is not a memory's
     none : get (ideal_of k).mems m ≡ None
-    none = ap (λ (y : LaneState). get y.mems m) now ∙ image-none memory_of h.memories.map m is.own
+    none = ap (λ (y : LaneState). get y.mems m) now ∙ is.own
 
     abbrev bio : Bio
     bio = bio_of callback.bytes
@@ -144,7 +133,7 @@ module _ (h k : Holdings) (m at : ℕ) (callback : KeptLoad) (room : LoadRoom)
       asks = asked m bio false callback.items l
 
       no-memory : contains_key l.mems m ≡ false
-      no-memory = ap is_some (image-none memory_of h.memories.map m is.own)
+      no-memory = ap is_some is.own
 
       ended : given n a ≡ finished m (map_of o) at asks
           (chunks_for l (map_of o) (contains_key l.mems m) asks.entries) pages l
@@ -163,9 +152,8 @@ module _ (h k : Holdings) (m at : ℕ) (callback : KeptLoad) (room : LoadRoom)
           HasSmallLoads n
       ends-few small same less =
           let chunks = chunks_for l (map_of o) (contains_key l.mems m) asks.entries in
-          let stays =
-          stays-finished m (map_of o) at asks chunks pages l (ideal_of n) (ap (λ (x : Outcome). x.lane) ended) in
-          let script : n.script.now ≡ h.script.now = stays.rest.script in
+          let script : n.script.now ≡ h.script.now =
+          ap (λ (x : Outcome). x.lane.script) ended ∙ finished-script l m (map_of o) at asks chunks pages in
           let place : n.agenda.place ≡ h.agenda.place = same ∙ ap (λ a. a.place) rest.agenda in
           let promised : k.agenda.promised ≡ h.agenda.promised = ap (λ a. a.promised) rest.agenda in
           let ahead : bytes_ahead n.agenda.place n.script.now ≡ bytes_ahead h.agenda.place h.script.now =

@@ -52,6 +52,11 @@ pub idle-there : (o : Option KeptMap) → is_idle_map o ≡ true → (x : KeptMa
 idle-there None h = absurd (cc)
 idle-there (Some x) h = (x, refl, idle-map x h)
 
+-- it is not loaded
+pub idle-unloaded : (o : Option KeptMap) → is_idle_map o ≡ true → has_load o ≡ false
+idle-unloaded None h = absurd (cc)
+idle-unloaded (Some x) h = (idle-map x h).unloaded
+
 -- what is told of what is there
 pub told-none : {X Y : Type 0} (f : X → Y) (o : Option X) → option_map f o ≡ None → o ≡ None
 told-none f None h = refl

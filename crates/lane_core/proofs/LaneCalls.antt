@@ -30,16 +30,14 @@ use Rattle.ideal_wire.proofs.Calls.{cpu_write-faithful, dev_write-faithful, sync
 use Rattle.ideal_wire.proofs.StillLaid.{touches-laid}
 use Rattle.ideal_wire.proofs.Wiring.{own-forgotten, own-written, cpu_read-reads as reads}
 use Rattle.lane_core.specs.declared.holdings.Holdings.{Holdings}
-use Rattle.lane_core.specs.Awaiting.{AreAwaiting}
 use Rattle.lane_core.specs.Calls.{unless_foreign, wire_unless_foreign}
 use Rattle.lane_core.specs.Changes.{KeepsState}
 use Rattle.lane_core.specs.Ideal.{given, ideal_of}
-use Rattle.lane_core.specs.Provided.{IsProvided}
+use Rattle.lane_core.specs.SmallLoads.{HasSmallLoads}
 use Rattle.lane_core.specs.Wire.{IsWired, wire_of}
 use Rattle.lane_core.proofs.KeepsWired.{kept-wired}
-use Rattle.lane_core.proofs.OneProvided.{provided-of}
 use Rattle.lane_core.proofs.OneStanding.{stands-of}
-use Rattle.lane_core.proofs.Providing.{provided-same}
+use Rattle.lane_core.proofs.SmallLoads.{small-same}
 use Rattle.busdma_base.specs.declared.scenarios.script.Bytes.TheVariants as bytes
 use Rattle.busdma_base.specs.declared.scenarios.script.Item.TheVariants as item
 use Rattle.busdma_base.specs.declared.scenarios.script.Op.TheVariants as op
@@ -193,14 +191,12 @@ module _ {E : Type 0} (h k : Holdings) (wired : IsWired h) where
 pub record IsLane (h : Holdings) : Type 0 where
   pub wired : IsWired h
   pub stands : ∥ Stands (ideal_of h) ∥₁
-  pub provided : ∥ IsProvided h ∥₁
+  pub small : HasSmallLoads h
   pub length : h.agenda.length ≡ length h.script.now
   pub room : items_ahead (ideal_of h) ≤ h.agenda.room
 
-pub called-lane : (h k : Holdings) → IsLane h → IsCalledOn h k → (AreAwaiting h → AreAwaiting k) →
-    k.script ≡ h.script → k.agenda ≡ h.agenda → IsLane k
-called-lane h k lane on awaiting script agenda =
-    let provided = provided-of h lane.provided in
+pub called-lane : (h k : Holdings) → IsLane h → IsCalledOn h k → k.script ≡ h.script → k.agenda ≡ h.agenda → IsLane k
+called-lane h k lane on script agenda =
     let ahead = on.ahead in
     let room = lane.room in
     let same : k.agenda.room ≡ h.agenda.room = ap (λ a. a.room) agenda in
@@ -208,8 +204,7 @@ called-lane h k lane on awaiting script agenda =
     record {
       wired = on.wired;
       stands = ∣ on.stands (stands-of (ideal_of h) lane.stands) ∣₁;
-      provided = ∣ provided-same h k provided (awaiting provided.awaiting) (ap (λ s. s.now) script)
-          (ap (λ a. a.place) agenda) (omega (arith, promised)) ∣₁;
+      small = small-same h k lane.small (ap (λ s. s.now) script) (ap (λ a. a.place) agenda) (omega (arith, promised));
       length = ap (λ a. a.length) agenda ∙ lane.length ∙ sym (ap (λ s. length s.now) script);
       room = omega (arith, ahead, room, same);
     }

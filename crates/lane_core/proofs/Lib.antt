@@ -1,10 +1,8 @@
 mod AfterTurn
 mod Asked
+mod AwaitedLoads
 mod AwaitedMaps
-mod AwaitingLoads
-mod AwaitingMemories
-mod AwaitingStays
-mod AwaitingSteps
+mod Awaiting
 mod Bouncing
 mod Bytes
 mod CallbackTurns
@@ -46,11 +44,11 @@ mod MarkedMemory
 mod Marks
 mod MemorySteps
 mod Nowhere
-mod OneProvided
+mod OfMaps
 mod OneStanding
 mod OpeningLane
 mod OpeningPages
-mod OpensProvided
+mod OpensSmall
 mod OpensWired
 mod OperationSteps
 mod OwnLoads

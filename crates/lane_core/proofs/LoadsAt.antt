@@ -24,7 +24,7 @@ use Rattle.ideal_lane.specs.State.{LaneState}
 use Rattle.ideal_lane.specs.Turns.{bio_at, flat_bio}
 use Rattle.ideal_wire.specs.Machine.{IsInMachine, IsOfMachine}
 use Rattle.lane_core.specs.declared.holdings.Holdings.{Holdings}
-use Rattle.lane_core.specs.Awaiting.{HasSmallLoads}
+use Rattle.lane_core.specs.SmallLoads.{HasSmallLoads}
 use Rattle.lane_core.specs.Ideal.{ideal_of}
 use Rattle.lane_core.specs.Loading.{IsLoadable, bio_bytes}
 

@@ -7,18 +7,16 @@ use Rattle.std.specs.List.{All, AllByRecursion, list_any}
 use Rattle.std.specs.Option.{option_map}
 use Rattle.std.specs.Ordering.{nat_cmp}
 use Rattle.std.specs.FinMap.{FinMap, contains_key, entries, get, remove}
-use Rattle.std.proofs.lemmas.Bool.{false≢true}
+use Rattle.std.proofs.lemmas.Bool.{eq-eqb, false≢true}
 use Rattle.std.proofs.lemmas.Option.{slice_get-get_or}
 use Rattle.busdma_machine.specs.Bounce.MemoryRuns.{in_run}
 use Rattle.busdma_machine.specs.Machine.VirtualPages.{pages_end}
 use Rattle.busdma_base.specs.Scenarios.PageRuns.{is_own, physical_in}
 use Rattle.busdma_base.specs.Scenarios.PageRuns as pages
 use Rattle.busdma_machine.specs.Runs.{run_of}
-use Rattle.lane_core.specs.declared.kept.KeptLoad.{KeptLoad}
-use Rattle.dma_map.specs.declared.room.LoadRoom.{LoadRoom}
 use Rattle.dmamem.specs.Memory.{virtual_of}
 use Rattle.loan_table.specs.declared.position.Position.{Position}
-use Rattle.loan_table.specs.Loans.{Loan, loan_of, no_loan, unlent}
+use Rattle.loan_table.specs.Loans.{Loan, loan_of, no_loan}
 use Rattle.loan_table.specs.Table.{AreFree, AreIn, is_among, without}
 use Rattle.memory_pages.specs.Placed.{AreAtTheirFrames, Goes, HasFrames, is_page, row_of}
 use Rattle.memory_pages.proofs.Going.{left_placed}
@@ -27,7 +25,6 @@ use Rattle.phys_memory.specs.declared.reach.Reach.{Reach}
 use Rattle.phys_memory.specs.Memory.{Memory, has_frame, physical, wire}
 use Rattle.ideal_lane.specs.IdealMemory.{Known, parted}
 use Rattle.ideal_lane.specs.Places.{is_in_memory, physical_of}
-use Rattle.ideal_lane.specs.Standing.{Stands}
 use Rattle.ideal_lane.specs.State.{LaneMemory, LaneState}
 use Rattle.ideal_lane.proofs.Lookups.{get_cut}
 use Rattle.ideal_wire.specs.Centre.{IsAt}
@@ -39,13 +36,12 @@ use Rattle.ideal_wire.proofs.Placing.{load-of}
 use Rattle.ideal_wire.proofs.SyncedPositions.{decided}
 use Rattle.lane_core.specs.declared.holdings.Holdings.{Holdings}
 use Rattle.lane_core.specs.declared.kept.KeptMemory.{KeptMemory}
-use Rattle.lane_core.specs.Awaiting.{AreAwaiting, kept_load}
+use Rattle.lane_core.specs.Awaiting.{is_of_map}
 use Rattle.lane_core.specs.Covered.{AreStanding, HasFramesOf, IsCovered, Reaches, is_idle_map, reached_in}
 use Rattle.lane_core.specs.Held.{byte_among, content_of, devices_of, held}
 use Rattle.lane_core.specs.Ideal.{ideal_of}
 use Rattle.lane_core.specs.Kept.{map_of, memory_of}
 use Rattle.lane_core.specs.Wire.{IsWired}
-use Rattle.lane_core.proofs.AwaitingMemories.{awaited-pages}
 use Rattle.lane_core.proofs.Devices.{own-frame}
 use Rattle.lane_core.proofs.Keeping.{idle-stands}
 use Rattle.lane_core.proofs.MapValues.{image-some}
@@ -77,13 +73,6 @@ in-table m p (suc n) h =
 among-any : (a : ℕ) (bs : List ℕ) → is_among a bs ≡ list_any (λ k. a == k) bs
 among-any a [] = refl
 among-any a (b ∷ bs) = ap (λ t. (a == b) || t) (among-any a bs)
-
--- what is true of each byte is true of each position that lends none
-of-unlent : (P : ℕ → Type 0) (bs : List ℕ) → AllByRecursion P bs → (i : ℕ) (d : Position) → i < length (unlent bs) →
-    P (get_or (unlent bs) i d).pa
-of-unlent P [] h i d inside = absurd (omega arith)
-of-unlent P (a ∷ bs) h zero d inside = h.0
-of-unlent P (a ∷ bs) h (suc i) d inside = of-unlent P bs h.1 i d (omega arith)
 
 module _ (h : Holdings) (wired : IsWired h) (mem : ℕ) (x : KeptMemory) (there : get h.memories.map mem ≡ Some x) where
   abbrev l : LaneState
@@ -180,33 +169,32 @@ module _ (h : Holdings) (wired : IsWired h) (mem : ℕ) (x : KeptMemory) (there 
         among-any p.pa (run_of first (4096 * n)) ∙ among_run first (4096 * n) p.pa
         ∙ position-out k i p (slice_get-get_or (loan_of h.loans.loans k).positions i d inside)
 
-    -- nor one that is prepared
-    pub part-unprepared : Stands l → AreAwaiting h → AreFree h.loans.prepared (run_of first (4096 * n))
-    part-unprepared stands are k = by (kept_load (get h.maps.map k)) refl
-      where
-        bytes : List ℕ
-        bytes = run_of first (4096 * n)
+  -- no loan that is prepared for another map has one either
+  pub part-unprepared : AreFree (remove h.loans.prepared mem) (run_of first (4096 * n))
+  part-unprepared k = subst Free (sym (get_cut h.loans.prepared mem k)) (by (k == mem) refl)
+    where
+      bytes : List ℕ
+      bytes = run_of first (4096 * n)
 
-        none-free : (o : Loan) → o ≡ no_loan → All (λ p. is_among p.pa bytes ≡ false) o.positions
-        none-free o e =
-            subst (λ (z : Loan). All (λ p. is_among p.pa bytes ≡ false) z.positions) (sym e)
-            (λ i d inside. absurd (omega arith))
+      Free : Option Loan → Type 0
+      Free o = All (λ p. is_among p.pa bytes ≡ false) (unwrap_or o no_loan).positions
 
-        by : (o : Option (ℕ × KeptLoad × LoadRoom)) → kept_load (get h.maps.map k) ≡ o →
-            All (λ p. is_among p.pa bytes ≡ false) (loan_of h.loans.prepared k).positions
-        by None e = none-free (loan_of h.loans.prepared k) (ap (λ o. unwrap_or o no_loan) (are.prepared k e))
-        by (Some load) e =
-            let was = are.each k load.0 load.1 load.2 e in
-            subst (λ (z : Loan). All (λ p. is_among p.pa bytes ≡ false) z.positions)
-            (sym (ap (λ o. unwrap_or o no_loan) was.prepared)) (λ i d inside.
-            of-unlent (λ a. is_among a bytes ≡ false) _ (all-out _
-            (awaited-pages h stands wired k load.0 load.1 load.2 e was)) i d inside)
-          where
-            all-out : (bs : List ℕ) → AllByRecursion (λ a. is_own l.pages a ≡ true) bs →
-                AllByRecursion (λ a. is_among a bytes ≡ false) bs
-            all-out [] t = tt
-            all-out (a ∷ bs) t =
-                (among-any a bytes ∙ among_run first (4096 * n) a ∙ page-out a t.0, all-out bs t.1)
+      out : (a : ℕ) → k ≢ mem → (o : Option KeptMemory) → get h.memories.map k ≡ o → is_of_map h.pages.now o a ≡ true →
+          in_run first n a ≡ false
+      out a ne None e of = page-out a of
+      out a ne (Some y) e of = either (is_own h.pages.now a) refl of
+        where
+          either : (b : Bool) → is_own h.pages.now a ≡ b → (b || in_run y.first.0 y.count a) ≡ true →
+              in_run first n a ≡ false
+          either true own of = page-out a own
+          either false own of = other-out k a y ne e of
+
+      by : (b : Bool) → (k == mem) ≡ b → Free (cond b None (get h.loans.prepared k))
+      by true e = λ i d inside. absurd (omega arith)
+      by false e = λ i d inside.
+          let p : Position = get_or (loan_of h.loans.prepared k).positions i d in
+          among-any p.pa bytes ∙ among_run first (4096 * n) p.pa
+          ∙ out p.pa (λ same. false≢true (sym e ∙ eq-eqb k mem same)) (get h.memories.map k) refl (h.ready k i d inside)
 
   -- ---- what is left
 

@@ -1,11 +1,9 @@
--- A driver is provided for its next turn after one that was made.
-use Rattle.std.proofs.Common.{◌≡◌, ◌+◌, ◌≤◌, false, Some, Result, Ok, Err, IfOk, OnOk, OnErr, length, slice_get}
+-- What a turn that was made, or for which memory was wanting, leaves a driver with.
+use Rattle.std.proofs.Common.{◌≡◌, ◌+◌, ◌≤◌, false, Result, Ok, Err, IfOk, OnOk, OnErr, length}
 use Rattle.std.proofs.Common.{refl, sym, ap, ◌∙◌, subst, arith}
 use Rattle.busdma_base.specs.declared.journals.journal.Side.{Side}
 use Rattle.busdma_base.specs.declared.journals.journal.Side.TheVariants as side
-use Rattle.busdma_base.specs.declared.scenarios.script.Op.{Op}
 use Rattle.busdma_machine.specs.Bounce.Door.{Seen}
-use Rattle.busdma_base.specs.Scenarios.Operations.{loaded_by}
 use Rattle.ideal_lane.specs.Asking.{Gives}
 use Rattle.ideal_lane.specs.Turns.{lane_step}
 use Rattle.ideal_wire.specs.Apart.{IsApart}
@@ -14,16 +12,13 @@ use Rattle.ideal_wire.specs.WireStep.{Follows}
 use Rattle.ideal_wire.specs.WireStep as wires
 use Rattle.lane_core.specs.declared.holdings.Holdings.{Holdings}
 use Rattle.lane_core.specs.declared.turn.Turn.{Turn}
-use Rattle.lane_core.specs.Awaiting.{AreAwaiting}
 use Rattle.lane_core.specs.Changes.{Becomes, KeepsState}
 use Rattle.lane_core.specs.Doing.{IsUndone}
 use Rattle.lane_core.specs.Ideal.{ideal_of}
-use Rattle.lane_core.specs.Provided.{IsProvided}
 use Rattle.lane_core.specs.Turning.{IsMade, IsReady, IsTurned, is_held, turned}
 use Rattle.lane_core.specs.Wire.{IsWired, wire_of}
 use Rattle.lane_core.proofs.Following.{follows, stays-all}
 use Rattle.lane_core.proofs.MadeTurns.{end-wire, made-ready, wanting-ready}
-use Rattle.lane_core.proofs.SmallLoads.{small-next, small-same}
 use Rattle.lane_core.proofs.TurnEnds.{end-own}
 
 -- a turn that was made keeps the script
@@ -38,18 +33,6 @@ module _ {E : Type 0} (h k n : Holdings) (d e f : Seen) (s : Side) (same : k ≡
   pub made-from : (r : Result Turn E) → IfOk r (IsMade k n e f s) → IfOk r (IsMade h n d f s)
   made-from (Ok t) made = subst (λ (x : Holdings). IsMade x n d f s t) same (subst (λ y. IsMade k n y f s t) seen made)
   made-from (Err x) made = tt
-
-module _ (h k : Holdings) (p : IsProvided h) (awaiting : AreAwaiting k) (script : k.script.now ≡ h.script.now) where
-  -- where no operation was done
-  pub provided-same : k.agenda.place ≡ h.agenda.place → k.agenda.promised ≤ h.agenda.promised → IsProvided k
-  provided-same place promised =
-      record { awaiting = awaiting; small = small-same h k p.small script place promised }
-
-  -- after the next operation
-  pub provided-next : (o : Op) → slice_get h.script.now h.agenda.place ≡ Some o →
-      k.agenda.place ≡ h.agenda.place + 1 → k.agenda.promised ≤ h.agenda.promised + loaded_by o → IsProvided k
-  provided-next o here place promised =
-      record { awaiting = awaiting; small = small-next h p.small o here k script place promised }
 
 -- the turn of the device, which makes no call
 pub transfer-made : (h k : Holdings) (d : Seen) (t : Turn) →

@@ -3,14 +3,12 @@ use Rattle.std.proofs.Common.{◌≡◌, ℕ, Option, is_some, refl, sym, ap, �
 use Rattle.std.specs.FinMap.{get}
 use Rattle.phys_memory.specs.Memory.{wire}
 use Rattle.lane_core.specs.declared.holdings.Holdings.{Holdings}
-use Rattle.lane_core.specs.Awaiting.{AreAwaiting, awaited_by, kept_load}
 use Rattle.lane_core.specs.Changes.{KeepsBesideMemory, KeepsBytes, KeepsState}
 use Rattle.lane_core.specs.Held.{devices_of, held}
 use Rattle.lane_core.specs.Ideal.{ideal_of}
 use Rattle.lane_core.specs.Kept.{map_of, memory_of, return_of, share_of, tag_of}
 use Rattle.lane_core.specs.MapValues.{map_values}
 use Rattle.lane_core.specs.Making.{KeepsButRoom}
-use Rattle.lane_core.proofs.AwaitingStays.{awaiting-stays}
 
 module _ (h k : Holdings) (s : KeepsButRoom h k) where
   pub room-ideal : ideal_of k ≡ ideal_of h
@@ -35,17 +33,6 @@ module _ (h k : Holdings) (s : KeepsButRoom h k) where
 
   pub room-state : KeepsState h k
   room-state = record { ideal = room-ideal; bytes = room-bytes }
-
-  pub room-awaiting : AreAwaiting h → AreAwaiting k
-  room-awaiting =
-      awaiting-stays h k
-      (record { kept = λ m. ap (λ ms. kept_load (get ms m)) s.maps; prepared = s.loans.prepared })
-      (record {
-        pages = s.pages;
-        memories = s.memories;
-        maxmem = s.maxmem;
-        awaited = λ m. (λ i. awaited_by (s.tags i).map (get (s.maps i) m));
-      })
 
 -- bytes beside a memory, and then all bytes
 pub beside-then : (h k n : Holdings) → KeepsBesideMemory h k → KeepsBytes k n →

@@ -11,6 +11,8 @@ use Rattle.phys_memory.specs.contracts.reach.Reach as reach
 use Rattle.phys_memory.specs.Memory.{Memory}
 use Rattle.memory_pages.specs.Placed.{AreAtTheirFrames, IsAtItsFrame}
 use Rattle.lane_core.specs.Covered.{AreLoaded, AreOwn, AreReturning, AreStanding, HasFramesOf, IsCovered, Reaches}
+use Rattle.lane_core.specs.Awaiting.{AreAwaiting, AreOfMaps}
+use Rattle.lane_core.specs.OneAwaiting.{AreAwaiting-prop}
 use Rattle.lane_core.specs.Covered.{is_tried, lends_pages, pages_due}
 
 IsAtItsFrame-prop : (m : Memory) (v : ℕ) (r : Reach) → IsProp (IsAtItsFrame m v r)
@@ -60,4 +62,9 @@ same-all h k s agenda = λ i. record {
       h.returning i;
   tried = is_prop→PathP (λ j. (m : ℕ) → is_tried (get (s.maps j).map m) ≡ true) (λ j. hlevel (props)) k.tried
       h.tried i;
+  awaiting = is_prop→PathP (λ j. AreAwaiting (s.most.pages j).now (s.most.maxmem j) (s.tags j).map (s.maps j).map
+      (s.most.loans j).prepared) (λ j. AreAwaiting-prop (s.most.pages j).now (s.most.maxmem j) (s.tags j).map
+      (s.maps j).map (s.most.loans j).prepared) k.awaiting h.awaiting i;
+  ready = is_prop→PathP (λ j. AreOfMaps (s.most.pages j).now (s.most.memories j).map (s.most.loans j).prepared)
+      (λ j. hlevel (props)) k.ready h.ready i;
 }

@@ -1,81 +1,72 @@
 -- What a load that waits keeps by it until its callback, which takes no memory.
-use Rattle.std.specs.Prelude.{◌≡◌, ℕ, ◌+◌, ◌≤◌, ◌==◌, false, List, Option, Some, None, slice_get, drop}
-use Rattle.std.specs.Prelude.{unwrap_or}
-use Rattle.std.specs.List.{sum_by}
+use Rattle.std.specs.Prelude.{◌≡◌, ℕ, ◌||◌, Bool, true, false, List, Option, Some, None, IfSome, is_some, unwrap_or}
+use Rattle.std.specs.List.{All}
 use Rattle.std.specs.Option.{option_map}
 use Rattle.std.specs.Ordering.{nat_cmp}
 use Rattle.std.specs.FinMap.{FinMap, get}
-use Rattle.busdma_machine.specs.declared.report.Judged.TheVariants.{Fine}
-use Rattle.busdma_base.specs.declared.scenarios.script.Op.{Op}
+use Rattle.busdma_machine.specs.declared.machine.bio.Bio.{Bio}
+use Rattle.busdma_machine.specs.declared.machine.chunk.Entry.{Entry}
 use Rattle.busdma_machine.specs.declared.tags.tag.TagLimits.{TagLimits}
-use Rattle.busdma_base.specs.Scenarios.Limits.{buffer_limit, loaded_limit}
-use Rattle.busdma_base.specs.Scenarios.Operations.{loaded_by}
-use Rattle.lane_core.specs.declared.kept.KeptLoad.{KeptLoad}
+use Rattle.busdma_machine.specs.Bounce.MemoryRuns.{in_run}
+use Rattle.busdma_machine.specs.Machine.Entry.{entries_addresses}
+use Rattle.busdma_machine.specs.Machine.Spans.{bio_spans}
+use Rattle.busdma_base.specs.declared.scenarios.scenario.PageRun.{PageRun}
+use Rattle.busdma_base.specs.Scenarios.PageRuns.{is_own}
 use Rattle.dma_map.specs.declared.room.LoadRoom.{LoadRoom}
 use Rattle.dma_map.specs.MapView.{waiting_load}
-use Rattle.ideal_lane.specs.Loads.{limits_of, no_limits}
-use Rattle.ideal_lane.specs.State.{LaneMap}
-use Rattle.lane_core.specs.declared.holdings.Holdings.{Holdings}
+use Rattle.load_bio.specs.Bio.{is_rounded}
+use Rattle.loan_table.specs.Loans.{Loan, Loans, loan_of, new_loan}
+use Rattle.phys_memory.specs.Vector.{entries_of}
+use Rattle.segment_build.specs.Chunks.{chunks_of}
+use Rattle.ideal_lane.specs.Loads.{no_limits}
+use Rattle.ideal_wire.specs.Laid.{AreInPages, in_pages}
+use Rattle.lane_core.specs.declared.kept.KeptLoad.{KeptLoad}
 use Rattle.lane_core.specs.declared.kept.KeptMap.{KeptMap}
+use Rattle.lane_core.specs.declared.kept.KeptMemory.{KeptMemory}
 use Rattle.lane_core.specs.declared.kept.KeptTag.{KeptTag}
-use Rattle.lane_core.specs.Ideal.{ideal_of}
-use Rattle.lane_core.specs.Loading.{HasRoomForAny, IsLoadable, bio_chunks, bio_of, bio_reached, load_loan}
+use Rattle.lane_core.specs.Loading.{HasRoomForAny, IsLoadable, bio_of}
 
 -- the load of a map that waits: its place in the script, its callback and its room
 abbrev pub kept_load : Option KeptMap → Option (ℕ × KeptLoad × LoadRoom)
 kept_load None = None
 kept_load (Some o) = waiting_load o.map.stage
 
--- a step leaves what waiting loads keep, and what is prepared
-pub record KeepsWaiting (h k : Holdings) : Type 0 where
-  pub kept : (m : ℕ) → kept_load (get k.maps.map m) ≡ kept_load (get h.maps.map m)
-  pub prepared : k.loans.prepared ≡ h.loans.prepared
+-- the limits of the tag that was made at a place, if it is there
+abbrev pub limits_at : FinMap nat_cmp KeptTag → ℕ → Option TagLimits
+limits_at tags place = option_map (λ (t : KeptTag). t.tag) (get tags place)
 
--- the limits of the tag that was made at a place, or what stands for those of none
-abbrev pub limits_at : FinMap nat_cmp KeptTag → ℕ → TagLimits
-limits_at tags place = unwrap_or (option_map (λ (t : KeptTag). t.tag) (get tags place)) no_limits
+-- the entries of a bio of these pages, in which its bytes lie whatever memories come and go
+abbrev pub page_entries : List PageRun → Bio → List Entry
+page_entries pages b = entries_of (is_rounded b) (in_pages pages b) (bio_spans b)
 
--- what the load of a map is built by that waits: the limits of its tag
-abbrev pub awaited_by : FinMap nat_cmp KeptTag → Option KeptMap → Option TagLimits
-awaited_by tags None = None
-awaited_by tags (Some o) = option_map (λ kept. limits_at tags o.tag) (waiting_load o.map.stage)
+-- a load that waits is one of bytes of the pages; its map has a tag; the room has space for what its callback makes of
+-- the bytes by that tag, in whichever pages; and this loan, which is prepared for the map, has the bytes
+pub record IsAwaiting (pages : List PageRun) (maxmem : ℕ) (tag : Option TagLimits) (loan : Option Loan)
+    (w : KeptLoad) (room : LoadRoom) : Type 0 where
+  pub loadable : IsLoadable pages (bio_of w.bytes)
+  pub paged : AreInPages pages (bio_of w.bytes)
+  pub tagged : is_some tag ≡ true
+  pub fits : HasRoomForAny (unwrap_or tag no_limits)
+      (chunks_of (unwrap_or tag no_limits) maxmem (page_entries pages (bio_of w.bytes))) w.need room
+  pub prepared : loan ≡ Some (new_loan false (entries_addresses (page_entries pages (bio_of w.bytes))))
 
--- a step leaves what the driver reaches, and what each load is built by that waits
-pub record KeepsReach (h k : Holdings) : Type 0 where
-  pub pages : k.pages ≡ h.pages
-  pub memories : k.memories.map ≡ h.memories.map
-  pub maxmem : k.maxmem ≡ h.maxmem
-  pub awaited : (m : ℕ) → awaited_by k.tags.map (get k.maps.map m) ≡ awaited_by h.tags.map (get h.maps.map m)
+-- the load of a map that waits, its room, and the limits of the map's tag
+abbrev pub awaited : FinMap nat_cmp KeptTag → Option KeptMap → Option (KeptLoad × LoadRoom × Option TagLimits)
+awaited tags None = None
+awaited tags (Some o) =
+    option_map (λ (w : ℕ × KeptLoad × LoadRoom). (w.1, w.2, limits_at tags o.tag)) (waiting_load o.map.stage)
 
--- the load of a map that is not a memory's is one of bytes that the driver reaches; the room has space for what its
--- callback makes of them, in whichever pages; and its loan is prepared
-pub record IsAwaiting (h : Holdings) (m : ℕ) (w : KeptLoad) (room : LoadRoom) : Type 0 where
-  pub own : get h.memories.map m ≡ None
-  pub reached : bio_reached (ideal_of h) (bio_of w.bytes) ≡ Fine
-  pub loadable : IsLoadable h.pages.now (bio_of w.bytes)
-  pub fits : (o : LaneMap) → get (ideal_of h).maps m ≡ Some o →
-      HasRoomForAny (limits_of (ideal_of h) o) (bio_chunks (ideal_of h) o (bio_of w.bytes)) w.need room
-  pub prepared : get h.loans.prepared m ≡ Some (load_loan (ideal_of h) m (bio_of w.bytes))
+-- each load that waits has what its callback takes
+abbrev pub AreAwaiting : List PageRun → ℕ → FinMap nat_cmp KeptTag → FinMap nat_cmp KeptMap → Loans → Type 0
+AreAwaiting pages maxmem tags maps prepared = (m : ℕ) →
+    IfSome (awaited tags (get maps m)) (λ w. IsAwaiting pages maxmem w.2 (get prepared m) w.0 w.1)
 
--- each load that waits has what its callback takes, and a loan is prepared for no other map
-pub record AreAwaiting (h : Holdings) : Type 0 where
-  pub each : (m load_at : ℕ) (callback : KeptLoad) (room : LoadRoom) →
-      kept_load (get h.maps.map m) ≡ Some (load_at, callback, room) → IsAwaiting h m callback room
-  pub prepared : (m : ℕ) → kept_load (get h.maps.map m) ≡ None → get h.loans.prepared m ≡ None
+-- a byte may be loaded into a map: it is one of the pages, or of the memory whose map it is
+abbrev pub is_of_map : List PageRun → Option KeptMemory → ℕ → Bool
+is_of_map pages None a = is_own pages a
+is_of_map pages (Some x) a = is_own pages a || in_run x.first.0 x.count a
 
--- each load but that of one map has, where it waits, what its callback takes, and a loan is prepared for no other map
-pub record AreAwaitingBut (one : ℕ) (h : Holdings) : Type 0 where
-  pub each : (m load_at : ℕ) (callback : KeptLoad) (room : LoadRoom) → (m == one) ≡ false →
-      kept_load (get h.maps.map m) ≡ Some (load_at, callback, room) → IsAwaiting h m callback room
-  pub prepared : (m : ℕ) → (m == one) ≡ false → kept_load (get h.maps.map m) ≡ None →
-      get h.loans.prepared m ≡ None
-
--- how many bytes the operations from a place on load
-abbrev pub bytes_ahead : ℕ → List Op → ℕ
-bytes_ahead place script = sum_by loaded_by (drop place script)
-
--- each load is small, and the pages that are promised a place in the return queue are, with those that the loads ahead
--- may need, no more than all loads of a scenario have bytes
-pub record HasSmallLoads (h : Holdings) : Type 0 where
-  pub each : (p : ℕ) (o : Op) → slice_get h.script.now p ≡ Some o → loaded_by o ≤ buffer_limit
-  pub few : h.agenda.promised + bytes_ahead h.agenda.place h.script.now ≤ loaded_limit
+-- what is prepared for maps has bytes that may be loaded into them
+abbrev pub AreOfMaps : List PageRun → FinMap nat_cmp KeptMemory → Loans → Type 0
+AreOfMaps pages memories prepared = (m : ℕ) →
+    All (λ p. is_of_map pages (get memories m) p.pa ≡ true) (loan_of prepared m).positions

@@ -11,11 +11,12 @@ pub mod LaneIdeal
 pub mod Loading
 pub mod Making
 pub mod MapValues
+pub mod OneAwaiting
 pub mod OneProof
 pub mod OpeningMemory
 pub mod PagesLent
-pub mod Provided
 pub mod Shares
+pub mod SmallLoads
 pub mod TagPlan
 pub mod Turning
 pub mod Wire

@@ -1,5 +1,5 @@
 -- What a load names, what it has made ready before it changes its driver, and what is built of its bytes.
-use Rattle.std.specs.Prelude.{◌≡◌, ℕ, ◌+◌, ◌≤◌, ◌<◌, ◌^◌, Bool, false, List, [], ◌∷◌, length, min, Some}
+use Rattle.std.specs.Prelude.{◌≡◌, ℕ, ◌+◌, ◌≤◌, ◌<◌, ◌^◌, Bool, true, false, List, [], ◌∷◌, length, min, Some}
 use Rattle.std.specs.FinMap.{get, contains_key}
 use Rattle.std.specs.List.{AllByRecursion}
 use Rattle.busdma_machine.specs.declared.bounce.door.Grabbed.{Grabbed}
@@ -30,6 +30,7 @@ use Rattle.segment_build.specs.Trace.{IsPage}
 use Rattle.ideal_lane.specs.Loads.{chunks_for, is_coherent, load_entries, load_translation}
 use Rattle.ideal_lane.specs.Places.{physical}
 use Rattle.ideal_lane.specs.State.{LaneMap, LaneMemory, LaneState}
+use Rattle.ideal_wire.specs.Laid.{is_loadable}
 use Rattle.lane_core.specs.declared.buffers.LoadBytes.{LoadBytes}
 use Rattle.lane_core.specs.declared.buffers.LoadBytes.TheVariants as bytes
 
@@ -90,6 +91,10 @@ pub record AreFirst (l : LaneState) (x : LaneMemory) (b : Bio) : Type 0 where
 -- so they are where they are loaded into the map of a memory
 abbrev pub AreItsFirst : LaneState → ℕ → Bio → Type 0
 AreItsFirst l m b = (x : LaneMemory) → get l.mems m ≡ Some x → AreFirst l x b
+
+-- the bytes of a load of a map with a bio are those that may be loaded into it: of the pages, or of its own memory
+abbrev pub AreOfMap : LaneState → ℕ → Bio → Type 0
+AreOfMap l m b = AllByRecursion (λ a. is_loadable (get l.mems m) l a ≡ true) (entries_addresses (load_entries l b))
 
 -- empty lists have room for the segments of chunks in these pages, so far as the tag allows them, for their copy and
 -- for the bounced chunks, and the pages are enough

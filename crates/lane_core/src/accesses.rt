@@ -33,7 +33,6 @@ use phys_memory::{LanePages, Walked};
 use std::alloc::{AllocError, Global};
 
 impl Holdings<'_> {
-    ghost use Rattle.lane_core.specs.Awaiting.{AreAwaiting};
     ghost use Rattle.lane_core.specs.Changes.{KeepsState};
     ghost use Rattle.lane_core.specs.Ideal.{given, ideal_of};
     ghost use Rattle.lane_core.specs.Wire.{IsWired, wire_of};
@@ -73,7 +72,6 @@ impl Holdings<'_> {
             Gives (given self.new answer) ≡ accesses.cpu_write place bytes.now (ideal_of self.old)) }
         ensures wire { IfOk result (λ answer.
             wire_of self.new ≡ wires.cpu_write place bytes.now (ideal_of self.old) (wire_of self.old)) }
-        ensures awaiting { AreAwaiting self.old → AreAwaiting self.new }
         ensures script { self.new.script ≡ self.old.script }
         ensures memories { self.new.memories ≡ self.old.memories }
         ensures agenda { self.new.agenda ≡ self.old.agenda }
@@ -152,7 +150,6 @@ impl Holdings<'_> {
             Reads answer (load_buses (ideal_of self.old) map off len) (wire_of self.old)) }
         ensures wire { wire_of self.new ≡ wire_of self.old }
         ensures kept { KeepsState self.old self.new }
-        ensures awaiting { AreAwaiting self.old → AreAwaiting self.new }
         ensures script { self.new.script ≡ self.old.script }
         ensures memories { self.new.memories ≡ self.old.memories }
         ensures agenda { self.new.agenda ≡ self.old.agenda }
@@ -187,7 +184,6 @@ impl Holdings<'_> {
             Gives (given self.new answer) ≡ accesses.dev_write map off bytes.now (ideal_of self.old)) }
         ensures wire { IfOk result (λ answer.
             wire_of self.new ≡ wires.dev_write map off bytes.now (ideal_of self.old) (wire_of self.old)) }
-        ensures awaiting { AreAwaiting self.old → AreAwaiting self.new }
         ensures script { self.new.script ≡ self.old.script }
         ensures memories { self.new.memories ≡ self.old.memories }
         ensures agenda { self.new.agenda ≡ self.old.agenda }

@@ -10,7 +10,8 @@ ghost use Rattle.ideal_lane.specs.Standing.{Stands};
 ghost use Rattle.ideal_lane.specs.Turns.{called, is_waiting};
 ghost use Rattle.ideal_wire.specs.Machine.{IsInMachine};
 ghost use Rattle.lane_core.specs.declared.kept.KeptMap.{KeptMap};
-ghost use Rattle.lane_core.specs.Awaiting.{AreAwaiting, HasSmallLoads, kept_load};
+ghost use Rattle.lane_core.specs.Awaiting.{kept_load};
+ghost use Rattle.lane_core.specs.SmallLoads.{HasSmallLoads};
 ghost use Rattle.lane_core.specs.Turning.{IsMade, IsReady};
 
 use crate::holdings::Holdings;
@@ -26,10 +27,8 @@ impl<'s> Holdings<'s> {
     /// The callback at the head of the callback list, where it is this driver's: its load ends with its pages.
     pub(crate) fn call_back<D: HubDoor>(&mut self, door: &mut D) -> Turn
         requires ready { IsReady self.old (D.seen door.old) }
-        requires awaiting { AreAwaiting self.old }
         requires small { HasSmallLoads self.old }
         ensures made { IsMade self.old self.new (D.seen door.old) (D.seen door.new) side.Callback result }
-        ensures awaiting { AreAwaiting self.new }
         ensures small { HasSmallLoads self.new }
         ensures promised { self.new.agenda.promised ≤ self.old.agenda.promised }
         ensures memories { self.new.memories ≡ self.old.memories }
@@ -45,7 +44,6 @@ impl<'s> Holdings<'s> {
     /// Ends the load of a map that waits, with its pages.
     fn end_wait(&mut self, map: u32, pages: PageList) -> Answer
         requires stands { Stands (ideal_of self.old) }
-        requires awaiting { AreAwaiting self.old }
         requires small { HasSmallLoads self.old }
         requires machine { IsInMachine (ideal_of self.old) }
         requires room { items_ahead (ideal_of self.old) ≤ self.old.agenda.room }
@@ -54,7 +52,6 @@ impl<'s> Holdings<'s> {
         ensures done { given self.new result
             ≡ called map (get (ideal_of self.old).maps map) (page_addresses pages.items) (ideal_of self.old) }
         ensures bytes { KeepsBytesBut map self.old self.new }
-        ensures awaiting { AreAwaiting self.new }
         ensures small { HasSmallLoads self.new }
         ensures promised { self.new.agenda.promised ≤ self.old.agenda.promised }
         ensures memories { self.new.memories ≡ self.old.memories }

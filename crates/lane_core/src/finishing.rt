@@ -1,12 +1,11 @@
 //! What a load leaves in its map.
 
-ghost use Rattle.std.specs.Prelude.{◌≡◌, ℕ, ◌+◌, ◌≤◌, true, Some, length};
-ghost use Rattle.std.specs.FinMap.{get, insert, remove};
+ghost use Rattle.std.specs.Prelude.{◌≡◌, ◌+◌, ◌≤◌, true, Some, length};
+ghost use Rattle.std.specs.FinMap.{get, insert};
 ghost use Rattle.busdma_machine.specs.Machine.PageList.{page_addresses};
 ghost use Rattle.loan_table.specs.Loans.{loan_of};
 ghost use Rattle.ideal_lane.specs.Loads.{staged};
 ghost use Rattle.ideal_lane.specs.State.{Idle, LaneMap, Loaded};
-ghost use Rattle.lane_core.specs.Awaiting.{kept_load};
 ghost use Rattle.lane_core.specs.Covered.{has_load, is_idle_map, pages_due};
 ghost use Rattle.lane_core.specs.Loading.{HasPrepared};
 
@@ -14,7 +13,6 @@ use crate::holdings::Holdings;
 use busdma_base::{ChunkList, PageList, SegmentList};
 
 impl Holdings<'_> {
-    ghost use Rattle.lane_core.specs.Awaiting.{KeepsWaiting};
     ghost use Rattle.lane_core.specs.Changes.{KeepsBytes, KeepsBytesBut};
     ghost use Rattle.lane_core.specs.Ideal.{ideal_of};
 
@@ -26,7 +24,6 @@ impl Holdings<'_> {
         ensures bytes { KeepsBytes self.old self.new }
         ensures agenda { self.new.agenda ≡ self.old.agenda }
         ensures memories { self.new.memories ≡ self.old.memories }
-        ensures waiting { KeepsWaiting self.old self.new }
     {
         if let Some(kept) = self.maps.get_mut(map) {
             kept.map.note_tried();
@@ -52,8 +49,6 @@ impl Holdings<'_> {
         ensures bytes { KeepsBytesBut map self.old self.new }
         ensures agenda { self.new.agenda ≡ self.old.agenda }
         ensures memories { self.new.memories ≡ self.old.memories }
-        ensures kept { (m : ℕ) → kept_load (get self.new.maps.map m) ≡ kept_load (get self.old.maps.map m) }
-        ensures prepared { self.new.loans.prepared ≡ remove self.old.loans.prepared map }
     {
         let id = self.map_id(map);
         if let Some(kept) = self.maps.get_mut(map) {

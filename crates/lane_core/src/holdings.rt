@@ -4,8 +4,10 @@ ghost use Rattle.std.specs.Prelude.{◌≡◌, ◌≤◌, ℕ, true, false};
 ghost use Rattle.std.specs.FinMap.{get};
 ghost use Rattle.busdma_base.specs.declared.journals.answer.Answer.TheVariants as answer;
 ghost use Rattle.memory_pages.specs.Placed.{AreAtTheirFrames};
+ghost use Rattle.lane_core.specs.Awaiting.{AreAwaiting, AreOfMaps};
 ghost use Rattle.lane_core.specs.Covered.{AreLoaded, AreOwn, AreReturning, AreStanding, HasFramesOf, IsCovered};
 ghost use Rattle.lane_core.specs.Covered.{Reaches, is_tried, lends_pages, pages_due};
+ghost use Rattle.lane_core.specs.OneAwaiting.{AreAwaiting-prop};
 
 use crate::kept::{KeptMap, KeptMemory, KeptShare, KeptTag};
 use busdma_base::{Answer, LaneId, MapId, Op, PageRun, Report, ReportName};
@@ -43,6 +45,9 @@ pub(crate) struct Holdings<'s> {
     ghost own_returns: { AreOwn id.0 agenda.returns },
     ghost returning: { AreReturning maps.map agenda.returns },
     ghost tried: { (k : ℕ) → is_tried (get maps.map k) ≡ true },
+    ghost awaiting: { AreAwaiting pages.now maxmem tags.map maps.map loans.prepared }
+        by { AreAwaiting-prop pages.now maxmem tags.map maps.map loans.prepared },
+    ghost ready: { AreOfMaps pages.now memories.map loans.prepared },
 }
 
 impl Holdings<'_> {

@@ -4,8 +4,8 @@ ghost use Rattle.std.specs.Prelude.{◌≡◌, ◌≤◌, ◌+◌, length, IfOk,
 ghost use Rattle.ideal_lane.specs.Ahead.{items_ahead};
 ghost use Rattle.ideal_lane.specs.Standing.{Stands};
 ghost use Rattle.lane_core.specs.Ideal.{ideal_of};
-ghost use Rattle.lane_core.specs.OneProof.{IsWired-prop};
-ghost use Rattle.lane_core.specs.Provided.{IsProvided};
+ghost use Rattle.lane_core.specs.OneProof.{HasSmallLoads-prop, IsWired-prop};
+ghost use Rattle.lane_core.specs.SmallLoads.{HasSmallLoads};
 ghost use Rattle.lane_core.specs.Wire.{IsWired};
 
 use crate::holdings::Holdings;
@@ -16,7 +16,7 @@ pub struct Lane<'s> {
     pub(crate) holdings: Holdings<'s>,
     ghost wired: { IsWired holdings } by { IsWired-prop holdings },
     ghost stands: { ∥ Stands (ideal_of holdings) ∥₁ },
-    ghost provided: { ∥ IsProvided holdings ∥₁ },
+    ghost small: { HasSmallLoads holdings } by { HasSmallLoads-prop holdings },
     ghost length: { holdings.agenda.length ≡ length holdings.script.now },
     ghost room: { items_ahead (ideal_of holdings) ≤ holdings.agenda.room },
 }

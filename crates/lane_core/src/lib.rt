@@ -2,7 +2,6 @@
 #![tactic(auto)]
 
 mod accesses;
-mod awaiting;
 mod buffers;
 mod callbacks;
 mod calls;

@@ -14,11 +14,11 @@ ghost use Rattle.ideal_lane.specs.Loads.{Asked, asked, finished, granted, is_coh
 ghost use Rattle.ideal_lane.specs.Loads.{zone_of};
 ghost use Rattle.ideal_lane.specs.Standing.{Stands};
 ghost use Rattle.ideal_lane.specs.State.{LaneMap, named};
-ghost use Rattle.ideal_wire.specs.Laid.{AreLaid};
+ghost use Rattle.ideal_wire.specs.Laid.{AreInPages, AreLaid};
 ghost use Rattle.ideal_wire.specs.Machine.{IsInMachine};
 ghost use Rattle.lane_core.specs.Doing.{IsAllowedBy, IsCalled, IsDone, IsUndone, asks};
 ghost use Rattle.lane_core.specs.Covered.{is_idle_map, pages_due};
-ghost use Rattle.lane_core.specs.Loading.{AreItsFirst, HasRoomForAny, IsFilled, IsLoadable, IsOverfull, IsWanted};
+ghost use Rattle.lane_core.specs.Loading.{AreItsFirst, AreOfMap, HasRoomForAny, IsFilled, IsLoadable, IsOverfull, IsWanted};
 ghost use Rattle.lane_core.specs.Loading.{bio_bytes, bio_chunks, bio_of, bio_reached, load_loan, map_chunks};
 
 use crate::buffers::{
@@ -61,7 +61,6 @@ fn take_room(alloc: Global, wanted: Wanted) -> Result<LoadRoom, AllocError>
 }
 
 impl<'s> Holdings<'s> {
-    ghost use Rattle.lane_core.specs.Awaiting.{AreAwaiting, AreAwaitingBut};
     ghost use Rattle.lane_core.specs.Changes.{KeepsAgenda, KeepsBytesBut, KeepsState, KeepsWhatStays};
     ghost use Rattle.lane_core.specs.Ideal.{given, ideal_of};
 
@@ -80,7 +79,6 @@ impl<'s> Holdings<'s> {
         requires stands { Stands (ideal_of self.old) }
         requires machine { IsInMachine (ideal_of self.old) }
         requires laid { AreLaid (ideal_of self.old) }
-        requires awaiting { AreAwaiting self.old }
         requires loadable { IsLoadable self.old.pages.now (bio_of bytes) }
         requires few_items { length items.now ≤ self.old.agenda.room }
         requires few_pages { self.old.agenda.promised + bio_bytes (bio_of bytes) < 2 ^ 32 }
@@ -94,7 +92,6 @@ impl<'s> Holdings<'s> {
         ensures err { OnErr result (KeepsState self.old self.new) }
         ensures unpromised { OnErr result (self.new.agenda ≡ self.old.agenda) }
         ensures undone { OnErr result (IsUndone (D.seen door.old) (D.seen door.new)) }
-        ensures awaiting { AreAwaiting self.new }
         ensures bytes { KeepsWhatStays self.old self.new }
         ensures memories { self.new.memories ≡ self.old.memories }
         ensures agenda { KeepsAgenda self.old self.new }
@@ -182,9 +179,9 @@ impl<'s> Holdings<'s> {
         bytes: LoadBytes<'_>,
     ) -> Result<(), AllocError>
         requires idle { is_idle_map (get self.old.maps.map map) ≡ true }
-        requires unprepared { get self.old.loans.prepared map ≡ None }
         requires reached { bio_reached (ideal_of self.old) (bio_of bytes) ≡ Fine }
         requires loadable { IsLoadable self.old.pages.now (bio_of bytes) }
+        requires mine { AreOfMap (ideal_of self.old) map (bio_of bytes) }
         ensures prepared { OnOk result (self.new.loans.prepared ≡ insert self.old.loans.prepared map
             (load_loan (ideal_of self.old) map (bio_of bytes.entry))) }
         ensures err { OnErr result (self.new.loans.prepared ≡ self.old.loans.prepared) }
@@ -268,7 +265,6 @@ impl<'s> Holdings<'s> {
     ) -> Answer
         requires stands { Stands (ideal_of self.old) }
         requires idle { is_idle_map (get self.old.maps.map map) ≡ true }
-        requires awaiting { AreAwaitingBut map self.old }
         requires reached { bio_reached (ideal_of self.old) (bio_of bytes) ≡ Fine }
         requires first { AreItsFirst (ideal_of self.old) map (bio_of bytes) }
         requires loadable { IsLoadable self.old.pages.now (bio_of bytes) }
@@ -284,7 +280,6 @@ impl<'s> Holdings<'s> {
             given self.new result ≡ finished map o load_at x
             (map_chunks (ideal_of self.old) map o (bio_of bytes.entry)) (page_addresses pages.items)
             (ideal_of self.old) }
-        ensures awaiting { AreAwaiting self.new }
         ensures bytes { KeepsBytesBut map self.old self.new }
         ensures memories { self.new.memories ≡ self.old.memories }
         ensures agenda { KeepsAgenda self.old self.new }
@@ -318,10 +313,10 @@ impl<'s> Holdings<'s> {
     ) -> Result<Answer, AllocError>
         requires stands { Stands (ideal_of self.old) }
         requires idle { is_idle_map (get self.old.maps.map map) ≡ true }
-        requires awaiting { AreAwaiting self.old }
         requires reached { bio_reached (ideal_of self.old) (bio_of bytes) ≡ Fine }
         requires first { AreItsFirst (ideal_of self.old) map (bio_of bytes) }
         requires loadable { IsLoadable self.old.pages.now (bio_of bytes) }
+        requires mine { AreOfMap (ideal_of self.old) map (bio_of bytes) }
         requires wanted { (o : LaneMap) → get (ideal_of self.old).maps map ≡ Some o →
             IsWanted (limits_of (ideal_of self.old) o) (map_chunks (ideal_of self.old) map o (bio_of bytes))
             (bio_bytes (bio_of bytes)) wanted.need wanted.segments }
@@ -333,7 +328,6 @@ impl<'s> Holdings<'s> {
             (map_chunks (ideal_of self.old) map o (bio_of bytes.entry)) [] (ideal_of self.old)) }
         ensures err { OnErr result (KeepsState self.old self.new) }
         ensures unpromised { OnErr result (self.new.agenda ≡ self.old.agenda) }
-        ensures awaiting { AreAwaiting self.new }
         ensures bytes { KeepsBytesBut map self.old self.new }
         ensures memories { self.new.memories ≡ self.old.memories }
         ensures agenda { KeepsAgenda self.old self.new }
@@ -361,9 +355,9 @@ impl<'s> Holdings<'s> {
         requires stands { Stands (ideal_of self.old) }
         requires idle { is_idle_map (get self.old.maps.map map) ≡ true }
         requires own { get self.old.memories.map map ≡ None }
-        requires awaiting { AreAwaiting self.old }
-        requires reached { bio_reached (ideal_of self.old) (bio_of bytes) ≡ Fine }
+        requires paged { AreInPages self.old.pages.now (bio_of bytes) }
         requires loadable { IsLoadable self.old.pages.now (bio_of bytes) }
+        requires mine { AreOfMap (ideal_of self.old) map (bio_of bytes) }
         requires wanted { (o : LaneMap) → get (ideal_of self.old).maps map ≡ Some o →
             IsWanted (limits_of (ideal_of self.old) o) (bio_chunks (ideal_of self.old) o (bio_of bytes))
             (bio_bytes (bio_of bytes)) wanted.need wanted.segments }
@@ -382,7 +376,6 @@ impl<'s> Holdings<'s> {
         ensures err { OnErr result (KeepsState self.old self.new) }
         ensures unpromised { OnErr result (self.new.agenda ≡ self.old.agenda) }
         ensures undone { OnErr result (IsUndone (D.seen door.old) (D.seen door.new)) }
-        ensures awaiting { AreAwaiting self.new }
         ensures bytes { KeepsBytesBut map self.old self.new }
         ensures memories { self.new.memories ≡ self.old.memories }
         ensures agenda { KeepsAgenda self.old self.new }

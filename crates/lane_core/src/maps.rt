@@ -21,7 +21,6 @@ use dma_map::{DmaMap, MapState};
 use std::alloc::{AllocError, Global};
 
 impl Holdings<'_> {
-    ghost use Rattle.lane_core.specs.Awaiting.{AreAwaiting};
     ghost use Rattle.lane_core.specs.Changes.{KeepsBytes, KeepsState};
     ghost use Rattle.lane_core.specs.Ideal.{given, ideal_of};
 
@@ -42,7 +41,6 @@ impl Holdings<'_> {
         ensures err { OnErr result (KeepsState self.old self.new) }
         ensures undone { OnErr result (IsUndone (D.seen door.old) (D.seen door.new)) }
         ensures bytes { KeepsBytes self.old self.new }
-        ensures awaiting { AreAwaiting self.old → AreAwaiting self.new }
         ensures script { self.new.script ≡ self.old.script }
         ensures memories { self.new.memories ≡ self.old.memories }
         ensures agenda { self.new.agenda ≡ self.old.agenda }
@@ -81,7 +79,6 @@ impl Holdings<'_> {
             ≡ gives (with_map tag None (ideal_of self.old)) Done) }
         ensures err { OnErr result (KeepsState self.old self.new) }
         ensures bytes { KeepsBytes self.old self.new }
-        ensures awaiting { AreAwaiting self.old → AreAwaiting self.new }
         ensures script { self.new.script ≡ self.old.script }
         ensures memories { self.new.memories ≡ self.old.memories }
         ensures agenda { self.new.agenda ≡ self.old.agenda }
@@ -110,7 +107,6 @@ impl Holdings<'_> {
         ensures err { OnErr result (KeepsState self.old self.new) }
         ensures undone { OnErr result (IsUndone (D.seen door.old) (D.seen door.new)) }
         ensures bytes { KeepsBytes self.old self.new }
-        ensures awaiting { AreAwaiting self.old → AreAwaiting self.new }
         ensures script { self.new.script ≡ self.old.script }
         ensures memories { self.new.memories ≡ self.old.memories }
         ensures agenda { self.new.agenda ≡ self.old.agenda }
@@ -136,7 +132,6 @@ impl Holdings<'_> {
             then with_tag tag t.tag true (with_map tag (Some grown.zone.0) (ideal_of self.old))
             else ideal_of self.old) }
         ensures bytes { KeepsBytes self.old self.new }
-        ensures awaiting { AreAwaiting self.old → AreAwaiting self.new }
         ensures script { self.new.script ≡ self.old.script }
         ensures memories { self.new.memories ≡ self.old.memories }
         ensures agenda { self.new.agenda ≡ self.old.agenda }
@@ -156,7 +151,6 @@ impl Holdings<'_> {
         ensures tags { self.new.tags ≡ self.old.tags }
         ensures agenda { self.new.agenda ≡ self.old.agenda }
         ensures bytes { KeepsBytes self.old self.new }
-        ensures awaiting { AreAwaiting self.old → AreAwaiting self.new }
         ensures script { self.new.script ≡ self.old.script }
         ensures memories { self.new.memories ≡ self.old.memories }
     {
@@ -171,7 +165,6 @@ impl Holdings<'_> {
             ideal_of self.new ≡ with_tag tag t.tag true (ideal_of self.old) }
         ensures agenda { self.new.agenda ≡ self.old.agenda }
         ensures bytes { KeepsBytes self.old self.new }
-        ensures awaiting { AreAwaiting self.old → AreAwaiting self.new }
         ensures script { self.new.script ≡ self.old.script }
         ensures memories { self.new.memories ≡ self.old.memories }
     {
@@ -197,7 +190,6 @@ impl Holdings<'_> {
             (given self.new result.answer) (D.seen door.new) }
         ensures held { result.held ≡ asks (maps.map_destroy map (ideal_of self.old)) }
         ensures bytes { KeepsBytes self.old self.new }
-        ensures awaiting { AreAwaiting self.old → AreAwaiting self.new }
         ensures script { self.new.script ≡ self.old.script }
         ensures memories { self.new.memories ≡ self.old.memories }
         ensures agenda { self.new.agenda ≡ self.old.agenda }
@@ -235,7 +227,6 @@ impl Holdings<'_> {
         requires { is_idle_map (get self.old.maps.map map) ≡ true }
         ensures done { ideal_of self.new ≡ without_map map (ideal_of self.old) }
         ensures bytes { KeepsBytes self.old self.new }
-        ensures awaiting { AreAwaiting self.old → AreAwaiting self.new }
         ensures script { self.new.script ≡ self.old.script }
         ensures memories { self.new.memories ≡ self.old.memories }
         ensures agenda { self.new.agenda ≡ self.old.agenda }

@@ -50,7 +50,6 @@ fn is_coherent(flags: u32) -> bool
 }
 
 impl Holdings<'_> {
-    ghost use Rattle.lane_core.specs.Awaiting.{AreAwaiting};
     ghost use Rattle.lane_core.specs.Changes.{KeepsBesideMemory, KeepsState};
     ghost use Rattle.lane_core.specs.Ideal.{given, ideal_of};
     ghost use Rattle.lane_core.specs.Wire.{IsWired};
@@ -68,7 +67,6 @@ impl Holdings<'_> {
         requires vacant { get self.old.memories.map self.old.agenda.place ≡ None }
         requires stands { Stands (ideal_of self.old) }
         requires wired { IsWired self.old }
-        requires awaiting { AreAwaiting self.old }
         requires served { IsServed (ideal_of self.old) (D.seen door.old) }
         requires allowed { IsAllowedBy (D.seen door.old) self.old.id.0 (memories.dmamem tag flags (ideal_of self.old)) }
         ensures done { IfOk result (λ r.
@@ -78,7 +76,6 @@ impl Holdings<'_> {
         ensures err { OnErr result (KeepsState self.old self.new) }
         ensures undone { OnErr result (IsUndone (D.seen door.old) (D.seen door.new)) }
         ensures bytes { OnOk result (KeepsBesideMemory self.old self.new) }
-        ensures awaiting { AreAwaiting self.new }
         ensures script { self.new.script ≡ self.old.script }
         ensures agenda { self.new.agenda ≡ self.old.agenda }
         ensures fixed { D.fixed door.new ≡ D.fixed door.old }
@@ -105,7 +102,6 @@ impl Holdings<'_> {
         requires vacant { get self.old.memories.map self.old.agenda.place ≡ None }
         requires stands { Stands (ideal_of self.old) }
         requires wired { IsWired self.old }
-        requires awaiting { AreAwaiting self.old }
         requires tag { option_map (λ (t : KeptTag). t.tag) (get self.old.tags.map tag) ≡ Some limits.now }
         requires served { IsServed (ideal_of self.old) (D.seen door.old) }
         requires allowed { IsAllowedBy (D.seen door.old) self.old.id.0 (memories.dmamem tag flags (ideal_of self.old)) }
@@ -115,7 +111,6 @@ impl Holdings<'_> {
         ensures err { OnErr result (KeepsState self.old self.new) }
         ensures undone { OnErr result (IsUndone (D.seen door.old) (D.seen door.new)) }
         ensures bytes { OnOk result (KeepsBesideMemory self.old self.new) }
-        ensures awaiting { AreAwaiting self.new }
         ensures script { self.new.script ≡ self.old.script }
         ensures agenda { self.new.agenda ≡ self.old.agenda }
         ensures fixed { D.fixed door.new ≡ D.fixed door.old }
@@ -153,14 +148,12 @@ impl Holdings<'_> {
             IsNewRun (ideal_of self.old) first (length pages.items) }
         requires stands { Stands (ideal_of self.old) }
         requires wired { IsWired self.old }
-        requires awaiting { AreAwaiting self.old }
         ensures done { (first : ℕ) → page_addresses pages.items ≡ frames_from (length pages.items) first →
             given self.new result ≡ record {
               lane = with_memory (ideal_memory tag first len flags) (zero_filled flags) (ideal_of self.old);
               answer = Placed (record { 0 = first });
             } }
         ensures bytes { KeepsBesideMemory self.old self.new }
-        ensures awaiting { AreAwaiting self.new }
         ensures script { self.new.script ≡ self.old.script }
         ensures agenda { self.new.agenda ≡ self.old.agenda }
     {
@@ -192,7 +185,6 @@ impl Holdings<'_> {
         requires row { page_addresses pages.items ≡ frames_from kept.count kept.first.0 }
         requires all { kept.memory.len ≤ 4096 * kept.count }
         requires new { IsNewRun (ideal_of self.old) kept.first.0 kept.count }
-        requires stands { Stands (ideal_of self.old) }
         requires wired { IsWired self.old }
         ensures done { ideal_of self.new ≡ record (ideal_of self.old) {
           mems = insert (ideal_of self.old).mems self.old.agenda.place (memory_of kept);
@@ -200,7 +192,6 @@ impl Holdings<'_> {
               (ideal_of self.old).memory;
         } }
         ensures bytes { KeepsBesideMemory self.old self.new }
-        ensures awaiting { AreAwaiting self.old → AreAwaiting self.new }
         ensures script { self.new.script ≡ self.old.script }
         ensures agenda { self.new.agenda ≡ self.old.agenda }
         ensures maps { self.new.maps ≡ self.old.maps }
@@ -221,7 +212,6 @@ impl Holdings<'_> {
     ) -> Result<Answered, AllocError>
         requires stands { Stands (ideal_of self.old) }
         requires wired { IsWired self.old }
-        requires awaiting { AreAwaiting self.old }
         requires served { IsServed (ideal_of self.old) (D.seen door.old) }
         requires allowed { IsAllowedBy (D.seen door.old) self.old.id.0 (memories.dmamem_free mem (ideal_of self.old)) }
         ensures done { IfOk result (λ r.
@@ -231,7 +221,6 @@ impl Holdings<'_> {
         ensures err { OnErr result (KeepsState self.old self.new) }
         ensures undone { OnErr result (IsUndone (D.seen door.old) (D.seen door.new)) }
         ensures bytes { OnOk result (KeepsBesideMemory self.old self.new) }
-        ensures awaiting { AreAwaiting self.new }
         ensures script { self.new.script ≡ self.old.script }
         ensures agenda { self.new.agenda ≡ self.old.agenda }
         ensures fixed { D.fixed door.new ≡ D.fixed door.old }
@@ -265,21 +254,20 @@ impl Holdings<'_> {
         requires empty { pages.old.items ≡ [] }
         requires list { kept.count ≤ pages.old.room }
         requires room { 1 ≤ self.old.loans.spare }
-        requires stands { Stands (ideal_of self.old) }
         requires wired { IsWired self.old }
-        requires awaiting { AreAwaiting self.old }
         ensures done { ideal_of self.new ≡ record (ideal_of self.old) {
           mems = remove (ideal_of self.old).mems mem;
           memory = parted (in_run kept.first.0 kept.count) (ideal_of self.old).memory;
         } }
         ensures pages { page_addresses pages.new.items ≡ frames_from kept.count kept.first.0 }
         ensures bytes { KeepsBesideMemory self.old self.new }
-        ensures awaiting { AreAwaiting self.new }
         ensures script { self.new.script ≡ self.old.script }
         ensures agenda { self.new.agenda ≡ self.old.agenda }
         ensures maps { self.new.maps ≡ self.old.maps }
     {
+        let id = self.map_id(mem);
         take(&mut self.memory, kept.first, kept.count, pages);
+        self.loans.drop_prepared(id);
         self.loans
             .drop_bytes(kept.first, 4096 * u64::from(kept.count));
         self.memories.take(mem);

@@ -17,10 +17,9 @@ use dma_tag::SyncOps;
 use std::alloc::{AllocError, Global};
 
 impl<'s> Holdings<'s> {
-    ghost use Rattle.lane_core.specs.Awaiting.{AreAwaiting};
     ghost use Rattle.lane_core.specs.Changes.{IsWireOf, KeepsAgenda, KeepsState, KeepsWhatStays};
     ghost use Rattle.lane_core.specs.Ideal.{given, ideal_of};
-    ghost use Rattle.lane_core.specs.Provided.{IsProvided};
+    ghost use Rattle.lane_core.specs.SmallLoads.{HasSmallLoads};
     ghost use Rattle.lane_core.specs.Wire.{IsWired, wire_of};
     ghost use Rattle.ideal_lane.specs.Ahead.{items_ahead};
 
@@ -33,7 +32,7 @@ impl<'s> Holdings<'s> {
     ) -> Result<Answered, AllocError>
         requires stands { Stands (ideal_of self.old) }
         requires wired { IsWired self.old }
-        requires provided { IsProvided self.old }
+        requires small { HasSmallLoads self.old }
         requires room { items_ahead (ideal_of self.old) ≤ self.old.agenda.room }
         requires served { IsServed (ideal_of self.old) (D.seen door.old) }
         requires going { self.old.agenda.place < self.old.agenda.length }
@@ -48,7 +47,6 @@ impl<'s> Holdings<'s> {
         ensures err { OnErr result (KeepsState self.old self.new) }
         ensures unpromised { OnErr result (self.new.agenda ≡ self.old.agenda) }
         ensures undone { OnErr result (IsUndone (D.seen door.old) (D.seen door.new)) }
-        ensures awaiting { AreAwaiting self.new }
         ensures agenda { KeepsAgenda self.old self.new }
         ensures promised { self.new.agenda.promised ≤ self.old.agenda.promised + loaded_by op.now }
         ensures fixed { D.fixed door.new ≡ D.fixed door.old }
@@ -92,7 +90,7 @@ impl<'s> Holdings<'s> {
     ) -> Result<Answered, AllocError>
         requires stands { Stands (ideal_of self.old) }
         requires wired { IsWired self.old }
-        requires provided { IsProvided self.old }
+        requires small { HasSmallLoads self.old }
         requires here { slice_get self.old.script.now self.old.agenda.place
             ≡ Some (Load map buffer.now flags items.now) }
         requires few_items { length items.now ≤ self.old.agenda.room }
@@ -106,7 +104,6 @@ impl<'s> Holdings<'s> {
         ensures err { OnErr result (KeepsState self.old self.new) }
         ensures unpromised { OnErr result (self.new.agenda ≡ self.old.agenda) }
         ensures undone { OnErr result (IsUndone (D.seen door.old) (D.seen door.new)) }
-        ensures awaiting { AreAwaiting self.new }
         ensures bytes { KeepsWhatStays self.old self.new }
         ensures memories { self.new.memories ≡ self.old.memories }
         ensures agenda { KeepsAgenda self.old self.new }

@@ -24,7 +24,6 @@ pub(crate) struct Released {
 }
 
 impl Holdings<'_> {
-    ghost use Rattle.lane_core.specs.Awaiting.{AreAwaiting};
     ghost use Rattle.lane_core.specs.Changes.{KeepsBytes};
     ghost use Rattle.lane_core.specs.Ideal.{given, ideal_of};
 
@@ -36,7 +35,6 @@ impl Holdings<'_> {
             (stepped side.Script (did.Release r.map r.page) (given self.new (answer.Served r.served)))
             (D.seen door.new)) }
         ensures bytes { KeepsBytes self.old self.new }
-        ensures awaiting { AreAwaiting self.old → AreAwaiting self.new }
         ensures script { self.new.script ≡ self.old.script }
         ensures memories { self.new.memories ≡ self.old.memories }
         ensures promised { self.new.agenda.promised ≤ self.old.agenda.promised }

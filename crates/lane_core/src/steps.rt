@@ -17,7 +17,6 @@ use lane_tables::QueuedItem;
 use std::alloc::{AllocError, Global};
 
 impl Holdings<'_> {
-    ghost use Rattle.lane_core.specs.Awaiting.{AreAwaiting};
     ghost use Rattle.lane_core.specs.Changes.{KeepsButAgenda, KeepsState};
     ghost use Rattle.lane_core.specs.Ideal.{given, ideal_of};
 
@@ -28,7 +27,6 @@ impl Holdings<'_> {
             Gives (given self.new answer) ≡ turns.transfer item.now (ideal_of self.old)) }
         ensures wire { OnOk result (wire_of self.new
             ≡ wires.transfer item.now (ideal_of self.old) (wire_of self.old)) }
-        ensures awaiting { AreAwaiting self.old → AreAwaiting self.new }
         ensures script { self.new.script ≡ self.old.script }
         ensures memories { self.new.memories ≡ self.old.memories }
         ensures agenda { self.new.agenda ≡ self.old.agenda }
@@ -57,7 +55,6 @@ impl Holdings<'_> {
             Gives (given self.new answer) ≡ accesses.dev_write map off (bytes_of bytes.now) (ideal_of self.old)) }
         ensures wire { IfOk result (λ answer.
             wire_of self.new ≡ wires.dev_write map off (bytes_of bytes.now) (ideal_of self.old) (wire_of self.old)) }
-        ensures awaiting { AreAwaiting self.old → AreAwaiting self.new }
         ensures script { self.new.script ≡ self.old.script }
         ensures memories { self.new.memories ≡ self.old.memories }
         ensures agenda { self.new.agenda ≡ self.old.agenda }
@@ -110,7 +107,6 @@ impl Holdings<'_> {
     pub(crate) fn advance(&mut self)
         requires { self.old.agenda.place < self.old.agenda.length }
         ensures agenda { self.new.agenda ≡ record self.old.agenda { place = self.old.agenda.place + 1 } }
-        ensures awaiting { AreAwaiting self.old → AreAwaiting self.new }
         ensures rest { KeepsButAgenda self.old self.new }
     {
         self.agenda.advance();
@@ -124,7 +120,6 @@ impl Holdings<'_> {
             ≡ record self.old.agenda { queue = self.new.agenda.queue; room = self.new.agenda.room } }
         ensures empty { IfNone result (self.old.agenda.queue ≡ []) }
         ensures same { IfNone result (self.new ≡ self.old) }
-        ensures awaiting { AreAwaiting self.old → AreAwaiting self.new }
         ensures rest { KeepsButAgenda self.old self.new }
     {
         self.agenda.pop()
@@ -137,7 +132,6 @@ impl Holdings<'_> {
           queue = item ∷ self.old.agenda.queue;
           room = self.old.agenda.room - 1;
         } }
-        ensures awaiting { AreAwaiting self.old → AreAwaiting self.new }
         ensures rest { KeepsButAgenda self.old self.new }
     {
         self.agenda.put_back(item);

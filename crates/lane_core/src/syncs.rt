@@ -39,7 +39,6 @@ use phys_memory::LanePages;
 use std::alloc::{AllocError, Global};
 
 impl Holdings<'_> {
-    ghost use Rattle.lane_core.specs.Awaiting.{AreAwaiting};
     ghost use Rattle.lane_core.specs.Changes.{KeepsState};
     ghost use Rattle.lane_core.specs.Ideal.{given, ideal_of};
     ghost use Rattle.lane_core.specs.Wire.{IsWired, wire_of};
@@ -56,7 +55,6 @@ impl Holdings<'_> {
             Gives (given self.new answer) ≡ syncs.sync map ops.0 (ideal_of self.old)) }
         ensures wire { IfOk result (λ answer.
             wire_of self.new ≡ wires.sync map ops.0 (ideal_of self.old) (wire_of self.old)) }
-        ensures awaiting { AreAwaiting self.old → AreAwaiting self.new }
         ensures script { self.new.script ≡ self.old.script }
         ensures memories { self.new.memories ≡ self.old.memories }
         ensures agenda { self.new.agenda ≡ self.old.agenda }
@@ -83,7 +81,6 @@ impl Holdings<'_> {
             Gives (given self.new answer) ≡ syncs.sync_range map off len ops.0 (ideal_of self.old)) }
         ensures wire { IfOk result (λ answer.
             wire_of self.new ≡ wires.sync_range map off len ops.0 (ideal_of self.old) (wire_of self.old)) }
-        ensures awaiting { AreAwaiting self.old → AreAwaiting self.new }
         ensures script { self.new.script ≡ self.old.script }
         ensures memories { self.new.memories ≡ self.old.memories }
         ensures agenda { self.new.agenda ≡ self.old.agenda }
@@ -116,7 +113,6 @@ impl Holdings<'_> {
         ensures wire { IfOk result (λ answer. (o : LaneMap) → get (ideal_of self.old).maps map ≡ Some o →
             wire_of self.new ≡ if_done (syncs.sync_part map o off len ops.0 (ideal_of self.old))
             (wires.synced map off len ops.0 (ideal_of self.old) (wire_of self.old)) (wire_of self.old)) }
-        ensures awaiting { AreAwaiting self.old → AreAwaiting self.new }
         ensures script { self.new.script ≡ self.old.script }
         ensures memories { self.new.memories ≡ self.old.memories }
         ensures agenda { self.new.agenda ≡ self.old.agenda }

@@ -41,7 +41,6 @@ fn allocates(limits: &TagLimits) -> bool
 }
 
 impl Holdings<'_> {
-    ghost use Rattle.lane_core.specs.Awaiting.{AreAwaiting};
     ghost use Rattle.lane_core.specs.Changes.{KeepsBytes, KeepsButTags, KeepsState};
     ghost use Rattle.lane_core.specs.Ideal.{given, ideal_of};
     ghost use Rattle.lane_core.specs.TagPlan.{IsPlan};
@@ -65,7 +64,6 @@ impl Holdings<'_> {
         ensures err { OnErr result (KeepsState self.old self.new) }
         ensures undone { OnErr result (IsUndone (D.seen door.old) (D.seen door.new)) }
         ensures bytes { KeepsBytes self.old self.new }
-        ensures awaiting { Stands (ideal_of self.old) → AreAwaiting self.old → AreAwaiting self.new }
         ensures script { self.new.script ≡ self.old.script }
         ensures memories { self.new.memories ≡ self.old.memories }
         ensures agenda { self.new.agenda ≡ self.old.agenda }
@@ -122,7 +120,6 @@ impl Holdings<'_> {
         ensures done { IfOk result (λ answer. Gives (given self.new answer)
             ≡ gives (with_tag self.old.agenda.place tag false (ideal_of self.old)) Done) }
         ensures err { OnErr result (ideal_of self.new ≡ ideal_of self.old) }
-        ensures awaiting { Stands (ideal_of self.old) → AreAwaiting self.old → AreAwaiting self.new }
         ensures rest { KeepsButTags self.old self.new }
     {
         self.tags.reserve(alloc)?;
@@ -145,7 +142,6 @@ impl Holdings<'_> {
             (given self.new answer) (D.seen door.new)) }
         ensures err { OnErr result (ideal_of self.new ≡ ideal_of self.old) }
         ensures undone { OnErr result (IsUndone (D.seen door.old) (D.seen door.new)) }
-        ensures awaiting { Stands (ideal_of self.old) → AreAwaiting self.old → AreAwaiting self.new }
         ensures rest { KeepsButTags self.old self.new }
         ensures fixed { D.fixed door.new ≡ D.fixed door.old }
     {
@@ -162,7 +158,6 @@ impl Holdings<'_> {
         requires vacant { get self.old.tags.map self.old.agenda.place ≡ None }
         ensures done { ideal_of self.new
             ≡ (if made then with_tag self.old.agenda.place tag true (ideal_of self.old) else ideal_of self.old) }
-        ensures awaiting { Stands (ideal_of self.old) → AreAwaiting self.old → AreAwaiting self.new }
         ensures rest { KeepsButTags self.old self.new }
     {
         if made {
@@ -176,7 +171,6 @@ impl Holdings<'_> {
         requires going { self.old.agenda.place < self.old.agenda.length }
         requires vacant { get self.old.tags.map self.old.agenda.place ≡ None }
         ensures done { ideal_of self.new ≡ with_tag self.old.agenda.place tag first_done (ideal_of self.old) }
-        ensures awaiting { Stands (ideal_of self.old) → AreAwaiting self.old → AreAwaiting self.new }
         ensures rest { KeepsButTags self.old self.new }
     {
         let place = self.agenda.place();
@@ -187,7 +181,6 @@ impl Holdings<'_> {
     pub(crate) fn destroy_tag(&mut self, tag: u32) -> Answer
         ensures done { Gives (given self.new result) ≡ tags.tag_destroy tag (ideal_of self.old) }
         ensures bytes { KeepsBytes self.old self.new }
-        ensures awaiting { AreAwaiting self.old → AreAwaiting self.new }
         ensures script { self.new.script ≡ self.old.script }
         ensures memories { self.new.memories ≡ self.old.memories }
         ensures agenda { self.new.agenda ≡ self.old.agenda }

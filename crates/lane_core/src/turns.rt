@@ -9,7 +9,6 @@ ghost use Rattle.ideal_lane.specs.Turns.{lane_step};
 ghost use Rattle.ideal_wire.specs.WireStep as wires;
 ghost use Rattle.lane_core.specs.declared.holdings.Holdings.{Holdings};
 ghost use Rattle.lane_core.specs.declared.turn.Turn.{Turn};
-ghost use Rattle.lane_core.specs.Awaiting.{AreAwaiting};
 ghost use Rattle.lane_core.specs.Changes.{KeepsAgenda, KeepsState};
 ghost use Rattle.lane_core.specs.Doing.{IsAllowedBy, IsUndone};
 ghost use Rattle.lane_core.specs.Turning.{IsMade, IsReady, MayWant, is_held, turned};
@@ -31,13 +30,12 @@ pub(crate) fn turns_leave_ready()
 
 impl Holdings<'_> {
     ghost use Rattle.lane_core.specs.Ideal.{ideal_of};
-    ghost use Rattle.lane_core.specs.Provided.{IsProvided};
+    ghost use Rattle.lane_core.specs.SmallLoads.{HasSmallLoads};
 
     /// The first page of the return queue goes back to its zone, if there is one.
     pub(crate) fn return_turn<D: HubDoor>(&mut self, door: &mut D) -> Option<Turn>
         requires { IsAllowedBy (D.seen door.old) self.old.id.0 (lane_step (ideal_of self.old) side.Script) }
         ensures made { IfSome result (IsMade self.old self.new (D.seen door.old) (D.seen door.new) side.Script) }
-        ensures awaiting { AreAwaiting self.old → AreAwaiting self.new }
         ensures script { self.new.script ≡ self.old.script }
         ensures memories { self.new.memories ≡ self.old.memories }
         ensures place { self.new.agenda.place ≡ self.old.agenda.place }
@@ -59,7 +57,7 @@ impl Holdings<'_> {
         door: &mut D,
     ) -> Result<Turn, AllocError>
         requires ready { IsReady self.old (D.seen door.old) }
-        requires provided { IsProvided self.old }
+        requires small { HasSmallLoads self.old }
         requires length { self.old.agenda.length ≡ length self.old.script.now }
         requires empty { self.old.agenda.returns ≡ [] }
         ensures made { IfOk result (IsMade self.old self.new (D.seen door.old) (D.seen door.new) side.Script) }
@@ -67,7 +65,7 @@ impl Holdings<'_> {
         ensures undone { OnErr result (IsUndone (D.seen door.old) (D.seen door.new)) }
         ensures room { OnErr result (self.old.agenda.room ≤ self.new.agenda.room) }
         ensures places { self.new.agenda.length ≡ self.old.agenda.length }
-        ensures provided { IsProvided self.new }
+        ensures small { HasSmallLoads self.new }
         ensures fixed { D.fixed door.new ≡ D.fixed door.old }
     {
         let place = self.agenda.place();
@@ -85,7 +83,7 @@ impl Holdings<'_> {
     /// The script: a page goes back, or else the next operation is done.
     fn script_turn<D: HubDoor>(&mut self, alloc: Global, door: &mut D) -> Result<Turn, AllocError>
         requires ready { IsReady self.old (D.seen door.old) }
-        requires provided { IsProvided self.old }
+        requires small { HasSmallLoads self.old }
         requires length { self.old.agenda.length ≡ length self.old.script.now }
         ensures made { IfOk result (IsMade self.old self.new (D.seen door.old) (D.seen door.new) side.Script) }
         ensures err { OnErr result (KeepsState self.old self.new) }
@@ -93,7 +91,7 @@ impl Holdings<'_> {
         ensures wanting { OnErr result (self.old.agenda.returns ≡ []) }
         ensures room { OnErr result (self.old.agenda.room ≤ self.new.agenda.room) }
         ensures places { self.new.agenda.length ≡ self.old.agenda.length }
-        ensures provided { IsProvided self.new }
+        ensures small { HasSmallLoads self.new }
         ensures fixed { D.fixed door.new ≡ D.fixed door.old }
     {
         match self.return_turn(door) {
@@ -110,14 +108,14 @@ impl Holdings<'_> {
         side: Side,
     ) -> Result<Turn, AllocError>
         requires ready { IsReady self.old (D.seen door.old) }
-        requires provided { IsProvided self.old }
+        requires small { HasSmallLoads self.old }
         requires length { self.old.agenda.length ≡ length self.old.script.now }
         ensures made { IfOk result (IsMade self.old self.new (D.seen door.old) (D.seen door.new) side) }
         ensures err { OnErr result (KeepsState self.old self.new) }
         ensures undone { OnErr result (IsUndone (D.seen door.old) (D.seen door.new)) }
         ensures wanting { OnErr result (MayWant (ideal_of self.old) side) }
         ensures ready { IsReady self.new (D.seen door.new) }
-        ensures provided { IsProvided self.new }
+        ensures small { HasSmallLoads self.new }
         ensures length { self.new.agenda.length ≡ length self.new.script.now }
         ensures fixed { D.fixed door.new ≡ D.fixed door.old }
     {
@@ -136,7 +134,6 @@ impl Holdings<'_> {
         ensures unheld { IfOk result (λ turn. is_held turn ≡ false) }
         ensures wire { OnOk result (wire_of self.new
             ≡ wires.lane_step (ideal_of self.old) side.Transfer (wire_of self.old)) }
-        ensures awaiting { AreAwaiting self.old → AreAwaiting self.new }
         ensures script { self.new.script ≡ self.old.script }
         ensures memories { self.new.memories ≡ self.old.memories }
         ensures agenda { KeepsAgenda self.old self.new }

@@ -14,7 +14,6 @@ use busdma_base::{Answer, ReportName, ZoneId};
 use dma_map::MapState;
 
 impl Holdings<'_> {
-    ghost use Rattle.lane_core.specs.Awaiting.{AreAwaiting, KeepsReach, KeepsWaiting};
     ghost use Rattle.lane_core.specs.Changes.{KeepsBytesBut, KeepsBytesHeld};
     ghost use Rattle.lane_core.specs.Ideal.{given, ideal_of};
 
@@ -22,7 +21,6 @@ impl Holdings<'_> {
     pub(crate) fn unload(&mut self, map: u32) -> Answer
         ensures done { Gives (given self.new result) ≡ unloads.unload map (ideal_of self.old) }
         ensures bytes { KeepsBytesHeld self.old self.new }
-        ensures awaiting { AreAwaiting self.old → AreAwaiting self.new }
         ensures script { self.new.script ≡ self.old.script }
         ensures memories { self.new.memories ≡ self.old.memories }
         ensures promised { self.new.agenda.promised ≤ self.old.agenda.promised }
@@ -47,8 +45,6 @@ impl Holdings<'_> {
         ensures done { (o : LaneMap) → get (ideal_of self.old).maps map ≡ Some o →
             ideal_of self.new ≡ unpaged map o (pages_of o.stage) (unlent map (ideal_of self.old)) }
         ensures bytes { KeepsBytesHeld self.old self.new }
-        ensures waiting { KeepsWaiting self.old self.new }
-        ensures reach { KeepsReach self.old self.new }
         ensures script { self.new.script ≡ self.old.script }
         ensures memories { self.new.memories ≡ self.old.memories }
         ensures promised { self.new.agenda.promised ≤ self.old.agenda.promised }

@@ -1,18 +1,18 @@
 //! Loads that need bounce pages: what is made ready before their wish for pages, and how they go on after it.
 
-ghost use Rattle.std.specs.Prelude.{◌≡◌, ℕ, ◌+◌, ◌-◌, ◌<◌, ◌≤◌, ◌^◌, ◌==◌, true, false, length, Some, None};
+ghost use Rattle.std.specs.Prelude.{◌≡◌, ◌+◌, ◌-◌, ◌<◌, ◌≤◌, ◌^◌, true, length, Some, None};
 ghost use Rattle.std.specs.Prelude.{OnErr, OnOk};
 ghost use Rattle.std.specs.FinMap.{get, insert, remove};
 ghost use Rattle.busdma_machine.specs.declared.report.Judged.TheVariants.{Fine};
 ghost use Rattle.busdma_machine.specs.Bounce.Door.{grab_reply};
-ghost use Rattle.loan_table.specs.Table.{IsPrepared};
 ghost use Rattle.ideal_lane.specs.Loads.{Asked, granted, limits_of, load_entries, staged};
 ghost use Rattle.ideal_lane.specs.Standing.{Stands};
 ghost use Rattle.ideal_lane.specs.State.{LaneMap, Waiting};
-ghost use Rattle.lane_core.specs.Awaiting.{kept_load};
+ghost use Rattle.ideal_wire.specs.Laid.{AreInPages};
+ghost use Rattle.lane_core.specs.declared.kept.KeptMap.{KeptMap};
 ghost use Rattle.lane_core.specs.Kept.{waits_of};
 ghost use Rattle.lane_core.specs.Covered.{is_idle_map, pages_due};
-ghost use Rattle.lane_core.specs.Loading.{HasNeed, HasRoomForAny, IsLoadable, bio_chunks, bio_of, bio_reached};
+ghost use Rattle.lane_core.specs.Loading.{AreOfMap, HasNeed, HasRoomForAny, IsLoadable, bio_chunks, bio_of, bio_reached};
 ghost use Rattle.lane_core.specs.Loading.{load_loan};
 
 use crate::buffers::LoadBytes;
@@ -23,7 +23,7 @@ use dma_map::LoadRoom;
 use std::alloc::{AllocError, Global};
 
 impl<'s> Holdings<'s> {
-    ghost use Rattle.lane_core.specs.Awaiting.{AreAwaiting, AreAwaitingBut};
+    ghost use Rattle.lane_core.specs.Awaiting.{IsAwaiting, limits_at};
     ghost use Rattle.lane_core.specs.Changes.{KeepsAgenda, KeepsBytes, KeepsBytesBut, KeepsState};
     ghost use Rattle.lane_core.specs.Ideal.{given, ideal_of};
 
@@ -37,9 +37,9 @@ impl<'s> Holdings<'s> {
     ) -> Result<(), AllocError>
         requires idle { is_idle_map (get self.old.maps.map map) ≡ true }
         requires own { get self.old.memories.map map ≡ None }
-        requires unprepared { get self.old.loans.prepared map ≡ None }
         requires reached { bio_reached (ideal_of self.old) (bio_of bytes) ≡ Fine }
         requires loadable { IsLoadable self.old.pages.now (bio_of bytes) }
+        requires mine { AreOfMap (ideal_of self.old) map (bio_of bytes) }
         requires few { self.old.agenda.promised + need < 2 ^ 32 }
         ensures prepared { OnOk result (self.new.loans.prepared ≡ insert self.old.loans.prepared map
             (load_loan (ideal_of self.old) map (bio_of bytes.entry))) }
@@ -59,9 +59,9 @@ impl<'s> Holdings<'s> {
         ready
     }
 
-    /// Takes back what was made ready for a load.
+    /// Takes back what was made ready for the load of an idle map.
     pub(crate) fn undo_load(&mut self, map: u32, need: u32)
-        requires prepared { IsPrepared self.old.loans map }
+        requires idle { is_idle_map (get self.old.maps.map map) ≡ true }
         requires promised { pages_due self.old.maps.map + need ≤ self.old.agenda.promised }
         ensures prepared { self.new.loans.prepared ≡ remove self.old.loans.prepared map }
         ensures agenda { self.new.agenda ≡ record self.old.agenda { promised = self.old.agenda.promised - need } }
@@ -78,15 +78,14 @@ impl<'s> Holdings<'s> {
     pub(crate) fn wait_load(&mut self, map: u32, load_at: u32, load: KeptLoad<'s>, room: LoadRoom)
         requires idle { is_idle_map (get self.old.maps.map map) ≡ true }
         requires promised { pages_due self.old.maps.map + load.need ≤ self.old.agenda.promised }
+        requires awaiting { (o : KeptMap) → get self.old.maps.map map ≡ Some o →
+            IsAwaiting self.old.pages.now self.old.maxmem (limits_at self.old.tags.map o.tag)
+            (get self.old.loans.prepared map) load room }
         ensures done { (o : LaneMap) → get (ideal_of self.old).maps map ≡ Some o →
             ideal_of self.new ≡ staged map o (Waiting (waits_of load_at load.entry)) (ideal_of self.old) }
         ensures bytes { KeepsBytes self.old self.new }
         ensures agenda { self.new.agenda ≡ self.old.agenda }
         ensures memories { self.new.memories ≡ self.old.memories }
-        ensures waits { kept_load (get self.new.maps.map map) ≡ Some (load_at, load.entry, room) }
-        ensures others { (m : ℕ) → (m == map) ≡ false →
-            kept_load (get self.new.maps.map m) ≡ kept_load (get self.old.maps.map m) }
-        ensures prepared { self.new.loans.prepared ≡ self.old.loans.prepared }
     {
         if let Some(kept) = self.maps.get_mut(map) {
             kept.map.wait(load_at, load, room);
@@ -106,8 +105,7 @@ impl<'s> Holdings<'s> {
         requires stands { Stands (ideal_of self.old) }
         requires idle { is_idle_map (get self.old.maps.map map) ≡ true }
         requires own { get self.old.memories.map map ≡ None }
-        requires awaiting { AreAwaitingBut map self.old }
-        requires reached { bio_reached (ideal_of self.old) (bio_of bytes) ≡ Fine }
+        requires paged { AreInPages self.old.pages.now (bio_of bytes) }
         requires loadable { IsLoadable self.old.pages.now (bio_of bytes) }
         requires room { (o : LaneMap) → get (ideal_of self.old).maps map ≡ Some o →
             HasRoomForAny (limits_of (ideal_of self.old) o)
@@ -122,7 +120,6 @@ impl<'s> Holdings<'s> {
             x.items ≡ items →
             given self.new result ≡ granted map o x
             (bio_chunks (ideal_of self.old) o (bio_of bytes.entry)) (ideal_of self.old) (grab_reply got) }
-        ensures awaiting { AreAwaiting self.new }
         ensures bytes { KeepsBytesBut map self.old self.new }
         ensures memories { self.new.memories ≡ self.old.memories }
         ensures agenda { KeepsAgenda self.old self.new }

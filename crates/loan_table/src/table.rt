@@ -153,7 +153,8 @@ impl LoanTable {
         self.put_map(alloc, map, bytes, coherent, true)
     }
 
-    /// Prepares a map over the bytes of a buffer, in order, so that it can be opened without memory.
+    /// Prepares a map over the bytes of a buffer, in order, so that it can be opened without memory. What was
+    /// prepared for the map before is forgotten.
     pub fn prepare_map(
         &mut self,
         alloc: Global,
@@ -162,7 +163,6 @@ impl LoanTable {
         coherent: bool,
     ) -> Result<(), AllocError>
         requires fresh { IsNone (finmap.get self.old.loans map.made_at) }
-        requires unprepared { IsNone (finmap.get self.old.prepared map.made_at) }
         requires there { AreIn self.old.bytes (addresses bytes.now) }
         requires total { byte_count bytes.now < 2 ^ 64 }
         ensures prepared { OnOk result (self.new.prepared
@@ -235,9 +235,9 @@ impl LoanTable {
         keep_gone(&mut self.gone, row);
     }
 
-    /// Forgets what is prepared for a map.
+    /// Forgets what is prepared for a map, if anything is.
     pub fn drop_prepared(&mut self, map: MapId)
-        requires { IsPrepared self.old map.made_at }
+        requires { IsNone (finmap.get self.old.loans map.made_at) }
         ensures prepared { self.new.prepared ≡ finmap.remove self.old.prepared map.made_at }
         ensures bytes { self.new.bytes ≡ self.old.bytes }
         ensures loans { self.new.loans ≡ self.old.loans }

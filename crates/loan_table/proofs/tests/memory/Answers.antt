@@ -18,11 +18,6 @@ prepare_map-requires-clause-fresh g c =
     ap (λ (loans : Loans). is_some (get loans c.id-map.result.made_at)) (c.add_bytes.ensures.loans
     ∙ c.new-table.ensures.loans) ∙ ap is_some (get-empty nat_cmp c.id-map.result.made_at)
 
-pub prepare_map-requires-clause-unprepared : goal.prepare_map-requires-clause-unprepared
-prepare_map-requires-clause-unprepared g c =
-    ap (λ (loans : Loans). is_some (get loans c.id-map.result.made_at)) (c.add_bytes.ensures.prepared
-    ∙ c.new-table.ensures.prepared) ∙ ap is_some (get-empty nat_cmp c.id-map.result.made_at)
-
 pub prepare_map-requires-clause-there : goal.prepare_map-requires-clause-there
 prepare_map-requires-clause-there g c =
     subst (λ bytes. AreIn c.add_bytes.new.self.bytes bytes) (sym (append-nil (run_of c.args.at 8)))

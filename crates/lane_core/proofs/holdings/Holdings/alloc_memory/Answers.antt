@@ -24,25 +24,9 @@ use Rattle.lane_core.proofs.Doors.{done-asks}
 use Rattle.lane_core.proofs.Keeping.{told-some}
 use Rattle.lane_core.proofs.MapValues.{image-some}
 use Rattle.lane_core.proofs.MemorySteps.{alloc-count, first-of-run, frames-some, holds-new, make-asks, placed-memory}
-use Rattle.lane_core.proofs.RoomSteps.{room-awaiting, room-ideal}
+use Rattle.lane_core.proofs.RoomSteps.{room-ideal}
 use Rattle.memory_pages.proofs.Runs.{row_is}
 use Rattle.lane_core.proofs.holdings.Holdings.alloc_memory.Goals as goal
-
-pub returns-in_err-reserve_memory-clause-awaiting : goal.returns-in_err-reserve_memory-clause-awaiting
-returns-in_err-reserve_memory-clause-awaiting g c =
-    room-awaiting c.args.self.now c.reserve_memory.new.self c.reserve_memory.ensures.rest c.requires.awaiting
-
-pub returns-in_err-pages-clause-awaiting : goal.returns-in_err-pages-clause-awaiting
-returns-in_err-pages-clause-awaiting g c =
-    room-awaiting c.args.self.now c.reserve_memory.new.self c.reserve_memory.ensures.rest c.requires.awaiting
-
-pub returns-in_default-clause-awaiting : goal.returns-in_default-clause-awaiting
-returns-in_default-clause-awaiting g c =
-    room-awaiting c.args.self.now c.reserve_memory.new.self c.reserve_memory.ensures.rest c.requires.awaiting
-
-pub keep_memory-requires-clause-awaiting : goal.keep_memory-requires-clause-awaiting
-keep_memory-requires-clause-awaiting g c =
-    room-awaiting c.args.self.now c.reserve_memory.new.self c.reserve_memory.ensures.rest c.requires.awaiting
 
 pub returns-in_default-clause-done : goal.returns-in_default-clause-done
 returns-in_default-clause-done g c =

@@ -25,7 +25,6 @@ use Rattle.ideal_lane.specs.Unloads.{unlent}
 use Rattle.lane_core.specs.Ideal.{ideal_of}
 use Rattle.lane_core.specs.Kept.{map_of, return_of}
 use Rattle.lane_core.specs.Loading.{bio_of, map_chunks}
-use Rattle.lane_core.proofs.AwaitingLoads.{awaiting-finished}
 use Rattle.lane_core.proofs.Chunked.{copy-fits}
 use Rattle.lane_core.proofs.Keeping.{idle-there}
 use Rattle.lane_core.proofs.Loaded.{none-loaned}
@@ -165,33 +164,3 @@ returns-clause-agenda c =
         queued-from c.args.load_at 0 c.args.items,
       );
     }
-
-pub returns-then-not-few-clause-awaiting : goal.returns-then-not-few-clause-awaiting
-returns-then-not-few-clause-awaiting c =
-    let h = c.args.self.now in
-    let l = ideal_of h in
-    let m = c.args.map in
-    let idle = idle-there (get h.maps.map m) c.requires.idle in
-    let o = map_of idle.0 in
-    let is = image-some map_of h.maps.map m idle.0 idle.1 in
-    let chunks = map_chunks l m o (bio_of c.args.bytes) in
-    let x : Asked = asked m (bio_of c.args.bytes) false c.args.items l in
-    let then = c.end_load.ensures.waiting in
-    awaiting-finished h _ m o c.args.load_at x chunks (page_addresses c.args.pages.items)
-    (ap (λ (y : Outcome). y.lane) (returns-then-not-few-clause-done c o x is refl refl))
-    (λ q. then.kept q ∙ c.store_load.ensures.kept q) (then.prepared ∙ c.store_load.ensures.prepared) c.requires.idle
-    c.requires.awaiting
-
-pub returns-clause-awaiting : goal.returns-clause-awaiting
-returns-clause-awaiting c =
-    let h = c.args.self.now in
-    let l = ideal_of h in
-    let m = c.args.map in
-    let idle = idle-there (get h.maps.map m) c.requires.idle in
-    let o = map_of idle.0 in
-    let is = image-some map_of h.maps.map m idle.0 idle.1 in
-    let chunks = map_chunks l m o (bio_of c.args.bytes) in
-    let x : Asked = asked m (bio_of c.args.bytes) false c.args.items l in
-    awaiting-finished h _ m o c.args.load_at x chunks (page_addresses c.args.pages.items)
-    (ap (λ (y : Outcome). y.lane) (returns-clause-done c o x is refl refl)) c.store_load.ensures.kept
-    c.store_load.ensures.prepared c.requires.idle c.requires.awaiting

@@ -10,7 +10,7 @@ use Rattle.lane_core.proofs.CpuWrites.{cpu_write-wire, wire-idle}
 use Rattle.lane_core.proofs.Marks.{has_set_all}
 use Rattle.lane_core.proofs.Reaching.{same-physical, same-placed, same-standing}
 use Rattle.std.proofs.Common.{refl}
-use Rattle.lane_core.proofs.AwaitingSteps.{awaits-same}
+use Rattle.lane_core.proofs.Awaiting.{still-awaiting, still-ready}
 use Rattle.lane_core.proofs.holdings.Holdings.cpu_write.Goals as goal
 
 pub returns-in_default-clause-done : goal.returns-in_default-clause-done
@@ -110,17 +110,18 @@ returns-clause-wire c =
     (rw c.as_slice.ensures at (sym c.in_default-may_cpu_write.is ∙ c.may_cpu_write.ensures))
     c.write_parts.new.memory.memory (rw c.as_slice-2.ensures at c.write_parts.ensures.wire)
 
-pub returns-clause-awaiting : goal.returns-clause-awaiting
-returns-clause-awaiting c =
-    awaits-same c.args.self.now _ refl refl refl (c.note_write.ensures.prepared ∙ c.reserve.ensures.same.prepared)
-    refl refl
-
-pub returns-in_err-reserve-clause-awaiting : goal.returns-in_err-reserve-clause-awaiting
-returns-in_err-reserve-clause-awaiting c =
-    awaits-same c.args.self.now _ refl refl refl c.reserve.ensures.same.prepared refl refl
-
 pub invariant_of-self-2-clause-unlent : goal.invariant_of-self-2-clause-unlent
 invariant_of-self-2-clause-unlent c = c.args.self.now.unlent
 
 pub invariant_of-self-2-clause-tried : goal.invariant_of-self-2-clause-tried
 invariant_of-self-2-clause-tried c = c.args.self.now.tried
+
+pub invariant_of-self-2-clause-awaiting : goal.invariant_of-self-2-clause-awaiting
+invariant_of-self-2-clause-awaiting c =
+    still-awaiting c.args.self.now c.note_write.new.self.prepared
+    (c.note_write.ensures.prepared ∙ c.reserve.ensures.same.prepared)
+
+pub invariant_of-self-2-clause-ready : goal.invariant_of-self-2-clause-ready
+invariant_of-self-2-clause-ready c =
+    still-ready c.args.self.now c.note_write.new.self.prepared
+    (c.note_write.ensures.prepared ∙ c.reserve.ensures.same.prepared)

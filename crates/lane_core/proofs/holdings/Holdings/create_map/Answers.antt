@@ -19,7 +19,6 @@ use Rattle.lane_core.proofs.Doors.{allowed-asks, done-asks}
 use Rattle.lane_core.proofs.MapSteps.{map-created}
 use Rattle.lane_core.proofs.MapValues.{image-some}
 use Rattle.std.proofs.Common.{refl}
-use Rattle.lane_core.proofs.AwaitingSteps.{awaits-same}
 use Rattle.lane_core.proofs.holdings.Holdings.create_map.Goals as goal
 
 pub create_map-requires : goal.create_map-requires
@@ -85,16 +84,3 @@ returns-clause-bytes g c =
       own = bytes.own;
       pages = λ m. bytes.pages m ∙ ap (λ t. (devices_of t.map m).pages) kept;
     }
-
-pub returns-clause-awaiting : goal.returns-clause-awaiting
-returns-clause-awaiting g c are =
-    c.keep_created.ensures.awaiting (awaits-same c.args.self.now _ refl refl refl refl refl
-    (ap (λ t. t.map) c.in_ok-reserve.ensures.kept) are)
-
-pub returns-in_err-reserve-clause-awaiting : goal.returns-in_err-reserve-clause-awaiting
-returns-in_err-reserve-clause-awaiting g c =
-    awaits-same c.args.self.now _ refl refl refl refl refl (ap (λ t. t.map) c.reserve.ensures.kept)
-
-pub returns-in_err-grown-clause-awaiting : goal.returns-in_err-grown-clause-awaiting
-returns-in_err-grown-clause-awaiting g c =
-    awaits-same c.args.self.now _ refl refl refl refl refl (ap (λ t. t.map) c.reserve.ensures.kept)

@@ -47,7 +47,6 @@ returns-in_default-state g c =
           (image-some map_of h.maps.map c.args.map o (sym c.in-Some.ensures))
           (state-busy o.map.stage (λ e. c.in_default-state.not-Idle (c.state.ensures ∙ e))));
       bytes = bytes-same h;
-      awaiting = λ are. are;
       script = refl;
       memories = refl;
       agenda = refl;

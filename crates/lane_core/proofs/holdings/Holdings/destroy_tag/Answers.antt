@@ -1,4 +1,4 @@
-use Rattle.std.proofs.Common.{◌≡◌, Some, ap, sym, ◌∙◌}
+use Rattle.std.proofs.Common.{◌≡◌, Some, ap, sym, ◌∙◌, subst}
 use Rattle.std.specs.FinMap.{get}
 use Rattle.busdma_base.specs.declared.journals.answer.Answer.TheVariants.{Done}
 use Rattle.ideal_lane.specs.Asking.{Gives}
@@ -9,10 +9,8 @@ use Rattle.lane_core.specs.MapValues.{map_values}
 use Rattle.lane_core.proofs.Keeping.{on-some}
 use Rattle.lane_core.proofs.MapValues.{image-none, image-some, map_values-remove}
 use Rattle.lane_core.proofs.TagSteps.{destroy-absent, destroy-busy, destroy-done}
-use Rattle.std.proofs.Common.{refl}
-use Rattle.std.specs.FinMap.{remove}
-use Rattle.ideal_wire.proofs.KeptTags.{untagged}
-use Rattle.lane_core.proofs.AwaitingSteps.{awaits-tags}
+use Rattle.lane_core.proofs.Awaiting.{awaiting-untagged, none-tagged}
+use Rattle.lane_core.specs.Awaiting.{AreAwaiting}
 use Rattle.lane_core.proofs.holdings.Holdings.destroy_tag.Goals as goal
 
 pub returns-in_default-clause-done : goal.returns-in_default-clause-done
@@ -41,12 +39,11 @@ returns-clause-done c =
     (image-some tag_of h.tags.map c.args.tag c.in-Some.field-0.now there)
     (sym c.has_maps.ensures ∙ c.if-has_maps.false))
 
-pub returns-clause-awaiting : goal.returns-clause-awaiting
-returns-clause-awaiting c =
+pub invariant_of-self-clause-awaiting : goal.invariant_of-self-clause-awaiting
+invariant_of-self-clause-awaiting c =
     let h = c.args.self.now in
-    let l = ideal_of h in
     let there : get h.tags.map c.args.tag ≡ Some c.in-Some.field-0.now = sym c.in-Some.ensures in
     let taken = on-some c.take.result c.in-Some.field-0.now (c.take.ensures.value ∙ there) c.take.ensures.taken in
-    awaits-tags h _ refl refl refl refl (remove l.tags c.args.tag)
-    (ap (λ t. map_values tag_of t.map) taken ∙ map_values-remove tag_of h.tags.map c.args.tag)
-    (untagged l c.args.tag (sym c.has_maps.ensures ∙ c.if-has_maps.false)) refl
+    subst (λ ts. AreAwaiting h.pages.now h.maxmem ts.map h.maps.map h.loans.prepared) (sym taken)
+    (awaiting-untagged h.pages.now h.maxmem h.tags.map h.maps.map h.loans.prepared h.awaiting c.args.tag
+    (none-tagged h.maps.map c.args.tag (sym c.has_maps.ensures ∙ c.if-has_maps.false)))

@@ -1,4 +1,4 @@
-use Rattle.std.proofs.Common.{◌≡◌, Some, refl, ap, sym, ◌∙◌}
+use Rattle.std.proofs.Common.{◌≡◌, Some, refl, ap, sym, ◌∙◌, subst}
 use Rattle.std.specs.FinMap.{get, insert}
 use Rattle.busdma_base.specs.declared.journals.answer.Answer.TheVariants as answer
 use Rattle.busdma_machine.specs.declared.name.MapId.{MapId}
@@ -14,7 +14,7 @@ use Rattle.lane_core.proofs.DeviceReads.{dev_read-done, dev_read-past, dev_read-
 use Rattle.lane_core.proofs.Devices.{is-reached}
 use Rattle.lane_core.proofs.MapValues.{image-some}
 use Rattle.lane_core.proofs.PutBack.{are-back, ideal-back, pages-back, put-same, wire-back}
-use Rattle.lane_core.proofs.AwaitingSteps.{awaits-same}
+use Rattle.lane_core.specs.Awaiting.{AreAwaiting}
 use Rattle.lane_core.proofs.holdings.Holdings.dev_read.Goals as goal
 
 pub returns-in-Some-past_end-clause-done : goal.returns-in-Some-past_end-clause-done
@@ -32,9 +32,6 @@ returns-in-Refused-clause-done c =
     (sym c.in-Refused.is ∙ c.may_dev_read.ensures
     ∙ ap (λ (m : MapId). dev_read_answer (is_known h.loans) (loan_of h.loans.loans m.made_at) c.args.off c.args.len)
     c.map_id-id.ensures)
-
-pub returns-in-Refused-clause-awaiting : goal.returns-in-Refused-clause-awaiting
-returns-in-Refused-clause-awaiting c = awaits-same c.args.self.now _ refl refl refl refl refl refl
 
 pub read_load-bytes-requires : goal.read_load-bytes-requires
 read_load-bytes-requires c =
@@ -66,6 +63,8 @@ invariant_of-self-2 c =
       own_returns = h.own_returns;
       returning = are.returning;
       tried = are.tried;
+      awaiting = subst (λ ms. AreAwaiting h.pages.now h.maxmem h.tags.map ms h.loans.prepared) (sym maps) h.awaiting;
+      ready = h.ready;
     }
 
 pub returns-clause-done : goal.returns-clause-done
@@ -131,19 +130,3 @@ returns-in_err-bytes-clause-kept c =
       ideal = ideal-back h (insert h.maps.map c.args.map (record o { map = c.read_load-bytes.new.map })) maps;
       bytes = record { own = refl; pages = pages-back h (insert h.maps.map c.args.map (record o { map = c.read_load-bytes.new.map })) maps };
     }
-
-pub returns-clause-awaiting : goal.returns-clause-awaiting
-returns-clause-awaiting c =
-    let h = c.args.self.now in
-    let o : KeptMap = c.in-Some-get_mut.kept.now in
-    let there : get h.maps.map c.args.map ≡ Some o = sym c.in-Some-get_mut.ensures.value in
-    awaits-same h _ refl refl refl refl refl
-    (put-same h.maps.map c.args.map o c.read_load-bytes.new.map there c.read_load-bytes.ensures.kept)
-
-pub returns-in_err-bytes-clause-awaiting : goal.returns-in_err-bytes-clause-awaiting
-returns-in_err-bytes-clause-awaiting c =
-    let h = c.args.self.now in
-    let o : KeptMap = c.in-Some-get_mut.kept.now in
-    let there : get h.maps.map c.args.map ≡ Some o = sym c.in-Some-get_mut.ensures.value in
-    awaits-same h _ refl refl refl refl refl
-    (put-same h.maps.map c.args.map o c.read_load-bytes.new.map there c.read_load-bytes.ensures.kept)

@@ -18,7 +18,7 @@ use Rattle.lane_core.proofs.Reaching.{same-physical, same-placed, same-standing}
 use Rattle.lane_core.proofs.Repaging.{are-maps}
 use Rattle.std.proofs.Common.{refl}
 use Rattle.dma_map.specs.MapView.{waiting_load}
-use Rattle.lane_core.proofs.AwaitingSteps.{awaits-put, awaits-same, loaded-unkept}
+use Rattle.lane_core.proofs.Awaiting.{put-awaiting, still-awaiting, still-ready}
 use Rattle.lane_core.proofs.holdings.Holdings.dev_write.Goals as goal
 
 pub returns-in-Some-past_end-clause-done : goal.returns-in-Some-past_end-clause-done
@@ -28,9 +28,6 @@ returns-in-Some-past_end-clause-done c =
     dev_write-past (ideal_of h) c.args.map (map_of x.0) (image-some map_of h.maps.map c.args.map x.0 x.1) x.2
     c.args.off
     c.args.bytes.now c.in-Some-past_end.refusal c.in-Some-past_end.ensures.refused
-
-pub returns-in-Refused-clause-awaiting : goal.returns-in-Refused-clause-awaiting
-returns-in-Refused-clause-awaiting c = awaits-same c.args.self.now _ refl refl refl refl refl refl
 
 pub write_load-requires : goal.write_load-requires
 write_load-requires c =
@@ -59,6 +56,7 @@ invariant_of-self-2 c =
     ∙ (λ i. set_all (c.reserve_extents.ensures.same.bytes i)
     (load_bytes (c.reserve_extents.ensures.same.loans i)
     (c.map_id-id.ensures i).made_at c.args.off (length c.args.bytes.now)) true) in
+    let prepared = c.note_dev_write.ensures.prepared ∙ c.reserve_extents.ensures.same.prepared in
     record {
       covered = λ a. ap (λ b. contains_key b a) marked
           ∙ has_set_all h.loans.bytes pas true c.in_default-past_end.ensures.inside a
@@ -79,6 +77,9 @@ invariant_of-self-2 c =
       own_returns = h.own_returns;
       returning = are.returning;
       tried = are.tried;
+      awaiting = put-awaiting h c.note_dev_write.new.self.prepared prepared k (record o { map = c.write_load.new.map })
+          (ap (λ m. waiting_load m.stage) c.write_load.ensures.map.is);
+      ready = still-ready h c.note_dev_write.new.self.prepared prepared;
     }
 
 pub returns-clause-done : goal.returns-clause-done
@@ -115,17 +116,3 @@ returns-clause-wire c =
     c.map_id-id.ensures in
     dev_write-wire h c.requires k o there on c.args.off c.args.bytes.now c.in_default-past_end.ensures.range fine
     c.write_load.new.map c.write_load.ensures.map c.write_load.new.memory.memory c.write_load.ensures.view
-
-pub returns-in_err-reserve_extents-clause-awaiting : goal.returns-in_err-reserve_extents-clause-awaiting
-returns-in_err-reserve_extents-clause-awaiting c =
-    awaits-same c.args.self.now _ refl refl refl c.reserve_extents.ensures.same.prepared refl refl
-
-pub returns-clause-awaiting : goal.returns-clause-awaiting
-returns-clause-awaiting c =
-    let h = c.args.self.now in
-    let k = c.args.map in
-    let o : KeptMap = c.in-Some-get_mut.kept.now in
-    awaits-put h _ refl refl refl
-    (c.note_dev_write.ensures.prepared ∙ c.reserve_extents.ensures.same.prepared) refl k
-    (loaded-unkept (get h.maps.map k) c.in_default.ensures.loaded) (record o { map = c.write_load.new.map }) refl
-    (ap (λ m. waiting_load m.stage) c.write_load.ensures.map.is)

@@ -8,7 +8,8 @@ use Rattle.lane_core.proofs.Bytes.{devices-cut, held-alike}
 use Rattle.lane_core.proofs.Keeping.{idle-there, on-some}
 use Rattle.lane_core.proofs.MapTables.{AreMaps, maps-gone, maps-of}
 use Rattle.lane_core.proofs.MapValues.{map_values-remove}
-use Rattle.lane_core.proofs.AwaitingSteps.{awaits-cut, idle-unkept}
+use Rattle.lane_core.proofs.Awaiting.{awaiting-cut}
+use Rattle.lane_core.specs.Awaiting.{AreAwaiting}
 use Rattle.lane_core.proofs.holdings.Holdings.drop_map.Goals as goal
 
 pub invariant_of-self : goal.invariant_of-self
@@ -36,6 +37,9 @@ invariant_of-self c =
       own_returns = h.own_returns;
       returning = are.returning;
       tried = are.tried;
+      awaiting = subst (λ t. AreAwaiting h.pages.now h.maxmem h.tags.map t.map h.loans.prepared) (sym taken)
+          (awaiting-cut h.pages.now h.maxmem h.tags.map h.maps.map h.loans.prepared h.awaiting k);
+      ready = h.ready;
     }
 
 pub returns-clause-done : goal.returns-clause-done
@@ -64,12 +68,3 @@ returns-clause-bytes c =
       own = refl;
       pages = λ m. ap (λ t. (devices_of t.map m).pages) taken ∙ ap (λ d. d.pages) (devices-cut h.maps.map k none m);
     }
-
-pub returns-clause-awaiting : goal.returns-clause-awaiting
-returns-clause-awaiting c =
-    let h = c.args.self.now in
-    let k = c.args.map in
-    let idle = idle-there (get h.maps.map k) c.requires in
-    let taken = on-some c.take.result idle.0 (c.take.ensures.value ∙ idle.1) c.take.ensures.taken in
-    awaits-cut h _ refl refl refl refl refl k (idle-unkept (get h.maps.map k) c.requires)
-    (ap (λ t. t.map) taken)

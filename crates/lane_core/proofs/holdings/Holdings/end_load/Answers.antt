@@ -24,7 +24,8 @@ use Rattle.lane_core.proofs.MapValues.{image-some, map_values-insert}
 use Rattle.lane_core.proofs.Marks.{has_set_all}
 use Rattle.lane_core.proofs.Unloaded.{left, maps-unloaded, own-more, pages-few, pages-held}
 use Rattle.lane_core.proofs.UnloadSteps.{left-is, loaded-tried, pages-are, returns-are, zone-is}
-use Rattle.lane_core.proofs.AwaitingSteps.{left-unkept, loaded-unkept, put-reach, put-waiting}
+use Rattle.lane_core.proofs.Awaiting.{left-unkept, put-awaiting, still-ready}
+use Rattle.lane_core.specs.Awaiting.{AreAwaiting}
 use Rattle.lane_core.proofs.holdings.Holdings.end_load.Goals as goal
 
 pub push_returns-requires : goal.push_returns-requires
@@ -86,6 +87,9 @@ invariant_of-self c =
           (own-more h.id.0 h.agenda.returns m zone p.items (eq-eqb h.id.0 h.id.0 refl) h.own_returns);
       returning = are.returning;
       tried = are.tried;
+      awaiting = subst (λ ms. AreAwaiting h.pages.now h.maxmem h.tags.map ms c.forget.new.self.prepared) (sym maps)
+          (put-awaiting h c.forget.new.self.prepared c.forget.ensures.prepared k (left o p.items) (left-unkept o p.items));
+      ready = still-ready h c.forget.new.self.prepared c.forget.ensures.prepared;
     }
 
 pub returns-in-Some-clause-done : goal.returns-in-Some-clause-done
@@ -181,28 +185,6 @@ returns-in-Some-clause-others c =
     let o : KeptMap = c.in-Some.kept.now in
     let after : KeptMap = record o { map = c.unload-pages.new.self } in
     record { own = refl; pages = λ m off. ap (λ d. d.pages) (devices-elsewhere h.maps.map k after m off) }
-
-pub returns-in-Some-clause-waiting : goal.returns-in-Some-clause-waiting
-returns-in-Some-clause-waiting c =
-    let h = c.args.self.now in
-    let k = c.args.map in
-    let o : KeptMap = c.in-Some.kept.now in
-    let p = c.unload-pages.result in
-    let maps : insert h.maps.map k (record o { map = c.unload-pages.new.self }) ≡ insert h.maps.map k (left o p.items) =
-    ap (λ v. insert h.maps.map k (record o { map = v })) c.unload-pages.ensures.left in
-    put-waiting h _ refl refl refl c.forget.ensures.prepared refl k
-    (loaded-unkept (get h.maps.map k) c.requires) (left o p.items) maps (left-unkept p.items)
-
-pub returns-in-Some-clause-reach : goal.returns-in-Some-clause-reach
-returns-in-Some-clause-reach c =
-    let h = c.args.self.now in
-    let k = c.args.map in
-    let o : KeptMap = c.in-Some.kept.now in
-    let p = c.unload-pages.result in
-    let maps : insert h.maps.map k (record o { map = c.unload-pages.new.self }) ≡ insert h.maps.map k (left o p.items) =
-    ap (λ v. insert h.maps.map k (record o { map = v })) c.unload-pages.ensures.left in
-    put-reach h _ refl refl refl c.forget.ensures.prepared refl k
-    (loaded-unkept (get h.maps.map k) c.requires) (left o p.items) maps (left-unkept p.items)
 
 pub returns-in-Some-clause-promised : goal.returns-in-Some-clause-promised
 returns-in-Some-clause-promised c =

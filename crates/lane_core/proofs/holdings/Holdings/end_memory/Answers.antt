@@ -16,7 +16,6 @@ use Rattle.lane_core.specs.declared.holdings.Answered.{Answered}
 use Rattle.lane_core.specs.Held.{devices_of, held}
 use Rattle.lane_core.specs.Ideal.{given, ideal_of}
 use Rattle.lane_core.specs.Kept.{map_of, memory_of}
-use Rattle.lane_core.proofs.AwaitingSteps.{awaits-same}
 use Rattle.lane_core.proofs.Doors.{allowed-asks, asked, done-asks, done-gives, unasked}
 use Rattle.lane_core.proofs.Following.{beside-same}
 use Rattle.lane_core.proofs.Keeping.{bytes-same, state-busy, state-idle}
@@ -79,19 +78,10 @@ returns-in_default-state g c =
       err = tt;
       undone = tt;
       bytes = beside-same h h (record { ideal = refl; bytes = bytes-same h });
-      awaiting = c.requires.awaiting;
       script = refl;
       agenda = refl;
       fixed = refl;
     }
-
-pub returns-in_err-reserve-clause-awaiting : goal.returns-in_err-reserve-clause-awaiting
-returns-in_err-reserve-clause-awaiting g c =
-    awaits-same c.args.self.now _ refl refl refl c.reserve.ensures.same.prepared refl refl c.requires.awaiting
-
-pub part_memory-requires-clause-awaiting : goal.part_memory-requires-clause-awaiting
-part_memory-requires-clause-awaiting g c =
-    awaits-same c.args.self.now _ refl refl refl c.reserve.ensures.same.prepared refl refl c.requires.awaiting
 
 pub mem_free-requires-clause-allowed : goal.mem_free-requires-clause-allowed
 mem_free-requires-clause-allowed g c =

@@ -5,7 +5,7 @@ use Rattle.lane_core.specs.declared.kept.KeptLoad.{KeptLoad}
 use Rattle.dma_map.specs.declared.room.LoadRoom.{LoadRoom}
 use Rattle.lane_core.specs.Awaiting.{kept_load}
 use Rattle.lane_core.proofs.Called.{waits-kept}
-use Rattle.lane_core.proofs.EndedWaits.{ends-bytes, ends-done, ends-few, ends-idle, ends-items, ends-others}
+use Rattle.lane_core.proofs.EndedWaits.{ends-bytes, ends-done, ends-few, ends-idle, ends-items}
 use Rattle.lane_core.proofs.EndedWaits.{ends-first, ends-prepared}
 use Rattle.lane_core.proofs.EndedWaits.{ends-loadable, ends-promised, ends-reached, ends-room, ends-stands}
 use Rattle.lane_core.proofs.holdings.Holdings.end_wait.Goals as goal
@@ -37,42 +37,42 @@ complete_load-requires-clause-reached c =
     let load : ℕ × KeptLoad × LoadRoom = c.in-Some.load in
     let found : kept_load (get c.args.self.now.maps.map c.args.map) ≡ Some load = sym c.in-Some.ensures.load in
     ends-reached c.args.self.now c.take_load.new.self c.args.map load.0 load.1 load.2 found c.take_load.ensures.maps
-    c.take_load.ensures.rest c.requires.awaiting
+    c.take_load.ensures.rest c.requires.stands
 
 pub complete_load-requires-clause-first : goal.complete_load-requires-clause-first
 complete_load-requires-clause-first c =
     let load : ℕ × KeptLoad × LoadRoom = c.in-Some.load in
     let found : kept_load (get c.args.self.now.maps.map c.args.map) ≡ Some load = sym c.in-Some.ensures.load in
     ends-first c.args.self.now c.take_load.new.self c.args.map load.0 load.1 load.2 found c.take_load.ensures.maps
-    c.take_load.ensures.rest c.requires.awaiting
+    c.take_load.ensures.rest c.requires.stands
 
 pub complete_load-requires-clause-loadable : goal.complete_load-requires-clause-loadable
 complete_load-requires-clause-loadable c =
     let load : ℕ × KeptLoad × LoadRoom = c.in-Some.load in
     let found : kept_load (get c.args.self.now.maps.map c.args.map) ≡ Some load = sym c.in-Some.ensures.load in
     ends-loadable c.args.self.now c.take_load.new.self c.args.map load.0 load.1 load.2 found c.take_load.ensures.maps
-    c.take_load.ensures.rest c.requires.awaiting
+    c.take_load.ensures.rest c.requires.stands
 
 pub complete_load-requires-clause-room : goal.complete_load-requires-clause-room
 complete_load-requires-clause-room c =
     let load : ℕ × KeptLoad × LoadRoom = c.in-Some.load in
     let found : kept_load (get c.args.self.now.maps.map c.args.map) ≡ Some load = sym c.in-Some.ensures.load in
     ends-room c.args.self.now c.take_load.new.self c.args.map load.0 load.1 load.2 found c.take_load.ensures.maps
-    c.take_load.ensures.rest c.requires.awaiting (length c.args.pages.items) c.requires.need
+    c.take_load.ensures.rest c.requires.stands (length c.args.pages.items) c.requires.need
 
 pub complete_load-requires-clause-prepared : goal.complete_load-requires-clause-prepared
 complete_load-requires-clause-prepared c =
     let load : ℕ × KeptLoad × LoadRoom = c.in-Some.load in
     let found : kept_load (get c.args.self.now.maps.map c.args.map) ≡ Some load = sym c.in-Some.ensures.load in
     ends-prepared c.args.self.now c.take_load.new.self c.args.map load.0 load.1 load.2 found c.take_load.ensures.maps
-    c.take_load.ensures.rest c.requires.awaiting
+    c.take_load.ensures.rest c.requires.stands
 
 pub complete_load-requires-clause-few_items : goal.complete_load-requires-clause-few_items
 complete_load-requires-clause-few_items c =
     let load : ℕ × KeptLoad × LoadRoom = c.in-Some.load in
     let found : kept_load (get c.args.self.now.maps.map c.args.map) ≡ Some load = sym c.in-Some.ensures.load in
     ends-items c.args.self.now c.take_load.new.self c.args.map load.0 load.1 load.2 found c.take_load.ensures.maps
-    c.take_load.ensures.rest c.requires.awaiting c.requires.room
+    c.take_load.ensures.rest c.requires.stands c.requires.room
 
 pub complete_load-requires-clause-promised : goal.complete_load-requires-clause-promised
 complete_load-requires-clause-promised c =
@@ -86,7 +86,7 @@ returns-clause-done c =
     let load : ℕ × KeptLoad × LoadRoom = c.in-Some.load in
     let found : kept_load (get c.args.self.now.maps.map c.args.map) ≡ Some load = sym c.in-Some.ensures.load in
     ends-done c.args.self.now c.take_load.new.self c.args.map load.0 load.1 load.2 found c.take_load.ensures.maps
-    c.take_load.ensures.rest c.requires.awaiting
+    c.take_load.ensures.rest c.requires.stands
     c.complete_load.new.self c.complete_load.result
     (page_addresses c.args.pages.items) c.complete_load.ensures.done
 
@@ -97,17 +97,6 @@ returns-clause-bytes c =
     ends-bytes c.args.self.now c.take_load.new.self c.args.map load.0 load.1 load.2 found c.take_load.ensures.maps
     c.take_load.ensures.rest c.complete_load.new.self c.complete_load.ensures.bytes
 
-pub returns-in_default-clause-awaiting : goal.returns-in_default-clause-awaiting
-returns-in_default-clause-awaiting c =
-    absurd (waits-kept c.args.self.now c.args.map c.requires.waits (sym c.take_load.ensures.load ∙ c.in_default.is))
-
-pub complete_load-requires-clause-awaiting : goal.complete_load-requires-clause-awaiting
-complete_load-requires-clause-awaiting c =
-    let load : ℕ × KeptLoad × LoadRoom = c.in-Some.load in
-    let found : kept_load (get c.args.self.now.maps.map c.args.map) ≡ Some load = sym c.in-Some.ensures.load in
-    ends-others c.args.self.now c.take_load.new.self c.args.map load.0 load.1 load.2 found c.take_load.ensures.maps
-    c.take_load.ensures.rest c.requires.awaiting
-
 pub returns-in_default-clause-small : goal.returns-in_default-clause-small
 returns-in_default-clause-small c =
     absurd (waits-kept c.args.self.now c.args.map c.requires.waits (sym c.take_load.ensures.load ∙ c.in_default.is))
@@ -117,6 +106,6 @@ returns-clause-small c =
     let load : ℕ × KeptLoad × LoadRoom = c.in-Some.load in
     let found : kept_load (get c.args.self.now.maps.map c.args.map) ≡ Some load = sym c.in-Some.ensures.load in
     ends-few c.args.self.now c.take_load.new.self c.args.map load.0 load.1 load.2 found c.take_load.ensures.maps
-    c.take_load.ensures.rest c.requires.awaiting
+    c.take_load.ensures.rest c.requires.stands
     c.complete_load.new.self c.complete_load.result (page_addresses c.args.pages.items) c.complete_load.ensures.done
     c.requires.small c.complete_load.ensures.agenda.place c.complete_load.ensures.promised

@@ -11,11 +11,13 @@ use Rattle.lane_core.specs.Held.{devices_of, held}
 use Rattle.lane_core.specs.Ideal.{ideal_of}
 use Rattle.lane_core.specs.Kept.{memory_of}
 use Rattle.lane_core.specs.MapValues.{map_values}
-use Rattle.lane_core.proofs.AwaitingMemories.{awaiting-beside}
 use Rattle.lane_core.proofs.Joining.{frames-new, held-joined, joined-covered, joined-framed, joined-known, joined-own}
 use Rattle.lane_core.proofs.Joining.{joined-placed, joined-reaches, joined-standing, marks-new, run-low}
 use Rattle.lane_core.proofs.KeptMemories.{put-away}
 use Rattle.lane_core.proofs.MapValues.{map_values-insert}
+use Rattle.lane_core.proofs.Awaiting.{still-awaiting, still-ready}
+use Rattle.lane_core.specs.Awaiting.{AreOfMaps}
+use Rattle.lane_core.proofs.OfMaps.{of-maps-join}
 use Rattle.lane_core.proofs.holdings.Holdings.join_memory.Goals as goal
 
 pub put-requires-clause-room : goal.put-requires-clause-room
@@ -85,6 +87,10 @@ invariant_of-self c =
       own_returns = h.own_returns;
       returning = h.returning;
       tried = h.tried;
+      awaiting = still-awaiting h c.add_reserved.new.self.prepared c.add_reserved.ensures.prepared;
+      ready = subst (λ t. AreOfMaps h.pages.now t c.add_reserved.new.self.prepared) (sym map)
+          (of-maps-join h.pages.now h.memories.map c.add_reserved.new.self.prepared
+          (still-ready h c.add_reserved.new.self.prepared c.add_reserved.ensures.prepared) c.place-place.result kept vacant);
     }
 
 pub returns-clause-done : goal.returns-clause-done
@@ -133,15 +139,3 @@ returns-clause-bytes c =
           c.add_reserved.new.self.bytes c.args.zero marked others zeros a v none (ap (λ f. f a) (sym memory) ∙ is);
       pages = λ q. refl;
     }
-
-pub returns-clause-awaiting : goal.returns-clause-awaiting
-returns-clause-awaiting c =
-    let h = c.args.self.now in
-    awaiting-beside h _ c.requires.stands c.requires.wired refl refl refl refl c.add_reserved.ensures.prepared
-    (λ q some none. ap (λ (t : Places KeptMemory). get t.map q) c.put-2.ensures
-    ∙ put-away h.memories.map c.place-place.result c.args.kept q (λ e. off (get h.maps.map q) some
-    (ap (get h.maps.map) (e ∙ c.place-place.ensures) ∙ c.requires.no_map)) none)
-  where
-    off : {X : Type 0} (o : Option X) → is_some o ≡ true → o ≡ None → ⊥
-    off None s e = absurd (cc)
-    off (Some x) s e = absurd (cc)

@@ -13,7 +13,6 @@ use Rattle.lane_core.specs.Covered.{is_idle_map}
 use Rattle.lane_core.specs.Ideal.{given, ideal_of}
 use Rattle.lane_core.specs.Kept.{map_of, memory_of}
 use Rattle.lane_core.specs.Loading.{IsWanted, bio_bytes, bio_chunks, bio_of}
-use Rattle.lane_core.proofs.AwaitingLoads.{awaiting-tried}
 use Rattle.lane_core.proofs.Asked.{few-wanted, load-absent, load-bounced, load-busy, load-direct, load-long}
 use Rattle.lane_core.proofs.Asked.{load-refused, plain-chunks, plain-wanted, x}
 use Rattle.lane_core.proofs.Chunked.{all-reached}
@@ -24,6 +23,8 @@ use Rattle.lane_core.proofs.Keeping.{state-busy, state-idle}
 use Rattle.lane_core.proofs.MapValues.{image-none, image-some}
 use Rattle.lane_core.proofs.OperationSteps.{vacant}
 use Rattle.lane_core.proofs.OwnLoads.{first-loaded}
+use Rattle.lane_core.proofs.AwaitedLoads.{fine-bytes}
+use Rattle.ideal_wire.proofs.Asked.{are-in-pages, direct-bytes}
 use Rattle.lane_core.proofs.holdings.Holdings.load.Goals as goal
 
 pub returns-in_default-clause-done : goal.returns-in_default-clause-done
@@ -64,11 +65,6 @@ measure_load-requires-clause-reached g c =
 
 pub load_direct-requires-clause-reached : goal.load_direct-requires-clause-reached
 load_direct-requires-clause-reached g c =
-    all-reached (ideal_of c.args.self.now) c.args.map (bio_of c.args.bytes)
-    (sym c.judge_load.ensures ∙ c.in_default-judge_load.is)
-
-pub load_bounced-requires-clause-reached : goal.load_bounced-requires-clause-reached
-load_bounced-requires-clause-reached g c =
     all-reached (ideal_of c.args.self.now) c.args.map (bio_of c.args.bytes)
     (sym c.judge_load.ensures ∙ c.in_default-judge_load.is)
 
@@ -210,16 +206,6 @@ returns-clause-promised g c =
     let more = c.load_bounced.ensures.promised in
     omega (arith, few, more)
 
-pub returns-in_default-measure_load-clause-awaiting : goal.returns-in_default-measure_load-clause-awaiting
-returns-in_default-measure_load-clause-awaiting g c =
-    let h = c.args.self.now in
-    let o = c.in-Some.kept.now in
-    let there = image-some map_of h.maps.map c.args.map o (sym c.in-Some.ensures) in
-    let idle : is_idle_map (get h.maps.map c.args.map) ≡ true =
-    ap is_idle_map (sym c.in-Some.ensures) ∙ state-idle o.map.stage (sym c.state.ensures ∙ c.in-Idle.is) in
-    awaiting-tried h c.note_tried.new.self c.args.map (map_of o) (c.note_tried.ensures.done (map_of o) there)
-    c.note_tried.ensures.waiting idle c.requires.awaiting
-
 pub returns-in_default-clause-held : goal.returns-in_default-clause-held
 returns-in_default-clause-held g c =
     let h = c.args.self.now in
@@ -329,3 +315,31 @@ returns-in_err-answer-2-clause-promised g c =
     few-wanted l c.args.map (map_of o) b c.in-Some-measure_load.wanted.need wanted.need in
     let more = c.load_bounced.ensures.promised in
     omega (arith, few, more)
+
+pub load_direct-requires-clause-mine : goal.load_direct-requires-clause-mine
+load_direct-requires-clause-mine g c =
+    let h = c.args.self.now in
+    let o = c.in-Some.kept.now in
+    fine-bytes (ideal_of h) c.requires.laid c.requires.machine c.requires.stands c.args.map (map_of o)
+    (image-some map_of h.maps.map c.args.map o (sym c.in-Some.ensures)) (bio_of c.args.bytes) c.requires.loadable.own
+    (sym c.judge_load.ensures ∙ c.in_default-judge_load.is)
+
+pub load_bounced-requires-clause-mine : goal.load_bounced-requires-clause-mine
+load_bounced-requires-clause-mine g c =
+    let h = c.args.self.now in
+    let o = c.in-Some.kept.now in
+    fine-bytes (ideal_of h) c.requires.laid c.requires.machine c.requires.stands c.args.map (map_of o)
+    (image-some map_of h.maps.map c.args.map o (sym c.in-Some.ensures)) (bio_of c.args.bytes) c.requires.loadable.own
+    (sym c.judge_load.ensures ∙ c.in_default-judge_load.is)
+
+pub load_bounced-requires-clause-paged : goal.load_bounced-requires-clause-paged
+load_bounced-requires-clause-paged g c =
+    let l = ideal_of c.args.self.now in
+    let o = c.in-Some.kept.now in
+    let b = bio_of c.args.bytes in
+    let need = c.in-Some-measure_load.wanted.need in
+    let there = image-some map_of c.args.self.now.maps.map c.args.map o (sym c.in-Some.ensures) in
+    let wanted = c.in-Some-measure_load.ensures.wanted (map_of o) there in
+    are-in-pages l b (direct-bytes l c.args.map b
+    (plain-wanted l c.args.map (map_of o) b need (c.requires.stands.each c.args.map (map_of o) there) wanted.need
+    (omega (arith, c.if-wanted-eq0.false))) (sym c.judge_load.ensures ∙ c.in_default-judge_load.is))

@@ -1,7 +1,7 @@
 use Rattle.std.proofs.Common.{◌≡◌, ◌+◌, ◌-◌, ◌≤◌, cond, List, length, Some, is_some, refl, sym, ap, ◌∙◌, subst}
 use Rattle.std.proofs.Common.{arith}
 use Rattle.std.proofs.lemmas.Bool.{eq-eqb}
-use Rattle.std.specs.FinMap.{get, remove}
+use Rattle.std.specs.FinMap.{get}
 use Rattle.std.specs.List.{each_same}
 use Rattle.busdma_machine.specs.declared.bounce.hold.HubCall.TheVariants.{Grab}
 use Rattle.busdma_machine.specs.declared.name.MapId.{MapId}
@@ -17,12 +17,12 @@ use Rattle.ideal_lane.specs.State.{LaneMap, LaneState, named}
 use Rattle.lane_core.specs.Covered.{is_idle_map, pages_due}
 use Rattle.lane_core.specs.Ideal.{ideal_of}
 use Rattle.lane_core.specs.Kept.{map_of}
-use Rattle.lane_core.specs.Loading.{HasRoomForAny, IsLoadable, bio_bytes, bio_chunks, bio_of, bio_reached, load_loan}
-use Rattle.lane_core.proofs.AwaitingLoads.{awaiting-but, awaiting-ready, awaiting-same, idle-unprepared, prepared-more}
+use Rattle.lane_core.specs.Loading.{HasRoomForAny, IsLoadable, bio_bytes, bio_chunks, bio_of, load_loan}
 use Rattle.lane_core.proofs.Keeping.{idle-there}
-use Rattle.lane_core.proofs.LoadSteps.{taken-out}
 use Rattle.lane_core.proofs.MapValues.{image-some}
 use Rattle.lane_core.proofs.Preparing.{has-need, room-for-any}
+use Rattle.lane_core.proofs.AwaitedLoads.{paged-reached}
+use Rattle.ideal_wire.specs.Laid.{AreInPages}
 use Rattle.lane_core.proofs.holdings.Holdings.load_bounced.Goals as goal
 
 pub grab-requires : goal.grab-requires
@@ -42,26 +42,12 @@ grab-requires g c =
     (subst (λ (z : ZoneId). Allows d h.id.0 (Grab (named l k) z need c.args.nowait)) (sym zone)
     (c.requires.allowed o is))
 
-pub undo_load-requires-clause-prepared : goal.undo_load-requires-clause-prepared
-undo_load-requires-clause-prepared g c =
-    let h = c.args.self.now in
-    let l = ideal_of h in
-    let k = c.args.map in
-    let loan = load_loan l k (bio_of c.args.bytes) in
-    ap is_some (ap (λ p. get p k) c.in_ok-ready_load.ensures.prepared ∙ get_put h.loans.prepared k loan k
-    ∙ ap (λ b. cond b (Some loan) (get h.loans.prepared k)) (eq-eqb k k refl))
-
 pub take_grabbed-requires-clause-stands : goal.take_grabbed-requires-clause-stands
 take_grabbed-requires-clause-stands g c = subst Stands (sym c.in_ok-ready_load.ensures.same.ideal) c.requires.stands
 
 pub take_grabbed-requires-clause-idle : goal.take_grabbed-requires-clause-idle
 take_grabbed-requires-clause-idle g c =
     ap (λ t. is_idle_map (get t.map c.args.map)) c.in_ok-ready_load.ensures.maps ∙ c.requires.idle
-
-pub take_grabbed-requires-clause-reached : goal.take_grabbed-requires-clause-reached
-take_grabbed-requires-clause-reached g c =
-    ap (λ (x : LaneState). bio_reached x (bio_of c.args.bytes)) c.in_ok-ready_load.ensures.same.ideal
-    ∙ c.requires.reached
 
 pub take_grabbed-requires-clause-loadable : goal.take_grabbed-requires-clause-loadable
 take_grabbed-requires-clause-loadable g c =
@@ -150,43 +136,9 @@ returns-clause-done g c o x found bios entries items =
           ∙ ap (λ (y : LaneState). granted k o x (bio_chunks y o b) y reply) same;
     }
 
-pub ready_load-requires-clause-unprepared : goal.ready_load-requires-clause-unprepared
-ready_load-requires-clause-unprepared g c =
-    idle-unprepared c.args.self.now c.args.map c.requires.awaiting c.requires.idle
-
-pub returns-in_err-ready_load-clause-awaiting : goal.returns-in_err-ready_load-clause-awaiting
-returns-in_err-ready_load-clause-awaiting g c =
-    let done = c.in_err-ready_load.ensures in
-    awaiting-same c.args.self.now c.ready_load.new.self done.same.ideal (ap (λ t. t.map) done.maps) done.err
-    c.requires.awaiting
-
-pub returns-in-Err-clause-awaiting : goal.returns-in-Err-clause-awaiting
-returns-in-Err-clause-awaiting g c =
-    let h = c.args.self.now in
-    let l = ideal_of h in
-    let k = c.args.map in
-    let loan = load_loan l k (bio_of c.args.bytes) in
-    let ready = c.in_ok-ready_load.ensures in
-    let undone = c.undo_load.ensures in
-    awaiting-same h c.undo_load.new.self (undone.same.ideal ∙ ready.same.ideal)
-    (ap (λ t. t.map) undone.maps ∙ ap (λ t. t.map) ready.maps)
-    (undone.prepared ∙ ap (λ ps. remove ps k) ready.prepared
-    ∙ taken-out h.loans.prepared k loan (idle-unprepared h k c.requires.awaiting c.requires.idle)) c.requires.awaiting
-
 pub take_grabbed-requires-clause-own : goal.take_grabbed-requires-clause-own
 take_grabbed-requires-clause-own g c =
     ap (λ t. get t.map c.args.map) c.in_ok-ready_load.ensures.memories ∙ c.requires.own
-
-pub take_grabbed-requires-clause-awaiting : goal.take_grabbed-requires-clause-awaiting
-take_grabbed-requires-clause-awaiting g c =
-    let h = c.args.self.now in
-    let l = ideal_of h in
-    let k = c.args.map in
-    let mid = c.ready_load.new.self in
-    let loan = load_loan l k (bio_of c.args.bytes) in
-    let ready = c.in_ok-ready_load.ensures in
-    awaiting-ready h mid ready.same.ideal (ap (λ t. t.map) ready.maps) k
-    (prepared-more h.loans.prepared mid.loans.prepared k loan ready.prepared) (awaiting-but h k c.requires.awaiting)
 
 pub returns-in-Err-clause-unpromised : goal.returns-in-Err-clause-unpromised
 returns-in-Err-clause-unpromised g c =
@@ -196,3 +148,16 @@ returns-in-Err-clause-unpromised g c =
     c.undo_load.ensures.agenda
     ∙ ap (λ (b : Schedule). record b { promised = b.promised - need }) c.in_ok-ready_load.ensures.promised
     ∙ ap (λ p. record a { promised = p }) back
+
+pub undo_load-requires-clause-idle : goal.undo_load-requires-clause-idle
+undo_load-requires-clause-idle g c =
+    ap (λ t. is_idle_map (get t.map c.args.map)) c.in_ok-ready_load.ensures.maps ∙ c.requires.idle
+
+pub ready_load-requires-clause-reached : goal.ready_load-requires-clause-reached
+ready_load-requires-clause-reached g c =
+    paged-reached (ideal_of c.args.self.now) (bio_of c.args.bytes) c.requires.paged
+
+pub take_grabbed-requires-clause-paged : goal.take_grabbed-requires-clause-paged
+take_grabbed-requires-clause-paged g c =
+    subst (λ (ps : List PageRun). AreInPages ps (bio_of c.args.bytes))
+    (sym (ap (λ (x : LaneState). x.pages) c.in_ok-ready_load.ensures.same.ideal)) c.requires.paged

@@ -34,14 +34,14 @@ pub load-requires-clause-loadable : goal.load-requires-clause-loadable
 load-requires-clause-loadable g c =
     let h = c.args.self.now in
     loadable-at h h.agenda.place c.args.map c.args.buffer.now c.args.flags c.args.items.now (bio_of c.in-Some.bytes)
-    c.requires.here c.in-Some.ensures.some c.requires.wired.machine c.requires.provided.small
+    c.requires.here c.in-Some.ensures.some c.requires.wired.machine c.requires.small
 
 pub load-requires-clause-few_pages : goal.load-requires-clause-few_pages
 load-requires-clause-few_pages g c =
     let h = c.args.self.now in
     let bytes = bytes-is (ideal_of h) c.args.buffer.now (bio_of c.in-Some.bytes) c.in-Some.ensures.some in
     subst (λ n. h.agenda.promised + n < 2 ^ 32) (sym bytes)
-    (few-promised h c.requires.provided.small (Load c.args.map c.args.buffer.now c.args.flags c.args.items.now)
+    (few-promised h c.requires.small (Load c.args.map c.args.buffer.now c.args.flags c.args.items.now)
     c.requires.here)
 
 pub load-requires-clause-allowed : goal.load-requires-clause-allowed

@@ -14,7 +14,6 @@ use Rattle.lane_core.specs.Covered.{is_idle_map}
 use Rattle.lane_core.specs.Ideal.{ideal_of}
 use Rattle.lane_core.specs.Loading.{AreItsFirst, HasRoomForAny, IsLoadable, bio_bytes, bio_of, bio_reached}
 use Rattle.lane_core.specs.Loading.{load_loan, map_chunks}
-use Rattle.lane_core.proofs.AwaitingLoads.{awaiting-but, awaiting-ready, awaiting-same, idle-unprepared, prepared-more}
 use Rattle.lane_core.proofs.Preparing.{room-for-any}
 use Rattle.lane_core.proofs.holdings.Holdings.load_direct.Goals as goal
 
@@ -45,9 +44,6 @@ complete_load-requires c =
     record {
       stands = subst Stands (sym e) c.requires.stands;
       idle = ap (λ t. is_idle_map (get t.map k)) done.maps ∙ c.requires.idle;
-      awaiting = awaiting-ready h mid e (ap (λ t. t.map) done.maps) k
-          (prepared-more h.loans.prepared mid.loans.prepared k loan done.prepared)
-          (awaiting-but h k c.requires.awaiting);
       reached = ap (λ (x : LaneState). bio_reached x b) e ∙ c.requires.reached;
       first = subst (λ (x : LaneState). AreItsFirst x k b) (sym e) c.requires.first;
       loadable = subst (λ (ps : List PageRun). IsLoadable ps b) (sym (ap (λ (x : LaneState). x.pages) e))
@@ -85,13 +81,3 @@ returns-clause-bytes c =
       own = then.own ∙ kept.own;
       pages = λ m off. then.pages m off ∙ kept.pages m;
     }
-
-pub prepare_load-requires-clause-unprepared : goal.prepare_load-requires-clause-unprepared
-prepare_load-requires-clause-unprepared c =
-    idle-unprepared c.args.self.now c.args.map c.requires.awaiting c.requires.idle
-
-pub returns-in_err-prepare_load-clause-awaiting : goal.returns-in_err-prepare_load-clause-awaiting
-returns-in_err-prepare_load-clause-awaiting c =
-    let done = c.in_err-prepare_load.ensures in
-    awaiting-same c.args.self.now c.prepare_load.new.self done.same.ideal (ap (λ t. t.map) done.maps) done.err
-    c.requires.awaiting

@@ -1,12 +1,13 @@
-use Rattle.std.proofs.Common.{◌≡◌, Some, true, refl, ap, sym, ◌∙◌}
+use Rattle.std.proofs.Common.{◌≡◌, Some, true, refl, ap, sym, ◌∙◌, subst}
 use Rattle.std.specs.FinMap.{get, insert}
 use Rattle.lane_core.specs.declared.kept.KeptTag.{KeptTag}
 use Rattle.lane_core.specs.Ideal.{ideal_of}
 use Rattle.lane_core.specs.Kept.{tag_of}
 use Rattle.lane_core.specs.MapValues.{map_values}
-use Rattle.lane_core.proofs.MapValues.{image-some, map_values-insert}
+use Rattle.lane_core.proofs.MapValues.{map_values-insert}
 use Rattle.lane_core.proofs.Places.{reput, get_removed}
-use Rattle.lane_core.proofs.AwaitingSteps.{awaits-same, awaits-tags, tag-again}
+use Rattle.lane_core.proofs.Awaiting.{awaiting-tag-again}
+use Rattle.lane_core.specs.Awaiting.{AreAwaiting}
 use Rattle.lane_core.proofs.holdings.Holdings.note_first.Goals as goal
 
 pub put-requires-clause-vacant : goal.put-requires-clause-vacant
@@ -29,20 +30,13 @@ returns-in-Some-clause-done c t found =
           ∙ ap (λ (x : KeptTag). insert l.tags k (record { limits = x.tag; first_done = true })) same) i;
     })
 
-pub returns-in-Some-clause-awaiting : goal.returns-in-Some-clause-awaiting
-returns-in-Some-clause-awaiting c =
+pub invariant_of-self-clause-awaiting : goal.invariant_of-self-clause-awaiting
+invariant_of-self-clause-awaiting c =
     let h = c.args.self.now in
-    let l = ideal_of h in
     let k = c.args.tag in
     let t = c.in-Some.kept in
     let v : KeptTag = record { tag = t.tag; first_done = true } in
     let there : get h.tags.map k ≡ Some t = sym c.take.ensures.value ∙ c.in-Some.is in
-    awaits-tags h _ refl refl refl refl (insert l.tags k (tag_of v))
-    (ap (λ ts. map_values tag_of ts.map) c.put.ensures
-    ∙ ap (λ ts. map_values tag_of (insert ts.map k v)) c.in-Some.ensures.taken
-    ∙ ap (map_values tag_of) (reput h.tags.map k v) ∙ map_values-insert tag_of h.tags.map k v)
-    (tag-again l k (tag_of t) (tag_of v) (image-some tag_of h.tags.map k t there) refl) refl
-
-pub returns-in_default-clause-awaiting : goal.returns-in_default-clause-awaiting
-returns-in_default-clause-awaiting c =
-    awaits-same c.args.self.now _ refl refl refl refl (ap (λ t. t.map) c.in_default.ensures.none) refl
+    subst (λ ts. AreAwaiting h.pages.now h.maxmem ts h.maps.map h.loans.prepared)
+    (sym (ap (λ ts. ts.map) c.put.ensures ∙ ap (λ ts. insert ts.map k v) c.in-Some.ensures.taken ∙ reput h.tags.map k v))
+    (awaiting-tag-again h.pages.now h.maxmem h.tags.map h.maps.map h.loans.prepared h.awaiting k v t there refl)

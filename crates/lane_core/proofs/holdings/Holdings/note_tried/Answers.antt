@@ -13,6 +13,8 @@ use Rattle.lane_core.proofs.Keeping.{idle-map, idle-stands, idle-state}
 use Rattle.lane_core.proofs.Loaded.{loans-stay, maps-staged}
 use Rattle.lane_core.proofs.MapTables.{AreMaps, maps-of, told-put}
 use Rattle.lane_core.proofs.MapValues.{image-some, map_values-insert}
+use Rattle.lane_core.proofs.Awaiting.{idle-unkept, put-awaiting}
+use Rattle.lane_core.specs.Awaiting.{AreAwaiting}
 use Rattle.lane_core.proofs.holdings.Holdings.note_tried.Goals as goal
 
 pub note_tried-requires : goal.note_tried-requires
@@ -53,6 +55,9 @@ invariant_of-self c =
       own_returns = h.own_returns;
       returning = are.returning;
       tried = are.tried;
+      awaiting = subst (λ ms. AreAwaiting h.pages.now h.maxmem h.tags.map ms h.loans.prepared) (sym maps)
+          (put-awaiting h h.loans.prepared refl k v (idle-unkept (Some v) (sym (ap is_idle_map there) ∙ c.requires)));
+      ready = h.ready;
     }
 
 pub returns-in-Some-clause-done : goal.returns-in-Some-clause-done
@@ -98,19 +103,4 @@ returns-in-Some-clause-bytes c =
     record {
       own = refl;
       pages = λ m. ap (λ ms. (devices_of ms m).pages) maps ∙ ap (λ d. d.pages) (devices-put h.maps.map k v bare m);
-    }
-
-pub returns-in-Some-clause-waiting : goal.returns-in-Some-clause-waiting
-returns-in-Some-clause-waiting c =
-    let h = c.args.self.now in
-    let k = c.args.map in
-    let o : KeptMap = c.in-Some.kept.now in
-    let there : get h.maps.map k ≡ Some o = sym c.in-Some.ensures.value in
-    let v : KeptMap = record o { map = record o.map { tried = true } } in
-    let maps : insert h.maps.map k (record o { map = c.note_tried.new.self }) ≡ insert h.maps.map k v =
-    ap (λ x. insert h.maps.map k (record o { map = x })) c.note_tried.ensures in
-    record {
-      kept = λ m. ap (λ ms. kept_load (get ms m)) maps
-          ∙ told-put kept_load h.maps.map k v (sym (ap kept_load there)) m;
-      prepared = refl;
     }

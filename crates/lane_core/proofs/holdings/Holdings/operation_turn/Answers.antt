@@ -5,7 +5,8 @@ use Rattle.busdma_base.specs.declared.journals.journal.Did.TheVariants as did
 use Rattle.busdma_base.specs.declared.journals.journal.Side.TheVariants as side
 use Rattle.busdma_base.specs.Scenarios.Operations.{loaded_by}
 use Rattle.lane_core.specs.declared.turn.Turn.TheVariants as turn
-use Rattle.lane_core.proofs.Providing.{made-script, provided-next, provided-same}
+use Rattle.lane_core.proofs.Providing.{made-script}
+use Rattle.lane_core.proofs.SmallLoads.{small-next, small-same}
 use Rattle.lane_core.proofs.ScriptTurns.{blocked-made, ended-made, next-made, next-may}
 use Rattle.lane_core.proofs.holdings.Holdings.operation_turn.Goals as goal
 
@@ -89,17 +90,17 @@ returns-clause-made g c =
       answer = c.in_ok-answer.field-0.answer;
     }) c.in_ok-answer.field-0.held) c.place-place.ensures)
 
-pub returns-in_err-answer-clause-provided : goal.returns-in_err-answer-clause-provided
-returns-in_err-answer-clause-provided g c =
+pub returns-in_err-answer-clause-small : goal.returns-in_err-answer-clause-small
+returns-in_err-answer-clause-small g c =
     let agenda = c.in_err-answer.ensures.unpromised in
     let promised = ap (λ a. a.promised) agenda in
-    provided-same c.args.self.now c.operation.new.self c.requires.provided c.operation.ensures.awaiting
+    small-same c.args.self.now c.operation.new.self c.requires.small
     (ap (λ l. l.script) c.in_err-answer.ensures.err.ideal)
     c.operation.ensures.agenda.place
     (omega (arith, promised))
 
-pub returns-clause-provided : goal.returns-clause-provided
-returns-clause-provided g c =
+pub returns-clause-small : goal.returns-clause-small
+returns-clause-small g c =
     let h = c.args.self.now in
     let k = c.operation.new.self in
     let n = c.advance.new.self in
@@ -112,8 +113,7 @@ returns-clause-provided g c =
     let on = c.advance.ensures.agenda in
     let promised : n.agenda.promised ≡ k.agenda.promised = ap (λ a. a.promised) on in
     let few : k.agenda.promised ≤ h.agenda.promised + loaded_by c.in-Some.op.now = done.promised in
-    provided-next h n c.requires.provided (c.advance.ensures.awaiting done.awaiting)
+    small-next h c.requires.small c.in-Some.op.now here n
     (made-script h n (g.D.HubDoor.seen c.args.door.now) (g.D.HubDoor.seen c.operation.new.door) side.Script
     c.stepped.result c.requires.ready (returns-clause-made g c))
-    c.in-Some.op.now here
     (ap (λ a. a.place) on ∙ ap (λ p. p + 1) done.agenda.place) (omega (arith, promised, few))

@@ -8,13 +8,20 @@ use Rattle.lane_core.specs.Held.{devices_of, held}
 use Rattle.lane_core.specs.Ideal.{ideal_of}
 use Rattle.lane_core.specs.Kept.{memory_of}
 use Rattle.lane_core.specs.MapValues.{map_values}
-use Rattle.lane_core.proofs.AwaitingMemories.{awaiting-beside}
-use Rattle.lane_core.proofs.Keeping.{on-some}
+use Rattle.lane_core.proofs.Keeping.{idle-unloaded, on-some}
 use Rattle.lane_core.proofs.KeptMemories.{cut-away}
 use Rattle.lane_core.proofs.MapValues.{map_values-remove}
 use Rattle.lane_core.proofs.Parting.{held-parted, part-frames, part-free, part-low, part-marks, part-unprepared}
 use Rattle.lane_core.proofs.Parting.{part-whole, parted-covered, parted-framed, parted-known, parted-own}
 use Rattle.lane_core.proofs.Parting.{parted-placed, parted-reaches, parted-standing}
+use Rattle.lane_core.proofs.Awaiting.{awaiting-ready, idle-unkept, less-other}
+use Rattle.lane_core.specs.Awaiting.{AreOfMaps}
+use Rattle.lane_core.proofs.OfMaps.{of-maps-part}
+use Rattle.busdma_machine.specs.declared.name.MapId.{MapId}
+use Rattle.loan_table.specs.Loans.{Loans}
+use Rattle.std.specs.Ordering.{nat_cmp}
+use Rattle.std.specs.FinMap.{FinMap}
+use Rattle.std.proofs.Common.{ℕ, Bool}
 use Rattle.lane_core.proofs.holdings.Holdings.part_memory.Goals as goal
 
 pub take-requires-clause-whole : goal.take-requires-clause-whole
@@ -28,19 +35,29 @@ take-requires-clause-there c = part-frames c.args.self.now c.requires.wired c.ar
 
 pub drop_bytes-requires-clause-there : goal.drop_bytes-requires-clause-there
 drop_bytes-requires-clause-there c =
-    subst (λ n. AreIn c.args.self.now.loans.bytes (run_of c.args.kept.first.0 (4096 * n))) (sym c.from.ensures)
+    subst (λ (x : FinMap nat_cmp Bool × ℕ). AreIn x.0 (run_of c.args.kept.first.0 (4096 * x.1)))
+    (λ i. (sym c.drop_prepared.ensures.bytes i, sym c.from.ensures i))
     (part-marks c.args.self.now c.requires.wired c.args.mem c.args.kept c.requires.there)
 
 pub drop_bytes-requires-clause-free : goal.drop_bytes-requires-clause-free
 drop_bytes-requires-clause-free c =
-    subst (λ n. AreFree c.args.self.now.loans.loans (run_of c.args.kept.first.0 (4096 * n))) (sym c.from.ensures)
+    subst (λ (x : Loans × ℕ). AreFree x.0 (run_of c.args.kept.first.0 (4096 * x.1)))
+    (λ i. (sym c.drop_prepared.ensures.loans i, sym c.from.ensures i))
     (part-free c.args.self.now c.requires.wired c.args.mem c.args.kept c.requires.there c.requires.idle)
 
 pub drop_bytes-requires-clause-unprepared : goal.drop_bytes-requires-clause-unprepared
 drop_bytes-requires-clause-unprepared c =
-    subst (λ n. AreFree c.args.self.now.loans.prepared (run_of c.args.kept.first.0 (4096 * n))) (sym c.from.ensures)
-    (part-unprepared c.args.self.now c.requires.wired c.args.mem c.args.kept c.requires.there c.requires.idle
-    c.requires.stands c.requires.awaiting)
+    let prepared = c.drop_prepared.ensures.prepared
+    ∙ ap (λ (x : MapId). remove c.args.self.now.loans.prepared x.made_at) c.map_id-id.ensures in
+    subst (λ (x : Loans × ℕ). AreFree x.0 (run_of c.args.kept.first.0 (4096 * x.1)))
+    (λ i. (sym prepared i, sym c.from.ensures i))
+    (part-unprepared c.args.self.now c.requires.wired c.args.mem c.args.kept c.requires.there)
+
+pub drop_prepared-requires : goal.drop_prepared-requires
+drop_prepared-requires c =
+    let h = c.args.self.now in
+    ap (λ (x : MapId). is_some (get h.loans.loans x.made_at)) c.map_id-id.ensures ∙ h.loaded c.args.mem
+    ∙ idle-unloaded (get h.maps.map c.args.mem) c.requires.idle
 
 pub invariant_of-self : goal.invariant_of-self
 invariant_of-self c =
@@ -51,7 +68,11 @@ invariant_of-self c =
     let taken = on-some c.take-2.result kept (c.take-2.ensures.value ∙ c.requires.there) c.take-2.ensures.taken in
     let map : c.take-2.new.self.map ≡ remove h.memories.map mem = ap (λ (t : Places KeptMemory). t.map) taken in
     let marked = c.drop_bytes.ensures.bytes
-    ∙ ap (λ n. without h.loans.bytes (run_of kept.first.0 (4096 * n))) c.from.ensures in
+    ∙ (λ i. without (c.drop_prepared.ensures.bytes i) (run_of kept.first.0 (4096 * c.from.ensures i))) in
+    let ls = c.drop_bytes.new.self.prepared in
+    let prepared : ls ≡ remove h.loans.prepared mem =
+    c.drop_bytes.ensures.prepared ∙ c.drop_prepared.ensures.prepared
+    ∙ ap (λ (x : MapId). remove h.loans.prepared x.made_at) c.map_id-id.ensures in
     record {
       covered = parted-covered h c.requires.wired mem kept c.requires.there m c.take.ensures.go
           c.drop_bytes.new.self.bytes marked c.take.ensures.bytes;
@@ -64,12 +85,18 @@ invariant_of-self c =
       tag_places = h.tag_places;
       map_places = h.map_places;
       memory_places = ap (λ (t : Places KeptMemory). t.places) taken ∙ h.memory_places;
-      loaded = λ k. ap (λ ls. Rattle.std.specs.FinMap.contains_key ls k) c.drop_bytes.ensures.loans ∙ h.loaded k;
+      loaded = λ k. ap (λ ls. Rattle.std.specs.FinMap.contains_key ls k)
+          (c.drop_bytes.ensures.loans ∙ c.drop_prepared.ensures.loans) ∙ h.loaded k;
       unlent = h.unlent;
       promised = h.promised;
       own_returns = h.own_returns;
       returning = h.returning;
       tried = h.tried;
+      awaiting = awaiting-ready h.pages.now h.maxmem h.tags.map h.maps.map h.loans.prepared h.awaiting mem ls
+          (idle-unkept (get h.maps.map mem) c.requires.idle) (less-other h.loans.prepared ls mem prepared);
+      ready = subst (λ (x : FinMap nat_cmp KeptMemory × Loans). AreOfMaps h.pages.now x.0 x.1)
+          (λ i. (sym map i, sym prepared i))
+          (of-maps-part h.pages.now h.memories.map h.loans.prepared h.ready mem);
     }
 
 pub returns-clause-done : goal.returns-clause-done
@@ -80,13 +107,13 @@ returns-clause-done c =
     let m = c.take.new.memory.memory in
     let taken = on-some c.take-2.result kept (c.take-2.ensures.value ∙ c.requires.there) c.take-2.ensures.taken in
     let marked = c.drop_bytes.ensures.bytes
-    ∙ ap (λ n. without h.loans.bytes (run_of kept.first.0 (4096 * n))) c.from.ensures in
-    let memory = (λ i. held c.drop_bytes.new.self.bytes (c.drop_bytes.ensures.loans i) (devices_of h.maps.map) m)
+    ∙ (λ i. without (c.drop_prepared.ensures.bytes i) (run_of kept.first.0 (4096 * c.from.ensures i))) in
+    let memory = (λ i. held c.drop_bytes.new.self.bytes ((c.drop_bytes.ensures.loans ∙ c.drop_prepared.ensures.loans) i) (devices_of h.maps.map) m)
     ∙ held-parted h c.requires.wired mem kept c.requires.there m c.take.ensures.go c.drop_bytes.new.self.bytes marked
     c.take.ensures.bytes in
     let mems = ap (λ (t : Places KeptMemory). map_values memory_of t.map) taken
     ∙ map_values-remove memory_of h.memories.map mem in
-    λ i. record (ideal_of h) { mems = mems i; memory = memory i; loans = c.drop_bytes.ensures.loans i }
+    λ i. record (ideal_of h) { mems = mems i; memory = memory i; loans = (c.drop_bytes.ensures.loans ∙ c.drop_prepared.ensures.loans) i }
 
 pub returns-clause-bytes : goal.returns-clause-bytes
 returns-clause-bytes c =
@@ -95,8 +122,8 @@ returns-clause-bytes c =
     let kept = c.args.kept in
     let m = c.take.new.memory.memory in
     let marked = c.drop_bytes.ensures.bytes
-    ∙ ap (λ n. without h.loans.bytes (run_of kept.first.0 (4096 * n))) c.from.ensures in
-    let memory = (λ i. held c.drop_bytes.new.self.bytes (c.drop_bytes.ensures.loans i) (devices_of h.maps.map) m)
+    ∙ (λ i. without (c.drop_prepared.ensures.bytes i) (run_of kept.first.0 (4096 * c.from.ensures i))) in
+    let memory = (λ i. held c.drop_bytes.new.self.bytes ((c.drop_bytes.ensures.loans ∙ c.drop_prepared.ensures.loans) i) (devices_of h.maps.map) m)
     ∙ held-parted h c.requires.wired mem kept c.requires.there m c.take.ensures.go c.drop_bytes.new.self.bytes marked
     c.take.ensures.bytes in
     record {
@@ -106,12 +133,3 @@ returns-clause-bytes c =
           c.drop_bytes.new.self.bytes marked c.take.ensures.bytes a v none (ap (λ f. f a) (sym memory) ∙ is);
       pages = λ q. refl;
     }
-
-pub returns-clause-awaiting : goal.returns-clause-awaiting
-returns-clause-awaiting c =
-    let h = c.args.self.now in
-    let taken =
-    on-some c.take-2.result c.args.kept (c.take-2.ensures.value ∙ c.requires.there) c.take-2.ensures.taken in
-    awaiting-beside h _ c.requires.stands c.requires.wired refl refl refl refl c.drop_bytes.ensures.prepared
-    (λ q some none. ap (λ (t : Places KeptMemory). get t.map q) taken ∙ cut-away h.memories.map c.args.mem q none)
-    c.requires.awaiting

@@ -1,15 +1,11 @@
 use Rattle.std.proofs.Common.{Option, None, Some, refl}
 use Rattle.std.specs.Prelude.{IfNone}
-use Rattle.lane_core.proofs.AwaitingSteps.{awaits-same}
 use Rattle.lane_core.proofs.SameHoldings.{same-all}
 use Rattle.lane_core.proofs.holdings.Holdings.pop_item.Goals as goal
 
 none-map : {X : Type 0} {P Q : Type 0} (o : Option X) → (P → Q) → IfNone o P → IfNone o Q
 none-map None f p = f p
 none-map (Some x) f p = tt
-
-pub returns-clause-awaiting : goal.returns-clause-awaiting
-returns-clause-awaiting c = awaits-same c.args.self.now _ refl refl refl refl refl refl
 
 pub returns-clause-same : goal.returns-clause-same
 returns-clause-same c =

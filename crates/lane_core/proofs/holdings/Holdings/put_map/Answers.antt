@@ -15,7 +15,8 @@ use Rattle.lane_core.proofs.MapTables.{AreMaps, maps-new, maps-of}
 use Rattle.lane_core.proofs.MapValues.{map_values-insert}
 use Rattle.dma_map.specs.MapView.{waiting_load}
 use Rattle.lane_core.specs.Awaiting.{kept_load}
-use Rattle.lane_core.proofs.AwaitingSteps.{awaits-put}
+use Rattle.lane_core.proofs.Awaiting.{idle-unkept, put-awaiting}
+use Rattle.lane_core.specs.Awaiting.{AreAwaiting}
 use Rattle.lane_core.proofs.holdings.Holdings.put_map.Goals as goal
 
 pub invariant_of-self : goal.invariant_of-self
@@ -44,6 +45,10 @@ invariant_of-self c =
       own_returns = h.own_returns;
       returning = are.returning;
       tried = are.tried;
+      awaiting = subst (λ t. AreAwaiting h.pages.now h.maxmem h.tags.map t.map h.loans.prepared) (sym c.put.ensures)
+          (put-awaiting h h.loans.prepared refl k o
+          (idle-unkept (Some o) (ap (λ m. is_idle (stage_of m.stage)) c.new-map.ensures)));
+      ready = h.ready;
     }
 
 pub returns-clause-done : goal.returns-clause-done
@@ -82,12 +87,3 @@ returns-clause-bytes c =
       pages = λ m. ap (λ t. (devices_of t.map m).pages) c.put.ensures
           ∙ ap (λ d. d.pages) (devices-put h.maps.map k o same m);
     }
-
-pub returns-clause-awaiting : goal.returns-clause-awaiting
-returns-clause-awaiting c =
-    let h = c.args.self.now in
-    let k = c.place-place.result in
-    let o : KeptMap = record { tag = c.args.tag; map = c.new-map.result } in
-    let none : get h.maps.map k ≡ None = ap (get h.maps.map) c.place-place.ensures ∙ c.requires.vacant in
-    awaits-put h _ refl refl refl refl refl k (ap kept_load none) o (ap (λ t. t.map) c.put.ensures)
-    (ap (λ m. waiting_load m.stage) c.new-map.ensures)

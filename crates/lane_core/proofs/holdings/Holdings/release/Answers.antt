@@ -27,9 +27,10 @@ use Rattle.lane_core.proofs.MapTables.{AreMaps}
 use Rattle.lane_core.proofs.MapValues.{image-some}
 use Rattle.lane_core.proofs.Returned.{devices-after, maps-back}
 use Rattle.lane_core.proofs.ReturnSteps.{back-in, given-back-is, last-is, noted, own-head, returning-there}
-use Rattle.lane_core.proofs.AwaitingSteps.{awaits-put-if, awaits-same, returning-unkept}
 use Rattle.lane_core.proofs.Returned.{idled}
 use Rattle.lane_core.proofs.SameHoldings.{same-all}
+use Rattle.lane_core.proofs.Awaiting.{awaiting-rest-if}
+use Rattle.lane_core.specs.Awaiting.{AreAwaiting}
 use Rattle.lane_core.proofs.holdings.Holdings.release.Goals as goal
 
 pub invariant_of-self-2 : goal.invariant_of-self-2
@@ -82,6 +83,10 @@ invariant_of-self-2 g c =
       own_returns = own.1;
       returning = now.returning;
       tried = now.tried;
+      awaiting = subst (λ t. AreAwaiting h.pages.now h.maxmem h.tags.map t.map h.loans.prepared) (sym maps)
+          (awaiting-rest-if h.pages.now h.maxmem h.tags.map h.maps.map h.loans.prepared h.awaiting r.last k
+          (idled found.0) refl);
+      ready = h.ready;
     }
 
 pub returns-clause-done : goal.returns-clause-done
@@ -190,27 +195,6 @@ returns-clause-bytes g c =
           ∙ ap (λ d. d.pages) (devices-after h.maps.map h.loans.loans h.agenda.promised rest are h.id.0 r.map found.0
           found.1 found.2 mine own.1 r.last m);
     }
-
-pub returns-clause-awaiting : goal.returns-clause-awaiting
-returns-clause-awaiting g c =
-    let h = c.args.self.now in
-    let r = c.in_ok-map.field-0 in
-    let k = r.map.made_at in
-    let rest = c.pop_return.new.self.returns in
-    let back =
-    own-head (is_returning (get h.maps.map k))
-    (list_any (λ (p : QueuedPage). not (is_returning (get h.maps.map p.map.made_at))) rest)
-    (sym (ap (λ qs. list_any (λ (p : QueuedPage). not (is_returning (get h.maps.map p.map.made_at))) qs)
-    c.in_ok-map.ensures.page) ∙ h.returning) in
-    let found = returning-there (get h.maps.map k) back.0 in
-    let maps =
-    noted h.maps c.note_returned.new.maps k found.0 r.last found.1 c.note_returned.ensures.last
-    c.note_returned.ensures.more in
-    awaits-put-if h _ refl refl refl refl refl k (returning-unkept (get h.maps.map k) back.0) r.last
-    (idled found.0) (ap (λ t. t.map) maps) refl
-
-pub returns-in_err-map-clause-awaiting : goal.returns-in_err-map-clause-awaiting
-returns-in_err-map-clause-awaiting g c = awaits-same c.args.self.now _ refl refl refl refl refl refl
 
 pub returns-in_err-map-clause-same : goal.returns-in_err-map-clause-same
 returns-in_err-map-clause-same g c =

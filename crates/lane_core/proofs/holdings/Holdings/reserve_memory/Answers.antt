@@ -4,6 +4,8 @@ use Rattle.lane_core.specs.Covered.{AreStanding, HasFramesOf, Reaches}
 use Rattle.memory_pages.specs.Placed.{AreAtTheirFrames}
 use Rattle.phys_memory.specs.Memory.{has_frame}
 use Rattle.lane_core.proofs.MapTables.{AreMaps, maps-of}
+use Rattle.lane_core.proofs.Awaiting.{still-awaiting, still-ready}
+use Rattle.lane_core.specs.Awaiting.{AreAwaiting, AreOfMaps}
 use Rattle.lane_core.proofs.holdings.Holdings.reserve_memory.Goals as goal
 
 pub invariant_of-self-2 : goal.invariant_of-self-2
@@ -32,4 +34,8 @@ invariant_of-self-2 c =
       own_returns = h.own_returns;
       returning = are.returning;
       tried = are.tried;
+      awaiting = subst (λ ms. AreAwaiting h.pages.now h.maxmem h.tags.map ms c.reserve-3.new.self.prepared) (sym maps)
+          (still-awaiting h c.reserve-3.new.self.prepared same.prepared);
+      ready = subst (λ t. AreOfMaps h.pages.now t c.reserve-3.new.self.prepared) (sym memories)
+          (still-ready h c.reserve-3.new.self.prepared same.prepared);
     }

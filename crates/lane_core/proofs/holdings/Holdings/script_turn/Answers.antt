@@ -4,10 +4,11 @@ use Rattle.busdma_machine.specs.Bounce.Door.{Seen}
 use Rattle.lane_core.specs.declared.holdings.Holdings.{Holdings}
 use Rattle.lane_core.specs.Changes.{KeepsState}
 use Rattle.lane_core.specs.Doing.{IsUndone}
-use Rattle.lane_core.specs.Provided.{IsProvided}
+use Rattle.lane_core.specs.SmallLoads.{HasSmallLoads}
 use Rattle.lane_core.specs.Turning.{IsReady}
 use Rattle.lane_core.proofs.Doors.{err-map, on-err}
-use Rattle.lane_core.proofs.Providing.{made-from, provided-same}
+use Rattle.lane_core.proofs.Providing.{made-from}
+use Rattle.lane_core.proofs.SmallLoads.{small-same}
 use Rattle.lane_core.proofs.TurnEnds.{turn-may}
 use Rattle.lane_core.proofs.holdings.Holdings.script_turn.Goals as goal
 
@@ -19,20 +20,19 @@ return_turn-requires g c =
 pub returns-in-Some-clause-places : goal.returns-in-Some-clause-places
 returns-in-Some-clause-places g c = c.in-Some.ensures.made.places
 
-pub returns-in-Some-clause-provided : goal.returns-in-Some-clause-provided
-returns-in-Some-clause-provided g c =
+pub returns-in-Some-clause-small : goal.returns-in-Some-clause-small
+returns-in-Some-clause-small g c =
     let r = c.return_turn.ensures in
-    provided-same c.args.self.now c.return_turn.new.self c.requires.provided
-    (r.awaiting c.requires.provided.awaiting) (ap (λ s. s.now) r.script) r.place r.promised
+    small-same c.args.self.now c.return_turn.new.self c.requires.small (ap (λ s. s.now) r.script) r.place r.promised
 
 pub operation_turn-requires-clause-ready : goal.operation_turn-requires-clause-ready
 operation_turn-requires-clause-ready g c =
     subst (λ (x : Holdings). IsReady x (g.D.HubDoor.seen c.return_turn.new.door)) (sym c.in-None.ensures.same)
     (subst (λ (y : Seen). IsReady c.args.self.now y) (sym c.in-None.ensures.unseen) c.requires.ready)
 
-pub operation_turn-requires-clause-provided : goal.operation_turn-requires-clause-provided
-operation_turn-requires-clause-provided g c =
-    subst (λ (x : Holdings). IsProvided x) (sym c.in-None.ensures.same) c.requires.provided
+pub operation_turn-requires-clause-small : goal.operation_turn-requires-clause-small
+operation_turn-requires-clause-small g c =
+    subst (λ (x : Holdings). HasSmallLoads x) (sym c.in-None.ensures.same) c.requires.small
 
 pub operation_turn-requires-clause-length : goal.operation_turn-requires-clause-length
 operation_turn-requires-clause-length g c =

@@ -15,12 +15,14 @@ use Rattle.lane_core.specs.Held.{devices_of, held}
 use Rattle.lane_core.specs.Ideal.{ideal_of}
 use Rattle.lane_core.specs.Kept.{due_of, map_of}
 use Rattle.lane_core.specs.MapValues.{map_values}
-use Rattle.lane_core.proofs.AwaitingLoads.{idle-unkept}
 use Rattle.lane_core.proofs.Bytes.{devices-elsewhere}
 use Rattle.lane_core.proofs.Keeping.{idle-map, idle-state}
 use Rattle.lane_core.proofs.Loaded.{held-loaded, loans-more, maps-staged, none-loaned}
 use Rattle.lane_core.proofs.MapTables.{AreMaps, maps-of, told-put}
 use Rattle.lane_core.proofs.MapValues.{image-some, map_values-insert}
+use Rattle.lane_core.proofs.Awaiting.{awaiting-put, less-other}
+use Rattle.lane_core.specs.Awaiting.{AreAwaiting, AreOfMaps}
+use Rattle.lane_core.proofs.OfMaps.{of-maps-less}
 use Rattle.lane_core.proofs.holdings.Holdings.store_load.Goals as goal
 
 pub finish-requires : goal.finish-requires
@@ -61,6 +63,9 @@ invariant_of-self c =
     let are =
     subst (λ ls. AreMaps (insert h.maps.map k (record o { map = c.finish.new.self })) ls h.agenda.returns
     h.agenda.promised) (sym loans) one in
+    let ls = c.open_map.new.self.prepared in
+    let prepared : ls ≡ remove h.loans.prepared k =
+    c.open_map.ensures.prepared ∙ ap (λ (x : MapId). remove h.loans.prepared x.made_at) c.map_id-id.ensures in
     record {
       covered = λ a. ap (λ b. contains_key b a) c.open_map.ensures.bytes ∙ h.covered a;
       reaches = h.reaches;
@@ -76,6 +81,11 @@ invariant_of-self c =
       own_returns = h.own_returns;
       returning = are.returning;
       tried = are.tried;
+      awaiting = subst (λ ms. AreAwaiting h.pages.now h.maxmem h.tags.map ms ls) (sym maps)
+          (awaiting-put h.pages.now h.maxmem h.tags.map h.maps.map h.loans.prepared h.awaiting k v ls
+          (less-other h.loans.prepared ls k prepared) tt);
+      ready = subst (AreOfMaps h.pages.now h.memories.map) (sym prepared)
+          (of-maps-less h.pages.now h.memories.map h.loans.prepared h.ready k);
     }
 
 pub returns-in-Some-clause-done : goal.returns-in-Some-clause-done
@@ -135,21 +145,3 @@ returns-in-Some-clause-loaded c =
     ap (λ x. insert h.maps.map k (record o { map = x })) c.finish.ensures in
     ap (λ ms. has_load (get ms k)) maps ∙ ap has_load (get_put h.maps.map k v k)
     ∙ ap (λ b. has_load (cond b (Some v) (get h.maps.map k))) (eq-eqb k k refl)
-
-pub returns-in-Some-clause-kept : goal.returns-in-Some-clause-kept
-returns-in-Some-clause-kept c m =
-    let h = c.args.self.now in
-    let k = c.args.map in
-    let o : KeptMap = c.in-Some.kept.now in
-    let v : KeptMap = record o {
-      map = record o.map { tried = true; stage = loaded c.args.bounced c.args.segments c.args.pages };
-    } in
-    let maps : insert h.maps.map k (record o { map = c.finish.new.self }) ≡ insert h.maps.map k v =
-    ap (λ x. insert h.maps.map k (record o { map = x })) c.finish.ensures in
-    ap (λ ms. kept_load (get ms m)) maps
-    ∙ told-put kept_load h.maps.map k v (sym (idle-unkept (get h.maps.map k) c.requires.idle)) m
-
-pub returns-in-Some-clause-prepared : goal.returns-in-Some-clause-prepared
-returns-in-Some-clause-prepared c =
-    c.open_map.ensures.prepared
-    ∙ ap (λ (x : MapId). remove c.args.self.now.loans.prepared x.made_at) c.map_id-id.ensures

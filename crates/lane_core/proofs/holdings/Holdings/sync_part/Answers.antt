@@ -26,7 +26,7 @@ use Rattle.lane_core.proofs.Reaching.{same-physical, same-placed, same-standing}
 use Rattle.lane_core.proofs.Syncing.{are-synced, part-done, part-wire}
 use Rattle.std.proofs.Common.{refl}
 use Rattle.dma_map.specs.MapView.{waiting_load}
-use Rattle.lane_core.proofs.AwaitingSteps.{awaits-put, awaits-same, loaded-unkept}
+use Rattle.lane_core.proofs.Awaiting.{put-awaiting, still-awaiting, still-ready}
 use Rattle.lane_core.proofs.holdings.Holdings.sync_part.Goals as goal
 
 pub copy_part-requires-clause-bounced : goal.copy_part-requires-clause-bounced
@@ -71,6 +71,7 @@ invariant_of-self-2 c =
     are-synced h c.requires.wired k o there on c.copy_part.new.map c.copy_part.ensures.map
     c.copy_part.new.memory.memory c.args.off c.args.len ops c.copy_part.ensures.view c.requires.range alone fine
     (insert h.maps.map k (record o { map = c.copy_part.new.map })) c.sync_loans.new.loans.loans refl loans in
+    let prepared = synced.prepared ∙ same.prepared in
     record {
       covered = λ a. ap (λ b. contains_key b a) marks
           ∙ has_set_all h.loans.bytes (lost h.loans.loans k c.args.off c.args.len ops) false are a
@@ -90,6 +91,9 @@ invariant_of-self-2 c =
       own_returns = h.own_returns;
       returning = maps.returning;
       tried = maps.tried;
+      awaiting = put-awaiting h c.sync_loans.new.loans.prepared prepared k (record o { map = c.copy_part.new.map })
+          (ap (λ m. waiting_load m.stage) c.copy_part.ensures.map.is);
+      ready = still-ready h c.sync_loans.new.loans.prepared prepared;
     }
 
 pub returns-clause-done : goal.returns-clause-done
@@ -154,31 +158,3 @@ returns-clause-wire c other found =
     c.copy_part.new.memory.memory c.args.off c.args.len ops c.copy_part.ensures.view c.requires.range alone fine
     ∙ ap (λ y. if_done (sync_part k y c.args.off c.args.len ops (ideal_of h))
     (wires.synced k c.args.off c.args.len ops (ideal_of h) (wire_of h)) (wire_of h)) is
-
-pub returns-clause-awaiting : goal.returns-clause-awaiting
-returns-clause-awaiting c =
-    let h = c.args.self.now in
-    let k = c.args.map in
-    let ops = c.args.ops.0 in
-    let o : KeptMap = c.in-Some.kept.now in
-    let synced : IsSynced c.reserve_extents.new.loans c.sync_loans.new.loans c.map_id-id.result.made_at c.args.off
-    c.args.len ops =
-    rw c.in_default.is at c.sync_loans.ensures.done in
-    awaits-put h _ refl refl refl (synced.prepared ∙ c.reserve_extents.ensures.same.prepared) refl k
-    (loaded-unkept (get h.maps.map k) c.requires.loaded) (record o { map = c.copy_part.new.map }) refl
-    (ap (λ m. waiting_load m.stage) c.copy_part.ensures.map.is)
-
-pub returns-in_err-reserve_extents-clause-awaiting : goal.returns-in_err-reserve_extents-clause-awaiting
-returns-in_err-reserve_extents-clause-awaiting c =
-    awaits-same c.args.self.now _ refl refl refl c.reserve_extents.ensures.same.prepared refl refl
-
-pub returns-in_err-reserve-clause-awaiting : goal.returns-in_err-reserve-clause-awaiting
-returns-in_err-reserve-clause-awaiting c =
-    awaits-same c.args.self.now _ refl refl refl c.reserve_extents.ensures.same.prepared refl refl
-
-pub returns-in-Refused-clause-awaiting : goal.returns-in-Refused-clause-awaiting
-returns-in-Refused-clause-awaiting c =
-    let refused : IsSame c.reserve_extents.new.loans c.sync_loans.new.loans =
-    rw c.in-Refused.is at c.sync_loans.ensures.refused in
-    awaits-same c.args.self.now _ refl refl refl (refused.prepared ∙ c.reserve_extents.ensures.same.prepared) refl
-    refl

@@ -12,18 +12,12 @@ use Rattle.lane_agreement.specs.After.{addresses}
 use Rattle.segment_build.specs.Chunks.{need_of}
 use Rattle.ideal_lane.specs.Loads.{finished, granted, limits_of, staged}
 use Rattle.ideal_lane.specs.State.{LaneState, Idle, Waiting}
-use Rattle.lane_core.specs.declared.kept.KeptLoad.{KeptLoad}
-use Rattle.lane_core.specs.Awaiting.{AreAwaiting, IsAwaiting, kept_load}
-use Rattle.lane_core.specs.Covered.{is_idle_map}
 use Rattle.lane_core.specs.Ideal.{ideal_of}
-use Rattle.lane_core.specs.Kept.{map_of, memory_of, waits_of}
+use Rattle.lane_core.specs.Kept.{memory_of}
 use Rattle.lane_core.specs.Loading.{HasNeed, HasRoomForAny, bio_chunks, bio_of}
 use Rattle.lane_core.proofs.Asked.{plain-chunks}
-use Rattle.lane_core.proofs.AwaitingLoads.{KeepsOthers, awaiting-none, awaiting-one, awaiting-others}
-use Rattle.lane_core.proofs.AwaitingLoads.{awaiting-ready, awaiting-tried, begins-waiting, cut-at, prepared-less}
-use Rattle.lane_core.proofs.AwaitingLoads.{idle-unkept, stays-staged}
-use Rattle.lane_core.proofs.Keeping.{idle-there}
-use Rattle.lane_core.proofs.MapValues.{image-none, image-some}
+use Rattle.lane_core.proofs.MapValues.{image-none}
+use Rattle.lane_core.proofs.AwaitedLoads.{begins-waiting, paged-reached}
 use Rattle.lane_core.proofs.holdings.Holdings.take_grabbed.Goals as goal
 
 same-pages : (pas : List ℕ) → addresses (as_pages pas) ≡ pas
@@ -88,51 +82,12 @@ returns-in-NoPages-clause-done c o x found bios entries items =
     })
     ∙ sym (ap (λ g. granted c.args.map o x chunks l (grab_reply g)) c.in-NoPages.is)
 
-pub returns-in-Queued-clause-awaiting : goal.returns-in-Queued-clause-awaiting
-returns-in-Queued-clause-awaiting c =
-    let h = c.args.self.now in
-    let k = c.wait_load.new.self in
-    let m = c.args.map in
-    let at = c.place-load_at.result in
-    let w : KeptLoad = record { bytes = c.args.bytes; items = c.args.items; need = c.args.need } in
-    let idle = idle-there (get h.maps.map m) c.requires.idle in
-    let o = map_of idle.0 in
-    let is = image-some map_of h.maps.map m idle.0 idle.1 in
-    let lane = c.wait_load.ensures.done o is in
-    let others : KeepsOthers m h k = record {
-      stays = stays-staged m o (Waiting (waits_of at w)) (ideal_of h) (ideal_of k) lane;
-      kept = c.wait_load.ensures.others;
-      prepared = λ q off. ap (λ ps. get ps q) c.wait_load.ensures.prepared;
-    } in
-    let ready : IsAwaiting h m w c.args.room = record {
-      own = c.requires.own;
-      reached = c.requires.reached;
-      loadable = c.requires.loadable;
-      fits = c.requires.room;
-      prepared = c.requires.prepared;
-    } in
-    awaiting-one k m at w c.args.room c.wait_load.ensures.waits
-    (begins-waiting h k m at o w c.args.room ready is lane c.wait_load.ensures.prepared)
-    (awaiting-others h k m others c.requires.awaiting)
+pub complete_load-requires-clause-reached : goal.complete_load-requires-clause-reached
+complete_load-requires-clause-reached c =
+    paged-reached (ideal_of c.args.self.now) (bio_of c.args.bytes) c.requires.paged
 
-pub returns-in-NoPages-clause-awaiting : goal.returns-in-NoPages-clause-awaiting
-returns-in-NoPages-clause-awaiting c =
-    let h = c.args.self.now in
-    let n = c.undo_load.new.self in
-    let k = c.note_tried.new.self in
-    let m = c.args.map in
-    let undone = c.undo_load.ensures in
-    let e : ideal_of n ≡ ideal_of h = undone.same.ideal in
-    let maps : n.maps.map ≡ h.maps.map = ap (λ t. t.map) undone.maps in
-    let idle = idle-there (get h.maps.map m) c.requires.idle in
-    let o = map_of idle.0 in
-    let is = image-some map_of h.maps.map m idle.0 idle.1 in
-    let none : kept_load (get n.maps.map m) ≡ None =
-    ap (λ ms. kept_load (get ms m)) maps ∙ idle-unkept (get h.maps.map m) c.requires.idle in
-    let unprepared : get n.loans.prepared m ≡ None =
-    ap (λ ps. get ps m) undone.prepared ∙ cut-at h.loans.prepared m in
-    let are : AreAwaiting n =
-    awaiting-none n m none unprepared (awaiting-ready h n e maps m
-    (prepared-less h.loans.prepared n.loans.prepared m undone.prepared) c.requires.awaiting) in
-    awaiting-tried n k m o (c.note_tried.ensures.done o (ap (λ (y : LaneState). get y.maps m) e ∙ is))
-    c.note_tried.ensures.waiting (ap (λ ms. is_idle_map (get ms m)) maps ∙ c.requires.idle) are
+pub wait_load-requires-clause-awaiting : goal.wait_load-requires-clause-awaiting
+wait_load-requires-clause-awaiting c o there =
+    begins-waiting c.args.self.now c.requires.stands c.args.map
+    (record { bytes = c.args.bytes; items = c.args.items; need = c.args.need }) c.args.room o there c.requires.own
+    c.requires.paged c.requires.loadable c.requires.room c.requires.prepared

@@ -1,4 +1,4 @@
-use Rattle.std.proofs.Common.{◌≡◌, Some, sym, ap, ◌∙◌, subst}
+use Rattle.std.proofs.Common.{refl, ◌≡◌, Some, sym, ap, ◌∙◌, subst}
 use Rattle.std.specs.FinMap.{get, insert}
 use Rattle.dma_map.specs.MapView.{state_of}
 use Rattle.lane_core.specs.declared.kept.KeptMap.{KeptMap}
@@ -7,6 +7,8 @@ use Rattle.lane_core.proofs.Called.{kept-load}
 use Rattle.lane_core.proofs.MapTables.{AreMaps, maps-of}
 use Rattle.lane_core.proofs.Returned.{idled}
 use Rattle.lane_core.proofs.TakenLoads.{maps-taken}
+use Rattle.lane_core.proofs.Awaiting.{put-awaiting}
+use Rattle.lane_core.specs.Awaiting.{AreAwaiting}
 use Rattle.lane_core.proofs.holdings.Holdings.take_load.Goals as goal
 
 pub take_waiting-requires : goal.take_waiting-requires
@@ -41,6 +43,9 @@ invariant_of-self-2 c =
       own_returns = h.own_returns;
       returning = are.returning;
       tried = are.tried;
+      awaiting = subst (λ ms. AreAwaiting h.pages.now h.maxmem h.tags.map ms h.loans.prepared) (sym maps)
+          (put-awaiting h h.loans.prepared refl k (idled o) refl);
+      ready = h.ready;
     }
 
 pub returns-clause-load : goal.returns-clause-load

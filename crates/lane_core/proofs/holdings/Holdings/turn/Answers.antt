@@ -6,7 +6,8 @@ use Rattle.lane_core.specs.Kept.{return_of}
 use Rattle.lane_core.specs.Turning.{IsMade, MayWant}
 use Rattle.lane_core.proofs.Doors.{err-map, on-err}
 use Rattle.lane_core.proofs.MadeTurns.{made-ready}
-use Rattle.lane_core.proofs.Providing.{length-after, made-script, provided-same, ready-after, same-room, transfer-all}
+use Rattle.lane_core.proofs.Providing.{length-after, made-script, ready-after, same-room, transfer-all}
+use Rattle.lane_core.proofs.SmallLoads.{small-same}
 use Rattle.lane_core.proofs.holdings.Holdings.turn.Goals as goal
 
 pub returns-in-Script-clause-made : goal.returns-in-Script-clause-made
@@ -52,11 +53,11 @@ returns-in-Transfer-clause-ready g c =
     (err-map c.transfer_turn.result (λ s. same-room h k s r.agenda.capacity) r.err)
     (on-err c.transfer_turn.result (inl refl))
 
-pub returns-in-Transfer-clause-provided : goal.returns-in-Transfer-clause-provided
-returns-in-Transfer-clause-provided g c =
+pub returns-in-Transfer-clause-small : goal.returns-in-Transfer-clause-small
+returns-in-Transfer-clause-small g c =
     let r = c.transfer_turn.ensures in
-    provided-same c.args.self.now c.transfer_turn.new.self c.requires.provided
-    (r.awaiting c.requires.provided.awaiting) (ap (λ s. s.now) r.script) r.agenda.place r.promised
+    small-same c.args.self.now c.transfer_turn.new.self c.requires.small (ap (λ s. s.now) r.script) r.agenda.place
+    r.promised
 
 pub returns-in-Transfer-clause-length : goal.returns-in-Transfer-clause-length
 returns-in-Transfer-clause-length g c =
@@ -72,14 +73,6 @@ pub returns-in-Callback-clause-ready : goal.returns-in-Callback-clause-ready
 returns-in-Callback-clause-ready g c =
     made-ready c.args.self.now c.call_back.new.self (g.D.HubDoor.seen c.args.door.now)
     (g.D.HubDoor.seen c.call_back.new.door) side.Callback c.call_back.result c.requires.ready c.call_back.ensures.made
-
-pub returns-in-Callback-clause-provided : goal.returns-in-Callback-clause-provided
-returns-in-Callback-clause-provided g c =
-    let r = c.call_back.ensures in
-    record {
-      awaiting = r.awaiting;
-      small = r.small;
-    }
 
 pub returns-in-Callback-clause-length : goal.returns-in-Callback-clause-length
 returns-in-Callback-clause-length g c =

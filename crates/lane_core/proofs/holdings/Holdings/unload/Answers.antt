@@ -7,7 +7,6 @@ use Rattle.lane_core.specs.Kept.{map_of}
 use Rattle.lane_core.proofs.Keeping.{state-loaded, state-unloaded}
 use Rattle.lane_core.proofs.MapValues.{image-none, image-some}
 use Rattle.lane_core.proofs.UnloadSteps.{unload-absent, unload-unloaded, unload-done}
-use Rattle.lane_core.proofs.AwaitingStays.{awaiting-stays}
 use Rattle.lane_core.proofs.holdings.Holdings.unload.Goals as goal
 
 pub returns-in_default-clause-done : goal.returns-in_default-clause-done
@@ -26,7 +25,6 @@ returns-in_default-state c =
           (image-some map_of h.maps.map c.args.map o (sym c.in-Some.ensures))
           (state-unloaded o.map.stage (λ e. c.in_default-state.not-Loaded (c.state.ensures ∙ e))));
       bytes = record { own = refl; pages = λ m. inl refl };
-      awaiting = λ are. are;
       script = refl;
       memories = refl;
       promised = omega arith;
@@ -45,7 +43,3 @@ returns-clause-done c =
     ap (λ x. gives x Done) (c.end_load.ensures.done (map_of o) there)
     ∙ sym (unload-done l c.args.map (map_of o) there
     (state-loaded o.map.stage (sym c.state.ensures ∙ c.in-Loaded.is)))
-
-pub returns-clause-awaiting : goal.returns-clause-awaiting
-returns-clause-awaiting c =
-    awaiting-stays c.args.self.now c.end_load.new.self c.end_load.ensures.waiting c.end_load.ensures.reach

@@ -16,6 +16,8 @@ use Rattle.lane_core.proofs.Keeping.{idle-map, idle-state}
 use Rattle.lane_core.proofs.Loaded.{loans-stay, maps-staged}
 use Rattle.lane_core.proofs.MapTables.{AreMaps, maps-of}
 use Rattle.lane_core.proofs.MapValues.{image-some, map_values-insert}
+use Rattle.lane_core.proofs.Awaiting.{awaiting-put}
+use Rattle.lane_core.specs.Awaiting.{AreAwaiting}
 use Rattle.lane_core.proofs.holdings.Holdings.wait_load.Goals as goal
 
 pub wait-requires : goal.wait-requires
@@ -59,6 +61,10 @@ invariant_of-self c =
       own_returns = h.own_returns;
       returning = are.returning;
       tried = are.tried;
+      awaiting = subst (λ ms. AreAwaiting h.pages.now h.maxmem h.tags.map ms h.loans.prepared) (sym maps)
+          (awaiting-put h.pages.now h.maxmem h.tags.map h.maps.map h.loans.prepared h.awaiting k v h.loans.prepared
+          (λ q off. refl) (c.requires.awaiting o there));
+      ready = h.ready;
     }
 
 pub returns-in-Some-clause-done : goal.returns-in-Some-clause-done
@@ -108,33 +114,3 @@ returns-in-Some-clause-bytes c =
       own = refl;
       pages = λ m. ap (λ ms. (devices_of ms m).pages) maps ∙ ap (λ d. d.pages) (devices-put h.maps.map k v bare m);
     }
-
-pub returns-in-Some-clause-waits : goal.returns-in-Some-clause-waits
-returns-in-Some-clause-waits c =
-    let h = c.args.self.now in
-    let k = c.args.map in
-    let o : KeptMap = c.in-Some.kept.now in
-    let v : KeptMap = record {
-      tag = o.tag;
-      map = record o.map { tried = true; stage = waiting c.args.load_at c.args.load c.args.room };
-    } in
-    let maps : insert h.maps.map k (record { tag = o.tag; map = c.wait.new.self })
-    ≡ insert h.maps.map k v =
-    ap (λ x. insert h.maps.map k (record { tag = o.tag; map = x })) c.wait.ensures in
-    ap (λ ms. kept_load (get ms k)) maps ∙ ap kept_load (get_put h.maps.map k v k)
-    ∙ ap (λ b. kept_load (cond b (Some v) (get h.maps.map k))) (eq-eqb k k refl)
-
-pub returns-in-Some-clause-others : goal.returns-in-Some-clause-others
-returns-in-Some-clause-others c m off =
-    let h = c.args.self.now in
-    let k = c.args.map in
-    let o : KeptMap = c.in-Some.kept.now in
-    let v : KeptMap = record {
-      tag = o.tag;
-      map = record o.map { tried = true; stage = waiting c.args.load_at c.args.load c.args.room };
-    } in
-    let maps : insert h.maps.map k (record { tag = o.tag; map = c.wait.new.self })
-    ≡ insert h.maps.map k v =
-    ap (λ x. insert h.maps.map k (record { tag = o.tag; map = x })) c.wait.ensures in
-    ap (λ ms. kept_load (get ms m)) maps ∙ ap kept_load (get_put h.maps.map k v m)
-    ∙ ap (λ b. kept_load (cond b (Some v) (get h.maps.map m))) off

@@ -10,13 +10,13 @@ invariant_of-self c =
     let r = c.cpu_write.ensures in
     let lane =
     called-lane h k
-    (record { wired = l.wired; stands = l.stands; provided = l.provided; length = l.length; room = l.room })
-    (cpu_write-after h k l.wired c.args.place c.args.bytes.now c.cpu_write.result r.done r.wire r.err) r.awaiting
+    (record { wired = l.wired; stands = l.stands; small = l.small; length = l.length; room = l.room })
+    (cpu_write-after h k l.wired c.args.place c.args.bytes.now c.cpu_write.result r.done r.wire r.err)
     r.script r.agenda in
     record {
       wired = lane.wired;
       stands = lane.stands;
-      provided = lane.provided;
+      small = lane.small;
       length = lane.length;
       room = lane.room;
     }

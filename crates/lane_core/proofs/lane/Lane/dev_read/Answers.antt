@@ -17,12 +17,12 @@ invariant_of-self c =
     let r = c.dev_read.ensures in
     let lane =
     called-lane h k
-    (record { wired = l.wired; stands = l.stands; provided = l.provided; length = l.length; room = l.room })
-    (kept-on h k l.wired r.kept) r.awaiting r.script r.agenda in
+    (record { wired = l.wired; stands = l.stands; small = l.small; length = l.length; room = l.room })
+    (kept-on h k l.wired r.kept)  r.script r.agenda in
     record {
       wired = lane.wired;
       stands = lane.stands;
-      provided = lane.provided;
+      small = lane.small;
       length = lane.length;
       room = lane.room;
     }

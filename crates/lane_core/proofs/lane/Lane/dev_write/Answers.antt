@@ -16,13 +16,13 @@ invariant_of-self c =
     let r = c.dev_write.ensures in
     let lane =
     called-lane h k
-    (record { wired = l.wired; stands = l.stands; provided = l.provided; length = l.length; room = l.room })
+    (record { wired = l.wired; stands = l.stands; small = l.small; length = l.length; room = l.room })
     (dev_write-after h k l.wired c.args.map.made_at c.args.off c.args.bytes.now c.dev_write.result r.done r.wire
-    r.err) r.awaiting r.script r.agenda in
+    r.err)  r.script r.agenda in
     record {
       wired = lane.wired;
       stands = lane.stands;
-      provided = lane.provided;
+      small = lane.small;
       length = lane.length;
       room = lane.room;
     }

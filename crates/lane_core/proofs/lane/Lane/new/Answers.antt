@@ -17,9 +17,12 @@ use Rattle.lane_core.specs.Kept.{map_of, memory_of, return_of, share_of, tag_of}
 use Rattle.lane_core.specs.MapValues.{map_values}
 use Rattle.lane_core.proofs.MapValues.{map_values-empty}
 use Rattle.lane_core.proofs.OwnRuns.{AreKnown}
-use Rattle.lane_core.proofs.OpensProvided.{opens-provided}
+use Rattle.lane_core.proofs.OpensSmall.{opens-small}
 use Rattle.lane_core.proofs.OpensWired.{opens-wired}
 use Rattle.lane_core.proofs.OpeningLane.{held-zeros, opens-covered, opens-framed, opens-mapless, opens-reaching}
+use Rattle.lane_core.proofs.Awaiting.{awaiting-empty}
+use Rattle.lane_core.specs.Awaiting.{AreAwaiting, AreOfMaps}
+use Rattle.lane_core.proofs.OfMaps.{of-maps-empty}
 use Rattle.lane_core.proofs.lane.Lane.new.Goals as goal
 
 none-there : (k : ℕ) (x : KeptMemory) → None ≡ Some x → ⊥
@@ -167,11 +170,23 @@ invariant_of-result-2-clause-stands c =
     }) in
     ∣ subst Stands (sym is) (opens-standing c.args.id.0 c.args.maxmem c.args.driver.now) ∣₁
 
-pub invariant_of-result-2-clause-provided : goal.invariant_of-result-2-clause-provided
-invariant_of-result-2-clause-provided c =
-    ∣ opens-provided c.args.driver.now _ c.requires.script c.requires.small c.as_slice-script.ensures
+pub invariant_of-result-2-clause-small : goal.invariant_of-result-2-clause-small
+invariant_of-result-2-clause-small c =
+    opens-small c.args.driver.now _ c.requires.script c.requires.small c.as_slice-script.ensures
     (ap (λ a. a.place) c.in_ok-new-4.ensures) (ap (λ a. a.promised) c.in_ok-new-4.ensures)
-    (ap (λ t. t.map) c.in_ok-new-2.ensures) c.in_ok-opening_loans.ensures.prepared ∣₁
+
+pub invariant_of-result-clause-awaiting : goal.invariant_of-result-clause-awaiting
+invariant_of-result-clause-awaiting c =
+    subst (λ ms. AreAwaiting c.as_slice-pages.result.now c.args.maxmem c.in_ok-new.field-0.map ms
+    c.in_ok-opening_loans.field-0.prepared) (sym (ap (λ t. t.map) c.in_ok-new-2.ensures))
+    (awaiting-empty c.as_slice-pages.result.now c.args.maxmem c.in_ok-new.field-0.map
+    c.in_ok-opening_loans.field-0.prepared)
+
+pub invariant_of-result-clause-ready : goal.invariant_of-result-clause-ready
+invariant_of-result-clause-ready c =
+    subst (AreOfMaps c.as_slice-pages.result.now c.in_ok-new-3.field-0.map)
+    (sym c.in_ok-opening_loans.ensures.prepared)
+    (of-maps-empty c.as_slice-pages.result.now c.in_ok-new-3.field-0.map)
 
 pub returns : goal.returns
 returns c =

@@ -16,13 +16,12 @@ invariant_of-self c =
     let r = c.sync.ensures in
     let lane =
     called-lane h k
-    (record { wired = l.wired; stands = l.stands; provided = l.provided; length = l.length; room = l.room })
-    (sync-after h k l.wired c.args.map.made_at c.args.ops.0 c.sync.result r.done r.wire r.err) r.awaiting r.script
-    r.agenda in
+    (record { wired = l.wired; stands = l.stands; small = l.small; length = l.length; room = l.room })
+    (sync-after h k l.wired c.args.map.made_at c.args.ops.0 c.sync.result r.done r.wire r.err) r.script r.agenda in
     record {
       wired = lane.wired;
       stands = lane.stands;
-      provided = lane.provided;
+      small = lane.small;
       length = lane.length;
       room = lane.room;
     }

@@ -16,13 +16,13 @@ invariant_of-self c =
     let r = c.sync_range.ensures in
     let lane =
     called-lane h k
-    (record { wired = l.wired; stands = l.stands; provided = l.provided; length = l.length; room = l.room })
+    (record { wired = l.wired; stands = l.stands; small = l.small; length = l.length; room = l.room })
     (sync_range-after h k l.wired c.args.map.made_at c.args.off c.args.len c.args.ops.0 c.sync_range.result r.done
-    r.wire r.err) r.awaiting r.script r.agenda in
+    r.wire r.err)  r.script r.agenda in
     record {
       wired = lane.wired;
       stands = lane.stands;
-      provided = lane.provided;
+      small = lane.small;
       length = lane.length;
       room = lane.room;
     }

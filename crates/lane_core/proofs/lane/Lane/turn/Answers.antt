@@ -1,6 +1,5 @@
 use Rattle.lane_core.specs.Ideal.{ideal_of}
 use Rattle.lane_core.proofs.Doors.{err-map, ok-map}
-use Rattle.lane_core.proofs.OneProvided.{provided-of}
 use Rattle.lane_core.proofs.OneStanding.{stands-of}
 use Rattle.lane_core.proofs.Providing.{follows-after, kept-follows}
 use Rattle.lane_core.proofs.lane.Lane.turn.Goals as goal
@@ -15,16 +14,13 @@ turn-requires-clause-ready g c =
       served = c.requires.served;
     }
 
-pub turn-requires-clause-provided : goal.turn-requires-clause-provided
-turn-requires-clause-provided g c = provided-of c.args.self.now.holdings c.args.self.now.provided
-
 pub invariant_of-self : goal.invariant_of-self
 invariant_of-self g c =
     let r = c.turn.ensures in
     record {
       wired = r.ready.wired;
       stands = ∣ r.ready.stands ∣₁;
-      provided = ∣ r.provided ∣₁;
+      small = r.small;
       length = r.length;
       room = r.ready.room;
     }

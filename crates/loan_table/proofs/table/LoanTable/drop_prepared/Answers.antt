@@ -5,6 +5,7 @@ use Rattle.loan_table.specs.Loans.{addresses_of}
 use Rattle.loan_table.specs.Table.{AreIn}
 use Rattle.loan_table.specs.Trees.{closed}
 use Rattle.loan_table.proofs.Marking.{take_loan}
+use Rattle.loan_table.proofs.Results.{is_none}
 use Rattle.loan_table.proofs.Rooms.{count_taken, left_by_map, count_room_less}
 use Rattle.loan_table.proofs.Trees.{loans_in-change, opened_stay}
 use Rattle.loan_table.proofs.table.LoanTable.drop_prepared.Goals as goal
@@ -26,7 +27,7 @@ invariant_of-self c =
     record {
       ordered = c.remove-gone.ensures.ordered;
       inside = λ m. rw (opened_stay es c.remove-gone.new.self.entries map
-          (rw (← c.self.view_is) at c.requires) c.remove-gone.ensures.updates.0)
+          (is_none _ (rw (← c.self.view_is) at c.requires)) c.remove-gone.ensures.updates.0)
           (c.self.invariant.inside m);
       prepared = λ m. rw (loans_in-change false es c.remove-gone.new.self.entries map None
           c.remove-gone.ensures.updates.0)
@@ -37,7 +38,7 @@ invariant_of-self c =
       room = left_by_map c.self.inside.bytes c.self.inside.bytes c.self.inside.positions _ c.self.inside.spare
           c.positions_of.result c.self.invariant.room (omega (arith, sum)) (omega arith) refl;
       lent_counted = subst (IsCounted c.self.inside.lent) (sym (opened_stay es c.remove-gone.new.self.entries map
-          (rw (← c.self.view_is) at c.requires) c.remove-gone.ensures.updates.0)) c.self.invariant.lent_counted;
+          (is_none _ (rw (← c.self.view_is) at c.requires)) c.remove-gone.ensures.updates.0)) c.self.invariant.lent_counted;
       idle = λ m. rw (loans_in-change false es c.remove-gone.new.self.entries map None
           c.remove-gone.ensures.updates.0)
           (take_loan LendsNothing (closed c.self.inside.loans) map (λ way a. refl) c.self.invariant.idle m);
@@ -53,4 +54,4 @@ returns-clause-prepared c =
 pub returns-clause-loans : goal.returns-clause-loans
 returns-clause-loans c =
     rw (← c.self.view_is) (opened_stay c.self.inside.loans.entries c.remove-gone.new.self.entries c.args.map.made_at
-    (rw (← c.self.view_is) at c.requires) c.remove-gone.ensures.updates.0)
+    (is_none _ (rw (← c.self.view_is) at c.requires)) c.remove-gone.ensures.updates.0)

@@ -1,9 +1,7 @@
--- A driver opens with all that its turns take.
-use Rattle.std.proofs.Common.{◌≡◌, ℕ, zero, suc, ◌≤◌, List, [], ◌∷◌, Some, None, slice_get, ap, sym, ◌∙◌}
+-- The loads of a driver that opens are small.
+use Rattle.std.proofs.Common.{◌≡◌, ℕ, zero, suc, ◌≤◌, List, [], ◌∷◌, Some, slice_get, sym}
 use Rattle.std.proofs.Common.{subst, arith}
-use Rattle.std.specs.FinMap.{empty, get, get-empty}
 use Rattle.std.specs.List.{sum_by}
-use Rattle.std.specs.Ordering.{nat_cmp}
 use Rattle.busdma_base.specs.declared.scenarios.scenario.Driver.{Driver}
 use Rattle.busdma_base.specs.declared.scenarios.script.Op.{Op}
 use Rattle.busdma_machine.specs.Each.{EachAfter}
@@ -11,8 +9,7 @@ use Rattle.busdma_base.specs.Scenarios.Limits.{buffer_limit, loaded_limit}
 use Rattle.busdma_base.specs.Scenarios.Operations.{loaded_by}
 use Rattle.busdma_base.specs.Scenarios.Script.{IsOp, IsScript}
 use Rattle.lane_core.specs.declared.holdings.Holdings.{Holdings}
-use Rattle.lane_core.specs.Awaiting.{AreAwaiting, HasSmallLoads, bytes_ahead, kept_load}
-use Rattle.lane_core.specs.Provided.{IsProvided}
+use Rattle.lane_core.specs.SmallLoads.{HasSmallLoads, bytes_ahead}
 
 -- each load of a script is small
 small-each : (before script : List Op) → EachAfter IsOp before script → (p : ℕ) (o : Op) →
@@ -24,19 +21,8 @@ small-each before (q ∷ script) (here, each) (suc p) o h = small-each _ script 
 
 module _ (driver : Driver) (h : Holdings) (valid : IsScript driver.script)
     (small : sum_by loaded_by driver.script ≤ loaded_limit) (script : h.script.now ≡ driver.script)
-    (place : h.agenda.place ≡ 0) (promised : h.agenda.promised ≡ 0) (mapless : h.maps.map ≡ empty)
-    (unprepared : h.loans.prepared ≡ empty) where
-  no-load : (m : ℕ) → kept_load (get h.maps.map m) ≡ None
-  no-load m = ap (λ ms. kept_load (get ms m)) mapless ∙ ap kept_load (get-empty nat_cmp m)
-
-  opens-awaiting : AreAwaiting h
-  opens-awaiting = record {
-    each = λ m load_at callback room waits.
-        (let none : None ≡ Some (load_at, callback, room) = sym (no-load m) ∙ waits in absurd (cc));
-    prepared = λ m none. ap (λ ls. get ls m) unprepared ∙ get-empty nat_cmp m;
-  }
-
-  opens-small : HasSmallLoads h
+    (place : h.agenda.place ≡ 0) (promised : h.agenda.promised ≡ 0) where
+  pub opens-small : HasSmallLoads h
   opens-small =
       let ahead : bytes_ahead h.agenda.place h.script.now ≡ sum_by loaded_by driver.script =
       (λ i. bytes_ahead (place i) (script i)) in
@@ -45,9 +31,3 @@ module _ (driver : Driver) (h : Holdings) (valid : IsScript driver.script)
             (sym script) (small-each [] driver.script valid.each);
         few = omega (arith, ahead, promised, small);
       }
-
-  pub opens-provided : IsProvided h
-  opens-provided = record {
-    awaiting = opens-awaiting;
-    small = opens-small;
-  }

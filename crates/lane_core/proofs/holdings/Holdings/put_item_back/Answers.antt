@@ -1,6 +1,0 @@
-use Rattle.std.proofs.Common.{refl}
-use Rattle.lane_core.proofs.AwaitingSteps.{awaits-same}
-use Rattle.lane_core.proofs.holdings.Holdings.put_item_back.Goals as goal
-
-pub returns-clause-awaiting : goal.returns-clause-awaiting
-returns-clause-awaiting c = awaits-same c.args.self.now _ refl refl refl refl refl refl

@@ -1,0 +1,32 @@
+use Rattle.std.proofs.Common.{◌≡◌, is_some, sym, ap, ◌∙◌, subst}
+use Rattle.std.specs.FinMap.{get, remove}
+use Rattle.busdma_machine.specs.declared.name.MapId.{MapId}
+use Rattle.lane_core.specs.Awaiting.{AreOfMaps}
+use Rattle.lane_core.proofs.Awaiting.{awaiting-ready, idle-unkept, less-other}
+use Rattle.lane_core.proofs.Keeping.{idle-unloaded}
+use Rattle.lane_core.proofs.OfMaps.{of-maps-less}
+use Rattle.lane_core.proofs.holdings.Holdings.undo_load.Goals as goal
+
+pub drop_prepared-requires : goal.drop_prepared-requires
+drop_prepared-requires c =
+    let h = c.args.self.now in
+    ap (λ (x : MapId). is_some (get h.loans.loans x.made_at)) c.map_id-id.ensures ∙ h.loaded c.args.map
+    ∙ idle-unloaded (get h.maps.map c.args.map) c.requires.idle
+
+pub invariant_of-self-clause-awaiting : goal.invariant_of-self-clause-awaiting
+invariant_of-self-clause-awaiting c =
+    let h = c.args.self.now in
+    let k = c.args.map in
+    let ls = c.drop_prepared.new.self.prepared in
+    let prepared : ls ≡ remove h.loans.prepared k =
+    c.drop_prepared.ensures.prepared ∙ ap (λ (x : MapId). remove h.loans.prepared x.made_at) c.map_id-id.ensures in
+    awaiting-ready h.pages.now h.maxmem h.tags.map h.maps.map h.loans.prepared h.awaiting k ls
+    (idle-unkept (get h.maps.map k) c.requires.idle) (less-other h.loans.prepared ls k prepared)
+
+pub invariant_of-self-clause-ready : goal.invariant_of-self-clause-ready
+invariant_of-self-clause-ready c =
+    let h = c.args.self.now in
+    let prepared : c.drop_prepared.new.self.prepared ≡ remove h.loans.prepared c.args.map =
+    c.drop_prepared.ensures.prepared ∙ ap (λ (x : MapId). remove h.loans.prepared x.made_at) c.map_id-id.ensures in
+    subst (AreOfMaps h.pages.now h.memories.map) (sym prepared)
+    (of-maps-less h.pages.now h.memories.map h.loans.prepared h.ready c.args.map)
