@@ -1,5 +1,5 @@
 -- What contracts see of a free frame.
-use Rattle.std.specs.Prelude.{ℕ, ◌<◌, ◌^◌}
+use Rattle.std.specs.Prelude.{◌<◌, ◌^◌}
 use Rattle.busdma_machine.specs.Machine.Page.{FrameBytes}
 use Rattle.frame_bank.specs.declared.frame.State.{State}
 use Rattle.frame_bank.specs.declared.frame.State.TheVariants.{Fresh, Back}

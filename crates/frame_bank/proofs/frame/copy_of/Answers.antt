@@ -1,4 +1,4 @@
-use Rattle.std.proofs.Common.{sym, ap, ◌∙◌, arith}
+use Rattle.std.proofs.Common.{sym, ap, ◌∙◌}
 use Rattle.busdma_machine.specs.Machine.Page.{overwritten}
 use Rattle.frame_bank.proofs.Copies.{overwritten-whole}
 use Rattle.frame_bank.proofs.frame.copy_of.Goals as goal

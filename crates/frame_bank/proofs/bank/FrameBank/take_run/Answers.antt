@@ -4,12 +4,12 @@ use Rattle.std.specs.List.{filter}
 use Rattle.std.specs.VecDeque.{deque_len}
 use Rattle.std.proofs.lemmas.List.{length-drop}
 use Rattle.std.proofs.lemmas.List.Elements.{All-same, All-append, All-take, All-drop}
-use Rattle.busdma_machine.specs.Machine.PageList.{RoomyPages, page_addresses}
+use Rattle.busdma_machine.specs.Machine.PageList.{page_addresses}
 use Rattle.busdma_machine.specs.Bounce.History.{IsRising}
 use Rattle.busdma_machine.specs.Bounce.MemoryRuns.{frames_for, frames_from, lowest_run, in_run}
 use Rattle.frame_bank.specs.FrameBank.{Bank, free_frames, is_in_run, run_frames, frames_left, run_pages, pages_left}
 use Rattle.frame_bank.proofs.Rising.{rising_pages, rising_addresses}
-use Rattle.frame_bank.proofs.Taking.{TakenAt, begun_at, turned_front, turned_back, rising_without}
+use Rattle.frame_bank.proofs.Taking.{TakenAt, begun_at, turned_back, rising_without}
 use Rattle.frame_bank.proofs.Taking.{filter-page_addresses}
 use Rattle.frame_bank.proofs.bank.FrameBank.take_run.Goals as goal
 
