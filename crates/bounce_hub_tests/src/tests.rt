@@ -1,10 +1,7 @@
 //! A hub beside the plain account of the same frames.
 
-mod asked;
-mod every_call;
 mod lent;
 mod pair;
-mod random_calls;
 mod small_table;
 mod told;
 

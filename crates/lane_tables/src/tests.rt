@@ -1,10 +1,7 @@
 ghost use Rattle.std.specs.Prelude.{◌≡◌, ◌^◌, ◌<◌, length, IfOk};
-ghost use Rattle.busdma_base.specs.Scenarios.Operations.{items_of};
 
 use crate::{Agenda, PlaceTable};
-use busdma_base::{
-    Buffer, Driver, Item, LaneId, ListOf, MapId, Op, Page, PageList, Place, Va, ZoneId,
-};
+use busdma_base::{Driver, LaneId, ListOf, MapId, Page, PageList, ZoneId};
 use std::alloc::{AllocError, Global};
 use std::test::Fail;
 
@@ -34,56 +31,6 @@ fn values_stand_at_their_places(rt: HostRuntime) -> Result<(), Fail> {
         .map(|(place, value)| (place, *value))
         .collect(rt.alloc())?;
     assert_eq!(rt; values.as_slice(), [(0, 'a'), (3, 'e')].as_slice());
-    Ok(())
-}
-
-fn read(map: u32) -> Item {
-    Item::DevRead {
-        map,
-        off: 0,
-        len: 1,
-    }
-}
-
-fn load(map: u32, then: ListOf<Item>) -> Op
-    ensures { items_of result ≡ then }
-{
-    Op::Load {
-        map,
-        buffer: Buffer::Flat {
-            place: Place::At(Va(0)),
-            len: 4,
-        },
-        flags: 0,
-        then,
-    }
-}
-
-#[test]
-fn items_leave_in_the_order_of_their_loads(rt: HostRuntime) -> Result<(), Fail> {
-    let alloc = rt.alloc();
-    let driver = Driver {
-        pages: ListOf::new(Vec::new(alloc)),
-        script: ListOf::new(vec![in alloc;
-            load(0, ListOf::new(vec![in alloc; read(0), read(0)]?)),
-            load(1, ListOf::new(vec![in alloc; read(1)]?)),
-        ]?),
-    };
-    let mut agenda = Agenda::new(alloc, &driver)?;
-    assert_eq!(rt; agenda.place(), 0);
-    agenda.push_items(0, ListOf::new(vec![in alloc; read(0), read(0)]?));
-    agenda.advance();
-    agenda.push_items(1, ListOf::new(vec![in alloc; read(1)]?));
-    assert_eq!(rt; agenda.place(), 1);
-    assert!(rt; agenda.names(0) && agenda.names(1) && !agenda.names(2));
-    assert_eq!(rt; agenda.first().map(|queued| queued.load_at), Some(0));
-    let first = agenda.pop().ok_or("no item")?;
-    agenda.put_back(first);
-    for (load_at, place) in [(0, 0), (0, 1), (1, 0)] {
-        let queued = agenda.pop().ok_or("no item")?;
-        assert_eq!(rt; (queued.load_at, queued.place), (load_at, place));
-    }
-    assert!(rt; agenda.pop().is_none() && !agenda.names(1));
     Ok(())
 }
 

@@ -1,8 +1,6 @@
-//! Loads that are worked out by hand, and loads that are built in three ways and compared.
+//! Loads that are worked out by hand, each built in three ways that are compared.
 
 mod agree;
 mod checks;
-mod generated;
-mod large;
 mod rows;
 mod ways;

@@ -10,6 +10,7 @@ use busdma_base::{
     Report, ReportName, Scenario, Side, Va, ZoneCounts,
 };
 use std::alloc::{AllocError, Global};
+use std::process::Abort;
 use std::test::Fail;
 
 /// The first eight numbers of the seed 1 are these, by the definition.
@@ -83,16 +84,6 @@ Await { map: 1 }
 Unload { map: 1 }
 ";
 
-const SEED_76_ROUND_2: &str = "\
-CpuWrite { place: At(Va(1073997)), bytes: Filled { byte: 203, len: 64 } }
-Load { map: 2, buffer: Flat { place: At(Va(1073997)), len: 5848 }, flags: 0, then: ListOf { items: [\
-Sync { map: 2, ops: 4 }, \
-DevRead { map: 2, off: 0, len: 64 }, \
-Sync { map: 2, ops: 8 }] } }
-Await { map: 2 }
-Unload { map: 2 }
-";
-
 const SEED_76_ROUND_3: &str = "\
 Load { map: 2, buffer: Flat { place: At(Va(1089950)), len: 20 }, flags: 0, then: ListOf { items: [\
 Sync { map: 2, ops: 1 }, \
@@ -147,45 +138,36 @@ fn a_machine_and_four_drivers(rt: HostRuntime) -> Result<(), Fail> {
     Ok(())
 }
 
-#[test]
-fn one_round_each(rt: HostRuntime) -> Result<(), Fail> {
-    let alloc = rt.alloc();
-    let seed_1 = storm_scenario(alloc, 1, 1)?;
-    let seed_76 = storm_scenario(alloc, 1, 76)?;
-    let table = [
-        (&seed_1, 0, SEED_1_ROUND_0),
-        (&seed_1, 1, SEED_1_ROUND_1),
-        (&seed_1, 2, SEED_1_ROUND_2),
-        (&seed_1, 3, SEED_1_ROUND_3),
-        (&seed_76, 0, SEED_76_ROUND_0),
-        (&seed_76, 2, SEED_76_ROUND_2),
-        (&seed_76, 3, SEED_76_ROUND_3),
-    ];
-    for (scenario, number, rounds) in table {
-        let want = format!(in alloc; "{OPENING}{rounds}")?;
-        assert_eq!(rt; script_text(alloc, scenario, number)?, want);
-    }
+/// A driver's script, of a storm of `n` rounds for each driver, is the opening and these rounds.
+fn compare(
+    rt: &impl Abort,
+    alloc: Global,
+    n: u32,
+    seed: u64,
+    number: usize,
+    rounds: [&str; 2],
+) -> Result<(), Fail> {
+    assert!(rt; 1 <= n && n <= 256 && 1 <= seed);
+    let scenario = storm_scenario(alloc, n, seed)?;
+    let text = script_text(alloc, &scenario, number)?;
+    let drawn = text.as_str().strip_prefix(OPENING);
+    let behind = drawn.and_then(|drawn| drawn.strip_prefix(rounds[0]));
+    assert_eq!(rt; behind, Some(rounds[1]), "driver {number} of {seed}");
     Ok(())
 }
 
 /// The rounds of a driver are drawn behind all those of the drivers before it.
 #[test]
-fn two_rounds_each(rt: HostRuntime) -> Result<(), Fail> {
+fn rounds_of_drivers(rt: HostRuntime) -> Result<(), Fail> {
     let alloc = rt.alloc();
-    let scenario = storm_scenario(alloc, 2, 1)?;
-    let first = format!(in alloc; "{OPENING}{SEED_1_ROUND_0}{SEED_1_ROUND_1}")?;
-    let second = format!(in alloc; "{OPENING}{SEED_1_ROUND_2}{SEED_1_ROUND_3}")?;
-    assert_eq!(rt; script_text(alloc, &scenario, 0)?, first);
-    assert_eq!(rt; script_text(alloc, &scenario, 1)?, second);
-    Ok(())
-}
-
-/// 256 rounds have 3 + 4 * 256 operations.
-#[test]
-fn most_rounds(rt: HostRuntime) -> Result<(), Fail> {
-    let scenario = storm_scenario(rt.alloc(), 256, u64::MAX)?;
-    for driver in scenario.drivers.as_slice() {
-        assert_eq!(rt; driver.script.len(), 1027);
+    for (n, seed, number, rounds) in [
+        (1, 1, 3, [SEED_1_ROUND_3, ""]),
+        (1, 76, 0, [SEED_76_ROUND_0, ""]),
+        (1, 76, 3, [SEED_76_ROUND_3, ""]),
+        (2, 1, 0, [SEED_1_ROUND_0, SEED_1_ROUND_1]),
+        (2, 1, 1, [SEED_1_ROUND_2, SEED_1_ROUND_3]),
+    ] {
+        compare(&rt, alloc, n, seed, number, rounds)?;
     }
     Ok(())
 }

@@ -50,17 +50,6 @@ impl Lent {
         }
     }
 
-    /// The map and the address of the page that was lent at a place.
-    pub fn held_at(&self, place: usize) -> Option<(MapId, Pa)> {
-        let held = self.held.get(place)?;
-        Some((held.map, held.page.address()))
-    }
-
-    /// The memory at a place.
-    pub fn memory_at(&self, place: usize) -> Option<MapId> {
-        Some(self.memories.get(place)?.mem)
-    }
-
     fn lend(&mut self, map: MapId, pages: PageList) -> Result<(), AllocError> {
         let mut pages = pages;
         for _ in 0..pages.len() {

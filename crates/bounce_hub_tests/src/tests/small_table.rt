@@ -1,4 +1,4 @@
-//! Twelve calls over a small machine, whose replies and counts were worked by hand.
+//! Fourteen calls over a small machine, whose replies and counts were worked by hand.
 
 use crate::tests::pair::Pair;
 use crate::tests::told::told;
@@ -7,13 +7,13 @@ use busdma_machine::{HubCall, LaneId, Pa, TagLimits, ZoneCounts};
 use std::test::Fail;
 
 /// The frames 0x10 to 0x17 and 0x1000 to 0x100f.
-pub const FRAMES: [u64; 24] = [
+const FRAMES: [u64; 24] = [
     0x10, 0x11, 0x12, 0x13, 0x14, 0x15, 0x16, 0x17, 0x1000, 0x1001, 0x1002, 0x1003, 0x1004, 0x1005,
     0x1006, 0x1007, 0x1008, 0x1009, 0x100a, 0x100b, 0x100c, 0x100d, 0x100e, 0x100f,
 ];
 
 /// Limits that reach up to the end of frame 0xfff.
-pub const LOW: TagLimits = TagLimits {
+const LOW: TagLimits = TagLimits {
     alignment: 1,
     boundary: 0,
     lowaddr: Pa(0xffffff),
@@ -25,7 +25,7 @@ pub const LOW: TagLimits = TagLimits {
 };
 
 #[test]
-fn twelve_calls(rt: HostRuntime) -> Result<(), Fail> {
+fn fourteen_calls(rt: HostRuntime) -> Result<(), Fail> {
     let alloc = rt.alloc();
     let cut = TagLimits {
         boundary: 4096,
@@ -60,6 +60,8 @@ fn twelve_calls(rt: HostRuntime) -> Result<(), Fail> {
             },
             "run 0x12000 2",
         ),
+        (0, HubCall::MemFree { mem: four }, "nothing"),
+        (0, HubCall::AttachTag(LOW), "zone0 +0 made"),
     ];
     let mut pair = Pair::new(alloc, &FRAMES, 2, 0x1010)?;
     for (lane, call, want) in calls {
@@ -70,7 +72,7 @@ fn twelve_calls(rt: HostRuntime) -> Result<(), Fail> {
         assert_eq!(rt; told(alloc, &reply)?.as_str(), want);
         pair = after;
     }
-    assert_eq!(rt; pair.entries(), 11);
+    assert_eq!(rt; pair.entries(), 13);
     let counts = ZoneCounts {
         total: 2,
         free: 0,

@@ -5,5 +5,5 @@ use Rattle.bounce_hub_tests.proofs.tests.pair.Pair.attach.Goals as goal
 
 pub after-requires : goal.after-requires
 after-requires g c =
-    held c.self.inside.hub c.attach.new.hub c.self.inside.beside.plain c.args.lane.0 (AttachTag c.args.tag)
-    (GrownBy c.in_ok-grown.grown) c.self.invariant c.in_ok-grown.ensures
+    held c.self.inside.hub c.attach_tag.new.self c.self.inside.beside.plain c.args.lane.0 (AttachTag c.args.tag)
+    (GrownBy c.in_ok-grown.grown) c.self.invariant c.in_ok-grown.ensures.held
