@@ -22,7 +22,8 @@ use Rattle.ideal_lane.specs.Turns.{Turned, lane_step}
 use Rattle.ideal_lane.specs.Unloads.{pages_of, after_return}
 use Rattle.ideal_lane.proofs.Effects.{Work, Operation, Transfer, Callback, Touches, Same, Makes, Touched, Maps, Creates, Unmaps, Places, Frees}
 use Rattle.ideal_lane.proofs.Effects.{Refuses, Waits, Loads, Overflows, Unloads, Ends, AtOnce, Granted, Called}
-use Rattle.ideal_lane.proofs.Effects.{IsNext, Steps, Stays, Advances, Leaves, Releases, Calls, turn-steps, waits_for, map_in}
+use Rattle.ideal_lane.proofs.Effects.{IsNext, Steps, Stays, Advances, Leaves, Releases, Calls, waits_for, map_in}
+use Rattle.ideal_lane.proofs.Stepping.{turn-steps}
 use Rattle.ideal_lane.proofs.Effects.{was_in, place_in, asked_in, chunks_in, pages_in, there_in}
 use Rattle.ideal_lane.proofs.Falling.{queued-from, rest-of}
 use Rattle.ideal_lane.proofs.Endings.{bounced_in, segments_of}

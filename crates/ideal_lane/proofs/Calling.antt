@@ -22,7 +22,8 @@ use Rattle.ideal_lane.proofs.Effects.{Advances, Callback, Called, Calls, Creates
 use Rattle.ideal_lane.proofs.Effects.{IsUnwaiting, Leaves, Loads, Makes, Maps, NothingLeft, Overflows, Places}
 use Rattle.ideal_lane.proofs.Effects.{Refuses, Releases, Same, Stays, Steps, Touched, Touches, Unloads, Unmaps}
 use Rattle.ideal_lane.proofs.Effects.{Unwaited, Vain, Waits, Work, asked_in, chunks_in, map_in, pages_in}
-use Rattle.ideal_lane.proofs.Effects.{place_in, there_in, turn-steps, waits_for, was_in}
+use Rattle.ideal_lane.proofs.Effects.{place_in, there_in, waits_for, was_in}
+use Rattle.ideal_lane.proofs.Stepping.{turn-steps}
 use Rattle.ideal_lane.proofs.Endings.{fitting, too_big, bounced_in, segments_of}
 use Rattle.ideal_lane.proofs.Openings.{opens-standing}
 use Rattle.ideal_lane.proofs.Standings.{turn-stands}

@@ -1,7 +1,8 @@
--- What a step makes of a driver: one case for each effect, with what is known where it comes about. Each operation,
--- item and callback is shown once to be one of them, so what holds after each effect holds after each step.
-use Rattle.std.proofs.Common.{◌≡◌, ℕ, ◌==◌, ◌&&◌, Bool, true, false, if◌then◌else◌, List, [], ◌∷◌}
-use Rattle.std.proofs.Common.{length, Option, Some, None, refl, nat_lt, slice_get, subst, sym}
+-- What a driver can do to its state: one case for each effect of a step, with what is known where it comes about.
+-- `Stepping` shows each operation, item and callback once to be one of them, so what holds after each effect holds
+-- after each step.
+use Rattle.std.proofs.Common.{◌≡◌, ℕ, ◌==◌, ◌&&◌, true, false, List, [], ◌∷◌}
+use Rattle.std.proofs.Common.{length, Option, Some, None, nat_lt, slice_get, subst}
 use Rattle.std.specs.FinMap.{get, remove, contains_key}
 use Rattle.busdma_machine.specs.declared.bounce.hold.HubCall.{HubCall}
 use Rattle.busdma_machine.specs.declared.bounce.hold.HubCall.TheVariants as call
@@ -13,10 +14,7 @@ use Rattle.busdma_base.specs.declared.journals.journal.Did.TheVariants as did
 use Rattle.busdma_base.specs.declared.journals.journal.Side.{Side}
 use Rattle.busdma_base.specs.declared.journals.journal.Side.TheVariants as side
 use Rattle.busdma_machine.specs.declared.report.Errno.{Errno}
-use Rattle.busdma_machine.specs.declared.report.Errno.TheVariants.{EBUSY, EINVAL, ENOMEM}
 use Rattle.busdma_machine.specs.declared.report.Judged.TheVariants.{Fine}
-use Rattle.busdma_machine.specs.declared.report.Report.{Report}
-use Rattle.busdma_machine.specs.declared.report.ReportName.TheVariants.{MixedSync}
 use Rattle.busdma_machine.specs.declared.bounce.zone.Grown.{Grown}
 use Rattle.busdma_machine.specs.declared.machine.address.Pa.{Pa}
 use Rattle.busdma_machine.specs.declared.machine.bio.Bio.{Bio}
@@ -40,30 +38,26 @@ use Rattle.dma_tag.specs.SyncOps.{is_mixed}
 use Rattle.lane_agreement.specs.After.{addresses}
 use Rattle.lane_agreement.specs.View.{Return}
 use Rattle.lane_tables.specs.declared.queued.QueuedItem.{QueuedItem}
-use Rattle.loan_table.specs.Access.{cpu_read_answer, cpu_write_answer, dev_read_answer, dev_write_answer}
+use Rattle.loan_table.specs.Access.{cpu_write_answer, dev_write_answer}
 use Rattle.loan_table.specs.Lending.{sync_answer, synced, lost}
 use Rattle.loan_table.specs.Loans.{loan_of, load_bytes}
 use Rattle.segment_build.specs.Chunks.{need_of}
 use Rattle.ideal_lane.specs.State.{LaneState, LaneTag, LaneMap, LaneMemory, Stage, Waiting, WaitingLoad, named}
-use Rattle.ideal_lane.specs.Accesses.{cpu_read, cpu_write, dev_read, dev_write, values}
-use Rattle.ideal_lane.specs.Asking.{Asking, Gives, Asks, call_of, by_reply, goes_on}
-use Rattle.ideal_lane.specs.IdealMemory.{is_known, written, forgotten}
-use Rattle.ideal_lane.specs.Loads.{Asked, asked, limits_of, chunks_for, finished, granted, load_chunks, load, ended}
+use Rattle.ideal_lane.specs.IdealMemory.{written, forgotten}
+use Rattle.ideal_lane.specs.Loads.{Asked, asked, limits_of, chunks_for, granted, load, ended}
 use Rattle.ideal_lane.specs.Loads.{load_judged, unpaged, waiting_load, zone_of}
-use Rattle.ideal_lane.specs.Maps.{with_map, without_map, created, map, end_map, map_destroy, await}
-use Rattle.ideal_lane.specs.Memories.{placed, without_memory, dmamem, dmamem_free}
-use Rattle.ideal_lane.specs.Outcomes.{Outcome, gives, refused, unless_past, is_idle, is_loaded}
+use Rattle.ideal_lane.specs.Maps.{with_map, without_map, map}
+use Rattle.ideal_lane.specs.Memories.{placed, without_memory}
+use Rattle.ideal_lane.specs.Outcomes.{Outcome, refused, is_idle, is_loaded}
 use Rattle.ideal_lane.specs.Outcomes.{load_length}
 use Rattle.ideal_lane.specs.Places.{virtual_at, reached, bytes_at}
-use Rattle.ideal_lane.specs.Syncs.{copies, counted, sync_part, sync, sync_range}
-use Rattle.ideal_lane.specs.Tags.{with_tag, attached, tag_or_invalid, tag, tag_destroy, has_maps}
-use Rattle.ideal_lane.specs.Turns.{Turn, Turned, Blocked, Ended, stays, stepped, operation, bio_at, load_buffer}
-use Rattle.ideal_lane.specs.Turns.{never_waits, transfer, waits, advanced, served, left_queue, next_operation}
-use Rattle.ideal_lane.specs.Turns.{script_turn, transfer_turn, called, called_in, callback_turn}
-use Rattle.ideal_lane.specs.Turns.{lane_step}
-use Rattle.ideal_lane.specs.Unloads.{unload, unlent, pages_of, restaged, after_return}
+use Rattle.ideal_lane.specs.Syncs.{copies, counted, sync}
+use Rattle.ideal_lane.specs.Tags.{with_tag, tag, has_maps}
+use Rattle.ideal_lane.specs.Turns.{Turn, Turned, Blocked, Ended, stays, stepped, operation, bio_at}
+use Rattle.ideal_lane.specs.Turns.{never_waits, waits, advanced, served, left_queue}
+use Rattle.ideal_lane.specs.Unloads.{unlent, pages_of, restaged, after_return}
 use Rattle.ideal_lane.proofs.Endings.{fits, fitting, too_big}
-use Rattle.ideal_lane.proofs.Refusing.{absent, judged, either, busy, unloaded, past}
+use Rattle.ideal_lane.proofs.Refusing.{unloaded}
 
 -- what is done
 pub data Work : Type 0 where
@@ -325,274 +319,6 @@ pub data Makes (l : LaneState) : Work → Option HubCall → HubReply → Outcom
       Makes l (Operation (op.Unload m)) None r
       (record { lane = unpaged m o (pages_of o.stage) (unlent m l); answer = answer.Done })
 
--- ---- each operation, item and callback is one of them
-
-module _ (l : LaneState) (d : Work) where
-  -- what takes no door
-  abbrev pub Only : Asking Outcome → Type 0
-  Only (Gives x) = Touches l d x
-  Only (Asks c k) = ⊥
-
-  same : (x : Report) → Only (gives l (answer.Report x))
-  same x = Same (answer.Report x) tt tt
-
-  -- whatever the reply to its call
-  abbrev pub Made : Asking Outcome → Type 0
-  Made (Gives x) = (r : HubReply) → Makes l d None r x
-  Made (Asks c k) = (r : HubReply) → Makes l d (Some c) r (k r)
-
-  pub only-makes : (x : Asking Outcome) → Only x → Made x
-  only-makes (Gives x) h = λ r. Touched h
-  only-makes (Asks c k) h = absurd h
-
-  answers : (a : Answer) → IsQuiet a → IsUndone a → Made (gives l a)
-  answers a q u r = Touched (Same a q u)
-
-  report : (x : Report) → Made (gives l (answer.Report x))
-  report x = answers (answer.Report x) tt tt
-
--- ---- tags and maps
-
-module _ (l : LaneState) (name : List ℕ) (parent : Option ℕ) (limits : TagLimits) where
-  abbrev making : Work
-  making = Operation (op.Tag name parent limits)
-
-  attached-makes : (t : TagLimits) → IsNew l parent limits t → (could_bounce t l.maxmem && allocnow t.flags) ≡ true →
-      Made l making (Asks (call.AttachTag t) (attached t l))
-  attached-makes t new b (reply.Grown g) = by g.made refl
-    where
-      by : (made : Bool) → g.made ≡ made →
-          Makes l making (Some (call.AttachTag t)) (reply.Grown g)
-          (record { lane = if made then with_tag l.place t true l else l; answer = answer.Grown g })
-      by true e = Attaches name parent limits t new b g e
-      by false e = Vain (Unattached t b e) (answer.Grown g) tt
-  attached-makes t new b _ = Vain (Unattached t b tt) (answer.Refused ENOMEM) tt
-
-  tag_or-makes : (q : Option TagLimits) → ((t : TagLimits) → q ≡ Some t → IsNew l parent limits t) →
-      Made l making (tag_or_invalid q l)
-  tag_or-makes None new = answers l making (answer.Refused EINVAL) tt tt
-  tag_or-makes (Some t) new =
-      either l (Made l making) (report l making) (could_bounce t l.maxmem && allocnow t.flags)
-      (Asks (call.AttachTag t) (attached t l)) (gives (with_tag l.place t false l) answer.Done)
-      (attached-makes t (new t refl)) (λ b r. Tags name parent limits t (new t refl))
-
-tag-makes : (l : LaneState) (name : List ℕ) (parent : Option ℕ) (limits : TagLimits) →
-    Made l (Operation (op.Tag name parent limits)) (tag parent limits l)
-tag-makes l name None limits = tag_or-makes l name None limits (effective None limits) (Top limits)
-tag-makes l name (Some p) limits =
-    absent l (Made l _) (report l _) (get l.tags p) _ (λ x there.
-    tag_or-makes l name (Some p) limits (effective (Some x.limits) limits) (λ t e. Below p x limits t there e))
-
-module _ (l : LaneState) where
-  tag_destroy-makes : (t : ℕ) → Made l (Operation (op.TagDestroy t)) (tag_destroy t l)
-  tag_destroy-makes t =
-      absent l (Made l _) (report l _) (get l.tags t) _ (λ o e.
-      either l (Made l _) (report l _) (has_maps l t) _ _ (λ b. answers l _ (answer.Refused EBUSY) tt tt)
-      (λ b r. Untags t b))
-
-  created-makes : (name : List ℕ) (t : ℕ) (g : LaneTag) → get l.tags t ≡ Some g →
-      could_bounce g.limits l.maxmem ≡ true →
-      Made l (Operation (op.Map name t))
-      (Asks (call.CreateMap (named l l.place) g.limits g.first_done) (created t g l))
-  created-makes name t g there b (reply.Grown n) = by n.made refl
-    where
-      by : (made : Bool) → n.made ≡ made →
-          Makes l (Operation (op.Map name t)) (Some (call.CreateMap (named l l.place) g.limits g.first_done))
-          (reply.Grown n) (record {
-            lane = if made then with_tag t g.limits true (with_map t (Some n.zone.0) l) else l;
-            answer = answer.Grown n;
-          })
-      by true e = Creates name t g there b n e
-      by false e = Vain (Uncreated g b e) (answer.Grown n) tt
-  created-makes name t g there b _ = Vain (Uncreated g b tt) (answer.Refused ENOMEM) tt
-
-  map-makes : (name : List ℕ) (t : ℕ) → Made l (Operation (op.Map name t)) (map t l)
-  map-makes name t =
-      absent l (Made l _) (report l _) (get l.tags t) _ (λ g there.
-      either l (Made l _) (report l _) (could_bounce g.limits l.maxmem) _ _ (created-makes name t g there)
-      (λ b r. Maps name t g there b))
-
-  end-makes : (m : ℕ) (zone : Option ℕ) →
-      ((r : HubReply) → Makes l (Operation (op.MapDestroy m)) (end_call l m zone) r
-      (record { lane = without_map m l; answer = answer.Done })) →
-      Made l (Operation (op.MapDestroy m)) (end_map m zone l)
-  end-makes m None h = h
-  end-makes m (Some z) h = h
-
-  map_destroy-makes : (m : ℕ) → Made l (Operation (op.MapDestroy m)) (map_destroy m l)
-  map_destroy-makes m =
-      absent l (Made l _) (report l _) (get l.maps m) _ (λ o there.
-      either l (Made l _) (report l _) (is_idle o.stage) (end_map m o.zone l) _
-      (λ i. end-makes m o.zone (λ r. Unmaps m o there i)) (λ i. answers l _ (answer.Refused EBUSY) tt tt))
-
-  await-makes : (m : ℕ) → Made l (Operation (op.Await m)) (await m l)
-  await-makes m =
-      absent l (Made l _) (report l _) (get l.maps m) _ (λ o there.
-      either l (Made l _) (report l _) o.tried _ _ (λ b r. Awaits m) (λ b. report l _ _))
-
-  placed-makes : (name : List ℕ) (t flags : ℕ) (g : LaneTag) → get l.tags t ≡ Some g →
-      Made l (Operation (op.Dmamem name t flags))
-      (Asks (call.MemAlloc (named l l.place) g.limits) (placed t g.limits flags l))
-  placed-makes name t flags g there (reply.Run first count) = Places name t flags g there first count
-  placed-makes name t flags g there _ = Vain (Unplaced g tt) (answer.Refused ENOMEM) tt
-
-  dmamem-makes : (name : List ℕ) (t flags : ℕ) → Made l (Operation (op.Dmamem name t flags)) (dmamem t flags l)
-  dmamem-makes name t flags = absent l (Made l _) (report l _) (get l.tags t) _ (placed-makes name t flags)
-
-  dmamem_free-makes : (m : ℕ) → Made l (Operation (op.DmamemFree m)) (dmamem_free m l)
-  dmamem_free-makes m =
-      absent l (Made l _) (report l _) (get l.mems m) _ (λ x there.
-      absent l (Made l _) (report l _) (get l.maps m) _ (λ o found.
-      either l (Made l _) (report l _) (is_idle o.stage) _ _ (λ i r. Frees m x there o found i)
-      (λ i. answers l _ (answer.Refused EBUSY) tt tt)))
-
-  unload-makes : (m : ℕ) → Made l (Operation (op.Unload m)) (unload m l)
-  unload-makes m = unloaded l (Made l _) (report l _) m _ (λ o there i r. Unloads m o there i)
-
--- ---- loads, syncs and accesses
-
-module _ (l : LaneState) (d : Work) where
-  ends-makes : {c : Option HubCall} {r : HubReply} (k : Ends l d c r) →
-      Makes l d c r (finished (map_in k) (was_in k) (place_in k) (asked_in k) (chunks_in k) (pages_in k) l)
-  ends-makes {c} {r} k =
-      by (fits l (map_in k) (was_in k) (place_in k) (asked_in k) (chunks_in k) (pages_in k)) refl
-    where
-      by : (b : Bool) → fits l (map_in k) (was_in k) (place_in k) (asked_in k) (chunks_in k) (pages_in k) ≡ b →
-          Makes l d c r
-          (if b then fitting l (map_in k) (was_in k) (place_in k) (asked_in k) (chunks_in k) (pages_in k)
-          else too_big l (map_in k) (was_in k) (place_in k) (asked_in k) (chunks_in k) (pages_in k))
-      by true e = Loads k e
-      by false e = Overflows k e
-
-  granted-makes : (b : Begins l d) → (need_of (chunks b) == 0) ≡ false →
-      Made l d (Asks (grab b) (granted b.m b.o (asks b) (chunks b) l))
-  granted-makes b some (reply.Granted pages) = ends-makes (Granted b some pages)
-  granted-makes b some (reply.Queued have) = Waits b some have
-  granted-makes b some _ = Refuses b (Ungranted some tt) ENOMEM
-
-  chunks-make : (b : Begins l d) →
-      Made l d (load_chunks b.m b.o (asks b) (chunks b) l)
-  chunks-make b =
-      either l (Made l d) (report l d) (need_of (chunks b) == 0) (Gives (finished b.m b.o l.place (asks b) (chunks b) [] l))
-      (Asks (grab b) (granted b.m b.o (asks b) (chunks b) l)) (λ none r. ends-makes (AtOnce b none)) (granted-makes b)
-
-  load-makes : (m : ℕ) (x : Buffer) (flags : ℕ) (items : List Item) →
-      d ≡ Operation (op.Load m x flags items) → Made l d (load_buffer m x flags items l)
-  load-makes m x flags items is =
-      absent l (Made l d) (report l d) (bio_at l x) (λ y. load m (asked m y (never_waits x flags) items l) l) by
-    where
-      begins : (y : Bio) → bio_at l x ≡ Some y → (o : LaneMap) → get l.maps m ≡ Some o → is_idle o.stage ≡ true →
-          load_judged l m y ≡ Fine → Begins l d
-      begins y found o there i fine = record {
-        m = m;
-        buffer = x;
-        flags = flags;
-        items = items;
-        is = is;
-        bio = y;
-        found = found;
-        o = o;
-        there = there;
-        idle = i;
-        fine = fine;
-      }
-
-      by : (y : Bio) → bio_at l x ≡ Some y → Made l d (load m (asked m y (never_waits x flags) items l) l)
-      by y found =
-          busy l (Made l d) (report l d) m _ (λ o there i.
-          judged l (Made l d) (report l d) (load_judged l m y) _ (λ fine.
-          either l (Made l d) (report l d) (nat_lt (limits_of l o).maxsize (asked m y (never_waits x flags) items l).len) _ _
-          (λ long r. Refuses (begins y found o there i fine) (TooLong long) EINVAL)
-          (λ short. chunks-make (begins y found o there i fine))))
-
-  part-touches : (m off len ops : ℕ) → IsSync l d m off len ops → (o : LaneMap) → get l.maps m ≡ Some o →
-      is_loaded o.stage ≡ true → Only l d (sync_part m o off len ops l)
-  part-touches m off len ops is o there i =
-      either l (Only l d) (same l d) (is_mixed ops) (refused MixedSync 0 l) _ (λ mixed. same l d _) (λ alone.
-      judged l (Only l d) (same l d) (sync_answer l.loans m off len ops) _ (Syncs m off len ops is o there i alone))
-
-  pub sync-touches : (m ops : ℕ) → IsSync l d m 0 (load_length l m) ops → Only l d (sync m ops l)
-  sync-touches m ops is = unloaded l (Only l d) (same l d) m _ (part-touches m 0 (load_length l m) ops is)
-
-  pub sync_range-touches : (m off len ops : ℕ) → IsSync l d m off len ops → Only l d (sync_range m off len ops l)
-  sync_range-touches m off len ops is =
-      unloaded l (Only l d) (same l d) m (λ o. unless_past m off len l (sync_part m o off len ops l)) (λ o there i.
-      past l (Only l d) (same l d) m off len (sync_part m o off len ops l) (part-touches m off len ops is o there i))
-
-  pub cpu_read-touches : (place : Place) (len : ℕ) → Only l d (cpu_read place len l)
-  cpu_read-touches place len =
-      absent l (Only l d) (same l d) (virtual_at l place) _ (λ va e.
-      judged l (Only l d) (same l d) (reached l va len) _ (λ reaches.
-      judged l (Only l d) (same l d) (cpu_read_answer (is_known l.memory) l.loans (bytes_at l (run_of va len))) _ (λ fine.
-      Same (answer.Bytes (values l (bytes_at l (run_of va len)))) tt tt)))
-
-  pub dev_read-touches : (m off len : ℕ) → Only l d (dev_read m off len l)
-  dev_read-touches m off len =
-      unloaded l (Only l d) (same l d) m _ (λ o there i.
-      past l (Only l d) (same l d) m off len _
-      (judged l (Only l d) (same l d) (dev_read_answer (is_known l.memory) (loan_of l.loans m) off len) _ (λ fine.
-      Same (answer.Bytes (values l (load_bytes l.loans m off len))) tt tt)))
-
-pub cpu_write-touches : (l : LaneState) (place : Place) (bs : Bytes) →
-    Only l (Operation (op.CpuWrite place bs)) (cpu_write place (bytes_of bs) l)
-cpu_write-touches l place bs =
-    absent l (Only l _) (same l _) (virtual_at l place) _ (λ va at.
-    judged l (Only l _) (same l _) (reached l va (length (bytes_of bs))) _ (λ reaches.
-    judged l (Only l _) (same l _) (cpu_write_answer l.loans (bytes_at l (run_of va (length (bytes_of bs))))) _
-    (Writes place bs va at reaches)))
-
-pub dev_write-touches : (l : LaneState) (m off : ℕ) (bs : Bytes) →
-    Only l (Transfer (item.DevWrite m off bs)) (dev_write m off (bytes_of bs) l)
-dev_write-touches l m off bs =
-    unloaded l (Only l _) (same l _) m _ (λ o there i.
-    past l (Only l _) (same l _) m off (length (bytes_of bs)) _
-    (judged l (Only l _) (same l _) (dev_write_answer (loan_of l.loans m) off (length (bytes_of bs))) _
-    (DeviceWrites m off bs o there i)))
-
-pub operation-makes : (l : LaneState) (o : Op) → Made l (Operation o) (operation o l)
-operation-makes l (op.Tag name parent limits) = tag-makes l name parent limits
-operation-makes l (op.TagDestroy t) = tag_destroy-makes l t
-operation-makes l (op.Map name t) = map-makes l name t
-operation-makes l (op.MapDestroy m) = map_destroy-makes l m
-operation-makes l (op.Dmamem name t flags) = dmamem-makes l name t flags
-operation-makes l (op.DmamemFree m) = dmamem_free-makes l m
-operation-makes l (op.Load m x flags items) = load-makes l _ m x flags items refl
-operation-makes l (op.Unload m) = unload-makes l m
-operation-makes l (op.Sync m ops) = only-makes l _ (sync m ops l) (sync-touches l _ m ops (Whole m ops))
-operation-makes l (op.SyncRange m off len ops) =
-    only-makes l _ (sync_range m off len ops l) (sync_range-touches l _ m off len ops (Range m off len ops))
-operation-makes l (op.CpuRead place len) = only-makes l _ (cpu_read place len l) (cpu_read-touches l _ place len)
-operation-makes l (op.CpuWrite place bs) =
-    only-makes l _ (cpu_write place (bytes_of bs) l) (cpu_write-touches l place bs)
-operation-makes l (op.Await m) = await-makes l m
-
-pub transfer-touches : (l : LaneState) (i : Item) → Only l (Transfer i) (transfer i l)
-transfer-touches l (item.Sync m ops) = sync-touches l _ m ops (WholeItem m ops)
-transfer-touches l (item.SyncRange m off len ops) = sync_range-touches l _ m off len ops (RangeItem m off len ops)
-transfer-touches l (item.DevRead m off len) = dev_read-touches l _ m off len
-transfer-touches l (item.DevWrite m off bs) = dev_write-touches l m off bs
-
-pub called-makes : (l : LaneState) (m : MapId) (pages : List Pa) →
-    Makes l (Callback m) (Some call.TakeCallback) (reply.Called m pages)
-    (called m.made_at (get l.maps m.made_at) (addresses pages) l)
-called-makes l m pages = by (get l.maps m.made_at) refl
-  where
-    none : (y : Option LaneMap) → get l.maps m.made_at ≡ y → IsUnwaited y →
-        Makes l (Callback m) (Some call.TakeCallback) (reply.Called m pages) (record { lane = l; answer = answer.Done })
-    none y e u = Vain (Unwaited m pages (subst IsUnwaited (sym e) u)) answer.Done tt
-
-    in-stage : (o : LaneMap) → get l.maps m.made_at ≡ Some o → (s : Stage) → o.stage ≡ s →
-        Makes l (Callback m) (Some call.TakeCallback) (reply.Called m pages)
-        (called_in m.made_at o s (addresses pages) l)
-    in-stage o e (Waiting v) s = ends-makes l _ (Called m pages o v e s)
-    in-stage o e _ s = none (Some o) e (subst IsUnwaiting (sym s) tt)
-
-    by : (y : Option LaneMap) → get l.maps m.made_at ≡ y →
-        Makes l (Callback m) (Some call.TakeCallback) (reply.Called m pages)
-        (called m.made_at y (addresses pages) l)
-    by None e = none None e tt
-    by (Some o) e = in-stage o e o.stage refl
-
 -- ---- turns
 
 -- a turn that is no step: nothing is to be done, or no callback came
@@ -618,40 +344,3 @@ pub data Steps (l : LaneState) : Side → Option HubCall → HubReply → Turned
   Calls : {x : Outcome} (m : MapId) (pages : List Pa) →
       Makes l (Callback m) (Some call.TakeCallback) (reply.Called m pages) x →
       Steps l side.Callback (Some call.TakeCallback) (reply.Called m pages) (stepped side.Callback (did.Callback m) x)
-
-module _ (l : LaneState) where
-  -- a turn is one of them, whatever the reply to its call
-  abbrev pub Stepped-by : Side → Asking Turned → Type 0
-  Stepped-by s x = (r : HubReply) → Steps l s (call_of x) r (by_reply x r)
-
-  next-steps : (o : Option Op) → slice_get l.script l.place ≡ o → Stepped-by side.Script (next_operation o l)
-  next-steps None e r = Stays Ended NothingLeft
-  next-steps (Some o) e r = by (waits o l) refl (operation o l) (operation-makes l o) r
-    where
-      by : (b : Bool) → waits o l ≡ b → (x : Asking Outcome) → Made l (Operation o) x →
-          Stepped-by side.Script (if b then Gives (stays Blocked l) else goes_on (advanced l.place) x)
-      by true w x h r = Stays Blocked NothingNow
-      by false w (Gives y) h r = Advances o e w (h r)
-      by false w (Asks c k) h r = Advances o e w (h r)
-
-  script-steps : (rs : List Return) → l.returns ≡ rs → Stepped-by side.Script (script_turn rs l)
-  script-steps [] e r = next-steps (slice_get l.script l.place) refl r
-  script-steps (q ∷ rest) e r = Releases q rest e (get l.maps q.map) refl
-
-  queue-steps : (qs : List QueuedItem) → l.queue ≡ qs → Stepped-by side.Transfer (transfer_turn qs l)
-  queue-steps [] e r = Stays Blocked NothingNow
-  queue-steps (q ∷ rest) e r = by (transfer q.item l) (transfer-touches l q.item)
-    where
-      by : (x : Asking Outcome) → Only l (Transfer q.item) x →
-          Steps l side.Transfer (call_of (goes_on (left_queue q rest) x)) r (by_reply (goes_on (left_queue q rest) x) r)
-      by (Gives y) h = Leaves q rest e h
-      by (Asks c k) h = absurd h
-
-  callback-steps : Stepped-by side.Callback (callback_turn l)
-  callback-steps (reply.Called m pages) = Calls m pages (called-makes l m pages)
-  callback-steps _ = Stays Blocked (NoneCalled tt)
-
-  pub turn-steps : (s : Side) → Stepped-by s (lane_step l s)
-  turn-steps side.Script = script-steps l.returns refl
-  turn-steps side.Transfer = queue-steps l.queue refl
-  turn-steps side.Callback = callback-steps

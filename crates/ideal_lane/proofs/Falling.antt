@@ -39,7 +39,8 @@ use Rattle.ideal_lane.proofs.Effects.{IsNext, IsReplyOf, IsUnwaited, IsUnwaiting
 use Rattle.ideal_lane.proofs.Effects.{NothingLeft, Operation, Overflows, Places, Refuses, Releases, Same, Stays, Steps}
 use Rattle.ideal_lane.proofs.Effects.{Touched, Touches, Transfer, Unloads, Unmaps, Unwaited, Vain, Waits, Work}
 use Rattle.ideal_lane.proofs.Effects.{asked_in, asks, chunks, chunks_in, map_in, pages_in, place_in, there_in}
-use Rattle.ideal_lane.proofs.Effects.{turn-steps, waits_for, was_in}
+use Rattle.ideal_lane.proofs.Effects.{waits_for, was_in}
+use Rattle.ideal_lane.proofs.Stepping.{turn-steps}
 use Rattle.ideal_lane.proofs.Endings.{fitting, bounced_in, segments_of}
 use Rattle.ideal_lane.proofs.Needs.{need-few, bytes-few}
 use Rattle.ideal_lane.proofs.Turning.{WaitsAt, waits-at}

@@ -12,6 +12,7 @@ pub mod Own
 pub mod Refusing
 pub mod Reported
 pub mod Standings
+pub mod Stepping
 pub mod Turning
 pub mod Views
 pub mod Weights

@@ -14,7 +14,8 @@ use Rattle.ideal_lane.specs.Outcomes.{Outcome}
 use Rattle.ideal_lane.specs.Syncs.{copies, counted, greatest_share}
 use Rattle.ideal_lane.specs.Turns.{Turn, Turned, Stepped, Blocked, Ended, lane_step}
 use Rattle.ideal_lane.proofs.Effects.{Work, Touches, Syncs, Makes, Touched, IsStay, NothingLeft, Steps, Stays, Advances, Leaves}
-use Rattle.ideal_lane.proofs.Effects.{Releases, Calls, turn-steps}
+use Rattle.ideal_lane.proofs.Effects.{Releases, Calls}
+use Rattle.ideal_lane.proofs.Stepping.{turn-steps}
 
 -- the actor of a driver's side
 abbrev pub actor_of : Side → ℕ → Actor

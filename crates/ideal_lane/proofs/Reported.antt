@@ -21,7 +21,8 @@ use Rattle.ideal_lane.specs.Turns.{Turn, Turned, lane_step}
 use Rattle.ideal_lane.specs.Unloads.{after_return, restaged}
 use Rattle.ideal_lane.proofs.Effects.{Work, Operation, Transfer, Callback, Touches, Same, Makes, Touched, Vain, Loads}
 use Rattle.ideal_lane.proofs.Effects.{Ends, AtOnce, Granted, Called, IsQuiet, IsUntold, untold-quiet, IsStay, NothingNow}
-use Rattle.ideal_lane.proofs.Effects.{NothingLeft, NoneCalled, Steps, Stays, Advances, Leaves, Releases, Calls, turn-steps}
+use Rattle.ideal_lane.proofs.Effects.{NothingLeft, NoneCalled, Steps, Stays, Advances, Leaves, Releases, Calls}
+use Rattle.ideal_lane.proofs.Stepping.{turn-steps}
 use Rattle.ideal_lane.proofs.Effects.{place_in, asked_in}
 
 module _ (l : LaneState) where

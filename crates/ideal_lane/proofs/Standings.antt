@@ -29,7 +29,8 @@ use Rattle.ideal_lane.proofs.Effects.{Advances, AtOnce, Attaches, Begins, Callba
 use Rattle.ideal_lane.proofs.Effects.{Frees, Granted, Leaves, Loads, Makes, Maps, Overflows, Places, Refuses, Releases}
 use Rattle.ideal_lane.proofs.Effects.{Same, Stays, Steps, Tags, Touched, Touches, Unloads, Unmaps, Untags, Vain, Waits}
 use Rattle.ideal_lane.proofs.Effects.{Work, asked_in, asks, chunks, chunks_in, map_in, pages_in, place_in, there_in}
-use Rattle.ideal_lane.proofs.Effects.{turn-steps, waits_for, was_in}
+use Rattle.ideal_lane.proofs.Effects.{waits_for, was_in}
+use Rattle.ideal_lane.proofs.Stepping.{turn-steps}
 use Rattle.ideal_lane.proofs.Lookups.{get_put, get_cut}
 use Rattle.ideal_lane.proofs.Direct.{need-direct}
 use Rattle.ideal_lane.proofs.Endings.{fitting, bounced_in, segments_of}

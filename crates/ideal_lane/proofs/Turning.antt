@@ -29,7 +29,8 @@ use Rattle.ideal_lane.specs.Turns.{Turned, waits, lane_step}
 use Rattle.ideal_lane.specs.Unloads.{restaged, after_return}
 use Rattle.ideal_lane.proofs.Effects.{Advances, Callback, Called, Calls, IsReplyOf, IsUncalled, IsUnwaited}
 use Rattle.ideal_lane.proofs.Effects.{IsUnwaiting, Leaves, Loads, Makes, NoneCalled, NothingLeft, NothingNow}
-use Rattle.ideal_lane.proofs.Effects.{Overflows, Refuses, Releases, Stays, Steps, Unwaited, Vain, asks, turn-steps}
+use Rattle.ideal_lane.proofs.Effects.{Overflows, Refuses, Releases, Stays, Steps, Unwaited, Vain, asks}
+use Rattle.ideal_lane.proofs.Stepping.{turn-steps}
 use Rattle.ideal_lane.proofs.Lookups.{same_at}
 use Rattle.ideal_lane.proofs.Views.{map_put, zoned}
 use Rattle.ideal_lane.proofs.Endings.{fitting, too_big}

@@ -41,7 +41,8 @@ use Rattle.ideal_lane.proofs.Direct.{need-direct}
 use Rattle.ideal_lane.proofs.Effects.{Advances, AtOnce, Begins, Callback, Called, Calls, Granted, IsNext, IsQuiet}
 use Rattle.ideal_lane.proofs.Effects.{IsReplyOf, Leaves, Loads, Makes, NothingLeft, Operation, Overflows, Refuses}
 use Rattle.ideal_lane.proofs.Effects.{Releases, Same, Stays, Steps, Touched, Touches, Vain, Work, asks, chunks, grab}
-use Rattle.ideal_lane.proofs.Effects.{here, turn-steps, untold-quiet}
+use Rattle.ideal_lane.proofs.Effects.{here, untold-quiet}
+use Rattle.ideal_lane.proofs.Stepping.{turn-steps}
 use Rattle.ideal_lane.proofs.Turning.{WaitsAt, waits-at}
 use Rattle.ideal_wire.specs.Accepted.{HasPages, IfSegments}
 use Rattle.ideal_wire.specs.Answered.{AreAnswered, AreLoaded, AreOf, AnswersIn, AnswersLoads}

@@ -8,8 +8,9 @@ use Rattle.ideal_lane.specs.Asking.{Asking, by_reply, Gives, Asks}
 use Rattle.ideal_lane.specs.Outcomes.{Outcome}
 use Rattle.ideal_lane.specs.State.{LaneState}
 use Rattle.ideal_lane.specs.Syncs as syncs
-use Rattle.ideal_lane.proofs.Effects.{Only, Operation, Transfer, Work, cpu_write-touches, dev_write-touches}
-use Rattle.ideal_lane.proofs.Effects.{transfer-touches}
+use Rattle.ideal_lane.proofs.Effects.{Operation, Transfer, Work}
+use Rattle.ideal_lane.proofs.Stepping.{Only, cpu_write-touches, dev_write-touches}
+use Rattle.ideal_lane.proofs.Stepping.{transfer-touches}
 use Rattle.ideal_wire.specs.Apart.{IsApart}
 use Rattle.ideal_wire.specs.Centre.{IsFaithful}
 use Rattle.ideal_wire.specs.Laid.{AreLaid}

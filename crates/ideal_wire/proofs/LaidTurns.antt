@@ -39,7 +39,8 @@ use Rattle.ideal_lane.specs.View.{view_of}
 use Rattle.ideal_lane.proofs.Effects.{Advances, AtOnce, Attaches, Begins, Called, Calls, Creates, Ends, Frees, Granted}
 use Rattle.ideal_lane.proofs.Effects.{IsNext, IsReplyOf, Leaves, Loads, Makes, Maps, Overflows, Places, Refuses}
 use Rattle.ideal_lane.proofs.Effects.{Releases, Stays, Steps, Tags, Touched, Unloads, Unmaps, Untags, Waits, Work}
-use Rattle.ideal_lane.proofs.Effects.{asked_in, asks, chunks, chunks_in, here, map_in, pages_in, place_in, turn-steps}
+use Rattle.ideal_lane.proofs.Effects.{asked_in, asks, chunks, chunks_in, here, map_in, pages_in, place_in}
+use Rattle.ideal_lane.proofs.Stepping.{turn-steps}
 use Rattle.ideal_lane.proofs.Effects.{waits_for, was_in}
 use Rattle.ideal_lane.proofs.Turning.{WaitsAt, waits-at}
 use Rattle.ideal_wire.specs.Answered.{loaded_by}

@@ -19,7 +19,7 @@ use Rattle.ideal_lane.specs.Turns.{Turned, lane_step}
 use Rattle.ideal_lane.specs.Unloads.{restaged, after_return}
 use Rattle.ideal_lane.proofs.Effects.{Advances, Attaches, Below, Calls, Creates, Frees, IsNew, Leaves, Makes, Places}
 use Rattle.ideal_lane.proofs.Effects.{Releases, Same, Stays, Steps, Tags, Top, Touched, Touches, Untags, Work}
-use Rattle.ideal_lane.proofs.Effects.{turn-steps}
+use Rattle.ideal_lane.proofs.Stepping.{turn-steps}
 use Rattle.ideal_lane.proofs.Lookups.{get_put, get_cut}
 use Rattle.ideal_wire.specs.Machine.{IsOfMachine, IsInMachine}
 use Rattle.ideal_wire.specs.NewRuns.{BringsNew, IsNewRun}

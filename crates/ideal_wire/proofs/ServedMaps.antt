@@ -26,7 +26,7 @@ use Rattle.ideal_lane.specs.State.{LaneState, LaneTag, LaneMap, Idle, named}
 use Rattle.ideal_lane.specs.Tags.{with_tag}
 use Rattle.ideal_lane.specs.Turns.{Turned, lane_step}
 use Rattle.ideal_lane.proofs.Effects.{Advances, Calls, IsReplyOf, Leaves, Makes, Releases, Stays, Steps, Touched, Work}
-use Rattle.ideal_lane.proofs.Effects.{turn-steps}
+use Rattle.ideal_lane.proofs.Stepping.{turn-steps}
 use Rattle.ideal_lane.proofs.Lookups.{get_put}
 use Rattle.ideal_wire.specs.Machine.{IsInMachine}
 use Rattle.ideal_wire.specs.Served.{AreServed, KeepsServed}

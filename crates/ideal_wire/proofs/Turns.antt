@@ -34,10 +34,13 @@ use Rattle.ideal_lane.specs.Standing.{Stands}
 use Rattle.ideal_lane.specs.Turns.{Turned, operation, transfer, waits, lane_step}
 use Rattle.ideal_lane.specs.Turns as turns
 use Rattle.ideal_lane.specs.Unloads.{restaged, given_back, after_return}
-use Rattle.ideal_lane.proofs.Effects.{AtOnce, Called, Creates, Ends, Frees, Granted, IsUndone, Loads, Made, Makes}
-use Rattle.ideal_lane.proofs.Effects.{Maps, Only, Operation, Overflows, Places, Refuses, Touched, Transfer, Unloads}
-use Rattle.ideal_lane.proofs.Effects.{Unmaps, Waits, Work, asked_in, called-makes, end_call, map_in, operation-makes}
-use Rattle.ideal_lane.proofs.Effects.{transfer-touches}
+use Rattle.ideal_lane.proofs.Effects.{AtOnce, Called, Creates, Ends, Frees, Granted, IsUndone, Loads, Makes}
+use Rattle.ideal_lane.proofs.Stepping.{Made}
+use Rattle.ideal_lane.proofs.Effects.{Maps, Operation, Overflows, Places, Refuses, Touched, Transfer, Unloads}
+use Rattle.ideal_lane.proofs.Stepping.{Only}
+use Rattle.ideal_lane.proofs.Effects.{Unmaps, Waits, Work, asked_in, end_call, map_in}
+use Rattle.ideal_lane.proofs.Stepping.{called-makes, operation-makes}
+use Rattle.ideal_lane.proofs.Stepping.{transfer-touches}
 use Rattle.ideal_wire.specs.Apart.{IsApart}
 use Rattle.ideal_wire.specs.Centre.{IsAt, IsFaithful}
 use Rattle.ideal_wire.specs.Laid.{LiesIn, AreLaid}

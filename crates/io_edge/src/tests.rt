@@ -137,7 +137,8 @@ impl Write for KeepsBack<'_> {
     }
 
     fn flush(&mut self) -> io::Result<()> {
-        self.given.set(self.given.get().saturating_add(self.waiting));
+        self.given
+            .set(self.given.get().saturating_add(self.waiting));
         self.waiting = 0;
         Ok(())
     }

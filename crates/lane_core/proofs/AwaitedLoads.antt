@@ -155,7 +155,7 @@ waits-with h stands m at w room kept =
     let bio = bio_of w.bytes in
     let image : get l.maps m ≡ Some (map_of o) = image-some map_of h.maps.map m o x.1 in
     let waits : ◌≡◌ {A = Option (KeptLoad × LoadRoom × Option TagLimits)} (awaited h.tags.map (get h.maps.map m))
-        (Some (w, room, limits_at h.tags.map o.tag)) =
+    (Some (w, room, limits_at h.tags.map o.tag)) =
     ap (awaited h.tags.map) x.1
     ∙ ap (λ (s : held.Stage KeptLoad). option_map (λ (y : ℕ × KeptLoad × LoadRoom).
     (y.1, y.2, limits_at h.tags.map o.tag)) (held.waiting_load s)) x.2 in

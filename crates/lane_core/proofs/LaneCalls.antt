@@ -19,8 +19,9 @@ use Rattle.ideal_lane.specs.Places.{bytes_at}
 use Rattle.ideal_lane.specs.Standing.{Stands}
 use Rattle.ideal_lane.specs.State.{LaneState}
 use Rattle.ideal_lane.specs.Syncs.{sync, sync_range}
-use Rattle.ideal_lane.proofs.Effects.{DeviceWrites, Only, Operation, Same, Syncs, Touches, Transfer, Work, Writes}
-use Rattle.ideal_lane.proofs.Effects.{cpu_write-touches, transfer-touches}
+use Rattle.ideal_lane.proofs.Effects.{DeviceWrites, Operation, Same, Syncs, Touches, Transfer, Work, Writes}
+use Rattle.ideal_lane.proofs.Stepping.{Only}
+use Rattle.ideal_lane.proofs.Stepping.{cpu_write-touches, transfer-touches}
 use Rattle.ideal_wire.specs.Apart.{IsApart}
 use Rattle.ideal_wire.specs.Centre.{IsFaithful}
 use Rattle.ideal_wire.specs.Machine.{IsInMachine}

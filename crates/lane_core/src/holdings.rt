@@ -45,8 +45,7 @@ pub(crate) struct Holdings<'s> {
     ghost own_returns: { AreOwn id.0 agenda.returns },
     ghost returning: { AreReturning maps.map agenda.returns },
     ghost tried: { (k : ℕ) → is_tried (get maps.map k) ≡ true },
-    ghost awaiting: { AreAwaiting pages.now maxmem tags.map maps.map loans.prepared }
-        by { AreAwaiting-prop pages.now maxmem tags.map maps.map loans.prepared },
+    ghost awaiting: { AreAwaiting pages.now maxmem tags.map maps.map loans.prepared } by { AreAwaiting-prop pages.now maxmem tags.map maps.map loans.prepared },
     ghost ready: { AreOfMaps pages.now memories.map loans.prepared },
 }
 

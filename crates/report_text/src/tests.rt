@@ -59,7 +59,10 @@ end stuck, 1 entries, 0 reports
     assert_eq!(rt; str::from_utf8(text.as_slice())?, want);
     for entry in journal.entries.as_slice() {
         let line = entry_line(alloc, &scenario, 7, entry)?;
-        assert_eq!(rt; line.as_slice(), b"7 s0 cpu_read -> bytes 0000\n".as_slice());
+        assert_eq!(rt;
+            line.as_slice(),
+            b"7 s0 cpu_read -> bytes 0000\n".as_slice()
+        );
     }
     Ok(())
 }

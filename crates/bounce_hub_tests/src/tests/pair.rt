@@ -141,13 +141,7 @@ impl Pair {
         Pair::after(alloc, hub, beside, HoldEntry { lane, call, reply })
     }
 
-    fn create(
-        self,
-        alloc: Global,
-        map: MapId,
-        tag: TagLimits,
-        first_done: bool,
-    ) -> Made {
+    fn create(self, alloc: Global, map: MapId, tag: TagLimits, first_done: bool) -> Made {
         let lane = map.lane;
         let call = HubCall::CreateMap {
             map,
@@ -175,14 +169,7 @@ impl Pair {
         Pair::after(alloc, hub, beside, HoldEntry { lane, call, reply })
     }
 
-    fn grab(
-        self,
-        alloc: Global,
-        map: MapId,
-        zone: ZoneId,
-        need: u32,
-        nowait: bool,
-    ) -> Made {
+    fn grab(self, alloc: Global, map: MapId, zone: ZoneId, need: u32, nowait: bool) -> Made {
         let lane = map.lane;
         let call = HubCall::Grab {
             map,

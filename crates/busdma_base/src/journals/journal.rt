@@ -1,7 +1,7 @@
 //! What a run did, step by step.
 
-use busdma_machine::{LaneId, ListOf, MapId, Pa, ZoneCounts};
 use crate::journals::Answer;
+use busdma_machine::{LaneId, ListOf, MapId, Pa, ZoneCounts};
 use std::alloc::AllocError;
 
 /// One of the three that act for a driver.

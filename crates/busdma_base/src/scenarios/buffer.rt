@@ -3,8 +3,8 @@
 ghost use Rattle.std.specs.Prelude.{◌≡◌};
 ghost use Rattle.busdma_base.specs.Scenarios.Buffers.{buffer_word};
 
-use busdma_machine::{Bio, ListOf, Mbuf, Span};
 use crate::scenarios::{OpWord, Place};
+use busdma_machine::{Bio, ListOf, Mbuf, Span};
 
 /// What a load loads, and so which of bus_dma(9)'s loads it is: `bus_dmamap_load`, a vector,
 /// `bus_dmamap_load_mbuf` or `bus_dmamap_load_bio`. Lengths are in bytes.

@@ -1,8 +1,8 @@
 //! What a scenario is.
 
-use busdma_machine::{ListOf, Va};
 use crate::journals::Actor;
 use crate::scenarios::Op;
+use busdma_machine::{ListOf, Va};
 
 /// `count` frames of 4096 bytes, from the frame number `first` on.
 #[derive(Clone, Copy, Debug, PartialEq, Eq)]

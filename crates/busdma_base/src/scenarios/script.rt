@@ -3,9 +3,9 @@
 //! A name that an operation makes is kept as its text. A name that it uses is kept as the place in
 //! the script of the operation that made it.
 
-use busdma_machine::{ListOf, TagLimits, Va};
 use crate::Name;
 use crate::scenarios::Buffer;
+use busdma_machine::{ListOf, TagLimits, Va};
 use std::alloc::{AllocError, Global};
 
 /// Where the driver's bytes begin that an operation works on.

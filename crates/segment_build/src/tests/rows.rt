@@ -53,6 +53,7 @@ const FEW: TagLimits = TagLimits {
 const KEEPING: TagLimits = TagLimits { flags: 2, ..LOW };
 
 const ACROSS: [(u64, u64); 1] = [(0x100_0100, 2000)];
+
 const CUT: [(u64, u64); 5] = [
     (0x100_0100, 700),
     (0x100_03bc, 68),
@@ -60,16 +61,19 @@ const CUT: [(u64, u64); 5] = [
     (0x100_06bc, 324),
     (0x100_0800, 208),
 ];
-const THREE: [(u64, u64); 3] = [
-    (0x100_0000, 4096),
-    (0x100_1000, 4096),
-    (0x100_2000, 4096),
-];
+
+const THREE: [(u64, u64); 3] = [(0x100_0000, 4096), (0x100_1000, 4096), (0x100_2000, 4096)];
+
 const SCATTERED: [(u64, u64); 2] = [(0x100_0000, 4096), (0x100_5000, 904)];
+
 const BOUNCED: [(u64, u64); 1] = [(0x1_0000, 5000)];
+
 const UNALIGNED: [(u64, u64); 2] = [(0x100_0ffa, 6), (0x100_1000, 94)];
+
 const ROUNDED: [(u64, u64); 2] = [(0x1_0000, 64), (0x1_1000, 36)];
+
 const INSIDE: [(u64, u64); 1] = [(0x100_0010, 100)];
+
 const KEPT: [(u64, u64); 1] = [(0x1_0010, 100)];
 
 /// An outcome has these segments, or there are too many.
@@ -111,6 +115,13 @@ fn segments_of_loads(rt: HostRuntime) -> Result<(), Fail> {
     load(&rt, alloc, "whole pieces", &SHORT, &THREE, Some(&THREE))?;
     load(&rt, alloc, "too many segments", &FEW, &THREE, None)?;
     load(&rt, alloc, "bounce pages", &LOW, &SCATTERED, Some(&BOUNCED))?;
-    load(&rt, alloc, "alignment", &ALIGNED, &UNALIGNED, Some(&ROUNDED))?;
+    load(
+        &rt,
+        alloc,
+        "alignment",
+        &ALIGNED,
+        &UNALIGNED,
+        Some(&ROUNDED),
+    )?;
     load(&rt, alloc, "a kept offset", &KEEPING, &INSIDE, Some(&KEPT))
 }

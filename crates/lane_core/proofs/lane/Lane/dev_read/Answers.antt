@@ -18,7 +18,7 @@ invariant_of-self c =
     let lane =
     called-lane h k
     (record { wired = l.wired; stands = l.stands; small = l.small; length = l.length; room = l.room })
-    (kept-on h k l.wired r.kept)  r.script r.agenda in
+    (kept-on h k l.wired r.kept) r.script r.agenda in
     record {
       wired = lane.wired;
       stands = lane.stands;

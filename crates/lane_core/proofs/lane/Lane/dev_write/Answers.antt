@@ -18,7 +18,7 @@ invariant_of-self c =
     called-lane h k
     (record { wired = l.wired; stands = l.stands; small = l.small; length = l.length; room = l.room })
     (dev_write-after h k l.wired c.args.map.made_at c.args.off c.args.bytes.now c.dev_write.result r.done r.wire
-    r.err)  r.script r.agenda in
+    r.err) r.script r.agenda in
     record {
       wired = lane.wired;
       stands = lane.stands;

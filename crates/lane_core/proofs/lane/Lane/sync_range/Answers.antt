@@ -18,7 +18,7 @@ invariant_of-self c =
     called-lane h k
     (record { wired = l.wired; stands = l.stands; small = l.small; length = l.length; room = l.room })
     (sync_range-after h k l.wired c.args.map.made_at c.args.off c.args.len c.args.ops.0 c.sync_range.result r.done
-    r.wire r.err)  r.script r.agenda in
+    r.wire r.err) r.script r.agenda in
     record {
       wired = lane.wired;
       stands = lane.stands;
