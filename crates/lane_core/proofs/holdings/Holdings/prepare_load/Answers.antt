@@ -1,9 +1,9 @@
 use Rattle.std.proofs.Common.{◌≡◌, ℕ, ◌<◌, ◌^◌, Bool, List, Result, Ok, Err, OnOk, sym, ap, ◌∙◌, subst, arith}
-use Rattle.std.specs.FinMap.{get, insert}
+use Rattle.std.specs.FinMap.{contains_key, get, insert}
 use Rattle.busdma_machine.specs.declared.machine.address.Extent.{Extent}
 use Rattle.busdma_machine.specs.Machine.Entry.{entries_addresses}
 use Rattle.busdma_machine.specs.Runs.{addresses, byte_count}
-use Rattle.loan_table.specs.Loans.{new_loan}
+use Rattle.loan_table.specs.Loans.{Loans, new_loan}
 use Rattle.loan_table.specs.Table.{AreIn}
 use Rattle.ideal_lane.specs.Loads.{is_coherent, load_entries}
 use Rattle.lane_core.specs.Ideal.{ideal_of}
@@ -77,3 +77,7 @@ invariant_of-self-clause-ready c =
     c.is_coherent-coherent.ensures
     (ap addresses (c.deref.ensures.value ∙ c.in_ok-extents.ensures ∙ ap stream_extents c.parts.ensures.parts)
     ∙ stream-bytes l b) c.prepare_map.ensures.prepared) c.prepare_map.ensures.err
+
+pub invariant_of-self-clause-loaded : goal.invariant_of-self-clause-loaded
+invariant_of-self-clause-loaded c = λ k.
+    ap (λ (ls : Loans). contains_key ls k) c.prepare_map.ensures.loans ∙ c.args.self.now.loaded k

@@ -1,10 +1,13 @@
 use Rattle.std.proofs.Common.{◌≡◌, is_some, sym, ap, ◌∙◌, subst}
-use Rattle.std.specs.FinMap.{get, remove}
+use Rattle.std.specs.FinMap.{contains_key, get, remove}
 use Rattle.busdma_machine.specs.declared.name.MapId.{MapId}
 use Rattle.lane_core.specs.Awaiting.{AreOfMaps}
 use Rattle.lane_core.proofs.Awaiting.{awaiting-ready, idle-unkept, less-other}
 use Rattle.lane_core.proofs.Keeping.{idle-unloaded}
 use Rattle.lane_core.proofs.OfMaps.{of-maps-less}
+use Rattle.lane_core.specs.Covered.{AreOwn, AreReturning}
+use Rattle.lane_tables.specs.Schedule.{Schedule}
+use Rattle.loan_table.specs.Loans.{Loans}
 use Rattle.lane_core.proofs.holdings.Holdings.undo_load.Goals as goal
 
 pub drop_prepared-requires : goal.drop_prepared-requires
@@ -30,3 +33,17 @@ invariant_of-self-clause-ready c =
     c.drop_prepared.ensures.prepared ∙ ap (λ (x : MapId). remove h.loans.prepared x.made_at) c.map_id-id.ensures in
     subst (AreOfMaps h.pages.now h.memories.map) (sym prepared)
     (of-maps-less h.pages.now h.memories.map h.loans.prepared h.ready c.args.map)
+
+pub invariant_of-self-clause-loaded : goal.invariant_of-self-clause-loaded
+invariant_of-self-clause-loaded c = λ k.
+    ap (λ (ls : Loans). contains_key ls k) c.drop_prepared.ensures.loans ∙ c.args.self.now.loaded k
+
+pub invariant_of-self-clause-own_returns : goal.invariant_of-self-clause-own_returns
+invariant_of-self-clause-own_returns c =
+    subst (λ (a : Schedule). AreOwn c.args.self.now.id.0 a.returns) (sym c.unpromise.ensures)
+    c.args.self.now.own_returns
+
+pub invariant_of-self-clause-returning : goal.invariant_of-self-clause-returning
+invariant_of-self-clause-returning c =
+    subst (λ (a : Schedule). AreReturning c.args.self.now.maps.map a.returns) (sym c.unpromise.ensures)
+    c.args.self.now.returning
