@@ -1,4 +1,4 @@
-use Rattle.std.proofs.Common.{◌+◌, arith, leb, length}
+use Rattle.std.proofs.Common.{◌+◌, arith, leb}
 use Rattle.std.proofs.lemmas.List.{length-map}
 use Rattle.std.proofs.lemmas.List.Sums.{count_by-le-length}
 use Rattle.busdma_machine.specs.Machine.PageList.{page_address, page_addresses}
