@@ -1,0 +1,28 @@
+//! The header of an input: how many of its bytes are the scenario.
+
+ghost use Rattle.std.specs.Prelude.{◌≡◌, option_map};
+ghost use Rattle.journal_check.specs.Header as header;
+
+use crate::naming::first_number;
+use itoa::Buffer;
+
+/// The greatest number that a header may have.
+const MOST: u32 = 99_999_999;
+
+/// The scenario and the text of an input, which begins with a line that says how many bytes the
+/// scenario has: a number of 1 to 8 decimal digits without leading zeros. None where there is no such
+/// line, or the bytes are fewer.
+pub fn cut_of(input: &[u8]) -> Option<(&[u8], &[u8])>
+    ensures { option_map (λ parts. record { scenario = parts.0.now; report = parts.1.now }) result
+        ≡ header.cut_of input.now }
+{
+    let size = first_number(input, b'\n')?;
+    let mut digits = Buffer::new();
+    let behind = input.strip_prefix(digits.format(size).as_bytes())?;
+    let behind = behind.strip_prefix(b"\n")?;
+    if size <= MOST && size as usize <= behind.len() {
+        Some(behind.split_at(size as usize))
+    } else {
+        None
+    }
+}
