@@ -1,3 +1,4 @@
+pub mod Actors
 pub mod Alike
 pub mod Digits
 pub mod EntryLines
@@ -5,4 +6,5 @@ pub mod FirstLine
 pub mod Headers
 pub mod Judging
 pub mod Lines
+pub mod Verdicts
 pub mod Words

@@ -1,3 +1,5 @@
 pub mod Header
+pub mod Laws
 pub mod Lines
 pub mod ReportLines
+pub mod Verdict

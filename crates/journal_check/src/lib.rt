@@ -1,12 +1,17 @@
-//! The verdict on a printed journal: whether it is the report of a run that keeps to the rules, and
+//! The verdict on a printed journal: whether it is the report of a legal journal of its scenario, and
 //! else at which line it breaks.
 #![tactic(auto)]
 
-mod cutting;
 mod closing;
+mod cutting;
 mod header;
 mod laws;
 mod naming;
+mod verdict;
 
 pub use header::cut_of;
-pub use laws::{inputs_have_headers, lines_are_the_text};
+pub use laws::{
+    each_front_is_legal, inputs_have_headers, lines_are_the_text, no_is_where_it_breaks, one_verdict,
+    yes_is_the_report,
+};
+pub use verdict::Verdict;
