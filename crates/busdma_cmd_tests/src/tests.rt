@@ -4,6 +4,7 @@ ghost use Rattle.std.specs.Prelude.{◌≤◌};
 
 mod bounces;
 mod causes;
+mod checks;
 mod deferrals;
 mod gated;
 mod kinds;

@@ -1,6 +1,6 @@
 -- The header of an input.
 use Rattle.std.proofs.Common.{◌≡◌, ℕ, suc, ◌+◌, ◌<◌, ◌≤◌, ◌==◌, ◌&&◌, Bool, true, false, cond, List, [], ◌∷◌, ◌++◌, length, take, drop}
-use Rattle.std.proofs.Common.{Option, Some, None, refl, sym, ap, ◌∙◌, arith, rules, nat_eq, nat_le, nat_lt, if◌then◌else◌, codes, length-append, ◌^◌, subst}
+use Rattle.std.proofs.Common.{Option, Some, None, refl, sym, ap, ◌∙◌, arith, rules, nat_eq, nat_le, nat_lt, if◌then◌else◌, codes, length-append, ◌^◌, ◌≢◌, subst, Bor, MatchOption}
 use Rattle.std.proofs.lemmas.Bool.Decides.{nat_tests, Decides-eqb}
 use Rattle.std.proofs.lemmas.Fmt.{decimal_is_IsNumeral}
 use Rattle.std.proofs.lemmas.List.{append_assoc, take_at, drop_at, length-take-le, take-append-drop, append_cancel_left}
@@ -128,13 +128,25 @@ is-cut input cut h =
     ∙ (ap (λ t. Some (record { scenario = t; report = drop n rest })) (take_at cut.scenario cut.report n refl)
     ∙ ap (λ t. Some (record { scenario = cut.scenario; report = t })) (drop_at cut.scenario cut.report n refl))
 
--- ---- what two strips of a front tell
+-- ---- what stands behind a header
 
--- behind the number and its line feed
-pub headed-by : (input digits behind rest : List ℕ) (n : ℕ) → digits ≡ decimal n → input ≡ digits ++ behind →
-    behind ≡ (10 ∷ []) ++ rest → input ≡ decimal n ++ 10 ∷ rest
-headed-by input digits behind rest n own first next =
-    first ∙ (ap (λ d. d ++ behind) own ∙ ap (λ t. decimal n ++ t) next)
+-- what is stripped of a front
+abbrev pub Stripped : List ℕ → List ℕ → Option (Bor (List ℕ)) → Type 0
+Stripped text front r = MatchOption r ((rest : List ℕ) → text ≢ front ++ rest) (λ x. text ≡ front ++ x.now)
+
+-- without the number there is no header
+pub no-number : (input digits : List ℕ) (n : ℕ) → digits ≡ decimal n → Stripped input digits None → Stripped input (header n) None
+no-number input digits n own off = λ rest h.
+    off (10 ∷ rest) (h ∙ (header-joined n rest ∙ ap (λ d. d ++ 10 ∷ rest) (sym own)))
+
+-- behind the number the line feed decides
+pub behind-number : (input digits behind : List ℕ) (n : ℕ) (r : Option (Bor (List ℕ))) → digits ≡ decimal n →
+    input ≡ digits ++ behind → Stripped behind (10 ∷ []) r → Stripped input (header n) r
+behind-number input digits behind n None own first off = λ rest h.
+    off rest (append_cancel_left digits behind (10 ∷ rest) (sym first ∙ (h ∙ (header-joined n rest
+    ∙ ap (λ d. d ++ 10 ∷ rest) (sym own)))))
+behind-number input digits behind n (Some x) own first next =
+    first ∙ (ap (λ t. digits ++ t) next ∙ (ap (λ d. d ++ 10 ∷ x.now) own ∙ sym (header-joined n x.now)))
 
 -- a header's number is the one that was read
 pub same-number : (input rest : List ℕ) (n k : ℕ) (told : Option ℕ) → told ≡ Some k →
@@ -143,14 +155,16 @@ same-number input rest n k told is tells h =
     let few : n < 100000000 = h.few in
     same_Some k n (sym is ∙ tells n rest (omega (arith, few)) h.is)
 
-pub same-rest : (input own rest : List ℕ) (n k : ℕ) → k ≡ n → input ≡ decimal k ++ 10 ∷ own → Headed input n rest → own ≡ rest
+-- and what is behind it is what was found there
+pub same-rest : (input own rest : List ℕ) (n k : ℕ) → k ≡ n → input ≡ header k ++ own → Headed input n rest → own ≡ rest
 same-rest input own rest n k same is h =
-    append_cancel_left (decimal n ++ 10 ∷ []) own rest
-    (append_assoc (decimal n) (10 ∷ []) own ∙ (ap (λ i. decimal i ++ 10 ∷ own) (sym same) ∙ (sym is ∙ (h.is
-    ∙ sym (append_assoc (decimal n) (10 ∷ []) rest)))))
+    append_cancel_left (header n) own rest
+    (ap (λ i. header i ++ own) (sym same) ∙ (sym is ∙ (h.is ∙ sym (header-joined n rest))))
 
--- what is behind the number begins with a line feed
-pub behind-number : (input digits behind rest : List ℕ) (n : ℕ) → input ≡ digits ++ behind → digits ≡ decimal n →
-    Headed input n rest → behind ≡ 10 ∷ rest
-behind-number input digits behind rest n first own h =
-    append_cancel_left (decimal n) behind (10 ∷ rest) (ap (λ d. d ++ behind) (sym own) ∙ (sym first ∙ h.is))
+pub not-behind : (input rest : List ℕ) (n k : ℕ) → k ≡ n → Stripped input (header k) None → Headed input n rest → ⊥
+not-behind input rest n k same off h =
+    off rest (h.is ∙ (sym (header-joined n rest) ∙ ap (λ i. header i ++ rest) (sym same)))
+
+pub headed-by : (input rest : List ℕ) (n : ℕ) → n ≤ 99999999 → input ≡ header n ++ rest → n ≤ length rest → Headed input n rest
+headed-by input rest n few is enough =
+    record { few = omega (arith, few); is = is ∙ header-joined n rest; enough = enough }

@@ -1,3 +1,4 @@
+pub mod Following
 pub mod Header
 pub mod Laws
 pub mod Lines
