@@ -10,21 +10,21 @@ use Rattle.busdma_base.specs.declared.journals.journal.End.{End}
 use Rattle.busdma_base.specs.declared.journals.journal.End.TheVariants.{Finished, Stuck}
 use Rattle.json_fields.specs.declared.refusal.Refusal.{Refusal}
 use Rattle.scenario_read.specs.declared.reading.Reading.TheVariants.{Good, Bad}
-use Rattle.scenario_read.specs.Scenario.{scenario_of}
 use Rattle.std.specs.Prelude.{IfSome, IsSomeAnd}
 use Rattle.ideal_world.specs.Ends.{status, status_by, has_report}
 use Rattle.busdma_cmd.specs.declared.cause.Cause.{Cause}
 use Rattle.busdma_cmd.specs.declared.cause.Cause.TheVariants as cause
 use Rattle.busdma_cmd.specs.declared.outcome.Outcome.{Outcome}
 use Rattle.command_words.specs.declared.command.Command.{Command}
-use Rattle.command_words.specs.declared.command.Command.TheVariants.{Replay, Run, Storm}
+use Rattle.command_words.specs.declared.command.Command.TheVariants.{Replay, Run, Storm, Check}
 use Rattle.command_words.specs.Command.{command}
 use Rattle.busdma_cmd.specs.Edges.{Edges, ReadFailed, NoReadFailed, ReadNothing, ReadAll, ReadAtMost, ReadTooMany, input_limit}
 use Rattle.busdma_cmd.specs.Edges.{WriteFailed, NoWriteFailed, WroteNothing, WroteAll, WrotePart}
 use Rattle.busdma_cmd.specs.Ends.{OfInput, CountsReads, Makes, Stops, StopsReading, EndsBy, outcome}
-use Rattle.busdma_cmd.specs.Outcome.{IsDone, IsOfReading, HasJournal, Ran, RanAndWrote, RanUnwritten, AnswersInput, AnswersReading, IsComplete, Keeps}
+use Rattle.busdma_cmd.specs.Judging.{judged}
+use Rattle.busdma_cmd.specs.Outcome.{IsDone, IsOfReading, HasWritten, KeepsJournal, Ran, RanAndWrote, RanUnwritten, Done, Unwritten, WasRefused, AnswersInput, AnswersReading, IsComplete, Keeps}
 use Rattle.busdma_cmd.specs.Runs.{IsRead, IsReader, Runs}
-use Rattle.busdma_cmd.proofs.Taking.{Asks, all_at_most, if_command, is_long, not_gave_too_many, not_long, not_too_many, nothing_at_most, of_command, one_more_at_most, runs_few, runs_read, runs_unread, same_scenario, some_command}
+use Rattle.busdma_cmd.proofs.Taking.{Asks, all_at_most, if_command, is_long, not_gave_too_many, not_long, not_too_many, nothing_at_most, of_command, one_more_at_most, runs_few, runs_read, runs_unread, same_judged, some_command}
 
 -- ---- the fields
 
@@ -45,58 +45,86 @@ done_is_small n (inl is) = omega arith
 done_is_small n (inr (inl is)) = omega arith
 done_is_small n (inr (inr is)) = omega arith
 
-not_done : (n : ℕ) → 2 < n → IsDone n → ⊥
+pub not_done : (n : ℕ) → 2 < n → IsDone n → ⊥
 not_done n large done = let small = done_is_small n done in absurd (omega arith)
 
-no_journal : (n : ℕ) → 2 < n → n ≢ 73 → HasJournal n → ⊥
-no_journal n large other (inl done) = not_done n large done
-no_journal n large other (inr is) = other is
+not_written : (n : ℕ) → 2 < n → n ≢ 73 → HasWritten n → ⊥
+not_written n large other (inl done) = not_done n large done
+not_written n large other (inr is) = other is
 
-done_of_reading : (n : ℕ) → IsDone n → IsOfReading n → ⊥
+-- at a status of no run and of no failed write there is no journal
+no_journal : (o : Option Command) (n : ℕ) → 2 < n → n ≢ 73 → IsSomeAnd o (λ c. KeepsJournal c n) → ⊥
+no_journal None n large other keeps = keeps
+no_journal (Some Replay) n large other keeps = not_written n large other keeps
+no_journal (Some Run) n large other keeps = not_written n large other keeps
+no_journal (Some (Storm rounds seed)) n large other keeps = not_written n large other keeps
+no_journal (Some Check) n large other keeps = absurd (omega (arith, large, keeps))
+
+pub done_of_reading : (n : ℕ) → IsDone n → IsOfReading n → ⊥
 done_of_reading n done (inl is) = not_done n (omega arith) done
 done_of_reading n done (inr (inl is)) = not_done n (omega arith) done
 done_of_reading n done (inr (inr is)) = not_done n (omega arith) done
 
-other_of_reading : (n : ℕ) → n ≢ 65 → n ≢ 66 → n ≢ 74 → IsOfReading n → ⊥
+pub other_of_reading : (n : ℕ) → n ≢ 65 → n ≢ 66 → n ≢ 74 → IsOfReading n → ⊥
 other_of_reading n first second third (inl is) = first is
 other_of_reading n first second third (inr (inl is)) = second is
 other_of_reading n first second third (inr (inr is)) = third is
 
 -- a scenario is not good and refused
-not_both : (bytes : List ℕ) (s : Scenario) (r : Refusal) → scenario_of bytes ≡ Good s
-    → scenario_of bytes ≡ Bad r → ⊥
-not_both bytes s r good bad = let h : Good s ≡ Bad r = sym good ∙ bad in absurd (cc)
+not_both : (c : Command) (bytes : List ℕ) (s : Scenario) (r : Refusal) → judged c bytes ≡ Good s
+    → judged c bytes ≡ Bad r → ⊥
+not_both c bytes s r good bad = let h : Good s ≡ Bad r = sym good ∙ bad in absurd (cc)
 
 -- two refusals of the same bytes are one
-same_refusal : (bytes : List ℕ) (r q : Refusal) → scenario_of bytes ≡ Bad r
-    → scenario_of bytes ≡ Bad q → r ≡ q
-same_refusal bytes r q first second = let h : Bad r ≡ Bad q = sym first ∙ second in cc
+same_refusal : (c : Command) (bytes : List ℕ) (r q : Refusal) → judged c bytes ≡ Bad r
+    → judged c bytes ≡ Bad q → r ≡ q
+same_refusal c bytes r q first second = let h : Bad r ≡ Bad q = sym first ∙ second in cc
 
 -- None is not Some
-none_is_some : false ≡ true → ⊥
+pub none_is_some : false ≡ true → ⊥
 none_is_some is = absurd (cc)
 
 -- ---- each ending
 
--- a run that is done and written is complete
-done_answers : (e : Edges) (j : Journal) (scenario : Scenario) → IsRead e scenario
-    → IsDone (status j) → AnswersInput e (outcome (Ok j))
-done_answers e j scenario runs done = record {
+-- what was read, and is good, is answered by what is done
+pub done_answers : (c : Command) (e : Edges) (o : Outcome) (bytes : List ℕ) (scenario : Scenario) → ReadAll bytes e
+    → judged c bytes ≡ Good scenario → IsDone o.status → AnswersInput c e o
+done_answers c e o bytes scenario read good done = record {
   short = λ input is short unread unwritten.
-      let good : scenario_of input ≡ Good scenario =
-      same_scenario runs.bytes e input runs.read is ∙ runs.good in
-      inl (subst (AnswersReading (outcome (Ok j))) (sym good) done);
-  long = λ input is long unread. absurd (not_long runs.bytes e input runs.read is long);
+      inl (subst (AnswersReading o) (sym (same_judged c bytes e input read is ∙ good)) done);
+  long = λ input is long unread. absurd (not_long bytes e input read is long);
   refused = λ input r is short bad unread.
-      absurd (not_both runs.bytes scenario r runs.good
-      (sym (same_scenario runs.bytes e input runs.read is) ∙ bad));
+      absurd (not_both c bytes scenario r good (sym (same_judged c bytes e input read is) ∙ bad));
 }
 
 done_complete : (c : Command) (e : Edges) (j : Journal) (scenario : Scenario) → Runs c e scenario
     → IsDone (status j) → IsComplete c e (outcome (Ok j))
-done_complete Replay e j scenario runs done = done_answers e j scenario runs done
-done_complete Run e j scenario runs done = done_answers e j scenario runs done
+done_complete Replay e j scenario runs done =
+    done_answers Replay e (outcome (Ok j)) runs.bytes scenario runs.read runs.good done
+done_complete Run e j scenario runs done =
+    done_answers Run e (outcome (Ok j)) runs.bytes scenario runs.read runs.good done
 done_complete (Storm n seed) e j scenario runs done = λ unwritten. inl done
+done_complete Check e j scenario runs done = absurd runs
+
+-- a command that ran a scenario has done its work, or could not write
+done_run : (c : Command) (e : Edges) (o : Outcome) → RanAndWrote c e o → Done c e o
+done_run Replay e o ran = ran
+done_run Run e o ran = ran
+done_run (Storm n seed) e o ran = ran
+done_run Check e o ran = absurd ran.ran.runs
+
+unwritten_run : (c : Command) (e : Edges) (o : Outcome) → RanUnwritten c e o → Unwritten c e o
+unwritten_run Replay e o ran = ran
+unwritten_run Run e o ran = ran
+unwritten_run (Storm n seed) e o ran = ran
+unwritten_run Check e o ran = absurd ran.ran.runs
+
+-- and it keeps its journal
+journal_run : (c : Command) (e : Edges) (scenario : Scenario) (n : ℕ) → Runs c e scenario → HasWritten n → KeepsJournal c n
+journal_run Replay e scenario n runs written = written
+journal_run Run e scenario n runs written = written
+journal_run (Storm rounds seed) e scenario n runs written = written
+journal_run Check e scenario n runs written = absurd runs
 
 done_keeps : (words : List (List ℕ)) (c : Command) (e : Edges) (j : Journal) → Asks words c
     → NoReadFailed e → NoWriteFailed e → Makes c e j WroteAll → Keeps words e (outcome (Ok j))
@@ -117,8 +145,8 @@ done_keeps words c e j asked well_read well_written ends =
       usage = λ none. absurd (some_command words c asked none);
       reads = λ is. absurd (done_of_reading (status j) done is);
       reads_nothing = λ other. runs_unread words c e ends.0 asked ends.1 other;
-      done = λ _. of_command words c (λ x. RanAndWrote x e (outcome (Ok j))) asked
-          (record { ran = ran; wrote = ends.4; status = refl });
+      done = λ _. of_command words c (λ x. Done x e (outcome (Ok j))) asked
+          (done_run c e (outcome (Ok j)) (record { ran = ran; wrote = ends.4; status = refl }));
       refused = λ is. absurd (omega arith);
       too_long = λ is. absurd (omega arith);
       too_many = λ more. absurd (runs_few c e ends.0 ends.1 more);
@@ -127,7 +155,11 @@ done_keeps words c e j asked well_read well_written ends =
       no_read_failed = λ _. well_read;
       no_write_failed = λ _. well_written;
       nothing = inl (inl done);
-      journal = (λ _. inl done, λ _. refl);
+      journal = (
+        λ _. of_command words c (λ x. KeepsJournal x (status j)) asked
+            (journal_run c e ends.0 (status j) ends.1 (inl done)),
+        λ _. refl,
+      );
       fault = (λ is. absurd (none_is_some is), λ is. absurd (omega arith));
       read_most = runs_read c e ends.0 ends.1;
       complete = if_command words c (λ x. IsComplete x e (outcome (Ok j))) asked
@@ -135,21 +167,23 @@ done_keeps words c e j asked well_read well_written ends =
     }
 
 -- where the sink failed, nothing is asked of it
-unwritten_answers : (e : Edges) (j : Journal) (scenario : Scenario)
-    → IsRead e scenario → WriteFailed e → AnswersInput e (outcome (Err (cause.WriteFailed j)))
-unwritten_answers e j scenario runs failed = record {
+pub unwritten_answers : (c : Command) (e : Edges) (o : Outcome) (bytes : List ℕ) (scenario : Scenario) → ReadAll bytes e
+    → judged c bytes ≡ Good scenario → WriteFailed e → AnswersInput c e o
+unwritten_answers c e o bytes scenario read good failed = record {
   short = λ input is short unread unwritten. absurd (unwritten failed);
-  long = λ input is long unread. absurd (not_long runs.bytes e input runs.read is long);
+  long = λ input is long unread. absurd (not_long bytes e input read is long);
   refused = λ input r is short bad unread.
-      absurd (not_both runs.bytes scenario r runs.good
-      (sym (same_scenario runs.bytes e input runs.read is) ∙ bad));
+      absurd (not_both c bytes scenario r good (sym (same_judged c bytes e input read is) ∙ bad));
 }
 
 unwritten_complete : (c : Command) (e : Edges) (j : Journal) (scenario : Scenario)
     → Runs c e scenario → WriteFailed e → IsComplete c e (outcome (Err (cause.WriteFailed j)))
-unwritten_complete Replay e j scenario runs failed = unwritten_answers e j scenario runs failed
-unwritten_complete Run e j scenario runs failed = unwritten_answers e j scenario runs failed
+unwritten_complete Replay e j scenario runs failed =
+    unwritten_answers Replay e (outcome (Err (cause.WriteFailed j))) runs.bytes scenario runs.read runs.good failed
+unwritten_complete Run e j scenario runs failed =
+    unwritten_answers Run e (outcome (Err (cause.WriteFailed j))) runs.bytes scenario runs.read runs.good failed
 unwritten_complete (Storm n seed) e j scenario runs failed = λ unwritten. absurd (unwritten failed)
+unwritten_complete Check e j scenario runs failed = absurd runs
 
 unwritten_keeps : (words : List (List ℕ)) (c : Command) (e : Edges) (j : Journal) → Asks words c
     → NoReadFailed e → WriteFailed e → Makes c e j WrotePart
@@ -175,13 +209,16 @@ unwritten_keeps words c e j asked well_read failed ends =
       too_long = λ is. absurd (omega arith);
       too_many = λ more. absurd (runs_few c e ends.0 ends.1 more);
       unwritten = λ _. of_command words c
-          (λ x. RanUnwritten x e (outcome (Err (cause.WriteFailed j)))) asked
-          (record { ran = ran; wrote = ends.4; cause = failed });
+          (λ x. Unwritten x e (outcome (Err (cause.WriteFailed j)))) asked
+          (unwritten_run c e (outcome (Err (cause.WriteFailed j))) (record { ran = ran; wrote = ends.4; cause = failed }));
       unread = λ is. absurd (omega arith);
       no_read_failed = λ _. well_read;
       no_write_failed = λ other. absurd (other refl);
       nothing = inl (inr refl);
-      journal = (λ _. inr refl, λ _. refl);
+      journal = (
+        λ _. of_command words c (λ x. KeepsJournal x 73) asked (journal_run c e ends.0 73 ends.1 (inr refl)),
+        λ _. refl,
+      );
       fault = (λ is. absurd (none_is_some is), λ is. absurd (omega arith));
       read_most = runs_read c e ends.0 ends.1;
       complete = if_command words c (λ x. IsComplete x e (outcome (Err (cause.WriteFailed j)))) asked
@@ -189,13 +226,14 @@ unwritten_keeps words c e j asked well_read failed ends =
     }
 
 -- what comes of the input makes a command that reads it complete
-reader_complete : (c : Command) (e : Edges) (o : Outcome) → IsReader c → AnswersInput e o → IsComplete c e o
+reader_complete : (c : Command) (e : Edges) (o : Outcome) → IsReader c → AnswersInput c e o → IsComplete c e o
 reader_complete Replay e o reader answers = answers
 reader_complete Run e o reader answers = answers
 reader_complete (Storm n seed) e o reader answers = absurd reader
+reader_complete Check e o reader answers = answers
 
-refused_keeps : (words : List (List ℕ)) (c : Command) (e : Edges) (r : Refusal) → Asks words c → IsReader c
-    → NoReadFailed e → OfInput e.left e.left_after (λ bytes. scenario_of bytes ≡ Bad r)
+pub refused_keeps : (words : List (List ℕ)) (c : Command) (e : Edges) (r : Refusal) → Asks words c → IsReader c
+    → NoReadFailed e → OfInput e.left e.left_after (λ bytes. judged c bytes ≡ Bad r)
     → WroteNothing e → Keeps words e (outcome (Err (cause.Refused r)))
 refused_keeps words c e r asked reader well_read ends nothing =
     let all : ReadAll ends.0 e = record { all = ends.1; short = ends.2 } in
@@ -206,7 +244,8 @@ refused_keeps words c e r asked reader well_read ends nothing =
       reads = λ _. of_command words c IsReader asked reader;
       reads_nothing = λ other. absurd (other (of_command words c IsReader asked reader));
       done = λ is. absurd (not_done 65 (omega arith) is);
-      refused = λ _. record { bytes = ends.0; refusal = r; read = all; bad = ends.3; kept = refl };
+      refused = λ _. of_command words c (λ x. WasRefused x e (outcome (Err (cause.Refused r)))) asked
+          (record { bytes = ends.0; refusal = r; read = all; bad = ends.3; kept = refl });
       too_long = λ is. absurd (omega arith);
       too_many = λ more. absurd (not_gave_too_many ends.0 e all more);
       unwritten = λ is. absurd (omega arith);
@@ -216,23 +255,23 @@ refused_keeps words c e r asked reader well_read ends nothing =
       nothing = inr nothing;
       journal = (
         λ is. absurd (none_is_some is),
-        λ is. absurd (no_journal 65 (omega arith) (λ is. absurd (omega arith)) is),
+        λ is. absurd (no_journal (command words) 65 (omega arith) (λ is. absurd (omega arith)) is),
       );
       fault = (λ _. refl, λ _. refl);
       read_most = all_at_most ends.0 e.left e.left_after ends.1 ends.2;
       complete = if_command words c (λ x. IsComplete x e (outcome (Err (cause.Refused r)))) asked
           (reader_complete c e (outcome (Err (cause.Refused r))) reader (record {
             short = λ input is short unread unwritten.
-                let bad : scenario_of input ≡ Bad r = same_scenario ends.0 e input all is ∙ ends.3 in
+                let bad : judged c input ≡ Bad r = same_judged c ends.0 e input all is ∙ ends.3 in
                 inl (subst (AnswersReading (outcome (Err (cause.Refused r)))) (sym bad) (refl, refl));
             long = λ input is long unread. absurd (not_long ends.0 e input all is long);
             refused = λ input q is short bad unread.
-                let same : scenario_of ends.0 ≡ Bad q = sym (same_scenario ends.0 e input all is) ∙ bad in
-                inl (refl, ap Some (same_refusal ends.0 r q ends.3 same));
+                let same : judged c ends.0 ≡ Bad q = sym (same_judged c ends.0 e input all is) ∙ bad in
+                inl (refl, ap Some (same_refusal c ends.0 r q ends.3 same));
           }));
     }
 
-long_keeps : (words : List (List ℕ)) (c : Command) (e : Edges) → Asks words c → IsReader c → NoReadFailed e
+pub long_keeps : (words : List (List ℕ)) (c : Command) (e : Edges) → Asks words c → IsReader c → NoReadFailed e
     → ReadTooMany e → WroteNothing e → Keeps words e (outcome (Err cause.TooLong))
 long_keeps words c e asked reader well_read takes nothing =
     let long : (input : List ℕ) → e.left ≡ Some input → input_limit < length input =
@@ -254,7 +293,7 @@ long_keeps words c e asked reader well_read takes nothing =
       nothing = inr nothing;
       journal = (
         λ is. absurd (none_is_some is),
-        λ is. absurd (no_journal 66 (omega arith) (λ is. absurd (omega arith)) is),
+        λ is. absurd (no_journal (command words) 66 (omega arith) (λ is. absurd (omega arith)) is),
       );
       fault = (λ is. absurd (none_is_some is), λ is. absurd (omega arith));
       read_most = (input_limit + 1, omega arith, takes);
@@ -266,7 +305,7 @@ long_keeps words c e asked reader well_read takes nothing =
           }));
     }
 
-unread_keeps : (words : List (List ℕ)) (c : Command) (e : Edges) → Asks words c → IsReader c → ReadFailed e
+pub unread_keeps : (words : List (List ℕ)) (c : Command) (e : Edges) → Asks words c → IsReader c → ReadFailed e
     → TakesAtMost input_limit e.left e.left_after → WroteNothing e
     → Keeps words e (outcome (Err cause.ReadFailed))
 unread_keeps words c e asked reader failed most nothing = record {
@@ -287,7 +326,7 @@ unread_keeps words c e asked reader failed most nothing = record {
   nothing = inr nothing;
   journal = (
     λ is. absurd (none_is_some is),
-    λ is. absurd (no_journal 74 (omega arith) (λ is. absurd (omega arith)) is),
+    λ is. absurd (no_journal (command words) 74 (omega arith) (λ is. absurd (omega arith)) is),
   );
   fault = (λ is. absurd (none_is_some is), λ is. absurd (omega arith));
   read_most = one_more_at_most e.left e.left_after most;
@@ -300,17 +339,18 @@ unread_keeps words c e asked reader failed most nothing = record {
 }
 
 -- where memory ran out, nothing is asked
-no_memory_answers : (e : Edges) → AnswersInput e (outcome (Err cause.OutOfMemory))
-no_memory_answers e = record {
+no_memory_answers : (c : Command) (e : Edges) → AnswersInput c e (outcome (Err cause.OutOfMemory))
+no_memory_answers c e = record {
   short = λ input is short unread unwritten. inr refl;
   long = λ input is long unread. inr refl;
   refused = λ input r is short bad unread. inr refl;
 }
 
 no_memory_complete : (c : Command) (e : Edges) → IsComplete c e (outcome (Err cause.OutOfMemory))
-no_memory_complete Replay e = no_memory_answers e
-no_memory_complete Run e = no_memory_answers e
+no_memory_complete Replay e = no_memory_answers Replay e
+no_memory_complete Run e = no_memory_answers Run e
 no_memory_complete (Storm n seed) e = λ unwritten. inr refl
+no_memory_complete Check e = no_memory_answers Check e
 
 each_complete : (o : Option Command) (e : Edges)
     → IfSome o (λ c. IsComplete c e (outcome (Err cause.OutOfMemory)))
@@ -339,7 +379,7 @@ no_memory_keeps words e well_read most unread nothing = record {
   nothing = inr nothing;
   journal = (
     λ is. absurd (none_is_some is),
-    λ is. absurd (no_journal 71 (omega arith) (λ is. absurd (omega arith)) is),
+    λ is. absurd (no_journal (command words) 71 (omega arith) (λ is. absurd (omega arith)) is),
   );
   fault = (λ is. absurd (none_is_some is), λ is. absurd (omega arith));
   read_most = most;
@@ -353,10 +393,11 @@ unjudged_keeps words e read nothing =
     no_memory_keeps words e read.faults (nothing_at_most e.left e.left_after read.bytes) (λ _. read) nothing
 
 reading_stopped : (c : Command) (e : Edges) (why : Cause) → IsReader c → Stops c e why
-    → StopsReading e.left e.left_after why
+    → StopsReading (judged c) e.left e.left_after why
 reading_stopped Replay e why reader stops = stops
 reading_stopped Run e why reader stops = stops
 reading_stopped (Storm n seed) e why reader stops = absurd reader
+reading_stopped Check e why reader stops = stops
 
 -- what a command that reads keeps, however it ends
 pub reader_keeps : (words : List (List ℕ)) (c : Command) (e : Edges) (ran : Result Journal Cause)
@@ -365,6 +406,8 @@ pub reader_keeps : (words : List (List ℕ)) (c : Command) (e : Edges) (ran : Re
 reader_keeps words c e (Ok j) asked reader ends read = done_keeps words c e j asked read ends.0 ends.1
 reader_keeps words c e (Err (cause.WriteFailed j)) asked reader ends read =
     unwritten_keeps words c e j asked read ends.0 ends.1
+reader_keeps words c e (Err cause.LineUnwritten) asked reader ends read =
+    absurd (reading_stopped c e cause.LineUnwritten reader ends.0)
 reader_keeps words c e (Err (cause.Refused r)) asked reader ends read =
     refused_keeps words c e r asked reader read (reading_stopped c e (cause.Refused r) reader ends.0) ends.1
 reader_keeps words c e (Err cause.TooLong) asked reader ends read =
@@ -382,6 +425,7 @@ storm_keeps words n seed e (Ok j) asked ends =
     done_keeps words (Storm n seed) e j asked ends.1.1.read.faults ends.0 ends.1
 storm_keeps words n seed e (Err (cause.WriteFailed j)) asked ends =
     unwritten_keeps words (Storm n seed) e j asked ends.1.1.read.faults ends.0 ends.1
+storm_keeps words n seed e (Err cause.LineUnwritten) asked ends = absurd (cc (ends.0.0))
 storm_keeps words n seed e (Err (cause.Refused r)) asked ends = absurd (cc (ends.0.0))
 storm_keeps words n seed e (Err cause.TooLong) asked ends = absurd (cc (ends.0.0))
 storm_keeps words n seed e (Err cause.OutOfMemory) asked ends = unjudged_keeps words e ends.0.1 ends.1

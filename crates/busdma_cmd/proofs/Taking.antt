@@ -8,16 +8,16 @@ use Rattle.io_edge.specs.Reading.{Takes, TakesAtMost, TakesAll}
 use Rattle.busdma_base.specs.Scenarios.Valid.{IsValid}
 use Rattle.busdma_base.specs.declared.scenarios.scenario.Scenario.{Scenario}
 use Rattle.busdma_base.specs.declared.journals.journal.Journal.{Journal}
-use Rattle.scenario_read.specs.Scenario.{scenario_of}
 use Rattle.std.specs.Prelude.{IfSome, IsSomeAnd}
 use Rattle.busdma_cmd.specs.declared.cause.Cause.{Cause}
 use Rattle.busdma_cmd.specs.declared.cause.Cause.TheVariants as cause
 use Rattle.command_words.specs.declared.command.Command.{Command}
-use Rattle.command_words.specs.declared.command.Command.TheVariants.{Replay, Run, Storm}
+use Rattle.command_words.specs.declared.command.Command.TheVariants.{Replay, Run, Storm, Check}
 use Rattle.command_words.specs.Command.{command}
 use Rattle.busdma_cmd.specs.Edges.{Edges, ReadNothing, ReadAll, ReadAtMost, input_limit}
 use Rattle.busdma_cmd.specs.Edges.{WriteFailed, WroteNothing, WrotePart}
 use Rattle.busdma_cmd.specs.Ends.{Reads, CountsReads, Stops, StopsReading, EndsBy}
+use Rattle.busdma_cmd.specs.Judging.{judged}
 use Rattle.busdma_cmd.specs.Outcome.{GaveTooMany}
 use Rattle.busdma_cmd.specs.Runs.{IsMadeOf, IsRead, IsReader, Runs, text_of}
 
@@ -45,10 +45,11 @@ nothing_at_most (Some left) after same = (0, omega arith, (omega arith, same))
 
 -- a command that reads stops as its reading does
 pub stops_reading : (c : Command) (e : Edges) (why : Cause) → IsReader c
-    → StopsReading e.left e.left_after why → Stops c e why
+    → StopsReading (judged c) e.left e.left_after why → Stops c e why
 stops_reading Replay e why reader stops = stops
 stops_reading Run e why reader stops = stops
 stops_reading (Storm n seed) e why reader stops = absurd reader
+stops_reading Check e why reader stops = stops
 
 -- memory ran out after the whole input was read
 pub ran_out : (c : Command) (e : Edges) (scenario : Scenario) (ran : Result Journal Cause) → IsReader c
@@ -59,25 +60,33 @@ ran_out c e scenario (Err why) reader is reads nothing =
     subst (λ w. EndsBy c e (Err w)) (sym is)
     (stops_reading c e cause.OutOfMemory reader (all_at_most reads.0 e.left e.left_after reads.1 reads.2), nothing)
 
+-- the command runs the scenario that it reads
+abbrev pub RunsInput : Command → Type 0
+RunsInput Replay = Unit {0}
+RunsInput Run = Unit {0}
+RunsInput (Storm n seed) = ⊥
+RunsInput Check = ⊥
+
 -- the scenario of the whole input is the one that the command runs
-pub runs_input : (c : Command) (e : Edges) (scenario : Scenario) → IsReader c
+pub runs_input : (c : Command) (e : Edges) (scenario : Scenario) → RunsInput c
     → Reads e.left e.left_after (Ok scenario) → Runs c e scenario
 runs_input c e scenario reader reads = of_command_that_reads c reader
   where
     is_read : IsRead e scenario
     is_read = record { bytes = reads.0; read = record { all = reads.1; short = reads.2 }; good = reads.3 }
 
-    of_command_that_reads : (d : Command) → IsReader d → Runs d e scenario
+    of_command_that_reads : (d : Command) → RunsInput d → Runs d e scenario
     of_command_that_reads Replay reader = is_read
     of_command_that_reads Run reader = is_read
     of_command_that_reads (Storm n seed) reader = absurd reader
+    of_command_that_reads Check reader = absurd reader
 
 -- and no read had failed
-pub ran_out_after : (before now : ℕ) (ran : Result Journal Cause)
+pub ran_out_after : {A : Type 0} (before now : ℕ) (ran : Result A Cause)
     → IsErrAnd ran (λ why. why ≡ cause.OutOfMemory) → now ≡ before → CountsReads before now ran
-ran_out_after before now (Ok journal) is stayed = absurd is
-ran_out_after before now (Err why) is stayed =
-    subst (λ w. CountsReads {A = Journal} before now (Err w)) (sym is) stayed
+ran_out_after before now (Ok done) is stayed = absurd is
+ran_out_after {A} before now (Err why) is stayed =
+    subst (λ w. CountsReads {A = A} before now (Err w)) (sym is) stayed
 
 -- the sink failed before the text's last byte
 pub sink_failed : (c : Command) (e : Edges) (scenario : Scenario) (journal : Journal) (text : List ℕ)
@@ -159,6 +168,7 @@ pub runs_few : (c : Command) (e : Edges) (scenario : Scenario) → Runs c e scen
 runs_few Replay e scenario runs more = not_gave_too_many runs.bytes e runs.read more
 runs_few Run e scenario runs more = not_gave_too_many runs.bytes e runs.read more
 runs_few (Storm n seed) e scenario runs more = not_gave_unread e runs.read more
+runs_few Check e scenario runs more = absurd runs
 
 pub runs_read : (c : Command) (e : Edges) (scenario : Scenario) → Runs c e scenario → ReadAtMost e
 runs_read Replay e scenario runs =
@@ -166,6 +176,7 @@ runs_read Replay e scenario runs =
 runs_read Run e scenario runs =
     all_at_most runs.bytes e.left e.left_after runs.read.all runs.read.short
 runs_read (Storm n seed) e scenario runs = nothing_at_most e.left e.left_after runs.read.bytes
+runs_read Check e scenario runs = absurd runs
 
 -- a command that does not read took nothing
 pub runs_unread : (words : List (List ℕ)) (c : Command) (e : Edges) (scenario : Scenario) → Asks words c
@@ -173,6 +184,7 @@ pub runs_unread : (words : List (List ℕ)) (c : Command) (e : Edges) (scenario 
 runs_unread words Replay e scenario asked runs other = absurd (other (of_command words Replay IsReader asked tt))
 runs_unread words Run e scenario asked runs other = absurd (other (of_command words Run IsReader asked tt))
 runs_unread words (Storm n seed) e scenario asked runs other = runs.read
+runs_unread words Check e scenario asked runs other = absurd runs
 
 -- the bytes that were all of the input are the input
 pub same_input : (bytes : List ℕ) (before after : Option (List ℕ)) (input : List ℕ)
@@ -181,11 +193,11 @@ same_input bytes None after input all is = absurd (cc)
 same_input bytes (Some left) after input all is =
     let l : left ≡ input = cc in sym l ∙ all.0
 
--- the input's scenario is the one of the bytes that were read whole
-pub same_scenario : (bytes : List ℕ) (e : Edges) (input : List ℕ) → ReadAll bytes e
-    → e.left ≡ Some input → scenario_of input ≡ scenario_of bytes
-same_scenario bytes e input read is =
-    ap scenario_of (same_input bytes e.left e.left_after input read.all is)
+-- the input is judged as the bytes that were read whole
+pub same_judged : (c : Command) (bytes : List ℕ) (e : Edges) (input : List ℕ) → ReadAll bytes e
+    → e.left ≡ Some input → judged c input ≡ judged c bytes
+same_judged c bytes e input read is =
+    ap (judged c) (same_input bytes e.left e.left_after input read.all is)
 
 -- an input that was read whole is not long
 pub not_long : (bytes : List ℕ) (e : Edges) (input : List ℕ) → ReadAll bytes e

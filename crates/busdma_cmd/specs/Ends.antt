@@ -5,6 +5,7 @@ use Rattle.io_edge.specs.Reading.{Takes, TakesAtMost, TakesAll}
 use Rattle.busdma_base.specs.Scenarios.Valid.{IsValid}
 use Rattle.busdma_base.specs.declared.scenarios.scenario.Scenario.{Scenario}
 use Rattle.busdma_base.specs.declared.journals.journal.Journal.{Journal}
+use Rattle.scenario_read.specs.declared.reading.Reading.{Reading}
 use Rattle.scenario_read.specs.declared.reading.Reading.TheVariants.{Good, Bad}
 use Rattle.scenario_read.specs.Scenario.{scenario_of}
 use Rattle.ideal_world.specs.Ends.{status}
@@ -12,8 +13,9 @@ use Rattle.busdma_cmd.specs.declared.cause.Cause.{Cause}
 use Rattle.busdma_cmd.specs.declared.cause.Cause.TheVariants as cause
 use Rattle.busdma_cmd.specs.declared.outcome.Outcome.{Outcome}
 use Rattle.command_words.specs.declared.command.Command.{Command}
-use Rattle.command_words.specs.declared.command.Command.TheVariants.{Replay, Run, Storm}
+use Rattle.command_words.specs.declared.command.Command.TheVariants.{Replay, Run, Storm, Check}
 use Rattle.busdma_cmd.specs.Edges.{Edges, ReadNothing, WriteFailed, NoWriteFailed, WroteNothing, WroteAll, WrotePart, input_limit}
+use Rattle.busdma_cmd.specs.Judging.{scenario_behind_header}
 use Rattle.busdma_cmd.specs.Runs.{IsMadeOf, Runs, text_of}
 
 -- P holds of all the bytes that were left, which are not too many, and nothing is left
@@ -21,19 +23,20 @@ abbrev pub OfInput : Option (List ℕ) → Option (List ℕ) → (List ℕ → T
 OfInput left after P =
     (bytes : List ℕ) × TakesAll bytes left after × (length bytes ≤ input_limit) × P bytes
 
--- why reading gave no scenario
-abbrev pub StopsReading : Option (List ℕ) → Option (List ℕ) → Cause → Type 0
-StopsReading left after (cause.Refused refusal) =
-    OfInput left after (λ bytes. scenario_of bytes ≡ Bad refusal)
-StopsReading left after cause.TooLong = Takes (input_limit + 1) left after
-StopsReading left after cause.OutOfMemory = TakesAtMost (input_limit + 1) left after
-StopsReading left after cause.ReadFailed = TakesAtMost input_limit left after
-StopsReading left after (cause.WriteFailed journal) = ⊥
+-- why reading gave nothing to work on, by what the bytes are judged to be
+abbrev pub StopsReading : (List ℕ → Reading) → Option (List ℕ) → Option (List ℕ) → Cause → Type 0
+StopsReading judge left after (cause.Refused refusal) =
+    OfInput left after (λ bytes. judge bytes ≡ Bad refusal)
+StopsReading judge left after cause.TooLong = Takes (input_limit + 1) left after
+StopsReading judge left after cause.OutOfMemory = TakesAtMost (input_limit + 1) left after
+StopsReading judge left after cause.ReadFailed = TakesAtMost input_limit left after
+StopsReading judge left after (cause.WriteFailed journal) = ⊥
+StopsReading judge left after cause.LineUnwritten = ⊥
 
 -- how reading a scenario ends, by what was left before it and after it
 abbrev pub Reads : Option (List ℕ) → Option (List ℕ) → Result Scenario Cause → Type 0
 Reads left after (Ok scenario) = OfInput left after (λ bytes. scenario_of bytes ≡ Good scenario)
-Reads left after (Err why) = StopsReading left after why
+Reads left after (Err why) = StopsReading scenario_of left after why
 
 -- how often the source had failed before a call and after it: the count rose where a read that
 -- failed is the cause, and stayed otherwise
@@ -50,9 +53,10 @@ Makes c e journal Wrote =
 
 -- why a command that wrote nothing stopped; a storm stops for want of memory alone
 abbrev pub Stops : Command → Edges → Cause → Type 0
-Stops Replay e why = StopsReading e.left e.left_after why
-Stops Run e why = StopsReading e.left e.left_after why
+Stops Replay e why = StopsReading scenario_of e.left e.left_after why
+Stops Run e why = StopsReading scenario_of e.left e.left_after why
 Stops (Storm n seed) e why = (why ≡ cause.OutOfMemory) × ReadNothing e
+Stops Check e why = StopsReading scenario_behind_header e.left e.left_after why
 
 -- how the whole run of a command ends
 abbrev pub EndsBy : Command → Edges → Result Journal Cause → Type 0
@@ -69,4 +73,5 @@ outcome (Err cause.TooLong) = record { status = 66; journal = None; fault = None
 outcome (Err cause.OutOfMemory) = record { status = 71; journal = None; fault = None }
 outcome (Err (cause.WriteFailed journal)) =
     record { status = 73; journal = Some journal; fault = None }
+outcome (Err cause.LineUnwritten) = record { status = 73; journal = None; fault = None }
 outcome (Err cause.ReadFailed) = record { status = 74; journal = None; fault = None }

@@ -16,7 +16,7 @@ refused_line refusal = option_map (λ r. codes "busdma_run: bad scenario: " ++ r
 abbrev pub line_of : Outcome → Option (List ℕ)
 line_of o =
     if nat_le o.status 2 then None
-    else (if o.status == 64 then Some (codes "usage: busdma_run replay | run | storm N SEED")
+    else (if o.status == 64 then Some (codes "usage: busdma_run replay | run | storm N SEED | check")
     else (if o.status == 65 then refused_line o.fault
     else (if o.status == 66 then Some (codes "busdma_run: input is too long")
     else (if o.status == 71 then Some (codes "busdma_run: out of memory")

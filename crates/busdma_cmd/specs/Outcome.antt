@@ -6,12 +6,13 @@ use Rattle.busdma_base.specs.declared.journals.journal.Journal.{Journal}
 use Rattle.json_fields.specs.declared.refusal.Refusal.{Refusal}
 use Rattle.scenario_read.specs.declared.reading.Reading.{Reading}
 use Rattle.scenario_read.specs.declared.reading.Reading.TheVariants.{Good, Bad}
-use Rattle.scenario_read.specs.Scenario.{scenario_of}
 use Rattle.ideal_world.specs.Ends.{status}
 use Rattle.busdma_cmd.specs.declared.outcome.Outcome.{Outcome}
 use Rattle.command_words.specs.declared.command.Command.{Command}
-use Rattle.command_words.specs.declared.command.Command.TheVariants.{Replay, Run, Storm}
+use Rattle.command_words.specs.declared.command.Command.TheVariants.{Replay, Run, Storm, Check}
 use Rattle.command_words.specs.Command.{command}
+use Rattle.busdma_cmd.specs.Checks.{CheckedAndWrote, CheckedUnwritten}
+use Rattle.busdma_cmd.specs.Judging.{judged}
 use Rattle.busdma_cmd.specs.Edges.{Edges, ReadFailed, NoReadFailed, ReadNothing, ReadAll, ReadTooMany, ReadAtMost}
 use Rattle.busdma_cmd.specs.Edges.{input_limit}
 use Rattle.busdma_cmd.specs.Edges.{WriteFailed, NoWriteFailed, WroteNothing, WroteAll, WrotePart}
@@ -21,9 +22,16 @@ use Rattle.busdma_cmd.specs.Runs.{IsMadeOf, IsReader, Runs, text_of}
 abbrev pub IsDone : ℕ → Type 0
 IsDone n = (n ≡ 0) ⊎ ((n ≡ 1) ⊎ (n ≡ 2))
 
--- the statuses of runs with a journal
-abbrev pub HasJournal : ℕ → Type 0
-HasJournal n = IsDone n ⊎ (n ≡ 73)
+-- the statuses of calls that wrote their text, or a front of it
+abbrev pub HasWritten : ℕ → Type 0
+HasWritten n = IsDone n ⊎ (n ≡ 73)
+
+-- the statuses of outcomes with a journal
+abbrev pub KeepsJournal : Command → ℕ → Type 0
+KeepsJournal Replay n = HasWritten n
+KeepsJournal Run n = HasWritten n
+KeepsJournal (Storm rounds seed) n = HasWritten n
+KeepsJournal Check n = n ≡ 0
 
 -- every status
 abbrev pub IsStatus : ℕ → Type 0
@@ -51,12 +59,26 @@ pub record RanUnwritten (c : Command) (e : Edges) (o : Outcome) : Type 0 where
   pub wrote : WrotePart (text_of c ran.scenario ran.journal) e
   pub cause : WriteFailed e
 
--- all the bytes were read, and they are no scenario, for the reason that the outcome has
-pub record WasRefused (e : Edges) (o : Outcome) : Type 0 where
+-- how a command ends that did its work and wrote
+abbrev pub Done : Command → Edges → Outcome → Type 0
+Done Replay e o = RanAndWrote Replay e o
+Done Run e o = RanAndWrote Run e o
+Done (Storm n seed) e o = RanAndWrote (Storm n seed) e o
+Done Check e o = CheckedAndWrote e o
+
+-- how a command ends that did its work and could not write
+abbrev pub Unwritten : Command → Edges → Outcome → Type 0
+Unwritten Replay e o = RanUnwritten Replay e o
+Unwritten Run e o = RanUnwritten Run e o
+Unwritten (Storm n seed) e o = RanUnwritten (Storm n seed) e o
+Unwritten Check e o = CheckedUnwritten e o
+
+-- all the bytes were read, and they are refused, for the reason that the outcome has
+pub record WasRefused (c : Command) (e : Edges) (o : Outcome) : Type 0 where
   pub bytes : List ℕ
   pub refusal : Refusal
   pub read : ReadAll bytes e
-  pub bad : scenario_of bytes ≡ Bad refusal
+  pub bad : judged c bytes ≡ Bad refusal
   pub kept : o.fault ≡ Some refusal
 
 -- want of memory is free
@@ -70,21 +92,22 @@ AnswersReading o (Bad r) = (o.status ≡ 65) × (o.fault ≡ Some r)
 
 -- What comes of the bytes that were left, where there was memory: where neither source nor sink failed, the outcome
 -- that they give; where the source did not fail, 66 for too many, and 65 with the refusal for bytes that are refused.
-pub record AnswersInput (e : Edges) (o : Outcome) : Type 0 where
+pub record AnswersInput (c : Command) (e : Edges) (o : Outcome) : Type 0 where
   pub short : (input : List ℕ) → e.left ≡ Some input → length input ≤ input_limit
       → (ReadFailed e → ⊥) → (WriteFailed e → ⊥)
-      → OrNoMemory o (AnswersReading o (scenario_of input))
+      → OrNoMemory o (AnswersReading o (judged c input))
   pub long : (input : List ℕ) → e.left ≡ Some input → input_limit < length input
       → (ReadFailed e → ⊥) → OrNoMemory o (o.status ≡ 66)
   pub refused : (input : List ℕ) (r : Refusal) → e.left ≡ Some input → length input ≤ input_limit
-      → scenario_of input ≡ Bad r → (ReadFailed e → ⊥)
+      → judged c input ≡ Bad r → (ReadFailed e → ⊥)
       → OrNoMemory o ((o.status ≡ 65) × (o.fault ≡ Some r))
 
 -- where nothing failed that the command calls, and there was memory, the outcome is that of the command
 abbrev pub IsComplete : Command → Edges → Outcome → Type 0
-IsComplete Replay e o = AnswersInput e o
-IsComplete Run e o = AnswersInput e o
+IsComplete Replay e o = AnswersInput Replay e o
+IsComplete Run e o = AnswersInput Run e o
 IsComplete (Storm n seed) e o = (WriteFailed e → ⊥) → OrNoMemory o (IsDone o.status)
+IsComplete Check e o = AnswersInput Check e o
 
 -- the statuses that no command has but one that reads
 abbrev pub IsOfReading : ℕ → Type 0
@@ -104,16 +127,16 @@ pub record Keeps (words : List (List ℕ)) (e : Edges) (o : Outcome) : Type 0 wh
   pub usage : command words ≡ None → OrNoMemory o (o.status ≡ 64)
   pub reads : IsOfReading o.status → IsSomeAnd (command words) IsReader
   pub reads_nothing : (IsSomeAnd (command words) IsReader → ⊥) → ReadNothing e
-  pub done : IsDone o.status → IsSomeAnd (command words) (λ c. RanAndWrote c e o)
-  pub refused : o.status ≡ 65 → WasRefused e o
+  pub done : IsDone o.status → IsSomeAnd (command words) (λ c. Done c e o)
+  pub refused : o.status ≡ 65 → IsSomeAnd (command words) (λ c. WasRefused c e o)
   pub too_long : o.status ≡ 66 → ReadTooMany e
   pub too_many : GaveTooMany e → OrNoMemory o (o.status ≡ 66)
-  pub unwritten : o.status ≡ 73 → IsSomeAnd (command words) (λ c. RanUnwritten c e o)
+  pub unwritten : o.status ≡ 73 → IsSomeAnd (command words) (λ c. Unwritten c e o)
   pub unread : o.status ≡ 74 → ReadFailed e
   pub no_read_failed : o.status ≢ 74 → NoReadFailed e
   pub no_write_failed : o.status ≢ 73 → NoWriteFailed e
-  pub nothing : HasJournal o.status ⊎ WroteNothing e
-  pub journal : IsSome o.journal ↔ HasJournal o.status
+  pub nothing : HasWritten o.status ⊎ WroteNothing e
+  pub journal : IsSome o.journal ↔ IsSomeAnd (command words) (λ c. KeepsJournal c o.status)
   pub fault : IsSome o.fault ↔ (o.status ≡ 65)
   pub read_most : ReadAtMost e
   pub complete : IfSome (command words) (λ c. IsComplete c e o)

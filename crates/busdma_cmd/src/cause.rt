@@ -10,7 +10,7 @@ use std::alloc::AllocError;
 /// Why a command does not end with its whole text written.
 #[derive(Debug, Drop)]
 pub(crate) enum Cause {
-    /// The bytes that were read are no scenario.
+    /// The bytes that were read are no scenario, or of a check no header and scenario.
     Refused(Refusal),
     /// More bytes were given than an input may have.
     TooLong,
@@ -20,6 +20,8 @@ pub(crate) enum Cause {
     ReadFailed,
     /// The sink failed before the last byte of this journal's text, a report or a storm's summary.
     WriteFailed(Journal),
+    /// The sink failed before the last byte of a verdict's line.
+    LineUnwritten,
 }
 
 impl From<AllocError> for Cause {

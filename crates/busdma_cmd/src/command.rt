@@ -9,6 +9,7 @@ ghost use Rattle.busdma_cmd.specs.Outcome.{Keeps};
 ghost use Rattle.busdma_cmd.specs.Ends.{Reads, CountsReads, EndsBy, outcome};
 
 use crate::cause::Cause;
+use crate::check_call::{check_input, outcome_of_check};
 use crate::outcome::Outcome;
 use busdma_base::{Journal, Scenario};
 use command_words::{Command, command_of, run_is_one_word, storms_are_small};
@@ -20,7 +21,7 @@ use storm::{storm_scenario, storms_are_valid, summary};
 use world_core::{replay, status};
 
 /// How many bytes an input has at the most. One more is read, which tells that there are too many.
-const INPUT_LIMIT: usize = 16_777_216;
+pub(crate) const INPUT_LIMIT: usize = 16_777_216;
 
 /// The scenario that all of the source is.
 pub(crate) fn read_scenario<S: Source>(alloc: Global, source: &mut S) -> Result<Scenario, Cause>
@@ -87,6 +88,7 @@ pub(crate) fn outcome_of(ran: Result<Journal, Cause>) -> Outcome
         Err(Cause::TooLong) => (66, None, None),
         Err(Cause::OutOfMemory) => (71, None, None),
         Err(Cause::WriteFailed(journal)) => (73, Some(journal), None),
+        Err(Cause::LineUnwritten) => (73, None, None),
         Err(Cause::ReadFailed) => (74, None, None),
     };
     Outcome {
@@ -115,6 +117,7 @@ pub fn plain_command<S: Source, K: Sink>(
             storms_are_small();
             outcome_of(run_storm(alloc, n, seed, sink))
         }
+        Ok(Some(Command::Check)) => outcome_of_check(check_input(alloc, source, sink)),
         Ok(Some(Command::Run)) => {
             run_is_one_word();
             unreachable!()

@@ -2,6 +2,7 @@
 #![tactic(auto)]
 
 mod cause;
+mod check_call;
 mod command;
 mod gate;
 mod line;

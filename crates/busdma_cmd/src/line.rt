@@ -18,7 +18,7 @@ pub fn fault_line(alloc: Global, outcome: &Outcome) -> Result<Option<ByteList>, 
 {
     let line = match outcome.status {
         0..=2 => return Ok(None),
-        64 => "usage: busdma_run replay | run | storm N SEED",
+        64 => "usage: busdma_run replay | run | storm N SEED | check",
         65 => return refused_line(alloc, &outcome.fault),
         66 => "busdma_run: input is too long",
         71 => "busdma_run: out of memory",

@@ -3,8 +3,8 @@
 use busdma_base::Journal;
 use scenario_read::Refusal;
 
-/// How a call of the program ends: its status, the journal of the run where there was one, and the
-/// refusal of the scenario where it was refused.
+/// How a call of the program ends: its status, the journal of the run where there was one, or of a check
+/// the journal that was found legal, and the refusal of what was read where it was refused.
 #[derive(Debug, Drop)]
 pub struct Outcome {
     pub status: u8,

@@ -3,6 +3,7 @@
 ghost use Rattle.std.specs.Prelude.{◌≤◌};
 
 mod causes;
+mod checks;
 mod gated;
 mod large;
 mod lines;

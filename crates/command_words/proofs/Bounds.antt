@@ -7,7 +7,7 @@ use Rattle.std.proofs.lemmas.Bool.Decides.{nat_tests}
 use Rattle.std.proofs.lemmas.Slice.Eq.{bytes_eq-Decides}
 use Rattle.clap.proofs.WalkLemmas.{both}
 use Rattle.command_words.specs.declared.command.Command.{Command}
-use Rattle.command_words.specs.declared.command.Command.TheVariants.{Replay, Run, Storm}
+use Rattle.command_words.specs.declared.command.Command.TheVariants.{Replay, Run, Storm, Check}
 use Rattle.command_words.specs.Command.{command, is_numeral, number, run_words, storm, storm_of, writes_number}
 
 number_bounds : (most : ℕ) (word : List ℕ) (k : ℕ) → number most word ≡ Some k → (1 ≤ k) × (k ≤ most)
@@ -41,11 +41,12 @@ storm_small first second n seed is =
     (few.0, few.1, (number_bounds (2 ^ 64 - 1) second seed parts.1).0)
 
 -- one word asks for no storm
-no_storm_alone : (a b : Bool) (n seed : ℕ)
-    → cond a (Some Replay) (cond b (Some Run) None) ≡ Some (Storm n seed) → ⊥
-no_storm_alone true b n seed is = cc
-no_storm_alone false true n seed is = cc
-no_storm_alone false false n seed is = cc
+no_storm_alone : (a b c : Bool) (n seed : ℕ)
+    → cond a (Some Replay) (cond b (Some Run) (cond c (Some Check) None)) ≡ Some (Storm n seed) → ⊥
+no_storm_alone true b c n seed is = cc
+no_storm_alone false true c n seed is = cc
+no_storm_alone false false true n seed is = cc
+no_storm_alone false false false n seed is = cc
 
 chosen : (b : Bool) (c : Option Command) (n seed : ℕ) → cond b c None ≡ Some (Storm n seed)
     → c ≡ Some (Storm n seed)
@@ -55,7 +56,7 @@ chosen false c n seed is = absurd (cc)
 pub storm_bounds : (words : List (List ℕ)) (n seed : ℕ) → command words ≡ Some (Storm n seed) → Small n seed
 storm_bounds [] n seed is = absurd (cc)
 storm_bounds (word ∷ []) n seed is =
-    absurd (no_storm_alone (bytes_eq word (codes "replay")) (bytes_eq word (codes "run")) n seed is)
+    absurd (no_storm_alone (bytes_eq word (codes "replay")) (bytes_eq word (codes "run")) (bytes_eq word (codes "check")) n seed is)
 storm_bounds (word ∷ first ∷ []) n seed is = absurd (cc)
 storm_bounds (word ∷ first ∷ second ∷ []) n seed is =
     storm_small first second n seed (chosen (bytes_eq word (codes "storm")) (storm first second) n seed is)
@@ -73,13 +74,15 @@ no_run_chosen false first second is = cc
 -- `run` alone asks for a run
 pub run_alone : (words : List (List ℕ)) → command words ≡ Some Run → words ≡ run_words
 run_alone [] is = absurd (cc)
-run_alone (word ∷ []) is = go (bytes_eq word (codes "replay")) (bytes_eq word (codes "run")) refl is
+run_alone (word ∷ []) is =
+    go (bytes_eq word (codes "replay")) (bytes_eq word (codes "run")) (bytes_eq word (codes "check")) refl is
   where
-    go : (a b : Bool) → bytes_eq word (codes "run") ≡ b → cond a (Some Replay) (cond b (Some Run) None) ≡ Some Run
-        → word ∷ [] ≡ run_words
-    go true b same chosen = absurd (cc)
-    go false true same chosen = ap (λ w. w ∷ []) ((bytes_eq-Decides word (codes "run")).0 same)
-    go false false same chosen = absurd (cc)
+    go : (a b c : Bool) → bytes_eq word (codes "run") ≡ b
+        → cond a (Some Replay) (cond b (Some Run) (cond c (Some Check) None)) ≡ Some Run → word ∷ [] ≡ run_words
+    go true b c same chosen = absurd (cc)
+    go false true c same chosen = ap (λ w. w ∷ []) ((bytes_eq-Decides word (codes "run")).0 same)
+    go false false true same chosen = absurd (cc)
+    go false false false same chosen = absurd (cc)
 run_alone (word ∷ first ∷ []) is = absurd (cc)
 run_alone (word ∷ first ∷ second ∷ []) is =
     absurd (no_run_chosen (bytes_eq word (codes "storm")) first second is)

@@ -44,7 +44,8 @@ no_seed None = refl
 
 one_word : (word : List ℕ) (a : Bool) → is_flag word ≡ a → (a || false) ≡ true → command (word ∷ []) ≡ None
 one_word word true flag some =
-    rw (other_text word (codes "replay") flag refl, other_text word (codes "run") flag refl) refl
+    rw (other_text word (codes "replay") flag refl, other_text word (codes "run") flag refl, other_text word (codes "check") flag refl)
+    refl
 one_word word false flag some = absurd (true≢false (sym some))
 
 three_words : (word n seed : List ℕ) (a b c : Bool) → is_flag word ≡ a → is_flag n ≡ b → is_flag seed ≡ c

@@ -10,7 +10,7 @@ use Rattle.clap.specs.declared.parser.matches.ArgMatches.{ArgMatches}
 use Rattle.clap.specs.declared.parser.matches.ArgMatches.TheViews.{out-ArgMatches, out-SubCommand}
 use Rattle.clap.specs.declared.parser.matches.SubCommand.{SubCommand}
 use Rattle.command_words.specs.declared.command.Command.{Command}
-use Rattle.command_words.specs.declared.command.Command.TheVariants.{Replay, Run}
+use Rattle.command_words.specs.declared.command.Command.TheVariants.{Replay, Run, Check}
 use Rattle.command_words.specs.Line.{met, storm_asked}
 
 -- the storm of the words that were found
@@ -21,9 +21,9 @@ met_in : {Z : Type 0} (name : Text) (rows : List Row) (s : Option (Box SubComman
     → Some name ≡ option_map (λ b. (out-SubCommand (box_value b)).name.now) s
     → Some rows ≡ option_map (λ p. p.1) (subcommand_rows s)
     → bytes_eq name (codes "replay") ≡ false → bytes_eq name (codes "run") ≡ false
-    → asked rows ≡ met (subcommand_rows s)
-met_in name rows None is_name is_rows other no_run = absurd (cc)
-met_in name rows (Some b) is_name is_rows other no_run =
+    → bytes_eq name (codes "check") ≡ false → asked rows ≡ met (subcommand_rows s)
+met_in name rows None is_name is_rows other no_run no_check = absurd (cc)
+met_in name rows (Some b) is_name is_rows other no_run no_check =
     let sub = out-SubCommand (box_value b) in
     let same_name : name ≡ sub.name.now = cc in
     let same_rows : rows ≡ rows_of (found_of sub.matches) = cc in
@@ -31,13 +31,17 @@ met_in name rows (Some b) is_name is_rows other no_run =
     ap (λ t. bytes_eq t (codes "replay")) (sym same_name) ∙ other in
     let not_run : bytes_eq sub.name.now (codes "run") ≡ false =
     ap (λ t. bytes_eq t (codes "run")) (sym same_name) ∙ no_run in
+    let not_check : bytes_eq sub.name.now (codes "check") ≡ false =
+    ap (λ t. bytes_eq t (codes "check")) (sym same_name) ∙ no_check in
+    let found : Option Command = asked (rows_of (found_of sub.matches)) in
     ap asked same_rows
-    ∙ ap₂ (λ b c. cond b (Some Replay) (cond c (Some Run) (asked (rows_of (found_of sub.matches)))))
-    (sym no_replay) (sym not_run)
+    ∙ (ap (λ d. cond d (Some Check) found) (sym not_check)
+    ∙ ap₂ (λ b c. cond b (Some Replay) (cond c (Some Run) (cond (bytes_eq sub.name.now (codes "check")) (Some Check) found)))
+    (sym no_replay) (sym not_run))
 
--- a subcommand that is neither `replay` nor `run` is the storm of its two words
+-- a subcommand that is none of `replay`, `run` and `check` is the storm of its two words
 pub met_is : (name : Text) (rows : List Row) (m : ArgMatches) → Some name ≡ subcommand_name_of m
     → Some rows ≡ option_map (λ p. p.1) (subcommand_rows_of m)
     → bytes_eq name (codes "replay") ≡ false → bytes_eq name (codes "run") ≡ false
-    → asked rows ≡ met (subcommand_rows_of m)
+    → bytes_eq name (codes "check") ≡ false → asked rows ≡ met (subcommand_rows_of m)
 met_is name rows m = met_in name rows (out-ArgMatches m).subcommand

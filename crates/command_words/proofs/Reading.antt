@@ -1,4 +1,4 @@
--- What clap makes of the words of a command line: one of `replay`, `run` and `storm`, of whose words the
+-- What clap makes of the words of a command line: one of `replay`, `run`, `check` and `storm`, of whose words the
 -- shape alone is known.
 use Rattle.std.proofs.Common.{◌≡◌, ◌∙◌, ℕ, ◌==◌, Bool, cond, true, false, List, [], ◌∷◌, refl, sym, ap, ap₂, codes, option_map}
 use Rattle.std.proofs.Common.{◌||◌, Option, Some, None, fold, is_some, subst, true≢false, inl, inr}
@@ -308,6 +308,43 @@ run_fits (next ∷ more) plain =
     refused (codes "run" ∷ next ∷ more) kind.UnknownArgument [] (run_more next more p.0)
     (run_command next more)
 
+-- ---- check
+
+abbrev check_shape : Shape
+check_shape = unwrap_or (find (λ s. answers_to (codes "check") (label_of s)) app.subs) storm_line.top
+
+check_stops : (rest : List Text)
+    → walk app.top.rules names nothing_held (codes "check" ∷ rest) ≡ stopped_at (codes "check") rest
+unfolding clap_on_literals
+check_stops rest = sym (walk_stopped app.top.rules names begin (codes "check") [] rest)
+
+check_unfaulted : (rest : List Text)
+    → walk_fault app.top names begin (codes "check" ∷ rest) ≡ []
+unfolding clap_on_literals
+check_unfaulted rest = stopped_fault app.top names begin (codes "check", []) rest
+
+check_more : (next : Text) (more : List Text) → is_flag next ≡ false
+    → fault_of line (codes "check" ∷ next ∷ more) ≡ kind.UnknownArgument ∷ []
+unfolding clap_on_literals
+check_more next more plain = ap₂ from_walk (check_stops (next ∷ more)) (check_unfaulted (next ∷ more))
+    ∙ ap (λ turn. level app.top (stopped_at (codes "check") (next ∷ more)) true
+    (level check_shape (walk check_shape.rules [] nothing_held (next ∷ more)) false []
+    (or_else turn (walk_fault check_shape [] (walked check_shape.rules [] begin next) more))) [])
+    (stray_turn check_shape [] nothing_held 1 next refl plain)
+
+check_command : (next : Text) (more : List Text) → command (codes "check" ∷ next ∷ more) ≡ None
+check_command next [] = refl
+check_command next (third ∷ []) = refl
+check_command next (third ∷ fourth ∷ more) = refl
+
+check_fits : (rest : List Text) → list_any is_flag rest ≡ false → Fits (codes "check" ∷ rest)
+unfolding clap_on_literals
+check_fits [] plain = taken (codes "check" ∷ []) refl refl
+check_fits (next ∷ more) plain =
+    let p = neither (is_flag next) _ plain in
+    refused (codes "check" ∷ next ∷ more) kind.UnknownArgument [] (check_more next more p.0)
+    (check_command next more)
+
 -- ---- every other word
 
 same_either_way : (xs ys : Text) → bytes_eq xs ys ≡ bytes_eq ys xs
@@ -315,26 +352,33 @@ same_either_way xs ys = same_from_decides (bytes_eq xs ys) (bytes_eq ys xs) (byt
     (Decides-like (bytes_eq ys xs) sym sym (bytes_eq-Decides ys xs))
 
 other_command : (word : Text) (rest : List Text) → bytes_eq (codes "replay") word ≡ false
-    → bytes_eq (codes "run") word ≡ false → bytes_eq (codes "storm") word ≡ false
+    → bytes_eq (codes "run") word ≡ false → bytes_eq (codes "check") word ≡ false → bytes_eq (codes "storm") word ≡ false
     → command (word ∷ rest) ≡ None
-other_command word [] no_replay no_run no_storm =
-    rw (same_either_way word (codes "replay"), no_replay, same_either_way word (codes "run"), no_run) refl
-other_command word (n ∷ []) no_replay no_run no_storm = refl
-other_command word (n ∷ seed ∷ []) no_replay no_run no_storm =
+other_command word [] no_replay no_run no_check no_storm =
+    rw (
+      same_either_way word (codes "replay"),
+      no_replay,
+      same_either_way word (codes "run"),
+      no_run,
+      same_either_way word (codes "check"),
+      no_check,
+    ) refl
+other_command word (n ∷ []) no_replay no_run no_check no_storm = refl
+other_command word (n ∷ seed ∷ []) no_replay no_run no_check no_storm =
     rw (same_either_way word (codes "storm"), no_storm) refl
-other_command word (n ∷ seed ∷ next ∷ more) no_replay no_run no_storm = refl
+other_command word (n ∷ seed ∷ next ∷ more) no_replay no_run no_check no_storm = refl
 
 other_fits : (word : Text) (rest : List Text) → bytes_eq (codes "replay") word ≡ false
-    → bytes_eq (codes "run") word ≡ false → bytes_eq (codes "storm") word ≡ false
+    → bytes_eq (codes "run") word ≡ false → bytes_eq (codes "check") word ≡ false → bytes_eq (codes "storm") word ≡ false
     → is_flag word ≡ false → Fits (word ∷ rest)
 unfolding clap_on_literals
-other_fits word rest no_replay no_run no_storm plain =
-    let unnamed : find (answers_to word) names ≡ None = rw (no_replay, no_run, no_storm) refl in
+other_fits word rest no_replay no_run no_check no_storm plain =
+    let unnamed : find (answers_to word) names ≡ None = rw (no_replay, no_run, no_check, no_storm) refl in
     refused (word ∷ rest) kind.UnknownArgument (kind.InvalidSubcommand ∷ [])
     (ap (λ turn. from_walk (walk app.top.rules names nothing_held (word ∷ rest))
     (or_else turn (walk_fault app.top names (walked app.top.rules names begin word) rest)))
     (stray_turn app.top names nothing_held 1 word unnamed plain))
-    (other_command word rest no_replay no_run no_storm)
+    (other_command word rest no_replay no_run no_check no_storm)
 
 pub fits : (words : List Text) → list_any is_flag words ≡ false → Fits words
 unfolding clap_on_literals
@@ -345,17 +389,24 @@ fits (word ∷ rest) plain =
   where
     by_storm : (is_flag word ≡ false) × (list_any is_flag rest ≡ false)
         → bytes_eq (codes "replay") word ≡ false → bytes_eq (codes "run") word ≡ false
-        → (b : Bool) → bytes_eq (codes "storm") word ≡ b → Fits (word ∷ rest)
-    by_storm p no_replay no_run true is = subst (λ t. Fits (t ∷ rest)) ((bytes_eq-Decides (codes "storm") word).0 is)
+        → bytes_eq (codes "check") word ≡ false → (b : Bool) → bytes_eq (codes "storm") word ≡ b → Fits (word ∷ rest)
+    by_storm p no_replay no_run no_check true is = subst (λ t. Fits (t ∷ rest)) ((bytes_eq-Decides (codes "storm") word).0 is)
         (storm_fits rest p.1)
-    by_storm p no_replay no_run false is = other_fits word rest no_replay no_run is p.0
+    by_storm p no_replay no_run no_check false is = other_fits word rest no_replay no_run no_check is p.0
+
+    by_check : (is_flag word ≡ false) × (list_any is_flag rest ≡ false)
+        → bytes_eq (codes "replay") word ≡ false → bytes_eq (codes "run") word ≡ false
+        → (b : Bool) → bytes_eq (codes "check") word ≡ b → Fits (word ∷ rest)
+    by_check p no_replay no_run true is = subst (λ t. Fits (t ∷ rest)) ((bytes_eq-Decides (codes "check") word).0 is)
+        (check_fits rest p.1)
+    by_check p no_replay no_run false is = by_storm p no_replay no_run is (bytes_eq (codes "storm") word) refl
 
     by_run : (is_flag word ≡ false) × (list_any is_flag rest ≡ false)
         → bytes_eq (codes "replay") word ≡ false
         → (b : Bool) → bytes_eq (codes "run") word ≡ b → Fits (word ∷ rest)
     by_run p no_replay true is = subst (λ t. Fits (t ∷ rest)) ((bytes_eq-Decides (codes "run") word).0 is)
         (run_fits rest p.1)
-    by_run p no_replay false is = by_storm p no_replay is (bytes_eq (codes "storm") word) refl
+    by_run p no_replay false is = by_check p no_replay is (bytes_eq (codes "check") word) refl
 
     by_replay : (is_flag word ≡ false) × (list_any is_flag rest ≡ false)
         → (b : Bool) → bytes_eq (codes "replay") word ≡ b → Fits (word ∷ rest)

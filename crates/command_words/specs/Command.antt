@@ -4,7 +4,7 @@ use Rattle.std.specs.Prelude.{nat_le, nat_lt}
 use Rattle.std.specs.Str.{bytes_eq, all_ascii_digits}
 use Rattle.std.specs.Str.Parse.{digits_value}
 use Rattle.command_words.specs.declared.command.Command.{Command}
-use Rattle.command_words.specs.declared.command.Command.TheVariants.{Replay, Run, Storm}
+use Rattle.command_words.specs.declared.command.Command.TheVariants.{Replay, Run, Storm, Check}
 
 -- the word has 1 to 20 decimal digits and nothing else
 abbrev pub is_numeral : List ℕ → Bool
@@ -37,7 +37,8 @@ run_words = codes "run" ∷ []
 abbrev pub alone : List ℕ → Option Command
 alone word =
     if bytes_eq word (codes "replay") then Some Replay
-    else (if bytes_eq word (codes "run") then Some Run else None)
+    else (if bytes_eq word (codes "run") then Some Run
+    else (if bytes_eq word (codes "check") then Some Check else None))
 
 -- the command that the words ask for; every other list of words asks for none
 abbrev pub command : List (List ℕ) → Option Command

@@ -3,7 +3,7 @@ use Rattle.std.specs.Prelude.{◌==◌, Bool, List, Option, Some, None, codes, s
 use Rattle.std.specs.Str.{bytes_eq}
 use Rattle.clap.specs.Words.{App, Row, Rule, Text, first_of, new_app, new_rule, with_rule, with_subcommand}
 use Rattle.command_words.specs.declared.command.Command.{Command}
-use Rattle.command_words.specs.declared.command.Command.TheVariants.{Replay, Run}
+use Rattle.command_words.specs.declared.command.Command.TheVariants.{Replay, Run, Check}
 use Rattle.command_words.specs.Command.{storm}
 
 -- the word begins with a hyphen
@@ -30,10 +30,12 @@ program = record (new_app (codes "busdma_run")) {
   };
 }
 
--- the program and its three commands
+-- the program and its four commands
 abbrev pub line : App
 line = with_subcommand
+    (with_subcommand
     (with_subcommand (with_subcommand program (new_app (codes "replay")).top) (new_app (codes "run")).top)
+    (new_app (codes "check")).top)
     storm_line.top
 
 -- the storm of two words that may have been given
@@ -48,4 +50,5 @@ met None = None
 met (Some found) =
     if bytes_eq found.0 (codes "replay") then Some Replay
     else (if bytes_eq found.0 (codes "run") then Some Run
-    else storm_asked (first_of (codes "N") found.1) (first_of (codes "SEED") found.1))
+    else (if bytes_eq found.0 (codes "check") then Some Check
+    else storm_asked (first_of (codes "N") found.1) (first_of (codes "SEED") found.1)))

@@ -21,6 +21,8 @@ pub enum Command {
     Run,
     /// Makes the storm of `n` rounds of each driver and a seed, replays it and writes its summary.
     Storm { n: u32, seed: u64 },
+    /// Reads a scenario and a printed report, and writes the verdict on it.
+    Check,
 }
 
 /// The storm that two words ask for.
@@ -39,6 +41,7 @@ fn met(matches: &ArgMatches) -> Option<Command>
     match matches.subcommand()? {
         ("replay", _) => Some(Command::Replay),
         ("run", _) => Some(Command::Run),
+        ("check", _) => Some(Command::Check),
         (_, storm) => storm_of(storm.get_str("N"), storm.get_str("SEED")),
     }
 }

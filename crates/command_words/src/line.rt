@@ -28,5 +28,6 @@ pub(crate) fn command_line<'a>(alloc: Global) -> Result<Command<'a>, AllocError>
         .subcommand_required(true)
         .subcommand(Command::new(alloc, "replay"))?
         .subcommand(Command::new(alloc, "run"))?
+        .subcommand(Command::new(alloc, "check"))?
         .subcommand(storm)
 }

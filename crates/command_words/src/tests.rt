@@ -21,6 +21,7 @@ fn asks_for_a_command(rt: HostRuntime) -> Result<(), Fail> {
     let alloc = rt.alloc();
     assert_eq!(rt; asked(alloc, &["replay"])?, Some(Command::Replay));
     assert_eq!(rt; asked(alloc, &["run"])?, Some(Command::Run));
+    assert_eq!(rt; asked(alloc, &["check"])?, Some(Command::Check));
     let table: [(&str, &str, u32, u64); 5] = [
         ("1", "1", 1, 1),
         ("01", "01", 1, 1),
@@ -38,7 +39,7 @@ fn asks_for_a_command(rt: HostRuntime) -> Result<(), Fail> {
 #[test]
 fn asks_for_none(rt: HostRuntime) -> Result<(), Fail> {
     let alloc = rt.alloc();
-    let lists: [&[&str]; 36] = [
+    let lists: [&[&str]; 39] = [
         &[],
         &[""],
         &["help"],
@@ -49,6 +50,9 @@ fn asks_for_none(rt: HostRuntime) -> Result<(), Fail> {
         &["run", "replay"],
         &["run", "-h"],
         &["run", "1", "1"],
+        &["Check"],
+        &["check", "x"],
+        &["check", "run"],
         &["Replay"],
         &["replay", "x"],
         &["replay", "replay"],

@@ -4,7 +4,7 @@ use Rattle.json_fields.specs.declared.refusal.LimitName.{LimitName}
 use Rattle.json_fields.specs.declared.refusal.LimitName.TheVariants as limit
 use Rattle.json_fields.specs.declared.refusal.RefusalKind.{RefusalKind}
 use Rattle.json_fields.specs.declared.refusal.RefusalKind.TheVariants.{NotJson, BadField, BadFlag, BadOp, Limit}
-use Rattle.json_fields.specs.declared.refusal.RefusalKind.TheVariants.{FrameTwice, FrameAbsent, UnknownName}
+use Rattle.json_fields.specs.declared.refusal.RefusalKind.TheVariants.{FrameTwice, FrameAbsent, UnknownName, BadHeader}
 use Rattle.json_fields.specs.declared.refusal.Refusal.{Refusal}
 
 -- a limit's name
@@ -31,6 +31,7 @@ kind_text (Limit name) = codes "Limit(" ++ limit_text name ++ codes ")"
 kind_text FrameTwice = codes "FrameTwice"
 kind_text FrameAbsent = codes "FrameAbsent"
 kind_text UnknownName = codes "UnknownName"
+kind_text BadHeader = codes "BadHeader"
 
 -- a space and the path, where there is one
 abbrev pub behind_space : List ℕ → List ℕ

@@ -53,6 +53,8 @@ pub enum RefusalKind {
     FrameAbsent,
     /// A name is used that no operation before made as a thing that can be used so.
     UnknownName,
+    /// The input of a check does not begin with the number of a scenario's bytes, or has fewer.
+    BadHeader,
 }
 
 /// The text of a path.
@@ -106,6 +108,7 @@ impl fmt::Display for RefusalKind {
             RefusalKind::FrameTwice => write!(f, "FrameTwice"),
             RefusalKind::FrameAbsent => write!(f, "FrameAbsent"),
             RefusalKind::UnknownName => write!(f, "UnknownName"),
+            RefusalKind::BadHeader => write!(f, "BadHeader"),
         }
     }
 }

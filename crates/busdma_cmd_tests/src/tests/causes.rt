@@ -13,7 +13,7 @@ use std::thread::Threads;
 #[test]
 fn words_come_first(rt: HostRuntime) -> Result<(), Fail> {
     let alloc = rt.alloc();
-    let lists: [&[&str]; 16] = [
+    let lists: [&[&str]; 17] = [
         &[],
         &["help"],
         &["Run"],
@@ -21,6 +21,7 @@ fn words_come_first(rt: HostRuntime) -> Result<(), Fail> {
         &["--replay"],
         &["Replay"],
         &["run", "x"],
+        &["check", "x"],
         &["replay", "x"],
         &["storm", "1"],
         &["storm", "0", "1"],
@@ -115,10 +116,11 @@ fn a_replay_reads_so_many_bytes_at_the_most(rt: HostRuntime) -> Result<(), Fail>
 }
 
 #[test]
-fn a_run_reads_so_many_bytes_at_the_most(rt: HostRuntime) -> Result<(), Fail> {
+fn others_read_so_many_bytes_at_the_most(rt: HostRuntime) -> Result<(), Fail> {
     let alloc = rt.alloc();
-    for (count, want) in [(16_777_216, 65), (16_777_217, 66)] {
-        ends_by_length(&rt, alloc, "run", count, want)?;
+    for word in ["run", "check"] {
+        ends_by_length(&rt, alloc, word, 16_777_216, 65)?;
+        ends_by_length(&rt, alloc, word, 16_777_217, 66)?;
     }
     Ok(())
 }
@@ -136,6 +138,9 @@ fn fails_with_each_read(rt: HostRuntime) -> Result<(), Fail> {
         ("run", 0, 74),
         ("run", 3, 74),
         ("run", 4, 65),
+        ("check", 0, 74),
+        ("check", 3, 74),
+        ("check", 4, 65),
     ];
     for (word, call_number, want) in table {
         let from = Edge {

@@ -26,7 +26,7 @@ fn tells_why(rt: HostRuntime) -> Result<(), Fail> {
     let line = fault_line(alloc, &plain(64))?.expect(&rt, "a line");
     assert_eq!(rt;
         line.as_slice(),
-        b"usage: busdma_run replay | run | storm N SEED".as_slice()
+        b"usage: busdma_run replay | run | storm N SEED | check".as_slice()
     );
     let line = fault_line(alloc, &plain(66))?.expect(&rt, "a line");
     assert_eq!(rt;
@@ -46,11 +46,16 @@ fn tells_why(rt: HostRuntime) -> Result<(), Fail> {
 #[test]
 fn tells_the_refusal(rt: HostRuntime) -> Result<(), Fail> {
     let alloc = rt.alloc();
-    let table: [(RefusalKind, &str, &[u8]); 3] = [
+    let table: [(RefusalKind, &str, &[u8]); 4] = [
         (
             RefusalKind::NotJson,
             "",
             b"busdma_run: bad scenario: NotJson",
+        ),
+        (
+            RefusalKind::BadHeader,
+            "",
+            b"busdma_run: bad scenario: BadHeader",
         ),
         (
             RefusalKind::Limit(LimitName::Drivers),

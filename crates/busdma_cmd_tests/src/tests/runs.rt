@@ -1,7 +1,8 @@
 //! Drivers on threads. Where the threads decide the order, any legal journal is right: it is judged by
-//! a replay in its own order, which has to give it again. Where one driver has all the steps, the
+//! a check, and by a replay in its own order, which has to give it again. Where one driver has all the steps, the
 //! report is worked out by hand.
 
+use super::checks::judges;
 use super::{WHOLE, call, gives};
 use std::alloc::{AllocError, Global};
 use std::process::Abort;
@@ -71,6 +72,7 @@ fn three_drivers_contend(rt: HostRuntime) -> Result<(), Fail> {
             assert!(rt; waited <= 1, "{report}");
             assert_eq!(rt; lines_with(report, called.as_str()), waited, "{report}");
         }
+        judges(&rt, alloc, THREE, report, "yes\n")?;
         let again = in_order(alloc, THREE, report)?;
         gives(&rt, alloc, "replay", again.as_str(), report, 0)?;
     }

@@ -1,0 +1,99 @@
+//! The command that judges a printed journal.
+
+ghost use Rattle.std.specs.Prelude.{◌≡◌, IfOk, string_bytes};
+ghost use Rattle.busdma_cmd.specs.Checks as spec;
+ghost use Rattle.busdma_cmd.specs.Judging as judging;
+ghost use Rattle.busdma_cmd.specs.Checks.{ChecksBy, Judges, ReadsVerdict, checked_outcome};
+ghost use Rattle.busdma_cmd.specs.Edges.{edges};
+ghost use Rattle.busdma_cmd.specs.Ends.{CountsReads};
+
+use crate::cause::Cause;
+use crate::command::{INPUT_LIMIT, outcome_of};
+use crate::outcome::Outcome;
+use io_edge::{Input, Sink, Source, read_up_to, write_all};
+use journal_check::{Verdict, check_text, cut_of};
+use scenario_read::{PathText, Reading, Refusal, RefusalKind, scenario_of};
+use std::alloc::{AllocError, Global};
+
+/// The refusal of an input without a right header, which has no path.
+fn bad_header(alloc: Global) -> Refusal
+    ensures { result ≡ judging.bad_header }
+{
+    Refusal {
+        kind: RefusalKind::BadHeader,
+        path: PathText::new(String::new(alloc)),
+    }
+}
+
+/// The verdict on an input. Its header is judged before its scenario.
+fn judge(alloc: Global, input: &[u8]) -> Result<Verdict, Cause>
+    ensures { Judges input.now result }
+{
+    let Some((scenario, report)) = cut_of(input) else {
+        return Err(Cause::Refused(bad_header(alloc)));
+    };
+    match scenario_of(alloc, scenario)? {
+        Reading::Good(scenario) => Ok(check_text(alloc, &scenario, report)?),
+        Reading::Bad(refusal) => Err(Cause::Refused(refusal)),
+    }
+}
+
+/// The verdict on all that the source has.
+fn read_verdict<S: Source>(alloc: Global, source: &mut S) -> Result<Verdict, Cause>
+    ensures reads { ReadsVerdict (S.left source.old) (S.left source.new) result }
+    ensures faults { CountsReads (S.faults source.old) (S.faults source.new) result }
+{
+    match read_up_to(alloc, source, INPUT_LIMIT)? {
+        Input::Whole(bytes) => judge(alloc, &bytes),
+        Input::TooLong => Err(Cause::TooLong),
+        Input::Failed => Err(Cause::ReadFailed),
+    }
+}
+
+/// The line of a verdict, with its line feed.
+fn verdict_line(alloc: Global, verdict: &Verdict) -> Result<String, AllocError>
+    ensures { IfOk result (λ line. string_bytes line ≡ spec.verdict_line verdict.now) }
+{
+    match verdict {
+        Verdict::Yes(_) => String::from_str(alloc, "yes\n"),
+        Verdict::No(number) => format!(in alloc; "no {number}\n"),
+    }
+}
+
+/// Reads a header, a scenario and a printed journal, and writes the verdict's line.
+pub(crate) fn check_input<S: Source, K: Sink>(
+    alloc: Global,
+    source: &mut S,
+    sink: &mut K,
+) -> Result<Verdict, Cause>
+    ensures ends { ChecksBy
+        (edges S.left S.faults K.held K.faults source.old source.new sink.old sink.new)
+        result }
+    ensures faults { CountsReads (S.faults source.old) (S.faults source.new) result }
+{
+    let verdict = read_verdict(alloc, source)?;
+    let line = verdict_line(alloc, &verdict)?;
+    match write_all(sink, line.as_bytes()) {
+        Ok(()) => Ok(verdict),
+        Err(_) => Err(Cause::LineUnwritten),
+    }
+}
+
+/// The outcome of a check.
+pub(crate) fn outcome_of_check(checked: Result<Verdict, Cause>) -> Outcome
+    ensures { result ≡ checked_outcome checked }
+{
+    match checked {
+        Ok(Verdict::Yes(journal)) => Outcome {
+            status: 0,
+            journal: Some(journal),
+            fault: None,
+        },
+        Ok(Verdict::No(_)) => Outcome {
+            status: 1,
+            journal: None,
+            fault: None,
+        },
+        Err(why) => outcome_of(Err(why)),
+    }
+}

@@ -1,0 +1,14 @@
+pub mod Actors
+pub mod Alike
+pub mod Digits
+pub mod EntryLines
+pub mod Finding
+pub mod FirstLine
+pub mod Headers
+pub mod Judging
+pub mod Lines
+pub mod NextLine
+pub mod Steps
+pub mod Trying
+pub mod Verdicts
+pub mod Words

@@ -1,0 +1,16 @@
+-- What verdicts mean.
+use Rattle.std.specs.Prelude.{◌≡◌, ℕ, ◌+◌, List, take}
+use Rattle.busdma_base.specs.declared.journals.journal.Journal.{Journal}
+use Rattle.busdma_base.specs.declared.scenarios.scenario.Scenario.{Scenario}
+use Rattle.report_text.specs.Report.{report}
+use Rattle.journal_check.specs.Lines.{lines}
+use Rattle.ideal_world.specs.Legal.{IsLegal}
+
+-- the text has the first lines of a legal journal's report up to the line before this one, and with this one of none
+pub record BreaksAt (s : Scenario) (text : List ℕ) (number : ℕ) : Type 0 where
+  pub before : ℕ
+  pub place : number ≡ before + 1
+  pub journal : Journal
+  pub legal : IsLegal s journal
+  pub same : take before (lines text) ≡ take before (lines (report s journal))
+  pub breaks : (j : Journal) → IsLegal s j → take number (lines text) ≡ take number (lines (report s j)) → ⊥

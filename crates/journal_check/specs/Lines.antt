@@ -1,0 +1,13 @@
+-- A text cut into lines.
+use Rattle.std.specs.Prelude.{ℕ, ◌==◌, List, [], ◌∷◌, if◌then◌else◌}
+use Rattle.std.specs.List.{common_prefix_len, onto_first}
+use Rattle.std.specs.Str.{bytes_eq}
+
+-- the lines of a text, each with the line feed behind which it is cut; a last piece without one is a line as well
+abbrev pub lines : List ℕ → List (List ℕ)
+lines [] = []
+lines (b ∷ bs) = if b == 10 then (b ∷ []) ∷ lines bs else onto_first b (lines bs)
+
+-- with how many lines two lists begin alike
+abbrev pub alike : List (List ℕ) → List (List ℕ) → ℕ
+alike xs ys = common_prefix_len bytes_eq xs ys
