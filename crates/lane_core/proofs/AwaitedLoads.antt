@@ -1,5 +1,5 @@
 -- A load that waits, as the ideal driver sees it: the bytes that it names are reached whatever memories come and go.
-use Rattle.std.proofs.Common.{◌≡◌, ℕ, true, Bool, List, Option, Some, None, is_some, refl, sym, ap, ◌∙◌, subst}
+use Rattle.std.proofs.Common.{◌≡◌, ℕ, true, List, Option, Some, None, is_some, refl, sym, ap, ◌∙◌, subst}
 use Rattle.std.proofs.Common.{IfSome, unwrap_or}
 use Rattle.std.specs.List.{AllByRecursion}
 use Rattle.std.specs.FinMap.{get}
@@ -13,17 +13,17 @@ use Rattle.busdma_base.specs.Scenarios.Buffers.{IsBioOf}
 use Rattle.dma_map.specs.declared.room.LoadRoom.{LoadRoom}
 use Rattle.dma_map.specs.MapView as held
 use Rattle.load_bio.specs.Bio.{is_rounded}
-use Rattle.loan_table.specs.Loans.{Loan, new_loan}
+use Rattle.loan_table.specs.Loans.{new_loan}
 use Rattle.phys_memory.specs.Translation.{Translation, missing, physical_or_0, unreached}
 use Rattle.segment_build.specs.Chunks.{chunks_of}
 use Rattle.busdma_machine.specs.declared.machine.chunk.Entry.{Entry}
 use Rattle.ideal_lane.specs.Loads.{is_coherent, limits_of, load_entries, load_judged, load_translation, no_limits}
 use Rattle.ideal_lane.specs.Standing.{IsPageless, Stands}
-use Rattle.ideal_lane.specs.State.{LaneMap, LaneMemory, LaneState, LaneTag, Waiting}
+use Rattle.ideal_lane.specs.State.{LaneMap, LaneMemory, LaneState, LaneTag}
 use Rattle.ideal_wire.specs.Laid.{AreInPages, AreLaid, is_loadable}
 use Rattle.ideal_wire.specs.Machine.{IsInMachine}
 use Rattle.ideal_wire.proofs.Asked.{all-fine, all-map, all-of, direct-bytes, of-pages, pages-entries}
-use Rattle.ideal_wire.proofs.Bios.{AreOfPages, IsOfPages, bio-paged, bio_places, pages-own, with-pages}
+use Rattle.ideal_wire.proofs.Bios.{IsOfPages, bio-paged, bio_places, pages-own, with-pages}
 use Rattle.ideal_wire.proofs.MemoryLoads.{memory-ready}
 use Rattle.ideal_wire.proofs.Reaching.{entries-bytes}
 use Rattle.lane_core.specs.declared.holdings.Holdings.{Holdings}
@@ -32,7 +32,7 @@ use Rattle.lane_core.specs.declared.kept.KeptMap.{KeptMap}
 use Rattle.lane_core.specs.declared.kept.KeptTag.{KeptTag}
 use Rattle.lane_core.specs.Awaiting.{IsAwaiting, awaited, kept_load, limits_at, page_entries}
 use Rattle.lane_core.specs.Ideal.{ideal_of}
-use Rattle.lane_core.specs.Kept.{map_of, memory_of, stage_of, tag_of, waits_of}
+use Rattle.lane_core.specs.Kept.{map_of, memory_of, stage_of, tag_of}
 use Rattle.lane_core.specs.Loading.{AreOfMap, HasRoomForAny, IsLoadable, bio_chunks, bio_of, bio_reached, load_loan}
 use Rattle.lane_core.proofs.Called.{load-kept}
 use Rattle.lane_core.proofs.MapValues.{get-map_values, image-none, image-some}

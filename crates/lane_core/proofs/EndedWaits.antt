@@ -23,7 +23,7 @@ use Rattle.lane_core.specs.SmallLoads.{HasSmallLoads, bytes_ahead}
 use Rattle.lane_core.specs.Changes.{KeepsButMaps, KeepsBytesBut}
 use Rattle.lane_core.specs.Covered.{is_idle_map, pages_due}
 use Rattle.lane_core.specs.Ideal.{given, ideal_of}
-use Rattle.lane_core.specs.Kept.{map_of, memory_of, stage_of, waits_of}
+use Rattle.lane_core.specs.Kept.{map_of, stage_of, waits_of}
 use Rattle.lane_core.specs.Loading.{AreItsFirst, HasRoomForAny, IsLoadable, bio_chunks, bio_of, bio_reached}
 use Rattle.lane_core.specs.Loading.{load_loan, map_chunks}
 use Rattle.lane_core.proofs.Asked.{plain-chunks}

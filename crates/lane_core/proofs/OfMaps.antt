@@ -9,10 +9,9 @@ use Rattle.busdma_machine.specs.Bounce.MemoryRuns.{in_run}
 use Rattle.busdma_base.specs.declared.scenarios.scenario.PageRun.{PageRun}
 use Rattle.busdma_base.specs.Scenarios.PageRuns.{is_own}
 use Rattle.loan_table.specs.declared.position.Position.{Position}
-use Rattle.loan_table.specs.Loans.{Loan, Loans, loan_of, new_loan, no_loan, unlent}
+use Rattle.loan_table.specs.Loans.{Loan, Loans, new_loan, no_loan, unlent}
 use Rattle.loan_table.specs.Table.{IsSame, Table}
 use Rattle.ideal_lane.proofs.Lookups.{get_cut, get_put}
-use Rattle.ideal_lane.specs.State.{LaneState}
 use Rattle.ideal_wire.specs.Laid.{is_loadable}
 use Rattle.lane_core.specs.declared.holdings.Holdings.{Holdings}
 use Rattle.lane_core.specs.declared.kept.KeptMemory.{KeptMemory}

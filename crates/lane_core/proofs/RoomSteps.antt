@@ -1,6 +1,5 @@
 -- A driver after room was taken for a memory.
 use Rattle.std.proofs.Common.{◌≡◌, ℕ, Option, is_some, refl, sym, ap, ◌∙◌}
-use Rattle.std.specs.FinMap.{get}
 use Rattle.phys_memory.specs.Memory.{wire}
 use Rattle.lane_core.specs.declared.holdings.Holdings.{Holdings}
 use Rattle.lane_core.specs.Changes.{KeepsBesideMemory, KeepsBytes, KeepsState}

@@ -9,7 +9,6 @@ use Rattle.lane_core.proofs.CpuWrites.{cpu_write-absent, cpu_write-done, cpu_wri
 use Rattle.lane_core.proofs.CpuWrites.{cpu_write-wire, wire-idle}
 use Rattle.lane_core.proofs.Marks.{has_set_all}
 use Rattle.lane_core.proofs.Reaching.{same-physical, same-placed, same-standing}
-use Rattle.std.proofs.Common.{refl}
 use Rattle.lane_core.proofs.Awaiting.{still-awaiting, still-ready}
 use Rattle.lane_core.proofs.holdings.Holdings.cpu_write.Goals as goal
 

@@ -18,7 +18,6 @@ use Rattle.lane_core.specs.MapValues.{map_values}
 use Rattle.lane_core.proofs.Doors.{allowed-asks, done-asks}
 use Rattle.lane_core.proofs.MapSteps.{map-created}
 use Rattle.lane_core.proofs.MapValues.{image-some}
-use Rattle.std.proofs.Common.{refl}
 use Rattle.lane_core.proofs.holdings.Holdings.create_map.Goals as goal
 
 pub create_map-requires : goal.create_map-requires

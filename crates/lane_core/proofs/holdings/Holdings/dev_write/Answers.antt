@@ -18,7 +18,7 @@ use Rattle.lane_core.proofs.Reaching.{same-physical, same-placed, same-standing}
 use Rattle.lane_core.proofs.Repaging.{are-maps}
 use Rattle.std.proofs.Common.{refl}
 use Rattle.dma_map.specs.MapView.{waiting_load}
-use Rattle.lane_core.proofs.Awaiting.{put-awaiting, still-awaiting, still-ready}
+use Rattle.lane_core.proofs.Awaiting.{put-awaiting, still-ready}
 use Rattle.lane_core.proofs.holdings.Holdings.dev_write.Goals as goal
 
 pub returns-in-Some-past_end-clause-done : goal.returns-in-Some-past_end-clause-done

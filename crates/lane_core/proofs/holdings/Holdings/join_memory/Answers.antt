@@ -1,4 +1,4 @@
-use Rattle.std.proofs.Common.{◌≡◌, ℕ, ◌*◌, true, false, Option, Some, None, is_some, refl, sym, ap, ◌∙◌, subst, arith}
+use Rattle.std.proofs.Common.{◌≡◌, ℕ, ◌*◌, true, false, None, refl, sym, ap, ◌∙◌, subst, arith}
 use Rattle.std.specs.FinMap.{contains_key, get, insert}
 use Rattle.busdma_machine.specs.Bounce.MemoryRuns.{frames_from, in_run}
 use Rattle.busdma_machine.specs.Runs.{run_of}
@@ -13,7 +13,6 @@ use Rattle.lane_core.specs.Kept.{memory_of}
 use Rattle.lane_core.specs.MapValues.{map_values}
 use Rattle.lane_core.proofs.Joining.{frames-new, held-joined, joined-covered, joined-framed, joined-known, joined-own}
 use Rattle.lane_core.proofs.Joining.{joined-placed, joined-reaches, joined-standing, marks-new, run-low}
-use Rattle.lane_core.proofs.KeptMemories.{put-away}
 use Rattle.lane_core.proofs.MapValues.{map_values-insert}
 use Rattle.lane_core.proofs.Awaiting.{still-awaiting, still-ready}
 use Rattle.lane_core.specs.Awaiting.{AreOfMaps}

@@ -2,7 +2,6 @@ use Rattle.std.proofs.Common.{◌≡◌, ◌+◌, ◌≤◌, Some, true, refl, s
 use Rattle.std.specs.FinMap.{get, insert}
 use Rattle.ideal_lane.specs.State.{Idle, LaneMap}
 use Rattle.lane_core.specs.declared.kept.KeptMap.{KeptMap}
-use Rattle.lane_core.specs.Awaiting.{kept_load}
 use Rattle.lane_core.specs.Covered.{is_idle_map, pages_due}
 use Rattle.lane_core.specs.Held.{devices_of, held}
 use Rattle.lane_core.specs.Ideal.{ideal_of}
@@ -11,7 +10,7 @@ use Rattle.lane_core.specs.MapValues.{map_values}
 use Rattle.lane_core.proofs.Bytes.{devices-put, held-alike}
 use Rattle.lane_core.proofs.Keeping.{idle-map, idle-stands, idle-state}
 use Rattle.lane_core.proofs.Loaded.{loans-stay, maps-staged}
-use Rattle.lane_core.proofs.MapTables.{AreMaps, maps-of, told-put}
+use Rattle.lane_core.proofs.MapTables.{AreMaps, maps-of}
 use Rattle.lane_core.proofs.MapValues.{image-some, map_values-insert}
 use Rattle.lane_core.proofs.Awaiting.{idle-unkept, put-awaiting}
 use Rattle.lane_core.specs.Awaiting.{AreAwaiting}

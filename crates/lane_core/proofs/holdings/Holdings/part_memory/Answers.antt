@@ -9,7 +9,6 @@ use Rattle.lane_core.specs.Ideal.{ideal_of}
 use Rattle.lane_core.specs.Kept.{memory_of}
 use Rattle.lane_core.specs.MapValues.{map_values}
 use Rattle.lane_core.proofs.Keeping.{idle-unloaded, on-some}
-use Rattle.lane_core.proofs.KeptMemories.{cut-away}
 use Rattle.lane_core.proofs.MapValues.{map_values-remove}
 use Rattle.lane_core.proofs.Parting.{held-parted, part-frames, part-free, part-low, part-marks, part-unprepared}
 use Rattle.lane_core.proofs.Parting.{part-whole, parted-covered, parted-framed, parted-known, parted-own}

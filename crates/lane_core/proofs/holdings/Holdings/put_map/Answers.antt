@@ -13,8 +13,6 @@ use Rattle.lane_core.proofs.Bytes.{devices-put, held-alike}
 use Rattle.lane_core.proofs.Keeping.{idle-map}
 use Rattle.lane_core.proofs.MapTables.{AreMaps, maps-new, maps-of}
 use Rattle.lane_core.proofs.MapValues.{map_values-insert}
-use Rattle.dma_map.specs.MapView.{waiting_load}
-use Rattle.lane_core.specs.Awaiting.{kept_load}
 use Rattle.lane_core.proofs.Awaiting.{idle-unkept, put-awaiting}
 use Rattle.lane_core.specs.Awaiting.{AreAwaiting}
 use Rattle.lane_core.proofs.holdings.Holdings.put_map.Goals as goal

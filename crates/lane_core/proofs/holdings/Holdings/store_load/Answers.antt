@@ -9,7 +9,6 @@ use Rattle.dma_map.specs.MapView.{loaded}
 use Rattle.loan_table.specs.Loans.{loan_of, new_loan, no_loan}
 use Rattle.ideal_lane.specs.State.{LaneMap, Loaded}
 use Rattle.lane_core.specs.declared.kept.KeptMap.{KeptMap}
-use Rattle.lane_core.specs.Awaiting.{kept_load}
 use Rattle.lane_core.specs.Covered.{has_load, is_idle_map, pages_due}
 use Rattle.lane_core.specs.Held.{devices_of, held}
 use Rattle.lane_core.specs.Ideal.{ideal_of}
@@ -18,7 +17,7 @@ use Rattle.lane_core.specs.MapValues.{map_values}
 use Rattle.lane_core.proofs.Bytes.{devices-elsewhere}
 use Rattle.lane_core.proofs.Keeping.{idle-map, idle-state}
 use Rattle.lane_core.proofs.Loaded.{held-loaded, loans-more, maps-staged, none-loaned}
-use Rattle.lane_core.proofs.MapTables.{AreMaps, maps-of, told-put}
+use Rattle.lane_core.proofs.MapTables.{AreMaps, maps-of}
 use Rattle.lane_core.proofs.MapValues.{image-some, map_values-insert}
 use Rattle.lane_core.proofs.Awaiting.{awaiting-put, less-other}
 use Rattle.lane_core.specs.Awaiting.{AreAwaiting, AreOfMaps}

@@ -9,7 +9,7 @@ use Rattle.dma_map.specs.MapView.{chunks_of}
 use Rattle.dma_tag.specs.SyncOps.{is_mixed, postread, prewrite}
 use Rattle.loan_table.specs.Lending.{lost, sync_answer}
 use Rattle.loan_table.specs.Lending as lending
-use Rattle.loan_table.specs.Table.{AreIn, IsSame, IsSynced, set_all}
+use Rattle.loan_table.specs.Table.{AreIn, IsSynced, set_all}
 use Rattle.ideal_lane.specs.Syncs.{counted, has_byte_of, sync_part}
 use Rattle.ideal_wire.specs.WireStep as wires
 use Rattle.ideal_wire.specs.WireStep.{if_done}
@@ -26,7 +26,7 @@ use Rattle.lane_core.proofs.Reaching.{same-physical, same-placed, same-standing}
 use Rattle.lane_core.proofs.Syncing.{are-synced, part-done, part-wire}
 use Rattle.std.proofs.Common.{refl}
 use Rattle.dma_map.specs.MapView.{waiting_load}
-use Rattle.lane_core.proofs.Awaiting.{put-awaiting, still-awaiting, still-ready}
+use Rattle.lane_core.proofs.Awaiting.{put-awaiting, still-ready}
 use Rattle.lane_core.proofs.holdings.Holdings.sync_part.Goals as goal
 
 pub copy_part-requires-clause-bounced : goal.copy_part-requires-clause-bounced

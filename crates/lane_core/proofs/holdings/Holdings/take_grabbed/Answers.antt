@@ -1,4 +1,4 @@
-use Rattle.std.proofs.Common.{◌≡◌, ℕ, List, [], ◌∷◌, length, None, refl, sym, ap, ◌∙◌, subst}
+use Rattle.std.proofs.Common.{◌≡◌, ℕ, List, [], ◌∷◌, length, refl, sym, ap, ◌∙◌, subst}
 use Rattle.std.specs.FinMap.{get}
 use Rattle.busdma_machine.specs.declared.bounce.door.Grabbed.{Grabbed}
 use Rattle.busdma_machine.specs.declared.bounce.door.Grabbed.TheVariants.{Granted}
