@@ -3,11 +3,7 @@
 use super::{Edge, WHOLE, call, words_of};
 use busdma_cmd::{is_run, plain_command};
 use io_edge::{Input, MemSink, MemSource, read_up_to};
-use std::alloc::Global;
-use std::process::Abort;
-use std::sync::Wait;
 use std::test::Fail;
-use std::thread::Threads;
 
 /// Lists of words that are no command; nothing is read.
 #[test]
@@ -90,37 +86,27 @@ fn refuses(rt: HostRuntime) -> Result<(), Fail> {
     Ok(())
 }
 
-fn ends_by_length<R: Threads + Wait + Sync + Abort>(
-    rt: &R,
-    alloc: Global,
-    word: &str,
-    count: usize,
-    want: u8,
-) -> Result<(), Fail> {
-    let spaces = vec![in alloc; b' '; count]?;
-    let ended = call(rt, alloc, &[word], spaces, WHOLE, WHOLE)?;
-    assert_eq!(rt; ended.outcome.status, want, "at {count}");
-    assert!(rt; ended.outcome.fault.is_some() == (want == 65), "at {count}");
-    assert!(rt; ended.written.is_empty(), "at {count}");
-    Ok(())
-}
-
 /// A byte too many is too long, and one less is read and judged.
 #[test]
-fn a_replay_reads_so_many_bytes_at_the_most(rt: HostRuntime) -> Result<(), Fail> {
+fn reads_so_many_bytes_at_the_most(rt: HostRuntime) -> Result<(), Fail> {
     let alloc = rt.alloc();
-    for (count, want) in [(16_777_216, 65), (16_777_217, 66), (16_777_218, 66)] {
-        ends_by_length(&rt, alloc, "replay", count, want)?;
-    }
-    Ok(())
-}
-
-#[test]
-fn others_read_so_many_bytes_at_the_most(rt: HostRuntime) -> Result<(), Fail> {
-    let alloc = rt.alloc();
-    for word in ["run", "check"] {
-        ends_by_length(&rt, alloc, word, 16_777_216, 65)?;
-        ends_by_length(&rt, alloc, word, 16_777_217, 66)?;
+    for (word, count, want) in [
+        ("replay", 16_777_216, 65),
+        ("replay", 16_777_217, 66),
+        ("replay", 16_777_218, 66),
+        ("run", 16_777_216, 65),
+        ("run", 16_777_217, 66),
+        ("check", 16_777_216, 65),
+        ("check", 16_777_217, 66),
+    ] {
+        let spaces = vec![in alloc; b' '; count]?;
+        let ended = call(&rt, alloc, &[word], spaces, WHOLE, WHOLE)?;
+        assert_eq!(rt; ended.outcome.status, want, "{word} at {count}");
+        assert!(rt;
+            ended.outcome.fault.is_some() == (want == 65),
+            "{word} at {count}"
+        );
+        assert!(rt; ended.written.is_empty(), "{word} at {count}");
     }
     Ok(())
 }

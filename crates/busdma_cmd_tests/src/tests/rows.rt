@@ -85,7 +85,7 @@ fn writes_a_front(rt: HostRuntime) -> Result<(), Fail> {
 }
 
 /// Each read gives a byte, and one more sees the end.
-fn each_read_may_fail<R: Threads + Wait + Sync + Abort>(
+fn fails_at_each_read<R: Threads + Wait + Sync + Abort>(
     rt: &R,
     alloc: Global,
     word: &str,
@@ -106,17 +106,13 @@ fn each_read_may_fail<R: Threads + Wait + Sync + Abort>(
 }
 
 #[test]
-fn each_read_of_a_replay_may_fail(rt: HostRuntime) -> Result<(), Fail> {
-    each_read_may_fail(&rt, rt.alloc(), "replay")
-}
-
-#[test]
-fn each_read_of_a_run_may_fail(rt: HostRuntime) -> Result<(), Fail> {
-    each_read_may_fail(&rt, rt.alloc(), "run")
+fn each_read_may_fail(rt: HostRuntime) -> Result<(), Fail> {
+    fails_at_each_read(&rt, rt.alloc(), "replay")?;
+    fails_at_each_read(&rt, rt.alloc(), "run")
 }
 
 /// Each write takes a byte, so as many bytes are written as calls went well.
-fn each_write_may_fail<R: Threads + Wait + Sync + Abort>(
+fn fails_at_each_write<R: Threads + Wait + Sync + Abort>(
     rt: &R,
     alloc: Global,
     word: &str,
@@ -141,11 +137,7 @@ fn each_write_may_fail<R: Threads + Wait + Sync + Abort>(
 }
 
 #[test]
-fn each_write_of_a_replay_may_fail(rt: HostRuntime) -> Result<(), Fail> {
-    each_write_may_fail(&rt, rt.alloc(), "replay")
-}
-
-#[test]
-fn each_write_of_a_run_may_fail(rt: HostRuntime) -> Result<(), Fail> {
-    each_write_may_fail(&rt, rt.alloc(), "run")
+fn each_write_may_fail(rt: HostRuntime) -> Result<(), Fail> {
+    fails_at_each_write(&rt, rt.alloc(), "replay")?;
+    fails_at_each_write(&rt, rt.alloc(), "run")
 }
