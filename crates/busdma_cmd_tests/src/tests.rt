@@ -11,7 +11,6 @@ mod refusals;
 mod reports;
 mod rows;
 mod runs;
-mod sizes;
 mod storms;
 
 use busdma_base::LaneId;
