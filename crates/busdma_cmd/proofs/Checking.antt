@@ -32,52 +32,12 @@ behind : (input : List ℕ) (o : Option Cut) → o ≡ cut_of input →
     scenario_behind_header input ≡ option_map_or (λ c. scenario_of c.scenario) o (Bad bad_header)
 behind input o is = ap (λ x. option_map_or (λ c. scenario_of c.scenario) x (Bad bad_header)) (sym is)
 
-pub without_header : (input : List ℕ) → None ≡ cut_of input → scenario_behind_header input ≡ Bad bad_header
-without_header input is = behind input None is
-
-pub behind_header : (input : List ℕ) (cut : Cut) → Some cut ≡ cut_of input →
+behind_header : (input : List ℕ) (cut : Cut) → Some cut ≡ cut_of input →
     scenario_behind_header input ≡ scenario_of cut.scenario
 behind_header input cut is = behind input (Some cut) is
 
 good_of : (input : List ℕ) (v : Verdict) (h : HasVerdict input v) → judged Check input ≡ Good h.scenario
 good_of input v h = behind_header input h.cut (sym h.is_cut) ∙ h.good
-
--- an input that was read whole is answered as it is judged
-pub judged_reads : (left after : Option (List ℕ)) (input : List ℕ) (ran : Result Verdict Cause) →
-    TakesAll input left after → length input ≤ input_limit → Judges input ran → ReadsVerdict left after ran
-judged_reads left after input (Ok v) all short h = (input, all, short, h)
-judged_reads left after input (Err (cause.Refused r)) all short h = (input, all, short, h)
-judged_reads left after input (Err cause.TooLong) all short h = absurd (cc)
-judged_reads left after input (Err cause.OutOfMemory) all short h = all_at_most input left after all short
-judged_reads left after input (Err cause.ReadFailed) all short h = absurd (cc)
-judged_reads left after input (Err (cause.WriteFailed j)) all short h = absurd (cc)
-judged_reads left after input (Err cause.LineUnwritten) all short h = absurd (cc)
-
--- and no read failed
-pub judged_counts : (before now : ℕ) (input : List ℕ) (ran : Result Verdict Cause) → now ≡ before → Judges input ran →
-    CountsReads before now ran
-judged_counts before now input (Ok v) same h = same
-judged_counts before now input (Err (cause.Refused r)) same h = same
-judged_counts before now input (Err cause.TooLong) same h = same
-judged_counts before now input (Err cause.OutOfMemory) same h = same
-judged_counts before now input (Err cause.ReadFailed) same h = absurd (cc)
-judged_counts before now input (Err (cause.WriteFailed j)) same h = same
-judged_counts before now input (Err cause.LineUnwritten) same h = same
-
--- what was read and judged, by the edges of the call
-pub was_checked : (e : Edges) (v : Verdict) → ReadsVerdict e.left e.left_after (Ok v) → Checked e v
-was_checked e v reads =
-    record { bytes = reads.0; read = record { all = reads.1; short = reads.2 }; judged = reads.3 }
-
--- where reading and judging gave no verdict, that is how the check ends
-pub check_stopped : (e : Edges) (why : Cause) → ReadsVerdict e.left e.left_after (Err why) → WroteNothing e →
-    ChecksBy e (Err why)
-check_stopped e (cause.Refused r) stops nothing = (stops, nothing)
-check_stopped e cause.TooLong stops nothing = (stops, nothing)
-check_stopped e cause.OutOfMemory stops nothing = (stops, nothing)
-check_stopped e cause.ReadFailed stops nothing = (stops, nothing)
-check_stopped e (cause.WriteFailed j) stops nothing = stops
-check_stopped e cause.LineUnwritten stops nothing = absurd stops
 
 -- memory ran out for the line
 pub check_ran_out : (e : Edges) (v : Verdict) (ran : Result Verdict Cause) → IsErrAnd ran (λ why. why ≡ cause.OutOfMemory)

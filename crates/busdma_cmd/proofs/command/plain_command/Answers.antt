@@ -1,8 +1,9 @@
 use Rattle.std.proofs.Common.{◌≡◌, sym, Some, subst, map, string_bytes}
-use Rattle.command_words.specs.declared.command.Command.TheVariants.{Replay, Storm}
+use Rattle.command_words.specs.declared.command.Command.TheVariants.{Replay, Storm, Check}
 use Rattle.command_words.specs.Command.{command}
 use Rattle.busdma_cmd.specs.Edges.{Edges, edges}
 use Rattle.busdma_cmd.specs.Outcome.{Keeps}
+use Rattle.busdma_cmd.proofs.Checking.{check_keeps}
 use Rattle.busdma_cmd.proofs.Endings.{reader_keeps, storm_keeps}
 use Rattle.busdma_cmd.proofs.command.plain_command.Goals as goal
 
@@ -28,3 +29,14 @@ returns-in-Ok-Some-Storm g c =
     subst (Keeps words _) (sym c.outcome_of-in-Ok-Some-Storm.ensures)
     (storm_keeps words met.n met.seed e c.run_storm.result asked
     (c.run_storm.ensures (g.S.Source.left c.args.source.now) (g.S.Source.faults c.args.source.now)))
+
+pub returns-in-Ok-Some-Check : goal.returns-in-Ok-Some-Check
+returns-in-Ok-Some-Check g c =
+    let words = map string_bytes c.args.words.now in
+    let met = c.in-Ok-Some-Check in
+    let asked : command words ≡ Some Check = cc (met.ensures, met.field-0-is, met.field-0-0-is) in
+    let e : Edges = edges g.S.Source.left g.S.Source.faults g.K.Sink.held g.K.Sink.faults
+    c.args.source.now c.check_input.new.source c.args.sink.now c.check_input.new.sink in
+    let ran = c.check_input.ensures in
+    subst (Keeps words _) (sym c.outcome_of_check.ensures)
+    (check_keeps words e c.check_input.result asked ran.ends ran.faults)
