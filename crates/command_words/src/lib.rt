@@ -5,8 +5,6 @@ mod command;
 mod laws;
 mod line;
 mod number;
-#[cfg(test)]
-mod tests;
 
 pub use command::{Command, command_of, is_run};
 pub use laws::{run_is_one_word, storms_are_small};

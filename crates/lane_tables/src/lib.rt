@@ -5,8 +5,6 @@
 mod agenda;
 mod place_table;
 mod queued;
-#[cfg(test)]
-mod tests;
 
 pub use agenda::Agenda;
 pub use place_table::{Iter, PlaceTable};

@@ -8,8 +8,6 @@ mod entry;
 mod journal;
 mod memory;
 mod numbers;
-#[cfg(test)]
-mod tests;
 mod zone;
 
 pub use entry::entry_line;

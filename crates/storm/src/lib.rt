@@ -6,8 +6,6 @@ mod generator;
 mod laws;
 mod lines;
 mod scenario;
-#[cfg(test)]
-mod tests;
 mod transfer;
 
 pub use laws::{storms_are_valid, storms_have_seven_steps_a_round};
