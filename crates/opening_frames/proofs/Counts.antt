@@ -18,7 +18,7 @@ use Rattle.busdma_base.specs.Scenarios.FrameRuns.{IsFrameRun, is_in, overlap}
 use Rattle.busdma_machine.specs.Runs.{run_of}
 use Rattle.busdma_machine.proofs.Accounts.Counting.{count_by-append, count_by-filter_keeps}
 use Rattle.busdma_base.proofs.Openings.{free-below}
-use Rattle.frame_bank.proofs.Counted.{weight, count_by-cons}
+use Rattle.opening_frames.proofs.Counted.{weight, count_by-cons}
 use Rattle.opening_frames.specs.Frames.{free_of, unowned, unowned_in}
 use Rattle.opening_frames.proofs.Rising.{times-cons, times-none, weight-off, weight-same}
 

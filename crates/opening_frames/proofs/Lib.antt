@@ -1,3 +1,4 @@
+mod Counted
 pub mod Counts
 pub mod Rising
 pub mod Runs

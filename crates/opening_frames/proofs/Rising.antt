@@ -11,7 +11,7 @@ use Rattle.busdma_machine.specs.Machine.Page.{FrameBytes}
 use Rattle.busdma_machine.specs.Machine.PageList.{frames_of}
 use Rattle.busdma_machine.proofs.Accounts.Rising.{above_first}
 use Rattle.frame_bank.specs.FrameBank.{fresh_page, put_pages}
-use Rattle.frame_bank.proofs.Counted.{weight, count_by-cons, count_by-map}
+use Rattle.opening_frames.proofs.Counted.{weight, count_by-cons, count_by-map}
 use Rattle.frame_bank.proofs.Placing.{All-put_page, count_by-put_pages, put_page-rising}
 use Rattle.frame_bank.proofs.Rising.{AreRising}
 
