@@ -13,6 +13,8 @@ use Rattle.lane_tables.specs.contracts.agenda.Agenda as Agenda
 use Rattle.lane_tables.specs.contracts.place_table.PlaceTable as Table
 use Rattle.loan_table.specs.contracts.table.LoanTable as Loans
 use Rattle.phys_memory.specs.contracts.pages.LanePages as Pages
+use Rattle.lane_core.specs.contracts.buffers.LoadBytes as Bytes
+use Rattle.lane_core.specs.contracts.kept.KeptLoad as Load
 use Rattle.lane_core.specs.contracts.lane.Lane as Lane
 use Rattle.lane_merge.specs.contracts.merging.LoggedStep as Step
 use Rattle.lane_rounds.specs.contracts.worker.Worker as Worker
@@ -41,9 +43,16 @@ loans_send = search (BTreeMap-send, sendable, crosses) depth 60 fits 40000
 map_send : (T : RattleType) (g : Callback.Ghosts T.Denot) → IsSend T → IsSend (Map.the_row T g)
 map_send T g s = search (sendable, crosses) depth 60 fits 40000
 
+bytes_send : (s : NamedLft) → IsSend (Bytes.the_row s)
+bytes_send s = search (sendable, crosses) depth 60 fits 40000
+
+load_send : (s : NamedLft) → IsSend (Load.the_row s)
+load_send s = search (bytes_send, sendable, crosses) depth 60 fits 40000
+
 lane_send : (s : NamedLft) → IsSend (Lane.the_row s)
 lane_send s =
-    search (op_sync, pages_send, table_send, agenda_send, loans_send, map_send, sendable, crosses) depth 60 fits 40000
+    search (op_sync, pages_send, table_send, agenda_send, loans_send, map_send, load_send, sendable, crosses)
+    depth 60 fits 40000
 
 pub worker_send : (s : NamedLft) (T F : RattleType) → IsSend T → IsSend (Worker.the_row s T F)
 worker_send s T F sent =

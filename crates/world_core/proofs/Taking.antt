@@ -1,5 +1,5 @@
 -- What a driver's turn makes of the world and of a run.
-use Rattle.std.proofs.Common.{◌≡◌, ℕ, ◌+◌, ◌++◌, ◌<◌, Bool, List, length, get_or, Some, None, map, refl}
+use Rattle.std.proofs.Common.{◌≡◌, ℕ, ◌+◌, ◌<◌, Bool, List, length, get_or, Some, None, map, refl}
 use Rattle.std.proofs.Common.{sym}
 use Rattle.std.proofs.Common.{ap, ◌∙◌, subst, slice_get, slice_set, if◌then◌else◌}
 use Rattle.std.specs.Prelude.{option_map, Result, Ok, Err, IfOk, OnErr, OnOk}
@@ -21,7 +21,6 @@ use Rattle.lane_core.specs.Doing.{IsUndone}
 use Rattle.lane_core.specs.declared.turn.Turn as told
 use Rattle.lane_core.specs.declared.turn.Turn.TheVariants as held
 use Rattle.ideal_lane.specs.Turns.{Turn, lane_step}
-use Rattle.ideal_world.specs.Holds.{holds_at, step_holds}
 use Rattle.ideal_world.specs.Legal.{Run, noted, turn}
 use Rattle.ideal_world.specs.WellFormed.{IsWellFormed}
 use Rattle.ideal_world.specs.World.{WorldState, WorldTurned, replied, step_of, step, entry_of}
@@ -30,7 +29,7 @@ use Rattle.ideal_world.proofs.Keeping.{step-keeps}
 use Rattle.ideal_world.proofs.Lanes.{set_same}
 use Rattle.world_core.specs.Kept.{IsKept, world_of}
 use Rattle.world_core.proofs.Agreeing.{agrees-of, below-of}
-use Rattle.world_core.proofs.Turning.{Makes, made-holds, makes, undone-account}
+use Rattle.world_core.proofs.Turning.{Makes, makes, undone-account}
 
 -- the driver in a world, by its number
 pub lane_found : (lanes : List Lane) (i : ℕ) (l : Lane) → i < length lanes → l ≡ get_or lanes i l →
@@ -98,15 +97,6 @@ module _ (lanes : List Lane) (hub hub-new : HubSeen) (actor : Actor) (l m : Lane
       (record { lane = ideal m; turn = answered t }) (is_held t) (door hub-new) →
       length hub-new.history ≡ length hub.history + (if is_held t then 1 else 0)
   took-holds t turn = (made t turn).holds
-
-  -- and adds what it adds to the history
-  pub took-history : (t : told.Turn) → IsTurned (door hub) (ideal l).id (lane_step (ideal l) actor.side)
-      (record { lane = ideal m; turn = answered t }) (is_held t) (door hub-new) →
-      hub-new.history ≡ hub.history ++ step_holds (world_of lanes hub) actor
-  took-history t turn =
-      made-holds (ideal l).id hub hub-new (lane_step (ideal l) actor.side)
-      (record { lane = ideal m; turn = answered t }) (is_held t) turn
-      ∙ sym (ap (λ o. hub.history ++ holds_at (world_of lanes hub) actor o) there)
 
   pub took-opening : (t : told.Turn) → IsTurned (door hub) (ideal l).id (lane_step (ideal l) actor.side)
       (record { lane = ideal m; turn = answered t }) (is_held t) (door hub-new) → hub-new.opening ≡ hub.opening

@@ -34,7 +34,7 @@ pub next_round : (n : ℕ) (round : List Actor) (r x y : Run) → rounds n round
 next_round n round r x y h k = sym (rounds-add n 1 round r) ∙ (ap (λ z. turns z round) h ∙ sym k)
 
 -- turns leave the run as it is, or note an entry
-pub rests-or-notes : (actors : List Actor) (r : Run) →
+rests-or-notes : (actors : List Actor) (r : Run) →
     (turns r actors ≡ r) ⊎ (length r.entries < length (turns r actors).entries)
 rests-or-notes [] r = inl refl
 rests-or-notes (a ∷ actors) r = first (step_entry r.world a) (rests-or-notes actors r)

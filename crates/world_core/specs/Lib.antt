@@ -1,4 +1,3 @@
 pub mod Ideal
 pub mod Kept
-pub mod Wanting
 pub mod Wires
