@@ -7,27 +7,14 @@ ghost use Rattle.bounce_hub.specs.Pools.{Stays};
 
 use crate::hub_zone::HubZone;
 use crate::pool::Pool;
-use busdma_machine::{TagLimits, ZoneId};
+use busdma_machine::{PAGE_SIZE, TagLimits};
 use std::alloc::{AllocError, Global};
-
-/// The bytes of a page.
-const PAGE: u64 = 4096;
-
-/// The number of a zone, which has 32 bits.
-pub(crate) fn number_of(place: usize) -> Result<ZoneId, AllocError>
-    ensures { IfOk result (λ z. z ≡ record { 0 = place }) }
-{
-    match u32::try_from(place) {
-        Ok(number) => Ok(ZoneId(number)),
-        Err(_) => Err(AllocError),
-    }
-}
 
 /// How many pages the first allocation of a tag wants for a zone of so many.
 pub(crate) fn wanted_by_tag(tag: &TagLimits, pages: u32) -> u64
     ensures { result ≡ wanted_by_tag tag.now pages }
 {
-    (tag.maxsize / PAGE).saturating_sub(u64::from(pages))
+    (tag.maxsize / PAGE_SIZE).saturating_sub(u64::from(pages))
 }
 
 /// All wanted pages came, or the first allocation was done before.
@@ -66,7 +53,7 @@ impl Pool {
         if tag.alignment > 1 {
             most
         } else {
-            most.min(self.maxmem.saturating_sub(tag.lowaddr.0 / PAGE))
+            most.min(self.maxmem.saturating_sub(tag.lowaddr.0 / PAGE_SIZE))
         }
     }
 
@@ -81,7 +68,7 @@ impl Pool {
         if first_done && (self.maps_at(place) == 0 || most <= pages) {
             return 0;
         }
-        let load = (tag.maxsize / PAGE).max(1);
+        let load = (tag.maxsize / PAGE_SIZE).max(1);
         most.saturating_sub(pages)
             .min(load.min(u64::from(tag.nsegments)))
             .max(1)
@@ -142,7 +129,7 @@ impl Pool {
         ensures no_memory { OnErr result (Stays self.old self.new) }
     {
         self.zones.reserve(1)?;
-        let mut hub_zone = HubZone::new(alloc, tag.lowaddr, tag.alignment.max(PAGE));
+        let mut hub_zone = HubZone::new(alloc, tag.lowaddr, tag.alignment.max(PAGE_SIZE));
         let added = hub_zone.zone.grow(alloc, &mut self.bank, wanted)?;
         self.nested = self.nested_with(&hub_zone);
         self.zones.push_reserved(hub_zone);

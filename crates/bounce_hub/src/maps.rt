@@ -5,7 +5,7 @@ ghost use Rattle.busdma_machine.specs.declared.bounce.hold.HubCall.TheVariants.{
 ghost use Rattle.busdma_machine.specs.declared.bounce.hold.HubReply.TheVariants.{Nothing, Grown as GrownBy};
 ghost use Rattle.bounce_hub.specs.Pools.{Allowed, Steps, Stays};
 
-use crate::growth::{is_made, number_of, wanted_by_tag};
+use crate::growth::{is_made, wanted_by_tag};
 use crate::pool::Pool;
 use busdma_machine::{Grown, LaneId, MapId, TagLimits, ZoneId};
 use std::alloc::{AllocError, Global};
@@ -24,7 +24,7 @@ impl Pool {
         ensures no_memory { OnErr result (Stays self.old self.new) }
     {
         let place = self.place_for(tag);
-        let zone = number_of(place)?;
+        let zone = ZoneId::at(place)?;
         let wanted = wanted_by_tag(tag, self.pages_at(place));
         let added = self.grow(alloc, tag, place, wanted)?;
         let made = is_made(false, added, wanted);
@@ -47,7 +47,7 @@ impl Pool {
         ensures no_memory { OnErr result (Stays self.old self.new) }
     {
         let place = self.place_for(tag);
-        let zone = number_of(place)?;
+        let zone = ZoneId::at(place)?;
         let wanted = self.wanted_by_map(tag, first_done, place);
         let added = self.grow(alloc, tag, place, wanted)?;
         let made = is_made(first_done, added, wanted);

@@ -1,7 +1,6 @@
 //! The frames of dmamem memories.
 
 ghost use Rattle.std.specs.Prelude.{◌≡◌, ◌==◌, ℕ, count_by, ◌+◌, ◌^◌, ◌<◌, ◌≤◌, IfOk, IfSome, OnErr, length};
-ghost use Rattle.std.specs.Prelude.{slice_index_or};
 ghost use Rattle.busdma_machine.specs.declared.bounce.hold.HubCall.TheVariants.{MemAlloc};
 ghost use Rattle.busdma_machine.specs.Bounce.Door.{IsRow, memory_reply};
 ghost use Rattle.busdma_machine.specs.Machine.PageList.{page_addresses};
@@ -9,17 +8,9 @@ ghost use Rattle.frame_bank.specs.FrameBank.{put_pages};
 ghost use Rattle.bounce_hub.specs.Pools.{Allowed, Steps, Stays, Returns, StepsBack};
 
 use crate::pool::Pool;
-use busdma_machine::{HubReply, MapId, Pa, PageList, TagLimits};
+use busdma_machine::{HubReply, MapId, PageList, TagLimits};
 use frame_bank::FrameBank;
 use std::alloc::{AllocError, Global};
-
-/// The physical address of the first page.
-fn first_address(pages: &PageList) -> Pa
-    requires { 0 < length pages.now.items }
-    ensures { result ≡ record { 0 = slice_index_or (page_addresses pages.now.items) 0 0 } }
-{
-    pages.as_slice()[0].address()
-}
 
 /// Gives pages back to the bank, each to its place.
 fn give_all(bank: &mut FrameBank, pages: PageList)
@@ -58,7 +49,7 @@ impl Pool {
             Some(pages) => {
                 self.owed += 1;
                 let reply = HubReply::Run {
-                    first: first_address(&pages),
+                    first: pages.first_address(),
                     count: pages.len() as u32,
                 };
                 Ok((Some(pages), reply))

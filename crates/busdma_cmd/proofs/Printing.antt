@@ -60,7 +60,7 @@ instead : (line : Option (List ℕ)) (before after : Option (List ℕ)) (faults 
 instead (Some line) before after faults now some wrote = inr wrote
 instead None before after faults now some wrote = absurd (cc)
 
--- where there was no memory for its line, that of want of memory is printed
+-- where there was no memory for its line, that of a lack of memory is printed
 pub wants_memory : (o : Outcome) (before after : Option (List ℕ)) (faults now : ℕ) → 2 < o.status
     → (IsSome o.fault ↔ (o.status ≡ 65))
     → Writes (codes "busdma_run: out of memory\n") before after faults now

@@ -51,7 +51,7 @@ Makes c e journal Wrote =
     (scenario : Scenario) × Runs c e scenario × IsValid scenario × IsMadeOf c scenario journal
     × Wrote (text_of c scenario journal) e
 
--- why a command that wrote nothing stopped; a storm stops for want of memory alone
+-- why a command that wrote nothing stopped; a storm stops only where memory runs out
 abbrev pub Stops : Command → Edges → Cause → Type 0
 Stops Replay e why = StopsReading scenario_of e.left e.left_after why
 Stops Run e why = StopsReading scenario_of e.left e.left_after why

@@ -33,7 +33,7 @@ Writes text before after faults now =
     (Appends before after text × (now ≡ faults))
     ⊎ (WritesPart text before after × Rose faults now)
 
--- where there is a line, it was written, or that of want of memory in its place, or a front of either; else nothing
+-- where there is a line, it was written, or that of a lack of memory in its place, or a front of either; else nothing
 abbrev pub PrintsLine : Option (List ℕ) → Option (List ℕ) → Option (List ℕ) → ℕ → ℕ → Type 0
 PrintsLine None before after faults now = (after ≡ before) × (now ≡ faults)
 PrintsLine (Some line) before after faults now =

@@ -81,7 +81,7 @@ pub record WasRefused (c : Command) (e : Edges) (o : Outcome) : Type 0 where
   pub bad : judged c bytes ≡ Bad refusal
   pub kept : o.fault ≡ Some refusal
 
--- want of memory is free
+-- memory may run out at any time
 abbrev pub OrNoMemory : Outcome → Type 0 → Type 0
 OrNoMemory o P = P ⊎ (o.status ≡ 71)
 

@@ -19,7 +19,7 @@ use std::sync::Wait;
 use std::thread::Threads;
 
 /// The words after the program's name. Where one of them is no text, they ask for nothing, as no
-/// words do. The only error is want of memory.
+/// words do. The only error is that memory ran out.
 pub fn program_words<R: Env + AllocGlobal>(rt: &R) -> Result<Vec<String>, AllocError> {
     match env::args(rt) {
         Ok(args) => Ok(args.skip(1).collect(rt.alloc())?),
@@ -29,7 +29,7 @@ pub fn program_words<R: Env + AllocGlobal>(rt: &R) -> Result<Vec<String>, AllocE
 }
 
 /// The line that tells why a run did not go well, with its line feed; None for the statuses 0, 1
-/// and 2. The only error is want of memory.
+/// and 2. The only error is that memory ran out.
 fn ended_fault_line(alloc: Global, outcome: &Outcome) -> Result<Option<Vec<u8>>, AllocError>
     requires known { IsStatus outcome.now.status }
     requires fault { IsSome outcome.now.fault ↔ (outcome.now.status ≡ 65) }

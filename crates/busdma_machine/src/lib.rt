@@ -18,7 +18,9 @@ pub use bounce::{
     waiting_map_stays, zone_serves_its_tag, zones_stay,
 };
 pub use list::ListOf;
-pub use machine::{Bio, Chunk, Entry, Extent, Mbuf, Pa, Page, PageList, Part, Segment, Span, Va};
+pub use machine::{
+    Bio, Chunk, Entry, Extent, Mbuf, PAGE_SIZE, Pa, Page, PageList, Part, Segment, Span, Va,
+};
 pub use name::{LaneId, MapId, ZoneId};
 pub use report::{Errno, Judged, Report, ReportName};
 pub use room::RoomyList;

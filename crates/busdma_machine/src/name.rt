@@ -1,5 +1,9 @@
 //! Names of drivers, zones and maps.
 
+ghost use Rattle.std.specs.Prelude.{◌≡◌, IfOk};
+
+use std::alloc::AllocError;
+
 /// A driver, by its place in the scenario.
 #[derive(Clone, Copy, Debug, PartialEq, Eq, PartialOrd, Ord)]
 pub struct LaneId(pub u32);
@@ -7,6 +11,18 @@ pub struct LaneId(pub u32);
 /// A bounce zone, by its place in the order of making.
 #[derive(Clone, Copy, Debug, PartialEq, Eq, PartialOrd, Ord)]
 pub struct ZoneId(pub u32);
+
+impl ZoneId {
+    /// The zone at a place. A name has 32 bits, and a list that is longer does not fit into memory.
+    pub fn at(place: usize) -> Result<ZoneId, AllocError>
+        ensures { IfOk result (λ zone. zone ≡ record { 0 = place }) }
+    {
+        match u32::try_from(place) {
+            Ok(number) => Ok(ZoneId(number)),
+            Err(_) => Err(AllocError),
+        }
+    }
+}
 
 /// A map or a dmamem memory, by its driver and the place in the script of the operation that made
 /// it.

@@ -426,7 +426,7 @@ read_is a words m is plain well found =
     ap met ((found simple).1 ∙ ap (λ x. subcommand_of x words) is)
     ∙ (fits words plain).0 (sym (ap (λ x. fault_of x words) is) ∙ well free)
 
--- where one fails, and not for want of memory, the words ask for nothing
+-- where one fails, and not because memory ran out, the words ask for nothing
 pub unread_is : (a : App) (words : List Text) (e : Error) → a ≡ line → list_any is_flag words ≡ false
     → (is_simple_and_free a ≡ true → HasKind (fault_of a words) e)
     → (kind_of e ≡ kind.OutOfMemory → ⊥) → command words ≡ None

@@ -4,10 +4,7 @@ ghost use Rattle.std.specs.Prelude.{◌≡◌, ◌↔◌, IfSome, IsSome};
 ghost use Rattle.busdma_machine.specs.Tags.Tag as tag;
 ghost use Rattle.busdma_machine.specs.Tags.Tag.{IsAccepted, IsEffective};
 
-use busdma_machine::{Pa, TagLimits};
-
-/// The bytes of a frame.
-pub(crate) const FRAME: u64 = 4096;
+use busdma_machine::{PAGE_SIZE, Pa, TagLimits};
 
 /// The smallest boundary that is not 0, in bytes.
 const LEAST_BOUNDARY: u64 = 16;
@@ -54,7 +51,7 @@ fn is_accepted(spec: &TagLimits) -> bool
 fn is_alignment(bytes: u64) -> bool
     ensures { result ≡ tag.is_alignment bytes }
 {
-    is_power_of_two(bytes) && bytes <= FRAME
+    is_power_of_two(bytes) && bytes <= PAGE_SIZE
 }
 
 fn is_boundary(bytes: u64) -> bool
@@ -82,7 +79,7 @@ fn segment_limit(spec: &TagLimits) -> u64
 fn frame_end(pa: Pa) -> Pa
     ensures { result.0 ≡ tag.frame_end pa.0 }
 {
-    Pa(pa.0 / FRAME * FRAME + (FRAME - 1))
+    Pa(pa.0 / PAGE_SIZE * PAGE_SIZE + (PAGE_SIZE - 1))
 }
 
 fn least_boundary(parent: u64, child: u64) -> u64

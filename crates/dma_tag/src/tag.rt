@@ -6,8 +6,8 @@ ghost use Rattle.busdma_machine.specs.Tags.Tag.{IsAccepted, IsEffective, effecti
 ghost use Rattle.dma_tag.specs.Chain.{IsNarrowest, IsOwn, last_of};
 
 use crate::einval::Einval;
-use crate::limits::{FRAME, inherit, normal};
-use busdma_machine::{Pa, TagLimits};
+use crate::limits::{inherit, normal};
+use busdma_machine::{PAGE_SIZE, Pa, TagLimits};
 use std::marker::Model;
 
 /// A tag of bus_dma(9), seen by contracts as its effective limits: its own, narrowed by those of
@@ -85,7 +85,7 @@ impl Tag {
     pub fn could_bounce(&self, maxmem: u64) -> bool
         ensures { result ≡ could_bounce self.now maxmem }
     {
-        self.limits.lowaddr.0 / FRAME < maxmem || self.limits.alignment > 1
+        self.limits.lowaddr.0 / PAGE_SIZE < maxmem || self.limits.alignment > 1
     }
 
     /// Whether the address needs a bounce page, in a machine whose frames have numbers below

@@ -62,7 +62,7 @@ impl FrameBank {
         Ok(bank)
     }
 
-    /// Takes so many of the lowest frames out, in order. Where memory is wanting, the bank stays as it
+    /// Takes so many of the lowest frames out, in order. Where memory runs out, the bank stays as it
     /// was.
     pub fn take_lowest(&mut self, alloc: Global, count: usize) -> Result<PageList, AllocError>
         requires { count ≤ length self.old.pages }
@@ -77,7 +77,7 @@ impl FrameBank {
 
     /// Takes out the lowest frames that follow one another, lie at or below an address, and whose
     /// first `len` bytes cross no multiple of the boundary, where 0 is none: as many as have `len`
-    /// bytes, and one for no byte. None where there is no such run. Then, and where memory is wanting,
+    /// bytes, and one for no byte. None where there is no such run. Then, and where memory runs out,
     /// the bank stays as it was.
     pub fn take_run(
         &mut self,

@@ -52,7 +52,7 @@ pub enum Input {
 const PIECE: usize = 4096;
 
 /// Reads until the source ends, fails, or has given `most + 1` bytes, which is one too many. The
-/// only error is want of memory.
+/// only error is that memory ran out.
 pub fn read_up_to<S: Source>(
     alloc: Global,
     source: &mut S,

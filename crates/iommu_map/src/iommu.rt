@@ -81,7 +81,7 @@ impl Iommu {
 
     /// Takes the run with the least first page for these frames, in order, and tells that page: page
     /// 0 is never taken, and no page of a live run. None where there is no such run. Then, and where
-    /// memory is wanting, the space stays as it was.
+    /// memory runs out, the space stays as it was.
     pub fn enter(&mut self, alloc: Global, frames: &[u64]) -> Result<Option<u64>, AllocError>
         requires some { 0 < length frames.now }
         requires numbered { All (λ f. f < 2 ^ 30) frames.now }

@@ -80,7 +80,7 @@ fn verdict_at(
 /// from the lines before it, or that is missing.
 ///
 /// It steps a world of its own along the lines, in time and memory that grow with the text and the
-/// scenario. The only error is want of memory.
+/// scenario. The only error is that memory ran out.
 pub fn check_text(alloc: Global, scenario: &Scenario, text: &[u8]) -> Result<Verdict, AllocError>
     requires { IsValid scenario.now }
     ensures { IfOk result (IsVerdict scenario.now text.now) }

@@ -12,7 +12,7 @@ use Rattle.busdma_machine.specs.Bounce.WellFormed.{IsWellFormed}
 use Rattle.lane_agreement.specs.View.{View, Return, OwnMap, Idle, Returning, ended, emptied, queued_back, given_back}
 use Rattle.lane_agreement.specs.View.{restaged, returning, is_returning, zone_in}
 use Rattle.lane_agreement.specs.Agreement.{Agrees}
-use Rattle.lane_agreement.specs.After.{addresses, after_callback, left_at, left_of, brought, IsLike}
+use Rattle.lane_agreement.specs.After.{addresses, after_callback, left_at, left_of_map, brought, IsLike}
 use Rattle.lane_agreement.proofs.Whole.{Called_for, called-length}
 
 pub addresses-length : (pages : List Pa) → length (addresses pages) ≡ length pages
@@ -29,7 +29,7 @@ emptied-left items z (p ∷ ps) = refl
 
 -- a load that ends has brought its items, and its pages are with the map or in the return queue
 pub ended-left : (fits : Bool) (l : View) (k z : ℕ) (pages : List ℕ) (items : ℕ) →
-    left_of items (ended fits l k z pages) k ≡ length pages + length l.returns
+    left_of_map items (ended fits l k z pages) k ≡ length pages + length l.returns
 ended-left true l k z pages items = rw (eq-eqb k k refl) refl
 ended-left false l k z pages items =
     rw (eq-eqb k k refl) (omega (
@@ -42,16 +42,16 @@ ended-left false l k z pages items =
 -- a callback lowers what is left
 pub callback-left : (fits : Bool) (l : View) (a : Account) (m : MapId) (pages : List Pa) (items : ℕ) → IsWellFormed a →
     Agrees l a → (called_from a.ready l.id a).reply ≡ Called m pages
-    → left_of items (after_callback fits l (Called m pages)) m.made_at
-    + brought fits items + 1 ≤ left_of items l m.made_at
+    → left_of_map items (after_callback fits l (Called m pages)) m.made_at
+    + brought fits items + 1 ≤ left_of_map items l m.made_at
 callback-left fits l a m pages items well agrees e = lowers (called-length l a.ready a m pages well agrees refl e)
   where
     few : (fits : Bool) → brought fits items ≤ items
     few true = omega arith
     few false = omega arith
 
-    lowers : Called_for l pages m → left_of items (after_callback fits l (Called m pages)) m.made_at
-        + brought fits items + 1 ≤ left_of items l m.made_at
+    lowers : Called_for l pages m → left_of_map items (after_callback fits l (Called m pages)) m.made_at
+        + brought fits items + 1 ≤ left_of_map items l m.made_at
     lowers c =
         omega (
           arith,
@@ -69,7 +69,7 @@ bare-left items (Some m) false = refl
 
 -- so does the return of a page
 pub back-left : (l : View) (r : Return) (rs : List Return) (items : ℕ) → l.returns ≡ r ∷ rs →
-    left_of items (given_back l (r ∷ rs)) r.map + 1 ≤ left_of items l r.map
+    left_of_map items (given_back l (r ∷ rs)) r.map + 1 ≤ left_of_map items l r.map
 back-left l r rs items is =
     let here : left_at items ((given_back l (r ∷ rs)).map_at r.map) ≡ 0 =
     rw (eq-eqb r.map r.map refl) (bare-left items (l.map_at r.map) (returning r.map rs == 0)) in

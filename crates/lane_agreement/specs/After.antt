@@ -74,8 +74,8 @@ left_at items (Some m) =
     (elim m.stage [ Idle ↦ 0 | Waiting need ↦ 1 + items + need | Loaded ps ↦ length ps | Returning ↦ 0 ])
 
 -- with the return queue
-abbrev pub left_of : ℕ → View → ℕ → ℕ
-left_of items l k = left_at items (l.map_at k) + length l.returns
+abbrev pub left_of_map : ℕ → View → ℕ → ℕ
+left_of_map items l k = left_at items (l.map_at k) + length l.returns
 
 -- the items that a load brings to the transfer queue
 abbrev pub brought : Bool → ℕ → ℕ

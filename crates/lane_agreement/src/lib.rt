@@ -19,7 +19,7 @@ ghost use Rattle.lane_agreement.specs.View.{View, Return, Idle, Waiting, Loaded,
 ghost use Rattle.busdma_machine.specs.Bounce.Door.{Seen, account, Passes, Holds};
 ghost use Rattle.busdma_machine.specs.declared.bounce.hold.HubReply.{HubReply};
 ghost use Rattle.lane_agreement.specs.Agreement.{Agrees, IsFit};
-ghost use Rattle.lane_agreement.specs.After.{after, after_callback, Asks, IsFresh, IsLike, left_of, brought};
+ghost use Rattle.lane_agreement.specs.After.{after, after_callback, Asks, IsFresh, IsLike, left_of_map, brought};
 
 /// A lane that has nothing agrees with an opening of the same maxmem that has none of its driver's frames.
 pub fn opening_agrees()
@@ -80,9 +80,9 @@ pub fn left_falls()
     ensures callback { (fits : Bool) (l : View) (a : Account) (m : MapId) (pages : List Pa) (items : ℕ) →
         IsWellFormed a → Agrees l a →
         (called_from a.ready l.id a).reply ≡ Called m pages →
-        left_of items (after_callback fits l (Called m pages)) m.made_at + brought fits items + 1 ≤ left_of items l m.made_at }
+        left_of_map items (after_callback fits l (Called m pages)) m.made_at + brought fits items + 1 ≤ left_of_map items l m.made_at }
     ensures back { (l : View) (r : Return) (rs : List Return) (items : ℕ) → l.returns ≡ r ∷ rs →
-        left_of items (given_back l (r ∷ rs)) r.map + 1 ≤ left_of items l r.map }
+        left_of_map items (given_back l (r ∷ rs)) r.map + 1 ≤ left_of_map items l r.map }
 {}
 
 /// Lanes that are alike agree with the same accounts.

@@ -232,7 +232,7 @@ pub more-other : (prepared ls : Loans) (k : ℕ) (x : Loan) → ls ≡ insert pr
     get ls q ≡ get prepared q
 more-other prepared ls k x e q off = ap (λ ps. get ps q) e ∙ put-other prepared k q x off
 
--- a loan is prepared for a map of which no load waits, or memory was wanting
+-- a loan is prepared for a map of which no load waits, or memory ran out
 pub prepared-awaiting : {T E : Type 0} (h : Holdings) (k : ℕ) → kept_load (get h.maps.map k) ≡ None → (r : Result T E)
     (t : Table) (x : Loan) → OnOk r (t.prepared ≡ insert h.loans.prepared k x) → OnErr r (IsSame h.loans t) →
     AreAwaiting h.pages.now h.maxmem h.tags.map h.maps.map t.prepared

@@ -37,7 +37,7 @@ pub ok-map : {T E : Type 0} (r : Result T E) (P Q : T → Type 0) → ((x : T) �
 ok-map (Ok x) P Q f h = f x h
 ok-map (Err e) P Q f h = h
 
--- what follows for want of memory
+-- what follows where memory ran out
 pub err-map : {T E P Q : Type 0} (r : Result T E) → (P → Q) → OnErr r P → OnErr r Q
 err-map (Ok x) f h = tt
 err-map (Err e) f h = f h

@@ -152,7 +152,7 @@ module _ (h k : Holdings) (wired : IsWired h) (x : Answer) where
       (λ r. subst (IsFaithful (by_reply (dev_write m off vs l) r).lane) (sym wire)
       (dev_write-faithful l (wire_of h) wired.apart wired.laid wired.faithful m off vs r))
 
--- want of memory leaves it as it was
+-- running out of memory leaves it as it was
 pub kept-on : (h k : Holdings) → IsWired h → KeepsState h k → IsCalledOn h k
 kept-on h k wired s = record {
   stands = subst Stands (sym s.ideal);

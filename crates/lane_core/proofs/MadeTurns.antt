@@ -1,4 +1,4 @@
--- A driver is ready for its next turn after one that was made, and after want of memory.
+-- A driver is ready for its next turn after one that was made, and after one that ran out of memory.
 use Rattle.std.proofs.Common.{◌≡◌, inl, inr, ◌≤◌, ℕ, Bool, IsTrue, refl, ap, sym, subst, arith}
 use Rattle.busdma_base.specs.declared.journals.journal.Side.{Side}
 use Rattle.busdma_machine.specs.Bounce.Door.{Seen}

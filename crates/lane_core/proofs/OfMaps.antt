@@ -107,7 +107,7 @@ module _ (pages : List PageRun) where
         by true = none-of None
         by false = are q
 
--- a loan is prepared for a map, or memory was wanting
+-- a loan is prepared for a map, or memory ran out
 pub prepared-ready : {T E : Type 0} (h : Holdings) (k : ℕ) (r : Result T E) (t : Table) (coherent : Bool)
     (bytes : List ℕ) → AllByRecursion (λ a. is_of_map h.pages.now (get h.memories.map k) a ≡ true) bytes →
     OnOk r (t.prepared ≡ insert h.loans.prepared k (new_loan coherent bytes)) → OnErr r (IsSame h.loans t) →

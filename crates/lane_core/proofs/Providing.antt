@@ -1,4 +1,4 @@
--- What a turn that was made, or for which memory was wanting, leaves a driver with.
+-- What a turn that was made, or that ran out of memory, leaves a driver with.
 use Rattle.std.proofs.Common.{◌≡◌, ◌+◌, ◌≤◌, false, Result, Ok, Err, IfOk, OnOk, OnErr, length}
 use Rattle.std.proofs.Common.{refl, sym, ap, ◌∙◌, subst, arith}
 use Rattle.busdma_base.specs.declared.journals.journal.Side.{Side}
@@ -59,7 +59,7 @@ transfer-all h k d (Ok t) done unheld wire memories places capacity =
     transfer-made h k d t done unheld wire memories places capacity
 transfer-all h k d (Err x) done unheld wire memories places capacity = tt
 
--- where memory was wanting, the transfer queue has its room
+-- where memory ran out, the transfer queue has its room
 pub same-room : (h k : Holdings) → KeepsState h k →
     k.agenda.room + length k.agenda.queue ≡ h.agenda.room + length h.agenda.queue → h.agenda.room ≤ k.agenda.room
 same-room h k s capacity =
@@ -93,7 +93,7 @@ module _ {E : Type 0} (h k : Holdings) (d e : Seen) (s : Side) (ready : IsReady 
   follows-after (Ok t) made = end-wire h k d e s t ready made made.wire
   follows-after (Err x) made = tt
 
--- where memory was wanting, no byte changed
+-- where memory ran out, no byte changed
 pub kept-follows : (h k : Holdings) → IsWired h → KeepsState h k →
     Follows (ideal_of h) (ideal_of k) (wire_of h) (wire_of k)
 kept-follows h k wired s =

@@ -206,7 +206,7 @@ module _ (h k n : Holdings) (q : QueuedItem) (first : h.agenda.queue ≡ q ∷ k
       ∙ wire-beside l q rest q.item (wire_of h)
       ∙ ap (λ qs. wires.transfer_turn qs l (wire_of h)) (sym first)
 
-  -- memory was wanting, and the item was put back
+  -- memory ran out, and the item was put back
   pub item-back : (b : Holdings) → KeepsState k n → KeepsButAgenda n b →
       b.agenda ≡ record n.agenda { queue = q ∷ n.agenda.queue; room = n.agenda.room - 1 } → KeepsState h b
   item-back b s back with_item =

@@ -46,7 +46,7 @@ pub record KeepsBytesBut (one : ℕ) (h k : Holdings) : Type 0 where
   pub own : wire k.memory.memory ≡ wire h.memory.memory
   pub pages : (m : ℕ) → (one == m) ≡ false → (devices_of k.maps.map m).pages ≡ (devices_of h.maps.map m).pages
 
--- what a step leaves for want of memory: the ideal state and all bytes
+-- what a step that runs out of memory leaves: the ideal state and all bytes
 pub record KeepsState (h k : Holdings) : Type 0 where
   pub ideal : ideal_of k ≡ ideal_of h
   pub bytes : KeepsBytes h k

@@ -27,6 +27,6 @@ abbrev pub asks : {X : Type 0} → Asking X → Bool
 asks {X} (Gives x) = false
 asks {X} (Asks c k) = true
 
--- memory was wanting: the door has seen nothing new, or it failed
+-- memory ran out: the door has seen nothing new, or it failed
 abbrev pub IsUndone : Seen → Seen → Type 0
 IsUndone d e = (e ≡ d) ⊎ Fails d e

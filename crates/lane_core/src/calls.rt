@@ -1,5 +1,5 @@
 //! The calls on a lane that take no door, so they hold and wait for nothing. A map of another lane is Absent, as one
-//! that does not exist. Want of memory leaves the lane's ideal state as it was. The turns use the same functions of
+//! that does not exist. Running out of memory leaves the lane's ideal state as it was. The turns use the same functions of
 //! what the lane holds.
 
 ghost use Rattle.std.specs.Prelude.{◌≡◌, ◌==◌, IfOk, OnErr, OnOk};

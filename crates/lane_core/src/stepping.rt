@@ -31,7 +31,7 @@ fn share_of(shares: &[KeptShare], zone: ZoneId) -> u64
 impl Lane<'_> {
     /// A turn of a side, at a door to the bounce lock that serves the driver. Its step is the ideal driver's, by the
     /// reply to its call; its bytes are those of the step, but for pages and frames of memories that came and went.
-    /// Want of memory leaves the ideal driver as it was, and the bytes of its frames and of its maps' pages, and adds
+    /// Running out of memory leaves the ideal driver as it was, and the bytes of its frames and of its maps' pages, and adds
     /// no own entry to the door's history. The callbacks, and the script while a page is on its way back, want none.
     pub fn turn<D: HubDoor>(
         &mut self,

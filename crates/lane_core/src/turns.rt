@@ -20,7 +20,7 @@ use crate::turn::{Turn, stepped};
 use busdma_base::{Answer, Did, HubDoor, Side};
 use std::alloc::{AllocError, Global};
 
-/// A turn that was made leaves a driver ready for the next. So does one that memory was wanting for.
+/// A turn that was made leaves a driver ready for the next. So does one that ran out of memory.
 pub(crate) fn turns_leave_ready()
     ensures made { (h k : Holdings) (d e : Seen) (s : Side) (t : Turn) →
         IsReady h d → IsMade h k d e s t → IsReady k e }

@@ -46,7 +46,7 @@ pub type LaneLog = VecDeque<LoggedStep>;
 /// Merges the logs of drivers, which stand in the order of the drivers' numbers, by the history of
 /// the bounce lock that they shared: for each hold the next steps of its driver up to the one that
 /// held, or all that are left where none held, and at the end the rest, driver by driver. An error
-/// is want of memory.
+/// is that memory ran out.
 pub fn merge(
     alloc: Global,
     holds: &[HoldEntry],

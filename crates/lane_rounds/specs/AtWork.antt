@@ -47,13 +47,13 @@ abbrev pub Grows : Log → Log → Bool → Type 0
 Grows before after true = length before < length after
 Grows before after false = after ≡ before
 
--- a worker tells that its last round made a step, and that memory was wanting in a round
+-- a worker tells that its last round made a step, and that memory ran out in a round
 abbrev pub tells_step : {D F : Type 0} → Worker D F → Bool
 tells_step w = w.stepped
 
 abbrev pub tells_failure : {D F : Type 0} → Worker D F → Bool
 tells_failure w = w.failed
 
--- after a round a worker tells whether it made a step, unless memory was wanting
+-- after a round a worker tells whether it made a step, unless memory ran out
 abbrev pub Tells : {D F : Type 0} → Worker D F → Worker D F → Type 0
 Tells before after = tells_failure after ≡ false → Grows before.log.items after.log.items (tells_step after)

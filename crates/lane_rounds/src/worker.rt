@@ -71,7 +71,7 @@ impl<'s, D: HubDoor + Drop> Worker<'s, D> {
         }
     }
 
-    /// The turn of a side, behind the gate. Tells whether it was a step. By the code alone, want of memory
+    /// The turn of a side, behind the gate. Tells whether it was a step. By the code alone, running out of memory
     /// leaves the driver and its log as they were, and the turn is counted.
     fn turn<G: Gate>(&mut self, alloc: Global, gate: &G, side: Side) -> Result<bool, AllocError>
         requires { Works D.seen self.old }
@@ -144,7 +144,7 @@ impl<'s, D: HubDoor + Drop> Worker<'s, D> {
         Ok(stepped)
     }
 
-    /// The driver's round: cycles until one makes no step, or memory is wanting.
+    /// The driver's round: cycles until one makes no step, or memory runs out.
     pub fn round<R: Wait, G: Gate>(&mut self, rt: &R, alloc: Global, gate: &G)
         requires { Works D.seen self.old }
         ensures works { Works D.seen self.new }
@@ -157,14 +157,14 @@ impl<'s, D: HubDoor + Drop> Worker<'s, D> {
         }
     }
 
-    /// Whether the last round in which no memory was wanting made a step.
+    /// Whether the last round in which memory did not run out made a step.
     pub fn has_stepped(&self) -> bool
         ensures { result ≡ tells_step self.now }
     {
         self.stepped
     }
 
-    /// Whether memory was wanting in a round.
+    /// Whether memory ran out in a round.
     pub fn has_failed(&self) -> bool
         ensures { result ≡ tells_failure self.now }
     {

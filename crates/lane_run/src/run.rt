@@ -53,7 +53,7 @@ fn opening_run(alloc: Global, scenario: &Scenario) -> Result<Closing<'_>, AllocE
 /// Runs the drivers of a scenario on threads, all over one hub, until a round makes no step; goes
 /// rounds on one thread until one makes no step; and gives the journal, which is legal. Each turn is
 /// made behind the gate. Where the turnstile gives a driver no pass, all rounds are on one thread. An
-/// error is want of memory. May wait for ever.
+/// error is that memory ran out. May wait for ever.
 pub fn run_lanes<Rt: Threads + Wait + Sync, G: Gate + Sync>(
     rt: &Rt,
     alloc: Global,

@@ -54,7 +54,7 @@ pub record AreInRow (pages : RoomyPages) : Type 0 where
   pub row : IsRow (page_addresses pages.items)
   pub few : length pages.items ≤ 8192
 
--- the reply answers the call of the same name, and no other; where memory was wanting there is no entry
+-- the reply answers the call of the same name, and no other; where memory ran out there is no entry
 abbrev pub Answers : Account → List HoldEntry → ℕ → DoorCall → DoorReply → List HoldEntry → Type 0
 Answers o before name (call.AttachTag alloc lane tag) (reply.AttachTag r) after =
     IfOk r (λ g. IsMade o before lane.0 (hub.AttachTag tag) (said.Grown g) after)

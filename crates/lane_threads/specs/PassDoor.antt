@@ -44,7 +44,7 @@ no_place = record {
   name = 0;
 }
 
--- the reply to a call of the same name: its hold, or that memory was wanting or that there was no callback
+-- the reply to a call of the same name: its hold, or that memory ran out or that there was no callback
 abbrev pub Replied : Seen → DoorCall → DoorReply → Seen → Type 0
 Replied d (call.AttachTag alloc lane tag) (reply.AttachTag r) e =
     IfOk r (λ g. Holds d lane.0 (hub.AttachTag tag) (said.Grown g) e) × OnErr r (Fails d e)

@@ -56,7 +56,7 @@ pub enum DoorCall {
     },
 }
 
-/// The answer to the call of the same name, as `HubDoor` has it: `Err` where memory was wanting.
+/// The answer to the call of the same name, as `HubDoor` has it: `Err` where memory ran out.
 #[derive(Drop)]
 pub enum DoorReply {
     /// What was added to the tag's zone.

@@ -5,11 +5,8 @@ ghost use Rattle.std.specs.Iterator.{YieldsFirst, item_count};
 ghost use Rattle.busdma_machine.specs.Machine.Entry.{IsStream};
 ghost use Rattle.memory_load.specs.MemoryLoad.{run_parts};
 
-use busdma_machine::{Extent, Pa, Part};
+use busdma_machine::{Extent, PAGE_SIZE, Pa, Part};
 use std::marker::Model;
-
-/// The bytes of a frame.
-const FRAME: u64 = 4096;
 
 /// The parts of `left` bytes from the physical address `at` on: one for each frame. They are of one entry, which is
 /// rounded.
@@ -45,7 +42,7 @@ impl Iterator for RunParts {
         }
         let extent = Extent {
             pa: Pa(self.at),
-            len: (FRAME - self.at % FRAME).min(self.left),
+            len: (PAGE_SIZE - self.at % PAGE_SIZE).min(self.left),
         };
         let opens = self.opens;
         self.at += extent.len;

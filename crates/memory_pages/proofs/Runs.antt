@@ -1,11 +1,9 @@
 -- Frames that follow one another.
 use Rattle.std.proofs.Common.{◌≡◌, ℕ, suc, ◌+◌, ◌*◌, ◌/◌, ◌%◌, ◌<◌, ◌≤◌, Bool, true, false, cond, ◌||◌, List, []}
 use Rattle.std.proofs.Common.{◌∷◌, length, get_or, refl, sym, ap, ◌∙◌, arith}
-use Rattle.std.specs.Prelude.{Some, nat_eq, slice_get}
+use Rattle.std.specs.Prelude.{nat_eq}
 use Rattle.std.proofs.lemmas.Bool.Decides.{nat_tests}
 use Rattle.busdma_machine.specs.Bounce.Door.{IsRow}
-use Rattle.busdma_machine.specs.Machine.Page.{FrameBytes}
-use Rattle.busdma_machine.specs.Machine.PageList.{page_address, page_addresses}
 use Rattle.busdma_machine.specs.Bounce.MemoryRuns.{in_run, frames_from}
 
 -- a row is told by its first frame and its length
@@ -70,12 +68,3 @@ extend base i k v new old rest e is = at (nat_eq v k) refl
 pub or_is : (a b : Bool) → (a || b) ≡ cond a true b
 or_is true b = refl
 or_is false b = refl
-
--- the address of the first page that was found
-pub first_found : (ps : List FrameBytes) (p : FrameBytes) → slice_get ps 0 ≡ Some p →
-    get_or (page_addresses ps) 0 0 ≡ page_address p
-first_found [] p h = absurd (cc)
-first_found (q ∷ ps) p h = ap page_address (only h)
-  where
-    only : Some q ≡ Some p → q ≡ p
-    only e = cc

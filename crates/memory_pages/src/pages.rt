@@ -24,10 +24,7 @@ pub fn first_address(pages: &PageList) -> Pa
     ensures first { result ≡ record { 0 = slice_index_or (page_addresses pages.now.items) 0 0 } }
     ensures row { page_addresses pages.now.items ≡ frames_from (length pages.now.items) result.0 }
 {
-    match pages.as_slice().first() {
-        Some(page) => page.address(),
-        None => Pa(0),
-    }
+    pages.first_address()
 }
 
 /// Puts the pages of a memory of `len` bytes one behind the other, the first of them at the virtual address of its

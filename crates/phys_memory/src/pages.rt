@@ -61,7 +61,7 @@ impl LanePages {
     }
 
     /// Adds a page at a virtual address, of which the first `reach` bytes can be reached. It comes
-    /// back where that virtual page is taken, and is dropped where memory for it is wanting.
+    /// back where that virtual page is taken, and is dropped where memory for it runs out.
     pub fn add(
         &mut self,
         alloc: Global,

@@ -212,7 +212,7 @@ impl PlainLane<'_> {
         }
     }
 
-    /// The turn of a side, by the reply to the call that `step` asked. Err where memory is wanting, or
+    /// The turn of a side, by the reply to the call that `step` asked. Err where memory runs out, or
     /// a number would have more bits than its place; the driver is then of no use.
     pub fn go_on(
         &mut self,

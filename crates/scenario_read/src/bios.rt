@@ -12,9 +12,9 @@ ghost use Rattle.json_fields.specs.Items.{each};
 ghost use Rattle.json_fields.specs.Read.{Gives, GivesSeen};
 ghost use Rattle.scenario_read.specs.Bios as bios;
 
-use crate::pages::PAGE;
 use crate::spans::{entries, entries_field, span_fields};
 use busdma_base::{Bio, ListOf, PageRun};
+use busdma_machine::PAGE_SIZE;
 use json_fields::{Node, RefusalKind, Stop};
 use serde_json::Value;
 
@@ -92,7 +92,7 @@ fn off(here: &Node) -> Result<u64, Stop>
     ensures within { IfOk result (λ off. off < 4096) }
 {
     let off = here.number_field("off")?;
-    if off >= PAGE {
+    if off >= PAGE_SIZE {
         return Err(here.refuse_key(RefusalKind::BadField, "off"));
     }
     Ok(off)

@@ -16,11 +16,9 @@ ghost use Rattle.scenario_read.specs.Pages.{page_run_at, pages_at};
 
 use crate::frames::is_in;
 use busdma_base::{Driver, FrameRun, ListOf, PageRun, PageRunList, Va};
+use busdma_machine::PAGE_SIZE;
 use json_fields::{Node, RefusalKind, Stop};
 use serde_json::Value;
-
-/// The bytes of a page.
-pub(crate) const PAGE: u64 = 4096;
 
 /// Where the virtual addresses of pages end.
 const PAGES_END: u64 = 0xfffff80000000000;
@@ -36,7 +34,7 @@ fn page_values(here: &Node) -> Result<PageRun, Stop>
     let va = here.at(va).number()?;
     let frame = here.at(frame).number()?;
     let count = here.at(count).number()?;
-    if count < 1 || va % PAGE != 0 || va > PAGES_END || count > (PAGES_END - va) / PAGE {
+    if count < 1 || va % PAGE_SIZE != 0 || va > PAGES_END || count > (PAGES_END - va) / PAGE_SIZE {
         return Err(here.refuse(RefusalKind::BadField));
     }
     let va = Va(va);
@@ -92,7 +90,8 @@ fn shares_frame(run: &PageRun, before: &[PageRun]) -> bool
 fn shares_page(run: &PageRun, before: &[PageRun]) -> bool
     ensures { result ≡ list_any (base.share_page run.now) before.now }
 {
-    before.iter().any(|other| meet(run.va.0 / PAGE, run.count, other.va.0 / PAGE, other.count))
+    let page = run.va.0 / PAGE_SIZE;
+    before.iter().any(|other| meet(page, run.count, other.va.0 / PAGE_SIZE, other.count))
 }
 
 fn is_taken(run: &PageRun, earlier: &[Driver]) -> bool

@@ -115,7 +115,7 @@ fn reading_of(alloc: Global, document: &Option<Value>) -> Result<Reading, AllocE
     }
 }
 
-/// What the bytes say: a valid scenario, or the first refusal. Only want of memory is an error.
+/// What the bytes say: a valid scenario, or the first refusal. The only error is that memory ran out.
 #[tactic(auto, unfolding(crate::specs::Scenario::scenario_of))]
 pub fn scenario_of(alloc: Global, bytes: &[u8]) -> Result<Reading, AllocError>
     ensures value { IfOk result (λ r. r ≡ scenario.scenario_of bytes.now) }

@@ -9,11 +9,8 @@ ghost use Rattle.segment_build.specs.Chunks.{chunk_limit};
 ghost use Rattle.segment_build.specs.Cutting.{after_part, closed_part, cut_by, closed_by, uncut, with_rest};
 
 use bitflags::Flags;
-use busdma_machine::{Chunk, Extent, Pa, Part, TagLimits};
+use busdma_machine::{Chunk, Extent, PAGE_SIZE, Pa, Part, TagLimits};
 use dma_tag::{Tag, TagFlags};
-
-/// The bytes of a frame.
-const FRAME: u64 = 4096;
 
 /// What is known between two extents of a load.
 ///
@@ -113,7 +110,7 @@ fn chunk_limit(tag: &Tag, bounced: bool, rounded: bool, pa: Pa) -> u64
     ensures { (maxmem : ℕ) → bounced ≡ needs_bounce tag.now maxmem pa.0 →
         result ≡ chunk_limit tag.now maxmem rounded pa.0 }
 {
-    let left = FRAME - pa.0 % FRAME;
+    let left = PAGE_SIZE - pa.0 % PAGE_SIZE;
     if !bounced || !rounded || keeps_offset(tag.limits()) {
         return left;
     }

@@ -102,7 +102,7 @@ module _ (lanes : List Lane) (hub hub-new : HubSeen) (actor : Actor) (l m : Lane
       (record { lane = ideal m; turn = answered t }) (is_held t) (door hub-new) → hub-new.opening ≡ hub.opening
   took-opening t turn = (made t turn).opening
 
-  -- for want of memory it leaves the world as it was
+  -- where memory ran out it leaves the world as it was
   pub took-none : ideal m ≡ ideal l → IsUndone (door hub) (door hub-new) →
       world_of (slice_set lanes actor.lane.0 m) hub-new ≡ world_of lanes hub
   took-none same undone = λ j. record {

@@ -124,7 +124,7 @@ module _ (lanes : List LaneState) (i : ℕ) (l : LaneState) (h k : HubSeen) wher
             ∙ ap (λ a. let q : Outcome = account_step l.id c a in turned world i q.account (f q.reply)) same;
       }
 
--- for want of memory the account and the opening stay
+-- where memory ran out the account and the opening stay
 pub undone-account : (h k : HubSeen) → IsUndone (door h) (door k) → hub_account k ≡ hub_account h
 undone-account h k (inl same) = ap account same
 undone-account h k (inr fails) = passes-account h fails.others (door k) fails.passes

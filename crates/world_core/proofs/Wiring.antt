@@ -81,7 +81,7 @@ module _ (lanes : List Lane) (hub hub-new : HubSeen) (actor : Actor) (l m : Lane
     others = λ j off. ap wire_in (lane-other lanes k j m off);
   }
 
-  -- want of memory
+  -- memory ran out
   pub wires-stay : Follows (ideal l) (ideal m) (wire l) (wire m) → ideal m ≡ ideal l →
       WiresStay (world_of lanes hub) (wires-in lanes) (wires-in (slice_set lanes actor.lane.0 m))
   wires-stay follows same j a ha = by (cases_order j k)

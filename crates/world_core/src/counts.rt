@@ -16,7 +16,7 @@ impl World<'_> {
     {
         let mut bounced = Vec::new(alloc);
         for place in 0..self.hub.zone_count() {
-            let zone = number_of(place)?;
+            let zone = ZoneId::at(place)?;
             bounced.push(self.bounced(zone))?;
         }
         self.hub.counts(alloc, &bounced)
@@ -31,15 +31,5 @@ impl World<'_> {
             syncs += lane.bounced(zone);
         }
         syncs
-    }
-}
-
-/// The number of a zone, which has 32 bits.
-fn number_of(place: usize) -> Result<ZoneId, AllocError>
-    ensures { IfOk result (λ zone. zone ≡ record { 0 = place }) }
-{
-    match u32::try_from(place) {
-        Ok(number) => Ok(ZoneId(number)),
-        Err(_) => Err(AllocError),
     }
 }

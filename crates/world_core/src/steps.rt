@@ -19,7 +19,7 @@ impl World<'_> {
     /// An actor's turn, which is its driver's: a step with its entry, Blocked, or Ended; an actor
     /// that has no driver is Blocked. A step tells whether it made a call under the bounce lock that
     /// is kept in the hub's history. The bytes of the actor's driver are those of the step, but for pages
-    /// and frames of memories that came and went, and those of the others stay. Want of memory leaves the
+    /// and frames of memories that came and went, and those of the others stay. Running out of memory leaves the
     /// ideal world as it was, and the bytes of each driver's own frames and of its maps' pages.
     pub fn step(&mut self, alloc: Global, actor: Actor) -> Result<Turn, AllocError>
         ensures done { IfOk result (λ turn.

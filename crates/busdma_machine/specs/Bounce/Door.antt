@@ -59,7 +59,7 @@ pub record Misses (d : Seen) (lane : ℕ) (e : Seen) : Type 0 where
   pub passes : Passes d others e
   pub reply : (account_step lane TakeCallback (account e)).reply ≡ Nothing
 
--- memory was wanting: holds of other lanes may have come next, and the call was not made
+-- memory ran out: holds of other lanes may have come next, and the call was not made
 pub record Fails (d e : Seen) : Type 0 where
   pub others : List HoldEntry
   pub passes : Passes d others e

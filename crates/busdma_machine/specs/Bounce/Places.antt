@@ -23,7 +23,6 @@ abbrev pub frame_total : Account → ℕ
 frame_total a =
     length a.bank + (sum_by (λ z. length z.avail) a.zones + (length a.held + sum_by (λ m. length m.frames) a.mems))
 
--- how often a frame stands in the bank, in the zones' lists, with maps, and in memories, taken together
+-- how often a frame stands in these places
 abbrev pub places : ℕ → Account → ℕ
-places p a =
-    times p a.bank + (sum_by (λ z. times p z.avail) a.zones + (times_lent p a + sum_by (λ m. times p m.frames) a.mems))
+places p = frames_where (λ f. f == p)

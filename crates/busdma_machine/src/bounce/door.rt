@@ -40,7 +40,7 @@ pub struct Called {
 /// `seen` is the account that the door began with, which no call changes; the history of the holds
 /// that the door has seen; and which lanes it serves. A call's lane is one of those. The new
 /// history begins with the old one, may next have entries of lanes that the door does not serve,
-/// and ends with the call's own entry. A call that ends in want of memory adds no own entry, and
+/// and ends with the call's own entry. A call that runs out of memory adds no own entry, and
 /// neither does the taking of a callback that finds none.
 pub trait HubDoor {
     /// What no call changes, beside the account that the door began with and the lanes that it serves.

@@ -9,5 +9,5 @@ mod page_list;
 pub use address::{Extent, Pa, Segment, Span, Va};
 pub use bio::{Bio, Mbuf};
 pub use chunk::{Chunk, Entry, Part};
-pub use page::Page;
+pub use page::{PAGE_SIZE, Page};
 pub use page_list::PageList;

@@ -6,6 +6,9 @@ ghost use Rattle.busdma_machine.specs.Machine.Page.{overwritten};
 use std::alloc::{AllocError, Global};
 use std::marker::Model;
 
+/// The bytes of a page, and of a frame.
+pub const PAGE_SIZE: u64 = 4096;
+
 /// A frame of 4096 bytes with one owner. A page is not cloned; whoever makes pages of frames sees to
 /// it that the frames differ.
 #[derive(Debug, Drop)]

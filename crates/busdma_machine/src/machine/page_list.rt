@@ -1,12 +1,12 @@
 //! Where owned frames lie, and lists of them.
 
 ghost use Rattle.std.specs.Prelude.{◌≡◌, ◌+◌, ◌<◌, ◌≤◌, ◌↔◌, [], ◌∷◌, ◌++◌, length, take, drop, IsTrue, IfOk, IfSome};
-ghost use Rattle.std.specs.Prelude.{IfNone, vec_len, vec_capacity};
+ghost use Rattle.std.specs.Prelude.{IfNone, slice_index_or, vec_len, vec_capacity};
 ghost use Rattle.std.specs.VecDeque.{deque_capacity};
 ghost use Rattle.busdma_machine.specs.Bounce.AccountStep.{as_pages};
 ghost use Rattle.busdma_machine.specs.Machine.PageList.{page_address, page_addresses};
 
-use crate::machine::{Pa, Page};
+use crate::machine::{PAGE_SIZE, Pa, Page};
 use std::alloc::{AllocError, Global};
 use std::collections::VecDeque;
 use std::marker::Model;
@@ -16,7 +16,7 @@ impl Page {
     pub fn address(&self) -> Pa
         ensures { result ≡ record { 0 = page_address self.now } }
     {
-        Pa(self.frame() * 4096)
+        Pa(self.frame() * PAGE_SIZE)
     }
 }
 
@@ -71,6 +71,16 @@ impl PageList {
         ensures { IsTrue result ↔ (self.now.items ≡ []) }
     {
         self.pages.is_empty()
+    }
+
+    /// The physical address of the first page, or 0 where there is none.
+    pub fn first_address(&self) -> Pa
+        ensures { result ≡ record { 0 = slice_index_or (page_addresses self.now.items) 0 0 } }
+    {
+        match self.pages.first() {
+            Some(page) => page.address(),
+            None => Pa(0),
+        }
     }
 
     /// The pages as a vector, which keeps the room.

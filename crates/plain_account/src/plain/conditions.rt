@@ -10,10 +10,7 @@ ghost use Rattle.busdma_machine.specs.Tags.TagFlags.{allocnow};
 use crate::plain::lists::same_map;
 use crate::plain::serving::is_holding;
 use crate::plain::{PlainAccount, PlainZone};
-use busdma_machine::{HubCall, LaneId, MapId, TagLimits, Waiter};
-
-/// The bytes of a page.
-const PAGE: u64 = 4096;
+use busdma_machine::{HubCall, LaneId, MapId, PAGE_SIZE, TagLimits, Waiter};
 
 /// The flag of a tag that brings pages with it.
 const ALLOCNOW: u32 = 1;
@@ -22,7 +19,7 @@ const ALLOCNOW: u32 = 1;
 fn could_bounce(tag: &TagLimits, maxmem: u64) -> bool
     ensures { result ≡ could_bounce tag.now maxmem }
 {
-    tag.lowaddr.0 / PAGE < maxmem || tag.alignment > 1
+    tag.lowaddr.0 / PAGE_SIZE < maxmem || tag.alignment > 1
 }
 
 /// A tag has ALLOCNOW. Where it could bounce, its making then brings its zone the whole pages of maxsize, less

@@ -10,11 +10,8 @@ ghost use Rattle.busdma_machine.specs.Bounce.Growth.{with_map, without_map};
 
 use crate::plain::lists::{joined, same_map, small};
 use crate::plain::{PlainAccount, PlainZone};
-use busdma_machine::{Grown, HubReply, MapId, TagLimits, ZoneId};
+use busdma_machine::{Grown, HubReply, MapId, PAGE_SIZE, TagLimits, ZoneId};
 use std::alloc::{AllocError, Global};
-
-/// The bytes of a page.
-const PAGE: u64 = 4096;
 
 /// The zone's pages are aligned and low enough for the tag.
 fn serves_tag(tag: &TagLimits, zone: &PlainZone) -> bool
@@ -29,7 +26,7 @@ fn new_zone(alloc: Global, tag: &TagLimits) -> PlainZone
 {
     PlainZone {
         lowaddr: tag.lowaddr.0,
-        alignment: tag.alignment.max(PAGE),
+        alignment: tag.alignment.max(PAGE_SIZE),
         avail: Vec::new(alloc),
         maps: Vec::new(alloc),
         wait: Vec::new(alloc),
@@ -127,7 +124,7 @@ impl PlainAccount {
         if tag.alignment > 1 {
             most
         } else {
-            most.min(self.maxmem.saturating_sub(tag.lowaddr.0 / PAGE))
+            most.min(self.maxmem.saturating_sub(tag.lowaddr.0 / PAGE_SIZE))
         }
     }
 
@@ -143,7 +140,7 @@ impl PlainAccount {
             return 0;
         }
         let room = most.saturating_sub(pages) as u64;
-        let load = (tag.maxsize / PAGE).max(1);
+        let load = (tag.maxsize / PAGE_SIZE).max(1);
         room.min(load.min(tag.nsegments as u64)).max(1)
     }
 

@@ -17,7 +17,7 @@ pub fn is_entry(call: HubCall, reply: &HubReply) -> bool
 }
 
 impl PlainAccount {
-    /// The account after a lane's call, and the reply. Err where memory is wanting, or a number
+    /// The account after a lane's call, and the reply. Err where memory runs out, or a number
     /// would have more bits than its place in the reply or in the account.
     pub fn step(
         self,

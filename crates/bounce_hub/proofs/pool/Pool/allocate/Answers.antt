@@ -17,19 +17,6 @@ use Rattle.bounce_hub.proofs.Frames.{Found, found, from-row, from-length, from-f
 use Rattle.bounce_hub.proofs.Frames.{run-items, agrees-bank}
 use Rattle.bounce_hub.proofs.pool.Pool.allocate.Goals as goal
 
-pub first_address-requires : goal.first_address-requires
-first_address-requires c =
-    let n : ℕ = frames_for c.args.tag.now.maxsize in
-    let f : Found (lowest_run c.args.tag.now.maxsize c.args.tag.now.boundary c.args.tag.now.lowaddr.0
-    (free_frames c.args.self.now.bank)) n c.in-Some.pages.items =
-    found _ n c.in-Some.pages.items (rw c.in-Some.is at c.in_ok-pages.ensures.placed) in
-    omega (
-      arith,
-      ap (λ (x : List ℕ). length x) f.row,
-      from-length n f.at,
-      length-map c.in-Some.pages.items page_address,
-    )
-
 -- a run has no more pages than the bank
 few : (c : goal.After-len) → length c.in-Some.pages.items ≤ 8192
 few c =
