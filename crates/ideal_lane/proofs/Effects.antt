@@ -1,6 +1,7 @@
--- What a driver can do to its state: one case for each effect of a step, with what is known where it comes about.
--- `Stepping` shows each operation, item and callback once to be one of them, so what holds after each effect holds
--- after each step.
+-- What a driver can do to its state: one case for each effect of a step, with what is known where it comes about. The
+-- effects stand at the end: `Touches` are those without a call, `Makes` all of them, in the order of `Turns.operation`,
+-- and `Steps` those of turns. `Stepping` shows that each operation, item and callback has one of them, so what holds
+-- after each effect holds after each step.
 use Rattle.std.proofs.Common.{◌≡◌, ℕ, ◌==◌, ◌&&◌, true, false, List, [], ◌∷◌}
 use Rattle.std.proofs.Common.{length, Option, Some, None, nat_lt, slice_get, subst}
 use Rattle.std.specs.FinMap.{get, remove, contains_key}
@@ -44,68 +45,71 @@ use Rattle.loan_table.specs.Loans.{loan_of, load_bytes}
 use Rattle.segment_build.specs.Chunks.{need_of}
 use Rattle.ideal_lane.specs.State.{LaneState, LaneTag, LaneMap, LaneMemory, Stage, Waiting, WaitingLoad, named}
 use Rattle.ideal_lane.specs.IdealMemory.{written, forgotten}
-use Rattle.ideal_lane.specs.Loads.{Asked, asked, limits_of, chunks_for, granted, load, ended}
+use Rattle.ideal_lane.specs.Loads.{Asked, asked, limits_of, chunks_for, granted, ended}
 use Rattle.ideal_lane.specs.Loads.{load_judged, unpaged, waiting_load, zone_of}
-use Rattle.ideal_lane.specs.Maps.{with_map, without_map, map}
+use Rattle.ideal_lane.specs.Maps.{with_map, without_map}
 use Rattle.ideal_lane.specs.Memories.{placed, without_memory}
-use Rattle.ideal_lane.specs.Outcomes.{Outcome, refused, is_idle, is_loaded}
+use Rattle.ideal_lane.specs.Outcomes.{Outcome, is_idle, is_loaded}
 use Rattle.ideal_lane.specs.Outcomes.{load_length}
 use Rattle.ideal_lane.specs.Places.{virtual_at, reached, bytes_at}
-use Rattle.ideal_lane.specs.Syncs.{copies, counted, sync}
-use Rattle.ideal_lane.specs.Tags.{with_tag, tag, has_maps}
-use Rattle.ideal_lane.specs.Turns.{Turn, Turned, Blocked, Ended, stays, stepped, operation, bio_at}
+use Rattle.ideal_lane.specs.Syncs.{copies, counted}
+use Rattle.ideal_lane.specs.Tags.{with_tag, has_maps}
+use Rattle.ideal_lane.specs.Turns.{Turn, Turned, Blocked, Ended, stays, stepped, bio_at}
 use Rattle.ideal_lane.specs.Turns.{never_waits, waits, advanced, served, left_queue}
 use Rattle.ideal_lane.specs.Unloads.{unlent, pages_of, restaged, after_return}
 use Rattle.ideal_lane.proofs.Endings.{fits, fitting, too_big}
-use Rattle.ideal_lane.proofs.Refusing.{unloaded}
 
--- what is done
+-- what a step does: an operation, an item, or the callback of a map
 pub data Work : Type 0 where
   Operation : Op → Work
   Transfer : Item → Work
   Callback : MapId → Work
 
--- an operation is that at the place of the script
+-- an operation that is done is the one at the place of the script
 abbrev pub IsNext : LaneState → Work → Type 0
 IsNext l (Operation o) = slice_get l.script l.place ≡ Some o
 IsNext l (Transfer i) = Unit {0}
 IsNext l (Callback m) = Unit {0}
 
--- a reply is the account's to a driver's call, if one was made
+-- the reply is what the account gives to the driver's call, if it made one
 abbrev pub IsReplyOf : ℕ → Account → Option HubCall → HubReply → Type 0
 IsReplyOf lane a None r = Unit {0}
 IsReplyOf lane a (Some c) r = (account_step lane c a).reply ≡ r
 
 -- ---- what is known where an effect comes about
 
--- a reply that makes no tag or map; that places no memory; and that brings neither pages nor a wait
+-- a reply makes no tag or map
 abbrev pub IsUnmade : HubReply → Type 0
 IsUnmade (reply.Grown g) = g.made ≡ false
 IsUnmade _ = Unit {0}
 
+-- it places no memory
 abbrev pub IsUnplaced : HubReply → Type 0
 IsUnplaced (reply.Run first count) = ⊥
 IsUnplaced _ = Unit {0}
 
+-- it brings no pages, and no wait for them
 abbrev pub IsUngranted : HubReply → Type 0
 IsUngranted (reply.Granted pages) = ⊥
 IsUngranted (reply.Queued have) = ⊥
 IsUngranted _ = Unit {0}
 
+-- it brings no callback
 abbrev pub IsUncalled : HubReply → Type 0
 IsUncalled (reply.Called m pages) = ⊥
 IsUncalled _ = Unit {0}
 
--- an answer has no segments; and it does not say that something was done
+-- an answer has no segments
 abbrev pub IsQuiet : Answer → Type 0
 IsQuiet (answer.Segments ss) = ⊥
 IsQuiet _ = Unit {0}
 
+-- it does not say that something was done
 abbrev pub IsUndone : Answer → Type 0
 IsUndone answer.Done = ⊥
 IsUndone _ = Unit {0}
 
--- an answer has no segments and is no report
+-- it has no segments and is no report
 abbrev pub IsUntold : Answer → Type 0
 IsUntold (answer.Segments ss) = ⊥
 IsUntold (answer.Report x) = ⊥
@@ -115,32 +119,34 @@ pub untold-quiet : (a : Answer) → IsUntold a → IsQuiet a
 untold-quiet (answer.Segments ss) u = u
 untold-quiet _ u = tt
 
--- a map that stands so does not wait
+-- a map that stands so has no load that waits
 abbrev pub IsUnwaiting : Stage → Type 0
 IsUnwaiting (Waiting v) = ⊥
 IsUnwaiting _ = Unit {0}
 
+-- a map does not exist, or has no load that waits
 abbrev pub IsUnwaited : Option LaneMap → Type 0
 IsUnwaited None = Unit {0}
 IsUnwaited (Some o) = IsUnwaiting o.stage
 
--- the effective tag of these limits, perhaps below a parent
+-- these are the effective limits of a new tag, perhaps below a parent
 pub data IsNew (l : LaneState) : Option ℕ → TagLimits → TagLimits → Type 0 where
   Top : (limits t : TagLimits) → effective None limits ≡ Some t → IsNew l None limits t
   Below : (p : ℕ) (x : LaneTag) (limits t : TagLimits) → get l.tags p ≡ Some x →
       effective (Some x.limits) limits ≡ Some t → IsNew l (Some p) limits t
 
--- the reply to a call brings nothing
+-- the reply to a call brings nothing: no tag, no map, no memory, or a callback where no load waits
 pub data IsVain (l : LaneState) : Work → HubCall → HubReply → Type 0 where
-  Unattached : {d : Work} {r : HubReply} (t : TagLimits) → (could_bounce t l.maxmem && allocnow t.flags) ≡ true → IsUnmade r →
-      IsVain l d (call.AttachTag t) r
+  Unattached : {d : Work} {r : HubReply} (t : TagLimits) → (could_bounce t l.maxmem && allocnow t.flags) ≡ true →
+      IsUnmade r → IsVain l d (call.AttachTag t) r
   Uncreated : {d : Work} {r : HubReply} (g : LaneTag) → could_bounce g.limits l.maxmem ≡ true → IsUnmade r →
       IsVain l d (call.CreateMap (named l l.place) g.limits g.first_done) r
-  Unplaced : {d : Work} {r : HubReply} (g : LaneTag) → IsUnplaced r → IsVain l d (call.MemAlloc (named l l.place) g.limits) r
+  Unplaced : {d : Work} {r : HubReply} (g : LaneTag) → IsUnplaced r →
+      IsVain l d (call.MemAlloc (named l l.place) g.limits) r
   Unwaited : (m : MapId) (pages : List Pa) → IsUnwaited (get l.maps m.made_at) →
       IsVain l (Callback m) call.TakeCallback (reply.Called m pages)
 
--- an operation begins a load of a buffer, and nothing stands in its way
+-- an operation begins a load of a buffer: the map exists and is idle, and its bytes may be loaded
 pub record Begins (l : LaneState) (d : Work) : Type 0 where
   pub m : ℕ
   pub buffer : Buffer
@@ -171,12 +177,12 @@ module _ {l : LaneState} {d : Work} (b : Begins l d) where
   pub here : IsNext l d → slice_get l.script l.place ≡ Some (op.Load b.m b.buffer b.flags b.items)
   here at = subst (IsNext l) b.is at
 
--- it is refused
+-- such a load is refused: it is longer than the tag allows, or the reply to its wish brings neither pages nor a wait
 pub data IsOver {l : LaneState} {d : Work} (b : Begins l d) : Option HubCall → HubReply → Type 0 where
   TooLong : {r : HubReply} → nat_lt (limits_of l b.o).maxsize (asks b).len ≡ true → IsOver b None r
   Ungranted : {r : HubReply} → (need_of (chunks b) == 0) ≡ false → IsUngranted r → IsOver b (Some (grab b)) r
 
--- a load has its pages: at once, by the reply to its wish, or by its callback
+-- a load has its pages: it needs none, the reply to its wish brings them, or its callback does
 pub data Ends (l : LaneState) : Work → Option HubCall → HubReply → Type 0 where
   AtOnce : {d : Work} {r : HubReply} (b : Begins l d) → (need_of (chunks b) == 0) ≡ true → Ends l d None r
   Granted : {d : Work} (b : Begins l d) → (need_of (chunks b) == 0) ≡ false → (pages : List Pa) →
@@ -184,6 +190,7 @@ pub data Ends (l : LaneState) : Work → Option HubCall → HubReply → Type 0 
   Called : (m : MapId) (pages : List Pa) (o : LaneMap) (v : WaitingLoad) → get l.maps m.made_at ≡ Some o →
       o.stage ≡ Waiting v → Ends l (Callback m) (Some call.TakeCallback) (reply.Called m pages)
 
+-- the map of such a load, how it stood, the load's place in the script, what it asks, its chunks, and its pages
 module _ {l : LaneState} where
   abbrev pub map_in : {d : Work} {c : Option HubCall} {r : HubReply} → Ends l d c r → ℕ
   map_in (AtOnce b e) = b.m
@@ -213,12 +220,13 @@ module _ {l : LaneState} where
   pages_in (Granted b e pages) = addresses pages
   pages_in (Called m pages o v e w) = addresses pages
 
-  pub there_in : {d : Work} {c : Option HubCall} {r : HubReply} (k : Ends l d c r) → get l.maps (map_in k) ≡ Some (was_in k)
+  pub there_in : {d : Work} {c : Option HubCall} {r : HubReply} (k : Ends l d c r) →
+      get l.maps (map_in k) ≡ Some (was_in k)
   there_in (AtOnce b e) = b.there
   there_in (Granted b e pages) = b.there
   there_in (Called m pages o v e w) = e
 
--- a sync of a range of a map's load
+-- an operation or an item syncs a range of a map's load
 pub data IsSync (l : LaneState) : Work → ℕ → ℕ → ℕ → ℕ → Type 0 where
   Whole : (m ops : ℕ) → IsSync l (Operation (op.Sync m ops)) m 0 (load_length l m) ops
   Range : (m off len ops : ℕ) → IsSync l (Operation (op.SyncRange m off len ops)) m off len ops
@@ -230,7 +238,7 @@ abbrev pub end_call : LaneState → ℕ → Option ℕ → Option HubCall
 end_call l m None = None
 end_call l m (Some z) = Some (call.DestroyMap (named l m) (record { 0 = z }))
 
--- the sync of a range of a map, and a write of bytes
+-- the driver after the sync of a range of a map's load
 abbrev pub after_sync : LaneState → ℕ → LaneMap → ℕ → ℕ → ℕ → LaneState
 after_sync l m o off len ops = record l {
   loans = synced l.loans m off len ops;
@@ -238,17 +246,22 @@ after_sync l m o off len ops = record l {
   shares = counted (copies off len ops o.stage) o.zone l.shares;
 }
 
+-- the driver after a write of bytes
 abbrev pub after_write : LaneState → List ℕ → List ℕ → LaneState
 after_write l bytes vs = record l { memory = written bytes vs l.memory }
 
 -- ---- the effects
 
--- of what takes no door: nothing, or a change of loans and bytes
+-- without a call: the driver is the same, or its loans and bytes change
 pub data Touches (l : LaneState) : Work → Outcome → Type 0 where
+  -- a report, bytes that were read, or a refusal: the driver is the same
   Same : {d : Work} (a : Answer) → IsQuiet a → IsUndone a → Touches l d (record { lane = l; answer = a })
+  -- sync and sync_range: the map lends its range in another way, bytes that lose their values are Unknown, and a sync
+  -- that copies is counted
   Syncs : {d : Work} (m off len ops : ℕ) → IsSync l d m off len ops → (o : LaneMap) → get l.maps m ≡ Some o →
       is_loaded o.stage ≡ true → is_mixed ops ≡ false → sync_answer l.loans m off len ops ≡ Fine →
       Touches l d (record { lane = after_sync l m o off len ops; answer = answer.Done })
+  -- cpu_write: the bytes at a place are Known, with the values that the driver writes
   Writes : (place : Place) (bs : Bytes) (va : ℕ) → virtual_at l place ≡ Some va →
       reached l va (length (bytes_of bs)) ≡ Fine →
       cpu_write_answer l.loans (bytes_at l (run_of va (length (bytes_of bs)))) ≡ Fine →
@@ -256,6 +269,7 @@ pub data Touches (l : LaneState) : Work → Outcome → Type 0 where
         lane = after_write l (bytes_at l (run_of va (length (bytes_of bs)))) (bytes_of bs);
         answer = answer.Done;
       })
+  -- dev_write: the bytes of a range of a load are Known, with the values that the device writes
   DeviceWrites : (m off : ℕ) (bs : Bytes) (o : LaneMap) → get l.maps m ≡ Some o → is_loaded o.stage ≡ true →
       dev_write_answer (loan_of l.loans m) off (length (bytes_of bs)) ≡ Fine →
       Touches l (Transfer (item.DevWrite m off bs)) (record {
@@ -265,27 +279,29 @@ pub data Touches (l : LaneState) : Work → Outcome → Type 0 where
 
 -- of any operation, item or callback, with its call and the reply
 pub data Makes (l : LaneState) : Work → Option HubCall → HubReply → Outcome → Type 0 where
+  -- it makes no call, and its effect is one of those above
   Touched : {d : Work} {r : HubReply} {x : Outcome} → Touches l d x → Makes l d None r x
-  -- a call brings nothing; a wait for a map has ended
+  -- the reply to its call brings nothing, and the driver is the same
   Vain : {d : Work} {c : HubCall} {r : HubReply} → IsVain l d c r → (a : Answer) → IsUntold a →
       Makes l d (Some c) r (record { lane = l; answer = a })
-  Awaits : {r : HubReply} (m : ℕ) →
-      Makes l (Operation (op.Await m)) None r (record { lane = l; answer = answer.Done })
-  -- a tag comes, without a call or by one, and goes
+  -- tag: the driver has one more tag, and no call was made
   Tags : {r : HubReply} (name : List ℕ) (parent : Option ℕ) (limits t : TagLimits) → IsNew l parent limits t →
       Makes l (Operation (op.Tag name parent limits)) None r
       (record { lane = with_tag l.place t false l; answer = answer.Done })
+  -- tag: the driver has one more tag, whose first allocation has grown its zone
   Attaches : (name : List ℕ) (parent : Option ℕ) (limits t : TagLimits) → IsNew l parent limits t →
       (could_bounce t l.maxmem && allocnow t.flags) ≡ true → (g : Grown) → g.made ≡ true →
       Makes l (Operation (op.Tag name parent limits)) (Some (call.AttachTag t)) (reply.Grown g)
       (record { lane = with_tag l.place t true l; answer = answer.Grown g })
+  -- tag_destroy: a tag without maps is gone
   Untags : {r : HubReply} (t : ℕ) → has_maps l t ≡ false →
       Makes l (Operation (op.TagDestroy t)) None r
       (record { lane = record l { tags = remove l.tags t }; answer = answer.Done })
-  -- a map comes, without a call or by one, and goes
+  -- map: the driver has one more map, which has no zone, since its tag could not bounce
   Maps : {r : HubReply} (name : List ℕ) (t : ℕ) (g : LaneTag) → get l.tags t ≡ Some g →
       could_bounce g.limits l.maxmem ≡ false →
       Makes l (Operation (op.Map name t)) None r (record { lane = with_map t None l; answer = answer.Done })
+  -- map: the driver has one more map, in a zone, and the first allocation of its tag is done
   Creates : (name : List ℕ) (t : ℕ) (g : LaneTag) → get l.tags t ≡ Some g → could_bounce g.limits l.maxmem ≡ true →
       (n : Grown) → n.made ≡ true →
       Makes l (Operation (op.Map name t)) (Some (call.CreateMap (named l l.place) g.limits g.first_done))
@@ -293,46 +309,60 @@ pub data Makes (l : LaneState) : Work → Option HubCall → HubReply → Outcom
         lane = with_tag t g.limits true (with_map t (Some n.zone.0) l);
         answer = answer.Grown n;
       })
+  -- map_destroy: an idle map is gone, and has ended at its zone where it had one
   Unmaps : {r : HubReply} (m : ℕ) (o : LaneMap) → get l.maps m ≡ Some o → is_idle o.stage ≡ true →
       Makes l (Operation (op.MapDestroy m)) (end_call l m o.zone) r
       (record { lane = without_map m l; answer = answer.Done })
-  -- a memory comes, and goes
+  -- dmamem: the driver has one more memory, with its idle map and its bytes
   Places : (name : List ℕ) (t flags : ℕ) (g : LaneTag) → get l.tags t ≡ Some g → (first : Pa) (count : ℕ) →
       Makes l (Operation (op.Dmamem name t flags)) (Some (call.MemAlloc (named l l.place) g.limits))
       (reply.Run first count) (placed t g.limits flags l (reply.Run first count))
+  -- dmamem_free: a memory whose map is idle is gone, with its map and its bytes
   Frees : {r : HubReply} (m : ℕ) (x : LaneMemory) → get l.mems m ≡ Some x → (o : LaneMap) → get l.maps m ≡ Some o →
       is_idle o.stage ≡ true →
       Makes l (Operation (op.DmamemFree m)) (Some (call.MemFree (named l m))) r
       (record { lane = without_memory m x l; answer = answer.Done })
-  -- a load is refused, waits, ends with its segments, or has too many; and is unloaded
+  -- load: it is refused, and its map stays idle
   Refuses : {d : Work} {c : Option HubCall} {r : HubReply} (b : Begins l d) → IsOver b c r → (e : Errno) →
       Makes l d c r (ended b.m b.o (answer.Refused e) l)
+  -- load: it waits for pages, and its map keeps it
   Waits : {d : Work} (b : Begins l d) → (need_of (chunks b) == 0) ≡ false → (have : ℕ) →
       Makes l d (Some (grab b)) (reply.Queued have) (granted b.m b.o (asks b) (chunks b) l (reply.Queued have))
+  -- load, or its callback: it has its pages, its map is loaded and lends nothing, and its items join the transfer queue
   Loads : {d : Work} {c : Option HubCall} {r : HubReply} (k : Ends l d c r) →
       fits l (map_in k) (was_in k) (place_in k) (asked_in k) (chunks_in k) (pages_in k) ≡ true →
       Makes l d c r (fitting l (map_in k) (was_in k) (place_in k) (asked_in k) (chunks_in k) (pages_in k))
+  -- load, or its callback: it has its pages but too many segments, and the pages join the return queue
   Overflows : {d : Work} {c : Option HubCall} {r : HubReply} (k : Ends l d c r) →
       fits l (map_in k) (was_in k) (place_in k) (asked_in k) (chunks_in k) (pages_in k) ≡ false →
       Makes l d c r (too_big l (map_in k) (was_in k) (place_in k) (asked_in k) (chunks_in k) (pages_in k))
+  -- unload: the map lends nothing any more, what it lent to write is Unknown, and its pages join the return queue
   Unloads : {r : HubReply} (m : ℕ) (o : LaneMap) → get l.maps m ≡ Some o → is_loaded o.stage ≡ true →
       Makes l (Operation (op.Unload m)) None r
       (record { lane = unpaged m o (pages_of o.stage) (unlent m l); answer = answer.Done })
+  -- await: the wait has ended, and the driver is the same
+  Awaits : {r : HubReply} (m : ℕ) →
+      Makes l (Operation (op.Await m)) None r (record { lane = l; answer = answer.Done })
 
 -- ---- turns
 
--- a turn that is no step: nothing is to be done, or no callback came
+-- a turn is no step: nothing can be done now, the script has ended, or no callback came
 pub data IsStay : Option HubCall → HubReply → Turn → Type 0 where
   NothingNow : {r : HubReply} → IsStay None r Blocked
   NothingLeft : {r : HubReply} → IsStay None r Ended
   NoneCalled : {r : HubReply} → IsUncalled r → IsStay (Some call.TakeCallback) r Blocked
 
+-- of the turn of a side, with its call and the reply
 pub data Steps (l : LaneState) : Side → Option HubCall → HubReply → Turned → Type 0 where
+  -- it is no step, and the driver is the same
   Stays : {s : Side} {c : Option HubCall} {r : HubReply} (t : Turn) → IsStay c r t → Steps l s c r (stays t l)
+  -- the next operation can step: it is done, and the script goes on to its next place
   Advances : {c : Option HubCall} {r : HubReply} {x : Outcome} (o : Op) → slice_get l.script l.place ≡ Some o →
       waits o l ≡ false → Makes l (Operation o) c r x → Steps l side.Script c r (advanced l.place x)
+  -- the first item of the transfer queue is done, and has left the queue
   Leaves : {r : HubReply} {x : Outcome} (q : QueuedItem) (rest : List QueuedItem) → l.queue ≡ q ∷ rest →
       Touches l (Transfer q.item) x → Steps l side.Transfer None r (left_queue q rest x)
+  -- the first page of the return queue goes back to its zone, and its map is idle where this was its last
   Releases : {r : HubReply} (q : Return) (rest : List Return) → l.returns ≡ q ∷ rest → (y : Option LaneMap) →
       get l.maps q.map ≡ y →
       Steps l side.Script
@@ -341,6 +371,7 @@ pub data Steps (l : LaneState) : Side → Option HubCall → HubReply → Turned
         lane = record (restaged q.map y (after_return q.map rest) l) { returns = rest };
         answer = answer.Served (served r);
       }))
+  -- the callback of a map is taken, with the pages of its load
   Calls : {x : Outcome} (m : MapId) (pages : List Pa) →
       Makes l (Callback m) (Some call.TakeCallback) (reply.Called m pages) x →
       Steps l side.Callback (Some call.TakeCallback) (reply.Called m pages) (stepped side.Callback (did.Callback m) x)

@@ -1,23 +1,23 @@
 -- A turn that is a step leaves all drivers less to do; any other leaves the world as it was.
-use Rattle.std.proofs.Common.{◌≡◌, ℕ, ◌<◌, ◌==◌, Bool, true, false, List, [], ◌∷◌, Option, Some, None, if◌then◌else◌}
-use Rattle.std.proofs.Common.{refl, ap, arith, slice_get}
+use Rattle.std.proofs.Common.{◌≡◌, ℕ, ◌<◌, ◌==◌, Bool, true, false, List, [], ◌∷◌, Option, Some, None, refl}
+use Rattle.std.proofs.Common.{sym, ap, ◌∙◌, arith, slice_get, subst}
+use Rattle.busdma_machine.specs.declared.bounce.hold.HubCall.{HubCall}
+use Rattle.busdma_machine.specs.declared.bounce.hold.HubReply.{HubReply}
+use Rattle.busdma_machine.specs.declared.bounce.hold.HubReply.TheVariants.{Nothing}
 use Rattle.busdma_machine.specs.declared.bounce.zone.Waiter.{Waiter}
 use Rattle.busdma_base.specs.declared.journals.journal.Actor.{Actor}
 use Rattle.busdma_base.specs.declared.journals.journal.JournalEntry.{JournalEntry}
 use Rattle.busdma_base.specs.declared.journals.journal.Side.{Side}
-use Rattle.busdma_base.specs.declared.journals.journal.Side.TheVariants as side
 use Rattle.busdma_base.specs.declared.scenarios.scenario.Scenario.{Scenario}
-use Rattle.busdma_base.specs.declared.scenarios.script.Op.{Op}
-use Rattle.busdma_machine.specs.Bounce.AccountStep.{Outcome as Answered, account_step, called_from}
-use Rattle.lane_agreement.specs.View.{Return}
-use Rattle.lane_tables.specs.declared.queued.QueuedItem.{QueuedItem}
-use Rattle.ideal_lane.specs.Asking.{Asking, Gives, Asks, goes_on}
+use Rattle.busdma_machine.specs.Bounce.Account.{Account}
+use Rattle.busdma_machine.specs.Bounce.AccountStep.{account_step, called_from}
+use Rattle.ideal_lane.specs.Asking.{Asking, Gives, Asks}
 use Rattle.ideal_lane.specs.Left.{left, Falls, FallsOrStays}
-use Rattle.ideal_lane.specs.Outcomes.{Outcome}
 use Rattle.ideal_lane.specs.State.{LaneState}
-use Rattle.ideal_lane.specs.Turns.{Turn, Turned, Stepped, Blocked, Ended, stays, operation, transfer, waits, advanced}
-use Rattle.ideal_lane.specs.Turns.{left_queue, next_operation, script_turn, transfer_turn, called_back, lane_step}
+use Rattle.ideal_lane.specs.Turns.{Turn, Turned, Stepped, Blocked, Ended, stays, lane_step}
+use Rattle.ideal_lane.proofs.Effects.{IsReplyOf, IsStay, IsUncalled, NoneCalled, NothingLeft, NothingNow, Stays, Steps}
 use Rattle.ideal_lane.proofs.Falling.{turn-falls}
+use Rattle.ideal_lane.proofs.Stepping.{Stepped-by, turn-steps}
 use Rattle.ideal_world.specs.Left.{left_of}
 use Rattle.ideal_world.specs.WellFormed.{IsWellFormed}
 use Rattle.ideal_world.specs.World.{WorldState, turned, replied, step_of, step, entry_of, step_entry}
@@ -53,60 +53,41 @@ step-falls s w actor e well = by (slice_get w.lanes actor.lane.0) refl
 
 -- ---- no step
 
--- an operation or an item that is done is a step
-pub advances : (w : WorldState) (i place : ℕ) (l : LaneState) (x : Asking Outcome) →
-    entry_of (replied w i l (goes_on (advanced place) x)).turn ≡ None → ⊥
-advances w i place l (Gives o) h = absurd (cc)
-advances w i place l (Asks c k) h = absurd (cc)
-
-pub leaves : (w : WorldState) (i : ℕ) (l : LaneState) (q : QueuedItem) (rest : List QueuedItem) (x : Asking Outcome) →
-    entry_of (replied w i l (goes_on (left_queue q rest) x)).turn ≡ None → ⊥
-leaves w i l q rest (Gives o) h = absurd (cc)
-leaves w i l q rest (Asks c k) h = absurd (cc)
+-- a callback that does not come leaves the account as it was
+missed : (ws : List Waiter) (lane : ℕ) (a : Account) → IsUncalled (called_from ws lane a).reply →
+    (called_from ws lane a).account ≡ a
+missed [] lane a h = refl
+missed (x ∷ ws) lane a h = by (x.map.lane.0 == lane) refl h
+  where
+    by : (b : Bool) → (x.map.lane.0 == lane) ≡ b → IsUncalled (called_from (x ∷ ws) lane a).reply →
+        (called_from (x ∷ ws) lane a).account ≡ a
+    by true e h = absurd (rw e at h)
+    by false e h = rw e refl
 
 module _ (w : WorldState) (i : ℕ) (l : LaneState) (there : slice_get w.lanes i ≡ Some l) where
-  abbrev Rests : Asking Turned → Type 0
-  Rests x = entry_of (replied w i l x).turn ≡ None → (replied w i l x).world ≡ w
+  -- the account after the call of a turn, if it makes one
+  abbrev after : Option HubCall → Account
+  after None = w.account
+  after (Some c) = (account_step l.id c w.account).account
 
-  put-back : (t : Turn) → (turned w i w.account (stays t l)).world ≡ w
-  put-back t = ap (λ ls. record w { lanes = ls }) (set_same w.lanes i l l there refl)
+  stay-keeps : {c : Option HubCall} {r : HubReply} {t : Turn} → IsStay c r t → IsReplyOf l.id w.account c r →
+      after c ≡ w.account
+  stay-keeps NothingNow is = refl
+  stay-keeps NothingLeft is = refl
+  stay-keeps (NoneCalled u) is = missed w.account.ready l.id w.account (subst IsUncalled (sym is) u)
 
-  next-rests : (o : Option Op) → Rests (next_operation o l)
-  next-rests None = λ h. put-back Ended
-  next-rests (Some o) = by (waits o l)
-    where
-      by : (b : Bool) → Rests (if b then Gives (stays Blocked l) else goes_on (advanced l.place) (operation o l))
-      by true = λ h. put-back Blocked
-      by false = λ h. absurd (advances w i l.place l (operation o l) h)
+  -- of all turns only one that stays has no entry
+  steps-rest : {s : Side} {c : Option HubCall} {r : HubReply} {t : Turned} → Steps l s c r t →
+      IsReplyOf l.id w.account c r → entry_of t.turn ≡ None → (turned w i (after c) t).world ≡ w
+  steps-rest (Stays t e) is h =
+      ap (λ a. (turned w i a (stays t l)).world) (stay-keeps e is)
+      ∙ ap (λ ls. record w { lanes = ls }) (set_same w.lanes i l l there refl)
+  steps-rest _ is h = absurd (cc)
 
-  script-rests : (rs : List Return) → Rests (script_turn rs l)
-  script-rests [] = next-rests (slice_get l.script l.place)
-  script-rests (r ∷ rest) = λ h. absurd (cc)
-
-  queue-rests : (qs : List QueuedItem) → Rests (transfer_turn qs l)
-  queue-rests [] = λ h. put-back Blocked
-  queue-rests (q ∷ rest) = λ h. absurd (leaves w i l q rest (transfer q.item l) h)
-
-  -- a callback that was asked for
-  abbrev after_call : Answered → Turned
-  after_call o = called_back l o.reply
-
-  callback-rests : (ws : List Waiter) → entry_of (after_call (called_from ws l.id w.account)).turn ≡ None →
-      (turned w i (called_from ws l.id w.account).account (after_call (called_from ws l.id w.account))).world ≡ w
-  callback-rests [] h = put-back Blocked
-  callback-rests (x ∷ ws) h = by (x.map.lane.0 == l.id) refl h
-    where
-      by : (b : Bool) → (x.map.lane.0 == l.id) ≡ b →
-          entry_of (after_call (called_from (x ∷ ws) l.id w.account)).turn ≡ None →
-          (turned w i (called_from (x ∷ ws) l.id w.account).account
-          (after_call (called_from (x ∷ ws) l.id w.account))).world ≡ w
-      by true e h = absurd (cc)
-      by false e h = rw e (put-back Blocked)
-
-  driver-rests : (s : Side) → Rests (lane_step l s)
-  driver-rests side.Script = script-rests l.returns
-  driver-rests side.Transfer = queue-rests l.queue
-  driver-rests side.Callback = callback-rests w.account.ready
+  driver-rests : (s : Side) (x : Asking Turned) → Stepped-by l s x → entry_of (replied w i l x).turn ≡ None →
+      (replied w i l x).world ≡ w
+  driver-rests s (Gives t) k h = steps-rest (k Nothing) tt h
+  driver-rests s (Asks c f) k h = steps-rest (k (account_step l.id c w.account).reply) refl h
 
 pub step-rests : (w : WorldState) (actor : Actor) → step_entry w actor ≡ None → (step w actor).world ≡ w
 step-rests w actor = by (slice_get w.lanes actor.lane.0) refl
@@ -114,4 +95,5 @@ step-rests w actor = by (slice_get w.lanes actor.lane.0) refl
     by : (o : Option LaneState) → slice_get w.lanes actor.lane.0 ≡ o → entry_of (step_of w actor o).turn ≡ None →
         (step_of w actor o).world ≡ w
     by None f h = refl
-    by (Some l) f h = driver-rests w actor.lane.0 l f actor.side h
+    by (Some l) f h =
+        driver-rests w actor.lane.0 l f actor.side (lane_step l actor.side) (turn-steps l actor.side) h

@@ -1,6 +1,5 @@
 -- What a turn adds to the history of the bounce lock is sound, and leads to the account after the turn.
-use Rattle.std.proofs.Common.{◌≡◌, ℕ, Bool, true, false, List, [], ◌∷◌, Option, Some, None, refl, sym, ap, ◌∙◌, slice_get}
-use Rattle.busdma_machine.specs.declared.bounce.hold.HoldEntry.{HoldEntry}
+use Rattle.std.proofs.Common.{◌≡◌, ℕ, Bool, true, false, Option, Some, None, refl, sym, slice_get}
 use Rattle.busdma_machine.specs.declared.bounce.hold.HubCall.{HubCall}
 use Rattle.busdma_base.specs.declared.journals.journal.Actor.{Actor}
 use Rattle.busdma_base.specs.declared.scenarios.scenario.Scenario.{Scenario}
@@ -14,9 +13,9 @@ use Rattle.ideal_lane.specs.State.{LaneState}
 use Rattle.ideal_lane.specs.Turns.{Turned, lane_step}
 use Rattle.ideal_world.specs.Holds.{hold_of, holds_at, holds_by, step_holds}
 use Rattle.ideal_world.specs.WellFormed.{IsWellFormed}
-use Rattle.ideal_world.specs.World.{WorldState, WorldTurned, replied, step, step_of}
+use Rattle.ideal_world.specs.World.{WorldState, replied, step, step_of}
 use Rattle.ideal_world.proofs.Keeping.{step-allowed}
-use Rattle.ideal_world.proofs.Reached.{entry, unkept}
+use Rattle.ideal_world.proofs.Reached.{unkept}
 
 call-sound : (lane : ℕ) (c : HubCall) (a : Account) → MayCall lane c a →
     IsSound a (hold_of lane c (account_step lane c a).reply)

@@ -55,13 +55,7 @@ missed (w ∷ ws) lane a h = by (w.map.lane.0 == lane) refl h
 pub unkept : (lane : ℕ) (c : HubCall) (a : Account) → is_kept c (account_step lane c a).reply ≡ false →
     (account_step lane c a).account ≡ a
 unkept lane call.TakeCallback a h = missed a.ready lane a h
-unkept lane (call.AttachTag t) a h = absurd (cc)
-unkept lane (call.CreateMap m t first_done) a h = absurd (cc)
-unkept lane (call.DestroyMap m z) a h = absurd (cc)
-unkept lane (call.Grab m z need nowait) a h = absurd (cc)
-unkept lane (call.Release m z page) a h = absurd (cc)
-unkept lane (call.MemAlloc m t) a h = absurd (cc)
-unkept lane (call.MemFree m) a h = absurd (cc)
+unkept lane _ a h = absurd (cc)
 
 entered : (lane : ℕ) (c : HubCall) (a : Account) → MayCall lane c a →
     IsSoundEntry (entry lane c a) a ⊎ ((account_step lane c a).account ≡ a)

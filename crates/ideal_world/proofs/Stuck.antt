@@ -20,19 +20,19 @@ use Rattle.lane_agreement.specs.View.{Return}
 use Rattle.lane_agreement.proofs.Asking.{known}
 use Rattle.lane_tables.specs.declared.queued.QueuedItem.{QueuedItem}
 use Rattle.lane_tables.specs.Queues.{queue_names}
-use Rattle.ideal_lane.specs.Asking.{Gives, goes_on}
+use Rattle.ideal_lane.specs.Asking.{Asking, Gives, Asks, goes_on}
 use Rattle.ideal_lane.specs.State.{LaneState, LaneMap, Stage, Idle, Waiting, Loaded, Returning, named}
 use Rattle.ideal_lane.specs.State.{WaitingLoad}
+use Rattle.ideal_lane.specs.Outcomes.{Outcome}
 use Rattle.ideal_lane.specs.Standing.{IsPageless}
 use Rattle.ideal_lane.specs.Turns.{Blocked, stays, operation, transfer, waits, waits_in, is_waiting, advanced}
-use Rattle.ideal_lane.specs.Turns.{next_operation, script_turn, transfer_turn, called_back, lane_step}
+use Rattle.ideal_lane.specs.Turns.{left_queue, next_operation, script_turn, transfer_turn, called_back, lane_step}
 use Rattle.ideal_lane.specs.View.{view_of, own_map}
 use Rattle.ideal_lane.proofs.Views.{zoned}
 use Rattle.ideal_world.specs.Ends.{IsAtRest}
 use Rattle.ideal_world.specs.Waiting.{IsAwaiting, EndsOrAwaits, HasEnded, Awaits, DriverAwaits, OnlyAwaits}
 use Rattle.ideal_world.specs.WellFormed.{IsDriverOf, IsWellFormed}
 use Rattle.ideal_world.specs.World.{WorldState, replied, step_of, entry_of, has_ended}
-use Rattle.ideal_world.proofs.Falling.{advances, leaves}
 use Rattle.ideal_world.proofs.Keeping.{fits}
 use Rattle.ideal_world.proofs.Lanes.{found}
 use Rattle.ideal_world.proofs.Waiters.{in-zone, unlisted, head-listed}
@@ -76,18 +76,18 @@ awaited l (op.Await m) none h =
     by : (b c : Bool) → c ≡ false → (b || c) ≡ true → b ≡ true
     by true c e t = refl
     by false c e t = sym e ∙ t
-awaited l (op.Tag name parent limits) none h = absurd (cc)
-awaited l (op.TagDestroy tag) none h = absurd (cc)
-awaited l (op.Map name tag) none h = absurd (cc)
-awaited l (op.MapDestroy map) none h = absurd (cc)
-awaited l (op.Dmamem name tag flags) none h = absurd (cc)
-awaited l (op.DmamemFree mem) none h = absurd (cc)
-awaited l (op.Load map buffer flags items) none h = absurd (cc)
-awaited l (op.Unload map) none h = absurd (cc)
-awaited l (op.Sync map ops) none h = absurd (cc)
-awaited l (op.SyncRange map off len ops) none h = absurd (cc)
-awaited l (op.CpuRead place len) none h = absurd (cc)
-awaited l (op.CpuWrite place bytes) none h = absurd (cc)
+awaited l _ none h = absurd (cc)
+
+-- an operation or an item that is done is a step
+advances : (w : WorldState) (i place : ℕ) (l : LaneState) (x : Asking Outcome) →
+    entry_of (replied w i l (goes_on (advanced place) x)).turn ≡ None → ⊥
+advances w i place l (Gives o) h = absurd (cc)
+advances w i place l (Asks c k) h = absurd (cc)
+
+leaves : (w : WorldState) (i : ℕ) (l : LaneState) (q : QueuedItem) (rest : List QueuedItem) (x : Asking Outcome) →
+    entry_of (replied w i l (goes_on (left_queue q rest) x)).turn ≡ None → ⊥
+leaves w i l q rest (Gives o) h = absurd (cc)
+leaves w i l q rest (Asks c k) h = absurd (cc)
 
 module _ (s : Scenario) (w : WorldState) (well : IsWellFormed s w) (rest : IsAtRest w) where
   -- ---- no callback is to be called
