@@ -21,7 +21,7 @@ use Rattle.ideal_lane.specs.Outcomes.{Outcome}
 use Rattle.ideal_lane.specs.Turns.{Turned, lane_step}
 use Rattle.ideal_lane.specs.Unloads.{pages_of, after_return}
 use Rattle.ideal_lane.proofs.Effects.{Work, Operation, Transfer, Callback, Touches, Same, Makes, Touched, Maps, Creates, Unmaps, Places, Frees}
-use Rattle.ideal_lane.proofs.Effects.{Refuses, Waits, Loads, Overflows, Unloads, Ends, AtOnce, Granted, Called}
+use Rattle.ideal_lane.proofs.Effects.{Refuses, Waits, Loads, Overflows, Unloads, Ends, AtOnce, Granted, Called, Device}
 use Rattle.ideal_lane.proofs.Effects.{IsNext, Steps, Stays, Advances, Leaves, Releases, Calls, waits_for, map_in}
 use Rattle.ideal_lane.proofs.Stepping.{turn-steps}
 use Rattle.ideal_lane.proofs.Effects.{was_in, place_in, asked_in, chunks_in, pages_in, there_in}
@@ -73,8 +73,9 @@ module _ (l : LaneState) where
   -- a load that has its pages brings the items for which its map waited, or those of the operation
   brings : {d : Work} {c : Option HubCall} {r : HubReply} (k : Ends l d c r) →
       length (asked_in k).items ≤ w (was_in k) + more_by d
-  brings (AtOnce b none) = omega (arith, ap more_by b.is)
-  brings (Granted b some pages) = omega (arith, ap more_by b.is)
+  brings (AtOnce b plain none) = omega (arith, ap more_by b.is)
+  brings (Granted b plain some pages) = omega (arith, ap more_by b.is)
+  brings (Device b device first spaces taken) = omega (arith, ap more_by b.is)
   brings (Called m pages o v e waits) =
       omega (arith, ap awaited_items waits)
 
@@ -99,7 +100,7 @@ module _ (l : LaneState) where
   few at (Frees m x e o f i) = no-more _ (weigh-cut w l.maps m o f) refl refl refl
   few at (Refuses b over e) =
       no-more _ (unwaiting-put b.m (record b.o { tried = true; stage = Idle }) refl) refl refl refl
-  few {d} at (Waits b some have) = record {
+  few {d} at (Waits b plain some have) = record {
     low =
         omega (
           arith,

@@ -110,7 +110,7 @@ module _ (p : ℕ) where
     pays {x = x} none owes (Unmaps m o e i) = no-more x (weigh-cut w l.maps m o e) refl
     pays {x = x} none owes (Frees m y e o f i) = no-more x (weigh-cut w l.maps m o f) refl
     pays {x = x} none owes (Refuses b over e) = no-more x (omega (arith, unpaged-free b.m b.o [] b.there)) refl
-    pays none owes (Waits b some have) = record {
+    pays none owes (Waits b plain some have) = record {
       low =
           omega (
             arith,

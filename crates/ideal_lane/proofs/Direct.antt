@@ -1,5 +1,5 @@
 -- Where nothing can bounce, no chunk does.
-use Rattle.std.proofs.Common.{◌≡◌, ℕ, zero, suc, ◌+◌, ◌||◌, not, Bool, true, false, cond, List, [], ◌∷◌, ◌++◌, length}
+use Rattle.std.proofs.Common.{◌≡◌, ℕ, zero, suc, ◌+◌, ◌||◌, ◌&&◌, not, Bool, true, false, cond, List, [], ◌∷◌, ◌++◌, length}
 use Rattle.std.proofs.Common.{refl, ap, sym, ◌∙◌, arith, take, drop, Some, None}
 use Rattle.std.proofs.lemmas.Bool.Decides.{nat_tests}
 use Rattle.std.specs.FinMap.{get, contains_key}
@@ -13,7 +13,9 @@ use Rattle.segment_build.specs.Chunks.{chunk_limit, chunk_of, chunks_within, chu
 use Rattle.segment_build.specs.Chunks.{need_of}
 use Rattle.ideal_lane.specs.State.{LaneState, LaneTag, LaneMap}
 use Rattle.ideal_lane.specs.Standing.{StandsAt}
-use Rattle.ideal_lane.specs.Loads.{limits_of, chunks_for, one_entry}
+use Rattle.ideal_lane.specs.Loads.{limits_of, chunks_for, is_device, one_entry}
+use Rattle.ideal_lane.specs.Maps.{bounces}
+use Rattle.std.specs.Option.{option_map_or}
 
 module _ (t : TagLimits) (maxmem : ℕ) (never : could_bounce t maxmem ≡ false) where
   unbounced : (at : ℕ) (bytes : List ℕ) → (chunk_of t maxmem at bytes).bounced ≡ false
@@ -51,19 +53,26 @@ nowhere t = grind (arith, nat_tests)
 limits-are : (l : LaneState) (o : LaneMap) (t : LaneTag) → get l.tags o.tag ≡ Some t → limits_of l o ≡ t.limits
 limits-are l o t e = rw e refl
 
+-- the map of a memory needs no page
+pub need-memory : (l : LaneState) (o : LaneMap) (es : List Entry) → need_of (chunks_for l o true es) ≡ 0
+need-memory l o es =
+    ap length (from (record (limits_of l o) { alignment = 1 }) 0 (nowhere (limits_of l o)) 0 (one_entry es))
+
 -- a map without zone needs no page
 pub need-direct : (l : LaneState) (k : ℕ) (o : LaneMap) (es : List Entry) →
-    StandsAt l.maxmem l.tags l.mems k o → o.zone ≡ None →
+    StandsAt l.maxmem l.tags l.mems k o → is_device l o ≡ false → o.zone ≡ None →
     need_of (chunks_for l o (contains_key l.mems k) es) ≡ 0
-need-direct l k o es s zone = by (contains_key l.mems k) (s.direct zone)
+need-direct l k o es s plain zone = by (contains_key l.mems k) (s.direct zone)
   where
+    kind : s.tag.device ≡ false
+    kind = sym (ap (λ x. option_map_or (λ (t : LaneTag). t.device) x false) s.there) ∙ plain
+
     never : (b : Bool) → not b ≡ true → b ≡ false
     never true h = sym h
     never false h = refl
 
-    by : (b : Bool) → (b || not (could_bounce s.tag.limits l.maxmem)) ≡ true → need_of (chunks_for l o b es) ≡ 0
-    by true h =
-        ap length (from (record (limits_of l o) { alignment = 1 }) 0 (nowhere (limits_of l o)) 0 (one_entry es))
+    by : (b : Bool) → (b || not (bounces l.maxmem s.tag)) ≡ true → need_of (chunks_for l o b es) ≡ 0
+    by true h = need-memory l o es
     by false h =
         ap length (from (limits_of l o) l.maxmem (ap (λ t. could_bounce t l.maxmem) (limits-are l o s.tag s.there)
-        ∙ never (could_bounce s.tag.limits l.maxmem) h) 0 es)
+        ∙ sym (ap (λ d. not d && could_bounce s.tag.limits l.maxmem) kind) ∙ never (bounces l.maxmem s.tag) h) 0 es)

@@ -42,21 +42,23 @@ use Rattle.lane_tables.specs.declared.queued.QueuedItem.{QueuedItem}
 use Rattle.loan_table.specs.Access.{cpu_write_answer, dev_write_answer}
 use Rattle.loan_table.specs.Lending.{sync_answer, synced, lost}
 use Rattle.loan_table.specs.Loans.{loan_of, load_bytes}
+use Rattle.iommu_load.specs.Device.{device_chunks, load_frames}
+use Rattle.iommu_map.specs.Space.{Space, first_free}
 use Rattle.segment_build.specs.Chunks.{need_of}
-use Rattle.ideal_lane.specs.State.{LaneState, LaneTag, LaneMap, LaneMemory, Stage, Waiting, WaitingLoad, named}
+use Rattle.ideal_lane.specs.State.{LaneState, LaneTag, LaneMap, LaneMemory, Stage, Waiting, WaitingLoad, named, no_space}
 use Rattle.ideal_lane.specs.IdealMemory.{written, forgotten}
-use Rattle.ideal_lane.specs.Loads.{Asked, asked, limits_of, chunks_for, granted, ended}
-use Rattle.ideal_lane.specs.Loads.{load_judged, unpaged, waiting_load, zone_of}
-use Rattle.ideal_lane.specs.Maps.{with_map, without_map}
+use Rattle.ideal_lane.specs.Loads.{Asked, are_few, asked, limits_of, chunks_for, granted, is_device, ended}
+use Rattle.ideal_lane.specs.Loads.{load_judged, unpaged, waiting_load, with_run, with_spaces, zone_of}
+use Rattle.ideal_lane.specs.Maps.{bounces, with_map, without_map}
 use Rattle.ideal_lane.specs.Memories.{placed, without_memory}
 use Rattle.ideal_lane.specs.Outcomes.{Outcome, is_idle, is_loaded}
 use Rattle.ideal_lane.specs.Outcomes.{load_length}
 use Rattle.ideal_lane.specs.Places.{virtual_at, reached, bytes_at}
 use Rattle.ideal_lane.specs.Syncs.{copies, counted}
-use Rattle.ideal_lane.specs.Tags.{with_tag, has_maps}
+use Rattle.ideal_lane.specs.Tags.{with_tag, has_maps, with_space}
 use Rattle.ideal_lane.specs.Turns.{Turn, Turned, Blocked, Ended, stays, stepped, bio_at}
 use Rattle.ideal_lane.specs.Turns.{never_waits, waits, advanced, served, left_queue}
-use Rattle.ideal_lane.specs.Unloads.{unlent, pages_of, restaged, after_return}
+use Rattle.ideal_lane.specs.Unloads.{unlent, unmapped, pages_of, restaged, after_return}
 use Rattle.ideal_lane.proofs.Endings.{fits, fitting, too_big}
 
 -- what a step does: an operation, an item, or the callback of a map
@@ -139,7 +141,7 @@ pub data IsNew (l : LaneState) : Option ℕ → TagLimits → TagLimits → Type
 pub data IsVain (l : LaneState) : Work → HubCall → HubReply → Type 0 where
   Unattached : {d : Work} {r : HubReply} (t : TagLimits) → (could_bounce t l.maxmem && allocnow t.flags) ≡ true →
       IsUnmade r → IsVain l d (call.AttachTag t) r
-  Uncreated : {d : Work} {r : HubReply} (g : LaneTag) → could_bounce g.limits l.maxmem ≡ true → IsUnmade r →
+  Uncreated : {d : Work} {r : HubReply} (g : LaneTag) → bounces l.maxmem g ≡ true → IsUnmade r →
       IsVain l d (call.CreateMap (named l l.place) g.limits g.first_done) r
   Unplaced : {d : Work} {r : HubReply} (g : LaneTag) → IsUnplaced r →
       IsVain l d (call.MemAlloc (named l l.place) g.limits) r
@@ -167,6 +169,10 @@ module _ {l : LaneState} {d : Work} (b : Begins l d) where
   abbrev pub chunks : List Chunk
   chunks = chunks_for l b.o (contains_key l.mems b.m) asks.entries
 
+  -- its frames
+  abbrev pub frames : List ℕ
+  frames = load_frames asks.entries
+
   -- what its map keeps while it waits
   abbrev pub waits_for : WaitingLoad
   waits_for = waiting_load l asks chunks
@@ -177,54 +183,88 @@ module _ {l : LaneState} {d : Work} (b : Begins l d) where
   pub here : IsNext l d → slice_get l.script l.place ≡ Some (op.Load b.m b.buffer b.flags b.items)
   here at = subst (IsNext l) b.is at
 
--- such a load is refused: it is longer than the tag allows, or the reply to its wish brings neither pages nor a wait
+-- such a load is refused: it is longer than the tag allows, the reply to its wish brings neither pages nor a wait, or
+-- its map is one of an IOMMU tag and no run of so many device pages is free
 pub data IsOver {l : LaneState} {d : Work} (b : Begins l d) : Option HubCall → HubReply → Type 0 where
   TooLong : {r : HubReply} → nat_lt (limits_of l b.o).maxsize (asks b).len ≡ true → IsOver b None r
-  Ungranted : {r : HubReply} → (need_of (chunks b) == 0) ≡ false → IsUngranted r → IsOver b (Some (grab b)) r
+  Ungranted : {r : HubReply} → is_device l b.o ≡ false → (need_of (chunks b) == 0) ≡ false → IsUngranted r →
+      IsOver b (Some (grab b)) r
+  NoRun : {r : HubReply} → is_device l b.o ≡ true → first_free (l.spaces b.o.tag) (length (frames b)) ≡ None →
+      IsOver b None r
 
--- a load has its pages: it needs none, the reply to its wish brings them, or its callback does
+-- a load of an IOMMU tag's map has its run of device pages, and the address spaces are these; one of no byte takes none
+pub data IsTaken {l : LaneState} {d : Work} (b : Begins l d) : ℕ → (ℕ → Space) → Type 0 where
+  NoFrame : (length (frames b) == 0) ≡ true → IsTaken b 0 l.spaces
+  Run : (length (frames b) == 0) ≡ false → (first : ℕ) →
+      first_free (l.spaces b.o.tag) (length (frames b)) ≡ Some first →
+      IsTaken b first (with_run (are_few (limits_of l b.o) (device_chunks first 0 (asks b).entries)) b.o.tag first
+      (frames b) l.spaces)
+
+-- a load has its pages: it needs none, the reply to its wish brings them, or its callback does; or it is one of an
+-- IOMMU tag's map
 pub data Ends (l : LaneState) : Work → Option HubCall → HubReply → Type 0 where
-  AtOnce : {d : Work} {r : HubReply} (b : Begins l d) → (need_of (chunks b) == 0) ≡ true → Ends l d None r
-  Granted : {d : Work} (b : Begins l d) → (need_of (chunks b) == 0) ≡ false → (pages : List Pa) →
+  AtOnce : {d : Work} {r : HubReply} (b : Begins l d) → is_device l b.o ≡ false → (need_of (chunks b) == 0) ≡ true →
+      Ends l d None r
+  Granted : {d : Work} (b : Begins l d) → is_device l b.o ≡ false → (need_of (chunks b) == 0) ≡ false →
+      (pages : List Pa) →
       Ends l d (Some (grab b)) (reply.Granted pages)
   Called : (m : MapId) (pages : List Pa) (o : LaneMap) (v : WaitingLoad) → get l.maps m.made_at ≡ Some o →
       o.stage ≡ Waiting v → Ends l (Callback m) (Some call.TakeCallback) (reply.Called m pages)
+  Device : {d : Work} {r : HubReply} (b : Begins l d) → is_device l b.o ≡ true → (first : ℕ) (spaces : ℕ → Space) →
+      IsTaken b first spaces → Ends l d None r
 
 -- the map of such a load, how it stood, the load's place in the script, what it asks, its chunks, and its pages
 module _ {l : LaneState} where
   abbrev pub map_in : {d : Work} {c : Option HubCall} {r : HubReply} → Ends l d c r → ℕ
-  map_in (AtOnce b e) = b.m
-  map_in (Granted b e pages) = b.m
+  map_in (AtOnce b plain e) = b.m
+  map_in (Granted b plain e pages) = b.m
   map_in (Called m pages o v e w) = m.made_at
+  map_in (Device b device first spaces taken) = b.m
 
   abbrev pub was_in : {d : Work} {c : Option HubCall} {r : HubReply} → Ends l d c r → LaneMap
-  was_in (AtOnce b e) = b.o
-  was_in (Granted b e pages) = b.o
+  was_in (AtOnce b plain e) = b.o
+  was_in (Granted b plain e pages) = b.o
   was_in (Called m pages o v e w) = o
+  was_in (Device b device first spaces taken) = b.o
 
   abbrev pub place_in : {d : Work} {c : Option HubCall} {r : HubReply} → Ends l d c r → ℕ
-  place_in (AtOnce b e) = l.place
-  place_in (Granted b e pages) = l.place
+  place_in (AtOnce b plain e) = l.place
+  place_in (Granted b plain e pages) = l.place
   place_in (Called m pages o v e w) = v.load_at
+  place_in (Device b device first spaces taken) = l.place
 
   abbrev pub asked_in : {d : Work} {c : Option HubCall} {r : HubReply} → Ends l d c r → Asked
-  asked_in (AtOnce b e) = asks b
-  asked_in (Granted b e pages) = asks b
+  asked_in (AtOnce b plain e) = asks b
+  asked_in (Granted b plain e pages) = asks b
   asked_in (Called m pages o v e w) = asked m.made_at v.bio false v.items l
+  asked_in (Device b device first spaces taken) = asks b
 
   abbrev pub chunks_in : {d : Work} {c : Option HubCall} {r : HubReply} → Ends l d c r → List Chunk
-  chunks_in k = chunks_for l (was_in k) (contains_key l.mems (map_in k)) (asked_in k).entries
+  chunks_in (AtOnce b plain e) = chunks b
+  chunks_in (Granted b plain e pages) = chunks b
+  chunks_in (Called m pages o v e w) =
+      chunks_for l o (contains_key l.mems m.made_at) (asked m.made_at v.bio false v.items l).entries
+  chunks_in (Device b device first spaces taken) = device_chunks first 0 (asks b).entries
+
+  -- the address spaces after it
+  abbrev pub spaces_in : {d : Work} {c : Option HubCall} {r : HubReply} → Ends l d c r → ℕ → Space
+  spaces_in (AtOnce b plain e) = l.spaces
+  spaces_in (Granted b plain e pages) = l.spaces
+  spaces_in (Called m pages o v e w) = l.spaces
+  spaces_in (Device b device first spaces taken) = spaces
 
   abbrev pub pages_in : {d : Work} {c : Option HubCall} {r : HubReply} → Ends l d c r → List ℕ
-  pages_in (AtOnce b e) = []
-  pages_in (Granted b e pages) = addresses pages
+  pages_in (AtOnce b plain e) = []
+  pages_in (Granted b plain e pages) = addresses pages
   pages_in (Called m pages o v e w) = addresses pages
+  pages_in (Device b device first spaces taken) = []
 
   pub there_in : {d : Work} {c : Option HubCall} {r : HubReply} (k : Ends l d c r) →
       get l.maps (map_in k) ≡ Some (was_in k)
-  there_in (AtOnce b e) = b.there
-  there_in (Granted b e pages) = b.there
+  there_in (AtOnce b plain e) = b.there
+  there_in (Granted b plain e pages) = b.there
   there_in (Called m pages o v e w) = e
+  there_in (Device b device first spaces taken) = b.there
 
 -- an operation or an item syncs a range of a map's load
 pub data IsSync (l : LaneState) : Work → ℕ → ℕ → ℕ → ℕ → Type 0 where
@@ -296,13 +336,16 @@ pub data Makes (l : LaneState) : Work → Option HubCall → HubReply → Outcom
   -- tag_destroy: a tag without maps is gone
   Untags : {r : HubReply} (t : ℕ) → has_maps l t ≡ false →
       Makes l (Operation (op.TagDestroy t)) None r
-      (record { lane = record l { tags = remove l.tags t }; answer = answer.Done })
-  -- map: the driver has one more map, which has no zone, since its tag could not bounce
+      (record {
+        lane = record l { tags = remove l.tags t; spaces = with_space t no_space l.spaces };
+        answer = answer.Done;
+      })
+  -- map: the driver has one more map, which has no zone, since its loads never bounce
   Maps : {r : HubReply} (name : List ℕ) (t : ℕ) (g : LaneTag) → get l.tags t ≡ Some g →
-      could_bounce g.limits l.maxmem ≡ false →
+      bounces l.maxmem g ≡ false →
       Makes l (Operation (op.Map name t)) None r (record { lane = with_map t None l; answer = answer.Done })
   -- map: the driver has one more map, in a zone, and the first allocation of its tag is done
-  Creates : (name : List ℕ) (t : ℕ) (g : LaneTag) → get l.tags t ≡ Some g → could_bounce g.limits l.maxmem ≡ true →
+  Creates : (name : List ℕ) (t : ℕ) (g : LaneTag) → get l.tags t ≡ Some g → bounces l.maxmem g ≡ true →
       (n : Grown) → n.made ≡ true →
       Makes l (Operation (op.Map name t)) (Some (call.CreateMap (named l l.place) g.limits g.first_done))
       (reply.Grown n) (record {
@@ -326,20 +369,23 @@ pub data Makes (l : LaneState) : Work → Option HubCall → HubReply → Outcom
   Refuses : {d : Work} {c : Option HubCall} {r : HubReply} (b : Begins l d) → IsOver b c r → (e : Errno) →
       Makes l d c r (ended b.m b.o (answer.Refused e) l)
   -- load: it waits for pages, and its map keeps it
-  Waits : {d : Work} (b : Begins l d) → (need_of (chunks b) == 0) ≡ false → (have : ℕ) →
+  Waits : {d : Work} (b : Begins l d) → is_device l b.o ≡ false → (need_of (chunks b) == 0) ≡ false → (have : ℕ) →
       Makes l d (Some (grab b)) (reply.Queued have) (granted b.m b.o (asks b) (chunks b) l (reply.Queued have))
   -- load, or its callback: it has its pages, its map is loaded and lends nothing, and its items join the transfer queue
   Loads : {d : Work} {c : Option HubCall} {r : HubReply} (k : Ends l d c r) →
       fits l (map_in k) (was_in k) (place_in k) (asked_in k) (chunks_in k) (pages_in k) ≡ true →
-      Makes l d c r (fitting l (map_in k) (was_in k) (place_in k) (asked_in k) (chunks_in k) (pages_in k))
+      Makes l d c r
+      (with_spaces (spaces_in k) (fitting l (map_in k) (was_in k) (place_in k) (asked_in k) (chunks_in k) (pages_in k)))
   -- load, or its callback: it has its pages but too many segments, and the pages join the return queue
   Overflows : {d : Work} {c : Option HubCall} {r : HubReply} (k : Ends l d c r) →
       fits l (map_in k) (was_in k) (place_in k) (asked_in k) (chunks_in k) (pages_in k) ≡ false →
-      Makes l d c r (too_big l (map_in k) (was_in k) (place_in k) (asked_in k) (chunks_in k) (pages_in k))
-  -- unload: the map lends nothing any more, what it lent to write is Unknown, and its pages join the return queue
+      Makes l d c r
+      (with_spaces (spaces_in k) (too_big l (map_in k) (was_in k) (place_in k) (asked_in k) (chunks_in k) (pages_in k)))
+  -- unload: the map lends nothing any more, what it lent to write is Unknown, its pages join the return queue, and its
+  -- run of device pages ends
   Unloads : {r : HubReply} (m : ℕ) (o : LaneMap) → get l.maps m ≡ Some o → is_loaded o.stage ≡ true →
       Makes l (Operation (op.Unload m)) None r
-      (record { lane = unpaged m o (pages_of o.stage) (unlent m l); answer = answer.Done })
+      (record { lane = unmapped o (unpaged m o (pages_of o.stage) (unlent m l)); answer = answer.Done })
   -- await: the wait has ended, and the driver is the same
   Awaits : {r : HubReply} (m : ℕ) →
       Makes l (Operation (op.Await m)) None r (record { lane = l; answer = answer.Done })

@@ -34,7 +34,7 @@ use Rattle.ideal_lane.specs.Unloads.{pages_of, after_return}
 use Rattle.ideal_lane.specs.Turns.{waits, lane_step, Turned}
 use Rattle.ideal_lane.specs.View.{view_of}
 use Rattle.ideal_lane.specs.Left.{op_weight, stage_weight, maps_weight, left, Falls, FallsOrStays}
-use Rattle.ideal_lane.proofs.Effects.{Advances, AtOnce, Begins, Callback, Called, Calls, Creates, Ends, Frees, Granted}
+use Rattle.ideal_lane.proofs.Effects.{Advances, AtOnce, Begins, Callback, Called, Calls, Creates, Device, Ends, Frees, Granted}
 use Rattle.ideal_lane.proofs.Effects.{IsNext, IsReplyOf, IsUnwaited, IsUnwaiting, Leaves, Loads, Makes, Maps}
 use Rattle.ideal_lane.proofs.Effects.{NothingLeft, Operation, Overflows, Places, Refuses, Releases, Same, Stays, Steps}
 use Rattle.ideal_lane.proofs.Effects.{Touched, Touches, Transfer, Unloads, Unmaps, Unwaited, Vain, Waits, Work}
@@ -196,19 +196,19 @@ module _ (l : LaneState) where
         let low = cut-low _ m z there in record { cost_low = low.cost_low; script = refl; place = refl }
     makes-low at e (Refuses b over v) =
         stage-low _ b.m b.o (record b.o { tried = true; stage = Idle }) b.there (omega arith)
-    makes-low at e (Waits b some have) =
+    makes-low at e (Waits b plain some have) =
         stage-low _ b.m b.o (record b.o { tried = true; stage = Waiting (waits_for b) }) b.there
         (omega (arith, enough b))
-    makes-low {r = r} at e (Loads (AtOnce b none) f) = record {
-      cost_low = omega (arith, loads-cost (AtOnce {r = r} b none), enough b);
+    makes-low {r = r} at e (Loads (AtOnce b plain none) f) = record {
+      cost_low = omega (arith, loads-cost (AtOnce {r = r} b plain none), enough b);
       script = refl;
       place = refl;
     }
-    makes-low at e (Loads (Granted b some pages) f) = record {
+    makes-low at e (Loads (Granted b plain some pages) f) = record {
       cost_low =
           omega (
             arith,
-            loads-cost (Granted b some pages),
+            loads-cost (Granted b plain some pages),
             enough b,
             addresses-length pages,
             granted-length (named l b.m) (zone_of b.o) (need_of (chunks b)) (asks b).nowait a pages e,
@@ -216,12 +216,12 @@ module _ (l : LaneState) where
       script = refl;
       place = refl;
     }
-    makes-low at e (Overflows (AtOnce b none) f) = record {
+    makes-low at e (Overflows (AtOnce b plain none) f) = record {
       cost_low = omega (arith, unpaged-cost b.m b.o [] b.there, enough b);
       script = refl;
       place = refl;
     }
-    makes-low at e (Overflows (Granted b some pages) f) = record {
+    makes-low at e (Overflows (Granted b plain some pages) f) = record {
       cost_low =
           omega (
             arith,
@@ -230,6 +230,16 @@ module _ (l : LaneState) where
             addresses-length pages,
             granted-length (named l b.m) (zone_of b.o) (need_of (chunks b)) (asks b).nowait a pages e,
           );
+      script = refl;
+      place = refl;
+    }
+    makes-low {r = r} at e (Loads (Device b device first spaces taken) f) = record {
+      cost_low = omega (arith, loads-cost (Device {r = r} b device first spaces taken), enough b);
+      script = refl;
+      place = refl;
+    }
+    makes-low at e (Overflows (Device b device first spaces taken) f) = record {
+      cost_low = omega (arith, unpaged-cost b.m b.o [] b.there, enough b);
       script = refl;
       place = refl;
     }

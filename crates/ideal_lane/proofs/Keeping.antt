@@ -28,6 +28,10 @@ use Rattle.ideal_lane.specs.Tags.{with_tag}
 use Rattle.ideal_lane.specs.Maps.{with_map, without_map}
 use Rattle.ideal_lane.specs.Loads.{Asked, zone_of, staged, unpaged, emptied}
 use Rattle.ideal_lane.specs.Unloads.{pages_of}
+use Rattle.std.proofs.Common.{not}
+use Rattle.iommu_load.specs.Device.{device_chunks}
+use Rattle.ideal_lane.specs.Loads.{is_device}
+use Rattle.ideal_lane.proofs.Effects.{Device, NoRun}
 use Rattle.ideal_lane.proofs.Effects.{AtOnce, Attaches, Begins, Creates, Frees, Granted, IsUngranted, IsUnmade}
 use Rattle.ideal_lane.proofs.Effects.{IsUnplaced, Loads, Makes, Maps, Operation, Overflows, Places, Refuses, Same}
 use Rattle.ideal_lane.proofs.Effects.{TooLong, Touched, Touches, Unattached, Uncreated, Ungranted, Unloads, Unmaps}
@@ -165,11 +169,11 @@ module _ (l : LaneState) (s : Stands l) where
         own_map (get l.maps b.m) ≡ Some (record { zone = z; stage = view.Idle })
     seen-idle z zone = seen-in l b.m z b.o view.Idle b.there zone (ap stage_of (idle-is b.o.stage b.idle))
 
-    module _ (some : (need_of (chunks b) == 0) ≡ false) where
+    module _ (plain : is_device l b.o ≡ false) (some : (need_of (chunks b) == 0) ≡ false) where
       zone-at : (zone : Option ℕ) → b.o.zone ≡ zone → b.o.zone ≡ Some (zone_of b.o)
       zone-at (Some z) e = e ∙ ap (λ w. Some w) (sym (ap (λ w. unwrap_or w 0) e))
       zone-at None e =
-          let none : need_of (chunks b) ≡ 0 = need-direct l b.m b.o (asks b).entries (s.each b.m b.o b.there) e in
+          let none : need_of (chunks b) ≡ 0 = need-direct l b.m b.o (asks b).entries (s.each b.m b.o b.there) plain e in
           let more : 1 ≤ need_of (chunks b) = some-need (need_of (chunks b)) some in
           absurd (omega (arith, none, more))
 
@@ -180,18 +184,23 @@ module _ (l : LaneState) (s : Stands l) where
       asks-grab = (refl, some-need (need_of (chunks b)) some, seen-idle (zone_of b.o) zone-is)
 
     -- a load without pages
-    loads-pageless : (a : Account) → Agrees (view_of l) a → (zone : Option ℕ) → b.o.zone ≡ zone →
-        Agrees (view_of (fitting l b.m b.o l.place (asks b) (chunks b) []).lane) a
-    loads-pageless a g None zone =
-        let t : Stage = Loaded (bounced_in l b.m b.o l.place (asks b) (chunks b) [])
-        (segments_of l b.m b.o l.place (asks b) (chunks b) []) [] in
+    loads-pageless : (cs : List Chunk) (a : Account) → Agrees (view_of l) a → (zone : Option ℕ) → b.o.zone ≡ zone →
+        Agrees (view_of (fitting l b.m b.o l.place (asks b) cs []).lane) a
+    loads-pageless cs a g None zone =
+        let t : Stage = Loaded (bounced_in l b.m b.o l.place (asks b) cs [])
+        (segments_of l b.m b.o l.place (asks b) cs []) [] in
         alike l (staged b.m b.o t l) (like-unseen l b.m (record b.o { tried = true; stage = t }) (ap (in_zone t) zone
         ∙ sym (seen-out l b.m b.o b.there zone))) a g
-    loads-pageless a g (Some z) zone =
+    loads-pageless cs a g (Some z) zone =
         agrees-like (view.staged (view_of l) b.m z (view.Loaded []))
-        (view_of (fitting l b.m b.o l.place (asks b) (chunks b) []).lane) a
-        (ended-like l b.m b.o l.place (asks b) (chunks b) [] z zone true)
+        (view_of (fitting l b.m b.o l.place (asks b) cs []).lane) a
+        (ended-like l b.m b.o l.place (asks b) cs [] z zone true)
         (agrees-loaded (view_of l) b.m z a g (seen-idle z zone))
+
+    overflows-pageless : (a : Account) → Agrees (view_of l) a → Agrees (view_of (unpaged b.m b.o [] l)) a
+    overflows-pageless =
+        alike l (unpaged b.m b.o [] l) (like-unpaged l b.m (zone_of b.o) (record b.o { tried = true; stage = Idle })
+        (sym (seen l b.m b.o b.there ∙ ap (λ t. in_zone t b.o.zone) (idle-is b.o.stage b.idle))))
 
   unloads-keep : (m : ℕ) (o : LaneMap) → get l.maps m ≡ Some o → is_loaded o.stage ≡ true → (a : Account) →
       Agrees (view_of l) a → Agrees (view_of (unpaged m o (pages_of o.stage) l)) a
@@ -219,7 +228,7 @@ module _ (l : LaneState) (s : Stands l) where
       let p = and_parts (could_bounce t l.maxmem) (allocnow t.flags) b in
       ((p.0, p.1), record { fits = true; like = like-refl (view_of l) })
   keeps {r = r} (Vain (Uncreated g b u) v q) = (
-    (refl, b, ap own_map no-map),
+    (refl, (and_parts (not g.device) (could_bounce g.limits l.maxmem) b).1, ap own_map no-map),
     record { fits = true; like = vain l _ (uncreated (view_of l) l.place r u) },
   )
   keeps {r = r} (Vain (Unplaced g u) v q) =
@@ -231,7 +240,7 @@ module _ (l : LaneState) (s : Stands l) where
       alike l (with_map t None l) (like-unseen l l.place
       (record { tag = t; zone = None; tried = false; stage = Idle }) (sym (ap own_map no-map)))
   keeps (Creates name t g there b n e) = (
-    (refl, b, ap own_map no-map),
+    (refl, (and_parts (not g.device) (could_bounce g.limits l.maxmem) b).1, ap own_map no-map),
     record {
       fits = true;
       like =
@@ -257,8 +266,9 @@ module _ (l : LaneState) (s : Stands l) where
     record { fits = true; like = like-no_memory l m (seen-out l m o e ((s.each m o e).memory (ap is_some f))) },
   )
   keeps (Refuses b (TooLong long) v) = alike l (staged b.m b.o Idle l) (back b)
-  keeps {r = r} (Refuses b (Ungranted some u) v) = (
-    asks-grab b some,
+  keeps (Refuses b (NoRun device none) v) = alike l (staged b.m b.o Idle l) (back b)
+  keeps {r = r} (Refuses b (Ungranted plain some u) v) = (
+    asks-grab b plain some,
     record {
       fits = true;
       like =
@@ -266,32 +276,33 @@ module _ (l : LaneState) (s : Stands l) where
           (sym (ungranted (view_of l) b.m (zone_of b.o) (need_of (chunks b)) r u)) (back b);
     },
   )
-  keeps (Waits b some have) = (
-    asks-grab b some,
+  keeps (Waits b plain some have) = (
+    asks-grab b plain some,
     record {
       fits = true;
       like =
           like-staged l b.m (record b.o { tried = true; stage = Waiting (waits_for b) }) (zone_of b.o)
           (view.Waiting (need_of (chunks b)))
-          (ap (in_zone (Waiting (waits_for b))) (zone-is b some));
+          (ap (in_zone (Waiting (waits_for b))) (zone-is b plain some));
     },
   )
-  keeps (Loads (AtOnce b none) f) = λ a g. loads-pageless b a g b.o.zone refl
-  keeps (Loads (Granted b some pages) f) = (
-    asks-grab b some,
+  keeps (Loads (AtOnce b plain none) f) = λ a g. loads-pageless b (chunks b) a g b.o.zone refl
+  keeps (Loads (Device b device first spaces taken) f) =
+      λ a g. loads-pageless b (device_chunks first 0 (asks b).entries) a g b.o.zone refl
+  keeps (Loads (Granted b plain some pages) f) = (
+    asks-grab b plain some,
     record {
       fits = true;
-      like = ended-like l b.m b.o l.place (asks b) (chunks b) (addresses pages) (zone_of b.o) (zone-is b some) true;
+      like = ended-like l b.m b.o l.place (asks b) (chunks b) (addresses pages) (zone_of b.o) (zone-is b plain some) true;
     },
   )
-  keeps (Overflows (AtOnce b none) f) =
-      alike l (unpaged b.m b.o [] l) (like-unpaged l b.m (zone_of b.o) (record b.o { tried = true; stage = Idle })
-      (sym (seen l b.m b.o b.there ∙ ap (λ t. in_zone t b.o.zone) (idle-is b.o.stage b.idle))))
-  keeps (Overflows (Granted b some pages) f) = (
-    asks-grab b some,
+  keeps (Overflows (AtOnce b plain none) f) = overflows-pageless b
+  keeps (Overflows (Device b device first spaces taken) f) = overflows-pageless b
+  keeps (Overflows (Granted b plain some pages) f) = (
+    asks-grab b plain some,
     record {
       fits = false;
-      like = ended-like l b.m b.o l.place (asks b) (chunks b) (addresses pages) (zone_of b.o) (zone-is b some) false;
+      like = ended-like l b.m b.o l.place (asks b) (chunks b) (addresses pages) (zone_of b.o) (zone-is b plain some) false;
     },
   )
   keeps (Unloads m o there i) = unloads-keep m o there i

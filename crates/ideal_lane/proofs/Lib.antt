@@ -14,5 +14,6 @@ pub mod Reported
 pub mod Standings
 pub mod Stepping
 pub mod Turning
+pub mod Unspaced
 pub mod Views
 pub mod Weights

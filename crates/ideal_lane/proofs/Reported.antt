@@ -20,7 +20,7 @@ use Rattle.ideal_lane.specs.State.{LaneState, LaneMap, Stage}
 use Rattle.ideal_lane.specs.Turns.{Turn, Turned, lane_step}
 use Rattle.ideal_lane.specs.Unloads.{after_return, restaged}
 use Rattle.ideal_lane.proofs.Effects.{Work, Operation, Transfer, Callback, Touches, Same, Makes, Touched, Vain, Loads}
-use Rattle.ideal_lane.proofs.Effects.{Ends, AtOnce, Granted, Called, IsQuiet, IsUntold, untold-quiet, IsStay, NothingNow}
+use Rattle.ideal_lane.proofs.Effects.{Ends, AtOnce, Granted, Called, Device, IsQuiet, IsUntold, untold-quiet, IsStay, NothingNow}
 use Rattle.ideal_lane.proofs.Effects.{NothingLeft, NoneCalled, Steps, Stays, Advances, Leaves, Releases, Calls}
 use Rattle.ideal_lane.proofs.Stepping.{turn-steps}
 use Rattle.ideal_lane.proofs.Effects.{place_in, asked_in}
@@ -94,8 +94,9 @@ module _ (l : LaneState) where
 
   same-items : {d : Work} {c : Option HubCall} {r : HubReply} (k : Ends l d c r) →
       queued (place_in k) (asked_in k).items ≡ items_by d
-  same-items (AtOnce b none) = sym (ap items_by b.is)
-  same-items (Granted b some pages) = sym (ap items_by b.is)
+  same-items (AtOnce b plain none) = sym (ap items_by b.is)
+  same-items (Granted b plain some pages) = sym (ap items_by b.is)
+  same-items (Device b device first spaces taken) = sym (ap items_by b.is)
   same-items (Called m pages o v there waits) = sym (ap items_in there ∙ ap items_awaited waits)
 
   touched-queue : {d : Work} {x : Outcome} → Touches l d x → x.lane.queue ≡ l.queue

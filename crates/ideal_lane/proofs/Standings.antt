@@ -1,6 +1,7 @@
 -- Each turn leaves its driver standing.
 use Rattle.std.proofs.Common.{◌≡◌, ◌≢◌, ℕ, ◌+◌, ◌≤◌, ◌==◌, ◌||◌, not, Bool, true, false, cond, if◌then◌else◌, List, []}
 use Rattle.std.proofs.Common.{◌∷◌, Option, Some, None, is_some, refl, ap, sym, ◌∙◌, subst, arith}
+use Rattle.std.proofs.lemmas.Bool.{and_parts, false≢true}
 use Rattle.std.proofs.lemmas.Bool.Decides.{nat_tests}
 use Rattle.std.proofs.lemmas.Map.Views.{exact_unsigned_eq}
 use Rattle.std.specs.Ordering.{nat_cmp, eq_by_cmp}
@@ -21,15 +22,30 @@ use Rattle.ideal_lane.specs.Asking.{Asking, Gives, Asks, call_of, by_reply}
 use Rattle.ideal_lane.specs.Outcomes.{Outcome}
 use Rattle.ideal_lane.specs.Standing.{IsPageless, StandsAt, StandsFrom, Stands, KeepsStanding}
 use Rattle.ideal_lane.specs.Tags.{with_tag, tag}
-use Rattle.ideal_lane.specs.Maps.{with_map}
-use Rattle.ideal_lane.specs.Loads.{staged, unpaged, emptied}
+use Rattle.ideal_lane.specs.Maps.{bounces, with_map}
+use Rattle.ideal_lane.specs.Loads.{is_device, staged, unpaged, emptied}
 use Rattle.ideal_lane.specs.Unloads.{pages_of, after_return}
 use Rattle.ideal_lane.specs.Turns.{Turned, waits, lane_step}
 use Rattle.ideal_lane.proofs.Effects.{Advances, AtOnce, Attaches, Begins, Callback, Called, Calls, Creates, Ends}
 use Rattle.ideal_lane.proofs.Effects.{Frees, Granted, Leaves, Loads, Makes, Maps, Overflows, Places, Refuses, Releases}
 use Rattle.ideal_lane.proofs.Effects.{Same, Stays, Steps, Tags, Touched, Touches, Unloads, Unmaps, Untags, Vain, Waits}
 use Rattle.ideal_lane.proofs.Effects.{Work, asked_in, asks, chunks, chunks_in, map_in, pages_in, place_in, there_in}
-use Rattle.ideal_lane.proofs.Effects.{waits_for, was_in}
+use Rattle.ideal_lane.proofs.Effects.{Device, waits_for, was_in}
+use Rattle.std.proofs.Common.{length, ◌&&◌}
+use Rattle.busdma_base.specs.declared.journals.answer.Answer.TheVariants as answer
+use Rattle.busdma_machine.specs.declared.report.Report.{Report}
+use Rattle.busdma_machine.specs.declared.report.ReportName.{ReportName}
+use Rattle.busdma_machine.specs.declared.report.ReportName.TheVariants.{DeviceReadUnlent, DeviceWriteUnlent}
+use Rattle.busdma_machine.specs.Judging.{judged}
+use Rattle.busdma_machine.specs.Runs.{run_of}
+use Rattle.busdma_machine.specs.Tags.Tag.{effective}
+use Rattle.loan_table.specs.Access.{dev_read_refusal, dev_write_refusal}
+use Rattle.ideal_lane.specs.Accesses.{dev_read_at, dev_write_at, raw_refusal}
+use Rattle.ideal_lane.specs.IdealMemory.{is_known}
+use Rattle.ideal_lane.specs.Outcomes.{gives}
+use Rattle.ideal_lane.specs.Tags.{device_tag, iommu_tag}
+use Rattle.ideal_lane.proofs.Refusing.{absent}
+use Rattle.ideal_lane.proofs.Refusing as judging
 use Rattle.ideal_lane.proofs.Stepping.{turn-steps}
 use Rattle.ideal_lane.proofs.Lookups.{get_put, get_cut}
 use Rattle.ideal_lane.proofs.Direct.{need-direct}
@@ -152,6 +168,7 @@ module _ {p maxmem : ℕ} {tags : FinMap nat_cmp LaneTag} {maps : FinMap nat_cmp
         tag = old.tag;
         there = ap (get tags) same_tag ∙ old.there;
         memory = λ h. same_zone ∙ old.memory h;
+        device = λ h. same_zone ∙ old.device h;
         direct = λ h. old.direct (sym same_zone ∙ h);
         pageless = λ h. pageless (sym same_zone ∙ h);
       }
@@ -167,8 +184,8 @@ module _ {p maxmem : ℕ} {tags : FinMap nat_cmp LaneTag} {maps : FinMap nat_cmp
 
   -- a tag has done its first allocation
   stands-done : (t : ℕ) (old new : LaneTag) → get tags t ≡ Some old → new.limits ≡ old.limits →
-      StandsFrom p maxmem tags maps mems → StandsFrom p maxmem (insert tags t new) maps mems
-  stands-done t old new found same s = record {
+      new.device ≡ old.device → StandsFrom p maxmem tags maps mems → StandsFrom p maxmem (insert tags t new) maps mems
+  stands-done t old new found same kind s = record {
     no_tag = λ k h. put-none tags t k new (apart tags t k old found (s.no_tag k h)) (s.no_tag k h);
     no_map = s.no_map;
     no_memory = s.no_memory;
@@ -185,8 +202,11 @@ module _ {p maxmem : ℕ} {tags : FinMap nat_cmp LaneTag} {maps : FinMap nat_cmp
             tag = new;
             there = ap (get (insert tags t new)) at ∙ put-here tags t new;
             memory = st.memory;
-            direct = λ h. ap (λ y. contains_key mems k || not (could_bounce y maxmem)) (same
-                ∙ ap (λ (y : LaneTag). y.limits) (sym tag_is)) ∙ st.direct h;
+            device = λ h. st.device (ap (λ (y : LaneTag). y.device) tag_is ∙ sym kind ∙ h);
+            direct = λ h. ap (λ y. contains_key mems k || not (not new.device && could_bounce y maxmem)) (same
+                ∙ ap (λ (y : LaneTag). y.limits) (sym tag_is))
+                ∙ ap (λ d. contains_key mems k || not (not d && could_bounce st.tag.limits maxmem)) (kind
+                ∙ ap (λ (y : LaneTag). y.device) (sym tag_is)) ∙ st.direct h;
             pageless = st.pageless;
           }
       by k x st false d = record {
@@ -195,6 +215,7 @@ module _ {p maxmem : ℕ} {tags : FinMap nat_cmp LaneTag} {maps : FinMap nat_cmp
             put-other tags t x.tag new (λ e. absurd
             (let u : (x.tag == t) ≡ true = rw e (grind (arith, nat_tests)) in cc)) ∙ st.there;
         memory = st.memory;
+        device = st.device;
         direct = st.direct;
         pageless = st.pageless;
       }
@@ -217,6 +238,7 @@ module _ {p maxmem : ℕ} {tags : FinMap nat_cmp LaneTag} {maps : FinMap nat_cmp
               (let u : (x.tag == t) ≡ true = rw d (grind (arith, nat_tests)) in cc))
               ∙ st.there;
           memory = st.memory;
+          device = st.device;
           direct = st.direct;
           pageless = st.pageless;
         };
@@ -241,7 +263,8 @@ module _ {p maxmem : ℕ} {tags : FinMap nat_cmp LaneTag} {maps : FinMap nat_cmp
             tag = st.tag;
             there = st.there;
             memory = λ h. st.memory (sym (ap is_some same) ∙ h);
-            direct = λ h. ap (λ y. is_some y || not (could_bounce st.tag.limits maxmem)) same ∙ st.direct h;
+            device = st.device;
+            direct = λ h. ap (λ y. is_some y || not (bounces maxmem st.tag)) same ∙ st.direct h;
             pageless = st.pageless;
           }
 
@@ -266,6 +289,7 @@ module _ (p maxmem : ℕ) (tags : FinMap nat_cmp LaneTag)
       tag = st.tag;
       there = put-other tags p x.tag t (apart-tag x st) ∙ st.there;
       memory = st.memory;
+      device = st.device;
       direct = st.direct;
       pageless = st.pageless;
     };
@@ -277,9 +301,9 @@ module _ (p maxmem : ℕ) (tags : FinMap nat_cmp LaneTag)
 
   -- an idle map of a tag, with a zone, or of a tag that could not bounce
   made-map : (o : LaneMap) (t : LaneTag) → get tags o.tag ≡ Some t → o.stage ≡ Idle →
-      (o.zone ≡ None → could_bounce t.limits maxmem ≡ false) →
+      (t.device ≡ true → o.zone ≡ None) → (o.zone ≡ None → bounces maxmem t ≡ false) →
       StandsFrom (p + 1) maxmem tags (insert maps p o) mems
-  made-map o t tag idle direct = record {
+  made-map o t tag idle device direct = record {
     no_tag = λ k h. s.no_tag k (over k h);
     no_map = λ k h. put-none maps p k o (off-place k h) (s.no_map k (over k h));
     no_memory = λ k h. s.no_memory k (over k h);
@@ -300,6 +324,7 @@ module _ (p maxmem : ℕ) (tags : FinMap nat_cmp LaneTag)
         tag = t;
         there = tag;
         memory = λ h. absurd (let n : contains_key mems p ≡ false = ap is_some none in cc);
+        device = device;
         direct = λ h. ap (λ b. is_some (get mems p) || not b) (direct h) ∙ or-true (is_some (get mems p));
         pageless = λ h. subst IsPageless (sym idle) tt;
       }
@@ -323,7 +348,8 @@ module _ (p maxmem : ℕ) (tags : FinMap nat_cmp LaneTag)
         tag = t;
         there = tag;
         memory = λ h. zone;
-        direct = λ h. ap (λ b. is_some b || not (could_bounce t.limits maxmem)) (put-here mems p x);
+        device = λ h. zone;
+        direct = λ h. ap (λ b. is_some b || not (bounces maxmem t)) (put-here mems p x);
         pageless = λ h. subst IsPageless (sym idle) tt;
       }
 
@@ -338,7 +364,8 @@ module _ (p maxmem : ℕ) (tags : FinMap nat_cmp LaneTag)
             tag = st.tag;
             there = st.there;
             memory = λ h. st.memory (sym (ap is_some same) ∙ h);
-            direct = λ h. ap (λ b. is_some b || not (could_bounce st.tag.limits maxmem)) same ∙ st.direct h;
+            device = st.device;
+            direct = λ h. ap (λ b. is_some b || not (bounces maxmem st.tag)) same ∙ st.direct h;
             pageless = st.pageless;
           }
 
@@ -364,15 +391,17 @@ module _ (p : ℕ) (l : LaneState) (s : StandsFrom p l.maxmem l.tags l.maps l.me
       in-staged m o (emptied pages) e (λ z. subst (λ ps. IsPageless (emptied ps)) (sym (none z)) tt)
 
   -- a load that needs pages is of a map with a zone; so one without a zone ends with none
-  zoned : {d : Work} (b : Begins l d) → (need_of (chunks b) == 0) ≡ false → b.o.zone ≡ None → ⊥
-  zoned b some none =
-      let zero : need_of (chunks b) ≡ 0 = need-direct l b.m b.o (asks b).entries (s.each b.m b.o b.there) none in
+  zoned : {d : Work} (b : Begins l d) → is_device l b.o ≡ false → (need_of (chunks b) == 0) ≡ false →
+      b.o.zone ≡ None → ⊥
+  zoned b plain some none =
+      let zero : need_of (chunks b) ≡ 0 = need-direct l b.m b.o (asks b).entries (s.each b.m b.o b.there) plain none in
       let u : (need_of (chunks b) == 0) ≡ true = rw zero refl in cc
 
   pageless-in : {d : Work} {c : Option HubCall} {r : HubReply} (k : Ends l d c r) → (was_in k).zone ≡ None →
       pages_in k ≡ []
-  pageless-in (AtOnce b none) zone = refl
-  pageless-in (Granted b some pages) zone = absurd (zoned b some zone)
+  pageless-in (AtOnce b plain none) zone = refl
+  pageless-in (Granted b plain some pages) zone = absurd (zoned b plain some zone)
+  pageless-in (Device b device first spaces taken) zone = refl
   pageless-in (Called m pages o v there waits) zone =
       absurd (subst IsPageless waits ((s.each m.made_at o there).pageless zone))
 
@@ -395,17 +424,28 @@ module _ (l : LaneState) (s : Stands l) where
   next = (later (l.place + 1) (omega arith) s, refl)
 
   in-tag : (t : TagLimits) (first_done : Bool) → StandsIn (l.place + 1) l.place (with_tag l.place t first_done l)
-  in-tag t first_done =
-      (made-tag l.place l.maxmem l.tags l.maps l.mems s (record { limits = t; first_done = first_done }), refl)
-
-  in-map : (t : ℕ) (g : LaneTag) → get l.tags t ≡ Some g → (zone : Option ℕ) →
-      (zone ≡ None → could_bounce g.limits l.maxmem ≡ false) →
-      StandsIn (l.place + 1) l.place (with_map t zone l)
-  in-map t g e zone direct = (
-    made-map l.place l.maxmem l.tags l.maps l.mems s
-        (record { tag = t; zone = zone; tried = false; stage = Idle }) g e refl direct,
+  in-tag t first_done = (
+    made-tag l.place l.maxmem l.tags l.maps l.mems s
+        (record { limits = t; first_done = first_done; device = false }),
     refl,
   )
+
+  in-map : (t : ℕ) (g : LaneTag) → get l.tags t ≡ Some g → (zone : Option ℕ) → (g.device ≡ true → zone ≡ None) →
+      (zone ≡ None → bounces l.maxmem g ≡ false) →
+      StandsIn (l.place + 1) l.place (with_map t zone l)
+  in-map t g e zone device direct = (
+    made-map l.place l.maxmem l.tags l.maps l.mems s
+        (record { tag = t; zone = zone; tried = false; stage = Idle }) g e refl device direct,
+    refl,
+  )
+
+  -- a tag whose loads could bounce is no IOMMU tag
+  plain : (g : LaneTag) → bounces l.maxmem g ≡ true → g.device ≡ false
+  plain g b = by g.device (and_parts (not g.device) (could_bounce g.limits l.maxmem) b).0
+    where
+      by : (d : Bool) → not d ≡ true → d ≡ false
+      by true h = sym h
+      by false h = refl
 
   makes-stand : {d : Work} {c : Option HubCall} {r : HubReply} {x : Outcome} → Makes l d c r x →
       StandsIn (l.place + 1) l.place x.lane
@@ -413,10 +453,10 @@ module _ (l : LaneState) (s : Stands l) where
   makes-stand (Tags name parent limits t n) = in-tag t false
   makes-stand (Attaches name parent limits t n b g e) = in-tag t true
   makes-stand (Untags t none) = (stands-untagged t none next.0, refl)
-  makes-stand (Maps name t g e b) = in-map t g e None (λ h. b)
+  makes-stand (Maps name t g e b) = in-map t g e None (λ h. refl) (λ h. b)
   makes-stand (Creates name t g e b n m) = (
-    stands-done t g (record { limits = g.limits; first_done = true }) e refl
-        (in-map t g e (Some n.zone.0) (λ h. absurd (cc))).0,
+    stands-done t g (record { limits = g.limits; first_done = true; device = false }) e refl (sym (plain g b))
+        (in-map t g e (Some n.zone.0) (λ h. absurd (false≢true (sym (plain g b) ∙ h))) (λ h. absurd (cc))).0,
     refl,
   )
   makes-stand (Unmaps m o e i) = (stands-cut m next.0, refl)
@@ -429,9 +469,9 @@ module _ (l : LaneState) (s : Stands l) where
   )
   makes-stand (Frees m x e o f i) = (stands-unmade m next.0, refl)
   makes-stand (Refuses b over e) = in-staged (l.place + 1) l next.0 b.m b.o Idle b.there (λ h. tt)
-  makes-stand (Waits b some have) =
+  makes-stand (Waits b plain some have) =
       in-staged (l.place + 1) l next.0 b.m b.o (Waiting (waits_for b)) b.there
-      (zoned (l.place + 1) l next.0 b some)
+      (zoned (l.place + 1) l next.0 b plain some)
   makes-stand (Loads k e) = loads-stand (l.place + 1) l next.0 k
   makes-stand (Overflows k e) = overflows-stand (l.place + 1) l next.0 k
   makes-stand (Unloads m o e i) =
@@ -475,3 +515,40 @@ turn-stands l d s = by (lane_step l d) (turn-steps l d)
     by : (x : Asking Turned) → ((r : HubReply) → Steps l d (call_of x) r (by_reply x r)) → KeepsStanding x
     by (Gives t) h = steps-stand l s (h reply.Nothing)
     by (Asks c k) h = λ r. steps-stand l s (h r)
+
+-- ---- the steps of IOMMU tags that no operation names
+
+module _ (l : LaneState) (s : Stands l) where
+  abbrev pub StandsAfter : Asking Outcome → Type 0
+  StandsAfter x = (r : HubReply) → Stands (by_reply x r).lane
+
+  report-stands : (x : Report) → StandsAfter (gives l (answer.Report x))
+  report-stands x r = s
+
+-- one that makes a tag leaves nothing made behind it
+pub tag-stands : (l : LaneState) (limits : TagLimits) (r : HubReply) → Stands l →
+    StandsIn (l.place + 1) l.place (by_reply (iommu_tag limits l) r).lane
+tag-stands l limits r s = by (effective None limits)
+  where
+    by : (q : Option TagLimits) → StandsIn (l.place + 1) l.place (by_reply (device_tag q l) r).lane
+    by None = next l s
+    by (Some t) = (
+      made-tag l.place l.maxmem l.tags l.maps l.mems s (record { limits = t; first_done = false; device = true }),
+      refl,
+    )
+
+pub read-stands : (l : LaneState) (u : ReportName) (t addr len : ℕ) (r : HubReply) → Stands l →
+    Stands (by_reply (dev_read_at u t addr len l) r).lane
+read-stands l u t addr len r s =
+    absent l (StandsAfter l s) (report-stands l s) (get l.tags t) _ (λ o e.
+    judging.judged l (StandsAfter l s) (report-stands l s) (judged
+    (raw_refusal u DeviceReadUnlent (dev_read_refusal (is_known l.memory) false) l t) 0 (run_of addr len)) _
+    (λ fine r. s)) r
+
+pub write-stands : (l : LaneState) (u : ReportName) (t addr : ℕ) (vs : List ℕ) (r : HubReply) → Stands l →
+    Stands (by_reply (dev_write_at u t addr vs l) r).lane
+write-stands l u t addr vs r s =
+    absent l (StandsAfter l s) (report-stands l s) (get l.tags t) _ (λ o e.
+    judging.judged l (StandsAfter l s) (report-stands l s) (judged
+    (raw_refusal u DeviceWriteUnlent (dev_write_refusal false) l t) 0 (run_of addr (length vs))) _
+    (λ fine r. s)) r

@@ -36,14 +36,16 @@ use Rattle.lane_tables.specs.declared.queued.QueuedItem.{QueuedItem}
 use Rattle.loan_table.specs.Access.{cpu_read_answer, cpu_write_answer, dev_read_answer, dev_write_answer}
 use Rattle.loan_table.specs.Lending.{sync_answer}
 use Rattle.loan_table.specs.Loans.{loan_of, load_bytes}
+use Rattle.iommu_load.specs.Device.{device_chunks}
+use Rattle.iommu_map.specs.Space.{first_free}
 use Rattle.segment_build.specs.Chunks.{need_of}
 use Rattle.ideal_lane.specs.State.{LaneState, LaneTag, LaneMap, Stage, Waiting, named}
 use Rattle.ideal_lane.specs.Accesses.{cpu_read, cpu_write, dev_read, dev_write, values}
 use Rattle.ideal_lane.specs.Asking.{Asking, Gives, Asks, call_of, by_reply, goes_on}
 use Rattle.ideal_lane.specs.IdealMemory.{is_known}
-use Rattle.ideal_lane.specs.Loads.{asked, limits_of, finished, granted, load_chunks, load}
-use Rattle.ideal_lane.specs.Loads.{load_judged}
-use Rattle.ideal_lane.specs.Maps.{with_map, without_map, created, map, end_map, map_destroy, await}
+use Rattle.ideal_lane.specs.Loads.{asked, device_load, is_device, limits_of, finished, granted, load_chunks, load}
+use Rattle.ideal_lane.specs.Loads.{load_judged, taken, with_spaces}
+use Rattle.ideal_lane.specs.Maps.{bounces, with_map, without_map, created, map, end_map, map_destroy, await}
 use Rattle.ideal_lane.specs.Memories.{placed, dmamem, dmamem_free}
 use Rattle.ideal_lane.specs.Outcomes.{Outcome, gives, refused, unless_past, is_idle, is_loaded}
 use Rattle.ideal_lane.specs.Outcomes.{load_length}
@@ -58,9 +60,9 @@ use Rattle.ideal_lane.specs.Unloads.{unload}
 use Rattle.ideal_lane.proofs.Endings.{fits, fitting, too_big}
 use Rattle.ideal_lane.proofs.Refusing.{absent, judged, either, busy, unloaded, past}
 use Rattle.ideal_lane.proofs.Effects.{Advances, AtOnce, Attaches, Awaits, Begins, Below, Callback, Called, Calls}
-use Rattle.ideal_lane.proofs.Effects.{Creates, DeviceWrites, Ends, Frees, Granted, IsNew, IsQuiet, IsSync, IsUndone}
-use Rattle.ideal_lane.proofs.Effects.{IsUnwaited, IsUnwaiting, Leaves, Loads, Makes, Maps, NoneCalled, NothingLeft}
-use Rattle.ideal_lane.proofs.Effects.{NothingNow, Operation, Overflows, Places, Range, RangeItem, Refuses, Releases}
+use Rattle.ideal_lane.proofs.Effects.{Creates, Device, DeviceWrites, Ends, Frees, Granted, IsNew, IsQuiet, IsSync, IsUndone}
+use Rattle.ideal_lane.proofs.Effects.{IsUnwaited, IsUnwaiting, Leaves, Loads, Makes, Maps, NoFrame, NoRun, NoneCalled, NothingLeft}
+use Rattle.ideal_lane.proofs.Effects.{NothingNow, Operation, Overflows, Places, Range, RangeItem, Refuses, Releases, Run, frames, spaces_in}
 use Rattle.ideal_lane.proofs.Effects.{Same, Stays, Steps, Syncs, Tags, TooLong, Top, Touched, Touches, Transfer}
 use Rattle.ideal_lane.proofs.Effects.{Unattached, Uncreated, Ungranted, Unloads, Unmaps, Unplaced, Untags, Unwaited}
 use Rattle.ideal_lane.proofs.Effects.{Vain, Waits, Whole, WholeItem, Work, Writes, asked_in, asks, chunks, chunks_in}
@@ -132,7 +134,7 @@ module _ (l : LaneState) where
       (λ b r. Untags t b))
 
   created-makes : (name : List ℕ) (t : ℕ) (g : LaneTag) → get l.tags t ≡ Some g →
-      could_bounce g.limits l.maxmem ≡ true →
+      bounces l.maxmem g ≡ true →
       Made l (Operation (op.Map name t))
       (Asks (call.CreateMap (named l l.place) g.limits g.first_done) (created t g l))
   created-makes name t g there b (reply.Grown n) = by n.made refl
@@ -150,7 +152,7 @@ module _ (l : LaneState) where
   map-makes : (name : List ℕ) (t : ℕ) → Made l (Operation (op.Map name t)) (map t l)
   map-makes name t =
       absent l (Made l _) (report l _) (get l.tags t) _ (λ g there.
-      either l (Made l _) (report l _) (could_bounce g.limits l.maxmem) _ _ (created-makes name t g there)
+      either l (Made l _) (report l _) (bounces l.maxmem g) _ _ (created-makes name t g there)
       (λ b r. Maps name t g there b))
 
   end-makes : (m : ℕ) (zone : Option ℕ) →
@@ -193,29 +195,60 @@ module _ (l : LaneState) where
 -- ---- loads, syncs and accesses
 
 module _ (l : LaneState) (d : Work) where
-  ends-makes : {c : Option HubCall} {r : HubReply} (k : Ends l d c r) →
-      Makes l d c r (finished (map_in k) (was_in k) (place_in k) (asked_in k) (chunks_in k) (pages_in k) l)
+  ends-makes : {c : Option HubCall} {r : HubReply} (k : Ends l d c r) → Makes l d c r
+      (if fits l (map_in k) (was_in k) (place_in k) (asked_in k) (chunks_in k) (pages_in k)
+      then with_spaces (spaces_in k)
+      (fitting l (map_in k) (was_in k) (place_in k) (asked_in k) (chunks_in k) (pages_in k))
+      else with_spaces (spaces_in k)
+      (too_big l (map_in k) (was_in k) (place_in k) (asked_in k) (chunks_in k) (pages_in k)))
   ends-makes {c} {r} k =
       by (fits l (map_in k) (was_in k) (place_in k) (asked_in k) (chunks_in k) (pages_in k)) refl
     where
       by : (b : Bool) → fits l (map_in k) (was_in k) (place_in k) (asked_in k) (chunks_in k) (pages_in k) ≡ b →
           Makes l d c r
-          (if b then fitting l (map_in k) (was_in k) (place_in k) (asked_in k) (chunks_in k) (pages_in k)
-          else too_big l (map_in k) (was_in k) (place_in k) (asked_in k) (chunks_in k) (pages_in k))
+          (if b then with_spaces (spaces_in k)
+          (fitting l (map_in k) (was_in k) (place_in k) (asked_in k) (chunks_in k) (pages_in k))
+          else with_spaces (spaces_in k)
+          (too_big l (map_in k) (was_in k) (place_in k) (asked_in k) (chunks_in k) (pages_in k)))
       by true e = Loads k e
       by false e = Overflows k e
 
-  granted-makes : (b : Begins l d) → (need_of (chunks b) == 0) ≡ false →
+  granted-makes : (b : Begins l d) → is_device l b.o ≡ false → (need_of (chunks b) == 0) ≡ false →
       Made l d (Asks (grab b) (granted b.m b.o (asks b) (chunks b) l))
-  granted-makes b some (reply.Granted pages) = ends-makes (Granted b some pages)
-  granted-makes b some (reply.Queued have) = Waits b some have
-  granted-makes b some _ = Refuses b (Ungranted some tt) ENOMEM
+  granted-makes b plain some (reply.Granted pages) = ends-makes (Granted b plain some pages)
+  granted-makes b plain some (reply.Queued have) = Waits b plain some have
+  granted-makes b plain some _ = Refuses b (Ungranted plain some tt) ENOMEM
 
-  chunks-make : (b : Begins l d) →
+  -- a load of an IOMMU tag's map
+  device-makes : (b : Begins l d) → is_device l b.o ≡ true → Made l d (Gives (device_load b.m b.o (asks b) l))
+  device-makes b device r = by (length (frames b) == 0) refl
+    where
+      -- with its run
+      runs : (k : Ends l d None r) (fit : Bool) →
+          fits l (map_in k) (was_in k) (place_in k) (asked_in k) (chunks_in k) (pages_in k) ≡ fit →
+          Makes l d None r (with_spaces (spaces_in k)
+          (if fit then fitting l (map_in k) (was_in k) (place_in k) (asked_in k) (chunks_in k) (pages_in k)
+          else too_big l (map_in k) (was_in k) (place_in k) (asked_in k) (chunks_in k) (pages_in k)))
+      runs k true e = Loads k e
+      runs k false e = Overflows k e
+
+      some : (length (frames b) == 0) ≡ false → (q : Option ℕ) →
+          first_free (l.spaces b.o.tag) (length (frames b)) ≡ q → Makes l d None r (taken b.m b.o (asks b) q l)
+      some any None e = Refuses b (NoRun device e) ENOMEM
+      some any (Some first) e = runs (Device b device first _ (Run any first e)) _ refl
+
+      by : (none : Bool) → (length (frames b) == 0) ≡ none → Makes l d None r
+          (if none then finished b.m b.o l.place (asks b) (device_chunks 0 0 (asks b).entries) [] l
+          else taken b.m b.o (asks b) (first_free (l.spaces b.o.tag) (length (frames b))) l)
+      by true none = ends-makes (Device b device 0 l.spaces (NoFrame none))
+      by false any = some any (first_free (l.spaces b.o.tag) (length (frames b))) refl
+
+  chunks-make : (b : Begins l d) → is_device l b.o ≡ false →
       Made l d (load_chunks b.m b.o (asks b) (chunks b) l)
-  chunks-make b =
+  chunks-make b plain =
       either l (Made l d) (report l d) (need_of (chunks b) == 0) (Gives (finished b.m b.o l.place (asks b) (chunks b) [] l))
-      (Asks (grab b) (granted b.m b.o (asks b) (chunks b) l)) (λ none r. ends-makes (AtOnce b none)) (granted-makes b)
+      (Asks (grab b) (granted b.m b.o (asks b) (chunks b) l)) (λ none r. ends-makes (AtOnce b plain none))
+      (granted-makes b plain)
 
   load-makes : (m : ℕ) (x : Buffer) (flags : ℕ) (items : List Item) →
       d ≡ Operation (op.Load m x flags items) → Made l d (load_buffer m x flags items l)
@@ -244,7 +277,9 @@ module _ (l : LaneState) (d : Work) where
           judged l (Made l d) (report l d) (load_judged l m y) _ (λ fine.
           either l (Made l d) (report l d) (nat_lt (limits_of l o).maxsize (asked m y (never_waits x flags) items l).len) _ _
           (λ long r. Refuses (begins y found o there i fine) (TooLong long) EINVAL)
-          (λ short. chunks-make (begins y found o there i fine))))
+          (λ short.
+          either l (Made l d) (report l d) (is_device l o) _ _ (device-makes (begins y found o there i fine))
+          (chunks-make (begins y found o there i fine)))))
 
   part-touches : (m off len ops : ℕ) → IsSync l d m off len ops → (o : LaneMap) → get l.maps m ≡ Some o →
       is_loaded o.stage ≡ true → Only l d (sync_part m o off len ops l)

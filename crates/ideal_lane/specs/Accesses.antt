@@ -1,12 +1,22 @@
 -- Accesses by the driver and by its device, which reaches the driver's buffers directly.
-use Rattle.std.specs.Prelude.{ℕ, List, map, length}
+use Rattle.std.specs.Prelude.{ℕ, ◌+◌, ◌-◌, ◌^◌, ◌==◌, false, not, ◌&&◌, ◌||◌, List, [], ◌∷◌, map, length, Option}
+use Rattle.std.specs.Prelude.{Some, None, if◌then◌else◌, is_some, nat_le, nat_lt, slice_get, unwrap_or}
+use Rattle.std.specs.FinMap.{entries, get}
 use Rattle.busdma_base.specs.declared.journals.answer.Answer.TheVariants.{Done, Bytes}
+use Rattle.busdma_machine.specs.declared.report.ReportName.{ReportName}
+use Rattle.busdma_machine.specs.declared.report.ReportName.TheVariants.{DeviceReadUnlent, DeviceWriteUnlent}
+use Rattle.busdma_machine.specs.declared.machine.address.Segment.{Segment}
 use Rattle.busdma_base.specs.declared.scenarios.script.Place.{Place}
+use Rattle.busdma_machine.specs.Judging.{judged}
 use Rattle.busdma_machine.specs.Runs.{run_of}
+use Rattle.iommu_map.specs.Space.{translated}
+use Rattle.loan_table.specs.declared.position.Position.{Position}
 use Rattle.loan_table.specs.Access.{cpu_read_answer, cpu_write_answer, dev_read_answer, dev_write_answer}
+use Rattle.loan_table.specs.Access.{dev_read_refusal, dev_write_refusal}
 use Rattle.loan_table.specs.Loans.{loan_of, load_bytes}
 use Rattle.ideal_lane.specs.IdealMemory.{is_known, value, written}
-use Rattle.ideal_lane.specs.State.{LaneState}
+use Rattle.ideal_lane.specs.State.{LaneState, LaneMap}
+use Rattle.ideal_lane.specs.Unloads.{segments_in}
 use Rattle.ideal_lane.specs.Asking.{Asking}
 use Rattle.ideal_lane.specs.Outcomes.{Outcome, gives, unless_absent, unless_refused, unless_unloaded, unless_past}
 use Rattle.ideal_lane.specs.Places.{virtual_at, reached, bytes_at}
@@ -44,3 +54,53 @@ dev_write m off vs l =
     unless_unloaded m l (λ o. unless_past m off (length vs) l (
     unless_refused (dev_write_answer (loan_of l.loans m) off (length vs)) l (
     gives (record l { memory = written (load_bytes l.loans m off (length vs)) vs l.memory }) Done)))
+
+-- Accesses of an IOMMU tag's address space
+
+-- the place of the byte at a device address among the bytes of segments, which stand behind so many others
+abbrev pub place_in : ℕ → List Segment → ℕ → Option ℕ
+place_in before [] a = None
+place_in before (s ∷ ss) a =
+    if nat_le s.addr.0 a && nat_lt a (s.addr.0 + s.len) then Some (before + (a - s.addr.0))
+    else place_in (before + s.len) ss a
+
+-- the position of the byte at a device address in the load of the first of these maps that is of the tag and has it
+abbrev pub position_in : LaneState → ℕ → ℕ → List (ℕ × LaneMap) → Option Position
+position_in l t a [] = None
+position_in l t a (e ∷ es) =
+    if e.1.tag == t && is_some (place_in 0 (segments_in e.1.stage) a)
+    then slice_get (loan_of l.loans e.0).positions (unwrap_or (place_in 0 (segments_in e.1.stage) a) 0)
+    else position_in l t a es
+
+-- what stands in the way of a device's access of a position, where a load has it
+abbrev pub unless_unlent : ReportName → (Position → Option ReportName) → Option Position → Option ReportName
+unless_unlent unlent refusal None = Some unlent
+unless_unlent unlent refusal (Some p) = refusal p
+
+-- what stands in the way of an access at a device address
+abbrev pub raw_refusal : ReportName → ReportName → (Position → Option ReportName) → LaneState → ℕ → ℕ → Option ReportName
+raw_refusal untranslated unlent refusal l t a =
+    if nat_le (2 ^ 64) a || not (is_some (translated (l.spaces t) a)) then Some untranslated
+    else unless_unlent unlent refusal (position_in l t a (entries l.maps))
+
+-- where the bytes at device addresses lie
+abbrev pub raw_bytes : LaneState → ℕ → List ℕ → List ℕ
+raw_bytes l t addresses = map (λ a. unwrap_or (translated (l.spaces t) a) 0) addresses
+
+-- dev_read_at
+abbrev pub dev_read_at : ReportName → ℕ → ℕ → ℕ → LaneState → Asking Outcome
+dev_read_at untranslated t addr len l =
+    unless_absent (get l.tags t) l (λ o.
+    unless_refused
+    (judged (raw_refusal untranslated DeviceReadUnlent (dev_read_refusal (is_known l.memory) false) l t) 0
+    (run_of addr len)) l (
+    gives l (Bytes (values l (raw_bytes l t (run_of addr len))))))
+
+-- dev_write_at
+abbrev pub dev_write_at : ReportName → ℕ → ℕ → List ℕ → LaneState → Asking Outcome
+dev_write_at untranslated t addr vs l =
+    unless_absent (get l.tags t) l (λ o.
+    unless_refused
+    (judged (raw_refusal untranslated DeviceWriteUnlent (dev_write_refusal false) l t) 0
+    (run_of addr (length vs))) l (
+    gives (record l { memory = written (raw_bytes l t (run_of addr (length vs))) vs l.memory }) Done))

@@ -4,7 +4,7 @@ use Rattle.std.specs.Prelude.{None}
 use Rattle.std.specs.Prelude.{if◌then◌else◌, is_some, map, nat_le, nat_lt, unwrap_or}
 use Rattle.std.specs.FinMap.{get, insert, contains_key}
 use Rattle.std.specs.List.{enumerate_from}
-use Rattle.std.specs.Option.{option_map}
+use Rattle.std.specs.Option.{option_map, option_map_or}
 use Rattle.busdma_machine.specs.declared.bounce.hold.HubCall.TheVariants.{Grab}
 use Rattle.busdma_machine.specs.declared.bounce.hold.HubReply.{HubReply}
 use Rattle.busdma_machine.specs.declared.bounce.hold.HubReply.TheVariants as reply
@@ -25,6 +25,8 @@ use Rattle.busdma_machine.specs.Bounce.AccountStep.{as_pages}
 use Rattle.busdma_machine.specs.Judging.{judged}
 use Rattle.busdma_machine.specs.Machine.Entry.{entries_addresses}
 use Rattle.busdma_machine.specs.Machine.Spans.{bio_spans, span_addresses, span_bytes}
+use Rattle.iommu_load.specs.Device.{device_chunks, load_frames}
+use Rattle.iommu_map.specs.Space.{Space, entered, first_free}
 use Rattle.lane_agreement.specs.View.{queued_back}
 use Rattle.lane_agreement.specs.After.{addresses}
 use Rattle.lane_tables.specs.Queues.{queued}
@@ -197,10 +199,43 @@ load_chunks m o x chunks l =
     if need_of chunks == 0 then Gives (finished m o l.place x chunks [] l)
     else Asks (Grab (named l m) (record { 0 = zone_of o }) (need_of chunks) x.nowait) (granted m o x chunks l)
 
+-- the map is one of an IOMMU tag
+abbrev pub is_device : LaneState → LaneMap → Bool
+is_device l o = option_map_or (λ (t : LaneTag). t.device) (get l.tags o.tag) false
+
+-- a load has few enough segments
+abbrev pub are_few : TagLimits → List Chunk → Bool
+are_few t chunks = nat_le (length (segmentation t (placed_pieces t chunks []))) t.nsegments
+
+-- a tag's address space has one more live run from this page on, if it is kept
+abbrev pub with_run : Bool → ℕ → ℕ → List ℕ → (ℕ → Space) → ℕ → Space
+with_run kept t first frames spaces k =
+    if kept && k == t then entered (Some first) frames (spaces k) else spaces k
+
+-- the outcome with these address spaces
+abbrev pub with_spaces : (ℕ → Space) → Outcome → Outcome
+with_spaces spaces o = record { lane = record o.lane { spaces = spaces }; answer = o.answer }
+
+-- a load takes the run that begins at this page, if one is free; it keeps the run where its segments are few enough
+abbrev pub taken : ℕ → LaneMap → Asked → Option ℕ → LaneState → Outcome
+taken m o x None l = ended m o (Refused ENOMEM) l
+taken m o x (Some first) l =
+    let chunks : List Chunk = device_chunks first 0 x.entries in
+    with_spaces (with_run (are_few (limits_of l o) chunks) o.tag first (load_frames x.entries) l.spaces)
+    (finished m o l.place x chunks [] l)
+
+-- a load of a map of an IOMMU tag: its frames stand in the least free run of device pages, and each entry is one chunk;
+-- a load of no byte takes no run
+abbrev pub device_load : ℕ → LaneMap → Asked → LaneState → Outcome
+device_load m o x l =
+    if length (load_frames x.entries) == 0 then finished m o l.place x (device_chunks 0 0 x.entries) [] l
+    else taken m o x (first_free (l.spaces o.tag) (length (load_frames x.entries))) l
+
 -- a load: after its map and its bytes its length is judged, then pages are wanted, then its segments are counted
 abbrev pub load : ℕ → Asked → LaneState → Asking Outcome
 load m x l =
     unless_busy m l (λ o.
     unless_refused x.judged l (
     if nat_lt (limits_of l o).maxsize x.len then Gives (ended m o (Refused EINVAL) l)
+    else if is_device l o then Gives (device_load m o x l)
     else load_chunks m o x (chunks_for l o (contains_key l.mems m) x.entries) l))

@@ -1,5 +1,5 @@
 -- Making and ending maps, and waiting for them.
-use Rattle.std.specs.Prelude.{ℕ, true, false, Option, Some, None, if◌then◌else◌}
+use Rattle.std.specs.Prelude.{ℕ, Bool, true, false, not, ◌&&◌, Option, Some, None, if◌then◌else◌}
 use Rattle.std.specs.FinMap.{get, insert, remove}
 use Rattle.busdma_machine.specs.declared.bounce.hold.HubCall.TheVariants.{CreateMap, DestroyMap}
 use Rattle.busdma_machine.specs.declared.bounce.hold.HubReply.{HubReply}
@@ -27,11 +27,15 @@ created t o l (reply.Grown g) = record {
 }
 created t o l _ = record { lane = l; answer = Refused ENOMEM }
 
+-- the loads of a tag's maps could bounce; those of an IOMMU tag never do
+abbrev pub bounces : ℕ → LaneTag → Bool
+bounces maxmem t = not t.device && could_bounce t.limits maxmem
+
 -- map: an idle map of a tag, named by this place
 abbrev pub map : ℕ → LaneState → Asking Outcome
 map t l =
     unless_absent (get l.tags t) l (λ o.
-    if could_bounce o.limits l.maxmem then Asks (CreateMap (named l l.place) o.limits o.first_done) (created t o l)
+    if bounces l.maxmem o then Asks (CreateMap (named l l.place) o.limits o.first_done) (created t o l)
     else gives (with_map t None l) Done)
 
 -- the driver without a map

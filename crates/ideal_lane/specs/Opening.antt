@@ -5,7 +5,7 @@ use Rattle.busdma_base.specs.declared.scenarios.scenario.Driver.{Driver}
 use Rattle.busdma_base.specs.declared.scenarios.scenario.PageRun.{PageRun}
 use Rattle.busdma_base.specs.Scenarios.PageRuns.{is_own}
 use Rattle.ideal_lane.specs.IdealMemory.{IdealMemory, Known}
-use Rattle.ideal_lane.specs.State.{LaneState}
+use Rattle.ideal_lane.specs.State.{LaneState, no_space}
 
 -- every byte of the driver's pages is Known and 0
 abbrev pub zeros : List PageRun → IdealMemory
@@ -27,5 +27,6 @@ opening_lane id maxmem driver = record {
   loans = finmap.empty;
   queue = [];
   returns = [];
+  spaces = λ t. no_space;
   shares = λ z. 0;
 }

@@ -3,9 +3,9 @@ use Rattle.std.specs.Prelude.{◌≡◌, ℕ, ◌≤◌, Bool, true, not, ◌||�
 use Rattle.std.specs.Ordering.{nat_cmp}
 use Rattle.std.specs.FinMap.{FinMap, get, contains_key}
 use Rattle.busdma_machine.specs.declared.bounce.hold.HubReply.{HubReply}
-use Rattle.busdma_machine.specs.Tags.Tag.{could_bounce}
 use Rattle.ideal_lane.specs.State.{LaneState, LaneTag, LaneMap, LaneMemory, Stage, Idle, Waiting, Loaded, Returning}
 use Rattle.ideal_lane.specs.Asking.{Asking, Gives, Asks}
+use Rattle.ideal_lane.specs.Maps.{bounces}
 use Rattle.ideal_lane.specs.Turns.{Turned}
 
 -- a map that stands so holds no page, and awaits none
@@ -17,9 +17,9 @@ IsPageless Returning = Unit {0}
 
 -- no byte of a load of a tag's map at a place bounces: the map is a memory's, or the tag could not bounce
 abbrev pub is_direct : ℕ → FinMap nat_cmp LaneMemory → ℕ → LaneTag → Bool
-is_direct maxmem mems k t = contains_key mems k || not (could_bounce t.limits maxmem)
+is_direct maxmem mems k t = contains_key mems k || not (bounces maxmem t)
 
--- a map at a place has its tag; a memory's map has no zone; and where a map has none, no byte of its loads bounces and
+-- a map at a place has its tag; a memory's map has no zone, and that of an IOMMU tag has none; and where a map has none, no byte of its loads bounces and
 -- it is pageless
 pub record StandsAt (maxmem : ℕ) (tags : FinMap nat_cmp LaneTag)
     (mems : FinMap nat_cmp LaneMemory) (k : ℕ) (o : LaneMap)
@@ -27,6 +27,7 @@ pub record StandsAt (maxmem : ℕ) (tags : FinMap nat_cmp LaneTag)
   pub tag : LaneTag
   pub there : get tags o.tag ≡ Some tag
   pub memory : contains_key mems k ≡ true → o.zone ≡ None
+  pub device : tag.device ≡ true → o.zone ≡ None
   pub direct : o.zone ≡ None → is_direct maxmem mems k tag ≡ true
   pub pageless : o.zone ≡ None → IsPageless o.stage
 

@@ -1,6 +1,6 @@
 -- The ideal state of a driver. Its memory has one byte for each physical address of its own, and its bounce pages hold
 -- none. This project's own.
-use Rattle.std.specs.Prelude.{ℕ, Bool, List, Option}
+use Rattle.std.specs.Prelude.{ℕ, Bool, List, [], Option}
 use Rattle.std.specs.Ordering.{nat_cmp}
 use Rattle.std.specs.FinMap.{FinMap}
 use Rattle.busdma_machine.specs.declared.machine.address.Segment.{Segment}
@@ -11,15 +11,17 @@ use Rattle.busdma_base.specs.declared.scenarios.scenario.PageRun.{PageRun}
 use Rattle.busdma_base.specs.declared.scenarios.script.Item.{Item}
 use Rattle.busdma_base.specs.declared.scenarios.script.Op.{Op}
 use Rattle.busdma_machine.specs.declared.tags.tag.TagLimits.{TagLimits}
+use Rattle.iommu_map.specs.Space.{Space}
 use Rattle.lane_agreement.specs.View.{Return}
 use Rattle.lane_tables.specs.declared.queued.QueuedItem.{QueuedItem}
 use Rattle.loan_table.specs.Loans.{Loans}
 use Rattle.ideal_lane.specs.IdealMemory.{IdealMemory}
 
--- a tag: its effective limits, and whether its first allocation is done
+-- a tag: its effective limits, whether its first allocation is done, and whether its device is behind an IOMMU
 pub record LaneTag : Type 0 where
   pub limits : TagLimits
   pub first_done : Bool
+  pub device : Bool
 
 -- a load that waits for pages: its place in the script, its bytes, the items that its callback appends, and how many
 -- pages it needs; as the map of bus_dma(9) keeps the memory and the callback of a load that is deferred
@@ -56,8 +58,8 @@ pub record LaneMemory : Type 0 where
 
 -- A driver: its number, the end of the machine's memory in frames, its script and the place in it, and its pages; its
 -- tags, maps and memories by the places that made them, where the map of a memory has the memory's place; its ideal
--- memory and what its loaded maps lend; its transfer queue and its return queue; and its share of each zone's
--- total_bounced.
+-- memory and what its loaded maps lend; its transfer queue and its return queue; its share of each zone's
+-- total_bounced; and the address space of each IOMMU tag, by the place that made it.
 pub record LaneState : Type 0 where
   pub id : ℕ
   pub maxmem : ℕ
@@ -72,7 +74,12 @@ pub record LaneState : Type 0 where
   pub queue : List QueuedItem
   pub returns : List Return
   pub shares : ℕ → ℕ
+  pub spaces : ℕ → Space
 
 -- the name of what the driver made at a place
 abbrev pub named : LaneState → ℕ → MapId
 named l k = record { lane = record { 0 = l.id }; made_at = k }
+
+-- the address space of a tag that has none
+abbrev pub no_space : Space
+no_space = record { pages = 0; runs = [] }

@@ -1,5 +1,5 @@
 -- Operations on tags.
-use Rattle.std.specs.Prelude.{ℕ, ◌==◌, Bool, true, false, ◌&&◌, Option, Some, None, if◌then◌else◌}
+use Rattle.std.specs.Prelude.{ℕ, ◌+◌, ◌/◌, ◌==◌, [], Bool, true, false, ◌&&◌, Option, Some, None, if◌then◌else◌}
 use Rattle.std.specs.FinMap.{get, insert, remove, entries}
 use Rattle.std.specs.List.{list_any}
 use Rattle.busdma_machine.specs.declared.bounce.hold.HubCall.TheVariants.{AttachTag}
@@ -10,13 +10,14 @@ use Rattle.busdma_machine.specs.declared.report.Errno.TheVariants.{EINVAL, EBUSY
 use Rattle.busdma_machine.specs.declared.tags.tag.TagLimits.{TagLimits}
 use Rattle.busdma_machine.specs.Tags.Tag.{effective, could_bounce}
 use Rattle.busdma_machine.specs.Tags.TagFlags.{allocnow}
-use Rattle.ideal_lane.specs.State.{LaneState}
+use Rattle.iommu_map.specs.Space.{Space}
+use Rattle.ideal_lane.specs.State.{LaneState, no_space}
 use Rattle.ideal_lane.specs.Asking.{Asking, Asks}
 use Rattle.ideal_lane.specs.Outcomes.{Outcome, gives, unless_absent}
 
 -- the driver with a tag at a place
 abbrev pub with_tag : ℕ → TagLimits → Bool → LaneState → LaneState
-with_tag k t first_done l = record l { tags = insert l.tags k (record { limits = t; first_done = first_done }) }
+with_tag k t first_done l = record l { tags = insert l.tags k (record { limits = t; first_done = first_done; device = false }) }
 
 -- a tag's first allocation has grown its zone; where too few pages came there is no tag
 abbrev pub attached : TagLimits → LaneState → HubReply → Outcome
@@ -36,6 +37,22 @@ tag None limits l = tag_or_invalid (effective None limits) l
 tag (Some parent) limits l =
     unless_absent (get l.tags parent) l (λ p. tag_or_invalid (effective (Some p.limits) limits) l)
 
+-- the address spaces with this one for a tag
+abbrev pub with_space : ℕ → Space → (ℕ → Space) → ℕ → Space
+with_space t s spaces k = if k == t then s else spaces k
+
+-- the driver with an IOMMU tag at this place, whose device reaches the addresses up to lowaddr, or EINVAL
+abbrev pub device_tag : Option TagLimits → LaneState → Asking Outcome
+device_tag None l = gives l (Refused EINVAL)
+device_tag (Some t) l = gives (record l {
+  tags = insert l.tags l.place (record { limits = t; first_done = false; device = true });
+  spaces = with_space l.place (record { pages = (t.lowaddr.0 + 1) / 4096; runs = [] }) l.spaces;
+}) Done
+
+-- iommu_tag: named by this place, below no parent
+abbrev pub iommu_tag : TagLimits → LaneState → Asking Outcome
+iommu_tag limits l = device_tag (effective None limits) l
+
 -- a tag has a map, or a memory, which has a map of its own
 abbrev pub has_maps : LaneState → ℕ → Bool
 has_maps l t = list_any (λ e. e.1.tag == t) (entries l.maps)
@@ -44,4 +61,5 @@ has_maps l t = list_any (λ e. e.1.tag == t) (entries l.maps)
 abbrev pub tag_destroy : ℕ → LaneState → Asking Outcome
 tag_destroy t l =
     unless_absent (get l.tags t) l (λ o.
-    if has_maps l t then gives l (Refused EBUSY) else gives (record l { tags = remove l.tags t }) Done)
+    if has_maps l t then gives l (Refused EBUSY)
+    else gives (record l { tags = remove l.tags t; spaces = with_space t no_space l.spaces }) Done)

@@ -1,7 +1,9 @@
 -- Unloading, and pages on their way back to their zones.
-use Rattle.std.specs.Prelude.{ℕ, ◌==◌, List, [], Option, Some, None, if◌then◌else◌}
+use Rattle.std.specs.Prelude.{ℕ, ◌==◌, ◌/◌, List, [], ◌∷◌, Option, Some, None, if◌then◌else◌}
 use Rattle.std.specs.FinMap.{get, insert, remove}
 use Rattle.busdma_base.specs.declared.journals.answer.Answer.TheVariants.{Done}
+use Rattle.busdma_machine.specs.declared.machine.address.Segment.{Segment}
+use Rattle.iommu_map.specs.Space.{left}
 use Rattle.lane_agreement.specs.View.{Return, returning}
 use Rattle.loan_table.specs.Lending.{lost_by_forgetting}
 use Rattle.ideal_lane.specs.IdealMemory.{forgotten}
@@ -9,6 +11,7 @@ use Rattle.ideal_lane.specs.State.{LaneState, LaneMap, Stage, Idle, Waiting, Loa
 use Rattle.ideal_lane.specs.Asking.{Asking}
 use Rattle.ideal_lane.specs.Outcomes.{Outcome, gives, unless_unloaded}
 use Rattle.ideal_lane.specs.Loads.{unpaged}
+use Rattle.ideal_lane.specs.Tags.{with_space}
 
 -- the bounce pages that a map holds, in order
 abbrev pub pages_of : Stage → List ℕ
@@ -24,9 +27,26 @@ unlent m l = record l {
   memory = forgotten (lost_by_forgetting l.loans m) l.memory;
 }
 
+-- the segments of a map's load
+abbrev pub segments_in : Stage → List Segment
+segments_in Idle = []
+segments_in (Waiting w) = []
+segments_in (Loaded bounced segments pages) = segments
+segments_in Returning = []
+
+-- the first device page of a load of these segments; a load of no byte has none, and no run begins at page 0
+abbrev pub first_of : List Segment → ℕ
+first_of [] = 0
+first_of (s ∷ ss) = s.addr.0 / 4096
+
+-- the live run of a map's load ends, where it has one
+abbrev pub unmapped : LaneMap → LaneState → LaneState
+unmapped o l =
+    record l { spaces = with_space o.tag (left (first_of (segments_in o.stage)) (l.spaces o.tag)) l.spaces }
+
 -- unload: the map's lending ends, and its pages join the return queue
 abbrev pub unload : ℕ → LaneState → Asking Outcome
-unload m l = unless_unloaded m l (λ o. gives (unpaged m o (pages_of o.stage) (unlent m l)) Done)
+unload m l = unless_unloaded m l (λ o. gives (unmapped o (unpaged m o (pages_of o.stage) (unlent m l))) Done)
 
 -- where a map stands of which a page left the return queue
 abbrev pub after_return : ℕ → List Return → Stage

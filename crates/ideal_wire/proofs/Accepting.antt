@@ -190,14 +190,15 @@ module _ (l : LaneState) (laid : AreLaid l) (machine : IsInMachine l) (stands : 
     covers = chunks_cover limits l.maxmem x.entries effective are-entries ∙ flat-entries x.entries
 
     pub accepted : nat_le (length (segments l m o load_at x chunks pages)) limits.nsegments ≡ true →
-        IsAccepted (fits l m o load_at x chunks pages) m limits (load_addresses l b) chunks pages
+        IsAccepted (fits l m o load_at x chunks pages) m (λ a. Some a) limits (load_addresses l b) chunks pages
         (segments l m o load_at x chunks pages)
     accepted few = record {
       buffer =
           ap buffers (traces-are l m o load_at x chunks pages)
           ∙ placed-buffers (bounced_of (tag_placed limits chunks (as_pages pages))) 0 (entries_addresses x.entries)
           ∙ are-bytes;
-      trace = trace-is l m o load_at x chunks pages effective.maxsegsz placed-chunks follows covers;
+      trace =
+          ap (map (λ a. Some a)) (trace-is l m o load_at x chunks pages effective.maxsegsz placed-chunks follows covers);
       obeys =
           obeying.obeys limits l.maxmem x.entries (as_pages pages) (segments l m o load_at x chunks pages) effective
           are-entries inside has.reachable (
@@ -208,7 +209,7 @@ module _ (l : LaneState) (laid : AreLaid l) (machine : IsInMachine l) (stands : 
 
     abbrev answered : LaneState → List Segment → Type 0
     answered l' ss =
-        IsAccepted l' m limits (load_addresses l b) chunks pages ss
+        IsAccepted l' m (λ a. Some a) limits (load_addresses l b) chunks pages ss
 
     pub finished-accepted : IfSegments (finished m o load_at x chunks pages l).answer
         (answered (finished m o load_at x chunks pages l).lane)

@@ -23,7 +23,7 @@ use Rattle.ideal_lane.specs.State.{WaitingLoad}
 use Rattle.ideal_lane.specs.Syncs.{bounced_in}
 use Rattle.ideal_wire.specs.Centre.{IsAt}
 use Rattle.ideal_wire.specs.Laid.{is_loadable, IsLaid, IsAwaited, LiesIn, IsOwnByte, OfPages, OfMemory, AreLaid}
-use Rattle.ideal_wire.specs.Laid.{AreInPages, in_pages}
+use Rattle.ideal_wire.specs.Laid.{AreInPages, in_pages, is_behind}
 use Rattle.ideal_wire.specs.Traces.{stage_at, placed_from, traces_of}
 use Rattle.ideal_wire.proofs.Positions.{twin_of}
 use Rattle.ideal_wire.proofs.SyncedPositions.{decided}
@@ -48,13 +48,14 @@ abbrev pub KeepsLimits : LaneState → LaneState → ℕ → Type 0
 KeepsLimits l l' n = (o' : LaneMap) → get l'.maps n ≡ Some o' →
     (o : LaneMap) × (get l.maps n ≡ Some o) × (limits_of l' o' ≡ limits_of l o)
 
--- what it leaves of a map: its stage, the bytes of its load, and what its tag says
+-- what it leaves of a map: its stage, the bytes of its load, and what its tag says of limits and device
 pub record IsAlike (l l' : LaneState) (n : ℕ) : Type 0 where
   pub stage : stage_at l' n ≡ stage_at l n
   pub coherent : (loan_of l'.loans n).coherent ≡ (loan_of l.loans n).coherent
   pub bytes : addresses_of (loan_of l'.loans n).positions ≡ addresses_of (loan_of l.loans n).positions
   pub unlent : is_loaded (stage_at l n) ≡ false → loan_of l'.loans n ≡ loan_of l.loans n
   pub limits : KeepsLimits l l' n
+  pub device : is_behind l' n ≡ is_behind l n
 
 module _ (l l' : LaneState) (kept : KeepsScript l l') where
   pub loadable-alike : (o : Option LaneMemory) (a : ℕ) → is_loadable o l' a ≡ is_loadable o l a
@@ -81,7 +82,7 @@ module _ (l l' : LaneState) (kept : KeepsScript l l') where
       paged = h.paged;
       extents = h.extents;
       chunks = subst (λ ts. HasChunks 0 ts cs) (sym traces-alike) h.chunks;
-      trace = h.trace ∙ ap buses (sym traces-alike);
+      trace = λ plain. h.trace (sym alike.device ∙ plain) ∙ ap buses (sym traces-alike);
     }
 
     awaited-alike : (w : WaitingLoad) → loan_of l'.loans n ≡ loan_of l.loans n → IsAwaited l n w → IsAwaited l' n w

@@ -32,6 +32,14 @@ use Rattle.busdma_base.specs.Scenarios.Buffers.{IsBioOf}
 use Rattle.lane_agreement.specs.View as view
 use Rattle.lane_agreement.proofs.Places.{head-waits, waits-tells}
 use Rattle.segment_build.specs.Obeying.{IsReachable}
+use Rattle.std.proofs.Common.{map as mapped, Option}
+use Rattle.std.specs.Option.{option_map_or}
+use Rattle.busdma_machine.specs.declared.machine.chunk.Entry.{Entry}
+use Rattle.iommu_load.specs.Device.{device_chunks}
+use Rattle.iommu_map.specs.Space.{translated}
+use Rattle.ideal_lane.specs.Loads.{is_device}
+use Rattle.ideal_lane.specs.State.{LaneTag}
+use Rattle.ideal_wire.specs.Answered.{chunks_of_load, first_page, found_at}
 use Rattle.ideal_lane.specs.Agreement.{AgreesWith}
 use Rattle.ideal_lane.specs.Loads.{Asked, asked, chunks_for, finished, limits_of, load_addresses, load_entries}
 use Rattle.ideal_lane.specs.Loads.{load_judged, unpaged}
@@ -97,17 +105,15 @@ module _ (l : LaneState) (laid : AreLaid l) (machine : IsInMachine l) where
   own-fine m b none own = pages-fine l outside m b none own
 
 -- ---- the end of a load that has its pages, of these bytes
-module _ (l : LaneState) (m : ℕ) (o : LaneMap) (there : get l.maps m ≡ Some o) (c : Bool)
-    (of-memory : contains_key l.mems m ≡ c) (b : Bio) (now : Bool) (items : List Item) (at : ℕ) (bytes : List ℕ)
-    (pages : List ℕ) where
+module _ (l : LaneState) (m : ℕ) (o : LaneMap) (there : get l.maps m ≡ Some o) (b : Bio) (now : Bool)
+    (items : List Item) (ending-chunks : List Chunk)
+    (of-load : ending-chunks ≡ chunks_of_load l o (contains_key l.mems m) (load_entries l b)) (find : ℕ → Option ℕ)
+    (at : ℕ) (bytes : List ℕ) (pages : List ℕ) where
   abbrev x : Asked
   x = asked m b now items l
 
   abbrev t : TagLimits
   t = limits_of l o
-
-  abbrev pub ending-chunks : List Chunk
-  ending-chunks = chunks_for l o c x.entries
 
   abbrev ss : List Segment
   ss = segments l m o at x ending-chunks pages
@@ -116,42 +122,44 @@ module _ (l : LaneState) (m : ℕ) (o : LaneMap) (there : get l.maps m ≡ Some 
   with-load = fits l m o at x ending-chunks pages
 
   -- `after` is the driver that the step leaves of the one with the load
-  pub ends-so : (nat_le (length ss) t.nsegments ≡ true → IsAccepted with-load m t bytes ending-chunks pages ss) →
+  pub ends-so : (nat_le (length ss) t.nsegments ≡ true → IsAccepted with-load m find t bytes ending-chunks pages ss) →
       (after : LaneState → LaneState) → ((k : LaneState) → traces_of (after k) m ≡ traces_of k m) →
       ((k : LaneState) → stage_at (after k) m ≡ stage_at k m) →
+      (nat_le (length ss) t.nsegments ≡ true → find ≡ found_at (after with-load) o) →
       load_addresses l b ≡ bytes →
       IfSegments (finished m o at x ending-chunks pages l).answer
       (AreLoaded l (after (finished m o at x ending-chunks pages l).lane) m b)
-  ends-so accepted after traces stages named =
+  ends-so accepted after traces stages finds named =
       by (nat_le (length ss) t.nsegments) refl
     where
-      chunks : ending-chunks ≡ chunks_for l o (contains_key l.mems m) (load_entries l b)
-      chunks = ap (λ c. chunks_for l o c (load_entries l b)) (sym of-memory)
-
       held : pages ≡ pages_of (stage_at (after with-load) m)
       held = sym (ap pages_of (stages with-load ∙ stage-is l m o at x ending-chunks pages))
 
-      moved : (bs : List ℕ) (cs : List Chunk) (ps : List ℕ) → IsAccepted with-load m t bs cs ps ss →
-          IsAccepted (after with-load) m t bs cs ps ss
+      moved : (bs : List ℕ) (cs : List Chunk) (ps : List ℕ) → IsAccepted with-load m find t bs cs ps ss →
+          IsAccepted (after with-load) m find t bs cs ps ss
       moved bs cs ps h = record {
         buffer = ap (λ ts. buffers ts) (traces with-load) ∙ h.buffer;
-        trace = h.trace ∙ sym (ap (λ ts. buses ts) (traces with-load));
+        trace = h.trace ∙ sym (ap (λ ts. mapped (λ a. Some a) (buses ts)) (traces with-load));
         obeys = h.obeys;
       }
 
-      load-is : IsAccepted with-load m t bytes ending-chunks pages ss → AreLoaded l (after with-load) m b ss
-      load-is h = record {
+      load-is : find ≡ found_at (after with-load) o →
+          IsAccepted with-load m find t bytes ending-chunks pages ss → AreLoaded l (after with-load) m b ss
+      load-is finds h = record {
         map = o;
         there = there;
         accepted =
-            subst (λ bs. IsAccepted (after with-load) m t bs
-            (chunks_for l o (contains_key l.mems m) (load_entries l b))
+            subst (λ f. IsAccepted (after with-load) m f t (load_addresses l b)
+            (chunks_of_load l o (contains_key l.mems m) (load_entries l b))
+            (pages_of (stage_at (after with-load) m)) ss) finds
+            (subst (λ bs. IsAccepted (after with-load) m find t bs
+            (chunks_of_load l o (contains_key l.mems m) (load_entries l b))
             (pages_of (stage_at (after with-load) m)) ss)
             (sym named)
-            (subst (λ cs. IsAccepted (after with-load) m t bytes cs
-            (pages_of (stage_at (after with-load) m)) ss) chunks
-            (subst (λ ps. IsAccepted (after with-load) m t bytes ending-chunks ps ss) held
-            (moved bytes ending-chunks pages h)));
+            (subst (λ cs. IsAccepted (after with-load) m find t bytes cs
+            (pages_of (stage_at (after with-load) m)) ss) of-load
+            (subst (λ ps. IsAccepted (after with-load) m find t bytes ending-chunks ps ss) held
+            (moved bytes ending-chunks pages h))));
       }
 
       by : (q : Bool) → nat_le (length ss) t.nsegments ≡ q →
@@ -159,36 +167,73 @@ module _ (l : LaneState) (m : ℕ) (o : LaneMap) (there : get l.maps m ≡ Some 
           else record { lane = unpaged m o pages l; answer = answer.Refused EFBIG }))
           (AreLoaded l (after (Outcome.lane (if q then record { lane = with-load; answer = answer.Segments ss }
           else record { lane = unpaged m o pages l; answer = answer.Refused EFBIG }))) m b)
-      by true few = load-is (accepted few)
+      by true few = load-is (finds few) (accepted few)
       by false many = tt
+
+-- a map with a zone is none of an IOMMU tag
+pub zoned-plain : (l : LaneState) → Stands l → (m z : ℕ) (o : LaneMap) → get l.maps m ≡ Some o → o.zone ≡ Some z →
+    is_device l o ≡ false
+zoned-plain l stands m z o there zone =
+    let st = stands.each m o there in
+    ap (λ q. option_map_or (λ (t : LaneTag). t.device) q false) st.there ∙ by st.tag.device st.device
+  where
+    by : (d : Bool) → (d ≡ true → o.zone ≡ None) → d ≡ false
+    by false h = refl
+    by true h = let none : o.zone ≡ None = h refl in absurd (cc)
+
+-- of a map that is no IOMMU tag's
+plain-chunks : (l : LaneState) (m : ℕ) (o : LaneMap) (es : List Entry) → is_device l o ≡ false → (c : Bool) →
+    contains_key l.mems m ≡ c → chunks_for l o c es ≡ chunks_of_load l o (contains_key l.mems m) es
+plain-chunks l m o es plain c of-memory =
+    ap (λ d. chunks_for l o d es) (sym of-memory)
+    ∙ sym (ap (λ d. if d then device_chunks (first_page l o es) 0 es else chunks_for l o (contains_key l.mems m) es) plain)
+
+plain-finds : (l : LaneState) (o : LaneMap) → is_device l o ≡ false → (l' : LaneState) → l'.tags ≡ l.tags →
+    (λ a. Some a) ≡ found_at l' o
+plain-finds l o plain l' tags =
+    let off : is_device l' o ≡ false =
+    ap (λ ts. option_map_or (λ (t : LaneTag). t.device) (get ts o.tag) false) tags ∙ plain in
+    λ i a. if sym off i then translated (l'.spaces o.tag) a else Some a
 
 -- of a load of the driver's pages
 pub ends-answered : (l : LaneState) → AreLaid l → IsInMachine l → Stands l → (m : ℕ) (o : LaneMap)
-    (there : get l.maps m ≡ Some o) (direct : contains_key l.mems m ≡ false) (b : Bio) → IsBioOf l.pages b →
+    (there : get l.maps m ≡ Some o) (plain : is_device l o ≡ false) (direct : contains_key l.mems m ≡ false)
+    (b : Bio) → IsBioOf l.pages b →
     (at : ℕ) (now : Bool) (items : List Item) → load_judged l m b ≡ Fine → (pages : List ℕ) →
     (after : LaneState → LaneState) → ((k : LaneState) → traces_of (after k) m ≡ traces_of k m) →
-    ((k : LaneState) → stage_at (after k) m ≡ stage_at k m) →
+    ((k : LaneState) → stage_at (after k) m ≡ stage_at k m) → ((k : LaneState) → (after k).tags ≡ k.tags) →
     HasPages (limits_of l o) (chunks_for l o false (load_entries l b)) pages →
     IfSegments (finished m o at (asked m b now items l) (chunks_for l o false (load_entries l b)) pages l).answer
     (AreLoaded l
     (after (finished m o at (asked m b now items l) (chunks_for l o false (load_entries l b)) pages l).lane) m b)
-ends-answered l laid machine stands m o there direct b named at now items fine pages after traces stages has =
-    ends-so l m o there false direct b now items at (load_addresses l b) pages
-    (accepted l laid machine stands m o there direct b named at now items fine pages has) after traces stages refl
+ends-answered l laid machine stands m o there plain direct b named at now items fine pages after traces stages tags
+    has =
+    ends-so l m o there b now items _ (plain-chunks l m o (load_entries l b) plain false direct)
+    (λ a. Some a) at (load_addresses l b) pages
+    (accepted l laid machine stands m o there direct b named at now items fine pages has) after traces stages
+    (λ few. plain-finds l o plain
+    (after (fits l m o at (asked m b now items l) (chunks_for l o false (load_entries l b)) pages))
+    (tags (fits l m o at (asked m b now items l) (chunks_for l o false (load_entries l b)) pages)))
+    refl
 
 -- of a load of a memory's own map, of which no byte bounces
 pub ends-memory : (l : LaneState) → AreLaid l → IsInMachine l → Stands l → (m : ℕ) (o : LaneMap)
-    (there : get l.maps m ≡ Some o) (y : LaneMemory) (memory : get l.mems m ≡ Some y) (b : Bio) (at : ℕ) (now : Bool)
+    (there : get l.maps m ≡ Some o) (plain : is_device l o ≡ false) (y : LaneMemory)
+    (memory : get l.mems m ≡ Some y) (b : Bio) (at : ℕ) (now : Bool)
     (items : List Item) → load_judged l m b ≡ Fine →
     (after : LaneState → LaneState) → ((k : LaneState) → traces_of (after k) m ≡ traces_of k m) →
-    ((k : LaneState) → stage_at (after k) m ≡ stage_at k m) →
+    ((k : LaneState) → stage_at (after k) m ≡ stage_at k m) → ((k : LaneState) → (after k).tags ≡ k.tags) →
     IfSegments (finished m o at (asked m b now items l) (chunks_for l o true (load_entries l b)) [] l).answer
     (AreLoaded l (after (finished m o at (asked m b now items l) (chunks_for l o true (load_entries l b)) [] l).lane)
     m b)
-ends-memory l laid machine stands m o there y memory b at now items fine after traces stages =
-    ends-so l m o there true (ap is_some memory) b now items at
+ends-memory l laid machine stands m o there plain y memory b at now items fine after traces stages tags =
+    ends-so l m o there b now items _
+    (plain-chunks l m o (load_entries l b) plain true (ap is_some memory)) (λ a. Some a) at
     (run_of y.first (span_bytes (bio_spans b))) []
     (memory-accepted l laid machine stands m o there y memory b at now items fine) after traces stages
+    (λ few. plain-finds l o plain
+    (after (fits l m o at (asked m b now items l) (chunks_for l o true (load_entries l b)) []))
+    (tags (fits l m o at (asked m b now items l) (chunks_for l o true (load_entries l b)) [])))
     (memory-addresses l laid machine stands m o there y memory b fine)
 
 -- ---- the pages that a callback brings

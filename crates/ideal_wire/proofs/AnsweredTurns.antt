@@ -48,6 +48,24 @@ use Rattle.ideal_wire.specs.Accepted.{HasPages, IfSegments}
 use Rattle.ideal_wire.specs.Answered.{AreAnswered, AreLoaded, AreOf, AnswersIn, AnswersLoads}
 use Rattle.ideal_wire.specs.Answered.{load_at, loaded_by, waited_at}
 use Rattle.ideal_wire.specs.Laid.{AreLaid, IsAwaited}
+use Rattle.std.proofs.Common.{◌∷◌, ◌≤◌, ◌&&◌, slice_get, zero, suc, arith}
+use Rattle.std.proofs.lemmas.Bool.{eq-eqb}
+use Rattle.std.specs.Option.{option_map_or}
+use Rattle.busdma_machine.specs.declared.machine.chunk.Entry.{Entry}
+use Rattle.iommu_load.specs.Device.{device_chunks, load_frames}
+use Rattle.iommu_load.proofs.Carrying.{Carries}
+use Rattle.iommu_load.proofs.Spaces.{entered-carries}
+use Rattle.iommu_map.proofs.Runs.{taken-fits}
+use Rattle.iommu_map.specs.Space.{Space, entered, first_free, translated}
+use Rattle.ideal_lane.specs.Loads.{are_few, is_device, load_addresses, load_entries, no_limits, taken, with_run}
+use Rattle.ideal_lane.specs.Loads.{with_spaces}
+use Rattle.ideal_lane.specs.State.{LaneTag}
+use Rattle.ideal_lane.proofs.Effects.{Device, IsTaken, NoFrame, Run}
+use Rattle.ideal_wire.specs.Answered.{chunks_of_load, first_page, found_at}
+use Rattle.ideal_wire.specs.Spaced.{AreSpaced, IsSpaced}
+use Rattle.ideal_wire.proofs.Accepting.{fits}
+use Rattle.ideal_wire.proofs.AnsweredLoads.{ends-so, zoned-plain}
+use Rattle.ideal_wire.proofs.DeviceLoads.{device-accepted}
 use Rattle.ideal_wire.specs.Machine.{IsInMachine}
 use Rattle.ideal_wire.specs.Served.{AreServed}
 use Rattle.ideal_wire.specs.Traces.{stage_in, stage_at}
@@ -69,7 +87,11 @@ quiet _ P q = tt
 
 module _ (l : LaneState) (a : Account) (stands : Stands l) (agrees : AgreesWith l a) (fit : IsFit a)
     (frames : EachFrame IsFrame a) (low : PagesLieLow a) (served : AreServed l a) (machine : IsInMachine l)
-    (laid : AreLaid l) where
+    (laid : AreLaid l) (spaced : AreSpaced l) where
+  some-frames : (n : ℕ) → (n == 0) ≡ false → 1 ≤ n
+  some-frames zero e = absurd (cc)
+  some-frames (suc n) e = omega arith
+
   -- where the script is at its next place
   abbrev moved : LaneState → LaneState
   moved k = record k { place = l.place + 1 }
@@ -97,49 +119,51 @@ module _ (l : LaneState) (a : Account) (stands : Stands l) (agrees : AgreesWith 
         (λ ss g. subst (λ q. AreAnswered l (moved k.lane) q ss) (sym load-here) g) h
 
     -- of another map than a memory's own it ends with pages that the device reaches
-    direct-answers : get l.mems b.m ≡ None → (pages : List ℕ) →
+    direct-answers : is_device l b.o ≡ false → get l.mems b.m ≡ None → (pages : List ℕ) →
         HasPages (limits_of l b.o) (chunks_for l b.o false (asks b).entries) pages →
         Answers (ending (contains_key l.mems b.m) pages)
-    direct-answers e pages has =
+    direct-answers plain e pages has =
         subst (λ c. Answers (ending c pages)) (sym (ap is_some e)) (answers-load (ending false pages)
-        (ends-answered l laid machine stands b.m b.o b.there (ap is_some e) b.bio is-bio l.place
-        (never_waits b.buffer b.flags) b.items b.fine pages moved (λ k. refl) (λ k. refl) has))
+        (ends-answered l laid machine stands b.m b.o b.there plain (ap is_some e) b.bio is-bio l.place
+        (never_waits b.buffer b.flags) b.items b.fine pages moved (λ k. refl) (λ k. refl) (λ k. refl) has))
 
     need-as : (q : Option LaneMemory) → get l.mems b.m ≡ q →
         need_of (chunks b) ≡ need_of (chunks_for l b.o (is_some q) (asks b).entries)
     need-as q e = ap (λ y. need_of (chunks_for l b.o (is_some y) (asks b).entries)) e
 
-    at-once : (need_of (chunks b) == 0) ≡ true → Answers (ending (contains_key l.mems b.m) [])
-    at-once none = by (get l.mems b.m) refl
+    at-once : is_device l b.o ≡ false → (need_of (chunks b) == 0) ≡ true →
+        Answers (ending (contains_key l.mems b.m) [])
+    at-once plain none = by (get l.mems b.m) refl
       where
         by : (q : Option LaneMemory) → get l.mems b.m ≡ q → Answers (ending (contains_key l.mems b.m) [])
         by None e =
-            direct-answers e []
+            direct-answers plain e []
             (record { count = sym (eqb-true (need_of (chunks b)) 0 none) ∙ need-as None e; reachable = tt })
         by (Some y) e =
             subst (λ c. Answers (ending c [])) (sym (ap is_some e)) (answers-load (ending true [])
-            (ends-memory l laid machine stands b.m b.o b.there y e b.bio l.place (never_waits b.buffer b.flags) b.items
-            b.fine moved (λ k. refl) (λ k. refl)))
+            (ends-memory l laid machine stands b.m b.o b.there plain y e b.bio l.place (never_waits b.buffer b.flags) b.items
+            b.fine moved (λ k. refl) (λ k. refl) (λ k. refl)))
 
     -- a map whose load needs pages has a zone, and so is no memory's
-    zoned : (need_of (chunks b) == 0) ≡ false → (q : Option ℕ) → b.o.zone ≡ q → is_some q ≡ true
-    zoned some (Some z) e = refl
-    zoned some None e =
+    zoned : is_device l b.o ≡ false → (need_of (chunks b) == 0) ≡ false → (q : Option ℕ) → b.o.zone ≡ q →
+        is_some q ≡ true
+    zoned plain some (Some z) e = refl
+    zoned plain some None e =
         absurd (false≢true (sym some ∙ ap (λ n. n == 0)
-        (need-direct l b.m b.o (asks b).entries (stands.each b.m b.o b.there) e)))
+        (need-direct l b.m b.o (asks b).entries (stands.each b.m b.o b.there) plain e)))
 
-    by-grant : (need_of (chunks b) == 0) ≡ false → (pages : List Pa) →
+    by-grant : is_device l b.o ≡ false → (need_of (chunks b) == 0) ≡ false → (pages : List Pa) →
         (account_step l.id (grab b) a).reply ≡ reply.Granted pages →
         Answers (ending (contains_key l.mems b.m) (addresses pages))
-    by-grant some pages e = by b.o.zone refl (get l.mems b.m) refl
+    by-grant plain some pages e = by b.o.zone refl (get l.mems b.m) refl
       where
         by : (z : Option ℕ) → b.o.zone ≡ z → (q : Option LaneMemory) → get l.mems b.m ≡ q →
             Answers (ending (contains_key l.mems b.m) (addresses pages))
-        by None zone q f = absurd (false≢true (zoned some None zone))
+        by None zone q f = absurd (false≢true (zoned plain some None zone))
         by (Some z) zone (Some y) f =
-            absurd (false≢true (zoned some None ((stands.each b.m b.o b.there).memory (ap is_some f))))
+            absurd (false≢true (zoned plain some None ((stands.each b.m b.o b.there).memory (ap is_some f))))
         by (Some z) zone None f =
-            direct-answers f (addresses pages) (record {
+            direct-answers plain f (addresses pages) (record {
               count = as-many pages
                   ∙ granted-length (named l b.m) (zone_of b.o) (need_of (chunks b)) (asks b).nowait a pages e
                   ∙ need-as None f;
@@ -149,6 +173,78 @@ module _ (l : LaneState) (a : Account) (stands : Stands l) (agrees : AgreesWith 
                   (ap (λ y. serves_tag (limits_of l b.o) (zone_at a y)) (ap (λ q. unwrap_or q 0) zone)
                   ∙ served b.m z b.o b.there zone) (named l b.m) (need_of (chunks b)) (asks b).nowait pages e);
             })
+
+    -- of an IOMMU tag's map
+    module _ (device : is_device l b.o ≡ true) where
+      abbrev es : List Entry
+      es = load_entries l b.bio
+
+      tagged : IsSpaced (limits_of l b.o) (l.spaces b.o.tag)
+      tagged =
+          let st = stands.each b.m b.o b.there in
+          subst (λ q. IsSpaced q (l.spaces b.o.tag))
+          (sym (ap (λ q. unwrap_or (option_map (λ (g : LaneTag). g.limits) q) no_limits) st.there))
+          (spaced b.o.tag st.tag st.there
+          (sym (ap (λ q. option_map_or (λ (g : LaneTag). g.device) q false) st.there) ∙ device))
+
+      of-load : (first : ℕ) → first_page l b.o es ≡ first →
+          device_chunks first 0 es ≡ chunks_of_load l b.o (contains_key l.mems b.m) es
+      of-load first page =
+          sym (ap (λ d. if d then device_chunks (first_page l b.o es) 0 es
+          else chunks_for l b.o (contains_key l.mems b.m) es) device ∙ ap (λ p. device_chunks p 0 es) page)
+
+      found-by : (l' : LaneState) → is_device l' b.o ≡ true → translated (l'.spaces b.o.tag) ≡ found_at l' b.o
+      found-by l' h = λ i a. if sym h i then translated (l'.spaces b.o.tag) a else Some a
+
+      empty : (fs : List ℕ) → length fs ≡ 0 → fs ≡ []
+      empty [] h = refl
+      empty (f ∷ fs) h = absurd (omega (arith, h))
+
+      none-carried : (fs : List ℕ) → length fs ≡ 0 → Carries (translated (l.spaces b.o.tag)) 0 fs
+      none-carried fs h i f a e it = absurd (let g = sym (ap (λ xs. slice_get xs i) (empty fs h)) ∙ e in cc)
+
+      device-answers : (first : ℕ) (spaces : ℕ → Space) → IsTaken b first spaces →
+          Answers (with_spaces spaces (finished b.m b.o l.place (asks b) (device_chunks first 0 es) [] l))
+      device-answers _ _ (NoFrame none) =
+          let zero : length (load_frames es) ≡ 0 = eqb-true (length (load_frames es)) 0 none in
+          answers-load (with_spaces l.spaces (finished b.m b.o l.place (asks b) (device_chunks 0 0 es) [] l))
+          (ends-so l b.m b.o b.there b.bio (never_waits b.buffer b.flags) b.items (device_chunks 0 0 es)
+          (of-load 0 (ap (λ v. if v then 0 else unwrap_or
+          (first_free (l.spaces b.o.tag) (length (load_frames es))) 0) none))
+          (translated (l.spaces b.o.tag)) l.place (load_addresses l b.bio) []
+          (device-accepted l laid machine stands b.m b.o b.there b.bio is-bio l.place (never_waits b.buffer b.flags)
+          b.items b.fine tagged.alignment tagged.flags 0 (translated (l.spaces b.o.tag))
+          (none-carried (load_frames es) zero) (omega (arith, zero)))
+          (λ k. moved (record k { spaces = l.spaces })) (λ k. refl) (λ k. refl)
+          (λ few. found-by (moved (record (fits l b.m b.o l.place (asks b) (device_chunks 0 0 es) []) {
+            spaces = l.spaces;
+          })) device) refl)
+      device-answers _ _ (Run any first e) =
+          let frames : List ℕ = load_frames es in
+          let some : 1 ≤ length frames = some-frames (length frames) any in
+          answers-load (taken b.m b.o (asks b) (Some first) l)
+          (ends-so l b.m b.o b.there b.bio (never_waits b.buffer b.flags) b.items (device_chunks first 0 es)
+          (of-load first (ap (λ v. if v then 0 else unwrap_or
+          (first_free (l.spaces b.o.tag) (length (load_frames es))) 0) any ∙ ap (λ v. unwrap_or v 0) e))
+          (translated (entered (Some first) frames (l.spaces b.o.tag))) l.place (load_addresses l b.bio) []
+          (device-accepted l laid machine stands b.m b.o b.there b.bio is-bio l.place (never_waits b.buffer b.flags)
+          b.items b.fine tagged.alignment tagged.flags first
+          (translated (entered (Some first) frames (l.spaces b.o.tag)))
+          (entered-carries (l.spaces b.o.tag) frames first tagged.space some e)
+          (omega (arith, tagged.reached, taken-fits (l.spaces b.o.tag) (length frames) first tagged.space some e)))
+          (λ k. moved (record k {
+            spaces = with_run (are_few (limits_of l b.o) (device_chunks first 0 es)) b.o.tag first (load_frames es)
+                l.spaces;
+          })) (λ k. refl) (λ k. refl)
+          (λ few. sym (ap (λ s. translated s)
+          (ap (λ v. if v && b.o.tag == b.o.tag then entered (Some first) (load_frames es) (l.spaces b.o.tag)
+          else l.spaces b.o.tag) few
+          ∙ ap (λ v. if true && v then entered (Some first) (load_frames es) (l.spaces b.o.tag)
+          else l.spaces b.o.tag) (eq-eqb b.o.tag b.o.tag refl)))
+          ∙ found-by (moved (record (fits l b.m b.o l.place (asks b) (device_chunks first 0 es) []) {
+            spaces = with_run (are_few (limits_of l b.o) (device_chunks first 0 es)) b.o.tag first (load_frames es)
+                l.spaces;
+          })) device) refl)
 
   -- ---- the callback of a load that waited
   module _ (m : MapId) (pages : List Pa) (e : (account_step l.id call.TakeCallback a).reply ≡ reply.Called m pages)
@@ -210,10 +306,11 @@ module _ (l : LaneState) (a : Account) (stands : Stands l) (agrees : AgreesWith 
               (addresses pages) l).answer
               (AreLoaded l (finished k w.map w.load.load_at x (chunks_for l w.map c x.entries) (addresses pages) l).lane
               k b)) (sym (ap is_some none))
-              (ends-answered l laid machine stands k w.map w.found (ap is_some none) b lies.named w.load.load_at false
+              (ends-answered l laid machine stands k w.map w.found (zoned-plain l stands k z w.map w.found w.zone)
+              (ap is_some none) b lies.named w.load.load_at false
               w.load.items
               (own-fine l laid machine k b none (waited-own l stands laid k z need w))
-              (addresses pages) (λ s. s) (λ s. refl) (λ s. refl) has)
+              (addresses pages) (λ s. s) (λ s. refl) (λ s. refl) (λ s. refl) has)
 
       called-answers : IfSegments (called k (get l.maps k) (addresses pages) l).answer
           (AreCalled (called k (get l.maps k) (addresses pages) l).lane)
@@ -230,12 +327,17 @@ module _ (l : LaneState) (a : Account) (stands : Stands l) (agrees : AgreesWith 
       IsReplyOf l.id a c r → Makes l (Operation o) c r x → Answers x
   makes-answer at e (Touched t) = touches-quiet _ t
   makes-answer at e (Vain v x q) = quiet x _ (untold-quiet x q)
-  makes-answer at e (Loads (AtOnce b none) f) =
+  makes-answer at e (Loads (Device b device first spaces taken) f) =
+      subst (λ y. Answers (with_spaces spaces
+      (if y then fitting l b.m b.o l.place (asks b) (device_chunks first 0 (asks b).entries) []
+      else too_big l b.m b.o l.place (asks b) (device_chunks first 0 (asks b).entries) []))) f
+      (device-answers b at device first spaces taken)
+  makes-answer at e (Loads (AtOnce b plain none) f) =
       subst (λ y. Answers (if y then fitting l b.m b.o l.place (asks b) (chunks b) []
-      else too_big l b.m b.o l.place (asks b) (chunks b) [])) f (at-once b at none)
-  makes-answer at e (Loads (Granted b some pages) f) =
+      else too_big l b.m b.o l.place (asks b) (chunks b) [])) f (at-once b at plain none)
+  makes-answer at e (Loads (Granted b plain some pages) f) =
       subst (λ y. Answers (if y then fitting l b.m b.o l.place (asks b) (chunks b) (addresses pages)
-      else too_big l b.m b.o l.place (asks b) (chunks b) (addresses pages))) f (by-grant b at some pages e)
+      else too_big l b.m b.o l.place (asks b) (chunks b) (addresses pages))) f (by-grant b at plain some pages e)
   makes-answer at e _ = tt
 
   callback-answers : {n m : MapId} {pages : List Pa} {x : Outcome} →

@@ -9,7 +9,7 @@ use Rattle.busdma_machine.specs.declared.bounce.hold.HubReply.TheVariants as rep
 use Rattle.busdma_base.specs.declared.journals.answer.Answer.TheVariants as answer
 use Rattle.busdma_machine.specs.declared.tags.tag.TagLimits.{TagLimits}
 use Rattle.lane_agreement.specs.View.{Return}
-use Rattle.ideal_lane.specs.Loads.{emptied, limits_of, no_limits, staged, unpaged}
+use Rattle.ideal_lane.specs.Loads.{limits_of, no_limits, staged}
 use Rattle.ideal_lane.specs.Memories.{without_memory}
 use Rattle.ideal_lane.specs.Outcomes.{Outcome}
 use Rattle.ideal_lane.specs.Standing.{Stands}
@@ -18,9 +18,9 @@ use Rattle.ideal_lane.specs.Tags.{with_tag, tag}
 use Rattle.ideal_lane.specs.Unloads.{restaged, after_return}
 use Rattle.ideal_lane.proofs.Effects.{Attaches, Creates, Frees, Loads, Makes, Maps, Operation, Overflows, Places}
 use Rattle.ideal_lane.proofs.Effects.{Refuses, Same, Tags, Touched, Touches, Unloads, Unmaps, Untags, Waits, Work}
-use Rattle.ideal_lane.proofs.Effects.{map_in, pages_in, there_in, waits_for, was_in}
+use Rattle.ideal_lane.proofs.Effects.{map_in, there_in, waits_for, was_in}
 use Rattle.ideal_lane.proofs.Lookups.{get_put, get_cut}
-use Rattle.ideal_wire.proofs.KeptTags.{KeepsTags, keeps-put, new-tag, untagged}
+use Rattle.ideal_wire.proofs.KeptTags.{KeepsTags, keeps-put, new-tag, says-in, untagged}
 use Rattle.ideal_wire.proofs.Positions.{found_one}
 use Rattle.busdma_machine.specs.declared.bounce.hold.HubCall.{HubCall}
 use Rattle.busdma_machine.specs.declared.bounce.zone.Grown.{Grown}
@@ -50,7 +50,7 @@ module _ (l : LaneState) (stands : Stands l) where
   pub same-maps : (l' : LaneState) → KeepsTags l l' → l'.maps ≡ l.maps → KeepsMaps l'
   same-maps l' tags maps m z o e zone =
       let there : get l.maps m ≡ Some o = sym (λ i. get (maps i) m) ∙ e in
-      record { map = o; there = there; zone = zone; limits = tags m o there }
+      record { map = o; there = there; zone = zone; limits = ap (λ x. x.0) (tags m o there) }
 
   -- a map has another stage
   put-map : (l' : LaneState) → l'.tags ≡ l.tags → (n : ℕ) (o x : LaneMap) → get l.maps n ≡ Some o → x.tag ≡ o.tag →
@@ -108,7 +108,7 @@ module _ (l : LaneState) (stands : Stands l) where
   alike : (l' : LaneState) → l'.tags ≡ l.tags → l'.maps ≡ l.maps → KeepsMaps l'
   alike l' tags maps =
       same-maps l'
-      (λ n o e. λ i. unwrap_or (option_map (λ (t : LaneTag). t.limits) (get (tags i) o.tag)) no_limits) maps
+      (λ n o e. λ i. says-in (get (tags i) o.tag)) maps
 
   pub same : KeepsMaps l
   same = alike l refl refl
@@ -116,16 +116,12 @@ module _ (l : LaneState) (stands : Stands l) where
   with_tag-kept : (t : TagLimits) (done : Bool) → KeepsMaps (with_tag l.place t done l)
   with_tag-kept t done =
       same-maps (with_tag l.place t done l)
-      (keeps-put l stands (with_tag l.place t done l) l.place (record { limits = t; first_done = done }) refl
+      (keeps-put l stands (with_tag l.place t done l) l.place (record { limits = t; first_done = done; device = false }) refl
       (λ g e. new-tag l stands g e)) refl
 
   module _ (m : ℕ) (o : LaneMap) (there : get l.maps m ≡ Some o) where
     staged-kept : (s : Stage) → KeepsMaps (staged m o s l)
     staged-kept s = put-map (staged m o s l) refl m o (record o { tried = true; stage = s }) there refl refl refl
-
-    unpaged-kept : (pages : List ℕ) → KeepsMaps (unpaged m o pages l)
-    unpaged-kept pages =
-        put-map (unpaged m o pages l) refl m o (record o { tried = true; stage = emptied pages }) there refl refl refl
 
   touches-kept : {d : Work} {x : Outcome} → Touches l d x → KeepsMaps x.lane
   touches-kept (Same a q u) = same
@@ -138,15 +134,15 @@ module _ (l : LaneState) (stands : Stands l) where
   makes-kept (Touched t) = inr (touches-kept t)
   makes-kept (Tags name parent limits t n) = inr (with_tag-kept t false)
   makes-kept (Attaches name parent limits t n b g e) = inr (with_tag-kept t true)
-  makes-kept (Untags t b) = inr (same-maps (record l { tags = remove l.tags t }) (untagged l t b) refl)
+  makes-kept (Untags t b) = inr (same-maps _ (untagged l t b) refl)
   makes-kept (Maps name t g there b) = inr (new-map (with_map t None l) refl l.place _ refl refl)
   makes-kept (Unmaps m o e i) = inr (cut-map (record l { maps = remove l.maps m }) refl m refl)
   makes-kept {x = x} (Places name t flags g there first count) = inr (new-map x.lane refl l.place _ refl refl)
   makes-kept (Frees m x there o found i) = inr (cut-map (without_memory m x l) refl m refl)
   makes-kept (Refuses b over e) = inr (staged-kept b.m b.o b.there Idle)
-  makes-kept (Waits b some have) = inr (staged-kept b.m b.o b.there (Waiting (waits_for b)))
+  makes-kept (Waits b plain some have) = inr (staged-kept b.m b.o b.there (Waiting (waits_for b)))
   makes-kept {x = x} (Loads k e) = inr (put-map x.lane refl (map_in k) (was_in k) _ (there_in k) refl refl refl)
-  makes-kept (Overflows k e) = inr (unpaged-kept (map_in k) (was_in k) (there_in k) (pages_in k))
+  makes-kept {x = x} (Overflows k e) = inr (put-map x.lane refl (map_in k) (was_in k) _ (there_in k) refl refl refl)
   makes-kept {x = x} (Unloads m o e i) = inr (put-map x.lane refl m o _ e refl refl refl)
   makes-kept _ = inr (alike _ refl refl)
 

@@ -1,7 +1,7 @@
 -- Any turn leaves the loads of a driver laid, by the account's reply.
 use Rattle.std.proofs.Common.{[], ◌≡◌, ℕ, zero, suc, ◌+◌, ◌*◌, ◌<◌, ◌≤◌, ◌==◌, ◌&&◌, Bool, true, false, if◌then◌else◌}
 use Rattle.std.proofs.Common.{List, ◌∷◌, length, Option, Some, None, is_some, refl, ap, sym, ◌∙◌, subst, nat_le}
-use Rattle.std.proofs.Common.{slice_get, arith}
+use Rattle.std.proofs.Common.{not, slice_get, arith}
 use Rattle.std.proofs.lemmas.Bool.{and_parts, eqb-true, false≢true, le-ltb, ltb-true}
 use Rattle.std.specs.FinMap.{get, contains_key}
 use Rattle.std.specs.List.{AllByRecursion}
@@ -44,13 +44,18 @@ use Rattle.ideal_lane.proofs.Stepping.{turn-steps}
 use Rattle.ideal_lane.proofs.Effects.{waits_for, was_in}
 use Rattle.ideal_lane.proofs.Turning.{WaitsAt, waits-at}
 use Rattle.ideal_wire.specs.Answered.{loaded_by}
-use Rattle.ideal_wire.specs.Laid.{AreLaid, KeepsLaid}
+use Rattle.std.proofs.Common.{replicate}
+use Rattle.std.proofs.lemmas.List.{length-replicate}
+use Rattle.busdma_machine.specs.Machine.Entry.{entries_addresses}
+use Rattle.ideal_lane.proofs.Effects.{Device, spaces_in}
+use Rattle.ideal_wire.proofs.StillLaid.{spaced-still}
+use Rattle.ideal_wire.specs.Laid.{AreLaid, KeepsLaid, is_loadable}
 use Rattle.ideal_wire.specs.Machine.{IsInMachine}
 use Rattle.ideal_wire.proofs.Asked.{are-in-pages, direct-bytes, direct-ready, pages-entries}
 use Rattle.ideal_wire.proofs.Bios.{AreOfPages}
 use Rattle.ideal_wire.proofs.Buffers.{loads-from}
 use Rattle.ideal_wire.proofs.Frames.{agreeing-apart}
-use Rattle.ideal_wire.proofs.LoadLaid.{IsReady, finished-laid}
+use Rattle.ideal_wire.proofs.LoadLaid.{IsReady, device-finished-laid, finished-laid}
 use Rattle.ideal_wire.proofs.MemoriesLaid.{after-laid, made-laid}
 use Rattle.ideal_wire.proofs.MemoryLoads.{memory-ready}
 use Rattle.ideal_wire.proofs.NewFrames.{IsGiven, given, run-is}
@@ -86,6 +91,14 @@ some-need (suc n) e = omega arith
 no-pages : (pages : List ℕ) → length pages ≡ 0 → pages ≡ []
 no-pages [] e = refl
 no-pages (p ∷ pages) e = absurd (omega (arith, e))
+
+pub plain-tag : (d : Bool) → not d ≡ true → d ≡ false
+plain-tag false h = refl
+plain-tag true h = absurd (cc)
+
+zero-pages : (n : ℕ) → AllByRecursion IsPage (as_pages (replicate n 0))
+zero-pages zero = tt
+zero-pages (suc n) = ((omega arith, omega arith), zero-pages n)
 
 module _ (l : LaneState) (a : Account) (stands : Stands l) (agrees : AgreesWith l a) (fit : IsFit a)
     (frames : EachFrame IsFrame a) (machine : IsInMachine l) (laid : AreLaid l) where
@@ -123,6 +136,15 @@ module _ (l : LaneState) (a : Account) (stands : Stands l) (agrees : AgreesWith 
         by (Some y) e =
             subst (λ c. Ready c pages) (sym (ap is_some e))
             (subst (Ready true) (sym (no-pages pages (count ∙ memory-need y e))) (memory-load y e))
+
+    -- of an IOMMU tag's map, too, each byte may be loaded
+    loadable : (q : Option LaneMemory) → get l.mems b.m ≡ q →
+        AllByRecursion (λ a. is_loadable (get l.mems b.m) l a ≡ true) (entries_addresses (asks b).entries)
+    loadable None e =
+        (direct-ready l laid machine stands b.m b.o b.there e b.bio is-bio (direct-bytes l b.m b.bio e b.fine)
+        (replicate (need_of (cut-as false)) 0) (zero-pages (need_of (cut-as false)))
+        (length-replicate (need_of (cut-as false)) 0)).loadable
+    loadable (Some y) e = (memory-load y e).loadable
 
     -- what waits is of the driver's pages, and the load at this place of the script
     waits-laid : (need_of (chunks b) == 0) ≡ false →
@@ -201,10 +223,12 @@ module _ (l : LaneState) (a : Account) (stands : Stands l) (agrees : AgreesWith 
   -- ---- a load that has its pages
   ends : {d : Work} {c : Option HubCall} {r : HubReply} → IsNext l d → IsReplyOf l.id a c r → (k : Ends l d c r) →
       AreLaid (finished (map_in k) (was_in k) (place_in k) (asked_in k) (chunks_in k) (pages_in k) l).lane
-  ends at e (AtOnce b none) =
+  ends at e (AtOnce b plain none) =
       finished-laid l laid b.m b.o b.there (unlent b at) l.place (asks b) (chunks b) []
       (ready b at [] tt (sym (eqb-true (need_of (chunks b)) 0 none)))
-  ends at e (Granted b some pages) =
+  ends at e (Device b device first spaces taken) =
+      device-finished-laid l laid b.m b.o b.there device (unlent b at) l.place (asks b) first (loadable b at (get l.mems b.m) refl)
+  ends at e (Granted b plain some pages) =
       finished-laid l laid b.m b.o b.there (unlent b at) l.place (asks b) (chunks b) (addresses pages)
       (ready b at (addresses pages)
       (whole-again pages (granted-whole a frames (named l b.m) (zone_of b.o) (need_of (chunks b)) (asks b).nowait pages e))
@@ -221,7 +245,8 @@ module _ (l : LaneState) (a : Account) (stands : Stands l) (agrees : AgreesWith 
   makes-laid at e (Attaches name parent limits t n b g m) = with_tag-still l laid stands t true
   makes-laid at e (Untags t none) = untag-still l laid stands t none
   makes-laid at e (Maps name t g there b) = map-still l laid stands t
-  makes-laid at e (Creates name t g there b n m) = created-still l laid stands t g there n.zone.0
+  makes-laid at e (Creates name t g there b n m) =
+      created-still l laid stands t g there (plain-tag g.device (and_parts (not g.device) _ b).0) n.zone.0
   makes-laid at e (Unmaps m o there i) =
       unmap-still l laid m (no-loan l laid m o there (idle-unloaded l laid o.stage i))
   makes-laid at e (Places name t flags o there first count) =
@@ -250,13 +275,17 @@ module _ (l : LaneState) (a : Account) (stands : Stands l) (agrees : AgreesWith 
       after-laid l stands laid (agreeing-apart l a agrees stands laid) m x there
       (no-loan l laid m o found (idle-unloaded l laid o.stage i))
   makes-laid at e (Refuses b over x) = staged-still l laid b.m b.o b.there (unlent b at)
-  makes-laid at e (Waits b some have) = waits-laid b at some
+  makes-laid at e (Waits b plain some have) = waits-laid b at some
   makes-laid at e (Loads k f) =
-      subst (λ y. AreLaid (if y then fitting l (map_in k) (was_in k) (place_in k) (asked_in k) (chunks_in k) (pages_in k)
-      else too_big l (map_in k) (was_in k) (place_in k) (asked_in k) (chunks_in k) (pages_in k)).lane) f (ends at e k)
+      spaced-still (fitting l (map_in k) (was_in k) (place_in k) (asked_in k) (chunks_in k) (pages_in k)).lane
+      (subst (λ y. AreLaid (if y then fitting l (map_in k) (was_in k) (place_in k) (asked_in k) (chunks_in k) (pages_in k)
+      else too_big l (map_in k) (was_in k) (place_in k) (asked_in k) (chunks_in k) (pages_in k)).lane) f (ends at e k))
+      (spaces_in k)
   makes-laid at e (Overflows k f) =
-      subst (λ y. AreLaid (if y then fitting l (map_in k) (was_in k) (place_in k) (asked_in k) (chunks_in k) (pages_in k)
-      else too_big l (map_in k) (was_in k) (place_in k) (asked_in k) (chunks_in k) (pages_in k)).lane) f (ends at e k)
+      spaced-still (too_big l (map_in k) (was_in k) (place_in k) (asked_in k) (chunks_in k) (pages_in k)).lane
+      (subst (λ y. AreLaid (if y then fitting l (map_in k) (was_in k) (place_in k) (asked_in k) (chunks_in k) (pages_in k)
+      else too_big l (map_in k) (was_in k) (place_in k) (asked_in k) (chunks_in k) (pages_in k)).lane) f (ends at e k))
+      (spaces_in k)
   makes-laid at e (Unloads m o there i) = unload-still l laid m o there
   makes-laid {x = x} at e _ =
       like l laid x.lane (record { script = refl; pages = refl; maxmem = refl; own = λ b. refl; mems = refl })

@@ -10,6 +10,7 @@ pub mod Calls
 pub mod Carried
 pub mod ChunkExtents
 pub mod Copies
+mod DeviceLoads
 pub mod EffectiveTags
 pub mod Faithful
 pub mod FaithfulAccess
@@ -17,7 +18,9 @@ pub mod FaithfulRanges
 pub mod FaithfulSync
 pub mod Frames
 pub mod HavingChunks
+pub mod KeptMapped
 pub mod KeptMaps
+pub mod KeptSpaces
 pub mod KeptTags
 pub mod LaidTurns
 pub mod Lent
@@ -25,6 +28,7 @@ pub mod LoadLaid
 pub mod Loading
 pub mod Machinery
 pub mod Machines
+pub mod MappedTurns
 pub mod MemoriesLaid
 pub mod MemoryChunks
 pub mod MemoryLoads

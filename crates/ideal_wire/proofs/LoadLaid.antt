@@ -22,13 +22,19 @@ use Rattle.segment_build.specs.Chunks.{bounced_of, chunks_of, need_of}
 use Rattle.segment_build.specs.Trace.{IsPage, IsPlaced, first_page, in_page, placed}
 use Rattle.segment_build.proofs.Covering.{chunks_at, chunks_cover}
 use Rattle.segment_build.proofs.Sound.{chunks_sound, placed_are}
-use Rattle.ideal_lane.specs.Loads.{Asked, finished, is_coherent, limits_of, unpaged}
+use Rattle.iommu_load.specs.Device.{device_chunks}
+use Rattle.std.proofs.Common.{◌+◌, not}
+use Rattle.std.proofs.lemmas.Bool.{eq-eqb, false≢true}
+use Rattle.busdma_machine.specs.Machine.Wire.{is_bounced}
+use Rattle.busdma_machine.specs.Runs.{byte_count}
+use Rattle.ideal_lane.specs.Loads.{Asked, finished, is_coherent, is_device, limits_of, unpaged}
+use Rattle.std.specs.Option.{option_map_or}
 use Rattle.ideal_lane.specs.Outcomes.{Outcome}
 use Rattle.ideal_lane.specs.State.{LaneState, LaneMap, Loaded}
-use Rattle.ideal_wire.specs.Laid.{IsInPage, IsOfExtents, is_loadable, IsLaid, LiesIn, AreLaid}
+use Rattle.ideal_wire.specs.Laid.{IsInPage, IsOfExtents, is_behind, is_loadable, IsLaid, LiesIn, AreLaid}
 use Rattle.ideal_wire.specs.Traces.{placed_from, traces_of}
 use Rattle.ideal_wire.proofs.Accepting.{same-pages, count-pages, flat-entries, segments, fits, stage-is, loan-is}
-use Rattle.ideal_wire.proofs.Accepting.{traces-are, trace-is}
+use Rattle.ideal_wire.proofs.Accepting.{trace-is, traces-are}
 use Rattle.ideal_wire.proofs.Alike.{KeepsRest, kept-script, loadable-alike, one-changed}
 use Rattle.ideal_wire.proofs.ChunkExtents.{chunks-extents, placed-extents}
 use Rattle.ideal_wire.proofs.HavingChunks.{has-chunks}
@@ -40,7 +46,7 @@ use Rattle.ideal_wire.proofs.StillLaid.{kept-map, put-limits, unpaged-still}
 -- ---- small lists
 
 -- a page changes no chunk that is not bounced
-none-placed : (keep : Bool) (cs : List Chunk) (pages : List Pa) → bounced_of cs ≡ [] →
+pub none-placed : (keep : Bool) (cs : List Chunk) (pages : List Pa) → bounced_of cs ≡ [] →
     bounced_of (placed keep cs pages) ≡ []
 none-placed keep [] pages h = refl
 none-placed keep (c ∷ cs) pages h = by c.bounced refl (λ g. none-placed keep cs pages g) h
@@ -151,7 +157,7 @@ module _ (l : LaneState) (laid : AreLaid l) (m : ℕ) (o : LaneMap) (there : get
         (zipped (keep_pg_offset t.flags) chunks (as_pages pages) r.are r.whole (count-pages pages ∙ r.count));
     extents = placed-extents (keep_pg_offset t.flags) chunks (as_pages pages) r.extents;
     chunks = subst (λ ts. HasChunks 0 ts (bounced_of in_pages)) (sym traces) has;
-    trace = trace-is l m o load_at x chunks pages r.some r.are r.follow r.bytes;
+    trace = λ plain. trace-is l m o load_at x chunks pages r.some r.are r.follow r.bytes;
   }
     where
       traces : traces_of after m
@@ -191,3 +197,84 @@ module _ (l : LaneState) (laid : AreLaid l) (m : ℕ) (o : LaneMap) (there : get
           else record { lane = unpaged m o pages l; answer = answer.Refused EFBIG }))
       by true = fits-laid
       by false = unpaged-still l laid m o pages there none
+
+-- no chunk of an IOMMU tag's load is bounced
+pub device-direct : (page at : ℕ) (es : List Entry) → bounced_of (device_chunks page at es) ≡ []
+device-direct page at [] = refl
+device-direct page at (e ∷ es) = device-direct (page + length e.parts) (at + byte_count e.parts) es
+
+-- where no chunk is bounced each byte is at its own address
+all-own : (at : ℕ) (pas : List ℕ) → AllByRecursion (λ p. is_bounced p ≡ false) (placed_from [] at pas)
+all-own at [] = tt
+all-own at (pa ∷ pas) = (ap not (eq-eqb pa pa refl), all-own (at + 1) pas)
+
+-- such a load lies where it is, whose bytes its map may load
+module _ (l : LaneState) (laid : AreLaid l) (m : ℕ) (o : LaneMap) (there : get l.maps m ≡ Some o)
+    (device : is_device l o ≡ true) (none : loan_of l.loans m ≡ no_loan) (load_at : ℕ) (x : Asked) (first : ℕ)
+    (loadable : AllByRecursion (λ a. is_loadable (get l.mems m) l a ≡ true) (entries_addresses x.entries)) where
+  pub unbounced : bounced_of (tag_placed (limits_of l o) (device_chunks first 0 x.entries) (as_pages [])) ≡ []
+  unbounced =
+      none-placed (keep_pg_offset (limits_of l o).flags) (device_chunks first 0 x.entries) (as_pages [])
+      (device-direct first 0 x.entries)
+
+  device-rest : KeepsRest l (fits l m o load_at x (device_chunks first 0 x.entries) [])
+  device-rest = record { script = refl; pages = refl; maxmem = refl; own = λ a. refl; mems = refl }
+
+  -- it is none of whose tag the device finds its bytes where they are
+  behind : is_behind (fits l m o load_at x (device_chunks first 0 x.entries) []) m ≡ true
+  behind = ap (λ y. option_map_or (is_device l) y false) (put-there l.maps m _) ∙ device
+
+  device-lies : IsLaid (fits l m o load_at x (device_chunks first 0 x.entries) []) m
+      (bounced_of (tag_placed (limits_of l o) (device_chunks first 0 x.entries) (as_pages [])))
+      (segments l m o load_at x (device_chunks first 0 x.entries) []) []
+  device-lies = record {
+    coherent = ap (λ (n : Loan). n.coherent) (loan-is l m o load_at x (device_chunks first 0 x.entries) []);
+    bytes = λ i p at.
+        loadable-alike l (fits l m o load_at x (device_chunks first 0 x.entries) [])
+        (kept-script l (fits l m o load_at x (device_chunks first 0 x.entries) []) device-rest) (get l.mems m) p.pa
+        ∙ unlent-at (λ a. is_loadable (get l.mems m) l a ≡ true) (entries_addresses x.entries) i p loadable
+        (sym (λ j. slice_get (loan-is l m o load_at x (device_chunks first 0 x.entries) [] j).positions i) ∙ at);
+    direct = λ some. unbounced;
+    paged = subst (λ cs. AllZip IsInPage cs []) (sym unbounced) tt;
+    extents = subst (AllByRecursion IsOfExtents) (sym unbounced) tt;
+    chunks =
+        subst (HasChunks 0 (traces_of (fits l m o load_at x (device_chunks first 0 x.entries) []) m)) (sym unbounced)
+        (subst (λ ts. HasChunks 0 ts [])
+        (sym (traces-are l m o load_at x (device_chunks first 0 x.entries) []
+        ∙ ap (λ cs. placed_from cs 0 (entries_addresses x.entries)) unbounced))
+        (all-own 0 (entries_addresses x.entries)));
+    trace = λ plain. absurd (false≢true (sym plain ∙ behind));
+  }
+
+  device-fits-laid : AreLaid (fits l m o load_at x (device_chunks first 0 x.entries) [])
+  device-fits-laid =
+      one-changed l after device-rest laid m
+      (λ n off. kept-map l after n (λ k y e. refl) (ap (λ y. unwrap_or y no_loan) (put-off l.loans m n new off))
+      (put-off l.maps m n loaded-map off))
+      (λ y e. put-limits l laid after (λ k x f. refl) m loaded-map (put-there l.maps m loaded-map) (o, there, refl))
+      (subst (LiesIn after m) (sym (stage-is l m o load_at x (device_chunks first 0 x.entries) [])) device-lies)
+    where
+      after : LaneState
+      after = fits l m o load_at x (device_chunks first 0 x.entries) []
+
+      new : Loan
+      new = new_loan (is_coherent (get l.mems m)) (entries_addresses x.entries)
+
+      loaded-map : LaneMap
+      loaded-map = record o {
+        tried = true;
+        stage = Loaded (bounced_of (tag_placed (limits_of l o) (device_chunks first 0 x.entries) (as_pages [])))
+            (segments l m o load_at x (device_chunks first 0 x.entries) []) [];
+      }
+
+  pub device-finished-laid : AreLaid (finished m o load_at x (device_chunks first 0 x.entries) [] l).lane
+  device-finished-laid =
+      by (nat_le (length (segments l m o load_at x (device_chunks first 0 x.entries) [])) (limits_of l o).nsegments)
+    where
+      by : (b : Bool) → AreLaid (Outcome.lane (if b then record {
+        lane = fits l m o load_at x (device_chunks first 0 x.entries) [];
+        answer = answer.Segments (segments l m o load_at x (device_chunks first 0 x.entries) []);
+      }
+          else record { lane = unpaged m o [] l; answer = answer.Refused EFBIG }))
+      by true = device-fits-laid
+      by false = unpaged-still l laid m o [] there none

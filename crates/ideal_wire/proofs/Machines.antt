@@ -130,14 +130,14 @@ module _ (l : LaneState) (m : IsInMachine l) where
       IsInMachine x.lane
   makes-keep new (Touched t) = touches-keep t
   makes-keep new (Tags name parent limits t n) =
-      put (with_tag l.place t false l) l.place (record { limits = t; first_done = false }) (new-effective n) refl refl
+      put (with_tag l.place t false l) l.place (record { limits = t; first_done = false; device = false }) (new-effective n) refl refl
       refl refl refl
   makes-keep new (Attaches name parent limits t n b g e) =
-      put (with_tag l.place t true l) l.place (record { limits = t; first_done = true }) (new-effective n) refl refl
+      put (with_tag l.place t true l) l.place (record { limits = t; first_done = true; device = false }) (new-effective n) refl refl
       refl refl refl
-  makes-keep new (Untags t none) = cut (record l { tags = remove l.tags t }) t refl refl refl refl refl
+  makes-keep {x = x} new (Untags t none) = cut x.lane t refl refl refl refl refl
   makes-keep {x = x} new (Creates name t g there b n e) =
-      put x.lane t (record { limits = g.limits; first_done = true }) (m.tags t g there) refl refl refl refl refl
+      put x.lane t (record { limits = g.limits; first_done = true; device = false }) (m.tags t g there) refl refl refl refl refl
   makes-keep new (Places name t flags g there first count) = placed-keeps t flags g.limits first count new
   makes-keep new (Frees n x there o found i) = without-keeps n x
   makes-keep {x = x} new _ = like x.lane refl refl refl refl refl

@@ -4,7 +4,7 @@ use Rattle.std.proofs.Common.{List, [], ◌∷◌, map, length, zero, suc, Some,
 use Rattle.std.proofs.Common.{refl, ap, sym, ◌∙◌, subst, arith, nat_le, nat_lt, unwrap_or, length-append}
 use Rattle.std.proofs.lemmas.List.Sums.{sum_by-cons}
 use Rattle.std.proofs.lemmas.Bool.{and_parts, ltb-true, le-leb, lt-ltb, eqb-true, false≢true, le-ltb}
-use Rattle.std.specs.FinMap.{get, contains_key}
+use Rattle.std.specs.FinMap.{get}
 use Rattle.std.specs.List.{AllByRecursion}
 use Rattle.busdma_machine.specs.declared.report.Judged.TheVariants.{Fine}
 use Rattle.busdma_machine.specs.declared.machine.address.Span.{Span}
@@ -32,7 +32,7 @@ use Rattle.ideal_lane.specs.Loads.{one_entry}
 use Rattle.ideal_lane.specs.Places.{begin_of, or_in_memory, physical}
 use Rattle.ideal_lane.specs.Standing.{Stands}
 use Rattle.ideal_lane.specs.State.{LaneState, LaneMap, LaneMemory}
-use Rattle.ideal_lane.proofs.Direct.{need-direct}
+use Rattle.ideal_lane.proofs.Direct.{need-memory}
 use Rattle.ideal_wire.specs.Laid.{is_loadable, AreLaid}
 use Rattle.ideal_wire.specs.Machine.{IsOfMachine, IsInMachine}
 use Rattle.ideal_wire.proofs.Accepting.{limits-effective}
@@ -209,10 +209,8 @@ module _ (l : LaneState) (laid : AreLaid l) (machine : IsInMachine l) (stands : 
 
     no-need : need_of (chunks_of (record t { alignment = 1 }) 0 together) ≡ 0
     no-need =
-        let s = stands.each m o there in
-        let has : contains_key l.mems m ≡ true = ap is_some memory in
         ap (λ xs. need_of (chunks_of (record t { alignment = 1 }) 0 xs)) (sym one-entry)
-        ∙ sym (ap (λ b. need_of (chunks_for l o b es)) has) ∙ need-direct l m o es s (s.memory has)
+        ∙ need-memory l o es
 
     spans-ready : IsReady l m t es (chunks_for l o true es) []
     spans-ready =

@@ -3,6 +3,7 @@ use Rattle.std.proofs.Common.{◌≡◌, ℕ, zero, suc, ◌+◌, ◌*◌, ◌<�
 use Rattle.std.proofs.Common.{length, Some, refl, ap, sym, ◌∙◌, subst, arith, nat_le, inl, inr}
 use Rattle.std.proofs.Common.{◌⊎◌}
 use Rattle.std.proofs.lemmas.Bool.{cases_lt, leb-true}
+use Rattle.std.proofs.Common.{map}
 use Rattle.std.specs.FinMap.{get}
 use Rattle.std.specs.List.{AllByRecursion, flat_map}
 use Rattle.busdma_base.specs.declared.journals.answer.Answer.TheVariants as answer
@@ -117,18 +118,19 @@ module _ (l : LaneState) (laid : AreLaid l) (machine : IsInMachine l) (stands : 
       ))
 
   pub memory-accepted : nat_le (length ss) t.nsegments ≡ true →
-      IsAccepted (fits l m o load_at x memory-chunks []) m t (run_of y.first x.len) memory-chunks [] ss
+      IsAccepted (fits l m o load_at x memory-chunks []) m (λ a. Some a) t (run_of y.first x.len) memory-chunks [] ss
   memory-accepted few = record {
     buffer =
         ap buffers (traces-are l m o load_at x memory-chunks [])
         ∙ placed-buffers (bounced_of (tag_placed t memory-chunks (as_pages []))) 0 (entries_addresses x.entries)
         ∙ are-bytes;
-    trace = trace-is l m o load_at x memory-chunks [] ready.some ready.are ready.follow ready.bytes;
+    trace =
+        ap (map (λ a. Some a)) (trace-is l m o load_at x memory-chunks [] ready.some ready.are ready.follow ready.bytes);
     obeys = obeys few;
   }
 
   pub memory-finished : IfSegments (finished m o load_at x memory-chunks [] l).answer
-      (IsAccepted (finished m o load_at x memory-chunks [] l).lane m t (run_of y.first x.len) memory-chunks [])
+      (IsAccepted (finished m o load_at x memory-chunks [] l).lane m (λ a. Some a) t (run_of y.first x.len) memory-chunks [])
   memory-finished = by (nat_le (length ss) t.nsegments) refl
     where
       end : Bool → Outcome
@@ -136,6 +138,6 @@ module _ (l : LaneState) (laid : AreLaid l) (machine : IsInMachine l) (stands : 
           else record { lane = unpaged m o [] l; answer = answer.Refused EFBIG }
 
       by : (c : Bool) → nat_le (length ss) t.nsegments ≡ c →
-          IfSegments (end c).answer (IsAccepted (end c).lane m t (run_of y.first x.len) memory-chunks [])
+          IfSegments (end c).answer (IsAccepted (end c).lane m (λ a. Some a) t (run_of y.first x.len) memory-chunks [])
       by true few = memory-accepted few
       by false many = tt

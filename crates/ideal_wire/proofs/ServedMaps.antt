@@ -32,7 +32,7 @@ use Rattle.ideal_wire.specs.Machine.{IsInMachine}
 use Rattle.ideal_wire.specs.Served.{AreServed, KeepsServed}
 use Rattle.ideal_wire.proofs.Accepting.{limits-effective}
 use Rattle.ideal_wire.proofs.KeptMaps.{KeepsMaps, back-kept, same, makes-kept, IsCreated, Creation}
-use Rattle.ideal_wire.proofs.KeptTags.{KeepsTags, keeps-put, put-there}
+use Rattle.ideal_wire.proofs.KeptTags.{put-keeps, put-there}
 use Rattle.ideal_wire.proofs.Positions.{found_one}
 use Rattle.ideal_lane.proofs.Refusing.{past}
 use Rattle.busdma_machine.specs.declared.bounce.zone.Grown.{Grown}
@@ -90,13 +90,13 @@ module _ (l : LaneState) (stands : Stands l) (a : Account) (machine : IsInMachin
         made : LaneState
         made = with_tag t g.limits true (with_map t (Some n.zone.0) l)
 
-        tags : KeepsTags l made
-        tags = keeps-put l stands made t (record { limits = g.limits; first_done = true }) refl
+        tags : (n : ℕ) (o : LaneMap) → get l.maps n ≡ Some o → limits_of made o ≡ limits_of l o
+        tags = put-keeps (λ q. unwrap_or (option_map (λ (x : LaneTag). x.limits) q) no_limits) l stands made t (record { limits = g.limits; first_done = true; device = false }) refl
             (λ x f. ap (λ (y : LaneTag). y.limits) (found_one (get l.tags t) x g f there))
 
         new-limits : limits_of made new ≡ g.limits
         new-limits = ap (λ q. unwrap_or (option_map (λ (x : LaneTag). x.limits) q) no_limits)
-            (put-there l.tags t (record { limits = g.limits; first_done = true }))
+            (put-there l.tags t (record { limits = g.limits; first_done = true; device = false }))
 
         serves : IsTrue (serves_tag g.limits (zone_at after n.zone.0))
         serves = serves-created (named l l.place) g.limits g.first_done a n [] e

@@ -3,6 +3,7 @@ use Rattle.std.proofs.Common.{[], ◌≡◌, ◌≢◌, ℕ, ◌==◌, Bool, tru
 use Rattle.std.proofs.Common.{Some, None, refl, ap, sym, ◌∙◌, subst, arith, unwrap_or, option_map}
 use Rattle.std.proofs.lemmas.Bool.{false≢true, eqb-true}
 use Rattle.std.specs.FinMap.{get, insert, remove}
+use Rattle.std.specs.Option.{option_map_or}
 use Rattle.busdma_machine.specs.declared.tags.tag.TagLimits.{TagLimits}
 use Rattle.busdma_machine.specs.Runs.{run_of}
 use Rattle.lane_agreement.specs.View.{Return, returning}
@@ -10,20 +11,24 @@ use Rattle.loan_table.specs.Lending.{lost, lost_by_forgetting, marked_range}
 use Rattle.loan_table.specs.Lending as lending
 use Rattle.loan_table.specs.Loans.{Loan, Loans, addresses_of, loan_of, no_loan, load_bytes}
 use Rattle.loan_table.proofs.Marking.{addresses_of-synced}
-use Rattle.ideal_lane.specs.Loads.{emptied, limits_of, no_limits, staged, unpaged}
+use Rattle.ideal_lane.specs.Loads.{emptied, is_device, limits_of, no_limits, staged, unpaged}
 use Rattle.ideal_lane.specs.Maps.{with_map, without_map}
 use Rattle.ideal_lane.specs.Outcomes.{Outcome, is_idle, is_loaded}
 use Rattle.ideal_lane.specs.Places.{bytes_at}
 use Rattle.ideal_lane.specs.Standing.{Stands}
 use Rattle.ideal_lane.specs.State.{LaneState, LaneTag, LaneMap, LaneMemory, Stage, Idle, Waiting, Loaded, Returning}
 use Rattle.ideal_lane.specs.Tags.{with_tag, has_maps}
-use Rattle.ideal_lane.specs.Unloads.{unlent, pages_of, restaged, after_return}
+use Rattle.iommu_map.specs.Space.{Space}
+use Rattle.ideal_lane.specs.State.{no_space}
+use Rattle.ideal_lane.specs.Tags.{with_space}
+use Rattle.ideal_lane.specs.Unloads.{unlent, unmapped, pages_of, restaged, after_return}
 use Rattle.ideal_lane.proofs.Effects.{DeviceWrites, Same, Syncs, Touches, Work, Writes, after_sync, after_write}
 use Rattle.ideal_lane.proofs.Lookups.{get_put}
 use Rattle.ideal_wire.specs.Laid.{LiesIn, AreLaid}
 use Rattle.ideal_wire.specs.Traces.{stage_in, stage_at}
 use Rattle.ideal_wire.proofs.Alike.{KeepsLimits, KeepsRest, IsAlike, none-changed, one-changed}
-use Rattle.ideal_wire.proofs.KeptTags.{KeepsTags, cut-off, cut-there, keeps-put, new-tag, put-off, put-there, untagged}
+use Rattle.ideal_wire.proofs.KeptTags.{KeepsTags, cut-off, cut-there, keeps-put, new-tag, put-off, put-there, says-in}
+use Rattle.ideal_wire.proofs.KeptTags.{untagged}
 use Rattle.ideal_wire.proofs.Positions.{found_one}
 use Rattle.ideal_wire.proofs.Wiring.{own-forgotten, own-written}
 use Rattle.busdma_base.specs.Scenarios.Operations.{bytes_of}
@@ -53,8 +58,13 @@ kept-map l l' n tags loan there = record {
   coherent = ap (λ (x : Loan). x.coherent) loan;
   bytes = ap (λ (x : Loan). addresses_of x.positions) loan;
   unlent = λ none. loan;
-  limits = λ o e. (o, sym there ∙ e, tags n o (sym there ∙ e));
+  limits = λ o e. (o, sym there ∙ e, ap (λ x. x.0) (tags n o (sym there ∙ e)));
+  device = ap (λ y. option_map_or (is_device l') y false) there ∙ by (get l.maps n) refl;
 }
+  where
+    by : (y : Option LaneMap) → get l.maps n ≡ y → option_map_or (is_device l') y false ≡ option_map_or (is_device l) y false
+    by None e = refl
+    by (Some o) e = ap (λ x. x.1) (tags n o e)
 
 module _ (l : LaneState) (laid : AreLaid l) where
   -- a map with no load lends nothing
@@ -94,7 +104,7 @@ module _ (l : LaneState) (laid : AreLaid l) where
         had.1,
         sym (ap (limits_of l') same)
             ∙ sym (ap (λ t. unwrap_or (option_map (λ (g : LaneTag). g.limits) (get l'.tags t)) no_limits) had.2)
-            ∙ tags m had.0 had.1,
+            ∙ ap (λ x. x.0) (tags m had.0 had.1),
       )
 
   -- one map has another stage, and lends as it lent; a memory's has its tag
@@ -131,6 +141,8 @@ module _ (l : LaneState) (laid : AreLaid l) where
         sym (λ i. get (maps i) n) ∙ e,
         λ i. unwrap_or (option_map (λ (t : LaneTag). t.limits) (get (tags i) x.tag)) no_limits,
       );
+      device = λ i. option_map_or (λ (x : LaneMap). option_map_or (λ (t : LaneTag). t.device) (get (tags i) x.tag) false)
+          (get (maps i) n) false;
     }
       where
         off-map : is_loaded (stage_at l n) ≡ false → n ≢ m
@@ -193,7 +205,7 @@ module _ (l : LaneState) (laid : AreLaid l) where
       (emptied-lies (unpaged m o pages l) m pages none)
 
   pub unload-still : (m : ℕ) (o : LaneMap) → get l.maps m ≡ Some o →
-      AreLaid (unpaged m o (pages_of o.stage) (unlent m l))
+      AreLaid (unmapped o (unpaged m o (pages_of o.stage) (unlent m l)))
   unload-still m o there =
       one-changed l after (record {
         script = refl;
@@ -209,10 +221,16 @@ module _ (l : LaneState) (laid : AreLaid l) where
       (emptied-lies after m (pages_of o.stage) (ap (λ y. unwrap_or y no_loan) (cut-there l.loans m))))
     where
       after : LaneState
-      after = unpaged m o (pages_of o.stage) (unlent m l)
+      after = unmapped o (unpaged m o (pages_of o.stage) (unlent m l))
 
       new : LaneMap
       new = record o { tried = true; stage = emptied (pages_of o.stage) }
+
+  -- with other address spaces
+  pub spaced-still : (s : ℕ → Space) → AreLaid (record l { spaces = s })
+  spaced-still s =
+      like (record l { spaces = s })
+      (record { script = refl; pages = refl; maxmem = refl; own = λ a. refl; mems = refl }) (λ n x e. refl) refl refl
 
   pub back-still : (x : Return) (rest : List Return) (y : Option LaneMap) → get l.maps x.map ≡ y →
       ((o : LaneMap) → get l.maps x.map ≡ Some o → is_loaded o.stage ≡ false) →
@@ -238,12 +256,13 @@ module _ (l : LaneState) (laid : AreLaid l) where
     with_tag-still t done =
         like (with_tag l.place t done l)
         (record { script = refl; pages = refl; maxmem = refl; own = λ a. refl; mems = refl })
-        (keeps-put l stands (with_tag l.place t done l) l.place (record { limits = t; first_done = done }) refl
+        (keeps-put l stands (with_tag l.place t done l) l.place (record { limits = t; first_done = done; device = false }) refl
         (λ g e. new-tag l stands g e)) refl refl
 
-    pub untag-still : (t : ℕ) → has_maps l t ≡ false → AreLaid (record l { tags = remove l.tags t })
+    pub untag-still : (t : ℕ) → has_maps l t ≡ false →
+        AreLaid (record l { tags = remove l.tags t; spaces = with_space t no_space l.spaces })
     untag-still t b =
-        like (record l { tags = remove l.tags t })
+        like (record l { tags = remove l.tags t; spaces = with_space t no_space l.spaces })
         (record { script = refl; pages = refl; maxmem = refl; own = λ a. refl; mems = refl }) (untagged l t b) refl
         refl
 
@@ -259,12 +278,13 @@ module _ (l : LaneState) (laid : AreLaid l) where
     abbrev new-map : ℕ → Option ℕ → LaneMap
     new-map t zone = record { tag = t; zone = zone; tried = false; stage = Idle }
 
-    pub created-still : (t : ℕ) (o : LaneTag) → get l.tags t ≡ Some o → (z : ℕ) →
+    pub created-still : (t : ℕ) (o : LaneTag) → get l.tags t ≡ Some o → o.device ≡ false → (z : ℕ) →
         AreLaid (with_tag t o.limits true (with_map t (Some z) l))
-    created-still t o there z =
+    created-still t o there plain z =
         put made (record { script = refl; pages = refl; maxmem = refl; own = λ a. refl; mems = refl })
-        (keeps-put l stands made t (record { limits = o.limits; first_done = true }) refl
-        (λ g e. ap (λ (x : LaneTag). x.limits) (found_one (get l.tags t) g o e there)))
+        (keeps-put l stands made t (record { limits = o.limits; first_done = true; device = false }) refl
+        (λ g e. ap (λ (x : LaneTag). says-in (Some x)) (found_one (get l.tags t) g o e there)
+        ∙ (λ i. (o.limits, plain i))))
         l.place (new-map t (Some z)) refl refl (no-memory-here t) none-here
       where
         made : LaneState

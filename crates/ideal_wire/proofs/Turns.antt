@@ -34,7 +34,7 @@ use Rattle.ideal_lane.specs.Standing.{Stands}
 use Rattle.ideal_lane.specs.Turns.{Turned, operation, transfer, waits, lane_step}
 use Rattle.ideal_lane.specs.Turns as turns
 use Rattle.ideal_lane.specs.Unloads.{restaged, given_back, after_return}
-use Rattle.ideal_lane.proofs.Effects.{AtOnce, Called, Creates, Ends, Frees, Granted, IsUndone, Loads, Makes}
+use Rattle.ideal_lane.proofs.Effects.{AtOnce, Called, Creates, Device, Ends, Frees, Granted, IsUndone, Loads, Makes}
 use Rattle.ideal_lane.proofs.Stepping.{Made}
 use Rattle.ideal_lane.proofs.Effects.{Maps, Operation, Overflows, Places, Refuses, Touched, Transfer, Unloads}
 use Rattle.ideal_lane.proofs.Stepping.{Only}
@@ -167,8 +167,9 @@ module _ (l : LaneState) (a : Account) (w : Wire) (stands : Stands l) (agrees : 
   -- a load that ends lent nothing
   unlent : {d : Work} {c : Option HubCall} {r : HubReply} (k : Ends l d c r) →
       loan_of l.loans (map_in k) ≡ no_loan
-  unlent (AtOnce b none) = no-loan b.m b.o b.there (idle-unloaded b.o.stage b.idle)
-  unlent (Granted b some pages) = no-loan b.m b.o b.there (idle-unloaded b.o.stage b.idle)
+  unlent (AtOnce b plain none) = no-loan b.m b.o b.there (idle-unloaded b.o.stage b.idle)
+  unlent (Granted b plain some pages) = no-loan b.m b.o b.there (idle-unloaded b.o.stage b.idle)
+  unlent (Device b device first spaces taken) = no-loan b.m b.o b.there (idle-unloaded b.o.stage b.idle)
   unlent (Called m pages o v there waits) = no-loan m.made_at o there (ap is_loaded waits)
 
   -- ---- each effect
@@ -215,7 +216,7 @@ module _ (l : LaneState) (a : Account) (w : Wire) (stands : Stands l) (agrees : 
   makes-stay {c = c} new (Refuses b over e) =
       idle (undone-wired c (answer.Refused e) _ tt)
       (put b.m _ _ (no-loan b.m b.o b.there (idle-unloaded b.o.stage b.idle)) refl refl refl)
-  makes-stay new (Waits b some have) =
+  makes-stay new (Waits b plain some have) =
       idle refl (put b.m _ _ (no-loan b.m b.o b.there (idle-unloaded b.o.stage b.idle)) refl refl refl)
   makes-stay {c = c} new (Loads k e) =
       idle (undone-wired c (answer.Segments _) _ tt)

@@ -1,5 +1,5 @@
 -- When the segments that a load answers are its bytes and obey its tag: after bus_dmamap_load(9).
-use Rattle.std.specs.Prelude.{◌≡◌, ℕ, List, length}
+use Rattle.std.specs.Prelude.{◌≡◌, ℕ, List, length, map, Option, Some}
 use Rattle.std.specs.List.{AllByRecursion}
 use Rattle.busdma_base.specs.declared.journals.answer.Answer.{Answer}
 use Rattle.busdma_base.specs.declared.journals.answer.Answer.TheVariants as answer
@@ -20,12 +20,12 @@ pub record HasPages (t : TagLimits) (chunks : List Chunk) (pages : List ℕ) : T
   pub count : length pages ≡ need_of chunks
   pub reachable : AllByRecursion (IsReachable t) (as_pages pages)
 
--- the load of a map is of these bytes, in order; the bytes of its segments are the bus addresses of these bytes, in
--- order; and the segments of its chunks in their pages obey the tag
-pub record IsAccepted (l : LaneState) (m : ℕ) (t : TagLimits) (bytes : List ℕ) (chunks : List Chunk) (pages : List ℕ)
-    (segments : List Segment) : Type 0 where
+-- the load of a map is of these bytes, in order; what the device finds at the bytes of its segments are the bus
+-- addresses of these bytes, in order; and the segments of its chunks in their pages obey the tag
+pub record IsAccepted (l : LaneState) (m : ℕ) (find : ℕ → Option ℕ) (t : TagLimits) (bytes : List ℕ)
+    (chunks : List Chunk) (pages : List ℕ) (segments : List Segment) : Type 0 where
   pub buffer : buffers (traces_of l m) ≡ bytes
-  pub trace : segment_bytes segments ≡ buses (traces_of l m)
+  pub trace : map find (segment_bytes segments) ≡ map (λ a. Some a) (buses (traces_of l m))
   pub obeys : Obeys t (tag_placed t chunks (as_pages pages)) segments
 
 -- P holds of the segments, where there are segments

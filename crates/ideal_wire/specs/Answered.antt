@@ -1,5 +1,10 @@
 -- The load that a step ends, and that the segments which it answers are the load's.
-use Rattle.std.specs.Prelude.{◌≡◌, ℕ, List, Option, Some, None, slice_get}
+use Rattle.std.specs.Prelude.{◌≡◌, ◌==◌, ℕ, Bool, if◌then◌else◌, length, List, Option, Some, None, slice_get}
+use Rattle.std.specs.Prelude.{unwrap_or}
+use Rattle.busdma_machine.specs.declared.machine.chunk.Chunk.{Chunk}
+use Rattle.busdma_machine.specs.declared.machine.chunk.Entry.{Entry}
+use Rattle.iommu_load.specs.Device.{device_chunks, load_frames}
+use Rattle.iommu_map.specs.Space.{first_free, translated}
 use Rattle.std.specs.FinMap.{get, contains_key}
 use Rattle.std.specs.Option.{option_and_then, option_map}
 use Rattle.busdma_base.specs.declared.journals.journal.Did.{Did}
@@ -11,7 +16,7 @@ use Rattle.busdma_base.specs.declared.scenarios.script.Op.TheVariants as op
 use Rattle.busdma_machine.specs.Bounce.Account.{Account}
 use Rattle.busdma_machine.specs.Bounce.AccountStep.{account_step}
 use Rattle.ideal_lane.specs.Asking.{Asking, Gives, Asks}
-use Rattle.ideal_lane.specs.Loads.{chunks_for, limits_of, load_addresses, load_entries}
+use Rattle.ideal_lane.specs.Loads.{chunks_for, is_device, limits_of, load_addresses, load_entries}
 use Rattle.ideal_lane.specs.State.{LaneState, LaneMap, Stage, Idle, Waiting, Loaded, Returning}
 use Rattle.ideal_lane.specs.Turns.{Turn, Turned, Stepped, Blocked, Ended, bio_at}
 use Rattle.ideal_lane.specs.Unloads.{pages_of}
@@ -51,13 +56,27 @@ waited_at (Waiting w) = w.load_at
 waited_at (Loaded bounced segments pages) = 0
 waited_at Returning = 0
 
+-- where the device of a map finds the byte at a bus address: through the IOMMU of the map's tag, or there
+abbrev pub found_at : LaneState → LaneMap → ℕ → Option ℕ
+found_at l o a = if is_device l o then translated (l.spaces o.tag) a else Some a
+
+-- the first device page of a load of these entries; one of no byte has none
+abbrev pub first_page : LaneState → LaneMap → List Entry → ℕ
+first_page l o es =
+    if length (load_frames es) == 0 then 0 else unwrap_or (first_free (l.spaces o.tag) (length (load_frames es))) 0
+
+-- the chunks of a load of a map: those of its device pages, or those that the x86 bounce code cuts
+abbrev pub chunks_of_load : LaneState → LaneMap → Bool → List Entry → List Chunk
+chunks_of_load l o memory es =
+    if is_device l o then device_chunks (first_page l o es) 0 es else chunks_for l o memory es
+
 -- the segments are the bytes, in order, of the load of a map with a bio, of which the map is loaded after the step, and
 -- obey the map's tag
 pub record AreLoaded (before after : LaneState) (m : ℕ) (b : Bio) (segments : List Segment) : Type 0 where
   pub map : LaneMap
   pub there : get before.maps m ≡ Some map
-  pub accepted : IsAccepted after m (limits_of before map) (load_addresses before b)
-      (chunks_for before map (contains_key before.mems m) (load_entries before b))
+  pub accepted : IsAccepted after m (found_at after map) (limits_of before map) (load_addresses before b)
+      (chunks_of_load before map (contains_key before.mems m) (load_entries before b))
       (pages_of (stage_at after m)) segments
 
 -- so are those that an operation answers; one that does not load answers none

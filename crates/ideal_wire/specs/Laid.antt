@@ -3,6 +3,7 @@ use Rattle.std.specs.Prelude.{◌≡◌, ℕ, ◌*◌, ◌/◌, ◌%◌, ◌≤�
 use Rattle.std.specs.Prelude.{is_some}
 use Rattle.std.specs.List.{AllByRecursion, AllZip}
 use Rattle.std.specs.FinMap.{get}
+use Rattle.std.specs.Option.{option_map_or}
 use Rattle.busdma_machine.specs.declared.machine.bio.Bio.{Bio}
 use Rattle.busdma_machine.specs.declared.machine.chunk.Chunk.{Chunk}
 use Rattle.busdma_machine.specs.declared.machine.address.Segment.{Segment}
@@ -28,7 +29,7 @@ use Rattle.segment_build.specs.Trace.{bus_extent, chunk_extents}
 use Rattle.ideal_lane.specs.State.{LaneState, LaneMap, LaneMemory, Stage, Idle, Waiting, Loaded, Returning}
 use Rattle.ideal_lane.specs.State.{WaitingLoad}
 use Rattle.ideal_lane.specs.Asking.{Asking, Gives, Asks}
-use Rattle.ideal_lane.specs.Loads.{chunks_for, is_coherent, limits_of}
+use Rattle.ideal_lane.specs.Loads.{chunks_for, is_coherent, is_device, limits_of}
 use Rattle.ideal_lane.specs.Turns.{Turned}
 use Rattle.ideal_wire.specs.Answered.{load_at}
 use Rattle.ideal_wire.specs.Centre.{IsAt}
@@ -49,9 +50,13 @@ abbrev pub is_loadable : Option LaneMemory → LaneState → ℕ → Bool
 is_loadable None l a = is_own l.pages a
 is_loadable (Some x) l a = in_run x.first x.count a
 
+-- there is a map at a place, of an IOMMU tag
+abbrev pub is_behind : LaneState → ℕ → Bool
+is_behind l m = option_map_or (is_device l) (get l.maps m) false
+
 -- the load of a map has bytes of its memory alone, of which none is bounced, or of the driver's pages; its bounced
--- chunks lie in its pages, one in each, and have the bytes at their places; and the bytes of its segments are its
--- trace
+-- chunks lie in its pages, one in each, and have the bytes at their places; and, where the map is none of an IOMMU tag,
+-- the bytes of its segments are its trace
 pub record IsLaid (l : LaneState) (m : ℕ) (bounced : List Chunk) (segments : List Segment) (pages : List ℕ)
     : Type 0 where
   pub coherent : (loan_of l.loans m).coherent ≡ is_coherent (get l.mems m)
@@ -60,7 +65,7 @@ pub record IsLaid (l : LaneState) (m : ℕ) (bounced : List Chunk) (segments : L
   pub paged : AllZip IsInPage bounced pages
   pub extents : AllByRecursion IsOfExtents bounced
   pub chunks : HasChunks 0 (traces_of l m) bounced
-  pub trace : segment_bytes segments ≡ buses (traces_of l m)
+  pub trace : is_behind l m ≡ false → segment_bytes segments ≡ buses (traces_of l m)
 
 -- where the bytes of a bio lie that are of pages, which no step changes
 abbrev pub in_pages : List PageRun → Bio → Translation

@@ -4,8 +4,10 @@ pub mod Apart
 pub mod Centre
 pub mod Laid
 pub mod Machine
+pub mod Mapped
 pub mod NewRuns
 pub mod OneProof
 pub mod Served
+pub mod Spaced
 pub mod Traces
 pub mod WireStep

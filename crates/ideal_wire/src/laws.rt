@@ -1,6 +1,6 @@
 //! Laws of the wire.
 
-ghost use Rattle.std.specs.Prelude.{◌≡◌, ◌∷◌, [], ℕ, Bool, true, false, List, Some, slice_get};
+ghost use Rattle.std.specs.Prelude.{◌≡◌, ◌∷◌, [], ℕ, Bool, true, false, List, Some, map, slice_get};
 ghost use Rattle.std.specs.FinMap.{contains_key, get};
 ghost use Rattle.std.specs.List.{AllByRecursion};
 ghost use Rattle.busdma_machine.specs.declared.bounce.hold.HubCall.{HubCall};
@@ -15,7 +15,10 @@ ghost use Rattle.busdma_machine.specs.Bounce.Growth.{serves_tag};
 ghost use Rattle.busdma_machine.specs.Bounce.History.{IsFrame, account_of};
 ghost use Rattle.busdma_machine.specs.declared.bounce.hold.HoldEntry.{HoldEntry};
 ghost use Rattle.busdma_machine.specs.Bounce.LowPages.{PagesLieLow};
+ghost use Rattle.busdma_machine.specs.declared.machine.address.Segment.{Segment};
+ghost use Rattle.busdma_machine.specs.declared.machine.chunk.Chunk.{Chunk};
 ghost use Rattle.segment_build.specs.Obeying.{IsReachable};
+ghost use Rattle.segment_build.specs.Segmentation.{segment_bytes};
 ghost use Rattle.busdma_machine.specs.declared.bounce.hold.HubReply.{HubReply};
 ghost use Rattle.busdma_base.specs.declared.journals.journal.Side.{Side};
 ghost use Rattle.busdma_machine.specs.declared.report.Judged.TheVariants.{Fine};
@@ -27,7 +30,7 @@ ghost use Rattle.busdma_base.specs.declared.scenarios.script.Place.{Place};
 ghost use Rattle.busdma_machine.specs.Bounce.Account.{Account, zone_at};
 ghost use Rattle.busdma_base.specs.Scenarios.Opening.{maxmem_of};
 ghost use Rattle.busdma_base.specs.Scenarios.PageRuns.{is_own};
-ghost use Rattle.busdma_machine.specs.Machine.Wire.{Wire};
+ghost use Rattle.busdma_machine.specs.Machine.Wire.{Wire, buses};
 ghost use Rattle.busdma_machine.specs.Runs.{run_of};
 ghost use Rattle.busdma_base.specs.Scenarios.Buffers.{IsBioOf};
 ghost use Rattle.busdma_base.specs.Scenarios.Valid.{IsValid};
@@ -38,17 +41,20 @@ ghost use Rattle.ideal_lane.specs.Asking.{by_reply};
 ghost use Rattle.ideal_lane.specs.Loads.{asked, chunks_for, finished, limits_of, load_addresses, load_judged};
 ghost use Rattle.ideal_lane.specs.Opening.{opening_lane};
 ghost use Rattle.ideal_lane.specs.Standing.{Stands};
-ghost use Rattle.ideal_lane.specs.State.{LaneMap, LaneMemory, LaneState};
+ghost use Rattle.ideal_lane.specs.State.{LaneMap, LaneMemory, LaneState, Loaded};
 ghost use Rattle.ideal_lane.specs.Syncs.{sync, sync_range};
 ghost use Rattle.ideal_lane.specs.Turns.{lane_step};
 ghost use Rattle.ideal_wire.specs.Accepted.{HasPages, IfSegments, IsAccepted};
-ghost use Rattle.ideal_wire.specs.Answered.{AnswersLoads};
+ghost use Rattle.ideal_wire.specs.Answered.{AnswersLoads, found_at};
 ghost use Rattle.ideal_wire.specs.Apart.{IsApart};
 ghost use Rattle.ideal_wire.specs.Centre.{IsFaithful};
 ghost use Rattle.ideal_wire.specs.Laid.{AreLaid, KeepsLaid};
 ghost use Rattle.ideal_wire.specs.Machine.{IsInMachine};
+ghost use Rattle.ideal_wire.specs.Mapped.{AreMapped};
 ghost use Rattle.ideal_wire.specs.NewRuns.{BringsNew};
 ghost use Rattle.ideal_wire.specs.Served.{AreServed, KeepsServed};
+ghost use Rattle.ideal_wire.specs.Spaced.{AreSpaced};
+ghost use Rattle.ideal_wire.specs.Traces.{traces_of};
 ghost use Rattle.ideal_wire.specs.WireStep.{Follows, IsRead, load_buses, place_bytes};
 ghost use Rattle.ideal_wire.specs.WireStep as wire;
 
@@ -131,7 +137,7 @@ pub fn accepted_loads_obey()
         HasPages (limits_of l o) chunks pages →
         let end = finished m o load_at x chunks pages l in
         IfSegments end.answer
-        (IsAccepted end.lane m (limits_of l o) (load_addresses l b) chunks pages) }
+        (IsAccepted end.lane m (λ a. Some a) (limits_of l o) (load_addresses l b) chunks pages) }
     ensures memory { (l : LaneState) (m : ℕ) (o : LaneMap) (y : LaneMemory) (b : Bio) (load_at : ℕ) (nowait : Bool)
         (items : List Item) → Stands l → AreLaid l → IsInMachine l → get l.maps m ≡ Some o → get l.mems m ≡ Some y →
         load_judged l m b ≡ Fine →
@@ -139,10 +145,10 @@ pub fn accepted_loads_obey()
         let chunks = chunks_for l o true x.entries in
         let end = finished m o load_at x chunks [] l in
         IfSegments end.answer
-        (IsAccepted end.lane m (limits_of l o) (run_of y.first x.len) chunks []) }
+        (IsAccepted end.lane m (λ a. Some a) (limits_of l o) (run_of y.first x.len) chunks []) }
     ensures turn { (l : LaneState) (s : Side) (a : Account) → Stands l → AgreesWith l a → IsFit a →
         EachFrame IsFrame a → PagesLieLow a → AreServed l a → IsInMachine l → AreLaid l →
-        AnswersLoads l a (lane_step l s) }
+        AreSpaced l → AnswersLoads l a (lane_step l s) }
 {}
 
 /// A step leaves the loads of a driver laid that are laid, by the account's reply to its call, where the
@@ -168,6 +174,28 @@ pub fn steps_stay_in_machine()
         IsInMachine (opening_lane i (maxmem_of s.frames) driver) }
     ensures stays { (l : LaneState) (s : Side) (r : HubReply) → IsInMachine l → BringsNew l r →
         IsInMachine (by_reply (lane_step l s) r).lane }
+{}
+
+/// The address spaces of a driver's IOMMU tags are in order at its opening, where there is none, and stay
+/// so at each step of a driver that lies in its machine and has its loads laid, whatever the reply.
+pub fn spaces_stay_in_order()
+    ensures opens { (id maxmem : ℕ) (driver : Driver) → AreSpaced (opening_lane id maxmem driver) }
+    ensures stays { (l : LaneState) (s : Side) (r : HubReply) → AreLaid l → IsInMachine l → AreSpaced l →
+        AreSpaced (by_reply (lane_step l s) r).lane }
+{}
+
+/// The loads of IOMMU tags' maps stand in live runs of their tags, no two in one, at a driver's opening,
+/// where there is none, and after each step of a driver that stands, lies in its machine, has its loads
+/// laid and the address spaces of its IOMMU tags in order, whatever the reply. So the device of any
+/// loaded map, of a tag of either kind, finds under the bytes of the load's segments, in order, the bytes
+/// of the load.
+pub fn loads_are_found()
+    ensures opens { (id maxmem : ℕ) (driver : Driver) → AreMapped (opening_lane id maxmem driver) }
+    ensures stays { (l : LaneState) (s : Side) (r : HubReply) → Stands l → AreLaid l → IsInMachine l → AreSpaced l →
+        AreMapped l → AreMapped (by_reply (lane_step l s) r).lane }
+    ensures found { (l : LaneState) (m : ℕ) (o : LaneMap) (bounced : List Chunk) (segments : List Segment)
+        (pages : List ℕ) → AreLaid l → AreMapped l → get l.maps m ≡ Some o → o.stage ≡ Loaded bounced segments pages →
+        map (found_at l o) (segment_bytes segments) ≡ map (λ a. Some a) (buses (traces_of l m)) }
 {}
 
 /// The zone of each map that has one serves the map's tag: at a driver's opening, where there is no map;

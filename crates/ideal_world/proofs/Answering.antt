@@ -54,7 +54,8 @@ answers-load s w e well is l m there after =
     let a = w.account in
     of-step w i l m (lane_step l e.actor.side) e there
     (turn-answers l a d.stands d.agrees (fits s w well) (reached-whole s a well.valid well.reached)
-    (reached-low s a well.valid well.reached) d.served d.machine d.laid e.actor.side)
+    (reached-low s a well.valid well.reached) d.served d.machine d.laid d.spaced
+    e.actor.side)
     (sym (ap (λ (x : WorldTurned). slice_get x.world.lanes i) turn) ∙ after)
     (sym (ap (λ (x : WorldTurned). entry_of x.turn) turn) ∙ is)
 

@@ -24,6 +24,10 @@ use Rattle.ideal_wire.specs.Laid.{AreLaid, KeepsLaid}
 use Rattle.ideal_wire.specs.Machine.{IsInMachine}
 use Rattle.ideal_wire.specs.NewRuns.{BringsNew}
 use Rattle.ideal_wire.specs.Served.{AreServed, KeepsServed}
+use Rattle.ideal_wire.specs.Mapped.{AreMapped}
+use Rattle.ideal_wire.specs.Spaced.{AreSpaced}
+use Rattle.ideal_wire.proofs.KeptSpaces.{turn-spaced}
+use Rattle.ideal_wire.proofs.MappedTurns.{turn-mapped}
 use Rattle.ideal_wire.proofs.LaidTurns.{turn-laid}
 use Rattle.ideal_wire.proofs.Machines.{turn-keeps}
 use Rattle.ideal_wire.proofs.ServedMaps.{served-on, turn-served}
@@ -62,6 +66,8 @@ module _ (s : Scenario) (w : WorldState) (well : IsWellFormed s w) where
       agrees : AgreesWith m a
       machine : IsInMachine m
       laid : AreLaid m
+      spaced : AreSpaced m
+      mapped : AreMapped m
       served : AreServed m a
 
     -- the driver is after its step, and the others agree with the account too, whose zones serve them
@@ -83,6 +89,8 @@ module _ (s : Scenario) (w : WorldState) (well : IsWellFormed s w) where
             agrees = after.agrees;
             machine = after.machine;
             laid = after.laid;
+            spaced = after.spaced;
+            mapped = after.mapped;
             served = after.served;
           })
           (λ j n off e. let d = well.each j n e in record {
@@ -95,6 +103,8 @@ module _ (s : Scenario) (w : WorldState) (well : IsWellFormed s w) where
             agrees = (others j n off e).0;
             machine = d.machine;
             laid = d.laid;
+            spaced = d.spaced;
+            mapped = d.mapped;
             served = (others j n off e).1;
           });
       reached = reached;
@@ -120,6 +130,8 @@ module _ (s : Scenario) (w : WorldState) (well : IsWellFormed s w) where
       agrees : KeepsAgreement l.id w.account x
       machine : (r : HubReply) → BringsNew l r → IsInMachine (by_reply x r).lane
       laid : KeepsLaid l.id w.account x
+      spaced : (r : HubReply) → AreSpaced (by_reply x r).lane
+      mapped : (r : HubReply) → AreMapped (by_reply x r).lane
       served : KeepsServed l.id w.account x
 
     kept : (x : Asking Turned) → IsStep x → IsWellFormed s (replied w i l x).world
@@ -131,6 +143,8 @@ module _ (s : Scenario) (w : WorldState) (well : IsWellFormed s w) where
           agrees = step.agrees;
           machine = step.machine Nothing tt;
           laid = step.laid;
+          spaced = step.spaced Nothing;
+          mapped = step.mapped Nothing;
           served = step.served;
         }) (λ j n off e. let d = well.each j n e in (d.agrees, d.served)) well.reached
     kept (Asks c k) step =
@@ -142,6 +156,8 @@ module _ (s : Scenario) (w : WorldState) (well : IsWellFormed s w) where
           agrees = step.agrees;
           machine = step.machine r (given-to s w well i l there c);
           laid = step.laid;
+          spaced = step.spaced r;
+          mapped = step.mapped r;
           served = step.served;
         }) (λ j n off e. let d = well.each j n e in (
           others-agree (view_of n) l.id c w.account fits.well (apart j n off e) step.may d.agrees,
@@ -160,6 +176,8 @@ module _ (s : Scenario) (w : WorldState) (well : IsWellFormed s w) where
       laid =
           turn-laid l w.account own.stands own.agrees fits (reached-whole s w.account well.valid well.reached)
           own.machine own.laid side;
+      spaced = turn-spaced l own.laid own.machine own.spaced side;
+      mapped = turn-mapped l own.stands own.laid own.machine own.spaced own.mapped side;
       served = turn-served l own.stands w.account own.machine own.served side;
     })
 

@@ -13,6 +13,8 @@ use Rattle.ideal_lane.specs.Opening.{opening_lane}
 use Rattle.ideal_lane.specs.State.{LaneState, LaneMap}
 use Rattle.ideal_lane.proofs.Openings.{opens-standing, opens-agreeing}
 use Rattle.ideal_wire.proofs.Machinery.{opens-in-machine}
+use Rattle.ideal_wire.proofs.KeptSpaces.{opens-spaced}
+use Rattle.ideal_wire.proofs.MappedTurns.{opens-mapped}
 use Rattle.ideal_wire.proofs.Openings.{opens-laid}
 use Rattle.ideal_world.specs.WellFormed.{IsDriverOf, IsWellFormed}
 use Rattle.ideal_world.specs.World.{opening_world}
@@ -36,6 +38,8 @@ module _ (s : Scenario) (valid : IsValid s) where
         stands = opens-standing i (maxmem_of s.frames) o.driver;
         machine = opens-in-machine s i o.driver valid o.there;
         laid = opens-laid i (maxmem_of s.frames) o.driver;
+        spaced = opens-spaced i (maxmem_of s.frames) o.driver;
+        mapped = opens-mapped i (maxmem_of s.frames) o.driver;
         served = λ m z map e zone. absurd (nothing m map e);
         agrees = opens-agreeing s i o.driver (opening-may_begin s valid) o.there;
       }))

@@ -12,12 +12,15 @@ use Rattle.ideal_lane.specs.Standing.{Stands}
 use Rattle.ideal_lane.specs.State.{LaneState}
 use Rattle.ideal_wire.specs.Laid.{AreLaid}
 use Rattle.ideal_wire.specs.Machine.{IsInMachine}
+use Rattle.ideal_wire.specs.Mapped.{AreMapped}
 use Rattle.ideal_wire.specs.Served.{AreServed}
+use Rattle.ideal_wire.specs.Spaced.{AreSpaced}
 use Rattle.ideal_world.specs.Left.{left_of}
 use Rattle.ideal_world.specs.World.{WorldState, bounced, opening_world}
 
 -- the state of the scenario's driver of this number: it has its script and its pages, stands, agrees with the account,
--- lies in its machine, has its loads laid, and has maps of zones that serve their tags
+-- lies in its machine, has its loads laid, the address spaces of its IOMMU tags in order and the loads of their maps in
+-- their runs, and has maps of zones that serve their tags
 pub record IsDriverOf (s : Scenario) (a : Account) (i : ℕ) (l : LaneState) : Type 0 where
   pub driver : Driver
   pub there : slice_get s.drivers i ≡ Some driver
@@ -28,6 +31,8 @@ pub record IsDriverOf (s : Scenario) (a : Account) (i : ℕ) (l : LaneState) : T
   pub agrees : AgreesWith l a
   pub machine : IsInMachine l
   pub laid : AreLaid l
+  pub spaced : AreSpaced l
+  pub mapped : AreMapped l
   pub served : AreServed l a
 
 -- a sound history of calls of the scenario's drivers leads from its opening to this account

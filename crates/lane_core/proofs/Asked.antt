@@ -15,13 +15,14 @@ use Rattle.busdma_base.specs.declared.scenarios.buffer.Buffer.TheVariants as buf
 use Rattle.busdma_base.specs.declared.scenarios.script.Item.{Item}
 use Rattle.segment_build.specs.Chunks.{need_of}
 use Rattle.ideal_lane.specs.Asking.{Asking, Gives, Asks}
-use Rattle.ideal_lane.specs.Loads.{Asked, asked, chunks_for, ended, finished, granted, limits_of, load, load_chunks}
+use Rattle.ideal_lane.specs.Loads.{Asked, asked, chunks_for, device_load, ended, finished, granted, is_device}
+use Rattle.ideal_lane.specs.Loads.{limits_of, load, load_chunks}
 use Rattle.ideal_lane.specs.Loads.{load_entries, load_judged, zone_of}
 use Rattle.ideal_lane.specs.Outcomes.{Outcome, gives, is_idle, refused, unless_absent, unless_refused}
 use Rattle.ideal_lane.specs.Standing.{StandsAt}
 use Rattle.ideal_lane.specs.State.{LaneMap, LaneMemory, LaneState, named}
 use Rattle.lane_core.specs.Loading.{bio_bytes, bio_chunks, map_chunks}
-use Rattle.ideal_lane.proofs.Direct.{need-direct}
+use Rattle.ideal_lane.proofs.Direct.{need-memory}
 use Rattle.ideal_lane.proofs.Needs.{bytes-few, need-few}
 
 -- a load of a map that is not a memory's
@@ -39,6 +40,7 @@ module _ (l : LaneState) (m : ℕ) (b : Bio) (nowait : Bool) (items : List Item)
   abbrev long : LaneMap → Asking Outcome
   long o =
       if nat_lt (limits_of l o).maxsize x.len then Gives (ended m o (answer.Refused EINVAL) l)
+      else if is_device l o then Gives (device_load m o x l)
       else load_chunks m o x (chunks_for l o (is_some (get l.mems m)) x.entries) l
 
   abbrev idle : LaneMap → Asking Outcome
@@ -72,9 +74,10 @@ module _ (l : LaneState) (m : ℕ) (b : Bio) (nowait : Bool) (items : List Item)
         load-long over =
             let test : nat_lt (limits_of l o).maxsize x.len ≡ true = grind (arith, nat_tests, over) in
             passed ∙ ap (λ b. if b then Gives (ended m o (answer.Refused EINVAL) l)
+            else if is_device l o then Gives (device_load m o x l)
             else load_chunks m o x (chunks_for l o (is_some (get l.mems m)) x.entries) l) test
 
-        module _ (short : bio_bytes b ≤ (limits_of l o).maxsize) where
+        module _ (plain : is_device l o ≡ false) (short : bio_bytes b ≤ (limits_of l o).maxsize) where
           abbrev chunks : List Chunk
           chunks = map_chunks l m o b
 
@@ -82,7 +85,10 @@ module _ (l : LaneState) (m : ℕ) (b : Bio) (nowait : Bool) (items : List Item)
           cut =
               let test : nat_lt (limits_of l o).maxsize x.len ≡ false = grind (arith, nat_tests, short) in
               passed ∙ ap (λ b. if b then Gives (ended m o (answer.Refused EINVAL) l)
+              else if is_device l o then Gives (device_load m o x l)
               else load_chunks m o x (chunks_for l o (is_some (get l.mems m)) x.entries) l) test
+              ∙ ap (λ b. if b then Gives (device_load m o x l)
+              else load_chunks m o x (chunks_for l o (is_some (get l.mems m)) x.entries) l) plain
 
           pub load-direct : need_of chunks ≡ 0 → step ≡ Gives (finished m o l.place x chunks [] l)
           load-direct none =
@@ -110,7 +116,7 @@ plain-wanted l m o b n s is some = by (get l.mems m) refl
     by None e = refl
     by (Some y) e =
         let none : need_of (map_chunks l m o b) ≡ 0 =
-        need-direct l m o (load_entries l b) s (s.memory (ap is_some e)) in
+        ap (λ c. need_of (chunks_for l o c (load_entries l b))) (ap is_some e) ∙ need-memory l o (load_entries l b) in
         absurd (omega (arith, none, is, some))
 
 -- a load wants no more pages than it has bytes

@@ -9,6 +9,7 @@ use Rattle.std.proofs.lemmas.List.{length-map}
 use Rattle.std.proofs.lemmas.Option.{slice_get-map, slice_get-get_or}
 use Rattle.std.specs.List.{AllByRecursion, AllZip, list_any}
 use Rattle.std.specs.FinMap.{get}
+use Rattle.std.specs.Option.{option_map_or}
 use Rattle.busdma_machine.specs.declared.machine.chunk.Chunk.{Chunk}
 use Rattle.busdma_machine.specs.declared.machine.address.Segment.{Segment}
 use Rattle.busdma_machine.specs.Bounce.MemoryRuns.{in_run}
@@ -26,12 +27,13 @@ use Rattle.phys_memory.specs.Memory.{Memory, has_frame}
 use Rattle.segment_build.specs.Obeying.{segments_bytes}
 use Rattle.segment_build.specs.Segmentation.{segment_bytes}
 use Rattle.segment_build.specs.Trace.{bus_extent}
+use Rattle.ideal_lane.specs.Loads.{is_device}
 use Rattle.ideal_lane.specs.Outcomes.{is_loaded}
 use Rattle.ideal_lane.specs.State.{LaneState}
 use Rattle.ideal_lane.specs.Syncs.{bounced_in}
 use Rattle.ideal_wire.specs.Apart.{HoldsPage}
 use Rattle.ideal_wire.specs.Centre.{IsPlacedAt}
-use Rattle.ideal_wire.specs.Laid.{IsInPage, IsLaid, LiesIn}
+use Rattle.ideal_wire.specs.Laid.{IsInPage, IsLaid, LiesIn, is_behind}
 use Rattle.ideal_wire.specs.Traces.{stage_in, stage_at, traces_of}
 use Rattle.ideal_wire.specs.WireStep.{load_buses}
 use Rattle.ideal_wire.proofs.Buses.{placed-buffers}
@@ -52,6 +54,7 @@ use Rattle.lane_core.proofs.Keeping.{told-some}
 use Rattle.lane_core.proofs.Lying.{holds, pages-same}
 use Rattle.lane_core.proofs.MapValues.{image-some}
 use Rattle.lane_core.proofs.MarkedMemory.{marks-held, some-mark}
+use Rattle.lane_core.proofs.Unspaced.{never-device}
 
 -- of chunks in pages, the one at a place lies in the page there
 in-page-at : (cs : List Chunk) (pages : List ℕ) (i page : ℕ) (c : Chunk) → AllZip IsInPage cs pages →
@@ -184,6 +187,10 @@ module _ (h : Holdings) (wired : IsWired h) where
         by (held.lent bounced segments frames) e loaded unlent lies = absurd (cc)
         by held.returning e loaded unlent lies = absurd (cc)
 
+    plain : is_behind l k ≡ false
+    plain = ap (λ y. option_map_or (is_device l) y false) (image-some map_of h.maps.map k o there)
+        ∙ never-device h (map_of o)
+
     pub device-is : devices_of h.maps.map k ≡ device_in o.map.stage
     device-is = ap device_of there
 
@@ -200,12 +207,12 @@ module _ (h : Holdings) (wired : IsWired h) where
         ap (λ s. bus_range off len (held.segments_of s)) loading.stage
         ∙ sym (map_own (bus_range off len loading.segments))
         ∙ sym (same_range (λ (t : Placed). t.bus) (λ (a : ℕ). a) off len (traces_of l k)
-        (segment_bytes loading.segments) (sym loading.load.trace ∙ sym (map_own (segment_bytes loading.segments))))
+        (segment_bytes loading.segments) (sym (loading.load.trace plain) ∙ sym (map_own (segment_bytes loading.segments))))
 
     bytes-long : segments_bytes (held.segments_of o.map.stage) ≡ length (buffer_of h.loans k)
     bytes-long =
         ap (λ s. segments_bytes (held.segments_of s)) loading.stage ∙ sym (bytes_length loading.segments)
-        ∙ ap length loading.load.trace ∙ length-map (traces_of l k) (λ (t : Placed). t.bus)
+        ∙ ap length (loading.load.trace plain) ∙ length-map (traces_of l k) (λ (t : Placed). t.bus)
         ∙ sym (length-map (traces_of l k) (λ (t : Placed). t.pa))
         ∙ ap length (placed-buffers (bounced_in (stage_at l k)) 0 (addresses_of (loan_of h.loans.loans k).positions))
         ∙ length-map (loan_of h.loans.loans k).positions (λ p. p.pa)

@@ -79,5 +79,6 @@ mod TakenLoads
 mod TurnEnds
 mod UnloadSteps
 mod Unloaded
+mod Unspaced
 mod Views
 mod Wires

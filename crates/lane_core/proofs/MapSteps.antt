@@ -5,9 +5,8 @@ use Rattle.busdma_machine.specs.declared.bounce.hold.HubCall.TheVariants.{Create
 use Rattle.busdma_base.specs.declared.journals.answer.Answer.TheVariants as answer
 use Rattle.busdma_machine.specs.declared.report.Errno.TheVariants.{EBUSY}
 use Rattle.busdma_machine.specs.declared.report.ReportName.TheVariants.{Absent, NotDeferred}
-use Rattle.busdma_machine.specs.Tags.Tag.{could_bounce}
 use Rattle.ideal_lane.specs.Asking.{Asks}
-use Rattle.ideal_lane.specs.Maps.{map, map_destroy, await, with_map, without_map, created}
+use Rattle.ideal_lane.specs.Maps.{bounces, map, map_destroy, await, with_map, without_map, created}
 use Rattle.ideal_lane.specs.Outcomes.{gives, is_idle}
 use Rattle.ideal_lane.specs.State.{LaneState, LaneTag, LaneMap, named}
 
@@ -16,12 +15,12 @@ module _ (l : LaneState) (t : ℕ) where
   pub map-absent : get l.tags t ≡ None → map t l ≡ gives l (answer.Report (record { name = Absent; at = 0 }))
   map-absent none = rw none refl
 
-  -- the tag is there, and it could not bounce, or could
-  pub map-plain : (o : LaneTag) → get l.tags t ≡ Some o → could_bounce o.limits l.maxmem ≡ false →
+  -- the tag is there, and its loads do not bounce, or could
+  pub map-plain : (o : LaneTag) → get l.tags t ≡ Some o → bounces l.maxmem o ≡ false →
       map t l ≡ gives (with_map t None l) answer.Done
   map-plain o there off = rw (there, off) refl
 
-  pub map-created : (o : LaneTag) → get l.tags t ≡ Some o → could_bounce o.limits l.maxmem ≡ true →
+  pub map-created : (o : LaneTag) → get l.tags t ≡ Some o → bounces l.maxmem o ≡ true →
       map t l ≡ Asks (CreateMap (named l l.place) o.limits o.first_done) (created t o l)
   map-created o there on = rw (there, on) refl
 

@@ -26,6 +26,9 @@ module _ (maxmem : ℕ) (tags : FinMap nat_cmp LaneTag) (mems : FinMap nat_cmp L
   memory-prop : IsProp (contains_key mems k ≡ true → o.zone ≡ None)
   memory-prop = hlevel (props)
 
+  device-prop : (t : LaneTag) → IsProp (t.device ≡ true → o.zone ≡ None)
+  device-prop t = hlevel (props)
+
   direct-prop : (t : LaneTag) → IsProp (o.zone ≡ None → is_direct maxmem mems k t ≡ true)
   direct-prop t = hlevel (props)
 
@@ -40,6 +43,7 @@ module _ (maxmem : ℕ) (tags : FinMap nat_cmp LaneTag) (mems : FinMap nat_cmp L
         there = is_prop→PathP (λ j. get tags o.tag ≡ Some (p j)) (λ j. found-prop (get tags o.tag) (p j)) x.there
             y.there i;
         memory = memory-prop x.memory y.memory i;
+        device = is_prop→PathP (λ j. (p j).device ≡ true → o.zone ≡ None) (λ j. device-prop (p j)) x.device y.device i;
         direct = is_prop→PathP (λ j. o.zone ≡ None → is_direct maxmem mems k (p j) ≡ true) (λ j. direct-prop (p j))
             x.direct y.direct i;
         pageless = pageless-prop x.pageless y.pageless i;

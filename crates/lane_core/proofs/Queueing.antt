@@ -22,7 +22,7 @@ use Rattle.ideal_lane.specs.Asking.{Asking, Gives, goes_on}
 use Rattle.ideal_lane.specs.IdealMemory.{is_known}
 use Rattle.ideal_lane.specs.Outcomes.{Outcome, is_loaded, load_length, unless_absent, unless_past, unless_refused}
 use Rattle.ideal_lane.specs.Outcomes.{unless_unloaded}
-use Rattle.ideal_lane.specs.State.{LaneMap, LaneState}
+use Rattle.ideal_lane.specs.State.{LaneMap, LaneState, no_space}
 use Rattle.ideal_lane.specs.Syncs.{sync_part}
 use Rattle.ideal_lane.specs.Turns.{lane_step, left_queue, transfer, transfer_turn}
 use Rattle.ideal_wire.proofs.StillLaid.{like}
@@ -131,6 +131,7 @@ module _ (h k : Holdings) (rest : KeepsButAgenda h k)
     queue = k.agenda.queue;
     returns = map return_of (agenda i).returns;
     shares = share_of (rest.most.shares i).items;
+    spaces = λ t. no_space;
   }
 
   pub queue-wire : wire_of k ≡ wire_of h

@@ -1,6 +1,7 @@
 -- A driver after room was taken for a memory.
 use Rattle.std.proofs.Common.{◌≡◌, ℕ, Option, is_some, refl, sym, ap, ◌∙◌}
 use Rattle.phys_memory.specs.Memory.{wire}
+use Rattle.ideal_lane.specs.State.{no_space}
 use Rattle.lane_core.specs.declared.holdings.Holdings.{Holdings}
 use Rattle.lane_core.specs.Changes.{KeepsBesideMemory, KeepsBytes, KeepsState}
 use Rattle.lane_core.specs.Held.{devices_of, held}
@@ -25,6 +26,7 @@ module _ (h k : Holdings) (s : KeepsButRoom h k) where
     queue = (s.agenda i).queue;
     returns = Rattle.std.proofs.Common.map return_of (s.agenda i).returns;
     shares = share_of (s.shares i).items;
+    spaces = λ t. no_space;
   }
 
   pub room-bytes : KeepsBytes h k

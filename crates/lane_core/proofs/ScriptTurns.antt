@@ -12,7 +12,7 @@ use Rattle.phys_memory.specs.Memory.{wire}
 use Rattle.ideal_lane.specs.Ahead.{items_ahead}
 use Rattle.ideal_lane.specs.Asking.{Asking, Gives, Asks, goes_on}
 use Rattle.ideal_lane.specs.Standing.{Stands}
-use Rattle.ideal_lane.specs.State.{LaneState}
+use Rattle.ideal_lane.specs.State.{LaneState, no_space}
 use Rattle.ideal_lane.specs.Turns as turns
 use Rattle.ideal_lane.specs.Turns.{advanced, lane_step, next_operation, operation, script_turn, stays, waits}
 use Rattle.ideal_lane.proofs.Falling.{rest-of}
@@ -133,6 +133,7 @@ module _ (h : Holdings) (empty : h.agenda.returns ≡ []) where
               queue = (agenda i).queue;
               returns = map return_of (agenda i).returns;
               shares = share_of (rest.most.shares i).items;
+              spaces = λ t. no_space;
             })
             ∙ (λ i. record (ideal_of k) { place = place i + 1 })
 

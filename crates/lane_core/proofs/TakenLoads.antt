@@ -10,7 +10,7 @@ use Rattle.loan_table.specs.Loans.{Loans}
 use Rattle.phys_memory.specs.Memory.{wire}
 use Rattle.ideal_lane.specs.Outcomes.{is_loaded}
 use Rattle.ideal_lane.specs.Standing.{Stands, StandsAt}
-use Rattle.ideal_lane.specs.State.{Idle, LaneMap, LaneState}
+use Rattle.ideal_lane.specs.State.{Idle, LaneMap, LaneState, no_space}
 use Rattle.ideal_lane.proofs.Lookups.{get_put}
 use Rattle.ideal_lane.proofs.Weights.{weigh-put}
 use Rattle.lane_core.specs.declared.holdings.Holdings.{Holdings}
@@ -82,6 +82,7 @@ module _ (l : LaneState) (m : ℕ) (o : LaneMap) (there : get l.maps m ≡ Some 
         tag = was.tag;
         there = was.there;
         memory = was.memory;
+        device = was.device;
         direct = was.direct;
         pageless = λ z. tt;
       })
@@ -136,6 +137,7 @@ module _ (h k : Holdings) (m : ℕ) (o : KeptMap) (there : get h.maps.map m ≡ 
     queue = (rest.agenda i).queue;
     returns = map return_of (rest.agenda i).returns;
     shares = share_of (rest.most.shares i).items;
+    spaces = λ t. no_space;
   }
 
   pub taken-bytes : KeepsBytes h k

@@ -2,7 +2,7 @@
 use Rattle.std.specs.Prelude.{map}
 use Rattle.busdma_base.specs.declared.journals.answer.Answer.{Answer}
 use Rattle.ideal_lane.specs.Outcomes.{Outcome}
-use Rattle.ideal_lane.specs.State.{LaneState}
+use Rattle.ideal_lane.specs.State.{LaneState, no_space}
 use Rattle.lane_core.specs.declared.holdings.Holdings.{Holdings}
 use Rattle.lane_core.specs.Held.{devices_of, held}
 use Rattle.lane_core.specs.Kept.{tag_of, map_of, memory_of, return_of, share_of}
@@ -23,6 +23,7 @@ ideal_of h = record {
   queue = h.agenda.queue;
   returns = map return_of h.agenda.returns;
   shares = share_of h.shares.items;
+  spaces = λ t. no_space;
 }
 
 -- what an operation gives that leaves these holdings

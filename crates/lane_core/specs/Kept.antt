@@ -1,5 +1,5 @@
 -- What the tags, maps, memories and shares that a lane keeps mean to the ideal driver.
-use Rattle.std.specs.Prelude.{ℕ, ◌*◌, ◌==◌, List, [], ◌∷◌, map, length, Option, Some, None, if◌then◌else◌}
+use Rattle.std.specs.Prelude.{ℕ, ◌*◌, ◌==◌, false, List, [], ◌∷◌, map, length, Option, Some, None, if◌then◌else◌}
 use Rattle.std.specs.Option.{option_map}
 use Rattle.busdma_machine.specs.declared.machine.chunk.Chunk.{Chunk}
 use Rattle.busdma_machine.specs.Machine.Page.{FrameBytes}
@@ -16,9 +16,9 @@ use Rattle.lane_core.specs.declared.kept.KeptMemory.{KeptMemory}
 use Rattle.lane_core.specs.declared.kept.KeptShare.{KeptShare}
 use Rattle.lane_core.specs.Loading.{bio_of}
 
--- a tag: its effective limits, and whether its first allocation is done
+-- a tag: its effective limits, and whether its first allocation is done; its device is behind no IOMMU
 abbrev pub tag_of : KeptTag → LaneTag
-tag_of t = record { limits = t.tag; first_done = t.first_done }
+tag_of t = record { limits = t.tag; first_done = t.first_done; device = false }
 
 -- a load that waits, which stands at a place of the script
 abbrev pub waits_of : ℕ → KeptLoad → WaitingLoad

@@ -37,8 +37,8 @@ use Rattle.ideal_lane.specs.State.{LaneState, LaneMap, LaneTag}
 use Rattle.ideal_lane.specs.Accesses.{cpu_read, cpu_write, dev_read, dev_write, values}
 use Rattle.ideal_lane.specs.Asking.{Asking, Gives, Asks, goes_on}
 use Rattle.ideal_lane.specs.IdealMemory.{forgotten, is_known, written}
-use Rattle.ideal_lane.specs.Loads.{Asked, asked, limits_of, chunks_for, load}
-use Rattle.ideal_lane.specs.Maps.{map, end_map, map_destroy, await}
+use Rattle.ideal_lane.specs.Loads.{Asked, asked, is_device, limits_of, chunks_for, load}
+use Rattle.ideal_lane.specs.Maps.{bounces, map, end_map, map_destroy, await}
 use Rattle.ideal_lane.specs.Memories.{dmamem, dmamem_free}
 use Rattle.ideal_lane.specs.Outcomes.{Outcome, gives, refused, unless_absent, unless_refused, unless_busy}
 use Rattle.ideal_lane.specs.Outcomes.{unless_unloaded}
@@ -130,7 +130,7 @@ module _ (l : LaneState) where
       (record { is = refl }))
 
   map-free : (t : ℕ) → IsFree (map t l)
-  map-free t = absent (get l.tags t) _ (λ (o : LaneTag). either (could_bounce o.limits l.maxmem) _ _
+  map-free t = absent (get l.tags t) _ (λ (o : LaneTag). either (bounces l.maxmem o) _ _
       (record { is = refl }) (record { is = refl }))
 
   end-free : (m : ℕ) (zone : Option ℕ) → IsFree (end_map m zone l)
@@ -159,8 +159,9 @@ module _ (l : LaneState) where
       busy m _ (λ o.
       judged x.judged _ (
       either (nat_lt (limits_of l o).maxsize x.len) _ _ (record { is = refl })
+      (either (is_device l o) _ _ (record { is = refl })
       (either (need_of (chunks_for l o (contains_key l.mems m) x.entries) == 0) _ _ (record { is = refl })
-      (record { is = refl }))))
+      (record { is = refl })))))
 
   load_buffer-free : (m : ℕ) (x : Buffer) (flags : ℕ) (items : List Item) → IsFree (load_buffer m x flags items l)
   load_buffer-free m x flags items = absent (bio_at l x) _ (λ b. load-free m (asked m b (never_waits x flags) items l))

@@ -2,7 +2,7 @@
 use Rattle.busdma_base.specs.declared.journals.answer.Answer.{Answer}
 use Rattle.ideal_lane.specs.Opening.{zeros}
 use Rattle.ideal_lane.specs.Outcomes.{Outcome}
-use Rattle.ideal_lane.specs.State.{LaneState}
+use Rattle.ideal_lane.specs.State.{LaneState, no_space}
 use Rattle.plain_lane.specs.declared.lane.PlainLane.{PlainLane}
 use Rattle.plain_lane.specs.Stages.{changed, shares_of}
 
@@ -21,6 +21,7 @@ ideal l = record {
   queue = l.queue.items;
   returns = l.returns.items;
   shares = shares_of l.copied.items;
+  spaces = λ t. no_space;
 }
 
 -- a driver after a step, and what the step answers

@@ -19,26 +19,29 @@ use loan_table::Position;
 use std::alloc::Global;
 use std::marker::Model;
 
-/// A tag, by its effective limits, and whether its first allocation is done.
+/// A tag, by its effective limits, and whether its first allocation is done. Its device is behind no
+/// IOMMU.
 #[derive(Clone, Copy, Debug)]
 pub(crate) struct PlainTag {
     pub(crate) limits: TagLimits,
     pub(crate) first_done: bool,
+    pub(crate) device: bool,
 }
 
 impl Model for PlainTag {
-    ghost use Rattle.std.specs.Prelude.{◌≤◌};
+    ghost use Rattle.std.specs.Prelude.{◌≡◌, ◌≤◌, false};
     ghost use Rattle.ideal_lane.specs.State.{LaneTag};
 
     ghost Value = { LaneTag };
 
-    ghost view = { λ t. record { limits = t.limits; first_done = t.first_done } };
+    ghost view = { λ t. record { limits = t.limits; first_done = t.first_done; device = t.device } };
 
-    ghost inverse = { λ t. record { limits = t.limits; first_done = t.first_done } };
+    ghost inverse = { λ t. record { limits = t.limits; first_done = t.first_done; device = t.device } };
 
     ghost invariant = { λ t. record {
       alignment : 1 ≤ t.limits.alignment;
       maxsegsz : 1 ≤ t.limits.maxsegsz;
+      plain : t.device ≡ false;
     } };
 }
 

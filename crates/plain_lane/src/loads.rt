@@ -1,6 +1,6 @@
 //! Loads: how they are cut, and how they end.
 
-ghost use Rattle.std.specs.Prelude.{◌≡◌, ◌≤◌, ◌++◌, IfOk, OnOk};
+ghost use Rattle.std.specs.Prelude.{◌≡◌, ◌≤◌, ◌++◌, IfOk, OnOk, false};
 ghost use Rattle.std.specs.FinMap.{get, insert, contains_key};
 ghost use Rattle.busdma_machine.specs.Machine.Entry.{entries_addresses};
 ghost use Rattle.segment_build.specs.Chunks.{need_of};
@@ -103,9 +103,10 @@ fn zone_of(header: Header) -> ZoneId
 }
 
 impl PlainLane<'_> {
-    /// The limits of a map's tag.
+    /// The limits of a map's tag, which is no IOMMU tag.
     fn limits_of(&self, header: Header) -> TagLimits
         ensures is { result ≡ loads.limits_of (ideal self.now) (headed header) }
+        ensures plain { loads.is_device (ideal self.now) (headed header) ≡ false }
         ensures alignment { 1 ≤ result.alignment }
         ensures maxsegsz { 1 ≤ result.maxsegsz }
     {

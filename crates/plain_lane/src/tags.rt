@@ -71,7 +71,15 @@ impl PlainLane<'_> {
         ensures { OnOk result (ideal self.new ≡ tags.with_tag place limits first_done (ideal self.old)) }
     {
         self.tags
-            .insert(alloc, place, PlainTag { limits, first_done })
+            .insert(
+                alloc,
+                place,
+                PlainTag {
+                    limits,
+                    first_done,
+                    device: false,
+                },
+            )
     }
 
     /// A tag's first allocation has grown its zone.

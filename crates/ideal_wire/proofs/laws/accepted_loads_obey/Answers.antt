@@ -12,5 +12,5 @@ returns-clause-memory c = λ l m o y b load_at nowait items stands laid machine 
     memory-finished l laid machine stands m o there y memory b load_at nowait items fine
 
 pub returns-clause-turn : goal.returns-clause-turn
-returns-clause-turn c = λ l s a stands agrees fit frames low served machine laid.
-    turn-answers l a stands agrees fit frames low served machine laid s
+returns-clause-turn c = λ l s a stands agrees fit frames low served machine laid spaced.
+    turn-answers l a stands agrees fit frames low served machine laid spaced s

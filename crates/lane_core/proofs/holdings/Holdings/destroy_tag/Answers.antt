@@ -1,4 +1,4 @@
-use Rattle.std.proofs.Common.{◌≡◌, Some, ap, sym, ◌∙◌, subst}
+use Rattle.std.proofs.Common.{refl, ◌≡◌, Some, ap, sym, ◌∙◌, subst}
 use Rattle.std.specs.FinMap.{get}
 use Rattle.busdma_base.specs.declared.journals.answer.Answer.TheVariants.{Done}
 use Rattle.ideal_lane.specs.Asking.{Gives}
@@ -35,7 +35,7 @@ returns-clause-done c =
     (λ i. gives (record l {
       tags = (ap (λ t. map_values tag_of t.map) taken ∙ map_values-remove tag_of h.tags.map c.args.tag) i;
     }) Done)
-    ∙ sym (destroy-done l c.args.tag (tag_of c.in-Some.field-0.now)
+    ∙ sym (destroy-done l c.args.tag (tag_of c.in-Some.field-0.now) refl
     (image-some tag_of h.tags.map c.args.tag c.in-Some.field-0.now there)
     (sym c.has_maps.ensures ∙ c.if-has_maps.false))
 

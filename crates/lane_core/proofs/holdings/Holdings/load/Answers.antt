@@ -24,6 +24,7 @@ use Rattle.lane_core.proofs.OperationSteps.{vacant}
 use Rattle.lane_core.proofs.OwnLoads.{first-loaded}
 use Rattle.lane_core.proofs.AwaitedLoads.{fine-bytes}
 use Rattle.ideal_wire.proofs.Asked.{are-in-pages, direct-bytes}
+use Rattle.lane_core.proofs.Unspaced.{never-device}
 use Rattle.lane_core.proofs.holdings.Holdings.load.Goals as goal
 
 pub returns-in_default-clause-done : goal.returns-in_default-clause-done
@@ -129,7 +130,7 @@ returns-then-wanted-eq0-clause-done g c =
     done-gives (g.D.HubDoor.seen c.args.door.now) h.id.0 _ (given c.load_direct.new.self c.in_ok-answer.answer)
     (load-direct l c.args.map (bio_of c.args.bytes) c.args.nowait c.args.items.now (map_of o) there
     (state-idle o.map.stage (sym c.state.ensures ∙ c.in-Idle.is))
-    (sym c.judge_load.ensures ∙ c.in_default-judge_load.is) wanted.short (sym wanted.need ∙ c.if-wanted-eq0.true)
+    (sym c.judge_load.ensures ∙ c.in_default-judge_load.is) (never-device h (map_of o)) wanted.short (sym wanted.need ∙ c.if-wanted-eq0.true)
     ∙ ap Gives (sym (c.in_ok-answer.ensures.done (map_of o)
     (x l c.args.map (bio_of c.args.bytes) c.args.nowait c.args.items.now) there refl refl)))
 
@@ -163,7 +164,7 @@ load_bounced-requires-clause-allowed g c other found =
     let some : 0 < need = omega (arith, c.if-wanted-eq0.false) in
     allowed-asks d h.id.0 _ (Grab (named l m) (record { 0 = zone_of other }) need c.args.nowait) _
     (load-bounced l m (bio_of c.args.bytes) c.args.nowait c.args.items.now other found on
-    (sym c.judge_load.ensures ∙ c.in_default-judge_load.is) wanted.short
+    (sym c.judge_load.ensures ∙ c.in_default-judge_load.is) (never-device h other) wanted.short
     (plain-wanted l m other (bio_of c.args.bytes) need (c.requires.stands.each m other found) wanted.need some) need
     wanted.need some)
     c.requires.allowed
@@ -188,7 +189,7 @@ returns-clause-done g c =
     done-asks d h.id.0 _ call k end e
     (load-bounced l m (bio_of c.args.bytes) c.args.nowait c.args.items.now (map_of o) there
     (state-idle o.map.stage (sym c.state.ensures ∙ c.in-Idle.is))
-    (sym c.judge_load.ensures ∙ c.in_default-judge_load.is) wanted.short
+    (sym c.judge_load.ensures ∙ c.in_default-judge_load.is) (never-device h (map_of o)) wanted.short
     (plain-wanted l m (map_of o) (bio_of c.args.bytes) need (c.requires.stands.each m (map_of o) there) wanted.need
     some) need wanted.need some)
     (c.in_ok-answer-2.ensures.done (map_of o) ask there refl refl refl)
@@ -246,7 +247,7 @@ returns-then-wanted-eq0-clause-held g c =
     let wanted = c.in-Some-measure_load.ensures.wanted (map_of o) there in
     unasked _ _ (load-direct (ideal_of h) c.args.map (bio_of c.args.bytes) c.args.nowait c.args.items.now
     (map_of o) there (state-idle o.map.stage (sym c.state.ensures ∙ c.in-Idle.is))
-    (sym c.judge_load.ensures ∙ c.in_default-judge_load.is) wanted.short (sym wanted.need ∙ c.if-wanted-eq0.true))
+    (sym c.judge_load.ensures ∙ c.in_default-judge_load.is) (never-device h (map_of o)) wanted.short (sym wanted.need ∙ c.if-wanted-eq0.true))
 
 pub returns-clause-held : goal.returns-clause-held
 returns-clause-held g c =
@@ -258,7 +259,7 @@ returns-clause-held g c =
     let some : 0 < need = omega (arith, c.if-wanted-eq0.false) in
     asked _ _ _ (load-bounced (ideal_of h) c.args.map (bio_of c.args.bytes) c.args.nowait
     c.args.items.now (map_of o) there (state-idle o.map.stage (sym c.state.ensures ∙ c.in-Idle.is))
-    (sym c.judge_load.ensures ∙ c.in_default-judge_load.is) wanted.short
+    (sym c.judge_load.ensures ∙ c.in_default-judge_load.is) (never-device h (map_of o)) wanted.short
     (plain-wanted (ideal_of h) c.args.map (map_of o) (bio_of c.args.bytes) need
     (c.requires.stands.each c.args.map (map_of o) there) wanted.need some) need wanted.need some)
 

@@ -1,4 +1,4 @@
-use Rattle.std.proofs.Common.{◌≡◌, Some, true, refl, ap, sym, ◌∙◌, subst}
+use Rattle.std.proofs.Common.{◌≡◌, Some, true, false, refl, ap, sym, ◌∙◌, subst}
 use Rattle.std.specs.FinMap.{get, insert}
 use Rattle.lane_core.specs.declared.kept.KeptTag.{KeptTag}
 use Rattle.lane_core.specs.Ideal.{ideal_of}
@@ -27,7 +27,7 @@ returns-in-Some-clause-done c t found =
           ∙ ap (λ ts. map_values tag_of (insert ts.map k v)) c.in-Some.ensures.taken
           ∙ ap (map_values tag_of) (reput h.tags.map k v)
           ∙ map_values-insert tag_of h.tags.map k v
-          ∙ ap (λ (x : KeptTag). insert l.tags k (record { limits = x.tag; first_done = true })) same) i;
+          ∙ ap (λ (x : KeptTag). insert l.tags k (record { limits = x.tag; first_done = true; device = false })) same) i;
     })
 
 pub invariant_of-self-clause-awaiting : goal.invariant_of-self-clause-awaiting

@@ -41,5 +41,5 @@ returns-clause-done c =
     let o = c.in-Some.kept.now in
     let there = image-some map_of h.maps.map c.args.map o (sym c.in-Some.ensures) in
     ap (λ x. gives x Done) (c.end_load.ensures.done (map_of o) there)
-    ∙ sym (unload-done l c.args.map (map_of o) there
+    ∙ sym (unload-done l c.args.map (map_of o) refl there
     (state-loaded o.map.stage (sym c.state.ensures ∙ c.in-Loaded.is)))

@@ -5,7 +5,7 @@ use Rattle.std.specs.FinMap.{get, get-empty}
 use Rattle.lane_tables.specs.declared.queued.QueuedPage.{QueuedPage}
 use Rattle.lane_tables.specs.Queues.{item_count}
 use Rattle.ideal_lane.specs.Ahead.{awaited_items, maps_items}
-use Rattle.ideal_lane.specs.State.{LaneMap}
+use Rattle.ideal_lane.specs.State.{LaneMap, no_space}
 use Rattle.ideal_lane.specs.Opening.{opening_lane}
 use Rattle.ideal_lane.specs.Standing.{Stands}
 use Rattle.ideal_lane.proofs.Openings.{opens-standing}
@@ -135,6 +135,7 @@ invariant_of-result-2-clause-wired c =
       queue = (agenda i).queue;
       returns = map return_of (agenda i).returns;
       shares = share_of (c.new-5.ensures.items i);
+      spaces = λ t. no_space;
     })
     (ap (λ t. t.map) c.in_ok-new-2.ensures) c.requires.memory.zero c.requires.numbered c.requires.inside
     c.requires.bios
@@ -167,6 +168,7 @@ invariant_of-result-2-clause-stands c =
       queue = (agenda i).queue;
       returns = map return_of (agenda i).returns;
       shares = share_of (c.new-5.ensures.items i);
+      spaces = λ t. no_space;
     }) in
     ∣ subst Stands (sym is) (opens-standing c.args.id.0 c.args.maxmem c.args.driver.now) ∣₁
 
@@ -215,4 +217,5 @@ returns c =
       queue = (agenda i).queue;
       returns = map return_of (agenda i).returns;
       shares = share_of (c.new-5.ensures.items i);
+      spaces = λ t. no_space;
     })

@@ -1,0 +1,211 @@
+-- A step leaves the address spaces of a driver's IOMMU tags in order.
+use Rattle.std.proofs.Common.{◌≡◌, ℕ, ◌/◌, ◌^◌, ◌<◌, ◌≤◌, ◌==◌, ◌&&◌, Bool, true, false, cond, if◌then◌else◌}
+use Rattle.std.proofs.Common.{List, [], ◌∷◌, length, map, Option, Some, None, refl, ap, sym, ◌∙◌, subst, zero, suc, arith}
+use Rattle.std.proofs.lemmas.Bool.{and_parts, eqb-true, false≢true}
+use Rattle.std.proofs.lemmas.List.Elements.{All-append, All-cons, All-nil}
+use Rattle.std.specs.FinMap.{get, get-empty, insert, remove, empty}
+use Rattle.std.specs.List.{All, AllByRecursion}
+use Rattle.std.specs.Ordering.{nat_cmp}
+use Rattle.busdma_machine.specs.declared.bounce.hold.HubCall.{HubCall}
+use Rattle.busdma_machine.specs.declared.bounce.hold.HubReply.{HubReply}
+use Rattle.busdma_base.specs.declared.journals.journal.Side.{Side}
+use Rattle.busdma_machine.specs.declared.machine.address.Extent.{Extent}
+use Rattle.busdma_machine.specs.declared.machine.chunk.Entry.{Entry}
+use Rattle.busdma_base.specs.declared.scenarios.scenario.Driver.{Driver}
+use Rattle.busdma_machine.specs.declared.tags.tag.TagLimits.{TagLimits}
+use Rattle.busdma_machine.specs.Machine.Entry.{IsEntry}
+use Rattle.busdma_machine.specs.Machine.Spans.{bio_spans}
+use Rattle.busdma_machine.specs.Runs.{IsExtent}
+use Rattle.busdma_base.specs.Scenarios.Buffers.{IsBioOf}
+use Rattle.iommu_load.specs.Device.{load_frames}
+use Rattle.iommu_map.proofs.Runs.{taken-fits, taken-gap}
+use Rattle.iommu_map.specs.Space.{Space, entered, first_free, left}
+use Rattle.iommu_map.proofs.Runs.{gap-low, runs-left, runs-put}
+use Rattle.load_bio.specs.Bio.{is_rounded}
+use Rattle.phys_memory.proofs.Vectors.{entries_are}
+use Rattle.ideal_lane.specs.Asking.{by_reply}
+use Rattle.ideal_lane.specs.Loads.{load_entries, load_translation, with_run}
+use Rattle.ideal_lane.specs.Opening.{opening_lane}
+use Rattle.ideal_lane.specs.Outcomes.{Outcome}
+use Rattle.ideal_lane.specs.State.{LaneState, LaneTag, no_space}
+use Rattle.ideal_lane.specs.Tags.{with_space}
+use Rattle.ideal_lane.specs.Turns.{Turned, lane_step}
+use Rattle.ideal_lane.specs.Unloads.{first_of, segments_in}
+use Rattle.ideal_lane.proofs.Effects.{Advances, Attaches, Begins, Calls, Creates, Device, Ends, IsNext, IsTaken, Leaves}
+use Rattle.ideal_lane.proofs.Effects.{Loads, Makes, NoFrame, Overflows, Releases, Run, Same, Stays, Steps, Tags, Touched}
+use Rattle.ideal_lane.proofs.Effects.{Touches, Unloads, Untags, Work, frames, here, spaces_in}
+use Rattle.ideal_lane.proofs.Stepping.{turn-steps}
+use Rattle.ideal_lane.proofs.Lookups.{get_put, get_cut}
+use Rattle.ideal_wire.specs.Laid.{AreLaid}
+use Rattle.ideal_wire.specs.Machine.{IsInMachine}
+use Rattle.ideal_wire.specs.Spaced.{AreSpaced, IsSpaced}
+use Rattle.ideal_wire.proofs.Bios.{bio-paged}
+use Rattle.ideal_wire.proofs.Buffers.{loads-from}
+use Rattle.ideal_wire.proofs.Positions.{found_one}
+
+-- ---- one space
+
+left-spaced : (t : TagLimits) (s : Space) (first : ℕ) → IsSpaced t s → IsSpaced t (left first s)
+left-spaced t s first h = record {
+  alignment = h.alignment;
+  flags = h.flags;
+  reached = h.reached;
+  space = record { few = h.space.few; runs = runs-left 1 s.pages first s.runs h.space.runs };
+}
+
+entered-spaced : (t : TagLimits) (s : Space) (fs : List ℕ) (first : ℕ) → IsSpaced t s → 1 ≤ length fs →
+    All (λ f. f < 2 ^ 30) fs → first_free s (length fs) ≡ Some first → IsSpaced t (entered (Some first) fs s)
+entered-spaced t s fs first h some numbered e = record {
+  alignment = h.alignment;
+  flags = h.flags;
+  reached = h.reached;
+  space = record {
+    few = h.space.few;
+    runs =
+        runs-put 1 s.pages (length fs) (record { first = first; frames = fs }) s.runs h.space.runs some
+        (taken-gap s (length fs) first h.space some e) refl (record {
+          behind =
+              omega (
+                arith,
+                gap-low 1 s.pages (length fs) s.runs h.space.runs,
+                taken-gap s (length fs) first h.space some e,
+              );
+          some = omega (arith, some);
+          reached = taken-fits s (length fs) first h.space some e;
+          numbered = numbered;
+        });
+  };
+}
+
+-- frames of entries are numbered
+parts-numbered : (xs : List Extent) → AllByRecursion IsExtent xs → All (λ f. f < 2 ^ 30) (map (λ x. x.pa.0 / 4096) xs)
+parts-numbered [] h = All-nil (λ f. f < 2 ^ 30)
+parts-numbered (x ∷ xs) h =
+    All-cons (λ f. f < 2 ^ 30) (x.pa.0 / 4096) (map (λ y. y.pa.0 / 4096) xs) (omega (arith, h.0.numbered))
+    (parts-numbered xs h.1)
+
+frames-numbered : (es : List Entry) → AllByRecursion IsEntry es → All (λ f. f < 2 ^ 30) (load_frames es)
+frames-numbered [] h = All-nil (λ f. f < 2 ^ 30)
+frames-numbered (e ∷ es) h =
+    All-append (λ f. f < 2 ^ 30) (map (λ x. x.pa.0 / 4096) e.parts) (load_frames es)
+    (parts-numbered e.parts h.0.extents) (frames-numbered es h.1)
+
+some-frames : (n : ℕ) → (n == 0) ≡ false → 1 ≤ n
+some-frames zero e = absurd (cc)
+some-frames (suc n) e = omega arith
+
+module _ (l : LaneState) (laid : AreLaid l) (machine : IsInMachine l) (spaced : AreSpaced l) where
+  -- no tag and no space changes
+  alike : (k : LaneState) → k.tags ≡ l.tags → k.spaces ≡ l.spaces → AreSpaced k
+  alike k tags spaces j t e device =
+      subst (λ s. IsSpaced t.limits (s j)) (sym spaces) (spaced j t (sym (λ i. get (tags i) j) ∙ e) device)
+
+  -- a tag is put that is no IOMMU tag
+  plain-put : (at : ℕ) (g : LaneTag) → g.device ≡ false → (k : LaneState) → k.tags ≡ insert l.tags at g →
+      k.spaces ≡ l.spaces → AreSpaced k
+  plain-put at g off k tags spaces j t e device =
+      subst (λ s. IsSpaced t.limits (s j)) (sym spaces)
+      (by (j == at) (sym (get_put l.tags at g j) ∙ (sym (λ i. get (tags i) j) ∙ e)))
+    where
+      by : (b : Bool) → cond b (Some g) (get l.tags j) ≡ Some t → IsSpaced t.limits (l.spaces j)
+      by true h =
+          absurd
+          (false≢true (sym off ∙ ap (λ (y : LaneTag). y.device) (found_one (Some g) g t refl h) ∙ device))
+      by false h = spaced j t h device
+
+  untagged : (t : ℕ) → AreSpaced (record l { tags = remove l.tags t; spaces = with_space t no_space l.spaces })
+  untagged t j g e device = by (j == t) (sym (get_cut l.tags t j) ∙ e)
+    where
+      by : (b : Bool) → cond b None (get l.tags j) ≡ Some g →
+          IsSpaced g.limits (if b then no_space else l.spaces j)
+      by true h = absurd (cc)
+      by false h = spaced j g h device
+
+  -- a run ends
+  unloaded : (at first : ℕ) (k : LaneState) → k.tags ≡ l.tags →
+      k.spaces ≡ with_space at (left first (l.spaces at)) l.spaces → AreSpaced k
+  unloaded at first k tags spaces j t e device =
+      subst (λ s. IsSpaced t.limits (s j)) (sym spaces) (by (j == at) refl)
+    where
+      old : IsSpaced t.limits (l.spaces j)
+      old = spaced j t (sym (λ i. get (tags i) j) ∙ e) device
+
+      by : (b : Bool) → (j == at) ≡ b → IsSpaced t.limits (if b then left first (l.spaces at) else l.spaces j)
+      by true is =
+          left-spaced t.limits (l.spaces at) first
+          (subst (λ q. IsSpaced t.limits (l.spaces q)) (eqb-true j at is) old)
+      by false is = old
+
+  -- a run is taken
+  taken-spaced : (kept : Bool) (at first : ℕ) (fs : List ℕ) → 1 ≤ length fs → All (λ f. f < 2 ^ 30) fs →
+      first_free (l.spaces at) (length fs) ≡ Some first → (k : LaneState) → k.tags ≡ l.tags →
+      k.spaces ≡ with_run kept at first fs l.spaces → AreSpaced k
+  taken-spaced kept at first fs some numbered free k tags spaces j t e device =
+      subst (λ s. IsSpaced t.limits (s j)) (sym spaces) (by (kept && j == at) refl)
+    where
+      old : IsSpaced t.limits (l.spaces j)
+      old = spaced j t (sym (λ i. get (tags i) j) ∙ e) device
+
+      by : (b : Bool) → (kept && j == at) ≡ b →
+          IsSpaced t.limits (if b then entered (Some first) fs (l.spaces j) else l.spaces j)
+      by true is =
+          entered-spaced t.limits (l.spaces j) fs first old some numbered
+          (ap (λ q. first_free (l.spaces q) (length fs)) (eqb-true j at (and_parts kept (j == at) is).1) ∙ free)
+      by false is = old
+
+  -- ---- a load that has its pages, or its run
+
+  module _ {d : Work} (b : Begins l d) (at : IsNext l d) where
+    is-bio : IsBioOf l.pages b.bio
+    is-bio = loads-from l.pages l.script l.place b.m b.buffer b.flags b.items l b.bio machine.bios (here b at) b.found
+
+    numbered-in : All (λ f. f < 2 ^ 30) (frames b)
+    numbered-in =
+        frames-numbered (load_entries l b.bio)
+        (entries_are (λ p. Unit {0}) (is_rounded b.bio) (load_translation l b.bio)
+        (bio-paged l laid machine b.bio is-bio) (bio_spans b.bio))
+
+    device-spaced : (first : ℕ) (spaces : ℕ → Space) → IsTaken b first spaces → (k : LaneState) → k.tags ≡ l.tags →
+        k.spaces ≡ spaces → AreSpaced k
+    device-spaced _ _ (NoFrame none) k tags spaces = alike k tags spaces
+    device-spaced _ _ (Run any first e) k tags spaces =
+        taken-spaced _ b.o.tag first (frames b) (some-frames (length (frames b)) any) numbered-in e k tags spaces
+
+  ends-spaced : {d : Work} {c : Option HubCall} {r : HubReply} → IsNext l d → (e : Ends l d c r) → (k : LaneState) →
+      k.tags ≡ l.tags → k.spaces ≡ spaces_in e → AreSpaced k
+  ends-spaced at (Device b device first spaces taken) k tags same = device-spaced b at first spaces taken k tags same
+  ends-spaced at _ k tags same = alike k tags same
+
+  -- ---- each effect
+  touches-spaced : {d : Work} {x : Outcome} → Touches l d x → AreSpaced x.lane
+  touches-spaced (Same a q u) = spaced
+  touches-spaced {x = x} _ = alike x.lane refl refl
+
+  makes-spaced : {d : Work} {c : Option HubCall} {r : HubReply} {x : Outcome} → IsNext l d → Makes l d c r x →
+      AreSpaced x.lane
+  makes-spaced at (Touched t) = touches-spaced t
+  makes-spaced {x = x} at (Tags name parent limits t n) = plain-put l.place _ refl x.lane refl refl
+  makes-spaced {x = x} at (Attaches name parent limits t n b g e) = plain-put l.place _ refl x.lane refl refl
+  makes-spaced at (Untags t none) = untagged t
+  makes-spaced {x = x} at (Creates name t g there b n e) = plain-put t _ refl x.lane refl refl
+  makes-spaced {x = x} at (Loads k e) = ends-spaced at k x.lane refl refl
+  makes-spaced {x = x} at (Overflows k e) = ends-spaced at k x.lane refl refl
+  makes-spaced {x = x} at (Unloads m o e i) = unloaded o.tag (first_of (segments_in o.stage)) x.lane refl refl
+  makes-spaced {x = x} at _ = alike x.lane refl refl
+
+  -- ---- the turn
+  steps-spaced : {s : Side} {c : Option HubCall} {r : HubReply} {t : Turned} → Steps l s c r t → AreSpaced t.lane
+  steps-spaced (Stays t is) = spaced
+  steps-spaced (Advances o at free m) = λ j t e d. makes-spaced at m j t e d
+  steps-spaced (Leaves q rest e t) = λ j g f d. touches-spaced t j g f d
+  steps-spaced (Releases q rest e None there) = spaced
+  steps-spaced {t = t} (Releases q rest e (Some o) there) = alike t.lane refl refl
+  steps-spaced (Calls m pages k) = makes-spaced tt k
+
+  pub turn-spaced : (s : Side) (r : HubReply) → AreSpaced (by_reply (lane_step l s) r).lane
+  turn-spaced s r = steps-spaced (turn-steps l s r)
+
+-- at the opening there is no tag
+pub opens-spaced : (id maxmem : ℕ) (driver : Driver) → AreSpaced (opening_lane id maxmem driver)
+opens-spaced id maxmem driver k t e device =
+    let none : get (empty {X = LaneTag} {R = nat_cmp}) k ≡ None = get-empty nat_cmp k in absurd (cc)

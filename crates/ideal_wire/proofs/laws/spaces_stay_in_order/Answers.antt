@@ -1,0 +1,8 @@
+use Rattle.ideal_wire.proofs.KeptSpaces.{opens-spaced, turn-spaced}
+use Rattle.ideal_wire.proofs.laws.spaces_stay_in_order.Goals as goal
+
+pub returns-clause-opens : goal.returns-clause-opens
+returns-clause-opens c = opens-spaced
+
+pub returns-clause-stays : goal.returns-clause-stays
+returns-clause-stays c = λ l s r laid machine spaced. turn-spaced l laid machine spaced s r
