@@ -19,8 +19,8 @@ IsPageless Returning = Unit {0}
 abbrev pub is_direct : ℕ → FinMap nat_cmp LaneMemory → ℕ → LaneTag → Bool
 is_direct maxmem mems k t = contains_key mems k || not (bounces maxmem t)
 
--- a map at a place has its tag; a memory's map has no zone, and that of an IOMMU tag has none; and where a map has none, no byte of its loads bounces and
--- it is pageless
+-- a map at a place has its tag; a memory's map has no zone, and that of an IOMMU tag has none; and where a map has
+-- none, no byte of its loads bounces and it is pageless
 pub record StandsAt (maxmem : ℕ) (tags : FinMap nat_cmp LaneTag)
     (mems : FinMap nat_cmp LaneMemory) (k : ℕ) (o : LaneMap)
     : Type 0 where

@@ -31,7 +31,7 @@ use Rattle.lane_core.proofs.AwaitedLoads.{IsAwaited, waits-with}
 use Rattle.lane_core.proofs.Called.{KeepsLoad, load-kept}
 use Rattle.lane_core.proofs.CalledLoads.{called-is, finished-free, finished-script, items-within}
 use Rattle.lane_core.proofs.Returned.{idled}
-use Rattle.lane_core.proofs.TakenLoads.{taken, taken-bytes, taken-ideal, taken-idle, taken-promised}
+use Rattle.lane_core.proofs.TakenLoads.{taken, taken-bytes, taken-due, taken-ideal, taken-idle, taken-promised}
 use Rattle.lane_core.proofs.TakenLoads.{taken-stands, taken-there}
 use Rattle.lane_core.proofs.TakenLoads as freed
 
@@ -149,8 +149,10 @@ module _ (h k : Holdings) (m at : ℕ) (callback : KeptLoad) (room : LoadRoom)
       ends-done = ended ∙ sym (called-is l m (map_of o) w pages image waits)
 
       pub ends-few : HasSmallLoads h → n.agenda.place ≡ k.agenda.place → n.agenda.promised ≤ k.agenda.promised →
+          (count : ℕ) → IfSome (kept_load (get h.maps.map m)) (λ x. count ≡ x.1.need) →
+          n.agenda.promised + pages_due k.maps.map + count ≡ k.agenda.promised + pages_due n.maps.map →
           HasSmallLoads n
-      ends-few small same less =
+      ends-few small same less count need due =
           let chunks = chunks_for l (map_of o) (contains_key l.mems m) asks.entries in
           let script : n.script.now ≡ h.script.now =
           ap (λ (x : Outcome). x.lane.script) ended ∙ finished-script l m (map_of o) at asks chunks pages in
@@ -159,7 +161,11 @@ module _ (h k : Holdings) (m at : ℕ) (callback : KeptLoad) (room : LoadRoom)
           let ahead : bytes_ahead n.agenda.place n.script.now ≡ bytes_ahead h.agenda.place h.script.now =
           (λ i. bytes_ahead (place i) (script i)) in
           let few : h.agenda.promised + bytes_ahead h.agenda.place h.script.now ≤ loaded_limit = small.few in
+          let needs : count ≡ callback.need = needed count need in
+          let before : h.agenda.promised ≡ pages_due h.maps.map = small.due in
+          let taken = taken-due h k m o kept.1 load (maps o kept.1) rest in
           record {
+            due = omega (arith, due, needs, before, taken, promised);
             each = λ p x found. small.each p x (sym (ap (λ s. slice_get s p) script) ∙ found);
             few = omega (arith, few, ahead, less, promised);
           }

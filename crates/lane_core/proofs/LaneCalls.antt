@@ -38,6 +38,7 @@ use Rattle.lane_core.specs.SmallLoads.{HasSmallLoads}
 use Rattle.lane_core.specs.Wire.{IsWired, wire_of}
 use Rattle.lane_core.proofs.KeepsWired.{kept-wired}
 use Rattle.lane_core.proofs.OneStanding.{stands-of}
+use Rattle.lane_core.proofs.Promises.{maps-promise}
 use Rattle.lane_core.proofs.SmallLoads.{small-same}
 use Rattle.busdma_base.specs.declared.scenarios.script.Bytes.TheVariants as bytes
 use Rattle.busdma_base.specs.declared.scenarios.script.Item.TheVariants as item
@@ -62,11 +63,12 @@ is-touched {l} (DeviceWrites m off bs o there i fine) =
 
 -- ---- the driver after a call
 
--- a driver is wired, stands and has as many items ahead
+-- a driver is wired, stands, has as many items ahead and the same maps
 pub record IsCalledOn (h k : Holdings) : Type 0 where
   pub stands : Stands (ideal_of h) → Stands (ideal_of k)
   pub wired : IsWired k
   pub ahead : items_ahead (ideal_of k) ≡ items_ahead (ideal_of h)
+  pub maps : (ideal_of k).maps ≡ (ideal_of h).maps
 
 module _ (h k : Holdings) (wired : IsWired h) (x : Answer) where
   abbrev l : LaneState
@@ -119,6 +121,7 @@ module _ (h k : Holdings) (wired : IsWired h) (x : Answer) where
         faithful = subst (λ (s : Asking Outcome). IsFaithful (by_reply s Nothing).lane (wire_of k)) (sym done) (faithful Nothing);
       };
       ahead = ap items_ahead touched.rest;
+      maps = ap (λ (x : LaneState). x.maps) touched.rest;
     }
 
   pub synced : (m ops : ℕ) → Gives (given k x) ≡ sync m ops l → wire_of k ≡ wires.sync m ops l (wire_of h) →
@@ -152,12 +155,13 @@ module _ (h k : Holdings) (wired : IsWired h) (x : Answer) where
       (λ r. subst (IsFaithful (by_reply (dev_write m off vs l) r).lane) (sym wire)
       (dev_write-faithful l (wire_of h) wired.apart wired.laid wired.faithful m off vs r))
 
--- running out of memory leaves it as it was
+-- where memory ran out, it is as it was
 pub kept-on : (h k : Holdings) → IsWired h → KeepsState h k → IsCalledOn h k
 kept-on h k wired s = record {
   stands = subst Stands (sym s.ideal);
   wired = kept-wired h k s wired;
   ahead = ap items_ahead s.ideal;
+  maps = ap (λ (x : LaneState). x.maps) s.ideal;
 }
 
 module _ {E : Type 0} (h k : Holdings) (wired : IsWired h) where
@@ -205,7 +209,8 @@ called-lane h k lane on script agenda =
     record {
       wired = on.wired;
       stands = ∣ on.stands (stands-of (ideal_of h) lane.stands) ∣₁;
-      small = small-same h k lane.small (ap (λ s. s.now) script) (ap (λ a. a.place) agenda) (omega (arith, promised));
+      small = small-same h k lane.small (ap (λ s. s.now) script) (ap (λ a. a.place) agenda) (omega (arith, promised))
+          (maps-promise h k promised on.maps);
       length = ap (λ a. a.length) agenda ∙ lane.length ∙ sym (ap (λ s. length s.now) script);
       room = omega (arith, ahead, room, same);
     }

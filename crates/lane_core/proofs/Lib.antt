@@ -57,6 +57,7 @@ mod PagesLent
 mod Parting
 mod Places
 mod Preparing
+mod Promises
 mod Providing
 mod PutBack
 mod Queueing
@@ -68,6 +69,7 @@ mod ReturnTurns
 mod Returned
 mod RoomSteps
 mod SameHoldings
+mod SameWires
 mod ScriptTurns
 mod Shares
 mod SmallLoads

@@ -9,6 +9,7 @@ use Rattle.busdma_base.specs.Scenarios.Limits.{buffer_limit, loaded_limit}
 use Rattle.busdma_base.specs.Scenarios.Operations.{loaded_by}
 use Rattle.busdma_base.specs.Scenarios.Script.{IsOp, IsScript}
 use Rattle.lane_core.specs.declared.holdings.Holdings.{Holdings}
+use Rattle.lane_core.specs.Covered.{pages_due}
 use Rattle.lane_core.specs.SmallLoads.{HasSmallLoads, bytes_ahead}
 
 -- each load of a script is small
@@ -21,7 +22,7 @@ small-each before (q ∷ script) (here, each) (suc p) o h = small-each _ script 
 
 module _ (driver : Driver) (h : Holdings) (valid : IsScript driver.script)
     (small : sum_by loaded_by driver.script ≤ loaded_limit) (script : h.script.now ≡ driver.script)
-    (place : h.agenda.place ≡ 0) (promised : h.agenda.promised ≡ 0) where
+    (place : h.agenda.place ≡ 0) (promised : h.agenda.promised ≡ 0) (none : pages_due h.maps.map ≡ 0) where
   pub opens-small : HasSmallLoads h
   opens-small =
       let ahead : bytes_ahead h.agenda.place h.script.now ≡ sum_by loaded_by driver.script =
@@ -29,5 +30,6 @@ module _ (driver : Driver) (h : Holdings) (valid : IsScript driver.script)
       record {
         each = subst (λ (os : List Op). (p : ℕ) (q : Op) → slice_get os p ≡ Some q → loaded_by q ≤ buffer_limit)
             (sym script) (small-each [] driver.script valid.each);
+        due = omega (arith, promised, none);
         few = omega (arith, ahead, promised, small);
       }

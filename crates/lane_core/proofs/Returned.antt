@@ -17,7 +17,7 @@ use Rattle.lane_core.specs.declared.kept.KeptMap.{KeptMap}
 use Rattle.lane_core.specs.Covered.{AreOwn, AreReturning, has_load, lends_pages, pages_due, is_returning, is_tried}
 use Rattle.lane_core.specs.Covered.{returns_in}
 use Rattle.lane_core.specs.Held.{devices_of}
-use Rattle.lane_core.specs.Kept.{device_of, device_in, no_device, due_of, map_of, return_of, stage_of}
+use Rattle.lane_core.specs.Kept.{device_of, device_in, no_device, due_in, due_of, map_of, return_of, stage_of}
 use Rattle.lane_core.specs.declared.kept.KeptLoad.{KeptLoad}
 use Rattle.dma_map.specs.MapView as held
 use Rattle.lane_core.proofs.Bytes.{devices-put}
@@ -59,6 +59,13 @@ bare-in (held.loaded bounced segments pages) h = absurd (cc)
 bare-in (held.lent bounced segments frames) h = absurd (cc)
 bare-in held.returning h = refl
 
+returning-due : (s : held.Stage KeptLoad) → returns_in (stage_of s) ≡ true → due_in s ≡ 0
+returning-due held.idle h = refl
+returning-due (held.waiting load_at callback room) h = absurd (cc)
+returning-due (held.loaded bounced segments pages) h = absurd (cc)
+returning-due (held.lent bounced segments frames) h = absurd (cc)
+returning-due held.returning h = refl
+
 module _ (maps : FinMap nat_cmp KeptMap) (loans : Loans) (owed : ℕ) (rest : List QueuedPage)
     (are : AreMaps maps loans rest owed) (lane : ℕ) (m : MapId) (o : KeptMap)
     (there : get maps m.made_at ≡ Some o) (still : returns_in (map_of o).stage ≡ true)
@@ -78,6 +85,11 @@ module _ (maps : FinMap nat_cmp KeptMap) (loans : Loans) (owed : ℕ) (rest : Li
 
   weight : pages_due (insert maps k (idled o)) + due_of o ≡ pages_due maps + 0
   weight = weigh-put due_of maps k o (idled o) there
+
+  -- as many pages are due to join the queue as before
+  pub due-back : (last : Bool) → pages_due (cond last (insert maps k (idled o)) maps) ≡ pages_due maps
+  due-back true = omega (arith, weight, returning-due o.map.stage still)
+  due-back false = refl
 
   unloaded : has_load (Some o) ≡ false
   unloaded = ap is_loaded (still-returning (map_of o).stage still)

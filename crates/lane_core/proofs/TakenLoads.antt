@@ -160,6 +160,12 @@ module _ (h k : Holdings) (m : ℕ) (o : KeptMap) (there : get h.maps.map m ≡ 
   taken-stands stands =
       subst Stands (sym taken-ideal) (stands-free (ideal_of h) m (map_of o) image stands)
 
+  -- the pages that the load needs are due no more
+  pub taken-due : pages_due k.maps.map + load.callback.need ≡ pages_due h.maps.map
+  taken-due =
+      ap (λ ms. pages_due ms + load.callback.need) maps
+      ∙ due-after h.maps.map h.loans.loans h.agenda.returns h.agenda.promised (maps-of h) m o there load
+
   -- its pages are among those that are promised a place in the return queue
   pub taken-promised : (count : ℕ) → count ≡ load.callback.need → pages_due k.maps.map + count ≤ k.agenda.promised
   taken-promised count need =

@@ -3,6 +3,7 @@ use Rattle.std.proofs.Common.{◌≡◌, ◌⊎◌, ℕ, ◌+◌, ◌-◌, ◌�
 use Rattle.std.proofs.Common.{◌∷◌, ◌++◌, length}
 use Rattle.std.proofs.Common.{Some, None, is_some, not, refl, sym, ap, ◌∙◌, arith, inl, inr}
 use Rattle.std.proofs.lemmas.Bool.Decides.{nat_tests}
+use Rattle.std.proofs.lemmas.List.{map-append}
 use Rattle.std.proofs.lemmas.List.Folds.{list_any-append}
 use Rattle.std.proofs.lemmas.Map.Views.{exact_unsigned_eq}
 use Rattle.std.specs.Ordering.{nat_cmp}
@@ -24,7 +25,7 @@ use Rattle.lane_core.specs.declared.kept.KeptMap.{KeptMap}
 use Rattle.lane_core.specs.Covered.{AreLoaded, AreOwn, has_load, lends_pages, pages_due, is_returning}
 use Rattle.lane_core.specs.Covered.{is_tried, returns_in}
 use Rattle.lane_core.specs.Held.{devices_of}
-use Rattle.lane_core.specs.Kept.{device_of, due_in, due_of, map_of, stage_of}
+use Rattle.lane_core.specs.Kept.{device_in, device_of, due_in, due_of, map_of, pages_in, stage_of}
 use Rattle.lane_core.proofs.MapTables.{AreMaps, told-put}
 
 -- a map that gave these pages away
@@ -60,6 +61,27 @@ pages-due-in (held.loaded bounced segments pages) p h =
     let same : pages ≡ p = cc in ap (λ (q : RoomyPages). length q.items) same
 pages-due-in (held.lent bounced segments frames) p h = absurd (cc)
 pages-due-in held.returning p h = absurd (cc)
+
+-- and they are those that it holds
+pages-held-in : (s : held.Stage KeptLoad) (p : RoomyPages) → held.pages_of s ≡ Some p → (device_in s).pages ≡ p.items
+pages-held-in held.idle p h = absurd (cc)
+pages-held-in (held.waiting load_at callback room) p h = absurd (cc)
+pages-held-in (held.loaded bounced segments pages) p h =
+    let same : pages ≡ p = cc in ap (λ (q : RoomyPages). q.items) same
+pages-held-in (held.lent bounced segments frames) p h = absurd (cc)
+pages-held-in held.returning p h = absurd (cc)
+
+queued-are : (m : MapId) (zone : ZoneId) (pages : List FrameBytes) → pages_in (queued_pages m zone pages) ≡ pages
+queued-are m zone [] = refl
+queued-are m zone (p ∷ pages) = ap (λ ps. p ∷ ps) (queued-are m zone pages)
+
+-- they join the queue with their bytes
+pub joined-pages : (returns : List QueuedPage) (m : MapId) (zone : ZoneId) (s : held.Stage KeptLoad) (p : RoomyPages) →
+    held.pages_of s ≡ Some p →
+    pages_in (returns ++ queued_pages m zone p.items) ≡ pages_in returns ++ (device_in s).pages
+joined-pages returns m zone s p is =
+    map-append (λ (q : QueuedPage). q.page) returns (queued_pages m zone p.items)
+    ∙ ap (λ ps. pages_in returns ++ ps) (queued-are m zone p.items ∙ sym (pages-held-in s p is))
 
 held-still : (s : held.Stage KeptLoad) (p : RoomyPages) → held.pages_of s ≡ Some p →
     returns_in (stage_of s) ≡ false
@@ -122,6 +144,10 @@ module _ (maps : FinMap nat_cmp KeptMap) (loans : Loans) (returns : List QueuedP
 
   weight : pages_due now + due_of o ≡ pages_due maps + due_of (left o p.items)
   weight = weigh-put due_of maps k o (left o p.items) there
+
+  -- its pages are due no more
+  pub pages-over : pages_due now + length p.items ≡ pages_due maps
+  pages-over = omega (arith, weight, count, left-undue o p.items)
 
   -- the queue has a place for its pages
   pub pages-few : length p.items ≤ owed

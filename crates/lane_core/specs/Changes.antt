@@ -4,6 +4,7 @@ use Rattle.busdma_machine.specs.Machine.Wire.{Wire}
 use Rattle.phys_memory.specs.Memory.{wire}
 use Rattle.ideal_lane.specs.IdealMemory.{Known}
 use Rattle.lane_core.specs.declared.holdings.Holdings.{Holdings}
+use Rattle.lane_core.specs.Covered.{pages_due}
 use Rattle.lane_core.specs.Held.{devices_of}
 use Rattle.lane_core.specs.Ideal.{ideal_of}
 use Rattle.lane_core.specs.Wire.{wire_of}
@@ -46,10 +47,14 @@ pub record KeepsBytesBut (one : ℕ) (h k : Holdings) : Type 0 where
   pub own : wire k.memory.memory ≡ wire h.memory.memory
   pub pages : (m : ℕ) → (one == m) ≡ false → (devices_of k.maps.map m).pages ≡ (devices_of h.maps.map m).pages
 
--- what a step that runs out of memory leaves: the ideal state and all bytes
+-- what a step leaves where memory ran out: the ideal state and all bytes
 pub record KeepsState (h k : Holdings) : Type 0 where
   pub ideal : ideal_of k ≡ ideal_of h
   pub bytes : KeepsBytes h k
+
+-- the places in the return queue that are promised become more or fewer as the pages do that are due to join it
+abbrev pub KeepsPromises : Holdings → Holdings → Type 0
+KeepsPromises h k = k.agenda.promised + pages_due h.maps.map ≡ h.agenda.promised + pages_due k.maps.map
 
 -- all but the tags, the maps and the agenda
 pub record KeepsMost (h k : Holdings) : Type 0 where

@@ -55,6 +55,10 @@ memory_of x = record {
 abbrev pub return_of : QueuedPage → Return
 return_of q = record { map = q.map.made_at; zone = q.zone.0; page = page_address q.page }
 
+-- the pages of the return queue, with the bytes that they hold
+abbrev pub pages_in : List QueuedPage → List FrameBytes
+pages_in returns = map (λ q. q.page) returns
+
 -- the share of a zone, or 0 where none is kept
 abbrev pub share_of : List KeptShare → ℕ → ℕ
 share_of [] z = 0

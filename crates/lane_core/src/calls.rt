@@ -1,6 +1,6 @@
 //! The calls on a lane that take no door, so they hold and wait for nothing. A map of another lane is Absent, as one
-//! that does not exist. Running out of memory leaves the lane's ideal state as it was. The turns use the same functions of
-//! what the lane holds.
+//! that does not exist. Where memory runs out, the lane's ideal state and its bytes stay as they were. The turns use the
+//! same functions of what the lane holds.
 
 ghost use Rattle.std.specs.Prelude.{◌≡◌, ◌==◌, IfOk, OnErr, OnOk};
 ghost use Rattle.ideal_lane.specs.Accesses as accesses;
@@ -31,6 +31,7 @@ impl Lane<'_> {
         ensures wire { OnOk result (wire self.new ≡ wire_unless_foreign map (ideal self.old)
             (wires.sync map.made_at ops.0 (ideal self.old) (wire self.old)) (wire self.old)) }
         ensures err { OnErr result (ideal self.new ≡ ideal self.old) }
+        ensures err_wire { OnErr result (wire self.new ≡ wire self.old) }
     {
         if !self.owns(map) {
             return Ok(report(ReportName::Absent, 0));
@@ -52,6 +53,7 @@ impl Lane<'_> {
         ensures wire { OnOk result (wire self.new ≡ wire_unless_foreign map (ideal self.old)
             (wires.sync_range map.made_at off len ops.0 (ideal self.old) (wire self.old)) (wire self.old)) }
         ensures err { OnErr result (ideal self.new ≡ ideal self.old) }
+        ensures err_wire { OnErr result (wire self.new ≡ wire self.old) }
     {
         if !self.owns(map) {
             return Ok(report(ReportName::Absent, 0));
@@ -79,6 +81,7 @@ impl Lane<'_> {
             Gives (given self.new answer) ≡ accesses.cpu_write place bytes.now (ideal self.old)) }
         ensures wire { OnOk result (wire self.new ≡ wires.cpu_write place bytes.now (ideal self.old) (wire self.old)) }
         ensures err { OnErr result (ideal self.new ≡ ideal self.old) }
+        ensures err_wire { OnErr result (wire self.new ≡ wire self.old) }
     {
         self.holdings.cpu_write(alloc, place, bytes)
     }
@@ -117,6 +120,7 @@ impl Lane<'_> {
         ensures wire { OnOk result (wire self.new ≡ wire_unless_foreign map (ideal self.old)
             (wires.dev_write map.made_at off bytes.now (ideal self.old) (wire self.old)) (wire self.old)) }
         ensures err { OnErr result (ideal self.new ≡ ideal self.old) }
+        ensures err_wire { OnErr result (wire self.new ≡ wire self.old) }
     {
         if !self.owns(map) {
             return Ok(report(ReportName::Absent, 0));

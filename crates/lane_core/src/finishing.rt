@@ -21,6 +21,7 @@ impl Holdings<'_> {
         requires { is_idle_map (get self.old.maps.map map) ≡ true }
         ensures done { (o : LaneMap) → get (ideal_of self.old).maps map ≡ Some o →
             ideal_of self.new ≡ staged map o Idle (ideal_of self.old) }
+        ensures due { pages_due self.new.maps.map ≡ pages_due self.old.maps.map }
         ensures bytes { KeepsBytes self.old self.new }
         ensures agenda { self.new.agenda ≡ self.old.agenda }
         ensures memories { self.new.memories ≡ self.old.memories }
@@ -46,6 +47,7 @@ impl Holdings<'_> {
               loans = insert (ideal_of self.old).loans map (loan_of self.old.loans.prepared map);
             } }
         ensures loaded { has_load (get self.new.maps.map map) ≡ true }
+        ensures due { pages_due self.new.maps.map ≡ pages_due self.old.maps.map + length pages.items }
         ensures bytes { KeepsBytesBut map self.old self.new }
         ensures agenda { self.new.agenda ≡ self.old.agenda }
         ensures memories { self.new.memories ≡ self.old.memories }

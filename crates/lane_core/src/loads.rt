@@ -61,7 +61,7 @@ fn take_room(alloc: Global, wanted: Wanted) -> Result<LoadRoom, AllocError>
 }
 
 impl<'s> Holdings<'s> {
-    ghost use Rattle.lane_core.specs.Changes.{KeepsAgenda, KeepsBytesBut, KeepsState, KeepsWhatStays};
+    ghost use Rattle.lane_core.specs.Changes.{KeepsAgenda, KeepsBytesBut, KeepsPromises, KeepsState, KeepsWhatStays};
     ghost use Rattle.lane_core.specs.Ideal.{given, ideal_of};
 
     /// Loads a map. Where nothing refuses the load before, and a byte bounces, it makes one call at the door: it takes
@@ -96,6 +96,7 @@ impl<'s> Holdings<'s> {
         ensures memories { self.new.memories ≡ self.old.memories }
         ensures agenda { KeepsAgenda self.old self.new }
         ensures promised { self.new.agenda.promised ≤ self.old.agenda.promised + bio_bytes (bio_of bytes.entry) }
+        ensures due { KeepsPromises self.old self.new }
         ensures fixed { D.fixed door.new ≡ D.fixed door.old }
     {
         let Some(kept) = self.maps.get(map) else {
@@ -284,6 +285,8 @@ impl<'s> Holdings<'s> {
         ensures memories { self.new.memories ≡ self.old.memories }
         ensures agenda { KeepsAgenda self.old self.new }
         ensures promised { self.new.agenda.promised ≤ self.old.agenda.promised }
+        ensures due { self.new.agenda.promised + pages_due self.old.maps.map + length pages.items
+            ≡ self.old.agenda.promised + pages_due self.new.maps.map }
     {
         let few = self.build_load(map, bytes, pages.as_slice(), &mut room);
         let LoadRoom {
@@ -332,6 +335,7 @@ impl<'s> Holdings<'s> {
         ensures memories { self.new.memories ≡ self.old.memories }
         ensures agenda { KeepsAgenda self.old self.new }
         ensures promised { self.new.agenda.promised ≤ self.old.agenda.promised }
+        ensures due { KeepsPromises self.old self.new }
     {
         let room = take_room(alloc, wanted)?;
         let pages = PageList::with_room(alloc, 0)?;
@@ -380,6 +384,7 @@ impl<'s> Holdings<'s> {
         ensures memories { self.new.memories ≡ self.old.memories }
         ensures agenda { KeepsAgenda self.old self.new }
         ensures promised { self.new.agenda.promised ≤ self.old.agenda.promised + wanted.need }
+        ensures due { KeepsPromises self.old self.new }
         ensures fixed { D.fixed door.new ≡ D.fixed door.old }
     {
         let room = take_room(alloc, wanted)?;

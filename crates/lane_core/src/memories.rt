@@ -15,6 +15,7 @@ ghost use Rattle.ideal_lane.specs.Memories as memories;
 ghost use Rattle.ideal_lane.specs.Memories.{with_memory};
 ghost use Rattle.ideal_lane.specs.Standing.{Stands};
 ghost use Rattle.ideal_wire.specs.NewRuns.{IsNewRun};
+ghost use Rattle.memory_pages.specs.Bytes.{pages_of};
 ghost use Rattle.lane_core.specs.declared.kept.KeptTag.{KeptTag};
 ghost use Rattle.lane_core.specs.Covered.{is_idle_map};
 ghost use Rattle.lane_core.specs.Doing.{IsAllowedBy, IsDone, IsUndone, asks};
@@ -246,8 +247,8 @@ impl Holdings<'_> {
         })
     }
 
-    /// Takes a memory whose map is idle: its pages, which are put into an empty list, their bytes, and what is kept of
-    /// it.
+    /// Takes a memory whose map is idle: its pages, which are put into an empty list with the bytes that they hold, their
+    /// marks, and what is kept of it.
     fn part_memory(&mut self, mem: u32, kept: KeptMemory, pages: &mut PageList)
         requires there { get self.old.memories.map mem ≡ Some kept }
         requires idle { is_idle_map (get self.old.maps.map mem) ≡ true }
@@ -260,6 +261,7 @@ impl Holdings<'_> {
           memory = parted (in_run kept.first.0 kept.count) (ideal_of self.old).memory;
         } }
         ensures pages { page_addresses pages.new.items ≡ frames_from kept.count kept.first.0 }
+        ensures filled { pages.new.items ≡ pages_of self.old.memory.memory (frames_from kept.count kept.first.0) }
         ensures bytes { KeepsBesideMemory self.old self.new }
         ensures script { self.new.script ≡ self.old.script }
         ensures agenda { self.new.agenda ≡ self.old.agenda }

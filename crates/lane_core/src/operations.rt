@@ -17,7 +17,7 @@ use dma_tag::SyncOps;
 use std::alloc::{AllocError, Global};
 
 impl<'s> Holdings<'s> {
-    ghost use Rattle.lane_core.specs.Changes.{IsWireOf, KeepsAgenda, KeepsState, KeepsWhatStays};
+    ghost use Rattle.lane_core.specs.Changes.{IsWireOf, KeepsAgenda, KeepsPromises, KeepsState, KeepsWhatStays};
     ghost use Rattle.lane_core.specs.Ideal.{given, ideal_of};
     ghost use Rattle.lane_core.specs.SmallLoads.{HasSmallLoads};
     ghost use Rattle.lane_core.specs.Wire.{IsWired, wire_of};
@@ -49,6 +49,7 @@ impl<'s> Holdings<'s> {
         ensures undone { OnErr result (IsUndone (D.seen door.old) (D.seen door.new)) }
         ensures agenda { KeepsAgenda self.old self.new }
         ensures promised { self.new.agenda.promised ≤ self.old.agenda.promised + loaded_by op.now }
+        ensures due { KeepsPromises self.old self.new }
         ensures fixed { D.fixed door.new ≡ D.fixed door.old }
     {
         match op {
@@ -108,6 +109,7 @@ impl<'s> Holdings<'s> {
         ensures memories { self.new.memories ≡ self.old.memories }
         ensures agenda { KeepsAgenda self.old self.new }
         ensures promised { self.new.agenda.promised ≤ self.old.agenda.promised + buffer_bytes buffer.now }
+        ensures due { KeepsPromises self.old self.new }
         ensures fixed { D.fixed door.new ≡ D.fixed door.old }
     {
         let Some(bytes) = self.load_bytes(buffer) else {

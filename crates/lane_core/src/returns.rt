@@ -24,7 +24,7 @@ pub(crate) struct Released {
 }
 
 impl Holdings<'_> {
-    ghost use Rattle.lane_core.specs.Changes.{KeepsBytes};
+    ghost use Rattle.lane_core.specs.Changes.{KeepsBytes, KeepsPromises};
     ghost use Rattle.lane_core.specs.Ideal.{given, ideal_of};
 
     /// Gives the first page of the return queue back to its zone, or answers None where there is none.
@@ -38,6 +38,7 @@ impl Holdings<'_> {
         ensures script { self.new.script ≡ self.old.script }
         ensures memories { self.new.memories ≡ self.old.memories }
         ensures promised { self.new.agenda.promised ≤ self.old.agenda.promised }
+        ensures due { KeepsPromises self.old self.new }
         ensures queue { self.new.agenda.queue ≡ self.old.agenda.queue }
         ensures place { self.new.agenda.place ≡ self.old.agenda.place }
         ensures length { self.new.agenda.length ≡ self.old.agenda.length }

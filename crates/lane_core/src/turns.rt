@@ -9,7 +9,7 @@ ghost use Rattle.ideal_lane.specs.Turns.{lane_step};
 ghost use Rattle.ideal_wire.specs.WireStep as wires;
 ghost use Rattle.lane_core.specs.declared.holdings.Holdings.{Holdings};
 ghost use Rattle.lane_core.specs.declared.turn.Turn.{Turn};
-ghost use Rattle.lane_core.specs.Changes.{KeepsAgenda, KeepsState};
+ghost use Rattle.lane_core.specs.Changes.{KeepsAgenda, KeepsPromises, KeepsState};
 ghost use Rattle.lane_core.specs.Doing.{IsAllowedBy, IsUndone};
 ghost use Rattle.lane_core.specs.Turning.{IsMade, IsReady, MayWant, is_held, turned};
 ghost use Rattle.lane_core.specs.Wire.{IsWired, wire_of};
@@ -19,14 +19,6 @@ use crate::returns::Released;
 use crate::turn::{Turn, stepped};
 use busdma_base::{Answer, Did, HubDoor, Side};
 use std::alloc::{AllocError, Global};
-
-/// A turn that was made leaves a driver ready for the next. So does one that ran out of memory.
-pub(crate) fn turns_leave_ready()
-    ensures made { (h k : Holdings) (d e : Seen) (s : Side) (t : Turn) →
-        IsReady h d → IsMade h k d e s t → IsReady k e }
-    ensures wanting { (h k : Holdings) (d e : Seen) →
-        IsReady h d → KeepsState h k → h.agenda.room ≤ k.agenda.room → IsUndone d e → IsReady k e }
-{}
 
 impl Holdings<'_> {
     ghost use Rattle.lane_core.specs.Ideal.{ideal_of};
@@ -40,6 +32,7 @@ impl Holdings<'_> {
         ensures memories { self.new.memories ≡ self.old.memories }
         ensures place { self.new.agenda.place ≡ self.old.agenda.place }
         ensures promised { self.new.agenda.promised ≤ self.old.agenda.promised }
+        ensures due { KeepsPromises self.old self.new }
         ensures empty { IfNone result (self.old.agenda.returns ≡ []) }
         ensures same { IfNone result (self.new ≡ self.old) }
         ensures unseen { IfNone result (D.seen door.new ≡ D.seen door.old) }
@@ -138,6 +131,7 @@ impl Holdings<'_> {
         ensures memories { self.new.memories ≡ self.old.memories }
         ensures agenda { KeepsAgenda self.old self.new }
         ensures promised { self.new.agenda.promised ≤ self.old.agenda.promised }
+        ensures due { KeepsPromises self.old self.new }
         ensures err { OnErr result (KeepsState self.old self.new) }
     {
         let Some(queued) = self.pop_item() else {
@@ -156,3 +150,11 @@ impl Holdings<'_> {
         }
     }
 }
+
+/// A turn that was made leaves a driver ready for the next. So does one for which memory ran out.
+pub(crate) fn turns_leave_ready()
+    ensures made { (h k : Holdings) (d e : Seen) (s : Side) (t : Turn) →
+        IsReady h d → IsMade h k d e s t → IsReady k e }
+    ensures wanting { (h k : Holdings) (d e : Seen) →
+        IsReady h d → KeepsState h k → h.agenda.room ≤ k.agenda.room → IsUndone d e → IsReady k e }
+{}

@@ -1,6 +1,6 @@
 //! Unloading.
 
-ghost use Rattle.std.specs.Prelude.{◌≡◌, ◌≤◌, Some, true};
+ghost use Rattle.std.specs.Prelude.{◌≡◌, ◌≤◌, ◌++◌, Some, true};
 ghost use Rattle.std.specs.FinMap.{get};
 ghost use Rattle.ideal_lane.specs.Asking.{Gives};
 ghost use Rattle.ideal_lane.specs.Loads.{unpaged};
@@ -8,13 +8,14 @@ ghost use Rattle.ideal_lane.specs.State.{LaneMap};
 ghost use Rattle.ideal_lane.specs.Unloads as unloads;
 ghost use Rattle.ideal_lane.specs.Unloads.{pages_of, unlent};
 ghost use Rattle.lane_core.specs.Covered.{has_load};
+ghost use Rattle.lane_core.specs.Kept.{device_of, pages_in};
 
 use crate::holdings::{Holdings, report};
 use busdma_base::{Answer, ReportName, ZoneId};
 use dma_map::MapState;
 
 impl Holdings<'_> {
-    ghost use Rattle.lane_core.specs.Changes.{KeepsBytesBut, KeepsBytesHeld};
+    ghost use Rattle.lane_core.specs.Changes.{KeepsBytesBut, KeepsBytesHeld, KeepsPromises};
     ghost use Rattle.lane_core.specs.Ideal.{given, ideal_of};
 
     /// Unloads a map. Its pages join the return queue.
@@ -24,6 +25,7 @@ impl Holdings<'_> {
         ensures script { self.new.script ≡ self.old.script }
         ensures memories { self.new.memories ≡ self.old.memories }
         ensures promised { self.new.agenda.promised ≤ self.old.agenda.promised }
+        ensures due { KeepsPromises self.old self.new }
         ensures queue { self.new.agenda.queue ≡ self.old.agenda.queue }
         ensures place { self.new.agenda.place ≡ self.old.agenda.place }
         ensures length { self.new.agenda.length ≡ self.old.agenda.length }
@@ -39,7 +41,7 @@ impl Holdings<'_> {
         Answer::Done
     }
 
-    /// Ends the load of a map.
+    /// Ends the load of a map. Its pages join the return queue with the bytes that they hold.
     pub(crate) fn end_load(&mut self, map: u32)
         requires { has_load (get self.old.maps.map map) ≡ true }
         ensures done { (o : LaneMap) → get (ideal_of self.old).maps map ≡ Some o →
@@ -48,11 +50,14 @@ impl Holdings<'_> {
         ensures script { self.new.script ≡ self.old.script }
         ensures memories { self.new.memories ≡ self.old.memories }
         ensures promised { self.new.agenda.promised ≤ self.old.agenda.promised }
+        ensures due { KeepsPromises self.old self.new }
         ensures queue { self.new.agenda.queue ≡ self.old.agenda.queue }
         ensures others { KeepsBytesBut map self.old self.new }
         ensures place { self.new.agenda.place ≡ self.old.agenda.place }
         ensures length { self.new.agenda.length ≡ self.old.agenda.length }
         ensures room { self.new.agenda.room ≡ self.old.agenda.room }
+        ensures returned { pages_in self.new.agenda.returns
+            ≡ pages_in self.old.agenda.returns ++ (device_of (get self.old.maps.map map)).pages }
     {
         let id = self.map_id(map);
         if let Some(kept) = self.maps.get_mut(map) {

@@ -83,6 +83,7 @@ impl<'s> Holdings<'s> {
             (get self.old.loans.prepared map) load room }
         ensures done { (o : LaneMap) → get (ideal_of self.old).maps map ≡ Some o →
             ideal_of self.new ≡ staged map o (Waiting (waits_of load_at load.entry)) (ideal_of self.old) }
+        ensures due { pages_due self.new.maps.map ≡ pages_due self.old.maps.map + load.entry.need }
         ensures bytes { KeepsBytes self.old self.new }
         ensures agenda { self.new.agenda ≡ self.old.agenda }
         ensures memories { self.new.memories ≡ self.old.memories }
@@ -124,6 +125,8 @@ impl<'s> Holdings<'s> {
         ensures memories { self.new.memories ≡ self.old.memories }
         ensures agenda { KeepsAgenda self.old self.new }
         ensures promised { self.new.agenda.promised ≤ self.old.agenda.promised }
+        ensures due { self.new.agenda.promised + pages_due self.old.maps.map + need
+            ≡ self.old.agenda.promised + pages_due self.new.maps.map }
     {
         let load_at = self.agenda.place();
         match got {

@@ -70,16 +70,15 @@ impl PlainLane<'_> {
         requires maxsegsz { 1 ≤ limits.maxsegsz }
         ensures { OnOk result (ideal self.new ≡ tags.with_tag place limits first_done (ideal self.old)) }
     {
-        self.tags
-            .insert(
-                alloc,
-                place,
-                PlainTag {
-                    limits,
-                    first_done,
-                    device: false,
-                },
-            )
+        self.tags.insert(
+            alloc,
+            place,
+            PlainTag {
+                limits,
+                first_done,
+                device: false,
+            },
+        )
     }
 
     /// A tag's first allocation has grown its zone.

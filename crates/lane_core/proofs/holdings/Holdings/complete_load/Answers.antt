@@ -163,3 +163,13 @@ returns-clause-agenda c =
         queued-from c.args.load_at 0 c.args.items,
       );
     }
+
+pub returns-then-not-few-clause-due : goal.returns-then-not-few-clause-due
+returns-then-not-few-clause-due c =
+    let stored = c.store_load.ensures in
+    omega (arith, stored.due, ap (λ a. a.promised) stored.agenda, c.end_load.ensures.due)
+
+pub returns-clause-due : goal.returns-clause-due
+returns-clause-due c =
+    let stored = c.store_load.ensures in
+    omega (arith, stored.due, ap (λ a. a.promised) stored.agenda, ap (λ a. a.promised) c.push_items.ensures)

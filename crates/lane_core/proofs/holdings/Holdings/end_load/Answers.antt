@@ -12,17 +12,17 @@ use Rattle.ideal_lane.specs.Loads.{emptied, unpaged}
 use Rattle.ideal_lane.specs.State.{LaneState}
 use Rattle.ideal_lane.specs.Unloads.{pages_of, unlent}
 use Rattle.lane_core.specs.declared.kept.KeptMap.{KeptMap}
-use Rattle.lane_core.specs.Covered.{AreOwn, has_load, is_tried}
+use Rattle.lane_core.specs.Covered.{AreOwn, has_load, is_tried, pages_due}
 use Rattle.lane_core.specs.Held.{devices_of, held as held_memory}
 use Rattle.lane_core.specs.Ideal.{ideal_of}
-use Rattle.lane_core.specs.Kept.{map_of, return_of}
+use Rattle.lane_core.specs.Kept.{device_of, map_of, pages_in, return_of}
 use Rattle.lane_core.specs.MapValues.{map_values}
 use Rattle.lane_core.proofs.Bytes.{devices-elsewhere, held-forgotten}
 use Rattle.lane_core.proofs.Keeping.{some-there}
 use Rattle.lane_core.proofs.MapTables.{AreMaps, maps-of}
 use Rattle.lane_core.proofs.MapValues.{image-some, map_values-insert}
 use Rattle.lane_core.proofs.Marks.{has_set_all}
-use Rattle.lane_core.proofs.Unloaded.{left, maps-unloaded, own-more, pages-few, pages-held}
+use Rattle.lane_core.proofs.Unloaded.{joined-pages, left, maps-unloaded, own-more, pages-few, pages-held, pages-over}
 use Rattle.lane_core.proofs.UnloadSteps.{left-is, loaded-tried, pages-are, returns-are, zone-is}
 use Rattle.lane_core.proofs.Awaiting.{left-unkept, put-awaiting, still-ready}
 use Rattle.lane_core.specs.Awaiting.{AreAwaiting}
@@ -190,3 +190,31 @@ pub returns-in-Some-clause-promised : goal.returns-in-Some-clause-promised
 returns-in-Some-clause-promised c =
     let less = ap (λ a. a.promised) c.push_returns.ensures in
     omega (arith, less)
+
+pub returns-in-Some-clause-due : goal.returns-in-Some-clause-due
+returns-in-Some-clause-due c =
+    let h = c.args.self.now in
+    let k = c.args.map in
+    let o : KeptMap = c.in-Some.kept.now in
+    let p = c.unload-pages.result in
+    let m : MapId = record { lane = h.id; made_at = k } in
+    let there : get h.maps.map k ≡ Some o = sym c.in-Some.ensures.value in
+    let maps : insert h.maps.map k (record o { map = c.unload-pages.new.self }) ≡ insert h.maps.map k (left o p.items) =
+    ap (λ v. insert h.maps.map k (record o { map = v })) c.unload-pages.ensures.left in
+    let over =
+    pages-over h.maps.map h.loans.loans h.agenda.returns h.agenda.promised (maps-of h) m o p there
+    c.unload-pages.ensures.pages in
+    let few =
+    pages-few h.maps.map h.loans.loans h.agenda.returns h.agenda.promised (maps-of h) m o p there
+    c.unload-pages.ensures.pages in
+    omega (arith, over, few, ap pages_due maps, ap (λ a. a.promised) c.push_returns.ensures)
+
+pub returns-in-Some-clause-returned : goal.returns-in-Some-clause-returned
+returns-in-Some-clause-returned c =
+    let h = c.args.self.now in
+    let o : KeptMap = c.in-Some.kept.now in
+    let there : get h.maps.map c.args.map ≡ Some o = sym c.in-Some.ensures.value in
+    ap (λ a. pages_in a.returns) c.push_returns.ensures
+    ∙ joined-pages h.agenda.returns c.map_id-id.result c.unwrap_or-zone.result o.map.stage c.unload-pages.result
+    c.unload-pages.ensures.pages
+    ∙ ap (λ x. pages_in h.agenda.returns ++ (device_of x).pages) (sym there)

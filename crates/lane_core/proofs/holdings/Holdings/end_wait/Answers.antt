@@ -109,3 +109,4 @@ returns-clause-small c =
     c.take_load.ensures.rest c.requires.stands
     c.complete_load.new.self c.complete_load.result (page_addresses c.args.pages.items) c.complete_load.ensures.done
     c.requires.small c.complete_load.ensures.agenda.place c.complete_load.ensures.promised
+    (length c.args.pages.items) c.requires.need c.complete_load.ensures.due

@@ -343,3 +343,7 @@ load_bounced-requires-clause-paged g c =
     are-in-pages l b (direct-bytes l c.args.map b
     (plain-wanted l c.args.map (map_of o) b need (c.requires.stands.each c.args.map (map_of o) there) wanted.need
     (omega (arith, c.if-wanted-eq0.false))) (sym c.judge_load.ensures ∙ c.in_default-judge_load.is))
+
+pub returns-in_default-measure_load-clause-due : goal.returns-in_default-measure_load-clause-due
+returns-in_default-measure_load-clause-due g c =
+    omega (arith, c.note_tried.ensures.due, ap (λ a. a.promised) c.note_tried.ensures.agenda)

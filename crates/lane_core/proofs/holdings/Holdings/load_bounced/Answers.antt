@@ -161,3 +161,29 @@ pub take_grabbed-requires-clause-paged : goal.take_grabbed-requires-clause-paged
 take_grabbed-requires-clause-paged g c =
     subst (λ (ps : List PageRun). AreInPages ps (bio_of c.args.bytes))
     (sym (ap (λ (x : LaneState). x.pages) c.in_ok-ready_load.ensures.same.ideal)) c.requires.paged
+
+pub returns-clause-due : goal.returns-clause-due
+returns-clause-due g c =
+    omega (
+      arith,
+      c.take_grabbed.ensures.due,
+      ap (λ t. pages_due t.map) c.in_ok-ready_load.ensures.maps,
+      ap (λ a. a.promised) c.in_ok-ready_load.ensures.promised,
+    )
+
+pub returns-in-Err-clause-due : goal.returns-in-Err-clause-due
+returns-in-Err-clause-due g c =
+    omega (
+      arith,
+      ap (λ a. a.promised) (returns-in-Err-clause-unpromised g c),
+      ap (λ t. pages_due t.map) c.in_ok-ready_load.ensures.maps,
+      ap (λ t. pages_due t.map) c.undo_load.ensures.maps,
+    )
+
+pub returns-in_err-ready_load-clause-due : goal.returns-in_err-ready_load-clause-due
+returns-in_err-ready_load-clause-due g c =
+    omega (
+      arith,
+      ap (λ a. a.promised) c.in_err-ready_load.ensures.unpromised,
+      ap (λ t. pages_due t.map) c.ready_load.ensures.maps,
+    )

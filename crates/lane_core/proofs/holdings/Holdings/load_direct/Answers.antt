@@ -10,7 +10,7 @@ use Rattle.ideal_lane.proofs.Lookups.{get_put}
 use Rattle.ideal_lane.specs.Loads.{finished, limits_of, load_entries}
 use Rattle.ideal_lane.specs.Standing.{Stands}
 use Rattle.ideal_lane.specs.State.{LaneMap, LaneState}
-use Rattle.lane_core.specs.Covered.{is_idle_map}
+use Rattle.lane_core.specs.Covered.{is_idle_map, pages_due}
 use Rattle.lane_core.specs.Ideal.{ideal_of}
 use Rattle.lane_core.specs.Loading.{AreItsFirst, HasRoomForAny, IsLoadable, bio_bytes, bio_of, bio_reached}
 use Rattle.lane_core.specs.Loading.{load_loan, map_chunks}
@@ -81,3 +81,14 @@ returns-clause-bytes c =
       own = then.own ∙ kept.own;
       pages = λ m off. then.pages m off ∙ kept.pages m;
     }
+
+pub returns-clause-due : goal.returns-clause-due
+returns-clause-due c =
+    let done = c.in_ok-prepare_load.ensures in
+    omega (
+      arith,
+      c.complete_load.ensures.due,
+      ap (λ a. a.promised) done.agenda,
+      ap (λ t. pages_due t.map) done.maps,
+      ap (λ (p : RoomyPages). length p.items) c.in_ok-pages.ensures,
+    )

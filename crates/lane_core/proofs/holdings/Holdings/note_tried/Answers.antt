@@ -1,5 +1,6 @@
 use Rattle.std.proofs.Common.{◌≡◌, ◌+◌, ◌≤◌, Some, true, refl, sym, ap, ◌∙◌, subst, arith}
 use Rattle.std.specs.FinMap.{get, insert}
+use Rattle.ideal_lane.proofs.Weights.{weigh-put}
 use Rattle.ideal_lane.specs.State.{Idle, LaneMap}
 use Rattle.lane_core.specs.declared.kept.KeptMap.{KeptMap}
 use Rattle.lane_core.specs.Covered.{is_idle_map, pages_due}
@@ -103,3 +104,21 @@ returns-in-Some-clause-bytes c =
       own = refl;
       pages = λ m. ap (λ ms. (devices_of ms m).pages) maps ∙ ap (λ d. d.pages) (devices-put h.maps.map k v bare m);
     }
+
+pub returns-in-Some-clause-due : goal.returns-in-Some-clause-due
+returns-in-Some-clause-due c =
+    let h = c.args.self.now in
+    let k = c.args.map in
+    let o : KeptMap = c.in-Some.kept.now in
+    let there : get h.maps.map k ≡ Some o = sym c.in-Some.ensures.value in
+    let on = sym (ap is_idle_map there) ∙ c.requires in
+    let idle = idle-map o on in
+    let v : KeptMap = record o { map = record o.map { tried = true } } in
+    let now = idle-map v on in
+    let maps : insert h.maps.map k (record o { map = c.note_tried.new.self }) ≡ insert h.maps.map k v =
+    ap (λ x. insert h.maps.map k (record o { map = x })) c.note_tried.ensures in
+    let weight : pages_due (insert h.maps.map k v) + due_of o ≡ pages_due h.maps.map + due_of v =
+    weigh-put due_of h.maps.map k o v there in
+    let same : pages_due (insert h.maps.map k v) ≡ pages_due h.maps.map =
+    omega (arith, weight, idle.undue, now.undue) in
+    ap pages_due maps ∙ same

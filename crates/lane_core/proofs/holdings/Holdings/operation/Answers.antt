@@ -12,6 +12,7 @@ use Rattle.lane_core.proofs.Doors.{always-ok, ok-weak}
 use Rattle.lane_core.proofs.Following.{stays-all, stays-held}
 use Rattle.lane_core.proofs.ScriptTurns.{few-items}
 use Rattle.lane_core.proofs.OperationSteps.{beside-wire, done-wire, paged-wire, quiet-done, quiet-held, vacant}
+use Rattle.lane_core.proofs.Promises.{IsStillOp, done-promise, either-promise, state-promise}
 use Rattle.lane_core.proofs.holdings.Holdings.operation.Goals as goal
 
 pub make_tag-requires-clause-allowed : goal.make_tag-requires-clause-allowed
@@ -324,3 +325,77 @@ pub make_map-requires-clause-vacant : goal.make_map-requires-clause-vacant
 make_map-requires-clause-vacant g c =
     let h = c.args.self.now in
     vacant map_of h.maps.map h.agenda.place (c.requires.stands.no_map h.agenda.place (omega arith))
+
+pub returns-in-Tag-clause-due : goal.returns-in-Tag-clause-due
+returns-in-Tag-clause-due g c =
+    either-promise c.args.self.now c.make_tag.new.self c.requires.stands c.args.op.now (g.D.HubDoor.seen c.args.door.now)
+    (g.D.HubDoor.seen c.make_tag.new.door) c.make_tag.result (returns-in-Tag-clause-done g c) c.make_tag.ensures.err
+    (subst IsStillOp (sym c.in-Tag.is) tt) c.make_tag.ensures.agenda
+
+pub returns-in-Map-clause-due : goal.returns-in-Map-clause-due
+returns-in-Map-clause-due g c =
+    either-promise c.args.self.now c.make_map.new.self c.requires.stands c.args.op.now (g.D.HubDoor.seen c.args.door.now)
+    (g.D.HubDoor.seen c.make_map.new.door) c.make_map.result (returns-in-Map-clause-done g c) c.make_map.ensures.err
+    (subst IsStillOp (sym c.in-Map.is) tt) c.make_map.ensures.agenda
+
+pub returns-in-Dmamem-clause-due : goal.returns-in-Dmamem-clause-due
+returns-in-Dmamem-clause-due g c =
+    either-promise c.args.self.now c.make_memory.new.self c.requires.stands c.args.op.now (g.D.HubDoor.seen c.args.door.now)
+    (g.D.HubDoor.seen c.make_memory.new.door) c.make_memory.result (returns-in-Dmamem-clause-done g c) c.make_memory.ensures.err
+    (subst IsStillOp (sym c.in-Dmamem.is) tt) c.make_memory.ensures.agenda
+
+pub returns-in-DmamemFree-clause-due : goal.returns-in-DmamemFree-clause-due
+returns-in-DmamemFree-clause-due g c =
+    either-promise c.args.self.now c.end_memory.new.self c.requires.stands c.args.op.now (g.D.HubDoor.seen c.args.door.now)
+    (g.D.HubDoor.seen c.end_memory.new.door) c.end_memory.result (returns-in-DmamemFree-clause-done g c) c.end_memory.ensures.err
+    (subst IsStillOp (sym c.in-DmamemFree.is) tt) c.end_memory.ensures.agenda
+
+pub returns-in-MapDestroy-clause-due : goal.returns-in-MapDestroy-clause-due
+returns-in-MapDestroy-clause-due g c =
+    done-promise c.args.self.now c.destroy_map.new.self c.requires.stands c.args.op.now c.destroy_map.result.answer
+    (g.D.HubDoor.seen c.args.door.now) (g.D.HubDoor.seen c.destroy_map.new.door)
+    (returns-in-MapDestroy-clause-done g c) (subst IsStillOp (sym c.in-MapDestroy.is) tt)
+    (ap (λ a. a.promised) c.destroy_map.ensures.agenda)
+
+pub returns-in-TagDestroy-clause-due : goal.returns-in-TagDestroy-clause-due
+returns-in-TagDestroy-clause-due g c =
+    done-promise c.args.self.now c.destroy_tag.new.self c.requires.stands c.args.op.now c.unheld.result.answer
+    (g.D.HubDoor.seen c.args.door.now) (g.D.HubDoor.seen c.args.door.now)
+    (returns-in-TagDestroy-clause-done g c) (subst IsStillOp (sym c.in-TagDestroy.is) tt)
+    (ap (λ a. a.promised) c.destroy_tag.ensures.agenda)
+
+pub returns-in_ok-sync-in-Sync-clause-due : goal.returns-in_ok-sync-in-Sync-clause-due
+returns-in_ok-sync-in-Sync-clause-due g c =
+    done-promise c.args.self.now c.sync.new.self c.requires.stands c.args.op.now c.unheld-in-Sync.result.answer
+    (g.D.HubDoor.seen c.args.door.now) (g.D.HubDoor.seen c.args.door.now)
+    (returns-in_ok-sync-in-Sync-clause-done g c) (subst IsStillOp (sym c.in-Sync.is) tt)
+    (ap (λ a. a.promised) c.sync.ensures.agenda)
+
+pub returns-in_err-sync-in-Sync-clause-due : goal.returns-in_err-sync-in-Sync-clause-due
+returns-in_err-sync-in-Sync-clause-due g c =
+    state-promise c.args.self.now c.sync.new.self (ap (λ a. a.promised) c.sync.ensures.agenda)
+    c.in_err-sync-in-Sync.ensures.err
+
+pub returns-in_ok-sync_range-in-SyncRange-clause-due : goal.returns-in_ok-sync_range-in-SyncRange-clause-due
+returns-in_ok-sync_range-in-SyncRange-clause-due g c =
+    done-promise c.args.self.now c.sync_range.new.self c.requires.stands c.args.op.now c.unheld-in-SyncRange.result.answer
+    (g.D.HubDoor.seen c.args.door.now) (g.D.HubDoor.seen c.args.door.now)
+    (returns-in_ok-sync_range-in-SyncRange-clause-done g c) (subst IsStillOp (sym c.in-SyncRange.is) tt)
+    (ap (λ a. a.promised) c.sync_range.ensures.agenda)
+
+pub returns-in_err-sync_range-in-SyncRange-clause-due : goal.returns-in_err-sync_range-in-SyncRange-clause-due
+returns-in_err-sync_range-in-SyncRange-clause-due g c =
+    state-promise c.args.self.now c.sync_range.new.self (ap (λ a. a.promised) c.sync_range.ensures.agenda)
+    c.in_err-sync_range-in-SyncRange.ensures.err
+
+pub returns-in_ok-cpu_write-in-CpuWrite-clause-due : goal.returns-in_ok-cpu_write-in-CpuWrite-clause-due
+returns-in_ok-cpu_write-in-CpuWrite-clause-due g c =
+    done-promise c.args.self.now c.cpu_write.new.self c.requires.stands c.args.op.now c.unheld-in-CpuWrite.result.answer
+    (g.D.HubDoor.seen c.args.door.now) (g.D.HubDoor.seen c.args.door.now)
+    (returns-in_ok-cpu_write-in-CpuWrite-clause-done g c) (subst IsStillOp (sym c.in-CpuWrite.is) tt)
+    (ap (λ a. a.promised) c.cpu_write.ensures.agenda)
+
+pub returns-in_err-cpu_write-in-CpuWrite-clause-due : goal.returns-in_err-cpu_write-in-CpuWrite-clause-due
+returns-in_err-cpu_write-in-CpuWrite-clause-due g c =
+    state-promise c.args.self.now c.cpu_write.new.self (ap (λ a. a.promised) c.cpu_write.ensures.agenda)
+    c.in_err-cpu_write-in-CpuWrite.ensures.err

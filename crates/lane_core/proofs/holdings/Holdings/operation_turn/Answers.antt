@@ -5,6 +5,7 @@ use Rattle.busdma_base.specs.declared.journals.journal.Did.TheVariants as did
 use Rattle.busdma_base.specs.declared.journals.journal.Side.TheVariants as side
 use Rattle.busdma_base.specs.Scenarios.Operations.{loaded_by}
 use Rattle.lane_core.specs.declared.turn.Turn.TheVariants as turn
+use Rattle.lane_core.specs.Covered.{pages_due}
 use Rattle.lane_core.proofs.Providing.{made-script}
 use Rattle.lane_core.proofs.SmallLoads.{small-next, small-same}
 use Rattle.lane_core.proofs.ScriptTurns.{blocked-made, ended-made, next-made, next-may}
@@ -97,7 +98,7 @@ returns-in_err-answer-clause-small g c =
     small-same c.args.self.now c.operation.new.self c.requires.small
     (ap (λ l. l.script) c.in_err-answer.ensures.err.ideal)
     c.operation.ensures.agenda.place
-    (omega (arith, promised))
+    (omega (arith, promised)) c.operation.ensures.due
 
 pub returns-clause-small : goal.returns-clause-small
 returns-clause-small g c =
@@ -117,3 +118,4 @@ returns-clause-small g c =
     (made-script h n (g.D.HubDoor.seen c.args.door.now) (g.D.HubDoor.seen c.operation.new.door) side.Script
     c.stepped.result c.requires.ready (returns-clause-made g c))
     (ap (λ a. a.place) on ∙ ap (λ p. p + 1) done.agenda.place) (omega (arith, promised, few))
+    (omega (arith, done.due, promised, ap (λ t. pages_due t.map) c.advance.ensures.rest.maps))

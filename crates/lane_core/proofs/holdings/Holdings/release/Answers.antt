@@ -1,3 +1,4 @@
+use Rattle.std.proofs.Common.{arith}
 use Rattle.std.proofs.Common.{◌≡◌, ℕ, ◌==◌, ◌≤◌, not, map, refl, sym, ap, ◌∙◌, subst}
 use Rattle.std.proofs.lemmas.Map.Views.{exact_unsigned_eq}
 use Rattle.std.specs.FinMap.{get}
@@ -25,7 +26,7 @@ use Rattle.lane_core.proofs.Bytes.{held-alike}
 use Rattle.lane_core.proofs.Doors.{done-asks, on-none}
 use Rattle.lane_core.proofs.MapTables.{AreMaps}
 use Rattle.lane_core.proofs.MapValues.{image-some}
-use Rattle.lane_core.proofs.Returned.{devices-after, maps-back}
+use Rattle.lane_core.proofs.Returned.{devices-after, due-back, maps-back}
 use Rattle.lane_core.proofs.ReturnSteps.{back-in, given-back-is, last-is, noted, own-head, returning-there}
 use Rattle.lane_core.proofs.Returned.{idled}
 use Rattle.lane_core.proofs.SameHoldings.{same-all}
@@ -212,3 +213,36 @@ returns-in_err-map-clause-same g c =
       tags = refl;
       maps = refl;
     }) c.in_err-map.ensures.none)
+
+pub returns-clause-due : goal.returns-clause-due
+returns-clause-due g c =
+    let h = c.args.self.now in
+    let r = c.in_ok-map.field-0 in
+    let k = r.map.made_at in
+    let rest = c.pop_return.new.self.returns in
+    let own =
+    own-head (r.map.lane.0 == h.id.0) (list_any (λ (p : QueuedPage). not (p.map.lane.0 == h.id.0)) rest)
+    (sym (ap (λ qs. list_any (λ (p : QueuedPage). not (p.map.lane.0 == h.id.0)) qs) c.in_ok-map.ensures.page)
+    ∙ h.own_returns) in
+    let back =
+    own-head (is_returning (get h.maps.map k))
+    (list_any (λ (p : QueuedPage). not (is_returning (get h.maps.map p.map.made_at))) rest)
+    (sym (ap (λ qs. list_any (λ (p : QueuedPage). not (is_returning (get h.maps.map p.map.made_at))) qs)
+    c.in_ok-map.ensures.page) ∙ h.returning) in
+    let found = returning-there (get h.maps.map k) back.0 in
+    let mine : r.map.lane.0 ≡ h.id.0 = exact_unsigned_eq r.map.lane.0 h.id.0 own.0 in
+    let are : AreMaps h.maps.map h.loans.loans rest h.agenda.promised =
+    record {
+      loaded = h.loaded;
+      unlent = h.unlent;
+      promised = h.promised;
+      returning = back.1;
+      tried = h.tried;
+    } in
+    let maps =
+    noted h.maps c.note_returned.new.maps k found.0 r.last found.1 c.note_returned.ensures.last
+    c.note_returned.ensures.more in
+    let due =
+    due-back h.maps.map h.loans.loans h.agenda.promised rest are h.id.0 r.map found.0 found.1 found.2 mine own.1
+    r.last in
+    omega (arith, due, ap (λ t. pages_due t.map) maps, ap (λ a. a.promised) c.in_ok-map.ensures.rest)

@@ -24,6 +24,7 @@ pub returns-in-Some-clause-small : goal.returns-in-Some-clause-small
 returns-in-Some-clause-small g c =
     let r = c.return_turn.ensures in
     small-same c.args.self.now c.return_turn.new.self c.requires.small (ap (λ s. s.now) r.script) r.place r.promised
+    r.due
 
 pub operation_turn-requires-clause-ready : goal.operation_turn-requires-clause-ready
 operation_turn-requires-clause-ready g c =

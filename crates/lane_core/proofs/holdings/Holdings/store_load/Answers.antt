@@ -1,8 +1,9 @@
 use Rattle.std.proofs.Common.{◌≡◌, ◌+◌, ◌≤◌, Some, true, unwrap_or, refl, sym, ap, ◌∙◌, subst}
-use Rattle.std.proofs.Common.{cond}
+use Rattle.std.proofs.Common.{arith, cond, length}
 use Rattle.std.proofs.lemmas.Bool.{eq-eqb}
 use Rattle.std.specs.FinMap.{get, insert, remove, contains_key}
 use Rattle.ideal_lane.proofs.Lookups.{get_put}
+use Rattle.ideal_lane.proofs.Weights.{weigh-put}
 use Rattle.busdma_machine.specs.declared.name.MapId.{MapId}
 use Rattle.busdma_machine.specs.Machine.PageList.{page_addresses}
 use Rattle.dma_map.specs.MapView.{loaded}
@@ -144,3 +145,21 @@ returns-in-Some-clause-loaded c =
     ap (λ x. insert h.maps.map k (record o { map = x })) c.finish.ensures in
     ap (λ ms. has_load (get ms k)) maps ∙ ap has_load (get_put h.maps.map k v k)
     ∙ ap (λ b. has_load (cond b (Some v) (get h.maps.map k))) (eq-eqb k k refl)
+
+pub returns-in-Some-clause-due : goal.returns-in-Some-clause-due
+returns-in-Some-clause-due c =
+    let h = c.args.self.now in
+    let k = c.args.map in
+    let o : KeptMap = c.in-Some.kept.now in
+    let there : get h.maps.map k ≡ Some o = sym c.in-Some.ensures.value in
+    let idle = idle-map o (sym (ap is_idle_map there) ∙ c.requires.idle) in
+    let v : KeptMap = record o {
+      map = record o.map { tried = true; stage = loaded c.args.bounced c.args.segments c.args.pages };
+    } in
+    let maps : insert h.maps.map k (record o { map = c.finish.new.self }) ≡ insert h.maps.map k v =
+    ap (λ x. insert h.maps.map k (record o { map = x })) c.finish.ensures in
+    let weight : pages_due (insert h.maps.map k v) + due_of o ≡ pages_due h.maps.map + length c.args.pages.items =
+    weigh-put due_of h.maps.map k o v there in
+    let more : pages_due (insert h.maps.map k v) ≡ pages_due h.maps.map + length c.args.pages.items =
+    omega (arith, weight, idle.undue) in
+    ap pages_due maps ∙ more

@@ -1,4 +1,4 @@
-use Rattle.std.proofs.Common.{◌≡◌, ℕ, List, [], ◌∷◌, length, refl, sym, ap, ◌∙◌, subst}
+use Rattle.std.proofs.Common.{◌≡◌, ℕ, List, [], ◌∷◌, length, refl, sym, ap, ◌∙◌, subst, arith}
 use Rattle.std.specs.FinMap.{get}
 use Rattle.busdma_machine.specs.declared.bounce.door.Grabbed.{Grabbed}
 use Rattle.busdma_machine.specs.declared.bounce.door.Grabbed.TheVariants.{Granted}
@@ -12,6 +12,7 @@ use Rattle.lane_agreement.specs.After.{addresses}
 use Rattle.segment_build.specs.Chunks.{need_of}
 use Rattle.ideal_lane.specs.Loads.{finished, granted, limits_of, staged}
 use Rattle.ideal_lane.specs.State.{LaneState, Idle, Waiting}
+use Rattle.lane_core.specs.Covered.{pages_due}
 use Rattle.lane_core.specs.Ideal.{ideal_of}
 use Rattle.lane_core.specs.Kept.{memory_of}
 use Rattle.lane_core.specs.Loading.{HasNeed, HasRoomForAny, bio_chunks, bio_of}
@@ -91,3 +92,24 @@ wait_load-requires-clause-awaiting c o there =
     begins-waiting c.args.self.now c.requires.stands c.args.map
     (record { bytes = c.args.bytes; items = c.args.items; need = c.args.need }) c.args.room o there c.requires.own
     c.requires.paged c.requires.loadable c.requires.room c.requires.prepared
+
+pub returns-in-Granted-clause-due : goal.returns-in-Granted-clause-due
+returns-in-Granted-clause-due c =
+    let all : HasNeed c.args.need (Granted c.in-Granted.pages) =
+    subst (λ (g : Grabbed). HasNeed c.args.need g) c.in-Granted.is c.requires.granted in
+    omega (arith, all, c.complete_load.ensures.due)
+
+pub returns-in-Queued-clause-due : goal.returns-in-Queued-clause-due
+returns-in-Queued-clause-due c =
+    omega (arith, c.wait_load.ensures.due, ap (λ a. a.promised) c.wait_load.ensures.agenda)
+
+pub returns-in-NoPages-clause-due : goal.returns-in-NoPages-clause-due
+returns-in-NoPages-clause-due c =
+    omega (
+      arith,
+      c.requires.promised,
+      ap (λ a. a.promised) c.undo_load.ensures.agenda,
+      ap (λ t. pages_due t.map) c.undo_load.ensures.maps,
+      ap (λ a. a.promised) c.note_tried.ensures.agenda,
+      c.note_tried.ensures.due,
+    )

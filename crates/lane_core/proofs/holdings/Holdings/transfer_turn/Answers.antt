@@ -1,4 +1,7 @@
-use Rattle.std.proofs.Common.{ap, arith}
+use Rattle.std.proofs.Common.{◌≡◌, ap, arith}
+use Rattle.lane_core.specs.Changes.{KeepsPromises}
+use Rattle.lane_core.specs.Covered.{pages_due}
+use Rattle.lane_core.proofs.Promises.{item-maps, maps-promise, state-promise}
 use Rattle.lane_core.proofs.Queueing.{back-agenda, item-agenda, item-back, item-done, item-wire}
 use Rattle.lane_core.proofs.Queueing.{queue-wired}
 use Rattle.lane_core.proofs.holdings.Holdings.transfer_turn.Goals as goal
@@ -40,3 +43,30 @@ returns-in-Err-clause-err c =
     item-back c.args.self.now c.pop_item.new.self c.transfer.new.self c.in-Some.queued c.in-Some.ensures.item p.rest
     p.agenda c.transfer.ensures.agenda c.put_item_back.new.self c.in-Err.ensures.err c.put_item_back.ensures.rest
     c.put_item_back.ensures.agenda
+
+pub returns-in-Ok-clause-due : goal.returns-in-Ok-clause-due
+returns-in-Ok-clause-due c =
+    let p = c.pop_item.ensures in
+    let k = c.pop_item.new.self in
+    let n = c.transfer.new.self in
+    let same : n.agenda.promised ≡ k.agenda.promised = ap (λ a. a.promised) c.transfer.ensures.agenda in
+    let kept : KeepsPromises k n =
+    maps-promise k n same (item-maps k n c.in-Some.queued.item c.in-Ok.answer c.in-Ok.ensures.done) in
+    omega (arith, kept, ap (λ a. a.promised) p.agenda, ap (λ t. pages_due t.map) p.rest.maps)
+
+pub returns-in-Err-clause-due : goal.returns-in-Err-clause-due
+returns-in-Err-clause-due c =
+    let p = c.pop_item.ensures in
+    let k = c.pop_item.new.self in
+    let n = c.transfer.new.self in
+    let back = c.put_item_back.ensures in
+    let same : n.agenda.promised ≡ k.agenda.promised = ap (λ a. a.promised) c.transfer.ensures.agenda in
+    let kept : KeepsPromises k n = state-promise k n same c.in-Err.ensures.err in
+    omega (
+      arith,
+      kept,
+      ap (λ a. a.promised) p.agenda,
+      ap (λ t. pages_due t.map) p.rest.maps,
+      ap (λ a. a.promised) back.agenda,
+      ap (λ t. pages_due t.map) back.rest.maps,
+    )

@@ -57,7 +57,7 @@ pub returns-in-Transfer-clause-small : goal.returns-in-Transfer-clause-small
 returns-in-Transfer-clause-small g c =
     let r = c.transfer_turn.ensures in
     small-same c.args.self.now c.transfer_turn.new.self c.requires.small (ap (λ s. s.now) r.script) r.agenda.place
-    r.promised
+    r.promised r.due
 
 pub returns-in-Transfer-clause-length : goal.returns-in-Transfer-clause-length
 returns-in-Transfer-clause-length g c =

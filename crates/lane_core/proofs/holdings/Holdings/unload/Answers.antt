@@ -28,6 +28,7 @@ returns-in_default-state c =
       script = refl;
       memories = refl;
       promised = omega arith;
+      due = refl;
       queue = refl;
       place = refl;
       length = refl;

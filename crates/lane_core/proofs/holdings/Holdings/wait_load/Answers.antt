@@ -1,6 +1,7 @@
-use Rattle.std.proofs.Common.{◌≡◌, ◌+◌, ◌≤◌, Some, true, refl, sym, ap, ◌∙◌, subst}
+use Rattle.std.proofs.Common.{◌≡◌, ◌+◌, ◌≤◌, Some, true, refl, sym, ap, ◌∙◌, subst, arith}
 use Rattle.std.specs.FinMap.{get, insert}
 use Rattle.dma_map.specs.MapView.{waiting}
+use Rattle.ideal_lane.proofs.Weights.{weigh-put}
 use Rattle.ideal_lane.specs.State.{LaneMap, Waiting}
 use Rattle.lane_core.specs.declared.kept.KeptMap.{KeptMap}
 use Rattle.lane_core.specs.Covered.{is_idle_map, pages_due}
@@ -111,3 +112,23 @@ returns-in-Some-clause-bytes c =
       own = refl;
       pages = λ m. ap (λ ms. (devices_of ms m).pages) maps ∙ ap (λ d. d.pages) (devices-put h.maps.map k v bare m);
     }
+
+pub returns-in-Some-clause-due : goal.returns-in-Some-clause-due
+returns-in-Some-clause-due c =
+    let h = c.args.self.now in
+    let k = c.args.map in
+    let o : KeptMap = c.in-Some.kept.now in
+    let there : get h.maps.map k ≡ Some o = sym c.in-Some.ensures.value in
+    let idle = idle-map o (sym (ap is_idle_map there) ∙ c.requires.idle) in
+    let v : KeptMap = record {
+      tag = o.tag;
+      map = record o.map { tried = true; stage = waiting c.args.load_at c.args.load c.args.room };
+    } in
+    let maps : insert h.maps.map k (record { tag = o.tag; map = c.wait.new.self })
+    ≡ insert h.maps.map k v =
+    ap (λ x. insert h.maps.map k (record { tag = o.tag; map = x })) c.wait.ensures in
+    let weight : pages_due (insert h.maps.map k v) + due_of o ≡ pages_due h.maps.map + c.args.load.need =
+    weigh-put due_of h.maps.map k o v there in
+    let more : pages_due (insert h.maps.map k v) ≡ pages_due h.maps.map + c.args.load.need =
+    omega (arith, weight, idle.undue) in
+    ap pages_due maps ∙ more

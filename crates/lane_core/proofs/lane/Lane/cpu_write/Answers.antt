@@ -1,5 +1,6 @@
 use Rattle.lane_core.proofs.Doors.{err-map}
 use Rattle.lane_core.proofs.LaneCalls.{called-lane, cpu_write-after}
+use Rattle.lane_core.proofs.SameWires.{same-wire}
 use Rattle.lane_core.proofs.lane.Lane.cpu_write.Goals as goal
 
 pub invariant_of-self : goal.invariant_of-self
@@ -23,3 +24,7 @@ invariant_of-self c =
 
 pub returns-clause-err : goal.returns-clause-err
 returns-clause-err c = err-map c.cpu_write.result (λ s. s.ideal) c.cpu_write.ensures.err
+
+pub returns-clause-err_wire : goal.returns-clause-err_wire
+returns-clause-err_wire c =
+    err-map c.cpu_write.result (same-wire c.args.self.now.holdings c.cpu_write.new.self) c.cpu_write.ensures.err

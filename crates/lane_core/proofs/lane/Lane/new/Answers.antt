@@ -1,4 +1,4 @@
-use Rattle.std.proofs.Common.{◌≡◌, ℕ, Some, None, ◌==◌, not, length, map, ap, sym, ◌∙◌, subst, arith}
+use Rattle.std.proofs.Common.{◌≡◌, ℕ, Some, None, ◌==◌, ◌≤◌, not, length, map, ap, sym, ◌∙◌, subst, arith}
 use Rattle.std.specs.List.{list_any}
 use Rattle.std.specs.Ordering.{nat_cmp}
 use Rattle.std.specs.FinMap.{get, get-empty}
@@ -11,7 +11,7 @@ use Rattle.ideal_lane.specs.Standing.{Stands}
 use Rattle.ideal_lane.proofs.Openings.{opens-standing}
 use Rattle.ideal_lane.proofs.Weights.{weigh-empty}
 use Rattle.lane_core.specs.declared.kept.KeptMemory.{KeptMemory}
-use Rattle.lane_core.specs.Covered.{items_left}
+use Rattle.lane_core.specs.Covered.{items_left, pages_due}
 use Rattle.lane_core.specs.Held.{devices_of}
 use Rattle.lane_core.specs.Kept.{map_of, memory_of, return_of, share_of, tag_of}
 use Rattle.lane_core.specs.MapValues.{map_values}
@@ -176,6 +176,11 @@ pub invariant_of-result-2-clause-small : goal.invariant_of-result-2-clause-small
 invariant_of-result-2-clause-small c =
     opens-small c.args.driver.now _ c.requires.script c.requires.small c.as_slice-script.ensures
     (ap (λ a. a.place) c.in_ok-new-4.ensures) (ap (λ a. a.promised) c.in_ok-new-4.ensures)
+    (let none : pages_due c.in_ok-new-2.field-0.map ≤ 0 =
+    (opens-mapless c.in_ok-new-2.field-0.map c.in_ok-opening_loans.field-0.loans c.in_ok-new-4.field-0.returns 0
+    (ap (λ t. t.map) c.in_ok-new-2.ensures) c.in_ok-opening_loans.ensures.loans
+    (ap (λ a. a.returns) c.in_ok-new-4.ensures)).promised in
+    omega (arith, none))
 
 pub invariant_of-result-clause-awaiting : goal.invariant_of-result-clause-awaiting
 invariant_of-result-clause-awaiting c =

@@ -6,6 +6,7 @@ use Rattle.lane_core.specs.Ideal.{ideal_of}
 use Rattle.lane_core.specs.Wire.{wire_of}
 use Rattle.lane_core.proofs.Doors.{err-map, ok-map}
 use Rattle.lane_core.proofs.LaneCalls.{called-lane, foreign-call, foreign-wire, own-call, own-wire, sync_range-after}
+use Rattle.lane_core.proofs.SameWires.{same-wire}
 use Rattle.lane_core.proofs.lane.Lane.sync_range.Goals as goal
 
 pub invariant_of-self : goal.invariant_of-self
@@ -59,3 +60,7 @@ returns-clause-wire c =
 
 pub returns-clause-err : goal.returns-clause-err
 returns-clause-err c = err-map c.sync_range.result (λ s. s.ideal) c.sync_range.ensures.err
+
+pub returns-clause-err_wire : goal.returns-clause-err_wire
+returns-clause-err_wire c =
+    err-map c.sync_range.result (same-wire c.args.self.now.holdings c.sync_range.new.self) c.sync_range.ensures.err
