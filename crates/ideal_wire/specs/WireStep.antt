@@ -1,5 +1,5 @@
 -- What the steps of a driver make of its wire. Pages and the frames of memories come with any bytes, but with zeros
--- where zeros were asked for, and leave with theirs.
+-- where zeros were asked for. Those that go leave the wire, and nothing is said here of the bytes that they take along.
 use Rattle.std.specs.Prelude.{◌≡◌, ℕ, true, List, [], ◌∷◌, Option, Some, None, map, length, slice_get, unwrap_or}
 use Rattle.std.specs.Prelude.{if◌then◌else◌, is_some}
 use Rattle.std.specs.Ordering.{nat_cmp}
@@ -138,7 +138,8 @@ KeepsPages before after w w' =
 abbrev pub BringsKnown : IdealMemory → IdealMemory → Wire → Type 0
 BringsKnown before after w' = (a v : ℕ) → before a ≡ None → after a ≡ Some (Known v) → w' a ≡ v
 
--- pages came with any bytes, and frames of memories with what is Known of them; both went with theirs
+-- what the driver had before and has after keeps its bytes; pages came with any bytes, and frames of memories with what
+-- is Known of them
 pub record Follows (before after : LaneState) (w w' : Wire) : Type 0 where
   pub own : KeepsOwn before.memory after.memory w w'
   pub pages : KeepsPages before.maps after.maps w w'

@@ -1,10 +1,9 @@
 -- What a driver's turn makes of the world and of a run.
-use Rattle.std.proofs.Common.{◌≡◌, ℕ, ◌+◌, ◌<◌, Bool, List, length, get_or, Some, None, map, refl}
-use Rattle.std.proofs.Common.{sym}
-use Rattle.std.proofs.Common.{ap, ◌∙◌, subst, slice_get, slice_set, if◌then◌else◌}
+use Rattle.std.proofs.Common.{◌≡◌, ℕ, ◌+◌, ◌++◌, ◌<◌, ◌≤◌, Bool, List, length, get_or, Some, None, map, refl}
+use Rattle.std.proofs.Common.{sym, ap, ◌∙◌, subst, arith, append-nil, slice_get, slice_set, if◌then◌else◌}
 use Rattle.std.specs.Prelude.{option_map, Result, Ok, Err, IfOk, OnErr, OnOk}
-use Rattle.std.proofs.lemmas.List.{map-set}
-use Rattle.std.proofs.lemmas.Option.{slice_get-map, slice_get_read}
+use Rattle.std.proofs.lemmas.List.{length-map, map-set}
+use Rattle.std.proofs.lemmas.Option.{slice_get-map, slice_get_past, slice_get_read}
 use mathlib.Core.Logic.{∥∥₁_map}
 use Rattle.busdma_base.specs.declared.journals.journal.Actor.{Actor}
 use Rattle.busdma_base.specs.declared.journals.journal.JournalEntry.{JournalEntry}
@@ -21,6 +20,7 @@ use Rattle.lane_core.specs.Doing.{IsUndone}
 use Rattle.lane_core.specs.declared.turn.Turn as told
 use Rattle.lane_core.specs.declared.turn.Turn.TheVariants as held
 use Rattle.ideal_lane.specs.Turns.{Turn, lane_step}
+use Rattle.ideal_world.specs.Holds.{holds_at, step_holds}
 use Rattle.ideal_world.specs.Legal.{Run, noted, turn}
 use Rattle.ideal_world.specs.WellFormed.{IsWellFormed}
 use Rattle.ideal_world.specs.World.{WorldState, WorldTurned, replied, step_of, step, entry_of}
@@ -29,7 +29,7 @@ use Rattle.ideal_world.proofs.Keeping.{step-keeps}
 use Rattle.ideal_world.proofs.Lanes.{set_same}
 use Rattle.world_core.specs.Kept.{IsKept, world_of}
 use Rattle.world_core.proofs.Agreeing.{agrees-of, below-of}
-use Rattle.world_core.proofs.Turning.{Makes, makes, undone-account}
+use Rattle.world_core.proofs.Turning.{Makes, made-holds, makes, undone-account}
 
 -- the driver in a world, by its number
 pub lane_found : (lanes : List Lane) (i : ℕ) (l : Lane) → i < length lanes → l ≡ get_or lanes i l →
@@ -69,6 +69,16 @@ module _ (s : Scenario) (lanes : List Lane) (hub : HubSeen) where
     opening = same ∙ k.opening;
   })
 
+-- an actor that has no driver adds nothing to the history
+pub no-driver : (lanes : List Lane) (i : ℕ) → length lanes ≤ i → slice_get (map ideal lanes) i ≡ None
+no-driver lanes i past = slice_get_past (map ideal lanes) i (omega (arith, length-map lanes ideal, past))
+
+pub no-holds : (lanes : List Lane) (hub : HubSeen) (actor : Actor) → length lanes ≤ actor.lane.0 →
+    hub.history ≡ hub.history ++ step_holds (world_of lanes hub) actor
+no-holds lanes hub actor past =
+    sym (append-nil hub.history)
+    ∙ ap (λ o. hub.history ++ holds_at (world_of lanes hub) actor o) (sym (no-driver lanes actor.lane.0 past))
+
 -- a driver's turn at the hub
 module _ (lanes : List Lane) (hub hub-new : HubSeen) (actor : Actor) (l m : Lane) (lt : actor.lane.0 < length lanes)
     (found : l ≡ get_or lanes actor.lane.0 l) where
@@ -98,11 +108,20 @@ module _ (lanes : List Lane) (hub hub-new : HubSeen) (actor : Actor) (l m : Lane
       length hub-new.history ≡ length hub.history + (if is_held t then 1 else 0)
   took-holds t turn = (made t turn).holds
 
+  -- and adds what it adds to the history
+  pub took-history : (t : told.Turn) → IsTurned (door hub) (ideal l).id (lane_step (ideal l) actor.side)
+      (record { lane = ideal m; turn = answered t }) (is_held t) (door hub-new) →
+      hub-new.history ≡ hub.history ++ step_holds (world_of lanes hub) actor
+  took-history t turn =
+      made-holds (ideal l).id hub hub-new (lane_step (ideal l) actor.side)
+      (record { lane = ideal m; turn = answered t }) (is_held t) turn
+      ∙ sym (ap (λ o. hub.history ++ holds_at (world_of lanes hub) actor o) there)
+
   pub took-opening : (t : told.Turn) → IsTurned (door hub) (ideal l).id (lane_step (ideal l) actor.side)
       (record { lane = ideal m; turn = answered t }) (is_held t) (door hub-new) → hub-new.opening ≡ hub.opening
   took-opening t turn = (made t turn).opening
 
-  -- where memory ran out it leaves the world as it was
+  -- out of memory it leaves the world as it was
   pub took-none : ideal m ≡ ideal l → IsUndone (door hub) (door hub-new) →
       world_of (slice_set lanes actor.lane.0 m) hub-new ≡ world_of lanes hub
   took-none same undone = λ j. record {

@@ -1,24 +1,27 @@
 -- What a turn at the hub, which serves every driver, makes of the world.
 use Rattle.std.proofs.Common.{◌≡◌, inl, inr, ℕ, ◌+◌, Bool, true, false, List, [], ◌∷◌, ◌++◌, length, All, refl}
-use Rattle.std.proofs.Common.{sym}
+use Rattle.std.proofs.Common.{sym, subst}
 use Rattle.std.proofs.Common.{ap, ◌∙◌, if◌then◌else◌, arith, length-append}
 use Rattle.std.proofs.lemmas.Bool.{false≢true}
 use Rattle.std.proofs.lemmas.List.{append-nil}
 use Rattle.std.proofs.lemmas.List.Elements.{All-head}
 use Rattle.busdma_machine.specs.declared.bounce.hold.HoldEntry.{HoldEntry}
+use Rattle.busdma_machine.specs.declared.bounce.hold.HubCall.{HubCall}
 use Rattle.busdma_machine.specs.declared.bounce.hold.HubCall.TheVariants.{TakeCallback}
+use Rattle.busdma_machine.specs.declared.bounce.hold.HubReply.{HubReply}
 use Rattle.busdma_machine.specs.declared.bounce.hold.HubReply.TheVariants.{Nothing}
 use Rattle.busdma_machine.specs.Bounce.Account.{Account}
 use Rattle.busdma_machine.specs.Bounce.AccountStep.{Outcome, account_step}
-use Rattle.busdma_machine.specs.Bounce.Door.{Seen, Passes, account}
-use Rattle.busdma_machine.specs.Bounce.History.{account_of, is_kept}
-use Rattle.busdma_machine.proofs.Accounts.LaneEntries.{account_of-append}
+use Rattle.busdma_machine.specs.Bounce.Door.{Seen, Holds, Passes, account}
+use Rattle.busdma_machine.specs.Bounce.History.{IsSound, account_of, is_kept}
+use Rattle.busdma_machine.proofs.Accounts.LaneEntries.{account_of-append, sound-rest}
 use Rattle.bounce_hub.specs.Seen.{HubSeen, door}
 use Rattle.ideal_lane.specs.Asking.{Asking, Gives, Asks}
 use Rattle.ideal_lane.specs.State.{LaneState}
 use Rattle.ideal_lane.specs.Turns.{Turned}
 use Rattle.lane_core.specs.Doing.{IsUndone}
 use Rattle.lane_core.specs.Turning.{IsTurned}
+use Rattle.ideal_world.specs.Holds.{hold_of, holds_by}
 use Rattle.ideal_world.specs.World.{WorldState, WorldTurned, replied, turned}
 use Rattle.ideal_world.proofs.Reached.{unkept}
 
@@ -124,7 +127,51 @@ module _ (lanes : List LaneState) (i : ℕ) (l : LaneState) (h k : HubSeen) wher
             ∙ ap (λ a. let q : Outcome = account_step l.id c a in turned world i q.account (f q.reply)) same;
       }
 
--- where memory ran out the account and the opening stay
+-- a hold is kept in the history
+holds-kept : (lane : ℕ) (d e : Seen) (c : HubCall) (r : HubReply) → Holds d lane c r e → is_kept c r ≡ true
+holds-kept lane d e c r h =
+    let b = h.between in
+    let own : List HoldEntry = record { lane = record { 0 = lane }; call = c; reply = r } ∷ [] in
+    let sound : IsSound b.opening (b.history ++ own) =
+    subst (λ (x : Account × List HoldEntry). IsSound x.0 x.1) (λ i. (h.opening i, h.history i)) h.sound in
+    (sound-rest b.opening b.history own sound).0.kept
+
+kept-hold : (lane : ℕ) (c : HubCall) (r : HubReply) → is_kept c r ≡ true →
+    record { lane = record { 0 = lane }; call = c; reply = r } ∷ [] ≡ hold_of lane c r
+kept-hold lane c r kept = rw kept refl
+
+unkept-hold : (lane : ℕ) (c : HubCall) (r : HubReply) → is_kept c r ≡ false → [] ≡ hold_of lane c r
+unkept-hold lane c r unkept = rw unkept refl
+
+-- the history that a turn leaves has one entry more where the account's reply to the turn's call is kept
+pub made-holds : (lane : ℕ) (h k : HubSeen) (step : Asking Turned) (x : Turned) (held : Bool) →
+    IsTurned (door h) lane step x held (door k) → k.history ≡ h.history ++ holds_by lane step (hub_account h)
+made-holds lane h k (Gives t) x held turn = ap (λ (d : Seen). d.history) turn.2 ∙ sym (append-nil h.history)
+made-holds lane h k (Asks c f) x held (inl (is, called)) =
+    let holds = called.holds in
+    let b = holds.between in
+    let reply : called.reply ≡ (account_step lane c (hub_account h)).reply =
+    holds.reply ∙ ap (λ a. (account_step lane c a).reply) (passes-account h holds.others b holds.passes) in
+    let kept : is_kept c called.reply ≡ true = holds-kept lane (door h) (door k) c called.reply holds in
+    holds.history
+    ∙ (λ j. passes-history h holds.others b holds.passes j ++ kept-hold lane c called.reply kept j)
+    ∙ ap (λ r. h.history ++ hold_of lane c r) reply
+made-holds lane h k (Asks c f) x held (inr (is, missed)) =
+    let misses = missed.misses in
+    let same : hub_account k ≡ hub_account h = passes-account h misses.others (door k) misses.passes in
+    let reply : (account_step lane c (hub_account h)).reply ≡ Nothing =
+    ap (λ a. (account_step lane c a).reply) (sym same)
+    ∙ ap (λ y. (account_step lane y (hub_account k)).reply) missed.callback ∙ misses.reply in
+    let unkept : is_kept c (account_step lane c (hub_account h)).reply ≡ false =
+    (λ j. is_kept (missed.callback j) (reply j)) in
+    passes-history h misses.others (door k) misses.passes ∙ sym (append-nil h.history)
+    ∙ ap (λ es. h.history ++ es) (unkept-hold lane c (account_step lane c (hub_account h)).reply unkept)
+
+-- out of memory, the history, the account and the opening stay
+pub undone-history : (h k : HubSeen) → IsUndone (door h) (door k) → k.history ≡ h.history
+undone-history h k (inl same) = ap (λ (d : Seen). d.history) same
+undone-history h k (inr fails) = passes-history h fails.others (door k) fails.passes
+
 pub undone-account : (h k : HubSeen) → IsUndone (door h) (door k) → hub_account k ≡ hub_account h
 undone-account h k (inl same) = ap account same
 undone-account h k (inr fails) = passes-account h fails.others (door k) fails.passes

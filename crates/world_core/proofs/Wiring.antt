@@ -1,5 +1,5 @@
 -- The bytes that all drivers really hold after a turn: those of the actor's driver follow it, and the others stay.
-use Rattle.std.proofs.Common.{◌≡◌, ◌≢◌, ℕ, zero, suc, ◌<◌, List, [], ◌∷◌, length, get_or, map, Option, Some}
+use Rattle.std.proofs.Common.{◌≡◌, ◌≢◌, ℕ, zero, suc, ◌<◌, ◌≤◌, List, [], ◌∷◌, length, get_or, map, Option, Some, None}
 use Rattle.std.proofs.Common.{refl, sym, ap, ◌∙◌, subst, arith, slice_get, slice_set, ◌⊎◌, inl, inr}
 use Rattle.std.proofs.lemmas.Bool.{cases_order}
 use Rattle.std.proofs.lemmas.List.{map-set}
@@ -12,16 +12,12 @@ use Rattle.lane_core.specs.LaneIdeal.{ideal, wire}
 use Rattle.ideal_lane.specs.State.{LaneState}
 use Rattle.ideal_lane.specs.Turns.{Turn}
 use Rattle.ideal_wire.specs.WireStep.{Follows, lane_step}
-use Rattle.ideal_world.specs.Wires.{Wires, WiresFollow}
+use Rattle.ideal_world.specs.Wires.{WiresFollow}
 use Rattle.ideal_world.specs.World.{WorldTurned, step}
 use Rattle.ideal_world.proofs.Lanes.{set-here, within}
 use Rattle.world_core.specs.Kept.{world_of}
-use Rattle.world_core.specs.Wires.{WiresStay, wire_in}
-use Rattle.world_core.proofs.Taking.{lane_found}
-
--- the wires of lanes
-abbrev pub wires-in : List Lane → Wires
-wires-in lanes = λ i. wire_in (slice_get lanes i)
+use Rattle.world_core.specs.Wires.{WiresStay, wire_in, wires_in}
+use Rattle.world_core.proofs.Taking.{lane_found, no-driver}
 
 lane-here : (lanes : List Lane) (k : ℕ) (m : Lane) → k < length lanes → slice_get (slice_set lanes k m) k ≡ Some m
 lane-here [] k m lt = absurd (omega (arith, lt))
@@ -46,15 +42,25 @@ follows-same l w = record {
   known = λ a v none is. absurd (cc);
 }
 
+-- an actor that has no driver leaves the bytes of all
+pub no-wires : (lanes : List Lane) (hub : HubSeen) (actor : Actor) → length lanes ≤ actor.lane.0 →
+    WiresFollow (world_of lanes hub) actor (wires_in lanes) (wires_in lanes)
+no-wires lanes hub actor past =
+    let none : slice_get (map ideal lanes) actor.lane.0 ≡ None = no-driver lanes actor.lane.0 past in
+    record {
+      own = λ a b ha hb. absurd (cc (none, ha));
+      others = λ j off. refl;
+    }
+
 module _ (lanes : List Lane) (hub hub-new : HubSeen) (actor : Actor) (l m : Lane) (lt : actor.lane.0 < length lanes)
     (found : l ≡ get_or lanes actor.lane.0 l) where
   abbrev k : ℕ
   k = actor.lane.0
 
-  before-here : wires-in lanes k ≡ wire l
+  before-here : wires_in lanes k ≡ wire l
   before-here = ap wire_in (slice_get_read lanes (length lanes) k l refl lt found)
 
-  after-here : wires-in (slice_set lanes k m) k ≡ wire m
+  after-here : wires_in (slice_set lanes k m) k ≡ wire m
   after-here = ap wire_in (lane-here lanes k m lt)
 
   there : slice_get (map ideal lanes) k ≡ Some (ideal l)
@@ -64,7 +70,7 @@ module _ (lanes : List Lane) (hub hub-new : HubSeen) (actor : Actor) (l m : Lane
       record { world = world_of (slice_set lanes actor.lane.0 m) hub-new; turn = t } ≡ step (world_of lanes hub) actor
       →
       Follows (ideal l) (ideal m) (lane_step (ideal l) actor.side (wire l)) (wire m) →
-      WiresFollow (world_of lanes hub) actor (wires-in lanes) (wires-in (slice_set lanes actor.lane.0 m))
+      WiresFollow (world_of lanes hub) actor (wires_in lanes) (wires_in (slice_set lanes actor.lane.0 m))
   wires-follow t done follows = record {
     own = λ a b ha hb.
         (let first : ideal l ≡ a = one-some (slice_get (map ideal lanes) k) (ideal l) a there ha in
@@ -74,35 +80,35 @@ module _ (lanes : List Lane) (hub hub-new : HubSeen) (actor : Actor) (l m : Lane
         ∙ set-here (map ideal lanes) k (ideal m) (within (map ideal lanes) k (ideal l) there) in
         let last : ideal m ≡ b =
         one-some (slice_get (step (world_of lanes hub) actor).world.lanes k) (ideal m) b now hb in
-        subst (λ x. Follows a b (lane_step a actor.side x) (wires-in (slice_set lanes k m) k)) (sym before-here)
+        subst (λ x. Follows a b (lane_step a actor.side x) (wires_in (slice_set lanes k m) k)) (sym before-here)
         (subst (λ x. Follows a b (lane_step a actor.side (wire l)) x) (sym after-here)
         (subst (λ x. Follows a x (lane_step a actor.side (wire l)) (wire m)) last
         (subst (λ x. Follows x (ideal m) (lane_step x actor.side (wire l)) (wire m)) first follows))));
     others = λ j off. ap wire_in (lane-other lanes k j m off);
   }
 
-  -- memory ran out
+  -- out of memory
   pub wires-stay : Follows (ideal l) (ideal m) (wire l) (wire m) → ideal m ≡ ideal l →
-      WiresStay (world_of lanes hub) (wires-in lanes) (wires-in (slice_set lanes actor.lane.0 m))
+      WiresStay (world_of lanes hub) (wires_in lanes) (wires_in (slice_set lanes actor.lane.0 m))
   wires-stay follows same j a ha = by (cases_order j k)
     where
-      other : j ≢ k → Follows a a (wires-in lanes j) (wires-in (slice_set lanes k m) j)
+      other : j ≢ k → Follows a a (wires_in lanes j) (wires_in (slice_set lanes k m) j)
       other off =
-          subst (Follows a a (wires-in lanes j)) (sym (ap wire_in (lane-other lanes k j m off)))
-          (follows-same a (wires-in lanes j))
+          subst (Follows a a (wires_in lanes j)) (sym (ap wire_in (lane-other lanes k j m off)))
+          (follows-same a (wires_in lanes j))
 
-      here : j ≡ k → Follows a a (wires-in lanes j) (wires-in (slice_set lanes k m) j)
+      here : j ≡ k → Follows a a (wires_in lanes j) (wires_in (slice_set lanes k m) j)
       here e =
           let first : ideal l ≡ a =
           one-some (slice_get (map ideal lanes) k) (ideal l) a there (ap (slice_get (map ideal lanes)) (sym e) ∙ ha) in
-          subst (λ n. Follows a a (wires-in lanes n) (wires-in (slice_set lanes k m) n)) (sym e)
-          (subst (λ x. Follows a a x (wires-in (slice_set lanes k m) k)) (sym before-here)
+          subst (λ n. Follows a a (wires_in lanes n) (wires_in (slice_set lanes k m) n)) (sym e)
+          (subst (λ x. Follows a a x (wires_in (slice_set lanes k m) k)) (sym before-here)
           (subst (λ x. Follows a a (wire l) x) (sym after-here)
           (subst (λ x. Follows x x (wire l) (wire m)) first
           (subst (λ x. Follows (ideal l) x (wire l) (wire m)) same follows))))
 
       by : (j ≡ k) ⊎ ((j < k) ⊎ (k < j)) →
-          Follows a a (wires-in lanes j) (wires-in (slice_set lanes actor.lane.0 m) j)
+          Follows a a (wires_in lanes j) (wires_in (slice_set lanes actor.lane.0 m) j)
       by (inl e) = here e
       by (inr (inl low)) = other (λ e. absurd (omega (arith, low, e)))
       by (inr (inr high)) = other (λ e. absurd (omega (arith, high, e)))

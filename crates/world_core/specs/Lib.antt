@@ -1,3 +1,4 @@
 pub mod Ideal
 pub mod Kept
+pub mod Wanting
 pub mod Wires

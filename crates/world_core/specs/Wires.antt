@@ -1,5 +1,5 @@
 -- The bytes that the drivers of a world of the program really hold.
-use Rattle.std.specs.Prelude.{Option, Some, None, slice_get}
+use Rattle.std.specs.Prelude.{List, Option, Some, None, slice_get}
 use Rattle.busdma_machine.specs.Machine.Wire.{Wire}
 use Rattle.lane_core.specs.declared.lane.Lane.{Lane}
 use Rattle.lane_core.specs.LaneIdeal.{wire}
@@ -13,9 +13,13 @@ abbrev pub wire_in : Option Lane → Wire
 wire_in None = λ a. 0
 wire_in (Some l) = wire l
 
+-- those of each lane, by its place
+abbrev pub wires_in : List Lane → Wires
+wires_in lanes = λ i. wire_in (slice_get lanes i)
+
 -- those of each driver, by its number
 abbrev pub wires_of : World → Wires
-wires_of w = λ i. wire_in (slice_get w.lanes.items i)
+wires_of w = wires_in w.lanes.items
 
 -- each driver's bytes stay where they are its own, and in the pages that its maps have
 abbrev pub WiresStay : WorldState → Wires → Wires → Type 0

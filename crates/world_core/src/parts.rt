@@ -5,8 +5,9 @@ ghost use Rattle.bounce_hub.specs.Seen.{door};
 ghost use Rattle.lane_core.specs.declared.lane.Lane.{Lane};
 ghost use Rattle.lane_core.specs.LaneIdeal.{ideal};
 ghost use Rattle.lane_core.specs.Turning.{IsServed};
-ghost use Rattle.world_core.specs.Ideal.{ideal_world};
+ghost use Rattle.world_core.specs.Ideal.{holds, ideal_world};
 ghost use Rattle.world_core.specs.Kept.{IsKept, world_of};
+ghost use Rattle.world_core.specs.Wires.{wires_in, wires_of};
 
 use crate::steps::hub_is_sound;
 use crate::world::World;
@@ -16,10 +17,12 @@ use lane_core::Lane;
 
 impl<'s> World<'s> {
     /// The world of drivers of a scenario, in the order of their numbers, and of the hub that they
-    /// share. Takes no memory.
+    /// share. The bytes of each driver stay. Takes no memory.
     pub fn from_parts(scenario: &'s Scenario, lanes: Vec<Lane<'s>>, hub: Hub) -> World<'s>
         requires { IsKept scenario.now lanes.items hub }
-        ensures { ideal_world result ≡ world_of lanes.entry.items hub }
+        ensures world { ideal_world result ≡ world_of lanes.entry.items hub }
+        ensures wires { wires_of result ≡ wires_in lanes.entry.items }
+        ensures holds { holds result ≡ hub.history }
     {
         World {
             scenario,
@@ -29,8 +32,11 @@ impl<'s> World<'s> {
     }
 
     /// The drivers, in the order of their numbers, and the hub that they share, which serves each of them.
+    /// The bytes of each driver stay.
     pub fn into_parts(self) -> (Vec<Lane<'s>>, Hub)
         ensures world { world_of result.0.items result.1 ≡ ideal_world self.entry }
+        ensures wires { wires_in result.0.items ≡ wires_of self.entry }
+        ensures holds { result.1.history ≡ holds self.entry }
         ensures served { (i : ℕ) (lane : Lane) → slice_get result.0.items i ≡ Some lane →
             IsServed (ideal lane) (door result.1) }
         ensures numbered { (i : ℕ) (lane : Lane) → slice_get result.0.items i ≡ Some lane → (ideal lane).id ≡ i }

@@ -1,12 +1,14 @@
 //! The turns of actors.
 
-ghost use Rattle.std.specs.Prelude.{◌≡◌, ◌+◌, IfOk, OnErr, OnOk, None, true, if◌then◌else◌, length};
+ghost use Rattle.std.specs.Prelude.{◌≡◌, ◌+◌, ◌++◌, IfOk, OnErr, OnOk, None, true, if◌then◌else◌, length};
 ghost use Rattle.busdma_base.specs.declared.journals.journal.Side.TheVariants as side;
 ghost use Rattle.busdma_machine.specs.Bounce.History.{IsOpening, IsSound};
 ghost use Rattle.lane_core.specs.Turning.{answered, is_held};
+ghost use Rattle.ideal_world.specs.Holds.{step_holds};
 ghost use Rattle.ideal_world.specs.Wires.{WiresFollow};
 ghost use Rattle.ideal_world.specs.World.{step, step_entry};
 ghost use Rattle.world_core.specs.Ideal.{holds, ideal_world};
+ghost use Rattle.world_core.specs.Wanting.{MayWant};
 ghost use Rattle.world_core.specs.Wires.{WiresStay, wires_of};
 
 use crate::world::World;
@@ -18,18 +20,23 @@ use std::alloc::{AllocError, Global};
 impl World<'_> {
     /// An actor's turn, which is its driver's: a step with its entry, Blocked, or Ended; an actor
     /// that has no driver is Blocked. A step tells whether it made a call under the bounce lock that
-    /// is kept in the hub's history. The bytes of the actor's driver are those of the step, but for pages
-    /// and frames of memories that came and went, and those of the others stay. Running out of memory leaves the
-    /// ideal world as it was, and the bytes of each driver's own frames and of its maps' pages.
+    /// is kept in the hub's history, which then has one entry more. The bytes of the actor's driver are those
+    /// of the step, but for pages and frames of memories that came and went, and those of the others stay.
+    /// Where memory runs out, the ideal world and the hub's history stay as they were, and so do the bytes of
+    /// each driver's own frames and of its maps' pages. It runs out neither for a callback nor for a script
+    /// while a page is on its way back.
     pub fn step(&mut self, alloc: Global, actor: Actor) -> Result<Turn, AllocError>
         ensures done { IfOk result (λ turn.
             record { world = ideal_world self.new; turn = answered turn } ≡ step (ideal_world self.old) actor) }
         ensures held { IfOk result (λ turn.
             length (holds self.new) ≡ length (holds self.old) + (if is_held turn then 1 else 0)) }
+        ensures history { OnOk result (holds self.new ≡ holds self.old ++ step_holds (ideal_world self.old) actor) }
         ensures wires { OnOk result
             (WiresFollow (ideal_world self.old) actor (wires_of self.old) (wires_of self.new)) }
         ensures err { OnErr result (ideal_world self.new ≡ ideal_world self.old) }
+        ensures err_history { OnErr result (holds self.new ≡ holds self.old) }
         ensures err_wires { OnErr result (WiresStay (ideal_world self.old) (wires_of self.old) (wires_of self.new)) }
+        ensures wanting { OnErr result (MayWant (ideal_world self.old) actor) }
     {
         let at = actor.lane.0 as usize;
         if at >= self.lanes.len() {

@@ -25,5 +25,5 @@ returns c =
     let entries : List JournalEntry = c.in_ok-entries.entries.items in
     let is : entries ≡ merged c.args.hub.history logs =
     c.in_ok-entries.ensures ∙ ap (λ hs. merged hs logs) c.history.ensures.items in
-    subst (λ w. IsRun s (record { world = w; entries = entries })) (sym c.from_parts.ensures)
+    subst (λ w. IsRun s (record { world = w; entries = entries })) (sym c.from_parts.ensures.world)
     (merged-run s lanes logs c.args.hub entries c.requires.valid c.requires.ran is)

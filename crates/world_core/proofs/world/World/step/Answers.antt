@@ -1,11 +1,11 @@
 use Rattle.std.proofs.Common.{◌<◌, length, arith, slice_set}
 use Rattle.std.proofs.lemmas.Result.{IfOk-weaker}
+use Rattle.lane_core.specs.LaneIdeal.{ideal}
 use Rattle.lane_core.specs.Turning.{answered}
-use Rattle.world_core.proofs.Taking.{at_either, lane_found, ok_both, on_both, serves, stay-kept, took, took-holds}
-use Rattle.world_core.proofs.Taking.{took-none}
-use Rattle.world_core.proofs.Taking.{took-opening, turn-kept}
-use Rattle.world_core.proofs.Turning.{undone-opening}
-use Rattle.world_core.proofs.Wiring.{wires-follow, wires-stay}
+use Rattle.world_core.proofs.Taking.{at_either, lane_found, no-holds, ok_both, on_both, serves, stay-kept, took}
+use Rattle.world_core.proofs.Taking.{took-history, took-holds, took-none, took-opening, turn-kept}
+use Rattle.world_core.proofs.Turning.{undone-history, undone-opening}
+use Rattle.world_core.proofs.Wiring.{no-wires, wires-follow, wires-stay}
 use Rattle.world_core.proofs.world.World.step.Goals as goal
 
 pub turn-requires : goal.turn-requires
@@ -86,3 +86,37 @@ returns-clause-err_wires c =
     on_both c.turn.result _ _ _ c.turn.ensures.err_wire c.turn.ensures.err
     (wires-stay w.lanes.items w.hub c.turn.new.door c.args.actor c.index_mut.result.now c.turn.new.self lt
     c.index_mut.ensures.value)
+
+pub returns-clause-history : goal.returns-clause-history
+returns-clause-history c =
+    let w = c.args.self.now in
+    let lt : c.args.actor.lane.0 < length w.lanes.items =
+    omega (arith, c.if-at-len.false, c.len.ensures, w.lanes.ok.0) in
+    ok_both c.turn.result _ _ _ c.turn.ensures.done c.turn.ensures.wire
+    (λ t done follows. took-history w.lanes.items w.hub c.turn.new.door c.args.actor c.index_mut.result.now
+    c.turn.new.self lt c.index_mut.ensures.value t done)
+
+pub returns-clause-err_history : goal.returns-clause-err_history
+returns-clause-err_history c =
+    on_both c.turn.result _ _ _ c.turn.ensures.err c.turn.ensures.undone
+    (λ same undone. undone-history c.args.self.now.hub c.turn.new.door undone)
+
+pub returns-clause-wanting : goal.returns-clause-wanting
+returns-clause-wanting c =
+    let w = c.args.self.now in
+    let lt : c.args.actor.lane.0 < length w.lanes.items =
+    omega (arith, c.if-at-len.false, c.len.ensures, w.lanes.ok.0) in
+    let l = c.index_mut.result.now in
+    on_both c.turn.result _ _ _ c.turn.ensures.wanting c.turn.ensures.err
+    (λ may same. (ideal l, lane_found w.lanes.items c.args.actor.lane.0 l lt c.index_mut.ensures.value, may))
+
+-- an actor that has no driver
+pub returns-then-at-len-clause-history : goal.returns-then-at-len-clause-history
+returns-then-at-len-clause-history c =
+    let w = c.args.self.now in
+    no-holds w.lanes.items w.hub c.args.actor (omega (arith, c.if-at-len.true, c.len.ensures, w.lanes.ok.0))
+
+pub returns-then-at-len-clause-wires : goal.returns-then-at-len-clause-wires
+returns-then-at-len-clause-wires c =
+    let w = c.args.self.now in
+    no-wires w.lanes.items w.hub c.args.actor (omega (arith, c.if-at-len.true, c.len.ensures, w.lanes.ok.0))
