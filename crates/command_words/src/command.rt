@@ -59,8 +59,8 @@ fn has_flag(words: &[String]) -> bool
     words.iter().any(|word| is_flag(word))
 }
 
-/// The command that the words ask for, or None where they ask for none. The only error is want of
-/// memory.
+/// The command that the words ask for, or None where they ask for none. The only error is that memory
+/// ran out.
 pub fn command_of(alloc: Global, words: &[String]) -> Result<Option<Command>, AllocError>
     ensures { IfOk result (λ c. c ≡ spec.command (map string_bytes words.now)) }
 {
