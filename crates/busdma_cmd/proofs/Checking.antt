@@ -24,7 +24,7 @@ use Rattle.busdma_cmd.specs.Judging.{bad_header, judged, scenario_behind_header}
 use Rattle.busdma_cmd.specs.Outcome.{Done, IsComplete, IsDone, Keeps, KeepsJournal, Unwritten}
 use Rattle.busdma_cmd.specs.Runs.{IsReader}
 use Rattle.busdma_cmd.proofs.Endings.{done_answers, done_of_reading, long_keeps, no_memory_keeps, none_is_some, not_done, other_of_reading, refused_keeps, unread_keeps, unwritten_answers}
-use Rattle.busdma_cmd.proofs.Taking.{Asks, all_at_most, if_command, not_gave_too_many, of_command, some_command}
+use Rattle.busdma_cmd.proofs.Taking.{AsksFor, all_at_most, if_command, not_gave_too_many, of_command, some_command}
 
 -- ---- what an input is judged to be
 
@@ -61,12 +61,12 @@ has_journal (Yes j) = (λ _. refl, λ _. refl)
 has_journal (No n) = (λ is. absurd (none_is_some is), λ is. absurd (omega arith))
 
 -- what holds of the command that the words ask for
-of_asked : (words : List (List ℕ)) (n : ℕ) → Asks words Check → IsSomeAnd (command words) (λ c. KeepsJournal c n) → n ≡ 0
+of_asked : (words : List (List ℕ)) (n : ℕ) → AsksFor words Check → IsSomeAnd (command words) (λ c. KeepsJournal c n) → n ≡ 0
 of_asked words n asked keeps = subst (λ o. IsSomeAnd o (λ c. KeepsJournal c n)) asked keeps
 
 -- ---- each ending
 
-verdict_keeps : (words : List (List ℕ)) (e : Edges) (v : Verdict) → Asks words Check → NoReadFailed e → NoWriteFailed e
+verdict_keeps : (words : List (List ℕ)) (e : Edges) (v : Verdict) → AsksFor words Check → NoReadFailed e → NoWriteFailed e
     → Checked e v → WroteAll (verdict_line v) e → Keeps words e (checked_outcome (Ok v))
 verdict_keeps words e v asked well_read well_written checked wrote =
     let o : Outcome = checked_outcome (Ok v) in
@@ -98,7 +98,7 @@ verdict_keeps words e v asked well_read well_written checked wrote =
           (good_of checked.bytes v checked.judged) (is_done v));
     }
 
-line_unwritten_keeps : (words : List (List ℕ)) (e : Edges) (v : Verdict) → Asks words Check → NoReadFailed e
+line_unwritten_keeps : (words : List (List ℕ)) (e : Edges) (v : Verdict) → AsksFor words Check → NoReadFailed e
     → WriteFailed e → Checked e v → WrotePart (verdict_line v) e
     → Keeps words e (checked_outcome (Err cause.LineUnwritten))
 line_unwritten_keeps words e v asked well_read failed checked wrote =
@@ -132,7 +132,7 @@ line_unwritten_keeps words e v asked well_read failed checked wrote =
     }
 
 -- what a check keeps, however it ends
-pub check_keeps : (words : List (List ℕ)) (e : Edges) (ran : Result Verdict Cause) → Asks words Check → ChecksBy e ran
+pub check_keeps : (words : List (List ℕ)) (e : Edges) (ran : Result Verdict Cause) → AsksFor words Check → ChecksBy e ran
     → CountsReads e.read_faults e.read_faults_after ran → Keeps words e (checked_outcome ran)
 check_keeps words e (Ok v) asked ends read = verdict_keeps words e v asked read ends.0 ends.1 ends.2
 check_keeps words e (Err cause.LineUnwritten) asked ends read =

@@ -24,7 +24,7 @@ use Rattle.busdma_cmd.specs.Ends.{OfInput, CountsReads, Makes, Stops, StopsReadi
 use Rattle.busdma_cmd.specs.Judging.{judged}
 use Rattle.busdma_cmd.specs.Outcome.{IsDone, IsOfReading, HasWritten, KeepsJournal, Ran, RanAndWrote, RanUnwritten, Done, Unwritten, WasRefused, AnswersInput, AnswersReading, IsComplete, Keeps}
 use Rattle.busdma_cmd.specs.Runs.{IsRead, IsReader, Runs}
-use Rattle.busdma_cmd.proofs.Taking.{Asks, all_at_most, if_command, is_long, not_gave_too_many, not_long, not_too_many, nothing_at_most, of_command, one_more_at_most, runs_few, runs_read, runs_unread, same_judged, some_command}
+use Rattle.busdma_cmd.proofs.Taking.{AsksFor, all_at_most, if_command, is_long, not_gave_too_many, not_long, not_too_many, nothing_at_most, of_command, one_more_at_most, runs_few, runs_read, runs_unread, same_judged, some_command}
 
 -- ---- the fields
 
@@ -126,7 +126,7 @@ journal_run Run e scenario n runs written = written
 journal_run (Storm rounds seed) e scenario n runs written = written
 journal_run Check e scenario n runs written = absurd runs
 
-done_keeps : (words : List (List ℕ)) (c : Command) (e : Edges) (j : Journal) → Asks words c
+done_keeps : (words : List (List ℕ)) (c : Command) (e : Edges) (j : Journal) → AsksFor words c
     → NoReadFailed e → NoWriteFailed e → Makes c e j WroteAll → Keeps words e (outcome (Ok j))
 done_keeps words c e j asked well_read well_written ends =
     let done : IsDone (status j) = status_is_done j in
@@ -185,7 +185,7 @@ unwritten_complete Run e j scenario runs failed =
 unwritten_complete (Storm n seed) e j scenario runs failed = λ unwritten. absurd (unwritten failed)
 unwritten_complete Check e j scenario runs failed = absurd runs
 
-unwritten_keeps : (words : List (List ℕ)) (c : Command) (e : Edges) (j : Journal) → Asks words c
+unwritten_keeps : (words : List (List ℕ)) (c : Command) (e : Edges) (j : Journal) → AsksFor words c
     → NoReadFailed e → WriteFailed e → Makes c e j WrotePart
     → Keeps words e (outcome (Err (cause.WriteFailed j)))
 unwritten_keeps words c e j asked well_read failed ends =
@@ -232,7 +232,7 @@ reader_complete Run e o reader answers = answers
 reader_complete (Storm n seed) e o reader answers = absurd reader
 reader_complete Check e o reader answers = answers
 
-pub refused_keeps : (words : List (List ℕ)) (c : Command) (e : Edges) (r : Refusal) → Asks words c → IsReader c
+pub refused_keeps : (words : List (List ℕ)) (c : Command) (e : Edges) (r : Refusal) → AsksFor words c → IsReader c
     → NoReadFailed e → OfInput e.left e.left_after (λ bytes. judged c bytes ≡ Bad r)
     → WroteNothing e → Keeps words e (outcome (Err (cause.Refused r)))
 refused_keeps words c e r asked reader well_read ends nothing =
@@ -271,7 +271,7 @@ refused_keeps words c e r asked reader well_read ends nothing =
           }));
     }
 
-pub long_keeps : (words : List (List ℕ)) (c : Command) (e : Edges) → Asks words c → IsReader c → NoReadFailed e
+pub long_keeps : (words : List (List ℕ)) (c : Command) (e : Edges) → AsksFor words c → IsReader c → NoReadFailed e
     → ReadTooMany e → WroteNothing e → Keeps words e (outcome (Err cause.TooLong))
 long_keeps words c e asked reader well_read takes nothing =
     let long : (input : List ℕ) → e.left ≡ Some input → input_limit < length input =
@@ -305,7 +305,7 @@ long_keeps words c e asked reader well_read takes nothing =
           }));
     }
 
-pub unread_keeps : (words : List (List ℕ)) (c : Command) (e : Edges) → Asks words c → IsReader c → ReadFailed e
+pub unread_keeps : (words : List (List ℕ)) (c : Command) (e : Edges) → AsksFor words c → IsReader c → ReadFailed e
     → TakesAtMost input_limit e.left e.left_after → WroteNothing e
     → Keeps words e (outcome (Err cause.ReadFailed))
 unread_keeps words c e asked reader failed most nothing = record {
@@ -401,7 +401,7 @@ reading_stopped Check e why reader stops = stops
 
 -- what a command that reads keeps, however it ends
 pub reader_keeps : (words : List (List ℕ)) (c : Command) (e : Edges) (ran : Result Journal Cause)
-    → Asks words c → IsReader c → EndsBy c e ran
+    → AsksFor words c → IsReader c → EndsBy c e ran
     → CountsReads e.read_faults e.read_faults_after ran → Keeps words e (outcome ran)
 reader_keeps words c e (Ok j) asked reader ends read = done_keeps words c e j asked read ends.0 ends.1
 reader_keeps words c e (Err (cause.WriteFailed j)) asked reader ends read =
@@ -420,7 +420,7 @@ reader_keeps words c e (Err cause.ReadFailed) asked reader ends read =
 
 -- what a storm keeps
 pub storm_keeps : (words : List (List ℕ)) (n seed : ℕ) (e : Edges) (ran : Result Journal Cause)
-    → Asks words (Storm n seed) → EndsBy (Storm n seed) e ran → Keeps words e (outcome ran)
+    → AsksFor words (Storm n seed) → EndsBy (Storm n seed) e ran → Keeps words e (outcome ran)
 storm_keeps words n seed e (Ok j) asked ends =
     done_keeps words (Storm n seed) e j asked ends.1.1.read.faults ends.0 ends.1
 storm_keeps words n seed e (Err (cause.WriteFailed j)) asked ends =

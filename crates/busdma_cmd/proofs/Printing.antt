@@ -1,16 +1,18 @@
 -- What is printed of an outcome.
-use Rattle.std.proofs.Common.{◌≡◌, ℕ, ◌==◌, ◌<◌, ◌≤◌, ◌↔◌, Bool, true, false, List, Option, Some, None, arith}
-use Rattle.std.proofs.Common.{Result, Ok, Err, inl, inr, refl, sym, subst, if◌then◌else◌, nat_le}
-use Rattle.std.specs.Prelude.{OnOk, OnErr, IsSome, codes, option_map}
+use Rattle.std.proofs.Common.{◌≡◌, ℕ, ◌+◌, ◌==◌, ◌<◌, ◌≤◌, ◌↔◌, ◌⊎◌, ◌++◌, Bool, true, false, List, Option, Some, None}
+use Rattle.std.proofs.Common.{Result, Ok, Err, inl, inr, refl, sym, ◌∙◌, subst, arith, nat_le, length, take, length-append}
+use Rattle.std.specs.Prelude.{OnOk, OnErr, IsSome}
+use Rattle.std.proofs.Math.Seq.{take-append-add}
 use Rattle.std.proofs.lemmas.Bool.Decides.{nat_tests}
+use Rattle.std.proofs.lemmas.List.{take-append-le}
 use Rattle.std.specs.Io.KnownBytes.{Appends}
 use Rattle.io_edge.specs.Faults.{Rose}
 use Rattle.io_edge.specs.Writing.{WritesPart}
+use Rattle.io_edge.proofs.Giving.{appends_both}
 use Rattle.busdma_cmd.specs.declared.outcome.Outcome.{Outcome}
 use Rattle.busdma_cmd.specs.Edges.{Edges}
-use Rattle.busdma_cmd.specs.Outcome.{IsStatus}
 use Rattle.busdma_cmd.specs.ProgramCall.{Answers}
-use Rattle.busdma_cmd.specs.Line.{Writes, Prints, PrintsLine, ended_line, line_of}
+use Rattle.busdma_cmd.specs.Line.{Prints, Writes, WritesLine, refused_line, status_line}
 
 -- a text was written as the answer of the writing says
 pub writes : {A B : Type 0} (ran : Result A B) (text : List ℕ) (before after : Option (List ℕ))
@@ -21,62 +23,64 @@ writes (Ok done) text before after faults now written well unwritten failed = in
 writes (Err why) text before after faults now written well unwritten failed =
     inr (unwritten, failed)
 
+-- a text that was written goes on with what is written after it
+pub writes_then : (first second : List ℕ) (before between after : Option (List ℕ)) (faults more now : ℕ)
+    → Appends before between first → more ≡ faults → Writes second between after more now
+    → Writes (first ++ second) before after faults now
+writes_then first second before between after faults more now written well (inl (next, still)) =
+    inl (appends_both before between after first second written next, still ∙ well)
+writes_then first second before between after faults more now written well (inr ((n, less, part), rose)) =
+    inr (
+      (
+        length first + n,
+        omega (arith, less, length-append first second),
+        subst (Appends before after) (sym (take-append-add first second n))
+            (appends_both before between after first (take n second) written part),
+      ),
+      subst (λ f. Rose f now) well rose,
+    )
+
+-- after a write that failed a front of it is one of any longer text
+pub writes_before : (first second : List ℕ) (before after : Option (List ℕ)) (faults now : ℕ)
+    → WritesPart first before after → Rose faults now → Writes (first ++ second) before after faults now
+writes_before first second before after faults now (n, less, part) rose =
+    inr (
+      (
+        n,
+        omega (arith, less, length-append first second),
+        subst (Appends before after) (sym (take-append-le n first second (omega (arith, less)))) part,
+      ),
+      rose,
+    )
+
 -- of a run that was done and written nothing is printed
 pub silent : (o : Outcome) (before : Option (List ℕ)) (faults : ℕ) → o.status ≤ 2
     → Prints o before before faults faults
 silent o before faults small =
     let done : nat_le o.status 2 ≡ true = grind (arith, nat_tests) in
-    rw done (refl, refl)
+    inl (rw done (refl, refl))
 
--- a choice of two values is a value
-some_if : {A : Type 0} (b : Bool) (x y : Option A) → (b ≡ true → IsSome x) → (b ≡ false → IsSome y)
-    → IsSome (if b then x else y)
-some_if true x y first second = first refl
-some_if false x y first second = second refl
-
-some_mapped : {A B : Type 0} (f : A → B) (x : Option A) → IsSome x → IsSome (option_map f x)
-some_mapped f (Some x) some = refl
-some_mapped f None some = absurd (cc)
-
-is_refused : (n : ℕ) → (n == 65) ≡ true → n ≡ 65
-is_refused n is = grind (arith, nat_tests)
-
-not_done : (n : ℕ) → 2 < n → nat_le n 2 ≡ true → ⊥
-not_done n more is = grind (arith, nat_tests)
-
--- every other outcome has a line
-has_line : (o : Outcome) → 2 < o.status → (o.status ≡ 65 → IsSome o.fault) → IsSome (line_of o)
-has_line o more fault =
-    some_if (nat_le o.status 2) _ _ (λ is. absurd (not_done o.status more is)) (λ _.
-    some_if (o.status == 64) _ _ (λ _. refl) (λ _.
-    some_if (o.status == 65) _ _ (λ is. some_mapped _ o.fault (fault (is_refused o.status is))) (λ _.
-    some_if (o.status == 66) _ _ (λ _. refl) (λ _.
-    some_if (o.status == 71) _ _ (λ _. refl) (λ _.
-    some_if (o.status == 73) _ _ (λ _. refl) (λ _. refl))))))
-
-instead : (line : Option (List ℕ)) (before after : Option (List ℕ)) (faults now : ℕ) → IsSome line
-    → Writes (codes "busdma_run: out of memory\n") before after faults now
-    → PrintsLine line before after faults now
-instead (Some line) before after faults now some wrote = inr wrote
-instead None before after faults now some wrote = absurd (cc)
-
--- where there was no memory for its line, that of a lack of memory is printed
-pub wants_memory : (o : Outcome) (before after : Option (List ℕ)) (faults now : ℕ) → 2 < o.status
-    → (IsSome o.fault ↔ (o.status ≡ 65))
-    → Writes (codes "busdma_run: out of memory\n") before after faults now
+-- of a refused scenario its line is printed, or that of status 71
+pub refused_prints : (o : Outcome) (before after : Option (List ℕ)) (faults now : ℕ) → o.status ≡ 65
+    → WritesLine (refused_line o.fault) before after faults now
+    ⊎ WritesLine (Some (status_line 71)) before after faults now
     → Prints o before after faults now
-wants_memory o before after faults now more fault wrote =
-    instead (ended_line o) before after faults now
-    (some_mapped _ (line_of o) (has_line o more (λ is. fault.1 is))) wrote
+refused_prints o before after faults now is (inl wrote) =
+    let more : nat_le o.status 2 ≡ false = grind (arith, nat_tests) in
+    let refused : (o.status == 65) ≡ true = grind (arith, nat_tests) in
+    inl (rw more (rw refused wrote))
+refused_prints o before after faults now is (inr wrote) = inr (is, wrote)
 
--- every outcome of a call has one of the statuses
-pub known : (words : Option (List (List ℕ))) (e : Edges) (o : Outcome) → Answers words e o
-    → IsStatus o.status
-known (Some words) e o answers = answers.known
-known None e o answers =
-    subst (λ (x : Outcome). IsStatus x.status) (sym answers.0) (inr (inr (inr (inr (inl refl)))))
+-- of every other outcome the line of its status is printed
+pub status_prints : (o : Outcome) (before after : Option (List ℕ)) (faults now : ℕ) → 2 < o.status
+    → (o.status ≡ 65 → ⊥) → WritesLine (Some (status_line o.status)) before after faults now
+    → Prints o before after faults now
+status_prints o before after faults now high other wrote =
+    let more : nat_le o.status 2 ≡ false = grind (arith, nat_tests) in
+    let plain : (o.status == 65) ≡ false = grind (arith, nat_tests) in
+    inl (rw more (rw plain wrote))
 
--- and a refusal at 65 alone
+-- an outcome of a call has a refusal at 65 alone
 pub refused_at : (words : Option (List (List ℕ))) (e : Edges) (o : Outcome) → Answers words e o
     → IsSome o.fault ↔ (o.status ≡ 65)
 refused_at (Some words) e o answers = answers.fault

@@ -107,17 +107,17 @@ storm_ran_out n seed e (Err why) is read nothing =
 -- ---- what the words ask for
 
 -- the words ask for this command
-abbrev pub Asks : List (List ℕ) → Command → Type 0
-Asks words c = command words ≡ Some c
+abbrev pub AsksFor : List (List ℕ) → Command → Type 0
+AsksFor words c = command words ≡ Some c
 
-pub some_command : (words : List (List ℕ)) (c : Command) → Asks words c → command words ≢ None
+pub some_command : (words : List (List ℕ)) (c : Command) → AsksFor words c → command words ≢ None
 some_command words c asked none = let bad : Some c ≡ None = sym asked ∙ none in absurd (cc)
 
-pub of_command : (words : List (List ℕ)) (c : Command) (P : Command → Type 0) → Asks words c → P c
+pub of_command : (words : List (List ℕ)) (c : Command) (P : Command → Type 0) → AsksFor words c → P c
     → IsSomeAnd (command words) P
 of_command words c P asked holds = subst (λ o. IsSomeAnd o P) (sym asked) holds
 
-pub if_command : (words : List (List ℕ)) (c : Command) (P : Command → Type 0) → Asks words c → P c
+pub if_command : (words : List (List ℕ)) (c : Command) (P : Command → Type 0) → AsksFor words c → P c
     → IfSome (command words) P
 if_command words c P asked holds = subst (λ o. IfSome o P) (sym asked) holds
 
@@ -179,7 +179,7 @@ runs_read (Storm n seed) e scenario runs = nothing_at_most e.left e.left_after r
 runs_read Check e scenario runs = absurd runs
 
 -- a command that does not read took nothing
-pub runs_unread : (words : List (List ℕ)) (c : Command) (e : Edges) (scenario : Scenario) → Asks words c
+pub runs_unread : (words : List (List ℕ)) (c : Command) (e : Edges) (scenario : Scenario) → AsksFor words c
     → Runs c e scenario → (IsSomeAnd (command words) IsReader → ⊥) → ReadNothing e
 runs_unread words Replay e scenario asked runs other = absurd (other (of_command words Replay IsReader asked tt))
 runs_unread words Run e scenario asked runs other = absurd (other (of_command words Run IsReader asked tt))

@@ -19,7 +19,7 @@ pub record IsRead (e : Edges) (scenario : Scenario) : Type 0 where
   pub good : scenario_of bytes ≡ Good scenario
 
 -- nothing was read, and the scenario is the storm of n rounds and this seed
-pub record IsMade (n seed : ℕ) (e : Edges) (scenario : Scenario) : Type 0 where
+pub record IsStorm (n seed : ℕ) (e : Edges) (scenario : Scenario) : Type 0 where
   pub read : ReadNothing e
   pub made : scenario ≡ storm n seed
 
@@ -27,7 +27,7 @@ pub record IsMade (n seed : ℕ) (e : Edges) (scenario : Scenario) : Type 0 wher
 abbrev pub Runs : Command → Edges → Scenario → Type 0
 Runs Replay e scenario = IsRead e scenario
 Runs Run e scenario = IsRead e scenario
-Runs (Storm n seed) e scenario = IsMade n seed e scenario
+Runs (Storm n seed) e scenario = IsStorm n seed e scenario
 Runs Check e scenario = ⊥
 
 -- the command reads its scenario, or of a check a header before it

@@ -9,28 +9,41 @@ use busdma_base::ByteList;
 use json_fields::Refusal;
 use std::alloc::{AllocError, Global};
 
+/// The line of a status that alone says what is printed, without its line feed.
+pub(crate) fn status_line(status: u8) -> &'static str
+    ensures { result.now ≡ text.status_line status }
+{
+    match status {
+        64 => "usage: busdma_run replay | run | storm N SEED | check",
+        66 => "busdma_run: input is too long",
+        71 => "busdma_run: out of memory",
+        73 => "busdma_run: write failed",
+        _ => "busdma_run: read failed",
+    }
+}
+
 /// The line that tells why a run did not go well, without its line feed; None for the statuses 0, 1
-/// and 2.
+/// and 2. The only error is that memory ran out.
 pub fn fault_line(alloc: Global, outcome: &Outcome) -> Result<Option<ByteList>, AllocError>
     requires known { IsStatus outcome.now.status }
     requires fault { IsSome outcome.now.fault ↔ (outcome.now.status ≡ 65) }
     ensures { IfOk result (λ line. line ≡ text.line_of outcome.now) }
 {
-    let line = match outcome.status {
-        0..=2 => return Ok(None),
-        64 => "usage: busdma_run replay | run | storm N SEED | check",
-        65 => return refused_line(alloc, &outcome.fault),
-        66 => "busdma_run: input is too long",
-        71 => "busdma_run: out of memory",
-        73 => "busdma_run: write failed",
-        _ => "busdma_run: read failed",
-    };
-    let line = String::from_str(alloc, line)?;
-    Ok(Some(ByteList::new(line.into_bytes())))
+    match outcome.status {
+        0..=2 => Ok(None),
+        65 => refused_line(alloc, &outcome.fault),
+        status => {
+            let line = String::from_str(alloc, status_line(status))?;
+            Ok(Some(ByteList::new(line.into_bytes())))
+        }
+    }
 }
 
 /// The line of a refused scenario.
-fn refused_line(alloc: Global, fault: &Option<Refusal>) -> Result<Option<ByteList>, AllocError>
+pub(crate) fn refused_line(
+    alloc: Global,
+    fault: &Option<Refusal>,
+) -> Result<Option<ByteList>, AllocError>
     ensures { IfOk result (λ line. line ≡ text.refused_line fault.now) }
 {
     match fault {

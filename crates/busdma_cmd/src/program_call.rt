@@ -1,16 +1,17 @@
 //! A call of the program, from its words to its status.
 
-ghost use Rattle.std.specs.Prelude.{◌≡◌, ◌↔◌, ◌++◌, IfOk, IsSome, map, option_map, string_bytes};
+ghost use Rattle.std.specs.Prelude.{◌≡◌, ◌↔◌, ◌⊎◌, IsSome, Some, map, option_map, string_bytes};
 ghost use Rattle.busdma_cmd.specs.Edges.{edges};
-ghost use Rattle.busdma_cmd.specs.Line.{Prints, ended_line};
-ghost use Rattle.busdma_cmd.specs.Outcome.{IsStatus};
+ghost use Rattle.busdma_cmd.specs.Line as text;
+ghost use Rattle.busdma_cmd.specs.Line.{Prints, WritesLine};
 ghost use Rattle.busdma_cmd.specs.ProgramCall.{Answers, KeepsCall};
 
 use crate::gate::Open;
-use crate::line::fault_line;
+use crate::line::{refused_line, status_line};
 use crate::outcome::Outcome;
 use crate::top_call::top;
 use io_edge::{Sink, Source, write_all};
+use json_fields::Refusal;
 use std::alloc::{AllocError, Global};
 use std::env;
 use std::env::Env;
@@ -20,6 +21,9 @@ use std::thread::Threads;
 
 /// The words after the program's name. Where one of them is no text, they ask for nothing, as no
 /// words do. The only error is that memory ran out.
+///
+/// It has no clause: what std reads of the environment is the machine's, and the contract of `env::args` says nothing
+/// of the words that it gives. What is done with words is the clause of [`program`].
 pub fn program_words<R: Env + AllocGlobal>(rt: &R) -> Result<Vec<String>, AllocError> {
     match env::args(rt) {
         Ok(args) => Ok(args.skip(1).collect(rt.alloc())?),
@@ -28,43 +32,43 @@ pub fn program_words<R: Env + AllocGlobal>(rt: &R) -> Result<Vec<String>, AllocE
     }
 }
 
-/// The line that tells why a run did not go well, with its line feed; None for the statuses 0, 1
-/// and 2. The only error is that memory ran out.
-fn ended_fault_line(alloc: Global, outcome: &Outcome) -> Result<Option<Vec<u8>>, AllocError>
-    requires known { IsStatus outcome.now.status }
-    requires fault { IsSome outcome.now.fault ↔ (outcome.now.status ≡ 65) }
-    ensures { IfOk result (λ line. option_map (λ l. l.items) line ≡ ended_line outcome.now) }
+/// Prints a line with its line feed. Where it cannot be printed whole, nothing tells.
+fn print_line<E: Sink>(errors: &mut E, line: &[u8])
+    ensures { WritesLine (Some line.now)
+        (E.held errors.old) (E.held errors.new) (E.faults errors.old) (E.faults errors.new) }
 {
-    match fault_line(alloc, outcome)? {
-        Some(line) => {
-            let mut line = line.into_vec();
-            line.push(b'\n')?;
-            Ok(Some(line))
-        }
-        None => Ok(None),
+    if let Ok(()) = write_all(errors, line) {
+        let _written = write_all(errors, b"\n");
     }
 }
 
-/// Prints the line that tells why a run did not go well, with its line feed, or the line of want of
-/// memory where there is no memory for it. Where it cannot be printed whole, the status alone
-/// tells.
+/// Prints the line of a refused scenario, or that of status 71 where there is no memory for it.
+fn print_refusal<E: Sink>(alloc: Global, fault: &Option<Refusal>, errors: &mut E)
+    requires { IsSome fault.now }
+    ensures { WritesLine (text.refused_line fault.now)
+        (E.held errors.old) (E.held errors.new) (E.faults errors.old) (E.faults errors.new)
+        ⊎ WritesLine (Some (text.status_line 71))
+        (E.held errors.old) (E.held errors.new) (E.faults errors.old) (E.faults errors.new) }
+{
+    match refused_line(alloc, fault) {
+        Ok(Some(line)) => print_line(errors, line.as_slice()),
+        Ok(None) => unreachable!(),
+        Err(AllocError) => print_line(errors, status_line(71).as_bytes()),
+    }
+}
+
+/// Prints the line that tells why a run did not go well, with its line feed. Where there is no memory for
+/// that of a refused scenario, it prints that of status 71; the others take none. Where the line
+/// cannot be printed whole, the status alone tells.
 fn print_fault<E: Sink>(alloc: Global, outcome: &Outcome, errors: &mut E)
-    requires known { IsStatus outcome.now.status }
-    requires fault { IsSome outcome.now.fault ↔ (outcome.now.status ≡ 65) }
+    requires { IsSome outcome.now.fault ↔ (outcome.now.status ≡ 65) }
     ensures { Prints outcome.now
         (E.held errors.old) (E.held errors.new) (E.faults errors.old) (E.faults errors.new) }
 {
-    if outcome.status <= 2 {
-        return;
-    }
-    match ended_fault_line(alloc, outcome) {
-        Ok(Some(line)) => {
-            let _written = write_all(errors, &line);
-        }
-        Ok(None) => {}
-        Err(AllocError) => {
-            let _written = write_all(errors, b"busdma_run: out of memory\n");
-        }
+    match outcome.status {
+        0..=2 => {}
+        65 => print_refusal(alloc, &outcome.fault, errors),
+        status => print_line(errors, status_line(status).as_bytes()),
     }
 }
 

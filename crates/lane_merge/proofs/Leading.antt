@@ -125,7 +125,7 @@ merged-leads a (h ∷ hs) logs firsts lasts numbers sound all =
     (merged-leads b hs logs' firsts' lasts numbers' sound.1 on)
 
 -- the drivers of a scenario open with the numbers of their places
-opening-numbered : (s : Scenario) → AreNumbered (opening_world s).lanes
+pub opening-numbered : (s : Scenario) → AreNumbered (opening_world s).lanes
 opening-numbered s i l there =
     let o = opening_at 0 (maxmem_of s.frames) s.drivers i l there in
     ap (λ (x : LaneState). x.id) o.opens ∙ omega arith

@@ -52,7 +52,7 @@ use Rattle.ideal_lane.specs.Turns.{waits, advanced, left_queue, next_operation, 
 use Rattle.ideal_lane.specs.Turns.{called_back, lane_step}
 
 -- a call takes a callback
-abbrev takes : HubCall → Bool
+abbrev pub takes : HubCall → Bool
 takes call.TakeCallback = true
 takes (call.AttachTag t) = false
 takes (call.CreateMap m t first_done) = false

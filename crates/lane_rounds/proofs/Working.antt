@@ -72,11 +72,11 @@ module _ (l m : LaneState) (s : Side) (entry : JournalEntry) where
   side-of : IsOwn l s stepped → entry.actor.side ≡ s
   side-of o = ap (λ (a : Actor). a.side) o.actor
 
-  alone : (y : Turned) → Gives y ≡ lane_step l s → stepped ≡ y → StepsAlone l entry m
+  pub alone : (y : Turned) → Gives y ≡ lane_step l s → stepped ≡ y → StepsAlone l entry m
   alone y is same =
       ap (lane_step l) (side-of (owned (Gives y) Nothing is same)) ∙ sym is ∙ ap Gives (sym same)
 
-  by-hold : (c : HubCall) (k : HubReply → Turned) (r : HubReply) → Asks c k ≡ lane_step l s → stepped ≡ k r →
+  pub by-hold : (c : HubCall) (k : HubReply → Turned) (r : HubReply) → Asks c k ≡ lane_step l s → stepped ≡ k r →
       StepsBy (hold_of l.id c r) l entry m
   by-hold c k r is same =
       let here : lane_step l entry.actor.side ≡ Asks c k =

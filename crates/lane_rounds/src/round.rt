@@ -2,7 +2,7 @@
 
 ghost use Rattle.std.specs.Prelude.{◌≡◌, ◌≤◌, ℕ, ◌<◌, All, length, slice_index_or};
 ghost use denote.Param.Send.{IsSync};
-ghost use Rattle.lane_rounds.specs.AtWork.{GoesOn, Works};
+ghost use Rattle.lane_rounds.specs.AtWork.{GoesOn, Tells, Works};
 
 use crate::gate::Gate;
 use crate::worker::Worker;
@@ -16,7 +16,7 @@ use std::thread::Threads;
 const MOST_THREADS: usize = 16;
 
 /// A round of each driver. With up to 16 drivers each is on a thread of its own, where one can be
-/// made. May wait for ever.
+/// made. Each worker tells afterwards whether it made a step. May wait for ever.
 pub fn round_on_threads<R: Threads + Wait + Sync, D: HubDoor + Drop + Send, G: Gate + Sync>(
     rt: &R,
     alloc: Global,
@@ -27,6 +27,8 @@ pub fn round_on_threads<R: Threads + Wait + Sync, D: HubDoor + Drop + Send, G: G
     ensures len { length workers.new ≡ length workers.old }
     ensures each { (i : ℕ) (w : _) → i < length workers.old →
         GoesOn D.seen D.fixed (slice_index_or workers.old i w) (slice_index_or workers.new i w) }
+    ensures told { (i : ℕ) (w : _) → i < length workers.old →
+        Tells (slice_index_or workers.old i w) (slice_index_or workers.new i w) }
 {
     thread::for_each_mut(
         rt,
@@ -34,7 +36,8 @@ pub fn round_on_threads<R: Threads + Wait + Sync, D: HubDoor + Drop + Send, G: G
         MOST_THREADS,
         &|_, worker: &mut Worker<'_, D>|
             requires { IsSync R.row × Works D.seen worker.now }
-            ensures { GoesOn D.seen D.fixed worker.entry.now worker.exit.now }
+            ensures goes { GoesOn D.seen D.fixed worker.entry.now worker.exit.now }
+            ensures told { Tells worker.entry.now worker.exit.now }
         { worker.round(rt, alloc, gate) },
     );
 }

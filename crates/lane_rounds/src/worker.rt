@@ -157,14 +157,15 @@ impl<'s, D: HubDoor + Drop> Worker<'s, D> {
         }
     }
 
-    /// Whether the last round in which memory did not run out made a step.
+    /// Whether the last round made a step, where memory never ran out. By the clause of a round the log is
+    /// longer than before it where it did, and as it was where it did not.
     pub fn has_stepped(&self) -> bool
         ensures { result ≡ tells_step self.now }
     {
         self.stepped
     }
 
-    /// Whether memory ran out in a round.
+    /// Whether memory ran out in a round. After that nothing is known of what [`Worker::has_stepped`] tells.
     pub fn has_failed(&self) -> bool
         ensures { result ≡ tells_failure self.now }
     {

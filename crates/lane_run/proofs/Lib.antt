@@ -1,4 +1,5 @@
 pub mod Closings
+pub mod Logging
 pub mod Passing
 pub mod Seats
 pub mod Sending

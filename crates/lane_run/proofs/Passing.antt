@@ -6,7 +6,7 @@ use Rattle.std.proofs.lemmas.List.Elements.{All-nil, All-cons, All-head, All-tai
 use Rattle.busdma_machine.specs.declared.bounce.hold.HoldEntry.{HoldEntry}
 use Rattle.busdma_base.specs.declared.scenarios.scenario.Scenario.{Scenario}
 use Rattle.busdma_machine.specs.Bounce.Account.{Account}
-use Rattle.busdma_machine.specs.Bounce.History.{IsSound}
+use Rattle.busdma_machine.specs.Bounce.History.{IsSound, account_of}
 use Rattle.busdma_machine.specs.Bounce.LaneEntries.{of_lane}
 use Rattle.busdma_base.specs.Scenarios.Opening.{opening}
 use Rattle.busdma_machine.proofs.Accounts.LaneEntries.{own-passes}
@@ -125,24 +125,27 @@ has-run s names first ls ms logs qs hub start count opened f h c =
     let whole : hub.history ≡ c.added =
     c.begins ∙ ap (λ es. es ++ c.added) (ap (λ (x : Start HoldEntry Account). x.opening) same) in
     let n = counts first ls ms logs qs h in
-    let drivers : All (λ e. e.lane.0 + 1 < names) hub.history =
+    let named : All (λ e. e.lane.0 + 1 < names) hub.history =
     subst (λ (x : ℕ × List HoldEntry). All (λ e. e.lane.0 + 1 < x.0) x.1) (λ i. ((same i).names, sym whole i))
     c.drivers in
     let others : All (OthersCame first hub) qs = All-tail (OthersCame first hub) first qs c.others in
     record {
       begins = opens;
-      sound = subst (λ a. IsSound a hub.history) opens c.legal.sound;
-      runs = subst (λ firsts. AllRun firsts logs hub.history (map ideal ms)) opened (record {
-        logged = n.0;
-        last = n.1;
-        own =
-            All-weaker (λ (e : HoldEntry). e.lane.0 + 1 < names) (λ (e : HoldEntry). e.lane.0 < length (map ideal ls))
-            (λ e below. omega (arith, below, count, length-map ls)) hub.history drivers;
-        each = λ i l m there end.
-            let z : 0 + i ≡ i = omega arith in
-            subst (λ x. Runs l (log_of logs i) (of_lane x hub.history) m) z
-            (each-run first hub 0 ls ms logs qs f h others i l m there end);
-      });
+      run = record {
+        sound = subst (λ a. IsSound a hub.history) opens c.legal.sound;
+        account = ap (λ a. account_of a hub.history) (sym opens);
+        drivers = subst (λ firsts. AllRun firsts logs hub.history (map ideal ms)) opened (record {
+          logged = n.0;
+          last = n.1;
+          own =
+              All-weaker (λ (e : HoldEntry). e.lane.0 + 1 < names) (λ (e : HoldEntry). e.lane.0 < length (map ideal ls))
+              (λ e below. omega (arith, below, count, length-map ls)) hub.history named;
+          each = λ i l m there end.
+              let z : 0 + i ≡ i = omega arith in
+              subst (λ x. Runs l (log_of logs i) (of_lane x hub.history) m) z
+              (each-run first hub 0 ls ms logs qs f h others i l m there end);
+        });
+      };
     }
   where
     length-map : (ks : List Lane) → length (map ideal ks) ≡ length ks

@@ -1,9 +1,9 @@
 //! The run of a scenario.
 
-ghost use Rattle.std.specs.Prelude.{IfOk, map};
+ghost use Rattle.std.specs.Prelude.{◌≡◌, All, IfOk, [], length, map};
 ghost use Rattle.busdma_base.specs.Scenarios.Valid.{IsValid};
 ghost use Rattle.ideal_world.specs.Legal.{IsLegal};
-ghost use Rattle.lane_run.specs.Closing.{IsRun, ideal_run};
+ghost use Rattle.lane_run.specs.Closing.{HasCome, IsFromLogs};
 ghost use Rattle.lane_run.specs.Threads.{HasRun};
 
 use crate::closing::{Closing, finish};
@@ -11,49 +11,58 @@ use crate::parking::Parked;
 use crate::threads::run_on_threads;
 use bounce_hub::Hub;
 use busdma_base::{Journal, Scenario};
-use lane_merge::merge_owned;
+use lane_merge::LaneLog;
 use lane_rounds::Gate;
 use std::alloc::{AllocError, Global};
+use std::collections::VecDeque;
 use std::sync::Wait;
 use std::thread::Threads;
-use world_core::World;
+use world_core::{World, opening_parts};
 
-/// The run that drivers made on threads.
-fn merged_run<'s>(
-    alloc: Global,
-    scenario: &'s Scenario,
-    parked: Parked<'s>,
-    hub: Hub,
-) -> Result<Closing<'s>, AllocError>
+/// The run that drivers have made. Takes no memory.
+fn closing_of<'s>(scenario: &'s Scenario, parked: Parked<'s>, hub: Hub) -> Closing<'s>
     requires valid { IsValid scenario.now }
     requires ran { HasRun scenario.now parked.lanes.items (map (λ l. l.items) parked.logs.items) hub }
-    ensures { IfOk result (λ closing. IsRun scenario.now (ideal_run closing)) }
+    ensures { HasCome scenario.now result }
 {
     let Parked { lanes, logs, turns } = parked;
-    let entries = merge_owned(alloc, hub.history(), logs)?;
-    Ok(Closing {
+    Closing {
         world: World::from_parts(scenario, lanes, hub),
-        entries,
+        logs,
         turns,
-    })
+    }
 }
 
-/// A run in which no turn was made.
-fn opening_run(alloc: Global, scenario: &Scenario) -> Result<Closing<'_>, AllocError>
-    requires { IsValid scenario.now }
-    ensures { IfOk result (λ closing. IsRun scenario.now (ideal_run closing)) }
+/// So many logs without a step.
+fn empty_logs(alloc: Global, count: usize) -> Result<Vec<LaneLog>, AllocError>
+    ensures count { IfOk result (λ logs. length logs.items ≡ count) }
+    ensures empty { IfOk result (λ logs. All (λ log. log.items ≡ []) logs.items) }
 {
-    Ok(Closing {
-        world: World::new(alloc, scenario)?,
-        entries: Vec::new(alloc),
-        turns: vec![in alloc; 0u64; scenario.drivers.len()]?,
-    })
+    let mut logs = Vec::new(alloc);
+    for _ in 0..count {
+        logs.push(VecDeque::new(alloc))?;
+    }
+    Ok(logs)
+}
+
+/// The drivers with which a scenario opens, no turn of which was made, and their hub.
+fn opening_run(alloc: Global, scenario: &Scenario) -> Result<(Parked<'_>, Hub), AllocError>
+    requires { IsValid scenario.now }
+    ensures { IfOk result (λ ran.
+        HasRun scenario.now ran.0.lanes.items (map (λ l. l.items) ran.0.logs.items) ran.1) }
+{
+    let (lanes, hub) = opening_parts(alloc, scenario)?;
+    let logs = empty_logs(alloc, lanes.len())?;
+    let turns = vec![in alloc; 0u64; lanes.len()]?;
+    Ok((Parked { lanes, logs, turns }, hub))
 }
 
 /// Runs the drivers of a scenario on threads, all over one hub, until a round makes no step; goes
-/// rounds on one thread until one makes no step; and gives the journal, which is legal. Each turn is
-/// made behind the gate. Where the turnstile gives a driver no pass, all rounds are on one thread. An
-/// error is that memory ran out. May wait for ever.
+/// rounds on one thread until one makes no step; and gives the journal, which is legal. Its entries are
+/// those of the drivers' logs, which the steps of the last rounds joined: each step that held nothing stands
+/// directly before its driver's next hold, or at the end. Each turn is made behind the gate. Where the
+/// turnstile gives a driver no pass, all rounds are on one thread. An error is that memory ran out. May wait for
+/// ever.
 pub fn run_lanes<Rt: Threads + Wait + Sync, G: Gate + Sync>(
     rt: &Rt,
     alloc: Global,
@@ -61,16 +70,12 @@ pub fn run_lanes<Rt: Threads + Wait + Sync, G: Gate + Sync>(
     gate: &G,
 ) -> Result<Journal, AllocError>
     requires { IsValid scenario.now }
-    ensures { IfOk result (IsLegal scenario.now) }
+    ensures legal { IfOk result (IsLegal scenario.now) }
+    ensures merged { IfOk result (IsFromLogs scenario.now) }
 {
-    match run_on_threads(rt, alloc, scenario, gate)? {
-        Some((parked, hub)) => {
-            let closing = merged_run(alloc, scenario, parked, hub)?;
-            finish(alloc, gate, scenario, closing)
-        }
-        None => {
-            let closing = opening_run(alloc, scenario)?;
-            finish(alloc, gate, scenario, closing)
-        }
-    }
+    let (parked, hub) = match run_on_threads(rt, alloc, scenario, gate)? {
+        Some(ran) => ran,
+        None => opening_run(alloc, scenario)?,
+    };
+    finish(alloc, gate, scenario, closing_of(scenario, parked, hub))
 }

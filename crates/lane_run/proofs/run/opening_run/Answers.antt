@@ -1,8 +1,9 @@
-use Rattle.world_core.specs.Ideal.{ideal_world}
+use Rattle.std.proofs.Common.{◌∙◌}
 use Rattle.lane_run.proofs.Closings.{opening-run}
 use Rattle.lane_run.proofs.run.opening_run.Goals as goal
 
 pub returns : goal.returns
 returns c =
-    opening-run c.args.scenario.now (ideal_world c.in_ok-new.field-0) c.new-2.result.items c.requires
-    c.in_ok-new.ensures c.new-2.ensures.items
+    opening-run c.args.scenario.now (λ l. l.items) c.in_ok-logs.logs.items c.in_ok-lanes.lanes.items
+    c.in_ok-lanes.hub c.in_ok-lanes.ensures.lanes c.in_ok-lanes.ensures.hub
+    (c.in_ok-logs.ensures.count ∙ c.len.ensures ∙ c.in_ok-lanes.lanes.ok.0) c.in_ok-logs.ensures.empty

@@ -1,0 +1,26 @@
+use Rattle.std.proofs.Common.{◌≡◌, List, map, subst, sym}
+use Rattle.busdma_machine.specs.declared.bounce.hold.HoldEntry.{HoldEntry}
+use Rattle.ideal_world.specs.World.{WorldState}
+use Rattle.lane_merge.specs.Runs.{Log}
+use Rattle.lane_run.specs.Closing.{RunsTo}
+use Rattle.lane_run.proofs.Closings.{run-well}
+use Rattle.world_core.specs.Kept.{world_of}
+use Rattle.lane_run.proofs.run.closing_of.Goals as goal
+
+pub from_parts-requires : goal.from_parts-requires
+from_parts-requires c =
+    let s = c.args.scenario.now in
+    let lanes = c.args.parked.lanes.items in
+    let logs : List Log = map (λ l. l.items) c.args.parked.logs.items in
+    let hub = c.args.hub in
+    record {
+      well = run-well s logs hub.history (world_of lanes hub) c.requires.ran.run c.requires.valid;
+      opening = c.requires.ran.begins;
+    }
+
+pub returns : goal.returns
+returns c =
+    let s = c.args.scenario.now in
+    let logs : List Log = map (λ l. l.items) c.args.parked.logs.items in
+    subst (λ (x : List HoldEntry × WorldState). RunsTo s logs x.0 x.1)
+    (λ j. (sym c.from_parts.ensures.holds j, sym c.from_parts.ensures.world j)) c.requires.ran.run

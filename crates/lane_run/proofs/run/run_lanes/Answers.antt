@@ -1,0 +1,7 @@
+use Rattle.std.proofs.lemmas.Result.{IfOk-weaker}
+use Rattle.lane_run.proofs.Closings.{from-logs-legal}
+use Rattle.lane_run.proofs.run.run_lanes.Goals as goal
+
+pub returns-clause-legal : goal.returns-clause-legal
+returns-clause-legal g c =
+    IfOk-weaker c.finish.result _ _ (λ j. from-logs-legal c.args.scenario.now j) c.finish.ensures
