@@ -52,7 +52,7 @@ pub record Following (l : LaneState) (c : HubCall) (r : HubReply) (n : LaneState
 -- reply is followed
 abbrev pub KeptBy : LaneState → Option HubCall → HubReply → LaneState → Type 0
 KeptBy l None r n = (a : Account) → Agrees (view_of l) a → Agrees (view_of n) a
-KeptBy l (Some c) r n = calls.Asks (view_of l) c × Following l c r n
+KeptBy l (Some c) r n = calls.MayAsk (view_of l) c × Following l c r n
 
 alike : (l n : LaneState) → IsLike (view_of l) (view_of n) → (a : Account) →
     Agrees (view_of l) a → Agrees (view_of n) a
@@ -180,7 +180,7 @@ module _ (l : LaneState) (s : Stands l) where
       zone-is : b.o.zone ≡ Some (zone_of b.o)
       zone-is = zone-at b.o.zone refl
 
-      asks-grab : calls.Asks (view_of l) (grab b)
+      asks-grab : calls.MayAsk (view_of l) (grab b)
       asks-grab = (refl, some-need (need_of (chunks b)) some, seen-idle (zone_of b.o) zone-is)
 
     -- a load without pages

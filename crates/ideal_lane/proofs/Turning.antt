@@ -38,7 +38,7 @@ use Rattle.ideal_lane.proofs.Keeping.{Following, KeptBy, keeps, touches-keep, en
 use Rattle.busdma_machine.specs.declared.name.MapId.{MapId}
 use Rattle.busdma_machine.specs.declared.machine.address.Pa.{Pa}
 
-followed : (l n : LaneState) (c : HubCall) (a : Account) → IsFit a → Agrees (view_of l) a → calls.Asks (view_of l) c →
+followed : (l n : LaneState) (c : HubCall) (a : Account) → IsFit a → Agrees (view_of l) a → calls.MayAsk (view_of l) c →
     Following l c (account_step l.id c a).reply n → Agrees (view_of n) (account_step l.id c a).account
 followed l n c a fit g asks f =
     agrees-like (after f.fits (view_of l) c (account_step l.id c a).reply) (view_of n)
@@ -153,7 +153,7 @@ module _ (l : LaneState) (s : Stands l) where
   -- the driver's state allows the call, if one is made
   abbrev IsAsked : Option HubCall → Type 0
   IsAsked None = Unit {0}
-  IsAsked (Some c) = calls.Asks (view_of l) c
+  IsAsked (Some c) = calls.MayAsk (view_of l) c
 
   asked-by : (c : Option HubCall) (r : HubReply) (n : LaneState) → KeptBy l c r n → IsAsked c
   asked-by None r n h = tt

@@ -30,13 +30,13 @@ abbrev pub is_known : IdealMemory → ℕ → Bool
 is_known memory a = known (memory a)
 
 -- an address is one of these
-abbrev pub is_among : List ℕ → ℕ → Bool
-is_among addresses a = list_any (λ k. a == k) addresses
+abbrev pub has_address : List ℕ → ℕ → Bool
+has_address addresses a = list_any (λ k. a == k) addresses
 
 -- the bytes at these addresses become Unknown, where they are the driver's own
 abbrev pub forgotten : List ℕ → IdealMemory → IdealMemory
 forgotten addresses memory a =
-    if is_among addresses a then option_map (λ c. Unknown) (memory a) else memory a
+    if has_address addresses a then option_map (λ c. Unknown) (memory a) else memory a
 
 -- one byte is written, where it is the driver's own
 abbrev pub written_at : ℕ → ℕ → IdealMemory → IdealMemory

@@ -15,7 +15,7 @@ ghost use Rattle.busdma_machine.specs.Bounce.AccountStep.{account_step};
 ghost use Rattle.busdma_base.specs.Scenarios.Opening.{maxmem_of, opening};
 ghost use Rattle.busdma_base.specs.Scenarios.Valid.{IsValid};
 ghost use Rattle.lane_agreement.specs.Agreement.{IsFit};
-ghost use Rattle.lane_tables.specs.Queues.{item_count};
+ghost use Rattle.lane_tables.specs.Queues.{script_items};
 ghost use Rattle.ideal_lane.specs.Agreement.{AgreesWith, IsAllowed, KeepsAgreement};
 ghost use Rattle.ideal_lane.specs.Ahead.{items_ahead};
 ghost use Rattle.ideal_lane.specs.Asking.{by_reply, call_of};
@@ -100,7 +100,7 @@ pub fn each_callback_was_awaited()
 /// whatever the reply to a step's call: room for those at the opening is room for all.
 pub fn items_stay_few()
     ensures opens { (id maxmem : ℕ) (driver : Driver) →
-        items_ahead (opening_lane id maxmem driver) ≡ item_count driver.script }
+        items_ahead (opening_lane id maxmem driver) ≡ script_items driver.script }
     ensures stays { (l : LaneState) (s : Side) (r : HubReply) →
         let after : LaneState = (by_reply (lane_step l s) r).lane in
         items_ahead after + length after.queue ≤ items_ahead l + length l.queue }

@@ -44,7 +44,7 @@ use Rattle.ideal_lane.specs.Outcomes.{Outcome}
 use Rattle.ideal_lane.specs.Standing.{Stands}
 use Rattle.ideal_lane.specs.State.{LaneState, LaneTag, LaneMap, Loaded}
 use Rattle.ideal_lane.proofs.Lookups.{get_put}
-use Rattle.ideal_wire.specs.Accepted.{HasPages, IsAccepted, IfSegments}
+use Rattle.ideal_wire.specs.Accepted.{ArePagesFor, IsAcceptedLoad, IfSegments}
 use Rattle.ideal_wire.specs.Laid.{AreLaid}
 use Rattle.ideal_wire.specs.Machine.{IsInMachine}
 use Rattle.ideal_wire.specs.Traces.{stage_in, stage_at, placed_from, traces_of}
@@ -174,7 +174,7 @@ module _ (l : LaneState) (laid : AreLaid l) (machine : IsInMachine l) (stands : 
       subst (AllByRecursion (λ a. a < 4096 * l.maxmem)) (sym (flat-entries x.entries ∙ are-bytes))
       (all-below (bio_places b) reached-all)
 
-  module _ (has : HasPages limits chunks pages) where
+  module _ (has : ArePagesFor limits chunks pages) where
     whole : AllByRecursion IsPage (as_pages pages)
     whole = are-pages limits (as_pages pages) has.reachable
 
@@ -190,7 +190,7 @@ module _ (l : LaneState) (laid : AreLaid l) (machine : IsInMachine l) (stands : 
     covers = chunks_cover limits l.maxmem x.entries effective are-entries ∙ flat-entries x.entries
 
     pub accepted : nat_le (length (segments l m o load_at x chunks pages)) limits.nsegments ≡ true →
-        IsAccepted (fits l m o load_at x chunks pages) m (λ a. Some a) limits (load_addresses l b) chunks pages
+        IsAcceptedLoad (fits l m o load_at x chunks pages) m (λ a. Some a) limits (load_addresses l b) chunks pages
         (segments l m o load_at x chunks pages)
     accepted few = record {
       buffer =
@@ -209,7 +209,7 @@ module _ (l : LaneState) (laid : AreLaid l) (machine : IsInMachine l) (stands : 
 
     abbrev answered : LaneState → List Segment → Type 0
     answered l' ss =
-        IsAccepted l' m (λ a. Some a) limits (load_addresses l b) chunks pages ss
+        IsAcceptedLoad l' m (λ a. Some a) limits (load_addresses l b) chunks pages ss
 
     pub finished-accepted : IfSegments (finished m o load_at x chunks pages l).answer
         (answered (finished m o load_at x chunks pages l).lane)

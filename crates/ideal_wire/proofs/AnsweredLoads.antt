@@ -49,7 +49,7 @@ use Rattle.ideal_lane.specs.Standing.{Stands}
 use Rattle.ideal_lane.specs.State.{LaneState, LaneMap, LaneMemory}
 use Rattle.ideal_lane.specs.Unloads.{pages_of}
 use Rattle.ideal_lane.specs.View.{view_of}
-use Rattle.ideal_wire.specs.Accepted.{HasPages, IfSegments, IsAccepted}
+use Rattle.ideal_wire.specs.Accepted.{ArePagesFor, IfSegments, IsAcceptedLoad}
 use Rattle.ideal_wire.specs.Answered.{AreLoaded}
 use Rattle.ideal_wire.specs.Laid.{AreLaid}
 use Rattle.ideal_wire.specs.Machine.{IsInMachine}
@@ -122,7 +122,8 @@ module _ (l : LaneState) (m : ℕ) (o : LaneMap) (there : get l.maps m ≡ Some 
   with-load = fits l m o at x ending-chunks pages
 
   -- `after` is the driver that the step leaves of the one with the load
-  pub ends-so : (nat_le (length ss) t.nsegments ≡ true → IsAccepted with-load m find t bytes ending-chunks pages ss) →
+  pub ends-so : (nat_le (length ss) t.nsegments ≡ true → IsAcceptedLoad with-load m find t bytes ending-chunks pages
+      ss) →
       (after : LaneState → LaneState) → ((k : LaneState) → traces_of (after k) m ≡ traces_of k m) →
       ((k : LaneState) → stage_at (after k) m ≡ stage_at k m) →
       (nat_le (length ss) t.nsegments ≡ true → find ≡ found_at (after with-load) o) →
@@ -135,8 +136,8 @@ module _ (l : LaneState) (m : ℕ) (o : LaneMap) (there : get l.maps m ≡ Some 
       held : pages ≡ pages_of (stage_at (after with-load) m)
       held = sym (ap pages_of (stages with-load ∙ stage-is l m o at x ending-chunks pages))
 
-      moved : (bs : List ℕ) (cs : List Chunk) (ps : List ℕ) → IsAccepted with-load m find t bs cs ps ss →
-          IsAccepted (after with-load) m find t bs cs ps ss
+      moved : (bs : List ℕ) (cs : List Chunk) (ps : List ℕ) → IsAcceptedLoad with-load m find t bs cs ps ss →
+          IsAcceptedLoad (after with-load) m find t bs cs ps ss
       moved bs cs ps h = record {
         buffer = ap (λ ts. buffers ts) (traces with-load) ∙ h.buffer;
         trace = h.trace ∙ sym (ap (λ ts. mapped (λ a. Some a) (buses ts)) (traces with-load));
@@ -144,21 +145,21 @@ module _ (l : LaneState) (m : ℕ) (o : LaneMap) (there : get l.maps m ≡ Some 
       }
 
       load-is : find ≡ found_at (after with-load) o →
-          IsAccepted with-load m find t bytes ending-chunks pages ss → AreLoaded l (after with-load) m b ss
+          IsAcceptedLoad with-load m find t bytes ending-chunks pages ss → AreLoaded l (after with-load) m b ss
       load-is finds h = record {
         map = o;
         there = there;
         accepted =
-            subst (λ f. IsAccepted (after with-load) m f t (load_addresses l b)
+            subst (λ f. IsAcceptedLoad (after with-load) m f t (load_addresses l b)
             (chunks_of_load l o (contains_key l.mems m) (load_entries l b))
             (pages_of (stage_at (after with-load) m)) ss) finds
-            (subst (λ bs. IsAccepted (after with-load) m find t bs
+            (subst (λ bs. IsAcceptedLoad (after with-load) m find t bs
             (chunks_of_load l o (contains_key l.mems m) (load_entries l b))
             (pages_of (stage_at (after with-load) m)) ss)
             (sym named)
-            (subst (λ cs. IsAccepted (after with-load) m find t bytes cs
+            (subst (λ cs. IsAcceptedLoad (after with-load) m find t bytes cs
             (pages_of (stage_at (after with-load) m)) ss) of-load
-            (subst (λ ps. IsAccepted (after with-load) m find t bytes ending-chunks ps ss) held
+            (subst (λ ps. IsAcceptedLoad (after with-load) m find t bytes ending-chunks ps ss) held
             (moved bytes ending-chunks pages h))));
       }
 
@@ -202,7 +203,7 @@ pub ends-answered : (l : LaneState) → AreLaid l → IsInMachine l → Stands l
     (at : ℕ) (now : Bool) (items : List Item) → load_judged l m b ≡ Fine → (pages : List ℕ) →
     (after : LaneState → LaneState) → ((k : LaneState) → traces_of (after k) m ≡ traces_of k m) →
     ((k : LaneState) → stage_at (after k) m ≡ stage_at k m) → ((k : LaneState) → (after k).tags ≡ k.tags) →
-    HasPages (limits_of l o) (chunks_for l o false (load_entries l b)) pages →
+    ArePagesFor (limits_of l o) (chunks_for l o false (load_entries l b)) pages →
     IfSegments (finished m o at (asked m b now items l) (chunks_for l o false (load_entries l b)) pages l).answer
     (AreLoaded l
     (after (finished m o at (asked m b now items l) (chunks_for l o false (load_entries l b)) pages l).lane) m b)

@@ -44,9 +44,9 @@ use Rattle.ideal_lane.proofs.Effects.{Releases, Same, Stays, Steps, Touched, Tou
 use Rattle.ideal_lane.proofs.Effects.{here, untold-quiet}
 use Rattle.ideal_lane.proofs.Stepping.{turn-steps}
 use Rattle.ideal_lane.proofs.Turning.{WaitsAt, waits-at}
-use Rattle.ideal_wire.specs.Accepted.{HasPages, IfSegments}
+use Rattle.ideal_wire.specs.Accepted.{ArePagesFor, IfSegments}
 use Rattle.ideal_wire.specs.Answered.{AreAnswered, AreLoaded, AreOf, AnswersIn, AnswersLoads}
-use Rattle.ideal_wire.specs.Answered.{load_at, loaded_by, waited_at}
+use Rattle.ideal_wire.specs.Answered.{load_at, load_asked_by, waited_at}
 use Rattle.ideal_wire.specs.Laid.{AreLaid, IsAwaited}
 use Rattle.std.proofs.Common.{◌∷◌, ◌≤◌, ◌&&◌, slice_get, zero, suc, arith}
 use Rattle.std.proofs.lemmas.Bool.{eq-eqb}
@@ -106,7 +106,7 @@ module _ (l : LaneState) (a : Account) (stands : Stands l) (agrees : AgreesWith 
 
     load-here : load_at l l.place ≡ Some (record { map = b.m; bio = b.bio })
     load-here =
-        ap (option_and_then (λ p. loaded_by p l)) (here b at)
+        ap (option_and_then (λ p. load_asked_by p l)) (here b at)
         ∙ ap (option_map (λ y. record { map = b.m; bio = y })) b.found
 
     abbrev ending : Bool → List ℕ → Outcome
@@ -120,7 +120,7 @@ module _ (l : LaneState) (a : Account) (stands : Stands l) (agrees : AgreesWith 
 
     -- of another map than a memory's own it ends with pages that the device reaches
     direct-answers : is_device l b.o ≡ false → get l.mems b.m ≡ None → (pages : List ℕ) →
-        HasPages (limits_of l b.o) (chunks_for l b.o false (asks b).entries) pages →
+        ArePagesFor (limits_of l b.o) (chunks_for l b.o false (asks b).entries) pages →
         Answers (ending (contains_key l.mems b.m) pages)
     direct-answers plain e pages has =
         subst (λ c. Answers (ending c pages)) (sym (ap is_some e)) (answers-load (ending false pages)
@@ -292,7 +292,7 @@ module _ (l : LaneState) (a : Account) (stands : Stands l) (agrees : AgreesWith 
               let same : w.map ≡ v.map = found_one (get l.maps k) w.map v.map w.found v.found in
               served k y w.map w.found (ap (λ (q : LaneMap). q.zone) same ∙ v.zone)
 
-          has : HasPages (limits_of l w.map) (chunks_for l w.map false x.entries) (addresses pages)
+          has : ArePagesFor (limits_of l w.map) (chunks_for l w.map false x.entries) (addresses pages)
           has = record {
             count = as-many pages ∙ count ∙ waited-need l stands laid k z need w;
             reachable =

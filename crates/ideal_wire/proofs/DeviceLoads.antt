@@ -30,7 +30,7 @@ use Rattle.ideal_lane.specs.Loads.{Asked, asked, limits_of}
 use Rattle.ideal_lane.specs.Loads.{load_addresses, load_judged, load_translation}
 use Rattle.ideal_lane.specs.Standing.{Stands}
 use Rattle.ideal_lane.specs.State.{LaneState, LaneMap}
-use Rattle.ideal_wire.specs.Accepted.{IsAccepted}
+use Rattle.ideal_wire.specs.Accepted.{IsAcceptedLoad}
 use Rattle.ideal_wire.specs.Laid.{AreLaid}
 use Rattle.ideal_wire.specs.Machine.{IsInMachine}
 use Rattle.ideal_wire.specs.Traces.{placed_from}
@@ -101,7 +101,7 @@ module _ (l : LaneState) (laid : AreLaid l) (machine : IsInMachine l) (stands : 
       ∙ pieces_bytes t cs effective.maxsegsz (device-rises first 0 (load_entries l b))
 
   pub device-accepted : nat_le (length (segments l m o load_at x cs [])) t.nsegments ≡ true →
-      IsAccepted (fits l m o load_at x cs []) m find t (load_addresses l b) cs [] (segments l m o load_at x cs [])
+      IsAcceptedLoad (fits l m o load_at x cs []) m find t (load_addresses l b) cs [] (segments l m o load_at x cs [])
   device-accepted few = record {
     buffer =
         ap buffers (traces-are l m o load_at x cs [])

@@ -31,7 +31,7 @@ use Rattle.ideal_lane.specs.State.{Idle, Waiting, Loaded, Returning}
 use Rattle.ideal_lane.specs.Unloads.{pages_of}
 use Rattle.ideal_lane.specs.View.{own_map, own_frames, in_zone, stage_of}
 use Rattle.ideal_wire.specs.Apart.{HoldsPage, IsApart}
-use Rattle.ideal_wire.specs.Laid.{IsInPage, IsLaid, LiesIn, IsOwnByte, OfPages, OfMemory, IsRun, AreLaid}
+use Rattle.ideal_wire.specs.Laid.{IsInPage, IsLaid, LiesIn, IsOwnByte, OfPages, OfMemory, HasWholeFrames, AreLaid}
 use Rattle.ideal_wire.specs.Traces.{stage_in, stage_at}
 use Rattle.ideal_wire.proofs.Lent.{counted_two}
 use Rattle.ideal_wire.proofs.Positions.{found_one}
@@ -205,7 +205,7 @@ module _ (l : LaneState) (a : Account) (agrees : AgreesWith l a) where
 
   -- a byte of a memory's frames is none of another's, and none of the driver's pages
   memories-apart : (k j : ℕ) (x y : LaneMemory) (b : ℕ) → get l.mems k ≡ Some x → get l.mems j ≡ Some y →
-      IsRun x → IsRun y → in_run x.first x.count b ≡ true → in_run y.first y.count b ≡ true → k ≡ j
+      HasWholeFrames x → HasWholeFrames y → in_run x.first x.count b ≡ true → in_run y.first y.count b ≡ true → k ≡ j
   memories-apart k j x y b there too rx ry h g = elim (decided k j) as (λ _. k ≡ j) [
     | inl e ↦ e
     | inr ne ↦
@@ -222,7 +222,7 @@ module _ (l : LaneState) (a : Account) (agrees : AgreesWith l a) where
         ))
   ]
 
-  memory-apart : (k : ℕ) (x : LaneMemory) (b : ℕ) → get l.mems k ≡ Some x → IsRun x →
+  memory-apart : (k : ℕ) (x : LaneMemory) (b : ℕ) → get l.mems k ≡ Some x → HasWholeFrames x →
       in_run x.first x.count b ≡ true → is_own l.pages b ≡ true → ⊥
   memory-apart k x b there rx h own =
       let f : ℕ = frame_of b in
@@ -301,7 +301,7 @@ module _ (l : LaneState) (a : Account) (agrees : AgreesWith l a) where
 
     -- a byte of such a page is none of the driver's own bytes
     page-away : (m i page b : ℕ) → HoldsPage l m i page → page % 4096 ≡ 0 → in_run page 1 b ≡ true →
-        ((j : ℕ) (x : LaneMemory) → get l.mems j ≡ Some x → IsRun x) → IsOwnByte l b → ⊥
+        ((j : ℕ) (x : LaneMemory) → get l.mems j ≡ Some x → HasWholeFrames x) → IsOwnByte l b → ⊥
     page-away m i page b holds whole inside runs own = by own
       where
         frame : frame_of b ≡ page

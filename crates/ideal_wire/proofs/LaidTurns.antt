@@ -43,7 +43,7 @@ use Rattle.ideal_lane.proofs.Effects.{asked_in, asks, chunks, chunks_in, here, m
 use Rattle.ideal_lane.proofs.Stepping.{turn-steps}
 use Rattle.ideal_lane.proofs.Effects.{waits_for, was_in}
 use Rattle.ideal_lane.proofs.Turning.{WaitsAt, waits-at}
-use Rattle.ideal_wire.specs.Answered.{loaded_by}
+use Rattle.ideal_wire.specs.Answered.{load_asked_by}
 use Rattle.std.proofs.Common.{replicate}
 use Rattle.std.proofs.lemmas.List.{length-replicate}
 use Rattle.busdma_machine.specs.Machine.Entry.{entries_addresses}
@@ -170,7 +170,7 @@ module _ (l : LaneState) (a : Account) (stands : Stands l) (agrees : AgreesWith 
                   ∙ (λ i. need_of (chunks_of (limits_of later (same i)) l.maxmem
                   (sym (pages-entries l b.bio own) i)));
               told = λ s same.
-                  ap (option_and_then (λ p. loaded_by p s)) (ap (λ q. slice_get q l.place) same ∙ here b at)
+                  ap (option_and_then (λ p. load_asked_by p s)) (ap (λ q. slice_get q l.place) same ∙ here b at)
                   ∙ ap (option_map (λ y. record { map = b.m; bio = y }))
                   (paged-alone l machine (limits_of l b.o) b.buffer b.bio b.found own direct-need s);
             })

@@ -271,7 +271,7 @@ module _ (l : LaneState) (stands : Stands l) (laid : AreLaid l) (machine : IsInM
       abbrev ss : List Segment
       ss = accepting.segments l b.m b.o l.place (asks b) cs []
 
-      accepted : Rattle.ideal_wire.specs.Accepted.IsAccepted
+      accepted : Rattle.ideal_wire.specs.Accepted.IsAcceptedLoad
           (accepting.fits l b.m b.o l.place (asks b) cs []) b.m find t
           (Rattle.ideal_lane.specs.Loads.load_addresses l b.bio) cs [] ss
       accepted =

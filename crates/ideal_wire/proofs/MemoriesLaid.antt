@@ -13,7 +13,7 @@ use Rattle.ideal_lane.specs.Memories.{with_memory, without_memory}
 use Rattle.ideal_lane.specs.Standing.{Stands}
 use Rattle.ideal_lane.specs.State.{LaneState, LaneTag, LaneMap, LaneMemory, Idle}
 use Rattle.ideal_wire.specs.Apart.{IsApart}
-use Rattle.ideal_wire.specs.Laid.{AreLaid, IsOwnByte, IsRun, LiesIn, OfMemory, OfPages, ReachesMemory}
+use Rattle.ideal_wire.specs.Laid.{AreLaid, IsOwnByte, HasWholeFrames, LiesIn, OfMemory, OfPages, ReachesMemory}
 use Rattle.ideal_wire.specs.Traces.{stage_in, stage_at}
 use Rattle.ideal_wire.proofs.Alike.{alike-lies}
 use Rattle.ideal_wire.proofs.KeptTags.{cut-off, cut-there, put-off, put-there}
@@ -43,7 +43,8 @@ module _ (l : LaneState) (stands : Stands l) (laid : AreLaid l) where
   none-here : loan_of l.loans l.place ≡ no_loan
   none-here = no-loan-in l laid l.place Idle (ap stage_in (stands.no_map l.place (omega arith))) refl
 
-  module _ (x : LaneMemory) (zero : Bool) (run : IsRun x) (tag : LaneTag) (tagged : get l.tags x.tag ≡ Some tag)
+  module _ (x : LaneMemory) (zero : Bool) (run : HasWholeFrames x) (tag : LaneTag) (tagged : get l.tags x.tag ≡ Some
+      tag)
       (reached : (b : ℕ) → in_run x.first x.count b ≡ true → excluded tag.limits b ≡ false) where
     abbrev made : LaneState
     made = with_memory x zero l
@@ -80,11 +81,11 @@ module _ (l : LaneState) (stands : Stands l) (laid : AreLaid l) where
     made-only b true e h = ∣ OfMemory l.place x (put-there l.mems l.place x) e ∣₁
     made-only b false e h = ∥∥₁_map (laid.only b h) (still-own b)
 
-    made-runs : (k : ℕ) (y : LaneMemory) → get made.mems k ≡ Some y → IsRun y
+    made-runs : (k : ℕ) (y : LaneMemory) → get made.mems k ≡ Some y → HasWholeFrames y
     made-runs k y there = by (decided k l.place)
       where
-        by : (k ≡ l.place) ⊎ (k ≢ l.place) → IsRun y
-        by (inl e) = subst IsRun (found_one (get made.mems l.place) x y (put-there l.mems l.place x)
+        by : (k ≡ l.place) ⊎ (k ≢ l.place) → HasWholeFrames y
+        by (inl e) = subst HasWholeFrames (found_one (get made.mems l.place) x y (put-there l.mems l.place x)
             (ap (get made.mems) (sym e) ∙ there)) run
         by (inr ne) = laid.runs k y (sym (put-off l.mems l.place k x ne) ∙ there)
 

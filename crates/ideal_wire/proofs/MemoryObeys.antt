@@ -29,7 +29,7 @@ use Rattle.ideal_lane.specs.Loads.{Asked, asked, chunks_for, finished, limits_of
 use Rattle.ideal_lane.specs.Outcomes.{Outcome}
 use Rattle.ideal_lane.specs.Standing.{Stands}
 use Rattle.ideal_lane.specs.State.{LaneState, LaneMap, LaneMemory}
-use Rattle.ideal_wire.specs.Accepted.{IfSegments, IsAccepted}
+use Rattle.ideal_wire.specs.Accepted.{IfSegments, IsAcceptedLoad}
 use Rattle.ideal_wire.specs.Laid.{is_loadable, AreLaid}
 use Rattle.ideal_wire.specs.Machine.{IsInMachine}
 use Rattle.ideal_wire.proofs.Accepting.{fits, flat-entries, limits-effective, segments, trace-is, traces-are}
@@ -118,7 +118,8 @@ module _ (l : LaneState) (laid : AreLaid l) (machine : IsInMachine l) (stands : 
       ))
 
   pub memory-accepted : nat_le (length ss) t.nsegments ≡ true →
-      IsAccepted (fits l m o load_at x memory-chunks []) m (λ a. Some a) t (run_of y.first x.len) memory-chunks [] ss
+      IsAcceptedLoad (fits l m o load_at x memory-chunks []) m (λ a. Some a) t (run_of y.first x.len) memory-chunks
+          [] ss
   memory-accepted few = record {
     buffer =
         ap buffers (traces-are l m o load_at x memory-chunks [])
@@ -130,7 +131,8 @@ module _ (l : LaneState) (laid : AreLaid l) (machine : IsInMachine l) (stands : 
   }
 
   pub memory-finished : IfSegments (finished m o load_at x memory-chunks [] l).answer
-      (IsAccepted (finished m o load_at x memory-chunks [] l).lane m (λ a. Some a) t (run_of y.first x.len) memory-chunks [])
+      (IsAcceptedLoad (finished m o load_at x memory-chunks [] l).lane m (λ a. Some a) t (run_of y.first x.len)
+          memory-chunks [])
   memory-finished = by (nat_le (length ss) t.nsegments) refl
     where
       end : Bool → Outcome
@@ -138,6 +140,7 @@ module _ (l : LaneState) (laid : AreLaid l) (machine : IsInMachine l) (stands : 
           else record { lane = unpaged m o [] l; answer = answer.Refused EFBIG }
 
       by : (c : Bool) → nat_le (length ss) t.nsegments ≡ c →
-          IfSegments (end c).answer (IsAccepted (end c).lane m (λ a. Some a) t (run_of y.first x.len) memory-chunks [])
+          IfSegments (end c).answer (IsAcceptedLoad (end c).lane m (λ a. Some a) t (run_of y.first x.len)
+              memory-chunks [])
       by true few = memory-accepted few
       by false many = tt

@@ -14,7 +14,8 @@ use Rattle.loan_table.specs.Loans.{loan_of, addresses_of, load_bytes}
 use Rattle.loan_table.proofs.Marking.{same_bytes, addresses_of-marked_range}
 use Rattle.ideal_lane.specs.Accesses.{cpu_read, dev_read, values}
 use Rattle.ideal_lane.specs.Asking.{Asking}
-use Rattle.ideal_lane.specs.IdealMemory.{IdealMemory, Content, Known, Unknown, is_known, is_among, forgotten, written}
+use Rattle.ideal_lane.specs.IdealMemory.{IdealMemory, Content, Known, Unknown, is_known, has_address, forgotten,
+    written}
 use Rattle.ideal_lane.specs.IdealMemory.{written_at}
 use Rattle.ideal_lane.specs.Outcomes.{Outcome, gives, unless_refused, unless_past, load_length}
 use Rattle.ideal_lane.specs.Places.{virtual_at, reached, bytes_at}
@@ -44,7 +45,7 @@ use Rattle.busdma_base.specs.Scenarios.Operations.{bytes_of}
 
 pub own-forgotten : (keys : List ℕ) (memory : IdealMemory) (a : ℕ) → is_some (forgotten keys memory a) ≡ is_some
     (memory a)
-own-forgotten keys memory a = by (is_among keys a) (memory a)
+own-forgotten keys memory a = by (has_address keys a) (memory a)
   where
     by : (b : Bool) (o : Option Content) → is_some (cond b (option_map (λ c. Unknown) o) o) ≡ is_some o
     by true None = refl

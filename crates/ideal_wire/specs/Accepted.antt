@@ -16,13 +16,13 @@ use Rattle.ideal_lane.specs.State.{LaneState}
 use Rattle.ideal_wire.specs.Traces.{traces_of}
 
 -- as many pages as chunks need, each of which the device of a tag reaches
-pub record HasPages (t : TagLimits) (chunks : List Chunk) (pages : List ℕ) : Type 0 where
+pub record ArePagesFor (t : TagLimits) (chunks : List Chunk) (pages : List ℕ) : Type 0 where
   pub count : length pages ≡ need_of chunks
   pub reachable : AllByRecursion (IsReachable t) (as_pages pages)
 
 -- the load of a map is of these bytes, in order; what the device finds at the bytes of its segments are the bus
 -- addresses of these bytes, in order; and the segments of its chunks in their pages obey the tag
-pub record IsAccepted (l : LaneState) (m : ℕ) (find : ℕ → Option ℕ) (t : TagLimits) (bytes : List ℕ)
+pub record IsAcceptedLoad (l : LaneState) (m : ℕ) (find : ℕ → Option ℕ) (t : TagLimits) (bytes : List ℕ)
     (chunks : List Chunk) (pages : List ℕ) (segments : List Segment) : Type 0 where
   pub buffer : buffers (traces_of l m) ≡ bytes
   pub trace : map find (segment_bytes segments) ≡ map (λ a. Some a) (buses (traces_of l m))

@@ -20,7 +20,7 @@ use Rattle.ideal_lane.specs.Loads.{chunks_for, is_device, limits_of, load_addres
 use Rattle.ideal_lane.specs.State.{LaneState, LaneMap, Stage, Idle, Waiting, Loaded, Returning}
 use Rattle.ideal_lane.specs.Turns.{Turn, Turned, Stepped, Blocked, Ended, bio_at}
 use Rattle.ideal_lane.specs.Unloads.{pages_of}
-use Rattle.ideal_wire.specs.Accepted.{IfSegments, IsAccepted}
+use Rattle.ideal_wire.specs.Accepted.{IfSegments, IsAcceptedLoad}
 use Rattle.ideal_wire.specs.Traces.{stage_at}
 
 -- a load: its map, and what it loads
@@ -29,25 +29,25 @@ pub record Load : Type 0 where
   pub bio : Bio
 
 -- what an operation loads, if it loads
-abbrev pub loaded_by : Op → LaneState → Option Load
-loaded_by (op.Load map buffer flags items) l =
+abbrev pub load_asked_by : Op → LaneState → Option Load
+load_asked_by (op.Load map buffer flags items) l =
     option_map (λ b. record { map = map; bio = b }) (bio_at l buffer)
-loaded_by (op.Tag name parent limits) l = None
-loaded_by (op.TagDestroy tag) l = None
-loaded_by (op.Map name tag) l = None
-loaded_by (op.MapDestroy map) l = None
-loaded_by (op.Dmamem name tag flags) l = None
-loaded_by (op.DmamemFree mem) l = None
-loaded_by (op.Unload map) l = None
-loaded_by (op.Sync map ops) l = None
-loaded_by (op.SyncRange map off len ops) l = None
-loaded_by (op.CpuRead place len) l = None
-loaded_by (op.CpuWrite place bytes) l = None
-loaded_by (op.Await map) l = None
+load_asked_by (op.Tag name parent limits) l = None
+load_asked_by (op.TagDestroy tag) l = None
+load_asked_by (op.Map name tag) l = None
+load_asked_by (op.MapDestroy map) l = None
+load_asked_by (op.Dmamem name tag flags) l = None
+load_asked_by (op.DmamemFree mem) l = None
+load_asked_by (op.Unload map) l = None
+load_asked_by (op.Sync map ops) l = None
+load_asked_by (op.SyncRange map off len ops) l = None
+load_asked_by (op.CpuRead place len) l = None
+load_asked_by (op.CpuWrite place bytes) l = None
+load_asked_by (op.Await map) l = None
 
 -- the load at a place of the script, if there is one
 abbrev pub load_at : LaneState → ℕ → Option Load
-load_at l k = option_and_then (λ o. loaded_by o l) (slice_get l.script k)
+load_at l k = option_and_then (λ o. load_asked_by o l) (slice_get l.script k)
 
 -- the place in the script of the load for which a map waits that stands so
 abbrev pub waited_at : Stage → ℕ
@@ -75,7 +75,7 @@ chunks_of_load l o memory es =
 pub record AreLoaded (before after : LaneState) (m : ℕ) (b : Bio) (segments : List Segment) : Type 0 where
   pub map : LaneMap
   pub there : get before.maps m ≡ Some map
-  pub accepted : IsAccepted after m (found_at after map) (limits_of before map) (load_addresses before b)
+  pub accepted : IsAcceptedLoad after m (found_at after map) (limits_of before map) (load_addresses before b)
       (chunks_of_load before map (contains_key before.mems m) (load_entries before b))
       (pages_of (stage_at after m)) segments
 

@@ -99,7 +99,7 @@ LiesIn l m (Loaded bounced segments pages) = IsLaid l m bounced segments pages
 LiesIn l m Returning = loan_of l.loans m ≡ no_loan
 
 -- the frames of a memory are whole, and have all its bytes
-pub record IsRun (x : LaneMemory) : Type 0 where
+pub record HasWholeFrames (x : LaneMemory) : Type 0 where
   pub whole : x.first % 4096 ≡ 0
   pub room : x.len ≤ 4096 * x.count
 
@@ -117,7 +117,7 @@ ReachesMemory l x o = (a : ℕ) → in_run x.first x.count a ≡ true → exclud
 pub record AreLaid (l : LaneState) : Type 0 where
   pub owned : (a : ℕ) → IsOwnByte l a → is_some (l.memory a) ≡ true
   pub only : (a : ℕ) → is_some (l.memory a) ≡ true → ∥ IsOwnByte l a ∥₁
-  pub runs : (k : ℕ) (x : LaneMemory) → get l.mems k ≡ Some x → IsRun x
+  pub runs : (k : ℕ) (x : LaneMemory) → get l.mems k ≡ Some x → HasWholeFrames x
   pub reached : (k : ℕ) (x : LaneMemory) (o : LaneMap) → get l.mems k ≡ Some x → get l.maps k ≡ Some o →
       ReachesMemory l x o
   pub each : (m : ℕ) → LiesIn l m (stage_at l m)

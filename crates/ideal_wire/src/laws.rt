@@ -44,7 +44,7 @@ ghost use Rattle.ideal_lane.specs.Standing.{Stands};
 ghost use Rattle.ideal_lane.specs.State.{LaneMap, LaneMemory, LaneState, Loaded};
 ghost use Rattle.ideal_lane.specs.Syncs.{sync, sync_range};
 ghost use Rattle.ideal_lane.specs.Turns.{lane_step};
-ghost use Rattle.ideal_wire.specs.Accepted.{HasPages, IfSegments, IsAccepted};
+ghost use Rattle.ideal_wire.specs.Accepted.{ArePagesFor, IfSegments, IsAcceptedLoad};
 ghost use Rattle.ideal_wire.specs.Answered.{AnswersLoads, found_at};
 ghost use Rattle.ideal_wire.specs.Apart.{IsApart};
 ghost use Rattle.ideal_wire.specs.Centre.{IsFaithful};
@@ -134,10 +134,10 @@ pub fn accepted_loads_obey()
         get l.maps m ≡ Some o → contains_key l.mems m ≡ false → load_judged l m b ≡ Fine →
         let x = asked m b nowait items l in
         let chunks = chunks_for l o false x.entries in
-        HasPages (limits_of l o) chunks pages →
+        ArePagesFor (limits_of l o) chunks pages →
         let end = finished m o load_at x chunks pages l in
         IfSegments end.answer
-        (IsAccepted end.lane m (λ a. Some a) (limits_of l o) (load_addresses l b) chunks pages) }
+        (IsAcceptedLoad end.lane m (λ a. Some a) (limits_of l o) (load_addresses l b) chunks pages) }
     ensures memory { (l : LaneState) (m : ℕ) (o : LaneMap) (y : LaneMemory) (b : Bio) (load_at : ℕ) (nowait : Bool)
         (items : List Item) → Stands l → AreLaid l → IsInMachine l → get l.maps m ≡ Some o → get l.mems m ≡ Some y →
         load_judged l m b ≡ Fine →
@@ -145,7 +145,7 @@ pub fn accepted_loads_obey()
         let chunks = chunks_for l o true x.entries in
         let end = finished m o load_at x chunks [] l in
         IfSegments end.answer
-        (IsAccepted end.lane m (λ a. Some a) (limits_of l o) (run_of y.first x.len) chunks []) }
+        (IsAcceptedLoad end.lane m (λ a. Some a) (limits_of l o) (run_of y.first x.len) chunks []) }
     ensures turn { (l : LaneState) (s : Side) (a : Account) → Stands l → AgreesWith l a → IsFit a →
         EachFrame IsFrame a → PagesLieLow a → AreServed l a → IsInMachine l → AreLaid l →
         AreSpaced l → AnswersLoads l a (lane_step l s) }

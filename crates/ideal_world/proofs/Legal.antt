@@ -35,12 +35,12 @@ legal-waits s j h valid =
     (well, only-awaits s h.last well h.rest)
 
 -- a run from a valid scenario's opening: its entries are legal so far, and its world is well formed
-record IsRun (s : Scenario) (r : Run) : Type 0 where
+record IsRunOf (s : Scenario) (r : Run) : Type 0 where
   leads : Leads (opening_world s) r.entries r.world
   well : IsWellFormed s r.world
 
-noted-runs : (s : Scenario) (r : Run) (a : Actor) (o : Option JournalEntry) → step_entry r.world a ≡ o → IsRun s r →
-    IsRun s (noted r (step r.world a).world o)
+noted-runs : (s : Scenario) (r : Run) (a : Actor) (o : Option JournalEntry) → step_entry r.world a ≡ o → IsRunOf s r →
+    IsRunOf s (noted r (step r.world a).world o)
 noted-runs s r a None is h = h
 noted-runs s r a (Some e) is h =
     let own : e.actor ≡ a = step-named s r.world h.well a e is in
@@ -50,24 +50,24 @@ noted-runs s r a (Some e) is h =
       well = step-keeps s r.world h.well a;
     }
 
-turns-run : (s : Scenario) (actors : List Actor) (r : Run) → IsRun s r → IsRun s (turns r actors)
+turns-run : (s : Scenario) (actors : List Actor) (r : Run) → IsRunOf s r → IsRunOf s (turns r actors)
 turns-run s [] r h = h
 turns-run s (a ∷ actors) r h = turns-run s actors (turn r a) (noted-runs s r a (step_entry r.world a) refl h)
 
-rounds-run : (s : Scenario) (n : ℕ) (round : List Actor) (r : Run) → IsRun s r → IsRun s (rounds n round r)
+rounds-run : (s : Scenario) (n : ℕ) (round : List Actor) (r : Run) → IsRunOf s r → IsRunOf s (rounds n round r)
 rounds-run s zero round r h = h
 rounds-run s (suc n) round r h = rounds-run s n round (turns r round) (turns-run s round r h)
 
-replay-runs : (s : Scenario) (r : Run) → IsValid s → IsReplay s r → IsRun s r
+replay-runs : (s : Scenario) (r : Run) → IsValid s → IsReplay s r → IsRunOf s r
 replay-runs s r valid h =
-    subst (IsRun s) h.reaches (rounds-run s h.count (round_of s) (turns (opening_run s) s.order)
+    subst (IsRunOf s) h.reaches (rounds-run s h.count (round_of s) (turns (opening_run s) s.order)
     (turns-run s s.order (opening_run s) (record { leads = refl; well = opens-well s valid })))
 
 -- past the last driver no actor can step
 past-rests : (w : WorldState) (a : Actor) → length w.lanes ≤ a.lane.0 → step_entry w a ≡ None
 past-rests w a h = ap (λ o. entry_of (step_of w a o).turn) (slice_get_past w.lanes a.lane.0 h)
 
-at-rest : (s : Scenario) (r : Run) → IsRun s r → turns r (round_of s) ≡ r → IsAtRest r.world
+at-rest : (s : Scenario) (r : Run) → IsRunOf s r → turns r (round_of s) ≡ r → IsAtRest r.world
 at-rest s r h e a = by_place (nat_lt a.lane.0 (length s.drivers)) refl
   where
     by_place : (b : Bool) → nat_lt a.lane.0 (length s.drivers) ≡ b → step_entry r.world a ≡ None

@@ -15,7 +15,7 @@ use Rattle.lane_agreement.specs.View.{View, Return, Idle}
 use Rattle.busdma_machine.specs.Bounce.Share.{Same, share}
 use Rattle.lane_agreement.specs.OwnShare.{share_of, is_return, one_if}
 use Rattle.lane_agreement.specs.Agreement.{Agrees}
-use Rattle.lane_agreement.specs.After.{Asks, IsFront}
+use Rattle.lane_agreement.specs.After.{MayAsk, IsFront}
 use Rattle.lane_agreement.proofs.Own.{count-one, count-less}
 
 -- what the account has of a name, where the lane's map there is known
@@ -82,7 +82,7 @@ bounces : (t : _) (l : View) (a : Account) → l.maxmem ≡ a.maxmem →
     IsTrue (could_bounce t l.maxmem) → IsTrue (could_bounce t a.maxmem)
 bounces t l a e h = subst (λ k. IsTrue (could_bounce t k)) e h
 
-pub agrees-may : (l : View) (a : Account) (c : HubCall) → Agrees l a → Asks l c → MayCall l.id c a
+pub agrees-may : (l : View) (a : Account) (c : HubCall) → Agrees l a → MayAsk l c → MayCall l.id c a
 agrees-may l a (AttachTag t) agrees asks = (bounces t l a agrees.maxmem asks.0, asks.1)
 agrees-may l a (CreateMap m t first_done) agrees asks =
     (asks.0, bounces t l a agrees.maxmem asks.1, (known l a m None agrees asks.0 asks.2).in_zones)

@@ -11,7 +11,7 @@ use Rattle.busdma_machine.specs.Bounce.History.{IsOpening, IsSound, after_entry,
 use Rattle.busdma_machine.specs.Bounce.Door.{Seen, account, Passes, Holds}
 use Rattle.lane_agreement.specs.View.{View}
 use Rattle.lane_agreement.specs.Agreement.{Agrees}
-use Rattle.lane_agreement.specs.After.{after, Asks}
+use Rattle.lane_agreement.specs.After.{after, MayAsk}
 use Rattle.lane_agreement.proofs.Others.{agrees-stays}
 use Rattle.lane_agreement.proofs.Whole.{agrees-step, fit-reached}
 
@@ -51,7 +51,7 @@ agrees-passes l d others e agrees served passes =
     (others_away d.serves l.id others served passes.apart))))
 
 pub agrees-holds : (fits : Bool) (l : View) (d : Seen) (c : HubCall) (r : HubReply) (e : Seen) → Agrees l (account d) →
-    IsTrue (d.serves l.id) → Holds d l.id c r e → Asks l c → Agrees (after fits l c r) (account e)
+    IsTrue (d.serves l.id) → Holds d l.id c r e → MayAsk l c → Agrees (after fits l c r) (account e)
 agrees-holds fits l d c r e agrees served holds asks =
     let b : Seen = holds.between in
     let own : List HoldEntry = record { lane = record { 0 = l.id }; call = c; reply = r } ∷ [] in

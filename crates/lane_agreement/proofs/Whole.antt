@@ -31,7 +31,7 @@ use Rattle.lane_agreement.specs.View.{View, Return, Idle, Waiting, Loaded, stage
 use Rattle.busdma_machine.specs.Bounce.Share.{Same, share}
 use Rattle.lane_agreement.specs.OwnShare.{share_of, one_if}
 use Rattle.lane_agreement.specs.Agreement.{Agrees, IsFit}
-use Rattle.lane_agreement.specs.After.{after, after_mem_alloc, Asks, IsFront, IsFresh}
+use Rattle.lane_agreement.specs.After.{after, after_mem_alloc, MayAsk, IsFront, IsFresh}
 use Rattle.busdma_machine.proofs.Accounts.Names.{Same-refl, name-attached}
 use Rattle.lane_agreement.proofs.Own.{count-one}
 use Rattle.lane_agreement.proofs.Asking.{known, agrees-may}
@@ -71,12 +71,12 @@ allocate l m len boundary limit (Some first) a fit agrees own here is s =
     (lowest_run-frames len boundary limit first a.bank fit.rising whole is) s
 
 -- after an own call the lane as the reply leaves it agrees with the new account
-pub agrees-step : (fits : Bool) (l : View) (c : HubCall) (a : Account) → IsFit a → Agrees l a → Asks l c →
+pub agrees-step : (fits : Bool) (l : View) (c : HubCall) (a : Account) → IsFit a → Agrees l a → MayAsk l c →
     Agrees (after fits l c (account_step l.id c a).reply) (account_step l.id c a).account
 agrees-step fits l c a fit agrees asks =
     step c asks (agrees-may l a c agrees asks) (stepped l.id c a (agrees-may l a c agrees asks) fit.well)
   where
-    step : (c : HubCall) → Asks l c → MayCall l.id c a → Stepped a (account_step l.id c a).account →
+    step : (c : HubCall) → MayAsk l c → MayCall l.id c a → Stepped a (account_step l.id c a).account →
         Agrees (after fits l c (account_step l.id c a).reply) (account_step l.id c a).account
     step (AttachTag t) asks may s = agrees-kept l a _ agrees s (λ m. name-attached m t a)
     step (CreateMap m t first_done) asks may s = agrees-create l m t first_done a agrees asks.0 asks.2 s

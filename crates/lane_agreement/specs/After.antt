@@ -49,16 +49,16 @@ IsFront [] k z page = ⊥
 IsFront (r ∷ rs) k z page = (r.map ≡ k) × (r.zone ≡ z) × (r.page ≡ page)
 
 -- what a lane's own state says before it makes a call
-abbrev pub Asks : View → HubCall → Type 0
-Asks l (AttachTag t) = IsTrue (could_bounce t l.maxmem) × IsTrue (allocnow t.flags)
-Asks l (CreateMap m t first_done) = (m.lane.0 ≡ l.id) × IsTrue (could_bounce t l.maxmem) × (l.map_at m.made_at ≡ None)
-Asks l (DestroyMap m z) = (m.lane.0 ≡ l.id) × (l.map_at m.made_at ≡ Some (record { zone = z.0; stage = Idle }))
-Asks l (Grab m z need nowait) =
+abbrev pub MayAsk : View → HubCall → Type 0
+MayAsk l (AttachTag t) = IsTrue (could_bounce t l.maxmem) × IsTrue (allocnow t.flags)
+MayAsk l (CreateMap m t first_done) = (m.lane.0 ≡ l.id) × IsTrue (could_bounce t l.maxmem) × (l.map_at m.made_at ≡ None)
+MayAsk l (DestroyMap m z) = (m.lane.0 ≡ l.id) × (l.map_at m.made_at ≡ Some (record { zone = z.0; stage = Idle }))
+MayAsk l (Grab m z need nowait) =
     (m.lane.0 ≡ l.id) × (1 ≤ need) × (l.map_at m.made_at ≡ Some (record { zone = z.0; stage = Idle }))
-Asks l (Release m z page) = (m.lane.0 ≡ l.id) × IsFront l.returns m.made_at z.0 page.0
-Asks l TakeCallback = Unit {0}
-Asks l (MemAlloc m t) = (m.lane.0 ≡ l.id) × (l.mem_at m.made_at ≡ None)
-Asks l (MemFree m) = (m.lane.0 ≡ l.id) × (fs : List ℕ) × (l.mem_at m.made_at ≡ Some fs)
+MayAsk l (Release m z page) = (m.lane.0 ≡ l.id) × IsFront l.returns m.made_at z.0 page.0
+MayAsk l TakeCallback = Unit {0}
+MayAsk l (MemAlloc m t) = (m.lane.0 ≡ l.id) × (l.mem_at m.made_at ≡ None)
+MayAsk l (MemFree m) = (m.lane.0 ≡ l.id) × (fs : List ℕ) × (l.mem_at m.made_at ≡ Some fs)
 
 -- a lane that has no map, no memory and no page to give back
 pub record IsFresh (l : View) : Type 0 where

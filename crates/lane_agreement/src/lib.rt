@@ -19,7 +19,7 @@ ghost use Rattle.lane_agreement.specs.View.{View, Return, Idle, Waiting, Loaded,
 ghost use Rattle.busdma_machine.specs.Bounce.Door.{Seen, account, Passes, Holds};
 ghost use Rattle.busdma_machine.specs.declared.bounce.hold.HubReply.{HubReply};
 ghost use Rattle.lane_agreement.specs.Agreement.{Agrees, IsFit};
-ghost use Rattle.lane_agreement.specs.After.{after, after_callback, Asks, IsFresh, IsLike, left_of_map, brought};
+ghost use Rattle.lane_agreement.specs.After.{after, after_callback, MayAsk, IsFresh, IsLike, left_of_map, brought};
 
 /// A lane that has nothing agrees with an opening of the same maxmem that has none of its driver's frames.
 pub fn opening_agrees()
@@ -40,19 +40,19 @@ pub fn doors_keep_agreement()
         IsTrue (d.serves l.id) → Passes d others e → Agrees l (account e) }
     ensures holds { (fits : Bool) (l : View) (d : Seen) (c : HubCall) (r : HubReply) (e : Seen) →
         Agrees l (account d) →
-        IsTrue (d.serves l.id) → Holds d l.id c r e → Asks l c → Agrees (after fits l c r) (account e) }
+        IsTrue (d.serves l.id) → Holds d l.id c r e → MayAsk l c → Agrees (after fits l c r) (account e) }
 {}
 
 /// A lane that agrees with the account may make each call that its own state allows.
 pub fn agreement_allows()
-    ensures { (l : View) (a : Account) (c : HubCall) → Agrees l a → Asks l c → MayCall l.id c a }
+    ensures { (l : View) (a : Account) (c : HubCall) → Agrees l a → MayAsk l c → MayCall l.id c a }
 {}
 
 /// Where a lane agrees with an account that fits, and makes a call that its own state allows, the lane that the
 /// account's reply makes of it agrees with the new account. A lane that unloads a map, or loads an idle one without a
 /// page, makes no call, and still agrees with the account.
 pub fn agreement_follows()
-    ensures step { (fits : Bool) (l : View) (c : HubCall) (a : Account) → IsFit a → Agrees l a → Asks l c →
+    ensures step { (fits : Bool) (l : View) (c : HubCall) (a : Account) → IsFit a → Agrees l a → MayAsk l c →
         Agrees (after fits l c (account_step l.id c a).reply) (account_step l.id c a).account }
     ensures unload { (l : View) (k z : ℕ) (pages : List ℕ) (a : Account) → Agrees l a →
         l.map_at k ≡ Some (record { zone = z; stage = Loaded pages }) → Agrees (unloaded l k z pages) a }

@@ -20,7 +20,7 @@ use Rattle.lane_core.specs.Changes.{KeepsBytesBut, KeepsWhatStays, Stays}
 use Rattle.lane_core.specs.Held.{devices_of}
 use Rattle.lane_core.specs.Ideal.{given, ideal_of}
 use Rattle.lane_core.specs.Kept.{device_of, device_in}
-use Rattle.lane_core.specs.Turning.{IsMade}
+use Rattle.lane_core.specs.Turning.{IsTurnOf}
 use Rattle.lane_core.proofs.Called.{WaitsFor, kept-load}
 
 module _ (h k : Holdings) (m count : ℕ) (waits : WaitsFor h m count) (bytes : KeepsBytesBut m h k) where
@@ -48,11 +48,11 @@ pub called-made : (h k : Holdings) (d e : Seen) (m : MapId) (pas : List ℕ) (co
       actor = record { lane = k.id; side = side.Callback };
       did = did.Callback m;
       answer = a;
-    }) true → IsMade h k d e side.Callback t
+    }) true → IsTurnOf h k d e side.Callback t
 called-made h k d e m pas count a holds waits done bytes memories same_length capacity t is =
     let l = ideal_of h in
     let step = stepped side.Callback (did.Callback m) in
-    subst (IsMade h k d e side.Callback) (sym is) (record {
+    subst (IsTurnOf h k d e side.Callback) (sym is) (record {
       done = inl (
         refl,
         record {

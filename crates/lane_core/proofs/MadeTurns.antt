@@ -14,13 +14,13 @@ use Rattle.lane_core.specs.declared.turn.Turn.{Turn}
 use Rattle.lane_core.specs.Changes.{IsWireOf, Becomes, Stays, WithMemory, KeepsState}
 use Rattle.lane_core.specs.Doing.{IsUndone}
 use Rattle.lane_core.specs.Ideal.{ideal_of}
-use Rattle.lane_core.specs.Turning.{IsMade, IsReady, IsServed, is_held, turned}
+use Rattle.lane_core.specs.Turning.{IsTurnOf, IsReady, IsServed, is_held, turned}
 use Rattle.lane_core.specs.Wire.{wire_of}
 use Rattle.lane_core.proofs.KeepsWired.{kept-wired}
 use Rattle.lane_core.proofs.TurnEnds.{end-beside, end-bounded, end-follows, end-known, end-served, end-stands}
 use Rattle.lane_core.proofs.TurnEnds.{end-wired}
 
-module _ (h k : Holdings) (d e : Seen) (s : Side) (t : Turn) (ready : IsReady h d) (made : IsMade h k d e s t) where
+module _ (h k : Holdings) (d e : Seen) (s : Side) (t : Turn) (ready : IsReady h d) (made : IsTurnOf h k d e s t) where
   pub end-wire : IsWireOf h k (wires.lane_step (ideal_of h) s (wire_of h)) →
       Follows (ideal_of h) (ideal_of k) (wires.lane_step (ideal_of h) s (wire_of h)) (wire_of k)
   end-wire (Becomes memories is) = record {

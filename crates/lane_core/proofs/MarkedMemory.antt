@@ -9,7 +9,7 @@ use Rattle.std.proofs.lemmas.Map.Views.{exact_unsigned_eq}
 use Rattle.loan_table.specs.Loans.{Loans}
 use Rattle.loan_table.specs.Table.{AreIn, set_all}
 use Rattle.phys_memory.specs.Memory.{Memory}
-use Rattle.ideal_lane.specs.IdealMemory.{IdealMemory, Content, Known, Unknown, forgotten, is_among, written}
+use Rattle.ideal_lane.specs.IdealMemory.{IdealMemory, Content, Known, Unknown, forgotten, has_address, written}
 use Rattle.ideal_lane.specs.IdealMemory.{written_at}
 use Rattle.lane_core.specs.Held.{byte_among, content_of, held}
 use Rattle.lane_core.specs.Kept.{Device}
@@ -71,9 +71,9 @@ unknown-mark (Some c) h = refl
 -- bytes are forgotten
 pub marks-forgotten : (bytes : FinMap nat_cmp Bool) (memory : IdealMemory) (keys : List ℕ) → AreIn bytes keys →
     AreMarks bytes memory → AreMarks (set_all bytes keys false) (forgotten keys memory)
-marks-forgotten bytes memory keys are marks a = get-set_all bytes keys false a ∙ by (is_among keys a) refl
+marks-forgotten bytes memory keys are marks a = get-set_all bytes keys false a ∙ by (has_address keys a) refl
   where
-    by : (b : Bool) → is_among keys a ≡ b → cond b (Some false) (get bytes a)
+    by : (b : Bool) → has_address keys a ≡ b → cond b (Some false) (get bytes a)
         ≡ mark_of (cond b (option_map (λ c. Unknown) (memory a)) (memory a))
     by true e = unknown-mark (memory a) (sym (ap is_some (marks a)) ∙ some_in bytes keys a are e)
     by false e = marks a

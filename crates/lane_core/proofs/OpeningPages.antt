@@ -97,11 +97,11 @@ abbrev pub is_frame : List PageRun → ℕ → Bool
 is_frame runs f = list_any (λ r. is_one_of r.frame r.count f) runs
 
 -- a memory has the pages of these runs alone, with 0 in every byte
-pub record HasPages (pages : List PageRun) (m : Memory) : Type 0 where
+pub record HoldsPages (pages : List PageRun) (m : Memory) : Type 0 where
   pub table : (v : ℕ) → get m.table v ≡ rows_of pages v
   pub frames : (f : ℕ) → get m.frames f ≡ cond (is_frame pages f) (Some (replicate 4096 0)) None
 
-pub has_no_pages : (m : Memory) → m.table ≡ empty → m.frames ≡ empty → HasPages [] m
+pub has_no_pages : (m : Memory) → m.table ≡ empty → m.frames ≡ empty → HoldsPages [] m
 has_no_pages m t f = record {
   table = λ v. ap (λ x. get x v) t ∙ get-empty nat_cmp v;
   frames = λ v. ap (λ x. get x v) f ∙ get-empty nat_cmp v;
@@ -118,7 +118,7 @@ no_row (r ∷ runs) v h =
 
 -- a run of its own pages and frames is not there yet
 pub is_without : (before : List PageRun) (run : PageRun) (m : Memory) →
-    IsOwnRun before run → HasPages before m → IsWithout run m
+    IsOwnRun before run → HoldsPages before m → IsWithout run m
 is_without before run m is has = record {
   table = λ v h. has.table v ∙ no_row before v (in_none (λ r. r.va.0 / 4096) before run v is.own_pages h);
   frames =
@@ -143,7 +143,7 @@ rows_push (b ∷ before) run v h =
 
 -- the pages of one run more
 pub has_next : (pages : List PageRun) (i : ℕ) (m n : Memory) → i < length pages → ArePages pages →
-    HasPages (take i pages) m → HasRun (get_or pages i no_run) m n → HasPages (take (i + 1) pages) n
+    HoldsPages (take i pages) m → HasRun (get_or pages i no_run) m n → HoldsPages (take (i + 1) pages) n
 has_next pages i m n lt are has new = record {
   table = λ v. new.table v ∙ ap (cond (is_one_of (run.va.0 / 4096) run.count v) (Some (row_of run v))) (has.table v)
       ∙ sym (ap (λ ps. rows_of ps v) (take_more pages i no_run lt)
@@ -229,7 +229,7 @@ rows_low before (run ∷ pages) v r h e =
     at false one rest is = rest is
 
 -- the memory of a driver's pages is the one in which it opens
-pub has_opening : (pages : List PageRun) (m : Memory) → ArePages pages → HasPages pages m → IsOpeningMemory pages m
+pub has_opening : (pages : List PageRun) (m : Memory) → ArePages pages → HoldsPages pages m → IsOpeningMemory pages m
 has_opening pages m are has = record {
   physical = λ i va. (at va) i;
   frames = λ a. ap is_some (has.frames (a / 4096))

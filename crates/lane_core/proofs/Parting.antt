@@ -28,7 +28,7 @@ use Rattle.ideal_lane.specs.Places.{is_in_memory, physical_of}
 use Rattle.ideal_lane.specs.State.{LaneMemory, LaneState}
 use Rattle.ideal_lane.proofs.Lookups.{get_cut}
 use Rattle.ideal_wire.specs.Centre.{IsAt}
-use Rattle.ideal_wire.specs.Laid.{IsRun, LiesIn, OfMemory, is_loadable}
+use Rattle.ideal_wire.specs.Laid.{HasWholeFrames, LiesIn, OfMemory, is_loadable}
 use Rattle.ideal_wire.specs.Traces.{stage_in}
 use Rattle.ideal_wire.proofs.Lent.{any_entry}
 use Rattle.ideal_wire.proofs.MemoryLoads.{no-page}
@@ -87,7 +87,7 @@ module _ (h : Holdings) (wired : IsWired h) (mem : ℕ) (x : KeptMemory) (there 
   image : get l.mems mem ≡ Some (memory_of x)
   image = image-some memory_of h.memories.map mem x there
 
-  run : IsRun (memory_of x)
+  run : HasWholeFrames (memory_of x)
   run = wired.laid.runs mem (memory_of x) image
 
   pub part-whole : first % 4096 ≡ 0

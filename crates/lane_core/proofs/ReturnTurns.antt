@@ -17,7 +17,7 @@ use Rattle.lane_core.specs.Changes.{KeepsBytes, Stays}
 use Rattle.lane_core.specs.Doing.{IsDone, asks}
 use Rattle.lane_core.specs.Ideal.{given, ideal_of}
 use Rattle.lane_core.specs.Kept.{return_of}
-use Rattle.lane_core.specs.Turning.{IsMade}
+use Rattle.lane_core.specs.Turning.{IsTurnOf}
 use Rattle.lane_core.specs.Wire.{wire_of}
 use Rattle.lane_core.proofs.Following.{stays-all}
 use Rattle.lane_core.proofs.TurnEnds.{done-turned}
@@ -42,8 +42,9 @@ pub back-made : (h k : Holdings) (d e : Seen) (r : Released) →
       actor = record { lane = k.id; side = side.Script };
       did = did.Release r.map r.page;
       answer = answer.Served r.served;
-    }) true → IsMade h k d e side.Script t
-back-made h k d e r done there bytes memories same_length same_room same_queue t is = subst (IsMade h k d e side.Script)
+    }) true → IsTurnOf h k d e side.Script t
+back-made h k d e r done there bytes memories same_length same_room same_queue t is = subst (IsTurnOf h k d e
+    side.Script)
     (sym is) (record {
       done = done-turned d h.id.0 (lane_step (ideal_of h) side.Script) _ true e done
           (sym (asks-there h.agenda.returns (ideal_of h) there));

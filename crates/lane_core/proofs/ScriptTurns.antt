@@ -27,7 +27,7 @@ use Rattle.lane_core.specs.Held.{devices_of, held}
 use Rattle.lane_core.specs.Ideal.{given, ideal_of}
 use Rattle.lane_core.specs.Kept.{map_of, memory_of, return_of, share_of, tag_of}
 use Rattle.lane_core.specs.MapValues.{map_values}
-use Rattle.lane_core.specs.Turning.{IsMade, IsServed, IsTurned, answered, is_held, turned}
+use Rattle.lane_core.specs.Turning.{IsTurnOf, IsServed, IsTurned, answered, is_held, turned}
 use Rattle.lane_core.specs.Wire.{held_pages, wire_of}
 use Rattle.lane_core.proofs.TurnEnds.{done-turned, turn-may}
 
@@ -51,7 +51,7 @@ module _ {X Y : Type 0} (f : X → Y) (d : Seen) (lane : ℕ) where
 -- it leaves the driver and the door as they were
 pub still-made : (h : Holdings) (d : Seen) (s : Side) (t : Turn) → is_held t ≡ false →
     lane_step (ideal_of h) s ≡ Gives (stays (answered t) (ideal_of h)) →
-    wires.lane_step (ideal_of h) s (wire_of h) ≡ wire_of h → IsMade h h d d s t
+    wires.lane_step (ideal_of h) s (wire_of h) ≡ wire_of h → IsTurnOf h h d d s t
 still-made h d s t unheld is plain = record {
   done = subst (λ step. IsTurned d h.id.0 step (turned h t) (is_held t) d) (sym is) (refl, unheld, refl);
   wire = Becomes refl (sym plain);
@@ -81,14 +81,14 @@ module _ (h : Holdings) (empty : h.agenda.returns ≡ []) where
   wire-next w = ap (λ qs. wires.script_turn (map return_of qs) l w) empty
 
   -- there is none
-  pub ended-made : (d : Seen) → slice_get h.script.now h.agenda.place ≡ None → IsMade h h d d side.Script turn.Ended
+  pub ended-made : (d : Seen) → slice_get h.script.now h.agenda.place ≡ None → IsTurnOf h h d d side.Script turn.Ended
   ended-made d none =
       still-made h d side.Script turn.Ended refl (step-next ∙ ap (λ o. next_operation o l) none)
       (wire-next (wire_of h) ∙ ap (λ o. wires.next_operation o l (wire_of h)) none)
 
   module _ (o : Op) (here : slice_get h.script.now h.agenda.place ≡ Some o) where
     -- it cannot step
-    pub blocked-made : (d : Seen) → waits o l ≡ true → IsMade h h d d side.Script turn.Blocked
+    pub blocked-made : (d : Seen) → waits o l ≡ true → IsTurnOf h h d d side.Script turn.Blocked
     blocked-made d waiting =
         still-made h d side.Script turn.Blocked refl
         (step-next ∙ ap (λ q. next_operation q l) here
@@ -166,9 +166,9 @@ module _ (h : Holdings) (empty : h.agenda.returns ≡ []) where
               actor = record { lane = n.id; side = side.Script };
               did = did.Op h.agenda.place;
               answer = r.answer;
-            }) r.held → IsMade h n d e side.Script t
+            }) r.held → IsTurnOf h n d e side.Script t
         next-made d e r t done asked wire same_length capacity is =
-            subst (IsMade h n d e side.Script) (sym is) (record {
+            subst (IsTurnOf h n d e side.Script) (sym is) (record {
               done = subst (λ x. IsTurned d h.id.0 (lane_step l side.Script) x r.held e) (sym made) turn_done;
               wire = wired-on _ (subst (IsWireOf h k) (sym (wire-is (wire_of h))) wire);
               places = ap (λ a. a.length) agenda ∙ same_length;

@@ -58,7 +58,7 @@ IsTurned {X} d lane (Asks c k) x held e =
 -- a turn of a side made this of a driver between what a door had seen and what it has seen now: the step's end, and
 -- the step's wire, but for pages and memories that came and went; the transfer queue has its room or its items, and the
 -- script its length
-pub record IsMade (h k : Holdings) (d e : Seen) (s : Side) (t : Turn) : Type 0 where
+pub record IsTurnOf (h k : Holdings) (d e : Seen) (s : Side) (t : Turn) : Type 0 where
   pub done : IsTurned d h.id.0 (lane_step (ideal_of h) s) (turned k t) (is_held t) e
   pub wire : IsWireOf h k (wires.lane_step (ideal_of h) s (wire_of h))
   pub places : k.agenda.length ≡ h.agenda.length

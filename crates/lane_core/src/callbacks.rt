@@ -12,7 +12,7 @@ ghost use Rattle.ideal_wire.specs.Machine.{IsInMachine};
 ghost use Rattle.lane_core.specs.declared.kept.KeptMap.{KeptMap};
 ghost use Rattle.lane_core.specs.Awaiting.{kept_load};
 ghost use Rattle.lane_core.specs.SmallLoads.{HasSmallLoads};
-ghost use Rattle.lane_core.specs.Turning.{IsMade, IsReady};
+ghost use Rattle.lane_core.specs.Turning.{IsTurnOf, IsReady};
 
 use crate::holdings::Holdings;
 use crate::kept::KeptLoad;
@@ -28,7 +28,7 @@ impl<'s> Holdings<'s> {
     pub(crate) fn call_back<D: HubDoor>(&mut self, door: &mut D) -> Turn
         requires ready { IsReady self.old (D.seen door.old) }
         requires small { HasSmallLoads self.old }
-        ensures made { IsMade self.old self.new (D.seen door.old) (D.seen door.new) side.Callback result }
+        ensures made { IsTurnOf self.old self.new (D.seen door.old) (D.seen door.new) side.Callback result }
         ensures small { HasSmallLoads self.new }
         ensures promised { self.new.agenda.promised ≤ self.old.agenda.promised }
         ensures memories { self.new.memories ≡ self.old.memories }

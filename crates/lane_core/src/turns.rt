@@ -11,7 +11,7 @@ ghost use Rattle.lane_core.specs.declared.holdings.Holdings.{Holdings};
 ghost use Rattle.lane_core.specs.declared.turn.Turn.{Turn};
 ghost use Rattle.lane_core.specs.Changes.{KeepsAgenda, KeepsPromises, KeepsState};
 ghost use Rattle.lane_core.specs.Doing.{IsAllowedBy, IsUndone};
-ghost use Rattle.lane_core.specs.Turning.{IsMade, IsReady, MayWant, is_held, turned};
+ghost use Rattle.lane_core.specs.Turning.{IsTurnOf, IsReady, MayWant, is_held, turned};
 ghost use Rattle.lane_core.specs.Wire.{IsWired, wire_of};
 
 use crate::holdings::{Answered, Holdings};
@@ -27,7 +27,7 @@ impl Holdings<'_> {
     /// The first page of the return queue goes back to its zone, if there is one.
     pub(crate) fn return_turn<D: HubDoor>(&mut self, door: &mut D) -> Option<Turn>
         requires { IsAllowedBy (D.seen door.old) self.old.id.0 (lane_step (ideal_of self.old) side.Script) }
-        ensures made { IfSome result (IsMade self.old self.new (D.seen door.old) (D.seen door.new) side.Script) }
+        ensures made { IfSome result (IsTurnOf self.old self.new (D.seen door.old) (D.seen door.new) side.Script) }
         ensures script { self.new.script ≡ self.old.script }
         ensures memories { self.new.memories ≡ self.old.memories }
         ensures place { self.new.agenda.place ≡ self.old.agenda.place }
@@ -53,7 +53,7 @@ impl Holdings<'_> {
         requires small { HasSmallLoads self.old }
         requires length { self.old.agenda.length ≡ length self.old.script.now }
         requires empty { self.old.agenda.returns ≡ [] }
-        ensures made { IfOk result (IsMade self.old self.new (D.seen door.old) (D.seen door.new) side.Script) }
+        ensures made { IfOk result (IsTurnOf self.old self.new (D.seen door.old) (D.seen door.new) side.Script) }
         ensures err { OnErr result (KeepsState self.old self.new) }
         ensures undone { OnErr result (IsUndone (D.seen door.old) (D.seen door.new)) }
         ensures room { OnErr result (self.old.agenda.room ≤ self.new.agenda.room) }
@@ -78,7 +78,7 @@ impl Holdings<'_> {
         requires ready { IsReady self.old (D.seen door.old) }
         requires small { HasSmallLoads self.old }
         requires length { self.old.agenda.length ≡ length self.old.script.now }
-        ensures made { IfOk result (IsMade self.old self.new (D.seen door.old) (D.seen door.new) side.Script) }
+        ensures made { IfOk result (IsTurnOf self.old self.new (D.seen door.old) (D.seen door.new) side.Script) }
         ensures err { OnErr result (KeepsState self.old self.new) }
         ensures undone { OnErr result (IsUndone (D.seen door.old) (D.seen door.new)) }
         ensures wanting { OnErr result (self.old.agenda.returns ≡ []) }
@@ -103,7 +103,7 @@ impl Holdings<'_> {
         requires ready { IsReady self.old (D.seen door.old) }
         requires small { HasSmallLoads self.old }
         requires length { self.old.agenda.length ≡ length self.old.script.now }
-        ensures made { IfOk result (IsMade self.old self.new (D.seen door.old) (D.seen door.new) side) }
+        ensures made { IfOk result (IsTurnOf self.old self.new (D.seen door.old) (D.seen door.new) side) }
         ensures err { OnErr result (KeepsState self.old self.new) }
         ensures undone { OnErr result (IsUndone (D.seen door.old) (D.seen door.new)) }
         ensures wanting { OnErr result (MayWant (ideal_of self.old) side) }
@@ -154,7 +154,7 @@ impl Holdings<'_> {
 /// A turn that was made leaves a driver ready for the next. So does one for which memory ran out.
 pub(crate) fn turns_leave_ready()
     ensures made { (h k : Holdings) (d e : Seen) (s : Side) (t : Turn) →
-        IsReady h d → IsMade h k d e s t → IsReady k e }
+        IsReady h d → IsTurnOf h k d e s t → IsReady k e }
     ensures wanting { (h k : Holdings) (d e : Seen) →
         IsReady h d → KeepsState h k → h.agenda.room ≤ k.agenda.room → IsUndone d e → IsReady k e }
 {}

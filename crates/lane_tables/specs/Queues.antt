@@ -14,8 +14,8 @@ use Rattle.lane_tables.specs.declared.queued.QueuedItem.{QueuedItem}
 use Rattle.lane_tables.specs.declared.queued.QueuedPage.{QueuedPage}
 
 -- how many items a script has
-abbrev pub item_count : List Op → ℕ
-item_count script = sum_by (λ o. length (items_of o)) script
+abbrev pub script_items : List Op → ℕ
+script_items script = sum_by (λ o. length (items_of o)) script
 
 -- items of a load, in order, the first of which has a place among the load's items
 abbrev pub queued_from : ℕ → ℕ → List Item → List QueuedItem

@@ -6,7 +6,7 @@ ghost use Rattle.std.specs.Prelude.{IfNone, IfOk, IfSome, OnErr, OnOk, OnSome};
 ghost use Rattle.std.specs.VecDeque.{deque_capacity};
 ghost use Rattle.busdma_base.specs.Scenarios.Limits.{steps_limit};
 ghost use Rattle.busdma_base.specs.Scenarios.Script.{steps_of};
-ghost use Rattle.lane_tables.specs.Queues.{item_count, queued, queue_names, queued_pages, has_page};
+ghost use Rattle.lane_tables.specs.Queues.{script_items, queued, queue_names, queued_pages, has_page};
 
 use crate::queued::{QueuedItem, QueuedPage, Returned, item_names};
 use busdma_base::{Driver, ItemList, MapId, Op, PageList, ZoneId};
@@ -52,9 +52,9 @@ impl Model for Agenda {
 }
 
 // How many items a script has.
-fn item_count(script: &[Op]) -> usize
+fn script_items(script: &[Op]) -> usize
     requires { steps_of script.now ≤ steps_limit }
-    ensures value { result ≡ item_count script.now }
+    ensures value { result ≡ script_items script.now }
     ensures few { result ≤ steps_limit }
 {
     let mut count = 0;
@@ -109,7 +109,7 @@ impl Agenda {
           length = length driver.now.script;
           queue = [];
           returns = [];
-          room = item_count driver.now.script;
+          room = script_items driver.now.script;
           promised = 0;
         }) }
     {
@@ -117,7 +117,7 @@ impl Agenda {
         Ok(Agenda {
             place: 0,
             script_len: script.len() as u32,
-            queue: VecDeque::with_capacity(alloc, item_count(script))?,
+            queue: VecDeque::with_capacity(alloc, script_items(script))?,
             returns: VecDeque::new(alloc),
             promised: 0,
         })

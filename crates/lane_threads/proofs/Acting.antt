@@ -19,7 +19,7 @@ use Rattle.lane_threads.specs.declared.call.DoorCall.TheVariants as call
 use Rattle.lane_threads.specs.declared.call.DoorReply.{DoorReply}
 use Rattle.lane_threads.specs.declared.call.DoorReply.TheVariants as reply
 use Rattle.lane_threads.specs.Calls.{lane_of, called_reply}
-use Rattle.lane_threads.specs.Object.{IsOfName, IsMade, IsMissed, AreInRow, Answers}
+use Rattle.lane_threads.specs.Object.{IsOfName, IsEntered, IsMissed, AreInRow, Answers}
 
 true≢false : true ≡ false → ⊥
 true≢false e = absurd (cc)
@@ -35,7 +35,7 @@ same-passed h others m p =
     p.history ∙ (ap (λ es. h.history ++ es) (no_others others p.apart) ∙ append-nil h.history)
 
 pub made : (h g : HubSeen) (lane : ℕ) (c : HubCall) (r : HubReply) → Holds (door h) lane c r (door g)
-    → IsMade h.opening h.history lane c r g.history
+    → IsEntered h.opening h.history lane c r g.history
 made h g lane c r held =
     let same : held.between.history ≡ h.history = same-passed h held.others held.between held.passes in
     let first : held.between.opening ≡ h.opening = held.passes.opening in
@@ -62,7 +62,7 @@ missed h g lane m =
 pub made_or_failed : {X E : Type 0} (h g : HubSeen) (lane : ℕ) (c : HubCall) (as_reply : X → HubReply)
     → (r : Result X E) → IfOk r (λ x. Holds (door h) lane c (as_reply x) (door g))
     → OnErr r (Fails (door h) (door g))
-    → IfOk r (λ x. IsMade h.opening h.history lane c (as_reply x) g.history) × OnErr r (g.history ≡ h.history)
+    → IfOk r (λ x. IsEntered h.opening h.history lane c (as_reply x) g.history) × OnErr r (g.history ≡ h.history)
 made_or_failed h g lane c as_reply (Ok x) held fails = (made h g lane c (as_reply x) held, tt)
 made_or_failed h g lane c as_reply (Err e) held fails = (tt, failed h g fails)
 
@@ -70,7 +70,7 @@ made_or_failed h g lane c as_reply (Err e) held fails = (tt, failed h g fails)
 pub made_or_missed : (h g : HubSeen) (lane : ℕ) (r : Option Called)
     → MatchOption r (Misses (door h) lane (door g)) (λ c. Holds (door h) lane TakeCallback (called_reply c) (door g))
     → MatchOption r (IsMissed h.opening h.history lane g.history)
-    (λ c. IsMade h.opening h.history lane TakeCallback (called_reply c) g.history)
+    (λ c. IsEntered h.opening h.history lane TakeCallback (called_reply c) g.history)
 made_or_missed h g lane None m = missed h g lane m
 made_or_missed h g lane (Some c) held = made h g lane TakeCallback (called_reply c) held
 
@@ -89,7 +89,7 @@ with_row P same (Err e) h row few = (tt, h.1)
 
 -- a call that was made added an entry of its lane
 module _ (o : Account) (before after : List HoldEntry) (name : ℕ) where
-  grows : (lane : ℕ) (c : HubCall) (r : HubReply) → lane + 1 ≡ name → IsMade o before lane c r after
+  grows : (lane : ℕ) (c : HubCall) (r : HubReply) → lane + 1 ≡ name → IsEntered o before lane c r after
       → Grows (IsOfName name) before after
   grows lane c r own m = inr (record { lane = record { 0 = lane }; call = c; reply = r }, own, m.entry)
 

@@ -19,7 +19,7 @@ use Rattle.turnstile.specs.Start.{history_after, IsLawful}
 use Rattle.turnstile.specs.Pass.{own_calls, TakesIn, Closes}
 use Rattle.turnstile.proofs.Logs.{prefix_then, between, silent}
 use Rattle.lane_threads.specs.Closing.{LanePass, IsJoined, Joins, HasOwnCalls, OthersCame, ClosesAfter, hub_seen}
-use Rattle.lane_threads.specs.Object.{IsLegal, IsOfName}
+use Rattle.lane_threads.specs.Object.{IsLegalHistory, IsOfName}
 use Rattle.lane_threads.specs.PassDoor.{seen_from, seen}
 use Rattle.lane_threads.proofs.Turning.{at, passes as passes_to}
 
@@ -95,7 +95,7 @@ record IsWithin (turns : List (ℕ × HoldEntry)) (p : LanePass) : Type 0 where
 
 -- the turnstile is closed
 module _ (first all : LanePass) (hub : HubSeen)
-    (c : Closes (λ h. h.history) (λ h. h.opening) IsLegal IsOfName all hub) where
+    (c : Closes (λ h. h.history) (λ h. h.opening) IsLegalHistory IsOfName all hub) where
   own_of : (p : LanePass) → IsWithin c.turns p → HasOwnCalls c.start.opening hub.history p
   own_of p w lane named =
       ap (of_lane lane) c.whole
@@ -108,8 +108,8 @@ module _ (first all : LanePass) (hub : HubSeen)
       let rest : List (ℕ × HoldEntry) = w.begins.0 in
       let others : IsOfOthers p.name rest =
       silent p.name rest (between p.name (own_calls p) p.front c.turns w.begins refl w.calls) in
-      let sound : IsLawful IsLegal IsOfName c.start (p.front ++ rest) =
-      subst (IsLawful IsLegal IsOfName c.start) (sym w.begins.1) c.sound in
+      let sound : IsLawful IsLegalHistory IsOfName c.start (p.front ++ rest) =
+      subst (IsLawful IsLegalHistory IsOfName c.start) (sym w.begins.1) c.sound in
       let here : Passes (at c.start p.name p.front) (entries rest) (at c.start p.name (p.front ++ rest)) =
       passes_to c.start p.name p.front rest (p.front ++ rest) ([], append-nil (p.front ++ rest)) others sound in
       let here_started : p.start ≡ Some c.start = same ∙ started in
@@ -135,7 +135,7 @@ joined_within all p turns begins ended j = record {
 
 -- all were joined, and the turnstile is closed
 pub closed : (first all : LanePass) (passes : List LanePass) (hub : HubSeen) → Joins first passes all
-    → Closes (λ h. h.history) (λ h. h.opening) IsLegal IsOfName all hub → ClosesAfter first passes hub
+    → Closes (λ h. h.history) (λ h. h.opening) IsLegalHistory IsOfName all hub → ClosesAfter first passes hub
 closed first all passes hub j c =
     let started : first.start ≡ Some c.start = sym j.start ∙ c.started in
     let lawful = c.sound.lawful c.turns ([], append-nil c.turns) in
@@ -151,7 +151,8 @@ closed first all passes hub j c =
       started = started;
       opening = c.fixed_part;
       legal =
-          subst (λ (x : Account × List HoldEntry). IsLegal x.0 x.1) (λ i. (sym c.fixed_part i, sym c.whole i)) lawful;
+          subst (λ (x : Account × List HoldEntry). IsLegalHistory x.0 x.1) (λ i. (sym c.fixed_part i, sym c.whole i))
+              lawful;
       added = entries c.turns;
       begins = c.whole;
       drivers = drivers c.start c.turns c.sound.pairs;

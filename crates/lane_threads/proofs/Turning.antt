@@ -25,7 +25,7 @@ use Rattle.lane_threads.specs.declared.call.DoorReply.{DoorReply}
 use Rattle.lane_threads.specs.declared.call.DoorReply.TheVariants as reply
 use Rattle.lane_threads.specs.Calls.{lane_of, hub_call}
 use Rattle.lane_threads.specs.Closing.{LanePass}
-use Rattle.lane_threads.specs.Object.{IsLegal, IsOfName, MayAct, GivesBack, Answers, IsMade, IsMissed}
+use Rattle.lane_threads.specs.Object.{IsLegalHistory, IsOfName, MayAct, GivesBack, Answers, IsEntered, IsMissed}
 use Rattle.lane_threads.specs.PassDoor.{seen_from, seen, Replied}
 
 same_number : (a b : ℕ) → IsTrue (a == b) → a ≡ b
@@ -67,7 +67,7 @@ at start name turns = seen_from (Some start) name turns
 -- turns of others came after the front, in a whole turn history that is sound
 module _ (start : Start HoldEntry Account) (name : ℕ) (front between whole : List (ℕ × HoldEntry))
     (begins : IsPrefix (front ++ between) whole) (others : IsOfOthers name between)
-    (sound : IsLawful IsLegal IsOfName start whole) where
+    (sound : IsLawful IsLegalHistory IsOfName start whole) where
   pub passes : Passes (at start name front) (entries between) (at start name (front ++ between))
   passes =
       let legal = sound.lawful (front ++ between) begins in
@@ -85,7 +85,7 @@ module _ (start : Start HoldEntry Account) (name : ℕ) (front between whole : L
 
   -- and after them the call's own
   holds : (lane : ℕ) (c : HubCall) (r : HubReply)
-      → IsMade start.fixed (history_after start (front ++ between)) lane c r (history_after start whole)
+      → IsEntered start.fixed (history_after start (front ++ between)) lane c r (history_after start whole)
       → Holds (at start name front) lane c r (at start name whole)
   holds lane c r made = record {
     between = at start name (front ++ between);
@@ -148,13 +148,13 @@ Some-inj d x y e = ap (λ o. unwrap_or o d) e
 
 -- a turn of the pass is a reply at its door
 pub turn_replied : (old new : LanePass) (c : DoorCall) (r : DoorReply) → HasTurn IsOfName Answers old c r new
-    → IsSoundPass IsLegal IsOfName new → Replied (seen old) c r (seen new)
+    → IsSoundPass IsLegalHistory IsOfName new → Replied (seen old) c r (seen new)
 turn_replied old new c r t s =
     let again : new.start ≡ Some t.start = ap (λ (p : LanePass). p.start) t.rest ∙ t.started in
     let same : s.start ≡ t.start = Some-inj t.start s.start t.start (sym s.started ∙ again) in
     let named : new.name ≡ old.name = ap (λ (p : LanePass). p.name) t.rest in
-    let sound : IsLawful IsLegal IsOfName t.start new.front =
-    subst (λ b. IsLawful IsLegal IsOfName b new.front) same s.front in
+    let sound : IsLawful IsLegalHistory IsOfName t.start new.front =
+    subst (λ b. IsLawful IsLegalHistory IsOfName b new.front) same s.front in
     let here =
     replied t.start old.name old.front t.between new.front (
       turns_of old.name t.gain,

@@ -8,7 +8,7 @@ use Rattle.busdma_machine.specs.Bounce.LaneEntries.{of_lane}
 use Rattle.bounce_hub.specs.Seen.{HubSeen}
 use Rattle.turnstile.specs.declared.view.Start.{Start}
 use Rattle.turnstile.specs.Pass.{PassView, own_calls}
-use Rattle.lane_threads.specs.Object.{IsLegal}
+use Rattle.lane_threads.specs.Object.{IsLegalHistory}
 use Rattle.lane_threads.specs.PassDoor.{seen}
 
 abbrev pub LanePass : Type 0
@@ -48,7 +48,7 @@ pub record ClosesAfter (first : LanePass) (passes : List LanePass) (hub : HubSee
   pub start : Start HoldEntry Account
   pub started : first.start ≡ Some start
   pub opening : hub.opening ≡ start.fixed
-  pub legal : IsLegal hub.opening hub.history
+  pub legal : IsLegalHistory hub.opening hub.history
   pub added : List HoldEntry
   pub begins : hub.history ≡ start.opening ++ added
   pub drivers : All (λ hold. hold.lane.0 + 1 < start.names) added

@@ -19,7 +19,7 @@ use Rattle.lane_threads.specs.declared.call.DoorReply.TheVariants as reply
 use Rattle.lane_threads.specs.Calls.{hub_call, lane_of, called_reply}
 
 -- the opening account may begin a history, and the history is sound
-pub record IsLegal (opening : Account) (history : List HoldEntry) : Type 0 where
+pub record IsLegalHistory (opening : Account) (history : List HoldEntry) : Type 0 where
   pub form : IsOpening opening
   pub sound : IsSound opening history
 
@@ -39,7 +39,7 @@ pub record MayAct (opening : Account) (history : List HoldEntry) (name : ℕ) (c
   pub pages : GivesBack c (account_of opening history)
 
 -- the lane's call added one entry, its own, whose reply is the account's
-pub record IsMade (o : Account) (before : List HoldEntry) (lane : ℕ) (c : HubCall) (r : HubReply)
+pub record IsEntered (o : Account) (before : List HoldEntry) (lane : ℕ) (c : HubCall) (r : HubReply)
     (after : List HoldEntry) : Type 0 where
   pub reply : r ≡ (account_step lane c (account_of o before)).reply
   pub entry : after ≡ before ++ record { lane = record { 0 = lane }; call = c; reply = r } ∷ []
@@ -57,24 +57,24 @@ pub record AreInRow (pages : RoomyPages) : Type 0 where
 -- the reply answers the call of the same name, and no other; where memory ran out there is no entry
 abbrev pub Answers : Account → List HoldEntry → ℕ → DoorCall → DoorReply → List HoldEntry → Type 0
 Answers o before name (call.AttachTag alloc lane tag) (reply.AttachTag r) after =
-    IfOk r (λ g. IsMade o before lane.0 (hub.AttachTag tag) (said.Grown g) after)
+    IfOk r (λ g. IsEntered o before lane.0 (hub.AttachTag tag) (said.Grown g) after)
     × OnErr r (after ≡ before)
 Answers o before name (call.CreateMap alloc map tag first_done) (reply.CreateMap r) after =
-    IfOk r (λ g. IsMade o before map.lane.0 (hub.CreateMap map tag first_done) (said.Grown g) after)
+    IfOk r (λ g. IsEntered o before map.lane.0 (hub.CreateMap map tag first_done) (said.Grown g) after)
     × OnErr r (after ≡ before)
 Answers o before name (call.DestroyMap map zone) reply.DestroyMap after =
-    IsMade o before map.lane.0 (hub.DestroyMap map zone) said.Nothing after
+    IsEntered o before map.lane.0 (hub.DestroyMap map zone) said.Nothing after
 Answers o before name (call.Grab alloc map zone need nowait) (reply.Grab r) after =
-    IfOk r (λ g. IsMade o before map.lane.0 (hub.Grab map zone need nowait) (grab_reply g) after)
+    IfOk r (λ g. IsEntered o before map.lane.0 (hub.Grab map zone need nowait) (grab_reply g) after)
     × OnErr r (after ≡ before)
 Answers o before name (call.Release map zone page) (reply.Release moved) after =
-    IsMade o before map.lane.0 (hub.Release map zone (record { 0 = page_address page })) (said.Served moved) after
+    IsEntered o before map.lane.0 (hub.Release map zone (record { 0 = page_address page })) (said.Served moved) after
 Answers o before name (call.TakeCallback lane) (reply.TakeCallback r) after =
     MatchOption r (IsMissed o before lane.0 after)
-    (λ c. IsMade o before lane.0 hub.TakeCallback (called_reply c) after)
+    (λ c. IsEntered o before lane.0 hub.TakeCallback (called_reply c) after)
 Answers o before name (call.MemAlloc alloc mem tag) (reply.MemAlloc r) after =
-    IfOk r (λ g. IsMade o before mem.lane.0 (hub.MemAlloc mem tag) (memory_reply g) after × IfSome g AreInRow)
+    IfOk r (λ g. IsEntered o before mem.lane.0 (hub.MemAlloc mem tag) (memory_reply g) after × IfSome g AreInRow)
     × OnErr r (after ≡ before)
 Answers o before name (call.MemFree mem pages) reply.MemFree after =
-    IsMade o before mem.lane.0 (hub.MemFree mem) said.Nothing after
+    IsEntered o before mem.lane.0 (hub.MemFree mem) said.Nothing after
 Answers o before name _ _ after = ⊥

@@ -13,7 +13,7 @@ use Rattle.lane_threads.specs.declared.call.DoorCall.{DoorCall}
 use Rattle.lane_threads.specs.declared.call.DoorCall.TheVariants.{AttachTag, CreateMap, DestroyMap, Grab}
 use Rattle.lane_threads.specs.declared.call.DoorCall.TheVariants.{Release, TakeCallback, MemAlloc, MemFree}
 use Rattle.lane_threads.specs.Calls.{hub_call, lane_of}
-use Rattle.lane_threads.specs.Object.{IsLegal, IsOfName, MayAct, GivesBack}
+use Rattle.lane_threads.specs.Object.{IsLegalHistory, IsOfName, MayAct, GivesBack}
 
 -- the pages that a call of a lane gives back are still those of the memory after entries of others
 gives_back-stays : (c : DoorCall) (a : Account) (es : List HoldEntry) → IsSound a es
@@ -29,7 +29,7 @@ gives_back-stays (MemFree mem pages) a es sound others g =
     g ∙ sym (frames-stay mem.lane.0 mem a es refl sound others)
 
 -- the law of the object of a turnstile
-pub may-outlasts : OutlastsOthers IsLegal IsOfName MayAct
+pub may-outlasts : OutlastsOthers IsLegalHistory IsOfName MayAct
 may-outlasts o history name other c e may apart fits legal =
     let here : Account = account_of o history in
     let later : account_of o (history ++ e ∷ []) ≡ account_of here (e ∷ []) =

@@ -1,7 +1,7 @@
 //! A hub as what stands in a turnstile.
 
 ghost use Rattle.std.specs.Prelude.{◌≡◌};
-ghost use Rattle.lane_threads.specs.Object.{IsLegal};
+ghost use Rattle.lane_threads.specs.Object.{IsLegalHistory};
 
 use crate::call::{DoorCall, DoorReply};
 use bounce_hub::Hub;
@@ -28,7 +28,7 @@ impl HubObject {
     /// Wraps a hub, with the holds that it has. Takes no memory.
     pub fn new(hub: Hub) -> HubObject
         ensures hub { result ≡ hub }
-        ensures legal { IsLegal result.opening result.history }
+        ensures legal { IsLegalHistory result.opening result.history }
     {
         // For what is true of every hub: its holds are a sound history.
         let _ = hub.history();
@@ -59,7 +59,7 @@ impl TurnObject for HubObject {
 
     ghost fixed = { λ o. o.opening };
 
-    ghost legal = { IsLegal };
+    ghost legal = { IsLegalHistory };
 
     ghost fits = { IsOfName };
 

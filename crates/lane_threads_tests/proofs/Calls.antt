@@ -12,14 +12,14 @@ use Rattle.busdma_machine.specs.declared.bounce.hold.HubReply.TheVariants.{NoPag
 use Rattle.busdma_machine.specs.Bounce.AccountStep.{as_pages}
 use Rattle.busdma_machine.specs.Bounce.Door.{Seen, Holds}
 use Rattle.lane_agreement.specs.View.{View, Return, Idle, Waiting, Loaded, staged, gone, given_back, zone_in}
-use Rattle.lane_agreement.specs.After.{Asks}
+use Rattle.lane_agreement.specs.After.{MayAsk}
 use Rattle.lane_threads_tests.specs.Knowing.{Knows}
 use Rattle.lane_threads_tests.proofs.Knowing.{IsOf, Each, held, addresses_as_pages}
 
 module _ (lane : ℕ) (Has Next : View → Type 0) (d e : Seen) (k : Knows lane Has d) where
   -- a map was made in a zone
   pub created : (m : MapId) (t : TagLimits) (first_done : Bool) (g : Grown) (z : ℕ)
-      → Each lane Has (λ l. Asks l (CreateMap m t first_done)) → g.made ≡ true → g.zone.0 ≡ z
+      → Each lane Has (λ l. MayAsk l (CreateMap m t first_done)) → g.made ≡ true → g.zone.0 ≡ z
       → Each lane Has (λ l. Next (staged l m.made_at z Idle))
       → Holds d lane (CreateMap m t first_done) (GrownBy g) e → Knows lane Next e
   created m t first_done g z asks made zone leads h =
@@ -29,7 +29,7 @@ module _ (lane : ℕ) (Has Next : View → Type 0) (d e : Seen) (k : Knows lane 
 
   -- a load got these pages
   pub granted : (m : MapId) (z : ZoneId) (need : ℕ) (nowait : Bool) (pages : List ℕ)
-      → Each lane Has (λ l. Asks l (Grab m z need nowait))
+      → Each lane Has (λ l. MayAsk l (Grab m z need nowait))
       → Each lane Has (λ l. Next (staged l m.made_at z.0 (Loaded pages)))
       → Holds d lane (Grab m z need nowait) (Granted (as_pages pages)) e → Knows lane Next e
   granted m z need nowait pages asks leads h =
@@ -39,7 +39,7 @@ module _ (lane : ℕ) (Has Next : View → Type 0) (d e : Seen) (k : Knows lane 
 
   -- a load waits
   pub queued : (m : MapId) (z : ZoneId) (need have : ℕ) (nowait : Bool)
-      → Each lane Has (λ l. Asks l (Grab m z need nowait))
+      → Each lane Has (λ l. MayAsk l (Grab m z need nowait))
       → Each lane Has (λ l. Next (staged l m.made_at z.0 (Waiting need)))
       → Holds d lane (Grab m z need nowait) (Queued have) e → Knows lane Next e
   queued m z need have nowait asks leads h =
@@ -47,7 +47,7 @@ module _ (lane : ℕ) (Has Next : View → Type 0) (d e : Seen) (k : Knows lane 
 
   -- the first page that is to be given back was
   pub released : (m : MapId) (z : ZoneId) (page : Pa) (moved : ℕ) (r : Return) (rs : List Return)
-      → Each lane Has (λ l. Asks l (Release m z page)) → Each lane Has (λ l. l.returns ≡ r ∷ rs)
+      → Each lane Has (λ l. MayAsk l (Release m z page)) → Each lane Has (λ l. l.returns ≡ r ∷ rs)
       → Each lane Has (λ l. Next (given_back l (r ∷ rs)))
       → Holds d lane (Release m z page) (Served moved) e → Knows lane Next e
   released m z page moved r rs asks front leads h =
@@ -64,14 +64,14 @@ module _ (lane : ℕ) (Has Next : View → Type 0) (d e : Seen) (k : Knows lane 
       (sym (addresses_as_pages pages)) (id, leads l id has)) h
 
   -- a map ended
-  pub destroyed : (m : MapId) (z : ZoneId) → Each lane Has (λ l. Asks l (DestroyMap m z))
+  pub destroyed : (m : MapId) (z : ZoneId) → Each lane Has (λ l. MayAsk l (DestroyMap m z))
       → Each lane Has (λ l. Next (gone l m.made_at)) → Holds d lane (DestroyMap m z) Nothing e → Knows lane Next e
   destroyed m z asks leads h =
       held lane Has d k Next e (DestroyMap m z) Nothing asks (λ l id has. (id, leads l id has)) h
 
 -- a load got no pages
 pub refused : (lane : ℕ) (Has : View → Type 0) (d e : Seen) → Knows lane Has d → (m : MapId) (z : ZoneId) (need : ℕ)
-    (nowait : Bool) → Each lane Has (λ l. Asks l (Grab m z need nowait))
+    (nowait : Bool) → Each lane Has (λ l. MayAsk l (Grab m z need nowait))
     → Holds d lane (Grab m z need nowait) NoPages e → Knows lane Has e
 refused lane Has d e k m z need nowait asks h =
     held lane Has d k Has e (Grab m z need nowait) NoPages asks (λ l id has. (id, has)) h

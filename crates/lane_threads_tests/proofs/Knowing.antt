@@ -7,7 +7,7 @@ use Rattle.busdma_machine.specs.Bounce.AccountStep.{as_pages}
 use Rattle.busdma_machine.specs.Bounce.Conditions.{MayCall}
 use Rattle.busdma_machine.specs.Bounce.Door.{Seen, Allows, Holds, account}
 use Rattle.lane_agreement.specs.View.{View, Loaded, unloaded}
-use Rattle.lane_agreement.specs.After.{after, addresses, Asks}
+use Rattle.lane_agreement.specs.After.{after, addresses, MayAsk}
 use Rattle.lane_agreement.proofs.Asking.{agrees-may}
 use Rattle.lane_agreement.proofs.Doors.{agrees-holds}
 use Rattle.lane_agreement.proofs.Steps.{agrees-unloaded}
@@ -22,7 +22,7 @@ abbrev pub Each : ℕ → (View → Type 0) → (View → Type 0) → Type 0
 Each lane Has Holds = (l : View) → l.id ≡ lane → Has l → Holds l
 
 module _ (lane : ℕ) (Has : View → Type 0) (d : Seen) (k : Knows lane Has d) where
-  pub allows : (c : HubCall) → Each lane Has (λ l. Asks l c) → Allows d lane c
+  pub allows : (c : HubCall) → Each lane Has (λ l. MayAsk l c) → Allows d lane c
   allows c asks = record {
     served = k.served;
     sound = k.sound;
@@ -33,7 +33,7 @@ module _ (lane : ℕ) (Has : View → Type 0) (d : Seen) (k : Knows lane Has d) 
   served_view : IsTrue (d.serves k.view.id)
   served_view = subst (λ n. IsTrue (d.serves n)) (sym k.id) k.served
 
-  pub held : (Next : View → Type 0) (e : Seen) (c : HubCall) (r : HubReply) → Each lane Has (λ l. Asks l c)
+  pub held : (Next : View → Type 0) (e : Seen) (c : HubCall) (r : HubReply) → Each lane Has (λ l. MayAsk l c)
       → Each lane Has (λ l. IsOf lane Next (after true l c r)) → Holds d lane c r e → Knows lane Next e
   held Next e c r asks leads h =
       let to = leads k.view k.id k.has in

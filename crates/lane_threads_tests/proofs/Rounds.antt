@@ -11,7 +11,7 @@ use Rattle.busdma_machine.specs.Bounce.AccountStep.{as_pages}
 use Rattle.busdma_machine.specs.Bounce.Door.{Seen, Allows, Holds}
 use Rattle.lane_agreement.specs.View.{View, OwnMap, Return, Stage, Idle, Loaded, Returning}
 use Rattle.lane_agreement.specs.View.{unloaded, given_back, restaged, queued_back}
-use Rattle.lane_agreement.specs.After.{Asks, IsFront}
+use Rattle.lane_agreement.specs.After.{MayAsk, IsFront}
 use Rattle.lane_threads_tests.specs.Knowing.{Knows, HasIdle, HasNone, in_zone}
 use Rattle.lane_threads_tests.proofs.Knowing.{Each, allows, unloads}
 use Rattle.lane_threads_tests.proofs.Calls.{created, granted, released}
@@ -51,7 +51,7 @@ module _ (m : MapId) (d e : Seen) where
 
   -- of a tag that could bounce
   module _ (t : TagLimits) (could : IsTrue (could_bounce t 0x1010)) where
-    asks_making : Each lane HasNone (λ l. Asks l (CreateMap m t false))
+    asks_making : Each lane HasNone (λ l. MayAsk l (CreateMap m t false))
     asks_making l id h = (sym id, bounces t l.maxmem h.maxmem could, h.maps m.made_at)
 
     pub may_make : Knows lane HasNone d → Allows d lane (CreateMap m t false)
@@ -63,7 +63,7 @@ module _ (m : MapId) (d e : Seen) where
         created lane HasNone (HasIdle m.made_at) d e k m t false g 0 asks_making made here
         (λ l id has. record { map = found m.made_at (in_zone 0 Idle) (l.map_at m.made_at); returns = has.returns }) h
 
-  asks_grab : Each lane (HasIdle m.made_at) (λ l. Asks l (Grab m zone 1 true))
+  asks_grab : Each lane (HasIdle m.made_at) (λ l. MayAsk l (Grab m zone 1 true))
   asks_grab l id h = (sym id, omega arith, h.map)
 
   -- the map got a page, which it may give back
@@ -80,7 +80,7 @@ module _ (m : MapId) (d e : Seen) where
       (λ l id has. has.map) (λ l id has. one_unloaded m.made_at page l has)
 
   asks_back : (page : ℕ) → Each lane (HasOne m.made_at Returning (page_back m.made_at page ∷ []))
-      (λ l. Asks l (Release m zone (record { 0 = page })))
+      (λ l. MayAsk l (Release m zone (record { 0 = page })))
   asks_back page l id h = (
     sym id,
     subst (λ rs. IsFront rs m.made_at 0 page) (sym h.returns) (refl, refl, refl),

@@ -14,7 +14,7 @@ use Rattle.busdma_machine.specs.Bounce.AccountStep.{as_pages}
 use Rattle.busdma_machine.specs.Bounce.Door.{Seen, Allows, Holds, memory_reply}
 use Rattle.busdma_machine.specs.Machine.PageList.{RoomyPages}
 use Rattle.lane_agreement.specs.View.{View, OwnMap, Return, Idle, Waiting, Loaded, Returning, staged, zone_in}
-use Rattle.lane_agreement.specs.After.{Asks, IsFront, after_mem_alloc}
+use Rattle.lane_agreement.specs.After.{MayAsk, IsFront, after_mem_alloc}
 use Rattle.lane_threads_tests.specs.Knowing.{Knows, HasMaps, in_zone}
 use Rattle.lane_threads_tests.proofs.Knowing.{IsOf, Each, allows, held, unloads}
 use Rattle.lane_threads_tests.proofs.Calls.{created, granted, queued, released, called, destroyed, refused}
@@ -36,10 +36,10 @@ Fresh = HasMaps None None []
 
 -- the two maps are made, of a tag that could bounce
 module _ (d e : Seen) (t : TagLimits) (could : IsTrue (could_bounce t 0x1010)) where
-  asks_first : Each 0 Fresh (λ l. Asks l (CreateMap (of_table 1) t false))
+  asks_first : Each 0 Fresh (λ l. MayAsk l (CreateMap (of_table 1) t false))
   asks_first l id h = (sym id, bounces t l.maxmem h.maxmem could, h.one)
 
-  asks_second : Each 0 (HasMaps idle None []) (λ l. Asks l (CreateMap (of_table 2) t true))
+  asks_second : Each 0 (HasMaps idle None []) (λ l. MayAsk l (CreateMap (of_table 2) t true))
   asks_second l id h = (sym id, bounces t l.maxmem h.maxmem could, h.two)
 
   pub may_make_first : Knows 0 Fresh d → Allows d 0 (CreateMap (of_table 1) t false)
@@ -61,10 +61,10 @@ module _ (d e : Seen) (t : TagLimits) (could : IsTrue (could_bounce t 0x1010)) w
       (λ l id has. second_in idle None [] l has 0 Idle) h
 
 module _ (d e : Seen) (one two : Option OwnMap) where
-  asks_one : Each 0 (HasMaps idle two []) (λ l. Asks l (Grab (of_table 1) zone 2 false))
+  asks_one : Each 0 (HasMaps idle two []) (λ l. MayAsk l (Grab (of_table 1) zone 2 false))
   asks_one l id h = (sym id, omega arith, h.one)
 
-  asks_two : (nowait : Bool) → Each 0 (HasMaps one idle []) (λ l. Asks l (Grab (of_table 2) zone 2 nowait))
+  asks_two : (nowait : Bool) → Each 0 (HasMaps one idle []) (λ l. MayAsk l (Grab (of_table 2) zone 2 nowait))
   asks_two nowait l id h = (sym id, omega arith, h.two)
 
   pub may_load_first : Knows 0 (HasMaps idle two []) d → Allows d 0 (Grab (of_table 1) zone 2 false)
@@ -99,7 +99,7 @@ module _ (d e : Seen) (one two : Option OwnMap) where
       (λ l id has. first_unloaded p q two l has)
 
   asks_back : (p : ℕ) (rs : List Return)
-      → Each 0 (HasMaps one two (back p ∷ rs)) (λ l. Asks l (Release (of_table 1) zone (record { 0 = p })))
+      → Each 0 (HasMaps one two (back p ∷ rs)) (λ l. MayAsk l (Release (of_table 1) zone (record { 0 = p })))
   asks_back p rs l id h = (sym id, subst (λ qs. IsFront qs 1 0 p) (sym h.returns) (refl, refl, refl))
 
   pub may_give_back : (p : ℕ) (rs : List Return) → Knows 0 (HasMaps one two (back p ∷ rs)) d

@@ -5,7 +5,7 @@ ghost use Rattle.std.specs.List.{list_any};
 ghost use Rattle.std.specs.Option.{option_map};
 ghost use Rattle.busdma_machine.specs.Bounce.MemoryRuns.{in_run};
 ghost use Rattle.busdma_base.specs.Scenarios.PageRuns.{is_own};
-ghost use Rattle.ideal_lane.specs.IdealMemory.{IdealMemory, Known, Unknown, forgotten, is_among, is_known, joined};
+ghost use Rattle.ideal_lane.specs.IdealMemory.{IdealMemory, Known, Unknown, forgotten, has_address, is_known, joined};
 ghost use Rattle.ideal_lane.specs.IdealMemory.{known, parted, value, written};
 ghost use Rattle.ideal_lane.specs.Opening.{zeros};
 ghost use Rattle.ideal_lane.specs.Accesses.{values};
@@ -59,8 +59,8 @@ fn forget(before: Byte) -> Byte
 }
 
 /// An address is one of these.
-fn is_among(addresses: &[u64], pa: u64) -> bool
-    ensures { result ≡ is_among addresses.now pa }
+fn has_address(addresses: &[u64], pa: u64) -> bool
+    ensures { result ≡ has_address addresses.now pa }
 {
     addresses.iter().any(|other| pa == *other)
 }
@@ -104,7 +104,7 @@ fn after(one: &Change, before: Byte, pa: u64) -> Byte
         change one.now memory pa ≡ content_of result }
 {
     match one {
-        Change::Forgot(addresses) if is_among(addresses, pa) => forget(before),
+        Change::Forgot(addresses) if has_address(addresses, pa) => forget(before),
         Change::Forgot(_) => before,
         Change::Wrote(addresses, values) => written(addresses, values, before, pa),
         Change::Came { first, count, zero } if is_in_run(*first, *count, pa) => fresh(*zero),

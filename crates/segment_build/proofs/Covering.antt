@@ -33,29 +33,29 @@ own_addresses c = addresses (chunk_extents c)
 -- ---- what is carried into the next extent is a run
 
 -- the addresses rise by one from the first of them
-abbrev IsRun : List ℕ → Type 0
-IsRun [] = Unit {0}
-IsRun (x ∷ xs) = run_of x (length (x ∷ xs)) ≡ x ∷ xs
+abbrev FollowEachOther : List ℕ → Type 0
+FollowEachOther [] = Unit {0}
+FollowEachOther (x ∷ xs) = run_of x (length (x ∷ xs)) ≡ x ∷ xs
 
 take_run : (k a n : ℕ) → k ≤ n → take k (run_of a n) ≡ run_of a k
 take_run zero a n h = refl
 take_run (suc k) a zero h = absurd (omega arith)
 take_run (suc k) a (suc n) h = ap (λ xs. a ∷ xs) (take_run k (a + 1) n (omega arith))
 
-run_is_run : (a n : ℕ) → IsRun (run_of a n)
+run_is_run : (a n : ℕ) → FollowEachOther (run_of a n)
 run_is_run a zero = tt
 run_is_run a (suc n) = ap (λ k. run_of a k) (run_length a (suc n))
 
-carried_is_run : (k : ℕ) (es : List Extent) → Fits k es → IsRun (take k (addresses es))
+carried_is_run : (k : ℕ) (es : List Extent) → Fits k es → FollowEachOther (take k (addresses es))
 carried_is_run zero es h = tt
 carried_is_run (suc k) [] h = tt
 carried_is_run k (e ∷ []) h =
-    (elim (leb k e.len) as (λ b. leb k e.len ≡ b → IsRun (take k (run_of e.pa.0 e.len ++ []))) [
+    (elim (leb k e.len) as (λ b. leb k e.len ≡ b → FollowEachOther (take k (run_of e.pa.0 e.len ++ []))) [
       | true ↦
-          λ w. subst IsRun (sym (ap (take k) (append-nil (run_of e.pa.0 e.len))
+          λ w. subst FollowEachOther (sym (ap (take k) (append-nil (run_of e.pa.0 e.len))
           ∙ take_run k e.pa.0 e.len (at_most k e.len w))) (run_is_run e.pa.0 k)
       | false ↦
-          λ w. subst IsRun (sym (ap (take k) (append-nil (run_of e.pa.0 e.len))
+          λ w. subst FollowEachOther (sym (ap (take k) (append-nil (run_of e.pa.0 e.len))
           ∙ take_all k (run_of e.pa.0 e.len) (longer k e.len w))) (run_is_run e.pa.0 e.len)
     ]) refl
   where
@@ -65,11 +65,11 @@ carried_is_run k (e ∷ []) h =
     longer : (k n : ℕ) → leb k n ≡ false → length (run_of e.pa.0 n) ≤ k
     longer k n w = let gt : n < k = grind (arith, nat_tests) in omega (arith, run_length e.pa.0 n)
 carried_is_run k (e ∷ f ∷ es) h =
-    subst IsRun
+    subst FollowEachOther
     (sym (take-append-le k (run_of e.pa.0 e.len) (addresses (f ∷ es)) (omega (arith, run_length e.pa.0 e.len))
     ∙ take_run k e.pa.0 e.len h)) (run_is_run e.pa.0 k)
 
-carried_addresses : (t : TagLimits) (m at a n : ℕ) (ys : List ℕ) → IsRun ys →
+carried_addresses : (t : TagLimits) (m at a n : ℕ) (ys : List ℕ) → FollowEachOther ys →
     flat_map own_addresses (option_to_list (carried (Some (begun_chunk t m at a n)) ys)) ≡ run_of a n ++ ys
 carried_addresses t m at a n [] h = append-nil (run_of a n ++ [])
 carried_addresses t m at a n (y ∷ ys) h =

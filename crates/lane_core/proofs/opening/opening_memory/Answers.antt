@@ -1,7 +1,7 @@
 use Rattle.std.proofs.Common.{take, get_or, subst}
 use Rattle.std.proofs.lemmas.List.{take_all}
 use Rattle.lane_core.proofs.OwnRuns.{no_run, own_at}
-use Rattle.lane_core.proofs.OpeningPages.{HasPages, has_no_pages, is_without, has_next, has_opening}
+use Rattle.lane_core.proofs.OpeningPages.{HoldsPages, has_no_pages, is_without, has_next, has_opening}
 use Rattle.lane_core.proofs.opening.opening_memory.Goals as goal
 
 pub loop-run-init : goal.loop-run-init
@@ -32,5 +32,5 @@ loop-run-preserved c =
 pub returns : goal.returns
 returns c =
     has_opening c.args.pages.now c.loop-run.memory.memory c.requires
-    (subst (λ ps. HasPages ps c.loop-run.memory.memory)
+    (subst (λ ps. HoldsPages ps c.loop-run.memory.memory)
     (take_all c.loop-run.run-index c.args.pages.now c.loop-run-test.false) c.loop-run.invariant)

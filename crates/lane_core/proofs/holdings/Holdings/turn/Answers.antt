@@ -3,7 +3,7 @@ use Rattle.busdma_base.specs.declared.journals.journal.Side.{Side}
 use Rattle.busdma_base.specs.declared.journals.journal.Side.TheVariants as side
 use Rattle.lane_core.specs.Ideal.{ideal_of}
 use Rattle.lane_core.specs.Kept.{return_of}
-use Rattle.lane_core.specs.Turning.{IsMade, MayWant}
+use Rattle.lane_core.specs.Turning.{IsTurnOf, MayWant}
 use Rattle.lane_core.proofs.Doors.{err-map, on-err}
 use Rattle.lane_core.proofs.MadeTurns.{made-ready}
 use Rattle.lane_core.proofs.Providing.{length-after, made-script, ready-after, same-room, transfer-all}
@@ -12,7 +12,7 @@ use Rattle.lane_core.proofs.holdings.Holdings.turn.Goals as goal
 
 pub returns-in-Script-clause-made : goal.returns-in-Script-clause-made
 returns-in-Script-clause-made g c =
-    subst (λ (s : Side). IfOk c.script_turn.result (IsMade c.args.self.now c.script_turn.new.self
+    subst (λ (s : Side). IfOk c.script_turn.result (IsTurnOf c.args.self.now c.script_turn.new.self
     (g.D.HubDoor.seen c.args.door.now) (g.D.HubDoor.seen c.script_turn.new.door) s)) (sym c.in-Script.is)
     c.script_turn.ensures.made
 
@@ -36,7 +36,7 @@ returns-in-Transfer-clause-made g c =
     let k = c.transfer_turn.new.self in
     let d = g.D.HubDoor.seen c.args.door.now in
     let r = c.transfer_turn.ensures in
-    subst (λ (s : Side). IfOk c.transfer_turn.result (IsMade h k d d s)) (sym c.in-Transfer.is)
+    subst (λ (s : Side). IfOk c.transfer_turn.result (IsTurnOf h k d d s)) (sym c.in-Transfer.is)
     (transfer-all h k d c.transfer_turn.result r.done r.unheld r.wire r.memories r.agenda.end r.agenda.capacity)
 
 pub returns-in-Transfer-clause-undone : goal.returns-in-Transfer-clause-undone
@@ -66,7 +66,7 @@ returns-in-Transfer-clause-length g c =
 
 pub returns-in-Callback-clause-made : goal.returns-in-Callback-clause-made
 returns-in-Callback-clause-made g c =
-    subst (λ (s : Side). IsMade c.args.self.now c.call_back.new.self (g.D.HubDoor.seen c.args.door.now)
+    subst (λ (s : Side). IsTurnOf c.args.self.now c.call_back.new.self (g.D.HubDoor.seen c.args.door.now)
     (g.D.HubDoor.seen c.call_back.new.door) s c.call_back.result) (sym c.in-Callback.is) c.call_back.ensures.made
 
 pub returns-in-Callback-clause-ready : goal.returns-in-Callback-clause-ready

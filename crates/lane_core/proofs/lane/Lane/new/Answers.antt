@@ -3,7 +3,7 @@ use Rattle.std.specs.List.{list_any}
 use Rattle.std.specs.Ordering.{nat_cmp}
 use Rattle.std.specs.FinMap.{get, get-empty}
 use Rattle.lane_tables.specs.declared.queued.QueuedPage.{QueuedPage}
-use Rattle.lane_tables.specs.Queues.{item_count}
+use Rattle.lane_tables.specs.Queues.{script_items}
 use Rattle.ideal_lane.specs.Ahead.{awaited_items, maps_items}
 use Rattle.ideal_lane.specs.State.{LaneMap, no_space}
 use Rattle.ideal_lane.specs.Opening.{opening_lane}
@@ -100,7 +100,7 @@ invariant_of-result-2-clause-room c =
     let script = c.as_slice-script.ensures in
     let left : items_left c.in_ok-new-4.field-0.place c.as_slice-script.result.now ≡ c.in_ok-new-4.field-0.room =
     ap (λ a. items_left a.place c.as_slice-script.result.now) agenda
-    ∙ ap item_count script ∙ sym (ap (λ a. a.room) agenda) in
+    ∙ ap script_items script ∙ sym (ap (λ a. a.room) agenda) in
     let maps = ap (λ t. map_values map_of t.map) c.in_ok-new-2.ensures ∙ map_values-empty map_of in
     let due : maps_items (map_values map_of c.in_ok-new-2.field-0.map) ≡ 0 =
     ap maps_items maps

@@ -4,7 +4,7 @@ use Rattle.busdma_machine.specs.declared.bounce.hold.HubReply.TheVariants as sai
 use Rattle.busdma_machine.specs.Bounce.Door.{grab_reply, memory_reply}
 use Rattle.busdma_machine.specs.Machine.PageList.{page_address}
 use Rattle.lane_threads.specs.declared.call.DoorReply.TheVariants as reply
-use Rattle.lane_threads.specs.Object.{IsMade}
+use Rattle.lane_threads.specs.Object.{IsEntered}
 use Rattle.lane_threads.proofs.Acting.{made, made_or_failed, made_or_missed, with_row, grows_answered, answers_here}
 use Rattle.lane_threads.proofs.object.HubObjectTurnObject.act.Goals as goal
 
@@ -88,7 +88,7 @@ returns-in-MemAlloc-clause-answers c =
     c.mem_alloc.new.self in let e = c.mem_alloc.ensures in
     answers_here h c.args.self.now g.history c.args._name _ c.args.call
     (reply.MemAlloc c.mem_alloc.result) c.self.view_is a.is
-    (with_row (λ x. IsMade h.opening h.history a.mem.lane.0 (hub.MemAlloc a.mem a.tag) (memory_reply x) g.history)
+    (with_row (λ x. IsEntered h.opening h.history a.mem.lane.0 (hub.MemAlloc a.mem a.tag) (memory_reply x) g.history)
     (g.history ≡ h.history)
     c.mem_alloc.result (made_or_failed h g a.mem.lane.0 (hub.MemAlloc a.mem a.tag) memory_reply
     c.mem_alloc.result e.held e.no_memory)

@@ -1,0 +1,7 @@
+use Rattle.std.proofs.Common.{◌≡◌, ◌+◌, drop}
+use Rattle.lane_tables.specs.Queues.{script_items}
+use Rattle.lane_tables.proofs.agenda.script_items.Given as goal
+
+-- what is counted and what is left to count are all
+abbrev pub invariant-loop-op : goal.invariant-loop-op
+invariant-loop-op l = l.count + script_items (drop l.op-index l.script) ≡ script_items l.script
