@@ -10,8 +10,8 @@ pub use busdma_machine::{
     Bio, ByteList, Called, Chunk, ChunkList, ChunkRoom, Entry, EntryList, Errno, Extent,
     ExtentList, FrameList, Grabbed, Grown, HoldEntry, HubCall, HubDoor, HubReply, Judged, LaneId,
     ListOf, MapId, Mbuf, MbufList, Opening, Pa, PaList, Page, PageList, Part, Report, ReportName,
-    RoomyList, Segment, SegmentList, SegmentRoom, Span, SpanList, TagLimits, Va, Waiter,
-    ZoneCounts, ZoneId, ZoneList,
+    RoomyList, Segment, SegmentList, SegmentRoom, SpaceLimits, Span, SpanList, TagLimits, Va,
+    Waiter, ZoneCounts, ZoneId, ZoneList,
 };
 pub use journals::{Actor, Answer, Did, End, Journal, JournalEntry, Side};
 pub use scenarios::{

@@ -24,7 +24,7 @@ pub use machine::{
 pub use name::{LaneId, MapId, ZoneId};
 pub use report::{Errno, Judged, Report, ReportName};
 pub use room::RoomyList;
-pub use tags::TagLimits;
+pub use tags::{SpaceLimits, TagLimits};
 
 /// Addresses, in order.
 pub type PaList = ListOf<Pa>;

@@ -45,6 +45,8 @@ pub enum ReportName {
     /// The byte is a memory's, and the map is no memory's; or the map is a memory's own, and the byte is not that
     /// memory's at this place of the load.
     ForeignMemory,
+    /// No load of the IOMMU tag stands in the device page that the device addresses.
+    Untranslated,
 }
 
 /// A refusal, and where it comes: an offset in bytes, which each operation counts as its own rule

@@ -28,24 +28,28 @@ use Rattle.busdma_base.specs.declared.scenarios.script.Op.{Op}
 use Rattle.busdma_base.specs.declared.scenarios.script.Op.TheVariants as op
 use Rattle.busdma_base.specs.declared.scenarios.script.Place.{Place}
 use Rattle.busdma_base.specs.declared.scenarios.script.Bytes.{Bytes}
+use Rattle.busdma_machine.specs.declared.tags.tag.SpaceLimits.{SpaceLimits}
 use Rattle.busdma_machine.specs.declared.tags.tag.TagLimits.{TagLimits}
 use Rattle.busdma_machine.specs.Bounce.Account.{Account}
 use Rattle.busdma_machine.specs.Bounce.AccountStep.{account_step}
+use Rattle.busdma_machine.specs.declared.report.ReportName.TheVariants.{DeviceWriteUnlent}
+use Rattle.busdma_machine.specs.Judging.{judged}
 use Rattle.busdma_machine.specs.Runs.{run_of}
 use Rattle.busdma_base.specs.Scenarios.Operations.{bytes_of}
-use Rattle.busdma_machine.specs.Tags.Tag.{effective, could_bounce}
+use Rattle.busdma_machine.specs.Tags.Tag.{effective, could_bounce, space_limits}
 use Rattle.busdma_machine.specs.Tags.TagFlags.{allocnow}
 use Rattle.dma_tag.specs.SyncOps.{is_mixed}
 use Rattle.lane_agreement.specs.After.{addresses}
 use Rattle.lane_agreement.specs.View.{Return}
 use Rattle.lane_tables.specs.declared.queued.QueuedItem.{QueuedItem}
-use Rattle.loan_table.specs.Access.{cpu_write_answer, dev_write_answer}
+use Rattle.loan_table.specs.Access.{cpu_write_answer, dev_write_answer, dev_write_refusal}
 use Rattle.loan_table.specs.Lending.{sync_answer, synced, lost}
 use Rattle.loan_table.specs.Loans.{loan_of, load_bytes}
 use Rattle.iommu_load.specs.Device.{device_chunks, load_frames}
 use Rattle.iommu_map.specs.Space.{Space, first_free}
 use Rattle.segment_build.specs.Chunks.{need_of}
 use Rattle.ideal_lane.specs.State.{LaneState, LaneTag, LaneMap, LaneMemory, Stage, Waiting, WaitingLoad, named, no_space}
+use Rattle.ideal_lane.specs.Accesses.{raw_bytes, raw_refusal}
 use Rattle.ideal_lane.specs.IdealMemory.{written, forgotten}
 use Rattle.ideal_lane.specs.Loads.{Asked, are_few, asked, limits_of, chunks_for, granted, is_device, ended}
 use Rattle.ideal_lane.specs.Loads.{load_judged, unpaged, waiting_load, with_run, with_spaces, zone_of}
@@ -55,7 +59,7 @@ use Rattle.ideal_lane.specs.Outcomes.{Outcome, is_idle, is_loaded}
 use Rattle.ideal_lane.specs.Outcomes.{load_length}
 use Rattle.ideal_lane.specs.Places.{virtual_at, reached, bytes_at}
 use Rattle.ideal_lane.specs.Syncs.{copies, counted}
-use Rattle.ideal_lane.specs.Tags.{with_tag, has_maps, with_space}
+use Rattle.ideal_lane.specs.Tags.{with_tag, with_device_tag, has_maps, with_space}
 use Rattle.ideal_lane.specs.Turns.{Turn, Turned, Blocked, Ended, stays, stepped, bio_at}
 use Rattle.ideal_lane.specs.Turns.{never_waits, waits, advanced, served, left_queue}
 use Rattle.ideal_lane.specs.Unloads.{unlent, unmapped, pages_of, restaged, after_return}
@@ -316,6 +320,14 @@ pub data Touches (l : LaneState) : Work → Outcome → Type 0 where
         lane = after_write l (load_bytes l.loans m off (length (bytes_of bs))) (bytes_of bs);
         answer = answer.Done;
       })
+  -- dev_write_at: the bytes at device addresses are Known, with the values that the device writes
+  RawWrites : (t addr : ℕ) (bs : Bytes) (g : LaneTag) → get l.tags t ≡ Some g →
+      judged (raw_refusal DeviceWriteUnlent (dev_write_refusal false) l t) 0 (run_of addr (length (bytes_of bs)))
+      ≡ Fine →
+      Touches l (Transfer (item.DevWriteAt t addr bs)) (record {
+        lane = after_write l (raw_bytes l t (run_of addr (length (bytes_of bs)))) (bytes_of bs);
+        answer = answer.Done;
+      })
 
 -- of any operation, item or callback, with its call and the reply
 pub data Makes (l : LaneState) : Work → Option HubCall → HubReply → Outcome → Type 0 where
@@ -333,6 +345,11 @@ pub data Makes (l : LaneState) : Work → Option HubCall → HubReply → Outcom
       (could_bounce t l.maxmem && allocnow t.flags) ≡ true → (g : Grown) → g.made ≡ true →
       Makes l (Operation (op.Tag name parent limits)) (Some (call.AttachTag t)) (reply.Grown g)
       (record { lane = with_tag l.place t true l; answer = answer.Grown g })
+  -- iommu_tag: the driver has one more tag, whose device has an address space of its own, with no load
+  Spaces : {r : HubReply} (name : List ℕ) (limits : SpaceLimits) (t : TagLimits) →
+      effective None (space_limits limits) ≡ Some t →
+      Makes l (Operation (op.IommuTag name limits)) None r
+      (record { lane = with_device_tag t l; answer = answer.Done })
   -- tag_destroy: a tag without maps is gone
   Untags : {r : HubReply} (t : ℕ) → has_maps l t ≡ false →
       Makes l (Operation (op.TagDestroy t)) None r

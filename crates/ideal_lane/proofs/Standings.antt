@@ -27,25 +27,11 @@ use Rattle.ideal_lane.specs.Loads.{is_device, staged, unpaged, emptied}
 use Rattle.ideal_lane.specs.Unloads.{pages_of, after_return}
 use Rattle.ideal_lane.specs.Turns.{Turned, waits, lane_step}
 use Rattle.ideal_lane.proofs.Effects.{Advances, AtOnce, Attaches, Begins, Callback, Called, Calls, Creates, Ends}
-use Rattle.ideal_lane.proofs.Effects.{Frees, Granted, Leaves, Loads, Makes, Maps, Overflows, Places, Refuses, Releases}
+use Rattle.ideal_lane.proofs.Effects.{Frees, Granted, Leaves, Loads, Makes, Maps, Overflows, Places, Refuses, Spaces, Releases}
 use Rattle.ideal_lane.proofs.Effects.{Same, Stays, Steps, Tags, Touched, Touches, Unloads, Unmaps, Untags, Vain, Waits}
 use Rattle.ideal_lane.proofs.Effects.{Work, asked_in, asks, chunks, chunks_in, map_in, pages_in, place_in, there_in}
 use Rattle.ideal_lane.proofs.Effects.{Device, waits_for, was_in}
-use Rattle.std.proofs.Common.{length, ◌&&◌}
-use Rattle.busdma_base.specs.declared.journals.answer.Answer.TheVariants as answer
-use Rattle.busdma_machine.specs.declared.report.Report.{Report}
-use Rattle.busdma_machine.specs.declared.report.ReportName.{ReportName}
-use Rattle.busdma_machine.specs.declared.report.ReportName.TheVariants.{DeviceReadUnlent, DeviceWriteUnlent}
-use Rattle.busdma_machine.specs.Judging.{judged}
-use Rattle.busdma_machine.specs.Runs.{run_of}
-use Rattle.busdma_machine.specs.Tags.Tag.{effective}
-use Rattle.loan_table.specs.Access.{dev_read_refusal, dev_write_refusal}
-use Rattle.ideal_lane.specs.Accesses.{dev_read_at, dev_write_at, raw_refusal}
-use Rattle.ideal_lane.specs.IdealMemory.{is_known}
-use Rattle.ideal_lane.specs.Outcomes.{gives}
-use Rattle.ideal_lane.specs.Tags.{device_tag, iommu_tag}
-use Rattle.ideal_lane.proofs.Refusing.{absent}
-use Rattle.ideal_lane.proofs.Refusing as judging
+use Rattle.std.proofs.Common.{◌&&◌}
 use Rattle.ideal_lane.proofs.Stepping.{turn-steps}
 use Rattle.ideal_lane.proofs.Lookups.{get_put, get_cut}
 use Rattle.ideal_lane.proofs.Direct.{need-direct}
@@ -452,6 +438,10 @@ module _ (l : LaneState) (s : Stands l) where
   makes-stand (Touched t) = touches-stand (l.place + 1) l next.0 t
   makes-stand (Tags name parent limits t n) = in-tag t false
   makes-stand (Attaches name parent limits t n b g e) = in-tag t true
+  makes-stand (Spaces name limits t new) = (
+    made-tag l.place l.maxmem l.tags l.maps l.mems s (record { limits = t; first_done = false; device = true }),
+    refl,
+  )
   makes-stand (Untags t none) = (stands-untagged t none next.0, refl)
   makes-stand (Maps name t g e b) = in-map t g e None (λ h. refl) (λ h. b)
   makes-stand (Creates name t g e b n m) = (
@@ -515,40 +505,3 @@ turn-stands l d s = by (lane_step l d) (turn-steps l d)
     by : (x : Asking Turned) → ((r : HubReply) → Steps l d (call_of x) r (by_reply x r)) → KeepsStanding x
     by (Gives t) h = steps-stand l s (h reply.Nothing)
     by (Asks c k) h = λ r. steps-stand l s (h r)
-
--- ---- the steps of IOMMU tags that no operation names
-
-module _ (l : LaneState) (s : Stands l) where
-  abbrev pub StandsAfter : Asking Outcome → Type 0
-  StandsAfter x = (r : HubReply) → Stands (by_reply x r).lane
-
-  report-stands : (x : Report) → StandsAfter (gives l (answer.Report x))
-  report-stands x r = s
-
--- one that makes a tag leaves nothing made behind it
-pub tag-stands : (l : LaneState) (limits : TagLimits) (r : HubReply) → Stands l →
-    StandsIn (l.place + 1) l.place (by_reply (iommu_tag limits l) r).lane
-tag-stands l limits r s = by (effective None limits)
-  where
-    by : (q : Option TagLimits) → StandsIn (l.place + 1) l.place (by_reply (device_tag q l) r).lane
-    by None = next l s
-    by (Some t) = (
-      made-tag l.place l.maxmem l.tags l.maps l.mems s (record { limits = t; first_done = false; device = true }),
-      refl,
-    )
-
-pub read-stands : (l : LaneState) (u : ReportName) (t addr len : ℕ) (r : HubReply) → Stands l →
-    Stands (by_reply (dev_read_at u t addr len l) r).lane
-read-stands l u t addr len r s =
-    absent l (StandsAfter l s) (report-stands l s) (get l.tags t) _ (λ o e.
-    judging.judged l (StandsAfter l s) (report-stands l s) (judged
-    (raw_refusal u DeviceReadUnlent (dev_read_refusal (is_known l.memory) false) l t) 0 (run_of addr len)) _
-    (λ fine r. s)) r
-
-pub write-stands : (l : LaneState) (u : ReportName) (t addr : ℕ) (vs : List ℕ) (r : HubReply) → Stands l →
-    Stands (by_reply (dev_write_at u t addr vs l) r).lane
-write-stands l u t addr vs r s =
-    absent l (StandsAfter l s) (report-stands l s) (get l.tags t) _ (λ o e.
-    judging.judged l (StandsAfter l s) (report-stands l s) (judged
-    (raw_refusal u DeviceWriteUnlent (dev_write_refusal false) l t) 0 (run_of addr (length vs))) _
-    (λ fine r. s)) r

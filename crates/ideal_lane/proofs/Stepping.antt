@@ -13,7 +13,7 @@ use Rattle.busdma_base.specs.declared.journals.journal.Side.TheVariants as side
 use Rattle.busdma_machine.specs.declared.report.Errno.TheVariants.{EBUSY, EINVAL, ENOMEM}
 use Rattle.busdma_machine.specs.declared.report.Judged.TheVariants.{Fine}
 use Rattle.busdma_machine.specs.declared.report.Report.{Report}
-use Rattle.busdma_machine.specs.declared.report.ReportName.TheVariants.{MixedSync}
+use Rattle.busdma_machine.specs.declared.report.ReportName.TheVariants.{DeviceReadUnlent, DeviceWriteUnlent, MixedSync}
 use Rattle.busdma_machine.specs.declared.machine.address.Pa.{Pa}
 use Rattle.busdma_machine.specs.declared.machine.bio.Bio.{Bio}
 use Rattle.busdma_machine.specs.declared.name.MapId.{MapId}
@@ -24,23 +24,27 @@ use Rattle.busdma_base.specs.declared.scenarios.script.Op.{Op}
 use Rattle.busdma_base.specs.declared.scenarios.script.Op.TheVariants as op
 use Rattle.busdma_base.specs.declared.scenarios.script.Place.{Place}
 use Rattle.busdma_base.specs.declared.scenarios.script.Bytes.{Bytes}
+use Rattle.busdma_machine.specs.declared.tags.tag.SpaceLimits.{SpaceLimits}
 use Rattle.busdma_machine.specs.declared.tags.tag.TagLimits.{TagLimits}
+use Rattle.busdma_machine.specs.Judging.{judged as judged_by}
 use Rattle.busdma_machine.specs.Runs.{run_of}
 use Rattle.busdma_base.specs.Scenarios.Operations.{bytes_of}
-use Rattle.busdma_machine.specs.Tags.Tag.{effective, could_bounce}
+use Rattle.busdma_machine.specs.Tags.Tag.{effective, could_bounce, space_limits}
 use Rattle.busdma_machine.specs.Tags.TagFlags.{allocnow}
 use Rattle.dma_tag.specs.SyncOps.{is_mixed}
 use Rattle.lane_agreement.specs.After.{addresses}
 use Rattle.lane_agreement.specs.View.{Return}
 use Rattle.lane_tables.specs.declared.queued.QueuedItem.{QueuedItem}
 use Rattle.loan_table.specs.Access.{cpu_read_answer, cpu_write_answer, dev_read_answer, dev_write_answer}
+use Rattle.loan_table.specs.Access.{dev_read_refusal, dev_write_refusal}
 use Rattle.loan_table.specs.Lending.{sync_answer}
 use Rattle.loan_table.specs.Loans.{loan_of, load_bytes}
 use Rattle.iommu_load.specs.Device.{device_chunks}
 use Rattle.iommu_map.specs.Space.{first_free}
 use Rattle.segment_build.specs.Chunks.{need_of}
 use Rattle.ideal_lane.specs.State.{LaneState, LaneTag, LaneMap, Stage, Waiting, named}
-use Rattle.ideal_lane.specs.Accesses.{cpu_read, cpu_write, dev_read, dev_write, values}
+use Rattle.ideal_lane.specs.Accesses.{cpu_read, cpu_write, dev_read, dev_read_at, dev_write, dev_write_at, raw_bytes}
+use Rattle.ideal_lane.specs.Accesses.{raw_refusal, values}
 use Rattle.ideal_lane.specs.Asking.{Asking, Gives, Asks, call_of, by_reply, goes_on}
 use Rattle.ideal_lane.specs.IdealMemory.{is_known}
 use Rattle.ideal_lane.specs.Loads.{asked, device_load, is_device, limits_of, finished, granted, load_chunks, load}
@@ -51,7 +55,7 @@ use Rattle.ideal_lane.specs.Outcomes.{Outcome, gives, refused, unless_past, is_i
 use Rattle.ideal_lane.specs.Outcomes.{load_length}
 use Rattle.ideal_lane.specs.Places.{virtual_at, reached, bytes_at}
 use Rattle.ideal_lane.specs.Syncs.{sync_part, sync, sync_range}
-use Rattle.ideal_lane.specs.Tags.{with_tag, attached, tag_or_invalid, tag, tag_destroy, has_maps}
+use Rattle.ideal_lane.specs.Tags.{with_tag, attached, tag_or_invalid, tag, device_tag, iommu_tag, tag_destroy, has_maps}
 use Rattle.ideal_lane.specs.Turns.{Turned, Blocked, Ended, stays, operation, bio_at, load_buffer}
 use Rattle.ideal_lane.specs.Turns.{never_waits, transfer, waits, advanced, left_queue, next_operation}
 use Rattle.ideal_lane.specs.Turns.{script_turn, transfer_turn, called, called_in, callback_turn}
@@ -62,8 +66,8 @@ use Rattle.ideal_lane.proofs.Refusing.{absent, judged, either, busy, unloaded, p
 use Rattle.ideal_lane.proofs.Effects.{Advances, AtOnce, Attaches, Awaits, Begins, Below, Callback, Called, Calls}
 use Rattle.ideal_lane.proofs.Effects.{Creates, Device, DeviceWrites, Ends, Frees, Granted, IsNew, IsQuiet, IsSync, IsUndone}
 use Rattle.ideal_lane.proofs.Effects.{IsUnwaited, IsUnwaiting, Leaves, Loads, Makes, Maps, NoFrame, NoRun, NoneCalled, NothingLeft}
-use Rattle.ideal_lane.proofs.Effects.{NothingNow, Operation, Overflows, Places, Range, RangeItem, Refuses, Releases, Run, frames, spaces_in}
-use Rattle.ideal_lane.proofs.Effects.{Same, Stays, Steps, Syncs, Tags, TooLong, Top, Touched, Touches, Transfer}
+use Rattle.ideal_lane.proofs.Effects.{NothingNow, Operation, Overflows, Places, Range, RangeItem, RawWrites, Refuses, Releases, Run, frames}
+use Rattle.ideal_lane.proofs.Effects.{Same, Spaces, Stays, Steps, Syncs, Tags, TooLong, Top, Touched, Touches, Transfer, spaces_in}
 use Rattle.ideal_lane.proofs.Effects.{Unattached, Uncreated, Ungranted, Unloads, Unmaps, Unplaced, Untags, Unwaited}
 use Rattle.ideal_lane.proofs.Effects.{Vain, Waits, Whole, WholeItem, Work, Writes, asked_in, asks, chunks, chunks_in}
 use Rattle.ideal_lane.proofs.Effects.{end_call, grab, map_in, pages_in, place_in, was_in}
@@ -125,6 +129,15 @@ tag-makes l name None limits = tag_or-makes l name None limits (effective None l
 tag-makes l name (Some p) limits =
     absent l (Made l _) (report l _) (get l.tags p) _ (λ x there.
     tag_or-makes l name (Some p) limits (effective (Some x.limits) limits) (λ t e. Below p x limits t there e))
+
+iommu_tag-makes : (l : LaneState) (name : List ℕ) (limits : SpaceLimits) →
+    Made l (Operation (op.IommuTag name limits)) (iommu_tag limits l)
+iommu_tag-makes l name limits = by (effective None (space_limits limits)) refl
+  where
+    by : (q : Option TagLimits) → effective None (space_limits limits) ≡ q →
+        Made l (Operation (op.IommuTag name limits)) (device_tag q l)
+    by None e = answers l _ (answer.Refused EINVAL) tt tt
+    by (Some t) e = λ r. Spaces name limits t e
 
 module _ (l : LaneState) where
   tag_destroy-makes : (t : ℕ) → Made l (Operation (op.TagDestroy t)) (tag_destroy t l)
@@ -325,8 +338,24 @@ dev_write-touches l m off bs =
     (judged l (Only l _) (same l _) (dev_write_answer (loan_of l.loans m) off (length (bytes_of bs))) _
     (DeviceWrites m off bs o there i)))
 
+pub dev_read_at-touches : (l : LaneState) (d : Work) (t addr len : ℕ) → Only l d (dev_read_at t addr len l)
+dev_read_at-touches l d t addr len =
+    absent l (Only l d) (same l d) (get l.tags t) _ (λ g there.
+    judged l (Only l d) (same l d)
+    (judged_by (raw_refusal DeviceReadUnlent (dev_read_refusal (is_known l.memory) false) l t) 0 (run_of addr len)) _
+    (λ fine. Same (answer.Bytes (values l (raw_bytes l t (run_of addr len)))) tt tt))
+
+pub dev_write_at-touches : (l : LaneState) (t addr : ℕ) (bs : Bytes) →
+    Only l (Transfer (item.DevWriteAt t addr bs)) (dev_write_at t addr (bytes_of bs) l)
+dev_write_at-touches l t addr bs =
+    absent l (Only l _) (same l _) (get l.tags t) _ (λ g there.
+    judged l (Only l _) (same l _)
+    (judged_by (raw_refusal DeviceWriteUnlent (dev_write_refusal false) l t) 0 (run_of addr (length (bytes_of bs)))) _
+    (RawWrites t addr bs g there))
+
 pub operation-makes : (l : LaneState) (o : Op) → Made l (Operation o) (operation o l)
 operation-makes l (op.Tag name parent limits) = tag-makes l name parent limits
+operation-makes l (op.IommuTag name limits) = iommu_tag-makes l name limits
 operation-makes l (op.TagDestroy t) = tag_destroy-makes l t
 operation-makes l (op.Map name t) = map-makes l name t
 operation-makes l (op.MapDestroy m) = map_destroy-makes l m
@@ -347,6 +376,8 @@ transfer-touches l (item.Sync m ops) = sync-touches l _ m ops (WholeItem m ops)
 transfer-touches l (item.SyncRange m off len ops) = sync_range-touches l _ m off len ops (RangeItem m off len ops)
 transfer-touches l (item.DevRead m off len) = dev_read-touches l _ m off len
 transfer-touches l (item.DevWrite m off bs) = dev_write-touches l m off bs
+transfer-touches l (item.DevReadAt t addr len) = dev_read_at-touches l _ t addr len
+transfer-touches l (item.DevWriteAt t addr bs) = dev_write_at-touches l t addr bs
 
 pub called-makes : (l : LaneState) (m : MapId) (pages : List Pa) →
     Makes l (Callback m) (Some call.TakeCallback) (reply.Called m pages)

@@ -4,7 +4,7 @@ use Rattle.std.specs.Prelude.{Some, None, if◌then◌else◌, is_some, nat_le, 
 use Rattle.std.specs.FinMap.{entries, get}
 use Rattle.busdma_base.specs.declared.journals.answer.Answer.TheVariants.{Done, Bytes}
 use Rattle.busdma_machine.specs.declared.report.ReportName.{ReportName}
-use Rattle.busdma_machine.specs.declared.report.ReportName.TheVariants.{DeviceReadUnlent, DeviceWriteUnlent}
+use Rattle.busdma_machine.specs.declared.report.ReportName.TheVariants.{DeviceReadUnlent, DeviceWriteUnlent, Untranslated}
 use Rattle.busdma_machine.specs.declared.machine.address.Segment.{Segment}
 use Rattle.busdma_base.specs.declared.scenarios.script.Place.{Place}
 use Rattle.busdma_machine.specs.Judging.{judged}
@@ -78,9 +78,9 @@ unless_unlent unlent refusal None = Some unlent
 unless_unlent unlent refusal (Some p) = refusal p
 
 -- what stands in the way of an access at a device address
-abbrev pub raw_refusal : ReportName → ReportName → (Position → Option ReportName) → LaneState → ℕ → ℕ → Option ReportName
-raw_refusal untranslated unlent refusal l t a =
-    if nat_le (2 ^ 64) a || not (is_some (translated (l.spaces t) a)) then Some untranslated
+abbrev pub raw_refusal : ReportName → (Position → Option ReportName) → LaneState → ℕ → ℕ → Option ReportName
+raw_refusal unlent refusal l t a =
+    if nat_le (2 ^ 64) a || not (is_some (translated (l.spaces t) a)) then Some Untranslated
     else unless_unlent unlent refusal (position_in l t a (entries l.maps))
 
 -- where the bytes at device addresses lie
@@ -88,19 +88,17 @@ abbrev pub raw_bytes : LaneState → ℕ → List ℕ → List ℕ
 raw_bytes l t addresses = map (λ a. unwrap_or (translated (l.spaces t) a) 0) addresses
 
 -- dev_read_at
-abbrev pub dev_read_at : ReportName → ℕ → ℕ → ℕ → LaneState → Asking Outcome
-dev_read_at untranslated t addr len l =
+abbrev pub dev_read_at : ℕ → ℕ → ℕ → LaneState → Asking Outcome
+dev_read_at t addr len l =
     unless_absent (get l.tags t) l (λ o.
     unless_refused
-    (judged (raw_refusal untranslated DeviceReadUnlent (dev_read_refusal (is_known l.memory) false) l t) 0
-    (run_of addr len)) l (
+    (judged (raw_refusal DeviceReadUnlent (dev_read_refusal (is_known l.memory) false) l t) 0 (run_of addr len)) l (
     gives l (Bytes (values l (raw_bytes l t (run_of addr len))))))
 
 -- dev_write_at
-abbrev pub dev_write_at : ReportName → ℕ → ℕ → List ℕ → LaneState → Asking Outcome
-dev_write_at untranslated t addr vs l =
+abbrev pub dev_write_at : ℕ → ℕ → List ℕ → LaneState → Asking Outcome
+dev_write_at t addr vs l =
     unless_absent (get l.tags t) l (λ o.
     unless_refused
-    (judged (raw_refusal untranslated DeviceWriteUnlent (dev_write_refusal false) l t) 0
-    (run_of addr (length vs))) l (
+    (judged (raw_refusal DeviceWriteUnlent (dev_write_refusal false) l t) 0 (run_of addr (length vs))) l (
     gives (record l { memory = written (raw_bytes l t (run_of addr (length vs))) vs l.memory }) Done))

@@ -7,8 +7,9 @@ use Rattle.busdma_machine.specs.declared.bounce.hold.HubReply.{HubReply}
 use Rattle.busdma_machine.specs.declared.bounce.hold.HubReply.TheVariants as reply
 use Rattle.busdma_base.specs.declared.journals.answer.Answer.TheVariants.{Done, Grown, Refused}
 use Rattle.busdma_machine.specs.declared.report.Errno.TheVariants.{EINVAL, EBUSY, ENOMEM}
+use Rattle.busdma_machine.specs.declared.tags.tag.SpaceLimits.{SpaceLimits}
 use Rattle.busdma_machine.specs.declared.tags.tag.TagLimits.{TagLimits}
-use Rattle.busdma_machine.specs.Tags.Tag.{effective, could_bounce}
+use Rattle.busdma_machine.specs.Tags.Tag.{effective, could_bounce, space_limits}
 use Rattle.busdma_machine.specs.Tags.TagFlags.{allocnow}
 use Rattle.iommu_map.specs.Space.{Space}
 use Rattle.ideal_lane.specs.State.{LaneState, no_space}
@@ -41,17 +42,21 @@ tag (Some parent) limits l =
 abbrev pub with_space : ℕ → Space → (ℕ → Space) → ℕ → Space
 with_space t s spaces k = if k == t then s else spaces k
 
--- the driver with an IOMMU tag at this place, whose device reaches the addresses up to lowaddr, or EINVAL
-abbrev pub device_tag : Option TagLimits → LaneState → Asking Outcome
-device_tag None l = gives l (Refused EINVAL)
-device_tag (Some t) l = gives (record l {
+-- the driver with an IOMMU tag at this place, whose device reaches the addresses up to lowaddr
+abbrev pub with_device_tag : TagLimits → LaneState → LaneState
+with_device_tag t l = record l {
   tags = insert l.tags l.place (record { limits = t; first_done = false; device = true });
   spaces = with_space l.place (record { pages = (t.lowaddr.0 + 1) / 4096; runs = [] }) l.spaces;
-}) Done
+}
+
+-- so it is with an effective tag, and EINVAL where there is none
+abbrev pub device_tag : Option TagLimits → LaneState → Asking Outcome
+device_tag None l = gives l (Refused EINVAL)
+device_tag (Some t) l = gives (with_device_tag t l) Done
 
 -- iommu_tag: named by this place, below no parent
-abbrev pub iommu_tag : TagLimits → LaneState → Asking Outcome
-iommu_tag limits l = device_tag (effective None limits) l
+abbrev pub iommu_tag : SpaceLimits → LaneState → Asking Outcome
+iommu_tag limits l = device_tag (effective None (space_limits limits)) l
 
 -- a tag has a map, or a memory, which has a map of its own
 abbrev pub has_maps : LaneState → ℕ → Bool

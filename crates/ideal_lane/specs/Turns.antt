@@ -91,6 +91,7 @@ load_buffer m x flags items l =
 -- what an operation does
 abbrev pub operation : Op → LaneState → Asking Outcome
 operation (op.Tag name parent limits) l = tags.tag parent limits l
+operation (op.IommuTag name limits) l = tags.iommu_tag limits l
 operation (op.TagDestroy tag) l = tags.tag_destroy tag l
 operation (op.Map name tag) l = maps.map tag l
 operation (op.MapDestroy map) l = maps.map_destroy map l
@@ -120,6 +121,7 @@ is_waiting (Some o) = waits_in o.stage
 abbrev pub waits : Op → LaneState → Bool
 waits (op.Await m) l = contains_key l.maps m && (is_waiting (get l.maps m) || queue_names m l.queue)
 waits (op.Tag name parent limits) l = false
+waits (op.IommuTag name limits) l = false
 waits (op.TagDestroy tag) l = false
 waits (op.Map name tag) l = false
 waits (op.MapDestroy map) l = false
@@ -168,6 +170,8 @@ transfer (item.Sync map ops) l = syncs.sync map ops l
 transfer (item.SyncRange map off len ops) l = syncs.sync_range map off len ops l
 transfer (item.DevRead map off len) l = accesses.dev_read map off len l
 transfer (item.DevWrite map off bytes) l = accesses.dev_write map off (bytes_of bytes) l
+transfer (item.DevReadAt tag addr len) l = accesses.dev_read_at tag addr len l
+transfer (item.DevWriteAt tag addr bytes) l = accesses.dev_write_at tag addr (bytes_of bytes) l
 
 -- an item has left the queue
 abbrev pub left_queue : QueuedItem → List QueuedItem → Outcome → Turned

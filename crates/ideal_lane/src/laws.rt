@@ -23,11 +23,7 @@ ghost use Rattle.ideal_lane.specs.Callbacks.{IsRun, Made, times_called};
 ghost use Rattle.ideal_lane.specs.Left.{FallsOrStays};
 ghost use Rattle.ideal_lane.specs.Opening.{opening_lane};
 ghost use Rattle.ideal_lane.specs.Reported.{gone_on, is_reported, joining, remaining};
-ghost use Rattle.busdma_machine.specs.declared.report.ReportName.{ReportName};
-ghost use Rattle.busdma_machine.specs.declared.tags.tag.TagLimits.{TagLimits};
-ghost use Rattle.ideal_lane.specs.Accesses.{dev_read_at, dev_write_at};
-ghost use Rattle.ideal_lane.specs.Tags.{iommu_tag};
-ghost use Rattle.ideal_lane.specs.Standing.{KeepsStanding, Stands, StandsFrom};
+ghost use Rattle.ideal_lane.specs.Standing.{KeepsStanding, Stands};
 ghost use Rattle.ideal_lane.specs.State.{LaneState};
 ghost use Rattle.ideal_lane.specs.Turns.{Turned, is_waiting, lane_step};
 
@@ -104,16 +100,4 @@ pub fn items_stay_few()
     ensures stays { (l : LaneState) (s : Side) (r : HubReply) →
         let after : LaneState = (by_reply (lane_step l s) r).lane in
         items_ahead after + length after.queue ≤ items_ahead l + length l.queue }
-{}
-
-/// The accesses of an IOMMU tag's address space leave a driver standing that stands, and one that makes
-/// such a tag leaves nothing made behind it.
-pub fn device_steps_keep_standing()
-    ensures tag { (l : LaneState) (limits : TagLimits) (r : HubReply) → Stands l →
-        let o = (by_reply (iommu_tag limits l) r).lane in
-        StandsFrom (l.place + 1) o.maxmem o.tags o.maps o.mems × (o.place ≡ l.place) }
-    ensures read { (l : LaneState) (u : ReportName) (t addr len : ℕ) (r : HubReply) → Stands l →
-        Stands (by_reply (dev_read_at u t addr len l) r).lane }
-    ensures write { (l : LaneState) (u : ReportName) (t addr : ℕ) (vs : List ℕ) (r : HubReply) → Stands l →
-        Stands (by_reply (dev_write_at u t addr vs l) r).lane }
 {}

@@ -184,7 +184,7 @@ module _ (l : LaneState) (a : Account) (stands : Stands l) (agrees : AgreesWith 
           let st = stands.each b.m b.o b.there in
           subst (λ q. IsSpaced q (l.spaces b.o.tag))
           (sym (ap (λ q. unwrap_or (option_map (λ (g : LaneTag). g.limits) q) no_limits) st.there))
-          (spaced b.o.tag st.tag st.there
+          (spaced.each b.o.tag st.tag st.there
           (sym (ap (λ q. option_map_or (λ (g : LaneTag). g.device) q false) st.there) ∙ device))
 
       of-load : (first : ℕ) → first_page l b.o es ≡ first →
@@ -230,8 +230,8 @@ module _ (l : LaneState) (a : Account) (stands : Stands l) (agrees : AgreesWith 
           (device-accepted l laid machine stands b.m b.o b.there b.bio is-bio l.place (never_waits b.buffer b.flags)
           b.items b.fine tagged.alignment tagged.flags first
           (translated (entered (Some first) frames (l.spaces b.o.tag)))
-          (entered-carries (l.spaces b.o.tag) frames first tagged.space some e)
-          (omega (arith, tagged.reached, taken-fits (l.spaces b.o.tag) (length frames) first tagged.space some e)))
+          (entered-carries (l.spaces b.o.tag) frames first tagged.runs some e)
+          (omega (arith, tagged.reached, taken-fits (l.spaces b.o.tag) (length frames) first tagged.runs some e)))
           (λ k. moved (record k {
             spaces = with_run (are_few (limits_of l b.o) (device_chunks first 0 es)) b.o.tag first (load_frames es)
                 l.spaces;

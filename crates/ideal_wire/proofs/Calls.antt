@@ -3,49 +3,57 @@ use Rattle.std.proofs.Common.{ℕ, List, refl}
 use Rattle.busdma_machine.specs.declared.bounce.hold.HubReply.{HubReply}
 use Rattle.busdma_base.specs.declared.scenarios.script.Place.{Place}
 use Rattle.busdma_machine.specs.Machine.Wire.{Wire}
-use Rattle.ideal_lane.specs.Accesses.{cpu_write, dev_write}
+use Rattle.ideal_lane.specs.Accesses.{cpu_write, dev_write, dev_write_at}
 use Rattle.ideal_lane.specs.Asking.{Asking, by_reply, Gives, Asks}
 use Rattle.ideal_lane.specs.Outcomes.{Outcome}
 use Rattle.ideal_lane.specs.State.{LaneState}
 use Rattle.ideal_lane.specs.Syncs as syncs
 use Rattle.ideal_lane.proofs.Effects.{Operation, Transfer, Work}
-use Rattle.ideal_lane.proofs.Stepping.{Only, cpu_write-touches, dev_write-touches}
+use Rattle.ideal_lane.proofs.Stepping.{Only, cpu_write-touches, dev_write-touches, dev_write_at-touches}
 use Rattle.ideal_lane.proofs.Stepping.{transfer-touches}
 use Rattle.ideal_wire.specs.Apart.{IsApart}
 use Rattle.ideal_wire.specs.Centre.{IsFaithful}
 use Rattle.ideal_wire.specs.Laid.{AreLaid}
 use Rattle.ideal_wire.specs.WireStep as wire
 use Rattle.ideal_wire.specs.WireStep.{if_done}
-use Rattle.ideal_wire.proofs.Wiring.{now, touches-stay}
+use Rattle.ideal_wire.proofs.RawAccess.{AreFound}
+use Rattle.ideal_wire.proofs.Wiring.{Needs, now, touches-stay}
 use Rattle.busdma_base.specs.declared.scenarios.script.Item.TheVariants as item
 use Rattle.busdma_base.specs.declared.scenarios.script.Op.TheVariants as op
 use Rattle.busdma_base.specs.declared.scenarios.script.Bytes.TheVariants as bytes
 
 module _ (l : LaneState) (w : Wire) (apart : IsApart l) (laid : AreLaid l) (f : IsFaithful l w) where
   -- nothing came and nothing went
-  alone : (d : Work) (o : Asking Outcome) → Only l d o → (r : HubReply) →
+  alone : (d : Work) (o : Asking Outcome) → Only l d o → Needs l d → (r : HubReply) →
       IsFaithful (by_reply o r).lane (if_done o (now l w apart laid f d) w)
-  alone d (Gives x) h r = touches-stay l w apart laid f h _ (λ b x y. refl) (λ m b x y. refl)
-  alone d (Asks c k) h r = absurd h
+  alone d (Gives x) h needs r = touches-stay l w apart laid f h needs _ (λ b x y. refl) (λ m b x y. refl)
+  alone d (Asks c k) h needs r = absurd h
 
   pub sync-faithful : (m ops : ℕ) (r : HubReply) →
       IsFaithful (by_reply (syncs.sync m ops l) r).lane (wire.sync m ops l w)
   sync-faithful m ops = alone (Transfer (item.Sync m ops)) (syncs.sync m ops l) (transfer-touches l (item.Sync m ops))
+      tt
 
   pub sync_range-faithful : (m off len ops : ℕ) (r : HubReply) →
       IsFaithful (by_reply (syncs.sync_range m off len ops l) r).lane (wire.sync_range m off len ops l w)
   sync_range-faithful m off len ops =
       alone (Transfer (item.SyncRange m off len ops)) (syncs.sync_range m off len ops l)
-      (transfer-touches l (item.SyncRange m off len ops))
+      (transfer-touches l (item.SyncRange m off len ops)) tt
 
   pub cpu_write-faithful : (place : Place) (vs : List ℕ) (r : HubReply) →
       IsFaithful (by_reply (cpu_write place vs l) r).lane (wire.cpu_write place vs l w)
   cpu_write-faithful place vs =
       alone (Operation (op.CpuWrite place (bytes.Listed vs))) (cpu_write place vs l)
-      (cpu_write-touches l place (bytes.Listed vs))
+      (cpu_write-touches l place (bytes.Listed vs)) tt
 
   pub dev_write-faithful : (m off : ℕ) (vs : List ℕ) (r : HubReply) →
       IsFaithful (by_reply (dev_write m off vs l) r).lane (wire.dev_write m off vs l w)
   dev_write-faithful m off vs =
       alone (Transfer (item.DevWrite m off (bytes.Listed vs))) (dev_write m off vs l)
-      (dev_write-touches l m off (bytes.Listed vs))
+      (dev_write-touches l m off (bytes.Listed vs)) tt
+
+  pub dev_write_at-faithful : AreFound l → (t addr : ℕ) (vs : List ℕ) (r : HubReply) →
+      IsFaithful (by_reply (dev_write_at t addr vs l) r).lane (wire.dev_write_at t addr vs l w)
+  dev_write_at-faithful all t addr vs =
+      alone (Transfer (item.DevWriteAt t addr (bytes.Listed vs))) (dev_write_at t addr vs l)
+      (dev_write_at-touches l t addr (bytes.Listed vs)) all

@@ -1,6 +1,6 @@
 -- Accesses of a faithful wire.
 use Rattle.std.proofs.Common.{◌≡◌, ℕ, ◌+◌, Bool, true, false, cond, ◌||◌, ◌==◌, List, map}
-use Rattle.std.proofs.Common.{slice_get, Option, Some, None, unwrap_or, ◌⊎◌, inl, inr, refl, sym, ap, ◌∙◌}
+use Rattle.std.proofs.Common.{slice_get, Option, Some, None, unwrap_or, ◌⊎◌, inl, inr, refl, sym, ap, ◌∙◌, subst}
 use Rattle.std.specs.Option.{option_map}
 use Rattle.std.proofs.lemmas.Bool.{false≢true}
 use Rattle.std.proofs.lemmas.Option.{slice_get-map}
@@ -23,9 +23,9 @@ use Rattle.ideal_lane.specs.State.{LaneState}
 use Rattle.ideal_wire.specs.Centre.{IsAt, IsPlacedAt}
 use Rattle.ideal_wire.proofs.Copies.{known_value, eqb_alike, both_written, written_known, same_values, same_reads}
 use Rattle.ideal_wire.proofs.Copies.{same_range, map_own}
-use Rattle.ideal_wire.proofs.Faithful.{written_any, read_any, same_pa, one_placed, one_position, own_bus, bus_of_one}
-use Rattle.ideal_wire.proofs.Faithful.{same_lender, coherent_unlent}
-use Rattle.ideal_wire.proofs.Lent.{lender_of, lent_by}
+use Rattle.ideal_wire.proofs.Faithful.{written_any, read_any, same_pa, own_bus}
+use Rattle.ideal_wire.proofs.FaithfulSpots.{Spot, spot_stands, spots_written}
+use Rattle.ideal_wire.proofs.Lent.{lent_by}
 use Rattle.ideal_wire.proofs.Placed.{Faithful}
 use Rattle.ideal_wire.proofs.Positions.{found_one, of_range, twin_of, fine_at}
 
@@ -48,7 +48,7 @@ dev_read_passes false true true x y h = (inr refl, refl)
 dev_read_passes false true false x y h = absurd (cc)
 dev_read_passes false false k x y h = absurd (cc)
 
-dev_write_passes : (c b : Bool) (x : ReportName) → cond (c || b) None (Some x) ≡ None → (c ≡ true) ⊎ (b ≡ true)
+pub dev_write_passes : (c b : Bool) (x : ReportName) → cond (c || b) None (Some x) ≡ None → (c ≡ true) ⊎ (b ≡ true)
 dev_write_passes true b x h = inl refl
 dev_write_passes false true x h = inr refl
 dev_write_passes false false x h = absurd (cc)
@@ -165,24 +165,19 @@ module _ (own : ℕ → Bool) (l : LaneState) (traces : Traces) (w : Wire)
         same = sym q.same;
       }
 
-  -- a Known byte at a position that is lent to read, or of a coherent map, stands at its bus address
-  stands : (i : ℕ) (p : Position) (t : Placed) (v : ℕ) → IsAt l.loans m i p → IsPlacedAt traces m i t →
-      ((loan_of l.loans m).coherent ≡ true) ⊎ (p.to_read ≡ true) → l.memory p.pa ≡ Some (Known v)
-      → (b : Bool) → lent to_write p.pa l.loans ≡ b → w t.bus ≡ v
-  stands i p t v h g (inl c) is false e =
-      ap w (f.placed.coherent m i t c g ∙ sym (same_pa own l traces f.placed m i p t h g)) ∙ f.agrees.kept p.pa v e is
-  stands i p t v h g (inr r) is false e = f.agrees.read m i p t v h g r e is
-  stands i p t v h g (inl c) is true e =
-      let s = lender_of to_write p.pa l.loans e in
-      absurd (coherent_unlent own l traces f.placed f.exclusive m s.by_map i s.place p s.position c h s.at
-      (written_any s.position s.lends) (sym s.same))
-  stands i p t v h g (inr r) is true e =
-      let s = lender_of to_write p.pa l.loans e in
-      let one =
-      same_lender own l traces f.placed f.exclusive s.by_map m s.place i s.position p s.at
-      h s.lends (read_any p r) s.same in
-      let it = one_position own l traces f.placed s.by_map m s.place i s.position p s.at h one.0 one.1 in
-      f.agrees.written m i p t v h g (ap to_write (sym it) ∙ s.lends) is
+  spot : {way : Position → Bool} (k : ℕ) (t : Placed) (s : At k t) →
+      ((loan_of l.loans m).coherent ≡ true) ⊎ (way s.position ≡ true) → Spot l traces way t.pa t.bus
+  spot k t s lends = record {
+    by_map = m;
+    place = off + k;
+    position = s.position;
+    placed = t;
+    at = s.at;
+    stands = s.placed;
+    is_pa = s.same;
+    is_bus = refl;
+    lends = lends;
+  }
 
   read_at : dev_read_answer (is_known l.memory) (loan_of l.loans m) off len ≡ Fine → (k : ℕ) (t : Placed) →
       slice_get (stretch off len (traces m)) k ≡ Some t → value (l.memory t.pa) ≡ w t.bus
@@ -193,9 +188,8 @@ module _ (own : ℕ → Bool) (l : LaneState) (traces : Traces) (w : Wire)
       dev_read_passes (loan_of l.loans m).coherent p.to_read (is_known l.memory p.pa) DeviceReadUnlent StaleByte
       (fine_at (dev_read_refusal (is_known l.memory) (loan_of l.loans m).coherent) 0
       (stretch off len (loan_of l.loans m).positions) allowed k p s.in_range) in
-      ap (λ a. value (l.memory a)) (sym s.same)
-      ∙ sym (stands (off + k) p t (value (l.memory p.pa)) s.at s.placed passes.0
-      (known_value (l.memory p.pa) passes.1) (lent to_write p.pa l.loans) refl)
+      sym (spot_stands own l traces w f (spot k t s passes.0) (value (l.memory t.pa))
+      (known_value (l.memory t.pa) (ap (is_known l.memory) (sym s.same) ∙ passes.1)))
 
   -- what the device reads
   pub dev_read_of : dev_read_answer (is_known l.memory) (loan_of l.loans m) off len ≡ Fine →
@@ -204,90 +198,21 @@ module _ (own : ℕ → Bool) (l : LaneState) (traces : Traces) (w : Wire)
       ap (map (λ a. value (l.memory a))) range_alike
       ∙ same_values (stretch off len (traces m)) (λ a. value (l.memory a)) w (read_at fine)
 
-  -- ---- a range that the device may write
-  module _ (vs : List ℕ) (allowed : dev_write_answer (loan_of l.loans m) off len ≡ Fine) where
-    may_write : (k : ℕ) (t : Placed) (s : At k t) →
-        ((loan_of l.loans m).coherent ≡ true) ⊎ (s.position.to_write ≡ true)
-    may_write k t s =
-        dev_write_passes (loan_of l.loans m).coherent s.position.to_write DeviceWriteUnlent
-        (fine_at (dev_write_refusal (loan_of l.loans m).coherent) 0 (stretch off len (loan_of l.loans m).positions)
-        allowed k s.position s.in_range)
-
-    -- a position that lends a byte of the range is the one of the range
-    the_one : (n j k : ℕ) (q : Position) (u t : Placed) (s : At k t) →
-        ((loan_of l.loans m).coherent ≡ true) ⊎ (s.position.to_write ≡ true) → IsAt l.loans n j q →
-        IsPlacedAt traces n j u → in_any_way q ≡ true → q.pa ≡ t.pa → u.bus ≡ t.bus
-    the_one n j k q u t s (inl c) h g any e =
-        absurd (coherent_unlent own l traces f.placed f.exclusive m n (off + k) j
-        s.position q c s.at h any (s.same ∙ sym e))
-    the_one n j k q u t s (inr r) h g any e =
-        let one =
-        same_lender own l traces f.placed f.exclusive m n (off + k) j s.position q s.at h r any (s.same ∙ sym e) in
-        ap (λ (x : Placed). x.bus) (sym (one_placed own l traces f.placed m n (off + k) j t u s.placed g one.0 one.1))
-
-    lent_alike : (n j : ℕ) (q : Position) (u : Placed) → IsAt l.loans n j q → IsPlacedAt traces n j u →
-        in_any_way q ≡ true → (k : ℕ) (t : Placed) →
-        slice_get (stretch off len (traces m)) k ≡ Some t → (q.pa == t.pa) ≡ (u.bus == t.bus)
-    lent_alike n j q u h g any k t at =
-        let s = at_range k t at in
-        eqb_alike q.pa t.pa u.bus t.bus (the_one n j k q u t s (may_write k t s) h g any)
-        (λ e. same_pa own l traces f.placed n j q u h g
-        ∙ bus_of_one own l traces f.placed n m j (off + k) u t g s.placed e)
-
-    own_alike : (a : ℕ) → lent to_write a l.loans ≡ false → own a ≡ true → (k : ℕ) (t : Placed) →
-        slice_get (stretch off len (traces m)) k ≡ Some t → (a == t.pa) ≡ (a == t.bus)
-    own_alike a free mine k t at =
-        let s = at_range k t at in
-        eqb_alike a t.pa a t.bus (λ e. stays s (may_write k t s) e)
-        (own_bus own l traces f.placed m (off + k) a t s.placed mine)
-      where
-        stays : (s : At k t) → ((loan_of l.loans m).coherent ≡ true) ⊎ (s.position.to_write ≡ true) → a ≡ t.pa →
-            a ≡ t.bus
-        stays s (inl c) e = e ∙ sym (f.placed.coherent m (off + k) t c s.placed)
-        stays s (inr r) e =
-            absurd (false≢true (sym free ∙ lent_by to_write a l.loans m (off + k) s.position s.at (s.same ∙ sym e) r))
-
-    both_at : (a b : ℕ) → ((k : ℕ) (t : Placed) → slice_get (stretch off len (traces m)) k ≡ Some t →
-        (a == t.pa) ≡ (b == t.bus)) → ((v : ℕ) → l.memory a ≡ Some (Known v) → w b ≡ v)
-        → (v : ℕ) → written (load_bytes l.loans m off len) vs l.memory a ≡ Some (Known v) →
-        put (buses (stretch off len (traces m))) vs w b ≡ v
-    both_at a b same h v is =
-        both_written (λ (t : Placed). t.pa) (λ (t : Placed). t.bus) a b (stretch off len (traces m)) vs l.memory w same
-        h v (ap (λ ks. written ks vs l.memory a) (sym range_alike) ∙ is)
-
-    known_own : (a v : ℕ) → written (load_bytes l.loans m off len) vs l.memory a ≡ Some (Known v) → own a ≡ true
-    known_own a v is =
-        written_known (load_bytes l.loans m off len) vs l.memory a (own a ≡ true) one (λ u h. f.placed.known a u h) v
-        is
-      where
-        one : (k x : ℕ) → slice_get (load_bytes l.loans m off len) k ≡ Some x → a ≡ x → own a ≡ true
-        one k x at e =
-            let q = twin_of (λ (b : ℕ). b) (λ (t : Placed). t.pa) (load_bytes l.loans m off len)
-            (stretch off len (traces m))
-            (map_own (load_bytes l.loans m off len) ∙ range_alike) k x at in
-            ap own (e ∙ q.same) ∙ f.placed.lies m (off + k) q.twin (of_range (traces m) off len k q.twin q.found).whole
-
-    pub dev_written : Faithful own (record l { memory = written (load_bytes l.loans m off len) vs l.memory }) traces
-        (put (buses (stretch off len (traces m))) vs w)
-    dev_written = record {
-      placed = record {
-        reached = f.placed.reached;
-        known = known_own;
-        buffer = f.placed.buffer;
-        lies = f.placed.lies;
-        unbounced = f.placed.unbounced;
-        paged = f.placed.paged;
-        coherent = f.placed.coherent;
-        apart = f.placed.apart;
-      };
-      exclusive = f.exclusive;
-      agrees = record {
-        written =
-            λ n j q u v h g tw is. both_at q.pa u.bus (lent_alike n j q u h g (written_any q tw))
-            (λ x k. f.agrees.written n j q u x h g tw k) v is;
-        read =
-            λ n j q u v h g tr free is. both_at q.pa u.bus (lent_alike n j q u h g (read_any q tr))
-            (λ x k. f.agrees.read n j q u x h g tr free k) v is;
-        kept = λ a v free is. both_at a a (own_alike a free (known_own a v is)) (λ x k. f.agrees.kept a x free k) v is;
-      };
-    }
+  -- what it writes
+  pub dev_written : (vs : List ℕ) → dev_write_answer (loan_of l.loans m) off len ≡ Fine →
+      Faithful own (record l { memory = written (load_bytes l.loans m off len) vs l.memory }) traces
+      (put (buses (stretch off len (traces m))) vs w)
+  dev_written vs allowed =
+      subst (λ keys. Faithful own (record l { memory = written keys vs l.memory }) traces
+      (put (buses (stretch off len (traces m))) vs w)) (sym range_alike)
+      (spots_written own l traces w f (λ (t : Placed). t.pa) (λ (t : Placed). t.bus) (stretch off len (traces m)) vs
+      spots)
+    where
+      spots : (k : ℕ) (t : Placed) → slice_get (stretch off len (traces m)) k ≡ Some t →
+          Spot l traces to_write t.pa t.bus
+      spots k t h =
+          let s = at_range k t h in
+          spot k t s
+          (dev_write_passes (loan_of l.loans m).coherent s.position.to_write DeviceWriteUnlent
+          (fine_at (dev_write_refusal (loan_of l.loans m).coherent) 0 (stretch off len (loan_of l.loans m).positions)
+          allowed k s.position s.in_range))

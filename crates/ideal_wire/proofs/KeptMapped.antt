@@ -8,7 +8,7 @@ use Rattle.std.specs.List.{AllByRecursion, Contains}
 use Rattle.std.specs.Option.{option_map, option_map_or}
 use Rattle.busdma_machine.specs.declared.machine.address.Segment.{Segment}
 use Rattle.busdma_machine.specs.Machine.Wire.{buses}
-use Rattle.iommu_map.specs.Space.{DeviceRun, IsSpace, Space, entered, first_free, frame_at, has_page, left}
+use Rattle.iommu_map.specs.Space.{AreRuns, DeviceRun, Space, entered, first_free, frame_at, has_page, left}
 use Rattle.iommu_map.specs.Space.{translated}
 use Rattle.iommu_map.proofs.Entering.{frame-left, frame-other}
 use Rattle.iommu_map.proofs.Members.{gap-new, left-others, place-in, put-others}
@@ -53,7 +53,7 @@ no-load : (s t : Space) → KeepsLoad s t []
 no-load s t = record { run = λ some. absurd (omega (arith, some)); found = refl }
 
 -- a run is entered: the loads in other runs stay
-pub entered-keeps : (s : Space) (fs : List ℕ) (first : ℕ) → IsSpace s → 1 ≤ length fs →
+pub entered-keeps : (s : Space) (fs : List ℕ) (first : ℕ) → AreRuns 1 s.pages s.runs → 1 ≤ length fs →
     first_free s (length fs) ≡ Some first → (segments : List Segment) →
     (1 ≤ length segments → HasRun s segments) → KeepsLoad s (entered (Some first) fs s) segments
 entered-keeps s fs first space some e [] h = no-load s (entered (Some first) fs s)
@@ -80,10 +80,11 @@ entered-keeps s fs first space some e (x ∷ xs) h =
         by false g = g
         by true g =
             absurd (false≢true (sym (gap-new 1 s.pages (length fs) p (record { first = first; frames = fs }) old.run s.runs
-            space.runs some (taken-gap s (length fs) first space some e) refl old.live g) ∙ has))
+            space some (taken-gap s (length fs) first space some e) refl old.live g) ∙ has))
 
 -- a run ends: the loads in other runs stay
-pub left-keeps : (s : Space) (first : ℕ) → IsSpace s → (q : DeviceRun) → Contains s.runs q → q.first ≡ first →
+pub left-keeps : (s : Space) (first : ℕ) → AreRuns 1 s.pages s.runs → (q : DeviceRun) → Contains s.runs q →
+    q.first ≡ first →
     (segments : List Segment) → (1 ≤ length segments → HasRun s segments) →
     (1 ≤ length segments → first_of segments ≢ first) → KeepsLoad s (left first s) segments
 left-keeps s first space q there begins [] h other = no-load s (left first s)
@@ -99,7 +100,7 @@ left-keeps s first space q there begins (x ∷ xs) h other =
       found = same-found s (left first s) old.run (segment_bytes (x ∷ xs)) old.within (λ p has.
           let at = place-in s.runs q there in
           subst (λ f. frame_at (left f s).runs p ≡ frame_at s.runs p) begins
-          (frame-left 1 s.pages p at.0 q s.runs space.runs at.1 (off p old has)));
+          (frame-left 1 s.pages p at.0 q s.runs space at.1 (off p old has)));
     }
   where
     off : (p : ℕ) (old : HasRun s (x ∷ xs)) → has_page p old.run ≡ true → has_page p q ≡ false
@@ -110,14 +111,14 @@ left-keeps s first space q there begins (x ∷ xs) h other =
         by true g =
             let i = place-in s.runs old.run old.live in
             let j = place-in s.runs q there in
-            let same-place : i.0 ≡ j.0 = run-apart 1 s.pages s.runs i.0 j.0 p old.run q space.runs i.1 j.1 has g in
+            let same-place : i.0 ≡ j.0 = run-apart 1 s.pages s.runs i.0 j.0 p old.run q space i.1 j.1 has g in
             let same : old.run ≡ q = found_one (slice_get s.runs j.0) old.run q
             (ap (slice_get s.runs) (sym same-place) ∙ i.1) j.1 in
             absurd (other (omega arith) (old.first ∙ ap (λ (r : DeviceRun). r.first) same ∙ begins))
 
 -- no run begins at page 0
-pub left-none : (s : Space) → IsSpace s → left 0 s ≡ s
-left-none s space = ap (λ rs. record s { runs = rs }) (all-stay 1 s.pages 0 s.runs space.runs (omega arith))
+pub left-none : (s : Space) → AreRuns 1 s.pages s.runs → left 0 s ≡ s
+left-none s space = ap (λ rs. record s { runs = rs }) (all-stay 1 s.pages 0 s.runs space (omega arith))
 
 -- segments are those of a load
 pub some-loaded : (s : Stage) → 1 ≤ length (segments_in s) → is_loaded s ≡ true

@@ -14,10 +14,11 @@ use Rattle.ideal_lane.specs.Memories.{without_memory}
 use Rattle.ideal_lane.specs.Outcomes.{Outcome}
 use Rattle.ideal_lane.specs.Standing.{Stands}
 use Rattle.ideal_lane.specs.State.{LaneState, LaneTag, LaneMap, Stage, Idle, Waiting, named}
-use Rattle.ideal_lane.specs.Tags.{with_tag, tag}
+use Rattle.ideal_lane.specs.Tags.{with_tag, tag, with_device_tag}
 use Rattle.ideal_lane.specs.Unloads.{restaged, after_return}
 use Rattle.ideal_lane.proofs.Effects.{Attaches, Creates, Frees, Loads, Makes, Maps, Operation, Overflows, Places}
-use Rattle.ideal_lane.proofs.Effects.{Refuses, Same, Tags, Touched, Touches, Unloads, Unmaps, Untags, Waits, Work}
+use Rattle.ideal_lane.proofs.Effects.{Refuses, Same, Spaces, Tags, Touched, Touches, Unloads, Unmaps, Untags, Waits}
+use Rattle.ideal_lane.proofs.Effects.{Work}
 use Rattle.ideal_lane.proofs.Effects.{map_in, there_in, waits_for, was_in}
 use Rattle.ideal_lane.proofs.Lookups.{get_put, get_cut}
 use Rattle.ideal_wire.proofs.KeptTags.{KeepsTags, keeps-put, new-tag, says-in, untagged}
@@ -119,6 +120,12 @@ module _ (l : LaneState) (stands : Stands l) where
       (keeps-put l stands (with_tag l.place t done l) l.place (record { limits = t; first_done = done; device = false }) refl
       (λ g e. new-tag l stands g e)) refl
 
+  iommu_tag-kept : (t : TagLimits) → KeepsMaps (with_device_tag t l)
+  iommu_tag-kept t =
+      same-maps (with_device_tag t l)
+      (keeps-put l stands (with_device_tag t l) l.place (record { limits = t; first_done = false; device = true }) refl
+      (λ g e. new-tag l stands g e)) refl
+
   module _ (m : ℕ) (o : LaneMap) (there : get l.maps m ≡ Some o) where
     staged-kept : (s : Stage) → KeepsMaps (staged m o s l)
     staged-kept s = put-map (staged m o s l) refl m o (record o { tried = true; stage = s }) there refl refl refl
@@ -134,6 +141,7 @@ module _ (l : LaneState) (stands : Stands l) where
   makes-kept (Touched t) = inr (touches-kept t)
   makes-kept (Tags name parent limits t n) = inr (with_tag-kept t false)
   makes-kept (Attaches name parent limits t n b g e) = inr (with_tag-kept t true)
+  makes-kept (Spaces name limits t e) = inr (iommu_tag-kept t)
   makes-kept (Untags t b) = inr (same-maps _ (untagged l t b) refl)
   makes-kept (Maps name t g there b) = inr (new-map (with_map t None l) refl l.place _ refl refl)
   makes-kept (Unmaps m o e i) = inr (cut-map (record l { maps = remove l.maps m }) refl m refl)

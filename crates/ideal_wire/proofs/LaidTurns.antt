@@ -36,7 +36,8 @@ use Rattle.ideal_lane.specs.Standing.{Stands}
 use Rattle.ideal_lane.specs.State.{LaneState, LaneMemory, Waiting, named}
 use Rattle.ideal_lane.specs.Turns.{Turned, waits, called, called_in, lane_step}
 use Rattle.ideal_lane.specs.View.{view_of}
-use Rattle.ideal_lane.proofs.Effects.{Advances, AtOnce, Attaches, Begins, Called, Calls, Creates, Ends, Frees, Granted}
+use Rattle.ideal_lane.proofs.Effects.{Advances, AtOnce, Attaches, Begins, Called, Calls, Creates, Ends, Frees}
+use Rattle.ideal_lane.proofs.Effects.{Granted, Spaces}
 use Rattle.ideal_lane.proofs.Effects.{IsNext, IsReplyOf, Leaves, Loads, Makes, Maps, Overflows, Places, Refuses}
 use Rattle.ideal_lane.proofs.Effects.{Releases, Stays, Steps, Tags, Touched, Unloads, Unmaps, Untags, Waits, Work}
 use Rattle.ideal_lane.proofs.Effects.{asked_in, asks, chunks, chunks_in, here, map_in, pages_in, place_in}
@@ -64,7 +65,8 @@ use Rattle.ideal_wire.proofs.PagesAlone.{paged-alone}
 use Rattle.ideal_wire.proofs.Positions.{found_one}
 use Rattle.ideal_wire.proofs.Returning.{returning-unloaded}
 use Rattle.ideal_wire.proofs.StillLaid.{back-still, idle-unloaded, like, map-still, no-loan, put, staged-still}
-use Rattle.ideal_wire.proofs.StillLaid.{unload-still, touches-laid, untag-still, with_tag-still, created-still}
+use Rattle.ideal_wire.proofs.StillLaid.{unload-still, touches-laid, iommu_tag-still, untag-still}
+use Rattle.ideal_wire.proofs.StillLaid.{with_tag-still, created-still}
 use Rattle.ideal_wire.proofs.StillLaid.{unmap-still}
 use Rattle.ideal_wire.proofs.KeptTags.{put-there}
 use Rattle.ideal_wire.proofs.Waited.{waited-asked, waited-direct, waited-lies, waited-need, waited-own}
@@ -243,6 +245,7 @@ module _ (l : LaneState) (a : Account) (stands : Stands l) (agrees : AgreesWith 
   makes-laid at e (Touched t) = touches-laid l laid t
   makes-laid at e (Tags name parent limits t n) = with_tag-still l laid stands t false
   makes-laid at e (Attaches name parent limits t n b g m) = with_tag-still l laid stands t true
+  makes-laid at e (Spaces name limits t n) = iommu_tag-still l laid stands t
   makes-laid at e (Untags t none) = untag-still l laid stands t none
   makes-laid at e (Maps name t g there b) = map-still l laid stands t
   makes-laid at e (Creates name t g there b n m) =

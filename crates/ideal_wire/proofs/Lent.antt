@@ -118,6 +118,24 @@ any_entry test (e ∷ es) s h = by (test e) refl (any_entry test es (T_parts _ _
           passes = r.passes;
         }
 
+-- an entry is found by its key
+pub entry_found : {X : Type 0} (es : List (ℕ × X)) → T (is_sorted nat_cmp es) → (i : ℕ) (e : ℕ × X) →
+    slice_get es i ≡ Some e → find nat_cmp e.0 es ≡ Some e.1
+entry_found [] s i e h = absurd (cc)
+entry_found (y ∷ es) s zero e h =
+    ap (λ b. cond b (Some y.1) (find nat_cmp e.0 es))
+    (unsigned_tied e.0 y.0 ∙ eq-eqb e.0 y.0 (ap (λ (q : ℕ × _). q.0) (sym (found_one (Some y) y e refl h))))
+    ∙ ap (λ (q : ℕ × _). Some q.1) (found_one (Some y) y e refl h)
+entry_found (y ∷ es) s (suc i) e h =
+    let there : find nat_cmp e.0 es ≡ Some e.1 = entry_found es (T_parts _ _ s).1 i e h in
+    by there (above y.0 es e.0 e.1 (T_parts _ _ s).0 there)
+  where
+    by : find nat_cmp e.0 es ≡ Some e.1 → y.0 < e.0 → find nat_cmp e.0 (y ∷ es) ≡ Some e.1
+    by there lt =
+        ap (λ b. cond b (Some y.1) (find nat_cmp e.0 es))
+        (unsigned_tied e.0 y.0 ∙ ne_eqb e.0 y.0 (λ q. absurd (omega (arith, q, lt))))
+        ∙ there
+
 -- a map with a position is loaded
 pub loaded_at : (loans : Loans) (m i : ℕ) (p : Position) → IsAt loans m i p → get loans m ≡ Some (loan_of loans m)
 loaded_at loans m i p h = by (get loans m) refl h

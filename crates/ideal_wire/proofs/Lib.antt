@@ -15,6 +15,8 @@ pub mod EffectiveTags
 pub mod Faithful
 pub mod FaithfulAccess
 pub mod FaithfulRanges
+pub mod FaithfulRaw
+pub mod FaithfulSpots
 pub mod FaithfulSync
 pub mod Frames
 pub mod HavingChunks
@@ -40,6 +42,8 @@ pub mod PagesAlone
 pub mod Placed
 pub mod Placing
 pub mod Positions
+pub mod RawAccess
+pub mod RawPlaces
 pub mod Reaching
 pub mod Returning
 pub mod ServedMaps

@@ -8,7 +8,7 @@ use Rattle.busdma_machine.specs.declared.bounce.hold.HubReply.TheVariants as rep
 use Rattle.busdma_base.specs.declared.journals.journal.Side.{Side}
 use Rattle.busdma_machine.specs.declared.tags.tag.TagLimits.{TagLimits}
 use Rattle.busdma_base.specs.Scenarios.Valid.{LoadsFrom}
-use Rattle.busdma_machine.specs.Tags.Tag.{IsEffective}
+use Rattle.busdma_machine.specs.Tags.Tag.{IsEffective, space_limits}
 use Rattle.dma_tag.specs.MemFlags.{coherent}
 use Rattle.ideal_lane.specs.State.{LaneState, LaneTag, LaneMemory}
 use Rattle.ideal_lane.specs.Asking.{by_reply}
@@ -18,7 +18,7 @@ use Rattle.ideal_lane.specs.Tags.{with_tag}
 use Rattle.ideal_lane.specs.Turns.{Turned, lane_step}
 use Rattle.ideal_lane.specs.Unloads.{restaged, after_return}
 use Rattle.ideal_lane.proofs.Effects.{Advances, Attaches, Below, Calls, Creates, Frees, IsNew, Leaves, Makes, Places}
-use Rattle.ideal_lane.proofs.Effects.{Releases, Same, Stays, Steps, Tags, Top, Touched, Touches, Untags, Work}
+use Rattle.ideal_lane.proofs.Effects.{Releases, Same, Spaces, Stays, Steps, Tags, Top, Touched, Touches, Untags, Work}
 use Rattle.ideal_lane.proofs.Stepping.{turn-steps}
 use Rattle.ideal_lane.proofs.Lookups.{get_put, get_cut}
 use Rattle.ideal_wire.specs.Machine.{IsOfMachine, IsInMachine}
@@ -135,6 +135,9 @@ module _ (l : LaneState) (m : IsInMachine l) where
   makes-keep new (Attaches name parent limits t n b g e) =
       put (with_tag l.place t true l) l.place (record { limits = t; first_done = true; device = false }) (new-effective n) refl refl
       refl refl refl
+  makes-keep {x = x} new (Spaces name limits t e) =
+      put x.lane l.place (record { limits = t; first_done = false; device = true })
+      (effective-alone (space_limits limits) t e) refl refl refl refl refl
   makes-keep {x = x} new (Untags t none) = cut x.lane t refl refl refl refl refl
   makes-keep {x = x} new (Creates name t g there b n e) =
       put x.lane t (record { limits = g.limits; first_done = true; device = false }) (m.tags t g there) refl refl refl refl refl

@@ -43,11 +43,12 @@ use Rattle.ideal_lane.specs.Opening.{opening_lane}
 use Rattle.ideal_lane.specs.Outcomes.{Outcome, is_loaded}
 use Rattle.ideal_lane.specs.Standing.{IsPageless, Stands}
 use Rattle.ideal_lane.specs.State.{LaneState, LaneMap, LaneTag, Idle, Waiting, Loaded, Returning, WaitingLoad, no_space}
-use Rattle.ideal_lane.specs.Tags.{has_maps, with_space, with_tag}
+use Rattle.ideal_lane.specs.Tags.{has_maps, with_space, with_tag, with_device_tag}
 use Rattle.ideal_lane.specs.Turns.{Turned, lane_step, never_waits}
 use Rattle.ideal_lane.specs.Unloads.{after_return, first_of, pages_of, segments_in, unlent, unmapped}
 use Rattle.ideal_lane.specs.Loads.{unpaged}
 use Rattle.ideal_lane.proofs.Effects.{Advances, AtOnce, Attaches, Begins, Called, Calls, Creates, Device, Ends, Frees}
+use Rattle.ideal_lane.proofs.Effects.{Spaces}
 use Rattle.ideal_lane.proofs.Effects.{Granted, IsNext, IsTaken, Leaves, Loads, Makes, Maps, NoFrame, Overflows, Places}
 use Rattle.ideal_lane.proofs.Effects.{Refuses, Releases, Run, Same, Stays, Steps, Syncs, Tags, Touched, Touches, Unloads}
 use Rattle.ideal_lane.proofs.Effects.{Unmaps, Untags, Waits, Work, asked_in, asks, chunks_in, frames, here, map_in}
@@ -123,7 +124,7 @@ module _ (l : LaneState) (stands : Stands l) (laid : AreLaid l) (machine : IsInM
       let st = stands.each m o there in
       subst (λ q. IsSpaced q (l.spaces o.tag))
       (sym (ap (λ q. unwrap_or (option_map (λ (g : LaneTag). g.limits) q) no_limits) st.there))
-      (spaced o.tag st.tag st.there
+      (spaced.each o.tag st.tag st.there
       (sym (ap (λ q. option_map_or (λ (g : LaneTag). g.device) q false) st.there) ∙ device))
 
   -- the run of another load
@@ -211,12 +212,12 @@ module _ (l : LaneState) (stands : Stands l) (laid : AreLaid l) (machine : IsInM
           same-space (l.spaces o.tag) (left 0 (l.spaces o.tag)) (segments_in q.stage)
           (subst (λ t. 1 ≤ length (segments_in q.stage) → HasRun (l.spaces t) (segments_in q.stage)) same
           (had-run n q at load))
-          (left-none (l.spaces o.tag) (tagged m o there device).space)
+          (left-none (l.spaces o.tag) (tagged m o there device).runs)
         where
           device : is_device l o ≡ true
           device = ap (λ t. option_map_or (λ (x : LaneTag). x.device) (get l.tags t) false) (sym same) ∙ load.0
       others n q off at load same (x ∷ xs) e =
-          left-keeps (l.spaces o.tag) (first_of (x ∷ xs)) (tagged m o there device).space run.run run.live
+          left-keeps (l.spaces o.tag) (first_of (x ∷ xs)) (tagged m o there device).runs run.run run.live
           (sym run.first ∙ ap first_of e) (segments_in q.stage)
           (subst (λ t. 1 ≤ length (segments_in q.stage) → HasRun (l.spaces t) (segments_in q.stage)) same
           (had-run n q at load))
@@ -392,10 +393,10 @@ module _ (l : LaneState) (stands : Stands l) (laid : AreLaid l) (machine : IsInM
         find = translated (entered (Some first) fs s)
 
         carries : Carries find first fs
-        carries = entered-carries s fs first tag-spaced.space some e
+        carries = entered-carries s fs first tag-spaced.runs some e
 
         low : 4096 * (first + length fs) ≤ t.lowaddr.0 + 1
-        low = omega (arith, tag-spaced.reached, taken-fits s (length fs) first tag-spaced.space some e)
+        low = omega (arith, tag-spaced.reached, taken-fits s (length fs) first tag-spaced.runs some e)
 
         after : LaneState
         after = record (fitted first) {
@@ -421,7 +422,7 @@ module _ (l : LaneState) (stands : Stands l) (laid : AreLaid l) (machine : IsInM
                 let same : q.tag ≡ b.o.tag = eqb-true q.tag b.o.tag g in
                 subst (λ k. KeepsLoad (l.spaces k) (entered (Some first) fs (l.spaces k)) (segments_in q.stage))
                 (sym same)
-                (entered-keeps s fs first tag-spaced.space some e (segments_in q.stage)
+                (entered-keeps s fs first tag-spaced.runs some e (segments_in q.stage)
                 (subst (λ k. 1 ≤ length (segments_in q.stage) → HasRun (l.spaces k) (segments_in q.stage)) same
                 (had-run n q at load)))
 
@@ -434,10 +435,10 @@ module _ (l : LaneState) (stands : Stands l) (laid : AreLaid l) (machine : IsInM
             subst (λ k. HasRun (l.spaces k) (segments_in q.stage)) same (had-run n q there load more) in
             let begins : old.run.first ≡ first =
             sym old.first ∙ sym equal ∙ begins-there first find carries low few some has in
-            let long : 1 ≤ length old.run.frames = (live-is 1 s.pages s.runs old.run tag-spaced.space.runs old.live).1 in
+            let long : 1 ≤ length old.run.frames = (live-is 1 s.pages s.runs old.run tag-spaced.runs old.live).1 in
             let off-new : has_page first old.run ≡ false =
-            gap-new 1 s.pages (length fs) first run old.run s.runs tag-spaced.space.runs some
-            (taken-gap s (length fs) first tag-spaced.space some e) refl old.live
+            gap-new 1 s.pages (length fs) first run old.run s.runs tag-spaced.runs some
+            (taken-gap s (length fs) first tag-spaced.runs some e) refl old.live
             (rw (le-leb first first (omega arith)) (lt-ltb first (end_of run) (omega (arith, some)))) in
             let on-old : has_page first old.run ≡ true =
             rw (le-leb old.run.first first (omega (arith, begins)))
@@ -448,7 +449,7 @@ module _ (l : LaneState) (stands : Stands l) (laid : AreLaid l) (machine : IsInM
   abbrev old-limits : (k : LaneState) → k.tags ≡ l.tags → KeepsTags l k
   old-limits k tags n o e = λ i. says-in (get (tags i) o.tag)
 
-  touches-mapped : {d : Work} {x : Outcome} → Touches l d x → AreMapped x.lane
+  pub touches-mapped : {d : Work} {x : Outcome} → Touches l d x → AreMapped x.lane
   touches-mapped (Same a q u) = mapped
   touches-mapped {x = x} (Syncs m off len ops is o there i alone fine) =
       none-changed x.lane (λ n o e. refl) refl (addresses_of-synced l.loans m off len ops) (stay x.lane l.place refl)
@@ -510,6 +511,22 @@ module _ (l : LaneState) (stands : Stands l) (laid : AreLaid l) (machine : IsInM
       (keeps-put l stands (with_tag l.place t done l) l.place (record { limits = t; first_done = done; device = false }) refl
       (λ g e. new-tag l stands g e)) refl (λ n. refl) (stay (with_tag l.place t done l) l.place refl)
 
+  -- no load stands in the space of a new tag
+  iommu-tag : (t : TagLimits) → AreMapped (with_device_tag t l)
+  iommu-tag t =
+      none-changed (with_device_tag t l)
+      (keeps-put l stands (with_device_tag t l) l.place (record { limits = t; first_done = false; device = true }) refl
+      (λ g e. new-tag l stands g e)) refl (λ n. refl) (λ n o off there load.
+      same-space (l.spaces o.tag) ((with_device_tag t l).spaces o.tag) (segments_in o.stage) (had-run n o there load)
+      (by n o there (o.tag == l.place) refl))
+    where
+      by : (n : ℕ) (o : LaneMap) → get l.maps n ≡ Some o → (b : Bool) → (o.tag == l.place) ≡ b →
+          (if b then record { pages = (t.lowaddr.0 + 1) / 4096; runs = [] } else l.spaces o.tag) ≡ l.spaces o.tag
+      by n o there true e =
+          let st = stands.each n o there in
+          new-tag l stands st.tag (ap (get l.tags) (sym (eqb-true o.tag l.place e)) ∙ st.there)
+      by n o there false e = refl
+
   created : (t : ℕ) (g : LaneTag) → get l.tags t ≡ Some g → g.device ≡ false → (z : ℕ) →
       AreMapped (with_tag t g.limits true (with_map t (Some z) l))
   created t g there plain z =
@@ -527,6 +544,7 @@ module _ (l : LaneState) (stands : Stands l) (laid : AreLaid l) (machine : IsInM
   makes-mapped next (Touched t) = touches-mapped t
   makes-mapped next (Tags name parent limits t n) = with-tag t false
   makes-mapped next (Attaches name parent limits t n b g e) = with-tag t true
+  makes-mapped next (Spaces name limits t e) = iommu-tag t
   makes-mapped next (Untags t none) = untag t none
   makes-mapped {x = x} next (Maps name t g there b) =
       put x.lane (λ n o e. refl) l.place (idle-map t None) refl (λ n off. refl) (stay x.lane l.place refl)

@@ -119,7 +119,7 @@ module _ (l : LaneState) (laid : AreLaid l) (machine : IsInMachine l) (stands : 
 
   pub memory-accepted : nat_le (length ss) t.nsegments ≡ true →
       IsAcceptedLoad (fits l m o load_at x memory-chunks []) m (λ a. Some a) t (run_of y.first x.len) memory-chunks
-          [] ss
+      [] ss
   memory-accepted few = record {
     buffer =
         ap buffers (traces-are l m o load_at x memory-chunks [])
@@ -132,7 +132,7 @@ module _ (l : LaneState) (laid : AreLaid l) (machine : IsInMachine l) (stands : 
 
   pub memory-finished : IfSegments (finished m o load_at x memory-chunks [] l).answer
       (IsAcceptedLoad (finished m o load_at x memory-chunks [] l).lane m (λ a. Some a) t (run_of y.first x.len)
-          memory-chunks [])
+      memory-chunks [])
   memory-finished = by (nat_le (length ss) t.nsegments) refl
     where
       end : Bool → Outcome
@@ -141,6 +141,6 @@ module _ (l : LaneState) (laid : AreLaid l) (machine : IsInMachine l) (stands : 
 
       by : (c : Bool) → nat_le (length ss) t.nsegments ≡ c →
           IfSegments (end c).answer (IsAcceptedLoad (end c).lane m (λ a. Some a) t (run_of y.first x.len)
-              memory-chunks [])
+          memory-chunks [])
       by true few = memory-accepted few
       by false many = tt

@@ -11,18 +11,20 @@ use Rattle.loan_table.specs.Lending.{lost, lost_by_forgetting, marked_range}
 use Rattle.loan_table.specs.Lending as lending
 use Rattle.loan_table.specs.Loans.{Loan, Loans, addresses_of, loan_of, no_loan, load_bytes}
 use Rattle.loan_table.proofs.Marking.{addresses_of-synced}
+use Rattle.ideal_lane.specs.Accesses.{raw_bytes}
 use Rattle.ideal_lane.specs.Loads.{emptied, is_device, limits_of, no_limits, staged, unpaged}
 use Rattle.ideal_lane.specs.Maps.{with_map, without_map}
 use Rattle.ideal_lane.specs.Outcomes.{Outcome, is_idle, is_loaded}
 use Rattle.ideal_lane.specs.Places.{bytes_at}
 use Rattle.ideal_lane.specs.Standing.{Stands}
 use Rattle.ideal_lane.specs.State.{LaneState, LaneTag, LaneMap, LaneMemory, Stage, Idle, Waiting, Loaded, Returning}
-use Rattle.ideal_lane.specs.Tags.{with_tag, has_maps}
+use Rattle.ideal_lane.specs.Tags.{with_tag, has_maps, with_device_tag}
 use Rattle.iommu_map.specs.Space.{Space}
 use Rattle.ideal_lane.specs.State.{no_space}
 use Rattle.ideal_lane.specs.Tags.{with_space}
 use Rattle.ideal_lane.specs.Unloads.{unlent, unmapped, pages_of, restaged, after_return}
-use Rattle.ideal_lane.proofs.Effects.{DeviceWrites, Same, Syncs, Touches, Work, Writes, after_sync, after_write}
+use Rattle.ideal_lane.proofs.Effects.{DeviceWrites, RawWrites, Same, Syncs, Touches, Work, Writes}
+use Rattle.ideal_lane.proofs.Effects.{after_sync, after_write}
 use Rattle.ideal_lane.proofs.Lookups.{get_put}
 use Rattle.ideal_wire.specs.Laid.{LiesIn, AreLaid}
 use Rattle.ideal_wire.specs.Traces.{stage_in, stage_at}
@@ -181,6 +183,8 @@ module _ (l : LaneState) (laid : AreLaid l) where
       written-still (bytes_at l (run_of va (length (bytes_of bs)))) (bytes_of bs)
   touches-laid (DeviceWrites m off bs o there i fine) =
       written-still (load_bytes l.loans m off (length (bytes_of bs))) (bytes_of bs)
+  touches-laid (RawWrites t addr bs g there fine) =
+      written-still (raw_bytes l t (run_of addr (length (bytes_of bs)))) (bytes_of bs)
 
   -- ---- the ends of loads
 
@@ -258,6 +262,13 @@ module _ (l : LaneState) (laid : AreLaid l) where
         (record { script = refl; pages = refl; maxmem = refl; own = λ a. refl; mems = refl })
         (keeps-put l stands (with_tag l.place t done l) l.place (record { limits = t; first_done = done; device = false }) refl
         (λ g e. new-tag l stands g e)) refl refl
+
+    pub iommu_tag-still : (t : TagLimits) → AreLaid (with_device_tag t l)
+    iommu_tag-still t =
+        like (with_device_tag t l)
+        (record { script = refl; pages = refl; maxmem = refl; own = λ a. refl; mems = refl })
+        (keeps-put l stands (with_device_tag t l) l.place (record { limits = t; first_done = false; device = true })
+        refl (λ g e. new-tag l stands g e)) refl refl
 
     pub untag-still : (t : ℕ) → has_maps l t ≡ false →
         AreLaid (record l { tags = remove l.tags t; spaces = with_space t no_space l.spaces })

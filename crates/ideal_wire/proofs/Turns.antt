@@ -44,7 +44,9 @@ use Rattle.ideal_lane.proofs.Stepping.{transfer-touches}
 use Rattle.ideal_wire.specs.Apart.{IsApart}
 use Rattle.ideal_wire.specs.Centre.{IsAt, IsFaithful}
 use Rattle.ideal_wire.specs.Laid.{LiesIn, AreLaid}
+use Rattle.ideal_wire.specs.Mapped.{AreMapped}
 use Rattle.ideal_wire.specs.NewRuns.{BringsNew, IsNewRun}
+use Rattle.ideal_wire.specs.Spaced.{AreSpaced}
 use Rattle.ideal_wire.specs.Traces.{stage_in, stage_at}
 use Rattle.ideal_wire.specs.WireStep as wire
 use Rattle.ideal_wire.specs.WireStep.{Follows}
@@ -56,12 +58,17 @@ use Rattle.ideal_wire.proofs.Returning.{returning-unloaded}
 use Rattle.busdma_machine.specs.declared.bounce.hold.HubCall.{HubCall}
 use Rattle.busdma_base.specs.declared.journals.answer.Answer.{Answer}
 use Rattle.busdma_machine.specs.declared.report.Errno.TheVariants.{EFBIG}
-use Rattle.ideal_wire.proofs.Wiring.{now, touches-stay, undone}
+use Rattle.ideal_wire.proofs.Wiring.{Needs, now, touches-stay, undone}
 
 module _ (l : LaneState) (a : Account) (w : Wire) (stands : Stands l) (agrees : AgreesWith l a) (laid : AreLaid l)
-    (f : IsFaithful l w) where
+    (spaced : AreSpaced l) (mapped : AreMapped l) (f : IsFaithful l w) where
   apart : IsApart l
   apart = agreeing-apart l a agrees stands laid
+
+  needs : (d : Work) → Needs l d
+  needs (Transfer (item.DevWriteAt t addr bs)) =
+      record { stands = stands; laid = laid; spaced = spaced; mapped = mapped }
+  needs _ = tt
 
   -- ---- steps that change no byte
 
@@ -203,7 +210,9 @@ module _ (l : LaneState) (a : Account) (w : Wire) (stands : Stands l) (agrees : 
 
   makes-stay : {d : Work} {c : Option HubCall} {r : HubReply} {x : Outcome} → BringsNew l r → Makes l d c r x →
       Outcomes c x (now l w apart laid f d)
-  makes-stay new (Touched t) = record { stays = λ w' h. touches-stay l w apart laid f t w' h.own h.pages }
+  makes-stay {d = d} new (Touched t) = record {
+    stays = λ w' h. touches-stay l w apart laid f t (needs d) w' h.own h.pages;
+  }
   makes-stay new (Maps name t g there b) = idle refl (put l.place _ _ none-here refl refl refl)
   makes-stay new (Creates name t g there b n m) = idle refl (put l.place _ _ none-here refl refl refl)
   makes-stay new (Unmaps m o there i) =
@@ -257,6 +266,7 @@ module _ (l : LaneState) (a : Account) (w : Wire) (stands : Stands l) (agrees : 
   wire-transfer (item.Sync m ops) = refl
   wire-transfer (item.SyncRange m off len ops) = refl
   wire-transfer (item.DevWrite m off bs) = refl
+  wire-transfer (item.DevWriteAt t addr bs) = refl
   wire-transfer i = sym (same-done (transfer i l))
 
   advances : (o : Op) → Stays (wire.operation o l w) (goes_on (turns.advanced l.place) (operation o l))
@@ -278,7 +288,8 @@ module _ (l : LaneState) (a : Account) (w : Wire) (stands : Stands l) (agrees : 
       by : (x : Asking Outcome) → Only l (Transfer q.item) x →
           Stays (wire.if_done x (now l w apart laid f (Transfer q.item)) w) (goes_on (turns.left_queue q rest) x)
       by (Gives y) h r w' new g =
-          let g' = left y.lane rest _ w' g in touches-stay l w apart laid f h w' g'.own g'.pages
+          let g' = left y.lane rest _ w' g in
+          touches-stay l w apart laid f h (needs (Transfer q.item)) w' g'.own g'.pages
       by (Asks c k) h r w' new g = absurd h
 
   still : (w' : Wire) → Follows l l w w' → IsFaithful l w'

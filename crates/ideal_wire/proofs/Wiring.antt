@@ -1,28 +1,40 @@
 -- The steps that change bytes or read them leave the wire faithful, and read what the ideal memory has.
 use Rattle.std.proofs.Common.{◌≡◌, ℕ, Bool, true, false, cond, [], ◌∷◌, ◌==◌, ◌⊎◌, Option, Some, None, List, length}
 use Rattle.std.proofs.Common.{is_some, refl, sym, ◌∙◌, subst, unwrap_or}
+use Rattle.std.specs.FinMap.{get}
 use Rattle.std.specs.Option.{option_map}
 use Rattle.busdma_base.specs.declared.journals.answer.Answer.TheVariants as answer
 use Rattle.busdma_machine.specs.declared.report.Judged.TheVariants.{Fine}
 use Rattle.busdma_base.specs.declared.scenarios.script.Place.{Place}
 use Rattle.busdma_machine.specs.Machine.Wire.{Wire, put}
+use Rattle.busdma_machine.specs.declared.report.ReportName.TheVariants.{DeviceReadUnlent}
+use Rattle.busdma_machine.specs.Judging.{judged as judged_by}
 use Rattle.busdma_machine.specs.Runs.{run_of}
 use Rattle.dma_tag.specs.SyncOps.{is_mixed}
-use Rattle.loan_table.specs.Access.{cpu_read_answer, dev_read_answer}
+use Rattle.loan_table.specs.Access.{cpu_read_answer, dev_read_answer, dev_read_refusal}
 use Rattle.loan_table.specs.Lending.{sync_answer, marked_range, lost}
 use Rattle.loan_table.specs.Loans.{loan_of, addresses_of, load_bytes}
 use Rattle.loan_table.proofs.Marking.{same_bytes, addresses_of-marked_range}
-use Rattle.ideal_lane.specs.Accesses.{cpu_read, dev_read, values}
+use Rattle.ideal_lane.specs.Accesses.{cpu_read, dev_read, dev_read_at, raw_bytes, raw_refusal, values}
 use Rattle.ideal_lane.specs.Asking.{Asking}
-use Rattle.ideal_lane.specs.IdealMemory.{IdealMemory, Content, Known, Unknown, is_known, has_address, forgotten,
-    written}
+use Rattle.ideal_lane.specs.IdealMemory.{
+  IdealMemory,
+  Content,
+  Known,
+  Unknown,
+  is_known,
+  has_address,
+  forgotten,
+  written,
+}
 use Rattle.ideal_lane.specs.IdealMemory.{written_at}
 use Rattle.ideal_lane.specs.Outcomes.{Outcome, gives, unless_refused, unless_past, load_length}
 use Rattle.ideal_lane.specs.Places.{virtual_at, reached, bytes_at}
 use Rattle.ideal_lane.specs.State.{LaneState, LaneMap}
 use Rattle.ideal_lane.specs.Syncs.{bounced_in}
-use Rattle.ideal_lane.proofs.Effects.{DeviceWrites, IsSync, IsUndone, Operation, Range, RangeItem, Same, Syncs}
-use Rattle.ideal_lane.proofs.Effects.{Touches, Transfer, Whole, WholeItem, Work, Writes, after_sync, after_write}
+use Rattle.ideal_lane.proofs.Effects.{DeviceWrites, IsSync, IsUndone, Operation, Range, RangeItem, RawWrites}
+use Rattle.ideal_lane.proofs.Effects.{Same, Syncs, Touches, Transfer, Whole, WholeItem, Work, Writes, after_sync}
+use Rattle.ideal_lane.proofs.Effects.{after_write}
 use Rattle.ideal_wire.specs.Apart.{IsApart}
 use Rattle.ideal_wire.specs.Centre.{IsFaithful, Agrees}
 use Rattle.ideal_wire.specs.Laid.{AreLaid}
@@ -32,9 +44,11 @@ use Rattle.ideal_wire.specs.WireStep.{BringsKnown, IsRead, KeepsOwn, KeepsPages,
 use Rattle.ideal_wire.proofs.Carried.{AreBused, are-bused, carried, same-carries}
 use Rattle.ideal_wire.proofs.FaithfulAccess.{cpu_read_of, reached_own, cpu_written, dev_read_of, dev_written}
 use Rattle.ideal_wire.proofs.FaithfulRanges.{by_map}
+use Rattle.ideal_wire.proofs.FaithfulRaw.{raw_read, raw_written}
 use Rattle.ideal_wire.proofs.Placed.{Faithful}
 use Rattle.ideal_wire.proofs.Placing.{own, are-placed}
-use Rattle.ideal_lane.proofs.Refusing.{judged, unloaded, past}
+use Rattle.ideal_wire.proofs.RawAccess.{AreFound}
+use Rattle.ideal_lane.proofs.Refusing.{absent, judged, unloaded, past}
 use Rattle.ideal_wire.proofs.SyncedPositions.{after}
 use Rattle.busdma_base.specs.declared.scenarios.script.Item.TheVariants as item
 use Rattle.busdma_base.specs.declared.scenarios.script.Op.TheVariants as op
@@ -63,6 +77,11 @@ own-written (k ∷ keys) (v ∷ vs) memory a = own-written keys vs (written_at k
     by true (Some c) = refl
     by false o = refl
 
+-- what a step needs besides, to leave the wire faithful: one that writes at device addresses, that these are found
+abbrev pub Needs : LaneState → Work → Type 0
+Needs l (Transfer (item.DevWriteAt t addr bs)) = AreFound l
+Needs l _ = Unit {0}
+
 -- ---- a step that is done, and pages that come and go after it
 module _ (l : LaneState) (w : Wire) (apart : IsApart l) (laid : AreLaid l) (f : IsFaithful l w) where
   abbrev pub faithful : Faithful (own l laid apart) l (traces_of l) w
@@ -80,6 +99,8 @@ module _ (l : LaneState) (w : Wire) (apart : IsApart l) (laid : AreLaid l) (f : 
   now (Transfer (item.Sync m ops)) = wire.synced m 0 (load_length l m) ops l w
   now (Transfer (item.SyncRange m off len ops)) = wire.synced m off len ops l w
   now (Transfer (item.DevWrite m off bs)) = put (load_buses l m off (length (bytes_of bs))) (bytes_of bs) w
+  now (Transfer (item.DevWriteAt t addr bs)) =
+      put (raw_bytes l t (run_of addr (length (bytes_of bs)))) (bytes_of bs) w
   now _ = w
 
   -- the wire is faithful after it whatever came and went
@@ -170,21 +191,26 @@ module _ (l : LaneState) (w : Wire) (apart : IsApart l) (laid : AreLaid l) (f : 
   sync-is (WholeItem m ops) = refl
   sync-is (RangeItem m off len ops) = refl
 
-  pub touches-stay : {d : Work} {x : Outcome} → Touches l d x → Stays (if_answered x.answer (now d) w) x.lane
-  touches-stay {d} (Same a q u) = subst (λ v. Stays v l) (sym (undone a (now d) u)) same-stays
-  touches-stay (Syncs m off len ops is o there i alone fine) =
+  pub touches-stay : {d : Work} {x : Outcome} → Touches l d x → Needs l d →
+      Stays (if_answered x.answer (now d) w) x.lane
+  touches-stay {d} (Same a q u) needs = subst (λ v. Stays v l) (sym (undone a (now d) u)) same-stays
+  touches-stay (Syncs m off len ops is o there i alone fine) needs =
       subst (λ v. Stays v (after_sync l m o off len ops)) (sym (sync-is is)) (sync-stays m off len ops o alone fine)
-  touches-stay (Writes place bs va at reaches fine) =
+  touches-stay (Writes place bs va at reaches fine) needs =
       let bytes = bytes_at l (run_of va (length (bytes_of bs))) in
       subst (λ v. Stays (put (bytes_at l (run_of (unwrap_or v 0) (length (bytes_of bs)))) (bytes_of bs) w)
       (after_write l bytes (bytes_of bs))) (sym at)
       (write-stays bytes (bytes_of bs) (put bytes (bytes_of bs) w)
       (cpu_written (own l laid apart) l (traces_of l) w faithful bytes (bytes_of bs)
       (reached_own (own l laid apart) l (traces_of l) w faithful (run_of va (length (bytes_of bs))) reaches) fine))
-  touches-stay (DeviceWrites m off bs o there i fine) =
+  touches-stay (DeviceWrites m off bs o there i fine) needs =
       write-stays (load_bytes l.loans m off (length (bytes_of bs))) (bytes_of bs)
       (put (load_buses l m off (length (bytes_of bs))) (bytes_of bs) w)
       (dev_written (own l laid apart) l (traces_of l) w faithful m off (length (bytes_of bs)) (bytes_of bs) fine)
+  touches-stay (RawWrites t addr bs g there fine) all =
+      write-stays (raw_bytes l t (run_of addr (length (bytes_of bs)))) (bytes_of bs)
+      (put (raw_bytes l t (run_of addr (length (bytes_of bs)))) (bytes_of bs) w)
+      (raw_written (own l laid apart) l w faithful all t addr (bytes_of bs) fine)
 
   -- ---- reads
   pub cpu_read-reads : (place : Place) (len : ℕ) → IsRead (cpu_read place len l) (place_bytes l place len) w
@@ -222,3 +248,14 @@ module _ (l : LaneState) (w : Wire) (apart : IsApart l) (laid : AreLaid l) (f : 
       step : Asking Outcome
       step = unless_refused (dev_read_answer (is_known l.memory) (loan_of l.loans m) off len) l
           (gives l (answer.Bytes (values l (load_bytes l.loans m off len))))
+
+  pub dev_read_at-reads : AreFound l → (t addr len : ℕ) →
+      IsRead (dev_read_at t addr len l) (raw_bytes l t (run_of addr len)) w
+  dev_read_at-reads all t addr len =
+      absent l P (λ x. tt) (get l.tags t) _ (λ o there.
+      judged l P (λ x. tt)
+      (judged_by (raw_refusal DeviceReadUnlent (dev_read_refusal (is_known l.memory) false) l t) 0 (run_of addr len)) _
+      (λ fine. raw_read (own l laid apart) l w faithful all t addr len fine))
+    where
+      P : Asking Outcome → Type 0
+      P s = IsRead s (raw_bytes l t (run_of addr len)) w

@@ -33,6 +33,7 @@ abbrev pub load_asked_by : Op → LaneState → Option Load
 load_asked_by (op.Load map buffer flags items) l =
     option_map (λ b. record { map = map; bio = b }) (bio_at l buffer)
 load_asked_by (op.Tag name parent limits) l = None
+load_asked_by (op.IommuTag name limits) l = None
 load_asked_by (op.TagDestroy tag) l = None
 load_asked_by (op.Map name tag) l = None
 load_asked_by (op.MapDestroy map) l = None

@@ -77,9 +77,16 @@ load_buses l m off len = buses (stretch off len (traces_of l m))
 abbrev pub dev_write : ℕ → ℕ → List ℕ → LaneState → Wire → Wire
 dev_write m off vs l w = if_done (accesses.dev_write m off vs l) (put (load_buses l m off (length vs)) vs w) w
 
+-- the device of an IOMMU tag writes the bytes at device addresses: at the addresses of the buffers' own bytes, since no
+-- load of such a tag bounces
+abbrev pub dev_write_at : ℕ → ℕ → List ℕ → LaneState → Wire → Wire
+dev_write_at t addr vs l w =
+    if_done (accesses.dev_write_at t addr vs l) (put (accesses.raw_bytes l t (run_of addr (length vs))) vs w) w
+
 -- an operation; no other changes a byte
 abbrev pub operation : Op → LaneState → Wire → Wire
 operation (op.Tag name parent limits) l w = w
+operation (op.IommuTag name limits) l w = w
 operation (op.TagDestroy tag) l w = w
 operation (op.Map name tag) l w = w
 operation (op.MapDestroy map) l w = w
@@ -99,6 +106,8 @@ transfer (item.Sync map ops) l w = sync map ops l w
 transfer (item.SyncRange map off len ops) l w = sync_range map off len ops l w
 transfer (item.DevRead map off len) l w = w
 transfer (item.DevWrite map off bytes) l w = dev_write map off (bytes_of bytes) l w
+transfer (item.DevReadAt tag addr len) l w = w
+transfer (item.DevWriteAt tag addr bytes) l w = dev_write_at tag addr (bytes_of bytes) l w
 
 -- the next operation of the script, if there is one and it does not wait
 abbrev pub next_operation : Option Op → LaneState → Wire → Wire

@@ -34,7 +34,8 @@ ghost use Rattle.busdma_machine.specs.Machine.Wire.{Wire, buses};
 ghost use Rattle.busdma_machine.specs.Runs.{run_of};
 ghost use Rattle.busdma_base.specs.Scenarios.Buffers.{IsBioOf};
 ghost use Rattle.busdma_base.specs.Scenarios.Valid.{IsValid};
-ghost use Rattle.ideal_lane.specs.Accesses.{cpu_read, cpu_write, dev_read, dev_write};
+ghost use Rattle.ideal_lane.specs.Accesses.{cpu_read, cpu_write, dev_read, dev_read_at, dev_write};
+ghost use Rattle.ideal_lane.specs.Accesses.{dev_write_at, raw_bytes};
 ghost use Rattle.lane_agreement.specs.Agreement.{IsFit};
 ghost use Rattle.ideal_lane.specs.Agreement.{AgreesWith};
 ghost use Rattle.ideal_lane.specs.Asking.{by_reply};
@@ -67,18 +68,21 @@ pub fn opening_is_faithful()
 {}
 
 /// A step leaves a faithful wire faithful, where the driver stands, agrees with the account and has its
-/// loads laid: whatever the reply to its call that brings no frames but new ones, and whatever bytes its
-/// pages bring, where the frames of a memory that come with zeros have zeros.
+/// loads laid, the address spaces of its IOMMU tags in order and their loads in their runs: whatever the
+/// reply to its call that brings no frames but new ones, and whatever bytes its pages bring, where the
+/// frames of a memory that come with zeros have zeros.
 pub fn step_stays_faithful()
     ensures { (l : LaneState) (s : Side) (a : Account) (r : HubReply) (w w' : Wire) →
-        Stands l → AgreesWith l a → AreLaid l → IsFaithful l w → BringsNew l r →
+        Stands l → AgreesWith l a → AreLaid l → AreSpaced l → AreMapped l → IsFaithful l w → BringsNew l r →
         Follows l (by_reply (lane_step l s) r).lane (wire.lane_step l s w) w' →
         IsFaithful (by_reply (lane_step l s) r).lane w' }
 {}
 
-/// What is really read is what the ideal memory has: by the driver at the bytes that it names, and by
-/// its device at the bus addresses of its load. The driver stands, agrees with the account and has its
-/// loads laid, and its wire is faithful.
+/// What is really read is what the ideal memory has: by the driver at the bytes that it names, by its
+/// device at the bus addresses of its load, and by the device of an IOMMU tag where the bytes at its
+/// device addresses lie. The driver stands, agrees with the account and has its loads laid, and its wire
+/// is faithful; for the third, the address spaces of its IOMMU tags are in order, and their loads stand in
+/// their runs.
 pub fn reads_are_faithful()
     ensures cpu { (l : LaneState) (a : Account) (w : Wire) (place : Place) (len : ℕ) →
         Stands l → AgreesWith l a → AreLaid l → IsFaithful l w →
@@ -86,6 +90,9 @@ pub fn reads_are_faithful()
     ensures dev { (l : LaneState) (a : Account) (w : Wire) (m off len : ℕ) →
         Stands l → AgreesWith l a → AreLaid l → IsFaithful l w →
         IsRead (dev_read m off len l) (load_buses l m off len) w }
+    ensures dev_at { (l : LaneState) (a : Account) (w : Wire) (t addr len : ℕ) →
+        Stands l → AgreesWith l a → AreLaid l → AreSpaced l → AreMapped l → IsFaithful l w →
+        IsRead (dev_read_at t addr len l) (raw_bytes l t (run_of addr len)) w }
 {}
 
 /// What a driver holds lies apart, where it stands, agrees with the account and has its loads laid.
@@ -94,7 +101,9 @@ pub fn agreeing_pages_are_apart()
 {}
 
 /// A sync or a write leaves a faithful wire faithful, where what the driver holds lies apart and its
-/// loads are laid. Such a call asks nothing of the account, so any reply gives the driver after it.
+/// loads are laid; and for a write at device addresses, where the driver stands, the address spaces of its
+/// IOMMU tags are in order and their loads stand in their runs. Such a call asks nothing of the account, so
+/// any reply gives the driver after it.
 pub fn calls_stay_faithful()
     ensures sync { (l : LaneState) (w : Wire) (m ops : ℕ) (r : HubReply) →
         IsApart l → AreLaid l → IsFaithful l w →
@@ -108,15 +117,21 @@ pub fn calls_stay_faithful()
     ensures dev_write { (l : LaneState) (w : Wire) (m off : ℕ) (vs : List ℕ) (r : HubReply) →
         IsApart l → AreLaid l → IsFaithful l w →
         IsFaithful (by_reply (dev_write m off vs l) r).lane (wire.dev_write m off vs l w) }
+    ensures dev_write_at { (l : LaneState) (w : Wire) (t addr : ℕ) (vs : List ℕ) (r : HubReply) →
+        IsApart l → Stands l → AreLaid l → AreSpaced l → AreMapped l → IsFaithful l w →
+        IsFaithful (by_reply (dev_write_at t addr vs l) r).lane (wire.dev_write_at t addr vs l w) }
 {}
 
 /// What is really read is what the ideal memory has, where what the driver holds lies apart, its loads
-/// are laid and its wire is faithful.
+/// are laid and its wire is faithful; and for a read at device addresses, where the driver stands, the
+/// address spaces of its IOMMU tags are in order and their loads stand in their runs.
 pub fn calls_read_faithfully()
     ensures cpu { (l : LaneState) (w : Wire) (place : Place) (len : ℕ) → IsApart l → AreLaid l → IsFaithful l w →
         IsRead (cpu_read place len l) (place_bytes l place len) w }
     ensures dev { (l : LaneState) (w : Wire) (m off len : ℕ) → IsApart l → AreLaid l → IsFaithful l w →
         IsRead (dev_read m off len l) (load_buses l m off len) w }
+    ensures dev_at { (l : LaneState) (w : Wire) (t addr len : ℕ) → IsApart l → Stands l → AreLaid l → AreSpaced l →
+        AreMapped l → IsFaithful l w → IsRead (dev_read_at t addr len l) (raw_bytes l t (run_of addr len)) w }
 {}
 
 /// The segments that a load of the driver's pages answers are its bytes, in order, and obey its tag,
@@ -177,10 +192,10 @@ pub fn steps_stay_in_machine()
 {}
 
 /// The address spaces of a driver's IOMMU tags are in order at its opening, where there is none, and stay
-/// so at each step of a driver that lies in its machine and has its loads laid, whatever the reply.
+/// so at each step of a driver that stands, lies in its machine and has its loads laid, whatever the reply.
 pub fn spaces_stay_in_order()
     ensures opens { (id maxmem : ℕ) (driver : Driver) → AreSpaced (opening_lane id maxmem driver) }
-    ensures stays { (l : LaneState) (s : Side) (r : HubReply) → AreLaid l → IsInMachine l → AreSpaced l →
+    ensures stays { (l : LaneState) (s : Side) (r : HubReply) → Stands l → AreLaid l → IsInMachine l → AreSpaced l →
         AreSpaced (by_reply (lane_step l s) r).lane }
 {}
 

@@ -176,7 +176,7 @@ module _ (s : Scenario) (w : WorldState) (well : IsWellFormed s w) where
       laid =
           turn-laid l w.account own.stands own.agrees fits (reached-whole s w.account well.valid well.reached)
           own.machine own.laid side;
-      spaced = turn-spaced l own.laid own.machine own.spaced side;
+      spaced = turn-spaced l own.stands own.laid own.machine own.spaced side;
       mapped = turn-mapped l own.stands own.laid own.machine own.spaced own.mapped side;
       served = turn-served l own.stands w.account own.machine own.served side;
     })

@@ -56,6 +56,6 @@ module _ (s : Scenario) (w : WorldState) (well : IsWellFormed s w) (actor : Acto
           IsFaithful (by_reply (lane_step l actor.side) o.reply).lane (after at)
       mine l o e =
           let d = well.each at l e in
-          turn-stays l w.account (before at) d.stands d.agrees d.laid (faithful at l e) actor.side o.reply
+          turn-stays l w.account (before at) d.stands d.agrees d.laid d.spaced d.mapped (faithful at l e) actor.side o.reply
           (after at) (given-reply s w well at l e o.reply o.given)
           (follow.own l (by_reply (lane_step l actor.side) o.reply).lane e o.there)

@@ -10,10 +10,11 @@ ghost use Rattle.busdma_base.specs.declared.scenarios.script.Place.{Place};
 ghost use Rattle.busdma_machine.specs.Bounce.EachFrame.{EachFrame, LiesBelowMaxmem};
 ghost use Rattle.busdma_machine.specs.Bounce.History.{IsFrame, IsSound, account_of};
 ghost use Rattle.busdma_machine.specs.Bounce.LowPages.{PagesLieLow};
+ghost use Rattle.busdma_machine.specs.Runs.{run_of};
 ghost use Rattle.busdma_base.specs.Journals.Reports.{is_report};
 ghost use Rattle.busdma_base.specs.Scenarios.Valid.{IsValid};
 ghost use Rattle.lane_agreement.specs.Agreement.{IsFit};
-ghost use Rattle.ideal_lane.specs.Accesses.{cpu_read, dev_read};
+ghost use Rattle.ideal_lane.specs.Accesses.{cpu_read, dev_read, dev_read_at, raw_bytes};
 ghost use Rattle.ideal_lane.specs.Agreement.{IsAllowed};
 ghost use Rattle.ideal_lane.specs.Reported.{gone_on};
 ghost use Rattle.ideal_lane.specs.State.{LaneState};
@@ -151,7 +152,8 @@ pub fn wires_stay_faithful()
 {}
 
 /// In a well-formed world whose wires are faithful, what is really read is what the ideal memory has: by
-/// each driver at the bytes that it names, and by its device at the bus addresses of its load.
+/// each driver at the bytes that it names, by its device at the bus addresses of its load, and by the
+/// device of an IOMMU tag where the bytes at its device addresses lie.
 pub fn drivers_read_faithfully()
     ensures cpu { (s : Scenario) (w : WorldState) (wires : Wires) (i : ℕ) (l : LaneState) (place : Place) (len : ℕ) →
         IsWellFormed s w → AllFaithful wires w → slice_get w.lanes i ≡ Some l →
@@ -159,4 +161,7 @@ pub fn drivers_read_faithfully()
     ensures dev { (s : Scenario) (w : WorldState) (wires : Wires) (i : ℕ) (l : LaneState) (m off len : ℕ) →
         IsWellFormed s w → AllFaithful wires w → slice_get w.lanes i ≡ Some l →
         IsRead (dev_read m off len l) (load_buses l m off len) (wires i) }
+    ensures dev_at { (s : Scenario) (w : WorldState) (wires : Wires) (i : ℕ) (l : LaneState) (t addr len : ℕ) →
+        IsWellFormed s w → AllFaithful wires w → slice_get w.lanes i ≡ Some l →
+        IsRead (dev_read_at t addr len l) (raw_bytes l t (run_of addr len)) (wires i) }
 {}

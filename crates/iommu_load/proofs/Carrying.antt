@@ -115,7 +115,7 @@ begins : (page : ℕ) (xs : List Extent) → 4096 * page ≤ device_begin page x
 begins page [] = omega arith
 begins page (x ∷ xs) = omega arith
 
-ends : (page : ℕ) (xs : List Extent) → AllByRecursion IsExtent xs → AreJoined xs →
+pub ends : (page : ℕ) (xs : List Extent) → AllByRecursion IsExtent xs → AreJoined xs →
     device_begin page xs + byte_count xs ≤ 4096 * (page + length xs)
 ends page [] all joined = omega arith
 ends page (x ∷ []) all joined = omega (arith, all.0.in_frame)

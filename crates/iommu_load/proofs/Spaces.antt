@@ -2,7 +2,7 @@
 use Rattle.std.proofs.Common.{◌≡◌, ℕ, ◌+◌, ◌-◌, ◌*◌, ◌/◌, ◌%◌, ◌<◌, ◌≤◌, true, List, [], ◌∷◌, zero, suc, length, Some}
 use Rattle.std.proofs.Common.{slice_get, option_map, ap, ◌∙◌, arith}
 use Rattle.std.proofs.lemmas.Bool.{le-leb, lt-ltb}
-use Rattle.iommu_map.specs.Space.{DeviceRun, IsSpace, Space, end_of, entered, first_free, frame_at, has_page}
+use Rattle.iommu_map.specs.Space.{AreRuns, DeviceRun, Space, end_of, entered, first_free, frame_at, has_page}
 use Rattle.iommu_map.specs.Space.{put_run, translated}
 use Rattle.iommu_map.proofs.Entering.{frame-own}
 use Rattle.iommu_map.proofs.Runs.{taken-gap}
@@ -13,7 +13,7 @@ inside [] i x e = absurd (cc)
 inside (y ∷ xs) zero x e = omega arith
 inside (y ∷ xs) (suc i) x e = omega (arith, inside xs i x e)
 
-pub entered-carries : (s : Space) (frames : List ℕ) (first : ℕ) → IsSpace s → 1 ≤ length frames →
+pub entered-carries : (s : Space) (frames : List ℕ) (first : ℕ) → AreRuns 1 s.pages s.runs → 1 ≤ length frames →
     first_free s (length frames) ≡ Some first → Carries (translated (entered (Some first) frames s)) first frames
 entered-carries s frames first h some e i f a at page =
     let run : DeviceRun = record { first = first; frames = frames } in
@@ -21,6 +21,6 @@ entered-carries s frames first h some e i f a at page =
     let has : has_page (a / 4096) run ≡ true =
     rw (le-leb first (a / 4096) (omega arith)) (lt-ltb (a / 4096) (end_of run) (omega arith)) in
     let own : frame_at (put_run run s.runs) (a / 4096) ≡ slice_get frames (a / 4096 - first) =
-    frame-own 1 s.pages (length frames) (a / 4096) run s.runs h.runs some
+    frame-own 1 s.pages (length frames) (a / 4096) run s.runs h some
     (taken-gap s (length frames) first h some e) has in
     ap (option_map (λ g. 4096 * g + a % 4096)) (own ∙ ap (slice_get frames) (omega arith) ∙ at)

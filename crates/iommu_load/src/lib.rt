@@ -1,35 +1,15 @@
 //! Loads in the pages of a device behind an IOMMU.
 #![tactic(auto)]
 
-ghost use Rattle.std.specs.Prelude.{◌≡◌, ◌+◌, ◌*◌, ◌≤◌, ℕ, List, Some, false, length, map};
-ghost use Rattle.std.specs.List.{All, AllByRecursion};
-ghost use Rattle.busdma_machine.specs.declared.machine.address.Segment.{Segment};
-ghost use Rattle.busdma_machine.specs.Machine.Entry.{IsEntry, entries_addresses};
-ghost use Rattle.busdma_machine.specs.Tags.TagFlags.{keep_pg_offset};
-ghost use Rattle.iommu_map.specs.Space.{IsSpace, Space, entered, first_free, translated};
-ghost use Rattle.segment_build.specs.Built.{IsFew};
-ghost use Rattle.segment_build.specs.Obeying.{Obeys};
-ghost use Rattle.segment_build.specs.Pieces.{chunk_pieces};
-ghost use Rattle.segment_build.specs.Segmentation.{segment_bytes, segmentation};
-ghost use Rattle.iommu_load.specs.Device.{device_chunks, load_frames};
+mod built;
+mod frames;
+mod gatherer;
+mod laws;
+mod measured;
+#[cfg(test)]
+mod tests;
 
-use busdma_machine::Entry;
-use dma_tag::Tag;
-
-/// The bytes of the segments of a load, as the device finds them through its IOMMU, are the bytes of
-/// the load, in order; and the segments obey the tag, where they are few enough.
-pub fn device_segments_are_the_load(tag: &Tag, entries: &[Entry])
-    requires entries { AllByRecursion IsEntry entries.now }
-    ensures bytes { (s : Space) (first : ℕ) → IsSpace s → 1 ≤ length (load_frames entries.now) →
-        first_free s (length (load_frames entries.now)) ≡ Some first →
-        map (translated (entered (Some first) (load_frames entries.now) s))
-        (segment_bytes (segmentation tag.now (chunk_pieces tag.now (device_chunks first 0 entries.now))))
-        ≡ map (λ a. Some a) (entries_addresses entries.now) }
-    ensures obeys { (first : ℕ) (segments : List Segment) → tag.now.alignment ≡ 1 →
-        keep_pg_offset tag.now.flags ≡ false →
-        4096 * (first + length (load_frames entries.now)) ≤ tag.now.lowaddr.0 + 1 →
-        IsFew tag.now (chunk_pieces tag.now (device_chunks first 0 entries.now)) segments →
-        Obeys tag.now (device_chunks first 0 entries.now) segments }
-{
-    tag.limits();
-}
+pub use built::build_device;
+pub use frames::frames_of;
+pub use laws::{device_fronts_ask_no_more, device_segments_are_the_load};
+pub use measured::measure_device;

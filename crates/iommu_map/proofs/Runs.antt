@@ -8,7 +8,7 @@ use Rattle.std.specs.List.Sorted.{IsNonDecreasingBy}
 use Rattle.std.proofs.lemmas.Bool.{ltb-true, ltb-false, leb-true, leb-false, lt-ltb, le-ltb, le-leb, lt-leb, eqb-true}
 use Rattle.std.proofs.lemmas.Bool.{ne_eqb, false≢true}
 use Rattle.std.proofs.lemmas.Bool.Decides.{nat_tests}
-use Rattle.iommu_map.specs.Space.{DeviceRun, Space, IsRunIn, AreRuns, IsSpace, begins_at, end_of, frame_at, gap, has_page}
+use Rattle.iommu_map.specs.Space.{DeviceRun, Space, IsRunIn, AreRuns, begins_at, end_of, frame_at, gap, has_page}
 use Rattle.iommu_map.specs.Space.{first_free, least_from, may_take, meets, place_of, put_run}
 
 -- runs that rise from a page on rise from each lower one
@@ -248,19 +248,19 @@ off-1 : (a c : Bool) → (a && (false && c)) ≡ false
 off-1 true c = refl
 off-1 false c = refl
 
-module _ (s : Space) (k : ℕ) (h : IsSpace s) (some : 1 ≤ k) where
+module _ (s : Space) (k : ℕ) (h : AreRuns 1 s.pages s.runs) (some : 1 ≤ k) where
   -- no page before the gap may begin the run
   before : (x : ℕ) → x < gap 1 k s.runs → may_take s k x ≡ false
   before zero l = rw (lt-leb 1 0 (omega arith)) refl
   before (suc x) l =
-      rw (met-before 1 s.pages k (suc x) s.runs h.runs (omega arith) l)
+      rw (met-before 1 s.pages k (suc x) s.runs h (omega arith) l)
       (off (leb 1 (suc x)) (leb (suc x + k) s.pages))
 
   pub free-is : gap 1 k s.runs + k ≤ s.pages → first_free s k ≡ Some (gap 1 k s.runs)
   free-is fits =
       least-here (may_take s k) 0 s.pages (gap 1 k s.runs) (omega arith) (omega arith)
-      (rw (le-leb 1 (gap 1 k s.runs) (gap-low 1 s.pages k s.runs h.runs))
-      (rw (le-leb (gap 1 k s.runs + k) s.pages fits) (rw (gap-free 1 s.pages k s.runs h.runs some) refl)))
+      (rw (le-leb 1 (gap 1 k s.runs) (gap-low 1 s.pages k s.runs h))
+      (rw (le-leb (gap 1 k s.runs + k) s.pages fits) (rw (gap-free 1 s.pages k s.runs h some) refl)))
       (λ y a b. before y b)
 
   pub free-none : s.pages < gap 1 k s.runs + k → first_free s k ≡ None
@@ -391,7 +391,8 @@ ends-past p (q ∷ rs) r e =
 -- What is free
 
 -- the first page of a run that is taken is that of the gap, and the device reaches its pages
-pub taken-gap : (s : Space) (k first : ℕ) → IsSpace s → 1 ≤ k → first_free s k ≡ Some first → first ≡ gap 1 k s.runs
+pub taken-gap : (s : Space) (k first : ℕ) → AreRuns 1 s.pages s.runs → 1 ≤ k → first_free s k ≡ Some first →
+    first ≡ gap 1 k s.runs
 taken-gap s k first h some e = by (ltb s.pages (gap 1 k s.runs + k)) refl
   where
     by : (v : Bool) → ltb s.pages (gap 1 k s.runs + k) ≡ v → first ≡ gap 1 k s.runs
@@ -400,7 +401,8 @@ taken-gap s k first h some e = by (ltb s.pages (gap 1 k s.runs + k)) refl
     by false fits =
         let is = free-is s k h some (ltb-false s.pages (gap 1 k s.runs + k) fits) in cc
 
-pub taken-fits : (s : Space) (k first : ℕ) → IsSpace s → 1 ≤ k → first_free s k ≡ Some first → first + k ≤ s.pages
+pub taken-fits : (s : Space) (k first : ℕ) → AreRuns 1 s.pages s.runs → 1 ≤ k → first_free s k ≡ Some first →
+    first + k ≤ s.pages
 taken-fits s k first h some e = by (ltb s.pages (gap 1 k s.runs + k)) refl
   where
     by : (v : Bool) → ltb s.pages (gap 1 k s.runs + k) ≡ v → first + k ≤ s.pages

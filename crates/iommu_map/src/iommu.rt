@@ -1,6 +1,7 @@
 //! The address space of one IOMMU tag.
 
-ghost use Rattle.std.specs.Prelude.{◌≡◌, ◌+◌, ◌/◌, ◌^◌, ◌<◌, ◌≤◌, ◌==◌, true, [], length, IfOk, OnErr, Some, None, List, ℕ};
+ghost use Rattle.std.specs.Prelude.{◌≡◌, ◌+◌, ◌/◌, ◌^◌, ◌<◌, ◌≤◌, ◌==◌, true, [], length, Some, None, List};
+ghost use Rattle.std.specs.Prelude.{IfOk, IfSome, OnErr, ℕ};
 ghost use Rattle.std.specs.Option.{option_map};
 ghost use Rattle.std.specs.List.{All, insert};
 ghost use Rattle.busdma_machine.specs.declared.machine.address.Pa.{Pa as Address};
@@ -77,6 +78,19 @@ impl Iommu {
         ensures bound { result ≤ length self.now.runs }
     {
         self.runs.partition_point(|run| run.end() <= page)
+    }
+
+    /// The least first page of so many pages that may be taken: what `enter` answers for as many frames. So a caller may
+    /// know the device addresses of a load before it takes the run.
+    pub fn first_free(&self, count: u64) -> Option<u64>
+        requires some { 1 ≤ count }
+        requires few { count ≤ 2 ^ 63 }
+        ensures is { result ≡ first_free self.now count }
+        ensures reached { IfSome result (λ first. first + count ≤ 2 ^ 52) }
+    {
+        let first = self.gap(count).first;
+        let end = first + count;
+        if end <= self.pages { Some(first) } else { None }
     }
 
     /// Takes the run with the least first page for these frames, in order, and tells that page: page

@@ -13,7 +13,9 @@ fn the_lowest_gap_is_taken(rt: HostRuntime) -> Result<(), AllocError> {
     let mut space = Iommu::new(alloc, Pa(0x5fff));
     assert!(rt; space.enter(alloc, &[7])? == Some(1));
     assert!(rt; space.enter(alloc, &[8, 9])? == Some(2));
+    assert!(rt; space.first_free(2) == Some(4));
     assert!(rt; space.enter(alloc, &[5, 5])? == Some(4));
+    assert!(rt; space.first_free(1) == None);
     assert!(rt; space.enter(alloc, &[1])? == None);
     for (dev, pa) in [
         (0xfff, None),

@@ -153,6 +153,7 @@ script-high frames before (d ∷ drivers) (suc i) h = script-high frames (before
 
 op-high : (w : OpWord) → over 31 (op_text w) ≡ true
 op-high op.Tag = refl
+op-high op.IommuTag = refl
 op-high op.TagDestroy = refl
 op-high op.Map = refl
 op-high op.MapDestroy = refl
@@ -174,6 +175,8 @@ item-high item.Sync = refl
 item-high item.SyncRange = refl
 item-high item.DevRead = refl
 item-high item.DevWrite = refl
+item-high item.DevReadAt = refl
+item-high item.DevWriteAt = refl
 
 hex-high : (n : ℕ) → over 31 (hex n) ≡ true
 hex-high n = joined 31 (codes "0x") (digits 16 false n) refl (lower 31 47 (digits 16 false n) (omega arith) (digits-high 16 false n))
@@ -249,6 +252,7 @@ report-name-high names.MixedSync = refl
 report-name-high names.Overlap = refl
 report-name-high names.NotDeferred = refl
 report-name-high names.ForeignMemory = refl
+report-name-high names.Untranslated = refl
 
 made-text-high : (b : Bool) → over 31 (made_text b) ≡ true
 made-text-high true = refl

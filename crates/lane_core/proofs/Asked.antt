@@ -77,6 +77,16 @@ module _ (l : LaneState) (m : ℕ) (b : Bio) (nowait : Bool) (items : List Item)
             else if is_device l o then Gives (device_load m o x l)
             else load_chunks m o x (chunks_for l o (is_some (get l.mems m)) x.entries) l) test
 
+        pub load-device : is_device l o ≡ true → bio_bytes b ≤ (limits_of l o).maxsize →
+            step ≡ Gives (device_load m o x l)
+        load-device behind short =
+            let test : nat_lt (limits_of l o).maxsize x.len ≡ false = grind (arith, nat_tests, short) in
+            passed ∙ ap (λ b. if b then Gives (ended m o (answer.Refused EINVAL) l)
+            else if is_device l o then Gives (device_load m o x l)
+            else load_chunks m o x (chunks_for l o (is_some (get l.mems m)) x.entries) l) test
+            ∙ ap (λ b. if b then Gives (device_load m o x l)
+            else load_chunks m o x (chunks_for l o (is_some (get l.mems m)) x.entries) l) behind
+
         module _ (plain : is_device l o ≡ false) (short : bio_bytes b ≤ (limits_of l o).maxsize) where
           abbrev chunks : List Chunk
           chunks = map_chunks l m o b

@@ -17,6 +17,7 @@ use Rattle.ideal_lane.specs.IdealMemory as ideal
 use Rattle.ideal_lane.specs.Outcomes.{Outcome, gives, is_loaded, load_length, unless_past, unless_refused}
 use Rattle.ideal_lane.specs.Outcomes.{unless_unloaded}
 use Rattle.ideal_lane.specs.State.{LaneState, LaneMap}
+use Rattle.ideal_wire.specs.Laid.{is_behind}
 use Rattle.ideal_wire.specs.Traces.{traces_of}
 use Rattle.ideal_wire.specs.WireStep.{load_buses}
 use Rattle.ideal_wire.proofs.Copies.{same_reads}
@@ -111,8 +112,22 @@ module _ (h : Holdings) (k off len : ℕ) (on : has_load (get h.maps.map k) ≡ 
   dev_read-refused r is =
       sym (within ∙ refused _ r l _ (sym (is ∙ answers)))
 
-  -- it is done
-  module _ (wired : IsWired h) (o : KeptMap) (there : get h.maps.map k ≡ Some o)
+  -- it is done, where what is read stands at the bus addresses
+  pub dev_read-by : (wired : IsWired h) → Fine ≡ dev_read_answer (is_known h.loans) (loan_of h.loans.loans k) off len →
+      (out : List ℕ) → out ≡ map (wire_of h) (load_buses l k off len) →
+      gives l (answer.Bytes out) ≡ dev_read k off len l
+  dev_read-by wired fine out is =
+      let allowed : dev_read_answer (ideal.is_known l.memory) (loan_of l.loans k) off len ≡ Fine =
+      sym (fine ∙ answers)
+      in
+      ap (λ vs. gives l (answer.Bytes vs))
+      (is
+      ∙ sym (dev_read_of (own l wired.laid wired.apart) l (traces_of l) (wire_of h)
+      (faithful l (wire_of h) wired.apart wired.laid wired.faithful) k off len allowed))
+      ∙ sym (within ∙ passes _ l _ allowed)
+
+  -- so it does where the map is none of an IOMMU tag
+  module _ (wired : IsWired h) (o : KeptMap) (there : get h.maps.map k ≡ Some o) (plain : is_behind l k ≡ false)
       (fine : Fine ≡ dev_read_answer (is_known h.loans) (loan_of h.loans.loans k) off len) (out : List ℕ)
       (is : out ≡ map (device_view (device_in o.map.stage) h.memory.memory)
       (bus_range off len (segments_of o.map.stage))) where
@@ -124,7 +139,7 @@ module _ (h : Holdings) (k off len : ℕ) (on : has_load (get h.maps.map k) ≡ 
     dev_read-reads =
         is
         ∙ (λ i. map (device_view (sym (device-is h wired k o there loaded) i) h.memory.memory)
-        (range-buses h wired k o there loaded off len i))
+        (range-buses h wired k o there loaded plain off len i))
         ∙ same_reads (load_buses l k off len) (device_view (devices_of h.maps.map k) h.memory.memory) (wire_of h)
         (λ i a at.
         let t = range-place h wired k o there loaded off len i a at in
@@ -134,12 +149,4 @@ module _ (h : Holdings) (k off len : ℕ) (on : has_load (get h.maps.map k) ≡ 
 
     -- it is what the ideal memory has
     pub dev_read-done : gives l (answer.Bytes out) ≡ dev_read k off len l
-    dev_read-done =
-        let allowed : dev_read_answer (ideal.is_known l.memory) (loan_of l.loans k) off len ≡ Fine =
-        sym (fine ∙ answers)
-        in
-        ap (λ vs. gives l (answer.Bytes vs))
-        (dev_read-reads
-        ∙ sym (dev_read_of (own l wired.laid wired.apart) l (traces_of l) (wire_of h)
-        (faithful l (wire_of h) wired.apart wired.laid wired.faithful) k off len allowed))
-        ∙ sym (within ∙ passes _ l _ allowed)
+    dev_read-done = dev_read-by wired fine out dev_read-reads

@@ -1,5 +1,5 @@
 -- What a write of the device makes of a driver's ideal state and of what it holds.
-use Rattle.std.proofs.Common.{◌≡◌, ℕ, ◌+◌, ◌≤◌, Bool, true, List, length, drop, Some, slice_get, refl}
+use Rattle.std.proofs.Common.{◌≡◌, ℕ, ◌+◌, ◌≤◌, Bool, true, false, List, length, drop, Some, slice_get, refl}
 use Rattle.std.proofs.Common.{sym, ap, ◌∙◌, subst, arith, length-take, length-drop}
 use Rattle.std.proofs.lemmas.List.{length-map}
 use Rattle.std.specs.Ordering.{nat_cmp}
@@ -23,6 +23,7 @@ use Rattle.ideal_lane.specs.IdealMemory.{written}
 use Rattle.ideal_lane.specs.Outcomes.{Outcome, gives, is_loaded, unless_past, unless_refused}
 use Rattle.ideal_lane.specs.State.{LaneState, LaneMap}
 use Rattle.ideal_wire.specs.Centre.{IsFaithful}
+use Rattle.ideal_wire.specs.Laid.{is_behind}
 use Rattle.ideal_wire.specs.WireStep as wires
 use Rattle.ideal_wire.specs.WireStep.{if_done, load_buses}
 use Rattle.ideal_wire.proofs.Calls.{dev_write-faithful}
@@ -72,7 +73,7 @@ range-size off len buffer h =
 
 -- a write that is done, where the map's pages and the driver's frames have these bytes now
 module _ (h : Holdings) (wired : IsWired h) (k : ℕ) (o : KeptMap) (there : get h.maps.map k ≡ Some o)
-    (on : has_load (Some o) ≡ true) (off : ℕ) (vs : List ℕ)
+    (on : has_load (Some o) ≡ true) (plain : is_behind (ideal_of h) k ≡ false) (off : ℕ) (vs : List ℕ)
     (range : off + length vs ≤ length (buffer_of h.loans k))
     (fine : Fine ≡ dev_write_answer (loan_of h.loans.loans k) off (length vs))
     (next : held.MapView KeptLoad) (repaged : IsRepaged o.map next) (n : Memory)
@@ -107,7 +108,7 @@ module _ (h : Holdings) (wired : IsWired h) (k : ℕ) (o : KeptMap) (there : get
   dev_write-wire =
       repaged-put h wired k o there on next repaged n (load_buses l k off (length vs)) vs mine
       (view ∙ ap (λ ks. put ks vs (device_view (device_in o.map.stage) h.memory.memory))
-      (range-buses h wired k o there on off (length vs)))
+      (range-buses h wired k o there on plain off (length vs)))
       ∙ sym (ap (λ s. if_done s (put (load_buses l k off (length vs)) vs (wire_of h)) (wire_of h)) done)
 
   stays : IsFaithful after (with_bytes_of (held_pages now) (wire n))

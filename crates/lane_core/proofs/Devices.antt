@@ -9,7 +9,6 @@ use Rattle.std.proofs.lemmas.List.{length-map}
 use Rattle.std.proofs.lemmas.Option.{slice_get-map, slice_get-get_or}
 use Rattle.std.specs.List.{AllByRecursion, AllZip, list_any}
 use Rattle.std.specs.FinMap.{get}
-use Rattle.std.specs.Option.{option_map_or}
 use Rattle.busdma_machine.specs.declared.machine.chunk.Chunk.{Chunk}
 use Rattle.busdma_machine.specs.declared.machine.address.Segment.{Segment}
 use Rattle.busdma_machine.specs.Bounce.MemoryRuns.{in_run}
@@ -27,7 +26,6 @@ use Rattle.phys_memory.specs.Memory.{Memory, has_frame}
 use Rattle.segment_build.specs.Obeying.{segments_bytes}
 use Rattle.segment_build.specs.Segmentation.{segment_bytes}
 use Rattle.segment_build.specs.Trace.{bus_extent}
-use Rattle.ideal_lane.specs.Loads.{is_device}
 use Rattle.ideal_lane.specs.Outcomes.{is_loaded}
 use Rattle.ideal_lane.specs.State.{LaneState}
 use Rattle.ideal_lane.specs.Syncs.{bounced_in}
@@ -54,7 +52,6 @@ use Rattle.lane_core.proofs.Keeping.{told-some}
 use Rattle.lane_core.proofs.Lying.{holds, pages-same}
 use Rattle.lane_core.proofs.MapValues.{image-some}
 use Rattle.lane_core.proofs.MarkedMemory.{marks-held, some-mark}
-use Rattle.lane_core.proofs.Unspaced.{never-device}
 
 -- of chunks in pages, the one at a place lies in the page there
 in-page-at : (cs : List Chunk) (pages : List ℕ) (i page : ℕ) (c : Chunk) → AllZip IsInPage cs pages →
@@ -187,10 +184,6 @@ module _ (h : Holdings) (wired : IsWired h) where
         by (held.lent bounced segments frames) e loaded unlent lies = absurd (cc)
         by held.returning e loaded unlent lies = absurd (cc)
 
-    plain : is_behind l k ≡ false
-    plain = ap (λ y. option_map_or (is_device l) y false) (image-some map_of h.maps.map k o there)
-        ∙ never-device h (map_of o)
-
     pub device-is : devices_of h.maps.map k ≡ device_in o.map.stage
     device-is = ap device_of there
 
@@ -201,22 +194,6 @@ module _ (h : Holdings) (wired : IsWired h) where
       apart = subst (λ d. AreApart m (frames_of d.pages)) device-is (frames-apart k);
     }
 
-    -- the bus addresses of a range of its segments are those of its trace
-    pub range-buses : (off len : ℕ) → bus_range off len (held.segments_of o.map.stage) ≡ load_buses l k off len
-    range-buses off len =
-        ap (λ s. bus_range off len (held.segments_of s)) loading.stage
-        ∙ sym (map_own (bus_range off len loading.segments))
-        ∙ sym (same_range (λ (t : Placed). t.bus) (λ (a : ℕ). a) off len (traces_of l k)
-        (segment_bytes loading.segments) (sym (loading.load.trace plain) ∙ sym (map_own (segment_bytes loading.segments))))
-
-    bytes-long : segments_bytes (held.segments_of o.map.stage) ≡ length (buffer_of h.loans k)
-    bytes-long =
-        ap (λ s. segments_bytes (held.segments_of s)) loading.stage ∙ sym (bytes_length loading.segments)
-        ∙ ap length (loading.load.trace plain) ∙ length-map (traces_of l k) (λ (t : Placed). t.bus)
-        ∙ sym (length-map (traces_of l k) (λ (t : Placed). t.pa))
-        ∙ ap length (placed-buffers (bounced_in (stage_at l k)) 0 (addresses_of (loan_of h.loans.loans k).positions))
-        ∙ length-map (loan_of h.loans.loans k).positions (λ p. p.pa)
-
     -- a place of a range of its trace
     pub range-place : (off len i a : ℕ) → slice_get (load_buses l k off len) i ≡ Some a →
         (t : Placed) × IsPlacedAt (traces_of l) k (off + i) t × (t.bus ≡ a)
@@ -225,13 +202,31 @@ module _ (h : Holdings) (wired : IsWired h) where
         (sym (slice_get-map (λ (t : Placed). t.bus) (stretch off len (traces_of l k)) i) ∙ at) in
         (t.0, (of_range (traces_of l k) off len i t.0 t.1).whole, t.2)
 
-    pub is-reached : (off len : ℕ) → off + len ≤ length (buffer_of h.loans k) → IsReached m o.map.stage off len
-    is-reached off len range = record {
-      pages = has-pages;
-      range = let size = bytes-long in omega (arith, range, size);
-      there = subst (AllByRecursion (IsThere m (frames_of (device_in o.map.stage).pages))) (sym (range-buses off len))
-          (all-from (IsThere m (frames_of (device_in o.map.stage).pages)) (load_buses l k off len) (λ i a at.
-          let t = range-place off len i a at in
-          subst (λ d. IsThere m (frames_of d.pages) a) device-is
-          (subst (IsThere m (frames k)) t.2 (there-bus k (off + i) t.0 t.1))));
-    }
+    -- where the map is none of an IOMMU tag
+    module _ (plain : is_behind l k ≡ false) where
+      -- the bus addresses of a range of its segments are those of its trace
+      pub range-buses : (off len : ℕ) → bus_range off len (held.segments_of o.map.stage) ≡ load_buses l k off len
+      range-buses off len =
+          ap (λ s. bus_range off len (held.segments_of s)) loading.stage
+          ∙ sym (map_own (bus_range off len loading.segments))
+          ∙ sym (same_range (λ (t : Placed). t.bus) (λ (a : ℕ). a) off len (traces_of l k)
+          (segment_bytes loading.segments) (sym (loading.load.trace plain) ∙ sym (map_own (segment_bytes loading.segments))))
+
+      bytes-long : segments_bytes (held.segments_of o.map.stage) ≡ length (buffer_of h.loans k)
+      bytes-long =
+          ap (λ s. segments_bytes (held.segments_of s)) loading.stage ∙ sym (bytes_length loading.segments)
+          ∙ ap length (loading.load.trace plain) ∙ length-map (traces_of l k) (λ (t : Placed). t.bus)
+          ∙ sym (length-map (traces_of l k) (λ (t : Placed). t.pa))
+          ∙ ap length (placed-buffers (bounced_in (stage_at l k)) 0 (addresses_of (loan_of h.loans.loans k).positions))
+          ∙ length-map (loan_of h.loans.loans k).positions (λ p. p.pa)
+
+      pub is-reached : (off len : ℕ) → off + len ≤ length (buffer_of h.loans k) → IsReached m o.map.stage off len
+      is-reached off len range = record {
+        pages = has-pages;
+        range = let size = bytes-long in omega (arith, range, size);
+        there = subst (AllByRecursion (IsThere m (frames_of (device_in o.map.stage).pages))) (sym (range-buses off len))
+            (all-from (IsThere m (frames_of (device_in o.map.stage).pages)) (load_buses l k off len) (λ i a at.
+            let t = range-place off len i a at in
+            subst (λ d. IsThere m (frames_of d.pages) a) device-is
+            (subst (IsThere m (frames k)) t.2 (there-bus k (off + i) t.0 t.1))));
+      }

@@ -1,20 +1,29 @@
 -- What a change of one part of a driver's holdings leaves as it was.
-use Rattle.std.proofs.Common.{◌≡◌, ℕ, true, false, Option, Some, None, is_some, OnSome, refl, subst}
+use Rattle.std.proofs.Common.{◌≡◌, ℕ, true, false, Option, Some, None, is_some, OnSome, refl, ap, subst}
 use Rattle.std.specs.Option.{option_map}
 use Rattle.lane_core.specs.declared.kept.KeptLoad.{KeptLoad}
 use Rattle.dma_map.specs.declared.state.MapState.TheVariants as state
 use Rattle.dma_map.specs.MapView as held
 use Rattle.lane_core.specs.declared.holdings.Holdings.{Holdings}
+use Rattle.phys_memory.specs.Memory.{wire}
 use Rattle.ideal_lane.specs.Outcomes.{is_idle, is_loaded}
 use Rattle.ideal_lane.specs.State.{Stage, Idle, Waiting, Loaded, Returning}
 use Rattle.lane_core.specs.declared.kept.KeptMap.{KeptMap}
 use Rattle.lane_core.specs.Covered.{has_load, is_idle_map, is_returning, is_tried, lends_pages}
 use Rattle.lane_core.specs.Kept.{device_of, no_device, due_of, map_of, stage_of}
-use Rattle.lane_core.specs.Changes.{KeepsBytes}
+use Rattle.lane_core.specs.Changes.{KeepsButTags, KeepsBytes}
+use Rattle.lane_core.specs.Held.{devices_of}
 
 -- nothing changed
 pub bytes-same : (h : Holdings) → KeepsBytes h h
 bytes-same h = record { own = refl; pages = λ m. refl }
+
+-- the tags alone changed
+pub tags-bytes : (h k : Holdings) → KeepsButTags h k → KeepsBytes h k
+tags-bytes h k rest = record {
+  own = ap (λ x. wire x.memory) rest.most.memory;
+  pages = λ m. ap (λ t. (devices_of t.map m).pages) rest.maps;
+}
 
 -- what holds of a value that is there
 pub on-some : {T P : Type 0} (r : Option T) (x : T) → r ≡ Some x → OnSome r P → P

@@ -4,6 +4,8 @@ use Rattle.ideal_wire.specs.Apart.{IsApart}
 use Rattle.ideal_wire.specs.Centre.{IsFaithful}
 use Rattle.ideal_wire.specs.Laid.{AreLaid}
 use Rattle.ideal_wire.specs.Machine.{IsInMachine}
+use Rattle.ideal_wire.specs.Mapped.{AreMapped}
+use Rattle.ideal_wire.specs.Spaced.{AreSpaced}
 use Rattle.ideal_wire.specs.WireStep.{Follows}
 use Rattle.ideal_wire.proofs.Carried.{are-bused, carried, same-carries}
 use Rattle.lane_core.specs.declared.holdings.Holdings.{Holdings}
@@ -25,6 +27,8 @@ kept-wired h k s wired =
       machine = subst IsInMachine back wired.machine;
       laid = laid;
       apart = apart;
+      spaced = subst AreSpaced back wired.spaced;
+      mapped = subst (λ n. ∥ AreMapped n ∥₁) back wired.mapped;
       faithful = subst (λ n. IsFaithful n (wire_of k)) back
           (carried l l (wire_of h) (wire_of k) (are-bused l wired.laid) wired.faithful
           (same-carries l l wired.faithful.exclusive refl refl (λ n i p at. refl)) here);

@@ -11,7 +11,7 @@ use Rattle.busdma_machine.specs.Machine.Wire.{Wire}
 use Rattle.busdma_machine.specs.Runs.{run_of}
 use Rattle.loan_table.specs.Lending.{lost}
 use Rattle.loan_table.specs.Loans.{load_bytes}
-use Rattle.ideal_lane.specs.Accesses.{cpu_read, cpu_write, dev_write}
+use Rattle.ideal_lane.specs.Accesses.{cpu_read, cpu_write, dev_write, dev_write_at, raw_bytes}
 use Rattle.ideal_lane.specs.Ahead.{items_ahead}
 use Rattle.ideal_lane.specs.Asking.{Asking, Gives, by_reply}
 use Rattle.ideal_lane.specs.Outcomes.{Outcome, refused}
@@ -19,15 +19,18 @@ use Rattle.ideal_lane.specs.Places.{bytes_at}
 use Rattle.ideal_lane.specs.Standing.{Stands}
 use Rattle.ideal_lane.specs.State.{LaneState}
 use Rattle.ideal_lane.specs.Syncs.{sync, sync_range}
-use Rattle.ideal_lane.proofs.Effects.{DeviceWrites, Operation, Same, Syncs, Touches, Transfer, Work, Writes}
+use Rattle.ideal_lane.proofs.Effects.{DeviceWrites, Operation, RawWrites, Same, Syncs, Touches, Transfer, Work, Writes}
 use Rattle.ideal_lane.proofs.Stepping.{Only}
 use Rattle.ideal_lane.proofs.Stepping.{cpu_write-touches, transfer-touches}
 use Rattle.ideal_wire.specs.Apart.{IsApart}
 use Rattle.ideal_wire.specs.Centre.{IsFaithful}
 use Rattle.ideal_wire.specs.Machine.{IsInMachine}
+use Rattle.ideal_wire.specs.OneProof.{IsFaithful-prop}
 use Rattle.ideal_wire.specs.WireStep as wires
 use Rattle.ideal_wire.specs.WireStep.{IsRead, Reads, place_bytes}
-use Rattle.ideal_wire.proofs.Calls.{cpu_write-faithful, dev_write-faithful, sync-faithful, sync_range-faithful}
+use Rattle.ideal_wire.proofs.KeptSpaces.{touches-spaced}
+use Rattle.ideal_wire.proofs.MappedTurns.{touches-mapped}
+use Rattle.ideal_wire.proofs.Calls.{cpu_write-faithful, dev_write-faithful, dev_write_at-faithful, sync-faithful, sync_range-faithful}
 use Rattle.ideal_wire.proofs.StillLaid.{touches-laid}
 use Rattle.ideal_wire.proofs.Wiring.{own-forgotten, own-written, cpu_read-reads as reads}
 use Rattle.lane_core.specs.declared.holdings.Holdings.{Holdings}
@@ -40,6 +43,7 @@ use Rattle.lane_core.proofs.KeepsWired.{kept-wired}
 use Rattle.lane_core.proofs.OneStanding.{stands-of}
 use Rattle.lane_core.proofs.Promises.{maps-promise}
 use Rattle.lane_core.proofs.SmallLoads.{small-same}
+use mathlib.Core.Logic.{∥∥₁_elim, ∥∥₁_map}
 use Rattle.busdma_base.specs.declared.scenarios.script.Bytes.TheVariants as bytes
 use Rattle.busdma_base.specs.declared.scenarios.script.Item.TheVariants as item
 use Rattle.busdma_base.specs.declared.scenarios.script.Op.TheVariants as op
@@ -58,6 +62,8 @@ is-touched {l} (Syncs m off len ops is o there i alone fine) =
     record { rest = refl; own = own-forgotten (lost l.loans m off len ops) l.memory }
 is-touched {l} (Writes place bs va at reaches fine) =
     record { rest = refl; own = own-written (bytes_at l (run_of va (length (bytes_of bs)))) (bytes_of bs) l.memory }
+is-touched {l} (RawWrites t addr bs g there fine) =
+    record { rest = refl; own = own-written (raw_bytes l t (run_of addr (length (bytes_of bs)))) (bytes_of bs) l.memory }
 is-touched {l} (DeviceWrites m off bs o there i fine) =
     record { rest = refl; own = own-written (load_bytes l.loans m off (length (bytes_of bs))) (bytes_of bs) l.memory }
 
@@ -70,7 +76,7 @@ pub record IsCalledOn (h k : Holdings) : Type 0 where
   pub ahead : items_ahead (ideal_of k) ≡ items_ahead (ideal_of h)
   pub maps : (ideal_of k).maps ≡ (ideal_of h).maps
 
-module _ (h k : Holdings) (wired : IsWired h) (x : Answer) where
+module _ (h k : Holdings) (wired : IsWired h) (stands : Stands (ideal_of h)) (x : Answer) where
   abbrev l : LaneState
   l = ideal_of h
 
@@ -118,6 +124,9 @@ module _ (h k : Holdings) (wired : IsWired h) (x : Answer) where
         machine = subst IsInMachine back machine;
         laid = touches-laid l wired.laid made;
         apart = subst IsApart back apart;
+        spaced = touches-spaced l stands wired.laid wired.machine wired.spaced made;
+        mapped = ∥∥₁_map wired.mapped (λ mapped.
+            touches-mapped l stands wired.laid wired.machine wired.spaced mapped made);
         faithful = subst (λ (s : Asking Outcome). IsFaithful (by_reply s Nothing).lane (wire_of k)) (sym done) (faithful Nothing);
       };
       ahead = ap items_ahead touched.rest;
@@ -155,6 +164,16 @@ module _ (h k : Holdings) (wired : IsWired h) (x : Answer) where
       (λ r. subst (IsFaithful (by_reply (dev_write m off vs l) r).lane) (sym wire)
       (dev_write-faithful l (wire_of h) wired.apart wired.laid wired.faithful m off vs r))
 
+  pub dev_written_at : (t addr : ℕ) (vs : List ℕ) → Gives (given k x) ≡ dev_write_at t addr vs l →
+      wire_of k ≡ wires.dev_write_at t addr vs l (wire_of h) → IsCalledOn h k
+  dev_written_at t addr vs done wire =
+      called-on (Transfer (item.DevWriteAt t addr (bytes.Listed vs))) (dev_write_at t addr vs l) done
+      (transfer-touches l (item.DevWriteAt t addr (bytes.Listed vs)))
+      (λ r. ∥∥₁_elim wired.mapped (IsFaithful-prop (by_reply (dev_write_at t addr vs l) r).lane (wire_of k))
+      (λ mapped. subst (IsFaithful (by_reply (dev_write_at t addr vs l) r).lane) (sym wire)
+      (dev_write_at-faithful l (wire_of h) wired.apart wired.laid wired.faithful
+      (record { stands = stands; laid = wired.laid; spaced = wired.spaced; mapped = mapped }) t addr vs r)))
+
 -- where memory ran out, it is as it was
 pub kept-on : (h k : Holdings) → IsWired h → KeepsState h k → IsCalledOn h k
 kept-on h k wired s = record {
@@ -164,32 +183,39 @@ kept-on h k wired s = record {
   maps = ap (λ (x : LaneState). x.maps) s.ideal;
 }
 
-module _ {E : Type 0} (h k : Holdings) (wired : IsWired h) where
+module _ {E : Type 0} (h k : Holdings) (wired : IsWired h) (stands : Stands (ideal_of h)) where
   pub sync-after : (m ops : ℕ) (r : Result Answer E) → IfOk r (λ a. Gives (given k a) ≡ sync m ops (ideal_of h)) →
       IfOk r (λ a. wire_of k ≡ wires.sync m ops (ideal_of h) (wire_of h)) → OnErr r (KeepsState h k) → IsCalledOn h k
-  sync-after m ops (Ok a) done wire err = synced h k wired a m ops done wire
+  sync-after m ops (Ok a) done wire err = synced h k wired stands a m ops done wire
   sync-after m ops (Err x) done wire err = kept-on h k wired err
 
   pub sync_range-after : (m off len ops : ℕ) (r : Result Answer E) →
       IfOk r (λ a. Gives (given k a) ≡ sync_range m off len ops (ideal_of h)) →
       IfOk r (λ a. wire_of k ≡ wires.sync_range m off len ops (ideal_of h) (wire_of h)) →
       OnErr r (KeepsState h k) → IsCalledOn h k
-  sync_range-after m off len ops (Ok a) done wire err = synced_range h k wired a m off len ops done wire
+  sync_range-after m off len ops (Ok a) done wire err = synced_range h k wired stands a m off len ops done wire
   sync_range-after m off len ops (Err x) done wire err = kept-on h k wired err
 
   pub cpu_write-after : (place : Place) (vs : List ℕ) (r : Result Answer E) →
       IfOk r (λ a. Gives (given k a) ≡ cpu_write place vs (ideal_of h)) →
       IfOk r (λ a. wire_of k ≡ wires.cpu_write place vs (ideal_of h) (wire_of h)) → OnErr r (KeepsState h k) →
       IsCalledOn h k
-  cpu_write-after place vs (Ok a) done wire err = cpu_written h k wired a place vs done wire
+  cpu_write-after place vs (Ok a) done wire err = cpu_written h k wired stands a place vs done wire
   cpu_write-after place vs (Err x) done wire err = kept-on h k wired err
 
   pub dev_write-after : (m off : ℕ) (vs : List ℕ) (r : Result Answer E) →
       IfOk r (λ a. Gives (given k a) ≡ dev_write m off vs (ideal_of h)) →
       IfOk r (λ a. wire_of k ≡ wires.dev_write m off vs (ideal_of h) (wire_of h)) → OnErr r (KeepsState h k) →
       IsCalledOn h k
-  dev_write-after m off vs (Ok a) done wire err = dev_written h k wired a m off vs done wire
+  dev_write-after m off vs (Ok a) done wire err = dev_written h k wired stands a m off vs done wire
   dev_write-after m off vs (Err x) done wire err = kept-on h k wired err
+
+  pub dev_write_at-after : (t addr : ℕ) (vs : List ℕ) (r : Result Answer E) →
+      IfOk r (λ a. Gives (given k a) ≡ dev_write_at t addr vs (ideal_of h)) →
+      IfOk r (λ a. wire_of k ≡ wires.dev_write_at t addr vs (ideal_of h) (wire_of h)) → OnErr r (KeepsState h k) →
+      IsCalledOn h k
+  dev_write_at-after t addr vs (Ok a) done wire err = dev_written_at h k wired stands a t addr vs done wire
+  dev_write_at-after t addr vs (Err x) done wire err = kept-on h k wired err
 
 -- ---- what a lane keeps
 

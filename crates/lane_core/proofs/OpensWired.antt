@@ -15,7 +15,11 @@ use Rattle.ideal_wire.specs.Apart.{HoldsPage, IsApart}
 use Rattle.ideal_wire.specs.Centre.{IsFaithful}
 use Rattle.ideal_wire.specs.Laid.{AreLaid}
 use Rattle.ideal_wire.specs.Machine.{IsInMachine, IsOfMachine}
+use Rattle.ideal_wire.specs.Mapped.{AreMapped}
+use Rattle.ideal_wire.specs.Spaced.{AreSpaced}
 use Rattle.ideal_wire.specs.Traces.{stage_in}
+use Rattle.ideal_wire.proofs.KeptSpaces.{opens-spaced}
+use Rattle.ideal_wire.proofs.MappedTurns.{opens-mapped}
 use Rattle.ideal_wire.proofs.Openings.{opens-faithful, opens-laid}
 use Rattle.lane_core.specs.declared.holdings.Holdings.{Holdings}
 use Rattle.lane_core.specs.declared.kept.KeptMap.{KeptMap}
@@ -63,6 +67,8 @@ module _ (id maxmem : ℕ) (driver : Driver) where
         machine = subst IsInMachine back (opens-in-machine numbered inside bios);
         laid = subst AreLaid back (opens-laid id maxmem driver);
         apart = subst IsApart back opens-apart;
+        spaced = subst AreSpaced back (opens-spaced id maxmem driver);
+        mapped = ∣ subst AreMapped back (opens-mapped id maxmem driver) ∣₁;
         faithful = subst (λ l. IsFaithful l (wire_of h)) back
             (opens-faithful id maxmem driver (wire_of h)
             (λ a own. ap (λ ps. with_bytes_of ps (wire h.memory.memory) a) none ∙ zeros a own));

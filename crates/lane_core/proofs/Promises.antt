@@ -1,5 +1,5 @@
 -- How many pages are due to join the return queue, as the ideal driver tells it, and which steps leave it as it is.
-use Rattle.std.proofs.Common.{◌≡◌, ℕ, ◌+◌, ◌*◌, ◌==◌, Bool, true, false, cond, List, [], ◌∷◌, length, Option, Some, None}
+use Rattle.std.proofs.Common.{◌≡◌, ℕ, ◌*◌, ◌==◌, Bool, true, false, cond, List, [], ◌∷◌, length, Option, Some, None}
 use Rattle.std.proofs.Common.{refl, sym, ap, ◌∙◌, subst, arith}
 use Rattle.std.specs.Prelude.{IfOk, OnErr, Result, Ok, Err}
 use Rattle.std.proofs.lemmas.List.{length-map}
@@ -27,7 +27,7 @@ use Rattle.ideal_lane.specs.Turns.{operation, transfer}
 use Rattle.ideal_lane.proofs.Effects.{Work, Operation, Transfer, Callback, Touches, Same, Syncs, Writes, DeviceWrites}
 use Rattle.ideal_lane.proofs.Effects.{Makes, Touched, Vain, Awaits, Tags, Attaches, Untags, Maps, Creates, Unmaps}
 use Rattle.ideal_lane.proofs.Effects.{Places, Frees, Refuses, Waits, Loads, Overflows, Unloads, Begins, Ends}
-use Rattle.ideal_lane.proofs.Effects.{AtOnce, Granted, Called, Device}
+use Rattle.ideal_lane.proofs.Effects.{AtOnce, Granted, Called, Device, RawWrites, Spaces}
 use Rattle.ideal_lane.proofs.Lookups.{get_cut, get_put, put_same}
 use Rattle.ideal_lane.proofs.Stepping.{Made, Only, operation-makes, transfer-touches}
 use Rattle.ideal_lane.proofs.Weights.{weigh, weigh-new}
@@ -142,6 +142,7 @@ touched-maps (Same a q u) = refl
 touched-maps (Syncs m off len ops is o there i alone fine) = refl
 touched-maps (Writes place bs va at reaches fine) = refl
 touched-maps (DeviceWrites m off bs o there i fine) = refl
+touched-maps (RawWrites t addr bs g there fine) = refl
 
 module _ (l : LaneState) (stands : Stands l) where
   fresh : get l.maps l.place ≡ None
@@ -163,6 +164,7 @@ module _ (l : LaneState) (stands : Stands l) where
   still-due (Awaits m) still = refl
   still-due (Tags name parent limits t new) still = refl
   still-due (Attaches name parent limits t new b g made) still = refl
+  still-due (Spaces name limits t new) still = refl
   still-due (Untags t free) still = refl
   still-due (Maps name t g e b) still = new-idle t None
   still-due (Creates name t g e b n made) still = new-idle t (Some n.zone.0)

@@ -1,11 +1,17 @@
 -- An item does the same whatever else stands in the transfer queue, and a driver stands whatever stands there.
-use Rattle.std.proofs.Common.{◌≡◌, ℕ, ◌+◌, ◌-◌, Bool, true, false, List, ◌∷◌, Option, None, Some, cond, length}
-use Rattle.std.proofs.Common.{map, refl, sym, ap, ◌∙◌, subst, arith}
+use Rattle.std.proofs.Common.{◌≡◌, ℕ, ◌+◌, ◌-◌, ◌^◌, ◌==◌, ◌&&◌, ◌||◌, Bool, true, false, not, List, [], ◌∷◌, Option}
+use Rattle.std.proofs.Common.{None, Some, cond, length, map, refl, sym, ap, ◌∙◌, subst, arith, if◌then◌else◌, is_some}
+use Rattle.std.proofs.Common.{slice_get, unwrap_or}
+use mathlib.Core.Logic.{∥∥₁_map}
 use Rattle.busdma_base.specs.declared.journals.answer.Answer.{Answer}
 use Rattle.busdma_base.specs.declared.journals.journal.Did.TheVariants as did
 use Rattle.busdma_base.specs.declared.journals.journal.Side.TheVariants as side
 use Rattle.busdma_machine.specs.declared.report.Judged.{Judged}
 use Rattle.busdma_machine.specs.declared.report.Judged.TheVariants.{Fine, Refused}
+use Rattle.busdma_machine.specs.declared.report.ReportName.{ReportName}
+use Rattle.busdma_machine.specs.declared.report.ReportName.TheVariants.{DeviceReadUnlent, DeviceWriteUnlent, Untranslated}
+use Rattle.busdma_machine.specs.Judging.{judged}
+use Rattle.busdma_machine.specs.Runs.{run_of}
 use Rattle.busdma_base.specs.declared.scenarios.script.Item.{Item}
 use Rattle.busdma_base.specs.declared.scenarios.script.Item.TheVariants as item
 use Rattle.busdma_machine.specs.Machine.Wire.{Wire, with_bytes_of}
@@ -13,23 +19,30 @@ use Rattle.busdma_base.specs.Scenarios.Operations.{bytes_of}
 use Rattle.dma_tag.specs.SyncOps.{is_mixed}
 use Rattle.lane_tables.specs.declared.queued.QueuedItem.{QueuedItem}
 use Rattle.lane_tables.specs.Schedule.{Schedule}
-use Rattle.loan_table.specs.Access.{dev_read_answer, dev_write_answer}
+use Rattle.iommu_map.specs.Space.{translated}
+use Rattle.loan_table.specs.declared.position.Position.{Position}
+use Rattle.loan_table.specs.Access.{dev_read_answer, dev_read_refusal, dev_write_answer, dev_write_refusal}
 use Rattle.loan_table.specs.Lending.{sync_answer}
 use Rattle.loan_table.specs.Loans.{loan_of}
-use Rattle.std.specs.FinMap.{get}
+use Rattle.std.specs.FinMap.{entries, get}
 use Rattle.std.specs.Prelude.{nat_le}
+use Rattle.ideal_lane.specs.Accesses.{place_in, position_in, raw_refusal, unless_unlent}
 use Rattle.ideal_lane.specs.Asking.{Asking, Gives, goes_on}
 use Rattle.ideal_lane.specs.IdealMemory.{is_known}
 use Rattle.ideal_lane.specs.Outcomes.{Outcome, is_loaded, load_length, unless_absent, unless_past, unless_refused}
 use Rattle.ideal_lane.specs.Outcomes.{unless_unloaded}
-use Rattle.ideal_lane.specs.State.{LaneMap, LaneState, no_space}
+use Rattle.ideal_lane.specs.Standing.{Stands}
+use Rattle.ideal_lane.specs.State.{LaneMap, LaneState}
 use Rattle.ideal_lane.specs.Syncs.{sync_part}
 use Rattle.ideal_lane.specs.Turns.{lane_step, left_queue, transfer, transfer_turn}
+use Rattle.ideal_lane.specs.Unloads.{segments_in}
 use Rattle.ideal_wire.proofs.StillLaid.{like}
 use Rattle.ideal_wire.specs.Apart.{IsApart}
 use Rattle.ideal_wire.specs.Centre.{IsFaithful}
 use Rattle.ideal_wire.specs.Laid.{AreLaid}
 use Rattle.ideal_wire.specs.Machine.{IsInMachine}
+use Rattle.ideal_wire.specs.Mapped.{AreMapped}
+use Rattle.ideal_wire.specs.Spaced.{AreSpaced}
 use Rattle.ideal_wire.specs.WireStep as wires
 use Rattle.ideal_wire.specs.WireStep.{if_done}
 use Rattle.phys_memory.specs.Memory.{wire}
@@ -39,7 +52,7 @@ use Rattle.lane_core.specs.declared.turn.Turn.TheVariants.{Stepped}
 use Rattle.lane_core.specs.Changes.{KeepsAgenda, KeepsBytes, KeepsButAgenda, KeepsState}
 use Rattle.lane_core.specs.Held.{devices_of, held}
 use Rattle.lane_core.specs.Ideal.{given, ideal_of}
-use Rattle.lane_core.specs.Kept.{map_of, memory_of, return_of, share_of, tag_of}
+use Rattle.lane_core.specs.Kept.{map_of, memory_of, return_of, share_of, spaces_of, tag_of}
 use Rattle.lane_core.specs.MapValues.{map_values}
 use Rattle.lane_core.specs.Turning.{turned}
 use Rattle.lane_core.specs.Wire.{IsWired, held_pages, wire_of}
@@ -65,10 +78,35 @@ module _ (l : LaneState) (q : QueuedItem) (rest : List QueuedItem) where
   by-judged Fine x y alike = alike
   by-judged (Refused r) x y alike = record { step = refl; wire = λ after w. refl }
 
-  by-found : (o : Option LaneMap) (x y : LaneMap → Asking Outcome) → ((m : LaneMap) → IsAlike (x m) (y m)) →
+  by-found : {X : Type 0} (o : Option X) (x y : X → Asking Outcome) → ((m : X) → IsAlike (x m) (y m)) →
       IsAlike (unless_absent o beside x) (unless_absent o l y)
   by-found None x y alike = record { step = refl; wire = λ after w. refl }
   by-found (Some m) x y alike = alike m
+
+  -- the position of a device address is that beside its own queue
+  position-beside : (t a : ℕ) (es : List (ℕ × LaneMap)) → position_in beside t a es ≡ position_in l t a es
+  position-beside t a [] = refl
+  position-beside t a (e ∷ es) =
+      ap (λ p. if e.1.tag == t && is_some (place_in 0 (segments_in e.1.stage) a)
+      then slice_get (loan_of l.loans e.0).positions (unwrap_or (place_in 0 (segments_in e.1.stage) a) 0) else p)
+      (position-beside t a es)
+
+  raw-beside : (unlent : ReportName) (refusal : Position → Option ReportName) (t addr len : ℕ) →
+      judged (raw_refusal unlent refusal beside t) 0 (run_of addr len)
+      ≡ judged (raw_refusal unlent refusal l t) 0 (run_of addr len)
+  raw-beside unlent refusal t addr len = λ i. judged (λ a.
+      if nat_le (2 ^ 64) a || not (is_some (translated (l.spaces t) a)) then Some Untranslated
+      else unless_unlent unlent refusal (position-beside t a (entries l.maps) i)) 0 (run_of addr len)
+
+  by-raw : (unlent : ReportName) (refusal : Position → Option ReportName) (t addr len : ℕ) (x y : Asking Outcome) →
+      IsAlike x y →
+      IsAlike (unless_refused (judged (raw_refusal unlent refusal beside t) 0 (run_of addr len)) beside x)
+      (unless_refused (judged (raw_refusal unlent refusal l t) 0 (run_of addr len)) l y)
+  by-raw unlent refusal t addr len x y alike =
+      subst (λ j. IsAlike (unless_refused j beside x)
+      (unless_refused (judged (raw_refusal unlent refusal l t) 0 (run_of addr len)) l y))
+      (sym (raw-beside unlent refusal t addr len))
+      (by-judged (judged (raw_refusal unlent refusal l t) 0 (run_of addr len)) x y alike)
 
   by-loaded : (m : ℕ) (x y : LaneMap → Asking Outcome) → ((o : LaneMap) → IsAlike (x o) (y o)) →
       IsAlike (unless_unloaded m beside x) (unless_unloaded m l y)
@@ -99,6 +137,12 @@ module _ (l : LaneState) (q : QueuedItem) (rest : List QueuedItem) where
       by-loaded m _ _ (λ o. by-range m off (length (bytes_of bytes)) _ _
       (by-judged (dev_write_answer (loan_of l.loans m) off (length (bytes_of bytes))) _ _
       (record { step = refl; wire = λ after w. refl })))
+  item-alike (item.DevReadAt t addr len) =
+      by-found (get l.tags t) _ _ (λ o. by-raw DeviceReadUnlent (dev_read_refusal (is_known l.memory) false) t addr len _ _
+      (record { step = refl; wire = λ after w. refl }))
+  item-alike (item.DevWriteAt t addr bytes) =
+      by-found (get l.tags t) _ _ (λ o. by-raw DeviceWriteUnlent (dev_write_refusal false) t addr
+      (length (bytes_of bytes)) _ _ (record { step = refl; wire = λ after w. refl }))
 
   -- the step and the wire of an item are those beside its own queue
   pub item-beside : (i : Item) →
@@ -110,6 +154,8 @@ module _ (l : LaneState) (q : QueuedItem) (rest : List QueuedItem) where
   wire-beside (item.SyncRange m off len ops) w = (item-alike (item.SyncRange m off len ops)).wire _ w
   wire-beside (item.DevRead m off len) w = refl
   wire-beside (item.DevWrite m off bytes) w = (item-alike (item.DevWrite m off bytes)).wire _ w
+  wire-beside (item.DevReadAt t addr len) w = refl
+  wire-beside (item.DevWriteAt t addr bytes) w = (item-alike (item.DevWriteAt t addr bytes)).wire _ w
 
 -- ---- holdings with another queue
 
@@ -131,7 +177,7 @@ module _ (h k : Holdings) (rest : KeepsButAgenda h k)
     queue = k.agenda.queue;
     returns = map return_of (agenda i).returns;
     shares = share_of (rest.most.shares i).items;
-    spaces = λ t. no_space;
+    spaces = spaces_of (rest.tags i).map;
   }
 
   pub queue-wire : wire_of k ≡ wire_of h
@@ -163,13 +209,23 @@ module _ (h k : Holdings) (rest : KeepsButAgenda h k)
         pages = wired.apart.pages;
         memories = wired.apart.memories;
       } in
+      let spaced : AreSpaced beside = record { each = wired.spaced.each; none = wired.spaced.none } in
+      let mapped : AreMapped l → AreMapped beside = (λ m. record {
+        each = λ n o e d g. (let one = m.each n o e d g in record { run = one.run; found = one.found });
+        alone = m.alone;
+      }) in
       let faithful : IsFaithful beside (wire_of k) = subst (IsFaithful l) (sym queue-wire) wired.faithful in
       record {
         machine = subst IsInMachine back machine;
         laid = subst AreLaid back laid;
         apart = subst IsApart back apart;
+        spaced = subst AreSpaced back spaced;
+        mapped = ∥∥₁_map wired.mapped (λ m. subst AreMapped back (mapped m));
         faithful = subst (λ n. IsFaithful n (wire_of k)) back faithful;
       }
+
+  pub queue-stands : Stands (ideal_of h) → Stands (ideal_of k)
+  queue-stands = subst Stands (sym queue-ideal)
 
 -- ---- the turn of a transfer: an item left the queue, and then it was done
 

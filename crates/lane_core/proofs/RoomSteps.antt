@@ -1,12 +1,11 @@
 -- A driver after room was taken for a memory.
 use Rattle.std.proofs.Common.{◌≡◌, ℕ, Option, is_some, refl, sym, ap, ◌∙◌}
 use Rattle.phys_memory.specs.Memory.{wire}
-use Rattle.ideal_lane.specs.State.{no_space}
 use Rattle.lane_core.specs.declared.holdings.Holdings.{Holdings}
 use Rattle.lane_core.specs.Changes.{KeepsBesideMemory, KeepsBytes, KeepsState}
 use Rattle.lane_core.specs.Held.{devices_of, held}
 use Rattle.lane_core.specs.Ideal.{ideal_of}
-use Rattle.lane_core.specs.Kept.{map_of, memory_of, return_of, share_of, tag_of}
+use Rattle.lane_core.specs.Kept.{map_of, memory_of, return_of, share_of, spaces_of, tag_of}
 use Rattle.lane_core.specs.MapValues.{map_values}
 use Rattle.lane_core.specs.Making.{KeepsButRoom}
 
@@ -26,7 +25,7 @@ module _ (h k : Holdings) (s : KeepsButRoom h k) where
     queue = (s.agenda i).queue;
     returns = Rattle.std.proofs.Common.map return_of (s.agenda i).returns;
     shares = share_of (s.shares i).items;
-    spaces = λ t. no_space;
+    spaces = spaces_of (s.tags i).map;
   }
 
   pub room-bytes : KeepsBytes h k

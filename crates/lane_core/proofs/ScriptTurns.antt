@@ -12,7 +12,7 @@ use Rattle.phys_memory.specs.Memory.{wire}
 use Rattle.ideal_lane.specs.Ahead.{items_ahead}
 use Rattle.ideal_lane.specs.Asking.{Asking, Gives, Asks, goes_on}
 use Rattle.ideal_lane.specs.Standing.{Stands}
-use Rattle.ideal_lane.specs.State.{LaneState, no_space}
+use Rattle.ideal_lane.specs.State.{LaneState}
 use Rattle.ideal_lane.specs.Turns as turns
 use Rattle.ideal_lane.specs.Turns.{advanced, lane_step, next_operation, operation, script_turn, stays, waits}
 use Rattle.ideal_lane.proofs.Falling.{rest-of}
@@ -25,7 +25,7 @@ use Rattle.lane_core.specs.Changes.{IsWireOf, Becomes, Stays, WithMemory, KeepsB
 use Rattle.lane_core.specs.Doing.{IsAllowedBy, IsDone, asks}
 use Rattle.lane_core.specs.Held.{devices_of, held}
 use Rattle.lane_core.specs.Ideal.{given, ideal_of}
-use Rattle.lane_core.specs.Kept.{map_of, memory_of, return_of, share_of, tag_of}
+use Rattle.lane_core.specs.Kept.{map_of, memory_of, return_of, share_of, spaces_of, tag_of}
 use Rattle.lane_core.specs.MapValues.{map_values}
 use Rattle.lane_core.specs.Turning.{IsTurnOf, IsServed, IsTurned, answered, is_held, turned}
 use Rattle.lane_core.specs.Wire.{held_pages, wire_of}
@@ -133,7 +133,7 @@ module _ (h : Holdings) (empty : h.agenda.returns ≡ []) where
               queue = (agenda i).queue;
               returns = map return_of (agenda i).returns;
               shares = share_of (rest.most.shares i).items;
-              spaces = λ t. no_space;
+              spaces = spaces_of (rest.tags i).map;
             })
             ∙ (λ i. record (ideal_of k) { place = place i + 1 })
 

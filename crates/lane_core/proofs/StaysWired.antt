@@ -1,5 +1,6 @@
 -- A driver is wired and served after a turn, where its wire follows the wire of the step.
 use Rattle.std.proofs.Common.{◌≡◌, sym, ◌∙◌, subst, IsTrue}
+use mathlib.Core.Logic.{∥∥₁_elim, ∥∥₁_map}
 use Rattle.busdma_base.specs.declared.journals.journal.Side.{Side}
 use Rattle.busdma_machine.specs.Bounce.Door.{Seen, account}
 use Rattle.ideal_lane.specs.Agreement.{AgreesWith}
@@ -11,10 +12,15 @@ use Rattle.ideal_wire.specs.Apart.{IsApart}
 use Rattle.ideal_wire.specs.Centre.{IsFaithful}
 use Rattle.ideal_wire.specs.Laid.{AreLaid}
 use Rattle.ideal_wire.specs.Machine.{IsInMachine}
+use Rattle.ideal_wire.specs.Mapped.{AreMapped}
+use Rattle.ideal_wire.specs.OneProof.{IsFaithful-prop}
+use Rattle.ideal_wire.specs.Spaced.{AreSpaced}
 use Rattle.ideal_wire.specs.WireStep.{Follows}
 use Rattle.ideal_wire.specs.WireStep as wires
 use Rattle.ideal_wire.proofs.Frames.{agreeing-apart}
+use Rattle.ideal_wire.proofs.KeptSpaces.{turn-spaced}
 use Rattle.ideal_wire.proofs.Machines.{turn-keeps}
+use Rattle.ideal_wire.proofs.MappedTurns.{turn-mapped}
 use Rattle.ideal_wire.proofs.Turns.{turn-stays}
 use Rattle.lane_core.specs.declared.holdings.Holdings.{Holdings}
 use Rattle.lane_core.specs.Ideal.{ideal_of}
@@ -58,9 +64,13 @@ module _ (h k : Holdings) (s : Side) (d e : Seen) (stands : Stands (ideal_of h))
     machine = subst IsInMachine replied (turn-keeps (ideal_of h) wired.machine s led.reply led.new);
     laid = still-laid;
     apart = still-apart;
-    faithful = subst (λ l. IsFaithful l (wire_of k)) replied
-        (turn-stays (ideal_of h) (account d) (wire_of h) stands served.agrees wired.laid wired.faithful s led.reply
-        (wire_of k) led.new
+    spaced = subst AreSpaced replied (turn-spaced (ideal_of h) stands wired.laid wired.machine wired.spaced s led.reply);
+    mapped = ∥∥₁_map wired.mapped (λ mapped. subst AreMapped replied
+        (turn-mapped (ideal_of h) stands wired.laid wired.machine wired.spaced mapped s led.reply));
+    faithful = subst (λ l. IsFaithful l (wire_of k)) replied (∥∥₁_elim wired.mapped
+        (IsFaithful-prop (by_reply (lane_step (ideal_of h) s) led.reply).lane (wire_of k))
+        (λ mapped. turn-stays (ideal_of h) (account d) (wire_of h) stands served.agrees wired.laid wired.spaced mapped
+        wired.faithful s led.reply (wire_of k) led.new
         (subst (λ l. Follows (ideal_of h) l (wires.lane_step (ideal_of h) s (wire_of h)) (wire_of k)) (sym replied)
-        follows));
+        follows)));
   }

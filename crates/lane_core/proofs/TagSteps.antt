@@ -11,8 +11,7 @@ use Rattle.busdma_machine.specs.Tags.TagFlags.{allocnow}
 use Rattle.ideal_lane.specs.Asking.{Asks}
 use Rattle.ideal_lane.specs.Outcomes.{gives}
 use Rattle.ideal_lane.specs.State.{LaneState, LaneTag, no_space}
-use Rattle.ideal_lane.specs.Tags.{tag, tag_or_invalid, attached, with_tag, tag_destroy, has_maps}
-use Rattle.ideal_lane.proofs.Unspaced.{none-spaced}
+use Rattle.ideal_lane.specs.Tags.{tag, tag_or_invalid, attached, with_space, with_tag, tag_destroy, has_maps}
 
 module _ (l : LaneState) where
   -- the parent is not there
@@ -49,8 +48,6 @@ module _ (l : LaneState) where
       tag_destroy t l ≡ gives l (answer.Refused EBUSY)
   destroy-busy t o there busy = rw (there, busy) refl
 
-  pub destroy-done : (t : ℕ) (o : LaneTag) → l.spaces ≡ (λ k. no_space) → get l.tags t ≡ Some o →
-      has_maps l t ≡ false → tag_destroy t l ≡ gives (record l { tags = remove l.tags t }) answer.Done
-  destroy-done t o spaces there free =
-      rw (there, free) (λ i. gives (record l { tags = remove l.tags t; spaces = none-spaced l.spaces t spaces i })
-      answer.Done)
+  pub destroy-done : (t : ℕ) (o : LaneTag) → get l.tags t ≡ Some o → has_maps l t ≡ false → tag_destroy t l
+      ≡ gives (record l { tags = remove l.tags t; spaces = with_space t no_space l.spaces }) answer.Done
+  destroy-done t o there free = rw (there, free) refl

@@ -10,7 +10,7 @@ use Rattle.loan_table.specs.Loans.{Loans}
 use Rattle.phys_memory.specs.Memory.{wire}
 use Rattle.ideal_lane.specs.Outcomes.{is_loaded}
 use Rattle.ideal_lane.specs.Standing.{Stands, StandsAt}
-use Rattle.ideal_lane.specs.State.{Idle, LaneMap, LaneState, no_space}
+use Rattle.ideal_lane.specs.State.{Idle, LaneMap, LaneState}
 use Rattle.ideal_lane.proofs.Lookups.{get_put}
 use Rattle.ideal_lane.proofs.Weights.{weigh-put}
 use Rattle.lane_core.specs.declared.holdings.Holdings.{Holdings}
@@ -22,7 +22,7 @@ use Rattle.lane_core.specs.Held.{devices_of, held}
 use Rattle.lane_core.specs.Ideal.{ideal_of}
 use Rattle.lane_core.specs.Kept.{device_in, device_of, due_in, due_of, map_of, memory_of, return_of, share_of}
 use Rattle.lane_core.specs.Kept.{stage_of}
-use Rattle.lane_core.specs.Kept.{tag_of}
+use Rattle.lane_core.specs.Kept.{spaces_of, tag_of}
 use Rattle.lane_core.specs.MapValues.{map_values}
 use Rattle.lane_core.proofs.Bytes.{devices-put, held-alike}
 use Rattle.lane_core.proofs.Called.{KeepsLoad}
@@ -137,7 +137,7 @@ module _ (h k : Holdings) (m : ℕ) (o : KeptMap) (there : get h.maps.map m ≡ 
     queue = (rest.agenda i).queue;
     returns = map return_of (rest.agenda i).returns;
     shares = share_of (rest.most.shares i).items;
-    spaces = λ t. no_space;
+    spaces = spaces_of (rest.tags i).map;
   }
 
   pub taken-bytes : KeepsBytes h k

@@ -17,10 +17,9 @@ use Rattle.lane_tables.specs.declared.queued.QueuedPage.{QueuedPage}
 use Rattle.lane_tables.specs.Queues.{queued_pages}
 use Rattle.ideal_lane.specs.Loads.{emptied, unpaged}
 use Rattle.ideal_lane.specs.Outcomes.{gives, is_idle, is_loaded}
-use Rattle.ideal_lane.specs.State.{LaneState, LaneMap, Stage, Idle, Waiting, Loaded, Returning, no_space}
-use Rattle.ideal_lane.specs.Unloads.{first_of, unload, unlent, pages_of, segments_in}
+use Rattle.ideal_lane.specs.State.{LaneState, LaneMap, Stage, Idle, Waiting, Loaded, Returning}
+use Rattle.ideal_lane.specs.Unloads.{unload, unlent, unmapped, pages_of}
 use Rattle.lane_core.specs.Kept.{stage_of, return_of}
-use Rattle.ideal_lane.proofs.Unspaced.{none-left}
 
 module _ (l : LaneState) (m : ℕ) where
   -- the map is not there, or is not loaded, or is
@@ -32,12 +31,9 @@ module _ (l : LaneState) (m : ℕ) where
       unload m l ≡ gives l (answer.Report (record { name = NotLoaded; at = 0 }))
   unload-unloaded o there off = rw (there, off) refl
 
-  pub unload-done : (o : LaneMap) → l.spaces ≡ (λ k. no_space) → get l.maps m ≡ Some o → is_loaded o.stage ≡ true →
-      unload m l ≡ gives (unpaged m o (pages_of o.stage) (unlent m l)) answer.Done
-  unload-done o spaces there on =
-      rw (there, on) (λ i. gives (record (unpaged m o (pages_of o.stage) (unlent m l)) {
-        spaces = none-left l.spaces o.tag (first_of (segments_in o.stage)) spaces i;
-      }) answer.Done)
+  pub unload-done : (o : LaneMap) → get l.maps m ≡ Some o → is_loaded o.stage ≡ true →
+      unload m l ≡ gives (unpaged m o (pages_of o.stage) (unlent m (unmapped o l))) answer.Done
+  unload-done o there on = rw (there, on) refl
 
 -- the pages of a loaded map
 pub pages-are : (s : held.Stage KeptLoad) (p : RoomyPages) → held.pages_of s ≡ Some p →

@@ -1,8 +1,9 @@
 -- What of a driver's holdings a step leaves as it was.
-use Rattle.std.specs.Prelude.{◌≡◌, ℕ, ◌+◌, ◌==◌, true, false, [], ◌⊎◌, length, Some, None, is_some}
+use Rattle.std.specs.Prelude.{◌≡◌, ℕ, ◌+◌, ◌==◌, true, false, List, [], ◌⊎◌, length, Some, None, is_some}
 use Rattle.busdma_machine.specs.Machine.Wire.{Wire}
 use Rattle.phys_memory.specs.Memory.{wire}
-use Rattle.ideal_lane.specs.IdealMemory.{Known}
+use Rattle.ideal_lane.specs.IdealMemory.{Known, written}
+use Rattle.ideal_lane.specs.State.{LaneState}
 use Rattle.lane_core.specs.declared.holdings.Holdings.{Holdings}
 use Rattle.lane_core.specs.Covered.{pages_due}
 use Rattle.lane_core.specs.Held.{devices_of}
@@ -90,3 +91,7 @@ pub record KeepsAgenda (h k : Holdings) : Type 0 where
   pub place : k.agenda.place ≡ h.agenda.place
   pub end : k.agenda.length ≡ h.agenda.length
   pub capacity : k.agenda.room + length k.agenda.queue ≡ h.agenda.room + length h.agenda.queue
+
+-- the bytes at these addresses are these now, and Known
+abbrev pub with_written : List ℕ → List ℕ → LaneState → LaneState
+with_written pas vs l = record l { memory = written pas vs l.memory }

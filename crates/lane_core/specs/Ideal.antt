@@ -2,10 +2,10 @@
 use Rattle.std.specs.Prelude.{map}
 use Rattle.busdma_base.specs.declared.journals.answer.Answer.{Answer}
 use Rattle.ideal_lane.specs.Outcomes.{Outcome}
-use Rattle.ideal_lane.specs.State.{LaneState, no_space}
+use Rattle.ideal_lane.specs.State.{LaneState}
 use Rattle.lane_core.specs.declared.holdings.Holdings.{Holdings}
 use Rattle.lane_core.specs.Held.{devices_of, held}
-use Rattle.lane_core.specs.Kept.{tag_of, map_of, memory_of, return_of, share_of}
+use Rattle.lane_core.specs.Kept.{tag_of, map_of, memory_of, return_of, share_of, spaces_of}
 use Rattle.lane_core.specs.MapValues.{map_values}
 
 abbrev pub ideal_of : Holdings → LaneState
@@ -23,7 +23,7 @@ ideal_of h = record {
   queue = h.agenda.queue;
   returns = map return_of h.agenda.returns;
   shares = share_of h.shares.items;
-  spaces = λ t. no_space;
+  spaces = spaces_of h.tags.map;
 }
 
 -- what an operation gives that leaves these holdings

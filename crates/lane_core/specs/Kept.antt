@@ -1,24 +1,37 @@
 -- What the tags, maps, memories and shares that a lane keeps mean to the ideal driver.
-use Rattle.std.specs.Prelude.{ℕ, ◌*◌, ◌==◌, false, List, [], ◌∷◌, map, length, Option, Some, None, if◌then◌else◌}
+use Rattle.std.specs.Prelude.{ℕ, ◌*◌, ◌==◌, List, [], ◌∷◌, map, length, Option, Some, None, if◌then◌else◌, is_some}
+use Rattle.std.specs.Prelude.{unwrap_or}
+use Rattle.std.specs.FinMap.{FinMap, get}
 use Rattle.std.specs.Option.{option_map}
+use Rattle.std.specs.Ordering.{nat_cmp}
 use Rattle.busdma_machine.specs.declared.machine.chunk.Chunk.{Chunk}
 use Rattle.busdma_machine.specs.Machine.Page.{FrameBytes}
 use Rattle.busdma_machine.specs.Machine.PageList.{page_address, page_addresses}
 use Rattle.lane_core.specs.declared.kept.KeptLoad.{KeptLoad}
 use Rattle.dma_map.specs.MapView as held
+use Rattle.iommu_map.specs.Space.{Space}
 use Rattle.lane_agreement.specs.View.{Return}
 use Rattle.lane_tables.specs.declared.queued.QueuedPage.{QueuedPage}
 use Rattle.ideal_lane.specs.State.{LaneTag, LaneMap, LaneMemory, Stage, Idle, Waiting, Loaded, Returning}
-use Rattle.ideal_lane.specs.State.{WaitingLoad}
+use Rattle.ideal_lane.specs.State.{WaitingLoad, no_space}
 use Rattle.lane_core.specs.declared.kept.KeptTag.{KeptTag}
 use Rattle.lane_core.specs.declared.kept.KeptMap.{KeptMap}
 use Rattle.lane_core.specs.declared.kept.KeptMemory.{KeptMemory}
 use Rattle.lane_core.specs.declared.kept.KeptShare.{KeptShare}
 use Rattle.lane_core.specs.Loading.{bio_of}
 
--- a tag: its effective limits, and whether its first allocation is done; its device is behind no IOMMU
+-- a tag: its effective limits, whether its first allocation is done, and whether its device is behind an IOMMU
 abbrev pub tag_of : KeptTag → LaneTag
-tag_of t = record { limits = t.tag; first_done = t.first_done; device = false }
+tag_of t = record { limits = t.tag; first_done = t.first_done; device = is_some t.space }
+
+-- the address space of its device; one that is behind no IOMMU has none
+abbrev pub space_of : Option KeptTag → Space
+space_of None = no_space
+space_of (Some t) = unwrap_or t.space no_space
+
+-- those of tags, by the places that made them
+abbrev pub spaces_of : FinMap nat_cmp KeptTag → ℕ → Space
+spaces_of tags k = space_of (get tags k)
 
 -- a load that waits, which stands at a place of the script
 abbrev pub waits_of : ℕ → KeptLoad → WaitingLoad

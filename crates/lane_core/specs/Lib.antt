@@ -2,6 +2,7 @@ pub mod Awaiting
 pub mod Calls
 pub mod Changes
 pub mod Covered
+pub mod DevicePages
 pub mod Doing
 pub mod Held
 pub mod Ideal
@@ -15,6 +16,7 @@ pub mod OneAwaiting
 pub mod OneProof
 pub mod OpeningMemory
 pub mod PagesLent
+pub mod Raw
 pub mod Shares
 pub mod SmallLoads
 pub mod TagPlan

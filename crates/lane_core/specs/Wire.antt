@@ -10,6 +10,8 @@ use Rattle.ideal_wire.specs.Apart.{IsApart}
 use Rattle.ideal_wire.specs.Centre.{IsFaithful}
 use Rattle.ideal_wire.specs.Laid.{AreLaid}
 use Rattle.ideal_wire.specs.Machine.{IsInMachine}
+use Rattle.ideal_wire.specs.Mapped.{AreMapped}
+use Rattle.ideal_wire.specs.Spaced.{AreSpaced}
 use Rattle.lane_core.specs.declared.holdings.Holdings.{Holdings}
 use Rattle.lane_core.specs.declared.kept.KeptMap.{KeptMap}
 use Rattle.lane_core.specs.Ideal.{ideal_of}
@@ -23,10 +25,12 @@ held_pages maps = flat_map (λ e. (device_of (Some e.1)).pages) (entries maps)
 abbrev pub wire_of : Holdings → Wire
 wire_of h = with_bytes_of (held_pages h.maps.map) (wire h.memory.memory)
 
--- a driver lies in its machine; its loads are laid in its memory and in their pages, which lie apart; and its wire is
--- faithful
+-- a driver lies in its machine; its loads are laid in its memory and in their pages, which lie apart; the address spaces
+-- of its IOMMU tags are in order, and their loads stand in their runs; and its wire is faithful
 pub record IsWired (h : Holdings) : Type 0 where
   pub machine : IsInMachine (ideal_of h)
   pub laid : AreLaid (ideal_of h)
   pub apart : IsApart (ideal_of h)
+  pub spaced : AreSpaced (ideal_of h)
+  pub mapped : ∥ AreMapped (ideal_of h) ∥₁
   pub faithful : IsFaithful (ideal_of h) (wire_of h)

@@ -3,6 +3,7 @@
 ghost use Rattle.std.specs.Prelude.{◌≡◌, ◌+◌, ◌≤◌, ◌<◌, ◌^◌, true, [], length, map, map as mapped, IfOk, IfSome};
 ghost use Rattle.std.specs.Prelude.{IfNone, OnOk, OnErr};
 ghost use Rattle.std.specs.FinMap.{get};
+ghost use Rattle.std.specs.List.{AllByRecursion};
 ghost use Rattle.busdma_base.specs.declared.journals.answer.Answer.TheVariants as answer;
 ghost use Rattle.busdma_machine.specs.Runs.{addresses};
 ghost use Rattle.busdma_machine.specs.Machine.Wire.{put};
@@ -15,13 +16,17 @@ ghost use Rattle.loan_table.specs.Table.{AreIn, HasMap, IsSame, buffer_of, exten
 ghost use Rattle.ideal_lane.specs.Accesses as accesses;
 ghost use Rattle.ideal_lane.specs.Asking.{Asking, Gives};
 ghost use Rattle.ideal_lane.specs.Outcomes.{Outcome, gives, unless_past, unless_unloaded};
+ghost use Rattle.ideal_lane.specs.Standing.{Stands};
 ghost use Rattle.ideal_lane.specs.State.{LaneMap};
+ghost use Rattle.ideal_wire.specs.Centre.{IsFaithful};
 ghost use Rattle.ideal_wire.specs.WireStep as wires;
 ghost use Rattle.ideal_wire.specs.WireStep.{Reads, load_buses};
 ghost use Rattle.lane_core.specs.Covered.{has_load};
+ghost use Rattle.lane_core.specs.Changes.{with_written};
 ghost use Rattle.lane_core.specs.Held.{device_view};
 ghost use Rattle.lane_core.specs.Kept.{device_in};
 ghost use Rattle.lane_core.specs.PagesLent.{IsReached, IsRepaged};
+ghost use Rattle.lane_core.specs.Raw.{IsInFrame};
 
 use crate::holdings::{Holdings, report};
 use crate::kept::KeptLoad;
@@ -87,11 +92,36 @@ impl Holdings<'_> {
         if let Judged::Refused(refusal) = self.loans.may_cpu_write(parts.as_slice()) {
             return Ok(Answer::Report(refusal));
         }
+        self.write_own(alloc, parts.as_slice(), bytes)?;
+        Ok(Answer::Done)
+    }
+
+    /// Writes bytes into extents of the driver's own frames, which have as many. They are Known then.
+    pub(crate) fn write_own(
+        &mut self,
+        alloc: Global,
+        parts: &[Extent],
+        bytes: &[u8],
+    ) -> Result<(), AllocError>
+        requires wired { IsWired self.old }
+        requires lie { Lie self.old.memory.memory parts.now }
+        requires inside { AreIn self.old.loans.bytes (addresses parts.now) }
+        requires len { length (addresses parts.now) ≡ length bytes.now }
+        requires faithful { IsFaithful (with_written (addresses parts.now) bytes.now (ideal_of self.old))
+            (put (addresses parts.now) bytes.now (wire_of self.old)) }
+        ensures done { OnOk result (ideal_of self.new
+            ≡ with_written (addresses parts.now) bytes.now (ideal_of self.old)) }
+        ensures wire { OnOk result (wire_of self.new ≡ put (addresses parts.now) bytes.now (wire_of self.old)) }
+        ensures script { self.new.script ≡ self.old.script }
+        ensures memories { self.new.memories ≡ self.old.memories }
+        ensures agenda { self.new.agenda ≡ self.old.agenda }
+        ensures err { OnErr result (KeepsState self.old self.new) }
+    {
         let extents = u32::try_from(parts.len()).map_err(|_| AllocError)?;
         self.loans.reserve(alloc, extents)?;
-        write_parts(&mut self.memory, parts.as_slice(), bytes);
-        self.loans.note_write(parts.as_slice());
-        Ok(Answer::Done)
+        write_parts(&mut self.memory, parts, bytes);
+        self.loans.note_write(parts);
+        Ok(())
     }
 
     /// The refusal of a map that does not exist or is not loaded.
@@ -143,7 +173,8 @@ impl Holdings<'_> {
         off: u64,
         len: u64,
     ) -> Result<Answer, AllocError>
-        requires { IsWired self.old }
+        requires wired { IsWired self.old }
+        requires stands { Stands (ideal_of self.old) }
         ensures done { IfOk result (λ answer.
             Gives (given self.new answer) ≡ accesses.dev_read map off len (ideal_of self.old)) }
         ensures read { IfOk result (λ answer.
@@ -164,6 +195,10 @@ impl Holdings<'_> {
         if let Judged::Refused(refusal) = self.loans.may_dev_read(id, off, len) {
             return Ok(Answer::Report(refusal));
         }
+        if self.is_device(map) {
+            let parts = self.load_extents(alloc, map, off, len)?;
+            return Ok(Answer::Bytes(read_parts(&self.memory, alloc, parts.as_slice(), len)?));
+        }
         let Some(kept) = self.maps.get_mut(map) else {
             unreachable!()
         };
@@ -179,7 +214,8 @@ impl Holdings<'_> {
         off: u64,
         bytes: &[u8],
     ) -> Result<Answer, AllocError>
-        requires { IsWired self.old }
+        requires wired { IsWired self.old }
+        requires stands { Stands (ideal_of self.old) }
         ensures done { IfOk result (λ answer.
             Gives (given self.new answer) ≡ accesses.dev_write map off bytes.now (ideal_of self.old)) }
         ensures wire { IfOk result (λ answer.
@@ -200,6 +236,11 @@ impl Holdings<'_> {
         if let Judged::Refused(refusal) = self.loans.may_dev_write(id, off, len) {
             return Ok(Answer::Report(refusal));
         }
+        if self.is_device(map) {
+            let parts = self.load_extents(alloc, map, off, len)?;
+            self.write_own(alloc, parts.as_slice(), bytes)?;
+            return Ok(Answer::Done);
+        }
         reserve_extents(&mut self.loans, alloc, id, off, len)?;
         let Some(kept) = self.maps.get_mut(map) else {
             unreachable!()
@@ -207,6 +248,32 @@ impl Holdings<'_> {
         write_load(&mut kept.map, &mut self.memory, off, bytes);
         self.loans.note_dev_write(id, off, len);
         Ok(Answer::Done)
+    }
+
+    /// The bytes of a map's load, `len` of them from `off` on, where they lie themselves.
+    fn load_extents(
+        &self,
+        alloc: Global,
+        map: u32,
+        off: u64,
+        len: u64,
+    ) -> Result<Vec<Extent>, AllocError>
+        requires there { HasMap self.now.loans map }
+        requires range { off + len ≤ length (buffer_of self.now.loans map) }
+        requires below { off + len < 2 ^ 64 }
+        ensures bytes { IfOk result (λ parts. addresses parts.items ≡ load_bytes self.now.loans.loans map off len) }
+        ensures in_frames { IfOk result (λ parts. AllByRecursion IsInFrame parts.items) }
+    {
+        let id = self.map_id(map);
+        let end = off + len;
+        let mut parts = Vec::new(alloc);
+        let mut at = off;
+        while at < end {
+            let part = self.loans.extent(id, at, end);
+            parts.push(part)?;
+            at += part.len;
+        }
+        Ok(parts)
     }
 }
 
@@ -238,7 +305,7 @@ fn read_load(
 }
 
 /// The bytes of extents, `len` of them.
-fn read_parts(
+pub(crate) fn read_parts(
     memory: &LanePages,
     alloc: Global,
     parts: &[Extent],

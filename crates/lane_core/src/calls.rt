@@ -3,7 +3,9 @@
 //! same functions of what the lane holds.
 
 ghost use Rattle.std.specs.Prelude.{◌≡◌, ◌==◌, IfOk, OnErr, OnOk};
+ghost use Rattle.busdma_machine.specs.Runs.{run_of};
 ghost use Rattle.ideal_lane.specs.Accesses as accesses;
+ghost use Rattle.ideal_lane.specs.Accesses.{raw_bytes};
 ghost use Rattle.ideal_lane.specs.Asking.{Gives};
 ghost use Rattle.ideal_wire.specs.WireStep as wires;
 ghost use Rattle.ideal_wire.specs.WireStep.{Reads, load_buses, place_bytes};
@@ -126,5 +128,43 @@ impl Lane<'_> {
             return Ok(report(ReportName::Absent, 0));
         }
         self.holdings.dev_write(alloc, map.made_at, off, bytes)
+    }
+
+    /// The device of an IOMMU tag reads `len` bytes of the tag's address space, from `addr` on. The tag is named by the
+    /// place in the script that made it.
+    pub fn dev_read_at(
+        &mut self,
+        alloc: Global,
+        tag: u32,
+        addr: u64,
+        len: u64,
+    ) -> Result<Answer, AllocError>
+        ensures done { IfOk result (λ answer.
+            Gives (given self.new answer) ≡ accesses.dev_read_at tag addr len (ideal self.old)) }
+        ensures read { IfOk result (λ answer.
+            Reads answer (raw_bytes (ideal self.old) tag (run_of addr len)) (wire self.old)) }
+        ensures wire { wire self.new ≡ wire self.old }
+        ensures same { ideal self.new ≡ ideal self.old }
+    {
+        self.holdings.dev_read_at(alloc, tag, addr, len)
+    }
+
+    /// The device of an IOMMU tag writes bytes into the tag's address space, from `addr` on. The tag is named by the
+    /// place in the script that made it.
+    pub fn dev_write_at(
+        &mut self,
+        alloc: Global,
+        tag: u32,
+        addr: u64,
+        bytes: &[u8],
+    ) -> Result<Answer, AllocError>
+        ensures done { IfOk result (λ answer.
+            Gives (given self.new answer) ≡ accesses.dev_write_at tag addr bytes.now (ideal self.old)) }
+        ensures wire { OnOk result (wire self.new
+            ≡ wires.dev_write_at tag addr bytes.now (ideal self.old) (wire self.old)) }
+        ensures err { OnErr result (ideal self.new ≡ ideal self.old) }
+        ensures err_wire { OnErr result (wire self.new ≡ wire self.old) }
+    {
+        self.holdings.dev_write_at(alloc, tag, addr, bytes)
     }
 }

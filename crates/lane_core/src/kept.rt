@@ -7,12 +7,14 @@ use busdma_base::{ItemList, Pa, ZoneId};
 use dma_map::{Callback, DmaMap, LoadEnd};
 use dma_tag::Tag;
 use dmamem::Memory;
+use iommu_map::Iommu;
 
-/// A tag, and whether its first allocation is done.
+/// A tag, whether its first allocation is done, and the address space of its device where that is behind an IOMMU.
 #[derive(Drop)]
 pub(crate) struct KeptTag {
     pub(crate) tag: Tag,
     pub(crate) first_done: bool,
+    pub(crate) space: Option<Iommu>,
 }
 
 /// A load that waits, as its map keeps it: the bytes that it loads, the items that its callback appends, and how many

@@ -16,6 +16,7 @@ ghost use Rattle.ideal_lane.specs.Standing.{Stands};
 ghost use Rattle.ideal_lane.specs.State.{LaneMap, named};
 ghost use Rattle.ideal_wire.specs.Laid.{AreInPages, AreLaid};
 ghost use Rattle.ideal_wire.specs.Machine.{IsInMachine};
+ghost use Rattle.ideal_wire.specs.Spaced.{AreSpaced};
 ghost use Rattle.lane_core.specs.Doing.{IsAllowedBy, IsCalled, IsDone, IsUndone, asks};
 ghost use Rattle.lane_core.specs.Covered.{is_idle_map, pages_due};
 ghost use Rattle.lane_core.specs.Loading.{AreItsFirst, AreOfMap, HasRoomForAny, IsFilled, IsLoadable, IsOverfull, IsWanted};
@@ -24,7 +25,7 @@ ghost use Rattle.lane_core.specs.Loading.{bio_bytes, bio_chunks, bio_of, bio_rea
 use crate::buffers::{
     LoadBytes, build_parts, copy_segments, extents_of, measure_parts, write_addresses,
 };
-use crate::holdings::{Answered, Holdings, report};
+use crate::holdings::{Answered, Holdings, report, unheld};
 use busdma_base::{
     Answer, ChunkRoom, Errno, HubDoor, ItemList, Judged, Page, PageList, ReportName, RoomyList,
     SegmentRoom, ZoneId,
@@ -79,6 +80,7 @@ impl<'s> Holdings<'s> {
         requires stands { Stands (ideal_of self.old) }
         requires machine { IsInMachine (ideal_of self.old) }
         requires laid { AreLaid (ideal_of self.old) }
+        requires spaced { AreSpaced (ideal_of self.old) }
         requires loadable { IsLoadable self.old.pages.now (bio_of bytes) }
         requires few_items { length items.now ≤ self.old.agenda.room }
         requires few_pages { self.old.agenda.promised + bio_bytes (bio_of bytes) < 2 ^ 32 }
@@ -124,6 +126,10 @@ impl<'s> Holdings<'s> {
                 held: false,
             });
         };
+        if self.is_device(map) {
+            let loaded = self.load_device(alloc, map, bytes, items)?;
+            return Ok(unheld(loaded));
+        }
         if wanted.need == 0 {
             let answer = self.load_direct(alloc, map, bytes, wanted, items)?;
             return Ok(Answered {

@@ -4,15 +4,15 @@ ghost use Rattle.std.specs.Prelude.{◌≡◌, ◌<◌, ◌≤◌, true, Some, N
 ghost use Rattle.std.specs.FinMap.{get};
 ghost use Rattle.std.specs.Option.{option_map};
 ghost use Rattle.busdma_base.specs.declared.journals.answer.Answer.TheVariants.{Done};
-ghost use Rattle.busdma_machine.specs.Tags.Tag.{could_bounce};
 ghost use Rattle.ideal_lane.specs.Asking.{Gives};
 ghost use Rattle.ideal_lane.specs.Maps as maps;
-ghost use Rattle.ideal_lane.specs.Maps.{with_map, without_map};
+ghost use Rattle.ideal_lane.specs.Maps.{bounces, with_map, without_map};
 ghost use Rattle.ideal_lane.specs.Outcomes.{gives};
 ghost use Rattle.ideal_lane.specs.Tags.{with_tag};
 ghost use Rattle.lane_core.specs.declared.kept.KeptTag.{KeptTag};
 ghost use Rattle.lane_core.specs.Doing.{IsAllowedBy, IsDone, IsUndone, asks};
 ghost use Rattle.lane_core.specs.Covered.{is_idle_map};
+ghost use Rattle.lane_core.specs.Kept.{tag_of};
 
 use crate::holdings::{Answered, Holdings, report};
 use crate::kept::{KeptMap, KeptTag};
@@ -62,13 +62,12 @@ impl Holdings<'_> {
         }
     }
 
-    /// Whether a tag could bounce, if it exists.
+    /// Whether the loads of a tag's maps could bounce, if it exists. Those of an IOMMU tag never do.
     fn bounces(&self, tag: u32) -> Option<bool>
-        ensures { result
-            ≡ option_map (λ (t : KeptTag). could_bounce t.tag self.now.maxmem) (get self.now.tags.map tag) }
+        ensures { result ≡ option_map (λ t. bounces self.now.maxmem (tag_of t)) (get self.now.tags.map tag) }
     {
         let kept = self.tags.get(tag)?;
-        Some(kept.tag.could_bounce(self.maxmem))
+        Some(kept.space.is_none() && kept.tag.could_bounce(self.maxmem))
     }
 
     /// Makes a map without a call.
@@ -98,7 +97,7 @@ impl Holdings<'_> {
     ) -> Result<Answer, AllocError>
         requires going { self.old.agenda.place < self.old.agenda.length }
         requires vacant { get self.old.maps.map self.old.agenda.place ≡ None }
-        requires bounces { option_map (λ (t : KeptTag). could_bounce t.tag self.old.maxmem) (get self.old.tags.map tag)
+        requires bounces { option_map (λ t. bounces self.old.maxmem (tag_of t)) (get self.old.tags.map tag)
             ≡ Some true }
         requires allowed { IsAllowedBy (D.seen door.old) self.old.id.0 (maps.map tag (ideal_of self.old)) }
         ensures done { IfOk result (λ answer.
@@ -127,7 +126,7 @@ impl Holdings<'_> {
         requires room { 1 ≤ self.old.maps.spare }
         requires going { self.old.agenda.place < self.old.agenda.length }
         requires vacant { get self.old.maps.map self.old.agenda.place ≡ None }
-        ensures done { (t : KeptTag) → get self.old.tags.map tag ≡ Some t →
+        ensures done { (t : KeptTag) → get self.old.tags.map tag ≡ Some t → t.space ≡ None →
             ideal_of self.new ≡ (if grown.made
             then with_tag tag t.tag true (with_map tag (Some grown.zone.0) (ideal_of self.old))
             else ideal_of self.old) }
@@ -161,7 +160,7 @@ impl Holdings<'_> {
 
     /// Notes that the first allocation of a tag is done.
     fn note_first(&mut self, tag: u32)
-        ensures done { (t : _) → get self.old.tags.map tag ≡ Some t →
+        ensures done { (t : _) → get self.old.tags.map tag ≡ Some t → t.space ≡ None →
             ideal_of self.new ≡ with_tag tag t.tag true (ideal_of self.old) }
         ensures agenda { self.new.agenda ≡ self.old.agenda }
         ensures bytes { KeepsBytes self.old self.new }
@@ -172,12 +171,14 @@ impl Holdings<'_> {
             let KeptTag {
                 tag: limits,
                 first_done: _,
+                space,
             } = kept;
             self.tags.put(
                 tag,
                 KeptTag {
                     tag: limits,
                     first_done: true,
+                    space,
                 },
             );
         }

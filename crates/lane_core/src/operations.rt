@@ -54,6 +54,7 @@ impl<'s> Holdings<'s> {
     {
         match op {
             Op::Tag { parent, limits, .. } => self.make_tag(alloc, door, *parent, limits),
+            Op::IommuTag { limits, .. } => Ok(unheld(self.make_iommu_tag(alloc, *limits)?)),
             Op::TagDestroy { tag } => Ok(unheld(self.destroy_tag(*tag))),
             Op::Map { tag, .. } => self.make_map(alloc, door, *tag),
             Op::MapDestroy { map } => Ok(self.destroy_map(door, *map)),

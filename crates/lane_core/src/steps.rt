@@ -5,6 +5,7 @@ ghost use Rattle.busdma_base.specs.declared.scenarios.script.Op.TheVariants.{Awa
 ghost use Rattle.busdma_base.specs.Scenarios.Operations.{bytes_of};
 ghost use Rattle.ideal_lane.specs.Accesses as accesses;
 ghost use Rattle.ideal_lane.specs.Asking.{Gives};
+ghost use Rattle.ideal_lane.specs.Standing.{Stands};
 ghost use Rattle.ideal_lane.specs.Turns as turns;
 ghost use Rattle.ideal_wire.specs.WireStep as wires;
 ghost use Rattle.lane_core.specs.Wire.{IsWired, wire_of};
@@ -22,7 +23,8 @@ impl Holdings<'_> {
 
     /// Does an item, but for its leaving the queue.
     pub(crate) fn transfer(&mut self, alloc: Global, item: &Item) -> Result<Answer, AllocError>
-        requires { IsWired self.old }
+        requires wired { IsWired self.old }
+        requires stands { Stands (ideal_of self.old) }
         ensures done { IfOk result (λ answer.
             Gives (given self.new answer) ≡ turns.transfer item.now (ideal_of self.old)) }
         ensures wire { OnOk result (wire_of self.new
@@ -39,6 +41,8 @@ impl Holdings<'_> {
             }
             Item::DevRead { map, off, len } => self.dev_read(alloc, *map, *off, *len),
             Item::DevWrite { map, off, bytes } => self.write_item(alloc, *map, *off, bytes),
+            Item::DevReadAt { tag, addr, len } => self.dev_read_at(alloc, *tag, *addr, *len),
+            Item::DevWriteAt { tag, addr, bytes } => self.write_item_at(alloc, *tag, *addr, bytes),
         }
     }
 
@@ -50,7 +54,8 @@ impl Holdings<'_> {
         off: u64,
         bytes: &Bytes,
     ) -> Result<Answer, AllocError>
-        requires { IsWired self.old }
+        requires wired { IsWired self.old }
+        requires stands { Stands (ideal_of self.old) }
         ensures done { IfOk result (λ answer.
             Gives (given self.new answer) ≡ accesses.dev_write map off (bytes_of bytes.now) (ideal_of self.old)) }
         ensures wire { IfOk result (λ answer.
@@ -69,6 +74,34 @@ impl Holdings<'_> {
         }
     }
 
+    /// The device of an IOMMU tag writes the bytes of an item. Listed bytes are not copied before.
+    fn write_item_at(
+        &mut self,
+        alloc: Global,
+        tag: u32,
+        addr: u64,
+        bytes: &Bytes,
+    ) -> Result<Answer, AllocError>
+        requires wired { IsWired self.old }
+        requires stands { Stands (ideal_of self.old) }
+        ensures done { IfOk result (λ answer.
+            Gives (given self.new answer) ≡ accesses.dev_write_at tag addr (bytes_of bytes.now) (ideal_of self.old)) }
+        ensures wire { IfOk result (λ answer.
+            wire_of self.new ≡ wires.dev_write_at tag addr (bytes_of bytes.now) (ideal_of self.old) (wire_of self.old)) }
+        ensures script { self.new.script ≡ self.old.script }
+        ensures memories { self.new.memories ≡ self.old.memories }
+        ensures agenda { self.new.agenda ≡ self.old.agenda }
+        ensures err { OnErr result (KeepsState self.old self.new) }
+    {
+        match bytes {
+            Bytes::Listed(listed) => self.dev_write_at(alloc, tag, addr, listed.as_slice()),
+            Bytes::Filled { .. } => {
+                let filled = bytes.to_vec(alloc)?;
+                self.dev_write_at(alloc, tag, addr, &filled)
+            }
+        }
+    }
+
     /// Whether an operation cannot step.
     pub(crate) fn waits(&self, op: &Op) -> bool
         ensures { result ≡ turns.waits op.now (ideal_of self.now) }
@@ -76,6 +109,7 @@ impl Holdings<'_> {
         match op {
             Op::Await { map } => self.is_awaited(*map),
             Op::Tag { .. }
+            | Op::IommuTag { .. }
             | Op::TagDestroy { .. }
             | Op::Map { .. }
             | Op::MapDestroy { .. }

@@ -1,6 +1,6 @@
 //! Operations on tags.
 
-ghost use Rattle.std.specs.Prelude.{◌≡◌, ◌<◌, ◌≤◌, true, false, None, IfOk, OnErr, if◌then◌else◌};
+ghost use Rattle.std.specs.Prelude.{◌≡◌, ◌<◌, ◌≤◌, true, false, Some, None, IfOk, OnErr, if◌then◌else◌};
 ghost use Rattle.std.specs.FinMap.{get};
 ghost use Rattle.std.specs.Option.{option_copied};
 ghost use Rattle.busdma_machine.specs.declared.bounce.hold.HubCall.TheVariants.{AttachTag};
@@ -19,7 +19,9 @@ use crate::holdings::{Answered, Holdings, report};
 use crate::kept::KeptTag;
 use bitflags::Flags;
 use busdma_base::{Answer, Errno, HubDoor, ReportName, TagLimits};
+use busdma_machine::SpaceLimits;
 use dma_tag::{Tag, TagFlags};
+use iommu_map::Iommu;
 use std::alloc::{AllocError, Global};
 
 /// How a tag is made.
@@ -174,7 +176,51 @@ impl Holdings<'_> {
         ensures rest { KeepsButTags self.old self.new }
     {
         let place = self.agenda.place();
-        self.tags.put(place, KeptTag { tag, first_done });
+        let kept = KeptTag {
+            tag,
+            first_done,
+            space: None,
+        };
+        self.tags.put(place, kept);
+    }
+
+    /// Makes the IOMMU tag of this place.
+    pub(crate) fn make_iommu_tag(
+        &mut self,
+        alloc: Global,
+        limits: SpaceLimits,
+    ) -> Result<Answer, AllocError>
+        requires going { self.old.agenda.place < self.old.agenda.length }
+        requires vacant { get self.old.tags.map self.old.agenda.place ≡ None }
+        ensures done { IfOk result (λ answer. Gives (given self.new answer)
+            ≡ tags.iommu_tag limits (ideal_of self.old)) }
+        ensures err { OnErr result (KeepsState self.old self.new) }
+        ensures rest { KeepsButTags self.old self.new }
+    {
+        let Ok(tag) = Tag::create(None, &limits.to_limits()) else {
+            return Ok(Answer::Refused(Errno::EINVAL));
+        };
+        self.tags.reserve(alloc)?;
+        self.put_iommu_tag(alloc, tag);
+        Ok(Answer::Done)
+    }
+
+    /// Puts the IOMMU tag of this place, of which the address space has no live run.
+    fn put_iommu_tag(&mut self, alloc: Global, tag: Tag)
+        requires room { 1 ≤ self.old.tags.spare }
+        requires going { self.old.agenda.place < self.old.agenda.length }
+        requires vacant { get self.old.tags.map self.old.agenda.place ≡ None }
+        ensures done { Gives (given self.new Done) ≡ tags.device_tag (Some tag) (ideal_of self.old) }
+        ensures rest { KeepsButTags self.old self.new }
+    {
+        let place = self.agenda.place();
+        let space = Iommu::new(alloc, tag.limits().lowaddr);
+        let kept = KeptTag {
+            tag,
+            first_done: false,
+            space: Some(space),
+        };
+        self.tags.put(place, kept);
     }
 
     /// Ends a tag that has no map.

@@ -5,6 +5,7 @@ ghost use Rattle.busdma_base.specs.declared.journals.journal.Side.{Side};
 ghost use Rattle.busdma_base.specs.declared.journals.journal.Side.TheVariants as side;
 ghost use Rattle.busdma_machine.specs.Bounce.Door.{Seen};
 ghost use Rattle.ideal_lane.specs.Asking.{Gives};
+ghost use Rattle.ideal_lane.specs.Standing.{Stands};
 ghost use Rattle.ideal_lane.specs.Turns.{lane_step};
 ghost use Rattle.ideal_wire.specs.WireStep as wires;
 ghost use Rattle.lane_core.specs.declared.holdings.Holdings.{Holdings};
@@ -121,7 +122,8 @@ impl Holdings<'_> {
 
     /// The first item of the transfer queue, if there is one.
     pub(crate) fn transfer_turn(&mut self, alloc: Global) -> Result<Turn, AllocError>
-        requires { IsWired self.old }
+        requires wired { IsWired self.old }
+        requires stands { Stands (ideal_of self.old) }
         ensures done { IfOk result (λ turn.
             Gives (turned self.new turn) ≡ lane_step (ideal_of self.old) side.Transfer) }
         ensures unheld { IfOk result (λ turn. is_held turn ≡ false) }

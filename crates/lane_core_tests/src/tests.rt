@@ -9,4 +9,5 @@ mod memories;
 mod opened;
 mod played;
 mod refusals;
+mod spaces;
 mod wanted;

@@ -9,12 +9,14 @@ use Rattle.busdma_machine.specs.contracts.machine.page.Page as Page
 use Rattle.busdma_base.specs.contracts.scenarios.script.Op as Op
 use Rattle.dma_map.specs.contracts.map.DmaMap as Map
 use Rattle.dma_map.specs.declared.callback.Callback as Callback
+use Rattle.iommu_map.specs.contracts.iommu.Iommu as Iommu
 use Rattle.lane_tables.specs.contracts.agenda.Agenda as Agenda
 use Rattle.lane_tables.specs.contracts.place_table.PlaceTable as Table
 use Rattle.loan_table.specs.contracts.table.LoanTable as Loans
 use Rattle.phys_memory.specs.contracts.pages.LanePages as Pages
 use Rattle.lane_core.specs.contracts.buffers.LoadBytes as Bytes
 use Rattle.lane_core.specs.contracts.kept.KeptLoad as Load
+use Rattle.lane_core.specs.contracts.kept.KeptTag as Tag
 use Rattle.lane_core.specs.contracts.lane.Lane as Lane
 use Rattle.lane_merge.specs.contracts.merging.LoggedStep as Step
 use Rattle.lane_rounds.specs.contracts.worker.Worker as Worker
@@ -30,6 +32,12 @@ page_send = search (sendable, crosses) depth 60 fits 20000
 
 pages_send : IsSend Pages.the_row
 pages_send = search (page_send, HashMap-send, sendable, crosses) depth 60 fits 20000
+
+space_send : IsSend Iommu.the_row
+space_send = search (sendable, crosses) depth 60 fits 20000
+
+tag_send : IsSend Tag.the_row
+tag_send = search (space_send, sendable, crosses) depth 60 fits 20000
 
 table_send : (T : RattleType) → IsSend T → IsSend (Table.the_row T)
 table_send T s = search (sendable, crosses) depth 60 fits 20000
@@ -51,7 +59,7 @@ load_send s = search (bytes_send, sendable, crosses) depth 60 fits 40000
 
 lane_send : (s : NamedLft) → IsSend (Lane.the_row s)
 lane_send s =
-    search (op_sync, pages_send, table_send, agenda_send, loans_send, map_send, load_send, sendable, crosses)
+    search (op_sync, pages_send, tag_send, table_send, agenda_send, loans_send, map_send, load_send, sendable, crosses)
     depth 60 fits 40000
 
 pub worker_send : (s : NamedLft) (T F : RattleType) → IsSend T → IsSend (Worker.the_row s T F)

@@ -11,7 +11,8 @@ use Rattle.busdma_base.specs.declared.journals.journal.Side.{Side}
 use Rattle.busdma_base.specs.declared.journals.journal.Side.TheVariants as side
 use Rattle.busdma_machine.specs.declared.report.Judged.{Judged}
 use Rattle.busdma_machine.specs.declared.report.Judged.TheVariants.{Fine, Refused}
-use Rattle.busdma_machine.specs.declared.report.ReportName.TheVariants.{MapBusy, NotLoaded, PastEnd}
+use Rattle.busdma_machine.specs.declared.report.ReportName.TheVariants.{DeviceReadUnlent, DeviceWriteUnlent, MapBusy}
+use Rattle.busdma_machine.specs.declared.report.ReportName.TheVariants.{NotLoaded, PastEnd}
 use Rattle.busdma_base.specs.declared.scenarios.buffer.Buffer.{Buffer}
 use Rattle.busdma_base.specs.declared.scenarios.script.Item.{Item}
 use Rattle.busdma_base.specs.declared.scenarios.script.Item.TheVariants as item
@@ -22,19 +23,22 @@ use Rattle.busdma_machine.specs.declared.tags.tag.TagLimits.{TagLimits}
 use Rattle.busdma_machine.specs.Bounce.Account.{Account}
 use Rattle.busdma_machine.specs.Bounce.AccountStep.{called_from}
 use Rattle.busdma_machine.specs.Bounce.History.{is_kept}
+use Rattle.busdma_machine.specs.Judging as judging
 use Rattle.busdma_machine.specs.Runs.{run_of}
 use Rattle.busdma_base.specs.Scenarios.Operations.{bytes_of}
-use Rattle.busdma_machine.specs.Tags.Tag.{effective, could_bounce}
+use Rattle.busdma_machine.specs.Tags.Tag.{effective, could_bounce, space_limits}
 use Rattle.busdma_machine.specs.Tags.TagFlags.{allocnow}
 use Rattle.dma_tag.specs.SyncOps.{is_mixed}
 use Rattle.lane_agreement.specs.View.{Return}
 use Rattle.lane_tables.specs.declared.queued.QueuedItem.{QueuedItem}
-use Rattle.loan_table.specs.Access.{cpu_read_answer, cpu_write_answer, dev_read_answer, dev_write_answer}
+use Rattle.loan_table.specs.Access.{cpu_read_answer, cpu_write_answer, dev_read_answer, dev_read_refusal}
+use Rattle.loan_table.specs.Access.{dev_write_answer, dev_write_refusal}
 use Rattle.loan_table.specs.Lending.{lost, sync_answer, synced}
 use Rattle.loan_table.specs.Loans.{load_bytes, loan_of}
 use Rattle.segment_build.specs.Chunks.{need_of}
 use Rattle.ideal_lane.specs.State.{LaneState, LaneMap, LaneTag}
-use Rattle.ideal_lane.specs.Accesses.{cpu_read, cpu_write, dev_read, dev_write, values}
+use Rattle.ideal_lane.specs.Accesses.{cpu_read, cpu_write, dev_read, dev_read_at, dev_write, dev_write_at, values}
+use Rattle.ideal_lane.specs.Accesses.{raw_bytes, raw_refusal}
 use Rattle.ideal_lane.specs.Asking.{Asking, Gives, Asks, goes_on}
 use Rattle.ideal_lane.specs.IdealMemory.{forgotten, is_known, written}
 use Rattle.ideal_lane.specs.Loads.{Asked, asked, is_device, limits_of, chunks_for, load}
@@ -45,7 +49,7 @@ use Rattle.ideal_lane.specs.Outcomes.{unless_unloaded}
 use Rattle.ideal_lane.specs.Outcomes.{unless_past, is_idle, is_loaded, load_length}
 use Rattle.ideal_lane.specs.Places.{bytes_at, reached, virtual_at}
 use Rattle.ideal_lane.specs.Syncs.{copies, counted, sync_part, sync, sync_range}
-use Rattle.ideal_lane.specs.Tags.{tag_or_invalid, tag, tag_destroy, has_maps}
+use Rattle.ideal_lane.specs.Tags.{device_tag, tag_or_invalid, tag, tag_destroy, has_maps}
 use Rattle.ideal_lane.specs.Turns.{Turn, Turned, Stepped, Blocked, Ended, stays, bio_at, load_buffer, never_waits}
 use Rattle.ideal_lane.specs.Turns.{operation, transfer}
 use Rattle.ideal_lane.specs.Turns.{waits, advanced, left_queue, next_operation, script_turn, transfer_turn}
@@ -124,6 +128,10 @@ module _ (l : LaneState) where
   tag-free : (parent : Option ℕ) (limits : TagLimits) → IsFree (tag parent limits l)
   tag-free None limits = tag_or-free (effective None limits)
   tag-free (Some p) limits = absent (get l.tags p) _ (λ (x : LaneTag). tag_or-free (effective (Some x.limits) limits))
+
+  device_tag-free : (t : Option TagLimits) → IsFree (device_tag t l)
+  device_tag-free None = (record { is = refl })
+  device_tag-free (Some t) = (record { is = refl })
 
   tag_destroy-free : (t : ℕ) → IsFree (tag_destroy t l)
   tag_destroy-free t = absent (get l.tags t) _ (λ x. either (has_maps l t) _ _ (record { is = refl })
@@ -209,8 +217,23 @@ module _ (l : LaneState) where
       (gives (record l { memory = written (load_bytes l.loans m off (length vs)) vs l.memory }) answer.Done)
       (record { is = refl })))
 
+  dev_read_at-free : (t addr len : ℕ) → IsFree (dev_read_at t addr len l)
+  dev_read_at-free t addr len =
+      absent (get l.tags t) _ (λ (o : LaneTag).
+      judged (judging.judged
+      (raw_refusal DeviceReadUnlent (dev_read_refusal (is_known l.memory) false) l t) 0 (run_of addr len))
+      (gives l (answer.Bytes (values l (raw_bytes l t (run_of addr len))))) (record { is = refl }))
+
+  dev_write_at-free : (t addr : ℕ) (vs : List ℕ) → IsFree (dev_write_at t addr vs l)
+  dev_write_at-free t addr vs =
+      absent (get l.tags t) _ (λ (o : LaneTag).
+      judged (judging.judged (raw_refusal DeviceWriteUnlent (dev_write_refusal false) l t) 0 (run_of addr (length vs)))
+      (gives (record l { memory = written (raw_bytes l t (run_of addr (length vs))) vs l.memory }) answer.Done)
+      (record { is = refl }))
+
   operation-free : (o : Op) → IsFree (operation o l)
   operation-free (op.Tag name parent limits) = tag-free parent limits
+  operation-free (op.IommuTag name limits) = device_tag-free (effective None (space_limits limits))
   operation-free (op.TagDestroy t) = tag_destroy-free t
   operation-free (op.Map name t) = map-free t
   operation-free (op.MapDestroy m) = map_destroy-free m
@@ -229,6 +252,8 @@ module _ (l : LaneState) where
   transfer-free (item.SyncRange m off len ops) = sync_range-free m off len ops
   transfer-free (item.DevRead m off len) = dev_read-free m off len
   transfer-free (item.DevWrite m off bytes) = dev_write-free m off (bytes_of bytes)
+  transfer-free (item.DevReadAt t addr len) = dev_read_at-free t addr len
+  transfer-free (item.DevWriteAt t addr bytes) = dev_write_at-free t addr (bytes_of bytes)
 
   -- ---- turns
 

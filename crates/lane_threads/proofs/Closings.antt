@@ -152,7 +152,7 @@ closed first all passes hub j c =
       opening = c.fixed_part;
       legal =
           subst (λ (x : Account × List HoldEntry). IsLegalHistory x.0 x.1) (λ i. (sym c.fixed_part i, sym c.whole i))
-              lawful;
+          lawful;
       added = entries c.turns;
       begins = c.whole;
       drivers = drivers c.start c.turns c.sound.pairs;

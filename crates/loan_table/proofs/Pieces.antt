@@ -254,20 +254,13 @@ filter_ahead test ps front rest e =
 -- bytes from a position on that follow one another may be taken shorter, as an extent
 pub begins_with : (at end n pa : ℕ) (ps : List Position) (e : Extent) → addresses_of (stretch at (end - at) ps)
     ≡ run_of pa n ++ addresses_of (stretch (at + n) (end - (at + n)) ps) → at + n ≤ end → e.len ≤ n → e.pa.0 ≡ pa →
-    addresses_of (stretch at (end - at) ps)
-    ≡ run_of e.pa.0 e.len ++ addresses_of (stretch (at + e.len) (end - (at + e.len)) ps)
+    addresses_of (stretch at e.len ps) ≡ run_of e.pa.0 e.len
 begins_with at end n pa ps e is within short same =
-    ap addresses_of (two_parts at e.len end ps (omega arith))
-    ∙ addresses_of-append (stretch at e.len ps) (stretch (at + e.len) (end - (at + e.len)) ps)
-    ∙ ap (λ xs. xs ++ addresses_of (stretch (at + e.len) (end - (at + e.len)) ps)) front
-  where
-    front : addresses_of (stretch at e.len ps) ≡ run_of e.pa.0 e.len
-    front =
-        let long = length-run_of pa n in
-        ap addresses_of (sym (take-take e.len (end - at) (drop at ps) (omega arith)))
-        ∙ sym (take-map (λ p. p.pa) e.len (stretch at (end - at) ps)) ∙ ap (take e.len) is
-        ∙ take-append-le e.len (run_of pa n) _ (omega (arith, long)) ∙ take_run pa n e.len short
-        ∙ ap (λ a. run_of a e.len) (sym same)
+    let long = length-run_of pa n in
+    ap addresses_of (sym (take-take e.len (end - at) (drop at ps) (omega arith)))
+    ∙ sym (take-map (λ p. p.pa) e.len (stretch at (end - at) ps)) ∙ ap (take e.len) is
+    ∙ take-append-le e.len (run_of pa n) _ (omega (arith, long)) ∙ take_run pa n e.len short
+    ∙ ap (λ a. run_of a e.len) (sym same)
 
 byte_there : (ps : List Position) (at : ℕ) (d : Position) → at < length ps →
     slice_index (addresses_of ps) at ≡ (get_or ps at d).pa

@@ -180,33 +180,40 @@ fn dev_read_refusal(bytes: &ByteMarks, coherent: bool, position: Position) -> Op
     }
 }
 
-/// The judgement of the device's access of a range of a map's buffer.
-pub fn judge_range(bytes: &ByteMarks, row: &LoanRow, access: Access, off: u64, len: u64) -> Judged
+/// The judgement of the device's access of a range of a map's buffer, which need not be lent where it is coherent.
+pub fn judge_range(
+    bytes: &ByteMarks,
+    row: &LoanRow,
+    coherent: bool,
+    access: Access,
+    off: u64,
+    len: u64,
+) -> Judged
     requires range { off + len ≤ length row.now.positions }
-    ensures { let refusal = dev_refusal access (is_marked bytes.now.bytes) row.now.coherent in
+    ensures { let refusal = dev_refusal access (is_marked bytes.now.bytes) coherent in
         result ≡ judged refusal 0 (stretch off len row.now.positions) }
 {
     match access {
-        Access::Read => judge_read(bytes, row, off, len),
-        Access::Write => judge_write(row, off, len),
+        Access::Read => judge_read(bytes, row, coherent, off, len),
+        Access::Write => judge_write(row, coherent, off, len),
     }
 }
 
 /// The judgement of the device's write of a range of a map's buffer.
-fn judge_write(row: &LoanRow, off: u64, len: u64) -> Judged
+fn judge_write(row: &LoanRow, coherent: bool, off: u64, len: u64) -> Judged
     requires range { off + len ≤ length row.now.positions }
-    ensures { result ≡ judged (dev_write_refusal row.now.coherent) 0 (stretch off len row.now.positions) }
+    ensures { result ≡ judged (dev_write_refusal coherent) 0 (stretch off len row.now.positions) }
 {
-    if row.is_coherent() {
+    if coherent {
         return Judged::Fine;
     }
     row.judge_to_write(off, len, ReportName::DeviceWriteUnlent, 0)
 }
 
 /// The judgement of the device's read of a range of a map's buffer.
-fn judge_read(bytes: &ByteMarks, row: &LoanRow, off: u64, len: u64) -> Judged
+fn judge_read(bytes: &ByteMarks, row: &LoanRow, coherent: bool, off: u64, len: u64) -> Judged
     requires range { off + len ≤ length row.now.positions }
-    ensures { let refusal = dev_read_refusal (is_marked bytes.now.bytes) row.now.coherent in
+    ensures { let refusal = dev_read_refusal (is_marked bytes.now.bytes) coherent in
         result ≡ judged refusal 0 (stretch off len row.now.positions) }
 {
     let end = row.end_of(off, len);
@@ -214,7 +221,7 @@ fn judge_read(bytes: &ByteMarks, row: &LoanRow, off: u64, len: u64) -> Judged
     let mut at = off;
     while at < end {
         let piece = row.piece(at, end, &mut near);
-        if let Some(name) = dev_read_refusal(bytes, row.is_coherent(), piece.first) {
+        if let Some(name) = dev_read_refusal(bytes, coherent, piece.first) {
             return Judged::Refused(Report { name, at: at - off });
         }
         let start = piece.first.pa;

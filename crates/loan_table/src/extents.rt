@@ -1,6 +1,6 @@
 //! How many extents hold a range of a map's buffer.
 
-ghost use Rattle.std.specs.Prelude.{◌≡◌, ◌+◌, ◌<◌, ◌≤◌, ◌^◌, length};
+ghost use Rattle.std.specs.Prelude.{◌≡◌, ◌+◌, ◌%◌, ◌<◌, ◌≤◌, ◌^◌, length};
 ghost use Rattle.busdma_machine.specs.Machine.Wire.{stretch};
 ghost use Rattle.busdma_machine.specs.Runs.{run_of};
 ghost use Rattle.loan_table.specs.Table.{extent_count, is_next, more_extents};
@@ -51,5 +51,19 @@ fn more_extents(before: u64, bytes: &Extent) -> u64
         frames
     } else {
         1 + frames
+    }
+}
+
+/// The first bytes of an extent, up to the end of their frame.
+pub fn in_one_frame(run: Extent) -> Extent
+    requires some { 0 < run.len }
+    ensures some { 0 < result.len }
+    ensures pa { result.pa ≡ run.pa }
+    ensures short { result.len ≤ run.len }
+    ensures in_frame { result.pa.0 % 4096 + result.len ≤ 4096 }
+{
+    Extent {
+        pa: run.pa,
+        len: run.len.min(4096 - run.pa.0 % 4096),
     }
 }

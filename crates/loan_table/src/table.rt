@@ -1,11 +1,14 @@
 //! Known marks and loans of one driver.
 
-ghost use Rattle.std.specs.Prelude.{◌≡◌, ◌+◌, ◌≤◌, ◌<◌, ◌^◌, OnOk, OnErr, IsNone, IsSome, length, slice_index};
+ghost use Rattle.std.specs.Prelude.{◌≡◌, ℕ, ◌+◌, ◌≤◌, ◌<◌, ◌^◌, OnOk, OnErr, IsNone, IsSome, length, slice_index};
 ghost use Rattle.std.specs.Prelude.{false, true, Some, None, if◌then◌else◌};
 ghost use Rattle.std.specs.FinMap as finmap;
-ghost use Rattle.busdma_machine.specs.Runs.{run_of, addresses, byte_count};
+ghost use Rattle.busdma_machine.specs.Judging.{judged};
+ghost use Rattle.busdma_machine.specs.Machine.Wire.{stretch};
+ghost use Rattle.busdma_machine.specs.Runs.{IsExtent, run_of, addresses, byte_count};
 ghost use Rattle.dma_tag.specs.SyncOps.{has_pre, has_post};
-ghost use Rattle.loan_table.specs.Access.{cpu_read_answer, cpu_write_answer, dev_read_answer, dev_write_answer};
+ghost use Rattle.loan_table.specs.Access.{cpu_read_answer, cpu_write_answer, dev_read_answer, dev_read_refusal};
+ghost use Rattle.loan_table.specs.Access.{dev_write_answer, dev_write_refusal};
 ghost use Rattle.loan_table.specs.Lending.{sync_answer, lost, lost_by_forgetting};
 ghost use Rattle.loan_table.specs.Loans.{loan_of, load_bytes, addresses_of, new_loan};
 ghost use Rattle.loan_table.specs.Table.{HasMap, buffer_of, is_known, AreFree, AreIn, AreNew, set_all};
@@ -13,6 +16,7 @@ ghost use Rattle.loan_table.specs.Table.{without, IsPrepared, IsSame, IsSynced, 
 ghost use Rattle.loan_table.specs.Trees.{with_value};
 
 use crate::access::{self, Access};
+use crate::extents::in_one_frame;
 use crate::held::HeldRow;
 use crate::lent::LentCounts;
 use crate::loans::{open, positions_of, row_of};
@@ -347,7 +351,7 @@ impl LoanTable {
             ≡ dev_read_answer (is_known self.now) (loan_of self.now.loans map.made_at) off len }
     {
         let row = row_of(&self.loans, map.made_at);
-        access::judge_range(&self.bytes, row, Access::Read, off, len)
+        access::judge_range(&self.bytes, row, row.is_coherent(), Access::Read, off, len)
     }
 
     /// Whether the device may write `len` bytes from `off` on in a map's buffer. A refusal names
@@ -358,7 +362,28 @@ impl LoanTable {
         ensures { result ≡ dev_write_answer (loan_of self.now.loans map.made_at) off len }
     {
         let row = row_of(&self.loans, map.made_at);
-        access::judge_range(&self.bytes, row, Access::Write, off, len)
+        access::judge_range(&self.bytes, row, row.is_coherent(), Access::Write, off, len)
+    }
+
+    /// The same of a device that must be lent the bytes, even those of a coherent map.
+    pub fn may_dev_read_lent(&self, map: MapId, off: u64, len: u64) -> Judged
+        requires there { HasMap self.now map.made_at }
+        requires range { off + len ≤ length (buffer_of self.now map.made_at) }
+        ensures { result ≡ judged (dev_read_refusal (is_known self.now) false) 0
+            (stretch off len (buffer_of self.now map.made_at)) }
+    {
+        let row = row_of(&self.loans, map.made_at);
+        access::judge_range(&self.bytes, row, false, Access::Read, off, len)
+    }
+
+    /// The same of a device's write.
+    pub fn may_dev_write_lent(&self, map: MapId, off: u64, len: u64) -> Judged
+        requires there { HasMap self.now map.made_at }
+        requires range { off + len ≤ length (buffer_of self.now map.made_at) }
+        ensures { result ≡ judged (dev_write_refusal false) 0 (stretch off len (buffer_of self.now map.made_at)) }
+    {
+        let row = row_of(&self.loans, map.made_at);
+        access::judge_range(&self.bytes, row, false, Access::Write, off, len)
     }
 
     /// Marks bytes Known that the driver has written, within the room for so many extents.
@@ -408,6 +433,13 @@ impl LoanTable {
         row_of(&self.loans, map.made_at).len()
     }
 
+    /// No map's buffer has 2^64 bytes.
+    pub fn buffers_are_short(&self)
+        ensures { (m : ℕ) → length (buffer_of self.now m) < 2 ^ 64 }
+    {
+        let _positions = self.positions;
+    }
+
     /// Whether a byte is Known.
     pub fn is_known(&self, pa: Pa) -> bool
         ensures { result ≡ is_known self.now pa.0 }
@@ -423,6 +455,19 @@ impl LoanTable {
         ensures there { IsSome (finmap.get self.now.bytes result.0) }
     {
         Pa(row_of(&self.loans, map.made_at).byte_at(at))
+    }
+
+    /// An extent of a map's buffer: the bytes from a place on that follow one another in one frame, up to `end`.
+    pub fn extent(&self, map: MapId, at: u64, end: u64) -> Extent
+        requires there { HasMap self.now map.made_at }
+        requires some { at < end }
+        requires range { end ≤ length (buffer_of self.now map.made_at) }
+        ensures extent { IsExtent result }
+        ensures within { at + result.len ≤ end }
+        ensures bytes { load_bytes self.now.loans map.made_at at result.len ≡ run_of result.pa.0 result.len }
+    {
+        let run = row_of(&self.loans, map.made_at).stretch(at, end, &mut 0);
+        in_one_frame(run)
     }
 
     /// How many extents hold `len` bytes from `off` on in a map's buffer, in order, each in one frame:

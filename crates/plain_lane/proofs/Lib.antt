@@ -2,3 +2,4 @@ mod Calls
 mod Changes
 mod Cutting
 mod Rows
+mod Spacing

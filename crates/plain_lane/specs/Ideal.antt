@@ -2,8 +2,9 @@
 use Rattle.busdma_base.specs.declared.journals.answer.Answer.{Answer}
 use Rattle.ideal_lane.specs.Opening.{zeros}
 use Rattle.ideal_lane.specs.Outcomes.{Outcome}
-use Rattle.ideal_lane.specs.State.{LaneState, no_space}
+use Rattle.ideal_lane.specs.State.{LaneState}
 use Rattle.plain_lane.specs.declared.lane.PlainLane.{PlainLane}
+use Rattle.plain_lane.specs.Spaces.{spaces_of}
 use Rattle.plain_lane.specs.Stages.{changed, shares_of}
 
 abbrev pub ideal : PlainLane → LaneState
@@ -21,7 +22,7 @@ ideal l = record {
   queue = l.queue.items;
   returns = l.returns.items;
   shares = shares_of l.copied.items;
-  spaces = λ t. no_space;
+  spaces = spaces_of l.spaces;
 }
 
 -- a driver after a step, and what the step answers

@@ -1,6 +1,7 @@
 pub mod Ideal
 pub mod Loading
 pub mod Rows
+pub mod Spaces
 pub mod Stages
 pub mod Turning
 pub mod Ways

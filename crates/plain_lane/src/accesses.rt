@@ -16,7 +16,7 @@ use loan_table::Position;
 use std::alloc::{AllocError, Global};
 
 /// A refusal at a place.
-fn refused(name: ReportName, at: u128) -> Judged
+pub(crate) fn refused(name: ReportName, at: u128) -> Judged
     requires { at < 2 ^ 64 }
     ensures { result ≡ Judged.Refused (record { name = name; at = at }) }
 {
@@ -58,6 +58,19 @@ impl PlainLane<'_> {
         self.judge_cpu_write(at + 1, rest)
     }
 
+    /// What stands in the way of the device's reading of a position.
+    pub(crate) fn dev_read_refusal(&self, coherent: bool, position: &Position) -> Option<ReportName>
+        ensures { result ≡ access.dev_read_refusal (is_known (ideal self.now).memory) coherent position.now }
+    {
+        if !coherent && !position.to_read {
+            return Some(ReportName::DeviceReadUnlent);
+        }
+        if !self.is_known(position.pa) {
+            return Some(ReportName::StaleByte);
+        }
+        None
+    }
+
     /// The judgement of the device's reading of positions, the first of them at a place.
     fn judge_dev_read(&self, coherent: bool, at: u128, range: &[Position]) -> Judged
         requires { at + length range.now ≤ 2 ^ 64 }
@@ -66,13 +79,10 @@ impl PlainLane<'_> {
         let Some((first, rest)) = range.split_first() else {
             return Judged::Fine;
         };
-        if !coherent && !first.to_read {
-            return refused(ReportName::DeviceReadUnlent, at);
+        match self.dev_read_refusal(coherent, first) {
+            Some(name) => refused(name, at),
+            None => self.judge_dev_read(coherent, at + 1, rest),
         }
-        if !self.is_known(first.pa) {
-            return refused(ReportName::StaleByte, at);
-        }
-        self.judge_dev_read(coherent, at + 1, rest)
     }
 
     /// `cpu_read`. Err also where a physical address has more than 64 bits.
@@ -188,6 +198,16 @@ impl PlainLane<'_> {
     }
 }
 
+/// What stands in the way of the device's writing of a position.
+pub(crate) fn dev_write_refusal(coherent: bool, position: &Position) -> Option<ReportName>
+    ensures { result ≡ access.dev_write_refusal coherent position.now }
+{
+    if !coherent && !position.to_write {
+        return Some(ReportName::DeviceWriteUnlent);
+    }
+    None
+}
+
 /// The judgement of the device's writing of positions, the first of them at a place.
 fn judge_dev_write(coherent: bool, at: u128, range: &[Position]) -> Judged
     requires { at + length range.now ≤ 2 ^ 64 }
@@ -196,8 +216,8 @@ fn judge_dev_write(coherent: bool, at: u128, range: &[Position]) -> Judged
     let Some((first, rest)) = range.split_first() else {
         return Judged::Fine;
     };
-    if !coherent && !first.to_write {
-        return refused(ReportName::DeviceWriteUnlent, at);
+    match dev_write_refusal(coherent, first) {
+        Some(name) => refused(name, at),
+        None => judge_dev_write(coherent, at + 1, rest),
     }
-    judge_dev_write(coherent, at + 1, rest)
 }

@@ -191,7 +191,7 @@ fn chunks_within(
 }
 
 /// How many bytes extents have. Err where the number has more than 64 bits.
-fn byte_count(extents: &[Extent]) -> Result<u64, AllocError>
+pub(crate) fn byte_count(extents: &[Extent]) -> Result<u64, AllocError>
     ensures { IfOk result (λ n. n ≡ byte_count extents.now) }
 {
     let Some((first, rest)) = extents.split_first() else {

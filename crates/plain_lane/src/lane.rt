@@ -5,11 +5,12 @@ ghost use Rattle.ideal_lane.specs.Opening.{opening_lane};
 ghost use Rattle.ideal_lane.specs.Outcomes.{is_idle, is_loaded};
 ghost use Rattle.ideal_lane.specs.State.{named};
 ghost use Rattle.ideal_lane.specs.Syncs.{bounced_in};
-ghost use Rattle.ideal_lane.specs.Unloads.{pages_of};
+ghost use Rattle.ideal_lane.specs.Unloads.{pages_of, segments_in};
 ghost use Rattle.plain_lane.specs.Ideal.{ideal};
 
 use crate::by_place::ByPlace;
 use crate::content::Change;
+use crate::spaces::PlainSpace;
 use busdma_base::{
     Answer, Bio, Chunk, Driver, Item, LaneId, MapId, Op, PageRun, Report, ReportName, Segment,
     TagLimits,
@@ -19,8 +20,8 @@ use loan_table::Position;
 use std::alloc::Global;
 use std::marker::Model;
 
-/// A tag, by its effective limits, and whether its first allocation is done. Its device is behind no
-/// IOMMU.
+/// A tag, by its effective limits, whether its first allocation is done, and whether its device is
+/// behind an IOMMU.
 #[derive(Clone, Copy, Debug)]
 pub(crate) struct PlainTag {
     pub(crate) limits: TagLimits,
@@ -29,7 +30,7 @@ pub(crate) struct PlainTag {
 }
 
 impl Model for PlainTag {
-    ghost use Rattle.std.specs.Prelude.{◌≡◌, ◌≤◌, false};
+    ghost use Rattle.std.specs.Prelude.{◌≤◌};
     ghost use Rattle.ideal_lane.specs.State.{LaneTag};
 
     ghost Value = { LaneTag };
@@ -41,7 +42,6 @@ impl Model for PlainTag {
     ghost invariant = { λ t. record {
       alignment : 1 ≤ t.limits.alignment;
       maxsegsz : 1 ≤ t.limits.maxsegsz;
-      plain : t.device ≡ false;
     } };
 }
 
@@ -115,6 +115,16 @@ impl PlainMap {
     {
         match &self.stage {
             PlainStage::Loaded { pages, .. } => pages,
+            PlainStage::Idle | PlainStage::Waiting(_) | PlainStage::Returning => &[],
+        }
+    }
+
+    /// The segments of the map's load.
+    pub(crate) fn segments(&self) -> &[Segment]
+        ensures { result.now ≡ segments_in self.now.stage }
+    {
+        match &self.stage {
+            PlainStage::Loaded { segments, .. } => segments,
             PlainStage::Idle | PlainStage::Waiting(_) | PlainStage::Returning => &[],
         }
     }
@@ -215,7 +225,8 @@ impl Model for PlainReturn {
 }
 
 /// A driver as plain lists: tags, maps, memories and loans by place; what has happened to the bytes
-/// of its memory, from the opening on; and the zone of each sync that copied.
+/// of its memory, from the opening on; the zone of each sync that copied; and the address spaces of
+/// IOMMU tags by the places of the tags.
 #[derive(Debug, Drop)]
 pub struct PlainLane<'s> {
     pub(crate) id: LaneId,
@@ -231,6 +242,7 @@ pub struct PlainLane<'s> {
     pub(crate) queue: Vec<QueuedItem>,
     pub(crate) returns: Vec<PlainReturn>,
     pub(crate) copied: Vec<u32>,
+    pub(crate) spaces: ByPlace<PlainSpace>,
 }
 
 impl<'s> PlainLane<'s> {
@@ -252,6 +264,7 @@ impl<'s> PlainLane<'s> {
             queue: Vec::new(alloc),
             returns: Vec::new(alloc),
             copied: Vec::new(alloc),
+            spaces: ByPlace::new(alloc),
         }
     }
 

@@ -1,9 +1,11 @@
 //! Loads: how they are cut, and how they end.
 
-ghost use Rattle.std.specs.Prelude.{◌≡◌, ◌≤◌, ◌++◌, IfOk, OnOk, false};
+ghost use Rattle.std.specs.Prelude.{◌≡◌, ◌≤◌, ◌++◌, IfOk, OnOk};
 ghost use Rattle.std.specs.FinMap.{get, insert, contains_key};
 ghost use Rattle.busdma_machine.specs.Machine.Entry.{entries_addresses};
 ghost use Rattle.segment_build.specs.Chunks.{need_of};
+ghost use Rattle.segment_build.specs.Pieces.{chunk_pieces};
+ghost use Rattle.segment_build.specs.Segmentation.{segmentation};
 ghost use Rattle.lane_tables.specs.Queues.{queued};
 ghost use Rattle.loan_table.specs.Loans.{new_loan, unlent};
 ghost use Rattle.ideal_lane.specs.Asking.{by_reply, call_of};
@@ -102,17 +104,39 @@ fn zone_of(header: Header) -> ZoneId
     ZoneId(header.zone.unwrap_or(0))
 }
 
+/// The segments of chunks in their pages.
+fn segments_of(
+    alloc: Global,
+    limits: &TagLimits,
+    chunks: &[Chunk],
+) -> Result<Vec<Segment>, AllocError>
+    requires { 1 ≤ limits.now.maxsegsz }
+    ensures { IfOk result (λ v. v.items ≡ segmentation limits.now (chunk_pieces limits.now chunks.now)) }
+{
+    let pieces = chunk_pieces(alloc, limits, chunks)?;
+    segmentation(alloc, limits, &pieces)
+}
+
 impl PlainLane<'_> {
-    /// The limits of a map's tag, which is no IOMMU tag.
+    /// The limits of a map's tag.
     fn limits_of(&self, header: Header) -> TagLimits
         ensures is { result ≡ loads.limits_of (ideal self.now) (headed header) }
-        ensures plain { loads.is_device (ideal self.now) (headed header) ≡ false }
         ensures alignment { 1 ≤ result.alignment }
         ensures maxsegsz { 1 ≤ result.maxsegsz }
     {
         match self.tags.get(header.tag) {
             Some(tag) => tag.limits,
             None => NO_LIMITS,
+        }
+    }
+
+    /// The map is one of an IOMMU tag.
+    fn is_device(&self, header: Header) -> bool
+        ensures { result ≡ loads.is_device (ideal self.now) (headed header) }
+    {
+        match self.tags.get(header.tag) {
+            Some(tag) => tag.device,
+            None => false,
         }
     }
 
@@ -157,7 +181,7 @@ impl PlainLane<'_> {
     }
 
     /// The load is over, refused with this error.
-    fn end(
+    pub(crate) fn end(
         &mut self,
         alloc: Global,
         map: u32,
@@ -218,6 +242,22 @@ impl PlainLane<'_> {
         self.append(alloc, load_at, asked.items)
     }
 
+    /// These chunks have few enough segments.
+    pub(crate) fn are_few(
+        &self,
+        alloc: Global,
+        header: Header,
+        chunks: &[Chunk],
+    ) -> Result<bool, AllocError>
+        ensures { let l = ideal self.now in
+            IfOk result (λ b. b ≡ loads.are_few (loads.limits_of l (headed header)) chunks.now) }
+    {
+        let limits = self.limits_of(header);
+        let placed = placed(alloc, keeps(&limits), chunks, &[])?;
+        let segments = segments_of(alloc, &limits, &placed)?;
+        Ok(segments.len() as u64 <= limits.nsegments as u64)
+    }
+
     /// A load that has its pages ends, and its callback is called.
     pub(crate) fn finish(
         &mut self,
@@ -235,8 +275,7 @@ impl PlainLane<'_> {
         let limits = self.limits_of(header);
         let bus_pages = as_pages(alloc, pages)?;
         let placed = placed(alloc, keeps(&limits), chunks, &bus_pages)?;
-        let pieces = chunk_pieces(alloc, &limits, &placed)?;
-        let segments = segmentation(alloc, &limits, &pieces)?;
+        let segments = segments_of(alloc, &limits, &placed)?;
         if segments.len() as u64 > limits.nsegments as u64 {
             self.unpage(alloc, map, header, pages)?;
             return Ok(Answer::Refused(Errno::EFBIG));
@@ -289,6 +328,9 @@ impl PlainLane<'_> {
         if self.limits_of(header).maxsize < asked.len {
             return Ok(None);
         }
+        if self.is_device(header) {
+            return Ok(None);
+        }
         let chunks = self.chunks_for(alloc, header, map, &asked.entries)?;
         let need = need(&chunks)?;
         if need == 0 {
@@ -325,6 +367,9 @@ impl PlainLane<'_> {
         }
         if self.limits_of(header).maxsize < asked.len {
             return self.end(alloc, map, header, Errno::EINVAL);
+        }
+        if self.is_device(header) {
+            return self.device_load(alloc, map, header, asked);
         }
         let chunks = self.chunks_for(alloc, header, map, &asked.entries)?;
         if need_of(&chunks) == 0 {

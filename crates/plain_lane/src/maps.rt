@@ -5,10 +5,17 @@ ghost use Rattle.ideal_lane.specs.Asking.{Gives, by_reply, call_of};
 ghost use Rattle.ideal_lane.specs.Maps as maps;
 ghost use Rattle.plain_lane.specs.Ideal.{given, ideal};
 
-use crate::lane::{PlainLane, PlainMap, PlainStage, report};
+use crate::lane::{PlainLane, PlainMap, PlainStage, PlainTag, report};
 use crate::tags::could_bounce;
 use busdma_base::{Answer, Errno, HubCall, HubReply, ReportName, ZoneId};
 use std::alloc::{AllocError, Global};
+
+/// The loads of a tag's maps could bounce, where frame numbers are below `maxmem`.
+fn bounces(tag: &PlainTag, maxmem: u64) -> bool
+    ensures { result ≡ maps.bounces maxmem tag.now }
+{
+    !tag.device && could_bounce(&tag.limits, maxmem)
+}
 
 impl PlainLane<'_> {
     /// There is an idle map of a tag at the place of the script.
@@ -34,7 +41,7 @@ impl PlainLane<'_> {
         ensures { result ≡ call_of (maps.map tag (ideal self.now)) }
     {
         let held = self.tags.get(tag)?;
-        if !could_bounce(&held.limits, self.maxmem) {
+        if !bounces(held, self.maxmem) {
             return None;
         }
         Some(HubCall::CreateMap {
@@ -56,7 +63,7 @@ impl PlainLane<'_> {
         let Some(held) = self.tags.get(tag) else {
             return Ok(report(ReportName::Absent, 0));
         };
-        if !could_bounce(&held.limits, self.maxmem) {
+        if !bounces(held, self.maxmem) {
             self.add_map(alloc, tag, None)?;
             return Ok(Answer::Done);
         }

@@ -69,7 +69,8 @@ impl<'s> PlainLane<'s> {
                 flags,
                 then,
             } => self.buffer_call(alloc, *map, buffer, *flags, then.as_slice()),
-            Op::TagDestroy { .. }
+            Op::IommuTag { .. }
+            | Op::TagDestroy { .. }
             | Op::Unload { .. }
             | Op::Sync { .. }
             | Op::SyncRange { .. }
@@ -91,6 +92,7 @@ impl<'s> PlainLane<'s> {
     {
         match op {
             Op::Tag { parent, limits, .. } => self.tag(alloc, *parent, limits, reply),
+            Op::IommuTag { limits, .. } => self.iommu_tag(alloc, *limits),
             Op::TagDestroy { tag } => self.tag_destroy(alloc, *tag),
             Op::Map { tag, .. } => self.map(alloc, *tag, reply),
             Op::MapDestroy { map } => self.map_destroy(alloc, *map, reply),
@@ -133,6 +135,7 @@ impl<'s> PlainLane<'s> {
                     && (self.is_waiting(*map) || queue_names(*map, &self.queue))
             }
             Op::Tag { .. }
+            | Op::IommuTag { .. }
             | Op::TagDestroy { .. }
             | Op::Map { .. }
             | Op::MapDestroy { .. }
@@ -159,6 +162,10 @@ impl<'s> PlainLane<'s> {
             Item::DevRead { map, off, len } => self.dev_read(alloc, *map, *off, *len),
             Item::DevWrite { map, off, bytes } => {
                 self.dev_write(alloc, *map, *off, bytes.to_vec(alloc)?)
+            }
+            Item::DevReadAt { tag, addr, len } => self.dev_read_at(alloc, *tag, *addr, *len),
+            Item::DevWriteAt { tag, addr, bytes } => {
+                self.dev_write_at(alloc, *tag, *addr, bytes.to_vec(alloc)?)
             }
         }
     }

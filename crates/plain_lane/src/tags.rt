@@ -8,8 +8,10 @@ ghost use Rattle.ideal_lane.specs.Tags as tags;
 ghost use Rattle.plain_lane.specs.Ideal.{given, ideal};
 
 use crate::lane::{PlainLane, PlainTag, report};
+use crate::spaces::PlainSpace;
 use bitflags::Flags;
 use busdma_base::{Answer, Errno, HubCall, HubReply, Pa, ReportName, TagLimits};
+use busdma_machine::SpaceLimits;
 use dma_tag::{Tag, TagFlags};
 use std::alloc::{AllocError, Global};
 
@@ -144,6 +146,40 @@ impl PlainLane<'_> {
         Ok(Answer::Done)
     }
 
+    /// There is an IOMMU tag at the place of the script, with no live run.
+    fn add_iommu_tag(&mut self, alloc: Global, limits: TagLimits) -> Result<(), AllocError>
+        requires alignment { 1 ≤ limits.alignment }
+        requires maxsegsz { 1 ≤ limits.maxsegsz }
+        ensures { OnOk result (ideal self.new ≡ tags.with_device_tag limits (ideal self.old)) }
+    {
+        let tag = PlainTag {
+            limits,
+            first_done: false,
+            device: true,
+        };
+        self.tags.insert(alloc, self.place, tag)?;
+        let space = PlainSpace {
+            pages: ((limits.lowaddr.0 as u128 + 1) / 4096) as u64,
+            runs: Vec::new(alloc),
+        };
+        self.put_space(alloc, self.place, space)
+    }
+
+    /// `iommu_tag`.
+    pub(crate) fn iommu_tag(
+        &mut self,
+        alloc: Global,
+        limits: SpaceLimits,
+    ) -> Result<Answer, AllocError>
+        ensures { IfOk result (λ a. Gives (given self.new a) ≡ tags.iommu_tag limits (ideal self.old)) }
+    {
+        let Some(limits) = effective(None, &limits.to_limits()) else {
+            return Ok(Answer::Refused(Errno::EINVAL));
+        };
+        self.add_iommu_tag(alloc, limits)?;
+        Ok(Answer::Done)
+    }
+
     /// A tag has a map.
     fn has_maps(&self, tag: u32) -> bool
         ensures { result ≡ tags.has_maps (ideal self.now) tag }
@@ -162,6 +198,7 @@ impl PlainLane<'_> {
             return Ok(Answer::Refused(Errno::EBUSY));
         }
         self.tags.remove(alloc, tag)?;
+        self.drop_space(alloc, tag)?;
         Ok(Answer::Done)
     }
 }

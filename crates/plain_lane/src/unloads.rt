@@ -8,14 +8,16 @@ ghost use Rattle.loan_table.specs.Lending.{lost_by_forgetting};
 ghost use Rattle.ideal_lane.specs.Asking.{Gives};
 ghost use Rattle.ideal_lane.specs.Loads.{emptied, staged, unpaged};
 ghost use Rattle.ideal_lane.specs.State.{Idle, LaneMap, Returning};
+ghost use Rattle.ideal_lane.specs.Tags.{with_space};
 ghost use Rattle.ideal_lane.specs.Unloads as unloads;
+ghost use Rattle.iommu_map.specs.Space.{left};
 ghost use Rattle.plain_lane.specs.Ideal.{given, ideal};
 ghost use Rattle.plain_lane.specs.Stages.{headed, stage_of};
 
 use crate::lane::{PlainLane, PlainMap, PlainReturn, PlainStage, report};
 use crate::lending::lost_by_forgetting;
 use crate::lists::joined;
-use busdma_base::{Answer, ReportName};
+use busdma_base::{Answer, ReportName, Segment};
 use std::alloc::{AllocError, Global};
 
 /// What stays of a map through its loads: the place of its tag, and its zone.
@@ -88,6 +90,16 @@ pub(crate) fn after_return(map: u32, rest: &[PlainReturn]) -> PlainStage
     }
 }
 
+/// The first device page of a load of these segments, or 0 where there is none.
+fn first_of(segments: &[Segment]) -> u64
+    ensures { result ≡ unloads.first_of segments.now }
+{
+    match segments.first() {
+        Some(first) => first.addr.0 / 4096,
+        None => 0,
+    }
+}
+
 impl PlainLane<'_> {
     /// The map has another stage, and a load of it has called or stored a callback.
     pub(crate) fn stage(
@@ -133,6 +145,26 @@ impl PlainLane<'_> {
         self.loans.remove(alloc, map)
     }
 
+    /// The load of a map ends, of which this is the first device page: its lending and its run end, and
+    /// its pages join the return queue.
+    fn end_load(
+        &mut self,
+        alloc: Global,
+        map: u32,
+        header: Header,
+        pages: &[u64],
+        first: u64,
+    ) -> Result<(), AllocError>
+        ensures { let l = ideal self.old in OnOk result (ideal self.new
+            ≡ record (unpaged map (headed header) pages.now (unloads.unlent map l)) {
+              spaces = with_space header.tag (left first (l.spaces header.tag)) l.spaces;
+            }) }
+    {
+        self.unlend(alloc, map)?;
+        self.unpage(alloc, map, header, pages)?;
+        self.leave(alloc, header.tag, first)
+    }
+
     /// `unload`.
     pub(crate) fn unload(&mut self, alloc: Global, map: u32) -> Result<Answer, AllocError>
         ensures { IfOk result (λ a. Gives (given self.new a) ≡ unloads.unload map (ideal self.old)) }
@@ -144,9 +176,9 @@ impl PlainLane<'_> {
             return Ok(report(ReportName::NotLoaded, 0));
         }
         let header = held.header();
-        let pages = joined(alloc, held.pages(), &[])?;
-        self.unlend(alloc, map)?;
-        self.unpage(alloc, map, header, &pages)?;
+        let pages = Vec::from_slice(alloc, held.pages())?;
+        let first = first_of(held.segments());
+        self.end_load(alloc, map, header, &pages, first)?;
         Ok(Answer::Done)
     }
 }

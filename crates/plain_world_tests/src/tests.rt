@@ -4,6 +4,7 @@
 mod accesses;
 mod beside;
 mod buffers;
+mod devices;
 mod draft;
 mod forms;
 mod generator;
@@ -34,11 +35,11 @@ fn all_play_alike(rt: &impl Abort, alloc: Global, drivers: u64) -> Result<Vec<Fo
     Ok(missing)
 }
 
-/// One driver alone is hardly ever called back.
+/// One driver alone is hardly ever called back, and its device seldom names a tag that is not there.
 #[test]
 fn one_driver(rt: HostRuntime) -> Result<(), Fail> {
     let missing = all_play_alike(&rt, rt.alloc(), 1)?;
-    assert!(rt; missing.len() < 4, "{missing:?}");
+    assert!(rt; missing.len() < 5, "{missing:?}");
     Ok(())
 }
 

@@ -15,7 +15,7 @@ use Rattle.busdma_machine.specs.declared.report.ReportName.TheVariants.{PastEnd,
 use Rattle.busdma_machine.specs.declared.report.ReportName.TheVariants.{DeviceWriteUnlent, CpuReadLent}
 use Rattle.busdma_machine.specs.declared.report.ReportName.TheVariants.{CpuWriteLent, StaleByte, SyncOrder}
 use Rattle.busdma_machine.specs.declared.report.ReportName.TheVariants.{MixedSync, Overlap, NotDeferred}
-use Rattle.busdma_machine.specs.declared.report.ReportName.TheVariants.{ForeignMemory}
+use Rattle.busdma_machine.specs.declared.report.ReportName.TheVariants.{ForeignMemory, Untranslated}
 use Rattle.busdma_machine.specs.declared.bounce.zone.Grown.{Grown}
 
 -- the name of an error
@@ -43,6 +43,7 @@ report_name MixedSync = codes "MixedSync"
 report_name Overlap = codes "Overlap"
 report_name NotDeferred = codes "NotDeferred"
 report_name ForeignMemory = codes "ForeignMemory"
+report_name Untranslated = codes "Untranslated"
 
 -- a segment, after a space: its address, `+` and its length
 abbrev pub segment_text : Segment → List ℕ

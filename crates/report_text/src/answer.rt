@@ -42,6 +42,7 @@ fn report_name(name: ReportName) -> &'static str
         ReportName::Overlap => "Overlap",
         ReportName::NotDeferred => "NotDeferred",
         ReportName::ForeignMemory => "ForeignMemory",
+        ReportName::Untranslated => "Untranslated",
     }
 }
 

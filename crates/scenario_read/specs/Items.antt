@@ -47,12 +47,35 @@ dev_write_at before here =
     access_judged (length (bytes_of bytes)) here.place >>= (λ _.
     Ok (item.DevWrite map off bytes))))))
 
+-- a read of the device of an IOMMU tag, from a device address on
+unfoldable pub raw_read_at : List Op → Counts → Spot → Read Item
+raw_read_at before c here =
+    only_keys (one_of (codes "op" ∷ codes "tag" ∷ codes "addr" ∷ codes "len" ∷ [])) here >>= (λ _.
+    used_name use_as.IommuTag (codes "tag") before here >>= (λ tag.
+    number_field (codes "addr") here >>= (λ addr.
+    number_field (codes "len") here >>= (λ n.
+    read_judged c n here.place >>= (λ _.
+    Ok (item.DevReadAt tag addr n))))))
+
+-- a write of the device of an IOMMU tag, from a device address on
+unfoldable pub raw_write_at : List Op → Spot → Read Item
+raw_write_at before here =
+    only_keys (one_of (codes "op" ∷ codes "tag" ∷ codes "addr" ∷ codes "hex" ∷ codes "fill" ∷ codes "len" ∷ [])) here
+    >>= (λ _.
+    used_name use_as.IommuTag (codes "tag") before here >>= (λ tag.
+    number_field (codes "addr") here >>= (λ addr.
+    written_at here >>= (λ bytes.
+    access_judged (length (bytes_of bytes)) here.place >>= (λ _.
+    Ok (item.DevWriteAt tag addr bytes))))))
+
 -- the item of a word
 abbrev pub item_by : ItemWord → List Op → Counts → Spot → Read Item
 item_by word.Sync before c here = sync_item_at before here
 item_by word.SyncRange before c here = sync_range_item_at before here
 item_by word.DevRead before c here = dev_read_at before c here
 item_by word.DevWrite before c here = dev_write_at before here
+item_by word.DevReadAt before c here = raw_read_at before c here
+item_by word.DevWriteAt before c here = raw_write_at before here
 
 -- an item is an object, is counted as a step, and is then read by its word
 unfoldable pub item_at : List Op → Counts → Spot → Read Item

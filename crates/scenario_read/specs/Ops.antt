@@ -2,6 +2,7 @@
 use Rattle.std.specs.Prelude.{ℕ, ◌-◌, ◌^◌, if◌then◌else◌, nat_lt, List, [], ◌∷◌, length, Ok, codes}
 use Rattle.busdma_base.specs.declared.scenarios.script.Op.{Op}
 use Rattle.busdma_base.specs.declared.scenarios.script.Op.TheVariants as op
+use Rattle.busdma_machine.specs.declared.tags.tag.SpaceLimits.{SpaceLimits}
 use Rattle.busdma_machine.specs.declared.tags.tag.TagLimits.{TagLimits}
 use Rattle.busdma_base.specs.Scenarios.Operations.{bytes_of}
 use Rattle.json_fields.specs.Place.{Place, key}
@@ -62,19 +63,45 @@ tag_at before here =
     limits_at here >>= (λ limits.
     Ok (op.Tag name parent limits)))))
 
--- the end of a tag
+-- the limits of an IOMMU tag, each with its default where it is not given
+unfoldable pub space_limits_at : Spot → Read SpaceLimits
+space_limits_at here =
+    number_or (codes "lowaddr") (2 ^ 32 - 1) here >>= (λ lowaddr.
+    number_or (codes "boundary") 0 here >>= (λ boundary.
+    number_or (codes "maxsize") (2 ^ 32 - 1) here >>= (λ maxsize.
+    nsegments_at here >>= (λ nsegments.
+    number_or (codes "maxsegsz") (2 ^ 32 - 1) here >>= (λ maxsegsz.
+    Ok (record {
+      boundary = boundary;
+      lowaddr = record { 0 = lowaddr };
+      maxsize = maxsize;
+      nsegments = nsegments;
+      maxsegsz = maxsegsz;
+    }))))))
+
+-- the making of an IOMMU tag
+unfoldable pub iommu_tag_at : List Op → Spot → Read Op
+iommu_tag_at before here =
+    only_keys (one_of (codes "op" ∷ codes "name" ∷ codes "lowaddr" ∷ codes "boundary" ∷ codes "maxsize"
+    ∷ codes "nsegments" ∷ codes "maxsegsz" ∷ []))
+    here >>= (λ _.
+    new_name (codes "name") before here >>= (λ name.
+    space_limits_at here >>= (λ limits.
+    Ok (op.IommuTag name limits))))
+
+-- the end of a tag of either kind
 unfoldable pub tag_destroy_at : List Op → Spot → Read Op
 tag_destroy_at before here =
     only_keys (one_of (codes "op" ∷ codes "tag" ∷ [])) here >>= (λ _.
-    used_name use_as.Tag (codes "tag") before here >>= (λ tag.
+    used_name use_as.AnyTag (codes "tag") before here >>= (λ tag.
     Ok (op.TagDestroy tag)))
 
--- the making of a map
+-- the making of a map of a tag of either kind
 unfoldable pub map_at : List Op → Spot → Read Op
 map_at before here =
     only_keys (one_of (codes "op" ∷ codes "name" ∷ codes "tag" ∷ [])) here >>= (λ _.
     new_name (codes "name") before here >>= (λ name.
-    used_name use_as.Tag (codes "tag") before here >>= (λ tag.
+    used_name use_as.AnyTag (codes "tag") before here >>= (λ tag.
     Ok (op.Map name tag))))
 
 -- the map of an operation that says nothing else

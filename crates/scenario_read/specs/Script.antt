@@ -10,13 +10,15 @@ use Rattle.busdma_base.specs.declared.scenarios.words.OpWord.{OpWord}
 use Rattle.busdma_base.specs.declared.scenarios.words.OpWord.TheVariants as word
 use Rattle.scenario_read.specs.Counts.{with_ops, stepped, step_judged}
 use Rattle.scenario_read.specs.Loads.{load_at, load_vector_at, load_mbuf_at, load_bio_at}
-use Rattle.scenario_read.specs.Ops.{tag_at, tag_destroy_at, map_at, map_destroy_at, dmamem_at, dmamem_free_at}
-use Rattle.scenario_read.specs.Ops.{unload_at, sync_at, sync_range_at, cpu_read_at, cpu_write_at, await_at}
+use Rattle.scenario_read.specs.Ops.{tag_at, iommu_tag_at, tag_destroy_at, map_at, map_destroy_at, dmamem_at}
+use Rattle.scenario_read.specs.Ops.{dmamem_free_at, unload_at, sync_at, sync_range_at, cpu_read_at, cpu_write_at}
+use Rattle.scenario_read.specs.Ops.{await_at}
 use Rattle.scenario_read.specs.Words.{op_word_at}
 
 -- the operation of a word
 abbrev pub op_by : OpWord → List PageRun → List Op → Counts → Spot → Read Op
 op_by word.Tag pages before c here = tag_at before here
+op_by word.IommuTag pages before c here = iommu_tag_at before here
 op_by word.TagDestroy pages before c here = tag_destroy_at before here
 op_by word.Map pages before c here = map_at before here
 op_by word.MapDestroy pages before c here = map_destroy_at before here

@@ -10,7 +10,8 @@ ghost use Rattle.json_fields.specs.Field.{spot_of};
 ghost use Rattle.json_fields.specs.Items.{each};
 ghost use Rattle.scenario_read.specs.Counts.{IsWithin, with_items, having_read, stepped};
 ghost use Rattle.scenario_read.specs.Items.{sync_item_at, sync_range_item_at, dev_read_at};
-ghost use Rattle.scenario_read.specs.Items.{dev_write_at, item_by, item_at, then_at, then_field};
+ghost use Rattle.scenario_read.specs.Items.{dev_write_at, raw_read_at, raw_write_at};
+ghost use Rattle.scenario_read.specs.Items.{item_by, item_at, then_at, then_field};
 
 use crate::bytes::{count_of, written};
 use crate::counts::{Counts, access};
@@ -80,6 +81,36 @@ fn dev_write(here: &Node, before: &NamedOps) -> Result<Item, Stop>
     Ok(Item::DevWrite { map, off, bytes })
 }
 
+#[tactic(auto, unfolding(crate::specs::Items::raw_read_at))]
+fn raw_read(here: &Node, before: &NamedOps, counts: &mut Counts) -> Result<Item, Stop>
+    requires within { IsWithin counts.old }
+    ensures value { Gives result (raw_read_at before.now counts.old (spot_of here.now)) }
+    ensures valid { IfOk result (IsItem before.now) }
+    ensures counted { IfOk result (λ i. counts.new ≡ having_read counts.old (read_by_item i)) }
+    ensures within { IfOk result (λ _. IsWithin counts.new) }
+{
+    here.only_keys(&["op", "tag", "addr", "len"])?;
+    let tag = used_name(here, NameUse::IommuTag, "tag", before)?;
+    let addr = here.number_field("addr")?;
+    let len = here.number_field("len")?;
+    counts.read(here, len)?;
+    Ok(Item::DevReadAt { tag, addr, len })
+}
+
+#[tactic(auto, unfolding(crate::specs::Items::raw_write_at))]
+fn raw_write(here: &Node, before: &NamedOps) -> Result<Item, Stop>
+    ensures value { Gives result (raw_write_at before.now (spot_of here.now)) }
+    ensures valid { IfOk result (IsItem before.now) }
+    ensures reads_nothing { IfOk result (λ i. read_by_item i ≡ 0) }
+{
+    here.only_keys(&["op", "tag", "addr", "hex", "fill", "len"])?;
+    let tag = used_name(here, NameUse::IommuTag, "tag", before)?;
+    let addr = here.number_field("addr")?;
+    let bytes = written(here)?;
+    access(here, count_of(&bytes))?;
+    Ok(Item::DevWriteAt { tag, addr, bytes })
+}
+
 /// The item of a word, whose own step is counted.
 fn item_by(
     word: ItemWord,
@@ -98,6 +129,8 @@ fn item_by(
         ItemWord::SyncRange => sync_range(here, before),
         ItemWord::DevRead => dev_read(here, before, counts),
         ItemWord::DevWrite => dev_write(here, before),
+        ItemWord::DevReadAt => raw_read(here, before, counts),
+        ItemWord::DevWriteAt => raw_write(here, before),
     }
 }
 

@@ -16,7 +16,7 @@ use crate::named_ops::NamedOps;
 use crate::names::{new_name, parent, used_name};
 use crate::places::access_place;
 use crate::syncs::{range_fields, sync_fields};
-use busdma_base::{NameUse, Op, Pa, TagLimits};
+use busdma_base::{NameUse, Op, Pa, SpaceLimits, TagLimits};
 use json_fields::{Node, RefusalKind, Stop};
 
 // The greatest number of segments.
@@ -83,6 +83,44 @@ pub(crate) fn tag(here: &Node, before: &NamedOps) -> Result<Op, Stop>
     })
 }
 
+#[tactic(auto, unfolding(crate::specs::Ops::space_limits_at))]
+fn space_limits(here: &Node) -> Result<SpaceLimits, Stop>
+    ensures { Gives result (ops.space_limits_at (spot_of here.now)) }
+{
+    let lowaddr = here.number_or("lowaddr", u64::from(u32::MAX))?;
+    let boundary = here.number_or("boundary", 0)?;
+    let maxsize = here.number_or("maxsize", u64::from(u32::MAX))?;
+    let nsegments = nsegments(here)?;
+    let maxsegsz = here.number_or("maxsegsz", u64::from(u32::MAX))?;
+    Ok(SpaceLimits {
+        boundary,
+        lowaddr: Pa(lowaddr),
+        maxsize,
+        nsegments,
+        maxsegsz,
+    })
+}
+
+#[tactic(auto, unfolding(crate::specs::Ops::iommu_tag_at))]
+pub(crate) fn iommu_tag(here: &Node, before: &NamedOps) -> Result<Op, Stop>
+    ensures value { Gives result (ops.iommu_tag_at before.now (spot_of here.now)) }
+    ensures valid { IfOk result (IsOp before.now) }
+    ensures quiet { IfOk result IsQuiet }
+{
+    here.only_keys(&[
+        "op",
+        "name",
+        "lowaddr",
+        "boundary",
+        "maxsize",
+        "nsegments",
+        "maxsegsz",
+    ])?;
+    let name = new_name(here, "name", before)?;
+    let limits = space_limits(here)?;
+    Ok(Op::IommuTag { name, limits })
+}
+
 #[tactic(auto, unfolding(crate::specs::Ops::tag_destroy_at))]
 pub(crate) fn tag_destroy(here: &Node, before: &NamedOps) -> Result<Op, Stop>
     ensures value { Gives result (ops.tag_destroy_at before.now (spot_of here.now)) }
@@ -90,7 +128,7 @@ pub(crate) fn tag_destroy(here: &Node, before: &NamedOps) -> Result<Op, Stop>
     ensures quiet { IfOk result IsQuiet }
 {
     here.only_keys(&["op", "tag"])?;
-    let tag = used_name(here, NameUse::Tag, "tag", before)?;
+    let tag = used_name(here, NameUse::AnyTag, "tag", before)?;
     Ok(Op::TagDestroy { tag })
 }
 
@@ -102,7 +140,7 @@ pub(crate) fn map(here: &Node, before: &NamedOps) -> Result<Op, Stop>
 {
     here.only_keys(&["op", "name", "tag"])?;
     let name = new_name(here, "name", before)?;
-    let tag = used_name(here, NameUse::Tag, "tag", before)?;
+    let tag = used_name(here, NameUse::AnyTag, "tag", before)?;
     Ok(Op::Map { name, tag })
 }
 

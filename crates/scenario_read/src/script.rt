@@ -39,6 +39,7 @@ fn op_by(
 {
     match word {
         OpWord::Tag => ops::tag(here, before),
+        OpWord::IommuTag => ops::iommu_tag(here, before),
         OpWord::TagDestroy => ops::tag_destroy(here, before),
         OpWord::Map => ops::map(here, before),
         OpWord::MapDestroy => ops::map_destroy(here, before),

@@ -1,4 +1,5 @@
 mod documents;
+mod iommu_tags;
 mod limits;
 mod loads;
 mod memories;

@@ -8,6 +8,7 @@ pub mod Iterating
 pub mod Frames
 pub mod PartByPart
 pub mod SoFar
+pub mod MorePieces
 pub mod Fronts
 pub mod Bytes
 pub mod Covering

@@ -74,6 +74,12 @@ last_of_all : {X : Type 0} (P : X → Type 0) (xs : List X) (x : X) → AllByRec
 last_of_all P [] x h = h.0
 last_of_all P (y ∷ ys) x h = last_of_all P ys x h.1
 
+-- the next part of a stream
+pub last_part : (ps : List Part) (p : Part) → IsStream (ps ++ p ∷ []) → IsPart p
+last_part ps p h =
+    last_of_all IsPart ps p
+    (each_part (ps ++ p ∷ []) (subst (AllByRecursion IsExtent) (sym h.opens) tt) h.entries)
+
 all_first : {X : Type 0} (P : X → Type 0) (xs ys : List X) → AllByRecursion P (xs ++ ys) → AllByRecursion P xs
 all_first P [] ys h = tt
 all_first P (x ∷ xs) ys h = (h.0, all_first P xs ys h.1)
@@ -152,9 +158,7 @@ holds_at t m ps p eff h =
     let bytes : chunk_bytes cs ≤ 2 ^ 20 =
     omega (arith, sum_by-append chunk_len cs one, ap chunk_bytes more, all.bytes) in
     record {
-      part =
-          last_of_all IsPart ps p (each_part (ps ++ p ∷ [])
-          (subst (AllByRecursion IsExtent) (sym h.opens) tt) h.entries);
+      part = last_part ps p h;
       fits = omega (arith, all.at, ap (λ (s : Cutter). s.at) next, part_at t m (after t m uncut ps) p, small);
       sound = if_listed (IsPlaceable t) (closed_part (after t m uncut ps) p) (all_second (IsPlaceable t) cs one sound);
       closed_are = more;

@@ -9,6 +9,7 @@ mod joining;
 mod laws;
 mod measured;
 mod pieces;
+mod runs;
 mod streamed;
 #[cfg(test)]
 mod tests;
@@ -20,4 +21,5 @@ pub use laws::{
     segments_are_the_trace, segments_obey,
 };
 pub use measured::{Measured, measure};
+pub use runs::{add_pieces, count_pieces};
 pub use streamed::{Streamed, build_from, build_into};

@@ -18,7 +18,7 @@ pub(crate) fn add_run(
     run: Segment,
 ) -> Result<bool, AllocError>
     requires size { 0 < limits.now.maxsegsz }
-    requires fits { run.addr.0 + run.len < 2 ^ 64 }
+    requires fits { run.addr.0 + run.len ≤ 2 ^ 64 }
     requires few { length list.old.items ≤ limits.now.nsegments }
     ensures added { let pieces = pieces_of limits.now (run_of run.addr.0 run.len) in
         result ≡ Ok true → list.new.items ≡ added_all limits.now list.old.items pieces }
@@ -30,14 +30,13 @@ pub(crate) fn add_run(
         min (length (added_all limits.now list.old.items pieces)) limits.now.nsegments ≤ list.old.spare
         + length list.old.items → IsOk result }
 {
-    let mut at = run.addr.0;
     let mut left = run.len;
     while left > 0 {
+        let at = run.addr.0 + (run.len - left);
         let len = piece_len(limits, at, left);
         if !add_piece(limits, list, Segment { addr: Pa(at), len })? {
             return Ok(false);
         }
-        at += len;
         left -= len;
     }
     Ok(true)
@@ -47,17 +46,15 @@ pub(crate) fn add_run(
 #[tactic(auto, using(crate::proofs::Places::pieces_step, crate::proofs::Places::no_pieces))]
 pub(crate) fn piece_count(limits: &TagLimits, run: Segment) -> u64
     requires size { 0 < limits.now.maxsegsz }
-    requires fits { run.addr.0 + run.len < 2 ^ 64 }
+    requires fits { run.addr.0 + run.len ≤ 2 ^ 64 }
     ensures count { result ≡ length (pieces_of limits.now (run_of run.addr.0 run.len)) }
     ensures few { result ≤ run.len }
 {
-    let mut at = run.addr.0;
     let mut left = run.len;
     let mut count = 0;
     while left > 0 {
-        let len = piece_len(limits, at, left);
-        at += len;
-        left -= len;
+        let at = run.addr.0 + (run.len - left);
+        left -= piece_len(limits, at, left);
         count += 1;
     }
     count

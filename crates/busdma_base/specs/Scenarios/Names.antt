@@ -25,20 +25,39 @@ abbrev pub is_name : List ℕ → Bool
 is_name s =
     if nat_le 1 (length s) && nat_le (length s) 32 && is_letter (slice_index s 0) then list_all in_name s else false
 
+-- the thing is a tag, and no IOMMU tag; an IOMMU tag; a map; a memory, with the map of its own
+abbrev pub is_tag : NameKind → Bool
+is_tag kind.Tag = true
+is_tag kind.IommuTag = false
+is_tag kind.Map = false
+is_tag kind.Memory = false
+
+abbrev pub is_iommu_tag : NameKind → Bool
+is_iommu_tag kind.Tag = false
+is_iommu_tag kind.IommuTag = true
+is_iommu_tag kind.Map = false
+is_iommu_tag kind.Memory = false
+
+abbrev pub is_map : NameKind → Bool
+is_map kind.Tag = false
+is_map kind.IommuTag = false
+is_map kind.Map = true
+is_map kind.Memory = false
+
+abbrev pub is_memory : NameKind → Bool
+is_memory kind.Tag = false
+is_memory kind.IommuTag = false
+is_memory kind.Map = false
+is_memory kind.Memory = true
+
 -- a thing of this kind can be used so: the map of a memory is used as a map, but where a map alone is
 abbrev pub accepts : NameUse → NameKind → Bool
-accepts use_as.Tag kind.Tag = true
-accepts use_as.Tag kind.Map = false
-accepts use_as.Tag kind.Memory = false
-accepts use_as.Map kind.Tag = false
-accepts use_as.Map kind.Map = true
-accepts use_as.Map kind.Memory = true
-accepts use_as.MapAlone kind.Tag = false
-accepts use_as.MapAlone kind.Map = true
-accepts use_as.MapAlone kind.Memory = false
-accepts use_as.Memory kind.Tag = false
-accepts use_as.Memory kind.Map = false
-accepts use_as.Memory kind.Memory = true
+accepts use_as.Tag k = is_tag k
+accepts use_as.IommuTag k = is_iommu_tag k
+accepts use_as.AnyTag k = is_tag k || is_iommu_tag k
+accepts use_as.Map k = is_map k || is_memory k
+accepts use_as.MapAlone k = is_map k
+accepts use_as.Memory k = is_memory k
 
 -- the operation makes the name, as a thing that can be used so
 abbrev pub makes_for : NameUse → List ℕ → Op → Bool

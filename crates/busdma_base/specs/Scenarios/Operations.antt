@@ -53,9 +53,12 @@ abbrev pub bytes_of : Bytes → List ℕ
 bytes_of (bytes.Listed bs) = bs
 bytes_of (bytes.Filled b n) = replicate n b
 
--- a tag that is made, a map that is made, and a memory that is made
+-- a tag that is made, an IOMMU tag, a map, and a memory that is made
 abbrev pub new_tag : List ℕ → Option Made
 new_tag name = Some (record { kind = kind.Tag; name = name })
+
+abbrev pub new_iommu_tag : List ℕ → Option Made
+new_iommu_tag name = Some (record { kind = kind.IommuTag; name = name })
 
 abbrev pub new_map : List ℕ → Option Made
 new_map name = Some (record { kind = kind.Map; name = name })
@@ -63,9 +66,16 @@ new_map name = Some (record { kind = kind.Map; name = name })
 abbrev pub new_memory : List ℕ → Option Made
 new_memory name = Some (record { kind = kind.Memory; name = name })
 
--- the tag, the map or memory's map, the map alone, and the memory, that was made at a place
+-- the tag that is no IOMMU tag, the IOMMU tag, the tag of either kind, the map or memory's map, the map alone, and the
+-- memory, that was made at a place
 abbrev pub tag_at : ℕ → UsedName
 tag_at made_at = record { used_as = use_as.Tag; made_at = made_at }
+
+abbrev pub iommu_tag_at : ℕ → UsedName
+iommu_tag_at made_at = record { used_as = use_as.IommuTag; made_at = made_at }
+
+abbrev pub any_tag_at : ℕ → UsedName
+any_tag_at made_at = record { used_as = use_as.AnyTag; made_at = made_at }
 
 abbrev pub map_at : ℕ → UsedName
 map_at made_at = record { used_as = use_as.Map; made_at = made_at }
@@ -101,8 +111,9 @@ with_names word makes uses =
 -- what each operation is about
 abbrev pub about : Op → About
 about (op.Tag name parent limits) = with_names op_word.Tag (new_tag name) (parents parent)
-about (op.TagDestroy tag) = with_names op_word.TagDestroy None (tag_at tag ∷ [])
-about (op.Map name tag) = with_names op_word.Map (new_map name) (tag_at tag ∷ [])
+about (op.IommuTag name limits) = with_names op_word.IommuTag (new_iommu_tag name) []
+about (op.TagDestroy tag) = with_names op_word.TagDestroy None (any_tag_at tag ∷ [])
+about (op.Map name tag) = with_names op_word.Map (new_map name) (any_tag_at tag ∷ [])
 about (op.MapDestroy map) = with_names op_word.MapDestroy None (map_alone_at map ∷ [])
 about (op.Dmamem name tag flags) = with_names op_word.Dmamem (new_memory name) (tag_at tag ∷ [])
 about (op.DmamemFree mem) = with_names op_word.DmamemFree None (memory_at mem ∷ [])
@@ -128,6 +139,10 @@ about_item (item.SyncRange map off len ops) =
 about_item (item.DevRead map off len) = record { word = item_word.DevRead; uses = map_at map; reads = len; writes = 0 }
 about_item (item.DevWrite map off bs) =
     record { word = item_word.DevWrite; uses = map_at map; reads = 0; writes = length (bytes_of bs) }
+about_item (item.DevReadAt tag addr len) =
+    record { word = item_word.DevReadAt; uses = iommu_tag_at tag; reads = len; writes = 0 }
+about_item (item.DevWriteAt tag addr bs) =
+    record { word = item_word.DevWriteAt; uses = iommu_tag_at tag; reads = 0; writes = length (bytes_of bs) }
 
 -- the items of an operation
 abbrev pub items_of : Op → List Item

@@ -10,6 +10,7 @@ use Rattle.busdma_base.specs.declared.scenarios.words.ItemWord.TheVariants as it
 -- the text of an operation's word
 abbrev pub op_text : OpWord → List ℕ
 op_text op.Tag = codes "tag"
+op_text op.IommuTag = codes "iommu_tag"
 op_text op.TagDestroy = codes "tag_destroy"
 op_text op.Map = codes "map"
 op_text op.MapDestroy = codes "map_destroy"
@@ -29,7 +30,7 @@ op_text op.Await = codes "await"
 -- the words of a script
 abbrev pub op_words : List OpWord
 op_words =
-    op.Tag ∷ op.TagDestroy ∷ op.Map ∷ op.MapDestroy ∷ op.Dmamem ∷ op.DmamemFree ∷ op.Load ∷ op.LoadVector
+    op.Tag ∷ op.IommuTag ∷ op.TagDestroy ∷ op.Map ∷ op.MapDestroy ∷ op.Dmamem ∷ op.DmamemFree ∷ op.Load ∷ op.LoadVector
     ∷ op.LoadMbuf ∷ op.LoadBio ∷ op.Unload ∷ op.Sync ∷ op.SyncRange ∷ op.CpuRead ∷ op.CpuWrite ∷ op.Await ∷ []
 
 -- the word of a script that has this text
@@ -42,10 +43,13 @@ item_text item.Sync = codes "sync"
 item_text item.SyncRange = codes "sync_range"
 item_text item.DevRead = codes "dev_read"
 item_text item.DevWrite = codes "dev_write"
+item_text item.DevReadAt = codes "dev_read_at"
+item_text item.DevWriteAt = codes "dev_write_at"
 
 -- the words of the items of a load
 abbrev pub item_words : List ItemWord
-item_words = item.Sync ∷ item.SyncRange ∷ item.DevRead ∷ item.DevWrite ∷ []
+item_words =
+    item.Sync ∷ item.SyncRange ∷ item.DevRead ∷ item.DevWrite ∷ item.DevReadAt ∷ item.DevWriteAt ∷ []
 
 -- the word of an item that has this text
 abbrev pub item_word_of : List ℕ → Option ItemWord

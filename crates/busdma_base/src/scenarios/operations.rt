@@ -11,6 +11,7 @@ use crate::scenarios::{Buffer, Item, ItemWord, Op, OpWord};
 #[derive(Clone, Copy, Debug, PartialEq, Eq)]
 pub enum NameKind {
     Tag,
+    IommuTag,
     Map,
     /// A dmamem memory, and the map of its own.
     Memory,
@@ -19,7 +20,11 @@ pub enum NameKind {
 /// As what an operation or an item uses a name.
 #[derive(Clone, Copy, Debug, PartialEq, Eq)]
 pub enum NameUse {
+    /// A tag that is no IOMMU tag.
     Tag,
+    IommuTag,
+    /// A tag of either kind.
+    AnyTag,
     /// A map, or that of a memory.
     Map,
     /// A map that is no memory's.
@@ -49,6 +54,8 @@ impl NameUse {
     {
         match self {
             NameUse::Tag => kind == NameKind::Tag,
+            NameUse::IommuTag => kind == NameKind::IommuTag,
+            NameUse::AnyTag => kind == NameKind::Tag || kind == NameKind::IommuTag,
             NameUse::Map => kind == NameKind::Map || kind == NameKind::Memory,
             NameUse::MapAlone => kind == NameKind::Map,
             NameUse::Memory => kind == NameKind::Memory,
@@ -151,6 +158,20 @@ impl ItemAbout {
             },
         }
     }
+
+    /// An item that uses the IOMMU tag that was made at a place.
+    fn of_tag(word: ItemWord, made_at: u32) -> ItemAbout
+        ensures word { result.word ≡ word }
+        ensures uses { result.uses ≡ operations.iommu_tag_at made_at }
+    {
+        ItemAbout {
+            word,
+            uses: UsedName {
+                used_as: NameUse::IommuTag,
+                made_at,
+            },
+        }
+    }
 }
 
 impl Op {
@@ -166,13 +187,16 @@ impl Op {
             Op::Tag { name, parent, .. } => {
                 OpAbout::with_names(OpWord::Tag, made(NameKind::Tag, name), parent_at(*parent))
             }
+            Op::IommuTag { name, .. } => {
+                OpAbout::with_names(OpWord::IommuTag, made(NameKind::IommuTag, name), None)
+            }
             Op::TagDestroy { tag } => {
-                OpAbout::with_names(OpWord::TagDestroy, None, used(NameUse::Tag, *tag))
+                OpAbout::with_names(OpWord::TagDestroy, None, used(NameUse::AnyTag, *tag))
             }
             Op::Map { name, tag } => OpAbout::with_names(
                 OpWord::Map,
                 made(NameKind::Map, name),
-                used(NameUse::Tag, *tag),
+                used(NameUse::AnyTag, *tag),
             ),
             Op::MapDestroy { map } => {
                 OpAbout::with_names(OpWord::MapDestroy, None, used(NameUse::MapAlone, *map))
@@ -280,6 +304,8 @@ impl Item {
             Item::SyncRange { map, .. } => ItemAbout::of_map(ItemWord::SyncRange, *map),
             Item::DevRead { map, .. } => ItemAbout::of_map(ItemWord::DevRead, *map),
             Item::DevWrite { map, .. } => ItemAbout::of_map(ItemWord::DevWrite, *map),
+            Item::DevReadAt { tag, .. } => ItemAbout::of_tag(ItemWord::DevReadAt, *tag),
+            Item::DevWriteAt { tag, .. } => ItemAbout::of_tag(ItemWord::DevWriteAt, *tag),
         }
     }
 

@@ -5,7 +5,7 @@
 
 use crate::Name;
 use crate::scenarios::Buffer;
-use busdma_machine::{ListOf, TagLimits, Va};
+use busdma_machine::{ListOf, SpaceLimits, TagLimits, Va};
 use std::alloc::{AllocError, Global};
 
 /// Where the driver's bytes begin that an operation works on.
@@ -34,6 +34,11 @@ pub enum Op {
         name: Name,
         parent: Option<u32>,
         limits: TagLimits,
+    },
+    /// Makes an IOMMU tag, whose device has an address space of its own.
+    IommuTag {
+        name: Name,
+        limits: SpaceLimits,
     },
     /// Ends a tag.
     TagDestroy {
@@ -97,8 +102,8 @@ pub enum Op {
     },
 }
 
-/// An item of the transfer queue. Offsets and lengths are in bytes of the map's load; ops are a set
-/// of bits.
+/// An item of the transfer queue. Lengths are in bytes; offsets are in bytes of the map's load, and
+/// an `addr` is a device address in the address space of an IOMMU tag; ops are a set of bits.
 #[derive(Debug, Drop)]
 pub enum Item {
     /// A sync of the whole load.
@@ -123,6 +128,18 @@ pub enum Item {
     DevWrite {
         map: u32,
         off: u64,
+        bytes: Bytes,
+    },
+    /// The device of an IOMMU tag reads `len` bytes of its address space, from `addr` on.
+    DevReadAt {
+        tag: u32,
+        addr: u64,
+        len: u64,
+    },
+    /// The device of an IOMMU tag writes bytes into its address space, from `addr` on.
+    DevWriteAt {
+        tag: u32,
+        addr: u64,
         bytes: Bytes,
     },
 }
@@ -183,6 +200,16 @@ impl Clone for Item {
             Item::DevWrite { map, off, bytes } => Ok(Item::DevWrite {
                 map: *map,
                 off: *off,
+                bytes: bytes.clone()?,
+            }),
+            Item::DevReadAt { tag, addr, len } => Ok(Item::DevReadAt {
+                tag: *tag,
+                addr: *addr,
+                len: *len,
+            }),
+            Item::DevWriteAt { tag, addr, bytes } => Ok(Item::DevWriteAt {
+                tag: *tag,
+                addr: *addr,
                 bytes: bytes.clone()?,
             }),
         }

@@ -7,6 +7,7 @@ ghost use Rattle.busdma_base.specs.Scenarios.Words as words;
 #[derive(Clone, Copy, Debug, PartialEq, Eq)]
 pub enum OpWord {
     Tag,
+    IommuTag,
     TagDestroy,
     Map,
     MapDestroy,
@@ -31,10 +32,13 @@ pub enum ItemWord {
     SyncRange,
     DevRead,
     DevWrite,
+    DevReadAt,
+    DevWriteAt,
 }
 
-const OP_WORDS: [OpWord; 16] = [
+const OP_WORDS: [OpWord; 17] = [
     OpWord::Tag,
+    OpWord::IommuTag,
     OpWord::TagDestroy,
     OpWord::Map,
     OpWord::MapDestroy,
@@ -52,11 +56,13 @@ const OP_WORDS: [OpWord; 16] = [
     OpWord::Await,
 ];
 
-const ITEM_WORDS: [ItemWord; 4] = [
+const ITEM_WORDS: [ItemWord; 6] = [
     ItemWord::Sync,
     ItemWord::SyncRange,
     ItemWord::DevRead,
     ItemWord::DevWrite,
+    ItemWord::DevReadAt,
+    ItemWord::DevWriteAt,
 ];
 
 impl OpWord {
@@ -67,6 +73,7 @@ impl OpWord {
     {
         match self {
             OpWord::Tag => "tag",
+            OpWord::IommuTag => "iommu_tag",
             OpWord::TagDestroy => "tag_destroy",
             OpWord::Map => "map",
             OpWord::MapDestroy => "map_destroy",
@@ -104,6 +111,8 @@ impl ItemWord {
             ItemWord::SyncRange => "sync_range",
             ItemWord::DevRead => "dev_read",
             ItemWord::DevWrite => "dev_write",
+            ItemWord::DevReadAt => "dev_read_at",
+            ItemWord::DevWriteAt => "dev_write_at",
         }
     }
 

@@ -1,8 +1,9 @@
 -- The effective tag of a tag's limits and its parent, and the addresses that need a bounce page:
 -- after the arguments of bus_dma_tag_create(9) and the x86 bounce code. The formulas are this project's own.
-use Rattle.std.specs.Prelude.{◌≡◌, ◌≢◌, ◌==◌, ◌&&◌, ◌||◌, ◌+◌, ◌*◌, ◌/◌, ◌%◌, ◌^◌, ◌≤◌, ℕ, Bool, not, nat_lt, nat_le}
+use Rattle.std.specs.Prelude.{◌≡◌, ◌≢◌, ◌==◌, ◌&&◌, ◌||◌, ◌+◌, ◌-◌, ◌*◌, ◌/◌, ◌%◌, ◌^◌, ◌≤◌, ℕ, Bool, not, nat_lt, nat_le}
 use Rattle.std.specs.Prelude.{min, max, Option, Some, None, option_map, if◌then◌else◌}
 use Rattle.std.specs.Int.{IsPowerOfTwo}
+use Rattle.busdma_machine.specs.declared.tags.tag.SpaceLimits.{SpaceLimits}
 use Rattle.busdma_machine.specs.declared.tags.tag.TagLimits.{TagLimits}
 
 -- A number below 2 ^ 64 is a power of two where it divides 2 ^ 64.
@@ -40,6 +41,19 @@ is_accepted t = is_alignment t.alignment && is_boundary t.boundary && not (segme
 -- The limits of a tag without parent, or none where they are refused.
 abbrev pub normal : TagLimits → Option TagLimits
 normal t = if is_accepted t then Some (rounded t) else None
+
+-- The limits of an IOMMU tag: no alignment and no flag, and no address above lowaddr is reached.
+abbrev pub space_limits : SpaceLimits → TagLimits
+space_limits s = record {
+  alignment = 1;
+  boundary = s.boundary;
+  lowaddr = s.lowaddr;
+  highaddr = record { 0 = 2 ^ 64 - 1 };
+  maxsize = s.maxsize;
+  nsegments = s.nsegments;
+  maxsegsz = s.maxsegsz;
+  flags = 0;
+}
 
 -- The smaller of two boundaries, where 0 is none.
 abbrev pub least_boundary : ℕ → ℕ → ℕ

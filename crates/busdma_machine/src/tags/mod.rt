@@ -2,4 +2,4 @@
 
 mod tag;
 
-pub use tag::TagLimits;
+pub use tag::{SpaceLimits, TagLimits};

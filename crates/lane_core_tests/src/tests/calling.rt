@@ -23,6 +23,10 @@ pub enum Call<'a> {
     DevRead(MapId, (u64, u64)),
     /// The device writes bytes from an offset of the load on.
     DevWrite(MapId, u64, &'a [u8]),
+    /// The device of the IOMMU tag of a place reads so many bytes from a device address on.
+    DevReadAt(u32, u64, u64),
+    /// The device of the IOMMU tag of a place writes bytes from a device address on.
+    DevWriteAt(u32, u64, &'a [u8]),
 }
 
 impl Call<'_> {
@@ -34,6 +38,8 @@ impl Call<'_> {
             Call::CpuWrite(place, bytes) => lane.cpu_write(alloc, place, bytes),
             Call::DevRead(map, (off, len)) => lane.dev_read(alloc, map, off, len),
             Call::DevWrite(map, off, bytes) => lane.dev_write(alloc, map, off, bytes),
+            Call::DevReadAt(tag, addr, len) => lane.dev_read_at(alloc, tag, addr, len),
+            Call::DevWriteAt(tag, addr, bytes) => lane.dev_write_at(alloc, tag, addr, bytes),
         }
     }
 }

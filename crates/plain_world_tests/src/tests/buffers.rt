@@ -13,12 +13,6 @@ const PART_LENGTHS: [u64; 8] = [0, 1, 2, 4, 8, 8, 12, 20];
 const FLAGS: [&str; 4] = ["", "", "", r#", "flags": ["NOWAIT"]"#];
 
 impl Draft {
-    /// The name of the map that is loaded next, as it stands in a text.
-    fn map_name(&mut self) -> Result<String, AllocError> {
-        let number = self.generator.below(self.maps);
-        format!(in self.alloc; r#""m{number}""#)
-    }
-
     fn push_len(&mut self) -> Result<(), AllocError> {
         let len = self.generator.number(&LENGTHS);
         write!(self.text, r#", "len": {len}"#)

@@ -9,8 +9,9 @@ const FIRST_PAGE: u64 = 0x10_0000;
 /// Where a load or an access begins in a page.
 const OFFSETS: [u64; 8] = [0, 0, 0, 4, 8, 4080, 4088, 4092];
 
-/// The text of a scenario so far; how many tags, maps and memories the last script has made, each
-/// named by its number; and the frames of its driver's pages, in the order of their addresses.
+/// The text of a scenario so far; how many tags, maps, memories, IOMMU tags and maps of these the last
+/// script has made, each named by its number; and the frames of its driver's pages, in the order of
+/// their addresses.
 #[derive(Drop)]
 pub struct Draft {
     pub alloc: Global,
@@ -19,6 +20,8 @@ pub struct Draft {
     pub tags: u64,
     pub maps: u64,
     pub memories: u64,
+    pub iommu_tags: u64,
+    pub device_maps: u64,
     pub frames: Vec<u64>,
 }
 
@@ -32,6 +35,8 @@ impl Draft {
             tags: 0,
             maps: 0,
             memories: 0,
+            iommu_tags: 0,
+            device_maps: 0,
             frames: Vec::new(alloc),
         }
     }
@@ -41,12 +46,22 @@ impl Draft {
         self.tags = 0;
         self.maps = 0;
         self.memories = 0;
+        self.iommu_tags = 0;
+        self.device_maps = 0;
         self.frames.clear();
     }
 
     /// The virtual address after the driver's pages.
     pub fn end_of_pages(&self) -> u64 {
         (self.frames.len() as u64)
+            .saturating_mul(4096)
+            .saturating_add(FIRST_PAGE)
+    }
+
+    /// The virtual address of one of the driver's pages.
+    pub fn page(&mut self) -> u64 {
+        self.generator
+            .below(self.frames.len() as u64)
             .saturating_mul(4096)
             .saturating_add(FIRST_PAGE)
     }
@@ -63,16 +78,47 @@ impl Draft {
             .saturating_add(offset)
     }
 
-    /// The name of a tag.
+    /// The name of a tag that is no IOMMU tag.
     pub fn push_tag(&mut self) -> Result<(), AllocError> {
         let number = self.generator.below(self.tags);
         write!(self.text, r#""t{number}""#)
     }
 
+    /// The name of an IOMMU tag.
+    pub fn push_iommu_tag(&mut self) -> Result<(), AllocError> {
+        let number = self.generator.below(self.iommu_tags);
+        write!(self.text, r#""u{number}""#)
+    }
+
+    /// The name of a tag, in few cases of an IOMMU tag.
+    pub fn push_any_tag(&mut self) -> Result<(), AllocError> {
+        if self.iommu_tags > 0 && self.generator.one_in(4) {
+            self.push_iommu_tag()
+        } else {
+            self.push_tag()
+        }
+    }
+
+    /// The name of a map of an IOMMU tag, as it stands in a text.
+    pub fn device_map_name(&mut self) -> Result<String, AllocError> {
+        let number = self.generator.below(self.device_maps);
+        format!(in self.alloc; r#""d{number}""#)
+    }
+
+    /// The name of a map that is no memory's, as it stands in a text; in few cases of one of an IOMMU
+    /// tag.
+    pub fn map_name(&mut self) -> Result<String, AllocError> {
+        if self.device_maps > 0 && self.generator.one_in(6) {
+            return self.device_map_name();
+        }
+        let number = self.generator.below(self.maps);
+        format!(in self.alloc; r#""m{number}""#)
+    }
+
     /// The name of a map that is no memory's.
     pub fn push_map(&mut self) -> Result<(), AllocError> {
-        let number = self.generator.below(self.maps);
-        write!(self.text, r#""m{number}""#)
+        let map = self.map_name()?;
+        self.text.push_str(map.as_str())
     }
 
     /// The name of a memory.

@@ -106,9 +106,10 @@ impl Draft {
     }
 
     fn push_any_item(&mut self, map: &str) -> Result<(), AllocError> {
-        match self.generator.below(4) {
+        match self.generator.below(5) {
             0 => self.push_dev_read(map),
             1 => self.push_dev_write(map),
+            2 if self.iommu_tags > 0 => self.push_any_raw_access(),
             _ => self.push_any_sync(map),
         }
     }

@@ -51,7 +51,7 @@ impl Draft {
 
     fn push_tag_destroyed(&mut self) -> Result<(), AllocError> {
         self.text.push_str(r#"{"op": "tag_destroy", "tag": "#)?;
-        self.push_tag()?;
+        self.push_any_tag()?;
         self.text.push_str("}")
     }
 
@@ -92,7 +92,7 @@ impl Draft {
     }
 
     fn push_operation(&mut self) -> Result<(), AllocError> {
-        match self.generator.below(48) {
+        match self.generator.below(56) {
             0..=1 => self.push_tag_made(),
             2..=4 => self.push_map_made(),
             5 => self.push_tag_destroyed(),
@@ -104,16 +104,20 @@ impl Draft {
             33..=35 => self.push_cpu_read(),
             36..=38 => self.push_map_op("await"),
             39..=41 => self.push_memory_op(),
+            42..=49 if self.iommu_tags > 0 => self.push_device_op(),
             _ => self.push_round(),
         }
     }
 
-    /// A script: a tag, some maps, and what is drawn.
+    /// A script: a tag, some maps, in some cases an IOMMU tag with its maps, and what is drawn.
     pub fn push_script(&mut self) -> Result<(), AllocError> {
         self.push_tag_made()?;
         for _ in 0..self.generator.up_to(3) {
             self.text.push_str(", ")?;
             self.push_map_made()?;
+        }
+        if self.generator.one_in(3) {
+            self.push_devices()?;
         }
         for _ in 0..self.generator.up_to(20) {
             self.text.push_str(",\n  ")?;

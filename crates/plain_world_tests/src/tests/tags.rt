@@ -62,7 +62,41 @@ const LIMITS: [Limit; 8] = [
     },
 ];
 
-/// Limits that no tag can have, and last one with which no byte can be loaded.
+/// The limits of an IOMMU tag. Its device reaches one page, five or fifteen but for page 0.
+const SPACE_LIMITS: [Limit; 5] = [
+    Limit {
+        name: "lowaddr",
+        values: [
+            "",
+            r#""0x1fff""#,
+            r#""0x5fff""#,
+            r#""0x5fff""#,
+            r#""0x5fff""#,
+            r#""0xffff""#,
+            r#""0xffff""#,
+            r#""0xffffffffffffffff""#,
+        ],
+    },
+    Limit {
+        name: "boundary",
+        values: ["", "", "", "", "", "8192", "8192", "8192"],
+    },
+    Limit {
+        name: "maxsize",
+        values: ["", "", "", "", "", "", "40", "8192"],
+    },
+    Limit {
+        name: "nsegments",
+        values: ["", "", "", "", "1", "1", "1", "2"],
+    },
+    Limit {
+        name: "maxsegsz",
+        values: ["", "", "", "", "", "12", "512", "5000"],
+    },
+];
+
+/// Limits that no tag can have, and last one with which no byte can be loaded. An IOMMU tag has all
+/// but the first.
 const WRONG: [&str; 4] = [
     r#""alignment": 3"#,
     r#""boundary": 3"#,
@@ -83,14 +117,28 @@ impl Draft {
             let wrong = self.generator.text(&WRONG);
             write!(self.text, ", {wrong}")?;
         } else {
-            self.push_limits()?;
+            self.push_limits(&LIMITS)?;
         }
         self.tags = self.tags.saturating_add(1);
         self.text.push_str("}")
     }
 
-    fn push_limits(&mut self) -> Result<(), AllocError> {
-        for limit in &LIMITS {
+    /// An IOMMU tag, in few cases with limits that no tag can have.
+    pub fn push_iommu_tag_made(&mut self) -> Result<(), AllocError> {
+        let number = self.iommu_tags;
+        write!(self.text, r#"{{"op": "iommu_tag", "name": "u{number}""#)?;
+        if self.generator.one_in(8) {
+            let wrong = self.generator.text(&WRONG[1..]);
+            write!(self.text, ", {wrong}")?;
+        } else {
+            self.push_limits(&SPACE_LIMITS)?;
+        }
+        self.iommu_tags = self.iommu_tags.saturating_add(1);
+        self.text.push_str("}")
+    }
+
+    fn push_limits(&mut self, limits: &[Limit]) -> Result<(), AllocError> {
+        for limit in limits {
             let value = self.generator.text(&limit.values);
             if !value.is_empty() {
                 let name = limit.name;

@@ -239,6 +239,49 @@ const MEMORY_THAT_LENDS_REPORT: &str = r#"0 s0 tag g -> ok
 end finished, 12 entries, 5 reports
 "#;
 
+const RUNS_OF_AN_IOMMU_TAG: &str = r#"{"frames": [["0x10", 8], ["0x1000", 16]],
+ "drivers": [
+  {"pages": [["0x100000", "0x1000", 2]], "script": [
+    {"op": "iommu_tag", "name": "u", "lowaddr": "0x5fff"},
+    {"op": "map", "name": "a", "tag": "u"},
+    {"op": "map", "name": "b", "tag": "u"},
+    {"op": "cpu_write", "va": "0x100ffc", "hex": "01020304"},
+    {"op": "cpu_write", "va": "0x100000", "hex": "05060708"},
+    {"op": "load", "map": "a", "va": "0x100ff0", "len": 16, "then": [
+      {"op": "sync", "map": "a", "ops": ["PREWRITE"]}]},
+    {"op": "load", "map": "b", "va": "0x100000", "len": 8, "then": [
+      {"op": "sync", "map": "b", "ops": ["PREWRITE"]},
+      {"op": "dev_read_at", "tag": "u", "addr": "0x1ffc", "len": 8},
+      {"op": "dev_read_at", "tag": "u", "addr": "0x2004", "len": 8},
+      {"op": "dev_write_at", "tag": "u", "addr": "0x2000", "hex": "ff"}]},
+    {"op": "cpu_read", "va": "0x100000", "len": 2},
+    {"op": "unload", "map": "a"},
+    {"op": "load", "map": "a", "va": "0x100ff8", "len": 16, "then": [
+      {"op": "dev_read_at", "tag": "u", "addr": "0x2000", "len": 1}]},
+    {"op": "unload", "map": "b"},
+    {"op": "tag_destroy", "tag": "u"}]}]}"#;
+
+const RUNS_OF_AN_IOMMU_TAG_REPORT: &str = r#"0 s0 iommu_tag u -> ok
+1 s0 map a -> ok
+2 s0 map b -> ok
+3 s0 cpu_write -> ok
+4 s0 cpu_write -> ok
+5 s0 load a -> ok 0x1ff0+16
+6 d0 sync a -> ok
+7 s0 load b -> ok 0x2000+8
+8 d0 sync b -> ok
+9 s0 cpu_read -> bytes 0506
+10 d0 dev_read_at u -> bytes 0102030405060708
+11 s0 unload a -> ok
+12 d0 dev_read_at u -> report DeviceReadUnlent 4
+13 s0 load a -> ok 0x3ff8+16
+14 d0 dev_write_at u -> report DeviceWriteUnlent 0
+15 s0 unload b -> ok
+16 d0 dev_read_at u -> report Untranslated 0
+17 s0 tag_destroy u -> EBUSY
+end finished, 18 entries, 3 reports
+"#;
+
 #[test]
 fn worked(rt: HostRuntime) -> Result<(), Fail> {
     let table = [
@@ -246,6 +289,7 @@ fn worked(rt: HostRuntime) -> Result<(), Fail> {
         (STUCK_BESIDE_AN_END, STUCK_BESIDE_AN_END_REPORT),
         (COHERENT_MEMORY, COHERENT_MEMORY_REPORT),
         (MEMORY_THAT_LENDS, MEMORY_THAT_LENDS_REPORT),
+        (RUNS_OF_AN_IOMMU_TAG, RUNS_OF_AN_IOMMU_TAG_REPORT),
     ];
     for (text, want) in table.iter() {
         let scenario = read(&rt, rt.alloc(), text)?;

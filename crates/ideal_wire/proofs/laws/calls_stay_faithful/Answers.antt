@@ -1,4 +1,5 @@
 use Rattle.ideal_wire.proofs.Calls.{sync-faithful, sync_range-faithful, cpu_write-faithful, dev_write-faithful}
+use Rattle.ideal_wire.proofs.Calls.{dev_write_at-faithful}
 use Rattle.ideal_wire.proofs.laws.calls_stay_faithful.Goals as goal
 
 pub returns-clause-sync : goal.returns-clause-sync
@@ -12,3 +13,8 @@ returns-clause-cpu_write c = λ l w place vs r apart laid f. cpu_write-faithful 
 
 pub returns-clause-dev_write : goal.returns-clause-dev_write
 returns-clause-dev_write c = λ l w m off vs r apart laid f. dev_write-faithful l w apart laid f m off vs r
+
+pub returns-clause-dev_write_at : goal.returns-clause-dev_write_at
+returns-clause-dev_write_at c = λ l w t addr vs r apart stands laid spaced mapped f.
+    dev_write_at-faithful l w apart laid f
+    (record { stands = stands; laid = laid; spaced = spaced; mapped = mapped }) t addr vs r

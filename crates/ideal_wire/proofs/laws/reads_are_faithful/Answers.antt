@@ -1,5 +1,5 @@
 use Rattle.ideal_wire.proofs.Frames.{agreeing-apart}
-use Rattle.ideal_wire.proofs.Wiring.{cpu_read-reads, dev_read-reads}
+use Rattle.ideal_wire.proofs.Wiring.{cpu_read-reads, dev_read-reads, dev_read_at-reads}
 use Rattle.ideal_wire.proofs.laws.reads_are_faithful.Goals as goal
 
 pub returns-clause-cpu : goal.returns-clause-cpu
@@ -9,3 +9,8 @@ returns-clause-cpu c = λ l a w place len stands agrees laid f.
 pub returns-clause-dev : goal.returns-clause-dev
 returns-clause-dev c = λ l a w m off len stands agrees laid f.
     dev_read-reads l w (agreeing-apart l a agrees stands laid) laid f m off len
+
+pub returns-clause-dev_at : goal.returns-clause-dev_at
+returns-clause-dev_at c = λ l a w t addr len stands agrees laid spaced mapped f.
+    dev_read_at-reads l w (agreeing-apart l a agrees stands laid) laid f
+    (record { stands = stands; laid = laid; spaced = spaced; mapped = mapped }) t addr len

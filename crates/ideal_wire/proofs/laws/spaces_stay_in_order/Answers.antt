@@ -5,4 +5,4 @@ pub returns-clause-opens : goal.returns-clause-opens
 returns-clause-opens c = opens-spaced
 
 pub returns-clause-stays : goal.returns-clause-stays
-returns-clause-stays c = λ l s r laid machine spaced. turn-spaced l laid machine spaced s r
+returns-clause-stays c = λ l s r stands laid machine spaced. turn-spaced l stands laid machine spaced s r

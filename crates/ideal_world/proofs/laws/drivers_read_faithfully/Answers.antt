@@ -1,5 +1,5 @@
 use Rattle.ideal_wire.proofs.Frames.{agreeing-apart}
-use Rattle.ideal_wire.proofs.Wiring.{cpu_read-reads, dev_read-reads}
+use Rattle.ideal_wire.proofs.Wiring.{cpu_read-reads, dev_read-reads, dev_read_at-reads}
 use Rattle.ideal_world.proofs.laws.drivers_read_faithfully.Goals as goal
 
 pub returns-clause-cpu : goal.returns-clause-cpu
@@ -13,3 +13,9 @@ returns-clause-dev c = λ s w wires i l m off len well faithful there.
     let d = well.each i l there in
     dev_read-reads l (wires i) (agreeing-apart l w.account d.agrees d.stands d.laid) d.laid (faithful i l there)
     m off len
+
+pub returns-clause-dev_at : goal.returns-clause-dev_at
+returns-clause-dev_at c = λ s w wires i l t addr len well faithful there.
+    let d = well.each i l there in
+    dev_read_at-reads l (wires i) (agreeing-apart l w.account d.agrees d.stands d.laid) d.laid (faithful i l there)
+    (record { stands = d.stands; laid = d.laid; spaced = d.spaced; mapped = d.mapped }) t addr len

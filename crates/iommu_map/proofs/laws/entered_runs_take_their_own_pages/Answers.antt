@@ -16,7 +16,7 @@ returns-clause-others_live c s frames first r h = put-others (record { first = f
 pub returns-clause-own : goal.returns-clause-own
 returns-clause-own c s frames first p h some e has =
     frame-own 1 s.pages (length frames) p (record { first = first; frames = frames }) s.runs h.runs some
-    (taken-gap s (length frames) first h some e) has
+    (taken-gap s (length frames) first h.runs some e) has
 
 pub returns-clause-others : goal.returns-clause-others
 returns-clause-others c s frames first p off =
@@ -26,4 +26,4 @@ pub returns-clause-back : goal.returns-clause-back
 returns-clause-back c s frames first h some e =
     ap (λ rs. record s { runs = rs })
     (left-entered 1 s.pages (length frames) (record { first = first; frames = frames }) s.runs h.runs some
-    (taken-gap s (length frames) first h some e))
+    (taken-gap s (length frames) first h.runs some e))

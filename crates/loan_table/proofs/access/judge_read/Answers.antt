@@ -10,7 +10,7 @@ use Rattle.loan_table.proofs.access.judge_read.Goals as goal
 
 pub loop-at-init : goal.loop-at-init
 loop-at-init c =
-    let refusal = dev_read_refusal (is_marked c.args.bytes.now.bytes) c.args.row.now.coherent in
+    let refusal = dev_read_refusal (is_marked c.args.bytes.now.bytes) c.args.coherent in
     let start : c.args.off - c.args.off ≡ 0 = omega arith in
     record {
       judged_so_far = ap (λ k. judged refusal k
@@ -23,15 +23,14 @@ loop-at-init c =
 
 pub returns-in-Some : goal.returns-in-Some
 returns-in-Some c =
-    let refusal = dev_read_refusal (is_marked c.args.bytes.now.bytes) c.args.row.now.coherent in
+    let refusal = dev_read_refusal (is_marked c.args.bytes.now.bytes) c.args.coherent in
     let piece = c.piece-piece.result in
     let rest = stretch (c.loop-at.at + piece.len) (c.end_of-end.result - (c.loop-at.at + piece.len))
     c.args.row.now.positions in
     let at : ℕ = c.loop-at.at - c.args.off in
     sym (first_refused refusal (lent_as piece.first) at piece.first.pa piece.len rest c.in-Some.name
     c.piece-piece.ensures.some
-    (ap (λ b. dev_read_refusal (is_marked c.args.bytes.now.bytes) b piece.first) (sym c.is_coherent.ensures)
-    ∙ sym c.dev_read_refusal.ensures ∙ c.in-Some.is))
+    (sym c.dev_read_refusal.ensures ∙ c.in-Some.is))
     ∙ sym (ap (judged refusal at) c.piece-piece.ensures.is)
     ∙ c.loop-at.invariant.judged_so_far
 
@@ -39,7 +38,7 @@ pub loop-at-preserved : goal.loop-at-preserved
 loop-at-preserved c =
     let known = is_marked c.args.bytes.now.bytes in
     let row = c.args.row.now in
-    let refusal = dev_read_refusal known row.coherent in
+    let refusal = dev_read_refusal known c.args.coherent in
     let piece = c.piece-piece.result in
     let first = piece.first in
     let m : ℕ = c.turn.result - first.pa in
@@ -47,8 +46,7 @@ loop-at-preserved c =
     let rest = stretch (c.loop-at.at + m) (end - (c.loop-at.at + m)) row.positions in
     let at : ℕ = c.loop-at.at - c.args.off in
     let passed : refusal (lent_as first first.pa) ≡ None =
-    ap (λ b. dev_read_refusal known b first) (sym c.is_coherent.ensures)
-    ∙ sym c.dev_read_refusal.ensures ∙ c.in_default.is in
+    sym c.dev_read_refusal.ensures ∙ c.in_default.is in
     let on : at + m ≡ c.loop-at.at + m - c.args.off = omega (arith, c.loop-at.invariant.from) in
     record {
       judged_so_far =
@@ -56,7 +54,7 @@ loop-at-preserved c =
           ∙ sym (ap (judged refusal at) (shorter c.loop-at.at end piece.len m first row.positions
           c.piece-piece.ensures.is (omega (arith, c.turn.ensures.to)) c.piece-piece.ensures.within)
           ∙ none_refused refusal (lent_as first) at first.pa m rest
-          (λ a from to. same_for_device Read known row.coherent first a first.pa
+          (λ a from to. same_for_device Read known c.args.coherent first a first.pa
           (c.turn.ensures.same a from (omega arith)) ∙ passed))
           ∙ c.loop-at.invariant.judged_so_far;
       from = omega arith;
@@ -65,7 +63,7 @@ loop-at-preserved c =
 
 pub returns : goal.returns
 returns c =
-    let refusal = dev_read_refusal (is_marked c.args.bytes.now.bytes) c.args.row.now.coherent in
+    let refusal = dev_read_refusal (is_marked c.args.bytes.now.bytes) c.args.coherent in
     sym (ap (judged refusal (c.loop-at.at - c.args.off))
     (nothing c.loop-at.at c.end_of-end.result c.args.row.now.positions (omega arith)))
     ∙ c.loop-at.invariant.judged_so_far

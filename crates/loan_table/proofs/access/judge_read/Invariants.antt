@@ -7,9 +7,9 @@ use Rattle.loan_table.proofs.access.judge_read.Given as goal
 
 abbrev pub invariant-loop-at : goal.invariant-loop-at
 invariant-loop-at l = record {
-  judged_so_far : judged (dev_read_refusal (is_marked l.bytes.bytes) l.row.coherent) (l.at - l.off)
+  judged_so_far : judged (dev_read_refusal (is_marked l.bytes.bytes) l.coherent) (l.at - l.off)
       (stretch l.at (l.end - l.at) l.row.positions)
-      ≡ judged (dev_read_refusal (is_marked l.bytes.bytes) l.row.coherent) 0
+      ≡ judged (dev_read_refusal (is_marked l.bytes.bytes) l.coherent) 0
       (stretch l.off l.len l.row.positions);
   from : l.off ≤ l.at;
   to : l.at ≤ l.end;

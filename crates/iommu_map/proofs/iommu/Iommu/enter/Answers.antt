@@ -11,7 +11,7 @@ returns-then-self-gap-clause-first c =
     let at : c.gap-gap.result.first ≡ gap 1 k s.runs =
     c.gap-gap.ensures.first ∙ ap (λ (x : Space). gap 1 k x.runs) (sym c.self.view_is) in
     sym (ap (λ x. first_free x k) (sym c.self.view_is)
-    ∙ free-none s k c.self.invariant (omega (arith, c.requires.some)) (omega (arith, at)))
+    ∙ free-none s k c.self.invariant.runs (omega (arith, c.requires.some)) (omega (arith, at)))
 
 pub invariant_of-self-2 : goal.invariant_of-self-2
 invariant_of-self-2 c =
@@ -45,4 +45,4 @@ returns-clause-first c =
     c.gap-gap.ensures.first ∙ ap (λ (x : Space). gap 1 k x.runs) (sym c.self.view_is) in
     ap (λ x. Some x) at
     ∙ sym (ap (λ x. first_free x k) (sym c.self.view_is)
-    ∙ free-is s k c.self.invariant (omega (arith, c.requires.some)) (omega (arith, at)))
+    ∙ free-is s k c.self.invariant.runs (omega (arith, c.requires.some)) (omega (arith, at)))

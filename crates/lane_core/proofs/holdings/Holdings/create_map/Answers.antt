@@ -6,11 +6,9 @@ use Rattle.busdma_base.specs.declared.journals.answer.Answer.TheVariants.{Grown}
 use Rattle.busdma_machine.specs.declared.name.MapId.{MapId}
 use Rattle.busdma_machine.specs.declared.tags.tag.TagLimits.{TagLimits}
 use Rattle.busdma_machine.specs.Bounce.Door.{Allows, Holds}
-use Rattle.busdma_machine.specs.Tags.Tag.{could_bounce}
-use Rattle.ideal_lane.specs.Maps.{created, map, with_map}
+use Rattle.ideal_lane.specs.Maps.{bounces, created, map, with_map}
 use Rattle.ideal_lane.specs.State.{LaneState, named}
 use Rattle.ideal_lane.specs.Tags.{with_tag}
-use Rattle.lane_core.specs.declared.kept.KeptTag.{KeptTag}
 use Rattle.lane_core.specs.Held.{devices_of, held}
 use Rattle.lane_core.specs.Ideal.{given, ideal_of}
 use Rattle.lane_core.specs.Kept.{map_of, tag_of}
@@ -18,6 +16,7 @@ use Rattle.lane_core.specs.MapValues.{map_values}
 use Rattle.lane_core.proofs.Doors.{allowed-asks, done-asks}
 use Rattle.lane_core.proofs.MapSteps.{map-created}
 use Rattle.lane_core.proofs.MapValues.{image-some}
+use Rattle.lane_core.proofs.Spaces.{bounces-unspaced}
 use Rattle.lane_core.proofs.holdings.Holdings.create_map.Goals as goal
 
 pub create_map-requires : goal.create_map-requires
@@ -26,9 +25,9 @@ create_map-requires g c =
     let l = ideal_of h in
     let t = c.in-Some.kept.now in
     let d = g.D.HubDoor.seen c.args.door.now in
-    let could : Some (could_bounce t.tag h.maxmem) ≡ Some true =
-    ap (option_map (λ (t : KeptTag). could_bounce t.tag h.maxmem)) c.in-Some.ensures ∙ c.requires.bounces in
-    let on : could_bounce t.tag h.maxmem ≡ true = cc in
+    let could : Some (bounces h.maxmem (tag_of t)) ≡ Some true =
+    ap (option_map (λ t. bounces h.maxmem (tag_of t))) c.in-Some.ensures ∙ c.requires.bounces in
+    let on : bounces h.maxmem (tag_of t) ≡ true = cc in
     let id : c.map_id-id.result ≡ named l l.place =
     c.map_id-id.ensures ∙ (λ i. record { lane = h.id; made_at = c.place.ensures i }) in
     subst (λ (m : MapId). Allows d m.lane.0 (CreateMap m c.limits.result.now t.first_done)) (sym id)
@@ -46,9 +45,9 @@ returns-clause-done g c =
     let d = g.D.HubDoor.seen c.args.door.now in
     let e = g.D.HubDoor.seen c.create_map.new.self in
     let r = c.in_ok-grown.grown in
-    let could : Some (could_bounce t.tag h.maxmem) ≡ Some true =
-    ap (option_map (λ (t : KeptTag). could_bounce t.tag h.maxmem)) c.in-Some.ensures ∙ c.requires.bounces in
-    let on : could_bounce t.tag h.maxmem ≡ true = cc in
+    let could : Some (bounces h.maxmem (tag_of t)) ≡ Some true =
+    ap (option_map (λ t. bounces h.maxmem (tag_of t))) c.in-Some.ensures ∙ c.requires.bounces in
+    let on : bounces h.maxmem (tag_of t) ≡ true = cc in
     let id : c.map_id-id.result ≡ named l l.place =
     c.map_id-id.ensures ∙ (λ i. record { lane = h.id; made_at = c.place.ensures i }) in
     let kept = c.in_ok-reserve.ensures.kept in
@@ -70,7 +69,7 @@ returns-clause-done g c =
           (subst (λ (x : TagLimits). Holds d c.map_id-id.result.lane.0
           (CreateMap c.map_id-id.result x t.first_done) (reply.Grown r) e) c.limits.ensures.limits
           c.in_ok-grown.ensures.held);
-      is = ap (λ x. record { lane = x; answer = Grown r }) (c.keep_created.ensures.done t (sym c.in-Some.ensures)
+      is = ap (λ x. record { lane = x; answer = Grown r }) (c.keep_created.ensures.done t (sym c.in-Some.ensures) (bounces-unspaced h.maxmem t on)
           ∙ ap (λ x. if r.made then with_tag c.args.tag t.tag true (with_map c.args.tag (Some r.zone.0) x) else x)
           roomy);
     })

@@ -1,15 +1,16 @@
-use Rattle.std.proofs.Common.{refl, ◌≡◌, Some, ap, sym, ◌∙◌, subst}
+use Rattle.std.proofs.Common.{◌≡◌, Some, ap, sym, ◌∙◌, subst}
 use Rattle.std.specs.FinMap.{get}
 use Rattle.busdma_base.specs.declared.journals.answer.Answer.TheVariants.{Done}
 use Rattle.ideal_lane.specs.Asking.{Gives}
 use Rattle.ideal_lane.specs.Outcomes.{gives}
 use Rattle.lane_core.specs.Ideal.{given, ideal_of}
-use Rattle.lane_core.specs.Kept.{tag_of}
+use Rattle.lane_core.specs.Kept.{spaces_of, tag_of}
 use Rattle.lane_core.specs.MapValues.{map_values}
 use Rattle.lane_core.proofs.Keeping.{on-some}
 use Rattle.lane_core.proofs.MapValues.{image-none, image-some, map_values-remove}
 use Rattle.lane_core.proofs.TagSteps.{destroy-absent, destroy-busy, destroy-done}
 use Rattle.lane_core.proofs.Awaiting.{awaiting-untagged, none-tagged}
+use Rattle.lane_core.proofs.Spaces.{spaces-cut}
 use Rattle.lane_core.specs.Awaiting.{AreAwaiting}
 use Rattle.lane_core.proofs.holdings.Holdings.destroy_tag.Goals as goal
 
@@ -34,8 +35,9 @@ returns-clause-done c =
     let taken = on-some c.take.result c.in-Some.field-0.now (c.take.ensures.value ∙ there) c.take.ensures.taken in
     (λ i. gives (record l {
       tags = (ap (λ t. map_values tag_of t.map) taken ∙ map_values-remove tag_of h.tags.map c.args.tag) i;
+      spaces = (ap (λ t. spaces_of t.map) taken ∙ spaces-cut h.tags.map c.args.tag) i;
     }) Done)
-    ∙ sym (destroy-done l c.args.tag (tag_of c.in-Some.field-0.now) refl
+    ∙ sym (destroy-done l c.args.tag (tag_of c.in-Some.field-0.now)
     (image-some tag_of h.tags.map c.args.tag c.in-Some.field-0.now there)
     (sym c.has_maps.ensures ∙ c.if-has_maps.false))
 

@@ -1,18 +1,25 @@
-use Rattle.std.proofs.Common.{◌≡◌, Some, refl, ap, sym, ◌∙◌, subst}
+use Rattle.std.proofs.Common.{◌≡◌, false, map, Some, refl, ap, sym, ◌∙◌, subst}
 use Rattle.std.specs.FinMap.{get, insert}
 use Rattle.busdma_base.specs.declared.journals.answer.Answer.TheVariants as answer
 use Rattle.busdma_machine.specs.declared.name.MapId.{MapId}
 use Rattle.loan_table.specs.Access.{dev_read_answer}
-use Rattle.loan_table.specs.Loans.{loan_of}
-use Rattle.loan_table.specs.Table.{is_known}
+use Rattle.busdma_machine.specs.Runs.{addresses}
+use Rattle.loan_table.specs.Loans.{load_bytes, loan_of}
+use Rattle.loan_table.specs.Table.{AreIn, is_known}
+use Rattle.phys_memory.specs.Frames.{Lie}
+use Rattle.phys_memory.specs.Memory.{wire}
 use Rattle.ideal_lane.specs.Outcomes.{gives}
+use Rattle.ideal_wire.specs.Laid.{is_behind}
 use Rattle.lane_core.specs.declared.kept.KeptMap.{KeptMap}
 use Rattle.lane_core.specs.Covered.{has_load}
 use Rattle.lane_core.specs.Ideal.{ideal_of}
 use Rattle.lane_core.specs.Kept.{map_of}
-use Rattle.lane_core.proofs.DeviceReads.{dev_read-done, dev_read-past, dev_read-reads, dev_read-refused, load-there}
+use Rattle.lane_core.specs.Wire.{wire_of}
+use Rattle.lane_core.proofs.DeviceReads.{dev_read-by, dev_read-done, dev_read-past, dev_read-reads, dev_read-refused, load-there}
 use Rattle.lane_core.proofs.Devices.{is-reached}
 use Rattle.lane_core.proofs.MapValues.{image-some}
+use Rattle.lane_core.proofs.OwnExtents.{lie-inside, own-reads}
+use Rattle.lane_core.proofs.Unbounced.{is-behind, not-behind, own-buses}
 use Rattle.lane_core.proofs.PutBack.{are-back, ideal-back, pages-back, put-same, wire-back}
 use Rattle.lane_core.specs.Awaiting.{AreAwaiting}
 use Rattle.lane_core.proofs.holdings.Holdings.dev_read.Goals as goal
@@ -38,8 +45,10 @@ read_load-bytes-requires c =
     let h = c.args.self.now in
     let o : KeptMap = c.in-Some-get_mut.kept.now in
     let there : get h.maps.map c.args.map ≡ Some o = sym c.in-Some-get_mut.ensures.value in
+    let plain : is_behind (ideal_of h) c.args.map ≡ false =
+    not-behind h c.args.map o there c.is_device.result c.is_device.ensures c.if-is_device.false in
     let on = sym (ap has_load there) ∙ c.in_default.ensures.loaded in
-    is-reached h c.requires c.args.map o there on c.args.off c.args.len c.in_default-past_end.ensures.range
+    is-reached h c.requires.wired c.args.map o there on plain c.args.off c.args.len c.in_default-past_end.ensures.range
 
 pub invariant_of-self-2 : goal.invariant_of-self-2
 invariant_of-self-2 c =
@@ -72,10 +81,12 @@ returns-clause-done c =
     let h = c.args.self.now in
     let o : KeptMap = c.in-Some-get_mut.kept.now in
     let there : get h.maps.map c.args.map ≡ Some o = sym c.in-Some-get_mut.ensures.value in
+    let plain : is_behind (ideal_of h) c.args.map ≡ false =
+    not-behind h c.args.map o there c.is_device.result c.is_device.ensures c.if-is_device.false in
     let maps = put-same h.maps.map c.args.map o c.read_load-bytes.new.map there c.read_load-bytes.ensures.kept in
     ap (λ s. gives s (answer.Bytes c.in_ok-bytes.field-0)) (ideal-back h (insert h.maps.map c.args.map (record o { map = c.read_load-bytes.new.map })) maps)
     ∙ dev_read-done h c.args.map c.args.off c.args.len c.in_default.ensures.loaded
-    c.in_default-past_end.ensures.range c.requires o there
+    c.in_default-past_end.ensures.range c.requires.wired o there plain
     (sym c.in_default-may_dev_read.is ∙ c.may_dev_read.ensures
     ∙ ap (λ (m : MapId). dev_read_answer (is_known h.loans) (loan_of h.loans.loans m.made_at) c.args.off c.args.len)
     c.map_id-id.ensures)
@@ -86,8 +97,10 @@ returns-clause-read c =
     let h = c.args.self.now in
     let o : KeptMap = c.in-Some-get_mut.kept.now in
     let there : get h.maps.map c.args.map ≡ Some o = sym c.in-Some-get_mut.ensures.value in
+    let plain : is_behind (ideal_of h) c.args.map ≡ false =
+    not-behind h c.args.map o there c.is_device.result c.is_device.ensures c.if-is_device.false in
     dev_read-reads h c.args.map c.args.off c.args.len c.in_default.ensures.loaded
-    c.in_default-past_end.ensures.range c.requires o there
+    c.in_default-past_end.ensures.range c.requires.wired o there plain
     (sym c.in_default-may_dev_read.is ∙ c.may_dev_read.ensures
     ∙ ap (λ (m : MapId). dev_read_answer (is_known h.loans) (loan_of h.loans.loans m.made_at) c.args.off c.args.len)
     c.map_id-id.ensures)
@@ -130,3 +143,42 @@ returns-in_err-bytes-clause-kept c =
       ideal = ideal-back h (insert h.maps.map c.args.map (record o { map = c.read_load-bytes.new.map })) maps;
       bytes = record { own = refl; pages = pages-back h (insert h.maps.map c.args.map (record o { map = c.read_load-bytes.new.map })) maps };
     }
+
+pub read_parts-requires-clause-lie : goal.read_parts-requires-clause-lie
+read_parts-requires-clause-lie c =
+    let h = c.args.self.now in
+    subst (Lie h.memory.memory) (sym c.as_slice.ensures.value)
+    (lie-inside h c.requires.wired c.in_ok-parts.parts.items c.in_ok-parts.ensures.in_frames
+    (subst (AreIn h.loans.bytes) (sym c.in_ok-parts.ensures.bytes) c.in_default-past_end.ensures.inside))
+
+pub returns-then-is_device-clause-read : goal.returns-then-is_device-clause-read
+returns-then-is_device-clause-read c =
+    let h = c.args.self.now in
+    let x = load-there (get h.maps.map c.args.map) c.in_default.ensures.loaded in
+    let device = is-behind h c.args.map x.0 x.1 c.is_device.result c.is_device.ensures c.if-is_device.true in
+    c.in_ok-read_parts.ensures
+    ∙ ap (λ es. map (wire h.memory.memory) (addresses es)) c.as_slice.ensures.value
+    ∙ ap (map (wire h.memory.memory)) c.in_ok-parts.ensures.bytes
+    ∙ own-reads h c.requires.wired (load_bytes h.loans.loans c.args.map c.args.off c.args.len)
+    c.in_default-past_end.ensures.inside
+    ∙ ap (map (wire_of h)) (sym (own-buses h c.requires.wired c.requires.stands c.args.map x.0 x.1 x.2 device
+    c.args.off c.args.len))
+
+pub returns-then-is_device-clause-done : goal.returns-then-is_device-clause-done
+returns-then-is_device-clause-done c =
+    let h = c.args.self.now in
+    let x = load-there (get h.maps.map c.args.map) c.in_default.ensures.loaded in
+    let device = is-behind h c.args.map x.0 x.1 c.is_device.result c.is_device.ensures c.if-is_device.true in
+    dev_read-by h c.args.map c.args.off c.args.len c.in_default.ensures.loaded
+    c.in_default-past_end.ensures.range c.requires.wired
+    (sym c.in_default-may_dev_read.is ∙ c.may_dev_read.ensures
+    ∙ ap (λ (m : MapId). dev_read_answer (is_known h.loans) (loan_of h.loans.loans m.made_at) c.args.off c.args.len)
+    c.map_id-id.ensures)
+    c.in_ok-read_parts.field-0
+    (c.in_ok-read_parts.ensures
+    ∙ ap (λ es. map (wire h.memory.memory) (addresses es)) c.as_slice.ensures.value
+    ∙ ap (map (wire h.memory.memory)) c.in_ok-parts.ensures.bytes
+    ∙ own-reads h c.requires.wired (load_bytes h.loans.loans c.args.map c.args.off c.args.len)
+    c.in_default-past_end.ensures.inside
+    ∙ ap (map (wire_of h)) (sym (own-buses h c.requires.wired c.requires.stands c.args.map x.0 x.1 x.2 device
+    c.args.off c.args.len)))

@@ -8,11 +8,12 @@ use Rattle.ideal_lane.specs.Loads.{granted, limits_of, zone_of}
 use Rattle.ideal_lane.specs.Asking.{Gives}
 use Rattle.ideal_lane.specs.Outcomes.{gives, is_idle}
 use Rattle.ideal_lane.specs.State.{LaneMap, named}
+use Rattle.lane_core.specs.declared.holdings.Answered.{Answered}
 use Rattle.lane_core.specs.Covered.{is_idle_map}
 use Rattle.lane_core.specs.Ideal.{given, ideal_of}
 use Rattle.lane_core.specs.Kept.{map_of, memory_of}
 use Rattle.lane_core.specs.Loading.{IsWanted, bio_bytes, bio_chunks, bio_of}
-use Rattle.lane_core.proofs.Asked.{few-wanted, load-absent, load-bounced, load-busy, load-direct, load-long}
+use Rattle.lane_core.proofs.Asked.{few-wanted, load-absent, load-bounced, load-busy, load-device, load-direct, load-long}
 use Rattle.lane_core.proofs.Asked.{load-refused, plain-chunks, plain-wanted, x}
 use Rattle.lane_core.proofs.Chunked.{all-reached}
 use Rattle.lane_core.proofs.Doors.{allowed-asks, asked, done-asks, done-gives, unasked}
@@ -24,7 +25,6 @@ use Rattle.lane_core.proofs.OperationSteps.{vacant}
 use Rattle.lane_core.proofs.OwnLoads.{first-loaded}
 use Rattle.lane_core.proofs.AwaitedLoads.{fine-bytes}
 use Rattle.ideal_wire.proofs.Asked.{are-in-pages, direct-bytes}
-use Rattle.lane_core.proofs.Unspaced.{never-device}
 use Rattle.lane_core.proofs.holdings.Holdings.load.Goals as goal
 
 pub returns-in_default-clause-done : goal.returns-in_default-clause-done
@@ -130,7 +130,7 @@ returns-then-wanted-eq0-clause-done g c =
     done-gives (g.D.HubDoor.seen c.args.door.now) h.id.0 _ (given c.load_direct.new.self c.in_ok-answer.answer)
     (load-direct l c.args.map (bio_of c.args.bytes) c.args.nowait c.args.items.now (map_of o) there
     (state-idle o.map.stage (sym c.state.ensures ∙ c.in-Idle.is))
-    (sym c.judge_load.ensures ∙ c.in_default-judge_load.is) (never-device h (map_of o)) wanted.short (sym wanted.need ∙ c.if-wanted-eq0.true)
+    (sym c.judge_load.ensures ∙ c.in_default-judge_load.is) (sym (c.is_device.ensures (map_of o) there) ∙ c.if-is_device.false) wanted.short (sym wanted.need ∙ c.if-wanted-eq0.true)
     ∙ ap Gives (sym (c.in_ok-answer.ensures.done (map_of o)
     (x l c.args.map (bio_of c.args.bytes) c.args.nowait c.args.items.now) there refl refl)))
 
@@ -164,7 +164,7 @@ load_bounced-requires-clause-allowed g c other found =
     let some : 0 < need = omega (arith, c.if-wanted-eq0.false) in
     allowed-asks d h.id.0 _ (Grab (named l m) (record { 0 = zone_of other }) need c.args.nowait) _
     (load-bounced l m (bio_of c.args.bytes) c.args.nowait c.args.items.now other found on
-    (sym c.judge_load.ensures ∙ c.in_default-judge_load.is) (never-device h other) wanted.short
+    (sym c.judge_load.ensures ∙ c.in_default-judge_load.is) (sym (c.is_device.ensures other found) ∙ c.if-is_device.false) wanted.short
     (plain-wanted l m other (bio_of c.args.bytes) need (c.requires.stands.each m other found) wanted.need some) need
     wanted.need some)
     c.requires.allowed
@@ -189,7 +189,7 @@ returns-clause-done g c =
     done-asks d h.id.0 _ call k end e
     (load-bounced l m (bio_of c.args.bytes) c.args.nowait c.args.items.now (map_of o) there
     (state-idle o.map.stage (sym c.state.ensures ∙ c.in-Idle.is))
-    (sym c.judge_load.ensures ∙ c.in_default-judge_load.is) (never-device h (map_of o)) wanted.short
+    (sym c.judge_load.ensures ∙ c.in_default-judge_load.is) (sym (c.is_device.ensures (map_of o) there) ∙ c.if-is_device.false) wanted.short
     (plain-wanted l m (map_of o) (bio_of c.args.bytes) need (c.requires.stands.each m (map_of o) there) wanted.need
     some) need wanted.need some)
     (c.in_ok-answer-2.ensures.done (map_of o) ask there refl refl refl)
@@ -247,7 +247,7 @@ returns-then-wanted-eq0-clause-held g c =
     let wanted = c.in-Some-measure_load.ensures.wanted (map_of o) there in
     unasked _ _ (load-direct (ideal_of h) c.args.map (bio_of c.args.bytes) c.args.nowait c.args.items.now
     (map_of o) there (state-idle o.map.stage (sym c.state.ensures ∙ c.in-Idle.is))
-    (sym c.judge_load.ensures ∙ c.in_default-judge_load.is) (never-device h (map_of o)) wanted.short (sym wanted.need ∙ c.if-wanted-eq0.true))
+    (sym c.judge_load.ensures ∙ c.in_default-judge_load.is) (sym (c.is_device.ensures (map_of o) there) ∙ c.if-is_device.false) wanted.short (sym wanted.need ∙ c.if-wanted-eq0.true))
 
 pub returns-clause-held : goal.returns-clause-held
 returns-clause-held g c =
@@ -259,7 +259,7 @@ returns-clause-held g c =
     let some : 0 < need = omega (arith, c.if-wanted-eq0.false) in
     asked _ _ _ (load-bounced (ideal_of h) c.args.map (bio_of c.args.bytes) c.args.nowait
     c.args.items.now (map_of o) there (state-idle o.map.stage (sym c.state.ensures ∙ c.in-Idle.is))
-    (sym c.judge_load.ensures ∙ c.in_default-judge_load.is) (never-device h (map_of o)) wanted.short
+    (sym c.judge_load.ensures ∙ c.in_default-judge_load.is) (sym (c.is_device.ensures (map_of o) there) ∙ c.if-is_device.false) wanted.short
     (plain-wanted (ideal_of h) c.args.map (map_of o) (bio_of c.args.bytes) need
     (c.requires.stands.each c.args.map (map_of o) there) wanted.need some) need wanted.need some)
 
@@ -347,3 +347,58 @@ load_bounced-requires-clause-paged g c =
 pub returns-in_default-measure_load-clause-due : goal.returns-in_default-measure_load-clause-due
 returns-in_default-measure_load-clause-due g c =
     omega (arith, c.note_tried.ensures.due, ap (λ a. a.promised) c.note_tried.ensures.agenda)
+
+pub load_device-requires-clause-reached : goal.load_device-requires-clause-reached
+load_device-requires-clause-reached g c =
+    all-reached (ideal_of c.args.self.now) c.args.map (bio_of c.args.bytes)
+    (sym c.judge_load.ensures ∙ c.in_default-judge_load.is)
+
+pub load_device-requires-clause-mine : goal.load_device-requires-clause-mine
+load_device-requires-clause-mine g c =
+    let h = c.args.self.now in
+    let o = c.in-Some.kept.now in
+    fine-bytes (ideal_of h) c.requires.laid c.requires.machine c.requires.stands c.args.map (map_of o)
+    (image-some map_of h.maps.map c.args.map o (sym c.in-Some.ensures)) (bio_of c.args.bytes) c.requires.loadable.own
+    (sym c.judge_load.ensures ∙ c.in_default-judge_load.is)
+
+pub returns-then-is_device-clause-done : goal.returns-then-is_device-clause-done
+returns-then-is_device-clause-done g c =
+    let h = c.args.self.now in
+    let l = ideal_of h in
+    let o = c.in-Some.kept.now in
+    let there = image-some map_of h.maps.map c.args.map o (sym c.in-Some.ensures) in
+    let wanted = c.in-Some-measure_load.ensures.wanted (map_of o) there in
+    done-gives (g.D.HubDoor.seen c.args.door.now) h.id.0 _ (given c.load_device.new.self c.unheld.result.answer)
+    (load-device l c.args.map (bio_of c.args.bytes) c.args.nowait c.args.items.now (map_of o) there
+    (state-idle o.map.stage (sym c.state.ensures ∙ c.in-Idle.is))
+    (sym c.judge_load.ensures ∙ c.in_default-judge_load.is)
+    (sym (c.is_device.ensures (map_of o) there) ∙ c.if-is_device.true) wanted.short
+    ∙ ap Gives (sym (c.in_ok-loaded.ensures.done (map_of o)
+    (x l c.args.map (bio_of c.args.bytes) c.args.nowait c.args.items.now) there refl refl))
+    ∙ ap (λ (r : Answered). Gives (given c.load_device.new.self r.answer)) (sym c.unheld.ensures))
+
+pub returns-then-is_device-clause-held : goal.returns-then-is_device-clause-held
+returns-then-is_device-clause-held g c =
+    let h = c.args.self.now in
+    let o = c.in-Some.kept.now in
+    let there = image-some map_of h.maps.map c.args.map o (sym c.in-Some.ensures) in
+    let wanted = c.in-Some-measure_load.ensures.wanted (map_of o) there in
+    ap (λ (r : Answered). r.held) c.unheld.ensures
+    ∙ unasked _ _ (load-device (ideal_of h) c.args.map (bio_of c.args.bytes) c.args.nowait c.args.items.now
+    (map_of o) there (state-idle o.map.stage (sym c.state.ensures ∙ c.in-Idle.is))
+    (sym c.judge_load.ensures ∙ c.in_default-judge_load.is)
+    (sym (c.is_device.ensures (map_of o) there) ∙ c.if-is_device.true) wanted.short)
+
+pub returns-then-is_device-clause-bytes : goal.returns-then-is_device-clause-bytes
+returns-then-is_device-clause-bytes g c =
+    let o = c.in-Some.kept.now in
+    stays-idle c.args.self.now c.load_device.new.self c.args.map
+    (ap is_idle_map (sym c.in-Some.ensures) ∙ state-idle o.map.stage (sym c.state.ensures ∙ c.in-Idle.is))
+    c.load_device.ensures.bytes
+
+pub returns-in_err-loaded-clause-bytes : goal.returns-in_err-loaded-clause-bytes
+returns-in_err-loaded-clause-bytes g c =
+    let o = c.in-Some.kept.now in
+    stays-idle c.args.self.now c.load_device.new.self c.args.map
+    (ap is_idle_map (sym c.in-Some.ensures) ∙ state-idle o.map.stage (sym c.state.ensures ∙ c.in-Idle.is))
+    c.load_device.ensures.bytes

@@ -12,6 +12,7 @@ use Rattle.lane_core.proofs.Doors.{always-ok, ok-weak}
 use Rattle.lane_core.proofs.Following.{stays-all, stays-held}
 use Rattle.lane_core.proofs.ScriptTurns.{few-items}
 use Rattle.lane_core.proofs.OperationSteps.{beside-wire, done-wire, paged-wire, quiet-done, quiet-held, vacant}
+use Rattle.lane_core.proofs.Keeping.{tags-bytes}
 use Rattle.lane_core.proofs.Promises.{IsStillOp, done-promise, either-promise, state-promise}
 use Rattle.lane_core.proofs.holdings.Holdings.operation.Goals as goal
 
@@ -194,14 +195,14 @@ returns-in-MapDestroy-clause-wire g c =
 pub returns-in-TagDestroy-clause-done : goal.returns-in-TagDestroy-clause-done
 returns-in-TagDestroy-clause-done g c =
     quiet-done c.args.self.now c.destroy_tag.new.self c.args.op.now _ c.in-TagDestroy.is c.destroy_tag.result
-    c.unheld.result
-    c.unheld.ensures c.destroy_tag.ensures.done (g.D.HubDoor.seen c.args.door.now)
+    c.unheld-in-TagDestroy.result
+    c.unheld-in-TagDestroy.ensures c.destroy_tag.ensures.done (g.D.HubDoor.seen c.args.door.now)
 
 pub returns-in-TagDestroy-clause-held : goal.returns-in-TagDestroy-clause-held
 returns-in-TagDestroy-clause-held g c =
     quiet-held c.args.self.now c.destroy_tag.new.self c.args.op.now _ c.in-TagDestroy.is c.destroy_tag.result
-    c.unheld.result
-    c.unheld.ensures c.destroy_tag.ensures.done
+    c.unheld-in-TagDestroy.result
+    c.unheld-in-TagDestroy.ensures c.destroy_tag.ensures.done
 
 pub returns-in-TagDestroy-clause-wire : goal.returns-in-TagDestroy-clause-wire
 returns-in-TagDestroy-clause-wire g c =
@@ -359,7 +360,7 @@ returns-in-MapDestroy-clause-due g c =
 
 pub returns-in-TagDestroy-clause-due : goal.returns-in-TagDestroy-clause-due
 returns-in-TagDestroy-clause-due g c =
-    done-promise c.args.self.now c.destroy_tag.new.self c.requires.stands c.args.op.now c.unheld.result.answer
+    done-promise c.args.self.now c.destroy_tag.new.self c.requires.stands c.args.op.now c.unheld-in-TagDestroy.result.answer
     (g.D.HubDoor.seen c.args.door.now) (g.D.HubDoor.seen c.args.door.now)
     (returns-in-TagDestroy-clause-done g c) (subst IsStillOp (sym c.in-TagDestroy.is) tt)
     (ap (λ a. a.promised) c.destroy_tag.ensures.agenda)
@@ -399,3 +400,39 @@ pub returns-in_err-cpu_write-in-CpuWrite-clause-due : goal.returns-in_err-cpu_wr
 returns-in_err-cpu_write-in-CpuWrite-clause-due g c =
     state-promise c.args.self.now c.cpu_write.new.self (ap (λ a. a.promised) c.cpu_write.ensures.agenda)
     c.in_err-cpu_write-in-CpuWrite.ensures.err
+
+pub make_iommu_tag-requires-clause-vacant : goal.make_iommu_tag-requires-clause-vacant
+make_iommu_tag-requires-clause-vacant g c =
+    let h = c.args.self.now in
+    vacant tag_of h.tags.map h.agenda.place (c.requires.stands.no_tag h.agenda.place (omega arith))
+
+pub returns-in_ok-make_iommu_tag-in-IommuTag-clause-done : goal.returns-in_ok-make_iommu_tag-in-IommuTag-clause-done
+returns-in_ok-make_iommu_tag-in-IommuTag-clause-done g c =
+    quiet-done c.args.self.now c.make_iommu_tag.new.self c.args.op.now _ c.in-IommuTag.is
+    c.in_ok-make_iommu_tag-in-IommuTag.field-0 c.unheld.result
+    c.unheld.ensures c.in_ok-make_iommu_tag-in-IommuTag.ensures.done (g.D.HubDoor.seen c.args.door.now)
+
+pub returns-in_ok-make_iommu_tag-in-IommuTag-clause-held : goal.returns-in_ok-make_iommu_tag-in-IommuTag-clause-held
+returns-in_ok-make_iommu_tag-in-IommuTag-clause-held g c =
+    quiet-held c.args.self.now c.make_iommu_tag.new.self c.args.op.now _ c.in-IommuTag.is
+    c.in_ok-make_iommu_tag-in-IommuTag.field-0 c.unheld.result
+    c.unheld.ensures c.in_ok-make_iommu_tag-in-IommuTag.ensures.done
+
+pub returns-in_ok-make_iommu_tag-in-IommuTag-clause-wire : goal.returns-in_ok-make_iommu_tag-in-IommuTag-clause-wire
+returns-in_ok-make_iommu_tag-in-IommuTag-clause-wire g c =
+    paged-wire c.args.self.now c.make_iommu_tag.new.self c.args.op.now _ c.in-IommuTag.is
+    c.make_iommu_tag.ensures.rest.most.memories refl
+    (stays-all c.args.self.now c.make_iommu_tag.new.self
+    (tags-bytes c.args.self.now c.make_iommu_tag.new.self c.make_iommu_tag.ensures.rest))
+
+pub returns-in_ok-make_iommu_tag-in-IommuTag-clause-due : goal.returns-in_ok-make_iommu_tag-in-IommuTag-clause-due
+returns-in_ok-make_iommu_tag-in-IommuTag-clause-due g c =
+    done-promise c.args.self.now c.make_iommu_tag.new.self c.requires.stands c.args.op.now
+    c.unheld.result.answer (g.D.HubDoor.seen c.args.door.now) (g.D.HubDoor.seen c.args.door.now)
+    (returns-in_ok-make_iommu_tag-in-IommuTag-clause-done g c) (subst IsStillOp (sym c.in-IommuTag.is) tt)
+    (ap (λ a. a.promised) c.make_iommu_tag.ensures.rest.agenda)
+
+pub returns-in_err-make_iommu_tag-in-IommuTag-clause-due : goal.returns-in_err-make_iommu_tag-in-IommuTag-clause-due
+returns-in_err-make_iommu_tag-in-IommuTag-clause-due g c =
+    state-promise c.args.self.now c.make_iommu_tag.new.self
+    (ap (λ a. a.promised) c.make_iommu_tag.ensures.rest.agenda) c.in_err-make_iommu_tag-in-IommuTag.ensures.err

@@ -5,6 +5,12 @@ use Rattle.lane_core.specs.Wire.{wire_of}
 use Rattle.lane_core.proofs.Doors.{always-ok}
 use Rattle.lane_core.proofs.holdings.Holdings.transfer.Goals as goal
 
+pub returns-in-DevReadAt-clause-wire : goal.returns-in-DevReadAt-clause-wire
+returns-in-DevReadAt-clause-wire c =
+    let h = c.args.self.now in
+    always-ok c.dev_read_at.result (c.dev_read_at.ensures.wire
+    ∙ sym (ap (λ i. wires.transfer i (ideal_of h) (wire_of h)) c.in-DevReadAt.is))
+
 pub returns-in-DevRead-clause-wire : goal.returns-in-DevRead-clause-wire
 returns-in-DevRead-clause-wire c =
     let h = c.args.self.now in

@@ -3,12 +3,17 @@ use Rattle.lane_core.specs.Changes.{KeepsPromises}
 use Rattle.lane_core.specs.Covered.{pages_due}
 use Rattle.lane_core.proofs.Promises.{item-maps, maps-promise, state-promise}
 use Rattle.lane_core.proofs.Queueing.{back-agenda, item-agenda, item-back, item-done, item-wire}
-use Rattle.lane_core.proofs.Queueing.{queue-wired}
+use Rattle.lane_core.proofs.Queueing.{queue-stands, queue-wired}
 use Rattle.lane_core.proofs.holdings.Holdings.transfer_turn.Goals as goal
 
-pub transfer-requires : goal.transfer-requires
-transfer-requires c =
-    queue-wired c.args.self.now c.pop_item.new.self c.pop_item.ensures.rest c.pop_item.ensures.agenda c.requires
+pub transfer-requires-clause-wired : goal.transfer-requires-clause-wired
+transfer-requires-clause-wired c =
+    queue-wired c.args.self.now c.pop_item.new.self c.pop_item.ensures.rest c.pop_item.ensures.agenda c.requires.wired
+
+pub transfer-requires-clause-stands : goal.transfer-requires-clause-stands
+transfer-requires-clause-stands c =
+    queue-stands c.args.self.now c.pop_item.new.self c.pop_item.ensures.rest c.pop_item.ensures.agenda
+    c.requires.stands
 
 pub returns-in-Ok-clause-done : goal.returns-in-Ok-clause-done
 returns-in-Ok-clause-done c =

@@ -1,5 +1,7 @@
+use Rattle.lane_core.specs.Ideal.{ideal_of}
 use Rattle.lane_core.proofs.Doors.{err-map}
 use Rattle.lane_core.proofs.LaneCalls.{called-lane, cpu_write-after}
+use Rattle.lane_core.proofs.OneStanding.{stands-of}
 use Rattle.lane_core.proofs.SameWires.{same-wire}
 use Rattle.lane_core.proofs.lane.Lane.cpu_write.Goals as goal
 
@@ -12,7 +14,7 @@ invariant_of-self c =
     let lane =
     called-lane h k
     (record { wired = l.wired; stands = l.stands; small = l.small; length = l.length; room = l.room })
-    (cpu_write-after h k l.wired c.args.place c.args.bytes.now c.cpu_write.result r.done r.wire r.err)
+    (cpu_write-after h k l.wired (stands-of (ideal_of h) l.stands) c.args.place c.args.bytes.now c.cpu_write.result r.done r.wire r.err)
     r.script r.agenda in
     record {
       wired = lane.wired;

@@ -7,7 +7,11 @@ use Rattle.lane_core.specs.Ideal.{ideal_of}
 use Rattle.lane_core.specs.Wire.{wire_of}
 use Rattle.lane_core.proofs.Doors.{ok-map}
 use Rattle.lane_core.proofs.LaneCalls.{called-lane, foreign-call, kept-on, own-call}
+use Rattle.lane_core.proofs.OneStanding.{stands-of}
 use Rattle.lane_core.proofs.lane.Lane.dev_read.Goals as goal
+
+pub dev_read-requires-clause-stands : goal.dev_read-requires-clause-stands
+dev_read-requires-clause-stands c = let l = c.args.self.now in stands-of (ideal_of l.holdings) l.stands
 
 pub invariant_of-self : goal.invariant_of-self
 invariant_of-self c =

@@ -6,8 +6,12 @@ use Rattle.lane_core.specs.Ideal.{ideal_of}
 use Rattle.lane_core.specs.Wire.{wire_of}
 use Rattle.lane_core.proofs.Doors.{err-map, ok-map}
 use Rattle.lane_core.proofs.LaneCalls.{called-lane, foreign-call, foreign-wire, own-call, own-wire, dev_write-after}
+use Rattle.lane_core.proofs.OneStanding.{stands-of}
 use Rattle.lane_core.proofs.SameWires.{same-wire}
 use Rattle.lane_core.proofs.lane.Lane.dev_write.Goals as goal
+
+pub dev_write-requires-clause-stands : goal.dev_write-requires-clause-stands
+dev_write-requires-clause-stands c = let l = c.args.self.now in stands-of (ideal_of l.holdings) l.stands
 
 pub invariant_of-self : goal.invariant_of-self
 invariant_of-self c =
@@ -18,7 +22,7 @@ invariant_of-self c =
     let lane =
     called-lane h k
     (record { wired = l.wired; stands = l.stands; small = l.small; length = l.length; room = l.room })
-    (dev_write-after h k l.wired c.args.map.made_at c.args.off c.args.bytes.now c.dev_write.result r.done r.wire
+    (dev_write-after h k l.wired (stands-of (ideal_of h) l.stands) c.args.map.made_at c.args.off c.args.bytes.now c.dev_write.result r.done r.wire
     r.err) r.script r.agenda in
     record {
       wired = lane.wired;

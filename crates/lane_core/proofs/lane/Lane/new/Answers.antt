@@ -5,7 +5,7 @@ use Rattle.std.specs.FinMap.{get, get-empty}
 use Rattle.lane_tables.specs.declared.queued.QueuedPage.{QueuedPage}
 use Rattle.lane_tables.specs.Queues.{script_items}
 use Rattle.ideal_lane.specs.Ahead.{awaited_items, maps_items}
-use Rattle.ideal_lane.specs.State.{LaneMap, no_space}
+use Rattle.ideal_lane.specs.State.{LaneMap}
 use Rattle.ideal_lane.specs.Opening.{opening_lane}
 use Rattle.ideal_lane.specs.Standing.{Stands}
 use Rattle.ideal_lane.proofs.Openings.{opens-standing}
@@ -13,12 +13,13 @@ use Rattle.ideal_lane.proofs.Weights.{weigh-empty}
 use Rattle.lane_core.specs.declared.kept.KeptMemory.{KeptMemory}
 use Rattle.lane_core.specs.Covered.{items_left, pages_due}
 use Rattle.lane_core.specs.Held.{devices_of}
-use Rattle.lane_core.specs.Kept.{map_of, memory_of, return_of, share_of, tag_of}
+use Rattle.lane_core.specs.Kept.{map_of, memory_of, return_of, share_of, spaces_of, tag_of}
 use Rattle.lane_core.specs.MapValues.{map_values}
 use Rattle.lane_core.proofs.MapValues.{map_values-empty}
 use Rattle.lane_core.proofs.OwnRuns.{AreKnown}
 use Rattle.lane_core.proofs.OpensSmall.{opens-small}
 use Rattle.lane_core.proofs.OpensWired.{opens-wired}
+use Rattle.lane_core.proofs.Spaces.{spaces-empty}
 use Rattle.lane_core.proofs.OpeningLane.{held-zeros, opens-covered, opens-framed, opens-mapless, opens-reaching}
 use Rattle.lane_core.proofs.Awaiting.{awaiting-empty}
 use Rattle.lane_core.specs.Awaiting.{AreAwaiting, AreOfMaps}
@@ -120,6 +121,7 @@ invariant_of-result-2-clause-wired c =
     let tags = ap (λ t. map_values tag_of t.map) c.in_ok-new.ensures ∙ map_values-empty tag_of in
     let maps = ap (λ t. map_values map_of t.map) c.in_ok-new-2.ensures ∙ map_values-empty map_of in
     let mems = ap (λ t. map_values memory_of t.map) c.in_ok-new-3.ensures ∙ map_values-empty memory_of in
+    let spaces = ap (λ t. spaces_of t.map) c.in_ok-new.ensures ∙ spaces-empty in
     opens-wired c.args.id.0 c.args.maxmem c.args.driver.now _
     (λ i. record {
       id = c.args.id.0;
@@ -135,7 +137,7 @@ invariant_of-result-2-clause-wired c =
       queue = (agenda i).queue;
       returns = map return_of (agenda i).returns;
       shares = share_of (c.new-5.ensures.items i);
-      spaces = λ t. no_space;
+      spaces = spaces i;
     })
     (ap (λ t. t.map) c.in_ok-new-2.ensures) c.requires.memory.zero c.requires.numbered c.requires.inside
     c.requires.bios
@@ -153,6 +155,7 @@ invariant_of-result-2-clause-stands c =
     let tags = ap (λ t. map_values tag_of t.map) c.in_ok-new.ensures ∙ map_values-empty tag_of in
     let maps = ap (λ t. map_values map_of t.map) c.in_ok-new-2.ensures ∙ map_values-empty map_of in
     let mems = ap (λ t. map_values memory_of t.map) c.in_ok-new-3.ensures ∙ map_values-empty memory_of in
+    let spaces = ap (λ t. spaces_of t.map) c.in_ok-new.ensures ∙ spaces-empty in
     let is : _ ≡ opening_lane c.args.id.0 c.args.maxmem c.args.driver.now =
     (λ i. record {
       id = c.args.id.0;
@@ -168,7 +171,7 @@ invariant_of-result-2-clause-stands c =
       queue = (agenda i).queue;
       returns = map return_of (agenda i).returns;
       shares = share_of (c.new-5.ensures.items i);
-      spaces = λ t. no_space;
+      spaces = spaces i;
     }) in
     ∣ subst Stands (sym is) (opens-standing c.args.id.0 c.args.maxmem c.args.driver.now) ∣₁
 
@@ -208,6 +211,7 @@ returns c =
     let tags = ap (λ t. map_values tag_of t.map) c.in_ok-new.ensures ∙ map_values-empty tag_of in
     let maps = ap (λ t. map_values map_of t.map) c.in_ok-new-2.ensures ∙ map_values-empty map_of in
     let mems = ap (λ t. map_values memory_of t.map) c.in_ok-new-3.ensures ∙ map_values-empty memory_of in
+    let spaces = ap (λ t. spaces_of t.map) c.in_ok-new.ensures ∙ spaces-empty in
     (λ i. record {
       id = c.args.id.0;
       maxmem = c.args.maxmem;
@@ -222,5 +226,5 @@ returns c =
       queue = (agenda i).queue;
       returns = map return_of (agenda i).returns;
       shares = share_of (c.new-5.ensures.items i);
-      spaces = λ t. no_space;
+      spaces = spaces i;
     })

@@ -6,6 +6,7 @@ use Rattle.lane_core.specs.Ideal.{ideal_of}
 use Rattle.lane_core.specs.Wire.{wire_of}
 use Rattle.lane_core.proofs.Doors.{err-map, ok-map}
 use Rattle.lane_core.proofs.LaneCalls.{called-lane, foreign-call, foreign-wire, own-call, own-wire, sync_range-after}
+use Rattle.lane_core.proofs.OneStanding.{stands-of}
 use Rattle.lane_core.proofs.SameWires.{same-wire}
 use Rattle.lane_core.proofs.lane.Lane.sync_range.Goals as goal
 
@@ -18,7 +19,7 @@ invariant_of-self c =
     let lane =
     called-lane h k
     (record { wired = l.wired; stands = l.stands; small = l.small; length = l.length; room = l.room })
-    (sync_range-after h k l.wired c.args.map.made_at c.args.off c.args.len c.args.ops.0 c.sync_range.result r.done
+    (sync_range-after h k l.wired (stands-of (ideal_of h) l.stands) c.args.map.made_at c.args.off c.args.len c.args.ops.0 c.sync_range.result r.done
     r.wire r.err) r.script r.agenda in
     record {
       wired = lane.wired;

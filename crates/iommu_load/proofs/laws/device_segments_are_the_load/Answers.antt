@@ -8,7 +8,7 @@ use Rattle.iommu_load.specs.Device.{device_chunks, load_frames}
 use Rattle.iommu_load.proofs.Carrying.{device-rises, entries-carried}
 use Rattle.iommu_load.proofs.Obeying.{device-obeys}
 use Rattle.iommu_load.proofs.Spaces.{entered-carries}
-use Rattle.iommu_load.proofs.device_segments_are_the_load.Goals as goal
+use Rattle.iommu_load.proofs.laws.device_segments_are_the_load.Goals as goal
 
 pub returns-clause-bytes : goal.returns-clause-bytes
 returns-clause-bytes c s first h some e =
@@ -20,7 +20,7 @@ returns-clause-bytes c s first h some e =
     (segmentation_bytes t (segmentation t pieces) pieces (cut_is t pieces)
     ∙ pieces_bytes t cs c.limits.ensures.effective.maxsegsz (device-rises first 0 es))
     ∙ entries-carried (translated (entered (Some first) (load_frames es) s)) first 0 es
-    (entered-carries s (load_frames es) first h some e) c.requires.entries
+    (entered-carries s (load_frames es) first h.runs some e) c.requires.entries
 
 pub returns-clause-obeys : goal.returns-clause-obeys
 returns-clause-obeys c =

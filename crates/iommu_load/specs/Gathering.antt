@@ -1,0 +1,50 @@
+-- What the private steps of the code do; no public clause cites them.
+-- How the extents of an entry are gathered to one run of device addresses, one extent after the other.
+use Rattle.std.specs.Prelude.{◌≡◌, ℕ, ◌+◌, ◌*◌, ◌%◌, Bool, true, false, List, [], ◌∷◌, ◌++◌, Option, Some, None}
+use Rattle.std.specs.List.{flat_map}
+use Rattle.std.specs.Option.{option_to_list}
+use Rattle.busdma_machine.specs.declared.machine.address.Segment.{Segment}
+use Rattle.busdma_machine.specs.declared.machine.chunk.Part.{Part}
+use Rattle.busdma_machine.specs.declared.machine.chunk.Part.TheVariants.{Of, Unmapped}
+use Rattle.busdma_machine.specs.declared.tags.tag.TagLimits.{TagLimits}
+use Rattle.busdma_machine.specs.Runs.{run_of}
+use Rattle.segment_build.specs.Pieces.{pieces_of}
+use Rattle.segment_build.specs.Built.{AreTooMany, IsFew}
+use Rattle.iommu_load.specs.declared.gatherer.Gatherer.{Gatherer}
+
+-- before the first extent, whose device page is this
+abbrev pub ungathered : ℕ → Gatherer
+ungathered first = record { page = first; run = record { addr = record { 0 = 0 }; len = 0 } }
+
+-- after a part
+abbrev pub after_part : Gatherer → Part → Gatherer
+after_part s (Of e true r) = record {
+  page = s.page + 1;
+  run = record { addr = record { 0 = 4096 * s.page + e.pa.0 % 4096 }; len = e.len };
+}
+after_part s (Of e false r) = record { page = s.page + 1; run = record { addr = s.run.addr; len = s.run.len + e.len } }
+after_part s (Unmapped n) = s
+
+-- the run that a part ends
+abbrev pub ended_run : Gatherer → Part → Option Segment
+ended_run s (Of e true r) = Some s.run
+ended_run s (Of e false r) = None
+ended_run s (Unmapped n) = None
+
+-- after parts, and the runs that they end
+abbrev pub after : Gatherer → List Part → Gatherer
+after s [] = s
+after s (p ∷ ps) = after (after_part s p) ps
+
+abbrev pub ended : Gatherer → List Part → List Segment
+ended s [] = []
+ended s (p ∷ ps) = option_to_list (ended_run s p) ++ ended (after_part s p) ps
+
+-- the pieces of runs
+abbrev pub pieces_of_runs : TagLimits → List Segment → List Segment
+pieces_of_runs t runs = flat_map (λ r. pieces_of t (run_of r.addr.0 r.len)) runs
+
+-- the segments that are built of pieces, while they are few enough
+pub record AreSoFar (t : TagLimits) (pieces segments : List Segment) (few : Bool) : Type 0 where
+  pub segments_are : few ≡ true → IsFew t pieces segments
+  pub too_many : few ≡ false → AreTooMany t pieces

@@ -1,0 +1,12 @@
+use Rattle.std.proofs.Common.{ℕ, ap, ◌∙◌}
+use Rattle.iommu_map.specs.Space.{Space}
+use Rattle.plain_lane.proofs.Spacing.{cut}
+use Rattle.plain_lane.specs.Ideal.{ideal}
+use Rattle.plain_lane.specs.Spaces.{spaces_of}
+use Rattle.plain_lane.proofs.lane.PlainLane.drop_space.Goals as goal
+
+pub returns : goal.returns
+returns c =
+    let l = ideal c.args.self.now in
+    ap (λ (s : ℕ → Space). record l { spaces = s })
+    (ap spaces_of c.in_ok-remove.ensures ∙ cut c.args.self.now.spaces c.args.tag)
