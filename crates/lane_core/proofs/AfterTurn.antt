@@ -30,7 +30,8 @@ use Rattle.ideal_wire.specs.Machine.{IsInMachine}
 use Rattle.ideal_wire.specs.NewRuns.{BringsNew}
 use Rattle.ideal_wire.proofs.LaidTurns.{turn-laid}
 use Rattle.ideal_wire.proofs.NewFrames.{given-new}
-use Rattle.lane_core.specs.Turning.{IsServed, IsTurned}
+use Rattle.lane_state.specs.Served.{IsServed}
+use Rattle.lane_core.specs.Turning.{IsTurned}
 
 -- ---- the account after entries, and where no callback was found
 

@@ -13,15 +13,15 @@ use Rattle.busdma_machine.specs.Bounce.AccountStep.{as_pages}
 use Rattle.busdma_machine.specs.Bounce.Door.{Seen, Holds}
 use Rattle.ideal_lane.specs.Turns.{called, stepped}
 use Rattle.ideal_wire.proofs.Accepting.{same-pages}
-use Rattle.lane_core.specs.declared.holdings.Holdings.{Holdings}
+use Rattle.lane_state.specs.declared.holdings.Holdings.{Holdings}
 use Rattle.lane_core.specs.declared.turn.Turn.{Turn}
 use Rattle.lane_core.specs.declared.turn.Turn.TheVariants as turn
-use Rattle.lane_core.specs.Changes.{KeepsBytesBut, KeepsWhatStays, Stays}
-use Rattle.lane_core.specs.Held.{devices_of}
-use Rattle.lane_core.specs.Ideal.{given, ideal_of}
-use Rattle.lane_core.specs.Kept.{device_of, device_in}
+use Rattle.lane_state.specs.Changes.{KeepsBytesBut, KeepsWhatStays, Stays}
+use Rattle.lane_state.specs.Held.{devices_of}
+use Rattle.lane_state.specs.Ideal.{given, ideal_of}
+use Rattle.lane_state.specs.Kept.{device_of, device_in}
 use Rattle.lane_core.specs.Turning.{IsTurnOf}
-use Rattle.lane_core.proofs.Called.{WaitsFor, kept-load}
+use Rattle.lane_state.proofs.Called.{WaitsFor, kept-load}
 
 module _ (h k : Holdings) (m count : ℕ) (waits : WaitsFor h m count) (bytes : KeepsBytesBut m h k) where
   -- the map had no page before

@@ -8,11 +8,11 @@ use Rattle.ideal_wire.specs.Mapped.{AreMapped}
 use Rattle.ideal_wire.specs.Spaced.{AreSpaced}
 use Rattle.ideal_wire.specs.WireStep.{Follows}
 use Rattle.ideal_wire.proofs.Carried.{are-bused, carried, same-carries}
-use Rattle.lane_core.specs.declared.holdings.Holdings.{Holdings}
-use Rattle.lane_core.specs.Changes.{KeepsState}
-use Rattle.lane_core.specs.Ideal.{ideal_of}
-use Rattle.lane_core.specs.Wire.{IsWired, wire_of}
-use Rattle.lane_core.proofs.Following.{follows, stays-all}
+use Rattle.lane_state.specs.declared.holdings.Holdings.{Holdings}
+use Rattle.lane_state.specs.Changes.{KeepsState}
+use Rattle.lane_state.specs.Ideal.{ideal_of}
+use Rattle.lane_state.specs.Wire.{IsWired, wire_of}
+use Rattle.lane_state.proofs.Following.{follows, stays-all}
 
 pub kept-wired : (h k : Holdings) → KeepsState h k → IsWired h → IsWired k
 kept-wired h k s wired =

@@ -33,12 +33,12 @@ use Rattle.ideal_wire.proofs.MappedTurns.{touches-mapped}
 use Rattle.ideal_wire.proofs.Calls.{cpu_write-faithful, dev_write-faithful, dev_write_at-faithful, sync-faithful, sync_range-faithful}
 use Rattle.ideal_wire.proofs.StillLaid.{touches-laid}
 use Rattle.ideal_wire.proofs.Wiring.{own-forgotten, own-written, cpu_read-reads as reads}
-use Rattle.lane_core.specs.declared.holdings.Holdings.{Holdings}
+use Rattle.lane_state.specs.declared.holdings.Holdings.{Holdings}
 use Rattle.lane_core.specs.Calls.{unless_foreign, wire_unless_foreign}
-use Rattle.lane_core.specs.Changes.{KeepsState}
-use Rattle.lane_core.specs.Ideal.{given, ideal_of}
-use Rattle.lane_core.specs.SmallLoads.{HasSmallLoads}
-use Rattle.lane_core.specs.Wire.{IsWired, wire_of}
+use Rattle.lane_state.specs.Changes.{KeepsState}
+use Rattle.lane_state.specs.Ideal.{given, ideal_of}
+use Rattle.lane_state.specs.SmallLoads.{HasSmallLoads}
+use Rattle.lane_state.specs.Wire.{IsWired, wire_of}
 use Rattle.lane_core.proofs.KeepsWired.{kept-wired}
 use Rattle.lane_core.proofs.OneStanding.{stands-of}
 use Rattle.lane_core.proofs.Promises.{maps-promise}

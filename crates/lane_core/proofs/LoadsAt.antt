@@ -23,10 +23,10 @@ use Rattle.ideal_lane.specs.Places.{virtual_at}
 use Rattle.ideal_lane.specs.State.{LaneState}
 use Rattle.ideal_lane.specs.Turns.{bio_at, flat_bio}
 use Rattle.ideal_wire.specs.Machine.{IsInMachine, IsOfMachine}
-use Rattle.lane_core.specs.declared.holdings.Holdings.{Holdings}
-use Rattle.lane_core.specs.SmallLoads.{HasSmallLoads}
-use Rattle.lane_core.specs.Ideal.{ideal_of}
-use Rattle.lane_core.specs.Loading.{IsLoadable, bio_bytes}
+use Rattle.lane_state.specs.declared.holdings.Holdings.{Holdings}
+use Rattle.lane_state.specs.SmallLoads.{HasSmallLoads}
+use Rattle.lane_state.specs.Ideal.{ideal_of}
+use Rattle.lane_state.specs.Loading.{IsLoadable, bio_bytes}
 
 -- the bio of an option, or one of no byte
 bio_in : Option Bio → Bio

@@ -9,13 +9,14 @@ use Rattle.ideal_lane.specs.Standing.{Stands}
 use Rattle.ideal_lane.specs.View.{view_of}
 use Rattle.ideal_wire.specs.WireStep.{Follows}
 use Rattle.ideal_wire.specs.WireStep as wires
-use Rattle.lane_core.specs.declared.holdings.Holdings.{Holdings}
+use Rattle.lane_state.specs.declared.holdings.Holdings.{Holdings}
 use Rattle.lane_core.specs.declared.turn.Turn.{Turn}
-use Rattle.lane_core.specs.Changes.{IsWireOf, Becomes, Stays, WithMemory, KeepsState}
-use Rattle.lane_core.specs.Doing.{IsUndone}
-use Rattle.lane_core.specs.Ideal.{ideal_of}
-use Rattle.lane_core.specs.Turning.{IsTurnOf, IsReady, IsServed, is_held, turned}
-use Rattle.lane_core.specs.Wire.{wire_of}
+use Rattle.lane_state.specs.Changes.{IsWireOf, Becomes, Stays, WithMemory, KeepsState}
+use Rattle.lane_state.specs.Doing.{IsUndone}
+use Rattle.lane_state.specs.Ideal.{ideal_of}
+use Rattle.lane_state.specs.Served.{IsServed}
+use Rattle.lane_core.specs.Turning.{IsTurnOf, IsReady, is_held, turned}
+use Rattle.lane_state.specs.Wire.{wire_of}
 use Rattle.lane_core.proofs.KeepsWired.{kept-wired}
 use Rattle.lane_core.proofs.TurnEnds.{end-beside, end-bounded, end-follows, end-known, end-served, end-stands}
 use Rattle.lane_core.proofs.TurnEnds.{end-wired}

@@ -13,16 +13,16 @@ use Rattle.ideal_lane.specs.IdealMemory.{Known}
 use Rattle.ideal_lane.specs.Opening.{zeros}
 use Rattle.ideal_lane.specs.Places.{is_in_memory, physical_of}
 use Rattle.ideal_lane.proofs.Weights.{weigh-empty}
-use Rattle.lane_core.specs.declared.kept.KeptMap.{KeptMap}
-use Rattle.lane_core.specs.declared.kept.KeptMemory.{KeptMemory}
-use Rattle.lane_core.specs.Covered.{HasFramesOf, IsCovered, Reaches, reached_in, has_load, lends_pages, is_returning}
-use Rattle.lane_core.specs.Covered.{is_tried, pages_due}
-use Rattle.lane_core.specs.Held.{held, content_of, byte_among}
-use Rattle.lane_core.specs.Kept.{Device, memory_of, due_of}
-use Rattle.lane_core.specs.OpeningMemory.{IsOpeningMemory, is_one_of}
-use Rattle.lane_core.proofs.MapTables.{AreMaps}
-use Rattle.lane_core.proofs.MapValues.{entries-empty}
-use Rattle.lane_core.proofs.OwnRuns.{AreKnown, own_frame}
+use Rattle.lane_state.specs.declared.kept.KeptMap.{KeptMap}
+use Rattle.lane_state.specs.declared.kept.KeptMemory.{KeptMemory}
+use Rattle.lane_state.specs.Covered.{HasFramesOf, IsCovered, Reaches, reached_in, has_load, lends_pages, is_returning}
+use Rattle.lane_state.specs.Covered.{is_tried, pages_due}
+use Rattle.lane_state.specs.Held.{held, content_of, byte_among}
+use Rattle.lane_state.specs.Kept.{Device, memory_of, due_of}
+use Rattle.lane_state.specs.OpeningMemory.{IsOpeningMemory, is_one_of}
+use Rattle.lane_state.proofs.MapTables.{AreMaps}
+use Rattle.lane_state.proofs.MapValues.{entries-empty}
+use Rattle.lane_state.proofs.OwnRuns.{AreKnown, own_frame}
 
 module _ (pages : List PageRun) (bytes : FinMap nat_cmp Bool) (m : Memory) (known : AreKnown pages bytes)
     (opening : IsOpeningMemory pages m) where

@@ -18,9 +18,9 @@ use Rattle.phys_memory.specs.declared.reach.Reach.{Reach}
 use Rattle.phys_memory.specs.Memory.{Memory, physical, reached_in, byte_in, with_page}
 use Rattle.phys_memory.proofs.Tables.{get_inserted}
 use Rattle.busdma_base.specs.Scenarios.PageRuns.{physical_in}
-use Rattle.lane_core.specs.OpeningMemory.{IsOwnRun, ArePages, IsOpeningMemory, is_one_of, row_of, HasRun, IsWithout}
-use Rattle.lane_core.proofs.OwnRuns.{no_run, own_at, same_tests, one_of_is, one_of_lo, one_of_hi, no_meeting}
-use Rattle.lane_core.proofs.OwnRuns.{either_false, in_none, own_frame, twice}
+use Rattle.lane_state.specs.OpeningMemory.{IsOwnRun, ArePages, IsOpeningMemory, is_one_of, row_of, HasRun, IsWithout}
+use Rattle.lane_state.proofs.OwnRuns.{no_run, own_at, same_tests, one_of_is, one_of_lo, one_of_hi, no_meeting}
+use Rattle.lane_state.proofs.OwnRuns.{either_false, in_none, own_frame, twice}
 
 -- the first pages of a run
 abbrev pub first_of : PageRun → ℕ → PageRun

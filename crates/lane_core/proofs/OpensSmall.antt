@@ -8,9 +8,9 @@ use Rattle.busdma_machine.specs.Each.{EachAfter}
 use Rattle.busdma_base.specs.Scenarios.Limits.{buffer_limit, loaded_limit}
 use Rattle.busdma_base.specs.Scenarios.Operations.{loaded_by}
 use Rattle.busdma_base.specs.Scenarios.Script.{IsOp, IsScript}
-use Rattle.lane_core.specs.declared.holdings.Holdings.{Holdings}
-use Rattle.lane_core.specs.Covered.{pages_due}
-use Rattle.lane_core.specs.SmallLoads.{HasSmallLoads, bytes_ahead}
+use Rattle.lane_state.specs.declared.holdings.Holdings.{Holdings}
+use Rattle.lane_state.specs.Covered.{pages_due}
+use Rattle.lane_state.specs.SmallLoads.{HasSmallLoads, bytes_ahead}
 
 -- each load of a script is small
 small-each : (before script : List Op) → EachAfter IsOp before script → (p : ℕ) (o : Op) →

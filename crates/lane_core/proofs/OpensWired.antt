@@ -21,12 +21,12 @@ use Rattle.ideal_wire.specs.Traces.{stage_in}
 use Rattle.ideal_wire.proofs.KeptSpaces.{opens-spaced}
 use Rattle.ideal_wire.proofs.MappedTurns.{opens-mapped}
 use Rattle.ideal_wire.proofs.Openings.{opens-faithful, opens-laid}
-use Rattle.lane_core.specs.declared.holdings.Holdings.{Holdings}
-use Rattle.lane_core.specs.declared.kept.KeptMap.{KeptMap}
-use Rattle.lane_core.specs.Ideal.{ideal_of}
-use Rattle.lane_core.specs.Kept.{device_of}
-use Rattle.lane_core.specs.Wire.{IsWired, held_pages, wire_of}
-use Rattle.lane_core.proofs.MapValues.{entries-empty}
+use Rattle.lane_state.specs.declared.holdings.Holdings.{Holdings}
+use Rattle.lane_state.specs.declared.kept.KeptMap.{KeptMap}
+use Rattle.lane_state.specs.Ideal.{ideal_of}
+use Rattle.lane_state.specs.Kept.{device_of}
+use Rattle.lane_state.specs.Wire.{IsWired, held_pages, wire_of}
+use Rattle.lane_state.proofs.MapValues.{entries-empty}
 
 module _ (id maxmem : ℕ) (driver : Driver) where
   no-page : {A : Type 0} (m i page : ℕ) → HoldsPage (opening_lane id maxmem driver) m i page → A

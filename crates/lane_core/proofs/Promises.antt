@@ -31,17 +31,17 @@ use Rattle.ideal_lane.proofs.Effects.{AtOnce, Granted, Called, Device, RawWrites
 use Rattle.ideal_lane.proofs.Lookups.{get_cut, get_put, put_same}
 use Rattle.ideal_lane.proofs.Stepping.{Made, Only, operation-makes, transfer-touches}
 use Rattle.ideal_lane.proofs.Weights.{weigh, weigh-new}
-use Rattle.lane_core.specs.declared.holdings.Answered.{Answered}
-use Rattle.lane_core.specs.declared.holdings.Holdings.{Holdings}
-use Rattle.lane_core.specs.declared.kept.KeptLoad.{KeptLoad}
-use Rattle.lane_core.specs.declared.kept.KeptMap.{KeptMap}
-use Rattle.lane_core.specs.Changes.{KeepsPromises, KeepsState}
-use Rattle.lane_core.specs.Covered.{pages_due}
-use Rattle.lane_core.specs.Doing.{IsDone}
-use Rattle.lane_core.specs.Ideal.{given, ideal_of}
-use Rattle.lane_core.specs.Kept.{due_in, due_of, map_of, stage_of}
-use Rattle.lane_core.specs.MapValues.{entry_values, map_values}
-use Rattle.lane_core.proofs.MapValues.{entries-map_values}
+use Rattle.lane_state.specs.declared.holdings.Answered.{Answered}
+use Rattle.lane_state.specs.declared.holdings.Holdings.{Holdings}
+use Rattle.lane_state.specs.declared.kept.KeptLoad.{KeptLoad}
+use Rattle.lane_state.specs.declared.kept.KeptMap.{KeptMap}
+use Rattle.lane_state.specs.Changes.{KeepsPromises, KeepsState}
+use Rattle.lane_state.specs.Covered.{pages_due}
+use Rattle.lane_state.specs.Doing.{IsDone}
+use Rattle.lane_state.specs.Ideal.{given, ideal_of}
+use Rattle.lane_state.specs.Kept.{due_in, due_of, map_of, stage_of}
+use Rattle.lane_state.specs.MapValues.{entry_values, map_values}
+use Rattle.lane_state.proofs.MapValues.{entries-map_values}
 
 -- ---- what the ideal driver tells
 

@@ -10,14 +10,14 @@ use Rattle.ideal_wire.specs.Apart.{IsApart}
 use Rattle.ideal_wire.specs.Laid.{AreLaid}
 use Rattle.ideal_wire.specs.WireStep.{Follows}
 use Rattle.ideal_wire.specs.WireStep as wires
-use Rattle.lane_core.specs.declared.holdings.Holdings.{Holdings}
+use Rattle.lane_state.specs.declared.holdings.Holdings.{Holdings}
 use Rattle.lane_core.specs.declared.turn.Turn.{Turn}
-use Rattle.lane_core.specs.Changes.{Becomes, KeepsState}
-use Rattle.lane_core.specs.Doing.{IsUndone}
-use Rattle.lane_core.specs.Ideal.{ideal_of}
+use Rattle.lane_state.specs.Changes.{Becomes, KeepsState}
+use Rattle.lane_state.specs.Doing.{IsUndone}
+use Rattle.lane_state.specs.Ideal.{ideal_of}
 use Rattle.lane_core.specs.Turning.{IsTurnOf, IsReady, IsTurned, is_held, turned}
-use Rattle.lane_core.specs.Wire.{IsWired, wire_of}
-use Rattle.lane_core.proofs.Following.{follows, stays-all}
+use Rattle.lane_state.specs.Wire.{IsWired, wire_of}
+use Rattle.lane_state.proofs.Following.{follows, stays-all}
 use Rattle.lane_core.proofs.MadeTurns.{end-wire, made-ready, wanting-ready}
 use Rattle.lane_core.proofs.TurnEnds.{end-own}
 

@@ -46,16 +46,16 @@ use Rattle.ideal_wire.specs.Spaced.{AreSpaced}
 use Rattle.ideal_wire.specs.WireStep as wires
 use Rattle.ideal_wire.specs.WireStep.{if_done}
 use Rattle.phys_memory.specs.Memory.{wire}
-use Rattle.lane_core.specs.declared.holdings.Holdings.{Holdings}
+use Rattle.lane_state.specs.declared.holdings.Holdings.{Holdings}
 use Rattle.lane_core.specs.declared.turn.Turn.{Turn}
 use Rattle.lane_core.specs.declared.turn.Turn.TheVariants.{Stepped}
-use Rattle.lane_core.specs.Changes.{KeepsAgenda, KeepsBytes, KeepsButAgenda, KeepsState}
-use Rattle.lane_core.specs.Held.{devices_of, held}
-use Rattle.lane_core.specs.Ideal.{given, ideal_of}
-use Rattle.lane_core.specs.Kept.{map_of, memory_of, return_of, share_of, spaces_of, tag_of}
-use Rattle.lane_core.specs.MapValues.{map_values}
+use Rattle.lane_state.specs.Changes.{KeepsAgenda, KeepsBytes, KeepsButAgenda, KeepsState}
+use Rattle.lane_state.specs.Held.{devices_of, held}
+use Rattle.lane_state.specs.Ideal.{given, ideal_of}
+use Rattle.lane_state.specs.Kept.{map_of, memory_of, return_of, share_of, spaces_of, tag_of}
+use Rattle.lane_state.specs.MapValues.{map_values}
 use Rattle.lane_core.specs.Turning.{turned}
-use Rattle.lane_core.specs.Wire.{IsWired, held_pages, wire_of}
+use Rattle.lane_state.specs.Wire.{IsWired, held_pages, wire_of}
 
 -- ---- an item, beside another queue
 

@@ -9,17 +9,17 @@ use Rattle.lane_tables.specs.declared.queued.QueuedPage.{QueuedPage}
 use Rattle.ideal_lane.specs.State.{LaneState}
 use Rattle.ideal_lane.specs.Turns.{lane_step, script_turn, stepped}
 use Rattle.ideal_wire.specs.WireStep as wires
-use Rattle.lane_core.specs.declared.holdings.Holdings.{Holdings}
+use Rattle.lane_state.specs.declared.holdings.Holdings.{Holdings}
 use Rattle.lane_core.specs.declared.returns.Released.{Released}
 use Rattle.lane_core.specs.declared.turn.Turn.{Turn}
 use Rattle.lane_core.specs.declared.turn.Turn.TheVariants as turn
-use Rattle.lane_core.specs.Changes.{KeepsBytes, Stays}
-use Rattle.lane_core.specs.Doing.{IsDone, asks}
-use Rattle.lane_core.specs.Ideal.{given, ideal_of}
-use Rattle.lane_core.specs.Kept.{return_of}
+use Rattle.lane_state.specs.Changes.{KeepsBytes, Stays}
+use Rattle.lane_state.specs.Doing.{IsDone, asks}
+use Rattle.lane_state.specs.Ideal.{given, ideal_of}
+use Rattle.lane_state.specs.Kept.{return_of}
 use Rattle.lane_core.specs.Turning.{IsTurnOf}
-use Rattle.lane_core.specs.Wire.{wire_of}
-use Rattle.lane_core.proofs.Following.{stays-all}
+use Rattle.lane_state.specs.Wire.{wire_of}
+use Rattle.lane_state.proofs.Following.{stays-all}
 use Rattle.lane_core.proofs.TurnEnds.{done-turned}
 
 -- where a page is to go back, the turn makes a call, and changes no byte

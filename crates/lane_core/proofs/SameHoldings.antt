@@ -4,16 +4,16 @@ use Rattle.std.proofs.Props.{props}
 use mathlib.Core.HLevel.{is_prop→PathP}
 use base.Stored.{Coded-set}
 use Rattle.std.specs.FinMap.{get}
-use Rattle.lane_core.specs.declared.holdings.Holdings.{Holdings}
-use Rattle.lane_core.specs.Changes.{KeepsButAgenda}
+use Rattle.lane_state.specs.declared.holdings.Holdings.{Holdings}
+use Rattle.lane_state.specs.Changes.{KeepsButAgenda}
 use Rattle.phys_memory.specs.declared.reach.Reach.{Reach}
 use Rattle.phys_memory.specs.contracts.reach.Reach as reach
 use Rattle.phys_memory.specs.Memory.{Memory}
 use Rattle.memory_pages.specs.Placed.{AreAtTheirFrames, IsAtItsFrame}
-use Rattle.lane_core.specs.Covered.{AreLoaded, AreOwn, AreReturning, AreStanding, HasFramesOf, IsCovered, Reaches}
-use Rattle.lane_core.specs.Awaiting.{AreAwaiting, AreOfMaps}
-use Rattle.lane_core.specs.OneAwaiting.{AreAwaiting-prop}
-use Rattle.lane_core.specs.Covered.{is_tried, lends_pages, pages_due}
+use Rattle.lane_state.specs.Covered.{AreLoaded, AreOwn, AreReturning, AreStanding, HasFramesOf, IsCovered, Reaches}
+use Rattle.lane_state.specs.Awaiting.{AreAwaiting, AreOfMaps}
+use Rattle.lane_state.specs.OneAwaiting.{AreAwaiting-prop}
+use Rattle.lane_state.specs.Covered.{is_tried, lends_pages, pages_due}
 
 IsAtItsFrame-prop : (m : Memory) (v : ℕ) (r : Reach) → IsProp (IsAtItsFrame m v r)
 IsAtItsFrame-prop m v r = hlevel (props)

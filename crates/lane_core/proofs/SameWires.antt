@@ -8,13 +8,13 @@ use Rattle.std.specs.FinMap.{FinMap, get, entries, same_map, nat_cmp-IsAntisymme
 use Rattle.busdma_machine.specs.Machine.Page.{FrameBytes}
 use Rattle.busdma_machine.specs.Machine.Wire.{with_bytes_of}
 use Rattle.ideal_lane.specs.State.{LaneState}
-use Rattle.lane_core.specs.declared.holdings.Holdings.{Holdings}
-use Rattle.lane_core.specs.declared.kept.KeptMap.{KeptMap}
-use Rattle.lane_core.specs.Changes.{KeepsState}
-use Rattle.lane_core.specs.Kept.{device_of, map_of}
-use Rattle.lane_core.specs.MapValues.{entry_values, map_values}
-use Rattle.lane_core.specs.Wire.{held_pages, wire_of}
-use Rattle.lane_core.proofs.MapValues.{entries-map_values, get-map_values}
+use Rattle.lane_state.specs.declared.holdings.Holdings.{Holdings}
+use Rattle.lane_state.specs.declared.kept.KeptMap.{KeptMap}
+use Rattle.lane_state.specs.Changes.{KeepsState}
+use Rattle.lane_state.specs.Kept.{device_of, map_of}
+use Rattle.lane_state.specs.MapValues.{entry_values, map_values}
+use Rattle.lane_state.specs.Wire.{held_pages, wire_of}
+use Rattle.lane_state.proofs.MapValues.{entries-map_values, get-map_values}
 
 -- the bounce pages of a map
 abbrev map_pages : KeptMap → List FrameBytes

@@ -17,18 +17,19 @@ use Rattle.ideal_lane.specs.Turns as turns
 use Rattle.ideal_lane.specs.Turns.{advanced, lane_step, next_operation, operation, script_turn, stays, waits}
 use Rattle.ideal_lane.proofs.Falling.{rest-of}
 use Rattle.ideal_wire.specs.WireStep as wires
-use Rattle.lane_core.specs.declared.holdings.Answered.{Answered}
-use Rattle.lane_core.specs.declared.holdings.Holdings.{Holdings}
+use Rattle.lane_state.specs.declared.holdings.Answered.{Answered}
+use Rattle.lane_state.specs.declared.holdings.Holdings.{Holdings}
 use Rattle.lane_core.specs.declared.turn.Turn.{Turn}
 use Rattle.lane_core.specs.declared.turn.Turn.TheVariants as turn
-use Rattle.lane_core.specs.Changes.{IsWireOf, Becomes, Stays, WithMemory, KeepsButAgenda}
-use Rattle.lane_core.specs.Doing.{IsAllowedBy, IsDone, asks}
-use Rattle.lane_core.specs.Held.{devices_of, held}
-use Rattle.lane_core.specs.Ideal.{given, ideal_of}
-use Rattle.lane_core.specs.Kept.{map_of, memory_of, return_of, share_of, spaces_of, tag_of}
-use Rattle.lane_core.specs.MapValues.{map_values}
-use Rattle.lane_core.specs.Turning.{IsTurnOf, IsServed, IsTurned, answered, is_held, turned}
-use Rattle.lane_core.specs.Wire.{held_pages, wire_of}
+use Rattle.lane_state.specs.Changes.{IsWireOf, Becomes, Stays, WithMemory, KeepsButAgenda}
+use Rattle.lane_state.specs.Doing.{IsAllowedBy, IsDone, asks}
+use Rattle.lane_state.specs.Held.{devices_of, held}
+use Rattle.lane_state.specs.Ideal.{given, ideal_of}
+use Rattle.lane_state.specs.Kept.{map_of, memory_of, return_of, share_of, spaces_of, tag_of}
+use Rattle.lane_state.specs.MapValues.{map_values}
+use Rattle.lane_state.specs.Served.{IsServed}
+use Rattle.lane_core.specs.Turning.{IsTurnOf, IsTurned, answered, is_held, turned}
+use Rattle.lane_state.specs.Wire.{held_pages, wire_of}
 use Rattle.lane_core.proofs.TurnEnds.{done-turned, turn-may}
 
 -- ---- a step that goes on

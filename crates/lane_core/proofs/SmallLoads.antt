@@ -4,9 +4,9 @@ use Rattle.busdma_base.specs.declared.scenarios.script.Op.{Op}
 use Rattle.busdma_base.specs.Scenarios.Limits.{buffer_limit}
 use Rattle.busdma_base.specs.Scenarios.Operations.{loaded_by}
 use Rattle.ideal_lane.proofs.Falling.{rest-of}
-use Rattle.lane_core.specs.declared.holdings.Holdings.{Holdings}
-use Rattle.lane_core.specs.Changes.{KeepsPromises}
-use Rattle.lane_core.specs.SmallLoads.{HasSmallLoads, bytes_ahead}
+use Rattle.lane_state.specs.declared.holdings.Holdings.{Holdings}
+use Rattle.lane_state.specs.Changes.{KeepsPromises}
+use Rattle.lane_state.specs.SmallLoads.{HasSmallLoads, bytes_ahead}
 
 module _ (h : Holdings) (small : HasSmallLoads h) (o : Op)
     (here : slice_get h.script.now h.agenda.place ≡ Some o) where

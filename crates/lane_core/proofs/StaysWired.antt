@@ -22,10 +22,10 @@ use Rattle.ideal_wire.proofs.KeptSpaces.{turn-spaced}
 use Rattle.ideal_wire.proofs.Machines.{turn-keeps}
 use Rattle.ideal_wire.proofs.MappedTurns.{turn-mapped}
 use Rattle.ideal_wire.proofs.Turns.{turn-stays}
-use Rattle.lane_core.specs.declared.holdings.Holdings.{Holdings}
-use Rattle.lane_core.specs.Ideal.{ideal_of}
-use Rattle.lane_core.specs.Turning.{IsServed}
-use Rattle.lane_core.specs.Wire.{IsWired, wire_of}
+use Rattle.lane_state.specs.declared.holdings.Holdings.{Holdings}
+use Rattle.lane_state.specs.Ideal.{ideal_of}
+use Rattle.lane_state.specs.Served.{IsServed}
+use Rattle.lane_state.specs.Wire.{IsWired, wire_of}
 use Rattle.lane_core.proofs.AfterTurn.{Led}
 
 module _ (h k : Holdings) (s : Side) (d e : Seen) (stands : Stands (ideal_of h)) (wired : IsWired h)

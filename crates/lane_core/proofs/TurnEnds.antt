@@ -16,17 +16,18 @@ use Rattle.ideal_wire.specs.Apart.{IsApart}
 use Rattle.ideal_wire.specs.Laid.{AreLaid}
 use Rattle.ideal_wire.specs.WireStep.{BringsKnown, Follows}
 use Rattle.ideal_wire.specs.WireStep as wires
-use Rattle.lane_core.specs.declared.holdings.Holdings.{Holdings}
-use Rattle.lane_core.specs.declared.kept.KeptMemory.{KeptMemory}
-use Rattle.lane_core.specs.Doing.{IsAllowedBy, IsDone, asks}
-use Rattle.lane_core.specs.Kept.{memory_of}
-use Rattle.lane_core.specs.MapValues.{map_values}
-use Rattle.lane_core.specs.Ideal.{ideal_of}
-use Rattle.lane_core.specs.Turning.{IsServed, IsTurned}
-use Rattle.lane_core.specs.Wire.{IsWired, wire_of}
+use Rattle.lane_state.specs.declared.holdings.Holdings.{Holdings}
+use Rattle.lane_state.specs.declared.kept.KeptMemory.{KeptMemory}
+use Rattle.lane_state.specs.Doing.{IsAllowedBy, IsDone, asks}
+use Rattle.lane_state.specs.Kept.{memory_of}
+use Rattle.lane_state.specs.MapValues.{map_values}
+use Rattle.lane_state.specs.Ideal.{ideal_of}
+use Rattle.lane_state.specs.Served.{IsServed}
+use Rattle.lane_core.specs.Turning.{IsTurned}
+use Rattle.lane_state.specs.Wire.{IsWired, wire_of}
 use Rattle.lane_core.proofs.AfterTurn.{Led, led}
-use Rattle.lane_core.specs.Changes.{KeepsBesideMemory, KeepsWhatStays}
-use Rattle.lane_core.proofs.Following.{follows, follows-memory, none-known}
+use Rattle.lane_state.specs.Changes.{KeepsBesideMemory, KeepsWhatStays}
+use Rattle.lane_state.proofs.Following.{follows, follows-memory, none-known}
 use Rattle.lane_core.proofs.StaysWired.{still-apart, still-laid, still-own, still-served, still-stands, still-wired}
 
 -- a step that was done is a turn that was made, which tells whether a call was made

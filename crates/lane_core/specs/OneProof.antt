@@ -7,9 +7,9 @@ use Rattle.iommu_map.specs.Space.{AreRuns, DeviceRun, IsRunIn, Space, end_of}
 use Rattle.ideal_lane.specs.State.{LaneState}
 use Rattle.ideal_wire.specs.OneProof.{AreLaid-prop, IsApart-prop, IsFaithful-prop, IsInMachine-prop}
 use Rattle.ideal_wire.specs.Spaced.{AreSpaced}
-use Rattle.lane_core.specs.declared.holdings.Holdings.{Holdings}
-use Rattle.lane_core.specs.SmallLoads.{HasSmallLoads}
-use Rattle.lane_core.specs.Wire.{IsWired}
+use Rattle.lane_state.specs.declared.holdings.Holdings.{Holdings}
+use Rattle.lane_state.specs.SmallLoads.{HasSmallLoads}
+use Rattle.lane_state.specs.Wire.{IsWired}
 
 DeviceRun-set : IsSet DeviceRun
 DeviceRun-set = hlevel (props, is_set)

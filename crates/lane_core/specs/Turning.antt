@@ -1,15 +1,12 @@
 -- What a turn of a lane makes, at a door to the bounce lock.
-use Rattle.std.specs.Prelude.{◌≡◌, ◌⊎◌, ℕ, ◌+◌, ◌≤◌, Bool, true, false, IsTrue, [], length}
+use Rattle.std.specs.Prelude.{◌≡◌, ◌⊎◌, ℕ, ◌+◌, ◌≤◌, Bool, true, false, [], length}
 use Rattle.busdma_base.specs.declared.journals.journal.Side.{Side}
 use Rattle.busdma_base.specs.declared.journals.journal.Side.TheVariants as side
 use Rattle.busdma_machine.specs.declared.bounce.hold.HubCall.{HubCall}
 use Rattle.busdma_machine.specs.declared.bounce.hold.HubCall.TheVariants.{TakeCallback}
 use Rattle.busdma_machine.specs.declared.bounce.hold.HubReply.{HubReply}
 use Rattle.busdma_machine.specs.declared.bounce.hold.HubReply.TheVariants.{Nothing}
-use Rattle.busdma_machine.specs.Bounce.Door.{Seen, Misses, account}
-use Rattle.busdma_machine.specs.Bounce.EachFrame.{LiesBelowMaxmem}
-use Rattle.busdma_machine.specs.Bounce.History.{IsOpening, IsSound}
-use Rattle.ideal_lane.specs.Agreement.{AgreesWith}
+use Rattle.busdma_machine.specs.Bounce.Door.{Seen, Misses}
 use Rattle.ideal_lane.specs.Ahead.{items_ahead}
 use Rattle.ideal_lane.specs.Asking.{Asking, Gives, Asks}
 use Rattle.ideal_lane.specs.Standing.{Stands}
@@ -17,13 +14,14 @@ use Rattle.ideal_lane.specs.State.{LaneState}
 use Rattle.ideal_lane.specs.Turns as turns
 use Rattle.ideal_lane.specs.Turns.{Turned, lane_step}
 use Rattle.ideal_wire.specs.WireStep as wires
-use Rattle.lane_core.specs.declared.holdings.Holdings.{Holdings}
+use Rattle.lane_state.specs.declared.holdings.Holdings.{Holdings}
 use Rattle.lane_core.specs.declared.turn.Turn.{Turn}
 use Rattle.lane_core.specs.declared.turn.Turn.TheVariants.{Stepped, Blocked, Ended}
-use Rattle.lane_core.specs.Changes.{IsWireOf}
-use Rattle.lane_core.specs.Doing.{IsCalled}
-use Rattle.lane_core.specs.Ideal.{ideal_of}
-use Rattle.lane_core.specs.Wire.{IsWired, wire_of}
+use Rattle.lane_state.specs.Changes.{IsWireOf}
+use Rattle.lane_state.specs.Doing.{IsCalled}
+use Rattle.lane_state.specs.Ideal.{ideal_of}
+use Rattle.lane_state.specs.Served.{IsServed}
+use Rattle.lane_state.specs.Wire.{IsWired, wire_of}
 
 -- what a turn answers, but for what it tells of its call
 abbrev pub answered : Turn → turns.Turn
@@ -69,15 +67,6 @@ abbrev pub MayWant : LaneState → Side → Type 0
 MayWant l side.Script = l.returns ≡ []
 MayWant l side.Transfer = Unit {0}
 MayWant l side.Callback = ⊥
-
--- a door serves a driver, its history is sound from an account whose frames lie below the end of the machine's memory,
--- and its account agrees with the driver
-pub record IsServed (l : LaneState) (d : Seen) : Type 0 where
-  pub served : IsTrue (d.serves l.id)
-  pub opening : IsOpening d.opening
-  pub below : LiesBelowMaxmem d.opening
-  pub sound : IsSound d.opening d.history
-  pub agrees : AgreesWith l (account d)
 
 -- a driver stands and is wired, its transfer queue has room for the items ahead, and a door serves it
 pub record IsReady (h : Holdings) (d : Seen) : Type 0 where

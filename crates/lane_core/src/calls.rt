@@ -13,10 +13,13 @@ ghost use Rattle.lane_core.specs.Calls as calls;
 ghost use Rattle.lane_core.specs.Calls.{wire_unless_foreign};
 ghost use Rattle.lane_core.specs.LaneIdeal.{given, ideal, wire};
 
-use crate::holdings::report;
 use crate::lane::Lane;
 use busdma_base::{Answer, MapId, Place, ReportName};
 use dma_tag::SyncOps;
+use lane_access::{
+    cpu_read, cpu_write, dev_read, dev_read_at, dev_write, dev_write_at, sync, sync_range,
+};
+use lane_state::report;
 use std::alloc::{AllocError, Global};
 
 impl Lane<'_> {
@@ -38,7 +41,7 @@ impl Lane<'_> {
         if !self.owns(map) {
             return Ok(report(ReportName::Absent, 0));
         }
-        self.holdings.sync(alloc, map.made_at, ops)
+        sync(&mut self.holdings, alloc, map.made_at, ops)
     }
 
     /// A sync of `len` bytes of the load of a map, from `off` on.
@@ -60,7 +63,7 @@ impl Lane<'_> {
         if !self.owns(map) {
             return Ok(report(ReportName::Absent, 0));
         }
-        self.holdings.sync_range(alloc, map.made_at, off, len, ops)
+        sync_range(&mut self.holdings, alloc, map.made_at, off, len, ops)
     }
 
     /// The driver reads `len` bytes at a place.
@@ -69,7 +72,7 @@ impl Lane<'_> {
             Gives (given self.now answer) ≡ accesses.cpu_read place len (ideal self.now)) }
         ensures read { IfOk result (λ answer. Reads answer (place_bytes (ideal self.now) place len) (wire self.now)) }
     {
-        self.holdings.cpu_read(alloc, place, len)
+        cpu_read(&self.holdings, alloc, place, len)
     }
 
     /// The driver writes bytes at a place.
@@ -85,7 +88,7 @@ impl Lane<'_> {
         ensures err { OnErr result (ideal self.new ≡ ideal self.old) }
         ensures err_wire { OnErr result (wire self.new ≡ wire self.old) }
     {
-        self.holdings.cpu_write(alloc, place, bytes)
+        cpu_write(&mut self.holdings, alloc, place, bytes)
     }
 
     /// The device reads `len` bytes of a map's load, from `off` on.
@@ -106,7 +109,7 @@ impl Lane<'_> {
         if !self.owns(map) {
             return Ok(report(ReportName::Absent, 0));
         }
-        self.holdings.dev_read(alloc, map.made_at, off, len)
+        dev_read(&mut self.holdings, alloc, map.made_at, off, len)
     }
 
     /// The device writes bytes into a map's load, from `off` on.
@@ -127,7 +130,7 @@ impl Lane<'_> {
         if !self.owns(map) {
             return Ok(report(ReportName::Absent, 0));
         }
-        self.holdings.dev_write(alloc, map.made_at, off, bytes)
+        dev_write(&mut self.holdings, alloc, map.made_at, off, bytes)
     }
 
     /// The device of an IOMMU tag reads `len` bytes of the tag's address space, from `addr` on. The tag is named by the
@@ -146,7 +149,7 @@ impl Lane<'_> {
         ensures wire { wire self.new ≡ wire self.old }
         ensures same { ideal self.new ≡ ideal self.old }
     {
-        self.holdings.dev_read_at(alloc, tag, addr, len)
+        dev_read_at(&mut self.holdings, alloc, tag, addr, len)
     }
 
     /// The device of an IOMMU tag writes bytes into the tag's address space, from `addr` on. The tag is named by the
@@ -165,6 +168,6 @@ impl Lane<'_> {
         ensures err { OnErr result (ideal self.new ≡ ideal self.old) }
         ensures err_wire { OnErr result (wire self.new ≡ wire self.old) }
     {
-        self.holdings.dev_write_at(alloc, tag, addr, bytes)
+        dev_write_at(&mut self.holdings, alloc, tag, addr, bytes)
     }
 }

@@ -3,12 +3,12 @@
 ghost use Rattle.std.specs.Prelude.{◌≡◌, ◌≤◌, ◌+◌, length, IfOk, OnErr, OnOk};
 ghost use Rattle.ideal_lane.specs.Ahead.{items_ahead};
 ghost use Rattle.ideal_lane.specs.Standing.{Stands};
-ghost use Rattle.lane_core.specs.Ideal.{ideal_of};
+ghost use Rattle.lane_state.specs.Ideal.{ideal_of};
 ghost use Rattle.lane_core.specs.OneProof.{HasSmallLoads-prop, IsWired-prop};
-ghost use Rattle.lane_core.specs.SmallLoads.{HasSmallLoads};
-ghost use Rattle.lane_core.specs.Wire.{IsWired};
+ghost use Rattle.lane_state.specs.SmallLoads.{HasSmallLoads};
+ghost use Rattle.lane_state.specs.Wire.{IsWired};
 
-use crate::holdings::Holdings;
+use lane_state::Holdings;
 
 /// A driver at work: its script, and all that its steps change.
 #[derive(Drop)]

@@ -12,11 +12,11 @@ ghost use Rattle.busdma_base.specs.Scenarios.Valid.{LoadsFrom};
 ghost use Rattle.ideal_lane.specs.Opening.{opening_lane};
 ghost use Rattle.ideal_wire.specs.Machine.{IsOfMachine};
 ghost use Rattle.lane_core.specs.LaneIdeal.{ideal};
-ghost use Rattle.lane_core.specs.OpeningMemory.{ArePages, IsOpeningMemory, HasRun, IsWithout};
+ghost use Rattle.lane_state.specs.OpeningMemory.{ArePages, IsOpeningMemory, HasRun, IsWithout};
 
-use crate::holdings::Holdings;
 use crate::lane::Lane;
 use busdma_base::{Driver, LaneId, Pa, Page, PageRun, Va};
+use lane_state::Holdings;
 use lane_tables::{Agenda, PlaceTable};
 use loan_table::LoanTable;
 use phys_memory::LanePages;

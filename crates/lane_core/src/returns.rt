@@ -7,12 +7,13 @@ ghost use Rattle.busdma_base.specs.declared.journals.journal.Did.TheVariants as 
 ghost use Rattle.busdma_base.specs.declared.journals.journal.Side.TheVariants as side;
 ghost use Rattle.dma_map.specs.MapView.{idle};
 ghost use Rattle.ideal_lane.specs.Turns.{lane_step, stepped};
-ghost use Rattle.lane_core.specs.Covered.{is_returning};
-ghost use Rattle.lane_core.specs.Doing.{IsAllowedBy, IsDone};
+ghost use Rattle.lane_state.specs.Covered.{is_returning};
+ghost use Rattle.lane_state.specs.Doing.{IsAllowedBy, IsDone};
+ghost use Rattle.lane_state.specs.Changes.{KeepsBytes, KeepsPromises};
+ghost use Rattle.lane_state.specs.Ideal.{given, ideal_of};
 
-use crate::holdings::Holdings;
-use crate::kept::KeptMap;
 use busdma_base::{HubDoor, MapId, Pa};
+use lane_state::{Holdings, KeptMap};
 use lane_tables::{PlaceTable, Returned};
 
 /// A page that went back to its zone, and how many maps that made complete.
@@ -23,47 +24,42 @@ pub(crate) struct Released {
     pub(crate) served: u32,
 }
 
-impl Holdings<'_> {
-    ghost use Rattle.lane_core.specs.Changes.{KeepsBytes, KeepsPromises};
-    ghost use Rattle.lane_core.specs.Ideal.{given, ideal_of};
-
-    /// Gives the first page of the return queue back to its zone, or answers None where there is none.
-    pub(crate) fn release<D: HubDoor>(&mut self, door: &mut D) -> Option<Released>
-        requires { IsAllowedBy (D.seen door.old) self.old.id.0 (lane_step (ideal_of self.old) side.Script) }
-        ensures done { IfSome result (λ r.
-            IsDone (D.seen door.old) self.old.id.0 (lane_step (ideal_of self.old) side.Script)
-            (stepped side.Script (did.Release r.map r.page) (given self.new (answer.Served r.served)))
-            (D.seen door.new)) }
-        ensures bytes { KeepsBytes self.old self.new }
-        ensures script { self.new.script ≡ self.old.script }
-        ensures memories { self.new.memories ≡ self.old.memories }
-        ensures promised { self.new.agenda.promised ≤ self.old.agenda.promised }
-        ensures due { KeepsPromises self.old self.new }
-        ensures queue { self.new.agenda.queue ≡ self.old.agenda.queue }
-        ensures place { self.new.agenda.place ≡ self.old.agenda.place }
-        ensures length { self.new.agenda.length ≡ self.old.agenda.length }
-        ensures room { self.new.agenda.room ≡ self.old.agenda.room }
-        ensures some { IfSome result (λ r. 1 ≤ length self.old.agenda.returns) }
-        ensures empty { IfNone result (self.old.agenda.returns ≡ []) }
-        ensures same { IfNone result (self.new ≡ self.old) }
-        ensures unseen { IfNone result (D.seen door.new ≡ D.seen door.old) }
-        ensures fixed { D.fixed door.new ≡ D.fixed door.old }
-    {
-        let Returned {
-            map,
-            zone,
-            page,
-            last,
-        } = self.agenda.pop_return()?;
-        note_returned(&mut self.maps, map.made_at, last);
-        let at = page.address();
-        let served = door.release(map, zone, page);
-        Some(Released {
-            map,
-            page: at,
-            served,
-        })
-    }
+/// Gives the first page of the return queue back to its zone, or answers None where there is none.
+pub(crate) fn release<D: HubDoor>(holdings: &mut Holdings<'_>, door: &mut D) -> Option<Released>
+    requires { IsAllowedBy (D.seen door.old) holdings.old.id.0 (lane_step (ideal_of holdings.old) side.Script) }
+    ensures done { IfSome result (λ r.
+        IsDone (D.seen door.old) holdings.old.id.0 (lane_step (ideal_of holdings.old) side.Script)
+        (stepped side.Script (did.Release r.map r.page) (given holdings.new (answer.Served r.served)))
+        (D.seen door.new)) }
+    ensures bytes { KeepsBytes holdings.old holdings.new }
+    ensures script { holdings.new.script ≡ holdings.old.script }
+    ensures memories { holdings.new.memories ≡ holdings.old.memories }
+    ensures promised { holdings.new.agenda.promised ≤ holdings.old.agenda.promised }
+    ensures due { KeepsPromises holdings.old holdings.new }
+    ensures queue { holdings.new.agenda.queue ≡ holdings.old.agenda.queue }
+    ensures place { holdings.new.agenda.place ≡ holdings.old.agenda.place }
+    ensures length { holdings.new.agenda.length ≡ holdings.old.agenda.length }
+    ensures room { holdings.new.agenda.room ≡ holdings.old.agenda.room }
+    ensures some { IfSome result (λ r. 1 ≤ length holdings.old.agenda.returns) }
+    ensures empty { IfNone result (holdings.old.agenda.returns ≡ []) }
+    ensures same { IfNone result (holdings.new ≡ holdings.old) }
+    ensures unseen { IfNone result (D.seen door.new ≡ D.seen door.old) }
+    ensures fixed { D.fixed door.new ≡ D.fixed door.old }
+{
+    let Returned {
+        map,
+        zone,
+        page,
+        last,
+    } = holdings.agenda.pop_return()?;
+    note_returned(&mut holdings.maps, map.made_at, last);
+    let at = page.address();
+    let served = door.release(map, zone, page);
+    Some(Released {
+        map,
+        page: at,
+        served,
+    })
 }
 
 /// Notes that a page of a map left the return queue. Where it was the map's last there, the map is idle.

@@ -5,15 +5,17 @@ ghost use Rattle.ideal_lane.specs.Turns.{lane_step};
 ghost use Rattle.ideal_wire.specs.Centre.{IsFaithful};
 ghost use Rattle.ideal_wire.specs.WireStep.{Follows};
 ghost use Rattle.ideal_wire.specs.WireStep as wires;
-ghost use Rattle.lane_core.specs.Doing.{IsUndone};
-ghost use Rattle.lane_core.specs.Kept.{share_of};
+ghost use Rattle.lane_state.specs.Doing.{IsUndone};
+ghost use Rattle.lane_state.specs.Kept.{share_of};
 ghost use Rattle.lane_core.specs.LaneIdeal.{ideal, turned, wire};
-ghost use Rattle.lane_core.specs.Turning.{IsServed, IsTurned, MayWant, is_held};
+ghost use Rattle.lane_state.specs.Served.{IsServed};
+ghost use Rattle.lane_core.specs.Turning.{IsTurned, MayWant, is_held};
 
-use crate::kept::KeptShare;
 use crate::lane::Lane;
 use crate::turn::Turn;
+use crate::turns::turn;
 use busdma_base::{HubDoor, Side, ZoneId};
+use lane_state::KeptShare;
 use std::alloc::{AllocError, Global};
 
 /// The share of a zone, or 0 where none is kept.
@@ -52,7 +54,7 @@ impl Lane<'_> {
         ensures wanting { OnErr result (MayWant (ideal self.old) side) }
         ensures fixed { D.fixed door.new ≡ D.fixed door.old }
     {
-        self.holdings.turn(alloc, door, side)
+        turn(&mut self.holdings, alloc, door, side)
     }
 
     /// Whether an item stands in the transfer queue; where none does, the turn of that side is Blocked.

@@ -8,147 +8,151 @@ ghost use Rattle.ideal_lane.specs.Asking.{Gives};
 ghost use Rattle.ideal_lane.specs.Standing.{Stands};
 ghost use Rattle.ideal_lane.specs.Turns.{lane_step};
 ghost use Rattle.ideal_wire.specs.WireStep as wires;
-ghost use Rattle.lane_core.specs.declared.holdings.Holdings.{Holdings};
+ghost use Rattle.lane_state.specs.declared.holdings.Holdings.{Holdings};
 ghost use Rattle.lane_core.specs.declared.turn.Turn.{Turn};
-ghost use Rattle.lane_core.specs.Changes.{KeepsAgenda, KeepsPromises, KeepsState};
-ghost use Rattle.lane_core.specs.Doing.{IsAllowedBy, IsUndone};
+ghost use Rattle.lane_state.specs.Changes.{KeepsAgenda, KeepsPromises, KeepsState};
+ghost use Rattle.lane_state.specs.Doing.{IsAllowedBy, IsUndone};
 ghost use Rattle.lane_core.specs.Turning.{IsTurnOf, IsReady, MayWant, is_held, turned};
-ghost use Rattle.lane_core.specs.Wire.{IsWired, wire_of};
+ghost use Rattle.lane_state.specs.Wire.{IsWired, wire_of};
+ghost use Rattle.lane_state.specs.Ideal.{ideal_of};
+ghost use Rattle.lane_state.specs.SmallLoads.{HasSmallLoads};
 
-use crate::holdings::{Answered, Holdings};
-use crate::returns::Released;
+use crate::callbacks::call_back;
+use crate::operations::operation;
+use crate::returns::{Released, release};
+use crate::steps::{advance, pop_item, put_item_back, transfer, waits};
 use crate::turn::{Turn, stepped};
 use busdma_base::{Answer, Did, HubDoor, Side};
+use lane_state::{Answered, Holdings};
 use std::alloc::{AllocError, Global};
 
-impl Holdings<'_> {
-    ghost use Rattle.lane_core.specs.Ideal.{ideal_of};
-    ghost use Rattle.lane_core.specs.SmallLoads.{HasSmallLoads};
+/// The first page of the return queue goes back to its zone, if there is one.
+pub(crate) fn return_turn<D: HubDoor>(holdings: &mut Holdings<'_>, door: &mut D) -> Option<Turn>
+    requires { IsAllowedBy (D.seen door.old) holdings.old.id.0 (lane_step (ideal_of holdings.old) side.Script) }
+    ensures made { IfSome result (IsTurnOf holdings.old holdings.new (D.seen door.old) (D.seen door.new) side.Script) }
+    ensures script { holdings.new.script ≡ holdings.old.script }
+    ensures memories { holdings.new.memories ≡ holdings.old.memories }
+    ensures place { holdings.new.agenda.place ≡ holdings.old.agenda.place }
+    ensures promised { holdings.new.agenda.promised ≤ holdings.old.agenda.promised }
+    ensures due { KeepsPromises holdings.old holdings.new }
+    ensures empty { IfNone result (holdings.old.agenda.returns ≡ []) }
+    ensures same { IfNone result (holdings.new ≡ holdings.old) }
+    ensures unseen { IfNone result (D.seen door.new ≡ D.seen door.old) }
+    ensures fixed { D.fixed door.new ≡ D.fixed door.old }
+{
+    let Released { map, page, served } = release(holdings, door)?;
+    let did = Did::Release { map, page };
+    Some(stepped(holdings.id, Side::Script, did, Answer::Served(served), true))
+}
 
-    /// The first page of the return queue goes back to its zone, if there is one.
-    pub(crate) fn return_turn<D: HubDoor>(&mut self, door: &mut D) -> Option<Turn>
-        requires { IsAllowedBy (D.seen door.old) self.old.id.0 (lane_step (ideal_of self.old) side.Script) }
-        ensures made { IfSome result (IsTurnOf self.old self.new (D.seen door.old) (D.seen door.new) side.Script) }
-        ensures script { self.new.script ≡ self.old.script }
-        ensures memories { self.new.memories ≡ self.old.memories }
-        ensures place { self.new.agenda.place ≡ self.old.agenda.place }
-        ensures promised { self.new.agenda.promised ≤ self.old.agenda.promised }
-        ensures due { KeepsPromises self.old self.new }
-        ensures empty { IfNone result (self.old.agenda.returns ≡ []) }
-        ensures same { IfNone result (self.new ≡ self.old) }
-        ensures unseen { IfNone result (D.seen door.new ≡ D.seen door.old) }
-        ensures fixed { D.fixed door.new ≡ D.fixed door.old }
-    {
-        let Released { map, page, served } = self.release(door)?;
-        let did = Did::Release { map, page };
-        Some(stepped(self.id, Side::Script, did, Answer::Served(served), true))
+/// The next operation of the script, where no page goes back.
+fn operation_turn<D: HubDoor>(
+    holdings: &mut Holdings<'_>,
+    alloc: Global,
+    door: &mut D,
+) -> Result<Turn, AllocError>
+    requires ready { IsReady holdings.old (D.seen door.old) }
+    requires small { HasSmallLoads holdings.old }
+    requires length { holdings.old.agenda.length ≡ length holdings.old.script.now }
+    requires empty { holdings.old.agenda.returns ≡ [] }
+    ensures made { IfOk result (IsTurnOf holdings.old holdings.new (D.seen door.old) (D.seen door.new) side.Script) }
+    ensures err { OnErr result (KeepsState holdings.old holdings.new) }
+    ensures undone { OnErr result (IsUndone (D.seen door.old) (D.seen door.new)) }
+    ensures room { OnErr result (holdings.old.agenda.room ≤ holdings.new.agenda.room) }
+    ensures places { holdings.new.agenda.length ≡ holdings.old.agenda.length }
+    ensures small { HasSmallLoads holdings.new }
+    ensures fixed { D.fixed door.new ≡ D.fixed door.old }
+{
+    let place = holdings.agenda.place();
+    let Some(op) = holdings.script.get(place as usize) else {
+        return Ok(Turn::Ended);
+    };
+    if waits(holdings, op) {
+        return Ok(Turn::Blocked);
     }
+    let Answered { answer, held } = operation(holdings, alloc, door, op)?;
+    advance(holdings);
+    Ok(stepped(holdings.id, Side::Script, Did::Op(place), answer, held))
+}
 
-    /// The next operation of the script, where no page goes back.
-    fn operation_turn<D: HubDoor>(
-        &mut self,
-        alloc: Global,
-        door: &mut D,
-    ) -> Result<Turn, AllocError>
-        requires ready { IsReady self.old (D.seen door.old) }
-        requires small { HasSmallLoads self.old }
-        requires length { self.old.agenda.length ≡ length self.old.script.now }
-        requires empty { self.old.agenda.returns ≡ [] }
-        ensures made { IfOk result (IsTurnOf self.old self.new (D.seen door.old) (D.seen door.new) side.Script) }
-        ensures err { OnErr result (KeepsState self.old self.new) }
-        ensures undone { OnErr result (IsUndone (D.seen door.old) (D.seen door.new)) }
-        ensures room { OnErr result (self.old.agenda.room ≤ self.new.agenda.room) }
-        ensures places { self.new.agenda.length ≡ self.old.agenda.length }
-        ensures small { HasSmallLoads self.new }
-        ensures fixed { D.fixed door.new ≡ D.fixed door.old }
-    {
-        let place = self.agenda.place();
-        let Some(op) = self.script.get(place as usize) else {
-            return Ok(Turn::Ended);
-        };
-        if self.waits(op) {
-            return Ok(Turn::Blocked);
-        }
-        let Answered { answer, held } = self.operation(alloc, door, op)?;
-        self.advance();
-        Ok(stepped(self.id, Side::Script, Did::Op(place), answer, held))
+/// The script: a page goes back, or else the next operation is done.
+fn script_turn<D: HubDoor>(
+    holdings: &mut Holdings<'_>,
+    alloc: Global,
+    door: &mut D,
+) -> Result<Turn, AllocError>
+    requires ready { IsReady holdings.old (D.seen door.old) }
+    requires small { HasSmallLoads holdings.old }
+    requires length { holdings.old.agenda.length ≡ length holdings.old.script.now }
+    ensures made { IfOk result (IsTurnOf holdings.old holdings.new (D.seen door.old) (D.seen door.new) side.Script) }
+    ensures err { OnErr result (KeepsState holdings.old holdings.new) }
+    ensures undone { OnErr result (IsUndone (D.seen door.old) (D.seen door.new)) }
+    ensures wanting { OnErr result (holdings.old.agenda.returns ≡ []) }
+    ensures room { OnErr result (holdings.old.agenda.room ≤ holdings.new.agenda.room) }
+    ensures places { holdings.new.agenda.length ≡ holdings.old.agenda.length }
+    ensures small { HasSmallLoads holdings.new }
+    ensures fixed { D.fixed door.new ≡ D.fixed door.old }
+{
+    match return_turn(holdings, door) {
+        Some(turn) => Ok(turn),
+        None => operation_turn(holdings, alloc, door),
     }
+}
 
-    /// The script: a page goes back, or else the next operation is done.
-    fn script_turn<D: HubDoor>(&mut self, alloc: Global, door: &mut D) -> Result<Turn, AllocError>
-        requires ready { IsReady self.old (D.seen door.old) }
-        requires small { HasSmallLoads self.old }
-        requires length { self.old.agenda.length ≡ length self.old.script.now }
-        ensures made { IfOk result (IsTurnOf self.old self.new (D.seen door.old) (D.seen door.new) side.Script) }
-        ensures err { OnErr result (KeepsState self.old self.new) }
-        ensures undone { OnErr result (IsUndone (D.seen door.old) (D.seen door.new)) }
-        ensures wanting { OnErr result (self.old.agenda.returns ≡ []) }
-        ensures room { OnErr result (self.old.agenda.room ≤ self.new.agenda.room) }
-        ensures places { self.new.agenda.length ≡ self.old.agenda.length }
-        ensures small { HasSmallLoads self.new }
-        ensures fixed { D.fixed door.new ≡ D.fixed door.old }
-    {
-        match self.return_turn(door) {
-            Some(turn) => Ok(turn),
-            None => self.operation_turn(alloc, door),
-        }
+/// A turn of a side.
+pub(crate) fn turn<D: HubDoor>(
+    holdings: &mut Holdings<'_>,
+    alloc: Global,
+    door: &mut D,
+    side: Side,
+) -> Result<Turn, AllocError>
+    requires ready { IsReady holdings.old (D.seen door.old) }
+    requires small { HasSmallLoads holdings.old }
+    requires length { holdings.old.agenda.length ≡ length holdings.old.script.now }
+    ensures made { IfOk result (IsTurnOf holdings.old holdings.new (D.seen door.old) (D.seen door.new) side) }
+    ensures err { OnErr result (KeepsState holdings.old holdings.new) }
+    ensures undone { OnErr result (IsUndone (D.seen door.old) (D.seen door.new)) }
+    ensures wanting { OnErr result (MayWant (ideal_of holdings.old) side) }
+    ensures ready { IsReady holdings.new (D.seen door.new) }
+    ensures small { HasSmallLoads holdings.new }
+    ensures length { holdings.new.agenda.length ≡ length holdings.new.script.now }
+    ensures fixed { D.fixed door.new ≡ D.fixed door.old }
+{
+    match side {
+        Side::Script => script_turn(holdings, alloc, door),
+        Side::Transfer => transfer_turn(holdings, alloc),
+        Side::Callback => Ok(call_back(holdings, door)),
     }
+}
 
-    /// A turn of a side.
-    pub(crate) fn turn<D: HubDoor>(
-        &mut self,
-        alloc: Global,
-        door: &mut D,
-        side: Side,
-    ) -> Result<Turn, AllocError>
-        requires ready { IsReady self.old (D.seen door.old) }
-        requires small { HasSmallLoads self.old }
-        requires length { self.old.agenda.length ≡ length self.old.script.now }
-        ensures made { IfOk result (IsTurnOf self.old self.new (D.seen door.old) (D.seen door.new) side) }
-        ensures err { OnErr result (KeepsState self.old self.new) }
-        ensures undone { OnErr result (IsUndone (D.seen door.old) (D.seen door.new)) }
-        ensures wanting { OnErr result (MayWant (ideal_of self.old) side) }
-        ensures ready { IsReady self.new (D.seen door.new) }
-        ensures small { HasSmallLoads self.new }
-        ensures length { self.new.agenda.length ≡ length self.new.script.now }
-        ensures fixed { D.fixed door.new ≡ D.fixed door.old }
-    {
-        match side {
-            Side::Script => self.script_turn(alloc, door),
-            Side::Transfer => self.transfer_turn(alloc),
-            Side::Callback => Ok(self.call_back(door)),
-        }
-    }
-
-    /// The first item of the transfer queue, if there is one.
-    pub(crate) fn transfer_turn(&mut self, alloc: Global) -> Result<Turn, AllocError>
-        requires wired { IsWired self.old }
-        requires stands { Stands (ideal_of self.old) }
-        ensures done { IfOk result (λ turn.
-            Gives (turned self.new turn) ≡ lane_step (ideal_of self.old) side.Transfer) }
-        ensures unheld { IfOk result (λ turn. is_held turn ≡ false) }
-        ensures wire { OnOk result (wire_of self.new
-            ≡ wires.lane_step (ideal_of self.old) side.Transfer (wire_of self.old)) }
-        ensures script { self.new.script ≡ self.old.script }
-        ensures memories { self.new.memories ≡ self.old.memories }
-        ensures agenda { KeepsAgenda self.old self.new }
-        ensures promised { self.new.agenda.promised ≤ self.old.agenda.promised }
-        ensures due { KeepsPromises self.old self.new }
-        ensures err { OnErr result (KeepsState self.old self.new) }
-    {
-        let Some(queued) = self.pop_item() else {
-            return Ok(Turn::Blocked);
-        };
-        let did = Did::Item {
-            load_at: queued.load_at,
-            place: queued.place,
-        };
-        match self.transfer(alloc, &queued.item) {
-            Ok(answer) => Ok(stepped(self.id, Side::Transfer, did, answer, false)),
-            Err(error) => {
-                self.put_item_back(queued);
-                Err(error)
-            }
+/// The first item of the transfer queue, if there is one.
+pub(crate) fn transfer_turn(holdings: &mut Holdings<'_>, alloc: Global) -> Result<Turn, AllocError>
+    requires wired { IsWired holdings.old }
+    requires stands { Stands (ideal_of holdings.old) }
+    ensures done { IfOk result (λ turn.
+        Gives (turned holdings.new turn) ≡ lane_step (ideal_of holdings.old) side.Transfer) }
+    ensures unheld { IfOk result (λ turn. is_held turn ≡ false) }
+    ensures wire { OnOk result (wire_of holdings.new
+        ≡ wires.lane_step (ideal_of holdings.old) side.Transfer (wire_of holdings.old)) }
+    ensures script { holdings.new.script ≡ holdings.old.script }
+    ensures memories { holdings.new.memories ≡ holdings.old.memories }
+    ensures agenda { KeepsAgenda holdings.old holdings.new }
+    ensures promised { holdings.new.agenda.promised ≤ holdings.old.agenda.promised }
+    ensures due { KeepsPromises holdings.old holdings.new }
+    ensures err { OnErr result (KeepsState holdings.old holdings.new) }
+{
+    let Some(queued) = pop_item(holdings) else {
+        return Ok(Turn::Blocked);
+    };
+    let did = Did::Item {
+        load_at: queued.load_at,
+        place: queued.place,
+    };
+    match transfer(holdings, alloc, &queued.item) {
+        Ok(answer) => Ok(stepped(holdings.id, Side::Transfer, did, answer, false)),
+        Err(error) => {
+            put_item_back(holdings, queued);
+            Err(error)
         }
     }
 }

@@ -2,7 +2,7 @@
 use Rattle.busdma_machine.specs.Bounce.Door.{Seen}
 use Rattle.lane_core.specs.declared.lane.Lane.{Lane}
 use Rattle.lane_core.specs.LaneIdeal.{ideal}
-use Rattle.lane_core.specs.Turning.{IsServed}
+use Rattle.lane_state.specs.Served.{IsServed}
 
 -- a door serves a driver
 unfoldable pub Serves : Seen → Lane → Type 0

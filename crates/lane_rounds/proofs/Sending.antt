@@ -14,9 +14,9 @@ use Rattle.lane_tables.specs.contracts.agenda.Agenda as Agenda
 use Rattle.lane_tables.specs.contracts.place_table.PlaceTable as Table
 use Rattle.loan_table.specs.contracts.table.LoanTable as Loans
 use Rattle.phys_memory.specs.contracts.pages.LanePages as Pages
-use Rattle.lane_core.specs.contracts.buffers.LoadBytes as Bytes
-use Rattle.lane_core.specs.contracts.kept.KeptLoad as Load
-use Rattle.lane_core.specs.contracts.kept.KeptTag as Tag
+use Rattle.lane_state.specs.contracts.buffers.LoadBytes as Bytes
+use Rattle.lane_state.specs.contracts.kept.KeptLoad as Load
+use Rattle.lane_state.specs.contracts.kept.KeptTag as Tag
 use Rattle.lane_core.specs.contracts.lane.Lane as Lane
 use Rattle.lane_merge.specs.contracts.merging.LoggedStep as Step
 use Rattle.lane_rounds.specs.contracts.worker.Worker as Worker

@@ -19,8 +19,9 @@ use Rattle.ideal_lane.specs.Asking.{Asking, Gives, Asks, by_reply, call_of}
 use Rattle.ideal_lane.specs.State.{LaneState}
 use Rattle.ideal_lane.specs.Turns.{Turn, Turned, Stepped, Blocked, called_back, lane_step, stays}
 use Rattle.ideal_lane.proofs.Own.{IsOwn, turn-own}
-use Rattle.lane_core.specs.Doing.{IsUndone}
-use Rattle.lane_core.specs.Turning.{IsServed, IsTurned}
+use Rattle.lane_state.specs.Doing.{IsUndone}
+use Rattle.lane_state.specs.Served.{IsServed}
+use Rattle.lane_core.specs.Turning.{IsTurned}
 use Rattle.lane_merge.specs.declared.merging.LoggedStep.{LoggedStep}
 use Rattle.lane_merge.specs.declared.merging.LoggedStep.TheVariants.{Local, Held}
 use Rattle.lane_merge.specs.Merged.{logged}

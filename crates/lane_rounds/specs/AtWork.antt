@@ -8,7 +8,7 @@ use Rattle.busdma_machine.specs.Bounce.Door.{Seen}
 use Rattle.busdma_machine.specs.Bounce.LaneEntries.{of_lane}
 use Rattle.ideal_lane.specs.State.{LaneState}
 use Rattle.lane_core.specs.LaneIdeal.{ideal}
-use Rattle.lane_core.specs.Turning.{IsServed}
+use Rattle.lane_state.specs.Served.{IsServed}
 use Rattle.lane_merge.specs.Runs.{Log, Runs}
 use Rattle.lane_rounds.specs.declared.worker.Worker.{Worker}
 

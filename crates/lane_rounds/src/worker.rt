@@ -3,7 +3,7 @@
 ghost use Rattle.std.specs.Prelude.{◌≡◌, [], IfOk};
 ghost use Rattle.busdma_machine.specs.Bounce.LaneEntries.{of_lane};
 ghost use Rattle.lane_core.specs.LaneIdeal.{ideal};
-ghost use Rattle.lane_core.specs.Turning.{IsServed};
+ghost use Rattle.lane_state.specs.Served.{IsServed};
 ghost use Rattle.lane_rounds.specs.AtWork as work;
 ghost use Rattle.lane_rounds.specs.AtWork.{Grows, IsAtWork, Tells, Works, place_of, tells_failure, tells_step};
 

@@ -21,7 +21,7 @@ use Rattle.ideal_world.specs.World.{opening_world}
 use Rattle.ideal_world.proofs.Lanes.{length-opening_lanes, opening_at}
 use Rattle.lane_core.specs.declared.lane.Lane.{Lane}
 use Rattle.lane_core.specs.LaneIdeal.{ideal}
-use Rattle.lane_core.specs.Turning.{IsServed}
+use Rattle.lane_state.specs.Served.{IsServed}
 use Rattle.lane_threads.specs.Closing.{LanePass}
 use Rattle.lane_threads.specs.PassDoor as pass
 use Rattle.lane_threads.specs.PassDoor.{seen_from}

@@ -4,7 +4,7 @@ use Rattle.busdma_machine.specs.Bounce.LaneEntries.{of_lane}
 use Rattle.ideal_lane.specs.State.{LaneState}
 use Rattle.lane_core.specs.declared.lane.Lane.{Lane}
 use Rattle.lane_core.specs.LaneIdeal.{ideal}
-use Rattle.lane_core.specs.Turning.{IsServed}
+use Rattle.lane_state.specs.Served.{IsServed}
 use Rattle.lane_threads.specs.Closing.{LanePass}
 use Rattle.lane_threads.specs.PassDoor as pass
 use Rattle.lane_threads.specs.PassDoor.{seen_from}

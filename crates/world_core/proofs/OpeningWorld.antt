@@ -20,7 +20,7 @@ use Rattle.busdma_base.specs.Scenarios.Valid.{IsDriver, IsValid, LoadsFrom, load
 use Rattle.bounce_hub.specs.Seen.{HubSeen}
 use Rattle.lane_core.specs.declared.lane.Lane.{Lane}
 use Rattle.lane_core.specs.LaneIdeal.{ideal}
-use Rattle.lane_core.specs.OpeningMemory.{ArePages, IsOwnRun}
+use Rattle.lane_state.specs.OpeningMemory.{ArePages, IsOwnRun}
 use Rattle.ideal_lane.specs.Opening.{opening_lane}
 use Rattle.ideal_wire.specs.Machine.{IsInMachine, IsOfMachine}
 use Rattle.ideal_wire.proofs.Machinery.{opens-in-machine}

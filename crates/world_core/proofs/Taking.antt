@@ -15,8 +15,9 @@ use Rattle.busdma_base.proofs.Openings.{below-opening}
 use Rattle.bounce_hub.specs.Seen.{HubSeen, door}
 use Rattle.lane_core.specs.declared.lane.Lane.{Lane}
 use Rattle.lane_core.specs.LaneIdeal.{ideal}
-use Rattle.lane_core.specs.Turning.{IsServed, IsTurned, answered, is_held}
-use Rattle.lane_core.specs.Doing.{IsUndone}
+use Rattle.lane_state.specs.Served.{IsServed}
+use Rattle.lane_core.specs.Turning.{IsTurned, answered, is_held}
+use Rattle.lane_state.specs.Doing.{IsUndone}
 use Rattle.lane_core.specs.declared.turn.Turn as told
 use Rattle.lane_core.specs.declared.turn.Turn.TheVariants as held
 use Rattle.ideal_lane.specs.Turns.{Turn, lane_step}

@@ -19,7 +19,7 @@ use Rattle.bounce_hub.specs.Seen.{HubSeen, door}
 use Rattle.ideal_lane.specs.Asking.{Asking, Gives, Asks}
 use Rattle.ideal_lane.specs.State.{LaneState}
 use Rattle.ideal_lane.specs.Turns.{Turned}
-use Rattle.lane_core.specs.Doing.{IsUndone}
+use Rattle.lane_state.specs.Doing.{IsUndone}
 use Rattle.lane_core.specs.Turning.{IsTurned}
 use Rattle.ideal_world.specs.Holds.{hold_of, holds_by}
 use Rattle.ideal_world.specs.World.{WorldState, WorldTurned, replied, turned}

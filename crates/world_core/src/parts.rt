@@ -4,7 +4,7 @@ ghost use Rattle.std.specs.Prelude.{ℕ, ◌≡◌, Some, slice_get};
 ghost use Rattle.bounce_hub.specs.Seen.{door};
 ghost use Rattle.lane_core.specs.declared.lane.Lane.{Lane};
 ghost use Rattle.lane_core.specs.LaneIdeal.{ideal};
-ghost use Rattle.lane_core.specs.Turning.{IsServed};
+ghost use Rattle.lane_state.specs.Served.{IsServed};
 ghost use Rattle.world_core.specs.Ideal.{holds, ideal_world};
 ghost use Rattle.world_core.specs.Kept.{IsKept, world_of};
 ghost use Rattle.world_core.specs.Wires.{wires_in, wires_of};

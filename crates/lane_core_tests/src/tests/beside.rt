@@ -4,7 +4,7 @@ ghost use Rattle.std.specs.Prelude.{◌≡◌, ◌≢◌};
 ghost use Rattle.bounce_hub.specs.Seen.{door};
 ghost use Rattle.lane_core_tests.specs.Beside.{Comes};
 ghost use Rattle.lane_core.specs.LaneIdeal.{ideal};
-ghost use Rattle.lane_core.specs.Turning.{IsServed};
+ghost use Rattle.lane_state.specs.Served.{IsServed};
 
 use bounce_hub::Hub;
 use busdma_base::{
@@ -78,7 +78,7 @@ impl<'s> Model for BesideDoor<'s> {
     ghost use Rattle.bounce_hub.specs.Seen.{door};
     ghost use Rattle.lane_core_tests.specs.Beside.{Beside};
     ghost use Rattle.lane_core.specs.LaneIdeal.{ideal};
-    ghost use Rattle.lane_core.specs.Turning.{IsServed};
+    ghost use Rattle.lane_state.specs.Served.{IsServed};
 
     ghost Value = { Beside };
 

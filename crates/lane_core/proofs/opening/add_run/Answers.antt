@@ -1,6 +1,6 @@
 use Rattle.std.proofs.Common.{◌≡◌, ◌+◌, ◌*◌, ◌/◌, false, cond, ap, sym, ◌∙◌, subst, arith}
 use Rattle.phys_memory.specs.Memory.{has_page, with_page}
-use Rattle.lane_core.specs.OpeningMemory.{HasRun}
+use Rattle.lane_state.specs.OpeningMemory.{HasRun}
 use Rattle.lane_core.proofs.OpeningPages.{first_of, next_page, has_more}
 use Rattle.lane_core.proofs.opening.add_run.Goals as goal
 

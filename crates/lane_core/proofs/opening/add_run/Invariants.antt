@@ -1,4 +1,4 @@
-use Rattle.lane_core.specs.OpeningMemory.{HasRun}
+use Rattle.lane_state.specs.OpeningMemory.{HasRun}
 use Rattle.lane_core.proofs.OpeningPages.{first_of}
 use Rattle.lane_core.proofs.opening.add_run.Given as goal
 

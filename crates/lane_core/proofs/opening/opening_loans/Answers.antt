@@ -2,7 +2,7 @@ use Rattle.std.proofs.Common.{take, get_or, ap, ◌∙◌, subst, arith}
 use Rattle.std.proofs.lemmas.List.{take_all}
 use Rattle.std.specs.Ordering.{nat_cmp}
 use Rattle.std.specs.FinMap.{get, get-empty}
-use Rattle.lane_core.proofs.OwnRuns.{AreKnown, no_run, own_at, run_is_new, run_is_known}
+use Rattle.lane_state.proofs.OwnRuns.{AreKnown, no_run, own_at, run_is_new, run_is_known}
 use Rattle.lane_core.proofs.opening.opening_loans.Goals as goal
 
 pub loop-run-init : goal.loop-run-init

@@ -1,6 +1,6 @@
 use Rattle.std.proofs.Common.{take, get_or, subst}
 use Rattle.std.proofs.lemmas.List.{take_all}
-use Rattle.lane_core.proofs.OwnRuns.{no_run, own_at}
+use Rattle.lane_state.proofs.OwnRuns.{no_run, own_at}
 use Rattle.lane_core.proofs.OpeningPages.{HoldsPages, has_no_pages, is_without, has_next, has_opening}
 use Rattle.lane_core.proofs.opening.opening_memory.Goals as goal
 

@@ -1,5 +1,5 @@
 use Rattle.std.proofs.Common.{◌≡◌, drop}
-use Rattle.lane_core.specs.Kept.{share_of}
+use Rattle.lane_state.specs.Kept.{share_of}
 use Rattle.lane_core.proofs.stepping.share_of.Given as goal
 
 abbrev pub invariant-loop-share : goal.invariant-loop-share

@@ -2,7 +2,7 @@ use Rattle.std.proofs.Common.{◌≡◌, ◌+◌, ap, ◌∙◌, arith, length, 
 use Rattle.std.proofs.lemmas.List.{take_all}
 use Rattle.busdma_base.specs.declared.scenarios.scenario.PageRun.{PageRun}
 use Rattle.lane_core.specs.LaneIdeal.{ideal}
-use Rattle.lane_core.specs.OpeningMemory.{ArePages, IsOpeningMemory}
+use Rattle.lane_state.specs.OpeningMemory.{ArePages, IsOpeningMemory}
 use Rattle.ideal_lane.specs.Opening.{opening_lane}
 use Rattle.ideal_world.specs.World.{opening_lanes}
 use Rattle.world_core.proofs.OpeningWorld.{may-open, next_lane}

@@ -1,5 +1,5 @@
-use Rattle.lane_core.specs.Ideal.{ideal_of}
-use Rattle.lane_core.proofs.Doors.{err-map}
+use Rattle.lane_state.specs.Ideal.{ideal_of}
+use Rattle.lane_state.proofs.Doors.{err-map}
 use Rattle.lane_core.proofs.LaneCalls.{called-lane, cpu_write-after}
 use Rattle.lane_core.proofs.OneStanding.{stands-of}
 use Rattle.lane_core.proofs.SameWires.{same-wire}
@@ -9,7 +9,7 @@ pub invariant_of-self : goal.invariant_of-self
 invariant_of-self c =
     let l = c.args.self.now in
     let h = l.holdings in
-    let k = c.cpu_write.new.self in
+    let k = c.cpu_write.new.holdings in
     let r = c.cpu_write.ensures in
     let lane =
     called-lane h k
@@ -29,4 +29,4 @@ returns-clause-err c = err-map c.cpu_write.result (λ s. s.ideal) c.cpu_write.en
 
 pub returns-clause-err_wire : goal.returns-clause-err_wire
 returns-clause-err_wire c =
-    err-map c.cpu_write.result (same-wire c.args.self.now.holdings c.cpu_write.new.self) c.cpu_write.ensures.err
+    err-map c.cpu_write.result (same-wire c.args.self.now.holdings c.cpu_write.new.holdings) c.cpu_write.ensures.err

@@ -3,9 +3,9 @@ use Rattle.busdma_base.specs.declared.journals.answer.Answer.{Answer}
 use Rattle.ideal_lane.specs.Accesses as accesses
 use Rattle.ideal_lane.specs.Outcomes.{gives}
 use Rattle.ideal_wire.specs.WireStep.{Reads, load_buses}
-use Rattle.lane_core.specs.Ideal.{ideal_of}
-use Rattle.lane_core.specs.Wire.{wire_of}
-use Rattle.lane_core.proofs.Doors.{ok-map}
+use Rattle.lane_state.specs.Ideal.{ideal_of}
+use Rattle.lane_state.specs.Wire.{wire_of}
+use Rattle.lane_state.proofs.Doors.{ok-map}
 use Rattle.lane_core.proofs.LaneCalls.{called-lane, foreign-call, kept-on, own-call}
 use Rattle.lane_core.proofs.OneStanding.{stands-of}
 use Rattle.lane_core.proofs.lane.Lane.dev_read.Goals as goal
@@ -17,7 +17,7 @@ pub invariant_of-self : goal.invariant_of-self
 invariant_of-self c =
     let l = c.args.self.now in
     let h = l.holdings in
-    let k = c.dev_read.new.self in
+    let k = c.dev_read.new.holdings in
     let r = c.dev_read.ensures in
     let lane =
     called-lane h k

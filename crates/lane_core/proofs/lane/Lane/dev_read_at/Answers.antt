@@ -1,4 +1,4 @@
-use Rattle.lane_core.specs.Ideal.{ideal_of}
+use Rattle.lane_state.specs.Ideal.{ideal_of}
 use Rattle.lane_core.proofs.LaneCalls.{called-lane, kept-on}
 use Rattle.lane_core.proofs.OneStanding.{stands-of}
 use Rattle.lane_core.proofs.lane.Lane.dev_read_at.Goals as goal
@@ -11,7 +11,7 @@ pub invariant_of-self : goal.invariant_of-self
 invariant_of-self c =
     let l = c.args.self.now in
     let h = l.holdings in
-    let k = c.dev_read_at.new.self in
+    let k = c.dev_read_at.new.holdings in
     let r = c.dev_read_at.ensures in
     let lane =
     called-lane h k

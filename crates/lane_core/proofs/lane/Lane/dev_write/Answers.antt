@@ -2,9 +2,9 @@ use Rattle.std.proofs.Common.{ap, sym, ◌∙◌}
 use Rattle.ideal_lane.specs.Accesses as accesses
 use Rattle.ideal_lane.specs.Outcomes.{gives}
 use Rattle.ideal_wire.specs.WireStep as wires
-use Rattle.lane_core.specs.Ideal.{ideal_of}
-use Rattle.lane_core.specs.Wire.{wire_of}
-use Rattle.lane_core.proofs.Doors.{err-map, ok-map}
+use Rattle.lane_state.specs.Ideal.{ideal_of}
+use Rattle.lane_state.specs.Wire.{wire_of}
+use Rattle.lane_state.proofs.Doors.{err-map, ok-map}
 use Rattle.lane_core.proofs.LaneCalls.{called-lane, foreign-call, foreign-wire, own-call, own-wire, dev_write-after}
 use Rattle.lane_core.proofs.OneStanding.{stands-of}
 use Rattle.lane_core.proofs.SameWires.{same-wire}
@@ -17,7 +17,7 @@ pub invariant_of-self : goal.invariant_of-self
 invariant_of-self c =
     let l = c.args.self.now in
     let h = l.holdings in
-    let k = c.dev_write.new.self in
+    let k = c.dev_write.new.holdings in
     let r = c.dev_write.ensures in
     let lane =
     called-lane h k
@@ -67,4 +67,4 @@ returns-clause-err c = err-map c.dev_write.result (λ s. s.ideal) c.dev_write.en
 
 pub returns-clause-err_wire : goal.returns-clause-err_wire
 returns-clause-err_wire c =
-    err-map c.dev_write.result (same-wire c.args.self.now.holdings c.dev_write.new.self) c.dev_write.ensures.err
+    err-map c.dev_write.result (same-wire c.args.self.now.holdings c.dev_write.new.holdings) c.dev_write.ensures.err

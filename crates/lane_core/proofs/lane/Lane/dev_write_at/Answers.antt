@@ -1,5 +1,5 @@
-use Rattle.lane_core.specs.Ideal.{ideal_of}
-use Rattle.lane_core.proofs.Doors.{err-map}
+use Rattle.lane_state.specs.Ideal.{ideal_of}
+use Rattle.lane_state.proofs.Doors.{err-map}
 use Rattle.lane_core.proofs.LaneCalls.{called-lane, dev_write_at-after}
 use Rattle.lane_core.proofs.OneStanding.{stands-of}
 use Rattle.lane_core.proofs.SameWires.{same-wire}
@@ -13,7 +13,7 @@ pub invariant_of-self : goal.invariant_of-self
 invariant_of-self c =
     let l = c.args.self.now in
     let h = l.holdings in
-    let k = c.dev_write_at.new.self in
+    let k = c.dev_write_at.new.holdings in
     let r = c.dev_write_at.ensures in
     let lane =
     called-lane h k
@@ -33,5 +33,5 @@ returns-clause-err c = err-map c.dev_write_at.result (λ s. s.ideal) c.dev_write
 
 pub returns-clause-err_wire : goal.returns-clause-err_wire
 returns-clause-err_wire c =
-    err-map c.dev_write_at.result (same-wire c.args.self.now.holdings c.dev_write_at.new.self)
+    err-map c.dev_write_at.result (same-wire c.args.self.now.holdings c.dev_write_at.new.holdings)
     c.dev_write_at.ensures.err

@@ -10,20 +10,20 @@ use Rattle.ideal_lane.specs.Opening.{opening_lane}
 use Rattle.ideal_lane.specs.Standing.{Stands}
 use Rattle.ideal_lane.proofs.Openings.{opens-standing}
 use Rattle.ideal_lane.proofs.Weights.{weigh-empty}
-use Rattle.lane_core.specs.declared.kept.KeptMemory.{KeptMemory}
-use Rattle.lane_core.specs.Covered.{items_left, pages_due}
-use Rattle.lane_core.specs.Held.{devices_of}
-use Rattle.lane_core.specs.Kept.{map_of, memory_of, return_of, share_of, spaces_of, tag_of}
-use Rattle.lane_core.specs.MapValues.{map_values}
-use Rattle.lane_core.proofs.MapValues.{map_values-empty}
-use Rattle.lane_core.proofs.OwnRuns.{AreKnown}
+use Rattle.lane_state.specs.declared.kept.KeptMemory.{KeptMemory}
+use Rattle.lane_state.specs.Covered.{items_left, pages_due}
+use Rattle.lane_state.specs.Held.{devices_of}
+use Rattle.lane_state.specs.Kept.{map_of, memory_of, return_of, share_of, spaces_of, tag_of}
+use Rattle.lane_state.specs.MapValues.{map_values}
+use Rattle.lane_state.proofs.MapValues.{map_values-empty}
+use Rattle.lane_state.proofs.OwnRuns.{AreKnown}
 use Rattle.lane_core.proofs.OpensSmall.{opens-small}
 use Rattle.lane_core.proofs.OpensWired.{opens-wired}
-use Rattle.lane_core.proofs.Spaces.{spaces-empty}
+use Rattle.lane_state.proofs.Spaces.{spaces-empty}
 use Rattle.lane_core.proofs.OpeningLane.{held-zeros, opens-covered, opens-framed, opens-mapless, opens-reaching}
-use Rattle.lane_core.proofs.Awaiting.{awaiting-empty}
-use Rattle.lane_core.specs.Awaiting.{AreAwaiting, AreOfMaps}
-use Rattle.lane_core.proofs.OfMaps.{of-maps-empty}
+use Rattle.lane_state.proofs.Awaiting.{awaiting-empty}
+use Rattle.lane_state.specs.Awaiting.{AreAwaiting, AreOfMaps}
+use Rattle.lane_state.proofs.OfMaps.{of-maps-empty}
 use Rattle.lane_core.proofs.lane.Lane.new.Goals as goal
 
 none-there : (k : ℕ) (x : KeptMemory) → None ≡ Some x → ⊥

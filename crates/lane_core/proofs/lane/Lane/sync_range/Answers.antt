@@ -2,9 +2,9 @@ use Rattle.std.proofs.Common.{ap, sym, ◌∙◌}
 use Rattle.ideal_lane.specs.Syncs as syncs
 use Rattle.ideal_lane.specs.Outcomes.{gives}
 use Rattle.ideal_wire.specs.WireStep as wires
-use Rattle.lane_core.specs.Ideal.{ideal_of}
-use Rattle.lane_core.specs.Wire.{wire_of}
-use Rattle.lane_core.proofs.Doors.{err-map, ok-map}
+use Rattle.lane_state.specs.Ideal.{ideal_of}
+use Rattle.lane_state.specs.Wire.{wire_of}
+use Rattle.lane_state.proofs.Doors.{err-map, ok-map}
 use Rattle.lane_core.proofs.LaneCalls.{called-lane, foreign-call, foreign-wire, own-call, own-wire, sync_range-after}
 use Rattle.lane_core.proofs.OneStanding.{stands-of}
 use Rattle.lane_core.proofs.SameWires.{same-wire}
@@ -14,7 +14,7 @@ pub invariant_of-self : goal.invariant_of-self
 invariant_of-self c =
     let l = c.args.self.now in
     let h = l.holdings in
-    let k = c.sync_range.new.self in
+    let k = c.sync_range.new.holdings in
     let r = c.sync_range.ensures in
     let lane =
     called-lane h k
@@ -64,4 +64,4 @@ returns-clause-err c = err-map c.sync_range.result (λ s. s.ideal) c.sync_range.
 
 pub returns-clause-err_wire : goal.returns-clause-err_wire
 returns-clause-err_wire c =
-    err-map c.sync_range.result (same-wire c.args.self.now.holdings c.sync_range.new.self) c.sync_range.ensures.err
+    err-map c.sync_range.result (same-wire c.args.self.now.holdings c.sync_range.new.holdings) c.sync_range.ensures.err

@@ -1,5 +1,5 @@
-use Rattle.lane_core.specs.Ideal.{ideal_of}
-use Rattle.lane_core.proofs.Doors.{err-map, ok-map}
+use Rattle.lane_state.specs.Ideal.{ideal_of}
+use Rattle.lane_state.proofs.Doors.{err-map, ok-map}
 use Rattle.lane_core.proofs.OneStanding.{stands-of}
 use Rattle.lane_core.proofs.Providing.{follows-after, kept-follows}
 use Rattle.lane_core.proofs.lane.Lane.turn.Goals as goal
@@ -31,7 +31,7 @@ returns-clause-done g c = ok-map c.turn.result _ _ (λ t made. made.done) c.turn
 pub returns-clause-wire : goal.returns-clause-wire
 returns-clause-wire g c =
     let l = c.args.self.now in
-    follows-after l.holdings c.turn.new.self (g.D.HubDoor.seen c.args.door.now) (g.D.HubDoor.seen c.turn.new.door)
+    follows-after l.holdings c.turn.new.holdings (g.D.HubDoor.seen c.args.door.now) (g.D.HubDoor.seen c.turn.new.door)
     c.args.side (record {
       stands = stands-of (ideal_of l.holdings) l.stands;
       wired = l.wired;
@@ -47,7 +47,7 @@ returns-clause-err g c = err-map c.turn.result (λ s. s.ideal) c.turn.ensures.er
 
 pub returns-clause-err_wire : goal.returns-clause-err_wire
 returns-clause-err_wire g c =
-    err-map c.turn.result (kept-follows c.args.self.now.holdings c.turn.new.self c.args.self.now.wired)
+    err-map c.turn.result (kept-follows c.args.self.now.holdings c.turn.new.holdings c.args.self.now.wired)
     c.turn.ensures.err
 
 pub returns-clause-wanting : goal.returns-clause-wanting

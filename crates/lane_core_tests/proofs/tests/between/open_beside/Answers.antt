@@ -2,7 +2,7 @@ use Rattle.std.proofs.Common.{◌≡◌, ◌<◌, ◌∷◌, ◌++◌, [], ap, s
 use Rattle.bounce_hub.specs.Seen.{door}
 use Rattle.lane_core.specs.declared.lane.Lane.{Lane}
 use Rattle.lane_core.specs.LaneIdeal.{ideal}
-use Rattle.lane_core.specs.Turning.{IsServed}
+use Rattle.lane_state.specs.Served.{IsServed}
 use Rattle.lane_core_tests.specs.Beside.{Beside, seen}
 use Rattle.lane_core_tests.specs.Serving.{Serves}
 use Rattle.lane_core_tests.proofs.Coming.{served-there}

@@ -1,0 +1,122 @@
+-- Loads of IOMMU tags' maps, of which no byte is bounced.
+use Rattle.std.proofs.Common.{◌≡◌, ℕ, ◌+◌, ◌≤◌, Bool, true, false, List, [], ◌∷◌, length, Some, None, refl, sym, ap, ◌∙◌}
+use Rattle.std.proofs.Common.{subst}
+use Rattle.std.specs.FinMap.{get}
+use Rattle.std.specs.List.{AllZip}
+use Rattle.std.specs.Option.{option_map_or}
+use Rattle.busdma_machine.specs.declared.bounce.hold.HubReply.TheVariants.{Nothing}
+use Rattle.busdma_base.specs.declared.journals.answer.Answer.TheVariants as answer
+use Rattle.busdma_machine.specs.declared.machine.chunk.Chunk.{Chunk}
+use Rattle.busdma_machine.specs.declared.report.Judged.TheVariants.{Fine}
+use Rattle.busdma_machine.specs.Machine.PageList.{page_addresses}
+use Rattle.busdma_machine.specs.Machine.Wire.{Placed, buses, put}
+use Rattle.loan_table.specs.declared.position.Position.{Position}
+use Rattle.loan_table.specs.Access.{dev_write_answer}
+use Rattle.loan_table.specs.Loans.{addresses_of, load_bytes, loan_of}
+use Rattle.loan_table.specs.Table.{buffer_of}
+use Rattle.ideal_lane.specs.Accesses.{dev_write}
+use Rattle.ideal_lane.specs.Asking.{Asking, by_reply}
+use Rattle.ideal_lane.specs.Loads.{is_device}
+use Rattle.ideal_lane.specs.Outcomes.{Outcome, gives}
+use Rattle.ideal_lane.specs.Standing.{IsPageless, Stands, StandsAt}
+use Rattle.ideal_lane.specs.State.{LaneState, LaneMap, LaneTag}
+use Rattle.ideal_lane.specs.Syncs.{bounced_in}
+use Rattle.ideal_wire.specs.Centre.{IsFaithful}
+use Rattle.ideal_wire.specs.Laid.{IsInPage, is_behind}
+use Rattle.ideal_wire.specs.Traces.{placed_from, stage_at, stage_in, traces_of}
+use Rattle.ideal_wire.specs.WireStep as wires
+use Rattle.ideal_wire.specs.WireStep.{if_done, load_buses}
+use Rattle.ideal_wire.proofs.Calls.{dev_write-faithful}
+use Rattle.ideal_wire.proofs.Copies.{same_range}
+use Rattle.lane_state.specs.declared.holdings.Holdings.{Holdings}
+use Rattle.lane_state.specs.declared.kept.KeptMap.{KeptMap}
+use Rattle.lane_state.specs.Changes.{with_written}
+use Rattle.lane_state.specs.Covered.{has_load}
+use Rattle.lane_state.specs.Ideal.{ideal_of}
+use Rattle.lane_state.specs.Kept.{map_of, stage_of}
+use Rattle.lane_state.specs.Wire.{IsWired, wire_of}
+use Rattle.lane_state.proofs.Devices.{Loading, loading}
+use Rattle.lane_access.proofs.DeviceWrites.{dev_write-within}
+use Rattle.lane_state.proofs.MapValues.{image-some}
+use Rattle.lane_state.proofs.Reading.{passes}
+
+-- where no page is held no chunk is bounced
+no-chunk : (cs : List Chunk) (pages : List ℕ) → AllZip IsInPage cs pages → pages ≡ [] → cs ≡ []
+no-chunk [] pages paged none = refl
+no-chunk (c ∷ cs) [] paged none = absurd paged
+no-chunk (c ∷ cs) (p ∷ ps) paged none = absurd (cc)
+
+-- bytes that are not bounced have their own addresses on the bus
+own-placed : (at : ℕ) (pas : List ℕ) → buses (placed_from [] at pas) ≡ pas
+own-placed at [] = refl
+own-placed at (a ∷ pas) = ap (λ xs. a ∷ xs) (own-placed (at + 1) pas)
+
+-- a map that is tested to be none of an IOMMU tag is none
+pub not-behind : (h : Holdings) (k : ℕ) (o : KeptMap) → get h.maps.map k ≡ Some o → (b : Bool) →
+    ((q : LaneMap) → get (ideal_of h).maps k ≡ Some q → b ≡ is_device (ideal_of h) q) → b ≡ false →
+    is_behind (ideal_of h) k ≡ false
+not-behind h k o there b is plain =
+    let at = image-some map_of h.maps.map k o there in
+    ap (λ y. option_map_or (is_device (ideal_of h)) y false) at ∙ sym (is (map_of o) at) ∙ plain
+
+module _ (h : Holdings) (wired : IsWired h) (stands : Stands (ideal_of h)) (k : ℕ) (o : KeptMap)
+    (there : get h.maps.map k ≡ Some o) (on : has_load (Some o) ≡ true)
+    (device : is_device (ideal_of h) (map_of o) ≡ true) where
+  abbrev l : LaneState
+  l = ideal_of h
+
+  abbrev x : Loading h wired k o there on
+  x = loading h wired k o there on
+
+  unbounced : bounced_in (stage_at l k) ≡ []
+  unbounced =
+      ap (λ q. bounced_in (stage_in q)) (image-some map_of h.maps.map k o there)
+      ∙ ap (λ s. bounced_in (stage_of s)) x.stage
+      ∙ no-chunk x.bounced (page_addresses x.pages.items) x.load.paged
+      (subst (λ s. IsPageless (stage_of s)) x.stage (st.pageless zone))
+    where
+      st : StandsAt l.maxmem l.tags l.mems k (map_of o)
+      st = stands.each k (map_of o) (image-some map_of h.maps.map k o there)
+
+      zone : (map_of o).zone ≡ None
+      zone = st.device (sym (ap (λ q. option_map_or (λ (t : LaneTag). t.device) q
+          false) st.there) ∙ device)
+
+  -- the device reaches the bytes of a range where they are themselves
+  pub own-buses : (off len : ℕ) → load_buses l k off len ≡ load_bytes l.loans k off len
+  own-buses off len =
+      same_range (λ (t : Placed). t.bus) (λ (p : Position). p.pa) off len (traces_of l k)
+      (loan_of l.loans k).positions
+      (ap (λ cs. buses (placed_from cs 0 (addresses_of (loan_of l.loans k).positions))) unbounced
+      ∙ own-placed 0 (addresses_of (loan_of l.loans k).positions))
+
+  -- a write of a range that is done
+  module _ (off : ℕ) (vs : List ℕ) (range : off + length vs ≤ length (buffer_of h.loans k))
+      (fine : Fine ≡ dev_write_answer (loan_of h.loans.loans k) off (length vs)) where
+    abbrev pas : List ℕ
+    pas = load_bytes l.loans k off (length vs)
+
+    pub own-step : dev_write k off vs l ≡ gives (with_written pas vs l) answer.Done
+    own-step =
+        dev_write-within l k (map_of o) (image-some map_of h.maps.map k o there) on off vs range
+        ∙ passes (dev_write_answer (loan_of l.loans k) off (length vs)) l (gives (with_written pas vs l) answer.Done)
+        (sym fine)
+
+    pub own-wire : wires.dev_write k off vs l (wire_of h) ≡ put pas vs (wire_of h)
+    own-wire =
+        ap (λ s. if_done s (put (load_buses l k off (length vs)) vs (wire_of h)) (wire_of h)) own-step
+        ∙ ap (λ ks. put ks vs (wire_of h)) (own-buses off (length vs))
+
+    pub own-faithful : IsFaithful (with_written pas vs l) (put pas vs (wire_of h))
+    own-faithful =
+        subst (IsFaithful (with_written pas vs l)) own-wire
+        (subst (λ (s : Asking Outcome). IsFaithful (by_reply s Nothing).lane (wires.dev_write k off vs l (wire_of h)))
+        own-step
+        (dev_write-faithful l (wire_of h) wired.apart wired.laid wired.faithful k off vs Nothing))
+
+-- a map that is tested to be one of an IOMMU tag is one
+pub is-behind : (h : Holdings) (k : ℕ) (o : KeptMap) → get h.maps.map k ≡ Some o → (b : Bool) →
+    ((q : LaneMap) → get (ideal_of h).maps k ≡ Some q → b ≡ is_device (ideal_of h) q) → b ≡ true →
+    is_device (ideal_of h) (map_of o) ≡ true
+is-behind h k o there b is passes_it =
+    sym (is (map_of o) (image-some map_of h.maps.map k o there)) ∙ passes_it

@@ -1,0 +1,184 @@
+use Rattle.std.proofs.Common.{◌≡◌, false, map, Some, refl, ap, sym, ◌∙◌, subst}
+use Rattle.std.specs.FinMap.{get, insert}
+use Rattle.busdma_base.specs.declared.journals.answer.Answer.TheVariants as answer
+use Rattle.busdma_machine.specs.declared.name.MapId.{MapId}
+use Rattle.loan_table.specs.Access.{dev_read_answer}
+use Rattle.busdma_machine.specs.Runs.{addresses}
+use Rattle.loan_table.specs.Loans.{load_bytes, loan_of}
+use Rattle.loan_table.specs.Table.{AreIn, is_known}
+use Rattle.phys_memory.specs.Frames.{Lie}
+use Rattle.phys_memory.specs.Memory.{wire}
+use Rattle.ideal_lane.specs.Outcomes.{gives}
+use Rattle.ideal_wire.specs.Laid.{is_behind}
+use Rattle.lane_state.specs.declared.kept.KeptMap.{KeptMap}
+use Rattle.lane_state.specs.Covered.{has_load}
+use Rattle.lane_state.specs.Ideal.{ideal_of}
+use Rattle.lane_state.specs.Kept.{map_of}
+use Rattle.lane_state.specs.Wire.{wire_of}
+use Rattle.lane_access.proofs.DeviceReads.{dev_read-by, dev_read-done, dev_read-past, dev_read-reads, dev_read-refused, load-there}
+use Rattle.lane_state.proofs.Devices.{is-reached}
+use Rattle.lane_state.proofs.MapValues.{image-some}
+use Rattle.lane_access.proofs.OwnExtents.{lie-inside, own-reads}
+use Rattle.lane_access.proofs.Unbounced.{is-behind, not-behind, own-buses}
+use Rattle.lane_access.proofs.PutBack.{are-back, ideal-back, pages-back, put-same, wire-back}
+use Rattle.lane_state.specs.Awaiting.{AreAwaiting}
+use Rattle.lane_access.proofs.accesses.dev_read.Goals as goal
+
+pub returns-in-Some-past_end-clause-done : goal.returns-in-Some-past_end-clause-done
+returns-in-Some-past_end-clause-done c =
+    let h = c.args.holdings.now in
+    let x = load-there (get h.maps.map c.args.map) c.in_default.ensures.loaded in
+    dev_read-past (ideal_of h) c.args.map (map_of x.0) (image-some map_of h.maps.map c.args.map x.0 x.1) x.2 c.args.off
+    c.args.len c.in-Some-past_end.refusal c.in-Some-past_end.ensures.refused
+
+pub returns-in-Refused-clause-done : goal.returns-in-Refused-clause-done
+returns-in-Refused-clause-done c =
+    let h = c.args.holdings.now in
+    dev_read-refused h c.args.map c.args.off c.args.len c.in_default.ensures.loaded
+    c.in_default-past_end.ensures.range c.in-Refused.refusal
+    (sym c.in-Refused.is ∙ c.may_dev_read.ensures
+    ∙ ap (λ (m : MapId). dev_read_answer (is_known h.loans) (loan_of h.loans.loans m.made_at) c.args.off c.args.len)
+    c.map_id-id.ensures)
+
+pub read_load-bytes-requires : goal.read_load-bytes-requires
+read_load-bytes-requires c =
+    let h = c.args.holdings.now in
+    let o : KeptMap = c.in-Some-get_mut.kept.now in
+    let there : get h.maps.map c.args.map ≡ Some o = sym c.in-Some-get_mut.ensures.value in
+    let plain : is_behind (ideal_of h) c.args.map ≡ false =
+    not-behind h c.args.map o there c.is_device.result c.is_device.ensures c.if-is_device.false in
+    let on = sym (ap has_load there) ∙ c.in_default.ensures.loaded in
+    is-reached h c.requires.wired c.args.map o there on plain c.args.off c.args.len c.in_default-past_end.ensures.range
+
+pub invariant_of-holdings-2 : goal.invariant_of-holdings-2
+invariant_of-holdings-2 c =
+    let h = c.args.holdings.now in
+    let o : KeptMap = c.in-Some-get_mut.kept.now in
+    let there : get h.maps.map c.args.map ≡ Some o = sym c.in-Some-get_mut.ensures.value in
+    let maps = put-same h.maps.map c.args.map o c.read_load-bytes.new.map there c.read_load-bytes.ensures.kept in
+    let are = are-back h (insert h.maps.map c.args.map (record o { map = c.read_load-bytes.new.map })) maps in
+    record {
+      covered = h.covered;
+      reaches = h.reaches;
+      framed = h.framed;
+      placed = h.placed;
+      standing = h.standing;
+      tag_places = h.tag_places;
+      map_places = h.map_places;
+      memory_places = h.memory_places;
+      loaded = are.loaded;
+      unlent = are.unlent;
+      promised = are.promised;
+      own_returns = h.own_returns;
+      returning = are.returning;
+      tried = are.tried;
+      awaiting = subst (λ ms. AreAwaiting h.pages.now h.maxmem h.tags.map ms h.loans.prepared) (sym maps) h.awaiting;
+      ready = h.ready;
+    }
+
+pub returns-clause-done : goal.returns-clause-done
+returns-clause-done c =
+    let h = c.args.holdings.now in
+    let o : KeptMap = c.in-Some-get_mut.kept.now in
+    let there : get h.maps.map c.args.map ≡ Some o = sym c.in-Some-get_mut.ensures.value in
+    let plain : is_behind (ideal_of h) c.args.map ≡ false =
+    not-behind h c.args.map o there c.is_device.result c.is_device.ensures c.if-is_device.false in
+    let maps = put-same h.maps.map c.args.map o c.read_load-bytes.new.map there c.read_load-bytes.ensures.kept in
+    ap (λ s. gives s (answer.Bytes c.in_ok-bytes.field-0)) (ideal-back h (insert h.maps.map c.args.map (record o { map = c.read_load-bytes.new.map })) maps)
+    ∙ dev_read-done h c.args.map c.args.off c.args.len c.in_default.ensures.loaded
+    c.in_default-past_end.ensures.range c.requires.wired o there plain
+    (sym c.in_default-may_dev_read.is ∙ c.may_dev_read.ensures
+    ∙ ap (λ (m : MapId). dev_read_answer (is_known h.loans) (loan_of h.loans.loans m.made_at) c.args.off c.args.len)
+    c.map_id-id.ensures)
+    c.in_ok-bytes.field-0 c.in_ok-bytes.ensures.bytes
+
+pub returns-clause-read : goal.returns-clause-read
+returns-clause-read c =
+    let h = c.args.holdings.now in
+    let o : KeptMap = c.in-Some-get_mut.kept.now in
+    let there : get h.maps.map c.args.map ≡ Some o = sym c.in-Some-get_mut.ensures.value in
+    let plain : is_behind (ideal_of h) c.args.map ≡ false =
+    not-behind h c.args.map o there c.is_device.result c.is_device.ensures c.if-is_device.false in
+    dev_read-reads h c.args.map c.args.off c.args.len c.in_default.ensures.loaded
+    c.in_default-past_end.ensures.range c.requires.wired o there plain
+    (sym c.in_default-may_dev_read.is ∙ c.may_dev_read.ensures
+    ∙ ap (λ (m : MapId). dev_read_answer (is_known h.loans) (loan_of h.loans.loans m.made_at) c.args.off c.args.len)
+    c.map_id-id.ensures)
+    c.in_ok-bytes.field-0 c.in_ok-bytes.ensures.bytes
+
+pub returns-clause-wire : goal.returns-clause-wire
+returns-clause-wire c =
+    let h = c.args.holdings.now in
+    let o : KeptMap = c.in-Some-get_mut.kept.now in
+    let there : get h.maps.map c.args.map ≡ Some o = sym c.in-Some-get_mut.ensures.value in
+    let maps = put-same h.maps.map c.args.map o c.read_load-bytes.new.map there c.read_load-bytes.ensures.kept in
+    wire-back h (insert h.maps.map c.args.map (record o { map = c.read_load-bytes.new.map })) maps
+
+pub returns-clause-kept : goal.returns-clause-kept
+returns-clause-kept c =
+    let h = c.args.holdings.now in
+    let o : KeptMap = c.in-Some-get_mut.kept.now in
+    let there : get h.maps.map c.args.map ≡ Some o = sym c.in-Some-get_mut.ensures.value in
+    let maps = put-same h.maps.map c.args.map o c.read_load-bytes.new.map there c.read_load-bytes.ensures.kept in
+    record {
+      ideal = ideal-back h (insert h.maps.map c.args.map (record o { map = c.read_load-bytes.new.map })) maps;
+      bytes = record { own = refl; pages = pages-back h (insert h.maps.map c.args.map (record o { map = c.read_load-bytes.new.map })) maps };
+    }
+
+pub returns-in_err-bytes-clause-wire : goal.returns-in_err-bytes-clause-wire
+returns-in_err-bytes-clause-wire c =
+    let h = c.args.holdings.now in
+    let o : KeptMap = c.in-Some-get_mut.kept.now in
+    let there : get h.maps.map c.args.map ≡ Some o = sym c.in-Some-get_mut.ensures.value in
+    let maps = put-same h.maps.map c.args.map o c.read_load-bytes.new.map there c.read_load-bytes.ensures.kept in
+    wire-back h (insert h.maps.map c.args.map (record o { map = c.read_load-bytes.new.map })) maps
+
+pub returns-in_err-bytes-clause-kept : goal.returns-in_err-bytes-clause-kept
+returns-in_err-bytes-clause-kept c =
+    let h = c.args.holdings.now in
+    let o : KeptMap = c.in-Some-get_mut.kept.now in
+    let there : get h.maps.map c.args.map ≡ Some o = sym c.in-Some-get_mut.ensures.value in
+    let maps = put-same h.maps.map c.args.map o c.read_load-bytes.new.map there c.read_load-bytes.ensures.kept in
+    record {
+      ideal = ideal-back h (insert h.maps.map c.args.map (record o { map = c.read_load-bytes.new.map })) maps;
+      bytes = record { own = refl; pages = pages-back h (insert h.maps.map c.args.map (record o { map = c.read_load-bytes.new.map })) maps };
+    }
+
+pub read_parts-requires-clause-lie : goal.read_parts-requires-clause-lie
+read_parts-requires-clause-lie c =
+    let h = c.args.holdings.now in
+    subst (Lie h.memory.memory) (sym c.as_slice.ensures.value)
+    (lie-inside h c.requires.wired c.in_ok-parts.parts.items c.in_ok-parts.ensures.in_frames
+    (subst (AreIn h.loans.bytes) (sym c.in_ok-parts.ensures.bytes) c.in_default-past_end.ensures.inside))
+
+pub returns-then-is_device-clause-read : goal.returns-then-is_device-clause-read
+returns-then-is_device-clause-read c =
+    let h = c.args.holdings.now in
+    let x = load-there (get h.maps.map c.args.map) c.in_default.ensures.loaded in
+    let device = is-behind h c.args.map x.0 x.1 c.is_device.result c.is_device.ensures c.if-is_device.true in
+    c.in_ok-read_parts.ensures
+    ∙ ap (λ es. map (wire h.memory.memory) (addresses es)) c.as_slice.ensures.value
+    ∙ ap (map (wire h.memory.memory)) c.in_ok-parts.ensures.bytes
+    ∙ own-reads h c.requires.wired (load_bytes h.loans.loans c.args.map c.args.off c.args.len)
+    c.in_default-past_end.ensures.inside
+    ∙ ap (map (wire_of h)) (sym (own-buses h c.requires.wired c.requires.stands c.args.map x.0 x.1 x.2 device
+    c.args.off c.args.len))
+
+pub returns-then-is_device-clause-done : goal.returns-then-is_device-clause-done
+returns-then-is_device-clause-done c =
+    let h = c.args.holdings.now in
+    let x = load-there (get h.maps.map c.args.map) c.in_default.ensures.loaded in
+    let device = is-behind h c.args.map x.0 x.1 c.is_device.result c.is_device.ensures c.if-is_device.true in
+    dev_read-by h c.args.map c.args.off c.args.len c.in_default.ensures.loaded
+    c.in_default-past_end.ensures.range c.requires.wired
+    (sym c.in_default-may_dev_read.is ∙ c.may_dev_read.ensures
+    ∙ ap (λ (m : MapId). dev_read_answer (is_known h.loans) (loan_of h.loans.loans m.made_at) c.args.off c.args.len)
+    c.map_id-id.ensures)
+    c.in_ok-read_parts.field-0
+    (c.in_ok-read_parts.ensures
+    ∙ ap (λ es. map (wire h.memory.memory) (addresses es)) c.as_slice.ensures.value
+    ∙ ap (map (wire h.memory.memory)) c.in_ok-parts.ensures.bytes
+    ∙ own-reads h c.requires.wired (load_bytes h.loans.loans c.args.map c.args.off c.args.len)
+    c.in_default-past_end.ensures.inside
+    ∙ ap (map (wire_of h)) (sym (own-buses h c.requires.wired c.requires.stands c.args.map x.0 x.1 x.2 device
+    c.args.off c.args.len)))

@@ -1,0 +1,12 @@
+use Rattle.std.proofs.Common.{◌≡◌, ◌+◌, ◌-◌, ◌≤◌, drop, length}
+use Rattle.lane_access.specs.Shares.{place_in}
+use Rattle.lane_access.proofs.syncs.place_of.Given as goal
+
+abbrev pub invariant-loop-place : goal.invariant-loop-place
+invariant-loop-place l = record {
+  at : l.place + place_in l.zone.0 (drop l.place l.shares) ≡ place_in l.zone.0 l.shares;
+  inside : l.place ≤ length l.shares;
+}
+
+abbrev pub decreases-loop-place : goal.decreases-loop-place
+decreases-loop-place l = length l.shares - l.place

@@ -1,0 +1,12 @@
+mod Asked
+mod AwaitedLoads
+mod CalledLoads
+mod Chunked
+mod DevicePages
+mod DeviceStreams
+mod EndedRuns
+mod EndedWaits
+mod LoadSteps
+mod Loaded
+mod OwnLoads
+mod UnloadSteps

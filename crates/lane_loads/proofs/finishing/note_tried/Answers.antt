@@ -1,0 +1,124 @@
+use Rattle.std.proofs.Common.{◌≡◌, ◌+◌, ◌≤◌, Some, true, refl, sym, ap, ◌∙◌, subst, arith}
+use Rattle.std.specs.FinMap.{get, insert}
+use Rattle.ideal_lane.proofs.Weights.{weigh-put}
+use Rattle.ideal_lane.specs.State.{Idle, LaneMap}
+use Rattle.lane_state.specs.declared.kept.KeptMap.{KeptMap}
+use Rattle.lane_state.specs.Covered.{is_idle_map, pages_due}
+use Rattle.lane_state.specs.Held.{devices_of, held}
+use Rattle.lane_state.specs.Ideal.{ideal_of}
+use Rattle.lane_state.specs.Kept.{device_of, due_of, map_of}
+use Rattle.lane_state.specs.MapValues.{map_values}
+use Rattle.lane_state.proofs.Bytes.{devices-put, held-alike}
+use Rattle.lane_state.proofs.Keeping.{idle-map, idle-stands, idle-state}
+use Rattle.lane_loads.proofs.Loaded.{loans-stay, maps-staged}
+use Rattle.lane_state.proofs.MapTables.{AreMaps, maps-of}
+use Rattle.lane_state.proofs.MapValues.{image-some, map_values-insert}
+use Rattle.lane_state.proofs.Awaiting.{idle-unkept, put-awaiting}
+use Rattle.lane_state.specs.Awaiting.{AreAwaiting}
+use Rattle.lane_loads.proofs.finishing.note_tried.Goals as goal
+
+pub note_tried-requires : goal.note_tried-requires
+note_tried-requires c =
+    let o : KeptMap = c.in-Some.kept.now in
+    let there : get c.args.holdings.now.maps.map c.args.map ≡ Some o = sym c.in-Some.ensures.value in
+    idle-state o.map.stage (sym (ap is_idle_map there) ∙ c.requires)
+
+pub invariant_of-holdings : goal.invariant_of-holdings
+invariant_of-holdings c =
+    let h = c.args.holdings.now in
+    let k = c.args.map in
+    let o : KeptMap = c.in-Some.kept.now in
+    let there : get h.maps.map k ≡ Some o = sym c.in-Some.ensures.value in
+    let idle = idle-map o (sym (ap is_idle_map there) ∙ c.requires) in
+    let v : KeptMap = record o { map = record o.map { tried = true } } in
+    let now = idle-map v (sym (ap is_idle_map there) ∙ c.requires) in
+    let maps : insert h.maps.map k (record o { map = c.note_tried.new.self }) ≡ insert h.maps.map k v =
+    ap (λ x. insert h.maps.map k (record o { map = x })) c.note_tried.ensures in
+    let fits : pages_due h.maps.map + due_of v ≤ h.agenda.promised = omega (arith, now.undue, h.promised) in
+    let are =
+    subst (λ ms. AreMaps ms h.loans.loans h.agenda.returns h.agenda.promised) (sym maps)
+    (maps-staged h.maps.map h.loans.loans h.agenda.returns h.agenda.promised (maps-of h) k o v there idle h.loans.loans
+    (loans-stay h.maps.map h.loans.loans h.agenda.returns h.agenda.promised (maps-of h) k o v there idle now.unloaded)
+    now.unlent now.still now.tried fits) in
+    record {
+      covered = h.covered;
+      reaches = h.reaches;
+      framed = h.framed;
+      placed = h.placed;
+      standing = h.standing;
+      tag_places = h.tag_places;
+      map_places = h.map_places;
+      memory_places = h.memory_places;
+      loaded = are.loaded;
+      unlent = are.unlent;
+      promised = are.promised;
+      own_returns = h.own_returns;
+      returning = are.returning;
+      tried = are.tried;
+      awaiting = subst (λ ms. AreAwaiting h.pages.now h.maxmem h.tags.map ms h.loans.prepared) (sym maps)
+          (put-awaiting h h.loans.prepared refl k v (idle-unkept (Some v) (sym (ap is_idle_map there) ∙ c.requires)));
+      ready = h.ready;
+    }
+
+pub returns-in-Some-clause-done : goal.returns-in-Some-clause-done
+returns-in-Some-clause-done c other found =
+    let h = c.args.holdings.now in
+    let l = ideal_of h in
+    let k = c.args.map in
+    let o : KeptMap = c.in-Some.kept.now in
+    let there : get h.maps.map k ≡ Some o = sym c.in-Some.ensures.value in
+    let on = sym (ap is_idle_map there) ∙ c.requires in
+    let idle = idle-map o on in
+    let v : KeptMap = record o { map = record o.map { tried = true } } in
+    let now = idle-map v on in
+    let maps : insert h.maps.map k (record o { map = c.note_tried.new.self }) ≡ insert h.maps.map k v =
+    ap (λ x. insert h.maps.map k (record o { map = x })) c.note_tried.ensures in
+    let is : get l.maps k ≡ Some (map_of o) = image-some map_of h.maps.map k o there in
+    let same : map_of o ≡ other = cc in
+    let bare : device_of (Some v) ≡ device_of (get h.maps.map k) = now.unheld ∙ sym
+    (ap device_of there ∙ idle.unheld) in
+    (λ i. record l {
+      maps = (ap (map_values map_of) maps ∙ map_values-insert map_of h.maps.map k v
+          ∙ ap (λ s. insert l.maps k (record (map_of o) { tried = true; stage = s })) (idle-stands (map_of o).stage on)
+          ∙ ap (λ (x : LaneMap). insert l.maps k (record x { tried = true; stage = Idle })) same) i;
+      memory = (ap (λ ms. held h.loans.bytes h.loans.loans (devices_of ms) h.memory.memory) maps
+          ∙ held-alike h.loans.bytes h.loans.loans (devices_of h.maps.map) (devices_of (insert h.maps.map k v))
+          h.memory.memory (devices-put h.maps.map k v bare)) i;
+    })
+
+pub returns-in-Some-clause-bytes : goal.returns-in-Some-clause-bytes
+returns-in-Some-clause-bytes c =
+    let h = c.args.holdings.now in
+    let k = c.args.map in
+    let o : KeptMap = c.in-Some.kept.now in
+    let there : get h.maps.map k ≡ Some o = sym c.in-Some.ensures.value in
+    let on = sym (ap is_idle_map there) ∙ c.requires in
+    let idle = idle-map o on in
+    let v : KeptMap = record o { map = record o.map { tried = true } } in
+    let now = idle-map v on in
+    let maps : insert h.maps.map k (record o { map = c.note_tried.new.self }) ≡ insert h.maps.map k v =
+    ap (λ x. insert h.maps.map k (record o { map = x })) c.note_tried.ensures in
+    let bare : device_of (Some v) ≡ device_of (get h.maps.map k) = now.unheld ∙ sym
+    (ap device_of there ∙ idle.unheld) in
+    record {
+      own = refl;
+      pages = λ m. ap (λ ms. (devices_of ms m).pages) maps ∙ ap (λ d. d.pages) (devices-put h.maps.map k v bare m);
+    }
+
+pub returns-in-Some-clause-due : goal.returns-in-Some-clause-due
+returns-in-Some-clause-due c =
+    let h = c.args.holdings.now in
+    let k = c.args.map in
+    let o : KeptMap = c.in-Some.kept.now in
+    let there : get h.maps.map k ≡ Some o = sym c.in-Some.ensures.value in
+    let on = sym (ap is_idle_map there) ∙ c.requires in
+    let idle = idle-map o on in
+    let v : KeptMap = record o { map = record o.map { tried = true } } in
+    let now = idle-map v on in
+    let maps : insert h.maps.map k (record o { map = c.note_tried.new.self }) ≡ insert h.maps.map k v =
+    ap (λ x. insert h.maps.map k (record o { map = x })) c.note_tried.ensures in
+    let weight : pages_due (insert h.maps.map k v) + due_of o ≡ pages_due h.maps.map + due_of v =
+    weigh-put due_of h.maps.map k o v there in
+    let same : pages_due (insert h.maps.map k v) ≡ pages_due h.maps.map =
+    omega (arith, weight, idle.undue, now.undue) in
+    ap pages_due maps ∙ same

@@ -1,0 +1,10 @@
+//! Tags, maps and dmamem memories of a driver at work: how they come and go.
+#![tactic(auto)]
+
+mod maps;
+mod memories;
+mod tags;
+
+pub use maps::{await_map, destroy_map, make_map};
+pub use memories::{end_memory, make_memory};
+pub use tags::{destroy_tag, make_iommu_tag, make_tag};

@@ -1,0 +1,186 @@
+-- The wire after a step that changes no byte: pages and memories came with their bytes and left with theirs.
+use Rattle.std.proofs.Common.{◌≡◌, ◌⊎◌, inl, inr, ℕ, ◌+◌, ◌*◌, ◌/◌, ◌<◌, ◌≤◌, true, false, List, [], Option, Some}
+use Rattle.std.proofs.Common.{None}
+use Rattle.std.proofs.Common.{is_some, slice_get, nat_le, nat_lt, refl, sym, ap, ◌∙◌, arith}
+use mathlib.Core.Logic.{∥∥₁_elim}
+use Rattle.std.proofs.Props.{props}
+use Rattle.std.proofs.lemmas.Bool.{and_parts, false≢true, leb-true, ltb-true}
+use Rattle.std.proofs.lemmas.Option.{slice_get-map}
+use Rattle.std.specs.FinMap.{get}
+use Rattle.std.specs.Option.{option_map}
+use Rattle.busdma_machine.specs.Bounce.MemoryRuns.{in_run}
+use Rattle.busdma_machine.specs.Machine.Page.{FrameBytes}
+use Rattle.busdma_machine.specs.Machine.PageList.{page_address, page_addresses}
+use Rattle.busdma_base.specs.Scenarios.PageRuns.{is_own}
+use Rattle.busdma_machine.specs.Machine.Wire.{Wire, with_bytes_of}
+use Rattle.phys_memory.specs.Memory.{wire}
+use Rattle.ideal_lane.specs.IdealMemory.{Known}
+use Rattle.ideal_lane.specs.State.{LaneState}
+use Rattle.ideal_lane.specs.Unloads.{pages_of}
+use Rattle.ideal_wire.specs.Apart.{HoldsPage, IsApart}
+use Rattle.ideal_wire.specs.Laid.{AreLaid, IsOwnByte, OfMemory, OfPages}
+use Rattle.ideal_wire.specs.Traces.{is_in_pages, stage_at}
+use Rattle.ideal_wire.specs.WireStep.{BringsKnown, Follows}
+use Rattle.ideal_wire.proofs.Lent.{any_found}
+use Rattle.lane_state.specs.declared.holdings.Holdings.{Holdings}
+use Rattle.lane_state.specs.Changes.{KeepsBesideMemory, KeepsBytes, KeepsBytesHeld, KeepsState, KeepsWhatStays}
+use Rattle.lane_state.specs.Held.{devices_of}
+use Rattle.lane_state.specs.Ideal.{ideal_of}
+use Rattle.lane_state.specs.Wire.{wire_of}
+use Rattle.lane_state.proofs.Changing.{covered-alike}
+use Rattle.lane_state.proofs.Keeping.{told-some}
+use Rattle.lane_state.proofs.Lying.{own-view, page-mine, pages-same}
+use Rattle.lane_state.proofs.Views.{view-alike}
+
+pub stays-all : (h k : Holdings) → KeepsBytes h k → KeepsWhatStays h k
+stays-all h k s = record { own = s.own; pages = λ m. inl (s.pages m) }
+
+pub stays-held : (h k : Holdings) → KeepsBytesHeld h k → KeepsWhatStays h k
+stays-held h k s = record {
+  own = s.own;
+  pages = λ m. (elim (s.pages m) [ inl e ↦ inl e | inr e ↦ inr (inr e) ]);
+}
+
+-- where the driver stays as it is, it has no memory more or less
+pub beside-same : (h k : Holdings) → KeepsState h k → KeepsBesideMemory h k
+beside-same h k s = record {
+  own = λ a before after. ap (λ w. w a) s.bytes.own;
+  known = λ a v none is. absurd (none-some v (sym none ∙ ap (λ l. l.memory a) (sym s.ideal) ∙ is));
+  pages = s.bytes.pages;
+}
+  where
+    none-some : (v : ℕ) → None ≡ Some (Known v) → ⊥
+    none-some v e = absurd (cc)
+
+-- the page of an address is held by a map
+record Holding (h : Holdings) (m a : ℕ) : Type 0 where
+  place : ℕ
+  page : ℕ
+  holds : HoldsPage (ideal_of h) m place page
+  is : page ≡ 4096 * (a / 4096)
+
+holding : (h : Holdings) → AreLaid (ideal_of h) → IsApart (ideal_of h) → (m a : ℕ) →
+    is_in_pages (pages_of (stage_at (ideal_of h) m)) a ≡ true → Holding h m a
+holding h laid apart m a inside =
+    let l = ideal_of h in
+    let p = any_found (λ (q : ℕ). in_run q 1 a) (pages_of (stage_at l m)) inside in
+    let same = pages-same l laid apart h.maps.map refl h.unlent m in
+    let parts = and_parts (nat_le p.item a) (nat_lt a (p.item + 4096 * 1)) p.passes in
+    let low : p.item ≤ a = leb-true p.item a parts.0 in
+    let high : a < p.item + 4096 * 1 = ltb-true a (p.item + 4096 * 1) parts.1 in
+    let whole = found-address (devices_of h.maps.map m).pages p.place p.item
+    (ap (λ ps. slice_get ps p.place) same ∙ p.found) in
+    record {
+      place = p.place;
+      page = p.item;
+      holds = p.found;
+      is = omega (arith, low, high, whole.1);
+    }
+  where
+    found-address : (ps : List FrameBytes) (i x : ℕ) → slice_get (page_addresses ps) i ≡ Some x →
+        (f : ℕ) × (x ≡ 4096 * f)
+    found-address ps i x e = by (slice_get ps i) (sym (slice_get-map page_address ps i) ∙ e)
+      where
+        by : (o : Option FrameBytes) → option_map page_address o ≡ Some x → (f : ℕ) × (x ≡ 4096 * f)
+        by None e = absurd (cc)
+        by (Some p) e = (p.frame, (let there : 4096 * p.frame ≡ x = cc in sym there))
+
+-- what stands in a page that a map holds is told by the pages of that map
+held-view : (h : Holdings) → AreLaid (ideal_of h) → IsApart (ideal_of h) → (m a : ℕ) →
+    is_in_pages (pages_of (stage_at (ideal_of h) m)) a ≡ true →
+    wire_of h a ≡ with_bytes_of (devices_of h.maps.map m).pages (wire h.memory.memory) a
+held-view h laid apart m a inside =
+    let p = holding h laid apart m a inside in
+    view-alike h.maps.map m (wire h.memory.memory) a
+    (page-mine (ideal_of h) laid apart h.maps.map refl h.unlent m p.place p.page a p.holds p.is)
+
+-- so it is the same whatever stands elsewhere
+in-pages : (h : Holdings) → AreLaid (ideal_of h) → IsApart (ideal_of h) → (m a : ℕ) →
+    is_in_pages (pages_of (stage_at (ideal_of h) m)) a ≡ true → (u w : Wire) →
+    with_bytes_of (devices_of h.maps.map m).pages u a ≡ with_bytes_of (devices_of h.maps.map m).pages w a
+in-pages h laid apart m a inside u w =
+    let p = holding h laid apart m a inside in
+    let is = p.is in
+    let x = told-some page_address (slice_get (devices_of h.maps.map m).pages p.place) p.page
+    (sym (slice_get-map page_address (devices_of h.maps.map m).pages p.place)
+    ∙ ap (λ ps. slice_get ps p.place) (pages-same (ideal_of h) laid apart h.maps.map refl h.unlent m) ∙ p.holds) in
+    let at : 4096 * x.0.frame ≡ p.page = x.2 in
+    let frame : a / 4096 ≡ x.0.frame = omega (arith, at, is) in
+    covered-alike (devices_of h.maps.map m).pages p.place x.0 u w a x.1 frame
+
+no-page : (h : Holdings) → AreLaid (ideal_of h) → IsApart (ideal_of h) → (m a : ℕ) →
+    (devices_of h.maps.map m).pages ≡ [] → is_in_pages (pages_of (stage_at (ideal_of h) m)) a ≡ false
+no-page h laid apart m a none =
+    ap (λ ps. is_in_pages ps a)
+    (sym (pages-same (ideal_of h) laid apart h.maps.map refl h.unlent m) ∙ ap page_addresses none)
+
+-- a byte of the pages and memories of one driver is one of those of another that has the same
+own-too : (l m : LaneState) → m.pages ≡ l.pages → m.mems ≡ l.mems → (a : ℕ) → IsOwnByte m a → IsOwnByte l a
+own-too l m pages mems a (OfPages is) = OfPages (ap (λ ps. is_own ps a) (sym pages) ∙ is)
+own-too l m pages mems a (OfMemory k x there inside) = OfMemory k x (ap (λ ms. get ms k) (sym mems) ∙ there) inside
+
+-- so no byte comes to it
+pub none-comes : (l m : LaneState) → AreLaid l → AreLaid m → m.pages ≡ l.pages → m.mems ≡ l.mems → (a : ℕ) →
+    is_some (m.memory a) ≡ true → is_some (l.memory a) ≡ true
+none-comes l m laid laid' pages mems a own =
+    let one : IsProp (is_some (l.memory a) ≡ true) = hlevel (props) in
+    ∥∥₁_elim (laid'.only a own) one (λ is. laid.owned a (own-too l m pages mems a is))
+
+pub none-known : (l m : LaneState) → AreLaid l → AreLaid m → m.pages ≡ l.pages → m.mems ≡ l.mems → (w : Wire) →
+    BringsKnown l.memory m.memory w
+none-known l m laid laid' pages mems w a v none is =
+    let there : is_some (l.memory a) ≡ true = none-comes l m laid laid' pages mems a (ap is_some is) in
+    absurd (false≢true (sym (ap is_some none) ∙ there))
+
+module _ (h k : Holdings) (laid : AreLaid (ideal_of h)) (apart : IsApart (ideal_of h)) (laid' : AreLaid (ideal_of k))
+    (apart' : IsApart (ideal_of k)) where
+  -- what the driver's frames have stands there
+  own-stands : (a : ℕ) → is_some ((ideal_of k).memory a) ≡ true → wire_of k a ≡ wire k.memory.memory a
+  own-stands a after = own-view (ideal_of k) laid' apart' k.maps.map refl k.unlent (wire k.memory.memory) a after
+
+  own-stood : (a : ℕ) → is_some ((ideal_of h).memory a) ≡ true → wire_of h a ≡ wire h.memory.memory a
+  own-stood a before = own-view (ideal_of h) laid apart h.maps.map refl h.unlent (wire h.memory.memory) a before
+
+  -- where a page of a map stays, its bytes do
+  paged : (m a : ℕ) → (devices_of k.maps.map m).pages ≡ (devices_of h.maps.map m).pages →
+      is_in_pages (pages_of (stage_at (ideal_of h) m)) a ≡ true →
+      is_in_pages (pages_of (stage_at (ideal_of k) m)) a ≡ true → wire_of k a ≡ wire_of h a
+  paged m a same before after =
+      held-view k laid' apart' m a after
+      ∙ ap (λ ps. with_bytes_of ps (wire k.memory.memory) a) same
+      ∙ in-pages h laid apart m a before (wire k.memory.memory) (wire h.memory.memory)
+      ∙ sym (held-view h laid apart m a before)
+
+  module _ (keeps : KeepsWhatStays h k) (pages : (ideal_of k).pages ≡ (ideal_of h).pages)
+      (mems : (ideal_of k).mems ≡ (ideal_of h).mems) where
+    own : (a : ℕ) → is_some ((ideal_of h).memory a) ≡ true → is_some ((ideal_of k).memory a) ≡ true →
+        wire_of k a ≡ wire_of h a
+    own a before after = own-stands a after ∙ ap (λ w. w a) keeps.own ∙ sym (own-stood a before)
+
+    page : (m a : ℕ) → is_in_pages (pages_of (stage_at (ideal_of h) m)) a ≡ true →
+        is_in_pages (pages_of (stage_at (ideal_of k) m)) a ≡ true → wire_of k a ≡ wire_of h a
+    page m a before after = by (keeps.pages m)
+      where
+        by : ((devices_of k.maps.map m).pages ≡ (devices_of h.maps.map m).pages)
+            ⊎ (((devices_of h.maps.map m).pages ≡ []) ⊎ ((devices_of k.maps.map m).pages ≡ [])) →
+            wire_of k a ≡ wire_of h a
+        by (inl same) = paged m a same before after
+        by (inr (inl none)) =
+            let off = no-page h laid apart m a none in absurd (cc)
+        by (inr (inr none)) =
+            let off = no-page k laid' apart' m a none in absurd (cc)
+
+    pub follows : Follows (ideal_of h) (ideal_of k) (wire_of h) (wire_of k)
+    follows = record {
+      own = own;
+      pages = page;
+      known = none-known (ideal_of h) (ideal_of k) laid laid' pages mems (wire_of k);
+    }
+
+  -- where a memory came or went
+  pub follows-memory : KeepsBesideMemory h k → Follows (ideal_of h) (ideal_of k) (wire_of h) (wire_of k)
+  follows-memory keeps = record {
+    own = λ a before after. own-stands a after ∙ keeps.own a before after ∙ sym (own-stood a before);
+    pages = λ m a before after. paged m a (keeps.pages m) before after;
+    known = λ a v none is. own-stands a (ap is_some is) ∙ keeps.known a v none is;
+  }

@@ -1,0 +1,72 @@
+-- What a load that waits keeps by it until its callback, which takes no memory.
+use Rattle.std.specs.Prelude.{◌≡◌, ℕ, ◌||◌, Bool, true, false, List, Option, Some, None, IfSome, is_some, unwrap_or}
+use Rattle.std.specs.List.{All}
+use Rattle.std.specs.Option.{option_map}
+use Rattle.std.specs.Ordering.{nat_cmp}
+use Rattle.std.specs.FinMap.{FinMap, get}
+use Rattle.busdma_machine.specs.declared.machine.bio.Bio.{Bio}
+use Rattle.busdma_machine.specs.declared.machine.chunk.Entry.{Entry}
+use Rattle.busdma_machine.specs.declared.tags.tag.TagLimits.{TagLimits}
+use Rattle.busdma_machine.specs.Bounce.MemoryRuns.{in_run}
+use Rattle.busdma_machine.specs.Machine.Entry.{entries_addresses}
+use Rattle.busdma_machine.specs.Machine.Spans.{bio_spans}
+use Rattle.busdma_base.specs.declared.scenarios.scenario.PageRun.{PageRun}
+use Rattle.busdma_base.specs.Scenarios.PageRuns.{is_own}
+use Rattle.dma_map.specs.declared.room.LoadRoom.{LoadRoom}
+use Rattle.dma_map.specs.MapView.{waiting_load}
+use Rattle.load_bio.specs.Bio.{is_rounded}
+use Rattle.loan_table.specs.Loans.{Loan, Loans, loan_of, new_loan}
+use Rattle.phys_memory.specs.Vector.{entries_of}
+use Rattle.segment_build.specs.Chunks.{chunks_of}
+use Rattle.ideal_lane.specs.Loads.{no_limits}
+use Rattle.ideal_wire.specs.Laid.{AreInPages, in_pages}
+use Rattle.lane_state.specs.declared.kept.KeptLoad.{KeptLoad}
+use Rattle.lane_state.specs.declared.kept.KeptMap.{KeptMap}
+use Rattle.lane_state.specs.declared.kept.KeptMemory.{KeptMemory}
+use Rattle.lane_state.specs.declared.kept.KeptTag.{KeptTag}
+use Rattle.lane_state.specs.Loading.{HasRoomForAny, IsLoadable, bio_of}
+
+-- the load of a map that waits: its place in the script, its callback and its room
+abbrev pub kept_load : Option KeptMap → Option (ℕ × KeptLoad × LoadRoom)
+kept_load None = None
+kept_load (Some o) = waiting_load o.map.stage
+
+-- the limits of the tag that was made at a place, if it is there
+abbrev pub limits_at : FinMap nat_cmp KeptTag → ℕ → Option TagLimits
+limits_at tags place = option_map (λ (t : KeptTag). t.tag) (get tags place)
+
+-- the entries of a bio of these pages, in which its bytes lie whatever memories come and go
+abbrev pub page_entries : List PageRun → Bio → List Entry
+page_entries pages b = entries_of (is_rounded b) (in_pages pages b) (bio_spans b)
+
+-- a load that waits is one of bytes of the pages; its map has a tag; the room has space for what its callback makes of
+-- the bytes by that tag, in whichever pages; and this loan, which is prepared for the map, has the bytes
+pub record IsAwaiting (pages : List PageRun) (maxmem : ℕ) (tag : Option TagLimits) (loan : Option Loan)
+    (w : KeptLoad) (room : LoadRoom) : Type 0 where
+  pub loadable : IsLoadable pages (bio_of w.bytes)
+  pub paged : AreInPages pages (bio_of w.bytes)
+  pub tagged : is_some tag ≡ true
+  pub fits : HasRoomForAny (unwrap_or tag no_limits)
+      (chunks_of (unwrap_or tag no_limits) maxmem (page_entries pages (bio_of w.bytes))) w.need room
+  pub prepared : loan ≡ Some (new_loan false (entries_addresses (page_entries pages (bio_of w.bytes))))
+
+-- the load of a map that waits, its room, and the limits of the map's tag
+abbrev pub awaited : FinMap nat_cmp KeptTag → Option KeptMap → Option (KeptLoad × LoadRoom × Option TagLimits)
+awaited tags None = None
+awaited tags (Some o) =
+    option_map (λ (w : ℕ × KeptLoad × LoadRoom). (w.1, w.2, limits_at tags o.tag)) (waiting_load o.map.stage)
+
+-- each load that waits has what its callback takes
+abbrev pub AreAwaiting : List PageRun → ℕ → FinMap nat_cmp KeptTag → FinMap nat_cmp KeptMap → Loans → Type 0
+AreAwaiting pages maxmem tags maps prepared = (m : ℕ) →
+    IfSome (awaited tags (get maps m)) (λ w. IsAwaiting pages maxmem w.2 (get prepared m) w.0 w.1)
+
+-- a byte may be loaded into a map: it is one of the pages, or of the memory whose map it is
+abbrev pub is_of_map : List PageRun → Option KeptMemory → ℕ → Bool
+is_of_map pages None a = is_own pages a
+is_of_map pages (Some x) a = is_own pages a || in_run x.first.0 x.count a
+
+-- what is prepared for maps has bytes that may be loaded into them
+abbrev pub AreOfMaps : List PageRun → FinMap nat_cmp KeptMemory → Loans → Type 0
+AreOfMaps pages memories prepared = (m : ℕ) →
+    All (λ p. is_of_map pages (get memories m) p.pa ≡ true) (loan_of prepared m).positions

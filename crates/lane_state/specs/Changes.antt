@@ -1,0 +1,97 @@
+-- What of a driver's holdings a step leaves as it was.
+use Rattle.std.specs.Prelude.{◌≡◌, ℕ, ◌+◌, ◌==◌, true, false, List, [], ◌⊎◌, length, Some, None, is_some}
+use Rattle.busdma_machine.specs.Machine.Wire.{Wire}
+use Rattle.phys_memory.specs.Memory.{wire}
+use Rattle.ideal_lane.specs.IdealMemory.{Known, written}
+use Rattle.ideal_lane.specs.State.{LaneState}
+use Rattle.lane_state.specs.declared.holdings.Holdings.{Holdings}
+use Rattle.lane_state.specs.Covered.{pages_due}
+use Rattle.lane_state.specs.Held.{devices_of}
+use Rattle.lane_state.specs.Ideal.{ideal_of}
+use Rattle.lane_state.specs.Wire.{wire_of}
+
+-- the bytes of the driver's frames, and those of the bounce pages of each map
+pub record KeepsBytes (h k : Holdings) : Type 0 where
+  pub own : wire k.memory.memory ≡ wire h.memory.memory
+  pub pages : (m : ℕ) → (devices_of k.maps.map m).pages ≡ (devices_of h.maps.map m).pages
+
+-- the bytes of the driver's frames, and those of the bounce pages of each map that still has its pages
+pub record KeepsBytesHeld (h k : Holdings) : Type 0 where
+  pub own : wire k.memory.memory ≡ wire h.memory.memory
+  pub pages : (m : ℕ) → ((devices_of k.maps.map m).pages ≡ (devices_of h.maps.map m).pages)
+      ⊎ ((devices_of k.maps.map m).pages ≡ [])
+
+-- the bytes of the driver's frames, and those of the bounce pages of each map that has pages before and after
+pub record KeepsWhatStays (h k : Holdings) : Type 0 where
+  pub own : wire k.memory.memory ≡ wire h.memory.memory
+  pub pages : (m : ℕ) → ((devices_of k.maps.map m).pages ≡ (devices_of h.maps.map m).pages)
+      ⊎ (((devices_of h.maps.map m).pages ≡ []) ⊎ ((devices_of k.maps.map m).pages ≡ []))
+
+-- the bytes of the driver's frames that are there before and after, and those that come and are Known; and those of the
+-- bounce pages of each map
+pub record KeepsBesideMemory (h k : Holdings) : Type 0 where
+  pub own : (a : ℕ) → is_some ((ideal_of h).memory a) ≡ true → is_some ((ideal_of k).memory a) ≡ true →
+      wire k.memory.memory a ≡ wire h.memory.memory a
+  pub known : (a v : ℕ) → (ideal_of h).memory a ≡ None → (ideal_of k).memory a ≡ Some (Known v) →
+      wire k.memory.memory a ≡ v
+  pub pages : (m : ℕ) → (devices_of k.maps.map m).pages ≡ (devices_of h.maps.map m).pages
+
+-- the wire after a step is this one; or it is as it was, but for pages that came and went; or but for a memory that
+-- came or went
+pub data IsWireOf (h k : Holdings) (w : Wire) : Type 0 where
+  Becomes : k.memories ≡ h.memories → wire_of k ≡ w → IsWireOf h k w
+  Stays : k.memories ≡ h.memories → w ≡ wire_of h → KeepsWhatStays h k → IsWireOf h k w
+  WithMemory : w ≡ wire_of h → KeepsBesideMemory h k → IsWireOf h k w
+
+-- the bytes of the driver's frames, and those of the bounce pages of each map but one
+pub record KeepsBytesBut (one : ℕ) (h k : Holdings) : Type 0 where
+  pub own : wire k.memory.memory ≡ wire h.memory.memory
+  pub pages : (m : ℕ) → (one == m) ≡ false → (devices_of k.maps.map m).pages ≡ (devices_of h.maps.map m).pages
+
+-- what a step leaves where memory ran out: the ideal state and all bytes
+pub record KeepsState (h k : Holdings) : Type 0 where
+  pub ideal : ideal_of k ≡ ideal_of h
+  pub bytes : KeepsBytes h k
+
+-- the places in the return queue that are promised become more or fewer as the pages do that are due to join it
+abbrev pub KeepsPromises : Holdings → Holdings → Type 0
+KeepsPromises h k = k.agenda.promised + pages_due h.maps.map ≡ h.agenda.promised + pages_due k.maps.map
+
+-- all but the tags, the maps and the agenda
+pub record KeepsMost (h k : Holdings) : Type 0 where
+  pub script : k.script ≡ h.script
+  pub pages : k.pages ≡ h.pages
+  pub id : k.id ≡ h.id
+  pub maxmem : k.maxmem ≡ h.maxmem
+  pub memory : k.memory ≡ h.memory
+  pub memories : k.memories ≡ h.memories
+  pub loans : k.loans ≡ h.loans
+  pub shares : k.shares ≡ h.shares
+
+-- all but the tags
+pub record KeepsButTags (h k : Holdings) : Type 0 where
+  pub most : KeepsMost h k
+  pub maps : k.maps ≡ h.maps
+  pub agenda : k.agenda ≡ h.agenda
+
+-- all but the maps
+pub record KeepsButMaps (h k : Holdings) : Type 0 where
+  pub most : KeepsMost h k
+  pub tags : k.tags ≡ h.tags
+  pub agenda : k.agenda ≡ h.agenda
+
+-- all but the agenda
+pub record KeepsButAgenda (h k : Holdings) : Type 0 where
+  pub most : KeepsMost h k
+  pub tags : k.tags ≡ h.tags
+  pub maps : k.maps ≡ h.maps
+
+-- the place in the script and its end, and the room for items with those that are queued
+pub record KeepsAgenda (h k : Holdings) : Type 0 where
+  pub place : k.agenda.place ≡ h.agenda.place
+  pub end : k.agenda.length ≡ h.agenda.length
+  pub capacity : k.agenda.room + length k.agenda.queue ≡ h.agenda.room + length h.agenda.queue
+
+-- the bytes at these addresses are these now, and Known
+abbrev pub with_written : List ℕ → List ℕ → LaneState → LaneState
+with_written pas vs l = record l { memory = written pas vs l.memory }

@@ -1,0 +1,114 @@
+-- What holds together of the parts of a lane.
+use Rattle.std.specs.Prelude.{◌≡◌, ℕ, ◌/◌, ◌≤◌, ◌==◌, Bool, true, false, ◌||◌, not, List, sum_by, drop}
+use Rattle.std.specs.Prelude.{length, Option, Some, None}
+use Rattle.std.specs.Prelude.{if◌then◌else◌}
+use Rattle.std.specs.List.{list_any}
+use Rattle.std.specs.Ordering.{nat_cmp}
+use Rattle.std.specs.FinMap.{FinMap, get, contains_key, entries}
+use Rattle.busdma_base.specs.declared.scenarios.scenario.PageRun.{PageRun}
+use Rattle.busdma_base.specs.declared.scenarios.script.Op.{Op}
+use Rattle.busdma_base.specs.Scenarios.PageRuns.{physical_in}
+use Rattle.busdma_base.specs.Scenarios.PageRuns as pages
+use Rattle.busdma_base.specs.Scenarios.Operations.{items_of}
+use Rattle.lane_state.specs.declared.kept.KeptLoad.{KeptLoad}
+use Rattle.dma_map.specs.MapView as held
+use Rattle.lane_tables.specs.declared.queued.QueuedPage.{QueuedPage}
+use Rattle.loan_table.specs.Loans.{Loans}
+use Rattle.memory_pages.specs.Placed.{IsPlaced}
+use Rattle.phys_memory.specs.Memory.{Memory, has_frame, physical}
+use Rattle.ideal_lane.specs.Outcomes.{is_idle, is_loaded}
+use Rattle.ideal_lane.specs.Places.{is_in_memory, physical_of}
+use Rattle.ideal_lane.specs.State.{Stage, Idle, Waiting, Loaded, Returning}
+use Rattle.lane_state.specs.declared.kept.KeptMap.{KeptMap}
+use Rattle.lane_state.specs.declared.kept.KeptMemory.{KeptMemory}
+use Rattle.lane_state.specs.Kept.{map_of, memory_of, due_of}
+use Rattle.lane_state.specs.Kept as kept
+
+-- the bytes that are marked as Known or not are those of the lane's frames
+abbrev pub IsCovered : Memory → FinMap nat_cmp Bool → Type 0
+IsCovered m bytes = (a : ℕ) → contains_key bytes a ≡ has_frame m (a / 4096)
+
+-- the frames of pages are those of the memory, beside others
+abbrev pub HasFramesOf : List PageRun → Memory → Type 0
+HasFramesOf runs m = (f : ℕ) → pages.has_frame runs f ≡ true → has_frame m f ≡ true
+
+-- where the byte at a virtual address lies that pages have there, or else memories
+abbrev pub reached_in : Option ℕ → FinMap nat_cmp KeptMemory → ℕ → Option ℕ
+reached_in (Some pa) memories va = Some pa
+reached_in None memories va =
+    if list_any (λ e. is_in_memory va (memory_of e.1)) (entries memories) then Some (physical_of va) else None
+
+-- the driver reaches the bytes of its pages and of its memories, and no others
+abbrev pub Reaches : List PageRun → FinMap nat_cmp KeptMemory → Memory → Type 0
+Reaches pages memories m = (va : ℕ) → physical m va ≡ reached_in (physical_in pages va) memories va
+
+-- each memory stands in its frames, one behind the other
+abbrev pub AreStanding : FinMap nat_cmp KeptMemory → Memory → Type 0
+AreStanding memories m = (k : ℕ) (x : KeptMemory) → get memories k ≡ Some x → IsPlaced m x.first.0 x.count x.memory.len
+
+-- a map exists and is loaded
+abbrev pub has_load : Option KeptMap → Bool
+has_load None = false
+has_load (Some o) = is_loaded (map_of o).stage
+
+-- a map exists and is idle
+abbrev pub is_idle_map : Option KeptMap → Bool
+is_idle_map None = false
+is_idle_map (Some o) = is_idle (map_of o).stage
+
+-- the pages of a map that stands so are on their way back
+abbrev pub returns_in : Stage → Bool
+returns_in Idle = false
+returns_in (Waiting w) = false
+returns_in (Loaded bounced segments pages) = false
+returns_in Returning = true
+
+-- a map exists and its pages are on their way back
+abbrev pub is_returning : Option KeptMap → Bool
+is_returning None = false
+is_returning (Some o) = returns_in (map_of o).stage
+
+-- a load of a map has called or stored a callback, unless the map is idle
+abbrev pub is_tried : Option KeptMap → Bool
+is_tried None = true
+is_tried (Some o) = is_idle (map_of o).stage || o.map.tried
+
+-- the maps that lend bytes are those that are loaded
+abbrev pub AreLoaded : FinMap nat_cmp KeptMap → Loans → Type 0
+AreLoaded maps loans = (k : ℕ) → contains_key loans k ≡ has_load (get maps k)
+
+-- the pages of a map that stands so are lent out
+abbrev pub is_lent : held.Stage KeptLoad → Bool
+is_lent held.idle = false
+is_lent (held.waiting load_at callback room) = false
+is_lent (held.loaded bounced segments pages) = false
+is_lent (held.lent bounced segments frames) = true
+is_lent held.returning = false
+
+abbrev pub lends_pages : Option KeptMap → Bool
+lends_pages None = false
+lends_pages (Some o) = is_lent o.map.stage
+
+-- how many pages go to the return queue at last, beside those that are there
+abbrev pub pages_due : FinMap nat_cmp KeptMap → ℕ
+pages_due maps = sum_by (λ e. due_of e.1) (entries maps)
+
+-- how many items the loads bring that wait
+abbrev pub items_due : FinMap nat_cmp KeptMap → ℕ
+items_due maps = sum_by (λ e. kept.items_of e.1) (entries maps)
+
+-- the pages of the return queue are those of maps of the driver of this number
+abbrev pub AreOwn : ℕ → List QueuedPage → Type 0
+AreOwn lane pages = list_any (λ q. not (q.map.lane.0 == lane)) pages ≡ false
+
+-- they are those of maps whose pages are on their way back
+abbrev pub AreReturning : FinMap nat_cmp KeptMap → List QueuedPage → Type 0
+AreReturning maps pages = list_any (λ q. not (is_returning (get maps q.map.made_at))) pages ≡ false
+
+-- nothing was made at this place of the script or later
+abbrev pub IsVacantFrom : {X : Type 0} → ℕ → FinMap nat_cmp X → Type 0
+IsVacantFrom place made = (p : ℕ) → place ≤ p → contains_key made p ≡ false
+
+-- how many items the operations from a place on have
+abbrev pub items_left : ℕ → List Op → ℕ
+items_left place script = sum_by (λ o. length (items_of o)) (drop place script)

@@ -1,0 +1,122 @@
+-- What the tags, maps, memories and shares that a lane keeps mean to the ideal driver.
+use Rattle.std.specs.Prelude.{ℕ, ◌*◌, ◌==◌, List, [], ◌∷◌, map, length, Option, Some, None, if◌then◌else◌, is_some}
+use Rattle.std.specs.Prelude.{unwrap_or}
+use Rattle.std.specs.FinMap.{FinMap, get}
+use Rattle.std.specs.Option.{option_map}
+use Rattle.std.specs.Ordering.{nat_cmp}
+use Rattle.busdma_machine.specs.declared.machine.chunk.Chunk.{Chunk}
+use Rattle.busdma_machine.specs.Machine.Page.{FrameBytes}
+use Rattle.busdma_machine.specs.Machine.PageList.{page_address, page_addresses}
+use Rattle.lane_state.specs.declared.kept.KeptLoad.{KeptLoad}
+use Rattle.dma_map.specs.MapView as held
+use Rattle.iommu_map.specs.Space.{Space}
+use Rattle.lane_agreement.specs.View.{Return}
+use Rattle.lane_tables.specs.declared.queued.QueuedPage.{QueuedPage}
+use Rattle.ideal_lane.specs.State.{LaneTag, LaneMap, LaneMemory, Stage, Idle, Waiting, Loaded, Returning}
+use Rattle.ideal_lane.specs.State.{WaitingLoad, no_space}
+use Rattle.lane_state.specs.declared.kept.KeptTag.{KeptTag}
+use Rattle.lane_state.specs.declared.kept.KeptMap.{KeptMap}
+use Rattle.lane_state.specs.declared.kept.KeptMemory.{KeptMemory}
+use Rattle.lane_state.specs.declared.kept.KeptShare.{KeptShare}
+use Rattle.lane_state.specs.Loading.{bio_of}
+
+-- a tag: its effective limits, whether its first allocation is done, and whether its device is behind an IOMMU
+abbrev pub tag_of : KeptTag → LaneTag
+tag_of t = record { limits = t.tag; first_done = t.first_done; device = is_some t.space }
+
+-- the address space of its device; one that is behind no IOMMU has none
+abbrev pub space_of : Option KeptTag → Space
+space_of None = no_space
+space_of (Some t) = unwrap_or t.space no_space
+
+-- those of tags, by the places that made them
+abbrev pub spaces_of : FinMap nat_cmp KeptTag → ℕ → Space
+spaces_of tags k = space_of (get tags k)
+
+-- a load that waits, which stands at a place of the script
+abbrev pub waits_of : ℕ → KeptLoad → WaitingLoad
+waits_of at w = record { load_at = at; bio = bio_of w.bytes; items = w.items; need = w.need }
+
+-- where a map stands; pages that are lent out are still the map's
+abbrev pub stage_of : held.Stage KeptLoad → Stage
+stage_of held.idle = Idle
+stage_of (held.waiting load_at callback room) = Waiting (waits_of load_at callback)
+stage_of (held.loaded bounced segments pages) = Loaded bounced segments (page_addresses pages.items)
+stage_of (held.lent bounced segments frames) = Loaded bounced segments (map (λ f. 4096 * f) frames)
+stage_of held.returning = Returning
+
+-- a map
+abbrev pub map_of : KeptMap → LaneMap
+map_of o = record {
+  tag = o.tag;
+  zone = option_map (λ z. z.0) o.map.zone;
+  tried = o.map.tried;
+  stage = stage_of o.map.stage;
+}
+
+-- a memory
+abbrev pub memory_of : KeptMemory → LaneMemory
+memory_of x = record {
+  tag = x.tag;
+  first = x.first.0;
+  count = x.count;
+  len = x.memory.len;
+  coherent = x.memory.coherent;
+}
+
+-- a page of the return queue
+abbrev pub return_of : QueuedPage → Return
+return_of q = record { map = q.map.made_at; zone = q.zone.0; page = page_address q.page }
+
+-- the pages of the return queue, with the bytes that they hold
+abbrev pub pages_in : List QueuedPage → List FrameBytes
+pages_in returns = map (λ q. q.page) returns
+
+-- the share of a zone, or 0 where none is kept
+abbrev pub share_of : List KeptShare → ℕ → ℕ
+share_of [] z = 0
+share_of (s ∷ shares) z = if z == s.zone.0 then s.count else share_of shares z
+
+-- what the load of a map has beside its buffer: its bounced chunks, and its bounce pages with the bytes that they hold
+pub record Device : Type 0 where
+  pub chunks : List Chunk
+  pub pages : List FrameBytes
+
+-- where there is no load, or one that has not ended
+abbrev pub no_device : Device
+no_device = record { chunks = []; pages = [] }
+
+-- those of a map that stands so
+abbrev pub device_in : held.Stage KeptLoad → Device
+device_in held.idle = no_device
+device_in (held.waiting load_at callback room) = no_device
+device_in (held.loaded bounced segments pages) = record { chunks = bounced; pages = pages.items }
+device_in (held.lent bounced segments frames) = record { chunks = bounced; pages = [] }
+device_in held.returning = no_device
+
+-- those of a map, if there is one
+abbrev pub device_of : Option KeptMap → Device
+device_of None = no_device
+device_of (Some o) = device_in o.map.stage
+
+-- how many pages a map that stands so gives to the return queue at last: those that it holds, or the need of its load
+abbrev pub due_in : held.Stage KeptLoad → ℕ
+due_in held.idle = 0
+due_in (held.waiting load_at callback room) = callback.need
+due_in (held.loaded bounced segments pages) = length pages.items
+due_in (held.lent bounced segments frames) = length frames
+due_in held.returning = 0
+
+abbrev pub due_of : KeptMap → ℕ
+due_of o = due_in o.map.stage
+
+-- how many items the load of a map brings that waits
+abbrev pub items_in : held.Stage KeptLoad → ℕ
+items_in held.idle = 0
+items_in (held.waiting load_at callback room) = length callback.items
+items_in (held.loaded bounced segments pages) = 0
+items_in (held.lent bounced segments frames) = 0
+items_in held.returning = 0
+
+abbrev pub items_of : KeptMap → ℕ
+items_of o = items_in o.map.stage

@@ -1,0 +1,16 @@
+pub mod Awaiting
+pub mod Changes
+pub mod Covered
+pub mod Doing
+pub mod Held
+pub mod Ideal
+pub mod Judging
+pub mod Kept
+pub mod Loading
+pub mod MapValues
+pub mod OneAwaiting
+pub mod OpeningMemory
+pub mod PagesLent
+pub mod Served
+pub mod SmallLoads
+pub mod Wire

@@ -1,0 +1,86 @@
+//! What a driver holds.
+
+ghost use Rattle.std.specs.Prelude.{◌≡◌, ◌≤◌, ℕ, true, false};
+ghost use Rattle.std.specs.FinMap.{get};
+ghost use Rattle.busdma_base.specs.declared.journals.answer.Answer.TheVariants as answer;
+ghost use Rattle.memory_pages.specs.Placed.{AreAtTheirFrames};
+ghost use Rattle.lane_state.specs.Awaiting.{AreAwaiting, AreOfMaps};
+ghost use Rattle.lane_state.specs.Covered.{AreLoaded, AreOwn, AreReturning, AreStanding, HasFramesOf, IsCovered};
+ghost use Rattle.lane_state.specs.Covered.{Reaches, is_tried, lends_pages, pages_due};
+ghost use Rattle.lane_state.specs.OneAwaiting.{AreAwaiting-prop};
+
+use crate::kept::{KeptMap, KeptMemory, KeptShare, KeptTag};
+use busdma_base::{Answer, LaneId, MapId, Op, PageRun, Report, ReportName};
+use lane_tables::{Agenda, PlaceTable};
+use loan_table::LoanTable;
+use phys_memory::LanePages;
+
+/// A driver's number, script and pages, the end of the machine's memory in frames, and all that its steps change: its
+/// memory; its tags, maps and dmamem memories by the places that made them, where the map of a memory has the memory's
+/// place; what its maps lend; its place and queues; and its shares of what zones copied.
+#[derive(Drop)]
+pub struct Holdings<'s> {
+    pub script: &'s [Op],
+    pub pages: &'s [PageRun],
+    pub id: LaneId,
+    pub maxmem: u64,
+    pub memory: LanePages,
+    pub tags: PlaceTable<KeptTag>,
+    pub maps: PlaceTable<KeptMap<'s>>,
+    pub memories: PlaceTable<KeptMemory>,
+    pub loans: LoanTable,
+    pub agenda: Agenda,
+    pub shares: Vec<KeptShare>,
+    ghost covered: { IsCovered memory.memory loans.bytes },
+    ghost reaches: { Reaches pages.now memories.map memory.memory },
+    ghost framed: { HasFramesOf pages.now memory.memory },
+    ghost placed: { AreAtTheirFrames memory.memory },
+    ghost standing: { AreStanding memories.map memory.memory },
+    ghost tag_places: { tags.places ≡ agenda.length },
+    ghost map_places: { maps.places ≡ agenda.length },
+    ghost memory_places: { memories.places ≡ agenda.length },
+    ghost loaded: { AreLoaded maps.map loans.loans },
+    ghost unlent: { (k : ℕ) → lends_pages (get maps.map k) ≡ false },
+    ghost promised: { pages_due maps.map ≤ agenda.promised },
+    ghost own_returns: { AreOwn id.0 agenda.returns },
+    ghost returning: { AreReturning maps.map agenda.returns },
+    ghost tried: { (k : ℕ) → is_tried (get maps.map k) ≡ true },
+    ghost awaiting: { AreAwaiting pages.now maxmem tags.map maps.map loans.prepared } by { AreAwaiting-prop pages.now maxmem tags.map maps.map loans.prepared },
+    ghost ready: { AreOfMaps pages.now memories.map loans.prepared },
+}
+
+impl Holdings<'_> {
+    /// The map or the memory that was made at a place.
+    pub fn map_id(&self, made_at: u32) -> MapId
+        ensures { result ≡ record { lane = self.now.id; made_at = made_at } }
+    {
+        MapId {
+            lane: self.id,
+            made_at,
+        }
+    }
+}
+
+/// What an operation answers, and whether it made a call under the bounce lock.
+#[derive(Drop)]
+pub struct Answered {
+    pub answer: Answer,
+    pub held: bool,
+}
+
+/// What a step answers that makes no call.
+pub fn unheld(answer: Answer) -> Answered
+    ensures { result ≡ record { answer = answer; held = false } }
+{
+    Answered {
+        answer,
+        held: false,
+    }
+}
+
+/// The answer of a step that is not done.
+pub fn report(name: ReportName, at: u64) -> Answer
+    ensures { result ≡ answer.Report (record { name = name; at = at }) }
+{
+    Answer::Report(Report { name, at })
+}

@@ -1,0 +1,62 @@
+//! What a lane keeps of its tags, maps, memories and shares.
+
+ghost use Rattle.dma_map.specs.Callback.{appended};
+
+use crate::buffers::LoadBytes;
+use busdma_base::{ItemList, Pa, ZoneId};
+use dma_map::{Callback, DmaMap, LoadEnd};
+use dma_tag::Tag;
+use dmamem::Memory;
+use iommu_map::Iommu;
+
+/// A tag, whether its first allocation is done, and the address space of its device where that is behind an IOMMU.
+#[derive(Drop)]
+pub struct KeptTag {
+    pub tag: Tag,
+    pub first_done: bool,
+    pub space: Option<Iommu>,
+}
+
+/// A load that waits, as its map keeps it: the bytes that it loads, the items that its callback appends, and how many
+/// pages it needs. So the map of bus_dma(9) keeps the memory of a load that is deferred, with its callback.
+#[derive(Drop)]
+pub struct KeptLoad<'s> {
+    pub bytes: LoadBytes<'s>,
+    pub items: ItemList,
+    pub need: u32,
+}
+
+impl Callback for KeptLoad<'_> {
+    ghost answer = { λ w end. appended w.items end };
+
+    fn call(self, end: &LoadEnd) -> Option<ItemList> {
+        match end {
+            LoadEnd::Segments(_) => Some(self.items),
+            LoadEnd::Refused(_) => None,
+        }
+    }
+}
+
+/// A map, and the place in the script that made its tag.
+#[derive(Drop)]
+pub struct KeptMap<'s> {
+    pub tag: u32,
+    pub map: DmaMap<KeptLoad<'s>>,
+}
+
+/// A memory, the place in the script that made its tag, and its frames, which follow one another: the physical address
+/// of the first, and how many they are.
+#[derive(Clone, Copy, Debug, PartialEq, Eq)]
+pub struct KeptMemory {
+    pub tag: u32,
+    pub first: Pa,
+    pub count: u32,
+    pub memory: Memory,
+}
+
+/// The lane's share of the syncs of a zone that copied.
+#[derive(Clone, Copy, Debug, PartialEq, Eq)]
+pub struct KeptShare {
+    pub zone: ZoneId,
+    pub count: u64,
+}

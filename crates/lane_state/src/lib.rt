@@ -1,0 +1,14 @@
+//! What a driver holds at work, and what its steps share: where bytes lie, and how loads are judged and measured.
+#![tactic(auto)]
+
+mod buffers;
+mod holdings;
+mod judging;
+mod kept;
+mod reach;
+
+pub use buffers::{
+    LoadBytes, build_parts, copy_segments, extents_of, measure_parts, never_waits, write_addresses,
+};
+pub use holdings::{Answered, Holdings, report, unheld};
+pub use kept::{KeptLoad, KeptMap, KeptMemory, KeptShare, KeptTag};

@@ -1,0 +1,82 @@
+//! Where the bytes of places lie.
+
+ghost use Rattle.std.specs.Prelude.{◌≡◌, ◌^◌, ◌<◌, [], length, map, IfOk, Some};
+ghost use Rattle.std.specs.FinMap.{get};
+ghost use Rattle.busdma_machine.specs.Judging.{judged};
+ghost use Rattle.busdma_machine.specs.Runs.{addresses, byte_count, run_of};
+ghost use Rattle.loan_table.specs.Table.{AreIn};
+ghost use Rattle.phys_memory.specs.Frames.{Lie};
+ghost use Rattle.phys_memory.specs.Memory.{physical};
+ghost use Rattle.phys_memory.specs.Translation.{physical_or_0, unreached};
+ghost use Rattle.phys_memory.specs.Walk.{IfParts, verdict, walk_of};
+ghost use Rattle.ideal_lane.specs.Loads.{is_device};
+ghost use Rattle.ideal_lane.specs.Places.{virtual_at};
+ghost use Rattle.ideal_lane.specs.State.{LaneMap};
+ghost use Rattle.lane_state.specs.Ideal.{ideal_of};
+
+use crate::holdings::Holdings;
+use crate::judging::begin_of;
+use busdma_base::{ExtentList, Place, Va};
+use phys_memory::Walked;
+use std::alloc::{AllocError, Global};
+
+/// The virtual address at which no byte is reached, nor at any above it: 2^64.
+pub(crate) const END: u128 = 0x1_0000_0000_0000_0000;
+
+impl Holdings<'_> {
+    /// Whether a map is one of an IOMMU tag.
+    pub fn is_device(&self, map: u32) -> bool
+        ensures { (o : LaneMap) → get (ideal_of self.now).maps map ≡ Some o → result ≡ is_device (ideal_of self.now) o }
+    {
+        let Some(kept) = self.maps.get(map) else {
+            return false;
+        };
+        match self.tags.get(kept.tag) {
+            Some(made) => made.space.is_some(),
+            None => false,
+        }
+    }
+
+    /// The virtual address of a place, or None where its memory does not exist. It may lie at 2^64 or above, since a
+    /// place is as far behind its memory's first byte as it says.
+    pub fn virtual_at(&self, place: Place) -> Option<u128>
+        ensures { result ≡ virtual_at (ideal_of self.now) place }
+    {
+        match place {
+            Place::At(va) => Some(va.0 as u128),
+            Place::In { mem, off } => {
+                let kept = self.memories.get(mem)?;
+                Some(begin_of(kept.first) + off as u128)
+            }
+        }
+    }
+
+    /// Where the `len` bytes from a virtual address on lie.
+    pub fn reach(&self, alloc: Global, va: u128, len: u64) -> Result<Walked, AllocError>
+        ensures verdict { let refusal = unreached (physical self.now.memory.memory) in
+            IfOk result (λ w. verdict w ≡ judged refusal 0 (run_of va len)) }
+        ensures addresses { let pas = map (physical_or_0 (physical self.now.memory.memory)) (run_of va len) in
+            IfOk result (λ w. IfParts w (λ es. addresses es ≡ pas)) }
+        ensures lie { IfOk result (λ w. IfParts w (Lie self.now.memory.memory)) }
+        ensures inside { IfOk result (λ w. IfParts w (λ es. AreIn self.now.loans.bytes (addresses es))) }
+        ensures len { IfOk result (λ w. IfParts w (λ es. length (addresses es) ≡ len)) }
+        ensures total { IfOk result (λ w. IfParts w (λ es. byte_count es < 2 ^ 64)) }
+    {
+        if va < END {
+            self.memory.translate(alloc, Va(va as u64), len)
+        } else {
+            Ok(unreached(alloc, len))
+        }
+    }
+}
+
+/// The walk over `len` bytes of which none is reached.
+fn unreached(alloc: Global, len: u64) -> Walked
+    ensures { result ≡ walk_of [] len }
+{
+    if len == 0 {
+        Walked::Parts(ExtentList::new(Vec::new(alloc)))
+    } else {
+        Walked::Unmapped(0)
+    }
+}
