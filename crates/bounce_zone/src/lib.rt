@@ -1,8 +1,6 @@
 //! Bounce zones.
 #![tactic(auto)]
 
-#[cfg(test)]
-mod tests;
 mod zone;
 
 pub use zone::Zone;

@@ -1,3 +1,2 @@
 pub mod Accessing
-pub mod SegmentsInTests
 pub mod Walk

@@ -4,8 +4,6 @@
 mod cursor;
 mod lookup;
 mod reading;
-#[cfg(test)]
-mod tests;
 mod writing;
 
 pub use reading::bus_read;

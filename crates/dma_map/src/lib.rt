@@ -5,8 +5,6 @@ mod callback;
 mod map;
 mod room;
 mod state;
-#[cfg(test)]
-mod tests;
 
 pub use callback::{Callback, LoadEnd, Transfers};
 pub use map::DmaMap;

@@ -8,8 +8,6 @@ mod mem_flags;
 mod sync_ops;
 mod tag;
 mod tag_flags;
-#[cfg(test)]
-mod tests;
 
 pub use einval::Einval;
 pub use load_flags::LoadFlags;

@@ -4,7 +4,5 @@
 mod bank;
 mod frame;
 mod run;
-#[cfg(test)]
-mod tests;
 
 pub use bank::FrameBank;

@@ -21,7 +21,7 @@ use Rattle.ideal_lane.specs.Outcomes.{Outcome}
 use Rattle.ideal_lane.specs.Turns.{Turned, lane_step}
 use Rattle.ideal_lane.specs.Unloads.{pages_of, after_return}
 use Rattle.ideal_lane.proofs.Effects.{Work, Operation, Transfer, Callback, Touches, Same, Makes, Touched, Maps, Creates, Unmaps, Places, Frees}
-use Rattle.ideal_lane.proofs.Effects.{Refuses, Waits, Loads, Overflows, Unloads, Ends, AtOnce, Granted, Called, Device}
+use Rattle.ideal_lane.proofs.Effects.{Refuses, Waits, Loads, Overflows, Unloads, Ends, AtOnce, Granted, Called, Device, Kicks}
 use Rattle.ideal_lane.proofs.Effects.{IsNext, Steps, Stays, Advances, Leaves, Releases, Calls, waits_for, map_in}
 use Rattle.ideal_lane.proofs.Stepping.{turn-steps}
 use Rattle.ideal_lane.proofs.Effects.{was_in, place_in, asked_in, chunks_in, pages_in, there_in}
@@ -134,6 +134,13 @@ module _ (l : LaneState) where
   few at (Unloads m o e i) =
       no-more _ (unwaiting-put m (record o { tried = true; stage = emptied (pages_of o.stage) })
       (empty-stage (pages_of o.stage))) refl refl refl
+  few at (Kicks k steps r there) = record {
+    low =
+        omega (arith, queued-from l.place 0 steps, length-append l.queue (queued l.place steps));
+    longer = omega (arith, length-append l.queue (queued l.place steps));
+    script = refl;
+    place = refl;
+  }
   few at _ = no-more _ (omega arith) refl refl refl
 
   -- ---- turns

@@ -2,9 +2,10 @@
 -- effects stand at the end: `Touches` are those without a call, `Makes` all of them, in the order of `Turns.operation`,
 -- and `Steps` those of turns. `Stepping` shows that each operation, item and callback has one of them, so what holds
 -- after each effect holds after each step.
-use Rattle.std.proofs.Common.{◌≡◌, ℕ, ◌==◌, ◌&&◌, true, false, List, [], ◌∷◌}
-use Rattle.std.proofs.Common.{length, Option, Some, None, nat_lt, slice_get, subst}
-use Rattle.std.specs.FinMap.{get, remove, contains_key}
+use Rattle.std.proofs.Common.{◌≡◌, ℕ, ◌+◌, ◌==◌, ◌&&◌, ◌%◌, Bool, true, false, if◌then◌else◌, List, [], ◌∷◌, ◌++◌}
+use Rattle.std.proofs.Common.{length, Option, Some, None, nat_le, nat_lt, refl, slice_get, subst}
+use Rattle.std.specs.Prelude.{replicate}
+use Rattle.std.specs.FinMap.{get, insert, remove, contains_key}
 use Rattle.busdma_machine.specs.declared.bounce.hold.HubCall.{HubCall}
 use Rattle.busdma_machine.specs.declared.bounce.hold.HubCall.TheVariants as call
 use Rattle.busdma_machine.specs.declared.bounce.hold.HubReply.{HubReply}
@@ -42,15 +43,19 @@ use Rattle.dma_tag.specs.SyncOps.{is_mixed}
 use Rattle.lane_agreement.specs.After.{addresses}
 use Rattle.lane_agreement.specs.View.{Return}
 use Rattle.lane_tables.specs.declared.queued.QueuedItem.{QueuedItem}
-use Rattle.loan_table.specs.Access.{cpu_write_answer, dev_write_answer, dev_write_refusal}
+use Rattle.lane_tables.specs.Queues.{queued}
+use Rattle.loan_table.specs.Access.{cpu_write_answer, dev_read_answer, dev_write_answer, dev_write_refusal}
 use Rattle.loan_table.specs.Lending.{sync_answer, synced, lost}
 use Rattle.loan_table.specs.Loans.{loan_of, load_bytes}
+use Rattle.ring_device.specs.declared.descriptor.Descriptor.{Descriptor}
+use Rattle.ring_device.specs.Descriptors.{descriptor_bytes}
 use Rattle.iommu_load.specs.Device.{device_chunks, load_frames}
 use Rattle.iommu_map.specs.Space.{Space, first_free}
 use Rattle.segment_build.specs.Chunks.{need_of}
-use Rattle.ideal_lane.specs.State.{LaneState, LaneTag, LaneMap, LaneMemory, Stage, Waiting, WaitingLoad, named, no_space}
+use Rattle.ideal_lane.specs.State.{LaneState, LaneTag, LaneMap, LaneMemory, LaneRing, Stage, Waiting, WaitingLoad, named}
+use Rattle.ideal_lane.specs.State.{no_space}
 use Rattle.ideal_lane.specs.Accesses.{raw_bytes, raw_refusal}
-use Rattle.ideal_lane.specs.IdealMemory.{written, forgotten}
+use Rattle.ideal_lane.specs.IdealMemory.{is_known, written, forgotten}
 use Rattle.ideal_lane.specs.Loads.{Asked, are_few, asked, limits_of, chunks_for, granted, is_device, ended}
 use Rattle.ideal_lane.specs.Loads.{load_judged, unpaged, waiting_load, with_run, with_spaces, zone_of}
 use Rattle.ideal_lane.specs.Maps.{bounces, with_map, without_map}
@@ -58,11 +63,13 @@ use Rattle.ideal_lane.specs.Memories.{placed, without_memory}
 use Rattle.ideal_lane.specs.Outcomes.{Outcome, is_idle, is_loaded}
 use Rattle.ideal_lane.specs.Outcomes.{load_length}
 use Rattle.ideal_lane.specs.Places.{virtual_at, reached, bytes_at}
+use Rattle.ideal_lane.specs.Rings.{Candidate, allowed, candidates, fetched, fits_in, head_at, head_of, is_work, may_post}
+use Rattle.ideal_lane.specs.Rings.{moved_on, posted, retired, slot_place, stored, told, used, with_ring}
 use Rattle.ideal_lane.specs.Syncs.{copies, counted}
 use Rattle.ideal_lane.specs.Tags.{with_tag, with_device_tag, has_maps, with_space}
 use Rattle.ideal_lane.specs.Turns.{Turn, Turned, Blocked, Ended, stays, stepped, bio_at}
 use Rattle.ideal_lane.specs.Turns.{never_waits, waits, advanced, served, left_queue}
-use Rattle.ideal_lane.specs.Unloads.{unlent, unmapped, pages_of, restaged, after_return}
+use Rattle.ideal_lane.specs.Unloads.{unlent, unmapped, pages_of, segments_in, restaged, after_return}
 use Rattle.ideal_lane.proofs.Endings.{fits, fitting, too_big}
 
 -- what a step does: an operation, an item, or the callback of a map
@@ -121,10 +128,6 @@ IsUntold (answer.Segments ss) = ⊥
 IsUntold (answer.Report x) = ⊥
 IsUntold _ = Unit {0}
 
-pub untold-quiet : (a : Answer) → IsUntold a → IsQuiet a
-untold-quiet (answer.Segments ss) u = u
-untold-quiet _ u = tt
-
 -- a map that stands so has no load that waits
 abbrev pub IsUnwaiting : Stage → Type 0
 IsUnwaiting (Waiting v) = ⊥
@@ -143,12 +146,13 @@ pub data IsNew (l : LaneState) : Option ℕ → TagLimits → TagLimits → Type
 
 -- the reply to a call brings nothing: no tag, no map, no memory, or a callback where no load waits
 pub data IsVain (l : LaneState) : Work → HubCall → HubReply → Type 0 where
-  Unattached : {d : Work} {r : HubReply} (t : TagLimits) → (could_bounce t l.maxmem && allocnow t.flags) ≡ true →
-      IsUnmade r → IsVain l d (call.AttachTag t) r
-  Uncreated : {d : Work} {r : HubReply} (g : LaneTag) → bounces l.maxmem g ≡ true → IsUnmade r →
-      IsVain l d (call.CreateMap (named l l.place) g.limits g.first_done) r
-  Unplaced : {d : Work} {r : HubReply} (g : LaneTag) → IsUnplaced r →
-      IsVain l d (call.MemAlloc (named l l.place) g.limits) r
+  Unattached : {name : List ℕ} {parent : Option ℕ} {limits : TagLimits} {r : HubReply} (t : TagLimits) →
+      (could_bounce t l.maxmem && allocnow t.flags) ≡ true → IsUnmade r →
+      IsVain l (Operation (op.Tag name parent limits)) (call.AttachTag t) r
+  Uncreated : {name : List ℕ} {t : ℕ} {r : HubReply} (g : LaneTag) → bounces l.maxmem g ≡ true → IsUnmade r →
+      IsVain l (Operation (op.Map name t)) (call.CreateMap (named l l.place) g.limits g.first_done) r
+  Unplaced : {name : List ℕ} {t flags : ℕ} {r : HubReply} (g : LaneTag) → IsUnplaced r →
+      IsVain l (Operation (op.Dmamem name t flags)) (call.MemAlloc (named l l.place) g.limits) r
   Unwaited : (m : MapId) (pages : List Pa) → IsUnwaited (get l.maps m.made_at) →
       IsVain l (Callback m) call.TakeCallback (reply.Called m pages)
 
@@ -294,9 +298,43 @@ after_sync l m o off len ops = record l {
 abbrev pub after_write : LaneState → List ℕ → List ℕ → LaneState
 after_write l bytes vs = record l { memory = written bytes vs l.memory }
 
+-- the step of a ring's device is done at a candidate: the ring's map is loaded and has the descriptor at the head, all
+-- bytes of which are Known; it is the device's, which can be told so; and this is the first candidate that allows it
+pub record Fetching (l : LaneState) (k : ℕ) : Type 0 where
+  pub r : LaneRing
+  pub ring : get l.rings k ≡ Some r
+  pub o : LaneMap
+  pub there : get l.maps r.mem ≡ Some o
+  pub loaded : is_loaded o.stage ≡ true
+  pub within : nat_le (head_at r + 16) (load_length l r.mem) ≡ true
+  pub fine : dev_read_answer (is_known l.memory) (loan_of l.loans r.mem) (head_at r) 16 ≡ Fine
+  pub owned : ((head_of r l).owner == 1) ≡ true
+  pub work : is_work (head_of r l).kind (head_of r l).len ≡ true
+  pub c : Candidate
+  pub first : slice_get (allowed (head_of r l) l (candidates r l)) 0 ≡ Some c
+
+-- the driver after it: the bytes of its memory, and the ring's head
+abbrev pub after_fetch : LaneState → ℕ → LaneRing → Descriptor → Candidate → LaneState
+after_fetch l k r d c = record l {
+  memory = (retired r (used d c l)).memory;
+  rings = insert l.rings k (record r { head = (r.head + 1) % r.slots });
+}
+
+pub fetched-is : (l : LaneState) (k : ℕ) (r : LaneRing) (d : Descriptor) (c : Candidate) →
+    (fetched k r d c l).lane ≡ after_fetch l k r d c
+fetched-is l k r d c = by (d.kind == 1)
+  where
+    by : (b : Bool) → moved_on k r (retired r (if b then l else stored c.map c.off d.len (replicate d.len d.fill) l))
+        ≡ record l {
+          memory = (retired r (if b then l else stored c.map c.off d.len (replicate d.len d.fill) l)).memory;
+          rings = insert l.rings k (record r { head = (r.head + 1) % r.slots });
+        }
+    by true = refl
+    by false = refl
+
 -- ---- the effects
 
--- without a call: the driver is the same, or its loans and bytes change
+-- without a call: the driver is the same, or its loans, its bytes and a ring's head change
 pub data Touches (l : LaneState) : Work → Outcome → Type 0 where
   -- a report, bytes that were read, or a refusal: the driver is the same
   Same : {d : Work} (a : Answer) → IsQuiet a → IsUndone a → Touches l d (record { lane = l; answer = a })
@@ -313,6 +351,17 @@ pub data Touches (l : LaneState) : Work → Outcome → Type 0 where
         lane = after_write l (bytes_at l (run_of va (length (bytes_of bs)))) (bytes_of bs);
         answer = answer.Done;
       })
+  -- ring_post: a slot of a ring has the bytes of a descriptor, which the driver writes as it writes any
+  Posts : (k slot m off len kind fill : ℕ) (r : LaneRing) → get l.rings k ≡ Some r → (o : LaneMap) →
+      get l.maps m ≡ Some o → is_loaded o.stage ≡ true → may_post r slot m o off len kind l ≡ true →
+      (va : ℕ) → virtual_at l (slot_place r slot) ≡ Some va → reached l va 16 ≡ Fine →
+      cpu_write_answer l.loans (bytes_at l (run_of va 16)) ≡ Fine →
+      Touches l (Operation (op.RingPost k slot m off len kind fill)) (record {
+        lane =
+            after_write l (bytes_at l (run_of va 16))
+            (descriptor_bytes (posted (segments_in o.stage) off len kind fill));
+        answer = answer.Done;
+      })
   -- dev_write: the bytes of a range of a load are Known, with the values that the device writes
   DeviceWrites : (m off : ℕ) (bs : Bytes) (o : LaneMap) → get l.maps m ≡ Some o → is_loaded o.stage ≡ true →
       dev_write_answer (loan_of l.loans m) off (length (bytes_of bs)) ≡ Fine →
@@ -327,6 +376,12 @@ pub data Touches (l : LaneState) : Work → Outcome → Type 0 where
       Touches l (Transfer (item.DevWriteAt t addr bs)) (record {
         lane = after_write l (raw_bytes l t (run_of addr (length (bytes_of bs)))) (bytes_of bs);
         answer = answer.Done;
+      })
+  -- ring_step: the device has done what the descriptor at the head says, the descriptor is done, and the head goes on
+  Fetches : (k : ℕ) (f : Fetching l k) →
+      Touches l (Transfer (item.RingStep k)) (record {
+        lane = after_fetch l k f.r (head_of f.r l) f.c;
+        answer = told (head_of f.r l) f.c l;
       })
 
 -- of any operation, item or callback, with its call and the reply
@@ -406,6 +461,17 @@ pub data Makes (l : LaneState) : Work → Option HubCall → HubReply → Outcom
   -- await: the wait has ended, and the driver is the same
   Awaits : {r : HubReply} (m : ℕ) →
       Makes l (Operation (op.Await m)) None r (record { lane = l; answer = answer.Done })
+  -- ring: the driver has one more ring, in the first bytes of a memory, with the head at its first slot
+  Rings : {r : HubReply} (name : List ℕ) (mem slots : ℕ) (x : LaneMemory) → get l.mems mem ≡ Some x →
+      fits_in slots x ≡ true →
+      Makes l (Operation (op.Ring name mem slots)) None r (record {
+        lane = with_ring l.place (record { mem = mem; slots = slots; head = 0 }) l;
+        answer = answer.Done;
+      })
+  -- kick: the steps of a ring's device join the transfer queue
+  Kicks : {r : HubReply} (k : ℕ) (steps : List Item) (q : LaneRing) → get l.rings k ≡ Some q →
+      Makes l (Operation (op.Kick k steps)) None r
+      (record { lane = record l { queue = l.queue ++ queued l.place steps }; answer = answer.Done })
 
 -- ---- turns
 

@@ -35,7 +35,7 @@ use Rattle.ideal_lane.specs.Turns.{waits, lane_step, Turned}
 use Rattle.ideal_lane.specs.View.{view_of}
 use Rattle.ideal_lane.specs.Left.{op_weight, stage_weight, maps_weight, left, Falls, FallsOrStays}
 use Rattle.ideal_lane.proofs.Effects.{Advances, AtOnce, Begins, Callback, Called, Calls, Creates, Device, Ends, Frees, Granted}
-use Rattle.ideal_lane.proofs.Effects.{IsNext, IsReplyOf, IsUnwaited, IsUnwaiting, Leaves, Loads, Makes, Maps}
+use Rattle.ideal_lane.proofs.Effects.{IsNext, IsReplyOf, IsUnwaited, IsUnwaiting, Kicks, Leaves, Loads, Makes, Maps}
 use Rattle.ideal_lane.proofs.Effects.{NothingLeft, Operation, Overflows, Places, Refuses, Releases, Same, Stays, Steps}
 use Rattle.ideal_lane.proofs.Effects.{Touched, Touches, Transfer, Unloads, Unmaps, Unwaited, Vain, Waits, Work}
 use Rattle.ideal_lane.proofs.Effects.{asked_in, asks, chunks, chunks_in, map_in, pages_in, place_in, there_in}
@@ -245,6 +245,11 @@ module _ (l : LaneState) where
     }
     makes-low at e (Unloads m y there i) =
         record { cost_low = omega (arith, unpaged-cost m y (pages_of y.stage) there, held y.stage); script = refl; place = refl }
+    makes-low at e (Kicks k steps q there) = record {
+      cost_low = omega (arith, queued-from l.place 0 steps, length-append l.queue (queued l.place steps));
+      script = refl;
+      place = refl;
+    }
     makes-low at e _ = record { cost_low = omega arith; script = refl; place = refl }
 
 -- ---- the script

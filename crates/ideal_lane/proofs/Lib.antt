@@ -4,6 +4,7 @@ pub mod Direct
 pub mod Effects
 pub mod Endings
 pub mod Falling
+pub mod Firsts
 pub mod Keeping
 pub mod Lookups
 pub mod Needs

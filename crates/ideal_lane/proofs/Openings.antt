@@ -19,21 +19,22 @@ use Rattle.busdma_base.specs.Scenarios.PageRuns.{is_own}
 use Rattle.busdma_machine.proofs.Accounts.Counting.{count_by-append}
 use Rattle.lane_agreement.proofs.Whole.{agrees-opening}
 use Rattle.lane_agreement.specs.Agreement.{Agrees}
-use Rattle.ideal_lane.specs.State.{LaneMap}
 use Rattle.ideal_lane.specs.Opening.{opening_lane}
 use Rattle.ideal_lane.specs.Standing.{Stands}
 use Rattle.ideal_lane.specs.View.{view_of, own_map, own_frames}
 
-nothing : (k : ℕ) (o : LaneMap) → get (empty {X = LaneMap} {R = nat_cmp}) k ≡ Some o → ⊥
-nothing k o e = let none : get (empty {X = LaneMap} {R = nat_cmp}) k ≡ None =
-    get-empty nat_cmp k in let clash : None ≡ Some o = sym none ∙ e in absurd (cc)
+nothing : {X : Type 0} (k : ℕ) (x : X) → get (empty {X = X} {R = nat_cmp}) k ≡ Some x → ⊥
+nothing {X} k x e = let none : get (empty {X = X} {R = nat_cmp}) k ≡ None =
+    get-empty nat_cmp k in let clash : None ≡ Some x = sym none ∙ e in absurd (cc)
 
 pub opens-standing : (id maxmem : ℕ) (driver : Driver) → Stands (opening_lane id maxmem driver)
 opens-standing id maxmem driver = record {
   no_tag = λ k h. get-empty nat_cmp k;
   no_map = λ k h. get-empty nat_cmp k;
   no_memory = λ k h. get-empty nat_cmp k;
+  no_ring = λ k h. get-empty nat_cmp k;
   each = λ k o e. absurd (nothing k o e);
+  ring = λ k r e. absurd (nothing k r e);
 }
 
 -- a frame of pages, by the addresses of its bytes and by its number

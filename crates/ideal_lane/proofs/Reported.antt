@@ -1,6 +1,7 @@
--- A step whose answer is a report goes on and changes nothing else, and the items of a load join the queue with segments.
-use Rattle.std.proofs.Common.{◌≡◌, ℕ, ◌+◌, true, List, [], ◌++◌, Option, Some, None, refl, sym, ap, ◌∙◌}
-use Rattle.std.proofs.Common.{append-nil}
+-- A step whose answer is a report goes on and changes nothing else; and the items of a load join the queue with segments,
+-- those of a kick where it is done.
+use Rattle.std.proofs.Common.{◌≡◌, ℕ, ◌+◌, ◌==◌, Bool, true, false, if◌then◌else◌, List, [], ◌++◌, Option, Some, None, refl}
+use Rattle.std.proofs.Common.{sym, ap, ◌∙◌, append-nil}
 use Rattle.std.specs.FinMap.{get}
 use Rattle.busdma_machine.specs.declared.bounce.hold.HubCall.{HubCall}
 use Rattle.busdma_machine.specs.declared.bounce.hold.HubReply.{HubReply}
@@ -12,15 +13,21 @@ use Rattle.busdma_base.specs.Journals.Reports.{is_report}
 use Rattle.busdma_base.specs.Scenarios.Operations.{items_of}
 use Rattle.lane_tables.specs.declared.queued.QueuedItem.{QueuedItem}
 use Rattle.lane_tables.specs.Queues.{queued}
+use Rattle.loan_table.specs.Loans.{load_bytes}
+use Rattle.ring_device.specs.declared.descriptor.Descriptor.{Descriptor}
 use Rattle.ideal_lane.specs.Asking.{by_reply, call_of}
 use Rattle.ideal_lane.specs.Outcomes.{Outcome}
-use Rattle.ideal_lane.specs.Reported.{behind, gone_on, if_segments, is_reported, items_at, items_in}
+use Rattle.ideal_lane.specs.Reported.{behind, gone_on, if_ready, is_reported, items_at, items_in}
 use Rattle.ideal_lane.specs.Reported.{items_awaited, joining, remaining}
-use Rattle.ideal_lane.specs.State.{LaneState, LaneMap, Stage}
+use Rattle.ideal_lane.specs.Accesses.{values}
+use Rattle.ideal_lane.specs.Rings.{Candidate, head_of, told}
+use Rattle.ideal_lane.specs.State.{LaneState, LaneMap, Stage, Idle, Waiting, Loaded, Returning}
 use Rattle.ideal_lane.specs.Turns.{Turn, Turned, lane_step}
 use Rattle.ideal_lane.specs.Unloads.{after_return, restaged}
 use Rattle.ideal_lane.proofs.Effects.{Work, Operation, Transfer, Callback, Touches, Same, Makes, Touched, Vain, Loads}
-use Rattle.ideal_lane.proofs.Effects.{Ends, AtOnce, Granted, Called, Device, IsQuiet, IsUntold, untold-quiet, IsStay, NothingNow}
+use Rattle.ideal_lane.proofs.Effects.{Ends, AtOnce, Granted, Called, Device, IsQuiet, IsUndone, IsUntold, IsStay, NothingNow}
+use Rattle.ideal_lane.proofs.Effects.{IsSync, Range, RangeItem, Syncs, Whole, WholeItem}
+use Rattle.ideal_lane.proofs.Effects.{Fetches, IsUnwaited, IsUnwaiting, IsVain, Kicks, Unattached, Uncreated, Unplaced, Unwaited}
 use Rattle.ideal_lane.proofs.Effects.{NothingLeft, NoneCalled, Steps, Stays, Advances, Leaves, Releases, Calls}
 use Rattle.ideal_lane.proofs.Stepping.{turn-steps}
 use Rattle.ideal_lane.proofs.Effects.{place_in, asked_in}
@@ -28,8 +35,18 @@ use Rattle.ideal_lane.proofs.Effects.{place_in, asked_in}
 module _ (l : LaneState) where
   -- ---- reports
 
+  -- a step of a ring that is done reports nothing
+  told-report : (d : Descriptor) (c : Candidate) → is_report (told d c l) ≡ true → ⊥
+  told-report d c e = by (d.kind == 1) e
+    where
+      by : (b : Bool) →
+          is_report (if b then answer.Bytes (values l (load_bytes l.loans c.map c.off d.len)) else answer.Done) ≡ true → ⊥
+      by true e = cc
+      by false e = cc
+
   touched-report : {d : Work} {x : Outcome} → Touches l d x → is_report x.answer ≡ true → x.lane ≡ l
   touched-report (Same a q u) e = refl
+  touched-report (Fetches k f) e = absurd (told-report (head_of f.r l) f.c e)
   touched-report _ e = absurd (cc)
 
   untold-report : (a : Answer) → IsUntold a → is_report a ≡ true → ⊥
@@ -74,23 +91,48 @@ module _ (l : LaneState) where
 
   -- ---- the transfer queue
 
-  -- the items of the load that what is done may end
+  -- the items of what is done
   abbrev items_by : Work → List QueuedItem
   items_by (Operation o) = queued l.place (items_of o)
   items_by (Transfer i) = []
   items_by (Callback m) = items_in (get l.maps m.made_at)
 
-  quiet-none : (a : Answer) (items : List QueuedItem) → IsQuiet a → if_segments a items ≡ []
-  quiet-none (answer.Segments ss) items q = absurd q
-  quiet-none _ items q = refl
+  quiet-none : (a : Answer) (items : List QueuedItem) → IsQuiet a → IsUndone a → if_ready a items ≡ []
+  quiet-none (answer.Segments ss) items q u = absurd q
+  quiet-none answer.Done items q u = absurd u
+  quiet-none _ items q u = refl
 
   -- nothing joins
-  none-joins : (a : Answer) (items : List QueuedItem) → IsQuiet a → l.queue ≡ l.queue ++ if_segments a items
-  none-joins a items q = sym (append-nil l.queue) ∙ ap (λ more. l.queue ++ more) (sym (quiet-none a items q))
+  none-joins : (a : Answer) (items : List QueuedItem) → if_ready a items ≡ [] → l.queue ≡ l.queue ++ if_ready a items
+  none-joins a items none = sym (append-nil l.queue) ∙ ap (λ more. l.queue ++ more) (sym none)
 
-  no-items : (a : Answer) → if_segments a [] ≡ []
+  no-items : (a : Answer) → if_ready a [] ≡ []
   no-items (answer.Segments ss) = refl
+  no-items answer.Done = refl
   no-items _ = refl
+
+  -- what a reply brings nothing to has no items that could join
+  no-await : (y : Option LaneMap) → IsUnwaited y → items_in y ≡ []
+  no-await None u = refl
+  no-await (Some o) u = by o.stage u
+    where
+      by : (s : Stage) → IsUnwaiting s → items_awaited s ≡ []
+      by (Waiting v) u = absurd u
+      by Idle u = refl
+      by (Loaded bounced segments pages) u = refl
+      by Returning u = refl
+
+  sync-items : {d : Work} {m off len ops : ℕ} → IsSync l d m off len ops → items_by d ≡ []
+  sync-items (Whole m ops) = refl
+  sync-items (Range m off len ops) = refl
+  sync-items (WholeItem m ops) = refl
+  sync-items (RangeItem m off len ops) = refl
+
+  vain-items : {d : Work} {c : HubCall} {r : HubReply} → IsVain l d c r → items_by d ≡ []
+  vain-items (Unattached t b u) = refl
+  vain-items (Uncreated g b u) = refl
+  vain-items (Unplaced g u) = refl
+  vain-items (Unwaited m pages u) = no-await (get l.maps m.made_at) u
 
   same-items : {d : Work} {c : Option HubCall} {r : HubReply} (k : Ends l d c r) →
       queued (place_in k) (asked_in k).items ≡ items_by d
@@ -103,15 +145,20 @@ module _ (l : LaneState) where
   touched-queue (Same a q u) = refl
   touched-queue _ = refl
 
-  touched-joins : {d : Work} {x : Outcome} → Touches l d x → x.lane.queue ≡ l.queue ++ if_segments x.answer (items_by d)
-  touched-joins (Same a q u) = none-joins a _ q
+  touched-joins : {d : Work} {x : Outcome} → Touches l d x → x.lane.queue ≡ l.queue ++ if_ready x.answer (items_by d)
+  touched-joins (Same a q u) = none-joins a _ (quiet-none a _ q u)
+  touched-joins (Syncs m off len ops is o there i alone fine) =
+      none-joins answer.Done _ (sync-items is)
+  touched-joins (Fetches k f) =
+      let a : Answer = told (head_of f.r l) f.c l in none-joins a [] (no-items a)
   touched-joins _ = sym (append-nil l.queue)
 
   made-joins : {d : Work} {c : Option HubCall} {r : HubReply} {x : Outcome} → Makes l d c r x →
-      x.lane.queue ≡ l.queue ++ if_segments x.answer (items_by d)
+      x.lane.queue ≡ l.queue ++ if_ready x.answer (items_by d)
   made-joins (Touched t) = touched-joins t
-  made-joins (Vain v a u) = none-joins a _ (untold-quiet a u)
+  made-joins (Vain v a u) = none-joins a _ (ap (if_ready a) (vain-items v) ∙ no-items a)
   made-joins (Loads k f) = ap (λ items. l.queue ++ items) (same-items k)
+  made-joins (Kicks k steps r there) = refl
   made-joins _ = sym (append-nil l.queue)
 
   abbrev Joins : Side → Turned → Type 0
@@ -136,7 +183,7 @@ module _ (l : LaneState) where
   steps-join : {s : Side} {c : Option HubCall} {r : HubReply} {t : Turned} → Steps l s c r t → Joins s t
   steps-join {s = s} (Stays t k) = stay-joins s k
   steps-join (Advances {x = x} o at free k) =
-      made-joins k ∙ ap (λ y. l.queue ++ if_segments x.answer (items_at l.place y)) (sym at)
+      made-joins k ∙ ap (λ y. l.queue ++ if_ready x.answer (items_at l.place y)) (sym at)
   steps-join (Leaves {x = x} q rest is k) =
       ap behind (sym is) ∙ sym (append-nil (behind l.queue))
       ∙ ap (λ more. behind l.queue ++ more) (sym (no-items x.answer))

@@ -1,6 +1,6 @@
 -- Each turn leaves its driver standing.
-use Rattle.std.proofs.Common.{◌≡◌, ◌≢◌, ℕ, ◌+◌, ◌≤◌, ◌==◌, ◌||◌, not, Bool, true, false, cond, if◌then◌else◌, List, []}
-use Rattle.std.proofs.Common.{◌∷◌, Option, Some, None, is_some, refl, ap, sym, ◌∙◌, subst, arith}
+use Rattle.std.proofs.Common.{◌≡◌, ◌≢◌, ℕ, ◌+◌, ◌*◌, ◌%◌, ◌≤◌, ◌<◌, ◌==◌, ◌||◌, not, Bool, true, false, cond, if◌then◌else◌, List}
+use Rattle.std.proofs.Common.{[], ◌∷◌, Option, Some, None, is_some, refl, ap, sym, ◌∙◌, subst, arith, nat_le}
 use Rattle.std.proofs.lemmas.Bool.{and_parts, false≢true}
 use Rattle.std.proofs.lemmas.Bool.Decides.{nat_tests}
 use Rattle.std.proofs.lemmas.Map.Views.{exact_unsigned_eq}
@@ -17,10 +17,12 @@ use Rattle.busdma_machine.specs.Tags.Tag.{could_bounce}
 use Rattle.dma_tag.specs.MemFlags.{coherent}
 use Rattle.lane_agreement.specs.View as view
 use Rattle.segment_build.specs.Chunks.{need_of}
-use Rattle.ideal_lane.specs.State.{LaneState, LaneTag, LaneMap, LaneMemory, Stage, Idle, Waiting, Loaded, Returning}
+use Rattle.ideal_lane.specs.State.{LaneState, LaneTag, LaneMap, LaneMemory, LaneRing, Stage, Idle, Waiting, Loaded}
+use Rattle.ideal_lane.specs.State.{Returning}
 use Rattle.ideal_lane.specs.Asking.{Asking, Gives, Asks, call_of, by_reply}
 use Rattle.ideal_lane.specs.Outcomes.{Outcome}
-use Rattle.ideal_lane.specs.Standing.{IsPageless, StandsAt, StandsFrom, Stands, KeepsStanding}
+use Rattle.ideal_lane.specs.Rings.{fits_in}
+use Rattle.ideal_lane.specs.Standing.{IsPageless, IsRing, StandsAt, StandsFrom, Stands, KeepsStanding}
 use Rattle.ideal_lane.specs.Tags.{with_tag, tag}
 use Rattle.ideal_lane.specs.Maps.{bounces, with_map}
 use Rattle.ideal_lane.specs.Loads.{is_device, staged, unpaged, emptied}
@@ -30,7 +32,7 @@ use Rattle.ideal_lane.proofs.Effects.{Advances, AtOnce, Attaches, Begins, Callba
 use Rattle.ideal_lane.proofs.Effects.{Frees, Granted, Leaves, Loads, Makes, Maps, Overflows, Places, Refuses, Spaces, Releases}
 use Rattle.ideal_lane.proofs.Effects.{Same, Stays, Steps, Tags, Touched, Touches, Unloads, Unmaps, Untags, Vain, Waits}
 use Rattle.ideal_lane.proofs.Effects.{Work, asked_in, asks, chunks, chunks_in, map_in, pages_in, place_in, there_in}
-use Rattle.ideal_lane.proofs.Effects.{Device, waits_for, was_in}
+use Rattle.ideal_lane.proofs.Effects.{Device, Fetches, Rings, waits_for, was_in}
 use Rattle.std.proofs.Common.{◌&&◌}
 use Rattle.ideal_lane.proofs.Stepping.{turn-steps}
 use Rattle.ideal_lane.proofs.Lookups.{get_put, get_cut}
@@ -71,6 +73,9 @@ cut-none m k q none = get_cut m k q ∙ by (q == k)
     by : (b : Bool) → cond b None (get m q) ≡ None
     by true = refl
     by false = none
+
+same-value : {X : Type 0} {o : Option X} {x y : X} → o ≡ Some x → o ≡ Some y → x ≡ y
+same-value e f = cc
 
 -- what is there stands at another place than what is not
 apart : {X : Type 0} (m : FinMap nat_cmp X) (k q : ℕ) (x : X) → get m k ≡ Some x → get m q ≡ None → q ≢ k
@@ -121,26 +126,49 @@ none-found {X} test (f ∷ es) q x none e =
         sym (λ i. test (key i, value i)) ∙ t
     by rest false t h false d g = rest h g
 
--- ---- changes of the tags, maps and memories of a driver that stands
+-- ---- changes of the tags, maps, memories and rings of a driver that stands
+
+-- a ring lies in a memory that is as it was, or is gone with its map
+ring-in : {p : ℕ} {maps : FinMap nat_cmp LaneMap} {mems : FinMap nat_cmp LaneMemory} (q : ℕ)
+    (others : FinMap nat_cmp LaneMap) (other : FinMap nat_cmp LaneMemory) (r : LaneRing) → p ≤ q →
+    ((x : LaneMemory) → get other r.mem ≡ Some x → get mems r.mem ≡ Some x) →
+    ((o : LaneMap) → get others r.mem ≡ Some o → contains_key other r.mem ≡ true) → IsRing p maps mems r →
+    IsRing q others other r
+ring-in q others other r le back there old = record {
+  made = omega (arith, le, old.made);
+  there = there;
+  head = old.head;
+  few = old.few;
+  coherent = λ x e. old.coherent x (back x e);
+  fits = λ x e. old.fits x (back x e);
+}
 
 module _ {p maxmem : ℕ} {tags : FinMap nat_cmp LaneTag} {maps : FinMap nat_cmp LaneMap}
-    {mems : FinMap nat_cmp LaneMemory} where
-  later : (q : ℕ) → p ≤ q → StandsFrom p maxmem tags maps mems → StandsFrom q maxmem tags maps mems
+    {mems : FinMap nat_cmp LaneMemory} {rings : FinMap nat_cmp LaneRing} where
+  later : (q : ℕ) → p ≤ q → StandsFrom p maxmem tags maps mems rings → StandsFrom q maxmem tags maps mems rings
   later q le s = record {
     no_tag = λ k h. s.no_tag k (omega (arith, le, h));
     no_map = λ k h. s.no_map k (omega (arith, le, h));
     no_memory = λ k h. s.no_memory k (omega (arith, le, h));
+    no_ring = λ k h. s.no_ring k (omega (arith, le, h));
     each = s.each;
+    ring = λ k r e. ring-in q maps mems r le (λ x h. h) (s.ring k r e).there (s.ring k r e);
   }
 
   -- a map stands elsewhere
   stands-put : (m : ℕ) (o n : LaneMap) → get maps m ≡ Some o → n.tag ≡ o.tag → n.zone ≡ o.zone →
       (o.zone ≡ None → IsPageless n.stage) →
-      StandsFrom p maxmem tags maps mems → StandsFrom p maxmem tags (insert maps m n) mems
+      StandsFrom p maxmem tags maps mems rings → StandsFrom p maxmem tags (insert maps m n) mems rings
   stands-put m o n found same_tag same_zone pageless s = record {
     no_tag = s.no_tag;
     no_map = λ k h. put-none maps m k n (apart maps m k o found (s.no_map k h)) (s.no_map k h);
     no_memory = s.no_memory;
+    no_ring = s.no_ring;
+    ring = λ k r e.
+        let was : IsRing p maps mems r = s.ring k r e in
+        ring-in p (insert maps m n) mems r (omega arith) (λ x h. h)
+        (λ x f. put-cases (contains_key mems r.mem ≡ true) maps m r.mem n x f
+        (λ at is. was.there o (ap (get maps) at ∙ found)) (was.there x)) was;
     each = λ k x e. put-cases (StandsAt maxmem tags mems k x) maps m k n x e
         (λ at is. subst (λ y. StandsAt maxmem tags mems k y) is
         (subst (λ j. StandsAt maxmem tags mems j n) (sym at) here)) (s.each k x);
@@ -160,21 +188,27 @@ module _ {p maxmem : ℕ} {tags : FinMap nat_cmp LaneTag} {maps : FinMap nat_cmp
       }
 
   -- a map is gone
-  stands-cut : (m : ℕ) → StandsFrom p maxmem tags maps mems → StandsFrom p maxmem tags (remove maps m) mems
+  stands-cut : (m : ℕ) → StandsFrom p maxmem tags maps mems rings → StandsFrom p maxmem tags (remove maps m) mems rings
   stands-cut m s = record {
     no_tag = s.no_tag;
     no_map = λ k h. cut-none maps m k (s.no_map k h);
     no_memory = s.no_memory;
+    no_ring = s.no_ring;
+    ring = λ k r e.
+        ring-in p (remove maps m) mems r (omega arith) (λ x h. h)
+        (λ x f. (s.ring k r e).there x (cut-found maps m r.mem x f)) (s.ring k r e);
     each = λ k x e. s.each k x (cut-found maps m k x e);
   }
 
   -- a tag has done its first allocation
   stands-done : (t : ℕ) (old new : LaneTag) → get tags t ≡ Some old → new.limits ≡ old.limits →
-      new.device ≡ old.device → StandsFrom p maxmem tags maps mems → StandsFrom p maxmem (insert tags t new) maps mems
+      new.device ≡ old.device → StandsFrom p maxmem tags maps mems rings → StandsFrom p maxmem (insert tags t new) maps mems rings
   stands-done t old new found same kind s = record {
     no_tag = λ k h. put-none tags t k new (apart tags t k old found (s.no_tag k h)) (s.no_tag k h);
     no_map = s.no_map;
     no_memory = s.no_memory;
+    no_ring = s.no_ring;
+    ring = s.ring;
     each = λ k x e. by k x (s.each k x e) (x.tag == t) refl;
   }
     where
@@ -208,11 +242,13 @@ module _ {p maxmem : ℕ} {tags : FinMap nat_cmp LaneTag} {maps : FinMap nat_cmp
 
   -- a tag is gone that no map has
   stands-untagged : (t : ℕ) → list_any (λ e. e.1.tag == t) (entries maps) ≡ false →
-      StandsFrom p maxmem tags maps mems → StandsFrom p maxmem (remove tags t) maps mems
+      StandsFrom p maxmem tags maps mems rings → StandsFrom p maxmem (remove tags t) maps mems rings
   stands-untagged t none s = record {
     no_tag = λ k h. cut-none tags t k (s.no_tag k h);
     no_map = s.no_map;
     no_memory = s.no_memory;
+    no_ring = s.no_ring;
+    ring = s.ring;
     each = λ k x e.
         let st = s.each k x e in
         let other : (x.tag == t) ≡ false =
@@ -230,13 +266,49 @@ module _ {p maxmem : ℕ} {tags : FinMap nat_cmp LaneTag} {maps : FinMap nat_cmp
         };
   }
 
+  -- the head of a ring goes on
+  stands-moved : (k : ℕ) (r : LaneRing) → get rings k ≡ Some r →
+      StandsFrom p maxmem tags maps mems rings →
+      StandsFrom p maxmem tags maps mems (insert rings k (record r { head = (r.head + 1) % r.slots }))
+  stands-moved k r found s = record {
+    no_tag = s.no_tag;
+    no_map = s.no_map;
+    no_memory = s.no_memory;
+    no_ring = λ q h. put-none rings k q new (apart rings k q r found (s.no_ring q h)) (s.no_ring q h);
+    each = s.each;
+    ring = λ q x e. put-cases (IsRing p maps mems x) rings k q new x e (λ at is. subst (IsRing p maps mems) is here)
+        (s.ring q x);
+  }
+    where
+      new : LaneRing
+      new = record r { head = (r.head + 1) % r.slots }
+
+      here : IsRing p maps mems new
+      here =
+          let old : IsRing p maps mems r = s.ring k r found in
+          let some : 0 < r.slots = omega (arith, old.head) in
+          record {
+            made = old.made;
+            there = old.there;
+            head = omega (arith, some);
+            few = old.few;
+            coherent = old.coherent;
+            fits = old.fits;
+          }
+
   -- a memory is gone with its map
-  stands-unmade : (m : ℕ) → StandsFrom p maxmem tags maps mems →
-      StandsFrom p maxmem tags (remove maps m) (remove mems m)
+  stands-unmade : (m : ℕ) → StandsFrom p maxmem tags maps mems rings →
+      StandsFrom p maxmem tags (remove maps m) (remove mems m) rings
   stands-unmade m s = record {
     no_tag = s.no_tag;
     no_map = λ k h. cut-none maps m k (s.no_map k h);
     no_memory = λ k h. cut-none mems m k (s.no_memory k h);
+    no_ring = s.no_ring;
+    ring = λ k r e.
+        ring-in p (remove maps m) (remove mems m) r (omega arith) (cut-found mems m r.mem)
+        (λ x f.
+        let off : r.mem ≢ m = (λ at. cut-here maps m x (sym (ap (get (remove maps m)) at) ∙ f)) in
+        ap is_some (cut-other mems m r.mem off) ∙ (s.ring k r e).there x (cut-found maps m r.mem x f)) (s.ring k r e);
     each = λ k x e. by k x e (s.each k x (cut-found maps m k x e));
   }
     where
@@ -257,8 +329,11 @@ module _ {p maxmem : ℕ} {tags : FinMap nat_cmp LaneTag} {maps : FinMap nat_cmp
 -- ---- what is made at the place of the script
 
 module _ (p maxmem : ℕ) (tags : FinMap nat_cmp LaneTag)
-    (maps : FinMap nat_cmp LaneMap) (mems : FinMap nat_cmp LaneMemory)
-    (s : StandsFrom p maxmem tags maps mems) where
+    (maps : FinMap nat_cmp LaneMap) (mems : FinMap nat_cmp LaneMemory) (rings : FinMap nat_cmp LaneRing)
+    (s : StandsFrom p maxmem tags maps mems rings) where
+  next-ring : (k : ℕ) (r : LaneRing) → get rings k ≡ Some r → IsRing (p + 1) maps mems r
+  next-ring k r e = ring-in (p + 1) maps mems r (omega arith) (λ x h. h) (s.ring k r e).there (s.ring k r e)
+
   over : (k : ℕ) → p + 1 ≤ k → p ≤ k
   over k h = omega (arith, h)
 
@@ -266,11 +341,13 @@ module _ (p maxmem : ℕ) (tags : FinMap nat_cmp LaneTag)
   off-place k h e = absurd (omega (arith, h, e))
 
   -- a tag
-  made-tag : (t : LaneTag) → StandsFrom (p + 1) maxmem (insert tags p t) maps mems
+  made-tag : (t : LaneTag) → StandsFrom (p + 1) maxmem (insert tags p t) maps mems rings
   made-tag t = record {
     no_tag = λ k h. put-none tags p k t (off-place k h) (s.no_tag k (over k h));
     no_map = λ k h. s.no_map k (over k h);
     no_memory = λ k h. s.no_memory k (over k h);
+    no_ring = λ k h. s.no_ring k (over k h);
+    ring = next-ring;
     each = λ k x e. let st = s.each k x e in record {
       tag = st.tag;
       there = put-other tags p x.tag t (apart-tag x st) ∙ st.there;
@@ -288,11 +365,17 @@ module _ (p maxmem : ℕ) (tags : FinMap nat_cmp LaneTag)
   -- an idle map of a tag, with a zone, or of a tag that could not bounce
   made-map : (o : LaneMap) (t : LaneTag) → get tags o.tag ≡ Some t → o.stage ≡ Idle →
       (t.device ≡ true → o.zone ≡ None) → (o.zone ≡ None → bounces maxmem t ≡ false) →
-      StandsFrom (p + 1) maxmem tags (insert maps p o) mems
+      StandsFrom (p + 1) maxmem tags (insert maps p o) mems rings
   made-map o t tag idle device direct = record {
     no_tag = λ k h. s.no_tag k (over k h);
     no_map = λ k h. put-none maps p k o (off-place k h) (s.no_map k (over k h));
     no_memory = λ k h. s.no_memory k (over k h);
+    no_ring = λ k h. s.no_ring k (over k h);
+    ring = λ k r e.
+        let was : IsRing p maps mems r = s.ring k r e in
+        ring-in (p + 1) (insert maps p o) mems r (omega arith) (λ x h. h)
+        (λ x f. put-cases (contains_key mems r.mem ≡ true) maps p r.mem o x f
+        (λ at is. absurd (omega (arith, at, was.made))) (was.there x)) was;
     each = λ k x e. put-cases (StandsAt maxmem tags mems k x) maps p k o x e
         (λ at is. subst (λ y. StandsAt maxmem tags mems k y) is
         (subst (λ j. StandsAt maxmem tags mems j o) (sym at) here)) (s.each k x);
@@ -318,11 +401,19 @@ module _ (p maxmem : ℕ) (tags : FinMap nat_cmp LaneTag)
   -- a memory with its idle map
   made-memory : (o : LaneMap) (x : LaneMemory) (t : LaneTag) →
       get tags o.tag ≡ Some t → o.stage ≡ Idle → o.zone ≡ None →
-      StandsFrom (p + 1) maxmem tags (insert maps p o) (insert mems p x)
+      StandsFrom (p + 1) maxmem tags (insert maps p o) (insert mems p x) rings
   made-memory o x t tag idle zone = record {
     no_tag = λ k h. s.no_tag k (over k h);
     no_map = λ k h. put-none maps p k o (off-place k h) (s.no_map k (over k h));
     no_memory = λ k h. put-none mems p k x (off-place k h) (s.no_memory k (over k h));
+    no_ring = λ k h. s.no_ring k (over k h);
+    ring = λ k r e.
+        let was : IsRing p maps mems r = s.ring k r e in
+        let off : r.mem ≢ p = (λ at. absurd (omega (arith, at, was.made))) in
+        ring-in (p + 1) (insert maps p o) (insert mems p x) r (omega arith)
+        (λ y f. sym (put-other mems p r.mem x off) ∙ f)
+        (λ y f. put-cases (contains_key (insert mems p x) r.mem ≡ true) maps p r.mem o y f (λ at is. absurd (off at))
+        (λ g. ap is_some (put-other mems p r.mem x off) ∙ was.there y g)) was;
     each = λ k y e. put-cases (StandsAt maxmem tags (insert mems p x) k y) maps p k o y e
         (λ at is. subst (λ z. StandsAt maxmem tags (insert mems p x) k z) is
         (subst (λ j. StandsAt maxmem tags (insert mems p x) j o) (sym at) here))
@@ -355,15 +446,55 @@ module _ (p maxmem : ℕ) (tags : FinMap nat_cmp LaneTag)
             pageless = st.pageless;
           }
 
+  -- a ring in a memory that it fits into
+  made-ring : (mem slots : ℕ) (x : LaneMemory) → get mems mem ≡ Some x → fits_in slots x ≡ true →
+      StandsFrom (p + 1) maxmem tags maps mems (insert rings p (record { mem = mem; slots = slots; head = 0 }))
+  made-ring mem slots x there fit = record {
+    no_tag = λ k h. s.no_tag k (over k h);
+    no_map = λ k h. s.no_map k (over k h);
+    no_memory = λ k h. s.no_memory k (over k h);
+    no_ring = λ k h. put-none rings p k new (off-place k h) (s.no_ring k (over k h));
+    each = s.each;
+    ring = λ k r e. put-cases (IsRing (p + 1) maps mems r) rings p k new r e
+        (λ at is. subst (IsRing (p + 1) maps mems) is here) (next-ring k r);
+  }
+    where
+      new : LaneRing
+      new = record { mem = mem; slots = slots; head = 0 }
+
+      before : (b : Bool) → nat_le p mem ≡ b → mem < p
+      before true e =
+          let late : p ≤ mem = grind (arith, nat_tests) in
+          let none : get mems mem ≡ None = s.no_memory mem late in absurd (cc)
+      before false e = grind (arith, nat_tests)
+
+      here : IsRing (p + 1) maps mems new
+      here =
+          let of_x = and_parts x.coherent (nat_le 1 slots && (nat_le slots 256 && nat_le (16 * slots) x.len)) fit in
+          let of_slots = and_parts (nat_le 1 slots) (nat_le slots 256 && nat_le (16 * slots) x.len) of_x.1 in
+          let of_len = and_parts (nat_le slots 256) (nat_le (16 * slots) x.len) of_slots.1 in
+          let some : 1 ≤ slots = grind (arith, nat_tests, of_slots.0) in
+          let few : slots ≤ 256 = grind (arith, nat_tests, of_len.0) in
+          let fits : 16 * slots ≤ x.len = grind (arith, nat_tests, of_len.1) in
+          record {
+            made = omega (arith, before (nat_le p mem) refl);
+            there = λ o e. ap is_some there;
+            head = omega (arith, some);
+            few = few;
+            coherent = λ y e. subst (λ z. LaneMemory.coherent z ≡ true) (same-value there e) of_x.0;
+            fits = λ y e. subst (λ z. 16 * slots ≤ LaneMemory.len z) (same-value there e) fits;
+          }
+
 -- ---- operations
 
 -- nothing was made at the place p or later, and the script is at the place q
 abbrev pub StandsIn : ℕ → ℕ → LaneState → Type 0
-StandsIn p q n = StandsFrom p n.maxmem n.tags n.maps n.mems × (n.place ≡ q)
+StandsIn p q n = StandsFrom p n.maxmem n.tags n.maps n.mems n.rings × (n.place ≡ q)
 
-module _ (p : ℕ) (l : LaneState) (s : StandsFrom p l.maxmem l.tags l.maps l.mems) where
+module _ (p : ℕ) (l : LaneState) (s : StandsFrom p l.maxmem l.tags l.maps l.mems l.rings) where
   touches-stand : {d : Work} {x : Outcome} → Touches l d x → StandsIn p l.place x.lane
   touches-stand (Same a q u) = (s, refl)
+  touches-stand (Fetches k f) = (stands-moved k f.r f.ring s, refl)
   touches-stand _ = (s, refl)
 
   -- the map of a load, where it stands now
@@ -411,7 +542,7 @@ module _ (l : LaneState) (s : Stands l) where
 
   in-tag : (t : TagLimits) (first_done : Bool) → StandsIn (l.place + 1) l.place (with_tag l.place t first_done l)
   in-tag t first_done = (
-    made-tag l.place l.maxmem l.tags l.maps l.mems s
+    made-tag l.place l.maxmem l.tags l.maps l.mems l.rings s
         (record { limits = t; first_done = first_done; device = false }),
     refl,
   )
@@ -420,7 +551,7 @@ module _ (l : LaneState) (s : Stands l) where
       (zone ≡ None → bounces l.maxmem g ≡ false) →
       StandsIn (l.place + 1) l.place (with_map t zone l)
   in-map t g e zone device direct = (
-    made-map l.place l.maxmem l.tags l.maps l.mems s
+    made-map l.place l.maxmem l.tags l.maps l.mems l.rings s
         (record { tag = t; zone = zone; tried = false; stage = Idle }) g e refl device direct,
     refl,
   )
@@ -439,7 +570,7 @@ module _ (l : LaneState) (s : Stands l) where
   makes-stand (Tags name parent limits t n) = in-tag t false
   makes-stand (Attaches name parent limits t n b g e) = in-tag t true
   makes-stand (Spaces name limits t new) = (
-    made-tag l.place l.maxmem l.tags l.maps l.mems s (record { limits = t; first_done = false; device = true }),
+    made-tag l.place l.maxmem l.tags l.maps l.mems l.rings s (record { limits = t; first_done = false; device = true }),
     refl,
   )
   makes-stand (Untags t none) = (stands-untagged t none next.0, refl)
@@ -451,7 +582,7 @@ module _ (l : LaneState) (s : Stands l) where
   )
   makes-stand (Unmaps m o e i) = (stands-cut m next.0, refl)
   makes-stand (Places name t flags g e first count) = (
-    made-memory l.place l.maxmem l.tags l.maps l.mems s
+    made-memory l.place l.maxmem l.tags l.maps l.mems l.rings s
         (record { tag = t; zone = None; tried = false; stage = Idle })
         (record { tag = t; first = first.0; count = count; len = g.limits.maxsize; coherent = coherent flags }) g e
         refl refl,
@@ -467,6 +598,8 @@ module _ (l : LaneState) (s : Stands l) where
   makes-stand (Unloads m o e i) =
       in-unpaged (l.place + 1) l next.0 m o (pages_of o.stage) e
       (λ z. pageless-pages o.stage ((s.each m o e).pageless z))
+  makes-stand (Rings name mem slots x there fit) =
+      (made-ring l.place l.maxmem l.tags l.maps l.mems l.rings s mem slots x there fit, refl)
   makes-stand _ = (next.0, refl)
 
   -- a callback makes nothing
@@ -480,7 +613,7 @@ module _ (l : LaneState) (s : Stands l) where
 -- ---- turns
 
 settled : {q : ℕ} (n : LaneState) → StandsIn q q n → Stands n
-settled n h = subst (λ p. StandsFrom p n.maxmem n.tags n.maps n.mems) (sym h.1) h.0
+settled n h = subst (λ p. StandsFrom p n.maxmem n.tags n.maps n.mems n.rings) (sym h.1) h.0
 
 module _ (l : LaneState) (s : Stands l) where
   bare : (b : Bool) → IsPageless (if b then Idle else Returning)
@@ -492,7 +625,7 @@ module _ (l : LaneState) (s : Stands l) where
   steps-stand (Advances o at free m) = (makes-stand l s m).0
   steps-stand (Leaves {x = x} q rest e t) =
       let h = touches-stand l.place l s t in
-      subst (λ p. StandsFrom p x.lane.maxmem x.lane.tags x.lane.maps x.lane.mems) (sym h.1) h.0
+      subst (λ p. StandsFrom p x.lane.maxmem x.lane.tags x.lane.maps x.lane.mems x.lane.rings) (sym h.1) h.0
   steps-stand (Releases q rest e None there) = s
   steps-stand (Releases q rest e (Some o) there) =
       stands-put q.map o (record o { stage = after_return q.map rest }) there refl refl

@@ -1,6 +1,6 @@
 -- Each operation, item and callback of a driver, and each turn, is one of its effects, whatever the reply to its call.
-use Rattle.std.proofs.Common.{◌≡◌, ℕ, ◌==◌, ◌&&◌, Bool, true, false, if◌then◌else◌, List, [], ◌∷◌}
-use Rattle.std.proofs.Common.{length, Option, Some, None, refl, nat_lt, slice_get, subst, sym}
+use Rattle.std.proofs.Common.{◌≡◌, ℕ, ◌+◌, ◌==◌, ◌&&◌, not, Bool, true, false, if◌then◌else◌, List, [], ◌∷◌}
+use Rattle.std.proofs.Common.{length, Option, Some, None, refl, nat_le, nat_lt, slice_get, subst, sym}
 use Rattle.std.specs.FinMap.{get}
 use Rattle.busdma_machine.specs.declared.bounce.hold.HubCall.{HubCall}
 use Rattle.busdma_machine.specs.declared.bounce.hold.HubCall.TheVariants as call
@@ -42,7 +42,8 @@ use Rattle.loan_table.specs.Loans.{loan_of, load_bytes}
 use Rattle.iommu_load.specs.Device.{device_chunks}
 use Rattle.iommu_map.specs.Space.{first_free}
 use Rattle.segment_build.specs.Chunks.{need_of}
-use Rattle.ideal_lane.specs.State.{LaneState, LaneTag, LaneMap, Stage, Waiting, named}
+use Rattle.ring_device.specs.declared.descriptor.Descriptor.{Descriptor}
+use Rattle.ideal_lane.specs.State.{LaneState, LaneTag, LaneMap, LaneRing, Stage, Waiting, named}
 use Rattle.ideal_lane.specs.Accesses.{cpu_read, cpu_write, dev_read, dev_read_at, dev_write, dev_write_at, raw_bytes}
 use Rattle.ideal_lane.specs.Accesses.{raw_refusal, values}
 use Rattle.ideal_lane.specs.Asking.{Asking, Gives, Asks, call_of, by_reply, goes_on}
@@ -54,6 +55,8 @@ use Rattle.ideal_lane.specs.Memories.{placed, dmamem, dmamem_free}
 use Rattle.ideal_lane.specs.Outcomes.{Outcome, gives, refused, unless_past, is_idle, is_loaded}
 use Rattle.ideal_lane.specs.Outcomes.{load_length}
 use Rattle.ideal_lane.specs.Places.{virtual_at, reached, bytes_at}
+use Rattle.ideal_lane.specs.Rings.{Candidate, allowed, at_first, blame, candidates, fetch, fits_in, head_at, head_of, is_work}
+use Rattle.ideal_lane.specs.Rings.{kick, may_post, ring, ring_post, ring_step, slot_place, told}
 use Rattle.ideal_lane.specs.Syncs.{sync_part, sync, sync_range}
 use Rattle.ideal_lane.specs.Tags.{with_tag, attached, tag_or_invalid, tag, device_tag, iommu_tag, tag_destroy, has_maps}
 use Rattle.ideal_lane.specs.Turns.{Turned, Blocked, Ended, stays, operation, bio_at, load_buffer}
@@ -71,6 +74,7 @@ use Rattle.ideal_lane.proofs.Effects.{Same, Spaces, Stays, Steps, Syncs, Tags, T
 use Rattle.ideal_lane.proofs.Effects.{Unattached, Uncreated, Ungranted, Unloads, Unmaps, Unplaced, Untags, Unwaited}
 use Rattle.ideal_lane.proofs.Effects.{Vain, Waits, Whole, WholeItem, Work, Writes, asked_in, asks, chunks, chunks_in}
 use Rattle.ideal_lane.proofs.Effects.{end_call, grab, map_in, pages_in, place_in, was_in}
+use Rattle.ideal_lane.proofs.Effects.{Fetches, Kicks, Posts, Rings, fetched-is}
 
 -- ---- each operation, item and callback is one of them
 
@@ -353,6 +357,82 @@ dev_write_at-touches l t addr bs =
     (judged_by (raw_refusal DeviceWriteUnlent (dev_write_refusal false) l t) 0 (run_of addr (length (bytes_of bs)))) _
     (RawWrites t addr bs g there))
 
+-- ---- rings
+
+module _ (l : LaneState) where
+  ring-makes : (name : List ℕ) (mem slots : ℕ) → Made l (Operation (op.Ring name mem slots)) (ring mem slots l)
+  ring-makes name mem slots =
+      absent l (Made l _) (report l _) (get l.mems mem) _ (λ x there.
+      either l (Made l _) (report l _) (fits_in slots x) _ _ (λ fit r. Rings name mem slots x there fit)
+      (λ no. answers l _ (answer.Refused EINVAL) tt tt))
+
+  kick-makes : (k : ℕ) (steps : List Item) → Made l (Operation (op.Kick k steps)) (kick k steps l)
+  kick-makes k steps =
+      absent l (Made l _) (report l _) (get l.rings k) _ (λ q there r. Kicks k steps q there)
+
+  pub ring_post-touches : (k slot m off len kind fill : ℕ) →
+      Only l (Operation (op.RingPost k slot m off len kind fill)) (ring_post k slot m off len kind fill l)
+  ring_post-touches k slot m off len kind fill =
+      absent l (Only l _) (same l _) (get l.rings k) _ (λ r ring.
+      absent l (Only l _) (same l _) (get l.mems r.mem) _ (λ x memory.
+      unloaded l (Only l _) (same l _) m _ (λ o there i.
+      past l (Only l _) (same l _) m off len _
+      (either l (Only l _) (same l _) (may_post r slot m o off len kind l) _ _ (λ may.
+      absent l (Only l _) (same l _) (virtual_at l (slot_place r slot)) _ (λ va at.
+      judged l (Only l _) (same l _) (reached l va 16) _ (λ reaches.
+      judged l (Only l _) (same l _) (cpu_write_answer l.loans (bytes_at l (run_of va 16))) _
+      (Posts k slot m off len kind fill r ring o there i may va at reaches))))
+      (λ no. Same (answer.Refused EINVAL) tt tt)))))
+
+  -- the step of a ring whose descriptor was read
+  module _ (k : ℕ) (r : LaneRing) (here : get l.rings k ≡ Some r) (o : LaneMap) (there : get l.maps r.mem ≡ Some o)
+      (i : is_loaded o.stage ≡ true) (within : nat_le (head_at r + 16) (load_length l r.mem) ≡ true)
+      (fine : dev_read_answer (is_known l.memory) (loan_of l.loans r.mem) (head_at r) 16 ≡ Fine) where
+    abbrev d : Descriptor
+    d = head_of r l
+
+    abbrev done : Work
+    done = Transfer (item.RingStep k)
+
+    yes : (b : Bool) → not b ≡ false → b ≡ true
+    yes true e = refl
+    yes false e = sym e
+
+    first-touches : ((d.owner == 1) ≡ true) → is_work d.kind d.len ≡ true → (c : Option Candidate) →
+        slice_get (allowed d l (candidates r l)) 0 ≡ c → Only l done (at_first k r d (candidates r l) c l)
+    first-touches owned work None e = same l done (blame d l (slice_get (candidates r l) 0))
+    first-touches owned work (Some c) e =
+        subst (λ n. Touches l done (record { lane = n; answer = told d c l })) (sym (fetched-is l k r d c))
+        (Fetches k (record {
+          r = r;
+          ring = here;
+          o = o;
+          there = there;
+          loaded = i;
+          within = within;
+          fine = fine;
+          owned = owned;
+          work = work;
+          c = c;
+          first = e;
+        }))
+
+    fetch-touches : Only l done (fetch k r d l)
+    fetch-touches =
+        either l (Only l done) (same l done) (not (d.owner == 1)) _ _ (λ no. Same answer.Idle tt tt) (λ owned.
+        either l (Only l done) (same l done) (not (is_work d.kind d.len)) _ _
+        (λ no. Same (answer.Refused EINVAL) tt tt) (λ work.
+        first-touches (yes (d.owner == 1) owned) (yes (is_work d.kind d.len) work)
+        (slice_get (allowed d l (candidates r l)) 0) refl))
+
+  ring_step-touches : (k : ℕ) → Only l (Transfer (item.RingStep k)) (ring_step k l)
+  ring_step-touches k =
+      absent l (Only l _) (same l _) (get l.rings k) _ (λ r here.
+      unloaded l (Only l _) (same l _) r.mem _ (λ o there i.
+      either l (Only l _) (same l _) (nat_le (head_at r + 16) (load_length l r.mem)) _ _ (λ within.
+      judged l (Only l _) (same l _) (dev_read_answer (is_known l.memory) (loan_of l.loans r.mem) (head_at r) 16) _
+      (fetch-touches k r here o there i within)) (λ past. same l _ _)))
+
 pub operation-makes : (l : LaneState) (o : Op) → Made l (Operation o) (operation o l)
 operation-makes l (op.Tag name parent limits) = tag-makes l name parent limits
 operation-makes l (op.IommuTag name limits) = iommu_tag-makes l name limits
@@ -370,6 +450,10 @@ operation-makes l (op.CpuRead place len) = only-makes l _ (cpu_read place len l)
 operation-makes l (op.CpuWrite place bs) =
     only-makes l _ (cpu_write place (bytes_of bs) l) (cpu_write-touches l place bs)
 operation-makes l (op.Await m) = await-makes l m
+operation-makes l (op.Ring name mem slots) = ring-makes l name mem slots
+operation-makes l (op.RingPost k slot m off len kind fill) =
+    only-makes l _ (ring_post k slot m off len kind fill l) (ring_post-touches l k slot m off len kind fill)
+operation-makes l (op.Kick k steps) = kick-makes l k steps
 
 pub transfer-touches : (l : LaneState) (i : Item) → Only l (Transfer i) (transfer i l)
 transfer-touches l (item.Sync m ops) = sync-touches l _ m ops (WholeItem m ops)
@@ -378,6 +462,7 @@ transfer-touches l (item.DevRead m off len) = dev_read-touches l _ m off len
 transfer-touches l (item.DevWrite m off bs) = dev_write-touches l m off bs
 transfer-touches l (item.DevReadAt t addr len) = dev_read_at-touches l _ t addr len
 transfer-touches l (item.DevWriteAt t addr bs) = dev_write_at-touches l t addr bs
+transfer-touches l (item.RingStep k) = ring_step-touches l k
 
 pub called-makes : (l : LaneState) (m : MapId) (pages : List Pa) →
     Makes l (Callback m) (Some call.TakeCallback) (reply.Called m pages)

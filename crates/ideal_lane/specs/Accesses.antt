@@ -41,12 +41,15 @@ cpu_write place vs l =
     unless_refused (cpu_write_answer l.loans (bytes_at l (run_of va (length vs)))) l (
     gives (record l { memory = written (bytes_at l (run_of va (length vs))) vs l.memory }) Done)))
 
+-- the step, unless the device may not read `len` bytes of a map's load, from `off` on
+abbrev pub unless_unread : ℕ → ℕ → ℕ → LaneState → Asking Outcome → Asking Outcome
+unless_unread m off len l step =
+    unless_unloaded m l (λ o. unless_past m off len l (
+    unless_refused (dev_read_answer (is_known l.memory) (loan_of l.loans m) off len) l step))
+
 -- dev_read
 abbrev pub dev_read : ℕ → ℕ → ℕ → LaneState → Asking Outcome
-dev_read m off len l =
-    unless_unloaded m l (λ o. unless_past m off len l (
-    unless_refused (dev_read_answer (is_known l.memory) (loan_of l.loans m) off len) l (
-    gives l (Bytes (values l (load_bytes l.loans m off len))))))
+dev_read m off len l = unless_unread m off len l (gives l (Bytes (values l (load_bytes l.loans m off len))))
 
 -- dev_write
 abbrev pub dev_write : ℕ → ℕ → List ℕ → LaneState → Asking Outcome

@@ -23,6 +23,7 @@ ends (answer.Segments segments) = true
 ends (answer.InProgress have need) = false
 ends (answer.Served n) = false
 ends (answer.Bytes bytes) = false
+ends answer.Idle = false
 ends (answer.Refused errno) = true
 ends (answer.Report r) = false
 

@@ -12,6 +12,7 @@ pub mod Opening
 pub mod Outcomes
 pub mod Places
 pub mod Reported
+pub mod Rings
 pub mod Standing
 pub mod State
 pub mod Syncs

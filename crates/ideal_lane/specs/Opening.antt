@@ -23,6 +23,7 @@ opening_lane id maxmem driver = record {
   tags = finmap.empty;
   maps = finmap.empty;
   mems = finmap.empty;
+  rings = finmap.empty;
   memory = zeros driver.pages;
   loans = finmap.empty;
   queue = [];

@@ -53,20 +53,21 @@ abbrev pub items_in : Option LaneMap → List QueuedItem
 items_in None = []
 items_in (Some o) = items_awaited o.stage
 
--- the items of the load that is ended by what was done: an operation, or the callback of a map that waited
-abbrev pub ended_items : LaneState → Did → List QueuedItem
-ended_items l (did.Op place) = items_at place (slice_get l.script place)
-ended_items l (did.Callback m) = items_in (get l.maps m.made_at)
-ended_items l (did.Release m page) = []
-ended_items l (did.Item load_at place) = []
+-- the items of what was done: a load or a kick, or the callback of a map whose load waited
+abbrev pub done_items : LaneState → Did → List QueuedItem
+done_items l (did.Op place) = items_at place (slice_get l.script place)
+done_items l (did.Callback m) = items_in (get l.maps m.made_at)
+done_items l (did.Release m page) = []
+done_items l (did.Item load_at place) = []
 
--- they join the queue where the load's callback is called with segments, and not with a refusal
-abbrev pub if_segments : Answer → List QueuedItem → List QueuedItem
-if_segments (answer.Segments segments) items = items
-if_segments _ items = []
+-- they join the queue where the load's callback is called with segments, and not with a refusal, or the kick is done
+abbrev pub if_ready : Answer → List QueuedItem → List QueuedItem
+if_ready (answer.Segments segments) items = items
+if_ready answer.Done items = items
+if_ready _ items = []
 
 -- the items that join the queue with a turn
 abbrev pub joining : LaneState → Turn → List QueuedItem
-joining l (Stepped e) = if_segments e.answer (ended_items l e.did)
+joining l (Stepped e) = if_ready e.answer (done_items l e.did)
 joining l Blocked = []
 joining l Ended = []

@@ -56,9 +56,16 @@ pub record LaneMemory : Type 0 where
   pub len : ℕ
   pub coherent : Bool
 
+-- a ring of descriptors: the place of its memory, in whose first bytes it lies, how many slots of 16 bytes it has, and
+-- the slot that is fetched next
+pub record LaneRing : Type 0 where
+  pub mem : ℕ
+  pub slots : ℕ
+  pub head : ℕ
+
 -- A driver: its number, the end of the machine's memory in frames, its script and the place in it, and its pages; its
--- tags, maps and memories by the places that made them, where the map of a memory has the memory's place; its ideal
--- memory and what its loaded maps lend; its transfer queue and its return queue; its share of each zone's
+-- tags, maps, memories and rings by the places that made them, where the map of a memory has the memory's place; its
+-- ideal memory and what its loaded maps lend; its transfer queue and its return queue; its share of each zone's
 -- total_bounced; and the address space of each IOMMU tag, by the place that made it.
 pub record LaneState : Type 0 where
   pub id : ℕ
@@ -69,6 +76,7 @@ pub record LaneState : Type 0 where
   pub tags : FinMap nat_cmp LaneTag
   pub maps : FinMap nat_cmp LaneMap
   pub mems : FinMap nat_cmp LaneMemory
+  pub rings : FinMap nat_cmp LaneRing
   pub memory : IdealMemory
   pub loans : Loans
   pub queue : List QueuedItem

@@ -40,6 +40,7 @@ use Rattle.ideal_lane.specs.Loads as loads
 use Rattle.ideal_lane.specs.Unloads as unloads
 use Rattle.ideal_lane.specs.Syncs as syncs
 use Rattle.ideal_lane.specs.Accesses as accesses
+use Rattle.ideal_lane.specs.Rings as rings
 
 -- what a turn answers: an entry of the journal, or that the side cannot step now, or that its script has ended
 pub data Turn : Type 0 where
@@ -104,6 +105,9 @@ operation (op.SyncRange map off len ops) l = syncs.sync_range map off len ops l
 operation (op.CpuRead place len) l = accesses.cpu_read place len l
 operation (op.CpuWrite place bytes) l = accesses.cpu_write place (bytes_of bytes) l
 operation (op.Await map) l = maps.await map l
+operation (op.Ring name mem slots) l = rings.ring mem slots l
+operation (op.RingPost ring slot map off len kind fill) l = rings.ring_post ring slot map off len kind fill l
+operation (op.Kick ring steps) l = rings.kick ring steps l
 
 -- a map that stands so has a load that waits
 abbrev pub waits_in : Stage → Bool
@@ -133,6 +137,9 @@ waits (op.Sync map ops) l = false
 waits (op.SyncRange map off len ops) l = false
 waits (op.CpuRead place len) l = false
 waits (op.CpuWrite place bytes) l = false
+waits (op.Ring name mem slots) l = false
+waits (op.RingPost ring slot map off len kind fill) l = false
+waits (op.Kick ring steps) l = false
 
 -- the script goes on to its next place
 abbrev pub advanced : ℕ → Outcome → Turned
@@ -172,6 +179,7 @@ transfer (item.DevRead map off len) l = accesses.dev_read map off len l
 transfer (item.DevWrite map off bytes) l = accesses.dev_write map off (bytes_of bytes) l
 transfer (item.DevReadAt tag addr len) l = accesses.dev_read_at tag addr len l
 transfer (item.DevWriteAt tag addr bytes) l = accesses.dev_write_at tag addr (bytes_of bytes) l
+transfer (item.RingStep ring) l = rings.ring_step ring l
 
 -- an item has left the queue
 abbrev pub left_queue : QueuedItem → List QueuedItem → Outcome → Turned

@@ -2,11 +2,13 @@
 
 ghost use Rattle.std.specs.Prelude.{◌≡◌, ◌≤◌, ◌+◌, ◌++◌, ℕ, true, List, Some, None, length, slice_get};
 ghost use Rattle.std.specs.FinMap.{get};
+ghost use Rattle.std.specs.List.{Contains};
 ghost use Rattle.busdma_machine.specs.declared.bounce.hold.HubCall.TheVariants.{TakeCallback};
 ghost use Rattle.busdma_machine.specs.declared.bounce.hold.HubReply.{HubReply};
 ghost use Rattle.busdma_machine.specs.declared.bounce.hold.HubReply.TheVariants.{Called};
 ghost use Rattle.busdma_machine.specs.declared.machine.address.Pa.{Pa};
 ghost use Rattle.busdma_machine.specs.declared.name.MapId.{MapId};
+ghost use Rattle.busdma_machine.specs.declared.report.Judged.TheVariants.{Fine};
 ghost use Rattle.busdma_base.specs.declared.journals.journal.Side.{Side};
 ghost use Rattle.busdma_base.specs.declared.scenarios.scenario.Driver.{Driver};
 ghost use Rattle.busdma_base.specs.declared.scenarios.scenario.Scenario.{Scenario};
@@ -24,7 +26,8 @@ ghost use Rattle.ideal_lane.specs.Left.{FallsOrStays};
 ghost use Rattle.ideal_lane.specs.Opening.{opening_lane};
 ghost use Rattle.ideal_lane.specs.Reported.{gone_on, is_reported, joining, remaining};
 ghost use Rattle.ideal_lane.specs.Standing.{KeepsStanding, Stands};
-ghost use Rattle.ideal_lane.specs.State.{LaneState};
+ghost use Rattle.ideal_lane.specs.Rings.{Candidate, allowed, candidates, head_of, judged_at};
+ghost use Rattle.ideal_lane.specs.State.{LaneRing, LaneState};
 ghost use Rattle.ideal_lane.specs.Turns.{Turned, is_waiting, lane_step};
 
 /// Where a driver stands and agrees with the account, the account allows the call of the driver's step,
@@ -78,7 +81,7 @@ pub fn reports_change_nothing()
 
 /// After each turn, whatever the reply to its call, the transfer queue has the items that it had, but for the
 /// one that a step of the device took, and behind them the items of a load whose callback was called with
-/// segments: in the load's own step, or in a later one that takes its callback.
+/// segments, in the load's own step or in a later one that takes its callback, or those of a kick that was done.
 pub fn items_join_with_segments()
     ensures { (l : LaneState) (s : Side) (r : HubReply) →
         let after : Turned = by_reply (lane_step l s) r in
@@ -90,6 +93,19 @@ pub fn items_join_with_segments()
 pub fn each_callback_was_awaited()
     ensures { (l : LaneState) (a : Account) (m : MapId) (pages : List Pa) → IsFit a → AgreesWith l a →
         (account_step l.id TakeCallback a).reply ≡ Called m pages → is_waiting (get l.maps m.made_at) ≡ true }
+{}
+
+/// The candidate that a step of a ring uses is one of the candidates for the descriptor at the head. The rules
+/// of lending allow the access there, and each candidate at which they allow it has a map that was made at the
+/// same place of the script or later.
+pub fn ring_steps_use_the_first()
+    ensures candidate { (r : LaneRing) (l : LaneState) (c : Candidate) →
+        slice_get (allowed (head_of r l) l (candidates r l)) 0 ≡ Some c → Contains (candidates r l) c }
+    ensures allowed { (r : LaneRing) (l : LaneState) (c : Candidate) →
+        slice_get (allowed (head_of r l) l (candidates r l)) 0 ≡ Some c → judged_at (head_of r l) l c ≡ Fine }
+    ensures least { (r : LaneRing) (l : LaneState) (c : Candidate) →
+        slice_get (allowed (head_of r l) l (candidates r l)) 0 ≡ Some c → (o : Candidate) →
+        Contains (candidates r l) o → judged_at (head_of r l) l o ≡ Fine → c.map ≤ o.map }
 {}
 
 /// The items that stand in the transfer queue and those that may still join it never become more,

@@ -104,6 +104,9 @@ module _ (l : LaneState) (m : ℕ) (o : LaneMap) (load_at : ℕ) (x : Asked) (ch
       new : Loan
       new = new_loan (is_coherent (get l.mems m)) (entries_addresses x.entries)
 
+  pub bytes-are : addresses_of (loan_of fits.loans m).positions ≡ entries_addresses x.entries
+  bytes-are = ap (λ (q : Loan). addresses_of q.positions) loan-is ∙ unlent-bytes (entries_addresses x.entries)
+
   pub traces-are : traces_of fits m ≡ placed_from (bounced_of placed) 0 (entries_addresses x.entries)
   traces-are =
       (λ i. placed_from (Rattle.ideal_lane.specs.Syncs.bounced_in (stage-is i)) 0 (addresses_of (loan-is i).positions))

@@ -22,7 +22,7 @@ use Rattle.ideal_lane.specs.State.{LaneState, LaneMap, LaneMemory, Stage, Idle, 
 use Rattle.ideal_lane.specs.State.{WaitingLoad}
 use Rattle.ideal_lane.specs.Syncs.{bounced_in}
 use Rattle.ideal_wire.specs.Centre.{IsAt}
-use Rattle.ideal_wire.specs.Laid.{is_loadable, IsLaid, IsAwaited, LiesIn, IsOwnByte, OfPages, OfMemory, AreLaid}
+use Rattle.ideal_wire.specs.Laid.{AreFirst, is_loadable, IsLaid, IsAwaited, LiesIn, IsOwnByte, OfPages, OfMemory, AreLaid}
 use Rattle.ideal_wire.specs.Laid.{AreInPages, in_pages, is_behind}
 use Rattle.ideal_wire.specs.Traces.{stage_at, placed_from, traces_of}
 use Rattle.ideal_wire.proofs.Positions.{twin_of}
@@ -78,6 +78,7 @@ module _ (l l' : LaneState) (kept : KeepsScript l l') where
       bytes = λ i p at. let w = was-at i p at in
           loadable-alike (get l'.mems n) p.pa ∙ (λ j. is_loadable (memory j) l (w.2 j))
           ∙ h.bytes i w.0 w.1;
+      first = λ x there. subst (AreFirst x) (sym alike.bytes) (h.first x (sym memory ∙ there));
       direct = λ some. h.direct (sym (ap is_some memory) ∙ some);
       paged = h.paged;
       extents = h.extents;

@@ -73,6 +73,7 @@ if-all (answer.Segments ss) P h = h ss
 if-all (answer.InProgress have need) P h = tt
 if-all (answer.Served n) P h = tt
 if-all (answer.Bytes bytes) P h = tt
+if-all answer.Idle P h = tt
 if-all (answer.Refused e) P h = tt
 if-all (answer.Report r) P h = tt
 
@@ -85,6 +86,7 @@ if-so (answer.Segments ss) P Q h p = h ss p
 if-so (answer.InProgress have need) P Q h p = tt
 if-so (answer.Served n) P Q h p = tt
 if-so (answer.Bytes bytes) P Q h p = tt
+if-so answer.Idle P Q h p = tt
 if-so (answer.Refused e) P Q h p = tt
 if-so (answer.Report r) P Q h p = tt
 

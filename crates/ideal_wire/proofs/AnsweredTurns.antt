@@ -41,7 +41,7 @@ use Rattle.ideal_lane.proofs.Direct.{need-direct}
 use Rattle.ideal_lane.proofs.Effects.{Advances, AtOnce, Begins, Callback, Called, Calls, Granted, IsNext, IsQuiet}
 use Rattle.ideal_lane.proofs.Effects.{IsReplyOf, Leaves, Loads, Makes, NothingLeft, Operation, Overflows, Refuses}
 use Rattle.ideal_lane.proofs.Effects.{Releases, Same, Stays, Steps, Touched, Touches, Vain, Work, asks, chunks, grab}
-use Rattle.ideal_lane.proofs.Effects.{here, untold-quiet}
+use Rattle.ideal_lane.proofs.Effects.{Fetches, IsUntold, here}
 use Rattle.ideal_lane.proofs.Stepping.{turn-steps}
 use Rattle.ideal_lane.proofs.Turning.{WaitsAt, waits-at}
 use Rattle.ideal_wire.specs.Accepted.{ArePagesFor, IfSegments}
@@ -59,6 +59,9 @@ use Rattle.iommu_map.proofs.Runs.{taken-fits}
 use Rattle.iommu_map.specs.Space.{Space, entered, first_free, translated}
 use Rattle.ideal_lane.specs.Loads.{are_few, is_device, load_addresses, load_entries, no_limits, taken, with_run}
 use Rattle.ideal_lane.specs.Loads.{with_spaces}
+use Rattle.ideal_lane.specs.Rings.{head_of}
+use Rattle.ideal_lane.specs.Accesses.{values}
+use Rattle.loan_table.specs.Loans.{load_bytes}
 use Rattle.ideal_lane.specs.State.{LaneTag}
 use Rattle.ideal_lane.proofs.Effects.{Device, IsTaken, NoFrame, Run}
 use Rattle.ideal_wire.specs.Answered.{chunks_of_load, first_page, found_at}
@@ -84,6 +87,10 @@ use Rattle.busdma_machine.specs.declared.machine.address.Segment.{Segment}
 quiet : (x : Answer) (P : List Segment → Type 0) → IsQuiet x → IfSegments x P
 quiet (answer.Segments ss) P q = absurd q
 quiet _ P q = tt
+
+untold-quiet : (x : Answer) → IsUntold x → IsQuiet x
+untold-quiet (answer.Segments ss) u = u
+untold-quiet _ u = tt
 
 module _ (l : LaneState) (a : Account) (stands : Stands l) (agrees : AgreesWith l a) (fit : IsFit a)
     (frames : EachFrame IsFrame a) (low : PagesLieLow a) (served : AreServed l a) (machine : IsInMachine l)
@@ -321,6 +328,12 @@ module _ (l : LaneState) (a : Account) (stands : Stands l) (agrees : AgreesWith 
   -- ---- each effect
   touches-quiet : {d : Work} {x : Outcome} (P : List Segment → Type 0) → Touches l d x → IfSegments x.answer P
   touches-quiet P (Same v q u) = quiet v P q
+  touches-quiet P (Fetches k f) = by ((head_of f.r l).kind == 1)
+    where
+      by : (b : Bool) → IfSegments (if b
+          then answer.Bytes (values l (load_bytes l.loans f.c.map f.c.off (head_of f.r l).len)) else answer.Done) P
+      by true = tt
+      by false = tt
   touches-quiet P _ = tt
 
   makes-answer : {o : Op} {c : Option HubCall} {r : HubReply} {x : Outcome} → IsNext l (Operation o) →

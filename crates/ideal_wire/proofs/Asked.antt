@@ -169,7 +169,8 @@ module _ (l : LaneState) (laid : AreLaid l) (machine : IsInMachine l) (stands : 
   direct-ready none b named own pages whole count =
       ready l m t t l.maxmem (load_entries l b) pages eff.maxsegsz eff refl
       (entries_are (λ p. Unit {0}) (is_rounded b) u are-paged (bio_spans b)) whole count
-      (λ some. let gone : false ≡ true = sym (ap is_some none) ∙ some in absurd (false≢true gone)) loadable
+      (λ some. let gone : false ≡ true = sym (ap is_some none) ∙ some in absurd (false≢true gone))
+      (λ y memory. let gone : None ≡ Some y = sym none ∙ memory in absurd (cc)) loadable
     where
       u : Translation
       u = load_translation l b

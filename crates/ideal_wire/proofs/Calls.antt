@@ -1,4 +1,4 @@
--- Syncs and writes leave the wire faithful.
+-- Syncs, writes and the steps of rings leave the wire faithful.
 use Rattle.std.proofs.Common.{ℕ, List, refl}
 use Rattle.busdma_machine.specs.declared.bounce.hold.HubReply.{HubReply}
 use Rattle.busdma_base.specs.declared.scenarios.script.Place.{Place}
@@ -7,15 +7,18 @@ use Rattle.ideal_lane.specs.Accesses.{cpu_write, dev_write, dev_write_at}
 use Rattle.ideal_lane.specs.Asking.{Asking, by_reply, Gives, Asks}
 use Rattle.ideal_lane.specs.Outcomes.{Outcome}
 use Rattle.ideal_lane.specs.State.{LaneState}
+use Rattle.ideal_lane.specs.Rings as rings
+use Rattle.ideal_lane.specs.Standing.{Stands}
 use Rattle.ideal_lane.specs.Syncs as syncs
 use Rattle.ideal_lane.proofs.Effects.{Operation, Transfer, Work}
 use Rattle.ideal_lane.proofs.Stepping.{Only, cpu_write-touches, dev_write-touches, dev_write_at-touches}
-use Rattle.ideal_lane.proofs.Stepping.{transfer-touches}
+use Rattle.ideal_lane.proofs.Stepping.{ring_post-touches, transfer-touches}
 use Rattle.ideal_wire.specs.Apart.{IsApart}
 use Rattle.ideal_wire.specs.Centre.{IsFaithful}
 use Rattle.ideal_wire.specs.Laid.{AreLaid}
 use Rattle.ideal_wire.specs.WireStep as wire
-use Rattle.ideal_wire.specs.WireStep.{if_done}
+use Rattle.ideal_wire.specs.WireStep.{fetched_wire, if_done, if_step_done}
+use Rattle.ideal_wire.proofs.FaithfulRings.{RingStays, ring-stays}
 use Rattle.ideal_wire.proofs.RawAccess.{AreFound}
 use Rattle.ideal_wire.proofs.Wiring.{Needs, now, touches-stay}
 use Rattle.busdma_base.specs.declared.scenarios.script.Item.TheVariants as item
@@ -46,6 +49,13 @@ module _ (l : LaneState) (w : Wire) (apart : IsApart l) (laid : AreLaid l) (f : 
       alone (Operation (op.CpuWrite place (bytes.Listed vs))) (cpu_write place vs l)
       (cpu_write-touches l place (bytes.Listed vs)) tt
 
+  pub ring_post-faithful : (k slot m off len kind fill : ℕ) (r : HubReply) →
+      IsFaithful (by_reply (rings.ring_post k slot m off len kind fill l) r).lane
+      (wire.ring_post k slot m off len kind fill l w)
+  ring_post-faithful k slot m off len kind fill =
+      alone (Operation (op.RingPost k slot m off len kind fill)) (rings.ring_post k slot m off len kind fill l)
+      (ring_post-touches l k slot m off len kind fill) tt
+
   pub dev_write-faithful : (m off : ℕ) (vs : List ℕ) (r : HubReply) →
       IsFaithful (by_reply (dev_write m off vs l) r).lane (wire.dev_write m off vs l w)
   dev_write-faithful m off vs =
@@ -57,3 +67,12 @@ module _ (l : LaneState) (w : Wire) (apart : IsApart l) (laid : AreLaid l) (f : 
   dev_write_at-faithful all t addr vs =
       alone (Transfer (item.DevWriteAt t addr (bytes.Listed vs))) (dev_write_at t addr vs l)
       (dev_write_at-touches l t addr (bytes.Listed vs)) all
+
+  pub ring_step-faithful : Stands l → (k : ℕ) (r : HubReply) →
+      IsFaithful (by_reply (rings.ring_step k l) r).lane (wire.ring_step k l w)
+  ring_step-faithful stands k = by (rings.ring_step k l) (ring-stays l w apart laid f stands k)
+    where
+      by : (o : Asking Outcome) → RingStays l w apart laid f stands k o → (r : HubReply) →
+          IsFaithful (by_reply o r).lane (if_step_done o (fetched_wire (rings.ring_of l k) l w) w)
+      by (Gives x) h r = h _ (λ b x y. refl) (λ m b x y. refl)
+      by (Asks c q) h r = absurd h

@@ -50,7 +50,7 @@ use Rattle.std.proofs.lemmas.List.{length-replicate}
 use Rattle.busdma_machine.specs.Machine.Entry.{entries_addresses}
 use Rattle.ideal_lane.proofs.Effects.{Device, spaces_in}
 use Rattle.ideal_wire.proofs.StillLaid.{spaced-still}
-use Rattle.ideal_wire.specs.Laid.{AreLaid, KeepsLaid, is_loadable}
+use Rattle.ideal_wire.specs.Laid.{AreFirst, AreLaid, KeepsLaid, is_loadable}
 use Rattle.ideal_wire.specs.Machine.{IsInMachine}
 use Rattle.ideal_wire.proofs.Asked.{are-in-pages, direct-bytes, direct-ready, pages-entries}
 use Rattle.ideal_wire.proofs.Bios.{AreOfPages}
@@ -148,6 +148,10 @@ module _ (l : LaneState) (a : Account) (stands : Stands l) (agrees : AgreesWith 
         (length-replicate (need_of (cut-as false)) 0)).loadable
     loadable (Some y) e = (memory-load y e).loadable
 
+    -- and a memory's load has its first bytes
+    begins : (y : LaneMemory) → get l.mems b.m ≡ Some y → AreFirst y (entries_addresses (asks b).entries)
+    begins y e = (memory-load y e).first y e
+
     -- what waits is of the driver's pages, and the load at this place of the script
     waits-laid : (need_of (chunks b) == 0) ≡ false →
         AreLaid (staged b.m b.o (Waiting (waits_for b)) l)
@@ -229,7 +233,8 @@ module _ (l : LaneState) (a : Account) (stands : Stands l) (agrees : AgreesWith 
       finished-laid l laid b.m b.o b.there (unlent b at) l.place (asks b) (chunks b) []
       (ready b at [] tt (sym (eqb-true (need_of (chunks b)) 0 none)))
   ends at e (Device b device first spaces taken) =
-      device-finished-laid l laid b.m b.o b.there device (unlent b at) l.place (asks b) first (loadable b at (get l.mems b.m) refl)
+      device-finished-laid l laid b.m b.o b.there device (unlent b at) l.place (asks b) first
+      (loadable b at (get l.mems b.m) refl) (begins b at)
   ends at e (Granted b plain some pages) =
       finished-laid l laid b.m b.o b.there (unlent b at) l.place (asks b) (chunks b) (addresses pages)
       (ready b at (addresses pages)

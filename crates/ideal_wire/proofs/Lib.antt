@@ -16,6 +16,7 @@ pub mod Faithful
 pub mod FaithfulAccess
 pub mod FaithfulRanges
 pub mod FaithfulRaw
+pub mod FaithfulRings
 pub mod FaithfulSpots
 pub mod FaithfulSync
 pub mod Frames
@@ -46,6 +47,8 @@ pub mod RawAccess
 pub mod RawPlaces
 pub mod Reaching
 pub mod Returning
+pub mod RingBytes
+pub mod RingCases
 pub mod ServedMaps
 pub mod StillLaid
 pub mod SyncedPositions

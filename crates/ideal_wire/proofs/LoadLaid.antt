@@ -30,11 +30,11 @@ use Rattle.busdma_machine.specs.Runs.{byte_count}
 use Rattle.ideal_lane.specs.Loads.{Asked, finished, is_coherent, is_device, limits_of, unpaged}
 use Rattle.std.specs.Option.{option_map_or}
 use Rattle.ideal_lane.specs.Outcomes.{Outcome}
-use Rattle.ideal_lane.specs.State.{LaneState, LaneMap, Loaded}
-use Rattle.ideal_wire.specs.Laid.{IsInPage, IsOfExtents, is_behind, is_loadable, IsLaid, LiesIn, AreLaid}
+use Rattle.ideal_lane.specs.State.{LaneState, LaneMap, LaneMemory, Loaded}
+use Rattle.ideal_wire.specs.Laid.{AreFirst, IsInPage, IsOfExtents, is_behind, is_loadable, IsLaid, LiesIn, AreLaid}
 use Rattle.ideal_wire.specs.Traces.{placed_from, traces_of}
 use Rattle.ideal_wire.proofs.Accepting.{same-pages, count-pages, flat-entries, segments, fits, stage-is, loan-is}
-use Rattle.ideal_wire.proofs.Accepting.{trace-is, traces-are}
+use Rattle.ideal_wire.proofs.Accepting.{bytes-are, trace-is, traces-are}
 use Rattle.ideal_wire.proofs.Alike.{KeepsRest, kept-script, loadable-alike, one-changed}
 use Rattle.ideal_wire.proofs.ChunkExtents.{chunks-extents, placed-extents}
 use Rattle.ideal_wire.proofs.HavingChunks.{has-chunks}
@@ -76,7 +76,7 @@ unlent-at P (a ∷ bytes) (suc i) p all h = unlent-at P bytes i p all.1 h
 -- ---- what a load has that can end with its pages
 
 -- its chunks follow one another and have its bytes, each in its place and its extents in frames; its pages are as many
--- as it needs; a memory's needs none; and its bytes are those that its map may load
+-- as it needs; a memory's needs none, and has its first bytes; and its bytes are those that its map may load
 pub record IsReady (l : LaneState) (m : ℕ) (t : TagLimits) (es : List Entry) (chunks : List Chunk) (pages : List ℕ)
     : Type 0 where
   pub some : 1 ≤ t.maxsegsz
@@ -87,6 +87,7 @@ pub record IsReady (l : LaneState) (m : ℕ) (t : TagLimits) (es : List Entry) (
   pub whole : AllByRecursion IsPage (as_pages pages)
   pub count : length pages ≡ need_of chunks
   pub direct : is_some (get l.mems m) ≡ true → need_of chunks ≡ 0
+  pub first : (y : LaneMemory) → get l.mems m ≡ Some y → AreFirst y (entries_addresses es)
   pub loadable : AllByRecursion (λ a. is_loadable (get l.mems m) l a ≡ true) (entries_addresses es)
 
 -- so it is with the chunks of entries by an effective tag
@@ -94,9 +95,10 @@ pub ready : (l : LaneState) (m : ℕ) (t t' : TagLimits) (maxmem : ℕ) (es : Li
     1 ≤ t.maxsegsz → IsEffective t' → t'.flags ≡ t.flags → AllByRecursion IsEntry es →
     AllByRecursion IsPage (as_pages pages) → length pages ≡ need_of (chunks_of t' maxmem es) →
     (is_some (get l.mems m) ≡ true → need_of (chunks_of t' maxmem es) ≡ 0) →
+    ((y : LaneMemory) → get l.mems m ≡ Some y → AreFirst y (entries_addresses es)) →
     AllByRecursion (λ a. is_loadable (get l.mems m) l a ≡ true) (entries_addresses es) →
     IsReady l m t es (chunks_of t' maxmem es) pages
-ready l m t t' maxmem es pages some eff flags entries whole count direct loadable = record {
+ready l m t t' maxmem es pages some eff flags entries whole count direct first loadable = record {
   some = some;
   follow = follow-of [] chunks 0 refl (chunks_at t' maxmem es eff);
   bytes = chunks_cover t' maxmem es eff entries ∙ flat-entries es;
@@ -107,6 +109,7 @@ ready l m t t' maxmem es pages some eff flags entries whole count direct loadabl
   whole = whole;
   count = count;
   direct = direct;
+  first = first;
   loadable = loadable;
 }
   where
@@ -125,6 +128,7 @@ of-bytes l m t es fs chunks pages same r = record {
   whole = r.whole;
   count = r.count;
   direct = r.direct;
+  first = λ y there. subst (AreFirst y) same (r.first y there);
   loadable = subst (AllByRecursion (λ a. is_loadable (get l.mems m) l a ≡ true)) same r.loadable;
 }
 
@@ -150,6 +154,7 @@ module _ (l : LaneState) (laid : AreLaid l) (m : ℕ) (o : LaneMap) (there : get
         loadable-alike l after (kept-script l after rest) (get l.mems m) p.pa
         ∙ unlent-at (λ a. is_loadable (get l.mems m) l a ≡ true) (entries_addresses x.entries) i p r.loadable
         (sym (λ j. slice_get (loan-is l m o load_at x chunks pages j).positions i) ∙ at);
+    first = λ y memory. subst (AreFirst y) (sym (bytes-are l m o load_at x chunks pages)) (r.first y memory);
     direct = λ some. none-placed (keep_pg_offset t.flags) chunks (as_pages pages)
         (none-counted (bounced_of chunks) (r.direct some));
     paged =
@@ -211,7 +216,8 @@ all-own at (pa ∷ pas) = (ap not (eq-eqb pa pa refl), all-own (at + 1) pas)
 -- such a load lies where it is, whose bytes its map may load
 module _ (l : LaneState) (laid : AreLaid l) (m : ℕ) (o : LaneMap) (there : get l.maps m ≡ Some o)
     (device : is_device l o ≡ true) (none : loan_of l.loans m ≡ no_loan) (load_at : ℕ) (x : Asked) (first : ℕ)
-    (loadable : AllByRecursion (λ a. is_loadable (get l.mems m) l a ≡ true) (entries_addresses x.entries)) where
+    (loadable : AllByRecursion (λ a. is_loadable (get l.mems m) l a ≡ true) (entries_addresses x.entries))
+    (begins : (y : LaneMemory) → get l.mems m ≡ Some y → AreFirst y (entries_addresses x.entries)) where
   pub unbounced : bounced_of (tag_placed (limits_of l o) (device_chunks first 0 x.entries) (as_pages [])) ≡ []
   unbounced =
       none-placed (keep_pg_offset (limits_of l o).flags) (device_chunks first 0 x.entries) (as_pages [])
@@ -234,6 +240,8 @@ module _ (l : LaneState) (laid : AreLaid l) (m : ℕ) (o : LaneMap) (there : get
         (kept-script l (fits l m o load_at x (device_chunks first 0 x.entries) []) device-rest) (get l.mems m) p.pa
         ∙ unlent-at (λ a. is_loadable (get l.mems m) l a ≡ true) (entries_addresses x.entries) i p loadable
         (sym (λ j. slice_get (loan-is l m o load_at x (device_chunks first 0 x.entries) [] j).positions i) ∙ at);
+    first = λ y memory. subst (AreFirst y) (sym (bytes-are l m o load_at x (device_chunks first 0 x.entries) []))
+        (begins y memory);
     direct = λ some. unbounced;
     paged = subst (λ cs. AllZip IsInPage cs []) (sym unbounced) tt;
     extents = subst (AllByRecursion IsOfExtents) (sym unbounced) tt;

@@ -33,12 +33,13 @@ use Rattle.ideal_lane.specs.Places.{begin_of, or_in_memory, physical}
 use Rattle.ideal_lane.specs.Standing.{Stands}
 use Rattle.ideal_lane.specs.State.{LaneState, LaneMap, LaneMemory}
 use Rattle.ideal_lane.proofs.Direct.{need-memory}
-use Rattle.ideal_wire.specs.Laid.{is_loadable, AreLaid}
+use Rattle.ideal_wire.specs.Laid.{AreFirst, is_loadable, AreLaid}
 use Rattle.ideal_wire.specs.Machine.{IsOfMachine, IsInMachine}
 use Rattle.ideal_wire.proofs.Accepting.{limits-effective}
 use Rattle.ideal_wire.proofs.Asked.{all-map}
 use Rattle.ideal_wire.proofs.LoadLaid.{IsReady, of-bytes, ready}
 use Rattle.ideal_wire.proofs.Reaching.{AllReached, all-from, all-reached, each-byte, entries-bytes, in-memory, paged}
+use Rattle.ideal_wire.proofs.Positions.{found_one}
 use Rattle.ideal_wire.proofs.Reaching.{reached-run, with-bytes}
 
 -- a tag whose alignment is 1 is as effective
@@ -87,6 +88,10 @@ same-map (va ∷ vas) = ap (λ xs. va ∷ xs) (same-map vas)
 run-of-places : (begin : ℕ) (vas : List ℕ) → ((k va : ℕ) → slice_get vas k ≡ Some va → va ≡ begin + k) →
     vas ≡ run_of begin (length vas)
 run-of-places begin vas h = sym (same-map vas) ∙ run-of-map (λ va. va) begin vas h
+
+-- bytes that are a run from a memory's first byte on are its first ones
+first-run : (y : LaneMemory) (bytes : List ℕ) (n : ℕ) → bytes ≡ run_of y.first n → AreFirst y bytes
+first-run y bytes n same = same ∙ ap (run_of y.first) (sym (ap length same ∙ run_length y.first n))
 
 -- spans have as many bytes as they say
 count-spans : (spans : List Span) → length (span_addresses spans) ≡ span_bytes spans
@@ -219,6 +224,8 @@ module _ (l : LaneState) (laid : AreLaid l) (machine : IsInMachine l) (stands : 
         (ready l m t (record t { alignment = 1 }) 0 together [] eff.maxsegsz (unaligned t eff) refl
         (entries_are (λ p. Unit {0}) true (physical l) (paged l laid machine) one) tt (sym no-need)
         (λ some. no-need)
+        (λ z e. subst (λ v. AreFirst v (entries_addresses together)) (found_one (get l.mems m) y z memory e)
+        (first-run y (entries_addresses together) (span_bytes spans) (same-bytes ∙ first-bytes)))
         (subst (AllByRecursion (λ a. is_loadable (get l.mems m) l a ≡ true)) (sym same-bytes) loadable)))
       where
         eff : IsEffective t

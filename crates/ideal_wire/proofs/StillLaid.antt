@@ -22,9 +22,11 @@ use Rattle.ideal_lane.specs.Tags.{with_tag, has_maps, with_device_tag}
 use Rattle.iommu_map.specs.Space.{Space}
 use Rattle.ideal_lane.specs.State.{no_space}
 use Rattle.ideal_lane.specs.Tags.{with_space}
-use Rattle.ideal_lane.specs.Unloads.{unlent, unmapped, pages_of, restaged, after_return}
-use Rattle.ideal_lane.proofs.Effects.{DeviceWrites, RawWrites, Same, Syncs, Touches, Work, Writes}
-use Rattle.ideal_lane.proofs.Effects.{after_sync, after_write}
+use Rattle.ideal_lane.specs.Rings.{head_of, posted}
+use Rattle.ideal_lane.specs.Unloads.{unlent, unmapped, pages_of, restaged, segments_in, after_return}
+use Rattle.ring_device.specs.Descriptors.{descriptor_bytes}
+use Rattle.ideal_lane.proofs.Effects.{DeviceWrites, Fetches, Posts, RawWrites, Same, Syncs, Touches, Work, Writes}
+use Rattle.ideal_lane.proofs.Effects.{after_fetch, after_sync, after_write}
 use Rattle.ideal_lane.proofs.Lookups.{get_put}
 use Rattle.ideal_wire.specs.Laid.{LiesIn, AreLaid}
 use Rattle.ideal_wire.specs.Traces.{stage_in, stage_at}
@@ -32,7 +34,7 @@ use Rattle.ideal_wire.proofs.Alike.{KeepsLimits, KeepsRest, IsAlike, none-change
 use Rattle.ideal_wire.proofs.KeptTags.{KeepsTags, cut-off, cut-there, keeps-put, new-tag, put-off, put-there, says-in}
 use Rattle.ideal_wire.proofs.KeptTags.{untagged}
 use Rattle.ideal_wire.proofs.Positions.{found_one}
-use Rattle.ideal_wire.proofs.Wiring.{own-forgotten, own-written}
+use Rattle.ideal_wire.proofs.Wiring.{own-fetched, own-forgotten, own-written}
 use Rattle.busdma_base.specs.Scenarios.Operations.{bytes_of}
 
 -- a sync leaves which loans are coherent
@@ -181,10 +183,16 @@ module _ (l : LaneState) (laid : AreLaid l) where
       }) laid (synced-alike m off len ops o there i (after_sync l m o off len ops) refl refl refl)
   touches-laid (Writes place bs va at reaches fine) =
       written-still (bytes_at l (run_of va (length (bytes_of bs)))) (bytes_of bs)
+  touches-laid (Posts k slot m off len kind fill r ring o there i may va at reaches fine) =
+      written-still (bytes_at l (run_of va 16)) (descriptor_bytes (posted (segments_in o.stage) off len kind fill))
   touches-laid (DeviceWrites m off bs o there i fine) =
       written-still (load_bytes l.loans m off (length (bytes_of bs))) (bytes_of bs)
   touches-laid (RawWrites t addr bs g there fine) =
       written-still (raw_bytes l t (run_of addr (length (bytes_of bs)))) (bytes_of bs)
+  touches-laid (Fetches k f) =
+      like (after_fetch l k f.r (head_of f.r l) f.c)
+      (record { script = refl; pages = refl; maxmem = refl; own = own-fetched l f.r (head_of f.r l) f.c; mems = refl })
+      (λ n o e. refl) refl refl
 
   -- ---- the ends of loads
 

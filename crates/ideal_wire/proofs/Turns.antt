@@ -30,6 +30,7 @@ use Rattle.ideal_lane.specs.Asking.{Asking, Gives, Asks, by_reply, goes_on}
 use Rattle.ideal_lane.specs.Loads.{is_coherent}
 use Rattle.ideal_lane.specs.Memories.{placed, without_memory}
 use Rattle.ideal_lane.specs.Outcomes.{Outcome, is_idle, is_loaded}
+use Rattle.ideal_lane.specs.Rings.{ring_of, ring_step}
 use Rattle.ideal_lane.specs.Standing.{Stands}
 use Rattle.ideal_lane.specs.Turns.{Turned, operation, transfer, waits, lane_step}
 use Rattle.ideal_lane.specs.Turns as turns
@@ -52,6 +53,7 @@ use Rattle.ideal_wire.specs.WireStep as wire
 use Rattle.ideal_wire.specs.WireStep.{Follows}
 use Rattle.ideal_wire.proofs.Carried.{Carries, are-bused, but-one, carried, fewer-carries, like-carries, same-carries}
 use Rattle.ideal_wire.proofs.Carried.{idle-carries, load-carries, unload-carries, put-stage, cut-stage}
+use Rattle.ideal_wire.proofs.FaithfulRings.{RingStays, ring-stays}
 use Rattle.ideal_wire.proofs.Frames.{agreeing-apart}
 use Rattle.ideal_wire.proofs.Placing.{load-of, loadable-own}
 use Rattle.ideal_wire.proofs.Returning.{returning-unloaded}
@@ -64,11 +66,6 @@ module _ (l : LaneState) (a : Account) (w : Wire) (stands : Stands l) (agrees : 
     (spaced : AreSpaced l) (mapped : AreMapped l) (f : IsFaithful l w) where
   apart : IsApart l
   apart = agreeing-apart l a agrees stands laid
-
-  needs : (d : Work) → Needs l d
-  needs (Transfer (item.DevWriteAt t addr bs)) =
-      record { stands = stands; laid = laid; spaced = spaced; mapped = mapped }
-  needs _ = tt
 
   -- ---- steps that change no byte
 
@@ -208,34 +205,34 @@ module _ (l : LaneState) (a : Account) (w : Wire) (stands : Stands l) (agrees : 
     stays = λ w' h. carried l x.lane w w' (are-bused l laid) f carries (subst (λ v. Follows l x.lane v w') e h);
   }
 
-  makes-stay : {d : Work} {c : Option HubCall} {r : HubReply} {x : Outcome} → BringsNew l r → Makes l d c r x →
-      Outcomes c x (now l w apart laid f d)
-  makes-stay {d = d} new (Touched t) = record {
-    stays = λ w' h. touches-stay l w apart laid f t (needs d) w' h.own h.pages;
+  makes-stay : {d : Work} {c : Option HubCall} {r : HubReply} {x : Outcome} → Needs l d → BringsNew l r →
+      Makes l d c r x → Outcomes c x (now l w apart laid f d)
+  makes-stay needs new (Touched t) = record {
+    stays = λ w' h. touches-stay l w apart laid f t needs w' h.own h.pages;
   }
-  makes-stay new (Maps name t g there b) = idle refl (put l.place _ _ none-here refl refl refl)
-  makes-stay new (Creates name t g there b n m) = idle refl (put l.place _ _ none-here refl refl refl)
-  makes-stay new (Unmaps m o there i) =
+  makes-stay needs new (Maps name t g there b) = idle refl (put l.place _ _ none-here refl refl refl)
+  makes-stay needs new (Creates name t g there b n m) = idle refl (put l.place _ _ none-here refl refl refl)
+  makes-stay needs new (Unmaps m o there i) =
       idle (same-wired (end_call l m o.zone) answer.Done)
       (cut m _ (no-loan m o there (idle-unloaded o.stage i)) refl refl refl)
-  makes-stay new (Places name t flags g there first count) =
+  makes-stay needs new (Places name t flags g there first count) =
       idle refl (placed-carries t g.limits flags first count new)
-  makes-stay new (Frees m x there o found i) =
+  makes-stay needs new (Frees m x there o found i) =
       idle refl (without-carries m x (no-loan m o found (idle-unloaded o.stage i)))
-  makes-stay {c = c} new (Refuses b over e) =
+  makes-stay {c = c} needs new (Refuses b over e) =
       idle (undone-wired c (answer.Refused e) _ tt)
       (put b.m _ _ (no-loan b.m b.o b.there (idle-unloaded b.o.stage b.idle)) refl refl refl)
-  makes-stay new (Waits b plain some have) =
+  makes-stay needs new (Waits b plain some have) =
       idle refl (put b.m _ _ (no-loan b.m b.o b.there (idle-unloaded b.o.stage b.idle)) refl refl refl)
-  makes-stay {c = c} new (Loads k e) =
+  makes-stay {c = c} needs new (Loads k e) =
       idle (undone-wired c (answer.Segments _) _ tt)
       (load-carries l _ (map_in k) (is_coherent (get l.mems (map_in k))) (entries_addresses (asked_in k).entries)
       f.exclusive (unlent k) refl refl (λ n off. put-stage l (map_in k) n _ off))
-  makes-stay {c = c} new (Overflows k e) =
+  makes-stay {c = c} needs new (Overflows k e) =
       idle (undone-wired c (answer.Refused EFBIG) _ tt) (put (map_in k) _ _ (unlent k) refl refl refl)
-  makes-stay new (Unloads m o there i) =
+  makes-stay needs new (Unloads m o there i) =
       idle refl (unload-carries l _ m f.exclusive refl refl (λ n off. put-stage l m n _ off))
-  makes-stay new _ = idle refl (kept _ refl refl refl)
+  makes-stay needs new _ = idle refl (kept _ refl refl refl)
 
   -- ---- the turn
   abbrev Stays : Wire → Asking Turned → Type 0
@@ -251,7 +248,7 @@ module _ (l : LaneState) (a : Account) (w : Wire) (stands : Stands l) (agrees : 
       Follows l k after w'
   left k queue after w' g = record { own = g.own; pages = g.pages; known = g.known }
 
-  -- the wire of an operation and of an item
+  -- the wire of an operation
   same-done : (x : Asking Outcome) → wire.if_done x w w ≡ w
   same-done (Gives x) = same-answered x.answer
   same-done (Asks c k) = refl
@@ -260,14 +257,8 @@ module _ (l : LaneState) (a : Account) (w : Wire) (stands : Stands l) (agrees : 
   wire-operation (op.Sync m ops) = refl
   wire-operation (op.SyncRange m off len ops) = refl
   wire-operation (op.CpuWrite place bs) = refl
+  wire-operation (op.RingPost k slot m off len kind fill) = refl
   wire-operation o = sym (same-done (operation o l))
-
-  wire-transfer : (i : Item) → wire.transfer i l w ≡ wire.if_done (transfer i l) (now l w apart laid f (Transfer i)) w
-  wire-transfer (item.Sync m ops) = refl
-  wire-transfer (item.SyncRange m off len ops) = refl
-  wire-transfer (item.DevWrite m off bs) = refl
-  wire-transfer (item.DevWriteAt t addr bs) = refl
-  wire-transfer i = sym (same-done (transfer i l))
 
   advances : (o : Op) → Stays (wire.operation o l w) (goes_on (turns.advanced l.place) (operation o l))
   advances o =
@@ -276,21 +267,44 @@ module _ (l : LaneState) (a : Account) (w : Wire) (stands : Stands l) (agrees : 
     where
       by : (x : Asking Outcome) → Made l (Operation o) x →
           Stays (wire.if_done x (now l w apart laid f (Operation o)) w) (goes_on (turns.advanced l.place) x)
-      by (Gives y) h r w' new g = (makes-stay new (h r)).stays w' (moved y.lane (l.place + 1) _ w' g)
-      by (Asks c k) h r w' new g = (makes-stay new (h r)).stays w' (moved (k r).lane (l.place + 1) _ w' g)
+      by (Gives y) h r w' new g = (makes-stay tt new (h r)).stays w' (moved y.lane (l.place + 1) _ w' g)
+      by (Asks c k) h r w' new g = (makes-stay tt new (h r)).stays w' (moved (k r).lane (l.place + 1) _ w' g)
 
   leaves : (q : QueuedItem) (rest : List QueuedItem) →
       Stays (wire.transfer q.item l w) (goes_on (turns.left_queue q rest) (transfer q.item l))
-  leaves q rest =
-      subst (λ v. Stays v (goes_on (turns.left_queue q rest) (transfer q.item l))) (sym (wire-transfer q.item))
-      (by (transfer q.item l) (transfer-touches l q.item))
+  leaves q rest = each q.item
     where
-      by : (x : Asking Outcome) → Only l (Transfer q.item) x →
-          Stays (wire.if_done x (now l w apart laid f (Transfer q.item)) w) (goes_on (turns.left_queue q rest) x)
-      by (Gives y) h r w' new g =
-          let g' = left y.lane rest _ w' g in
-          touches-stay l w apart laid f h (needs (Transfer q.item)) w' g'.own g'.pages
-      by (Asks c k) h r w' new g = absurd h
+      by : (i : Item) → Needs l (Transfer i) → (x : Asking Outcome) → Only l (Transfer i) x →
+          Stays (wire.if_done x (now l w apart laid f (Transfer i)) w) (goes_on (turns.left_queue q rest) x)
+      by i needs (Gives y) h r w' new g =
+          let g' = left y.lane rest _ w' g in touches-stay l w apart laid f h needs w' g'.own g'.pages
+      by i needs (Asks c k) h r w' new g = absurd h
+
+      -- an item whose wire is that of its work
+      plain : (i : Item) → Needs l (Transfer i) →
+          wire.transfer i l w ≡ wire.if_done (transfer i l) (now l w apart laid f (Transfer i)) w →
+          Stays (wire.transfer i l w) (goes_on (turns.left_queue q rest) (transfer i l))
+      plain i needs e =
+          subst (λ v. Stays v (goes_on (turns.left_queue q rest) (transfer i l))) (sym e)
+          (by i needs (transfer i l) (transfer-touches l i))
+
+      by-ring : (k : ℕ) (x : Asking Outcome) → RingStays l w apart laid f stands k x →
+          Stays (wire.if_step_done x (wire.fetched_wire (ring_of l k) l w) w) (goes_on (turns.left_queue q rest) x)
+      by-ring k (Gives y) h r w' new g = let g' = left y.lane rest _ w' g in h w' g'.own g'.pages
+      by-ring k (Asks c e) h r w' new g = absurd h
+
+      each : (i : Item) → Stays (wire.transfer i l w) (goes_on (turns.left_queue q rest) (transfer i l))
+      each (item.Sync m ops) = plain (item.Sync m ops) tt refl
+      each (item.SyncRange m off len ops) = plain (item.SyncRange m off len ops) tt refl
+      each (item.DevRead m off len) =
+          plain (item.DevRead m off len) tt (sym (same-done (transfer (item.DevRead m off len) l)))
+      each (item.DevWrite m off bs) = plain (item.DevWrite m off bs) tt refl
+      each (item.DevReadAt t addr len) =
+          plain (item.DevReadAt t addr len) tt (sym (same-done (transfer (item.DevReadAt t addr len) l)))
+      each (item.DevWriteAt t addr bs) =
+          plain (item.DevWriteAt t addr bs)
+          (record { stands = stands; laid = laid; spaced = spaced; mapped = mapped }) refl
+      each (item.RingStep k) = by-ring k (ring_step k l) (ring-stays l w apart laid f stands k)
 
   still : (w' : Wire) → Follows l l w w' → IsFaithful l w'
   still w' h = carried l l w w' (are-bused l laid) f same h
@@ -314,7 +328,7 @@ module _ (l : LaneState) (a : Account) (w : Wire) (stands : Stands l) (agrees : 
   queue-stays (q ∷ rest) r w' new h = leaves q rest r w' new h
 
   callback-stays : Stays w (turns.callback_turn l)
-  callback-stays (reply.Called m pages) w' new h = (makes-stay new (called-makes l m pages)).stays w' h
+  callback-stays (reply.Called m pages) w' new h = (makes-stay tt new (called-makes l m pages)).stays w' h
   callback-stays _ w' new h = still w' h
 
   pub turn-stays : (s : Side) → Stays (wire.lane_step l s w) (lane_step l s)

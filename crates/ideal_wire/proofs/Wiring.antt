@@ -1,7 +1,8 @@
 -- The steps that change bytes or read them leave the wire faithful, and read what the ideal memory has.
-use Rattle.std.proofs.Common.{◌≡◌, ℕ, Bool, true, false, cond, [], ◌∷◌, ◌==◌, ◌⊎◌, Option, Some, None, List, length}
+use Rattle.std.proofs.Common.{◌≡◌, ℕ, ◌+◌, if◌then◌else◌, Bool, true, false, cond, [], ◌∷◌, ◌==◌, ◌⊎◌, Option, Some, None, List, length}
 use Rattle.std.proofs.Common.{is_some, refl, sym, ◌∙◌, subst, unwrap_or}
 use Rattle.std.specs.FinMap.{get}
+use Rattle.std.specs.Prelude.{replicate}
 use Rattle.std.specs.Option.{option_map}
 use Rattle.busdma_base.specs.declared.journals.answer.Answer.TheVariants as answer
 use Rattle.busdma_machine.specs.declared.report.Judged.TheVariants.{Fine}
@@ -11,6 +12,8 @@ use Rattle.busdma_machine.specs.declared.report.ReportName.TheVariants.{DeviceRe
 use Rattle.busdma_machine.specs.Judging.{judged as judged_by}
 use Rattle.busdma_machine.specs.Runs.{run_of}
 use Rattle.dma_tag.specs.SyncOps.{is_mixed}
+use Rattle.ring_device.specs.declared.descriptor.Descriptor.{Descriptor}
+use Rattle.ring_device.specs.Descriptors.{descriptor_bytes}
 use Rattle.loan_table.specs.Access.{cpu_read_answer, dev_read_answer, dev_read_refusal}
 use Rattle.loan_table.specs.Lending.{sync_answer, marked_range, lost}
 use Rattle.loan_table.specs.Loans.{loan_of, addresses_of, load_bytes}
@@ -30,15 +33,17 @@ use Rattle.ideal_lane.specs.IdealMemory.{
 use Rattle.ideal_lane.specs.IdealMemory.{written_at}
 use Rattle.ideal_lane.specs.Outcomes.{Outcome, gives, unless_refused, unless_past, load_length}
 use Rattle.ideal_lane.specs.Places.{virtual_at, reached, bytes_at}
-use Rattle.ideal_lane.specs.State.{LaneState, LaneMap}
+use Rattle.ideal_lane.specs.Rings.{Candidate, head_at, no_ring, posted, retired, ring_of, slot_place, stored, used}
+use Rattle.ideal_lane.specs.State.{LaneState, LaneMap, LaneRing}
 use Rattle.ideal_lane.specs.Syncs.{bounced_in}
-use Rattle.ideal_lane.proofs.Effects.{DeviceWrites, IsSync, IsUndone, Operation, Range, RangeItem, RawWrites}
+use Rattle.ideal_lane.specs.Unloads.{segments_in}
+use Rattle.ideal_lane.proofs.Effects.{DeviceWrites, Fetches, IsSync, IsUndone, Operation, Posts, Range, RangeItem, RawWrites}
 use Rattle.ideal_lane.proofs.Effects.{Same, Syncs, Touches, Transfer, Whole, WholeItem, Work, Writes, after_sync}
 use Rattle.ideal_lane.proofs.Effects.{after_write}
 use Rattle.ideal_wire.specs.Apart.{IsApart}
 use Rattle.ideal_wire.specs.Centre.{IsFaithful, Agrees}
 use Rattle.ideal_wire.specs.Laid.{AreLaid}
-use Rattle.ideal_wire.specs.Traces.{stage_at, placed_from, traces_of}
+use Rattle.ideal_wire.specs.Traces.{stage_at, stage_in, placed_from, traces_of}
 use Rattle.ideal_wire.specs.WireStep as wire
 use Rattle.ideal_wire.specs.WireStep.{BringsKnown, IsRead, KeepsOwn, KeepsPages, place_bytes, load_buses, if_answered}
 use Rattle.ideal_wire.proofs.Carried.{AreBused, are-bused, carried, same-carries}
@@ -77,9 +82,25 @@ own-written (k ∷ keys) (v ∷ vs) memory a = own-written keys vs (written_at k
     by true (Some c) = refl
     by false o = refl
 
--- what a step needs besides, to leave the wire faithful: one that writes at device addresses, that these are found
+-- the step of a ring's device, too, leaves which bytes are the driver's own
+pub own-fetched : (l : LaneState) (r : LaneRing) (d : Descriptor) (c : Candidate) (a : ℕ) →
+    is_some ((retired r (used d c l)).memory a) ≡ is_some (l.memory a)
+own-fetched l r d c a = by (d.kind == 1)
+  where
+    by : (b : Bool) →
+        is_some ((retired r (if b then l else stored c.map c.off d.len (replicate d.len d.fill) l)).memory a)
+        ≡ is_some (l.memory a)
+    by true = own-written (load_bytes l.loans r.mem (head_at r + 14) 2) (0 ∷ 1 ∷ []) l.memory a
+    by false =
+        own-written (load_bytes l.loans r.mem (head_at r + 14) 2) (0 ∷ 1 ∷ [])
+        (written (load_bytes l.loans c.map c.off d.len) (replicate d.len d.fill) l.memory) a
+        ∙ own-written (load_bytes l.loans c.map c.off d.len) (replicate d.len d.fill) l.memory a
+
+-- what a step needs besides, to leave the wire faithful: one that writes at device addresses, that these are found. The
+-- steps of a ring's device are not told by `Done` alone, and stand in `FaithfulRings`.
 abbrev pub Needs : LaneState → Work → Type 0
 Needs l (Transfer (item.DevWriteAt t addr bs)) = AreFound l
+Needs l (Transfer (item.RingStep k)) = ⊥
 Needs l _ = Unit {0}
 
 -- ---- a step that is done, and pages that come and go after it
@@ -96,6 +117,9 @@ module _ (l : LaneState) (w : Wire) (apart : IsApart l) (laid : AreLaid l) (f : 
   now (Operation (op.Sync m ops)) = wire.synced m 0 (load_length l m) ops l w
   now (Operation (op.SyncRange m off len ops)) = wire.synced m off len ops l w
   now (Operation (op.CpuWrite place bs)) = put (place_bytes l place (length (bytes_of bs))) (bytes_of bs) w
+  now (Operation (op.RingPost k slot m off len kind fill)) =
+      put (place_bytes l (slot_place (ring_of l k) slot) 16)
+      (descriptor_bytes (posted (segments_in (stage_at l m)) off len kind fill)) w
   now (Transfer (item.Sync m ops)) = wire.synced m 0 (load_length l m) ops l w
   now (Transfer (item.SyncRange m off len ops)) = wire.synced m off len ops l w
   now (Transfer (item.DevWrite m off bs)) = put (load_buses l m off (length (bytes_of bs))) (bytes_of bs) w
@@ -112,13 +136,13 @@ module _ (l : LaneState) (w : Wire) (apart : IsApart l) (laid : AreLaid l) (f : 
   nothing-came : (k : LaneState) (w' : Wire) → BringsKnown k.memory k.memory w'
   nothing-came k w' a v none is = let gone : None ≡ Some (Known v) = sym none ∙ is in absurd (cc)
 
-  same-stays : Stays w l
+  pub same-stays : Stays w l
   same-stays w' kept pages =
       carried l l w w' (are-bused l laid) f (same-carries l l f.exclusive refl refl (λ n i p at. refl))
       (record { own = kept; pages = pages; known = nothing-came l w' })
 
   -- a step leaves the maps as they were, the traces of loads, and which bytes are the driver's own
-  done : (l' : LaneState) (now w' : Wire) → l'.maps ≡ l.maps → traces_of l' ≡ traces_of l →
+  pub done : (l' : LaneState) (now w' : Wire) → l'.maps ≡ l.maps → traces_of l' ≡ traces_of l →
       ((b : ℕ) → is_some (l'.memory b) ≡ is_some (l.memory b)) → IsFaithful l' now →
       KeepsOwn l.memory l'.memory now w' → KeepsPages l.maps l'.maps now w' → IsFaithful l' w'
   done l' now w' maps traces mine g kept pages =
@@ -203,6 +227,19 @@ module _ (l : LaneState) (w : Wire) (apart : IsApart l) (laid : AreLaid l) (f : 
       (write-stays bytes (bytes_of bs) (put bytes (bytes_of bs) w)
       (cpu_written (own l laid apart) l (traces_of l) w faithful bytes (bytes_of bs)
       (reached_own (own l laid apart) l (traces_of l) w faithful (run_of va (length (bytes_of bs))) reaches) fine))
+  touches-stay (Posts k slot m off len kind fill r ring o there i may va at reaches fine) needs =
+      let bytes = bytes_at l (run_of va 16) in
+      let vs = descriptor_bytes (posted (segments_in o.stage) off len kind fill) in
+      subst (λ q. Stays (put (place_bytes l (slot_place (unwrap_or q no_ring) slot) 16)
+      (descriptor_bytes (posted (segments_in (stage_at l m)) off len kind fill)) w) (after_write l bytes vs))
+      (sym ring)
+      (subst (λ q. Stays (put (bytes_at l (run_of (unwrap_or q 0) 16))
+      (descriptor_bytes (posted (segments_in (stage_at l m)) off len kind fill)) w) (after_write l bytes vs)) (sym at)
+      (subst (λ q. Stays (put bytes (descriptor_bytes (posted (segments_in (stage_in q)) off len kind fill)) w)
+      (after_write l bytes vs)) (sym there)
+      (write-stays bytes vs (put bytes vs w)
+      (cpu_written (own l laid apart) l (traces_of l) w faithful bytes vs
+      (reached_own (own l laid apart) l (traces_of l) w faithful (run_of va 16) reaches) fine))))
   touches-stay (DeviceWrites m off bs o there i fine) needs =
       write-stays (load_bytes l.loans m off (length (bytes_of bs))) (bytes_of bs)
       (put (load_buses l m off (length (bytes_of bs))) (bytes_of bs) w)
@@ -211,6 +248,7 @@ module _ (l : LaneState) (w : Wire) (apart : IsApart l) (laid : AreLaid l) (f : 
       write-stays (raw_bytes l t (run_of addr (length (bytes_of bs)))) (bytes_of bs)
       (put (raw_bytes l t (run_of addr (length (bytes_of bs)))) (bytes_of bs) w)
       (raw_written (own l laid apart) l w faithful all t addr (bytes_of bs) fine)
+  touches-stay (Fetches k g) none = absurd none
 
   -- ---- reads
   pub cpu_read-reads : (place : Place) (len : ℕ) → IsRead (cpu_read place len l) (place_bytes l place len) w

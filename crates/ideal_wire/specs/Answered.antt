@@ -45,6 +45,9 @@ load_asked_by (op.SyncRange map off len ops) l = None
 load_asked_by (op.CpuRead place len) l = None
 load_asked_by (op.CpuWrite place bytes) l = None
 load_asked_by (op.Await map) l = None
+load_asked_by (op.Ring name mem slots) l = None
+load_asked_by (op.RingPost ring slot map off len kind fill) l = None
+load_asked_by (op.Kick ring steps) l = None
 
 -- the load at a place of the script, if there is one
 abbrev pub load_at : LaneState → ℕ → Option Load

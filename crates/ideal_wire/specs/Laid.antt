@@ -1,6 +1,6 @@
 -- How the loads of a driver lie in its memory and in bounce pages.
 use Rattle.std.specs.Prelude.{◌≡◌, ℕ, ◌*◌, ◌/◌, ◌%◌, ◌≤◌, Bool, true, false, List, [], Option, Some, None}
-use Rattle.std.specs.Prelude.{is_some}
+use Rattle.std.specs.Prelude.{is_some, length}
 use Rattle.std.specs.List.{AllByRecursion, AllZip}
 use Rattle.std.specs.FinMap.{get}
 use Rattle.std.specs.Option.{option_map_or}
@@ -14,12 +14,12 @@ use Rattle.busdma_machine.specs.Bounce.MemoryRuns.{in_run}
 use Rattle.busdma_base.specs.Scenarios.PageRuns.{is_own, physical_in}
 use Rattle.busdma_machine.specs.Machine.Spans.{bio_spans, span_addresses}
 use Rattle.busdma_machine.specs.Machine.Wire.{buses}
-use Rattle.busdma_machine.specs.Runs.{IsExtent}
+use Rattle.busdma_machine.specs.Runs.{IsExtent, run_of}
 use Rattle.busdma_base.specs.Scenarios.Buffers.{IsBioOf}
 use Rattle.busdma_machine.specs.Tags.Tag.{excluded}
 use Rattle.load_bio.specs.Bio.{bio_translation, is_rounded}
 use Rattle.loan_table.specs.declared.position.Position.{Position}
-use Rattle.loan_table.specs.Loans.{loan_of, no_loan}
+use Rattle.loan_table.specs.Loans.{addresses_of, loan_of, no_loan}
 use Rattle.map_sync.specs.Traces.{HasChunks}
 use Rattle.phys_memory.specs.Translation.{Translation}
 use Rattle.phys_memory.specs.Vector.{entries_of}
@@ -54,13 +54,18 @@ is_loadable (Some x) l a = in_run x.first x.count a
 abbrev pub is_behind : LaneState → ℕ → Bool
 is_behind l m = option_map_or (is_device l) (get l.maps m) false
 
--- the load of a map has bytes of its memory alone, of which none is bounced, or of the driver's pages; its bounced
--- chunks lie in its pages, one in each, and have the bytes at their places; and, where the map is none of an IOMMU tag,
--- the bytes of its segments are its trace
+-- these are the first bytes of a memory, in order
+abbrev pub AreFirst : LaneMemory → List ℕ → Type 0
+AreFirst x bytes = bytes ≡ run_of x.first (length bytes)
+
+-- the load of a map has bytes of its memory alone, the first of them in order, of which none is bounced, or of the
+-- driver's pages; its bounced chunks lie in its pages, one in each, and have the bytes at their places; and, where the
+-- map is none of an IOMMU tag, the bytes of its segments are its trace
 pub record IsLaid (l : LaneState) (m : ℕ) (bounced : List Chunk) (segments : List Segment) (pages : List ℕ)
     : Type 0 where
   pub coherent : (loan_of l.loans m).coherent ≡ is_coherent (get l.mems m)
   pub bytes : (i : ℕ) (p : Position) → IsAt l.loans m i p → is_loadable (get l.mems m) l p.pa ≡ true
+  pub first : (x : LaneMemory) → get l.mems m ≡ Some x → AreFirst x (addresses_of (loan_of l.loans m).positions)
   pub direct : is_some (get l.mems m) ≡ true → bounced ≡ []
   pub paged : AllZip IsInPage bounced pages
   pub extents : AllByRecursion IsOfExtents bounced

@@ -7,6 +7,7 @@ pub mod Machine
 pub mod Mapped
 pub mod NewRuns
 pub mod OneProof
+pub mod RingSteps
 pub mod Served
 pub mod Spaced
 pub mod Traces

@@ -1,7 +1,7 @@
 -- What the steps of a driver make of its wire. Pages and the frames of memories come with any bytes, but with zeros
 -- where zeros were asked for. Those that go leave the wire, and nothing is said here of the bytes that they take along.
-use Rattle.std.specs.Prelude.{◌≡◌, ℕ, true, List, [], ◌∷◌, Option, Some, None, map, length, slice_get, unwrap_or}
-use Rattle.std.specs.Prelude.{if◌then◌else◌, is_some}
+use Rattle.std.specs.Prelude.{◌≡◌, ℕ, ◌+◌, ◌==◌, true, List, [], ◌∷◌, Option, Some, None, map, length, replicate}
+use Rattle.std.specs.Prelude.{if◌then◌else◌, is_some, slice_get, unwrap_or}
 use Rattle.std.specs.Ordering.{nat_cmp}
 use Rattle.std.specs.FinMap.{FinMap, get}
 use Rattle.busdma_base.specs.declared.scenarios.script.Op.{Op}
@@ -20,16 +20,19 @@ use Rattle.dma_tag.specs.SyncOps.{prewrite, postread}
 use Rattle.lane_agreement.specs.View.{Return}
 use Rattle.lane_tables.specs.declared.queued.QueuedItem.{QueuedItem}
 use Rattle.loan_table.specs.Loans.{loan_of}
-use Rattle.ideal_lane.specs.State.{LaneState, LaneMap}
+use Rattle.ideal_lane.specs.State.{LaneState, LaneMap, LaneRing}
 use Rattle.ideal_lane.specs.Asking.{Asking, Gives, Asks}
 use Rattle.ideal_lane.specs.IdealMemory.{IdealMemory, Known}
 use Rattle.ideal_lane.specs.Outcomes.{Outcome, load_length}
 use Rattle.ideal_lane.specs.Places.{virtual_at, bytes_at}
 use Rattle.ideal_lane.specs.Turns.{waits}
 use Rattle.ideal_lane.specs.Accesses as accesses
+use Rattle.ideal_lane.specs.Rings as rings
 use Rattle.ideal_lane.specs.Syncs as syncs
-use Rattle.ideal_lane.specs.Unloads.{pages_of}
-use Rattle.ideal_wire.specs.Traces.{stage_in, is_in_pages, traces_of}
+use Rattle.ideal_lane.specs.Unloads.{pages_of, segments_in}
+use Rattle.ring_device.specs.declared.descriptor.Descriptor.{Descriptor}
+use Rattle.ring_device.specs.Descriptors.{descriptor_bytes}
+use Rattle.ideal_wire.specs.Traces.{stage_at, stage_in, is_in_pages, traces_of}
 
 -- What is done
 
@@ -83,6 +86,38 @@ abbrev pub dev_write_at : ℕ → ℕ → List ℕ → LaneState → Wire → Wi
 dev_write_at t addr vs l w =
     if_done (accesses.dev_write_at t addr vs l) (put (accesses.raw_bytes l t (run_of addr (length vs))) vs w) w
 
+-- the driver writes a descriptor into a slot of a ring
+abbrev pub ring_post : ℕ → ℕ → ℕ → ℕ → ℕ → ℕ → ℕ → LaneState → Wire → Wire
+ring_post k slot m off len kind fill l w =
+    if_done (rings.ring_post k slot m off len kind fill l)
+    (put (place_bytes l (rings.slot_place (rings.ring_of l k) slot) 16)
+    (descriptor_bytes (rings.posted (segments_in (stage_at l m)) off len kind fill)) w) w
+
+-- the device of a ring has done what a descriptor says: the bytes that it names are written, where the device writes
+abbrev pub used_wire : Descriptor → rings.Candidate → LaneState → Wire → Wire
+used_wire d c l w = if d.kind == 1 then w else put (load_buses l c.map c.off d.len) (replicate d.len d.fill) w
+
+-- and so are two bytes of the descriptor at the head
+abbrev pub fetched_wire : LaneRing → LaneState → Wire → Wire
+fetched_wire r l w =
+    put (load_buses l r.mem (rings.head_at r + 14) 2) (0 ∷ 1 ∷ [])
+    (used_wire (rings.head_of r l) (rings.used_candidate r l) l w)
+
+-- a step of a ring with this answer that did nothing changes no byte
+abbrev pub if_fetched : Answer → Wire → Wire → Wire
+if_fetched answer.Done after w = after
+if_fetched (answer.Bytes vs) after w = after
+if_fetched _ after w = w
+
+-- nor does one that makes a call
+abbrev pub if_step_done : Asking Outcome → Wire → Wire → Wire
+if_step_done (Gives o) after w = if_fetched o.answer after w
+if_step_done (Asks c k) after w = w
+
+-- a step of a ring
+abbrev pub ring_step : ℕ → LaneState → Wire → Wire
+ring_step k l w = if_step_done (rings.ring_step k l) (fetched_wire (rings.ring_of l k) l w) w
+
 -- an operation; no other changes a byte
 abbrev pub operation : Op → LaneState → Wire → Wire
 operation (op.Tag name parent limits) l w = w
@@ -99,6 +134,9 @@ operation (op.SyncRange map off len ops) l w = sync_range map off len ops l w
 operation (op.CpuRead place len) l w = w
 operation (op.CpuWrite place bytes) l w = cpu_write place (bytes_of bytes) l w
 operation (op.Await map) l w = w
+operation (op.Ring name mem slots) l w = w
+operation (op.RingPost ring slot map off len kind fill) l w = ring_post ring slot map off len kind fill l w
+operation (op.Kick ring steps) l w = w
 
 -- an item
 abbrev pub transfer : Item → LaneState → Wire → Wire
@@ -108,6 +146,7 @@ transfer (item.DevRead map off len) l w = w
 transfer (item.DevWrite map off bytes) l w = dev_write map off (bytes_of bytes) l w
 transfer (item.DevReadAt tag addr len) l w = w
 transfer (item.DevWriteAt tag addr bytes) l w = dev_write_at tag addr (bytes_of bytes) l w
+transfer (item.RingStep ring) l w = ring_step ring l w
 
 -- the next operation of the script, if there is one and it does not wait
 abbrev pub next_operation : Option Op → LaneState → Wire → Wire

@@ -41,8 +41,9 @@ ghost use Rattle.ideal_lane.specs.Agreement.{AgreesWith};
 ghost use Rattle.ideal_lane.specs.Asking.{by_reply};
 ghost use Rattle.ideal_lane.specs.Loads.{asked, chunks_for, finished, limits_of, load_addresses, load_judged};
 ghost use Rattle.ideal_lane.specs.Opening.{opening_lane};
+ghost use Rattle.ideal_lane.specs.Rings.{ring_of, ring_post, ring_step};
 ghost use Rattle.ideal_lane.specs.Standing.{Stands};
-ghost use Rattle.ideal_lane.specs.State.{LaneMap, LaneMemory, LaneState, Loaded};
+ghost use Rattle.ideal_lane.specs.State.{LaneMap, LaneMemory, LaneRing, LaneState, Loaded};
 ghost use Rattle.ideal_lane.specs.Syncs.{sync, sync_range};
 ghost use Rattle.ideal_lane.specs.Turns.{lane_step};
 ghost use Rattle.ideal_wire.specs.Accepted.{ArePagesFor, IfSegments, IsAcceptedLoad};
@@ -53,6 +54,7 @@ ghost use Rattle.ideal_wire.specs.Laid.{AreLaid, KeepsLaid};
 ghost use Rattle.ideal_wire.specs.Machine.{IsInMachine};
 ghost use Rattle.ideal_wire.specs.Mapped.{AreMapped};
 ghost use Rattle.ideal_wire.specs.NewRuns.{BringsNew};
+ghost use Rattle.ideal_wire.specs.RingSteps.{HandsBackIn, HeadIsRead, NamedAreRead};
 ghost use Rattle.ideal_wire.specs.Served.{AreServed, KeepsServed};
 ghost use Rattle.ideal_wire.specs.Spaced.{AreSpaced};
 ghost use Rattle.ideal_wire.specs.Traces.{traces_of};
@@ -80,9 +82,10 @@ pub fn step_stays_faithful()
 
 /// What is really read is what the ideal memory has: by the driver at the bytes that it names, by its
 /// device at the bus addresses of its load, and by the device of an IOMMU tag where the bytes at its
-/// device addresses lie. The driver stands, agrees with the account and has its loads laid, and its wire
-/// is faithful; for the third, the address spaces of its IOMMU tags are in order, and their loads stand in
-/// their runs.
+/// device addresses lie. So it is of the device of a ring: it reads the descriptor at the head, where it
+/// may read those bytes, and the bytes that the descriptor names, in the load of the map that is used.
+/// The driver stands, agrees with the account and has its loads laid, and its wire is faithful; for the
+/// third, the address spaces of its IOMMU tags are in order, and their loads stand in their runs.
 pub fn reads_are_faithful()
     ensures cpu { (l : LaneState) (a : Account) (w : Wire) (place : Place) (len : ℕ) →
         Stands l → AgreesWith l a → AreLaid l → IsFaithful l w →
@@ -93,6 +96,10 @@ pub fn reads_are_faithful()
     ensures dev_at { (l : LaneState) (a : Account) (w : Wire) (t addr len : ℕ) →
         Stands l → AgreesWith l a → AreLaid l → AreSpaced l → AreMapped l → IsFaithful l w →
         IsRead (dev_read_at t addr len l) (raw_bytes l t (run_of addr len)) w }
+    ensures head { (l : LaneState) (a : Account) (w : Wire) (r : LaneRing) →
+        Stands l → AgreesWith l a → AreLaid l → IsFaithful l w → HeadIsRead r l w }
+    ensures ring { (l : LaneState) (a : Account) (w : Wire) (k : ℕ) →
+        Stands l → AgreesWith l a → AreLaid l → IsFaithful l w → NamedAreRead k l w }
 {}
 
 /// What a driver holds lies apart, where it stands, agrees with the account and has its loads laid.
@@ -100,10 +107,11 @@ pub fn agreeing_pages_are_apart()
     ensures { (l : LaneState) (a : Account) → Stands l → AgreesWith l a → AreLaid l → IsApart l }
 {}
 
-/// A sync or a write leaves a faithful wire faithful, where what the driver holds lies apart and its
-/// loads are laid; and for a write at device addresses, where the driver stands, the address spaces of its
-/// IOMMU tags are in order and their loads stand in their runs. Such a call asks nothing of the account, so
-/// any reply gives the driver after it.
+/// A sync, a write, a post to a ring or a step of its device leaves a faithful wire faithful, where what
+/// the driver holds lies apart and its loads are laid; for a step of a ring, where the driver stands; and
+/// for a write at device addresses, where the driver stands, the address spaces of its IOMMU tags are in
+/// order and their loads stand in their runs. Such a call asks nothing of the account, so any reply gives
+/// the driver after it.
 pub fn calls_stay_faithful()
     ensures sync { (l : LaneState) (w : Wire) (m ops : ℕ) (r : HubReply) →
         IsApart l → AreLaid l → IsFaithful l w →
@@ -120,11 +128,19 @@ pub fn calls_stay_faithful()
     ensures dev_write_at { (l : LaneState) (w : Wire) (t addr : ℕ) (vs : List ℕ) (r : HubReply) →
         IsApart l → Stands l → AreLaid l → AreSpaced l → AreMapped l → IsFaithful l w →
         IsFaithful (by_reply (dev_write_at t addr vs l) r).lane (wire.dev_write_at t addr vs l w) }
+    ensures ring_post { (l : LaneState) (w : Wire) (k slot m off len kind fill : ℕ) (r : HubReply) →
+        IsApart l → AreLaid l → IsFaithful l w →
+        IsFaithful (by_reply (ring_post k slot m off len kind fill l) r).lane
+        (wire.ring_post k slot m off len kind fill l w) }
+    ensures ring_step { (l : LaneState) (w : Wire) (k : ℕ) (r : HubReply) →
+        IsApart l → Stands l → AreLaid l → IsFaithful l w →
+        IsFaithful (by_reply (ring_step k l) r).lane (wire.ring_step k l w) }
 {}
 
 /// What is really read is what the ideal memory has, where what the driver holds lies apart, its loads
 /// are laid and its wire is faithful; and for a read at device addresses, where the driver stands, the
-/// address spaces of its IOMMU tags are in order and their loads stand in their runs.
+/// address spaces of its IOMMU tags are in order and their loads stand in their runs. So it is of the
+/// descriptor at the head of a ring, where the device may read those bytes, and of the bytes that it names.
 pub fn calls_read_faithfully()
     ensures cpu { (l : LaneState) (w : Wire) (place : Place) (len : ℕ) → IsApart l → AreLaid l → IsFaithful l w →
         IsRead (cpu_read place len l) (place_bytes l place len) w }
@@ -132,6 +148,19 @@ pub fn calls_read_faithfully()
         IsRead (dev_read m off len l) (load_buses l m off len) w }
     ensures dev_at { (l : LaneState) (w : Wire) (t addr len : ℕ) → IsApart l → Stands l → AreLaid l → AreSpaced l →
         AreMapped l → IsFaithful l w → IsRead (dev_read_at t addr len l) (raw_bytes l t (run_of addr len)) w }
+    ensures head { (l : LaneState) (w : Wire) (r : LaneRing) → IsApart l → AreLaid l → IsFaithful l w →
+        HeadIsRead r l w }
+    ensures ring { (l : LaneState) (w : Wire) (k : ℕ) → IsApart l → AreLaid l → IsFaithful l w →
+        NamedAreRead k l w }
+{}
+
+/// A step of a ring that was done, with `Done` or with bytes, found the owner of the descriptor at the
+/// ring's head to be the device, and leaves it the driver's and done: owner 0 and status 1. The driver
+/// stands and has its loads laid. So between two steps that were done on one slot its owner was written,
+/// by a post or by another write. A driver that alone writes these two bytes, and only once it saw them
+/// so, sees each step that was done before the next one on that slot.
+pub fn ring_steps_hand_back()
+    ensures { (l : LaneState) (k : ℕ) → Stands l → AreLaid l → HandsBackIn (ring_of l k) l (ring_step k l) }
 {}
 
 /// The segments that a load of the driver's pages answers are its bytes, in order, and obey its tag,

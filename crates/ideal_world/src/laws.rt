@@ -17,8 +17,9 @@ ghost use Rattle.lane_agreement.specs.Agreement.{IsFit};
 ghost use Rattle.ideal_lane.specs.Accesses.{cpu_read, dev_read, dev_read_at, raw_bytes};
 ghost use Rattle.ideal_lane.specs.Agreement.{IsAllowed};
 ghost use Rattle.ideal_lane.specs.Reported.{gone_on};
-ghost use Rattle.ideal_lane.specs.State.{LaneState};
+ghost use Rattle.ideal_lane.specs.State.{LaneRing, LaneState};
 ghost use Rattle.ideal_lane.specs.Turns.{lane_step};
+ghost use Rattle.ideal_wire.specs.RingSteps.{HeadIsRead, NamedAreRead};
 ghost use Rattle.ideal_wire.specs.WireStep.{IsRead, load_buses, place_bytes};
 ghost use Rattle.ideal_world.specs.Answered.{AnswerLoads, AnswersLoad};
 ghost use Rattle.ideal_world.specs.Callbacks.{times_called};
@@ -152,8 +153,9 @@ pub fn wires_stay_faithful()
 {}
 
 /// In a well-formed world whose wires are faithful, what is really read is what the ideal memory has: by
-/// each driver at the bytes that it names, by its device at the bus addresses of its load, and by the
-/// device of an IOMMU tag where the bytes at its device addresses lie.
+/// each driver at the bytes that it names, by its device at the bus addresses of its load, by the device
+/// of an IOMMU tag where the bytes at its device addresses lie, and by the device of a ring at the head
+/// and where the descriptor there names bytes.
 pub fn drivers_read_faithfully()
     ensures cpu { (s : Scenario) (w : WorldState) (wires : Wires) (i : ℕ) (l : LaneState) (place : Place) (len : ℕ) →
         IsWellFormed s w → AllFaithful wires w → slice_get w.lanes i ≡ Some l →
@@ -164,4 +166,8 @@ pub fn drivers_read_faithfully()
     ensures dev_at { (s : Scenario) (w : WorldState) (wires : Wires) (i : ℕ) (l : LaneState) (t addr len : ℕ) →
         IsWellFormed s w → AllFaithful wires w → slice_get w.lanes i ≡ Some l →
         IsRead (dev_read_at t addr len l) (raw_bytes l t (run_of addr len)) (wires i) }
+    ensures head { (s : Scenario) (w : WorldState) (wires : Wires) (i : ℕ) (l : LaneState) (r : LaneRing) →
+        IsWellFormed s w → AllFaithful wires w → slice_get w.lanes i ≡ Some l → HeadIsRead r l (wires i) }
+    ensures ring { (s : Scenario) (w : WorldState) (wires : Wires) (i : ℕ) (l : LaneState) (k : ℕ) →
+        IsWellFormed s w → AllFaithful wires w → slice_get w.lanes i ≡ Some l → NamedAreRead k l (wires i) }
 {}

@@ -18,6 +18,3 @@ pub use sink::{Put, Sink, Unwritten, write_all};
 pub use source::{Got, Input, Source, read_up_to};
 pub use std_sink::StdSink;
 pub use std_source::StdSource;
-
-#[cfg(test)]
-mod tests;

@@ -6,8 +6,6 @@ mod frames;
 mod gatherer;
 mod laws;
 mod measured;
-#[cfg(test)]
-mod tests;
 
 pub use built::build_device;
 pub use frames::frames_of;

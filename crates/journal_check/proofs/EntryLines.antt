@@ -169,6 +169,9 @@ op-high op.SyncRange = refl
 op-high op.CpuRead = refl
 op-high op.CpuWrite = refl
 op-high op.Await = refl
+op-high op.Ring = refl
+op-high op.RingPost = refl
+op-high op.Kick = refl
 
 item-high : (w : ItemWord) → over 31 (item_text w) ≡ true
 item-high item.Sync = refl
@@ -177,6 +180,7 @@ item-high item.DevRead = refl
 item-high item.DevWrite = refl
 item-high item.DevReadAt = refl
 item-high item.DevWriteAt = refl
+item-high item.RingStep = refl
 
 hex-high : (n : ℕ) → over 31 (hex n) ≡ true
 hex-high n = joined 31 (codes "0x") (digits 16 false n) refl (lower 31 47 (digits 16 false n) (omega arith) (digits-high 16 false n))
@@ -292,6 +296,7 @@ answer-high (answers.InProgress have need) =
     (joined 31 (codes "/") (decimal need) refl (decimal-high need)))
 answer-high (answers.Served moved) = joined 31 (codes "ok ready ") (decimal moved) refl (decimal-high moved)
 answer-high (answers.Bytes bytes) = joined 31 (codes "bytes") (bytes_text bytes) refl (bytes-high bytes)
+answer-high answers.Idle = refl
 answer-high (answers.Refused errno) = errno-high errno
 answer-high (answers.Report r) =
     joined 31 (codes "report ") (report_name r.name ++ (codes " " ++ decimal r.at)) refl

@@ -1,10 +1,13 @@
 mod Bouncing
 mod Copying
+mod Candidates
 mod CpuWrites
 mod DeviceReads
 mod DeviceWrites
+mod HeadBytes
 mod OwnExtents
 mod OwnWrites
+mod Postings
 mod PutBack
 mod RawAccesses
 mod RawJudging
@@ -13,6 +16,9 @@ mod RawOwners
 mod RawParts
 mod RawPlaces
 mod RawRuns
+mod RingDone
+mod RingSteps
+mod RingUses
 mod Repaging
 mod Shares
 mod Syncing

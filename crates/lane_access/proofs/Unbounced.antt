@@ -1,4 +1,4 @@
--- Loads of IOMMU tags' maps, of which no byte is bounced.
+-- Loads of which no byte is bounced, as those of IOMMU tags' maps.
 use Rattle.std.proofs.Common.{◌≡◌, ℕ, ◌+◌, ◌≤◌, Bool, true, false, List, [], ◌∷◌, length, Some, None, refl, sym, ap, ◌∙◌}
 use Rattle.std.proofs.Common.{subst}
 use Rattle.std.specs.FinMap.{get}
@@ -59,35 +59,18 @@ not-behind h k o there b is plain =
     let at = image-some map_of h.maps.map k o there in
     ap (λ y. option_map_or (is_device (ideal_of h)) y false) at ∙ sym (is (map_of o) at) ∙ plain
 
-module _ (h : Holdings) (wired : IsWired h) (stands : Stands (ideal_of h)) (k : ℕ) (o : KeptMap)
-    (there : get h.maps.map k ≡ Some o) (on : has_load (Some o) ≡ true)
-    (device : is_device (ideal_of h) (map_of o) ≡ true) where
+-- a load of which no chunk is bounced
+module _ (h : Holdings) (wired : IsWired h) (k : ℕ) (o : KeptMap) (there : get h.maps.map k ≡ Some o)
+    (on : has_load (Some o) ≡ true) (none : bounced_in (stage_at (ideal_of h) k) ≡ []) where
   abbrev l : LaneState
   l = ideal_of h
 
-  abbrev x : Loading h wired k o there on
-  x = loading h wired k o there on
-
-  unbounced : bounced_in (stage_at l k) ≡ []
-  unbounced =
-      ap (λ q. bounced_in (stage_in q)) (image-some map_of h.maps.map k o there)
-      ∙ ap (λ s. bounced_in (stage_of s)) x.stage
-      ∙ no-chunk x.bounced (page_addresses x.pages.items) x.load.paged
-      (subst (λ s. IsPageless (stage_of s)) x.stage (st.pageless zone))
-    where
-      st : StandsAt l.maxmem l.tags l.mems k (map_of o)
-      st = stands.each k (map_of o) (image-some map_of h.maps.map k o there)
-
-      zone : (map_of o).zone ≡ None
-      zone = st.device (sym (ap (λ q. option_map_or (λ (t : LaneTag). t.device) q
-          false) st.there) ∙ device)
-
   -- the device reaches the bytes of a range where they are themselves
-  pub own-buses : (off len : ℕ) → load_buses l k off len ≡ load_bytes l.loans k off len
-  own-buses off len =
+  pub direct-buses : (off len : ℕ) → load_buses l k off len ≡ load_bytes l.loans k off len
+  direct-buses off len =
       same_range (λ (t : Placed). t.bus) (λ (p : Position). p.pa) off len (traces_of l k)
       (loan_of l.loans k).positions
-      (ap (λ cs. buses (placed_from cs 0 (addresses_of (loan_of l.loans k).positions))) unbounced
+      (ap (λ cs. buses (placed_from cs 0 (addresses_of (loan_of l.loans k).positions))) none
       ∙ own-placed 0 (addresses_of (loan_of l.loans k).positions))
 
   -- a write of a range that is done
@@ -96,23 +79,63 @@ module _ (h : Holdings) (wired : IsWired h) (stands : Stands (ideal_of h)) (k : 
     abbrev pas : List ℕ
     pas = load_bytes l.loans k off (length vs)
 
-    pub own-step : dev_write k off vs l ≡ gives (with_written pas vs l) answer.Done
-    own-step =
+    pub direct-step : dev_write k off vs l ≡ gives (with_written pas vs l) answer.Done
+    direct-step =
         dev_write-within l k (map_of o) (image-some map_of h.maps.map k o there) on off vs range
         ∙ passes (dev_write_answer (loan_of l.loans k) off (length vs)) l (gives (with_written pas vs l) answer.Done)
         (sym fine)
 
-    pub own-wire : wires.dev_write k off vs l (wire_of h) ≡ put pas vs (wire_of h)
-    own-wire =
-        ap (λ s. if_done s (put (load_buses l k off (length vs)) vs (wire_of h)) (wire_of h)) own-step
-        ∙ ap (λ ks. put ks vs (wire_of h)) (own-buses off (length vs))
+    pub direct-wire : wires.dev_write k off vs l (wire_of h) ≡ put pas vs (wire_of h)
+    direct-wire =
+        ap (λ s. if_done s (put (load_buses l k off (length vs)) vs (wire_of h)) (wire_of h)) direct-step
+        ∙ ap (λ ks. put ks vs (wire_of h)) (direct-buses off (length vs))
 
-    pub own-faithful : IsFaithful (with_written pas vs l) (put pas vs (wire_of h))
-    own-faithful =
-        subst (IsFaithful (with_written pas vs l)) own-wire
+    pub direct-faithful : IsFaithful (with_written pas vs l) (put pas vs (wire_of h))
+    direct-faithful =
+        subst (IsFaithful (with_written pas vs l)) direct-wire
         (subst (λ (s : Asking Outcome). IsFaithful (by_reply s Nothing).lane (wires.dev_write k off vs l (wire_of h)))
-        own-step
+        direct-step
         (dev_write-faithful l (wire_of h) wired.apart wired.laid wired.faithful k off vs Nothing))
+
+module _ (h : Holdings) (wired : IsWired h) (stands : Stands (ideal_of h)) (k : ℕ) (o : KeptMap)
+    (there : get h.maps.map k ≡ Some o) (on : has_load (Some o) ≡ true)
+    (device : is_device (ideal_of h) (map_of o) ≡ true) where
+  abbrev lane : LaneState
+  lane = ideal_of h
+
+  abbrev x : Loading h wired k o there on
+  x = loading h wired k o there on
+
+  unbounced : bounced_in (stage_at lane k) ≡ []
+  unbounced =
+      ap (λ q. bounced_in (stage_in q)) (image-some map_of h.maps.map k o there)
+      ∙ ap (λ s. bounced_in (stage_of s)) x.stage
+      ∙ no-chunk x.bounced (page_addresses x.pages.items) x.load.paged
+      (subst (λ s. IsPageless (stage_of s)) x.stage (st.pageless zone))
+    where
+      st : StandsAt lane.maxmem lane.tags lane.mems k (map_of o)
+      st = stands.each k (map_of o) (image-some map_of h.maps.map k o there)
+
+      zone : (map_of o).zone ≡ None
+      zone = st.device (sym (ap (λ q. option_map_or (λ (t : LaneTag). t.device) q
+          false) st.there) ∙ device)
+
+  pub own-buses : (off len : ℕ) → load_buses lane k off len ≡ load_bytes lane.loans k off len
+  own-buses = direct-buses h wired k o there on unbounced
+
+  module _ (off : ℕ) (vs : List ℕ) (range : off + length vs ≤ length (buffer_of h.loans k))
+      (fine : Fine ≡ dev_write_answer (loan_of h.loans.loans k) off (length vs)) where
+    abbrev bytes : List ℕ
+    bytes = load_bytes lane.loans k off (length vs)
+
+    pub own-step : dev_write k off vs lane ≡ gives (with_written bytes vs lane) answer.Done
+    own-step = direct-step h wired k o there on unbounced off vs range fine
+
+    pub own-wire : wires.dev_write k off vs lane (wire_of h) ≡ put bytes vs (wire_of h)
+    own-wire = direct-wire h wired k o there on unbounced off vs range fine
+
+    pub own-faithful : IsFaithful (with_written bytes vs lane) (put bytes vs (wire_of h))
+    own-faithful = direct-faithful h wired k o there on unbounced off vs range fine
 
 -- a map that is tested to be one of an IOMMU tag is one
 pub is-behind : (h : Holdings) (k : ℕ) (o : KeptMap) → get h.maps.map k ≡ Some o → (b : Bool) →

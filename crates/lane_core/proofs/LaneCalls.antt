@@ -11,15 +11,19 @@ use Rattle.busdma_machine.specs.Machine.Wire.{Wire}
 use Rattle.busdma_machine.specs.Runs.{run_of}
 use Rattle.loan_table.specs.Lending.{lost}
 use Rattle.loan_table.specs.Loans.{load_bytes}
+use Rattle.ring_device.specs.Descriptors.{descriptor_bytes}
 use Rattle.ideal_lane.specs.Accesses.{cpu_read, cpu_write, dev_write, dev_write_at, raw_bytes}
 use Rattle.ideal_lane.specs.Ahead.{items_ahead}
 use Rattle.ideal_lane.specs.Asking.{Asking, Gives, by_reply}
 use Rattle.ideal_lane.specs.Outcomes.{Outcome, refused}
 use Rattle.ideal_lane.specs.Places.{bytes_at}
+use Rattle.ideal_lane.specs.Rings.{posted}
 use Rattle.ideal_lane.specs.Standing.{Stands}
 use Rattle.ideal_lane.specs.State.{LaneState}
 use Rattle.ideal_lane.specs.Syncs.{sync, sync_range}
-use Rattle.ideal_lane.proofs.Effects.{DeviceWrites, Operation, RawWrites, Same, Syncs, Touches, Transfer, Work, Writes}
+use Rattle.ideal_lane.specs.Unloads.{segments_in}
+use Rattle.ideal_lane.proofs.Effects.{DeviceWrites, Fetches, Operation, Posts, RawWrites, Same, Syncs, Touches, Transfer}
+use Rattle.ideal_lane.proofs.Effects.{Work, Writes}
 use Rattle.ideal_lane.proofs.Stepping.{Only}
 use Rattle.ideal_lane.proofs.Stepping.{cpu_write-touches, transfer-touches}
 use Rattle.ideal_wire.specs.Apart.{IsApart}
@@ -56,15 +60,27 @@ record IsTouched (l n : LaneState) : Type 0 where
   rest : n ≡ record l { memory = n.memory; loans = n.loans; shares = n.shares }
   own : (a : ℕ) → is_some (n.memory a) ≡ is_some (l.memory a)
 
-is-touched : {l : LaneState} {d : Work} {x : Outcome} → Touches l d x → IsTouched l x.lane
-is-touched (Same a q u) = record { rest = refl; own = λ a. refl }
-is-touched {l} (Syncs m off len ops is o there i alone fine) =
+-- a call is no step of a ring's device
+abbrev IsCall : Work → Type 0
+IsCall (Transfer (item.RingStep k)) = ⊥
+IsCall _ = Unit {0}
+
+is-touched : {l : LaneState} {d : Work} {x : Outcome} → IsCall d → Touches l d x → IsTouched l x.lane
+is-touched call (Same a q u) = record { rest = refl; own = λ a. refl }
+is-touched call (Fetches k f) = absurd call
+is-touched {l} call (Posts k slot m off len kind fill r ring o there i may va at reaches fine) =
+    record {
+      rest = refl;
+      own = own-written (bytes_at l (run_of va 16)) (descriptor_bytes (posted (segments_in o.stage) off len kind fill))
+          l.memory;
+    }
+is-touched {l} call (Syncs m off len ops is o there i alone fine) =
     record { rest = refl; own = own-forgotten (lost l.loans m off len ops) l.memory }
-is-touched {l} (Writes place bs va at reaches fine) =
+is-touched {l} call (Writes place bs va at reaches fine) =
     record { rest = refl; own = own-written (bytes_at l (run_of va (length (bytes_of bs)))) (bytes_of bs) l.memory }
-is-touched {l} (RawWrites t addr bs g there fine) =
+is-touched {l} call (RawWrites t addr bs g there fine) =
     record { rest = refl; own = own-written (raw_bytes l t (run_of addr (length (bytes_of bs)))) (bytes_of bs) l.memory }
-is-touched {l} (DeviceWrites m off bs o there i fine) =
+is-touched {l} call (DeviceWrites m off bs o there i fine) =
     record { rest = refl; own = own-written (load_bytes l.loans m off (length (bytes_of bs))) (bytes_of bs) l.memory }
 
 -- ---- the driver after a call
@@ -80,13 +96,13 @@ module _ (h k : Holdings) (wired : IsWired h) (stands : Stands (ideal_of h)) (x 
   abbrev l : LaneState
   l = ideal_of h
 
-  module _ (d : Work) (o : Asking Outcome) (done : Gives (given k x) ≡ o) (touches : Only l d o)
+  module _ (d : Work) (call : IsCall d) (o : Asking Outcome) (done : Gives (given k x) ≡ o) (touches : Only l d o)
       (faithful : (r : HubReply) → IsFaithful (by_reply o r).lane (wire_of k)) where
     made : Touches l d (given k x)
     made = subst (Only l d) (sym done) touches
 
     touched : IsTouched l (ideal_of k)
-    touched = is-touched made
+    touched = is-touched call made
 
     back : record l { memory = (ideal_of k).memory; loans = (ideal_of k).loans; shares = (ideal_of k).shares } ≡
         ideal_of k
@@ -136,14 +152,14 @@ module _ (h k : Holdings) (wired : IsWired h) (stands : Stands (ideal_of h)) (x 
   pub synced : (m ops : ℕ) → Gives (given k x) ≡ sync m ops l → wire_of k ≡ wires.sync m ops l (wire_of h) →
       IsCalledOn h k
   synced m ops done wire =
-      called-on (Transfer (item.Sync m ops)) (sync m ops l) done (transfer-touches l (item.Sync m ops))
+      called-on (Transfer (item.Sync m ops)) tt (sync m ops l) done (transfer-touches l (item.Sync m ops))
       (λ r. subst (IsFaithful (by_reply (sync m ops l) r).lane) (sym wire)
       (sync-faithful l (wire_of h) wired.apart wired.laid wired.faithful m ops r))
 
   pub synced_range : (m off len ops : ℕ) → Gives (given k x) ≡ sync_range m off len ops l →
       wire_of k ≡ wires.sync_range m off len ops l (wire_of h) → IsCalledOn h k
   synced_range m off len ops done wire =
-      called-on (Transfer (item.SyncRange m off len ops)) (sync_range m off len ops l) done
+      called-on (Transfer (item.SyncRange m off len ops)) tt (sync_range m off len ops l) done
       (transfer-touches l (item.SyncRange m off len ops))
       (λ r. subst (IsFaithful (by_reply (sync_range m off len ops l) r).lane) (sym wire)
       (sync_range-faithful l (wire_of h) wired.apart wired.laid wired.faithful m off len ops r))
@@ -151,7 +167,7 @@ module _ (h k : Holdings) (wired : IsWired h) (stands : Stands (ideal_of h)) (x 
   pub cpu_written : (place : Place) (vs : List ℕ) → Gives (given k x) ≡ cpu_write place vs l →
       wire_of k ≡ wires.cpu_write place vs l (wire_of h) → IsCalledOn h k
   cpu_written place vs done wire =
-      called-on (Operation (op.CpuWrite place (bytes.Listed vs))) (cpu_write place vs l) done
+      called-on (Operation (op.CpuWrite place (bytes.Listed vs))) tt (cpu_write place vs l) done
       (cpu_write-touches l place (bytes.Listed vs))
       (λ r. subst (IsFaithful (by_reply (cpu_write place vs l) r).lane) (sym wire)
       (cpu_write-faithful l (wire_of h) wired.apart wired.laid wired.faithful place vs r))
@@ -159,7 +175,7 @@ module _ (h k : Holdings) (wired : IsWired h) (stands : Stands (ideal_of h)) (x 
   pub dev_written : (m off : ℕ) (vs : List ℕ) → Gives (given k x) ≡ dev_write m off vs l →
       wire_of k ≡ wires.dev_write m off vs l (wire_of h) → IsCalledOn h k
   dev_written m off vs done wire =
-      called-on (Transfer (item.DevWrite m off (bytes.Listed vs))) (dev_write m off vs l) done
+      called-on (Transfer (item.DevWrite m off (bytes.Listed vs))) tt (dev_write m off vs l) done
       (transfer-touches l (item.DevWrite m off (bytes.Listed vs)))
       (λ r. subst (IsFaithful (by_reply (dev_write m off vs l) r).lane) (sym wire)
       (dev_write-faithful l (wire_of h) wired.apart wired.laid wired.faithful m off vs r))
@@ -167,7 +183,7 @@ module _ (h k : Holdings) (wired : IsWired h) (stands : Stands (ideal_of h)) (x 
   pub dev_written_at : (t addr : ℕ) (vs : List ℕ) → Gives (given k x) ≡ dev_write_at t addr vs l →
       wire_of k ≡ wires.dev_write_at t addr vs l (wire_of h) → IsCalledOn h k
   dev_written_at t addr vs done wire =
-      called-on (Transfer (item.DevWriteAt t addr (bytes.Listed vs))) (dev_write_at t addr vs l) done
+      called-on (Transfer (item.DevWriteAt t addr (bytes.Listed vs))) tt (dev_write_at t addr vs l) done
       (transfer-touches l (item.DevWriteAt t addr (bytes.Listed vs)))
       (λ r. ∥∥₁_elim wired.mapped (IsFaithful-prop (by_reply (dev_write_at t addr vs l) r).lane (wire_of k))
       (λ mapped. subst (IsFaithful (by_reply (dev_write_at t addr vs l) r).lane) (sym wire)

@@ -27,7 +27,7 @@ use Rattle.ideal_lane.specs.Turns.{operation, transfer}
 use Rattle.ideal_lane.proofs.Effects.{Work, Operation, Transfer, Callback, Touches, Same, Syncs, Writes, DeviceWrites}
 use Rattle.ideal_lane.proofs.Effects.{Makes, Touched, Vain, Awaits, Tags, Attaches, Untags, Maps, Creates, Unmaps}
 use Rattle.ideal_lane.proofs.Effects.{Places, Frees, Refuses, Waits, Loads, Overflows, Unloads, Begins, Ends}
-use Rattle.ideal_lane.proofs.Effects.{AtOnce, Granted, Called, Device, RawWrites, Spaces}
+use Rattle.ideal_lane.proofs.Effects.{AtOnce, Granted, Called, Device, Fetches, Kicks, Posts, RawWrites, Rings, Spaces}
 use Rattle.ideal_lane.proofs.Lookups.{get_cut, get_put, put_same}
 use Rattle.ideal_lane.proofs.Stepping.{Made, Only, operation-makes, transfer-touches}
 use Rattle.ideal_lane.proofs.Weights.{weigh, weigh-new}
@@ -143,6 +143,8 @@ touched-maps (Syncs m off len ops is o there i alone fine) = refl
 touched-maps (Writes place bs va at reaches fine) = refl
 touched-maps (DeviceWrites m off bs o there i fine) = refl
 touched-maps (RawWrites t addr bs g there fine) = refl
+touched-maps (Posts k slot m off len kind fill r ring o there i may va at reaches fine) = refl
+touched-maps (Fetches k f) = refl
 
 module _ (l : LaneState) (stands : Stands l) where
   fresh : get l.maps l.place ≡ None
@@ -162,6 +164,8 @@ module _ (l : LaneState) (stands : Stands l) where
   still-due (Touched t) still = ap (weigh map_due) (touched-maps t)
   still-due (Vain v a u) still = refl
   still-due (Awaits m) still = refl
+  still-due (Rings name mem slots x e fits) still = refl
+  still-due (Kicks k steps q e) still = refl
   still-due (Tags name parent limits t new) still = refl
   still-due (Attaches name parent limits t new b g made) still = refl
   still-due (Spaces name limits t new) still = refl

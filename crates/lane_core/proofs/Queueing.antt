@@ -4,6 +4,7 @@ use Rattle.std.proofs.Common.{None, Some, cond, length, map, refl, sym, ap, ◌�
 use Rattle.std.proofs.Common.{slice_get, unwrap_or}
 use mathlib.Core.Logic.{∥∥₁_map}
 use Rattle.busdma_base.specs.declared.journals.answer.Answer.{Answer}
+use Rattle.busdma_base.specs.declared.journals.answer.Answer.TheVariants as answer
 use Rattle.busdma_base.specs.declared.journals.journal.Did.TheVariants as did
 use Rattle.busdma_base.specs.declared.journals.journal.Side.TheVariants as side
 use Rattle.busdma_machine.specs.declared.report.Judged.{Judged}
@@ -14,7 +15,7 @@ use Rattle.busdma_machine.specs.Judging.{judged}
 use Rattle.busdma_machine.specs.Runs.{run_of}
 use Rattle.busdma_base.specs.declared.scenarios.script.Item.{Item}
 use Rattle.busdma_base.specs.declared.scenarios.script.Item.TheVariants as item
-use Rattle.busdma_machine.specs.Machine.Wire.{Wire, with_bytes_of}
+use Rattle.busdma_machine.specs.Machine.Wire.{Wire, put, with_bytes_of}
 use Rattle.busdma_base.specs.Scenarios.Operations.{bytes_of}
 use Rattle.dma_tag.specs.SyncOps.{is_mixed}
 use Rattle.lane_tables.specs.declared.queued.QueuedItem.{QueuedItem}
@@ -23,16 +24,21 @@ use Rattle.iommu_map.specs.Space.{translated}
 use Rattle.loan_table.specs.declared.position.Position.{Position}
 use Rattle.loan_table.specs.Access.{dev_read_answer, dev_read_refusal, dev_write_answer, dev_write_refusal}
 use Rattle.loan_table.specs.Lending.{sync_answer}
-use Rattle.loan_table.specs.Loans.{loan_of}
+use Rattle.loan_table.specs.Loans.{load_bytes, loan_of}
+use Rattle.ring_device.specs.declared.descriptor.Descriptor.{Descriptor}
+use Rattle.ring_device.specs.Ranges.{place_of}
 use Rattle.std.specs.FinMap.{entries, get}
-use Rattle.std.specs.Prelude.{nat_le}
-use Rattle.ideal_lane.specs.Accesses.{place_in, position_in, raw_refusal, unless_unlent}
+use Rattle.std.specs.Prelude.{nat_le, replicate}
+use Rattle.ideal_lane.specs.Accesses.{place_in, position_in, raw_refusal, unless_unlent, values}
 use Rattle.ideal_lane.specs.Asking.{Asking, Gives, goes_on}
 use Rattle.ideal_lane.specs.IdealMemory.{is_known}
-use Rattle.ideal_lane.specs.Outcomes.{Outcome, is_loaded, load_length, unless_absent, unless_past, unless_refused}
+use Rattle.ideal_lane.specs.Outcomes.{Outcome, gives, is_loaded, load_length, unless_absent, unless_past, unless_refused}
 use Rattle.ideal_lane.specs.Outcomes.{unless_unloaded}
+use Rattle.ideal_lane.specs.Rings as rings
+use Rattle.ideal_lane.specs.Rings.{Candidate, allowed, at_first, before_others, candidates, candidates_in, fetch, head_at}
+use Rattle.ideal_lane.specs.Rings.{head_of, is_left_out, is_work, moved_on, retired, stored, used_candidate}
 use Rattle.ideal_lane.specs.Standing.{Stands}
-use Rattle.ideal_lane.specs.State.{LaneMap, LaneState}
+use Rattle.ideal_lane.specs.State.{LaneMap, LaneRing, LaneState}
 use Rattle.ideal_lane.specs.Syncs.{sync_part}
 use Rattle.ideal_lane.specs.Turns.{lane_step, left_queue, transfer, transfer_turn}
 use Rattle.ideal_lane.specs.Unloads.{segments_in}
@@ -44,7 +50,7 @@ use Rattle.ideal_wire.specs.Machine.{IsInMachine}
 use Rattle.ideal_wire.specs.Mapped.{AreMapped}
 use Rattle.ideal_wire.specs.Spaced.{AreSpaced}
 use Rattle.ideal_wire.specs.WireStep as wires
-use Rattle.ideal_wire.specs.WireStep.{if_done}
+use Rattle.ideal_wire.specs.WireStep.{fetched_wire, if_done, if_step_done, load_buses, used_wire}
 use Rattle.phys_memory.specs.Memory.{wire}
 use Rattle.lane_state.specs.declared.holdings.Holdings.{Holdings}
 use Rattle.lane_core.specs.declared.turn.Turn.{Turn}
@@ -52,7 +58,7 @@ use Rattle.lane_core.specs.declared.turn.Turn.TheVariants.{Stepped}
 use Rattle.lane_state.specs.Changes.{KeepsAgenda, KeepsBytes, KeepsButAgenda, KeepsState}
 use Rattle.lane_state.specs.Held.{devices_of, held}
 use Rattle.lane_state.specs.Ideal.{given, ideal_of}
-use Rattle.lane_state.specs.Kept.{map_of, memory_of, return_of, share_of, spaces_of, tag_of}
+use Rattle.lane_state.specs.Kept.{map_of, memory_of, return_of, ring_of, share_of, spaces_of, tag_of}
 use Rattle.lane_state.specs.MapValues.{map_values}
 use Rattle.lane_core.specs.Turning.{turned}
 use Rattle.lane_state.specs.Wire.{IsWired, held_pages, wire_of}
@@ -64,10 +70,11 @@ module _ (l : LaneState) (q : QueuedItem) (rest : List QueuedItem) where
   abbrev pub beside : LaneState
   beside = record l { queue = rest }
 
-  -- two steps leave the same once the item has left the queue, and the same wire
+  -- two steps leave the same once the item has left the queue, and the same wire, also where they are those of a ring
   record IsAlike (x y : Asking Outcome) : Type 0 where
     pub step : goes_on (left_queue q rest) x ≡ goes_on (left_queue q rest) y
     pub wire : (after w : Wire) → if_done x after w ≡ if_done y after w
+    pub fetched : (after w : Wire) → if_step_done x after w ≡ if_step_done y after w
 
   by-test : (b : Bool) (x x' y y' : Asking Outcome) → IsAlike x x' → IsAlike y y' → IsAlike (cond b x y) (cond b x' y')
   by-test true x x' y y' first second = first
@@ -76,11 +83,11 @@ module _ (l : LaneState) (q : QueuedItem) (rest : List QueuedItem) where
   by-judged : (j : Judged) (x y : Asking Outcome) → IsAlike x y →
       IsAlike (unless_refused j beside x) (unless_refused j l y)
   by-judged Fine x y alike = alike
-  by-judged (Refused r) x y alike = record { step = refl; wire = λ after w. refl }
+  by-judged (Refused r) x y alike = record { step = refl; wire = λ after w. refl; fetched = λ after w. refl }
 
   by-found : {X : Type 0} (o : Option X) (x y : X → Asking Outcome) → ((m : X) → IsAlike (x m) (y m)) →
       IsAlike (unless_absent o beside x) (unless_absent o l y)
-  by-found None x y alike = record { step = refl; wire = λ after w. refl }
+  by-found None x y alike = record { step = refl; wire = λ after w. refl; fetched = λ after w. refl }
   by-found (Some m) x y alike = alike m
 
   -- the position of a device address is that beside its own queue
@@ -112,18 +119,57 @@ module _ (l : LaneState) (q : QueuedItem) (rest : List QueuedItem) where
       IsAlike (unless_unloaded m beside x) (unless_unloaded m l y)
   by-loaded m x y alike =
       by-found (get l.maps m) _ _ (λ o. by-test (is_loaded o.stage) _ _ _ _ (alike o)
-      (record { step = refl; wire = λ after w. refl }))
+      (record { step = refl; wire = λ after w. refl; fetched = λ after w. refl }))
 
   by-range : (m off len : ℕ) (x y : Asking Outcome) → IsAlike x y →
       IsAlike (unless_past m off len beside x) (unless_past m off len l y)
   by-range m off len x y alike =
-      by-test (nat_le (off + len) (load_length l m)) _ _ _ _ alike (record { step = refl; wire = λ after w. refl })
+      by-test (nat_le (off + len) (load_length l m)) _ _ _ _ alike (record { step = refl; wire = λ after w. refl; fetched = λ after w. refl })
 
   part-alike : (m : ℕ) (o : LaneMap) (off len ops : ℕ) →
       IsAlike (sync_part m o off len ops beside) (sync_part m o off len ops l)
   part-alike m o off len ops =
-      by-test (is_mixed ops) _ _ _ _ (record { step = refl; wire = λ after w. refl })
-      (by-judged (sync_answer l.loans m off len ops) _ _ (record { step = refl; wire = λ after w. refl }))
+      by-test (is_mixed ops) _ _ _ _ (record { step = refl; wire = λ after w. refl; fetched = λ after w. refl })
+      (by-judged (sync_answer l.loans m off len ops) _ _ (record { step = refl; wire = λ after w. refl; fetched = λ after w. refl }))
+
+  -- the candidates for a descriptor are those beside its own queue
+  candidates-beside : (d : Descriptor) (own : ℕ) (es : List (ℕ × LaneMap)) →
+      candidates_in d own beside es ≡ candidates_in d own l es
+  candidates-beside d own [] = refl
+  candidates-beside d own (e ∷ es) =
+      ap (λ cs. if is_left_out own l e then cs
+      else before_others e.0 (place_of d.addr d.len (segments_in e.1.stage)) cs) (candidates-beside d own es)
+
+  used-beside : (r : LaneRing) → used_candidate r beside ≡ used_candidate r l
+  used-beside r =
+      ap (λ cs. unwrap_or (slice_get (allowed (head_of r l) l cs) 0) (record { map = 0; off = 0 }))
+      (candidates-beside (head_of r l) r.mem (entries l.maps))
+
+  done-alike : (k : ℕ) (r : LaneRing) (d : Descriptor) (c : Candidate) (b : Bool) →
+      IsAlike
+      (gives (moved_on k r (retired r (if b then beside else stored c.map c.off d.len (replicate d.len d.fill) beside)))
+      (if b then answer.Bytes (values beside (load_bytes l.loans c.map c.off d.len)) else answer.Done))
+      (gives (moved_on k r (retired r (if b then l else stored c.map c.off d.len (replicate d.len d.fill) l)))
+      (if b then answer.Bytes (values l (load_bytes l.loans c.map c.off d.len)) else answer.Done))
+  done-alike k r d c true = record { step = refl; wire = λ after w. refl; fetched = λ after w. refl }
+  done-alike k r d c false = record { step = refl; wire = λ after w. refl; fetched = λ after w. refl }
+
+  first-alike : (k : ℕ) (r : LaneRing) (d : Descriptor) (cs : List Candidate) (o : Option Candidate) →
+      IsAlike (at_first k r d cs o beside) (at_first k r d cs o l)
+  first-alike k r d cs None = record { step = refl; wire = λ after w. refl; fetched = λ after w. refl }
+  first-alike k r d cs (Some c) = done-alike k r d c (d.kind == 1)
+
+  fetch-alike : (k : ℕ) (r : LaneRing) → IsAlike (fetch k r (head_of r l) beside) (fetch k r (head_of r l) l)
+  fetch-alike k r =
+      let d : Descriptor = head_of r l in
+      let found : List Candidate → Option Candidate = λ cs. slice_get (allowed d l cs) 0 in
+      by-test (not (d.owner == 1)) _ _ _ _ (record { step = refl; wire = λ after w. refl; fetched = λ after w. refl })
+      (by-test (not (is_work d.kind d.len)) _ _ _ _
+      (record { step = refl; wire = λ after w. refl; fetched = λ after w. refl })
+      (subst (λ cs. IsAlike (at_first k r d cs (found cs) beside)
+      (at_first k r d (candidates r l) (found (candidates r l)) l))
+      (sym (candidates-beside d r.mem (entries l.maps)))
+      (first-alike k r d (candidates r l) (found (candidates r l)))))
 
   item-alike : (i : Item) → IsAlike (transfer i beside) (transfer i l)
   item-alike (item.Sync m ops) = by-loaded m _ _ (λ o. part-alike m o 0 (load_length l m) ops)
@@ -132,17 +178,21 @@ module _ (l : LaneState) (q : QueuedItem) (rest : List QueuedItem) where
   item-alike (item.DevRead m off len) =
       by-loaded m _ _ (λ o. by-range m off len _ _
       (by-judged (dev_read_answer (is_known l.memory) (loan_of l.loans m) off len) _ _
-      (record { step = refl; wire = λ after w. refl })))
+      (record { step = refl; wire = λ after w. refl; fetched = λ after w. refl })))
   item-alike (item.DevWrite m off bytes) =
       by-loaded m _ _ (λ o. by-range m off (length (bytes_of bytes)) _ _
       (by-judged (dev_write_answer (loan_of l.loans m) off (length (bytes_of bytes))) _ _
-      (record { step = refl; wire = λ after w. refl })))
+      (record { step = refl; wire = λ after w. refl; fetched = λ after w. refl })))
   item-alike (item.DevReadAt t addr len) =
       by-found (get l.tags t) _ _ (λ o. by-raw DeviceReadUnlent (dev_read_refusal (is_known l.memory) false) t addr len _ _
-      (record { step = refl; wire = λ after w. refl }))
+      (record { step = refl; wire = λ after w. refl; fetched = λ after w. refl }))
   item-alike (item.DevWriteAt t addr bytes) =
       by-found (get l.tags t) _ _ (λ o. by-raw DeviceWriteUnlent (dev_write_refusal false) t addr
-      (length (bytes_of bytes)) _ _ (record { step = refl; wire = λ after w. refl }))
+      (length (bytes_of bytes)) _ _ (record { step = refl; wire = λ after w. refl; fetched = λ after w. refl }))
+  item-alike (item.RingStep k) =
+      by-found (get l.rings k) _ _ (λ r.
+      by-loaded r.mem _ _ (λ o. by-range r.mem (head_at r) 16 _ _
+      (by-judged (dev_read_answer (is_known l.memory) (loan_of l.loans r.mem) (head_at r) 16) _ _ (fetch-alike k r))))
 
   -- the step and the wire of an item are those beside its own queue
   pub item-beside : (i : Item) →
@@ -156,6 +206,11 @@ module _ (l : LaneState) (q : QueuedItem) (rest : List QueuedItem) where
   wire-beside (item.DevWrite m off bytes) w = (item-alike (item.DevWrite m off bytes)).wire _ w
   wire-beside (item.DevReadAt t addr len) w = refl
   wire-beside (item.DevWriteAt t addr bytes) w = (item-alike (item.DevWriteAt t addr bytes)).wire _ w
+  wire-beside (item.RingStep k) w =
+      let r : LaneRing = rings.ring_of l k in
+      ap (λ c. if_step_done (rings.ring_step k beside)
+      (put (load_buses l r.mem (head_at r + 14) 2) (0 ∷ 1 ∷ []) (used_wire (head_of r l) c l w)) w) (used-beside r)
+      ∙ (item-alike (item.RingStep k)).fetched (fetched_wire r l w) w
 
 -- ---- holdings with another queue
 
@@ -171,6 +226,7 @@ module _ (h k : Holdings) (rest : KeepsButAgenda h k)
     tags = map_values tag_of (rest.tags i).map;
     maps = map_values map_of (rest.maps i).map;
     mems = map_values memory_of (rest.most.memories i).map;
+    rings = map_values ring_of (rest.most.rings i).map;
     memory = held (rest.most.loans i).bytes (rest.most.loans i).loans (devices_of (rest.maps i).map)
         (rest.most.memory i).memory;
     loans = (rest.most.loans i).loans;

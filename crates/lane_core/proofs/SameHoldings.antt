@@ -28,6 +28,7 @@ same-all h k s agenda = λ i. record {
   tags = s.tags i;
   maps = s.maps i;
   memories = s.most.memories i;
+  rings = s.most.rings i;
   loans = s.most.loans i;
   agenda = agenda i;
   shares = s.most.shares i;
@@ -50,6 +51,8 @@ same-all h k s agenda = λ i. record {
       h.map_places i;
   memory_places = is_prop→PathP (λ j. (s.most.memories j).places ≡ (agenda j).length) (λ j. hlevel (props))
       k.memory_places h.memory_places i;
+  ring_places = is_prop→PathP (λ j. (s.most.rings j).places ≡ (agenda j).length) (λ j. hlevel (props)) k.ring_places
+      h.ring_places i;
   loaded = is_prop→PathP (λ j. AreLoaded (s.maps j).map (s.most.loans j).loans) (λ j. hlevel (props)) k.loaded
       h.loaded i;
   unlent = is_prop→PathP (λ j. (m : ℕ) → lends_pages (get (s.maps j).map m) ≡ false) (λ j. hlevel (props)) k.unlent

@@ -25,7 +25,7 @@ use Rattle.lane_state.specs.Changes.{IsWireOf, Becomes, Stays, WithMemory, Keeps
 use Rattle.lane_state.specs.Doing.{IsAllowedBy, IsDone, asks}
 use Rattle.lane_state.specs.Held.{devices_of, held}
 use Rattle.lane_state.specs.Ideal.{given, ideal_of}
-use Rattle.lane_state.specs.Kept.{map_of, memory_of, return_of, share_of, spaces_of, tag_of}
+use Rattle.lane_state.specs.Kept.{map_of, memory_of, return_of, ring_of, share_of, spaces_of, tag_of}
 use Rattle.lane_state.specs.MapValues.{map_values}
 use Rattle.lane_state.specs.Served.{IsServed}
 use Rattle.lane_core.specs.Turning.{IsTurnOf, IsTurned, answered, is_held, turned}
@@ -128,6 +128,7 @@ module _ (h : Holdings) (empty : h.agenda.returns ≡ []) where
               tags = map_values tag_of (rest.tags i).map;
               maps = map_values map_of (rest.maps i).map;
               mems = map_values memory_of (rest.most.memories i).map;
+              rings = map_values ring_of (rest.most.rings i).map;
               memory = held (rest.most.loans i).bytes (rest.most.loans i).loans (devices_of (rest.maps i).map)
                   (rest.most.memory i).memory;
               loans = (rest.most.loans i).loans;

@@ -54,6 +54,7 @@ impl<'s> Lane<'s> {
                 tags: PlaceTable::new(alloc, places)?,
                 maps: PlaceTable::new(alloc, places)?,
                 memories: PlaceTable::new(alloc, places)?,
+                rings: PlaceTable::new(alloc, places)?,
                 loans: opening_loans(alloc, pages)?,
                 agenda: Agenda::new(alloc, driver)?,
                 shares: Vec::new(alloc),

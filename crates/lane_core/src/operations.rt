@@ -17,11 +17,11 @@ ghost use Rattle.ideal_lane.specs.Ahead.{items_ahead};
 
 use busdma_base::{Buffer, HubDoor, ItemList, Op, ReportName};
 use dma_tag::SyncOps;
-use lane_access::{cpu_read, cpu_write, sync, sync_range};
+use lane_access::{Posting, cpu_read, cpu_write, kick, post, sync, sync_range};
 use lane_loads::{load, unload};
 use lane_objects::{
     await_map, destroy_map, destroy_tag, end_memory, make_iommu_tag, make_map, make_memory,
-    make_tag,
+    make_ring, make_tag,
 };
 use lane_state::{Answered, Holdings, never_waits, report, unheld};
 use std::alloc::{AllocError, Global};
@@ -80,6 +80,27 @@ pub(crate) fn operation<'s, D: HubDoor>(
             Ok(unheld(cpu_write(holdings, alloc, *place, &bytes)?))
         }
         Op::Await { map } => Ok(unheld(await_map(holdings, *map))),
+        Op::Ring { mem, slots, .. } => Ok(unheld(make_ring(holdings, alloc, *mem, *slots)?)),
+        Op::RingPost {
+            ring,
+            slot,
+            map,
+            off,
+            len,
+            kind,
+            fill,
+        } => {
+            let posting = Posting {
+                slot: *slot,
+                map: *map,
+                off: *off,
+                len: *len,
+                kind: *kind,
+                fill: *fill,
+            };
+            Ok(unheld(post(holdings, alloc, *ring, posting)?))
+        }
+        Op::Kick { ring, steps } => Ok(unheld(kick(holdings, *ring, steps)?)),
     }
 }
 

@@ -15,7 +15,7 @@ ghost use Rattle.lane_state.specs.Ideal.{given, ideal_of};
 use busdma_base::{Answer, Bytes, Item, Op};
 use dma_map::MapState;
 use dma_tag::SyncOps;
-use lane_access::{dev_read, dev_read_at, dev_write, dev_write_at, sync, sync_range};
+use lane_access::{dev_read, dev_read_at, dev_write, dev_write_at, ring_step, sync, sync_range};
 use lane_state::Holdings;
 use lane_tables::QueuedItem;
 use std::alloc::{AllocError, Global};
@@ -46,6 +46,7 @@ pub(crate) fn transfer(
         Item::DevWrite { map, off, bytes } => write_item(holdings, alloc, *map, *off, bytes),
         Item::DevReadAt { tag, addr, len } => dev_read_at(holdings, alloc, *tag, *addr, *len),
         Item::DevWriteAt { tag, addr, bytes } => write_item_at(holdings, alloc, *tag, *addr, bytes),
+        Item::RingStep { ring } => ring_step(holdings, alloc, *ring),
     }
 }
 
@@ -123,7 +124,10 @@ pub(crate) fn waits(holdings: &Holdings<'_>, op: &Op) -> bool
         | Op::Sync { .. }
         | Op::SyncRange { .. }
         | Op::CpuRead { .. }
-        | Op::CpuWrite { .. } => false,
+        | Op::CpuWrite { .. }
+        | Op::Ring { .. }
+        | Op::RingPost { .. }
+        | Op::Kick { .. } => false,
     }
 }
 

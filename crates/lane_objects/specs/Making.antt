@@ -23,6 +23,7 @@ pub record KeepsButRoom (h k : Holdings) : Type 0 where
   pub tags : k.tags ≡ h.tags
   pub maps : k.maps.map ≡ h.maps.map
   pub memories : k.memories.map ≡ h.memories.map
+  pub rings : k.rings ≡ h.rings
   pub loans : IsSame h.loans k.loans
   pub agenda : k.agenda ≡ h.agenda
   pub shares : k.shares ≡ h.shares

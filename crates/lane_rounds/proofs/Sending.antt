@@ -6,6 +6,9 @@ use denote.Param.SendFields.{declared_send}
 use Rattle.std.proofs.Crossing.{crosses}
 use Rattle.std.proofs.MapsCrossing.{BTreeMap-send, HashMap-send}
 use Rattle.busdma_machine.specs.contracts.machine.page.Page as Page
+use Rattle.busdma_machine.specs.contracts.tags.tag.TagLimits as Limits
+use Rattle.busdma_base.specs.contracts.scenarios.buffer.Buffer as Buffer
+use Rattle.busdma_base.specs.contracts.scenarios.script.Item as Item
 use Rattle.busdma_base.specs.contracts.scenarios.script.Op as Op
 use Rattle.dma_map.specs.contracts.map.DmaMap as Map
 use Rattle.dma_map.specs.declared.callback.Callback as Callback
@@ -24,8 +27,17 @@ use Rattle.lane_rounds.specs.contracts.worker.Worker as Worker
 step_send : IsSend Step.the_row
 step_send = search (sendable, crosses) depth 60 fits 20000
 
+item_sync : IsSync Item.the_row
+item_sync = search (sendable, crosses) depth 60 fits 40000
+
+buffer_sync : IsSync Buffer.the_row
+buffer_sync = search (sendable, crosses) depth 60 fits 40000
+
+limits_sync : IsSync Limits.the_row
+limits_sync = search (sendable, crosses) depth 60 fits 40000
+
 op_sync : IsSync Op.the_row
-op_sync = search (sendable, crosses) depth 60 fits 40000
+op_sync = search (item_sync, buffer_sync, limits_sync, sendable, crosses) depth 60 fits 40000
 
 page_send : IsSend Page.the_row
 page_send = search (sendable, crosses) depth 60 fits 20000

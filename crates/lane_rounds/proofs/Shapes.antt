@@ -1,5 +1,5 @@
 -- What a turn is: it steps or leaves its driver as it was, and only the turn of the callbacks asks for a callback.
-use Rattle.std.proofs.Common.{◌≡◌, ℕ, ◌+◌, ◌-◌, ◌==◌, ◌&&◌, Bool, true, false, List, [], ◌∷◌, length, nat_le, nat_lt}
+use Rattle.std.proofs.Common.{◌≡◌, ℕ, ◌+◌, ◌-◌, ◌==◌, ◌&&◌, not, Bool, true, false, List, [], ◌∷◌, length, nat_le, nat_lt}
 use Rattle.std.proofs.Common.{Option, Some, None, if◌then◌else◌, inl, inr, ◌⊎◌, refl, slice_get}
 use Rattle.std.specs.FinMap.{get, contains_key}
 use Rattle.busdma_machine.specs.declared.bounce.hold.HubCall.{HubCall}
@@ -36,7 +36,9 @@ use Rattle.loan_table.specs.Access.{dev_write_answer, dev_write_refusal}
 use Rattle.loan_table.specs.Lending.{lost, sync_answer, synced}
 use Rattle.loan_table.specs.Loans.{load_bytes, loan_of}
 use Rattle.segment_build.specs.Chunks.{need_of}
-use Rattle.ideal_lane.specs.State.{LaneState, LaneMap, LaneTag}
+use Rattle.ring_device.specs.declared.descriptor.Descriptor.{Descriptor}
+use Rattle.ring_device.specs.Descriptors.{descriptor_bytes}
+use Rattle.ideal_lane.specs.State.{LaneState, LaneMap, LaneMemory, LaneRing, LaneTag}
 use Rattle.ideal_lane.specs.Accesses.{cpu_read, cpu_write, dev_read, dev_read_at, dev_write, dev_write_at, values}
 use Rattle.ideal_lane.specs.Accesses.{raw_bytes, raw_refusal}
 use Rattle.ideal_lane.specs.Asking.{Asking, Gives, Asks, goes_on}
@@ -48,10 +50,13 @@ use Rattle.ideal_lane.specs.Outcomes.{Outcome, gives, refused, unless_absent, un
 use Rattle.ideal_lane.specs.Outcomes.{unless_unloaded}
 use Rattle.ideal_lane.specs.Outcomes.{unless_past, is_idle, is_loaded, load_length}
 use Rattle.ideal_lane.specs.Places.{bytes_at, reached, virtual_at}
+use Rattle.ideal_lane.specs.Rings.{Candidate, allowed, at_first, candidates, fits_in, head_at, head_of, is_work, kick}
+use Rattle.ideal_lane.specs.Rings.{may_post, posted, ring, ring_post, ring_step, slot_place}
 use Rattle.ideal_lane.specs.Syncs.{copies, counted, sync_part, sync, sync_range}
 use Rattle.ideal_lane.specs.Tags.{device_tag, tag_or_invalid, tag, tag_destroy, has_maps}
 use Rattle.ideal_lane.specs.Turns.{Turn, Turned, Stepped, Blocked, Ended, stays, bio_at, load_buffer, never_waits}
 use Rattle.ideal_lane.specs.Turns.{operation, transfer}
+use Rattle.ideal_lane.specs.Unloads.{segments_in}
 use Rattle.ideal_lane.specs.Turns.{waits, advanced, left_queue, next_operation, script_turn, transfer_turn}
 use Rattle.ideal_lane.specs.Turns.{called_back, lane_step}
 
@@ -231,6 +236,36 @@ module _ (l : LaneState) where
       (gives (record l { memory = written (raw_bytes l t (run_of addr (length vs))) vs l.memory }) answer.Done)
       (record { is = refl }))
 
+  ring-free : (mem slots : ℕ) → IsFree (ring mem slots l)
+  ring-free mem slots =
+      absent (get l.mems mem) _ (λ (x : LaneMemory). either (fits_in slots x) _ _ (record { is = refl })
+      (record { is = refl }))
+
+  ring_post-free : (k slot m off len kind fill : ℕ) → IsFree (ring_post k slot m off len kind fill l)
+  ring_post-free k slot m off len kind fill =
+      absent (get l.rings k) _ (λ (r : LaneRing). absent (get l.mems r.mem) _ (λ (x : LaneMemory).
+      unloaded m _ (λ o. past m off len _ (
+      either (may_post r slot m o off len kind l) _ _
+      (cpu_write-free (slot_place r slot) (descriptor_bytes (posted (segments_in o.stage) off len kind fill)))
+      (record { is = refl })))))
+
+  kick-free : (k : ℕ) (steps : List Item) → IsFree (kick k steps l)
+  kick-free k steps = absent (get l.rings k) _ (λ (r : LaneRing). (record { is = refl }))
+
+  first-free : (k : ℕ) (r : LaneRing) (d : Descriptor) (cs : List Candidate) (o : Option Candidate) →
+      IsFree (at_first k r d cs o l)
+  first-free k r d cs None = (record { is = refl })
+  first-free k r d cs (Some c) = (record { is = refl })
+
+  ring_step-free : (k : ℕ) → IsFree (ring_step k l)
+  ring_step-free k =
+      absent (get l.rings k) _ (λ (r : LaneRing).
+      unloaded r.mem _ (λ o. past r.mem (head_at r) 16 _ (
+      judged (dev_read_answer (is_known l.memory) (loan_of l.loans r.mem) (head_at r) 16) _ (
+      either (not ((head_of r l).owner == 1)) _ _ (record { is = refl }) (
+      either (not (is_work (head_of r l).kind (head_of r l).len)) _ _ (record { is = refl })
+      (first-free k r (head_of r l) (candidates r l) (slice_get (allowed (head_of r l) l (candidates r l)) 0)))))))
+
   operation-free : (o : Op) → IsFree (operation o l)
   operation-free (op.Tag name parent limits) = tag-free parent limits
   operation-free (op.IommuTag name limits) = device_tag-free (effective None (space_limits limits))
@@ -246,6 +281,9 @@ module _ (l : LaneState) where
   operation-free (op.CpuRead place len) = cpu_read-free place len
   operation-free (op.CpuWrite place bytes) = cpu_write-free place (bytes_of bytes)
   operation-free (op.Await m) = await-free m
+  operation-free (op.Ring name mem slots) = ring-free mem slots
+  operation-free (op.RingPost k slot m off len kind fill) = ring_post-free k slot m off len kind fill
+  operation-free (op.Kick k steps) = kick-free k steps
 
   transfer-free : (i : Item) → IsFree (transfer i l)
   transfer-free (item.Sync m ops) = sync-free m ops
@@ -254,6 +292,7 @@ module _ (l : LaneState) where
   transfer-free (item.DevWrite m off bytes) = dev_write-free m off (bytes_of bytes)
   transfer-free (item.DevReadAt t addr len) = dev_read_at-free t addr len
   transfer-free (item.DevWriteAt t addr bytes) = dev_write_at-free t addr (bytes_of bytes)
+  transfer-free (item.RingStep k) = ring_step-free k
 
   -- ---- turns
 

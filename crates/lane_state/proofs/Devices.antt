@@ -212,7 +212,7 @@ module _ (h : Holdings) (wired : IsWired h) where
           ∙ sym (same_range (λ (t : Placed). t.bus) (λ (a : ℕ). a) off len (traces_of l k)
           (segment_bytes loading.segments) (sym (loading.load.trace plain) ∙ sym (map_own (segment_bytes loading.segments))))
 
-      bytes-long : segments_bytes (held.segments_of o.map.stage) ≡ length (buffer_of h.loans k)
+      pub bytes-long : segments_bytes (held.segments_of o.map.stage) ≡ length (buffer_of h.loans k)
       bytes-long =
           ap (λ s. segments_bytes (held.segments_of s)) loading.stage ∙ sym (bytes_length loading.segments)
           ∙ ap length (loading.load.trace plain) ∙ length-map (traces_of l k) (λ (t : Placed). t.bus)

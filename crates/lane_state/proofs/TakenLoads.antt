@@ -4,7 +4,7 @@ use Rattle.std.proofs.Common.{map, subst, arith}
 use Rattle.std.proofs.lemmas.Bool.{eq-eqb}
 use Rattle.std.proofs.lemmas.Map.Views.{exact_unsigned_eq}
 use Rattle.std.specs.Ordering.{nat_cmp}
-use Rattle.std.specs.FinMap.{FinMap, get, insert}
+use Rattle.std.specs.FinMap.{FinMap, contains_key, get, insert}
 use Rattle.lane_tables.specs.declared.queued.QueuedPage.{QueuedPage}
 use Rattle.loan_table.specs.Loans.{Loans}
 use Rattle.phys_memory.specs.Memory.{wire}
@@ -20,7 +20,7 @@ use Rattle.lane_state.specs.Covered.{has_load, is_idle_map, is_returning, is_tri
 use Rattle.lane_state.specs.Covered.{returns_in}
 use Rattle.lane_state.specs.Held.{devices_of, held}
 use Rattle.lane_state.specs.Ideal.{ideal_of}
-use Rattle.lane_state.specs.Kept.{device_in, device_of, due_in, due_of, map_of, memory_of, return_of, share_of}
+use Rattle.lane_state.specs.Kept.{device_in, device_of, due_in, due_of, map_of, memory_of, return_of, ring_of, share_of}
 use Rattle.lane_state.specs.Kept.{stage_of}
 use Rattle.lane_state.specs.Kept.{spaces_of, tag_of}
 use Rattle.lane_state.specs.MapValues.{map_values}
@@ -92,9 +92,23 @@ module _ (l : LaneState) (m : ℕ) (o : LaneMap) (there : get l.maps m ≡ Some 
     no_tag = stands.no_tag;
     no_map = λ k late. get_put l.maps m free k ∙ none k late (k == m) refl;
     no_memory = stands.no_memory;
+    no_ring = stands.no_ring;
     each = λ k x found. each k x (k == m) refl (sym (get_put l.maps m free k) ∙ found);
+    ring = λ q r found. (let was = stands.ring q r found in record {
+      made = was.made;
+      there = λ x e. memory r.mem x (r.mem == m) refl (sym (get_put l.maps m free r.mem) ∙ e) was.there;
+      head = was.head;
+      few = was.few;
+      coherent = was.coherent;
+      fits = was.fits;
+    });
   }
     where
+      memory : (n : ℕ) (x : LaneMap) (b : Bool) → (n == m) ≡ b → cond b (Some free) (get l.maps n) ≡ Some x →
+          ((y : LaneMap) → get l.maps n ≡ Some y → contains_key l.mems n ≡ true) → contains_key l.mems n ≡ true
+      memory n x true e found was = was o (ap (get l.maps) (exact_unsigned_eq n m e) ∙ there)
+      memory n x false e found was = was x found
+
       none : (k : ℕ) → l.place ≤ k → (b : Bool) → (k == m) ≡ b → cond b (Some free) (get l.maps k) ≡ None
       none k late true e =
           let gone : get l.maps m ≡ None = ap (get l.maps) (sym (exact_unsigned_eq k m e)) ∙ stands.no_map k late in
@@ -129,6 +143,7 @@ module _ (h k : Holdings) (m : ℕ) (o : KeptMap) (there : get h.maps.map m ≡ 
     tags = map_values tag_of (rest.tags i).map;
     maps = (ap (map_values map_of) maps ∙ map_values-insert map_of h.maps.map m (idled o)) i;
     mems = map_values memory_of (rest.most.memories i).map;
+    rings = map_values ring_of (rest.most.rings i).map;
     memory = ((λ j. held (rest.most.loans j).bytes (rest.most.loans j).loans (devices_of (maps j))
         (rest.most.memory j).memory)
         ∙ held-alike h.loans.bytes h.loans.loans (devices_of h.maps.map) (devices_of (insert h.maps.map m (idled o)))

@@ -65,6 +65,7 @@ pub record KeepsMost (h k : Holdings) : Type 0 where
   pub maxmem : k.maxmem ≡ h.maxmem
   pub memory : k.memory ≡ h.memory
   pub memories : k.memories ≡ h.memories
+  pub rings : k.rings ≡ h.rings
   pub loans : k.loans ≡ h.loans
   pub shares : k.shares ≡ h.shares
 

@@ -5,7 +5,7 @@ use Rattle.ideal_lane.specs.Outcomes.{Outcome}
 use Rattle.ideal_lane.specs.State.{LaneState}
 use Rattle.lane_state.specs.declared.holdings.Holdings.{Holdings}
 use Rattle.lane_state.specs.Held.{devices_of, held}
-use Rattle.lane_state.specs.Kept.{tag_of, map_of, memory_of, return_of, share_of, spaces_of}
+use Rattle.lane_state.specs.Kept.{tag_of, map_of, memory_of, ring_of, return_of, share_of, spaces_of}
 use Rattle.lane_state.specs.MapValues.{map_values}
 
 abbrev pub ideal_of : Holdings → LaneState
@@ -18,6 +18,7 @@ ideal_of h = record {
   tags = map_values tag_of h.tags.map;
   maps = map_values map_of h.maps.map;
   mems = map_values memory_of h.memories.map;
+  rings = map_values ring_of h.rings.map;
   memory = held h.loans.bytes h.loans.loans (devices_of h.maps.map) h.memory.memory;
   loans = h.loans.loans;
   queue = h.agenda.queue;

@@ -1,4 +1,4 @@
--- What the tags, maps, memories and shares that a lane keeps mean to the ideal driver.
+-- What the tags, maps, memories, rings and shares that a lane keeps mean to the ideal driver.
 use Rattle.std.specs.Prelude.{ℕ, ◌*◌, ◌==◌, List, [], ◌∷◌, map, length, Option, Some, None, if◌then◌else◌, is_some}
 use Rattle.std.specs.Prelude.{unwrap_or}
 use Rattle.std.specs.FinMap.{FinMap, get}
@@ -12,11 +12,12 @@ use Rattle.dma_map.specs.MapView as held
 use Rattle.iommu_map.specs.Space.{Space}
 use Rattle.lane_agreement.specs.View.{Return}
 use Rattle.lane_tables.specs.declared.queued.QueuedPage.{QueuedPage}
-use Rattle.ideal_lane.specs.State.{LaneTag, LaneMap, LaneMemory, Stage, Idle, Waiting, Loaded, Returning}
+use Rattle.ideal_lane.specs.State.{LaneTag, LaneMap, LaneMemory, LaneRing, Stage, Idle, Waiting, Loaded, Returning}
 use Rattle.ideal_lane.specs.State.{WaitingLoad, no_space}
 use Rattle.lane_state.specs.declared.kept.KeptTag.{KeptTag}
 use Rattle.lane_state.specs.declared.kept.KeptMap.{KeptMap}
 use Rattle.lane_state.specs.declared.kept.KeptMemory.{KeptMemory}
+use Rattle.lane_state.specs.declared.kept.KeptRing.{KeptRing}
 use Rattle.lane_state.specs.declared.kept.KeptShare.{KeptShare}
 use Rattle.lane_state.specs.Loading.{bio_of}
 
@@ -63,6 +64,10 @@ memory_of x = record {
   len = x.memory.len;
   coherent = x.memory.coherent;
 }
+
+-- a ring
+abbrev pub ring_of : KeptRing → LaneRing
+ring_of r = record { mem = r.mem; slots = r.slots; head = r.head }
 
 -- a page of the return queue
 abbrev pub return_of : QueuedPage → Return

@@ -9,15 +9,15 @@ ghost use Rattle.lane_state.specs.Covered.{AreLoaded, AreOwn, AreReturning, AreS
 ghost use Rattle.lane_state.specs.Covered.{Reaches, is_tried, lends_pages, pages_due};
 ghost use Rattle.lane_state.specs.OneAwaiting.{AreAwaiting-prop};
 
-use crate::kept::{KeptMap, KeptMemory, KeptShare, KeptTag};
+use crate::kept::{KeptMap, KeptMemory, KeptRing, KeptShare, KeptTag};
 use busdma_base::{Answer, LaneId, MapId, Op, PageRun, Report, ReportName};
 use lane_tables::{Agenda, PlaceTable};
 use loan_table::LoanTable;
 use phys_memory::LanePages;
 
 /// A driver's number, script and pages, the end of the machine's memory in frames, and all that its steps change: its
-/// memory; its tags, maps and dmamem memories by the places that made them, where the map of a memory has the memory's
-/// place; what its maps lend; its place and queues; and its shares of what zones copied.
+/// memory; its tags, maps, dmamem memories and rings by the places that made them, where the map of a memory has the
+/// memory's place; what its maps lend; its place and queues; and its shares of what zones copied.
 #[derive(Drop)]
 pub struct Holdings<'s> {
     pub script: &'s [Op],
@@ -28,6 +28,7 @@ pub struct Holdings<'s> {
     pub tags: PlaceTable<KeptTag>,
     pub maps: PlaceTable<KeptMap<'s>>,
     pub memories: PlaceTable<KeptMemory>,
+    pub rings: PlaceTable<KeptRing>,
     pub loans: LoanTable,
     pub agenda: Agenda,
     pub shares: Vec<KeptShare>,
@@ -39,6 +40,7 @@ pub struct Holdings<'s> {
     ghost tag_places: { tags.places ≡ agenda.length },
     ghost map_places: { maps.places ≡ agenda.length },
     ghost memory_places: { memories.places ≡ agenda.length },
+    ghost ring_places: { rings.places ≡ agenda.length },
     ghost loaded: { AreLoaded maps.map loans.loans },
     ghost unlent: { (k : ℕ) → lends_pages (get maps.map k) ≡ false },
     ghost promised: { pages_due maps.map ≤ agenda.promised },

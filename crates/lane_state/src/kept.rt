@@ -1,4 +1,4 @@
-//! What a lane keeps of its tags, maps, memories and shares.
+//! What a lane keeps of its tags, maps, memories, rings and shares.
 
 ghost use Rattle.dma_map.specs.Callback.{appended};
 
@@ -52,6 +52,15 @@ pub struct KeptMemory {
     pub first: Pa,
     pub count: u32,
     pub memory: Memory,
+}
+
+/// A ring of descriptors: the place in the script of its memory, in whose first bytes it lies, how many slots of 16
+/// bytes it has, and the slot that is fetched next.
+#[derive(Clone, Copy, Debug, PartialEq, Eq)]
+pub struct KeptRing {
+    pub mem: u32,
+    pub slots: u32,
+    pub head: u32,
 }
 
 /// The lane's share of the syncs of a zone that copied.

@@ -11,4 +11,4 @@ pub use buffers::{
     LoadBytes, build_parts, copy_segments, extents_of, measure_parts, never_waits, write_addresses,
 };
 pub use holdings::{Answered, Holdings, report, unheld};
-pub use kept::{KeptLoad, KeptMap, KeptMemory, KeptShare, KeptTag};
+pub use kept::{KeptLoad, KeptMap, KeptMemory, KeptRing, KeptShare, KeptTag};

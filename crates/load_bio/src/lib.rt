@@ -5,7 +5,5 @@
 mod bio;
 mod frame_walk;
 mod frames;
-#[cfg(test)]
-mod tests;
 
 pub use bio::{BioParts, parts, parts_of_frames, parts_of_span, parts_of_spans, walk};

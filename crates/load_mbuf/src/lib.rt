@@ -3,7 +3,5 @@
 #![tactic(auto)]
 
 mod chain;
-#[cfg(test)]
-mod tests;
 
 pub use chain::{MbufParts, parts, total, walk};

@@ -19,6 +19,3 @@ mod table;
 
 pub use position::Position;
 pub use table::LoanTable;
-
-#[cfg(test)]
-mod tests;

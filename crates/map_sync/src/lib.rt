@@ -7,8 +7,6 @@
 mod into_pages;
 mod laws;
 mod out_of_pages;
-#[cfg(test)]
-mod tests;
 
 pub use into_pages::copy_in;
 pub use laws::ranges_copy_alike;

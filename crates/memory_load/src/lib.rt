@@ -3,8 +3,6 @@
 
 mod building;
 mod run_parts;
-#[cfg(test)]
-mod tests;
 mod unaligned;
 
 pub use building::{build_memory, memory_pieces, no_chunk_bounces};

@@ -7,8 +7,6 @@ mod flat;
 mod pages;
 mod reach;
 mod stretch;
-#[cfg(test)]
-mod tests;
 mod vector;
 mod walk;
 

@@ -1,5 +1,6 @@
 mod Calls
 mod Changes
 mod Cutting
+mod Posting
 mod Rows
 mod Spacing

@@ -1,9 +1,8 @@
 -- The address spaces of tags after a change of one of them.
-use Rattle.std.proofs.Common.{◌≡◌, ℕ, suc, ◌+◌, ◌-◌, ◌<◌, ◌==◌, Bool, true, false, cond, List, [], ◌∷◌, length, Some, None}
-use Rattle.std.proofs.Common.{refl, ap, sym, ◌∙◌, arith}
-use Rattle.std.specs.Prelude.{if◌then◌else◌, nat_le, nat_lt, unwrap_or, Option}
+use Rattle.std.proofs.Common.{◌≡◌, ℕ, ◌==◌, Bool, true, false, cond, List, length, Some, None}
+use Rattle.std.proofs.Common.{refl, ap, sym, ◌∙◌}
+use Rattle.std.specs.Prelude.{if◌then◌else◌, nat_le, unwrap_or, Option}
 use Rattle.std.specs.FinMap.{FinMap, empty, get, get-empty, insert, remove}
-use Rattle.std.specs.List.{insert as insert_at}
 use Rattle.std.specs.Ordering.{nat_cmp}
 use Rattle.std.proofs.lemmas.Map.Views.{exact_unsigned_eq}
 use Rattle.busdma_base.specs.declared.journals.answer.Answer.TheVariants.{Refused, Segments}
@@ -19,8 +18,8 @@ use Rattle.ideal_lane.specs.Loads.{Asked, finished, limits_of, loaded, unpaged, 
 use Rattle.ideal_lane.specs.Outcomes.{Outcome}
 use Rattle.ideal_lane.specs.State.{LaneMap, LaneState, no_space}
 use Rattle.ideal_lane.specs.Tags.{with_space}
-use Rattle.iommu_map.specs.Space.{DeviceRun, Space, entered, least_from, put_run}
-use Rattle.plain_lane.specs.Spaces.{runs_up_to, spaces_of}
+use Rattle.iommu_map.specs.Space.{Space, entered}
+use Rattle.plain_lane.specs.Spaces.{spaces_of}
 
 chosen : (b : Bool) (s : Space) (o : Option Space) → unwrap_or (cond b (Some s) o) no_space
     ≡ (if b then s else unwrap_or o no_space)
@@ -43,27 +42,25 @@ pub cut : (spaces : FinMap nat_cmp Space) (t : ℕ) → spaces_of (remove spaces
     ≡ with_space t no_space (spaces_of spaces)
 cut spaces t = λ i k. (ap (λ o. unwrap_or o no_space) (get_cut spaces t k) ∙ none (k == t) (get spaces k)) i
 
-run-at : (first : ℕ) (frames : List ℕ) (spaces : ℕ → Space) (t k : ℕ) →
-    with_space t (entered (Some first) frames (spaces t)) spaces k ≡ with_run true t first frames spaces k
-run-at first frames spaces t k = by (k == t) refl
+kept-at : (few : Bool) (first : ℕ) (frames : List ℕ) (spaces : ℕ → Space) (t k : ℕ) →
+    with_space t (if few then entered (Some first) frames (spaces t) else spaces t) spaces k
+    ≡ with_run few t first frames spaces k
+kept-at true first frames spaces t k = by (k == t) refl
   where
     by : (b : Bool) → (k == t) ≡ b → (if b then entered (Some first) frames (spaces t) else spaces k)
         ≡ (if b then entered (Some first) frames (spaces k) else spaces k)
     by true e = ap (λ j. entered (Some first) frames (spaces j)) (sym (exact_unsigned_eq k t e))
     by false e = refl
-
-pub run_put : (spaces : ℕ → Space) (t first : ℕ) (frames : List ℕ) →
-    with_space t (entered (Some first) frames (spaces t)) spaces ≡ with_run true t first frames spaces
-run_put spaces t first frames = λ i k. run-at first frames spaces t k i
-
-pub put_run_is : (r : DeviceRun) (rs : List DeviceRun) → put_run r rs ≡ insert_at rs (runs_up_to r.first rs) r
-put_run_is r [] = refl
-put_run_is r (q ∷ qs) = by (nat_lt r.first q.first) (put_run_is r qs)
+kept-at false first frames spaces t k = by (k == t) refl
   where
-    by : (b : Bool) → put_run r qs ≡ insert_at qs (runs_up_to r.first qs) r → (if b then r ∷ q ∷ qs else q ∷ put_run r qs)
-        ≡ insert_at (q ∷ qs) (if b then 0 else suc (runs_up_to r.first qs)) r
-    by true e = refl
-    by false e = ap (λ rs. q ∷ rs) e
+    by : (b : Bool) → (k == t) ≡ b → (if b then spaces t else spaces k) ≡ spaces k
+    by true e = ap spaces (sym (exact_unsigned_eq k t e))
+    by false e = refl
+
+pub run_kept : (few : Bool) (spaces : ℕ → Space) (t first : ℕ) (frames : List ℕ) →
+    with_space t (if few then entered (Some first) frames (spaces t) else spaces t) spaces
+    ≡ with_run few t first frames spaces
+run_kept few spaces t first frames = λ i k. kept-at few first frames spaces t k i
 
 spaced : (b : Bool) (spaces : ℕ → Space) (x y : Outcome) → with_spaces spaces (if b then x else y)
     ≡ (if b then with_spaces spaces x else with_spaces spaces y)
@@ -82,8 +79,3 @@ finished_spaced m o p x cs pages spaces l =
       answer = Segments segments;
     })
     (record { lane = unpaged m o pages l; answer = Refused EFBIG }))
-
-pub least_later : (test : ℕ → Bool) (a n : ℕ) → a < n → test a ≡ false →
-    least_from test (a + 1) (n - (a + 1)) ≡ least_from test a (n - a)
-least_later test a n inside fails =
-    let next : n - a ≡ suc (n - (a + 1)) = omega arith in rw (next, fails) refl

@@ -7,7 +7,7 @@ use Rattle.plain_lane.specs.declared.lane.PlainLane.{PlainLane}
 use Rattle.plain_lane.specs.Spaces.{spaces_of}
 use Rattle.plain_lane.specs.Stages.{changed, shares_of}
 
-abbrev pub ideal : PlainLane → LaneState
+unfoldable pub ideal : PlainLane → LaneState
 ideal l = record {
   id = l.id.0;
   maxmem = l.maxmem;
@@ -17,6 +17,7 @@ ideal l = record {
   tags = l.tags;
   maps = l.maps;
   mems = l.mems;
+  rings = l.rings;
   memory = changed l.changes.items (zeros l.pages.now);
   loans = l.loans;
   queue = l.queue.items;

@@ -1,11 +1,11 @@
 -- The address spaces of tags by their places, and what a device does there.
-use Rattle.std.specs.Prelude.{ℕ, suc, Bool, false, List, [], ◌∷◌, Option, if◌then◌else◌, nat_lt, unwrap_or}
+use Rattle.std.specs.Prelude.{ℕ, Bool, false, Option, unwrap_or}
 use Rattle.std.specs.FinMap.{FinMap, get}
 use Rattle.std.specs.Ordering.{nat_cmp}
 use Rattle.busdma_machine.specs.declared.report.ReportName.{ReportName}
 use Rattle.busdma_machine.specs.declared.report.ReportName.TheVariants.{DeviceReadUnlent, DeviceWriteUnlent}
 use Rattle.ideal_lane.specs.State.{no_space}
-use Rattle.iommu_map.specs.Space.{DeviceRun, Space}
+use Rattle.iommu_map.specs.Space.{Space}
 use Rattle.loan_table.specs.Access.{dev_read_refusal, dev_write_refusal}
 use Rattle.loan_table.specs.declared.position.Position.{Position}
 use Rattle.plain_lane.specs.declared.raw_accesses.RawAccess.{RawAccess}
@@ -24,9 +24,3 @@ unlent_of Write = DeviceWriteUnlent
 abbrev pub refusal_of : RawAccess → (ℕ → Bool) → Position → Option ReportName
 refusal_of Read known p = dev_read_refusal known false p
 refusal_of Write known p = dev_write_refusal false p
-
--- What a private step does; no public clause cites it: how many runs at the head of the list begin at a page or before
--- it
-abbrev pub runs_up_to : ℕ → List DeviceRun → ℕ
-runs_up_to first [] = 0
-runs_up_to first (r ∷ rs) = if nat_lt first r.first then 0 else suc (runs_up_to first rs)

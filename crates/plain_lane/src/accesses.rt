@@ -3,7 +3,7 @@
 ghost use Rattle.std.specs.Prelude.{◌≡◌, ◌+◌, ◌^◌, ◌≤◌, ◌<◌, length, IfOk};
 ghost use Rattle.busdma_machine.specs.Judging.{judged};
 ghost use Rattle.loan_table.specs.Access as access;
-ghost use Rattle.loan_table.specs.Loans.{load_bytes};
+ghost use Rattle.loan_table.specs.Loans.{load_bytes, loan_of};
 ghost use Rattle.ideal_lane.specs.Accesses as accesses;
 ghost use Rattle.ideal_lane.specs.Asking.{Gives};
 ghost use Rattle.ideal_lane.specs.IdealMemory.{is_known};
@@ -35,7 +35,7 @@ impl PlainLane<'_> {
         let Some((first, rest)) = bytes.split_first() else {
             return Judged::Fine;
         };
-        if lent(Way::ToWrite, *first, &self.loans) {
+        if lent(Way::ToWrite, *first, self.loans()) {
             return refused(ReportName::CpuReadLent, at);
         }
         if !self.is_known(*first) {
@@ -52,7 +52,7 @@ impl PlainLane<'_> {
         let Some((first, rest)) = bytes.split_first() else {
             return Judged::Fine;
         };
-        if lent(Way::Any, *first, &self.loans) {
+        if lent(Way::Any, *first, self.loans()) {
             return refused(ReportName::CpuWriteLent, at);
         }
         self.judge_cpu_write(at + 1, rest)
@@ -131,8 +131,37 @@ impl PlainLane<'_> {
         Ok(Answer::Done)
     }
 
+    /// The answer to the device's reading of a range of a map's load.
+    pub(crate) fn dev_read_answer(
+        &self,
+        alloc: Global,
+        map: u32,
+        off: u64,
+        len: u64,
+    ) -> Result<Judged, AllocError>
+        ensures { let l = ideal self.now in IfOk result (λ j. j
+            ≡ access.dev_read_answer (is_known l.memory) (loan_of l.loans map) off len) }
+    {
+        let range = stretch(alloc, off, len, positions(self.loans(), map))?;
+        Ok(self.judge_dev_read(is_coherent(self.loans(), map), 0, &range))
+    }
+
+    /// The answer to its writing of one.
+    pub(crate) fn dev_write_answer(
+        &self,
+        alloc: Global,
+        map: u32,
+        off: u64,
+        len: u64,
+    ) -> Result<Judged, AllocError>
+        ensures { IfOk result (λ j. j ≡ access.dev_write_answer (loan_of (ideal self.now).loans map) off len) }
+    {
+        let range = stretch(alloc, off, len, positions(self.loans(), map))?;
+        Ok(judge_dev_write(is_coherent(self.loans(), map), 0, &range))
+    }
+
     /// The bytes of a range of a map's buffer.
-    fn load_bytes(
+    pub(crate) fn load_bytes(
         &self,
         alloc: Global,
         map: u32,
@@ -141,7 +170,7 @@ impl PlainLane<'_> {
     ) -> Result<Vec<u64>, AllocError>
         ensures { IfOk result (λ v. v.items ≡ load_bytes (ideal self.now).loans map off len) }
     {
-        let range = stretch(alloc, off, len, positions(&self.loans, map))?;
+        let range = stretch(alloc, off, len, positions(self.loans(), map))?;
         range.iter().map(|position| position.pa).collect(alloc)
     }
 
@@ -155,15 +184,13 @@ impl PlainLane<'_> {
     ) -> Result<Answer, AllocError>
         ensures { IfOk result (λ a. Gives (given self.now a) ≡ accesses.dev_read map off len (ideal self.now)) }
     {
-        match self.maps.get(map) {
+        match self.map_at(map) {
             Some(held) if !held.is_loaded() => return Ok(report(ReportName::NotLoaded, 0)),
             Some(_) if !self.is_within(map, off, len) => return Ok(self.past_end(map, off)),
             Some(_) => {}
             None => return Ok(report(ReportName::Absent, 0)),
         }
-        let range = stretch(alloc, off, len, positions(&self.loans, map))?;
-        let coherent = is_coherent(&self.loans, map);
-        if let Judged::Refused(refusal) = self.judge_dev_read(coherent, 0, &range) {
+        if let Judged::Refused(refusal) = self.dev_read_answer(alloc, map, off, len)? {
             return Ok(Answer::Report(refusal));
         }
         let bytes = self.load_bytes(alloc, map, off, len)?;
@@ -181,15 +208,13 @@ impl PlainLane<'_> {
         ensures { IfOk result (λ a. Gives (given self.new a) ≡ accesses.dev_write map off values.items (ideal self.old)) }
     {
         let len = values.len() as u64;
-        match self.maps.get(map) {
+        match self.map_at(map) {
             Some(held) if !held.is_loaded() => return Ok(report(ReportName::NotLoaded, 0)),
             Some(_) if !self.is_within(map, off, len) => return Ok(self.past_end(map, off)),
             Some(_) => {}
             None => return Ok(report(ReportName::Absent, 0)),
         }
-        let range = stretch(alloc, off, len, positions(&self.loans, map))?;
-        let coherent = is_coherent(&self.loans, map);
-        if let Judged::Refused(refusal) = judge_dev_write(coherent, 0, &range) {
+        if let Judged::Refused(refusal) = self.dev_write_answer(alloc, map, off, len)? {
             return Ok(Answer::Report(refusal));
         }
         let bytes = self.load_bytes(alloc, map, off, len)?;

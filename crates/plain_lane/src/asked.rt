@@ -18,7 +18,7 @@ use std::alloc::{AllocError, Global};
 
 /// The bytes of a load and their judgement, its entries and how many bytes it has, whether it must not
 /// wait, and the items that its callback appends.
-#[derive(Debug, Drop)]
+#[derive(Drop)]
 pub(crate) struct PlainAsked<'s> {
     pub(crate) bio: Bio,
     pub(crate) judged: Judged,

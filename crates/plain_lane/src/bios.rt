@@ -126,7 +126,7 @@ impl PlainLane<'_> {
         requires { place ≤ 2 ^ 64 }
         ensures { result ≡ loads.is_foreign_in bio.now (get (ideal self.now).mems map) (ideal self.now) place va }
     {
-        let memory = self.mems.get(map);
+        let memory = self.memory_at(map);
         match bio {
             Bio::Mapped(_) | Bio::Vector(_) => self.is_foreign_to(memory, place, va),
             Bio::Unmapped { .. } => memory.is_some(),

@@ -11,7 +11,7 @@ use std::marker::Model;
 use std::mem;
 
 /// Values by script place: pairs of a place and its value, in the order of places.
-#[derive(Debug, Drop)]
+#[derive(Drop)]
 pub(crate) struct ByPlace<T> {
     rows: Vec<(u32, T)>,
 }

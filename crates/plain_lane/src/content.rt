@@ -18,7 +18,7 @@ use std::alloc::{AllocError, Global};
 
 /// What has happened to bytes: to those at physical addresses, in order, or to those of `count`
 /// frames from `first` on.
-#[derive(Debug, Drop)]
+#[derive(Drop)]
 pub(crate) enum Change {
     /// They became Unknown.
     Forgot(Vec<u64>),
@@ -31,7 +31,7 @@ pub(crate) enum Change {
 }
 
 /// What stands at an address; None where the byte is not the driver's own.
-#[derive(Clone, Copy, Debug)]
+#[derive(Clone, Copy)]
 pub(crate) enum Byte {
     Known(u8),
     Unknown,
@@ -137,6 +137,7 @@ fn is_own(runs: &[PageRun], pa: u64) -> bool
 
 impl PlainLane<'_> {
     /// What stands at an address.
+    #[tactic(auto, unfolding(crate::specs::Ideal::ideal))]
     fn byte_at(&self, pa: u64) -> Byte
         ensures { (ideal self.now).memory pa ≡ content_of result }
     {
@@ -173,7 +174,7 @@ impl PlainLane<'_> {
     }
 
     /// These bytes become Unknown.
-    #[tactic(auto, using(crate::proofs::Changes::one_more))]
+    #[tactic(auto, using(crate::proofs::Changes::one_more), unfolding(crate::specs::Ideal::ideal))]
     pub(crate) fn forget(&mut self, bytes: Vec<u64>) -> Result<(), AllocError>
         ensures { OnOk result (ideal self.new
             ≡ record (ideal self.old) { memory = forgotten bytes.items (ideal self.old).memory }) }
@@ -183,7 +184,7 @@ impl PlainLane<'_> {
     }
 
     /// The bytes of `count` frames from `first` on come to the driver, Known and 0 or Unknown.
-    #[tactic(auto, using(crate::proofs::Changes::one_more))]
+    #[tactic(auto, using(crate::proofs::Changes::one_more), unfolding(crate::specs::Ideal::ideal))]
     pub(crate) fn join(&mut self, first: u64, count: u32, zero: bool) -> Result<(), AllocError>
         ensures { OnOk result (ideal self.new ≡ record (ideal self.old) {
           memory = joined (in_run first count) (if zero then Known 0 else Unknown) (ideal self.old).memory;
@@ -194,7 +195,7 @@ impl PlainLane<'_> {
     }
 
     /// The bytes of `count` frames from `first` on leave the driver.
-    #[tactic(auto, using(crate::proofs::Changes::one_more))]
+    #[tactic(auto, using(crate::proofs::Changes::one_more), unfolding(crate::specs::Ideal::ideal))]
     pub(crate) fn part(&mut self, first: u64, count: u32) -> Result<(), AllocError>
         ensures { OnOk result (ideal self.new
             ≡ record (ideal self.old) { memory = parted (in_run first count) (ideal self.old).memory }) }
@@ -204,7 +205,7 @@ impl PlainLane<'_> {
     }
 
     /// These bytes are written with these values.
-    #[tactic(auto, using(crate::proofs::Changes::one_more))]
+    #[tactic(auto, using(crate::proofs::Changes::one_more), unfolding(crate::specs::Ideal::ideal))]
     pub(crate) fn write(&mut self, bytes: Vec<u64>, values: Vec<u8>) -> Result<(), AllocError>
         ensures { OnOk result (ideal self.new
             ≡ record (ideal self.old) { memory = written bytes.items values.items (ideal self.old).memory }) }

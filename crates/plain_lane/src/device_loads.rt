@@ -79,6 +79,7 @@ fn device_chunks(
 
 impl PlainLane<'_> {
     /// The tag has the run of a load of these chunks from now on, where their segments are few enough.
+    #[tactic(auto, using(crate::proofs::Spacing::run_kept))]
     fn keep_run(
         &mut self,
         alloc: Global,
@@ -92,11 +93,10 @@ impl PlainLane<'_> {
               (device.load_frames entries.now) l.spaces;
         }) }
     {
-        if !self.are_few(alloc, header, chunks)? {
-            return Ok(());
-        }
+        let few = self.are_few(alloc, header, chunks)?;
         let frames = load_frames(alloc, entries)?;
-        self.enter(alloc, header.tag, first, frames)
+        let space = self.space_at(alloc, header.tag)?;
+        self.put_space(alloc, header.tag, space.after_load(few, first, frames)?)
     }
 
     /// A load has the run that begins at this page, and ends.
@@ -114,7 +114,7 @@ impl PlainLane<'_> {
     {
         let chunks = device_chunks(alloc, first, 0, &asked.entries)?;
         self.keep_run(alloc, header, first, &asked.entries, &chunks)?;
-        self.finish(alloc, map, header, self.place, asked, &chunks, &[])
+        self.finish(alloc, map, header, self.place(), asked, &chunks, &[])
     }
 
     /// A load of a map of an IOMMU tag.
@@ -131,7 +131,7 @@ impl PlainLane<'_> {
         let frames = load_frames(alloc, &asked.entries)?;
         if frames.is_empty() {
             let chunks = device_chunks(alloc, 0, 0, &asked.entries)?;
-            return self.finish(alloc, map, header, self.place, asked, &chunks, &[]);
+            return self.finish(alloc, map, header, self.place(), asked, &chunks, &[]);
         }
         match self.first_free(header.tag, frames.len() as u64) {
             Some(first) => self.take(alloc, map, header, asked, first),

@@ -10,19 +10,19 @@ ghost use Rattle.plain_lane.specs.Ideal.{ideal};
 
 use crate::by_place::ByPlace;
 use crate::content::Change;
-use crate::spaces::PlainSpace;
 use busdma_base::{
     Answer, Bio, Chunk, Driver, Item, LaneId, MapId, Op, PageRun, Report, ReportName, Segment,
     TagLimits,
 };
 use lane_tables::QueuedItem;
 use loan_table::Position;
+use plain_space::PlainSpace;
 use std::alloc::Global;
 use std::marker::Model;
 
 /// A tag, by its effective limits, whether its first allocation is done, and whether its device is
 /// behind an IOMMU.
-#[derive(Clone, Copy, Debug)]
+#[derive(Clone, Copy)]
 pub(crate) struct PlainTag {
     pub(crate) limits: TagLimits,
     pub(crate) first_done: bool,
@@ -48,7 +48,7 @@ impl Model for PlainTag {
 /// A load that waits, as its map keeps it: its place in the script, its bytes, the items that its
 /// callback appends, and how many pages it needs. So the map of bus_dma(9) keeps the memory of a load
 /// that is deferred, with its callback.
-#[derive(Debug, Drop)]
+#[derive(Drop)]
 pub(crate) struct PlainLoad {
     pub(crate) load_at: u32,
     pub(crate) bio: Bio,
@@ -65,7 +65,7 @@ impl Model for PlainLoad {
 }
 
 /// Where a map stands. Pages are physical addresses.
-#[derive(Debug, Drop)]
+#[derive(Drop)]
 pub(crate) enum PlainStage {
     Idle,
     Waiting(PlainLoad),
@@ -79,7 +79,7 @@ pub(crate) enum PlainStage {
 
 /// A map: the place of its tag, its zone, whether a load of it has called or stored a callback, and
 /// where it stands.
-#[derive(Debug, Drop)]
+#[derive(Drop)]
 pub(crate) struct PlainMap {
     pub(crate) tag: u32,
     pub(crate) zone: Option<u32>,
@@ -160,7 +160,7 @@ impl PlainMap {
 
 /// A dmamem memory: the place of its tag, the physical address of its first byte, how many frames it
 /// has, how many bytes the driver reaches, and whether it is coherent.
-#[derive(Clone, Copy, Debug)]
+#[derive(Clone, Copy)]
 pub(crate) struct PlainMemory {
     pub(crate) tag: u32,
     pub(crate) first: u64,
@@ -191,8 +191,30 @@ impl Model for PlainMemory {
     } };
 }
 
+/// A ring of descriptors: the place of its memory, how many slots it has, and the slot that is fetched
+/// next.
+#[derive(Clone, Copy)]
+pub(crate) struct PlainRing {
+    pub(crate) mem: u32,
+    pub(crate) slots: u32,
+    pub(crate) head: u32,
+}
+
+impl Model for PlainRing {
+    ghost use Rattle.std.specs.Prelude.{◌≤◌};
+    ghost use Rattle.ideal_lane.specs.State.{LaneRing};
+
+    ghost Value = { LaneRing };
+
+    ghost view = { λ r. record { mem = r.mem; slots = r.slots; head = r.head } };
+
+    ghost inverse = { λ r. record { mem = r.mem; slots = r.slots; head = r.head } };
+
+    ghost invariant = { λ r. 1 ≤ r.slots };
+}
+
 /// What a loaded map lends.
-#[derive(Debug, Drop)]
+#[derive(Drop)]
 pub(crate) struct PlainLoan {
     pub(crate) coherent: bool,
     pub(crate) positions: Vec<Position>,
@@ -207,7 +229,7 @@ impl Model for PlainLoan {
 }
 
 /// A page of the return queue, by its physical address.
-#[derive(Clone, Copy, Debug)]
+#[derive(Clone, Copy)]
 pub(crate) struct PlainReturn {
     pub(crate) map: u32,
     pub(crate) zone: u32,
@@ -224,10 +246,10 @@ impl Model for PlainReturn {
     ghost inverse = { λ r. record { map = r.map; zone = r.zone; page = r.page } };
 }
 
-/// A driver as plain lists: tags, maps, memories and loans by place; what has happened to the bytes
+/// A driver as plain lists: tags, maps, memories, rings and loans by place; what has happened to the bytes
 /// of its memory, from the opening on; the zone of each sync that copied; and the address spaces of
 /// IOMMU tags by the places of the tags.
-#[derive(Debug, Drop)]
+#[derive(Drop)]
 pub struct PlainLane<'s> {
     pub(crate) id: LaneId,
     pub(crate) maxmem: u64,
@@ -237,6 +259,7 @@ pub struct PlainLane<'s> {
     pub(crate) tags: ByPlace<PlainTag>,
     pub(crate) maps: ByPlace<PlainMap>,
     pub(crate) mems: ByPlace<PlainMemory>,
+    pub(crate) rings: ByPlace<PlainRing>,
     pub(crate) changes: Vec<Change>,
     pub(crate) loans: ByPlace<PlainLoan>,
     pub(crate) queue: Vec<QueuedItem>,
@@ -259,22 +282,13 @@ impl<'s> PlainLane<'s> {
             tags: ByPlace::new(alloc),
             maps: ByPlace::new(alloc),
             mems: ByPlace::new(alloc),
+            rings: ByPlace::new(alloc),
             changes: Vec::new(alloc),
             loans: ByPlace::new(alloc),
             queue: Vec::new(alloc),
             returns: Vec::new(alloc),
             copied: Vec::new(alloc),
             spaces: ByPlace::new(alloc),
-        }
-    }
-
-    /// The name of what the driver made at a place.
-    pub(crate) fn named(&self, made_at: u32) -> MapId
-        ensures { result ≡ named (ideal self.now) made_at }
-    {
-        MapId {
-            lane: self.id,
-            made_at,
         }
     }
 }

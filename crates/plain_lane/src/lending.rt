@@ -21,7 +21,7 @@ use std::alloc::{AllocError, Global};
 pub(crate) type Loans = ByPlace<PlainLoan>;
 
 /// A way in which a position may be lent.
-#[derive(Clone, Copy, Debug)]
+#[derive(Clone, Copy)]
 pub(crate) enum Way {
     Any,
     ToWrite,

@@ -124,17 +124,17 @@ impl PlainLane<'_> {
         ensures alignment { 1 ≤ result.alignment }
         ensures maxsegsz { 1 ≤ result.maxsegsz }
     {
-        match self.tags.get(header.tag) {
+        match self.tag_at(header.tag) {
             Some(tag) => tag.limits,
             None => NO_LIMITS,
         }
     }
 
     /// The map is one of an IOMMU tag.
-    fn is_device(&self, header: Header) -> bool
+    pub(crate) fn is_device(&self, header: Header) -> bool
         ensures { result ≡ loads.is_device (ideal self.now) (headed header) }
     {
-        match self.tags.get(header.tag) {
+        match self.tag_at(header.tag) {
             Some(tag) => tag.device,
             None => false,
         }
@@ -144,14 +144,14 @@ impl PlainLane<'_> {
     fn is_memory(&self, map: u32) -> bool
         ensures { result ≡ contains_key (ideal self.now).mems map }
     {
-        self.mems.get(map).is_some()
+        self.memory_at(map).is_some()
     }
 
     /// The map is that of a coherent memory.
     fn is_coherent_memory(&self, map: u32) -> bool
         ensures { result ≡ loads.is_coherent (get (ideal self.now).mems map) }
     {
-        match self.mems.get(map) {
+        match self.memory_at(map) {
             Some(memory) => memory.coherent,
             None => false,
         }
@@ -170,7 +170,7 @@ impl PlainLane<'_> {
     {
         let limits = self.limits_of(header);
         if !self.is_memory(map) {
-            return chunks_of(alloc, &limits, self.maxmem, entries);
+            return chunks_of(alloc, &limits, self.maxmem(), entries);
         }
         let limits = TagLimits {
             alignment: 1,
@@ -204,7 +204,7 @@ impl PlainLane<'_> {
     {
         let bytes = entries_addresses(alloc, entries)?;
         let loan = new_loan(alloc, self.is_coherent_memory(map), &bytes)?;
-        self.loans.insert(alloc, map, loan)
+        self.put_loan(alloc, map, loan)
     }
 
     /// The callback of a load has appended its items.
@@ -212,8 +212,7 @@ impl PlainLane<'_> {
         ensures { OnOk result (ideal self.new
             ≡ record (ideal self.old) { queue = (ideal self.old).queue ++ queued load_at items.now }) }
     {
-        let mut appended = queued(alloc, load_at, items)?;
-        self.queue.append(&mut appended)
+        self.push_items(queued(alloc, load_at, items)?)
     }
 
     /// The map is loaded with these chunks in these pages, and lends nothing; its callback has appended
@@ -302,7 +301,7 @@ impl PlainLane<'_> {
         match reply {
             HubReply::Granted(pages) => {
                 let pages = page_addresses(alloc, pages.as_slice())?;
-                self.finish(alloc, map, header, self.place, asked, chunks, &pages)
+                self.finish(alloc, map, header, self.place(), asked, chunks, &pages)
             }
             HubReply::Queued(have) => self.wait(alloc, map, header, asked, chunks, *have),
             _ => self.end(alloc, map, header, Errno::ENOMEM),
@@ -318,7 +317,7 @@ impl PlainLane<'_> {
     ) -> Result<Option<HubCall>, AllocError>
         ensures { IfOk result (λ c. c ≡ call_of (loads.load map (asked_of asked.now) (ideal self.now))) }
     {
-        let Some(held) = self.maps.get(map) else {
+        let Some(held) = self.map_at(map) else {
             return Ok(None);
         };
         if !held.is_idle() || asked.judged != Judged::Fine {
@@ -355,7 +354,7 @@ impl PlainLane<'_> {
         ensures { IfOk result (λ a. given self.new a
             ≡ by_reply (loads.load map (asked_of asked.now) (ideal self.old)) reply.now) }
     {
-        let Some(held) = self.maps.get(map) else {
+        let Some(held) = self.map_at(map) else {
             return Ok(report(ReportName::Absent, 0));
         };
         if !held.is_idle() {
@@ -373,7 +372,7 @@ impl PlainLane<'_> {
         }
         let chunks = self.chunks_for(alloc, header, map, &asked.entries)?;
         if need_of(&chunks) == 0 {
-            return self.finish(alloc, map, header, self.place, asked, &chunks, &[]);
+            return self.finish(alloc, map, header, self.place(), asked, &chunks, &[]);
         }
         self.granted(alloc, map, header, asked, &chunks, reply)
     }

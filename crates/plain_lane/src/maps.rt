@@ -33,19 +33,19 @@ impl PlainLane<'_> {
             tried: false,
             stage: PlainStage::Idle,
         };
-        self.maps.insert(alloc, self.place, map)
+        self.put_map(alloc, self.place(), map)
     }
 
     /// The call of `map`.
     pub(crate) fn map_call(&self, tag: u32) -> Option<HubCall>
         ensures { result ≡ call_of (maps.map tag (ideal self.now)) }
     {
-        let held = self.tags.get(tag)?;
-        if !bounces(held, self.maxmem) {
+        let held = self.tag_at(tag)?;
+        if !bounces(held, self.maxmem()) {
             return None;
         }
         Some(HubCall::CreateMap {
-            map: self.named(self.place),
+            map: self.named(self.place()),
             tag: held.limits,
             first_done: held.first_done,
         })
@@ -60,10 +60,10 @@ impl PlainLane<'_> {
     ) -> Result<Answer, AllocError>
         ensures { IfOk result (λ a. given self.new a ≡ by_reply (maps.map tag (ideal self.old)) reply.now) }
     {
-        let Some(held) = self.tags.get(tag) else {
+        let Some(held) = self.tag_at(tag) else {
             return Ok(report(ReportName::Absent, 0));
         };
-        if !bounces(held, self.maxmem) {
+        if !bounces(held, self.maxmem()) {
             self.add_map(alloc, tag, None)?;
             return Ok(Answer::Done);
         }
@@ -78,18 +78,11 @@ impl PlainLane<'_> {
         Ok(Answer::Grown(*grown))
     }
 
-    /// The driver has no map at this place.
-    pub(crate) fn drop_map(&mut self, alloc: Global, map: u32) -> Result<(), AllocError>
-        ensures { OnOk result (ideal self.new ≡ maps.without_map map (ideal self.old)) }
-    {
-        self.maps.remove(alloc, map)
-    }
-
     /// The call of `map_destroy`.
     pub(crate) fn map_destroy_call(&self, map: u32) -> Option<HubCall>
         ensures { result ≡ call_of (maps.map_destroy map (ideal self.now)) }
     {
-        let held = self.maps.get(map)?;
+        let held = self.map_at(map)?;
         if !held.is_idle() {
             return None;
         }
@@ -109,7 +102,7 @@ impl PlainLane<'_> {
         ensures { IfOk result (λ a. given self.new a
             ≡ by_reply (maps.map_destroy map (ideal self.old)) reply.now) }
     {
-        let Some(held) = self.maps.get(map) else {
+        let Some(held) = self.map_at(map) else {
             return Ok(report(ReportName::Absent, 0));
         };
         if !held.is_idle() {
@@ -123,7 +116,7 @@ impl PlainLane<'_> {
     pub(crate) fn awaited(&self, map: u32) -> Answer
         ensures { Gives (given self.now result) ≡ maps.await map (ideal self.now) }
     {
-        match self.maps.get(map) {
+        match self.map_at(map) {
             Some(held) if held.tried() => Answer::Done,
             Some(_) => report(ReportName::NotDeferred, 0),
             None => report(ReportName::Absent, 0),

@@ -22,7 +22,7 @@ impl PlainLane<'_> {
     ) -> Result<(), AllocError>
         ensures { OnOk result (ideal self.new ≡ memories.with_memory memory zero (ideal self.old)) }
     {
-        self.mems.insert(alloc, self.place, memory)?;
+        self.put_memory(alloc, self.place(), memory)?;
         self.add_map(alloc, memory.tag, None)?;
         self.join(memory.first, memory.count, zero)
     }
@@ -58,9 +58,9 @@ impl PlainLane<'_> {
     pub(crate) fn dmamem_call(&self, tag: u32) -> Option<HubCall>
         ensures { (flags : ℕ) → result ≡ call_of (memories.dmamem tag flags (ideal self.now)) }
     {
-        let held = self.tags.get(tag)?;
+        let held = self.tag_at(tag)?;
         Some(HubCall::MemAlloc {
-            mem: self.named(self.place),
+            mem: self.named(self.place()),
             tag: held.limits,
         })
     }
@@ -76,7 +76,7 @@ impl PlainLane<'_> {
         ensures { IfOk result (λ a. given self.new a
             ≡ by_reply (memories.dmamem tag flags (ideal self.old)) reply.now) }
     {
-        let Some(held) = self.tags.get(tag) else {
+        let Some(held) = self.tag_at(tag) else {
             return Ok(report(ReportName::Absent, 0));
         };
         let limits = held.limits;
@@ -92,7 +92,7 @@ impl PlainLane<'_> {
     ) -> Result<(), AllocError>
         ensures { OnOk result (ideal self.new ≡ memories.without_memory mem memory (ideal self.old)) }
     {
-        self.mems.remove(alloc, mem)?;
+        self.remove_memory(alloc, mem)?;
         self.drop_map(alloc, mem)?;
         self.part(memory.first, memory.count)
     }
@@ -101,10 +101,10 @@ impl PlainLane<'_> {
     pub(crate) fn dmamem_free_call(&self, mem: u32) -> Option<HubCall>
         ensures { result ≡ call_of (memories.dmamem_free mem (ideal self.now)) }
     {
-        if self.mems.get(mem).is_none() {
+        if self.memory_at(mem).is_none() {
             return None;
         }
-        let held = self.maps.get(mem)?;
+        let held = self.map_at(mem)?;
         if !held.is_idle() {
             return None;
         }
@@ -123,7 +123,7 @@ impl PlainLane<'_> {
         ensures { IfOk result (λ a. given self.new a
             ≡ by_reply (memories.dmamem_free mem (ideal self.old)) reply.now) }
     {
-        let (Some(memory), Some(held)) = (self.mems.get(mem), self.maps.get(mem)) else {
+        let (Some(memory), Some(held)) = (self.memory_at(mem), self.map_at(mem)) else {
             return Ok(report(ReportName::Absent, 0));
         };
         if !held.is_idle() {

@@ -8,6 +8,7 @@ ghost use Rattle.plain_lane.specs.Ideal.{given, ideal};
 
 use crate::items::queue_names;
 use crate::lane::{PlainLane, PlainStage, report};
+use crate::rings::Posting;
 use busdma_base::{Answer, Buffer, HubCall, HubReply, Item, Op, ReportName};
 use std::alloc::{AllocError, Global};
 
@@ -50,6 +51,7 @@ impl<'s> PlainLane<'s> {
     }
 
     /// The call of an operation.
+    #[tactic(auto, using(crate::proofs::Calls::ring_post_calls))]
     pub(crate) fn operation_call(
         &self,
         alloc: Global,
@@ -76,7 +78,10 @@ impl<'s> PlainLane<'s> {
             | Op::SyncRange { .. }
             | Op::CpuRead { .. }
             | Op::CpuWrite { .. }
-            | Op::Await { .. } => Ok(None),
+            | Op::Await { .. }
+            | Op::Ring { .. }
+            | Op::RingPost { .. }
+            | Op::Kick { .. } => Ok(None),
         }
     }
 
@@ -112,6 +117,27 @@ impl<'s> PlainLane<'s> {
             Op::CpuRead { place, len } => self.cpu_read(alloc, *place, *len),
             Op::CpuWrite { place, bytes } => self.cpu_write(alloc, *place, bytes.to_vec(alloc)?),
             Op::Await { map } => Ok(self.awaited(*map)),
+            Op::Ring { mem, slots, .. } => self.ring(alloc, *mem, *slots),
+            Op::RingPost {
+                ring,
+                slot,
+                map,
+                off,
+                len,
+                kind,
+                fill,
+            } => {
+                let posting = Posting {
+                    slot: *slot,
+                    map: *map,
+                    off: *off,
+                    len: *len,
+                    kind: *kind,
+                    fill: *fill,
+                };
+                self.ring_post(alloc, *ring, posting)
+            }
+            Op::Kick { ring, steps } => self.kick(alloc, *ring, steps.as_slice()),
         }
     }
 
@@ -119,7 +145,7 @@ impl<'s> PlainLane<'s> {
     fn is_waiting(&self, map: u32) -> bool
         ensures { result ≡ turns.is_waiting (get (ideal self.now).maps map) }
     {
-        match self.maps.get(map) {
+        match self.map_at(map) {
             Some(held) => matches!(held.stage, PlainStage::Waiting(_)),
             None => false,
         }
@@ -131,8 +157,8 @@ impl<'s> PlainLane<'s> {
     {
         match op {
             Op::Await { map } => {
-                self.maps.get(*map).is_some()
-                    && (self.is_waiting(*map) || queue_names(*map, &self.queue))
+                self.map_at(*map).is_some()
+                    && (self.is_waiting(*map) || queue_names(*map, self.queue()))
             }
             Op::Tag { .. }
             | Op::IommuTag { .. }
@@ -146,7 +172,10 @@ impl<'s> PlainLane<'s> {
             | Op::Sync { .. }
             | Op::SyncRange { .. }
             | Op::CpuRead { .. }
-            | Op::CpuWrite { .. } => false,
+            | Op::CpuWrite { .. }
+            | Op::Ring { .. }
+            | Op::RingPost { .. }
+            | Op::Kick { .. } => false,
         }
     }
 
@@ -167,6 +196,7 @@ impl<'s> PlainLane<'s> {
             Item::DevWriteAt { tag, addr, bytes } => {
                 self.dev_write_at(alloc, *tag, *addr, bytes.to_vec(alloc)?)
             }
+            Item::RingStep { ring } => self.ring_step(alloc, *ring),
         }
     }
 }

@@ -48,14 +48,14 @@ impl PlainLane<'_> {
     pub(crate) fn is_memory_byte(&self, va: u128) -> bool
         ensures { result ≡ places.is_memory_byte (ideal self.now) va }
     {
-        self.mems.rows().iter().any(|row| is_in_memory(va, row.1))
+        self.memory_rows().iter().any(|row| is_in_memory(va, row.1))
     }
 
     /// Where the byte at a virtual address lies, if the driver reaches it.
     pub(crate) fn physical(&self, va: u128) -> Option<u128>
         ensures { result ≡ places.physical (ideal self.now) va }
     {
-        match physical_in(self.pages, va) {
+        match physical_in(self.pages(), va) {
             Some(pa) => Some(pa),
             None if self.is_memory_byte(va) => Some(va.saturating_sub(PAGES_END)),
             None => None,
@@ -69,7 +69,7 @@ impl PlainLane<'_> {
     {
         match place {
             Place::At(va) => Some(va.0 as u128),
-            Place::In { mem, off } => Some(begin_of(*self.mems.get(mem)?) + off as u128),
+            Place::In { mem, off } => Some(begin_of(*self.memory_at(mem)?) + off as u128),
         }
     }
 

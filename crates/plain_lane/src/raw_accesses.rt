@@ -1,6 +1,6 @@
 //! Accesses by a device of its address space behind an IOMMU.
 
-ghost use Rattle.std.specs.Prelude.{◌≡◌, ◌+◌, ◌*◌, ◌^◌, ◌≤◌, length, slice_get, IfOk};
+ghost use Rattle.std.specs.Prelude.{◌≡◌, ◌+◌, ◌^◌, ◌≤◌, slice_get, IfOk};
 ghost use Rattle.busdma_machine.specs.Judging.{judged};
 ghost use Rattle.busdma_machine.specs.Runs.{run_of};
 ghost use Rattle.ideal_lane.specs.Accesses as accesses;
@@ -13,12 +13,13 @@ use crate::accesses::{dev_write_refusal, refused};
 use crate::lane::{PlainLane, PlainMap, report};
 use crate::lending::positions;
 use crate::lists::{joined, small};
-use busdma_base::{Answer, Judged, ListOf, ReportName, Segment};
+use busdma_base::{Answer, Judged, ListOf, ReportName};
 use loan_table::Position;
+use plain_space::place_at;
 use std::alloc::{AllocError, Global};
 
 /// What a device does.
-#[derive(Clone, Copy, Debug)]
+#[derive(Clone, Copy)]
 pub(crate) enum RawAccess {
     Read,
     Write,
@@ -34,20 +35,6 @@ impl RawAccess {
             RawAccess::Write => ReportName::DeviceWriteUnlent,
         }
     }
-}
-
-/// The place of the byte at a device address among the bytes of segments, which stand behind so many
-/// others.
-fn place_in(before: u128, segments: &[Segment], addr: u64) -> Option<u128>
-    requires { before + 2 ^ 64 * length segments.now ≤ 2 ^ 127 }
-    ensures { result ≡ accesses.place_in before segments.now addr }
-{
-    let (first, rest) = segments.split_first()?;
-    let begin = first.addr.0;
-    if begin <= addr && (addr as u128) < begin as u128 + first.len as u128 {
-        return Some(before + (addr - begin) as u128);
-    }
-    place_in(before + first.len as u128, rest, addr)
 }
 
 /// The position at a place.
@@ -67,9 +54,9 @@ impl PlainLane<'_> {
         ensures { result ≡ accesses.position_in (ideal self.now) tag addr maps.now }
     {
         let ((map, held), rest) = maps.split_first()?;
-        match place_in(0, held.segments(), addr) {
-            Some(place) if held.tag() == tag => position_at(positions(&self.loans, *map), place),
-            _ => self.position_in(tag, addr, rest),
+        match place_at(tag, held.tag(), held.segments(), addr) {
+            Some(place) => position_at(positions(self.loans(), *map), place),
+            None => self.position_in(tag, addr, rest),
         }
     }
 
@@ -95,7 +82,7 @@ impl PlainLane<'_> {
         if self.translated_at(tag, addr).is_none() {
             return Some(ReportName::Untranslated);
         }
-        match self.position_in(tag, addr, self.maps.rows()) {
+        match self.position_in(tag, addr, self.map_rows()) {
             Some(position) => self.refusal(access, &position),
             None => Some(access.unlent()),
         }
@@ -147,7 +134,7 @@ impl PlainLane<'_> {
     ) -> Result<Answer, AllocError>
         ensures { IfOk result (λ a. Gives (given self.now a) ≡ accesses.dev_read_at tag addr len (ideal self.now)) }
     {
-        if self.tags.get(tag).is_none() {
+        if self.tag_at(tag).is_none() {
             return Ok(report(ReportName::Absent, 0));
         }
         let addr = addr as u128;
@@ -169,7 +156,7 @@ impl PlainLane<'_> {
         ensures { IfOk result (λ a. Gives (given self.new a)
             ≡ accesses.dev_write_at tag addr values.items (ideal self.old)) }
     {
-        if self.tags.get(tag).is_none() {
+        if self.tag_at(tag).is_none() {
             return Ok(report(ReportName::Absent, 0));
         }
         let addr = addr as u128;

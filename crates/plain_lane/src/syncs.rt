@@ -68,11 +68,11 @@ impl PlainLane<'_> {
     pub(crate) fn load_length(&self, map: u32) -> u64
         ensures { result ≡ load_length (ideal self.now) map }
     {
-        positions(&self.loans, map).len() as u64
+        positions(self.loans(), map).len() as u64
     }
 
     /// A sync that copies is counted for the zone of its map.
-    #[tactic(auto, using(crate::proofs::Changes::one_share_more))]
+    #[tactic(auto, using(crate::proofs::Changes::one_share_more), unfolding(crate::specs::Ideal::ideal))]
     fn count(&mut self, copied: bool, zone: Option<u32>) -> Result<(), AllocError>
         ensures { OnOk result (ideal self.new
             ≡ record (ideal self.old) { shares = syncs.counted copied zone (ideal self.old).shares }) }
@@ -98,15 +98,15 @@ impl PlainLane<'_> {
         ensures { OnOk result (ideal self.new
             ≡ record (ideal self.old) { loans = lending.synced (ideal self.old).loans map off len ops }) }
     {
-        if is_coherent(&self.loans, map) {
+        if is_coherent(self.loans(), map) {
             return Ok(());
         }
-        let positions = marked_range(alloc, ops, off, len, positions(&self.loans, map))?;
+        let positions = marked_range(alloc, ops, off, len, positions(self.loans(), map))?;
         let loan = PlainLoan {
             coherent: false,
             positions,
         };
-        self.loans.insert(alloc, map, loan)
+        self.put_loan(alloc, map, loan)
     }
 
     /// The sync of a range of a map that is loaded.
@@ -122,7 +122,7 @@ impl PlainLane<'_> {
         ensures { IfOk result (λ a. IfSome (get (ideal self.old).maps map) (λ o.
             Gives (given self.new a) ≡ syncs.sync_part map o off len ops (ideal self.old))) }
     {
-        let Some(held) = self.maps.get(map) else {
+        let Some(held) = self.map_at(map) else {
             return Ok(report(ReportName::Absent, 0));
         };
         if SyncOps(ops).is_mixed() {
@@ -130,10 +130,10 @@ impl PlainLane<'_> {
         }
         let copied = moves(ops) && has_bytes_of(off, len, held.bounced());
         let zone = held.zone();
-        if let Judged::Refused(refusal) = sync_answer(alloc, &self.loans, map, off, len, ops)? {
+        if let Judged::Refused(refusal) = sync_answer(alloc, self.loans(), map, off, len, ops)? {
             return Ok(Answer::Report(refusal));
         }
-        let lost = lost(alloc, &self.loans, map, off, len, ops)?;
+        let lost = lost(alloc, self.loans(), map, off, len, ops)?;
         self.lend(alloc, map, off, len, ops)?;
         self.forget(lost)?;
         self.count(copied, zone)?;
@@ -144,7 +144,7 @@ impl PlainLane<'_> {
     pub(crate) fn sync(&mut self, alloc: Global, map: u32, ops: u32) -> Result<Answer, AllocError>
         ensures { IfOk result (λ a. Gives (given self.new a) ≡ syncs.sync map ops (ideal self.old)) }
     {
-        match self.maps.get(map) {
+        match self.map_at(map) {
             Some(held) if held.is_loaded() => {
                 self.sync_part(alloc, map, 0, self.load_length(map), ops)
             }
@@ -183,7 +183,7 @@ impl PlainLane<'_> {
         ensures { IfOk result (λ a. Gives (given self.new a)
             ≡ syncs.sync_range map off len ops (ideal self.old)) }
     {
-        match self.maps.get(map) {
+        match self.map_at(map) {
             Some(held) if !held.is_loaded() => Ok(report(ReportName::NotLoaded, 0)),
             Some(_) if self.is_within(map, off, len) => {
                 self.sync_part(alloc, map, off, len, ops)
@@ -195,6 +195,7 @@ impl PlainLane<'_> {
 
     /// The driver's share of a zone's total_bounced: how many of its syncs copied to or from a page of the
     /// zone, up to 2^64 - 1.
+    #[tactic(auto, unfolding(crate::specs::Ideal::ideal))]
     pub fn bounced(&self, zone: ZoneId) -> u64
         ensures { result ≡ (ideal self.now).shares zone.0 }
     {

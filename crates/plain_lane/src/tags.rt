@@ -8,11 +8,11 @@ ghost use Rattle.ideal_lane.specs.Tags as tags;
 ghost use Rattle.plain_lane.specs.Ideal.{given, ideal};
 
 use crate::lane::{PlainLane, PlainTag, report};
-use crate::spaces::PlainSpace;
 use bitflags::Flags;
 use busdma_base::{Answer, Errno, HubCall, HubReply, Pa, ReportName, TagLimits};
 use busdma_machine::SpaceLimits;
 use dma_tag::{Tag, TagFlags};
+use plain_space::PlainSpace;
 use std::alloc::{AllocError, Global};
 
 /// Some address could need a bounce page, where frame numbers are below `maxmem`.
@@ -72,7 +72,7 @@ impl PlainLane<'_> {
         requires maxsegsz { 1 ≤ limits.maxsegsz }
         ensures { OnOk result (ideal self.new ≡ tags.with_tag place limits first_done (ideal self.old)) }
     {
-        self.tags.insert(
+        self.put_tag(
             alloc,
             place,
             PlainTag {
@@ -98,7 +98,7 @@ impl PlainLane<'_> {
             return Ok(Answer::Refused(Errno::ENOMEM));
         };
         if grown.made {
-            self.add_tag(alloc, self.place, limits, true)?;
+            self.add_tag(alloc, self.place(), limits, true)?;
         }
         Ok(Answer::Grown(*grown))
     }
@@ -108,10 +108,10 @@ impl PlainLane<'_> {
         ensures { result ≡ call_of (tags.tag parent limits.now (ideal self.now)) }
     {
         let limits = match parent {
-            Some(place) => effective(Some(self.tags.get(place)?), limits)?,
+            Some(place) => effective(Some(self.tag_at(place)?), limits)?,
             None => effective(None, limits)?,
         };
-        if allocates(&limits, self.maxmem) {
+        if allocates(&limits, self.maxmem()) {
             Some(HubCall::AttachTag(limits))
         } else {
             None
@@ -130,7 +130,7 @@ impl PlainLane<'_> {
             ≡ by_reply (tags.tag parent limits.now (ideal self.old)) reply.now) }
     {
         let made = match parent {
-            Some(place) => match self.tags.get(place) {
+            Some(place) => match self.tag_at(place) {
                 Some(parent) => effective(Some(parent), limits),
                 None => return Ok(report(ReportName::Absent, 0)),
             },
@@ -139,10 +139,10 @@ impl PlainLane<'_> {
         let Some(limits) = made else {
             return Ok(Answer::Refused(Errno::EINVAL));
         };
-        if allocates(&limits, self.maxmem) {
+        if allocates(&limits, self.maxmem()) {
             return self.attach(alloc, limits, reply);
         }
-        self.add_tag(alloc, self.place, limits, false)?;
+        self.add_tag(alloc, self.place(), limits, false)?;
         Ok(Answer::Done)
     }
 
@@ -157,12 +157,9 @@ impl PlainLane<'_> {
             first_done: false,
             device: true,
         };
-        self.tags.insert(alloc, self.place, tag)?;
-        let space = PlainSpace {
-            pages: ((limits.lowaddr.0 as u128 + 1) / 4096) as u64,
-            runs: Vec::new(alloc),
-        };
-        self.put_space(alloc, self.place, space)
+        self.put_tag(alloc, self.place(), tag)?;
+        let pages = ((limits.lowaddr.0 as u128 + 1) / 4096) as u64;
+        self.put_space(alloc, self.place(), PlainSpace::new(alloc, pages))
     }
 
     /// `iommu_tag`.
@@ -184,20 +181,20 @@ impl PlainLane<'_> {
     fn has_maps(&self, tag: u32) -> bool
         ensures { result ≡ tags.has_maps (ideal self.now) tag }
     {
-        self.maps.rows().iter().any(|row| row.1.tag() == tag)
+        self.map_rows().iter().any(|row| row.1.tag() == tag)
     }
 
     /// `tag_destroy`.
     pub(crate) fn tag_destroy(&mut self, alloc: Global, tag: u32) -> Result<Answer, AllocError>
         ensures { IfOk result (λ a. Gives (given self.new a) ≡ tags.tag_destroy tag (ideal self.old)) }
     {
-        if self.tags.get(tag).is_none() {
+        if self.tag_at(tag).is_none() {
             return Ok(report(ReportName::Absent, 0));
         }
         if self.has_maps(tag) {
             return Ok(Answer::Refused(Errno::EBUSY));
         }
-        self.tags.remove(alloc, tag)?;
+        self.drop_tag(alloc, tag)?;
         self.drop_space(alloc, tag)?;
         Ok(Answer::Done)
     }

@@ -44,7 +44,7 @@ impl PlainLane<'_> {
     {
         PlainTurn::Stepped(JournalEntry {
             actor: Actor {
-                lane: self.id,
+                lane: self.id(),
                 side,
             },
             did,
@@ -57,7 +57,7 @@ impl PlainLane<'_> {
         ensures { OnOk result (ideal self.new
             ≡ unloads.restaged map (get (ideal self.old).maps map) (stage_of stage) (ideal self.old)) }
     {
-        let Some(held) = self.maps.get(map) else {
+        let Some(held) = self.map_at(map) else {
             return Ok(());
         };
         let held = PlainMap {
@@ -66,7 +66,7 @@ impl PlainLane<'_> {
             tried: held.tried,
             stage,
         };
-        self.maps.insert(alloc, map, held)
+        self.put_map(alloc, map, held)
     }
 
     /// The first page of the return queue has left it.
@@ -79,7 +79,7 @@ impl PlainLane<'_> {
         ensures { OnOk result (ideal self.new ≡ unloads.given_back first rest.items (ideal self.old)) }
     {
         self.restage(alloc, first.map, after_return(first.map, &rest))?;
-        self.returns = rest;
+        self.set_returns(rest);
         Ok(())
     }
 
@@ -120,8 +120,7 @@ impl PlainLane<'_> {
         ensures { let l = ideal self.now in IfOk result (λ c. c
             ≡ call_of (turns.next_operation (slice_get l.script l.place) l)) }
     {
-        let script = self.script;
-        let Some(op) = script.get(self.place as usize) else {
+        let Some(op) = self.next_op() else {
             return Ok(None);
         };
         if self.waits(op) {
@@ -134,26 +133,27 @@ impl PlainLane<'_> {
     fn script_call(&self, alloc: Global) -> Result<Option<HubCall>, AllocError>
         ensures { let l = ideal self.now in IfOk result (λ c. c ≡ call_of (turns.script_turn l.returns l)) }
     {
-        let Some((first, _)) = self.returns.split_first() else {
+        let Some((first, _)) = self.returns().split_first() else {
             return self.next_call(alloc);
         };
         Ok(Some(self.release_call(*first)))
     }
 
     /// The next operation of the script, with this reply to its call.
+    #[tactic(auto, using(crate::proofs::Calls::reply_goes_on))]
     fn next_operation(&mut self, alloc: Global, reply: &HubReply) -> Result<PlainTurn, AllocError>
         ensures { let l = ideal self.old in IfOk result (λ t. turned self.new t
             ≡ by_reply (turns.next_operation (slice_get l.script l.place) l) reply.now) }
     {
-        let (script, place) = (self.script, self.place);
-        let Some(op) = script.get(place as usize) else {
+        let place = self.place();
+        let Some(op) = self.next_op() else {
             return Ok(PlainTurn::Ended);
         };
         if self.waits(op) {
             return Ok(PlainTurn::Blocked);
         }
         let answer = self.operate(alloc, op, reply)?;
-        self.place = place.checked_add(1).ok_or(AllocError)?;
+        self.set_place(place.checked_add(1).ok_or(AllocError)?);
         Ok(self.stepped(Side::Script, Did::Op(place), answer))
     }
 
@@ -162,7 +162,7 @@ impl PlainLane<'_> {
         ensures { let l = ideal self.old in IfOk result (λ t. turned self.new t
             ≡ by_reply (turns.script_turn l.returns l) reply.now) }
     {
-        let Some((first, rest)) = self.returns.split_first() else {
+        let Some((first, rest)) = self.returns().split_first() else {
             return self.next_operation(alloc, reply);
         };
         let first = *first;
@@ -175,12 +175,12 @@ impl PlainLane<'_> {
         ensures { let l = ideal self.old in IfOk result (λ t.
             Gives (turned self.new t) ≡ turns.transfer_turn l.queue l) }
     {
-        let queue = same_queue(alloc, &self.queue)?;
+        let queue = same_queue(alloc, self.queue())?;
         let Some((first, rest)) = queue.split_first() else {
             return Ok(PlainTurn::Blocked);
         };
         let answer = self.transfer(alloc, &first.item)?;
-        self.queue = same_queue(alloc, rest)?;
+        self.set_queue(same_queue(alloc, rest)?);
         let did = Did::Item {
             load_at: first.load_at,
             place: first.place,

@@ -21,7 +21,7 @@ use busdma_base::{Answer, ReportName, Segment};
 use std::alloc::{AllocError, Global};
 
 /// What stays of a map through its loads: the place of its tag, and its zone.
-#[derive(Clone, Copy, Debug)]
+#[derive(Clone, Copy)]
 pub(crate) struct Header {
     pub(crate) tag: u32,
     pub(crate) zone: Option<u32>,
@@ -117,7 +117,7 @@ impl PlainLane<'_> {
             tried: true,
             stage,
         };
-        self.maps.insert(alloc, map, held)
+        self.put_map(alloc, map, held)
     }
 
     /// The pages of a map leave it for the return queue.
@@ -132,7 +132,7 @@ impl PlainLane<'_> {
     {
         self.stage(alloc, map, header, emptied(pages))?;
         let back = queued_back(alloc, map, header.zone.unwrap_or(0), pages)?;
-        self.returns = joined(alloc, &self.returns, &back)?;
+        self.set_returns(joined(alloc, self.returns(), &back)?);
         Ok(())
     }
 
@@ -140,9 +140,9 @@ impl PlainLane<'_> {
     fn unlend(&mut self, alloc: Global, map: u32) -> Result<(), AllocError>
         ensures { OnOk result (ideal self.new ≡ unloads.unlent map (ideal self.old)) }
     {
-        let lost = lost_by_forgetting(alloc, &self.loans, map)?;
+        let lost = lost_by_forgetting(alloc, self.loans(), map)?;
         self.forget(lost)?;
-        self.loans.remove(alloc, map)
+        self.drop_loan(alloc, map)
     }
 
     /// The load of a map ends, of which this is the first device page: its lending and its run end, and
@@ -169,7 +169,7 @@ impl PlainLane<'_> {
     pub(crate) fn unload(&mut self, alloc: Global, map: u32) -> Result<Answer, AllocError>
         ensures { IfOk result (λ a. Gives (given self.new a) ≡ unloads.unload map (ideal self.old)) }
     {
-        let Some(held) = self.maps.get(map) else {
+        let Some(held) = self.map_at(map) else {
             return Ok(report(ReportName::Absent, 0));
         };
         if !held.is_loaded() {

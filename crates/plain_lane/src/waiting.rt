@@ -41,7 +41,7 @@ impl PlainLane<'_> {
         ensures { IfOk result (λ w. w ≡ waiting_load (ideal self.now) (asked_of asked.now) chunks.now) }
     {
         Ok(PlainLoad {
-            load_at: self.place,
+            load_at: self.place(),
             bio: same_bio(alloc, &asked.bio)?,
             items: same_items(alloc, asked.items)?,
             need: need(chunks)?,
@@ -101,7 +101,7 @@ impl PlainLane<'_> {
         ensures { let l = ideal self.old in IfOk result (λ a. given self.new a
             ≡ turns.called map (get l.maps map) pages.now l) }
     {
-        let Some(held) = self.maps.get(map) else {
+        let Some(held) = self.map_at(map) else {
             return Ok(Answer::Done);
         };
         let PlainStage::Waiting(load) = &held.stage else {

@@ -82,5 +82,6 @@ answer_text (answer.InProgress have need) =
     codes "EINPROGRESS " ++ (decimal have ++ (codes "/" ++ decimal need))
 answer_text (answer.Served moved) = codes "ok ready " ++ decimal moved
 answer_text (answer.Bytes bytes) = codes "bytes" ++ bytes_text bytes
+answer_text answer.Idle = codes "idle"
 answer_text (answer.Refused errno) = errno_name errno
 answer_text (answer.Report report) = report_text report

@@ -55,7 +55,7 @@ item_text script i = word.item_text (about_item i).word ++ (codes " " ++ name_at
 abbrev pub op_text_at : List Op → ℕ → List ℕ
 op_text_at script place = option_map_or (op_text script) (slice_get script place) []
 
--- the item at this place of the load at `load_at`; it is empty where there is none
+-- the item at this place of the load or the kick at `load_at`; it is empty where there is none
 abbrev pub item_text_at : List Op → ℕ → ℕ → List ℕ
 item_text_at script load_at place = option_map_or (item_text script) (item_at script load_at place) []
 

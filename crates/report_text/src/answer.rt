@@ -156,6 +156,7 @@ pub(crate) fn push_answer<K: Sink>(out: &mut Pieces<'_, K>, answer: &Answer)
         Answer::InProgress { have, need } => push_wait(out, *have, *need),
         Answer::Served(moved) => push_served(out, *moved),
         Answer::Bytes(bytes) => push_read(out, bytes.as_slice()),
+        Answer::Idle => out.push_str("idle"),
         Answer::Refused(errno) => out.push_str(errno_name(*errno)),
         Answer::Report(report) => push_report(out, *report),
     }

@@ -10,6 +10,3 @@ mod run_set;
 
 pub use run_counts::{Near, RunCounts};
 pub use run_set::RunSet;
-
-#[cfg(test)]
-mod tests;

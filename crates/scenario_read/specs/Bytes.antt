@@ -1,22 +1,13 @@
 -- What an operation writes.
-use Rattle.std.specs.Prelude.{ℕ, Bool, true, false, Option, Some, None, Ok, if◌then◌else◌, nat_lt, is_some}
-use Rattle.std.specs.Prelude.{codes}
+use Rattle.std.specs.Prelude.{Bool, true, false, Option, Some, None, Ok, is_some, codes}
 use Rattle.busdma_base.specs.declared.scenarios.script.Bytes.{Bytes}
 use Rattle.busdma_base.specs.declared.scenarios.script.Bytes.TheVariants.{Listed, Filled}
-use Rattle.json_fields.specs.Place.{Place, key}
 use Rattle.json_fields.specs.Read.{Read, ◌>>=◌, refuse}
 use Rattle.json_fields.specs.Field.{Spot, field}
 use Rattle.json_fields.specs.Number.{number_field}
 use Rattle.json_fields.specs.Text.{bytes_at}
 use Rattle.json_fields.specs.declared.refusal.RefusalKind.TheVariants.{BadField}
-
--- a byte that is given as a number
-abbrev pub byte_or : Place → ℕ → Read ℕ
-byte_or place n = if nat_lt n 256 then Ok n else refuse BadField place
-
--- the byte in `fill`, at most 255
-unfoldable pub fill_at : Spot → Read ℕ
-fill_at here = number_field (codes "fill") here >>= byte_or (key here.place (codes "fill"))
+use Rattle.scenario_read.specs.Numbers.{byte_field}
 
 -- bytes by `hex`
 unfoldable pub listed_at : Spot → Read Bytes
@@ -24,7 +15,10 @@ listed_at spot = bytes_at spot >>= (λ bytes. Ok (Listed bytes))
 
 -- one byte, `len` times
 unfoldable pub filled_at : Spot → Read Bytes
-filled_at here = fill_at here >>= (λ byte. number_field (codes "len") here >>= (λ n. Ok (Filled byte n)))
+filled_at here =
+    byte_field (codes "fill") here >>= (λ byte.
+    number_field (codes "len") here >>= (λ n.
+    Ok (Filled byte n)))
 
 -- `hex`, or `fill` with `len`: an operation with both or neither is refused as a whole
 abbrev pub bytes_by : Option Spot → Bool → Bool → Spot → Read Bytes

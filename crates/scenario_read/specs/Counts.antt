@@ -37,9 +37,13 @@ abbrev pub with_items : Counts → List Item → Counts
 with_items c items =
     record { steps = c.steps + length items; read = c.read + sum_by read_by_item items; loaded = c.loaded }
 
+-- behind n more steps
+abbrev pub having_stepped : Counts → ℕ → Counts
+having_stepped c n = record { steps = c.steps + n; read = c.read; loaded = c.loaded }
+
 -- behind one more step
 abbrev pub stepped : Counts → Counts
-stepped c = record { steps = c.steps + 1; read = c.read; loaded = c.loaded }
+stepped c = having_stepped c 1
 
 -- behind n more bytes that are read
 abbrev pub having_read : Counts → ℕ → Counts
@@ -61,9 +65,9 @@ pub record IsQuiet (o : Op) : Type 0 where
   pub reads_nothing : read_by o ≡ 0
   pub loads_nothing : (about o).loads ≡ None
 
--- one more step of the script
-abbrev pub step_judged : Counts → Place → Read ⊤
-step_judged c place = if nat_lt c.steps steps_limit then Ok tt else refuse (Limit limit.Steps) place
+-- n more steps of the script
+abbrev pub steps_judged : Counts → ℕ → Place → Read ⊤
+steps_judged c n place = if nat_lt steps_limit (c.steps + n) then refuse (Limit limit.Steps) place else Ok tt
 
 -- an access of n bytes
 abbrev pub access_judged : ℕ → Place → Read ⊤

@@ -4,7 +4,9 @@ use Rattle.busdma_base.specs.declared.scenarios.script.Op.{Op}
 use Rattle.busdma_base.specs.declared.scenarios.script.Item.{Item}
 use Rattle.busdma_base.specs.declared.scenarios.script.Item.TheVariants as item
 use Rattle.busdma_base.specs.Scenarios.Operations.{bytes_of}
-use Rattle.json_fields.specs.Read.{Read, ◌>>=◌}
+use Rattle.json_fields.specs.Place.{key}
+use Rattle.json_fields.specs.Read.{Read, ◌>>=◌, refuse}
+use Rattle.json_fields.specs.declared.refusal.RefusalKind.TheVariants.{BadOp}
 use Rattle.json_fields.specs.Field.{Spot, field, members_of, only_keys, one_of}
 use Rattle.json_fields.specs.Number.{number_field}
 use Rattle.json_fields.specs.Items.{items_at, each}
@@ -13,7 +15,7 @@ use Rattle.busdma_base.specs.declared.scenarios.operations.NameUse.TheVariants a
 use Rattle.busdma_base.specs.declared.scenarios.words.ItemWord.{ItemWord}
 use Rattle.busdma_base.specs.declared.scenarios.words.ItemWord.TheVariants as word
 use Rattle.scenario_read.specs.Bytes.{written_at}
-use Rattle.scenario_read.specs.Counts.{with_items, stepped, step_judged, access_judged, read_judged}
+use Rattle.scenario_read.specs.Counts.{with_items, stepped, steps_judged, access_judged, read_judged}
 use Rattle.scenario_read.specs.Names.{used_name}
 use Rattle.scenario_read.specs.Syncs.{sync_fields_at, range_fields_at}
 use Rattle.scenario_read.specs.Words.{item_word_at}
@@ -68,7 +70,7 @@ raw_write_at before here =
     access_judged (length (bytes_of bytes)) here.place >>= (λ _.
     Ok (item.DevWriteAt tag addr bytes))))))
 
--- the item of a word
+-- the item of a word; the steps of a ring are told by a kick alone, so that their word is refused as no word
 abbrev pub item_by : ItemWord → List Op → Counts → Spot → Read Item
 item_by word.Sync before c here = sync_item_at before here
 item_by word.SyncRange before c here = sync_range_item_at before here
@@ -76,12 +78,13 @@ item_by word.DevRead before c here = dev_read_at before c here
 item_by word.DevWrite before c here = dev_write_at before here
 item_by word.DevReadAt before c here = raw_read_at before c here
 item_by word.DevWriteAt before c here = raw_write_at before here
+item_by word.RingStep before c here = refuse BadOp (key here.place (codes "op"))
 
 -- an item is an object, is counted as a step, and is then read by its word
 unfoldable pub item_at : List Op → Counts → Spot → Read Item
 item_at before c here =
     members_of here >>= (λ _.
-    step_judged c here.place >>= (λ _.
+    steps_judged c 1 here.place >>= (λ _.
     item_word_at here >>= (λ w.
     item_by w before (stepped c) here)))
 

@@ -8,10 +8,12 @@ pub mod Items
 pub mod Loads
 pub mod NamedOps
 pub mod Names
+pub mod Numbers
 pub mod Ops
 pub mod Order
 pub mod Pages
 pub mod Places
+pub mod Rings
 pub mod Scenario
 pub mod Script
 pub mod Spans

@@ -1,13 +1,11 @@
 -- The operations of a script but its loads, each read by itself and by the operations before it.
-use Rattle.std.specs.Prelude.{ℕ, ◌-◌, ◌^◌, if◌then◌else◌, nat_lt, List, [], ◌∷◌, length, Ok, codes}
+use Rattle.std.specs.Prelude.{ℕ, ◌-◌, ◌^◌, List, [], ◌∷◌, length, Ok, codes}
 use Rattle.busdma_base.specs.declared.scenarios.script.Op.{Op}
 use Rattle.busdma_base.specs.declared.scenarios.script.Op.TheVariants as op
 use Rattle.busdma_machine.specs.declared.tags.tag.SpaceLimits.{SpaceLimits}
 use Rattle.busdma_machine.specs.declared.tags.tag.TagLimits.{TagLimits}
 use Rattle.busdma_base.specs.Scenarios.Operations.{bytes_of}
-use Rattle.json_fields.specs.Place.{Place, key}
-use Rattle.json_fields.specs.Read.{Read, ◌>>=◌, refuse}
-use Rattle.json_fields.specs.declared.refusal.RefusalKind.TheVariants.{BadField}
+use Rattle.json_fields.specs.Read.{Read, ◌>>=◌}
 use Rattle.json_fields.specs.Field.{Spot, field, only_keys, one_of}
 use Rattle.json_fields.specs.Number.{number_field, number_or}
 use Rattle.scenario_read.specs.declared.counts.Counts.{Counts}
@@ -18,16 +16,9 @@ use Rattle.scenario_read.specs.Bytes.{written_at}
 use Rattle.scenario_read.specs.Counts.{access_judged, read_judged}
 use Rattle.scenario_read.specs.Flags.{flags_field}
 use Rattle.scenario_read.specs.Names.{new_name, used_name, parent_or_none}
+use Rattle.scenario_read.specs.Numbers.{short_or}
 use Rattle.scenario_read.specs.Places.{access_at}
 use Rattle.scenario_read.specs.Syncs.{sync_fields_at, range_fields_at}
-
--- a number of segments has 32 bits
-abbrev pub nsegments_or : Place → ℕ → Read ℕ
-nsegments_or place n = if nat_lt n (2 ^ 32) then Ok n else refuse BadField place
-
--- the greatest number of segments
-unfoldable pub nsegments_at : Spot → Read ℕ
-nsegments_at here = number_or (codes "nsegments") 65536 here >>= nsegments_or (key here.place (codes "nsegments"))
 
 -- the limits of a tag, each with its default where it is not given
 unfoldable pub limits_at : Spot → Read TagLimits
@@ -37,7 +28,7 @@ limits_at here =
     number_or (codes "lowaddr") (2 ^ 64 - 1) here >>= (λ lowaddr.
     number_or (codes "highaddr") (2 ^ 64 - 1) here >>= (λ highaddr.
     number_or (codes "maxsize") (2 ^ 32 - 1) here >>= (λ maxsize.
-    nsegments_at here >>= (λ nsegments.
+    short_or (codes "nsegments") 65536 here >>= (λ nsegments.
     number_or (codes "maxsegsz") (2 ^ 32 - 1) here >>= (λ maxsegsz.
     flags_field set.Tag here >>= (λ flags.
     Ok (record {
@@ -69,7 +60,7 @@ space_limits_at here =
     number_or (codes "lowaddr") (2 ^ 32 - 1) here >>= (λ lowaddr.
     number_or (codes "boundary") 0 here >>= (λ boundary.
     number_or (codes "maxsize") (2 ^ 32 - 1) here >>= (λ maxsize.
-    nsegments_at here >>= (λ nsegments.
+    short_or (codes "nsegments") 65536 here >>= (λ nsegments.
     number_or (codes "maxsegsz") (2 ^ 32 - 1) here >>= (λ maxsegsz.
     Ok (record {
       boundary = boundary;

@@ -8,11 +8,12 @@ use Rattle.json_fields.specs.Items.{items_at, each}
 use Rattle.scenario_read.specs.declared.counts.Counts.{Counts}
 use Rattle.busdma_base.specs.declared.scenarios.words.OpWord.{OpWord}
 use Rattle.busdma_base.specs.declared.scenarios.words.OpWord.TheVariants as word
-use Rattle.scenario_read.specs.Counts.{with_ops, stepped, step_judged}
+use Rattle.scenario_read.specs.Counts.{with_ops, stepped, steps_judged}
 use Rattle.scenario_read.specs.Loads.{load_at, load_vector_at, load_mbuf_at, load_bio_at}
 use Rattle.scenario_read.specs.Ops.{tag_at, iommu_tag_at, tag_destroy_at, map_at, map_destroy_at, dmamem_at}
 use Rattle.scenario_read.specs.Ops.{dmamem_free_at, unload_at, sync_at, sync_range_at, cpu_read_at, cpu_write_at}
 use Rattle.scenario_read.specs.Ops.{await_at}
+use Rattle.scenario_read.specs.Rings.{ring_at, ring_post_at, kick_at}
 use Rattle.scenario_read.specs.Words.{op_word_at}
 
 -- the operation of a word
@@ -34,12 +35,15 @@ op_by word.SyncRange pages before c here = sync_range_at before here
 op_by word.CpuRead pages before c here = cpu_read_at before c here
 op_by word.CpuWrite pages before c here = cpu_write_at before here
 op_by word.Await pages before c here = await_at before here
+op_by word.Ring pages before c here = ring_at before here
+op_by word.RingPost pages before c here = ring_post_at before here
+op_by word.Kick pages before c here = kick_at before c here
 
 -- an operation is an object, is counted as a step, and is then read by its word
 unfoldable pub op_at : List PageRun → List Op → Counts → Spot → Read Op
 op_at pages before c here =
     members_of here >>= (λ _.
-    step_judged c here.place >>= (λ _.
+    steps_judged c 1 here.place >>= (λ _.
     op_word_at here >>= (λ w.
     op_by w pages before (stepped c) here)))
 

@@ -6,19 +6,9 @@ ghost use Rattle.json_fields.specs.Read.{Gives};
 ghost use Rattle.json_fields.specs.Field.{spot_of};
 ghost use Rattle.scenario_read.specs.Bytes as bytes;
 
+use crate::numbers::byte_field;
 use busdma_base::Bytes;
 use json_fields::{Node, RefusalKind, Stop};
-
-#[tactic(auto, unfolding(crate::specs::Bytes::fill_at))]
-fn fill(here: &Node) -> Result<u8, Stop>
-    ensures { Gives result (bytes.fill_at (spot_of here.now)) }
-{
-    let byte = here.number_field("fill")?;
-    if byte > 255 {
-        return Err(here.refuse_key(RefusalKind::BadField, "fill"));
-    }
-    Ok(byte as u8)
-}
 
 /// Bytes by `hex`.
 #[tactic(auto, unfolding(crate::specs::Bytes::listed_at))]
@@ -33,7 +23,7 @@ fn listed(hex: &Node) -> Result<Bytes, Stop>
 fn filled(here: &Node) -> Result<Bytes, Stop>
     ensures { Gives result (bytes.filled_at (spot_of here.now)) }
 {
-    let byte = fill(here)?;
+    let byte = byte_field(here, "fill")?;
     let len = here.number_field("len")?;
     Ok(Bytes::Filled { byte, len })
 }

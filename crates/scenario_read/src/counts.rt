@@ -4,8 +4,8 @@ ghost use Rattle.std.specs.Prelude.{◌≡◌, ◌≤◌, OnOk};
 ghost use Rattle.busdma_base.specs.Scenarios.Limits.{access_limit, buffer_limit};
 ghost use Rattle.json_fields.specs.Place.{place_of};
 ghost use Rattle.json_fields.specs.Read.{Gives};
-ghost use Rattle.scenario_read.specs.Counts.{IsWithin, stepped, having_read, having_loaded};
-ghost use Rattle.scenario_read.specs.Counts.{step_judged, access_judged, read_judged, load_judged};
+ghost use Rattle.scenario_read.specs.Counts.{IsWithin, having_stepped, having_read, having_loaded};
+ghost use Rattle.scenario_read.specs.Counts.{steps_judged, access_judged, read_judged, load_judged};
 
 use crate::limits::{ACCESS, BUFFER, LOADED, READS, STEPS};
 use json_fields::{LimitName, Node, RefusalKind, Stop};
@@ -19,17 +19,17 @@ pub(crate) struct Counts {
 }
 
 impl Counts {
-    /// Counts one more step.
-    pub fn step(&mut self, here: &Node) -> Result<(), Stop>
+    /// Counts more steps.
+    pub fn steps(&mut self, here: &Node, count: u64) -> Result<(), Stop>
         requires { IsWithin self.old }
-        ensures value { Gives result (step_judged self.old (place_of here.now.path)) }
-        ensures counted { OnOk result (self.new ≡ stepped self.old) }
+        ensures value { Gives result (steps_judged self.old count (place_of here.now.path)) }
+        ensures counted { OnOk result (self.new ≡ having_stepped self.old count) }
         ensures within { OnOk result (IsWithin self.new) }
     {
-        if self.steps >= STEPS {
+        if count > STEPS - self.steps {
             return Err(here.refuse(RefusalKind::Limit(LimitName::Steps)));
         }
-        self.steps += 1;
+        self.steps += count;
         Ok(())
     }
 

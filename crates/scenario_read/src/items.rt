@@ -1,10 +1,10 @@
 //! The items of a load.
 
-ghost use Rattle.std.specs.Prelude.{◌≡◌, [], map, IfOk};
+ghost use Rattle.std.specs.Prelude.{◌≡◌, [], false, map, IfOk};
 ghost use Rattle.std.specs.List.{AllByRecursion};
 ghost use Rattle.serde_json.specs.View.{view};
 ghost use Rattle.busdma_base.specs.Scenarios.Operations.{read_by_item};
-ghost use Rattle.busdma_base.specs.Scenarios.Script.{IsItem};
+ghost use Rattle.busdma_base.specs.Scenarios.Script.{IsItem, is_ring_step};
 ghost use Rattle.json_fields.specs.Read.{Gives, GivesSeen};
 ghost use Rattle.json_fields.specs.Field.{spot_of};
 ghost use Rattle.json_fields.specs.Items.{each};
@@ -20,13 +20,14 @@ use crate::names::used_name;
 use crate::syncs::{range_fields, sync_fields};
 use crate::words::item_word;
 use busdma_base::{Item, ItemList, ItemWord, ListOf, NameUse};
-use json_fields::{Node, Stop};
+use json_fields::{Node, RefusalKind, Stop};
 use serde_json::Value;
 
 #[tactic(auto, unfolding(crate::specs::Items::sync_item_at))]
 fn sync(here: &Node, before: &NamedOps) -> Result<Item, Stop>
     ensures value { Gives result (sync_item_at before.now (spot_of here.now)) }
     ensures valid { IfOk result (IsItem before.now) }
+    ensures of_load { IfOk result (λ i. is_ring_step i ≡ false) }
     ensures reads_nothing { IfOk result (λ i. read_by_item i ≡ 0) }
 {
     let sync = sync_fields(here, before)?;
@@ -40,6 +41,7 @@ fn sync(here: &Node, before: &NamedOps) -> Result<Item, Stop>
 fn sync_range(here: &Node, before: &NamedOps) -> Result<Item, Stop>
     ensures value { Gives result (sync_range_item_at before.now (spot_of here.now)) }
     ensures valid { IfOk result (IsItem before.now) }
+    ensures of_load { IfOk result (λ i. is_ring_step i ≡ false) }
     ensures reads_nothing { IfOk result (λ i. read_by_item i ≡ 0) }
 {
     let sync = range_fields(here, before)?;
@@ -56,6 +58,7 @@ fn dev_read(here: &Node, before: &NamedOps, counts: &mut Counts) -> Result<Item,
     requires within { IsWithin counts.old }
     ensures value { Gives result (dev_read_at before.now counts.old (spot_of here.now)) }
     ensures valid { IfOk result (IsItem before.now) }
+    ensures of_load { IfOk result (λ i. is_ring_step i ≡ false) }
     ensures counted { IfOk result (λ i. counts.new ≡ having_read counts.old (read_by_item i)) }
     ensures within { IfOk result (λ _. IsWithin counts.new) }
 {
@@ -71,6 +74,7 @@ fn dev_read(here: &Node, before: &NamedOps, counts: &mut Counts) -> Result<Item,
 fn dev_write(here: &Node, before: &NamedOps) -> Result<Item, Stop>
     ensures value { Gives result (dev_write_at before.now (spot_of here.now)) }
     ensures valid { IfOk result (IsItem before.now) }
+    ensures of_load { IfOk result (λ i. is_ring_step i ≡ false) }
     ensures reads_nothing { IfOk result (λ i. read_by_item i ≡ 0) }
 {
     here.only_keys(&["op", "map", "off", "hex", "fill", "len"])?;
@@ -86,6 +90,7 @@ fn raw_read(here: &Node, before: &NamedOps, counts: &mut Counts) -> Result<Item,
     requires within { IsWithin counts.old }
     ensures value { Gives result (raw_read_at before.now counts.old (spot_of here.now)) }
     ensures valid { IfOk result (IsItem before.now) }
+    ensures of_load { IfOk result (λ i. is_ring_step i ≡ false) }
     ensures counted { IfOk result (λ i. counts.new ≡ having_read counts.old (read_by_item i)) }
     ensures within { IfOk result (λ _. IsWithin counts.new) }
 {
@@ -101,6 +106,7 @@ fn raw_read(here: &Node, before: &NamedOps, counts: &mut Counts) -> Result<Item,
 fn raw_write(here: &Node, before: &NamedOps) -> Result<Item, Stop>
     ensures value { Gives result (raw_write_at before.now (spot_of here.now)) }
     ensures valid { IfOk result (IsItem before.now) }
+    ensures of_load { IfOk result (λ i. is_ring_step i ≡ false) }
     ensures reads_nothing { IfOk result (λ i. read_by_item i ≡ 0) }
 {
     here.only_keys(&["op", "tag", "addr", "hex", "fill", "len"])?;
@@ -121,6 +127,7 @@ fn item_by(
     requires within { IsWithin counts.old }
     ensures value { Gives result (item_by word before.now counts.old (spot_of here.now)) }
     ensures valid { IfOk result (IsItem before.now) }
+    ensures of_load { IfOk result (λ i. is_ring_step i ≡ false) }
     ensures counted { IfOk result (λ i. counts.new ≡ having_read counts.old (read_by_item i)) }
     ensures within { IfOk result (λ _. IsWithin counts.new) }
 {
@@ -131,6 +138,7 @@ fn item_by(
         ItemWord::DevWrite => dev_write(here, before),
         ItemWord::DevReadAt => raw_read(here, before, counts),
         ItemWord::DevWriteAt => raw_write(here, before),
+        ItemWord::RingStep => Err(here.refuse_key(RefusalKind::BadOp, "op")),
     }
 }
 
@@ -139,12 +147,13 @@ fn item(here: &Node, before: &NamedOps, counts: &mut Counts) -> Result<Item, Sto
     requires within { IsWithin counts.old }
     ensures value { Gives result (item_at before.now counts.old (spot_of here.now)) }
     ensures valid { IfOk result (IsItem before.now) }
+    ensures of_load { IfOk result (λ i. is_ring_step i ≡ false) }
     ensures counted { IfOk result
         (λ i. counts.new ≡ having_read (stepped counts.old) (read_by_item i)) }
     ensures within { IfOk result (λ _. IsWithin counts.new) }
 {
     here.members()?;
-    counts.step(here)?;
+    counts.steps(here, 1)?;
     let word = item_word(here)?;
     item_by(word, here, before, counts)
 }
@@ -160,6 +169,7 @@ fn each_item<'v>(
         (each (λ done. item_at before.now (with_items counts.old done)) (spot_of here.now) []
         (map view items.now)) }
     ensures valid { IfOk result (λ v. AllByRecursion (IsItem before.now) v.items) }
+    ensures of_load { IfOk result (λ v. AllByRecursion (λ i. is_ring_step i ≡ false) v.items) }
     ensures counted { IfOk result (λ v. counts.new ≡ with_items counts.old v.items) }
     ensures within { IfOk result (λ _. IsWithin counts.new) }
 {
@@ -176,6 +186,7 @@ fn then(here: &Node, before: &NamedOps, counts: &mut Counts) -> Result<ItemList,
     requires within { IsWithin counts.old }
     ensures value { Gives result (then_at before.now counts.old (spot_of here.now)) }
     ensures valid { IfOk result (AllByRecursion (IsItem before.now)) }
+    ensures of_load { IfOk result (AllByRecursion (λ i. is_ring_step i ≡ false)) }
     ensures counted { IfOk result (λ v. counts.new ≡ with_items counts.old v) }
     ensures within { IfOk result (λ _. IsWithin counts.new) }
 {
@@ -193,6 +204,7 @@ pub(crate) fn then_field(
     requires within { IsWithin counts.old }
     ensures value { Gives result (then_field before.now counts.old (spot_of here.now)) }
     ensures valid { IfOk result (AllByRecursion (IsItem before.now)) }
+    ensures of_load { IfOk result (AllByRecursion (λ i. is_ring_step i ≡ false)) }
     ensures counted { IfOk result (λ v. counts.new ≡ with_items counts.old v) }
     ensures within { IfOk result (λ _. IsWithin counts.new) }
 {

@@ -14,21 +14,11 @@ use crate::counts::{Counts, access};
 use crate::flags::{FlagSet, flags_field};
 use crate::named_ops::NamedOps;
 use crate::names::{new_name, parent, used_name};
+use crate::numbers::short_or;
 use crate::places::access_place;
 use crate::syncs::{range_fields, sync_fields};
 use busdma_base::{NameUse, Op, Pa, SpaceLimits, TagLimits};
-use json_fields::{Node, RefusalKind, Stop};
-
-// The greatest number of segments.
-#[tactic(auto, unfolding(crate::specs::Ops::nsegments_at))]
-fn nsegments(here: &Node) -> Result<u32, Stop>
-    ensures { Gives result (ops.nsegments_at (spot_of here.now)) }
-{
-    match u32::try_from(here.number_or("nsegments", 65536)?) {
-        Ok(nsegments) => Ok(nsegments),
-        Err(_) => Err(here.refuse_key(RefusalKind::BadField, "nsegments")),
-    }
-}
+use json_fields::{Node, Stop};
 
 #[tactic(auto, unfolding(crate::specs::Ops::limits_at))]
 fn limits(here: &Node) -> Result<TagLimits, Stop>
@@ -39,7 +29,7 @@ fn limits(here: &Node) -> Result<TagLimits, Stop>
     let lowaddr = here.number_or("lowaddr", u64::MAX)?;
     let highaddr = here.number_or("highaddr", u64::MAX)?;
     let maxsize = here.number_or("maxsize", u64::from(u32::MAX))?;
-    let nsegments = nsegments(here)?;
+    let nsegments = short_or(here, "nsegments", 65536)?;
     let maxsegsz = here.number_or("maxsegsz", u64::from(u32::MAX))?;
     let flags = flags_field(here, FlagSet::Tag)?;
     Ok(TagLimits {
@@ -90,7 +80,7 @@ fn space_limits(here: &Node) -> Result<SpaceLimits, Stop>
     let lowaddr = here.number_or("lowaddr", u64::from(u32::MAX))?;
     let boundary = here.number_or("boundary", 0)?;
     let maxsize = here.number_or("maxsize", u64::from(u32::MAX))?;
-    let nsegments = nsegments(here)?;
+    let nsegments = short_or(here, "nsegments", 65536)?;
     let maxsegsz = here.number_or("maxsegsz", u64::from(u32::MAX))?;
     Ok(SpaceLimits {
         boundary,

@@ -15,8 +15,8 @@ ghost use Rattle.scenario_read.specs.Script.{op_by, op_at, script_at};
 use crate::counts::Counts;
 use crate::load::{load, load_bio, load_mbuf, load_vector};
 use crate::named_ops::NamedOps;
-use crate::ops;
 use crate::words::op_word;
+use crate::{ops, rings};
 use busdma_base::{ListOf, Op, OpList, OpWord, PageRun};
 use json_fields::{Node, Stop};
 use serde_json::Value;
@@ -55,6 +55,9 @@ fn op_by(
         OpWord::CpuRead => ops::cpu_read(here, before, counts),
         OpWord::CpuWrite => ops::cpu_write(here, before),
         OpWord::Await => ops::await_op(here, before),
+        OpWord::Ring => rings::ring(here, before),
+        OpWord::RingPost => rings::ring_post(here, before),
+        OpWord::Kick => rings::kick(here, before, counts),
     }
 }
 
@@ -68,7 +71,7 @@ fn op(here: &Node, pages: &[PageRun], before: &NamedOps, counts: &mut Counts) ->
     ensures within { IfOk result (λ _. IsWithin counts.new) }
 {
     here.members()?;
-    counts.step(here)?;
+    counts.steps(here, 1)?;
     let word = op_word(here)?;
     op_by(word, here, pages, before, counts)
 }

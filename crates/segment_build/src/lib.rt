@@ -11,8 +11,6 @@ mod measured;
 mod pieces;
 mod runs;
 mod streamed;
-#[cfg(test)]
-mod tests;
 
 pub use built::{Built, build, chunk_pieces};
 pub use chunk::{chunks, need, place};

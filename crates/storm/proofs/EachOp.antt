@@ -54,6 +54,7 @@ await_valid m is rest =
       read = omega arith;
       written = omega arith;
       items = tt;
+      own_items = tt;
       listed = omega arith;
       loaded = omega arith;
     }
@@ -68,6 +69,7 @@ unload_valid m is rest =
       read = omega arith;
       written = omega arith;
       items = tt;
+      own_items = tt;
       listed = omega arith;
       loaded = omega arith;
     }
@@ -87,6 +89,7 @@ to_device_valid t small = (
     read = omega arith;
     written = rw (length-replicate t.touched t.byte) (omega arith);
     items = tt;
+    own_items = tt;
     listed = omega arith;
     loaded = omega arith;
   },
@@ -105,6 +108,7 @@ to_device_valid t small = (
           (item_valid _ t.map rest small.map refl (omega arith) (omega arith), tt),
         ),
       );
+      own_items = (refl, (refl, (refl, tt)));
       listed = omega arith;
       loaded = omega (arith, small.short);
     },
@@ -132,6 +136,7 @@ from_device_valid t small = (
         (item_valid _ t.map rest small.map refl (omega arith) (omega arith), tt),
       ),
     );
+    own_items = (refl, (refl, (refl, tt)));
     listed = omega arith;
     loaded = omega (arith, small.short);
   },
@@ -146,6 +151,7 @@ from_device_valid t small = (
         read = omega arith;
         written = omega arith;
         items = tt;
+        own_items = tt;
         listed = omega arith;
         loaded = omega arith;
       },
@@ -165,6 +171,7 @@ opening_valid ops behind = (
     read = omega arith;
     written = omega arith;
     items = tt;
+    own_items = tt;
     listed = omega arith;
     loaded = omega arith;
   },
@@ -177,6 +184,7 @@ opening_valid ops behind = (
       read = omega arith;
       written = omega arith;
       items = tt;
+      own_items = tt;
       listed = omega arith;
       loaded = omega arith;
     },
@@ -189,6 +197,7 @@ opening_valid ops behind = (
         read = omega arith;
         written = omega arith;
         items = tt;
+        own_items = tt;
         listed = omega arith;
         loaded = omega arith;
       },

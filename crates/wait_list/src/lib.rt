@@ -3,8 +3,6 @@
 
 mod deferred;
 mod ready;
-#[cfg(test)]
-mod tests;
 mod waiting;
 
 pub use deferred::Deferred;

@@ -25,30 +25,41 @@ abbrev pub is_name : List ℕ → Bool
 is_name s =
     if nat_le 1 (length s) && nat_le (length s) 32 && is_letter (slice_index s 0) then list_all in_name s else false
 
--- the thing is a tag, and no IOMMU tag; an IOMMU tag; a map; a memory, with the map of its own
+-- the thing is a tag, and no IOMMU tag; an IOMMU tag; a map; a memory, with the map of its own; a ring
 abbrev pub is_tag : NameKind → Bool
 is_tag kind.Tag = true
 is_tag kind.IommuTag = false
 is_tag kind.Map = false
 is_tag kind.Memory = false
+is_tag kind.Ring = false
 
 abbrev pub is_iommu_tag : NameKind → Bool
 is_iommu_tag kind.Tag = false
 is_iommu_tag kind.IommuTag = true
 is_iommu_tag kind.Map = false
 is_iommu_tag kind.Memory = false
+is_iommu_tag kind.Ring = false
 
 abbrev pub is_map : NameKind → Bool
 is_map kind.Tag = false
 is_map kind.IommuTag = false
 is_map kind.Map = true
 is_map kind.Memory = false
+is_map kind.Ring = false
 
 abbrev pub is_memory : NameKind → Bool
 is_memory kind.Tag = false
 is_memory kind.IommuTag = false
 is_memory kind.Map = false
 is_memory kind.Memory = true
+is_memory kind.Ring = false
+
+abbrev pub is_ring : NameKind → Bool
+is_ring kind.Tag = false
+is_ring kind.IommuTag = false
+is_ring kind.Map = false
+is_ring kind.Memory = false
+is_ring kind.Ring = true
 
 -- a thing of this kind can be used so: the map of a memory is used as a map, but where a map alone is
 abbrev pub accepts : NameUse → NameKind → Bool
@@ -58,6 +69,7 @@ accepts use_as.AnyTag k = is_tag k || is_iommu_tag k
 accepts use_as.Map k = is_map k || is_memory k
 accepts use_as.MapAlone k = is_map k
 accepts use_as.Memory k = is_memory k
+accepts use_as.Ring k = is_ring k
 
 -- the operation makes the name, as a thing that can be used so
 abbrev pub makes_for : NameUse → List ℕ → Op → Bool

@@ -53,7 +53,7 @@ abbrev pub bytes_of : Bytes → List ℕ
 bytes_of (bytes.Listed bs) = bs
 bytes_of (bytes.Filled b n) = replicate n b
 
--- a tag that is made, an IOMMU tag, a map, and a memory that is made
+-- a tag that is made, an IOMMU tag, a map, a memory, and a ring that is made
 abbrev pub new_tag : List ℕ → Option Made
 new_tag name = Some (record { kind = kind.Tag; name = name })
 
@@ -66,8 +66,11 @@ new_map name = Some (record { kind = kind.Map; name = name })
 abbrev pub new_memory : List ℕ → Option Made
 new_memory name = Some (record { kind = kind.Memory; name = name })
 
--- the tag that is no IOMMU tag, the IOMMU tag, the tag of either kind, the map or memory's map, the map alone, and the
--- memory, that was made at a place
+abbrev pub new_ring : List ℕ → Option Made
+new_ring name = Some (record { kind = kind.Ring; name = name })
+
+-- the tag that is no IOMMU tag, the IOMMU tag, the tag of either kind, the map or memory's map, the map alone, the
+-- memory, and the ring, that was made at a place
 abbrev pub tag_at : ℕ → UsedName
 tag_at made_at = record { used_as = use_as.Tag; made_at = made_at }
 
@@ -85,6 +88,9 @@ map_alone_at made_at = record { used_as = use_as.MapAlone; made_at = made_at }
 
 abbrev pub memory_at : ℕ → UsedName
 memory_at made_at = record { used_as = use_as.Memory; made_at = made_at }
+
+abbrev pub ring_at : ℕ → UsedName
+ring_at made_at = record { used_as = use_as.Ring; made_at = made_at }
 
 -- the memory in which a place lies that is told by one
 abbrev pub place_within : Place → List UsedName
@@ -130,8 +136,12 @@ about (op.CpuRead at len) = record (with_names op_word.CpuRead None []) { within
 about (op.CpuWrite at bs) =
     record (with_names op_word.CpuWrite None []) { within = place_within at; writes = length (bytes_of bs) }
 about (op.Await map) = with_names op_word.Await None (map_at map ∷ [])
+about (op.Ring name mem slots) = with_names op_word.Ring (new_ring name) (memory_at mem ∷ [])
+about (op.RingPost ring slot map off len kind fill) =
+    with_names op_word.RingPost None (ring_at ring ∷ map_at map ∷ [])
+about (op.Kick ring steps) = record (with_names op_word.Kick None (ring_at ring ∷ [])) { items = steps }
 
--- what each item is about
+-- what each item is about; the bytes that a descriptor names are counted by nobody
 abbrev pub about_item : Item → AboutItem
 about_item (item.Sync map ops) = record { word = item_word.Sync; uses = map_at map; reads = 0; writes = 0 }
 about_item (item.SyncRange map off len ops) =
@@ -143,6 +153,7 @@ about_item (item.DevReadAt tag addr len) =
     record { word = item_word.DevReadAt; uses = iommu_tag_at tag; reads = len; writes = 0 }
 about_item (item.DevWriteAt tag addr bs) =
     record { word = item_word.DevWriteAt; uses = iommu_tag_at tag; reads = 0; writes = length (bytes_of bs) }
+about_item (item.RingStep ring) = record { word = item_word.RingStep; uses = ring_at ring; reads = 0; writes = 0 }
 
 -- the items of an operation
 abbrev pub items_of : Op → List Item

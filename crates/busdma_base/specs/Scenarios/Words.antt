@@ -26,12 +26,16 @@ op_text op.SyncRange = codes "sync_range"
 op_text op.CpuRead = codes "cpu_read"
 op_text op.CpuWrite = codes "cpu_write"
 op_text op.Await = codes "await"
+op_text op.Ring = codes "ring"
+op_text op.RingPost = codes "ring_post"
+op_text op.Kick = codes "kick"
 
 -- the words of a script
 abbrev pub op_words : List OpWord
 op_words =
     op.Tag ∷ op.IommuTag ∷ op.TagDestroy ∷ op.Map ∷ op.MapDestroy ∷ op.Dmamem ∷ op.DmamemFree ∷ op.Load ∷ op.LoadVector
-    ∷ op.LoadMbuf ∷ op.LoadBio ∷ op.Unload ∷ op.Sync ∷ op.SyncRange ∷ op.CpuRead ∷ op.CpuWrite ∷ op.Await ∷ []
+    ∷ op.LoadMbuf ∷ op.LoadBio ∷ op.Unload ∷ op.Sync ∷ op.SyncRange ∷ op.CpuRead ∷ op.CpuWrite ∷ op.Await ∷ op.Ring
+    ∷ op.RingPost ∷ op.Kick ∷ []
 
 -- the word of a script that has this text
 abbrev pub op_word_of : List ℕ → Option OpWord
@@ -45,11 +49,12 @@ item_text item.DevRead = codes "dev_read"
 item_text item.DevWrite = codes "dev_write"
 item_text item.DevReadAt = codes "dev_read_at"
 item_text item.DevWriteAt = codes "dev_write_at"
+item_text item.RingStep = codes "ring_step"
 
--- the words of the items of a load
+-- the words of items
 abbrev pub item_words : List ItemWord
 item_words =
-    item.Sync ∷ item.SyncRange ∷ item.DevRead ∷ item.DevWrite ∷ item.DevReadAt ∷ item.DevWriteAt ∷ []
+    item.Sync ∷ item.SyncRange ∷ item.DevRead ∷ item.DevWrite ∷ item.DevReadAt ∷ item.DevWriteAt ∷ item.RingStep ∷ []
 
 -- the word of an item that has this text
 abbrev pub item_word_of : List ℕ → Option ItemWord

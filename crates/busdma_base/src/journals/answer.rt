@@ -23,6 +23,8 @@ pub enum Answer {
     Served(u32),
     /// These bytes were read.
     Bytes(ListOf<u8>),
+    /// The device found no descriptor of its own in the ring.
+    Idle,
     /// bus_dma(9) refuses it.
     Refused(Errno),
     /// It is outside the rules, and was not done.
@@ -53,6 +55,7 @@ impl Clone for Answer {
             },
             Answer::Served(maps) => Answer::Served(*maps),
             Answer::Bytes(bytes) => Answer::Bytes(bytes.clone()?),
+            Answer::Idle => Answer::Idle,
             Answer::Refused(errno) => Answer::Refused(*errno),
             Answer::Report(report) => Answer::Report(*report),
         })

@@ -31,7 +31,7 @@ pub enum Did {
     Release { map: MapId, page: Pa },
     /// It completed the map's deferred load.
     Callback { map: MapId },
-    /// The item at `place` in the list of the load at `load_at` of the script.
+    /// The item at `place` in the list of the load or the kick at `load_at` of the script.
     Item { load_at: u32, place: u32 },
 }
 

@@ -15,6 +15,7 @@ pub enum NameKind {
     Map,
     /// A dmamem memory, and the map of its own.
     Memory,
+    Ring,
 }
 
 /// As what an operation or an item uses a name.
@@ -30,6 +31,7 @@ pub enum NameUse {
     /// A map that is no memory's.
     MapAlone,
     Memory,
+    Ring,
 }
 
 /// A name that an operation makes, and what it stands for.
@@ -59,6 +61,7 @@ impl NameUse {
             NameUse::Map => kind == NameKind::Map || kind == NameKind::Memory,
             NameUse::MapAlone => kind == NameKind::Map,
             NameUse::Memory => kind == NameKind::Memory,
+            NameUse::Ring => kind == NameKind::Ring,
         }
     }
 }
@@ -225,6 +228,18 @@ impl Op {
             Op::CpuRead { .. } => OpAbout::with_names(OpWord::CpuRead, None, None),
             Op::CpuWrite { .. } => OpAbout::with_names(OpWord::CpuWrite, None, None),
             Op::Await { map } => OpAbout::of_map(OpWord::Await, *map),
+            Op::Ring { name, mem, .. } => OpAbout::with_names(
+                OpWord::Ring,
+                made(NameKind::Ring, name),
+                used(NameUse::Memory, *mem),
+            ),
+            Op::RingPost { ring, .. } => {
+                OpAbout::with_names(OpWord::RingPost, None, used(NameUse::Ring, *ring))
+            }
+            Op::Kick { ring, steps } => OpAbout {
+                items: steps.as_slice(),
+                ..OpAbout::with_names(OpWord::Kick, None, used(NameUse::Ring, *ring))
+            },
         }
     }
 
@@ -306,6 +321,13 @@ impl Item {
             Item::DevWrite { map, .. } => ItemAbout::of_map(ItemWord::DevWrite, *map),
             Item::DevReadAt { tag, .. } => ItemAbout::of_tag(ItemWord::DevReadAt, *tag),
             Item::DevWriteAt { tag, .. } => ItemAbout::of_tag(ItemWord::DevWriteAt, *tag),
+            Item::RingStep { ring } => ItemAbout {
+                word: ItemWord::RingStep,
+                uses: UsedName {
+                    used_as: NameUse::Ring,
+                    made_at: *ring,
+                },
+            },
         }
     }
 

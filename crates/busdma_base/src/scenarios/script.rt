@@ -100,9 +100,31 @@ pub enum Op {
     Await {
         map: u32,
     },
+    /// Makes a ring of `slots` descriptors in the first bytes of a memory.
+    Ring {
+        name: Name,
+        mem: u32,
+        slots: u32,
+    },
+    /// Writes a descriptor of a range of a map's load into a slot of a ring, for the device. `kind` says
+    /// what the device shall do, and `fill` what it shall write.
+    RingPost {
+        ring: u32,
+        slot: u32,
+        map: u32,
+        off: u64,
+        len: u64,
+        kind: u8,
+        fill: u8,
+    },
+    /// Has the device of a ring take these steps, each of which is one of that ring.
+    Kick {
+        ring: u32,
+        steps: ListOf<Item>,
+    },
 }
 
-/// An item of the transfer queue. Lengths are in bytes; offsets are in bytes of the map's load, and
+/// An item of the transfer queue: of a load, or of a kick. Lengths are in bytes; offsets are in bytes of the map's load, and
 /// an `addr` is a device address in the address space of an IOMMU tag; ops are a set of bits.
 #[derive(Debug, Drop)]
 pub enum Item {
@@ -141,6 +163,10 @@ pub enum Item {
         tag: u32,
         addr: u64,
         bytes: Bytes,
+    },
+    /// The device of a ring fetches the next descriptor and does what it says.
+    RingStep {
+        ring: u32,
     },
 }
 
@@ -212,6 +238,7 @@ impl Clone for Item {
                 addr: *addr,
                 bytes: bytes.clone()?,
             }),
+            Item::RingStep { ring } => Ok(Item::RingStep { ring: *ring }),
         }
     }
 }

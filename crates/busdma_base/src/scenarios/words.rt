@@ -23,9 +23,12 @@ pub enum OpWord {
     CpuRead,
     CpuWrite,
     Await,
+    Ring,
+    RingPost,
+    Kick,
 }
 
-/// What an item of a load does.
+/// What an item of a load or of a kick does.
 #[derive(Clone, Copy, Debug, PartialEq, Eq)]
 pub enum ItemWord {
     Sync,
@@ -34,9 +37,10 @@ pub enum ItemWord {
     DevWrite,
     DevReadAt,
     DevWriteAt,
+    RingStep,
 }
 
-const OP_WORDS: [OpWord; 17] = [
+const OP_WORDS: [OpWord; 20] = [
     OpWord::Tag,
     OpWord::IommuTag,
     OpWord::TagDestroy,
@@ -54,15 +58,19 @@ const OP_WORDS: [OpWord; 17] = [
     OpWord::CpuRead,
     OpWord::CpuWrite,
     OpWord::Await,
+    OpWord::Ring,
+    OpWord::RingPost,
+    OpWord::Kick,
 ];
 
-const ITEM_WORDS: [ItemWord; 6] = [
+const ITEM_WORDS: [ItemWord; 7] = [
     ItemWord::Sync,
     ItemWord::SyncRange,
     ItemWord::DevRead,
     ItemWord::DevWrite,
     ItemWord::DevReadAt,
     ItemWord::DevWriteAt,
+    ItemWord::RingStep,
 ];
 
 impl OpWord {
@@ -89,6 +97,9 @@ impl OpWord {
             OpWord::CpuRead => "cpu_read",
             OpWord::CpuWrite => "cpu_write",
             OpWord::Await => "await",
+            OpWord::Ring => "ring",
+            OpWord::RingPost => "ring_post",
+            OpWord::Kick => "kick",
         }
     }
 
@@ -113,6 +124,7 @@ impl ItemWord {
             ItemWord::DevWrite => "dev_write",
             ItemWord::DevReadAt => "dev_read_at",
             ItemWord::DevWriteAt => "dev_write_at",
+            ItemWord::RingStep => "ring_step",
         }
     }
 

@@ -1,8 +1,7 @@
-use crate::tests::told;
-use std::test::Fail;
+//! Whole documents, the pages of a driver, and orders.
 
 /// What is said of whole documents.
-const DOCUMENTS: &str = r#"
+pub const DOCUMENTS: &str = r#"
 NotJson <- {
 NotJson <- {"frames":[],"drivers":[]}7
 NotJson <- {"frames":[],"drivers":[],"\ud800":1}
@@ -71,27 +70,12 @@ BadField order[1] <- {"frames":[],"drivers":[{"script":[]}],"order":["s0",""]}
 BadField order[0] <- {"frames":[],"drivers":[{"script":[]}],"order":["s+0"]}
 BadField order[0] <- {"frames":[],"drivers":[{"script":[]}],"order":["s0000000000"]}
 BadField order[0] <- {"frames":[],"drivers":[{"script":[]}],"order":[0]}
+BadField <- [[[[[[[[[[[[[[[[[[[[[[[[[[[[[[[[[[[[[[[[[[[[[[[[[[[[[[[[[[[[[[[[[[[[[[[[[[[[[[[[[[[[[[[[[[[[[[[[[[[[[[[[[[[[[[[[[[[[[[[[[[[[[[[]]]]]]]]]]]]]]]]]]]]]]]]]]]]]]]]]]]]]]]]]]]]]]]]]]]]]]]]]]]]]]]]]]]]]]]]]]]]]]]]]]]]]]]]]]]]]]]]]]]]]]]]]]]]]]]]]]]]]]]]]]]]]]]
+NotJson <- [[[[[[[[[[[[[[[[[[[[[[[[[[[[[[[[[[[[[[[[[[[[[[[[[[[[[[[[[[[[[[[[[[[[[[[[[[[[[[[[[[[[[[[[[[[[[[[[[[[[[[[[[[[[[[[[[[[[[[[[[[[[[[[[]]]]]]]]]]]]]]]]]]]]]]]]]]]]]]]]]]]]]]]]]]]]]]]]]]]]]]]]]]]]]]]]]]]]]]]]]]]]]]]]]]]]]]]]]]]]]]]]]]]]]]]]]]]]]]]]]]]]]]]]]]]]]]]]
 "#;
 
-#[test]
-fn documents(rt: HostRuntime) -> Result<(), Fail> {
-    let alloc = rt.alloc();
-    for line in DOCUMENTS.trim().lines() {
-        let Some((want, input)) = line.split_once(" <- ") else {
-            panic!(rt; "{line}");
-        };
-        let told = told(alloc, input.as_bytes())?;
-        assert_eq!(rt; told.as_str(), want, "{input}");
-    }
-    for input in [b"".as_slice(), &[0xff]] {
-        let told = told(alloc, input)?;
-        assert_eq!(rt; told.as_str(), "NotJson", "{input:?}");
-    }
-    Ok(())
-}
-
 /// What is said of a driver's pages, where the machine has the frames 16 to 19 and 21.
-const PAGES: &str = r#"
+pub const PAGES: &str = r#"
 good <- ["0x1000",16,4],[0,21,1]
 good <- ["0xfffff7fffffff000",16,1]
 BadField drivers[0].pages[0] <- ["0xfffff7fffffff000",16,2]
@@ -111,18 +95,8 @@ BadField drivers[0].pages[1] <- [0,16,2],["0x1000",18,1]
 FrameAbsent drivers[0].pages[1] <- [0,16,2],["0x1000",18,3]
 "#;
 
-#[test]
-fn pages(rt: HostRuntime) -> Result<(), Fail> {
-    let alloc = rt.alloc();
-    for line in PAGES.trim().lines() {
-        let Some((want, pages)) = line.split_once(" <- ") else {
-            panic!(rt; "{line}");
-        };
-        let input = format!(in alloc;
-            r#"{{"frames":[[16,2],[18,2],[21,1]],"drivers":[{{"pages":[{pages}],"script":[]}}]}}"#
-        )?;
-        let told = told(alloc, input.as_bytes())?;
-        assert_eq!(rt; told.as_str(), want, "{pages}");
-    }
-    Ok(())
-}
+/// What is said of the actors of an order.
+pub const ACTORS: &str = r#"
+good <- 65536 times "s0"
+Limit(order) order <- 65537 times "s0"
+"#;

@@ -1,20 +1,8 @@
-use crate::tests::{repeated, told, wanted};
-use busdma_base::{Bytes, Item, Op, Pa, SpaceLimits};
-use scenario_read::{Reading, scenario_of};
-use std::alloc::{AllocError, Global};
-use std::process::Abort;
-use std::test::Fail;
+//! IOMMU tags, and accesses at device addresses.
 
-/// A document with a driver's script behind the making of a tag `t`, an IOMMU tag `u`, and a map of
-/// each: `m` and `n`.
-fn behind(alloc: Global, ops: &str) -> Result<String, AllocError> {
-    format!(in alloc;
-        r#"{{"frames":[[16,8]],"drivers":[{{"script":[{{"op":"tag","name":"t"}},{{"op":"iommu_tag","name":"u"}},{{"op":"map","name":"m","tag":"t"}},{{"op":"map","name":"n","tag":"u"}},{ops}]}}]}}"#
-    )
-}
-
-/// What is said of an operation behind these, with the path behind the script's.
-const OPS: &str = r#"
+/// What is said of an operation behind the making of a tag `t`, an IOMMU tag `u`, and a map of each: `m` and `n`, with
+/// the path behind the script's.
+pub const IOMMU_TAGS: &str = r#"
 good <- {"op":"iommu_tag","name":"x"}
 good <- {"op":"iommu_tag","name":"x","lowaddr":"0xffff","boundary":4096,"maxsize":0,"nsegments":4294967295,"maxsegsz":"0xffffffffffffffff"}
 good <- {"op":"iommu_tag","name":"x","lowaddr":0,"boundary":3,"nsegments":0,"maxsegsz":0}
@@ -51,24 +39,9 @@ BadOp [4].op <- {"op":"dev_read_at","tag":"u","addr":0,"len":1}
 BadOp [4].op <- {"op":"dev_write_at","tag":"u","addr":0,"hex":"00"}
 "#;
 
-#[test]
-fn iommu_tags(rt: HostRuntime) -> Result<(), Fail> {
-    let alloc = rt.alloc();
-    for line in OPS.trim().lines() {
-        let Some((want, op)) = line.split_once(" <- ") else {
-            panic!(rt; "{line}");
-        };
-        let input = behind(alloc, op)?;
-        let told = told(alloc, input.as_bytes())?;
-        let want = wanted(alloc, "", want)?;
-        assert_eq!(rt; told, want, "{op}");
-    }
-    Ok(())
-}
-
 /// What is said of the items of a load of no bytes behind these, with the path behind that of the
 /// items.
-const ITEMS: &str = r#"
+pub const RAW_ACCESSES: &str = r#"
 good <- {"op":"dev_read_at","tag":"u","addr":0,"len":0}
 good <- {"op":"dev_read_at","tag":"u","addr":"0xffffffffffffffff","len":4096}
 BadField [0].tag <- {"op":"dev_read_at","addr":"x","len":1}
@@ -102,122 +75,10 @@ UnknownName [0].map <- {"op":"dev_read","map":"u","off":0,"len":1}
 BadOp [0].op <- {"op":"iommu_tag","name":"x"}
 "#;
 
-#[test]
-fn raw_accesses(rt: HostRuntime) -> Result<(), Fail> {
-    let alloc = rt.alloc();
-    for line in ITEMS.trim().lines() {
-        let Some((want, items)) = line.split_once(" <- ") else {
-            panic!(rt; "{line}");
-        };
-        let load = format!(in alloc;
-            r#"{{"op":"load","map":"n","va":0,"len":0,"then":[{items}]}}"#
-        )?;
-        let input = behind(alloc, load.as_str())?;
-        let told = told(alloc, input.as_bytes())?;
-        let want = wanted(alloc, "[4].then", want)?;
-        assert_eq!(rt; told, want, "{items}");
-    }
-    Ok(())
-}
-
-const RAW_READ: &str =
-    r#"{"op":"load","map":"n","va":0,"len":0,"then":[{"op":"dev_read_at","tag":"u","addr":0,"len":4096}]}"#;
-
-const RAW_READ_AND_READ: &str =
-    r#"{"op":"load","map":"n","va":0,"len":0,"then":[{"op":"dev_read_at","tag":"u","addr":0,"len":4096}]},{"op":"cpu_read","va":0,"len":4096}"#;
-
-const RAW_WRITE: &str =
-    r#"{"op":"load","map":"n","va":0,"len":0,"then":[{"op":"dev_write_at","tag":"u","addr":0,"fill":0,"len":4096}]}"#;
-
-/// A raw read counts for the limit on reads, a raw write does not.
-#[test]
-fn raw_reads(rt: HostRuntime) -> Result<(), Fail> {
-    let alloc = rt.alloc();
-    for (times, op, want) in [
-        (256, RAW_READ, "good"),
-        (257, RAW_READ, "Limit(reads) [260].then[0]"),
-        (129, RAW_READ_AND_READ, "Limit(reads) [260].then[0]"),
-        (257, RAW_WRITE, "good"),
-    ] {
-        let ops = repeated(alloc, op, times)?;
-        let input = behind(alloc, ops.as_str())?;
-        let told = told(alloc, input.as_bytes())?;
-        let want = wanted(alloc, "", want)?;
-        assert_eq!(rt; told, want, "{times} times {op}");
-    }
-    Ok(())
-}
-
-const SPACES: &str = r#"{"frames":[["0x1000",1]],"drivers":[{"script":[
- {"op":"iommu_tag","name":"u"},
- {"op":"iommu_tag","name":"w","lowaddr":"0xffff","boundary":8192,"maxsize":5000,"nsegments":3,"maxsegsz":4096},
- {"op":"map","name":"n","tag":"w"},
- {"op":"load","map":"n","va":0,"len":0,"then":[
-  {"op":"dev_write_at","tag":"w","addr":"0x1010","fill":171,"len":2},
-  {"op":"dev_read_at","tag":"u","addr":"0xffffffffffffffff","len":1}]},
- {"op":"tag_destroy","tag":"w"}]}]}"#;
-
-/// The limits of an IOMMU tag of which none is given.
-const OPEN: SpaceLimits = SpaceLimits {
-    boundary: 0,
-    lowaddr: Pa(0xffffffff),
-    maxsize: 0xffffffff,
-    nsegments: 65536,
-    maxsegsz: 0xffffffff,
-};
-
-/// The limits of the tag `w`.
-const NARROW: SpaceLimits = SpaceLimits {
-    boundary: 8192,
-    lowaddr: Pa(0xffff),
-    maxsize: 5000,
-    nsegments: 3,
-    maxsegsz: 4096,
-};
-
-/// What a good reading says of the scenario of spaces.
-fn spaces(rt: &impl Abort, script: &[Op]) {
-    let [open, narrow, map, load, end] = script else {
-        panic!(rt; "a script of {} operations", script.len());
-    };
-    match (open, narrow) {
-        (Op::IommuTag { name, limits }, Op::IommuTag { limits: narrow, .. }) => {
-            assert_eq!(rt; name.as_str(), "u");
-            assert_eq!(rt; *limits, OPEN);
-            assert_eq!(rt; *narrow, NARROW);
-        }
-        other => panic!(rt; "{other:?}"),
-    }
-    match (map, load, end) {
-        (Op::Map { tag: 1, .. }, Op::Load { then, .. }, Op::TagDestroy { tag: 1 }) => {
-            match then.as_slice() {
-                [
-                    Item::DevWriteAt {
-                        tag: 1,
-                        addr: 0x1010,
-                        bytes: Bytes::Filled { byte: 171, len: 2 },
-                    },
-                    Item::DevReadAt {
-                        tag: 0,
-                        addr: 0xffffffffffffffff,
-                        len: 1,
-                    },
-                ] => {}
-                other => panic!(rt; "{other:?}"),
-            }
-        }
-        other => panic!(rt; "{other:?}"),
-    }
-}
-
-#[test]
-fn a_scenario_of_spaces(rt: HostRuntime) -> Result<(), Fail> {
-    match scenario_of(rt.alloc(), SPACES.as_bytes())? {
-        Reading::Good(scenario) => match scenario.drivers.as_slice() {
-            [driver] => spaces(&rt, driver.script.as_slice()),
-            other => panic!(rt; "{other:?}"),
-        },
-        Reading::Bad(refusal) => panic!(rt; "{refusal}"),
-    }
-    Ok(())
-}
+/// What is said of repeated loads behind these: a raw read counts for the limit on reads, a raw write does not.
+pub const REPEATED: &str = r#"
+good <- 256 times {"op":"load","map":"n","va":0,"len":0,"then":[{"op":"dev_read_at","tag":"u","addr":0,"len":4096}]}
+Limit(reads) [260].then[0] <- 257 times {"op":"load","map":"n","va":0,"len":0,"then":[{"op":"dev_read_at","tag":"u","addr":0,"len":4096}]}
+Limit(reads) [260].then[0] <- 129 times {"op":"load","map":"n","va":0,"len":0,"then":[{"op":"dev_read_at","tag":"u","addr":0,"len":4096}]},{"op":"cpu_read","va":0,"len":4096}
+good <- 257 times {"op":"load","map":"n","va":0,"len":0,"then":[{"op":"dev_write_at","tag":"u","addr":0,"fill":0,"len":4096}]}
+"#;

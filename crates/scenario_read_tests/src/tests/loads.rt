@@ -1,9 +1,8 @@
-use crate::tests::{repeated, scripted, told, wanted};
-use std::test::Fail;
+//! Loads of vectors, chains and bios.
 
 /// What is said of a load of a vector, a chain or a bio behind the making of a tag `t` and a map `m`, for a driver
 /// whose one page has the frame 16, with the path behind the script's.
-const LOADS: &str = r#"
+pub const LOADS: &str = r#"
 good <- {"op":"load_vector","map":"m","entries":[]}
 good <- {"op":"load_vector","map":"m","entries":[{"va":"0x1000","len":8},{"len":0,"va":0}],"flags":["WAITOK","NOWAIT"],"then":[]}
 good <- {"op":"load_vector","map":"m","entries":[{"va":0,"len":1}],"then":[{"op":"dev_read","map":"m","off":0,"len":1}]}
@@ -90,85 +89,33 @@ BadFlag [2].flags[0] <- {"op":"load_bio","map":"m","bio":{"kind":"vector","entri
 BadField [2].then[0] <- {"op":"load_bio","map":"m","bio":{"kind":"vector","entries":[]},"then":[7]}
 "#;
 
-#[test]
-fn loads(rt: HostRuntime) -> Result<(), Fail> {
-    let alloc = rt.alloc();
-    for line in LOADS.trim().lines() {
-        let Some((want, op)) = line.split_once(" <- ") else {
-            panic!(rt; "{line}");
-        };
-        let input = scripted(alloc, op)?;
-        let told = told(alloc, input.as_bytes())?;
-        let want = wanted(alloc, "", want)?;
-        assert_eq!(rt; told, want, "{op}");
-    }
-    Ok(())
-}
-
-/// Lists of loads: where each stands behind the script, and the text around its elements, which are those that are
-/// given.
-const LISTS: &str = r#"
-[2].entries <- {"va":0,"len":0} in {"op":"load_vector","map":"m","entries":[*]}
-[2].entries <- {"va":0,"len":0} in {"op":"load_mbuf","map":"m","entries":[*]}
-[2].bio.entries <- {"va":0,"len":256} in {"op":"load_bio","map":"m","bio":{"kind":"vector","entries":[*]}}
-[2].bio.frames <- 16 in {"op":"load_bio","map":"m","bio":{"kind":"unmapped","frames":[*],"off":0,"len":0}}
+/// What is said of the entries of a vector or a chain: at the limit a list is read, and one element past it the list is
+/// refused, whatever its elements are.
+pub const ENTRIES: &str = r#"
+good <- 4096 times {"va":0,"len":0}
+Limit(entries) [2].entries <- 4097 times {"va":0,"len":0}
+Limit(entries) [2].entries <- 4097 times []
 "#;
 
-/// At the limit a list is read, and one element past it the list is refused, whatever its elements are.
-#[test]
-fn lists(rt: HostRuntime) -> Result<(), Fail> {
-    let alloc = rt.alloc();
-    for line in LISTS.trim().lines() {
-        let Some((path, rest)) = line.split_once(" <- ") else {
-            panic!(rt; "{line}");
-        };
-        let Some((element, around)) = rest.split_once(" in ") else {
-            panic!(rt; "{line}");
-        };
-        let Some((before, behind)) = around.split_once("*") else {
-            panic!(rt; "{line}");
-        };
-        let limit = format!(in alloc; "Limit(entries) {path}")?;
-        for (element, times, want) in [
-            (element, 4096, "good"),
-            (element, 4097, limit.as_str()),
-            ("[]", 4097, limit.as_str()),
-        ] {
-            let list = repeated(alloc, element, times)?;
-            let op = format!(in alloc; "{before}{list}{behind}")?;
-            let input = scripted(alloc, op.as_str())?;
-            let told = told(alloc, input.as_bytes())?;
-            let want = wanted(alloc, "", want)?;
-            assert_eq!(rt; told, want, "{times} {element} in {around}");
-        }
-    }
-    Ok(())
-}
-
-/// What is said of the frames of a bio, where the first driver has the frame 1 and the second the frame 2.
-const FRAMES: &str = r#"
-good <- "pages":[[0,2,1]] 2
-FrameAbsent drivers[1].script[2].bio.frames[0] <- "pages":[[0,2,1]] 1
-FrameAbsent drivers[1].script[2].bio.frames[0] <- "pages":[[0,2,1]] 0
-good <- "pages":[[0,3,2],[8192,2,1]] 2
-FrameAbsent drivers[1].script[2].bio.frames[0] <- "pages":[] 2
+/// The same of the entries of a bio.
+pub const BIO_ENTRIES: &str = r#"
+good <- 4096 times {"va":0,"len":256}
+Limit(entries) [2].bio.entries <- 4097 times {"va":0,"len":256}
+Limit(entries) [2].bio.entries <- 4097 times []
 "#;
 
-#[test]
-fn frames_of_other_drivers(rt: HostRuntime) -> Result<(), Fail> {
-    let alloc = rt.alloc();
-    for line in FRAMES.trim().lines() {
-        let Some((want, rest)) = line.split_once(" <- ") else {
-            panic!(rt; "{line}");
-        };
-        let Some((pages, frame)) = rest.split_once(" ") else {
-            panic!(rt; "{line}");
-        };
-        let input = format!(in alloc;
-            r#"{{"frames":[[0,8]],"drivers":[{{"pages":[[0,1,1]],"script":[]}},{{{pages},"script":[{{"op":"tag","name":"t"}},{{"op":"map","name":"m","tag":"t"}},{{"op":"load_bio","map":"m","bio":{{"kind":"unmapped","frames":[{frame}],"off":0,"len":1}}}}]}}]}}"#
-        )?;
-        let told = told(alloc, input.as_bytes())?;
-        assert_eq!(rt; told.as_str(), want, "{rest}");
-    }
-    Ok(())
-}
+/// The same of the frames of a bio.
+pub const BIO_FRAMES: &str = r#"
+good <- 4096 times 16
+Limit(entries) [2].bio.frames <- 4097 times 16
+Limit(entries) [2].bio.frames <- 4097 times []
+"#;
+
+/// What is said of the frames of a bio of the second driver and of its pages, where the first driver has the frame 1.
+pub const FRAMES: &str = r#"
+good <- 2],"off":0,"len":1}}],"pages":[[0,2,1]]
+FrameAbsent drivers[1].script[2].bio.frames[0] <- 1],"off":0,"len":1}}],"pages":[[0,2,1]]
+FrameAbsent drivers[1].script[2].bio.frames[0] <- 0],"off":0,"len":1}}],"pages":[[0,2,1]]
+good <- 2],"off":0,"len":1}}],"pages":[[0,3,2],[8192,2,1]]
+FrameAbsent drivers[1].script[2].bio.frames[0] <- 2],"off":0,"len":1}}],"pages":[]
+"#;

@@ -1,9 +1,8 @@
-use crate::tests::{scripted, told, wanted};
-use std::test::Fail;
+//! Operations and items.
 
 /// What is said of an operation behind the making of a tag `t` and a map `m`, with the path behind
 /// the script's.
-const OPS: &str = r#"
+pub const OPERATIONS: &str = r#"
 BadField [2] <- 7
 BadField [2].op <- {}
 BadField [2].op <- {"op":7}
@@ -125,24 +124,9 @@ BadField [2].map <- {"op":"await","map":["m"]}
 BadField [4].map <- {"op":"map","name":"n","tag":"t"},{"op":"await","map":"n"},{"op":"await","map":"N"}
 "#;
 
-#[test]
-fn operations(rt: HostRuntime) -> Result<(), Fail> {
-    let alloc = rt.alloc();
-    for line in OPS.trim().lines() {
-        let Some((want, op)) = line.split_once(" <- ") else {
-            panic!(rt; "{line}");
-        };
-        let input = scripted(alloc, op)?;
-        let told = told(alloc, input.as_bytes())?;
-        let want = wanted(alloc, "", want)?;
-        assert_eq!(rt; told, want, "{op}");
-    }
-    Ok(())
-}
-
 /// What is said of the items of a load of no bytes behind a tag `t` and a map `m`, with the path
 /// behind that of the items.
-const ITEMS: &str = r#"
+pub const ITEMS: &str = r#"
 good <- {"op":"sync","map":"m","ops":["PREWRITE"]},{"op":"dev_read","map":"m","off":0,"len":4096}
 BadField [1] <- {"op":"sync","map":"m","ops":[]},7
 BadOp [0].op <- {"op":"load","map":"m","va":0,"len":0}
@@ -167,20 +151,21 @@ BadField [0].off <- {"op":"dev_write","map":"m","hex":"ff"}
 BadField [0].hex <- {"op":"dev_write","map":"m","off":0,"hex":"f"}
 "#;
 
-#[test]
-fn items(rt: HostRuntime) -> Result<(), Fail> {
-    let alloc = rt.alloc();
-    for line in ITEMS.trim().lines() {
-        let Some((want, items)) = line.split_once(" <- ") else {
-            panic!(rt; "{line}");
-        };
-        let load = format!(in alloc;
-            r#"{{"op":"load","map":"m","va":0,"len":0,"then":[{items}]}}"#
-        )?;
-        let input = scripted(alloc, load.as_str())?;
-        let told = told(alloc, input.as_bytes())?;
-        let want = wanted(alloc, "[2].then", want)?;
-        assert_eq!(rt; told, want, "{items}");
-    }
-    Ok(())
-}
+/// What is said of operations that are repeated behind a tag `t` and a map `m`, with the path behind the script's.
+pub const REPEATED: &str = r#"
+good <- 4094 times {"op":"await","map":"m"}
+Limit(steps) [4096] <- 4095 times {"op":"await","map":"m"}
+good <- 2047 times {"op":"load","map":"m","va":0,"len":4096,"then":[{"op":"sync","map":"m","ops":[]}]}
+Limit(steps) [2049] <- 2048 times {"op":"load","map":"m","va":0,"len":4096,"then":[{"op":"sync","map":"m","ops":[]}]}
+BadField [2].then[1] <- 1 times {"op":"load","map":"m","va":0,"len":4096,"then":[{"op":"sync","map":"m","ops":[]},7]}
+good <- 16 times {"op":"load","map":"m","va":0,"len":1048576}
+Limit(loaded) [18] <- 17 times {"op":"load","map":"m","va":0,"len":1048576}
+good <- 16 times {"op":"load_mbuf","map":"m","entries":[{"va":0,"len":524287},{"va":0,"len":524288}]},{"op":"load_bio","map":"m","bio":{"kind":"unmapped","frames":[],"off":0,"len":1}}
+Limit(loaded) [34] <- 17 times {"op":"load_mbuf","map":"m","entries":[{"va":0,"len":524287},{"va":0,"len":524288}]},{"op":"load_bio","map":"m","bio":{"kind":"unmapped","frames":[],"off":0,"len":1}}
+Limit(loaded) [18] <- 17 times {"op":"load_vector","map":"m","entries":[{"va":0,"len":1048575},{"va":0,"len":1}],"then":[]}
+good <- 256 times {"op":"cpu_read","va":0,"len":4096}
+good <- 256 times {"op":"cpu_read","va":0,"len":4096},{"op":"cpu_read","va":0,"len":0}
+Limit(reads) [258] <- 257 times {"op":"cpu_read","va":0,"len":4096}
+good <- 128 times {"op":"load","map":"m","va":0,"len":0,"then":[{"op":"dev_read","map":"m","off":0,"len":4096}]},{"op":"cpu_read","va":0,"len":4096}
+Limit(reads) [258].then[0] <- 129 times {"op":"load","map":"m","va":0,"len":0,"then":[{"op":"dev_read","map":"m","off":0,"len":4096}]},{"op":"cpu_read","va":0,"len":4096}
+"#;

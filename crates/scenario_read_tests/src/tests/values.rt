@@ -1,9 +1,11 @@
-use busdma_base::{Bio, Buffer, Bytes, Driver, Item, Op, Pa, Place, Side, Span, TagLimits, Va};
-use scenario_read::{Reading, scenario_of};
-use std::process::Abort;
+//! What the reader makes of texts, as `Debug` tells it.
+
+use scenario_read::scenario_of;
+use std::alloc::{AllocError, Global};
 use std::test::Fail;
 
-const FIVE_BYTES: &str =
+/// Operations and items of a driver without IOMMU.
+const OPERATIONS: &str =
     r#"{"frames":[["0x10",8],["0x1000",16]],"order":["d0","c0"],"drivers":[{"pages":[["0x100000","0x1000",1]],"script":[
  {"op":"tag","name":"t","highaddr":"0xffff","flags":["WAITOK","KEEP_PG_OFFSET"]},
  {"op":"map","name":"m","tag":"t"},
@@ -20,149 +22,24 @@ const FIVE_BYTES: &str =
  {"op":"tag_destroy","tag":"u"},
  {"op":"cpu_read","va":"0x100000","len":2}]}]}"#;
 
-/// The limits of the tag `t`.
-const LIMITS: TagLimits = TagLimits {
-    alignment: 1,
-    boundary: 0,
-    lowaddr: Pa(0xffffffffffffffff),
-    highaddr: Pa(0xffff),
-    maxsize: 0xffffffff,
-    nsegments: 65536,
-    maxsegsz: 0xffffffff,
-    flags: 2,
-};
+/// What stands in that scenario.
+const OPERATIONS_MADE: &[&str] = &[
+    r#"frames: ListOf { items: [FrameRun { first: 16, count: 8 }, FrameRun { first: 4096, count: 16 }] }, max_bpages: 8192,"#,
+    r#"pages: ListOf { items: [PageRun { va: Va(1048576), frame: 4096, count: 1 }] }"#,
+    r#"Tag { name: Text { text: "t" }, parent: None, limits: TagLimits { alignment: 1, boundary: 0,"#,
+    r#"lowaddr: Pa(18446744073709551615), highaddr: Pa(65535), maxsize: 4294967295, nsegments: 65536,"#,
+    r#"nsegments: 65536, maxsegsz: 4294967295, flags: 2 } }, Map { name: Text { text: "m" }, tag: 0 }"#,
+    r#"CpuWrite { place: At(Va(1048576)), bytes: Listed(ListOf { items: [104, 101, 108, 108, 111] }) }"#,
+    r#"Load { map: 1, buffer: Flat { place: At(Va(1048577)), len: 5 }, flags: 1, then:"#,
+    r#"[Sync { map: 1, ops: 5 }, DevRead { map: 1, off: 0, len: 5 }, DevWrite { map: 1, off: 1,"#,
+    r#"bytes: Filled { byte: 7, len: 2 } }, SyncRange { map: 1, off: 2, len: 3, ops: 8 }] } }"#,
+    r#"Await { map: 1 }, Unload { map: 1 }, Tag { name: Text { text: "u" }, parent: Some(0),"#,
+    r#"MapDestroy { map: 1 }, TagDestroy { tag: 6 }, CpuRead { place: At(Va(1048576)), len: 2 }"#,
+    r#"order: ListOf { items: [Actor { lane: LaneId(0), side: Transfer }, Actor { lane: LaneId(0), side: Callback }] }"#,
+];
 
-/// What a good reading says of the scenario of five bytes, part by part.
-fn values(rt: &impl Abort, driver: &Driver) {
-    assert_eq!(rt; driver.pages.len(), 1);
-    let [
-        tag,
-        map,
-        write,
-        load,
-        wait,
-        unload,
-        child,
-        end_map,
-        end_tag,
-        read,
-    ] = driver.script.as_slice()
-    else {
-        panic!(rt; "a script of {} operations", driver.script.len());
-    };
-    match tag {
-        Op::Tag {
-            name,
-            parent: None,
-            limits,
-        } => {
-            assert_eq!(rt; name.as_str(), "t");
-            assert_eq!(rt; *limits, LIMITS);
-        }
-        other => panic!(rt; "{other:?}"),
-    }
-    match load {
-        Op::Load {
-            map: 1,
-            buffer: Buffer::Flat {
-                place: Place::At(va),
-                len: 5,
-            },
-            flags: 1,
-            then,
-        } => {
-            assert_eq!(rt; *va, Va(0x100001));
-            transfers(rt, then.as_slice());
-        }
-        other => panic!(rt; "{other:?}"),
-    }
-    match (map, write) {
-        (
-            Op::Map { tag: 0, .. },
-            Op::CpuWrite {
-                bytes: Bytes::Listed(bytes),
-                ..
-            },
-        ) => {
-            assert_eq!(rt; bytes.as_slice(), b"hello".as_slice());
-        }
-        other => panic!(rt; "{other:?}"),
-    }
-    match (child, read) {
-        (
-            Op::Tag {
-                parent: Some(0),
-                ..
-            },
-            Op::CpuRead {
-                place: Place::At(Va(0x100000)),
-                len: 2,
-            },
-        ) => {}
-        other => panic!(rt; "{other:?}"),
-    }
-    match (wait, unload, end_map, end_tag) {
-        (
-            Op::Await { map: 1 },
-            Op::Unload { map: 1 },
-            Op::MapDestroy { map: 1 },
-            Op::TagDestroy { tag: 6 },
-        ) => {}
-        other => panic!(rt; "{other:?}"),
-    }
-}
-
-/// The items of its load.
-fn transfers(rt: &impl Abort, items: &[Item]) {
-    match items {
-        [
-            Item::Sync { map: 1, ops: 5 },
-            Item::DevRead {
-                map: 1,
-                off: 0,
-                len: 5,
-            },
-            Item::DevWrite {
-                map: 1,
-                off: 1,
-                bytes: Bytes::Filled { byte: 7, len: 2 },
-            },
-            Item::SyncRange {
-                map: 1,
-                off: 2,
-                len: 3,
-                ops: 8,
-            },
-        ] => {}
-        other => panic!(rt; "{other:?}"),
-    }
-}
-
-#[test]
-fn a_scenario(rt: HostRuntime) -> Result<(), Fail> {
-    let alloc = rt.alloc();
-    match scenario_of(alloc, FIVE_BYTES.as_bytes())? {
-        Reading::Good(scenario) => {
-            assert_eq!(rt; scenario.frames.len(), 2);
-            assert_eq!(rt; scenario.max_bpages, 8192);
-            match scenario.order.as_slice() {
-                [first, second] => {
-                    assert_eq!(rt; first.side, Side::Transfer);
-                    assert_eq!(rt; second.side, Side::Callback);
-                }
-                other => panic!(rt; "{other:?}"),
-            }
-            match scenario.drivers.as_slice() {
-                [driver] => values(&rt, driver),
-                other => panic!(rt; "{other:?}"),
-            }
-        }
-        Reading::Bad(refusal) => panic!(rt; "{refusal}"),
-    }
-    Ok(())
-}
-
-const FIVE_BUFFERS: &str =
+/// Loads of each kind.
+const BUFFERS: &str =
     r#"{"frames":[["0x1000",16]],"drivers":[{"pages":[["0x100000","0x1000",3]],"script":[
  {"op":"tag","name":"t"},
  {"op":"map","name":"m","tag":"t"},
@@ -172,82 +49,96 @@ const FIVE_BUFFERS: &str =
  {"op":"load_bio","map":"m","bio":{"kind":"vector","entries":[{"va":"0x100000","len":7}]},"flags":["WAITOK"]},
  {"op":"load_bio","map":"m","bio":{"kind":"unmapped","frames":["0x1002","0x1000"],"off":4000,"len":200}}]}]}"#;
 
-/// What is loaded, with its flags and the number of its items.
-fn loaded<'a>(rt: &impl Abort, op: &'a Op) -> (&'a Buffer, u32, usize) {
-    match op {
-        Op::Load {
-            map: 1,
-            buffer,
-            flags,
-            then,
-        } => (buffer, *flags, then.len()),
-        other => panic!(rt; "{other:?}"),
-    }
-}
+/// What stands in that scenario.
+const BUFFERS_MADE: &[&str] = &[
+    r#"Vector(ListOf { items: [Span { va: Va(1048576), len: 8 }, Span { va: Va(1048584), len: 0 }] }), flags: 1,"#,
+    r#"Mbuf(ListOf { items: [Span { va: Va(1052672), len: 54 }] }), flags: 0, then: ListOf { items: [Sync {"#,
+    r#"Bio(Mapped(Span { va: Va(1048576), len: 9 })), flags: 0,"#,
+    r#"Bio(Vector(ListOf { items: [Span { va: Va(1048576), len: 7 }] })), flags: 0,"#,
+    r#"Bio(Unmapped { frames: ListOf { items: [4098, 4096] }, off: 4000, len: 200 }), flags: 0,"#,
+];
 
-/// A span of these numbers.
-fn span(va: u64, len: u64) -> Span {
-    Span { va: Va(va), len }
-}
+/// Memories, and places in them.
+const MEMORIES: &str = r#"{"frames":[["0x10",8]],"drivers":[{"script":[
+ {"op":"tag","name":"t"},
+ {"op":"dmamem","name":"ring","tag":"t","flags":["COHERENT","WAITOK","ZERO"]},
+ {"op":"dmamem","name":"plain","tag":"t"},
+ {"op":"dmamem","name":"now","tag":"t","flags":["NOWAIT"]},
+ {"op":"load","map":"plain","mem":"ring","len":64,"then":[{"op":"sync","map":"now","ops":[]}]},
+ {"op":"cpu_read","mem":"now","off":"0x10","len":2},
+ {"op":"cpu_read","mem":"plain","len":2},
+ {"op":"cpu_write","mem":"ring","off":7,"hex":"01"},
+ {"op":"load","map":"ring","va":"0xfffff80000010000","len":1},
+ {"op":"dmamem_free","mem":"plain"}]}]}"#;
 
-/// What a good reading says of the loads of the scenario of five buffers.
-fn buffers(rt: &impl Abort, script: &[Op]) {
-    let [_, _, vector, chain, mapped, spans, unmapped] = script else {
-        panic!(rt; "a script of {} operations", script.len());
-    };
-    match loaded(rt, vector) {
-        (Buffer::Vector(spans), 1, 0) => {
-            assert_eq!(rt;
-                spans.as_slice(),
-                [span(0x100000, 8), span(0x100008, 0)].as_slice()
-            );
-        }
-        other => panic!(rt; "{other:?}"),
-    }
-    match loaded(rt, chain) {
-        (Buffer::Mbuf(chain), 0, 1) => {
-            assert_eq!(rt; chain.as_slice(), [span(0x101000, 54)].as_slice());
-        }
-        other => panic!(rt; "{other:?}"),
-    }
-    match loaded(rt, mapped) {
-        (Buffer::Bio(Bio::Mapped(bytes)), 0, 0) => {
-            assert_eq!(rt; *bytes, span(0x100000, 9));
-        }
-        other => panic!(rt; "{other:?}"),
-    }
-    match loaded(rt, spans) {
-        (Buffer::Bio(Bio::Vector(spans)), 0, 0) => {
-            assert_eq!(rt; spans.as_slice(), [span(0x100000, 7)].as_slice());
-        }
-        other => panic!(rt; "{other:?}"),
-    }
-    match loaded(rt, unmapped) {
-        (
-            Buffer::Bio(
-                Bio::Unmapped {
-                    frames,
-                    off: 4000,
-                    len: 200,
-                },
-            ),
-            0,
-            0,
-        ) => {
-            assert_eq!(rt; frames.as_slice(), [0x1002, 0x1000].as_slice());
-        }
-        other => panic!(rt; "{other:?}"),
-    }
+/// What stands in that scenario.
+const MEMORIES_MADE: &[&str] = &[
+    r#"Dmamem { name: Text { text: "ring" }, tag: 0, flags: 6 }, Dmamem { name: Text { text: "plain" }, tag: 0, flags: 0 }"#,
+    r#"Dmamem { name: Text { text: "now" }, tag: 0, flags: 1 }"#,
+    r#"Load { map: 2, buffer: Flat { place: In { mem: 1, off: 0 }, len: 64 }, flags: 0, then: ListOf { items: [Sync { map: 3,"#,
+    r#"CpuRead { place: In { mem: 3, off: 16 }, len: 2 }, CpuRead { place: In { mem: 2, off: 0 }, len: 2 }"#,
+    r#"CpuWrite { place: In { mem: 1, off: 7 }, bytes: Listed(ListOf { items: [1] }) }"#,
+    r#"Load { map: 1, buffer: Flat { place: At(Va(18446735277616594944)), len: 1 },"#,
+    r#"DmamemFree { mem: 2 }"#,
+];
+
+/// IOMMU tags, and accesses at device addresses.
+const SPACES: &str = r#"{"frames":[["0x1000",1]],"drivers":[{"script":[
+ {"op":"iommu_tag","name":"u"},
+ {"op":"iommu_tag","name":"w","lowaddr":"0xffff","boundary":8192,"maxsize":5000,"nsegments":3,"maxsegsz":4096},
+ {"op":"map","name":"n","tag":"w"},
+ {"op":"load","map":"n","va":0,"len":0,"then":[
+  {"op":"dev_write_at","tag":"w","addr":"0x1010","fill":171,"len":2},
+  {"op":"dev_read_at","tag":"u","addr":"0xffffffffffffffff","len":1}]},
+ {"op":"tag_destroy","tag":"w"}]}]}"#;
+
+/// What stands in that scenario.
+const SPACES_MADE: &[&str] = &[
+    r#"IommuTag { name: Text { text: "u" }, limits: SpaceLimits { boundary: 0, lowaddr: Pa(4294967295), maxsize: 4294967295,"#,
+    r#"maxsize: 4294967295, nsegments: 65536, maxsegsz: 4294967295 } }, IommuTag { name: Text { text: "w" },"#,
+    r#"limits: SpaceLimits { boundary: 8192, lowaddr: Pa(65535), maxsize: 5000, nsegments: 3, maxsegsz: 4096 } }"#,
+    r#"Map { name: Text { text: "n" }, tag: 1 }"#,
+    r#"[DevWriteAt { tag: 1, addr: 4112, bytes: Filled { byte: 171, len: 2 } }, DevReadAt { tag: 0,"#,
+    r#"DevReadAt { tag: 0, addr: 18446744073709551615, len: 1 }"#,
+    r#"TagDestroy { tag: 1 }"#,
+];
+
+/// A ring, posts to it, and a kick.
+const RINGS: &str = r#"{"frames":[["0x10",8]],"drivers":[{"script":[
+ {"op":"tag","name":"t"},
+ {"op":"map","name":"m","tag":"t"},
+ {"op":"dmamem","name":"q","tag":"t"},
+ {"op":"ring","name":"r","mem":"q","slots":4},
+ {"op":"ring_post","ring":"r","slot":3,"map":"m","off":10,"len":"0xff","kind":2,"fill":"0x7e"},
+ {"op":"ring_post","ring":"r","slot":0,"map":"q","off":0,"len":0,"kind":1},
+ {"op":"kick","ring":"r","count":2}]}]}"#;
+
+/// What stands in that scenario.
+const RINGS_MADE: &[&str] = &[
+    r#"Ring { name: Text { text: "r" }, mem: 2, slots: 4 }, RingPost { ring: 3, slot: 3, map: 1, off: 10, len: 255,"#,
+    r#"len: 255, kind: 2, fill: 126 }, RingPost { ring: 3, slot: 0, map: 2, off: 0, len: 0, kind: 1, fill: 0 }"#,
+    r#"Kick { ring: 3, steps: ListOf { items: [RingStep { ring: 3 }, RingStep { ring: 3 }] } }"#,
+];
+
+/// Whether this stands in what is made of a text.
+fn has(alloc: Global, text: &str, part: &str) -> Result<bool, AllocError> {
+    let reading = scenario_of(alloc, text.as_bytes())?;
+    let told = format!(in alloc; "{reading:?}")?;
+    Ok(told.contains(part))
 }
 
 #[test]
-fn a_scenario_of_buffers(rt: HostRuntime) -> Result<(), Fail> {
-    match scenario_of(rt.alloc(), FIVE_BUFFERS.as_bytes())? {
-        Reading::Good(scenario) => match scenario.drivers.as_slice() {
-            [driver] => buffers(&rt, driver.script.as_slice()),
-            other => panic!(rt; "{other:?}"),
-        },
-        Reading::Bad(refusal) => panic!(rt; "{refusal}"),
+fn values(rt: HostRuntime) -> Result<(), Fail> {
+    for (text, parts) in [
+        (OPERATIONS, OPERATIONS_MADE),
+        (BUFFERS, BUFFERS_MADE),
+        (MEMORIES, MEMORIES_MADE),
+        (SPACES, SPACES_MADE),
+        (RINGS, RINGS_MADE),
+    ] {
+        for part in parts {
+            assert!(rt; has(rt.alloc(), text, part)?, "{part}");
+        }
     }
     Ok(())
 }

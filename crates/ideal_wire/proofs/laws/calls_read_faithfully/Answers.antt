@@ -1,3 +1,4 @@
+use Rattle.ideal_wire.proofs.FaithfulRings.{head-reads, ring-reads}
 use Rattle.ideal_wire.proofs.Wiring.{cpu_read-reads, dev_read-reads, dev_read_at-reads}
 use Rattle.ideal_wire.proofs.laws.calls_read_faithfully.Goals as goal
 
@@ -11,3 +12,9 @@ pub returns-clause-dev_at : goal.returns-clause-dev_at
 returns-clause-dev_at c = λ l w t addr len apart stands laid spaced mapped f.
     dev_read_at-reads l w apart laid f
     (record { stands = stands; laid = laid; spaced = spaced; mapped = mapped }) t addr len
+
+pub returns-clause-head : goal.returns-clause-head
+returns-clause-head c = λ l w r apart laid f fine. head-reads l w apart laid f r fine
+
+pub returns-clause-ring : goal.returns-clause-ring
+returns-clause-ring c = λ l w k apart laid f. ring-reads l w apart laid f k

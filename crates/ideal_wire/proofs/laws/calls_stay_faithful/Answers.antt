@@ -1,5 +1,5 @@
 use Rattle.ideal_wire.proofs.Calls.{sync-faithful, sync_range-faithful, cpu_write-faithful, dev_write-faithful}
-use Rattle.ideal_wire.proofs.Calls.{dev_write_at-faithful}
+use Rattle.ideal_wire.proofs.Calls.{dev_write_at-faithful, ring_post-faithful, ring_step-faithful}
 use Rattle.ideal_wire.proofs.laws.calls_stay_faithful.Goals as goal
 
 pub returns-clause-sync : goal.returns-clause-sync
@@ -18,3 +18,10 @@ pub returns-clause-dev_write_at : goal.returns-clause-dev_write_at
 returns-clause-dev_write_at c = λ l w t addr vs r apart stands laid spaced mapped f.
     dev_write_at-faithful l w apart laid f
     (record { stands = stands; laid = laid; spaced = spaced; mapped = mapped }) t addr vs r
+
+pub returns-clause-ring_post : goal.returns-clause-ring_post
+returns-clause-ring_post c = λ l w k slot m off len kind fill r apart laid f.
+    ring_post-faithful l w apart laid f k slot m off len kind fill r
+
+pub returns-clause-ring_step : goal.returns-clause-ring_step
+returns-clause-ring_step c = λ l w k r apart stands laid f. ring_step-faithful l w apart laid f stands k r

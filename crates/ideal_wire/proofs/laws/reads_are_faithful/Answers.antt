@@ -1,3 +1,4 @@
+use Rattle.ideal_wire.proofs.FaithfulRings.{head-reads, ring-reads}
 use Rattle.ideal_wire.proofs.Frames.{agreeing-apart}
 use Rattle.ideal_wire.proofs.Wiring.{cpu_read-reads, dev_read-reads, dev_read_at-reads}
 use Rattle.ideal_wire.proofs.laws.reads_are_faithful.Goals as goal
@@ -14,3 +15,11 @@ pub returns-clause-dev_at : goal.returns-clause-dev_at
 returns-clause-dev_at c = λ l a w t addr len stands agrees laid spaced mapped f.
     dev_read_at-reads l w (agreeing-apart l a agrees stands laid) laid f
     (record { stands = stands; laid = laid; spaced = spaced; mapped = mapped }) t addr len
+
+pub returns-clause-head : goal.returns-clause-head
+returns-clause-head c = λ l a w r stands agrees laid f fine.
+    head-reads l w (agreeing-apart l a agrees stands laid) laid f r fine
+
+pub returns-clause-ring : goal.returns-clause-ring
+returns-clause-ring c = λ l a w k stands agrees laid f.
+    ring-reads l w (agreeing-apart l a agrees stands laid) laid f k

@@ -6,7 +6,7 @@ use Rattle.ideal_lane.specs.Turns.{operation}
 use Rattle.ideal_wire.specs.WireStep as wires
 use Rattle.lane_state.specs.Doing.{IsAllowedBy, IsDone, asks}
 use Rattle.lane_state.specs.Ideal.{given, ideal_of}
-use Rattle.lane_state.specs.Kept.{map_of, memory_of, tag_of}
+use Rattle.lane_state.specs.Kept.{map_of, memory_of, ring_of, tag_of}
 use Rattle.lane_state.specs.Wire.{wire_of}
 use Rattle.lane_state.proofs.Doors.{always-ok, ok-weak}
 use Rattle.lane_state.proofs.Following.{stays-all, stays-held}
@@ -436,3 +436,101 @@ pub returns-in_err-make_iommu_tag-in-IommuTag-clause-due : goal.returns-in_err-m
 returns-in_err-make_iommu_tag-in-IommuTag-clause-due g c =
     state-promise c.args.holdings.now c.make_iommu_tag.new.holdings
     (ap (λ a. a.promised) c.make_iommu_tag.ensures.rest.agenda) c.in_err-make_iommu_tag-in-IommuTag.ensures.err
+
+pub make_ring-requires-clause-vacant : goal.make_ring-requires-clause-vacant
+make_ring-requires-clause-vacant g c =
+    let h = c.args.holdings.now in
+    vacant ring_of h.rings.map h.agenda.place (c.requires.stands.no_ring h.agenda.place (omega arith))
+
+pub returns-in_ok-make_ring-in-Ring-clause-done : goal.returns-in_ok-make_ring-in-Ring-clause-done
+returns-in_ok-make_ring-in-Ring-clause-done g c =
+    quiet-done c.args.holdings.now c.make_ring.new.holdings c.args.op.now _ c.in-Ring.is
+    c.in_ok-make_ring-in-Ring.field-0 c.unheld-in-Ring.result
+    c.unheld-in-Ring.ensures c.in_ok-make_ring-in-Ring.ensures.done (g.D.HubDoor.seen c.args.door.now)
+
+pub returns-in_ok-make_ring-in-Ring-clause-held : goal.returns-in_ok-make_ring-in-Ring-clause-held
+returns-in_ok-make_ring-in-Ring-clause-held g c =
+    quiet-held c.args.holdings.now c.make_ring.new.holdings c.args.op.now _ c.in-Ring.is
+    c.in_ok-make_ring-in-Ring.field-0 c.unheld-in-Ring.result
+    c.unheld-in-Ring.ensures c.in_ok-make_ring-in-Ring.ensures.done
+
+pub returns-in_ok-make_ring-in-Ring-clause-wire : goal.returns-in_ok-make_ring-in-Ring-clause-wire
+returns-in_ok-make_ring-in-Ring-clause-wire g c =
+    paged-wire c.args.holdings.now c.make_ring.new.holdings c.args.op.now _ c.in-Ring.is
+    c.make_ring.ensures.memories refl
+    (stays-all c.args.holdings.now c.make_ring.new.holdings c.make_ring.ensures.bytes)
+
+pub returns-in_ok-make_ring-in-Ring-clause-due : goal.returns-in_ok-make_ring-in-Ring-clause-due
+returns-in_ok-make_ring-in-Ring-clause-due g c =
+    done-promise c.args.holdings.now c.make_ring.new.holdings c.requires.stands c.args.op.now
+    c.unheld-in-Ring.result.answer (g.D.HubDoor.seen c.args.door.now) (g.D.HubDoor.seen c.args.door.now)
+    (returns-in_ok-make_ring-in-Ring-clause-done g c) (subst IsStillOp (sym c.in-Ring.is) tt)
+    (ap (λ a. a.promised) c.make_ring.ensures.agenda)
+
+pub returns-in_err-make_ring-in-Ring-clause-due : goal.returns-in_err-make_ring-in-Ring-clause-due
+returns-in_err-make_ring-in-Ring-clause-due g c =
+    state-promise c.args.holdings.now c.make_ring.new.holdings (ap (λ a. a.promised) c.make_ring.ensures.agenda)
+    c.in_err-make_ring-in-Ring.ensures.err
+
+pub returns-in_ok-post-in-RingPost-clause-done : goal.returns-in_ok-post-in-RingPost-clause-done
+returns-in_ok-post-in-RingPost-clause-done g c =
+    quiet-done c.args.holdings.now c.post.new.holdings c.args.op.now _ c.in-RingPost.is
+    c.in_ok-post-in-RingPost.field-0 c.unheld-in-RingPost.result
+    c.unheld-in-RingPost.ensures c.in_ok-post-in-RingPost.ensures.done (g.D.HubDoor.seen c.args.door.now)
+
+pub returns-in_ok-post-in-RingPost-clause-held : goal.returns-in_ok-post-in-RingPost-clause-held
+returns-in_ok-post-in-RingPost-clause-held g c =
+    quiet-held c.args.holdings.now c.post.new.holdings c.args.op.now _ c.in-RingPost.is
+    c.in_ok-post-in-RingPost.field-0 c.unheld-in-RingPost.result
+    c.unheld-in-RingPost.ensures c.in_ok-post-in-RingPost.ensures.done
+
+pub returns-in_ok-post-in-RingPost-clause-wire : goal.returns-in_ok-post-in-RingPost-clause-wire
+returns-in_ok-post-in-RingPost-clause-wire g c =
+    done-wire c.args.holdings.now c.post.new.holdings c.args.op.now _ c.in-RingPost.is c.post.ensures.memories
+    c.in_ok-post-in-RingPost.ensures.wire
+
+pub returns-in_ok-post-in-RingPost-clause-due : goal.returns-in_ok-post-in-RingPost-clause-due
+returns-in_ok-post-in-RingPost-clause-due g c =
+    done-promise c.args.holdings.now c.post.new.holdings c.requires.stands c.args.op.now
+    c.unheld-in-RingPost.result.answer (g.D.HubDoor.seen c.args.door.now) (g.D.HubDoor.seen c.args.door.now)
+    (returns-in_ok-post-in-RingPost-clause-done g c) (subst IsStillOp (sym c.in-RingPost.is) tt)
+    (ap (λ a. a.promised) c.post.ensures.agenda)
+
+pub returns-in_err-post-in-RingPost-clause-due : goal.returns-in_err-post-in-RingPost-clause-due
+returns-in_err-post-in-RingPost-clause-due g c =
+    state-promise c.args.holdings.now c.post.new.holdings (ap (λ a. a.promised) c.post.ensures.agenda)
+    c.in_err-post-in-RingPost.ensures.err
+
+pub kick-requires : goal.kick-requires
+kick-requires g c =
+    let h = c.args.holdings.now in
+    let few = few-items h c.args.op.now c.requires.here c.requires.room in
+    record { room = subst (λ (o : Op). length (items_of o) ≤ h.agenda.room) c.in-Kick.is few }
+
+pub returns-in_ok-kick-in-Kick-clause-done : goal.returns-in_ok-kick-in-Kick-clause-done
+returns-in_ok-kick-in-Kick-clause-done g c =
+    quiet-done c.args.holdings.now c.kick.new.holdings c.args.op.now _ c.in-Kick.is
+    c.in_ok-kick-in-Kick.field-0 c.unheld-in-Kick.result
+    c.unheld-in-Kick.ensures c.in_ok-kick-in-Kick.ensures.done (g.D.HubDoor.seen c.args.door.now)
+
+pub returns-in_ok-kick-in-Kick-clause-held : goal.returns-in_ok-kick-in-Kick-clause-held
+returns-in_ok-kick-in-Kick-clause-held g c =
+    quiet-held c.args.holdings.now c.kick.new.holdings c.args.op.now _ c.in-Kick.is
+    c.in_ok-kick-in-Kick.field-0 c.unheld-in-Kick.result
+    c.unheld-in-Kick.ensures c.in_ok-kick-in-Kick.ensures.done
+
+pub returns-in_ok-kick-in-Kick-clause-wire : goal.returns-in_ok-kick-in-Kick-clause-wire
+returns-in_ok-kick-in-Kick-clause-wire g c =
+    paged-wire c.args.holdings.now c.kick.new.holdings c.args.op.now _ c.in-Kick.is
+    c.kick.ensures.memories refl
+    (stays-all c.args.holdings.now c.kick.new.holdings c.kick.ensures.bytes)
+
+pub returns-in_ok-kick-in-Kick-clause-due : goal.returns-in_ok-kick-in-Kick-clause-due
+returns-in_ok-kick-in-Kick-clause-due g c =
+    done-promise c.args.holdings.now c.kick.new.holdings c.requires.stands c.args.op.now
+    c.unheld-in-Kick.result.answer (g.D.HubDoor.seen c.args.door.now) (g.D.HubDoor.seen c.args.door.now)
+    (returns-in_ok-kick-in-Kick-clause-done g c) (subst IsStillOp (sym c.in-Kick.is) tt) c.kick.ensures.promised
+
+pub returns-in_err-kick-in-Kick-clause-due : goal.returns-in_err-kick-in-Kick-clause-due
+returns-in_err-kick-in-Kick-clause-due g c =
+    state-promise c.args.holdings.now c.kick.new.holdings c.kick.ensures.promised c.in_err-kick-in-Kick.ensures.err

@@ -77,6 +77,7 @@ invariant_of-holdings-2 g c =
       tag_places = h.tag_places ∙ length;
       map_places = ap (λ t. t.places) maps ∙ h.map_places ∙ length;
       memory_places = h.memory_places ∙ length;
+      ring_places = h.ring_places ∙ length;
       loaded = now.loaded;
       unlent = now.unlent;
       promised = subst (λ (n : ℕ). pages_due c.note_returned.new.maps.map ≤ n) (sym (ap (λ a. a.promised) all))
@@ -207,6 +208,7 @@ returns-in_err-map-clause-same g c =
         maxmem = refl;
         memory = refl;
         memories = refl;
+        rings = refl;
         loans = refl;
         shares = refl;
       };

@@ -17,6 +17,7 @@ returns-clause-same c =
         maxmem = refl;
         memory = refl;
         memories = refl;
+        rings = refl;
         loans = refl;
         shares = refl;
       };

@@ -37,6 +37,7 @@ invariant_of-holdings-2 c =
       tag_places = h.tag_places;
       map_places = h.map_places;
       memory_places = h.memory_places;
+      ring_places = h.ring_places;
       loaded = are.loaded;
       unlent = are.unlent;
       promised = are.promised;

@@ -80,6 +80,7 @@ invariant_of-holdings c =
       tag_places = h.tag_places ∙ sym (ap (λ a. a.length) agenda);
       map_places = h.map_places ∙ sym (ap (λ a. a.length) agenda);
       memory_places = h.memory_places ∙ sym (ap (λ a. a.length) agenda);
+      ring_places = h.ring_places ∙ sym (ap (λ a. a.length) agenda);
       loaded = are.loaded;
       unlent = are.unlent;
       promised = are.promised;

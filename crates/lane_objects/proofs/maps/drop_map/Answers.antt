@@ -31,6 +31,7 @@ invariant_of-holdings c =
       tag_places = h.tag_places;
       map_places = ap (λ t. t.places) taken ∙ h.map_places;
       memory_places = h.memory_places;
+      ring_places = h.ring_places;
       loaded = are.loaded;
       unlent = are.unlent;
       promised = are.promised;

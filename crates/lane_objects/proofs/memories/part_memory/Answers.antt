@@ -84,6 +84,7 @@ invariant_of-holdings c =
       tag_places = h.tag_places;
       map_places = h.map_places;
       memory_places = ap (λ (t : Places KeptMemory). t.places) taken ∙ h.memory_places;
+      ring_places = h.ring_places;
       loaded = λ k. ap (λ ls. Rattle.std.specs.FinMap.contains_key ls k)
           (c.drop_bytes.ensures.loans ∙ c.drop_prepared.ensures.loans) ∙ h.loaded k;
       unlent = h.unlent;

@@ -28,6 +28,7 @@ invariant_of-holdings-2 c =
       tag_places = h.tag_places;
       map_places = ap (λ t. t.places) c.reserve.ensures.kept ∙ h.map_places;
       memory_places = ap (λ t. t.places) c.reserve-2.ensures.kept ∙ h.memory_places;
+      ring_places = h.ring_places;
       loaded = λ k. ap (λ ls. contains_key ls k) same.loans ∙ are.loaded k;
       unlent = are.unlent;
       promised = are.promised;

@@ -9,6 +9,7 @@ pub loop-value-preserved : goal.loop-value-preserved
 loop-value-preserved c = record {
   rest = grind (arith, common_steps);
   valid = grind (arith, common_steps);
+  of_load = grind (arith, common_steps);
   counted = rw c.in_ok-push.ensures.items
       (c.in_ok-item.ensures.counted ∙ ap (λ k. having_read (stepped k) (read_by_item c.in_ok-item.item))
       c.loop-value.invariant.counted ∙ with_items_more _ _ _);

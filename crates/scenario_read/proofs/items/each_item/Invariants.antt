@@ -1,7 +1,7 @@
-use Rattle.std.proofs.Common.{◌≡◌, [], drop, map}
+use Rattle.std.proofs.Common.{◌≡◌, [], drop, false, map}
 use Rattle.std.specs.List.{AllByRecursion}
 use Rattle.serde_json.specs.View.{view}
-use Rattle.busdma_base.specs.Scenarios.Script.{IsItem}
+use Rattle.busdma_base.specs.Scenarios.Script.{IsItem, is_ring_step}
 use Rattle.json_fields.specs.Field.{spot_of}
 use Rattle.json_fields.specs.Items.{each}
 use Rattle.scenario_read.specs.Counts.{IsWithin, with_items}
@@ -14,6 +14,7 @@ invariant-loop-value l = record {
       (map view (drop l.value-index l.items))
       ≡ each (λ done. item_at l.before (with_items l.fn.counts done)) (spot_of l.here) [] (map view l.items);
   valid : AllByRecursion (IsItem l.before) l.done.items;
+  of_load : AllByRecursion (λ i. is_ring_step i ≡ false) l.done.items;
   counted : l.counts ≡ with_items l.fn.counts l.done.items;
   within : IsWithin l.counts;
 }

@@ -13,7 +13,7 @@ use Rattle.ideal_lane.proofs.Weights.{weigh-empty}
 use Rattle.lane_state.specs.declared.kept.KeptMemory.{KeptMemory}
 use Rattle.lane_state.specs.Covered.{items_left, pages_due}
 use Rattle.lane_state.specs.Held.{devices_of}
-use Rattle.lane_state.specs.Kept.{map_of, memory_of, return_of, share_of, spaces_of, tag_of}
+use Rattle.lane_state.specs.Kept.{map_of, memory_of, return_of, ring_of, share_of, spaces_of, tag_of}
 use Rattle.lane_state.specs.MapValues.{map_values}
 use Rattle.lane_state.proofs.MapValues.{map_values-empty}
 use Rattle.lane_state.proofs.OwnRuns.{AreKnown}
@@ -57,49 +57,49 @@ invariant_of-result-clause-standing c = λ k x e.
 
 pub invariant_of-result-clause-loaded : goal.invariant_of-result-clause-loaded
 invariant_of-result-clause-loaded c =
-    (opens-mapless c.in_ok-new-2.field-0.map c.in_ok-opening_loans.field-0.loans c.in_ok-new-4.field-0.returns 0
+    (opens-mapless c.in_ok-new-2.field-0.map c.in_ok-opening_loans.field-0.loans c.in_ok-new-5.field-0.returns 0
     (ap (λ t. t.map) c.in_ok-new-2.ensures) c.in_ok-opening_loans.ensures.loans
-    (ap (λ a. a.returns) c.in_ok-new-4.ensures)).loaded
+    (ap (λ a. a.returns) c.in_ok-new-5.ensures)).loaded
 
 pub invariant_of-result-clause-unlent : goal.invariant_of-result-clause-unlent
 invariant_of-result-clause-unlent c =
-    (opens-mapless c.in_ok-new-2.field-0.map c.in_ok-opening_loans.field-0.loans c.in_ok-new-4.field-0.returns 0
+    (opens-mapless c.in_ok-new-2.field-0.map c.in_ok-opening_loans.field-0.loans c.in_ok-new-5.field-0.returns 0
     (ap (λ t. t.map) c.in_ok-new-2.ensures) c.in_ok-opening_loans.ensures.loans
-    (ap (λ a. a.returns) c.in_ok-new-4.ensures)).unlent
+    (ap (λ a. a.returns) c.in_ok-new-5.ensures)).unlent
 
 pub invariant_of-result-clause-promised : goal.invariant_of-result-clause-promised
 invariant_of-result-clause-promised c =
-    (opens-mapless c.in_ok-new-2.field-0.map c.in_ok-opening_loans.field-0.loans c.in_ok-new-4.field-0.returns
-    c.in_ok-new-4.field-0.promised
+    (opens-mapless c.in_ok-new-2.field-0.map c.in_ok-opening_loans.field-0.loans c.in_ok-new-5.field-0.returns
+    c.in_ok-new-5.field-0.promised
     (ap (λ t. t.map) c.in_ok-new-2.ensures) c.in_ok-opening_loans.ensures.loans
-    (ap (λ a. a.returns) c.in_ok-new-4.ensures)).promised
+    (ap (λ a. a.returns) c.in_ok-new-5.ensures)).promised
 
 pub invariant_of-result-clause-own_returns : goal.invariant_of-result-clause-own_returns
 invariant_of-result-clause-own_returns c =
     ap (λ rs. list_any (λ (q : QueuedPage). not (q.map.lane.0 == c.args.id.0)) rs)
-    (ap (λ a. a.returns) c.in_ok-new-4.ensures)
+    (ap (λ a. a.returns) c.in_ok-new-5.ensures)
 
 pub invariant_of-result-clause-returning : goal.invariant_of-result-clause-returning
 invariant_of-result-clause-returning c =
-    (opens-mapless c.in_ok-new-2.field-0.map c.in_ok-opening_loans.field-0.loans c.in_ok-new-4.field-0.returns 0
+    (opens-mapless c.in_ok-new-2.field-0.map c.in_ok-opening_loans.field-0.loans c.in_ok-new-5.field-0.returns 0
     (ap (λ t. t.map) c.in_ok-new-2.ensures) c.in_ok-opening_loans.ensures.loans
-    (ap (λ a. a.returns) c.in_ok-new-4.ensures)).returning
+    (ap (λ a. a.returns) c.in_ok-new-5.ensures)).returning
 
 pub invariant_of-result-clause-tried : goal.invariant_of-result-clause-tried
 invariant_of-result-clause-tried c =
-    (opens-mapless c.in_ok-new-2.field-0.map c.in_ok-opening_loans.field-0.loans c.in_ok-new-4.field-0.returns 0
+    (opens-mapless c.in_ok-new-2.field-0.map c.in_ok-opening_loans.field-0.loans c.in_ok-new-5.field-0.returns 0
     (ap (λ t. t.map) c.in_ok-new-2.ensures) c.in_ok-opening_loans.ensures.loans
-    (ap (λ a. a.returns) c.in_ok-new-4.ensures)).tried
+    (ap (λ a. a.returns) c.in_ok-new-5.ensures)).tried
 
 pub invariant_of-result-2-clause-length : goal.invariant_of-result-2-clause-length
 invariant_of-result-2-clause-length c =
-    ap (λ a. a.length) c.in_ok-new-4.ensures ∙ sym (ap length c.as_slice-script.ensures)
+    ap (λ a. a.length) c.in_ok-new-5.ensures ∙ sym (ap length c.as_slice-script.ensures)
 
 pub invariant_of-result-2-clause-room : goal.invariant_of-result-2-clause-room
 invariant_of-result-2-clause-room c =
-    let agenda = c.in_ok-new-4.ensures in
+    let agenda = c.in_ok-new-5.ensures in
     let script = c.as_slice-script.ensures in
-    let left : items_left c.in_ok-new-4.field-0.place c.as_slice-script.result.now ≡ c.in_ok-new-4.field-0.room =
+    let left : items_left c.in_ok-new-5.field-0.place c.as_slice-script.result.now ≡ c.in_ok-new-5.field-0.room =
     ap (λ a. items_left a.place c.as_slice-script.result.now) agenda
     ∙ ap script_items script ∙ sym (ap (λ a. a.room) agenda) in
     let maps = ap (λ t. map_values map_of t.map) c.in_ok-new-2.ensures ∙ map_values-empty map_of in
@@ -110,7 +110,7 @@ invariant_of-result-2-clause-room c =
 
 pub invariant_of-result-2-clause-wired : goal.invariant_of-result-2-clause-wired
 invariant_of-result-2-clause-wired c =
-    let agenda = c.in_ok-new-4.ensures in
+    let agenda = c.in_ok-new-5.ensures in
     let loans = c.in_ok-opening_loans.ensures.loans in
     let known =
     subst (λ pages. AreKnown pages c.in_ok-opening_loans.field-0.bytes) c.as_slice-pages.ensures
@@ -121,6 +121,7 @@ invariant_of-result-2-clause-wired c =
     let tags = ap (λ t. map_values tag_of t.map) c.in_ok-new.ensures ∙ map_values-empty tag_of in
     let maps = ap (λ t. map_values map_of t.map) c.in_ok-new-2.ensures ∙ map_values-empty map_of in
     let mems = ap (λ t. map_values memory_of t.map) c.in_ok-new-3.ensures ∙ map_values-empty memory_of in
+    let rings = ap (λ t. map_values ring_of t.map) c.in_ok-new-4.ensures ∙ map_values-empty ring_of in
     let spaces = ap (λ t. spaces_of t.map) c.in_ok-new.ensures ∙ spaces-empty in
     opens-wired c.args.id.0 c.args.maxmem c.args.driver.now _
     (λ i. record {
@@ -132,11 +133,12 @@ invariant_of-result-2-clause-wired c =
       tags = tags i;
       maps = maps i;
       mems = mems i;
+      rings = rings i;
       memory = memory i;
       loans = loans i;
       queue = (agenda i).queue;
       returns = map return_of (agenda i).returns;
-      shares = share_of (c.new-5.ensures.items i);
+      shares = share_of (c.new-6.ensures.items i);
       spaces = spaces i;
     })
     (ap (λ t. t.map) c.in_ok-new-2.ensures) c.requires.memory.zero c.requires.numbered c.requires.inside
@@ -144,7 +146,7 @@ invariant_of-result-2-clause-wired c =
 
 pub invariant_of-result-2-clause-stands : goal.invariant_of-result-2-clause-stands
 invariant_of-result-2-clause-stands c =
-    let agenda = c.in_ok-new-4.ensures in
+    let agenda = c.in_ok-new-5.ensures in
     let loans = c.in_ok-opening_loans.ensures.loans in
     let known =
     subst (λ pages. AreKnown pages c.in_ok-opening_loans.field-0.bytes) c.as_slice-pages.ensures
@@ -155,6 +157,7 @@ invariant_of-result-2-clause-stands c =
     let tags = ap (λ t. map_values tag_of t.map) c.in_ok-new.ensures ∙ map_values-empty tag_of in
     let maps = ap (λ t. map_values map_of t.map) c.in_ok-new-2.ensures ∙ map_values-empty map_of in
     let mems = ap (λ t. map_values memory_of t.map) c.in_ok-new-3.ensures ∙ map_values-empty memory_of in
+    let rings = ap (λ t. map_values ring_of t.map) c.in_ok-new-4.ensures ∙ map_values-empty ring_of in
     let spaces = ap (λ t. spaces_of t.map) c.in_ok-new.ensures ∙ spaces-empty in
     let is : _ ≡ opening_lane c.args.id.0 c.args.maxmem c.args.driver.now =
     (λ i. record {
@@ -166,11 +169,12 @@ invariant_of-result-2-clause-stands c =
       tags = tags i;
       maps = maps i;
       mems = mems i;
+      rings = rings i;
       memory = memory i;
       loans = loans i;
       queue = (agenda i).queue;
       returns = map return_of (agenda i).returns;
-      shares = share_of (c.new-5.ensures.items i);
+      shares = share_of (c.new-6.ensures.items i);
       spaces = spaces i;
     }) in
     ∣ subst Stands (sym is) (opens-standing c.args.id.0 c.args.maxmem c.args.driver.now) ∣₁
@@ -178,11 +182,11 @@ invariant_of-result-2-clause-stands c =
 pub invariant_of-result-2-clause-small : goal.invariant_of-result-2-clause-small
 invariant_of-result-2-clause-small c =
     opens-small c.args.driver.now _ c.requires.script c.requires.small c.as_slice-script.ensures
-    (ap (λ a. a.place) c.in_ok-new-4.ensures) (ap (λ a. a.promised) c.in_ok-new-4.ensures)
+    (ap (λ a. a.place) c.in_ok-new-5.ensures) (ap (λ a. a.promised) c.in_ok-new-5.ensures)
     (let none : pages_due c.in_ok-new-2.field-0.map ≤ 0 =
-    (opens-mapless c.in_ok-new-2.field-0.map c.in_ok-opening_loans.field-0.loans c.in_ok-new-4.field-0.returns 0
+    (opens-mapless c.in_ok-new-2.field-0.map c.in_ok-opening_loans.field-0.loans c.in_ok-new-5.field-0.returns 0
     (ap (λ t. t.map) c.in_ok-new-2.ensures) c.in_ok-opening_loans.ensures.loans
-    (ap (λ a. a.returns) c.in_ok-new-4.ensures)).promised in
+    (ap (λ a. a.returns) c.in_ok-new-5.ensures)).promised in
     omega (arith, none))
 
 pub invariant_of-result-clause-awaiting : goal.invariant_of-result-clause-awaiting
@@ -200,7 +204,7 @@ invariant_of-result-clause-ready c =
 
 pub returns : goal.returns
 returns c =
-    let agenda = c.in_ok-new-4.ensures in
+    let agenda = c.in_ok-new-5.ensures in
     let loans = c.in_ok-opening_loans.ensures.loans in
     let known =
     subst (λ pages. AreKnown pages c.in_ok-opening_loans.field-0.bytes) c.as_slice-pages.ensures
@@ -211,6 +215,7 @@ returns c =
     let tags = ap (λ t. map_values tag_of t.map) c.in_ok-new.ensures ∙ map_values-empty tag_of in
     let maps = ap (λ t. map_values map_of t.map) c.in_ok-new-2.ensures ∙ map_values-empty map_of in
     let mems = ap (λ t. map_values memory_of t.map) c.in_ok-new-3.ensures ∙ map_values-empty memory_of in
+    let rings = ap (λ t. map_values ring_of t.map) c.in_ok-new-4.ensures ∙ map_values-empty ring_of in
     let spaces = ap (λ t. spaces_of t.map) c.in_ok-new.ensures ∙ spaces-empty in
     (λ i. record {
       id = c.args.id.0;
@@ -221,10 +226,11 @@ returns c =
       tags = tags i;
       maps = maps i;
       mems = mems i;
+      rings = rings i;
       memory = memory i;
       loans = loans i;
       queue = (agenda i).queue;
       returns = map return_of (agenda i).returns;
-      shares = share_of (c.new-5.ensures.items i);
+      shares = share_of (c.new-6.ensures.items i);
       spaces = spaces i;
     })

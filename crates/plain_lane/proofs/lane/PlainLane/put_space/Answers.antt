@@ -6,6 +6,7 @@ use Rattle.plain_lane.specs.Spaces.{spaces_of}
 use Rattle.plain_lane.proofs.lane.PlainLane.put_space.Goals as goal
 
 pub returns : goal.returns
+unfolding ideal
 returns c =
     let l = ideal c.args.self.now in
     ap (λ (s : ℕ → Space). record l { spaces = s })

@@ -1,0 +1,10 @@
+//! Calls with their answers, which are worked out by hand.
+
+mod clusters;
+mod edges;
+mod lists;
+mod maps;
+mod memory;
+mod rings;
+mod tags;
+mod walks;
