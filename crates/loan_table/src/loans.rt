@@ -12,17 +12,6 @@ use crate::row::LoanRow;
 use crate::slot::Slot;
 use std::collections::BTreeMap;
 
-/// Whether a map is open.
-#[cfg(test)]
-pub fn is_open(loans: &BTreeMap<u32, Slot>, map: u32) -> bool
-    ensures { result ≡ finmap.contains_key (opened loans.now) map }
-{
-    match loans.get(&map) {
-        Some(slot) => slot.is_open,
-        None => false,
-    }
-}
-
 /// The positions of an open map.
 pub fn row_of(loans: &BTreeMap<u32, Slot>, map: u32) -> &LoanRow
     requires { IsSome (finmap.get (opened loans.now) map) }

@@ -416,14 +416,6 @@ impl LoanTable {
         self.spare = spare_after(self.spare, len);
     }
 
-    /// Whether a map is in the table.
-    #[cfg(test)]
-    pub fn has_map(&self, map: MapId) -> bool
-        ensures { result ≡ finmap.contains_key self.now.loans map.made_at }
-    {
-        crate::loans::is_open(&self.loans, map.made_at)
-    }
-
     /// The number of bytes of a map's buffer.
     pub fn len_of(&self, map: MapId) -> u64
         requires { HasMap self.now map.made_at }
