@@ -1,4 +1,4 @@
-//! Tests of the command: the statuses with their causes, and whole runs from bytes to bytes.
+//! Tests of the command over sources and sinks in memory: what no run of the program shows.
 #![tactic(auto)]
 
 #[cfg(test)]

@@ -1,3 +1,4 @@
+pub mod Between
 pub mod Callback
 pub mod Held
 pub mod MapView

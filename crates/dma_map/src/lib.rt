@@ -4,6 +4,7 @@
 mod callback;
 mod map;
 mod room;
+mod segments;
 mod state;
 
 pub use callback::{Callback, LoadEnd, Transfers};

@@ -1,6 +1,7 @@
 //! A map: what a driver loads buffers with.
 
-ghost use Rattle.std.specs.Prelude.{◌≡◌, true, false, Some, None};
+ghost use Rattle.std.specs.Prelude.{◌≡◌, ◌^◌, ◌<◌, true, false, Some, None};
+ghost use Rattle.ring_device.specs.Ranges.{byte_count, place_of};
 ghost use Rattle.dma_map.specs.declared.state.MapState.TheVariants.{Idle, Waiting, Loaded, Returning};
 ghost use Rattle.busdma_machine.specs.Machine.PageList.{frames_of};
 ghost use Rattle.dma_map.specs.MapView.{idle, waiting, loaded, state_of, waiting_load, chunks_of, segments_of};
@@ -8,6 +9,7 @@ ghost use Rattle.dma_map.specs.MapView.{pages_of, lent_frames, with_pages, witho
 
 use crate::callback::Callback;
 use crate::room::LoadRoom;
+use crate::segments::LoadSegments;
 use crate::state::MapState;
 use busdma_base::{Chunk, ChunkList, MapId, PageList, Segment, SegmentList, ZoneId};
 use std::marker::Model;
@@ -18,7 +20,7 @@ use std::snapshot::Snapshot;
 #[derive(Drop)]
 struct Load {
     bounced: ChunkList,
-    segments: SegmentList,
+    segments: LoadSegments,
 }
 
 /// What a map holds in each of its states. While its pages are lent out, the map remembers them for
@@ -160,7 +162,10 @@ impl<C: Callback> DmaMap<C> {
     {
         self.tried = true;
         self.held = Held::Loaded {
-            load: Load { bounced, segments },
+            load: Load {
+                bounced,
+                segments: LoadSegments::new(segments),
+            },
             pages,
         };
     }
@@ -182,6 +187,19 @@ impl<C: Callback> DmaMap<C> {
         match &self.held {
             Held::Loaded { load, .. } | Held::Lent { load, .. } => load.segments.as_slice(),
             Held::Idle | Held::Waiting { .. } | Held::Returning => &[],
+        }
+    }
+
+    /// The place in the load of the `len` bytes from the bus address `addr` on, in the first of these
+    /// segments that has all of them, or None where none has. A load whose segments all lie elsewhere
+    /// is told at once.
+    pub fn find(&self, addr: u64, len: u64) -> Option<u64>
+        requires { byte_count (segments_of self.now.stage) < 2 ^ 64 }
+        ensures { result ≡ place_of addr len (segments_of self.now.stage) }
+    {
+        match &self.held {
+            Held::Loaded { load, .. } | Held::Lent { load, .. } => load.segments.find(addr, len),
+            Held::Idle | Held::Waiting { .. } | Held::Returning => None,
         }
     }
 

@@ -18,14 +18,16 @@ use Rattle.ideal_lane.specs.Asking.{by_reply}
 use Rattle.ideal_lane.specs.Loads.{emptied}
 use Rattle.ideal_lane.specs.Opening.{opening_lane}
 use Rattle.ideal_lane.specs.Outcomes.{Outcome}
+use Rattle.ideal_lane.specs.Sends.{copied, is_too_big}
 use Rattle.ideal_lane.specs.Turns.{Turned, lane_step}
 use Rattle.ideal_lane.specs.Unloads.{pages_of, after_return}
 use Rattle.ideal_lane.proofs.Effects.{Work, Operation, Transfer, Callback, Touches, Same, Makes, Touched, Maps, Creates, Unmaps, Places, Frees}
 use Rattle.ideal_lane.proofs.Effects.{Refuses, Waits, Loads, Overflows, Unloads, Ends, AtOnce, Granted, Called, Device, Kicks}
-use Rattle.ideal_lane.proofs.Effects.{IsNext, Steps, Stays, Advances, Leaves, Releases, Calls, waits_for, map_in}
+use Rattle.ideal_lane.proofs.Effects.{Declines, Keeps, Resends, Vain, Steps, Stays, Advances, Leaves, Releases, Calls, waits_for, map_in}
 use Rattle.ideal_lane.proofs.Stepping.{turn-steps}
 use Rattle.ideal_lane.proofs.Effects.{was_in, place_in, asked_in, chunks_in, pages_in, there_in}
 use Rattle.ideal_lane.proofs.Falling.{queued-from, rest-of}
+use Rattle.ideal_lane.proofs.Sent.{due-at, sent-items}
 use Rattle.ideal_lane.proofs.Endings.{bounced_in, segments_of}
 use Rattle.ideal_lane.proofs.Weights.{weigh, weigh-new, weigh-put, weigh-cut, weigh-empty}
 
@@ -83,24 +85,24 @@ module _ (l : LaneState) where
   kept (Same a q u) = no-more _ (omega arith) refl refl refl
   kept _ = no-more _ (omega arith) refl refl refl
 
-  few : {d : Work} {c : Option HubCall} {r : HubReply} {x : Outcome} → IsNext l d → Makes l d c r x →
+  few : {d : Work} {c : Option HubCall} {r : HubReply} {x : Outcome} → Makes l d c r x →
       Few (more_by d) x.lane
-  few at (Touched t) = let k = kept t in
+  few (Touched t) = let k = kept t in
       record { low = omega (arith, k.low); longer = k.longer; script = k.script; place = k.place }
-  few at (Maps name t g e b) =
+  few (Maps name t g e b) =
       no-more _ (unwaiting-put l.place (record { tag = t; zone = None; tried = false; stage = Idle }) refl) refl refl
       refl
-  few at (Creates name t g e b n made) =
+  few (Creates name t g e b n made) =
       no-more _ (unwaiting-put l.place (record { tag = t; zone = Some n.zone.0; tried = false; stage = Idle }) refl)
       refl refl refl
-  few at (Places name t flags g e first count) =
+  few (Places name t flags g e first count) =
       no-more _ (unwaiting-put l.place (record { tag = t; zone = None; tried = false; stage = Idle }) refl) refl refl
       refl
-  few at (Unmaps m o e i) = no-more _ (weigh-cut w l.maps m o e) refl refl refl
-  few at (Frees m x e o f i) = no-more _ (weigh-cut w l.maps m o f) refl refl refl
-  few at (Refuses b over e) =
+  few (Unmaps m o e i) = no-more _ (weigh-cut w l.maps m o e) refl refl refl
+  few (Frees m x e o f i) = no-more _ (weigh-cut w l.maps m o f) refl refl refl
+  few (Refuses b over e) =
       no-more _ (unwaiting-put b.m (record b.o { tried = true; stage = Idle }) refl) refl refl refl
-  few {d} at (Waits b plain some have) = record {
+  few {d} (Waits b plain some have) = record {
     low =
         omega (
           arith,
@@ -111,7 +113,7 @@ module _ (l : LaneState) where
     script = refl;
     place = refl;
   }
-  few at (Loads k e) = record {
+  few (Loads k e) = record {
     low =
         omega (
           arith,
@@ -128,31 +130,44 @@ module _ (l : LaneState) where
     script = refl;
     place = refl;
   }
-  few at (Overflows k e) =
+  few (Overflows k e) =
       no-more _ (unwaiting-put (map_in k) (record (was_in k) { tried = true; stage = emptied (pages_in k) })
       (empty-stage (pages_in k))) refl refl refl
-  few at (Unloads m o e i) =
+  few (Unloads m o e i) =
       no-more _ (unwaiting-put m (record o { tried = true; stage = emptied (pages_of o.stage) })
       (empty-stage (pages_of o.stage))) refl refl refl
-  few at (Kicks k steps r there) = record {
+  few (Kicks k steps r there) = record {
     low =
         omega (arith, queued-from l.place 0 steps, length-append l.queue (queued l.place steps));
     longer = omega (arith, length-append l.queue (queued l.place steps));
     script = refl;
     place = refl;
   }
-  few at _ = no-more _ (omega arith) refl refl refl
+  few _ = no-more _ (omega arith) refl refl refl
 
-  -- ---- turns
+  -- a load with too many segments brings no items
+  few-big : {d : Work} {c : Option HubCall} {r : HubReply} {x : Outcome} → Makes l d c r x →
+      is_too_big x.answer ≡ true → Few 0 x.lane
+  few-big (Touched t) big = kept t
+  few-big (Vain v a u) big = no-more _ (omega arith) refl refl refl
+  few-big (Refuses b over e) big =
+      no-more _ (unwaiting-put b.m (record b.o { tried = true; stage = Idle }) refl) refl refl refl
+  few-big (Overflows k e) big =
+      no-more _ (unwaiting-put (map_in k) (record (was_in k) { tried = true; stage = emptied (pages_in k) })
+      (empty-stage (pages_in k))) refl refl refl
+  few-big _ big = absurd (cc)
 
+-- ---- turns
+
+module _ (l : LaneState) where
   -- the items in the queue and those that may still join it are no more than before
   abbrev pub IsBounded : LaneState → Type 0
   IsBounded n = items_ahead n + length n.queue ≤ items_ahead l + length l.queue
 
   -- what is ahead at the same place of the same script
   ahead-at : (n : LaneState) → n.script ≡ l.script → n.place ≡ l.place →
-      items_ahead n ≡ items_in (drop l.place l.script) + weigh w n.maps
-  ahead-at n s p = (λ i. items_in (drop (p i) (s i)) + weigh w n.maps)
+      items_ahead n ≡ items_in (drop l.place l.script) + weigh (w l) n.maps
+  ahead-at n s p = (λ i. items_in (drop (p i) (s i)) + weigh (w l) n.maps)
 
   bare : (b : Bool) → awaited_items (if b then Idle else Returning) ≡ 0
   bare true = refl
@@ -161,22 +176,45 @@ module _ (l : LaneState) where
   bounded : {s : Side} {c : Option HubCall} {r : HubReply} {t : Turned} → Steps l s c r t → IsBounded t.lane
   bounded (Stays t is) = omega arith
   bounded (Advances {x = x} o at free m) =
-      let f : Few (length (items_of o)) x.lane = few at m in
+      let f : Few l (length (items_of o)) x.lane = few l m in
       let ahead : items_ahead (record x.lane { place = l.place + 1 })
-      ≡ items_in (drop (l.place + 1) l.script) + weigh w x.lane.maps =
-      ap (λ s. items_in (drop (l.place + 1) s) + weigh w x.lane.maps) f.script in
+      ≡ items_in (drop (l.place + 1) l.script) + weigh (w l) x.lane.maps =
+      ap (λ s. items_in (drop (l.place + 1) s) + weigh (w l) x.lane.maps) f.script in
       omega (arith, f.low, ahead, rest-of (λ p. length (items_of p)) l.script l.place o at)
+  bounded (Keeps {x = x} o at free s is big held m) =
+      let f : Few l 0 x.lane = few-big l m big in
+      let ahead : items_ahead (record x.lane { due = true })
+      ≡ items_in (drop l.place l.script) + weigh (w l) x.lane.maps = ahead-at x.lane f.script f.place in
+      omega (arith, f.low, ahead)
+  bounded (Declines s now x declined) =
+      let d = due-at l s now.due in omega (arith, rest-of (λ p. length (items_of p)) l.script l.place d.o d.at)
+  bounded (Resends {x = x} s now k untold m) =
+      let f : Few (copied s l) (length s.items) x.lane = few (copied s l) m in
+      let low : length x.lane.queue + weigh (w l) x.lane.maps
+      ≤ length l.queue + (weigh (w l) l.maps + length s.items) = f.low in
+      let same_script : x.lane.script ≡ l.script = f.script in
+      let ahead : items_ahead (record x.lane { place = l.place + 1 })
+      ≡ items_in (drop (l.place + 1) l.script) + weigh (w l) x.lane.maps =
+      ap (λ s. items_in (drop (l.place + 1) s) + weigh (w l) x.lane.maps) same_script in
+      let d = due-at l s now.due in
+      omega (
+        arith,
+        low,
+        ahead,
+        ap length (sent-items d.o s d.is),
+        rest-of (λ p. length (items_of p)) l.script l.place d.o d.at,
+      )
   bounded (Leaves {x = x} q rest e m) =
-      let f : Few 0 x.lane = kept m in
+      let f : Few l 0 x.lane = kept l m in
       omega (arith, f.low, f.longer, ap length e, ahead-at x.lane f.script f.place)
   bounded (Releases q rest e None there) = omega arith
   bounded (Releases q rest e (Some o) there) =
       omega (
         arith,
-        unwaiting-put q.map (record o { stage = after_return q.map rest }) (bare (view.returning q.map rest == 0)),
+        unwaiting-put l q.map (record o { stage = after_return q.map rest }) (bare (view.returning q.map rest == 0)),
       )
   bounded (Calls {x = x} m pages k) =
-      let f : Few 0 x.lane = few tt k in omega (arith, f.low, ahead-at x.lane f.script f.place)
+      let f : Few l 0 x.lane = few l k in omega (arith, f.low, ahead-at x.lane f.script f.place)
 
   pub turn-bounded : (s : Side) (r : HubReply) → IsBounded (by_reply (lane_step l s) r).lane
   turn-bounded s r = bounded (turn-steps l s r)

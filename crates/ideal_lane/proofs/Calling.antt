@@ -1,8 +1,9 @@
 -- The callback of each load is called at most once.
-use Rattle.std.proofs.Common.{◌≡◌, ℕ, ◌+◌, ◌≤◌, ◌==◌, ◌&&◌, Bool, true, false, if◌then◌else◌, List, [], ◌∷◌, Option}
-use Rattle.std.proofs.Common.{Some, None, refl, ap, sym, subst, arith, nat_le, slice_get}
+use Rattle.std.proofs.Common.{◌≡◌, ℕ, ◌+◌, ◌≤◌, ◌==◌, ◌&&◌, not, Bool, true, false, if◌then◌else◌, List, [], ◌∷◌, Option}
+use Rattle.std.proofs.Common.{Some, None, refl, ap, sym, ◌∙◌, subst, arith, nat_le, slice_get}
 use Rattle.std.proofs.lemmas.Bool.Decides.{nat_tests}
 use Rattle.std.specs.FinMap.{get, insert}
+use Rattle.std.specs.Option.{option_and_then}
 use Rattle.busdma_machine.specs.declared.bounce.hold.HubCall.TheVariants as call
 use Rattle.busdma_machine.specs.declared.bounce.hold.HubReply.{HubReply}
 use Rattle.busdma_machine.specs.declared.bounce.hold.HubReply.TheVariants as reply
@@ -16,8 +17,10 @@ use Rattle.ideal_lane.specs.Outcomes.{Outcome}
 use Rattle.ideal_lane.specs.Standing.{Stands, KeepsStanding}
 use Rattle.ideal_lane.specs.Loads.{load, emptied}
 use Rattle.ideal_lane.specs.Unloads.{pages_of, after_return}
-use Rattle.ideal_lane.specs.Turns.{Turned, advanced, left_queue, lane_step}
+use Rattle.ideal_lane.specs.Sends.{Send, copied, is_kept, is_too_big, send_at, send_of}
+use Rattle.ideal_lane.specs.Turns.{Turned, advanced, left_queue, lane_step, resent}
 use Rattle.ideal_lane.specs.Opening.{opening_lane}
+use Rattle.ideal_lane.proofs.Effects.{Declines, Keeps, Resends}
 use Rattle.ideal_lane.proofs.Effects.{Advances, Callback, Called, Calls, Creates, Frees, Ends, IsUnwaited}
 use Rattle.ideal_lane.proofs.Effects.{IsUnwaiting, Leaves, Loads, Makes, Maps, NothingLeft, Overflows, Places}
 use Rattle.ideal_lane.proofs.Effects.{Refuses, Releases, Same, Stays, Steps, Touched, Touches, Unloads, Unmaps}
@@ -125,6 +128,15 @@ module _ (p : ℕ) where
     pays {x = x} none owes (Unloads m o e i) = no-more x (omega (arith, unpaged-free m o (pages_of o.stage) e)) refl
     pays {x = x} none owes _ = no-more x (omega arith) refl
 
+    -- a load with too many segments leaves no more maps that wait
+    pays-big : {d : Work} {c : Option HubCall} {r : HubReply} {x : Outcome} → Makes l d c r x →
+        is_too_big x.answer ≡ true → Paid 0 x
+    pays-big (Touched t) big = touches-pay t
+    pays-big {x = x} (Vain v a u) big = no-more x (omega arith) refl
+    pays-big {x = x} (Refuses b over e) big = no-more x (omega (arith, unpaged-free b.m b.o [] b.there)) refl
+    pays-big {x = x} (Overflows k e) big = no-more x (omega (arith, overflown-free k)) refl
+    pays-big _ big = absurd (cc)
+
   -- ---- turns
 
   -- a turn calls at most what was owed before it and is not owed any more
@@ -135,13 +147,34 @@ module _ (p : ℕ) where
     place-count : one (nat_le (l.place + 1) p) + one (l.place == p) ≡ one (nat_le l.place p)
     place-count = grind (arith, nat_tests)
 
-    few-calls : (b load ends_it : Bool) → one (b && (load && ends_it)) ≤ (if ends_it then one b else 0)
-    few-calls true true true = omega arith
-    few-calls true true false = omega arith
-    few-calls true false true = omega arith
-    few-calls true false false = omega arith
-    few-calls false load true = omega arith
-    few-calls false load false = omega arith
+    few-calls : (b load ends_it held : Bool) →
+        one (b && (load && (ends_it && not held))) ≤ (if ends_it then one b else 0)
+    few-calls true true true true = omega arith
+    few-calls true true true false = omega arith
+    few-calls true true false held = omega arith
+    few-calls true false true held = omega arith
+    few-calls true false false held = omega arith
+    few-calls false load true held = omega arith
+    few-calls false load false held = omega arith
+
+    -- a callback that is kept is not called
+    none-called : (b load ends_it held : Bool) → held ≡ true → one (b && (load && (ends_it && not held))) ≡ 0
+    none-called true true true true e = refl
+    none-called true true true false e = absurd (cc)
+    none-called true true false held e = refl
+    none-called true false ends_it held e = refl
+    none-called false load ends_it held e = refl
+
+    -- that of a resend
+    few-ends : (b ends_it : Bool) → one (b && ends_it) ≤ (if ends_it then one b else 0)
+    few-ends true true = omega arith
+    few-ends true false = omega arith
+    few-ends false true = omega arith
+    few-ends false false = omega arith
+
+    none-ends : (b : Bool) → one (b && false) ≡ 0
+    none-ends true = refl
+    none-ends false = refl
 
     over-operation : (o : Outcome) → Paid l (one (l.place == p)) o → Settles l (advanced l.place o)
     over-operation o paid =
@@ -149,8 +182,15 @@ module _ (p : ℕ) where
           arith,
           paid.low,
           place-count,
-          few-calls (l.place == p) (is_load (slice_get l.script l.place)) (ends o.answer),
+          few-calls (l.place == p) (is_load (slice_get l.script l.place)) (ends o.answer)
+              (is_kept (send_at l.script l.place) o.answer),
         )
+
+    over-resend : (d : Send) (o : Outcome) → Paid (copied d l) (one (l.place == p)) o → Settles l (resent l.place o)
+    over-resend d o paid =
+        let low : weigh w o.lane.maps + (if ends o.answer then one (l.place == p) else 0)
+        ≤ weigh w l.maps + one (l.place == p) = paid.low in
+        omega (arith, low, place-count, few-ends (l.place == p) (ends o.answer))
 
     over-item : (q : QueuedItem) (rest : List QueuedItem) (o : Outcome) → Paid l 0 o → Settles l (left_queue q rest o)
     over-item q rest o paid =
@@ -185,6 +225,21 @@ module _ (p : ℕ) where
     steps-settle (Stays t _) = omega arith
     steps-settle (Advances {x = x} o at free m) =
         over-operation x (pays l (s.no_map l.place (omega arith)) (omega arith) m)
+    steps-settle (Keeps {x = x} o at free d is big held m) =
+        let paid = pays-big l m big in
+        let there : one (nat_le x.lane.place p) ≡ one (nat_le l.place p) = ap (λ n. one (nat_le n p)) paid.place in
+        let is_held : is_kept (send_at l.script l.place) x.answer ≡ true =
+        ap (λ q. is_kept q x.answer) (ap (option_and_then send_of) at ∙ is) ∙ big in
+        omega (
+          arith,
+          paid.low,
+          there,
+          none-called (l.place == p) (is_load (slice_get l.script l.place)) (ends x.answer)
+              (is_kept (send_at l.script l.place) x.answer) is_held,
+        )
+    steps-settle (Declines d now x declined) = omega (arith, place-count, none-ends (l.place == p))
+    steps-settle (Resends {x = x} d now k untold m) =
+        over-resend d x (pays (copied d l) (s.no_map l.place (omega arith)) (omega arith) m)
     steps-settle (Leaves {x = x} q rest e t) = over-item q rest x (touches-pay l t)
     steps-settle (Releases q rest e None there) = omega arith
     steps-settle (Releases q rest e (Some o) there) =

@@ -16,13 +16,16 @@ use Rattle.busdma_base.specs.declared.journals.journal.Did.TheVariants as did
 use Rattle.busdma_base.specs.declared.journals.journal.Side.{Side}
 use Rattle.busdma_base.specs.declared.journals.journal.Side.TheVariants as side
 use Rattle.busdma_machine.specs.declared.report.Errno.{Errno}
-use Rattle.busdma_machine.specs.declared.report.Judged.TheVariants.{Fine}
+use Rattle.busdma_machine.specs.declared.report.Judged.TheVariants.{Fine, Refused}
+use Rattle.busdma_machine.specs.declared.report.Report.{Report}
 use Rattle.busdma_machine.specs.declared.bounce.zone.Grown.{Grown}
 use Rattle.busdma_machine.specs.declared.machine.address.Pa.{Pa}
 use Rattle.busdma_machine.specs.declared.machine.bio.Bio.{Bio}
+use Rattle.busdma_machine.specs.declared.machine.bio.Bio.TheVariants.{Vector}
 use Rattle.busdma_machine.specs.declared.machine.chunk.Chunk.{Chunk}
 use Rattle.busdma_machine.specs.declared.name.MapId.{MapId}
 use Rattle.busdma_base.specs.declared.scenarios.buffer.Buffer.{Buffer}
+use Rattle.busdma_base.specs.declared.scenarios.buffer.Buffer.TheVariants as buffer
 use Rattle.busdma_base.specs.declared.scenarios.script.Item.{Item}
 use Rattle.busdma_base.specs.declared.scenarios.script.Item.TheVariants as item
 use Rattle.busdma_base.specs.declared.scenarios.script.Op.{Op}
@@ -33,18 +36,21 @@ use Rattle.busdma_machine.specs.declared.tags.tag.SpaceLimits.{SpaceLimits}
 use Rattle.busdma_machine.specs.declared.tags.tag.TagLimits.{TagLimits}
 use Rattle.busdma_machine.specs.Bounce.Account.{Account}
 use Rattle.busdma_machine.specs.Bounce.AccountStep.{account_step}
-use Rattle.busdma_machine.specs.declared.report.ReportName.TheVariants.{DeviceWriteUnlent}
+use Rattle.busdma_machine.specs.declared.report.ReportName.TheVariants.{Absent, DeviceWriteUnlent, MapBusy}
 use Rattle.busdma_machine.specs.Judging.{judged}
+use Rattle.busdma_machine.specs.Machine.Spans.{span_bytes}
 use Rattle.busdma_machine.specs.Runs.{run_of}
+use Rattle.busdma_base.specs.Journals.Reports.{is_report}
 use Rattle.busdma_base.specs.Scenarios.Operations.{bytes_of}
 use Rattle.busdma_machine.specs.Tags.Tag.{effective, could_bounce, space_limits}
 use Rattle.busdma_machine.specs.Tags.TagFlags.{allocnow}
+use Rattle.dma_tag.specs.LoadFlags.{nowait_bit}
 use Rattle.dma_tag.specs.SyncOps.{is_mixed}
 use Rattle.lane_agreement.specs.After.{addresses}
 use Rattle.lane_agreement.specs.View.{Return}
 use Rattle.lane_tables.specs.declared.queued.QueuedItem.{QueuedItem}
 use Rattle.lane_tables.specs.Queues.{queued}
-use Rattle.loan_table.specs.Access.{cpu_write_answer, dev_read_answer, dev_write_answer, dev_write_refusal}
+use Rattle.loan_table.specs.Access.{cpu_read_answer, cpu_write_answer, dev_read_answer, dev_write_answer, dev_write_refusal}
 use Rattle.loan_table.specs.Lending.{sync_answer, synced, lost}
 use Rattle.loan_table.specs.Loans.{loan_of, load_bytes}
 use Rattle.ring_device.specs.declared.descriptor.Descriptor.{Descriptor}
@@ -65,10 +71,11 @@ use Rattle.ideal_lane.specs.Outcomes.{load_length}
 use Rattle.ideal_lane.specs.Places.{virtual_at, reached, bytes_at}
 use Rattle.ideal_lane.specs.Rings.{Candidate, allowed, candidates, fetched, fits_in, head_at, head_of, is_work, may_post}
 use Rattle.ideal_lane.specs.Rings.{moved_on, posted, retired, slot_place, stored, told, used, with_ring}
+use Rattle.ideal_lane.specs.Sends.{Send, chain_bytes, cluster_bytes, copied, due_send, is_too_big, send_of}
 use Rattle.ideal_lane.specs.Syncs.{copies, counted}
 use Rattle.ideal_lane.specs.Tags.{with_tag, with_device_tag, has_maps, with_space}
 use Rattle.ideal_lane.specs.Turns.{Turn, Turned, Blocked, Ended, stays, stepped, bio_at}
-use Rattle.ideal_lane.specs.Turns.{never_waits, waits, advanced, served, left_queue}
+use Rattle.ideal_lane.specs.Turns.{never_waits, waits, advanced, kept, resent, served, left_queue}
 use Rattle.ideal_lane.specs.Unloads.{unlent, unmapped, pages_of, segments_in, restaged, after_return}
 use Rattle.ideal_lane.proofs.Endings.{fits, fitting, too_big}
 
@@ -473,7 +480,55 @@ pub data Makes (l : LaneState) : Work → Option HubCall → HubReply → Outcom
       Makes l (Operation (op.Kick k steps)) None r
       (record { lane = record l { queue = l.queue ++ queued l.place steps }; answer = answer.Done })
 
+-- ---- sends
+
+-- the load of the clusters of a send is that of a vector, which must not wait
+abbrev pub again : Send → Op
+again s = op.Load s.map (buffer.Vector s.clusters) nowait_bit s.items
+
+-- the first load of a send found its map idle, its chain may be loaded, and it is not longer than the tag allows
+pub record Held (l : LaneState) (s : Send) : Type 0 where
+  pub o : LaneMap
+  pub there : get l.maps s.map ≡ Some o
+  pub idle : is_idle o.stage ≡ true
+  pub fine : load_judged l s.map (Vector s.chain) ≡ Fine
+  pub short : nat_lt (limits_of l o).maxsize (span_bytes s.chain) ≡ false
+
+-- the turn of the script is the resend of a send
+pub record IsAgain (l : LaneState) (s : Send) : Type 0 where
+  pub due : due_send l ≡ Some s
+  pub none : l.returns ≡ []
+
+-- the resend of a send copies: its map is idle, its clusters may be loaded and written, and its chain may be read
+pub record Copies (l : LaneState) (s : Send) : Type 0 where
+  pub o : LaneMap
+  pub there : get l.maps s.map ≡ Some o
+  pub idle : is_idle o.stage ≡ true
+  pub fine : load_judged l s.map (Vector s.clusters) ≡ Fine
+  pub readable : cpu_read_answer (is_known l.memory) l.loans (chain_bytes s l) ≡ Fine
+  pub writable : cpu_write_answer l.loans (cluster_bytes s l) ≡ Fine
+
+-- it does not, with a report
+pub data IsDeclined (l : LaneState) (s : Send) : Report → Type 0 where
+  NoMap : get l.maps s.map ≡ None → IsDeclined l s (record { name = Absent; at = 0 })
+  BusyMap : (o : LaneMap) → get l.maps s.map ≡ Some o → is_idle o.stage ≡ false →
+      IsDeclined l s (record { name = MapBusy; at = 0 })
+  Unloadable : (o : LaneMap) → get l.maps s.map ≡ Some o → is_idle o.stage ≡ true → (x : Report) →
+      load_judged l s.map (Vector s.clusters) ≡ Refused x → IsDeclined l s x
+  Unreadable : (o : LaneMap) → get l.maps s.map ≡ Some o → is_idle o.stage ≡ true →
+      load_judged l s.map (Vector s.clusters) ≡ Fine → (x : Report) →
+      cpu_read_answer (is_known l.memory) l.loans (chain_bytes s l) ≡ Refused x → IsDeclined l s x
+  Unwritable : (o : LaneMap) → get l.maps s.map ≡ Some o → is_idle o.stage ≡ true →
+      load_judged l s.map (Vector s.clusters) ≡ Fine →
+      cpu_read_answer (is_known l.memory) l.loans (chain_bytes s l) ≡ Fine → (x : Report) →
+      cpu_write_answer l.loans (cluster_bytes s l) ≡ Refused x → IsDeclined l s x
+
 -- ---- turns
+
+-- an operation can step, and no resend stands before it
+pub record IsFree (l : LaneState) (o : Op) : Type 0 where
+  pub none : due_send l ≡ None
+  pub free : waits o l ≡ false
 
 -- a turn is no step: nothing can be done now, the script has ended, or no callback came
 pub data IsStay : Option HubCall → HubReply → Turn → Type 0 where
@@ -487,7 +542,18 @@ pub data Steps (l : LaneState) : Side → Option HubCall → HubReply → Turned
   Stays : {s : Side} {c : Option HubCall} {r : HubReply} (t : Turn) → IsStay c r t → Steps l s c r (stays t l)
   -- the next operation can step: it is done, and the script goes on to its next place
   Advances : {c : Option HubCall} {r : HubReply} {x : Outcome} (o : Op) → slice_get l.script l.place ≡ Some o →
-      waits o l ≡ false → Makes l (Operation o) c r x → Steps l side.Script c r (advanced l.place x)
+      IsFree l o → Makes l (Operation o) c r x → Steps l side.Script c r (advanced l.place x)
+  -- it is a send whose chain has too many segments and whose clusters are enough: the script stays at its place
+  Keeps : {c : Option HubCall} {r : HubReply} {x : Outcome} (o : Op) → slice_get l.script l.place ≡ Some o →
+      IsFree l o → (s : Send) → send_of o ≡ Some s → is_too_big x.answer ≡ true → Held l s →
+      Makes l (Operation o) c r x → Steps l side.Script c r (kept l.place x)
+  -- the resend of a send is refused before anything is copied, and the script goes on
+  Declines : {r : HubReply} (s : Send) → IsAgain l s → (x : Report) → IsDeclined l s x →
+      Steps l side.Script None r (resent l.place (record { lane = l; answer = answer.Report x }))
+  -- the clusters of a send have the bytes of its chain and then are loaded, and the script goes on
+  Resends : {c : Option HubCall} {r : HubReply} {x : Outcome} (s : Send) → IsAgain l s → Copies l s →
+      is_report x.answer ≡ false → Makes (copied s l) (Operation (again s)) c r x →
+      Steps l side.Script c r (resent l.place x)
   -- the first item of the transfer queue is done, and has left the queue
   Leaves : {r : HubReply} {x : Outcome} (q : QueuedItem) (rest : List QueuedItem) → l.queue ≡ q ∷ rest →
       Touches l (Transfer q.item) x → Steps l side.Transfer None r (left_queue q rest x)

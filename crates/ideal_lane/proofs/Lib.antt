@@ -1,6 +1,7 @@
 pub mod Ahead
 pub mod Calling
 pub mod Direct
+pub mod Dues
 pub mod Effects
 pub mod Endings
 pub mod Falling
@@ -12,9 +13,12 @@ pub mod Openings
 pub mod Own
 pub mod Refusing
 pub mod Reported
+pub mod Resent
+pub mod Sent
 pub mod Standings
 pub mod Stepping
 pub mod Turning
+pub mod Unread
 pub mod Unspaced
 pub mod Views
 pub mod Weights

@@ -1,5 +1,7 @@
--- What is found in maps after a change.
-use Rattle.std.proofs.Common.{◌≡◌, ℕ, ◌==◌, Bool, true, false, cond, Some, None, refl, ap, sym, ◌∙◌}
+-- What is found in maps after a change, and in lists.
+use Rattle.std.proofs.Common.{◌≡◌, ℕ, ◌==◌, Bool, true, false, cond, Some, None, refl, ap, sym, ◌∙◌, List, [], ◌∷◌, zero, suc, slice_get}
+use Rattle.std.proofs.Common.{subst}
+use Rattle.std.specs.List.{AllByRecursion}
 use Rattle.std.proofs.lemmas.Map.Views.{exact_unsigned_eq}
 use Rattle.std.specs.Ordering.{nat_cmp}
 use Rattle.std.specs.Cmp.{nat_cmp_total, unsigned_tied}
@@ -27,3 +29,10 @@ same_at f k j = by (j == k) refl
 -- the same value put at a place that has it
 pub put_same : {X : Type 0} (f : ℕ → X) (k j : ℕ) (x : X) → x ≡ f k → cond (j == k) x (f j) ≡ f j
 put_same f k j x e = ap (λ y. cond (j == k) y (f j)) e ∙ sym (same_at f k j)
+
+-- what holds of each thing holds of that at a place
+pub all-at : {X : Type 0} (P : X → Type 0) (xs : List X) (k : ℕ) (x : X) → AllByRecursion P xs →
+    slice_get xs k ≡ Some x → P x
+all-at P [] k x h e = absurd (cc)
+all-at P (y ∷ xs) zero x h e = let same : y ≡ x = cc in subst P same h.0
+all-at P (y ∷ xs) (suc k) x h e = all-at P xs k x h.1 e

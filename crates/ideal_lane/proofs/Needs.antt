@@ -15,7 +15,7 @@ use Rattle.busdma_machine.specs.declared.tags.tag.TagLimits.{TagLimits}
 use Rattle.busdma_machine.specs.Machine.Entry.{entry_addresses, entries_addresses}
 use Rattle.busdma_machine.specs.Machine.Spans.{bio_spans, span_bytes}
 use Rattle.busdma_machine.specs.Runs.{addresses, byte_count, run_of}
-use Rattle.busdma_base.specs.Scenarios.Buffers.{buffer_bytes}
+use Rattle.busdma_base.specs.Scenarios.Buffers.{buffer_bytes, counted_bytes}
 use Rattle.load_bio.specs.Bio.{is_rounded}
 use Rattle.phys_memory.specs.Extents.{extents_of, with_byte, reached, then_reached}
 use Rattle.phys_memory.specs.Translation.{Translation}
@@ -140,12 +140,21 @@ bio-bytes l (buffer.Flat place len) b e = by (virtual_at l place) e
 bio-bytes l (buffer.Vector spans) b e = sym (ap bytes_of e)
 bio-bytes l (buffer.Mbuf chain) b e = sym (ap bytes_of e)
 bio-bytes l (buffer.Bio bio) b e = sym (ap bytes_of e)
+bio-bytes l (buffer.Send chain clusters) b e = sym (ap bytes_of e)
 
 -- the entries of a load have at most the bytes of its buffer
 pub bytes-few : (l : LaneState) (x : Buffer) (b : Bio) → bio_at l x ≡ Some b →
     length (entries_addresses (load_entries l b)) ≤ buffer_bytes x
 bytes-few l x b e =
     omega (arith, bio-bytes l x b e, entries-length (is_rounded b) (load_translation l b) (bio_spans b))
+
+-- and a buffer counts at least as many
+pub bytes-counted : (x : Buffer) → buffer_bytes x ≤ counted_bytes x
+bytes-counted (buffer.Flat place len) = omega arith
+bytes-counted (buffer.Vector spans) = omega arith
+bytes-counted (buffer.Mbuf chain) = omega arith
+bytes-counted (buffer.Bio bio) = omega arith
+bytes-counted (buffer.Send chain clusters) = omega arith
 
 -- the chunks of a load of a map need at most as many pages as the load's entries have bytes
 pub need-few : (l : LaneState) (o : LaneMap) (memory : Bool) (es : List Entry) →

@@ -11,10 +11,11 @@ use Rattle.busdma_base.specs.declared.scenarios.script.Op.{Op}
 use Rattle.ideal_lane.specs.State.{LaneState}
 use Rattle.ideal_lane.specs.Asking.{by_reply}
 use Rattle.ideal_lane.specs.Outcomes.{Outcome}
+use Rattle.ideal_lane.specs.Sends.{Send, copied}
 use Rattle.ideal_lane.specs.Syncs.{copies, counted, greatest_share}
 use Rattle.ideal_lane.specs.Turns.{Turn, Turned, Stepped, Blocked, Ended, lane_step}
 use Rattle.ideal_lane.proofs.Effects.{Work, Touches, Syncs, Makes, Touched, IsStay, NothingLeft, Steps, Stays, Advances, Leaves}
-use Rattle.ideal_lane.proofs.Effects.{Releases, Calls}
+use Rattle.ideal_lane.proofs.Effects.{Releases, Calls, Declines, Keeps, Resends}
 use Rattle.ideal_lane.proofs.Stepping.{turn-steps}
 
 -- the actor of a driver's side
@@ -72,24 +73,35 @@ module _ (l : LaneState) where
   makes-later (Touched t) = touches-later t
   makes-later _ = still
 
+module _ (l : LaneState) where
   -- an entry is that of a driver with this number
   names : (s : Side) (n : LaneState) → IsLater l n → actor_of s n.id ≡ actor_of s l.id
   names s n h = ap (actor_of s) h.same_id
+
+  -- what is later after the copy of a send is so before it
+  uncopied : (s : Send) (n : LaneState) → IsLater (copied s l) n → IsLater l n
+  uncopied s n h =
+      record { same_id = h.same_id; same_script = h.same_script; same_pages = h.same_pages; few = h.few }
 
   stays-own : (s : Side) {c : Option HubCall} {r : HubReply} {t : Turn} → IsStay c r t → IsOwnBy l.id s t
   stays-own s NothingLeft = tt
   stays-own s _ = tt
 
   steps-own : {s : Side} {c : Option HubCall} {r : HubReply} {t : Turned} → Steps l s c r t → IsOwn l s t
-  steps-own {s} (Stays t is) = record { later = still; actor = stays-own s is }
-  steps-own (Advances {x = x} o at w m) =
-      let h = makes-later m in record { later = h; actor = names side.Script x.lane h }
+  steps-own {s} (Stays t is) = record { later = still l; actor = stays-own s is }
+  steps-own (Advances {x = x} o at free m) =
+      let h = makes-later l m in record { later = h; actor = names side.Script x.lane h }
+  steps-own (Keeps {x = x} o at free s is big held m) =
+      let h = makes-later l m in record { later = h; actor = names side.Script x.lane h }
+  steps-own (Declines s now x declined) = record { later = still l; actor = refl }
+  steps-own (Resends {x = x} s now k untold m) =
+      let h = uncopied s x.lane (makes-later (copied s l) m) in record { later = h; actor = names side.Script x.lane h }
   steps-own (Leaves {x = x} q rest e m) =
-      let h = touches-later m in record { later = h; actor = names side.Transfer x.lane h }
-  steps-own (Releases q rest e None there) = record { later = still; actor = refl }
-  steps-own (Releases q rest e (Some o) there) = record { later = still; actor = refl }
+      let h = touches-later l m in record { later = h; actor = names side.Transfer x.lane h }
+  steps-own (Releases q rest e None there) = record { later = still l; actor = refl }
+  steps-own (Releases q rest e (Some o) there) = record { later = still l; actor = refl }
   steps-own (Calls {x = x} m pages k) =
-      let h = makes-later k in record { later = h; actor = names side.Callback x.lane h }
+      let h = makes-later l k in record { later = h; actor = names side.Callback x.lane h }
 
   pub turn-own : (s : Side) (r : HubReply) → IsOwn l s (by_reply (lane_step l s) r)
   turn-own s r = steps-own (turn-steps l s r)

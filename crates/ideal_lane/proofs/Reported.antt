@@ -1,7 +1,8 @@
 -- A step whose answer is a report goes on and changes nothing else; and the items of a load join the queue with segments,
 -- those of a kick where it is done.
-use Rattle.std.proofs.Common.{◌≡◌, ℕ, ◌+◌, ◌==◌, Bool, true, false, if◌then◌else◌, List, [], ◌++◌, Option, Some, None, refl}
-use Rattle.std.proofs.Common.{sym, ap, ◌∙◌, append-nil}
+use Rattle.std.proofs.Common.{◌≡◌, ℕ, ◌==◌, Bool, true, false, if◌then◌else◌, List, [], ◌++◌, Option, Some, None, refl}
+use Rattle.std.proofs.Common.{sym, ap, ◌∙◌, append-nil, slice_get}
+use Rattle.std.proofs.lemmas.Bool.{false≢true}
 use Rattle.std.specs.FinMap.{get}
 use Rattle.busdma_machine.specs.declared.bounce.hold.HubCall.{HubCall}
 use Rattle.busdma_machine.specs.declared.bounce.hold.HubReply.{HubReply}
@@ -21,8 +22,9 @@ use Rattle.ideal_lane.specs.Reported.{behind, gone_on, if_ready, is_reported, it
 use Rattle.ideal_lane.specs.Reported.{items_awaited, joining, remaining}
 use Rattle.ideal_lane.specs.Accesses.{values}
 use Rattle.ideal_lane.specs.Rings.{Candidate, head_of, told}
+use Rattle.ideal_lane.specs.Sends.{Send, copied, due_send, is_too_big}
 use Rattle.ideal_lane.specs.State.{LaneState, LaneMap, Stage, Idle, Waiting, Loaded, Returning}
-use Rattle.ideal_lane.specs.Turns.{Turn, Turned, lane_step}
+use Rattle.ideal_lane.specs.Turns.{Turn, Turned, at_next, lane_step}
 use Rattle.ideal_lane.specs.Unloads.{after_return, restaged}
 use Rattle.ideal_lane.proofs.Effects.{Work, Operation, Transfer, Callback, Touches, Same, Makes, Touched, Vain, Loads}
 use Rattle.ideal_lane.proofs.Effects.{Ends, AtOnce, Granted, Called, Device, IsQuiet, IsUndone, IsUntold, IsStay, NothingNow}
@@ -30,7 +32,8 @@ use Rattle.ideal_lane.proofs.Effects.{IsSync, Range, RangeItem, Syncs, Whole, Wh
 use Rattle.ideal_lane.proofs.Effects.{Fetches, IsUnwaited, IsUnwaiting, IsVain, Kicks, Unattached, Uncreated, Unplaced, Unwaited}
 use Rattle.ideal_lane.proofs.Effects.{NothingLeft, NoneCalled, Steps, Stays, Advances, Leaves, Releases, Calls}
 use Rattle.ideal_lane.proofs.Stepping.{turn-steps}
-use Rattle.ideal_lane.proofs.Effects.{place_in, asked_in}
+use Rattle.ideal_lane.proofs.Effects.{Declines, Keeps, Resends, place_in, asked_in}
+use Rattle.ideal_lane.proofs.Sent.{due-at, sent-items}
 
 module _ (l : LaneState) where
   -- ---- reports
@@ -72,12 +75,19 @@ module _ (l : LaneState) where
   stay-report NothingLeft e = cc
   stay-report (NoneCalled u) e = cc
 
+  big-untold : (a : Answer) → is_too_big a ≡ true → is_report a ≡ true → ⊥
+  big-untold (answer.Refused e) big told = cc
+  big-untold _ big told = cc
+
   steps-report : {s : Side} {c : Option HubCall} {r : HubReply} {t : Turned} → Steps l s c r t →
       is_reported t.turn ≡ true → IsGoneOn s c t.lane
   steps-report (Stays t k) e = absurd (stay-report k e)
   steps-report (Advances o at free k) e =
       let alone = made-report k e in
-      record { call = alone.call; lane = ap (λ (y : LaneState). record y { place = l.place + 1 }) alone.same }
+      record { call = alone.call; lane = ap (at_next l.place) alone.same }
+  steps-report (Keeps {x = x} o at free s is big h k) e = absurd (big-untold x.answer big e)
+  steps-report (Declines s now x declined) e = record { call = refl; lane = refl }
+  steps-report (Resends s now k untold m) e = absurd (false≢true (sym untold ∙ e))
   steps-report (Leaves q rest is k) e = record {
     call = refl;
     lane = (λ j. record (touched-report k e j) { queue = ap behind (sym is) j });
@@ -161,6 +171,9 @@ module _ (l : LaneState) where
   made-joins (Kicks k steps r there) = refl
   made-joins _ = sym (append-nil l.queue)
 
+-- ---- turns
+
+module _ (l : LaneState) where
   abbrev Joins : Side → Turned → Type 0
   Joins s t = t.lane.queue ≡ remaining s t.turn l.queue ++ joining l t.turn
 
@@ -180,16 +193,27 @@ module _ (l : LaneState) where
   restaged-queue m None s = refl
   restaged-queue m (Some o) s = refl
 
+  -- the items of a resend are those of the send
+  due-items : (s : Send) → due_send l ≡ Some s → queued l.place s.items ≡ items_at l.place (slice_get l.script l.place)
+  due-items s e =
+      let d = due-at l s e in
+      ap (queued l.place) (sent-items d.o s d.is) ∙ ap (items_at l.place) (sym d.at)
+
   steps-join : {s : Side} {c : Option HubCall} {r : HubReply} {t : Turned} → Steps l s c r t → Joins s t
   steps-join {s = s} (Stays t k) = stay-joins s k
   steps-join (Advances {x = x} o at free k) =
-      made-joins k ∙ ap (λ y. l.queue ++ if_ready x.answer (items_at l.place y)) (sym at)
+      made-joins l k ∙ ap (λ y. l.queue ++ if_ready x.answer (items_at l.place y)) (sym at)
+  steps-join (Keeps {x = x} o at free s is big h k) =
+      made-joins l k ∙ ap (λ y. l.queue ++ if_ready x.answer (items_at l.place y)) (sym at)
+  steps-join (Declines s now x declined) = sym (append-nil l.queue)
+  steps-join (Resends {x = x} s now k untold m) =
+      made-joins (copied s l) m ∙ ap (λ items. l.queue ++ if_ready x.answer items) (due-items s now.due)
   steps-join (Leaves {x = x} q rest is k) =
       ap behind (sym is) ∙ sym (append-nil (behind l.queue))
-      ∙ ap (λ more. behind l.queue ++ more) (sym (no-items x.answer))
+      ∙ ap (λ more. behind l.queue ++ more) (sym (no-items l x.answer))
   steps-join (Releases q rest is y there) =
       restaged-queue q.map y (after_return q.map rest) ∙ sym (append-nil l.queue)
-  steps-join (Calls m pages k) = made-joins k
+  steps-join (Calls m pages k) = made-joins l k
 
   pub turn-joins : (s : Side) (r : HubReply) → Joins s (by_reply (lane_step l s) r)
   turn-joins s r = steps-join (turn-steps l s r)

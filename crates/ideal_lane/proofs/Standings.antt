@@ -27,12 +27,13 @@ use Rattle.ideal_lane.specs.Tags.{with_tag, tag}
 use Rattle.ideal_lane.specs.Maps.{bounces, with_map}
 use Rattle.ideal_lane.specs.Loads.{is_device, staged, unpaged, emptied}
 use Rattle.ideal_lane.specs.Unloads.{pages_of, after_return}
+use Rattle.ideal_lane.specs.Sends.{copied, is_too_big}
 use Rattle.ideal_lane.specs.Turns.{Turned, waits, lane_step}
 use Rattle.ideal_lane.proofs.Effects.{Advances, AtOnce, Attaches, Begins, Callback, Called, Calls, Creates, Ends}
 use Rattle.ideal_lane.proofs.Effects.{Frees, Granted, Leaves, Loads, Makes, Maps, Overflows, Places, Refuses, Spaces, Releases}
 use Rattle.ideal_lane.proofs.Effects.{Same, Stays, Steps, Tags, Touched, Touches, Unloads, Unmaps, Untags, Vain, Waits}
 use Rattle.ideal_lane.proofs.Effects.{Work, asked_in, asks, chunks, chunks_in, map_in, pages_in, place_in, there_in}
-use Rattle.ideal_lane.proofs.Effects.{Device, Fetches, Rings, waits_for, was_in}
+use Rattle.ideal_lane.proofs.Effects.{Declines, Device, Fetches, Keeps, Resends, Rings, waits_for, was_in}
 use Rattle.std.proofs.Common.{◌&&◌}
 use Rattle.ideal_lane.proofs.Stepping.{turn-steps}
 use Rattle.ideal_lane.proofs.Lookups.{get_put, get_cut}
@@ -602,6 +603,15 @@ module _ (l : LaneState) (s : Stands l) where
       (made-ring l.place l.maxmem l.tags l.maps l.mems l.rings s mem slots x there fit, refl)
   makes-stand _ = (next.0, refl)
 
+  -- a load with too many segments makes nothing
+  big-stand : {d : Work} {c : Option HubCall} {r : HubReply} {x : Outcome} → Makes l d c r x →
+      is_too_big x.answer ≡ true → StandsIn l.place l.place x.lane
+  big-stand (Touched t) big = touches-stand l.place l s t
+  big-stand (Vain v a q) big = (s, refl)
+  big-stand (Refuses b over e) big = in-staged l.place l s b.m b.o Idle b.there (λ h. tt)
+  big-stand (Overflows k e) big = overflows-stand l.place l s k
+  big-stand _ big = absurd (cc)
+
   -- a callback makes nothing
   called-stand : {n m : MapId} {pages : List Pa} {x : Outcome} →
       Makes l (Callback n) (Some call.TakeCallback) (reply.Called m pages) x → StandsIn l.place l.place x.lane
@@ -623,6 +633,9 @@ module _ (l : LaneState) (s : Stands l) where
   steps-stand : {d : Side} {c : Option HubCall} {r : HubReply} {t : Turned} → Steps l d c r t → Stands t.lane
   steps-stand (Stays t is) = s
   steps-stand (Advances o at free m) = (makes-stand l s m).0
+  steps-stand (Keeps {x = x} o at free d is big held m) = settled x.lane (big-stand l s m big)
+  steps-stand (Declines d now x declined) = (next l s).0
+  steps-stand (Resends {x = x} d now k untold m) = (makes-stand (copied d l) s m).0
   steps-stand (Leaves {x = x} q rest e t) =
       let h = touches-stand l.place l s t in
       subst (λ p. StandsFrom p x.lane.maxmem x.lane.tags x.lane.maps x.lane.mems x.lane.rings) (sym h.1) h.0

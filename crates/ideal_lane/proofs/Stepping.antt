@@ -1,6 +1,6 @@
 -- Each operation, item and callback of a driver, and each turn, is one of its effects, whatever the reply to its call.
 use Rattle.std.proofs.Common.{◌≡◌, ℕ, ◌+◌, ◌==◌, ◌&&◌, not, Bool, true, false, if◌then◌else◌, List, [], ◌∷◌}
-use Rattle.std.proofs.Common.{length, Option, Some, None, refl, nat_le, nat_lt, slice_get, subst, sym}
+use Rattle.std.proofs.Common.{length, Option, Some, None, refl, nat_le, nat_lt, slice_get, subst, sym, ◌∙◌}
 use Rattle.std.specs.FinMap.{get}
 use Rattle.busdma_machine.specs.declared.bounce.hold.HubCall.{HubCall}
 use Rattle.busdma_machine.specs.declared.bounce.hold.HubCall.TheVariants as call
@@ -10,14 +10,19 @@ use Rattle.busdma_base.specs.declared.journals.answer.Answer.{Answer}
 use Rattle.busdma_base.specs.declared.journals.answer.Answer.TheVariants as answer
 use Rattle.busdma_base.specs.declared.journals.journal.Side.{Side}
 use Rattle.busdma_base.specs.declared.journals.journal.Side.TheVariants as side
-use Rattle.busdma_machine.specs.declared.report.Errno.TheVariants.{EBUSY, EINVAL, ENOMEM}
-use Rattle.busdma_machine.specs.declared.report.Judged.TheVariants.{Fine}
+use Rattle.busdma_machine.specs.declared.report.Errno.TheVariants.{EBUSY, EFBIG, EINVAL, ENOMEM}
+use Rattle.busdma_machine.specs.declared.report.Judged.{Judged}
+use Rattle.busdma_machine.specs.declared.report.Judged.TheVariants.{Fine, Refused}
 use Rattle.busdma_machine.specs.declared.report.Report.{Report}
-use Rattle.busdma_machine.specs.declared.report.ReportName.TheVariants.{DeviceReadUnlent, DeviceWriteUnlent, MixedSync}
+use Rattle.busdma_machine.specs.declared.report.ReportName.TheVariants.{DeviceReadUnlent, DeviceWriteUnlent, MapBusy, MixedSync}
 use Rattle.busdma_machine.specs.declared.machine.address.Pa.{Pa}
+use Rattle.busdma_machine.specs.declared.machine.address.Segment.{Segment}
+use Rattle.busdma_machine.specs.declared.machine.chunk.Chunk.{Chunk}
 use Rattle.busdma_machine.specs.declared.machine.bio.Bio.{Bio}
+use Rattle.busdma_machine.specs.declared.machine.bio.Bio.TheVariants.{Vector}
 use Rattle.busdma_machine.specs.declared.name.MapId.{MapId}
 use Rattle.busdma_base.specs.declared.scenarios.buffer.Buffer.{Buffer}
+use Rattle.busdma_base.specs.declared.scenarios.buffer.Buffer.TheVariants as buffer
 use Rattle.busdma_base.specs.declared.scenarios.script.Item.{Item}
 use Rattle.busdma_base.specs.declared.scenarios.script.Item.TheVariants as item
 use Rattle.busdma_base.specs.declared.scenarios.script.Op.{Op}
@@ -27,10 +32,13 @@ use Rattle.busdma_base.specs.declared.scenarios.script.Bytes.{Bytes}
 use Rattle.busdma_machine.specs.declared.tags.tag.SpaceLimits.{SpaceLimits}
 use Rattle.busdma_machine.specs.declared.tags.tag.TagLimits.{TagLimits}
 use Rattle.busdma_machine.specs.Judging.{judged as judged_by}
+use Rattle.busdma_machine.specs.Machine.Spans.{span_bytes}
 use Rattle.busdma_machine.specs.Runs.{run_of}
+use Rattle.busdma_base.specs.Journals.Reports.{is_report}
 use Rattle.busdma_base.specs.Scenarios.Operations.{bytes_of}
 use Rattle.busdma_machine.specs.Tags.Tag.{effective, could_bounce, space_limits}
 use Rattle.busdma_machine.specs.Tags.TagFlags.{allocnow}
+use Rattle.dma_tag.specs.LoadFlags.{nowait_bit}
 use Rattle.dma_tag.specs.SyncOps.{is_mixed}
 use Rattle.lane_agreement.specs.After.{addresses}
 use Rattle.lane_agreement.specs.View.{Return}
@@ -49,23 +57,27 @@ use Rattle.ideal_lane.specs.Accesses.{raw_refusal, values}
 use Rattle.ideal_lane.specs.Asking.{Asking, Gives, Asks, call_of, by_reply, goes_on}
 use Rattle.ideal_lane.specs.IdealMemory.{is_known}
 use Rattle.ideal_lane.specs.Loads.{asked, device_load, is_device, limits_of, finished, granted, load_chunks, load}
-use Rattle.ideal_lane.specs.Loads.{load_judged, taken, with_spaces}
+use Rattle.ideal_lane.specs.Loads.{ended, load_judged, taken, with_spaces}
 use Rattle.ideal_lane.specs.Maps.{bounces, with_map, without_map, created, map, end_map, map_destroy, await}
 use Rattle.ideal_lane.specs.Memories.{placed, dmamem, dmamem_free}
-use Rattle.ideal_lane.specs.Outcomes.{Outcome, gives, refused, unless_past, is_idle, is_loaded}
-use Rattle.ideal_lane.specs.Outcomes.{load_length}
+use Rattle.ideal_lane.specs.Outcomes.{Outcome, gives, refused, unless_absent, unless_busy, unless_past, unless_refused}
+use Rattle.ideal_lane.specs.Outcomes.{is_idle, is_loaded, load_length}
 use Rattle.ideal_lane.specs.Places.{virtual_at, reached, bytes_at}
 use Rattle.ideal_lane.specs.Rings.{Candidate, allowed, at_first, blame, candidates, fetch, fits_in, head_at, head_of, is_work}
 use Rattle.ideal_lane.specs.Rings.{kick, may_post, ring, ring_post, ring_step, slot_place, told}
+use Rattle.ideal_lane.specs.Sends.{Send, chain_bytes, cluster_bytes, copied, due_send, is_kept, is_too_big, load_again}
+use Rattle.ideal_lane.specs.Sends.{resend, send_of}
 use Rattle.ideal_lane.specs.Syncs.{sync_part, sync, sync_range}
 use Rattle.ideal_lane.specs.Tags.{with_tag, attached, tag_or_invalid, tag, device_tag, iommu_tag, tag_destroy, has_maps}
 use Rattle.ideal_lane.specs.Turns.{Turned, Blocked, Ended, stays, operation, bio_at, load_buffer}
-use Rattle.ideal_lane.specs.Turns.{never_waits, transfer, waits, advanced, left_queue, next_operation}
+use Rattle.ideal_lane.specs.Turns.{never_waits, transfer, waits, advanced, due_turn, kept, left_queue, next_operation}
+use Rattle.ideal_lane.specs.Turns.{resent, went_on}
 use Rattle.ideal_lane.specs.Turns.{script_turn, transfer_turn, called, called_in, callback_turn}
 use Rattle.ideal_lane.specs.Turns.{lane_step}
 use Rattle.ideal_lane.specs.Unloads.{unload}
 use Rattle.ideal_lane.proofs.Endings.{fits, fitting, too_big}
 use Rattle.ideal_lane.proofs.Refusing.{absent, judged, either, busy, unloaded, past}
+use Rattle.ideal_lane.proofs.Unread.{same-judged}
 use Rattle.ideal_lane.proofs.Effects.{Advances, AtOnce, Attaches, Awaits, Begins, Below, Callback, Called, Calls}
 use Rattle.ideal_lane.proofs.Effects.{Creates, Device, DeviceWrites, Ends, Frees, Granted, IsNew, IsQuiet, IsSync, IsUndone}
 use Rattle.ideal_lane.proofs.Effects.{IsUnwaited, IsUnwaiting, Leaves, Loads, Makes, Maps, NoFrame, NoRun, NoneCalled, NothingLeft}
@@ -75,6 +87,8 @@ use Rattle.ideal_lane.proofs.Effects.{Unattached, Uncreated, Ungranted, Unloads,
 use Rattle.ideal_lane.proofs.Effects.{Vain, Waits, Whole, WholeItem, Work, Writes, asked_in, asks, chunks, chunks_in}
 use Rattle.ideal_lane.proofs.Effects.{end_call, grab, map_in, pages_in, place_in, was_in}
 use Rattle.ideal_lane.proofs.Effects.{Fetches, Kicks, Posts, Rings, fetched-is}
+use Rattle.ideal_lane.proofs.Effects.{BusyMap, Copies, Declines, Held, IsAgain, IsFree, Keeps, NoMap, Resends, Unloadable}
+use Rattle.ideal_lane.proofs.Effects.{Unreadable, Unwritable, again}
 
 -- ---- each operation, item and callback is one of them
 
@@ -267,6 +281,19 @@ module _ (l : LaneState) (d : Work) where
       (Asks (grab b) (granted b.m b.o (asks b) (chunks b) l)) (λ none r. ends-makes (AtOnce b plain none))
       (granted-makes b plain)
 
+  -- a load that has begun
+  abbrev pub begun : Begins l d → Asking Outcome
+  begun b =
+      if nat_lt (limits_of l b.o).maxsize (asks b).len then Gives (ended b.m b.o (answer.Refused EINVAL) l)
+      else if is_device l b.o then Gives (device_load b.m b.o (asks b) l)
+      else load_chunks b.m b.o (asks b) (chunks b) l
+
+  pub begun-makes : (b : Begins l d) → Made l d (begun b)
+  begun-makes b =
+      either l (Made l d) (report l d) (nat_lt (limits_of l b.o).maxsize (asks b).len) _ _
+      (λ long r. Refuses b (TooLong long) EINVAL)
+      (λ short. either l (Made l d) (report l d) (is_device l b.o) _ _ (device-makes b) (chunks-make b))
+
   load-makes : (m : ℕ) (x : Buffer) (flags : ℕ) (items : List Item) →
       d ≡ Operation (op.Load m x flags items) → Made l d (load_buffer m x flags items l)
   load-makes m x flags items is =
@@ -291,12 +318,7 @@ module _ (l : LaneState) (d : Work) where
       by : (y : Bio) → bio_at l x ≡ Some y → Made l d (load m (asked m y (never_waits x flags) items l) l)
       by y found =
           busy l (Made l d) (report l d) m _ (λ o there i.
-          judged l (Made l d) (report l d) (load_judged l m y) _ (λ fine.
-          either l (Made l d) (report l d) (nat_lt (limits_of l o).maxsize (asked m y (never_waits x flags) items l).len) _ _
-          (λ long r. Refuses (begins y found o there i fine) (TooLong long) EINVAL)
-          (λ short.
-          either l (Made l d) (report l d) (is_device l o) _ _ (device-makes (begins y found o there i fine))
-          (chunks-make (begins y found o there i fine)))))
+          judged l (Made l d) (report l d) (load_judged l m y) _ (λ fine. begun-makes (begins y found o there i fine)))
 
   part-touches : (m off len ops : ℕ) → IsSync l d m off len ops → (o : LaneMap) → get l.maps m ≡ Some o →
       is_loaded o.stage ≡ true → Only l d (sync_part m o off len ops l)
@@ -485,23 +507,231 @@ called-makes l m pages = by (get l.maps m.made_at) refl
     by None e = none None e tt
     by (Some o) e = in-stage o e o.stage refl
 
+-- ---- sends
+
+module _ (l : LaneState) where
+  -- where an outcome is that there are too many segments, the first load of a send went so far
+  abbrev Held-by : Send → Asking Outcome → Type 0
+  Held-by s (Gives x) = is_too_big x.answer ≡ true → Held l s
+  Held-by s (Asks c k) = (r : HubReply) → is_too_big (k r).answer ≡ true → Held l s
+
+  held-anyway : (s : Send) → Held l s → (x : Asking Outcome) → Held-by s x
+  held-anyway s h (Gives x) = λ e. h
+  held-anyway s h (Asks c k) = λ r e. h
+
+  no-report : (s : Send) (x : Report) → Held-by s (gives l (answer.Report x))
+  no-report s x = λ e. absurd (cc)
+
+  load-held : (s : Send) → Held-by s (load s.map (asked s.map (Vector s.chain) true s.items l) l)
+  load-held s =
+      busy l (Held-by s) (no-report s) s.map _ (λ o there i.
+      judged l (Held-by s) (no-report s) (load_judged l s.map (Vector s.chain)) _ (λ fine.
+      either l (Held-by s) (no-report s) (nat_lt (limits_of l o).maxsize (span_bytes s.chain)) _ _
+      (λ long e. absurd (cc)) (λ short.
+      held-anyway s (record { o = o; there = there; idle = i; fine = fine; short = short }) _)))
+
+  send-held : (o : Op) (s : Send) → send_of o ≡ Some s → Held-by s (operation o l)
+  send-held (op.Load m (buffer.Send chain (Some clusters)) flags items) s e =
+      let same : record { map = m; chain = chain; clusters = clusters; items = items } ≡ s = cc in
+      subst (λ z. Held-by z (load m (asked m (Vector chain) true items l) l)) same
+      (load-held (record { map = m; chain = chain; clusters = clusters; items = items }))
+  send-held _ s e = absurd (cc)
+
+  -- ---- resends
+
+  -- what is answered, whatever the reply to a call
+  abbrev pub Answers-by : (Answer → Type 0) → Asking Outcome → Type 0
+  Answers-by Q (Gives x) = Q x.answer
+  Answers-by Q (Asks c k) = (r : HubReply) → Q (k r).answer
+
+  answers-if : (Q : Answer → Type 0) (b : Bool) (x y : Asking Outcome) → (b ≡ true → Answers-by Q x) →
+      Answers-by Q y → Answers-by Q (if b then x else y)
+  answers-if Q true x y h k = h refl
+  answers-if Q false x y h k = k
+
+  -- a load that has begun answers segments, that it waits, or one of three refusals
+  module _ {d : Work} (b : Begins l d) (Q : Answer → Type 0) (segments : (ss : List Segment) → Q (answer.Segments ss))
+      (waiting : (have need : ℕ) → Q (answer.InProgress have need)) (big : Q (answer.Refused EFBIG))
+      (refuses : Q (answer.Refused ENOMEM)) where
+    finished-answers : (at : ℕ) (cs : List Chunk) (pages : List ℕ) → Q (finished b.m b.o at (asks b) cs pages l).answer
+    finished-answers at cs pages = by (fits l b.m b.o at (asks b) cs pages)
+      where
+        by : (fit : Bool) →
+            Q (if fit then fitting l b.m b.o at (asks b) cs pages else too_big l b.m b.o at (asks b) cs pages).answer
+        by true = segments _
+        by false = big
+
+    taken-answers : (q : Option ℕ) → Q (taken b.m b.o (asks b) q l).answer
+    taken-answers None = refuses
+    taken-answers (Some first) = finished-answers l.place (device_chunks first 0 (asks b).entries) []
+
+    device-answers : Q (device_load b.m b.o (asks b) l).answer
+    device-answers = by (length (frames b) == 0)
+      where
+        by : (none : Bool) →
+            Q
+            (if none then finished b.m b.o l.place (asks b) (device_chunks 0 0 (asks b).entries) [] l
+            else taken b.m b.o (asks b) (first_free (l.spaces b.o.tag) (length (frames b))) l).answer
+        by true = finished-answers l.place (device_chunks 0 0 (asks b).entries) []
+        by false = taken-answers (first_free (l.spaces b.o.tag) (length (frames b)))
+
+    granted-answers : (r : HubReply) → Q (granted b.m b.o (asks b) (chunks b) l r).answer
+    granted-answers (reply.Granted pages) = finished-answers l.place (chunks b) (addresses pages)
+    granted-answers (reply.Queued have) = waiting have (need_of (chunks b))
+    granted-answers _ = refuses
+
+    pub begun-answers : (nat_lt (limits_of l b.o).maxsize (asks b).len ≡ true → Q (answer.Refused EINVAL)) →
+        Answers-by Q (begun l d b)
+    begun-answers long =
+        answers-if Q (nat_lt (limits_of l b.o).maxsize (asks b).len) _ _ long
+        (answers-if Q (is_device l b.o) _ _ (λ device. device-answers)
+        (answers-if Q (need_of (chunks b) == 0) _ _ (λ none. finished-answers l.place (chunks b) []) granted-answers))
+
+module _ (l : LaneState) (P : Asking Outcome → Type 0) where
+  -- the step of a map that is idle, or whose judgement is no refusal
+  pub found : (m : ℕ) (step : LaneMap → Asking Outcome) (o : LaneMap) → get l.maps m ≡ Some o → is_idle o.stage ≡ true →
+      P (step o) → P (unless_busy m l step)
+  found m step o there i h =
+      subst (λ y. P (unless_absent y l (λ q. if is_idle q.stage then step q else refused MapBusy 0 l))) (sym there)
+      (subst (λ b. P (if b then step o else refused MapBusy 0 l)) (sym i) h)
+
+  pub passed : (j : Judged) (step : Asking Outcome) → j ≡ Fine → P step → P (unless_refused j l step)
+  passed j step fine h = subst (λ q. P (unless_refused q l step)) (sym fine) h
+
+module _ (l : LaneState) (s : Send) (now : IsAgain l s) where
+  -- a resend with this outcome is a step, whatever the reply to its call
+  abbrev Again-by : Asking Outcome → Type 0
+  Again-by (Gives x) = (r : HubReply) → Steps l side.Script None r (resent l.place x)
+  Again-by (Asks c k) = (r : HubReply) → Steps l side.Script (Some c) r (resent l.place (k r))
+
+  module _ (k : Copies l s) where
+    abbrev pub filled : LaneState
+    filled = copied s l
+
+    pub fine : load_judged filled s.map (Vector s.clusters) ≡ Fine
+    fine = same-judged filled.memory l s.map (Vector s.clusters) ∙ k.fine
+
+    abbrev pub begins : Begins filled (Operation (again s))
+    begins = record {
+      m = s.map;
+      buffer = buffer.Vector s.clusters;
+      flags = nowait_bit;
+      items = s.items;
+      is = refl;
+      bio = Vector s.clusters;
+      found = refl;
+      o = k.o;
+      there = k.there;
+      idle = k.idle;
+      fine = fine;
+    }
+
+    -- a load that has begun reports nothing
+    abbrev IsTold : Answer → Type 0
+    IsTold a = is_report a ≡ false
+
+    resends : (x : Asking Outcome) → Made filled (Operation (again s)) x → Answers-by filled IsTold x → Again-by x
+    resends (Gives y) h u = λ r. Resends s now k u (h r)
+    resends (Asks c f) h u = λ r. Resends s now k (u r) (h r)
+
+    load-again : Again-by (load_again s filled)
+    load-again =
+        found filled Again-by s.map _ k.o k.there k.idle
+        (passed filled Again-by (load_judged filled s.map (Vector s.clusters)) _ fine
+        (resends _ (begun-makes filled (Operation (again s)) begins) (begun-answers filled begins IsTold (λ ss. refl) (λ have need. refl) refl refl (λ long. refl))))
+
+  -- each refusal stands before the next
+  module _ (o : LaneMap) (there : get l.maps s.map ≡ Some o) (idle : is_idle o.stage ≡ true) where
+    written-steps : load_judged l s.map (Vector s.clusters) ≡ Fine →
+        cpu_read_answer (is_known l.memory) l.loans (chain_bytes s l) ≡ Fine → (j : Judged) →
+        cpu_write_answer l.loans (cluster_bytes s l) ≡ j →
+        Again-by (unless_refused j l (load_again s (copied s l)))
+    written-steps fine readable (Refused x) e = λ r. Declines s now x (Unwritable o there idle fine readable x e)
+    written-steps fine readable Fine e =
+        load-again (record { o = o; there = there; idle = idle; fine = fine; readable = readable; writable = e })
+
+    read-steps : load_judged l s.map (Vector s.clusters) ≡ Fine → (j : Judged) →
+        cpu_read_answer (is_known l.memory) l.loans (chain_bytes s l) ≡ j →
+        Again-by (unless_refused j l (
+        unless_refused (cpu_write_answer l.loans (cluster_bytes s l)) l (load_again s (copied s l))))
+    read-steps fine (Refused x) e = λ r. Declines s now x (Unreadable o there idle fine x e)
+    read-steps fine Fine e = written-steps fine e (cpu_write_answer l.loans (cluster_bytes s l)) refl
+
+    judged-steps : (j : Judged) → load_judged l s.map (Vector s.clusters) ≡ j →
+        Again-by (unless_refused j l (
+        unless_refused (cpu_read_answer (is_known l.memory) l.loans (chain_bytes s l)) l (
+        unless_refused (cpu_write_answer l.loans (cluster_bytes s l)) l (load_again s (copied s l)))))
+    judged-steps (Refused x) e = λ r. Declines s now x (Unloadable o there idle x e)
+    judged-steps Fine e = read-steps e (cpu_read_answer (is_known l.memory) l.loans (chain_bytes s l)) refl
+
+  abbrev beyond : Asking Outcome
+  beyond =
+      unless_refused (load_judged l s.map (Vector s.clusters)) l (
+      unless_refused (cpu_read_answer (is_known l.memory) l.loans (chain_bytes s l)) l (
+      unless_refused (cpu_write_answer l.loans (cluster_bytes s l)) l (load_again s (copied s l))))
+
+  idle-steps : (o : LaneMap) → get l.maps s.map ≡ Some o → (b : Bool) → is_idle o.stage ≡ b →
+      Again-by (if b then beyond else refused MapBusy 0 l)
+  idle-steps o there false e = λ r. Declines s now _ (BusyMap o there e)
+  idle-steps o there true e = judged-steps o there e (load_judged l s.map (Vector s.clusters)) refl
+
+  resend-steps : Again-by (resend s l)
+  resend-steps = by (get l.maps s.map) refl
+    where
+      by : (y : Option LaneMap) → get l.maps s.map ≡ y →
+          Again-by (unless_absent y l (λ o. if is_idle o.stage then beyond else refused MapBusy 0 l))
+      by None e = λ r. Declines s now _ (NoMap e)
+      by (Some o) e = idle-steps o e (is_idle o.stage) refl
+
+-- ---- turns
+
 module _ (l : LaneState) where
   -- a turn is one of them, whatever the reply to its call
   abbrev pub Stepped-by : Side → Asking Turned → Type 0
   Stepped-by s x = (r : HubReply) → Steps l s (call_of x) r (by_reply x r)
 
-  next-steps : (o : Option Op) → slice_get l.script l.place ≡ o → Stepped-by side.Script (next_operation o l)
-  next-steps None e r = Stays Ended NothingLeft
-  next-steps (Some o) e r = by (waits o l) refl (operation o l) (operation-makes l o) r
+  -- an operation is done, and the script goes on or stays at a send
+  went-steps : (o : Op) → slice_get l.script l.place ≡ Some o → IsFree l o → {c : Option HubCall} {r : HubReply}
+      (x : Outcome) → ((s : Send) → send_of o ≡ Some s → is_too_big x.answer ≡ true → Held l s) →
+      Makes l (Operation o) c r x → Steps l side.Script c r (went_on o l.place x)
+  went-steps o at free {c} {r} x held m = which (send_of o) refl
+    where
+      either-way : (s : Send) → send_of o ≡ Some s → (b : Bool) → is_too_big x.answer ≡ b →
+          Steps l side.Script c r (if b then kept l.place x else advanced l.place x)
+      either-way s e true big = Keeps o at free s e big (held s e big) m
+      either-way s e false big = Advances o at free m
+
+      which : (q : Option Send) → send_of o ≡ q →
+          Steps l side.Script c r (if is_kept q x.answer then kept l.place x else advanced l.place x)
+      which None e = Advances o at free m
+      which (Some s) e = either-way s e (is_too_big x.answer) refl
+
+  next-steps : due_send l ≡ None → (o : Option Op) → slice_get l.script l.place ≡ o →
+      Stepped-by side.Script (next_operation o l)
+  next-steps none None e r = Stays Ended NothingLeft
+  next-steps none (Some o) e r =
+      by (waits o l) refl (operation o l) (operation-makes l o) (λ s is. send-held l o s is) r
     where
       by : (b : Bool) → waits o l ≡ b → (x : Asking Outcome) → Made l (Operation o) x →
-          Stepped-by side.Script (if b then Gives (stays Blocked l) else goes_on (advanced l.place) x)
-      by true w x h r = Stays Blocked NothingNow
-      by false w (Gives y) h r = Advances o e w (h r)
-      by false w (Asks c k) h r = Advances o e w (h r)
+          ((s : Send) → send_of o ≡ Some s → Held-by l s x) →
+          Stepped-by side.Script (if b then Gives (stays Blocked l) else goes_on (went_on o l.place) x)
+      by true w x h held r = Stays Blocked NothingNow
+      by false w (Gives y) h held r = went-steps o e (record { none = none; free = w }) y held (h r)
+      by false w (Asks c k) h held r =
+          went-steps o e (record { none = none; free = w }) (k r) (λ s is. held s is r) (h r)
+
+  due-steps : l.returns ≡ [] → (q : Option Send) → due_send l ≡ q → Stepped-by side.Script (due_turn q l)
+  due-steps none None e r = next-steps e (slice_get l.script l.place) refl r
+  due-steps none (Some s) e r =
+      let now : IsAgain l s = record { due = e; none = none } in by now (resend s l) (resend-steps l s now)
+    where
+      by : (now : IsAgain l s) (x : Asking Outcome) → Again-by l s now x →
+          Steps l side.Script (call_of (goes_on (resent l.place) x)) r (by_reply (goes_on (resent l.place) x) r)
+      by now (Gives y) h = h r
+      by now (Asks c k) h = h r
 
   script-steps : (rs : List Return) → l.returns ≡ rs → Stepped-by side.Script (script_turn rs l)
-  script-steps [] e r = next-steps (slice_get l.script l.place) refl r
+  script-steps [] e r = due-steps e (due_send l) refl r
   script-steps (q ∷ rest) e r = Releases q rest e (get l.maps q.map) refl
 
   queue-steps : (qs : List QueuedItem) → l.queue ≡ qs → Stepped-by side.Transfer (transfer_turn qs l)

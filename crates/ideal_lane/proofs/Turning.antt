@@ -25,8 +25,10 @@ use Rattle.ideal_lane.specs.Agreement.{IsAllowed, KeepsAgreement}
 use Rattle.ideal_lane.specs.Standing.{Stands}
 use Rattle.ideal_lane.specs.View.{view_of, own_map, own_frames, in_zone, stage_of}
 use Rattle.ideal_lane.specs.Loads.{Asked, asked, chunks_for}
+use Rattle.ideal_lane.specs.Sends.{Send, copied}
 use Rattle.ideal_lane.specs.Turns.{Turned, waits, lane_step}
 use Rattle.ideal_lane.specs.Unloads.{restaged, after_return}
+use Rattle.ideal_lane.proofs.Effects.{Declines, Keeps, Resends}
 use Rattle.ideal_lane.proofs.Effects.{Advances, Callback, Called, Calls, IsReplyOf, IsUncalled, IsUnwaited}
 use Rattle.ideal_lane.proofs.Effects.{IsUnwaiting, Leaves, Loads, Makes, NoneCalled, NothingLeft, NothingNow}
 use Rattle.ideal_lane.proofs.Effects.{Overflows, Refuses, Releases, Stays, Steps, Unwaited, Vain, asks}
@@ -159,10 +161,20 @@ module _ (l : LaneState) (s : Stands l) where
   asked-by None r n h = tt
   asked-by (Some c) r n h = h.0
 
+  -- what is kept after the copy of a send is so before it
+  uncopied : (d : Send) (c : Option HubCall) (r : HubReply) (n : LaneState) → KeptBy (copied d l) c r n →
+      KeptBy l c r n
+  uncopied d None r n h = h
+  uncopied d (Some c) r n h = (h.0, record { fits = h.1.fits; like = h.1.like })
+
   steps-asked : {d : Side} {c : Option HubCall} {r : HubReply} {t : Turned} → Steps l d c r t → IsAsked c
   steps-asked (Stays t (NoneCalled u)) = tt
   steps-asked (Stays t _) = tt
   steps-asked {c = c} {r = r} (Advances {x = x} o at free m) = asked-by c r x.lane (keeps l s m)
+  steps-asked {c = c} {r = r} (Keeps {x = x} o at free d is big held m) = asked-by c r x.lane (keeps l s m)
+  steps-asked (Declines d now x declined) = tt
+  steps-asked {c = c} {r = r} (Resends {x = x} d now k untold m) =
+      asked-by c r x.lane (uncopied d c r x.lane (keeps (copied d l) s m))
   steps-asked (Leaves q rest e t) = tt
   steps-asked (Releases q rest e y there) =
       (refl, subst (λ rs. IsFront rs q.map q.zone q.page) (sym e) (refl, refl, refl))
@@ -235,6 +247,10 @@ module _ (l : LaneState) (s : Stands l) where
     steps-kept {r = r} e (Stays t (NoneCalled u)) =
         subst (λ v. Agrees v (account_after (Some call.TakeCallback))) (uncalled r u) (step true r e)
     steps-kept {c = c} {r = r} e (Advances {x = x} o at free m) = kept-by c r x.lane e (keeps l s m)
+    steps-kept {c = c} {r = r} e (Keeps {x = y} o at free d is big held m) = kept-by c r y.lane e (keeps l s m)
+    steps-kept e (Declines d now y declined) = g
+    steps-kept {c = c} {r = r} e (Resends {x = y} d now k untold m) =
+        kept-by c r y.lane e (uncopied d c r y.lane (keeps (copied d l) s m))
     steps-kept e (Leaves q rest is t) = touches-keep l s t a g
     steps-kept {c = c} {r = r} {t = t} e (Releases q rest is y there) =
         kept-by c r t.lane e (

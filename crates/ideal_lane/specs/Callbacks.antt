@@ -1,5 +1,5 @@
 -- Which load's callback a step calls, and how often the steps of a run call it: after bus_dmamap_load(9).
-use Rattle.std.specs.Prelude.{◌≡◌, ℕ, ◌+◌, ◌==◌, Bool, true, false, ◌&&◌, List, [], ◌∷◌, Option, Some, None}
+use Rattle.std.specs.Prelude.{◌≡◌, ℕ, ◌+◌, ◌==◌, Bool, true, false, not, ◌&&◌, List, [], ◌∷◌, Option, Some, None}
 use Rattle.std.specs.Prelude.{if◌then◌else◌, is_some, slice_get}
 use Rattle.std.specs.FinMap.{get}
 use Rattle.busdma_machine.specs.declared.bounce.hold.HubReply.{HubReply}
@@ -12,6 +12,7 @@ use Rattle.busdma_base.specs.declared.scenarios.script.Op.{Op}
 use Rattle.busdma_base.specs.Scenarios.Operations.{about}
 use Rattle.ideal_lane.specs.State.{LaneState, LaneMap, Stage, Idle, Waiting, Loaded, Returning}
 use Rattle.ideal_lane.specs.Asking.{by_reply}
+use Rattle.ideal_lane.specs.Sends.{is_kept, send_at}
 use Rattle.ideal_lane.specs.Turns.{Turn, Turned, Stepped, Blocked, Ended, lane_step}
 
 -- a load with this answer has ended in the step of its own operation, which calls its callback
@@ -44,9 +45,12 @@ abbrev pub awaited : ℕ → Option LaneMap → Bool
 awaited p None = false
 awaited p (Some o) = awaits p o.stage
 
--- what was done, with this answer, calls the callback of the load at a place of the script
+-- what was done, with this answer, calls the callback of the load at a place of the script; a send whose resend is due
+-- keeps its callback, and the resend calls it or drops it
 abbrev pub calls : ℕ → LaneState → Did → Answer → Bool
-calls p l (did.Op place) a = (place == p) && (is_load (slice_get l.script place) && ends a)
+calls p l (did.Op place) a =
+    (place == p) && (is_load (slice_get l.script place) && (ends a && not (is_kept (send_at l.script place) a)))
+calls p l (did.Again place) a = (place == p) && ends a
 calls p l (did.Callback m) a = awaited p (get l.maps m.made_at)
 calls p l (did.Release m page) a = false
 calls p l (did.Item load_at place) a = false

@@ -1,5 +1,5 @@
 -- How much a driver has still to do.
-use Rattle.std.specs.Prelude.{◌≡◌, ℕ, ◌+◌, ◌<◌, length, drop}
+use Rattle.std.specs.Prelude.{◌≡◌, ℕ, ◌+◌, ◌<◌, List, length, drop, Option, Some, None}
 use Rattle.std.specs.Ordering.{nat_cmp}
 use Rattle.std.specs.FinMap.{FinMap, entries}
 use Rattle.std.specs.List.{sum_by}
@@ -8,10 +8,12 @@ use Rattle.busdma_machine.specs.Bounce.Account.{Account}
 use Rattle.busdma_machine.specs.Bounce.AccountStep.{account_step}
 use Rattle.busdma_base.specs.Scenarios.Operations.{items_of, loaded_by}
 use Rattle.ideal_lane.specs.State.{LaneState, LaneMap, Stage, Idle, Waiting, Loaded, Returning}
+use Rattle.busdma_machine.specs.Machine.Spans.{span_bytes}
 use Rattle.ideal_lane.specs.Asking.{Asking, Gives, Asks}
+use Rattle.ideal_lane.specs.Sends.{Send, due_send}
 use Rattle.ideal_lane.specs.Turns.{Turn, Turned, Stepped, Blocked, Ended}
 
--- an operation that is not yet done counts 2, its items and the bytes that it loads
+-- an operation that is not yet done counts 2, its items and the bytes that it counts for the limit on all loads
 abbrev pub op_weight : Op → ℕ
 op_weight o = 2 + (length (items_of o) + loaded_by o)
 
@@ -25,11 +27,20 @@ stage_weight Returning = 0
 abbrev pub maps_weight : FinMap nat_cmp LaneMap → ℕ
 maps_weight maps = sum_by (λ e. stage_weight e.1.stage) (entries maps)
 
+-- a send whose resend is due counts 1, its items and the bytes of its chain
+abbrev pub due_weight : Send → ℕ
+due_weight s = 1 + (length s.items + span_bytes s.chain)
+
+-- the operations from a place on that are not yet done, of which the first may be a send whose resend is due
+abbrev pub script_weight : Option Send → List Op → ℕ → ℕ
+script_weight None script place = sum_by op_weight (drop place script)
+script_weight (Some s) script place = due_weight s + sum_by op_weight (drop (place + 1) script)
+
 -- what is left: the operations that are not yet done; 1 for each item of the transfer queue and each page of the
 -- return queue; and what the maps count
 abbrev pub left : LaneState → ℕ
 left l =
-    sum_by op_weight (drop l.place l.script) + (length l.queue + (length l.returns + maps_weight l.maps))
+    script_weight (due_send l) l.script l.place + (length l.queue + (length l.returns + maps_weight l.maps))
 
 -- a turn that is a step leaves less to do; any other leaves the driver as it was
 abbrev pub Falls : LaneState → LaneState → Turn → Type 0

@@ -3,6 +3,7 @@ pub mod Agreement
 pub mod Ahead
 pub mod Asking
 pub mod Callbacks
+pub mod Due
 pub mod IdealMemory
 pub mod Left
 pub mod Loads
@@ -12,7 +13,9 @@ pub mod Opening
 pub mod Outcomes
 pub mod Places
 pub mod Reported
+pub mod Resends
 pub mod Rings
+pub mod Sends
 pub mod Standing
 pub mod State
 pub mod Syncs

@@ -1,5 +1,5 @@
 -- The state in which a driver opens.
-use Rattle.std.specs.Prelude.{ℕ, List, [], Some, None, if◌then◌else◌}
+use Rattle.std.specs.Prelude.{ℕ, false, List, [], Some, None, if◌then◌else◌}
 use Rattle.std.specs.FinMap as finmap
 use Rattle.busdma_base.specs.declared.scenarios.scenario.Driver.{Driver}
 use Rattle.busdma_base.specs.declared.scenarios.scenario.PageRun.{PageRun}
@@ -19,6 +19,7 @@ opening_lane id maxmem driver = record {
   maxmem = maxmem;
   script = driver.script;
   place = 0;
+  due = false;
   pages = driver.pages;
   tags = finmap.empty;
   maps = finmap.empty;

@@ -28,7 +28,7 @@ behind (q ∷ rest) = rest
 
 -- the driver whose side has gone on, and nothing else: its script is at the next place, or an item has left the queue
 abbrev pub gone_on : Side → LaneState → LaneState
-gone_on side.Script l = record l { place = l.place + 1 }
+gone_on side.Script l = record l { place = l.place + 1; due = false }
 gone_on side.Transfer l = record l { queue = behind l.queue }
 gone_on side.Callback l = l
 
@@ -56,6 +56,7 @@ items_in (Some o) = items_awaited o.stage
 -- the items of what was done: a load or a kick, or the callback of a map whose load waited
 abbrev pub done_items : LaneState → Did → List QueuedItem
 done_items l (did.Op place) = items_at place (slice_get l.script place)
+done_items l (did.Again place) = items_at place (slice_get l.script place)
 done_items l (did.Callback m) = items_in (get l.maps m.made_at)
 done_items l (did.Release m page) = []
 done_items l (did.Item load_at place) = []

@@ -63,15 +63,17 @@ pub record LaneRing : Type 0 where
   pub slots : ℕ
   pub head : ℕ
 
--- A driver: its number, the end of the machine's memory in frames, its script and the place in it, and its pages; its
--- tags, maps, memories and rings by the places that made them, where the map of a memory has the memory's place; its
--- ideal memory and what its loaded maps lend; its transfer queue and its return queue; its share of each zone's
--- total_bounced; and the address space of each IOMMU tag, by the place that made it.
+-- A driver: its number, the end of the machine's memory in frames, its script and the place in it, whether the resend of
+-- the send at this place is due, and its pages; its tags, maps, memories and rings by the places that made them, where
+-- the map of a memory has the memory's place; its ideal memory and what its loaded maps lend; its transfer queue and its
+-- return queue; its share of each zone's total_bounced; and the address space of each IOMMU tag, by the place that made
+-- it.
 pub record LaneState : Type 0 where
   pub id : ℕ
   pub maxmem : ℕ
   pub script : List Op
   pub place : ℕ
+  pub due : Bool
   pub pages : List PageRun
   pub tags : FinMap nat_cmp LaneTag
   pub maps : FinMap nat_cmp LaneMap

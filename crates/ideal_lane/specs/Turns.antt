@@ -41,6 +41,7 @@ use Rattle.ideal_lane.specs.Unloads as unloads
 use Rattle.ideal_lane.specs.Syncs as syncs
 use Rattle.ideal_lane.specs.Accesses as accesses
 use Rattle.ideal_lane.specs.Rings as rings
+use Rattle.ideal_lane.specs.Sends as sends
 
 -- what a turn answers: an entry of the journal, or that the side cannot step now, or that its script has ended
 pub data Turn : Type 0 where
@@ -76,13 +77,15 @@ bio_at l (buffer.Flat place len) = option_map (flat_bio len) (virtual_at l place
 bio_at l (buffer.Vector spans) = Some (bio.Vector spans)
 bio_at l (buffer.Mbuf chain) = Some (bio.Vector chain)
 bio_at l (buffer.Bio b) = Some b
+bio_at l (buffer.Send chain clusters) = Some (bio.Vector chain)
 
--- the load of a buffer with these flags is refused where it would have to wait, as that of a chain always is
+-- the load of a buffer with these flags is refused where it would have to wait, as those of chains always are
 abbrev pub never_waits : Buffer → ℕ → Bool
 never_waits (buffer.Flat place len) flags = nowait flags
 never_waits (buffer.Vector spans) flags = nowait flags
 never_waits (buffer.Mbuf chain) flags = true
 never_waits (buffer.Bio b) flags = nowait flags
+never_waits (buffer.Send chain clusters) flags = true
 
 -- a load of a buffer
 abbrev pub load_buffer : ℕ → Buffer → ℕ → List Item → LaneState → Asking Outcome
@@ -141,15 +144,38 @@ waits (op.Ring name mem slots) l = false
 waits (op.RingPost ring slot map off len kind fill) l = false
 waits (op.Kick ring steps) l = false
 
--- the script goes on to its next place
+-- the script goes on to its next place, where no resend is due
+abbrev pub at_next : ℕ → LaneState → LaneState
+at_next place l = record l { place = place + 1; due = false }
+
+-- so it does after an operation
 abbrev pub advanced : ℕ → Outcome → Turned
 advanced place o =
-    stepped side.Script (did.Op place) (record { lane = record o.lane { place = place + 1 }; answer = o.answer })
+    stepped side.Script (did.Op place) (record { lane = at_next place o.lane; answer = o.answer })
+
+-- the script stays at a send whose callback is kept, since its resend is due
+abbrev pub kept : ℕ → Outcome → Turned
+kept place o =
+    stepped side.Script (did.Op place) (record { lane = record o.lane { due = true }; answer = o.answer })
+
+-- after any other operation it goes on
+abbrev pub went_on : Op → ℕ → Outcome → Turned
+went_on op place o = if sends.is_kept (sends.send_of op) o.answer then kept place o else advanced place o
 
 -- the next operation of the script, if there is one
 abbrev pub next_operation : Option Op → LaneState → Asking Turned
 next_operation None l = Gives (stays Ended l)
-next_operation (Some o) l = if waits o l then Gives (stays Blocked l) else goes_on (advanced l.place) (operation o l)
+next_operation (Some o) l = if waits o l then Gives (stays Blocked l) else goes_on (went_on o l.place) (operation o l)
+
+-- the script goes on behind a send whose resend was made
+abbrev pub resent : ℕ → Outcome → Turned
+resent place o =
+    stepped side.Script (did.Again place) (record { lane = at_next place o.lane; answer = o.answer })
+
+-- the resend that is due, or else the next operation
+abbrev pub due_turn : Option sends.Send → LaneState → Asking Turned
+due_turn None l = next_operation (slice_get l.script l.place) l
+due_turn (Some s) l = goes_on (resent l.place) (sends.resend s l)
 
 -- how many maps a release made complete
 abbrev pub served : HubReply → ℕ
@@ -164,9 +190,9 @@ release r rest l =
     stepped side.Script (did.Release (named l r.map) page)
     (record { lane = unloads.given_back r rest l; answer = answer.Served (served got) }))
 
--- the turn of the script: pages go back first
+-- the turn of the script: pages go back first, and a resend stands before the next operation
 abbrev pub script_turn : List Return → LaneState → Asking Turned
-script_turn [] l = next_operation (slice_get l.script l.place) l
+script_turn [] l = due_turn (sends.due_send l) l
 script_turn (r ∷ rest) l = release r rest l
 
 -- The device

@@ -1,17 +1,20 @@
 //! Laws of the ideal driver.
 
-ghost use Rattle.std.specs.Prelude.{◌≡◌, ◌≤◌, ◌+◌, ◌++◌, ℕ, true, List, Some, None, length, slice_get};
+ghost use Rattle.std.specs.Prelude.{◌≡◌, ◌≤◌, ◌+◌, ◌++◌, ℕ, Bool, false, true, List, Some, None, length, slice_get};
 ghost use Rattle.std.specs.FinMap.{get};
 ghost use Rattle.std.specs.List.{Contains};
 ghost use Rattle.busdma_machine.specs.declared.bounce.hold.HubCall.TheVariants.{TakeCallback};
 ghost use Rattle.busdma_machine.specs.declared.bounce.hold.HubReply.{HubReply};
 ghost use Rattle.busdma_machine.specs.declared.bounce.hold.HubReply.TheVariants.{Called};
 ghost use Rattle.busdma_machine.specs.declared.machine.address.Pa.{Pa};
+ghost use Rattle.busdma_machine.specs.declared.machine.bio.Bio.{Bio};
 ghost use Rattle.busdma_machine.specs.declared.name.MapId.{MapId};
 ghost use Rattle.busdma_machine.specs.declared.report.Judged.TheVariants.{Fine};
 ghost use Rattle.busdma_base.specs.declared.journals.journal.Side.{Side};
+ghost use Rattle.busdma_base.specs.declared.journals.journal.Side.TheVariants.{Script};
 ghost use Rattle.busdma_base.specs.declared.scenarios.scenario.Driver.{Driver};
 ghost use Rattle.busdma_base.specs.declared.scenarios.scenario.Scenario.{Scenario};
+ghost use Rattle.busdma_base.specs.declared.scenarios.script.Item.{Item};
 ghost use Rattle.busdma_machine.specs.Bounce.Account.{Account};
 ghost use Rattle.busdma_machine.specs.Bounce.AccountStep.{account_step};
 ghost use Rattle.busdma_base.specs.Scenarios.Opening.{maxmem_of, opening};
@@ -20,11 +23,16 @@ ghost use Rattle.lane_agreement.specs.Agreement.{IsFit};
 ghost use Rattle.lane_tables.specs.Queues.{script_items};
 ghost use Rattle.ideal_lane.specs.Agreement.{AgreesWith, IsAllowed, KeepsAgreement};
 ghost use Rattle.ideal_lane.specs.Ahead.{items_ahead};
-ghost use Rattle.ideal_lane.specs.Asking.{by_reply, call_of};
+ghost use Rattle.ideal_lane.specs.Asking.{by_reply, call_of, goes_on};
 ghost use Rattle.ideal_lane.specs.Callbacks.{IsRun, Made, times_called};
+ghost use Rattle.ideal_lane.specs.Due.{DueStands, is_unfit_turn};
+ghost use Rattle.ideal_lane.specs.IdealMemory.{IdealMemory};
 ghost use Rattle.ideal_lane.specs.Left.{FallsOrStays};
+ghost use Rattle.ideal_lane.specs.Loads.{asked, load, load_entries, load_judged};
 ghost use Rattle.ideal_lane.specs.Opening.{opening_lane};
 ghost use Rattle.ideal_lane.specs.Reported.{gone_on, is_reported, joining, remaining};
+ghost use Rattle.ideal_lane.specs.Resends.{is_operation, is_resend, times_done};
+ghost use Rattle.ideal_lane.specs.Sends.{HaveClusters, Send, due_send, outcome_with, with_memory};
 ghost use Rattle.ideal_lane.specs.Standing.{KeepsStanding, Stands};
 ghost use Rattle.ideal_lane.specs.Rings.{Candidate, allowed, candidates, head_of, judged_at};
 ghost use Rattle.ideal_lane.specs.State.{LaneRing, LaneState};
@@ -46,10 +54,10 @@ pub fn step_keeps_standing()
 
 /// Where a driver stands and agrees with the account, a turn that is a step by the account's reply
 /// leaves it less to do, and any other leaves it as it was. The account is one that a sound history
-/// leads to.
+/// leads to, and the sends of the script have the clusters that the rules on scripts want.
 pub fn each_step_falls()
-    ensures { (l : LaneState) (s : Side) (a : Account) → Stands l → IsFit a → AgreesWith l a →
-        FallsOrStays l a (lane_step l s) }
+    ensures { (l : LaneState) (s : Side) (a : Account) → Stands l → HaveClusters l.script → IsFit a →
+        AgreesWith l a → FallsOrStays l a (lane_step l s) }
 {}
 
 /// A driver opens standing; and a driver of a valid scenario agrees with the account with which the
@@ -60,6 +68,23 @@ pub fn opening_stands()
         AgreesWith (opening_lane i (maxmem_of s.frames) driver) (opening s) }
 {}
 
+/// While the resend of a send is due, its map exists and has no load, and is idle once the return queue has none of its
+/// pages; and its tag allows loads of as many bytes as the chain has. So it opens, and so it stays with each turn,
+/// whatever the reply to its call.
+pub fn due_sends_stand()
+    ensures opens { (id maxmem : ℕ) (driver : Driver) → DueStands (opening_lane id maxmem driver) }
+    ensures stays { (l : LaneState) (s : Side) (r : HubReply) → DueStands l →
+        DueStands (by_reply (lane_step l s) r).lane }
+{}
+
+/// Where a send whose resend is due stands so, and the sends of the script have the clusters that the rules on
+/// scripts want, the answer of the resend is no report that its map does not exist or is busy, and never EINVAL,
+/// whatever the reply to its call.
+pub fn resends_find_their_map()
+    ensures { (l : LaneState) (s : Send) (r : HubReply) → DueStands l → HaveClusters l.script →
+        due_send l ≡ Some s → is_unfit_turn (by_reply (lane_step l Script) r).turn ≡ false }
+{}
+
 /// In each run of a driver from its opening, whatever the replies to its calls, the callback of the
 /// load at each place of the script is called at most once: in the load's own step, or in a later
 /// step that takes it.
@@ -67,6 +92,27 @@ pub fn each_load_is_called_once()
     ensures { (place id maxmem : ℕ) (driver : Driver) (steps : List Made) →
         IsRun (opening_lane id maxmem driver) steps →
         times_called place (opening_lane id maxmem driver) steps ≤ 1 }
+{}
+
+/// In each run of a driver from its opening, whatever the replies to its calls, the operation at each place of the
+/// script is done at most once, and so is the resend of a send there: no send is loaded a third time.
+pub fn no_send_has_a_third_load()
+    ensures first { (place id maxmem : ℕ) (driver : Driver) (steps : List Made) →
+        IsRun (opening_lane id maxmem driver) steps → times_done (is_operation place) steps ≤ 1 }
+    ensures again { (place id maxmem : ℕ) (driver : Driver) (steps : List Made) →
+        IsRun (opening_lane id maxmem driver) steps → times_done (is_resend place) steps ≤ 1 }
+{}
+
+/// A load looks at no byte of the driver: over a driver with other bytes it is judged as before, has the same
+/// entries, makes the same call, and leaves the same driver but for these bytes, whatever the reply.
+pub fn loads_look_at_no_byte()
+    ensures judged { (map : ℕ) (bio : Bio) (memory : IdealMemory) (l : LaneState) →
+        load_judged (with_memory memory l) map bio ≡ load_judged l map bio }
+    ensures entries { (bio : Bio) (memory : IdealMemory) (l : LaneState) →
+        load_entries (with_memory memory l) bio ≡ load_entries l bio }
+    ensures load { (map : ℕ) (bio : Bio) (nowait : Bool) (items : List Item) (memory : IdealMemory)
+        (l : LaneState) → load map (asked map bio nowait items (with_memory memory l)) (with_memory memory l)
+        ≡ goes_on (outcome_with memory) (load map (asked map bio nowait items l) l) }
 {}
 
 /// A step whose answer is a report makes no call, whatever the reply would be. It leaves the driver's memory,

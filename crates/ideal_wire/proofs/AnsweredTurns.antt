@@ -41,14 +41,14 @@ use Rattle.ideal_lane.proofs.Direct.{need-direct}
 use Rattle.ideal_lane.proofs.Effects.{Advances, AtOnce, Begins, Callback, Called, Calls, Granted, IsNext, IsQuiet}
 use Rattle.ideal_lane.proofs.Effects.{IsReplyOf, Leaves, Loads, Makes, NothingLeft, Operation, Overflows, Refuses}
 use Rattle.ideal_lane.proofs.Effects.{Releases, Same, Stays, Steps, Touched, Touches, Vain, Work, asks, chunks, grab}
-use Rattle.ideal_lane.proofs.Effects.{Fetches, IsUntold, here}
+use Rattle.ideal_lane.proofs.Effects.{Fetches, IsUntold, Syncs, here}
 use Rattle.ideal_lane.proofs.Stepping.{turn-steps}
 use Rattle.ideal_lane.proofs.Turning.{WaitsAt, waits-at}
 use Rattle.ideal_wire.specs.Accepted.{ArePagesFor, IfSegments}
 use Rattle.ideal_wire.specs.Answered.{AreAnswered, AreLoaded, AreOf, AnswersIn, AnswersLoads}
 use Rattle.ideal_wire.specs.Answered.{load_at, load_asked_by, waited_at}
 use Rattle.ideal_wire.specs.Laid.{AreLaid, IsAwaited}
-use Rattle.std.proofs.Common.{◌∷◌, ◌≤◌, ◌&&◌, slice_get, zero, suc, arith}
+use Rattle.std.proofs.Common.{◌∷◌, ◌≤◌, ◌&&◌, map, slice_get, zero, suc, arith}
 use Rattle.std.proofs.lemmas.Bool.{eq-eqb}
 use Rattle.std.specs.Option.{option_map_or}
 use Rattle.busdma_machine.specs.declared.machine.chunk.Entry.{Entry}
@@ -73,7 +73,20 @@ use Rattle.ideal_wire.specs.Machine.{IsInMachine}
 use Rattle.ideal_wire.specs.Served.{AreServed}
 use Rattle.ideal_wire.specs.Traces.{stage_in, stage_at}
 use Rattle.ideal_wire.proofs.AnsweredLoads.{callback-reachable, ends-answered, ends-memory, if-so, own-fine}
-use Rattle.ideal_wire.proofs.Buffers.{loads-from}
+use Rattle.busdma_machine.specs.declared.machine.bio.Bio.TheVariants.{Vector}
+use Rattle.ideal_lane.specs.IdealMemory.{value}
+use Rattle.ideal_lane.specs.Sends.{Send, cluster_bytes, copied, due_send, is_too_big, send_at}
+use Rattle.ideal_lane.specs.Turns.{at_next}
+use Rattle.ideal_lane.specs.Unloads.{pages_of}
+use Rattle.ideal_lane.proofs.Effects.{Copies, Declines, IsAgain, Keeps, Resends, again}
+use Rattle.ideal_wire.specs.Accepted.{IsAcceptedLoad}
+use Rattle.ideal_wire.specs.Answered.{AreOfClusters}
+use Rattle.ideal_wire.proofs.Begun.{Again, IsDone, Next, again-bio, again-map, begun-bio}
+use Rattle.ideal_lane.proofs.Sent.{due-clusters}
+use Rattle.ideal_wire.proofs.Clusters.{copied-values}
+use Rattle.ideal_wire.proofs.Copied.{copied-laid, copied-machine, copied-spaced}
+use Rattle.ideal_wire.proofs.Frames.{agreeing-apart}
+use Rattle.ideal_wire.proofs.SameBytes.{addresses-same, entries-same}
 use Rattle.ideal_wire.proofs.LaidTurns.{as-many, paged-again}
 use Rattle.ideal_wire.proofs.Pages.{granted-reachable}
 use Rattle.ideal_wire.proofs.Positions.{found_one}
@@ -81,6 +94,7 @@ use Rattle.ideal_wire.proofs.Waited.{waited-asked, waited-direct, waited-lies, w
 use Rattle.busdma_machine.specs.declared.bounce.hold.HubCall.{HubCall}
 use Rattle.busdma_base.specs.declared.journals.answer.Answer.{Answer}
 use Rattle.ideal_lane.proofs.Endings.{fitting, too_big}
+use Rattle.ideal_lane.proofs.Endings as ends
 use Rattle.busdma_machine.specs.declared.machine.address.Segment.{Segment}
 
 -- an answer without segments
@@ -101,55 +115,48 @@ module _ (l : LaneState) (a : Account) (stands : Stands l) (agrees : AgreesWith 
 
   -- where the script is at its next place
   abbrev moved : LaneState → LaneState
-  moved k = record k { place = l.place + 1 }
+  moved k = record k { place = l.place + 1; due = false }
 
   abbrev Answers : Outcome → Type 0
   Answers x = IfSegments x.answer (λ ss. AreOf l (moved x.lane) (did.Op l.place) ss)
 
-  -- ---- the load of the next operation
-  module _ {o : Op} (b : Begins l (Operation o)) (at : IsNext l (Operation o)) where
+  -- ---- a load that begins
+  module _ {d : Work} (b : Begins l d) (at : IsDone l d) where
     is-bio : IsBioOf l.pages b.bio
-    is-bio = loads-from l.pages l.script l.place b.m b.buffer b.flags b.items l b.bio machine.bios (here b at) b.found
+    is-bio = begun-bio l machine b at
 
-    load-here : load_at l l.place ≡ Some (record { map = b.m; bio = b.bio })
-    load-here =
-        ap (option_and_then (λ p. load_asked_by p l)) (here b at)
-        ∙ ap (option_map (λ y. record { map = b.m; bio = y })) b.found
+    -- the segments that it answers are its bytes
+    abbrev AreIts : Outcome → Type 0
+    AreIts k = IfSegments k.answer (AreLoaded l (moved k.lane) b.m b.bio)
 
     abbrev ending : Bool → List ℕ → Outcome
     ending memory pages = finished b.m b.o l.place (asks b) (chunks_for l b.o memory (asks b).entries) pages l
 
-    -- of the load's map it is enough to say what is loaded
-    answers-load : (k : Outcome) → IfSegments k.answer (AreLoaded l (moved k.lane) b.m b.bio) → Answers k
-    answers-load k h =
-        if-so k.answer (AreLoaded l (moved k.lane) b.m b.bio) (λ ss. AreOf l (moved k.lane) (did.Op l.place) ss)
-        (λ ss g. subst (λ q. AreAnswered l (moved k.lane) q ss) (sym load-here) g) h
-
     -- of another map than a memory's own it ends with pages that the device reaches
     direct-answers : is_device l b.o ≡ false → get l.mems b.m ≡ None → (pages : List ℕ) →
         ArePagesFor (limits_of l b.o) (chunks_for l b.o false (asks b).entries) pages →
-        Answers (ending (contains_key l.mems b.m) pages)
+        AreIts (ending (contains_key l.mems b.m) pages)
     direct-answers plain e pages has =
-        subst (λ c. Answers (ending c pages)) (sym (ap is_some e)) (answers-load (ending false pages)
+        subst (λ c. AreIts (ending c pages)) (sym (ap is_some e))
         (ends-answered l laid machine stands b.m b.o b.there plain (ap is_some e) b.bio is-bio l.place
-        (never_waits b.buffer b.flags) b.items b.fine pages moved (λ k. refl) (λ k. refl) (λ k. refl) has))
+        (never_waits b.buffer b.flags) b.items b.fine pages moved (λ k. refl) (λ k. refl) (λ k. refl) has)
 
     need-as : (q : Option LaneMemory) → get l.mems b.m ≡ q →
         need_of (chunks b) ≡ need_of (chunks_for l b.o (is_some q) (asks b).entries)
     need-as q e = ap (λ y. need_of (chunks_for l b.o (is_some y) (asks b).entries)) e
 
     at-once : is_device l b.o ≡ false → (need_of (chunks b) == 0) ≡ true →
-        Answers (ending (contains_key l.mems b.m) [])
+        AreIts (ending (contains_key l.mems b.m) [])
     at-once plain none = by (get l.mems b.m) refl
       where
-        by : (q : Option LaneMemory) → get l.mems b.m ≡ q → Answers (ending (contains_key l.mems b.m) [])
+        by : (q : Option LaneMemory) → get l.mems b.m ≡ q → AreIts (ending (contains_key l.mems b.m) [])
         by None e =
             direct-answers plain e []
             (record { count = sym (eqb-true (need_of (chunks b)) 0 none) ∙ need-as None e; reachable = tt })
         by (Some y) e =
-            subst (λ c. Answers (ending c [])) (sym (ap is_some e)) (answers-load (ending true [])
+            subst (λ c. AreIts (ending c [])) (sym (ap is_some e))
             (ends-memory l laid machine stands b.m b.o b.there plain y e b.bio l.place (never_waits b.buffer b.flags) b.items
-            b.fine moved (λ k. refl) (λ k. refl) (λ k. refl)))
+            b.fine moved (λ k. refl) (λ k. refl) (λ k. refl))
 
     -- a map whose load needs pages has a zone, and so is no memory's
     zoned : is_device l b.o ≡ false → (need_of (chunks b) == 0) ≡ false → (q : Option ℕ) → b.o.zone ≡ q →
@@ -161,11 +168,11 @@ module _ (l : LaneState) (a : Account) (stands : Stands l) (agrees : AgreesWith 
 
     by-grant : is_device l b.o ≡ false → (need_of (chunks b) == 0) ≡ false → (pages : List Pa) →
         (account_step l.id (grab b) a).reply ≡ reply.Granted pages →
-        Answers (ending (contains_key l.mems b.m) (addresses pages))
+        AreIts (ending (contains_key l.mems b.m) (addresses pages))
     by-grant plain some pages e = by b.o.zone refl (get l.mems b.m) refl
       where
         by : (z : Option ℕ) → b.o.zone ≡ z → (q : Option LaneMemory) → get l.mems b.m ≡ q →
-            Answers (ending (contains_key l.mems b.m) (addresses pages))
+            AreIts (ending (contains_key l.mems b.m) (addresses pages))
         by None zone q f = absurd (false≢true (zoned plain some None zone))
         by (Some z) zone (Some y) f =
             absurd (false≢true (zoned plain some None ((stands.each b.m b.o b.there).memory (ap is_some f))))
@@ -211,11 +218,10 @@ module _ (l : LaneState) (a : Account) (stands : Stands l) (agrees : AgreesWith 
       none-carried fs h i f a e it = absurd (let g = sym (ap (λ xs. slice_get xs i) (empty fs h)) ∙ e in cc)
 
       device-answers : (first : ℕ) (spaces : ℕ → Space) → IsTaken b first spaces →
-          Answers (with_spaces spaces (finished b.m b.o l.place (asks b) (device_chunks first 0 es) [] l))
+          AreIts (with_spaces spaces (finished b.m b.o l.place (asks b) (device_chunks first 0 es) [] l))
       device-answers _ _ (NoFrame none) =
           let zero : length (load_frames es) ≡ 0 = eqb-true (length (load_frames es)) 0 none in
-          answers-load (with_spaces l.spaces (finished b.m b.o l.place (asks b) (device_chunks 0 0 es) [] l))
-          (ends-so l b.m b.o b.there b.bio (never_waits b.buffer b.flags) b.items (device_chunks 0 0 es)
+          ends-so l b.m b.o b.there b.bio (never_waits b.buffer b.flags) b.items (device_chunks 0 0 es)
           (of-load 0 (ap (λ v. if v then 0 else unwrap_or
           (first_free (l.spaces b.o.tag) (length (load_frames es))) 0) none))
           (translated (l.spaces b.o.tag)) l.place (load_addresses l b.bio) []
@@ -225,12 +231,11 @@ module _ (l : LaneState) (a : Account) (stands : Stands l) (agrees : AgreesWith 
           (λ k. moved (record k { spaces = l.spaces })) (λ k. refl) (λ k. refl)
           (λ few. found-by (moved (record (fits l b.m b.o l.place (asks b) (device_chunks 0 0 es) []) {
             spaces = l.spaces;
-          })) device) refl)
+          })) device) refl
       device-answers _ _ (Run any first e) =
           let frames : List ℕ = load_frames es in
           let some : 1 ≤ length frames = some-frames (length frames) any in
-          answers-load (taken b.m b.o (asks b) (Some first) l)
-          (ends-so l b.m b.o b.there b.bio (never_waits b.buffer b.flags) b.items (device_chunks first 0 es)
+          ends-so l b.m b.o b.there b.bio (never_waits b.buffer b.flags) b.items (device_chunks first 0 es)
           (of-load first (ap (λ v. if v then 0 else unwrap_or
           (first_free (l.spaces b.o.tag) (length (load_frames es))) 0) any ∙ ap (λ v. unwrap_or v 0) e))
           (translated (entered (Some first) frames (l.spaces b.o.tag))) l.place (load_addresses l b.bio) []
@@ -251,7 +256,32 @@ module _ (l : LaneState) (a : Account) (stands : Stands l) (agrees : AgreesWith 
           ∙ found-by (moved (record (fits l b.m b.o l.place (asks b) (device_chunks first 0 es) []) {
             spaces = with_run (are_few (limits_of l b.o) (device_chunks first 0 es)) b.o.tag first (load_frames es)
                 l.spaces;
-          })) device) refl)
+          })) device) refl
+
+    -- each way in which it ends with its segments
+    device-its : (device : is_device l b.o ≡ true) (first : ℕ) (spaces : ℕ → Space) → IsTaken b first spaces →
+        ends.fits l b.m b.o l.place (asks b) (device_chunks first 0 (asks b).entries) [] ≡ true →
+        AreIts (with_spaces spaces (fitting l b.m b.o l.place (asks b) (device_chunks first 0 (asks b).entries) []))
+    device-its device first spaces taken f =
+        subst (λ y. AreIts (with_spaces spaces
+        (if y then fitting l b.m b.o l.place (asks b) (device_chunks first 0 (asks b).entries) []
+        else too_big l b.m b.o l.place (asks b) (device_chunks first 0 (asks b).entries) []))) f
+        (device-answers device first spaces taken)
+
+    once-its : is_device l b.o ≡ false → (need_of (chunks b) == 0) ≡ true →
+        ends.fits l b.m b.o l.place (asks b) (chunks b) [] ≡ true →
+        AreIts (with_spaces l.spaces (fitting l b.m b.o l.place (asks b) (chunks b) []))
+    once-its plain none f =
+        subst (λ y. AreIts (if y then fitting l b.m b.o l.place (asks b) (chunks b) []
+        else too_big l b.m b.o l.place (asks b) (chunks b) [])) f (at-once plain none)
+
+    grant-its : is_device l b.o ≡ false → (need_of (chunks b) == 0) ≡ false → (pages : List Pa) →
+        (account_step l.id (grab b) a).reply ≡ reply.Granted pages →
+        ends.fits l b.m b.o l.place (asks b) (chunks b) (addresses pages) ≡ true →
+        AreIts (with_spaces l.spaces (fitting l b.m b.o l.place (asks b) (chunks b) (addresses pages)))
+    grant-its plain some pages e f =
+        subst (λ y. AreIts (if y then fitting l b.m b.o l.place (asks b) (chunks b) (addresses pages)
+        else too_big l b.m b.o l.place (asks b) (chunks b) (addresses pages))) f (by-grant plain some pages e)
 
   -- ---- the callback of a load that waited
   module _ (m : MapId) (pages : List Pa) (e : (account_step l.id call.TakeCallback a).reply ≡ reply.Called m pages)
@@ -336,22 +366,62 @@ module _ (l : LaneState) (a : Account) (stands : Stands l) (agrees : AgreesWith 
       by false = tt
   touches-quiet P _ = tt
 
+  -- the load of the next operation
+  module _ {o : Op} (b : Begins l (Operation o)) (at : IsNext l (Operation o)) where
+    load-here : load_at l l.place ≡ Some (record { map = b.m; bio = b.bio })
+    load-here =
+        ap (option_and_then (λ p. load_asked_by p l)) (here b at)
+        ∙ ap (option_map (λ y. record { map = b.m; bio = y })) b.found
+
+    -- of its map it is enough to say what is loaded
+    answers-load : (k : Outcome) → IfSegments k.answer (AreLoaded l (moved k.lane) b.m b.bio) → Answers k
+    answers-load k h =
+        if-so k.answer (AreLoaded l (moved k.lane) b.m b.bio) (λ ss. AreOf l (moved k.lane) (did.Op l.place) ss)
+        (λ ss g. subst (λ q. AreAnswered l (moved k.lane) q ss) (sym load-here) g) h
+
+  -- that of a send from its clusters
+  module _ (s : Send) (b : Begins l (Operation (again s))) where
+    abbrev AreAgain : Outcome → Type 0
+    AreAgain k = IfSegments k.answer (AreLoaded l (moved k.lane) s.map (Vector s.clusters))
+
+    again-load : (k : Outcome) → IfSegments k.answer (AreLoaded l (moved k.lane) b.m b.bio) → AreAgain k
+    again-load k h =
+        subst (λ m. IfSegments k.answer (AreLoaded l (moved k.lane) m (Vector s.clusters))) (sym (again-map l s b))
+        (subst (λ y. IfSegments k.answer (AreLoaded l (moved k.lane) b.m y)) (sym (again-bio l s b)) h)
+
   makes-answer : {o : Op} {c : Option HubCall} {r : HubReply} {x : Outcome} → IsNext l (Operation o) →
       IsReplyOf l.id a c r → Makes l (Operation o) c r x → Answers x
   makes-answer at e (Touched t) = touches-quiet _ t
   makes-answer at e (Vain v x q) = quiet x _ (untold-quiet x q)
-  makes-answer at e (Loads (Device b device first spaces taken) f) =
-      subst (λ y. Answers (with_spaces spaces
-      (if y then fitting l b.m b.o l.place (asks b) (device_chunks first 0 (asks b).entries) []
-      else too_big l b.m b.o l.place (asks b) (device_chunks first 0 (asks b).entries) []))) f
-      (device-answers b at device first spaces taken)
-  makes-answer at e (Loads (AtOnce b plain none) f) =
-      subst (λ y. Answers (if y then fitting l b.m b.o l.place (asks b) (chunks b) []
-      else too_big l b.m b.o l.place (asks b) (chunks b) [])) f (at-once b at plain none)
-  makes-answer at e (Loads (Granted b plain some pages) f) =
-      subst (λ y. Answers (if y then fitting l b.m b.o l.place (asks b) (chunks b) (addresses pages)
-      else too_big l b.m b.o l.place (asks b) (chunks b) (addresses pages))) f (by-grant b at plain some pages e)
+  makes-answer {x = x} at e (Loads (Device b device first spaces taken) f) =
+      answers-load b at x (device-its b (Next at) device first spaces taken f)
+  makes-answer {x = x} at e (Loads (AtOnce b plain none) f) = answers-load b at x (once-its b (Next at) plain none f)
+  makes-answer {x = x} at e (Loads (Granted b plain some pages) f) =
+      answers-load b at x (grant-its b (Next at) plain some pages e f)
   makes-answer at e _ = tt
+
+  -- the load leaves the driver's bytes
+  again-memory : (s : Send) {c : Option HubCall} {r : HubReply} {x : Outcome} → Makes l (Operation (again s)) c r x →
+      x.lane.memory ≡ l.memory
+  again-memory s (Touched t) = touched t
+    where
+      touched : {x : Outcome} → Touches l (Operation (again s)) x → x.lane.memory ≡ l.memory
+      touched (Same v q u) = refl
+      touched (Syncs m off len ops is o there i alone fine) = elim is [ ]
+  again-memory s _ = refl
+
+  makes-again : (s : Send) {c : Option HubCall} {r : HubReply} {x : Outcome} → IsReplyOf l.id a c r →
+      Makes l (Operation (again s)) c r x →
+      IfSegments x.answer (AreLoaded l (moved x.lane) s.map (Vector s.clusters))
+  makes-again s e (Touched t) = touches-quiet _ t
+  makes-again s e (Vain v x q) = quiet x _ (untold-quiet x q)
+  makes-again s {x = x} e (Loads (Device b device first spaces taken) f) =
+      again-load s b x (device-its b (Again s) device first spaces taken f)
+  makes-again s {x = x} e (Loads (AtOnce b plain none) f) =
+      again-load s b x (once-its b (Again s) plain none f)
+  makes-again s {x = x} e (Loads (Granted b plain some pages) f) =
+      again-load s b x (grant-its b (Again s) plain some pages e f)
+  makes-again s e _ = tt
 
   callback-answers : {n m : MapId} {pages : List Pa} {x : Outcome} →
       (account_step l.id call.TakeCallback a).reply ≡ reply.Called m pages →
@@ -375,15 +445,73 @@ module _ (l : LaneState) (a : Account) (stands : Stands l) (agrees : AgreesWith 
       Ended : Outcome → Type 0
       Ended y = IfSegments y.answer (λ ss. AreOf l y.lane (did.Callback m) ss)
 
-  -- ---- the turn
+-- ---- the turn
+module _ (l : LaneState) (a : Account) (stands : Stands l) (agrees : AgreesWith l a) (fit : IsFit a)
+    (frames : EachFrame IsFrame a) (low : PagesLieLow a) (served : AreServed l a) (machine : IsInMachine l)
+    (laid : AreLaid l) (spaced : AreSpaced l) where
+  -- a send that is kept has no segments
+  kept-quiet : (x : Answer) (P : List Segment → Type 0) → is_too_big x ≡ true → IfSegments x P
+  kept-quiet (answer.Refused e) P big = tt
+  kept-quiet _ P big = absurd (cc)
+
+  -- the send at the place of the script is the one that is due
+  send-here : (s : Send) → due_send l ≡ Some s → send_at l.script l.place ≡ Some s
+  send-here s e = by l.due e
+    where
+      by : (b : Bool) → (if b then send_at l.script l.place else None) ≡ Some s → send_at l.script l.place ≡ Some s
+      by true e = e
+      by false e = absurd (cc)
+
+  module _ (s : Send) (now : IsAgain l s) (c : Copies l s) where
+    abbrev filled : LaneState
+    filled = copied s l
+
+    -- what is loaded by the driver whose clusters have the bytes of the chain, is loaded by the one before
+    as-before : (k : LaneState) (ss : List Segment) → AreLoaded filled k s.map (Vector s.clusters) ss →
+        AreLoaded l k s.map (Vector s.clusters) ss
+    as-before k ss h = record {
+      map = h.map;
+      there = h.there;
+      accepted =
+          subst (λ es. IsAcceptedLoad k s.map (found_at k h.map) (limits_of l h.map)
+          (load_addresses l (Vector s.clusters)) (chunks_of_load l h.map (contains_key l.mems s.map) es)
+          (pages_of (stage_at k s.map)) ss) (entries-same l filled refl refl (Vector s.clusters))
+          (subst (λ bytes. IsAcceptedLoad k s.map (found_at k h.map) (limits_of l h.map) bytes
+          (chunks_of_load l h.map (contains_key l.mems s.map) (load_entries filled (Vector s.clusters)))
+          (pages_of (stage_at k s.map)) ss) (addresses-same l filled refl refl (Vector s.clusters)) h.accepted);
+    }
+
+    again-answers : {d : Option HubCall} {r : HubReply} {x : Outcome} → IsReplyOf l.id a d r →
+        Makes filled (Operation (again s)) d r x →
+        IfSegments x.answer (λ ss. AreOf l (at_next l.place x.lane) (did.Again l.place) ss)
+    again-answers {x = x} e m =
+        if-so x.answer (AreLoaded filled (at_next l.place x.lane) s.map (Vector s.clusters))
+        (λ ss. AreOf l (at_next l.place x.lane) (did.Again l.place) ss)
+        (λ ss h. subst (λ q. AreOfClusters l (at_next l.place x.lane) q ss) (sym (send-here s now.due)) (
+          as-before (at_next l.place x.lane) ss h,
+          ap (λ w. map (λ p. value (w p)) (cluster_bytes s l))
+              (again-memory filled a stands agrees fit frames low served (copied-machine l s machine)
+              (copied-laid l s laid) (copied-spaced l s spaced) s m)
+              ∙ copied-values l laid s (agreeing-apart l a agrees stands laid) machine
+              (due-clusters l s now.due machine.clusters) c.fine,
+        ))
+        (makes-again filled a stands agrees fit frames low served (copied-machine l s machine) (copied-laid l s laid)
+        (copied-spaced l s spaced) s e m)
+
   steps-answer : {s : Side} {c : Option HubCall} {r : HubReply} {t : Turned} → IsReplyOf l.id a c r →
       Steps l s c r t → AnswersIn l t.lane t.turn
   steps-answer e (Stays t NothingLeft) = tt
   steps-answer e (Stays t _) = tt
-  steps-answer e (Advances o at free m) = makes-answer at e m
-  steps-answer e (Leaves q rest is t) = touches-quiet _ t
+  steps-answer e (Advances o at free m) =
+      makes-answer l a stands agrees fit frames low served machine laid spaced at e m
+  steps-answer e (Keeps {x = x} o at free s is big held m) = kept-quiet x.answer _ big
+  steps-answer e (Declines s now x why) = tt
+  steps-answer e (Resends s now c told m) = again-answers s now c e m
+  steps-answer e (Leaves q rest is t) =
+      touches-quiet l a stands agrees fit frames low served machine laid spaced _ t
   steps-answer e (Releases q rest is y there) = tt
-  steps-answer e (Calls m pages k) = callback-answers e k
+  steps-answer e (Calls m pages k) =
+      callback-answers l a stands agrees fit frames low served machine laid spaced e k
 
   pub turn-answers : (s : Side) → AnswersLoads l a (lane_step l s)
   turn-answers s = by (lane_step l s) (turn-steps l s)

@@ -37,6 +37,8 @@ bio-named pages l (buffer.Vector spans) b e h =
     subst (IsBioOf pages) (found_one (Some (bio.Vector spans)) (bio.Vector spans) b refl e) tt
 bio-named pages l (buffer.Mbuf chain) b e h =
     subst (IsBioOf pages) (found_one (Some (bio.Vector chain)) (bio.Vector chain) b refl e) tt
+bio-named pages l (buffer.Send chain clusters) b e h =
+    subst (IsBioOf pages) (found_one (Some (bio.Vector chain)) (bio.Vector chain) b refl e) tt
 bio-named pages l (buffer.Bio c) b e h = subst (IsBioOf pages) (found_one (Some c) c b refl e) h
 
 -- a buffer is told by a memory, or has one bio in each state of the driver
@@ -50,6 +52,7 @@ told (buffer.Flat (In mem off) len) = Within mem off len refl
 told (buffer.Vector spans) = Alone (bio.Vector spans) (λ l. refl)
 told (buffer.Mbuf chain) = Alone (bio.Vector chain) (λ l. refl)
 told (buffer.Bio b) = Alone b (λ l. refl)
+told (buffer.Send chain clusters) = Alone (bio.Vector chain) (λ l. refl)
 
 -- the load at a place of the script has a bio of frames of these pages
 pub loads-from : (pages : List PageRun) (script : List Op) (k m : ℕ) (x : Buffer) (flags : ℕ) (items : List Item)

@@ -37,16 +37,19 @@ use Rattle.ideal_lane.specs.State.{LaneState, LaneTag, no_space}
 use Rattle.ideal_lane.specs.Tags.{with_space, with_device_tag}
 use Rattle.ideal_lane.specs.Turns.{Turned, lane_step}
 use Rattle.ideal_lane.specs.Unloads.{first_of, segments_in}
-use Rattle.ideal_lane.proofs.Effects.{Advances, Attaches, Begins, Calls, Creates, Device, Ends, IsNext, IsTaken}
+use Rattle.ideal_lane.proofs.Effects.{Advances, Attaches, Begins, Calls, Creates, Device, Ends, IsTaken}
 use Rattle.ideal_lane.proofs.Effects.{Leaves, Loads, Makes, NoFrame, Overflows, Releases, Run, Same, Spaces, Stays}
-use Rattle.ideal_lane.proofs.Effects.{Steps, Tags, Touched, Touches, Unloads, Untags, Work, frames, here, spaces_in}
+use Rattle.ideal_lane.proofs.Effects.{Steps, Tags, Touched, Touches, Unloads, Untags, Work, frames, spaces_in}
 use Rattle.ideal_lane.proofs.Stepping.{turn-steps}
 use Rattle.ideal_lane.proofs.Lookups.{get_put, get_cut}
 use Rattle.ideal_wire.specs.Laid.{AreLaid}
 use Rattle.ideal_wire.specs.Machine.{IsInMachine}
 use Rattle.ideal_wire.specs.Spaced.{AreSpaced, IsSpaced, is_spaced}
 use Rattle.ideal_wire.proofs.Bios.{bio-paged}
-use Rattle.ideal_wire.proofs.Buffers.{loads-from}
+use Rattle.ideal_lane.specs.Sends.{copied}
+use Rattle.ideal_lane.proofs.Effects.{Declines, Keeps, Resends}
+use Rattle.ideal_wire.proofs.Begun.{Again, IsDone, Next, begun-bio}
+use Rattle.ideal_wire.proofs.Copied.{copied-laid, copied-machine, copied-spaced}
 use Rattle.ideal_wire.proofs.Positions.{found_one}
 
 -- ---- one space
@@ -256,9 +259,9 @@ module _ (l : LaneState) (stands : Stands l) (laid : AreLaid l) (machine : IsInM
 
   -- ---- a load that has its pages, or its run
 
-  module _ {d : Work} (b : Begins l d) (at : IsNext l d) where
+  module _ {d : Work} (b : Begins l d) (at : IsDone l d) where
     is-bio : IsBioOf l.pages b.bio
-    is-bio = loads-from l.pages l.script l.place b.m b.buffer b.flags b.items l b.bio machine.bios (here b at) b.found
+    is-bio = begun-bio l machine b at
 
     numbered-in : All (λ f. f < 2 ^ 30) (frames b)
     numbered-in =
@@ -272,7 +275,7 @@ module _ (l : LaneState) (stands : Stands l) (laid : AreLaid l) (machine : IsInM
     device-spaced device _ _ (Run any first e) k tags spaces =
         taken-spaced _ b.o.tag first (frames b) device (some-frames (length (frames b)) any) numbered-in e k tags spaces
 
-  ends-spaced : {d : Work} {c : Option HubCall} {r : HubReply} → IsNext l d → (e : Ends l d c r) → (k : LaneState) →
+  ends-spaced : {d : Work} {c : Option HubCall} {r : HubReply} → IsDone l d → (e : Ends l d c r) → (k : LaneState) →
       k.tags ≡ l.tags → k.spaces ≡ spaces_in e → AreSpaced k
   ends-spaced at (Device b device first spaces taken) k tags same =
       device-spaced b at device first spaces taken k tags same
@@ -283,7 +286,7 @@ module _ (l : LaneState) (stands : Stands l) (laid : AreLaid l) (machine : IsInM
   touches-spaced (Same a q u) = spaced
   touches-spaced {x = x} _ = alike x.lane refl refl
 
-  makes-spaced : {d : Work} {c : Option HubCall} {r : HubReply} {x : Outcome} → IsNext l d → Makes l d c r x →
+  makes-spaced : {d : Work} {c : Option HubCall} {r : HubReply} {x : Outcome} → IsDone l d → Makes l d c r x →
       AreSpaced x.lane
   makes-spaced at (Touched t) = touches-spaced t
   makes-spaced {x = x} at (Tags name parent limits t n) = new-put _ refl x.lane refl refl
@@ -297,14 +300,25 @@ module _ (l : LaneState) (stands : Stands l) (laid : AreLaid l) (machine : IsInM
   makes-spaced {x = x} at (Unloads m o e i) = unloaded o.tag (first_of (segments_in o.stage)) x.lane refl refl
   makes-spaced {x = x} at _ = alike x.lane refl refl
 
-  -- ---- the turn
+-- ---- the turn
+module _ (l : LaneState) (stands : Stands l) (laid : AreLaid l) (machine : IsInMachine l) (spaced : AreSpaced l) where
   steps-spaced : {s : Side} {c : Option HubCall} {r : HubReply} {t : Turned} → Steps l s c r t → AreSpaced t.lane
   steps-spaced (Stays t is) = spaced
-  steps-spaced (Advances o at free m) = let k = makes-spaced at m in record { each = k.each; none = k.none }
-  steps-spaced (Leaves q rest e t) = let k = touches-spaced t in record { each = k.each; none = k.none }
-  steps-spaced {t = t} (Releases q rest e None there) = alike t.lane refl refl
-  steps-spaced {t = t} (Releases q rest e (Some o) there) = alike t.lane refl refl
-  steps-spaced (Calls m pages k) = makes-spaced tt k
+  steps-spaced (Advances o at free m) =
+      let k = makes-spaced l stands laid machine spaced (Next at) m in record { each = k.each; none = k.none }
+  steps-spaced (Keeps o at free s is big held m) =
+      let k = makes-spaced l stands laid machine spaced (Next at) m in record { each = k.each; none = k.none }
+  steps-spaced {t = t} (Declines s now x why) = alike l stands laid machine spaced t.lane refl refl
+  steps-spaced (Resends s now c told m) =
+      let k =
+      makes-spaced (copied s l) stands (copied-laid l s laid) (copied-machine l s machine) (copied-spaced l s spaced)
+      (Again s) m in
+      record { each = k.each; none = k.none }
+  steps-spaced (Leaves q rest e t) =
+      let k = touches-spaced l stands laid machine spaced t in record { each = k.each; none = k.none }
+  steps-spaced {t = t} (Releases q rest e None there) = alike l stands laid machine spaced t.lane refl refl
+  steps-spaced {t = t} (Releases q rest e (Some o) there) = alike l stands laid machine spaced t.lane refl refl
+  steps-spaced (Calls m pages k) = makes-spaced l stands laid machine spaced (Next tt) k
 
   pub turn-spaced : (s : Side) (r : HubReply) → AreSpaced (by_reply (lane_step l s) r).lane
   turn-spaced s r = steps-spaced (turn-steps l s r)

@@ -54,7 +54,10 @@ use Rattle.ideal_wire.specs.Laid.{AreFirst, AreLaid, KeepsLaid, is_loadable}
 use Rattle.ideal_wire.specs.Machine.{IsInMachine}
 use Rattle.ideal_wire.proofs.Asked.{are-in-pages, direct-bytes, direct-ready, pages-entries}
 use Rattle.ideal_wire.proofs.Bios.{AreOfPages}
-use Rattle.ideal_wire.proofs.Buffers.{loads-from}
+use Rattle.ideal_lane.specs.Sends.{copied}
+use Rattle.ideal_lane.proofs.Effects.{Declines, Keeps, Resends, grab}
+use Rattle.ideal_wire.proofs.Begun.{Again, IsDone, Next, again-unqueued, begun-bio}
+use Rattle.ideal_wire.proofs.Copied.{copied-laid, copied-machine}
 use Rattle.ideal_wire.proofs.Frames.{agreeing-apart}
 use Rattle.ideal_wire.proofs.LoadLaid.{IsReady, device-finished-laid, finished-laid}
 use Rattle.ideal_wire.proofs.MemoriesLaid.{after-laid, made-laid}
@@ -105,12 +108,12 @@ zero-pages (suc n) = ((omega arith, omega arith), zero-pages n)
 module _ (l : LaneState) (a : Account) (stands : Stands l) (agrees : AgreesWith l a) (fit : IsFit a)
     (frames : EachFrame IsFrame a) (machine : IsInMachine l) (laid : AreLaid l) where
   -- ---- a load that begins
-  module _ {d : Work} (b : Begins l d) (at : IsNext l d) where
+  module _ {d : Work} (b : Begins l d) (at : IsDone l d) where
     unlent : loan_of l.loans b.m ≡ no_loan
     unlent = no-loan l laid b.m b.o b.there (idle-unloaded l laid b.o.stage b.idle)
 
     is-bio : IsBioOf l.pages b.bio
-    is-bio = loads-from l.pages l.script l.place b.m b.buffer b.flags b.items l b.bio machine.bios (here b at) b.found
+    is-bio = begun-bio l machine b at
 
     abbrev cut-as : Bool → List Chunk
     cut-as memory = chunks_for l b.o memory (asks b).entries
@@ -153,9 +156,9 @@ module _ (l : LaneState) (a : Account) (stands : Stands l) (agrees : AgreesWith 
     begins y e = (memory-load y e).first y e
 
     -- what waits is of the driver's pages, and the load at this place of the script
-    waits-laid : (need_of (chunks b) == 0) ≡ false →
+    waits-laid : IsNext l d → (need_of (chunks b) == 0) ≡ false →
         AreLaid (staged b.m b.o (Waiting (waits_for b)) l)
-    waits-laid some = by (get l.mems b.m) refl
+    waits-laid next some = by (get l.mems b.m) refl
       where
         by : (q : Option LaneMemory) → get l.mems b.m ≡ q →
             AreLaid (staged b.m b.o (Waiting (waits_for b)) l)
@@ -176,7 +179,7 @@ module _ (l : LaneState) (a : Account) (stands : Stands l) (agrees : AgreesWith 
                   ∙ (λ i. need_of (chunks_of (limits_of later (same i)) l.maxmem
                   (sym (pages-entries l b.bio own) i)));
               told = λ s same.
-                  ap (option_and_then (λ p. load_asked_by p s)) (ap (λ q. slice_get q l.place) same ∙ here b at)
+                  ap (option_and_then (λ p. load_asked_by p s)) (ap (λ q. slice_get q l.place) same ∙ here b next)
                   ∙ ap (option_map (λ y. record { map = b.m; bio = y }))
                   (paged-alone l machine (limits_of l b.o) b.buffer b.bio b.found own direct-need s);
             })
@@ -189,6 +192,13 @@ module _ (l : LaneState) (a : Account) (stands : Stands l) (agrees : AgreesWith 
 
             direct-need : 1 ≤ need_of (cut-as false)
             direct-need = subst (λ c. 1 ≤ need_of (cut-as c)) (ap is_some e) (some-need (need_of (chunks b)) some)
+
+  -- a resend never waits
+  waits-now : {d : Work} (b : Begins l d) → IsDone l d → (have : ℕ) →
+      (account_step l.id (grab b) a).reply ≡ reply.Queued have → (need_of (chunks b) == 0) ≡ false →
+      AreLaid (staged b.m b.o (Waiting (waits_for b)) l)
+  waits-now b (Next at) have e some = waits-laid b (Next at) at some
+  waits-now b (Again s) have e some = absurd (again-unqueued l s b a have e)
 
   -- ---- the callback of a load that waited
   module _ (m : MapId) (pages : List Pa) (e : (account_step l.id call.TakeCallback a).reply ≡ reply.Called m pages)
@@ -227,7 +237,7 @@ module _ (l : LaneState) (a : Account) (stands : Stands l) (agrees : AgreesWith 
           at-map c.2 c.0 c.4 (waits-at l k c.2 c.0 c.3)
 
   -- ---- a load that has its pages
-  ends : {d : Work} {c : Option HubCall} {r : HubReply} → IsNext l d → IsReplyOf l.id a c r → (k : Ends l d c r) →
+  ends : {d : Work} {c : Option HubCall} {r : HubReply} → IsDone l d → IsReplyOf l.id a c r → (k : Ends l d c r) →
       AreLaid (finished (map_in k) (was_in k) (place_in k) (asked_in k) (chunks_in k) (pages_in k) l).lane
   ends at e (AtOnce b plain none) =
       finished-laid l laid b.m b.o b.there (unlent b at) l.place (asks b) (chunks b) []
@@ -245,7 +255,7 @@ module _ (l : LaneState) (a : Account) (stands : Stands l) (agrees : AgreesWith 
       (subst (λ y. AreLaid (called m.made_at y (addresses pages) l).lane) there (called-keeps m pages e))
 
   -- ---- each effect
-  makes-laid : {d : Work} {c : Option HubCall} {r : HubReply} {x : Outcome} → IsNext l d → IsReplyOf l.id a c r →
+  makes-laid : {d : Work} {c : Option HubCall} {r : HubReply} {x : Outcome} → IsDone l d → IsReplyOf l.id a c r →
       Makes l d c r x → AreLaid x.lane
   makes-laid at e (Touched t) = touches-laid l laid t
   makes-laid at e (Tags name parent limits t n) = with_tag-still l laid stands t false
@@ -283,7 +293,7 @@ module _ (l : LaneState) (a : Account) (stands : Stands l) (agrees : AgreesWith 
       after-laid l stands laid (agreeing-apart l a agrees stands laid) m x there
       (no-loan l laid m o found (idle-unloaded l laid o.stage i))
   makes-laid at e (Refuses b over x) = staged-still l laid b.m b.o b.there (unlent b at)
-  makes-laid at e (Waits b plain some have) = waits-laid b at some
+  makes-laid at e (Waits b plain some have) = waits-now b at have e some
   makes-laid at e (Loads k f) =
       spaced-still (fitting l (map_in k) (was_in k) (place_in k) (asked_in k) (chunks_in k) (pages_in k)).lane
       (subst (λ y. AreLaid (if y then fitting l (map_in k) (was_in k) (place_in k) (asked_in k) (chunks_in k) (pages_in k)
@@ -299,10 +309,12 @@ module _ (l : LaneState) (a : Account) (stands : Stands l) (agrees : AgreesWith 
       like l laid x.lane (record { script = refl; pages = refl; maxmem = refl; own = λ b. refl; mems = refl })
       (λ n o e. refl) refl refl
 
-  -- ---- the turn
-  moved : (s : LaneState) (place : ℕ) → AreLaid s → AreLaid (record s { place = place })
-  moved s place h =
-      like s h (record s { place = place })
+-- ---- the turn
+module _ (l : LaneState) (a : Account) (stands : Stands l) (agrees : AgreesWith l a) (fit : IsFit a)
+    (frames : EachFrame IsFrame a) (machine : IsInMachine l) (laid : AreLaid l) where
+  moved : (s : LaneState) (place : ℕ) (due : Bool) → AreLaid s → AreLaid (record s { place = place; due = due })
+  moved s place due h =
+      like s h (record s { place = place; due = due })
       (record { script = refl; pages = refl; maxmem = refl; own = λ b. refl; mems = refl }) (λ n o e. refl) refl refl
 
   left : (s : LaneState) (queue : List QueuedItem) → AreLaid s → AreLaid (record s { queue = queue })
@@ -313,11 +325,19 @@ module _ (l : LaneState) (a : Account) (stands : Stands l) (agrees : AgreesWith 
   steps-laid : {s : Side} {c : Option HubCall} {r : HubReply} {t : Turned} → IsReplyOf l.id a c r → Steps l s c r t →
       AreLaid t.lane
   steps-laid e (Stays t is) = laid
-  steps-laid e (Advances {x = x} o at free m) = moved x.lane (l.place + 1) (makes-laid at e m)
+  steps-laid e (Advances {x = x} o at free m) =
+      moved x.lane (l.place + 1) false (makes-laid l a stands agrees fit frames machine laid (Next at) e m)
+  steps-laid e (Keeps {x = x} o at free s is big held m) =
+      moved x.lane x.lane.place true (makes-laid l a stands agrees fit frames machine laid (Next at) e m)
+  steps-laid e (Declines s now x why) = moved l (l.place + 1) false laid
+  steps-laid e (Resends {x = x} s now c told m) =
+      moved x.lane (l.place + 1) false
+      (makes-laid (copied s l) a stands agrees fit frames (copied-machine l s machine) (copied-laid l s laid) (Again s)
+      e m)
   steps-laid e (Leaves {x = x} q rest is t) = left x.lane rest (touches-laid l laid t)
   steps-laid e (Releases q rest is y there) =
       back-still l laid q rest y there (returning-unloaded l a agrees q rest is)
-  steps-laid e (Calls m pages k) = makes-laid tt e k
+  steps-laid e (Calls m pages k) = makes-laid l a stands agrees fit frames machine laid (Next tt) e k
 
   pub turn-laid : (s : Side) → KeepsLaid l.id a (lane_step l s)
   turn-laid s = by (lane_step l s) (turn-steps l s)

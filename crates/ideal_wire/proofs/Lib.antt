@@ -3,14 +3,18 @@ pub mod Alike
 pub mod AnsweredLoads
 pub mod AnsweredTurns
 pub mod Asked
+pub mod Begun
 pub mod Bios
 pub mod Buffers
 pub mod Buses
 pub mod Calls
 pub mod Carried
 pub mod ChunkExtents
+pub mod Clusters
+pub mod Copied
 pub mod Copies
 mod DeviceLoads
+pub mod DueFine
 pub mod EffectiveTags
 pub mod Faithful
 pub mod FaithfulAccess
@@ -38,6 +42,7 @@ pub mod MemoryLoads
 pub mod MemoryObeys
 pub mod NewFrames
 pub mod Openings
+pub mod PageTwins
 pub mod Pages
 pub mod PagesAlone
 pub mod Placed
@@ -45,13 +50,16 @@ pub mod Placing
 pub mod Positions
 pub mod RawAccess
 pub mod RawPlaces
+pub mod ReachedOnce
 pub mod Reaching
 pub mod Returning
 pub mod RingBytes
 pub mod RingCases
+pub mod SameBytes
 pub mod ServedMaps
 pub mod StillLaid
 pub mod SyncedPositions
 pub mod Turns
+pub mod Twins
 pub mod Waited
 pub mod Wiring

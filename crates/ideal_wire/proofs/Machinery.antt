@@ -12,11 +12,15 @@ use Rattle.busdma_base.specs.declared.scenarios.scenario.Scenario.{Scenario}
 use Rattle.busdma_base.specs.Scenarios.Opening.{maxmem_of}
 use Rattle.busdma_machine.specs.Each.{EachAfter}
 use Rattle.busdma_base.specs.Scenarios.FrameRuns.{IsFrameRun, is_in}
-use Rattle.busdma_base.specs.Scenarios.PageRuns.{IsPageRun, all_in}
+use Rattle.busdma_base.specs.declared.scenarios.script.Op.{Op}
+use Rattle.busdma_base.specs.Scenarios.PageRuns.{IsPageRun, all_in, physical_in}
+use Rattle.busdma_base.specs.Scenarios.Script.{IsOp}
 use Rattle.busdma_base.specs.Scenarios.Valid.{IsDriver, IsValid, LoadsFrom}
 use Rattle.ideal_lane.specs.Opening.{opening_lane}
+use Rattle.ideal_lane.specs.Sends.{HaveClusters, Send, due_send}
 use Rattle.ideal_lane.specs.State.{LaneTag, LaneMemory}
 use Rattle.ideal_wire.specs.Machine.{IsOfMachine, IsInMachine}
+use Rattle.ideal_wire.proofs.PageTwins.{page-once}
 
 -- the end of memory is at most 2^30
 numbered : (before frames : List FrameRun) → EachAfter IsFrameRun before frames → maxmem_of frames ≤ 2 ^ 30
@@ -58,10 +62,18 @@ pages-of frames earlier before (r ∷ pages) h = (
   pages-of frames earlier (before ++ r ∷ []) pages h.1,
 )
 
--- a driver's pages are of the machine, and the frames that its script names are of its pages
+-- each send of a valid script has its clusters
+have-clusters : (before script : List Op) → EachAfter IsOp before script → HaveClusters script
+have-clusters before [] h = tt
+have-clusters before (o ∷ script) h = (h.0.clusters, have-clusters (before ++ o ∷ []) script h.1)
+
+-- a driver's pages are of the machine, no two virtual addresses of them are of one byte, the frames that its script
+-- names are of its pages, and its sends have their clusters
 record IsOfDriver (frames : List FrameRun) (d : Driver) : Type 0 where
   pub pages : AllByRecursion (IsOfMachine (maxmem_of frames)) d.pages
   pub bios : AllByRecursion (LoadsFrom d.pages) d.script
+  pub clusters : HaveClusters d.script
+  pub unlike : (va vb pa : ℕ) → physical_in d.pages va ≡ Some pa → physical_in d.pages vb ≡ Some pa → va ≡ vb
 
 -- so is each driver of a valid scenario
 of-driver : (frames : List FrameRun) (before drivers : List Driver) (i : ℕ) (d : Driver) →
@@ -70,7 +82,12 @@ of-driver frames before [] i d h at = absurd (cc)
 of-driver frames before (e ∷ drivers) zero d h at =
     let same : e ≡ d = Rattle.ideal_wire.proofs.Positions.found_one (Some e) e d refl at in
     subst (IsOfDriver frames) same
-    (record { pages = pages-of frames before [] e.pages h.0.pages; bios = h.0.bios })
+    (record {
+      pages = pages-of frames before [] e.pages h.0.pages;
+      bios = h.0.bios;
+      clusters = have-clusters [] e.script h.0.script.each;
+      unlike = page-once frames before [] e.pages h.0.pages;
+    })
 of-driver frames before (e ∷ drivers) (suc i) d h at = of-driver frames (before ++ e ∷ []) drivers i d h.1 at
 
 pub opens-in-machine : (s : Scenario) (i : ℕ) (driver : Driver) → IsValid s → slice_get s.drivers i ≡ Some driver →
@@ -81,8 +98,14 @@ opens-in-machine s i driver valid at = record {
   mems = λ k x e. no_memory k x e;
   tags = λ k t e. no_tag k t e;
   bios = (of-driver s.frames [] s.drivers i driver valid.drivers at).bios;
+  clusters = (of-driver s.frames [] s.drivers i driver valid.drivers at).clusters;
+  unlike = (of-driver s.frames [] s.drivers i driver valid.drivers at).unlike;
+  due = λ x e. none_due x e;
 }
   where
+    none_due : {A : Type 0} (x : Send) → due_send (opening_lane i (maxmem_of s.frames) driver) ≡ Some x → A
+    none_due x e = absurd (cc)
+
     no_memory : {A : Type 0} (k : ℕ) (x : LaneMemory) → get (empty {X = LaneMemory} {R = nat_cmp}) k ≡ Some x → A
     no_memory k x e =
         let none : get (empty {X = LaneMemory} {R = nat_cmp}) k ≡ None = get-empty nat_cmp k in absurd (cc)

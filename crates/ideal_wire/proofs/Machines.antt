@@ -19,9 +19,15 @@ use Rattle.ideal_lane.specs.Turns.{Turned, lane_step}
 use Rattle.ideal_lane.specs.Unloads.{restaged, after_return}
 use Rattle.ideal_lane.proofs.Effects.{Advances, Attaches, Below, Calls, Creates, Frees, IsNew, Leaves, Makes, Places}
 use Rattle.ideal_lane.proofs.Effects.{Releases, Same, Spaces, Stays, Steps, Tags, Top, Touched, Touches, Untags, Work}
+use Rattle.ideal_lane.specs.Sends.{copied}
+use Rattle.ideal_lane.proofs.Effects.{Declines, Keeps, Resends}
 use Rattle.ideal_lane.proofs.Stepping.{turn-steps}
+use Rattle.ideal_wire.proofs.Copied.{copied-machine, copied-new}
 use Rattle.ideal_lane.proofs.Lookups.{get_put, get_cut}
-use Rattle.ideal_wire.specs.Machine.{IsOfMachine, IsInMachine}
+use Rattle.busdma_base.specs.Scenarios.PageRuns.{physical_in}
+use Rattle.ideal_lane.specs.Sends.{HaveClusters}
+use Rattle.ideal_wire.specs.Machine.{IsDueFine, IsOfMachine, IsInMachine}
+use Rattle.ideal_wire.proofs.DueFine.{not-due, turn-due}
 use Rattle.ideal_wire.specs.NewRuns.{BringsNew, IsNewRun}
 use Rattle.ideal_wire.proofs.EffectiveTags.{effective-alone, effective-below}
 use Rattle.busdma_machine.specs.declared.bounce.hold.HubCall.{HubCall}
@@ -29,8 +35,8 @@ use Rattle.busdma_machine.specs.declared.machine.address.Pa.{Pa}
 
 -- a step that changes neither the machine nor a tag
 like-of : (k j : LaneState) → IsInMachine k → j.maxmem ≡ k.maxmem → j.pages ≡ k.pages → j.script ≡ k.script →
-    j.mems ≡ k.mems → j.tags ≡ k.tags → IsInMachine j
-like-of k j h maxmem pages script mems tags = record {
+    j.mems ≡ k.mems → j.tags ≡ k.tags → IsDueFine j → IsInMachine j
+like-of k j h maxmem pages script mems tags due = record {
   numbered = subst (λ n. n ≤ 2 ^ 30) (sym maxmem) h.numbered;
   pages =
       subst (λ n. AllByRecursion (IsOfMachine n) j.pages) (sym maxmem)
@@ -41,16 +47,26 @@ like-of k j h maxmem pages script mems tags = record {
   bios =
       subst (λ ops. AllByRecursion (LoadsFrom j.pages) ops) (sym script)
       (subst (λ runs. AllByRecursion (LoadsFrom runs) k.script) (sym pages) h.bios);
+  clusters = subst HaveClusters (sym script) h.clusters;
+  unlike =
+      subst (λ runs. (va vb pa : ℕ) → physical_in runs va ≡ Some pa → physical_in runs vb ≡ Some pa → va ≡ vb)
+      (sym pages) h.unlike;
+  due = due;
 }
 
 module _ (l : LaneState) (m : IsInMachine l) where
+  -- the driver with no resend due
+  abbrev rested : LaneState → LaneState
+  rested k = record k { due = false }
+
   like : (k : LaneState) → k.maxmem ≡ l.maxmem → k.pages ≡ l.pages → k.script ≡ l.script → k.mems ≡ l.mems →
-      k.tags ≡ l.tags → IsInMachine k
-  like k = like-of l k m
+      k.tags ≡ l.tags → IsInMachine (rested k)
+  like k maxmem pages script mems tags =
+      like-of l (rested k) m maxmem pages script mems tags (not-due (rested k) refl)
 
   -- a step that puts a tag
   put : (k : LaneState) (at : ℕ) (t : LaneTag) → IsEffective t.limits → k.maxmem ≡ l.maxmem → k.pages ≡ l.pages →
-      k.script ≡ l.script → k.mems ≡ l.mems → k.tags ≡ insert l.tags at t → IsInMachine k
+      k.script ≡ l.script → k.mems ≡ l.mems → k.tags ≡ insert l.tags at t → IsInMachine (rested k)
   put k at t good maxmem pages script mems tags =
       let old = like (record k { tags = l.tags }) maxmem pages script mems refl in
       record {
@@ -58,6 +74,9 @@ module _ (l : LaneState) (m : IsInMachine l) where
         pages = old.pages;
         mems = old.mems;
         bios = old.bios;
+        clusters = old.clusters;
+        unlike = old.unlike;
+        due = not-due (rested k) refl;
         tags = λ j x e. by j x (j == at) (sym (get_put l.tags at t j) ∙ (sym (λ i. get (tags i) j) ∙ e));
       }
     where
@@ -67,7 +86,7 @@ module _ (l : LaneState) (m : IsInMachine l) where
       by j x false e = m.tags j x e
 
   cut : (k : LaneState) (at : ℕ) → k.maxmem ≡ l.maxmem → k.pages ≡ l.pages → k.script ≡ l.script → k.mems ≡ l.mems →
-      k.tags ≡ remove l.tags at → IsInMachine k
+      k.tags ≡ remove l.tags at → IsInMachine (rested k)
   cut k at maxmem pages script mems tags =
       let old = like (record k { tags = l.tags }) maxmem pages script mems refl in
       record {
@@ -75,6 +94,9 @@ module _ (l : LaneState) (m : IsInMachine l) where
         pages = old.pages;
         mems = old.mems;
         bios = old.bios;
+        clusters = old.clusters;
+        unlike = old.unlike;
+        due = not-due (rested k) refl;
         tags = λ j x e. by j x (j == at) (sym (get_cut l.tags at j) ∙ (sym (λ i. get (tags i) j) ∙ e));
       }
     where
@@ -89,13 +111,16 @@ module _ (l : LaneState) (m : IsInMachine l) where
 
   -- a reply brings no frames but new ones
   placed-keeps : (t flags : ℕ) (limits : TagLimits) (first : Pa) (count : ℕ) → IsNewRun l first.0 count →
-      IsInMachine (placed t limits flags l (reply.Run first count)).lane
+      IsInMachine (rested (placed t limits flags l (reply.Run first count)).lane)
   placed-keeps t flags limits first count new = record {
     numbered = m.numbered;
     pages = m.pages;
     mems = λ j x e. by j x (j == l.place) (sym (get_put l.mems l.place memory j) ∙ e);
     tags = m.tags;
     bios = m.bios;
+    clusters = m.clusters;
+    unlike = m.unlike;
+    due = not-due _ refl;
   }
     where
       memory : LaneMemory
@@ -108,13 +133,16 @@ module _ (l : LaneState) (m : IsInMachine l) where
           subst (λ (y : LaneMemory). y.first + 4096 * y.count ≤ 4096 * l.maxmem) same new.below
       by j x false e = m.mems j x e
 
-  without-keeps : (n : ℕ) (x : LaneMemory) → IsInMachine (without_memory n x l)
+  without-keeps : (n : ℕ) (x : LaneMemory) → IsInMachine (rested (without_memory n x l))
   without-keeps n x = record {
     numbered = m.numbered;
     pages = m.pages;
     mems = λ j y e. by j y (j == n) (sym (get_cut l.mems n j) ∙ e);
     tags = m.tags;
     bios = m.bios;
+    clusters = m.clusters;
+    unlike = m.unlike;
+    due = not-due _ refl;
   }
     where
       by : (j : ℕ) (y : LaneMemory) (b : Bool) → cond b None (get l.mems j) ≡ Some y →
@@ -122,12 +150,12 @@ module _ (l : LaneState) (m : IsInMachine l) where
       by j y true e = absurd (cc)
       by j y false e = m.mems j y e
 
-  touches-keep : {d : Work} {x : Outcome} → Touches l d x → IsInMachine x.lane
-  touches-keep (Same a q u) = m
+  touches-keep : {d : Work} {x : Outcome} → Touches l d x → IsInMachine (rested x.lane)
+  touches-keep (Same a q u) = like l refl refl refl refl refl
   touches-keep {x = x} _ = like x.lane refl refl refl refl refl
 
   makes-keep : {d : Work} {c : Option HubCall} {r : HubReply} {x : Outcome} → BringsNew l r → Makes l d c r x →
-      IsInMachine x.lane
+      IsInMachine (rested x.lane)
   makes-keep new (Touched t) = touches-keep t
   makes-keep new (Tags name parent limits t n) =
       put (with_tag l.place t false l) l.place (record { limits = t; first_done = false; device = false }) (new-effective n) refl refl
@@ -145,18 +173,32 @@ module _ (l : LaneState) (m : IsInMachine l) where
   makes-keep new (Frees n x there o found i) = without-keeps n x
   makes-keep {x = x} new _ = like x.lane refl refl refl refl refl
 
-  -- ---- the turn
+-- ---- the turn
+module _ (l : LaneState) (m : IsInMachine l) where
   steps-keep : {s : Side} {c : Option HubCall} {r : HubReply} {t : Turned} → BringsNew l r → Steps l s c r t →
-      IsInMachine t.lane
-  steps-keep new (Stays t is) = m
+      IsInMachine (rested l m t.lane)
+  steps-keep new (Stays t is) = like l m l refl refl refl refl refl
   steps-keep new (Advances {x = x} o at free k) =
-      like-of x.lane (record x.lane { place = l.place + 1 }) (makes-keep new k) refl refl refl refl refl
+      like-of (rested l m x.lane) (rested l m (record x.lane { place = l.place + 1 })) (makes-keep l m new k) refl refl
+      refl refl refl (not-due _ refl)
+  steps-keep new (Keeps {x = x} o at free s is big held k) =
+      like-of (rested l m x.lane) (rested l m (record x.lane { due = true })) (makes-keep l m new k) refl refl refl refl
+      refl (not-due _ refl)
+  steps-keep new (Declines s now x why) = like l m (record l { place = l.place + 1 }) refl refl refl refl refl
+  steps-keep {r = r} new (Resends {x = x} s now c told k) =
+      like-of (rested l m x.lane) (rested l m (record x.lane { place = l.place + 1 }))
+      (makes-keep (copied s l) (copied-machine l s m) (copied-new l s r new) k) refl refl refl refl refl
+      (not-due _ refl)
   steps-keep new (Leaves {x = x} q rest e t) =
-      like-of x.lane (record x.lane { queue = rest }) (touches-keep t) refl refl refl refl refl
-  steps-keep new (Releases q rest e None there) = like (record l { returns = rest }) refl refl refl refl refl
+      like-of (rested l m x.lane) (rested l m (record x.lane { queue = rest })) (touches-keep l m t) refl refl refl refl
+      refl (not-due _ refl)
+  steps-keep new (Releases q rest e None there) = like l m (record l { returns = rest }) refl refl refl refl refl
   steps-keep new (Releases q rest e (Some o) there) =
-      like (record (restaged q.map (Some o) (after_return q.map rest) l) { returns = rest }) refl refl refl refl refl
-  steps-keep new (Calls n pages k) = makes-keep new k
+      like l m (record (restaged q.map (Some o) (after_return q.map rest) l) { returns = rest }) refl refl refl refl
+      refl
+  steps-keep new (Calls n pages k) = makes-keep l m new k
 
   pub turn-keeps : (s : Side) (r : HubReply) → BringsNew l r → IsInMachine (by_reply (lane_step l s) r).lane
-  turn-keeps s r new = steps-keep new (turn-steps l s r)
+  turn-keeps s r new =
+      like-of (rested l m (by_reply (lane_step l s) r).lane) (by_reply (lane_step l s) r).lane
+      (steps-keep new (turn-steps l s r)) refl refl refl refl refl (turn-due l m.due s r)

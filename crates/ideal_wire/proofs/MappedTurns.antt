@@ -49,9 +49,9 @@ use Rattle.ideal_lane.specs.Unloads.{after_return, first_of, pages_of, segments_
 use Rattle.ideal_lane.specs.Loads.{unpaged}
 use Rattle.ideal_lane.proofs.Effects.{Advances, AtOnce, Attaches, Begins, Called, Calls, Creates, Device, Ends, Frees}
 use Rattle.ideal_lane.proofs.Effects.{Spaces}
-use Rattle.ideal_lane.proofs.Effects.{Granted, IsNext, IsTaken, Leaves, Loads, Makes, Maps, NoFrame, Overflows, Places}
+use Rattle.ideal_lane.proofs.Effects.{Granted, IsTaken, Leaves, Loads, Makes, Maps, NoFrame, Overflows, Places}
 use Rattle.ideal_lane.proofs.Effects.{Refuses, Releases, Run, Same, Stays, Steps, Syncs, Tags, Touched, Touches, Unloads}
-use Rattle.ideal_lane.proofs.Effects.{Unmaps, Untags, Waits, Work, asked_in, asks, chunks_in, frames, here, map_in}
+use Rattle.ideal_lane.proofs.Effects.{Unmaps, Untags, Waits, Work, asked_in, asks, chunks_in, frames, map_in}
 use Rattle.ideal_lane.proofs.Effects.{pages_in, place_in, spaces_in, waits_for, was_in}
 use Rattle.ideal_lane.proofs.Endings.{fits}
 use Rattle.ideal_lane.proofs.Stepping.{turn-steps}
@@ -61,7 +61,10 @@ use Rattle.ideal_wire.specs.Machine.{IsInMachine}
 use Rattle.ideal_wire.specs.Mapped.{AreMapped, HasRun}
 use Rattle.ideal_wire.specs.Spaced.{AreSpaced, IsSpaced}
 use Rattle.ideal_wire.proofs.Accepting as accepting
-use Rattle.ideal_wire.proofs.Buffers.{loads-from}
+use Rattle.ideal_lane.specs.Sends.{copied}
+use Rattle.ideal_lane.proofs.Effects.{Declines, Keeps, Resends}
+use Rattle.ideal_wire.proofs.Begun.{Again, IsDone, Next, begun-bio}
+use Rattle.ideal_wire.proofs.Copied.{copied-laid, copied-machine, copied-mapped, copied-spaced}
 use Rattle.ideal_wire.proofs.DeviceLoads.{are-entries, device-accepted, device-bytes}
 use Rattle.ideal_wire.proofs.KeptMapped.{IsDeviceLoad, IsHere, KeepsLoad, entered-keeps, left-keeps, left-none, one-mapped}
 use Rattle.ideal_wire.proofs.KeptMapped.{same-space}
@@ -246,12 +249,12 @@ module _ (l : LaneState) (stands : Stands l) (laid : AreLaid l) (machine : IsInM
       spaces n q off at load = by n q off at load (q.tag == o.tag) refl
 
   -- ---- a load of an IOMMU tag's map
-  module _ {d : Work} (b : Begins l d) (next : IsNext l d) (device : is_device l b.o ≡ true) where
+  module _ {d : Work} (b : Begins l d) (next : IsDone l d) (device : is_device l b.o ≡ true) where
     abbrev es : List Entry
     es = load_entries l b.bio
 
     is-bio : IsBioOf l.pages b.bio
-    is-bio = loads-from l.pages l.script l.place b.m b.buffer b.flags b.items l b.bio machine.bios (here b next) b.found
+    is-bio = begun-bio l machine b next
 
     abbrev t : TagLimits
     t = limits_of l b.o
@@ -480,7 +483,7 @@ module _ (l : LaneState) (stands : Stands l) (laid : AreLaid l) (machine : IsInM
       after : LaneState
       after = accepting.fits l (map_in k) (was_in k) (place_in k) (asked_in k) (chunks_in k) (pages_in k)
 
-  loads-mapped : {d : Work} {c : Option HubCall} {r : HubReply} → IsNext l d → (k : Ends l d c r) →
+  loads-mapped : {d : Work} {c : Option HubCall} {r : HubReply} → IsDone l d → (k : Ends l d c r) →
       fits l (map_in k) (was_in k) (place_in k) (asked_in k) (chunks_in k) (pages_in k) ≡ true →
       AreMapped (record (accepting.fits l (map_in k) (was_in k) (place_in k) (asked_in k) (chunks_in k) (pages_in k)) {
         spaces = spaces_in k;
@@ -539,7 +542,7 @@ module _ (l : LaneState) (stands : Stands l) (laid : AreLaid l) (machine : IsInM
       made : LaneState
       made = with_tag t g.limits true (with_map t (Some z) l)
 
-  makes-mapped : {d : Work} {c : Option HubCall} {r : HubReply} {x : Outcome} → IsNext l d → Makes l d c r x →
+  makes-mapped : {d : Work} {c : Option HubCall} {r : HubReply} {x : Outcome} → IsDone l d → Makes l d c r x →
       AreMapped x.lane
   makes-mapped next (Touched t) = touches-mapped t
   makes-mapped next (Tags name parent limits t n) = with-tag t false
@@ -570,9 +573,11 @@ module _ (l : LaneState) (stands : Stands l) (laid : AreLaid l) (machine : IsInM
   makes-mapped next (Unloads m o there i) = unload m o there i
   makes-mapped {x = x} next _ = alike x.lane refl refl refl refl
 
-  -- ---- the turn
-  moved : (k : LaneState) (place : ℕ) → AreMapped k → AreMapped (record k { place = place })
-  moved k place h = record {
+-- ---- the turn
+module _ (l : LaneState) (stands : Stands l) (laid : AreLaid l) (machine : IsInMachine l) (spaced : AreSpaced l)
+    (mapped : AreMapped l) where
+  moved : (k : LaneState) (place : ℕ) (due : Bool) → AreMapped k → AreMapped (record k { place = place; due = due })
+  moved k place due h = record {
     each = λ m o e d g. let y = h.each m o e d g in record { run = y.run; found = y.found };
     alone = h.alone;
   }
@@ -585,14 +590,26 @@ module _ (l : LaneState) (stands : Stands l) (laid : AreLaid l) (machine : IsInM
 
   steps-mapped : {s : Side} {c : Option HubCall} {r : HubReply} {t : Turned} → Steps l s c r t → AreMapped t.lane
   steps-mapped (Stays t is) = mapped
-  steps-mapped (Advances {x = x} o at free m) = moved x.lane (l.place + 1) (makes-mapped at m)
-  steps-mapped (Leaves {x = x} q rest is t) = left-queue x.lane rest (touches-mapped t)
-  steps-mapped {t = t} (Releases q rest is None there) = alike t.lane refl refl refl refl
+  steps-mapped (Advances {x = x} o at free m) =
+      moved x.lane (l.place + 1) false (makes-mapped l stands laid machine spaced mapped (Next at) m)
+  steps-mapped (Keeps {x = x} o at free s is big held m) =
+      moved x.lane x.lane.place true (makes-mapped l stands laid machine spaced mapped (Next at) m)
+  steps-mapped {t = t} (Declines s now x why) = moved l (l.place + 1) false mapped
+  steps-mapped (Resends {x = x} s now c told m) =
+      moved x.lane (l.place + 1) false
+      (makes-mapped (copied s l) stands (copied-laid l s laid) (copied-machine l s machine) (copied-spaced l s spaced)
+      (copied-mapped l s mapped) (Again s) m)
+  steps-mapped (Leaves {x = x} q rest is t) =
+      left-queue x.lane rest (touches-mapped l stands laid machine spaced mapped t)
+  steps-mapped {t = t} (Releases q rest is None there) =
+      alike l stands laid machine spaced mapped t.lane refl refl refl refl
   steps-mapped {t = t} (Releases q rest is (Some o) there) =
-      put t.lane (λ n y e. refl) q.map (record o { stage = after_return q.map rest }) refl (λ n off. refl)
-      (stay t.lane q.map refl)
-      (unloaded t.lane (record o { stage = after_return q.map rest }) (returned-off (returning q.map rest == 0)))
-  steps-mapped (Calls m pages k) = makes-mapped tt k
+      put l stands laid machine spaced mapped t.lane (λ n y e. refl) q.map (record o { stage = after_return q.map rest })
+      refl (λ n off. refl)
+      (stay l stands laid machine spaced mapped t.lane q.map refl)
+      (unloaded l stands laid machine spaced mapped t.lane (record o { stage = after_return q.map rest })
+      (returned-off (returning q.map rest == 0)))
+  steps-mapped (Calls m pages k) = makes-mapped l stands laid machine spaced mapped (Next tt) k
 
   pub turn-mapped : (s : Side) (r : HubReply) → AreMapped (by_reply (lane_step l s) r).lane
   turn-mapped s r = steps-mapped (turn-steps l s r)

@@ -94,7 +94,7 @@ first-run : (y : LaneMemory) (bytes : List ℕ) (n : ℕ) → bytes ≡ run_of y
 first-run y bytes n same = same ∙ ap (run_of y.first) (sym (ap length same ∙ run_length y.first n))
 
 -- spans have as many bytes as they say
-count-spans : (spans : List Span) → length (span_addresses spans) ≡ span_bytes spans
+pub count-spans : (spans : List Span) → length (span_addresses spans) ≡ span_bytes spans
 count-spans [] = refl
 count-spans (s ∷ ss) =
     omega (

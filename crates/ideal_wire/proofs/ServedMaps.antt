@@ -1,6 +1,6 @@
 -- The zones of maps serve their tags after each step, and whatever others call.
 use Rattle.std.proofs.Common.{◌≡◌, ℕ, ◌<◌, ◌≤◌, ◌==◌, ◌&&◌, Bool, true, false, cond, List, [], length, Option, Some}
-use Rattle.std.proofs.Common.{None, refl, ap, sym, ◌∙◌, arith, nat_le, inl, inr, unwrap_or, option_map, IsTrue, ◌⊎◌}
+use Rattle.std.proofs.Common.{None, refl, ap, sym, ◌∙◌, subst, arith, nat_le, inl, inr, unwrap_or, option_map, IsTrue, ◌⊎◌}
 use Rattle.std.proofs.lemmas.Bool.{and_parts, cases_lt, leb-true}
 use Rattle.std.proofs.lemmas.List.{get_or_past}
 use Rattle.std.specs.FinMap.{get}
@@ -21,16 +21,19 @@ use Rattle.ideal_lane.specs.Asking.{Asking, Gives, Asks, call_of, by_reply}
 use Rattle.ideal_lane.specs.Loads.{limits_of, no_limits}
 use Rattle.ideal_lane.specs.Maps.{with_map}
 use Rattle.ideal_lane.specs.Outcomes.{Outcome}
+use Rattle.ideal_lane.specs.Sends.{Send, copied}
 use Rattle.ideal_lane.specs.Standing.{Stands}
 use Rattle.ideal_lane.specs.State.{LaneState, LaneTag, LaneMap, Idle, named}
 use Rattle.ideal_lane.specs.Tags.{with_tag}
 use Rattle.ideal_lane.specs.Turns.{Turned, lane_step}
 use Rattle.ideal_lane.proofs.Effects.{Advances, Calls, IsReplyOf, Leaves, Makes, Releases, Stays, Steps, Touched, Work}
+use Rattle.ideal_lane.proofs.Effects.{Declines, Keeps, Resends}
 use Rattle.ideal_lane.proofs.Stepping.{turn-steps}
 use Rattle.ideal_lane.proofs.Lookups.{get_put}
 use Rattle.ideal_wire.specs.Machine.{IsInMachine}
 use Rattle.ideal_wire.specs.Served.{AreServed, KeepsServed}
 use Rattle.ideal_wire.proofs.Accepting.{limits-effective}
+use Rattle.ideal_wire.proofs.Copied.{copied-machine}
 use Rattle.ideal_wire.proofs.KeptMaps.{KeepsMaps, back-kept, same, makes-kept, IsCreated, Creation}
 use Rattle.ideal_wire.proofs.KeptTags.{put-keeps, put-there}
 use Rattle.ideal_wire.proofs.Positions.{found_one}
@@ -135,14 +138,34 @@ module _ (l : LaneState) (stands : Stands l) (a : Account) (machine : IsInMachin
       Makes l d c r x → AreServed x.lane (account_after c)
   makes-served e m = kept-or-made e (makes-kept l stands m)
 
+-- ---- the turn
+module _ (l : LaneState) (stands : Stands l) (a : Account) (machine : IsInMachine l) (served : AreServed l a) where
+  abbrev after : Option HubCall → Account
+  after c = account_after l stands a machine served c
+
+  abbrev kept : (l' : LaneState) (c : Option HubCall) → KeepsMaps l stands l' → AreServed l' (after c)
+  kept l' c = kept-served l stands a machine served l' (after c) (zones l stands a machine served c)
+
+  -- the bytes of the driver bear on no account
+  same-account : (s : Send) (c : Option HubCall) →
+      account_after (copied s l) stands a (copied-machine l s machine) served c ≡ after c
+  same-account s None = refl
+  same-account s (Some c) = refl
+
   steps-served : {s : Side} {c : Option HubCall} {r : HubReply} {t : Turned} → IsReplyOf l.id a c r →
-      Steps l s c r t → AreServed t.lane (account_after c)
-  steps-served {c = c} e (Stays t is) = kept-served l (account_after c) (zones c) (same l stands)
-  steps-served e (Advances o at free m) = λ k z y f zone. makes-served e m k z y f zone
-  steps-served e (Leaves q rest is t) = λ k z y f zone. makes-served {r = reply.Nothing} e (Touched t) k z y f zone
-  steps-served {c = c} e (Releases q rest is y there) =
-      kept-served _ (account_after c) (zones c) (back-kept l stands q rest y there)
-  steps-served e (Calls m pages k) = makes-served e k
+      Steps l s c r t → AreServed t.lane (after c)
+  steps-served {c = c} e (Stays t is) = kept l c (same l stands)
+  steps-served e (Advances o at free m) = λ k z y f zone. makes-served l stands a machine served e m k z y f zone
+  steps-served e (Keeps o at free s is big held m) =
+      λ k z y f zone. makes-served l stands a machine served e m k z y f zone
+  steps-served {c = c} e (Declines s now x why) = λ k z y f zone. kept l c (same l stands) k z y f zone
+  steps-served {c = c} {t = t} e (Resends s now k told m) =
+      subst (AreServed t.lane) (same-account s c)
+      (λ j z y f zone. makes-served (copied s l) stands a (copied-machine l s machine) served e m j z y f zone)
+  steps-served e (Leaves q rest is t) =
+      λ k z y f zone. makes-served l stands a machine served {r = reply.Nothing} e (Touched t) k z y f zone
+  steps-served {c = c} e (Releases q rest is y there) = kept _ c (back-kept l stands q rest y there)
+  steps-served e (Calls m pages k) = makes-served l stands a machine served e k
 
   pub turn-served : (s : Side) → KeepsServed l.id a (lane_step l s)
   turn-served s = by (lane_step l s) (turn-steps l s)

@@ -165,7 +165,7 @@ module _ (l : LaneState) (laid : AreLaid l) where
             loan_of (lending.synced l.loans m off len ops) n ≡ loan_of l.loans n
         another none = by (loan_of l.loans m).coherent (off-map none)
 
-  written-still : (bytes vs : List ℕ) → AreLaid (after_write l bytes vs)
+  pub written-still : (bytes vs : List ℕ) → AreLaid (after_write l bytes vs)
   written-still bytes vs =
       like (after_write l bytes vs)
       (record { script = refl; pages = refl; maxmem = refl; own = own-written bytes vs l.memory; mems = refl })

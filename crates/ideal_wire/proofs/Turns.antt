@@ -1,5 +1,5 @@
 -- Any turn leaves the wire faithful, whatever pages come and go.
-use Rattle.std.proofs.Common.{◌≡◌, ℕ, ◌+◌, Bool, true, false, cond, if◌then◌else◌, List, [], ◌∷◌, Option, Some, None}
+use Rattle.std.proofs.Common.{◌≡◌, ℕ, Bool, true, false, cond, if◌then◌else◌, List, [], ◌∷◌, Option, Some, None}
 use Rattle.std.proofs.Common.{refl, ap, sym, ◌∙◌, slice_get, subst, arith, is_some, ◌⊎◌, inl, inr}
 use Rattle.std.proofs.lemmas.Bool.{false≢true}
 use Rattle.std.specs.FinMap.{get}
@@ -24,13 +24,14 @@ use Rattle.lane_tables.specs.declared.queued.QueuedItem.{QueuedItem}
 use Rattle.loan_table.specs.declared.position.Position.{Position}
 use Rattle.loan_table.specs.Loans.{loan_of, no_loan}
 use Rattle.ideal_lane.specs.State.{LaneState, LaneMap, LaneMemory, Stage, Idle, Waiting, Loaded, Returning}
-use Rattle.ideal_lane.specs.IdealMemory.{Content, Known, Unknown}
+use Rattle.ideal_lane.specs.IdealMemory.{Content, Known, Unknown, is_known}
 use Rattle.ideal_lane.specs.Agreement.{AgreesWith}
 use Rattle.ideal_lane.specs.Asking.{Asking, Gives, Asks, by_reply, goes_on}
-use Rattle.ideal_lane.specs.Loads.{is_coherent}
+use Rattle.ideal_lane.specs.Loads.{is_coherent, load_judged}
 use Rattle.ideal_lane.specs.Memories.{placed, without_memory}
-use Rattle.ideal_lane.specs.Outcomes.{Outcome, is_idle, is_loaded}
+use Rattle.ideal_lane.specs.Outcomes.{Outcome, gives, is_idle, is_loaded, refused, unless_absent, unless_refused}
 use Rattle.ideal_lane.specs.Rings.{ring_of, ring_step}
+use Rattle.ideal_lane.specs.Sends.{Send, chain_bytes, cluster_bytes, copied, due_send, is_kept, load_again, send_of}
 use Rattle.ideal_lane.specs.Standing.{Stands}
 use Rattle.ideal_lane.specs.Turns.{Turned, operation, transfer, waits, lane_step}
 use Rattle.ideal_lane.specs.Turns as turns
@@ -39,7 +40,7 @@ use Rattle.ideal_lane.proofs.Effects.{AtOnce, Called, Creates, Device, Ends, Fre
 use Rattle.ideal_lane.proofs.Stepping.{Made}
 use Rattle.ideal_lane.proofs.Effects.{Maps, Operation, Overflows, Places, Refuses, Touched, Transfer, Unloads}
 use Rattle.ideal_lane.proofs.Stepping.{Only}
-use Rattle.ideal_lane.proofs.Effects.{Unmaps, Waits, Work, asked_in, end_call, map_in}
+use Rattle.ideal_lane.proofs.Effects.{Unmaps, Waits, Work, again, asked_in, end_call, map_in}
 use Rattle.ideal_lane.proofs.Stepping.{called-makes, operation-makes}
 use Rattle.ideal_lane.proofs.Stepping.{transfer-touches}
 use Rattle.ideal_wire.specs.Apart.{IsApart}
@@ -60,6 +61,13 @@ use Rattle.ideal_wire.proofs.Returning.{returning-unloaded}
 use Rattle.busdma_machine.specs.declared.bounce.hold.HubCall.{HubCall}
 use Rattle.busdma_base.specs.declared.journals.answer.Answer.{Answer}
 use Rattle.busdma_machine.specs.declared.report.Errno.TheVariants.{EFBIG}
+use Rattle.busdma_machine.specs.declared.machine.bio.Bio.TheVariants.{Vector}
+use Rattle.busdma_machine.specs.declared.report.Judged.{Judged}
+use Rattle.busdma_machine.specs.declared.report.Judged.TheVariants.{Fine, Refused}
+use Rattle.busdma_machine.specs.declared.report.Report.{Report}
+use Rattle.busdma_machine.specs.declared.report.ReportName.TheVariants.{Absent, MapBusy}
+use Rattle.loan_table.specs.Access.{cpu_read_answer, cpu_write_answer}
+use Rattle.ideal_wire.proofs.Copied.{copied-faithful, copied-follows, copied-laid, copied-mapped, copied-new, copied-spaced}
 use Rattle.ideal_wire.proofs.Wiring.{Needs, now, touches-stay, undone}
 
 module _ (l : LaneState) (a : Account) (w : Wire) (stands : Stands l) (agrees : AgreesWith l a) (laid : AreLaid l)
@@ -234,15 +242,26 @@ module _ (l : LaneState) (a : Account) (w : Wire) (stands : Stands l) (agrees : 
       idle refl (unload-carries l _ m f.exclusive refl refl (λ n off. put-stage l m n _ off))
   makes-stay needs new _ = idle refl (kept _ refl refl refl)
 
-  -- ---- the turn
+-- ---- the turn
+module _ (l : LaneState) (a : Account) (w : Wire) (stands : Stands l) (agrees : AgreesWith l a) (laid : AreLaid l)
+    (spaced : AreSpaced l) (mapped : AreMapped l) (f : IsFaithful l w) where
+  abbrev apart-here : IsApart l
+  apart-here = agreeing-apart l a agrees stands laid
+
   abbrev Stays : Wire → Asking Turned → Type 0
   Stays after t = (r : HubReply) (w' : Wire) → BringsNew l r → Follows l (by_reply t r).lane after w' →
       IsFaithful (by_reply t r).lane w'
 
   -- what is followed tells the driver's memory, its maps and no more
-  moved : (k : LaneState) (place : ℕ) (after w' : Wire) → Follows l (record k { place = place }) after w' →
-      Follows l k after w'
-  moved k place after w' g = record { own = g.own; pages = g.pages; known = g.known }
+  went : (b : Bool) (k : Outcome) (after w' : Wire) →
+      Follows l (if b then turns.kept l.place k else turns.advanced l.place k).lane after w' → Follows l k.lane after w'
+  went true k after w' g = record { own = g.own; pages = g.pages; known = g.known }
+  went false k after w' g = record { own = g.own; pages = g.pages; known = g.known }
+
+  went-faithful : (b : Bool) (k : Outcome) (w' : Wire) → IsFaithful k.lane w' →
+      IsFaithful (if b then turns.kept l.place k else turns.advanced l.place k).lane w'
+  went-faithful true k w' g = g
+  went-faithful false k w' g = g
 
   left : (k : LaneState) (queue : List QueuedItem) (after w' : Wire) → Follows l (record k { queue = queue }) after w' →
       Follows l k after w'
@@ -250,45 +269,55 @@ module _ (l : LaneState) (a : Account) (w : Wire) (stands : Stands l) (agrees : 
 
   -- the wire of an operation
   same-done : (x : Asking Outcome) → wire.if_done x w w ≡ w
-  same-done (Gives x) = same-answered x.answer
+  same-done (Gives x) = same-answered l a w stands agrees laid spaced mapped f x.answer
   same-done (Asks c k) = refl
 
-  wire-operation : (o : Op) → wire.operation o l w ≡ wire.if_done (operation o l) (now l w apart laid f (Operation o)) w
+  wire-operation : (o : Op) →
+      wire.operation o l w ≡ wire.if_done (operation o l) (now l w apart-here laid f (Operation o)) w
   wire-operation (op.Sync m ops) = refl
   wire-operation (op.SyncRange m off len ops) = refl
   wire-operation (op.CpuWrite place bs) = refl
   wire-operation (op.RingPost k slot m off len kind fill) = refl
   wire-operation o = sym (same-done (operation o l))
 
-  advances : (o : Op) → Stays (wire.operation o l w) (goes_on (turns.advanced l.place) (operation o l))
+  advances : (o : Op) → Stays (wire.operation o l w) (goes_on (turns.went_on o l.place) (operation o l))
   advances o =
-      subst (λ v. Stays v (goes_on (turns.advanced l.place) (operation o l))) (sym (wire-operation o))
+      subst (λ v. Stays v (goes_on (turns.went_on o l.place) (operation o l))) (sym (wire-operation o))
       (by (operation o l) (operation-makes l o))
     where
+      ends : {c : Option HubCall} {r : HubReply} {x : Outcome} → BringsNew l r → Makes l (Operation o) c r x →
+          (w' : Wire) → Follows l (turns.went_on o l.place x).lane
+          (wired l a w stands agrees laid spaced mapped f c x.answer (now l w apart-here laid f (Operation o))) w' →
+          IsFaithful (turns.went_on o l.place x).lane w'
+      ends {x = x} new m w' g =
+          went-faithful (is_kept (send_of o) x.answer) x w'
+          ((makes-stay l a w stands agrees laid spaced mapped f tt new m).stays w'
+          (went (is_kept (send_of o) x.answer) x _ w' g))
+
       by : (x : Asking Outcome) → Made l (Operation o) x →
-          Stays (wire.if_done x (now l w apart laid f (Operation o)) w) (goes_on (turns.advanced l.place) x)
-      by (Gives y) h r w' new g = (makes-stay tt new (h r)).stays w' (moved y.lane (l.place + 1) _ w' g)
-      by (Asks c k) h r w' new g = (makes-stay tt new (h r)).stays w' (moved (k r).lane (l.place + 1) _ w' g)
+          Stays (wire.if_done x (now l w apart-here laid f (Operation o)) w) (goes_on (turns.went_on o l.place) x)
+      by (Gives y) h r w' new g = ends new (h r) w' g
+      by (Asks c k) h r w' new g = ends new (h r) w' g
 
   leaves : (q : QueuedItem) (rest : List QueuedItem) →
       Stays (wire.transfer q.item l w) (goes_on (turns.left_queue q rest) (transfer q.item l))
   leaves q rest = each q.item
     where
       by : (i : Item) → Needs l (Transfer i) → (x : Asking Outcome) → Only l (Transfer i) x →
-          Stays (wire.if_done x (now l w apart laid f (Transfer i)) w) (goes_on (turns.left_queue q rest) x)
+          Stays (wire.if_done x (now l w apart-here laid f (Transfer i)) w) (goes_on (turns.left_queue q rest) x)
       by i needs (Gives y) h r w' new g =
-          let g' = left y.lane rest _ w' g in touches-stay l w apart laid f h needs w' g'.own g'.pages
+          let g' = left y.lane rest _ w' g in touches-stay l w apart-here laid f h needs w' g'.own g'.pages
       by i needs (Asks c k) h r w' new g = absurd h
 
       -- an item whose wire is that of its work
       plain : (i : Item) → Needs l (Transfer i) →
-          wire.transfer i l w ≡ wire.if_done (transfer i l) (now l w apart laid f (Transfer i)) w →
+          wire.transfer i l w ≡ wire.if_done (transfer i l) (now l w apart-here laid f (Transfer i)) w →
           Stays (wire.transfer i l w) (goes_on (turns.left_queue q rest) (transfer i l))
       plain i needs e =
           subst (λ v. Stays v (goes_on (turns.left_queue q rest) (transfer i l))) (sym e)
           (by i needs (transfer i l) (transfer-touches l i))
 
-      by-ring : (k : ℕ) (x : Asking Outcome) → RingStays l w apart laid f stands k x →
+      by-ring : (k : ℕ) (x : Asking Outcome) → RingStays l w apart-here laid f stands k x →
           Stays (wire.if_step_done x (wire.fetched_wire (ring_of l k) l w) w) (goes_on (turns.left_queue q rest) x)
       by-ring k (Gives y) h r w' new g = let g' = left y.lane rest _ w' g in h w' g'.own g'.pages
       by-ring k (Asks c e) h r w' new g = absurd h
@@ -304,31 +333,126 @@ module _ (l : LaneState) (a : Account) (w : Wire) (stands : Stands l) (agrees : 
       each (item.DevWriteAt t addr bs) =
           plain (item.DevWriteAt t addr bs)
           (record { stands = stands; laid = laid; spaced = spaced; mapped = mapped }) refl
-      each (item.RingStep k) = by-ring k (ring_step k l) (ring-stays l w apart laid f stands k)
+      each (item.RingStep k) = by-ring k (ring_step k l) (ring-stays l w apart-here laid f stands k)
 
   still : (w' : Wire) → Follows l l w w' → IsFaithful l w'
-  still w' h = carried l l w w' (are-bused l laid) f same h
+  still w' h = carried l l w w' (are-bused l laid) f (same l a w stands agrees laid spaced mapped f) h
+
+  next-stays : (o : Option Op) → Stays (wire.next_operation o l w) (turns.next_operation o l)
+  next-stays None r w' new h = still w' h
+  next-stays (Some o) r w' new h = by (waits o l) r w' new h
+    where
+      by : (b : Bool) → Stays (cond b w (wire.operation o l w))
+          (if b then Gives (turns.stays turns.Blocked l) else goes_on (turns.went_on o l.place) (operation o l))
+      by true r w' new h = still w' h
+      by false r w' new h = advances o r w' new h
+
+  -- ---- a resend
+
+  -- a refused one changes nothing
+  refused-stays : (x : Report) → Stays w (goes_on (turns.resent l.place) (gives l (answer.Report x)))
+  refused-stays x r w' new h = still w' (record { own = h.own; pages = h.pages; known = h.known })
+
+  module _ (s : Send) where
+    abbrev resent-by : Asking Outcome → Asking Turned
+    resent-by = goes_on (turns.resent l.place)
+
+    -- one that has copied ends as the load of the clusters does
+    module _ (fine : load_judged l s.map (Vector s.clusters) ≡ Fine)
+        (reads : cpu_read_answer (is_known l.memory) l.loans (chain_bytes s l) ≡ Fine)
+        (writes : cpu_write_answer l.loans (cluster_bytes s l) ≡ Fine) where
+      abbrev filled : LaneState
+      filled = copied s l
+
+      abbrev filled-wire : Wire
+      filled-wire = wire.copied s l w
+
+      filled-faithful : IsFaithful filled filled-wire
+      filled-faithful = copied-faithful l s w apart-here laid f fine reads writes
+
+      load-ends : {c : Option HubCall} {r : HubReply} {x : Outcome} → BringsNew l r →
+          Makes filled (Operation (again s)) c r x → (w' : Wire) →
+          Follows l (turns.resent l.place x).lane filled-wire w' → IsFaithful (turns.resent l.place x).lane w'
+      load-ends {c = c} {r = r} {x = x} new m w' g =
+          (makes-stay filled a filled-wire stands agrees (copied-laid l s laid) (copied-spaced l s spaced)
+          (copied-mapped l s mapped) filled-faithful tt (copied-new l s r new) m).stays w'
+          (subst (λ v. Follows filled x.lane v w')
+          (sym (same-wired filled a filled-wire stands agrees (copied-laid l s laid) (copied-spaced l s spaced)
+          (copied-mapped l s mapped) filled-faithful c x.answer))
+          (copied-follows l s x.lane filled-wire w' (record { own = g.own; pages = g.pages; known = g.known })))
+
+      copied-stays : Stays filled-wire (resent-by (load_again s filled))
+      copied-stays = by (load_again s filled) (operation-makes filled (again s))
+        where
+          by : (x : Asking Outcome) → Made filled (Operation (again s)) x → Stays filled-wire (resent-by x)
+          by (Gives y) h r w' new g = load-ends new (h r) w' g
+          by (Asks c k) h r w' new g = load-ends new (h r) w' g
+
+    -- the walk over what may refuse it
+    abbrev written-next : Asking Outcome
+    written-next = unless_refused (cpu_write_answer l.loans (cluster_bytes s l)) l (load_again s (copied s l))
+
+    abbrev read-next : Asking Outcome
+    read-next = unless_refused (cpu_read_answer (is_known l.memory) l.loans (chain_bytes s l)) l written-next
+
+    abbrev judged-next : Asking Outcome
+    judged-next = unless_refused (load_judged l s.map (Vector s.clusters)) l read-next
+
+    abbrev written-wire : Wire
+    written-wire = wire.if_fine (cpu_write_answer l.loans (cluster_bytes s l)) (wire.copied s l w) w
+
+    abbrev read-wire : Wire
+    read-wire = wire.if_fine (cpu_read_answer (is_known l.memory) l.loans (chain_bytes s l)) written-wire w
+
+    abbrev judged-wire : Wire
+    judged-wire = wire.if_fine (load_judged l s.map (Vector s.clusters)) read-wire w
+
+    by-write : load_judged l s.map (Vector s.clusters) ≡ Fine →
+        cpu_read_answer (is_known l.memory) l.loans (chain_bytes s l) ≡ Fine → (j : Judged) →
+        cpu_write_answer l.loans (cluster_bytes s l) ≡ j →
+        Stays (wire.if_fine j (wire.copied s l w) w) (resent-by (unless_refused j l (load_again s (copied s l))))
+    by-write fine reads Fine e r w' new h = copied-stays fine reads e r w' new h
+    by-write fine reads (Refused x) e r w' new h = refused-stays x r w' new h
+
+    by-read : load_judged l s.map (Vector s.clusters) ≡ Fine → (j : Judged) →
+        cpu_read_answer (is_known l.memory) l.loans (chain_bytes s l) ≡ j →
+        Stays (wire.if_fine j written-wire w) (resent-by (unless_refused j l written-next))
+    by-read fine Fine e r w' new h = by-write fine e (cpu_write_answer l.loans (cluster_bytes s l)) refl r w' new h
+    by-read fine (Refused x) e r w' new h = refused-stays x r w' new h
+
+    by-load : (j : Judged) → load_judged l s.map (Vector s.clusters) ≡ j →
+        Stays (wire.if_fine j read-wire w) (resent-by (unless_refused j l read-next))
+    by-load Fine e r w' new h =
+        by-read e (cpu_read_answer (is_known l.memory) l.loans (chain_bytes s l)) refl r w' new h
+    by-load (Refused x) e r w' new h = refused-stays x r w' new h
+
+    in-stage : (b : Bool) → Stays (if b then judged-wire else w)
+        (resent-by (if b then judged-next else refused MapBusy 0 l))
+    in-stage true r w' new h = by-load (load_judged l s.map (Vector s.clusters)) refl r w' new h
+    in-stage false r w' new h = refused-stays (record { name = MapBusy; at = 0 }) r w' new h
+
+    by-map : (q : Option LaneMap) → Stays (if wire.is_free q then judged-wire else w)
+        (resent-by (unless_absent q l (λ o. if is_idle o.stage then judged-next else refused MapBusy 0 l)))
+    by-map None r w' new h = refused-stays (record { name = Absent; at = 0 }) r w' new h
+    by-map (Some o) r w' new h = in-stage (is_idle o.stage) r w' new h
+
+  due-stays : (q : Option Send) → Stays (wire.due_turn q l w) (turns.due_turn q l)
+  due-stays None r w' new h = next-stays (slice_get l.script l.place) r w' new h
+  due-stays (Some s) r w' new h = by-map s (get l.maps s.map) r w' new h
 
   script-stays : (rs : List Return) → l.returns ≡ rs → Stays (wire.script_turn rs l w) (turns.script_turn rs l)
-  script-stays [] e r w' new h = next (slice_get l.script l.place) r w' new h
-    where
-      next : (o : Option Op) → Stays (wire.next_operation o l w) (turns.next_operation o l)
-      next None r w' new h = still w' h
-      next (Some o) r w' new h = by (waits o l) r w' new h
-        where
-          by : (b : Bool) → Stays (cond b w (wire.operation o l w))
-              (if b then Gives (turns.stays turns.Blocked l) else goes_on (turns.advanced l.place) (operation o l))
-          by true r w' new h = still w' h
-          by false r w' new h = advances o r w' new h
+  script-stays [] e r w' new h = due-stays (due_send l) r w' new h
   script-stays (x ∷ rest) e r w' new h =
-      carried l (given_back x rest l) w w' (are-bused l laid) f (given-carries x rest e) h
+      carried l (given_back x rest l) w w' (are-bused l laid) f
+      (given-carries l a w stands agrees laid spaced mapped f x rest e) h
 
   queue-stays : (q : List QueuedItem) → Stays (wire.transfer_turn q l w) (turns.transfer_turn q l)
   queue-stays [] r w' new h = still w' h
   queue-stays (q ∷ rest) r w' new h = leaves q rest r w' new h
 
   callback-stays : Stays w (turns.callback_turn l)
-  callback-stays (reply.Called m pages) w' new h = (makes-stay tt new (called-makes l m pages)).stays w' h
+  callback-stays (reply.Called m pages) w' new h =
+      (makes-stay l a w stands agrees laid spaced mapped f tt new (called-makes l m pages)).stays w' h
   callback-stays _ w' new h = still w' h
 
   pub turn-stays : (s : Side) → Stays (wire.lane_step l s w) (lane_step l s)

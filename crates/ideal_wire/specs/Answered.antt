@@ -15,7 +15,10 @@ use Rattle.busdma_base.specs.declared.scenarios.script.Op.{Op}
 use Rattle.busdma_base.specs.declared.scenarios.script.Op.TheVariants as op
 use Rattle.busdma_machine.specs.Bounce.Account.{Account}
 use Rattle.busdma_machine.specs.Bounce.AccountStep.{account_step}
+use Rattle.busdma_machine.specs.declared.machine.bio.Bio.TheVariants.{Vector}
+use Rattle.ideal_lane.specs.Accesses.{values}
 use Rattle.ideal_lane.specs.Asking.{Asking, Gives, Asks}
+use Rattle.ideal_lane.specs.Sends.{Send, chain_bytes, cluster_bytes, send_at}
 use Rattle.ideal_lane.specs.Loads.{chunks_for, is_device, limits_of, load_addresses, load_entries}
 use Rattle.ideal_lane.specs.State.{LaneState, LaneMap, Stage, Idle, Waiting, Loaded, Returning}
 use Rattle.ideal_lane.specs.Turns.{Turn, Turned, Stepped, Blocked, Ended, bio_at}
@@ -88,10 +91,19 @@ abbrev pub AreAnswered : LaneState → LaneState → Option Load → List Segmen
 AreAnswered before after None segments = ⊥
 AreAnswered before after (Some x) segments = AreLoaded before after x.map x.bio segments
 
--- so are those of what was done, of the operation's load or of the one for which the map waited; neither an item nor
--- the return of a page answers any
+-- so are those that the resend of a send answers, of the load of its clusters; and these then have the bytes that its
+-- chain had, in order
+abbrev pub AreOfClusters : LaneState → LaneState → Option Send → List Segment → Type 0
+AreOfClusters before after None segments = ⊥
+AreOfClusters before after (Some s) segments =
+    AreLoaded before after s.map (Vector s.clusters) segments
+    × (values after (cluster_bytes s before) ≡ values before (chain_bytes s before))
+
+-- so are those of what was done, of the operation's load, of the resend's, or of the one for which the map waited;
+-- neither an item nor the return of a page answers any
 abbrev pub AreOf : LaneState → LaneState → Did → List Segment → Type 0
 AreOf before after (did.Op place) segments = AreAnswered before after (load_at before place) segments
+AreOf before after (did.Again place) segments = AreOfClusters before after (send_at before.script place) segments
 AreOf before after (did.Callback m) segments =
     (b : Bio) × (load_at before (waited_at (stage_at before m.made_at))
     ≡ Some (record { map = m.made_at; bio = b })) × AreLoaded before after m.made_at b segments

@@ -1,5 +1,5 @@
 -- That what a driver keeps of its wire has one proof at most, so that a lane can keep it.
-use Rattle.std.proofs.Common.{◌≡◌, ◌<◌, ℕ, ◌+◌, ◌-◌, ◌^◌, List, [], ◌∷◌, drop, inl, inr, sym, ◌∙◌, arith}
+use Rattle.std.proofs.Common.{◌≡◌, ◌<◌, ℕ, ◌+◌, ◌-◌, ◌^◌, List, [], ◌∷◌, ◌++◌, drop, inl, inr, sym, ◌∙◌, arith}
 use Rattle.std.specs.Prelude.{IfSome, Option, Some, None}
 use Rattle.std.proofs.lemmas.Bool.{cases_lt}
 use Rattle.std.proofs.Math.Pow.{pow-lt}
@@ -14,7 +14,11 @@ use Rattle.busdma_machine.specs.contracts.machine.bio.Bio as bios
 use Rattle.busdma_machine.specs.declared.machine.bio.Bio.{Bio}
 use Rattle.busdma_machine.specs.declared.machine.bio.Bio.TheVariants as bio
 use Rattle.busdma_machine.specs.declared.machine.chunk.Chunk.{Chunk}
+use Rattle.busdma_machine.specs.contracts.report.Judged as judged
+use Rattle.busdma_machine.specs.declared.report.Judged.{Judged}
 use Rattle.busdma_machine.specs.declared.machine.address.Segment.{Segment}
+use Rattle.busdma_machine.specs.declared.machine.address.Span.{Span}
+use Rattle.busdma_machine.specs.Each.{EachAfter}
 use Rattle.busdma_base.specs.declared.scenarios.buffer.Buffer.{Buffer}
 use Rattle.busdma_base.specs.declared.scenarios.buffer.Buffer.TheVariants as buffer
 use Rattle.busdma_base.specs.declared.scenarios.scenario.PageRun.{PageRun}
@@ -22,7 +26,7 @@ use Rattle.busdma_base.specs.declared.scenarios.script.Op.{Op}
 use Rattle.busdma_machine.specs.declared.tags.tag.TagLimits.{TagLimits}
 use Rattle.busdma_machine.specs.Tags.Tag.{IsEffective}
 use Rattle.busdma_machine.specs.Machine.Wire.{Placed, Wire}
-use Rattle.busdma_base.specs.Scenarios.Buffers.{IsBioOf, IsBufferOf}
+use Rattle.busdma_base.specs.Scenarios.Buffers.{AreClustersFor, HasClusters, IsBioOf, IsBufferOf}
 use Rattle.busdma_base.specs.Scenarios.Operations.{about}
 use Rattle.busdma_base.specs.Scenarios.Valid.{LoadsFrom}
 use Rattle.loan_table.specs.contracts.position.Position as position
@@ -109,6 +113,7 @@ IsBufferOf-prop pages (buffer.Flat place len) = Unit-prop
 IsBufferOf-prop pages (buffer.Vector spans) = Unit-prop
 IsBufferOf-prop pages (buffer.Mbuf chain) = Unit-prop
 IsBufferOf-prop pages (buffer.Bio b) = IsBioOf-prop pages b
+IsBufferOf-prop pages (buffer.Send chain clusters) = Unit-prop
 
 loads-prop : (pages : List PageRun) (x : Option Buffer) → IsProp (IfSome x (IsBufferOf pages))
 loads-prop pages None = hlevel (props)
@@ -117,5 +122,35 @@ loads-prop pages (Some x) = IsBufferOf-prop pages x
 LoadsFrom-prop : (pages : List PageRun) (o : Op) → IsProp (LoadsFrom pages o)
 LoadsFrom-prop pages o = loads-prop pages (about o).loads
 
+after-prop : {A : Type 0} (P : List A → A → Type 0) → ((before : List A) (x : A) → IsProp (P before x)) →
+    (before xs : List A) → IsProp (EachAfter P before xs)
+after-prop P each before [] = Unit-prop
+after-prop P each before (x ∷ xs) = ×_prop (each before x) (after-prop P each (before ++ x ∷ []) xs)
+
+AreClustersFor-prop : (chain spans : List Span) → IsProp (AreClustersFor chain spans)
+AreClustersFor-prop chain spans = hlevel (props, AllByRecursion-prop, after-prop)
+
+some-clusters-prop : (chain : List Span) (x : Option (List Span)) → IsProp (IfSome x (AreClustersFor chain))
+some-clusters-prop chain None = hlevel (props)
+some-clusters-prop chain (Some spans) = AreClustersFor-prop chain spans
+
+HasClusters-prop : (x : Buffer) → IsProp (HasClusters x)
+HasClusters-prop (buffer.Flat place len) = Unit-prop
+HasClusters-prop (buffer.Vector spans) = Unit-prop
+HasClusters-prop (buffer.Mbuf chain) = Unit-prop
+HasClusters-prop (buffer.Bio b) = Unit-prop
+HasClusters-prop (buffer.Send chain clusters) = some-clusters-prop chain clusters
+
+of-buffer-prop : (x : Option Buffer) → IsProp (IfSome x HasClusters)
+of-buffer-prop None = hlevel (props)
+of-buffer-prop (Some x) = HasClusters-prop x
+
+of-op-prop : (o : Op) → IsProp (IfSome (about o).loads HasClusters)
+of-op-prop o = of-buffer-prop (about o).loads
+
+Judged-set : IsSet Judged
+Judged-set = Coded-set judged.the_row.coded
+
 pub IsInMachine-prop : (l : LaneState) → IsProp (IsInMachine l)
-IsInMachine-prop l = hlevel (props, AllByRecursion-prop, IsEffective-prop, LoadsFrom-prop)
+IsInMachine-prop l =
+    hlevel (props, AllByRecursion-prop, IsEffective-prop, LoadsFrom-prop, of-op-prop, Judged-set)

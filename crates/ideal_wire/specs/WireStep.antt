@@ -1,6 +1,6 @@
 -- What the steps of a driver make of its wire. Pages and the frames of memories come with any bytes, but with zeros
 -- where zeros were asked for. Those that go leave the wire, and nothing is said here of the bytes that they take along.
-use Rattle.std.specs.Prelude.{◌≡◌, ℕ, ◌+◌, ◌==◌, true, List, [], ◌∷◌, Option, Some, None, map, length, replicate}
+use Rattle.std.specs.Prelude.{◌≡◌, ℕ, ◌+◌, ◌==◌, Bool, true, false, List, [], ◌∷◌, Option, Some, None, map, length, replicate}
 use Rattle.std.specs.Prelude.{if◌then◌else◌, is_some, slice_get, unwrap_or}
 use Rattle.std.specs.Ordering.{nat_cmp}
 use Rattle.std.specs.FinMap.{FinMap, get}
@@ -22,12 +22,18 @@ use Rattle.lane_tables.specs.declared.queued.QueuedItem.{QueuedItem}
 use Rattle.loan_table.specs.Loans.{loan_of}
 use Rattle.ideal_lane.specs.State.{LaneState, LaneMap, LaneRing}
 use Rattle.ideal_lane.specs.Asking.{Asking, Gives, Asks}
-use Rattle.ideal_lane.specs.IdealMemory.{IdealMemory, Known}
-use Rattle.ideal_lane.specs.Outcomes.{Outcome, load_length}
+use Rattle.ideal_lane.specs.IdealMemory.{IdealMemory, Known, is_known}
+use Rattle.ideal_lane.specs.Outcomes.{Outcome, is_idle, load_length}
 use Rattle.ideal_lane.specs.Places.{virtual_at, bytes_at}
 use Rattle.ideal_lane.specs.Turns.{waits}
 use Rattle.ideal_lane.specs.Accesses as accesses
 use Rattle.ideal_lane.specs.Rings as rings
+use Rattle.ideal_lane.specs.Sends.{Send, chain_bytes, cluster_bytes, due_send}
+use Rattle.ideal_lane.specs.Loads.{load_judged}
+use Rattle.loan_table.specs.Access.{cpu_read_answer, cpu_write_answer}
+use Rattle.busdma_machine.specs.declared.machine.bio.Bio.TheVariants.{Vector}
+use Rattle.busdma_machine.specs.declared.report.Judged.{Judged}
+use Rattle.busdma_machine.specs.declared.report.Judged.TheVariants.{Fine, Refused}
 use Rattle.ideal_lane.specs.Syncs as syncs
 use Rattle.ideal_lane.specs.Unloads.{pages_of, segments_in}
 use Rattle.ring_device.specs.declared.descriptor.Descriptor.{Descriptor}
@@ -153,9 +159,36 @@ abbrev pub next_operation : Option Op → LaneState → Wire → Wire
 next_operation None l w = w
 next_operation (Some o) l w = if waits o l then w else operation o l w
 
+-- a step changes the wire, unless the judgement before it is a refusal
+abbrev pub if_fine : Judged → Wire → Wire → Wire
+if_fine Fine after w = after
+if_fine (Refused r) after w = w
+
+-- the clusters of a send have the bytes of its chain, in order
+abbrev pub copied : Send → LaneState → Wire → Wire
+copied s l w = put (cluster_bytes s l) (map w (chain_bytes s l)) w
+
+-- a map exists and is idle
+abbrev pub is_free : Option LaneMap → Bool
+is_free None = false
+is_free (Some o) = is_idle o.stage
+
+-- a resend that is not refused before has copied, however the load of the clusters ends
+abbrev pub resend : Send → LaneState → Wire → Wire
+resend s l w =
+    if is_free (get l.maps s.map) then (
+    if_fine (load_judged l s.map (Vector s.clusters)) (
+    if_fine (cpu_read_answer (is_known l.memory) l.loans (chain_bytes s l)) (
+    if_fine (cpu_write_answer l.loans (cluster_bytes s l)) (copied s l w) w) w) w) else w
+
+-- the resend that is due, or else the next operation
+abbrev pub due_turn : Option Send → LaneState → Wire → Wire
+due_turn None l w = next_operation (slice_get l.script l.place) l w
+due_turn (Some s) l w = resend s l w
+
 -- the turn of the script, in which pages go back first
 abbrev pub script_turn : List Return → LaneState → Wire → Wire
-script_turn [] l w = next_operation (slice_get l.script l.place) l w
+script_turn [] l w = due_turn (due_send l) l w
 script_turn (r ∷ rest) l w = w
 
 -- the first item of the transfer queue, if there is one

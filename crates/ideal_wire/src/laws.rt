@@ -41,6 +41,7 @@ ghost use Rattle.ideal_lane.specs.Agreement.{AgreesWith};
 ghost use Rattle.ideal_lane.specs.Asking.{by_reply};
 ghost use Rattle.ideal_lane.specs.Loads.{asked, chunks_for, finished, limits_of, load_addresses, load_judged};
 ghost use Rattle.ideal_lane.specs.Opening.{opening_lane};
+ghost use Rattle.ideal_lane.specs.Places.{physical};
 ghost use Rattle.ideal_lane.specs.Rings.{ring_of, ring_post, ring_step};
 ghost use Rattle.ideal_lane.specs.Standing.{Stands};
 ghost use Rattle.ideal_lane.specs.State.{LaneMap, LaneMemory, LaneRing, LaneState, Loaded};
@@ -72,7 +73,8 @@ pub fn opening_is_faithful()
 /// A step leaves a faithful wire faithful, where the driver stands, agrees with the account and has its
 /// loads laid, the address spaces of its IOMMU tags in order and their loads in their runs: whatever the
 /// reply to its call that brings no frames but new ones, and whatever bytes its pages bring, where the
-/// frames of a memory that come with zeros have zeros.
+/// frames of a memory that come with zeros have zeros. So does the resend of a send, in whose wire the
+/// clusters have the bytes of the chain.
 pub fn step_stays_faithful()
     ensures { (l : LaneState) (s : Side) (a : Account) (r : HubReply) (w w' : Wire) →
         Stands l → AgreesWith l a → AreLaid l → AreSpaced l → AreMapped l → IsFaithful l w → BringsNew l r →
@@ -100,6 +102,15 @@ pub fn reads_are_faithful()
         Stands l → AgreesWith l a → AreLaid l → IsFaithful l w → HeadIsRead r l w }
     ensures ring { (l : LaneState) (a : Account) (w : Wire) (k : ℕ) →
         Stands l → AgreesWith l a → AreLaid l → IsFaithful l w → NamedAreRead k l w }
+{}
+
+/// Different virtual bytes that a driver reaches, of its pages and of its memories, are different physical
+/// ones, where it stands, agrees with the account, lies in its machine and has its loads laid. So the
+/// clusters to which the resend of a send copies are written once each, and have all the bytes of the
+/// chain, though one byte may stand in a chain twice.
+pub fn bytes_are_reached_once()
+    ensures { (l : LaneState) (a : Account) (va vb pa : ℕ) → Stands l → AgreesWith l a → IsInMachine l → AreLaid l →
+        physical l va ≡ Some pa → physical l vb ≡ Some pa → va ≡ vb }
 {}
 
 /// What a driver holds lies apart, where it stands, agrees with the account and has its loads laid.
@@ -170,8 +181,9 @@ pub fn ring_steps_hand_back()
 /// obey the tag too, though the chunks of such a load are cut as if it had no alignment.
 /// So it is of the segments that a turn answers by the account's reply, where driver and account
 /// agree and the zones of maps serve their tags: it has ended a load in its own step, or at the
-/// callback of one that waited. The account is one that a sound history leads to. In all of this the
-/// driver stands, lies in its machine and has its loads laid.
+/// callback of one that waited, or by the resend of a send. Then they are the bytes of the send's
+/// clusters, which have the bytes that its chain had, in order. The account is one that a sound history
+/// leads to. In all of this the driver stands, lies in its machine and has its loads laid.
 pub fn accepted_loads_obey()
     ensures load { (l : LaneState) (m : ℕ) (o : LaneMap) (b : Bio) (load_at : ℕ) (nowait : Bool)
         (items : List Item) (pages : List ℕ) → Stands l → AreLaid l → IsInMachine l → IsBioOf l.pages b →
@@ -212,7 +224,8 @@ pub fn given_runs_are_new()
 {}
 
 /// A driver of a valid scenario opens in its machine, and a step leaves it there, whatever the reply
-/// to its call that brings no frames but new ones: its tags stay effective ones.
+/// to its call that brings no frames but new ones: its tags stay effective ones, and the bytes of the
+/// chain of a send may be loaded while its resend is due.
 pub fn steps_stay_in_machine()
     ensures opens { (s : Scenario) (i : ℕ) (driver : Driver) → IsValid s → slice_get s.drivers i ≡ Some driver →
         IsInMachine (opening_lane i (maxmem_of s.frames) driver) }

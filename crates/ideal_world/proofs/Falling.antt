@@ -49,7 +49,7 @@ step-falls s w actor e well = by (slice_get w.lanes actor.lane.0) refl
     by (Some l) f h =
         let d = well.each actor.lane.0 l f in
         driver-falls w actor.lane.0 l f (lane_step l actor.side) e
-        (turn-falls l actor.side w.account d.stands (fits s w well) d.agrees) h
+        (turn-falls l actor.side w.account d.stands d.machine.clusters (fits s w well) d.agrees) h
 
 -- ---- no step
 

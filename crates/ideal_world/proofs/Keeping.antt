@@ -168,7 +168,7 @@ module _ (s : Scenario) (w : WorldState) (well : IsWellFormed s w) where
     pub driver-keeps : (side : Side) → IsWellFormed s (replied w i l (lane_step l side)).world
     driver-keeps side = kept (lane_step l side) (record {
       later = λ r. (turn-own l side r).later;
-      falls = turn-falls l side w.account own.stands fits own.agrees;
+      falls = turn-falls l side w.account own.stands own.machine.clusters fits own.agrees;
       stands = turn-stands l side own.stands;
       may = turn-allowed l side w.account own.stands own.agrees;
       agrees = turn-kept l side w.account own.stands fits own.agrees;

@@ -2,6 +2,7 @@ pub mod Answering
 pub mod Calling
 pub mod Falling
 pub mod Few
+pub mod Finding
 pub mod Holding
 pub mod Keeping
 pub mod Lanes

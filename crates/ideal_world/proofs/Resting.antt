@@ -1,14 +1,18 @@
 -- Where each script has ended or awaits a map that waits, and no callback is to be called, no actor can step.
-use Rattle.std.proofs.Common.{◌≡◌, ℕ, true, Option, Some, None, if◌then◌else◌, refl, sym, subst, slice_get}
+use Rattle.std.proofs.Common.{◌≡◌, ℕ, Bool, true, false, Option, Some, None, if◌then◌else◌, refl, ap, sym, ◌∙◌, subst}
+use Rattle.std.proofs.Common.{slice_get}
+use Rattle.std.specs.Option.{option_and_then}
 use Rattle.std.proofs.lemmas.Bool.{leb-true}
 use Rattle.std.proofs.lemmas.Option.{slice_get_past}
 use Rattle.busdma_base.specs.declared.journals.journal.Side.{Side}
 use Rattle.busdma_base.specs.declared.journals.journal.Side.TheVariants as side
+use Rattle.busdma_base.specs.declared.scenarios.script.Op.{Op}
 use Rattle.busdma_base.specs.declared.scenarios.script.Op.TheVariants as op
 use Rattle.busdma_machine.specs.Bounce.AccountStep.{called_from}
 use Rattle.ideal_lane.specs.Asking.{Gives, goes_on}
 use Rattle.ideal_lane.specs.State.{LaneState}
-use Rattle.ideal_lane.specs.Turns.{Blocked, stays, operation, waits, advanced, next_operation, script_turn}
+use Rattle.ideal_lane.specs.Sends.{due_send, send_at, send_of}
+use Rattle.ideal_lane.specs.Turns.{Blocked, stays, due_turn, operation, waits, went_on, next_operation, script_turn}
 use Rattle.ideal_lane.specs.Turns.{transfer_turn, called_back, lane_step}
 use Rattle.ideal_world.specs.Ends.{IsAtRest}
 use Rattle.ideal_world.specs.Waiting.{IsAwaiting, EndsOrAwaits, HasEnded, Awaits, DriverAwaits, OnlyAwaits}
@@ -23,6 +27,19 @@ module _ (w : WorldState) (only : OnlyAwaits w) where
     awaited : (a : IsAwaiting w.account l) → waits (op.Await a.map) l ≡ true
     awaited a = rw (a.there, a.stage) refl
 
+    -- no send stands where the script has ended or awaits
+    nothing-due : (q : Option Op) → slice_get l.script l.place ≡ q → option_and_then send_of q ≡ None →
+        due_send l ≡ None
+    nothing-due q e none = by l.due
+      where
+        by : (b : Bool) → (if b then send_at l.script l.place else None) ≡ None
+        by true = ap (option_and_then send_of) e ∙ none
+        by false = refl
+
+    due : EndsOrAwaits w.account l → due_send l ≡ None
+    due (HasEnded e) = nothing-due None (slice_get_past l.script l.place (leb-true _ _ e)) refl
+    due (Awaits a) = nothing-due (Some (op.Await a.map)) a.operation refl
+
     next : EndsOrAwaits w.account l →
         entry_of (replied w i l (next_operation (slice_get l.script l.place) l)).turn ≡ None
     next (HasEnded e) =
@@ -31,11 +48,13 @@ module _ (w : WorldState) (only : OnlyAwaits w) where
     next (Awaits a) =
         subst (λ o. entry_of (replied w i l (next_operation o l)).turn ≡ None) (sym a.operation)
         (subst (λ b. entry_of (replied w i l (if b then Gives (stays Blocked l)
-        else goes_on (advanced l.place) (operation (op.Await a.map) l))).turn ≡ None) (sym (awaited a)) refl)
+        else goes_on (went_on (op.Await a.map) l.place) (operation (op.Await a.map) l))).turn
+        ≡ None) (sym (awaited a)) refl)
 
     rests : (s : Side) → entry_of (replied w i l (lane_step l s)).turn ≡ None
     rests side.Script =
-        subst (λ rs. entry_of (replied w i l (script_turn rs l)).turn ≡ None) (sym driver.returns) (next driver.script)
+        subst (λ rs. entry_of (replied w i l (script_turn rs l)).turn ≡ None) (sym driver.returns)
+        (subst (λ q. entry_of (replied w i l (due_turn q l)).turn ≡ None) (sym (due driver.script)) (next driver.script))
     rests side.Transfer =
         subst (λ qs. entry_of (replied w i l (transfer_turn qs l)).turn ≡ None) (sym driver.queue) refl
     rests side.Callback =

@@ -13,7 +13,7 @@ use Rattle.busdma_base.specs.declared.journals.journal.Side.TheVariants as side
 use Rattle.busdma_base.specs.declared.scenarios.scenario.Scenario.{Scenario}
 use Rattle.busdma_base.specs.declared.scenarios.script.Op.{Op}
 use Rattle.busdma_base.specs.declared.scenarios.script.Op.TheVariants as op
-use Rattle.busdma_machine.specs.Bounce.AccountStep.{called_from}
+use Rattle.busdma_machine.specs.Bounce.AccountStep.{account_step, called_from}
 use Rattle.lane_agreement.specs.OwnShare.{one_if}
 use Rattle.lane_agreement.specs.View as view
 use Rattle.lane_agreement.specs.View.{Return}
@@ -25,8 +25,10 @@ use Rattle.ideal_lane.specs.State.{LaneState, LaneMap, Stage, Idle, Waiting, Loa
 use Rattle.ideal_lane.specs.State.{WaitingLoad}
 use Rattle.ideal_lane.specs.Outcomes.{Outcome}
 use Rattle.ideal_lane.specs.Standing.{IsPageless}
-use Rattle.ideal_lane.specs.Turns.{Blocked, stays, operation, transfer, waits, waits_in, is_waiting, advanced}
-use Rattle.ideal_lane.specs.Turns.{left_queue, next_operation, script_turn, transfer_turn, called_back, lane_step}
+use Rattle.ideal_lane.specs.Sends.{Send, due_send, is_kept, resend, send_of}
+use Rattle.ideal_lane.specs.Turns.{Blocked, stays, operation, transfer, waits, waits_in, is_waiting, advanced, due_turn}
+use Rattle.ideal_lane.specs.Turns.{kept, left_queue, next_operation, resent, script_turn, transfer_turn, called_back}
+use Rattle.ideal_lane.specs.Turns.{lane_step, went_on}
 use Rattle.ideal_lane.specs.View.{view_of, own_map}
 use Rattle.ideal_lane.proofs.Views.{zoned}
 use Rattle.ideal_world.specs.Ends.{IsAtRest}
@@ -78,11 +80,24 @@ awaited l (op.Await m) none h =
     by false c e t = sym e ∙ t
 awaited l _ none h = absurd (cc)
 
--- an operation or an item that is done is a step
-advances : (w : WorldState) (i place : ℕ) (l : LaneState) (x : Asking Outcome) →
-    entry_of (replied w i l (goes_on (advanced place) x)).turn ≡ None → ⊥
-advances w i place l (Gives o) h = absurd (cc)
-advances w i place l (Asks c k) h = absurd (cc)
+-- an operation, a resend or an item that is done is a step
+went : (w : WorldState) (i : ℕ) (l : LaneState) (o : Op) (place : ℕ) (x : Outcome) →
+    entry_of (went_on o place x).turn ≡ None → ⊥
+went w i l o place x = by (is_kept (send_of o) x.answer)
+  where
+    by : (b : Bool) → entry_of (if b then kept place x else advanced place x).turn ≡ None → ⊥
+    by true h = absurd (cc)
+    by false h = absurd (cc)
+
+advances : (w : WorldState) (i : ℕ) (l : LaneState) (o : Op) (place : ℕ) (x : Asking Outcome) →
+    entry_of (replied w i l (goes_on (went_on o place) x)).turn ≡ None → ⊥
+advances w i l o place (Gives y) h = went w i l o place y h
+advances w i l o place (Asks c k) h = went w i l o place (k (account_step l.id c w.account).reply) h
+
+again : (w : WorldState) (i place : ℕ) (l : LaneState) (x : Asking Outcome) →
+    entry_of (replied w i l (goes_on (resent place) x)).turn ≡ None → ⊥
+again w i place l (Gives o) h = absurd (cc)
+again w i place l (Asks c k) h = absurd (cc)
 
 leaves : (w : WorldState) (i : ℕ) (l : LaneState) (q : QueuedItem) (rest : List QueuedItem) (x : Asking Outcome) →
     entry_of (replied w i l (goes_on (left_queue q rest) x)).turn ≡ None → ⊥
@@ -158,8 +173,16 @@ module _ (s : Scenario) (w : WorldState) (well : IsWellFormed s w) (rest : IsAtR
     returns : l.returns ≡ []
     returns = no-returns l.returns (no-turn side.Script)
 
+    -- no resend is due, as it would be a step
+    none-due : (q : Option Send) → entry_of (replied w i l (due_turn q l)).turn ≡ None →
+        entry_of (replied w i l (next_operation (slice_get l.script l.place) l)).turn ≡ None
+    none-due None h = h
+    none-due (Some s) h = absurd (again w i l.place l (resend s l) h)
+
     no-next : entry_of (replied w i l (next_operation (slice_get l.script l.place) l)).turn ≡ None
-    no-next = subst (λ rs. entry_of (replied w i l (script_turn rs l)).turn ≡ None) returns (no-turn side.Script)
+    no-next =
+        none-due (due_send l)
+        (subst (λ rs. entry_of (replied w i l (script_turn rs l)).turn ≡ None) returns (no-turn side.Script))
 
     -- the map that is awaited stands in its zone's waiting list
     in-list : (m : ℕ) → slice_get l.script l.place ≡ Some (op.Await m) → (x : WaitsWith (get l.maps m)) →
@@ -205,10 +228,10 @@ module _ (s : Scenario) (w : WorldState) (well : IsWellFormed s w) (rest : IsAtR
         by (Some o) e h = blocked (waits o l) refl h
           where
             blocked : (b : Bool) → waits o l ≡ b → entry_of (replied w i l
-                (if b then Gives (stays Blocked l) else goes_on (advanced l.place) (operation o l))).turn ≡ None →
+                (if b then Gives (stays Blocked l) else goes_on (went_on o l.place) (operation o l))).turn ≡ None →
                 EndsOrAwaits w.account l
             blocked true t g = awaits o e t
-            blocked false t g = absurd (advances w i l.place l (operation o l) g)
+            blocked false t g = absurd (advances w i l o l.place (operation o l) g)
 
     idle : DriverAwaits w.account l
     idle = record { returns = returns; queue = queue; script = script }

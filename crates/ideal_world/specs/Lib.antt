@@ -4,6 +4,7 @@ pub mod Ends
 pub mod Holds
 pub mod Left
 pub mod Legal
+pub mod Resends
 pub mod Waiting
 pub mod WellFormed
 pub mod Wires

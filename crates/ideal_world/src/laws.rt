@@ -17,6 +17,7 @@ ghost use Rattle.lane_agreement.specs.Agreement.{IsFit};
 ghost use Rattle.ideal_lane.specs.Accesses.{cpu_read, dev_read, dev_read_at, raw_bytes};
 ghost use Rattle.ideal_lane.specs.Agreement.{IsAllowed};
 ghost use Rattle.ideal_lane.specs.Reported.{gone_on};
+ghost use Rattle.ideal_lane.specs.Resends.{is_operation, is_resend};
 ghost use Rattle.ideal_lane.specs.State.{LaneRing, LaneState};
 ghost use Rattle.ideal_lane.specs.Turns.{lane_step};
 ghost use Rattle.ideal_wire.specs.RingSteps.{HeadIsRead, NamedAreRead};
@@ -27,6 +28,7 @@ ghost use Rattle.ideal_world.specs.Ends.{IsAtRest};
 ghost use Rattle.ideal_world.specs.Holds.{step_holds};
 ghost use Rattle.ideal_world.specs.Left.{left_of};
 ghost use Rattle.ideal_world.specs.Legal.{IsLegal, IsReplayed, Leads};
+ghost use Rattle.ideal_world.specs.Resends.{FindMaps, times_done};
 ghost use Rattle.ideal_world.specs.Waiting.{OnlyAwaits};
 ghost use Rattle.ideal_world.specs.WellFormed.{IsWellFormed};
 ghost use Rattle.ideal_world.specs.Wires.{AllFaithful, AreZero, Wires, WiresFollow};
@@ -127,9 +129,28 @@ pub fn each_load_is_called_once()
         Leads (opening_world s) entries end → times_called i place (opening_world s) entries ≤ 1 }
 {}
 
+/// Of the entries that lead on from the opening world of a scenario, as those of a legal journal do, at
+/// most one is the operation at a place of a driver's script, and at most one is the resend of the send
+/// there: no send is loaded a third time.
+pub fn no_send_has_a_third_load()
+    ensures first { (s : Scenario) (entries : List JournalEntry) (end : WorldState) (i place : ℕ) →
+        Leads (opening_world s) entries end → times_done (is_operation place) i entries ≤ 1 }
+    ensures again { (s : Scenario) (entries : List JournalEntry) (end : WorldState) (i place : ℕ) →
+        Leads (opening_world s) entries end → times_done (is_resend place) i entries ≤ 1 }
+{}
+
+/// A resend never answers that its bytes are more than the tag of its map allows, that its map does not
+/// exist or that it is busy: so it is of each entry of those that lead on from the opening world of a
+/// valid scenario, as those of a legal journal do.
+pub fn resends_find_their_map()
+    ensures { (s : Scenario) (entries : List JournalEntry) (end : WorldState) → IsValid s →
+        Leads (opening_world s) entries end → FindMaps entries }
+{}
+
 /// The segments that a step answers in a well-formed world are those of the load that it ends: they
-/// are the load's bytes, in order, and obey the map's tag. So it is of each entry of those that lead
-/// on from the opening world of a valid scenario, as those of a legal journal do.
+/// are the load's bytes, in order, and obey the map's tag. Those of a resend are the bytes of the send's
+/// clusters, which then have the bytes that its chain had, in order. So it is of each entry of those that
+/// lead on from the opening world of a valid scenario, as those of a legal journal do.
 pub fn journals_answer_loads()
     ensures step { (s : Scenario) (w : WorldState) (e : JournalEntry) → IsWellFormed s w →
         step_entry w e.actor ≡ Some e → AnswersLoad w e }

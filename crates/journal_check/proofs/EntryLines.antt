@@ -51,7 +51,7 @@ use Rattle.journal_check.specs.Lines.{lines}
 use Rattle.journal_check.specs.ReportLines.{entry_lines, closing_lines}
 use Rattle.journal_check.proofs.Lines.{lines-line, concat-lines}
 use Rattle.report_text.specs.Did.{did_text, script_of, name_at, map_name, object_text, object_name, item_at}
-use Rattle.report_text.specs.Did.{op_text as report_op, item_text as report_item}
+use Rattle.report_text.specs.Did.{again_text, op_text as report_op, item_text as report_item}
 use Rattle.report_text.specs.Answer.{answer_text}
 use Rattle.report_text.specs.Report.{side_letter, actor_text, entry_line}
 use Rattle.journal_check.proofs.Lines.{over, and-both}
@@ -163,6 +163,7 @@ op-high op.Load = refl
 op-high op.LoadVector = refl
 op-high op.LoadMbuf = refl
 op-high op.LoadBio = refl
+op-high op.Send = refl
 op-high op.Unload = refl
 op-high op.Sync = refl
 op-high op.SyncRange = refl
@@ -207,6 +208,14 @@ module _ (script : List Op) (names : EachAfter IsOp [] script) where
       (op-high (about o).word) (named-high o before h.0)
   op-line-high (o ∷ rest) before (suc place) h = op-line-high rest (before ++ o ∷ []) place h.1
 
+  again-line-high : (rest before : List Op) (place : ℕ) → EachAfter IsOp before rest →
+      over 31 (option_map_or (again_text script) (slice_get rest place) []) ≡ true
+  again-line-high [] before place h = refl
+  again-line-high (o ∷ rest) before zero h =
+      joined 31 (codes "resend") (object_text (option_map (object_name script) (object_of (about o)))) refl
+      (named-high o before h.0)
+  again-line-high (o ∷ rest) before (suc place) h = again-line-high rest (before ++ o ∷ []) place h.1
+
   item-line-high : (i : Option Item) → over 31 (option_map_or (report_item script) i []) ≡ true
   item-line-high None = refl
   item-line-high (Some i) =
@@ -219,6 +228,9 @@ pub did-high : (s : Scenario) (lane : LaneId) (d : Did) → IsValid s → over 3
 did-high s lane (did.Op place) valid =
     let own = script-high s.frames [] s.drivers lane.0 valid.drivers in
     op-line-high (script_of s lane) own (script_of s lane) [] place own
+did-high s lane (did.Again place) valid =
+    let own = script-high s.frames [] s.drivers lane.0 valid.drivers in
+    again-line-high (script_of s lane) own (script_of s lane) [] place own
 did-high s lane (did.Release map page) valid =
     let own = script-high s.frames [] s.drivers map.lane.0 valid.drivers in
     joined 31 (codes "release ") (map_name s map ++ (codes " " ++ hex page.0)) refl

@@ -50,8 +50,8 @@ use Rattle.lane_state.proofs.Places.{put-back}
 use Rattle.lane_state.proofs.Reading.{known-held}
 use Rattle.lane_state.proofs.Wires.{written_run}
 use Rattle.lane_access.specs.Ringing.{IsReadable}
-use Rattle.lane_access.proofs.OwnExtents.{own-inside, own-reads}
-use Rattle.lane_access.proofs.OwnWrites.{own-put, own-written}
+use Rattle.lane_access.proofs.OwnWrites.{own-written}
+use Rattle.lane_state.proofs.OwnBytes.{own-inside, own-put, own-reads}
 use Rattle.lane_access.proofs.Unbounced.{direct-buses, direct-faithful}
 
 -- ---- bytes that are Known

@@ -1,44 +1,28 @@
 -- What a write into a driver's own bytes makes of what it holds.
-use Rattle.std.proofs.Common.{◌≡◌, ℕ, ◌/◌, Bool, true, List, length, refl, sym, ap, ◌∙◌, subst}
+use Rattle.std.proofs.Common.{◌≡◌, ℕ, Bool, true, List, length, refl, sym, ◌∙◌, subst}
 use Rattle.std.specs.Ordering.{nat_cmp}
 use Rattle.std.specs.FinMap.{FinMap}
-use Rattle.busdma_machine.specs.Machine.Wire.{put, with_bytes_of}
+use Rattle.busdma_machine.specs.Machine.Wire.{put}
 use Rattle.loan_table.specs.Loans.{Loans}
 use Rattle.loan_table.specs.Table.{AreIn, set_all}
 use Rattle.phys_memory.specs.Memory.{Memory, wire}
-use Rattle.phys_memory.proofs.PageBytes.{IsNone, put_under}
 use Rattle.ideal_lane.specs.IdealMemory.{written}
 use Rattle.ideal_lane.specs.State.{LaneState}
 use Rattle.ideal_wire.specs.Centre.{IsFaithful}
-use Rattle.ideal_wire.proofs.Reaching.{all-from}
 use Rattle.lane_state.specs.declared.holdings.Holdings.{Holdings}
 use Rattle.lane_state.specs.Changes.{with_written}
 use Rattle.lane_state.specs.Held.{devices_of, held}
 use Rattle.lane_state.specs.Ideal.{ideal_of}
-use Rattle.lane_state.specs.Wire.{IsWired, held_pages, wire_of}
-use Rattle.lane_state.proofs.Changing.{held-put}
+use Rattle.lane_state.specs.Wire.{IsWired, wire_of}
 use Rattle.lane_state.proofs.HeldMemory.{AreMarks, held-is}
-use Rattle.lane_state.proofs.Lying.{own-mine, own-none}
 use Rattle.lane_state.proofs.MarkedMemory.{marks-held, marks-written, own-marks}
 use Rattle.lane_state.proofs.Marks.{has_set_all}
-use Rattle.lane_access.proofs.OwnExtents.{inside-own}
+use Rattle.lane_state.proofs.OwnBytes.{own-put}
 
 module _ (h : Holdings) (wired : IsWired h) (pas vs : List ℕ) (inside : AreIn h.loans.bytes pas) (n : Memory)
     (wires-are : wire n ≡ put pas vs (wire h.memory.memory)) where
   abbrev l : LaneState
   l = ideal_of h
-
-  -- the wire has the bytes at their addresses
-  pub own-put : with_bytes_of (held_pages h.maps.map) (wire n) ≡ put pas vs (wire_of h)
-  own-put =
-      held-put l wired.laid wired.apart h.maps.map refl h.unlent h.maps.map h.memory.memory n 0 (λ q ne. refl)
-      (λ f x. x) pas vs
-      (λ i a at. own-mine l wired.laid wired.apart h.maps.map refl h.unlent 0 a (inside-own h pas inside i a at))
-      (ap (with_bytes_of (devices_of h.maps.map 0).pages) wires-are
-      ∙ put_under (devices_of h.maps.map 0).pages pas vs (wire h.memory.memory)
-      (all-from (λ a. IsNone (devices_of h.maps.map 0).pages (a / 4096)) pas
-      (λ i a at.
-      own-none l wired.laid wired.apart h.maps.map refl h.unlent a (inside-own h pas inside i a at) 0)))
 
   -- what is held then is what was written, where the bytes are marked
   pub own-written : IsFaithful (with_written pas vs l) (put pas vs (wire_of h)) → length pas ≡ length vs →
@@ -53,7 +37,7 @@ module _ (h : Holdings) (wired : IsWired h) (pas vs : List ℕ) (inside : AreIn 
       let is : held bytes loans (devices_of h.maps.map) n ≡ written pas vs l.memory =
       (λ i. held (marked i) (same i) (devices_of h.maps.map) n)
       ∙ held-is l wired.laid wired.apart h.maps.map refl h.unlent n (written pas vs l.memory) h.loans.loans
-      (subst (IsFaithful (with_written pas vs l)) (sym own-put) stays)
+      (subst (IsFaithful (with_written pas vs l)) (sym (own-put h wired pas vs inside n wires-are)) stays)
       (λ k. refl)
       (λ a mine. sym (own-marks h.loans.bytes (set_all h.loans.bytes pas true) l.memory (written pas vs l.memory)
       marks now

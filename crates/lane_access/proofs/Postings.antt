@@ -14,6 +14,7 @@ use Rattle.busdma_machine.specs.declared.report.ReportName.TheVariants.{Absent}
 use Rattle.busdma_machine.specs.Machine.Wire.{Wire, put}
 use Rattle.ring_device.specs.declared.descriptor.Descriptor.{Descriptor}
 use Rattle.ring_device.specs.Descriptors.{descriptor_bytes}
+use Rattle.ring_device.specs.Ends.{EndsLow}
 use Rattle.ring_device.specs.Ranges.{address_of}
 use Rattle.ideal_lane.specs.Accesses.{cpu_write}
 use Rattle.ideal_lane.specs.Asking.{Asking}
@@ -43,7 +44,7 @@ use Rattle.lane_state.specs.Kept.{device_in}
 use Rattle.lane_state.specs.Wire.{IsWired}
 use Rattle.lane_state.proofs.Devices.{bytes-long, is-reached}
 use Rattle.lane_access.specs.declared.posts.Posting.{Posting}
-use Rattle.lane_access.specs.Ringing.{EndsLow, IsPosted, IsUnposted}
+use Rattle.lane_access.specs.Ringing.{IsPosted, IsUnposted}
 use Rattle.lane_access.proofs.DeviceReads.{ends, loads}
 
 module _ (l : LaneState) (k : ℕ) (p : Posting) where

@@ -41,7 +41,7 @@ use Rattle.lane_access.specs.Raw.{lent_refusal, refusal_of, unlent_of}
 use Rattle.lane_state.specs.Wire.{IsWired, wire_of}
 use Rattle.lane_state.proofs.Keeping.{told-some}
 use Rattle.lane_state.proofs.MapValues.{image-none, image-some}
-use Rattle.lane_access.proofs.OwnExtents.{own-inside}
+use Rattle.lane_state.proofs.OwnBytes.{own-inside}
 use Rattle.lane_access.proofs.RawJudging.{run-at, run-get}
 use Rattle.lane_access.proofs.RawLoads.{found-by, raw-own}
 use Rattle.lane_state.proofs.Reading.{passes, refused}

@@ -10,6 +10,7 @@ use Rattle.busdma_base.specs.declared.journals.answer.Answer.TheVariants as answ
 use Rattle.busdma_base.specs.declared.scenarios.script.Bytes.TheVariants as bytes
 use Rattle.busdma_base.specs.declared.scenarios.script.Item.TheVariants as item
 use Rattle.busdma_machine.specs.declared.bounce.hold.HubReply.TheVariants.{Nothing}
+use Rattle.busdma_machine.specs.declared.machine.bio.Bio.TheVariants.{Vector}
 use Rattle.busdma_machine.specs.declared.report.Judged.TheVariants.{Fine}
 use Rattle.busdma_machine.specs.declared.report.ReportName.TheVariants.{DeviceReadUnlent, StaleByte}
 use Rattle.busdma_machine.specs.Judging.{judged, refused_or}
@@ -39,6 +40,7 @@ use Rattle.ideal_wire.specs.WireStep.{if_done, load_buses, used_wire}
 use Rattle.ideal_wire.proofs.Calls.{dev_write-faithful}
 use Rattle.ideal_wire.proofs.KeptSpaces.{touches-spaced}
 use Rattle.ideal_wire.proofs.MappedTurns.{touches-mapped}
+use Rattle.ideal_wire.proofs.SameBytes.{judged-same}
 use Rattle.ideal_wire.proofs.StillLaid.{touches-laid}
 use Rattle.ideal_wire.proofs.Wiring.{own-written}
 use Rattle.lane_state.specs.declared.holdings.Holdings.{Holdings}
@@ -170,6 +172,9 @@ module _ (h k : Holdings) (wired : IsWired h) (stands : Stands (ideal_of h)) (m 
       mems = wired.machine.mems;
       tags = wired.machine.tags;
       bios = wired.machine.bios;
+      clusters = wired.machine.clusters;
+      unlike = wired.machine.unlike;
+      due = λ s e. judged-same before after refl refl s.map (Vector s.chain) ∙ wired.machine.due s e;
     });
     laid = touches-laid before wired.laid made;
     apart = subst IsApart same (record {

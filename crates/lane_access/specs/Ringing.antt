@@ -1,9 +1,8 @@
 -- Steps of a ring's device and postings to a ring, by what a driver holds.
-use Rattle.std.specs.Prelude.{◌≡◌, ℕ, ◌+◌, ◌^◌, ◌<◌, ◌≤◌, true, false, List, Option, Some, None, if◌then◌else◌, slice_get}
+use Rattle.std.specs.Prelude.{◌≡◌, ℕ, ◌+◌, ◌≤◌, true, false, List, Option, Some, None, if◌then◌else◌, slice_get}
 use Rattle.std.specs.FinMap.{get}
 use Rattle.std.specs.Option.{option_map}
 use Rattle.busdma_base.specs.declared.journals.answer.Answer.TheVariants as answer
-use Rattle.busdma_machine.specs.declared.machine.address.Segment.{Segment}
 use Rattle.busdma_machine.specs.declared.report.Judged.TheVariants.{Fine}
 use Rattle.busdma_machine.specs.declared.report.Report.{Report}
 use Rattle.loan_table.specs.Access.{dev_read_answer}
@@ -71,10 +70,6 @@ IfAt (Refused r) P = Unit {0}
 IfAt (At c) P = P c
 
 -- What is posted
-
--- a segment that has a byte ends at or below 2^64
-abbrev pub EndsLow : Segment → Type 0
-EndsLow s = 0 < s.len → s.addr.0 + s.len ≤ 2 ^ 64
 
 -- a map may be posted to a ring, and its range has this descriptor
 pub record IsPosted (l : LaneState) (r : LaneRing) (p : Posting) (d : Descriptor) : Type 0 where

@@ -2,10 +2,6 @@
 
 ghost use Rattle.std.specs.Prelude.{◌≡◌, ◌≤◌, ◌+◌, true, false, length, IfOk, IfSome, IfNone, OnErr};
 ghost use Rattle.std.specs.FinMap.{get};
-ghost use Rattle.std.specs.List.{AllByRecursion};
-ghost use Rattle.std.specs.Option.{option_map};
-ghost use Rattle.busdma_machine.specs.declared.machine.address.Pa.{Pa as Address};
-ghost use Rattle.ring_device.specs.Ranges.{address_of};
 ghost use Rattle.ideal_lane.specs.Asking.{Gives};
 ghost use Rattle.ideal_lane.specs.Rings as rings;
 ghost use Rattle.ideal_lane.specs.Rings.{is_work};
@@ -15,12 +11,12 @@ ghost use Rattle.lane_state.specs.Covered.{has_load};
 ghost use Rattle.lane_state.specs.Ideal.{given, ideal_of};
 ghost use Rattle.lane_state.specs.Kept.{ring_of};
 ghost use Rattle.lane_state.specs.Wire.{IsWired, wire_of};
-ghost use Rattle.lane_access.specs.Ringing.{EndsLow, IsPosted, IsUnposted};
+ghost use Rattle.lane_access.specs.Ringing.{IsPosted, IsUnposted};
 
 use crate::accesses::{cpu_write, past_end, unloaded};
-use busdma_base::{Answer, Errno, ItemList, Pa, Place, ReportName, Segment};
+use busdma_base::{Answer, Errno, ItemList, Place, ReportName};
 use lane_state::{Holdings, KeptRing, report};
-use ring_device::Descriptor;
+use ring_device::{Descriptor, address_of};
 use std::alloc::{AllocError, Global};
 
 /// What is posted to a slot of a ring: the `len` bytes of a map's load from `off` on, whether the device shall read
@@ -92,7 +88,7 @@ fn descriptor_of(holdings: &Holdings<'_>, ring: KeptRing, posting: Posting) -> O
         return None;
     }
     let kept = holdings.maps.get(posting.map)?;
-    let addr = bus_address(kept.map.segments(), posting.off, posting.len)?;
+    let addr = address_of(kept.map.segments(), posting.off, posting.len)?;
     Some(Descriptor {
         addr: addr.0,
         len: posting.len as u32,
@@ -101,25 +97,6 @@ fn descriptor_of(holdings: &Holdings<'_>, ring: KeptRing, posting: Posting) -> O
         owner: 1,
         status: 0,
     })
-}
-
-/// The bus address of the byte `off` of a load, or None where the segment that has the byte does not have all of the
-/// `len` bytes from there on, or where no segment has it. A segment that has a byte ends at or below 2^64.
-fn bus_address(segments: &[Segment], off: u64, len: u64) -> Option<Pa>
-    requires { AllByRecursion EndsLow segments.now }
-    ensures { option_map (λ (pa : Address). pa.0) result ≡ address_of off len segments.now }
-{
-    let mut inside = off;
-    for segment in segments {
-        if inside < segment.len {
-            if len <= segment.len - inside {
-                return Some(Pa(segment.addr.0 + inside));
-            }
-            return None;
-        }
-        inside -= segment.len;
-    }
-    None
 }
 
 /// Whether a device can be told this: to read or to fill, and one to 4096 bytes.

@@ -29,7 +29,7 @@ use crate::posts::is_work;
 use busdma_base::{Answer, Errno, Judged, Pa, Report, ReportName};
 use lane_state::{Holdings, KeptMap, KeptMemory, KeptRing, report};
 use phys_memory::LanePages;
-use ring_device::{Descriptor, find};
+use ring_device::Descriptor;
 use std::alloc::{AllocError, Global};
 
 /// A map, and the place in its load of the bytes that a descriptor names.
@@ -173,7 +173,7 @@ fn candidate_in(
     if map == own || holdings.is_device(map) {
         return None;
     }
-    let off = find(kept.map.segments(), descriptor.addr, descriptor.len as u64)?;
+    let off = kept.map.find(descriptor.addr, descriptor.len as u64)?;
     Some(Candidate { map, off })
 }
 

@@ -4,6 +4,7 @@ use Rattle.std.proofs.Common.{if◌then◌else◌, is_some, refl, ap, sym, ◌�
 use Rattle.busdma_machine.specs.declared.bounce.hold.HubReply.{HubReply}
 use Rattle.busdma_machine.specs.declared.bounce.hold.HubReply.TheVariants.{Nothing}
 use Rattle.busdma_base.specs.declared.journals.answer.Answer.{Answer}
+use Rattle.busdma_machine.specs.declared.machine.bio.Bio.TheVariants.{Vector}
 use Rattle.busdma_machine.specs.declared.report.ReportName.TheVariants.{Absent}
 use Rattle.busdma_machine.specs.declared.name.MapId.{MapId}
 use Rattle.busdma_base.specs.declared.scenarios.script.Place.{Place}
@@ -35,6 +36,7 @@ use Rattle.ideal_wire.specs.WireStep.{IsRead, Reads, place_bytes}
 use Rattle.ideal_wire.proofs.KeptSpaces.{touches-spaced}
 use Rattle.ideal_wire.proofs.MappedTurns.{touches-mapped}
 use Rattle.ideal_wire.proofs.Calls.{cpu_write-faithful, dev_write-faithful, dev_write_at-faithful, sync-faithful, sync_range-faithful}
+use Rattle.ideal_wire.proofs.SameBytes.{judged-same}
 use Rattle.ideal_wire.proofs.StillLaid.{touches-laid}
 use Rattle.ideal_wire.proofs.Wiring.{own-forgotten, own-written, cpu_read-reads as reads}
 use Rattle.lane_state.specs.declared.holdings.Holdings.{Holdings}
@@ -91,6 +93,7 @@ pub record IsCalledOn (h k : Holdings) : Type 0 where
   pub wired : IsWired k
   pub ahead : items_ahead (ideal_of k) ≡ items_ahead (ideal_of h)
   pub maps : (ideal_of k).maps ≡ (ideal_of h).maps
+  pub due : k.due ≡ h.due
 
 module _ (h k : Holdings) (wired : IsWired h) (stands : Stands (ideal_of h)) (x : Answer) where
   abbrev l : LaneState
@@ -104,15 +107,13 @@ module _ (h k : Holdings) (wired : IsWired h) (stands : Stands (ideal_of h)) (x 
     touched : IsTouched l (ideal_of k)
     touched = is-touched call made
 
-    back : record l { memory = (ideal_of k).memory; loans = (ideal_of k).loans; shares = (ideal_of k).shares } ≡
-        ideal_of k
+    abbrev with_changes : LaneState
+    with_changes = record l { memory = (ideal_of k).memory; loans = (ideal_of k).loans; shares = (ideal_of k).shares }
+
+    back : with_changes ≡ ideal_of k
     back = sym touched.rest
 
-    apart : IsApart (record l {
-      memory = (ideal_of k).memory;
-      loans = (ideal_of k).loans;
-      shares = (ideal_of k).shares;
-    })
+    apart : IsApart with_changes
     apart = record {
       away = λ m i page a holds inside. touched.own a ∙ wired.apart.away m i page a holds inside;
       one = wired.apart.one;
@@ -120,17 +121,16 @@ module _ (h k : Holdings) (wired : IsWired h) (stands : Stands (ideal_of h)) (x 
       memories = wired.apart.memories;
     }
 
-    machine : IsInMachine (record l {
-      memory = (ideal_of k).memory;
-      loans = (ideal_of k).loans;
-      shares = (ideal_of k).shares;
-    })
+    machine : IsInMachine with_changes
     machine = record {
       numbered = wired.machine.numbered;
       pages = wired.machine.pages;
       mems = wired.machine.mems;
       tags = wired.machine.tags;
       bios = wired.machine.bios;
+      clusters = wired.machine.clusters;
+      unlike = wired.machine.unlike;
+      due = λ s e. judged-same l with_changes refl refl s.map (Vector s.chain) ∙ wired.machine.due s e;
     }
 
     called-on : IsCalledOn h k
@@ -147,6 +147,7 @@ module _ (h k : Holdings) (wired : IsWired h) (stands : Stands (ideal_of h)) (x 
       };
       ahead = ap items_ahead touched.rest;
       maps = ap (λ (x : LaneState). x.maps) touched.rest;
+      due = ap (λ (x : LaneState). x.due) touched.rest;
     }
 
   pub synced : (m ops : ℕ) → Gives (given k x) ≡ sync m ops l → wire_of k ≡ wires.sync m ops l (wire_of h) →
@@ -197,6 +198,7 @@ kept-on h k wired s = record {
   wired = kept-wired h k s wired;
   ahead = ap items_ahead s.ideal;
   maps = ap (λ (x : LaneState). x.maps) s.ideal;
+  due = ap (λ (x : LaneState). x.due) s.ideal;
 }
 
 module _ {E : Type 0} (h k : Holdings) (wired : IsWired h) (stands : Stands (ideal_of h)) where
@@ -251,8 +253,8 @@ called-lane h k lane on script agenda =
     record {
       wired = on.wired;
       stands = ∣ on.stands (stands-of (ideal_of h) lane.stands) ∣₁;
-      small = small-same h k lane.small (ap (λ s. s.now) script) (ap (λ a. a.place) agenda) (omega (arith, promised))
-          (maps-promise h k promised on.maps);
+      small = small-same h lane.small k (ap (λ s. s.now) script) (ap (λ a. a.place) agenda) on.due
+          (omega (arith, promised)) (maps-promise h k promised on.maps);
       length = ap (λ a. a.length) agenda ∙ lane.length ∙ sym (ap (λ s. length s.now) script);
       room = omega (arith, ahead, room, same);
     }

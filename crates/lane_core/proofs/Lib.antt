@@ -5,6 +5,7 @@ mod KeepsWired
 mod LaneCalls
 mod LoadsAt
 mod MadeTurns
+mod OneByte
 mod OneStanding
 mod OpeningLane
 mod OpeningPages

@@ -14,7 +14,6 @@ use Rattle.busdma_base.specs.declared.scenarios.script.Op.TheVariants.{Load}
 use Rattle.busdma_base.specs.Scenarios.PageRuns.{has_frame}
 use Rattle.busdma_base.specs.Scenarios.Buffers.{IsBioOf, IsBufferOf, buffer_bytes}
 use Rattle.busdma_base.specs.Scenarios.Limits.{buffer_limit}
-use Rattle.busdma_base.specs.Scenarios.Operations.{loaded_by}
 use Rattle.busdma_base.specs.Scenarios.Valid.{LoadsFrom}
 use Rattle.load_bio.specs.Bio.{IsBio}
 use Rattle.load_bio.specs.Frames.{AreFrames}
@@ -24,7 +23,7 @@ use Rattle.ideal_lane.specs.State.{LaneState}
 use Rattle.ideal_lane.specs.Turns.{bio_at, flat_bio}
 use Rattle.ideal_wire.specs.Machine.{IsInMachine, IsOfMachine}
 use Rattle.lane_state.specs.declared.holdings.Holdings.{Holdings}
-use Rattle.lane_state.specs.SmallLoads.{HasSmallLoads}
+use Rattle.lane_state.specs.SmallLoads.{HasSmallLoads, loaded_once}
 use Rattle.lane_state.specs.Ideal.{ideal_of}
 use Rattle.lane_state.specs.Loading.{IsLoadable, bio_bytes}
 
@@ -43,6 +42,7 @@ bytes-is l (buffer.Flat place len) b e = by (virtual_at l place) e
 bytes-is l (buffer.Vector spans) b e = sym (ap (λ o. bio_bytes (bio_in o)) e)
 bytes-is l (buffer.Mbuf chain) b e = sym (ap (λ o. bio_bytes (bio_in o)) e)
 bytes-is l (buffer.Bio c) b e = sym (ap (λ o. bio_bytes (bio_in o)) e)
+bytes-is l (buffer.Send chain clusters) b e = sym (ap (λ o. bio_bytes (bio_in o)) e)
 
 -- and its frames
 own-is : (pages : List PageRun) (l : LaneState) (x : Buffer) (b : Bio) → bio_at l x ≡ Some b →
@@ -56,6 +56,7 @@ own-is pages l (buffer.Flat place len) b e h = by (virtual_at l place) e
 own-is pages l (buffer.Vector spans) b e h = subst (IsBioOf pages) (ap bio_in e) tt
 own-is pages l (buffer.Mbuf chain) b e h = subst (IsBioOf pages) (ap bio_in e) tt
 own-is pages l (buffer.Bio c) b e h = subst (IsBioOf pages) (ap bio_in e) h
+own-is pages l (buffer.Send chain clusters) b e h = subst (IsBioOf pages) (ap bio_in e) tt
 
 -- what is true of all is true of each
 all-at : {X : Type 0} (P : X → Type 0) (xs : List X) (p : ℕ) (x : X) → AllByRecursion P xs →
@@ -96,7 +97,7 @@ pub loadable-at : (h : Holdings) (p m : ℕ) (x : Buffer) (flags : ℕ) (items :
     slice_get h.script.now p ≡ Some (Load m x flags items) → bio_at (ideal_of h) x ≡ Some b →
     IsInMachine (ideal_of h) → HasSmallLoads h → IsLoadable h.pages.now b
 loadable-at h p m x flags items b here named machine small =
-    let few : loaded_by (Load m x flags items) ≤ buffer_limit = small.each p _ here in
+    let few : loaded_once (Load m x flags items) ≤ buffer_limit = small.each p _ here in
     let bytes = bytes-is (ideal_of h) x b named in
     let from : LoadsFrom h.pages.now (Load m x flags items) =
     all-at (LoadsFrom h.pages.now) h.script.now p (Load m x flags items) machine.bios here in

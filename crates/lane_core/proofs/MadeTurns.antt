@@ -11,14 +11,14 @@ use Rattle.ideal_wire.specs.WireStep.{Follows}
 use Rattle.ideal_wire.specs.WireStep as wires
 use Rattle.lane_state.specs.declared.holdings.Holdings.{Holdings}
 use Rattle.lane_core.specs.declared.turn.Turn.{Turn}
-use Rattle.lane_state.specs.Changes.{IsWireOf, Becomes, Stays, WithMemory, KeepsState}
+use Rattle.lane_state.specs.Changes.{IsWireOf, Becomes, Copies, Stays, WithMemory, KeepsState}
 use Rattle.lane_state.specs.Doing.{IsUndone}
 use Rattle.lane_state.specs.Ideal.{ideal_of}
 use Rattle.lane_state.specs.Served.{IsServed}
 use Rattle.lane_core.specs.Turning.{IsTurnOf, IsReady, is_held, turned}
 use Rattle.lane_state.specs.Wire.{wire_of}
 use Rattle.lane_core.proofs.KeepsWired.{kept-wired}
-use Rattle.lane_core.proofs.TurnEnds.{end-beside, end-bounded, end-follows, end-known, end-served, end-stands}
+use Rattle.lane_core.proofs.TurnEnds.{end-beside, end-bounded, end-copies, end-follows, end-known, end-served, end-stands}
 use Rattle.lane_core.proofs.TurnEnds.{end-wired}
 
 module _ (h k : Holdings) (d e : Seen) (s : Side) (t : Turn) (ready : IsReady h d) (made : IsTurnOf h k d e s t) where
@@ -33,6 +33,9 @@ module _ (h k : Holdings) (d e : Seen) (s : Side) (t : Turn) (ready : IsReady h 
   end-wire (Stays memories plain keeps) =
       end-follows h k s d e ready.stands ready.wired ready.served (turned k t) (is_held t) made.done refl memories keeps
       (wires.lane_step (ideal_of h) s (wire_of h)) plain
+  end-wire (Copies from to memories plain keeps) =
+      end-copies h k s d e ready.stands ready.wired ready.served (turned k t) (is_held t) made.done refl memories from to
+      keeps (wires.lane_step (ideal_of h) s (wire_of h)) plain
   end-wire (WithMemory plain keeps) =
       end-beside h k s d e ready.stands ready.wired ready.served (turned k t) (is_held t) made.done refl keeps
       (wires.lane_step (ideal_of h) s (wire_of h)) plain

@@ -6,9 +6,11 @@ use Rattle.std.specs.Ordering.{nat_cmp}
 use Rattle.busdma_base.specs.declared.scenarios.scenario.Driver.{Driver}
 use Rattle.busdma_base.specs.Scenarios.PageRuns.{is_own}
 use Rattle.busdma_machine.specs.Machine.Wire.{with_bytes_of}
+use Rattle.busdma_base.specs.Scenarios.Script.{IsScript}
 use Rattle.busdma_base.specs.Scenarios.Valid.{LoadsFrom}
 use Rattle.phys_memory.specs.Memory.{wire}
 use Rattle.ideal_lane.specs.Opening.{opening_lane}
+use Rattle.ideal_lane.specs.Sends.{Send, due_send}
 use Rattle.ideal_lane.specs.State.{LaneMemory}
 use Rattle.ideal_lane.specs.Unloads.{pages_of}
 use Rattle.ideal_wire.specs.Apart.{HoldsPage, IsApart}
@@ -25,7 +27,9 @@ use Rattle.lane_state.specs.declared.holdings.Holdings.{Holdings}
 use Rattle.lane_state.specs.declared.kept.KeptMap.{KeptMap}
 use Rattle.lane_state.specs.Ideal.{ideal_of}
 use Rattle.lane_state.specs.Kept.{device_of}
+use Rattle.lane_state.specs.OpeningMemory.{ArePages}
 use Rattle.lane_state.specs.Wire.{IsWired, held_pages, wire_of}
+use Rattle.lane_core.proofs.OneByte.{have-clusters, page-once}
 use Rattle.lane_state.proofs.MapValues.{entries-empty}
 
 module _ (id maxmem : ℕ) (driver : Driver) where
@@ -45,26 +49,33 @@ module _ (id maxmem : ℕ) (driver : Driver) where
     memories = λ j k a x y there too h g. no-memory j x there;
   }
 
-  opens-in-machine : maxmem ≤ 2 ^ 30 → AllByRecursion (IsOfMachine maxmem) driver.pages →
-      AllByRecursion (LoadsFrom driver.pages) driver.script → IsInMachine (opening_lane id maxmem driver)
-  opens-in-machine numbered inside bios = record {
+  no-send : {A : Type 0} (s : Send) → due_send (opening_lane id maxmem driver) ≡ Some s → A
+  no-send s e = absurd (cc)
+
+  opens-in-machine : IsScript driver.script → ArePages driver.pages → maxmem ≤ 2 ^ 30 →
+      AllByRecursion (IsOfMachine maxmem) driver.pages → AllByRecursion (LoadsFrom driver.pages) driver.script →
+      IsInMachine (opening_lane id maxmem driver)
+  opens-in-machine script pages numbered inside bios = record {
     numbered = numbered;
     pages = inside;
     mems = λ k x h. no-memory k x h;
     tags = λ k t h. (let none : None ≡ Some t = sym (get-empty nat_cmp k) ∙ h in absurd (cc));
     bios = bios;
+    clusters = have-clusters [] driver.script script.each;
+    unlike = page-once [] driver.pages pages;
+    due = λ s e. no-send s e;
   }
 
   pub opens-wired : (h : Holdings) → ideal_of h ≡ opening_lane id maxmem driver → h.maps.map ≡ empty →
-      ((a : ℕ) → is_own driver.pages a ≡ true → wire h.memory.memory a ≡ 0) → maxmem ≤ 2 ^ 30 →
-      AllByRecursion (IsOfMachine maxmem) driver.pages → AllByRecursion (LoadsFrom driver.pages) driver.script →
-      IsWired h
-  opens-wired h is mapless zeros numbered inside bios =
+      ((a : ℕ) → is_own driver.pages a ≡ true → wire h.memory.memory a ≡ 0) → IsScript driver.script →
+      ArePages driver.pages → maxmem ≤ 2 ^ 30 → AllByRecursion (IsOfMachine maxmem) driver.pages →
+      AllByRecursion (LoadsFrom driver.pages) driver.script → IsWired h
+  opens-wired h is mapless zeros script pages numbered inside bios =
       let none : held_pages h.maps.map ≡ [] =
       ap held_pages mapless ∙ ap (flat_map (λ (e : ℕ × KeptMap). (device_of (Some e.1)).pages)) entries-empty in
       let back : opening_lane id maxmem driver ≡ ideal_of h = sym is in
       record {
-        machine = subst IsInMachine back (opens-in-machine numbered inside bios);
+        machine = subst IsInMachine back (opens-in-machine script pages numbered inside bios);
         laid = subst AreLaid back (opens-laid id maxmem driver);
         apart = subst IsApart back opens-apart;
         spaced = subst AreSpaced back (opens-spaced id maxmem driver);

@@ -146,6 +146,15 @@ touched-maps (RawWrites t addr bs g there fine) = refl
 touched-maps (Posts k slot m off len kind fill r ring o there i may va at reaches fine) = refl
 touched-maps (Fetches k f) = refl
 
+touched-due : {l : LaneState} {d : Work} {x : Outcome} → Touches l d x → x.lane.due ≡ l.due
+touched-due (Same a q u) = refl
+touched-due (Syncs m off len ops is o there i alone fine) = refl
+touched-due (Writes place bs va at reaches fine) = refl
+touched-due (DeviceWrites m off bs o there i fine) = refl
+touched-due (RawWrites t addr bs g there fine) = refl
+touched-due (Posts k slot m off len kind fill r ring o there i may va at reaches fine) = refl
+touched-due (Fetches k f) = refl
+
 module _ (l : LaneState) (stands : Stands l) where
   fresh : get l.maps l.place ≡ None
   fresh = stands.no_map l.place (omega arith)
@@ -210,3 +219,8 @@ pub either-promise : {E : Type 0} (h k : Holdings) → Stands (ideal_of h) → (
 either-promise h k stands o d e (Ok x) done err still same =
     done-promise h k stands o x.answer d e done still (ap (λ a. a.promised) same)
 either-promise h k stands o d e (Err x) done err still same = state-promise h k (ap (λ a. a.promised) same) err
+
+-- a resend is due after an item as before
+pub item-due : (h k : Holdings) (i : Item) (a : Answer) → Gives (given k a) ≡ transfer i (ideal_of h) → k.due ≡ h.due
+item-due h k i a done =
+    touched-due (subst (Only (ideal_of h) (Transfer i)) (sym done) (transfer-touches (ideal_of h) i))

@@ -7,6 +7,7 @@ use Rattle.busdma_base.specs.declared.journals.answer.Answer.{Answer}
 use Rattle.busdma_base.specs.declared.journals.answer.Answer.TheVariants as answer
 use Rattle.busdma_base.specs.declared.journals.journal.Did.TheVariants as did
 use Rattle.busdma_base.specs.declared.journals.journal.Side.TheVariants as side
+use Rattle.busdma_machine.specs.declared.machine.bio.Bio.TheVariants.{Vector}
 use Rattle.busdma_machine.specs.declared.report.Judged.{Judged}
 use Rattle.busdma_machine.specs.declared.report.Judged.TheVariants.{Fine, Refused}
 use Rattle.busdma_machine.specs.declared.report.ReportName.{ReportName}
@@ -42,6 +43,7 @@ use Rattle.ideal_lane.specs.State.{LaneMap, LaneRing, LaneState}
 use Rattle.ideal_lane.specs.Syncs.{sync_part}
 use Rattle.ideal_lane.specs.Turns.{lane_step, left_queue, transfer, transfer_turn}
 use Rattle.ideal_lane.specs.Unloads.{segments_in}
+use Rattle.ideal_wire.proofs.SameBytes.{judged-same}
 use Rattle.ideal_wire.proofs.StillLaid.{like}
 use Rattle.ideal_wire.specs.Apart.{IsApart}
 use Rattle.ideal_wire.specs.Centre.{IsFaithful}
@@ -222,6 +224,7 @@ module _ (h k : Holdings) (rest : KeepsButAgenda h k)
     maxmem = rest.most.maxmem i;
     script = (rest.most.script i).now;
     place = (agenda i).place;
+    due = rest.most.due i;
     pages = (rest.most.pages i).now;
     tags = map_values tag_of (rest.tags i).map;
     maps = map_values map_of (rest.maps i).map;
@@ -256,6 +259,9 @@ module _ (h k : Holdings) (rest : KeepsButAgenda h k)
         mems = wired.machine.mems;
         tags = wired.machine.tags;
         bios = wired.machine.bios;
+        clusters = wired.machine.clusters;
+        unlike = wired.machine.unlike;
+        due = λ s e. judged-same l beside refl refl s.map (Vector s.chain) ∙ wired.machine.due s e;
       } in
       let laid : AreLaid beside = like l wired.laid beside
       (record { script = refl; pages = refl; maxmem = refl; own = λ b. refl; mems = refl }) (λ n o e. refl) refl refl in

@@ -31,6 +31,7 @@ same-all h k s agenda = λ i. record {
   rings = s.most.rings i;
   loans = s.most.loans i;
   agenda = agenda i;
+  due = s.most.due i;
   shares = s.most.shares i;
   covered = is_prop→PathP (λ j. IsCovered (s.most.memory j).memory (s.most.loans j).bytes) (λ j. hlevel (props))
       k.covered

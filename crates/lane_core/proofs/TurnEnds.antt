@@ -1,8 +1,8 @@
 -- How a turn of a lane ends.
-use Rattle.std.proofs.Common.{◌≡◌, ◌+◌, ◌≤◌, inl, Bool, refl, sym, ap, subst, length, ℕ, ◌∙◌}
+use Rattle.std.proofs.Common.{◌≡◌, ◌+◌, ◌≤◌, inl, Bool, List, map, refl, sym, ap, subst, length, ℕ, ◌∙◌}
 use Rattle.busdma_base.specs.declared.journals.journal.Side.{Side}
 use Rattle.busdma_machine.specs.Bounce.Door.{Seen, account}
-use Rattle.busdma_machine.specs.Machine.Wire.{Wire}
+use Rattle.busdma_machine.specs.Machine.Wire.{Wire, put}
 use Rattle.lane_tables.specs.Places.{Places}
 use Rattle.ideal_lane.specs.Agreement.{IsAllowed}
 use Rattle.ideal_lane.specs.Asking.{Asking, Gives, Asks}
@@ -26,8 +26,8 @@ use Rattle.lane_state.specs.Served.{IsServed}
 use Rattle.lane_core.specs.Turning.{IsTurned}
 use Rattle.lane_state.specs.Wire.{IsWired, wire_of}
 use Rattle.lane_core.proofs.AfterTurn.{Led, led}
-use Rattle.lane_state.specs.Changes.{KeepsBesideMemory, KeepsWhatStays}
-use Rattle.lane_state.proofs.Following.{follows, follows-memory, none-known}
+use Rattle.lane_state.specs.Changes.{KeepsBesideMemory, KeepsCopied, KeepsWhatStays}
+use Rattle.lane_state.proofs.Following.{follows, follows-copied, follows-memory, none-known}
 use Rattle.lane_core.proofs.StaysWired.{still-apart, still-laid, still-own, still-served, still-stands, still-wired}
 
 -- a step that was done is a turn that was made, which tells whether a call was made
@@ -77,6 +77,14 @@ module _ (h k : Holdings) (s : Side) (d e : Seen) (stands : Stands (ideal_of h))
   end-follows memories keeps w plain =
       subst (λ w. Follows (ideal_of h) (ideal_of k) w (wire_of k)) (sym plain)
       (follows h k wired.laid wired.apart end-laid end-apart keeps end-own.same_pages
+      (ap (λ (t : Places KeptMemory). map_values memory_of t.map) memories))
+
+  -- where it copies bytes
+  pub end-copies : k.memories ≡ h.memories → (from to : List ℕ) → KeepsCopied from to h k → (w : Wire) →
+      w ≡ put to (map (wire_of h) from) (wire_of h) → Follows (ideal_of h) (ideal_of k) w (wire_of k)
+  end-copies memories from to keeps w plain =
+      subst (λ w. Follows (ideal_of h) (ideal_of k) w (wire_of k)) (sym plain)
+      (follows-copied h k wired.laid wired.apart end-laid end-apart from to keeps end-own.same_pages
       (ap (λ (t : Places KeptMemory). map_values memory_of t.map) memories))
 
   -- and a memory came or went

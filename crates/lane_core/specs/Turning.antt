@@ -17,11 +17,16 @@ use Rattle.ideal_wire.specs.WireStep as wires
 use Rattle.lane_state.specs.declared.holdings.Holdings.{Holdings}
 use Rattle.lane_core.specs.declared.turn.Turn.{Turn}
 use Rattle.lane_core.specs.declared.turn.Turn.TheVariants.{Stepped, Blocked, Ended}
-use Rattle.lane_state.specs.Changes.{IsWireOf}
+use Rattle.lane_state.specs.Changes.{IsWireOf, KeepsButAgenda}
 use Rattle.lane_state.specs.Doing.{IsCalled}
 use Rattle.lane_state.specs.Ideal.{ideal_of}
 use Rattle.lane_state.specs.Served.{IsServed}
 use Rattle.lane_state.specs.Wire.{IsWired, wire_of}
+
+-- a driver has come to a place of its script, and a resend is due there or not; all else is as it was
+pub record IsAt (place : ℕ) (due : Bool) (h k : Holdings) : Type 0 where
+  pub agenda : k.agenda ≡ record h.agenda { place = place }
+  pub rest : KeepsButAgenda (record h { due = due }) k
 
 -- what a turn answers, but for what it tells of its call
 abbrev pub answered : Turn → turns.Turn

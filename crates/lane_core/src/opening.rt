@@ -57,6 +57,7 @@ impl<'s> Lane<'s> {
                 rings: PlaceTable::new(alloc, places)?,
                 loans: opening_loans(alloc, pages)?,
                 agenda: Agenda::new(alloc, driver)?,
+                due: false,
                 shares: Vec::new(alloc),
             },
         })

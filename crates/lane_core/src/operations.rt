@@ -3,7 +3,6 @@
 ghost use Rattle.std.specs.Prelude.{◌≡◌, ◌+◌, ◌<◌, ◌≤◌, Some, length, slice_get, IfOk, OnErr, OnOk};
 ghost use Rattle.busdma_base.specs.declared.scenarios.script.Op.TheVariants.{Load};
 ghost use Rattle.busdma_base.specs.Scenarios.Buffers.{buffer_bytes};
-ghost use Rattle.busdma_base.specs.Scenarios.Operations.{loaded_by};
 ghost use Rattle.ideal_lane.specs.Standing.{Stands};
 ghost use Rattle.ideal_lane.specs.Turns as turns;
 ghost use Rattle.ideal_wire.specs.WireStep as wires;
@@ -11,7 +10,7 @@ ghost use Rattle.lane_state.specs.Doing.{IsAllowedBy, IsDone, IsUndone, asks};
 ghost use Rattle.lane_state.specs.Served.{IsServed};
 ghost use Rattle.lane_state.specs.Changes.{IsWireOf, KeepsAgenda, KeepsPromises, KeepsState, KeepsWhatStays};
 ghost use Rattle.lane_state.specs.Ideal.{given, ideal_of};
-ghost use Rattle.lane_state.specs.SmallLoads.{HasSmallLoads};
+ghost use Rattle.lane_state.specs.SmallLoads.{HasSmallLoads, loaded_once};
 ghost use Rattle.lane_state.specs.Wire.{IsWired, wire_of};
 ghost use Rattle.ideal_lane.specs.Ahead.{items_ahead};
 
@@ -51,7 +50,7 @@ pub(crate) fn operation<'s, D: HubDoor>(
     ensures unpromised { OnErr result (holdings.new.agenda ≡ holdings.old.agenda) }
     ensures undone { OnErr result (IsUndone (D.seen door.old) (D.seen door.new)) }
     ensures agenda { KeepsAgenda holdings.old holdings.new }
-    ensures promised { holdings.new.agenda.promised ≤ holdings.old.agenda.promised + loaded_by op.now }
+    ensures promised { holdings.new.agenda.promised ≤ holdings.old.agenda.promised + loaded_once op.now }
     ensures due { KeepsPromises holdings.old holdings.new }
     ensures fixed { D.fixed door.new ≡ D.fixed door.old }
 {

@@ -38,6 +38,7 @@ pub(crate) fn release<D: HubDoor>(holdings: &mut Holdings<'_>, door: &mut D) -> 
     ensures due { KeepsPromises holdings.old holdings.new }
     ensures queue { holdings.new.agenda.queue ≡ holdings.old.agenda.queue }
     ensures place { holdings.new.agenda.place ≡ holdings.old.agenda.place }
+    ensures resend { holdings.new.due ≡ holdings.old.due }
     ensures length { holdings.new.agenda.length ≡ holdings.old.agenda.length }
     ensures room { holdings.new.agenda.room ≡ holdings.old.agenda.room }
     ensures some { IfSome result (λ r. 1 ≤ length holdings.old.agenda.returns) }

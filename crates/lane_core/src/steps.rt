@@ -1,22 +1,25 @@
-//! What an item does, what an operation waits for, and how the place and the transfer queue go on.
+//! What an item does, what an operation waits for, and how the script and the transfer queue go on.
 
-ghost use Rattle.std.specs.Prelude.{◌≡◌, ◌<◌, ◌≤◌, ◌+◌, ◌-◌, [], ◌∷◌, IfNone, IfOk, IfSome, OnErr, OnOk, OnSome};
+ghost use Rattle.std.specs.Prelude.{◌≡◌, ◌<◌, ◌≤◌, ◌+◌, ◌-◌, [], ◌∷◌, true, false};
+ghost use Rattle.std.specs.Prelude.{IfNone, IfOk, IfSome, OnErr, OnOk, OnSome};
 ghost use Rattle.busdma_base.specs.declared.scenarios.script.Op.TheVariants.{Await};
 ghost use Rattle.busdma_base.specs.Scenarios.Operations.{bytes_of};
 ghost use Rattle.ideal_lane.specs.Accesses as accesses;
 ghost use Rattle.ideal_lane.specs.Asking.{Gives};
+ghost use Rattle.ideal_lane.specs.Sends as sends;
 ghost use Rattle.ideal_lane.specs.Standing.{Stands};
 ghost use Rattle.ideal_lane.specs.Turns as turns;
 ghost use Rattle.ideal_wire.specs.WireStep as wires;
+ghost use Rattle.lane_core.specs.Turning.{IsAt};
 ghost use Rattle.lane_state.specs.Wire.{IsWired, wire_of};
 ghost use Rattle.lane_state.specs.Changes.{KeepsButAgenda, KeepsState};
 ghost use Rattle.lane_state.specs.Ideal.{given, ideal_of};
 
-use busdma_base::{Answer, Bytes, Item, Op};
+use busdma_base::{Answer, Bytes, Errno, Item, Op};
 use dma_map::MapState;
 use dma_tag::SyncOps;
 use lane_access::{dev_read, dev_read_at, dev_write, dev_write_at, ring_step, sync, sync_range};
-use lane_state::Holdings;
+use lane_state::{Holdings, Resend};
 use lane_tables::QueuedItem;
 use std::alloc::{AllocError, Global};
 
@@ -144,13 +147,43 @@ fn is_awaited(holdings: &Holdings<'_>, map: u32) -> bool
     true
 }
 
-/// Goes on to the next operation.
+/// Whether the callback of an operation with this answer is kept: it is a send that has too many segments, and its
+/// clusters are enough.
+fn is_kept(op: &Op, answer: &Answer) -> bool
+    ensures { result ≡ sends.is_kept (sends.send_of op.now) answer.now }
+{
+    Resend::of(op).is_some() && is_too_big(answer)
+}
+
+/// Whether a load is refused since it has too many segments.
+fn is_too_big(answer: &Answer) -> bool
+    ensures { result ≡ sends.is_too_big answer.now }
+{
+    matches!(answer, Answer::Refused(Errno::EFBIG))
+}
+
+/// Goes on behind an operation with this answer, unless its callback is kept: then its resend is due.
+pub(crate) fn go_on(holdings: &mut Holdings<'_>, op: &Op, answer: &Answer)
+    requires { holdings.old.agenda.place < holdings.old.agenda.length }
+    ensures kept { sends.is_kept (sends.send_of op.now) answer.now ≡ true →
+        IsAt holdings.old.agenda.place true holdings.old holdings.new }
+    ensures gone { sends.is_kept (sends.send_of op.now) answer.now ≡ false →
+        IsAt (holdings.old.agenda.place + 1) false holdings.old holdings.new }
+{
+    if is_kept(op, answer) {
+        holdings.due = true;
+    } else {
+        advance(holdings);
+    }
+}
+
+/// Goes on to the next operation, where no resend is due.
 pub(crate) fn advance(holdings: &mut Holdings<'_>)
     requires { holdings.old.agenda.place < holdings.old.agenda.length }
-    ensures agenda { holdings.new.agenda ≡ record holdings.old.agenda { place = holdings.old.agenda.place + 1 } }
-    ensures rest { KeepsButAgenda holdings.old holdings.new }
+    ensures { IsAt (holdings.old.agenda.place + 1) false holdings.old holdings.new }
 {
     holdings.agenda.advance();
+    holdings.due = false;
 }
 
 /// Takes the first item out of the transfer queue, or answers None where it is empty.

@@ -1,10 +1,11 @@
 //! The turns of a driver's sides.
 
-ghost use Rattle.std.specs.Prelude.{◌≡◌, ◌+◌, ◌≤◌, [], false, length, IfNone, IfOk, IfSome, OnErr, OnOk};
+ghost use Rattle.std.specs.Prelude.{◌≡◌, ◌+◌, ◌≤◌, [], false, length, None, Some, IfNone, IfOk, IfSome, OnErr, OnOk};
 ghost use Rattle.busdma_base.specs.declared.journals.journal.Side.{Side};
 ghost use Rattle.busdma_base.specs.declared.journals.journal.Side.TheVariants as side;
 ghost use Rattle.busdma_machine.specs.Bounce.Door.{Seen};
 ghost use Rattle.ideal_lane.specs.Asking.{Gives};
+ghost use Rattle.ideal_lane.specs.Sends.{due_send};
 ghost use Rattle.ideal_lane.specs.Standing.{Stands};
 ghost use Rattle.ideal_lane.specs.Turns.{lane_step};
 ghost use Rattle.ideal_wire.specs.WireStep as wires;
@@ -13,6 +14,7 @@ ghost use Rattle.lane_core.specs.declared.turn.Turn.{Turn};
 ghost use Rattle.lane_state.specs.Changes.{KeepsAgenda, KeepsPromises, KeepsState};
 ghost use Rattle.lane_state.specs.Doing.{IsAllowedBy, IsUndone};
 ghost use Rattle.lane_core.specs.Turning.{IsTurnOf, IsReady, MayWant, is_held, turned};
+ghost use Rattle.lane_state.specs.Sends.{the_send};
 ghost use Rattle.lane_state.specs.Wire.{IsWired, wire_of};
 ghost use Rattle.lane_state.specs.Ideal.{ideal_of};
 ghost use Rattle.lane_state.specs.SmallLoads.{HasSmallLoads};
@@ -20,10 +22,11 @@ ghost use Rattle.lane_state.specs.SmallLoads.{HasSmallLoads};
 use crate::callbacks::call_back;
 use crate::operations::operation;
 use crate::returns::{Released, release};
-use crate::steps::{advance, pop_item, put_item_back, transfer, waits};
+use crate::steps::{advance, go_on, pop_item, put_item_back, transfer, waits};
 use crate::turn::{Turn, stepped};
 use busdma_base::{Answer, Did, HubDoor, Side};
-use lane_state::{Answered, Holdings};
+use lane_loads::resend;
+use lane_state::{Answered, Holdings, Resend};
 use std::alloc::{AllocError, Global};
 
 /// The first page of the return queue goes back to its zone, if there is one.
@@ -33,6 +36,7 @@ pub(crate) fn return_turn<D: HubDoor>(holdings: &mut Holdings<'_>, door: &mut D)
     ensures script { holdings.new.script ≡ holdings.old.script }
     ensures memories { holdings.new.memories ≡ holdings.old.memories }
     ensures place { holdings.new.agenda.place ≡ holdings.old.agenda.place }
+    ensures resend { holdings.new.due ≡ holdings.old.due }
     ensures promised { holdings.new.agenda.promised ≤ holdings.old.agenda.promised }
     ensures due { KeepsPromises holdings.old holdings.new }
     ensures empty { IfNone result (holdings.old.agenda.returns ≡ []) }
@@ -45,7 +49,7 @@ pub(crate) fn return_turn<D: HubDoor>(holdings: &mut Holdings<'_>, door: &mut D)
     Some(stepped(holdings.id, Side::Script, did, Answer::Served(served), true))
 }
 
-/// The next operation of the script, where no page goes back.
+/// The next operation of the script, where no page goes back and no resend is due.
 fn operation_turn<D: HubDoor>(
     holdings: &mut Holdings<'_>,
     alloc: Global,
@@ -55,6 +59,7 @@ fn operation_turn<D: HubDoor>(
     requires small { HasSmallLoads holdings.old }
     requires length { holdings.old.agenda.length ≡ length holdings.old.script.now }
     requires empty { holdings.old.agenda.returns ≡ [] }
+    requires undue { due_send (ideal_of holdings.old) ≡ None }
     ensures made { IfOk result (IsTurnOf holdings.old holdings.new (D.seen door.old) (D.seen door.new) side.Script) }
     ensures err { OnErr result (KeepsState holdings.old holdings.new) }
     ensures undone { OnErr result (IsUndone (D.seen door.old) (D.seen door.new)) }
@@ -71,11 +76,61 @@ fn operation_turn<D: HubDoor>(
         return Ok(Turn::Blocked);
     }
     let Answered { answer, held } = operation(holdings, alloc, door, op)?;
-    advance(holdings);
+    go_on(holdings, op, &answer);
     Ok(stepped(holdings.id, Side::Script, Did::Op(place), answer, held))
 }
 
-/// The script: a page goes back, or else the next operation is done.
+/// The resend of the send at the script's place, where no page goes back.
+fn resend_turn<'s, D: HubDoor>(
+    holdings: &mut Holdings<'s>,
+    alloc: Global,
+    door: &mut D,
+    send: Resend<'s>,
+) -> Result<Turn, AllocError>
+    requires ready { IsReady holdings.old (D.seen door.old) }
+    requires small { HasSmallLoads holdings.old }
+    requires length { holdings.old.agenda.length ≡ length holdings.old.script.now }
+    requires empty { holdings.old.agenda.returns ≡ [] }
+    requires due { due_send (ideal_of holdings.old) ≡ Some (the_send send) }
+    ensures made { IfOk result (IsTurnOf holdings.old holdings.new (D.seen door.old) (D.seen door.new) side.Script) }
+    ensures err { OnErr result (KeepsState holdings.old holdings.new) }
+    ensures undone { OnErr result (IsUndone (D.seen door.old) (D.seen door.new)) }
+    ensures room { OnErr result (holdings.old.agenda.room ≤ holdings.new.agenda.room) }
+    ensures places { holdings.new.agenda.length ≡ holdings.old.agenda.length }
+    ensures small { HasSmallLoads holdings.new }
+    ensures fixed { D.fixed door.new ≡ D.fixed door.old }
+{
+    let place = holdings.agenda.place();
+    let Answered { answer, held } = resend(holdings, alloc, door, send)?;
+    advance(holdings);
+    Ok(stepped(holdings.id, Side::Script, Did::Again(place), answer, held))
+}
+
+/// The resend that is due, or else the next operation, where no page goes back.
+fn due_turn<D: HubDoor>(
+    holdings: &mut Holdings<'_>,
+    alloc: Global,
+    door: &mut D,
+) -> Result<Turn, AllocError>
+    requires ready { IsReady holdings.old (D.seen door.old) }
+    requires small { HasSmallLoads holdings.old }
+    requires length { holdings.old.agenda.length ≡ length holdings.old.script.now }
+    requires empty { holdings.old.agenda.returns ≡ [] }
+    ensures made { IfOk result (IsTurnOf holdings.old holdings.new (D.seen door.old) (D.seen door.new) side.Script) }
+    ensures err { OnErr result (KeepsState holdings.old holdings.new) }
+    ensures undone { OnErr result (IsUndone (D.seen door.old) (D.seen door.new)) }
+    ensures room { OnErr result (holdings.old.agenda.room ≤ holdings.new.agenda.room) }
+    ensures places { holdings.new.agenda.length ≡ holdings.old.agenda.length }
+    ensures small { HasSmallLoads holdings.new }
+    ensures fixed { D.fixed door.new ≡ D.fixed door.old }
+{
+    match holdings.due_resend() {
+        Some(send) => resend_turn(holdings, alloc, door, send),
+        None => operation_turn(holdings, alloc, door),
+    }
+}
+
+/// The script: a page goes back, or else the resend that is due is made, or else the next operation.
 fn script_turn<D: HubDoor>(
     holdings: &mut Holdings<'_>,
     alloc: Global,
@@ -95,7 +150,7 @@ fn script_turn<D: HubDoor>(
 {
     match return_turn(holdings, door) {
         Some(turn) => Ok(turn),
-        None => operation_turn(holdings, alloc, door),
+        None => due_turn(holdings, alloc, door),
     }
 }
 
@@ -137,6 +192,7 @@ pub(crate) fn transfer_turn(holdings: &mut Holdings<'_>, alloc: Global) -> Resul
     ensures script { holdings.new.script ≡ holdings.old.script }
     ensures memories { holdings.new.memories ≡ holdings.old.memories }
     ensures agenda { KeepsAgenda holdings.old holdings.new }
+    ensures resend { holdings.new.due ≡ holdings.old.due }
     ensures promised { holdings.new.agenda.promised ≤ holdings.old.agenda.promised }
     ensures due { KeepsPromises holdings.old holdings.new }
     ensures err { OnErr result (KeepsState holdings.old holdings.new) }

@@ -1,4 +1,4 @@
-//! Tests of a lane: the calls that take no door, memories, and a lane at a door of the tests' own.
+//! Tests of a lane: the calls that take no door, and a lane at a door of the tests' own.
 #![tactic(auto)]
 
 #[cfg(test)]

@@ -14,10 +14,16 @@ use Rattle.segment_build.specs.Segmentation.{segmentation}
 use Rattle.ideal_lane.specs.Ahead.{awaited_items, items_ahead}
 use Rattle.ideal_lane.specs.Loads.{Asked, emptied, finished, limits_of, loaded, unpaged}
 use Rattle.ideal_lane.specs.Outcomes.{Outcome}
+use Rattle.ideal_lane.specs.Sends.{due_send}
 use Rattle.ideal_lane.specs.State.{Idle, LaneMap, LaneState, Loaded, Waiting, WaitingLoad}
 use Rattle.ideal_lane.specs.Turns.{called, called_at, called_in}
 use Rattle.ideal_lane.proofs.Weights.{weigh-put}
 use Rattle.lane_loads.proofs.LoadSteps.{put-over}
+
+-- a driver keeps its script, and the send whose resend is due
+pub record KeepsScript (l n : LaneState) : Type 0 where
+  pub script : n.script ≡ l.script
+  pub due : due_send n ≡ due_send l
 
 module _ (l : LaneState) (m : ℕ) (o : LaneMap) where
   abbrev pub free : LaneMap
@@ -44,18 +50,18 @@ module _ (l : LaneState) (m : ℕ) (o : LaneMap) where
         answer = Refused EFBIG;
       }
 
-  -- its script is the same
-  pub finished-script : (at : ℕ) (x : Asked) (chunks : List Chunk) (pages : List ℕ) →
-      (finished m o at x chunks pages l).lane.script ≡ l.script
-  finished-script at x chunks pages =
+  -- it keeps its script, and the send whose resend is due
+  pub finished-stays : (at : ℕ) (x : Asked) (chunks : List Chunk) (pages : List ℕ) →
+      KeepsScript l (finished m o at x chunks pages l).lane
+  finished-stays at x chunks pages =
       let t : TagLimits = limits_of l o in
       let segments : List Segment = segmentation t (placed_pieces t chunks (as_pages pages)) in
       by (nat_le (length segments) t.nsegments)
       (record { lane = loaded m o at x (tag_placed t chunks (as_pages pages)) segments pages l; answer = Segments segments })
-      (record { lane = unpaged m o pages l; answer = Refused EFBIG }) refl refl
+      (record { lane = unpaged m o pages l; answer = Refused EFBIG }) (record { script = refl; due = refl })
+      (record { script = refl; due = refl })
     where
-      by : (b : Bool) (p q : Outcome) → p.lane.script ≡ l.script → q.lane.script ≡ l.script →
-          (cond b p q).lane.script ≡ l.script
+      by : (b : Bool) (p q : Outcome) → KeepsScript l p.lane → KeepsScript l q.lane → KeepsScript l (cond b p q).lane
       by true p q here there = here
       by false p q here there = there
 

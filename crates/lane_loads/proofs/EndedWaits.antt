@@ -13,6 +13,7 @@ use Rattle.dma_map.specs.MapView as held
 use Rattle.ideal_lane.specs.Ahead.{items_ahead}
 use Rattle.ideal_lane.specs.Loads.{Asked, asked, chunks_for, finished, limits_of, load_entries}
 use Rattle.ideal_lane.specs.Outcomes.{Outcome}
+use Rattle.ideal_lane.specs.Sends.{due_send}
 use Rattle.ideal_lane.specs.Standing.{Stands}
 use Rattle.ideal_lane.specs.State.{LaneMap, LaneState, Waiting, WaitingLoad}
 use Rattle.ideal_lane.specs.Turns.{called}
@@ -29,7 +30,7 @@ use Rattle.lane_state.specs.Loading.{load_loan, map_chunks}
 use Rattle.lane_loads.proofs.Asked.{plain-chunks}
 use Rattle.lane_loads.proofs.AwaitedLoads.{IsAwaited, waits-with}
 use Rattle.lane_state.proofs.Called.{KeepsLoad, load-kept}
-use Rattle.lane_loads.proofs.CalledLoads.{called-is, finished-free, finished-script, items-within}
+use Rattle.lane_loads.proofs.CalledLoads.{called-is, finished-free, finished-stays, items-within}
 use Rattle.lane_state.proofs.Returned.{idled}
 use Rattle.lane_state.proofs.TakenLoads.{taken, taken-bytes, taken-due, taken-ideal, taken-idle, taken-promised}
 use Rattle.lane_state.proofs.TakenLoads.{taken-stands, taken-there}
@@ -154,13 +155,15 @@ module _ (h k : Holdings) (m at : ℕ) (callback : KeptLoad) (room : LoadRoom)
           HasSmallLoads n
       ends-few small same less count need due =
           let chunks = chunks_for l (map_of o) (contains_key l.mems m) asks.entries in
-          let script : n.script.now ≡ h.script.now =
-          ap (λ (x : Outcome). x.lane.script) ended ∙ finished-script l m (map_of o) at asks chunks pages in
+          let stays = finished-stays l m (map_of o) at asks chunks pages in
+          let script : n.script.now ≡ h.script.now = ap (λ (x : Outcome). x.lane.script) ended ∙ stays.script in
+          let resend : due_send (ideal_of n) ≡ due_send l = ap (λ (x : Outcome). due_send x.lane) ended ∙ stays.due in
           let place : n.agenda.place ≡ h.agenda.place = same ∙ ap (λ a. a.place) rest.agenda in
           let promised : k.agenda.promised ≡ h.agenda.promised = ap (λ a. a.promised) rest.agenda in
-          let ahead : bytes_ahead n.agenda.place n.script.now ≡ bytes_ahead h.agenda.place h.script.now =
-          (λ i. bytes_ahead (place i) (script i)) in
-          let few : h.agenda.promised + bytes_ahead h.agenda.place h.script.now ≤ loaded_limit = small.few in
+          let ahead : bytes_ahead (due_send (ideal_of n)) n.agenda.place n.script.now ≡
+          bytes_ahead (due_send l) h.agenda.place h.script.now =
+          (λ i. bytes_ahead (resend i) (place i) (script i)) in
+          let few : h.agenda.promised + bytes_ahead (due_send l) h.agenda.place h.script.now ≤ loaded_limit = small.few in
           let needs : count ≡ callback.need = needed count need in
           let before : h.agenda.promised ≡ pages_due h.maps.map = small.due in
           let taken = taken-due h k m o kept.1 load (maps o kept.1) rest in

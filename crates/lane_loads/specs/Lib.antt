@@ -1,1 +1,2 @@
 pub mod DevicePages
+pub mod Resends

@@ -83,6 +83,7 @@ pub(crate) fn load_device(
     ensures agenda { KeepsAgenda holdings.old holdings.new }
     ensures promised { holdings.new.agenda.promised ≤ holdings.old.agenda.promised }
     ensures due { KeepsPromises holdings.old holdings.new }
+    ensures spare { holdings.old.loans.spare ≤ holdings.new.loans.spare }
 {
     let tag = tag_of(holdings, map);
     let frames = frames_of_parts(alloc, holdings.parts(bytes))?;
@@ -181,6 +182,7 @@ fn keep_segments(
     ensures agenda { KeepsAgenda holdings.old holdings.new }
     ensures promised { holdings.new.agenda.promised ≤ holdings.old.agenda.promised }
     ensures due { KeepsPromises holdings.old holdings.new }
+    ensures spare { holdings.old.loans.spare ≤ holdings.new.loans.spare }
 {
     let shown = segments.clone()?;
     let items = items.clone()?;

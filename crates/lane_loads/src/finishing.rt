@@ -23,6 +23,7 @@ pub(crate) fn note_tried(holdings: &mut Holdings<'_>, map: u32)
     ensures bytes { KeepsBytes holdings.old holdings.new }
     ensures agenda { holdings.new.agenda ≡ holdings.old.agenda }
     ensures memories { holdings.new.memories ≡ holdings.old.memories }
+    ensures spare { holdings.old.loans.spare ≤ holdings.new.loans.spare }
 {
     if let Some(kept) = holdings.maps.get_mut(map) {
         kept.map.note_tried();
@@ -49,6 +50,7 @@ pub(crate) fn store_load(
     ensures bytes { KeepsBytesBut map holdings.old holdings.new }
     ensures agenda { holdings.new.agenda ≡ holdings.old.agenda }
     ensures memories { holdings.new.memories ≡ holdings.old.memories }
+    ensures spare { holdings.old.loans.spare ≤ holdings.new.loans.spare }
 {
     let id = holdings.map_id(map);
     if let Some(kept) = holdings.maps.get_mut(map) {

@@ -102,6 +102,7 @@ pub fn load<'s, D: HubDoor>(
     ensures promised { holdings.new.agenda.promised ≤ holdings.old.agenda.promised + bio_bytes (bio_of bytes.entry) }
     ensures due { KeepsPromises holdings.old holdings.new }
     ensures fixed { D.fixed door.new ≡ D.fixed door.old }
+    ensures spare { holdings.old.loans.spare ≤ holdings.new.loans.spare }
 {
     let Some(kept) = holdings.maps.get(map) else {
         return Ok(Answered {
@@ -198,6 +199,7 @@ pub(crate) fn prepare_load(
     ensures maps { holdings.new.maps ≡ holdings.old.maps }
     ensures agenda { holdings.new.agenda ≡ holdings.old.agenda }
     ensures memories { holdings.new.memories ≡ holdings.old.memories }
+    ensures spare { holdings.old.loans.spare ≤ holdings.new.loans.spare }
 {
     let id = holdings.map_id(map);
     let coherent = is_coherent(holdings, map);
@@ -295,6 +297,7 @@ pub(crate) fn complete_load(
     ensures promised { holdings.new.agenda.promised ≤ holdings.old.agenda.promised }
     ensures due { holdings.new.agenda.promised + pages_due holdings.old.maps.map + length pages.items
         ≡ holdings.old.agenda.promised + pages_due holdings.new.maps.map }
+    ensures spare { holdings.old.loans.spare ≤ holdings.new.loans.spare }
 {
     let few = build_load(holdings, map, bytes, pages.as_slice(), &mut room);
     let LoadRoom {
@@ -344,6 +347,7 @@ fn load_direct(
     ensures agenda { KeepsAgenda holdings.old holdings.new }
     ensures promised { holdings.new.agenda.promised ≤ holdings.old.agenda.promised }
     ensures due { KeepsPromises holdings.old holdings.new }
+    ensures spare { holdings.old.loans.spare ≤ holdings.new.loans.spare }
 {
     let room = take_room(alloc, wanted)?;
     let pages = PageList::with_room(alloc, 0)?;
@@ -394,6 +398,7 @@ fn load_bounced<'s, D: HubDoor>(
     ensures promised { holdings.new.agenda.promised ≤ holdings.old.agenda.promised + wanted.need }
     ensures due { KeepsPromises holdings.old holdings.new }
     ensures fixed { D.fixed door.new ≡ D.fixed door.old }
+    ensures spare { holdings.old.loans.spare ≤ holdings.new.loans.spare }
 {
     let room = take_room(alloc, wanted)?;
     let items = items.clone()?;

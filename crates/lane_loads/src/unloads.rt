@@ -111,6 +111,7 @@ pub(crate) fn end_load(holdings: &mut Holdings<'_>, map: u32)
     ensures room { holdings.new.agenda.room ≡ holdings.old.agenda.room }
     ensures returned { pages_in holdings.new.agenda.returns
         ≡ pages_in holdings.old.agenda.returns ++ (device_of (get holdings.old.maps.map map)).pages }
+    ensures spare { holdings.old.loans.spare ≤ holdings.new.loans.spare }
 {
     let id = holdings.map_id(map);
     if let Some(kept) = holdings.maps.get_mut(map) {

@@ -48,6 +48,7 @@ pub(crate) fn ready_load(
     ensures same { KeepsState holdings.old holdings.new }
     ensures maps { holdings.new.maps ≡ holdings.old.maps }
     ensures memories { holdings.new.memories ≡ holdings.old.memories }
+    ensures spare { holdings.old.loans.spare ≤ holdings.new.loans.spare }
 {
     holdings.agenda.promise(alloc, need)?;
     let ready = prepare_load(holdings, alloc, map, bytes);
@@ -66,6 +67,7 @@ pub(crate) fn undo_load(holdings: &mut Holdings<'_>, map: u32, need: u32)
     ensures same { KeepsState holdings.old holdings.new }
     ensures maps { holdings.new.maps ≡ holdings.old.maps }
     ensures memories { holdings.new.memories ≡ holdings.old.memories }
+    ensures spare { holdings.old.loans.spare ≤ holdings.new.loans.spare }
 {
     let id = holdings.map_id(map);
     holdings.loans.drop_prepared(id);
@@ -91,6 +93,7 @@ pub(crate) fn wait_load<'s>(
     ensures bytes { KeepsBytes holdings.old holdings.new }
     ensures agenda { holdings.new.agenda ≡ holdings.old.agenda }
     ensures memories { holdings.new.memories ≡ holdings.old.memories }
+    ensures spare { holdings.old.loans.spare ≤ holdings.new.loans.spare }
 {
     if let Some(kept) = holdings.maps.get_mut(map) {
         kept.map.wait(load_at, load, room);
@@ -131,6 +134,7 @@ pub(crate) fn take_grabbed<'s>(
     ensures promised { holdings.new.agenda.promised ≤ holdings.old.agenda.promised }
     ensures due { holdings.new.agenda.promised + pages_due holdings.old.maps.map + need
         ≡ holdings.old.agenda.promised + pages_due holdings.new.maps.map }
+    ensures spare { holdings.old.loans.spare ≤ holdings.new.loans.spare }
 {
     let load_at = holdings.agenda.place();
     match got {

@@ -16,6 +16,7 @@ module _ (h k : Holdings) (s : KeepsButRoom h k) where
     maxmem = s.maxmem i;
     script = (s.script i).now;
     place = (s.agenda i).place;
+    due = s.due i;
     pages = (s.pages i).now;
     tags = map_values tag_of (s.tags i).map;
     maps = map_values map_of (s.maps i);

@@ -27,6 +27,7 @@ pub record KeepsButRoom (h k : Holdings) : Type 0 where
   pub loans : IsSame h.loans k.loans
   pub agenda : k.agenda ≡ h.agenda
   pub shares : k.shares ≡ h.shares
+  pub due : k.due ≡ h.due
 
 -- the memory of a tag with these flags that has `len` bytes
 abbrev pub ideal_memory : ℕ → ℕ → ℕ → ℕ → LaneMemory

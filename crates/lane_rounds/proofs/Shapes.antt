@@ -9,6 +9,7 @@ use Rattle.busdma_machine.specs.declared.bounce.zone.Waiter.{Waiter}
 use Rattle.busdma_base.specs.declared.journals.answer.Answer.TheVariants as answer
 use Rattle.busdma_base.specs.declared.journals.journal.Side.{Side}
 use Rattle.busdma_base.specs.declared.journals.journal.Side.TheVariants as side
+use Rattle.busdma_machine.specs.declared.machine.bio.Bio.TheVariants.{Vector}
 use Rattle.busdma_machine.specs.declared.report.Judged.{Judged}
 use Rattle.busdma_machine.specs.declared.report.Judged.TheVariants.{Fine, Refused}
 use Rattle.busdma_machine.specs.declared.report.ReportName.TheVariants.{DeviceReadUnlent, DeviceWriteUnlent, MapBusy}
@@ -43,7 +44,7 @@ use Rattle.ideal_lane.specs.Accesses.{cpu_read, cpu_write, dev_read, dev_read_at
 use Rattle.ideal_lane.specs.Accesses.{raw_bytes, raw_refusal}
 use Rattle.ideal_lane.specs.Asking.{Asking, Gives, Asks, goes_on}
 use Rattle.ideal_lane.specs.IdealMemory.{forgotten, is_known, written}
-use Rattle.ideal_lane.specs.Loads.{Asked, asked, is_device, limits_of, chunks_for, load}
+use Rattle.ideal_lane.specs.Loads.{Asked, asked, is_device, limits_of, chunks_for, load, load_judged}
 use Rattle.ideal_lane.specs.Maps.{bounces, map, end_map, map_destroy, await}
 use Rattle.ideal_lane.specs.Memories.{dmamem, dmamem_free}
 use Rattle.ideal_lane.specs.Outcomes.{Outcome, gives, refused, unless_absent, unless_refused, unless_busy}
@@ -52,13 +53,15 @@ use Rattle.ideal_lane.specs.Outcomes.{unless_past, is_idle, is_loaded, load_leng
 use Rattle.ideal_lane.specs.Places.{bytes_at, reached, virtual_at}
 use Rattle.ideal_lane.specs.Rings.{Candidate, allowed, at_first, candidates, fits_in, head_at, head_of, is_work, kick}
 use Rattle.ideal_lane.specs.Rings.{may_post, posted, ring, ring_post, ring_step, slot_place}
+use Rattle.ideal_lane.specs.Sends as sends
+use Rattle.ideal_lane.specs.Sends.{Send, chain_bytes, cluster_bytes, copied, due_send, resend, send_of}
 use Rattle.ideal_lane.specs.Syncs.{copies, counted, sync_part, sync, sync_range}
 use Rattle.ideal_lane.specs.Tags.{device_tag, tag_or_invalid, tag, tag_destroy, has_maps}
 use Rattle.ideal_lane.specs.Turns.{Turn, Turned, Stepped, Blocked, Ended, stays, bio_at, load_buffer, never_waits}
 use Rattle.ideal_lane.specs.Turns.{operation, transfer}
 use Rattle.ideal_lane.specs.Unloads.{segments_in}
-use Rattle.ideal_lane.specs.Turns.{waits, advanced, left_queue, next_operation, script_turn, transfer_turn}
-use Rattle.ideal_lane.specs.Turns.{called_back, lane_step}
+use Rattle.ideal_lane.specs.Turns.{waits, advanced, due_turn, kept, left_queue, next_operation, resent, script_turn}
+use Rattle.ideal_lane.specs.Turns.{called_back, lane_step, transfer_turn, went_on}
 
 -- a call takes a callback
 abbrev pub takes : HubCall → Bool
@@ -294,27 +297,53 @@ module _ (l : LaneState) where
   transfer-free (item.DevWriteAt t addr bytes) = dev_write_at-free t addr (bytes_of bytes)
   transfer-free (item.RingStep k) = ring_step-free k
 
-  -- ---- turns
+-- ---- turns
+
+-- either way a step is one
+either-steps : (b : Bool) (x y : Turned) → is_step x.turn ≡ true → is_step y.turn ≡ true →
+    is_step (if b then x else y).turn ≡ true
+either-steps true x y h k = h
+either-steps false x y h k = k
+
+module _ (l : LaneState) where
+  resend-free : (s : Send) → IsFree (resend s l)
+  resend-free s =
+      busy l s.map _ (λ o.
+      judged l (load_judged l s.map (Vector s.clusters)) _ (
+      judged l (cpu_read_answer (is_known l.memory) l.loans (chain_bytes s l)) _ (
+      judged l (cpu_write_answer l.loans (cluster_bytes s l)) _
+      (load-free (copied s l) s.map (asked s.map (Vector s.clusters) true s.items (copied s l))))))
 
   next-shape : (o : Option Op) → Shape l (next_operation o l)
   next-shape None = inr refl
   next-shape (Some o) = by (waits o l)
     where
-      goes : (x : Asking Outcome) → IsFree x → Shape l (goes_on (advanced l.place) x)
+      steps : (y : Outcome) → is_step (went_on o l.place y).turn ≡ true
+      steps y = either-steps (sends.is_kept (send_of o) y.answer) (kept l.place y) (advanced l.place y) refl refl
+
+      goes : (x : Asking Outcome) → IsFree x → Shape l (goes_on (went_on o l.place) x)
+      goes (Gives y) h = inl (steps y)
+      goes (Asks c k) h = inr (h.is, λ r. steps (k r))
+
+      by : (b : Bool) → Shape l (if b then Gives (stays Blocked l) else goes_on (went_on o l.place) (operation o l))
+      by true = inr refl
+      by false = goes (operation o l) (operation-free l o)
+
+  due-shape : (s : Option Send) → Shape l (due_turn s l)
+  due-shape None = next-shape (slice_get l.script l.place)
+  due-shape (Some s) = goes (resend s l) (resend-free s)
+    where
+      goes : (x : Asking Outcome) → IsFree x → Shape l (goes_on (resent l.place) x)
       goes (Gives y) h = inl refl
       goes (Asks c k) h = inr (h.is, λ r. refl)
 
-      by : (b : Bool) → Shape l (if b then Gives (stays Blocked l) else goes_on (advanced l.place) (operation o l))
-      by true = inr refl
-      by false = goes (operation o l) (operation-free o)
-
   script-shape : (rs : List Return) → Shape l (script_turn rs l)
-  script-shape [] = next-shape (slice_get l.script l.place)
+  script-shape [] = due-shape (due_send l)
   script-shape (x ∷ rest) = inr (refl, λ r. refl)
 
   queue-shape : (qs : List QueuedItem) → Shape l (transfer_turn qs l)
   queue-shape [] = inr refl
-  queue-shape (q ∷ rest) = goes (transfer q.item l) (transfer-free q.item)
+  queue-shape (q ∷ rest) = goes (transfer q.item l) (transfer-free l q.item)
     where
       goes : (x : Asking Outcome) → IsFree x → Shape l (goes_on (left_queue q rest) x)
       goes (Gives y) h = inl refl

@@ -35,7 +35,7 @@ put-alike (k ∷ keys) [] u w a h = h
 put-alike (k ∷ keys) (v ∷ vs) u w a h =
     put-alike keys vs (λ b. cond (b == k) v (u b)) (λ b. cond (b == k) v (w b)) a (ap (cond (a == k) v) h)
 
-put-apart : (keys vs : List ℕ) (w : Wire) (a : ℕ) → ((i b : ℕ) → slice_get keys i ≡ Some b → a ≢ b) →
+pub put-apart : (keys vs : List ℕ) (w : Wire) (a : ℕ) → ((i b : ℕ) → slice_get keys i ≡ Some b → a ≢ b) →
     put keys vs w a ≡ w a
 put-apart [] vs w a h = refl
 put-apart (k ∷ keys) [] w a h = refl

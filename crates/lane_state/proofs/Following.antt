@@ -1,18 +1,22 @@
--- The wire after a step that changes no byte: pages and memories came with their bytes and left with theirs.
-use Rattle.std.proofs.Common.{◌≡◌, ◌⊎◌, inl, inr, ℕ, ◌+◌, ◌*◌, ◌/◌, ◌<◌, ◌≤◌, true, false, List, [], Option, Some}
-use Rattle.std.proofs.Common.{None}
+-- The wire after a step: pages and memories came with their bytes and left with theirs, and bytes of the driver were
+-- copied to others, or none changed.
+use Rattle.std.proofs.Common.{◌≡◌, ◌≢◌, ◌⊎◌, inl, inr, ℕ, zero, suc, ◌+◌, ◌*◌, ◌/◌, ◌<◌, ◌≤◌, Bool, true, false, List, []}
+use Rattle.std.proofs.Common.{◌∷◌, map, Option, Some, None, subst}
 use Rattle.std.proofs.Common.{is_some, slice_get, nat_le, nat_lt, refl, sym, ap, ◌∙◌, arith}
 use mathlib.Core.Logic.{∥∥₁_elim}
+use Rattle.std.specs.Prelude.{IsSome}
 use Rattle.std.proofs.Props.{props}
 use Rattle.std.proofs.lemmas.Bool.{and_parts, false≢true, leb-true, ltb-true}
 use Rattle.std.proofs.lemmas.Option.{slice_get-map}
-use Rattle.std.specs.FinMap.{get}
+use Rattle.std.specs.Ordering.{nat_cmp}
+use Rattle.std.specs.FinMap.{FinMap, get}
 use Rattle.std.specs.Option.{option_map}
 use Rattle.busdma_machine.specs.Bounce.MemoryRuns.{in_run}
 use Rattle.busdma_machine.specs.Machine.Page.{FrameBytes}
 use Rattle.busdma_machine.specs.Machine.PageList.{page_address, page_addresses}
 use Rattle.busdma_base.specs.Scenarios.PageRuns.{is_own}
-use Rattle.busdma_machine.specs.Machine.Wire.{Wire, with_bytes_of}
+use Rattle.busdma_machine.specs.Machine.Wire.{Wire, put, with_bytes_of}
+use Rattle.loan_table.specs.Table.{AreIn}
 use Rattle.phys_memory.specs.Memory.{wire}
 use Rattle.ideal_lane.specs.IdealMemory.{Known}
 use Rattle.ideal_lane.specs.State.{LaneState}
@@ -23,11 +27,12 @@ use Rattle.ideal_wire.specs.Traces.{is_in_pages, stage_at}
 use Rattle.ideal_wire.specs.WireStep.{BringsKnown, Follows}
 use Rattle.ideal_wire.proofs.Lent.{any_found}
 use Rattle.lane_state.specs.declared.holdings.Holdings.{Holdings}
-use Rattle.lane_state.specs.Changes.{KeepsBesideMemory, KeepsBytes, KeepsBytesHeld, KeepsState, KeepsWhatStays}
-use Rattle.lane_state.specs.Held.{devices_of}
+use Rattle.lane_state.specs.Changes.{KeepsBesideMemory, KeepsBytes, KeepsBytesHeld, KeepsCopied, KeepsState}
+use Rattle.lane_state.specs.Changes.{KeepsWhatStays}
+use Rattle.lane_state.specs.Held.{content_of, devices_of}
 use Rattle.lane_state.specs.Ideal.{ideal_of}
 use Rattle.lane_state.specs.Wire.{wire_of}
-use Rattle.lane_state.proofs.Changing.{covered-alike}
+use Rattle.lane_state.proofs.Changing.{covered-alike, put-alike, put-apart}
 use Rattle.lane_state.proofs.Keeping.{told-some}
 use Rattle.lane_state.proofs.Lying.{own-view, page-mine, pages-same}
 use Rattle.lane_state.proofs.Views.{view-alike}
@@ -57,6 +62,7 @@ record Holding (h : Holdings) (m a : ℕ) : Type 0 where
   place : ℕ
   page : ℕ
   holds : HoldsPage (ideal_of h) m place page
+  inside : in_run page 1 a ≡ true
   is : page ≡ 4096 * (a / 4096)
 
 holding : (h : Holdings) → AreLaid (ideal_of h) → IsApart (ideal_of h) → (m a : ℕ) →
@@ -74,6 +80,7 @@ holding h laid apart m a inside =
       place = p.place;
       page = p.item;
       holds = p.found;
+      inside = p.passes;
       is = omega (arith, low, high, whole.1);
     }
   where
@@ -132,6 +139,27 @@ none-known l m laid laid' pages mems w a v none is =
     let there : is_some (l.memory a) ≡ true = none-comes l m laid laid' pages mems a (ap is_some is) in
     absurd (false≢true (sym (ap is_some none) ∙ there))
 
+-- a byte in the table is the driver's
+some-content : (o : Option Bool) (v : ℕ) → IsSome o → is_some (content_of o v) ≡ true
+some-content None v there = absurd (cc)
+some-content (Some known) v there = refl
+
+is-own : (h : Holdings) (a : ℕ) → IsSome (get h.loans.bytes a) → is_some ((ideal_of h).memory a) ≡ true
+is-own h a there = some-content (get h.loans.bytes a) _ there
+
+in-at : (bytes : FinMap nat_cmp Bool) (pas : List ℕ) (i b : ℕ) → AreIn bytes pas → slice_get pas i ≡ Some b →
+    IsSome (get bytes b)
+in-at bytes [] i b there at = absurd (cc)
+in-at bytes (a ∷ pas) zero b there at = let same : a ≡ b = cc in subst (λ c. IsSome (get bytes c)) same there.0
+in-at bytes (a ∷ pas) (suc i) b there at = in-at bytes pas i b there.1 at
+
+-- a byte in a page of a map is none of the driver's
+page-unowned : (h : Holdings) → AreLaid (ideal_of h) → IsApart (ideal_of h) → (m a : ℕ) →
+    is_in_pages (pages_of (stage_at (ideal_of h) m)) a ≡ true → is_some ((ideal_of h).memory a) ≡ false
+page-unowned h laid apart m a inside =
+    let p = holding h laid apart m a inside in
+    apart.away m p.place p.page a p.holds p.inside
+
 module _ (h k : Holdings) (laid : AreLaid (ideal_of h)) (apart : IsApart (ideal_of h)) (laid' : AreLaid (ideal_of k))
     (apart' : IsApart (ideal_of k)) where
   -- what the driver's frames have stands there
@@ -151,31 +179,49 @@ module _ (h k : Holdings) (laid : AreLaid (ideal_of h)) (apart : IsApart (ideal_
       ∙ in-pages h laid apart m a before (wire k.memory.memory) (wire h.memory.memory)
       ∙ sym (held-view h laid apart m a before)
 
+  -- so do those of each map that has pages before and after
+  page : (m a : ℕ) → ((devices_of k.maps.map m).pages ≡ (devices_of h.maps.map m).pages)
+      ⊎ (((devices_of h.maps.map m).pages ≡ []) ⊎ ((devices_of k.maps.map m).pages ≡ [])) →
+      is_in_pages (pages_of (stage_at (ideal_of h) m)) a ≡ true →
+      is_in_pages (pages_of (stage_at (ideal_of k) m)) a ≡ true → wire_of k a ≡ wire_of h a
+  page m a (inl same) before after = paged m a same before after
+  page m a (inr (inl none)) before after =
+      let off = no-page h laid apart m a none in absurd (cc)
+  page m a (inr (inr none)) before after =
+      let off = no-page k laid' apart' m a none in absurd (cc)
+
   module _ (keeps : KeepsWhatStays h k) (pages : (ideal_of k).pages ≡ (ideal_of h).pages)
       (mems : (ideal_of k).mems ≡ (ideal_of h).mems) where
-    own : (a : ℕ) → is_some ((ideal_of h).memory a) ≡ true → is_some ((ideal_of k).memory a) ≡ true →
-        wire_of k a ≡ wire_of h a
-    own a before after = own-stands a after ∙ ap (λ w. w a) keeps.own ∙ sym (own-stood a before)
-
-    page : (m a : ℕ) → is_in_pages (pages_of (stage_at (ideal_of h) m)) a ≡ true →
-        is_in_pages (pages_of (stage_at (ideal_of k) m)) a ≡ true → wire_of k a ≡ wire_of h a
-    page m a before after = by (keeps.pages m)
-      where
-        by : ((devices_of k.maps.map m).pages ≡ (devices_of h.maps.map m).pages)
-            ⊎ (((devices_of h.maps.map m).pages ≡ []) ⊎ ((devices_of k.maps.map m).pages ≡ [])) →
-            wire_of k a ≡ wire_of h a
-        by (inl same) = paged m a same before after
-        by (inr (inl none)) =
-            let off = no-page h laid apart m a none in absurd (cc)
-        by (inr (inr none)) =
-            let off = no-page k laid' apart' m a none in absurd (cc)
-
     pub follows : Follows (ideal_of h) (ideal_of k) (wire_of h) (wire_of k)
     follows = record {
-      own = own;
-      pages = page;
+      own = λ a before after. own-stands a after ∙ ap (λ w. w a) keeps.own ∙ sym (own-stood a before);
+      pages = λ m a before after. page m a (keeps.pages m) before after;
       known = none-known (ideal_of h) (ideal_of k) laid laid' pages mems (wire_of k);
     }
+
+  -- where bytes of the driver were copied to others
+  module _ (from to : List ℕ) (keeps : KeepsCopied from to h k) (pages : (ideal_of k).pages ≡ (ideal_of h).pages)
+      (mems : (ideal_of k).mems ≡ (ideal_of h).mems) where
+    pub follows-copied : Follows (ideal_of h) (ideal_of k) (put to (map (wire_of h) from) (wire_of h)) (wire_of k)
+    follows-copied = record {
+      own = λ a before after. own-stands a after ∙ ap (λ w. w a) keeps.own
+          ∙ put-alike to (map (wire h.memory.memory) from) (wire h.memory.memory) (wire_of h) a (sym (own-stood a before))
+          ∙ ap (λ vs. put to vs (wire_of h) a) (same-bytes from keeps.own_from);
+      pages = λ m a before after. page m a (keeps.pages m) before after
+          ∙ sym (put-apart to (map (wire_of h) from) (wire_of h) a (apart-from to keeps.own_to m a before));
+      known = none-known (ideal_of h) (ideal_of k) laid laid' pages mems (wire_of k);
+    }
+      where
+        same-bytes : (pas : List ℕ) → AreIn h.loans.bytes pas → map (wire h.memory.memory) pas ≡ map (wire_of h) pas
+        same-bytes [] there = refl
+        same-bytes (a ∷ pas) there = λ i. sym (own-stood a (is-own h a there.0)) i ∷ same-bytes pas there.1 i
+
+        apart-from : (pas : List ℕ) → AreIn h.loans.bytes pas → (m a : ℕ) →
+            is_in_pages (pages_of (stage_at (ideal_of h) m)) a ≡ true → (i b : ℕ) → slice_get pas i ≡ Some b → a ≢ b
+        apart-from pas there m a inside i b at same =
+            let own : is_some ((ideal_of h).memory a) ≡ true =
+            subst (λ c. is_some ((ideal_of h).memory c) ≡ true) (sym same) (is-own h b (in-at h.loans.bytes pas i b there at)) in
+            false≢true (sym (page-unowned h laid apart m a inside) ∙ own)
 
   -- where a memory came or went
   pub follows-memory : KeepsBesideMemory h k → Follows (ideal_of h) (ideal_of k) (wire_of h) (wire_of k)

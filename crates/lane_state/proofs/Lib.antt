@@ -23,6 +23,7 @@ pub mod Marks
 mod Nowhere
 pub mod OfMaps
 pub mod OperationSteps
+pub mod OwnBytes
 pub mod OwnRuns
 mod PagesLent
 pub mod Places

@@ -29,6 +29,7 @@ use Rattle.load_bio.specs.Frames.{AreFrames, in_frames}
 use Rattle.load_bio.proofs.InFrames.{IsInOneOf, frames_paged}
 use Rattle.loan_table.specs.Table.{AreIn}
 use Rattle.phys_memory.specs.Extents.{LiesIn}
+use Rattle.phys_memory.specs.Frames.{Lie}
 use Rattle.phys_memory.specs.Memory.{IsMemory, Memory, has_frame}
 use Rattle.phys_memory.specs.Memory as memory
 use Rattle.phys_memory.specs.Translation.{Translation, missing, unreached}
@@ -181,6 +182,18 @@ pub mapped-inside : (m : Memory) (bytes : FinMap nat_cmp Bool) (spans : List Spa
     AreIn bytes (addresses (stream_extents (spans_stream true (memory.physical m) spans)))
 mapped-inside m bytes spans sound covered =
     spans-inside (IsHeld m) true (memory.physical m) (memory_paged m sound) m bytes covered (λ pa h. h) spans
+
+pub mapped-lie : (m : Memory) (spans : List Span) → IsMemory m →
+    Lie m (stream_extents (spans_stream true (memory.physical m) spans))
+mapped-lie m spans sound =
+    let t = memory.physical m in
+    let es = entries_of true t spans in
+    let j = judged_spans t 0 spans in
+    let paged = memory_paged m sound in
+    record {
+      extents = all-extents IsExtent es j (entries-extent es (entries_are (IsHeld m) true t paged spans));
+      frames = all-extents (LiesIn m) es j (entries_have (IsHeld m) true t paged spans);
+    }
 
 -- and those of frames of the driver's pages
 frame-held : (pages : List PageRun) (m : Memory) (fs : List ℕ) (f : ℕ) → HasFramesOf pages m →

@@ -48,11 +48,11 @@ pages-stage (held.loaded bounced segments pages) h = refl
 pages-stage (held.lent bounced segments frames) h = absurd (cc)
 pages-stage held.returning h = refl
 
-chunks-in : (o : Option KeptMap) → (device_of o).chunks ≡ bounced_in (stage_in (option_map map_of o))
+pub chunks-in : (o : Option KeptMap) → (device_of o).chunks ≡ bounced_in (stage_in (option_map map_of o))
 chunks-in None = refl
 chunks-in (Some o) = chunks-stage o.map.stage
 
-pages-in : (o : Option KeptMap) → lends_pages o ≡ false →
+pub pages-in : (o : Option KeptMap) → lends_pages o ≡ false →
     page_addresses (device_of o).pages ≡ pages_of (stage_in (option_map map_of o))
 pages-in None h = refl
 pages-in (Some o) h = pages-stage o.map.stage h

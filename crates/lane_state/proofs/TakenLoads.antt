@@ -139,6 +139,7 @@ module _ (h k : Holdings) (m : ℕ) (o : KeptMap) (there : get h.maps.map m ≡ 
     maxmem = rest.most.maxmem i;
     script = (rest.most.script i).now;
     place = (rest.agenda i).place;
+    due = rest.most.due i;
     pages = (rest.most.pages i).now;
     tags = map_values tag_of (rest.tags i).map;
     maps = (ap (map_values map_of) maps ∙ map_values-insert map_of h.maps.map m (idled o)) i;

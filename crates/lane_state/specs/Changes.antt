@@ -1,12 +1,13 @@
 -- What of a driver's holdings a step leaves as it was.
-use Rattle.std.specs.Prelude.{◌≡◌, ℕ, ◌+◌, ◌==◌, true, false, List, [], ◌⊎◌, length, Some, None, is_some}
-use Rattle.busdma_machine.specs.Machine.Wire.{Wire}
-use Rattle.phys_memory.specs.Memory.{wire}
+use Rattle.std.specs.Prelude.{◌≡◌, ℕ, ◌+◌, ◌==◌, true, false, List, [], ◌⊎◌, length, map, Some, None, is_some}
+use Rattle.busdma_machine.specs.Machine.Wire.{Wire, put}
+use Rattle.loan_table.specs.Table.{AreIn, set_all}
+use Rattle.phys_memory.specs.Memory.{Memory, wire}
 use Rattle.ideal_lane.specs.IdealMemory.{Known, written}
 use Rattle.ideal_lane.specs.State.{LaneState}
 use Rattle.lane_state.specs.declared.holdings.Holdings.{Holdings}
 use Rattle.lane_state.specs.Covered.{pages_due}
-use Rattle.lane_state.specs.Held.{devices_of}
+use Rattle.lane_state.specs.Held.{devices_of, held}
 use Rattle.lane_state.specs.Ideal.{ideal_of}
 use Rattle.lane_state.specs.Wire.{wire_of}
 
@@ -36,11 +37,22 @@ pub record KeepsBesideMemory (h k : Holdings) : Type 0 where
       wire k.memory.memory a ≡ v
   pub pages : (m : ℕ) → (devices_of k.maps.map m).pages ≡ (devices_of h.maps.map m).pages
 
--- the wire after a step is this one; or it is as it was, but for pages that came and went; or but for a memory that
--- came or went
+-- bytes of the driver's frames are those of as many others, in order; and the bytes of the bounce pages of each map are
+-- kept that has pages before and after
+pub record KeepsCopied (from to : List ℕ) (h k : Holdings) : Type 0 where
+  pub own_from : AreIn h.loans.bytes from
+  pub own_to : AreIn h.loans.bytes to
+  pub own : wire k.memory.memory ≡ put to (map (wire h.memory.memory) from) (wire h.memory.memory)
+  pub pages : (m : ℕ) → ((devices_of k.maps.map m).pages ≡ (devices_of h.maps.map m).pages)
+      ⊎ (((devices_of h.maps.map m).pages ≡ []) ⊎ ((devices_of k.maps.map m).pages ≡ []))
+
+-- the wire after a step is this one; or it is as it was, but for pages that came and went; or so with bytes copied to
+-- others; or but for a memory that came or went
 pub data IsWireOf (h k : Holdings) (w : Wire) : Type 0 where
   Becomes : k.memories ≡ h.memories → wire_of k ≡ w → IsWireOf h k w
   Stays : k.memories ≡ h.memories → w ≡ wire_of h → KeepsWhatStays h k → IsWireOf h k w
+  Copies : (from to : List ℕ) → k.memories ≡ h.memories → w ≡ put to (map (wire_of h) from) (wire_of h) →
+      KeepsCopied from to h k → IsWireOf h k w
   WithMemory : w ≡ wire_of h → KeepsBesideMemory h k → IsWireOf h k w
 
 -- the bytes of the driver's frames, and those of the bounce pages of each map but one
@@ -68,6 +80,7 @@ pub record KeepsMost (h k : Holdings) : Type 0 where
   pub rings : k.rings ≡ h.rings
   pub loans : k.loans ≡ h.loans
   pub shares : k.shares ≡ h.shares
+  pub due : k.due ≡ h.due
 
 -- all but the tags
 pub record KeepsButTags (h k : Holdings) : Type 0 where
@@ -96,3 +109,9 @@ pub record KeepsAgenda (h k : Holdings) : Type 0 where
 -- the bytes at these addresses are these now, and Known
 abbrev pub with_written : List ℕ → List ℕ → LaneState → LaneState
 with_written pas vs l = record l { memory = written pas vs l.memory }
+
+-- the ideal state where the bytes at these addresses are marked as Known, and the driver's frames are these
+abbrev pub with_marked : List ℕ → Memory → Holdings → LaneState
+with_marked pas m h = record (ideal_of h) {
+  memory = held (set_all h.loans.bytes pas true) h.loans.loans (devices_of h.maps.map) m;
+}

@@ -14,6 +14,7 @@ ideal_of h = record {
   maxmem = h.maxmem;
   script = h.script.now;
   place = h.agenda.place;
+  due = h.due;
   pages = h.pages.now;
   tags = map_values tag_of h.tags.map;
   maps = map_values map_of h.maps.map;

@@ -11,6 +11,7 @@ pub mod MapValues
 pub mod OneAwaiting
 pub mod OpeningMemory
 pub mod PagesLent
+pub mod Sends
 pub mod Served
 pub mod SmallLoads
 pub mod Wire

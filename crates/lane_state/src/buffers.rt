@@ -4,16 +4,19 @@ ghost use Rattle.std.specs.Prelude.{◌≡◌, ◌≤◌, ◌^◌, ◌++◌, ◌
 ghost use Rattle.std.specs.Prelude.{IfNone, IfOk, IfSome};
 ghost use Rattle.std.specs.List.{AllByRecursion};
 ghost use Rattle.busdma_machine.specs.Bounce.AccountStep.{as_pages};
-ghost use Rattle.busdma_machine.specs.declared.machine.bio.Bio.TheVariants.{Mapped};
-ghost use Rattle.busdma_machine.specs.Machine.Entry.{IsStream};
+ghost use Rattle.busdma_machine.specs.declared.machine.bio.Bio.TheVariants.{Mapped, Vector};
+ghost use Rattle.busdma_machine.specs.Machine.Entry.{IsStream, entries_addresses};
 ghost use Rattle.busdma_machine.specs.Machine.PageList.{page_addresses};
+ghost use Rattle.busdma_machine.specs.Machine.Spans.{span_bytes};
 ghost use Rattle.busdma_machine.specs.Runs.{addresses, byte_count};
 ghost use Rattle.dma_tag.specs.LoadFlags.{nowait};
 ghost use Rattle.loan_table.specs.Table.{AreIn};
+ghost use Rattle.phys_memory.specs.Frames.{Lie};
 ghost use Rattle.segment_build.specs.Building.{placed_pieces};
 ghost use Rattle.segment_build.specs.Chunks.{need_of};
 ghost use Rattle.segment_build.specs.Streams.{IsBuiltFrom, IsMeasured, OverflowsFrom, stream_chunks};
 ghost use Rattle.segment_build.specs.Trace.{IsPage};
+ghost use Rattle.ideal_lane.specs.Loads.{load_entries};
 ghost use Rattle.ideal_lane.specs.Turns as turns;
 ghost use Rattle.ideal_lane.specs.Turns.{bio_at};
 ghost use Rattle.lane_state.specs.Ideal.{ideal_of};
@@ -84,7 +87,7 @@ pub fn never_waits(buffer: &Buffer, flags: u32) -> bool
     ensures { result ≡ turns.never_waits buffer.now flags }
 {
     match buffer {
-        Buffer::Mbuf(_) => true,
+        Buffer::Mbuf(_) | Buffer::Send { .. } => true,
         Buffer::Flat { .. } | Buffer::Vector(_) | Buffer::Bio(_) => is_nowait(flags),
     }
 }
@@ -109,6 +112,7 @@ impl Holdings<'_> {
             Buffer::Vector(spans) => Some(LoadBytes::Spans(spans.as_slice())),
             Buffer::Mbuf(chain) => Some(LoadBytes::Spans(chain.as_slice())),
             Buffer::Bio(bio) => Some(LoadBytes::of(bio)),
+            Buffer::Send { chain, .. } => Some(LoadBytes::Spans(chain.as_slice())),
         }
     }
 
@@ -125,6 +129,18 @@ impl Holdings<'_> {
             LoadBytes::Spans(spans) => parts_of_spans(&self.memory, spans),
             LoadBytes::Frames { frames, off, len } => parts_of_frames(frames, off, len),
         }
+    }
+
+    /// The extents of the bytes of spans, in order, up to the first byte that the driver does not reach.
+    pub fn extents(&self, alloc: Global, spans: &[Span]) -> Result<Vec<Extent>, AllocError>
+        requires { span_bytes spans.now ≤ 2 ^ 20 }
+        ensures bytes { IfOk result (λ es.
+            addresses es.items ≡ entries_addresses (load_entries (ideal_of self.now) (Vector spans.now))) }
+        ensures lie { IfOk result (λ es. Lie self.now.memory.memory es.items) }
+        ensures there { IfOk result (λ es. AreIn self.now.loans.bytes (addresses es.items)) }
+        ensures total { IfOk result (λ es. byte_count es.items ≤ 2 ^ 20) }
+    {
+        extents_of(alloc, parts_of_spans(&self.memory, spans))
     }
 
     /// The parts of the `len` bytes from a virtual address on.

@@ -17,7 +17,8 @@ use phys_memory::LanePages;
 
 /// A driver's number, script and pages, the end of the machine's memory in frames, and all that its steps change: its
 /// memory; its tags, maps, dmamem memories and rings by the places that made them, where the map of a memory has the
-/// memory's place; what its maps lend; its place and queues; and its shares of what zones copied.
+/// memory's place; what its maps lend; its place and queues, and whether the resend of the send at this place is due; and
+/// its shares of what zones copied.
 #[derive(Drop)]
 pub struct Holdings<'s> {
     pub script: &'s [Op],
@@ -31,6 +32,7 @@ pub struct Holdings<'s> {
     pub rings: PlaceTable<KeptRing>,
     pub loans: LoanTable,
     pub agenda: Agenda,
+    pub due: bool,
     pub shares: Vec<KeptShare>,
     ghost covered: { IsCovered memory.memory loans.bytes },
     ghost reaches: { Reaches pages.now memories.map memory.memory },

@@ -6,9 +6,11 @@ mod holdings;
 mod judging;
 mod kept;
 mod reach;
+mod sends;
 
 pub use buffers::{
     LoadBytes, build_parts, copy_segments, extents_of, measure_parts, never_waits, write_addresses,
 };
 pub use holdings::{Answered, Holdings, report, unheld};
 pub use kept::{KeptLoad, KeptMap, KeptMemory, KeptRing, KeptShare, KeptTag};
+pub use sends::Resend;

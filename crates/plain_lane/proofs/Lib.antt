@@ -1,3 +1,4 @@
+mod Again
 mod Calls
 mod Changes
 mod Cutting

@@ -13,6 +13,7 @@ ideal l = record {
   maxmem = l.maxmem;
   script = l.script.now;
   place = l.place;
+  due = l.due;
   pages = l.pages.now;
   tags = l.tags;
   maps = l.maps;

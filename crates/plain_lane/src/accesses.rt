@@ -28,7 +28,7 @@ pub(crate) fn refused(name: ReportName, at: u128) -> Judged
 
 impl PlainLane<'_> {
     /// The judgement of the driver's reading of bytes, the first of them at a place.
-    fn judge_cpu_read(&self, at: u128, bytes: &[u64]) -> Judged
+    pub(crate) fn judge_cpu_read(&self, at: u128, bytes: &[u64]) -> Judged
         requires { at + length bytes.now ≤ 2 ^ 64 }
         ensures { result ≡ judged (access.cpu_read_refusal (is_known (ideal self.now).memory) (ideal self.now).loans) at bytes.now }
     {
@@ -45,7 +45,7 @@ impl PlainLane<'_> {
     }
 
     /// The judgement of the driver's writing of bytes, the first of them at a place.
-    fn judge_cpu_write(&self, at: u128, bytes: &[u64]) -> Judged
+    pub(crate) fn judge_cpu_write(&self, at: u128, bytes: &[u64]) -> Judged
         requires { at + length bytes.now ≤ 2 ^ 64 }
         ensures { result ≡ judged (access.cpu_write_refusal (ideal self.now).loans) at bytes.now }
     {

@@ -29,7 +29,7 @@ pub(crate) struct PlainAsked<'s> {
 }
 
 /// The same list again.
-fn listed<T: Copy>(alloc: Global, list: &ListOf<T>) -> Result<ListOf<T>, AllocError>
+pub(crate) fn listed<T: Copy>(alloc: Global, list: &ListOf<T>) -> Result<ListOf<T>, AllocError>
     ensures { IfOk result (λ l. l ≡ list.now) }
 {
     Ok(ListOf::new(Vec::from_slice(alloc, list.as_slice())?))
@@ -58,7 +58,7 @@ fn never_waits(buffer: &Buffer, flags: u32) -> bool
         Buffer::Flat { .. } | Buffer::Vector(_) | Buffer::Bio(_) => {
             LoadFlags(flags).contains(LoadFlags::NOWAIT)
         }
-        Buffer::Mbuf(_) => true,
+        Buffer::Mbuf(_) | Buffer::Send { .. } => true,
     }
 }
 
@@ -82,7 +82,9 @@ impl<'s> PlainLane<'s> {
         match buffer {
             Buffer::Flat { place, len } => self.flat_bio(*place, *len),
             Buffer::Vector(spans) => Ok(Some(Bio::Vector(listed(alloc, spans)?))),
-            Buffer::Mbuf(chain) => Ok(Some(Bio::Vector(listed(alloc, chain)?))),
+            Buffer::Mbuf(chain) | Buffer::Send { chain, .. } => {
+                Ok(Some(Bio::Vector(listed(alloc, chain)?)))
+            }
             Buffer::Bio(bio) => Ok(Some(same_bio(alloc, bio)?)),
         }
     }

@@ -246,15 +246,17 @@ impl Model for PlainReturn {
     ghost inverse = { λ r. record { map = r.map; zone = r.zone; page = r.page } };
 }
 
-/// A driver as plain lists: tags, maps, memories, rings and loans by place; what has happened to the bytes
-/// of its memory, from the opening on; the zone of each sync that copied; and the address spaces of
-/// IOMMU tags by the places of the tags.
+/// A driver as plain lists: its script, the place in it and whether the resend of the send there is
+/// due; tags, maps, memories, rings and loans by place; what has happened to the bytes of its memory,
+/// from the opening on; the zone of each sync that copied; and the address spaces of IOMMU tags by the
+/// places of the tags.
 #[derive(Drop)]
 pub struct PlainLane<'s> {
     pub(crate) id: LaneId,
     pub(crate) maxmem: u64,
     pub(crate) script: &'s [Op],
     pub(crate) place: u32,
+    pub(crate) due: bool,
     pub(crate) pages: &'s [PageRun],
     pub(crate) tags: ByPlace<PlainTag>,
     pub(crate) maps: ByPlace<PlainMap>,
@@ -278,6 +280,7 @@ impl<'s> PlainLane<'s> {
             maxmem,
             script: driver.script.as_slice(),
             place: 0,
+            due: false,
             pages: driver.pages.as_slice(),
             tags: ByPlace::new(alloc),
             maps: ByPlace::new(alloc),

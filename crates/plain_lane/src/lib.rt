@@ -23,6 +23,7 @@ mod places;
 mod raw_accesses;
 mod ring_steps;
 mod rings;
+mod sends;
 mod spaces;
 mod syncs;
 mod tags;

@@ -2,7 +2,7 @@
 //! driver whole, as the ideal state that it stands for.
 #![tactic(auto, unfolding(crate::specs::Ideal::ideal))]
 
-ghost use Rattle.std.specs.Prelude.{◌≡◌, ◌++◌, OnOk, option_copied, slice_get};
+ghost use Rattle.std.specs.Prelude.{◌≡◌, ◌++◌, true, false, OnOk, option_copied, slice_get};
 ghost use Rattle.std.specs.FinMap.{entries, get, insert, remove};
 ghost use Rattle.ideal_lane.specs.State.{named};
 ghost use Rattle.plain_lane.specs.Ideal.{ideal};
@@ -35,6 +35,20 @@ impl<'s> PlainLane<'s> {
         self.place
     }
 
+    /// The resend of the send at this place is due.
+    pub(crate) fn is_due(&self) -> bool
+        ensures { result ≡ (ideal self.now).due }
+    {
+        self.due
+    }
+
+    /// It is due from now on.
+    pub(crate) fn set_due(&mut self)
+        ensures { ideal self.new ≡ record (ideal self.old) { due = true } }
+    {
+        self.due = true;
+    }
+
     /// The next operation of the script.
     pub(crate) fn next_op(&self) -> Option<&'s Op>
         ensures { let l = ideal self.now in option_copied result ≡ slice_get l.script l.place }
@@ -43,11 +57,12 @@ impl<'s> PlainLane<'s> {
         script.get(self.place as usize)
     }
 
-    /// This is the place in the script.
-    pub(crate) fn set_place(&mut self, place: u32)
-        ensures { ideal self.new ≡ record (ideal self.old) { place = place } }
+    /// The script goes on to this place, where no resend is due.
+    pub(crate) fn go_to(&mut self, place: u32)
+        ensures { ideal self.new ≡ record (ideal self.old) { place = place; due = false } }
     {
         self.place = place;
+        self.due = false;
     }
 
     /// The driver's pages.

@@ -2,19 +2,22 @@
 
 ghost use Rattle.std.specs.Prelude.{◌≡◌, IfOk, OnOk, slice_get};
 ghost use Rattle.std.specs.FinMap.{get};
-ghost use Rattle.ideal_lane.specs.Asking.{Gives, by_reply, call_of};
+ghost use Rattle.ideal_lane.specs.Asking.{Gives, by_reply, call_of, goes_on};
+ghost use Rattle.ideal_lane.specs.Sends as sends;
 ghost use Rattle.ideal_lane.specs.State.{named};
 ghost use Rattle.ideal_lane.specs.Turns as turns;
 ghost use Rattle.ideal_lane.specs.Unloads as unloads;
 ghost use Rattle.plain_lane.specs.Ideal.{given, ideal};
+ghost use Rattle.plain_lane.specs.Sending.{sent_of};
 ghost use Rattle.plain_lane.specs.Stages.{stage_of};
 ghost use Rattle.plain_lane.specs.Turning.{IsStep, turned};
 
 use crate::items::same_queue;
 use crate::lane::{PlainLane, PlainMap, PlainReturn, PlainStage};
 use crate::lists::addresses;
+use crate::sends::{PlainSend, is_kept};
 use crate::unloads::after_return;
-use busdma_base::{Actor, Answer, Did, HubCall, HubReply, JournalEntry, Pa, Side, ZoneId};
+use busdma_base::{Actor, Answer, Did, HubCall, HubReply, JournalEntry, Op, Pa, Side, ZoneId};
 use std::alloc::{AllocError, Global};
 
 /// What a turn answers.
@@ -129,14 +132,39 @@ impl PlainLane<'_> {
         self.operation_call(alloc, op)
     }
 
+    /// The call of the resend that is due, or else of the next operation.
+    #[tactic(auto, using(crate::proofs::Calls::call_goes_on))]
+    fn due_call(&self, alloc: Global) -> Result<Option<HubCall>, AllocError>
+        ensures { let l = ideal self.now in IfOk result (λ c. c ≡ call_of (turns.due_turn (sends.due_send l) l)) }
+    {
+        match self.due_send() {
+            Some(send) => self.resend_call(alloc, send),
+            None => self.next_call(alloc),
+        }
+    }
+
     /// The call of the turn of the script.
     fn script_call(&self, alloc: Global) -> Result<Option<HubCall>, AllocError>
         ensures { let l = ideal self.now in IfOk result (λ c. c ≡ call_of (turns.script_turn l.returns l)) }
     {
         let Some((first, _)) = self.returns().split_first() else {
-            return self.next_call(alloc);
+            return self.due_call(alloc);
         };
         Ok(Some(self.release_call(*first)))
+    }
+
+    /// The script after an operation: it stays at a send whose callback is kept, since its resend is
+    /// due, and goes on after any other.
+    fn went_on(&mut self, op: &Op, place: u32, answer: Answer) -> Result<PlainTurn, AllocError>
+        ensures { IfOk result (λ t. turned self.new t
+            ≡ turns.went_on op.now place (given self.old answer)) }
+    {
+        if is_kept(op, &answer) {
+            self.set_due();
+        } else {
+            self.go_to(place.checked_add(1).ok_or(AllocError)?);
+        }
+        Ok(self.stepped(Side::Script, Did::Op(place), answer))
     }
 
     /// The next operation of the script, with this reply to its call.
@@ -153,8 +181,35 @@ impl PlainLane<'_> {
             return Ok(PlainTurn::Blocked);
         }
         let answer = self.operate(alloc, op, reply)?;
-        self.set_place(place.checked_add(1).ok_or(AllocError)?);
-        Ok(self.stepped(Side::Script, Did::Op(place), answer))
+        self.went_on(op, place, answer)
+    }
+
+    /// The script goes on behind a send whose resend was made, with this reply to its call.
+    #[tactic(auto, using(crate::proofs::Calls::reply_goes_on))]
+    fn resent(
+        &mut self,
+        alloc: Global,
+        send: PlainSend<'_>,
+        reply: &HubReply,
+    ) -> Result<PlainTurn, AllocError>
+        ensures { let l = ideal self.old in IfOk result (λ t. turned self.new t
+            ≡ by_reply (goes_on (turns.resent l.place) (sends.resend (sent_of send.entry) l)) reply.now) }
+    {
+        let place = self.place();
+        let answer = self.resend(alloc, send, reply)?;
+        self.go_to(place.checked_add(1).ok_or(AllocError)?);
+        Ok(self.stepped(Side::Script, Did::Again(place), answer))
+    }
+
+    /// The resend that is due, or else the next operation, with this reply to its call.
+    fn due_turn(&mut self, alloc: Global, reply: &HubReply) -> Result<PlainTurn, AllocError>
+        ensures { let l = ideal self.old in IfOk result (λ t. turned self.new t
+            ≡ by_reply (turns.due_turn (sends.due_send l) l) reply.now) }
+    {
+        match self.due_send() {
+            Some(send) => self.resent(alloc, send, reply),
+            None => self.next_operation(alloc, reply),
+        }
     }
 
     /// The turn of the script, with this reply to its call: pages go back first.
@@ -163,7 +218,7 @@ impl PlainLane<'_> {
             ≡ by_reply (turns.script_turn l.returns l) reply.now) }
     {
         let Some((first, rest)) = self.returns().split_first() else {
-            return self.next_operation(alloc, reply);
+            return self.due_turn(alloc, reply);
         };
         let first = *first;
         let rest = Vec::from_slice(alloc, rest)?;

@@ -11,7 +11,9 @@ mod generator;
 mod items;
 mod operations;
 mod plain_machine;
+mod rings;
 mod scenario;
+mod sends;
 mod tags;
 mod worked;
 

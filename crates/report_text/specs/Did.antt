@@ -43,6 +43,10 @@ object_text (Some name) = codes " " ++ name
 abbrev pub op_text : List Op → Op → List ℕ
 op_text script o = word.op_text (about o).word ++ object_text (option_map (object_name script) (object_of (about o)))
 
+-- the resend of a send: its word and the object of the send
+abbrev pub again_text : List Op → Op → List ℕ
+again_text script o = codes "resend" ++ object_text (option_map (object_name script) (object_of (about o)))
+
 -- the item at this place in the list of the operation at `load_at`
 abbrev pub item_at : List Op → ℕ → ℕ → Option Item
 item_at script load_at place = option_map_or (λ op. slice_get (items_of op) place) (slice_get script load_at) None
@@ -55,6 +59,10 @@ item_text script i = word.item_text (about_item i).word ++ (codes " " ++ name_at
 abbrev pub op_text_at : List Op → ℕ → List ℕ
 op_text_at script place = option_map_or (op_text script) (slice_get script place) []
 
+-- the resend of the send at this place of a script; it is empty where there is none
+abbrev pub again_text_at : List Op → ℕ → List ℕ
+again_text_at script place = option_map_or (again_text script) (slice_get script place) []
+
 -- the item at this place of the load or the kick at `load_at`; it is empty where there is none
 abbrev pub item_text_at : List Op → ℕ → ℕ → List ℕ
 item_text_at script load_at place = option_map_or (item_text script) (item_at script load_at place) []
@@ -62,6 +70,7 @@ item_text_at script load_at place = option_map_or (item_text script) (item_at sc
 -- what a step for the driver with this number did
 abbrev pub did_text : Scenario → LaneId → Did → List ℕ
 did_text scenario lane (did.Op place) = op_text_at (script_of scenario lane) place
+did_text scenario lane (did.Again place) = again_text_at (script_of scenario lane) place
 did_text scenario lane (did.Release map page) =
     codes "release " ++ (map_name scenario map ++ (codes " " ++ hex page.0))
 did_text scenario lane (did.Callback map) = codes "callback " ++ map_name scenario map

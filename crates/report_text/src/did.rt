@@ -98,6 +98,24 @@ fn push_op_at<K: Sink>(out: &mut Pieces<'_, K>, script: &[Op], place: u32)
     }
 }
 
+fn push_again<K: Sink>(out: &mut Pieces<'_, K>, script: &[Op], op: &Op)
+    ensures { Gives K.held K.faults out.old (text.again_text script.now op.now) out.new }
+{
+    out.push_str("resend");
+    if let Some(object) = op.object() {
+        push_object(out, script, object);
+    }
+}
+
+fn push_again_at<K: Sink>(out: &mut Pieces<'_, K>, script: &[Op], place: u32)
+    ensures { Gives K.held K.faults out.old (text.again_text_at script.now place) out.new }
+{
+    match op_at(script, place) {
+        Some(op) => push_again(out, script, op),
+        None => {}
+    }
+}
+
 fn push_item_at<K: Sink>(out: &mut Pieces<'_, K>, script: &[Op], load_at: u32, place: u32)
     ensures { Gives K.held K.faults out.old (text.item_text_at script.now load_at place) out.new }
 {
@@ -136,6 +154,7 @@ pub(crate) fn push_did<K: Sink>(
     let script = script_of(scenario, lane);
     match did {
         Did::Op(place) => push_op_at(out, script, place),
+        Did::Again(place) => push_again_at(out, script, place),
         Did::Release { map, page } => push_release(out, scenario, map, page),
         Did::Callback { map } => push_callback(out, scenario, map),
         Did::Item { load_at, place } => push_item_at(out, script, load_at, place),

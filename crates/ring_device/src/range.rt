@@ -1,10 +1,11 @@
 //! Ranges of bus addresses, and ranges of a load.
 
-ghost use Rattle.std.specs.Prelude.{◌≡◌, ◌^◌, ◌+◌, ◌<◌, ◌≤◌, IfSome, take, drop};
+ghost use Rattle.std.specs.Prelude.{◌≡◌, ◌^◌, ◌<◌, IfSome, take, drop};
 ghost use Rattle.std.specs.List.{AllByRecursion};
 ghost use Rattle.std.specs.Option.{option_map};
 ghost use Rattle.busdma_machine.specs.Machine.Wire.{stretch};
 ghost use Rattle.busdma_machine.specs.Runs.{run_of};
+ghost use Rattle.ring_device.specs.Ends.{EndsLow};
 ghost use Rattle.ring_device.specs.Ranges.{address_of, bus_bytes, byte_count, place_of};
 
 use busdma_machine::{Pa, Segment};
@@ -34,9 +35,9 @@ pub fn find(segments: &[Segment], addr: u64, len: u64) -> Option<u64>
 /// The bus address of the byte `off` of a load, or None where the segment that has the byte does not
 /// have all of the `len` bytes from there on, or where no segment has it.
 ///
-/// The segments are those of the load, in the order of its bytes, and none ends above 2^64.
+/// The segments are those of the load, in the order of its bytes, and none that has a byte ends above 2^64.
 pub fn address_of(segments: &[Segment], off: u64, len: u64) -> Option<Pa>
-    requires { AllByRecursion (λ s. s.addr.0 + s.len ≤ 2 ^ 64) segments.now }
+    requires { AllByRecursion EndsLow segments.now }
     ensures address { option_map (λ pa. pa.0) result ≡ address_of off len segments.now }
     ensures bytes { IfSome result (λ pa. stretch off len (bus_bytes segments.now) ≡ run_of pa.0 len) }
 {

@@ -79,9 +79,9 @@ read_judged c n place =
     access_judged n place >>= (λ _.
     if nat_lt reads_limit (c.read + n) then refuse (Limit limit.Reads) place else Ok tt)
 
--- a load of n bytes
-abbrev pub load_judged : Counts → ℕ → Place → Read ⊤
-load_judged c n place =
+-- a load of n bytes, which count as m for the limit on all loads
+abbrev pub load_judged : Counts → ℕ → ℕ → Place → Read ⊤
+load_judged c n m place =
     if nat_lt buffer_limit n then refuse (Limit limit.Buffer) place
-    else (if nat_lt loaded_limit (c.loaded + n) then refuse (Limit limit.Loaded) place
+    else (if nat_lt loaded_limit (c.loaded + m) then refuse (Limit limit.Loaded) place
     else Ok tt)

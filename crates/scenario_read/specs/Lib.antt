@@ -16,6 +16,7 @@ pub mod Places
 pub mod Rings
 pub mod Scenario
 pub mod Script
+pub mod Sends
 pub mod Spans
 pub mod Syncs
 pub mod Words

@@ -1,4 +1,4 @@
--- The four loads of a map, each read by itself and by the operations before it. They differ in what they load and in
+-- The loads of a map, each read by itself and by the operations before it. They differ in what they load and in
 -- the keys that they may have; what they share is told once.
 use Rattle.std.specs.Prelude.{ℕ, List, [], ◌∷◌, Ok, codes}
 use Rattle.busdma_base.specs.declared.scenarios.buffer.Buffer.{Buffer}
@@ -7,7 +7,7 @@ use Rattle.busdma_base.specs.declared.scenarios.operations.NameUse.TheVariants a
 use Rattle.busdma_base.specs.declared.scenarios.scenario.PageRun.{PageRun}
 use Rattle.busdma_base.specs.declared.scenarios.script.Op.{Op}
 use Rattle.busdma_base.specs.declared.scenarios.script.Op.TheVariants as op
-use Rattle.busdma_base.specs.Scenarios.Buffers.{buffer_bytes}
+use Rattle.busdma_base.specs.Scenarios.Buffers.{buffer_bytes, counted_bytes}
 use Rattle.json_fields.specs.Read.{Read, ◌>>=◌}
 use Rattle.json_fields.specs.Field.{Spot, only_keys, one_of}
 use Rattle.json_fields.specs.Number.{number_field}
@@ -36,8 +36,8 @@ loaded_map_at before here = used_name use_as.Map (codes "map") before here
 unfoldable pub load_of : List Op → Counts → Spot → ℕ → Buffer → Read Op
 load_of before c here map buffer =
     flags_field set.Load here >>= (λ flags.
-    load_judged c (buffer_bytes buffer) here.place >>= (λ _.
-    then_field before (having_loaded c (buffer_bytes buffer)) here >>= (λ items.
+    load_judged c (buffer_bytes buffer) (counted_bytes buffer) here.place >>= (λ _.
+    then_field before (having_loaded c (counted_bytes buffer)) here >>= (λ items.
     Ok (op.Load map buffer flags items))))
 
 -- a load of bytes from a place on

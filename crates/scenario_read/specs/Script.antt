@@ -14,6 +14,7 @@ use Rattle.scenario_read.specs.Ops.{tag_at, iommu_tag_at, tag_destroy_at, map_at
 use Rattle.scenario_read.specs.Ops.{dmamem_free_at, unload_at, sync_at, sync_range_at, cpu_read_at, cpu_write_at}
 use Rattle.scenario_read.specs.Ops.{await_at}
 use Rattle.scenario_read.specs.Rings.{ring_at, ring_post_at, kick_at}
+use Rattle.scenario_read.specs.Sends.{send_at}
 use Rattle.scenario_read.specs.Words.{op_word_at}
 
 -- the operation of a word
@@ -29,6 +30,7 @@ op_by word.Load pages before c here = load_at before c here
 op_by word.LoadVector pages before c here = load_vector_at before c here
 op_by word.LoadMbuf pages before c here = load_mbuf_at before c here
 op_by word.LoadBio pages before c here = load_bio_at pages before c here
+op_by word.Send pages before c here = send_at before c here
 op_by word.Unload pages before c here = unload_at before here
 op_by word.Sync pages before c here = sync_at before here
 op_by word.SyncRange pages before c here = sync_range_at before here

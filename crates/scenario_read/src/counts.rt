@@ -49,22 +49,21 @@ impl Counts {
         Ok(())
     }
 
-    /// Counts the bytes of a load.
-    pub fn load(&mut self, here: &Node, len: u128) -> Result<(), Stop>
+    /// Counts the bytes of a load of `len` bytes, as `counted` for the limit on all loads.
+    pub fn load(&mut self, here: &Node, len: u128, counted: u128) -> Result<(), Stop>
         requires { IsWithin self.old }
-        ensures value { Gives result (load_judged self.old len (place_of here.now.path)) }
+        ensures value { Gives result (load_judged self.old len counted (place_of here.now.path)) }
         ensures small { OnOk result (len ≤ buffer_limit) }
-        ensures counted { OnOk result (self.new ≡ having_loaded self.old len) }
+        ensures counted { OnOk result (self.new ≡ having_loaded self.old counted) }
         ensures within { OnOk result (IsWithin self.new) }
     {
         if len > u128::from(BUFFER) {
             return Err(here.refuse(RefusalKind::Limit(LimitName::Buffer)));
         }
-        let len = len as u64;
-        if len > LOADED - self.loaded {
+        if counted > u128::from(LOADED - self.loaded) {
             return Err(here.refuse(RefusalKind::Limit(LimitName::Loaded)));
         }
-        self.loaded += len;
+        self.loaded += counted as u64;
         Ok(())
     }
 }

@@ -21,6 +21,7 @@ mod reading;
 mod rings;
 mod scenario;
 mod script;
+mod sends;
 mod spans;
 mod syncs;
 mod words;

@@ -2,7 +2,8 @@
 
 ghost use Rattle.std.specs.Prelude.{◌≡◌, ◌≤◌, List, IfOk, Some};
 ghost use Rattle.std.specs.List.{AllByRecursion};
-ghost use Rattle.busdma_base.specs.Scenarios.Buffers.{IsBufferOf, IsFromBegin, buffer_bytes as bytes_in, buffer_entries};
+ghost use Rattle.busdma_base.specs.Scenarios.Buffers.{HasClusters, IsBufferOf, IsFromBegin, buffer_entries};
+ghost use Rattle.busdma_base.specs.Scenarios.Buffers as buffers;
 ghost use Rattle.busdma_base.specs.Scenarios.Names.{IsMade};
 ghost use Rattle.busdma_base.specs.Scenarios.Operations.{about, buffer_within, map_at};
 ghost use Rattle.busdma_base.specs.Scenarios.Script.{IsOp};
@@ -27,7 +28,7 @@ use json_fields::{Node, Stop};
 
 /// How many bytes a buffer has.
 fn buffer_bytes(buffer: &Buffer) -> u128
-    ensures { result ≡ bytes_in buffer.now }
+    ensures { result ≡ buffers.buffer_bytes buffer.now }
 {
     match buffer {
         Buffer::Flat { len, .. } => u128::from(*len),
@@ -36,6 +37,19 @@ fn buffer_bytes(buffer: &Buffer) -> u128
         Buffer::Bio(Bio::Mapped(span)) => u128::from(span.len),
         Buffer::Bio(Bio::Vector(spans)) => span_bytes(spans.as_slice()),
         Buffer::Bio(Bio::Unmapped { len, .. }) => u128::from(*len),
+        Buffer::Send { chain, .. } => span_bytes(chain.as_slice()),
+    }
+}
+
+/// As how many bytes a buffer counts for the limit on all loads.
+fn counted_bytes(buffer: &Buffer) -> u128
+    ensures { result ≡ buffers.counted_bytes buffer.now }
+{
+    match buffer {
+        Buffer::Flat { .. } | Buffer::Vector(_) | Buffer::Mbuf(_) | Buffer::Bio(_) => {
+            buffer_bytes(buffer)
+        }
+        Buffer::Send { chain, .. } => 2 * span_bytes(chain.as_slice()),
     }
 }
 
@@ -46,14 +60,16 @@ fn flat(here: &Node, before: &NamedOps) -> Result<Buffer, Stop>
     ensures whole { IfOk result IsFromBegin }
     ensures own { IfOk result (λ b. (pages : List PageRun) → IsBufferOf pages b) }
     ensures few { IfOk result (λ b. buffer_entries b ≤ entries_limit) }
+    ensures clusters { IfOk result HasClusters }
 {
     let place = loaded_from(here, before)?;
     let len = here.number_field("len")?;
     Ok(Buffer::Flat { place, len })
 }
 
+/// The map of a load.
 #[tactic(auto, unfolding(crate::specs::Loads::loaded_map_at))]
-fn loaded_map(here: &Node, before: &NamedOps) -> Result<u32, Stop>
+pub(crate) fn loaded_map(here: &Node, before: &NamedOps) -> Result<u32, Stop>
     ensures value { Gives result (loads.loaded_map_at before.now (spot_of here.now)) }
     ensures made { IfOk result (λ map. IsMade before.now (map_at map)) }
 {
@@ -62,7 +78,7 @@ fn loaded_map(here: &Node, before: &NamedOps) -> Result<u32, Stop>
 
 /// The load of a map with a buffer. What stands here says its flags and its items.
 #[tactic(auto, unfolding(crate::specs::Loads::load_of))]
-fn load_of(
+pub(crate) fn load_of(
     here: &Node,
     before: &NamedOps,
     counts: &mut Counts,
@@ -74,6 +90,7 @@ fn load_of(
     requires memory { AllByRecursion (IsMade before.now) (buffer_within buffer) }
     requires whole { IsFromBegin buffer }
     requires listed { buffer_entries buffer ≤ entries_limit }
+    requires clusters { HasClusters buffer }
     ensures value { Gives result (loads.load_of before.now counts.old (spot_of here.now) map buffer) }
     ensures valid { IfOk result (IsOp before.now) }
     ensures counted { IfOk result (λ o. counts.new ≡ with_op counts.old o) }
@@ -81,7 +98,7 @@ fn load_of(
     ensures loads { IfOk result (λ o. (about o).loads ≡ Some buffer) }
 {
     let flags = flags_field(here, FlagSet::Load)?;
-    counts.load(here, buffer_bytes(&buffer))?;
+    counts.load(here, buffer_bytes(&buffer), counted_bytes(&buffer))?;
     let then = then_field(here, before, counts)?;
     Ok(Op::Load {
         map,

@@ -15,6 +15,7 @@ ghost use Rattle.scenario_read.specs.Script.{op_by, op_at, script_at};
 use crate::counts::Counts;
 use crate::load::{load, load_bio, load_mbuf, load_vector};
 use crate::named_ops::NamedOps;
+use crate::sends::send;
 use crate::words::op_word;
 use crate::{ops, rings};
 use busdma_base::{ListOf, Op, OpList, OpWord, PageRun};
@@ -49,6 +50,7 @@ fn op_by(
         OpWord::LoadVector => load_vector(here, before, counts),
         OpWord::LoadMbuf => load_mbuf(here, before, counts),
         OpWord::LoadBio => load_bio(here, pages, before, counts),
+        OpWord::Send => send(here, before, counts),
         OpWord::Unload => ops::unload(here, before),
         OpWord::Sync => ops::sync(here, before),
         OpWord::SyncRange => ops::sync_range(here, before),

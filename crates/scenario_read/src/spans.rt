@@ -1,6 +1,6 @@
 //! The lists of loads, and the spans of a vector or of an mbuf chain.
 
-ghost use Rattle.std.specs.Prelude.{◌≡◌, ◌≤◌, [], length, map, IfOk};
+ghost use Rattle.std.specs.Prelude.{◌≡◌, ◌≤◌, ◌<◌, ◌^◌, [], length, map, IfOk};
 ghost use Rattle.serde_json.specs.View.{view};
 ghost use Rattle.busdma_machine.specs.Machine.Spans.{span_bytes as bytes_in};
 ghost use Rattle.busdma_base.specs.Scenarios.Limits.{entries_limit};
@@ -78,7 +78,8 @@ pub(crate) fn entries_field(here: &Node) -> Result<ListOf<Span>, Stop>
 
 /// How many bytes spans have.
 pub(crate) fn span_bytes(spans: &[Span]) -> u128
-    ensures { result ≡ bytes_in spans.now }
+    ensures bytes { result ≡ bytes_in spans.now }
+    ensures small { result < 2 ^ 127 }
 {
     let mut bytes = 0;
     for span in spans {

@@ -6,6 +6,7 @@ mod loads;
 mod memories;
 mod operations;
 mod rings;
+mod sends;
 mod values;
 
 use scenario_read::{Reading, scenario_of};
@@ -102,8 +103,16 @@ const RINGS_AND_KICKS: [Table<'static>; 1] = [Table {
     path: "drivers[0].script",
 }];
 
+/// Sends.
+const SENDS: [Table<'static>; 1] = [Table {
+    before: SCRIPT,
+    lines: sends::SENDS,
+    after: "]}]}",
+    path: "drivers[0].script",
+}];
+
 /// Scripts at their limits.
-const SCRIPTS: [Table<'static>; 3] = [
+const SCRIPTS: [Table<'static>; 4] = [
     Table {
         before: SCRIPT,
         lines: operations::REPEATED,
@@ -122,10 +131,16 @@ const SCRIPTS: [Table<'static>; 3] = [
         after: "]}]}",
         path: "drivers[0].script",
     },
+    Table {
+        before: SCRIPT,
+        lines: sends::REPEATED,
+        after: "]}]}",
+        path: "drivers[0].script",
+    },
 ];
 
 /// Lists at their limits.
-const LISTS: [Table<'static>; 5] = [
+const LISTS: [Table<'static>; 7] = [
     Table {
         before: r#"{"frames":[],"drivers":[{"script":[]}],"order":["#,
         lines: documents::ACTORS,
@@ -141,6 +156,18 @@ const LISTS: [Table<'static>; 5] = [
     Table {
         before: r#"{"frames":[[16,8]],"drivers":[{"script":[{"op":"tag","name":"t"},{"op":"map","name":"m","tag":"t"},{"op":"load_mbuf","map":"m","entries":["#,
         lines: loads::ENTRIES,
+        after: "]}]}]}",
+        path: "drivers[0].script",
+    },
+    Table {
+        before: r#"{"frames":[[16,8]],"drivers":[{"script":[{"op":"tag","name":"t"},{"op":"map","name":"m","tag":"t"},{"op":"send","map":"m","clusters":[],"entries":["#,
+        lines: loads::ENTRIES,
+        after: "]}]}]}",
+        path: "drivers[0].script",
+    },
+    Table {
+        before: r#"{"frames":[[16,8]],"drivers":[{"script":[{"op":"tag","name":"t"},{"op":"map","name":"m","tag":"t"},{"op":"send","map":"m","entries":[],"clusters":["#,
+        lines: sends::CLUSTERS,
         after: "]}]}]}",
         path: "drivers[0].script",
     },
@@ -269,6 +296,12 @@ fn spaces_of_tags(rt: HostRuntime) -> Result<(), Fail> {
 #[test]
 fn rings_and_kicks(rt: HostRuntime) -> Result<(), Fail> {
     assert_eq!(rt; wrong(rt.alloc(), &RINGS_AND_KICKS)?, None);
+    Ok(())
+}
+
+#[test]
+fn sends_and_clusters(rt: HostRuntime) -> Result<(), Fail> {
+    assert_eq!(rt; wrong(rt.alloc(), &SENDS)?, None);
     Ok(())
 }
 

@@ -57,6 +57,7 @@ await_valid m is rest =
       own_items = tt;
       listed = omega arith;
       loaded = omega arith;
+      clusters = tt;
     }
 
 unload_valid : OfMap op.Unload
@@ -72,6 +73,7 @@ unload_valid m is rest =
       own_items = tt;
       listed = omega arith;
       loaded = omega arith;
+      clusters = tt;
     }
 
 item_valid : (i : Item) (m : ℕ) (rest : List Op) → (m ≡ 1) ⊎ (m ≡ 2) → (about_item i).uses ≡ map_at m →
@@ -92,6 +94,7 @@ to_device_valid t small = (
     own_items = tt;
     listed = omega arith;
     loaded = omega arith;
+    clusters = tt;
   },
   (
     λ rest. record {
@@ -111,6 +114,7 @@ to_device_valid t small = (
       own_items = (refl, (refl, (refl, tt)));
       listed = omega arith;
       loaded = omega (arith, small.short);
+      clusters = tt;
     },
     (
       await_valid t.map small.map,
@@ -139,6 +143,7 @@ from_device_valid t small = (
     own_items = (refl, (refl, (refl, tt)));
     listed = omega arith;
     loaded = omega (arith, small.short);
+    clusters = tt;
   },
   (
     await_valid t.map small.map,
@@ -154,6 +159,7 @@ from_device_valid t small = (
         own_items = tt;
         listed = omega arith;
         loaded = omega arith;
+        clusters = tt;
       },
       (unload_valid t.map small.map, tt),
     ),
@@ -174,6 +180,7 @@ opening_valid ops behind = (
     own_items = tt;
     listed = omega arith;
     loaded = omega arith;
+    clusters = tt;
   },
   (
     record {
@@ -187,6 +194,7 @@ opening_valid ops behind = (
       own_items = tt;
       listed = omega arith;
       loaded = omega arith;
+      clusters = tt;
     },
     (
       record {
@@ -200,6 +208,7 @@ opening_valid ops behind = (
         own_items = tt;
         listed = omega arith;
         loaded = omega arith;
+        clusters = tt;
       },
       behind,
     ),

@@ -1,7 +1,8 @@
 -- What a load loads.
-use Rattle.std.specs.Prelude.{◌≡◌, ℕ, ◌<◌, true, List, length}
-use Rattle.std.specs.List.{AllByRecursion}
+use Rattle.std.specs.Prelude.{◌≡◌, ℕ, ◌*◌, ◌%◌, ◌<◌, ◌≤◌, ◌==◌, true, false, List, [], length, IfSome}
+use Rattle.std.specs.List.{AllByRecursion, list_any}
 use Rattle.busdma_machine.specs.declared.machine.bio.Bio.{Bio}
+use Rattle.busdma_machine.specs.declared.machine.address.Span.{Span}
 use Rattle.busdma_machine.specs.declared.machine.bio.Bio.TheVariants as bio
 use Rattle.busdma_base.specs.declared.scenarios.buffer.Buffer.{Buffer}
 use Rattle.busdma_base.specs.declared.scenarios.buffer.Buffer.TheVariants as buffer
@@ -10,8 +11,10 @@ use Rattle.busdma_base.specs.declared.scenarios.script.Place.{Place}
 use Rattle.busdma_base.specs.declared.scenarios.script.Place.TheVariants as place
 use Rattle.busdma_base.specs.declared.scenarios.words.OpWord.{OpWord}
 use Rattle.busdma_base.specs.declared.scenarios.words.OpWord.TheVariants as op_word
+use Rattle.busdma_base.specs.Scenarios.Limits.{entries_limit}
 use Rattle.busdma_base.specs.Scenarios.PageRuns.{has_frame}
-use Rattle.busdma_machine.specs.Machine.Spans.{bio_spans, span_bytes}
+use Rattle.busdma_machine.specs.Each.{EachAfter}
+use Rattle.busdma_machine.specs.Machine.Spans.{bio_spans, span_addresses, span_bytes}
 
 -- the word of the operation that loads a buffer
 abbrev pub buffer_word : Buffer → OpWord
@@ -19,6 +22,7 @@ buffer_word (buffer.Flat at len) = op_word.Load
 buffer_word (buffer.Vector spans) = op_word.LoadVector
 buffer_word (buffer.Mbuf chain) = op_word.LoadMbuf
 buffer_word (buffer.Bio b) = op_word.LoadBio
+buffer_word (buffer.Send chain clusters) = op_word.Send
 
 -- how many bytes a buffer has
 abbrev pub buffer_bytes : Buffer → ℕ
@@ -26,6 +30,15 @@ buffer_bytes (buffer.Flat at len) = len
 buffer_bytes (buffer.Vector spans) = span_bytes spans
 buffer_bytes (buffer.Mbuf chain) = span_bytes chain
 buffer_bytes (buffer.Bio b) = span_bytes (bio_spans b)
+buffer_bytes (buffer.Send chain clusters) = span_bytes chain
+
+-- how many bytes it counts for the limit on all loads: those of a send may be loaded twice
+abbrev pub counted_bytes : Buffer → ℕ
+counted_bytes (buffer.Flat at len) = len
+counted_bytes (buffer.Vector spans) = span_bytes spans
+counted_bytes (buffer.Mbuf chain) = span_bytes chain
+counted_bytes (buffer.Bio b) = span_bytes (bio_spans b)
+counted_bytes (buffer.Send chain clusters) = 2 * span_bytes chain
 
 -- how long the list of a bio is, of its spans or of its frames
 abbrev pub bio_entries : Bio → ℕ
@@ -39,6 +52,7 @@ buffer_entries (buffer.Flat at len) = 1
 buffer_entries (buffer.Vector spans) = length spans
 buffer_entries (buffer.Mbuf chain) = length chain
 buffer_entries (buffer.Bio b) = bio_entries b
+buffer_entries (buffer.Send chain clusters) = length chain
 
 -- a place that is told by a memory is that of its first byte
 abbrev pub IsBegin : Place → Type 0
@@ -51,6 +65,7 @@ IsFromBegin (buffer.Flat at len) = IsBegin at
 IsFromBegin (buffer.Vector spans) = Unit {0}
 IsFromBegin (buffer.Mbuf chain) = Unit {0}
 IsFromBegin (buffer.Bio b) = Unit {0}
+IsFromBegin (buffer.Send chain clusters) = Unit {0}
 
 -- a bio that is not mapped is of frames of these pages, and begins in the first of them
 abbrev pub IsBioOf : List PageRun → Bio → Type 0
@@ -65,3 +80,30 @@ IsBufferOf pages (buffer.Flat at len) = Unit {0}
 IsBufferOf pages (buffer.Vector spans) = Unit {0}
 IsBufferOf pages (buffer.Mbuf chain) = Unit {0}
 IsBufferOf pages (buffer.Bio b) = IsBioOf pages b
+IsBufferOf pages (buffer.Send chain clusters) = Unit {0}
+
+-- an address is none of these
+abbrev pub IsNoneOf : List ℕ → ℕ → Type 0
+IsNoneOf others a = list_any (λ b. a == b) others ≡ false
+
+-- a span of clusters is one of them, or of the last as many bytes as are left
+pub record IsCluster (span : Span) : Type 0 where
+  pub whole : span.va.0 % 4096 ≡ 0
+  pub short : span.len ≤ 4096
+
+-- the clusters of a send have as many bytes as its chain, and no virtual byte is of two of them, or of one and of the
+-- chain
+pub record AreClustersFor (chain spans : List Span) : Type 0 where
+  pub each : AllByRecursion IsCluster spans
+  pub alike : span_bytes spans ≡ span_bytes chain
+  pub few : length spans ≤ entries_limit
+  pub unlike : EachAfter IsNoneOf [] (span_addresses spans)
+  pub apart : AllByRecursion (IsNoneOf (span_addresses spans)) (span_addresses chain)
+
+-- what is loaded has its clusters, where it is a send that has any
+abbrev pub HasClusters : Buffer → Type 0
+HasClusters (buffer.Flat at len) = Unit {0}
+HasClusters (buffer.Vector spans) = Unit {0}
+HasClusters (buffer.Mbuf chain) = Unit {0}
+HasClusters (buffer.Bio b) = Unit {0}
+HasClusters (buffer.Send chain clusters) = IfSome clusters (AreClustersFor chain)

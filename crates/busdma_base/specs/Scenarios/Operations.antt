@@ -22,7 +22,7 @@ use Rattle.busdma_base.specs.declared.scenarios.words.OpWord.{OpWord}
 use Rattle.busdma_base.specs.declared.scenarios.words.OpWord.TheVariants as op_word
 use Rattle.busdma_base.specs.declared.scenarios.words.ItemWord.{ItemWord}
 use Rattle.busdma_base.specs.declared.scenarios.words.ItemWord.TheVariants as item_word
-use Rattle.busdma_base.specs.Scenarios.Buffers.{buffer_bytes, buffer_word}
+use Rattle.busdma_base.specs.Scenarios.Buffers.{buffer_word, counted_bytes}
 
 -- a name that an operation makes, and what it stands for
 pub record Made : Type 0 where
@@ -103,6 +103,7 @@ buffer_within (buffer.Flat at len) = place_within at
 buffer_within (buffer.Vector spans) = []
 buffer_within (buffer.Mbuf chain) = []
 buffer_within (buffer.Bio b) = []
+buffer_within (buffer.Send chain clusters) = []
 
 -- a parent, where there is one
 abbrev pub parents : Option ℕ → List UsedName
@@ -161,7 +162,7 @@ items_of o = (about o).items
 
 -- how many bytes an operation counts for the limit on all loads
 abbrev pub loaded_by : Op → ℕ
-loaded_by o = option_map_or buffer_bytes (about o).loads 0
+loaded_by o = option_map_or counted_bytes (about o).loads 0
 
 -- how many bytes an item reads
 abbrev pub read_by_item : Item → ℕ

@@ -7,10 +7,10 @@ use Rattle.busdma_base.specs.declared.scenarios.script.Op.TheVariants as op
 use Rattle.busdma_base.specs.declared.scenarios.script.Item.{Item}
 use Rattle.busdma_base.specs.declared.scenarios.script.Item.TheVariants as item
 use Rattle.busdma_machine.specs.Each.{EachAfter}
-use Rattle.busdma_base.specs.Scenarios.Buffers.{buffer_entries, IsFromBegin}
+use Rattle.busdma_base.specs.Scenarios.Buffers.{buffer_bytes, buffer_entries, HasClusters, IsFromBegin}
 use Rattle.busdma_base.specs.Scenarios.Limits.{access_limit, buffer_limit, entries_limit, steps_limit}
 use Rattle.busdma_base.specs.Scenarios.Names.{IsMade, MakesNewName}
-use Rattle.busdma_base.specs.Scenarios.Operations.{about, about_item, items_of, loaded_by}
+use Rattle.busdma_base.specs.Scenarios.Operations.{about, about_item, items_of}
 
 -- an item is a step of a ring
 abbrev pub is_ring_step : Item → Bool
@@ -65,7 +65,8 @@ pub record IsOp (before : List Op) (o : Op) : Type 0 where
   pub items : AllByRecursion (IsItem before) (about o).items
   pub own_items : HasOwnItems o
   pub listed : option_map_or buffer_entries (about o).loads 0 ≤ entries_limit
-  pub loaded : loaded_by o ≤ buffer_limit
+  pub loaded : option_map_or buffer_bytes (about o).loads 0 ≤ buffer_limit
+  pub clusters : IfSome (about o).loads HasClusters
 
 -- each operation is one that may stand behind those before it, and there are at most 4096 steps
 pub record IsScript (script : List Op) : Type 0 where

@@ -20,6 +20,7 @@ op_text op.Load = codes "load"
 op_text op.LoadVector = codes "load_vector"
 op_text op.LoadMbuf = codes "load_mbuf"
 op_text op.LoadBio = codes "load_bio"
+op_text op.Send = codes "send"
 op_text op.Unload = codes "unload"
 op_text op.Sync = codes "sync"
 op_text op.SyncRange = codes "sync_range"
@@ -34,7 +35,7 @@ op_text op.Kick = codes "kick"
 abbrev pub op_words : List OpWord
 op_words =
     op.Tag ∷ op.IommuTag ∷ op.TagDestroy ∷ op.Map ∷ op.MapDestroy ∷ op.Dmamem ∷ op.DmamemFree ∷ op.Load ∷ op.LoadVector
-    ∷ op.LoadMbuf ∷ op.LoadBio ∷ op.Unload ∷ op.Sync ∷ op.SyncRange ∷ op.CpuRead ∷ op.CpuWrite ∷ op.Await ∷ op.Ring
+    ∷ op.LoadMbuf ∷ op.LoadBio ∷ op.Send ∷ op.Unload ∷ op.Sync ∷ op.SyncRange ∷ op.CpuRead ∷ op.CpuWrite ∷ op.Await ∷ op.Ring
     ∷ op.RingPost ∷ op.Kick ∷ []
 
 -- the word of a script that has this text

@@ -27,6 +27,8 @@ pub struct Actor {
 pub enum Did {
     /// The operation at this place of the script.
     Op(u32),
+    /// The resend of the send at this place of the script: its load from the clusters.
+    Again(u32),
     /// It gave back the page at this physical address, which the map held.
     Release { map: MapId, page: Pa },
     /// It completed the map's deferred load.

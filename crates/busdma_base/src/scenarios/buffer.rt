@@ -7,17 +7,28 @@ use crate::scenarios::{OpWord, Place};
 use busdma_machine::{Bio, ListOf, Mbuf, Span};
 
 /// What a load loads, and so which of bus_dma(9)'s loads it is: `bus_dmamap_load`, a vector,
-/// `bus_dmamap_load_mbuf` or `bus_dmamap_load_bio`. Lengths are in bytes.
+/// `bus_dmamap_load_mbuf` or `bus_dmamap_load_bio`; or the send path of a network driver. Lengths are
+/// in bytes.
 #[derive(Debug, Drop)]
 pub enum Buffer {
     /// `len` bytes from a place on.
-    Flat { place: Place, len: u64 },
+    Flat {
+        place: Place,
+        len: u64,
+    },
     /// The bytes of spans of virtual addresses, in order.
     Vector(ListOf<Span>),
     /// The bytes of an mbuf chain, in order. Its load never waits for pages.
     Mbuf(ListOf<Mbuf>),
     /// The bytes of a bio.
     Bio(Bio),
+    /// The bytes of an mbuf chain, in order. Where they have too many segments they are copied to
+    /// `clusters` and loaded from there once more: as many bytes of clusters of 4096 bytes as the chain
+    /// has, or None where the clusters are too few.
+    Send {
+        chain: ListOf<Mbuf>,
+        clusters: Option<ListOf<Span>>,
+    },
 }
 
 impl Buffer {
@@ -30,6 +41,7 @@ impl Buffer {
             Buffer::Vector(_) => OpWord::LoadVector,
             Buffer::Mbuf(_) => OpWord::LoadMbuf,
             Buffer::Bio(_) => OpWord::LoadBio,
+            Buffer::Send { .. } => OpWord::Send,
         }
     }
 }

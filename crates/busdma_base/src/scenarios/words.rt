@@ -17,6 +17,7 @@ pub enum OpWord {
     LoadVector,
     LoadMbuf,
     LoadBio,
+    Send,
     Unload,
     Sync,
     SyncRange,
@@ -40,7 +41,7 @@ pub enum ItemWord {
     RingStep,
 }
 
-const OP_WORDS: [OpWord; 20] = [
+const OP_WORDS: [OpWord; 21] = [
     OpWord::Tag,
     OpWord::IommuTag,
     OpWord::TagDestroy,
@@ -52,6 +53,7 @@ const OP_WORDS: [OpWord; 20] = [
     OpWord::LoadVector,
     OpWord::LoadMbuf,
     OpWord::LoadBio,
+    OpWord::Send,
     OpWord::Unload,
     OpWord::Sync,
     OpWord::SyncRange,
@@ -91,6 +93,7 @@ impl OpWord {
             OpWord::LoadVector => "load_vector",
             OpWord::LoadMbuf => "load_mbuf",
             OpWord::LoadBio => "load_bio",
+            OpWord::Send => "send",
             OpWord::Unload => "unload",
             OpWord::Sync => "sync",
             OpWord::SyncRange => "sync_range",
@@ -107,7 +110,10 @@ impl OpWord {
     pub fn from_text(text: &str) -> Option<OpWord>
         ensures { result ≡ words.op_word_of text.now }
     {
-        OP_WORDS.iter().copied().find(|word| word.text() == text)
+        OP_WORDS
+            .iter()
+            .copied()
+            .find(|word| word.text().as_bytes() == text.as_bytes())
     }
 }
 
@@ -132,6 +138,9 @@ impl ItemWord {
     pub fn from_text(text: &str) -> Option<ItemWord>
         ensures { result ≡ words.item_word_of text.now }
     {
-        ITEM_WORDS.iter().copied().find(|word| word.text() == text)
+        ITEM_WORDS
+            .iter()
+            .copied()
+            .find(|word| word.text().as_bytes() == text.as_bytes())
     }
 }

@@ -2,7 +2,7 @@
 //! step, so their report is known. A body that turns both on one thread, or that passes no gate, gives
 //! another one in one of the two orders, or keeps the late driver waiting.
 
-use super::Ended;
+use super::called::Ended;
 use busdma_base::LaneId;
 use busdma_cmd::{Gate, run_command};
 use io_edge::{MemSink, MemSource};
@@ -67,6 +67,16 @@ struct EarlyFirst {
 }
 
 impl EarlyFirst {
+    /// A gate for a driver that is early.
+    fn new(early: u32) -> EarlyFirst {
+        EarlyFirst {
+            early: LaneId(early),
+            turns: [AtomicU64::new(0), AtomicU64::new(0)],
+            done: AtomicBool::new(false),
+            missed: AtomicBool::new(false),
+        }
+    }
+
     /// Sees that the driver's turns are counted from 0.
     fn count(&self, lane: LaneId, turn: u64) {
         let own = if lane == LaneId(0) { 0 } else { 1 };
@@ -98,41 +108,40 @@ impl Gate for EarlyFirst {
     }
 }
 
-fn run<R: Threads + Wait + Sync, G: Gate + Sync>(
+/// Runs both behind a gate.
+fn run<R: Threads + Wait + Sync>(
     rt: &R,
     alloc: Global,
-    gate: &G,
+    gate: &EarlyFirst,
 ) -> Result<Ended, AllocError> {
     let mut source = MemSource::new(TWO.as_bytes().to_vec(alloc)?, 100, Vec::new(alloc));
     let mut sink = MemSink::new(alloc, 100, Vec::new(alloc));
     let outcome = run_command(rt, alloc, &mut source, &mut sink, gate);
     Ok(Ended {
-        outcome,
-        written: sink.held().to_vec(alloc)?,
+        status: outcome.status,
+        printed: sink.held().to_vec(alloc)?,
+        line: Vec::new(alloc),
     })
 }
 
+/// Their report, where the early driver and the late one have these numbers.
+fn report_of(alloc: Global, early: &str, late: &str) -> Result<String, AllocError> {
+    REPORT.replace(alloc, "#", early)?.replace(alloc, "@", late)
+}
+
+/// The numbers of the two drivers, the early one first.
 fn is_right<R: Threads + Wait + Sync + Abort>(
     rt: &R,
     alloc: Global,
-    early: u32,
-    late: u32,
+    gate: &EarlyFirst,
+    (early, late): (&str, &str),
 ) -> Result<(), Fail> {
-    let gate = EarlyFirst {
-        early: LaneId(early),
-        turns: [AtomicU64::new(0), AtomicU64::new(0)],
-        done: AtomicBool::new(false),
-        missed: AtomicBool::new(false),
-    };
-    let ended = run(rt, alloc, &gate)?;
-    let early = early.to_string(alloc)?;
-    let late = late.to_string(alloc)?;
-    let want = REPORT.replace(alloc, "#", early.as_str())?;
-    let want = want.replace(alloc, "@", late.as_str())?;
+    let want = report_of(alloc, early, late)?;
+    let ended = run(rt, alloc, gate)?;
     assert!(rt; !gate.missed.load(Ordering::SeqCst));
-    assert_eq!(rt; ended.outcome.status, 0);
-    assert_eq!(rt; str::from_utf8(&ended.written)?, want.as_str());
-    for turns in gate.turns {
+    assert_eq!(rt; ended.status, 0);
+    assert_eq!(rt; str::from_utf8(&ended.printed)?, want.as_str());
+    for turns in &gate.turns {
         assert!(rt; turns.load(Ordering::SeqCst) > TURNS);
     }
     Ok(())
@@ -140,6 +149,6 @@ fn is_right<R: Threads + Wait + Sync + Abort>(
 
 #[test]
 fn either_driver_is_early(rt: HostRuntime) -> Result<(), Fail> {
-    is_right(&rt, rt.alloc(), 0, 1)?;
-    is_right(&rt, rt.alloc(), 1, 0)
+    is_right(&rt, rt.alloc(), &EarlyFirst::new(0), ("0", "1"))?;
+    is_right(&rt, rt.alloc(), &EarlyFirst::new(1), ("1", "0"))
 }

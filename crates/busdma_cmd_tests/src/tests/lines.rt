@@ -1,82 +1,74 @@
 //! The line of each status.
 
-ghost use Rattle.std.specs.Prelude.{◌≡◌, None};
+ghost use Rattle.std.specs.Prelude.{◌≡◌, ◌↔◌, ◌≢◌, IfOk, IsSome};
+ghost use Rattle.busdma_cmd.specs.Outcome.{IsStatus};
 
 use busdma_cmd::{Outcome, fault_line};
-use scenario_read::{LimitName, PathText, Refusal, RefusalKind};
+use scenario_read::{PathText, Refusal, RefusalKind};
+use std::alloc::{AllocError, Global};
+use std::process::Abort;
 use std::test::Fail;
 
-fn plain(status: u8) -> Outcome
-    ensures status { result.status ≡ status }
-    ensures fault { result.fault ≡ None }
+/// The line of an outcome is the one that is wanted, or there is none where none is wanted.
+fn is_told(rt: &impl Abort, alloc: Global, outcome: &Outcome, want: &str) -> Result<(), Fail>
+    requires known { IsStatus outcome.now.status }
+    requires fault { IsSome outcome.now.fault ↔ (outcome.now.status ≡ 65) }
 {
-    Outcome {
+    match fault_line(alloc, outcome)? {
+        Some(line) => assert_eq!(rt; line.as_slice(), want.as_bytes()),
+        None => assert_eq!(rt; "", want),
+    }
+    Ok(())
+}
+
+/// The same, of a status without a refusal.
+fn status_is_told(rt: &impl Abort, alloc: Global, status: u8, want: &str) -> Result<(), Fail>
+    requires known { IsStatus status }
+    requires unrefused { status ≢ 65 }
+{
+    let outcome = Outcome {
         status,
         journal: None,
         fault: None,
-    }
+    };
+    is_told(rt, alloc, &outcome, want)
+}
+
+/// A scenario that was refused.
+fn refused(alloc: Global) -> Result<Outcome, AllocError>
+    ensures status { IfOk result (λ outcome. outcome.status ≡ 65) }
+    ensures fault { IfOk result (λ outcome. IsSome outcome.fault) }
+{
+    Ok(Outcome {
+        status: 65,
+        journal: None,
+        fault: Some(Refusal {
+            kind: RefusalKind::BadField,
+            path: PathText::new(String::from_str(alloc, "drivers[0]")?),
+        }),
+    })
 }
 
 #[test]
 fn tells_why(rt: HostRuntime) -> Result<(), Fail> {
     let alloc = rt.alloc();
-    assert!(rt; fault_line(alloc, &plain(0))?.is_none());
-    assert!(rt; fault_line(alloc, &plain(1))?.is_none());
-    assert!(rt; fault_line(alloc, &plain(2))?.is_none());
-    let line = fault_line(alloc, &plain(64))?.expect(&rt, "a line");
-    assert_eq!(rt;
-        line.as_slice(),
-        b"usage: busdma_run replay | run | storm N SEED | check".as_slice()
-    );
-    let line = fault_line(alloc, &plain(66))?.expect(&rt, "a line");
-    assert_eq!(rt;
-        line.as_slice(),
-        b"busdma_run: input is too long".as_slice()
-    );
-    let line = fault_line(alloc, &plain(71))?.expect(&rt, "a line");
-    assert_eq!(rt; line.as_slice(), b"busdma_run: out of memory".as_slice());
-    let line = fault_line(alloc, &plain(73))?.expect(&rt, "a line");
-    assert_eq!(rt; line.as_slice(), b"busdma_run: write failed".as_slice());
-    let line = fault_line(alloc, &plain(74))?.expect(&rt, "a line");
-    assert_eq!(rt; line.as_slice(), b"busdma_run: read failed".as_slice());
-    Ok(())
-}
-
-/// The refusal is told with the path, where there is one.
-#[test]
-fn tells_the_refusal(rt: HostRuntime) -> Result<(), Fail> {
-    let alloc = rt.alloc();
-    let table: [(RefusalKind, &str, &[u8]); 4] = [
-        (
-            RefusalKind::NotJson,
-            "",
-            b"busdma_run: bad scenario: NotJson",
-        ),
-        (
-            RefusalKind::BadHeader,
-            "",
-            b"busdma_run: bad scenario: BadHeader",
-        ),
-        (
-            RefusalKind::Limit(LimitName::Drivers),
-            "drivers",
-            b"busdma_run: bad scenario: Limit(drivers) drivers",
-        ),
-        (
-            RefusalKind::BadField,
-            "drivers[0].script[3].len",
-            b"busdma_run: bad scenario: BadField drivers[0].script[3].len",
-        ),
-    ];
-    for (kind, path, want) in table {
-        let path = PathText::new(String::from_str(alloc, path)?);
-        let outcome = Outcome {
-            status: 65,
-            journal: None,
-            fault: Some(Refusal { kind, path }),
-        };
-        let line = fault_line(alloc, &outcome)?.expect(&rt, "a line");
-        assert_eq!(rt; line.as_slice(), want);
-    }
-    Ok(())
+    status_is_told(&rt, alloc, 0, "")?;
+    status_is_told(&rt, alloc, 1, "")?;
+    status_is_told(&rt, alloc, 2, "")?;
+    status_is_told(
+        &rt,
+        alloc,
+        64,
+        "usage: busdma_run replay | run | storm N SEED | check",
+    )?;
+    status_is_told(&rt, alloc, 66, "busdma_run: input is too long")?;
+    status_is_told(&rt, alloc, 71, "busdma_run: out of memory")?;
+    status_is_told(&rt, alloc, 73, "busdma_run: write failed")?;
+    status_is_told(&rt, alloc, 74, "busdma_run: read failed")?;
+    is_told(
+        &rt,
+        alloc,
+        &refused(alloc)?,
+        "busdma_run: bad scenario: BadField drivers[0]",
+    )
 }

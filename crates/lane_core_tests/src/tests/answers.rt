@@ -1,6 +1,6 @@
 //! Whether an answer is the one that was worked out by hand.
 
-use busdma_base::{Answer, Errno, Grown, Report, ReportName, ZoneId};
+use busdma_base::{Answer, Grown, Report, ReportName, ZoneId};
 
 /// It was done.
 pub fn is_done(answer: &Answer) -> bool {
@@ -63,22 +63,6 @@ pub fn is_in_progress(answer: &Answer, have: u32, need: u32) -> bool {
 pub fn is_served(answer: &Answer, count: u32) -> bool {
     match answer {
         Answer::Served(served) => *served == count,
-        _ => false,
-    }
-}
-
-/// A memory was made, and its first byte lies there.
-pub fn is_placed(answer: &Answer, first: u64) -> bool {
-    match answer {
-        Answer::Placed(pa) => pa.0 == first,
-        _ => false,
-    }
-}
-
-/// The call was refused with this errno.
-pub fn is_errno(answer: &Answer, errno: Errno) -> bool {
-    match answer {
-        Answer::Refused(refusal) => *refusal == errno,
         _ => false,
     }
 }

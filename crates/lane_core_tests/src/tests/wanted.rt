@@ -1,10 +1,9 @@
 //! The answers that are wanted of calls.
 
 use crate::tests::answers::{
-    has_read, has_segments, is_done, is_errno, is_grown, is_in_progress, is_placed, is_refused,
-    is_served,
+    has_read, has_segments, is_done, is_grown, is_in_progress, is_refused, is_served,
 };
-use busdma_base::{Answer, Errno, ReportName};
+use busdma_base::{Answer, ReportName};
 
 /// The answer that is wanted.
 #[derive(Clone, Copy, Debug)]
@@ -13,8 +12,6 @@ pub enum Want<'a> {
     Done,
     /// A map was made, and so many pages came to zone 0.
     Grown(u32),
-    /// A memory was made, and its first byte lies there.
-    Placed(u64),
     /// The load has these segments, each an address and a length.
     Segments(&'a [(u64, u64)]),
     /// The load waits: it has the first number of pages, and needs the second.
@@ -23,8 +20,6 @@ pub enum Want<'a> {
     Served(u32),
     /// These bytes were read.
     Read(&'a [u8]),
-    /// The call was refused with this errno.
-    Errno(Errno),
     /// The call was refused under this name, at this offset.
     Refused(ReportName, u64),
 }
@@ -34,12 +29,10 @@ impl Want<'_> {
         match self {
             Want::Done => is_done(answer),
             Want::Grown(added) => is_grown(answer, added),
-            Want::Placed(first) => is_placed(answer, first),
             Want::Segments(segments) => has_segments(answer, segments),
             Want::InProgress(have, need) => is_in_progress(answer, have, need),
             Want::Served(count) => is_served(answer, count),
             Want::Read(bytes) => has_read(answer, bytes),
-            Want::Errno(errno) => is_errno(answer, errno),
             Want::Refused(name, at) => is_refused(answer, name, at),
         }
     }

@@ -29,12 +29,16 @@ fn is_right<R: Threads + Wait + Sync>(
     Ok(journal.end == End::Finished && is_legal(alloc, &scenario, &journal)?)
 }
 
-/// Whether forty storms are right, of the seeds from this one on.
-fn forty<R: Threads + Wait + Sync>(rt: &R, alloc: Global, first: u64) -> Result<bool, AllocError>
+/// Whether 160 storms are right, of the seeds from this one on.
+fn are_right<R: Threads + Wait + Sync>(
+    rt: &R,
+    alloc: Global,
+    first: u64,
+) -> Result<bool, AllocError>
     requires low { 1 ≤ first }
     requires high { first ≤ 1000 }
 {
-    for more in 0..40u64 {
+    for more in 0..160u64 {
         if !is_right(rt, alloc, 1, first + more)? {
             return Ok(false);
         }
@@ -43,55 +47,14 @@ fn forty<R: Threads + Wait + Sync>(rt: &R, alloc: Global, first: u64) -> Result<
 }
 
 #[test]
-fn the_first_forty_storms(rt: HostRuntime) -> Result<(), Fail> {
-    assert!(rt; forty(&rt, rt.alloc(), 1)?);
+fn small_storms(rt: HostRuntime) -> Result<(), Fail> {
+    assert!(rt; are_right(&rt, rt.alloc(), 1)?);
     Ok(())
 }
 
 #[test]
-fn the_second_forty_storms(rt: HostRuntime) -> Result<(), Fail> {
-    assert!(rt; forty(&rt, rt.alloc(), 41)?);
-    Ok(())
-}
-
-#[test]
-fn the_third_forty_storms(rt: HostRuntime) -> Result<(), Fail> {
-    assert!(rt; forty(&rt, rt.alloc(), 81)?);
-    Ok(())
-}
-
-#[test]
-fn the_fourth_forty_storms(rt: HostRuntime) -> Result<(), Fail> {
-    assert!(rt; forty(&rt, rt.alloc(), 121)?);
-    Ok(())
-}
-
-#[test]
-fn the_fifth_forty_storms(rt: HostRuntime) -> Result<(), Fail> {
-    assert!(rt; forty(&rt, rt.alloc(), 161)?);
-    Ok(())
-}
-
-#[test]
-fn the_sixth_forty_storms(rt: HostRuntime) -> Result<(), Fail> {
-    assert!(rt; forty(&rt, rt.alloc(), 201)?);
-    Ok(())
-}
-
-#[test]
-fn the_seventh_forty_storms(rt: HostRuntime) -> Result<(), Fail> {
-    assert!(rt; forty(&rt, rt.alloc(), 241)?);
-    Ok(())
-}
-
-#[test]
-fn the_eighth_forty_storms(rt: HostRuntime) -> Result<(), Fail> {
-    assert!(rt; forty(&rt, rt.alloc(), 281)?);
-    Ok(())
-}
-
-#[test]
-fn a_larger_storm(rt: HostRuntime) -> Result<(), Fail> {
+fn more_storms_and_a_larger_one(rt: HostRuntime) -> Result<(), Fail> {
+    assert!(rt; are_right(&rt, rt.alloc(), 161)?);
     assert!(rt; is_right(&rt, rt.alloc(), 16, 7)?);
     Ok(())
 }

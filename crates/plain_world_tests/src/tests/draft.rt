@@ -4,14 +4,14 @@ use crate::tests::generator::Generator;
 use std::alloc::{AllocError, Global};
 
 /// The virtual address of a driver's first page. Its pages follow one another.
-const FIRST_PAGE: u64 = 0x10_0000;
+pub const FIRST_PAGE: u64 = 0x10_0000;
 
 /// Where a load or an access begins in a page.
 const OFFSETS: [u64; 8] = [0, 0, 0, 4, 8, 4080, 4088, 4092];
 
-/// The text of a scenario so far; how many tags, maps, memories, IOMMU tags and maps of these the last
-/// script has made, each named by its number; and the frames of its driver's pages, in the order of
-/// their addresses.
+/// The text of a scenario so far; how many tags, maps, memories, IOMMU tags, maps of these and rings the
+/// last script has made, each named by its number; whether it has what sends need; and the frames of its
+/// driver's pages, in the order of their addresses.
 #[derive(Drop)]
 pub struct Draft {
     pub alloc: Global,
@@ -22,6 +22,8 @@ pub struct Draft {
     pub memories: u64,
     pub iommu_tags: u64,
     pub device_maps: u64,
+    pub rings: u64,
+    pub sends: bool,
     pub frames: Vec<u64>,
 }
 
@@ -37,6 +39,8 @@ impl Draft {
             memories: 0,
             iommu_tags: 0,
             device_maps: 0,
+            rings: 0,
+            sends: false,
             frames: Vec::new(alloc),
         }
     }
@@ -48,6 +52,8 @@ impl Draft {
         self.memories = 0;
         self.iommu_tags = 0;
         self.device_maps = 0;
+        self.rings = 0;
+        self.sends = false;
         self.frames.clear();
     }
 
@@ -129,7 +135,7 @@ impl Draft {
 
     /// The name of a map, in few cases of a memory's.
     pub fn push_any_map(&mut self) -> Result<(), AllocError> {
-        if self.memories > 0 && self.generator.one_in(6) {
+        if self.memories > 0 && self.generator.one_in(4) {
             self.push_memory()
         } else {
             self.push_map()

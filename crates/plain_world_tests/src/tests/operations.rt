@@ -83,16 +83,17 @@ impl Draft {
     }
 
     fn push_any_load(&mut self) -> Result<(), AllocError> {
-        match self.generator.below(8) {
+        match self.generator.below(9) {
             0..=1 => self.push_load_vector(),
             2 => self.push_load_mbuf(),
             3..=4 => self.push_load_bio(),
+            5 => self.push_any_send(),
             _ => self.push_load(),
         }
     }
 
     fn push_operation(&mut self) -> Result<(), AllocError> {
-        match self.generator.below(56) {
+        match self.generator.below(76) {
             0..=1 => self.push_tag_made(),
             2..=4 => self.push_map_made(),
             5 => self.push_tag_destroyed(),
@@ -102,24 +103,29 @@ impl Draft {
             24..=29 => self.push_any_sync(""),
             30..=32 => self.push_cpu_write(),
             33..=35 => self.push_cpu_read(),
-            36..=38 => self.push_map_op("await"),
-            39..=41 => self.push_memory_op(),
-            42..=49 if self.iommu_tags > 0 => self.push_device_op(),
-            _ => self.push_round(),
+            36..=37 => self.push_map_op("await"),
+            38..=41 => self.push_memory_op(),
+            42..=47 => self.push_round(),
+            _ if self.rings > 0 => self.push_ring_op(),
+            _ if self.sends => self.push_send(),
+            _ => self.push_device_op(),
         }
     }
 
-    /// A script: a tag, some maps, in some cases an IOMMU tag with its maps, and what is drawn.
+    /// A script: a tag, some maps, an IOMMU tag with its maps, a memory with a ring or what sends need,
+    /// and what is drawn.
     pub fn push_script(&mut self) -> Result<(), AllocError> {
         self.push_tag_made()?;
         for _ in 0..self.generator.up_to(3) {
             self.text.push_str(", ")?;
             self.push_map_made()?;
         }
-        if self.generator.one_in(3) {
-            self.push_devices()?;
+        match self.generator.below(3) {
+            0 => self.push_devices()?,
+            1 => self.push_rings()?,
+            _ => self.push_sends()?,
         }
-        for _ in 0..self.generator.up_to(20) {
+        for _ in 0..self.generator.up_to(24) {
             self.text.push_str(",\n  ")?;
             self.push_operation()?;
         }

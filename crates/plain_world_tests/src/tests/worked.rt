@@ -282,6 +282,93 @@ const RUNS_OF_AN_IOMMU_TAG_REPORT: &str = r#"0 s0 iommu_tag u -> ok
 end finished, 18 entries, 3 reports
 "#;
 
+const SEND_LOADED_AGAIN: &str = r#"{"frames": [["0x10", 8], ["0x1000", 16]],
+ "drivers": [
+  {"pages": [["0x100000", "0x1000", 2]], "script": [
+    {"op": "tag", "name": "x", "nsegments": 1},
+    {"op": "map", "name": "m", "tag": "x"},
+    {"op": "cpu_write", "va": "0x100000", "fill": 1, "len": 2},
+    {"op": "cpu_write", "va": "0x100010", "fill": 2, "len": 2},
+    {"op": "send", "map": "m",
+     "entries": [{"va": "0x100000", "len": 2}, {"va": "0x100010", "len": 2}],
+     "clusters": ["0x101000"], "then": [
+      {"op": "sync", "map": "m", "ops": ["PREWRITE"]},
+      {"op": "dev_read", "map": "m", "off": 0, "len": 4}]}]}]}"#;
+
+const SEND_LOADED_AGAIN_REPORT: &str = r#"0 s0 tag x -> ok
+1 s0 map m -> ok
+2 s0 cpu_write -> ok
+3 s0 cpu_write -> ok
+4 s0 send m -> EFBIG
+5 s0 resend m -> ok 0x1001000+4
+6 d0 sync m -> ok
+7 d0 dev_read m -> bytes 01010202
+end finished, 8 entries, 0 reports
+"#;
+
+const SEND_WITHOUT_CLUSTERS: &str = r#"{"frames": [["0x10", 8], ["0x1000", 16]],
+ "drivers": [
+  {"pages": [["0x100000", "0x1000", 2]], "script": [
+    {"op": "tag", "name": "x", "nsegments": 1},
+    {"op": "map", "name": "m", "tag": "x"},
+    {"op": "cpu_write", "va": "0x100000", "fill": 1, "len": 2},
+    {"op": "cpu_write", "va": "0x100010", "fill": 2, "len": 2},
+    {"op": "send", "map": "m",
+     "entries": [{"va": "0x100000", "len": 2}, {"va": "0x100010", "len": 2}],
+     "clusters": [], "then": [
+      {"op": "sync", "map": "m", "ops": ["PREWRITE"]},
+      {"op": "dev_read", "map": "m", "off": 0, "len": 4}]}]}]}"#;
+
+const SEND_WITHOUT_CLUSTERS_REPORT: &str = r#"0 s0 tag x -> ok
+1 s0 map m -> ok
+2 s0 cpu_write -> ok
+3 s0 cpu_write -> ok
+4 s0 send m -> EFBIG
+end finished, 5 entries, 0 reports
+"#;
+
+const RESENDS_THAT_ARE_REFUSED: &str = r#"{"frames": [["0x10", 8], ["0x1000", 16]],
+ "drivers": [
+  {"pages": [["0x100000", "0x1000", 3]], "script": [
+    {"op": "tag", "name": "x", "nsegments": 1},
+    {"op": "map", "name": "m", "tag": "x"},
+    {"op": "map", "name": "o", "tag": "x"},
+    {"op": "cpu_write", "va": "0x100000", "hex": "0a0b0c"},
+    {"op": "load", "map": "o", "va": "0x102001", "len": 4, "then": [
+      {"op": "sync", "map": "o", "ops": ["PREWRITE"]}]},
+    {"op": "await", "map": "o"},
+    {"op": "send", "map": "m",
+     "entries": [{"va": "0x100000", "len": 2}, {"va": "0x100002", "len": 1}, {"va": "0x100010", "len": 1}],
+     "clusters": ["0x102000"], "then": [{"op": "dev_read", "map": "m", "off": 0, "len": 1}]},
+    {"op": "cpu_read", "va": "0x102000", "len": 2},
+    {"op": "send", "map": "m",
+     "entries": [{"va": "0x102003", "len": 1}, {"va": "0x102001", "len": 1}, {"va": "0x100002", "len": 1}],
+     "clusters": ["0x101000"], "then": []},
+    {"op": "cpu_read", "va": "0x101000", "len": 3},
+    {"op": "unload", "map": "m"},
+    {"op": "send", "map": "m",
+     "entries": [{"va": "0x100000", "len": 1}, {"va": "0x100002", "len": 1}],
+     "clusters": ["0x103000"], "then": []}]}]}"#;
+
+const RESENDS_THAT_ARE_REFUSED_REPORT: &str = r#"0 s0 tag x -> ok
+1 s0 map m -> ok
+2 s0 map o -> ok
+3 s0 cpu_write -> ok
+4 s0 load o -> ok 0x1002001+4
+5 d0 sync o -> ok
+6 s0 await o -> ok
+7 s0 send m -> EFBIG
+8 s0 resend m -> report CpuWriteLent 1
+9 s0 cpu_read -> bytes 0000
+10 s0 send m -> EFBIG
+11 s0 resend m -> ok 0x1001000+3
+12 s0 cpu_read -> bytes 00000c
+13 s0 unload m -> ok
+14 s0 send m -> EFBIG
+15 s0 resend m -> report Unmapped 0
+end finished, 16 entries, 2 reports
+"#;
+
 #[test]
 fn worked(rt: HostRuntime) -> Result<(), Fail> {
     let table = [
@@ -290,6 +377,9 @@ fn worked(rt: HostRuntime) -> Result<(), Fail> {
         (COHERENT_MEMORY, COHERENT_MEMORY_REPORT),
         (MEMORY_THAT_LENDS, MEMORY_THAT_LENDS_REPORT),
         (RUNS_OF_AN_IOMMU_TAG, RUNS_OF_AN_IOMMU_TAG_REPORT),
+        (SEND_LOADED_AGAIN, SEND_LOADED_AGAIN_REPORT),
+        (SEND_WITHOUT_CLUSTERS, SEND_WITHOUT_CLUSTERS_REPORT),
+        (RESENDS_THAT_ARE_REFUSED, RESENDS_THAT_ARE_REFUSED_REPORT),
     ];
     for (text, want) in table.iter() {
         let scenario = read(&rt, rt.alloc(), text)?;

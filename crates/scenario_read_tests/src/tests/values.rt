@@ -47,7 +47,9 @@ const BUFFERS: &str =
  {"op":"load_mbuf","map":"m","entries":[{"va":"0x101000","len":54}],"then":[{"op":"sync","map":"m","ops":[]}]},
  {"op":"load_bio","map":"m","bio":{"kind":"mapped","va":"0x100000","len":9}},
  {"op":"load_bio","map":"m","bio":{"kind":"vector","entries":[{"va":"0x100000","len":7}]},"flags":["WAITOK"]},
- {"op":"load_bio","map":"m","bio":{"kind":"unmapped","frames":["0x1002","0x1000"],"off":4000,"len":200}}]}]}"#;
+ {"op":"load_bio","map":"m","bio":{"kind":"unmapped","frames":["0x1002","0x1000"],"off":4000,"len":200}},
+ {"op":"send","map":"m","entries":[{"va":"0x100001","len":4095},{"va":"0x100000","len":2}],"clusters":["0x102000","0x101000",0]},
+ {"op":"send","map":"m","entries":[{"va":"0x100000","len":4097}],"clusters":["0x102000"],"then":[{"op":"sync","map":"m","ops":[]}]}]}]}"#;
 
 /// What stands in that scenario.
 const BUFFERS_MADE: &[&str] = &[
@@ -56,6 +58,9 @@ const BUFFERS_MADE: &[&str] = &[
     r#"Bio(Mapped(Span { va: Va(1048576), len: 9 })), flags: 0,"#,
     r#"Bio(Vector(ListOf { items: [Span { va: Va(1048576), len: 7 }] })), flags: 0,"#,
     r#"Bio(Unmapped { frames: ListOf { items: [4098, 4096] }, off: 4000, len: 200 }), flags: 0,"#,
+    r#"Send { chain: ListOf { items: [Span { va: Va(1048577), len: 4095 }, Span { va: Va(1048576), len: 2 }] },"#,
+    r#"clusters: Some(ListOf { items: [Span { va: Va(1056768), len: 4096 }, Span { va: Va(1052672), len: 1 }] }) }, flags: 0,"#,
+    r#"clusters: None }, flags: 0, then: ListOf { items: [Sync {"#,
 ];
 
 /// Memories, and places in them.

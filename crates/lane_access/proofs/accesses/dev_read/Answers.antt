@@ -18,7 +18,8 @@ use Rattle.lane_state.specs.Wire.{wire_of}
 use Rattle.lane_access.proofs.DeviceReads.{dev_read-by, dev_read-done, dev_read-past, dev_read-reads, dev_read-refused, load-there}
 use Rattle.lane_state.proofs.Devices.{is-reached}
 use Rattle.lane_state.proofs.MapValues.{image-some}
-use Rattle.lane_access.proofs.OwnExtents.{lie-inside, own-reads}
+use Rattle.lane_access.proofs.OwnExtents.{lie-inside}
+use Rattle.lane_state.proofs.OwnBytes.{own-reads}
 use Rattle.lane_access.proofs.Unbounced.{is-behind, not-behind, own-buses}
 use Rattle.lane_access.proofs.PutBack.{are-back, ideal-back, pages-back, put-same, wire-back}
 use Rattle.lane_state.specs.Awaiting.{AreAwaiting}

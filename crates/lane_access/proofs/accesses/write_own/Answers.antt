@@ -4,7 +4,8 @@ use Rattle.busdma_machine.specs.Runs.{addresses}
 use Rattle.loan_table.specs.Table.{set_all}
 use Rattle.lane_state.proofs.Awaiting.{still-awaiting, still-ready}
 use Rattle.lane_state.proofs.Marks.{has_set_all}
-use Rattle.lane_access.proofs.OwnWrites.{own-put, own-written}
+use Rattle.lane_access.proofs.OwnWrites.{own-written}
+use Rattle.lane_state.proofs.OwnBytes.{own-put}
 use Rattle.lane_state.proofs.Reaching.{same-physical, same-placed, same-standing}
 use Rattle.lane_state.proofs.Wires.{byte_count_addresses}
 use Rattle.lane_access.proofs.accesses.write_own.Goals as goal

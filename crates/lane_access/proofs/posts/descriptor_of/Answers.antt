@@ -4,6 +4,7 @@ use Rattle.std.specs.FinMap.{get}
 use Rattle.std.specs.List.{AllByRecursion}
 use Rattle.std.specs.Option.{option_map}
 use Rattle.busdma_machine.specs.declared.machine.address.Pa.{Pa}
+use Rattle.ring_device.specs.Ends.{EndsLow}
 use Rattle.ring_device.specs.Ranges.{address_of}
 use Rattle.ideal_lane.specs.Loads.{is_device}
 use Rattle.ideal_lane.specs.Rings.{is_work}
@@ -13,15 +14,14 @@ use Rattle.lane_state.specs.Covered.{has_load}
 use Rattle.lane_state.specs.Ideal.{ideal_of}
 use Rattle.lane_state.specs.Kept.{map_of, ring_of}
 use Rattle.lane_state.proofs.MapValues.{image-some}
-use Rattle.lane_access.specs.Ringing.{EndsLow}
 use Rattle.lane_access.proofs.Postings.{all-true, ends-low, none-if, not-posted}
 use Rattle.lane_access.proofs.RawPlaces.{segments-same}
 use Rattle.lane_access.proofs.RingUses.{differ}
 use Rattle.lane_access.proofs.Unbounced.{not-behind}
 use Rattle.lane_access.proofs.posts.descriptor_of.Goals as goal
 
-pub bus_address-requires : goal.bus_address-requires
-bus_address-requires c =
+pub address_of-requires : goal.address_of-requires
+address_of-requires c =
     let h = c.args.holdings.now in
     let m = c.args.posting.map in
     let kept : KeptMap = c.in_ok-kept.kept.now in
@@ -40,7 +40,7 @@ returns-in_err-addr-clause-unposted c =
     none-if c.from_residual-in_err-addr.result (not-posted l (ring_of c.args.ring) p (map_of kept)
     (image-some map_of h.maps.map p.map kept there)
     (ap (address_of p.off p.len) (segments-same kept.map.stage ∙ sym c.segments.ensures)
-    ∙ sym c.bus_address.ensures ∙ ap (option_map (λ (x : Pa). x.0)) c.in_err-addr.was))
+    ∙ sym c.address_of.ensures.address ∙ ap (option_map (λ (x : Pa). x.0)) c.in_err-addr.was))
 
 pub returns-clause-posted : goal.returns-clause-posted
 returns-clause-posted c =
@@ -52,7 +52,7 @@ returns-clause-posted c =
     let is = image-some map_of h.maps.map p.map kept there in
     let found : address_of p.off p.len (segments_in (map_of kept).stage) ≡ Some c.in_ok-addr.addr.0 =
     ap (address_of p.off p.len) (segments-same kept.map.stage ∙ sym c.segments.ensures)
-    ∙ sym c.bus_address.ensures ∙ ap (option_map (λ (x : Pa). x.0)) c.in_ok-addr.was in
+    ∙ sym c.address_of.ensures.address ∙ ap (option_map (λ (x : Pa). x.0)) c.in_ok-addr.was in
     record {
       map = map_of kept;
       there = is;

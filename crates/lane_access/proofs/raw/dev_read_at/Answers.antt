@@ -13,7 +13,8 @@ use Rattle.ideal_lane.specs.Outcomes.{gives}
 use Rattle.lane_access.specs.declared.raw.RawAccess.TheVariants.{Read}
 use Rattle.lane_state.specs.Ideal.{ideal_of}
 use Rattle.lane_access.specs.Raw.{refusal_of}
-use Rattle.lane_access.proofs.OwnExtents.{lie-inside, own-reads}
+use Rattle.lane_access.proofs.OwnExtents.{lie-inside}
+use Rattle.lane_state.proofs.OwnBytes.{own-reads}
 use Rattle.lane_access.proofs.RawAccesses.{raw-below, raw-inside, raw-reached, read-absent, read-done, read-refused}
 use Rattle.lane_access.proofs.raw.dev_read_at.Goals as goal
 

@@ -29,10 +29,9 @@ returns-then-map-own-clause-is c =
 pub find-requires : goal.find-requires
 find-requires c =
     let h = c.args.holdings.now in
-    subst (λ (ss : List Segment). byte_count ss < 2 ^ 64) (sym c.segments.ensures)
-    (short-segments h c.requires.wired c.args.map c.args.kept.now c.requires.there
+    short-segments h c.requires.wired c.args.map c.args.kept.now c.requires.there
     (not-behind h c.args.map c.args.kept.now c.requires.there c.is_device.result c.is_device.ensures c.if-is_device.false)
-    c.requires.short)
+    c.requires.short
 
 pub returns-clause-is : goal.returns-clause-is
 returns-clause-is c =
@@ -40,7 +39,7 @@ returns-clause-is c =
     let d = c.args.descriptor in
     let there = image-some map_of h.maps.map c.args.map c.args.kept.now c.requires.there in
     let place : place_of d.addr d.len (held.segments_of c.args.kept.now.map.stage) ≡ Some c.in_ok-off.off =
-    ap (place_of d.addr d.len) (sym c.segments.ensures) ∙ sym c.find.ensures.place ∙ c.in_ok-off.was in
+    sym c.find.ensures ∙ c.in_ok-off.was in
     candidate-at (ideal_of h) d c.args.own c.args.map (map_of c.args.kept.now) c.if-map-own.false
     (sym (c.is_device.ensures (map_of c.args.kept.now) there) ∙ c.if-is_device.false) c.in_ok-off.off
     (ap (place_of d.addr d.len) (segments-same c.args.kept.now.map.stage) ∙ place)
@@ -50,7 +49,7 @@ returns-clause-within c =
     let h = c.args.holdings.now in
     let d = c.args.descriptor in
     let place : place_of d.addr d.len (held.segments_of c.args.kept.now.map.stage) ≡ Some c.in_ok-off.off =
-    ap (place_of d.addr d.len) (sym c.segments.ensures) ∙ sym c.find.ensures.place ∙ c.in_ok-off.was in
+    sym c.find.ensures ∙ c.in_ok-off.was in
     candidate-within h c.requires.wired c.args.map c.args.kept.now c.requires.there
     (not-behind h c.args.map c.args.kept.now c.requires.there c.is_device.result c.is_device.ensures c.if-is_device.false)
     d c.in_ok-off.off place

@@ -1,12 +1,13 @@
 use Rattle.std.proofs.Common.{◌≡◌, ◌≤◌, ◌+◌, IfOk, Some, length, refl, ap, sym, ◌∙◌, subst, arith}
 use Rattle.busdma_base.specs.declared.scenarios.script.Op.{Op}
-use Rattle.busdma_base.specs.Scenarios.Operations.{items_of, loaded_by}
+use Rattle.busdma_base.specs.Scenarios.Operations.{items_of}
 use Rattle.ideal_lane.specs.Accesses.{cpu_write}
 use Rattle.ideal_lane.specs.Turns.{operation}
 use Rattle.ideal_wire.specs.WireStep as wires
 use Rattle.lane_state.specs.Doing.{IsAllowedBy, IsDone, asks}
 use Rattle.lane_state.specs.Ideal.{given, ideal_of}
 use Rattle.lane_state.specs.Kept.{map_of, memory_of, ring_of, tag_of}
+use Rattle.lane_state.specs.SmallLoads.{loaded_once}
 use Rattle.lane_state.specs.Wire.{wire_of}
 use Rattle.lane_state.proofs.Doors.{always-ok, ok-weak}
 use Rattle.lane_state.proofs.Following.{stays-all, stays-held}
@@ -162,7 +163,7 @@ returns-in-Load-clause-wire g c =
 pub returns-in-Load-clause-promised : goal.returns-in-Load-clause-promised
 returns-in-Load-clause-promised g c =
     let h = c.args.holdings.now in
-    subst (λ n. c.load_buffer.new.holdings.agenda.promised ≤ h.agenda.promised + n) (sym (ap loaded_by c.in-Load.is))
+    subst (λ n. c.load_buffer.new.holdings.agenda.promised ≤ h.agenda.promised + n) (sym (ap loaded_once c.in-Load.is))
     c.load_buffer.ensures.promised
 
 pub destroy_map-requires : goal.destroy_map-requires

@@ -211,6 +211,7 @@ returns-in_err-map-clause-same g c =
         rings = refl;
         loans = refl;
         shares = refl;
+        due = refl;
       };
       tags = refl;
       maps = refl;

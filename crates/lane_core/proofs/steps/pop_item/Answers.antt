@@ -20,6 +20,7 @@ returns-clause-same c =
         rings = refl;
         loans = refl;
         shares = refl;
+        due = refl;
       };
       tags = refl;
       maps = refl;

@@ -23,53 +23,53 @@ returns-in-Some-clause-places g c = c.in-Some.ensures.made.places
 pub returns-in-Some-clause-small : goal.returns-in-Some-clause-small
 returns-in-Some-clause-small g c =
     let r = c.return_turn.ensures in
-    small-same c.args.holdings.now c.return_turn.new.holdings c.requires.small (ap (λ s. s.now) r.script) r.place r.promised
-    r.due
+    small-same c.args.holdings.now c.requires.small c.return_turn.new.holdings (ap (λ s. s.now) r.script) r.place r.resend
+    r.promised r.due
 
-pub operation_turn-requires-clause-ready : goal.operation_turn-requires-clause-ready
-operation_turn-requires-clause-ready g c =
+pub due_turn-requires-clause-ready : goal.due_turn-requires-clause-ready
+due_turn-requires-clause-ready g c =
     subst (λ (x : Holdings). IsReady x (g.D.HubDoor.seen c.return_turn.new.door)) (sym c.in-None.ensures.same)
     (subst (λ (y : Seen). IsReady c.args.holdings.now y) (sym c.in-None.ensures.unseen) c.requires.ready)
 
-pub operation_turn-requires-clause-small : goal.operation_turn-requires-clause-small
-operation_turn-requires-clause-small g c =
+pub due_turn-requires-clause-small : goal.due_turn-requires-clause-small
+due_turn-requires-clause-small g c =
     subst (λ (x : Holdings). HasSmallLoads x) (sym c.in-None.ensures.same) c.requires.small
 
-pub operation_turn-requires-clause-length : goal.operation_turn-requires-clause-length
-operation_turn-requires-clause-length g c =
+pub due_turn-requires-clause-length : goal.due_turn-requires-clause-length
+due_turn-requires-clause-length g c =
     subst (λ (x : Holdings). x.agenda.length ≡ length x.script.now) (sym c.in-None.ensures.same) c.requires.length
 
-pub operation_turn-requires-clause-empty : goal.operation_turn-requires-clause-empty
-operation_turn-requires-clause-empty g c =
+pub due_turn-requires-clause-empty : goal.due_turn-requires-clause-empty
+due_turn-requires-clause-empty g c =
     subst (λ (x : Holdings). x.agenda.returns ≡ []) (sym c.in-None.ensures.same) c.in-None.ensures.empty
 
 pub returns-in-None-clause-made : goal.returns-in-None-clause-made
 returns-in-None-clause-made g c =
-    made-from c.args.holdings.now c.return_turn.new.holdings c.operation_turn.new.holdings (g.D.HubDoor.seen c.args.door.now)
-    (g.D.HubDoor.seen c.return_turn.new.door) (g.D.HubDoor.seen c.operation_turn.new.door) side.Script
-    c.in-None.ensures.same c.in-None.ensures.unseen c.operation_turn.result c.operation_turn.ensures.made
+    made-from c.args.holdings.now c.return_turn.new.holdings c.due_turn.new.holdings (g.D.HubDoor.seen c.args.door.now)
+    (g.D.HubDoor.seen c.return_turn.new.door) (g.D.HubDoor.seen c.due_turn.new.door) side.Script
+    c.in-None.ensures.same c.in-None.ensures.unseen c.due_turn.result c.due_turn.ensures.made
 
 pub returns-in-None-clause-err : goal.returns-in-None-clause-err
 returns-in-None-clause-err g c =
-    err-map c.operation_turn.result
-    (subst (λ (x : Holdings). KeepsState x c.operation_turn.new.holdings) c.in-None.ensures.same)
-    c.operation_turn.ensures.err
+    err-map c.due_turn.result
+    (subst (λ (x : Holdings). KeepsState x c.due_turn.new.holdings) c.in-None.ensures.same)
+    c.due_turn.ensures.err
 
 pub returns-in-None-clause-undone : goal.returns-in-None-clause-undone
 returns-in-None-clause-undone g c =
-    err-map c.operation_turn.result
-    (subst (λ (y : Seen). IsUndone y (g.D.HubDoor.seen c.operation_turn.new.door)) c.in-None.ensures.unseen)
-    c.operation_turn.ensures.undone
+    err-map c.due_turn.result
+    (subst (λ (y : Seen). IsUndone y (g.D.HubDoor.seen c.due_turn.new.door)) c.in-None.ensures.unseen)
+    c.due_turn.ensures.undone
 
 pub returns-in-None-clause-room : goal.returns-in-None-clause-room
 returns-in-None-clause-room g c =
-    err-map c.operation_turn.result
-    (subst (λ (x : Holdings). x.agenda.room ≤ c.operation_turn.new.holdings.agenda.room) c.in-None.ensures.same)
-    c.operation_turn.ensures.room
+    err-map c.due_turn.result
+    (subst (λ (x : Holdings). x.agenda.room ≤ c.due_turn.new.holdings.agenda.room) c.in-None.ensures.same)
+    c.due_turn.ensures.room
 
 pub returns-in-None-clause-places : goal.returns-in-None-clause-places
 returns-in-None-clause-places g c =
-    c.operation_turn.ensures.places ∙ ap (λ (x : Holdings). x.agenda.length) c.in-None.ensures.same
+    c.due_turn.ensures.places ∙ ap (λ (x : Holdings). x.agenda.length) c.in-None.ensures.same
 
 pub returns-in-None-clause-wanting : goal.returns-in-None-clause-wanting
-returns-in-None-clause-wanting g c = on-err c.operation_turn.result c.in-None.ensures.empty
+returns-in-None-clause-wanting g c = on-err c.due_turn.result c.in-None.ensures.empty

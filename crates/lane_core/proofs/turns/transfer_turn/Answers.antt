@@ -1,7 +1,7 @@
-use Rattle.std.proofs.Common.{◌≡◌, ap, arith}
+use Rattle.std.proofs.Common.{◌≡◌, ap, ◌∙◌, arith}
 use Rattle.lane_state.specs.Changes.{KeepsPromises}
 use Rattle.lane_state.specs.Covered.{pages_due}
-use Rattle.lane_core.proofs.Promises.{item-maps, maps-promise, state-promise}
+use Rattle.lane_core.proofs.Promises.{item-due, item-maps, maps-promise, state-promise}
 use Rattle.lane_core.proofs.Queueing.{back-agenda, item-agenda, item-back, item-done, item-wire}
 use Rattle.lane_core.proofs.Queueing.{queue-stands, queue-wired}
 use Rattle.lane_core.proofs.turns.transfer_turn.Goals as goal
@@ -75,3 +75,13 @@ returns-in-Err-clause-due c =
       ap (λ a. a.promised) back.agenda,
       ap (λ t. pages_due t.map) back.rest.maps,
     )
+
+pub returns-in-Ok-clause-resend : goal.returns-in-Ok-clause-resend
+returns-in-Ok-clause-resend c =
+    item-due c.pop_item.new.holdings c.transfer.new.holdings c.in-Some.queued.item c.in-Ok.answer c.in-Ok.ensures.done
+    ∙ c.pop_item.ensures.rest.most.due
+
+pub returns-in-Err-clause-resend : goal.returns-in-Err-clause-resend
+returns-in-Err-clause-resend c =
+    c.put_item_back.ensures.rest.most.due ∙ ap (λ l. l.due) c.in-Err.ensures.err.ideal
+    ∙ c.pop_item.ensures.rest.most.due

@@ -56,8 +56,8 @@ returns-in-Transfer-clause-ready g c =
 pub returns-in-Transfer-clause-small : goal.returns-in-Transfer-clause-small
 returns-in-Transfer-clause-small g c =
     let r = c.transfer_turn.ensures in
-    small-same c.args.holdings.now c.transfer_turn.new.holdings c.requires.small (ap (λ s. s.now) r.script) r.agenda.place
-    r.promised r.due
+    small-same c.args.holdings.now c.requires.small c.transfer_turn.new.holdings (ap (λ s. s.now) r.script) r.agenda.place
+    r.resend r.promised r.due
 
 pub returns-in-Transfer-clause-length : goal.returns-in-Transfer-clause-length
 returns-in-Transfer-clause-length g c =

@@ -11,3 +11,6 @@ returns-in-LoadVector-clause-own c =
 pub returns-in-LoadMbuf-clause-own : goal.returns-in-LoadMbuf-clause-own
 returns-in-LoadMbuf-clause-own c =
     loads_from_these c.load_mbuf.result c.args.pages.now c.load_mbuf.ensures.frameless
+
+pub returns-in-Send-clause-own : goal.returns-in-Send-clause-own
+returns-in-Send-clause-own c = loads_from_these c.send.result c.args.pages.now c.send.ensures.frameless

@@ -1,4 +1,4 @@
-use Rattle.std.proofs.Common.{◌≡◌, ℕ, Some, None, ◌==◌, ◌≤◌, not, length, map, ap, sym, ◌∙◌, subst, arith}
+use Rattle.std.proofs.Common.{◌≡◌, ℕ, false, Some, None, ◌==◌, ◌≤◌, not, length, map, refl, ap, sym, ◌∙◌, subst, arith}
 use Rattle.std.specs.List.{list_any}
 use Rattle.std.specs.Ordering.{nat_cmp}
 use Rattle.std.specs.FinMap.{get, get-empty}
@@ -129,6 +129,7 @@ invariant_of-result-2-clause-wired c =
       maxmem = c.args.maxmem;
       script = c.as_slice-script.ensures i;
       place = (agenda i).place;
+      due = false;
       pages = c.as_slice-pages.ensures i;
       tags = tags i;
       maps = maps i;
@@ -141,8 +142,8 @@ invariant_of-result-2-clause-wired c =
       shares = share_of (c.new-6.ensures.items i);
       spaces = spaces i;
     })
-    (ap (λ t. t.map) c.in_ok-new-2.ensures) c.requires.memory.zero c.requires.numbered c.requires.inside
-    c.requires.bios
+    (ap (λ t. t.map) c.in_ok-new-2.ensures) c.requires.memory.zero c.requires.script c.requires.pages
+    c.requires.numbered c.requires.inside c.requires.bios
 
 pub invariant_of-result-2-clause-stands : goal.invariant_of-result-2-clause-stands
 invariant_of-result-2-clause-stands c =
@@ -165,6 +166,7 @@ invariant_of-result-2-clause-stands c =
       maxmem = c.args.maxmem;
       script = c.as_slice-script.ensures i;
       place = (agenda i).place;
+      due = false;
       pages = c.as_slice-pages.ensures i;
       tags = tags i;
       maps = maps i;
@@ -182,7 +184,7 @@ invariant_of-result-2-clause-stands c =
 pub invariant_of-result-2-clause-small : goal.invariant_of-result-2-clause-small
 invariant_of-result-2-clause-small c =
     opens-small c.args.driver.now _ c.requires.script c.requires.small c.as_slice-script.ensures
-    (ap (λ a. a.place) c.in_ok-new-5.ensures) (ap (λ a. a.promised) c.in_ok-new-5.ensures)
+    (ap (λ a. a.place) c.in_ok-new-5.ensures) refl (ap (λ a. a.promised) c.in_ok-new-5.ensures)
     (let none : pages_due c.in_ok-new-2.field-0.map ≤ 0 =
     (opens-mapless c.in_ok-new-2.field-0.map c.in_ok-opening_loans.field-0.loans c.in_ok-new-5.field-0.returns 0
     (ap (λ t. t.map) c.in_ok-new-2.ensures) c.in_ok-opening_loans.ensures.loans
@@ -222,6 +224,7 @@ returns c =
       maxmem = c.args.maxmem;
       script = c.as_slice-script.ensures i;
       place = (agenda i).place;
+      due = false;
       pages = c.as_slice-pages.ensures i;
       tags = tags i;
       maps = maps i;

@@ -1,0 +1,33 @@
+-- How often the steps of a run load a send.
+use Rattle.std.specs.Prelude.{ℕ, ◌==◌, Bool, false, List, if◌then◌else◌}
+use Rattle.std.specs.List.{sum_by}
+use Rattle.busdma_base.specs.declared.journals.journal.Did.{Did}
+use Rattle.busdma_base.specs.declared.journals.journal.Did.TheVariants as did
+use Rattle.ideal_lane.specs.Callbacks.{Made}
+use Rattle.ideal_lane.specs.Turns.{Turn, Stepped, Blocked, Ended}
+
+-- what was done is the operation at a place of the script
+abbrev pub is_operation : ℕ → Did → Bool
+is_operation p (did.Op place) = place == p
+is_operation p (did.Again place) = false
+is_operation p (did.Release m page) = false
+is_operation p (did.Callback m) = false
+is_operation p (did.Item load_at place) = false
+
+-- it is the resend of the send there
+abbrev pub is_resend : ℕ → Did → Bool
+is_resend p (did.Op place) = false
+is_resend p (did.Again place) = place == p
+is_resend p (did.Release m page) = false
+is_resend p (did.Callback m) = false
+is_resend p (did.Item load_at place) = false
+
+-- how often a turn does what a test chooses
+abbrev pub done_by : (Did → Bool) → Turn → ℕ
+done_by chosen (Stepped e) = if chosen e.did then 1 else 0
+done_by chosen Blocked = 0
+done_by chosen Ended = 0
+
+-- how often the steps of a run do
+abbrev pub times_done : (Did → Bool) → List Made → ℕ
+times_done chosen steps = sum_by (λ m. done_by chosen m.turned.turn) steps

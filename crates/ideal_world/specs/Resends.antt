@@ -1,0 +1,23 @@
+-- How often the entries of a journal load a send, and that each resend finds its map.
+use Rattle.std.specs.Prelude.{◌≡◌, ℕ, ◌==◌, Bool, true, false, ◌&&◌, List, if◌then◌else◌}
+use Rattle.std.specs.List.{AllByRecursion, sum_by}
+use Rattle.busdma_base.specs.declared.journals.journal.Did.{Did}
+use Rattle.busdma_base.specs.declared.journals.journal.JournalEntry.{JournalEntry}
+use Rattle.ideal_lane.specs.Due.{is_unfit}
+use Rattle.ideal_lane.specs.Resends.{is_resend}
+
+-- how often an entry is one of this driver's, and does what a test chooses
+abbrev pub done_by : (Did → Bool) → ℕ → JournalEntry → ℕ
+done_by chosen i e = if (e.actor.lane.0 == i) && chosen e.did then 1 else 0
+
+-- how often entries are
+abbrev pub times_done : (Did → Bool) → ℕ → List JournalEntry → ℕ
+times_done chosen i entries = sum_by (λ e. done_by chosen i e) entries
+
+-- an entry that is a resend answers neither EINVAL nor Absent nor MapBusy
+abbrev pub FindsMap : JournalEntry → Type 0
+FindsMap e = (place : ℕ) → is_resend place e.did ≡ true → is_unfit e.answer ≡ false
+
+-- so it is of all entries
+abbrev pub FindMaps : List JournalEntry → Type 0
+FindMaps entries = AllByRecursion FindsMap entries

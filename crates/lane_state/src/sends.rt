@@ -1,0 +1,83 @@
+//! Sends, whose chain is copied to clusters and loaded from there once more where it has too many segments.
+
+ghost use Rattle.std.specs.Prelude.{◌≡◌, option_map};
+ghost use Rattle.ideal_lane.specs.Sends as sends;
+ghost use Rattle.ideal_lane.specs.Sends.{due_send};
+ghost use Rattle.lane_state.specs.Ideal.{ideal_of};
+ghost use Rattle.lane_state.specs.Sends.{the_send};
+
+use crate::holdings::Holdings;
+use busdma_base::{Buffer, ItemList, Mbuf, Op, Span};
+
+/// What the resend of a send is made of: its map, its chain, its clusters as a vector of as many bytes, and the items
+/// that its callback appends.
+#[derive(Clone, Copy)]
+pub struct Resend<'s> {
+    pub map: u32,
+    pub chain: &'s [Mbuf],
+    pub clusters: &'s [Span],
+    pub items: &'s ItemList,
+}
+
+impl<'s> Resend<'s> {
+    /// The resend of an operation, if it is a send whose clusters are enough.
+    pub fn of(op: &'s Op) -> Option<Resend<'s>>
+        ensures { option_map the_send result ≡ sends.send_of op.now }
+    {
+        match op {
+            Op::Load {
+                map,
+                buffer,
+                then,
+                ..
+            } => Resend::of_buffer(*map, buffer, then),
+            Op::Tag { .. }
+            | Op::IommuTag { .. }
+            | Op::TagDestroy { .. }
+            | Op::Map { .. }
+            | Op::MapDestroy { .. }
+            | Op::Dmamem { .. }
+            | Op::DmamemFree { .. }
+            | Op::Unload { .. }
+            | Op::Sync { .. }
+            | Op::SyncRange { .. }
+            | Op::CpuRead { .. }
+            | Op::CpuWrite { .. }
+            | Op::Await { .. }
+            | Op::Ring { .. }
+            | Op::RingPost { .. }
+            | Op::Kick { .. } => None,
+        }
+    }
+
+    /// The same of the load of a buffer.
+    fn of_buffer(map: u32, buffer: &'s Buffer, items: &'s ItemList) -> Option<Resend<'s>>
+        ensures { option_map the_send result ≡ sends.send_in map items.now buffer.now }
+    {
+        match buffer {
+            Buffer::Send { chain, clusters } => {
+                let clusters = clusters.as_ref()?;
+                Some(Resend {
+                    map,
+                    chain: chain.as_slice(),
+                    clusters: clusters.as_slice(),
+                    items,
+                })
+            }
+            Buffer::Flat { .. } | Buffer::Vector(_) | Buffer::Mbuf(_) | Buffer::Bio(_) => None,
+        }
+    }
+}
+
+impl<'s> Holdings<'s> {
+    /// The resend that is due, if one is.
+    pub fn due_resend(&self) -> Option<Resend<'s>>
+        ensures { option_map the_send result ≡ due_send (ideal_of self.now) }
+    {
+        if !self.due {
+            return None;
+        }
+        let script = self.script;
+        Resend::of(script.get(self.agenda.place() as usize)?)
+    }
+}
