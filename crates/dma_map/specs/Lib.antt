@@ -1,4 +1,5 @@
-pub mod Between
 pub mod Callback
 pub mod Held
 pub mod MapView
+pub mod Pages
+pub mod Parts

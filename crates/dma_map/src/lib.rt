@@ -3,6 +3,7 @@
 
 mod callback;
 mod map;
+mod part;
 mod room;
 mod segments;
 mod state;

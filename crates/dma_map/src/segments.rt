@@ -1,18 +1,23 @@
-//! The segments of a load, and between which bus addresses they lie.
+//! The segments of a load, and in which part of them a range of bus addresses may lie.
 
 ghost use Rattle.std.specs.Prelude.{◌≡◌, ◌^◌, ◌<◌};
 ghost use Rattle.ring_device.specs.Ranges.{byte_count, place_of};
+ghost use Rattle.dma_map.specs.Parts.{part_len};
 
+use crate::part::Part;
 use busdma_base::{Segment, SegmentList};
 use std::marker::Model;
 
-/// The segments of a load, in the order of its bytes. No segment lies outside two bus addresses that are kept beside
-/// them, so that a look for a range elsewhere goes through none.
+/// How many parts the segments of a load are cut into.
+const PARTS: usize = 16;
+
+/// The segments of a load, in the order of its bytes. Beside them stands what is known of all of them, and of parts
+/// that follow one another, so that a look for a range passes each part that cannot have it.
 #[derive(Drop)]
 pub struct LoadSegments {
     list: SegmentList,
-    least: u64,
-    end: u128,
+    whole: Part,
+    parts: [Part; PARTS],
 }
 
 impl Model for LoadSegments {
@@ -23,9 +28,9 @@ impl Model for LoadSegments {
 
     ghost view = { λ s. s.list };
 
-    ghost use Rattle.dma_map.specs.Between.{AreBetween};
+    ghost use Rattle.dma_map.specs.Parts.{IsIndexed};
 
-    ghost invariant = { λ s. AreBetween s.least s.end s.list };
+    ghost invariant = { λ s. IsIndexed s.list s.whole s.parts };
 }
 
 impl LoadSegments {
@@ -33,16 +38,16 @@ impl LoadSegments {
     pub fn new(list: SegmentList) -> LoadSegments
         ensures { result ≡ list }
     {
-        let mut least = u64::MAX;
-        let mut end = 0;
-        for segment in list.as_slice() {
-            least = least.min(segment.addr.0);
-            let behind = segment.addr.0 as u128 + segment.len as u128;
-            if end < behind {
-                end = behind;
-            }
+        let mut rest = list.as_slice();
+        let whole = Part::of(rest);
+        let most = part_len(rest);
+        let mut parts = [Part::EMPTY; PARTS];
+        for part in parts.iter_mut() {
+            let (segments, behind) = rest.split_at(most.min(rest.len()));
+            *part = Part::of(segments);
+            rest = behind;
         }
-        LoadSegments { list, least, end }
+        LoadSegments { list, whole, parts }
     }
 
     /// The segments.
@@ -58,9 +63,29 @@ impl LoadSegments {
         requires { byte_count self.now < 2 ^ 64 }
         ensures { result ≡ place_of addr len self.now }
     {
-        if addr < self.least || self.end < addr as u128 + len as u128 {
+        if !self.whole.may_have(addr, len) {
             return None;
         }
-        ring_device::find(self.list.as_slice(), addr, len)
+        let mut rest = self.list.as_slice();
+        let most = part_len(rest);
+        let mut before = 0;
+        for part in &self.parts {
+            let (segments, behind) = rest.split_at(most.min(rest.len()));
+            if part.may_have(addr, len)
+                && let Some(at) = ring_device::find(segments, addr, len)
+            {
+                return Some(before + at);
+            }
+            before += part.bytes;
+            rest = behind;
+        }
+        None
     }
+}
+
+/// How many segments a part of these has, but for the last that has some.
+fn part_len(segments: &[Segment]) -> usize
+    ensures { result ≡ part_len segments.now }
+{
+    segments.len() / PARTS + 1
 }

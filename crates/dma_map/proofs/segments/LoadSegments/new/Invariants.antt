@@ -1,6 +1,10 @@
-use Rattle.std.proofs.Common.{take}
-use Rattle.dma_map.specs.Between.{AreBetween}
+use Rattle.std.proofs.Common.{◌≡◌, ◌-◌, ◌*◌, length, take}
+use Rattle.dma_map.specs.Parts.{ArePartsOf}
 use Rattle.dma_map.proofs.segments.LoadSegments.new.Given as goal
 
-abbrev pub invariant-loop-segment : goal.invariant-loop-segment
-invariant-loop-segment l = AreBetween l.least l.end (take l.segment-index l.segment-items)
+abbrev pub invariant-loop-part : goal.invariant-loop-part
+invariant-loop-part l = record {
+  sixteen : length l.part-items ≡ 16;
+  cut : ArePartsOf l.most (take l.part-index l.part-items) l.fn.list l.rest;
+  left : length l.rest ≡ length l.fn.list - l.part-index * l.most;
+}

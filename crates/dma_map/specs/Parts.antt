@@ -1,0 +1,35 @@
+-- What is kept of the segments of a load beside them, so that a look for a range passes those that cannot have it.
+use Rattle.std.specs.Prelude.{◌≡◌, ℕ, ◌+◌, ◌-◌, ◌/◌, ◌^◌, ◌<◌, ◌≤◌, List, [], ◌∷◌, length, take, drop, min}
+use Rattle.std.specs.List.{All}
+use Rattle.busdma_machine.specs.declared.machine.address.Segment.{Segment}
+use Rattle.ring_device.specs.Ranges.{byte_count}
+use Rattle.dma_map.specs.declared.part.Part.{Part}
+use Rattle.dma_map.specs.Pages.{HasPages}
+
+-- a segment begins at an address or later, and ends at another or before, where an end at 2^64 or behind counts as the
+-- greatest address
+pub record IsBetween (least end : ℕ) (s : Segment) : Type 0 where
+  pub begins : least ≤ s.addr.0
+  pub ends : min (s.addr.0 + s.len) (2 ^ 64 - 1) ≤ end
+
+-- what is known of some segments: their bytes, where these have a `u64`, between which addresses all of them lie, and
+-- in which pages
+pub record IsPart (segments : List Segment) (part : Part) : Type 0 where
+  pub bytes : byte_count segments < 2 ^ 64 → part.bytes ≡ byte_count segments
+  pub between : All (IsBetween part.least part.end) segments
+  pub pages : All (HasPages part.pages) segments
+
+-- parts of so many segments each, one behind the other, and the segments behind them
+abbrev pub ArePartsOf : ℕ → List Part → List Segment → List Segment → Type 0
+ArePartsOf most [] segments rest = segments ≡ rest
+ArePartsOf most (p ∷ ps) segments rest = IsPart (take most segments) p × ArePartsOf most ps (drop most segments) rest
+
+-- how many segments a part of sixteen has
+abbrev pub part_len : List Segment → ℕ
+part_len segments = length segments / 16 + 1
+
+-- what is known of all segments of a load, and of the parts that they are cut into
+pub record IsIndexed (segments : List Segment) (whole : Part) (parts : List Part) : Type 0 where
+  pub all : IsPart segments whole
+  pub sixteen : length parts ≡ 16
+  pub cut : ArePartsOf (part_len segments) parts segments []
