@@ -1,36 +1,11 @@
--- What is counted, with one more operation, item or driver.
-use Rattle.std.proofs.Common.{◌≡◌, ℕ, List, [], ◌∷◌, ◌++◌, length, sum_by, arith, length-append, refl, ap, ◌∙◌}
+-- What is counted, with one more driver.
+use Rattle.std.proofs.Common.{◌≡◌, List, [], ◌∷◌, ◌++◌, sum_by, arith, ap, ◌∙◌}
 use Rattle.std.proofs.lemmas.List.Sums.{sum_by-append}
-use Rattle.busdma_base.specs.declared.scenarios.script.Op.{Op}
-use Rattle.busdma_base.specs.declared.scenarios.script.Item.{Item}
 use Rattle.busdma_base.specs.declared.scenarios.scenario.Driver.{Driver}
-use Rattle.busdma_base.specs.Scenarios.Operations.{items_of, read_by, read_by_item, loaded_by}
+use Rattle.busdma_base.specs.Scenarios.Operations.{read_by, loaded_by}
 use Rattle.busdma_base.specs.Scenarios.Valid.{read_of, loaded_of}
-use Rattle.scenario_read.specs.declared.counts.Counts.{Counts}
-use Rattle.scenario_read.specs.Counts.{with_op, with_ops, with_items, stepped, having_read, IsQuiet}
-
-same : (a b c a' b' c' : ℕ) → a ≡ a' → b ≡ b' → c ≡ c'
-    → let x : Counts = record { steps = a; read = b; loaded = c } in let y : Counts =
-    record { steps = a'; read = b'; loaded = c' } in x ≡ y
-same a b c a' b' c' p q r = cc
-
-pub with_op_quiet : (c : Counts) (o : Op) → IsQuiet o → c ≡ with_op c o
-with_op_quiet c o h =
-    same _ _ _ _ _ _ (omega (arith, h.no_items)) (omega (arith, h.reads_nothing)) (rw h.loads_nothing (omega arith))
-
-pub with_ops_more : (c : Counts) (ops : List Op) (o : Op) →
-    with_op (stepped (with_ops c ops)) o ≡ with_ops c (ops ++ o ∷ [])
-with_ops_more c ops o =
-    same _ _ _ _ _ _
-    (rw (length-append ops (o ∷ []), sum_by-append (λ p. length (items_of p)) ops (o ∷ [])) (omega arith))
-    (rw (sum_by-append read_by ops (o ∷ [])) (omega arith))
-    (rw (sum_by-append loaded_by ops (o ∷ [])) (omega arith))
-
-pub with_items_more : (c : Counts) (items : List Item) (i : Item)
-    → having_read (stepped (with_items c items)) (read_by_item i) ≡ with_items c (items ++ i ∷ [])
-with_items_more c items i =
-    same _ _ _ _ _ _ (rw (length-append items (i ∷ [])) (omega arith))
-    (rw (sum_by-append read_by_item items (i ∷ [])) (omega arith)) refl
+use Rattle.script_fields.specs.declared.counts.Counts.{Counts}
+use Rattle.script_fields.specs.Counts.{with_ops}
 
 pub read_more : (new old : Counts) (ds : List Driver) (d : Driver)
     → new ≡ with_ops old d.script → old.read ≡ read_of ds → new.read ≡ read_of (ds ++ d ∷ [])

@@ -1,9 +1,3 @@
-pub mod Clusters
 pub mod Counting
 pub mod Documents
-pub mod Each
-pub mod FirstPlaces
-pub mod Hints
-pub mod Loading
-pub mod Makers
 pub mod Runs

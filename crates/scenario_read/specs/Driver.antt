@@ -12,10 +12,10 @@ use Rattle.json_fields.specs.Field.{Spot, field, required, only_keys, one_of}
 use Rattle.json_fields.specs.Items.{items_at, each}
 use Rattle.json_fields.specs.declared.refusal.RefusalKind.TheVariants.{Limit}
 use Rattle.json_fields.specs.declared.refusal.LimitName.TheVariants.{Drivers}
-use Rattle.scenario_read.specs.declared.counts.Counts.{Counts}
-use Rattle.scenario_read.specs.Counts.{counts_of}
+use Rattle.script_fields.specs.declared.counts.Counts.{Counts}
+use Rattle.script_fields.specs.Counts.{counts_of}
 use Rattle.scenario_read.specs.Pages.{pages_at}
-use Rattle.scenario_read.specs.Script.{script_at}
+use Rattle.script_read.specs.Script.{script_at}
 
 -- no pages where there is no list
 abbrev pub pages_or_none : List FrameRun → List Driver → Option Spot → Read (List PageRun)

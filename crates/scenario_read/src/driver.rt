@@ -11,16 +11,16 @@ ghost use Rattle.busdma_base.specs.Scenarios.Valid.{IsDriver, LoadsFrom, read_of
 ghost use Rattle.json_fields.specs.Read.{Gives, GivesSeen};
 ghost use Rattle.json_fields.specs.Field.{spot_of, field};
 ghost use Rattle.json_fields.specs.Items.{each};
-ghost use Rattle.scenario_read.specs.Counts.{IsWithin, counts_of, with_ops};
+ghost use Rattle.script_fields.specs.Counts.{IsWithin, counts_of, with_ops};
 ghost use Rattle.scenario_read.specs.Driver as driver;
 ghost use Rattle.busdma_base.specs.Scenarios.Limits.{drivers_limit, loaded_limit, reads_limit};
 
-use crate::counts::Counts;
 use crate::limits::DRIVERS;
 use crate::pages::pages;
-use crate::script::script;
 use busdma_base::{Driver, DriverList, FrameRun, ListOf, OpList, PageRun, PageRunList};
 use json_fields::{LimitName, Node, RefusalKind, Stop};
+use script_fields::Counts;
+use script_read::script_of;
 use serde_json::Value;
 
 fn pages_field(here: &Node, frames: &[FrameRun], earlier: &[Driver]) -> Result<PageRunList, Stop>
@@ -44,7 +44,7 @@ fn script_field(here: &Node, pages: &[PageRun], counts: &mut Counts) -> Result<O
     ensures counted { IfOk result (λ v. counts.new ≡ with_ops counts.old v) }
     ensures within { IfOk result (λ _. IsWithin counts.new) }
 {
-    script(&here.required("script")?, pages, counts)
+    script_of(&here.required("script")?, pages, counts)
 }
 
 #[tactic(auto, unfolding(crate::specs::Driver::driver_at))]

@@ -4,7 +4,7 @@ use Rattle.busdma_machine.specs.Each.{EachAfter}
 use Rattle.busdma_base.specs.Scenarios.Valid.{IsDriver, read_of, loaded_of}
 use Rattle.json_fields.specs.Field.{spot_of}
 use Rattle.json_fields.specs.Items.{each}
-use Rattle.scenario_read.specs.Counts.{IsWithin}
+use Rattle.script_fields.specs.Counts.{IsWithin}
 use Rattle.scenario_read.specs.Driver.{driver_at}
 use Rattle.scenario_read.proofs.driver.each_driver.Given as goal
 

@@ -1,7 +1,7 @@
 use Rattle.std.proofs.Common.{arith}
 use Rattle.std.proofs.lemmas.Grind.{common_steps}
 use Rattle.busdma_base.specs.Scenarios.FrameRuns.{IsFrameRun}
-use Rattle.scenario_read.proofs.Each.{EachAfter-append}
+use Rattle.script_read.proofs.Each.{EachAfter-append}
 use Rattle.scenario_read.proofs.frames.runs.Goals as goal
 
 pub loop-value-preserved : goal.loop-value-preserved

@@ -1,0 +1,51 @@
+//! What an operation writes.
+
+ghost use Rattle.std.specs.Prelude.{◌≡◌, length, IfOk};
+ghost use Rattle.busdma_base.specs.Scenarios.Operations.{bytes_of};
+ghost use Rattle.json_fields.specs.Read.{Gives};
+ghost use Rattle.json_fields.specs.Field.{spot_of};
+ghost use Rattle.script_fields.specs.Bytes as bytes;
+
+use crate::numbers::byte_field;
+use busdma_base::Bytes;
+use json_fields::{Node, RefusalKind, Stop};
+
+/// Bytes by `hex`.
+#[tactic(auto, unfolding(crate::specs::Bytes::listed_at))]
+fn listed(hex: &Node) -> Result<Bytes, Stop>
+    ensures { Gives result (bytes.listed_at (spot_of hex.now)) }
+{
+    Ok(Bytes::Listed(hex.bytes()?))
+}
+
+/// One byte, `len` times.
+#[tactic(auto, unfolding(crate::specs::Bytes::filled_at))]
+fn filled(here: &Node) -> Result<Bytes, Stop>
+    ensures { Gives result (bytes.filled_at (spot_of here.now)) }
+{
+    let byte = byte_field(here, "fill")?;
+    let len = here.number_field("len")?;
+    Ok(Bytes::Filled { byte, len })
+}
+
+/// What an operation writes: `hex`, or `fill` with `len`.
+#[tactic(auto, unfolding(crate::specs::Bytes::written_at))]
+pub fn written_bytes(here: &Node) -> Result<Bytes, Stop>
+    ensures { Gives result (bytes.written_at (spot_of here.now)) }
+{
+    match (here.field("hex"), here.field("fill")) {
+        (Some(hex), None) if here.field("len").is_none() => listed(&hex),
+        (None, Some(_)) => filled(here),
+        _ => Err(here.refuse(RefusalKind::BadField)),
+    }
+}
+
+/// How many bytes are written.
+pub fn byte_count(bytes: &Bytes) -> u64
+    ensures { result ≡ length (bytes_of bytes.now) }
+{
+    match bytes {
+        Bytes::Listed(bytes) => bytes.len() as u64,
+        Bytes::Filled { len, .. } => *len,
+    }
+}

@@ -1,0 +1,91 @@
+//! Sets of flags.
+
+ghost use Rattle.std.specs.Prelude.{◌≡◌, map};
+ghost use Rattle.serde_json.specs.View.{view};
+ghost use Rattle.bitflags.specs.Sets.{find_name};
+ghost use Rattle.busdma_machine.specs.Tags.TagFlags.{tag_table};
+ghost use Rattle.dma_tag.specs.LoadFlags.{load_table};
+ghost use Rattle.dma_tag.specs.MemFlags.{mem_table};
+ghost use Rattle.dma_tag.specs.SyncOps.{sync_table};
+ghost use Rattle.json_fields.specs.Read.{Gives};
+ghost use Rattle.json_fields.specs.Field.{spot_of};
+ghost use Rattle.script_fields.specs.Flags as flags;
+
+use bitflags::Flags;
+use dma_tag::{LoadFlags, MemFlags, SyncOps, TagFlags};
+use json_fields::{Node, RefusalKind, Stop};
+use serde_json::Value;
+
+/// Whose flags they are.
+#[derive(Clone, Copy, Debug)]
+pub enum FlagSet {
+    Tag,
+    Load,
+    Memory,
+    Sync,
+}
+
+/// The bits of a word. WAITOK adds none to the flags of a tag, a load or a memory.
+fn word_bits(set: FlagSet, word: &str) -> Option<u32>
+    ensures { result ≡ flags.word_bits set word.now }
+{
+    match set {
+        FlagSet::Tag if word == "WAITOK" => Some(0),
+        FlagSet::Tag => TagFlags::from_name(word).map(|flag| flag.0),
+        FlagSet::Load if word == "WAITOK" => Some(0),
+        FlagSet::Load => LoadFlags::from_name(word).map(|flag| flag.0),
+        FlagSet::Memory if word == "WAITOK" => Some(0),
+        FlagSet::Memory => MemFlags::from_name(word).map(|flag| flag.0),
+        FlagSet::Sync => SyncOps::from_name(word).map(|flag| flag.0),
+    }
+}
+
+#[tactic(auto, unfolding(crate::specs::Flags::flag_at))]
+fn flag(here: &Node, set: FlagSet) -> Result<u32, Stop>
+    ensures { Gives result (flags.flag_at set (spot_of here.now)) }
+{
+    match word_bits(set, here.text()?) {
+        Some(bits) => Ok(bits),
+        None => Err(here.refuse(RefusalKind::BadFlag)),
+    }
+}
+
+fn union<'v>(here: &'v Node<'v>, set: FlagSet, items: &'v [Value]) -> Result<u32, Stop>
+    ensures { Gives result (flags.flags_from set (spot_of here.now) 0 0 (map view items.now)) }
+{
+    let mut bits = 0;
+    let mut place = 0;
+    for value in items {
+        bits |= flag(&here.item(place, value), set)?;
+        place += 1;
+    }
+    Ok(bits)
+}
+
+/// The bits of all words of a list.
+#[tactic(auto, unfolding(crate::specs::Flags::flags_at))]
+fn flags_here(here: &Node, set: FlagSet) -> Result<u32, Stop>
+    ensures { Gives result (flags.flags_at set (spot_of here.now)) }
+{
+    let items = here.items()?;
+    union(here, set, items)
+}
+
+/// The flags of a tag, a load or a memory.
+#[tactic(auto, unfolding(crate::specs::Flags::flags_field))]
+pub fn flags_field(here: &Node, set: FlagSet) -> Result<u32, Stop>
+    ensures { Gives result (flags.flags_field set (spot_of here.now)) }
+{
+    match here.field("flags") {
+        Some(node) => flags_here(&node, set),
+        None => Ok(0),
+    }
+}
+
+/// The operations of a sync.
+#[tactic(auto, unfolding(crate::specs::Flags::ops_field))]
+pub(crate) fn ops_field(here: &Node) -> Result<u32, Stop>
+    ensures { Gives result (flags.ops_field (spot_of here.now)) }
+{
+    flags_here(&here.required("ops")?, FlagSet::Sync)
+}

@@ -1,0 +1,65 @@
+//! The names that a script makes and uses.
+
+ghost use Rattle.std.specs.Prelude.{codes, IfOk};
+ghost use Rattle.std.specs.List.{AllByRecursion};
+ghost use Rattle.busdma_base.specs.Scenarios.Names as base;
+ghost use Rattle.busdma_base.specs.Scenarios.Operations.{parents};
+ghost use Rattle.json_fields.specs.Read.{Gives};
+ghost use Rattle.json_fields.specs.Field.{spot_of, field};
+ghost use Rattle.script_fields.specs.Names as names;
+
+use crate::named_ops::NamedOps;
+use busdma_base::{Name, NameUse};
+use json_fields::{Node, RefusalKind, Stop};
+
+/// The name at a key, which no operation before made. One that was made is refused.
+#[tactic(auto, unfolding(crate::specs::Names::new_name))]
+pub fn new_name<'v>(here: &'v Node<'v>, field: &'v str, before: &NamedOps) -> Result<Name, Stop>
+    ensures value { Gives result (names.new_name field.now before.now (spot_of here.now)) }
+    ensures new { IfOk result (base.IsNewName before.now) }
+{
+    let name = here.required(field)?.name()?;
+    if before.has_name(name.as_str()) {
+        return Err(here.refuse_key(RefusalKind::BadField, field));
+    }
+    Ok(name)
+}
+
+/// The place of the operation before that made the name that stands here, as a thing that can be used so.
+#[tactic(auto, unfolding(crate::specs::Names::used_at))]
+pub(crate) fn used(here: &Node, used_as: NameUse, before: &NamedOps) -> Result<u32, Stop>
+    ensures value { Gives result (names.used_at used_as before.now (spot_of here.now)) }
+    ensures made { IfOk result (λ place. base.IsMade before.now (record { used_as = used_as; made_at = place })) }
+{
+    match before.maker(used_as, here.name_text()?) {
+        Some(place) => Ok(place),
+        None => Err(here.refuse(RefusalKind::UnknownName)),
+    }
+}
+
+/// The place of the operation before that made the name at a key, as a thing that can be used so. A name of no such
+/// operation is refused.
+#[tactic(auto, unfolding(crate::specs::Names::used_name))]
+pub fn used_name<'v>(
+    here: &'v Node<'v>,
+    used_as: NameUse,
+    field: &'v str,
+    before: &NamedOps,
+) -> Result<u32, Stop>
+    ensures value { Gives result (names.used_name used_as field.now before.now (spot_of here.now)) }
+    ensures made { IfOk result (λ place. base.IsMade before.now (record { used_as = used_as; made_at = place })) }
+{
+    used(&here.required(field)?, used_as, before)
+}
+
+/// The place of the tag that is a tag's parent, where it has one.
+pub fn parent_tag<'v>(here: &'v Node<'v>, before: &NamedOps) -> Result<Option<u32>, Stop>
+    ensures value { Gives result
+        (names.parent_or_none before.now (field (codes "parent") (spot_of here.now))) }
+    ensures made { IfOk result (λ p. AllByRecursion (base.IsMade before.now) (parents p)) }
+{
+    match here.field("parent") {
+        Some(node) => Ok(Some(used(&node, NameUse::Tag, before)?)),
+        None => Ok(None),
+    }
+}

@@ -1,0 +1,65 @@
+//! Numbers of fewer bits than a scenario's numbers have.
+
+ghost use Rattle.std.specs.Prelude.{◌^◌};
+ghost use Rattle.json_fields.specs.Place.{key, place_of};
+ghost use Rattle.json_fields.specs.Read.{Gives};
+ghost use Rattle.json_fields.specs.Field.{spot_of};
+ghost use Rattle.script_fields.specs.Numbers as numbers;
+
+use json_fields::{Node, RefusalKind, Stop};
+
+// The number that stands at a key, where it has 32 bits.
+fn short(here: &Node, name: &str, n: u64) -> Result<u32, Stop>
+    ensures { Gives result (numbers.below (2 ^ 32) (key (place_of here.now.path) name.now) n) }
+{
+    match u32::try_from(n) {
+        Ok(n) => Ok(n),
+        Err(_) => Err(here.refuse_key(RefusalKind::BadField, name)),
+    }
+}
+
+/// The number of 32 bits at a key.
+#[tactic(auto, unfolding(crate::specs::Numbers::short_field))]
+pub fn short_field(here: &Node, name: &str) -> Result<u32, Stop>
+    ensures { Gives result (numbers.short_field name.now (spot_of here.now)) }
+{
+    let n = here.number_field(name)?;
+    short(here, name, n)
+}
+
+/// The number of 32 bits at a key, or a default where there is none.
+#[tactic(auto, unfolding(crate::specs::Numbers::short_or))]
+pub fn short_or(here: &Node, name: &str, default: u64) -> Result<u32, Stop>
+    ensures { Gives result (numbers.short_or name.now default (spot_of here.now)) }
+{
+    let n = here.number_or(name, default)?;
+    short(here, name, n)
+}
+
+// The number that stands at a key, where it is a byte.
+fn byte(here: &Node, name: &str, n: u64) -> Result<u8, Stop>
+    ensures { Gives result (numbers.below 256 (key (place_of here.now.path) name.now) n) }
+{
+    match u8::try_from(n) {
+        Ok(byte) => Ok(byte),
+        Err(_) => Err(here.refuse_key(RefusalKind::BadField, name)),
+    }
+}
+
+/// The byte that is given as a number at a key.
+#[tactic(auto, unfolding(crate::specs::Numbers::byte_field))]
+pub fn byte_field(here: &Node, name: &str) -> Result<u8, Stop>
+    ensures { Gives result (numbers.byte_field name.now (spot_of here.now)) }
+{
+    let n = here.number_field(name)?;
+    byte(here, name, n)
+}
+
+/// The byte that is given as a number at a key, or a default where there is none.
+#[tactic(auto, unfolding(crate::specs::Numbers::byte_or))]
+pub fn byte_or(here: &Node, name: &str, default: u64) -> Result<u8, Stop>
+    ensures { Gives result (numbers.byte_or name.now default (spot_of here.now)) }
+{
+    let n = here.number_or(name, default)?;
+    byte(here, name, n)
+}

@@ -1,0 +1,74 @@
+//! Where an operation works: at a virtual address, or in a memory that the script made.
+
+ghost use Rattle.std.specs.Prelude.{◌≡◌, [], IfOk};
+ghost use Rattle.std.specs.List.{AllByRecursion};
+ghost use Rattle.busdma_base.specs.Scenarios.Buffers.{IsBegin};
+ghost use Rattle.busdma_base.specs.Scenarios.Names.{IsMade};
+ghost use Rattle.busdma_base.specs.Scenarios.Operations.{place_within};
+ghost use Rattle.json_fields.specs.Read.{Gives};
+ghost use Rattle.json_fields.specs.Field.{spot_of};
+ghost use Rattle.script_fields.specs.Places as places;
+
+use crate::named_ops::NamedOps;
+use crate::names::used;
+use busdma_base::{NameUse, Place, Va};
+use json_fields::{Node, RefusalKind, Stop};
+
+/// The virtual address that stands here.
+#[tactic(auto, unfolding(crate::specs::Places::address_at))]
+fn address(va: &Node) -> Result<Place, Stop>
+    ensures value { Gives result (places.address_at (spot_of va.now)) }
+    ensures within { IfOk result (λ p. place_within p ≡ []) }
+    ensures whole { IfOk result IsBegin }
+{
+    Ok(Place::At(Va(va.number()?)))
+}
+
+/// The first byte of the memory that is named here.
+#[tactic(auto, unfolding(crate::specs::Places::begin_at))]
+fn begin(mem: &Node, before: &NamedOps) -> Result<Place, Stop>
+    ensures value { Gives result (places.begin_at before.now (spot_of mem.now)) }
+    ensures within { IfOk result (λ p. AllByRecursion (IsMade before.now) (place_within p)) }
+    ensures whole { IfOk result IsBegin }
+{
+    let mem = used(mem, NameUse::Memory, before)?;
+    Ok(Place::In { mem, off: 0 })
+}
+
+/// `off` bytes behind it.
+#[tactic(auto, unfolding(crate::specs::Places::behind_begin_at))]
+fn behind_begin(mem: &Node, here: &Node, before: &NamedOps) -> Result<Place, Stop>
+    ensures value { Gives result (places.behind_begin_at before.now (spot_of mem.now) (spot_of here.now)) }
+    ensures within { IfOk result (λ p. AllByRecursion (IsMade before.now) (place_within p)) }
+{
+    let mem = used(mem, NameUse::Memory, before)?;
+    let off = here.number_or("off", 0)?;
+    Ok(Place::In { mem, off })
+}
+
+/// Where an access of the driver begins: `va`, or `mem` with `off`.
+#[tactic(auto, unfolding(crate::specs::Places::access_at))]
+pub fn access_place(here: &Node, before: &NamedOps) -> Result<Place, Stop>
+    ensures value { Gives result (places.access_at before.now (spot_of here.now)) }
+    ensures within { IfOk result (λ p. AllByRecursion (IsMade before.now) (place_within p)) }
+{
+    match (here.field("va"), here.field("mem")) {
+        (Some(va), None) if here.field("off").is_none() => address(&va),
+        (None, Some(mem)) => behind_begin(&mem, here, before),
+        _ => Err(here.refuse(RefusalKind::BadField)),
+    }
+}
+
+/// Where a load begins: `va`, or `mem` from its first byte on.
+#[tactic(auto, unfolding(crate::specs::Places::loaded_from))]
+pub fn loaded_from(here: &Node, before: &NamedOps) -> Result<Place, Stop>
+    ensures value { Gives result (places.loaded_from before.now (spot_of here.now)) }
+    ensures within { IfOk result (λ p. AllByRecursion (IsMade before.now) (place_within p)) }
+    ensures whole { IfOk result IsBegin }
+{
+    match (here.field("va"), here.field("mem")) {
+        (Some(va), None) => address(&va),
+        (None, Some(mem)) => begin(&mem, before),
+        _ => Err(here.refuse(RefusalKind::BadField)),
+    }
+}

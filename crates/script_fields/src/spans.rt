@@ -1,0 +1,90 @@
+//! The lists of loads, and the spans of a vector or of an mbuf chain.
+
+ghost use Rattle.std.specs.Prelude.{◌≡◌, ◌≤◌, ◌<◌, ◌^◌, [], length, map, IfOk};
+ghost use Rattle.serde_json.specs.View.{view};
+ghost use Rattle.busdma_machine.specs.Machine.Spans.{span_bytes as bytes_in};
+ghost use Rattle.busdma_base.specs.Scenarios.Limits.{entries_limit};
+ghost use Rattle.json_fields.specs.Field.{spot_of};
+ghost use Rattle.json_fields.specs.Items.{each};
+ghost use Rattle.json_fields.specs.Read.{Gives, GivesSeen};
+ghost use Rattle.script_fields.specs.Spans.{entries_at, entries_field, span_at, span_fields_at, spans_at};
+
+use crate::limits::ENTRIES;
+use busdma_base::{ListOf, Span, Va};
+use json_fields::{LimitName, Node, RefusalKind, Stop};
+use serde_json::Value;
+
+/// The elements of a load's list, which are its spans, its frames or its clusters, in order. More than the limit are
+/// refused.
+#[tactic(auto, unfolding(crate::specs::Spans::entries_at))]
+pub fn entries<'v>(here: &Node<'v>) -> Result<&'v [Value], Stop>
+    ensures value { GivesSeen (λ v. map view v.now) result (entries_at (spot_of here.now)) }
+    ensures few { IfOk result (λ v. length v.now ≤ entries_limit) }
+{
+    let items = here.items()?;
+    if items.len() > ENTRIES {
+        return Err(here.refuse(RefusalKind::Limit(LimitName::Entries)));
+    }
+    Ok(items)
+}
+
+/// `len` bytes from `va` on.
+#[tactic(auto, unfolding(crate::specs::Spans::span_fields_at))]
+pub(crate) fn span_fields(here: &Node) -> Result<Span, Stop>
+    ensures { Gives result (span_fields_at (spot_of here.now)) }
+{
+    let va = here.number_field("va")?;
+    let len = here.number_field("len")?;
+    Ok(Span { va: Va(va), len })
+}
+
+#[tactic(auto, unfolding(crate::specs::Spans::span_at))]
+fn span(here: &Node) -> Result<Span, Stop>
+    ensures { Gives result (span_at (spot_of here.now)) }
+{
+    here.only_keys(&["va", "len"])?;
+    span_fields(here)
+}
+
+fn each_span<'v>(here: &'v Node<'v>, items: &'v [Value]) -> Result<Vec<Span>, Stop>
+    ensures value { GivesSeen (λ v. v.items) result
+        (each (λ _. span_at) (spot_of here.now) [] (map view items.now)) }
+    ensures count { IfOk result (λ v. length v.items ≡ length items.now) }
+{
+    let mut spans = Vec::new(here.alloc);
+    for value in items {
+        let span = span(&here.item(spans.len(), value))?;
+        spans.push(span)?;
+    }
+    Ok(spans)
+}
+
+#[tactic(auto, unfolding(crate::specs::Spans::spans_at))]
+fn spans(here: &Node) -> Result<ListOf<Span>, Stop>
+    ensures value { Gives result (spans_at (spot_of here.now)) }
+    ensures few { IfOk result (λ v. length v ≤ entries_limit) }
+{
+    let items = entries(here)?;
+    Ok(ListOf::new(each_span(here, items)?))
+}
+
+/// The spans in `entries`, in order.
+#[tactic(auto, unfolding(crate::specs::Spans::entries_field))]
+pub fn entries_field(here: &Node) -> Result<ListOf<Span>, Stop>
+    ensures value { Gives result (entries_field (spot_of here.now)) }
+    ensures few { IfOk result (λ v. length v ≤ entries_limit) }
+{
+    spans(&here.required("entries")?)
+}
+
+/// How many bytes spans have.
+pub fn span_bytes(spans: &[Span]) -> u128
+    ensures bytes { result ≡ bytes_in spans.now }
+    ensures small { result < 2 ^ 127 }
+{
+    let mut bytes = 0;
+    for span in spans {
+        bytes += u128::from(span.len);
+    }
+    bytes
+}

@@ -1,0 +1,56 @@
+//! What a sync says, as an operation and as an item.
+
+ghost use Rattle.std.specs.Prelude.{IfOk};
+ghost use Rattle.busdma_base.specs.Scenarios.Names.{IsMade};
+ghost use Rattle.busdma_base.specs.Scenarios.Operations.{map_at};
+ghost use Rattle.json_fields.specs.Field.{spot_of};
+ghost use Rattle.json_fields.specs.Read.{Gives};
+ghost use Rattle.script_fields.specs.Syncs.{sync_fields_at, range_fields_at};
+
+use crate::flags::ops_field;
+use crate::named_ops::NamedOps;
+use crate::names::used_name;
+use busdma_base::NameUse;
+use json_fields::{Node, Stop};
+
+/// A sync of the whole load of a map.
+#[derive(Clone, Copy, Debug)]
+pub struct SyncFields {
+    pub map: u32,
+    pub ops: u32,
+}
+
+/// A sync of `len` bytes of a map's load, from `off` on.
+#[derive(Clone, Copy, Debug)]
+pub struct RangeFields {
+    pub map: u32,
+    pub off: u64,
+    pub len: u64,
+    pub ops: u32,
+}
+
+/// What a sync of a whole load says.
+#[tactic(auto, unfolding(crate::specs::Syncs::sync_fields_at))]
+pub fn sync_fields(here: &Node, before: &NamedOps) -> Result<SyncFields, Stop>
+    ensures value { Gives result (sync_fields_at before.now (spot_of here.now)) }
+    ensures made { IfOk result (λ s. IsMade before.now (map_at s.map)) }
+{
+    here.only_keys(&["op", "map", "ops"])?;
+    let map = used_name(here, NameUse::Map, "map", before)?;
+    let ops = ops_field(here)?;
+    Ok(SyncFields { map, ops })
+}
+
+/// What a sync of a range of a load says.
+#[tactic(auto, unfolding(crate::specs::Syncs::range_fields_at))]
+pub fn range_fields(here: &Node, before: &NamedOps) -> Result<RangeFields, Stop>
+    ensures value { Gives result (range_fields_at before.now (spot_of here.now)) }
+    ensures made { IfOk result (λ s. IsMade before.now (map_at s.map)) }
+{
+    here.only_keys(&["op", "map", "off", "len", "ops"])?;
+    let map = used_name(here, NameUse::Map, "map", before)?;
+    let off = here.number_field("off")?;
+    let len = here.number_field("len")?;
+    let ops = ops_field(here)?;
+    Ok(RangeFields { map, off, len, ops })
+}

@@ -1,0 +1,39 @@
+//! The words of operations and items, as they are read.
+
+ghost use Rattle.std.specs.Prelude.{◌≡◌};
+ghost use Rattle.json_fields.specs.Read.{Gives, GivesSeen};
+ghost use Rattle.json_fields.specs.Field.{spot_of};
+ghost use Rattle.script_fields.specs.Words as words;
+
+use busdma_base::{ItemWord, OpWord};
+use json_fields::{Node, RefusalKind, Stop};
+
+/// The text in `op`.
+#[tactic(auto, unfolding(crate::specs::Words::word_text))]
+fn word_text<'v>(here: &'v Node<'v>) -> Result<&'v str, Stop>
+    ensures { GivesSeen (λ s. s.now) result (words.word_text (spot_of here.now)) }
+{
+    here.required("op")?.text()
+}
+
+/// The word of an operation.
+#[tactic(auto, unfolding(crate::specs::Words::op_word_at))]
+pub fn op_word<'v>(here: &'v Node<'v>) -> Result<OpWord, Stop>
+    ensures { Gives result (words.op_word_at (spot_of here.now)) }
+{
+    match OpWord::from_text(word_text(here)?) {
+        Some(word) => Ok(word),
+        None => Err(here.refuse_key(RefusalKind::BadOp, "op")),
+    }
+}
+
+/// The word of an item.
+#[tactic(auto, unfolding(crate::specs::Words::item_word_at))]
+pub fn item_word<'v>(here: &'v Node<'v>) -> Result<ItemWord, Stop>
+    ensures { Gives result (words.item_word_at (spot_of here.now)) }
+{
+    match ItemWord::from_text(word_text(here)?) {
+        Some(word) => Ok(word),
+        None => Err(here.refuse_key(RefusalKind::BadOp, "op")),
+    }
+}

@@ -1,0 +1,20 @@
+use Rattle.std.proofs.Common.{◌≡◌, [], drop, false, map}
+use Rattle.std.specs.List.{AllByRecursion}
+use Rattle.serde_json.specs.View.{view}
+use Rattle.busdma_base.specs.Scenarios.Script.{IsItem, is_ring_step}
+use Rattle.json_fields.specs.Field.{spot_of}
+use Rattle.json_fields.specs.Items.{each}
+use Rattle.script_fields.specs.Counts.{IsWithin, with_items}
+use Rattle.script_read.specs.Items.{item_at}
+use Rattle.script_read.proofs.items.each_item.Given as goal
+
+abbrev pub invariant-loop-value : goal.invariant-loop-value
+invariant-loop-value l = record {
+  rest : each (λ done. item_at l.before (with_items l.fn.counts done)) (spot_of l.here) l.done.items
+      (map view (drop l.value-index l.items))
+      ≡ each (λ done. item_at l.before (with_items l.fn.counts done)) (spot_of l.here) [] (map view l.items);
+  valid : AllByRecursion (IsItem l.before) l.done.items;
+  of_load : AllByRecursion (λ i. is_ring_step i ≡ false) l.done.items;
+  counted : l.counts ≡ with_items l.fn.counts l.done.items;
+  within : IsWithin l.counts;
+}

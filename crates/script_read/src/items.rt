@@ -1,0 +1,213 @@
+//! The items of a load.
+
+ghost use Rattle.std.specs.Prelude.{◌≡◌, [], false, map, IfOk};
+ghost use Rattle.std.specs.List.{AllByRecursion};
+ghost use Rattle.serde_json.specs.View.{view};
+ghost use Rattle.busdma_base.specs.Scenarios.Operations.{read_by_item};
+ghost use Rattle.busdma_base.specs.Scenarios.Script.{IsItem, is_ring_step};
+ghost use Rattle.json_fields.specs.Read.{Gives, GivesSeen};
+ghost use Rattle.json_fields.specs.Field.{spot_of};
+ghost use Rattle.json_fields.specs.Items.{each};
+ghost use Rattle.script_fields.specs.Counts.{IsWithin, with_items, having_read, stepped};
+ghost use Rattle.script_read.specs.Items.{sync_item_at, sync_range_item_at, dev_read_at};
+ghost use Rattle.script_read.specs.Items.{dev_write_at, raw_read_at, raw_write_at};
+ghost use Rattle.script_read.specs.Items.{item_by, item_at, then_at, then_field};
+
+use busdma_base::{Item, ItemList, ItemWord, ListOf, NameUse};
+use json_fields::{Node, RefusalKind, Stop};
+use script_fields::{
+    Counts, NamedOps, byte_count, item_word, judge_access, range_fields, sync_fields, used_name,
+    written_bytes,
+};
+use serde_json::Value;
+
+#[tactic(auto, unfolding(crate::specs::Items::sync_item_at))]
+fn sync(here: &Node, before: &NamedOps) -> Result<Item, Stop>
+    ensures value { Gives result (sync_item_at before.now (spot_of here.now)) }
+    ensures valid { IfOk result (IsItem before.now) }
+    ensures of_load { IfOk result (λ i. is_ring_step i ≡ false) }
+    ensures reads_nothing { IfOk result (λ i. read_by_item i ≡ 0) }
+{
+    let sync = sync_fields(here, before)?;
+    Ok(Item::Sync {
+        map: sync.map,
+        ops: sync.ops,
+    })
+}
+
+#[tactic(auto, unfolding(crate::specs::Items::sync_range_item_at))]
+fn sync_range(here: &Node, before: &NamedOps) -> Result<Item, Stop>
+    ensures value { Gives result (sync_range_item_at before.now (spot_of here.now)) }
+    ensures valid { IfOk result (IsItem before.now) }
+    ensures of_load { IfOk result (λ i. is_ring_step i ≡ false) }
+    ensures reads_nothing { IfOk result (λ i. read_by_item i ≡ 0) }
+{
+    let sync = range_fields(here, before)?;
+    Ok(Item::SyncRange {
+        map: sync.map,
+        off: sync.off,
+        len: sync.len,
+        ops: sync.ops,
+    })
+}
+
+#[tactic(auto, unfolding(crate::specs::Items::dev_read_at))]
+fn dev_read(here: &Node, before: &NamedOps, counts: &mut Counts) -> Result<Item, Stop>
+    requires within { IsWithin counts.old }
+    ensures value { Gives result (dev_read_at before.now counts.old (spot_of here.now)) }
+    ensures valid { IfOk result (IsItem before.now) }
+    ensures of_load { IfOk result (λ i. is_ring_step i ≡ false) }
+    ensures counted { IfOk result (λ i. counts.new ≡ having_read counts.old (read_by_item i)) }
+    ensures within { IfOk result (λ _. IsWithin counts.new) }
+{
+    here.only_keys(&["op", "map", "off", "len"])?;
+    let map = used_name(here, NameUse::Map, "map", before)?;
+    let off = here.number_field("off")?;
+    let len = here.number_field("len")?;
+    counts.read(here, len)?;
+    Ok(Item::DevRead { map, off, len })
+}
+
+#[tactic(auto, unfolding(crate::specs::Items::dev_write_at))]
+fn dev_write(here: &Node, before: &NamedOps) -> Result<Item, Stop>
+    ensures value { Gives result (dev_write_at before.now (spot_of here.now)) }
+    ensures valid { IfOk result (IsItem before.now) }
+    ensures of_load { IfOk result (λ i. is_ring_step i ≡ false) }
+    ensures reads_nothing { IfOk result (λ i. read_by_item i ≡ 0) }
+{
+    here.only_keys(&["op", "map", "off", "hex", "fill", "len"])?;
+    let map = used_name(here, NameUse::Map, "map", before)?;
+    let off = here.number_field("off")?;
+    let bytes = written_bytes(here)?;
+    judge_access(here, byte_count(&bytes))?;
+    Ok(Item::DevWrite { map, off, bytes })
+}
+
+#[tactic(auto, unfolding(crate::specs::Items::raw_read_at))]
+fn raw_read(here: &Node, before: &NamedOps, counts: &mut Counts) -> Result<Item, Stop>
+    requires within { IsWithin counts.old }
+    ensures value { Gives result (raw_read_at before.now counts.old (spot_of here.now)) }
+    ensures valid { IfOk result (IsItem before.now) }
+    ensures of_load { IfOk result (λ i. is_ring_step i ≡ false) }
+    ensures counted { IfOk result (λ i. counts.new ≡ having_read counts.old (read_by_item i)) }
+    ensures within { IfOk result (λ _. IsWithin counts.new) }
+{
+    here.only_keys(&["op", "tag", "addr", "len"])?;
+    let tag = used_name(here, NameUse::IommuTag, "tag", before)?;
+    let addr = here.number_field("addr")?;
+    let len = here.number_field("len")?;
+    counts.read(here, len)?;
+    Ok(Item::DevReadAt { tag, addr, len })
+}
+
+#[tactic(auto, unfolding(crate::specs::Items::raw_write_at))]
+fn raw_write(here: &Node, before: &NamedOps) -> Result<Item, Stop>
+    ensures value { Gives result (raw_write_at before.now (spot_of here.now)) }
+    ensures valid { IfOk result (IsItem before.now) }
+    ensures of_load { IfOk result (λ i. is_ring_step i ≡ false) }
+    ensures reads_nothing { IfOk result (λ i. read_by_item i ≡ 0) }
+{
+    here.only_keys(&["op", "tag", "addr", "hex", "fill", "len"])?;
+    let tag = used_name(here, NameUse::IommuTag, "tag", before)?;
+    let addr = here.number_field("addr")?;
+    let bytes = written_bytes(here)?;
+    judge_access(here, byte_count(&bytes))?;
+    Ok(Item::DevWriteAt { tag, addr, bytes })
+}
+
+/// The item of a word, whose own step is counted.
+fn item_by(
+    word: ItemWord,
+    here: &Node,
+    before: &NamedOps,
+    counts: &mut Counts,
+) -> Result<Item, Stop>
+    requires within { IsWithin counts.old }
+    ensures value { Gives result (item_by word before.now counts.old (spot_of here.now)) }
+    ensures valid { IfOk result (IsItem before.now) }
+    ensures of_load { IfOk result (λ i. is_ring_step i ≡ false) }
+    ensures counted { IfOk result (λ i. counts.new ≡ having_read counts.old (read_by_item i)) }
+    ensures within { IfOk result (λ _. IsWithin counts.new) }
+{
+    match word {
+        ItemWord::Sync => sync(here, before),
+        ItemWord::SyncRange => sync_range(here, before),
+        ItemWord::DevRead => dev_read(here, before, counts),
+        ItemWord::DevWrite => dev_write(here, before),
+        ItemWord::DevReadAt => raw_read(here, before, counts),
+        ItemWord::DevWriteAt => raw_write(here, before),
+        ItemWord::RingStep => Err(here.refuse_key(RefusalKind::BadOp, "op")),
+    }
+}
+
+#[tactic(auto, unfolding(crate::specs::Items::item_at))]
+fn item(here: &Node, before: &NamedOps, counts: &mut Counts) -> Result<Item, Stop>
+    requires within { IsWithin counts.old }
+    ensures value { Gives result (item_at before.now counts.old (spot_of here.now)) }
+    ensures valid { IfOk result (IsItem before.now) }
+    ensures of_load { IfOk result (λ i. is_ring_step i ≡ false) }
+    ensures counted { IfOk result
+        (λ i. counts.new ≡ having_read (stepped counts.old) (read_by_item i)) }
+    ensures within { IfOk result (λ _. IsWithin counts.new) }
+{
+    here.members()?;
+    counts.steps(here, 1)?;
+    let word = item_word(here)?;
+    item_by(word, here, before, counts)
+}
+
+fn each_item<'v>(
+    here: &'v Node<'v>,
+    items: &'v [Value],
+    before: &NamedOps,
+    counts: &mut Counts,
+) -> Result<Vec<Item>, Stop>
+    requires within { IsWithin counts.old }
+    ensures value { GivesSeen (λ v. v.items) result
+        (each (λ done. item_at before.now (with_items counts.old done)) (spot_of here.now) []
+        (map view items.now)) }
+    ensures valid { IfOk result (λ v. AllByRecursion (IsItem before.now) v.items) }
+    ensures of_load { IfOk result (λ v. AllByRecursion (λ i. is_ring_step i ≡ false) v.items) }
+    ensures counted { IfOk result (λ v. counts.new ≡ with_items counts.old v.items) }
+    ensures within { IfOk result (λ _. IsWithin counts.new) }
+{
+    let mut done = Vec::new(here.alloc);
+    for value in items {
+        let item = item(&here.item(done.len(), value), before, counts)?;
+        done.push(item)?;
+    }
+    Ok(done)
+}
+
+#[tactic(auto, unfolding(crate::specs::Items::then_at))]
+fn then(here: &Node, before: &NamedOps, counts: &mut Counts) -> Result<ItemList, Stop>
+    requires within { IsWithin counts.old }
+    ensures value { Gives result (then_at before.now counts.old (spot_of here.now)) }
+    ensures valid { IfOk result (AllByRecursion (IsItem before.now)) }
+    ensures of_load { IfOk result (AllByRecursion (λ i. is_ring_step i ≡ false)) }
+    ensures counted { IfOk result (λ v. counts.new ≡ with_items counts.old v) }
+    ensures within { IfOk result (λ _. IsWithin counts.new) }
+{
+    let items = here.items()?;
+    Ok(ListOf::new(each_item(here, items, before, counts)?))
+}
+
+/// The items of a load.
+#[tactic(auto, unfolding(crate::specs::Items::then_field))]
+pub(crate) fn then_field(
+    here: &Node,
+    before: &NamedOps,
+    counts: &mut Counts,
+) -> Result<ItemList, Stop>
+    requires within { IsWithin counts.old }
+    ensures value { Gives result (then_field before.now counts.old (spot_of here.now)) }
+    ensures valid { IfOk result (AllByRecursion (IsItem before.now)) }
+    ensures of_load { IfOk result (AllByRecursion (λ i. is_ring_step i ≡ false)) }
+    ensures counted { IfOk result (λ v. counts.new ≡ with_items counts.old v) }
+    ensures within { IfOk result (λ _. IsWithin counts.new) }
+{
+    match here.field("then") {
+        Some(node) => then(&node, before, counts),
+        None => Ok(ListOf::new(Vec::new(here.alloc))),
+    }
+}
