@@ -1,25 +1,19 @@
 mod Bouncing
 mod Copying
-mod Candidates
 mod CpuWrites
-mod DeviceReads
-mod DeviceWrites
-mod HeadBytes
+pub mod DeviceReads
+pub mod DeviceWrites
 mod OwnExtents
-mod OwnWrites
-mod Postings
+pub mod OwnWrites
 mod PutBack
 mod RawAccesses
 mod RawJudging
 mod RawLoads
 mod RawOwners
 mod RawParts
-mod RawPlaces
+pub mod RawPlaces
 mod RawRuns
-mod RingDone
-mod RingSteps
-mod RingUses
 mod Repaging
 mod Shares
 mod Syncing
-mod Unbounced
+pub mod Unbounced

@@ -122,7 +122,7 @@ pub(crate) fn write_own(
 }
 
 /// The refusal of a map that does not exist or is not loaded.
-pub(crate) fn unloaded(holdings: &Holdings<'_>, map: u32) -> Option<Report>
+pub fn unloaded(holdings: &Holdings<'_>, map: u32) -> Option<Report>
     ensures refused { IfSome result (λ r. (step : LaneMap → Asking Outcome) →
         unless_unloaded map (ideal_of holdings.now) step ≡ gives (ideal_of holdings.now) (answer.Report r)) }
     ensures loaded { IfNone result (has_load (get holdings.now.maps.map map) ≡ true) }
@@ -143,7 +143,7 @@ pub(crate) fn unloaded(holdings: &Holdings<'_>, map: u32) -> Option<Report>
 }
 
 /// The refusal of `len` bytes from `off` on that reach past the end of a map's load.
-pub(crate) fn past_end(holdings: &Holdings<'_>, map: u32, off: u64, len: u64) -> Option<Report>
+pub fn past_end(holdings: &Holdings<'_>, map: u32, off: u64, len: u64) -> Option<Report>
     requires { has_load (get holdings.now.maps.map map) ≡ true }
     ensures refused { IfSome result (λ r. (step : Asking Outcome) →
         unless_past map off len (ideal_of holdings.now) step ≡ gives (ideal_of holdings.now) (answer.Report r)) }

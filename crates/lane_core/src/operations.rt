@@ -16,12 +16,13 @@ ghost use Rattle.ideal_lane.specs.Ahead.{items_ahead};
 
 use busdma_base::{Buffer, HubDoor, ItemList, Op, ReportName};
 use dma_tag::SyncOps;
-use lane_access::{Posting, cpu_read, cpu_write, kick, post, sync, sync_range};
+use lane_access::{cpu_read, cpu_write, sync, sync_range};
 use lane_loads::{load, unload};
 use lane_objects::{
     await_map, destroy_map, destroy_tag, end_memory, make_iommu_tag, make_map, make_memory,
     make_ring, make_tag,
 };
+use lane_rings::{Posting, kick, post};
 use lane_state::{Answered, Holdings, never_waits, report, unheld};
 use std::alloc::{AllocError, Global};
 

@@ -25,7 +25,7 @@ use crate::returns::{Released, release};
 use crate::steps::{advance, go_on, pop_item, put_item_back, transfer, waits};
 use crate::turn::{Turn, stepped};
 use busdma_base::{Answer, Did, HubDoor, Side};
-use lane_loads::resend;
+use lane_sends::resend;
 use lane_state::{Answered, Holdings, Resend};
 use std::alloc::{AllocError, Global};
 

@@ -2,15 +2,11 @@ mod Asked
 mod AwaitedLoads
 mod CalledLoads
 mod Chunked
-mod CopiedClusters
 mod DevicePages
 mod DeviceStreams
 mod EndedRuns
 mod EndedWaits
-mod LoadEndings
 mod LoadSteps
-mod Loaded
+pub mod Loaded
 mod OwnLoads
-mod ResendSteps
-mod Resent
 mod UnloadSteps

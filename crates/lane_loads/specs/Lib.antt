@@ -1,2 +1,1 @@
 pub mod DevicePages
-pub mod Resends

@@ -1,0 +1,6 @@
+mod Candidates
+mod HeadBytes
+mod Postings
+mod RingDone
+mod RingSteps
+mod RingUses

@@ -1,0 +1,129 @@
+//! What a driver asks of a ring's device: descriptors, and the steps that fetch them.
+
+ghost use Rattle.std.specs.Prelude.{◌≡◌, ◌≤◌, ◌+◌, true, false, length, IfOk, IfSome, IfNone, OnErr};
+ghost use Rattle.std.specs.FinMap.{get};
+ghost use Rattle.ideal_lane.specs.Asking.{Gives};
+ghost use Rattle.ideal_lane.specs.Rings as rings;
+ghost use Rattle.ideal_lane.specs.Rings.{is_work};
+ghost use Rattle.ideal_wire.specs.WireStep as wires;
+ghost use Rattle.lane_state.specs.Changes.{KeepsAgenda, KeepsBytes, KeepsState};
+ghost use Rattle.lane_state.specs.Covered.{has_load};
+ghost use Rattle.lane_state.specs.Ideal.{given, ideal_of};
+ghost use Rattle.lane_state.specs.Kept.{ring_of};
+ghost use Rattle.lane_state.specs.Wire.{IsWired, wire_of};
+ghost use Rattle.lane_rings.specs.Ringing.{IsPosted, IsUnposted};
+
+use busdma_base::{Answer, Errno, ItemList, Place, ReportName};
+use lane_access::{cpu_write, past_end, unloaded};
+use lane_state::{Holdings, KeptRing, report};
+use ring_device::{Descriptor, address_of};
+use std::alloc::{AllocError, Global};
+
+/// What is posted to a slot of a ring: the `len` bytes of a map's load from `off` on, whether the device shall read
+/// them or fill them, by `kind`, and what it shall fill them with.
+#[derive(Clone, Copy, Debug)]
+pub struct Posting {
+    pub slot: u32,
+    pub map: u32,
+    pub off: u64,
+    pub len: u64,
+    pub kind: u8,
+    pub fill: u8,
+}
+
+/// The driver writes the descriptor of what it posts to a ring, for the device.
+pub fn post(
+    holdings: &mut Holdings<'_>,
+    alloc: Global,
+    ring: u32,
+    posting: Posting,
+) -> Result<Answer, AllocError>
+    requires { IsWired holdings.old }
+    ensures done { IfOk result (λ answer. Gives (given holdings.new answer)
+        ≡ rings.ring_post ring posting.slot posting.map posting.off posting.len posting.kind posting.fill
+        (ideal_of holdings.old)) }
+    ensures wire { IfOk result (λ answer. wire_of holdings.new
+        ≡ wires.ring_post ring posting.slot posting.map posting.off posting.len posting.kind posting.fill
+        (ideal_of holdings.old) (wire_of holdings.old)) }
+    ensures script { holdings.new.script ≡ holdings.old.script }
+    ensures memories { holdings.new.memories ≡ holdings.old.memories }
+    ensures agenda { holdings.new.agenda ≡ holdings.old.agenda }
+    ensures err { OnErr result (KeepsState holdings.old holdings.new) }
+{
+    let Some(kept) = holdings.rings.get(ring) else {
+        return Ok(report(ReportName::Absent, 0));
+    };
+    let kept = *kept;
+    let Some(_) = holdings.memories.get(kept.mem) else {
+        return Ok(report(ReportName::Absent, 0));
+    };
+    if let Some(refusal) = unloaded(holdings, posting.map) {
+        return Ok(Answer::Report(refusal));
+    }
+    if let Some(refusal) = past_end(holdings, posting.map, posting.off, posting.len) {
+        return Ok(Answer::Report(refusal));
+    }
+    let Some(descriptor) = descriptor_of(holdings, kept, posting) else {
+        return Ok(Answer::Refused(Errno::EINVAL));
+    };
+    let place = Place::In {
+        mem: kept.mem,
+        off: 16 * posting.slot as u64,
+    };
+    cpu_write(holdings, alloc, place, &descriptor.bytes())
+}
+
+/// The descriptor of what is posted to a ring, or None where it may not be: there is no such slot, a device cannot be
+/// told so, the map is the ring's own or one of an IOMMU tag, or the range does not lie in one segment.
+fn descriptor_of(holdings: &Holdings<'_>, ring: KeptRing, posting: Posting) -> Option<Descriptor>
+    requires wired { IsWired holdings.now }
+    requires loaded { has_load (get holdings.now.maps.map posting.map) ≡ true }
+    ensures posted { IfSome result (IsPosted (ideal_of holdings.now) (ring_of ring) posting) }
+    ensures unposted { IfNone result (IsUnposted (ideal_of holdings.now) (ring_of ring) posting) }
+{
+    if posting.slot >= ring.slots || !is_work(posting.kind, posting.len) {
+        return None;
+    }
+    if posting.map == ring.mem || holdings.is_device(posting.map) {
+        return None;
+    }
+    let kept = holdings.maps.get(posting.map)?;
+    let addr = address_of(kept.map.segments(), posting.off, posting.len)?;
+    Some(Descriptor {
+        addr: addr.0,
+        len: posting.len as u32,
+        kind: posting.kind,
+        fill: posting.fill,
+        owner: 1,
+        status: 0,
+    })
+}
+
+/// Whether a device can be told this: to read or to fill, and one to 4096 bytes.
+pub(crate) fn is_work(kind: u8, len: u64) -> bool
+    ensures { result ≡ is_work kind len }
+{
+    (kind == 1 || kind == 2) && 1 <= len && len <= 4096
+}
+
+/// The steps of a ring's device join the transfer queue.
+pub fn kick(holdings: &mut Holdings<'_>, ring: u32, steps: &ItemList) -> Result<Answer, AllocError>
+    requires room { length steps.now ≤ holdings.old.agenda.room }
+    ensures done { IfOk result (λ answer.
+        Gives (given holdings.new answer) ≡ rings.kick ring steps.now (ideal_of holdings.old)) }
+    ensures err { OnErr result (KeepsState holdings.old holdings.new) }
+    ensures bytes { KeepsBytes holdings.old holdings.new }
+    ensures script { holdings.new.script ≡ holdings.old.script }
+    ensures memories { holdings.new.memories ≡ holdings.old.memories }
+    ensures agenda { KeepsAgenda holdings.old holdings.new }
+    ensures unpromised { OnErr result (holdings.new.agenda ≡ holdings.old.agenda) }
+    ensures promised { holdings.new.agenda.promised ≡ holdings.old.agenda.promised }
+{
+    let Some(_) = holdings.rings.get(ring) else {
+        return Ok(report(ReportName::Absent, 0));
+    };
+    let steps = steps.clone()?;
+    let place = holdings.agenda.place();
+    holdings.agenda.push_items(place, steps);
+    Ok(Answer::Done)
+}

@@ -1,0 +1,270 @@
+//! The steps of a ring's device.
+
+ghost use Rattle.std.specs.Prelude.{◌≡◌, ◌+◌, ◌/◌, ◌%◌, ◌<◌, ◌≤◌, ◌^◌, ℕ, true, length, map as mapped, [], ◌∷◌, IfOk, IfSome};
+ghost use Rattle.std.specs.Prelude.{IfNone, OnErr, Some, option_map, IsSome};
+ghost use Rattle.std.specs.FinMap.{entries, get};
+ghost use Rattle.loan_table.specs.Loans.{loan_of};
+ghost use Rattle.loan_table.specs.Table.{buffer_of};
+ghost use Rattle.phys_memory.specs.Memory.{has_frame, wire};
+ghost use Rattle.ring_device.specs.Descriptors.{descriptor_of};
+ghost use Rattle.ideal_lane.specs.Asking.{Gives};
+ghost use Rattle.ideal_lane.specs.Outcomes.{gives};
+ghost use Rattle.ideal_lane.specs.Rings as rings;
+ghost use Rattle.ideal_lane.specs.Rings.{candidates_in, head_at, is_left_out, judged_at, moved_on, retired};
+ghost use Rattle.ideal_lane.specs.Standing.{Stands};
+ghost use Rattle.ideal_lane.specs.State.{LaneMap};
+ghost use Rattle.ideal_wire.specs.WireStep as wires;
+ghost use Rattle.ideal_wire.specs.WireStep.{load_buses, used_wire};
+ghost use Rattle.busdma_machine.specs.Machine.Wire.{put};
+ghost use Rattle.busdma_machine.specs.Runs.{run_of};
+ghost use Rattle.lane_state.specs.Changes.{KeepsState};
+ghost use Rattle.lane_state.specs.Covered.{has_load};
+ghost use Rattle.lane_state.specs.Ideal.{given, ideal_of};
+ghost use Rattle.lane_state.specs.Kept.{map_of, ring_of};
+ghost use Rattle.lane_state.specs.Wire.{IsWired, wire_of};
+ghost use Rattle.lane_rings.specs.Ringing.{IfAt, IsAllowedAt, IsReadable, IsUnread, candidate_in, candidate_of};
+ghost use Rattle.lane_rings.specs.Ringing.{work_of};
+
+use crate::posts::is_work;
+use busdma_base::{Answer, Errno, Judged, Pa, Report, ReportName};
+use lane_access::{dev_read, dev_write, past_end, unloaded};
+use lane_state::{Holdings, KeptMap, KeptMemory, KeptRing, report};
+use phys_memory::LanePages;
+use ring_device::Descriptor;
+use std::alloc::{AllocError, Global};
+
+/// A map, and the place in its load of the bytes that a descriptor names.
+#[derive(Clone, Copy)]
+struct Candidate {
+    map: u32,
+    off: u64,
+}
+
+/// Where the device of a ring does what a descriptor says, if it may do so anywhere.
+#[derive(Clone, Copy)]
+enum Work {
+    Refused(Report),
+    At(Candidate),
+}
+
+/// The device of a ring fetches the descriptor at the head, and does what it says at the first map that allows it.
+pub fn ring_step(
+    holdings: &mut Holdings<'_>,
+    alloc: Global,
+    ring: u32,
+) -> Result<Answer, AllocError>
+    requires wired { IsWired holdings.old }
+    requires stands { Stands (ideal_of holdings.old) }
+    ensures done { IfOk result (λ answer.
+        Gives (given holdings.new answer) ≡ rings.ring_step ring (ideal_of holdings.old)) }
+    ensures wire { IfOk result (λ answer.
+        wire_of holdings.new ≡ wires.ring_step ring (ideal_of holdings.old) (wire_of holdings.old)) }
+    ensures script { holdings.new.script ≡ holdings.old.script }
+    ensures memories { holdings.new.memories ≡ holdings.old.memories }
+    ensures agenda { holdings.new.agenda ≡ holdings.old.agenda }
+    ensures err { OnErr result (KeepsState holdings.old holdings.new) }
+{
+    let Some(kept) = holdings.rings.get(ring) else {
+        return Ok(report(ReportName::Absent, 0));
+    };
+    let kept = *kept;
+    let Some(memory) = holdings.memories.get(kept.mem) else {
+        return Ok(report(ReportName::Absent, 0));
+    };
+    let head = head_in(memory, kept);
+    if let Some(refusal) = unread(holdings, kept.mem, 16 * kept.head as u64, 16) {
+        return Ok(Answer::Report(refusal));
+    }
+    let descriptor = read_descriptor(&holdings.memory, head);
+    if descriptor.owner != 1 {
+        return Ok(Answer::Idle);
+    }
+    if !is_work(descriptor.kind, descriptor.len as u64) {
+        return Ok(Answer::Refused(Errno::EINVAL));
+    }
+    let candidate = match find_work(holdings, kept.mem, descriptor) {
+        Work::Refused(refusal) => return Ok(Answer::Report(refusal)),
+        Work::At(candidate) => candidate,
+    };
+    let answer = access(holdings, alloc, descriptor, candidate)?;
+    retire(holdings, kept);
+    move_on(holdings, ring, kept);
+    Ok(answer)
+}
+
+/// Where the descriptor at the head of a ring lies, in the ring's memory.
+fn head_in(memory: &KeptMemory, ring: KeptRing) -> Pa
+    requires { memory.now.first.0 ≤ 2 ^ 42 }
+    ensures { result.0 ≡ memory.now.first.0 + head_at (ring_of ring) }
+{
+    Pa(memory.first.0 + 16 * ring.head as u64)
+}
+
+/// The descriptor that lies at an address, in one frame.
+fn read_descriptor(memory: &LanePages, at: Pa) -> Descriptor
+    requires there { has_frame memory.now.memory (at.0 / 4096) ≡ true }
+    requires inside { at.0 % 4096 + 16 ≤ 4096 }
+    ensures { result ≡ descriptor_of (mapped (wire memory.now.memory) (run_of at.0 16)) }
+{
+    let mut bytes = [0; 16];
+    memory.read(at, &mut bytes);
+    Descriptor::of(&bytes)
+}
+
+/// The refusal of a device that may not read `len` bytes of a map's load, from `off` on.
+fn unread(holdings: &Holdings<'_>, map: u32, off: u64, len: u64) -> Option<Report>
+    ensures refused { IfSome result (IsUnread (ideal_of holdings.now) map off len) }
+    ensures readable { IfNone result (IsReadable (ideal_of holdings.now) map off len) }
+    ensures below { IfNone result (off + len < 2 ^ 64) }
+{
+    if let Some(refusal) = unloaded(holdings, map) {
+        return Some(refusal);
+    }
+    if let Some(refusal) = past_end(holdings, map, off, len) {
+        return Some(refusal);
+    }
+    match holdings.loans.may_dev_read(holdings.map_id(map), off, len) {
+        Judged::Refused(refusal) => Some(refusal),
+        Judged::Fine => None,
+    }
+}
+
+/// The first candidate for a descriptor that allows the access, of those maps that are not the ring's own; or the
+/// refusal of the first candidate. It looks through the segments of a map once, and of no map behind that candidate.
+fn find_work(holdings: &Holdings<'_>, own: u32, descriptor: Descriptor) -> Work
+    requires wired { IsWired holdings.now }
+    ensures is { result ≡ work_of descriptor (ideal_of holdings.now)
+        (candidates_in descriptor own (ideal_of holdings.now) (entries (ideal_of holdings.now).maps)) }
+    ensures allowed { IfAt result (IsAllowedAt (ideal_of holdings.now) descriptor) }
+{
+    holdings.loans.buffers_are_short();
+    let mut blame = None;
+    for (map, kept) in holdings.maps.iter() {
+        if let Some(candidate) = candidate_in(holdings, own, map, kept, descriptor) {
+            let Judged::Refused(refusal) = judge(holdings, descriptor, candidate) else {
+                return Work::At(candidate);
+            };
+            blame = Some(blame.unwrap_or(refusal));
+        }
+    }
+    Work::Refused(blame.unwrap_or(Report {
+        name: ReportName::Untranslated,
+        at: 0,
+    }))
+}
+
+/// The candidate that a map is for a descriptor: the first of its segments that has all bytes which the descriptor
+/// names. The ring's own map is none, and none is one of an IOMMU tag.
+fn candidate_in(
+    holdings: &Holdings<'_>,
+    own: u32,
+    map: u32,
+    kept: &KeptMap<'_>,
+    descriptor: Descriptor,
+) -> Option<Candidate>
+    requires wired { IsWired holdings.now }
+    requires there { get holdings.now.maps.map map ≡ Some kept.now }
+    requires short { length (buffer_of holdings.now.loans map) < 2 ^ 64 }
+    ensures is { option_map candidate_of result
+        ≡ candidate_in descriptor own (ideal_of holdings.now) (map, map_of kept.now) }
+    ensures within { IfSome result (λ c. c.off + descriptor.len ≤ length (buffer_of holdings.now.loans map)) }
+    ensures loaded { IfSome result (λ c. has_load (Some kept.now) ≡ true) }
+    ensures map { IfSome result (λ c. c.map ≡ map) }
+{
+    if is_left_out(holdings, own, map) {
+        return None;
+    }
+    let off = kept.map.find(descriptor.addr, descriptor.len as u64)?;
+    Some(Candidate { map, off })
+}
+
+/// Whether a map is no candidate, wherever its load lies: it is the ring's own, or one of an IOMMU tag.
+fn is_left_out(holdings: &Holdings<'_>, own: u32, map: u32) -> bool
+    ensures { (o : LaneMap) → get (ideal_of holdings.now).maps map ≡ Some o →
+        result ≡ is_left_out own (ideal_of holdings.now) (map, o) }
+{
+    map == own || holdings.is_device(map)
+}
+
+/// What the rules of lending say of the access of a descriptor at a candidate.
+fn judge(holdings: &Holdings<'_>, descriptor: Descriptor, candidate: Candidate) -> Judged
+    requires there { IsSome (get holdings.now.loans.loans candidate.map) }
+    requires range { candidate.off + descriptor.len ≤ length (buffer_of holdings.now.loans candidate.map) }
+    ensures { result ≡ judged_at descriptor (ideal_of holdings.now) (candidate_of candidate) }
+{
+    let id = holdings.map_id(candidate.map);
+    let len = descriptor.len as u64;
+    if descriptor.kind == 1 {
+        holdings.loans.may_dev_read(id, candidate.off, len)
+    } else {
+        holdings.loans.may_dev_write(id, candidate.off, len)
+    }
+}
+
+/// The device does what a descriptor says, at a candidate that allows it.
+fn access(
+    holdings: &mut Holdings<'_>,
+    alloc: Global,
+    descriptor: Descriptor,
+    candidate: Candidate,
+) -> Result<Answer, AllocError>
+    requires wired { IsWired holdings.old }
+    requires stands { Stands (ideal_of holdings.old) }
+    requires allowed { IsAllowedAt (ideal_of holdings.old) descriptor candidate }
+    ensures done { IfOk result (λ answer. Gives (given holdings.new answer)
+        ≡ gives (rings.used descriptor (candidate_of candidate) (ideal_of holdings.old))
+        (rings.told descriptor (candidate_of candidate) (ideal_of holdings.old))) }
+    ensures wire { IfOk result (λ answer. wire_of holdings.new
+        ≡ used_wire descriptor (candidate_of candidate) (ideal_of holdings.old) (wire_of holdings.old)) }
+    ensures wired { IfOk result (λ answer. IsWired holdings.new) }
+    ensures script { holdings.new.script ≡ holdings.old.script }
+    ensures memories { holdings.new.memories ≡ holdings.old.memories }
+    ensures agenda { holdings.new.agenda ≡ holdings.old.agenda }
+    ensures err { OnErr result (KeepsState holdings.old holdings.new) }
+{
+    if descriptor.kind == 1 {
+        let len = descriptor.len as u64;
+        return dev_read(holdings, alloc, candidate.map, candidate.off, len);
+    }
+    let bytes = vec![in alloc; descriptor.fill; descriptor.len as usize]?;
+    dev_write(holdings, alloc, candidate.map, candidate.off, &bytes)
+}
+
+/// The descriptor at the head of a ring is the driver's again, and done. Its bytes are Known already, so that this
+/// takes no memory.
+fn retire(holdings: &mut Holdings<'_>, ring: KeptRing)
+    requires wired { IsWired holdings.old }
+    requires memory { IsSome (get holdings.old.memories.map ring.mem) }
+    requires readable { IsReadable (ideal_of holdings.old) ring.mem (head_at (ring_of ring)) 16 }
+    requires coherent { (loan_of (ideal_of holdings.old).loans ring.mem).coherent ≡ true }
+    ensures done { ideal_of holdings.new ≡ retired (ring_of ring) (ideal_of holdings.old) }
+    ensures wire { wire_of holdings.new
+        ≡ put (load_buses (ideal_of holdings.old) ring.mem (head_at (ring_of ring) + 14) 2) (0 ∷ 1 ∷ [])
+        (wire_of holdings.old) }
+    ensures script { holdings.new.script ≡ holdings.old.script }
+    ensures memories { holdings.new.memories ≡ holdings.old.memories }
+    ensures agenda { holdings.new.agenda ≡ holdings.old.agenda }
+{
+    let Some(memory) = holdings.memories.get(ring.mem) else {
+        unreachable!()
+    };
+    let owner = Pa(head_in(memory, ring).0 + 14);
+    holdings.memory.write(owner, &[0, 1]);
+}
+
+/// The head of a ring is at its next slot, and at the first behind the last.
+fn move_on(holdings: &mut Holdings<'_>, ring: u32, kept: KeptRing)
+    requires there { get holdings.old.rings.map ring ≡ Some kept }
+    requires head { kept.head < kept.slots }
+    requires few { kept.slots ≤ 256 }
+    ensures done { ideal_of holdings.new ≡ moved_on ring (ring_of kept) (ideal_of holdings.old) }
+    ensures wire { wire_of holdings.new ≡ wire_of holdings.old }
+    ensures script { holdings.new.script ≡ holdings.old.script }
+    ensures memories { holdings.new.memories ≡ holdings.old.memories }
+    ensures agenda { holdings.new.agenda ≡ holdings.old.agenda }
+{
+    let Some(now) = holdings.rings.get_mut(ring) else {
+        unreachable!()
+    };
+    now.head = (kept.head + 1) % kept.slots;
+}

@@ -1,0 +1,4 @@
+mod CopiedClusters
+mod LoadEndings
+mod ResendSteps
+mod Resent

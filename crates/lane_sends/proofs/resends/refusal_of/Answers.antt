@@ -1,0 +1,153 @@
+use Rattle.std.proofs.Common.{◌≡◌, true, List, sym, ap, ◌∙◌}
+use Rattle.std.specs.FinMap.{get}
+use Rattle.busdma_machine.specs.declared.machine.address.Extent.{Extent}
+use Rattle.busdma_machine.specs.declared.machine.bio.Bio.TheVariants.{Vector}
+use Rattle.busdma_machine.specs.declared.report.Judged.TheVariants.{Fine}
+use Rattle.busdma_machine.specs.Runs.{addresses}
+use Rattle.loan_table.specs.Access.{cpu_read_answer, cpu_write_answer}
+use Rattle.loan_table.specs.Table.{is_marked}
+use Rattle.ideal_lane.specs.IdealMemory.{is_known}
+use Rattle.ideal_lane.specs.Loads.{load_judged}
+use Rattle.ideal_lane.specs.Sends.{Send, chain_bytes}
+use Rattle.ideal_wire.specs.WireStep.{is_free}
+use Rattle.lane_state.specs.declared.holdings.Holdings.{Holdings}
+use Rattle.lane_state.specs.Held.{devices_of}
+use Rattle.lane_state.specs.Ideal.{ideal_of}
+use Rattle.lane_state.specs.Kept.{map_of}
+use Rattle.lane_state.specs.Sends.{the_send}
+use Rattle.lane_state.proofs.Keeping.{state-busy, state-idle}
+use Rattle.lane_state.proofs.MapValues.{image-none, image-some}
+use Rattle.lane_state.proofs.Reading.{known-held}
+use Rattle.lane_sends.proofs.ResendSteps.{stopped-absent, stopped-busy, stopped-load, stopped-read, stopped-write}
+use Rattle.lane_sends.proofs.resends.refusal_of.Goals as goal
+
+-- the chain is judged as the driver's table has it
+read-same : (h : Holdings) (from : List Extent) (s : Send) → addresses from ≡ chain_bytes s (ideal_of h) →
+    cpu_read_answer (is_known (ideal_of h).memory) h.loans.loans (chain_bytes s (ideal_of h))
+    ≡ cpu_read_answer (is_marked h.loans.bytes) h.loans.loans (addresses from)
+read-same h from s e =
+    (λ i. cpu_read_answer (known-held h.loans.bytes h.loans.loans (devices_of h.maps.map) h.memory.memory i)
+    h.loans.loans (sym e i))
+
+pub returns-in_default-clause-refused : goal.returns-in_default-clause-refused
+returns-in_default-clause-refused c =
+    let h = c.args.holdings.now in
+    let l = ideal_of h in
+    let s = the_send c.args.resend in
+    (stopped-absent l s (image-none map_of h.maps.map s.map (sym c.in_default.ensures))).step
+
+pub returns-in_default-clause-stays : goal.returns-in_default-clause-stays
+returns-in_default-clause-stays c =
+    let h = c.args.holdings.now in
+    let l = ideal_of h in
+    let s = the_send c.args.resend in
+    (stopped-absent l s (image-none map_of h.maps.map s.map (sym c.in_default.ensures))).wire
+
+pub returns-in-Refused-clause-refused : goal.returns-in-Refused-clause-refused
+returns-in-Refused-clause-refused c =
+    let h = c.args.holdings.now in
+    let l = ideal_of h in
+    let s = the_send c.args.resend in
+    let o = c.in-Some.kept.now in
+    let there = image-some map_of h.maps.map s.map o (sym c.in-Some.ensures) in
+    let idle = state-idle o.map.stage (sym c.state.ensures ∙ c.in-Idle.is) in
+    let free : is_free (get l.maps s.map) ≡ true = ap is_free there ∙ idle in
+    (stopped-load l s free c.in-Refused.refusal (sym c.judge_load.ensures ∙ c.in-Refused.is)).step
+
+pub returns-in-Refused-clause-stays : goal.returns-in-Refused-clause-stays
+returns-in-Refused-clause-stays c =
+    let h = c.args.holdings.now in
+    let l = ideal_of h in
+    let s = the_send c.args.resend in
+    let o = c.in-Some.kept.now in
+    let there = image-some map_of h.maps.map s.map o (sym c.in-Some.ensures) in
+    let idle = state-idle o.map.stage (sym c.state.ensures ∙ c.in-Idle.is) in
+    let free : is_free (get l.maps s.map) ≡ true = ap is_free there ∙ idle in
+    (stopped-load l s free c.in-Refused.refusal (sym c.judge_load.ensures ∙ c.in-Refused.is)).wire
+
+pub returns-in-Refused-may_cpu_read-clause-refused : goal.returns-in-Refused-may_cpu_read-clause-refused
+returns-in-Refused-may_cpu_read-clause-refused c =
+    let h = c.args.holdings.now in
+    let l = ideal_of h in
+    let s = the_send c.args.resend in
+    let o = c.in-Some.kept.now in
+    let there = image-some map_of h.maps.map s.map o (sym c.in-Some.ensures) in
+    let idle = state-idle o.map.stage (sym c.state.ensures ∙ c.in-Idle.is) in
+    let free : is_free (get l.maps s.map) ≡ true = ap is_free there ∙ idle in
+    let fine : load_judged l s.map (Vector s.clusters) ≡ Fine = sym c.judge_load.ensures ∙ c.in_default-judge_load.is in
+    (stopped-read l s free fine c.in-Refused-may_cpu_read.refusal
+    (read-same h c.args.from.now s c.requires.bytes.chain ∙ sym c.may_cpu_read.ensures ∙ c.in-Refused-may_cpu_read.is)).step
+
+pub returns-in-Refused-may_cpu_read-clause-stays : goal.returns-in-Refused-may_cpu_read-clause-stays
+returns-in-Refused-may_cpu_read-clause-stays c =
+    let h = c.args.holdings.now in
+    let l = ideal_of h in
+    let s = the_send c.args.resend in
+    let o = c.in-Some.kept.now in
+    let there = image-some map_of h.maps.map s.map o (sym c.in-Some.ensures) in
+    let idle = state-idle o.map.stage (sym c.state.ensures ∙ c.in-Idle.is) in
+    let free : is_free (get l.maps s.map) ≡ true = ap is_free there ∙ idle in
+    let fine : load_judged l s.map (Vector s.clusters) ≡ Fine = sym c.judge_load.ensures ∙ c.in_default-judge_load.is in
+    (stopped-read l s free fine c.in-Refused-may_cpu_read.refusal
+    (read-same h c.args.from.now s c.requires.bytes.chain ∙ sym c.may_cpu_read.ensures ∙ c.in-Refused-may_cpu_read.is)).wire
+
+pub returns-in-Refused-may_cpu_write-clause-refused : goal.returns-in-Refused-may_cpu_write-clause-refused
+returns-in-Refused-may_cpu_write-clause-refused c =
+    let h = c.args.holdings.now in
+    let l = ideal_of h in
+    let s = the_send c.args.resend in
+    let o = c.in-Some.kept.now in
+    let there = image-some map_of h.maps.map s.map o (sym c.in-Some.ensures) in
+    let idle = state-idle o.map.stage (sym c.state.ensures ∙ c.in-Idle.is) in
+    let free : is_free (get l.maps s.map) ≡ true = ap is_free there ∙ idle in
+    let fine : load_judged l s.map (Vector s.clusters) ≡ Fine = sym c.judge_load.ensures ∙ c.in_default-judge_load.is in
+    (stopped-write l s free fine
+    (read-same h c.args.from.now s c.requires.bytes.chain ∙ sym c.may_cpu_read.ensures ∙ c.in_default-may_cpu_read.is)
+    c.in-Refused-may_cpu_write.refusal
+    (ap (cpu_write_answer l.loans) (sym (c.requires.bytes.clusters fine)) ∙ sym c.may_cpu_write.ensures
+    ∙ c.in-Refused-may_cpu_write.is)).step
+
+pub returns-in-Refused-may_cpu_write-clause-stays : goal.returns-in-Refused-may_cpu_write-clause-stays
+returns-in-Refused-may_cpu_write-clause-stays c =
+    let h = c.args.holdings.now in
+    let l = ideal_of h in
+    let s = the_send c.args.resend in
+    let o = c.in-Some.kept.now in
+    let there = image-some map_of h.maps.map s.map o (sym c.in-Some.ensures) in
+    let idle = state-idle o.map.stage (sym c.state.ensures ∙ c.in-Idle.is) in
+    let free : is_free (get l.maps s.map) ≡ true = ap is_free there ∙ idle in
+    let fine : load_judged l s.map (Vector s.clusters) ≡ Fine = sym c.judge_load.ensures ∙ c.in_default-judge_load.is in
+    (stopped-write l s free fine
+    (read-same h c.args.from.now s c.requires.bytes.chain ∙ sym c.may_cpu_read.ensures ∙ c.in_default-may_cpu_read.is)
+    c.in-Refused-may_cpu_write.refusal
+    (ap (cpu_write_answer l.loans) (sym (c.requires.bytes.clusters fine)) ∙ sym c.may_cpu_write.ensures
+    ∙ c.in-Refused-may_cpu_write.is)).wire
+
+pub returns-in_default-state : goal.returns-in_default-state
+returns-in_default-state c =
+    let h = c.args.holdings.now in
+    let l = ideal_of h in
+    let s = the_send c.args.resend in
+    let o = c.in-Some.kept.now in
+    let there = image-some map_of h.maps.map s.map o (sym c.in-Some.ensures) in
+    let x = stopped-busy l s (map_of o) there (state-busy o.map.stage (λ e. c.in_default-state.not-Idle (c.state.ensures ∙ e))) in
+    record { refused = x.step; stays = x.wire; fine = tt }
+
+pub returns-clause-fine : goal.returns-clause-fine
+returns-clause-fine c =
+    let h = c.args.holdings.now in
+    let l = ideal_of h in
+    let s = the_send c.args.resend in
+    let o = c.in-Some.kept.now in
+    let there = image-some map_of h.maps.map s.map o (sym c.in-Some.ensures) in
+    let idle = state-idle o.map.stage (sym c.state.ensures ∙ c.in-Idle.is) in
+    let free : is_free (get l.maps s.map) ≡ true = ap is_free there ∙ idle in
+    let fine : load_judged l s.map (Vector s.clusters) ≡ Fine = sym c.judge_load.ensures ∙ c.in_default-judge_load.is in
+    record {
+      free = free;
+      loads = fine;
+      reads = read-same h c.args.from.now s c.requires.bytes.chain ∙ sym c.may_cpu_read.ensures
+          ∙ c.in_default-may_cpu_read.is;
+      writes = ap (cpu_write_answer l.loans) (sym (c.requires.bytes.clusters fine)) ∙ sym c.may_cpu_write.ensures
+          ∙ c.in_default-may_cpu_write.is;
+    }
