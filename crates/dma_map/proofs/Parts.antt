@@ -1,15 +1,16 @@
 -- Where a range of bus addresses lies in segments that are cut in two, and why a part of them is passed.
-use Rattle.std.proofs.Common.{◌≡◌, ℕ, ◌+◌, ◌-◌, ◌^◌, ◌<◌, ◌≤◌, ◌∙◌, Bool, true, false, ◌&&◌, nat_le, List, [], ◌∷◌, ◌++◌}
+use Rattle.std.proofs.Common.{◌≡◌, ℕ, zero, suc, ◌+◌, ◌-◌, ◌^◌, ◌<◌, ◌≤◌, ◌∙◌, Bool, true, false, ◌&&◌, nat_le, nat_lt, List, [], ◌∷◌, ◌++◌}
 use Rattle.std.proofs.Common.{Option, Some, None, refl, ap, sym, subst, arith, take, drop, min, take-append-drop, unwrap_or}
 use Rattle.std.proofs.Common.{if◌then◌else◌}
-use Rattle.std.proofs.lemmas.Bool.{leb-true}
+use Rattle.std.proofs.lemmas.Bool.{leb-true, ltb-false, ltb-true}
 use Rattle.std.proofs.lemmas.List.Elements.{All-head, All-tail, All-weaker}
 use Rattle.std.proofs.lemmas.List.Sums.{sum_by-cons, sum_by-append}
 use Rattle.std.specs.Int.{bit_at}
-use Rattle.std.specs.List.{All}
+use Rattle.std.specs.List.{All, AllByRecursion}
 use Rattle.std.specs.Option.{option_map}
 use Rattle.busdma_machine.specs.declared.machine.address.Segment.{Segment}
-use Rattle.ring_device.specs.Ranges.{byte_count, holds, place_of}
+use Rattle.ring_device.specs.Ends.{EndsLow}
+use Rattle.ring_device.specs.Ranges.{address_of, byte_count, holds, place_of}
 use Rattle.dma_map.specs.declared.part.Part.{Part}
 use Rattle.dma_map.specs.Pages.{HasPages, page_bit}
 use Rattle.dma_map.specs.Parts.{ArePartsOf, IsBetween, IsPart}
@@ -180,3 +181,60 @@ place-within addr len at (s ∷ ss) e = by (λ p q. place-within addr len p ss q
 pub part-bytes : (n before : ℕ) (all rest : List Segment) (p : Part) → byte_count all < 2 ^ 64 →
     before + byte_count rest ≡ byte_count all → IsPart (take n rest) p → p.bytes ≡ byte_count (take n rest)
 part-bytes n before all rest p short e is = is.bytes (omega (arith, short, e, bytes-cut n rest))
+
+-- the bus address of a byte of the first of two lists, and of one behind it
+in-front-address : (off len : ℕ) (xs ys : List Segment) → off < byte_count xs →
+    address_of off len (xs ++ ys) ≡ address_of off len xs
+in-front-address off len [] ys h = absurd (omega (arith, h))
+in-front-address off len (s ∷ ss) ys h =
+    by (λ q. in-front-address (off - s.len) len ss ys q) (nat_lt off s.len) refl
+  where
+    bytes : byte_count (s ∷ ss) ≡ s.len + byte_count ss
+    bytes = sum_by-cons (λ (t : Segment). t.len) s ss
+
+    by : (off - s.len < byte_count ss → address_of (off - s.len) len (ss ++ ys) ≡ address_of (off - s.len) len ss) →
+        (b : Bool) → nat_lt off s.len ≡ b →
+        (if b then if nat_le (off + len) s.len then Some (s.addr.0 + off) else None
+        else address_of (off - s.len) len (ss ++ ys))
+        ≡ (if b then if nat_le (off + len) s.len then Some (s.addr.0 + off) else None
+        else address_of (off - s.len) len ss)
+    by f true e = refl
+    by f false e = f (omega (arith, h, bytes, ltb-false off s.len e))
+
+behind-address : (off len : ℕ) (xs ys : List Segment) → byte_count xs ≤ off →
+    address_of off len (xs ++ ys) ≡ address_of (off - byte_count xs) len ys
+behind-address off len [] ys h =
+    let e : off ≡ off - 0 = omega arith in
+    ap (λ n. address_of n len ys) e
+behind-address off len (s ∷ ss) ys h =
+    by (λ q. behind-address (off - s.len) len ss ys q) (nat_lt off s.len) refl
+  where
+    bytes : byte_count (s ∷ ss) ≡ s.len + byte_count ss
+    bytes = sum_by-cons (λ (t : Segment). t.len) s ss
+
+    by : (byte_count ss ≤ off - s.len →
+        address_of (off - s.len) len (ss ++ ys) ≡ address_of (off - s.len - byte_count ss) len ys) →
+        (b : Bool) → nat_lt off s.len ≡ b →
+        (if b then if nat_le (off + len) s.len then Some (s.addr.0 + off) else None
+        else address_of (off - s.len) len (ss ++ ys))
+        ≡ address_of (off - byte_count (s ∷ ss)) len ys
+    by f true e = absurd (omega (arith, h, bytes, ltb-true off s.len e))
+    by f false e =
+        let same : off - s.len - byte_count ss ≡ off - byte_count (s ∷ ss) = omega (arith, bytes) in
+        f (omega (arith, h, bytes, ltb-false off s.len e)) ∙ ap (λ n. address_of n len ys) same
+
+pub address-in-part : (off len n : ℕ) (ss : List Segment) → off < byte_count (take n ss) →
+    address_of off len ss ≡ address_of off len (take n ss)
+address-in-part off len n ss h =
+    ap (address_of off len) (sym (take-append-drop n ss)) ∙ in-front-address off len (take n ss) (drop n ss) h
+
+pub address-behind-part : (off len n : ℕ) (ss : List Segment) → byte_count (take n ss) ≤ off →
+    address_of off len ss ≡ address_of (off - byte_count (take n ss)) len (drop n ss)
+address-behind-part off len n ss h =
+    ap (address_of off len) (sym (take-append-drop n ss)) ∙ behind-address off len (take n ss) (drop n ss) h
+
+-- what is behind a part ends low where all do
+pub low-behind : (n : ℕ) (ss : List Segment) → AllByRecursion EndsLow ss → AllByRecursion EndsLow (drop n ss)
+low-behind zero ss h = h
+low-behind (suc n) [] h = h
+low-behind (suc n) (s ∷ ss) h = low-behind n ss h.1

@@ -3,6 +3,7 @@ use Rattle.std.specs.Prelude.{◌≡◌, ℕ, ◌+◌, ◌-◌, ◌/◌, ◌^◌
 use Rattle.std.specs.List.{All}
 use Rattle.busdma_machine.specs.declared.machine.address.Segment.{Segment}
 use Rattle.ring_device.specs.Ranges.{byte_count}
+use Rattle.dma_map.specs.declared.index.Index.{Index}
 use Rattle.dma_map.specs.declared.part.Part.{Part}
 use Rattle.dma_map.specs.Pages.{HasPages}
 
@@ -29,7 +30,7 @@ abbrev pub part_len : List Segment → ℕ
 part_len segments = length segments / 16 + 1
 
 -- what is known of all segments of a load, and of the parts that they are cut into
-pub record IsIndexed (segments : List Segment) (whole : Part) (parts : List Part) : Type 0 where
-  pub all : IsPart segments whole
-  pub sixteen : length parts ≡ 16
-  pub cut : ArePartsOf (part_len segments) parts segments []
+pub record IsIndexed (segments : List Segment) (index : Index) : Type 0 where
+  pub all : IsPart segments index.whole
+  pub sixteen : length index.parts ≡ 16
+  pub cut : ArePartsOf (part_len segments) index.parts segments []

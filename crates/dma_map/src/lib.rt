@@ -2,6 +2,7 @@
 #![tactic(auto)]
 
 mod callback;
+mod index;
 mod map;
 mod part;
 mod room;

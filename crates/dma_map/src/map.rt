@@ -1,7 +1,10 @@
 //! A map: what a driver loads buffers with.
 
 ghost use Rattle.std.specs.Prelude.{◌≡◌, ◌^◌, ◌<◌, true, false, Some, None};
-ghost use Rattle.ring_device.specs.Ranges.{byte_count, place_of};
+ghost use Rattle.std.specs.List.{AllByRecursion};
+ghost use Rattle.std.specs.Option.{option_map};
+ghost use Rattle.ring_device.specs.Ends.{EndsLow};
+ghost use Rattle.ring_device.specs.Ranges.{address_of, byte_count, place_of};
 ghost use Rattle.dma_map.specs.declared.state.MapState.TheVariants.{Idle, Waiting, Loaded, Returning};
 ghost use Rattle.busdma_machine.specs.Machine.PageList.{frames_of};
 ghost use Rattle.dma_map.specs.MapView.{idle, waiting, loaded, state_of, waiting_load, chunks_of, segments_of};
@@ -11,7 +14,7 @@ use crate::callback::Callback;
 use crate::room::LoadRoom;
 use crate::segments::LoadSegments;
 use crate::state::MapState;
-use busdma_base::{Chunk, ChunkList, MapId, PageList, Segment, SegmentList, ZoneId};
+use busdma_base::{Chunk, ChunkList, MapId, Pa, PageList, Segment, SegmentList, ZoneId};
 use std::marker::Model;
 use std::mem;
 use std::snapshot::Snapshot;
@@ -199,6 +202,22 @@ impl<C: Callback> DmaMap<C> {
     {
         match &self.held {
             Held::Loaded { load, .. } | Held::Lent { load, .. } => load.segments.find(addr, len),
+            Held::Idle | Held::Waiting { .. } | Held::Returning => None,
+        }
+    }
+
+    /// The bus address of the byte `off` of the load, or None where the one of these segments that has
+    /// the byte does not have all of the `len` bytes from there on, or where none has it. None of them
+    /// that has a byte ends above 2^64.
+    pub fn address_of(&self, off: u64, len: u64) -> Option<Pa>
+        requires short { byte_count (segments_of self.now.stage) < 2 ^ 64 }
+        requires low { AllByRecursion EndsLow (segments_of self.now.stage) }
+        ensures { option_map (λ pa. pa.0) result ≡ address_of off len (segments_of self.now.stage) }
+    {
+        match &self.held {
+            Held::Loaded { load, .. } | Held::Lent { load, .. } => load
+                .segments
+                .address_of(off, len),
             Held::Idle | Held::Waiting { .. } | Held::Returning => None,
         }
     }

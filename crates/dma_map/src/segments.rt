@@ -1,27 +1,25 @@
-//! The segments of a load, and in which part of them a range of bus addresses may lie.
+//! The segments of a load.
 
 ghost use Rattle.std.specs.Prelude.{◌≡◌, ◌^◌, ◌<◌};
-ghost use Rattle.ring_device.specs.Ranges.{byte_count, place_of};
-ghost use Rattle.dma_map.specs.Parts.{part_len};
+ghost use Rattle.std.specs.List.{AllByRecursion};
+ghost use Rattle.std.specs.Option.{option_map};
+ghost use Rattle.ring_device.specs.Ends.{EndsLow};
+ghost use Rattle.ring_device.specs.Ranges.{address_of, byte_count, place_of};
 
-use crate::part::Part;
-use busdma_base::{Segment, SegmentList};
+use crate::index::{Index, PARTS};
+use busdma_base::{Pa, Segment, SegmentList};
 use std::marker::Model;
 
-/// How many parts the segments of a load are cut into.
-const PARTS: usize = 16;
-
-/// The segments of a load, in the order of its bytes. Beside them stands what is known of all of them, and of parts
-/// that follow one another, so that a look for a range passes each part that cannot have it.
+/// The segments of a load, in the order of its bytes. Beside them stands their index, but not where they are so few
+/// that a look at each is as fast.
 #[derive(Drop)]
 pub struct LoadSegments {
     list: SegmentList,
-    whole: Part,
-    parts: [Part; PARTS],
+    index: Option<Index>,
 }
 
 impl Model for LoadSegments {
-    ghost use Rattle.std.specs.Prelude.{List};
+    ghost use Rattle.std.specs.Prelude.{List, IfSome};
     ghost use Rattle.busdma_machine.specs.declared.machine.address.Segment.{Segment};
 
     ghost Value = { List Segment };
@@ -30,7 +28,7 @@ impl Model for LoadSegments {
 
     ghost use Rattle.dma_map.specs.Parts.{IsIndexed};
 
-    ghost invariant = { λ s. IsIndexed s.list s.whole s.parts };
+    ghost invariant = { λ s. IfSome s.index (IsIndexed s.list) };
 }
 
 impl LoadSegments {
@@ -38,16 +36,12 @@ impl LoadSegments {
     pub fn new(list: SegmentList) -> LoadSegments
         ensures { result ≡ list }
     {
-        let mut rest = list.as_slice();
-        let whole = Part::of(rest);
-        let most = part_len(rest);
-        let mut parts = [Part::EMPTY; PARTS];
-        for part in parts.iter_mut() {
-            let (segments, behind) = rest.split_at(most.min(rest.len()));
-            *part = Part::of(segments);
-            rest = behind;
-        }
-        LoadSegments { list, whole, parts }
+        let index = if list.len() > PARTS {
+            Some(Index::of(list.as_slice()))
+        } else {
+            None
+        };
+        LoadSegments { list, index }
     }
 
     /// The segments.
@@ -63,29 +57,22 @@ impl LoadSegments {
         requires { byte_count self.now < 2 ^ 64 }
         ensures { result ≡ place_of addr len self.now }
     {
-        if !self.whole.may_have(addr, len) {
-            return None;
+        match &self.index {
+            Some(index) => index.find(self.as_slice(), addr, len),
+            None => ring_device::find(self.as_slice(), addr, len),
         }
-        let mut rest = self.list.as_slice();
-        let most = part_len(rest);
-        let mut before = 0;
-        for part in &self.parts {
-            let (segments, behind) = rest.split_at(most.min(rest.len()));
-            if part.may_have(addr, len)
-                && let Some(at) = ring_device::find(segments, addr, len)
-            {
-                return Some(before + at);
-            }
-            before += part.bytes;
-            rest = behind;
-        }
-        None
     }
-}
 
-/// How many segments a part of these has, but for the last that has some.
-fn part_len(segments: &[Segment]) -> usize
-    ensures { result ≡ part_len segments.now }
-{
-    segments.len() / PARTS + 1
+    /// The bus address of the byte `off` of the load, or None where the segment that has the byte does not have all of
+    /// the `len` bytes from there on, or where no segment has it.
+    pub fn address_of(&self, off: u64, len: u64) -> Option<Pa>
+        requires short { byte_count self.now < 2 ^ 64 }
+        requires low { AllByRecursion EndsLow self.now }
+        ensures { option_map (λ pa. pa.0) result ≡ address_of off len self.now }
+    {
+        match &self.index {
+            Some(index) => index.address_of(self.as_slice(), off, len),
+            None => ring_device::address_of(self.as_slice(), off, len),
+        }
+    }
 }

@@ -16,7 +16,7 @@ ghost use Rattle.lane_rings.specs.Ringing.{IsPosted, IsUnposted};
 use busdma_base::{Answer, Errno, ItemList, Place, ReportName};
 use lane_access::{cpu_write, past_end, unloaded};
 use lane_state::{Holdings, KeptRing, report};
-use ring_device::{Descriptor, address_of};
+use ring_device::Descriptor;
 use std::alloc::{AllocError, Global};
 
 /// What is posted to a slot of a ring: the `len` bytes of a map's load from `off` on, whether the device shall read
@@ -87,8 +87,9 @@ fn descriptor_of(holdings: &Holdings<'_>, ring: KeptRing, posting: Posting) -> O
     if posting.map == ring.mem || holdings.is_device(posting.map) {
         return None;
     }
+    holdings.loans.buffers_are_short();
     let kept = holdings.maps.get(posting.map)?;
-    let addr = address_of(kept.map.segments(), posting.off, posting.len)?;
+    let addr = kept.map.address_of(posting.off, posting.len)?;
     Some(Descriptor {
         addr: addr.0,
         len: posting.len as u32,

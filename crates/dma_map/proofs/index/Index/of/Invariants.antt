@@ -1,10 +1,10 @@
 use Rattle.std.proofs.Common.{◌≡◌, ◌-◌, ◌*◌, length, take}
 use Rattle.dma_map.specs.Parts.{ArePartsOf}
-use Rattle.dma_map.proofs.segments.LoadSegments.new.Given as goal
+use Rattle.dma_map.proofs.index.Index.of.Given as goal
 
 abbrev pub invariant-loop-part : goal.invariant-loop-part
 invariant-loop-part l = record {
   sixteen : length l.part-items ≡ 16;
-  cut : ArePartsOf l.most (take l.part-index l.part-items) l.fn.list l.rest;
-  left : length l.rest ≡ length l.fn.list - l.part-index * l.most;
+  cut : ArePartsOf l.most (take l.part-index l.part-items) l.fn.segments l.rest;
+  left : length l.rest ≡ length l.fn.segments - l.part-index * l.most;
 }

@@ -2,7 +2,7 @@ use Rattle.std.proofs.Common.{◌≡◌, ◌<◌, ◌∙◌, [], ◌∷◌, ◌+
 use Rattle.std.proofs.lemmas.List.{take_min, drop_min, take_more_set}
 use Rattle.dma_map.specs.Parts.{ArePartsOf, IsPart}
 use Rattle.dma_map.proofs.Parts.{ArePartsOf-push}
-use Rattle.dma_map.proofs.segments.LoadSegments.new.Goals as goal
+use Rattle.dma_map.proofs.index.Index.of.Goals as goal
 
 pub loop-part-preserved : goal.loop-part-preserved
 loop-part-preserved c =
@@ -17,13 +17,13 @@ loop-part-preserved c =
     let second : c.split_at.result.1.now ≡ drop most rest =
     c.split_at.ensures.back ∙ ap (λ n. drop n rest) c.min.ensures ∙ drop_min most rest in
     let more =
-    ArePartsOf-push most (take index parts) part c.args.list rest c.loop-part.invariant.cut
+    ArePartsOf-push most (take index parts) part c.args.segments.now rest c.loop-part.invariant.cut
     (subst (λ ss. IsPart ss part) first c.of.ensures) in
     record {
       sixteen = length-set parts index part ∙ c.loop-part.invariant.sixteen;
       cut =
-          subst (λ ps. ArePartsOf most ps c.args.list c.split_at.result.1.now)
+          subst (λ ps. ArePartsOf most ps c.args.segments.now c.split_at.result.1.now)
           (sym (take_more_set parts index part inside))
-          (subst (λ ss. ArePartsOf most (take index parts ++ part ∷ []) c.args.list ss) (sym second) more);
+          (subst (λ ss. ArePartsOf most (take index parts ++ part ∷ []) c.args.segments.now ss) (sym second) more);
       left = omega (arith, c.loop-part.invariant.left, c.split_at.ensures.back_len);
     }

@@ -5,8 +5,8 @@ use Rattle.ring_device.specs.Ranges.{byte_count, place_of}
 use Rattle.dma_map.specs.declared.part.Part.{Part}
 use Rattle.dma_map.specs.Parts.{ArePartsOf}
 use Rattle.dma_map.proofs.Parts.{behind-part, bytes-cut, found-in-part, part-bytes, place-within}
-use Rattle.dma_map.proofs.segments.LoadSegments.find.Goals as goal
-use Rattle.dma_map.proofs.segments.LoadSegments.find.Goals.{else-may_have-via-else-may_have, else-may_have-via-then-may_have+in-None-1}
+use Rattle.dma_map.proofs.index.Index.find.Goals as goal
+use Rattle.dma_map.proofs.index.Index.find.Goals.{else-may_have-via-else-may_have, else-may_have-via-then-may_have+in-None-1}
 
 pub overflow_add-result : goal.overflow_add-result
 overflow_add-result c =
@@ -21,18 +21,18 @@ overflow_add-result c =
 pub returns-in-loop-part : goal.returns-in-loop-part
 returns-in-loop-part c =
     let there = sym (c.in-Some.ensures.place ∙ ap (place_of c.args.addr c.args.len) c.split_at.ensures.front) in
-    sym (found-in-part c.args.addr c.args.len c.loop-part.before c.min.result c.in-Some.at c.args.self.now
+    sym (found-in-part c.args.addr c.args.len c.loop-part.before c.min.result c.in-Some.at c.args.segments.now
     c.loop-part.rest.now c.loop-part.invariant.place there)
 
 pub loop-part-preserved : goal.loop-part-preserved
 loop-part-preserved c =
-    let all = c.args.self.now in
+    let all = c.args.segments.now in
     let rest = c.loop-part.rest.now in
-    let parts = c.self.inside.parts in
+    let parts = c.args.self.now.parts in
     let index = c.loop-part.part-index in
     let most = c.part_len-most.result in
     let none : Part = record { bytes = 0; least = 0; end = 0; pages = 0 } in
-    let inside : index < length parts = omega (arith, c.self.invariant.sixteen) in
+    let inside : index < length parts = omega (arith, c.requires.indexed.sixteen) in
     let cut =
     subst (λ ps. ArePartsOf most ps rest []) (drop_more parts index none inside) c.loop-part.invariant.cut in
     let first : c.split_at.result.0.now ≡ take most rest =
@@ -40,7 +40,7 @@ loop-part-preserved c =
     let second : c.split_at.result.1.now ≡ drop most rest =
     c.split_at.ensures.back ∙ ap (λ n. drop n rest) c.min.ensures ∙ drop_min most rest in
     let bytes : (get_or parts index none).bytes ≡ byte_count (take most rest) =
-    part-bytes most c.loop-part.before all rest (get_or parts index none) c.requires c.loop-part.invariant.bytes
+    part-bytes most c.loop-part.before all rest (get_or parts index none) c.requires.short c.loop-part.invariant.bytes
     cut.0 in
     let passed : place_of c.args.addr c.args.len (take most rest) ≡ None =
     elim c.else-may_have.branch [
@@ -64,8 +64,8 @@ loop-part-preserved c =
 pub returns : goal.returns
 returns c =
     let rest = c.loop-part.rest.now in
-    let parts = c.self.inside.parts in
-    let past : length parts ≤ c.loop-part.part-index = omega (arith, c.self.invariant.sixteen) in
+    let parts = c.args.self.now.parts in
+    let past : length parts ≤ c.loop-part.part-index = omega (arith, c.requires.indexed.sixteen) in
     let none : rest ≡ [] =
     subst (λ ps. ArePartsOf c.part_len-most.result ps rest []) (drop_all c.loop-part.part-index parts past)
     c.loop-part.invariant.cut in

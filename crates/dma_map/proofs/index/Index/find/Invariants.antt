@@ -2,11 +2,11 @@ use Rattle.std.proofs.Common.{◌≡◌, ◌+◌, [], drop}
 use Rattle.std.specs.Option.{option_map}
 use Rattle.ring_device.specs.Ranges.{byte_count, place_of}
 use Rattle.dma_map.specs.Parts.{ArePartsOf}
-use Rattle.dma_map.proofs.segments.LoadSegments.find.Given as goal
+use Rattle.dma_map.proofs.index.Index.find.Given as goal
 
 abbrev pub invariant-loop-part : goal.invariant-loop-part
 invariant-loop-part l = record {
   cut : ArePartsOf l.most (drop l.part-index l.part-items) l.rest [];
-  bytes : l.before + byte_count l.rest ≡ byte_count l.self;
-  place : place_of l.addr l.len l.self ≡ option_map (λ at. l.before + at) (place_of l.addr l.len l.rest);
+  bytes : l.before + byte_count l.rest ≡ byte_count l.fn.segments;
+  place : place_of l.addr l.len l.fn.segments ≡ option_map (λ at. l.before + at) (place_of l.addr l.len l.rest);
 }

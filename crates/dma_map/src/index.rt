@@ -1,0 +1,94 @@
+//! What a load keeps of many segments, so that a look for a range passes those that cannot have it.
+
+ghost use Rattle.std.specs.Prelude.{◌≡◌, ◌^◌, ◌<◌};
+ghost use Rattle.std.specs.List.{AllByRecursion};
+ghost use Rattle.std.specs.Option.{option_map};
+ghost use Rattle.ring_device.specs.Ends.{EndsLow};
+ghost use Rattle.ring_device.specs.Ranges.{address_of, byte_count, place_of};
+ghost use Rattle.dma_map.specs.Parts.{IsIndexed, part_len};
+
+use crate::part::Part;
+use busdma_base::{Pa, Segment};
+
+/// How many parts the segments of a load are cut into.
+pub const PARTS: usize = 16;
+
+/// What is known of all segments of a load, and of parts of them that follow one another.
+#[derive(Clone, Copy)]
+pub struct Index {
+    pub whole: Part,
+    pub parts: [Part; PARTS],
+}
+
+impl Index {
+    /// What is known of these segments.
+    pub fn of(segments: &[Segment]) -> Index
+        ensures { IsIndexed segments.now result }
+    {
+        let most = part_len(segments);
+        let mut rest = segments;
+        let mut parts = [Part::EMPTY; PARTS];
+        for part in parts.iter_mut() {
+            let (segments, behind) = rest.split_at(most.min(rest.len()));
+            *part = Part::of(segments);
+            rest = behind;
+        }
+        let whole = Part::of(segments);
+        Index { whole, parts }
+    }
+
+    /// The place in the load of the `len` bytes from the bus address `addr` on, in the first segment that has all of
+    /// them, or None where none has.
+    pub fn find(&self, segments: &[Segment], addr: u64, len: u64) -> Option<u64>
+        requires indexed { IsIndexed segments.now self.now }
+        requires short { byte_count segments.now < 2 ^ 64 }
+        ensures { result ≡ place_of addr len segments.now }
+    {
+        if !self.whole.may_have(addr, len) {
+            return None;
+        }
+        let most = part_len(segments);
+        let mut rest = segments;
+        let mut before = 0;
+        for part in &self.parts {
+            let (segments, behind) = rest.split_at(most.min(rest.len()));
+            if part.may_have(addr, len)
+                && let Some(at) = ring_device::find(segments, addr, len)
+            {
+                return Some(before + at);
+            }
+            before += part.bytes;
+            rest = behind;
+        }
+        None
+    }
+
+    /// The bus address of the byte `off` of the load, or None where the segment that has the byte does not have all of
+    /// the `len` bytes from there on, or where no segment has it.
+    pub fn address_of(&self, segments: &[Segment], off: u64, len: u64) -> Option<Pa>
+        requires indexed { IsIndexed segments.now self.now }
+        requires short { byte_count segments.now < 2 ^ 64 }
+        requires low { AllByRecursion EndsLow segments.now }
+        ensures { option_map (λ pa. pa.0) result ≡ address_of off len segments.now }
+    {
+        let most = part_len(segments);
+        let mut rest = segments;
+        let mut inside = off;
+        for part in &self.parts {
+            let (segments, behind) = rest.split_at(most.min(rest.len()));
+            if inside < part.bytes {
+                return ring_device::address_of(segments, inside, len);
+            }
+            inside -= part.bytes;
+            rest = behind;
+        }
+        None
+    }
+}
+
+/// How many segments a part of these has, but for the last that has some.
+fn part_len(segments: &[Segment]) -> usize
+    ensures { result ≡ part_len segments.now }
+{
+    segments.len() / PARTS + 1
+}
