@@ -1,7 +1,7 @@
 //! A driver's place in its script, its transfer queue and its return queue.
 
 ghost use Rattle.std.specs.Prelude.{◌≡◌, ◌+◌, ◌-◌, ◌^◌, ◌<◌, ◌≤◌, [], ◌∷◌, ◌++◌, length, not, slice_get};
-ghost use Rattle.std.specs.Prelude.{option_copied};
+ghost use Rattle.std.specs.Prelude.{is_some, option_copied};
 ghost use Rattle.std.specs.Prelude.{IfNone, IfOk, IfSome, OnErr, OnOk, OnSome};
 ghost use Rattle.std.specs.VecDeque.{deque_capacity};
 ghost use Rattle.busdma_base.specs.Scenarios.Limits.{steps_limit};
@@ -216,6 +216,13 @@ impl Agenda {
         let promised = self.promised as usize - pages.len();
         self.promised = promised as u32;
         push_pages(&mut self.returns, map, zone, pages);
+    }
+
+    /// Whether a page stands in the return queue.
+    pub fn has_return(&self) -> bool
+        ensures { result ≡ is_some (slice_get self.now.returns 0) }
+    {
+        self.returns.front().is_some()
     }
 
     /// Takes the first page out of the return queue, or answers None where it is empty.
