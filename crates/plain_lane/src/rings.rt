@@ -6,12 +6,12 @@ ghost use Rattle.ring_device.specs.Ranges.{address_of};
 ghost use Rattle.ideal_lane.specs.Accesses.{cpu_write};
 ghost use Rattle.ideal_lane.specs.Asking.{Gives};
 ghost use Rattle.ideal_lane.specs.Rings as rings;
-ghost use Rattle.plain_lane.specs.Ideal.{given, ideal};
+ghost use Rattle.plain_state.specs.Ideal.{given, ideal};
 
-use crate::items::queued;
-use crate::lane::{PlainLane, PlainMap, PlainMemory, PlainRing, report};
-use crate::lists::small;
 use busdma_base::{Answer, Errno, Item, Place, ReportName, Segment};
+use plain_loads::is_device;
+use plain_rules::{queued, small};
+use plain_state::{PlainMap, PlainMemory, PlainRing, PlainState, report};
 use ring_device::Descriptor;
 use std::alloc::{AllocError, Global};
 
@@ -77,100 +77,103 @@ fn posted(segments: &[Segment], posting: Posting) -> Result<Descriptor, AllocErr
     })
 }
 
-impl PlainLane<'_> {
-    /// `ring`.
-    pub(crate) fn ring(&mut self, alloc: Global, mem: u32, slots: u32) -> Result<Answer, AllocError>
-        ensures { IfOk result (λ a. Gives (given self.new a) ≡ rings.ring mem slots (ideal self.old)) }
-    {
-        let Some(memory) = self.memory_at(mem) else {
-            return Ok(report(ReportName::Absent, 0));
-        };
-        if !fits_in(slots, memory) {
-            return Ok(Answer::Refused(Errno::EINVAL));
-        }
-        let ring = PlainRing {
-            mem,
-            slots,
-            head: 0,
-        };
-        self.put_ring(alloc, self.place(), ring)?;
-        Ok(Answer::Done)
+/// `ring`.
+pub(crate) fn ring(
+    state: &mut PlainState<'_>,
+    alloc: Global,
+    mem: u32,
+    slots: u32,
+) -> Result<Answer, AllocError>
+    ensures { IfOk result (λ a. Gives (given state.new a) ≡ rings.ring mem slots (ideal state.old)) }
+{
+    let Some(memory) = state.memory_at(mem) else {
+        return Ok(report(ReportName::Absent, 0));
+    };
+    if !fits_in(slots, memory) {
+        return Ok(Answer::Refused(Errno::EINVAL));
     }
+    let ring = PlainRing {
+        mem,
+        slots,
+        head: 0,
+    };
+    state.put_ring(alloc, state.place(), ring)?;
+    Ok(Answer::Done)
+}
 
-    /// This may be posted to a ring, of the load of this map.
-    fn may_post(&self, ring: PlainRing, held: &PlainMap, posting: Posting) -> bool
-        ensures { result ≡ rings.may_post ring posting.slot posting.map held.now posting.off posting.len posting.kind
-            (ideal self.now) }
-    {
-        let segments = held.segments();
-        posting.slot < ring.slots
-            && is_work(posting.kind, posting.len)
-            && posting.map != ring.mem
-            && !self.is_device(held.header())
-            && address_of(segments, posting.off, posting.len).is_some()
-    }
+/// This may be posted to a ring, of the load of this map.
+fn may_post(state: &PlainState<'_>, ring: PlainRing, held: &PlainMap, posting: Posting) -> bool
+    ensures { result ≡ rings.may_post ring posting.slot posting.map held.now posting.off posting.len posting.kind
+        (ideal state.now) }
+{
+    let segments = held.segments();
+    posting.slot < ring.slots
+        && is_work(posting.kind, posting.len)
+        && posting.map != ring.mem
+        && !is_device(state, held.header())
+        && address_of(segments, posting.off, posting.len).is_some()
+}
 
-    /// The driver writes a descriptor into a slot of a ring.
-    fn write_slot(
-        &mut self,
-        alloc: Global,
-        ring: PlainRing,
-        slot: u32,
-        descriptor: &Descriptor,
-    ) -> Result<Answer, AllocError>
-        ensures { IfOk result (λ a. Gives (given self.new a)
-            ≡ cpu_write (rings.slot_place ring slot) (descriptor_bytes descriptor.now) (ideal self.old)) }
-    {
-        let place = Place::In {
-            mem: ring.mem,
-            off: 16 * slot as u64,
-        };
-        self.cpu_write(alloc, place, Vec::from_slice(alloc, &descriptor.bytes())?)
-    }
+/// The driver writes a descriptor into a slot of a ring.
+fn write_slot(
+    state: &mut PlainState<'_>,
+    alloc: Global,
+    ring: PlainRing,
+    slot: u32,
+    descriptor: &Descriptor,
+) -> Result<Answer, AllocError>
+    ensures { IfOk result (λ a. Gives (given state.new a)
+        ≡ cpu_write (rings.slot_place ring slot) (descriptor_bytes descriptor.now) (ideal state.old)) }
+{
+    let place = Place::In {
+        mem: ring.mem,
+        off: 16 * slot as u64,
+    };
+    state.cpu_write(alloc, place, Vec::from_slice(alloc, &descriptor.bytes())?)
+}
 
-    /// `ring_post`. Err also where a number has too many bits.
-    pub(crate) fn ring_post(
-        &mut self,
-        alloc: Global,
-        ring: u32,
-        posting: Posting,
-    ) -> Result<Answer, AllocError>
-        ensures { IfOk result (λ a. Gives (given self.new a) ≡ rings.ring_post ring posting.slot posting.map
-            posting.off posting.len posting.kind posting.fill (ideal self.old)) }
-    {
-        let Some(ring) = self.ring_at(ring).copied() else {
-            return Ok(report(ReportName::Absent, 0));
-        };
-        let Posting { map, off, len, .. } = posting;
-        let (Some(_), Some(held)) = (self.memory_at(ring.mem), self.map_at(map)) else {
-            return Ok(report(ReportName::Absent, 0));
-        };
-        if !held.is_loaded() {
-            return Ok(report(ReportName::NotLoaded, 0));
-        }
-        if !self.is_within(map, off, len) {
-            return Ok(self.past_end(map, off));
-        }
-        if !self.may_post(ring, held, posting) {
-            return Ok(Answer::Refused(Errno::EINVAL));
-        }
-        let descriptor = posted(held.segments(), posting)?;
-        self.write_slot(alloc, ring, posting.slot, &descriptor)
+/// `ring_post`. Err also where a number has too many bits.
+pub(crate) fn ring_post(
+    state: &mut PlainState<'_>,
+    alloc: Global,
+    ring: u32,
+    posting: Posting,
+) -> Result<Answer, AllocError>
+    ensures { IfOk result (λ a. Gives (given state.new a) ≡ rings.ring_post ring posting.slot posting.map
+        posting.off posting.len posting.kind posting.fill (ideal state.old)) }
+{
+    let Some(ring) = state.ring_at(ring).copied() else {
+        return Ok(report(ReportName::Absent, 0));
+    };
+    let Posting { map, off, len, .. } = posting;
+    let (Some(_), Some(held)) = (state.memory_at(ring.mem), state.map_at(map)) else {
+        return Ok(report(ReportName::Absent, 0));
+    };
+    if !held.is_loaded() {
+        return Ok(report(ReportName::NotLoaded, 0));
     }
+    if !state.is_within(map, off, len) {
+        return Ok(state.past_end(map, off));
+    }
+    if !may_post(state, ring, held, posting) {
+        return Ok(Answer::Refused(Errno::EINVAL));
+    }
+    let descriptor = posted(held.segments(), posting)?;
+    write_slot(state, alloc, ring, posting.slot, &descriptor)
+}
 
-    /// `kick`.
-    pub(crate) fn kick(
-        &mut self,
-        alloc: Global,
-        ring: u32,
-        steps: &[Item],
-    ) -> Result<Answer, AllocError>
-        ensures { IfOk result (λ a. Gives (given self.new a) ≡ rings.kick ring steps.now (ideal self.old)) }
-    {
-        if self.ring_at(ring).is_none() {
-            return Ok(report(ReportName::Absent, 0));
-        }
-        self.push_items(queued(alloc, self.place(), steps)?)?;
-        Ok(Answer::Done)
+/// `kick`.
+pub(crate) fn kick(
+    state: &mut PlainState<'_>,
+    alloc: Global,
+    ring: u32,
+    steps: &[Item],
+) -> Result<Answer, AllocError>
+    ensures { IfOk result (λ a. Gives (given state.new a) ≡ rings.kick ring steps.now (ideal state.old)) }
+{
+    if state.ring_at(ring).is_none() {
+        return Ok(report(ReportName::Absent, 0));
     }
+    state.push_items(queued(alloc, state.place(), steps)?)?;
+    Ok(Answer::Done)
 }

@@ -1,0 +1,12 @@
+use Rattle.plain_rules.proofs.Rows.{filter_map, filter_sorted}
+use Rattle.plain_rules.proofs.by_place.ByPlace.remove.Goals as goal
+
+pub invariant_of-self-2 : goal.invariant_of-self-2
+invariant_of-self-2 g c =
+    let e = c.in_ok-self-inside.ensures in
+    rw (e, c.replace-rows.ensures.value) (filter_sorted c.args.place c.self.inside.rows.items c.self.invariant)
+
+pub returns : goal.returns
+returns g c =
+    let e = c.in_ok-self-inside.ensures in
+    rw (e, c.replace-rows.ensures.value, ← c.self.view_is) (filter_map _ _ c.self.invariant)

@@ -1,0 +1,3 @@
+pub mod Ideal
+pub mod Spaces
+pub mod Stages
