@@ -45,10 +45,10 @@ use Rattle.lane_state.specs.Changes.{KeepsState}
 use Rattle.lane_state.specs.Ideal.{given, ideal_of}
 use Rattle.lane_state.specs.SmallLoads.{HasSmallLoads}
 use Rattle.lane_state.specs.Wire.{IsWired, wire_of}
-use Rattle.lane_core.proofs.KeepsWired.{kept-wired}
+use Rattle.lane_turns.proofs.KeepsWired.{kept-wired}
 use Rattle.lane_core.proofs.OneStanding.{stands-of}
-use Rattle.lane_core.proofs.Promises.{maps-promise}
-use Rattle.lane_core.proofs.SmallLoads.{small-same}
+use Rattle.lane_turns.proofs.Promises.{maps-promise}
+use Rattle.lane_turns.proofs.SmallLoads.{small-same}
 use mathlib.Core.Logic.{∥∥₁_elim, ∥∥₁_map}
 use Rattle.busdma_base.specs.declared.scenarios.script.Bytes.TheVariants as bytes
 use Rattle.busdma_base.specs.declared.scenarios.script.Item.TheVariants as item

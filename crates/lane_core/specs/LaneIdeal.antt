@@ -5,9 +5,9 @@ use Rattle.ideal_lane.specs.Outcomes.{Outcome}
 use Rattle.ideal_lane.specs.State.{LaneState}
 use Rattle.ideal_lane.specs.Turns.{Turned}
 use Rattle.lane_core.specs.declared.lane.Lane.{Lane}
-use Rattle.lane_core.specs.declared.turn.Turn.{Turn}
+use Rattle.lane_turns.specs.declared.turn.Turn.{Turn}
 use Rattle.lane_state.specs.Ideal.{ideal_of}
-use Rattle.lane_core.specs.Turning.{answered}
+use Rattle.lane_turns.specs.Turning.{answered}
 use Rattle.lane_state.specs.Wire.{wire_of}
 
 abbrev pub ideal : Lane → LaneState

@@ -1,4 +1,3 @@
 pub mod Calls
 pub mod LaneIdeal
 pub mod OneProof
-pub mod Turning

@@ -9,13 +9,12 @@ ghost use Rattle.lane_state.specs.Doing.{IsUndone};
 ghost use Rattle.lane_state.specs.Kept.{share_of};
 ghost use Rattle.lane_core.specs.LaneIdeal.{ideal, turned, wire};
 ghost use Rattle.lane_state.specs.Served.{IsServed};
-ghost use Rattle.lane_core.specs.Turning.{IsTurned, MayWant, is_held};
+ghost use Rattle.lane_turns.specs.Turning.{IsTurned, MayWant, has_step, is_held};
 
 use crate::lane::Lane;
-use crate::turn::Turn;
-use crate::turns::turn;
 use busdma_base::{HubDoor, Side, ZoneId};
 use lane_state::KeptShare;
+use lane_turns::{Turn, has_step, take_turn};
 use std::alloc::{AllocError, Global};
 
 /// The share of a zone, or 0 where none is kept.
@@ -54,7 +53,7 @@ impl Lane<'_> {
         ensures wanting { OnErr result (MayWant (ideal self.old) side) }
         ensures fixed { D.fixed door.new ≡ D.fixed door.old }
     {
-        turn(&mut self.holdings, alloc, door, side)
+        take_turn(&mut self.holdings, alloc, door, side)
     }
 
     /// Whether an item stands in the transfer queue; where none does, the turn of that side is Blocked.
@@ -62,6 +61,14 @@ impl Lane<'_> {
         ensures { result ≡ is_some (slice_get (ideal self.now).queue 0) }
     {
         self.holdings.agenda.first().is_some()
+    }
+
+    /// Whether the script has a step to make: a page goes back, a resend is due, or the next operation does not wait.
+    /// Where it has none, the turn of that side is Blocked or Ended.
+    pub fn has_step(&self) -> bool
+        ensures { result ≡ has_step (ideal self.now) }
+    {
+        has_step(&self.holdings)
     }
 
     /// The lane's share of total_bounced of a zone: how many of its syncs copied to or from a page of the zone, up to

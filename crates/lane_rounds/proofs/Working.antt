@@ -21,7 +21,7 @@ use Rattle.ideal_lane.specs.Turns.{Turn, Turned, Stepped, Blocked, called_back, 
 use Rattle.ideal_lane.proofs.Own.{IsOwn, turn-own}
 use Rattle.lane_state.specs.Doing.{IsUndone}
 use Rattle.lane_state.specs.Served.{IsServed}
-use Rattle.lane_core.specs.Turning.{IsTurned}
+use Rattle.lane_turns.specs.Turning.{IsTurned}
 use Rattle.lane_merge.specs.declared.merging.LoggedStep.{LoggedStep}
 use Rattle.lane_merge.specs.declared.merging.LoggedStep.TheVariants.{Local, Held}
 use Rattle.lane_merge.specs.Merged.{logged}

@@ -16,10 +16,10 @@ use Rattle.bounce_hub.specs.Seen.{HubSeen, door}
 use Rattle.lane_core.specs.declared.lane.Lane.{Lane}
 use Rattle.lane_core.specs.LaneIdeal.{ideal}
 use Rattle.lane_state.specs.Served.{IsServed}
-use Rattle.lane_core.specs.Turning.{IsTurned, answered, is_held}
+use Rattle.lane_turns.specs.Turning.{IsTurned, answered, is_held}
 use Rattle.lane_state.specs.Doing.{IsUndone}
-use Rattle.lane_core.specs.declared.turn.Turn as told
-use Rattle.lane_core.specs.declared.turn.Turn.TheVariants as held
+use Rattle.lane_turns.specs.declared.turn.Turn as told
+use Rattle.lane_turns.specs.declared.turn.Turn.TheVariants as held
 use Rattle.ideal_lane.specs.Turns.{Turn, lane_step}
 use Rattle.ideal_world.specs.Holds.{holds_at, step_holds}
 use Rattle.ideal_world.specs.Legal.{Run, noted, turn}

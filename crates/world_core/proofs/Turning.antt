@@ -20,7 +20,7 @@ use Rattle.ideal_lane.specs.Asking.{Asking, Gives, Asks}
 use Rattle.ideal_lane.specs.State.{LaneState}
 use Rattle.ideal_lane.specs.Turns.{Turned}
 use Rattle.lane_state.specs.Doing.{IsUndone}
-use Rattle.lane_core.specs.Turning.{IsTurned}
+use Rattle.lane_turns.specs.Turning.{IsTurned}
 use Rattle.ideal_world.specs.Holds.{hold_of, holds_by}
 use Rattle.ideal_world.specs.World.{WorldState, WorldTurned, replied, turned}
 use Rattle.ideal_world.proofs.Reached.{unkept}

@@ -23,7 +23,7 @@ impl Progress<'_> {
     fn turn(&mut self, alloc: Global, actor: Actor) -> Result<(), AllocError>
         ensures { OnOk result (ideal_run self.new ≡ legal.turn (ideal_run self.old) actor) }
     {
-        // Most turns of devices find no item, and most of callbacks no callback; these cost one look.
+        // Most turns find nothing to do: a script that waits, no item, no callback. These cost one look.
         if self.world.is_idle(actor) {
             return Ok(());
         }

@@ -3,7 +3,7 @@
 ghost use Rattle.std.specs.Prelude.{◌≡◌, ◌+◌, ◌++◌, IfOk, OnErr, OnOk, None, true, if◌then◌else◌, length};
 ghost use Rattle.busdma_base.specs.declared.journals.journal.Side.TheVariants as side;
 ghost use Rattle.busdma_machine.specs.Bounce.History.{IsOpening, IsSound};
-ghost use Rattle.lane_core.specs.Turning.{answered, is_held};
+ghost use Rattle.lane_turns.specs.Turning.{answered, is_held};
 ghost use Rattle.ideal_world.specs.Holds.{step_holds};
 ghost use Rattle.ideal_world.specs.Wires.{WiresFollow};
 ghost use Rattle.ideal_world.specs.World.{step, step_entry};
@@ -46,16 +46,28 @@ impl World<'_> {
         self.lanes[at].turn(alloc, &mut self.hub, actor.side)
     }
 
-    /// Whether a look tells that an actor makes no step: a device whose driver has no item for it, or a
-    /// driver whose map is not the first of the callback list.
+    /// Whether a look tells that an actor makes no step: a script that waits or has ended, a device whose
+    /// driver has no item for it, or a driver whose map is not the first of the callback list.
     pub(crate) fn is_idle(&self, actor: Actor) -> bool
         ensures { result ≡ true → step_entry (ideal_world self.now) actor ≡ None }
     {
         match actor.side {
-            Side::Script => false,
+            Side::Script => self.is_idle_script(actor),
             Side::Transfer => self.is_idle_device(actor),
             Side::Callback => self.has_no_callback(actor),
         }
+    }
+
+    /// Whether a driver's script has no step to make.
+    fn is_idle_script(&self, actor: Actor) -> bool
+        requires { actor.side ≡ side.Script }
+        ensures { result ≡ true → step_entry (ideal_world self.now) actor ≡ None }
+    {
+        let number = actor.lane.0 as usize;
+        if number >= self.lanes.len() {
+            return false;
+        }
+        !self.lanes[number].has_step()
     }
 
     /// Whether a driver has no item for its device.

@@ -1,6 +1,6 @@
 use Rattle.std.proofs.Common.{rules, ◌≡◌, ◌∙◌, sym, ap}
 use Rattle.ideal_world.specs.World.{WorldTurned, entry_of}
-use Rattle.lane_core.specs.Turning.{answered}
+use Rattle.lane_turns.specs.Turning.{answered}
 use Rattle.report_text.specs.Report.{entry_line}
 use Rattle.world_core.specs.Ideal.{ideal_world}
 use Rattle.world_core.proofs.Taking.{no_entry}

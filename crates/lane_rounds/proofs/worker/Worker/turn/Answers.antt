@@ -1,9 +1,9 @@
 use Rattle.std.proofs.Common.{◌≡◌, ◌++◌, [], ◌∷◌, false, ap, ◌∙◌, subst, ⊎_elim}
 use Rattle.ideal_lane.specs.Turns.{lane_step}
-use Rattle.lane_core.specs.declared.turn.Turn.{Turn}
-use Rattle.lane_core.specs.declared.turn.Turn.TheVariants.{Blocked, Ended}
+use Rattle.lane_turns.specs.declared.turn.Turn.{Turn}
+use Rattle.lane_turns.specs.declared.turn.Turn.TheVariants.{Blocked, Ended}
 use Rattle.lane_core.specs.LaneIdeal.{ideal, turned}
-use Rattle.lane_core.specs.Turning.{IsTurned, answered, is_held}
+use Rattle.lane_turns.specs.Turning.{IsTurned, answered, is_held}
 use Rattle.lane_merge.specs.Merged.{logged}
 use Rattle.lane_rounds.proofs.Shapes.{is_step}
 use Rattle.lane_rounds.proofs.Working.{grows-one, work-fails, work-stays, work-steps}

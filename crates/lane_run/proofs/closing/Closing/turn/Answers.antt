@@ -1,8 +1,8 @@
 use Rattle.std.proofs.Common.{◌≡◌, ◌∙◌, ◌+◌, ◌++◌, ◌∷◌, [], ℕ, false, List, None, ap, arith, if◌then◌else◌, length, map, subst, sym, ⊎_elim}
 use Rattle.ideal_world.specs.World.{entry_of, step}
-use Rattle.lane_core.specs.declared.turn.Turn.{Turn}
-use Rattle.lane_core.specs.declared.turn.Turn.TheVariants.{Blocked, Ended}
-use Rattle.lane_core.specs.Turning.{answered, is_held}
+use Rattle.lane_turns.specs.declared.turn.Turn.{Turn}
+use Rattle.lane_turns.specs.declared.turn.Turn.TheVariants.{Blocked, Ended}
+use Rattle.lane_turns.specs.Turning.{answered, is_held}
 use Rattle.lane_merge.specs.Merged.{logged}
 use Rattle.lane_merge.specs.Runs.{Log}
 use Rattle.world_core.specs.Ideal.{holds, ideal_world}

@@ -1,4 +1,4 @@
-use Rattle.lane_core.specs.Turning.{answered}
+use Rattle.lane_turns.specs.Turning.{answered}
 use Rattle.world_core.specs.Ideal.{ideal_run, ideal_world}
 use Rattle.world_core.proofs.Resting.{passed-over}
 use Rattle.world_core.proofs.Taking.{skips, no_entry}

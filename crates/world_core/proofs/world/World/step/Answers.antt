@@ -1,7 +1,7 @@
 use Rattle.std.proofs.Common.{◌<◌, length, arith, slice_set}
 use Rattle.std.proofs.lemmas.Result.{IfOk-weaker}
 use Rattle.lane_core.specs.LaneIdeal.{ideal}
-use Rattle.lane_core.specs.Turning.{answered}
+use Rattle.lane_turns.specs.Turning.{answered}
 use Rattle.world_core.proofs.Taking.{at_either, lane_found, no-holds, ok_both, on_both, serves, stay-kept, took}
 use Rattle.world_core.proofs.Taking.{took-history, took-holds, took-none, took-opening, turn-kept}
 use Rattle.world_core.proofs.Turning.{undone-history, undone-opening}

@@ -1,8 +1,0 @@
-use Rattle.lane_core.proofs.MadeTurns.{made-ready, wanting-ready}
-use Rattle.lane_core.proofs.turns.turns_leave_ready.Goals as goal
-
-pub returns-clause-made : goal.returns-clause-made
-returns-clause-made c = made-ready
-
-pub returns-clause-wanting : goal.returns-clause-wanting
-returns-clause-wanting c = λ h k d e ready same room undone. wanting-ready h k d e ready same room undone
