@@ -93,16 +93,30 @@ impl<'s, D: HubDoor + Drop> Worker<'s, D> {
         }
     }
 
-    /// The turn of the callbacks. Where no load of the driver waits, no callback can be its own: then
-    /// the turn is counted, and the lock, which all other drivers want, is not asked.
-    fn callback_turn<G: Gate>(&mut self, alloc: Global, gate: &G) -> Result<bool, AllocError>
+    /// Whether a look tells that a side makes no step. Where no load of the driver waits, no callback can be its own.
+    fn is_idle(&self, side: Side) -> bool {
+        match side {
+            Side::Callback => self.waiting == 0,
+            Side::Transfer => !self.lane.has_item(),
+            Side::Script => !self.lane.has_step(),
+        }
+    }
+
+    /// The turn of a side. Where a look tells that it makes no step, it is counted and no more, and the lock, which all
+    /// other drivers want, is not asked.
+    fn side_turn<G: Gate>(
+        &mut self,
+        alloc: Global,
+        gate: &G,
+        side: Side,
+    ) -> Result<bool, AllocError>
         requires { Works D.seen self.old }
         ensures works { Works D.seen self.new }
         ensures place { place_of D.fixed self.new ≡ place_of D.fixed self.old }
         ensures grew { IfOk result (Grows self.old.log.items self.new.log.items) }
     {
-        if 0 < self.waiting {
-            return self.turn(alloc, gate, Side::Callback);
+        if !self.is_idle(side) {
+            return self.turn(alloc, gate, side);
         }
         gate.at(self.id, self.turns);
         self.turns = self.turns.saturating_add(1);
@@ -116,9 +130,9 @@ impl<'s, D: HubDoor + Drop> Worker<'s, D> {
         ensures place { place_of D.fixed self.new ≡ place_of D.fixed self.old }
         ensures grew { IfOk result (Grows self.old.log.items self.new.log.items) }
     {
-        let called = self.callback_turn(alloc, gate)?;
-        let moved = self.turn(alloc, gate, Side::Transfer)?;
-        let went_on = self.turn(alloc, gate, Side::Script)?;
+        let called = self.side_turn(alloc, gate, Side::Callback)?;
+        let moved = self.side_turn(alloc, gate, Side::Transfer)?;
+        let went_on = self.side_turn(alloc, gate, Side::Script)?;
         Ok(called || moved || went_on)
     }
 
