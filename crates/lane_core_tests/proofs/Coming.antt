@@ -28,10 +28,10 @@ use Rattle.ideal_lane.specs.State.{LaneState}
 use Rattle.ideal_lane.specs.Turns.{Turned, lane_step}
 use Rattle.ideal_lane.specs.View.{view_of}
 use Rattle.ideal_lane.proofs.Own.{turn-own}
-use Rattle.lane_core.specs.declared.turn.Turn.{Turn}
+use Rattle.lane_turns.specs.declared.turn.Turn.{Turn}
 use Rattle.lane_state.specs.Doing.{IsUndone}
 use Rattle.lane_state.specs.Served.{IsServed}
-use Rattle.lane_core.specs.Turning.{IsTurned, is_held}
+use Rattle.lane_turns.specs.Turning.{IsTurned, is_held}
 use Rattle.lane_core_tests.specs.Beside.{Beside, Comes, seen, seen_by}
 
 -- ---- a turn at a hub

@@ -46,20 +46,34 @@ const TAGS: [Actor; 2] = [
     },
 ];
 
-/// The first of two drivers, and its door beside the second, once each has made its tag.
-fn open_beside<'s>(
-    rt: &impl Abort,
-    alloc: Global,
-    scenario: &'s Scenario,
-) -> Result<(Lane<'s>, BesideDoor<'s>), AllocError>
+/// The world of a scenario once each of its two drivers has made its tag.
+fn begun<'s>(alloc: Global, scenario: &'s Scenario) -> Result<World<'s>, AllocError>
     requires { IsValid scenario.now }
-    ensures { IfOk result (λ parts. Serves (seen parts.1) parts.0) }
 {
     let mut world = World::new(alloc, scenario)?;
     for actor in TAGS {
         world.step(alloc, actor)?;
     }
-    let (mut lanes, hub) = world.into_parts();
+    Ok(world)
+}
+
+/// A driver, and its door beside another driver.
+#[derive(Drop)]
+struct Seat<'s> {
+    lane: Lane<'s>,
+    door: BesideDoor<'s>,
+}
+
+/// The first of two drivers, beside the second, once each has made its tag.
+fn open_beside<'s>(
+    rt: &impl Abort,
+    alloc: Global,
+    scenario: &'s Scenario,
+) -> Result<Seat<'s>, AllocError>
+    requires { IsValid scenario.now }
+    ensures { IfOk result (λ seat. Serves (seen seat.door) seat.lane) }
+{
+    let (mut lanes, hub) = begun(alloc, scenario)?.into_parts();
     let Some(second) = lanes.pop() else {
         panic!(rt; "there is no driver")
     };
@@ -70,7 +84,10 @@ fn open_beside<'s>(
         panic!(rt; "there are more drivers")
     };
     let other = Other::new(alloc, second);
-    Ok((first, BesideDoor::new(LaneId(0), hub, other)))
+    Ok(Seat {
+        lane: first,
+        door: BesideDoor::new(LaneId(0), hub, other),
+    })
 }
 
 /// A turn of the first driver: the side of the other that has its turn before the first call, if one has, the side, and
@@ -138,24 +155,26 @@ fn assert_others(rt: &impl Abort, entries: &[JournalEntry], wants: &[Want]) {
     }
 }
 
-/// The first driver and the other make their turns, one between the calls of the other.
-fn play(rt: &impl Abort, alloc: Global, lane: &mut Lane, door: &mut BesideDoor) -> Result<(), Fail>
-    requires { Serves (seen door.old) lane.old }
-{
-    turns(rt, alloc, lane, door, &TAKEN)?;
-    door.comes_next(Some(Side::Script));
-    blocked(rt, alloc, lane, door, Side::Callback)?;
-    turns(rt, alloc, lane, door, &AWAITED)?;
-    assert_others(rt, door.entries(), &OTHERS);
-    Ok(())
+impl Seat<'_> {
+    /// The first driver and the other make their turns, one between the calls of the other.
+    fn play(&mut self, rt: &impl Abort, alloc: Global) -> Result<(), Fail>
+        requires { Serves (seen self.old.door) self.old.lane }
+    {
+        turns(rt, alloc, &mut self.lane, &mut self.door, &TAKEN)?;
+        self.door.comes_next(Some(Side::Script));
+        blocked(rt, alloc, &mut self.lane, &mut self.door, Side::Callback)?;
+        turns(rt, alloc, &mut self.lane, &mut self.door, &AWAITED)?;
+        assert_others(rt, self.door.entries(), &OTHERS);
+        Ok(())
+    }
 }
 
 /// The same, of a scenario.
 fn play_both(rt: &impl Abort, alloc: Global, scenario: &Scenario) -> Result<(), Fail>
     requires { IsValid scenario.now }
 {
-    let (mut lane, mut door) = open_beside(rt, alloc, scenario)?;
-    play(rt, alloc, &mut lane, &mut door)
+    let mut seat = open_beside(rt, alloc, scenario)?;
+    seat.play(rt, alloc)
 }
 
 #[test]

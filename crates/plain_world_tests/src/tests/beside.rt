@@ -5,7 +5,7 @@ ghost use Rattle.busdma_base.specs.Scenarios.Valid.{IsValid};
 
 use crate::tests::forms::{Form, is_of};
 use crate::tests::plain_machine::PlainMachine;
-use busdma_base::{Actor, JournalEntry, Scenario, ZoneId};
+use busdma_base::{Actor, JournalEntry, Scenario, ZoneCounts, ZoneId};
 use lane_core::Turn;
 use plain_lane::PlainTurn;
 use report_text::entry_line;
@@ -46,7 +46,21 @@ struct Beside<'s> {
     steps: u64,
 }
 
-impl Beside<'_> {
+impl<'s> Beside<'s> {
+    /// Both before the first turn.
+    fn new(alloc: Global, scenario: &'s Scenario) -> Result<Beside<'s>, AllocError>
+        requires { IsValid scenario.now }
+    {
+        let world = World::new(alloc, scenario)?;
+        let plain = PlainMachine::new(alloc, scenario)?;
+        Ok(Beside {
+            scenario,
+            world,
+            plain,
+            steps: 0,
+        })
+    }
+
     /// The line of a step.
     fn line(&self, alloc: Global, entry: &JournalEntry) -> Result<String, Fail> {
         let line = entry_line(alloc, self.scenario, self.steps, entry)?;
@@ -127,21 +141,66 @@ impl Beside<'_> {
         panic!(rt; "no rest\n{text}")
     }
 
+    /// The counts of a zone are the plain machine's.
+    fn count_is_alike(
+        &self,
+        rt: &impl Abort,
+        zone: u32,
+        counts: &ZoneCounts,
+        text: &str,
+    ) -> Result<(), Fail> {
+        let want = self.plain.counts(ZoneId(zone))?;
+        assert_eq!(rt; *counts, want, "zone{zone}\n{text}");
+        Ok(())
+    }
+
+    /// The plain machine has no zone of this number.
+    fn no_zone_is_left(&self, rt: &impl Abort, zone: u32, text: &str) -> Result<(), Fail> {
+        let counts = self.plain.counts(ZoneId(zone))?;
+        assert_eq!(rt; counts.alignment, 0, "{text}");
+        Ok(())
+    }
+
     /// The counts of each zone are the plain machine's, which has no more zones.
     fn counts_are_alike(&self, rt: &impl Abort, alloc: Global, text: &str) -> Result<(), Fail> {
         let zones = self.world.zones(alloc)?;
         let mut count = 0;
         for (zone, counts) in (0..u32::MAX).zip(zones.as_slice()) {
-            assert_eq!(rt;
-                *counts,
-                self.plain.counts(ZoneId(zone))?,
-                "zone{zone}\n{text}"
-            );
+            self.count_is_alike(rt, zone, counts, text)?;
             count = zone.saturating_add(1);
         }
-        assert_eq!(rt; self.plain.counts(ZoneId(count))?.alignment, 0, "{text}");
-        Ok(())
+        self.no_zone_is_left(rt, count, text)
     }
+
+    /// The turns of the scenario's order and then rounds to the end, with the counts of zones before the
+    /// rounds and after them.
+    fn play(
+        &mut self,
+        rt: &impl Abort,
+        alloc: Global,
+        text: &str,
+        missing: &mut Vec<Form>,
+    ) -> Result<(), Fail> {
+        let scenario = self.scenario;
+        self.turns(rt, alloc, scenario.order.as_slice(), text, missing)?;
+        self.counts_are_alike(rt, alloc, text)?;
+        self.rounds(rt, alloc, text, missing)?;
+        self.counts_are_alike(rt, alloc, text)
+    }
+}
+
+/// The same of a scenario that was read from the text.
+fn scenario_plays_alike(
+    rt: &impl Abort,
+    alloc: Global,
+    scenario: &Scenario,
+    text: &str,
+    missing: &mut Vec<Form>,
+) -> Result<(), Fail>
+    requires { IsValid scenario.now }
+{
+    let mut beside = Beside::new(alloc, scenario)?;
+    beside.play(rt, alloc, text, missing)
 }
 
 /// Each turn of a scenario's order, and of rounds to the end, is the same in its world and in the
@@ -153,14 +212,5 @@ pub fn plays_alike(
     missing: &mut Vec<Form>,
 ) -> Result<(), Fail> {
     let scenario = read(rt, alloc, text)?;
-    let mut beside = Beside {
-        scenario: &scenario,
-        world: World::new(alloc, &scenario)?,
-        plain: PlainMachine::new(alloc, &scenario)?,
-        steps: 0,
-    };
-    beside.turns(rt, alloc, scenario.order.as_slice(), text, missing)?;
-    beside.counts_are_alike(rt, alloc, text)?;
-    beside.rounds(rt, alloc, text, missing)?;
-    beside.counts_are_alike(rt, alloc, text)
+    scenario_plays_alike(rt, alloc, &scenario, text, missing)
 }

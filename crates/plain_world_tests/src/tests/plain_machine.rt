@@ -1,6 +1,6 @@
 //! Plain drivers over a plain account.
 
-use busdma_base::{Actor, Driver, LaneId, Scenario, ZoneCounts, ZoneId};
+use busdma_base::{Actor, Driver, HubCall, HubReply, LaneId, Scenario, ZoneCounts, ZoneId};
 use plain_account::{PlainAccount, is_entry};
 use plain_lane::{PlainLane, PlainStep, PlainTurn};
 use std::alloc::{AllocError, Global};
@@ -43,15 +43,38 @@ fn free_frames(alloc: Global, scenario: &Scenario) -> Result<Vec<u64>, AllocErro
     Ok(free)
 }
 
+/// The drivers of a scenario, before the first turn, in a memory with this end in frames.
+fn opening_lanes<'s>(
+    alloc: Global,
+    scenario: &'s Scenario,
+    end: u64,
+) -> Result<Vec<PlainLane<'s>>, AllocError> {
+    let mut lanes = Vec::new(alloc);
+    for (number, driver) in (0..u32::MAX).zip(scenario.drivers.as_slice()) {
+        lanes.push(PlainLane::new(alloc, LaneId(number), end, driver))?;
+    }
+    Ok(lanes)
+}
+
+/// A call of a driver to an account, which becomes the next one.
+fn ask(
+    alloc: Global,
+    account: &mut PlainAccount,
+    lane: LaneId,
+    call: HubCall,
+) -> Result<HubReply, AllocError> {
+    let none = PlainAccount::new(alloc, Vec::new(alloc), 0, 0);
+    let (next, reply) = mem::replace(account, none).step(alloc, lane, call)?;
+    *account = next;
+    Ok(reply)
+}
+
 impl<'s> PlainMachine<'s> {
     /// The machine of a scenario, before the first turn.
     pub fn new(alloc: Global, scenario: &'s Scenario) -> Result<PlainMachine<'s>, AllocError> {
         let end = memory_end(scenario);
+        let lanes = opening_lanes(alloc, scenario, end)?;
         let free = free_frames(alloc, scenario)?;
-        let mut lanes = Vec::new(alloc);
-        for (number, driver) in (0..u32::MAX).zip(scenario.drivers.as_slice()) {
-            lanes.push(PlainLane::new(alloc, LaneId(number), end, driver))?;
-        }
         Ok(PlainMachine {
             lanes,
             account: PlainAccount::new(alloc, free, end, scenario.max_bpages),
@@ -67,10 +90,7 @@ impl<'s> PlainMachine<'s> {
             PlainStep::Gives(turn) => return Ok((turn, false)),
             PlainStep::Asks(call) => call,
         };
-        let none = PlainAccount::new(alloc, Vec::new(alloc), 0, 0);
-        let account = mem::replace(&mut self.account, none);
-        let (account, reply) = account.step(alloc, actor.lane, call)?;
-        self.account = account;
+        let reply = ask(alloc, &mut self.account, actor.lane, call)?;
         let turn = lane.go_on(alloc, actor.side, &reply)?;
         Ok((turn, is_entry(call, &reply)))
     }

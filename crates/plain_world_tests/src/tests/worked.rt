@@ -3,7 +3,7 @@
 use crate::tests::beside::read;
 use crate::tests::plain_machine::PlainMachine;
 use busdma_base::{
-    Actor, End, Journal, JournalEntry, LaneId, ListOf, Scenario, Side, ZoneCounts, ZoneId,
+    Actor, ByteList, End, Journal, JournalEntry, LaneId, ListOf, Scenario, Side, ZoneCounts, ZoneId,
 };
 use plain_lane::PlainTurn;
 use report_text::report;
@@ -81,7 +81,8 @@ fn end_of(
             lane: *lane,
             side: Side::Script,
         };
-        match machine.step(alloc, script)?.0 {
+        let (turn, _) = machine.step(alloc, script)?;
+        match turn {
             PlainTurn::Ended => {}
             PlainTurn::Blocked => end = End::Stuck,
             PlainTurn::Stepped(_) => panic!(rt; "the script can step"),
@@ -90,25 +91,60 @@ fn end_of(
     Ok(end)
 }
 
-/// The journal of rounds until a whole round makes no step.
-fn play(rt: &impl Abort, alloc: Global, scenario: &Scenario) -> Result<Journal, AllocError> {
-    let lanes = lanes_of(alloc, scenario)?;
-    let mut machine = PlainMachine::new(alloc, scenario)?;
-    let mut entries = Vec::new(alloc);
+/// The steps of rounds until a whole round makes none.
+fn rounds(
+    alloc: Global,
+    machine: &mut PlainMachine,
+    lanes: &[LaneId],
+    entries: &mut Vec<JournalEntry>,
+) -> Result<(), AllocError> {
     for _ in 0..MOST_ROUNDS {
         let before = entries.len();
-        round(alloc, &mut machine, &lanes, &mut entries)?;
+        round(alloc, machine, lanes, entries)?;
         if entries.len() == before {
             break;
         }
     }
-    let zones = zones_of(alloc, &machine)?;
-    let end = end_of(rt, alloc, &mut machine, &lanes)?;
+    Ok(())
+}
+
+/// The journal of a machine before its first turn.
+fn journal(
+    rt: &impl Abort,
+    alloc: Global,
+    machine: &mut PlainMachine,
+    lanes: &[LaneId],
+) -> Result<Journal, AllocError> {
+    let mut entries = Vec::new(alloc);
+    rounds(alloc, machine, lanes, &mut entries)?;
+    let zones = zones_of(alloc, machine)?;
+    let end = end_of(rt, alloc, machine, lanes)?;
     Ok(Journal {
         entries: ListOf::new(entries),
         zones: ListOf::new(zones),
         end,
     })
+}
+
+/// The journal of rounds until a whole round makes no step.
+fn play(rt: &impl Abort, alloc: Global, scenario: &Scenario) -> Result<Journal, AllocError> {
+    let lanes = lanes_of(alloc, scenario)?;
+    let mut machine = PlainMachine::new(alloc, scenario)?;
+    journal(rt, alloc, &mut machine, &lanes)
+}
+
+/// The report of a scenario.
+fn report_of(rt: &impl Abort, alloc: Global, scenario: &Scenario) -> Result<ByteList, AllocError> {
+    let journal = play(rt, alloc, scenario)?;
+    report(alloc, scenario, &journal)
+}
+
+/// The scenario of a text has the report that is wanted.
+fn assert_report(rt: &impl Abort, alloc: Global, text: &str, want: &str) -> Result<(), Fail> {
+    let scenario = read(rt, alloc, text)?;
+    let lines = report_of(rt, alloc, &scenario)?;
+    assert_eq!(rt; str::from_utf8(lines.as_slice())?, want);
+    Ok(())
 }
 
 const DEFERRED_AND_SERVED: &str = r#"{"frames": [["0x10", 8], ["0x1000", 16]],
@@ -382,10 +418,7 @@ fn worked(rt: HostRuntime) -> Result<(), Fail> {
         (RESENDS_THAT_ARE_REFUSED, RESENDS_THAT_ARE_REFUSED_REPORT),
     ];
     for (text, want) in table.iter() {
-        let scenario = read(&rt, rt.alloc(), text)?;
-        let journal = play(&rt, rt.alloc(), &scenario)?;
-        let lines = report(rt.alloc(), &scenario, &journal)?;
-        assert_eq!(rt; str::from_utf8(lines.as_slice())?, *want);
+        assert_report(&rt, rt.alloc(), text, want)?;
     }
     Ok(())
 }

@@ -1,6 +1,6 @@
 //! Tags.
 
-use crate::tests::draft::Draft;
+use crate::draft::Draft;
 use std::alloc::AllocError;
 
 /// A limit of a tag, and what it is in a scenario; no text where it is left out.
@@ -105,17 +105,26 @@ const WRONG: [&str; 4] = [
 ];
 
 impl Draft {
+    /// A limit that no tag can have.
+    fn push_wrong(&mut self, wrong: &[&str]) -> Result<(), AllocError> {
+        let wrong = self.generator.text(wrong);
+        self.push_texts(&[", ", wrong])
+    }
+
+    fn push_parent(&mut self) -> Result<(), AllocError> {
+        self.text.push_str(r#", "parent": "#)?;
+        self.push_tag()
+    }
+
     /// A tag, in some cases under a parent.
     pub fn push_tag_made(&mut self) -> Result<(), AllocError> {
-        let number = self.tags;
-        write!(self.text, r#"{{"op": "tag", "name": "t{number}""#)?;
+        self.push_number(r#"{"op": "tag", "name": "t"#, self.tags)?;
+        self.text.push_str("\"")?;
         if self.tags > 0 && self.generator.one_in(3) {
-            self.text.push_str(r#", "parent": "#)?;
-            self.push_tag()?;
+            self.push_parent()?;
         }
         if self.tags > 0 && self.generator.one_in(8) {
-            let wrong = self.generator.text(&WRONG);
-            write!(self.text, ", {wrong}")?;
+            self.push_wrong(&WRONG)?;
         } else {
             self.push_limits(&LIMITS)?;
         }
@@ -125,11 +134,10 @@ impl Draft {
 
     /// An IOMMU tag, in few cases with limits that no tag can have.
     pub fn push_iommu_tag_made(&mut self) -> Result<(), AllocError> {
-        let number = self.iommu_tags;
-        write!(self.text, r#"{{"op": "iommu_tag", "name": "u{number}""#)?;
+        self.push_number(r#"{"op": "iommu_tag", "name": "u"#, self.iommu_tags)?;
+        self.text.push_str("\"")?;
         if self.generator.one_in(8) {
-            let wrong = self.generator.text(&WRONG[1..]);
-            write!(self.text, ", {wrong}")?;
+            self.push_wrong(&WRONG[1..])?;
         } else {
             self.push_limits(&SPACE_LIMITS)?;
         }
@@ -141,8 +149,7 @@ impl Draft {
         for limit in limits {
             let value = self.generator.text(&limit.values);
             if !value.is_empty() {
-                let name = limit.name;
-                write!(self.text, r#", "{name}": {value}"#)?;
+                self.push_texts(&[", \"", limit.name, "\": ", value])?;
             }
         }
         Ok(())

@@ -1,6 +1,6 @@
 //! The driver's accesses to its memory.
 
-use crate::tests::draft::Draft;
+use crate::draft::Draft;
 use std::alloc::AllocError;
 
 /// How many bytes the driver reads.
@@ -14,19 +14,21 @@ impl Draft {
     fn push_place(&mut self) -> Result<(), AllocError> {
         if self.memories > 0 && self.generator.one_in(3) {
             let off = self.generator.number(&OFFSETS);
+            let memory = self.memory_map();
             self.text.push_str(r#", "mem": "#)?;
-            self.push_memory()?;
-            return write!(self.text, r#", "off": {off}"#);
+            self.push_map(memory)?;
+            return self.push_number(r#", "off": "#, off);
         }
         let va = self.address();
-        write!(self.text, r#", "va": {va}"#)
+        self.push_number(r#", "va": "#, va)
     }
 
     pub fn push_cpu_read(&mut self) -> Result<(), AllocError> {
         let len = self.generator.number(&LENGTHS);
         self.text.push_str(r#"{"op": "cpu_read""#)?;
         self.push_place()?;
-        write!(self.text, r#", "len": {len}}}"#)
+        self.push_number(r#", "len": "#, len)?;
+        self.text.push_str("}")
     }
 
     pub fn push_cpu_write(&mut self) -> Result<(), AllocError> {

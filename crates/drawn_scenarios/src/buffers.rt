@@ -1,6 +1,6 @@
 //! Loads of every kind of buffer.
 
-use crate::tests::draft::Draft;
+use crate::draft::{Draft, Map};
 use std::alloc::AllocError;
 
 /// How many bytes a load has.
@@ -15,12 +15,12 @@ const FLAGS: [&str; 4] = ["", "", "", r#", "flags": ["NOWAIT"]"#];
 impl Draft {
     fn push_len(&mut self) -> Result<(), AllocError> {
         let len = self.generator.number(&LENGTHS);
-        write!(self.text, r#", "len": {len}"#)
+        self.push_number(r#", "len": "#, len)
     }
 
     fn push_va(&mut self) -> Result<(), AllocError> {
         let va = self.address();
-        write!(self.text, r#", "va": {va}"#)
+        self.push_number(r#", "va": "#, va)
     }
 
     fn push_entries(&mut self) -> Result<(), AllocError> {
@@ -28,8 +28,7 @@ impl Draft {
         for place in 0..self.generator.below(4) {
             let va = self.address();
             let len = self.generator.number(&PART_LENGTHS);
-            self.push_comma(place)?;
-            write!(self.text, r#"{{"va": {va}, "len": {len}}}"#)?;
+            self.push_part(place, va, len)?;
         }
         self.text.push_str("]")
     }
@@ -39,52 +38,64 @@ impl Draft {
         for place in 0..self.generator.below(4) {
             let frame = self.generator.number(&self.frames);
             self.push_comma(place)?;
-            write!(self.text, "{frame}")?;
+            self.push_number("", frame)?;
         }
         self.text.push_str("]")
     }
 
+    fn push_mapped_bio(&mut self) -> Result<(), AllocError> {
+        self.text.push_str(r#""kind": "mapped""#)?;
+        self.push_va()?;
+        self.push_len()
+    }
+
+    fn push_vector_bio(&mut self) -> Result<(), AllocError> {
+        self.text.push_str(r#""kind": "vector""#)?;
+        self.push_entries()
+    }
+
+    fn push_unmapped_bio(&mut self) -> Result<(), AllocError> {
+        let off = self.generator.below(4096);
+        self.text.push_str(r#""kind": "unmapped""#)?;
+        self.push_frames()?;
+        self.push_number(r#", "off": "#, off)?;
+        self.push_len()
+    }
+
     fn push_bio(&mut self) -> Result<(), AllocError> {
         match self.generator.below(3) {
-            0 => {
-                self.text.push_str(r#""kind": "mapped""#)?;
-                self.push_va()?;
-                self.push_len()
-            }
-            1 => {
-                self.text.push_str(r#""kind": "vector""#)?;
-                self.push_entries()
-            }
-            _ => {
-                let off = self.generator.below(4096);
-                self.text.push_str(r#""kind": "unmapped""#)?;
-                self.push_frames()?;
-                write!(self.text, r#", "off": {off}"#)?;
-                self.push_len()
-            }
+            0 => self.push_mapped_bio(),
+            1 => self.push_vector_bio(),
+            _ => self.push_unmapped_bio(),
         }
     }
 
-    fn push_flags(&mut self) -> Result<(), AllocError> {
+    /// The flags and the items of a load of this map, with which the load ends.
+    fn push_flags_and_items(&mut self, map: Map) -> Result<(), AllocError> {
         let flags = self.generator.text(&FLAGS);
-        self.text.push_str(flags)
+        self.text.push_str(flags)?;
+        self.push_items(map)
+    }
+
+    /// The word of a load and its map.
+    fn push_load_by(&mut self, word: &str, map: Map) -> Result<(), AllocError> {
+        self.push_texts(&[r#"{"op": ""#, word, r#"", "map": "#])?;
+        self.push_map(map)
     }
 
     /// A load of a memory, in few cases by a map that is not its own.
     fn push_load_memory(&mut self) -> Result<(), AllocError> {
-        let number = self.generator.below(self.memories);
-        let memory = format!(in self.alloc; r#""k{number}""#)?;
-        self.text.push_str(r#"{"op": "load", "map": "#)?;
-        if self.generator.one_in(8) {
-            self.push_map()?;
+        let memory = self.memory_map();
+        let map = if self.generator.one_in(8) {
+            self.map()
         } else {
-            self.text.push_str(memory.as_str())?;
-        }
-        write!(self.text, r#", "mem": {memory}"#)?;
+            memory
+        };
+        self.push_load_by("load", map)?;
+        self.text.push_str(r#", "mem": "#)?;
+        self.push_map(memory)?;
         self.push_len()?;
-        self.push_flags()?;
-        self.push_items(memory.as_str())?;
-        self.text.push_str("}")
+        self.push_flags_and_items(memory)
     }
 
     /// A load of bytes that follow one another, of the driver's pages or of a memory.
@@ -97,42 +108,36 @@ impl Draft {
     }
 
     fn push_load_pages(&mut self) -> Result<(), AllocError> {
-        let map = self.map_name()?;
-        write!(self.text, r#"{{"op": "load", "map": {map}"#)?;
+        let map = self.map();
+        self.push_load_by("load", map)?;
         self.push_va()?;
         self.push_len()?;
-        self.push_flags()?;
-        self.push_items(map.as_str())?;
-        self.text.push_str("}")
+        self.push_flags_and_items(map)
     }
 
     /// A load of a vector.
     pub fn push_load_vector(&mut self) -> Result<(), AllocError> {
-        let map = self.map_name()?;
-        write!(self.text, r#"{{"op": "load_vector", "map": {map}"#)?;
+        let map = self.map();
+        self.push_load_by("load_vector", map)?;
         self.push_entries()?;
-        self.push_flags()?;
-        self.push_items(map.as_str())?;
-        self.text.push_str("}")
+        self.push_flags_and_items(map)
     }
 
     /// A load of an mbuf chain.
     pub fn push_load_mbuf(&mut self) -> Result<(), AllocError> {
-        let map = self.map_name()?;
-        write!(self.text, r#"{{"op": "load_mbuf", "map": {map}"#)?;
+        let map = self.map();
+        self.push_load_by("load_mbuf", map)?;
         self.push_entries()?;
-        self.push_items(map.as_str())?;
-        self.text.push_str("}")
+        self.push_items(map)
     }
 
     /// A load of a bio.
     pub fn push_load_bio(&mut self) -> Result<(), AllocError> {
-        let map = self.map_name()?;
-        write!(self.text, r#"{{"op": "load_bio", "map": {map}, "bio": {{"#)?;
+        let map = self.map();
+        self.push_load_by("load_bio", map)?;
+        self.text.push_str(r#", "bio": {"#)?;
         self.push_bio()?;
         self.text.push_str("}")?;
-        self.push_flags()?;
-        self.push_items(map.as_str())?;
-        self.text.push_str("}")
+        self.push_flags_and_items(map)
     }
 }

@@ -1,7 +1,7 @@
 //! Rings of descriptors: their memory, the loads that are posted to them, and the steps of their
 //! devices.
 
-use crate::tests::draft::Draft;
+use crate::draft::Draft;
 use std::alloc::AllocError;
 
 /// The tag of the memory, and of two maps whose loads are posted. These bounce in one of two cases.
@@ -74,13 +74,13 @@ const LENT: [&str; 4] = [
 
 impl Draft {
     fn push_ring_made(&mut self) -> Result<(), AllocError> {
-        let number = self.rings;
         let slots = self.generator.number(&SLOTS);
+        self.push_numbers(&[
+            (r#"{"op": "ring", "name": "r"#, self.rings),
+            (r#"", "mem": "q", "slots": "#, slots),
+        ])?;
         self.rings = self.rings.saturating_add(1);
-        write!(
-            self.text,
-            r#"{{"op": "ring", "name": "r{number}", "mem": "q", "slots": {slots}}}"#
-        )
+        self.text.push_str("}")
     }
 
     /// A memory that is loaded with a ring in it, and two maps, behind other operations.
@@ -88,50 +88,64 @@ impl Draft {
         let tag = self.generator.text(&TAGS);
         let memory = self.generator.text(&MEMORIES);
         let load = self.generator.text(&LOADS);
-        write!(self.text, ", {tag}, {memory}, {load}, {MAPS}, ")?;
+        self.push_texts(&[", ", tag, ", ", memory, ", ", load, ", ", MAPS, ", "])?;
         self.push_ring_made()
     }
 
     fn push_ring_post(&mut self, map: &str) -> Result<(), AllocError> {
         let ring = self.generator.below(self.rings);
         let slot = self.generator.number(&POSTED_SLOTS);
+        self.push_numbers(&[
+            (r#"{"op": "ring_post", "ring": "r"#, ring),
+            (r#"", "slot": "#, slot),
+        ])?;
         let off = self.generator.number(&OFFSETS);
         let len = self.generator.number(&LENGTHS);
         let kind = self.generator.up_to(2);
-        write!(
-            self.text,
-            r#"{{"op": "ring_post", "ring": "r{ring}", "slot": {slot}, "map": "{map}", "off": {off}, "len": {len}, "kind": {kind}, "fill": 7}}"#
-        )
+        self.push_texts(&[r#", "map": ""#, map, "\""])?;
+        self.push_numbers(&[
+            (r#", "off": "#, off),
+            (r#", "len": "#, len),
+            (r#", "kind": "#, kind),
+        ])?;
+        self.text.push_str(r#", "fill": 7}"#)
     }
 
     fn push_kick(&mut self) -> Result<(), AllocError> {
         let ring = self.generator.below(self.rings);
         let count = self.generator.up_to(3);
-        write!(
-            self.text,
-            r#"{{"op": "kick", "ring": "r{ring}", "count": {count}}}"#
-        )
+        self.push_numbers(&[
+            (r#"{"op": "kick", "ring": "r"#, ring),
+            (r#"", "count": "#, count),
+        ])?;
+        self.text.push_str("}")
     }
 
     /// A load by a map that is made idle, whose bytes are lent.
     fn push_load_to_post(&mut self, map: &str) -> Result<(), AllocError> {
         let ops = self.generator.text(&LENT);
         let va = self.address();
-        write!(
-            self.text,
-            r#"{{"op": "unload", "map": "{map}"}}, {{"op": "load", "map": "{map}", "va": {va}, "len": 20, "then": [{{"op": "sync", "map": "{map}", "ops": [{ops}]}}]}}, "#
-        )
+        self.push_texts(&[r#"{"op": "unload", "map": ""#, map, r#""}, "#])?;
+        self.push_texts(&[r#"{"op": "load", "map": ""#, map, "\""])?;
+        self.push_number(r#", "va": "#, va)?;
+        self.push_texts(&[
+            r#", "len": 20, "then": [{"op": "sync", "map": ""#,
+            map,
+            "\"",
+        ])?;
+        self.push_texts(&[r#", "ops": ["#, ops, "]}]}, "])
     }
 
     /// In some cases what is posted cannot be done: its load is over, or its bytes are not lent,
     /// or another descriptor is there.
     fn push_trouble(&mut self, map: &str) -> Result<(), AllocError> {
         match self.generator.below(8) {
-            0 => write!(self.text, r#"{{"op": "unload", "map": "{map}"}}, "#),
-            1 => write!(
-                self.text,
-                r#"{{"op": "sync", "map": "{map}", "ops": ["POSTREAD", "POSTWRITE"]}}, "#
-            ),
+            0 => self.push_texts(&[r#"{"op": "unload", "map": ""#, map, r#""}, "#]),
+            1 => self.push_texts(&[
+                r#"{"op": "sync", "map": ""#,
+                map,
+                r#"", "ops": ["POSTREAD", "POSTWRITE"]}, "#,
+            ]),
             2 => self.text.push_str(WRONG),
             _ => Ok(()),
         }
@@ -147,21 +161,26 @@ impl Draft {
         self.push_kick()
     }
 
+    /// The end of the memory, and a ring in it.
+    fn push_ring_freed(&mut self) -> Result<(), AllocError> {
+        self.text.push_str(FREED)?;
+        self.push_ring_made()
+    }
+
+    fn push_other(&mut self) -> Result<(), AllocError> {
+        let other = self.generator.text(&OTHERS);
+        self.text.push_str(other)
+    }
+
     /// An operation on rings, on their memory or on what is posted to them.
     pub fn push_ring_op(&mut self) -> Result<(), AllocError> {
         let map = self.generator.text(&POSTED_MAPS);
         match self.generator.below(16) {
-            0 => {
-                self.text.push_str(FREED)?;
-                self.push_ring_made()
-            }
+            0 => self.push_ring_freed(),
             1..=2 => self.push_ring_post(map),
             3..=4 => self.push_kick(),
             5..=12 => self.push_ring_round(),
-            _ => {
-                let other = self.generator.text(&OTHERS);
-                self.text.push_str(other)
-            }
+            _ => self.push_other(),
         }
     }
 }

@@ -1,6 +1,6 @@
 //! IOMMU tags with their maps, the loads of these, and what the devices read and write there.
 
-use crate::tests::draft::Draft;
+use crate::draft::{Draft, Map};
 use std::alloc::AllocError;
 
 /// How many bytes a load has.
@@ -35,8 +35,8 @@ const READ_LENGTHS: [u64; 8] = [0, 1, 2, 4, 4, 8, 8, 16];
 impl Draft {
     /// A map of an IOMMU tag.
     fn push_device_map_made(&mut self) -> Result<(), AllocError> {
-        let number = self.device_maps;
-        write!(self.text, r#"{{"op": "map", "name": "d{number}", "tag": "#)?;
+        self.push_number(r#"{"op": "map", "name": "d"#, self.device_maps)?;
+        self.text.push_str(r#"", "tag": "#)?;
         self.push_iommu_tag()?;
         self.device_maps = self.device_maps.saturating_add(1);
         self.text.push_str("}")
@@ -61,7 +61,9 @@ impl Draft {
             self.generator.number(&ADDRESSES)
         };
         self.push_iommu_tag()?;
-        write!(self.text, r#", "addr": "0x{addr:x}""#)
+        self.text.push_str(r#", "addr": "0x"#)?;
+        self.push_hex(addr)?;
+        self.text.push_str("\"")
     }
 
     /// The device of an IOMMU tag reads bytes of its address space.
@@ -69,7 +71,8 @@ impl Draft {
         let len = self.generator.number(&READ_LENGTHS);
         self.text.push_str(r#"{"op": "dev_read_at", "tag": "#)?;
         self.push_addr(here)?;
-        write!(self.text, r#", "len": {len}}}"#)
+        self.push_number(r#", "len": "#, len)?;
+        self.text.push_str("}")
     }
 
     /// It writes bytes there.
@@ -88,41 +91,40 @@ impl Draft {
         }
     }
 
+    /// A sync of a load, with a comma behind it.
+    fn push_sync_before(&mut self, map: Map, ops: &str) -> Result<(), AllocError> {
+        self.push_sync(Some(map), ops)?;
+        self.text.push_str(", ")
+    }
+
     /// Bytes go to the device, which reads some twice: while they are lent and after that.
-    fn push_space_going(&mut self, map: &str, here: u64) -> Result<(), AllocError> {
-        self.push_sync(map, r#""PREWRITE""#)?;
-        self.text.push_str(", ")?;
+    fn push_space_going(&mut self, map: Map, here: u64) -> Result<(), AllocError> {
+        self.push_sync_before(map, r#""PREWRITE""#)?;
         self.push_dev_read_at(here)?;
         self.text.push_str(", ")?;
-        self.push_sync(map, r#""POSTWRITE""#)?;
-        self.text.push_str(", ")?;
+        self.push_sync_before(map, r#""POSTWRITE""#)?;
         self.push_dev_read_at(here)
     }
 
     /// Bytes come from the device, which writes some twice: while they are lent and after that.
-    fn push_space_coming(&mut self, map: &str, here: u64) -> Result<(), AllocError> {
-        self.push_sync(map, r#""PREREAD""#)?;
-        self.text.push_str(", ")?;
+    fn push_space_coming(&mut self, map: Map, here: u64) -> Result<(), AllocError> {
+        self.push_sync_before(map, r#""PREREAD""#)?;
         self.push_dev_write_at(here)?;
         self.text.push_str(", ")?;
-        self.push_sync(map, r#""POSTREAD""#)?;
-        self.text.push_str(", ")?;
+        self.push_sync_before(map, r#""POSTREAD""#)?;
         self.push_dev_write_at(here)
     }
 
     /// The device reads bytes that it has not written.
-    fn push_space_stale(&mut self, map: &str, here: u64) -> Result<(), AllocError> {
-        self.push_sync(map, r#""PREREAD""#)?;
-        self.text.push_str(", ")?;
-        self.push_sync(map, r#""POSTREAD""#)?;
-        self.text.push_str(", ")?;
-        self.push_sync(map, r#""PREWRITE""#)?;
-        self.text.push_str(", ")?;
+    fn push_space_stale(&mut self, map: Map, here: u64) -> Result<(), AllocError> {
+        self.push_sync_before(map, r#""PREREAD""#)?;
+        self.push_sync_before(map, r#""POSTREAD""#)?;
+        self.push_sync_before(map, r#""PREWRITE""#)?;
         self.push_dev_read_at(here)
     }
 
     /// The items of a load of a map of an IOMMU tag, which begins here where its run is the first.
-    fn push_space_items(&mut self, map: &str, here: u64) -> Result<(), AllocError> {
+    fn push_space_items(&mut self, map: Map, here: u64) -> Result<(), AllocError> {
         match self.generator.below(8) {
             0..=1 => self.push_space_going(map, here),
             2..=3 => self.push_space_coming(map, here),
@@ -141,50 +143,52 @@ impl Draft {
         }
     }
 
-    /// A load of bytes that follow one another by this map of an IOMMU tag.
-    fn push_load_of(&mut self, map: &str) -> Result<(), AllocError> {
+    /// A load by a map of an IOMMU tag, up to its items.
+    fn push_load_before(&mut self, map: Map, va: u64, len: u64) -> Result<(), AllocError> {
+        self.text.push_str(r#"{"op": "load", "map": "#)?;
+        self.push_map(map)?;
+        self.push_numbers(&[(r#", "va": "#, va), (r#", "len": "#, len)])?;
+        self.text.push_str(r#", "then": ["#)
+    }
+
+    /// A load of bytes that follow one another by a map of an IOMMU tag.
+    fn push_device_load(&mut self) -> Result<(), AllocError> {
+        let map = self.device_map();
         let va = self.load_address();
         let len = self.generator.number(&LENGTHS);
-        write!(
-            self.text,
-            r#"{{"op": "load", "map": {map}, "va": {va}, "len": {len}, "then": ["#
-        )?;
+        self.push_load_before(map, va, len)?;
         self.push_space_items(map, FIRST_PAGE | (va & 0xfff))?;
         self.text.push_str("]}")
     }
 
-    /// A load by a map of an IOMMU tag.
-    fn push_device_load(&mut self) -> Result<(), AllocError> {
-        let map = self.device_map_name()?;
-        self.push_load_of(map.as_str())
+    fn push_device_unload(&mut self) -> Result<(), AllocError> {
+        let map = self.device_map();
+        self.push_op_of("unload", map)
     }
 
-    fn push_device_unload(&mut self) -> Result<(), AllocError> {
-        let map = self.device_map_name()?;
-        write!(self.text, r#"{{"op": "unload", "map": {map}}}"#)
+    /// A load of 16 bytes, which are lent to the device.
+    fn push_lent_load(&mut self, map: Map, va: u64) -> Result<(), AllocError> {
+        self.push_load_before(map, va, 16)?;
+        self.push_sync(Some(map), r#""PREWRITE""#)
+    }
+
+    /// The device reads over the seam of the first two pages that loads take.
+    fn push_seam_read(&mut self) -> Result<(), AllocError> {
+        self.text.push_str(r#", {"op": "dev_read_at", "tag": "#)?;
+        self.push_iommu_tag()?;
+        self.text.push_str(r#", "addr": "0x1ffc", "len": 8}]}, "#)
     }
 
     /// Two loads of an end of a page and of the beginning of one, which the device may read over the
     /// seam of their runs; and the unload of one.
     fn push_seam(&mut self) -> Result<(), AllocError> {
-        let first = self.device_map_name()?;
-        let second = self.device_map_name()?;
+        let first = self.device_map();
+        let second = self.device_map();
         let va = self.page();
-        let end = va.saturating_add(4080);
-        write!(
-            self.text,
-            r#"{{"op": "load", "map": {first}, "va": {end}, "len": 16, "then": ["#
-        )?;
-        self.push_sync(first.as_str(), r#""PREWRITE""#)?;
-        write!(
-            self.text,
-            r#"]}}, {{"op": "load", "map": {second}, "va": {va}, "len": 16, "then": ["#
-        )?;
-        self.push_sync(second.as_str(), r#""PREWRITE""#)?;
-        self.text.push_str(r#", {"op": "dev_read_at", "tag": "#)?;
-        self.push_iommu_tag()?;
-        self.text.push_str(r#", "addr": "0x1ffc", "len": 8}"#)?;
+        self.push_lent_load(first, va.saturating_add(4080))?;
         self.text.push_str("]}, ")?;
+        self.push_lent_load(second, va)?;
+        self.push_seam_read()?;
         self.push_device_unload()
     }
 
@@ -198,10 +202,8 @@ impl Draft {
     fn push_iommu_tag_unused(&mut self) -> Result<(), AllocError> {
         let number = self.iommu_tags;
         self.push_iommu_tag_made()?;
-        write!(
-            self.text,
-            r#", {{"op": "tag_destroy", "tag": "u{number}"}}"#
-        )
+        self.push_number(r#", {"op": "tag_destroy", "tag": "u"#, number)?;
+        self.text.push_str("\"}")
     }
 
     /// An operation on an IOMMU tag or on a map of one.

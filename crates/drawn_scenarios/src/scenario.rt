@@ -1,6 +1,6 @@
 //! Scenarios, as JSON texts.
 
-use crate::tests::draft::Draft;
+use crate::draft::Draft;
 use std::alloc::{AllocError, Global};
 
 /// The sides of a driver, by their letters in an order. Scripts have more turns than others.
@@ -12,11 +12,11 @@ impl Draft {
         let va = self.end_of_pages();
         let before = self.frames.len() as u64;
         self.push_comma(before)?;
-        write!(self.text, "[{va}, {frame}, {count}]")?;
+        self.push_numbers(&[("[", va), (", ", frame), (", ", count)])?;
         for place in 0..count {
             self.frames.push(frame.saturating_add(place))?;
         }
-        Ok(())
+        self.text.push_str("]")
     }
 
     /// The pages of the driver with this number: high frames that follow one another, in some cases
@@ -45,32 +45,50 @@ impl Draft {
         self.text.push_str("]}")
     }
 
+    /// The turn of a side of one of so many drivers.
+    fn push_turn(&mut self, drivers: u64) -> Result<(), AllocError> {
+        let side = self.generator.text(&SIDES);
+        let lane = self.generator.below(drivers);
+        self.push_texts(&["\"", side])?;
+        self.push_number("", lane)?;
+        self.text.push_str("\"")
+    }
+
     /// The turns of so many drivers, in an order that is drawn.
     fn push_order(&mut self, drivers: u64) -> Result<(), AllocError> {
         for place in 0..self.generator.below(drivers.saturating_mul(60)) {
-            let side = self.generator.text(&SIDES);
-            let lane = self.generator.below(drivers);
             self.push_comma(place)?;
-            write!(self.text, "\"{side}{lane}\"")?;
+            self.push_turn(drivers)?;
         }
         Ok(())
     }
+
+    fn push_drivers(&mut self, drivers: u64) -> Result<(), AllocError> {
+        for driver in 0..drivers {
+            self.push_driver(driver)?;
+        }
+        Ok(())
+    }
+
+    /// The scenario of so many drivers. Its machine has few low frames.
+    fn push_scenario(&mut self, drivers: u64) -> Result<(), AllocError> {
+        let low = self.generator.up_to(4).saturating_add(4);
+        let most = self.generator.up_to(4);
+        self.push_numbers(&[
+            (r#"{"frames": [[16, "#, low),
+            (r#"], [4096, 40]], "max_bpages": "#, most),
+        ])?;
+        self.text.push_str(r#", "drivers": ["#)?;
+        self.push_drivers(drivers)?;
+        self.text.push_str("],\n \"order\": [")?;
+        self.push_order(drivers)?;
+        self.text.push_str("]}\n")
+    }
 }
 
-/// The scenario of so many drivers with this number. Its machine has few low frames.
+/// The scenario of so many drivers with this number.
 pub fn scenario_text(alloc: Global, drivers: u64, number: u64) -> Result<String, AllocError> {
     let mut draft = Draft::new(alloc, number.saturating_mul(16).saturating_add(drivers));
-    let low = draft.generator.up_to(4).saturating_add(4);
-    let most = draft.generator.up_to(4);
-    write!(
-        draft.text,
-        r#"{{"frames": [[16, {low}], [4096, 40]], "max_bpages": {most}, "drivers": ["#
-    )?;
-    for driver in 0..drivers {
-        draft.push_driver(driver)?;
-    }
-    draft.text.push_str("],\n \"order\": [")?;
-    draft.push_order(drivers)?;
-    draft.text.push_str("]}\n")?;
+    draft.push_scenario(drivers)?;
     Ok(draft.text)
 }

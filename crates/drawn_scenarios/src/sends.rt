@@ -1,6 +1,6 @@
 //! Sends.
 
-use crate::tests::draft::{Draft, FIRST_PAGE};
+use crate::draft::{Draft, FIRST_PAGE, Map};
 use std::alloc::AllocError;
 
 /// A tag with which most chains have too many segments. Its maps never bounce, or only bytes of
@@ -46,6 +46,9 @@ const LENT: [u64; 8] = [
     0x10_0000, 0x10_0000, 0x10_0000, 0x10_2000, 0x10_2000, 0x10_2ff8, 0x10_2ff8, 0x10_3000,
 ];
 
+/// The load of them, up to its address.
+const LOAD_TO_LEND: &str = r#"{"op": "unload", "map": "l"}, {"op": "load", "map": "l", "va": "#;
+
 /// What is done with them.
 const LENDINGS: [&str; 4] = [
     r#"{"op": "sync", "map": "l", "ops": ["PREREAD"]}"#,
@@ -59,47 +62,48 @@ impl Draft {
     pub fn push_sends(&mut self) -> Result<(), AllocError> {
         let tag = self.generator.text(&TAGS);
         self.sends = true;
-        write!(self.text, ", {tag}, {MAPS}")
+        self.push_texts(&[", ", tag, ", ", MAPS])
     }
 
     /// Bytes that a chain or a cluster may have are loaded, and lent or stale.
     fn push_lending(&mut self) -> Result<(), AllocError> {
         let va = self.generator.number(&LENT);
         let items = self.generator.text(&LENDINGS);
-        write!(
-            self.text,
-            r#"{{"op": "unload", "map": "l"}}, {{"op": "load", "map": "l", "va": {va}, "len": 16, "flags": ["NOWAIT"], "then": [{items}]}}, {{"op": "await", "map": "l"}}, "#
-        )
+        self.push_number(LOAD_TO_LEND, va)?;
+        self.push_texts(&[
+            r#", "len": 16, "flags": ["NOWAIT"], "then": ["#,
+            items,
+            r#"]}, {"op": "await", "map": "l"}, "#,
+        ])
     }
 
     fn push_chain(&mut self) -> Result<(), AllocError> {
         for place in 0..self.generator.up_to(4) {
             let va = FIRST_PAGE | self.generator.number(&OFFSETS);
             let len = self.generator.number(&LENGTHS);
-            self.push_comma(place)?;
-            write!(self.text, r#"{{"va": {va}, "len": {len}}}"#)?;
+            self.push_part(place, va, len)?;
         }
         Ok(())
     }
 
     fn push_clusters(&mut self) -> Result<(), AllocError> {
         let clusters = self.generator.text(&CLUSTERS);
-        write!(self.text, r#", "clusters": [{clusters}]"#)
+        self.push_texts(&[r#"], "clusters": ["#, clusters, "]"])
     }
 
-    fn push_send_of(&mut self, map: &str) -> Result<(), AllocError> {
-        write!(self.text, r#"{{"op": "send", "map": {map}, "entries": ["#)?;
+    fn push_send_of(&mut self, map: Map) -> Result<(), AllocError> {
+        self.text.push_str(r#"{"op": "send", "map": "#)?;
+        self.push_map(map)?;
+        self.text.push_str(r#", "entries": ["#)?;
         self.push_chain()?;
-        self.text.push_str("]")?;
         self.push_clusters()?;
-        self.push_items(map)?;
-        self.text.push_str("}")
+        self.push_items(map)
     }
 
     /// A send by any map.
     pub fn push_any_send(&mut self) -> Result<(), AllocError> {
-        let map = self.map_name()?;
-        self.push_send_of(map.as_str())
+        let map = self.map();
+        self.push_send_of(map)
     }
 
     /// A send by the map that sends, in half of the cases of bytes that may be lent or stale.
@@ -108,6 +112,6 @@ impl Draft {
             self.push_lending()?;
         }
         self.text.push_str(r#"{"op": "unload", "map": "s"}, "#)?;
-        self.push_send_of(r#""s""#)
+        self.push_send_of(Map::Sender)
     }
 }

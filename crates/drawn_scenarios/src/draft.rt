@@ -1,6 +1,6 @@
 //! A scenario that is being drawn: its text so far, and what the script that it ends with has.
 
-use crate::tests::generator::Generator;
+use crate::generator::Generator;
 use std::alloc::{AllocError, Global};
 
 /// The virtual address of a driver's first page. Its pages follow one another.
@@ -9,12 +9,24 @@ pub const FIRST_PAGE: u64 = 0x10_0000;
 /// Where a load or an access begins in a page.
 const OFFSETS: [u64; 8] = [0, 0, 0, 4, 8, 4080, 4088, 4092];
 
+/// A map of a driver.
+#[derive(Clone, Copy)]
+pub enum Map {
+    /// One of a tag that is no IOMMU tag, by its number.
+    Plain(u64),
+    /// One of an IOMMU tag.
+    Device(u64),
+    /// A memory's own.
+    Memory(u64),
+    /// The one that sends.
+    Sender,
+}
+
 /// The text of a scenario so far; how many tags, maps, memories, IOMMU tags, maps of these and rings the
 /// last script has made, each named by its number; whether it has what sends need; and the frames of its
 /// driver's pages, in the order of their addresses.
 #[derive(Drop)]
 pub struct Draft {
-    pub alloc: Global,
     pub text: String,
     pub generator: Generator,
     pub tags: u64,
@@ -31,7 +43,6 @@ impl Draft {
     /// No text, to be drawn by the numbers of a seed.
     pub fn new(alloc: Global, seed: u64) -> Draft {
         Draft {
-            alloc,
             text: String::new(alloc),
             generator: Generator::new(seed),
             tags: 0,
@@ -84,16 +95,75 @@ impl Draft {
             .saturating_add(offset)
     }
 
+    /// A map of an IOMMU tag.
+    pub fn device_map(&mut self) -> Map {
+        Map::Device(self.generator.below(self.device_maps))
+    }
+
+    /// A map that is no memory's, in few cases one of an IOMMU tag.
+    pub fn map(&mut self) -> Map {
+        if self.device_maps > 0 && self.generator.one_in(6) {
+            return self.device_map();
+        }
+        Map::Plain(self.generator.below(self.maps))
+    }
+
+    /// A memory's own map.
+    pub fn memory_map(&mut self) -> Map {
+        Map::Memory(self.generator.below(self.memories))
+    }
+
+    /// A map, in few cases a memory's.
+    pub fn any_map(&mut self) -> Map {
+        if self.memories > 0 && self.generator.one_in(4) {
+            return self.memory_map();
+        }
+        self.map()
+    }
+
+    /// Texts, one behind the other.
+    pub fn push_texts(&mut self, texts: &[&str]) -> Result<(), AllocError> {
+        for text in texts {
+            self.text.push_str(text)?;
+        }
+        Ok(())
+    }
+
+    /// A number behind a text.
+    pub fn push_number(&mut self, text: &str, number: u64) -> Result<(), AllocError> {
+        self.text.push_str(text)?;
+        write!(self.text, "{number}")
+    }
+
+    /// Numbers, each behind its text.
+    pub fn push_numbers(&mut self, fields: &[(&str, u64)]) -> Result<(), AllocError> {
+        for (text, number) in fields {
+            self.push_number(text, *number)?;
+        }
+        Ok(())
+    }
+
+    /// A number in hexadecimal digits.
+    pub fn push_hex(&mut self, number: u64) -> Result<(), AllocError> {
+        write!(self.text, "{number:x}")
+    }
+
+    /// A name: a text and a number.
+    fn push_name(&mut self, text: &str, number: u64) -> Result<(), AllocError> {
+        self.push_number(text, number)?;
+        self.text.push_str("\"")
+    }
+
     /// The name of a tag that is no IOMMU tag.
     pub fn push_tag(&mut self) -> Result<(), AllocError> {
         let number = self.generator.below(self.tags);
-        write!(self.text, r#""t{number}""#)
+        self.push_name("\"t", number)
     }
 
     /// The name of an IOMMU tag.
     pub fn push_iommu_tag(&mut self) -> Result<(), AllocError> {
         let number = self.generator.below(self.iommu_tags);
-        write!(self.text, r#""u{number}""#)
+        self.push_name("\"u", number)
     }
 
     /// The name of a tag, in few cases of an IOMMU tag.
@@ -105,40 +175,13 @@ impl Draft {
         }
     }
 
-    /// The name of a map of an IOMMU tag, as it stands in a text.
-    pub fn device_map_name(&mut self) -> Result<String, AllocError> {
-        let number = self.generator.below(self.device_maps);
-        format!(in self.alloc; r#""d{number}""#)
-    }
-
-    /// The name of a map that is no memory's, as it stands in a text; in few cases of one of an IOMMU
-    /// tag.
-    pub fn map_name(&mut self) -> Result<String, AllocError> {
-        if self.device_maps > 0 && self.generator.one_in(6) {
-            return self.device_map_name();
-        }
-        let number = self.generator.below(self.maps);
-        format!(in self.alloc; r#""m{number}""#)
-    }
-
-    /// The name of a map that is no memory's.
-    pub fn push_map(&mut self) -> Result<(), AllocError> {
-        let map = self.map_name()?;
-        self.text.push_str(map.as_str())
-    }
-
-    /// The name of a memory.
-    pub fn push_memory(&mut self) -> Result<(), AllocError> {
-        let number = self.generator.below(self.memories);
-        write!(self.text, r#""k{number}""#)
-    }
-
-    /// The name of a map, in few cases of a memory's.
-    pub fn push_any_map(&mut self) -> Result<(), AllocError> {
-        if self.memories > 0 && self.generator.one_in(4) {
-            self.push_memory()
-        } else {
-            self.push_map()
+    /// The name of a map.
+    pub fn push_map(&mut self, map: Map) -> Result<(), AllocError> {
+        match map {
+            Map::Plain(number) => self.push_name("\"m", number),
+            Map::Device(number) => self.push_name("\"d", number),
+            Map::Memory(number) => self.push_name("\"k", number),
+            Map::Sender => self.text.push_str("\"s\""),
         }
     }
 
@@ -148,5 +191,12 @@ impl Draft {
             self.text.push_str(", ")?;
         }
         Ok(())
+    }
+
+    /// One of the parts of a buffer, behind the others.
+    pub fn push_part(&mut self, place: u64, va: u64, len: u64) -> Result<(), AllocError> {
+        self.push_comma(place)?;
+        self.push_numbers(&[("{\"va\": ", va), (", \"len\": ", len)])?;
+        self.text.push_str("}")
     }
 }

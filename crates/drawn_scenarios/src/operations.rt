@@ -1,6 +1,6 @@
 //! The operations of scripts.
 
-use crate::tests::draft::Draft;
+use crate::draft::{Draft, Map};
 use std::alloc::AllocError;
 
 /// The flags of a memory.
@@ -14,8 +14,8 @@ const MEMORY_FLAGS: [&str; 4] = [
 impl Draft {
     /// A map of a tag.
     fn push_map_made(&mut self) -> Result<(), AllocError> {
-        let number = self.maps;
-        write!(self.text, r#"{{"op": "map", "name": "m{number}", "tag": "#)?;
+        self.push_number(r#"{"op": "map", "name": "m"#, self.maps)?;
+        self.text.push_str(r#"", "tag": "#)?;
         self.push_tag()?;
         self.maps = self.maps.saturating_add(1);
         self.text.push_str("}")
@@ -23,20 +23,18 @@ impl Draft {
 
     /// A memory of a tag.
     fn push_memory_made(&mut self) -> Result<(), AllocError> {
-        let number = self.memories;
         let flags = self.generator.text(&MEMORY_FLAGS);
-        write!(
-            self.text,
-            r#"{{"op": "dmamem", "name": "k{number}"{flags}, "tag": "#
-        )?;
+        self.push_number(r#"{"op": "dmamem", "name": "k"#, self.memories)?;
+        self.push_texts(&["\"", flags, r#", "tag": "#])?;
         self.push_tag()?;
         self.memories = self.memories.saturating_add(1);
         self.text.push_str("}")
     }
 
     fn push_memory_freed(&mut self) -> Result<(), AllocError> {
+        let memory = self.memory_map();
         self.text.push_str(r#"{"op": "dmamem_free", "mem": "#)?;
-        self.push_memory()?;
+        self.push_map(memory)?;
         self.text.push_str("}")
     }
 
@@ -55,25 +53,35 @@ impl Draft {
         self.text.push_str("}")
     }
 
-    fn push_map_destroyed(&mut self) -> Result<(), AllocError> {
-        self.text.push_str(r#"{"op": "map_destroy", "map": "#)?;
-        self.push_map()?;
+    /// An operation that has a map alone.
+    pub fn push_op_of(&mut self, word: &str, map: Map) -> Result<(), AllocError> {
+        self.push_texts(&[r#"{"op": ""#, word, r#"", "map": "#])?;
+        self.push_map(map)?;
         self.text.push_str("}")
     }
 
-    /// An operation that has a map alone.
+    fn push_map_destroyed(&mut self) -> Result<(), AllocError> {
+        let map = self.map();
+        self.push_op_of("map_destroy", map)
+    }
+
+    /// The same of any map.
     fn push_map_op(&mut self, word: &str) -> Result<(), AllocError> {
-        write!(self.text, r#"{{"op": "{word}", "map": "#)?;
-        self.push_any_map()?;
-        self.text.push_str("}")
+        let map = self.any_map();
+        self.push_op_of(word, map)
+    }
+
+    /// A write of the driver and a load.
+    fn push_load_of_written(&mut self) -> Result<(), AllocError> {
+        self.push_cpu_write()?;
+        self.text.push_str(", ")?;
+        self.push_any_load()
     }
 
     /// A write of the driver, a load, a wait, a read of the driver and an unload. The map or the place
     /// of each is drawn for itself.
     fn push_round(&mut self) -> Result<(), AllocError> {
-        self.push_cpu_write()?;
-        self.text.push_str(", ")?;
-        self.push_any_load()?;
+        self.push_load_of_written()?;
         self.text.push_str(", ")?;
         self.push_map_op("await")?;
         self.text.push_str(", ")?;
@@ -100,7 +108,7 @@ impl Draft {
             6 => self.push_map_destroyed(),
             7..=18 => self.push_any_load(),
             19..=23 => self.push_map_op("unload"),
-            24..=29 => self.push_any_sync(""),
+            24..=29 => self.push_any_sync(None),
             30..=32 => self.push_cpu_write(),
             33..=35 => self.push_cpu_read(),
             36..=37 => self.push_map_op("await"),
@@ -112,23 +120,33 @@ impl Draft {
         }
     }
 
-    /// A script: a tag, some maps, an IOMMU tag with its maps, a memory with a ring or what sends need,
-    /// and what is drawn.
-    pub fn push_script(&mut self) -> Result<(), AllocError> {
-        self.push_tag_made()?;
+    /// Maps behind a tag.
+    fn push_maps_made(&mut self) -> Result<(), AllocError> {
         for _ in 0..self.generator.up_to(3) {
             self.text.push_str(", ")?;
             self.push_map_made()?;
         }
-        match self.generator.below(3) {
-            0 => self.push_devices()?,
-            1 => self.push_rings()?,
-            _ => self.push_sends()?,
-        }
+        Ok(())
+    }
+
+    fn push_operations(&mut self) -> Result<(), AllocError> {
         for _ in 0..self.generator.up_to(24) {
             self.text.push_str(",\n  ")?;
             self.push_operation()?;
         }
         Ok(())
+    }
+
+    /// A script: a tag, some maps, an IOMMU tag with its maps, a memory with a ring or what sends need,
+    /// and what is drawn.
+    pub fn push_script(&mut self) -> Result<(), AllocError> {
+        self.push_tag_made()?;
+        self.push_maps_made()?;
+        match self.generator.below(3) {
+            0 => self.push_devices()?,
+            1 => self.push_rings()?,
+            _ => self.push_sends()?,
+        }
+        self.push_operations()
     }
 }
