@@ -18,7 +18,7 @@ use Rattle.ideal_lane.specs.Outcomes.{Outcome, gives, unless_absent}
 use Rattle.ideal_lane.specs.Accesses.{unless_unread}
 use Rattle.ideal_lane.specs.Rings as rings
 use Rattle.ideal_lane.specs.Rings.{candidates, candidates_in, fetch, fetched, head_at, head_of, is_work, moved_on, no_ring}
-use Rattle.ideal_lane.specs.Rings.{retired, ring_step, told, used, used_candidate}
+use Rattle.ideal_lane.specs.Rings.{retired, ring_step, told, used}
 use Rattle.ideal_lane.specs.Standing.{IsRing, Stands}
 use Rattle.ideal_lane.specs.State.{LaneMap, LaneRing, LaneState}
 use Rattle.ideal_wire.specs.WireStep as wires

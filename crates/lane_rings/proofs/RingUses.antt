@@ -24,7 +24,7 @@ use Rattle.ideal_lane.specs.Asking.{Asking, Gives, by_reply}
 use Rattle.ideal_lane.specs.IdealMemory.{Content, IdealMemory, Known, is_known, known, written, written_at}
 use Rattle.ideal_lane.specs.Outcomes.{Outcome, gives, unless_refused}
 use Rattle.ideal_lane.specs.Rings as rings
-use Rattle.ideal_lane.specs.Rings.{judged_at, stored, told, used}
+use Rattle.ideal_lane.specs.Rings.{stored, told, used}
 use Rattle.ideal_lane.specs.Standing.{Stands}
 use Rattle.ideal_lane.specs.State.{LaneState}
 use Rattle.ideal_lane.proofs.Effects.{Touches, Transfer}

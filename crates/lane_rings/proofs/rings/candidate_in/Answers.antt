@@ -1,4 +1,4 @@
-use Rattle.std.proofs.Common.{◌≡◌, ◌<◌, ◌^◌, false, Some}
+use Rattle.std.proofs.Common.{◌≡◌, false, Some}
 use Rattle.std.proofs.Common.{ap, sym, ◌∙◌}
 use Rattle.dma_map.specs.MapView as held
 use Rattle.ring_device.specs.Ranges.{place_of}
