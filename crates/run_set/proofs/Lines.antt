@@ -7,7 +7,8 @@ use Rattle.std.proofs.lemmas.List.{reverse-reverse, get_or-append_right, get_or-
 use Rattle.std.proofs.lemmas.List.{take_at, drop_at}
 use Rattle.std.proofs.Math.ListN.{get_or-append}
 use Rattle.run_set.specs.Numbers.{count_le, one_if, stacked, Climbs}
-use Rattle.run_set.proofs.Counting.{climbs_from, climbs_nondecreasing, climbs_remove, count_is, count_remove}
+use Rattle.run_set.proofs.Counting.{climbs_from, climbs_insert, climbs_lower, climbs_nondecreasing, climbs_remove}
+use Rattle.run_set.proofs.Counting.{count_is, count_le-append, count_remove}
 
 pub length_stacked : (a b : List ℕ) → length (stacked a b) ≡ length a + length b
 length_stacked a b = length-append a (reverse b) ∙ ap (λ k. length a + k) (length-reverse b)
@@ -46,6 +47,37 @@ taken_out at count a b old e p q =
     let behind : drop at old ≡ reverse b = ap (drop at) (sym e) ∙ drop_at a (reverse b) at p in
     ap (λ xs. a ++ xs) (sym (turned_part count b q) ∙ ap (drop count) (sym behind) ∙ drop-drop count at old)
     ∙ ap (λ xs. xs ++ drop (at + count) old) (sym front)
+
+-- two parts come to the place, and the first numbers behind it go
+pub put_both : (at count : ℕ) (a b old first second : List ℕ) → stacked a b ≡ old → length a ≡ at → count ≤ length b →
+    stacked ((a ++ first) ++ second) (take (length b - count) b)
+    ≡ take at old ++ (first ++ (second ++ drop (at + count) old))
+put_both at count a b old first second e p q =
+    let left : List ℕ = reverse (take (length b - count) b) in
+    let front : take at old ≡ a = ap (take at) (sym e) ∙ take_at a (reverse b) at p in
+    let behind : drop at old ≡ reverse b = ap (drop at) (sym e) ∙ drop_at a (reverse b) at p in
+    append_assoc (a ++ first) second left ∙ append_assoc a first (second ++ left)
+    ∙ ap (λ xs. a ++ (first ++ (second ++ xs)))
+    (sym (turned_part count b q) ∙ ap (drop count) (sym behind) ∙ drop-drop count at old)
+    ∙ ap (λ xs. xs ++ (first ++ (second ++ drop (at + count) old))) (sym front)
+
+-- the top of one of two stacks goes
+climbs_between : (lo n : ℕ) (a b : List ℕ) → Climbs lo (a ++ n ∷ b) → Climbs lo (a ++ b)
+climbs_between lo n [] b h = climbs_lower lo n b h.0 h.1
+climbs_between lo n (x ∷ a) b h = (h.0, climbs_between x n a b h.1)
+
+module _ (a b : List ℕ) (n : ℕ) where
+  top_behind : stacked a (b ++ n ∷ []) ≡ a ++ n ∷ reverse b
+  top_behind = ap (λ xs. a ++ xs) (reverse-append b (n ∷ []))
+
+  pub climbs_popped : Climbs 0 (stacked a (b ++ n ∷ [])) → Climbs 0 (stacked a b)
+  climbs_popped h = climbs_between 0 n a (reverse b) (subst (Climbs 0) top_behind h)
+
+  pub count_popped : (m : ℕ) → count_le (stacked a b) m + one_if (leb n m) ≡ count_le (stacked a (b ++ n ∷ [])) m
+  count_popped m =
+      let all : count_le (stacked a (b ++ n ∷ [])) m ≡ count_le (a ++ n ∷ reverse b) m =
+      ap (λ xs. count_le xs m) top_behind in
+      omega (arith, all, count_le-append a (n ∷ reverse b) m, count_le-append a (reverse b) m)
 
 -- the number at a place
 pub number_before : (a b : List ℕ) (at d : ℕ) → at < length a → get_or a at d ≡ get_or (stacked a b) at d
@@ -115,6 +147,13 @@ count_out xs i n d p =
     subst (λ k. count_le (take i xs ++ drop k xs) n + one_if (leb (get_or xs i d) n) ≡ count_le xs n) e
     (count_remove xs i n d p)
 
+-- a number comes behind those that are at most as great
+pub climbs_put : (es : List ℕ) (n at : ℕ) → Climbs 0 es → count_le es n ≡ at → Climbs 0 (take at es ++ n ∷ drop at es)
+climbs_put es n at h e =
+    climbs_insert 0 es at n 0 h (omega arith)
+    (λ k a b. counted_below 0 es n k 0 h (omega (arith, a, e)))
+    (λ k a b. let x : n < get_or es k 0 = counted_above 0 es n k 0 h (omega (arith, a, e)) b in omega arith)
+
 -- where a number is at most n, those before it are
 pub low_until : (es : List ℕ) → Climbs 0 es → (i n e : ℕ) → i < length es → get_or es i e ≤ n →
     (k d : ℕ) → k ≤ i → get_or es k d ≤ n
@@ -128,21 +167,6 @@ pub high_from : (es : List ℕ) → Climbs 0 es → (i n e : ℕ) → n < get_or
 high_from es h i n e q k d r p =
     let least : get_or es i d ≤ get_or es k d = climbs_nondecreasing 0 es h i k d r p in
     omega (arith, get_or_default es i d e (omega arith))
-
--- two parts are put in a place, one behind the other
-pub both_put : (at to : ℕ) (front first second rest one two three : List ℕ) → length front ≡ at →
-    at + length first ≡ to → one ≡ front ++ rest → two ≡ take at one ++ (first ++ drop at one) →
-    three ≡ take to two ++ (second ++ drop to two) → three ≡ front ++ (first ++ (second ++ rest))
-both_put at to front first second rest one two three p q e f g =
-    let before : take at one ≡ front = ap (take at) e ∙ take_at front rest at p in
-    let behind : drop at one ≡ rest = ap (drop at) e ∙ drop_at front rest at p in
-    let put : two ≡ (front ++ first) ++ rest =
-    f ∙ ap (λ xs. xs ++ (first ++ drop at one)) before ∙ ap (λ xs. front ++ (first ++ xs)) behind
-    ∙ sym (append_assoc front first rest) in
-    let long : length (front ++ first) ≡ to = length-append front first ∙ ap (λ k. k + length first) p ∙ q in
-    g ∙ ap (λ xs. xs ++ (second ++ drop to two)) (ap (take to) put ∙ take_at (front ++ first) rest to long)
-    ∙ ap (λ xs. (front ++ first) ++ (second ++ xs)) (ap (drop to) put ∙ drop_at (front ++ first) rest to long)
-    ∙ append_assoc front first (second ++ rest)
 
 -- so many numbers are counted, where the last of them is at most n and the next one is more
 pub is_counted : (es : List ℕ) (i n : ℕ) → Climbs 0 es → i ≤ length es → (0 < i → get_or es (i - 1) 0 ≤ n) →

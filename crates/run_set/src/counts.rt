@@ -27,12 +27,8 @@ pub fn add_one(more: &mut Line, less: &mut Line, at: u64)
     ensures more_room { more.old.room ≤ more.new.room + 1 }
     ensures less_room { less.old.room ≤ less.new.room }
 {
-    let stood = less.count_to(at);
-    if stood > 0 && less.number_or(stood - 1, 0) == at {
-        less.remove(stood - 1, 1);
-    } else {
-        let place = more.count_to(at);
-        more.insert(place, at);
+    if !less.take(at) {
+        more.put(at);
     }
 }
 

@@ -1,7 +1,7 @@
 //! The edges of a set of numbers.
 
-ghost use Rattle.std.specs.Prelude.{◌≡◌, ℕ, ◌+◌, ◌≤◌, ◌<◌, ◌++◌, length, take, drop, slice_index_or};
-ghost use Rattle.run_set.specs.Edges.{odd, differ, edge_if};
+ghost use Rattle.std.specs.Prelude.{◌≡◌, ℕ, ◌≤◌, ◌<◌, length, slice_index_or};
+ghost use Rattle.run_set.specs.Edges.{odd, differ};
 ghost use Rattle.run_set.specs.Numbers.{count_le, Climbs};
 
 use crate::line::Line;
@@ -85,35 +85,4 @@ pub fn differ(a: bool, b: bool) -> bool
     ensures { result ≡ differ a b }
 {
     a != b
-}
-
-/// Puts an edge at a place, where it is wanted.
-fn put(edges: &mut Line, at: usize, edge: u64, wanted: bool)
-    requires at { at ≤ length edges.old.items }
-    requires room { 0 < edges.old.room }
-    ensures items { edges.new.items
-        ≡ take at edges.old.items ++ (edge_if wanted edge ++ drop at edges.old.items) }
-    ensures len { length edges.new.items ≡ length edges.old.items + length (edge_if wanted edge) }
-    ensures small { length edges.new.items ≤ length edges.old.items + 1 }
-    ensures capacity { length edges.old.items + edges.old.room ≤ length edges.new.items + edges.new.room }
-{
-    if wanted {
-        edges.insert(at, edge);
-    }
-}
-
-/// Puts two edges, each where it is wanted, in the place of `gone` edges.
-pub fn replace(edges: &mut Line, at: usize, gone: usize, first: (u64, bool), second: (u64, bool))
-    requires at { at + gone ≤ length edges.old.items }
-    requires room { 2 ≤ edges.old.room }
-    ensures items { edges.new.items ≡ take at edges.old.items ++ (edge_if first.1 first.0
-        ++ (edge_if second.1 second.0 ++ drop (at + gone) edges.old.items)) }
-    ensures small { length edges.new.items ≤ length edges.old.items + 2 }
-    ensures capacity { length edges.old.items + edges.old.room ≤ length edges.new.items + edges.new.room }
-{
-    edges.remove(at, gone);
-    let left = edges.len();
-    put(edges, at, first.0, first.1);
-    let behind = at + (edges.len() - left);
-    put(edges, behind, second.0, second.1);
 }

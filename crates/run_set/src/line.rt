@@ -1,8 +1,9 @@
 //! Numbers in order, with the place of their last change.
 
 ghost use Rattle.std.specs.Prelude.{◌≡◌, ℕ, ◌+◌, ◌≤◌, ◌<◌, ◌++◌, ◌∷◌, [], length, reverse, take, drop};
-ghost use Rattle.std.specs.Prelude.{slice_index_or, IfOk, IfSome, OnOk, OnErr, true, false, vec_len, vec_capacity};
-ghost use Rattle.run_set.specs.Numbers.{count_le, stacked, Climbs, IsAround};
+ghost use Rattle.std.specs.Prelude.{slice_index_or, IfOk, IfSome, OnOk, OnErr, true, false, nat_le, vec_len, vec_capacity};
+ghost use Rattle.run_set.specs.Edges.{edge_if};
+ghost use Rattle.run_set.specs.Numbers.{count_le, one_if, stacked, Climbs, IsAround};
 
 use std::alloc::{AllocError, Global};
 use std::marker::Model;
@@ -11,7 +12,7 @@ use std::marker::Model;
 const NEAR: usize = 8;
 
 /// Where room grows, at most so much more is asked for than is needed.
-const MOST_MORE: usize = 0x10000;
+const MOST_MORE: usize = 0x100000;
 
 /// Numbers in order, on two stacks, which meet at the place of their last change: those before it, the
 /// last of them on top, and those behind it, the first of them on top. So changes that follow one
@@ -255,8 +256,24 @@ impl Line {
         }
     }
 
+    /// Puts a number behind those that are at most as great.
+    pub fn put(&mut self, n: u64)
+        requires climbs { Climbs 0 self.old.items }
+        requires room { 0 < self.old.room }
+        ensures climbs { Climbs 0 self.new.items }
+        ensures counts { (m : ℕ) → count_le self.new.items m ≡ count_le self.old.items m + one_if (nat_le n m) }
+        ensures room { self.old.room ≤ self.new.room + 1 }
+    {
+        if lies_between(&self.before, &self.behind, n) {
+            self.before.push_reserved(n);
+        } else {
+            let place = self.count_to(n);
+            self.insert(place, n);
+        }
+    }
+
     /// Puts a number at a place.
-    pub fn insert(&mut self, at: usize, n: u64)
+    fn insert(&mut self, at: usize, n: u64)
         requires at { at ≤ length self.old.items }
         requires room { 0 < self.old.room }
         ensures items { self.new.items ≡ take at self.old.items ++ n ∷ drop at self.old.items }
@@ -266,8 +283,48 @@ impl Line {
         self.before.push_reserved(n);
     }
 
+    /// Takes a number out, where it is seen to stand, and tells whether it did. That it does not stand, where
+    /// the answer is false, holds by the code alone.
+    pub fn take(&mut self, n: u64) -> bool
+        requires { Climbs 0 self.old.items }
+        ensures climbs { Climbs 0 self.new.items }
+        ensures taken { result ≡ true → (m : ℕ) →
+            count_le self.new.items m + one_if (nat_le n m) ≡ count_le self.old.items m }
+        ensures left { result ≡ false → self.new.items ≡ self.old.items }
+        ensures room { self.old.room ≤ self.new.room }
+    {
+        if pop_if(&mut self.behind, n) {
+            return true;
+        }
+        if pop_if(&mut self.before, n) {
+            return true;
+        }
+        if lies_between(&self.before, &self.behind, n) {
+            return false;
+        }
+        self.take_there(n)
+    }
+
+    /// The same of a number that stands elsewhere than at the place of the last change.
+    #[inline(never)]
+    fn take_there(&mut self, n: u64) -> bool
+        requires { Climbs 0 self.old.items }
+        ensures climbs { Climbs 0 self.new.items }
+        ensures taken { result ≡ true → (m : ℕ) →
+            count_le self.new.items m + one_if (nat_le n m) ≡ count_le self.old.items m }
+        ensures left { result ≡ false → self.new.items ≡ self.old.items }
+        ensures room { self.old.room ≤ self.new.room }
+    {
+        let stood = self.count_to(n);
+        if stood == 0 || self.number_or(stood - 1, 0) != n {
+            return false;
+        }
+        self.remove(stood - 1, 1);
+        true
+    }
+
     /// Takes numbers out, from a place on.
-    pub fn remove(&mut self, at: usize, count: usize)
+    fn remove(&mut self, at: usize, count: usize)
         requires { at + count ≤ length self.old.items }
         ensures items { self.new.items ≡ take at self.old.items ++ drop (at + count) self.old.items }
         ensures room { self.old.room + count ≤ self.new.room }
@@ -275,6 +332,22 @@ impl Line {
         go_to(&mut self.before, &mut self.behind, at);
         let left = self.behind.len() - count;
         self.behind.truncate(left);
+    }
+
+    /// Puts two numbers, each where it is wanted, in the place of `gone` numbers.
+    pub fn replace(&mut self, at: usize, gone: usize, first: (u64, bool), second: (u64, bool))
+        requires at { at + gone ≤ length self.old.items }
+        requires room { 2 ≤ self.old.room }
+        ensures items { self.new.items ≡ take at self.old.items ++ (edge_if first.1 first.0
+            ++ (edge_if second.1 second.0 ++ drop (at + gone) self.old.items)) }
+        ensures small { length self.new.items ≤ length self.old.items + 2 }
+        ensures capacity { length self.old.items + self.old.room ≤ length self.new.items + self.new.room }
+    {
+        go_to(&mut self.before, &mut self.behind, at);
+        let left = self.behind.len() - gone;
+        self.behind.truncate(left);
+        push_if(&mut self.before, first.0, first.1);
+        push_if(&mut self.before, second.0, second.1);
     }
 }
 
@@ -304,6 +377,43 @@ fn top_or(stack: &[u64], depth: usize, other: u64) -> u64
         number_in(stack, len - 1 - depth, other)
     } else {
         other
+    }
+}
+
+/// Whether a number is seen to lie between those of two stacks.
+fn lies_between(before: &[u64], behind: &[u64], n: u64) -> bool
+    requires { Climbs 0 (stacked before.now behind.now) }
+    ensures { result ≡ true → count_le (stacked before.now behind.now) n ≡ length before.now }
+{
+    n < top_or(behind, 0, u64::MAX) && top_or(before, 0, 0) <= n
+}
+
+/// Takes the top of a stack, where it is this number, and tells whether it was.
+fn pop_if(stack: &mut Vec<u64>, n: u64) -> bool
+    ensures popped { result ≡ true → stack.old.items ≡ stack.new.items ++ n ∷ [] }
+    ensures left { result ≡ false → stack.new.items ≡ stack.old.items }
+    ensures len { vec_len stack.new ≤ vec_len stack.old }
+    ensures room { vec_capacity stack.new ≡ vec_capacity stack.old }
+{
+    let Some(last) = stack.len().checked_sub(1) else {
+        return false;
+    };
+    if number_in(stack, last, 0) != n {
+        return false;
+    }
+    stack.pop();
+    true
+}
+
+/// Puts a number on a stack, where it is wanted.
+fn push_if(stack: &mut Vec<u64>, n: u64, wanted: bool)
+    requires room { vec_len stack.old < vec_capacity stack.old }
+    ensures items { stack.new.items ≡ stack.old.items ++ edge_if wanted n }
+    ensures len { vec_len stack.new ≤ vec_len stack.old + 1 }
+    ensures room { vec_capacity stack.new ≡ vec_capacity stack.old }
+{
+    if wanted {
+        stack.push_reserved(n);
     }
 }
 

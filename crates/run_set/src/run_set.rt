@@ -4,7 +4,7 @@ ghost use Rattle.std.specs.Prelude.{◌≡◌, ℕ, ◌+◌, ◌≤◌, ◌<◌,
 ghost use Rattle.run_set.specs.Edges.{member, in_run, IsFirst, IsKept, Rises};
 ghost use Rattle.run_set.specs.Numbers.{count_le};
 
-use crate::edges::{count_and_turn, count_below, count_to, differ, is_odd, replace, turn};
+use crate::edges::{count_and_turn, count_below, count_to, differ, is_odd, turn};
 use crate::line::Line;
 use std::alloc::{AllocError, Global};
 use std::marker::Model;
@@ -133,8 +133,7 @@ impl RunSet {
         let inside = count_to(edges, end) - first;
         let before = is_odd(first);
         let after = differ(before, is_odd(inside));
-        replace(
-            &mut self.edges,
+        self.edges.replace(
             first,
             inside,
             (start, differ(before, is_in)),

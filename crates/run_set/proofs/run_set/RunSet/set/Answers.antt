@@ -19,7 +19,7 @@ parts c top p r =
 
 -- the edges stay below what lies above them and the end
 within : (c : goal.After-replace) → (top : ℕ) → c.args.end < top → Rises 0 top c.self.inside.edges.items →
-    Rises 0 top c.replace.new.edges.items
+    Rises 0 top c.replace.new.self.items
 within c top p r =
     let three = parts c top p r in
     let rises = rises_edges_set c.args.start c.args.end top c.count_below-first.result
@@ -36,8 +36,8 @@ within c top p r =
     ) rises
 
 -- the new edges rise, and their members are those that are wanted
-done : (c : goal.After-replace) → IsKept c.replace.new.edges.items
-    × ((n : ℕ) → member c.replace.new.edges.items n
+done : (c : goal.After-replace) → IsKept c.replace.new.self.items
+    × ((n : ℕ) → member c.replace.new.self.items n
     ≡ (if in_run c.args.start c.args.end n then c.args.is_in else member c.self.inside.edges.items n))
 done c =
     let three = parts c (2 ^ 64) (omega arith) c.self.invariant.rise in
