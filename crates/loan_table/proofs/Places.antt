@@ -1,17 +1,20 @@
 -- At how many places of a list a byte stands.
-use Rattle.std.proofs.Common.{◌≡◌, ℕ, zero, suc, ◌+◌, ◌≤◌, ◌<◌, ◌==◌, Bool, true, false, cond, List, [], ◌∷◌, ◌++◌, refl}
+use Rattle.std.proofs.Common.{◌≡◌, ℕ, zero, suc, ◌+◌, ◌-◌, ◌≤◌, ◌<◌, ◌^◌, ◌==◌, Bool, true, false, cond, List, [], ◌∷◌, ◌++◌, refl}
 use Rattle.std.proofs.Common.{length, sym, ap, ◌∙◌, arith, Option, Some, None, nat_lt}
-use Rattle.std.proofs.lemmas.Bool.{le-ltb}
+use Rattle.std.proofs.lemmas.Bool.{le-ltb, ltb-true, ltb-false}
 use Rattle.std.proofs.lemmas.Bool.Decides.{nat_tests}
 use Rattle.std.specs.List.{count_by}
+use Rattle.std.proofs.lemmas.List.Elements.{All-head, All-tail}
 use Rattle.std.proofs.lemmas.List.Sums.{sum_by-cons, sum_by-append}
+use Rattle.std.specs.List.{All}
 use Rattle.run_set.specs.Counts.{Counts, count, changed}
-use Rattle.run_set.specs.Edges.{in_run}
+use Rattle.run_set.specs.Edges.{in_run, NoneIn}
 use Rattle.busdma_machine.specs.declared.machine.address.Extent.{Extent}
 use Rattle.busdma_machine.specs.Runs.{addresses, run_of}
 use Rattle.loan_table.specs.declared.position.Position.{Position}
 use Rattle.loan_table.specs.Loans.{addresses_of, is_at}
-use Rattle.loan_table.specs.Rows.{stands, AreCounted}
+use Rattle.loan_table.specs.Ends.{Ends}
+use Rattle.loan_table.specs.Rows.{stands, AreCounted, CountsPlaces}
 
 -- how often a byte stands in a list that begins with another byte
 places-cons : (a b : ℕ) (bs : List ℕ) → count_by (λ x. x == a) (b ∷ bs) ≡ cond (b == a) 1 0 + count_by (λ x. x == a) bs
@@ -87,6 +90,37 @@ stands_once (e ∷ []) a few = omega (arith, stands_ahead a e.pa.0 e.len _ [] re
     one true = omega arith
     one false = omega arith
 stands_once (e ∷ f ∷ es) a few = absurd (omega (arith, few))
+
+-- no byte stands where no stretch can lie
+pub stands_past : (stretches : List Extent) (a : ℕ) → All Ends stretches → 2 ^ 64 ≤ a + 1 →
+    stands a (addresses stretches) ≡ 0
+stands_past [] a ends p = refl
+stands_past (e ∷ es) a ends p =
+    omega (
+      arith,
+      stands_ahead a e.pa.0 e.len _ (addresses es) refl,
+      here (in_run e.pa.0 (e.pa.0 + e.len) a) refl,
+      stands_past es a (All-tail Ends e es ends) p,
+    )
+  where
+    here : (b : Bool) → in_run e.pa.0 (e.pa.0 + e.len) a ≡ b → ◌≡◌ {A = ℕ} (cond b 1 0) 0
+    here false is = refl
+    here true is =
+        let from : e.pa.0 ≤ a = grind (arith, nat_tests) in
+        let to : a < e.pa.0 + e.len = grind (arith, nat_tests) in
+        absurd (omega (arith, from, to, p, All-head Ends e es ends (omega (arith, from, to))))
+
+-- no byte stands twice, where none is counted twice
+pub stand_once : (stretches : List Extent) (places : Counts) → All Ends stretches →
+    CountsPlaces places (addresses stretches) → NoneIn (λ a. nat_lt 1 (count places a)) true 0 (2 ^ 64 - 1) →
+    (a : ℕ) → stands a (addresses stretches) ≤ 1
+stand_once stretches places ends counts none a = by (nat_lt a (2 ^ 64 - 1)) refl
+  where
+    by : (b : Bool) → nat_lt a (2 ^ 64 - 1) ≡ b → stands a (addresses stretches) ≤ 1
+    by true is =
+        let few : count places a ≤ 1 = ltb-false 1 (count places a) (none a (omega arith) (ltb-true a (2 ^ 64 - 1) is)) in
+        omega (arith, few, counts a)
+    by false is = omega (arith, stands_past stretches a ends (omega (arith, ltb-false a (2 ^ 64 - 1) is)))
 
 pub stands_here : (a s n : ℕ) → s ≤ a → a < s + n → ◌≡◌ {A = ℕ} (cond (in_run s (s + n) a) 1 0) 1
 stands_here a s n p q = let x : in_run s (s + n) a ≡ true = grind (arith, nat_tests) in ap {B = ℕ} (λ b. cond b 1 0) x

@@ -16,8 +16,8 @@ use std::alloc::{AllocError, Global};
 use std::marker::Model;
 
 /// The bytes of a buffer, in order, and at how many of its positions each stands. The bytes of a
-/// stretch follow one another; where there is one stretch alone, no byte stands twice, and none is
-/// counted.
+/// stretch follow one another. Where no byte stands twice, as where there is one stretch alone, none
+/// is counted.
 #[derive(Drop)]
 pub struct Buffer {
     stretches: Vec<Extent>,
@@ -217,7 +217,7 @@ fn starts_of(used: Vec<u64>, stretches: &[Extent]) -> Result<Vec<u64>, AllocErro
     Ok(starts)
 }
 
-/// At how many positions of a buffer each byte stands, where it has more stretches than one.
+/// At how many positions of a buffer each byte stands, where one stands at more than one position.
 fn counted_places(alloc: Global, stretches: &[Extent]) -> Result<Option<RunCounts>, AllocError>
     requires { All Ends stretches.now }
     ensures { IfOk result (λ places. AreCounted places (addresses stretches.now)) }
@@ -226,7 +226,10 @@ fn counted_places(alloc: Global, stretches: &[Extent]) -> Result<Option<RunCount
         return Ok(None);
     }
     let places = places_over(alloc, stretches)?;
-    Ok(Some(places))
+    match places.first_above(0, u64::MAX, 1) {
+        Some(_) => Ok(Some(places)),
+        None => Ok(None),
+    }
 }
 
 /// At how many positions of a buffer each byte stands.
