@@ -171,7 +171,7 @@ fn each_item<'v>(
     ensures counted { IfOk result (λ v. counts.new ≡ with_items counts.old v.items) }
     ensures within { IfOk result (λ _. IsWithin counts.new) }
 {
-    let mut done = Vec::new(here.alloc);
+    let mut done = Vec::with_capacity(here.alloc, items.len())?;
     for value in items {
         let item = item(&here.item(done.len(), value), before, counts)?;
         done.push(item)?;

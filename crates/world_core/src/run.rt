@@ -11,6 +11,9 @@ use busdma_base::{Actor, Journal, JournalEntry, LaneId, ListOf, Scenario, Side};
 use lane_core::Turn;
 use std::alloc::{AllocError, Global};
 
+/// So many operations and items a script has at the most.
+const STEPS: usize = 4096;
+
 /// How far a replay has come.
 #[derive(Drop)]
 struct Progress<'s> {
@@ -81,15 +84,6 @@ pub fn round_of(alloc: Global, drivers: u32) -> Result<Vec<Actor>, AllocError>
     Ok(round)
 }
 
-/// How many operations the scripts of a scenario have.
-fn operation_count(scenario: &Scenario) -> usize {
-    let mut count: usize = 0;
-    for driver in scenario.drivers.as_slice() {
-        count = count.saturating_add(driver.script.len());
-    }
-    count
-}
-
 /// The journal of the scenario's replay: the turns of its order, and then rounds until a whole
 /// round makes no step.
 pub fn replay(alloc: Global, scenario: &Scenario) -> Result<Journal, AllocError>
@@ -97,8 +91,8 @@ pub fn replay(alloc: Global, scenario: &Scenario) -> Result<Journal, AllocError>
     ensures { IfOk result (IsReplayed scenario.now) }
 {
     let world = World::new(alloc, scenario)?;
-    // Each operation that is done makes an entry, so the list is moved seldom.
-    let entries = Vec::with_capacity(alloc, operation_count(scenario))?;
+    // Operations and items make most entries. Pages that go back and callbacks make more, so the list may still be moved.
+    let entries = Vec::with_capacity(alloc, scenario.drivers.len().saturating_mul(STEPS))?;
     let mut progress = Progress { world, entries };
     progress.turns(alloc, scenario.order.as_slice())?;
     let round = round_of(alloc, scenario.drivers.len() as u32)?;
