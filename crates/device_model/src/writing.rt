@@ -67,12 +67,10 @@ fn write_in_frame(
     ensures same { SamePages memory.old.memory memory.new.memory }
     ensures spare { memory.new.spare ≡ memory.old.spare }
 {
-    let frame = at.0 / 4096;
-    if memory.has_frame(frame) {
-        memory.write(at, bytes);
+    if memory.write_if_there(at, bytes) {
         return near;
     }
-    let place = page_of(pages, frame, near);
+    let place = page_of(pages, at.0 / 4096, near);
     pages[place].write((at.0 % 4096) as usize, bytes);
     place + 1
 }

@@ -50,7 +50,7 @@ impl<'v> Node<'v> {
     pub fn field<'a>(&'a self, name: &'a str) -> Option<Node<'a>>
         ensures { option_map spot_of result ≡ field name.now (spot_of self.now) }
     {
-        let value = member(self.value.as_object()?, name)?;
+        let value = self.value.get(name)?;
         Some(Node {
             alloc: self.alloc,
             value,
@@ -210,20 +210,6 @@ fn number_in(value: &Value) -> Option<u64>
         Some(text) => hex_number(text),
         None => value.as_u64(),
     }
-}
-
-/// The value of a member, if there is one. An object of a scenario has few members, so that going through them is less
-/// work than a search.
-fn member<'v>(members: &'v Map<String, Value>, name: &str) -> Option<&'v Value>
-    ensures { option_map (λ v. view v.now) result
-        ≡ get_member name.now (members_view members.now.entries) }
-{
-    for (key, value) in members {
-        if is_same(name, key.as_str()) {
-            return Some(value);
-        }
-    }
-    None
 }
 
 fn unknown_key<'a>(members: &'a Map<String, Value>, table: &[&str]) -> Option<&'a str>

@@ -1,6 +1,7 @@
 pub mod Addresses
 pub mod Extending
 pub mod Frames
+pub mod Hulls
 pub mod Inside
 pub mod Judgement
 pub mod Keeping

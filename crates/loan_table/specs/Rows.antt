@@ -38,6 +38,15 @@ pub record IsBuffer (stretches : List Extent) (starts : List ℕ) (len : ℕ) (p
   pub small : byte_count stretches < 2 ^ 64
   pub counted : AreCounted places (addresses stretches)
 
+-- the bytes of an extent lie from one address up to another
+pub record LiesFromTo (first end : ℕ) (e : Extent) : Type 0 where
+  pub from : 0 < e.len → first ≤ e.pa.0
+  pub to : 0 < e.len → e.pa.0 + e.len ≤ end
+
+-- bytes lie in a run
+abbrev pub AreWithin : Extent → List ℕ → Type 0
+AreWithin run bytes = All (λ a. (run.pa.0 ≤ a) × (a < run.pa.0 + run.len)) bytes
+
 -- positions from a place on, over bytes in order, each lent as the sets of places say
 abbrev pub placed : (ℕ → Bool) → (ℕ → Bool) → ℕ → List ℕ → List Position
 placed reads writes at [] = []

@@ -1,11 +1,11 @@
 //! The bytes of a map's buffer.
 
-ghost use Rattle.std.specs.Prelude.{◌≡◌, ℕ, ◌+◌, ◌≤◌, ◌<◌, ◌^◌, ◌++◌, length, nat_lt, IfOk, true, false};
+ghost use Rattle.std.specs.Prelude.{◌≡◌, ℕ, ◌+◌, ◌≤◌, ◌<◌, ◌^◌, ◌++◌, length, nat_lt, IfOk, IfSome, true, false};
 ghost use Rattle.std.specs.List.{All};
 ghost use Rattle.busdma_machine.specs.Machine.Wire.{stretch};
 ghost use Rattle.busdma_machine.specs.Runs.{run_of, addresses, byte_count};
 ghost use Rattle.loan_table.specs.Ends.{Ends};
-ghost use Rattle.loan_table.specs.Rows.{stands, starts_from, AreCounted, CountsPlaces};
+ghost use Rattle.loan_table.specs.Rows.{stands, starts_from, AreCounted, AreWithin, CountsPlaces, LiesFromTo};
 ghost use Rattle.run_set.specs.Counts.{changed, count};
 ghost use Rattle.run_set.specs.Edges.{in_run};
 
@@ -14,6 +14,9 @@ use run_set::numbers::count_near;
 use run_set::{Near, RunCounts};
 use std::alloc::{AllocError, Global};
 use std::marker::Model;
+
+/// So many stretches are looked at one by one, and no run around them.
+const FEW: usize = 4;
 
 /// The bytes of a buffer, in order, and at how many of its positions each stands. The bytes of a
 /// stretch follow one another. Where no byte stands twice, as where there is one stretch alone, none
@@ -70,6 +73,7 @@ impl Buffer {
 
     /// Bytes that follow one another: those from a position on, up to `end` or to the end of their stretch.
     /// They are found soon where `near` is left by a look at this stretch, or at the one before it.
+    #[inline(always)]
     pub fn stretch(&self, at: u64, end: u64, near: &mut usize) -> Extent
         requires some { at < end }
         requires range { end ≤ length self.now }
@@ -79,6 +83,37 @@ impl Buffer {
         ensures bytes { stretch at result.len self.now ≡ run_of result.pa.0 result.len }
     {
         stretch_at(&self.stretches, &self.starts, at, end, near)
+    }
+
+    /// The stretches, where `len` positions are all there are, and the stretches are no more than these.
+    pub fn whole(&self, len: u64) -> Option<&[Extent]>
+        ensures bytes { IfSome result (λ stretches. addresses stretches.now ≡ self.now) }
+        ensures ends { IfSome result (λ stretches. All Ends stretches.now) }
+        ensures few { IfSome result (λ stretches. length stretches.now ≤ len) }
+        ensures all { IfSome result (λ _. len ≡ length self.now) }
+    {
+        if len != self.len {
+            return None;
+        }
+        if self.stretches.len() as u64 <= len {
+            Some(&self.stretches)
+        } else {
+            None
+        }
+    }
+
+    /// A run in which all bytes of the buffer lie, where there are so many stretches that one look at that run
+    /// may save many.
+    pub fn hull(&self) -> Option<Extent>
+        ensures some { IfSome result (λ run. 0 < run.len) }
+        ensures fits { IfSome result (λ run. run.pa.0 + run.len < 2 ^ 64) }
+        ensures within { IfSome result (λ run. AreWithin run self.now) }
+    {
+        if self.stretches.len() > FEW {
+            hull_of(&self.stretches)
+        } else {
+            None
+        }
     }
 
     /// Whether a byte stands at more than one position.
@@ -107,7 +142,44 @@ impl Buffer {
     }
 }
 
+/// Two addresses, moved apart so far that the bytes of an extent lie between them.
+fn widened(first: u64, end: u64, extent: &Extent) -> (u64, u64)
+    requires { Ends extent.now }
+    ensures first { result.0 ≤ first }
+    ensures end { end ≤ result.1 }
+    ensures within { LiesFromTo result.0 result.1 extent.now }
+{
+    if extent.len == 0 {
+        return (first, end);
+    }
+    let behind = extent.pa.0 + extent.len;
+    (first.min(extent.pa.0), end.max(behind))
+}
+
+/// A run in which all bytes of extents lie, where they have one.
+fn hull_of(extents: &[Extent]) -> Option<Extent>
+    requires { All Ends extents.now }
+    ensures some { IfSome result (λ run. 0 < run.len) }
+    ensures fits { IfSome result (λ run. run.pa.0 + run.len < 2 ^ 64) }
+    ensures within { IfSome result (λ run. All (LiesFromTo run.pa.0 (run.pa.0 + run.len)) extents.now) }
+{
+    let mut first = u64::MAX;
+    let mut end = 0;
+    for extent in extents {
+        (first, end) = widened(first, end, extent);
+    }
+    if first < end {
+        Some(Extent {
+            pa: Pa(first),
+            len: end - first,
+        })
+    } else {
+        None
+    }
+}
+
 /// The bytes from a position on, up to `end` or to the end of their stretch.
+#[inline(always)]
 fn stretch_at(stretches: &[Extent], starts: &[u64], at: u64, end: u64, near: &mut usize) -> Extent
     requires ends { All Ends stretches.now }
     requires starts { starts.now ≡ starts_from 0 stretches.now }

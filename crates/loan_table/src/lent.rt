@@ -1,8 +1,12 @@
 //! How often the bytes of a driver are lent.
 
 ghost use Rattle.std.specs.Prelude.{◌≡◌, ℕ, ◌+◌, ◌≤◌, ◌<◌, ◌^◌, length, map, if◌then◌else◌, OnOk, false, true, []};
+ghost use Rattle.std.specs.List.{All};
 ghost use Rattle.busdma_machine.specs.Machine.Wire.{stretch};
-ghost use Rattle.run_set.specs.Counts.{count};
+ghost use Rattle.busdma_machine.specs.Runs.{addresses};
+ghost use Rattle.run_set.specs.Counts.{changed, count};
+ghost use Rattle.run_set.specs.Edges.{in_run};
+ghost use Rattle.loan_table.specs.Ends.{Ends};
 ghost use Rattle.loan_table.specs.Counted.{counts_of, places, HasChanges, Holds, IsAlike, IsRecounted};
 ghost use Rattle.loan_table.specs.Counted.{AreUnlent, IsUnlent, UsesChanges};
 ghost use Rattle.loan_table.specs.Kinds.{test_of};
@@ -234,6 +238,10 @@ fn count_range(counts: &mut RunCounts, row: &LoanRow, off: u64, len: u64, up: bo
         count counts.new a + (if up then 0 else here) ≡ count counts.old a + (if up then here else 0) }
     ensures room { counts.old.room ≤ counts.new.room + len }
 {
+    if let Some(stretches) = row.whole(len) {
+        count_extents(counts, stretches, up);
+        return;
+    }
     let end = row.end_of(off, len);
     let mut near = 0;
     let mut at = off;
@@ -242,4 +250,30 @@ fn count_range(counts: &mut RunCounts, row: &LoanRow, off: u64, len: u64, up: bo
         counts.change(run.pa.0, run.pa.0 + run.len, up);
         at += run.len;
     }
+}
+
+/// Counts the bytes of extents, each once more or once less.
+fn count_extents(counts: &mut RunCounts, extents: &[Extent], up: bool)
+    requires ends { All Ends extents.now }
+    requires held { up ≡ false → (a : ℕ) → stands a (addresses extents.now) ≤ count counts.old a }
+    requires room { length extents.now ≤ counts.old.room }
+    ensures counts { (a : ℕ) → let here = stands a (addresses extents.now) in
+        count counts.new a + (if up then 0 else here) ≡ count counts.old a + (if up then here else 0) }
+    ensures room { counts.old.room ≤ counts.new.room + length extents.now }
+{
+    for extent in extents {
+        count_extent(counts, extent, up);
+    }
+}
+
+/// Counts the bytes of an extent once more or once less.
+fn count_extent(counts: &mut RunCounts, extent: &Extent, up: bool)
+    requires ends { Ends extent.now }
+    requires held { up ≡ false → (a : ℕ) → extent.now.pa.0 ≤ a → a < extent.now.pa.0 + extent.now.len → 0 < count counts.old a }
+    requires room { 1 ≤ counts.old.room }
+    ensures counts { (a : ℕ) → count counts.new a
+        ≡ changed up (in_run extent.now.pa.0 (extent.now.pa.0 + extent.now.len) a) (count counts.old a) }
+    ensures room { counts.old.room ≤ counts.new.room + 1 }
+{
+    counts.change(extent.pa.0, extent.pa.0 + extent.len, up);
 }

@@ -155,6 +155,10 @@ pub fn set_range(bytes: &mut ByteMarks, row: &LoanRow, off: u64, len: u64, known
     ensures room { bytes.old.room ≤ bytes.new.room + (len + len) }
     ensures there_room { bytes.new.there_room ≡ bytes.old.there_room }
 {
+    if let Some(stretches) = row.whole(len) {
+        set_extents(bytes, stretches, known);
+        return;
+    }
     let end = row.end_of(off, len);
     let mut near = 0;
     let mut at = off;

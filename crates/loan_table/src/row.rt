@@ -1,7 +1,7 @@
 //! What one map lends.
 
 ghost use Rattle.std.specs.Prelude.{◌≡◌, ℕ, ◌+◌, ◌-◌, ◌≤◌, ◌<◌, ◌^◌, ◌++◌, ◌&&◌, ◌||◌, not, length};
-ghost use Rattle.std.specs.Prelude.{if◌then◌else◌, slice_index, IfOk, [], false, true};
+ghost use Rattle.std.specs.Prelude.{if◌then◌else◌, slice_index, IfOk, IfSome, [], false, true};
 ghost use Rattle.std.specs.List.{All, filter};
 ghost use Rattle.busdma_machine.specs.Machine.Wire.{stretch};
 ghost use Rattle.busdma_machine.specs.Judging.{judged};
@@ -11,7 +11,7 @@ ghost use Rattle.loan_table.specs.Ends.{Ends};
 ghost use Rattle.loan_table.specs.Kinds.{test_of, unlent_refusal};
 ghost use Rattle.loan_table.specs.Lending.{marked, marked_range};
 ghost use Rattle.loan_table.specs.Loans.{stands_twice, addresses_of, to_write, new_loan, unlent};
-ghost use Rattle.loan_table.specs.Rows.{alike, AreAlike, IsRoomy};
+ghost use Rattle.loan_table.specs.Rows.{alike, AreAlike, AreWithin, IsRoomy};
 ghost use Rattle.loan_table.specs.Table.{extent_count, AreIn, set_all};
 ghost use Rattle.run_set.specs.Edges.{in_run, member};
 
@@ -190,6 +190,7 @@ impl LoanRow {
 
     /// Bytes that follow one another: those from a position on, up to `end` or to the end of their stretch.
     /// They are found soon where `near` is left by a look at this stretch, or at the one before it.
+    #[inline(always)]
     pub fn stretch(&self, at: u64, end: u64, near: &mut usize) -> Extent
         requires some { at < end }
         requires range { end ≤ length self.now.positions }
@@ -201,6 +202,27 @@ impl LoanRow {
         ensures first { result.pa.0 ≡ slice_index (addresses_of self.now.positions) at }
     {
         self.buffer.stretch(at, end, near)
+    }
+
+    /// The stretches of the map's bytes, where `len` positions are all there are, and the stretches are no more than
+    /// these.
+    pub fn whole(&self, len: u64) -> Option<&[Extent]>
+        ensures bytes { IfSome result (λ stretches. addresses stretches.now ≡ addresses_of self.now.positions) }
+        ensures ends { IfSome result (λ stretches. All Ends stretches.now) }
+        ensures few { IfSome result (λ stretches. length stretches.now ≤ len) }
+        ensures all { IfSome result (λ _. len ≡ length self.now.positions) }
+    {
+        self.buffer.whole(len)
+    }
+
+    /// A run in which all bytes of the map lie, where there are so many stretches that one look at that run may
+    /// save many.
+    pub fn hull(&self) -> Option<Extent>
+        ensures some { IfSome result (λ run. 0 < run.len) }
+        ensures fits { IfSome result (λ run. run.pa.0 + run.len < 2 ^ 64) }
+        ensures within { IfSome result (λ run. AreWithin run (addresses_of self.now.positions)) }
+    {
+        self.buffer.hull()
     }
 
     /// The judgement of a range, whose first position is at a place: a position that is not lent to

@@ -1,6 +1,7 @@
 //! The judgement of a sync of a range of a map's buffer, and what it does.
 
-ghost use Rattle.std.specs.Prelude.{◌≡◌, ℕ, ◌+◌, ◌-◌, ◌<◌, ◌≤◌, ◌^◌, length, IfErr, IfOk, IsSome, true, false};
+ghost use Rattle.std.specs.Prelude.{◌≡◌, ℕ, ◌+◌, ◌-◌, ◌<◌, ◌≤◌, ◌^◌, length, IfErr, IfOk, IsSome, None, true, false};
+ghost use Rattle.std.specs.List.{All};
 ghost use Rattle.std.specs.Ordering.{nat_cmp};
 ghost use Rattle.std.specs.BTreeMap as tree;
 ghost use Rattle.std.specs.FinMap as finmap;
@@ -293,12 +294,33 @@ fn judge_next(
     }
 }
 
+/// Whether a call is seen to meet nothing at the bytes of a map, by one look at a run in which all of them lie.
+fn passes_whole(lent: &LentCounts, row: &LoanRow, ops: SyncOps) -> bool
+    ensures { result ≡ true → (lender : Lender) → IsOf lent.now row.now lender →
+        All (λ p. sync_refusal lender.loans lender.map ops.0 p ≡ None) row.now.positions }
+{
+    let Some(hull) = row.hull() else {
+        return false;
+    };
+    passes(
+        lent,
+        row,
+        ops,
+        &hull,
+        &mut Looks::new(),
+        &mut Unlent::nothing(),
+    )
+}
+
 /// The judgement of a range of a map's positions, in order.
 fn judge_each(lent: &LentCounts, row: &LoanRow, ops: SyncOps, off: u64, len: u64) -> Judged
     requires range { off + len ≤ length row.now.positions }
     ensures { (lender : Lender) → IsOf lent.now row.now lender → let range = stretch off len row.now.positions in
         result ≡ judged (sync_refusal lender.loans lender.map ops.0) off range }
 {
+    if passes_whole(lent, row, ops) {
+        return Judged::Fine;
+    }
     let end = row.end_of(off, len);
     let mut looks = Looks::new();
     let mut unlent = Unlent::nothing();

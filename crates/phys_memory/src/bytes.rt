@@ -1,6 +1,6 @@
 //! The bytes of frames by their physical addresses.
 
-ghost use Rattle.std.specs.Prelude.{◌≡◌, ◌+◌, ◌/◌, ◌%◌, ◌≤◌, true, length, map};
+ghost use Rattle.std.specs.Prelude.{◌≡◌, ◌+◌, ◌/◌, ◌%◌, ◌≤◌, true, false, length, map};
 ghost use Rattle.busdma_machine.specs.Runs.{run_of};
 ghost use Rattle.phys_memory.specs.Memory.{has_frame, rewritten, wire, written};
 
@@ -38,5 +38,21 @@ impl LanePages {
     {
         let page = self.frames.get_mut(&(pa.0 / 4096)).unwrap();
         page.write((pa.0 % 4096) as usize, bytes);
+    }
+
+    /// The same, where the frame is in the memory: whether it is, is told.
+    pub fn write_if_there(&mut self, pa: Pa, bytes: &[u8]) -> bool
+        requires inside { pa.0 % 4096 + length bytes.now ≤ 4096 }
+        ensures there { result ≡ has_frame self.old.memory (pa.0 / 4096) }
+        ensures memory { result ≡ true → self.new.memory ≡ rewritten self.old.memory pa.0 bytes.now }
+        ensures left { result ≡ false → self.new.memory ≡ self.old.memory }
+        ensures spare { self.new.spare ≡ self.old.spare }
+        ensures wire { result ≡ true → wire self.new.memory ≡ written pa.0 bytes.now (wire self.old.memory) }
+    {
+        let Some(page) = self.frames.get_mut(&(pa.0 / 4096)) else {
+            return false;
+        };
+        page.write((pa.0 % 4096) as usize, bytes);
+        true
     }
 }

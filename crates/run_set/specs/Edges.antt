@@ -1,6 +1,6 @@
 -- Sets of numbers by their edges: the numbers at which membership turns, in rising order.
 use Rattle.std.specs.Prelude.{◌≡◌, ℕ, zero, suc, ◌+◌, ◌≤◌, ◌<◌, ◌^◌, Bool, true, false, not, ◌&&◌, nat_le, nat_lt}
-use Rattle.std.specs.Prelude.{List, [], ◌∷◌, length, Option, refl}
+use Rattle.std.specs.Prelude.{List, [], ◌∷◌, length, slice_index_or, Option, refl}
 use Rattle.std.specs.Option.{MatchOption}
 use Rattle.std.specs.Coded.{Coded, code_by, coded×, coded_ℕ, coded_list}
 
@@ -56,3 +56,13 @@ abbrev pub IsFirst : (ℕ → Bool) → Bool → ℕ → ℕ → Option ℕ → 
 IsFirst set is_in start end first =
     MatchOption first (NoneIn set is_in start end) (λ f. (start ≤ f) × (f < end)
     × (set f ≡ is_in) × NoneIn set is_in start f)
+
+-- the edges lie in three parts: `below` of them below start, those behind these, up to the `to`-th, at end at the most,
+-- and the others above end
+pub record IsSplit (es : List ℕ) (start end below to : ℕ) : Type 0 where
+  pub small : below ≤ length es
+  pub large : to ≤ length es
+  pub before : (k d : ℕ) → k < below → slice_index_or es k d < start
+  pub from : (k d : ℕ) → below ≤ k → k < length es → start ≤ slice_index_or es k d
+  pub upto : (k d : ℕ) → k < to → slice_index_or es k d ≤ end
+  pub above : (k d : ℕ) → to ≤ k → k < length es → end < slice_index_or es k d

@@ -1,13 +1,13 @@
 //! The edges of a set of numbers.
 
-ghost use Rattle.std.specs.Prelude.{◌≡◌, ℕ, ◌≤◌, ◌<◌, length, slice_index_or};
-ghost use Rattle.run_set.specs.Edges.{odd, differ};
+ghost use Rattle.std.specs.Prelude.{◌≡◌, ℕ, ◌≤◌, ◌<◌, length, slice_index_or, IfSome};
+ghost use Rattle.run_set.specs.Edges.{odd, differ, IsSplit};
 ghost use Rattle.run_set.specs.Numbers.{count_le, Climbs};
 
 use crate::line::Line;
 
 /// How many edges lie below a number.
-pub fn count_below(edges: &Line, n: u64) -> usize
+fn count_below(edges: &Line, n: u64) -> usize
     requires { Climbs 0 edges.now.items }
     ensures small { result ≤ length edges.now.items }
     ensures below { (k d : ℕ) → k < result → slice_index_or edges.now.items k d < n }
@@ -28,6 +28,28 @@ pub fn count_to(edges: &Line, n: u64) -> usize
     ensures is { result ≡ count_le edges.now.items n }
 {
     edges.count_to(n)
+}
+
+/// How many edges lie below `start`, and how many at `end` or below it, where the former are seen to be those
+/// before the place of the last change, and the latter as many, or one or two more.
+pub fn split_here(edges: &Line, start: u64, end: u64) -> Option<(usize, usize)>
+    requires { Climbs 0 edges.now.items }
+    ensures { IfSome result (λ p. IsSplit edges.now.items start end p.0 p.1) }
+{
+    if start == 0 {
+        return None;
+    }
+    let below = edges.place_of(start - 1)?;
+    let to = edges.count_here(end)?;
+    Some((below, to))
+}
+
+/// How many edges lie below `start`, and how many at `end` or below it.
+pub fn split(edges: &Line, start: u64, end: u64) -> (usize, usize)
+    requires { Climbs 0 edges.now.items }
+    ensures { IsSplit edges.now.items start end result.0 result.1 }
+{
+    (count_below(edges, start), count_to(edges, end))
 }
 
 /// How many edges lie at a number or below it, which is found soon where they are `near` many, or one more.

@@ -113,9 +113,22 @@ impl Line {
         }
     }
 
+    /// How many of the numbers are at most `n`, where that is seen to be the place of the last change.
+    pub fn place_of(&self, n: u64) -> Option<usize>
+        requires { Climbs 0 self.now.items }
+        ensures is { IfSome result (λ count. count ≡ count_le self.now.items n) }
+        ensures small { IfSome result (λ count. count ≤ length self.now.items) }
+    {
+        if lies_between(&self.before, &self.behind, n) {
+            Some(self.before.len())
+        } else {
+            None
+        }
+    }
+
     /// How many of the numbers are at most `n`, where that is the place of the last change, or one or two
     /// more, as it is for changes in order.
-    fn count_here(&self, n: u64) -> Option<usize>
+    pub fn count_here(&self, n: u64) -> Option<usize>
         requires { Climbs 0 self.now.items }
         ensures is { IfSome result (λ count. count ≡ count_le self.now.items n) }
         ensures small { IfSome result (λ count. count ≤ length self.now.items) }
@@ -267,9 +280,21 @@ impl Line {
         if lies_between(&self.before, &self.behind, n) {
             self.before.push_reserved(n);
         } else {
-            let place = self.count_to(n);
-            self.insert(place, n);
+            self.put_there(n);
         }
+    }
+
+    /// The same of a number that belongs elsewhere than to the place of the last change.
+    #[inline(never)]
+    fn put_there(&mut self, n: u64)
+        requires climbs { Climbs 0 self.old.items }
+        requires room { 0 < self.old.room }
+        ensures climbs { Climbs 0 self.new.items }
+        ensures counts { (m : ℕ) → count_le self.new.items m ≡ count_le self.old.items m + one_if (nat_le n m) }
+        ensures room { self.old.room ≤ self.new.room + 1 }
+    {
+        let place = self.count_to(n);
+        self.insert(place, n);
     }
 
     /// Puts a number at a place.
@@ -395,10 +420,8 @@ fn pop_if(stack: &mut Vec<u64>, n: u64) -> bool
     ensures len { vec_len stack.new ≤ vec_len stack.old }
     ensures room { vec_capacity stack.new ≡ vec_capacity stack.old }
 {
-    let Some(last) = stack.len().checked_sub(1) else {
-        return false;
-    };
-    if number_in(stack, last, 0) != n {
+    let len = stack.len();
+    if len == 0 || stack[len - 1] != n {
         return false;
     }
     stack.pop();
@@ -448,13 +471,15 @@ fn go_to(before: &mut Vec<u64>, behind: &mut Vec<u64>, at: usize)
     let place = before.len();
     if at < place {
         pour(before, behind, at);
-    } else {
+    } else if place < at {
         let left = behind.len() - (at - place);
         pour(behind, before, left);
     }
 }
 
-/// Moves numbers from the top of one stack to the top of another, until so many are left.
+/// Moves numbers from the top of one stack to the top of another, until so many are left. It stands apart, so
+/// that a change at the place is short.
+#[inline(never)]
 fn pour(from: &mut Vec<u64>, to: &mut Vec<u64>, left: usize)
     requires left { left ≤ vec_len from.old }
     requires room { vec_len to.old + vec_len from.old ≤ vec_capacity to.old }

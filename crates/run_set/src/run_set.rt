@@ -1,10 +1,10 @@
 //! A set of numbers, as runs.
 
 ghost use Rattle.std.specs.Prelude.{◌≡◌, ℕ, ◌+◌, ◌≤◌, ◌<◌, [], if◌then◌else◌, length, IsOk, OnOk, OnErr};
-ghost use Rattle.run_set.specs.Edges.{member, in_run, IsFirst, IsKept, Rises};
+ghost use Rattle.run_set.specs.Edges.{member, in_run, IsFirst, IsKept, IsSplit, Rises};
 ghost use Rattle.run_set.specs.Numbers.{count_le};
 
-use crate::edges::{count_and_turn, count_below, count_to, differ, is_odd, turn};
+use crate::edges::{count_and_turn, count_to, differ, is_odd, split, split_here, turn};
 use crate::line::Line;
 use std::alloc::{AllocError, Global};
 use std::marker::Model;
@@ -129,12 +129,48 @@ impl RunSet {
         if end <= start {
             return;
         }
-        let first = count_below(edges, start);
-        let inside = count_to(edges, end) - first;
-        let before = is_odd(first);
+        match split_here(edges, start, end) {
+            Some((below, to)) => self.set_between(below, to, start, end, is_in),
+            None => self.set_apart(start, end, is_in),
+        }
+    }
+
+    /// The same of a run that lies elsewhere than at the place of the last change. It stands apart, so that a
+    /// change at that place is short.
+    #[inline(never)]
+    fn set_apart(&mut self, start: u64, end: u64, is_in: bool)
+        requires some { start < end }
+        requires room { 2 ≤ self.old.room }
+        ensures members { (n : ℕ) → member self.new.edges n
+            ≡ (if in_run start end n then is_in else member self.old.edges n) }
+        ensures kept { IsKept self.new.edges }
+        ensures edges { length self.new.edges ≤ length self.old.edges + 2 }
+        ensures room { self.old.room ≤ self.new.room + 2 }
+        ensures capacity { length self.old.edges + self.old.room ≤ length self.new.edges + self.new.room }
+        ensures within { (top : ℕ) → end < top → Rises 0 top self.old.edges → Rises 0 top self.new.edges }
+    {
+        let (below, to) = split(&self.edges, start, end);
+        self.set_between(below, to, start, end, is_in);
+    }
+
+    /// The same of a run below which `below` edges lie, and up to whose end `to` of them do.
+    fn set_between(&mut self, below: usize, to: usize, start: u64, end: u64, is_in: bool)
+        requires some { start < end }
+        requires split { IsSplit self.old.edges start end below to }
+        requires room { 2 ≤ self.old.room }
+        ensures members { (n : ℕ) → member self.new.edges n
+            ≡ (if in_run start end n then is_in else member self.old.edges n) }
+        ensures kept { IsKept self.new.edges }
+        ensures edges { length self.new.edges ≤ length self.old.edges + 2 }
+        ensures room { self.old.room ≤ self.new.room + 2 }
+        ensures capacity { length self.old.edges + self.old.room ≤ length self.new.edges + self.new.room }
+        ensures within { (top : ℕ) → end < top → Rises 0 top self.old.edges → Rises 0 top self.new.edges }
+    {
+        let inside = to - below;
+        let before = is_odd(below);
         let after = differ(before, is_odd(inside));
         self.edges.replace(
-            first,
+            below,
             inside,
             (start, differ(before, is_in)),
             (end, differ(after, is_in)),

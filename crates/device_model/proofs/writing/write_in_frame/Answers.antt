@@ -9,17 +9,18 @@ use Rattle.phys_memory.proofs.SameFrames.{same_rewritten}
 use Rattle.device_model.proofs.Accessing.{memory_written, page_put}
 use Rattle.device_model.proofs.writing.write_in_frame.Goals as goal
 
-pub returns-then-has_frame-clause-wire : goal.returns-then-has_frame-clause-wire
-returns-then-has_frame-clause-wire c =
+pub returns-then-write_if_there-clause-wire : goal.returns-then-write_if_there-clause-wire
+returns-then-write_if_there-clause-wire c =
     memory_written c.args.memory.now.memory c.args.pages.now c.requires.apart c.args.at.0 c.args.bytes.now
-    (wire c.write.new.self.memory) c.requires.inside (sym c.has_frame.ensures.is
-    ∙ c.if-has_frame.true) c.write.ensures.wire
+    (wire c.write_if_there.new.self.memory) c.requires.inside (sym c.write_if_there.ensures.there
+    ∙ c.if-write_if_there.true) (c.write_if_there.ensures.wire c.if-write_if_there.true)
 
-pub returns-then-has_frame-clause-same : goal.returns-then-has_frame-clause-same
-returns-then-has_frame-clause-same c =
-    subst (λ (m : Memory). SamePages c.args.memory.now.memory m) (sym c.write.ensures.memory)
+pub returns-then-write_if_there-clause-same : goal.returns-then-write_if_there-clause-same
+returns-then-write_if_there-clause-same c =
+    subst (λ (m : Memory). SamePages c.args.memory.now.memory m)
+    (sym (c.write_if_there.ensures.memory c.if-write_if_there.true))
     (same_rewritten c.args.memory.now.memory c.args.at.0 c.args.bytes.now
-    (sym c.has_frame.ensures.is ∙ c.if-has_frame.true))
+    (sym c.write_if_there.ensures.there ∙ c.if-write_if_there.true))
 
 pub returns-clause-wire : goal.returns-clause-wire
 returns-clause-wire c =
@@ -29,14 +30,15 @@ returns-clause-wire c =
     let shown = c.index-pages-place.result in
     let page : get_or pages place shown ≡ get_or pages place no_page =
     get_or_default pages place shown no_page inside in
-    page_put c.args.memory.now.memory pages c.requires.apart place c.args.at.0 c.args.bytes.now c.write-2.new.self
+    rw (c.write_if_there.ensures.left c.if-write_if_there.false)
+    (page_put c.args.memory.now.memory pages c.requires.apart place c.args.at.0 c.args.bytes.now c.write.new.self
     inside c.page_of-place.ensures.frame c.requires.inside
-    (ap (λ (p : FrameBytes). length p.bytes) (sym page) ∙ c.write-2.ensures.whole)
-    (c.write-2.ensures.page
-    ∙ ap (λ (p : FrameBytes). record p { bytes = overwritten p.bytes (c.args.at.0 % 4096) c.args.bytes.now }) page)
+    (ap (λ (p : FrameBytes). length p.bytes) (sym page) ∙ c.write.ensures.whole)
+    (c.write.ensures.page
+    ∙ ap (λ (p : FrameBytes). record p { bytes = overwritten p.bytes (c.args.at.0 % 4096) c.args.bytes.now }) page))
 
 pub returns-clause-frames : goal.returns-clause-frames
 returns-clause-frames c =
     map-set_same (λ (p : FrameBytes). p.frame) c.args.pages.now c.page_of-place.result
-    c.write-2.new.self c.index-pages-place.result
-    (ap (λ (p : FrameBytes). p.frame) c.write-2.ensures.page)
+    c.write.new.self c.index-pages-place.result
+    (ap (λ (p : FrameBytes). p.frame) c.write.ensures.page)

@@ -1,8 +1,14 @@
-use Rattle.std.proofs.Common.{ap, sym, ◌∙◌, arith}
+use Rattle.std.proofs.Common.{refl, ap, sym, ◌∙◌, arith}
 use Rattle.busdma_machine.specs.Judging.{judged}
 use Rattle.loan_table.specs.Lending.{sync_refusal}
+use Rattle.loan_table.proofs.Hulls.{fine_range}
 use Rattle.loan_table.proofs.Pieces.{nothing, whole}
 use Rattle.loan_table.proofs.sync.judge_each.Goals as goal
+
+pub returns-then-passes_whole : goal.returns-then-passes_whole
+returns-then-passes_whole c lender of =
+    sym (fine_range (sync_refusal lender.loans lender.map c.args.ops.0) c.args.off c.args.len c.args.row.now.positions
+    c.requires.range (c.if-passes_whole.ensures refl lender of))
 
 pub loop-at-init : goal.loop-at-init
 loop-at-init c = record {

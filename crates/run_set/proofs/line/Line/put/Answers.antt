@@ -1,4 +1,4 @@
-use Rattle.std.proofs.Common.{length, refl, sym}
+use Rattle.std.proofs.Common.{length, refl}
 use Rattle.run_set.specs.Numbers.{stacked}
 use Rattle.run_set.proofs.Counting.{count_insert}
 use Rattle.run_set.proofs.Lines.{climbs_put, put_there}
@@ -19,12 +19,3 @@ returns-then-lies_between-clause-counts c m =
     let b = c.self.inside.behind.items in
     rw (← c.self.view_is, c.push_reserved.ensures.items, put_there (length a) c.args.n a b (stacked a b) refl refl)
     (count_insert (stacked a b) (length a) c.args.n m)
-
-pub returns-else-lies_between-clause-climbs : goal.returns-else-lies_between-clause-climbs
-returns-else-lies_between-clause-climbs c =
-    rw c.insert.ensures.items (climbs_put c.args.self.now.items c.args.n c.count_to-place.result c.requires.climbs
-    (sym c.count_to-place.ensures.is))
-
-pub returns-else-lies_between-clause-counts : goal.returns-else-lies_between-clause-counts
-returns-else-lies_between-clause-counts c m =
-    rw c.insert.ensures.items (count_insert c.args.self.now.items c.count_to-place.result c.args.n m)

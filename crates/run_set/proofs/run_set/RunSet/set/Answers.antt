@@ -1,78 +1,9 @@
-use Rattle.std.proofs.Common.{◌^◌, ◌-◌, ◌≡◌, ◌<◌, ℕ, if◌then◌else◌, arith}
-use Rattle.run_set.specs.Edges.{IsKept, Rises, member, in_run}
-use Rattle.run_set.proofs.Sets.{finite_edges_set, in_parts, members_edges_set, Parts, rises_climbs, rises_edges_set}
+use Rattle.std.proofs.Common.{◌^◌}
+use Rattle.run_set.proofs.Sets.{rises_climbs}
 use Rattle.run_set.proofs.run_set.RunSet.set.Goals as goal
 
-pub count_below-first-requires : goal.count_below-first-requires
-count_below-first-requires c = rises_climbs 0 (2 ^ 64) _ c.self.invariant.rise
-
-pub count_to-requires : goal.count_to-requires
-count_to-requires c = rises_climbs 0 (2 ^ 64) _ c.self.invariant.rise
-
--- the edges in three parts, below what lies above them and the end
-parts : (c : goal.After-replace) → (top : ℕ) → c.args.end < top → Rises 0 top c.self.inside.edges.items →
-    Parts c.self.inside.edges.items c.count_below-first.result c.count_to.result c.args.start c.args.end top
-parts c top p r =
-    in_parts c.self.inside.edges.items c.count_below-first.result c.count_to.result c.args.start c.args.end top
-    (omega arith) p r c.count_below-first.ensures.below c.count_below-first.ensures.above c.count_to.ensures.below
-    c.count_to.ensures.above c.count_below-first.ensures.small c.count_to.ensures.small
-
--- the edges stay below what lies above them and the end
-within : (c : goal.After-replace) → (top : ℕ) → c.args.end < top → Rises 0 top c.self.inside.edges.items →
-    Rises 0 top c.replace.new.self.items
-within c top p r =
-    let three = parts c top p r in
-    let rises = rises_edges_set c.args.start c.args.end top c.count_below-first.result
-    (c.count_to.result - c.count_below-first.result)
-    c.args.is_in c.self.inside.edges.items (omega arith) c.count_below-first.ensures.small three.small
-    three.before three.inside three.behind in
-    rw (
-      c.replace.ensures.items,
-      c.differ.ensures,
-      c.differ-2.ensures,
-      c.differ-after.ensures,
-      c.is_odd-before.ensures,
-      c.is_odd.ensures,
-    ) rises
-
--- the new edges rise, and their members are those that are wanted
-done : (c : goal.After-replace) → IsKept c.replace.new.self.items
-    × ((n : ℕ) → member c.replace.new.self.items n
-    ≡ (if in_run c.args.start c.args.end n then c.args.is_in else member c.self.inside.edges.items n))
-done c =
-    let three = parts c (2 ^ 64) (omega arith) c.self.invariant.rise in
-    let members = members_edges_set c.args.start c.args.end (2 ^ 64) c.count_below-first.result
-    (c.count_to.result - c.count_below-first.result)
-    c.args.is_in c.self.inside.edges.items (omega arith) c.count_below-first.ensures.small three.small
-    three.before three.inside three.behind in
-    let finite = finite_edges_set c.args.start c.args.end (2 ^ 64) c.count_below-first.result
-    (c.count_to.result - c.count_below-first.result)
-    c.args.is_in c.self.inside.edges.items (omega arith) c.count_below-first.ensures.small three.small
-    three.before three.inside three.behind c.self.invariant.rise (omega arith) c.self.invariant.finite in
-    let rises = rises_edges_set c.args.start c.args.end (2 ^ 64) c.count_below-first.result
-    (c.count_to.result - c.count_below-first.result)
-    c.args.is_in c.self.inside.edges.items (omega arith) c.count_below-first.ensures.small three.small
-    three.before three.inside three.behind in
-    rw (
-      c.replace.ensures.items,
-      c.differ.ensures,
-      c.differ-2.ensures,
-      c.differ-after.ensures,
-      c.is_odd-before.ensures,
-      c.is_odd.ensures,
-    ) (record { rise = rises; finite = finite }, members)
-
-pub invariant_of-self : goal.invariant_of-self
-invariant_of-self c = (done c).0
-
-pub returns-clause-members : goal.returns-clause-members
-returns-clause-members c = rw (← c.self.view_is) (done c).1
-
-pub returns-clause-within : goal.returns-clause-within
-returns-clause-within c = rw (← c.self.view_is) (within c)
-
-pub returns-clause-kept : goal.returns-clause-kept
-returns-clause-kept c = (done c).0
+pub split_here-requires : goal.split_here-requires
+split_here-requires c = rises_climbs 0 (2 ^ 64) _ c.self.invariant.rise
 
 pub returns-then-end-start-clause-kept : goal.returns-then-end-start-clause-kept
 returns-then-end-start-clause-kept c = rw (← c.self.view_is) c.self.invariant

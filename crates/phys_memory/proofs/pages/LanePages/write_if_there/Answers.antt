@@ -1,0 +1,77 @@
+use Rattle.std.proofs.Common.{◌/◌, min, ap, sym, ◌∙◌, subst}
+use Rattle.std.specs.Prelude.{Some, is_some}
+use Rattle.std.specs.Option.{option_copied_mut}
+use Rattle.std.specs.HashMap.{spare}
+use Rattle.busdma_machine.specs.Machine.Page.{FrameBytes}
+use Rattle.phys_memory.specs.Memory.{Roomy, has_frame, rewritten, wire, written}
+use Rattle.phys_memory.proofs.Kept.{has_frame-kept}
+use Rattle.phys_memory.proofs.Changes.{Puts, kept_rewritten, memory_rewritten, places_rewritten, wire_after}
+use Rattle.phys_memory.proofs.pages.LanePages.write_if_there.Goals as goal
+
+pub returns-in_default-clause-there : goal.returns-in_default-clause-there
+returns-in_default-clause-there c =
+    let m = c.self.inside in
+    let found = sym c.get_mut.ensures.value ∙ ap option_copied_mut c.in_default.is in
+    sym (sym (ap (λ (r : Roomy). has_frame r.memory (c.args.pa.0 / 4096)) c.self.view_is)
+    ∙ has_frame-kept m.table.entries m.frames.entries (c.args.pa.0 / 4096) ∙ ap is_some found)
+
+pub returns-clause-there : goal.returns-clause-there
+returns-clause-there c =
+    let m = c.self.inside in
+    let found = sym c.get_mut.ensures.value ∙ ap option_copied_mut c.in-Some.is in
+    sym (sym (ap (λ (r : Roomy). has_frame r.memory (c.args.pa.0 / 4096)) c.self.view_is)
+    ∙ has_frame-kept m.table.entries m.frames.entries (c.args.pa.0 / 4096) ∙ ap is_some found)
+
+pub invariant_of-self-2 : goal.invariant_of-self-2
+invariant_of-self-2 c =
+    let m = c.self.inside in
+    let told = c.get_mut.follows.holds c.write.new.self in
+    let found = sym c.get_mut.ensures.value ∙ ap option_copied_mut c.in-Some.is in
+    let puts = (told.3 (ap is_some found)).0 in
+    let put =
+    subst (λ (p : FrameBytes). Puts m.frames.entries (c.get_mut.follows.lender c.write.new.self).entries
+    (c.args.pa.0 / 4096) (Some p)) c.write.ensures.page puts in
+    record {
+      memory = kept_rewritten m.table.entries m.frames.entries _ c.args.pa.0 c.in-Some.page.now c.args.bytes.now
+          c.self.invariant.memory found c.requires.inside put;
+      at_frames =
+          places_rewritten m.frames.entries _ c.args.pa.0 c.in-Some.page.now c.args.bytes.now
+          c.self.invariant.at_frames found put;
+      stretches_are = c.self.invariant.stretches_are;
+      stretches_count = c.self.invariant.stretches_count;
+    }
+
+pub returns-clause-memory : goal.returns-clause-memory
+returns-clause-memory c is =
+    let m = c.self.inside in
+    let told = c.get_mut.follows.holds c.write.new.self in
+    let found = sym c.get_mut.ensures.value ∙ ap option_copied_mut c.in-Some.is in
+    let puts = (told.3 (ap is_some found)).0 in
+    let put =
+    subst (λ (p : FrameBytes). Puts m.frames.entries (c.get_mut.follows.lender c.write.new.self).entries
+    (c.args.pa.0 / 4096) (Some p)) c.write.ensures.page puts in
+    let new =
+    memory_rewritten m.table.entries m.frames.entries _ c.args.pa.0
+    c.in-Some.page.now c.args.bytes.now found put in
+    new ∙ ap (λ (r : Roomy). rewritten r.memory c.args.pa.0 c.args.bytes.now) c.self.view_is
+
+pub returns-clause-spare : goal.returns-clause-spare
+returns-clause-spare c =
+    let told = c.get_mut.follows.holds c.write.new.self in
+    ap (min (spare c.self.inside.table)) told.6 ∙ ap (λ (r : Roomy). r.spare) c.self.view_is
+
+pub returns-clause-wire : goal.returns-clause-wire
+returns-clause-wire c is =
+    let m = c.self.inside in
+    let told = c.get_mut.follows.holds c.write.new.self in
+    let found = sym c.get_mut.ensures.value ∙ ap option_copied_mut c.in-Some.is in
+    let puts = (told.3 (ap is_some found)).0 in
+    let put =
+    subst (λ (p : FrameBytes). Puts m.frames.entries (c.get_mut.follows.lender c.write.new.self).entries
+    (c.args.pa.0 / 4096) (Some p)) c.write.ensures.page puts in
+    let new =
+    memory_rewritten m.table.entries m.frames.entries _ c.args.pa.0
+    c.in-Some.page.now c.args.bytes.now found put in
+    let here = ap (λ (r : Roomy). has_frame r.memory (c.args.pa.0 / 4096)) c.self.view_is ∙ sym (returns-clause-there c) in
+    ap wire new ∙ wire_after _ c.args.pa.0 c.args.bytes.now c.self.invariant.memory here c.requires.inside
+    ∙ ap (λ (r : Roomy). written c.args.pa.0 c.args.bytes.now (wire r.memory)) c.self.view_is
