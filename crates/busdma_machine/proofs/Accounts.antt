@@ -1,8 +1,10 @@
 pub mod Counting
 pub mod Counts
 pub mod EachFrame
+pub mod FirstCome
 pub mod KeptZones
 pub mod LaneEntries
+pub mod LatePages
 pub mod LowPages
 pub mod Names
 pub mod Order

@@ -3,10 +3,12 @@ pub mod AccountStep
 pub mod Conditions
 pub mod Door
 pub mod EachFrame
+pub mod FirstCome
 pub mod Growth
 pub mod History
 pub mod KeptZones
 pub mod LaneEntries
+pub mod LatePages
 pub mod LowPages
 pub mod MemoryRuns
 pub mod Places
@@ -14,5 +16,6 @@ pub mod SameFor
 pub mod Serving
 pub mod ServingOrder
 pub mod Share
+pub mod StuckExample
 pub mod WellFormed
 pub mod WorkedExample

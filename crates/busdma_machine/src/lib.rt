@@ -13,9 +13,10 @@ mod tags;
 pub use bounce::{
     Called, Grabbed, Grown, HoldEntry, HubCall, HubDoor, HubReply, Opening, Waiter, ZoneCounts,
     account_is_well_formed, callbacks_keep_their_order, condition_stays, counts_add_up,
-    each_frame_in_one_place, frames_lie_below_maxmem, free_frames_rise, growth_serves_nobody,
-    no_frame_is_lost, no_page_is_lent_twice, pages_lie_low, release_serves_in_order, twelve_calls,
-    waiting_map_stays, zone_serves_its_tag, zones_stay,
+    each_frame_in_one_place, first_come_is_first_served, frames_lie_below_maxmem, free_frames_rise,
+    growth_serves_nobody, no_frame_is_lost, no_page_is_lent_twice, pages_lie_low,
+    release_serves_in_order, twelve_calls, two_loads_wait_for_ever, waiting_map_stays,
+    waiting_zone_lacks_pages, zone_serves_its_tag, zones_stay,
 };
 pub use list::ListOf;
 pub use machine::{

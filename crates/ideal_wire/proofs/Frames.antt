@@ -20,6 +20,7 @@ use Rattle.busdma_machine.specs.Bounce.Places.{times, times_lent}
 use Rattle.busdma_machine.specs.Bounce.Serving.{is_holding}
 use Rattle.busdma_base.specs.Scenarios.PageRuns.{is_own}
 use Rattle.busdma_machine.proofs.Accounts.Counting.{count_by-append}
+use Rattle.busdma_machine.proofs.Accounts.Names.{same_map-same}
 use Rattle.segment_build.specs.Trace.{bus_extent}
 use Rattle.lane_agreement.specs.OwnShare.{one_if, loaded_page}
 use Rattle.lane_agreement.specs.View as view
@@ -62,19 +63,16 @@ count-two p q r (x ∷ xs) first second apart =
     one false true false e f g = absurd (false≢true (sym g ∙ second x f))
     one false false s e f g = omega arith
 
-made-alike : (m n k : MapId) → same_map m k ≡ true → same_map n k ≡ true → m.made_at ≡ n.made_at
-made-alike m n k e f =
-    let a = and_parts (m.lane.0 == k.lane.0) (m.made_at == k.made_at) e in
-    let b = and_parts (n.lane.0 == k.lane.0) (n.made_at == k.made_at) f in
-    eqb-true m.made_at k.made_at a.1 ∙ sym (eqb-true n.made_at k.made_at b.1)
+name-alike : (m n k : MapId) → same_map m k ≡ true → same_map n k ≡ true → m ≡ n
+name-alike m n k e f = same_map-same m k e ∙ sym (same_map-same n k f)
 
 -- two maps hold a page no more often than all do
-lent-two : (m n : MapId) (y z p : ℕ) (a : Account) → m.made_at ≢ n.made_at →
+pub lent-two : (m n : MapId) (y z p : ℕ) (a : Account) → m ≢ n →
     times_held m y p a + times_held n z p a ≤ times_lent p a
 lent-two m n y z p a ne =
     count-two (is_holding m y p) (is_holding n z p) (λ h. h.page == p) a.held
     (λ h e. (and_parts (h.page == p) _ e).0) (λ h e. (and_parts (h.page == p) _ e).0)
-    (λ h e f. ne (made-alike m n h.map (name m y h e) (name n z h f)))
+    (λ h e f. ne (name-alike m n h.map (name m y h e) (name n z h f)))
   where
     name : (k : MapId) (x : ℕ) (h : Held) → is_holding k x p h ≡ true → same_map k h.map ≡ true
     name k x h e =
@@ -82,7 +80,7 @@ lent-two m n y z p a ne =
         (and_parts (h.page == p) ((h.zone == x) && same_map k h.map) e).1).1
 
 -- two memories have a frame no more often than all do
-pub mems-two : (m n : MapId) (f : ℕ) (xs : List Memory) → m.made_at ≢ n.made_at →
+pub mems-two : (m n : MapId) (f : ℕ) (xs : List Memory) → m ≢ n →
     times f (frames_of m xs) + times f (frames_of n xs) ≤ sum_by (λ x. times f x.frames) xs
 mems-two m n f [] ne = omega arith
 mems-two m n f (x ∷ xs) ne =
@@ -97,7 +95,7 @@ mems-two m n f (x ∷ xs) ne =
         sum_by (λ y. times f y.frames) (x ∷ xs) ≡ times f x.frames + sum_by (λ y. times f y.frames) xs →
         times f (cond u (x.frames ++ frames_of m xs) (frames_of m xs))
         + times f (cond v (x.frames ++ frames_of n xs) (frames_of n xs)) ≤ sum_by (λ y. times f y.frames) (x ∷ xs)
-    by true true e g rest all = absurd (ne (made-alike m n x.mem e g))
+    by true true e g rest all = absurd (ne (name-alike m n x.mem e g))
     by true false e g rest all = omega (arith, rest, all, joined m)
     by false true e g rest all = omega (arith, rest, all, joined n)
     by false false e g rest all = omega (arith, rest, all)
@@ -106,8 +104,12 @@ mems-two m n f (x ∷ xs) ne =
 abbrev pub next : MapId → MapId
 next m = record { lane = m.lane; made_at = suc m.made_at }
 
-pub off-next : (m : MapId) → m.made_at ≢ (next m).made_at
-off-next m e = absurd (omega (arith, e))
+pub off-next : (m : MapId) → m ≢ next m
+off-next m e = absurd (omega (arith, ap (λ (k : MapId). k.made_at) e))
+
+-- what a driver made at two places has two names
+off-named : (l : LaneState) (m n : ℕ) → m ≢ n → named l m ≢ named l n
+off-named l m n ne e = ne (ap (λ (k : MapId). k.made_at) e)
 
 -- ---- frames
 
@@ -214,7 +216,7 @@ module _ (l : LaneState) (a : Account) (agrees : AgreesWith l a) where
         (omega (
           arith,
           agrees.one f,
-          mems-two (named l k) (named l j) f a.mems ne,
+          mems-two (named l k) (named l j) f a.mems (off-named l k j ne),
           memory-held k x f there,
           memory-held j y f too,
           run-frame x.count x.first b rx.whole h,
@@ -237,14 +239,14 @@ module _ (l : LaneState) (a : Account) (agrees : AgreesWith l a) where
 
   module _ (stands : Stands l) where
     -- a map that is loaded with a page
-    record Holder (m : ℕ) (cs : List Chunk) (ss : List Segment) (ps : List ℕ) : Type 0 where
-      map : LaneMap
-      zone : ℕ
-      there : get l.maps m ≡ Some map
-      zoned : map.zone ≡ Some zone
-      stage : map.stage ≡ Loaded cs ss ps
+    pub record Holder (m : ℕ) (cs : List Chunk) (ss : List Segment) (ps : List ℕ) : Type 0 where
+      pub map : LaneMap
+      pub zone : ℕ
+      pub there : get l.maps m ≡ Some map
+      pub zoned : map.zone ≡ Some zone
+      pub stage : map.stage ≡ Loaded cs ss ps
 
-    holder-of : (m i p : ℕ) (cs : List Chunk) (ss : List Segment) (ps : List ℕ) → stage_at l m ≡ Loaded cs ss ps →
+    pub holder-of : (m i p : ℕ) (cs : List Chunk) (ss : List Segment) (ps : List ℕ) → stage_at l m ≡ Loaded cs ss ps →
         slice_get ps i ≡ Some p → Holder m cs ss ps
     holder-of m i p cs ss ps loaded has = by (get l.maps m) refl loaded
       where
@@ -263,11 +265,11 @@ module _ (l : LaneState) (a : Account) (agrees : AgreesWith l a) where
         by None e s = absurd (cc)
         by (Some o) e s = zoned o e s o.zone refl
 
-    page-times : {m : ℕ} {cs : List Chunk} {ss : List Segment} {ps : List ℕ} (h : Holder m cs ss ps) (p : ℕ) →
+    pub page-times : {m : ℕ} {cs : List Chunk} {ss : List Segment} {ps : List ℕ} (h : Holder m cs ss ps) (p : ℕ) →
         times p ps ≤ times_held (named l m) h.zone p a
     page-times {m} {cs} {ss} {ps} h p = page-held m h.map h.zone cs ss ps p h.there h.zoned h.stage
 
-    counted-page : (ps : List ℕ) (i p : ℕ) → slice_get ps i ≡ Some p → 1 ≤ times p ps
+    pub counted-page : (ps : List ℕ) (i p : ℕ) → slice_get ps i ≡ Some p → 1 ≤ times p ps
     counted-page ps i p e = Rattle.ideal_wire.proofs.Lent.counted_one (λ q. q == p) ps i p e (eq-eqb p p refl)
 
     -- a page that a map holds stands among the account's frames
@@ -283,14 +285,14 @@ module _ (l : LaneState) (a : Account) (agrees : AgreesWith l a) where
         )
 
     -- a page that a map holds
-    record PageOf (m i page : ℕ) : Type 0 where
-      bounced : List Chunk
-      segments : List Segment
-      pages : List ℕ
-      stage : stage_at l m ≡ Loaded bounced segments pages
-      has : slice_get pages i ≡ Some page
+    pub record PageOf (m i page : ℕ) : Type 0 where
+      pub bounced : List Chunk
+      pub segments : List Segment
+      pub pages : List ℕ
+      pub stage : stage_at l m ≡ Loaded bounced segments pages
+      pub has : slice_get pages i ≡ Some page
 
-    page-of : (m i page : ℕ) → HoldsPage l m i page → PageOf m i page
+    pub page-of : (m i page : ℕ) → HoldsPage l m i page → PageOf m i page
     page-of m i page h = by (stage_at l m) refl h
       where
         by : (s : Stage) → stage_at l m ≡ s → slice_get (pages_of s) i ≡ Some page → PageOf m i page
@@ -368,7 +370,7 @@ module _ (l : LaneState) (a : Account) (agrees : AgreesWith l a) where
               page-times g page,
               counted-page x.pages i page x.has,
               counted-page y.pages j page y.has,
-              lent-two (named l m) (named l n) h.zone g.zone page a ne,
+              lent-two (named l m) (named l n) h.zone g.zone page a (off-named l m n ne),
             ))
 
     -- what the driver holds lies apart

@@ -25,6 +25,7 @@ pub mod FaithfulSpots
 pub mod FaithfulSync
 pub mod Frames
 pub mod HavingChunks
+pub mod Held
 pub mod KeptMapped
 pub mod KeptMaps
 pub mod KeptSpaces

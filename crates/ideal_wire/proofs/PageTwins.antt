@@ -12,9 +12,9 @@ use Rattle.ideal_wire.proofs.Lent.{any_at}
 use Rattle.ideal_wire.proofs.Positions.{found_one}
 
 -- a byte lies in a frame of a run
-record HasByte (r : PageRun) (pa : ℕ) : Type 0 where
-  low : 4096 * r.frame ≤ pa
-  high : pa < 4096 * (r.frame + r.count)
+pub record HasByte (r : PageRun) (pa : ℕ) : Type 0 where
+  pub low : 4096 * r.frame ≤ pa
+  pub high : pa < 4096 * (r.frame + r.count)
 
 -- so it does where it is reached by the run
 by-run : (r : PageRun) (va pa : ℕ) → is_in_run va r ≡ true → 4096 * r.frame + (va - r.va.0) ≡ pa → HasByte r pa
@@ -25,7 +25,7 @@ by-run r va pa inside is =
     record { low = omega (arith, is); high = omega (arith, begin, end, is) }
 
 -- two runs that have a byte share a frame
-shares : (q r : PageRun) (pa : ℕ) → HasByte q pa → HasByte r pa → share_frame q r ≡ true
+pub shares : (q r : PageRun) (pa : ℕ) → HasByte q pa → HasByte r pa → share_frame q r ≡ true
 shares q r pa x y = elim (cases_lt q.frame r.frame) as (λ _. share_frame q r ≡ true) [
   | inl below ↦
       or-true (nat_le r.frame q.frame && nat_lt q.frame (r.frame + r.count)) _
@@ -45,12 +45,12 @@ shares q r pa x y = elim (cases_lt q.frame r.frame) as (λ _. share_frame q r �
     or-true false b h = h
 
 -- what stands in front stands there
-in-front : {X : Type 0} (xs ys : List X) (i : ℕ) (x : X) → slice_get xs i ≡ Some x → slice_get (xs ++ ys) i ≡ Some x
+pub in-front : {X : Type 0} (xs ys : List X) (i : ℕ) (x : X) → slice_get xs i ≡ Some x → slice_get (xs ++ ys) i ≡ Some x
 in-front [] ys i x e = absurd (cc)
 in-front (z ∷ xs) ys zero x e = e
 in-front (z ∷ xs) ys (suc i) x e = in-front xs ys i x e
 
-at-end : {X : Type 0} (xs : List X) (x : X) → slice_get (xs ++ x ∷ []) (length xs) ≡ Some x
+pub at-end : {X : Type 0} (xs : List X) (x : X) → slice_get (xs ++ x ∷ []) (length xs) ≡ Some x
 at-end [] x = refl
 at-end (z ∷ xs) x = at-end xs x
 

@@ -2,6 +2,7 @@ pub mod Accepted
 pub mod Answered
 pub mod Apart
 pub mod Centre
+pub mod Held
 pub mod Laid
 pub mod Machine
 pub mod Mapped

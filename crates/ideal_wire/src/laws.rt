@@ -1,6 +1,6 @@
 //! Laws of the wire.
 
-ghost use Rattle.std.specs.Prelude.{◌≡◌, ◌∷◌, [], ℕ, Bool, true, false, List, Some, map, slice_get};
+ghost use Rattle.std.specs.Prelude.{◌≡◌, ◌≢◌, ◌∷◌, [], ℕ, Bool, true, false, List, Some, map, slice_get};
 ghost use Rattle.std.specs.FinMap.{contains_key, get};
 ghost use Rattle.std.specs.List.{AllByRecursion};
 ghost use Rattle.busdma_machine.specs.declared.bounce.hold.HubCall.{HubCall};
@@ -51,6 +51,7 @@ ghost use Rattle.ideal_wire.specs.Accepted.{ArePagesFor, IfSegments, IsAcceptedL
 ghost use Rattle.ideal_wire.specs.Answered.{AnswersLoads, found_at};
 ghost use Rattle.ideal_wire.specs.Apart.{IsApart};
 ghost use Rattle.ideal_wire.specs.Centre.{IsFaithful};
+ghost use Rattle.ideal_wire.specs.Held.{FindsHeld, Holder, bus_addresses, holds};
 ghost use Rattle.ideal_wire.specs.Laid.{AreLaid, KeepsLaid};
 ghost use Rattle.ideal_wire.specs.Machine.{IsInMachine};
 ghost use Rattle.ideal_wire.specs.Mapped.{AreMapped};
@@ -116,6 +117,21 @@ pub fn bytes_are_reached_once()
 /// What a driver holds lies apart, where it stands, agrees with the account and has its loads laid.
 pub fn agreeing_pages_are_apart()
     ensures { (l : LaneState) (a : Account) → Stands l → AgreesWith l a → AreLaid l → IsApart l }
+{}
+
+/// A byte that a driver holds it holds by one thing alone: by its pages, by a memory, or by a map, which
+/// may have its bounce pages or have them in the return queue. Of two drivers that agree with one account,
+/// and whose pages are apart, no other holds it. The device of a map finds, at each bus address that the
+/// segments of its load name, a byte that its own driver holds. The drivers stand and have their loads laid, and the
+/// account is one that a sound history leads to.
+pub fn holdings_are_apart()
+    ensures one { (l : LaneState) (a : Account) (b : ℕ) (by : Holder) (other : Holder) → IsFit a → AgreesWith l a →
+        Stands l → AreLaid l → holds l by b ≡ true → holds l other b ≡ true → by ≡ other }
+    ensures others { (l : LaneState) (k : LaneState) (a : Account) (b : ℕ) (by : Holder) (other : Holder) → IsFit a →
+        AgreesWith l a → Stands l → AreLaid l → AgreesWith k a → Stands k → AreLaid k → l.id ≢ k.id →
+        (is_own l.pages b ≡ true → is_own k.pages b ≡ false) → holds l by b ≡ true → holds k other b ≡ false }
+    ensures found { (l : LaneState) (m : ℕ) (o : LaneMap) (n bus : ℕ) → AreLaid l → AreMapped l →
+        get l.maps m ≡ Some o → slice_get (bus_addresses o) n ≡ Some bus → FindsHeld l o bus }
 {}
 
 /// A sync, a write, a post to a ring or a step of its device leaves a faithful wire faithful, where what

@@ -7,7 +7,8 @@ mod laws;
 
 pub use laws::{
     accepted_loads_obey, agreeing_pages_are_apart, bytes_are_reached_once, calls_read_faithfully,
-    calls_stay_faithful, given_pages_are_reached, given_runs_are_new, loads_are_found,
-    loads_stay_laid, opening_is_faithful, reads_are_faithful, ring_steps_hand_back,
-    spaces_stay_in_order, step_stays_faithful, steps_stay_in_machine, zones_serve_their_tags,
+    calls_stay_faithful, given_pages_are_reached, given_runs_are_new, holdings_are_apart,
+    loads_are_found, loads_stay_laid, opening_is_faithful, reads_are_faithful,
+    ring_steps_hand_back, spaces_stay_in_order, step_stays_faithful, steps_stay_in_machine,
+    zones_serve_their_tags,
 };

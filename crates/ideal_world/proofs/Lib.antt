@@ -1,10 +1,13 @@
 pub mod Answering
 pub mod Calling
+pub mod Counts
 pub mod Falling
 pub mod Few
 pub mod Finding
 pub mod Holding
+pub mod Isolation
 pub mod Keeping
+pub mod Lacking
 pub mod Lanes
 pub mod Legal
 pub mod Opens

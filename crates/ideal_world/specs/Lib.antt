@@ -2,9 +2,11 @@ pub mod Answered
 pub mod Callbacks
 pub mod Ends
 pub mod Holds
+pub mod Lacking
 pub mod Left
 pub mod Legal
 pub mod Resends
+pub mod Sums
 pub mod Waiting
 pub mod WellFormed
 pub mod Wires

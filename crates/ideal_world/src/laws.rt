@@ -1,34 +1,44 @@
 //! Laws of the ideal world and of its journals.
 
-ghost use Rattle.std.specs.Prelude.{◌≡◌, ◌<◌, ◌≤◌, ◌^◌, ℕ, true, List, Some, None, slice_get, slice_set};
+ghost use Rattle.std.specs.Prelude.{◌≡◌, ◌<◌, ◌≤◌, ◌^◌, ◌∷◌, ℕ, true, All, List, Some, None, slice_get, slice_set};
+ghost use Rattle.std.specs.FinMap.{get};
 ghost use Rattle.busdma_base.specs.declared.journals.journal.Actor.{Actor};
 ghost use Rattle.busdma_base.specs.declared.journals.journal.Journal.{Journal};
 ghost use Rattle.busdma_base.specs.declared.journals.journal.JournalEntry.{JournalEntry};
 ghost use Rattle.busdma_base.specs.declared.journals.journal.Side.{Side};
 ghost use Rattle.busdma_base.specs.declared.scenarios.scenario.Scenario.{Scenario};
 ghost use Rattle.busdma_base.specs.declared.scenarios.script.Place.{Place};
+ghost use Rattle.busdma_machine.specs.declared.bounce.hold.HoldEntry.{HoldEntry};
+ghost use Rattle.busdma_machine.specs.declared.bounce.zone.Waiter.{Waiter};
+ghost use Rattle.busdma_machine.specs.Bounce.Account.{zone_at};
 ghost use Rattle.busdma_machine.specs.Bounce.EachFrame.{EachFrame, LiesBelowMaxmem};
 ghost use Rattle.busdma_machine.specs.Bounce.History.{IsFrame, IsSound, account_of};
+ghost use Rattle.busdma_machine.specs.Bounce.LatePages.{late_pages};
 ghost use Rattle.busdma_machine.specs.Bounce.LowPages.{PagesLieLow};
 ghost use Rattle.busdma_machine.specs.Runs.{run_of};
 ghost use Rattle.busdma_base.specs.Journals.Reports.{is_report};
+ghost use Rattle.busdma_base.specs.Scenarios.Opening.{opening};
 ghost use Rattle.busdma_base.specs.Scenarios.Valid.{IsValid};
 ghost use Rattle.lane_agreement.specs.Agreement.{IsFit};
 ghost use Rattle.ideal_lane.specs.Accesses.{cpu_read, dev_read, dev_read_at, raw_bytes};
 ghost use Rattle.ideal_lane.specs.Agreement.{IsAllowed};
 ghost use Rattle.ideal_lane.specs.Reported.{gone_on};
 ghost use Rattle.ideal_lane.specs.Resends.{is_operation, is_resend};
-ghost use Rattle.ideal_lane.specs.State.{LaneRing, LaneState};
+ghost use Rattle.ideal_lane.specs.State.{LaneMap, LaneRing, LaneState};
 ghost use Rattle.ideal_lane.specs.Turns.{lane_step};
+ghost use Rattle.ideal_wire.specs.Answered.{found_at};
+ghost use Rattle.ideal_wire.specs.Held.{FindsHeld, Holder, bus_addresses, holds};
 ghost use Rattle.ideal_wire.specs.RingSteps.{HeadIsRead, NamedAreRead};
 ghost use Rattle.ideal_wire.specs.WireStep.{IsRead, load_buses, place_bytes};
 ghost use Rattle.ideal_world.specs.Answered.{AnswerLoads, AnswersLoad};
 ghost use Rattle.ideal_world.specs.Callbacks.{times_called};
 ghost use Rattle.ideal_world.specs.Ends.{IsAtRest};
-ghost use Rattle.ideal_world.specs.Holds.{step_holds};
+ghost use Rattle.ideal_world.specs.Holds.{journal_holds, step_holds};
+ghost use Rattle.ideal_world.specs.Lacking.{LacksPages};
 ghost use Rattle.ideal_world.specs.Left.{left_of};
 ghost use Rattle.ideal_world.specs.Legal.{IsLegal, IsReplayed, Leads};
 ghost use Rattle.ideal_world.specs.Resends.{FindMaps, times_done};
+ghost use Rattle.ideal_world.specs.Sums.{AddsUp};
 ghost use Rattle.ideal_world.specs.Waiting.{OnlyAwaits};
 ghost use Rattle.ideal_world.specs.WellFormed.{IsWellFormed};
 ghost use Rattle.ideal_world.specs.Wires.{AllFaithful, AreZero, Wires, WiresFollow};
@@ -98,6 +108,22 @@ pub fn stuck_worlds_wait()
     ensures waits { (s : Scenario) (w : WorldState) → IsWellFormed s w → IsAtRest w → OnlyAwaits w }
 {}
 
+/// Why a zone serves nobody. In a well-formed world in which no actor can step, let maps wait for pages of a
+/// zone. Then a loaded map has a page of the zone, which nobody brings back. Or the first map that waits
+/// needs more pages than the zone has, but for those that came late: by the making of tags and maps while
+/// maps waited there. So where tags and maps are made first, a zone is stuck by a map that is not unloaded,
+/// or by a load too large for it. The history is any that leads to the world's account, as a journal's.
+pub fn stuck_zones_lack_pages()
+    ensures rests { (s : Scenario) (w : WorldState) (z : ℕ) (history : List HoldEntry) (first : Waiter)
+        (rest : List Waiter) → IsWellFormed s w → IsAtRest w → IsSound (opening s) history →
+        account_of (opening s) history ≡ w.account → (zone_at w.account z).wait ≡ first ∷ rest →
+        LacksPages w z first.need (late_pages z (opening s) history) }
+    ensures journals { (s : Scenario) (j : Journal) (legal : IsLegal s j) (z : ℕ) (first : Waiter) (rest : List Waiter) →
+        IsValid s → (zone_at legal.last.account z).wait ≡ first ∷ rest →
+        LacksPages legal.last z first.need
+        (late_pages z (opening s) (journal_holds (opening_world s) j.entries)) }
+{}
+
 /// Every valid scenario has a replayed journal: after the turns of its order, enough rounds come to
 /// rest.
 pub fn each_scenario_is_replayed()
@@ -120,6 +146,12 @@ pub fn replay_is_legal()
 pub fn legal_journals_wait()
     ensures { (s : Scenario) (j : Journal) (legal : IsLegal s j) → IsValid s →
         IsWellFormed s legal.last × OnlyAwaits legal.last }
+{}
+
+/// In a legal journal of a valid scenario the free, the reserved and the active pages of each zone are all
+/// its pages.
+pub fn journal_counts_add_up()
+    ensures { (s : Scenario) (j : Journal) → IsValid s → IsLegal s j → All AddsUp j.zones }
 {}
 
 /// The callback of each load is called at most once in entries that lead on from the opening world of
@@ -191,4 +223,21 @@ pub fn drivers_read_faithfully()
         IsWellFormed s w → AllFaithful wires w → slice_get w.lanes i ≡ Some l → HeadIsRead r l (wires i) }
     ensures ring { (s : Scenario) (w : WorldState) (wires : Wires) (i : ℕ) (l : LaneState) (k : ℕ) →
         IsWellFormed s w → AllFaithful wires w → slice_get w.lanes i ≡ Some l → NamedAreRead k l (wires i) }
+{}
+
+/// Drivers are isolated. In a well-formed world each byte is held by at most one driver, and by one thing
+/// of that driver: by its pages, by a memory, or by a map that has the bounce page or has it in the return
+/// queue. The device of a map finds, at each bus address that the segments of its load name, a byte that its
+/// own driver holds, and so none that another driver holds.
+pub fn drivers_are_isolated()
+    ensures once { (s : Scenario) (w : WorldState) (i : ℕ) (j : ℕ) (l : LaneState) (k : LaneState) (by : Holder)
+        (other : Holder) (byte : ℕ) → IsWellFormed s w → slice_get w.lanes i ≡ Some l → slice_get w.lanes j ≡ Some k →
+        holds l by byte ≡ true → holds k other byte ≡ true → (i ≡ j) × (by ≡ other) }
+    ensures found { (s : Scenario) (w : WorldState) (i : ℕ) (l : LaneState) (m : ℕ) (o : LaneMap) (n bus : ℕ) →
+        IsWellFormed s w → slice_get w.lanes i ≡ Some l → get l.maps m ≡ Some o →
+        slice_get (bus_addresses o) n ≡ Some bus → FindsHeld l o bus }
+    ensures own { (s : Scenario) (w : WorldState) (i : ℕ) (j : ℕ) (l : LaneState) (k : LaneState) (m : ℕ) (o : LaneMap)
+        (n bus byte : ℕ) (other : Holder) → IsWellFormed s w → slice_get w.lanes i ≡ Some l →
+        slice_get w.lanes j ≡ Some k → get l.maps m ≡ Some o → slice_get (bus_addresses o) n ≡ Some bus →
+        found_at l o bus ≡ Some byte → holds k other byte ≡ true → i ≡ j }
 {}

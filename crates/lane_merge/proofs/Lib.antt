@@ -4,4 +4,5 @@ pub mod Logged
 pub mod OneTurn
 pub mod Ordering
 pub mod Seams
+pub mod Sides
 pub mod Taking

@@ -1,3 +1,4 @@
 pub mod Merged
 pub mod Order
 pub mod Runs
+pub mod Sides

@@ -1,6 +1,6 @@
 //! Laws of merged journals.
 
-ghost use Rattle.std.specs.Prelude.{List};
+ghost use Rattle.std.specs.Prelude.{◌≡◌, List};
 ghost use Rattle.busdma_machine.specs.declared.bounce.hold.HoldEntry.{HoldEntry};
 ghost use Rattle.busdma_base.specs.declared.scenarios.scenario.Scenario.{Scenario};
 ghost use Rattle.busdma_machine.specs.Bounce.Account.{Account};
@@ -12,7 +12,8 @@ ghost use Rattle.ideal_world.specs.Legal.{IsLegal, Leads, journal_of};
 ghost use Rattle.ideal_world.specs.World.{opening_world};
 ghost use Rattle.lane_merge.specs.Merged.{AllRun, AreNumbered, merged, merged_run, world_of};
 ghost use Rattle.lane_merge.specs.Order.{AreOrdered};
-ghost use Rattle.lane_merge.specs.Runs.{Log};
+ghost use Rattle.lane_merge.specs.Runs.{Log, Runs};
+ghost use Rattle.lane_merge.specs.Sides.{calls_of, replies_of, sides_of};
 
 /// Where each driver has the number of its place, a history is sound from an account on and has entries
 /// of these drivers alone, and the log of each runs it by its own, the merged journal leads from the world
@@ -39,4 +40,13 @@ pub fn merged_journals_are_legal()
         IsSound (opening s) history → AllRun (opening_world s).lanes logs history lasts →
         IsAtRest (world_of lasts (account_of (opening s) history)) →
         IsLegal s (journal_of (merged_run s history logs lasts)) }
+{}
+
+/// A driver learns of the other drivers by the replies to its own calls alone. Where two logs run it from one
+/// state, by turns of the same sides in one order and by holds with the same replies, they have the same
+/// entries, the driver makes the same calls, and it ends in the same state.
+pub fn drivers_see_replies_alone()
+    ensures { (l : LaneState) (log : Log) (other : Log) (hs : List HoldEntry) (ks : List HoldEntry) (m : LaneState)
+        (n : LaneState) → Runs l log hs m → Runs l other ks n → sides_of log ≡ sides_of other →
+        replies_of hs ≡ replies_of ks → (log ≡ other) × (calls_of hs ≡ calls_of ks) × (m ≡ n) }
 {}

@@ -206,7 +206,7 @@ completed-need pages z (w ∷ ws) all =
       )
     ]) refl
 
-completed-zone : (pages z : ℕ) (ws : List Waiter) → All (Lacks z) ws → All (λ w. w.zone.0 ≡ z) (completed pages ws)
+pub completed-zone : (pages z : ℕ) (ws : List Waiter) → All (Lacks z) ws → All (λ w. w.zone.0 ≡ z) (completed pages ws)
 completed-zone pages z [] all = All-nil (λ (w : Waiter). w.zone.0 ≡ z)
 completed-zone pages z (w ∷ ws) all =
     let k : ℕ = w.need - w.have in

@@ -7,6 +7,7 @@ ghost use Rattle.busdma_machine.specs.declared.bounce.hold.HubCall.{HubCall};
 ghost use Rattle.busdma_machine.specs.declared.bounce.hold.HoldEntry.{HoldEntry};
 ghost use Rattle.busdma_machine.specs.Bounce.Account.{Account, free, reserved, active, total, counts};
 ghost use Rattle.busdma_machine.specs.Bounce.Conditions.{MayCall};
+ghost use Rattle.busdma_machine.specs.Bounce.FirstCome.{called_in, completed_in, line, queued_in, waiting_in};
 ghost use Rattle.busdma_machine.specs.Bounce.History.{IsRising, IsOpening, IsSound, account_of};
 ghost use Rattle.busdma_machine.specs.Bounce.WellFormed.{IsWellFormed};
 ghost use Rattle.busdma_machine.specs.Bounce.SameFor.{SameFor};
@@ -95,4 +96,15 @@ pub fn release_serves_in_order()
 pub fn callbacks_keep_their_order()
     ensures { (a : Account) (es : List HoldEntry) → IsSound a es →
         maps_of a.ready ++ joined a es ≡ called es ++ maps_of (account_of a es).ready }
+{}
+
+/// First come, first served, in each zone. The maps that waited, and those that came to wait, in order, are
+/// those that were completed, in order, and those that still wait. The maps that stood in line, in the
+/// callback list and behind it those that waited, and those that came to wait, are those whose callbacks
+/// were called, in order, and those that still stand in line.
+pub fn first_come_is_first_served()
+    ensures completed { (a : Account) (es : List HoldEntry) (z : ℕ) → IsSound a es →
+        waiting_in z a ++ queued_in z es ≡ completed_in z a es ++ waiting_in z (account_of a es) }
+    ensures called { (a : Account) (es : List HoldEntry) (z : ℕ) → IsWellFormed a → IsSound a es →
+        line z a ++ queued_in z es ≡ called_in z a es ++ line z (account_of a es) }
 {}

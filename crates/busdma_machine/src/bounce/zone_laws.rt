@@ -1,21 +1,25 @@
 //! Laws of the zones and of what waits for their pages, each the contract of a function that does
 //! nothing.
 
-ghost use Rattle.std.specs.Prelude.{◌≡◌, ◌≢◌, ◌<◌, ℕ, Bool, List, All, Contains, IsTrue};
+ghost use Rattle.std.specs.Prelude.{◌≡◌, ◌≢◌, ◌+◌, ◌<◌, ◌≤◌, ◌∷◌, ℕ, Bool, List, All, Contains, IsTrue, sum_by};
 ghost use Rattle.busdma_machine.specs.declared.name.MapId.{MapId};
 ghost use Rattle.busdma_machine.specs.declared.tags.tag.TagLimits.{TagLimits};
 ghost use Rattle.busdma_machine.specs.declared.bounce.hold.HoldEntry.{HoldEntry};
 ghost use Rattle.busdma_machine.specs.declared.bounce.zone.Grown.{Grown as GrownBy};
-ghost use Rattle.busdma_machine.specs.declared.bounce.hold.HubReply.TheVariants.{Grown};
-ghost use Rattle.busdma_machine.specs.Bounce.Account.{Account, zone_at};
-ghost use Rattle.busdma_machine.specs.Bounce.AccountStep.{attached, created};
+ghost use Rattle.busdma_machine.specs.declared.bounce.zone.Waiter.{Waiter};
+ghost use Rattle.busdma_machine.specs.declared.bounce.hold.HubReply.TheVariants.{Granted, Grown};
+ghost use Rattle.busdma_machine.specs.declared.machine.address.Pa.{Pa};
+ghost use Rattle.busdma_machine.specs.Bounce.Account.{Account, active, counts, free, total, zone_at};
+ghost use Rattle.busdma_machine.specs.Bounce.AccountStep.{attached, created, grabbed};
 ghost use Rattle.busdma_machine.specs.Bounce.EachFrame.{EachFrame, LiesBelowMaxmem};
 ghost use Rattle.busdma_machine.specs.Bounce.Growth.{serves_tag};
 ghost use Rattle.busdma_machine.specs.Bounce.History.{IsFrame, IsOpening, IsSound, account_of};
 ghost use Rattle.busdma_machine.specs.Bounce.KeptZones.{KeepsZones};
+ghost use Rattle.busdma_machine.specs.Bounce.LatePages.{late_pages, to_call};
 ghost use Rattle.busdma_machine.specs.Bounce.LowPages.{PagesLieLow};
 ghost use Rattle.busdma_machine.specs.Bounce.ServingOrder.{called};
 ghost use Rattle.busdma_machine.specs.Bounce.Share.{is_waiting, waiters};
+ghost use Rattle.busdma_machine.specs.Bounce.StuckExample.{both_waiting, entries_of, roomy_machine, two_loads};
 ghost use Rattle.busdma_machine.specs.Bounce.WellFormed.{IsWellFormed};
 
 /// No zone goes, and its lowaddr and its alignment never change, whatever is called.
@@ -60,4 +64,28 @@ pub fn waiting_map_stays()
     ensures others { (m : MapId) (z need : ℕ) (a : Account) (es : List HoldEntry) →
         IsSound a es → All (λ e. e.lane.0 ≢ m.lane.0) es →
         waiters (is_waiting m z need) (account_of a es) ≡ waiters (is_waiting m z need) a }
+{}
+
+/// What a zone lacks in which maps wait. Pages that are promised to none, or to a map behind the first, came
+/// since maps wait there, by the growth of the zone. So the first map waits for pages that maps of the zone
+/// hold or that are promised in the callback list; or it needs more than the zone has, but for the pages that
+/// came late. A load that gets its pages at once, while others wait, gets no more than came late.
+pub fn waiting_zone_lacks_pages()
+    ensures spare { (a : Account) (es : List HoldEntry) (z : ℕ) (first : Waiter) (rest : List Waiter) →
+        IsOpening a → IsSound a es → let b = account_of a es in (zone_at b z).wait ≡ first ∷ rest →
+        free b z + sum_by (λ w. w.have) rest ≤ late_pages z a es }
+    ensures lacks { (a : Account) (es : List HoldEntry) (z : ℕ) (first : Waiter) (rest : List Waiter) →
+        IsOpening a → IsSound a es → let b = account_of a es in (zone_at b z).wait ≡ first ∷ rest →
+        total b z < first.need + active b z + to_call z b + late_pages z a es }
+    ensures overtakes { (a : Account) (es : List HoldEntry) (z : ℕ) (first : Waiter) (rest : List Waiter) (m : MapId)
+        (need : ℕ) (nowait : Bool) (pages : List Pa) →
+        IsOpening a → IsSound a es → let b = account_of a es in (zone_at b z).wait ≡ first ∷ rest →
+        (grabbed m z need nowait b).reply ≡ Granted pages → need ≤ late_pages z a es }
+{}
+
+/// Two loads of three pages each wait for ever in a zone of four: each has two of them promised. Two pages
+/// came to the zone while the first load waited, so that it lacks one page for ever.
+pub fn two_loads_wait_for_ever()
+    ensures counts { counts (account_of roomy_machine (entries_of roomy_machine two_loads)) 0 0 ≡ both_waiting }
+    ensures late { late_pages 0 roomy_machine (entries_of roomy_machine two_loads) ≡ 2 }
 {}

@@ -1,0 +1,48 @@
+-- Two loads of three pages that wait for ever in a zone of four, worked by hand. Neither is too large for the zone.
+use Rattle.std.specs.Prelude.{ℕ, true, false, List, [], ◌∷◌}
+use Rattle.busdma_machine.specs.declared.tags.tag.TagLimits.{TagLimits}
+use Rattle.busdma_machine.specs.declared.bounce.zone.ZoneCounts.{ZoneCounts}
+use Rattle.busdma_machine.specs.declared.bounce.hold.HubCall.{HubCall}
+use Rattle.busdma_machine.specs.declared.bounce.hold.HubCall.TheVariants.{CreateMap, Grab}
+use Rattle.busdma_machine.specs.declared.bounce.hold.HoldEntry.{HoldEntry}
+use Rattle.busdma_machine.specs.Bounce.Account.{Account, fresh_account}
+use Rattle.busdma_machine.specs.Bounce.AccountStep.{Outcome, account_step}
+use Rattle.busdma_machine.specs.Bounce.MemoryRuns.{frames_from}
+use Rattle.busdma_machine.specs.Bounce.WorkedExample.{low_tag, map_of}
+
+-- the frames 0x10 to 0x17 are free; maxmem is 0x1010, and max_bpages 8
+abbrev pub roomy_machine : Account
+roomy_machine = fresh_account (frames_from 8 0x10000) 0x1010 8
+
+-- maps of the tag bring two pages each
+abbrev pub two_page_tag : TagLimits
+two_page_tag = record low_tag { maxsize = 12288; nsegments = 2 }
+
+-- the second map is made, and brings its pages, while the load of the first waits
+abbrev pub two_loads : List (ℕ × HubCall)
+two_loads =
+    (0, CreateMap (map_of 1) two_page_tag false)
+    ∷ (0, Grab (map_of 1) (record { 0 = 0 }) 3 false)
+    ∷ (0, CreateMap (map_of 2) two_page_tag true)
+    ∷ (0, Grab (map_of 2) (record { 0 = 0 }) 3 false)
+    ∷ []
+
+-- each load has two pages promised, and no map has a page
+abbrev pub both_waiting : ZoneCounts
+both_waiting = record {
+  total = 4;
+  free = 0;
+  reserved = 4;
+  active = 0;
+  bounced = 0;
+  deferred = 0;
+  lowaddr = record { 0 = 0xffffff };
+  alignment = 4096;
+}
+
+-- the entries of calls with the account's replies
+abbrev pub entries_of : Account → List (ℕ × HubCall) → List HoldEntry
+entries_of a [] = []
+entries_of a (c ∷ cs) =
+    let o : Outcome = account_step c.0 c.1 a in
+    record { lane = record { 0 = c.0 }; call = c.1; reply = o.reply } ∷ entries_of o.account cs

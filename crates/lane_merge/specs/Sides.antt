@@ -1,0 +1,19 @@
+-- What of the logs and the holds of a driver the schedule and the other drivers decide: whose turn it was, and replies.
+use Rattle.std.specs.Prelude.{List, map}
+use Rattle.busdma_machine.specs.declared.bounce.hold.HoldEntry.{HoldEntry}
+use Rattle.busdma_machine.specs.declared.bounce.hold.HubCall.{HubCall}
+use Rattle.busdma_machine.specs.declared.bounce.hold.HubReply.{HubReply}
+use Rattle.busdma_base.specs.declared.journals.journal.Side.{Side}
+use Rattle.lane_merge.specs.Merged.{logged_entry}
+use Rattle.lane_merge.specs.Runs.{Log}
+
+-- the sides whose turns the steps of a log were, in order
+abbrev pub sides_of : Log → List Side
+sides_of log = map (λ x. (logged_entry x).actor.side) log
+
+-- the calls of holds, and the replies to them, in order
+abbrev pub calls_of : List HoldEntry → List HubCall
+calls_of hs = map (λ h. h.call) hs
+
+abbrev pub replies_of : List HoldEntry → List HubReply
+replies_of hs = map (λ h. h.reply) hs
