@@ -14,6 +14,8 @@ pub mod Own
 pub mod Refusing
 pub mod Reported
 pub mod Resent
+pub mod Scripted
+pub mod ScriptedRuns
 pub mod Sent
 pub mod Standings
 pub mod Stepping

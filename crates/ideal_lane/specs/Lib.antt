@@ -15,6 +15,7 @@ pub mod Places
 pub mod Reported
 pub mod Resends
 pub mod Rings
+pub mod Scripts
 pub mod Sends
 pub mod Standing
 pub mod State

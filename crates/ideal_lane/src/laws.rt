@@ -1,6 +1,7 @@
 //! Laws of the ideal driver.
 
-ghost use Rattle.std.specs.Prelude.{◌≡◌, ◌≤◌, ◌+◌, ◌++◌, ℕ, Bool, false, true, List, Some, None, length, slice_get};
+ghost use Rattle.std.specs.Prelude.{◌≡◌, ◌≤◌, ◌+◌, ◌++◌, ℕ, Bool, false, true, List, [], ◌∷◌, Some, None, length, map};
+ghost use Rattle.std.specs.Prelude.{slice_get};
 ghost use Rattle.std.specs.FinMap.{get};
 ghost use Rattle.std.specs.List.{Contains};
 ghost use Rattle.busdma_machine.specs.declared.bounce.hold.HubCall.TheVariants.{TakeCallback};
@@ -15,6 +16,7 @@ ghost use Rattle.busdma_base.specs.declared.journals.journal.Side.TheVariants.{S
 ghost use Rattle.busdma_base.specs.declared.scenarios.scenario.Driver.{Driver};
 ghost use Rattle.busdma_base.specs.declared.scenarios.scenario.Scenario.{Scenario};
 ghost use Rattle.busdma_base.specs.declared.scenarios.script.Item.{Item};
+ghost use Rattle.busdma_base.specs.declared.scenarios.script.Op.{Op};
 ghost use Rattle.busdma_machine.specs.Bounce.Account.{Account};
 ghost use Rattle.busdma_machine.specs.Bounce.AccountStep.{account_step};
 ghost use Rattle.busdma_base.specs.Scenarios.Opening.{maxmem_of, opening};
@@ -32,11 +34,12 @@ ghost use Rattle.ideal_lane.specs.Loads.{asked, load, load_entries, load_judged}
 ghost use Rattle.ideal_lane.specs.Opening.{opening_lane};
 ghost use Rattle.ideal_lane.specs.Reported.{gone_on, is_reported, joining, remaining};
 ghost use Rattle.ideal_lane.specs.Resends.{is_operation, is_resend, times_done};
+ghost use Rattle.ideal_lane.specs.Scripts.{AreBelow, LooksSame, NoneEnded, made_under, turned_under, with_script};
 ghost use Rattle.ideal_lane.specs.Sends.{HaveClusters, Send, due_send, outcome_with, with_memory};
 ghost use Rattle.ideal_lane.specs.Standing.{KeepsStanding, Stands};
 ghost use Rattle.ideal_lane.specs.Rings.{Candidate, allowed, candidates, head_of, judged_at};
 ghost use Rattle.ideal_lane.specs.State.{LaneRing, LaneState};
-ghost use Rattle.ideal_lane.specs.Turns.{Turned, is_waiting, lane_step};
+ghost use Rattle.ideal_lane.specs.Turns.{Turned, is_waiting, lane_step, operation, waits, went_on};
 
 /// Where a driver stands and agrees with the account, the account allows the call of the driver's step,
 /// and by the account's reply they agree after it. The account is one that a sound history leads to.
@@ -113,6 +116,28 @@ pub fn loads_look_at_no_byte()
     ensures load { (map : ℕ) (bio : Bio) (nowait : Bool) (items : List Item) (memory : IdealMemory)
         (l : LaneState) → load map (asked map bio nowait items (with_memory memory l)) (with_memory memory l)
         ≡ goes_on (outcome_with memory) (load map (asked map bio nowait items l) l) }
+{}
+
+/// The turn of a side looks at no operation of the script but the one at its place: over a driver with another script
+/// that has the same one there it makes the same call and the same step, and leaves the same driver but for the script.
+/// A driver whose script has ended, and that then gets one more operation, does it next.
+pub fn steps_look_at_one_operation()
+    ensures turn { (l : LaneState) (s : Side) (script : List Op) → LooksSame s script l →
+        lane_step (with_script script l) s ≡ goes_on (turned_under script) (lane_step l s) }
+    ensures next { (l : LaneState) (o : Op) → l.place ≡ length l.script → l.returns ≡ [] → l.due ≡ false →
+        waits o l ≡ false → let longer : LaneState = with_script (l.script ++ o ∷ []) l in
+        lane_step longer Script ≡ goes_on (went_on o l.place) (operation o longer) }
+{}
+
+/// A run of a driver, of which no turn finds the script at its end, is a run of the driver with more operations behind
+/// its own, whatever they are. Back, steps of the driver with more operations are a run of the one without them, as long
+/// as none of them does an operation of the further ones.
+pub fn runs_go_on_behind_more()
+    ensures longer { (l : LaneState) (more : List Op) (steps : List Made) → IsRun l steps → NoneEnded steps →
+        IsRun (with_script (l.script ++ more) l) (map (made_under (l.script ++ more)) steps) }
+    ensures shorter { (l : LaneState) (more : List Op) (steps : List Made) →
+        IsRun (with_script (l.script ++ more) l) steps → AreBelow (length l.script) steps →
+        IsRun l (map (made_under l.script) steps) }
 {}
 
 /// A step whose answer is a report makes no call, whatever the reply would be. It leaves the driver's memory,

@@ -10,6 +10,7 @@ pub mod Keeping
 pub mod Lacking
 pub mod Lanes
 pub mod Legal
+pub mod Longer
 pub mod Opens
 pub mod Reached
 pub mod Replayed

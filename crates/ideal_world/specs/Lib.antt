@@ -5,6 +5,7 @@ pub mod Holds
 pub mod Lacking
 pub mod Left
 pub mod Legal
+pub mod Longer
 pub mod Resends
 pub mod Sums
 pub mod Waiting

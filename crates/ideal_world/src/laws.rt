@@ -37,6 +37,7 @@ ghost use Rattle.ideal_world.specs.Holds.{journal_holds, step_holds};
 ghost use Rattle.ideal_world.specs.Lacking.{LacksPages};
 ghost use Rattle.ideal_world.specs.Left.{left_of};
 ghost use Rattle.ideal_world.specs.Legal.{IsLegal, IsReplayed, Leads};
+ghost use Rattle.ideal_world.specs.Longer.{AreOfScripts, More, scenario_with, world_with};
 ghost use Rattle.ideal_world.specs.Resends.{FindMaps, times_done};
 ghost use Rattle.ideal_world.specs.Sums.{AddsUp};
 ghost use Rattle.ideal_world.specs.Waiting.{OnlyAwaits};
@@ -188,6 +189,19 @@ pub fn journals_answer_loads()
         step_entry w e.actor ≡ Some e → AnswersLoad w e }
     ensures journal { (s : Scenario) (entries : List JournalEntry) (end : WorldState) → IsValid s →
         Leads (opening_world s) entries end → AnswerLoads (opening_world s) entries }
+{}
+
+/// What leads on from the opening world of a scenario leads on so where its drivers have further operations behind their
+/// scripts, whatever they are. Back, where no entry does one of the further operations, what leads on with them leads on
+/// without them. So the entries of a driver that gets its operations one by one are those of the scenario that has all
+/// that it got.
+pub fn journals_go_on_behind_more()
+    ensures longer { (s : Scenario) (more : More) (entries : List JournalEntry) (end : WorldState) →
+        Leads (opening_world s) entries end →
+        Leads (opening_world (scenario_with more s)) entries (world_with more end) }
+    ensures shorter { (s : Scenario) (more : More) (entries : List JournalEntry) (end : WorldState) →
+        AreOfScripts s entries → Leads (opening_world (scenario_with more s)) entries end →
+        (last : WorldState) × Leads (opening_world s) entries last × (world_with more last ≡ end) }
 {}
 
 /// Where a valid scenario opens, and the pages of each driver hold zeros, each driver's wire is

@@ -1,0 +1,42 @@
+-- A world, and a scenario, whose drivers have further operations behind their scripts.
+use Rattle.std.specs.Prelude.{◌≡◌, ℕ, ◌+◌, true, List, [], ◌∷◌, ◌++◌, length, Some, slice_get}
+use Rattle.std.specs.List.{AllByRecursion}
+use Rattle.busdma_base.specs.declared.journals.journal.JournalEntry.{JournalEntry}
+use Rattle.busdma_base.specs.declared.scenarios.scenario.Driver.{Driver}
+use Rattle.busdma_base.specs.declared.scenarios.scenario.Scenario.{Scenario}
+use Rattle.busdma_base.specs.declared.scenarios.script.Op.{Op}
+use Rattle.ideal_lane.specs.Scripts.{is_below, with_script}
+use Rattle.ideal_lane.specs.State.{LaneState}
+use Rattle.ideal_world.specs.World.{WorldState}
+
+-- further operations of each driver, by its number
+abbrev pub More : Type 0
+More = ℕ → List Op
+
+-- the drivers, the first of which has this number, with their further operations
+abbrev pub drivers_with : ℕ → More → List Driver → List Driver
+drivers_with i more [] = []
+drivers_with i more (d ∷ ds) = record d { script = d.script ++ more i } ∷ drivers_with (i + 1) more ds
+
+abbrev pub scenario_with : More → Scenario → Scenario
+scenario_with more s = record s { drivers = drivers_with 0 more s.drivers }
+
+-- their states
+abbrev pub lane_with : List Op → LaneState → LaneState
+lane_with more l = with_script (l.script ++ more) l
+
+abbrev pub lanes_with : ℕ → More → List LaneState → List LaneState
+lanes_with i more [] = []
+lanes_with i more (l ∷ ls) = lane_with (more i) l ∷ lanes_with (i + 1) more ls
+
+abbrev pub world_with : More → WorldState → WorldState
+world_with more w = record w { lanes = lanes_with 0 more w.lanes }
+
+-- an entry is not of one of the further operations of a scenario's driver
+abbrev pub IsOfScript : Scenario → JournalEntry → Type 0
+IsOfScript s e =
+    (d : Driver) → slice_get s.drivers e.actor.lane.0 ≡ Some d → is_below (length d.script) e.did ≡ true
+
+-- so it is of all of these
+abbrev pub AreOfScripts : Scenario → List JournalEntry → Type 0
+AreOfScripts s entries = AllByRecursion (IsOfScript s) entries
