@@ -241,7 +241,7 @@ pub record IsLane (h : Holdings) : Type 0 where
   pub wired : IsWired h
   pub stands : ∥ Stands (ideal_of h) ∥₁
   pub small : HasSmallLoads h
-  pub length : h.agenda.length ≡ length h.script.now
+  pub length : h.agenda.length ≡ length h.script
   pub room : items_ahead (ideal_of h) ≤ h.agenda.room
 
 pub called-lane : (h k : Holdings) → IsLane h → IsCalledOn h k → k.script ≡ h.script → k.agenda ≡ h.agenda → IsLane k
@@ -253,9 +253,9 @@ called-lane h k lane on script agenda =
     record {
       wired = on.wired;
       stands = ∣ on.stands (stands-of (ideal_of h) lane.stands) ∣₁;
-      small = small-same h lane.small k (ap (λ s. s.now) script) (ap (λ a. a.place) agenda) on.due
+      small = small-same h lane.small k script (ap (λ a. a.place) agenda) on.due
           (omega (arith, promised)) (maps-promise h k promised on.maps);
-      length = ap (λ a. a.length) agenda ∙ lane.length ∙ sym (ap (λ s. length s.now) script);
+      length = ap (λ a. a.length) agenda ∙ lane.length ∙ sym (ap length script);
       room = omega (arith, ahead, room, same);
     }
 

@@ -1,3 +1,4 @@
+pub mod Appended
 mod LaneCalls
 mod OneByte
 mod OneStanding

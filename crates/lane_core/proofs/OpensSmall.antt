@@ -23,11 +23,11 @@ small-each before (q ∷ script) (here, each) zero o h =
 small-each before (q ∷ script) (here, each) (suc p) o h = small-each _ script each p o h
 
 module _ (driver : Driver) (h : Holdings) (valid : IsScript driver.script)
-    (small : sum_by loaded_by driver.script ≤ loaded_limit) (script : h.script.now ≡ driver.script)
+    (small : sum_by loaded_by driver.script ≤ loaded_limit) (script : h.script ≡ driver.script)
     (place : h.agenda.place ≡ 0) (resend : h.due ≡ false) (promised : h.agenda.promised ≡ 0) (none : pages_due h.maps.map ≡ 0) where
   pub opens-small : HasSmallLoads h
   opens-small =
-      let ahead : bytes_ahead (due_send (ideal_of h)) h.agenda.place h.script.now ≡ sum_by loaded_by driver.script =
+      let ahead : bytes_ahead (due_send (ideal_of h)) h.agenda.place h.script ≡ sum_by loaded_by driver.script =
       (λ i. bytes_ahead (if resend i then send_at (script i) (place i) else None) (place i) (script i)) in
       record {
         each = subst (λ (os : List Op). (p : ℕ) (q : Op) → slice_get os p ≡ Some q → loaded_once q ≤ buffer_limit)

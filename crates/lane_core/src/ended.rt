@@ -10,6 +10,6 @@ impl Lane<'_> {
     pub fn has_ended(&self) -> bool
         ensures { result ≡ nat_le (length (ideal self.now).script) (ideal self.now).place }
     {
-        self.holdings.script.len() <= self.holdings.agenda.place() as usize
+        self.holdings.script.len() <= self.holdings.agenda.place()
     }
 }

@@ -17,6 +17,6 @@ pub struct Lane<'s> {
     ghost wired: { IsWired holdings } by { IsWired-prop holdings },
     ghost stands: { ∥ Stands (ideal_of holdings) ∥₁ },
     ghost small: { HasSmallLoads holdings } by { HasSmallLoads-prop holdings },
-    ghost length: { holdings.agenda.length ≡ length holdings.script.now },
+    ghost length: { holdings.agenda.length ≡ length holdings.script },
     ghost room: { items_ahead (ideal_of holdings) ≤ holdings.agenda.room },
 }

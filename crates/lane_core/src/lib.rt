@@ -1,6 +1,7 @@
 //! One driver over the bounce lock: the lane that makes the steps of the ideal driver.
 #![tactic(auto)]
 
+mod appending;
 mod calls;
 mod ended;
 mod lane;

@@ -16,7 +16,7 @@ ghost use Rattle.lane_state.specs.OpeningMemory.{ArePages, IsOpeningMemory, HasR
 
 use crate::lane::Lane;
 use busdma_base::{Driver, LaneId, Pa, Page, PageRun, Va};
-use lane_state::Holdings;
+use lane_state::{Holdings, Script};
 use lane_tables::{Agenda, PlaceTable};
 use loan_table::LoanTable;
 use phys_memory::LanePages;
@@ -41,9 +41,9 @@ impl<'s> Lane<'s> {
         requires bios { AllByRecursion (LoadsFrom driver.now.pages) driver.now.script }
         ensures { IfOk result (λ lane. ideal lane ≡ opening_lane id.0 maxmem driver.now) }
     {
-        let script = driver.script.as_slice();
+        let script = Script::new(alloc, driver.script.as_slice());
         let pages = driver.pages.as_slice();
-        let places = script.len() as u32;
+        let places = script.len();
         Ok(Lane {
             holdings: Holdings {
                 script,

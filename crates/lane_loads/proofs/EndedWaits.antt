@@ -156,14 +156,14 @@ module _ (h k : Holdings) (m at : ℕ) (callback : KeptLoad) (room : LoadRoom)
       ends-few small same less count need due =
           let chunks = chunks_for l (map_of o) (contains_key l.mems m) asks.entries in
           let stays = finished-stays l m (map_of o) at asks chunks pages in
-          let script : n.script.now ≡ h.script.now = ap (λ (x : Outcome). x.lane.script) ended ∙ stays.script in
+          let script : n.script ≡ h.script = ap (λ (x : Outcome). x.lane.script) ended ∙ stays.script in
           let resend : due_send (ideal_of n) ≡ due_send l = ap (λ (x : Outcome). due_send x.lane) ended ∙ stays.due in
           let place : n.agenda.place ≡ h.agenda.place = same ∙ ap (λ a. a.place) rest.agenda in
           let promised : k.agenda.promised ≡ h.agenda.promised = ap (λ a. a.promised) rest.agenda in
-          let ahead : bytes_ahead (due_send (ideal_of n)) n.agenda.place n.script.now ≡
-          bytes_ahead (due_send l) h.agenda.place h.script.now =
+          let ahead : bytes_ahead (due_send (ideal_of n)) n.agenda.place n.script ≡
+          bytes_ahead (due_send l) h.agenda.place h.script =
           (λ i. bytes_ahead (resend i) (place i) (script i)) in
-          let few : h.agenda.promised + bytes_ahead (due_send l) h.agenda.place h.script.now ≤ loaded_limit = small.few in
+          let few : h.agenda.promised + bytes_ahead (due_send l) h.agenda.place h.script ≤ loaded_limit = small.few in
           let needs : count ≡ callback.need = needed count need in
           let before : h.agenda.promised ≡ pages_due h.maps.map = small.due in
           let taken = taken-due h k m o kept.1 load (maps o kept.1) rest in

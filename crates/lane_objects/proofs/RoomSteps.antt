@@ -14,7 +14,7 @@ module _ (h k : Holdings) (s : KeepsButRoom h k) where
   room-ideal = λ i. record {
     id = (s.id i).0;
     maxmem = s.maxmem i;
-    script = (s.script i).now;
+    script = s.script i;
     place = (s.agenda i).place;
     due = s.due i;
     pages = (s.pages i).now;

@@ -137,7 +137,7 @@ module _ (h k : Holdings) (m : ℕ) (o : KeptMap) (there : get h.maps.map m ≡ 
   taken-ideal i = record {
     id = (rest.most.id i).0;
     maxmem = rest.most.maxmem i;
-    script = (rest.most.script i).now;
+    script = rest.most.script i;
     place = (rest.agenda i).place;
     due = rest.most.due i;
     pages = (rest.most.pages i).now;

@@ -12,7 +12,7 @@ abbrev pub ideal_of : Holdings → LaneState
 ideal_of h = record {
   id = h.id.0;
   maxmem = h.maxmem;
-  script = h.script.now;
+  script = h.script;
   place = h.agenda.place;
   due = h.due;
   pages = h.pages.now;

@@ -24,6 +24,6 @@ bytes_ahead (Some s) place script = span_bytes s.chain + sum_by loaded_by (drop 
 -- each load is small; a place in the return queue is promised for each page that is due to join it, and for no other;
 -- and these are, with the pages that the loads ahead may need, no more than all loads of a scenario have bytes
 pub record HasSmallLoads (h : Holdings) : Type 0 where
-  pub each : (p : ℕ) (o : Op) → slice_get h.script.now p ≡ Some o → loaded_once o ≤ buffer_limit
+  pub each : (p : ℕ) (o : Op) → slice_get h.script p ≡ Some o → loaded_once o ≤ buffer_limit
   pub due : h.agenda.promised ≡ pages_due h.maps.map
-  pub few : h.agenda.promised + bytes_ahead (due_send (ideal_of h)) h.agenda.place h.script.now ≤ loaded_limit
+  pub few : h.agenda.promised + bytes_ahead (due_send (ideal_of h)) h.agenda.place h.script ≤ loaded_limit

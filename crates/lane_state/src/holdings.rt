@@ -10,7 +10,8 @@ ghost use Rattle.lane_state.specs.Covered.{Reaches, is_tried, lends_pages, pages
 ghost use Rattle.lane_state.specs.OneAwaiting.{AreAwaiting-prop};
 
 use crate::kept::{KeptMap, KeptMemory, KeptRing, KeptShare, KeptTag};
-use busdma_base::{Answer, LaneId, MapId, Op, PageRun, Report, ReportName};
+use crate::script::Script;
+use busdma_base::{Answer, LaneId, MapId, PageRun, Report, ReportName};
 use lane_tables::{Agenda, PlaceTable};
 use loan_table::LoanTable;
 use phys_memory::LanePages;
@@ -21,7 +22,7 @@ use phys_memory::LanePages;
 /// its shares of what zones copied.
 #[derive(Drop)]
 pub struct Holdings<'s> {
-    pub script: &'s [Op],
+    pub script: Script<'s>,
     pub pages: &'s [PageRun],
     pub id: LaneId,
     pub maxmem: u64,
@@ -39,10 +40,10 @@ pub struct Holdings<'s> {
     ghost framed: { HasFramesOf pages.now memory.memory },
     ghost placed: { AreAtTheirFrames memory.memory },
     ghost standing: { AreStanding memories.map memory.memory },
-    ghost tag_places: { tags.places ≡ agenda.length },
-    ghost map_places: { maps.places ≡ agenda.length },
-    ghost memory_places: { memories.places ≡ agenda.length },
-    ghost ring_places: { rings.places ≡ agenda.length },
+    ghost tag_places: { agenda.length ≤ tags.places },
+    ghost map_places: { agenda.length ≤ maps.places },
+    ghost memory_places: { agenda.length ≤ memories.places },
+    ghost ring_places: { agenda.length ≤ rings.places },
     ghost loaded: { AreLoaded maps.map loans.loans },
     ghost unlent: { (k : ℕ) → lends_pages (get maps.map k) ≡ false },
     ghost promised: { pages_due maps.map ≤ agenda.promised },

@@ -77,7 +77,6 @@ impl<'s> Holdings<'s> {
         if !self.due {
             return None;
         }
-        let script = self.script;
-        Resend::of(script.get(self.agenda.place() as usize)?)
+        Resend::of(self.script.get(self.agenda.place())?)
     }
 }

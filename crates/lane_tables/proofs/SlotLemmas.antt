@@ -1,7 +1,7 @@
 -- What a table of values by script place finds, and how a put and a take change it.
 use Rattle.std.proofs.Common.{T, ◌≡◌, ◌≢◌, ◌⊎◌, ℕ, zero, suc, ◌+◌, ◌-◌, ◌<◌, Bool, true, false, cond, ◌&&◌, List, [], ◌∷◌}
 use Rattle.std.proofs.Common.{length, get_or, set, replicate, Option, Some, None, IsSome, refl, sym, ap, subst, ◌∙◌}
-use Rattle.std.proofs.Common.{inl, inr, zero-add, arith, count_by, is_some}
+use Rattle.std.proofs.Common.{inl, inr, zero-add, arith, count_by, is_some, ◌++◌, ◌^◌, length-append}
 use Rattle.std.proofs.lemmas.Bool.{cases_eq, lt-ltb}
 use Rattle.std.proofs.lemmas.Bool.Decides.{nat_tests}
 use Rattle.std.proofs.lemmas.List.{get_or-set_same, get_or-set_other, get_or_past, length-set}
@@ -36,6 +36,14 @@ nothing_at : (n place : ℕ) → get_or {A = Option ℕ} (replicate n None) plac
 nothing_at zero place = refl
 nothing_at (suc n) zero = refl
 nothing_at (suc n) (suc place) = nothing_at n place
+
+-- one more place has no key
+nothing_more : (keys : List (Option ℕ)) (place : ℕ) →
+    get_or {A = Option ℕ} (keys ++ None ∷ []) place None ≡ get_or keys place None
+nothing_more [] zero = refl
+nothing_more [] (suc place) = refl
+nothing_more (k ∷ keys) zero = refl
+nothing_more (k ∷ keys) (suc place) = nothing_more keys place
 
 module _ {X : Type 0} where
   -- the entries of later places come behind
@@ -119,6 +127,21 @@ module _ {X : Type 0} where
       (at : Option ℕ) → at ≢ Some key → value_under new at ≡ value_under old at
   value_kept old new key others None apart = refl
   value_kept old new key others (Some other) apart = others other (λ e. apart (ap Some e))
+
+  -- one more place without a key changes nothing
+  pub by_place-more : (keys : List (Option ℕ)) (slab : Slab X) → by_place (keys ++ None ∷ []) slab ≡ by_place keys slab
+  by_place-more keys slab =
+      same_map nat_cmp_total nat_cmp-IsAntisymmetric _ _ (λ q. get-by_place (keys ++ None ∷ []) slab q
+      ∙ ap (value_under slab) (nothing_more keys q) ∙ sym (get-by_place keys slab q))
+
+  pub IsKept-more : (keys : List (Option ℕ)) (slab : Slab X) → IsKept keys slab → length keys + 1 < 2 ^ 32 →
+      IsKept (keys ++ None ∷ []) slab
+  IsKept-more keys slab kept few = record {
+    present = λ place key stands. kept.present place key (sym (nothing_more keys place) ∙ stands);
+    once = λ place other key stands also. kept.once place other key (sym (nothing_more keys place) ∙ stands)
+        (sym (nothing_more keys other) ∙ also);
+    few = omega (arith, few, length-append keys (None ∷ []));
+  }
 
   is_there : (o : Option X) (v : X) → o ≡ Some v → IsSome o
   is_there o v e = rw e refl

@@ -17,19 +17,20 @@ use std::marker::Model;
 /// What a driver has yet to do: the place of its next operation, the items that its device has to
 /// transfer, and the pages that its maps give back.
 ///
-/// The transfer queue has room for all items of the script from the start. The return queue has
-/// room for the pages that are promised a place.
+/// The transfer queue has room for all items of the script before any of them is pushed. The return
+/// queue has room for the pages that are promised a place.
 #[derive(Drop)]
 pub struct Agenda {
     place: u32,
     script_len: u32,
     queue: VecDeque<QueuedItem>,
+    room: u32,
     returns: VecDeque<QueuedPage>,
     promised: u32,
 }
 
 impl Model for Agenda {
-    ghost use Rattle.std.specs.Prelude.{◌+◌, ◌-◌, ◌^◌, ◌<◌, ◌≤◌, length};
+    ghost use Rattle.std.specs.Prelude.{◌+◌, ◌^◌, ◌<◌, ◌≤◌, length};
     ghost use Rattle.std.specs.VecDeque.{deque_capacity};
     ghost use Rattle.lane_tables.specs.Schedule.{Schedule};
 
@@ -40,13 +41,14 @@ impl Model for Agenda {
       length = a.script_len;
       queue = a.queue.items;
       returns = a.returns.items;
-      room = deque_capacity a.queue - length a.queue.items;
+      room = a.room;
       promised = a.promised;
     } };
 
     ghost invariant = { λ a. record {
       in_script : a.place ≤ a.script_len;
-      few : deque_capacity a.queue < 2 ^ 32;
+      few : a.room + length a.queue.items < 2 ^ 32;
+      fits : a.room + length a.queue.items ≤ deque_capacity a.queue;
       reserved : length a.returns.items + a.promised ≤ deque_capacity a.returns;
     } };
 }
@@ -67,7 +69,7 @@ fn script_items(script: &[Op]) -> usize
 // Appends the items of a load, in order.
 fn push_all(queue: &mut VecDeque<QueuedItem>, load_at: u32, items: ItemList)
     requires room { length queue.old.items + length items ≤ deque_capacity queue.old }
-    requires few { deque_capacity queue.old < 2 ^ 32 }
+    requires few { length items < 2 ^ 32 }
     ensures items { queue.new.items ≡ queue.old.items ++ queued load_at items }
     ensures capacity { deque_capacity queue.new ≡ deque_capacity queue.old }
 {
@@ -114,10 +116,12 @@ impl Agenda {
         }) }
     {
         let script = driver.script.as_slice();
+        let items = script_items(script);
         Ok(Agenda {
             place: 0,
             script_len: script.len() as u32,
-            queue: VecDeque::with_capacity(alloc, script_items(script))?,
+            queue: VecDeque::with_capacity(alloc, items)?,
+            room: items as u32,
             returns: VecDeque::new(alloc),
             promised: 0,
         })
@@ -138,6 +142,34 @@ impl Agenda {
         self.place += 1;
     }
 
+    /// Makes the script longer by one operation, which has so many items: the transfer queue has room for them too.
+    pub fn extend(&mut self, items: usize) -> Result<(), AllocError>
+        ensures ok { OnOk result (self.new
+            ≡ record self.old { length = self.old.length + 1; room = self.old.room + items }) }
+        ensures err { OnErr result (self.new ≡ self.old) }
+    {
+        if self.script_len == u32::MAX {
+            return Err(AllocError);
+        }
+        let room = self.room as usize;
+        let wanted = room + self.queue.len();
+        if items > u32::MAX as usize - wanted {
+            return Err(AllocError);
+        }
+        self.queue.reserve(room + items)?;
+        self.room = (room + items) as u32;
+        self.script_len += 1;
+        Ok(())
+    }
+
+    /// Makes the script shorter by its last operation, which is not yet done. The room stays.
+    pub fn retract(&mut self)
+        requires { self.old.place < self.old.length }
+        ensures { self.new ≡ record self.old { length = self.old.length - 1 } }
+    {
+        self.script_len -= 1;
+    }
+
     /// Appends the items of the load at a place to the transfer queue, in order; they use the room.
     pub fn push_items(&mut self, load_at: u32, items: ItemList)
         requires { length items ≤ self.old.room }
@@ -146,6 +178,8 @@ impl Agenda {
           room = self.old.room - length items;
         } }
     {
+        let room = self.room as usize - items.len();
+        self.room = room as u32;
         push_all(&mut self.queue, load_at, items);
     }
 
@@ -165,7 +199,9 @@ impl Agenda {
         ensures empty { IfNone result (self.old.queue ≡ []) }
         ensures none { IfNone result (self.new ≡ self.old) }
     {
-        self.queue.pop_front()
+        let item = self.queue.pop_front()?;
+        self.room += 1;
+        Some(item)
     }
 
     /// Puts an item at the head of the transfer queue, which it left; it uses the room that it left there.
@@ -173,6 +209,7 @@ impl Agenda {
         requires { 1 ≤ self.old.room }
         ensures { self.new ≡ record self.old { queue = item ∷ self.old.queue; room = self.old.room - 1 } }
     {
+        self.room -= 1;
         self.queue.push_front_reserved(item);
     }
 
@@ -183,6 +220,13 @@ impl Agenda {
         self.queue
             .iter()
             .any(|queued| item_names(&queued.item, made_at))
+    }
+
+    /// How many pages are promised a place in the return queue.
+    pub fn promised(&self) -> u32
+        ensures { result ≡ self.now.promised }
+    {
+        self.promised
     }
 
     /// Promises so many further pages a place in the return queue.

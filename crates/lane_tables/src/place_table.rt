@@ -2,7 +2,7 @@
 
 ghost use Rattle.std.specs.Prelude.{◌≡◌, ◌+◌, ◌-◌, ◌<◌, ◌≤◌, length, None, option_copied, slice_index_or};
 ghost use Rattle.std.specs.Option.{option_copied_mut};
-ghost use Rattle.std.specs.Prelude.{IfOk, IfNone, IsOk, OnOk, OnSome};
+ghost use Rattle.std.specs.Prelude.{IfOk, IfNone, IsOk, OnErr, OnOk, OnSome};
 ghost use Rattle.std.specs.FinMap as map;
 ghost use Rattle.std.specs.Iterator.{at_most};
 ghost use Rattle.std.specs.Map.Iter.{TakesFirst, ShowsInOrder};
@@ -69,6 +69,18 @@ impl<T> PlaceTable<T> {
             keys: vec![in alloc; None; places as usize]?,
             values: Slab::new(alloc),
         })
+    }
+
+    /// Makes the script longer by one place, which holds nothing.
+    pub fn extend(&mut self) -> Result<(), AllocError>
+        ensures ok { OnOk result (self.new ≡ record self.old { places = self.old.places + 1 }) }
+        ensures err { OnErr result (self.new ≡ self.old) }
+    {
+        if self.keys.len() >= u32::MAX as usize {
+            return Err(AllocError);
+        }
+        self.keys.push(None)?;
+        Ok(())
     }
 
     /// Makes room for one more value, where there is none; where there is some, it takes no memory.

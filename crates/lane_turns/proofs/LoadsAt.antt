@@ -94,13 +94,13 @@ is-bio maxmem runs (Unmapped frames off len) low are own = (own.0, frames-number
 
 -- a load of the script can be loaded
 pub loadable-at : (h : Holdings) (p m : ℕ) (x : Buffer) (flags : ℕ) (items : List Item) (b : Bio) →
-    slice_get h.script.now p ≡ Some (Load m x flags items) → bio_at (ideal_of h) x ≡ Some b →
+    slice_get h.script p ≡ Some (Load m x flags items) → bio_at (ideal_of h) x ≡ Some b →
     IsInMachine (ideal_of h) → HasSmallLoads h → IsLoadable h.pages.now b
 loadable-at h p m x flags items b here named machine small =
     let few : loaded_once (Load m x flags items) ≤ buffer_limit = small.each p _ here in
     let bytes = bytes-is (ideal_of h) x b named in
     let from : LoadsFrom h.pages.now (Load m x flags items) =
-    all-at (LoadsFrom h.pages.now) h.script.now p (Load m x flags items) machine.bios here in
+    all-at (LoadsFrom h.pages.now) h.script p (Load m x flags items) machine.bios here in
     let own = own-is h.pages.now (ideal_of h) x b named from in
     record {
       small = omega (arith, few, bytes);

@@ -23,7 +23,7 @@ use Rattle.lane_turns.proofs.TurnEnds.{end-own}
 
 -- a turn that was made keeps the script
 pub made-script : (h k : Holdings) (d e : Seen) (s : Side) (t : Turn) → IsReady h d → IsTurnOf h k d e s t →
-    k.script.now ≡ h.script.now
+    k.script ≡ h.script
 made-script h k d e s t ready made =
     let own = end-own h k s d e ready.stands ready.wired ready.served (turned k t) (is_held t) made.done refl in
     own.same_script
@@ -78,14 +78,14 @@ module _ {E : Type 0} (h k : Holdings) (d e : Seen) (s : Side) (ready : IsReady 
 
   -- its script is the same
   pub script-after : (r : Result Turn E) → IfOk r (IsTurnOf h k d e s) → OnErr r (KeepsState h k) →
-      k.script.now ≡ h.script.now
+      k.script ≡ h.script
   script-after (Ok t) made same = made-script h k d e s t ready made
   script-after (Err x) made same = ap (λ l. l.script) same.ideal
 
   -- and as long as it was
   pub length-after : (r : Result Turn E) → IfOk r (IsTurnOf h k d e s) → OnErr r (KeepsState h k) →
-      k.agenda.length ≡ h.agenda.length → h.agenda.length ≡ length h.script.now →
-      k.agenda.length ≡ length k.script.now
+      k.agenda.length ≡ h.agenda.length → h.agenda.length ≡ length h.script →
+      k.agenda.length ≡ length k.script
   length-after r made same places before = places ∙ before ∙ sym (ap length (script-after r made same))
 
   -- its wire is the step's, but for pages that came and went

@@ -222,7 +222,7 @@ module _ (h k : Holdings) (rest : KeepsButAgenda h k)
   queue-ideal = λ i. record {
     id = (rest.most.id i).0;
     maxmem = rest.most.maxmem i;
-    script = (rest.most.script i).now;
+    script = rest.most.script i;
     place = (agenda i).place;
     due = rest.most.due i;
     pages = (rest.most.pages i).now;

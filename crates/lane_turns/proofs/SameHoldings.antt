@@ -46,13 +46,13 @@ same-all h k s agenda = λ i. record {
       k.placed h.placed i;
   standing = is_prop→PathP (λ j. AreStanding (s.most.memories j).map (s.most.memory j).memory)
       (λ j. hlevel (props, Coded-set reach.the_row.coded)) k.standing h.standing i;
-  tag_places = is_prop→PathP (λ j. (s.tags j).places ≡ (agenda j).length) (λ j. hlevel (props)) k.tag_places
+  tag_places = is_prop→PathP (λ j. (agenda j).length ≤ (s.tags j).places) (λ j. hlevel (props)) k.tag_places
       h.tag_places i;
-  map_places = is_prop→PathP (λ j. (s.maps j).places ≡ (agenda j).length) (λ j. hlevel (props)) k.map_places
+  map_places = is_prop→PathP (λ j. (agenda j).length ≤ (s.maps j).places) (λ j. hlevel (props)) k.map_places
       h.map_places i;
-  memory_places = is_prop→PathP (λ j. (s.most.memories j).places ≡ (agenda j).length) (λ j. hlevel (props))
+  memory_places = is_prop→PathP (λ j. (agenda j).length ≤ (s.most.memories j).places) (λ j. hlevel (props))
       k.memory_places h.memory_places i;
-  ring_places = is_prop→PathP (λ j. (s.most.rings j).places ≡ (agenda j).length) (λ j. hlevel (props)) k.ring_places
+  ring_places = is_prop→PathP (λ j. (agenda j).length ≤ (s.most.rings j).places) (λ j. hlevel (props)) k.ring_places
       h.ring_places i;
   loaded = is_prop→PathP (λ j. AreLoaded (s.maps j).map (s.most.loans j).loans) (λ j. hlevel (props)) k.loaded
       h.loaded i;

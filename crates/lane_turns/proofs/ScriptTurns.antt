@@ -65,10 +65,10 @@ still-made h d s t unheld is plain = record {
 }
 
 -- the items of the next operation have room
-pub few-items : (h : Holdings) (o : Op) → slice_get h.script.now h.agenda.place ≡ Some o →
+pub few-items : (h : Holdings) (o : Op) → slice_get h.script h.agenda.place ≡ Some o →
     items_ahead (ideal_of h) ≤ h.agenda.room → length (items_of o) ≤ h.agenda.room
 few-items h o here room =
-    let rest = rest-of (λ o. length (items_of o)) h.script.now h.agenda.place o here in
+    let rest = rest-of (λ o. length (items_of o)) h.script h.agenda.place o here in
     omega (arith, rest, room)
 
 -- ---- a step of the script that was done: then its driver has come to a place
@@ -80,7 +80,7 @@ module _ (h k n : Holdings) (place : ℕ) (due : Bool) (at : IsAt place due k n)
       λ i. record {
         id = (most.id i).0;
         maxmem = most.maxmem i;
-        script = (most.script i).now;
+        script = most.script i;
         place = (at.agenda i).place;
         due = most.due i;
         pages = (most.pages i).now;
@@ -193,21 +193,21 @@ module _ (h : Holdings) (empty : h.agenda.returns ≡ []) where
   -- ---- the next operation
 
   module _ (undue : due_send l ≡ None) where
-    step-next : lane_step l side.Script ≡ next_operation (slice_get h.script.now h.agenda.place) l
+    step-next : lane_step l side.Script ≡ next_operation (slice_get h.script h.agenda.place) l
     step-next = step-due ∙ ap (λ s. due_turn s l) undue
 
     wire-next : (w : Wire) →
-        wires.lane_step l side.Script w ≡ wires.next_operation (slice_get h.script.now h.agenda.place) l w
+        wires.lane_step l side.Script w ≡ wires.next_operation (slice_get h.script h.agenda.place) l w
     wire-next w = wire-due w ∙ ap (λ s. wires.due_turn s l w) undue
 
     -- there is none
-    pub ended-made : (d : Seen) → slice_get h.script.now h.agenda.place ≡ None →
+    pub ended-made : (d : Seen) → slice_get h.script h.agenda.place ≡ None →
         IsTurnOf h h d d side.Script turn.Ended
     ended-made d none =
         still-made h d side.Script turn.Ended refl (step-next ∙ ap (λ o. next_operation o l) none)
         (wire-next (wire_of h) ∙ ap (λ o. wires.next_operation o l (wire_of h)) none)
 
-    module _ (o : Op) (here : slice_get h.script.now h.agenda.place ≡ Some o) where
+    module _ (o : Op) (here : slice_get h.script h.agenda.place ≡ Some o) where
       -- it cannot step
       pub blocked-made : (d : Seen) → waits o l ≡ true → IsTurnOf h h d d side.Script turn.Blocked
       blocked-made d waiting =

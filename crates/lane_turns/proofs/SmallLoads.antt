@@ -84,47 +84,47 @@ is-send (op.Kick ring steps) s e = absurd (cc)
 -- a driver's script has a send at its place
 pub record HasSend (h : Holdings) (s : Send) : Type 0 where
   pub o : Op
-  pub here : slice_get h.script.now h.agenda.place ≡ Some o
+  pub here : slice_get h.script h.agenda.place ≡ Some o
   pub send : send_of o ≡ Some s
 
 -- so it has where a resend is due
 pub has-due : (h : Holdings) (s : Send) → due_send (ideal_of h) ≡ Some s → HasSend h s
 has-due h s = by h.due
   where
-    found : (o : Option Op) → slice_get h.script.now h.agenda.place ≡ o → option_and_then send_of o ≡ Some s →
+    found : (o : Option Op) → slice_get h.script h.agenda.place ≡ o → option_and_then send_of o ≡ Some s →
         HasSend h s
     found None here e = absurd (cc)
     found (Some o) here e = record { o = o; here = here; send = e }
 
-    by : (b : Bool) → (if b then send_at h.script.now h.agenda.place else None) ≡ Some s → HasSend h s
-    by true e = found (slice_get h.script.now h.agenda.place) refl e
+    by : (b : Bool) → (if b then send_at h.script h.agenda.place else None) ≡ Some s → HasSend h s
+    by true e = found (slice_get h.script h.agenda.place) refl e
     by false e = absurd (cc)
 
 -- ---- what is ahead
 
 -- the bytes ahead of a driver at this place of this script, where a resend is due or not
-ahead-is : (k : Holdings) (script : List Op) (place : ℕ) (due : Bool) → k.script.now ≡ script →
+ahead-is : (k : Holdings) (script : List Op) (place : ℕ) (due : Bool) → k.script ≡ script →
     k.agenda.place ≡ place → k.due ≡ due →
-    bytes_ahead (due_send (ideal_of k)) k.agenda.place k.script.now
+    bytes_ahead (due_send (ideal_of k)) k.agenda.place k.script
     ≡ bytes_ahead (if due then send_at script place else None) place script
 ahead-is k script place due same at is =
     λ i. bytes_ahead (if is i then send_at (same i) (at i) else None) (at i) (same i)
 
 module _ (h : Holdings) (small : HasSmallLoads h) where
   -- each load of a driver is small, by the script of another
-  each-small : (k : Holdings) → k.script.now ≡ h.script.now → (p : ℕ) (q : Op) → slice_get k.script.now p ≡ Some q →
+  each-small : (k : Holdings) → k.script ≡ h.script → (p : ℕ) (q : Op) → slice_get k.script p ≡ Some q →
       loaded_once q ≤ buffer_limit
   each-small k script =
       subst (λ (os : List Op). (p : ℕ) (q : Op) → slice_get os p ≡ Some q → loaded_once q ≤ buffer_limit) (sym script)
       small.each
 
   -- where no operation was done, and no further page is promised a place
-  pub small-same : (k : Holdings) → k.script.now ≡ h.script.now → k.agenda.place ≡ h.agenda.place → k.due ≡ h.due →
+  pub small-same : (k : Holdings) → k.script ≡ h.script → k.agenda.place ≡ h.agenda.place → k.due ≡ h.due →
       k.agenda.promised ≤ h.agenda.promised → KeepsPromises h k → HasSmallLoads k
   small-same k script place resend promised kept =
-      let ahead : bytes_ahead (due_send (ideal_of k)) k.agenda.place k.script.now
-      ≡ bytes_ahead (due_send (ideal_of h)) h.agenda.place h.script.now =
-      ahead-is k h.script.now h.agenda.place h.due script place resend in
+      let ahead : bytes_ahead (due_send (ideal_of k)) k.agenda.place k.script
+      ≡ bytes_ahead (due_send (ideal_of h)) h.agenda.place h.script =
+      ahead-is k h.script h.agenda.place h.due script place resend in
       let few = small.few in
       record {
         due = let due = small.due in omega (arith, due, kept);
@@ -132,7 +132,7 @@ module _ (h : Holdings) (small : HasSmallLoads h) where
         few = omega (arith, ahead, few, promised);
       }
 
-  module _ (o : Op) (here : slice_get h.script.now h.agenda.place ≡ Some o) where
+  module _ (o : Op) (here : slice_get h.script h.agenda.place ≡ Some o) where
     -- the pages that are promised, with those that the next load may need
     pub few-promised : h.agenda.promised + loaded_once o < 2 ^ 32
     few-promised =
@@ -142,19 +142,19 @@ module _ (h : Holdings) (small : HasSmallLoads h) where
 
     -- after the next operation, where no resend was due
     module _ (undue : due_send (ideal_of h) ≡ None) where
-      few-ahead : h.agenda.promised + (loaded_by o + bytes_ahead None (h.agenda.place + 1) h.script.now)
+      few-ahead : h.agenda.promised + (loaded_by o + bytes_ahead None (h.agenda.place + 1) h.script)
           ≤ loaded_limit
       few-ahead =
-          let rest = rest-of loaded_by h.script.now h.agenda.place o here in
-          let none = ap (λ s. bytes_ahead s h.agenda.place h.script.now) undue in
+          let rest = rest-of loaded_by h.script h.agenda.place o here in
+          let none = ap (λ s. bytes_ahead s h.agenda.place h.script) undue in
           let few = small.few in
           omega (arith, rest, none, few)
 
       -- behind it
-      small-next : (k : Holdings) → k.script.now ≡ h.script.now → k.agenda.place ≡ h.agenda.place + 1 →
+      small-next : (k : Holdings) → k.script ≡ h.script → k.agenda.place ≡ h.agenda.place + 1 →
           k.due ≡ false → k.agenda.promised ≤ h.agenda.promised + loaded_once o → KeepsPromises h k → HasSmallLoads k
       small-next k script place resend promised kept =
-          let ahead = ahead-is k h.script.now (h.agenda.place + 1) false script place resend in
+          let ahead = ahead-is k h.script (h.agenda.place + 1) false script place resend in
           let few = few-ahead in
           let once = once-counted o in
           record {
@@ -164,13 +164,13 @@ module _ (h : Holdings) (small : HasSmallLoads h) where
           }
 
       -- at it, where it is a send whose resend is due
-      small-kept : (s : Send) → send_of o ≡ Some s → (k : Holdings) → k.script.now ≡ h.script.now →
+      small-kept : (s : Send) → send_of o ≡ Some s → (k : Holdings) → k.script ≡ h.script →
           k.agenda.place ≡ h.agenda.place → k.due ≡ true → k.agenda.promised ≤ h.agenda.promised + loaded_once o →
           KeepsPromises h k → HasSmallLoads k
       small-kept s send k script place resend promised kept =
-          let ahead = ahead-is k h.script.now h.agenda.place true script place resend in
-          let there : send_at h.script.now h.agenda.place ≡ Some s = ap (option_and_then send_of) here ∙ send in
-          let again = ap (λ x. bytes_ahead x h.agenda.place h.script.now) there in
+          let ahead = ahead-is k h.script h.agenda.place true script place resend in
+          let there : send_at h.script h.agenda.place ≡ Some s = ap (option_and_then send_of) here ∙ send in
+          let again = ap (λ x. bytes_ahead x h.agenda.place h.script) there in
           let few = few-ahead in
           let is = is-send o s send in
           let once = is.once in
@@ -182,7 +182,7 @@ module _ (h : Holdings) (small : HasSmallLoads h) where
           }
 
       -- so it is wherever the script goes on
-      pub small-after : (k n : Holdings) → k.agenda.place ≡ h.agenda.place → n.script.now ≡ h.script.now →
+      pub small-after : (k n : Holdings) → k.agenda.place ≡ h.agenda.place → n.script ≡ h.script →
           k.agenda.promised ≤ h.agenda.promised + loaded_once o → KeepsPromises h k → (a : Answer) →
           (is_kept (send_of o) a ≡ false → IsAt (k.agenda.place + 1) false k n) →
           (is_kept (send_of o) a ≡ true → IsAt k.agenda.place true k n) → HasSmallLoads n
@@ -217,12 +217,12 @@ module _ (h : Holdings) (small : HasSmallLoads h) where
               at false f = goes (gone (ap (λ x. is_kept x a) e ∙ f))
 
   -- behind a send whose resend was made
-  pub small-resent : (s : Send) → due_send (ideal_of h) ≡ Some s → (k : Holdings) → k.script.now ≡ h.script.now →
+  pub small-resent : (s : Send) → due_send (ideal_of h) ≡ Some s → (k : Holdings) → k.script ≡ h.script →
       k.agenda.place ≡ h.agenda.place + 1 → k.due ≡ false →
       k.agenda.promised ≤ h.agenda.promised + span_bytes s.chain → KeepsPromises h k → HasSmallLoads k
   small-resent s due k script place resend promised kept =
-      let ahead = ahead-is k h.script.now (h.agenda.place + 1) false script place resend in
-      let before = ap (λ x. bytes_ahead x h.agenda.place h.script.now) due in
+      let ahead = ahead-is k h.script (h.agenda.place + 1) false script place resend in
+      let before = ap (λ x. bytes_ahead x h.agenda.place h.script) due in
       let few = small.few in
       record {
         due = let due = small.due in omega (arith, due, kept);

@@ -39,7 +39,7 @@ pub(crate) fn operation<'s, D: HubDoor>(
     requires room { items_ahead (ideal_of holdings.old) ≤ holdings.old.agenda.room }
     requires served { IsServed (ideal_of holdings.old) (D.seen door.old) }
     requires going { holdings.old.agenda.place < holdings.old.agenda.length }
-    requires here { slice_get holdings.old.script.now holdings.old.agenda.place ≡ Some op.now }
+    requires here { slice_get holdings.old.script holdings.old.agenda.place ≡ Some op.now }
     requires allowed { IsAllowedBy (D.seen door.old) holdings.old.id.0 (turns.operation op.now (ideal_of holdings.old)) }
     ensures done { IfOk result (λ r.
         IsDone (D.seen door.old) holdings.old.id.0 (turns.operation op.now (ideal_of holdings.old))
@@ -117,7 +117,7 @@ fn load_buffer<'s, D: HubDoor>(
     requires stands { Stands (ideal_of holdings.old) }
     requires wired { IsWired holdings.old }
     requires small { HasSmallLoads holdings.old }
-    requires here { slice_get holdings.old.script.now holdings.old.agenda.place
+    requires here { slice_get holdings.old.script holdings.old.agenda.place
         ≡ Some (Load map buffer.now flags items.now) }
     requires few_items { length items.now ≤ holdings.old.agenda.room }
     requires allowed { IsAllowedBy (D.seen door.old) holdings.old.id.0

@@ -57,7 +57,7 @@ fn operation_turn<D: HubDoor>(
 ) -> Result<Turn, AllocError>
     requires ready { IsReady holdings.old (D.seen door.old) }
     requires small { HasSmallLoads holdings.old }
-    requires length { holdings.old.agenda.length ≡ length holdings.old.script.now }
+    requires length { holdings.old.agenda.length ≡ length holdings.old.script }
     requires empty { holdings.old.agenda.returns ≡ [] }
     requires undue { due_send (ideal_of holdings.old) ≡ None }
     ensures made { IfOk result (IsTurnOf holdings.old holdings.new (D.seen door.old) (D.seen door.new) side.Script) }
@@ -69,7 +69,7 @@ fn operation_turn<D: HubDoor>(
     ensures fixed { D.fixed door.new ≡ D.fixed door.old }
 {
     let place = holdings.agenda.place();
-    let Some(op) = holdings.script.get(place as usize) else {
+    let Some(op) = holdings.script.get(place) else {
         return Ok(Turn::Ended);
     };
     if waits(holdings, op) {
@@ -89,7 +89,7 @@ fn resend_turn<'s, D: HubDoor>(
 ) -> Result<Turn, AllocError>
     requires ready { IsReady holdings.old (D.seen door.old) }
     requires small { HasSmallLoads holdings.old }
-    requires length { holdings.old.agenda.length ≡ length holdings.old.script.now }
+    requires length { holdings.old.agenda.length ≡ length holdings.old.script }
     requires empty { holdings.old.agenda.returns ≡ [] }
     requires due { due_send (ideal_of holdings.old) ≡ Some (the_send send) }
     ensures made { IfOk result (IsTurnOf holdings.old holdings.new (D.seen door.old) (D.seen door.new) side.Script) }
@@ -114,7 +114,7 @@ fn due_turn<D: HubDoor>(
 ) -> Result<Turn, AllocError>
     requires ready { IsReady holdings.old (D.seen door.old) }
     requires small { HasSmallLoads holdings.old }
-    requires length { holdings.old.agenda.length ≡ length holdings.old.script.now }
+    requires length { holdings.old.agenda.length ≡ length holdings.old.script }
     requires empty { holdings.old.agenda.returns ≡ [] }
     ensures made { IfOk result (IsTurnOf holdings.old holdings.new (D.seen door.old) (D.seen door.new) side.Script) }
     ensures err { OnErr result (KeepsState holdings.old holdings.new) }
@@ -138,7 +138,7 @@ fn script_turn<D: HubDoor>(
 ) -> Result<Turn, AllocError>
     requires ready { IsReady holdings.old (D.seen door.old) }
     requires small { HasSmallLoads holdings.old }
-    requires length { holdings.old.agenda.length ≡ length holdings.old.script.now }
+    requires length { holdings.old.agenda.length ≡ length holdings.old.script }
     ensures made { IfOk result (IsTurnOf holdings.old holdings.new (D.seen door.old) (D.seen door.new) side.Script) }
     ensures err { OnErr result (KeepsState holdings.old holdings.new) }
     ensures undone { OnErr result (IsUndone (D.seen door.old) (D.seen door.new)) }
@@ -163,14 +163,14 @@ pub fn take_turn<D: HubDoor>(
 ) -> Result<Turn, AllocError>
     requires ready { IsReady holdings.old (D.seen door.old) }
     requires small { HasSmallLoads holdings.old }
-    requires length { holdings.old.agenda.length ≡ length holdings.old.script.now }
+    requires length { holdings.old.agenda.length ≡ length holdings.old.script }
     ensures made { IfOk result (IsTurnOf holdings.old holdings.new (D.seen door.old) (D.seen door.new) side) }
     ensures err { OnErr result (KeepsState holdings.old holdings.new) }
     ensures undone { OnErr result (IsUndone (D.seen door.old) (D.seen door.new)) }
     ensures wanting { OnErr result (MayWant (ideal_of holdings.old) side) }
     ensures ready { IsReady holdings.new (D.seen door.new) }
     ensures small { HasSmallLoads holdings.new }
-    ensures length { holdings.new.agenda.length ≡ length holdings.new.script.now }
+    ensures length { holdings.new.agenda.length ≡ length holdings.new.script }
     ensures fixed { D.fixed door.new ≡ D.fixed door.old }
 {
     match side {
@@ -224,7 +224,7 @@ pub fn has_step(holdings: &Holdings<'_>) -> bool
     if holdings.due_resend().is_some() {
         return true;
     }
-    match holdings.script.get(holdings.agenda.place() as usize) {
+    match holdings.script.get(holdings.agenda.place()) {
         Some(op) => !waits(holdings, op),
         None => false,
     }

@@ -1,4 +1,4 @@
-use Rattle.std.proofs.Common.{◌≡◌, None, refl, sym, ap, ◌∙◌, subst}
+use Rattle.std.proofs.Common.{◌≡◌, None, refl, sym, ap, ◌∙◌, subst, arith}
 use Rattle.std.specs.FinMap.{get, remove}
 use Rattle.lane_state.specs.Held.{devices_of, held}
 use Rattle.lane_state.specs.Ideal.{ideal_of}
@@ -29,7 +29,7 @@ invariant_of-holdings c =
       placed = h.placed;
       standing = h.standing;
       tag_places = h.tag_places;
-      map_places = ap (λ t. t.places) taken ∙ h.map_places;
+      map_places = omega (arith, ap (λ t. t.places) taken, h.map_places);
       memory_places = h.memory_places;
       ring_places = h.ring_places;
       loaded = are.loaded;

@@ -1,4 +1,4 @@
-use Rattle.std.proofs.Common.{◌≡◌, None, Some, false, refl, sym, ap, ◌∙◌, subst}
+use Rattle.std.proofs.Common.{◌≡◌, None, Some, false, refl, sym, ap, ◌∙◌, subst, arith}
 use Rattle.std.specs.FinMap.{get, insert}
 use Rattle.std.specs.Option.{option_map}
 use Rattle.busdma_machine.specs.declared.name.ZoneId.{ZoneId}
@@ -35,7 +35,7 @@ invariant_of-holdings c =
       placed = h.placed;
       standing = h.standing;
       tag_places = h.tag_places;
-      map_places = ap (λ t. t.places) c.put.ensures ∙ h.map_places;
+      map_places = omega (arith, ap (λ t. t.places) c.put.ensures, h.map_places);
       memory_places = h.memory_places;
       ring_places = h.ring_places;
       loaded = are.loaded;

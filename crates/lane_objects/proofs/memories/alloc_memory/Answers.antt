@@ -24,7 +24,7 @@ use Rattle.lane_state.proofs.Doors.{done-asks}
 use Rattle.lane_state.proofs.Keeping.{told-some}
 use Rattle.lane_state.proofs.MapValues.{image-some}
 use Rattle.lane_objects.proofs.MemorySteps.{alloc-count, first-of-run, frames-some, holds-new, make-asks, placed-memory}
-use Rattle.lane_objects.proofs.RoomSteps.{room-ideal}
+use Rattle.lane_objects.proofs.RoomSteps.{beside-after, room-ideal, room-state}
 use Rattle.memory_pages.proofs.Runs.{row_is}
 use Rattle.lane_objects.proofs.memories.alloc_memory.Goals as goal
 
@@ -122,3 +122,9 @@ returns-clause-done g c =
           }) room
           ∙ sym (placed-memory l c.args.tag first count limits c.args.flags size);
     })
+
+pub returns-clause-bytes : goal.returns-clause-bytes
+returns-clause-bytes g c =
+    beside-after c.args.holdings.now c.reserve_memory.new.holdings c.keep_memory.new.holdings
+    (room-state c.args.holdings.now c.reserve_memory.new.holdings c.reserve_memory.ensures.rest)
+    c.keep_memory.ensures.bytes

@@ -79,7 +79,7 @@ invariant_of-holdings c =
           refl refl refl);
       tag_places = h.tag_places;
       map_places = h.map_places;
-      memory_places = ap (λ (t : Places KeptMemory). t.places) c.put-2.ensures ∙ h.memory_places;
+      memory_places = omega (arith, ap (λ (t : Places KeptMemory). t.places) c.put-2.ensures, h.memory_places);
       ring_places = h.ring_places;
       loaded = λ k. ap (λ ls. contains_key ls k) c.add_reserved.ensures.loans ∙ h.loaded k;
       unlent = h.unlent;

@@ -1,4 +1,4 @@
-use Rattle.std.proofs.Common.{◌≡◌, ◌*◌, is_some, refl, sym, ap, ◌∙◌, subst}
+use Rattle.std.proofs.Common.{◌≡◌, ◌*◌, is_some, refl, sym, ap, ◌∙◌, subst, arith}
 use Rattle.std.specs.FinMap.{get, remove}
 use Rattle.busdma_machine.specs.Runs.{run_of}
 use Rattle.lane_tables.specs.Places.{Places}
@@ -83,7 +83,7 @@ invariant_of-holdings c =
           (parted-standing h c.requires.wired mem kept c.requires.there m c.take.ensures.go);
       tag_places = h.tag_places;
       map_places = h.map_places;
-      memory_places = ap (λ (t : Places KeptMemory). t.places) taken ∙ h.memory_places;
+      memory_places = omega (arith, ap (λ (t : Places KeptMemory). t.places) taken, h.memory_places);
       ring_places = h.ring_places;
       loaded = λ k. ap (λ ls. Rattle.std.specs.FinMap.contains_key ls k)
           (c.drop_bytes.ensures.loans ∙ c.drop_prepared.ensures.loans) ∙ h.loaded k;

@@ -1,4 +1,4 @@
-use Rattle.std.proofs.Common.{◌/◌, ap, sym, ◌∙◌, subst}
+use Rattle.std.proofs.Common.{◌/◌, ap, sym, ◌∙◌, subst, arith}
 use Rattle.std.specs.FinMap.{contains_key}
 use Rattle.lane_state.specs.Covered.{AreStanding, HasFramesOf, Reaches}
 use Rattle.memory_pages.specs.Placed.{AreAtTheirFrames}
@@ -26,8 +26,8 @@ invariant_of-holdings-2 c =
       standing = subst (λ m. AreStanding c.reserve-2.new.self.map m) (sym memory)
           (subst (λ t. AreStanding t h.memory.memory) (sym memories) h.standing);
       tag_places = h.tag_places;
-      map_places = ap (λ t. t.places) c.reserve.ensures.kept ∙ h.map_places;
-      memory_places = ap (λ t. t.places) c.reserve-2.ensures.kept ∙ h.memory_places;
+      map_places = omega (arith, ap (λ t. t.places) c.reserve.ensures.kept, h.map_places);
+      memory_places = omega (arith, ap (λ t. t.places) c.reserve-2.ensures.kept, h.memory_places);
       ring_places = h.ring_places;
       loaded = λ k. ap (λ ls. contains_key ls k) same.loans ∙ are.loaded k;
       unlent = are.unlent;

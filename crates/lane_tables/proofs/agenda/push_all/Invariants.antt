@@ -13,5 +13,5 @@ invariant-loop-item l = record {
       ≡ l.fn.queue.items ++ queued l.load_at l.fn.items;
   room : length l.queue.items + length (into_iter_items l.item-iterator) ≤ deque_capacity l.queue;
   capacity : deque_capacity l.queue ≡ deque_capacity l.fn.queue;
-  few : l.place ≤ length l.queue.items;
+  few : l.place + length (into_iter_items l.item-iterator) ≡ length l.fn.items;
 }

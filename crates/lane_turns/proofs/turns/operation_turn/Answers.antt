@@ -1,6 +1,6 @@
 use Rattle.std.proofs.Common.{◌≡◌, ◌<◌, ◌≤◌, Some, slice_get, length, refl, sym, ap, ◌∙◌, arith}
 use Rattle.std.proofs.lemmas.Bool.Decides.{nat_tests}
-use Rattle.std.proofs.lemmas.Option.{slice_get_past, slice_get_read}
+use Rattle.std.proofs.lemmas.Option.{slice_get_within}
 use Rattle.busdma_base.specs.declared.journals.journal.Did.TheVariants as did
 use Rattle.busdma_base.specs.declared.journals.journal.Side.TheVariants as side
 use Rattle.lane_turns.specs.declared.turn.Turn.TheVariants as turn
@@ -12,70 +12,55 @@ use Rattle.lane_turns.proofs.turns.operation_turn.Goals as goal
 pub operation-requires-clause-going : goal.operation-requires-clause-going
 operation-requires-clause-going g c =
     let h = c.args.holdings.now in
-    let k = c.in-Some.ensures.lookup in
-    let within : c.place-place.result < length h.script.now = grind (arith, nat_tests, k.0) in
-    let length = c.requires.length in
-    let at = c.place-place.ensures in
-    omega (arith, within, length, at)
+    let here : slice_get h.script h.agenda.place ≡ Some c.in-Some.op.now =
+    ap (slice_get h.script) (sym c.place-place.ensures) ∙ sym c.in-Some.ensures in
+    let within : h.agenda.place < length h.script = slice_get_within h.script h.agenda.place c.in-Some.op.now here in
+    let all = c.requires.length in
+    omega (arith, within, all)
 
 pub operation-requires-clause-here : goal.operation-requires-clause-here
 operation-requires-clause-here g c =
     let h = c.args.holdings.now in
-    let k = c.in-Some.ensures.lookup in
-    let within : c.place-place.result < length h.script.now = grind (arith, nat_tests, k.0) in
-    ap (slice_get h.script.now) (sym c.place-place.ensures)
-    ∙ slice_get_read h.script.now (length h.script.now) c.place-place.result c.in-Some.op.now refl within k.1
+    ap (slice_get h.script) (sym c.place-place.ensures) ∙ sym c.in-Some.ensures
 
 pub operation-requires-clause-allowed : goal.operation-requires-clause-allowed
 operation-requires-clause-allowed g c =
     let h = c.args.holdings.now in
-    let k = c.in-Some.ensures.lookup in
-    let within : c.place-place.result < length h.script.now = grind (arith, nat_tests, k.0) in
-    let here : slice_get h.script.now h.agenda.place ≡ Some c.in-Some.op.now =
-    ap (slice_get h.script.now) (sym c.place-place.ensures)
-    ∙ slice_get_read h.script.now (length h.script.now) c.place-place.result c.in-Some.op.now refl within k.1 in
+    let here : slice_get h.script h.agenda.place ≡ Some c.in-Some.op.now =
+    ap (slice_get h.script) (sym c.place-place.ensures) ∙ sym c.in-Some.ensures in
     next-may h c.requires.empty c.requires.undue c.in-Some.op.now here (sym c.waits.ensures ∙ c.if-waits.false)
     (g.D.HubDoor.seen c.args.door.now) c.requires.ready.stands c.requires.ready.served
 
 pub go_on-requires : goal.go_on-requires
 go_on-requires g c =
     let h = c.args.holdings.now in
-    let k = c.in-Some.ensures.lookup in
-    let within : c.place-place.result < length h.script.now = grind (arith, nat_tests, k.0) in
+    let here : slice_get h.script h.agenda.place ≡ Some c.in-Some.op.now =
+    ap (slice_get h.script) (sym c.place-place.ensures) ∙ sym c.in-Some.ensures in
+    let within : h.agenda.place < length h.script = slice_get_within h.script h.agenda.place c.in-Some.op.now here in
     let all = c.requires.length in
-    let at = c.place-place.ensures in
     let place = c.operation.ensures.agenda.place in
     let same = c.operation.ensures.agenda.end in
-    omega (arith, within, all, at, place, same)
+    omega (arith, within, all, place, same)
 
 pub returns-in_default-clause-made : goal.returns-in_default-clause-made
 returns-in_default-clause-made g c =
     let h = c.args.holdings.now in
-    let test = c.in_default.ensures.lookup.0 in
-    let past : length h.script.now ≤ c.place-place.result = grind (arith, nat_tests, test) in
     ended-made h c.requires.empty c.requires.undue (g.D.HubDoor.seen c.args.door.now)
-    (ap (slice_get h.script.now) (sym c.place-place.ensures)
-    ∙ slice_get_past h.script.now c.place-place.result past)
+    (ap (slice_get h.script) (sym c.place-place.ensures) ∙ sym c.in_default.ensures)
 
 pub returns-then-waits-clause-made : goal.returns-then-waits-clause-made
 returns-then-waits-clause-made g c =
     let h = c.args.holdings.now in
-    let k = c.in-Some.ensures.lookup in
-    let within : c.place-place.result < length h.script.now = grind (arith, nat_tests, k.0) in
-    let here : slice_get h.script.now h.agenda.place ≡ Some c.in-Some.op.now =
-    ap (slice_get h.script.now) (sym c.place-place.ensures)
-    ∙ slice_get_read h.script.now (length h.script.now) c.place-place.result c.in-Some.op.now refl within k.1 in
+    let here : slice_get h.script h.agenda.place ≡ Some c.in-Some.op.now =
+    ap (slice_get h.script) (sym c.place-place.ensures) ∙ sym c.in-Some.ensures in
     blocked-made h c.requires.empty c.requires.undue c.in-Some.op.now here (g.D.HubDoor.seen c.args.door.now)
     (sym c.waits.ensures ∙ c.if-waits.true)
 
 pub returns-clause-made : goal.returns-clause-made
 returns-clause-made g c =
     let h = c.args.holdings.now in
-    let k = c.in-Some.ensures.lookup in
-    let within : c.place-place.result < length h.script.now = grind (arith, nat_tests, k.0) in
-    let here : slice_get h.script.now h.agenda.place ≡ Some c.in-Some.op.now =
-    ap (slice_get h.script.now) (sym c.place-place.ensures)
-    ∙ slice_get_read h.script.now (length h.script.now) c.place-place.result c.in-Some.op.now refl within k.1 in
+    let here : slice_get h.script h.agenda.place ≡ Some c.in-Some.op.now =
+    ap (slice_get h.script) (sym c.place-place.ensures) ∙ sym c.in-Some.ensures in
     next-made h c.requires.empty c.requires.undue c.in-Some.op.now here (sym c.waits.ensures ∙ c.if-waits.false)
     c.operation.new.holdings c.go_on.new.holdings (g.D.HubDoor.seen c.args.door.now)
     (g.D.HubDoor.seen c.operation.new.door) c.in_ok-answer.field-0 c.stepped.result c.in_ok-answer.ensures.done
@@ -100,11 +85,8 @@ returns-clause-small g c =
     let h = c.args.holdings.now in
     let k = c.operation.new.holdings in
     let n = c.go_on.new.holdings in
-    let test = c.in-Some.ensures.lookup in
-    let within : c.place-place.result < length h.script.now = grind (arith, nat_tests, test.0) in
-    let here : slice_get h.script.now h.agenda.place ≡ Some c.in-Some.op.now =
-    ap (slice_get h.script.now) (sym c.place-place.ensures)
-    ∙ slice_get_read h.script.now (length h.script.now) c.place-place.result c.in-Some.op.now refl within test.1 in
+    let here : slice_get h.script h.agenda.place ≡ Some c.in-Some.op.now =
+    ap (slice_get h.script) (sym c.place-place.ensures) ∙ sym c.in-Some.ensures in
     let done = c.operation.ensures in
     small-after h c.requires.small c.in-Some.op.now here c.requires.undue k n done.agenda.place
     (made-script h n (g.D.HubDoor.seen c.args.door.now) (g.D.HubDoor.seen c.operation.new.door) side.Script

@@ -35,7 +35,7 @@ pub advance-requires : goal.advance-requires
 advance-requires g c =
     let h = c.args.holdings.now in
     let has = has-due h (the_send c.args.send) c.requires.due in
-    let within : h.agenda.place < length h.script.now = slice_get_within h.script.now h.agenda.place has.o has.here in
+    let within : h.agenda.place < length h.script = slice_get_within h.script h.agenda.place has.o has.here in
     let all = c.requires.length in
     let place = c.resend.ensures.agenda.place in
     let same = c.resend.ensures.agenda.end in

@@ -23,7 +23,7 @@ returns-in-Some-clause-places g c = c.in-Some.ensures.made.places
 pub returns-in-Some-clause-small : goal.returns-in-Some-clause-small
 returns-in-Some-clause-small g c =
     let r = c.return_turn.ensures in
-    small-same c.args.holdings.now c.requires.small c.return_turn.new.holdings (ap (λ s. s.now) r.script) r.place r.resend
+    small-same c.args.holdings.now c.requires.small c.return_turn.new.holdings r.script r.place r.resend
     r.promised r.due
 
 pub due_turn-requires-clause-ready : goal.due_turn-requires-clause-ready
@@ -37,7 +37,7 @@ due_turn-requires-clause-small g c =
 
 pub due_turn-requires-clause-length : goal.due_turn-requires-clause-length
 due_turn-requires-clause-length g c =
-    subst (λ (x : Holdings). x.agenda.length ≡ length x.script.now) (sym c.in-None.ensures.same) c.requires.length
+    subst (λ (x : Holdings). x.agenda.length ≡ length x.script) (sym c.in-None.ensures.same) c.requires.length
 
 pub due_turn-requires-clause-empty : goal.due_turn-requires-clause-empty
 due_turn-requires-clause-empty g c =

@@ -56,13 +56,13 @@ returns-in-Transfer-clause-ready g c =
 pub returns-in-Transfer-clause-small : goal.returns-in-Transfer-clause-small
 returns-in-Transfer-clause-small g c =
     let r = c.transfer_turn.ensures in
-    small-same c.args.holdings.now c.requires.small c.transfer_turn.new.holdings (ap (λ s. s.now) r.script) r.agenda.place
+    small-same c.args.holdings.now c.requires.small c.transfer_turn.new.holdings r.script r.agenda.place
     r.resend r.promised r.due
 
 pub returns-in-Transfer-clause-length : goal.returns-in-Transfer-clause-length
 returns-in-Transfer-clause-length g c =
     let r = c.transfer_turn.ensures in
-    r.agenda.end ∙ c.requires.length ∙ sym (ap (λ s. length s.now) r.script)
+    r.agenda.end ∙ c.requires.length ∙ sym (ap length r.script)
 
 pub returns-in-Callback-clause-made : goal.returns-in-Callback-clause-made
 returns-in-Callback-clause-made g c =

@@ -93,14 +93,14 @@ invariant_of-result-clause-tried c =
 
 pub invariant_of-result-2-clause-length : goal.invariant_of-result-2-clause-length
 invariant_of-result-2-clause-length c =
-    ap (λ a. a.length) c.in_ok-new-5.ensures ∙ sym (ap length c.as_slice-script.ensures)
+    ap (λ a. a.length) c.in_ok-new-5.ensures ∙ sym (ap length (c.new-script.ensures ∙ c.as_slice.ensures))
 
 pub invariant_of-result-2-clause-room : goal.invariant_of-result-2-clause-room
 invariant_of-result-2-clause-room c =
     let agenda = c.in_ok-new-5.ensures in
-    let script = c.as_slice-script.ensures in
-    let left : items_left c.in_ok-new-5.field-0.place c.as_slice-script.result.now ≡ c.in_ok-new-5.field-0.room =
-    ap (λ a. items_left a.place c.as_slice-script.result.now) agenda
+    let script = (c.new-script.ensures ∙ c.as_slice.ensures) in
+    let left : items_left c.in_ok-new-5.field-0.place c.new-script.result ≡ c.in_ok-new-5.field-0.room =
+    ap (λ a. items_left a.place c.new-script.result) agenda
     ∙ ap script_items script ∙ sym (ap (λ a. a.room) agenda) in
     let maps = ap (λ t. map_values map_of t.map) c.in_ok-new-2.ensures ∙ map_values-empty map_of in
     let due : maps_items (map_values map_of c.in_ok-new-2.field-0.map) ≡ 0 =
@@ -127,7 +127,7 @@ invariant_of-result-2-clause-wired c =
     (λ i. record {
       id = c.args.id.0;
       maxmem = c.args.maxmem;
-      script = c.as_slice-script.ensures i;
+      script = (c.new-script.ensures ∙ c.as_slice.ensures) i;
       place = (agenda i).place;
       due = false;
       pages = c.as_slice-pages.ensures i;
@@ -164,7 +164,7 @@ invariant_of-result-2-clause-stands c =
     (λ i. record {
       id = c.args.id.0;
       maxmem = c.args.maxmem;
-      script = c.as_slice-script.ensures i;
+      script = (c.new-script.ensures ∙ c.as_slice.ensures) i;
       place = (agenda i).place;
       due = false;
       pages = c.as_slice-pages.ensures i;
@@ -183,7 +183,7 @@ invariant_of-result-2-clause-stands c =
 
 pub invariant_of-result-2-clause-small : goal.invariant_of-result-2-clause-small
 invariant_of-result-2-clause-small c =
-    opens-small c.args.driver.now _ c.requires.script c.requires.small c.as_slice-script.ensures
+    opens-small c.args.driver.now _ c.requires.script c.requires.small (c.new-script.ensures ∙ c.as_slice.ensures)
     (ap (λ a. a.place) c.in_ok-new-5.ensures) refl (ap (λ a. a.promised) c.in_ok-new-5.ensures)
     (let none : pages_due c.in_ok-new-2.field-0.map ≤ 0 =
     (opens-mapless c.in_ok-new-2.field-0.map c.in_ok-opening_loans.field-0.loans c.in_ok-new-5.field-0.returns 0
@@ -222,7 +222,7 @@ returns c =
     (λ i. record {
       id = c.args.id.0;
       maxmem = c.args.maxmem;
-      script = c.as_slice-script.ensures i;
+      script = (c.new-script.ensures ∙ c.as_slice.ensures) i;
       place = (agenda i).place;
       due = false;
       pages = c.as_slice-pages.ensures i;

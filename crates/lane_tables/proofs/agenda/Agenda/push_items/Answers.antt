@@ -1,17 +1,24 @@
-use Rattle.std.proofs.Common.{◌≡◌, ◌-◌, ◌++◌, length, arith, length-append}
-use Rattle.std.specs.VecDeque.{deque_capacity}
+use Rattle.std.proofs.Common.{◌≡◌, ◌+◌, ◌≤◌, ◌<◌, ◌^◌, ◌++◌, ap, length, refl, arith, length-append}
 use Rattle.lane_tables.specs.Queues.{queued}
 use Rattle.lane_tables.proofs.QueueLemmas.{length-queued_from}
 use Rattle.lane_tables.proofs.agenda.Agenda.push_items.Goals as goal
 
-pub returns : goal.returns
-returns c =
-    let room : deque_capacity c.self.inside.queue - length (c.self.inside.queue.items
-    ++ queued c.args.load_at c.args.items)
-    ≡ deque_capacity c.self.inside.queue - length c.self.inside.queue.items - length c.args.items =
+pub invariant_of-self : goal.invariant_of-self
+invariant_of-self c =
+    let room = ap (λ a. a.room) c.self.view_is in
+    let long : length c.push_all.new.queue.items ≡ length c.self.inside.queue.items + length c.args.items =
     omega (
       arith,
+      ap length c.push_all.ensures.items,
       length-append c.self.inside.queue.items (queued c.args.load_at c.args.items),
       length-queued_from c.args.load_at 0 c.args.items,
     ) in
-    rw (← c.self.view_is, c.push_all.ensures.capacity, c.push_all.ensures.items, room)
+    record {
+      in_script = c.self.invariant.in_script;
+      few = omega (arith, c.len.ensures, c.requires, room, c.self.invariant.few, long);
+      fits = omega (arith, c.len.ensures, c.requires, room, c.self.invariant.fits, long, c.push_all.ensures.capacity);
+      reserved = c.self.invariant.reserved;
+    }
+
+pub returns : goal.returns
+returns c = rw (← c.self.view_is, c.push_all.ensures.items, c.len.ensures) refl
