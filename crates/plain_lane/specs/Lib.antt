@@ -1,2 +1,0 @@
-pub mod Ideal
-pub mod Turning

@@ -1,5 +1,0 @@
-use Rattle.std.proofs.Common.{length}
-use Rattle.plain_loads.proofs.bios.+entries_of.Given as goal
-
-abbrev pub decreases-entries_of : goal.decreases-entries_of
-decreases-entries_of l = length l.spans.now

@@ -1,4 +1,0 @@
-use Rattle.plain_rules.proofs.chunks.+run_of.Given as goal
-
-abbrev pub decreases-run_of : goal.decreases-run_of
-decreases-run_of l = l.count

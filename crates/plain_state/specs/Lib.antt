@@ -1,3 +1,0 @@
-pub mod Ideal
-pub mod Spaces
-pub mod Stages
